@@ -2,6 +2,7 @@
 pub mod LookLemmas
 pub mod LevelLemmas
 pub mod Climb
+pub mod Strings
 pub mod Lists
 pub mod Comps
 pub mod Forms

@@ -8,3 +8,4 @@ mod Line
 mod Block
 mod Plain
 mod Pattern
+mod Opened

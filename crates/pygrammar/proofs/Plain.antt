@@ -5,6 +5,7 @@ mod Parameters
 mod Expressions
 mod Forms
 mod Blocks
+mod FormattedStrings
 mod Numbers
 mod OpenLines
 mod Tokens

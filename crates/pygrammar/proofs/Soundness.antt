@@ -2,4 +2,5 @@
 pub mod Says
 pub mod SoundClimb
 pub mod SoundLists
+pub mod SoundStrings
 pub mod Sound

@@ -4,4 +4,6 @@ mod DrawnTests
 mod DrawnOperands
 mod DrawnPlaces
 mod DrawnItems
+mod FormattedStrings
+mod OpenStrings
 mod Rooms

@@ -1,6 +1,7 @@
 -- The reader with two numbers. The first only ends the recursion (more than there are terminals). The second is the room: how high an
 -- expression may be that is read here. A child is read with one level less; what stands at the front, or alone in round brackets, with
--- the same room. What would be higher is refused on the spot, with TooDeep.
+-- the same room. What would be higher is refused on the spot, with TooDeep. The expression of an f-string's field is read as a child of the
+-- f-string, which is checked as a whole.
 use Rattle.std.specs.Prelude.{ℕ, zero, suc, List, [], length, cond, leb}
 use Rattle.pylex_lexeme.specs.declared.kinds.Exact.TheVariants.{LPar, RPar, LSqb, RSqb, Colon, Comma, Star, Dot, ColonEqual}
 use Rattle.pytoken.specs.declared.keywords.Keyword.TheVariants as Key
@@ -15,7 +16,7 @@ use Rattle.pygrammar.specs.Entries.{Of, singles}
 use Rattle.pytree_height.specs.Heights.{height}
 use Rattle.pygrammar.specs.Reader.{Answer, Found, NoForm, TooDeep, and_then, on_first, on_name_with, closed, Reads, starred, listing_of, tupled, comps_closed, unstarred, unnamed, yield_step, atom, call_step, operation, prefixed, slice_rest, lambda_step, if_else_step, levels_from}
 use Rattle.pygrammar.specs.Operators.{rank}
-use Rattle.pygrammar.specs.Precedence.{starts_comp, infix_from, prefix_from, first, behind}
+use Rattle.pygrammar.specs.Precedence.{starts_comp, infix_from, prefix_from}
 
 -- what is higher than d is refused
 abbrev pub cap : ℕ → Answer Expr → Answer Expr

@@ -1,5 +1,5 @@
--- Which modules have nothing of the whole language alone: no float, no imaginary number, no whole number of 2 to the 128 or more, and no `match`.
-use Rattle.std.specs.Prelude.{◌^◌, Bool, true, false, ◌&&◌, nat_lt, List, [], ◌∷◌, Option}
+-- Which modules have nothing of the whole language alone: no float, no imaginary number, no whole number of 2 to the 128 or more, no f-string, and no `match`.
+use Rattle.std.specs.Prelude.{◌^◌, Bool, true, false, ◌&&◌, nat_lt, List, Option}
 use Rattle.std.specs.List.{list_all}
 use Rattle.pytree_node.specs.Values as values
 use Rattle.pytree_node.specs.Values.{Value}
@@ -31,6 +31,8 @@ abbrev mutual
   is_plain (Trees.YieldFrom value) = is_plain value
   is_plain (Trees.Compare left ops comparators) = is_plain left && are_plain comparators
   is_plain (Trees.Call func args keywords) = is_plain func && (are_plain args && are_keywords_plain keywords)
+  is_plain (Trees.FormattedValue value conversion spec) = false
+  is_plain (Trees.JoinedStr values) = false
   is_plain (Trees.Constant value) = is_plain_value value
   is_plain (Trees.Attribute value attr ctx) = is_plain value
   is_plain (Trees.Subscript value slice ctx) = is_plain value && is_plain slice

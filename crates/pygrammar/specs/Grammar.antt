@@ -15,9 +15,11 @@ use Rattle.pygrammar.specs.declared.levels.Level.TheVariants.{Value, Stars, Star
 use Rattle.pytree_node.specs.Trees
 use Rattle.pytree_node.specs.Trees.{Expr, no_exprs, an_expr, OptionalExpr, absent, present, arg, Arguments, Identifier, exprs, Comprehension, comprehensions}
 use Rattle.pytree_node.specs.Values
-use Rattle.pytoken.specs.Terminals.{Terminal, Spelled, Op, Word, Ident, Number, Literal}
+use Rattle.pyfstring.specs.declared.parts.Conversion.{Conversion}
+use Rattle.pytoken.specs.Terminals.{Terminal, Spelled, Op, Word, Ident, Number, Literal, FormattedBegin, FormattedEnd, FormattedText, FieldBegin, SpecBegin, FieldEnd}
 use Rattle.pygrammar.specs.Operators.{below, left_operator, prefix_operator, chain_level, chain_word, comparison}
 use Rattle.pygrammar.specs.Constants.{constant_word, joined}
+use Rattle.pygrammar.specs.FormattedStrings.{StringPart, Text, Field, merged, values_of, spec_values_of, begins_unicode, has_formatted}
 use Rattle.pygrammar.specs.Entries.{Item, Of, Pair, Argument, Parameter, Entry, Single, Paired, Spread, Doubled, Keyed, Plain, Slashed, Bare, Gathered, Collected, singles, keys, values}
 use Rattle.pygrammar.specs.Arguments.{called}
 use Rattle.pygrammar.specs.Parameters.{arranged}
@@ -106,6 +108,10 @@ mutual
     strings : {v w : Values.Value} (vs : List Values.Value)
         → joined v vs ≡ Some w
         → Derives Atom (Literal v ∷ map Literal vs) (Trees.Constant w)
+    -- Atom = (STRING | f_string)+, with one f_string at least
+    joined_string : {u : Bool} {ts : List Terminal} {ps : List StringPart}
+        → Literals u ts ps → begins_unicode ts ≡ u → has_formatted ts ≡ true
+        → Derives Atom ts (Trees.JoinedStr (values_of u (merged ps)))
     -- Atom = "(" Named ")": no node of its own
     group : {ts : List Terminal} {e : Expr} → Derives Named ts e → Derives Atom (Op LPar ∷ (ts ++ (Op RPar ∷ []))) e
     -- Atom = "(" yield form of Value ")"
@@ -213,6 +219,34 @@ mutual
     compares : {ss ts us : List Terminal} {o : Comparison} {e : Expr} {os : List Comparison} {es : List Expr}
         → Compared ss o → Derives BitOr ts e → Compares us os es
         → Compares (ss ++ (ts ++ us)) (o ∷ os) (e ∷ es)
+
+  -- (STRING | f_string)*, none of which is bytes; the first has kind u or not
+  pub data Literals : Bool → List Terminal → List StringPart → Type 0 where
+    no_literal : {u : Bool} → Literals u [] []
+    text_literal : {u : Bool} {ts : List Terminal} {ps : List StringPart} {t : List ℕ} {k : Bool}
+        → Literals u ts ps
+        → Literals u (Literal (Values.Str t k) ∷ ts) (Text t ∷ ps)
+    formatted_literal : {u : Bool} {ts us : List Terminal} {ps qs : List StringPart}
+        → Formatted u ts ps → Literals u us qs
+        → Literals u (FormattedBegin ∷ (ts ++ (FormattedEnd ∷ us))) (ps ++ qs)
+
+  -- f_string = (text | replacement_field)*; format_spec = (text | replacement_field)*
+  pub data Formatted : Bool → List Terminal → List StringPart → Type 0 where
+    no_part : {u : Bool} → Formatted u [] []
+    text_part : {u : Bool} {ts : List Terminal} {ps : List StringPart} {t : List ℕ}
+        → Formatted u ts ps
+        → Formatted u (FormattedText t ∷ ts) (Text t ∷ ps)
+    -- replacement_field = "{" expression ["!" conversion] [":" format_spec] "}", the expression as if in round brackets
+    field_part : {u : Bool} {c : Conversion} {ts us vs : List Terminal} {e : Expr} {s : OptionalExpr} {ps : List StringPart}
+        → Derives Atom (Op LPar ∷ ts) e → Spec u us s → Formatted u vs ps
+        → Formatted u (FieldBegin c ∷ (Op LPar ∷ (ts ++ (us ++ (FieldEnd ∷ vs))))) (Field (Trees.FormattedValue e c s) ∷ ps)
+
+  -- [":" format_spec]
+  pub data Spec : Bool → List Terminal → OptionalExpr → Type 0 where
+    no_spec : {u : Bool} → Spec u [] absent
+    spec : {u : Bool} {ts : List Terminal} {ps : List StringPart}
+        → Formatted u ts ps
+        → Spec u (SpecBegin ∷ ts) (present (Trees.JoinedStr (spec_values_of u (merged ps))))
 
   -- X,.. [,] or nothing
   pub data Listing : Item → List Terminal → List Entry → Type 0 where

@@ -1,1 +1,2 @@
 pub mod EntryHeights
+pub mod FieldHeights

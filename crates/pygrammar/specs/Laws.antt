@@ -1,7 +1,7 @@
 -- What holds of the grammar of expressions.
-use Rattle.std.specs.Prelude.{◌≡◌, ◌↔◌, ◌⊎◌, ℕ, ◌+◌, ◌≤◌, List, [], length}
+use Rattle.std.specs.Prelude.{◌≡◌, ◌↔◌, ◌⊎◌, ℕ, ◌+◌, ◌≤◌, List, []}
+use Rattle.pygrammar.specs.Lengths.{slack, weight}
 use Rattle.pygrammar.specs.declared.levels.Level.{Level}
-use Rattle.pygrammar.specs.declared.levels.Level.TheVariants.{Slices}
 use Rattle.pytree_node.specs.Trees.{Expr}
 use Rattle.pytree_height.specs.Heights.{height}
 use Rattle.pytoken.specs.Terminals.{Terminal}
@@ -18,14 +18,9 @@ ExpressionsAreUnique = (l : Level) (ts : List Terminal) (a b : Expr) → Derives
 abbrev pub ExpressionsAreDecided : Type 0
 ExpressionsAreDecided = (l : Level) (ts : List Terminal) → ((e : Expr) × Derives l ts e) ⊎ Shapeless l ts
 
--- `*a` alone in a subscript is a Tuple of a Starred of a Name: one node more than there are terminals
-abbrev pub slack : Level → ℕ
-slack Slices = 1
-slack l = 0
-
--- an expression is no higher than it has terminals
+-- an expression is no higher than its terminals count
 abbrev pub HeightsAreBounded : Type 0
-HeightsAreBounded = (l : Level) (ts : List Terminal) (e : Expr) → Derives l ts e → height e ≤ slack l + length ts
+HeightsAreBounded = (l : Level) (ts : List Terminal) (e : Expr) → Derives l ts e → height e ≤ slack l + weight ts
 
 -- the reader gives a list's expression, and none where there is none
 abbrev pub ReaderIsExact : Type 0

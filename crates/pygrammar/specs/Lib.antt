@@ -1,6 +1,9 @@
 pub mod Inner
 pub mod Operators
 pub mod Constants
+pub mod FormattedStrings
+pub mod Lengths
+pub mod OpenStrings
 pub mod Entries
 pub mod Arguments
 pub mod Parameters

@@ -1,7 +1,8 @@
 -- What holds of the reader of logical lines, each at its place: in a `match` or elsewhere.
-use Rattle.std.specs.Prelude.{◌≡◌, ◌⊎◌, ◌↔◌, ℕ, ◌<◌, ◌≤◌, Bool, List, [], length}
+use Rattle.std.specs.Prelude.{◌≡◌, ◌⊎◌, ◌↔◌, ℕ, ◌<◌, ◌≤◌, Bool, List, []}
 use Rattle.pytree_node.specs.declared.profiles.Profile.{Profile}
 use Rattle.pytoken.specs.Terminals.{Terminal}
+use Rattle.pygrammar.specs.Lengths.{weight}
 use Rattle.pygrammar.specs.Reader.{Found, NoForm, TooDeep}
 use Rattle.pygrammar.specs.Lines.{Form}
 use Rattle.pygrammar.specs.Forms.{FormAt}
@@ -19,10 +20,10 @@ abbrev pub FormsAreDecided : Type 0
 FormsAreDecided = (profile : Profile) (inside : Bool) (ts : List Terminal) →
     ((f : Form) × (read_line profile inside ts ≡ Found f []) × FormAt profile inside ts f) ⊎ ((read_line profile inside ts ≡ NoForm) × ((f : Form) → FormAt profile inside ts f → ⊥))
 
--- to a depth it answers the same or goes too deep, and it goes too deep in no line that has fewer terminals
+-- to a depth it answers the same or goes too deep, and it goes too deep in no line that counts less
 abbrev pub DepthIsKept : Type 0
 DepthIsKept = (profile : Profile) (inside : Bool) (d : ℕ) (ts : List Terminal) →
-    ((read_line_to profile inside d ts ≡ TooDeep) ⊎ (read_line_to profile inside d ts ≡ read_line profile inside ts)) × (length ts < d → read_line_to profile inside d ts ≡ TooDeep → ⊥)
+    ((read_line_to profile inside d ts ≡ TooDeep) ⊎ (read_line_to profile inside d ts ≡ read_line profile inside ts)) × (weight ts < d → read_line_to profile inside d ts ≡ TooDeep → ⊥)
 
 -- within a height it gives a line's form exactly where that is no higher
 abbrev pub LineLimitIsExact : Type 0

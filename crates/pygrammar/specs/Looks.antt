@@ -1,10 +1,12 @@
--- What one terminal is: a certain sign, a certain keyword, or a name.
+-- What one terminal is: a certain sign, a certain keyword, a name, a literal, or a part of an f-string.
 use Rattle.std.specs.Prelude.{ℕ, List, Option, Some, None, cond, ◌==◌}
 use Rattle.pylex_lexeme.specs.declared.kinds.Exact.{Exact}
 use Rattle.pylex_lexeme.specs.declared.kinds.Exact.TheVariants.{LPar, RPar, LSqb, RSqb, LBrace, RBrace, Colon, Comma, Semi, Plus, Minus, Star, Slash, VBar, Amper, Less, Greater, Equal, Dot, Percent, EqEqual, NotEqual, LessEqual, GreaterEqual, Tilde, Circumflex, LeftShift, RightShift, DoubleStar, PlusEqual, MinEqual, StarEqual, SlashEqual, PercentEqual, AmperEqual, VBarEqual, CircumflexEqual, LeftShiftEqual, RightShiftEqual, DoubleStarEqual, DoubleSlash, DoubleSlashEqual, At, AtEqual, RArrow, Ellipsis, ColonEqual}
 use Rattle.pytoken.specs.declared.keywords.Keyword.{Keyword}
 use Rattle.pytoken.specs.declared.keywords.Keyword.TheVariants as Key
-use Rattle.pytoken.specs.Terminals.{Terminal, Op, Word, Ident}
+use Rattle.pyfstring.specs.declared.parts.Conversion.{Conversion}
+use Rattle.pytree_node.specs.Values.{Value}
+use Rattle.pytoken.specs.Terminals.{Terminal, Op, Word, Ident, Literal, FormattedBegin, FormattedEnd, FormattedText, FieldBegin, SpecBegin, FieldEnd}
 
 abbrev pub exact_number : Exact → ℕ
 exact_number LPar = 0
@@ -103,3 +105,31 @@ is_word x _ = None
 abbrev pub name_in : Terminal → Option (List ℕ)
 name_in (Ident x) = Some x.form
 name_in _ = None
+
+abbrev pub literal_in : Terminal → Option Value
+literal_in (Literal v) = Some v
+literal_in _ = None
+
+abbrev pub text_in : Terminal → Option (List ℕ)
+text_in (FormattedText t) = Some t
+text_in _ = None
+
+abbrev pub conversion_in : Terminal → Option Conversion
+conversion_in (FieldBegin c) = Some c
+conversion_in _ = None
+
+abbrev pub is_formatted_begin : Terminal → Option ℕ
+is_formatted_begin FormattedBegin = Some 0
+is_formatted_begin _ = None
+
+abbrev pub is_formatted_end : Terminal → Option ℕ
+is_formatted_end FormattedEnd = Some 0
+is_formatted_end _ = None
+
+abbrev pub is_spec_begin : Terminal → Option ℕ
+is_spec_begin SpecBegin = Some 0
+is_spec_begin _ = None
+
+abbrev pub is_field_end : Terminal → Option ℕ
+is_field_end FieldEnd = Some 0
+is_field_end _ = None

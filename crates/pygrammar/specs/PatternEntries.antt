@@ -1,6 +1,6 @@
 -- What stands between the commas of a pattern's list, and the patterns that a list gives (language reference, 8.6.4.8 to 8.6.4.10).
 use Rattle.std.specs.Prelude.{Bool, true, false, ◌&&◌, not, List, [], ◌∷◌, Option, Some, None, if◌then◌else◌, option_map}
-use Rattle.pytree_node.specs.Trees.{Expr, Identifier, Pattern, MatchSequence, MatchMapping, MatchClass, MatchAs, Patterns, no_pattern, a_pattern, present_pattern}
+use Rattle.pytree_node.specs.Trees.{Expr, Identifier, Pattern, MatchMapping, MatchClass, MatchAs, Patterns, no_pattern, a_pattern, present_pattern}
 use Rattle.pygrammar.specs.PatternOperators.{captured, is_wildcard}
 
 -- what stands between the commas of a list

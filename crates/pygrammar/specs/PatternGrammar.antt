@@ -1,5 +1,5 @@
 -- Which lists of terminals give which patterns: the table of the grammar, a constructor for each alternative (language reference, 8.6.4 and 10).
-use Rattle.std.specs.Prelude.{◌≡◌, List, [], ◌∷◌, ◌++◌, map, Some, true, false}
+use Rattle.std.specs.Prelude.{◌≡◌, Bool, List, [], ◌∷◌, ◌++◌, map, Some, true, false}
 use Rattle.pylex_lexeme.specs.declared.kinds.Exact.TheVariants.{LPar, RPar, LSqb, RSqb, LBrace, RBrace, Colon, Comma, Star, Equal, Dot, DoubleStar, Minus, VBar}
 use Rattle.pytoken.specs.declared.keywords.Keyword.TheVariants as Key
 use Rattle.pytree_node.specs.declared.operators.Operator.{Operator}
@@ -13,6 +13,8 @@ use Rattle.pytree_node.specs.Trees.{Expr, Identifier, Pattern, MatchValue, Match
 use Rattle.pytree_node.specs.Values
 use Rattle.pytoken.specs.Terminals.{Terminal, Spelled, Op, Word, Ident, Number, Literal}
 use Rattle.pygrammar.specs.Constants.{joined}
+use Rattle.pygrammar.specs.FormattedStrings.{StringPart, merged, values_of, begins_unicode, has_formatted}
+use Rattle.pygrammar.specs.Grammar.{Literals}
 use Rattle.pygrammar.specs.Operators.{left_operator}
 use Rattle.pygrammar.specs.PatternOperators.{below_pattern, captured, is_imaginary, is_wildcard, singleton_word}
 use Rattle.pygrammar.specs.PatternEntries.{PatternItem, Element, KeyPattern, ClassArgument, PatternEntry, Alone, Keyed, Rest, Named, elements, mapped, class_of, as_named}
@@ -24,7 +26,7 @@ pub data SignedNumber : Values.Value → List Terminal → Expr → Type 0 where
   unsigned : {v : Values.Value} → SignedNumber v (Number v ∷ []) (Trees.Constant v)
   negative : {v : Values.Value} → SignedNumber v (Op Minus ∷ (Number v ∷ [])) (Trees.UnaryOp Un.USub (Trees.Constant v))
 
--- Literal = ["-"] NUMBER | Real ("+" | "-") Imaginary | STRING+
+-- Literal = ["-"] NUMBER | Real ("+" | "-") Imaginary | (STRING | f_string)+
 pub data LiteralOf : List Terminal → Expr → Type 0 where
   number : {v : Values.Value} {ts : List Terminal} {e : Expr} → SignedNumber v ts e → LiteralOf ts e
   complex : {v w : Values.Value} {ts : List Terminal} {a : Expr} {o : Operator} (t : Terminal)
@@ -33,6 +35,9 @@ pub data LiteralOf : List Terminal → Expr → Type 0 where
   strings : {v w : Values.Value} (vs : List Values.Value)
       → joined v vs ≡ Some w
       → LiteralOf (Literal v ∷ map Literal vs) (Trees.Constant w)
+  joined_string : {u : Bool} {ts : List Terminal} {ps : List StringPart}
+      → Literals u ts ps → begins_unicode ts ≡ u → has_formatted ts ≡ true
+      → LiteralOf ts (Trees.JoinedStr (values_of u (merged ps)))
 
 -- Dotted = NAME | Dotted "." NAME, with the form of its first NAME
 pub data Dotted : Identifier → List Terminal → Expr → Type 0 where

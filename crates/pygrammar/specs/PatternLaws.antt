@@ -1,5 +1,6 @@
 -- What holds of the grammar of patterns.
-use Rattle.std.specs.Prelude.{◌≡◌, ◌↔◌, ◌⊎◌, ℕ, ◌+◌, ◌≤◌, List, [], length}
+use Rattle.std.specs.Prelude.{◌≡◌, ◌↔◌, ◌⊎◌, ℕ, ◌+◌, ◌≤◌, List, []}
+use Rattle.pygrammar.specs.Lengths.{weight}
 use Rattle.pygrammar.specs.declared.levels.Level.TheVariants.{Sum}
 use Rattle.pygrammar.specs.declared.pattern_levels.PatternLevel.{PatternLevel}
 use Rattle.pytree_node.specs.Trees.{Expr, Pattern}
@@ -19,9 +20,9 @@ PatternsAreUnique = (l : PatternLevel) (ts : List Terminal) (p q : Pattern) → 
 abbrev pub PatternsAreDecided : Type 0
 PatternsAreDecided = (l : PatternLevel) (ts : List Terminal) → ((p : Pattern) × DerivesPattern l ts p) ⊎ Patternless l ts
 
--- `1` is a MatchValue of a Constant: a pattern is at most one higher than it has terminals
+-- `1` is a MatchValue of a Constant: a pattern is at most one higher than its terminals count
 abbrev pub PatternHeightsAreBounded : Type 0
-PatternHeightsAreBounded = (l : PatternLevel) (ts : List Terminal) (p : Pattern) → DerivesPattern l ts p → pattern_height p ≤ 1 + length ts
+PatternHeightsAreBounded = (l : PatternLevel) (ts : List Terminal) (p : Pattern) → DerivesPattern l ts p → pattern_height p ≤ 1 + weight ts
 
 -- within a height the reader gives a list's pattern exactly where that is no higher
 abbrev pub PatternLimitIsExact : Type 0

@@ -1,5 +1,5 @@
 -- The levels of the pattern grammar, in one order, and what its names, numbers and constants are (language reference, 8.6.4).
-use Rattle.std.specs.Prelude.{ℕ, ◌==◌, Bool, true, false, if◌then◌else◌, List, [], ◌∷◌, Option, Some, None}
+use Rattle.std.specs.Prelude.{ℕ, ◌==◌, Bool, true, false, if◌then◌else◌, [], ◌∷◌, Option, Some, None}
 use Rattle.pylex_lexeme.specs.Characters.{low_line}
 use Rattle.pytoken.specs.declared.keywords.Keyword.TheVariants as Key
 use Rattle.pytree_node.specs.Trees.{Identifier}

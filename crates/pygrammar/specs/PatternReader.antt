@@ -5,7 +5,6 @@
 use Rattle.std.specs.Prelude.{ℕ, zero, suc, List, [], ◌∷◌, ◌++◌, length, Option, Some, None, Bool, true, false, cond, leb}
 use Rattle.pylex_lexeme.specs.declared.kinds.Exact.TheVariants.{LPar, RPar, LSqb, RSqb, LBrace, RBrace, Colon, Comma, Star, Equal, Dot, DoubleStar, Minus, VBar}
 use Rattle.pytoken.specs.declared.keywords.Keyword.TheVariants as Key
-use Rattle.pytree_node.specs.declared.operators.Operator.{Operator}
 use Rattle.pytree_node.specs.declared.operators.UnaryOperator.TheVariants as Un
 use Rattle.pytree_node.specs.declared.operators.Context.TheVariants.{Load}
 use Rattle.pygrammar.specs.declared.levels.Level.TheVariants.{Sum}
@@ -14,12 +13,12 @@ use Rattle.pygrammar.specs.declared.pattern_levels.PatternLevel.TheVariants.{Pat
 use Rattle.pytree_node.specs.Trees
 use Rattle.pytree_node.specs.Trees.{Expr, Identifier, Pattern, MatchValue, MatchSingleton, MatchSequence, MatchStar, MatchAs, MatchOr, no_pattern, a_pattern, absent_pattern, patterns}
 use Rattle.pytree_node.specs.Values
-use Rattle.pytoken.specs.Terminals.{Terminal, Op, Word, Ident, Number, Literal}
+use Rattle.pytoken.specs.Terminals.{Terminal, Op, Word, Ident, Number, Literal, FormattedBegin}
 use Rattle.pytree_height.specs.Heights.{height, pattern_height}
 use Rattle.pygrammar.specs.Looks.{is_op, is_word, name_in}
-use Rattle.pygrammar.specs.Constants.{joined}
 use Rattle.pygrammar.specs.Operators.{left_operator}
-use Rattle.pygrammar.specs.Reader.{Answer, Found, NoForm, TooDeep, and_then, on_some, on_first, on_name_with, closed, made, unstarred, string_run, constant_of}
+use Rattle.pygrammar.specs.Reader.{Answer, Found, NoForm, TooDeep, and_then, on_first, on_name_with, closed, made, unstarred, Reads, literals, joined_step}
+use Rattle.pygrammar.specs.Capped.{capped}
 use Rattle.pygrammar.specs.PatternOperators.{captured, is_imaginary, is_wildcard, singleton_word}
 use Rattle.pygrammar.specs.PatternEntries.{PatternItem, Element, KeyPattern, ClassArgument, PatternEntry, Alone, Keyed, Rest, Named, elements, mapped, class_of, as_named}
 
@@ -45,6 +44,7 @@ abbrev pub begins_pattern : Terminal → Bool
 begins_pattern (Ident x) = true
 begins_pattern (Number v) = true
 begins_pattern (Literal v) = true
+begins_pattern FormattedBegin = true
 begins_pattern (Word Key.None) = true
 begins_pattern (Word Key.True) = true
 begins_pattern (Word Key.False) = true
@@ -80,12 +80,13 @@ number_rest v e r =
     cond (is_imaginary v) (Found e r)
     (on_first (left_operator Sum) r (λ o r1. on_first imaginary_in r1 (λ w r2. Found (Trees.BinOp e o (Trees.Constant w)) r2) NoForm) (Found e r))
 
--- a Literal, if the list begins with one; else the other reader
-abbrev pub literal_or : List Terminal → Answer Expr → Answer Expr
-literal_or (Number v ∷ r) other = number_rest v (Trees.Constant v) r
-literal_or (Literal v ∷ r) other = and_then (string_run [] r) (λ vs r1. made (constant_of (joined v vs)) r1)
-literal_or (Op Minus ∷ r) other = on_first number_in r (λ v r1. number_rest v (Trees.UnaryOp Un.USub (Trees.Constant v)) r1) NoForm
-literal_or r other = other
+-- a Literal, if the list begins with one; else the other reader. `self` reads the fields of f-strings
+abbrev pub literal_or : Reads → List Terminal → Answer Expr → Answer Expr
+literal_or self (Number v ∷ r) other = number_rest v (Trees.Constant v) r
+literal_or self (Literal v ∷ r) other = literals self v r
+literal_or self (FormattedBegin ∷ r) other = joined_step self false [] r
+literal_or self (Op Minus ∷ r) other = on_first number_in r (λ v r1. number_rest v (Trees.UnaryOp Un.USub (Trees.Constant v)) r1) NoForm
+literal_or self r other = other
 
 -- the NAMEs after points
 abbrev pub dotted_loop : ℕ → ℕ → Expr → List Terminal → Answer Expr
@@ -100,17 +101,17 @@ abbrev pub named_key : Expr → List Terminal → Answer Expr
 named_key (Trees.Name x c) r = NoForm
 named_key e r = Found e r
 
-abbrev pub read_key : ℕ → List Terminal → Answer Expr
-read_key d i = cap_value d (literal_or i (on_first singleton_word i (λ v r. Found (Trees.Constant v) r) (on_first name_in i (λ x r. and_then (dotted_from d x r) named_key) NoForm)))
+abbrev pub read_key : ℕ → Reads → List Terminal → Answer Expr
+read_key d self i = cap_value d (literal_or self i (on_first singleton_word i (λ v r. Found (Trees.Constant v) r) (on_first name_in i (λ x r. and_then (dotted_from d x r) named_key) NoForm)))
 
--- ---- Patterns. `inner` reads what stands in a pattern, with room d; `same` what is alone in brackets.
+-- ---- Patterns. `self` reads expressions and `inner` patterns that stand in a pattern, with room d; `same` what is alone in brackets.
 
-module _ (d : ℕ) (inner : PatternReads) where
+module _ (d : ℕ) (self : Reads) (inner : PatternReads) where
   abbrev pub read_entry : PatternItem → List Terminal → Answer PatternEntry
   read_entry Element i = and_then (inner StarPattern i) (λ p r. Found (Alone p) r)
   read_entry KeyPattern i =
       on_first (is_op DoubleStar) i (λ _ r. on_first name_in r (λ x r1. cond (is_wildcard x) NoForm (Found (Rest x) r1)) NoForm)
-      (and_then (read_key d i) (λ k r. on_first (is_op Colon) r (λ _ r1. and_then (inner AsPattern r1) (λ p r2. Found (Keyed k p) r2)) NoForm))
+      (and_then (read_key d self i) (λ k r. on_first (is_op Colon) r (λ _ r1. and_then (inner AsPattern r1) (λ p r2. Found (Keyed k p) r2)) NoForm))
   read_entry ClassArgument i =
       on_name_with Equal i (λ x r. and_then (inner AsPattern r) (λ p r1. Found (Named x p) r1))
       (and_then (inner AsPattern i) (λ p r. Found (Alone p) r))
@@ -157,7 +158,7 @@ module _ (d : ℕ) (inner : PatternReads) where
   name_pattern x r = cond (is_wildcard x) (Found (MatchAs absent_pattern None) r) (and_then (dotted_from d x r) dotted_pattern)
 
   abbrev pub literal_pattern : List Terminal → Answer Pattern
-  literal_pattern i = and_then (literal_or i NoForm) (λ e r. Found (MatchValue e) r)
+  literal_pattern i = and_then (literal_or self i NoForm) (λ e r. Found (MatchValue e) r)
 
   abbrev pub closed_pattern : PatternReads → List Terminal → Answer Pattern
   closed_pattern same [] = NoForm
@@ -199,7 +200,7 @@ module _ (d : ℕ) (inner : PatternReads) where
 abbrev pub capped_pattern : ℕ → ℕ → PatternReads
 capped_pattern zero d l i = TooDeep
 capped_pattern (suc g) zero l i = TooDeep
-capped_pattern (suc g) (suc d) l i = pattern_step d (capped_pattern g d) (capped_pattern g (suc d)) l i
+capped_pattern (suc g) (suc d) l i = pattern_step d (capped g d) (capped_pattern g d) (capped_pattern g (suc d)) l i
 
 abbrev pub limited_pattern : ℕ → PatternReads
 limited_pattern d l ts = capped_pattern (suc (length ts)) d l ts

@@ -10,7 +10,7 @@ use Rattle.pytree_node.specs.declared.operators.BoolOperator.{BoolOperator}
 use Rattle.pytree_node.specs.declared.operators.BoolOperator.TheVariants as Join
 use Rattle.pygrammar.specs.declared.levels.Level.{Level}
 use Rattle.pygrammar.specs.declared.levels.Level.TheVariants.{Stars, StarItem, Named, Not, BitOr, BitXor, BitAnd, Shift, Sum, Term, Factor, Elem, Slices, Part, Slice, Subject}
-use Rattle.pytoken.specs.Terminals.{Terminal, Op, Word, Ident, Number, Literal}
+use Rattle.pytoken.specs.Terminals.{Terminal, Op, Word, Ident, Number, Literal, FormattedBegin}
 use Rattle.pygrammar.specs.Operators.{chain_level, rank}
 use Rattle.pygrammar.specs.Entries.{Item, Of, Pair, Argument, Parameter}
 
@@ -35,6 +35,7 @@ lead (Word Key.False) = 24
 lead (Ident x) = 24
 lead (Number v) = 24
 lead (Literal v) = 24
+lead FormattedBegin = 24
 lead _ = 0
 
 -- the least lead of a first terminal of a level

@@ -9,19 +9,21 @@ use Rattle.pytree_node.specs.declared.operators.Comparison.{Comparison}
 use Rattle.pytree_node.specs.declared.operators.Comparison.TheVariants as Is
 use Rattle.pytree_node.specs.declared.operators.Context.TheVariants.{Load, Store}
 use Rattle.pygrammar.specs.declared.levels.Level.{Level}
-use Rattle.pygrammar.specs.declared.levels.Level.TheVariants.{Value, Stars, StarItem, Named, Expression, Or, BitOr, Factor, Await, Primary, Atom, Elem, Slices, Part, Slice, Subject}
+use Rattle.pygrammar.specs.declared.levels.Level.TheVariants.{Value, Stars, StarItem, Named, Expression, Or, BitOr, Factor, Primary, Atom, Elem, Slices, Part, Slice, Subject}
 use Rattle.pytree_node.specs.Trees
 use Rattle.pytree_node.specs.Trees.{Expr, no_exprs, an_expr, OptionalExpr, absent, present, no_optional, arg, Arguments, Identifier, exprs, Comprehension, comprehensions}
 use Rattle.pytree_node.specs.Values
-use Rattle.pytoken.specs.Terminals.{Terminal, Op, Ident, Number, Literal}
-use Rattle.pygrammar.specs.Looks.{is_op, is_word, name_in}
+use Rattle.pyfstring.specs.declared.parts.Conversion.{Conversion}
+use Rattle.pytoken.specs.Terminals.{Terminal, Op, Ident, Number, Literal, FormattedBegin}
+use Rattle.pygrammar.specs.Looks.{is_op, is_word, name_in, literal_in, text_in, conversion_in, is_formatted_begin, is_formatted_end, is_spec_begin, is_field_end}
 use Rattle.pygrammar.specs.Operators.{below, chain_level, chain_word, comparison, rank}
 use Rattle.pygrammar.specs.Constants.{constant_word, joined}
+use Rattle.pygrammar.specs.FormattedStrings.{StringPart, Text, Field, merged, values_of, spec_values_of, kind_of, text_of, texts_of}
 use Rattle.pygrammar.specs.Entries.{Item, Of, Pair, Argument, Parameter, Entry, Single, Paired, Spread, Doubled, Keyed, Plain, Slashed, Bare, Gathered, Collected, singles, keys, values}
 use Rattle.pygrammar.specs.Arguments.{called}
 use Rattle.pygrammar.specs.Parameters.{arranged}
 use Rattle.pygrammar.specs.Targets.{stored}
-use Rattle.pygrammar.specs.Precedence.{first, starts, starts_comp, Infix, Left, Raise, Joins, Compares, behind, Prefix, Signed, Awaits, infix_from, prefix_from}
+use Rattle.pygrammar.specs.Precedence.{starts, starts_comp, Infix, Left, Raise, Joins, Compares, Prefix, Signed, Awaits, infix_from, prefix_from}
 
 -- what a reader answers: a value and the terminals after it, no form, or that it went too deep
 pub data Answer (A : Type 0) : Type 0 where
@@ -173,6 +175,43 @@ abbrev pub constant_of : Option Values.Value → Option Expr
 constant_of None = None
 constant_of (Some v) = Some (Trees.Constant v)
 
+-- [":" format_spec], with the reader of its parts
+abbrev pub spec_with : (List Terminal → Answer (List StringPart)) → Bool → List Terminal → Answer OptionalExpr
+spec_with parts u r = on_first is_spec_begin r (λ _ r1. and_then (parts r1) (λ ps r2. Found (present (Trees.JoinedStr (spec_values_of u (merged ps)))) r2)) (Found absent r)
+
+module _ (self : Reads) where
+  -- a field, after its beginning
+  abbrev pub field_with : (List Terminal → Answer (List StringPart)) → Bool → Conversion → List Terminal → Answer Expr
+  field_with parts u c r = on_first (is_op LPar) r (λ _ _. and_then (self Atom r) (λ e r1. and_then (spec_with parts u r1) (λ s r2. on_first is_field_end r2 (λ _ r3. Found (Trees.FormattedValue e c s) r3) NoForm))) NoForm
+
+  -- (text | replacement_field)*, behind other parts
+  abbrev pub parts_loop : Bool → ℕ → List StringPart → List Terminal → Answer (List StringPart)
+  parts_loop u zero acc r = Found acc r
+  parts_loop u (suc m) acc r =
+      on_first text_in r (λ t r1. parts_loop u m (acc ++ (Text t ∷ [])) r1)
+      (on_first conversion_in r (λ c r1. and_then (field_with (λ r2. parts_loop u m [] r2) u c r1) (λ e r2. parts_loop u m (acc ++ (Field e ∷ [])) r2))
+      (Found acc r))
+
+  -- an f-string, after its beginning
+  abbrev pub formatted_step : Bool → List StringPart → List Terminal → Answer (List StringPart)
+  formatted_step u acc r = and_then (parts_loop u (length r) acc r) (λ ps r1. on_first is_formatted_end r1 (λ _ r2. Found ps r2) NoForm)
+
+  -- (STRING | f_string)*, behind other parts
+  abbrev pub literals_loop : Bool → ℕ → List StringPart → List Terminal → Answer (List StringPart)
+  literals_loop u zero acc r = Found acc r
+  literals_loop u (suc m) acc r =
+      on_first literal_in r (λ v r1. on_some (text_of v) (λ t. literals_loop u m (acc ++ (Text t ∷ [])) r1) NoForm)
+      (on_first is_formatted_begin r (λ _ r1. and_then (formatted_step u acc r1) (λ ps r2. literals_loop u m ps r2))
+      (Found acc r))
+
+  -- after the beginning of the first f-string, and the texts in front of it
+  abbrev pub joined_step : Bool → List StringPart → List Terminal → Answer Expr
+  joined_step u acc r = and_then (formatted_step u acc r) (λ ps r1. and_then (literals_loop u (length r1) ps r1) (λ qs r2. Found (Trees.JoinedStr (values_of u (merged qs))) r2))
+
+  -- after a first literal
+  abbrev pub literals : Values.Value → List Terminal → Answer Expr
+  literals v r = and_then (string_run [] r) (λ vs r1. on_first is_formatted_begin r1 (λ _ r2. on_some (texts_of (v ∷ vs)) (λ ps. joined_step (kind_of v) ps r2) NoForm) (made (constant_of (joined v vs)) r1))
+
 module _ (self : Reads) where
   abbrev pub yield_step : List Terminal → Answer Expr
   yield_step r = on_first (is_word Key.From) r (λ _ r1. and_then (self Expression r1) (λ e r2. Found (Trees.YieldFrom e) r2)) (and_then (perhaps self Stars r) (λ e r1. Found (Trees.Yield e) r1))
@@ -216,7 +255,8 @@ module _ (self : Reads) where
   atom [] = NoForm
   atom (Ident x ∷ r) = Found (Trees.Name x.form Load) r
   atom (Number v ∷ r) = Found (Trees.Constant v) r
-  atom (Literal v ∷ r) = and_then (string_run [] r) (λ vs r1. made (constant_of (joined v vs)) r1)
+  atom (Literal v ∷ r) = literals self v r
+  atom (FormattedBegin ∷ r) = joined_step self false [] r
   atom (Op LPar ∷ r) = round r
   atom (Op LSqb ∷ r) = square r
   atom (Op LBrace ∷ r) = curly r

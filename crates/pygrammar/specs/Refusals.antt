@@ -1,6 +1,7 @@
 -- What is accepted in a version and an extent of Python, and what is refused where. A refusal of the tokens comes first, in the order that `refusal` gives; then the first line
 -- without a form, the first faulty line of the blocks, and the first statement that stands too deep.
-use Rattle.std.specs.Prelude.{◌≡◌, ℕ, suc, ◌+◌, ◌<◌, ◌≤◌, Bool, true, false, not, ◌&&◌, nat_lt, ◌==◌, cond, List, [], ◌∷◌, ◌++◌, length, map, Option, Some, None}
+use Rattle.std.specs.Prelude.{◌≡◌, ℕ, suc, ◌+◌, ◌<◌, ◌≤◌, Bool, true, false, not, ◌&&◌, nat_lt, ◌==◌, cond, List, [], ◌∷◌, ◌++◌, length, Option, Some, None}
+use Rattle.std.specs.List.{flat_map}
 use Rattle.pysource.specs.declared.places.Place.{Place}
 use Rattle.pylex.specs.Listing.{Source}
 use Rattle.pytree_node.specs.declared.profiles.Profile.{Profile}
@@ -9,9 +10,10 @@ use Rattle.pytree_height.specs.Heights.{statement_height}
 use Rattle.pytoken.specs.declared.refusals.Refusal.{Refusal}
 use Rattle.pytoken.specs.Tokens.{Token, tokens, lines}
 use Rattle.pytoken.specs.Tokens as Tokens
-use Rattle.pytoken.specs.Terminals.{Terminal, terminal_of}
+use Rattle.pytoken.specs.Terminals.{Terminal, terminals_of}
 use Rattle.pytoken.specs.Refusals.{refusal}
 use Rattle.pytoken.specs.MatchHeaders.{is_match}
+use Rattle.pygrammar.specs.Lengths.{weight}
 use Rattle.pygrammar.specs.Lines.{Line, line, Form, header_form}
 use Rattle.pygrammar.specs.Forms.{FormAt, is_whole}
 use Rattle.pygrammar.specs.FormHeights.{form_height}
@@ -39,7 +41,7 @@ pub data StartsAt (s : Source) (n : ℕ) : Place → Type 0 where
 
 -- what the grammar reads of a line
 abbrev pub terminals : Tokens.Line → List Terminal
-terminals x = map (λ t. terminal_of t.kind t.text) x.tokens
+terminals x = flat_map (λ t. terminals_of t.kind t.text) x.tokens
 
 -- Each line is asked for its form at its place: whether it stands in a `match`, by the forms of the lines before it. Those are given nearest
 -- first.
@@ -68,7 +70,7 @@ pub data Unread (profile : Profile) (inside : Bool) (x : Tokens.Line) : Code →
   too_high : {f : Form} → FormAt profile inside (terminals x) f → 500 < form_height f → Unread profile inside x TooDeep
   no_match : HasNone profile inside x → is_left_out profile x ≡ true → Unread profile inside x MatchStatement
   no_form : HasNone profile inside x → is_left_out profile x ≡ false → Unread profile inside x Syntax
-  too_long : HasNone profile inside x → 500 < length x.tokens → Unread profile inside x TooDeep
+  too_long : HasNone profile inside x → 500 < weight (terminals x) → Unread profile inside x TooDeep
 
 -- the first such line
 pub data FirstUnread (profile : Profile) : List Line → List Tokens.Line → ℕ → Code → Type 0 where

@@ -1,5 +1,5 @@
 -- What holds of the forms of logical lines, of their blocks, and of the answer for a source.
-use Rattle.std.specs.Prelude.{◌≡◌, ◌⊎◌, ◌↔◌, ℕ, ◌<◌, Bool, true, List, [], length, Contains}
+use Rattle.std.specs.Prelude.{◌≡◌, ◌⊎◌, ◌↔◌, ℕ, ◌<◌, Bool, true, List, [], Contains}
 use Rattle.pysource.specs.declared.places.Place.{Place}
 use Rattle.pylex.specs.Listing.{Source}
 use Rattle.pytree_node.specs.declared.profiles.Extent.{Extent}
@@ -13,12 +13,13 @@ use Rattle.pytree_height.specs.Heights.{statement_height}
 use Rattle.pytoken.specs.Tokens.{lines}
 use Rattle.pytoken.specs.Tokens as Tokens
 use Rattle.pytoken.specs.Terminals.{Terminal}
+use Rattle.pygrammar.specs.Lengths.{weight}
 use Rattle.pygrammar.specs.Lines.{Line, Form, untyped, are_proper}
 use Rattle.pygrammar.specs.Forms.{FormAt}
 use Rattle.pygrammar.specs.Blocks.{Block, Fault, FirstFault}
 use Rattle.pygrammar.specs.Types.{is_module_untyped}
 use Rattle.pygrammar.specs.Extents.{is_module_plain}
-use Rattle.pygrammar.specs.Refusals.{Code, Reason, at, HasNone, Formed, FirstDeep, Accepted, Refused}
+use Rattle.pygrammar.specs.Refusals.{Code, Reason, terminals, at, HasNone, Formed, FirstDeep, Accepted, Refused}
 
 -- in a version and an extent a line has at most one form in a `match`, and at most one elsewhere
 abbrev pub FormsAreUnique : Type 0
@@ -84,7 +85,7 @@ SourcesAreAnswered = (profile : Profile) (s : Source) → ((m : Module) × Accep
 
 -- the one free choice: a long line without any form may be refused by either of two reasons, at one place
 pub data IsFreeChoice (profile : Profile) (s : Source) : Reason → Reason → Type 0 where
-  free : {p : Place} {c d : Code} {inside : Bool} (x : Tokens.Line) → Contains (lines s) x → HasNone profile inside x → 500 < length x.tokens → IsFreeChoice profile s (at p c) (at p d)
+  free : {p : Place} {c d : Code} {inside : Bool} (x : Tokens.Line) → Contains (lines s) x → HasNone profile inside x → 500 < weight (terminals x) → IsFreeChoice profile s (at p c) (at p d)
 
 -- what is refused has one reason otherwise
 abbrev pub ReasonsAreUnique : Type 0

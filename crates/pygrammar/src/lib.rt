@@ -6,12 +6,15 @@
 //!
 //! The words of contracts are in `specs/`. `Grammar` is the table: which list of terminals is which
 //! expression at which level. What it names stands beside it: `Operators`, `Constants`, `Entries`
-//! of lists with commas, the order of `Arguments` and `Parameters`, `Targets`.
+//! of lists with commas, the order of `Arguments` and `Parameters`, `Targets`, and what the parts of
+//! f-strings are as values, `FormattedStrings`. An f-string is several terminals: its ends, texts,
+//! and fields with the terminals of an expression in round brackets.
 //!
 //! `Reader` is the table as a function: what it finds at the front of a list of terminals, with the
 //! operators of `Precedence` and the tests of `Looks`. `Capped` is that function within a height,
 //! and `Meets` what its answers mean. `Laws` says that they agree, hence that a list is at most one
-//! expression.
+//! expression. `Lengths` says how many terminals count beside a height, and `OpenStrings` which
+//! f-strings are open behind a list of terminals, and how many tokens it is.
 //!
 //! `PatternGrammar` is the table of patterns, over `PatternOperators` and `PatternEntries`;
 //! `PatternReader` that table as a function within a height, `PatternMeets` what its answers mean,

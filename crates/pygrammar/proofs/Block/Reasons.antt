@@ -11,9 +11,10 @@ use Rattle.pytoken.specs.declared.refusals.Refusal.{Refusal}
 use Rattle.pytoken.specs.Refusals.{refusal}
 use Rattle.pytoken.specs.Tokens.{Token, tokens, lines}
 use Rattle.pytoken.specs.Tokens as Tokens
+use Rattle.pygrammar.specs.Lengths.{weight}
 use Rattle.pygrammar.specs.Lines.{Line}
 use Rattle.pygrammar.specs.Blocks.{Fault, FirstFault, stands_in_match}
-use Rattle.pygrammar.specs.Refusals.{Code, Indentation, TooDeep, Reason, in_tokens, at, StartsAt, at_line, at_end, HasNone, Unread, too_high, no_match, no_form, too_long, FirstUnread, unread, unread_behind, FirstDeep, Refused, by_tokens, by_line, by_block, by_height}
+use Rattle.pygrammar.specs.Refusals.{Code, terminals, Indentation, TooDeep, Reason, in_tokens, at, StartsAt, at_line, at_end, HasNone, Unread, too_high, no_match, no_form, too_long, FirstUnread, unread, unread_behind, FirstDeep, Refused, by_tokens, by_line, by_block, by_height}
 use Rattle.pygrammar.specs.SourceLaws.{IsFreeChoice, free}
 use Rattle.pygrammar.proofs.Line.Law.{one_form}
 use Rattle.pygrammar.proofs.Block.Law.{tree_faultless, no_first, one_first}
@@ -54,7 +55,7 @@ place_at {s} {p = p} e a b = let P : ℕ → Type 0 = λ z. StartsAt s z p in on
 -- ---- Lines.
 
 abbrev IsLong : Profile → Bool → Tokens.Line → Type 0
-IsLong profile inside x = HasNone profile inside x × (500 < length x.tokens)
+IsLong profile inside x = HasNone profile inside x × (500 < weight (terminals x))
 
 one_code : {profile : Profile} {inside : Bool} {x : Tokens.Line} {c d : Code} → Unread profile inside x c → Unread profile inside x d → (c ≡ d) ⊎ IsLong profile inside x
 one_code (too_high p h) (too_high q k) = inl refl

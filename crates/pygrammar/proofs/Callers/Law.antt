@@ -1,8 +1,7 @@
 -- On: the laws of the grammar of expressions.
 --
 -- Carries: what pyparse_expr, pyparse, pyunparse_text cite.
-use Rattle.std.proofs.Common.{◌≡◌, ◌⊎◌, inl, inr, refl, sym, ◌∙◌, ℕ, suc, List, [], ◌∷◌, length}
-use Rattle.pygrammar.specs.declared.levels.Level.{Level}
+use Rattle.std.proofs.Common.{◌≡◌, ◌⊎◌, inl, inr, refl, sym, ◌∙◌, suc, List, [], ◌∷◌, length}
 use Rattle.pytree_node.specs.Trees.{Expr}
 use Rattle.pytoken.specs.Terminals.{Terminal}
 use Rattle.pygrammar.specs.Grammar.{Derives}

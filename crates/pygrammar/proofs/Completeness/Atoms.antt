@@ -2,7 +2,7 @@
 --
 -- Carries: primary_goes, TailReads, tail_keeps, tail_last and 23 more, for Complete, ReadValues,
 -- ReadBrackets. On: Comps, LookLemmas, Climb, LevelLemmas and 1 more.
-use Rattle.std.proofs.Common.{map, ◌≡◌, ◌⊎◌, inl, inr, refl, sym, ap, subst, ◌∙◌, ℕ, suc, ◌≤◌, ◌<◌, arith, List, [], ◌∷◌, ◌++◌, length, Some, true, false, append_assoc}
+use Rattle.std.proofs.Common.{map, ◌≡◌, ◌⊎◌, inl, inr, refl, sym, ap, subst, ◌∙◌, ℕ, suc, ◌≤◌, ◌<◌, arith, List, [], ◌∷◌, ◌++◌, length, Some, Bool, true, false, append_assoc}
 use Rattle.std.specs.Prelude.{max}
 use Rattle.pylex_lexeme.specs.declared.kinds.Exact.TheVariants.{LPar, RPar, LSqb, RSqb, LBrace, RBrace, Colon, Comma, Star, DoubleStar, ColonEqual}
 use Rattle.pytoken.specs.declared.keywords.Keyword.TheVariants as Key
@@ -11,16 +11,18 @@ use Rattle.pygrammar.specs.declared.levels.Level.TheVariants.{Named, Expression,
 use Rattle.pytree_node.specs.Trees
 use Rattle.pytree_node.specs.Trees.{Expr, no_exprs, an_expr, no_optional, Comprehension, comprehensions}
 use Rattle.pytree_node.specs.Values
-use Rattle.pytoken.specs.Terminals.{Spelled, Terminal, Op, Word, Ident, Number, Literal, Layout}
+use Rattle.pytoken.specs.Terminals.{Spelled, Terminal, Op, Word, Ident, Number, Literal, FormattedBegin, FormattedEnd}
 use Rattle.pygrammar.specs.Constants.{constant_word, joined}
+use Rattle.pygrammar.specs.FormattedStrings.{StringPart, Text, merged, values_of}
 use Rattle.pygrammar.specs.Entries.{Item, Of, Pair, Entry, Single, Paired, Doubled, singles, keys, values}
 use Rattle.pygrammar.specs.Grammar as G
-use Rattle.pygrammar.specs.Reader.{Found, made, read, yield_step, comps_closed, string_run, constant_of, round, square, curly, others_of, listing_of, atom, Reads}
+use Rattle.pygrammar.specs.Reader.{Found, made, read, yield_step, comps_closed, constant_of, round, square, curly, others_of, listing_of, atom, Reads}
 use Rattle.pygrammar.specs.Precedence.{starts, starts_comp}
 use Rattle.pygrammar.proofs.Completeness.LookLemmas.{grip_of, lead_of, miss_op, pass_op, pass_word, miss_name_with}
 use Rattle.pygrammar.proofs.Completeness.Climb.{ReadsAt, ReadsAs, deeper, unroll, answers}
+use Rattle.pygrammar.proofs.Completeness.Strings.{strings_step, FormattedReads, LiteralsRead, MixedReads, joined_shape, joined_goes}
 use Rattle.pygrammar.proofs.Completeness.LevelLemmas.{free, next_goes, primary_target}
-use Rattle.pygrammar.proofs.Completeness.Comps.{append_no, ListEnds, Separable, ListingReads, CompsReads, comps_first, comps_close}
+use Rattle.pygrammar.proofs.Completeness.Comps.{ListEnds, Separable, ListingReads, CompsReads, comps_first, comps_close}
 use Rattle.pygrammar.proofs.Completeness.Forms.{YieldsReads, starts_of}
 
 pub primary_goes : (ts : List Terminal) (e : Expr) (n : ℕ) → ((d : ℕ) → n ≤ d → ReadsAt Primary ts e d) → ReadsAs Primary ts e
@@ -59,32 +61,30 @@ constant_step self (Op LSqb) v r h = absurd (cc)
 constant_step self (Op LBrace) v r h = absurd (cc)
 constant_step self (Op _) v r h = ap (λ o. made (constant_of o) r) h
 constant_step self (Word _) v r h = ap (λ o. made (constant_of o) r) h
-constant_step self (Ident x) v r h = absurd (cc)
-constant_step self (Number x) v r h = absurd (cc)
-constant_step self (Literal x) v r h = absurd (cc)
-constant_step self Layout v r h = absurd (cc)
+constant_step self _ v r h = absurd (cc)
 
 pub constant_goes : (t : Terminal) (v : Values.Value) → constant_word t ≡ Some v → ReadsAs Atom (t ∷ []) (Trees.Constant v)
 constant_goes t v w = (0, (λ d h rest s. unroll d Atom (t ∷ rest) ∙ constant_step (read d) t v rest w), λ d h. tt)
 
-string_run_end : (acc : List Values.Value) (r : List Terminal) → grip_of r ≤ 24 → string_run acc r ≡ Found acc r
-string_run_end acc [] h = refl
-string_run_end acc (Literal v ∷ r) h = absurd (omega (arith, h))
-string_run_end acc (Op x ∷ r) h = refl
-string_run_end acc (Word x ∷ r) h = refl
-string_run_end acc (Ident x ∷ r) h = refl
-string_run_end acc (Number x ∷ r) h = refl
-string_run_end acc (Layout ∷ r) h = refl
-
-pub string_run_all : (vs acc : List Values.Value) (r : List Terminal) → grip_of r ≤ 24 → string_run acc (map Literal vs ++ r) ≡ Found (acc ++ vs) r
-string_run_all [] acc r h = string_run_end acc r h ∙ ap (λ z. Found z r) (sym (append_no acc))
-string_run_all (v ∷ vs) acc r h = string_run_all vs (acc ++ (v ∷ [])) r h ∙ ap (λ z. Found z r) (append_assoc acc (v ∷ []) vs)
-
-strings_step : (self : Reads) (v w : Values.Value) (vs : List Values.Value) (i r : List Terminal) → string_run [] i ≡ Found vs r → joined v vs ≡ Some w → atom self (Literal v ∷ i) ≡ Found (Trees.Constant w) r
-strings_step self v w vs i r h k = rw h (rw k refl)
-
 pub strings_goes : (v w : Values.Value) (vs : List Values.Value) → joined v vs ≡ Some w → ReadsAs Atom (Literal v ∷ map Literal vs) (Trees.Constant w)
-strings_goes v w vs k = (0, (λ d h rest s. unroll d Atom (Literal v ∷ (map Literal vs ++ rest)) ∙ strings_step (read d) v w vs (map Literal vs ++ rest) rest (string_run_all vs [] rest s) k), λ d h. tt)
+strings_goes v w vs k = (0, (λ d h rest s. unroll d Atom (Literal v ∷ (map Literal vs ++ rest)) ∙ strings_step (read d) v w vs rest s k), λ d h. tt)
+
+-- f-strings
+pub joined_first_goes : (ks bs : List Terminal) (xs ys : List StringPart) → FormattedReads false ks xs → LiteralsRead false bs ys → ReadsAs Atom (FormattedBegin ∷ (ks ++ (FormattedEnd ∷ bs))) (Trees.JoinedStr (values_of false (merged (xs ++ ys))))
+joined_first_goes ks bs xs ys f l = let j = joined_goes false ks bs xs ys f l in (
+  suc j.0,
+  deeper (ReadsAt Atom (FormattedBegin ∷ (ks ++ (FormattedEnd ∷ bs))) (Trees.JoinedStr (values_of false (merged (xs ++ ys))))) j.0 (λ d h rest s.
+      ap (read (suc (suc d)) Atom) (joined_shape ks bs rest) ∙ (unroll (suc d) Atom (FormattedBegin ∷ (ks ++ (FormattedEnd ∷ (bs ++ rest)))) ∙ j.1 d h [] rest s)),
+  λ d h. tt,
+)
+
+pub mixed_goes : (u : Bool) (t : List ℕ) (ts : List Terminal) (ps : List StringPart) → MixedReads u ts ps → ReadsAs Atom (Literal (Values.Str t u) ∷ ts) (Trees.JoinedStr (values_of u (merged (Text t ∷ ps))))
+mixed_goes u t ts ps m = (
+  suc m.0,
+  deeper (ReadsAt Atom (Literal (Values.Str t u) ∷ ts) (Trees.JoinedStr (values_of u (merged (Text t ∷ ps))))) m.0 (λ d h rest s.
+      unroll (suc d) Atom (Literal (Values.Str t u) ∷ (ts ++ rest)) ∙ m.1 d h (Values.Str t u) [] (Text t ∷ []) refl refl rest s),
+  λ d h. tt,
+)
 
 -- round brackets
 module _ (self : Reads) where

@@ -9,10 +9,12 @@ use Rattle.pytree_node.specs.declared.operators.BoolOperator.{BoolOperator}
 use Rattle.pytree_node.specs.declared.operators.Comparison.{Comparison}
 use Rattle.pytree_node.specs.declared.operators.Context.TheVariants.{Load}
 use Rattle.pygrammar.specs.declared.levels.Level.{Level}
-use Rattle.pygrammar.specs.declared.levels.Level.TheVariants.{Value, Stars, Primary, Elem, Slices, Part, Slice, Subject}
+use Rattle.pygrammar.specs.declared.levels.Level.TheVariants.{Value, Stars, Primary, Atom, Elem, Slices, Part, Slice, Subject}
 use Rattle.pytree_node.specs.Trees
 use Rattle.pytree_node.specs.Trees.{Expr, no_exprs, an_expr, OptionalExpr, absent, present, Comprehension, comprehensions}
-use Rattle.pytoken.specs.Terminals.{Spelled, Terminal, Op, Ident}
+use Rattle.pytree_node.specs.Values
+use Rattle.pytoken.specs.Terminals.{Spelled, Terminal, Op, Ident, Literal, FormattedBegin, FormattedEnd}
+use Rattle.pygrammar.specs.FormattedStrings.{StringPart, Text, merged, values_of, begins_unicode, has_formatted}
 use Rattle.pygrammar.specs.Entries.{Item, Of, Pair, Argument, Entry, Single}
 use Rattle.pygrammar.specs.Arguments.{called}
 use Rattle.pygrammar.specs.Grammar as G
@@ -24,7 +26,8 @@ use Rattle.pygrammar.proofs.Completeness.LevelLemmas.{led, next_goes, not_star}
 use Rattle.pygrammar.proofs.Completeness.Lists.{PieceReads, piece_starts, SuffixReads, no_suffix_goes, suffix_goes, single_goes, pair_goes, pairs_of_goes, argument_goes, star_argument_goes, keyword_argument_goes, double_argument_goes, parameter_goes, slash_goes, bare_goes, star_parameter_goes, star_annotation_goes, double_parameter_goes}
 use Rattle.pygrammar.proofs.Completeness.Comps.{ListingReads, CompsReads, comps_first, comps_close, no_item_goes, last_item_goes, item_goes, IfsReads, no_if_goes, if_one_goes, ForInReads, target_in_goes, CompReads, for_in_goes, async_goes, one_comp_goes, comps_goes}
 use Rattle.pygrammar.proofs.Completeness.Forms.{YieldsReads, PerhapsReads, nothing_goes, something_goes, yield_from_goes, yield_some_goes, yields_goes, star_item_goes, star_elem_goes, star_part_goes, star_slices_goes, star_tuple_goes, subject_tuple_goes, parts_goes, named_goes, lambda_goes, if_else_goes, front_nothing, front_something, slice_goes, slice_step_goes}
-use Rattle.pygrammar.proofs.Completeness.Atoms.{primary_goes, TailReads, tail_keeps, tail_last, tail_more, Splits, name_goes, number_goes, constant_goes, strings_goes, group_goes, yield_group_goes, empty_tuple_goes, tuple_goes, generator_goes, empty_list_goes, list_goes, list_comp_goes, empty_dict_goes, set_goes, set_comp_goes, dict_goes, doubled_goes, dict_comp_goes}
+use Rattle.pygrammar.proofs.Completeness.Strings.{FormattedReads, SpecReads, LiteralsRead, MixedReads, no_part_goes, text_part_goes, field_part_goes, no_spec_goes, spec_goes, no_literal_goes, text_literal_goes, formatted_literal_goes, mixed_text, mixed_formatted}
+use Rattle.pygrammar.proofs.Completeness.Atoms.{primary_goes, TailReads, tail_keeps, tail_last, tail_more, Splits, name_goes, number_goes, constant_goes, strings_goes, joined_first_goes, mixed_goes, group_goes, yield_group_goes, empty_tuple_goes, tuple_goes, generator_goes, empty_list_goes, list_goes, list_comp_goes, empty_dict_goes, set_goes, set_comp_goes, dict_goes, doubled_goes, dict_comp_goes}
 
 -- Primary and what follows it
 dot_more : (self : Reads) (m : ℕ) (e : Expr) (x : Spelled) (rest : List Terminal) → suc (suc (length rest)) ≤ m → (m' : ℕ) × (length rest ≤ m') × (primary_loop self m e (Op Dot ∷ (Ident x ∷ rest)) ≡ primary_loop self m' (Trees.Attribute e x.form Load) rest)
@@ -123,6 +126,7 @@ mutual
   goes (G.constant {t = t} {v = v} h) = constant_goes t v h
   goes (G.number {v = v}) = number_goes v
   goes (G.strings {v = v} {w = w} vs h) = strings_goes v w vs h
+  goes (G.joined_string {ts = ts} l b h) = first_all l b h
   goes (G.group {ts = ts} {e = e} p) = group_goes ts e (led p) (goes p)
   goes (G.yield_group {ts = ts} {e = e} p) = yield_group_goes ts e (yields_all p)
   goes G.empty_tuple = empty_tuple_goes
@@ -150,6 +154,30 @@ mutual
   goes (G.slice {us = us} {b = b} (G.something {ts = ts} {e = a} p) q) = slice_goes ts us (present a) b (front_something ts a (led p) (goes p)) (perhaps_all q)
   goes (G.slice_step {us = us} {vs = vs} {b = b} {c = c} G.nothing q r) = slice_step_goes [] us vs absent b c front_nothing (perhaps_all q) (perhaps_all r)
   goes (G.slice_step {us = us} {vs = vs} {b = b} {c = c} (G.something {ts = ts} {e = a} p) q r) = slice_step_goes ts us vs (present a) b c (front_something ts a (led p) (goes p)) (perhaps_all q) (perhaps_all r)
+
+  first_all : {u : Bool} {ts : List Terminal} {ps : List StringPart} → G.Literals u ts ps → begins_unicode ts ≡ u → has_formatted ts ≡ true → ReadsAs Atom ts (Trees.JoinedStr (values_of u (merged ps)))
+  first_all G.no_literal b h = absurd (cc)
+  first_all (G.text_literal {u = u} {ts = ts} {ps = ps} {t = t} {k = k} l) b h = subst (λ z. ReadsAs Atom (Literal (Values.Str t z) ∷ ts) (Trees.JoinedStr (values_of u (merged (Text t ∷ ps))))) (sym b) (mixed_goes u t ts ps (mixed_all l h))
+  first_all (G.formatted_literal {ts = ts} {us = us} {ps = ps} {qs = qs} p l) b h = subst (λ z. ReadsAs Atom (FormattedBegin ∷ (ts ++ (FormattedEnd ∷ us))) (Trees.JoinedStr (values_of z (merged (ps ++ qs))))) b (joined_first_goes ts us ps qs (subst (λ z. FormattedReads z ts ps) (sym b) (formatted_all p)) (subst (λ z. LiteralsRead z us qs) (sym b) (literals_all l)))
+
+  mixed_all : {u : Bool} {ts : List Terminal} {ps : List StringPart} → G.Literals u ts ps → has_formatted ts ≡ true → MixedReads u ts ps
+  mixed_all G.no_literal h = absurd (cc)
+  mixed_all (G.text_literal {u = u} {ts = ts} {ps = ps} {t = t} {k = k} l) h = mixed_text u k t ts ps (mixed_all l h)
+  mixed_all (G.formatted_literal {u = u} {ts = ts} {us = us} {ps = ps} {qs = qs} p l) h = mixed_formatted u ts us ps qs (formatted_all p) (literals_all l)
+
+  literals_all : {u : Bool} {ts : List Terminal} {ps : List StringPart} → G.Literals u ts ps → LiteralsRead u ts ps
+  literals_all (G.no_literal {u = u}) = no_literal_goes u
+  literals_all (G.text_literal {u = u} {ts = ts} {ps = ps} {t = t} {k = k} l) = text_literal_goes u k t ts ps (literals_all l)
+  literals_all (G.formatted_literal {u = u} {ts = ts} {us = us} {ps = ps} {qs = qs} p l) = formatted_literal_goes u ts us ps qs (formatted_all p) (literals_all l)
+
+  formatted_all : {u : Bool} {ts : List Terminal} {ps : List StringPart} → G.Formatted u ts ps → FormattedReads u ts ps
+  formatted_all (G.no_part {u = u}) = no_part_goes u
+  formatted_all (G.text_part {u = u} {ts = ts} {ps = ps} {t = t} p) = text_part_goes u t ts ps (formatted_all p)
+  formatted_all (G.field_part {u = u} {c = c} {ts = ts} {us = us} {vs = vs} {e = e} {s = s} {ps = ps} p q r) = field_part_goes u c ts us vs e s ps (goes p) (spec_all q) (formatted_all r)
+
+  spec_all : {u : Bool} {us : List Terminal} {s : OptionalExpr} → G.Spec u us s → SpecReads u us s
+  spec_all (G.no_spec {u = u}) = no_spec_goes u
+  spec_all (G.spec {u = u} {ts = ts} {ps = ps} p) = spec_goes u ts ps (formatted_all p)
 
   yields_all : {ts : List Terminal} {e : Expr} → G.Yields ts e → YieldsReads ts e
   yields_all (G.yield_from {ts = ts} {e = e} p) = yield_from_goes ts e (goes p)

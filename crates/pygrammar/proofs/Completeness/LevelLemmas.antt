@@ -2,7 +2,7 @@
 --
 -- Carries: led, free, next_goes, not_star and 3 more, for Forms, Atoms, Complete, Lists and 6
 -- more. On: LookLemmas, Climb.
-use Rattle.std.proofs.Common.{◌≡◌, refl, sym, ap, ◌∙◌, ℕ, suc, ◌≤◌, ◌<◌, arith, List, ◌∷◌, ◌++◌, length, Some}
+use Rattle.std.proofs.Common.{◌≡◌, refl, sym, ap, ◌∙◌, ℕ, suc, ◌≤◌, ◌<◌, arith, List, ◌∷◌, ◌++◌, length, Some, Bool, true}
 use Rattle.pylex_lexeme.specs.declared.kinds.Exact.{Exact}
 use Rattle.pylex_lexeme.specs.declared.kinds.Exact.TheVariants.{Colon, Comma, Plus, Minus, Star, Tilde, Ellipsis, ColonEqual}
 use Rattle.pytoken.specs.declared.keywords.Keyword.TheVariants as Key
@@ -20,6 +20,7 @@ use Rattle.pytoken.specs.Terminals.{Spelled, Terminal, Op, Word, Ident}
 use Rattle.pygrammar.specs.Looks.{is_op}
 use Rattle.pygrammar.specs.Operators.{below, left_operator, prefix_operator, chain_level}
 use Rattle.pygrammar.specs.Constants.{constant_word}
+use Rattle.pygrammar.specs.FormattedStrings.{StringPart, has_formatted}
 use Rattle.pygrammar.specs.Grammar as G
 use Rattle.pygrammar.specs.Reader.{Answer, Found, and_then, on_first, Reads, primary_loop, level_step, read, target_item, read_target, slice_rest, if_else_step, unnamed}
 use Rattle.pygrammar.specs.Precedence.{lead, first}
@@ -53,6 +54,11 @@ constant_led (Word _) v h = absurd (cc)
 constant_led (Op _) v h = absurd (cc)
 constant_led _ v h = absurd (cc)
 
+literals_led : {u : Bool} {ts : List Terminal} {ps : List StringPart} → G.Literals u ts ps → has_formatted ts ≡ true → 24 ≤ lead_of ts
+literals_led G.no_literal h = absurd (cc)
+literals_led (G.text_literal l) h = omega arith
+literals_led (G.formatted_literal p l) h = omega arith
+
 mutual
   pub led : {l : Level} {ts : List Terminal} {e : Expr} → G.Derives l ts e → first l ≤ lead_of ts
   led (G.next {l = l} p) = omega (arith, led p, first_below l)
@@ -68,6 +74,7 @@ mutual
   led (G.call_generator {ts = ts} p q c) = lead_front ts _ 23 (omega arith) (led p)
   led (G.subscript {ts = ts} p q) = lead_front ts _ 23 (omega arith) (led p)
   led (G.constant {t = t} {v = v} h) = constant_led t v h
+  led (G.joined_string l b h) = literals_led l h
   led (G.parts {ts = ts} p c) = lead_front ts _ 5 (omega arith) (led p)
   led (G.subject_tuple {ts = ts} p c) = lead_front ts _ 7 (omega arith) (led p)
   led (G.slice a b) = perhaps_led a _

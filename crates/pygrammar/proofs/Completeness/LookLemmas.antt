@@ -7,8 +7,9 @@ use Rattle.pylex_lexeme.specs.declared.kinds.Exact.{Exact}
 use Rattle.pylex_lexeme.specs.declared.kinds.Exact.TheVariants.{LPar, RPar, LSqb, RSqb, LBrace, RBrace, Colon, Comma, Semi, Plus, Minus, Star, Slash, VBar, Amper, Less, Greater, Equal, Dot, Percent, EqEqual, NotEqual, LessEqual, GreaterEqual, Tilde, Circumflex, LeftShift, RightShift, DoubleStar, PlusEqual, MinEqual, StarEqual, SlashEqual, PercentEqual, AmperEqual, VBarEqual, CircumflexEqual, LeftShiftEqual, RightShiftEqual, DoubleStarEqual, DoubleSlash, DoubleSlashEqual, At, AtEqual, RArrow, Ellipsis, ColonEqual}
 use Rattle.pytoken.specs.declared.keywords.Keyword.{Keyword}
 use Rattle.pytoken.specs.declared.keywords.Keyword.TheVariants as Key
-use Rattle.pytoken.specs.Terminals.{Spelled, Terminal, Op, Word, Ident, Number, Literal, Layout}
-use Rattle.pygrammar.specs.Looks.{exact_number, keyword_number, is_op, is_word, name_in}
+use Rattle.pytree_node.specs.Values.{Value}
+use Rattle.pytoken.specs.Terminals.{Spelled, Terminal, Op, Word, Ident, Literal, FormattedBegin}
+use Rattle.pygrammar.specs.Looks.{exact_number, keyword_number, is_op, is_word, name_in, literal_in, is_formatted_begin}
 use Rattle.pygrammar.specs.Reader.{on_some, on_first, on_name_with}
 use Rattle.pygrammar.specs.Precedence.{lead, behind, infix_rank}
 
@@ -38,11 +39,7 @@ op_or_not x (Op y) = go (exact_number y == exact_number x) refl
     go : (b : Bool) → (exact_number y == exact_number x) ≡ b → (Op y ≡ Op x) ⊎ (◌≡◌ {A = Option ℕ} (cond b (Some 0) None) None)
     go true h = inl (ap Op (exact_same y x (eqb-true _ _ h)))
     go false h = inr refl
-op_or_not x (Word y) = inr refl
-op_or_not x (Ident y) = inr refl
-op_or_not x (Number y) = inr refl
-op_or_not x (Literal y) = inr refl
-op_or_not x Layout = inr refl
+op_or_not x _ = inr refl
 
 pub op_is : (x : Exact) → is_op x (Op x) ≡ Some 0
 op_is LPar = refl
@@ -57,11 +54,7 @@ word_or_not x (Word y) = go (keyword_number y == keyword_number x) refl
     go : (b : Bool) → (keyword_number y == keyword_number x) ≡ b → (Word y ≡ Word x) ⊎ (◌≡◌ {A = Option ℕ} (cond b (Some 0) None) None)
     go true h = inl (ap Word (keyword_same y x (eqb-true _ _ h)))
     go false h = inr refl
-word_or_not x (Op y) = inr refl
-word_or_not x (Ident y) = inr refl
-word_or_not x (Number y) = inr refl
-word_or_not x (Literal y) = inr refl
-word_or_not x Layout = inr refl
+word_or_not x _ = inr refl
 
 pub word_is : (x : Keyword) → is_word x (Word x) ≡ Some 0
 word_is Key.As = refl
@@ -82,6 +75,7 @@ grip_else (Op Dot) = 23
 grip_else (Op LPar) = 23
 grip_else (Op LSqb) = 23
 grip_else (Literal v) = 25
+grip_else FormattedBegin = 25
 grip_else _ = 0
 
 abbrev pub grip : Terminal → ℕ
@@ -133,18 +127,21 @@ hit_word x r hit other = ap (λ o. on_some o (λ a. hit a r) other) (word_is x)
 pub miss_name : {A : Type 0} (r : List Terminal) (hit : List ℕ → List Terminal → A) (other : A) → lead_of r < 24 → on_first name_in r hit other ≡ other
 miss_name [] hit other h = refl
 miss_name (Ident x ∷ r) hit other h = absurd (omega (arith, h))
-miss_name (Op x ∷ r) hit other h = refl
-miss_name (Word x ∷ r) hit other h = refl
-miss_name (Number x ∷ r) hit other h = refl
-miss_name (Literal x ∷ r) hit other h = refl
-miss_name (Layout ∷ r) hit other h = refl
+miss_name (_ ∷ r) hit other h = refl
 
 pub miss_name_with : {A : Type 0} (s : Exact) (i : List Terminal) (hit : List ℕ → List Terminal → A) (other : A) → ((x : Spelled) (us : List Terminal) → i ≡ Ident x ∷ (Op s ∷ us) → ⊥) → on_name_with s i hit other ≡ other
 miss_name_with s [] hit other h = refl
 miss_name_with s (Ident x ∷ []) hit other h = refl
 miss_name_with s (Ident x ∷ (t ∷ r)) hit other h = elim (op_or_not s t) [ inl e ↦ absurd (h x r (ap (λ z. Ident x ∷ (z ∷ r)) e)) | inr q ↦ ap (λ o. on_some o (λ a. hit x.form r) other) q ]
-miss_name_with s (Op y ∷ r) hit other h = refl
-miss_name_with s (Word y ∷ r) hit other h = refl
-miss_name_with s (Number y ∷ r) hit other h = refl
-miss_name_with s (Literal y ∷ r) hit other h = refl
-miss_name_with s (Layout ∷ r) hit other h = refl
+miss_name_with s (_ ∷ r) hit other h = refl
+
+-- and no literal
+pub miss_literal : {A : Type 0} (r : List Terminal) (hit : Value → List Terminal → A) (other : A) → grip_of r ≤ 24 → on_first literal_in r hit other ≡ other
+miss_literal [] hit other h = refl
+miss_literal (Literal v ∷ r) hit other h = absurd (omega (arith, h))
+miss_literal (_ ∷ r) hit other h = refl
+
+pub miss_formatted : {A : Type 0} (r : List Terminal) (hit : ℕ → List Terminal → A) (other : A) → grip_of r ≤ 24 → on_first is_formatted_begin r hit other ≡ other
+miss_formatted [] hit other h = refl
+miss_formatted (FormattedBegin ∷ r) hit other h = absurd (omega (arith, h))
+miss_formatted (_ ∷ r) hit other h = refl

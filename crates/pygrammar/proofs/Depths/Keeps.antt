@@ -14,11 +14,14 @@ use Rattle.pygrammar.specs.declared.levels.Level.{Level}
 use Rattle.pygrammar.specs.declared.levels.Level.TheVariants.{Value, Stars, StarItem, Named, Expression, Or, And, Not, Compare, BitOr, BitXor, BitAnd, Shift, Sum, Term, Factor, Power, Await, Primary, Atom, Elem, Slices, Part, Slice, Subject}
 use Rattle.pytree_node.specs.Trees
 use Rattle.pytree_node.specs.Trees.{Expr, OptionalExpr, absent, present, Identifier, Comprehension}
-use Rattle.pytoken.specs.Terminals.{Terminal, Op}
-use Rattle.pygrammar.specs.Looks.{is_op, is_word, name_in}
+use Rattle.pyfstring.specs.declared.parts.Conversion.{Conversion}
+use Rattle.pytree_node.specs.Values
+use Rattle.pytoken.specs.Terminals.{Terminal, Op, Literal, FormattedBegin}
+use Rattle.pygrammar.specs.FormattedStrings.{StringPart, Text, Field, kind_of, text_of, texts_of}
+use Rattle.pygrammar.specs.Looks.{is_op, is_word, name_in, literal_in, text_in, conversion_in, is_formatted_begin, is_spec_begin}
 use Rattle.pygrammar.specs.Operators.{below, chain_level, chain_word, comparison, rank}
 use Rattle.pygrammar.specs.Entries.{Item, Of, Pair, Argument, Parameter, Entry, Single, Paired, Doubled}
-use Rattle.pygrammar.specs.Reader.{Answer, Found, NoForm, TooDeep, and_then, on_some, on_first, on_name_with, Reads, perhaps, suffixed, starred, annotated, star_annotated, read_pair, read_argument, read_parameter, piece, listing_loop, listing_of, others_of, tupled, target_item, target_piece, read_target, ifs_loop, for_in_step, comps_loop, comps_closed, unstarred, unnamed, yield_step, round, square, dict_from, curly, atom, generator_call, call_step, primary_loop, chain_loop, on_comparison, compare_loop, operation, climb_loop, prefixed, slice_rest, lambda_step, if_else_step, climb, level_step, levels_from, descend, read}
+use Rattle.pygrammar.specs.Reader.{Answer, Found, NoForm, TooDeep, and_then, on_some, on_first, on_name_with, Reads, perhaps, suffixed, starred, annotated, star_annotated, read_pair, read_argument, read_parameter, piece, listing_loop, listing_of, others_of, tupled, target_item, target_piece, read_target, ifs_loop, for_in_step, comps_loop, comps_closed, unstarred, unnamed, string_run, spec_with, field_with, parts_loop, formatted_step, literals_loop, joined_step, literals, yield_step, round, square, dict_from, curly, atom, generator_call, call_step, primary_loop, chain_loop, on_comparison, compare_loop, operation, climb_loop, prefixed, slice_rest, lambda_step, if_else_step, climb, level_step, levels_from, descend, read}
 use Rattle.pygrammar.specs.Precedence.{Infix, Left, Raise, Joins, Compares, Prefix, Signed, Awaits, starts, starts_comp, infix_from, prefix_from}
 
 -- an answer that stays, at more depth
@@ -43,6 +46,10 @@ pub keeps_cond : {B : Type 0} (b : Bool) (x x' y y' : Answer B) → Keeps x x' �
 keeps_cond true x x' y y' h k = h
 keeps_cond false x x' y y' h k = k
 
+pub keeps_some : {A B : Type 0} (o : Option A) (k j : A → Answer B) (x y : Answer B) → ((a : A) → Keeps (k a) (j a)) → Keeps x y → Keeps (on_some o k x) (on_some o j y)
+keeps_some (Some a) k j x y h m = h a
+keeps_some None k j x y h m = m
+
 same : {A : Type 0} (x : Answer A) → Keeps x x
 same x = inr refl
 
@@ -60,7 +67,7 @@ module _ (self other : Reads) (all : AllKeep self other) where
   k_suffixed None r = inr refl
   k_suffixed (Some x) r = keeps_first (is_op x) r _ _ _ _ (λ a s. k_one Expression s _) (inr refl)
 
-  k_starred : (l : Level) (r : List Terminal) (x y : Answer Expr) → Keeps x y → Keeps (starred self l r x) (starred other l r y)
+  pub k_starred : (l : Level) (r : List Terminal) (x y : Answer Expr) → Keeps x y → Keeps (starred self l r x) (starred other l r y)
   k_starred l r x y h = keeps_first (is_op Star) r _ _ _ _ (λ a s. k_one l s _) h
 
   k_star_annotated : (b : Bool) (r : List Terminal) → Keeps (star_annotated self b r) (star_annotated other b r)
@@ -102,7 +109,7 @@ module _ (self other : Reads) (all : AllKeep self other) where
   k_others : (i : Item) (e : Entry) (r : List Terminal) → Keeps (others_of self i e r) (others_of other i e r)
   k_others i e r = keeps_first (is_op Comma) r _ _ _ _ (λ _ r1. k_listing_of i (e ∷ []) r1) (inr refl)
 
-  k_tupled : (i : Item) (e : Expr) (r : List Terminal) (x : Answer Expr) → Keeps (tupled self i e r x) (tupled other i e r x)
+  pub k_tupled : (i : Item) (e : Expr) (r : List Terminal) (x : Answer Expr) → Keeps (tupled self i e r x) (tupled other i e r x)
   k_tupled i e r x = keeps_first (is_op Comma) r _ _ _ _ (λ _ r1. keeps_then _ _ _ _ (k_listing_of i [] r1) (λ es r2. inr refl)) (inr refl)
 
   k_target_item : (r : List Terminal) → Keeps (target_item self r) (target_item other r)
@@ -125,16 +132,16 @@ module _ (self other : Reads) (all : AllKeep self other) where
   k_comps zero acc r = inr refl
   k_comps (suc m) acc r = keeps_first (is_word Key.For) r _ _ _ _ (λ _ r1. keeps_then _ _ _ _ (k_for_in false r1) (λ g r2. k_comps m (acc ++ (g ∷ [])) r2)) (keeps_first (is_word Key.Async) r _ _ _ _ (λ _ r1. keeps_first (is_word Key.For) r1 _ _ _ _ (λ _ r2. keeps_then _ _ _ _ (k_for_in true r2) (λ g r3. k_comps m (acc ++ (g ∷ [])) r3)) (inr refl)) (inr refl))
 
-  k_comps_closed : (s : Exact) (r : List Terminal) (make : List Comprehension → Expr) → Keeps (comps_closed self s r make) (comps_closed other s r make)
+  pub k_comps_closed : (s : Exact) (r : List Terminal) (make : List Comprehension → Expr) → Keeps (comps_closed self s r make) (comps_closed other s r make)
   k_comps_closed s r make = keeps_then _ _ _ _ (k_comps (length r) [] r) (λ gs r1. inr refl)
 
-  k_unstarred : {A : Type 0} (r : List Terminal) (x y : Answer A) → Keeps x y → Keeps (unstarred r x) (unstarred r y)
+  pub k_unstarred : {A : Type 0} (r : List Terminal) (x y : Answer A) → Keeps x y → Keeps (unstarred r x) (unstarred r y)
   k_unstarred r x y h = keeps_first (is_op Star) r _ _ _ _ (λ _ _. inr refl) h
 
-  k_unnamed : {A : Type 0} (r : List Terminal) (x y : Answer A) → Keeps x y → Keeps (unnamed r x) (unnamed r y)
+  pub k_unnamed : {A : Type 0} (r : List Terminal) (x y : Answer A) → Keeps x y → Keeps (unnamed r x) (unnamed r y)
   k_unnamed r x y h = k_name_with self other all ColonEqual r _ _ _ _ (λ _ _. inr refl) h
 
-  k_yield : (r : List Terminal) → Keeps (yield_step self r) (yield_step other r)
+  pub k_yield : (r : List Terminal) → Keeps (yield_step self r) (yield_step other r)
   k_yield r = keeps_first (is_word Key.From) r _ _ _ _ (λ _ r1. k_one self other all Expression r1 _) (keeps_then _ _ _ _ (k_perhaps self other all Stars r) (λ e r1. inr refl))
 
   k_round : (r : List Terminal) → Keeps (round self r) (round other r)
@@ -157,8 +164,38 @@ module _ (self other : Reads) (all : AllKeep self other) where
       (λ _ r2. k_unstarred r _ _ (k_unnamed r _ _ (keeps_then _ _ _ _ (all Expression r2) (λ v r3. keeps_cond (starts_comp r3) _ _ _ _ (k_comps_closed RBrace r3 _) (k_dict (Paired e v) r3)))))
       (keeps_cond (starts_comp r1) _ _ _ _ (k_unstarred r _ _ (k_comps_closed RBrace r1 _)) (keeps_then _ _ _ _ (k_others (Of Elem) (Single e) r1) (λ es r2. inr refl))))))
 
-  k_atom : (r : List Terminal) → Keeps (atom self r) (atom other r)
+  -- f-strings
+  k_spec : (one two : List Terminal → Answer (List StringPart)) → ((r : List Terminal) → Keeps (one r) (two r)) → (u : Bool) (r : List Terminal) → Keeps (spec_with one u r) (spec_with two u r)
+  k_spec one two h u r = keeps_first is_spec_begin r _ _ _ _ (λ _ r1. keeps_then _ _ _ _ (h r1) (λ ps r2. inr refl)) (inr refl)
+
+  k_field : (one two : List Terminal → Answer (List StringPart)) → ((r : List Terminal) → Keeps (one r) (two r)) → (u : Bool) (c : Conversion) (r : List Terminal) → Keeps (field_with self one u c r) (field_with other two u c r)
+  k_field one two h u c r = keeps_first (is_op LPar) r _ _ _ _ (λ _ _. keeps_then _ _ _ _ (all Atom r) (λ e r1. keeps_then _ _ _ _ (k_spec one two h u r1) (λ s r2. inr refl))) (inr refl)
+
+  k_parts : (u : Bool) (m : ℕ) (acc : List StringPart) (r : List Terminal) → Keeps (parts_loop self u m acc r) (parts_loop other u m acc r)
+  k_parts u zero acc r = inr refl
+  k_parts u (suc m) acc r =
+      keeps_first text_in r _ _ _ _ (λ t r1. k_parts u m (acc ++ (Text t ∷ [])) r1)
+      (keeps_first conversion_in r _ _ _ _ (λ c r1. keeps_then _ _ _ _ (k_field (λ z. parts_loop self u m [] z) (λ z. parts_loop other u m [] z) (λ z. k_parts u m [] z) u c r1) (λ e r2. k_parts u m (acc ++ (Field e ∷ [])) r2)) (inr refl))
+
+  k_formatted : (u : Bool) (acc : List StringPart) (r : List Terminal) → Keeps (formatted_step self u acc r) (formatted_step other u acc r)
+  k_formatted u acc r = keeps_then _ _ _ _ (k_parts u (length r) acc r) (λ ps r1. inr refl)
+
+  k_literals_loop : (u : Bool) (m : ℕ) (acc : List StringPart) (r : List Terminal) → Keeps (literals_loop self u m acc r) (literals_loop other u m acc r)
+  k_literals_loop u zero acc r = inr refl
+  k_literals_loop u (suc m) acc r =
+      keeps_first literal_in r _ _ _ _ (λ v r1. keeps_some (text_of v) _ _ _ _ (λ t. k_literals_loop u m (acc ++ (Text t ∷ [])) r1) (inr refl))
+      (keeps_first is_formatted_begin r _ _ _ _ (λ _ r1. keeps_then _ _ _ _ (k_formatted u acc r1) (λ ps r2. k_literals_loop u m ps r2)) (inr refl))
+
+  pub k_joined : (u : Bool) (acc : List StringPart) (r : List Terminal) → Keeps (joined_step self u acc r) (joined_step other u acc r)
+  k_joined u acc r = keeps_then _ _ _ _ (k_formatted u acc r) (λ ps r1. keeps_then _ _ _ _ (k_literals_loop u (length r1) ps r1) (λ qs r2. inr refl))
+
+  pub k_literals : (v : Values.Value) (r : List Terminal) → Keeps (literals self v r) (literals other v r)
+  k_literals v r = keeps_then _ _ _ _ (same (string_run [] r)) (λ vs r1. keeps_first is_formatted_begin r1 _ _ _ _ (λ _ r2. keeps_some (texts_of (v ∷ vs)) _ _ _ _ (λ ps. k_joined (kind_of v) ps r2) (inr refl)) (inr refl))
+
+  pub k_atom : (r : List Terminal) → Keeps (atom self r) (atom other r)
   k_atom [] = inr refl
+  k_atom (Literal v ∷ r) = k_literals v r
+  k_atom (FormattedBegin ∷ r) = k_joined false [] r
   k_atom (Op LPar ∷ r) = k_round r
   k_atom (Op LSqb ∷ r) = k_square r
   k_atom (Op LBrace ∷ r) = k_curly r
@@ -169,7 +206,7 @@ module _ (self other : Reads) (all : AllKeep self other) where
   k_generator f (Single e) r = k_comps_closed RPar r _
   k_generator f _ r = inr refl
 
-  k_call : (f : Expr) (r : List Terminal) → Keeps (call_step self f r) (call_step other f r)
+  pub k_call : (f : Expr) (r : List Terminal) → Keeps (call_step self f r) (call_step other f r)
   k_call f r = keeps_cond (starts Argument r) _ _ _ _ (keeps_then _ _ _ _ (k_piece self other all Argument r) (λ a r1. keeps_cond (starts_comp r1) _ _ _ _ (k_generator f a r1) (keeps_then _ _ _ _ (k_others Argument a r1) (λ es r2. inr refl)))) (inr refl)
 
   k_primary : (m : ℕ) (e : Expr) (r : List Terminal) → Keeps (primary_loop self m e r) (primary_loop other m e r)
@@ -190,7 +227,7 @@ module _ (self other : Reads) (all : AllKeep self other) where
   k_compare zero os es r k = inr refl
   k_compare (suc m) os es r k = k_comparison r _ _ _ _ (λ o r1. keeps_then _ _ _ _ (all BitOr r1) (λ b r2. k_compare m (os ++ (o ∷ [])) (es ++ (b ∷ [])) r2 k)) (inr refl)
 
-  k_operation : (e : Expr) (o : Infix) (r r1 : List Terminal) → Keeps (operation self e o r r1) (operation other e o r r1)
+  pub k_operation : (e : Expr) (o : Infix) (r r1 : List Terminal) → Keeps (operation self e o r r1) (operation other e o r r1)
   k_operation e (Left l o) r r1 = k_one self other all (below l) r1 _
   k_operation e Raise r r1 = k_one self other all Factor r1 _
   k_operation e (Joins o) r r1 = keeps_then _ _ _ _ (k_chain o (length r) [] r) (λ es r2. inr refl)
@@ -200,17 +237,17 @@ module _ (self other : Reads) (all : AllKeep self other) where
   k_climb_loop k zero e r = inr refl
   k_climb_loop k (suc m) e r = keeps_first (infix_from k) r _ _ _ _ (λ o r1. keeps_then _ _ _ _ (k_operation e o r r1) (λ f r2. k_climb_loop k m f r2)) (inr refl)
 
-  k_prefixed : (p : Prefix) (r : List Terminal) → Keeps (prefixed self p r) (prefixed other p r)
+  pub k_prefixed : (p : Prefix) (r : List Terminal) → Keeps (prefixed self p r) (prefixed other p r)
   k_prefixed (Signed l o) r = k_one self other all l r _
   k_prefixed Awaits r = k_one self other all Primary r _
 
-  k_slice_rest : (a : OptionalExpr) (r : List Terminal) → Keeps (slice_rest self a r) (slice_rest other a r)
+  pub k_slice_rest : (a : OptionalExpr) (r : List Terminal) → Keeps (slice_rest self a r) (slice_rest other a r)
   k_slice_rest a r = keeps_then _ _ _ _ (k_perhaps self other all Expression r) (λ b r1. keeps_first (is_op Colon) r1 _ _ _ _ (λ _ r2. keeps_then _ _ _ _ (k_perhaps self other all Expression r2) (λ c r3. inr refl)) (inr refl))
 
-  k_lambda : (r : List Terminal) → Keeps (lambda_step self r) (lambda_step other r)
+  pub k_lambda : (r : List Terminal) → Keeps (lambda_step self r) (lambda_step other r)
   k_lambda r = keeps_then _ _ _ _ (k_listing_of (Parameter false) [] r) (λ ps r1. keeps_first (is_op Colon) r1 _ _ _ _ (λ _ r2. keeps_then _ _ _ _ (all Expression r2) (λ e r3. inr refl)) (inr refl))
 
-  k_if_else : (b : Expr) (r : List Terminal) → Keeps (if_else_step self b r) (if_else_step other b r)
+  pub k_if_else : (b : Expr) (r : List Terminal) → Keeps (if_else_step self b r) (if_else_step other b r)
   k_if_else b r = keeps_first (is_word Key.If) r _ _ _ _ (λ _ r1. keeps_then _ _ _ _ (all Or r1) (λ a r2. keeps_first (is_word Key.Else) r2 _ _ _ _ (λ _ r3. keeps_then _ _ _ _ (all Expression r3) (λ c r4. inr refl)) (inr refl))) (inr refl)
 
 module _ (next next' inner inner' : Reads) (n : AllKeep next next') (h : AllKeep inner inner') where

@@ -1,6 +1,8 @@
 -- Carries: `reader_is_exact`, `expressions_are_decided`. The plain reader without a depth answers
 -- exactly what the grammar gives.
 use Rattle.std.proofs.Common.{◌≡◌, ◌⊎◌, inl, inr, ◌↔◌, sym, ap, subst, ◌∙◌, ℕ, zero, suc, ◌+◌, ◌≤◌, ◌<◌, arith, List, [], ◌++◌, length, Some}
+use Rattle.pygrammar.specs.Lengths.{weight}
+use Rattle.pygrammar.proofs.Depths.Weights.{weight_most}
 use Rattle.pygrammar.specs.declared.levels.Level.{Level}
 use Rattle.pytree_node.specs.Trees.{Expr}
 use Rattle.pygrammar.specs.Targets.{stored}
@@ -17,7 +19,7 @@ use Rattle.pygrammar.proofs.Soundness.Sound.{sound, sound_read}
 use Rattle.pygrammar.proofs.Soundness.Says.{Says, found, Reads_as}
 
 pub not_deep : (l : Level) (ts : List Terminal) (d : ℕ) → length ts < d → read d l ts ≡ TooDeep → ⊥
-not_deep l ts d w h = subst (Good (length ts)) h (good_read d l ts w)
+not_deep l ts d w h = subst (Good (weight ts)) h (good_read d l ts (omega (arith, w, weight_most ts)))
 
 -- more depth changes no answer
 pub stays : (k d : ℕ) (l : Level) (ts : List Terminal) → length ts < d → read (k + d) l ts ≡ read d l ts

@@ -2,6 +2,8 @@
 -- and that each tree that is low is found.
 use Rattle.std.proofs.Common.{◌≡◌, ◌↔◌, sym, ap, subst, ◌∙◌, refl, ℕ, suc, ◌≤◌, ◌<◌, arith, List, [], ◌∷◌, length, length-append, Bool, true, false, cond, leb}
 use Rattle.std.proofs.lemmas.Bool.{leb-true, leb-false, le-leb}
+use Rattle.pygrammar.specs.Lengths.{weight}
+use Rattle.pygrammar.proofs.Depths.Weights.{weight_append, weight_most}
 use Rattle.pygrammar.specs.declared.levels.Level.{Level}
 use Rattle.pygrammar.specs.declared.levels.Level.TheVariants.{Value}
 use Rattle.pytree_node.specs.Trees.{Expr}
@@ -22,7 +24,7 @@ unroll_capped g d Value i = refl
 unroll_capped g d _ i = refl
 
 -- with room d alone
-pub limited_meets : (d : ℕ) (l : Level) (ts : List Terminal) → limited d l ts ≡ TooDeep → ((e : Expr) → Derives l ts e → d < height e) × (d ≤ length ts)
+pub limited_meets : (d : ℕ) (l : Level) (ts : List Terminal) → limited d l ts ≡ TooDeep → ((e : Expr) → Derives l ts e → d < height e) × (d ≤ weight ts)
 limited_meets d l ts h = (limited_deep d l ts h, limited_enough d l ts h)
 
 -- what is left over, and what is too high
@@ -38,7 +40,7 @@ too_high d l ts e [] h w =
     h' = capped_found (suc (length ts)) (suc d) l ts e [] h
 too_high d l ts e (t ∷ r) h w =
     let p = sound_front (suc (length ts)) l ts (t ∷ r) e (capped_found (suc (length ts)) (suc d) l ts e (t ∷ r) h) in
-    (λ f q. absurd (limited_rest (suc d) l ts e t r h f q), λ no. omega (arith, w, tall p.2, slack_most l, ap length p.1, length-append p.0 (t ∷ r)))
+    (λ f q. absurd (limited_rest (suc d) l ts e t r h f q), λ no. (omega (arith, w, tall p.2, slack_most l, weight_most p.0, ap length p.1, length-append p.0 (t ∷ r)), omega (arith, w, tall p.2, ap weight p.1, weight_append p.0 (t ∷ r))))
 
 fits : (d : ℕ) (l : Level) (ts : List Terminal) (e : Expr) (r : List Terminal) → limited (suc d) l ts ≡ Found e r → height e ≤ d → Meets d l ts (Found e r)
 fits d l ts e [] h w = (((limited_exactly (suc d) l ts e).1 h).0, w)
@@ -50,7 +52,7 @@ meets d l ts = go (limited (suc d) l ts) refl
   where
     go : (x : Answer Expr) → limited (suc d) l ts ≡ x → Meets d l ts (cap d x)
     go NoForm q = limited_no_form (suc d) l ts q
-    go TooDeep q = (λ e p. omega (arith, limited_deep (suc d) l ts q e p), λ no. omega (arith, limited_enough (suc d) l ts q))
+    go TooDeep q = (λ e p. omega (arith, limited_deep (suc d) l ts q e p), λ no. (omega (arith, limited_enough (suc d) l ts q, weight_most ts), omega (arith, limited_enough (suc d) l ts q)))
     go (Found e r) q = check (leb (height e) d) refl
       where
         check : (b : Bool) → leb (height e) d ≡ b → Meets d l ts (cond b (Found e r) TooDeep)

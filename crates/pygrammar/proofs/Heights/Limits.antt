@@ -14,7 +14,8 @@ use Rattle.pygrammar.specs.Capped.{cap, capped_descend, capped_step, capped, lim
 use Rattle.pygrammar.proofs.Completeness.Climb.{Stops}
 use Rattle.pygrammar.proofs.Depths.Whole.{not_deep, final, reads_all, reads_front, no_tree}
 use Rattle.pygrammar.proofs.Soundness.Sound.{sound}
-use Rattle.pygrammar.proofs.Heights.Caps.{Over, over, caps_read}
+use Rattle.pygrammar.proofs.Heights.Over.{Over, over}
+use Rattle.pygrammar.proofs.Heights.Caps.{caps_read}
 
 -- an answer is not higher than the room
 cap_low : (d : ℕ) (x : Answer Expr) (e : Expr) (r : List Terminal) → cap d x ≡ Found e r → height e ≤ d

@@ -26,7 +26,8 @@ use Rattle.pygrammar.proofs.Completeness.LookLemmas.{op_or_not, word_or_not}
 use Rattle.pygrammar.proofs.Depths.Keeps.{keeps_read}
 use Rattle.pygrammar.proofs.Depths.Whole.{sound_front}
 use Rattle.pygrammar.proofs.Heights.Limits.{capped_found}
-use Rattle.pygrammar.proofs.Heights.Caps.{Over, over, none, sunk, over_then, over_on, over_first, over_cond, over_closed, over_comps_closed, over_unstarred, over_listing, over_primary, over_loop, over_if_else, list_size, list_last, singles_size, caps_read}
+use Rattle.pygrammar.proofs.Heights.Over.{Over, over, none, sunk, over_then, over_on, over_first, over_cond, over_closed}
+use Rattle.pygrammar.proofs.Heights.Caps.{over_comps_closed, over_unstarred, over_listing, over_primary, over_loop, over_if_else, list_size, list_last, singles_size, caps_read}
 use Rattle.pygrammar.proofs.Line.CapsTools.{over_commas}
 use Rattle.pygrammar.proofs.Line.CapsHeaders.{item_height, Brackets, over_item}
 

@@ -25,7 +25,8 @@ use Rattle.pygrammar.specs.FormHeights.{header_height}
 use Rattle.pygrammar.specs.Forms.{item, listed}
 use Rattle.pygrammar.specs.LineReader.{always, commas_of, read_as, after, item_target, read_item, bracketed, read_items, for_rest, with_rest, except_of, except_rest, function_rest, bases_rest, def_rest, class_rest, read_header}
 use Rattle.pygrammar.proofs.Heights.HeightLemmas.{stored_height, arranged_height, ordered_height}
-use Rattle.pygrammar.proofs.Heights.Caps.{Over, over, none, over_then, over_on, over_first, over_made, Caps, CapsAt, caps_then, caps_first, caps_cond, c_one, c_listing_of, c_target, list_size, arguments_size, parameters_size}
+use Rattle.pygrammar.proofs.Heights.Over.{Over, over, none, over_then, over_on, over_first, over_made, Caps, CapsAt, caps_then, caps_first, caps_cond}
+use Rattle.pygrammar.proofs.Heights.Caps.{c_one, c_listing_of, c_target, list_size, arguments_size, parameters_size}
 use Rattle.pygrammar.proofs.Line.CapsTools.{caps_found, over_found, caps_some, over_some, over_if, caps_else, caps_commas}
 use Rattle.pygrammar.proofs.Line.CapsSimple.{c_after, c_type_params}
 

@@ -20,7 +20,7 @@ use Rattle.pygrammar.specs.PatternReader.{PatternReads}
 use Rattle.pygrammar.specs.LineReader.{on_none, after, statements, Opening, Decorates, Heads, States, opening, suite, is_match_line, line_of, match_rest, line_front, case_rest, case_front, line_at}
 use Rattle.pygrammar.proofs.Completeness.LookLemmas.{op_or_not, word_or_not}
 use Rattle.pygrammar.proofs.Depths.Keeps.{Keeps}
-use Rattle.pygrammar.proofs.Heights.Caps.{Over, over, none, sunk, over_then, over_first, Caps, CapsAt, caps_then, caps_first, caps_cond}
+use Rattle.pygrammar.proofs.Heights.Over.{Over, over, none, sunk, over_then, over_first, Caps, CapsAt, caps_then, caps_first, caps_cond}
 use Rattle.pygrammar.proofs.Pattern.Ends.{EndsPattern, pattern_grip}
 use Rattle.pygrammar.proofs.Line.CapsTools.{caps_found, over_found, over_none}
 use Rattle.pygrammar.proofs.Line.CapsSimple.{suite_height, c_after, c_statements}

@@ -21,7 +21,8 @@ use Rattle.pygrammar.specs.Precedence.{starts}
 use Rattle.pytree_node.specs.Profiles.{has_types}
 use Rattle.pygrammar.specs.LineReader.{same_as, is_type, on_type, starts_type_param, augmented_sign, Start, Values, Returns, Raises, Asserts, Deletes, start, if_any, after, annotation, end_value, value_loop, value_statement, deleted_one, read_type_param, bracketed_type_params, read_type_params, alias_rest, statement_of, statement, statements}
 use Rattle.pygrammar.proofs.Heights.HeightLemmas.{stored_height, single_height, deleted_height}
-use Rattle.pygrammar.proofs.Heights.Caps.{Over, over, none, over_then, over_first, over_made, over_closed, Caps, CapsAt, caps_then, caps_first, caps_cond, c_one, c_name_with, exprs_last}
+use Rattle.pygrammar.proofs.Heights.Over.{Over, over, none, over_then, over_first, over_made, over_closed, Caps, CapsAt, caps_then, caps_first, caps_cond}
+use Rattle.pygrammar.proofs.Heights.Caps.{c_one, c_name_with, exprs_last}
 use Rattle.pygrammar.proofs.Line.CapsTools.{caps_found, over_found, caps_some, over_some, caps_none, over_none, caps_commas}
 
 abbrev pub suite_height : List Stmt → ℕ

@@ -10,7 +10,7 @@ use Rattle.pytoken.specs.Terminals.{Terminal}
 use Rattle.pygrammar.specs.Looks.{is_op}
 use Rattle.pygrammar.specs.Reader.{Answer, Found, NoForm, TooDeep, and_then, on_some, on_first}
 use Rattle.pygrammar.specs.LineReader.{or_else, on_none, commas}
-use Rattle.pygrammar.proofs.Heights.Caps.{Over, over, none, sunk, over_then, over_first, over_cond, Caps, caps_then, caps_first, caps_cond}
+use Rattle.pygrammar.proofs.Heights.Over.{Over, over, none, sunk, over_then, over_first, over_cond, Caps, caps_then, caps_first, caps_cond}
 
 -- what is found is made of what was found before it
 pub caps_found : {A B : Type 0} (s : A → ℕ) (t : B → ℕ) (n : ℕ) (x y : Answer A) (f : A → B) → Caps s n x y → ((a : A) → s a ≤ t (f a)) → Caps t n (and_then x (λ a r. Found (f a) r)) (and_then y (λ a r. Found (f a) r))

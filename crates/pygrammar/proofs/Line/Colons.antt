@@ -12,7 +12,8 @@ use Rattle.pygrammar.specs.declared.levels.Level.{Level}
 use Rattle.pygrammar.specs.declared.levels.Level.TheVariants.{Value, Slices, Part, Slice}
 use Rattle.pytree_node.specs.Trees.{Expr, Identifier, Stmt, Alias}
 use Rattle.pytree_node.specs.Values
-use Rattle.pytoken.specs.Terminals.{Terminal, Op, Word, Ident, Literal}
+use Rattle.pytoken.specs.Terminals.{Terminal, Op, Word, Ident, Literal, FormattedBegin, FormattedEnd}
+use Rattle.pygrammar.specs.FormattedStrings.{StringPart}
 use Rattle.pygrammar.specs.Operators.{below, chain_level, chain_word}
 use Rattle.pygrammar.specs.Constants.{constant_word}
 use Rattle.pygrammar.specs.Entries.{Of, Entry}
@@ -87,6 +88,11 @@ strings_end : (v : Values.Value) (vs : List Values.Value) → NotColon (Literal 
 strings_end v [] = refl
 strings_end v (w ∷ vs) = strings_end w vs
 
+literals_end : {u : Bool} {ts : List Terminal} {ps : List StringPart} → G.Literals u ts ps → NotColon ts
+literals_end G.no_literal = refl
+literals_end (G.text_literal {ts = ts} {t = t} {k = k} l) = headed (Literal (Values.Str t k)) ts refl (literals_end l)
+literals_end (G.formatted_literal {ts = ts} {us = us} p l) = behind (FormattedBegin ∷ ts) us FormattedEnd refl (literals_end l)
+
 some_lead : {l : Level} {ts : List Terminal} {e : Expr} → G.Derives l ts e → 0 < lead_of ts
 some_lead {l} p = omega (arith, led p, first_pos l)
 
@@ -113,6 +119,7 @@ mutual
   ends h (G.constant {t = t} {v = v} k) = constant_end t v k
   ends h G.number = refl
   ends h (G.strings {v = v} vs k) = strings_end v vs
+  ends h (G.joined_string l b k) = literals_end l
   ends h (G.group {ts = ts} p) = last (Op Sign.LPar ∷ ts) [] (Op Sign.RPar)
   ends h (G.yield_group {ts = ts} p) = last (Op Sign.LPar ∷ (Word Key.Yield ∷ ts)) [] (Op Sign.RPar)
   ends h G.empty_tuple = refl

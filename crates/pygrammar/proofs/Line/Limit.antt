@@ -3,6 +3,8 @@ use Rattle.std.proofs.Common.{◌≡◌, ◌↔◌, inl, inr, sym, ap, subst, �
 use Rattle.std.proofs.lemmas.Bool.{leb-true, leb-false, le-leb}
 use Rattle.pytree_node.specs.declared.profiles.Profile.{Profile}
 use Rattle.pytoken.specs.Terminals.{Terminal}
+use Rattle.pygrammar.specs.Lengths.{weight}
+use Rattle.pygrammar.proofs.Depths.Weights.{weight_most}
 use Rattle.pygrammar.specs.Reader.{Answer, Found, NoForm, TooDeep, read}
 use Rattle.pygrammar.specs.Capped.{capped}
 use Rattle.pygrammar.specs.Lines.{Form}
@@ -14,7 +16,8 @@ use Rattle.pygrammar.specs.LimitedLines.{cap_form, limit_line}
 use Rattle.pygrammar.specs.Meets.{Formless, HighLine, LineMeets}
 use Rattle.pygrammar.proofs.Depths.Enough.{Good, good_read}
 use Rattle.pygrammar.proofs.Depths.Whole.{final}
-use Rattle.pygrammar.proofs.Heights.Caps.{Over, over, Caps, caps_read}
+use Rattle.pygrammar.proofs.Heights.Over.{Over, over, Caps}
+use Rattle.pygrammar.proofs.Heights.Caps.{caps_read}
 use Rattle.pygrammar.proofs.Heights.Room.{good_capped}
 use Rattle.pygrammar.proofs.Line.Answered.{g_place, read_or_not}
 use Rattle.pygrammar.proofs.Line.Depth.{k_place}
@@ -54,7 +57,7 @@ module _ (profile : Profile) (inside : Bool) (d : ℕ) (ts : List Terminal) wher
 
   plain_one : at_most ≡ read_line profile inside ts
   plain_one = elim (k_place (read most) plain (λ l i. final most l i) plain_pattern plain_pattern (λ l i. inr refl) profile inside ts) [
-    | inl q ↦ absurd (subst (Good most) q (g_place (read most) most (good_read most) plain_pattern profile inside ts (omega arith) (λ l j v. pattern_good (suc (length j)) (suc (suc (length j))) most l j (omega arith) (omega arith) (omega (arith, v)))))
+    | inl q ↦ absurd (subst (Good most) q (g_place (read most) most (good_read most) plain_pattern profile inside ts (omega (arith, weight_most ts)) (λ l j v. pattern_good (suc (length j)) (suc (suc (length j))) most l j (omega (arith, weight_most j)) (omega (arith, weight_most j)) (omega (arith, v, weight_most ts)))))
     | inr q ↦ q
   ]
 
@@ -72,9 +75,9 @@ module _ (profile : Profile) (inside : Bool) (d : ℕ) (ts : List Terminal) wher
   roomy_deep : roomy ≡ TooDeep → (f : Form) → FormAt profile inside ts f → suc d < form_height f
   roomy_deep h f p = elim beside [ inl q ↦ absurd (found_deep f [] (sym h ∙ (q ∙ read_goes profile p))) | inr q ↦ over_is (suc (suc d)) f [] (subst (λ z. Over form_height (suc (suc d)) z) (read_goes profile p) q.1) ]
 
-  -- it goes too deep in no line of at most d terminals
-  roomy_enough : roomy ≡ TooDeep → d < length ts
-  roomy_enough h = least d (length ts) (λ w. subst (Good most) h (g_place (capped most (suc d)) most (good_capped most (suc d) most (omega arith) (omega (arith, w))) (capped_pattern most (suc d)) profile inside ts (omega arith) (λ l j v. pattern_good most (suc d) most l j (omega (arith, v)) (omega (arith, w, v)) (omega (arith, v)))))
+  -- it goes too deep in no line that counts at most d
+  roomy_enough : roomy ≡ TooDeep → d < weight ts
+  roomy_enough h = least d (weight ts) (λ w. subst (Good (suc (weight ts))) h (g_place (capped most (suc d)) (suc (weight ts)) (good_capped most (suc d) (suc (weight ts)) (omega (arith, weight_most ts)) (omega (arith, w))) (capped_pattern most (suc d)) profile inside ts (omega arith) (λ l j v. pattern_good most (suc d) (suc (weight ts)) l j (omega (arith, v, weight_most ts)) (omega (arith, w, v)) (omega (arith, v)))))
     where
       least : (d n : ℕ) → (n ≤ d → ⊥) → d < n
       least d n f = omega (arith, f)

@@ -5,6 +5,8 @@
 -- and 2 more. On: Pattern/Sound, Complete, Keeps, Long, Bound.
 use Rattle.std.proofs.Common.{◌≡◌, inl, inr, refl, sym, ap, ◌∙◌, ℕ, suc, ◌≤◌, ◌<◌, arith, List, ◌++◌, length, length-append}
 use Rattle.std.specs.Prelude.{max}
+use Rattle.pygrammar.specs.Lengths.{weight}
+use Rattle.pygrammar.proofs.Depths.Weights.{weight_append, weight_most}
 use Rattle.pygrammar.specs.declared.pattern_levels.PatternLevel.{PatternLevel}
 use Rattle.pytree_node.specs.Trees.{Pattern}
 use Rattle.pytoken.specs.Terminals.{Terminal}
@@ -26,15 +28,15 @@ use Rattle.pygrammar.proofs.Pattern.Long.{long}
 pub plain_pattern_goes : {l : PatternLevel} {ts : List Terminal} {p : Pattern} → DerivesPattern l ts p → (r : List Terminal) → EndsPattern l r → plain_pattern l (ts ++ r) ≡ Found p r
 plain_pattern_goes {l} {ts} {p} q r e =
     let n : ℕ = length (ts ++ r) in
-    complete q (suc n) (suc (suc n)) r (omega (arith, length-append ts r)) (omega (arith, bounded l ts p q, length-append ts r)) e
+    complete q (suc n) (suc (suc n)) r (omega (arith, length-append ts r)) (omega (arith, bounded l ts p q, weight_most ts, length-append ts r)) e
 
 -- what is found is derived, and no terminal is lost
-shorter : (g d : ℕ) (l : PatternLevel) (i r : List Terminal) (p : Pattern) → capped_pattern g d l i ≡ Found p r → length r ≤ length i
-shorter g d l i r p h = let s = sound g d l i r p h in omega (arith, ap length s.1, length-append s.0 r)
+shorter : (g d : ℕ) (l : PatternLevel) (i r : List Terminal) (p : Pattern) → capped_pattern g d l i ≡ Found p r → weight r ≤ weight i
+shorter g d l i r p h = let s = sound g d l i r p h in omega (arith, ap weight s.1, weight_append s.0 r)
 
 -- the plain reader never goes too deep
 plain_answers : (l : PatternLevel) (i : List Terminal) → plain_pattern l i ≡ TooDeep → ⊥
-plain_answers l i h = absurd (omega (arith, long (suc (length i)) (suc (suc (length i))) l i (omega arith) h))
+plain_answers l i h = absurd (omega (arith, long (suc (length i)) (suc (suc (length i))) l i (omega (arith, weight_most i)) h, weight_most i))
 
 -- any other goes too deep, or answers the same
 pub final_pattern : (g d : ℕ) (l : PatternLevel) (i : List Terminal) → Keeps (capped_pattern g d l i) (plain_pattern l i)
@@ -47,8 +49,8 @@ final_pattern g d l i =
       | inr q ↦ elim (keeps g most d room (omega arith) (omega arith) l i) [ inl p ↦ inl p | inr p ↦ inr (p ∙ sym q) ]
     ]
 
--- it doesn't go too deep where there is room for as many levels as terminals
-pub pattern_good : (g d n : ℕ) (l : PatternLevel) (i : List Terminal) → length i < g → length i < d → length i < n → Good n (capped_pattern g d l i)
+-- it doesn't go too deep where there is room for as many levels as the terminals count
+pub pattern_good : (g d n : ℕ) (l : PatternLevel) (i : List Terminal) → weight i < g → weight i < d → weight i < n → Good n (capped_pattern g d l i)
 pattern_good g d n l i a b w = go (capped_pattern g d l i) refl
   where
     go : (x : Answer Pattern) → capped_pattern g d l i ≡ x → Good n x

@@ -12,7 +12,7 @@ use Rattle.pytree_node.specs.declared.profiles.Profile.{Profile}
 use Rattle.pygrammar.specs.declared.levels.Level.TheVariants.{Stars, Named, Expression, Subject}
 use Rattle.pygrammar.specs.declared.pattern_levels.PatternLevel.TheVariants.{Patterns}
 use Rattle.pytree_node.specs.Trees.{Identifier, Stmt}
-use Rattle.pytoken.specs.Terminals.{Terminal, Op, Word, Ident, Number, Literal, Layout}
+use Rattle.pytoken.specs.Terminals.{Terminal, Op, Word, Ident}
 use Rattle.pygrammar.specs.Entries.{Of, Argument, Parameter}
 use Rattle.pygrammar.specs.Arguments.{in_order}
 use Rattle.pygrammar.specs.Parameters.{arranged}
@@ -148,11 +148,7 @@ opening_sound profile t r = states_sound profile (t ∷ r) r
 
 match_is : (t : Terminal) → is_match t ≡ true → (form : Identifier) × (t ≡ match_word form)
 match_is (Ident x) h = (x.form, ap (λ z. Ident (record { spelling = z; form = x.form })) ((bytes_eq-Decides x.spelling match_name).0 h))
-match_is (Op _) h = absurd (cc)
-match_is (Word _) h = absurd (cc)
-match_is (Number _) h = absurd (cc)
-match_is (Literal _) h = absurd (cc)
-match_is Layout h = absurd (cc)
+match_is _ h = absurd (cc)
 
 all_three : (b c d : Bool) → (b && (c && d)) ≡ true → (b ≡ true) × (c ≡ true) × (d ≡ true)
 all_three true true true h = (refl, refl, refl)
@@ -183,11 +179,7 @@ line_sound profile i = says_then _ _ (front_sound profile i) (λ f r p. ended f 
 case_is : (i : List Terminal) → begins_case i ≡ true → (form : Identifier) × (j : List Terminal) × (i ≡ case_word form ∷ j)
 case_is (Ident x ∷ j) h = (x.form, j, ap (λ z. Ident (record { spelling = z; form = x.form }) ∷ j) ((bytes_eq-Decides x.spelling case_name).0 h))
 case_is [] h = absurd (cc)
-case_is (Op _ ∷ j) h = absurd (cc)
-case_is (Word _ ∷ j) h = absurd (cc)
-case_is (Number _ ∷ j) h = absurd (cc)
-case_is (Literal _ ∷ j) h = absurd (cc)
-case_is (Layout ∷ j) h = absurd (cc)
+case_is (_ ∷ j) h = absurd (cc)
 
 -- in a `match`
 abbrev CaseAt : Profile → List Terminal → Form → List Terminal → Type 0

@@ -14,7 +14,7 @@ use Rattle.pytoken.specs.declared.keywords.Keyword.TheVariants as Key
 use Rattle.pytree_node.specs.declared.profiles.Profile.{Profile}
 use Rattle.pygrammar.specs.declared.levels.Level.{Level}
 use Rattle.pygrammar.specs.declared.levels.Level.TheVariants.{Expression}
-use Rattle.pytoken.specs.Terminals.{Spelled, Terminal, Op, Word, Ident, Number, Literal, Layout}
+use Rattle.pytoken.specs.Terminals.{Spelled, Terminal, Op, Word, Ident}
 use Rattle.pygrammar.specs.Entries.{Of}
 use Rattle.pygrammar.specs.Reader.{Answer, on_some}
 use Rattle.pygrammar.specs.Precedence.{starts}
@@ -98,11 +98,7 @@ type_is (Ident x) n h = (x.form, go (bytes_eq x.spelling type_name) refl h)
     go : (b : Bool) → bytes_eq x.spelling type_name ≡ b → ◌≡◌ {A = Option ℕ} (cond b (Some 0) None) (Some n) → Ident x ≡ type_word x.form
     go true q h = ap (λ z. Ident (record { spelling = z; form = x.form })) ((bytes_eq-Decides x.spelling type_name).0 q)
     go false q h = absurd (cc)
-type_is (Op _) n h = absurd (cc)
-type_is (Word _) n h = absurd (cc)
-type_is (Number _) n h = absurd (cc)
-type_is (Literal _) n h = absurd (cc)
-type_is Layout n h = absurd (cc)
+type_is _ n h = absurd (cc)
 
 pub says_type : {B : Type 0} {Q : B → List Terminal → Type 0} (profile : Profile) (i : List Terminal) (hit : List ℕ → List Terminal → Answer B) (miss : Answer B) → ((form : Identifier) (x : Spelled) (r : List Terminal) → has_types profile ≡ true → i ≡ type_word form ∷ (Ident x ∷ r) → Says Q (hit x.form r)) → Says Q miss → Says Q (on_type profile i hit miss)
 says_type profile i hit miss h g = says_if (has_types profile) _ _ (λ k. says_first is_type i _ _ (λ t n s e q. says_name s _ _ (λ x r v. let w = type_is t n e in h w.0 x r k (headed (type_word w.0) (q ∙ ap (λ z. z ∷ s) w.1) v)) g) (λ _. g)) g

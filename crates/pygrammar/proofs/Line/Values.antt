@@ -13,7 +13,7 @@ use Rattle.pytree_node.specs.Profiles.{has_types}
 use Rattle.pygrammar.specs.declared.levels.Level.TheVariants.{Value, Stars, Expression, Or, Primary}
 use Rattle.pytree_node.specs.Trees.{Expr, Identifier, Assign, AugAssign, AnnAssign, ExprOf}
 use Rattle.pytree_node.specs.Trees as Trees
-use Rattle.pytoken.specs.Terminals.{Spelled, Terminal, Op, Word, Ident, Number, Literal, Layout}
+use Rattle.pytoken.specs.Terminals.{Spelled, Terminal, Op, Word, Ident}
 use Rattle.pygrammar.specs.Looks.{is_op, name_in}
 use Rattle.pygrammar.specs.Targets.{stored, single_stored}
 use Rattle.pygrammar.specs.Grammar as G
@@ -52,11 +52,7 @@ name_ends x (Ident y ∷ s) r e h m = absurd (bad (ap (peek name_in) (rests (Tre
     bad : ◌≡◌ {A = Option (List ℕ)} (Some y.form) None → ⊥
     bad h = absurd (cc)
 name_ends x [] r e h m = refl
-name_ends x (Op _ ∷ s) r e h m = refl
-name_ends x (Word _ ∷ s) r e h m = refl
-name_ends x (Number _ ∷ s) r e h m = refl
-name_ends x (Literal _ ∷ s) r e h m = refl
-name_ends x (Layout ∷ s) r e h m = refl
+name_ends x (_ ∷ s) r e h m = refl
 
 -- so no statement `type` begins where an expression does
 no_word : {A : Type 0} (i r : List Terminal) (e : Expr) → plain Value i ≡ Found e r → peek name_in r ≡ None → (hit : Identifier → List Terminal → Answer A) (miss : Answer A) → on_first is_type i (λ _ s. on_first name_in s hit miss) miss ≡ miss
@@ -66,11 +62,7 @@ no_word (Ident x ∷ s) r e h m hit miss = ap (λ z. on_some (is_type (Ident x))
     either : (o : Option ℕ) → on_some o (λ _. miss) miss ≡ miss
     either (Some n) = refl
     either None = refl
-no_word (Op _ ∷ s) r e h m hit miss = refl
-no_word (Word _ ∷ s) r e h m hit miss = refl
-no_word (Number _ ∷ s) r e h m hit miss = refl
-no_word (Literal _ ∷ s) r e h m hit miss = refl
-no_word (Layout ∷ s) r e h m hit miss = refl
+no_word (_ ∷ s) r e h m hit miss = refl
 
 no_type : {A : Type 0} (profile : Profile) (i r : List Terminal) (e : Expr) → plain Value i ≡ Found e r → peek name_in r ≡ None → (hit : Identifier → List Terminal → Answer A) (miss : Answer A) → on_type profile i hit miss ≡ miss
 no_type profile i r e h m hit miss = either (has_types profile)

@@ -1,7 +1,7 @@
 -- The reader of patterns finds each pattern that the table gives, in room for its height.
 --
 -- Carries: complete, complete_alone, complete_limited. On: Ends, ReadLevels, ReadEntries, ReadBrackets.
-use Rattle.std.proofs.Common.{◌≡◌, sym, ap, ◌∙◌, ℕ, suc, ◌≤◌, ◌<◌, arith, List, [], ◌++◌, length, append-nil}
+use Rattle.std.proofs.Common.{◌≡◌, sym, ap, ◌∙◌, ℕ, suc, ◌+◌, ◌≤◌, ◌<◌, arith, List, [], ◌++◌, length, append-nil}
 use Rattle.pygrammar.specs.declared.pattern_levels.PatternLevel.{PatternLevel}
 use Rattle.pygrammar.specs.declared.pattern_levels.PatternLevel.TheVariants.{StarPattern}
 use Rattle.pytree_node.specs.Trees.{Pattern}
@@ -51,12 +51,12 @@ mutual
   piece_finds (P.named_argument {x = x} {ts = ts} {p = p} q) = named_finds x ts p (finds q)
 
 -- the law
-pub complete : {l : PatternLevel} {ts : List Terminal} {p : Pattern} → P.DerivesPattern l ts p → (g d : ℕ) (r : List Terminal) → length ts < g → pattern_height p ≤ d → EndsPattern l r → capped_pattern g d l (ts ++ r) ≡ Found p r
+pub complete : {l : PatternLevel} {ts : List Terminal} {p : Pattern} → P.DerivesPattern l ts p → (g d : ℕ) (r : List Terminal) → length ts + length r < g → pattern_height p ≤ d → EndsPattern l r → capped_pattern g d l (ts ++ r) ≡ Found p r
 complete q g d r w h e = finds q g d r w h e
 
 -- where nothing follows
 pub complete_alone : {l : PatternLevel} {ts : List Terminal} {p : Pattern} → P.DerivesPattern l ts p → (g d : ℕ) → length ts < g → pattern_height p ≤ d → capped_pattern g d l ts ≡ Found p []
-complete_alone {l} {ts} {p} q g d w h = ap (capped_pattern g d l) (sym (append-nil ts)) ∙ complete q g d [] w h (end_of_pattern l)
+complete_alone {l} {ts} {p} q g d w h = ap (capped_pattern g d l) (sym (append-nil ts)) ∙ complete q g d [] (omega (arith, w)) h (end_of_pattern l)
 
 pub complete_limited : {l : PatternLevel} {ts : List Terminal} {p : Pattern} → P.DerivesPattern l ts p → (d : ℕ) → pattern_height p ≤ d → limited_pattern d l ts ≡ Found p []
 complete_limited {l} {ts} {p} q d h = complete_alone q (suc (length ts)) d (omega arith) h

@@ -13,12 +13,14 @@ use Rattle.pygrammar.specs.declared.pattern_levels.PatternLevel.{PatternLevel}
 use Rattle.pygrammar.specs.declared.pattern_levels.PatternLevel.TheVariants.{Patterns, StarPattern}
 use Rattle.pytree_node.specs.Trees.{Expr, Identifier, Pattern}
 use Rattle.pytree_node.specs.Values
-use Rattle.pytoken.specs.Terminals.{Terminal, Op, Word, Ident, Number, Literal}
+use Rattle.pytoken.specs.Terminals.{Terminal, Op, Word, Ident, Number, Literal, FormattedBegin}
 use Rattle.pygrammar.specs.Looks.{is_op, is_word}
 use Rattle.pygrammar.specs.Operators.{left_operator}
 use Rattle.pygrammar.specs.Reader.{on_some, on_first}
 use Rattle.pygrammar.specs.PatternOperators.{below_pattern, pattern_rank, singleton_word}
 use Rattle.pygrammar.specs.PatternEntries.{PatternItem, Element, KeyPattern, ClassArgument, PatternEntry}
+use Rattle.pygrammar.specs.FormattedStrings.{StringPart, has_formatted}
+use Rattle.pygrammar.specs.Grammar as G
 use Rattle.pygrammar.specs.PatternGrammar as P
 use Rattle.pygrammar.specs.PatternReader.{begins_pattern, begins_entry, starts_entry}
 use Rattle.pygrammar.proofs.Completeness.LookLemmas.{op_or_not, no_op, no_word}
@@ -33,6 +35,7 @@ pattern_grip (Op LPar) = 5
 pattern_grip (Op Plus) = 5
 pattern_grip (Op Minus) = 5
 pattern_grip (Literal v) = 5
+pattern_grip FormattedBegin = 5
 pattern_grip (Op VBar) = 4
 pattern_grip (Word Key.As) = 3
 pattern_grip (Op Equal) = 2
@@ -84,6 +87,7 @@ no_pattern_begins : (t : Terminal) → pattern_grip t < 1 → begins_pattern t �
 no_pattern_begins (Ident x) h = absurd (omega (arith, h))
 no_pattern_begins (Number v) h = absurd (omega (arith, h))
 no_pattern_begins (Literal v) h = absurd (omega (arith, h))
+no_pattern_begins FormattedBegin h = absurd (omega (arith, h))
 no_pattern_begins (Word Key.None) h = absurd (omega (arith, h))
 no_pattern_begins (Word Key.True) h = absurd (omega (arith, h))
 no_pattern_begins (Word Key.False) h = absurd (omega (arith, h))
@@ -132,12 +136,18 @@ singleton_begins (Word Key.False) v h = refl
 singleton_begins (Word _) v h = absurd (cc)
 singleton_begins _ v h = absurd (cc)
 
+joined_starts : {u : Bool} {ts : List Terminal} {ps : List StringPart} → G.Literals u ts ps → has_formatted ts ≡ true → starts_entry ClassArgument ts ≡ true
+joined_starts G.no_literal h = absurd (cc)
+joined_starts (G.text_literal l) h = refl
+joined_starts (G.formatted_literal p l) h = refl
+
 literal_starts : {ts : List Terminal} {e : Expr} → P.LiteralOf ts e → starts_entry ClassArgument ts ≡ true
 literal_starts (P.number P.unsigned) = refl
 literal_starts (P.number P.negative) = refl
 literal_starts (P.complex t P.unsigned h q k) = refl
 literal_starts (P.complex t P.negative h q k) = refl
 literal_starts (P.strings vs h) = refl
+literal_starts (P.joined_string p b q) = joined_starts p q
 
 dotted_starts : {f : Identifier} {ts : List Terminal} {e : Expr} → P.Dotted f ts e → starts_entry ClassArgument ts ≡ true
 dotted_starts P.first_name = refl

@@ -6,6 +6,8 @@
 use Rattle.std.proofs.Common.{◌≡◌, ◌⊎◌, inl, inr, refl, sym, ap, subst, ◌∙◌, ℕ, suc, ◌≤◌, ◌<◌, arith, List, [], ◌∷◌, length, append-nil, length-append, Bool, true, false, cond, leb}
 use Rattle.std.proofs.lemmas.Bool.{leb-true, leb-false, le-leb}
 use Rattle.std.specs.Prelude.{max}
+use Rattle.pygrammar.specs.Lengths.{weight}
+use Rattle.pygrammar.proofs.Depths.Weights.{weight_append, weight_most}
 use Rattle.pygrammar.specs.declared.pattern_levels.PatternLevel.{PatternLevel}
 use Rattle.pytree_node.specs.Trees.{Pattern}
 use Rattle.pytoken.specs.Terminals.{Terminal}
@@ -71,7 +73,7 @@ decided l ts = go (limited_pattern (suc (length ts)) l ts) refl
     go (Found p []) h = inl (p, (whole_is (suc (length ts)) l ts p h).0)
     go (Found p (t ∷ r)) h = inr (no_whole (suc (length ts)) l ts p t r h)
     go NoForm h = inr (no_pattern_at (suc (length ts)) l ts h)
-    go TooDeep h = absurd (omega (arith, long (suc (length ts)) (suc (length ts)) l ts (omega arith) h))
+    go TooDeep h = absurd (omega (arith, long (suc (length ts)) (suc (length ts)) l ts (omega (arith, weight_most ts)) h, weight_most ts))
 
 -- what is read with one level more of room, where it is too high
 too_high : (d : ℕ) (l : PatternLevel) (ts : List Terminal) (p : Pattern) (r : List Terminal) → limited_pattern (suc d) l ts ≡ Found p r → d < pattern_height p → HighPattern d l ts
@@ -80,7 +82,7 @@ too_high d l ts p [] h w =
     (λ q k. subst (λ z. d < pattern_height z) (unique l ts p q s k) w, λ no. absurd (no p s))
 too_high d l ts p (t ∷ r) h w =
     let s = sound (suc (length ts)) (suc d) l ts (t ∷ r) p h in
-    (λ q k. absurd (no_whole (suc d) l ts p t r h q k), λ no. omega (arith, w, bounded l s.0 p s.2, ap length s.1, length-append s.0 (t ∷ r)))
+    (λ q k. absurd (no_whole (suc d) l ts p t r h q k), λ no. (omega (arith, w, bounded l s.0 p s.2, weight_most s.0, ap length s.1, length-append s.0 (t ∷ r)), omega (arith, w, bounded l s.0 p s.2, ap weight s.1, weight_append s.0 (t ∷ r))))
 
 pub meets : PatternLimitMeets
 meets d l ts = go (limited_pattern (suc d) l ts) refl
@@ -102,7 +104,7 @@ meets d l ts = go (limited_pattern (suc d) l ts) refl
     go : (x : Answer Pattern) → limited_pattern (suc d) l ts ≡ x → PatternMeets d l ts (cap_pattern d x)
     go (Found p r) h = check p r h (leb (pattern_height p) d) refl
     go NoForm h = no_pattern_at (suc d) l ts h
-    go TooDeep h = (high h, λ _. omega (arith, long (suc (length ts)) (suc d) l ts (omega arith) h))
+    go TooDeep h = (high h, λ _. let n = long (suc (length ts)) (suc d) l ts (omega (arith, weight_most ts)) h in (omega (arith, n, weight_most ts), omega (arith, n)))
 
 pub limited : PatternLimitIsExact
 limited d l ts p = (

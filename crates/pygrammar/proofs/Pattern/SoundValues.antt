@@ -2,7 +2,7 @@
 --
 -- Carries: says_cap, says_choice, literal_sound, dotted_sound, key_sound, for SoundLists, Sound.
 -- On: Says, Sound of expressions, HeightLemmas.
-use Rattle.std.proofs.Common.{map, ◌≡◌, refl, sym, ap, subst, ◌∙◌, ℕ, zero, suc, ◌≤◌, List, [], ◌∷◌, ◌++◌, length, Some, None, Bool, true, false, cond, leb, append_assoc}
+use Rattle.std.proofs.Common.{◌≡◌, refl, sym, ap, ◌∙◌, ℕ, zero, suc, ◌≤◌, List, [], ◌∷◌, ◌++◌, length, Some, None, Bool, true, false, cond, leb, append_assoc}
 use Rattle.std.proofs.lemmas.Bool.{leb-true}
 use Rattle.pylex_lexeme.specs.declared.kinds.Exact.TheVariants.{Minus, Dot}
 use Rattle.pytree_node.specs.declared.operators.Context.TheVariants.{Load}
@@ -10,16 +10,15 @@ use Rattle.pygrammar.specs.declared.levels.Level.TheVariants.{Sum}
 use Rattle.pytree_node.specs.Trees
 use Rattle.pytree_node.specs.Trees.{Expr, Identifier}
 use Rattle.pytree_node.specs.Values
-use Rattle.pytoken.specs.Terminals.{Spelled, Terminal, Op, Word, Ident, Number, Literal, Layout}
+use Rattle.pytoken.specs.Terminals.{Spelled, Terminal, Op, Ident, Number, Literal, FormattedBegin}
 use Rattle.pytree_height.specs.Heights.{height}
-use Rattle.pygrammar.specs.Constants.{joined}
 use Rattle.pygrammar.specs.Operators.{left_operator}
-use Rattle.pygrammar.specs.Reader.{Answer, Found, NoForm, TooDeep}
+use Rattle.pygrammar.specs.Reader.{Answer, Found, NoForm, TooDeep, Reads}
 use Rattle.pygrammar.specs.PatternOperators.{is_imaginary, singleton_word}
 use Rattle.pygrammar.specs.PatternGrammar as P
 use Rattle.pygrammar.specs.PatternReader.{cap_by, imaginary_in, number_in, number_rest, literal_or, dotted_loop, dotted_from, named_key, read_key}
-use Rattle.pygrammar.proofs.Soundness.Says.{Says, found, no_form, deep, says_then, says_first, says_op, says_name, says_made, says_is}
-use Rattle.pygrammar.proofs.Soundness.Sound.{constant_is, string_sound}
+use Rattle.pygrammar.proofs.Soundness.Says.{Says, SoundAt, found, no_form, deep, says_then, says_first, says_op, says_name, says_is}
+use Rattle.pygrammar.proofs.Soundness.SoundStrings.{joined_sound, literals_sound}
 use Rattle.pygrammar.proofs.Heights.HeightLemmas.{some_is}
 
 -- ---- Tests with what they tell.
@@ -63,23 +62,18 @@ number_sound {v} {ts} {e} i r q p =
     (λ _. no_form))
     (λ _. found (ts, q, P.number p)))
 
-strings_sound : (v : Values.Value) (r : List Terminal) → Says (LiteralAt (Literal v ∷ r)) (literal_or (Literal v ∷ r) NoForm)
-strings_sound v r = says_then _ _ (string_sound [] r) (λ ws r1 p. says_made _ r1 (λ e h.
-    let z = constant_is (joined v ws) e h in
-    (Literal v ∷ map Literal p.0, ap (λ z. Literal v ∷ z) p.2, subst (λ k. P.LiteralOf (Literal v ∷ map Literal p.0) k) z.2 (P.strings p.0 (ap (joined v) (sym p.1) ∙ z.1)))))
+minus_sound : (self : Reads) (s : List Terminal) → Says (LiteralAt (Op Minus ∷ s)) (literal_or self (Op Minus ∷ s) NoForm)
+minus_sound self s = says_first number_in s _ _ (λ t v s1 h q. number_sound (Op Minus ∷ s) s1 (ap (λ z. Op Minus ∷ z) (q ∙ ap (λ z. z ∷ s1) (number_is t v h))) P.negative) (λ _. no_form)
 
-minus_sound : (s : List Terminal) → Says (LiteralAt (Op Minus ∷ s)) (literal_or (Op Minus ∷ s) NoForm)
-minus_sound s = says_first number_in s _ _ (λ t v s1 h q. number_sound (Op Minus ∷ s) s1 (ap (λ z. Op Minus ∷ z) (q ∙ ap (λ z. z ∷ s1) (number_is t v h))) P.negative) (λ _. no_form)
-
-pub literal_sound : {Q : Expr → List Terminal → Type 0} (i : List Terminal) (other : Answer Expr) → ((e : Expr) (r ts : List Terminal) → i ≡ ts ++ r → P.LiteralOf ts e → Q e r) → Says Q other → Says Q (literal_or i other)
-literal_sound [] other f g = g
-literal_sound (Number v ∷ r) other f g = says_is _ (number_sound (Number v ∷ r) r refl P.unsigned) (λ e s p. f e s p.0 p.1 p.2)
-literal_sound (Literal v ∷ r) other f g = says_is _ (strings_sound v r) (λ e s p. f e s p.0 p.1 p.2)
-literal_sound (Op Minus ∷ r) other f g = says_is _ (minus_sound r) (λ e s p. f e s p.0 p.1 p.2)
-literal_sound (Op _ ∷ r) other f g = g
-literal_sound (Word x ∷ r) other f g = g
-literal_sound (Ident x ∷ r) other f g = g
-literal_sound (Layout ∷ r) other f g = g
+module _ (self : Reads) (fields : SoundAt self) where
+  pub literal_sound : {Q : Expr → List Terminal → Type 0} (i : List Terminal) (other : Answer Expr) → ((e : Expr) (r ts : List Terminal) → i ≡ ts ++ r → P.LiteralOf ts e → Q e r) → Says Q other → Says Q (literal_or self i other)
+  literal_sound [] other f g = g
+  literal_sound (Number v ∷ r) other f g = says_is _ (number_sound (Number v ∷ r) r refl P.unsigned) (λ e s p. f e s p.0 p.1 p.2)
+  literal_sound (Literal v ∷ r) other f g = says_is _ (literals_sound self fields P.LiteralOf (λ u ts ps l b h. P.joined_string l b h) (λ v w vs h. P.strings vs h) v r) (λ e s p. f e s p.0 p.1 p.2)
+  literal_sound (FormattedBegin ∷ r) other f g = says_is _ (joined_sound self fields P.LiteralOf (λ u ts ps l b h. P.joined_string l b h) r) (λ e s p. f e s p.0 p.1 p.2)
+  literal_sound (Op Minus ∷ r) other f g = says_is _ (minus_sound self r) (λ e s p. f e s p.0 p.1 p.2)
+  literal_sound (Op _ ∷ r) other f g = g
+  literal_sound (_ ∷ r) other f g = g
 
 -- ---- Names with points.
 
@@ -107,10 +101,10 @@ named_key_sound : {f : Identifier} {ts : List Terminal} {e : Expr} (i r : List T
 named_key_sound i r q P.first_name = no_form
 named_key_sound i r q (P.dot_name {ts = ts} x p) = found (ts ++ (Op Dot ∷ (Ident x ∷ [])), q, P.name_key x p)
 
-pub key_sound : (d : ℕ) (i : List Terminal) → Says (KeyAt i) (read_key d i)
-key_sound d i = says_is _
+pub key_sound : (d : ℕ) (self : Reads) → SoundAt self → (i : List Terminal) → Says (KeyAt i) (read_key d self i)
+key_sound d self fields i = says_is _
     (says_cap {Q = KeyAt i} height d _
-    (literal_sound i _ (λ e r ts q p. (ts, q, P.literal_key p))
+    (literal_sound self fields i _ (λ e r ts q p. (ts, q, P.literal_key p))
     (says_first singleton_word i _ _ (λ t v s h q. found (t ∷ [], q, P.singleton_key h)) (λ _.
     says_name i _ _ (λ x s q. says_then _ _ (dotted_sound d x s) (λ e r p. named_key_sound i r (q ∙ p.1) p.2)) no_form))))
     (λ e r p. p.0)

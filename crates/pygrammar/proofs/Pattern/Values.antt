@@ -10,7 +10,7 @@ use Rattle.pygrammar.specs.declared.levels.Level.TheVariants.{Sum, Term, Factor,
 use Rattle.pygrammar.specs.Constants.{constant_word}
 use Rattle.pygrammar.specs.Grammar as G
 use Rattle.pygrammar.specs.PatternOperators.{singleton_word}
-use Rattle.pygrammar.specs.PatternGrammar.{SignedNumber, unsigned, negative, LiteralOf, number, complex, strings, Dotted, first_name, dot_name, ClassOf, class_name, KeyOf, literal_key, singleton_key, name_key}
+use Rattle.pygrammar.specs.PatternGrammar.{SignedNumber, unsigned, negative, LiteralOf, number, complex, strings, joined_string, Dotted, first_name, dot_name, ClassOf, class_name, KeyOf, literal_key, singleton_key, name_key}
 use Rattle.pygrammar.specs.PatternLaws.{ValuesAreExpressions}
 use Rattle.pygrammar.proofs.Soundness.Says.{lower}
 
@@ -37,6 +37,7 @@ literals : {ts : List Terminal} {e : Expr} → LiteralOf ts e → G.Derives Sum 
 literals (number p) = signed p
 literals (complex t p h q k) = G.binary t q (signed p) (atom_term G.number)
 literals (strings vs h) = atom_sum (G.strings vs h)
+literals (joined_string p b q) = atom_sum (G.joined_string p b q)
 
 dotted : {f : Identifier} {ts : List Terminal} {e : Expr} → Dotted f ts e → G.Derives Primary ts e
 dotted first_name = G.next G.name

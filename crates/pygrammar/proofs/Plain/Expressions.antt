@@ -2,7 +2,7 @@
 --
 -- Carries: plain, plain_listing, and targets, for Forms. On: Terminals, Targets, Entries,
 -- Parameters.
-use Rattle.std.proofs.Common.{◌≡◌, refl, sym, ap, ◌∙◌, Bool, true, ◌&&◌, List, [], ◌∷◌, ◌++◌, map, Option, Some, None}
+use Rattle.std.proofs.Common.{◌≡◌, refl, sym, ap, ◌∙◌, Bool, true, false, ◌&&◌, List, [], ◌∷◌, ◌++◌, map, Option, Some, None}
 use Rattle.std.specs.List.{list_all}
 use Rattle.std.proofs.Math.Bool.{and_assoc, and-true}
 use Rattle.pylex_lexeme.specs.declared.kinds.Exact.{Exact}
@@ -19,7 +19,8 @@ use Rattle.pytree_node.specs.Trees
 use Rattle.pytree_node.specs.Trees.{Expr, OptionalExpr, Comprehension, comprehensions, exprs}
 use Rattle.pytree_node.specs.Values as Values
 use Rattle.pytree_node.specs.Values.{Value}
-use Rattle.pytoken.specs.Terminals.{Terminal, Op, Word, Number, Literal}
+use Rattle.pytoken.specs.Terminals.{Terminal, Op, Word, Number, Literal, FormattedBegin}
+use Rattle.pygrammar.specs.FormattedStrings.{has_formatted}
 use Rattle.pygrammar.specs.Operators.{left_operator, prefix_operator, comparison}
 use Rattle.pygrammar.specs.Constants.{constant_word, joined}
 use Rattle.pygrammar.specs.Entries.{Item, Entry}
@@ -34,27 +35,30 @@ use Rattle.pygrammar.proofs.Plain.Parameters.{arranged_plain}
 -- ---- Operators and constants.
 
 -- a constant is no operator
-prefix_none : (l : Level) (v : Value) → (prefix_operator l (Number v) ≡ None) × (prefix_operator l (Literal v) ≡ None)
-prefix_none Not v = (refl, refl)
-prefix_none _ v = (refl, refl)
+prefix_none : (l : Level) (v : Value) → (prefix_operator l (Number v) ≡ None) × (prefix_operator l (Literal v) ≡ None) × (prefix_operator l FormattedBegin ≡ None)
+prefix_none Not v = (refl, refl, refl)
+prefix_none _ v = (refl, refl, refl)
 
-operator_none : (l : Level) (v : Value) → (left_operator l (Number v) ≡ None) × (left_operator l (Literal v) ≡ None)
-operator_none BitOr v = (refl, refl)
-operator_none _ v = (refl, refl)
+operator_none : (l : Level) (v : Value) → (left_operator l (Number v) ≡ None) × (left_operator l (Literal v) ≡ None) × (left_operator l FormattedBegin ≡ None)
+operator_none BitOr v = (refl, refl, refl)
+operator_none _ v = (refl, refl, refl)
 
 prefix_plain : (l : Level) (t : Terminal) (o : UnaryOperator) → prefix_operator l t ≡ Some o → is_terminal_plain t ≡ true
 prefix_plain l (Number v) o h = absurd (let n = (prefix_none l v).0 in cc)
 prefix_plain l (Literal v) o h = absurd (let n = (prefix_none l v).1 in cc)
+prefix_plain l FormattedBegin o h = absurd (let n = (prefix_none l Values.None).2 in cc)
 prefix_plain l _ o h = refl
 
 operator_plain : (l : Level) (t : Terminal) (o : Operator) → left_operator l t ≡ Some o → is_terminal_plain t ≡ true
 operator_plain l (Number v) o h = absurd (let n = (operator_none l v).0 in cc)
 operator_plain l (Literal v) o h = absurd (let n = (operator_none l v).1 in cc)
+operator_plain l FormattedBegin o h = absurd (let n = (operator_none l Values.None).2 in cc)
 operator_plain l _ o h = refl
 
 comparison_plain : (t : Terminal) (o : Comparison) → comparison t ≡ Some o → is_terminal_plain t ≡ true
 comparison_plain (Number v) o h = absurd cc
 comparison_plain (Literal v) o h = absurd cc
+comparison_plain FormattedBegin o h = absurd cc
 comparison_plain _ o h = refl
 
 compared_plain : {ss ts : List Terminal} {o : Comparison} {a : Bool} → G.Compared ss o → Plainness ts a → Plainness (ss ++ ts) a
@@ -76,6 +80,15 @@ joined_plain v [] w h = and-true (is_plain_value v) ∙ ap is_plain_value (some_
 joined_plain (Values.Str t u) (Values.Str s v ∷ vs) w h = joined_plain (Values.Str (t ++ s) u) vs w h
 joined_plain (Values.Bytes t) (Values.Bytes s ∷ vs) w h = joined_plain (Values.Bytes (t ++ s)) vs w h
 joined_plain _ (_ ∷ vs) w h = absurd cc
+
+and_none : (b : Bool) → b && false ≡ false
+and_none true = refl
+and_none false = refl
+
+formatted_plain : (ts : List Terminal) → has_formatted ts ≡ true → list_all is_terminal_plain ts ≡ false
+formatted_plain [] h = absurd cc
+formatted_plain (FormattedBegin ∷ ts) h = refl
+formatted_plain (t ∷ ts) h = ap (λ z. is_terminal_plain t && z) (formatted_plain ts h) ∙ and_none (is_terminal_plain t)
 
 -- ---- Comprehensions.
 
@@ -115,6 +128,7 @@ mutual
   plain (G.constant {t = t} {v = v} h) = let w = word_plain t v h in same (front w.0 none) (sym w.1)
   plain (G.number {v = v}) = record { is = and-true (is_plain_value v) }
   plain (G.strings {v = v} {w = w} vs h) = record { is = joined_plain v vs w h }
+  plain (G.joined_string {ts = ts} l b h) = record { is = formatted_plain ts h }
   plain (G.group p) = sign (ended Sign.RPar (plain p))
   plain (G.yield_group p) = sign (word (ended Sign.RPar (plain_yields p)))
   plain G.empty_tuple = sign (sign none)

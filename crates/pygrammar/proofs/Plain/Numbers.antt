@@ -1,12 +1,14 @@
--- A token has no fault in the plain language where it has none in the whole one and its terminal is
+-- A token has no fault in the plain language where it has none in the whole one and its terminals are
 -- plain.
 --
--- Carries: is_token_plain, faultless_plain, plain_faultless, for Tokens, Law. On: Terminals.
-use Rattle.std.proofs.Common.{◌≡◌, ◌↔◌, refl, ap, ℕ, ◌^◌, Bool, true, false, cond, List, Option, Some, None}
+-- Carries: is_token_plain, faultless_plain, plain_faultless, for Tokens, Law. On: Terminals,
+-- FormattedStrings.
+use Rattle.std.proofs.Common.{◌≡◌, ◌↔◌, inl, inr, refl, sym, ap, ◌∙◌, ℕ, ◌^◌, Bool, true, false, ◌&&◌, cond, List, Option, Some, None}
 use Rattle.std.specs.Prelude.{nat_le, nat_lt}
+use Rattle.std.specs.List.{list_all}
 use Rattle.std.specs.Str.{encode_utf8_all}
 use Rattle.std.specs.Float.Ieee as ieee
-use Rattle.std.proofs.lemmas.Bool.{leb-false, lt-leb, ltb-true, lt-ltb}
+use Rattle.std.proofs.lemmas.Bool.{cases_Bool, and_parts, leb-false, lt-leb, ltb-true, lt-ltb}
 use Rattle.pylex_lexeme.specs.declared.kinds.Exact.{Exact}
 use Rattle.pylex_lexeme.specs.Operators.{exact_of}
 use Rattle.pylex.specs.declared.kind.Kind.{Kind}
@@ -19,10 +21,12 @@ use Rattle.pytoken.specs.declared.keywords.Keyword.{Keyword}
 use Rattle.pytoken.specs.Keywords.{keyword_of}
 use Rattle.pytoken.specs.NumberValues.{is_complex, is_real, whole_value, number_value, number_fault}
 use Rattle.pytoken.specs.StringValues.{is_bytes, points_of, is_unicode, with_line_feeds, value_of, string_value}
-use Rattle.pytoken.specs.Terminals.{Op, Word, Ident, Layout, terminal_of, fault_of}
+use Rattle.pytoken.specs.FormattedStrings.{is_fstring}
+use Rattle.pytoken.specs.Terminals.{Op, Word, Ident, Layout, terminal_of, single_fault, terminals_of, fault_of}
 use Rattle.pytoken.specs.Tokens.{Token}
 use Rattle.pygrammar.specs.Extents.{is_plain_value}
 use Rattle.pygrammar.proofs.Plain.Terminals.{is_terminal_plain}
+use Rattle.pygrammar.proofs.Plain.FormattedStrings.{one_terminal, of_single, plain_formatted, formatted_said}
 
 -- ---- Numbers.
 
@@ -62,28 +66,46 @@ string_plain t = by (is_bytes (with_line_feeds t)) (points_of (with_line_feeds t
     by true points unicode = refl
     by false points unicode = refl
 
--- what has no fault in the plain language is plain
-pub faultless_plain : (k : Kind) (t : List ℕ) → fault_of Plain k t ≡ None → is_terminal_plain (terminal_of k t) ≡ true
-unfolding fault_of terminal_of
-faultless_plain kinds.Number t h = (number_plain (encode_utf8_all t)).0 h
-faultless_plain kinds.String t h = string_plain t
-faultless_plain kinds.Name t h = by (keyword_of t) _
+-- what is one terminal, and has no fault in the plain language, is plain
+single_plain : (k : Kind) (t : List ℕ) → single_fault Plain k t ≡ None → is_terminal_plain (terminal_of k t) ≡ true
+unfolding single_fault terminal_of
+single_plain kinds.Number t h = (number_plain (encode_utf8_all t)).0 h
+single_plain kinds.String t h = string_plain t
+single_plain kinds.Name t h = by (keyword_of t) _
   where
     by : (o : Option Keyword) (form : List ℕ) → is_terminal_plain (elim o [ Some w ↦ Word w | None ↦ Ident (record { spelling = t; form = form }) ]) ≡ true
     by (Some w) form = refl
     by None form = refl
-faultless_plain kinds.Op t h = by (exact_of t)
+single_plain kinds.Op t h = by (exact_of t)
   where
     by : (o : Option Exact) → is_terminal_plain (elim o [ Some e ↦ Op e | None ↦ Layout ]) ≡ true
     by (Some e) = refl
     by None = refl
-faultless_plain _ t h = refl
+single_plain _ t h = refl
 
 -- and what is plain, and has no fault in the whole language, has none in the plain one
-pub plain_faultless : (k : Kind) (t : List ℕ) → is_terminal_plain (terminal_of k t) ≡ true → fault_of Whole k t ≡ None → fault_of Plain k t ≡ None
-unfolding fault_of terminal_of
-plain_faultless kinds.Number t p h = (number_plain (encode_utf8_all t)).1 p
-plain_faultless _ t p h = h
+plain_single : (k : Kind) (t : List ℕ) → is_terminal_plain (terminal_of k t) ≡ true → single_fault Whole k t ≡ None → single_fault Plain k t ≡ None
+unfolding single_fault terminal_of
+plain_single kinds.Number t p h = (number_plain (encode_utf8_all t)).1 p
+plain_single _ t p h = h
+
+-- so it is with each token
+pub faultless_plain : (k : Kind) (t : List ℕ) → fault_of Plain k t ≡ None → list_all is_terminal_plain (terminals_of k t) ≡ true
+faultless_plain k t h = elim (cases_Bool (is_fstring k t)) [
+  | inl formatted ↦ absurd (let e = plain_formatted k t formatted in cc)
+  | inr other ↦
+      let plain = single_plain k t (sym (of_single Plain k t other) ∙ h) in
+      ap (list_all is_terminal_plain) (one_terminal k t other) ∙ ap (λ z. z && true) plain
+]
+
+pub plain_faultless : (k : Kind) (t : List ℕ) → list_all is_terminal_plain (terminals_of k t) ≡ true → fault_of Whole k t ≡ None
+    → fault_of Plain k t ≡ None
+plain_faultless k t p h = elim (cases_Bool (is_fstring k t)) [
+  | inl formatted ↦ absurd (let e = formatted_said k t formatted h in cc)
+  | inr other ↦
+      let plain = and_parts (is_terminal_plain (terminal_of k t)) true (sym (ap (list_all is_terminal_plain) (one_terminal k t other)) ∙ p) in
+      of_single Plain k t other ∙ plain_single k t plain.0 (sym (of_single Whole k t other) ∙ h)
+]
 
 abbrev pub is_token_plain : Token → Bool
-is_token_plain t = is_terminal_plain (terminal_of t.kind t.text)
+is_token_plain t = list_all is_terminal_plain (terminals_of t.kind t.text)

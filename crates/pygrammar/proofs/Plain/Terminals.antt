@@ -2,13 +2,13 @@
 --
 -- Carries: Passes, Plainness and their parts, for Targets, Entries, Expressions, Forms, Blocks and
 -- 2 more.
-use Rattle.std.proofs.Common.{◌≡◌, refl, sym, ap, ◌∙◌, Bool, true, ◌&&◌, List, [], ◌∷◌, ◌++◌}
+use Rattle.std.proofs.Common.{◌≡◌, refl, sym, ap, ◌∙◌, Bool, true, false, ◌&&◌, List, [], ◌∷◌, ◌++◌}
 use Rattle.std.specs.List.{list_all}
 use Rattle.std.proofs.lemmas.List.Folds.{list_all-append}
 use Rattle.std.proofs.Math.Bool.{and_assoc, and_comm, and-true}
 use Rattle.pylex_lexeme.specs.declared.kinds.Exact.{Exact}
 use Rattle.pytoken.specs.declared.keywords.Keyword.{Keyword}
-use Rattle.pytoken.specs.Terminals.{Terminal, Spelled, Op, Word, Ident, Number, Literal}
+use Rattle.pytoken.specs.Terminals.{Terminal, Spelled, Op, Word, Ident, Number, Literal, FormattedBegin}
 use Rattle.pygrammar.specs.Extents.{is_plain_value}
 
 -- ---- Tests joined.
@@ -51,9 +51,10 @@ alone a = sym (and-true a)
 abbrev pub is_terminal_plain : Terminal → Bool
 is_terminal_plain (Number v) = is_plain_value v
 is_terminal_plain (Literal v) = is_plain_value v
+is_terminal_plain FormattedBegin = false
 is_terminal_plain _ = true
 
--- whether all constants among the terminals are plain
+-- whether all constants among the terminals are plain, and no f-string begins
 abbrev pub Plainness : List Terminal → Bool → Type 0
 Plainness ts answer = Passes is_terminal_plain ts answer
 

@@ -2,13 +2,13 @@
 -- language where it has none in the whole one and its tokens are plain.
 --
 -- Carries: lines_said, faultless_said, plain_refusal, for Law. On: Numbers, OpenLines.
-use Rattle.std.proofs.Common.{◌≡◌, refl, sym, ap, ◌∙◌, ℕ, Bool, true, false, not, ◌&&◌, List, [], ◌∷◌, ◌++◌, map, Option, Some, None, if◌then◌else◌}
+use Rattle.std.proofs.Common.{◌≡◌, refl, sym, ap, ◌∙◌, ℕ, Bool, true, false, not, ◌&&◌, List, [], ◌∷◌, ◌++◌, Option, Some, None, if◌then◌else◌}
 use Rattle.std.specs.Prelude.{All}
-use Rattle.std.specs.List.{list_all}
+use Rattle.std.specs.List.{list_all, flat_map}
 use Rattle.std.specs.Option.{option_or}
 use Rattle.std.proofs.lemmas.Bool.{and_parts}
 use Rattle.std.proofs.lemmas.List.Elements.{All-head, All-tail}
-use Rattle.std.proofs.lemmas.List.Folds.{list_all-append, list_all-map}
+use Rattle.std.proofs.lemmas.List.Folds.{list_all-append}
 use Rattle.pysource.specs.declared.places.Place.{Place}
 use Rattle.pylex_lexeme.specs.declared.kinds.Exact.{Exact}
 use Rattle.pylex.specs.declared.kind.Kind.{Kind}
@@ -23,7 +23,7 @@ use Rattle.pytoken.specs.declared.faults.TokenError.{TokenError}
 use Rattle.pytoken.specs.declared.refusals.Refusal.{Refusal}
 use Rattle.pytoken.specs.declared.refusals.Refusal.TheVariants as refusals
 use Rattle.pytoken.specs.Indentation.{margins}
-use Rattle.pytoken.specs.Terminals.{terminal_of, fault_of}
+use Rattle.pytoken.specs.Terminals.{terminal_of, single_fault, terminals_by, terminals_of, fault_by, fault_of}
 use Rattle.pytoken.specs.Tokens.{Token, token_of, text_of, supplied, is_open, tokens_of_entry, tokens_from, tokens, lines_from, lines}
 use Rattle.pytoken.specs.Tokens as Tokens
 use Rattle.pytoken.specs.Refusals.{most_brackets, entry_refusal, first_entry_refusal, first_too_deep, first_mixed, refusal_of, refusal_at, refusal}
@@ -48,12 +48,16 @@ IsEmpty begun line = begun ≡ false → line ≡ []
 open_line : (line : List Token) → IsEmpty true line
 open_line line h = absurd cc
 
-line_said : (line : List Token) → list_all is_terminal_plain (map (λ t. terminal_of t.kind t.text) line) ≡ list_all is_token_plain line
-line_said line = list_all-map is_terminal_plain (λ (t : Token). terminal_of t.kind t.text) line
+line_said : (line : List Token) → list_all is_terminal_plain (flat_map (λ t. terminals_of t.kind t.text) line) ≡ list_all is_token_plain line
+line_said [] = refl
+line_said (t ∷ ts) =
+    list_all-append is_terminal_plain (terminals_of t.kind t.text) (flat_map (λ t. terminals_of t.kind t.text) ts)
+    ∙ ap (λ z. is_token_plain t && z) (line_said ts)
 
 -- a line that comes to its end
 ended_said : (line seen ts : List Token) → Said seen [] ts
-    → list_all is_terminal_plain (map (λ t. terminal_of t.kind t.text) line) && list_all are_terminals_plain (lines_from seen [] ts) ≡ list_all is_token_plain line && list_all is_token_plain ts
+    → list_all is_terminal_plain (flat_map (λ t. terminals_of t.kind t.text) line) && list_all are_terminals_plain (lines_from seen [] ts)
+    ≡ list_all is_token_plain line && list_all is_token_plain ts
 ended_said line seen ts h = and_both (line_said line) h
 
 -- a token more
@@ -78,7 +82,7 @@ module _ (text : List ℕ) (es before : List Entry) (seen line : List Token)
 
   one : (k : Kind) (x : Option Exact) (p q : Place) (f t : ℕ) → may_stand k (is_open before) ≡ true → Fit (next k (is_open before)) es
       → Said seen line (tokens_from text before (entry k x p q f t ∷ es))
-  unfolding terminal_of
+  unfolding terminal_of terminals_by
   one kinds.Encoding x p q f t m k = ih (entry kinds.Encoding x p q f t ∷ before) seen line k (λ _. h (none_open (is_open before) m))
   one kinds.Comment x p q f t m k = ih (entry kinds.Comment x p q f t ∷ before) seen line k h
   one kinds.Nl x p q f t m k = ih (entry kinds.Nl x p q f t ∷ before) seen line k h
@@ -154,14 +158,20 @@ no_fault : (o : Option TokenError) (p : Place) → refusal_by o p ≡ None → o
 no_fault (Some x) p h = absurd cc
 no_fault None p h = refl
 
+-- a literal that is plain has no fault in the plain language, if it has none in the whole one
+literal_plain : (text : List ℕ) (e : Entry) → list_all is_token_plain (token_of text e ∷ []) ≡ true → entry_refusal Whole text e ≡ None
+    → entry_refusal Plain text e ≡ None
+literal_plain text e h n =
+    let own = text_of text e in
+    let plain = (and_parts (is_token_plain (token_of text e)) true h).0 in
+    ap (λ o. refusal_by o e.start) (plain_faultless e.kind own plain (no_fault (fault_of Whole e.kind own) e.start n))
+
 -- an entry whose tokens are plain has no fault in the plain language, if it has none in the whole one
 entry_plain : (text : List ℕ) (b : Bool) (k : Kind) (x : Option Exact) (p q : Place) (f t : ℕ) → list_all is_token_plain (tokens_of_entry text b (entry k x p q f t)) ≡ true
     → entry_refusal Whole text (entry k x p q f t) ≡ None → entry_refusal Plain text (entry k x p q f t) ≡ None
-unfolding fault_of
-entry_plain text b kinds.Number x p q f t h n =
-    let own = text_of text (entry kinds.Number x p q f t) in
-    let plain = (and_parts (is_token_plain (token_of text (entry kinds.Number x p q f t))) true h).0 in
-    ap (λ o. refusal_by o p) (plain_faultless kinds.Number own plain (no_fault (fault_of Whole kinds.Number own) p n))
+unfolding single_fault fault_by fault_of
+entry_plain text b kinds.Number x p q f t h n = literal_plain text (entry kinds.Number x p q f t) h n
+entry_plain text b kinds.String x p q f t h n = literal_plain text (entry kinds.String x p q f t) h n
 entry_plain text b _ x p q f t h n = n
 
 plain_entries : (text : List ℕ) (before es : List Entry) → list_all is_token_plain (tokens_from text before es) ≡ true

@@ -2,7 +2,7 @@
 --
 -- Carries: sound_read, sound, PrimaryAt, call_sound and 5 more, for Room, Whole, Limits,
 -- SoundParts and those of patterns. On: Says, SoundLists, LevelLemmas, SoundClimb and 1 more.
-use Rattle.std.proofs.Common.{map, ◌≡◌, inl, inr, refl, sym, ap, subst, ◌∙◌, ℕ, zero, suc, ◌<◌, arith, List, [], ◌∷◌, ◌++◌, length, Option, Some, None, true, false, append_assoc}
+use Rattle.std.proofs.Common.{◌≡◌, inl, inr, refl, sym, ap, subst, ◌∙◌, ℕ, zero, suc, ◌<◌, arith, List, [], ◌∷◌, ◌++◌, length, Option, Some, None, true, false, append_assoc}
 use Rattle.pylex_lexeme.specs.declared.kinds.Exact.TheVariants.{LPar, RPar, LSqb, RSqb, LBrace, RBrace, Colon, Comma, Star, Dot, DoubleStar, ColonEqual}
 use Rattle.pytoken.specs.declared.keywords.Keyword.TheVariants as Key
 use Rattle.pytree_node.specs.declared.operators.Context.TheVariants.{Load}
@@ -10,28 +10,21 @@ use Rattle.pygrammar.specs.declared.levels.Level.{Level}
 use Rattle.pygrammar.specs.declared.levels.Level.TheVariants.{Value, Stars, StarItem, Named, Expression, Or, And, Not, Compare, BitOr, BitXor, BitAnd, Shift, Sum, Term, Factor, Power, Await, Primary, Atom, Elem, Slices, Part, Slice, Subject}
 use Rattle.pytree_node.specs.Trees
 use Rattle.pytree_node.specs.Trees.{Expr, no_exprs, an_expr, OptionalExpr, absent, present, Arguments}
-use Rattle.pytree_node.specs.Values
-use Rattle.pytoken.specs.Terminals.{Terminal, Op, Word, Ident, Number, Literal}
-use Rattle.pygrammar.specs.Constants.{constant_word, joined}
+use Rattle.pytoken.specs.Terminals.{Terminal, Op, Word, Ident, Number, Literal, FormattedBegin}
+use Rattle.pygrammar.specs.Constants.{constant_word}
 use Rattle.pygrammar.specs.Entries.{Of, Pair, Argument, Parameter, Entry, Single, Paired, Doubled, singles, keys, values}
 use Rattle.pygrammar.specs.Arguments.{called}
 use Rattle.pygrammar.specs.Parameters.{arranged}
-use Rattle.pygrammar.specs.Reader.{Found, made, lambda_of, Reads, string_run, constant_of, yield_step, round, square, dict_from, curly, atom, called_with, generator_call, call_step, primary_loop, slice_rest, lambda_step, if_else_step, level_step, levels_from, descend, read}
+use Rattle.pygrammar.specs.Reader.{Answer, Found, made, lambda_of, Reads, constant_of, yield_step, round, square, dict_from, curly, atom, called_with, generator_call, call_step, primary_loop, slice_rest, lambda_step, if_else_step, level_step, levels_from, descend, read}
 use Rattle.pygrammar.specs.Precedence.{lead, starts, starts_comp}
 use Rattle.pygrammar.specs.Grammar as G
 use Rattle.pygrammar.proofs.Soundness.Says.{Says, found, no_form, deep, says_then, says_op, says_word, says_name, says_cond, says_made, says_is, turns, Reads_as, SoundAt}
 use Rattle.std.proofs.lemmas.List.{append-nil}
+use Rattle.pygrammar.proofs.Soundness.SoundStrings.{constant_is, FitsAt, joined_sound, literals_sound}
 use Rattle.pygrammar.proofs.Soundness.SoundClimb.{climb_sound}
 use Rattle.pygrammar.proofs.Completeness.LookLemmas.{lead_of}
 use Rattle.pygrammar.proofs.Completeness.LevelLemmas.{led, not_star}
 use Rattle.pygrammar.proofs.Soundness.SoundLists.{says_if, says_name_with, says_closed, inv, NoStar, no_star, elem_named, named_expression, perhaps_sound, starred_sound, piece_sound, listing_of_sound, others_sound, comps_closed_sound}
-
-pub constant_is : (o : Option Values.Value) (e : Expr) → constant_of o ≡ Some e → (w : Values.Value) × (o ≡ Some w) × (Trees.Constant w ≡ e)
-constant_is None e h = absurd (cc)
-constant_is (Some w) e h = (w, refl, same_expr (Trees.Constant w) e h)
-  where
-    same_expr : (g k : Expr) → Some g ≡ Some k → g ≡ k
-    same_expr g k h = cc
 
 lambda_is : (o : Option Arguments) (b e : Expr) → lambda_of o b ≡ Some e → (a : Arguments) × (o ≡ Some a) × (Trees.Lambda a b ≡ e)
 lambda_is None b e h = absurd (cc)
@@ -39,11 +32,6 @@ lambda_is (Some a) b e h = (a, refl, same_expr (Trees.Lambda a b) e h)
   where
     same_expr : (g k : Expr) → Some g ≡ Some k → g ≡ k
     same_expr g k h = cc
-
-pub string_sound : (acc : List Values.Value) (r : List Terminal) → Says (λ ws r1. (vs : List Values.Value) × (ws ≡ acc ++ vs) × (r ≡ map Literal vs ++ r1)) (string_run acc r)
-string_sound acc [] = found ([], sym (append-nil acc), refl)
-string_sound acc (Literal v ∷ r) = says_is _ (string_sound (acc ++ (v ∷ [])) r) (λ ws r1 p. (v ∷ p.0, p.1 ∙ append_assoc acc (v ∷ []) p.0, ap (λ z. Literal v ∷ z) p.2))
-string_sound acc (_ ∷ r) = found ([], sym (append-nil acc), refl)
 
 argument_named : {ts : List Terminal} {e : Expr} → G.Piece Argument ts (Single e) → G.Derives Named ts e
 argument_named (G.argument p) = p
@@ -90,11 +78,15 @@ module _ (self : Reads) (all : SoundAt self) where
   constant_sound : (t : Terminal) (r : List Terminal) → Says (Reads_as Atom (t ∷ r)) (made (constant_of (constant_word t)) r)
   constant_sound t r = says_made _ r (λ e h. let z = constant_is (constant_word t) e h in (t ∷ [], refl, subst (λ k. G.Derives Atom (t ∷ []) k) z.2 (G.constant z.1), turns r))
 
+  atom_at : (i : List Terminal) (x : Answer Expr) → Says (FitsAt (G.Derives Atom) i) x → Says (Reads_as Atom i) x
+  atom_at i x h = says_is x h (λ e r p. (p.0, p.1, p.2, turns r))
+
   atom_sound : (i : List Terminal) → Says (Reads_as Atom i) (atom self i)
   atom_sound [] = no_form
   atom_sound (Ident x ∷ r) = found (Ident x ∷ [], refl, G.name, turns r)
   atom_sound (Number v ∷ r) = found (Number v ∷ [], refl, G.number, turns r)
-  atom_sound (Literal v ∷ r) = says_then _ _ (string_sound [] r) (λ ws r1 p. says_made _ r1 (λ e h. let z = constant_is (joined v ws) e h in (Literal v ∷ map Literal p.0, ap (λ z. Literal v ∷ z) p.2, subst (λ k. G.Derives Atom (Literal v ∷ map Literal p.0) k) z.2 (G.strings p.0 (ap (joined v) (sym p.1) ∙ z.1)), turns r1)))
+  atom_sound (Literal v ∷ r) = atom_at (Literal v ∷ r) _ (literals_sound self all (G.Derives Atom) (λ u ts ps l b h. G.joined_string l b h) (λ v w vs h. G.strings vs h) v r)
+  atom_sound (FormattedBegin ∷ r) = atom_at (FormattedBegin ∷ r) _ (joined_sound self all (G.Derives Atom) (λ u ts ps l b h. G.joined_string l b h) r)
   atom_sound (Op LPar ∷ r) = round_sound r
   atom_sound (Op LSqb ∷ r) = square_sound r
   atom_sound (Op LBrace ∷ r) = curly_sound r

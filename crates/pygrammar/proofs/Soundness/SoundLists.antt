@@ -15,7 +15,7 @@ use Rattle.pygrammar.specs.declared.levels.Level.{Level}
 use Rattle.pygrammar.specs.declared.levels.Level.TheVariants.{Stars, StarItem, Named, Expression, Or, BitOr, Primary, Elem, Part, Slice}
 use Rattle.pytree_node.specs.Trees
 use Rattle.pytree_node.specs.Trees.{Expr, an_expr, OptionalExpr, arg, exprs, Comprehension}
-use Rattle.pytoken.specs.Terminals.{Spelled, Terminal, Op, Word, Ident, Number, Literal, Layout}
+use Rattle.pytoken.specs.Terminals.{Spelled, Terminal, Op, Word, Ident}
 use Rattle.pygrammar.specs.Looks.{is_op, is_word}
 use Rattle.pygrammar.specs.Operators.{below, chain_level, left_operator, prefix_operator}
 use Rattle.pygrammar.specs.Entries.{Item, Of, Pair, Argument, Parameter, Entry, Gathered, singles}
@@ -59,11 +59,7 @@ says_name_with {B} {Q} s (Ident a ∷ (t ∷ u)) hit x h g = go (is_op s t) refl
     go : (o : Option ℕ) → is_op s t ≡ o → Says Q (on_some o (λ _. hit a.form u) x)
     go (Some n) e = h a u (ap (λ z. Ident a ∷ (z ∷ u)) (op_same s n t e))
     go None e = g (λ b w q. self_op s (ap (is_op s) (sym (seconds a b t (Op s) u w q)) ∙ e))
-says_name_with s (Op y ∷ r) hit x h g = g (λ a u q. absurd (cc))
-says_name_with s (Word y ∷ r) hit x h g = g (λ a u q. absurd (cc))
-says_name_with s (Number y ∷ r) hit x h g = g (λ a u q. absurd (cc))
-says_name_with s (Literal y ∷ r) hit x h g = g (λ a u q. absurd (cc))
-says_name_with s (Layout ∷ r) hit x h g = g (λ a u q. absurd (cc))
+says_name_with s (_ ∷ r) hit x h g = g (λ a u q. absurd (cc))
 
 pub says_closed : {A : Type 0} {Q : A → List Terminal → Type 0} (s : Exact) (r : List Terminal) (a : A) → ((r1 : List Terminal) → r ≡ Op s ∷ r1 → Q a r1) → Says Q (closed s r a)
 says_closed s r a h = says_op s r _ _ (λ _ r1 q. found (h r1 q)) (λ _. no_form)

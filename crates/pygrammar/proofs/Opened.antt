@@ -1,0 +1,7 @@
+pub mod Counts
+mod Closing
+pub mod Expressions
+pub mod Patterns
+mod Parts
+pub mod Forms
+pub mod Tokens
