@@ -3,7 +3,6 @@
 use Rattle.std.proofs.Common.{◌≡◌, inl, inr, ℕ, ◌≤◌, Bool, true, false, List, [], ◌++◌, length, take_all, refl, sym, subst, append-nil, arith, None}
 use Rattle.std.specs.Prelude.{nat_lt, Result, Err, IfErr}
 use Rattle.std.proofs.lemmas.Bool.{ltb-true, ltb-false}
-use Rattle.std.proofs.lemmas.List.{length-map}
 use Rattle.pysource.specs.declared.places.Place.{Place}
 use Rattle.pysource.specs.Parts.{Parts}
 use Rattle.pylex.specs.Listing.{Source, in_characters}
@@ -11,7 +10,6 @@ use Rattle.pytree_node.specs.declared.profiles.Extent.{Extent}
 use Rattle.pytree_node.specs.declared.profiles.Profile.{Profile}
 use Rattle.pytree_node.specs.Trees.{Stmt, Module}
 use Rattle.pytree_height.specs.Heights.{statement_height}
-use Rattle.pytoken.specs.Terminals.{terminal_of}
 use Rattle.pytoken.specs.Tokens.{lines}
 use Rattle.pytoken.specs.Tokens as Tokens
 use Rattle.pytoken.specs.Refusals.{refusal}
@@ -44,7 +42,7 @@ use Rattle.pyparse.specs.Inner.Progressing.{first_lines, IsSound, IsDeepAt, IsFa
 pub unread_high : {profile : Profile} (inside : Bool) (x : Tokens.Line) → HighLine profile inside 500 (terminals x) → Unread profile inside x code.TooDeep
 unread_high {profile} inside x high = elim (lines_are_lawful.decided profile inside (terminals x)) [
   | inl formed ↦ too_high formed.2 (high.0 formed.0 formed.2)
-  | inr none ↦ let long = high.1 none.1 in too_long none.1 (omega (arith, long, length-map x.tokens (λ (t : Tokens.Token). terminal_of t.kind t.text)))
+  | inr none ↦ too_long none.1 (high.1 none.1)
 ]
 
 -- ---- The end.

@@ -1,13 +1,14 @@
 -- The first token that is faulty by itself, token by token.
 --
 -- Carries: terminals_of.
-use Rattle.std.proofs.Common.{◌≡◌, refl, ap, ℕ, ◌+◌, zero, suc, List, [], ◌∷◌, ◌++◌, take, Option, Some, None, length, get_or, ◌<◌, arith}
+use Rattle.std.proofs.Common.{◌≡◌, refl, sym, ap, ◌∙◌, ℕ, ◌+◌, zero, suc, List, [], ◌∷◌, ◌++◌, append-nil, append_assoc, take, Option, Some, None, length, get_or, ◌<◌, arith}
 use Rattle.pytoken.specs.declared.refusals.Refusal.{Refusal}
+use Rattle.pytoken.specs.Terminals.{Terminal}
 use Rattle.pyparse_tokens.specs.declared.faults.ParseFault.{ParseFault}
 use Rattle.pyparse_tokens.specs.declared.faults.ParseFault.TheVariants.{Refused, Grammar, Memory}
 use Rattle.pyparse_tokens.specs.declared.tokens.Token.{Token}
 use Rattle.pyparse_tokens.specs.Answers.{Tells}
-use Rattle.pyparse.specs.TokenLists.{terminals, token_refusal, first_refusal}
+use Rattle.pyparse.specs.TokenLists.{terminals, token_terminals, token_refusal, first_refusal}
 use Rattle.std.specs.Option.{option_or}
 
 or_none : (a b : Option Refusal) → option_or a b ≡ None → (a ≡ None) × (b ≡ None)
@@ -31,7 +32,15 @@ none_more [] i d w n t = absurd (omega (arith, w))
 none_more (y ∷ ys) zero d w n t = rw t refl
 none_more (y ∷ ys) (suc i) d w n t = let m : suc i + 1 ≡ suc (i + 1) = omega arith in let o = or_none (token_refusal y) (first_refusal (take i ys)) n in rw (m, o.0) (none_more ys i d (omega (arith, w)) o.1 t)
 
-pub terminals_more : (xs : List Token) (i : ℕ) (d : Token) → i < length xs → terminals (take (i + 1) xs) ≡ terminals (take i xs) ++ terminals (get_or xs i d ∷ [])
-terminals_more [] i d w = absurd (omega (arith, w))
-terminals_more (y ∷ ys) zero d w = refl
-terminals_more (y ∷ ys) (suc i) d w = let m : suc i + 1 ≡ suc (i + 1) = omega arith in rw m (ap (λ z. terminals (y ∷ []) ++ z) (terminals_more ys i d (omega (arith, w))))
+-- and its terminals
+terminals_on : (xs : List Token) (i : ℕ) (d : Token) → i < length xs → terminals (take (i + 1) xs) ≡ terminals (take i xs) ++ token_terminals (get_or xs i d)
+terminals_on [] i d w = absurd (omega (arith, w))
+terminals_on (y ∷ ys) zero d w = append-nil (token_terminals y)
+terminals_on (y ∷ ys) (suc i) d w =
+    let m : suc i + 1 ≡ suc (i + 1) = omega arith in
+    rw m (ap (λ z. token_terminals y ++ z) (terminals_on ys i d (omega (arith, w)))
+    ∙ sym (append_assoc (token_terminals y) (terminals (take i ys)) (token_terminals (get_or ys i d))))
+
+pub terminals_more : (xs : List Token) (i : ℕ) (d : Token) (old new : List Terminal) → i < length xs → old ≡ terminals (take i xs) →
+    new ≡ old ++ token_terminals (get_or xs i d) → new ≡ terminals (take (i + 1) xs)
+terminals_more xs i d old new w was more = more ∙ ap (λ ts. ts ++ token_terminals (get_or xs i d)) was ∙ sym (terminals_on xs i d w)

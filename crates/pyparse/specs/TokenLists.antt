@@ -1,17 +1,21 @@
 -- What a list of tokens is to the grammar.
-use Rattle.std.specs.Prelude.{List, [], ◌∷◌, map, Option, Some, None}
+use Rattle.std.specs.Prelude.{List, [], ◌∷◌, Option, Some, None}
+use Rattle.std.specs.List.{flat_map}
 use Rattle.std.specs.Option.{option_or}
 use Rattle.std.specs.Str.{chars}
 use Rattle.pysource.specs.declared.places.Place.{Place}
 use Rattle.pytree_node.specs.declared.profiles.Extent.TheVariants.{Whole}
 use Rattle.pytoken.specs.declared.refusals.Refusal.{Refusal}
 use Rattle.pytoken.specs.declared.refusals.Refusal.TheVariants as refusals
-use Rattle.pytoken.specs.Terminals.{Terminal, terminal_of, fault_of}
+use Rattle.pytoken.specs.Terminals.{Terminal, terminals_of, fault_of}
 use Rattle.pyparse_tokens.specs.declared.tokens.Token.{Token}
 
--- what tokens are to the grammar
+-- what a token is to the grammar, one terminal but for an f-string; and what tokens are
+abbrev pub token_terminals : Token → List Terminal
+token_terminals t = terminals_of t.kind (chars t.text.now)
+
 abbrev pub terminals : List Token → List Terminal
-terminals ts = map (λ t. terminal_of t.kind (chars t.text.now)) ts
+terminals ts = flat_map token_terminals ts
 
 -- where the first one starts; without one, where a source does
 abbrev pub first_place : List Token → Place

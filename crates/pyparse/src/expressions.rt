@@ -25,7 +25,8 @@ use std::alloc::Global;
 /// [`ParseFault::Refused`] by the first token that is faulty by itself in the whole language; those
 /// of [`tokens_of`](crate::tokens_of) never are, in either extent. [`ParseFault::Grammar`] where
 /// they are no expression of the level, or only a higher one; of more than 500 tokens that are none
-/// at all either may be reported. It stands at the first token, and at 1,0 where there is none.
+/// at all either may be reported, an f-string being counted as two and the tokens of its fields. It
+/// stands at the first token, and at 1,0 where there is none.
 #[tactic(auto, using(pygrammar::proofs::Callers::Law::grammar_is_lawful))]
 pub fn parse_expression(
     alloc: Global,

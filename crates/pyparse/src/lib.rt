@@ -11,7 +11,8 @@
 //!
 //! [`number_value`], [`string_value`] and [`name_value`] tell what the text of a number, a string
 //! or a name stands for, [`string_fault`] and [`name_fault`] what is wrong with it by itself.
-//! [`terminal_of`] tells what a token is to the grammar ([`Terminal`]). These are of `pytoken`.
+//! [`push_terminals`] tells what a token is to the grammar, [`Terminal`]s, and [`terminal_of`] what
+//! one is that is no f-string. These are of `pytoken`.
 //!
 //! The words of contracts are those of these two crates and of `pygrammar`, and here in `specs/`
 //! those of `TokenLists`, `Expressions`, `Patterns`, `Places` and `Modules`.
@@ -30,6 +31,7 @@ pub use modules::parse;
 pub use patterns::parse_pattern;
 pub use pyparse_tokens::{GrammarError, LogicalLines, ParseFault, Token, tokens_of};
 pub use pytoken::{
-    Literal, LiteralText, NumberText, Terminal, TerminalFault, identifier_value, name_fault,
-    name_value, number_value, string_fault, string_value, terminal_of, token_fault,
+    Literal, LiteralText, NumberText, Terminal, TerminalFault, TextPiece, identifier_value,
+    name_fault, name_value, number_value, push_terminals, string_fault, string_value, terminal_of,
+    token_fault,
 };

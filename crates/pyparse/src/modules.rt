@@ -28,9 +28,10 @@ use std::alloc::Global;
 /// [`tokens_of`](crate::tokens_of) reports it. Else [`ParseFault::Grammar`]: by the first line
 /// without a form where it stands, in a `match` or elsewhere, `Syntax`, `TooDeep` or in the plain
 /// language `MatchStatement`, of which a line of more than 500 tokens that has none at any height
-/// may be reported as `TooDeep` or as it would be with fewer; else by the first line that is faulty
-/// among the others, or the end; else by the first line in which a statement begins with 500 around
-/// it, `TooDeep`. Its place is where the line starts, that of the end where ENDMARKER does.
+/// may be reported as `TooDeep` or as it would be with fewer, an f-string being counted as two and
+/// the tokens of its fields; else by the first line that is faulty among the others, or the end;
+/// else by the first line in which a statement begins with 500 around it, `TooDeep`. Its place is
+/// where the line starts, that of the end where ENDMARKER does.
 #[tactic(auto, using(pygrammar::proofs::Callers::SourceLaw::forms_are_lawful, pygrammar::proofs::Callers::SourceLaw::blocks_are_lawful, pygrammar::proofs::Callers::SourceLaw::answers_are_lawful, crate::proofs::CaseLines::Law::places_are_lawful))]
 pub fn parse(alloc: Global, source: &Source, profile: Profile) -> Result<Module, ParseFault>
     ensures accepted { IfOk result

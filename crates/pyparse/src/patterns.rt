@@ -24,8 +24,9 @@ use std::alloc::Global;
 ///
 /// [`ParseFault::Refused`] by the first token that is faulty by itself in the whole language; those
 /// of [`tokens_of`](crate::tokens_of) never are, in either extent. [`ParseFault::Grammar`] where
-/// they are no pattern of the level, or only a higher one; of more than 500 tokens that are none at
-/// all either may be reported. It stands at the first token, and at 1,0 where there is none.
+/// they are no pattern of the level, or only a higher one; of 500 tokens or more that are none at
+/// all either may be reported, an f-string being counted as two and the tokens of its fields. It
+/// stands at the first token, and at 1,0 where there is none.
 #[tactic(auto, using(pygrammar::proofs::Callers::PatternLaw::patterns_are_lawful))]
 pub fn parse_pattern(
     alloc: Global,

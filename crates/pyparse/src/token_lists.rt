@@ -1,38 +1,35 @@
 //! What the tokens of a list are to the grammar, and where the list begins.
 
-ghost use Rattle.std.specs.Prelude.{◌≡◌, ◌++◌, ◌∷◌, [], map, IfOk, IfErr, OnOk, None};
+ghost use Rattle.std.specs.Prelude.{◌≡◌, ◌++◌, map, IfOk, IfErr, OnOk, None};
 ghost use Rattle.pytoken.specs.TerminalOf.{terminal};
 ghost use Rattle.pyparse_tokens.specs.Answers.{Tells};
-ghost use Rattle.pyparse.specs.TokenLists.{first_place, first_refusal, terminals, token_refusal};
+ghost use Rattle.pyparse.specs.TokenLists.{first_place, first_refusal, terminals};
+ghost use Rattle.pyparse.specs.TokenLists.{token_terminals, token_refusal};
 
 use pyparse_tokens::{ParseFault, Token};
 use pysource::Place;
-use pytoken::{Refusal, Terminal, TerminalFault, terminal_of};
+use pytoken::{Refusal, Terminal, TerminalFault, push_terminals};
 use pytree_node::Extent;
-use std::alloc::{AllocError, Global};
+use std::alloc::Global;
 
-/// What a token is to the grammar in the whole language.
-fn terminal_at<'a>(alloc: Global, token: Token<'a>) -> Result<Terminal<'a>, ParseFault>
-    ensures terminal { IfOk result
-        (λ made. map terminal (made ∷ []) ≡ terminals (token.entry ∷ [])) }
+/// Appends what a token is to the grammar in the whole language.
+fn push_token<'a>(
+    alloc: Global,
+    token: Token<'a>,
+    made: &mut Vec<Terminal<'a>>,
+) -> Result<(), ParseFault>
+    ensures terminals { OnOk result
+        (map terminal made.new.items ≡ map terminal made.old.items ++ token_terminals token.entry) }
     ensures sound { OnOk result (token_refusal token.entry ≡ None) }
     ensures refused { IfErr result (Tells (token_refusal token.entry)) }
 {
-    match terminal_of(alloc, Extent::Whole, token.kind, token.text) {
-        Ok(terminal) => Ok(terminal),
+    match push_terminals(alloc, Extent::Whole, token.kind, token.text, made) {
+        Ok(()) => Ok(()),
         Err(TerminalFault::Token(error)) => {
             Err(ParseFault::Refused(Refusal::Token(error, token.start)))
         }
         Err(TerminalFault::Memory) => Err(ParseFault::Memory),
     }
-}
-
-/// Appends a terminal.
-fn put<'a>(made: &mut Vec<Terminal<'a>>, terminal: Terminal<'a>) -> Result<(), AllocError>
-    ensures { OnOk result (made.new.items ≡ made.old.items ++ terminal.entry ∷ []) }
-{
-    made.push(terminal)?;
-    Ok(())
 }
 
 /// What tokens are to the grammar in the whole language.
@@ -46,8 +43,7 @@ pub(crate) fn terminals_of<'a>(
 {
     let mut made = Vec::with_capacity(alloc, tokens.len())?;
     for token in tokens {
-        let terminal = terminal_at(alloc, *token)?;
-        put(&mut made, terminal)?;
+        push_token(alloc, *token, &mut made)?;
     }
     Ok(made)
 }

@@ -1,5 +1,7 @@
 //! Statements that are still open.
 
+ghost use Rattle.std.specs.Prelude.{◌≡◌};
+
 use pygrammar::LoopHead;
 use pytree_node::{Case, Expr, Handler, Stmt};
 
@@ -57,4 +59,15 @@ pub(crate) enum Group {
 pub(crate) struct Part {
     pub(crate) done: Vec<Stmt>,
     pub(crate) group: Group,
+}
+
+/// Opens a group of a level in place of the one that it had.
+///
+/// That one is dropped here, by a call, and not where the new one is made: of an enum with many
+/// classes that is long to prove.
+pub(crate) fn open_group(part: &mut Part, group: Group)
+    ensures done { part.new.done ≡ part.old.done }
+    ensures group { part.new.group ≡ group }
+{
+    part.group = group;
 }

@@ -10,7 +10,7 @@ ghost use Rattle.pygrammar.specs.FormOf.{def_head_of, header_of};
 ghost use Rattle.pyparse_block.specs.Values.{arm_of, group_of};
 
 use crate::closing::put;
-use crate::groups::{Arm, Group, Part};
+use crate::groups::{Arm, Group, Part, open_group};
 use crate::room::append;
 use crate::statements::{
     choice_statement, definition_statement, handler, loop_statement, match_case, match_statement,
@@ -62,7 +62,7 @@ fn grow_elif(part: &mut Part, arm: Arm) -> Result<(), AllocError>
     let group = mem::replace(&mut part.group, Group::Idle);
     if let Group::Choice { first, elifs } = group {
         let elifs = with_arm(elifs, arm)?;
-        part.group = Group::Choice { first, elifs };
+        open_group(part, Group::Choice { first, elifs });
     }
     Ok(())
 }
@@ -90,12 +90,15 @@ fn grow_else(alloc: Global, part: &mut Part, body: Vec<Stmt>) -> Result<(), Allo
             body: first,
             handlers,
         } => {
-            part.group = Group::Settled {
-                star,
-                body: first,
-                handlers,
-                orelse: body,
-            };
+            open_group(
+                part,
+                Group::Settled {
+                    star,
+                    body: first,
+                    handlers,
+                    orelse: body,
+                },
+            );
         }
         _ => {}
     }
@@ -122,11 +125,14 @@ fn grow_except(
     match group {
         Group::Trial { body: first } => {
             let handlers = with_handler(Vec::new(alloc), handler(class, name, body))?;
-            part.group = Group::Caught {
-                star,
-                body: first,
-                handlers,
-            };
+            open_group(
+                part,
+                Group::Caught {
+                    star,
+                    body: first,
+                    handlers,
+                },
+            );
         }
         Group::Caught {
             star: first_star,
@@ -134,11 +140,14 @@ fn grow_except(
             handlers,
         } => {
             let handlers = with_handler(handlers, handler(class, name, body))?;
-            part.group = Group::Caught {
-                star: first_star,
-                body: first,
-                handlers,
-            };
+            open_group(
+                part,
+                Group::Caught {
+                    star: first_star,
+                    body: first,
+                    handlers,
+                },
+            );
         }
         _ => {}
     }
@@ -220,7 +229,7 @@ fn grow_case(
     let group = mem::replace(&mut part.group, Group::Idle);
     if let Group::Matching { cases } = group {
         let cases = with_case(cases, match_case(pattern, guard, body))?;
-        part.group = Group::Matching { cases };
+        open_group(part, Group::Matching { cases });
     }
     Ok(())
 }
@@ -242,24 +251,27 @@ pub(crate) fn grow(
 {
     match header {
         Header::If { test } => {
-            part.group = Group::Choice {
-                first: Arm { test, body },
-                elifs: Vec::new(alloc),
-            };
+            open_group(
+                part,
+                Group::Choice {
+                    first: Arm { test, body },
+                    elifs: Vec::new(alloc),
+                },
+            );
             Ok(())
         }
         Header::Elif { test } => grow_elif(part, Arm { test, body }),
         Header::Else => grow_else(alloc, part, body),
         Header::Loop { head } => {
-            part.group = Group::Loop { head, body };
+            open_group(part, Group::Loop { head, body });
             Ok(())
         }
         Header::With { is_async, items } => {
-            part.group = Group::Idle;
+            open_group(part, Group::Idle);
             put(&mut part.done, with_statement(is_async, items, body))
         }
         Header::Try => {
-            part.group = Group::Trial { body };
+            open_group(part, Group::Trial { body });
             Ok(())
         }
         Header::Except { star, class, name } => grow_except(alloc, part, star, class, name, body),
@@ -268,7 +280,7 @@ pub(crate) fn grow(
         // With an inline suite alone, which no line of terminals has after this header.
         Header::Match { subject } => {
             drop((subject, body));
-            part.group = Group::Idle;
+            open_group(part, Group::Idle);
             Ok(())
         }
         Header::Case { pattern, guard } => grow_case(part, pattern, guard, body),
@@ -285,7 +297,7 @@ pub(crate) fn grow_match(
         ≡ map stmt_of part.old.done.items ++ matched (header_of header) (map case_of cases.items)) }
     ensures group { OnOk result (group_of part.new.group ≡ Idle) }
 {
-    part.group = Group::Idle;
+    open_group(part, Group::Idle);
     match header {
         Header::Match { subject } => put(&mut part.done, match_statement(subject, cases)),
         // No other header has cases for its block.

@@ -9,7 +9,7 @@ ghost use Rattle.pyparse_block.specs.Inner.Meeting.{begins, continues, is_matchi
 ghost use Rattle.pyparse_block.specs.Values.{group_of, part_of};
 
 use crate::closing::{close, end_group};
-use crate::groups::{Group, Part};
+use crate::groups::{Group, Part, open_group};
 use crate::outline::{BlockFault, BlockStop};
 use crate::room::append;
 use pygrammar::Header;
@@ -105,12 +105,12 @@ pub(crate) fn mark(alloc: Global, part: &mut Part, value: Box<Expr>) -> Result<(
     match group {
         Group::Marked { decorators } => {
             let decorators = with_expr(decorators, value)?;
-            part.group = Group::Marked { decorators };
+            open_group(part, Group::Marked { decorators });
         }
         group => {
             end_group(alloc, &mut part.done, group)?;
             let decorators = with_expr(Vec::new(alloc), value)?;
-            part.group = Group::Marked { decorators };
+            open_group(part, Group::Marked { decorators });
         }
     }
     Ok(())

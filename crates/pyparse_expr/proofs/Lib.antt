@@ -5,3 +5,4 @@ mod Lists
 mod Calls
 mod FormalParameters
 mod ForClauses
+mod Formatted

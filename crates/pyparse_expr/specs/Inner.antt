@@ -7,3 +7,4 @@ pub mod Pairs
 pub mod Places
 pub mod Readings
 pub mod Signatures
+pub mod Strings

@@ -20,11 +20,12 @@ use crate::comprehensions::comps;
 use crate::depth::Depth;
 use crate::levels::{read_elem, yield_step};
 use crate::listings::{Item, others};
+use crate::strings::{formatted_atom, string_atom};
 use pygrammar::Level;
 use pylex::Exact;
 use pyparse_nodes::{
     Read, Stop, is_op, is_word, lead_at, make_constant, make_generator, make_list, make_list_comp,
-    make_name, make_number, make_tuple, make_whole, starts_comp, string_run, terminal_at,
+    make_name, make_number, make_tuple, make_whole, starts_comp, terminal_at,
 };
 use pytoken::{Keyword, Terminal};
 use pytree_node::{Constant, Context};
@@ -94,7 +95,8 @@ fn other_atom(
         Terminal::Ident(name) => make_name(alloc, name, Context::Load, next),
         Terminal::Whole(value) => make_whole(alloc, value, next),
         Terminal::Number(number) => make_number(alloc, number, next),
-        Terminal::Literal(value) => string_run(alloc, tokens, value, next),
+        Terminal::Literal(first) => string_atom(alloc, tokens, first, next, depth),
+        Terminal::FormattedBegin => formatted_atom(alloc, tokens, next, depth),
         Terminal::Op(sign) => match sign {
             Exact::LPar => round(alloc, tokens, next, depth),
             Exact::LSqb => square(alloc, tokens, next, depth),
@@ -108,6 +110,11 @@ fn other_atom(
             Keyword::False => make_constant(alloc, Constant::Bool(false), next),
             _ => Err(Stop::NoForm),
         },
+        Terminal::FormattedEnd => Err(Stop::NoForm),
+        Terminal::FormattedText(_) => Err(Stop::NoForm),
+        Terminal::FieldBegin(_) => Err(Stop::NoForm),
+        Terminal::SpecBegin => Err(Stop::NoForm),
+        Terminal::FieldEnd => Err(Stop::NoForm),
         Terminal::Layout => Err(Stop::NoForm),
     }
 }

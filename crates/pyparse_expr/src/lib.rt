@@ -15,6 +15,7 @@ mod parts;
 mod primaries;
 mod signatures;
 mod slices;
+mod strings;
 
 pub use depth::Depth;
 pub use expressions::{MOST_HEIGHT, read_at, read_whole};

@@ -23,7 +23,8 @@ use std::alloc::Global;
 /// # Errors
 ///
 /// [`Stop::NoForm`]: they are none. [`Stop::TooDeep`]: they are none of this height; where they are
-/// none at all, there are more of them than [`MOST_HEIGHT`]. [`Stop::Memory`].
+/// none at all, those that count, of an f-string its ends and the tokens of its fields, are more
+/// than [`MOST_HEIGHT`]. [`Stop::Memory`].
 #[tactic(auto, using(crate::proofs::Wholes::line_failed, crate::proofs::Wholes::line_more, crate::proofs::Wholes::line_high, crate::proofs::Wholes::line_found, pygrammar::proofs::Callers::Lines::lines_are_lawful))]
 pub fn read_line(
     alloc: Global,

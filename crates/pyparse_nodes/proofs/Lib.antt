@@ -2,3 +2,4 @@ pub mod Callers
 mod Places
 mod FormalParameters
 mod Stores
+mod JoinedTexts

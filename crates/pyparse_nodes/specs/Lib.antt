@@ -3,6 +3,8 @@ pub mod Views
 pub mod Answers
 pub mod Alone
 pub mod Operators
+pub mod Marks
 pub mod Runs
 pub mod Formals
 pub mod FormalStates
+pub mod JoinedStates

@@ -1,6 +1,5 @@
 -- What stands at a place of a list of terminals.
 use Rattle.std.specs.Prelude.{◌≡◌, ◌+◌, ◌<◌, ℕ, List, [], ◌∷◌, Option, Some, None, map, drop, length}
-use Rattle.pytree_node.specs.Values.{Value}
 use Rattle.pytoken.specs.Terminals as tokens
 use Rattle.pygrammar.specs.Precedence.{lead}
 use Rattle.pylex_lexeme.specs.declared.kinds.Exact.{Exact}
@@ -19,11 +18,6 @@ first_of (t ∷ ts) = Some t
 -- what a test says of the first terminal
 abbrev pub first_is : {A : Type 0} → (tokens.Terminal → Option A) → List tokens.Terminal → Option A
 first_is f r = on_some (first_of r) f None
-
--- the literal that a terminal is
-abbrev pub literal_in : tokens.Terminal → Option Value
-literal_in (tokens.Literal v) = Some v
-literal_in _ = None
 
 -- a terminal stands at a place
 pub record Stands (t : tokens.Terminal) (ts : List Terminal) (at : ℕ) : Type 0 where

@@ -6,7 +6,7 @@ ghost use Rattle.pytree_node.specs.Trees.{comprehensions, optional, optionals};
 ghost use Rattle.pytree_height.specs.Heights as Heights;
 
 use crate::stop::Stop;
-use pytree_node::{Comprehension, Expr};
+use pytree_node::{Comprehension, Expr, Points};
 use std::alloc::Global;
 
 /// An expression, its height, and the place after it.
@@ -79,4 +79,15 @@ pub struct Optional {
     pub height: usize,
     pub next: usize,
     pub ghost is_height: { height ≡ Heights.optional_height (optional (boxed_of expr)) },
+}
+
+/// The values of a JoinedStr so far: those up to its last field, and the text after it, which may
+/// be empty. The height of the highest, and the place after all.
+#[derive(Drop)]
+pub struct JoinedValues {
+    pub values: Vec<Expr>,
+    pub text: Points,
+    pub height: usize,
+    pub next: usize,
+    pub ghost is_height: { height ≡ Heights.list_height (map tree_of values.items) },
 }

@@ -1,11 +1,14 @@
 //! Neighbouring literals.
 
-ghost use Rattle.std.specs.Prelude.{◌≡◌, ◌++◌, ◌≤◌, MatchResult, length};
+ghost use Rattle.std.specs.Prelude.{◌≡◌, ◌++◌, ◌≤◌, MatchResult, Some, length};
+ghost use Rattle.pytree_node.specs.Trees as plain;
 ghost use Rattle.pytree_node.specs.Values as values;
 ghost use Rattle.pytoken.specs.StringValues.{string_value};
 ghost use Rattle.pytoken.specs.TerminalOf.{literal_characters};
-ghost use Rattle.pyparse_nodes.specs.Answers.{Answered};
-ghost use Rattle.pyparse_nodes.specs.Runs.{Joins, Parts, run};
+ghost use Rattle.pytoken.specs.Values.{literal_value};
+ghost use Rattle.pyparse_nodes.specs.Answers.{Made, PartAnswered};
+ghost use Rattle.pygrammar.specs.FormattedStrings.{text_of};
+ghost use Rattle.pyparse_nodes.specs.Runs.{IsNoText, Joins, Parts, run};
 ghost use Rattle.pyparse_nodes.specs.Views.{seen};
 
 use crate::found::Read;
@@ -16,8 +19,15 @@ use pytoken::{Literal, LiteralText, Terminal};
 use pytree_node::{Constant, Points};
 use std::alloc::{AllocError, Global};
 
+/// What neighbouring literals stand for, and the place after them.
+#[derive(Drop)]
+pub struct LiteralRun {
+    pub value: Literal,
+    pub next: usize,
+}
+
 /// Appends the code points of a text.
-fn add_points(to: &mut Points, points: &Points) -> Result<(), AllocError>
+pub(crate) fn add_points(to: &mut Points, points: &Points) -> Result<(), AllocError>
     ensures { MatchResult result (λ _. to.new ≡ to.old ++ points.now) (λ _. Unit {0}) }
 {
     for point in points.as_slice() {
@@ -75,10 +85,11 @@ pub fn string_run(
     tokens: &[Terminal],
     first: LiteralText,
     at: usize,
-) -> Result<Read, Stop>
+) -> Result<LiteralRun, Stop>
     requires { at ≤ length tokens.now }
-    ensures { Answered tokens.now 1 at
-        (run (string_value (literal_characters first.entry)) (seen tokens.now at)) result }
+    ensures { PartAnswered tokens.now at
+        (run (string_value (literal_characters first.entry)) (seen tokens.now at))
+        (λ r. literal_value r.value) (λ r. r.next) result }
 {
     match first.value(alloc)? {
         Literal::Text { points, unicode } => text_run(alloc, tokens, unicode, points, at),
@@ -93,10 +104,10 @@ fn text_run(
     unicode: bool,
     first: Points,
     at: usize,
-) -> Result<Read, Stop>
+) -> Result<LiteralRun, Stop>
     requires { at ≤ length tokens.now }
-    ensures { Answered tokens.now 1 at
-        (run (values.Str first unicode) (seen tokens.now at)) result }
+    ensures { PartAnswered tokens.now at (run (values.Str first unicode) (seen tokens.now at))
+        (λ r. literal_value r.value) (λ r. r.next) result }
 {
     let mut points = first;
     let mut next = at;
@@ -104,15 +115,23 @@ fn text_run(
         points = add_text(alloc, points, unicode, more)?;
         next += 1;
     }
-    make_constant(alloc, Constant::Str { points, unicode }, next)
+    Ok(LiteralRun {
+        value: Literal::Text { points, unicode },
+        next,
+    })
 }
 
 /// Bytes after a first one.
 #[inline(never)]
-fn bytes_run(alloc: Global, tokens: &[Terminal], first: Vec<u8>, at: usize) -> Result<Read, Stop>
+fn bytes_run(
+    alloc: Global,
+    tokens: &[Terminal],
+    first: Vec<u8>,
+    at: usize,
+) -> Result<LiteralRun, Stop>
     requires { at ≤ length tokens.now }
-    ensures { Answered tokens.now 1 at
-        (run (values.Bytes first.items) (seen tokens.now at)) result }
+    ensures { PartAnswered tokens.now at (run (values.Bytes first.items) (seen tokens.now at))
+        (λ r. literal_value r.value) (λ r. r.next) result }
 {
     let mut bytes = first;
     let mut next = at;
@@ -120,5 +139,33 @@ fn bytes_run(alloc: Global, tokens: &[Terminal], first: Vec<u8>, at: usize) -> R
         bytes = add_bytes(alloc, bytes, more)?;
         next += 1;
     }
-    make_constant(alloc, Constant::Bytes(bytes), next)
+    Ok(LiteralRun {
+        value: Literal::Bytes(bytes),
+        next,
+    })
+}
+
+/// The constant of neighbouring literals.
+pub fn make_literal(alloc: Global, value: Literal, next: usize) -> Result<Read, Stop>
+    ensures { MatchResult result (λ r. Made 1 (plain.Constant (literal_value value)) next r)
+        (λ s. s ≡ Stop.Memory) }
+{
+    match value {
+        Literal::Text { points, unicode } => {
+            make_constant(alloc, Constant::Str { points, unicode }, next)
+        }
+        Literal::Bytes(bytes) => make_constant(alloc, Constant::Bytes(bytes), next),
+    }
+}
+
+/// The text of a literal, if it stands for one.
+pub fn literal_text(alloc: Global, literal: LiteralText) -> Result<Points, Stop>
+    ensures { MatchResult result
+        (λ points. text_of (string_value (literal_characters literal.entry)) ≡ Some points)
+        (λ s. IsNoText (string_value (literal_characters literal.entry)) s) }
+{
+    match literal.value(alloc)? {
+        Literal::Text { points, unicode: _ } => Ok(points),
+        Literal::Bytes(_) => Err(Stop::NoForm),
+    }
 }

@@ -11,7 +11,7 @@ ghost use Rattle.pytoken.specs.Terminals as plain;
 ghost use Rattle.pyparse_nodes.specs.Views.{IsNamed, IsNotNamed, Stands, first_is, first_of, lead_of};
 ghost use Rattle.pyparse_nodes.specs.Views.{seen};
 ghost use Rattle.pyparse_nodes.specs.Alone.{alone, atom_with, end_with, ends};
-ghost use Rattle.pyparse_nodes.specs.Views.{literal_in};
+ghost use Rattle.pygrammar.specs.Looks.{literal_in};
 ghost use Rattle.pytoken.specs.TerminalOf.{literal_characters, terminal};
 
 use pygrammar::Level;
@@ -123,7 +123,7 @@ fn literal_of<'a>(t: Terminal<'a>) -> Option<LiteralText<'a>>
 }
 
 /// The literal at the place.
-pub(crate) fn literal_at<'a>(tokens: &[Terminal<'a>], at: usize) -> Option<LiteralText<'a>>
+pub fn literal_at<'a>(tokens: &[Terminal<'a>], at: usize) -> Option<LiteralText<'a>>
     ensures is { option_map (λ l. string_value (literal_characters l)) result
         ≡ first_is literal_in (seen tokens.now at) }
     ensures within { IfSome result (λ _. at < length tokens.now) }
@@ -165,7 +165,8 @@ fn lead(t: Terminal) -> u8
         Terminal::Whole(_) => Level::Atom.rank(),
         Terminal::Number(_) => Level::Atom.rank(),
         Terminal::Literal(_) => Level::Atom.rank(),
-        Terminal::Layout => 0,
+        Terminal::FormattedBegin => Level::Atom.rank(),
+        _ => 0,
     }
 }
 

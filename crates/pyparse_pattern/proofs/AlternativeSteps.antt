@@ -20,11 +20,11 @@ use Rattle.pyparse_pattern.specs.declared.found.Patterns.{Patterns}
 use Rattle.pyparse_pattern.specs.declared.found.ReadPattern.{ReadPattern}
 use Rattle.pyparse_pattern.specs.Answers.{PatternAt}
 use Rattle.pyparse_pattern.specs.Inner.Found.{AlternativesAt}
-use Rattle.pyparse_pattern.specs.Inner.Readings.{alternatives_of, inner_reads}
+use Rattle.pyparse_pattern.specs.Inner.Readings.{alternatives_of, field_reads, inner_reads}
 
 module _ (ts : List given.Terminal) (d : Depth) (p : Pattern) where
   abbrev loop : ℕ → List Pattern → List Terminal → Answer (List Pattern)
-  loop m acc r = reader.alternatives_loop (d.room - 1) (inner_reads d) m acc r
+  loop m acc r = reader.alternatives_loop (d.room - 1) (field_reads d) (inner_reads d) m acc r
 
   -- how far the loop has come
   pub record Alternatives (x : Answer (List Pattern)) (s : Patterns) : Type 0 where

@@ -30,7 +30,7 @@ use Rattle.pyparse_pattern.specs.declared.found.ReadPattern.{ReadPattern}
 use Rattle.pyparse_pattern.specs.Answers.{PatternAnswered, PatternAt, reads}
 use Rattle.pyparse_pattern.specs.Inner.Found.{IsQualified}
 use Rattle.pyparse_pattern.specs.Inner.Made.{MadePattern, MakesPattern}
-use Rattle.pyparse_pattern.specs.Inner.Readings.{inner_reads, level_reads, name_reads, qualified, same_reads}
+use Rattle.pyparse_pattern.specs.Inner.Readings.{field_reads, inner_reads, level_reads, name_reads, qualified, same_reads}
 use Rattle.pyparse_pattern.proofs.LevelSteps.{cap_low, leaf, node}
 use Rattle.pyparse_pattern.proofs.Points.{after_point}
 
@@ -48,15 +48,15 @@ closed_here ts d at least t z h a = rw (front ts at t h) a
 
 pub closed_word : (ts : List given.Terminal) (d : Depth) (at : ℕ) (w : Keyword) (v : Value) (z : Result ReadPattern Stop) → IsOpen d → at < length ts → first_of (seen ts at) ≡ Some (Word w) → singleton_word (Word w) ≡ Some v → MatchResult z (λ r. MadePattern 1 (MatchSingleton v) (at + 1) r) (λ s. s ≡ stop.Memory) → PatternAnswered ts d.room (at + 1) (level_reads d level.ClosedPattern (seen ts at)) z
 closed_word ts d at w v z o l h e m =
-    let g : level_reads d level.ClosedPattern (Word w ∷ seen ts (at + 1)) ≡ Found (MatchSingleton v) (seen ts (at + 1)) = ap (λ c. cap_pattern d.room (on_some c (λ u. Found (MatchSingleton u) (seen ts (at + 1))) (reader.literal_pattern (d.room - 1) (inner_reads d) (Word w ∷ seen ts (at + 1))))) e ∙ cap_low d.room (MatchSingleton v) (seen ts (at + 1)) (omega (arith, o.room)) in
+    let g : level_reads d level.ClosedPattern (Word w ∷ seen ts (at + 1)) ≡ Found (MatchSingleton v) (seen ts (at + 1)) = ap (λ c. cap_pattern d.room (on_some c (λ u. Found (MatchSingleton u) (seen ts (at + 1))) (reader.literal_pattern (d.room - 1) (field_reads d) (inner_reads d) (Word w ∷ seen ts (at + 1))))) e ∙ cap_low d.room (MatchSingleton v) (seen ts (at + 1)) (omega (arith, o.room)) in
     closed_here ts d at (at + 1) (Word w) z h (rw g (leaf ts d.room (at + 1) (MatchSingleton v) (at + 1) (omega arith) (omega (arith, l)) z o.room m))
 
 -- ---- A name that is a value.
 
 module _ (ts : List given.Terminal) (d : Depth) (at : ℕ) (x : Identifier) where
   -- no bracket behind its points
-  pointed : (e : Read) → Stands (Op Dot) ts at → FoundAt ts (d.room - 1 + 1) at (dotted_from (d.room - 1) x (seen ts at)) e → None ≡ first_is (is_op LPar) (seen ts e.next) → and_then (dotted_from (d.room - 1) x (seen ts at)) (reader.dotted_pattern (d.room - 1) (inner_reads d)) ≡ Found (MatchValue (tree_of e.expr.value)) (seen ts e.next)
-  pointed e s f n = after_point (d.room - 1) (reader.dotted_pattern (d.room - 1) (inner_reads d)) (qualified d) (λ g y r. refl) ts at x s ∙ ap (λ y. and_then y (qualified d)) f.is ∙ first_miss (is_op LPar) (seen ts e.next) _ (Found (MatchValue (tree_of e.expr.value)) (seen ts e.next)) n
+  pointed : (e : Read) → Stands (Op Dot) ts at → FoundAt ts (d.room - 1 + 1) at (dotted_from (d.room - 1) x (seen ts at)) e → None ≡ first_is (is_op LPar) (seen ts e.next) → and_then (dotted_from (d.room - 1) x (seen ts at)) (reader.dotted_pattern (d.room - 1) (field_reads d) (inner_reads d)) ≡ Found (MatchValue (tree_of e.expr.value)) (seen ts e.next)
+  pointed e s f n = after_point (d.room - 1) (reader.dotted_pattern (d.room - 1) (field_reads d) (inner_reads d)) (qualified d) (λ g y r. refl) ts at x s ∙ ap (λ y. and_then y (qualified d)) f.is ∙ first_miss (is_op LPar) (seen ts e.next) _ (Found (MatchValue (tree_of e.expr.value)) (seen ts e.next)) n
 
   -- with a bracket behind the name there are none
   no_bracket : (e : Read) → Stands (Op LPar) ts at → FoundAt ts (d.room - 1 + 1) at (dotted_from (d.room - 1) x (seen ts at)) e → None ≡ first_is (is_op LPar) (seen ts e.next) → ⊥
@@ -78,5 +78,5 @@ module _ (ts : List given.Terminal) (d : Depth) (at : ℕ) (x : Identifier) wher
   pub name_value : (e : Read) (z : Result ReadPattern Stop) → is_wildcard x ≡ false → IsQualified ts at → FoundAt ts (d.room - 1 + 1) at (dotted_from (d.room - 1) x (seen ts at)) e → None ≡ first_is (is_op LPar) (seen ts e.next) → MakesPattern d.room (MatchValue (tree_of e.expr.value)) e.next z → PatternAnswered ts d.room at (cap_pattern d.room (name_reads d x (seen ts at))) z
   name_value e z w (inr s) f n m = absurd (no_bracket e s f n)
   name_value e z w (inl s) f n m =
-      let g : name_reads d x (seen ts at) ≡ Found (MatchValue (tree_of e.expr.value)) (seen ts e.next) = ap (λ b. cond b (Found (Trees.MatchAs Trees.absent_pattern None) (seen ts at)) (and_then (dotted_from (d.room - 1) x (seen ts at)) (reader.dotted_pattern (d.room - 1) (inner_reads d)))) w ∙ pointed e s f n in
+      let g : name_reads d x (seen ts at) ≡ Found (MatchValue (tree_of e.expr.value)) (seen ts e.next) = ap (λ b. cond b (Found (Trees.MatchAs Trees.absent_pattern None) (seen ts at)) (and_then (dotted_from (d.room - 1) x (seen ts at)) (reader.dotted_pattern (d.room - 1) (field_reads d) (inner_reads d)))) w ∙ pointed e s f n in
       rw g (node ts d.room at (MatchValue (tree_of e.expr.value)) e.next f.ahead f.within z m)

@@ -10,10 +10,10 @@ use Rattle.pygrammar.specs.Looks.{is_op}
 use Rattle.pygrammar.specs.PatternEntries.{PatternEntry, Element, Alone, Keyed, Rest, Named}
 use Rattle.pygrammar.specs.PatternReader as reader
 use Rattle.pygrammar.specs.PatternReader.{PatternReads, starts_entry}
-use Rattle.pygrammar.specs.Reader.{Answer, Found, NoForm, TooDeep, and_then, on_first, on_some}
+use Rattle.pygrammar.specs.Reader.{Answer, Found, NoForm, TooDeep, Reads, and_then, on_first, on_some}
 use Rattle.pyparse_expr.specs.declared.depth.Depth.{Depth}
 use Rattle.pyparse_pattern.specs.Inner.Entries.{are_alone}
-use Rattle.pyparse_pattern.specs.Inner.Readings.{entries_of, inner_reads}
+use Rattle.pyparse_pattern.specs.Inner.Readings.{entries_of, field_reads, inner_reads}
 
 one_more : (es : List PatternEntry) (p : Pattern) → are_alone es ≡ true → are_alone (es ++ (Alone p ∷ [])) ≡ true
 one_more [] p h = refl
@@ -22,9 +22,9 @@ one_more (Keyed k q ∷ es) p h = absurd (cc)
 one_more (Rest x ∷ es) p h = absurd (cc)
 one_more (Named x q ∷ es) p h = absurd (cc)
 
-module _ (n : ℕ) (inner : PatternReads) (es : List PatternEntry) (r : List Terminal) where
+module _ (n : ℕ) (self : Reads) (inner : PatternReads) (es : List PatternEntry) (r : List Terminal) where
   abbrev loop : ℕ → List PatternEntry → List Terminal → Answer (List PatternEntry)
-  loop m acc i = reader.entries_loop n inner Element m acc i
+  loop m acc i = reader.entries_loop n self inner Element m acc i
 
   -- the list that is found has patterns alone
   abbrev Good : Answer (List PatternEntry) → Type 0
@@ -57,4 +57,4 @@ module _ (n : ℕ) (inner : PatternReads) (es : List PatternEntry) (r : List Ter
       by_start more false = ends acc i h
 
 pub elements_alone : (d : Depth) (i : List Terminal) (es : List PatternEntry) (r : List Terminal) → entries_of d Element i ≡ Found es r → are_alone es ≡ true
-elements_alone d i es r q = loop_alone (d.room - 1) (inner_reads d) es r (length i) [] i refl q
+elements_alone d i es r q = loop_alone (d.room - 1) (field_reads d) (inner_reads d) es r (length i) [] i refl q

@@ -19,7 +19,7 @@ use Rattle.pyparse_pattern.specs.declared.entries.Entries.{Entries}
 use Rattle.pyparse_pattern.specs.declared.entries.ReadEntry.{ReadEntry}
 use Rattle.pyparse_pattern.specs.Inner.Entries.{entry_of}
 use Rattle.pyparse_pattern.specs.Inner.Found.{EntriesAt, EntryAt}
-use Rattle.pyparse_pattern.specs.Inner.Readings.{entries_of, entry_reads, inner_reads}
+use Rattle.pyparse_pattern.specs.Inner.Readings.{entries_of, entry_reads, field_reads, inner_reads}
 
 some_left : (i : PatternItem) (r : List Terminal) → starts_entry i r ≡ true → 0 < length r
 some_left i [] h = absurd (cc)
@@ -27,7 +27,7 @@ some_left i (t ∷ r) h = omega arith
 
 module _ (ts : List given.Terminal) (d : Depth) (i : PatternItem) where
   abbrev loop : ℕ → List PatternEntry → List Terminal → Answer (List PatternEntry)
-  loop m acc r = reader.entries_loop (d.room - 1) (inner_reads d) i m acc r
+  loop m acc r = reader.entries_loop (d.room - 1) (field_reads d) (inner_reads d) i m acc r
 
   -- behind an entry
   abbrev turned : ℕ → List PatternEntry → List Terminal → Answer (List PatternEntry)

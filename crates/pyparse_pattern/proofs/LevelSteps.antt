@@ -12,6 +12,7 @@ use Rattle.pytoken.specs.Terminals.{Terminal, Word}
 use Rattle.pytoken.specs.declared.values.terminals.Terminal as given
 use Rattle.pygrammar.specs.declared.pattern_levels.PatternLevel.{PatternLevel}
 use Rattle.pygrammar.specs.declared.pattern_levels.PatternLevel.TheVariants as level
+use Rattle.pygrammar.specs.Capped.{capped}
 use Rattle.pygrammar.specs.Looks.{name_in}
 use Rattle.pygrammar.specs.PatternEntries.{Rest, as_named}
 use Rattle.pygrammar.specs.PatternOperators.{captured, is_wildcard}
@@ -29,19 +30,19 @@ use Rattle.pyparse_pattern.specs.Inner.Made.{MadePattern, MakesPattern}
 use Rattle.pyparse_pattern.specs.Inner.Readings.{as_from, level_at, level_reads, rest_reads, star_name}
 
 -- where there are steps and room
-opened : (g n : ℕ) (l : PatternLevel) (i : List Terminal) → capped_pattern (suc g) (suc n) l i ≡ level_at (suc n) n (capped_pattern g n) (capped_pattern g (suc n)) l i
+opened : (g n : ℕ) (l : PatternLevel) (i : List Terminal) → capped_pattern (suc g) (suc n) l i ≡ level_at (suc n) n (capped g n) (capped_pattern g n) (capped_pattern g (suc n)) l i
 opened g n level.Patterns i = refl
 opened g n level.StarPattern i = refl
 opened g n level.AsPattern i = refl
 opened g n level.OrPattern i = refl
 opened g n level.ClosedPattern i = refl
 
-level_is : (s r : ℕ) (l : PatternLevel) (i : List Terminal) → 0 < s → 0 < r → capped_pattern s r l i ≡ level_at r (r - 1) (capped_pattern (s - 1) (r - 1)) (capped_pattern (s - 1) r) l i
+level_is : (s r : ℕ) (l : PatternLevel) (i : List Terminal) → 0 < s → 0 < r → capped_pattern s r l i ≡ level_at r (r - 1) (capped (s - 1) (r - 1)) (capped_pattern (s - 1) (r - 1)) (capped_pattern (s - 1) r) l i
 level_is zero r l i h w = absurd (omega arith)
 level_is (suc g) zero l i h w = absurd (omega arith)
 level_is (suc g) (suc n) l i h w = go (suc g - 1) (suc n - 1) (omega arith) (omega arith)
   where
-    go : (a b : ℕ) → a ≡ g → b ≡ n → capped_pattern (suc g) (suc n) l i ≡ level_at (suc n) b (capped_pattern a b) (capped_pattern a (suc n)) l i
+    go : (a b : ℕ) → a ≡ g → b ≡ n → capped_pattern (suc g) (suc n) l i ≡ level_at (suc n) b (capped a b) (capped_pattern a b) (capped_pattern a (suc n)) l i
     go a b p q = rw (p, q) (opened g n l i)
 
 -- one level

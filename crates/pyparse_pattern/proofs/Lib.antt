@@ -1,14 +1,16 @@
 mod AlternativeSteps
 mod Arranged
+mod Caps
 mod ClosedSteps
 mod ElementSteps
 mod EntrySteps
 mod Growing
 mod KeySteps
 mod LevelSteps
-mod Literals
+mod NumberSteps
 mod Points
 mod SequenceSteps
 mod Shapes
+mod StringSteps
 mod Wholes
 mod Wildcards

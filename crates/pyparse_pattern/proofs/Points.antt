@@ -2,7 +2,6 @@
 --
 -- Carries: dotted, dotted_key. On: PatternReader.
 use Rattle.std.proofs.Common.{◌≡◌, refl, sym, ap, ◌∙◌, arith, ℕ, zero, suc, ◌+◌, ◌≤◌, ◌<◌, List, [], ◌∷◌, length, Option, Some, None, Bool, true, false, cond, leb}
-use Rattle.std.proofs.lemmas.Bool.{le-leb, lt-leb}
 use Rattle.pylex_lexeme.specs.declared.kinds.Exact.TheVariants.{Dot}
 use Rattle.pytree_node.specs.declared.operators.Context.TheVariants.{Load}
 use Rattle.pytree_node.specs.Trees
@@ -20,6 +19,7 @@ use Rattle.pyparse_nodes.specs.declared.stop.Stop.TheVariants as stop
 use Rattle.pyparse_nodes.specs.Answers.{Failed, FoundAt, Made, Unmade}
 use Rattle.pyparse_nodes.specs.Views.{Stands, first_is, seen}
 use Rattle.pyparse_expr.proofs.Callers.Looks.{first_hit, first_miss, seen_length, seen_next}
+use Rattle.pyparse_pattern.proofs.Caps.{capped_high, capped_low}
 
 -- behind a point
 abbrev named_from : (room m : ℕ) → Expr → List Terminal → Answer Expr
@@ -72,12 +72,6 @@ module _ (ts : List given.Terminal) (room : ℕ) where
   attributed : (m n : ℕ) (e : Expr) (x : Identifier) → Some x ≡ first_is name_in (seen ts n) → named_from room m e (seen ts n) ≡ and_then (cap_value room (Found (Trees.Attribute e x Load) (seen ts (n + 1)))) (λ f r3. dotted_loop room m f r3)
   attributed m n e x h = first_hit name_in (seen ts n) x _ NoForm h ∙ ap (λ r. and_then (cap_value room (Found (Trees.Attribute e x Load) r)) (λ f r3. dotted_loop room m f r3)) (seen_next ts n)
 
-  capped_high : (e : Expr) (r : List Terminal) → room < height e → cap_value room (Found e r) ≡ TooDeep
-  capped_high e r h = ap (λ b. cond b (Found e r) TooDeep) (lt-leb (height e) room h)
-
-  capped_low : (e : Expr) (r : List Terminal) → height e ≤ room → cap_value room (Found e r) ≡ Found e r
-  capped_low e r h = ap (λ b. cond b (Found e r) TooDeep) (le-leb (height e) room h)
-
   next_point : (x : Answer Expr) (e : Read) (m : ℕ) (y : Identifier) → Stands (Op Dot) ts e.next → Some y ≡ first_is name_in (seen ts (e.next + 1)) → x ≡ dotted_loop room (suc m) (tree_of e.expr.value) (seen ts e.next) → x ≡ and_then (cap_value room (Found (Trees.Attribute (tree_of e.expr.value) y Load) (seen ts (e.next + 1 + 1)))) (λ f r3. dotted_loop room m f r3)
   next_point x e m y s n q = q ∙ turn m e.next (tree_of e.expr.value) s ∙ attributed m (e.next + 1) (tree_of e.expr.value) y n
 
@@ -87,7 +81,7 @@ module _ (ts : List given.Terminal) (room : ℕ) where
     where
       go : (m : ℕ) → length (seen ts e.next) ≤ m → x ≡ dotted_loop room m (tree_of e.expr.value) (seen ts e.next) → x ≡ TooDeep
       go zero le q = absurd (omega (arith, le, s.within, seen_length ts e.next))
-      go (suc m) le q = next_point x e m y s n q ∙ ap (λ z. and_then z (λ f r3. dotted_loop room m f r3)) (capped_high (Trees.Attribute (tree_of e.expr.value) y Load) (seen ts (e.next + 1 + 1)) u)
+      go (suc m) le q = next_point x e m y s n q ∙ ap (λ z. and_then z (λ f r3. dotted_loop room m f r3)) (capped_high room (Trees.Attribute (tree_of e.expr.value) y Load) (seen ts (e.next + 1 + 1)) u)
   points_high x e y stop.Memory c s n u = tt
 
   pub points_more : (x : Answer Expr) (e r : Read) (y : Identifier) → Points x e → Stands (Op Dot) ts e.next → Some y ≡ first_is name_in (seen ts (e.next + 1)) → e.next + 1 < length ts → Made room (Trees.Attribute (tree_of e.expr.value) y Load) (e.next + 1 + 1) r → Points x r
@@ -100,7 +94,7 @@ module _ (ts : List given.Terminal) (room : ℕ) where
         low = omega (arith, h.low);
         most = m;
         enough = omega (arith, le, h.next_is, w, seen_length ts e.next, seen_length ts r.next);
-        is = next_point x e m y s n q ∙ ap (λ z. and_then z (λ f r3. dotted_loop room m f r3)) (capped_low (Trees.Attribute (tree_of e.expr.value) y Load) (seen ts (e.next + 1 + 1)) (omega (arith, h.low, r.is_height, ap height h.tree))) ∙ ap (λ t. dotted_loop room m t (seen ts (e.next + 1 + 1))) (sym h.tree) ∙ ap (λ k. dotted_loop room m (tree_of r.expr.value) (seen ts k)) (sym h.next_is);
+        is = next_point x e m y s n q ∙ ap (λ z. and_then z (λ f r3. dotted_loop room m f r3)) (capped_low room (Trees.Attribute (tree_of e.expr.value) y Load) (seen ts (e.next + 1 + 1)) (omega (arith, h.low, r.is_height, ap height h.tree))) ∙ ap (λ t. dotted_loop room m t (seen ts (e.next + 1 + 1))) (sym h.tree) ∙ ap (λ k. dotted_loop room m (tree_of r.expr.value) (seen ts k)) (sym h.next_is);
       }
 
 -- ---- With a point behind the first name it is an attribute.

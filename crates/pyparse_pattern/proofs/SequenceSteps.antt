@@ -21,7 +21,7 @@ use Rattle.pyparse_pattern.specs.declared.found.ReadPattern.{ReadPattern}
 use Rattle.pyparse_pattern.specs.Answers.{PatternAnswered, PatternAt}
 use Rattle.pyparse_pattern.specs.Inner.Found.{ElementsAt}
 use Rattle.pyparse_pattern.specs.Inner.Made.{MakesPattern}
-use Rattle.pyparse_pattern.specs.Inner.Readings.{entries_of, inner_reads, level_reads, patterns_from, round_reads, same_reads, square_reads}
+use Rattle.pyparse_pattern.specs.Inner.Readings.{entries_of, field_reads, inner_reads, level_reads, patterns_from, round_reads, same_reads, square_reads}
 use Rattle.pyparse_pattern.specs.Inner.Entries.{alone_in}
 use Rattle.pyparse_pattern.proofs.Arranged.{alone_elements}
 use Rattle.pyparse_pattern.proofs.LevelSteps.{node}
@@ -37,7 +37,7 @@ whole p ps es h = ap patterns h ∙ ap (λ qs. a_pattern p qs) (alone_elements e
 
 module _ (ts : List given.Terminal) (d : Depth) (at : ℕ) where
   abbrev behind_first : Pattern → List Terminal → Answer Pattern
-  behind_first = patterns_from d.room (d.room - 1) (inner_reads d) (same_reads d) (seen ts at)
+  behind_first = patterns_from d.room (d.room - 1) (field_reads d) (inner_reads d) (same_reads d) (seen ts at)
 
   -- behind the first pattern of round brackets
   abbrev round_from : Pattern → List Terminal → Answer Pattern

@@ -21,10 +21,10 @@ use crate::entries::PatternItem;
 use crate::found::ReadPattern;
 use crate::keys::singleton;
 use crate::listings::read_entries;
+use crate::literals::read_literal;
 use crate::makers::{make_capture, make_singleton, make_value};
 use crate::mappings::finish_mapping;
 use crate::names::{captured, is_wildcard};
-use crate::numbers::read_literal;
 use crate::sequences::{round, square};
 use pygrammar::PatternLevel;
 use pylex::Exact;
@@ -55,22 +55,24 @@ pub(crate) fn read_closed(
         Some(Terminal::Op(Exact::LPar)) => round(alloc, tokens, at + 1, depth),
         Some(Terminal::Op(Exact::LSqb)) => square(alloc, tokens, at + 1, depth),
         Some(Terminal::Op(Exact::LBrace)) => mapping(alloc, tokens, at + 1, depth),
-        _ => literal_pattern(alloc, tokens, at, depth.room),
+        _ => literal_pattern(alloc, tokens, at, depth),
     }
 }
 
 /// A literal.
+#[tactic(auto, using(crate::proofs::StringSteps::value_failed, crate::proofs::StringSteps::value_read))]
 fn literal_pattern(
     alloc: Global,
     tokens: &[Terminal],
     at: usize,
-    room: usize,
+    depth: Depth,
 ) -> Result<ReadPattern, Stop>
-    ensures { PatternAnswered tokens.now room (at + 1)
-        (reader.cap_pattern room (literal_reads (seen tokens.now at))) result }
+    requires { IsOpen depth }
+    ensures { PatternAnswered tokens.now depth.room (at + 1)
+        (reader.cap_pattern depth.room (literal_reads depth (seen tokens.now at))) result }
 {
-    let e = read_literal(alloc, tokens, at)?;
-    make_value(alloc, e, room)
+    let e = read_literal(alloc, tokens, at, depth)?;
+    make_value(alloc, e, depth.room)
 }
 
 /// Whether a name ends at the place: no point and no bracket stands there.

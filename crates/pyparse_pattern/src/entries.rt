@@ -141,6 +141,12 @@ fn begins_pattern(t: Terminal) -> bool
         Terminal::Whole(_) => true,
         Terminal::Number(_) => true,
         Terminal::Literal(_) => true,
+        Terminal::FormattedBegin => true,
+        Terminal::FormattedEnd => false,
+        Terminal::FormattedText(_) => false,
+        Terminal::FieldBegin(_) => false,
+        Terminal::SpecBegin => false,
+        Terminal::FieldEnd => false,
         Terminal::Layout => false,
     }
 }

@@ -2,7 +2,7 @@
 //!
 //! Python language reference, 8.6.4.9 "Mapping Patterns".
 
-ghost use Rattle.std.specs.Prelude.{◌≡◌, ◌+◌, ◌≤◌, MatchResult, Some, length, max};
+ghost use Rattle.std.specs.Prelude.{◌≡◌, ◌+◌, ◌-◌, ◌≤◌, MatchResult, Some, length};
 ghost use Rattle.std.specs.Str.{chars};
 ghost use Rattle.unicode_normalization.specs.Forms.{nfkc};
 ghost use Rattle.pytree_node.specs.TreeOf.{constant_of};
@@ -12,11 +12,14 @@ ghost use Rattle.pygrammar.specs.PatternReader as reader;
 ghost use Rattle.pygrammar.specs.Reader.{and_then};
 ghost use Rattle.pyparse_nodes.specs.Answers.{Answered};
 ghost use Rattle.pyparse_nodes.specs.Views.{seen};
+ghost use Rattle.pyparse_expr.specs.Readings.{IsOpen};
+ghost use Rattle.pyparse_pattern.specs.Inner.Readings.{field_reads};
 ghost use Rattle.pyparse_pattern.specs.Inner.Values.{IsNoSingleton, keys};
 
 use crate::dotted::dotted;
-use crate::numbers::read_literal;
+use crate::literals::read_literal;
 use pylex::Exact;
+use pyparse_expr::Depth;
 use pyparse_nodes::{Read, Stop, is_op, make_constant, terminal_at};
 use pytoken::{Keyword, Terminal};
 use pytree_node::Constant;
@@ -55,32 +58,37 @@ fn dotted_key(
     dotted(alloc, tokens, first, at, room)
 }
 
-/// The key at a place, of any height.
-fn any_key(alloc: Global, tokens: &[Terminal], at: usize, room: usize) -> Result<Read, Stop>
-    ensures { Answered tokens.now (max 3 (room + 1)) (at + 1)
-        (keys room (seen tokens.now at)) result }
+/// The key at a place, one higher at most than it may be.
+fn any_key(alloc: Global, tokens: &[Terminal], at: usize, depth: Depth) -> Result<Read, Stop>
+    requires { IsOpen depth }
+    ensures { Answered tokens.now depth.room (at + 1)
+        (reader.cap_value depth.room (keys depth (seen tokens.now at))) result }
 {
     match terminal_at(tokens, at) {
-        Some(Terminal::Ident(first)) => dotted_key(alloc, tokens, first, at + 1, room),
+        Some(Terminal::Ident(first)) => {
+            dotted_key(alloc, tokens, first, at + 1, depth.inner().room)
+        }
         Some(Terminal::Word(word)) => {
             let value = singleton(word)?;
             make_constant(alloc, value, at + 1)
         }
-        _ => read_literal(alloc, tokens, at),
+        _ => read_literal(alloc, tokens, at, depth),
     }
 }
 
-/// The key at a place, up to a height.
+/// The key at a place, up to the height of the parts.
 pub(crate) fn read_key(
     alloc: Global,
     tokens: &[Terminal],
     at: usize,
-    room: usize,
+    depth: Depth,
 ) -> Result<Read, Stop>
-    ensures { Answered tokens.now room (at + 1) (reader.read_key room (seen tokens.now at)) result }
+    requires { IsOpen depth }
+    ensures { Answered tokens.now (depth.room - 1) (at + 1)
+        (reader.read_key (depth.room - 1) (field_reads depth) (seen tokens.now at)) result }
 {
-    let key = any_key(alloc, tokens, at, room)?;
-    if key.height > room {
+    let key = any_key(alloc, tokens, at, depth)?;
+    if key.height >= depth.room {
         return Err(Stop::TooDeep);
     }
     Ok(key)

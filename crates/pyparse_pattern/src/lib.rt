@@ -12,6 +12,7 @@ mod keys;
 mod levels;
 mod listings;
 mod lists;
+mod literals;
 mod makers;
 mod mappings;
 mod names;

@@ -86,12 +86,12 @@ fn key_entry(alloc: Global, tokens: &[Terminal], at: usize, depth: Depth) -> Res
     if is_op(tokens, at, Exact::DoubleStar) {
         return rest_entry(alloc, tokens, at + 1);
     }
-    let inner = depth.inner();
-    let key = read_key(alloc, tokens, at, inner.room)?;
+    let key = read_key(alloc, tokens, at, depth)?;
     if !is_op(tokens, key.next, Exact::Colon) {
         return Err(Stop::NoForm);
     }
-    let read = read_pattern(alloc, tokens, PatternLevel::AsPattern, key.next + 1, inner)?;
+    let level = PatternLevel::AsPattern;
+    let read = read_pattern(alloc, tokens, level, key.next + 1, depth.inner())?;
     Ok(ReadEntry {
         height: key.height.max(read.height),
         next: read.next,

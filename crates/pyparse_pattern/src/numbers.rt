@@ -1,4 +1,4 @@
-//! Numbers and literals in patterns.
+//! Numbers in patterns.
 //!
 //! Python language reference, 8.6.4.3 "Literal Patterns".
 
@@ -8,22 +8,19 @@ ghost use Rattle.pytoken.specs.Terminals as terminals;
 ghost use Rattle.pygrammar.specs.Operators as operators;
 ghost use Rattle.pygrammar.specs.PatternOperators as patterns;
 ghost use Rattle.pygrammar.specs.PatternReader as reader;
-ghost use Rattle.pygrammar.specs.Reader.{NoForm};
 ghost use Rattle.pyparse_nodes.specs.Answers.{Answered, Failed};
 ghost use Rattle.pyparse_nodes.specs.Views.{Stands, first_is, seen};
 ghost use Rattle.pyparse_pattern.specs.Inner.Values.{NoNumberAt, NumberAt, SignedAt, numbers, summed};
 
 use pygrammar::Level;
 use pylex::Exact;
-use pyparse_nodes::{
-    Read, Stop, is_op, make_binary, make_constant, make_unary, string_run, terminal_at,
-};
+use pyparse_nodes::{Read, Stop, is_op, make_binary, make_constant, make_unary, terminal_at};
 use pytoken::Terminal;
 use pytree_node::{Constant, Integer, Operator, UnaryOperator};
 use std::alloc::Global;
 
-/// How high a literal is at most: `-1 + 2j` is a sum of a negative number.
-const LITERAL_HEIGHT: usize = 3;
+/// How high a number is at most: `-1 + 2j` is a sum of a negative number.
+const NUMBER_HEIGHT: usize = 3;
 
 /// A number that was read, and whether it is imaginary.
 #[derive(Drop)]
@@ -73,7 +70,7 @@ fn signed_at(alloc: Global, tokens: &[Terminal], at: usize) -> Result<Number, St
         return number_at(alloc, tokens, at);
     }
     let Number { read, imaginary } = number_at(alloc, tokens, at + 1)?;
-    let read = make_unary(alloc, UnaryOperator::USub, read, LITERAL_HEIGHT)?;
+    let read = make_unary(alloc, UnaryOperator::USub, read, NUMBER_HEIGHT)?;
     Ok(Number { read, imaginary })
 }
 
@@ -106,19 +103,34 @@ fn with_imaginary(alloc: Global, tokens: &[Terminal], number: Number) -> Result<
     };
     let right = number_at(alloc, tokens, read.next + 1)?;
     if right.imaginary {
-        make_binary(alloc, read, sign, right.read, LITERAL_HEIGHT)
+        make_binary(alloc, read, sign, right.read, NUMBER_HEIGHT)
     } else {
         Err(Stop::NoForm)
     }
 }
 
-/// The literal at a place.
-pub(crate) fn read_literal(alloc: Global, tokens: &[Terminal], at: usize) -> Result<Read, Stop>
-    ensures { Answered tokens.now 3 (at + 1) (reader.literal_or (seen tokens.now at) NoForm) result }
+/// The number at a place with its sign, or the sum that it begins, of any height.
+fn sum_at(alloc: Global, tokens: &[Terminal], at: usize) -> Result<Read, Stop>
+    ensures { Answered tokens.now 3 (at + 1) (numbers (seen tokens.now at)) result }
 {
-    if let Some(Terminal::Literal(text)) = terminal_at(tokens, at) {
-        return string_run(alloc, tokens, text, at + 1);
-    }
     let number = signed_at(alloc, tokens, at)?;
     with_imaginary(alloc, tokens, number)
+}
+
+/// The same, up to a height.
+#[tactic(auto, using(crate::proofs::Caps::low_failed, crate::proofs::Caps::low_high, crate::proofs::Caps::low_found))]
+pub(crate) fn read_number(
+    alloc: Global,
+    tokens: &[Terminal],
+    at: usize,
+    room: usize,
+) -> Result<Read, Stop>
+    ensures { Answered tokens.now room (at + 1)
+        (reader.cap_value room (numbers (seen tokens.now at))) result }
+{
+    let read = sum_at(alloc, tokens, at)?;
+    if read.height > room {
+        return Err(Stop::TooDeep);
+    }
+    Ok(read)
 }

@@ -19,7 +19,8 @@ use std::alloc::Global;
 /// # Errors
 ///
 /// [`Stop::NoForm`]: they are none. [`Stop::TooDeep`]: they are none of this height; where they are
-/// none at all, there are more of them than [`MOST_HEIGHT`]. [`Stop::Memory`].
+/// none at all, there are more of them than [`MOST_HEIGHT`], and those that count, of an f-string
+/// its ends and the tokens of its fields, are no fewer. [`Stop::Memory`].
 #[tactic(auto, using(crate::proofs::Wholes::whole_failed, crate::proofs::Wholes::whole_high, crate::proofs::Wholes::whole_more, crate::proofs::Wholes::whole_found))]
 pub fn read_whole_pattern(
     alloc: Global,

@@ -1,6 +1,6 @@
 -- In an expression each colon, `;` and bracket has its place, but for the colon of a slice, which wants a bracket round it.
 --
--- Carries: expression, listing, comps, for Trailers, Statements, Law. On: Machine, Signs.
+-- Carries: expression, strings, listing, comps, for Patterns, Trailers, Statements, Law. On: Machine, Signs.
 use Rattle.std.proofs.Common.{◌≡◌, refl, ap, ◌∙◌, List, ◌∷◌, Option, Some, None, Bool, true, false, cond}
 use Rattle.pylex_lexeme.specs.declared.kinds.Exact.{Exact}
 use Rattle.pylex_lexeme.specs.declared.kinds.Exact.TheVariants.{LPar, LSqb, LBrace, Colon, Comma, Star, Slash, Equal, Dot, DoubleStar, ColonEqual}
@@ -10,8 +10,10 @@ use Rattle.pytree_node.specs.declared.operators.Comparison.{Comparison}
 use Rattle.pygrammar.specs.declared.levels.Level.{Level}
 use Rattle.pygrammar.specs.declared.levels.Level.TheVariants.{Value, Slices, Part, Slice}
 use Rattle.pytree_node.specs.Trees.{Expr, OptionalExpr, Comprehension}
-use Rattle.pytoken.specs.Terminals.{Terminal, Op, Word, Ident, Number, Literal}
+use Rattle.pytree_node.specs.Values
+use Rattle.pytoken.specs.Terminals.{Terminal, Op, Word, Ident, Number, Literal, FormattedBegin, FormattedEnd, FormattedText, FieldBegin, SpecBegin, FieldEnd}
 use Rattle.pygrammar.specs.Operators.{below, chain_level, chain_word}
+use Rattle.pygrammar.specs.FormattedStrings.{StringPart}
 use Rattle.pygrammar.specs.Entries.{Item, Of, Pair, Parameter, Entry}
 use Rattle.pygrammar.specs.Grammar as G
 use Rattle.pyparse.proofs.CaseLines.Machine.{Open, bracket, lambda, act, after, Takes, none, one, join, neutral, between, colon_inside, round_end, square_end, curly_end}
@@ -78,6 +80,7 @@ mutual
   expression s (G.constant {t = t} h) = neutral t (constant_plain t h) none
   expression s (G.number {v = v}) = neutral (Number v) refl none
   expression s (G.strings {v = v} vs h) = neutral (Literal v) refl (literals vs)
+  expression s (G.joined_string p h k) = strings s p
   expression s (G.group p) = one (Op LPar) refl (join (expression (bracket ∷ s) p) round_end)
   expression s (G.yield_group p) = one (Op LPar) refl (neutral (Word Key.Yield) refl (join (yields (bracket ∷ s) p) round_end))
   expression s G.empty_tuple = one (Op LPar) refl round_end
@@ -101,6 +104,21 @@ mutual
   expression s (G.slice_step p q r) =
       let more = colon_inside (perhaps (bracket ∷ s) r) in
       join (perhaps (bracket ∷ s) p) (colon_inside (join (perhaps (bracket ∷ s) q) more))
+
+  pub strings : {u : Bool} {ts : List Terminal} {ps : List StringPart} (s : List Open) → G.Literals u ts ps → Takes s s ts
+  strings s G.no_literal = none
+  strings s (G.text_literal {t = t} {k = k} p) = neutral (Literal (Values.Str t k)) refl (strings s p)
+  strings s (G.formatted_literal p q) = neutral FormattedBegin refl (between FormattedEnd refl (formatted s p) (strings s q))
+
+  formatted : {u : Bool} {ts : List Terminal} {ps : List StringPart} (s : List Open) → G.Formatted u ts ps → Takes s s ts
+  formatted s G.no_part = none
+  formatted s (G.text_part {t = t} p) = neutral (FormattedText t) refl (formatted s p)
+  formatted s (G.field_part {c = c} p q r) =
+      neutral (FieldBegin c) refl (join (expression s p) (between FieldEnd refl (spec s q) (formatted s r)))
+
+  spec : {u : Bool} {ts : List Terminal} {e : OptionalExpr} (s : List Open) → G.Spec u ts e → Takes s s ts
+  spec s G.no_spec = none
+  spec s (G.spec p) = neutral SpecBegin refl (formatted s p)
 
   yields : {ts : List Terminal} {e : Expr} (s : List Open) → G.Yields ts e → Takes s s ts
   yields s (G.yield_from p) = neutral (Word Key.From) refl (expression s p)

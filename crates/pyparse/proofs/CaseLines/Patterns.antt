@@ -1,6 +1,6 @@
 -- In a pattern each colon and bracket has its place.
 --
--- Carries: one_pattern, entries, for Trailers, Law. On: Machine, Signs.
+-- Carries: one_pattern, entries, for Trailers, Law. On: Machine, Signs, Expressions.
 use Rattle.std.proofs.Common.{◌≡◌, refl, List, ◌∷◌, Some}
 use Rattle.pylex_lexeme.specs.declared.kinds.Exact.TheVariants.{LPar, LSqb, LBrace, Comma, Star, Equal, Dot, DoubleStar, Minus, VBar}
 use Rattle.pytoken.specs.declared.keywords.Keyword.TheVariants as Key
@@ -14,6 +14,7 @@ use Rattle.pygrammar.specs.PatternEntries.{PatternItem, KeyPattern, PatternEntry
 use Rattle.pygrammar.specs.PatternGrammar as P
 use Rattle.pyparse.proofs.CaseLines.Machine.{Open, bracket, plain, act, Takes, none, one, join, neutral, between, colon_inside, round_end, square_end, curly_end}
 use Rattle.pyparse.proofs.CaseLines.Signs.{no_some, left_plain, literals}
+use Rattle.pyparse.proofs.CaseLines.Expressions.{strings}
 
 singleton_plain : (t : Terminal) {v : Values.Value} → singleton_word t ≡ Some v → act t ≡ plain
 singleton_plain (Word Key.None) h = refl
@@ -29,6 +30,7 @@ literal : {s : List Open} {ts : List Terminal} {e : Expr} → P.LiteralOf ts e �
 literal (P.number p) = signed p
 literal (P.complex {w = w} t p r h i) = between t (left_plain Sum t h) (signed p) (neutral (Number w) refl none)
 literal (P.strings {v = v} vs h) = neutral (Literal v) refl (literals vs)
+literal {s = s} (P.joined_string p h k) = strings s p
 
 dotted : {s : List Open} {f : Identifier} {ts : List Terminal} {e : Expr} → P.Dotted f ts e → Takes s s ts
 dotted (P.first_name {x = x}) = neutral (Ident x) refl none

@@ -22,6 +22,7 @@ use Rattle.pygrammar.specs.PatternOperators.{singleton_word}
 use Rattle.pygrammar.specs.Constants.{constant_word}
 use Rattle.pygrammar.specs.Arguments.{in_order, positional, keywords}
 use Rattle.pygrammar.specs.Targets.{single_stored}
+use Rattle.pygrammar.specs.FormattedStrings.{StringPart, has_formatted}
 use Rattle.pygrammar.specs.Grammar as G
 use Rattle.pygrammar.specs.PatternGrammar as P
 use Rattle.pygrammar.specs.Forms.{is_name}
@@ -98,6 +99,12 @@ constant_goes : (t : Terminal) {v : Values.Value} (us : List Terminal) → const
 constant_goes (Ident x) us h = no_some h
 constant_goes _ us h = tt
 
+strings_go : {u : Bool} {ts : List Terminal} {ps : List StringPart} → G.Literals u ts ps → has_formatted ts ≡ true →
+    (us : List Terminal) → GoesOn (ts ++ us)
+strings_go G.no_literal h us = absurd (cc)
+strings_go (G.text_literal p) h us = tt
+strings_go (G.formatted_literal p q) h us = tt
+
 -- where more of a target follows, or where the expression is an Attribute or Subscript itself
 goes : {l : Level} {ts : List Terminal} {e : Expr} → inner l ≡ true → G.Derives l ts e →
     (us : List Terminal) → Trailed us ⊎ (is_part e ≡ true) → GoesOn (ts ++ us)
@@ -122,6 +129,7 @@ goes h (G.call_generator p q c) us (inr n) = absurd (cc)
 goes h G.name us (inl k) = k
 goes h G.name us (inr n) = absurd (cc)
 goes h (G.constant {t = t} q) us k = constant_goes t us q
+goes h (G.joined_string p b f) us k = strings_go p f us
 goes h (G.star_tuple p c) us k = absurd (cc)
 goes h (G.named p) us k = absurd (cc)
 goes h (G.if_else p q r) us k = absurd (cc)
@@ -168,10 +176,17 @@ signed_begun : {v : Values.Value} {ts : List Terminal} {e : Expr} → P.SignedNu
 signed_begun P.unsigned us = tt
 signed_begun P.negative us = tt
 
+strings_begun : {u : Bool} {ts : List Terminal} {ps : List StringPart} → G.Literals u ts ps → has_formatted ts ≡ true →
+    (us : List Terminal) → Begun (ts ++ us)
+strings_begun G.no_literal h us = absurd (cc)
+strings_begun (G.text_literal p) h us = tt
+strings_begun (G.formatted_literal p q) h us = tt
+
 literal_begun : {ts : List Terminal} {e : Expr} → P.LiteralOf ts e → (us : List Terminal) → Begun (ts ++ us)
 literal_begun (P.number p) us = signed_begun p us
 literal_begun (P.complex {ts = ts} t p r h i) us = regroup Begun ts (t ∷ _) us (signed_begun p _)
 literal_begun (P.strings vs h) us = tt
+literal_begun (P.joined_string p b f) us = strings_begun p f us
 
 singleton_begun : (t : Terminal) {v : Values.Value} (us : List Terminal) → singleton_word t ≡ Some v → Begun (t ∷ us)
 singleton_begun (Word k) us h = tt

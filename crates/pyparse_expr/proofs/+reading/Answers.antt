@@ -8,7 +8,7 @@ use Rattle.pyparse_expr.proofs.Reader.ChainSteps.{chain_failed, chain_made, link
 use Rattle.pyparse_expr.proofs.Reader.Reading.{failed_cap}
 use Rattle.pyparse_expr.proofs.Reader.Climbs.{climb_start, climb_front_error, climb_error, climb_more, climb_found, climb_failed, front_hit}
 use Rattle.pyparse_expr.proofs.Reader.Trails.{dot_error, dot_more, call_error, call_more, index_error, index_more, trail_end, primary_failed, primary_found}
-use Rattle.pyparse_expr.proofs.Reader.LevelSteps.{inner_found, elem_star, part_star, expression_lambda, expression_if, expression_alone, named_hit, named_plain, stars_tuple, slice_open, slice_from, slice_alone, slices_tuple, slices_star, slices_alone}
+use Rattle.pyparse_expr.proofs.Reader.LevelSteps.{inner_found, elem_star, part_plain, part_star, expression_lambda, expression_if, expression_alone, named_hit, named_plain, stars_tuple, slice_open, slice_from, slice_alone, slices_tuple, slices_star, slices_alone}
 use Rattle.pyparse_expr.proofs.Reader.AloneSteps.{expression_atom}
 use Rattle.pyparse_expr.proofs.Reader.AtomSteps.{atom_here, atom_past, other_op, other_word}
 use Rattle.pytoken.specs.TerminalOf.{terminal}
@@ -23,6 +23,11 @@ use Rattle.pyparse_expr.proofs.Lists.PairSteps.{pairs_start, pairs_end, pairs_st
 use Rattle.pyparse_expr.proofs.Lists.BraceSteps.{dict_failed, dict_open, dict_made, set_made}
 use Rattle.pyparse_expr.proofs.ForClauses.CompSteps.{target_more, target_one, targets_failed, targets_made, tests_start, tests_end, tests_error, tests_more}
 use Rattle.pyparse_expr.proofs.ForClauses.ClauseSteps.{clause_target, clauses_cut, clauses_end, clauses_error, clauses_more, for_begins, async_begins}
+use Rattle.pyparse_expr.proofs.Formatted.Begins.{further, parts_found}
+use Rattle.pyparse_expr.proofs.Formatted.Fields.{field_made, field_open, field_put, field_spec_failed, field_wrong, spec_made}
+use Rattle.pyparse_expr.proofs.Formatted.LiteralRuns.{bytes_wrong, literals_failed, texts_joined}
+use Rattle.pyparse_expr.proofs.Formatted.Parts.{formatted_error, formatted_more, joined_made, literal_error, literal_more, literals_end, parts_end, parts_error, parts_more}
+use Rattle.pytoken.specs.Values.{literal_value}
 use Rattle.pyparse_expr.proofs.+reading.Goals as goal
 
 pub climbing::climb-returns-in_err-first : goal.climbing::climb-returns-in_err-first
@@ -453,3 +458,89 @@ comprehensions::comps-more-preserved t c = record {
 
 pub comprehensions::comps-returns-else-is_word-2 : goal.comprehensions::comps-returns-else-is_word-2
 comprehensions::comps-returns-else-is_word-2 t c = clauses_end c.args.tokens.now c.args.depth _ c.more.clauses c.more.invariant.is c.args.at c.if-is_word.ensures c.if-is_word-2.ensures c.more.invariant.ahead
+
+pub strings::more_literals-returns-in_err-text-clause-parts : goal.strings::more_literals-returns-in_err-text-clause-parts
+strings::more_literals-returns-in_err-text-clause-parts t c = λ acc g.
+    let f = literal_error c.args.tokens.now c.args.depth c.args.unicode _ c.more.values (c.more.invariant.is acc g) _ c.in-Some.ensures.within c.in-Some.ensures.is c.in_err-text.field-0.0 c.in_err-text.ensures in
+    search (rules, f)
+
+pub strings::more_literals-more-preserved-in-Some : goal.strings::more_literals-more-preserved-in-Some
+strings::more_literals-more-preserved-in-Some t c = record {
+  ahead = omega (arith, c.more.invariant.ahead, c.in_ok-values.ensures.next_is);
+  within = omega (arith, c.in-Some.ensures.within, c.in_ok-values.ensures.next_is);
+  is = λ acc g. literal_more c.args.tokens.now c.args.depth c.args.unicode _ c.more.values (c.more.invariant.is acc g) _ c.in-Some.ensures.within c.in-Some.ensures.is c.in_ok-text.text c.in_ok-values.values c.in_ok-text.ensures c.in_ok-values.ensures;
+}
+
+pub strings::more_literals-returns-in_err-values-2-clause-parts : goal.strings::more_literals-returns-in_err-values-2-clause-parts
+strings::more_literals-returns-in_err-values-2-clause-parts t c = λ acc g.
+    let f = formatted_error c.args.tokens.now c.args.depth c.args.unicode _ c.more.values (c.more.invariant.is acc g) c.moved.result c.if-is_mark.ensures c.moved.ensures c.in_err-values-2.field-0.0 c.in_err-values-2.ensures.parts in
+    search (rules, f)
+
+pub strings::more_literals-more-preserved : goal.strings::more_literals-more-preserved
+strings::more_literals-more-preserved t c = record {
+  ahead = omega (arith, c.more.invariant.ahead, c.moved.ensures.next_is, c.in_ok-values-2.ensures.place.ahead);
+  within = c.in_ok-values-2.ensures.place.within;
+  is = λ acc g. formatted_more c.args.tokens.now c.args.depth c.args.unicode _ c.more.values (c.more.invariant.is acc g) c.moved.result c.if-is_mark.ensures c.moved.ensures c.in_ok-values-2.values c.in_ok-values-2.ensures.parts;
+}
+
+pub strings::more_literals-returns-else-is_mark-clause-parts : goal.strings::more_literals-returns-else-is_mark-clause-parts
+strings::more_literals-returns-else-is_mark-clause-parts t c = λ acc g. literals_end c.args.tokens.now c.args.depth c.args.unicode _ c.more.values (c.more.invariant.is acc g) c.args.before.next c.more.invariant.ahead c.in_default.ensures.is c.if-is_mark.ensures
+
+pub strings::read_field-returns-in_err-spec-clause-is : goal.strings::read_field-returns-in_err-spec-clause-is
+strings::read_field-returns-in_err-spec-clause-is t c = λ most le.
+    let v = inner_found c.args.tokens.now _ c.args.depth c.inner.result _ _ c.in_ok-value.value c.inner.ensures.steps c.inner.ensures.room c.in_ok-value.ensures in
+    let f = field_spec_failed c.args.tokens.now c.args.depth c.args.unicode most c.args.conversion c.args.at c.if-not-is_op.ensures _ c.in_ok-value.value v c.in_err-spec.field-0.0 (c.in_err-spec.ensures.is most (further c.args.tokens.now c.args.at c.in_ok-value.value.next most le (omega (arith, c.in_ok-value.ensures.ahead)))) in
+    search (rules, f)
+
+pub strings::read_field-returns-then-not-is_mark-clause-is : goal.strings::read_field-returns-then-not-is_mark-clause-is
+strings::read_field-returns-then-not-is_mark-clause-is t c = λ most le.
+    let v = inner_found c.args.tokens.now _ c.args.depth c.inner.result _ _ c.in_ok-value.value c.inner.ensures.steps c.inner.ensures.room c.in_ok-value.ensures in
+    field_open c.args.tokens.now c.args.depth c.args.unicode most c.args.conversion c.args.at c.if-not-is_op.ensures _ c.in_ok-value.value v c.in_ok-spec.spec (c.in_ok-spec.ensures.is most (further c.args.tokens.now c.args.at c.in_ok-value.value.next most le (omega (arith, c.in_ok-value.ensures.ahead)))) c.if-not-is_mark.ensures
+
+pub strings::read_field-returns-clause-is : goal.strings::read_field-returns-clause-is
+strings::read_field-returns-clause-is t c = λ most le.
+    let v = inner_found c.args.tokens.now _ c.args.depth c.inner.result _ _ c.in_ok-value.value c.inner.ensures.steps c.inner.ensures.room c.in_ok-value.ensures in
+    field_made c.args.tokens.now c.args.depth c.args.unicode most c.args.conversion c.args.at c.if-not-is_op.ensures _ c.in_ok-value.value v c.in_ok-spec.spec (c.in_ok-spec.ensures.is most (further c.args.tokens.now c.args.at c.in_ok-value.value.next most le (omega (arith, c.in_ok-value.ensures.ahead)))) c.make_field.result c.if-not-is_mark.ensures c.make_field.ensures
+
+pub strings::read_joined-returns : goal.strings::read_joined-returns
+strings::read_joined-returns t c = λ acc g. joined_made c.args.tokens.now c.args.depth c.args.unicode c.args.before.next acc c.in_ok-first.first (c.in_ok-first.ensures.parts acc g) c.in_ok-whole.whole c.make_joined.result c.in_ok-whole.ensures.parts c.make_joined.ensures
+
+pub strings::read_literals-returns-in_err-value : goal.strings::read_literals-returns-in_err-value
+strings::read_literals-returns-in_err-value t c =
+    let f = literals_failed (inner_reads c.args.depth) _ (seen c.args.tokens.now c.args.at) c.in_err-value.field-0.0 c.in_err-value.ensures in
+    search (rules, f)
+
+pub strings::read_literals-returns-in-Text : goal.strings::read_literals-returns-in-Text
+strings::read_literals-returns-in-Text t c = texts_joined c.args.tokens.now (inner_reads c.args.depth) _ c.args.at _ _ c.in-Text.points c.in-Text.unicode c.joined_text-before.result c.read_joined.result (ap literal_value c.in-Text.is) c.joined_text-before.ensures.values c.joined_text-before.ensures.next c.in_ok-value.ensures c.if-not-is_mark.ensures c.read_joined.ensures
+
+pub strings::read_literals-returns-in-Bytes : goal.strings::read_literals-returns-in-Bytes
+strings::read_literals-returns-in-Bytes t c = bytes_wrong c.args.tokens.now (inner_reads c.args.depth) _ c.args.at _ _ c.in-Bytes._bytes.items (ap literal_value c.in-Bytes.is) c.in_ok-value.ensures c.if-not-is_mark.ensures
+
+pub strings::read_parts-returns-in_err-values-clause-parts : goal.strings::read_parts-returns-in_err-values-clause-parts
+strings::read_parts-returns-in_err-values-clause-parts t c = λ most acc le g.
+    let f = parts_error c.args.tokens.now c.args.depth c.args.unicode _ c.parts.values (c.parts.invariant.is most acc le g) c.in-Some.part c.in-Some.ensures.within c.in-Some.ensures.text c.in-Some.ensures.field c.in_err-values.field-0.0 c.in_err-values.ensures.part in
+    search (rules, f)
+
+pub strings::read_parts-parts-preserved : goal.strings::read_parts-parts-preserved
+strings::read_parts-parts-preserved t c = record {
+  ahead = omega (arith, c.parts.invariant.ahead, c.in_ok-values.ensures.place.ahead);
+  within = c.in_ok-values.ensures.place.within;
+  is = λ most acc le g. parts_more c.args.tokens.now c.args.depth c.args.unicode _ c.parts.values (c.parts.invariant.is most acc le g) c.in-Some.part c.in-Some.ensures.within c.in-Some.ensures.text c.in-Some.ensures.field c.in_ok-values.values c.in_ok-values.ensures.part;
+}
+
+pub strings::read_parts-returns-clause-parts : goal.strings::read_parts-returns-clause-parts
+strings::read_parts-returns-clause-parts t c = λ most acc le g. parts_end c.args.tokens.now c.args.depth c.args.unicode _ c.parts.values (c.parts.invariant.is most acc le g) c.args.before.next c.parts.invariant.ahead c.in_default.ensures.text c.in_default.ensures.field
+
+pub strings::read_spec-returns-clause-is : goal.strings::read_spec-returns-clause-is
+strings::read_spec-returns-clause-is t c = λ most le. spec_made c.args.tokens.now c.args.depth c.args.unicode most c.args.at c.if-not-is_mark.ensures c.in_ok-values.values c.in_ok-read.read (parts_found c.args.tokens.now (inner_reads c.args.depth) c.args.unicode (c.args.at + 1) c.joined_text-before.result c.new.result c.joined_text-before.ensures.next c.joined_text-before.ensures.values c.new.ensures most (further c.args.tokens.now c.args.at (c.args.at + 1) most le (omega arith)) c.in_ok-values.values c.in_ok-values.ensures.parts) c.in_ok-read.ensures
+
+pub strings::with_part-returns-in_err-field-in-Field-clause-part : goal.strings::with_part-returns-in_err-field-in-Field-clause-part
+strings::with_part-returns-in_err-field-in-Field-clause-part t c = λ most le.
+    let f = field_wrong c.args.tokens.now c.args.depth c.args.unicode most c.args.before c.requires.within c.in-Field.conversion c.in_err-field-in-Field.field-0.0 (c.in_err-field-in-Field.ensures.is most le) in
+    search (rules, f)
+
+pub strings::with_part-returns-in_ok-field-in-Field-clause-part : goal.strings::with_part-returns-in_ok-field-in-Field-clause-part
+strings::with_part-returns-in_ok-field-in-Field-clause-part t c = λ most le. field_put c.args.tokens.now c.args.depth c.args.unicode most c.args.before c.requires.within c.in-Field.conversion c.args.part c.in_ok-field-in-Field.field c.with_field.result c.in-Field.is (c.in_ok-field-in-Field.ensures.is most le) c.with_field.ensures
+
+pub slices::read_part-returns-else-is_op : goal.slices::read_part-returns-else-is_op
+slices::read_part-returns-else-is_op t c = part_plain c.args.tokens.now c.args.depth c.args.at c.in_ok-enter.ensures c.read_slice.result c.if-is_op.ensures c.read_slice.ensures

@@ -1,11 +1,13 @@
-use Rattle.std.proofs.Common.{[], ◌+◌, ◌-◌, ◌*◌, ◌≤◌, length, map}
-use Rattle.pygrammar.specs.Reader.{operation}
-use Rattle.std.proofs.Common.{◌+◌, ◌-◌, ◌*◌, ◌≤◌, length, [], map}
-use Rattle.pygrammar.specs.Reader.{comps_loop, ifs_loop, operation}
+use Rattle.std.proofs.Common.{◌≡◌, ℕ, ◌+◌, ◌-◌, ◌*◌, ◌^◌, ◌≤◌, List, length, [], map}
+use Rattle.pygrammar.specs.FormattedStrings.{StringPart}
+use Rattle.pyparse_nodes.specs.JoinedStates.{gathered, state_of}
+use Rattle.pyparse_expr.proofs.Formatted.Parts.{Literals, Parts}
+use Rattle.pygrammar.specs.Reader.{comps_loop, ifs_loop, literals_loop, operation, parts_loop}
 use Rattle.pygrammar.specs.Precedence as precedence
 use Rattle.pyparse_expr.proofs.Reader.ChainSteps.{Links, Sides}
 use Rattle.pyparse_expr.proofs.Calls.ArgumentSteps.{Reaches}
-use Rattle.pyparse_expr.specs.Inner.Arguments.{arguments_of, state_of}
+use Rattle.pyparse_expr.specs.Inner.Arguments as actuals
+use Rattle.pyparse_expr.specs.Inner.Arguments.{arguments_of}
 use Rattle.pyparse_expr.specs.Inner.Chains.{links_of}
 use Rattle.pytree_node.specs.TreeOf.{tree_of}
 use Rattle.pygrammar.specs.Capped.{capped_climb}
@@ -25,76 +27,76 @@ use Rattle.pyparse_expr.proofs.ForClauses.CompSteps.{Tests}
 use Rattle.pyparse_expr.proofs.+reading.Given as goal
 
 abbrev pub decreases-atoms::group_tuple : goal.decreases-atoms::group_tuple
-decreases-atoms::group_tuple l = 20 * (l.depth.steps - 1) + 12
+decreases-atoms::group_tuple l = 2 ^ 65 * (20 * (l.depth.steps - 1) + 12)
 
 abbrev pub decreases-atoms::read_atom : goal.decreases-atoms::read_atom
-decreases-atoms::read_atom l = 20 * l.depth.steps + 1
+decreases-atoms::read_atom l = 2 ^ 65 * (20 * l.depth.steps + 1)
 
 abbrev pub decreases-atoms::round : goal.decreases-atoms::round
-decreases-atoms::round l = 20 * (l.depth.steps - 1) + 17
+decreases-atoms::round l = 2 ^ 65 * (20 * (l.depth.steps - 1) + 17)
 
 abbrev pub decreases-atoms::square : goal.decreases-atoms::square
-decreases-atoms::square l = 20 * (l.depth.steps - 1) + 17
+decreases-atoms::square l = 2 ^ 65 * (20 * (l.depth.steps - 1) + 17)
 
 abbrev pub decreases-climbing::climb : goal.decreases-climbing::climb
-decreases-climbing::climb l = 20 * l.depth.steps + 4
+decreases-climbing::climb l = 2 ^ 65 * (20 * l.depth.steps + 4)
 
 abbrev pub decreases-climbing::operation : goal.decreases-climbing::operation
-decreases-climbing::operation l = 20 * (l.depth.steps - 1) + 12
+decreases-climbing::operation l = 2 ^ 65 * (20 * (l.depth.steps - 1) + 12)
 
 abbrev pub decreases-climbing::prefixed : goal.decreases-climbing::prefixed
-decreases-climbing::prefixed l = 20 * (l.depth.steps - 1) + 9
+decreases-climbing::prefixed l = 2 ^ 65 * (20 * (l.depth.steps - 1) + 9)
 
 abbrev pub decreases-levels::if_else_step : goal.decreases-levels::if_else_step
-decreases-levels::if_else_step l = 20 * (l.depth.steps - 1) + 9
+decreases-levels::if_else_step l = 2 ^ 65 * (20 * (l.depth.steps - 1) + 9)
 
 abbrev pub decreases-levels::read_elem : goal.decreases-levels::read_elem
-decreases-levels::read_elem l = 20 * l.depth.steps + 7
+decreases-levels::read_elem l = 2 ^ 65 * (20 * l.depth.steps + 7)
 
 abbrev pub decreases-levels::read_expression : goal.decreases-levels::read_expression
-decreases-levels::read_expression l = 20 * l.depth.steps + 5
+decreases-levels::read_expression l = 2 ^ 65 * (20 * l.depth.steps + 5)
 
 abbrev pub decreases-levels::read_named : goal.decreases-levels::read_named
-decreases-levels::read_named l = 20 * l.depth.steps + 6
+decreases-levels::read_named l = 2 ^ 65 * (20 * l.depth.steps + 6)
 
 abbrev pub decreases-levels::read_star_item : goal.decreases-levels::read_star_item
-decreases-levels::read_star_item l = 20 * l.depth.steps + 7
+decreases-levels::read_star_item l = 2 ^ 65 * (20 * l.depth.steps + 7)
 
 abbrev pub decreases-levels::read_stars : goal.decreases-levels::read_stars
-decreases-levels::read_stars l = 20 * l.depth.steps + 8
+decreases-levels::read_stars l = 2 ^ 65 * (20 * l.depth.steps + 8)
 
 abbrev pub decreases-levels::yield_step : goal.decreases-levels::yield_step
-decreases-levels::yield_step l = 20 * (l.depth.steps - 1) + 13
+decreases-levels::yield_step l = 2 ^ 65 * (20 * (l.depth.steps - 1) + 13)
 
 abbrev pub decreases-listings::listing : goal.decreases-listings::listing
-decreases-listings::listing l = 20 * (l.depth.steps - 1) + 10
+decreases-listings::listing l = 2 ^ 65 * (20 * (l.depth.steps - 1) + 10)
 
 abbrev pub decreases-listings::others : goal.decreases-listings::others
-decreases-listings::others l = 20 * (l.depth.steps - 1) + 11
+decreases-listings::others l = 2 ^ 65 * (20 * (l.depth.steps - 1) + 11)
 
 abbrev pub decreases-listings::read_item : goal.decreases-listings::read_item
-decreases-listings::read_item l = 20 * (l.depth.steps - 1) + 9
+decreases-listings::read_item l = 2 ^ 65 * (20 * (l.depth.steps - 1) + 9)
 
 abbrev pub decreases-listings::tupled : goal.decreases-listings::tupled
-decreases-listings::tupled l = 20 * (l.depth.steps - 1) + 12
+decreases-listings::tupled l = 2 ^ 65 * (20 * (l.depth.steps - 1) + 12)
 
 abbrev pub decreases-primaries::index_step : goal.decreases-primaries::index_step
-decreases-primaries::index_step l = 20 * (l.depth.steps - 1) + 10
+decreases-primaries::index_step l = 2 ^ 65 * (20 * (l.depth.steps - 1) + 10)
 
 abbrev pub decreases-primaries::read_primary : goal.decreases-primaries::read_primary
-decreases-primaries::read_primary l = 20 * l.depth.steps + 2
+decreases-primaries::read_primary l = 2 ^ 65 * (20 * l.depth.steps + 2)
 
 abbrev pub decreases-slices::perhaps : goal.decreases-slices::perhaps
-decreases-slices::perhaps l = 20 * (l.depth.steps - 1) + 9
+decreases-slices::perhaps l = 2 ^ 65 * (20 * (l.depth.steps - 1) + 9)
 
 abbrev pub decreases-slices::read_part : goal.decreases-slices::read_part
-decreases-slices::read_part l = 20 * l.depth.steps + 8
+decreases-slices::read_part l = 2 ^ 65 * (20 * l.depth.steps + 8)
 
 abbrev pub decreases-slices::read_slice : goal.decreases-slices::read_slice
-decreases-slices::read_slice l = 20 * l.depth.steps + 7
+decreases-slices::read_slice l = 2 ^ 65 * (20 * l.depth.steps + 7)
 
 abbrev pub decreases-slices::read_slices : goal.decreases-slices::read_slices
-decreases-slices::read_slices l = 20 * l.depth.steps + 9
+decreases-slices::read_slices l = 2 ^ 65 * (20 * l.depth.steps + 9)
 
 abbrev pub invariant-climbing::climb-loop-o : goal.invariant-climbing::climb-loop-o
 invariant-climbing::climb-loop-o l = record {
@@ -124,25 +126,25 @@ abbrev pub decreases-primaries::read_primary-tails : goal.decreases-primaries::r
 decreases-primaries::read_primary-tails l = length l.tokens - l.e.next
 
 abbrev pub decreases-slices::slice_rest : goal.decreases-slices::slice_rest
-decreases-slices::slice_rest l = 20 * (l.depth.steps - 1) + 10
+decreases-slices::slice_rest l = 2 ^ 65 * (20 * (l.depth.steps - 1) + 10)
 
 abbrev pub decreases-climbing::climb_first : goal.decreases-climbing::climb_first
-decreases-climbing::climb_first l = 20 * l.depth.steps + 3
+decreases-climbing::climb_first l = 2 ^ 65 * (20 * l.depth.steps + 3)
 
 abbrev pub decreases-climbing::signed : goal.decreases-climbing::signed
-decreases-climbing::signed l = 20 * (l.depth.steps - 1) + 8
+decreases-climbing::signed l = 2 ^ 65 * (20 * (l.depth.steps - 1) + 8)
 
 abbrev pub decreases-climbing::binary : goal.decreases-climbing::binary
-decreases-climbing::binary l = 20 * (l.depth.steps - 1) + 11
+decreases-climbing::binary l = 2 ^ 65 * (20 * (l.depth.steps - 1) + 11)
 
 abbrev pub decreases-atoms::atom_of : goal.decreases-atoms::atom_of
-decreases-atoms::atom_of l = 20 * l.depth.steps
+decreases-atoms::atom_of l = 2 ^ 65 * (20 * l.depth.steps)
 
 abbrev pub decreases-atoms::other_atom : goal.decreases-atoms::other_atom
-decreases-atoms::other_atom l = 20 * (l.depth.steps - 1) + 19
+decreases-atoms::other_atom l = 2 ^ 65 * (20 * (l.depth.steps - 1) + 19)
 
 abbrev pub decreases-comprehensions::target_item : goal.decreases-comprehensions::target_item
-decreases-comprehensions::target_item l = 20 * (l.depth.steps - 1) + 8
+decreases-comprehensions::target_item l = 2 ^ 65 * (20 * (l.depth.steps - 1) + 8)
 
 abbrev pub invariant-chains::links-sides : goal.invariant-chains::links-sides
 invariant-chains::links-sides l = record {
@@ -163,61 +165,61 @@ abbrev pub decreases-chains::compare-sides : goal.decreases-chains::compare-side
 decreases-chains::compare-sides l = length l.tokens - l.items.next
 
 abbrev pub decreases-chains::chain : goal.decreases-chains::chain
-decreases-chains::chain l = 20 * (l.depth.steps - 1) + 10
+decreases-chains::chain l = 2 ^ 65 * (20 * (l.depth.steps - 1) + 10)
 
 abbrev pub decreases-chains::links : goal.decreases-chains::links
-decreases-chains::links l = 20 * (l.depth.steps - 1) + 9
+decreases-chains::links l = 2 ^ 65 * (20 * (l.depth.steps - 1) + 9)
 
 abbrev pub decreases-chains::compare : goal.decreases-chains::compare
-decreases-chains::compare l = 20 * (l.depth.steps - 1) + 10
+decreases-chains::compare l = 2 ^ 65 * (20 * (l.depth.steps - 1) + 10)
 
 abbrev pub decreases-arguments::read_argument : goal.decreases-arguments::read_argument
-decreases-arguments::read_argument l = 20 * (l.depth.steps - 1) + 7
+decreases-arguments::read_argument l = 2 ^ 65 * (20 * (l.depth.steps - 1) + 7)
 
 abbrev pub decreases-arguments::one_more : goal.decreases-arguments::one_more
-decreases-arguments::one_more l = 20 * (l.depth.steps - 1) + 8
+decreases-arguments::one_more l = 2 ^ 65 * (20 * (l.depth.steps - 1) + 8)
 
 abbrev pub decreases-arguments::more_arguments : goal.decreases-arguments::more_arguments
-decreases-arguments::more_arguments l = 20 * (l.depth.steps - 1) + 9
+decreases-arguments::more_arguments l = 2 ^ 65 * (20 * (l.depth.steps - 1) + 9)
 
 abbrev pub decreases-arguments::call_from : goal.decreases-arguments::call_from
-decreases-arguments::call_from l = 20 * (l.depth.steps - 1) + 10
+decreases-arguments::call_from l = 2 ^ 65 * (20 * (l.depth.steps - 1) + 10)
 
 abbrev pub decreases-arguments::call_step : goal.decreases-arguments::call_step
-decreases-arguments::call_step l = 20 * (l.depth.steps - 1) + 18
+decreases-arguments::call_step l = 2 ^ 65 * (20 * (l.depth.steps - 1) + 18)
 
 abbrev pub invariant-arguments::more_arguments-more : goal.invariant-arguments::more_arguments-more
 invariant-arguments::more_arguments-more l = record {
   ahead : l.fn.actual.next ≤ l.actual.next;
-  is : Reaches l.tokens l.depth (state_of l.fn.actual) (arguments_of l.depth [] (seen l.tokens l.fn.actual.next)) l.actual;
+  is : Reaches l.tokens l.depth (actuals.state_of l.fn.actual) (arguments_of l.depth [] (seen l.tokens l.fn.actual.next)) l.actual;
 }
 
 abbrev pub decreases-arguments::more_arguments-more : goal.decreases-arguments::more_arguments-more
 decreases-arguments::more_arguments-more l = length l.tokens - l.actual.next
 
 abbrev pub decreases-signatures::suffixed : goal.decreases-signatures::suffixed
-decreases-signatures::suffixed l = 20 * (l.depth.steps - 1) + 9
+decreases-signatures::suffixed l = 2 ^ 65 * (20 * (l.depth.steps - 1) + 9)
 
 abbrev pub decreases-signatures::star_annotation : goal.decreases-signatures::star_annotation
-decreases-signatures::star_annotation l = 20 * (l.depth.steps - 1) + 9
+decreases-signatures::star_annotation l = 2 ^ 65 * (20 * (l.depth.steps - 1) + 9)
 
 abbrev pub decreases-signatures::plain_parameter : goal.decreases-signatures::plain_parameter
-decreases-signatures::plain_parameter l = 20 * (l.depth.steps - 1) + 10
+decreases-signatures::plain_parameter l = 2 ^ 65 * (20 * (l.depth.steps - 1) + 10)
 
 abbrev pub decreases-signatures::gathered_parameter : goal.decreases-signatures::gathered_parameter
-decreases-signatures::gathered_parameter l = 20 * (l.depth.steps - 1) + 10
+decreases-signatures::gathered_parameter l = 2 ^ 65 * (20 * (l.depth.steps - 1) + 10)
 
 abbrev pub decreases-signatures::collected_parameter : goal.decreases-signatures::collected_parameter
-decreases-signatures::collected_parameter l = 20 * (l.depth.steps - 1) + 10
+decreases-signatures::collected_parameter l = 2 ^ 65 * (20 * (l.depth.steps - 1) + 10)
 
 abbrev pub decreases-signatures::read_parameter : goal.decreases-signatures::read_parameter
-decreases-signatures::read_parameter l = 20 * (l.depth.steps - 1) + 11
+decreases-signatures::read_parameter l = 2 ^ 65 * (20 * (l.depth.steps - 1) + 11)
 
 abbrev pub decreases-signatures::parameters : goal.decreases-signatures::parameters
-decreases-signatures::parameters l = 20 * (l.depth.steps - 1) + 12
+decreases-signatures::parameters l = 2 ^ 65 * (20 * (l.depth.steps - 1) + 12)
 
 abbrev pub decreases-signatures::lambda_step : goal.decreases-signatures::lambda_step
-decreases-signatures::lambda_step l = 20 * (l.depth.steps - 1) + 13
+decreases-signatures::lambda_step l = 2 ^ 65 * (20 * (l.depth.steps - 1) + 13)
 
 abbrev pub invariant-signatures::parameters-more : goal.invariant-signatures::parameters-more
 invariant-signatures::parameters-more l = record {
@@ -229,22 +231,22 @@ abbrev pub decreases-signatures::parameters-more : goal.decreases-signatures::pa
 decreases-signatures::parameters-more l = length l.tokens - l.before.next
 
 abbrev pub decreases-braces::curly : goal.decreases-braces::curly
-decreases-braces::curly l = 20 * (l.depth.steps - 1) + 18
+decreases-braces::curly l = 2 ^ 65 * (20 * (l.depth.steps - 1) + 18)
 
 abbrev pub decreases-braces::keyed : goal.decreases-braces::keyed
-decreases-braces::keyed l = 20 * (l.depth.steps - 1) + 17
+decreases-braces::keyed l = 2 ^ 65 * (20 * (l.depth.steps - 1) + 17)
 
 abbrev pub decreases-braces::dict_from : goal.decreases-braces::dict_from
-decreases-braces::dict_from l = 20 * (l.depth.steps - 1) + 16
+decreases-braces::dict_from l = 2 ^ 65 * (20 * (l.depth.steps - 1) + 16)
 
 abbrev pub decreases-braces::set_from : goal.decreases-braces::set_from
-decreases-braces::set_from l = 20 * (l.depth.steps - 1) + 16
+decreases-braces::set_from l = 2 ^ 65 * (20 * (l.depth.steps - 1) + 16)
 
 abbrev pub decreases-braces::more_pairs : goal.decreases-braces::more_pairs
-decreases-braces::more_pairs l = 20 * (l.depth.steps - 1) + 15
+decreases-braces::more_pairs l = 2 ^ 65 * (20 * (l.depth.steps - 1) + 15)
 
 abbrev pub decreases-braces::read_pair : goal.decreases-braces::read_pair
-decreases-braces::read_pair l = 20 * (l.depth.steps - 1) + 14
+decreases-braces::read_pair l = 2 ^ 65 * (20 * (l.depth.steps - 1) + 14)
 
 abbrev pub invariant-braces::more_pairs-more : goal.invariant-braces::more_pairs-more
 invariant-braces::more_pairs-more l = record {
@@ -256,25 +258,25 @@ abbrev pub decreases-braces::more_pairs-more : goal.decreases-braces::more_pairs
 decreases-braces::more_pairs-more l = length l.tokens - l.pairs.next
 
 abbrev pub decreases-comprehensions::read_target : goal.decreases-comprehensions::read_target
-decreases-comprehensions::read_target l = 20 * (l.depth.steps - 1) + 13
+decreases-comprehensions::read_target l = 2 ^ 65 * (20 * (l.depth.steps - 1) + 13)
 
 abbrev pub decreases-comprehensions::target_tuple : goal.decreases-comprehensions::target_tuple
-decreases-comprehensions::target_tuple l = 20 * (l.depth.steps - 1) + 12
+decreases-comprehensions::target_tuple l = 2 ^ 65 * (20 * (l.depth.steps - 1) + 12)
 
 abbrev pub decreases-comprehensions::ifs : goal.decreases-comprehensions::ifs
-decreases-comprehensions::ifs l = 20 * (l.depth.steps - 1) + 10
+decreases-comprehensions::ifs l = 2 ^ 65 * (20 * (l.depth.steps - 1) + 10)
 
 abbrev pub decreases-comprehensions::for_in : goal.decreases-comprehensions::for_in
-decreases-comprehensions::for_in l = 20 * (l.depth.steps - 1) + 14
+decreases-comprehensions::for_in l = 2 ^ 65 * (20 * (l.depth.steps - 1) + 14)
 
 abbrev pub decreases-comprehensions::comps : goal.decreases-comprehensions::comps
-decreases-comprehensions::comps l = 20 * (l.depth.steps - 1) + 15
+decreases-comprehensions::comps l = 2 ^ 65 * (20 * (l.depth.steps - 1) + 15)
 
 abbrev pub decreases-atoms::generator_group : goal.decreases-atoms::generator_group
-decreases-atoms::generator_group l = 20 * (l.depth.steps - 1) + 16
+decreases-atoms::generator_group l = 2 ^ 65 * (20 * (l.depth.steps - 1) + 16)
 
 abbrev pub decreases-atoms::list_comp : goal.decreases-atoms::list_comp
-decreases-atoms::list_comp l = 20 * (l.depth.steps - 1) + 16
+decreases-atoms::list_comp l = 2 ^ 65 * (20 * (l.depth.steps - 1) + 16)
 
 abbrev pub invariant-comprehensions::ifs-tests : goal.invariant-comprehensions::ifs-tests
 invariant-comprehensions::ifs-tests l = record {
@@ -295,10 +297,61 @@ abbrev pub decreases-comprehensions::comps-more : goal.decreases-comprehensions:
 decreases-comprehensions::comps-more l = length l.tokens - l.clauses.next
 
 abbrev pub decreases-arguments::generator_call : goal.decreases-arguments::generator_call
-decreases-arguments::generator_call l = 20 * (l.depth.steps - 1) + 16
+decreases-arguments::generator_call l = 2 ^ 65 * (20 * (l.depth.steps - 1) + 16)
 
 abbrev pub decreases-braces::set_comp : goal.decreases-braces::set_comp
-decreases-braces::set_comp l = 20 * (l.depth.steps - 1) + 16
+decreases-braces::set_comp l = 2 ^ 65 * (20 * (l.depth.steps - 1) + 16)
 
 abbrev pub decreases-braces::dict_comp : goal.decreases-braces::dict_comp
-decreases-braces::dict_comp l = 20 * (l.depth.steps - 1) + 16
+decreases-braces::dict_comp l = 2 ^ 65 * (20 * (l.depth.steps - 1) + 16)
+
+abbrev pub decreases-strings::string_atom : goal.decreases-strings::string_atom
+decreases-strings::string_atom l = 2 ^ 65 * (20 * (l.depth.steps - 1) + 14)
+
+abbrev pub decreases-strings::formatted_atom : goal.decreases-strings::formatted_atom
+decreases-strings::formatted_atom l = 2 ^ 65 * (20 * (l.depth.steps - 1) + 14)
+
+abbrev pub decreases-strings::read_literals : goal.decreases-strings::read_literals
+decreases-strings::read_literals l = 2 ^ 65 * (20 * (l.depth.steps - 1) + 13)
+
+abbrev pub decreases-strings::read_joined : goal.decreases-strings::read_joined
+decreases-strings::read_joined l = 2 ^ 65 * (20 * (l.depth.steps - 1) + 12)
+
+abbrev pub decreases-strings::more_literals : goal.decreases-strings::more_literals
+decreases-strings::more_literals l = 2 ^ 65 * (20 * (l.depth.steps - 1) + 11)
+
+abbrev pub decreases-strings::read_formatted : goal.decreases-strings::read_formatted
+decreases-strings::read_formatted l = 2 ^ 65 * (20 * (l.depth.steps - 1) + 10)
+
+-- within an f-string the terminals that are left count too: format specs stand in fields
+abbrev pub decreases-strings::read_parts : goal.decreases-strings::read_parts
+decreases-strings::read_parts l = 2 ^ 65 * (20 * (l.depth.steps - 1) + 9) + (2 * (length l.tokens.now - l.before.next) + 1)
+
+abbrev pub decreases-strings::with_part : goal.decreases-strings::with_part
+decreases-strings::with_part l = 2 ^ 65 * (20 * (l.depth.steps - 1) + 9) + 2 * (length l.tokens.now - l.before.next)
+
+abbrev pub decreases-strings::read_field : goal.decreases-strings::read_field
+decreases-strings::read_field l = 2 ^ 65 * (20 * (l.depth.steps - 1) + 9) + (2 * (length l.tokens.now - l.at) + 1)
+
+abbrev pub decreases-strings::read_spec : goal.decreases-strings::read_spec
+decreases-strings::read_spec l = 2 ^ 65 * (20 * (l.depth.steps - 1) + 9) + (2 * (length l.tokens.now - l.at) + 1)
+
+abbrev pub invariant-strings::more_literals-more : goal.invariant-strings::more_literals-more
+invariant-strings::more_literals-more l = record {
+  ahead : l.fn.before.next ≤ l.values.next;
+  within : l.values.next ≤ length l.tokens;
+  is : (acc : List StringPart) → state_of l.fn.before ≡ gathered l.unicode acc → Literals l.tokens l.depth l.unicode (literals_loop (inner_reads l.depth) l.unicode (length (seen l.tokens l.fn.before.next)) acc (seen l.tokens l.fn.before.next)) l.values;
+}
+
+abbrev pub decreases-strings::more_literals-more : goal.decreases-strings::more_literals-more
+decreases-strings::more_literals-more l = length l.tokens - l.values.next
+
+abbrev pub invariant-strings::read_parts-parts : goal.invariant-strings::read_parts-parts
+invariant-strings::read_parts-parts l = record {
+  ahead : l.fn.before.next ≤ l.values.next;
+  within : l.values.next ≤ length l.tokens;
+  is : (most : ℕ) (acc : List StringPart) → length (seen l.tokens l.fn.before.next) ≤ most → state_of l.fn.before ≡ gathered l.unicode acc → Parts l.tokens l.depth l.unicode (parts_loop (inner_reads l.depth) l.unicode most acc (seen l.tokens l.fn.before.next)) l.values;
+}
+
+abbrev pub decreases-strings::read_parts-parts : goal.decreases-strings::read_parts-parts
+decreases-strings::read_parts-parts l = length l.tokens - l.values.next

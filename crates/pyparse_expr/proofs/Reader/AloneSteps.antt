@@ -6,12 +6,14 @@ use Rattle.pylex_lexeme.specs.declared.kinds.Exact.TheVariants.{RPar, RSqb, RBra
 use Rattle.pytree_node.specs.declared.operators.Context.TheVariants.{Load}
 use Rattle.pytree_node.specs.Trees
 use Rattle.pytree_node.specs.Trees.{Expr}
+use Rattle.pytree_node.specs.Values.{Value}
 use Rattle.pytoken.specs.Terminals.{Terminal, Op, Ident, Number, Literal}
 use Rattle.pytoken.specs.declared.values.terminals.Terminal as given
 use Rattle.pytree_height.specs.Heights.{height}
 use Rattle.pygrammar.specs.declared.levels.Level.TheVariants as level
 use Rattle.pygrammar.specs.Constants.{joined}
-use Rattle.pygrammar.specs.Reader.{Answer, Found, TooDeep, Reads, and_then, made, string_run, constant_of, if_else_step}
+use Rattle.pygrammar.specs.Looks.{is_formatted_begin}
+use Rattle.pygrammar.specs.Reader.{Answer, Found, TooDeep, Reads, and_then, on_first, made, string_run, constant_of, literals, if_else_step}
 use Rattle.pygrammar.specs.Capped.{cap, capped, capped_atom, capped_primary, capped_loop}
 use Rattle.pyparse_expr.specs.declared.depth.Depth.{Depth}
 use Rattle.pyparse_nodes.specs.declared.found.Read.{Read}
@@ -26,6 +28,14 @@ no_run : (r : List Terminal) → ends r ≡ true → string_run [] r ≡ Found [
 no_run [] h = refl
 no_run (Op s ∷ r) h = refl
 no_run (_ ∷ r) h = absurd (cc)
+
+no_begin : {B : Type 0} (r : List Terminal) (hit : ℕ → List Terminal → Answer B) (miss : Answer B) → ends r ≡ true → on_first is_formatted_begin r hit miss ≡ miss
+no_begin [] hit miss h = refl
+no_begin (Op s ∷ r) hit miss h = refl
+no_begin (_ ∷ r) hit miss h = absurd (cc)
+
+one_literal : (self : Reads) (v : Value) (r : List Terminal) → ends r ≡ true → literals self v r ≡ made (constant_of (joined v [])) r
+one_literal self v r h = rw (no_run r h) (no_begin r _ _ h)
 
 module _ (d : ℕ) (inner : Reads) (e : Expr) where
   no_trail : (r : List Terminal) → ends r ≡ true → capped_primary d inner (length r) e r ≡ Found e r
@@ -89,7 +99,7 @@ value_of _ = None
 atom_is : (same inner : Reads) (t : Terminal) (r : List Terminal) → atom_with t ≡ true → ends r ≡ true → capped_atom same inner (t ∷ r) ≡ made (value_of t) r
 atom_is same inner (Ident x) r a h = refl
 atom_is same inner (Number v) r a h = refl
-atom_is same inner (Literal v) r a h = ap (λ z. and_then z (λ vs r1. made (constant_of (joined v vs)) r1)) (no_run r h)
+atom_is same inner (Literal v) r a h = one_literal inner v r h
 atom_is same inner _ r a h = absurd (cc)
 
 levels_are : (g k : ℕ) (t : Terminal) (r : List Terminal) → atom_with t ≡ true → capped (suc g) (suc k) level.Expression (t ∷ r) ≡ forks (suc k) (capped g k) (climbs (suc k) (capped g k) (trails (suc k) (capped g k) (capped (suc g) (suc k) level.Atom (t ∷ r))))

@@ -65,6 +65,11 @@ module _ (ts : List given.Terminal) (d : Depth) (at : ℕ) (o : IsOpen d) where
   pub part_star : (e : Read) (z : Result Read Stop) → Stands (Op Star) ts at → FoundAt ts (d.room - 1) (at + 1 + 1) (inner_reads d level.Expression (seen ts (at + 1))) e → Makes d.room (Trees.Starred (tree_of e.expr.value) Load) e.next z → Answered ts d.room (at + 1) (reads d level.Part (seen ts at)) z
   part_star e z s f m = by_level ts (at + 1) d level.Part (seen ts at) z o (rw (s.is, f.is) (node ts d.room (at + 1) (Trees.Starred (tree_of e.expr.value) Load) e.next z (omega (arith, f.ahead)) f.within m))
 
+  pub part_plain : (z : Result Read Stop) → None ≡ first_is (is_op Star) (seen ts at) → Answered ts d.room (at + 1) (reads d level.Slice (seen ts at)) z → Answered ts d.room (at + 1) (reads d level.Part (seen ts at)) z
+  part_plain z n h =
+      let q : level_at d level.Part (seen ts at) ≡ cap d.room (reads d level.Slice (seen ts at)) = ap (λ y. cap d.room y) (first_miss (is_op Star) (seen ts at) _ _ n) in
+      by_level ts (at + 1) d level.Part (seen ts at) z o (rw q (again ts d.room (at + 1) (reads d level.Slice (seen ts at)) z h))
+
   pub expression_lambda : (z : Result Read Stop) → Stands (Word Key.Lambda) ts at → Answered ts d.room (at + 1 + 1) (cap d.room (lambda_step (inner_reads d) (seen ts (at + 1)))) z → Answered ts d.room (at + 1) (reads d level.Expression (seen ts at)) z
   expression_lambda z s h = by_level ts (at + 1) d level.Expression (seen ts at) z o (rw s.is (earlier ts d.room d.room (at + 1) (at + 1 + 1) (cap d.room (lambda_step (inner_reads d) (seen ts (at + 1)))) z (omega arith) (omega arith) h))
 

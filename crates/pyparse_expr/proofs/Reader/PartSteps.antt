@@ -1,24 +1,26 @@
 -- Targets, parameters and arguments of a line, by those of the parts of an expression.
 --
 -- Carries: target_at, parameters_at, arguments_at. On: Readings, Formals, ArgumentOrder.
-use Rattle.std.proofs.Common.{◌≡◌, refl, sym, ap, ◌∙◌, arith, ℕ, ◌+◌, ◌-◌, List, [], map, Some, None, true, false, not, cond, Result}
+use Rattle.std.proofs.Common.{◌≡◌, refl, sym, ap, ◌∙◌, arith, ℕ, ◌+◌, ◌-◌, List, [], map, Some, None, Bool, true, false, not, cond, Result}
 use Rattle.pytree_node.specs.Trees
 use Rattle.pytree_node.specs.Trees.{Arguments, Exprs, Keywords, exprs}
 use Rattle.pytree_node.specs.TreeOf.{keyword_of, tree_of}
+use Rattle.pytree_node.specs.Values.{Value}
 use Rattle.pytoken.specs.Terminals.{Terminal}
 use Rattle.pytoken.specs.declared.values.terminals.Terminal as given
 use Rattle.pygrammar.specs.Arguments as rule
 use Rattle.pygrammar.specs.Arguments.{in_order, positional}
 use Rattle.pygrammar.specs.Capped.{capped}
 use Rattle.pygrammar.specs.Entries.{Argument, Entry, Parameter}
+use Rattle.pygrammar.specs.FormattedStrings.{StringPart}
 use Rattle.pygrammar.specs.Parameters.{arranged}
-use Rattle.pygrammar.specs.Reader.{Answer, Found, NoForm, Reads, and_then, listing_of, made, read_target}
+use Rattle.pygrammar.specs.Reader.{Answer, Found, NoForm, Reads, and_then, listing_of, joined_step, literals, made, read_target}
 use Rattle.pyparse_nodes.specs.declared.actual.Actual.{Actual}
 use Rattle.pyparse_expr.specs.declared.depth.Depth.{Depth}
 use Rattle.pyparse_nodes.specs.declared.found.Read.{Read}
 use Rattle.pyparse_expr.specs.declared.signatures.Signature.{Signature}
 use Rattle.pyparse_nodes.specs.declared.stop.Stop.{Stop}
-use Rattle.pyparse_nodes.specs.Answers.{Answered, Failed, PartAt}
+use Rattle.pyparse_nodes.specs.Answers.{Answered, Failed, PartAnswered, PartAt}
 use Rattle.pyparse_expr.specs.Inner.Arguments.{ActualAt, arguments_of, start}
 use Rattle.pyparse_expr.specs.Inner.Arguments as actuals
 use Rattle.pyparse_nodes.specs.Formals.{outcome}
@@ -46,6 +48,12 @@ module _ (ts : List given.Terminal) (o d : Depth) (at : ℕ) (h : IsOuter o d) w
   target_outer z f =
       let r : o.room + 1 ≡ d.room + 2 = omega (arith, h.room) in
       rw (← r, ← outer_reads o d h) f
+
+  pub literals_outer : (v : Value) (z : Result Read Stop) → PartAnswered ts at (literals (inner_reads o) v (seen ts at)) (λ r. tree_of r.expr.value) (λ r. r.next) z → PartAnswered ts at (literals (reads d) v (seen ts at)) (λ r. tree_of r.expr.value) (λ r. r.next) z
+  literals_outer v z f = rw (← outer_reads o d h) f
+
+  pub joined_outer : (u : Bool) (acc : List StringPart) (z : Result Read Stop) → PartAnswered ts at (joined_step (inner_reads o) u acc (seen ts at)) (λ r. tree_of r.expr.value) (λ r. r.next) z → PartAnswered ts at (joined_step (reads d) u acc (seen ts at)) (λ r. tree_of r.expr.value) (λ r. r.next) z
+  joined_outer u acc z f = rw (← outer_reads o d h) f
 
   parameters_outer : listed o true (seen ts at) ≡ listing_of (reads d) (Parameter true) [] (seen ts at)
   parameters_outer = ap (λ (self : Reads). listing_of self (Parameter true) [] (seen ts at)) (outer_reads o d h)

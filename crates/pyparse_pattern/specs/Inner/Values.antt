@@ -1,5 +1,5 @@
--- Numbers and literals, as the program reads them.
-use Rattle.std.specs.Prelude.{◌≡◌, ℕ, ◌+◌, ◌≤◌, List, Bool, None, cond, length}
+-- Numbers, literals and keys, as the program reads them.
+use Rattle.std.specs.Prelude.{◌≡◌, ℕ, ◌+◌, ◌-◌, ◌≤◌, List, [], ◌∷◌, Bool, true, false, None, cond, length}
 use Rattle.pylex_lexeme.specs.declared.kinds.Exact.TheVariants.{Minus}
 use Rattle.pytoken.specs.declared.keywords.Keyword.{Keyword}
 use Rattle.pytree_node.specs.declared.operators.UnaryOperator.TheVariants as Un
@@ -19,7 +19,9 @@ use Rattle.pyparse_nodes.specs.declared.stop.Stop.{Stop}
 use Rattle.pyparse_nodes.specs.declared.stop.Stop.TheVariants as stop
 use Rattle.pyparse_nodes.specs.Answers.{Failed}
 use Rattle.pyparse_nodes.specs.Views.{Stands, seen}
+use Rattle.pyparse_expr.specs.declared.depth.Depth.{Depth}
 use Rattle.pyparse_pattern.specs.declared.numbers.Number.{Number}
+use Rattle.pyparse_pattern.specs.Inner.Readings.{field_reads}
 
 -- what may follow a number, imaginary or not
 abbrev pub summed : Bool → Expr → List tokens.Terminal → Answer Expr
@@ -58,6 +60,16 @@ IsNoSingleton stop.NoForm w = singleton_word (tokens.Word w) ≡ None
 IsNoSingleton stop.TooDeep w = ⊥
 IsNoSingleton stop.Memory w = Unit {0}
 
--- a key of any height
-abbrev pub keys : ℕ → List tokens.Terminal → Answer Expr
-keys room i = literal_or i (on_first singleton_word i (λ v r. Found (Trees.Constant v) r) (on_first name_in i (λ x r. and_then (dotted_from room x r) named_key) NoForm))
+-- a string literal or an f-string
+abbrev pub begins_string : tokens.Terminal → Bool
+begins_string (tokens.Literal v) = true
+begins_string tokens.FormattedBegin = true
+begins_string _ = false
+
+abbrev pub starts_string : List tokens.Terminal → Bool
+starts_string [] = false
+starts_string (t ∷ r) = begins_string t
+
+-- a key of any height, among the parts of a pattern
+abbrev pub keys : Depth → List tokens.Terminal → Answer Expr
+keys d i = literal_or (field_reads d) i (on_first singleton_word i (λ v r. Found (Trees.Constant v) r) (on_first name_in i (λ x r. and_then (dotted_from (d.room - 1) x r) named_key) NoForm))

@@ -2,7 +2,7 @@ use Rattle.std.proofs.Common.{◌∙◌, ap, sym, Some}
 use Rattle.pytree_node.specs.Values.{Int}
 use Rattle.pytoken.specs.Terminals.{Number}
 use Rattle.pytoken.specs.TerminalOf.{terminal}
-use Rattle.pyparse_pattern.proofs.Literals.{stands_here}
+use Rattle.pyparse_pattern.proofs.NumberSteps.{stands_here}
 use Rattle.pyparse_pattern.proofs.numbers.value_at.Goals as goal
 
 pub returns-in_ok-new-in-Some-Whole : goal.returns-in_ok-new-in-Some-Whole

@@ -1,6 +1,6 @@
 use Rattle.std.proofs.Common.{arith, rules}
 use Rattle.pytree_node.specs.TreeOf.{tree_of}
-use Rattle.pyparse_pattern.proofs.Literals.{sum_failed, sum_made, sum_real}
+use Rattle.pyparse_pattern.proofs.NumberSteps.{sum_failed, sum_made, sum_real}
 use Rattle.pyparse_pattern.proofs.numbers.with_imaginary.Goals as goal
 
 pub returns-in_err-right : goal.returns-in_err-right

@@ -1,30 +1,28 @@
--- Numbers and literals at a place.
+-- Numbers at a place.
 --
--- Carries: value_at, signed_at, with_imaginary, read_literal. On: Values, PatternReader.
+-- Carries: value_at, signed_at, with_imaginary. On: Values, PatternReader.
 use Rattle.std.proofs.Common.{◌≡◌, refl, sym, ap, ◌∙◌, arith, ℕ, ◌+◌, ◌≤◌, ◌<◌, List, [], ◌∷◌, length, Some, None, Bool, true, false, cond, Result, Ok, Err}
-use Rattle.pylex_lexeme.specs.declared.kinds.Exact.TheVariants.{Minus}
 use Rattle.pytree_node.specs.declared.operators.Operator.{Operator}
 use Rattle.pytree_node.specs.Trees
 use Rattle.pytree_node.specs.Trees.{Expr}
 use Rattle.pytree_node.specs.TreeOf.{tree_of}
 use Rattle.pytree_node.specs.Values.{Value}
 use Rattle.pytree_height.specs.Heights.{height}
-use Rattle.pytoken.specs.Terminals.{Terminal, Op, Number, Literal}
+use Rattle.pytoken.specs.Terminals.{Terminal, Op, Number}
 use Rattle.pytoken.specs.declared.values.terminals.Terminal as given
 use Rattle.pygrammar.specs.declared.levels.Level.TheVariants.{Sum}
 use Rattle.pygrammar.specs.Operators.{left_operator}
 use Rattle.pygrammar.specs.PatternOperators.{is_imaginary}
-use Rattle.pygrammar.specs.PatternReader.{imaginary_in, literal_or, number_in}
+use Rattle.pygrammar.specs.PatternReader.{imaginary_in, number_in}
 use Rattle.pygrammar.specs.Reader.{Answer, Found, NoForm, TooDeep, on_first, on_some}
 use Rattle.pyparse_nodes.specs.declared.found.Read.{Read}
 use Rattle.pyparse_nodes.specs.declared.stop.Stop.{Stop}
 use Rattle.pyparse_nodes.specs.declared.stop.Stop.TheVariants as stop
 use Rattle.pyparse_nodes.specs.Answers.{Answered, Failed, Makes}
-use Rattle.pyparse_nodes.specs.Runs.{run}
-use Rattle.pyparse_nodes.specs.Views.{Stands, first_is, first_of, literal_in, seen}
+use Rattle.pyparse_nodes.specs.Views.{Stands, first_is, first_of, seen}
 use Rattle.pyparse_expr.proofs.Callers.Looks.{first_hit, front, seen_next}
 use Rattle.pyparse_pattern.specs.declared.numbers.Number as found
-use Rattle.pyparse_pattern.specs.Inner.Values.{NoNumberAt, NumberAt, numbers, summed}
+use Rattle.pyparse_pattern.specs.Inner.Values.{NoNumberAt, NumberAt, summed}
 
 -- a terminal of the program stands
 pub stands_here : (ts : List given.Terminal) (at : ℕ) (t : Terminal) → at < length ts → first_of (seen ts at) ≡ Some t → Stands t ts at
@@ -89,21 +87,3 @@ module _ (ts : List given.Terminal) (e : Expr) (at : ℕ) (o : Operator) (sign :
 
   pub sum_made : (n : found.Number) (z : Result Read Stop) → n.imaginary ≡ true → NumberAt ts (at + 1) n → height e ≤ 2 → Makes 3 (Trees.BinOp e o (tree_of n.read.expr.value)) n.read.next z → Answered ts 3 at (summed false e (seen ts at)) z
   sum_made n z q h l m = rw (sum_is ∙ by_value n true q h) (low_node ts 3 at (Trees.BinOp e o (tree_of n.read.expr.value)) n.read.next z (omega (arith, h.next)) (omega (arith, h.next, h.stands.within)) (omega (arith, l, ap height h.tree)) m)
-
--- literals
-
-pub literal_read : (ts : List given.Terminal) (at : ℕ) (v : Value) (z : Result Read Stop) → first_of (seen ts at) ≡ Some (Literal v) → Answered ts 1 (at + 1) (run v (seen ts (at + 1))) z → Answered ts 3 (at + 1) (literal_or (seen ts at) NoForm) z
-literal_read ts at v (Ok r) h a = record { ahead = a.ahead; within = a.within; low = omega (arith, a.low); is = rw (front ts at (Literal v) h) a.is }
-literal_read ts at v (Err s) h a = rw (front ts at (Literal v) h) a
-
--- any other one is a number
-pub literal_number : (ts : List given.Terminal) (at : ℕ) → None ≡ first_is literal_in (seen ts at) → literal_or (seen ts at) NoForm ≡ numbers (seen ts at)
-literal_number ts at n = go (seen ts at) n
-  where
-    go : (i : List Terminal) → None ≡ first_is literal_in i → literal_or i NoForm ≡ numbers i
-    go [] h = refl
-    go (Literal v ∷ i) h = absurd (cc)
-    go (Number v ∷ i) h = refl
-    go (Op Minus ∷ i) h = refl
-    go (Op s ∷ i) h = refl
-    go (t ∷ i) h = refl
