@@ -18,6 +18,7 @@ pub use Rattle.pytoken.specs.StringValues
 pub use Rattle.pytoken.specs.Terminals
 pub use Rattle.pytoken.specs.Tokens
 pub use Rattle.pytree_fits.specs.Given
+pub use Rattle.pytree_fits.specs.Low
 pub use Rattle.pytree_fits.specs.Names
 pub use Rattle.pytree_fits.specs.PatternSlots
 pub use Rattle.pytree_fits.specs.Slots

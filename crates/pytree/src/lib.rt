@@ -12,15 +12,16 @@
 //! Whether a tree is well formed, and so has source text, tell [`well_formed`], [`well_formed_at`]
 //! and [`well_formed_pattern_at`]: in terms of the levels of the grammars of expressions and of
 //! patterns ([`Level`], [`PatternLevel`]) and of names ([`is_name`], [`is_identifier`],
-//! [`is_keyword`]).
+//! [`is_keyword`]). One with an f-string that is higher than 500 is well formed by its parts, and may
+//! have no text.
 //!
 //! The words of contracts are in `specs/`: `Names` defines names. Those of the crates below come
 //! from here too: `Trees` has the trees as values with no addresses, `TreeOf` the value of each
 //! node, `Heights` the heights of a tree, `Shows` what it shows, `Layout` the text of that. So do
 //! those of `pytoken`: `Tokens` has the tokens of a source, `Terminals` what each is to the
 //! grammar, `Refusals` why a source has none, and `Laws` what holds of the values of tokens.
-//! Which trees the grammar gives, and what fits each field, say those of `pytree_fits`: `Given`,
-//! `Slots`, `PatternSlots` and `Statements`.
+//! Which trees the grammar gives, which are low, and what fits each field, say those of
+//! `pytree_fits`: `Given`, `Low`, `Slots`, `PatternSlots` and `Statements`.
 #![tactic(auto)]
 
 mod fits;
@@ -35,7 +36,7 @@ pub use pytoken::{Meaning, Refusal, TokenError, is_identifier};
 pub use pytree_dump::{Pieces, Style, dump, dump_expr};
 pub use pytree_height::{Heights, height};
 pub use pytree_node::{
-    Alias, Arg, Arguments, BoolOperator, Case, Comparison, Comprehension, Constant, Context, Expr,
-    Extent, Handler, Identifier, Integer, Item, Keyword, Module, Operator, Pattern, Points,
-    Profile, Stmt, TypeParam, UnaryOperator, Version,
+    Alias, Arg, Arguments, BoolOperator, Case, Comparison, Comprehension, Constant, Context,
+    Conversion, Expr, Extent, Handler, Identifier, Integer, Item, Keyword, Module, Operator,
+    Pattern, Points, Profile, Stmt, TypeParam, UnaryOperator, Version,
 };

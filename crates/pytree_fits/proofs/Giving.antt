@@ -2,6 +2,7 @@
 pub mod Places
 pub mod Making
 pub mod Calls
+pub mod Strings
 pub mod Parameters
 pub mod Gives
 pub mod PatternValues

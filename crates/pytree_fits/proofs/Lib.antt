@@ -2,6 +2,9 @@ mod NameLemmas
 mod Shapes
 mod TargetShapes
 mod ValueShapes
+mod StringShapes
+mod StringLoops
+mod StringFields
 mod Counts
 mod Loops
 mod InRange
@@ -14,3 +17,4 @@ mod Fields
 mod Fitting
 mod Giving
 mod Exactness
+mod Worked

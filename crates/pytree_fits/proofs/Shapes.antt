@@ -1,9 +1,10 @@
 -- An expression of the program has the shape that its value has.
 --
--- Carries: the tests of a class, for TargetShapes and ValueShapes. On: TreeOf.
-use Rattle.std.proofs.Common.{◌≡◌, Global, refl, sym, subst}
+-- Carries: the tests of a class, for TargetShapes, ValueShapes and StringShapes. On: TreeOf.
+use Rattle.std.proofs.Common.{◌≡◌, Global, Option, refl, sym, subst}
 use Rattle.std.specs.declared.vec.Vec.{Vec}
 use Rattle.std.specs.declared.boxed.Box.{Box}
+use Rattle.pyfstring.specs.declared.parts.Conversion.{Conversion}
 use Rattle.pytree_node.specs.declared.operators.Operator.{Operator}
 use Rattle.pytree_node.specs.declared.operators.UnaryOperator.{UnaryOperator}
 use Rattle.pytree_node.specs.declared.operators.Context.{Context}
@@ -34,7 +35,7 @@ unfolding tree_of arg_of arguments_of comprehension_of keyword_of
 opened = given.fold_out-Expr plain.Expr plain.Arg plain.Arguments plain.Comprehension plain.Keyword
     expr_step arg_step arguments_step comprehension_step keyword_step
 
--- it has the shape of this target, or of this value of a pattern
+-- it has the shape of this target, of this value of a pattern, or of this part of an f-string
 abbrev pub HasShape : plain.Expr → Expr → Type 0
 HasShape (plain.Attribute _ _ _) given = (value : Box Expr Global) × (attr : Identifier) × (ctx : Context) × (given ≡ variant.Attribute value attr ctx)
 HasShape (plain.Subscript _ _ _) given = (value : Box Expr Global) × (slice : Box Expr Global) × (ctx : Context) × (given ≡ variant.Subscript value slice ctx)
@@ -45,6 +46,8 @@ HasShape (plain.Tuple _ _) given = (elts : Vec Expr Global) × (ctx : Context) �
 HasShape (plain.Constant _) given = (value : Constant) × (given ≡ variant.Constant value)
 HasShape (plain.UnaryOp _ _) given = (op : UnaryOperator) × (operand : Box Expr Global) × (given ≡ variant.UnaryOp op operand)
 HasShape (plain.BinOp _ _ _) given = (left : Box Expr Global) × (op : Operator) × (right : Box Expr Global) × (given ≡ variant.BinOp left op right)
+HasShape (plain.FormattedValue _ _ _) given = (value : Box Expr Global) × (conversion : Conversion) × (spec : Option (Box Expr Global)) × (given ≡ variant.FormattedValue value conversion spec)
+HasShape (plain.JoinedStr _) given = (values : Vec Expr Global) × (given ≡ variant.JoinedStr values)
 HasShape _ given = Unit {0}
 
 layer_has_shape : (node : Layer) → HasShape (expr_step (valued node)) (given.roll-Expr node)
@@ -58,6 +61,8 @@ layer_has_shape (layer.Tuple elts ctx) = (elts, ctx, refl)
 layer_has_shape (layer.Constant value) = (value, refl)
 layer_has_shape (layer.UnaryOp op operand) = (op, operand, refl)
 layer_has_shape (layer.BinOp left op right) = (left, op, right, refl)
+layer_has_shape (layer.FormattedValue value conversion spec) = (value, conversion, spec, refl)
+layer_has_shape (layer.JoinedStr values) = (values, refl)
 layer_has_shape _ = tt
 
 pub has_shape : (e : Expr) → HasShape (tree_of e) e

@@ -4,6 +4,7 @@
 -- dotted_fits, starts_wild. On: Shapes.
 use Rattle.std.proofs.Common.{◌≡◌, Global, refl, false}
 use Rattle.std.specs.declared.boxed.Box.{Box}
+use Rattle.std.specs.declared.vec.Vec.{Vec}
 use Rattle.pytree_node.specs.declared.operators.Operator.{Operator}
 use Rattle.pytree_node.specs.declared.operators.UnaryOperator.{UnaryOperator}
 use Rattle.pytree_node.specs.declared.operators.Context.{Context}
@@ -57,11 +58,14 @@ module _ (e : Expr) where
       pub not_real : (n : Tests) → real_fits n (tree_of e) ≡ false
       not_real n = no_real_is n (tree_of e) (has_shape e)
 
-      module _ (no_binary : (left : Box Expr Global) (op : Operator) (right : Box Expr Global) → e ≡ variant.BinOp left op right → ⊥) where
+      module _
+          (no_binary : (left : Box Expr Global) (op : Operator) (right : Box Expr Global) → e ≡ variant.BinOp left op right → ⊥)
+          (no_joined : (values : Vec Expr Global) → e ≡ variant.JoinedStr values → ⊥) where
         no_literal_is : (n : Tests) (t : plain.Expr) → HasShape t e → literal_fits n t ≡ false
         no_literal_is n (plain.Constant _) h = absurd (no_constant h.0 h.1)
         no_literal_is n (plain.UnaryOp _ _) h = absurd (no_unary h.0 h.1 h.2)
         no_literal_is n (plain.BinOp _ _ _) h = absurd (no_binary h.0 h.1 h.2 h.3)
+        no_literal_is n (plain.JoinedStr _) h = absurd (no_joined h.0 h.1)
         no_literal_is n _ h = refl
 
         pub not_literal : (n : Tests) → literal_fits n (tree_of e) ≡ false

@@ -1,4 +1,4 @@
--- What holds of the trees that fit: they are those that the grammar gives.
+-- What holds of the trees that fit: they are those that the grammar gives, to terminals and, unless they are too high for an f-string, to tokens.
 use Rattle.std.specs.Prelude.{◌≡◌, ◌↔◌, Bool, true, ◌&&◌}
 use Rattle.pytree_node.specs.declared.operators.Context.TheVariants.{Store, Del}
 use Rattle.pytree_node.specs.declared.profiles.Extent.{Extent}
@@ -18,6 +18,7 @@ use Rattle.pytree_fits.specs.Slots.{is_single, fits_at, fits_target, each_fits, 
 use Rattle.pytree_fits.specs.PatternSlots.{pattern_fits_at}
 use Rattle.pytree_fits.specs.Statements.{module_fits}
 use Rattle.pytree_fits.specs.Given.{Given, Expressed, Patterned, Stated}
+use Rattle.pytree_fits.specs.Low.{IsLow, IsLowPattern, IsLowModule}
 
 -- ---- By terminals, for any test of names, in either extent.
 
@@ -49,19 +50,23 @@ ArgumentsFitExactly = (n : Tests) (zs : Exprs) (ks : Keywords) →
 abbrev pub PatternsFitExactly : Type 0
 PatternsFitExactly = (n : Tests) (l : PatternLevel) (p : Pattern) → Given n (DerivesPattern l) p ↔ (pattern_fits_at n l p ≡ true)
 
--- ---- By tokens.
+-- ---- By tokens. A tree that some tokens are fits. One that fits is some tokens, unless it has an f-string and is higher than 500: such a one may be
+-- well formed by its parts, and have no tokens, since a field of an f-string opens 599 brackets at most.
 
--- an expression of names and constants that fits a level in an extent is one that the grammar gives there to some tokens without a fault in that extent
+-- an expression that the grammar gives at a level to some tokens without a fault in an extent fits there; and a low one that fits is so given
 abbrev pub ExpressionsFitExactly : Type 0
-ExpressionsFitExactly = (extent : Extent) (l : Level) (e : Expr) → Expressed extent l e ↔ (fits_at (tests_in extent) l e ≡ true)
+ExpressionsFitExactly = (extent : Extent) (l : Level) (e : Expr) → (Expressed extent l e → fits_at (tests_in extent) l e ≡ true)
+    × (IsLow l e → fits_at (tests_in extent) l e ≡ true → Expressed extent l e)
 
--- so is a pattern that fits a level in an extent
+-- so with patterns
 abbrev pub PatternsFitExactlyInTokens : Type 0
-PatternsFitExactlyInTokens = (extent : Extent) (l : PatternLevel) (p : Pattern) → Patterned extent l p ↔ (pattern_fits_at (tests_in extent) l p ≡ true)
+PatternsFitExactlyInTokens = (extent : Extent) (l : PatternLevel) (p : Pattern) → (Patterned extent l p → pattern_fits_at (tests_in extent) l p ≡ true)
+    × (IsLowPattern l p → pattern_fits_at (tests_in extent) l p ≡ true → Patterned extent l p)
 
--- so is a module that fits in a version of Python, in its extent: the grammar gives it to some lines of such tokens
+-- so with modules, in a version of Python and its extent, and some lines of such tokens
 abbrev pub ModulesFitExactly : Type 0
-ModulesFitExactly = (profile : Profile) (m : Module) → Stated profile m ↔ (module_fits profile (tests_in profile.extent) m ≡ true)
+ModulesFitExactly = (profile : Profile) (m : Module) → (Stated profile m → module_fits profile (tests_in profile.extent) m ≡ true)
+    × (IsLowModule m → module_fits profile (tests_in profile.extent) m ≡ true → Stated profile m)
 
 -- ---- By extents and versions.
 

@@ -5,4 +5,5 @@ pub mod Slots
 pub mod PatternSlots
 pub mod Statements
 pub mod Given
+pub mod Low
 pub mod Laws

@@ -18,7 +18,7 @@ use Rattle.pygrammar.specs.PatternOperators.{is_imaginary, is_wildcard}
 use Rattle.pytree_fits.specs.Tests.{Tests}
 use Rattle.pytree_fits.specs.Literals.{is_value}
 use Rattle.pytree_fits.specs.Given.{is_number, is_literal}
-use Rattle.pytree_fits.specs.Slots.{is_context}
+use Rattle.pytree_fits.specs.Slots.{is_context, joined_fits}
 
 -- ---- Names.
 
@@ -52,23 +52,24 @@ is_minus _ = false
 
 -- what a NUMBER gives
 abbrev pub number_fits : Tests → Expr → Bool
-number_fits n (Trees.Constant v) = is_number v && is_value n.extent v
+number_fits n (Trees.Constant v) = is_number v && is_value n v
 number_fits n _ = false
 
 abbrev pub imaginary_fits : Tests → Expr → Bool
-imaginary_fits n (Trees.Constant v) = is_imaginary v && is_value n.extent v
+imaginary_fits n (Trees.Constant v) = is_imaginary v && is_value n v
 imaginary_fits n _ = false
 
 -- a number that isn't imaginary, with or without a minus before it
 abbrev pub real_fits : Tests → Expr → Bool
-real_fits n (Trees.Constant v) = is_number v && not (is_imaginary v) && is_value n.extent v
-real_fits n (Trees.UnaryOp op (Trees.Constant v)) = is_minus op && is_number v && not (is_imaginary v) && is_value n.extent v
+real_fits n (Trees.Constant v) = is_number v && not (is_imaginary v) && is_value n v
+real_fits n (Trees.UnaryOp op (Trees.Constant v)) = is_minus op && is_number v && not (is_imaginary v) && is_value n v
 real_fits n _ = false
 
 abbrev pub literal_fits : Tests → Expr → Bool
-literal_fits n (Trees.Constant v) = (is_number v || is_literal v) && is_value n.extent v
+literal_fits n (Trees.Constant v) = (is_number v || is_literal v) && is_value n v
 literal_fits n (Trees.UnaryOp op e) = is_minus op && number_fits n e
 literal_fits n (Trees.BinOp left op right) = is_sum op && real_fits n left && imaginary_fits n right
+literal_fits n (Trees.JoinedStr values) = joined_fits n values
 literal_fits n _ = false
 
 -- names with points between them

@@ -1,15 +1,17 @@
 -- Which expressions the grammar gives at a level to some list of terminals, with no regard to heights (reference 6). Brackets lead from
 -- every level to the lowest, so a level asks only whether a Starred or a Slice may stand there; Expression stands for all levels that
 -- take neither. Each function takes the tests, or that of names alone.
-use Rattle.std.specs.Prelude.{ℕ, ◌+◌, eqb, leb, Bool, true, false, ◌&&◌, ◌||◌, not, length, Option, Some, None}
+use Rattle.std.specs.Prelude.{ℕ, suc, ◌+◌, eqb, leb, Bool, true, false, ◌&&◌, ◌||◌, not, List, [], ◌∷◌, length, Option, Some, None}
 use Rattle.pytree_node.specs.declared.operators.Context.{Context}
 use Rattle.pytree_node.specs.declared.operators.Context.TheVariants.{Load, Store, Del}
 use Rattle.pytree_node.specs.Trees
 use Rattle.pytree_node.specs.Trees.{Identifier, Expr, Exprs, no_exprs, an_expr, OptionalExpr, absent, present, OptionalExprs, no_optional, an_optional, Comprehensions, no_comprehension, a_comprehension, Keywords, no_keyword, a_keyword, Arg, arg, Args, no_arg, an_arg, OptionalArg, absent_arg, present_arg, Arguments, arguments}
 use Rattle.pygrammar.specs.declared.levels.Level.{Level}
 use Rattle.pygrammar.specs.declared.levels.Level.TheVariants.{Value, Stars, StarItem, Expression, Elem, Slices, Part, Slice}
-use Rattle.pytree_fits.specs.Tests.{Tests}
-use Rattle.pytree_fits.specs.Literals.{is_value}
+use Rattle.pytree_fits.specs.Tests.{Tests, in_field}
+use Rattle.pytree_node.specs.Values as values
+use Rattle.pygrammar.specs.Forms.{is_whole}
+use Rattle.pytree_fits.specs.Literals.{is_value, has_formatted_text}
 
 -- where `*e` may stand by itself; a lone one between `[` and `]` is a Tuple
 abbrev pub takes_star : Level → Bool
@@ -78,6 +80,50 @@ abbrev pub perhaps_name : (Identifier → Bool) → Option Identifier → Bool
 perhaps_name n None = true
 perhaps_name n (Some x) = n x
 
+-- ---- F-strings.
+
+-- a text has this kind
+abbrev pub is_kind : Bool → Bool → Bool
+is_kind true k = k
+is_kind false k = not k
+
+abbrev pub is_text : Expr → Bool
+is_text (Trees.Constant v) = true
+is_text _ = false
+
+-- no two texts stand side by side, behind a text or not
+abbrev pub are_apart : (behind_text : Bool) → Exprs → Bool
+are_apart b no_exprs = true
+are_apart b (an_expr e es) = not (b && is_text e) && are_apart (is_text e) es
+
+abbrev pub is_last : Exprs → Bool
+is_last no_exprs = true
+is_last (an_expr e es) = false
+
+-- The texts of a JoinedStr have this kind, and so have those in its format specs, but for the last value of each, which has none.
+abbrev mutual
+  pub have_kind : Bool → (in_spec : Bool) → Exprs → Bool
+  have_kind u s no_exprs = true
+  have_kind u s (an_expr e es) = has_kind u (s && is_last es) e && have_kind u s es
+
+  pub has_kind : Bool → (ends_spec : Bool) → Expr → Bool
+  has_kind u s (Trees.Constant (values.Str t k)) = is_kind (u && not s) k
+  has_kind u s (Trees.FormattedValue value conversion spec) = spec_has_kind u spec
+  has_kind u s _ = true
+
+  pub spec_has_kind : Bool → OptionalExpr → Bool
+  spec_has_kind u (present (Trees.JoinedStr es)) = have_kind u true es
+  spec_has_kind u _ = true
+
+-- an f-string is of the whole language; it stands in one field at most; its texts have the same kind
+abbrev pub may_be_joined : Tests → Exprs → Bool
+may_be_joined n es = is_whole n.extent && leb n.fields 1 && (have_kind false false es || have_kind true false es)
+
+-- a text of an f-string, in so many format specs, which isn't empty
+abbrev pub text_fits : Tests → ℕ → List ℕ → Bool
+text_fits n d [] = false
+text_fits n d (c ∷ cs) = has_formatted_text n.fields d (c ∷ cs)
+
 abbrev mutual
   pub fits_at : Tests → Level → Expr → Bool
   fits_at n l (Trees.BoolOp op values) = leb 2 (count values) && each_fits n Expression values
@@ -97,7 +143,9 @@ abbrev mutual
   fits_at n l (Trees.YieldFrom value) = fits_at n Expression value
   fits_at n l (Trees.Compare left ops comparators) = leb 1 (length ops) && eqb (length ops) (count comparators) && fits_at n Expression left && each_fits n Expression comparators
   fits_at n l (Trees.Call func args keywords) = fits_at n Expression func && each_fits n Elem args && each_keyword_fits n keywords
-  fits_at n l (Trees.Constant value) = is_value n.extent value
+  fits_at n l (Trees.Constant value) = is_value n value
+  fits_at n l (Trees.FormattedValue value conversion spec) = false
+  fits_at n l (Trees.JoinedStr values) = may_be_joined n values && are_apart false values && each_value_fits n 0 values
   fits_at n l (Trees.Attribute value attr ctx) = is_context Load ctx && n.name attr && fits_at n Expression value
   fits_at n l (Trees.Subscript value slice ctx) = is_context Load ctx && fits_at n Expression value && fits_at n Slices slice
   fits_at n l (Trees.Starred value ctx) = takes_star l && is_context Load ctx && fits_at n Expression value
@@ -105,6 +153,22 @@ abbrev mutual
   fits_at n l (Trees.ListOf elts ctx) = is_context Load ctx && each_fits n Elem elts
   fits_at n l (Trees.Tuple elts ctx) = is_context Load ctx && each_fits n (member_level l) elts
   fits_at n l (Trees.Slice lower upper step) = takes_slice l && perhaps_fits n Expression lower && perhaps_fits n Expression upper && perhaps_fits n Expression step
+
+  -- the values of an f-string or of a format spec, which stand in so many format specs
+  pub each_value_fits : Tests → ℕ → Exprs → Bool
+  each_value_fits n d no_exprs = true
+  each_value_fits n d (an_expr e es) = value_fits n d e && each_value_fits n d es
+
+  -- the format spec of a field may have fields, and those no more than a text as theirs
+  pub value_fits : Tests → ℕ → Expr → Bool
+  value_fits n d (Trees.Constant (values.Str t k)) = text_fits n d t
+  value_fits n d (Trees.FormattedValue value conversion spec) = leb d 1 && fits_at (in_field n) Expression value && spec_fits n (suc d) spec
+  value_fits n d _ = false
+
+  pub spec_fits : Tests → ℕ → OptionalExpr → Bool
+  spec_fits n d absent = true
+  spec_fits n d (present (Trees.JoinedStr es)) = are_apart false es && each_value_fits n d es
+  spec_fits n d (present _) = false
 
   -- a target, with the contexts of its place (Store or Del)
   pub fits_target : Tests → Context → Expr → Bool
@@ -157,3 +221,7 @@ abbrev mutual
   pub perhaps_arg_fits : Tests → (annotated : Bool) → Level → OptionalArg → Bool
   perhaps_arg_fits n b l absent_arg = true
   perhaps_arg_fits n b l (present_arg a) = arg_fits n b l a
+
+-- the values of a JoinedStr
+abbrev pub joined_fits : Tests → Exprs → Bool
+joined_fits n es = may_be_joined n es && are_apart false es && each_value_fits n 0 es

@@ -9,7 +9,7 @@ ghost use Rattle.pytree_fits.specs.Names.{is_name};
 ghost use Rattle.pytree_fits.specs.Slots.{each_clause_fits, each_fits, each_keyword_fits};
 ghost use Rattle.pytree_fits.specs.Slots.{each_perhaps_fits, fits_at, fits_target, perhaps_fits};
 ghost use Rattle.pytree_fits.specs.Slots.{perhaps_name};
-ghost use Rattle.pytree_fits.specs.Tests.{tests_in};
+ghost use Rattle.pytree_fits.specs.Tests.{tests_at};
 
 use crate::asking::Asked;
 use crate::leaves::{
@@ -18,6 +18,7 @@ use crate::leaves::{
 use crate::names::is_name;
 use crate::parameters::parameters_fit;
 use crate::places::{is_a_name, is_context, member_level, takes_slice, takes_star};
+use crate::strings::joined_fits;
 use crate::targets::target_fits;
 use pygrammar::Level;
 use pytree_node::{Comprehension, Context, Expr, Keyword};
@@ -29,7 +30,7 @@ use std::alloc::AllocError;
 #[tactic(auto, using(pytree_node::proofs::Callers::ExprShapes::expr_shapes))]
 pub fn expr_fits(asked: Asked, expr: &Expr, level: Level) -> Result<bool, AllocError>
     ensures { IfOk result
-        (λ told. told ≡ fits_at (tests_in asked.extent) level (tree_of expr.now)) }
+        (λ told. told ≡ fits_at (tests_at asked.extent asked.fields) level (tree_of expr.now)) }
 {
     match expr {
         Expr::BoolOp { values, .. } => Ok(
@@ -119,7 +120,9 @@ pub fn expr_fits(asked: Asked, expr: &Expr, level: Level) -> Result<bool, AllocE
             }
             keywords_fit(asked, keywords)
         }
-        Expr::Constant { value } => Ok(constant_fits(asked.extent, value)),
+        Expr::FormattedValue { .. } => Ok(false),
+        Expr::JoinedStr { values } => joined_fits(asked, values),
+        Expr::Constant { value } => Ok(constant_fits(asked, value)),
         Expr::Attribute { value, attr, ctx } => Ok(
             is_context(Context::Load, *ctx)
                 && is_name(asked.alloc, attr.as_str())?
@@ -168,7 +171,7 @@ pub(crate) fn boxed_fits(
     level: Level,
 ) -> Result<bool, AllocError>
     ensures { IfOk result
-        (λ told. told ≡ perhaps_fits (tests_in asked.extent) level (optional (boxed_of expr.now))) }
+        (λ told. told ≡ perhaps_fits (tests_at asked.extent asked.fields) level (optional (boxed_of expr.now))) }
 {
     match expr {
         None => Ok(true),
@@ -181,7 +184,7 @@ pub(crate) fn boxed_fits(
 #[tactic(auto, using(pytree_node::proofs::Callers::ExprShapes::expr_shapes))]
 pub(crate) fn exprs_fit(asked: Asked, es: &[Expr], level: Level) -> Result<bool, AllocError>
     ensures { IfOk result
-        (λ told. told ≡ each_fits (tests_in asked.extent) level (exprs (map tree_of es.now))) }
+        (λ told. told ≡ each_fits (tests_at asked.extent asked.fields) level (exprs (map tree_of es.now))) }
 {
     for e in es {
         if !expr_fits(asked, e, level)? {
@@ -197,7 +200,7 @@ pub(crate) fn exprs_fit(asked: Asked, es: &[Expr], level: Level) -> Result<bool,
 pub(crate) fn options_fit(asked: Asked, es: &[Option<Expr>]) -> Result<bool, AllocError>
     ensures { IfOk result
         (λ told. told
-        ≡ each_perhaps_fits (tests_in asked.extent) (optionals (map option_of es.now))) }
+        ≡ each_perhaps_fits (tests_at asked.extent asked.fields) (optionals (map option_of es.now))) }
 {
     for e in es {
         let fits = match e {
@@ -217,7 +220,7 @@ pub(crate) fn options_fit(asked: Asked, es: &[Option<Expr>]) -> Result<bool, All
 fn keyword_fits(asked: Asked, k: &Keyword) -> Result<bool, AllocError>
     ensures { IfOk result
         (λ told. told
-        ≡ (perhaps_name is_name (keyword_of k.now).arg && fits_at (tests_in asked.extent)
+        ≡ (perhaps_name is_name (keyword_of k.now).arg && fits_at (tests_at asked.extent asked.fields)
         levels.Expression (keyword_of k.now).value)) }
 {
     Ok(optional_name_fits(asked.alloc, &k.arg)? && expr_fits(asked, &k.value, Level::Expression)?)
@@ -229,7 +232,7 @@ fn keyword_fits(asked: Asked, k: &Keyword) -> Result<bool, AllocError>
 pub(crate) fn keywords_fit(asked: Asked, ks: &[Keyword]) -> Result<bool, AllocError>
     ensures { IfOk result
         (λ told. told
-        ≡ each_keyword_fits (tests_in asked.extent) (keywords (map keyword_of ks.now))) }
+        ≡ each_keyword_fits (tests_at asked.extent asked.fields) (keywords (map keyword_of ks.now))) }
 {
     for k in ks {
         if !keyword_fits(asked, k)? {
@@ -245,9 +248,9 @@ pub(crate) fn keywords_fit(asked: Asked, ks: &[Keyword]) -> Result<bool, AllocEr
 fn clause_fits(asked: Asked, c: &Comprehension) -> Result<bool, AllocError>
     ensures { IfOk result
         (λ told. told
-        ≡ (fits_target (tests_in asked.extent) contexts.Store
-        (comprehension_of c.now).target && fits_at (tests_in asked.extent) levels.Expression
-        (comprehension_of c.now).iter && each_fits (tests_in asked.extent) levels.Expression
+        ≡ (fits_target (tests_at asked.extent asked.fields) contexts.Store
+        (comprehension_of c.now).target && fits_at (tests_at asked.extent asked.fields) levels.Expression
+        (comprehension_of c.now).iter && each_fits (tests_at asked.extent asked.fields) levels.Expression
         (exprs (comprehension_of c.now).ifs))) }
 {
     Ok(
@@ -263,7 +266,7 @@ fn clause_fits(asked: Asked, c: &Comprehension) -> Result<bool, AllocError>
 fn clauses_fit(asked: Asked, cs: &[Comprehension]) -> Result<bool, AllocError>
     ensures { IfOk result
         (λ told. told
-        ≡ each_clause_fits (tests_in asked.extent) (comprehensions (map comprehension_of cs.now))) }
+        ≡ each_clause_fits (tests_at asked.extent asked.fields) (comprehensions (map comprehension_of cs.now))) }
 {
     for c in cs {
         if !clause_fits(asked, c)? {

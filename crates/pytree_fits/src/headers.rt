@@ -16,7 +16,7 @@ ghost use Rattle.pytree_fits.specs.Slots.{fits_target, perhaps_fits};
 ghost use Rattle.pytree_fits.specs.PatternSlots.{pattern_fits_at};
 ghost use Rattle.pytree_fits.specs.Statements.{caught_fits, clauses_fit, has_case, has_one, item_fits};
 ghost use Rattle.pytree_fits.specs.Statements.{perhaps_target_fits, types_fit};
-ghost use Rattle.pytree_fits.specs.Tests.{tests_in};
+ghost use Rattle.pytree_fits.specs.Tests.{tests_at};
 
 use crate::asking::Asked;
 use crate::expressions::{boxed_fits, expr_fits, exprs_fit, keywords_fit};
@@ -45,11 +45,11 @@ pub(crate) fn function_head_fits(
 ) -> Result<bool, AllocError>
     ensures { IfOk result
         (λ told. told
-        ≡ (is_name name.now && fits_arguments (tests_in asked.extent) true
-        (arguments_of args.now) && each_fits (tests_in asked.extent) levels.Expression
-        (exprs (map tree_of decorators.now)) && perhaps_fits (tests_in asked.extent)
+        ≡ (is_name name.now && fits_arguments (tests_at asked.extent asked.fields) true
+        (arguments_of args.now) && each_fits (tests_at asked.extent asked.fields) levels.Expression
+        (exprs (map tree_of decorators.now)) && perhaps_fits (tests_at asked.extent asked.fields)
         levels.Expression (optional (boxed_of returns.now)) && types_fit profile
-        (tests_in asked.extent) (map type_param_of parameters.now))) }
+        (tests_at asked.extent asked.fields) (map type_param_of parameters.now))) }
 {
     if !is_name(asked.alloc, name.as_str())? {
         return Ok(false);
@@ -78,10 +78,10 @@ pub(crate) fn class_head_fits(
 ) -> Result<bool, AllocError>
     ensures { IfOk result
         (λ told. told
-        ≡ (is_name name.now && each_fits (tests_in asked.extent) levels.Elem
-        (exprs (map tree_of bases.now)) && each_keyword_fits (tests_in asked.extent)
-        (keywords (map keyword_of words.now)) && each_fits (tests_in asked.extent) levels.Expression
-        (exprs (map tree_of decorators.now)) && types_fit profile (tests_in asked.extent)
+        ≡ (is_name name.now && each_fits (tests_at asked.extent asked.fields) levels.Elem
+        (exprs (map tree_of bases.now)) && each_keyword_fits (tests_at asked.extent asked.fields)
+        (keywords (map keyword_of words.now)) && each_fits (tests_at asked.extent asked.fields) levels.Expression
+        (exprs (map tree_of decorators.now)) && types_fit profile (tests_at asked.extent asked.fields)
         (map type_param_of parameters.now))) }
 {
     if !is_name(asked.alloc, name.as_str())? {
@@ -103,8 +103,8 @@ pub(crate) fn class_head_fits(
 pub(crate) fn for_head_fits(asked: Asked, target: &Expr, iter: &Expr) -> Result<bool, AllocError>
     ensures { IfOk result
         (λ told. told
-        ≡ (fits_target (tests_in asked.extent) contexts.Store
-        (tree_of target.now) && fits_at (tests_in asked.extent) levels.Stars (tree_of iter.now))) }
+        ≡ (fits_target (tests_at asked.extent asked.fields) contexts.Store
+        (tree_of target.now) && fits_at (tests_at asked.extent asked.fields) levels.Stars (tree_of iter.now))) }
 {
     if !target_fits(asked, target, Context::Store)? {
         return Ok(false);
@@ -115,7 +115,7 @@ pub(crate) fn for_head_fits(asked: Asked, target: &Expr, iter: &Expr) -> Result<
 /// Whether the target of an item fits, if it has one.
 fn optional_target_fits(asked: Asked, expr: &Option<Expr>) -> Result<bool, AllocError>
     ensures { IfOk result
-        (λ told. told ≡ perhaps_target_fits (tests_in asked.extent) (option_of expr.now)) }
+        (λ told. told ≡ perhaps_target_fits (tests_at asked.extent asked.fields) (option_of expr.now)) }
 {
     match expr {
         None => Ok(true),
@@ -125,7 +125,7 @@ fn optional_target_fits(asked: Asked, expr: &Option<Expr>) -> Result<bool, Alloc
 
 /// Whether an item of a `with` fits.
 fn item_fits(asked: Asked, item: &Item) -> Result<bool, AllocError>
-    ensures { IfOk result (λ told. told ≡ item_fits (tests_in asked.extent) (item_of item.now)) }
+    ensures { IfOk result (λ told. told ≡ item_fits (tests_at asked.extent asked.fields) (item_of item.now)) }
 {
     Ok(
         expr_fits(asked, &item.context_expr, Level::Expression)?
@@ -137,7 +137,7 @@ fn item_fits(asked: Asked, item: &Item) -> Result<bool, AllocError>
 pub(crate) fn items_fit(asked: Asked, items: &[Item]) -> Result<bool, AllocError>
     ensures { IfOk result
         (λ told. told
-        ≡ (has_one (map item_of items.now) && list_all (item_fits (tests_in asked.extent))
+        ≡ (has_one (map item_of items.now) && list_all (item_fits (tests_at asked.extent asked.fields))
         (map item_of items.now))) }
 {
     if items.is_empty() {
@@ -151,8 +151,8 @@ pub(crate) fn items_fit(asked: Asked, items: &[Item]) -> Result<bool, AllocError
     Ok(true)
 }
 
-/// Whether an extent of the language has `match` statements.
-fn is_whole(extent: Extent) -> bool
+/// Whether an extent of the language is the whole one, which has `match` statements and f-strings.
+pub(crate) fn is_whole(extent: Extent) -> bool
     ensures { result ≡ is_whole extent }
 {
     match extent {
@@ -170,7 +170,7 @@ pub(crate) fn match_head_fits(
     ensures { IfOk result
         (λ told. told
         ≡ (is_whole asked.extent && has_case (cases (map case_of clauses.now)) && fits_at
-        (tests_in asked.extent) levels.Expression (tree_of subject.now))) }
+        (tests_at asked.extent asked.fields) levels.Expression (tree_of subject.now))) }
 {
     if !is_whole(asked.extent) {
         return Ok(false);
@@ -189,8 +189,8 @@ pub(crate) fn case_head_fits(
 ) -> Result<bool, AllocError>
     ensures { IfOk result
         (λ told. told
-        ≡ (pattern_fits_at (tests_in asked.extent) pattern_levels.AsPattern
-        (pattern_of pattern.now) && perhaps_fits (tests_in asked.extent) levels.Expression
+        ≡ (pattern_fits_at (tests_at asked.extent asked.fields) pattern_levels.AsPattern
+        (pattern_of pattern.now) && perhaps_fits (tests_at asked.extent asked.fields) levels.Expression
         (optional (option_of guard.now)))) }
 {
     Ok(
@@ -207,7 +207,7 @@ pub(crate) fn except_fits(
     name: &Option<Identifier>,
 ) -> Result<bool, AllocError>
     ensures { IfOk result
-        (λ told. told ≡ caught_fits (tests_in asked.extent) star (option_of class.now) name.now) }
+        (λ told. told ≡ caught_fits (tests_at asked.extent asked.fields) star (option_of class.now) name.now) }
 {
     match class {
         None => Ok(!star && name.is_none()),

@@ -1,16 +1,16 @@
 //! What holds no expression, and how many expressions there are.
 
-ghost use Rattle.std.specs.Prelude.{◌≡◌, ◌&&◌, ◌+◌, All, IfOk, eqb, leb, length, map};
-ghost use Rattle.std.specs.List.{list_all};
-ghost use Rattle.pytree_node.specs.Points.{IsPoint};
+ghost use Rattle.std.specs.Prelude.{◌≡◌, ◌&&◌, ◌+◌, IfOk, eqb, leb, length, map};
 ghost use Rattle.pytree_node.specs.TreeOf.{arg_of, comprehension_of, constant_of, option_of, tree_of};
 ghost use Rattle.pytree_node.specs.Trees.{args, comprehensions, exprs, optionals};
-ghost use Rattle.pytoken.specs.Laws.{is_byte, is_point};
 ghost use Rattle.pytree_fits.specs.Literals.{has_float, has_integer, is_value};
 ghost use Rattle.pytree_fits.specs.Names.{is_name};
 ghost use Rattle.pytree_fits.specs.Slots.{count, count_args, count_optional, has_some, perhaps_name};
+ghost use Rattle.pytree_fits.specs.Tests.{tests_at};
 
+use crate::asking::Asked;
 use crate::names::is_name;
+use crate::texts::{bytes_fit, points_fit};
 use pyfloat::Double;
 use pytree_node::{Arg, Comparison, Comprehension, Constant, Expr, Extent, Identifier, Integer};
 use std::alloc::{AllocError, Global};
@@ -28,19 +28,20 @@ pub(crate) fn optional_name_fits(
     }
 }
 
-/// Whether a constant is one that literals stand for in an extent of the language.
-pub(crate) fn constant_fits(extent: Extent, value: &Constant) -> bool
-    ensures { result ≡ is_value extent (constant_of value.now) }
+/// Whether a constant is one that literals stand for in an extent of the language, in the fields
+/// that it stands in.
+pub(crate) fn constant_fits(asked: Asked, value: &Constant) -> bool
+    ensures { result ≡ is_value (tests_at asked.extent asked.fields) (constant_of value.now) }
 {
     match value {
         Constant::None => true,
         Constant::Ellipsis => true,
         Constant::Bool(_) => true,
-        Constant::Int(number) => integer_fits(extent, number),
-        Constant::Float(double) => double_fits(extent, double),
-        Constant::Imaginary(double) => double_fits(extent, double),
-        Constant::Str { points, .. } => points_fit(points.as_slice()),
-        Constant::Bytes(bytes) => bytes_fit(bytes),
+        Constant::Int(number) => integer_fits(asked.extent, number),
+        Constant::Float(double) => double_fits(asked.extent, double),
+        Constant::Imaginary(double) => double_fits(asked.extent, double),
+        Constant::Str { points, .. } => points_fit(points.as_slice(), asked.fields),
+        Constant::Bytes(bytes) => bytes_fit(bytes, asked.fields),
     }
 }
 
@@ -62,21 +63,6 @@ fn double_fits(extent: Extent, double: &Double) -> bool
         Extent::Plain => false,
         Extent::Whole => double.is_of_literal(),
     }
-}
-
-/// Whether each of some code points is one, as they are.
-fn points_fit(_points: &[u32]) -> bool
-    requires { All IsPoint _points.now }
-    ensures { result ≡ list_all is_point _points.now }
-{
-    true
-}
-
-/// Whether each of some bytes is one, as they are.
-fn bytes_fit(_bytes: &[u8]) -> bool
-    ensures { result ≡ list_all is_byte _bytes.now }
-{
-    true
 }
 
 /// Whether there are at least so many expressions.

@@ -20,7 +20,9 @@ mod patterns;
 mod places;
 mod simple;
 mod statements;
+mod strings;
 mod targets;
+mod texts;
 
 pub use asking::Asked;
 pub use expressions::expr_fits;

@@ -5,7 +5,7 @@ ghost use Rattle.pygrammar.specs.declared.levels.Level.TheVariants as levels;
 ghost use Rattle.pytree_node.specs.TreeOf.{arg_of, arg_option_of, arguments_of};
 ghost use Rattle.pytree_node.specs.Trees.{args, optional_arg};
 ghost use Rattle.pytree_fits.specs.Slots.{arg_fits, each_arg_fits, fits_arguments, perhaps_arg_fits};
-ghost use Rattle.pytree_fits.specs.Tests.{tests_in};
+ghost use Rattle.pytree_fits.specs.Tests.{tests_at};
 
 use crate::asking::Asked;
 use crate::expressions::{boxed_fits, exprs_fit, options_fit};
@@ -24,7 +24,7 @@ pub(crate) fn parameters_fit(
     annotated: bool,
 ) -> Result<bool, AllocError>
     ensures { IfOk result
-        (λ told. told ≡ fits_arguments (tests_in asked.extent) annotated (arguments_of a.now)) }
+        (λ told. told ≡ fits_arguments (tests_at asked.extent asked.fields) annotated (arguments_of a.now)) }
 {
     if !are_keyword_defaults(&a.kw_defaults, &a.kwonlyargs) {
         return Ok(false);
@@ -58,7 +58,7 @@ pub(crate) fn parameters_fit(
 #[tactic(auto, using(pytree_node::proofs::Callers::ExprShapes::expr_shapes))]
 fn parameter_fits(asked: Asked, a: &Arg, annotated: bool, level: Level) -> Result<bool, AllocError>
     ensures { IfOk result
-        (λ told. told ≡ arg_fits (tests_in asked.extent) annotated level (arg_of a.now)) }
+        (λ told. told ≡ arg_fits (tests_at asked.extent asked.fields) annotated level (arg_of a.now)) }
 {
     Ok(
         is_name(asked.alloc, a.arg.as_str())?
@@ -73,7 +73,7 @@ fn parameter_fits(asked: Asked, a: &Arg, annotated: bool, level: Level) -> Resul
 fn each_parameter_fits(asked: Asked, all: &[Arg], annotated: bool) -> Result<bool, AllocError>
     ensures { IfOk result
         (λ told. told
-        ≡ each_arg_fits (tests_in asked.extent) annotated (args (map arg_of all.now))) }
+        ≡ each_arg_fits (tests_at asked.extent asked.fields) annotated (args (map arg_of all.now))) }
 {
     for a in all {
         if !parameter_fits(asked, a, annotated, Level::Expression)? {
@@ -94,7 +94,7 @@ fn optional_parameter_fits(
 ) -> Result<bool, AllocError>
     ensures { IfOk result
         (λ told. told
-        ≡ perhaps_arg_fits (tests_in asked.extent) annotated level
+        ≡ perhaps_arg_fits (tests_at asked.extent asked.fields) annotated level
         (optional_arg (arg_option_of a.now))) }
 {
     match a {

@@ -11,13 +11,14 @@ ghost use Rattle.pytree_fits.specs.PatternSlots.{is_singleton, is_sum, key_fits,
 ghost use Rattle.pytree_fits.specs.PatternSlots.{number_fits, perhaps_target_fits, real_fits};
 ghost use Rattle.pytree_fits.specs.PatternSlots.{singleton_fits, starts_wild, target_fits};
 ghost use Rattle.pytree_fits.specs.PatternSlots.{value_fits};
-ghost use Rattle.pytree_fits.specs.Tests.{tests_in};
+ghost use Rattle.pytree_fits.specs.Tests.{tests_at};
 
 use crate::asking::Asked;
 use crate::leaves::constant_fits;
 use crate::names::is_name;
 use crate::places::is_context;
-use pytree_node::{Constant, Context, Expr, Extent, Identifier, Operator, UnaryOperator};
+use crate::strings::joined_fits;
+use pytree_node::{Constant, Context, Expr, Identifier, Operator, UnaryOperator};
 use std::alloc::AllocError;
 
 /// Whether a name is that of the wildcard.
@@ -39,7 +40,7 @@ pub(crate) fn begins_with_wildcard(names: &[Identifier]) -> bool
 
 /// Whether a name that a pattern captures fits.
 pub(crate) fn capture_fits(asked: Asked, name: &Identifier) -> Result<bool, AllocError>
-    ensures { IfOk result (λ told. told ≡ target_fits (tests_in asked.extent) name.now) }
+    ensures { IfOk result (λ told. told ≡ target_fits (tests_at asked.extent asked.fields) name.now) }
 {
     Ok(is_name(asked.alloc, name.as_str())? && !is_wildcard(name))
 }
@@ -50,7 +51,7 @@ pub(crate) fn optional_capture_fits(
     asked: Asked,
     name: &Option<Identifier>,
 ) -> Result<bool, AllocError>
-    ensures { IfOk result (λ told. told ≡ perhaps_target_fits (tests_in asked.extent) name.now) }
+    ensures { IfOk result (λ told. told ≡ perhaps_target_fits (tests_at asked.extent asked.fields) name.now) }
 {
     match name {
         None => Ok(true),
@@ -124,41 +125,41 @@ fn is_minus(op: UnaryOperator) -> bool
 
 /// Whether an expression is what a NUMBER gives.
 #[tactic(auto, using(pytree_node::proofs::Callers::ExprShapes::expr_shapes))]
-fn number_fits(extent: Extent, expr: &Expr) -> bool
-    ensures { result ≡ number_fits (tests_in extent) (tree_of expr.now) }
+fn number_fits(asked: Asked, expr: &Expr) -> bool
+    ensures { result ≡ number_fits (tests_at asked.extent asked.fields) (tree_of expr.now) }
 {
     match expr {
-        Expr::Constant { value } => is_number(value) && constant_fits(extent, value),
+        Expr::Constant { value } => is_number(value) && constant_fits(asked, value),
         _ => false,
     }
 }
 
 /// Whether an expression is what an imaginary NUMBER gives.
 #[tactic(auto, using(pytree_node::proofs::Callers::ExprShapes::expr_shapes))]
-fn imaginary_fits(extent: Extent, expr: &Expr) -> bool
-    ensures { result ≡ imaginary_fits (tests_in extent) (tree_of expr.now) }
+fn imaginary_fits(asked: Asked, expr: &Expr) -> bool
+    ensures { result ≡ imaginary_fits (tests_at asked.extent asked.fields) (tree_of expr.now) }
 {
     match expr {
-        Expr::Constant { value } => is_imaginary(value) && constant_fits(extent, value),
+        Expr::Constant { value } => is_imaginary(value) && constant_fits(asked, value),
         _ => false,
     }
 }
 
 /// Whether an expression is a number that isn't imaginary, with or without a minus before it.
 #[tactic(auto, using(pytree_node::proofs::Callers::ExprShapes::expr_shapes))]
-fn real_fits(extent: Extent, expr: &Expr) -> bool
-    ensures { result ≡ real_fits (tests_in extent) (tree_of expr.now) }
+fn real_fits(asked: Asked, expr: &Expr) -> bool
+    ensures { result ≡ real_fits (tests_at asked.extent asked.fields) (tree_of expr.now) }
 {
     match expr {
         Expr::Constant { value } => {
-            is_number(value) && !is_imaginary(value) && constant_fits(extent, value)
+            is_number(value) && !is_imaginary(value) && constant_fits(asked, value)
         }
         Expr::UnaryOp { op, operand } => match &**operand {
             Expr::Constant { value } => {
                 is_minus(*op)
                     && is_number(value)
                     && !is_imaginary(value)
-                    && constant_fits(extent, value)
+                    && constant_fits(asked, value)
             }
             _ => false,
         },
@@ -168,18 +169,20 @@ fn real_fits(extent: Extent, expr: &Expr) -> bool
 
 /// Whether an expression is what a literal of a pattern gives.
 #[tactic(auto, using(pytree_node::proofs::Callers::ExprShapes::expr_shapes))]
-fn literal_fits(extent: Extent, expr: &Expr) -> bool
-    ensures { result ≡ literal_fits (tests_in extent) (tree_of expr.now) }
+fn literal_fits(asked: Asked, expr: &Expr) -> Result<bool, AllocError>
+    ensures { IfOk result
+        (λ told. told ≡ literal_fits (tests_at asked.extent asked.fields) (tree_of expr.now)) }
 {
     match expr {
-        Expr::Constant { value } => {
-            (is_number(value) || is_literal(value)) && constant_fits(extent, value)
-        }
-        Expr::UnaryOp { op, operand } => is_minus(*op) && number_fits(extent, operand),
-        Expr::BinOp { left, op, right } => {
-            is_sum(*op) && real_fits(extent, left) && imaginary_fits(extent, right)
-        }
-        _ => false,
+        Expr::Constant { value } => Ok(
+            (is_number(value) || is_literal(value)) && constant_fits(asked, value),
+        ),
+        Expr::UnaryOp { op, operand } => Ok(is_minus(*op) && number_fits(asked, operand)),
+        Expr::BinOp { left, op, right } => Ok(
+            is_sum(*op) && real_fits(asked, left) && imaginary_fits(asked, right),
+        ),
+        Expr::JoinedStr { values } => joined_fits(asked, values),
+        _ => Ok(false),
     }
 }
 
@@ -209,7 +212,7 @@ fn is_attribute(expr: &Expr) -> bool
 #[cycle(dotted)]
 #[tactic(auto, using(pytree_node::proofs::Callers::ExprShapes::expr_shapes))]
 fn dotted_fits(asked: Asked, expr: &Expr) -> Result<bool, AllocError>
-    ensures { IfOk result (λ told. told ≡ dotted_fits (tests_in asked.extent) (tree_of expr.now)) }
+    ensures { IfOk result (λ told. told ≡ dotted_fits (tests_at asked.extent asked.fields) (tree_of expr.now)) }
 {
     match expr {
         Expr::Name { id, ctx } => Ok(
@@ -239,24 +242,24 @@ fn starts_wild(expr: &Expr) -> bool
 
 /// Whether the class of a pattern fits.
 pub(crate) fn class_fits(asked: Asked, expr: &Expr) -> Result<bool, AllocError>
-    ensures { IfOk result (λ told. told ≡ class_fits (tests_in asked.extent) (tree_of expr.now)) }
+    ensures { IfOk result (λ told. told ≡ class_fits (tests_at asked.extent asked.fields) (tree_of expr.now)) }
 {
     Ok(dotted_fits(asked, expr)? && !starts_wild(expr))
 }
 
 /// Whether the value of a pattern fits.
 pub(crate) fn value_fits(asked: Asked, expr: &Expr) -> Result<bool, AllocError>
-    ensures { IfOk result (λ told. told ≡ value_fits (tests_in asked.extent) (tree_of expr.now)) }
+    ensures { IfOk result (λ told. told ≡ value_fits (tests_at asked.extent asked.fields) (tree_of expr.now)) }
 {
-    Ok(literal_fits(asked.extent, expr) || (is_attribute(expr) && class_fits(asked, expr)?))
+    Ok(literal_fits(asked, expr)? || (is_attribute(expr) && class_fits(asked, expr)?))
 }
 
 /// Whether a key of a pattern fits.
 fn key_fits(asked: Asked, expr: &Expr) -> Result<bool, AllocError>
-    ensures { IfOk result (λ told. told ≡ key_fits (tests_in asked.extent) (tree_of expr.now)) }
+    ensures { IfOk result (λ told. told ≡ key_fits (tests_at asked.extent asked.fields) (tree_of expr.now)) }
 {
     Ok(
-        literal_fits(asked.extent, expr)
+        literal_fits(asked, expr)?
             || singleton_fits(expr)
             || (is_attribute(expr) && dotted_fits(asked, expr)?),
     )
@@ -265,7 +268,7 @@ fn key_fits(asked: Asked, expr: &Expr) -> Result<bool, AllocError>
 /// Whether each of some keys fits.
 pub(crate) fn keys_fit(asked: Asked, keys: &[Expr]) -> Result<bool, AllocError>
     ensures { IfOk result
-        (λ told. told ≡ list_all (key_fits (tests_in asked.extent)) (map tree_of keys.now)) }
+        (λ told. told ≡ list_all (key_fits (tests_at asked.extent asked.fields)) (map tree_of keys.now)) }
 {
     for key in keys {
         if !key_fits(asked, key)? {

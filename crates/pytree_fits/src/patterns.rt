@@ -6,7 +6,7 @@ ghost use Rattle.pytree_node.specs.Trees.{patterns};
 ghost use Rattle.pytree_fits.specs.PatternSlots.{begins_with_wildcard, count_patterns};
 ghost use Rattle.pytree_fits.specs.PatternSlots.{each_pattern_fits, pattern_fits_at};
 ghost use Rattle.pytree_fits.specs.PatternSlots.{takes_star_pattern};
-ghost use Rattle.pytree_fits.specs.Tests.{tests_in};
+ghost use Rattle.pytree_fits.specs.Tests.{tests_at};
 
 use crate::asking::Asked;
 use crate::names::are_names;
@@ -28,7 +28,7 @@ pub fn pattern_fits(
     level: PatternLevel,
 ) -> Result<bool, AllocError>
     ensures { IfOk result
-        (λ told. told ≡ pattern_fits_at (tests_in asked.extent) level (pattern_of pattern.now)) }
+        (λ told. told ≡ pattern_fits_at (tests_at asked.extent asked.fields) level (pattern_of pattern.now)) }
 {
     match pattern {
         Pattern::MatchValue { value } => value_fits(asked, value),
@@ -101,7 +101,7 @@ pub fn pattern_fits(
 fn patterns_fit(asked: Asked, ps: &[Pattern], level: PatternLevel) -> Result<bool, AllocError>
     ensures { IfOk result
         (λ told. told
-        ≡ each_pattern_fits (tests_in asked.extent) level (patterns (map pattern_of ps.now))) }
+        ≡ each_pattern_fits (tests_at asked.extent asked.fields) level (patterns (map pattern_of ps.now))) }
 {
     for p in ps {
         if !pattern_fits(asked, p, level)? {

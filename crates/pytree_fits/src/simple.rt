@@ -12,7 +12,7 @@ ghost use Rattle.pytree_fits.specs.Slots.{each_target_fits, fits_at, fits_target
 ghost use Rattle.pytree_fits.specs.Slots.{perhaps_fits};
 ghost use Rattle.pytree_fits.specs.Statements.{has_one, perhaps_target_fits, raised_fits};
 ghost use Rattle.pytree_fits.specs.Statements.{type_param_fits, types_fit};
-ghost use Rattle.pytree_fits.specs.Tests.{tests_in};
+ghost use Rattle.pytree_fits.specs.Tests.{tests_at};
 
 use crate::asking::Asked;
 use crate::expressions::{boxed_fits, expr_fits};
@@ -31,7 +31,7 @@ pub(crate) fn option_fits(
 ) -> Result<bool, AllocError>
     ensures { IfOk result
         (λ told. told
-        ≡ perhaps_fits (tests_in asked.extent) level (optional (option_of expr.now))) }
+        ≡ perhaps_fits (tests_at asked.extent asked.fields) level (optional (option_of expr.now))) }
 {
     match expr {
         None => Ok(true),
@@ -57,7 +57,7 @@ pub(crate) fn some_targets_fit(
 ) -> Result<bool, AllocError>
     ensures { IfOk result
         (λ told. told
-        ≡ (has_one (map tree_of targets.now) && each_target_fits (tests_in asked.extent) place
+        ≡ (has_one (map tree_of targets.now) && each_target_fits (tests_at asked.extent asked.fields) place
         (exprs (map tree_of targets.now)))) }
 {
     if targets.is_empty() {
@@ -70,8 +70,8 @@ pub(crate) fn some_targets_fit(
 pub(crate) fn aug_assign_fits(asked: Asked, target: &Expr, value: &Expr) -> Result<bool, AllocError>
     ensures { IfOk result
         (λ told. told
-        ≡ (is_single (tree_of target.now) && fits_target (tests_in asked.extent) contexts.Store
-        (tree_of target.now) && fits_at (tests_in asked.extent) levels.Value (tree_of value.now))) }
+        ≡ (is_single (tree_of target.now) && fits_target (tests_at asked.extent asked.fields) contexts.Store
+        (tree_of target.now) && fits_at (tests_at asked.extent asked.fields) levels.Value (tree_of value.now))) }
 {
     if !is_single(target) {
         return Ok(false);
@@ -93,9 +93,9 @@ pub(crate) fn ann_assign_fits(
     ensures { IfOk result
         (λ told. told
         ≡ (is_single (tree_of target.now) &&
-        (not simple || is_a_name (tree_of target.now)) && fits_target (tests_in asked.extent)
-        contexts.Store (tree_of target.now) && fits_at (tests_in asked.extent) levels.Expression
-        (tree_of annotation.now) && perhaps_fits (tests_in asked.extent) levels.Value
+        (not simple || is_a_name (tree_of target.now)) && fits_target (tests_at asked.extent asked.fields)
+        contexts.Store (tree_of target.now) && fits_at (tests_at asked.extent asked.fields) levels.Expression
+        (tree_of annotation.now) && perhaps_fits (tests_at asked.extent asked.fields) levels.Value
         (optional (boxed_of value.now)))) }
 {
     if !is_single(target) {
@@ -121,7 +121,7 @@ pub(crate) fn raise_fits(
 ) -> Result<bool, AllocError>
     ensures { IfOk result
         (λ told. told
-        ≡ raised_fits (tests_in asked.extent) (option_of exc.now) (option_of cause.now)) }
+        ≡ raised_fits (tests_at asked.extent asked.fields) (option_of exc.now) (option_of cause.now)) }
 {
     match (exc, cause) {
         (None, None) => Ok(true),
@@ -147,7 +147,7 @@ pub(crate) fn has_types(profile: Profile) -> bool
 /// Whether a type parameter fits.
 fn type_param_fits(asked: Asked, parameter: &TypeParam) -> Result<bool, AllocError>
     ensures { IfOk result
-        (λ told. told ≡ type_param_fits (tests_in asked.extent) (type_param_of parameter.now)) }
+        (λ told. told ≡ type_param_fits (tests_at asked.extent asked.fields) (type_param_of parameter.now)) }
 {
     match parameter {
         TypeParam::TypeVar { name, bound } => Ok(
@@ -162,7 +162,7 @@ fn type_param_fits(asked: Asked, parameter: &TypeParam) -> Result<bool, AllocErr
 fn each_type_param_fits(asked: Asked, parameters: &[TypeParam]) -> Result<bool, AllocError>
     ensures { IfOk result
         (λ told. told
-        ≡ list_all (type_param_fits (tests_in asked.extent)) (map type_param_of parameters.now)) }
+        ≡ list_all (type_param_fits (tests_at asked.extent asked.fields)) (map type_param_of parameters.now)) }
 {
     for parameter in parameters {
         if !type_param_fits(asked, parameter)? {
@@ -180,7 +180,7 @@ pub(crate) fn type_params_fit(
 ) -> Result<bool, AllocError>
     ensures { IfOk result
         (λ told. told
-        ≡ types_fit profile (tests_in asked.extent) (map type_param_of parameters.now)) }
+        ≡ types_fit profile (tests_at asked.extent asked.fields) (map type_param_of parameters.now)) }
 {
     if parameters.is_empty() {
         return Ok(true);
@@ -198,9 +198,9 @@ pub(crate) fn type_alias_fits(
 ) -> Result<bool, AllocError>
     ensures { IfOk result
         (λ told. told
-        ≡ (has_types profile && is_a_name (tree_of name.now) && fits_target (tests_in asked.extent)
-        contexts.Store (tree_of name.now) && list_all (type_param_fits (tests_in asked.extent))
-        (map type_param_of parameters.now) && fits_at (tests_in asked.extent) levels.Expression
+        ≡ (has_types profile && is_a_name (tree_of name.now) && fits_target (tests_at asked.extent asked.fields)
+        contexts.Store (tree_of name.now) && list_all (type_param_fits (tests_at asked.extent asked.fields))
+        (map type_param_of parameters.now) && fits_at (tests_at asked.extent asked.fields) levels.Expression
         (tree_of value.now))) }
 {
     if !has_types(profile) {

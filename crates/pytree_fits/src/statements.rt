@@ -34,7 +34,11 @@ fn statement_fits(alloc: Global, profile: Profile, s: &Stmt) -> Result<bool, All
         (λ told. told ≡ statement_fits profile (tests_in profile.extent) (stmt_of s.now)) }
 {
     let extent = profile.extent;
-    let asked = Asked { alloc, extent };
+    let asked = Asked {
+        alloc,
+        extent,
+        fields: 0,
+    };
     match s {
         Stmt::FunctionDef {
             name,
@@ -259,6 +263,24 @@ pub fn statements_fit(alloc: Global, profile: Profile, body: &[Stmt]) -> Result<
     Ok(true)
 }
 
+/// Whether the pattern of a case fits, and its guard.
+#[tactic(auto, using(pytree_node::proofs::Callers::StmtShapes::stmt_shapes))]
+fn case_begin_fits(alloc: Global, profile: Profile, c: &Case) -> Result<bool, AllocError>
+    ensures { IfOk result
+        (λ told. told
+        ≡ (pattern_fits_at (tests_in profile.extent) pattern_levels.AsPattern
+        (case_of c.now).pattern && perhaps_fits (tests_in profile.extent) levels.Expression
+        (optional (case_of c.now).guard))) }
+{
+    let extent = profile.extent;
+    let asked = Asked {
+        alloc,
+        extent,
+        fields: 0,
+    };
+    case_head_fits(asked, &c.pattern, &c.guard)
+}
+
 /// Whether a case fits.
 #[cycle(statements)]
 #[tactic(auto, using(pytree_node::proofs::Callers::StmtShapes::stmt_shapes))]
@@ -270,9 +292,7 @@ fn case_fits(alloc: Global, profile: Profile, c: &Case) -> Result<bool, AllocErr
         (optional (case_of c.now).guard) && suite_fits profile (tests_in profile.extent)
         (stmts (case_of c.now).body))) }
 {
-    let extent = profile.extent;
-    let asked = Asked { alloc, extent };
-    Ok(case_head_fits(asked, &c.pattern, &c.guard)? && suite_fits(alloc, profile, &c.body)?)
+    Ok(case_begin_fits(alloc, profile, c)? && suite_fits(alloc, profile, &c.body)?)
 }
 
 /// Whether each of some cases fits.
@@ -307,7 +327,11 @@ fn handler_fits(
         (stmts (handler_of h.now).body))) }
 {
     let extent = profile.extent;
-    let asked = Asked { alloc, extent };
+    let asked = Asked {
+        alloc,
+        extent,
+        fields: 0,
+    };
     Ok(except_fits(asked, star, &h.class, &h.name)? && suite_fits(alloc, profile, &h.body)?)
 }
 

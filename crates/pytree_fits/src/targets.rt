@@ -4,7 +4,7 @@ ghost use Rattle.std.specs.Prelude.{◌≡◌, IfOk, map};
 ghost use Rattle.pytree_node.specs.TreeOf.{tree_of};
 ghost use Rattle.pytree_node.specs.Trees.{exprs};
 ghost use Rattle.pytree_fits.specs.Slots.{each_target_fits, fits_target};
-ghost use Rattle.pytree_fits.specs.Tests.{tests_in};
+ghost use Rattle.pytree_fits.specs.Tests.{tests_at};
 
 use crate::asking::Asked;
 use crate::expressions::expr_fits;
@@ -19,7 +19,7 @@ use std::alloc::AllocError;
 #[tactic(auto, using(pytree_node::proofs::Callers::ExprShapes::expr_shapes))]
 pub(crate) fn target_fits(asked: Asked, expr: &Expr, place: Context) -> Result<bool, AllocError>
     ensures { IfOk result
-        (λ told. told ≡ fits_target (tests_in asked.extent) place (tree_of expr.now)) }
+        (λ told. told ≡ fits_target (tests_at asked.extent asked.fields) place (tree_of expr.now)) }
 {
     match expr {
         Expr::Name { id, ctx } => Ok(is_context(place, *ctx) && is_name(asked.alloc, id.as_str())?),
@@ -53,7 +53,7 @@ pub(crate) fn target_fits(asked: Asked, expr: &Expr, place: Context) -> Result<b
 pub(crate) fn targets_fit(asked: Asked, es: &[Expr], place: Context) -> Result<bool, AllocError>
     ensures { IfOk result
         (λ told. told
-        ≡ each_target_fits (tests_in asked.extent) place (exprs (map tree_of es.now))) }
+        ≡ each_target_fits (tests_at asked.extent asked.fields) place (exprs (map tree_of es.now))) }
 {
     for e in es {
         if !target_fits(asked, e, place)? {

@@ -4,4 +4,5 @@ pub mod ClassLemmas
 pub mod ParameterLemmas
 pub mod PartLemmas
 pub mod StarLemmas
+pub mod StringLemmas
 pub mod TupleLemmas

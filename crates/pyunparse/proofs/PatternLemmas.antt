@@ -15,8 +15,7 @@ use Rattle.pytree_node.specs.TreeOf.{pattern_of, tree_of}
 use Rattle.pygrammar.specs.declared.levels.Level.TheVariants.{Primary, Sum}
 use Rattle.pygrammar.specs.declared.pattern_levels.PatternLevel.{PatternLevel}
 use Rattle.pygrammar.specs.declared.pattern_levels.PatternLevel.TheVariants as Level
-use Rattle.pyunparse_text.specs.Spacing.{Piece}
-use Rattle.pyunparse_text.specs.Pieces.{piece, pieces}
+use Rattle.pyunparse_text.specs.Pieces.{Sited, piece, pieces, sited}
 use Rattle.pyunparse_text.specs.Written.{bracketed, enclosed, free, leading, listed, separated, tight, trailing, word}
 use Rattle.pyunparse_text.specs.WrittenPatterns.{each_pattern, fit_pattern, key_patterns, named_patterns, pattern_reaches, rest_name, sequence_of, target, target_name, written_pattern}
 use Rattle.pyunparse_text.specs.Folds.{closed, opened, puts}
@@ -27,7 +26,7 @@ use Rattle.pyunparse_text.proofs.Callers.Writing.{not_zero}
 use Rattle.pyunparse.proofs.Sequences.FoldLemmas.{enclosed_on, four, in_brackets, three, two}
 use Rattle.pyunparse.proofs.Sequences.MemberLemmas.{is_nil, members_both}
 
-abbrev comma : Piece
+abbrev comma : Sited
 comma = trailing piece Comma
 
 -- the wildcard as it stands in the code
@@ -37,10 +36,10 @@ wildcard_text = refl
 
 -- ---- Patterns of a mapping behind their keys, and of a class behind their names: one more.
 
-abbrev pub keyed : List given_expr.Expr → List given.Pattern → List (List Piece)
+abbrev pub keyed : List given_expr.Expr → List given.Pattern → List (List Sited)
 keyed ks ps = key_patterns piece (map tree_of ks) (patterns (map pattern_of ps))
 
-abbrev pub by_names : List Identifier → List given.Pattern → List (List Piece)
+abbrev pub by_names : List Identifier → List given.Pattern → List (List Sited)
 by_names xs ps = named_patterns piece xs (patterns (map pattern_of ps))
 
 pub keyed_more : (k : given_expr.Expr) (p : given.Pattern) (ks : List given_expr.Expr) (ps : List given.Pattern) → keyed (k ∷ ks) (p ∷ ps) ≡ key_pattern (tree_of k) (pattern_of p) ∷ keyed ks ps
@@ -100,7 +99,7 @@ unfolding written_pattern
 without Level.Patterns [] h = absurd (false≢true h)
 without Level.Patterns (p ∷ []) h = refl
 without Level.Patterns (p ∷ (q ∷ ps)) h =
-    let tss : List (List Piece) = each_pattern piece Level.StarPattern (patterns (map pattern_of (p ∷ (q ∷ ps)))) in
+    let tss : List (List Sited) = each_pattern piece Level.StarPattern (patterns (map pattern_of (p ∷ (q ∷ ps)))) in
     ap (λ b. separated comma tss ++ last b) (not_one p q ps _ refl) ∙ append-nil (separated comma tss)
 without _ ps h = absurd (false≢true h)
 
@@ -113,17 +112,17 @@ within_brackets Level.Patterns (p ∷ ps) h = absurd (false≢true (sym h))
 within_brackets _ ps h = refl
 
 -- members behind others, with commas between
-listed_both : {S : Type 0} (after : S → Piece → S) (s s1 : S) (xss yss : List (List Piece)) (b : Bool) → b ≡ is_nil xss → s1 ≡ puts after s (listed piece xss) →
+listed_both : {S : Type 0} (after : S → Sited → S) (s s1 : S) (xss yss : List (List Sited)) (b : Bool) → b ≡ is_nil xss → s1 ≡ puts after s (listed piece xss) →
     puts after s1 (members b comma yss) ≡ puts after s (listed piece (xss ++ yss))
 listed_both after s s1 xss yss b h e =
     two after s (separated comma xss) (members b comma yss) s1 e
     ∙ ap (λ z. puts after s (separated comma xss ++ members z comma yss)) h
     ∙ ap (puts after s) (sym (members_both true comma xss yss))
 
-module _ {S : Type 0} (after : S → Piece → S) (s : S) where
+module _ {S : Type 0} (after : S → Sited → S) (s : S) where
   -- ---- Names.
 
-  pub wildcard_on : (x : Option Identifier) → x ≡ None → puts after s (piece (in_form (chars (95 ∷ []))) false false ∷ []) ≡ puts after s (target piece x ∷ [])
+  pub wildcard_on : (x : Option Identifier) → x ≡ None → puts after s (sited (in_form (chars (95 ∷ []))) false false ∷ []) ≡ puts after s (target piece x ∷ [])
   wildcard_on x e = ap (λ z. puts after s (free piece (in_form z) ∷ [])) (wildcard_text ∙ ap target_name (sym e))
 
   -- ---- Members of lists.
@@ -140,7 +139,7 @@ module _ {S : Type 0} (after : S → Piece → S) (s : S) where
 
   module _ (l : PatternLevel) where
     -- a form in its brackets, if it needs them
-    within : (k : PatternLevel) (b : Bool) (ts : List Piece) (s1 u : S) → b ≡ pattern_reaches l k → s1 ≡ puts after s (opened b) → u ≡ puts after s1 ts →
+    within : (k : PatternLevel) (b : Bool) (ts : List Sited) (s1 u : S) → b ≡ pattern_reaches l k → s1 ≡ puts after s (opened b) → u ≡ puts after s1 ts →
         puts after u (closed b) ≡ puts after s (fit_pattern piece l k ts)
     unfolding fit_pattern
     within k b ts s1 u h e f =
@@ -171,7 +170,7 @@ module _ {S : Type 0} (after : S → Piece → S) (s : S) where
         puts after s1 (last b) ≡ puts after s (written_pattern piece l (plain.MatchSequence (patterns (map pattern_of ps))))
     unfolding written_pattern
     bare_on ps b s1 h k e1 =
-        let tss : List (List Piece) = each_pattern piece Level.StarPattern (patterns (map pattern_of ps)) in
+        let tss : List (List Sited) = each_pattern piece Level.StarPattern (patterns (map pattern_of ps)) in
         two after s (separated comma tss) (last b) s1 e1
         ∙ ap (λ z. puts after s (separated comma tss ++ last z)) k
         ∙ ap (puts after s) (without l ps h)
@@ -198,6 +197,6 @@ module _ {S : Type 0} (after : S → Piece → S) (s : S) where
         puts after s4 (trailing piece RPar ∷ []) ≡ puts after s (written_pattern piece l (plain.MatchClass e (patterns (map pattern_of ps)) xs (patterns (map pattern_of qs))))
     unfolding written_pattern
     class_on e ps xs qs b s1 s2 s3 s4 h e1 e2 e3 e4 =
-        let tss : List (List Piece) = each_pattern piece Level.AsPattern (patterns (map pattern_of ps)) in
+        let tss : List (List Sited) = each_pattern piece Level.AsPattern (patterns (map pattern_of ps)) in
         four after s (pieces Primary e) (tight piece LPar ∷ []) (listed piece (tss ++ by_names xs qs)) (trailing piece RPar ∷ []) s1 s2 s4 e1 e2
         (e4 ∙ listed_both after s2 s3 tss (by_names xs qs) b (none_each ps b h) e3)

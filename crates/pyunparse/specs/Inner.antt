@@ -7,3 +7,4 @@ pub mod Members
 pub mod Pairs
 pub mod Parameters
 pub mod PatternParts
+pub mod Values

@@ -1,14 +1,16 @@
 //! Expressions.
 
-ghost use Rattle.std.specs.Prelude.{◌≡◌, All, IfOk, List, OnOk, map};
+ghost use Rattle.std.specs.Prelude.{◌≡◌, ◌≤◌, IfOk, List, OnOk, map, true};
 ghost use Rattle.pytree_node.specs.TreeOf.{tree_of};
 ghost use Rattle.pytree_node.specs.declared.profiles.Extent.{Extent};
 ghost use Rattle.pyunparse_text.specs.Folds.{puts};
 ghost use Rattle.pyunparse_text.specs.Told.{in_bytes, told};
 ghost use Rattle.pytoken.specs.Terminals.{Terminal};
+ghost use Rattle.pytree_height.specs.Heights.{height};
+ghost use Rattle.pygrammar.specs.FormattedStrings.{has_formatted};
 ghost use Rattle.pygrammar.specs.Grammar.{Derives};
-ghost use Rattle.pyunparse_text.specs.Laws.{AreRead, IsOfToken, Shortest};
-ghost use Rattle.pyunparse_text.specs.Pieces.{pieces};
+ghost use Rattle.pyunparse_text.specs.Laws.{AreOfTokens, AreRead, Shortest};
+ghost use Rattle.pyunparse_text.specs.Pieces.{outside, pieces};
 ghost use Rattle.pyunparse_text.specs.Terminals.{terminals};
 
 use crate::calls::{write_attribute, write_call, write_subscript};
@@ -19,6 +21,7 @@ use crate::operators::{
     write_await, write_binary, write_chain, write_compare, write_conditional, write_lambda,
     write_named, write_unary, write_yield, write_yield_from,
 };
+use crate::strings::{write_formatted, write_joined};
 use crate::tuples::{write_slice, write_tuple};
 use pygrammar::Level;
 use pylex::Exact;
@@ -73,6 +76,12 @@ pub(crate) fn write_expr<W: Writer>(out: &mut W, level: Level, e: &Expr) -> Resu
             args,
             keywords,
         } => write_call(out, level, func, args, keywords),
+        Expr::FormattedValue {
+            value,
+            conversion,
+            format_spec,
+        } => write_formatted(out, value, *conversion, format_spec),
+        Expr::JoinedStr { values } => write_joined(out, values),
         Expr::Constant { value } => put_constant(out, value),
         Expr::Attribute { value, attr, .. } => write_attribute(out, level, value, attr),
         Expr::Subscript { value, slice, .. } => write_subscript(out, level, value, slice),
@@ -92,12 +101,16 @@ pub(crate) fn write_expr<W: Writer>(out: &mut W, level: Level, e: &Expr) -> Resu
 /// Each has its type and its text. The only error is of memory.
 pub fn expression_tokens(alloc: Global, expr: &Expr, level: Level) -> Result<Vec<Piece>, AllocError>
     ensures tokens { IfOk result
-        (λ tokens. map told tokens.items ≡ map in_bytes (pieces level (tree_of expr.now))) }
+        (λ tokens. map told tokens.items
+        ≡ map in_bytes (outside (pieces level (tree_of expr.now)))) }
     ensures fewest { (ts : List Terminal) → Derives level ts (tree_of expr.now)
         → Shortest (Derives level) (terminals level (tree_of expr.now)) (tree_of expr.now) }
-    ensures read { (extent : Extent) (ts : List Terminal) → All (IsOfToken extent) ts
+    ensures read { (extent : Extent) (ts : List Terminal) → AreOfTokens extent ts
         → Derives level ts (tree_of expr.now)
-        → AreRead extent (pieces level (tree_of expr.now)) (terminals level (tree_of expr.now)) }
+        → (has_formatted (terminals level (tree_of expr.now)) ≡ true
+        → height (tree_of expr.now) ≤ 500)
+        → AreRead extent (outside (pieces level (tree_of expr.now)))
+        (terminals level (tree_of expr.now)) }
 {
     let mut out = PieceWriter::new(alloc);
     write_expr(&mut out, level, expr)?;

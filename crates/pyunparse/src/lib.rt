@@ -21,6 +21,8 @@ mod optional;
 mod parameters;
 mod patterns;
 mod statements;
+mod string_texts;
+mod strings;
 mod tuples;
 mod types;
 

@@ -5,7 +5,7 @@ ghost use Rattle.pytree_node.specs.TreeOf.{boxed_of};
 ghost use Rattle.pytree_node.specs.Trees.{optional};
 ghost use Rattle.pytoken.specs.Terminals.{Op};
 ghost use Rattle.pyunparse_text.specs.Folds.{puts};
-ghost use Rattle.pyunparse_text.specs.Pieces.{piece};
+ghost use Rattle.pyunparse_text.specs.Pieces.{piece, sited};
 ghost use Rattle.pyunparse_text.specs.Written.{perhaps, suffixed};
 
 use crate::expressions::write_expr;
@@ -42,7 +42,7 @@ pub(crate) fn write_suffix<W: Writer>(
 ) -> Result<(), AllocError>
     ensures { OnOk result
         (out.new ≡ puts W.after out.old
-        (suffixed piece (piece (Op sign) true behind) (optional (boxed_of e.now)))) }
+        (suffixed piece (sited (Op sign) true behind) (optional (boxed_of e.now)))) }
 {
     match e {
         None => Ok(()),

@@ -1,6 +1,6 @@
 //! Patterns.
 
-ghost use Rattle.std.specs.Prelude.{◌≡◌, ◌∷◌, [], All, IfOk, List, OnOk, if◌then◌else◌, map, true};
+ghost use Rattle.std.specs.Prelude.{◌≡◌, ◌≤◌, ◌∷◌, [], IfOk, List, OnOk, if◌then◌else◌, map, true};
 ghost use Rattle.std.specs.List.{list_all};
 ghost use Rattle.pylex_lexeme.specs.declared.kinds.Exact.TheVariants.{Comma, VBar};
 ghost use Rattle.pytree_node.specs.declared.profiles.Extent.{Extent};
@@ -8,13 +8,15 @@ ghost use Rattle.pytree_node.specs.TreeOf.{boxed_pattern_of, pattern_of, tree_of
 ghost use Rattle.pytree_node.specs.Trees as plain;
 ghost use Rattle.pytree_node.specs.Trees.{optional_pattern, patterns};
 ghost use Rattle.pytoken.specs.Terminals.{Op, Terminal};
+ghost use Rattle.pytree_height.specs.Heights.{pattern_height};
+ghost use Rattle.pygrammar.specs.FormattedStrings.{has_formatted};
 ghost use Rattle.pygrammar.specs.PatternGrammar.{DerivesPattern};
 ghost use Rattle.pygrammar.specs.declared.pattern_levels.PatternLevel.TheVariants as PatternLevel;
 ghost use Rattle.pyunparse.specs.Inner.Members.{members};
 ghost use Rattle.pyunparse.specs.Inner.PatternParts.{is_bare, key_pattern, named_pattern};
 ghost use Rattle.pyunparse_text.specs.Folds.{puts};
-ghost use Rattle.pyunparse_text.specs.Laws.{AreRead, IsOfToken, Shortest, may_be_token};
-ghost use Rattle.pyunparse_text.specs.Pieces.{piece};
+ghost use Rattle.pyunparse_text.specs.Laws.{AreOfTokens, AreRead, Shortest, may_be_token};
+ghost use Rattle.pyunparse_text.specs.Pieces.{outside, piece};
 ghost use Rattle.pyunparse_text.specs.Terminals.{terminal};
 ghost use Rattle.pyunparse_text.specs.Told.{in_bytes, told};
 ghost use Rattle.pyunparse_text.specs.Written.{free, listed, trailing};
@@ -349,14 +351,16 @@ pub fn pattern_tokens(
 ) -> Result<Vec<Piece>, AllocError>
     ensures tokens { IfOk result
         (λ tokens. map told tokens.items
-        ≡ map in_bytes (written_pattern piece level (pattern_of pattern.now))) }
+        ≡ map in_bytes (outside (written_pattern piece level (pattern_of pattern.now)))) }
     ensures fewest { (ts : List Terminal) → list_all may_be_token ts ≡ true
         → DerivesPattern level ts (pattern_of pattern.now)
         → Shortest (DerivesPattern level) (written_pattern terminal level (pattern_of pattern.now))
         (pattern_of pattern.now) }
-    ensures read { (extent : Extent) (ts : List Terminal) → All (IsOfToken extent) ts
+    ensures read { (extent : Extent) (ts : List Terminal) → AreOfTokens extent ts
         → DerivesPattern level ts (pattern_of pattern.now)
-        → AreRead extent (written_pattern piece level (pattern_of pattern.now))
+        → (has_formatted (written_pattern terminal level (pattern_of pattern.now)) ≡ true
+        → pattern_height (pattern_of pattern.now) ≤ 500)
+        → AreRead extent (outside (written_pattern piece level (pattern_of pattern.now)))
         (written_pattern terminal level (pattern_of pattern.now)) }
 {
     let mut out = PieceWriter::new(alloc);

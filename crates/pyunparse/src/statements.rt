@@ -11,7 +11,7 @@ ghost use Rattle.pytoken.specs.declared.keywords.Keyword.TheVariants as Key;
 ghost use Rattle.pygrammar.specs.declared.levels.Level.TheVariants as Level;
 ghost use Rattle.pyunparse.specs.Inner.Assigned.{assigned};
 ghost use Rattle.pyunparse_text.specs.Folds.{puts};
-ghost use Rattle.pyunparse_text.specs.Pieces.{piece};
+ghost use Rattle.pyunparse_text.specs.Pieces.{piece, sited};
 ghost use Rattle.pyunparse_text.specs.Written.{listed, trailing, word};
 ghost use Rattle.pyunparse_text.specs.Statements as written;
 
@@ -54,7 +54,7 @@ pub(crate) fn write_behind<W: Writer>(
 ) -> Result<(), AllocError>
     ensures { OnOk result
         (out.new ≡ puts W.after out.old
-        (written.behind piece (piece (Op sign) false false) level (boxed_of e.now))) }
+        (written.behind piece (sited (Op sign) false false) level (boxed_of e.now))) }
 {
     match e {
         None => Ok(()),

@@ -5,6 +5,8 @@ pub mod Patterns
 pub mod Modules
 pub mod Texts
 pub mod Law
+pub mod Said
+pub mod Strings
 -- What other crates cite of pyunparse_text.
 pub mod Pieces
 pub mod Tokens

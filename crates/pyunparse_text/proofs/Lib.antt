@@ -1,6 +1,7 @@
 mod WorkedExpressions
 mod WorkedModules
 mod WorkedRows
+mod WorkedFormattedStrings
 mod WorkedSimple
 mod WorkedBlocks
 mod WorkedTypes
@@ -12,7 +13,9 @@ mod Modules
 pub mod Callers
 mod Cases
 mod LexemeFronts
+mod FieldTexts
 mod Listings
+mod StringTerminals
 mod Sources
 mod Law
 mod SingleTokens

@@ -1,6 +1,7 @@
 -- The laws of written patterns.
 pub mod OfTokens
 pub mod Values
+pub mod Sizes
 pub mod Claims
 pub mod Entries
 pub mod Induction

@@ -11,11 +11,15 @@ use Rattle.pytree_node.specs.declared.operators.Operator.TheVariants as Bin
 use Rattle.pytree_node.specs.declared.operators.UnaryOperator.TheVariants as Un
 use Rattle.pytree_node.specs.declared.operators.Context.TheVariants.{Load, Store}
 use Rattle.pytree_node.specs.Values
-use Rattle.pytree_node.specs.Trees.{Identifier, Expr, NamedExpr, Yield, Constant, UnaryOp, BinOp, Attribute, Starred, Name, Tuple, Lambda, exprs, no_exprs, absent, Pattern, MatchValue, MatchSingleton, MatchSequence, MatchMapping, MatchClass, MatchStar, MatchAs, MatchOr, patterns, no_pattern, absent_pattern, present_pattern, Match, a_case, no_case, ExprOf, Pass, stmts}
+use Rattle.pytree_node.specs.Trees.{Identifier, Expr, NamedExpr, Yield, Constant, UnaryOp, BinOp, Attribute, Starred, Name, Tuple, Lambda, exprs}
+use Rattle.pytree_node.specs.Trees.{no_exprs, absent, Pattern, MatchValue, MatchSingleton, MatchSequence, MatchMapping, MatchClass, MatchStar}
+use Rattle.pytree_node.specs.Trees.{MatchAs, MatchOr, patterns, no_pattern, absent_pattern, present_pattern, Match, a_case, no_case, ExprOf, Pass}
+use Rattle.pytree_node.specs.Trees.{stmts}
 use Rattle.pygrammar.specs.Parameters.{no_arguments}
 use Rattle.pyunparse_text.specs.Levels.{leads, reaches}
 use Rattle.pyunparse_text.specs.Written.{fit, written}
-use Rattle.pyunparse_text.specs.WrittenPatterns.{pattern_leads, pattern_reaches, fit_pattern, written_pattern, each_pattern, key_patterns, named_patterns}
+use Rattle.pyunparse_text.specs.WrittenPatterns.{pattern_leads, pattern_reaches, fit_pattern, written_pattern, each_pattern, key_patterns}
+use Rattle.pyunparse_text.specs.WrittenPatterns.{named_patterns}
 use Rattle.pyunparse_text.specs.Modules.{lines_of, statement_lines, case_lines}
 use Rattle.pyunparse_text.proofs.WorkedRows.{Row, row, AreWritten, a, b, c}
 
@@ -122,8 +126,11 @@ values : AreWritten (
     of_case (MatchValue one) (codes "case 1:") ∷
     of_case (MatchValue (minus one)) (codes "case -1:") ∷
     of_case (MatchValue (BinOp (minus one) Bin.Add (Constant (Values.Imaginary float_zero)))) (codes "case -1 + 0j:") ∷
-    of_case (any (MatchValue (BinOp (minus (Constant (Values.Float float_zero))) Bin.Sub (Constant (Values.Imaginary (inf false)))) ∷ MatchValue (Constant (Values.Imaginary float_zero)) ∷ MatchValue (minus (Constant (Values.Imaginary (inf false)))) ∷ [])) (codes "case -0.0 - 1e309j | 0j | -1e309j:") ∷
-    of_case (any (MatchSingleton (Values.Bool true) ∷ MatchSingleton (Values.Bool false) ∷ MatchValue (bytes (codes "a")) ∷ [])) (codes "case True | False | b'a':") ∷
+    of_case
+    (any (MatchValue (BinOp (minus (Constant (Values.Float float_zero))) Bin.Sub (Constant (Values.Imaginary (inf false)))) ∷ MatchValue (Constant (Values.Imaginary float_zero)) ∷ MatchValue (minus (Constant (Values.Imaginary (inf false)))) ∷ []))
+    (codes "case -0.0 - 1e309j | 0j | -1e309j:") ∷
+    of_case (any (MatchSingleton (Values.Bool true) ∷ MatchSingleton (Values.Bool false) ∷ MatchValue (bytes (codes "a")) ∷ []))
+    (codes "case True | False | b'a':") ∷
     of_case (MatchValue (Attribute (Attribute a (codes "b") Load) (codes "c") Load)) (codes "case a.b.c:") ∷ [])
 unfolding lines_of statement_lines case_lines written_pattern each_pattern fit_pattern pattern_reaches pattern_leads written fit reaches leads decimal_text float_text
 values = refl
@@ -131,11 +138,16 @@ values = refl
 -- Mappings and class patterns.
 listings : AreWritten (
     of_case (MatchMapping (minus one ∷ bytes (codes "k") ∷ []) (patterns (p ∷ q ∷ [])) (Some (codes "r"))) (codes "case {-1: a, b'k': b, **r}:") ∷
-    of_case (MatchMapping (minus one ∷ bytes (codes "kl") ∷ Constant Values.None ∷ Attribute (named (codes "f")) (codes "g") Load ∷ []) (patterns (p ∷ any (q ∷ r ∷ []) ∷ alias (capture (codes "d")) (codes "e") ∷ wildcard ∷ [])) (Some (codes "h"))) (codes "case {-1: a, b'kl': b | c, None: d as e, f.g: _, **h}:") ∷
+    of_case
+    (MatchMapping (minus one ∷ bytes (codes "kl") ∷ Constant Values.None ∷ Attribute (named (codes "f")) (codes "g") Load ∷ []) (patterns (p ∷ any (q ∷ r ∷ []) ∷ alias (capture (codes "d")) (codes "e") ∷ wildcard ∷ [])) (Some (codes "h")))
+    (codes "case {-1: a, b'kl': b | c, None: d as e, f.g: _, **h}:") ∷
     of_case (MatchMapping [] no_pattern None) (codes "case {}:") ∷
     of_case (MatchMapping [] no_pattern (Some (codes "r"))) (codes "case {**r}:") ∷
-    of_case (MatchClass (Attribute (named (codes "A")) (codes "B") Load) (patterns (r ∷ [])) (codes "k" ∷ []) (patterns (capture (codes "d") ∷ []))) (codes "case A.B(c, k=d):") ∷
-    of_case (MatchClass (named (codes "A")) (patterns (alias p (codes "b") ∷ any (r ∷ capture (codes "d") ∷ []) ∷ [])) (codes "k" ∷ []) (patterns (alias (capture (codes "e")) (codes "f") ∷ []))) (codes "case A(a as b, c | d, k=e as f):") ∷
+    of_case (MatchClass (Attribute (named (codes "A")) (codes "B") Load) (patterns (r ∷ [])) (codes "k" ∷ []) (patterns (capture (codes "d") ∷ [])))
+    (codes "case A.B(c, k=d):") ∷
+    of_case
+    (MatchClass (named (codes "A")) (patterns (alias p (codes "b") ∷ any (r ∷ capture (codes "d") ∷ []) ∷ [])) (codes "k" ∷ []) (patterns (alias (capture (codes "e")) (codes "f") ∷ [])))
+    (codes "case A(a as b, c | d, k=e as f):") ∷
     of_case (MatchClass (named (codes "A")) no_pattern [] no_pattern) (codes "case A():") ∷
     of_case (MatchClass (named (codes "A")) (patterns (MatchValue one ∷ sequence (p ∷ []) ∷ [])) (codes "k" ∷ codes "_" ∷ []) (patterns (wildcard ∷ MatchValue (minus one) ∷ []))) (codes "case A(1, [a], k=_, _=-1):") ∷ [])
 unfolding lines_of statement_lines case_lines written_pattern each_pattern key_patterns named_patterns fit_pattern pattern_reaches pattern_leads written fit reaches leads decimal_text
@@ -146,7 +158,8 @@ cases : AreWritten (
     guarded wildcard (Some (assigned (codes "b") one)) (codes "case _ if b := 1:") ∷
     guarded (sequence (p ∷ [])) (Some (Lambda no_arguments b)) (codes "case a, if lambda: b:") ∷
     guarded wildcard (Some (Tuple (exprs (a ∷ [])) Load)) (codes "case _ if (a,):") ∷
-    row (Match a (a_case (sequence (capture (codes "y") ∷ [])) None (stmts (ExprOf (named (codes "int")) ∷ [])) (a_case (capture (codes "case")) None (stmts (Match b (a_case wildcard None (stmts (Pass ∷ [])) no_case) ∷ [])) no_case)) ∷ [])
+    row
+    (Match a (a_case (sequence (capture (codes "y") ∷ [])) None (stmts (ExprOf (named (codes "int")) ∷ [])) (a_case (capture (codes "case")) None (stmts (Match b (a_case wildcard None (stmts (Pass ∷ [])) no_case) ∷ [])) no_case)) ∷ [])
     (codes "match a:" ∷ codes "    case y,:" ∷ codes "        int" ∷ codes "    case case:" ∷ codes "        match b:" ∷ codes "            case _:" ∷ codes "                pass" ∷ []) ∷ [])
 unfolding lines_of statement_lines case_lines written_pattern each_pattern fit_pattern pattern_reaches pattern_leads written fit reaches leads decimal_text
 cases = refl

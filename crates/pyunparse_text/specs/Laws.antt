@@ -1,6 +1,6 @@
 -- What holds of what a tree is written in.
-use Rattle.std.specs.Prelude.{◌≡◌, ◌+◌, ◌≤◌, ◌↔◌, List, [], ◌∷◌, ◌++◌, length, Bool, true, false, ℕ, All, None}
-use Rattle.std.specs.List.{list_all}
+use Rattle.std.specs.Prelude.{◌≡◌, ◌+◌, ◌≤◌, ◌↔◌, List, [], ◌∷◌, ◌++◌, Bool, true, false, ℕ, All, None}
+use Rattle.std.specs.List.{list_all, list_any}
 use Rattle.std.specs.Str.{all_scalars, encode_utf8_all}
 use Rattle.pylex.specs.Listing.{Source, in_characters}
 use Rattle.pylex.specs.Laws.{IsLawful}
@@ -10,7 +10,7 @@ use Rattle.pytree_node.specs.Values.{Value, Int, Float, Imaginary, Str, Bytes}
 use Rattle.pytree_node.specs.Trees.{Expr, Exprs, Keywords, Arguments, Pattern, Module}
 use Rattle.pytoken.specs.Tokens as Tokens
 use Rattle.pytoken.specs.SourceTokens.{IsOfSource}
-use Rattle.pytoken.specs.Terminals.{Terminal, Number, Literal, Gives, fault_of}
+use Rattle.pytoken.specs.Terminals.{Terminal, Number, Literal, IsSound, terminals_of, fault_of}
 use Rattle.pytree_height.specs.Heights.{height, pattern_height, expression_height, statement_height}
 use Rattle.pygrammar.specs.declared.levels.Level.{Level}
 use Rattle.pygrammar.specs.declared.levels.Level.TheVariants.{Stars, Expression, Primary, Atom, Named}
@@ -25,6 +25,8 @@ use Rattle.pygrammar.specs.Blocks.{Block, kind_of, is_case, stands_in_match}
 use Rattle.pygrammar.specs.Refusals as Refusals
 use Rattle.pygrammar.specs.Refusals.{Accepted}
 use Rattle.pygrammar.specs.Reader.{Found, reads}
+use Rattle.pygrammar.specs.FormattedStrings.{has_formatted}
+use Rattle.pygrammar.specs.OpenStrings.{token_count}
 use Rattle.pylex.specs.declared.kind.Kind.{Kind}
 use Rattle.pyunparse_text.specs.Spacing.{Piece}
 use Rattle.pyunparse_text.specs.Tokens.{is_written, are_written}
@@ -32,17 +34,17 @@ use Rattle.pyunparse_text.specs.SpacingLaws.{ReadsBack}
 use Rattle.pyunparse_text.specs.Written.{listed, each, by_name, parameters}
 use Rattle.pyunparse_text.specs.WrittenPatterns.{written_pattern}
 use Rattle.pyunparse_text.specs.Terminals.{terminal, terminals}
-use Rattle.pyunparse_text.specs.Pieces.{piece, pieces}
+use Rattle.pyunparse_text.specs.Pieces.{Sited, outside, piece, pieces}
 use Rattle.pyunparse_text.specs.Statements.{item_target}
 use Rattle.pyunparse_text.specs.Modules.{WrittenLine, written_line, module_lines, terminal_lines, piece_lines, module_text}
 use Rattle.pyunparse_text.specs.Brackets.{brackets}
 
 -- ---- Fewest brackets.
 
--- a list of terminals gives something, by a relation, and no shorter list does
+-- a list of terminals gives something, by a relation, and no list of fewer tokens does; an f-string is one token
 pub record Shortest {A : Type 0} (Gives : List Terminal → A → Type 0) (ts : List Terminal) (a : A) : Type 0 where
   pub gives : Gives ts a
-  pub least : (us : List Terminal) → Gives us a → length ts ≤ length us
+  pub least : (us : List Terminal) → Gives us a → token_count ts ≤ token_count us
 
 -- An expression that the grammar gives to some list at a level is written there in terminals that give it back, and in no more of them than
 -- any list has that does.
@@ -64,10 +66,12 @@ abbrev pub TargetsAreShortest : Type 0
 TargetsAreShortest = (ts : List Terminal) (s : Expr) → TargetIsShortest ts s
 
 abbrev pub ParametersAreShortest : Type 0
-ParametersAreShortest = (annotated : Bool) (ts : List Terminal) (a : Arguments) → IsArranged annotated ts a → Shortest (IsArranged annotated) (listed terminal (parameters terminal a)) a
+ParametersAreShortest = (annotated : Bool) (ts : List Terminal) (a : Arguments) → IsArranged annotated ts a
+    → Shortest (IsArranged annotated) (listed terminal (parameters terminal a)) a
 
 abbrev pub ArgumentsAreShortest : Type 0
-ArgumentsAreShortest = (ts : List Terminal) (es : Exprs) (ks : Keywords) → AreArguments ts (es, ks) → Shortest AreArguments (listed terminal (each terminal Named es ++ by_name terminal ks)) (es, ks)
+ArgumentsAreShortest = (ts : List Terminal) (es : Exprs) (ks : Keywords) → AreArguments ts (es, ks)
+    → Shortest AreArguments (listed terminal (each terminal Named es ++ by_name terminal ks)) (es, ks)
 
 -- ---- Fewest brackets in patterns.
 
@@ -123,34 +127,41 @@ pub record WritingIsShortest : Type 0 where
 
 -- ---- Pieces.
 
--- In an extent of the language pieces give terminals one by one: each is what its type says, is the terminal, and has no fault, in that extent either.
+-- In an extent of the language a token of this type and text gives these terminals: it is what its type says, and has no fault, in that extent
+-- either.
+pub record GivesAll (extent : Extent) (k : Kind) (text : List ℕ) (ts : List Terminal) : Type 0 where
+  pub terminals : terminals_of k text ≡ ts
+  pub sound : IsSound k text
+  pub faultless : fault_of extent k text ≡ None
+
+-- pieces give terminals one after another
 pub data Give (extent : Extent) : List Piece → List Terminal → Type 0 where
   give_none : Give extent [] []
-  give : {p : Piece} {ps : List Piece} {t : Terminal} {ts : List Terminal} → Gives p.kind p.text t → fault_of extent p.kind p.text ≡ None
-      → Give extent ps ts → Give extent (p ∷ ps) (t ∷ ts)
+  give : {p : Piece} {ps : List Piece} {ts us : List Terminal} → GivesAll extent p.kind p.text ts → Give extent ps us
+      → Give extent (p ∷ ps) (ts ++ us)
 
--- a terminal of some token of Unicode characters that has no fault, in an extent of the language either
-pub record IsOfToken (extent : Extent) (t : Terminal) : Type 0 where
-  pub kind : Kind
-  pub text : List ℕ
-  pub characters : all_scalars text ≡ true
-  pub gives : Gives kind text t
-  pub faultless : fault_of extent kind text ≡ None
+-- the terminals of some tokens of Unicode characters, one after another
+pub data AreOfTokens (extent : Extent) : List Terminal → Type 0 where
+  no_token : AreOfTokens extent []
+  a_token : {k : Kind} {text : List ℕ} {ts us : List Terminal} → all_scalars text ≡ true → GivesAll extent k text ts → AreOfTokens extent us
+      → AreOfTokens extent (ts ++ us)
 
 -- Pieces give these terminals, and are a line that is read back: those that touch are told apart, and brackets are closed.
 pub record AreRead (extent : Extent) (ps : List Piece) (ts : List Terminal) : Type 0 where
   pub give : Give extent ps ts
   pub line : (level : ℕ) → is_written (record { level = level; pieces = ps }) ≡ true
 
--- what is written for an expression that the grammar gives to some tokens
+-- What is written for an expression that the grammar gives to some tokens, and that is no higher than 500 where it has an f-string. (A much higher
+-- one may open more brackets in a field than may be open there.)
 abbrev pub ExpressionsAreRead : Type 0
-ExpressionsAreRead = (extent : Extent) (l : Level) (ts : List Terminal) (e : Expr) → All (IsOfToken extent) ts → Derives l ts e
-    → AreRead extent (pieces l e) (terminals l e)
+ExpressionsAreRead = (extent : Extent) (l : Level) (ts : List Terminal) (e : Expr) → AreOfTokens extent ts → Derives l ts e
+    → (has_formatted (terminals l e) ≡ true → height e ≤ 500) → AreRead extent (outside (pieces l e)) (terminals l e)
 
 -- and for a pattern
 abbrev pub PatternsAreRead : Type 0
-PatternsAreRead = (extent : Extent) (l : PatternLevel) (ts : List Terminal) (p : Pattern) → All (IsOfToken extent) ts → DerivesPattern l ts p
-    → AreRead extent (written_pattern piece l p) (written_pattern terminal l p)
+PatternsAreRead = (extent : Extent) (l : PatternLevel) (ts : List Terminal) (p : Pattern) → AreOfTokens extent ts → DerivesPattern l ts p
+    → (has_formatted (written_pattern terminal l p) ≡ true → pattern_height p ≤ 500)
+    → AreRead extent (outside (written_pattern piece l p)) (written_pattern terminal l p)
 
 -- ---- Modules.
 
@@ -212,25 +223,25 @@ LineBracketsAreWithinHeight = (m : Module) → All (λ w. brackets w.tokens ≤ 
 
 -- ---- Modules as text.
 
--- terminals of tokens of Unicode characters that have no fault, in an extent of the language either
-abbrev pub AreOfTokens : Extent → WrittenLine Terminal → Type 0
-AreOfTokens extent w = All (IsOfToken extent) w.tokens
+-- a line of terminals of tokens of Unicode characters that have no fault, in an extent of the language either
+abbrev pub IsOfTokens : Extent → WrittenLine Terminal → Type 0
+IsOfTokens extent w = AreOfTokens extent w.tokens
 
 -- lines of pieces give lines of terminals, each at its level
-pub data GiveLines (extent : Extent) : List (WrittenLine Piece) → List (WrittenLine Terminal) → Type 0 where
+pub data GiveLines (extent : Extent) : List (WrittenLine Sited) → List (WrittenLine Terminal) → Type 0 where
   no_line : GiveLines extent [] []
-  a_line : {l : ℕ} {ps : List Piece} {ts : List Terminal} {rs : List (WrittenLine Piece)} {qs : List (WrittenLine Terminal)}
-      → Give extent ps ts → GiveLines extent rs qs → GiveLines extent (written_line l ps ∷ rs) (written_line l ts ∷ qs)
+  a_line : {l : ℕ} {ps : List Sited} {ts : List Terminal} {rs : List (WrittenLine Sited)} {qs : List (WrittenLine Terminal)}
+      → Give extent (outside ps) ts → GiveLines extent rs qs → GiveLines extent (written_line l ps ∷ rs) (written_line l ts ∷ qs)
 
 -- The lines of a module are read back, and give its lines of terminals.
 pub record ModuleIsRead (extent : Extent) (m : Module) : Type 0 where
   pub written : are_written (piece_lines m) ≡ true
   pub give : GiveLines extent (module_lines piece m) (terminal_lines m)
 
--- so are the lines of a module that some lines of tokens give
+-- so are the lines of a module that some lines of tokens give, and that is no higher than 500 where it has an f-string
 abbrev pub ModulesAreRead : Type 0
-ModulesAreRead = (profile : Profile) (ws : List (WrittenLine Terminal)) (m : Module) → AreModule profile ws m → All (AreOfTokens profile.extent) ws
-    → ModuleIsRead profile.extent m
+ModulesAreRead = (profile : Profile) (ws : List (WrittenLine Terminal)) (m : Module) → AreModule profile ws m → All (IsOfTokens profile.extent) ws
+    → (list_any (λ w. has_formatted w.tokens) (terminal_lines m) ≡ true → expression_height m ≤ 500) → ModuleIsRead profile.extent m
 
 -- The UTF-8 of a module's text is a source in UTF-8, without a mark, a cookie or a fault, whose tokens and lines are the module's pieces; it is
 -- accepted as this module, and as no other.
@@ -241,8 +252,8 @@ pub record TextIsAccepted (profile : Profile) (m : Module) : Type 0 where
 
 -- The law of source text: a module that some lines of tokens give, and that is no higher than 500, is the one that its own text gives.
 abbrev pub ModuleTextsAreAccepted : Type 0
-ModuleTextsAreAccepted = (profile : Profile) (ws : List (WrittenLine Terminal)) (m : Module) → AreModule profile ws m → All (AreOfTokens profile.extent) ws
-    → expression_height m ≤ 500 → statement_height m ≤ 500 → TextIsAccepted profile m
+ModuleTextsAreAccepted = (profile : Profile) (ws : List (WrittenLine Terminal)) (m : Module) → AreModule profile ws m
+    → All (IsOfTokens profile.extent) ws → expression_height m ≤ 500 → statement_height m ≤ 500 → TextIsAccepted profile m
 
 -- the lines of a source as the grammar reads them
 abbrev pub source_lines : List Tokens.Line → List (WrittenLine Terminal)
@@ -255,11 +266,13 @@ IsOfSourceIn extent t = IsOfSource t × (fault_of extent t.kind t.text ≡ None)
 
 -- lines of such tokens are such lines of terminals
 abbrev pub TokensAreOfTokens : Type 0
-TokensAreOfTokens = (extent : Extent) (xs : List Tokens.Line) → All (λ (x : Tokens.Line). All (IsOfSourceIn extent) x.tokens) xs → All (AreOfTokens extent) (source_lines xs)
+TokensAreOfTokens = (extent : Extent) (xs : List Tokens.Line) → All (λ (x : Tokens.Line). All (IsOfSourceIn extent) x.tokens) xs
+    → All (IsOfTokens extent) (source_lines xs)
 
 -- So a module that a source is accepted as is the one that its own text is accepted as.
 abbrev pub AcceptedTextsAreAccepted : Type 0
-AcceptedTextsAreAccepted = (profile : Profile) (s : Source) (m : Module) → IsLawful s → all_scalars s.text ≡ true → Accepted profile s m → TextIsAccepted profile m
+AcceptedTextsAreAccepted = (profile : Profile) (s : Source) (m : Module) → IsLawful s → all_scalars s.text ≡ true → Accepted profile s m
+    → TextIsAccepted profile m
 
 -- ---- All of them.
 

@@ -3,20 +3,19 @@ use Rattle.pylex_lexeme.specs.declared.kinds.Exact.{Exact}
 use Rattle.pylex_lexeme.specs.declared.kinds.Exact.TheVariants.{Comma}
 use Rattle.pytoken.specs.declared.keywords.Keyword.TheVariants as Key
 use Rattle.pytoken.specs.Terminals.{Op}
-use Rattle.pyunparse_text.specs.Spacing.{Piece}
 use Rattle.pyunparse_text.specs.Written.{free, leading, tight, trailing, word}
-use Rattle.pyunparse_text.specs.Pieces.{piece}
+use Rattle.pyunparse_text.specs.Pieces.{Sited, piece}
 use Rattle.pyunparse_text.specs.declared.marks.Between.{Between}
 use Rattle.pyunparse_text.specs.declared.marks.Between.TheVariants as between
 use Rattle.pyunparse_text.specs.declared.marks.Role.{Role}
 use Rattle.pyunparse_text.specs.declared.marks.Role.TheVariants as roles
 
-abbrev pub mark : Between → Piece
+abbrev pub mark : Between → Sited
 mark between.Comma = trailing piece Comma
 mark between.And = word piece Key.And
 mark between.Or = word piece Key.Or
 
-abbrev pub in_role : Role → Exact → Piece
+abbrev pub in_role : Role → Exact → Sited
 in_role roles.Free x = free piece (Op x)
 in_role roles.Leading x = leading piece x
 in_role roles.Trailing x = trailing piece x

@@ -6,11 +6,12 @@ use Rattle.pytree_node.specs.Trees
 use Rattle.pytree_node.specs.Trees.{Expr, Stmt, Stmts, no_stmt, a_stmt, Cases, no_case, a_case, Handlers, no_handler, a_handler, stmts, Module}
 use Rattle.pytoken.specs.Terminals.{Terminal}
 use Rattle.pygrammar.specs.declared.levels.Level.TheVariants.{Named}
-use Rattle.pygrammar.specs.Lines.{Header, if_header, elif_header, else_header, loop_header, with_header, try_header, except_header, finally_header, def_header, match_header, case_header, while_head, for_head, function_head, class_head}
-use Rattle.pyunparse_text.specs.Spacing.{Piece, Line, lines_text}
+use Rattle.pygrammar.specs.Lines.{Header, if_header, elif_header, else_header, loop_header, with_header, try_header, except_header, finally_header}
+use Rattle.pygrammar.specs.Lines.{def_header, match_header, case_header, while_head, for_head, function_head, class_head}
+use Rattle.pyunparse_text.specs.Spacing.{Line, lines_text}
 use Rattle.pyunparse_text.specs.Written.{Maker, leading, trailing, written}
 use Rattle.pyunparse_text.specs.Terminals.{terminal}
-use Rattle.pyunparse_text.specs.Pieces.{piece}
+use Rattle.pyunparse_text.specs.Pieces.{Sited, outside, piece}
 use Rattle.pyunparse_text.specs.Statements.{simple_tokens, header_tokens}
 
 -- a logical line: how many levels are open at it, and its tokens
@@ -37,15 +38,22 @@ module _ {A : Type 0} (make : Maker A) where
 
     pub statement_lines : ℕ → Stmt → List (WrittenLine A)
     statement_lines l (Trees.If test body orelse) = header l (if_header test) ∷ (lines_of (suc l) body ++ alternative l orelse)
-    statement_lines l (Trees.While test body orelse) = header l (loop_header (while_head test)) ∷ (lines_of (suc l) body ++ clause l else_header orelse)
-    statement_lines l (Trees.For t e body orelse) = header l (loop_header (for_head false t e)) ∷ (lines_of (suc l) body ++ clause l else_header orelse)
-    statement_lines l (Trees.AsyncFor t e body orelse) = header l (loop_header (for_head true t e)) ∷ (lines_of (suc l) body ++ clause l else_header orelse)
+    statement_lines l (Trees.While test body orelse) =
+        header l (loop_header (while_head test)) ∷ (lines_of (suc l) body ++ clause l else_header orelse)
+    statement_lines l (Trees.For t e body orelse) =
+        header l (loop_header (for_head false t e)) ∷ (lines_of (suc l) body ++ clause l else_header orelse)
+    statement_lines l (Trees.AsyncFor t e body orelse) =
+        header l (loop_header (for_head true t e)) ∷ (lines_of (suc l) body ++ clause l else_header orelse)
     statement_lines l (Trees.With items body) = header l (with_header false items) ∷ lines_of (suc l) body
     statement_lines l (Trees.AsyncWith items body) = header l (with_header true items) ∷ lines_of (suc l) body
-    statement_lines l (Trees.Try body hs orelse final) = header l try_header ∷ (lines_of (suc l) body ++ (handler_lines l false hs ++ (clause l else_header orelse ++ clause l finally_header final)))
-    statement_lines l (Trees.TryStar body hs orelse final) = header l try_header ∷ (lines_of (suc l) body ++ (handler_lines l true hs ++ (clause l else_header orelse ++ clause l finally_header final)))
-    statement_lines l (Trees.FunctionDef x a body ds r ps) = decorators l ds ++ (header l (def_header (function_head false x ps a r)) ∷ lines_of (suc l) body)
-    statement_lines l (Trees.AsyncFunctionDef x a body ds r ps) = decorators l ds ++ (header l (def_header (function_head true x ps a r)) ∷ lines_of (suc l) body)
+    statement_lines l (Trees.Try body hs orelse final) =
+        header l try_header ∷ (lines_of (suc l) body ++ (handler_lines l false hs ++ (clause l else_header orelse ++ clause l finally_header final)))
+    statement_lines l (Trees.TryStar body hs orelse final) =
+        header l try_header ∷ (lines_of (suc l) body ++ (handler_lines l true hs ++ (clause l else_header orelse ++ clause l finally_header final)))
+    statement_lines l (Trees.FunctionDef x a body ds r ps) =
+        decorators l ds ++ (header l (def_header (function_head false x ps a r)) ∷ lines_of (suc l) body)
+    statement_lines l (Trees.AsyncFunctionDef x a body ds r ps) =
+        decorators l ds ++ (header l (def_header (function_head true x ps a r)) ∷ lines_of (suc l) body)
     statement_lines l (Trees.ClassDef x es ks body ds ps) = decorators l ds ++ (header l (def_header (class_head x ps es ks)) ∷ lines_of (suc l) body)
     statement_lines l (Trees.Match subject cases) = header l (match_header subject) ∷ case_lines (suc l) cases
     statement_lines l s = written_line l (simple_tokens make s) ∷ []
@@ -77,8 +85,8 @@ module _ {A : Type 0} (make : Maker A) where
 abbrev pub terminal_lines : Module → List (WrittenLine Terminal)
 terminal_lines m = module_lines terminal m
 
-abbrev pub line_of : WrittenLine Piece → Line
-line_of w = record { level = w.level; pieces = w.tokens }
+abbrev pub line_of : WrittenLine Sited → Line
+line_of w = record { level = w.level; pieces = outside w.tokens }
 
 abbrev pub piece_lines : Module → List Line
 piece_lines m = map line_of (module_lines piece m)

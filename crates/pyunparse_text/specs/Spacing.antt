@@ -26,8 +26,8 @@ abbrev pub is_operator_kind : Kind → Bool
 is_operator_kind kinds.Op = true
 is_operator_kind _ = false
 
--- The text is a token of the kind: a name, a number that begins with a digit (as all that are written do: `0.5`, not `.5`), a literal in one quote and
--- without line ends, or an operator.
+-- The text is a token of the kind: a name, a number that begins with a digit (as all that are written do: `0.5`, not `.5`), a literal in one quote
+-- and without line ends, or an operator.
 abbrev pub is_token : Kind → List ℕ → Bool
 is_token kinds.Name t = is_name t
 is_token kinds.Number t = begins is_decimal_digit t && is_number t
@@ -35,10 +35,12 @@ is_token kinds.String t = is_single_string t && list_all is_comment_part t
 is_token kinds.Op t = is_operator t
 is_token _ t = false
 
--- The blanks: there is none where one of the two keeps close, except that a number isn't close to a point, nor a comma to a colon that keeps close to what
--- comes after it, as a slice's does (a header's and a pair's don't).
+-- The blanks: there is none where one of the two keeps close, except that a number isn't close to a point, nor a comma to a colon that keeps close to
+-- what comes after it, as a slice's does (a header's and a pair's don't).
 abbrev pub touches : Piece → Piece → Bool
-touches p q = (p.behind || q.before) && not (is_number_kind p.kind && bytes_eq q.text (codes ".")) && not (bytes_eq p.text (codes ",") && (bytes_eq q.text (codes ":") && q.behind))
+touches p q =
+    (p.behind || q.before) && not (is_number_kind p.kind && bytes_eq q.text (codes "."))
+    && not (bytes_eq p.text (codes ",") && (bytes_eq q.text (codes ":") && q.behind))
 
 -- the text after a piece of its line, up to the line end
 abbrev pub text_behind : Piece → List Piece → List ℕ

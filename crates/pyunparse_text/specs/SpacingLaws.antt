@@ -34,5 +34,6 @@ pub record IsClear (extent : Extent) (l : Line) : Type 0 where
 
 -- What such lines are read back as isn't refused for its tokens in that extent.
 abbrev pub WrittenIsClear : Type 0
-WrittenIsClear = (extent : Extent) (ls : List Line) → are_written ls ≡ true → All (IsClear extent) ls → (back : ReadsBack (encode_utf8_all (lines_text ls)) ls)
+WrittenIsClear = (extent : Extent) (ls : List Line) → are_written ls ≡ true → All (IsClear extent) ls
+    → (back : ReadsBack (encode_utf8_all (lines_text ls)) ls)
     → refusal extent (in_characters back.parts) ≡ None

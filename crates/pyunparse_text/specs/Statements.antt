@@ -1,17 +1,22 @@
 -- The tokens that a logical line is written in: a simple statement, or a header up to its colon (reference 7 and 8).
 use Rattle.std.specs.Prelude.{ℕ, zero, suc, ◌==◌, Bool, true, false, not, if◌then◌else◌, List, [], ◌∷◌, ◌++◌, map, Option, Some, None}
 use Rattle.pylex_lexeme.specs.declared.kinds.Exact.{Exact}
-use Rattle.pylex_lexeme.specs.declared.kinds.Exact.TheVariants.{LPar, RPar, LSqb, RSqb, Colon, Comma, Star, Equal, Dot, DoubleStar, RArrow, Ellipsis, PlusEqual, MinEqual, StarEqual, SlashEqual, PercentEqual, AmperEqual, VBarEqual, CircumflexEqual, LeftShiftEqual, RightShiftEqual, DoubleStarEqual, DoubleSlashEqual, AtEqual}
+use Rattle.pylex_lexeme.specs.declared.kinds.Exact.TheVariants.{LPar, RPar, LSqb, RSqb, Colon, Comma, Star, Equal, Dot, DoubleStar, RArrow, Ellipsis}
+use Rattle.pylex_lexeme.specs.declared.kinds.Exact.TheVariants.{PlusEqual, MinEqual, StarEqual, SlashEqual, PercentEqual, AmperEqual, VBarEqual}
+use Rattle.pylex_lexeme.specs.declared.kinds.Exact.TheVariants.{CircumflexEqual, LeftShiftEqual, RightShiftEqual, DoubleStarEqual, DoubleSlashEqual}
+use Rattle.pylex_lexeme.specs.declared.kinds.Exact.TheVariants.{AtEqual}
 use Rattle.pytoken.specs.declared.keywords.Keyword.TheVariants as Key
 use Rattle.pytree_node.specs.declared.operators.Operator.{Operator}
 use Rattle.pytree_node.specs.declared.operators.Operator.TheVariants as Bin
 use Rattle.pytree_node.specs.Trees
-use Rattle.pytree_node.specs.Trees.{Identifier, Expr, Exprs, no_exprs, an_expr, exprs, Keywords, no_keyword, Alias, Item, TypeParam, TypeVar, ParamSpec, TypeVarTuple, Stmt}
+use Rattle.pytree_node.specs.Trees.{Identifier, Expr, Exprs, no_exprs, an_expr, exprs, Keywords, no_keyword, Alias, Item, TypeParam, TypeVar}
+use Rattle.pytree_node.specs.Trees.{ParamSpec, TypeVarTuple, Stmt}
 use Rattle.pytoken.specs.Terminals.{Op, in_form}
 use Rattle.pygrammar.specs.declared.levels.Level.{Level}
 use Rattle.pygrammar.specs.declared.levels.Level.TheVariants.{Value, Stars, Named, Expression, Primary, Subject}
 use Rattle.pygrammar.specs.declared.pattern_levels.PatternLevel.TheVariants.{Patterns}
-use Rattle.pygrammar.specs.Lines.{Header, if_header, elif_header, else_header, loop_header, with_header, try_header, except_header, finally_header, def_header, match_header, case_header, while_head, for_head, function_head, class_head}
+use Rattle.pygrammar.specs.Lines.{Header, if_header, elif_header, else_header, loop_header, with_header, try_header, except_header, finally_header}
+use Rattle.pygrammar.specs.Lines.{def_header, match_header, case_header, while_head, for_head, function_head, class_head}
 use Rattle.pygrammar.specs.DottedNames.{names_in}
 use Rattle.pygrammar.specs.Forms.{type_name, match_name, case_name}
 use Rattle.pyunparse_text.specs.WrittenPatterns.{written_pattern}
@@ -117,7 +122,7 @@ module _ {A : Type 0} (make : Maker A) where
   -- NAME ("." NAME)*; after points the first NAME keeps close to them
   abbrev pub dotted_names : Bool → List Identifier → List A
   dotted_names close [] = []
-  dotted_names close (x ∷ xs) = make (in_form x) close false ∷ dotted_rest xs
+  dotted_names close (x ∷ xs) = make.token (in_form x) close false ∷ dotted_rest xs
 
   abbrev pub dotted : Bool → Identifier → List A
   dotted close x = dotted_names close (names_in x)
@@ -125,7 +130,7 @@ module _ {A : Type 0} (make : Maker A) where
   -- points, of which all but the first keep close to the one before
   abbrev pub point_signs : Bool → List Exact → List A
   point_signs close [] = []
-  point_signs close (s ∷ ss) = make (Op s) close false ∷ point_signs true ss
+  point_signs close (s ∷ ss) = make.token (Op s) close false ∷ point_signs true ss
 
   abbrev pub module_name : Bool → Option Identifier → List A
   module_name close None = []
@@ -157,8 +162,10 @@ module _ {A : Type 0} (make : Maker A) where
   simple_tokens (Trees.ExprOf e) = written make Value e
   simple_tokens (Trees.Assign es e) = targets es ++ written make Value e
   simple_tokens (Trees.AugAssign t o e) = written make Primary t ++ (free make (Op (augmented_sign o)) ∷ written make Value e)
-  simple_tokens (Trees.AnnAssign t a v simple) = annotated t simple ++ (trailing make Colon ∷ (written make Expression a ++ behind (free make (Op Equal)) Value v))
-  simple_tokens (Trees.TypeAlias t ps e) = free make (in_form type_name) ∷ (written make Primary t ++ (type_params ps ++ (free make (Op Equal) ∷ written make Expression e)))
+  simple_tokens (Trees.AnnAssign t a v simple) =
+      annotated t simple ++ (trailing make Colon ∷ (written make Expression a ++ behind (free make (Op Equal)) Value v))
+  simple_tokens (Trees.TypeAlias t ps e) =
+      free make (in_form type_name) ∷ (written make Primary t ++ (type_params ps ++ (free make (Op Equal) ∷ written make Expression e)))
   simple_tokens (Trees.Return e) = word make Key.Return ∷ perhaps_written Stars e
   simple_tokens (Trees.Raise e c) = word make Key.Raise ∷ (perhaps_written Expression e ++ behind (word make Key.From) Expression c)
   simple_tokens (Trees.Assert e m) = word make Key.Assert ∷ (written make Expression e ++ behind (trailing make Comma) Expression m)
@@ -170,7 +177,8 @@ module _ {A : Type 0} (make : Maker A) where
   simple_tokens Trees.Continue = word make Key.Continue ∷ []
   simple_tokens (Trees.Import names) = word make Key.Import ∷ listed make (map dotted_alias names)
   simple_tokens (Trees.ImportFrom m names zero) = word make Key.From ∷ (module_name false m ++ (word make Key.Import ∷ imported names))
-  simple_tokens (Trees.ImportFrom m names n) = word make Key.From ∷ (point_signs false (points n) ++ (module_name true m ++ (word make Key.Import ∷ imported names)))
+  simple_tokens (Trees.ImportFrom m names n) =
+      word make Key.From ∷ (point_signs false (points n) ++ (module_name true m ++ (word make Key.Import ∷ imported names)))
   simple_tokens _ = []
 
   -- ---- Headers, up to their colon (8).
@@ -210,7 +218,8 @@ module _ {A : Type 0} (make : Maker A) where
   header_tokens (except_header b e x) = word make Key.Except ∷ (starred b ++ (perhaps_written Expression e ++ as_name x))
   header_tokens finally_header = word make Key.Finally ∷ []
   header_tokens (def_header (function_head b x ps a r)) =
-      async b ++ (word make Key.Def ∷ (free make (in_form x) ∷ (type_params ps ++ (enclosed make (tight make LPar) RPar (listed make (parameters make a)) ++ behind (free make (Op RArrow)) Expression r))))
+      async b ++ (word make Key.Def ∷ (free make (in_form x) ∷ (type_params ps
+      ++ (enclosed make (tight make LPar) RPar (listed make (parameters make a)) ++ behind (free make (Op RArrow)) Expression r))))
   header_tokens (def_header (class_head x ps es ks)) = word make Key.Class ∷ (free make (in_form x) ∷ (type_params ps ++ bases es ks))
   header_tokens (match_header e) = free make (in_form match_name) ∷ written make Subject e
   header_tokens (case_header p g) = free make (in_form case_name) ∷ (written_pattern make Patterns p ++ behind (word make Key.If) Named g)

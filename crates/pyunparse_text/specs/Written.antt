@@ -1,25 +1,39 @@
 -- The tokens that an expression is written in at a level of the grammar, in as few brackets as its place allows, and how close each token
 -- keeps to its neighbours (reference 6 and 10).
-use Rattle.std.specs.Prelude.{◌-◌, List, [], ◌∷◌, ◌++◌, map, length, replicate, Option, Some, None, Bool, true, false, if◌then◌else◌}
+use Rattle.std.specs.Prelude.{ℕ, ◌-◌, List, [], ◌∷◌, ◌++◌, map, length, replicate, Option, Some, None, Bool, true, false, ◌||◌, if◌then◌else◌}
 use Rattle.pylex_lexeme.specs.declared.kinds.Exact.{Exact}
-use Rattle.pylex_lexeme.specs.declared.kinds.Exact.TheVariants.{LPar, RPar, LSqb, RSqb, LBrace, RBrace, Colon, Comma, Star, Slash, Equal, Dot, DoubleStar, Ellipsis, ColonEqual}
+use Rattle.pylex_lexeme.specs.declared.kinds.Exact.TheVariants.{LPar, RPar, LSqb, RSqb, LBrace, RBrace, Colon, Comma, Star, Slash, Equal, Dot}
+use Rattle.pylex_lexeme.specs.declared.kinds.Exact.TheVariants.{DoubleStar, Ellipsis, ColonEqual}
 use Rattle.pytoken.specs.declared.keywords.Keyword.{Keyword}
 use Rattle.pytoken.specs.declared.keywords.Keyword.TheVariants as Key
 use Rattle.pytree_node.specs.declared.operators.UnaryOperator.{UnaryOperator}
 use Rattle.pytree_node.specs.declared.operators.Comparison.{Comparison}
+use Rattle.pyfstring.specs.declared.parts.Conversion.{Conversion}
 use Rattle.pygrammar.specs.declared.levels.Level.{Level}
-use Rattle.pygrammar.specs.declared.levels.Level.TheVariants.{Value, Stars, StarItem, Named, Expression, Or, Compare, BitOr, Await, Primary, Elem, Slices, Part, Slice, Subject}
+use Rattle.pygrammar.specs.declared.levels.Level.TheVariants.{Value, Stars, StarItem, Named, Expression, Or, Compare, BitOr, Await, Primary, Elem}
+use Rattle.pygrammar.specs.declared.levels.Level.TheVariants.{Slices, Part, Slice, Subject}
 use Rattle.pytree_node.specs.Values
 use Rattle.pytree_node.specs.Trees
-use Rattle.pytree_node.specs.Trees.{Expr, Exprs, no_exprs, an_expr, OptionalExpr, absent, present, OptionalExprs, no_optional, an_optional, Comprehensions, no_comprehension, a_comprehension, Keywords, no_keyword, a_keyword, arg, Args, no_arg, an_arg, OptionalArg, absent_arg, present_arg, Arguments, arguments}
+use Rattle.pytree_node.specs.Trees.{Expr, Exprs, no_exprs, an_expr, OptionalExpr, absent, present, OptionalExprs, no_optional, an_optional}
+use Rattle.pytree_node.specs.Trees.{Comprehensions, no_comprehension, a_comprehension, Keywords, no_keyword, a_keyword, arg, Args, no_arg, an_arg}
+use Rattle.pytree_node.specs.Trees.{OptionalArg, absent_arg, present_arg, Arguments, arguments}
 use Rattle.pytoken.specs.Terminals.{Terminal, Op, Word, in_form, Number, Literal}
 use Rattle.pygrammar.specs.Operators.{below, chain_level, chain_word}
 use Rattle.pyunparse_text.specs.Levels.{reaches, operator_level, left_level, right_level, operator_sign, unary_level, unary_sign, comparison_signs}
 
--- What is made of a token: of its terminal, and of whether it keeps close to what comes before it, and to what comes after it. All that
--- follows is said of any such maker: one gives the terminals, for the grammar, another the pieces, with their texts.
-abbrev pub Maker : Type 0 → Type 0
-Maker A = Terminal → Bool → Bool → A
+-- What an f-string is written in, one thing after another: its texts, those of format specs told apart, and its fields, each of which begins with
+-- what its expression is written in.
+pub data Element (A : Type 0) : Type 0 where
+  Text : Bool → List ℕ → Element A
+  Field : Conversion → List A → Element A
+  Spec : Element A
+  End : Element A
+
+-- What is made of a token: of its terminal, and of whether it keeps close to what comes before it, and to what comes after it; and what is made of
+-- an f-string. All that follows is said of any such maker: one gives the terminals, for the grammar, another the pieces, with their texts.
+pub record Maker (A : Type 0) : Type 0 where
+  pub token : Terminal → Bool → Bool → A
+  pub formatted : List (Element A) → List A
 
 -- lists, with a token between each two
 abbrev pub separated : {A : Type 0} → A → List (List A) → List A
@@ -85,12 +99,31 @@ constant_terminal Values.None = Word Key.None
 constant_terminal Values.Ellipsis = Op Ellipsis
 constant_terminal v = Literal v
 
+-- ---- F-strings.
+
+-- a text of the kind u is among the values of a JoinedStr, or in the format spec of one of its fields
+abbrev mutual
+  pub is_unicode : Exprs → Bool
+  is_unicode no_exprs = false
+  is_unicode (an_expr (Trees.Constant (Values.Str t u)) es) = u || is_unicode es
+  is_unicode (an_expr (Trees.FormattedValue e c s) es) = is_unicode_spec s || is_unicode es
+  is_unicode (an_expr e es) = is_unicode es
+
+  pub is_unicode_spec : OptionalExpr → Bool
+  is_unicode_spec (present (Trees.JoinedStr es)) = is_unicode es
+  is_unicode_spec _ = false
+
+-- the text that values begin with, perhaps an empty one
+abbrev pub first_text : Exprs → List ℕ
+first_text (an_expr (Trees.Constant (Values.Str t u)) es) = t
+first_text _ = []
+
 module _ {A : Type 0} (make : Maker A) where
   -- ---- Roles.
 
   -- a name, a constant, or an operator between two blanks
   abbrev pub free : Terminal → A
-  free t = make t false false
+  free t = make.token t false false
 
   -- a keyword
   abbrev pub word : Keyword → A
@@ -98,15 +131,15 @@ module _ {A : Type 0} (make : Maker A) where
 
   -- an opening bracket, or a prefix
   abbrev pub leading : Exact → A
-  leading x = make (Op x) false true
+  leading x = make.token (Op x) false true
 
   -- a closing bracket, a comma, or the colon of a header, an annotation or a pair
   abbrev pub trailing : Exact → A
-  trailing x = make (Op x) true false
+  trailing x = make.token (Op x) true false
 
   -- the opening bracket of a call or a subscript, the colon of a slice, a point, or the `=` of an argument or a default
   abbrev pub tight : Exact → A
-  tight x = make (Op x) true true
+  tight x = make.token (Op x) true true
 
   -- ---- Lists of tokens.
 
@@ -138,7 +171,7 @@ module _ {A : Type 0} (make : Maker A) where
 
   -- `not` is a word, the others are prefixes
   abbrev pub unary : UnaryOperator → A
-  unary o = make (unary_sign o) false (is_sign (unary_sign o))
+  unary o = make.token (unary_sign o) false (is_sign (unary_sign o))
 
   abbrev pub compared : List Comparison → List (List A) → List A
   compared (o ∷ os) (ts ∷ tss) = map free (comparison_signs o) ++ (ts ++ compared os tss)
@@ -166,6 +199,18 @@ module _ {A : Type 0} (make : Maker A) where
   with_star [] (_ ∷ _) = (leading Star ∷ []) ∷ []
   with_star tss _ = tss
 
+  -- ---- F-strings.
+
+  -- a field: what its expression is written in, and its format spec
+  abbrev pub field : Conversion → List A → List (Element A) → List (Element A)
+  field c ts spec = Field c ts ∷ (spec ++ (End ∷ []))
+
+  -- An f-string, by the text that it begins with, and what follows that. Where a text in it has the kind u, a literal of that kind stands in
+  -- front of it, with the text that it begins with.
+  abbrev pub joined : Bool → List ℕ → List (Element A) → List A
+  joined false t behind = make.formatted (Text false t ∷ behind)
+  joined true t behind = free (Literal (Values.Str t true)) ∷ make.formatted (Text false [] ∷ behind)
+
   -- ---- Expressions.
 
   unfoldable mutual
@@ -182,19 +227,36 @@ module _ {A : Type 0} (make : Maker A) where
     written l (Trees.BinOp a o b) = fit l (operator_level o) (written (left_level o) a ++ (free (operator_sign o) ∷ written (right_level o) b))
     written l (Trees.Await e) = fit l Await (word Key.Await ∷ written Primary e)
     written l (Trees.Attribute e x c) = fit l Primary (written Primary e ++ (tight Dot ∷ (free (in_form x) ∷ [])))
-    written l (Trees.Call f es ks) = fit l Primary (written Primary f ++ enclosed (tight LPar) RPar (if lone_generator es ks then alone es else listed (each Named es ++ by_name ks)))
+    written l (Trees.Call f es ks) =
+        fit l Primary
+        (written Primary f ++ enclosed (tight LPar) RPar (if lone_generator es ks then alone es else listed (each Named es ++ by_name ks)))
     written l (Trees.Subscript e s c) = fit l Primary (written Primary e ++ enclosed (tight LSqb) RSqb (written Slices s))
     written l (Trees.Name x c) = free (in_form x) ∷ []
     written l (Trees.Constant v) = free (constant_terminal v) ∷ []
+    written l (Trees.FormattedValue e c s) = make.formatted (field c (written Or e) (spec_elements s))
+    written l (Trees.JoinedStr es) = joined (is_unicode es) (first_text es) (elements_behind false es)
     written l (Trees.Tuple es c) = tuple_of (tuple_level l (some_named es)) (lone_star es) (each (element_level l (some_named es)) es)
     written l (Trees.GeneratorExp e gs) = bracketed (written Named e ++ clauses gs)
     written l (Trees.ListOf es c) = enclosed (leading LSqb) RSqb (listed (each Elem es))
     written l (Trees.ListComp e gs) = enclosed (leading LSqb) RSqb (written Named e ++ clauses gs)
     written l (Trees.Dict ks es) = enclosed (leading LBrace) RBrace (listed (pairs (written_keys ks) es))
-    written l (Trees.DictComp k e gs) = enclosed (leading LBrace) RBrace (written Expression k ++ (trailing Colon ∷ (written Expression e ++ clauses gs)))
+    written l (Trees.DictComp k e gs) =
+        enclosed (leading LBrace) RBrace (written Expression k ++ (trailing Colon ∷ (written Expression e ++ clauses gs)))
     written l (Trees.Set es) = enclosed (leading LBrace) RBrace (listed (each Elem es))
     written l (Trees.SetComp e gs) = enclosed (leading LBrace) RBrace (written Named e ++ clauses gs)
     written l (Trees.Slice a b c) = fit l Slice (perhaps Expression a ++ (tight Colon ∷ (perhaps Expression b ++ suffixed (tight Colon) c)))
+
+    -- what follows a text among the values of a JoinedStr, of an f-string or of the format spec of a field: fields, and behind each of them the text
+    -- that follows it, perhaps an empty one
+    pub elements_behind : Bool → Exprs → List (Element A)
+    elements_behind b no_exprs = []
+    elements_behind b (an_expr (Trees.FormattedValue e c s) es) =
+        field c (written Or e) (spec_elements s) ++ (Text b (first_text es) ∷ elements_behind b es)
+    elements_behind b (an_expr e es) = elements_behind b es
+
+    pub spec_elements : OptionalExpr → List (Element A)
+    spec_elements (present (Trees.JoinedStr es)) = Spec ∷ (Text true (first_text es) ∷ elements_behind true es)
+    spec_elements _ = []
 
     pub each : Level → Exprs → List (List A)
     each l no_exprs = []

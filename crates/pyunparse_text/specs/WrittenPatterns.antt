@@ -10,7 +10,8 @@ use Rattle.pygrammar.specs.declared.levels.Level.TheVariants.{Sum, Primary}
 use Rattle.pygrammar.specs.declared.pattern_levels.PatternLevel.{PatternLevel}
 use Rattle.pygrammar.specs.declared.pattern_levels.PatternLevel.TheVariants as Level
 use Rattle.pygrammar.specs.PatternOperators.{below_pattern, pattern_rank}
-use Rattle.pyunparse_text.specs.Written.{Maker, free, word, leading, trailing, tight, enclosed, bracketed, listed, with_comma, separated, constant_terminal, written}
+use Rattle.pyunparse_text.specs.Written.{Maker, free, word, leading, trailing, tight, enclosed, bracketed, listed, with_comma, separated}
+use Rattle.pyunparse_text.specs.Written.{constant_terminal, written}
 
 -- so many levels at most, each named by the last alternative of the one before, lead from the first to the second
 unfoldable pub pattern_leads : ℕ → PatternLevel → PatternLevel → Bool
@@ -49,9 +50,11 @@ module _ {A : Type 0} (make : Maker A) where
     written_pattern l (Trees.MatchValue value) = written make Sum value
     written_pattern l (Trees.MatchSingleton value) = free make (constant_terminal value) ∷ []
     written_pattern l (Trees.MatchSequence inner) = sequence_of l (each_pattern Level.StarPattern inner)
-    written_pattern l (Trees.MatchMapping keys inner rest) = enclosed make (leading make LBrace) RBrace (listed make (key_patterns keys inner ++ rest_name rest))
+    written_pattern l (Trees.MatchMapping keys inner rest) =
+        enclosed make (leading make LBrace) RBrace (listed make (key_patterns keys inner ++ rest_name rest))
     written_pattern l (Trees.MatchClass cls inner names named) =
-        written make Primary cls ++ enclosed make (tight make LPar) RPar (listed make (each_pattern Level.AsPattern inner ++ named_patterns names named))
+        written make Primary cls
+        ++ enclosed make (tight make LPar) RPar (listed make (each_pattern Level.AsPattern inner ++ named_patterns names named))
     written_pattern l (Trees.MatchStar name) = leading make Star ∷ (target name ∷ [])
     written_pattern l (Trees.MatchAs absent_pattern name) = target name ∷ []
     written_pattern l (Trees.MatchAs (present_pattern p) name) =

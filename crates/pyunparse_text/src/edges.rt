@@ -9,4 +9,6 @@ pub struct Edge {
     pub number: bool,
     /// It is a comma, which the colon of a slice doesn't touch.
     pub comma: bool,
+    /// It is the brace that a field of an f-string begins with, which no other brace touches.
+    pub brace: bool,
 }

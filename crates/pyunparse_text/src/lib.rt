@@ -18,6 +18,7 @@
 pub mod edges;
 pub mod levels;
 pub mod line_brackets;
+mod literal_texts;
 pub mod marks;
 pub mod piece_writer;
 pub mod pieces;

@@ -37,6 +37,8 @@ pub fn sort_of(e: &Expr) -> Sort
         Expr::YieldFrom { .. } => Sort::Other,
         Expr::Compare { .. } => Sort::Other,
         Expr::Call { .. } => Sort::Other,
+        Expr::FormattedValue { .. } => Sort::Other,
+        Expr::JoinedStr { .. } => Sort::Other,
         Expr::Constant { .. } => Sort::Other,
         Expr::Attribute { .. } => Sort::Other,
         Expr::Subscript { .. } => Sort::Other,

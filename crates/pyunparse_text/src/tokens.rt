@@ -7,7 +7,7 @@ ghost use Rattle.pytoken.specs.Terminals.{in_form, Op, Word};
 ghost use Rattle.pyunparse_text.specs.Folds.{closed, opened, puts};
 ghost use Rattle.pyunparse_text.specs.Marks.{in_role, mark};
 ghost use Rattle.pyunparse_text.specs.Levels.{comparison_signs};
-ghost use Rattle.pyunparse_text.specs.Pieces.{piece};
+ghost use Rattle.pyunparse_text.specs.Pieces.{piece, sited};
 ghost use Rattle.pyunparse_text.specs.Written as written;
 
 use crate::marks::{Between, Role};
@@ -24,7 +24,7 @@ pub fn put_operator<W: Writer>(
     before: bool,
     behind: bool,
 ) -> Result<(), AllocError>
-    ensures { OnOk result (out.new ≡ puts W.after out.old (piece (Op sign) before behind ∷ [])) }
+    ensures { OnOk result (out.new ≡ puts W.after out.old (sited (Op sign) before behind ∷ [])) }
 {
     out.put(Kind::Op, sign.text(), before, behind)
 }
@@ -52,7 +52,7 @@ pub fn put_word<W: Writer>(out: &mut W, word: Keyword) -> Result<(), AllocError>
 /// Writes a name, which may keep close to what stands before it.
 pub fn put_text<W: Writer>(out: &mut W, name: &str, before: bool) -> Result<(), AllocError>
     ensures { OnOk result
-        (out.new ≡ puts W.after out.old (piece (in_form (chars name.now)) before false ∷ [])) }
+        (out.new ≡ puts W.after out.old (sited (in_form (chars name.now)) before false ∷ [])) }
 {
     out.put(Kind::Name, name, before, false)
 }

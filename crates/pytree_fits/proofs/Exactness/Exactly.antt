@@ -1,6 +1,6 @@
 -- Carries: the laws of the slots. On: expressions, targets, parameters and arguments fit
 -- exactly where they are given.
-use Rattle.std.proofs.Common.{◌≡◌, refl, ap, subst, List, ◌∷◌, Some, Bool, true, false, option_map}
+use Rattle.std.proofs.Common.{◌≡◌, refl, ap, subst, List, [], ◌∷◌, Some, Bool, true, false, option_map}
 use Rattle.std.specs.Prelude.{not, ◌&&◌}
 use Rattle.std.proofs.lemmas.Bool.{and_parts, and_from}
 use Rattle.pylex_lexeme.specs.declared.kinds.Exact.TheVariants.{Star}
@@ -16,7 +16,8 @@ use Rattle.pygrammar.specs.ArgumentLists.{IsArranged, AreArguments}
 use Rattle.pytree_fits.specs.Tests.{Tests}
 use Rattle.pytree_fits.specs.Slots.{is_context, is_starred, is_single, fits_at, fits_target, each_target_fits, each_fits, each_keyword_fits, fits_arguments, arg_fits, each_arg_fits, perhaps_arg_fits}
 use Rattle.pytree_fits.specs.Given.{all_pass}
-use Rattle.pytree_fits.proofs.Fields.AsSpelled.{all_as_spelled, GivenAsSpelled, all_passing}
+use Rattle.pytree_fits.proofs.Fields.Standing.{outside}
+use Rattle.pytree_fits.proofs.Fields.AsSpelled.{Passed, GivenAsSpelled, all_passing}
 use Rattle.pytree_fits.specs.Laws.{FitsExactly, TargetsFitExactly, ParametersFitExactly, ArgumentsFitExactly}
 use Rattle.pytree_fits.proofs.Fields.Tests.{parts3, not_true, never, in_context, both_some}
 use Rattle.pytree_fits.proofs.Fields.Levels.{anywhere}
@@ -31,24 +32,24 @@ use Rattle.pytree_fits.proofs.Giving.Gives as Gives
 use Rattle.pytree_fits.proofs.Giving.Gives.{made, aim, each, keys, labelled}
 
 pub fits_exactly : FitsExactly
-fits_exactly n l e = (λ w. slots n w.2 w.1, λ h. let w = made n l e h in (w.0, all_passing n w.0 w.1, w.2))
+fits_exactly n l e = (λ w. slots (outside n) w.2 w.1, λ h. let w = made (outside n) l e h in (w.0, all_passing n w.0 w.1, w.2))
 
 module _ (n : Tests) where
   -- ---- Targets.
 
-  pub target_given : (s : Expr) → fits_target n Store s ≡ true → GivenAsSpelled n G.Target s
+  pub target_given : (s : Expr) → fits_target n Store s ≡ true → GivenAsSpelled (outside n) G.Target s
   target_given s h =
-      let a = aim n s h in
+      let a = aim (outside n) s h in
       let u = a.given Stars refl in
       (u.0, u.1, G.target u.2 a.is)
 
-  single_from : (e s : Expr) → single_stored e ≡ Some s → fits_at n Primary e ≡ true → GivenAsSpelled n G.SingleTarget s
-  single_from e s h f = let u = made n Primary e f in (u.0, u.1, G.single_target u.2 h)
+  single_from : (e s : Expr) → single_stored e ≡ Some s → fits_at n Primary e ≡ true → GivenAsSpelled (outside n) G.SingleTarget s
+  single_from e s h f = let u = made (outside n) Primary e f in (u.0, u.1, G.single_target u.2 h)
 
-  pub single_given : (s : Expr) → (is_single s && fits_target n Store s) ≡ true → GivenAsSpelled n G.SingleTarget s
-  single_given (Trees.Name x c) h = let w = and_parts (is_context Store c) (n.name x) h in in_context (λ k. GivenAsSpelled n G.SingleTarget (Trees.Name x k)) Store c w.0 (single_from (Trees.Name x Load) (Trees.Name x Store) refl w.1)
-  single_given (Trees.Attribute e x c) h = let w = parts3 (is_context Store c) (n.name x) (fits_at n Expression e) h in in_context (λ k. GivenAsSpelled n G.SingleTarget (Trees.Attribute e x k)) Store c w.0 (single_from (Trees.Attribute e x Load) (Trees.Attribute e x Store) refl (and_from (n.name x) (fits_at n Expression e) w.1 w.2))
-  single_given (Trees.Subscript e i c) h = let w = parts3 (is_context Store c) (fits_at n Expression e) (fits_at n Slices i) h in in_context (λ k. GivenAsSpelled n G.SingleTarget (Trees.Subscript e i k)) Store c w.0 (single_from (Trees.Subscript e i Load) (Trees.Subscript e i Store) refl (and_from (fits_at n Expression e) (fits_at n Slices i) w.1 w.2))
+  pub single_given : (s : Expr) → (is_single s && fits_target n Store s) ≡ true → GivenAsSpelled (outside n) G.SingleTarget s
+  single_given (Trees.Name x c) h = let w = and_parts (is_context Store c) (n.name x) h in in_context (λ k. GivenAsSpelled (outside n) G.SingleTarget (Trees.Name x k)) Store c w.0 (single_from (Trees.Name x Load) (Trees.Name x Store) refl w.1)
+  single_given (Trees.Attribute e x c) h = let w = parts3 (is_context Store c) (n.name x) (fits_at n Expression e) h in in_context (λ k. GivenAsSpelled (outside n) G.SingleTarget (Trees.Attribute e x k)) Store c w.0 (single_from (Trees.Attribute e x Load) (Trees.Attribute e x Store) refl (and_from (n.name x) (fits_at n Expression e) w.1 w.2))
+  single_given (Trees.Subscript e i c) h = let w = parts3 (is_context Store c) (fits_at n Expression e) (fits_at n Slices i) h in in_context (λ k. GivenAsSpelled (outside n) G.SingleTarget (Trees.Subscript e i k)) Store c w.0 (single_from (Trees.Subscript e i Load) (Trees.Subscript e i Store) refl (and_from (fits_at n Expression e) (fits_at n Slices i) w.1 w.2))
   single_given _ h = absurd (cc)
 
   mutual
@@ -74,25 +75,25 @@ module _ (n : Tests) where
         let v = all_undeleted es w.1 in
         (an_expr u.0 v.0, both_some (deleted u.0) (all_deleted v.0) e es u.1 v.1, and_from (fits_at n Elem u.0) (each_fits n Elem v.0) (anywhere n Expression Elem u.0 refl u.2) v.2)
 
-  pub del_target_given : (s : Expr) → fits_target n Del s ≡ true → GivenAsSpelled n G.DelTarget s
+  pub del_target_given : (s : Expr) → fits_target n Del s ≡ true → GivenAsSpelled (outside n) G.DelTarget s
   del_target_given s h =
       let u = undeleted s h in
-      let w = made n Expression u.0 u.2 in
+      let w = made (outside n) Expression u.0 u.2 in
       (w.0, w.1, G.del_target w.2 u.1)
 
-  item_from : (s : Expr) → is_starred s ≡ false → fits_target n Store s ≡ true → GivenAsSpelled n G.ItemTarget s
+  item_from : (s : Expr) → is_starred s ≡ false → fits_target n Store s ≡ true → GivenAsSpelled (outside n) G.ItemTarget s
   item_from s b h =
-      let a = aim n s h in
+      let a = aim (outside n) s h in
       let u = (a.bare b).0 Expression in
       (u.0, u.1, G.item_target u.2 a.is)
 
-  pub item_target_given : (s : Expr) → fits_target n Store s ≡ true → GivenAsSpelled n G.ItemTarget s
+  pub item_target_given : (s : Expr) → fits_target n Store s ≡ true → GivenAsSpelled (outside n) G.ItemTarget s
   item_target_given (Trees.Starred e c) h =
       let w = parts3 (is_context Store c) (not (is_starred e)) (fits_target n Store e) h in
-      let a = aim n e w.2 in
+      let a = aim (outside n) e w.2 in
       let b = a.bare (not_true (is_starred e) w.1) in
       let u = b.0 Expression in
-      in_context (λ k. GivenAsSpelled n G.ItemTarget (Trees.Starred e k)) Store c w.0 (Op Star ∷ u.0, u.1, G.star_target u.2 (star_up a.tree e b.1 a.is))
+      in_context (λ k. GivenAsSpelled (outside n) G.ItemTarget (Trees.Starred e k)) Store c w.0 (Op Star ∷ u.0, u.1, G.star_target u.2 (star_up a.tree e b.1 a.is))
   item_target_given (Trees.Name x c) h = item_from (Trees.Name x c) refl h
   item_target_given (Trees.Attribute e x c) h = item_from (Trees.Attribute e x c) refl h
   item_target_given (Trees.Subscript e s c) h = item_from (Trees.Subscript e s c) refl h
@@ -102,15 +103,15 @@ module _ (n : Tests) where
 
   -- ---- Parameters.
 
-  noted_arg : (b : Bool) (a : Arg) → arg_fits n b Expression a ≡ true → ArgMade n b a
+  noted_arg : (b : Bool) (a : Arg) → arg_fits n b Expression a ≡ true → ArgMade (outside n) b a
   noted_arg b (arg x absent) h = bare (parts3 (n.name x) true true h).0
-  noted_arg b (arg x (present e)) h = let w = parts3 (n.name x) b (fits_at n Expression e) h in noted w.0 w.1 (made n Expression e w.2)
+  noted_arg b (arg x (present e)) h = let w = parts3 (n.name x) b (fits_at n Expression e) h in noted w.0 w.1 (made (outside n) Expression e w.2)
 
-  noted_args : (b : Bool) (xs : Args) → each_arg_fits n b xs ≡ true → ArgsMade n b xs
+  noted_args : (b : Bool) (xs : Args) → each_arg_fits n b xs ≡ true → ArgsMade (outside n) b xs
   noted_args b no_arg h = no_args
   noted_args b (an_arg a rest) h = let w = and_parts (arg_fits n b Expression a) (each_arg_fits n b rest) h in more_args (noted_arg b a w.0) (noted_args b rest w.1)
 
-  noted_optional : (b : Bool) (a : OptionalArg) → perhaps_arg_fits n b Expression a ≡ true → OptionalArgMade n b a
+  noted_optional : (b : Bool) (a : OptionalArg) → perhaps_arg_fits n b Expression a ≡ true → OptionalArgMade (outside n) b a
   noted_optional b absent_arg h = none_made
   noted_optional b (present_arg a) h = one_made (noted_arg b a h)
 
@@ -120,40 +121,40 @@ module _ (n : Tests) where
   at_expression (Trees.Tuple es c) q h = h
   at_expression _ q h = h
 
-  star_noted : (b : Bool) (x : Identifier) (e : Expr) → n.name x ≡ true → b ≡ true → fits_at n StarItem e ≡ true → StarArgMade n b (present_arg (arg x (present e)))
+  star_noted : (b : Bool) (x : Identifier) (e : Expr) → n.name x ≡ true → b ≡ true → fits_at n StarItem e ≡ true → StarArgMade (outside n) b (present_arg (arg x (present e)))
   star_noted b x (Trees.Starred e c) p q h =
       let w = and_parts (is_context Load c) (fits_at n Expression e) h in
-      in_context (λ k. StarArgMade n b (present_arg (arg x (present (Trees.Starred e k))))) Load c w.0 (starred p q (made n Expression e w.1))
+      in_context (λ k. StarArgMade (outside n) b (present_arg (arg x (present (Trees.Starred e k))))) Load c w.0 (starred p q (made (outside n) Expression e w.1))
   star_noted b x (Trees.Slice a c d) p q h = absurd (never h)
-  star_noted b x e p q h = unstarred (one_made (noted p q (made n Expression e (at_expression e refl h))))
+  star_noted b x e p q h = unstarred (one_made (noted p q (made (outside n) Expression e (at_expression e refl h))))
 
-  star_arg : (b : Bool) (v : OptionalArg) → perhaps_arg_fits n b StarItem v ≡ true → StarArgMade n b v
+  star_arg : (b : Bool) (v : OptionalArg) → perhaps_arg_fits n b StarItem v ≡ true → StarArgMade (outside n) b v
   star_arg b absent_arg h = unstarred none_made
   star_arg b (present_arg (arg x absent)) h = unstarred (one_made (bare (parts3 (n.name x) true true h).0))
   star_arg b (present_arg (arg x (present e))) h = let w = parts3 (n.name x) b (fits_at n StarItem e) h in star_noted b x e w.0 w.1 w.2
 
-  pub parameters_given : (b : Bool) (a : Arguments) → fits_arguments n b a ≡ true → GivenAsSpelled n (IsArranged b) a
+  pub parameters_given : (b : Bool) (a : Arguments) → fits_arguments n b a ≡ true → GivenAsSpelled (outside n) (IsArranged b) a
   parameters_given b (arguments ps qs v ks ds k es) h =
       let p = fit_parts n b (arguments ps qs v ks ds k es) h in
-      let w = arrangement n b ps qs v ks ds k es (noted_args b ps p.before) (noted_args b qs p.middle) (star_arg b v p.star) (noted_args b ks p.only)
-      (keys n ds p.only_defaults) (noted_optional b k p.double) (each n Expression es p.defaults) p.even p.few in
-      let u = listing n w.pieces in
+      let w = arrangement (outside n) b ps qs v ks ds k es (noted_args b ps p.before) (noted_args b qs p.middle) (star_arg b v p.star) (noted_args b ks p.only)
+      (keys (outside n) ds p.only_defaults) (noted_optional b k p.double) (each (outside n) Expression es p.defaults) p.even p.few in
+      let u = listing (outside n) w.pieces in
       (u.0, u.1, record { entries = w.list; listing = u.2; arranged_as = w.is })
 
   -- ---- Arguments.
 
-  pub arguments_fit : (zs : Exprs) (ks : Keywords) {ts : List Terminal} → AreArguments ts (zs, ks) → all_pass n ts ≡ true → (each_fits n Elem zs && each_keyword_fits n ks) ≡ true
+  pub arguments_fit : (zs : Exprs) (ks : Keywords) {ts : List Terminal} → AreArguments ts (zs, ks) → all_pass n [] ts ≡ true → (each_fits n Elem zs && each_keyword_fits n ks) ≡ true
   arguments_fit zs ks a s =
-      let q = Fits.listing n a.listing s in
+      let q = Fits.listing (outside n) a.listing s in
       subst (λ z. (each_fits n Elem z && each_keyword_fits n ks) ≡ true) a.positional_are
       (subst (λ z. (each_fits n Elem (positional a.entries) && each_keyword_fits n z) ≡ true) a.keywords_are
       (and_from (each_fits n Elem (positional a.entries)) (each_keyword_fits n (keywords a.entries)) (positional_fit n a.entries q) (keywords_fit n a.entries q)))
 
-  pub arguments_given : (zs : Exprs) (ks : Keywords) → (each_fits n Elem zs && each_keyword_fits n ks) ≡ true → (ts : List Terminal) × (all_as_spelled n ts ≡ true) × AreArguments ts (zs, ks)
+  pub arguments_given : (zs : Exprs) (ks : Keywords) → (each_fits n Elem zs && each_keyword_fits n ks) ≡ true → (ts : List Terminal) × Passed (outside n) ts × AreArguments ts (zs, ks)
   arguments_given zs ks h =
       let w = and_parts (each_fits n Elem zs) (each_keyword_fits n ks) h in
-      let l = listed n (Gives.positional n zs w.0) (labelled n ks w.1) in
-      let u = listing n l.pieces in
+      let l = listed (outside n) (Gives.positional (outside n) zs w.0) (labelled (outside n) ks w.1) in
+      let u = listing (outside n) l.pieces in
       (u.0, u.1, record { entries = l.list; listing = u.2; order = l.order; positional_are = l.positional_are; keywords_are = l.keywords_are })
 
 pub targets_fit_exactly : TargetsFitExactly
@@ -165,7 +166,7 @@ targets_fit_exactly n s = record {
 }
 
 pub parameters_fit_exactly : ParametersFitExactly
-parameters_fit_exactly n b a = (λ w. arranged_fit n b w.2.entries a (Fits.listing n w.2.listing w.1) w.2.arranged_as, λ h. let w = parameters_given n b a h in (w.0, all_passing n w.0 w.1, w.2))
+parameters_fit_exactly n b a = (λ w. arranged_fit n b w.2.entries a (Fits.listing (outside n) w.2.listing w.1) w.2.arranged_as, λ h. let w = parameters_given n b a h in (w.0, all_passing n w.0 w.1, w.2))
 
 pub arguments_fit_exactly : ArgumentsFitExactly
 arguments_fit_exactly n zs ks = (λ w. arguments_fit n zs ks w.2 w.1, λ h. let w = arguments_given n zs ks h in (w.0, all_passing n w.0 w.1, w.2))

@@ -1,7 +1,7 @@
 -- Carries: the laws of the slots. On: what fits in an extent, or in a version, fits in more of the
 -- language.
 use Rattle.std.proofs.Common.{◌≡◌, refl, List, [], ◌∷◌, Bool, true, false}
-use Rattle.std.specs.Prelude.{◌&&◌, ◌||◌, ◌^◌}
+use Rattle.std.specs.Prelude.{◌&&◌, ◌||◌, ◌^◌, leb}
 use Rattle.std.specs.List.{list_all}
 use Rattle.std.proofs.lemmas.Bool.{and_parts, and_from, lt-ltb}
 use Rattle.pynatural.specs.Readings.{most_digits}
@@ -15,14 +15,15 @@ use Rattle.pytree_node.specs.Trees
 use Rattle.pytree_node.specs.Trees.{exprs, optional, Stmt, Stmts, no_stmt, a_stmt, stmts, Cases, no_case, a_case, Handlers, no_handler, a_handler, TypeParam}
 use Rattle.pytree_node.specs.Values
 use Rattle.pytree_node.specs.Values.{Value, Int, Float, Imaginary}
-use Rattle.pytoken.specs.Terminals.{Terminal, Op, Word, Ident, Number, Literal, Layout}
+use Rattle.pytoken.specs.Terminals.{Terminal, Op, Word, Ident, Number, Literal, FormattedBegin, Layout}
 use Rattle.pygrammar.specs.declared.levels.Level.TheVariants.{Stars, Expression, Elem}
 use Rattle.pygrammar.specs.declared.pattern_levels.PatternLevel.TheVariants.{AsPattern}
 use Rattle.pygrammar.specs.Grammar.{Derives}
 use Rattle.pygrammar.specs.Lines.{Line, no_types}
 use Rattle.pygrammar.specs.Forms.{FormAt, is_whole}
+use Rattle.pygrammar.specs.OpenStrings.{Open, open_behind}
 use Rattle.pygrammar.specs.Blocks.{stands_in_match}
-use Rattle.pytree_fits.specs.Tests.{Tests, tests_in}
+use Rattle.pytree_fits.specs.Tests.{Tests, tests_in, depth_in, within}
 use Rattle.pytree_fits.specs.Literals.{is_value}
 use Rattle.pytree_fits.specs.Slots.{is_a_name, fits_at, fits_target, each_fits, perhaps_fits, each_keyword_fits, fits_arguments}
 use Rattle.pytree_fits.specs.PatternSlots.{pattern_fits_at}
@@ -37,38 +38,41 @@ use Rattle.pytree_fits.proofs.Exactness.Modules.{module_exactly, module_given}
 
 -- ---- From an extent to the whole language.
 
-value_stays : (extent : Extent) (v : Value) → is_value extent v ≡ true → is_value Whole v ≡ true
-value_stays extent (Int n) h = lt-ltb n (10 ^ most_digits) (in_whole extent n h)
-value_stays Plain (Float x) h = absurd (never h)
-value_stays Whole (Float x) h = h
-value_stays Plain (Imaginary x) h = absurd (never h)
-value_stays Whole (Imaginary x) h = h
-value_stays extent (Values.Str t u) h = h
-value_stays extent (Values.Bytes t) h = h
-value_stays extent Values.None h = h
-value_stays extent Values.Ellipsis h = h
-value_stays extent (Values.Bool b) h = h
+value_stays : (extent : Extent) (o : Open) (v : Value) → is_value (within o (tests_in extent)) v ≡ true → is_value (within o (tests_in Whole)) v ≡ true
+value_stays extent o (Int n) h = lt-ltb n (10 ^ most_digits) (in_whole extent n h)
+value_stays Plain o (Float x) h = absurd (never h)
+value_stays Whole o (Float x) h = h
+value_stays Plain o (Imaginary x) h = absurd (never h)
+value_stays Whole o (Imaginary x) h = h
+value_stays extent o (Values.Str t u) h = h
+value_stays extent o (Values.Bytes t) h = h
+value_stays extent o Values.None h = h
+value_stays extent o Values.Ellipsis h = h
+value_stays extent o (Values.Bool b) h = h
 
-terminal_stays : (extent : Extent) (t : Terminal) → passes (tests_in extent) t ≡ true → passes (tests_in Whole) t ≡ true
-terminal_stays extent (Number v) h =
-    let w = and_parts (is_number v) (is_value extent v) h in
-    and_from (is_number v) (is_value Whole v) w.0 (value_stays extent v w.1)
-terminal_stays extent (Literal v) h =
-    let w = and_parts (is_literal v) (is_value extent v) h in
-    and_from (is_literal v) (is_value Whole v) w.0 (value_stays extent v w.1)
-terminal_stays extent (Ident x) h = h
-terminal_stays extent (Op e) h = h
-terminal_stays extent (Word w) h = h
-terminal_stays extent Layout h = h
+terminal_stays : (extent : Extent) (o : Open) (t : Terminal) → passes (tests_in extent) o t ≡ true → passes (tests_in Whole) o t ≡ true
+terminal_stays extent o (Number v) h =
+    let w = and_parts (is_number v) (is_value (within o (tests_in extent)) v) h in
+    and_from (is_number v) (is_value (within o (tests_in Whole)) v) w.0 (value_stays extent o v w.1)
+terminal_stays extent o (Literal v) h =
+    let w = and_parts (is_literal v) (is_value (within o (tests_in extent)) v) h in
+    and_from (is_literal v) (is_value (within o (tests_in Whole)) v) w.0 (value_stays extent o v w.1)
+terminal_stays extent o FormattedBegin h = (and_parts (is_whole extent) (leb (depth_in o 0) 1) h).1
+terminal_stays extent o (Ident x) h = h
+terminal_stays extent o (Op e) h = h
+terminal_stays extent o (Word w) h = h
+terminal_stays extent o Layout h = h
+terminal_stays extent [] _ h = h
+terminal_stays extent (k ∷ o) _ h = h
 
-terminals_stay : (extent : Extent) (ts : List Terminal) → all_pass (tests_in extent) ts ≡ true → all_pass (tests_in Whole) ts ≡ true
-terminals_stay extent [] h = refl
-terminals_stay extent (t ∷ ts) h =
-    let w = and_parts (passes (tests_in extent) t) (all_pass (tests_in extent) ts) h in
-    and_from (passes (tests_in Whole) t) (all_pass (tests_in Whole) ts) (terminal_stays extent t w.0) (terminals_stay extent ts w.1)
+terminals_stay : (extent : Extent) (o : Open) (ts : List Terminal) → all_pass (tests_in extent) o ts ≡ true → all_pass (tests_in Whole) o ts ≡ true
+terminals_stay extent o [] h = refl
+terminals_stay extent o (t ∷ ts) h =
+    let w = and_parts (passes (tests_in extent) o t) (all_pass (tests_in extent) (open_behind o t) ts) h in
+    and_from (passes (tests_in Whole) o t) (all_pass (tests_in Whole) (open_behind o t) ts) (terminal_stays extent o t w.0) (terminals_stay extent (open_behind o t) ts w.1)
 
 given_stays : {A : Type 0} (r : List Terminal → A → Type 0) (a : A) (extent : Extent) → Given (tests_in extent) r a → Given (tests_in Whole) r a
-given_stays r a extent w = (w.0, terminals_stay extent w.0 w.1, w.2)
+given_stays r a extent w = (w.0, terminals_stay extent [] w.0 w.1, w.2)
 
 lines_stay : (profile : Profile) (extent : Extent) {earlier xs : List Line} → AreGiven profile (tests_in extent) earlier xs → AreGiven profile (tests_in Whole) earlier xs
 lines_stay profile extent no_line = no_line

@@ -14,7 +14,7 @@ use Rattle.pytoken.specs.Keywords.{keywords, keyword_of}
 use Rattle.pygrammar.specs.Forms.{type_name, match_name, case_name}
 use Rattle.pytree_fits.specs.Names.{is_name}
 use Rattle.pytree_fits.specs.PatternSlots.{wildcard}
-use Rattle.pytree_fits.proofs.Exactness.Tokens.{proper_name}
+use Rattle.pytree_fits.proofs.Exactness.ProperNames.{proper_name}
 
 type_named : Lexemes.is_name type_name ≡ true
 unfolding unicode_ident Lexemes.is_name

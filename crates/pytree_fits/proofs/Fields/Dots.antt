@@ -10,7 +10,7 @@ use Rattle.pygrammar.specs.Forms as F
 use Rattle.pygrammar.specs.DottedNames.{lengthen, names_in}
 use Rattle.pytree_fits.specs.Tests.{Tests}
 use Rattle.pytree_fits.specs.Statements.{has_one, dotted}
-use Rattle.pytree_fits.specs.Given.{all_pass}
+use Rattle.pytree_fits.proofs.Fields.Standing.{outside, pass_at}
 use Rattle.pytree_fits.proofs.Fields.AsSpelled.{GivenAsSpelled}
 use Rattle.pytree_fits.proofs.Giving.Places.{named_pass}
 
@@ -69,25 +69,25 @@ parts_join (c ∷ cs) = by (c == 46) (eqb-true c 46) (parts_join cs)
     by false h e = lengthened c (names_in cs) (some_part cs) ∙ ap (λ z. c ∷ z) e
 
 module _ (n : Tests) where
-  joined_given : (x : Identifier) (xs : List Identifier) → list_all n.name (x ∷ xs) ≡ true → GivenAsSpelled n F.Dotted (with_dots (x ∷ xs))
-  joined_given x [] h = let w = and_parts (n.name x) true h in (in_form x ∷ [], named_pass n x [] w.0 refl, F.one_name)
+  joined_given : (x : Identifier) (xs : List Identifier) → list_all n.name (x ∷ xs) ≡ true → GivenAsSpelled (outside n) F.Dotted (with_dots (x ∷ xs))
+  joined_given x [] h = let w = and_parts (n.name x) true h in (in_form x ∷ [], named_pass (outside n) x [] w.0 refl, F.one_name)
   joined_given x (y ∷ ys) h =
       let w = and_parts (n.name x) (list_all n.name (y ∷ ys)) h in
       let u = joined_given y ys w.1 in
-      (in_form x ∷ (Op Dot ∷ u.0), named_pass n x (Op Dot ∷ u.0) w.0 u.1, F.dot_name u.2)
+      (in_form x ∷ (Op Dot ∷ u.0), named_pass (outside n) x (Op Dot ∷ u.0) w.0 u.1, F.dot_name u.2)
 
-  some_joined : (xs : List Identifier) → has_one xs ≡ true → list_all n.name xs ≡ true → GivenAsSpelled n F.Dotted (with_dots xs)
+  some_joined : (xs : List Identifier) → has_one xs ≡ true → list_all n.name xs ≡ true → GivenAsSpelled (outside n) F.Dotted (with_dots xs)
   some_joined [] h q = absurd (cc)
   some_joined (x ∷ xs) h q = joined_given x xs q
 
-  pub dotted_given : (x : Identifier) → dotted n.name x ≡ true → GivenAsSpelled n F.Dotted x
-  dotted_given x h = subst (GivenAsSpelled n F.Dotted) (parts_join x) (some_joined (names_in x) (some_part x) h)
+  pub dotted_given : (x : Identifier) → dotted n.name x ≡ true → GivenAsSpelled (outside n) F.Dotted x
+  dotted_given x h = subst (GivenAsSpelled (outside n) F.Dotted) (parts_join x) (some_joined (names_in x) (some_part x) h)
 
   -- where no name that passes holds a dot
-  pub dotted_fits : ((x : Identifier) → n.name x ≡ true → list_all is_other x ≡ true) → {ts : List Terminal} {x : Identifier} → F.Dotted ts x → all_pass n ts ≡ true → dotted n.name x ≡ true
+  pub dotted_fits : ((x : Identifier) → n.name x ≡ true → list_all is_other x ≡ true) → {ts : List Terminal} {x : Identifier} → F.Dotted ts x → pass_at (outside n) ts ≡ true → dotted n.name x ≡ true
   dotted_fits f (F.one_name {x = x}) s =
       let w = and_parts (n.name x.form) true s in
       subst (λ z. list_all n.name z ≡ true) (sym (one_part x.form (f x.form w.0))) (and_from (n.name x.form) true w.0 refl)
   dotted_fits f (F.dot_name {x = x} {y = y} {ts = ts} d) s =
-      let w = and_parts (n.name x.form) (all_pass n ts) s in
+      let w = and_parts (n.name x.form) (pass_at (outside n) ts) s in
       subst (λ z. list_all n.name z ≡ true) (sym (part_before_dot x.form y (f x.form w.0))) (and_from (n.name x.form) (dotted n.name y) w.0 (dotted_fits f d w.1))

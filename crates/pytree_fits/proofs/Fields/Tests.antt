@@ -1,6 +1,5 @@
--- Carries: the laws of the slots. On: tests that hold together, values that are
--- there, terminals that pass.
-use Rattle.std.proofs.Common.{◌≡◌, refl, subst, ℕ, map, List, [], ◌∷◌, ◌++◌, Option, Some, None, Bool, true, false, option_map}
+-- Carries: the laws of the slots. On: tests that hold together, values that are there, constants.
+use Rattle.std.proofs.Common.{◌≡◌, refl, subst, ℕ, zero, suc, map, List, [], ◌∷◌, ◌++◌, Option, Some, None, Bool, true, false, option_map}
 use Rattle.std.specs.Prelude.{◌&&◌, not}
 use Rattle.std.specs.List.{list_all}
 use Rattle.std.proofs.lemmas.Bool.{and_parts, and_from}
@@ -8,7 +7,6 @@ use Rattle.pylex_lexeme.specs.declared.kinds.Exact.TheVariants.{Ellipsis}
 use Rattle.pytoken.specs.declared.keywords.Keyword.TheVariants as Key
 use Rattle.pytree_node.specs.declared.operators.Context.{Context}
 use Rattle.pytree_node.specs.declared.operators.Context.TheVariants.{Load, Store, Del}
-use Rattle.pytree_node.specs.declared.profiles.Extent.{Extent}
 use Rattle.pytree_node.specs.Trees
 use Rattle.pytree_node.specs.Trees.{Expr, Exprs, an_expr}
 use Rattle.pytree_node.specs.Values
@@ -17,9 +15,10 @@ use Rattle.pygrammar.specs.Constants.{constant_word, joined}
 use Rattle.pygrammar.specs.Targets.{both, stored}
 use Rattle.pytoken.specs.Laws.{is_point, is_byte}
 use Rattle.pytree_fits.specs.Tests.{Tests}
-use Rattle.pytree_fits.specs.Literals.{is_value}
+use Rattle.pytree_fits.specs.Literals.{is_bare, is_bare_byte, has_text, has_bytes, is_value}
 use Rattle.pytree_fits.specs.Slots.{is_context}
-use Rattle.pytree_fits.specs.Given.{is_literal, passes, all_pass}
+use Rattle.pytree_fits.specs.Given.{is_literal, passes}
+use Rattle.pytree_fits.proofs.Fields.Standing.{Standing, here, pass_at}
 
 -- ---- Three tests and more.
 
@@ -90,44 +89,37 @@ in_context P Del Load h p = absurd (cc)
 in_context P Del Store h p = absurd (cc)
 in_context P Del Del h p = p
 
--- ---- Terminals that pass.
-
-module _ (n : Tests) where
-  pub left : (ts us : List Terminal) → all_pass n (ts ++ us) ≡ true → all_pass n ts ≡ true
-  left [] us s = refl
-  left (t ∷ ts) us s = let w = and_parts (passes n t) (all_pass n (ts ++ us)) s in and_from (passes n t) (all_pass n ts) w.0 (left ts us w.1)
-
-  pub right : (ts us : List Terminal) → all_pass n (ts ++ us) ≡ true → all_pass n us ≡ true
-  right [] us s = s
-  right (t ∷ ts) us s = right ts us (and_parts (passes n t) (all_pass n (ts ++ us)) s).1
-
-  pub behind : (t : Terminal) (ts : List Terminal) → all_pass n (t ∷ ts) ≡ true → all_pass n ts ≡ true
-  behind t ts s = (and_parts (passes n t) (all_pass n ts) s).1
-
-  pub pass_on : (ts us : List Terminal) → all_pass n ts ≡ true → all_pass n us ≡ true → all_pass n (ts ++ us) ≡ true
-  pass_on [] us p q = q
-  pass_on (t ∷ ts) us p q = let w = and_parts (passes n t) (all_pass n ts) p in and_from (passes n t) (all_pass n (ts ++ us)) w.0 (pass_on ts us w.1 q)
-
 -- ---- Constants.
 
-pub word_value : (extent : Extent) (t : Terminal) (v : Values.Value) → constant_word t ≡ Some v → is_value extent v ≡ true
-word_value extent (Word Key.None) v h = given (λ z. is_value extent z ≡ true) h refl
-word_value extent (Word Key.True) v h = given (λ z. is_value extent z ≡ true) h refl
-word_value extent (Word Key.False) v h = given (λ z. is_value extent z ≡ true) h refl
-word_value extent (Op Ellipsis) v h = given (λ z. is_value extent z ≡ true) h refl
-word_value extent _ v h = absurd (cc)
+pub word_value : (n : Tests) (t : Terminal) (v : Values.Value) → constant_word t ≡ Some v → is_value n v ≡ true
+word_value n (Word Key.None) v h = given (λ z. is_value n z ≡ true) h refl
+word_value n (Word Key.True) v h = given (λ z. is_value n z ≡ true) h refl
+word_value n (Word Key.False) v h = given (λ z. is_value n z ≡ true) h refl
+word_value n (Op Ellipsis) v h = given (λ z. is_value n z ≡ true) h refl
+word_value n _ v h = absurd (cc)
 
-all_on : (p : ℕ → Bool) (xs ys : List ℕ) → list_all p xs ≡ true → list_all p ys ≡ true → list_all p (xs ++ ys) ≡ true
+pub all_on : (p : ℕ → Bool) (xs ys : List ℕ) → list_all p xs ≡ true → list_all p ys ≡ true → list_all p (xs ++ ys) ≡ true
 all_on p [] ys h g = g
 all_on p (x ∷ xs) ys h g = let w = and_parts (p x) (list_all p xs) h in and_from (p x) (list_all p (xs ++ ys)) w.0 (all_on p xs ys w.1 g)
 
+-- texts and bytes side by side, in so many fields
+pub text_on : (f : ℕ) (t s : List ℕ) → has_text f t ≡ true → has_text f s ≡ true → has_text f (t ++ s) ≡ true
+text_on zero t s h g = all_on is_point t s h g
+text_on (suc zero) t s h g = all_on is_bare t s h g
+text_on (suc (suc k)) t s h g = absurd (cc)
+
+bytes_on : (f : ℕ) (t s : List ℕ) → has_bytes f t ≡ true → has_bytes f s ≡ true → has_bytes f (t ++ s) ≡ true
+bytes_on zero t s h g = all_on is_byte t s h g
+bytes_on (suc zero) t s h g = all_on is_bare_byte t s h g
+bytes_on (suc (suc k)) t s h g = absurd (cc)
+
 -- literals side by side
-pub joined_value : (n : Tests) (v w : Values.Value) (vs : List Values.Value) → passes n (Literal v) ≡ true → all_pass n (map Literal vs) ≡ true → joined v vs ≡ Some w → is_value n.extent w ≡ true
-joined_value n v w [] p q h = given (λ z. is_value n.extent z ≡ true) h (and_parts (is_literal v) (is_value n.extent v) p).1
+pub joined_value : (n : Standing) (v w : Values.Value) (vs : List Values.Value) → passes n.tests n.opened (Literal v) ≡ true → pass_at n (map Literal vs) ≡ true → joined v vs ≡ Some w → is_value (here n) w ≡ true
+joined_value n v w [] p q h = given (λ z. is_value (here n) z ≡ true) h (and_parts (is_literal v) (is_value (here n) v) p).1
 joined_value n (Values.Str t u) w (Values.Str s x ∷ vs) p q h =
-    let r = and_parts (list_all is_point s) (all_pass n (map Literal vs)) q in
-    joined_value n (Values.Str (t ++ s) u) w vs (all_on is_point t s p r.0) r.1 h
+    let r = and_parts (has_text (here n).fields s) (pass_at n (map Literal vs)) q in
+    joined_value n (Values.Str (t ++ s) u) w vs (text_on (here n).fields t s p r.0) r.1 h
 joined_value n (Values.Bytes t) w (Values.Bytes s ∷ vs) p q h =
-    let r = and_parts (list_all is_byte s) (all_pass n (map Literal vs)) q in
-    joined_value n (Values.Bytes (t ++ s)) w vs (all_on is_byte t s p r.0) r.1 h
+    let r = and_parts (has_bytes (here n).fields s) (pass_at n (map Literal vs)) q in
+    joined_value n (Values.Bytes (t ++ s)) w vs (bytes_on (here n).fields t s p r.0) r.1 h
 joined_value n _ w (_ ∷ vs) p q h = absurd (cc)

@@ -22,6 +22,7 @@ use Rattle.pytree_fits.specs.Tests.{Tests}
 use Rattle.pytree_fits.specs.Slots.{is_a_name, is_single, fits_at, fits_target, each_target_fits, each_fits, perhaps_fits, each_keyword_fits, fits_arguments}
 use Rattle.pytree_fits.specs.PatternSlots.{pattern_fits_at}
 use Rattle.pytree_fits.specs.Statements.{has_one, has_stmt, has_case, source_fits, imports_fit, item_fits, type_param_fits, import_fits, types_fit, caught_fits, clauses_fit, statement_fits, statements_fit, suite_fits, cases_fit, handlers_fit}
+use Rattle.pytree_fits.proofs.Fields.Standing.{outside}
 use Rattle.pytree_fits.proofs.Fields.AsSpelled.{GivenAsSpelled}
 use Rattle.pytree_fits.proofs.Fields.Tests.{parts3, parts4, parts5, parts6, never}
 use Rattle.pytree_fits.proofs.Giving.Places as P
@@ -67,13 +68,13 @@ pub record Words (n : Tests) : Type 0 where
   pub cased : n.name case_name ≡ true
 
 module _ (p : Profile) (n : Tests) (words : Words n) where
-  else_given : GivenAsSpelled n (F.HeaderOf p) else_header
+  else_given : GivenAsSpelled (outside n) (F.HeaderOf p) else_header
   else_given = (Word Key.Else ∷ [], refl, F.else_line)
 
-  try_given : GivenAsSpelled n (F.HeaderOf p) try_header
+  try_given : GivenAsSpelled (outside n) (F.HeaderOf p) try_header
   try_given = (Word Key.Try ∷ [], refl, F.try_line)
 
-  finally_given : GivenAsSpelled n (F.HeaderOf p) finally_header
+  finally_given : GivenAsSpelled (outside n) (F.HeaderOf p) finally_header
   finally_given = (Word Key.Finally ∷ [], refl, F.finally_line)
 
   -- a statement as lines of a level
@@ -104,7 +105,7 @@ module _ (p : Profile) (n : Tests) (words : Words n) where
   body_of h d = indented_lines d.lines (d.some h) d.is
 
   -- a line of one simple statement
-  simply : (l : ℕ) (s : Stmt) → GivenAsSpelled n (F.Simple p) s → Drawn l s
+  simply : (l : ℕ) (s : Stmt) → GivenAsSpelled (outside n) (F.Simple p) s → Drawn l s
   simply l s w = record { lines = line l (simple_form (s ∷ [])) ∷ []; some = refl; given = behind_line p n (w.0, w.1, F.simple_statements (F.last_simple w.2)) (none_placed p n); is = simple_line }
 
   -- what may stand after a block
@@ -151,7 +152,7 @@ module _ (p : Profile) (n : Tests) (words : Words n) where
   looped_is (for_head false target iter) body orelse = (λ i. Trees.For target iter (stmts_back body i) (stmts_back orelse i))
   looped_is (for_head true target iter) body orelse = (λ i. Trees.AsyncFor target iter (stmts_back body i) (stmts_back orelse i))
 
-  loop_drawn : (l : ℕ) (head : LoopHead) (body orelse : Stmts) → GivenAsSpelled n (F.HeaderOf p) (loop_header head) → has_stmt body ≡ true → DrawnAll (suc l) body → DrawnAll (suc l) orelse → Drawn l (looped head body orelse)
+  loop_drawn : (l : ℕ) (head : LoopHead) (body orelse : Stmts) → GivenAsSpelled (outside n) (F.HeaderOf p) (loop_header head) → has_stmt body ≡ true → DrawnAll (suc l) body → DrawnAll (suc l) orelse → Drawn l (looped head body orelse)
   loop_drawn l head body orelse h f b d =
       let o = otherwise l orelse d in
       let xs = line l (header_form (loop_header head) None) ∷ (b.lines ++ o.lines) in
@@ -232,7 +233,7 @@ module _ (p : Profile) (n : Tests) (words : Words n) where
   decorated l (e ∷ es) h =
       let w = and_parts (fits_at n Expression e) (each_fits n Expression (exprs es)) h in
       let d = decorated l es w.1 in
-      let u = P.at n Named (made n Expression e w.0) in
+      let u = P.at (outside n) Named (made (outside n) Expression e w.0) in
       record { lines = line l (decorator_form e) ∷ d.lines; given = behind_line p n (Op Sign.At ∷ u.0, u.1, F.decorator_line u.2) d.given; is = decorator d.is }
 
   abbrev defined : List Expr → DefHead → Stmts → Stmt
@@ -249,7 +250,7 @@ module _ (p : Profile) (n : Tests) (words : Words n) where
   some_behind [] y ys = refl
   some_behind (x ∷ xs) y ys = refl
 
-  definition_drawn : (l : ℕ) (es : List Expr) (head : DefHead) (body : Stmts) → each_fits n Expression (exprs es) ≡ true → GivenAsSpelled n (F.HeaderOf p) (def_header head) → has_stmt body ≡ true → DrawnAll (suc l) body → Drawn l (defined es head body)
+  definition_drawn : (l : ℕ) (es : List Expr) (head : DefHead) (body : Stmts) → each_fits n Expression (exprs es) ≡ true → GivenAsSpelled (outside n) (F.HeaderOf p) (def_header head) → has_stmt body ≡ true → DrawnAll (suc l) body → Drawn l (defined es head body)
   definition_drawn l es head body h g f b =
       let d = decorated l es h in
       let xs = d.lines ++ (line l (header_form (def_header head) None) ∷ b.lines) in

@@ -14,9 +14,9 @@ use Rattle.pygrammar.specs.Entries.{Pair, Argument, Entry, Single, Paired, Sprea
 use Rattle.pygrammar.specs.Arguments.{called, in_order, positional, keywords}
 use Rattle.pygrammar.specs.Targets.{stored, all_stored}
 use Rattle.pygrammar.specs.Grammar as G
-use Rattle.pytree_fits.specs.Tests.{Tests}
 use Rattle.pytree_fits.specs.Slots.{takes_star, is_starred, count, count_optional, has_some, perhaps_name}
-use Rattle.pytree_fits.proofs.Fields.AsSpelled.{all_as_spelled, GivenAsSpelled, pass_on}
+use Rattle.pytree_fits.proofs.Fields.Standing.{Standing}
+use Rattle.pytree_fits.proofs.Fields.AsSpelled.{Passed, GivenAsSpelled, pass_on}
 use Rattle.pytree_fits.proofs.Fields.Tests.{never, not_true}
 use Rattle.pytree_fits.proofs.Giving.Places as P
 use Rattle.pytree_fits.proofs.Giving.Places.{Each, no_more, one_more, lifted, anywhere_at, at, starred_at, named_pass}
@@ -24,31 +24,31 @@ use Rattle.pytree_fits.proofs.Giving.Making.{Pieces, no_piece, a_piece, listing,
 
 -- ---- Arguments. Where a positional one is a Starred, its value is given at Expression.
 
-pub data Positional (n : Tests) : Exprs → Type 0 where
+pub data Positional (n : Standing) : Exprs → Type 0 where
   no_positional : Positional n no_exprs
   a_plain : {e : Expr} {es : Exprs} → P.At n Named e → Positional n es → Positional n (an_expr e es)
   a_star : {e : Expr} {es : Exprs} → P.At n Expression e → Positional n es → Positional n (an_expr (Trees.Starred e Load) es)
 
-pub data Labelled (n : Tests) : Keywords → Type 0 where
+pub data Labelled (n : Standing) : Keywords → Type 0 where
   no_label : Labelled n no_keyword
-  a_label : (x : Option Identifier) {e : Expr} {ks : Keywords} → perhaps_name n.name x ≡ true → P.At n Expression e → Labelled n ks → Labelled n (a_keyword x e ks)
+  a_label : (x : Option Identifier) {e : Expr} {ks : Keywords} → perhaps_name n.tests.name x ≡ true → P.At n Expression e → Labelled n ks → Labelled n (a_keyword x e ks)
 
 -- some entries are these arguments, in the order of the tree
-pub record Listed (n : Tests) (es : Exprs) (ks : Keywords) : Type 0 where
+pub record Listed (n : Standing) (es : Exprs) (ks : Keywords) : Type 0 where
   pub list : List Entry
   pub pieces : Pieces n Argument list
   pub order : in_order false false list ≡ true
   pub positional_are : positional list ≡ es
   pub keywords_are : keywords list ≡ ks
 
-record Words (n : Tests) (ks : Keywords) : Type 0 where
+record Words (n : Standing) (ks : Keywords) : Type 0 where
   list : List Entry
   pieces : Pieces n Argument list
   order : (k d : Bool) → in_order k d list ≡ true
   positional_are : positional list ≡ no_exprs
   keywords_are : keywords list ≡ ks
 
-module _ (n : Tests) where
+module _ (n : Standing) where
   words : {ks : Keywords} → Labelled n ks → Words n ks
   words no_label = record { list = []; pieces = no_piece; order = by; positional_are = refl; keywords_are = refl }
     where
@@ -107,18 +107,18 @@ module _ (n : Tests) where
 
 -- ---- Pairs.
 
-pub data Keys (n : Tests) : OptionalExprs → Type 0 where
+pub data Keys (n : Standing) : OptionalExprs → Type 0 where
   no_keys : Keys n no_optional
   no_key : {ks : OptionalExprs} → Keys n ks → Keys n (an_optional absent ks)
   a_key : {k : Expr} {ks : OptionalExprs} → P.At n Expression k → Keys n ks → Keys n (an_optional (present k) ks)
 
-record Pairs (n : Tests) (ks : OptionalExprs) (es : Exprs) : Type 0 where
+record Pairs (n : Standing) (ks : OptionalExprs) (es : Exprs) : Type 0 where
   list : List Entry
   keys_are : keys list ≡ ks
   values_are : values list ≡ es
   pieces : Pieces n Pair list
 
-module _ (n : Tests) where
+module _ (n : Standing) where
   paired : {ks : OptionalExprs} {es : Exprs} → count_optional ks ≡ count es → Keys n ks → Each n Expression es → Pairs n ks es
   paired q no_keys no_more = record { list = []; keys_are = refl; values_are = refl; pieces = no_piece }
   paired q no_keys (one_more f r) = absurd (omega (arith, q))
@@ -142,17 +142,17 @@ module _ (n : Tests) where
 -- ---- Targets.
 
 -- the expression that is stored as a target
-pub record Aim (n : Tests) (s : Expr) : Type 0 where
+pub record Aim (n : Standing) (s : Expr) : Type 0 where
   pub tree : Expr
   pub is : stored tree ≡ Some s
   pub given : (l : Level) → takes_star l ≡ true → P.At n l tree
   pub bare : is_starred s ≡ false → ((l : Level) → P.At n l tree) × (is_starred tree ≡ false)
 
-pub data Aims (n : Tests) : Exprs → Type 0 where
+pub data Aims (n : Standing) : Exprs → Type 0 where
   no_aim : Aims n no_exprs
   an_aim : {e : Expr} {es : Exprs} → Aim n e → Aims n es → Aims n (an_expr e es)
 
-record Aimed (n : Tests) (es : Exprs) : Type 0 where
+record Aimed (n : Standing) (es : Exprs) : Type 0 where
   list : Exprs
   is : all_stored list ≡ Some es
   each : Each n Elem list
@@ -161,15 +161,15 @@ pub star_up : (e f : Expr) → is_starred e ≡ false → stored e ≡ Some f �
 star_up (Trees.Starred e c) f h q = absurd (cc)
 star_up e f h q = ap (option_map (λ f. Trees.Starred f Store)) q
 
-module _ (n : Tests) where
+module _ (n : Standing) where
   aimed : {es : Exprs} → Aims n es → Aimed n es
   aimed no_aim = record { list = no_exprs; is = refl; each = no_more }
   aimed (an_aim {e = e} {es = es} a r) = let w = aimed r in record { list = an_expr a.tree w.list; is = rw (a.is, w.is) refl; each = one_more (a.given Elem refl) w.each }
 
-  pub name_aim : (x : Identifier) → n.name x ≡ true → Aim n (Trees.Name x Store)
+  pub name_aim : (x : Identifier) → n.tests.name x ≡ true → Aim n (Trees.Name x Store)
   name_aim x h = record { tree = Trees.Name x Load; is = refl; given = λ l q. name_given n l x h; bare = λ q. (λ l. name_given n l x h, refl) }
 
-  pub attribute_aim : (e : Expr) (x : Identifier) → n.name x ≡ true → P.At n Expression e → Aim n (Trees.Attribute e x Store)
+  pub attribute_aim : (e : Expr) (x : Identifier) → n.tests.name x ≡ true → P.At n Expression e → Aim n (Trees.Attribute e x Store)
   attribute_aim e x h f = record { tree = Trees.Attribute e x Load; is = refl; given = λ l q. attribute_given n l e x h f; bare = λ q. (λ l. attribute_given n l e x h f, refl) }
 
   pub subscript_aim : (e s : Expr) → P.At n Expression e → P.At n Slices s → Aim n (Trees.Subscript e s Store)
@@ -196,11 +196,11 @@ module _ (n : Tests) where
 
 -- ---- Comprehensions.
 
-pub data Clauses (n : Tests) : Comprehensions → Type 0 where
+pub data Clauses (n : Standing) : Comprehensions → Type 0 where
   no_clause : Clauses n no_comprehension
   a_clause : {t e : Expr} {cs : Exprs} {b : Bool} {gs : Comprehensions} → Aim n t → P.At n Expression e → Each n Expression cs → Clauses n gs → Clauses n (a_comprehension t e cs b gs)
 
-record Conditions (n : Tests) (es : Exprs) : Type 0 where
+record Conditions (n : Standing) (es : Exprs) : Type 0 where
   list : List Expr
   is : exprs list ≡ es
   ifs : GivenAsSpelled n G.Ifs list
@@ -208,12 +208,12 @@ record Conditions (n : Tests) (es : Exprs) : Type 0 where
 abbrev clause : Expr → Expr → List Expr → Bool → Comprehension
 clause t e cs b = record { target = t; iter = e; ifs = cs; is_async = b }
 
-record Claused (n : Tests) (gs : Comprehensions) : Type 0 where
+record Claused (n : Standing) (gs : Comprehensions) : Type 0 where
   list : List Comprehension
   is : comprehensions list ≡ gs
   comps : GivenAsSpelled n G.Comps list
 
-module _ (n : Tests) where
+module _ (n : Standing) where
   conditions : {es : Exprs} → Each n Expression es → Conditions n es
   conditions no_more = record { list = []; is = refl; ifs = ([], refl, G.no_if) }
   conditions (one_more {e = e} f r) =
@@ -228,7 +228,7 @@ module _ (n : Tests) where
       let ts = u.0 ++ (Word Key.In ∷ (v.0 ++ c.0)) in
       by b ts (pass_on n u.0 (Word Key.In ∷ (v.0 ++ c.0)) u.1 (pass_on n v.0 c.0 v.1 c.1)) (G.target_in {b = b} u.2 a.is v.2 c.2)
     where
-      by : {cs : List Expr} (b : Bool) (ts : List Terminal) → all_as_spelled n ts ≡ true → G.ForIn b ts (clause t e cs b) → GivenAsSpelled n G.Comp (clause t e cs b)
+      by : {cs : List Expr} (b : Bool) (ts : List Terminal) → Passed n ts → G.ForIn b ts (clause t e cs b) → GivenAsSpelled n G.Comp (clause t e cs b)
       by true ts h p = (Word Key.Async ∷ (Word Key.For ∷ ts), h, G.async_for_in p)
       by false ts h p = (Word Key.For ∷ ts, h, G.for_in p)
 

@@ -12,6 +12,7 @@ use Rattle.pygrammar.specs.Forms as F
 use Rattle.pygrammar.specs.Forms.{is_whole, begins_case, is_case_line}
 use Rattle.pygrammar.specs.Blocks.{header_kind, kind_of, is_match, stands_in_match}
 use Rattle.pytree_fits.specs.Tests.{Tests}
+use Rattle.pytree_fits.proofs.Fields.Standing.{outside}
 use Rattle.pytree_fits.proofs.Fields.AsSpelled.{GivenAsSpelled, AreGivenAsSpelled, none_spelled, one_spelled, pass_on}
 
 -- ---- Lines behind lines.
@@ -48,8 +49,8 @@ stands_below : (l : ℕ) (f : Form) (earlier : List Line) → stands_in_match (s
 stands_below l f earlier = ap (λ b. cond b (is_match (kind_of f)) (stands_in_match (suc l) earlier)) (lt-ltb l (suc l) (omega arith))
 
 -- outside of a `match` no line is a case
-outside : (p : Profile) (inside : Bool) (ts : List Terminal) → inside ≡ false → is_case_line p inside ts ≡ false
-outside p inside ts h = subst (λ b. is_case_line p b ts ≡ false) (sym h) (by (is_whole p.extent))
+outside_match : (p : Profile) (inside : Bool) (ts : List Terminal) → inside ≡ false → is_case_line p inside ts ≡ false
+outside_match p inside ts h = subst (λ b. is_case_line p b ts ≡ false) (sym h) (by (is_whole p.extent))
   where
     by : (b : Bool) → (b && (false && begins_case ts)) ≡ false
     by true = refl
@@ -100,11 +101,11 @@ module _ (p : Profile) (n : Tests) where
   first_deep : (l : ℕ) (f : Form) (xs : List Line) → are_deep l xs ≡ true → are_deep l (line l f ∷ xs) ≡ true
   first_deep l f xs h = and_from (leb l l) (are_deep l xs) (le-leb l l (omega arith)) h
 
-  other_form : {f : Form} (inside : Bool) → inside ≡ false → GivenAsSpelled n (F.FormOf p) f → GivenAsSpelled n (F.FormAt p inside) f
-  other_form inside e w = (w.0, w.1, F.other_line (outside p inside w.0 e) w.2)
+  other_form : {f : Form} (inside : Bool) → inside ≡ false → GivenAsSpelled (outside n) (F.FormOf p) f → GivenAsSpelled (outside n) (F.FormAt p inside) f
+  other_form inside e w = (w.0, w.1, F.other_line (outside_match p inside w.0 e) w.2)
 
   -- a line, behind which these are given
-  one_line : (l : ℕ) {f : Form} {xs : List Line} → GivenAsSpelled n (F.FormOf p) f → ((earlier : List Line) → stands_in_match l earlier ≡ false → AreGivenAsSpelled p n (line l f ∷ earlier) xs) →
+  one_line : (l : ℕ) {f : Form} {xs : List Line} → GivenAsSpelled (outside n) (F.FormOf p) f → ((earlier : List Line) → stands_in_match l earlier ≡ false → AreGivenAsSpelled p n (line l f ∷ earlier) xs) →
       are_deep l xs ≡ true → Placed l false (line l f ∷ xs)
   one_line l {f} {xs} w r d = record {
     deep = first_deep l f xs d;
@@ -112,21 +113,21 @@ module _ (p : Profile) (n : Tests) where
   }
 
   -- more lines of its level
-  pub behind_line : {l : ℕ} {f : Form} {xs : List Line} → GivenAsSpelled n (F.FormOf p) f → Placed l false xs → Placed l false (line l f ∷ xs)
+  pub behind_line : {l : ℕ} {f : Form} {xs : List Line} → GivenAsSpelled (outside n) (F.FormOf p) f → Placed l false xs → Placed l false (line l f ∷ xs)
   behind_line {l} {f} {xs} w r = one_line l w (λ earlier e. r.given (line l f ∷ earlier) (same_place l (line l f) earlier (le-leb l l (omega arith)) ∙ e)) r.deep
 
-  pub headed_by : (l : ℕ) (h : Header) {xs : List Line} → GivenAsSpelled n (F.FormOf p) (header_form h None) → Led l false h xs → Placed l false (line l (header_form h None) ∷ xs)
+  pub headed_by : (l : ℕ) (h : Header) {xs : List Line} → GivenAsSpelled (outside n) (F.FormOf p) (header_form h None) → Led l false h xs → Placed l false (line l (header_form h None) ∷ xs)
   headed_by l h w r = one_line l w r.given r.deep
 
   -- a header without an inline suite
-  pub headed : (l : ℕ) (h : Header) {xs : List Line} → GivenAsSpelled n (F.HeaderOf p) h → Led l false h xs → Placed l false (line l (header_form h None) ∷ xs)
-  headed l h w r = headed_by l h (w.0 ++ (Op Colon ∷ []), pass_on n w.0 (Op Colon ∷ []) w.1 refl, F.header_line w.2) r
+  pub headed : (l : ℕ) (h : Header) {xs : List Line} → GivenAsSpelled (outside n) (F.HeaderOf p) h → Led l false h xs → Placed l false (line l (header_form h None) ∷ xs)
+  headed l h w r = headed_by l h (w.0 ++ (Op Colon ∷ []), pass_on (outside n) w.0 (Op Colon ∷ []) w.1 refl, F.header_line w.2) r
 
   -- the header of a case, in a `match`
-  pub cased : (l : ℕ) (h : Header) {xs : List Line} → is_whole p.extent ≡ true → GivenAsSpelled n F.CaseOf h → Led l true h xs → Placed l true (line l (header_form h None) ∷ xs)
+  pub cased : (l : ℕ) (h : Header) {xs : List Line} → is_whole p.extent ≡ true → GivenAsSpelled (outside n) F.CaseOf h → Led l true h xs → Placed l true (line l (header_form h None) ∷ xs)
   cased l h {xs} q w r = record {
     deep = first_deep l (header_form h None) xs r.deep;
     given = λ earlier e. one_spelled
-        (subst (λ b. GivenAsSpelled n (F.FormAt p b) (header_form h None)) (sym e) (w.0 ++ (Op Colon ∷ []), pass_on n w.0 (Op Colon ∷ []) w.1 refl, F.case_alone q w.2))
+        (subst (λ b. GivenAsSpelled (outside n) (F.FormAt p b) (header_form h None)) (sym e) (w.0 ++ (Op Colon ∷ []), pass_on (outside n) w.0 (Op Colon ∷ []) w.1 refl, F.case_alone q w.2))
         (r.given earlier e);
   }

@@ -22,18 +22,18 @@ use Rattle.pygrammar.specs.declared.levels.Level.TheVariants.{Stars, Named, Expr
 use Rattle.pygrammar.specs.Operators.{below, left_operator, prefix_operator, chain_level, chain_word}
 use Rattle.pygrammar.specs.Entries.{Item, Of, Entry, Single, singles}
 use Rattle.pygrammar.specs.Grammar as G
-use Rattle.pytree_fits.specs.Tests.{Tests}
 use Rattle.pytree_fits.specs.Literals.{is_value}
 use Rattle.pytree_fits.specs.Slots.{member_level, takes_slice, count}
-use Rattle.pytree_fits.specs.Given.{is_number, passes}
-use Rattle.pytree_fits.proofs.Fields.AsSpelled.{all_as_spelled, GivenAsSpelled, pass_on}
+use Rattle.pytree_fits.specs.Given.{is_number}
+use Rattle.pytree_fits.proofs.Fields.Standing.{Standing, here}
+use Rattle.pytree_fits.proofs.Fields.AsSpelled.{Passed, GivenAsSpelled, pass_on, pass_in_front}
 use Rattle.pytree_fits.proofs.Fields.Levels.{inner}
 use Rattle.pytree_fits.proofs.Giving.Places as P
 use Rattle.pytree_fits.proofs.Giving.Places.{MayBe, left_out, there, Each, no_more, one_more, lifted, anywhere_at, at, named_pass}
 
 -- ---- Lists with commas.
 
-pub data Pieces (n : Tests) (i : Item) : List Entry → Type 0 where
+pub data Pieces (n : Standing) (i : Item) : List Entry → Type 0 where
   no_piece : Pieces n i []
   a_piece : {e : Entry} {es : List Entry} → GivenAsSpelled n (G.Piece i) e → Pieces n i es → Pieces n i (e ∷ es)
 
@@ -45,7 +45,7 @@ pub singles_are : (es : Exprs) → singles (single_entries es) ≡ es
 singles_are no_exprs = refl
 singles_are (an_expr e es) = ap (an_expr e) (singles_are es)
 
-module _ (n : Tests) where
+module _ (n : Standing) where
   pub listing : {i : Item} {es : List Entry} → Pieces n i es → GivenAsSpelled n (G.Listing i) es
   listing no_piece = ([], refl, G.no_item)
   listing (a_piece p r) = let w = listing r in (p.0 ++ (Op Comma ∷ w.0), pass_on n p.0 (Op Comma ∷ w.0) p.1 w.1, G.item p.2 w.2)
@@ -56,13 +56,13 @@ module _ (n : Tests) where
 
   -- ---- Names and constants.
 
-  pub name_given : (l : Level) (x : Identifier) → n.name x ≡ true → P.At n l (Trees.Name x Load)
+  pub name_given : (l : Level) (x : Identifier) → n.tests.name x ≡ true → P.At n l (Trees.Name x Load)
   name_given l x h = lifted n l (in_form x ∷ [], named_pass n x [] h refl, G.name)
 
-  number_given : (l : Level) (v : Values.Value) → is_number v ≡ true → is_value n.extent v ≡ true → P.At n l (Trees.Constant v)
-  number_given l v k h = lifted n l (Number v ∷ [], and_from (passes n (Number v)) true (and_from (is_number v) (is_value n.extent v) k h) refl, G.number)
+  number_given : (l : Level) (v : Values.Value) → is_number v ≡ true → is_value (here n) v ≡ true → P.At n l (Trees.Constant v)
+  number_given l v k h = lifted n l (Number v ∷ [], pass_in_front n (Number v) [] (and_from (is_number v) (is_value (here n) v) k h) refl refl, G.number)
 
-  pub constant_given : (l : Level) (v : Values.Value) → is_value n.extent v ≡ true → P.At n l (Trees.Constant v)
+  pub constant_given : (l : Level) (v : Values.Value) → is_value (here n) v ≡ true → P.At n l (Trees.Constant v)
   constant_given l Values.None h = lifted n l (Word Key.None ∷ [], refl, G.constant refl)
   constant_given l Values.Ellipsis h = lifted n l (Op Ellipsis ∷ [], refl, G.constant refl)
   constant_given l (Values.Bool true) h = lifted n l (Word Key.True ∷ [], refl, G.constant refl)
@@ -70,20 +70,20 @@ module _ (n : Tests) where
   constant_given l (Values.Int k) h = number_given l (Values.Int k) refl h
   constant_given l (Values.Float x) h = number_given l (Values.Float x) refl h
   constant_given l (Values.Imaginary x) h = number_given l (Values.Imaginary x) refl h
-  constant_given l (Values.Str t u) h = lifted n l (Literal (Values.Str t u) ∷ [], and_from (is_value n.extent (Values.Str t u)) true h refl, G.strings [] refl)
-  constant_given l (Values.Bytes t) h = lifted n l (Literal (Values.Bytes t) ∷ [], and_from (is_value n.extent (Values.Bytes t)) true h refl, G.strings [] refl)
+  constant_given l (Values.Str t u) h = lifted n l (Literal (Values.Str t u) ∷ [], pass_in_front n (Literal (Values.Str t u)) [] h refl refl, G.strings [] refl)
+  constant_given l (Values.Bytes t) h = lifted n l (Literal (Values.Bytes t) ∷ [], pass_in_front n (Literal (Values.Bytes t)) [] h refl refl, G.strings [] refl)
 
   -- ---- Operators.
 
   -- a and b at their levels, with a terminal between
-  joined : {a b : Expr} (t : Terminal) (l m : Level) → all_as_spelled n (t ∷ []) ≡ true → P.At n Expression a → P.At n Expression b →
-      (ts us : List Terminal) × (all_as_spelled n (ts ++ (t ∷ us)) ≡ true) × G.Derives l ts a × G.Derives m us b
+  joined : {a b : Expr} (t : Terminal) (l m : Level) → Passed n (t ∷ []) → P.At n Expression a → P.At n Expression b →
+      (ts us : List Terminal) × Passed n (ts ++ (t ∷ us)) × G.Derives l ts a × G.Derives m us b
   joined t l m h f g =
       let u = at n l f in
       let v = at n m g in
       (u.0, v.0, pass_on n u.0 (t ∷ v.0) u.1 (pass_on n (t ∷ []) v.0 h v.1), u.2, v.2)
 
-  binary : {a b : Expr} {o : Operator} (l : Level) (t : Terminal) → inner l ≡ true → all_as_spelled n (t ∷ []) ≡ true → left_operator l t ≡ Some o →
+  binary : {a b : Expr} {o : Operator} (l : Level) (t : Terminal) → inner l ≡ true → Passed n (t ∷ []) → left_operator l t ≡ Some o →
       P.At n Expression a → P.At n Expression b → (m : Level) → P.At n m (Trees.BinOp a o b)
   binary l t i h q f g = let w = joined t l (below l) h f g in anywhere_at n l i (w.0 ++ (t ∷ w.1), w.2, G.binary t q w.3 w.4)
 
@@ -102,7 +102,7 @@ module _ (n : Tests) where
   binary_given l a Bin.MatMult b f g = binary Term (Op At) refl refl refl f g l
   binary_given l a Bin.Pow b f g = let w = joined (Op DoubleStar) Await Factor refl f g in anywhere_at n Power refl (w.0 ++ (Op DoubleStar ∷ w.1), w.2, G.power w.3 w.4) l
 
-  prefixed : {e : Expr} {o : UnaryOperator} (l : Level) (t : Terminal) → inner l ≡ true → all_as_spelled n (t ∷ []) ≡ true → prefix_operator l t ≡ Some o →
+  prefixed : {e : Expr} {o : UnaryOperator} (l : Level) (t : Terminal) → inner l ≡ true → Passed n (t ∷ []) → prefix_operator l t ≡ Some o →
       P.At n Expression e → (m : Level) → P.At n m (Trees.UnaryOp o e)
   prefixed l t i h q f = let u = at n l f in anywhere_at n l i (t ∷ u.0, pass_on n (t ∷ []) u.0 h u.1, G.unary q u.2)
 
@@ -157,7 +157,7 @@ module _ (n : Tests) where
   record Rightwards (os : List Comparison) (es : Exprs) : Type 0 where
     list : List Expr
     is : exprs list ≡ es
-    right : (ts : List Terminal) × (all_as_spelled n ts ≡ true) × G.Compares ts os list
+    right : (ts : List Terminal) × Passed n ts × G.Compares ts os list
 
   rightwards : (o : Comparison) (os : List Comparison) {e : Expr} {es : Exprs} → length os ≡ count es → P.At n Expression e → Each n Expression es → Rightwards (o ∷ os) (an_expr e es)
   rightwards o [] {e = e} h f no_more =
@@ -188,7 +188,7 @@ module _ (n : Tests) where
       anywhere_at n Expression refl
       (u.0 ++ (Word Key.If ∷ (v.0 ++ (Word Key.Else ∷ w.0))), pass_on n u.0 (Word Key.If ∷ (v.0 ++ (Word Key.Else ∷ w.0))) u.1 (pass_on n v.0 (Word Key.Else ∷ w.0) v.1 w.1), G.if_else u.2 v.2 w.2) l
 
-  pub named_given : (l : Level) (x : Identifier) (e : Expr) → n.name x ≡ true → P.At n Expression e → P.At n l (Trees.NamedExpr (Trees.Name x Store) e)
+  pub named_given : (l : Level) (x : Identifier) (e : Expr) → n.tests.name x ≡ true → P.At n Expression e → P.At n l (Trees.NamedExpr (Trees.Name x Store) e)
   named_given l x e h f = anywhere_at n Named refl (in_form x ∷ (Op ColonEqual ∷ f.0), named_pass n x (Op ColonEqual ∷ f.0) h f.1, G.named f.2) l
 
   -- ---- Yields.
@@ -238,7 +238,7 @@ module _ (n : Tests) where
 
   -- ---- Attributes, subscripts, slices.
 
-  pub attribute_given : (l : Level) (e : Expr) (x : Identifier) → n.name x ≡ true → P.At n Expression e → P.At n l (Trees.Attribute e x Load)
+  pub attribute_given : (l : Level) (e : Expr) (x : Identifier) → n.tests.name x ≡ true → P.At n Expression e → P.At n l (Trees.Attribute e x Load)
   attribute_given l e x h f =
       let u = at n Primary f in
       anywhere_at n Primary refl (u.0 ++ (Op Dot ∷ (in_form x ∷ [])), pass_on n u.0 (Op Dot ∷ (in_form x ∷ [])) u.1 (named_pass n x [] h refl), G.attribute _ u.2) l

@@ -14,8 +14,8 @@ use Rattle.pygrammar.specs.declared.levels.Level.TheVariants.{StarItem, Expressi
 use Rattle.pygrammar.specs.Entries.{Parameter, Entry, Plain, Slashed, Bare, Gathered, Collected}
 use Rattle.pygrammar.specs.Parameters.{add_keyword_only, set_vararg, add_plain, add_before_slash, after_star, at_star, plain_ones, before_slash, has_slash, arranged}
 use Rattle.pygrammar.specs.Grammar as G
-use Rattle.pytree_fits.specs.Tests.{Tests}
 use Rattle.pytree_fits.specs.Slots.{count, count_optional, count_args, fits_at, arg_fits, each_arg_fits, perhaps_arg_fits}
+use Rattle.pytree_fits.proofs.Fields.Standing.{Standing, here}
 use Rattle.pytree_fits.proofs.Fields.AsSpelled.{GivenAsSpelled, pass_on}
 use Rattle.pytree_fits.proofs.Fields.Tests.{parts3, never}
 use Rattle.pytree_fits.proofs.Giving.Places as P
@@ -25,25 +25,25 @@ use Rattle.pytree_fits.proofs.Giving.Calls.{Keys, no_keys, no_key, a_key}
 use Rattle.pytree_fits.proofs.Fields.Arranging.{Parts}
 
 -- parameters, with annotations only where there may be some
-pub data ArgMade (n : Tests) (annotated : Bool) : Arg → Type 0 where
-  bare : {x : Identifier} → n.name x ≡ true → ArgMade n annotated (arg x absent)
-  noted : {x : Identifier} {e : Expr} → n.name x ≡ true → annotated ≡ true → P.At n Expression e → ArgMade n annotated (arg x (present e))
+pub data ArgMade (n : Standing) (annotated : Bool) : Arg → Type 0 where
+  bare : {x : Identifier} → n.tests.name x ≡ true → ArgMade n annotated (arg x absent)
+  noted : {x : Identifier} {e : Expr} → n.tests.name x ≡ true → annotated ≡ true → P.At n Expression e → ArgMade n annotated (arg x (present e))
 
-pub data ArgsMade (n : Tests) (annotated : Bool) : Args → Type 0 where
+pub data ArgsMade (n : Standing) (annotated : Bool) : Args → Type 0 where
   no_args : ArgsMade n annotated no_arg
   more_args : {a : Arg} {rest : Args} → ArgMade n annotated a → ArgsMade n annotated rest → ArgsMade n annotated (an_arg a rest)
 
-pub data OptionalArgMade (n : Tests) (annotated : Bool) : OptionalArg → Type 0 where
+pub data OptionalArgMade (n : Standing) (annotated : Bool) : OptionalArg → Type 0 where
   none_made : OptionalArgMade n annotated absent_arg
   one_made : {a : Arg} → ArgMade n annotated a → OptionalArgMade n annotated (present_arg a)
 
 -- that of `*`
-pub data StarArgMade (n : Tests) (annotated : Bool) : OptionalArg → Type 0 where
+pub data StarArgMade (n : Standing) (annotated : Bool) : OptionalArg → Type 0 where
   unstarred : {v : OptionalArg} → OptionalArgMade n annotated v → StarArgMade n annotated v
-  starred : {x : Identifier} {e : Expr} → n.name x ≡ true → annotated ≡ true → P.At n Expression e → StarArgMade n annotated (present_arg (arg x (present (Trees.Starred e Load))))
+  starred : {x : Identifier} {e : Expr} → n.tests.name x ≡ true → annotated ≡ true → P.At n Expression e → StarArgMade n annotated (present_arg (arg x (present (Trees.Starred e Load))))
 
 -- a list of entries that a step of the arranging reads as a
-record Run (n : Tests) (b : Bool) (read : List Entry → Option Arguments) (z : Bool) (a : Arguments) : Type 0 where
+record Run (n : Standing) (b : Bool) (read : List Entry → Option Arguments) (z : Bool) (a : Arguments) : Type 0 where
   list : List Entry
   is : read list ≡ Some a
   slash : has_slash list ≡ z
@@ -53,7 +53,7 @@ abbrev first_slash : List Entry → Bool
 first_slash (Slashed ∷ es) = true
 first_slash _ = false
 
-module _ (n : Tests) (b : Bool) where
+module _ (n : Standing) (b : Bool) where
   abbrev Piece : Entry → Type 0
   Piece e = GivenAsSpelled n (G.Piece (Parameter b)) e
 
@@ -82,7 +82,7 @@ module _ (n : Tests) (b : Bool) where
   gathered (noted {x = x} {e = e} h q f) = annotated_too (Gathered (arg x (present e))) q
       (Op Star ∷ (in_form x ∷ (Op Colon ∷ f.0)), named_pass n x (Op Colon ∷ f.0) h f.1, G.star_parameter (G.suffix f.2))
 
-  gathered_star : (x : Identifier) (e : Expr) → n.name x ≡ true → b ≡ true → P.At n Expression e → Piece (Gathered (arg x (present (Trees.Starred e Load))))
+  gathered_star : (x : Identifier) (e : Expr) → n.tests.name x ≡ true → b ≡ true → P.At n Expression e → Piece (Gathered (arg x (present (Trees.Starred e Load))))
   gathered_star x e h q f =
       let u = at n BitOr f in
       annotated_too (Gathered (arg x (present (Trees.Starred e Load)))) q
@@ -213,20 +213,20 @@ module _ (n : Tests) (b : Bool) where
       record { list = w.list; is = rw w.slash w.is; pieces = w.pieces }
 
 -- in a lambda there are no annotations
-module _ (n : Tests) where
-  bare_arg : (l : Level) (a : Arg) → arg_fits n false l a ≡ true → ArgMade n false a
-  bare_arg l (arg x absent) h = bare (parts3 (n.name x) true true h).0
-  bare_arg l (arg x (present e)) h = absurd (never (parts3 (n.name x) false (fits_at n l e) h).1)
+module _ (n : Standing) where
+  bare_arg : (l : Level) (a : Arg) → arg_fits (here n) false l a ≡ true → ArgMade n false a
+  bare_arg l (arg x absent) h = bare (parts3 (n.tests.name x) true true h).0
+  bare_arg l (arg x (present e)) h = absurd (never (parts3 (n.tests.name x) false (fits_at (here n) l e) h).1)
 
-  bare_args : (xs : Args) → each_arg_fits n false xs ≡ true → ArgsMade n false xs
+  bare_args : (xs : Args) → each_arg_fits (here n) false xs ≡ true → ArgsMade n false xs
   bare_args no_arg h = no_args
-  bare_args (an_arg a rest) h = let w = and_parts (arg_fits n false Expression a) (each_arg_fits n false rest) h in more_args (bare_arg Expression a w.0) (bare_args rest w.1)
+  bare_args (an_arg a rest) h = let w = and_parts (arg_fits (here n) false Expression a) (each_arg_fits (here n) false rest) h in more_args (bare_arg Expression a w.0) (bare_args rest w.1)
 
-  bare_optional : (l : Level) (a : OptionalArg) → perhaps_arg_fits n false l a ≡ true → OptionalArgMade n false a
+  bare_optional : (l : Level) (a : OptionalArg) → perhaps_arg_fits (here n) false l a ≡ true → OptionalArgMade n false a
   bare_optional l absent_arg h = none_made
   bare_optional l (present_arg a) h = one_made (bare_arg l a h)
 
-  pub lambda_given : (l : Level) (ps qs : Args) (v : OptionalArg) (ks : Args) (ds : OptionalExprs) (k : OptionalArg) (es : Exprs) (e : Expr) → Parts n false ps qs v ks ds k es → Keys n ds → Each n Expression es → P.At n Expression e → P.At n l (Trees.Lambda (arguments ps qs v ks ds k es) e)
+  pub lambda_given : (l : Level) (ps qs : Args) (v : OptionalArg) (ks : Args) (ds : OptionalExprs) (k : OptionalArg) (es : Exprs) (e : Expr) → Parts (here n) false ps qs v ks ds k es → Keys n ds → Each n Expression es → P.At n Expression e → P.At n l (Trees.Lambda (arguments ps qs v ks ds k es) e)
   lambda_given l ps qs v ks ds k es e p s r f =
       let w = arrangement n false ps qs v ks ds k es (bare_args ps p.before) (bare_args qs p.middle) (unstarred (bare_optional StarItem v p.star)) (bare_args ks p.only) s (bare_optional Expression k p.double) r p.even p.few in
       let u = listing n w.pieces in

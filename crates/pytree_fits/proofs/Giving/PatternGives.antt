@@ -16,6 +16,7 @@ use Rattle.pygrammar.specs.PatternEntries.{PatternItem, Element, KeyPattern, Cla
 use Rattle.pygrammar.specs.PatternGrammar as G
 use Rattle.pytree_fits.specs.Tests.{Tests}
 use Rattle.pytree_fits.specs.PatternSlots.{target_fits, perhaps_target_fits, begins_with_wildcard, class_fits, key_fits, takes_star_pattern, count_patterns, pattern_fits_at, each_pattern_fits}
+use Rattle.pytree_fits.proofs.Fields.Standing.{outside}
 use Rattle.pytree_fits.proofs.Fields.AsSpelled.{GivenAsSpelled, pass_on}
 use Rattle.pytree_fits.proofs.Fields.Tests.{parts3, parts4, never}
 use Rattle.pytree_fits.proofs.Fields.PatternFields.{captured_name, name_of, capture_of}
@@ -26,7 +27,7 @@ use Rattle.pytree_fits.proofs.Giving.PatternValues.{class_given, value_given, si
 
 -- given at a level
 abbrev At : Tests → PatternLevel → Pattern → Type 0
-At n l p = GivenAsSpelled n (G.DerivesPattern l) p
+At n l p = GivenAsSpelled (outside n) (G.DerivesPattern l) p
 
 -- a closed pattern stands at every level
 climb : {ts : List Terminal} {p : Pattern} (l : PatternLevel) → G.DerivesPattern ClosedPattern ts p → G.DerivesPattern l ts p
@@ -58,7 +59,7 @@ data Each (n : Tests) : Patterns → Type 0 where
 
 data Pieces (n : Tests) (i : PatternItem) : List PatternEntry → Type 0 where
   no_piece : Pieces n i []
-  a_piece : {e : PatternEntry} {es : List PatternEntry} → GivenAsSpelled n (G.PatternPiece i) e → Pieces n i es → Pieces n i (e ∷ es)
+  a_piece : {e : PatternEntry} {es : List PatternEntry} → GivenAsSpelled (outside n) (G.PatternPiece i) e → Pieces n i es → Pieces n i (e ∷ es)
 
 abbrev alone : Patterns → List PatternEntry
 alone no_pattern = []
@@ -77,48 +78,48 @@ module _ (n : Tests) where
   lifted l w = (w.0, w.1, climb l w.2)
 
   grouped : {p : Pattern} → At n AsPattern p → At n ClosedPattern p
-  grouped w = (Op LPar ∷ (w.0 ++ (Op RPar ∷ [])), pass_on n w.0 (Op RPar ∷ []) w.1 refl, G.group w.2)
+  grouped w = (Op LPar ∷ (w.0 ++ (Op RPar ∷ [])), pass_on (outside n) w.0 (Op RPar ∷ []) w.1 refl, G.group w.2)
 
-  listing : {i : PatternItem} {es : List PatternEntry} → Pieces n i es → GivenAsSpelled n (G.PatternListing i) es
+  listing : {i : PatternItem} {es : List PatternEntry} → Pieces n i es → GivenAsSpelled (outside n) (G.PatternListing i) es
   listing no_piece = ([], refl, G.no_entry)
-  listing (a_piece p r) = let w = listing r in (p.0 ++ (Op Comma ∷ w.0), pass_on n p.0 (Op Comma ∷ w.0) p.1 w.1, G.entry p.2 w.2)
+  listing (a_piece p r) = let w = listing r in (p.0 ++ (Op Comma ∷ w.0), pass_on (outside n) p.0 (Op Comma ∷ w.0) p.1 w.1, G.entry p.2 w.2)
 
   -- ---- Names.
 
   capture_given : (o : Option Identifier) → perhaps_target_fits n o ≡ true → At n ClosedPattern (Trees.MatchAs absent_pattern o)
   capture_given o h =
       let c = capture_of n o h in
-      subst (λ z. At n ClosedPattern (Trees.MatchAs absent_pattern z)) c.2 (in_form c.0 ∷ [], named_pass n c.0 [] c.1 refl, G.capture)
+      subst (λ z. At n ClosedPattern (Trees.MatchAs absent_pattern z)) c.2 (in_form c.0 ∷ [], named_pass (outside n) c.0 [] c.1 refl, G.capture)
 
   star_given : (o : Option Identifier) → perhaps_target_fits n o ≡ true → At n StarPattern (Trees.MatchStar o)
   star_given o h =
       let c = capture_of n o h in
-      subst (λ z. At n StarPattern (Trees.MatchStar z)) c.2 (Op Star ∷ (in_form c.0 ∷ []), named_pass n c.0 [] c.1 refl, G.star)
+      subst (λ z. At n StarPattern (Trees.MatchStar z)) c.2 (Op Star ∷ (in_form c.0 ∷ []), named_pass (outside n) c.0 [] c.1 refl, G.star)
 
   as_given : (p : Pattern) (x : Identifier) → target_fits n x ≡ true → At n ClosedPattern p → At n ClosedPattern (Trees.MatchAs (present_pattern p) (Some x))
   as_given p x h w =
       let u = name_of n x h in
       let e : as_named p x ≡ Some (Trees.MatchAs (present_pattern p) (Some x)) = rw (captured_name x u.1) refl in
-      grouped (w.0 ++ (Word Key.As ∷ (in_form x ∷ [])), pass_on n w.0 (Word Key.As ∷ (in_form x ∷ [])) w.1 (named_pass n x [] u.0 refl), G.as_name _ (climb OrPattern w.2) e)
+      grouped (w.0 ++ (Word Key.As ∷ (in_form x ∷ [])), pass_on (outside n) w.0 (Word Key.As ∷ (in_form x ∷ [])) w.1 (named_pass (outside n) x [] u.0 refl), G.as_name _ (climb OrPattern w.2) e)
 
   -- ---- Sequences and alternatives.
 
   sequence_given : (ps : Patterns) → Pieces n Element (alone ps) → At n ClosedPattern (Trees.MatchSequence ps)
   sequence_given ps r =
       let w = listing r in
-      subst (λ z. At n ClosedPattern (Trees.MatchSequence z)) (alone_are ps) (Op LSqb ∷ (w.0 ++ (Op RSqb ∷ [])), pass_on n w.0 (Op RSqb ∷ []) w.1 refl, G.square_sequence w.2)
+      subst (λ z. At n ClosedPattern (Trees.MatchSequence z)) (alone_are ps) (Op LSqb ∷ (w.0 ++ (Op RSqb ∷ [])), pass_on (outside n) w.0 (Op RSqb ∷ []) w.1 refl, G.square_sequence w.2)
 
   record Choices (ps : Patterns) : Type 0 where
     list : List Pattern
     are : patterns list ≡ ps
-    given : GivenAsSpelled n G.Alternatives list
+    given : GivenAsSpelled (outside n) G.Alternatives list
 
   choices : {p : Pattern} {ps : Patterns} → At n ClosedPattern p → Each n ps → Choices (a_pattern p ps)
   choices {p = p} w no_more = record { list = p ∷ []; are = refl; given = (w.0, w.1, G.last_alternative w.2) }
   choices {p = p} w (one_more v r) =
       let c = choices v r in
       let u = c.given in
-      record { list = p ∷ c.list; are = ap (a_pattern p) c.are; given = (w.0 ++ (Op VBar ∷ u.0), pass_on n w.0 (Op VBar ∷ u.0) w.1 u.1, G.alternative w.2 u.2) }
+      record { list = p ∷ c.list; are = ap (a_pattern p) c.are; given = (w.0 ++ (Op VBar ∷ u.0), pass_on (outside n) w.0 (Op VBar ∷ u.0) w.1 u.1, G.alternative w.2 u.2) }
 
   or_given : (ps : Patterns) → 2 ≤ count_patterns ps → Each n ps → At n ClosedPattern (Trees.MatchOr ps)
   or_given no_pattern h no_more = absurd (omega (arith, h))
@@ -127,7 +128,7 @@ module _ (n : Tests) where
       let c = choices v r in
       let u = c.given in
       let d : At n OrPattern (Trees.MatchOr (a_pattern p (a_pattern q ps))) =
-      subst (λ z. At n OrPattern (Trees.MatchOr (a_pattern p z))) c.are (w.0 ++ (Op VBar ∷ u.0), pass_on n w.0 (Op VBar ∷ u.0) w.1 u.1, G.alternatives w.2 u.2) in
+      subst (λ z. At n OrPattern (Trees.MatchOr (a_pattern p z))) c.are (w.0 ++ (Op VBar ∷ u.0), pass_on (outside n) w.0 (Op VBar ∷ u.0) w.1 u.1, G.alternatives w.2 u.2) in
       grouped (d.0, d.1, G.next {l = AsPattern} d.2)
 
   -- ---- Mappings.
@@ -154,7 +155,7 @@ module _ (n : Tests) where
       let u = key_given n k v.0 in
       record {
         list = Keyed k p ∷ m.list;
-        pieces = a_piece (u.0 ++ (Op Colon ∷ w.0), pass_on n u.0 (Op Colon ∷ w.0) u.1 w.1, G.key_pattern u.2 (climb AsPattern w.2)) m.pieces;
+        pieces = a_piece (u.0 ++ (Op Colon ∷ w.0), pass_on (outside n) u.0 (Op Colon ∷ w.0) u.1 w.1, G.key_pattern u.2 (climb AsPattern w.2)) m.pieces;
         order = m.order;
         keys_are = ap (λ z. k ∷ z) m.keys_are;
         patterns_are = ap (a_pattern p) m.patterns_are;
@@ -167,10 +168,10 @@ module _ (n : Tests) where
       let m = mapping keys ps o e h s r in
       let w = listing m.pieces in
       let q : mapped m.list ≡ Some (Trees.MatchMapping keys ps o) = rw (m.order, m.keys_are, m.patterns_are, m.rest_is) refl in
-      (Op LBrace ∷ (w.0 ++ (Op RBrace ∷ [])), pass_on n w.0 (Op RBrace ∷ []) w.1 refl, G.mapping w.2 q)
+      (Op LBrace ∷ (w.0 ++ (Op RBrace ∷ [])), pass_on (outside n) w.0 (Op RBrace ∷ []) w.1 refl, G.mapping w.2 q)
 
   rest_piece : (x : Identifier) → target_fits n x ≡ true → Pieces n KeyPattern (rest_entry (Some x))
-  rest_piece x h = let u = name_of n x h in a_piece (Op DoubleStar ∷ (in_form x ∷ []), named_pass n x [] u.0 refl, G.rest u.1) no_piece
+  rest_piece x h = let u = name_of n x h in a_piece (Op DoubleStar ∷ (in_form x ∷ []), named_pass (outside n) x [] u.0 refl, G.rest u.1) no_piece
 
   -- ---- Class patterns.
 
@@ -193,7 +194,7 @@ module _ (n : Tests) where
       let m = by_name xs ps (omega (arith, e)) v.1 s in
       record {
         list = Named x p ∷ m.list;
-        pieces = a_piece (in_form x ∷ (Op Equal ∷ w.0), named_pass n x (Op Equal ∷ w.0) v.0 w.1, G.named_argument (climb AsPattern w.2)) m.pieces;
+        pieces = a_piece (in_form x ∷ (Op Equal ∷ w.0), named_pass (outside n) x (Op Equal ∷ w.0) v.0 w.1, G.named_argument (climb AsPattern w.2)) m.pieces;
         all = m.all;
         first = m.all;
         behind = λ q. and_from (not (is_wildcard x)) (all_named m.list) q m.all;
@@ -230,7 +231,7 @@ module _ (n : Tests) where
       let u = class_given n cls c in
       let w = listing a.pieces in
       let q : class_of cls a.list ≡ Some (Trees.MatchClass cls inner names named) = rw (o, a.alone_are, a.names_are, a.patterns_are) refl in
-      (u.0 ++ (Op LPar ∷ (w.0 ++ (Op RPar ∷ []))), pass_on n u.0 (Op LPar ∷ (w.0 ++ (Op RPar ∷ []))) u.1 (pass_on n w.0 (Op RPar ∷ []) w.1 refl), G.class_pattern u.2 w.2 q)
+      (u.0 ++ (Op LPar ∷ (w.0 ++ (Op RPar ∷ []))), pass_on (outside n) u.0 (Op LPar ∷ (w.0 ++ (Op RPar ∷ []))) u.1 (pass_on (outside n) w.0 (Op RPar ∷ []) w.1 refl), G.class_pattern u.2 w.2 q)
 
   class_pattern_given : (cls : Expr) (inner : Patterns) (names : List Identifier) (named : Patterns) → class_fits n cls ≡ true → Each n inner → ByName names named →
       (eqb (count_patterns inner) 0 || not (begins_with_wildcard names)) ≡ true → At n ClosedPattern (Trees.MatchClass cls inner names named)

@@ -1,6 +1,6 @@
 -- Carries: the laws of the slots. On: what is given at one level is given at others, in
 -- brackets where it needs them.
-use Rattle.std.proofs.Common.{◌≡◌, refl, List, [], ◌∷◌, ◌++◌, true, ◌&&◌}
+use Rattle.std.proofs.Common.{◌≡◌, refl, List, [], ◌∷◌, ◌++◌, true}
 use Rattle.std.specs.Str.{bytes_eq}
 use Rattle.std.proofs.lemmas.Bool.{and_from}
 use Rattle.std.proofs.lemmas.Slice.Eq.{bytes_eq-Decides}
@@ -12,9 +12,9 @@ use Rattle.pytoken.specs.Terminals.{Terminal, Op, in_form}
 use Rattle.pygrammar.specs.declared.levels.Level.{Level}
 use Rattle.pygrammar.specs.declared.levels.Level.TheVariants.{Value, Stars, StarItem, Named, Expression, Or, And, Not, Compare, BitOr, BitXor, BitAnd, Shift, Sum, Term, Factor, Power, Await, Primary, Atom, Elem, Slices, Part, Slice, Subject}
 use Rattle.pygrammar.specs.Grammar as G
-use Rattle.pytree_fits.specs.Tests.{Tests}
 use Rattle.pytree_fits.specs.Slots.{takes_star}
-use Rattle.pytree_fits.proofs.Fields.AsSpelled.{all_as_spelled, GivenAsSpelled, pass_on}
+use Rattle.pytree_fits.proofs.Fields.Standing.{Standing}
+use Rattle.pytree_fits.proofs.Fields.AsSpelled.{Passed, GivenAsSpelled, pass_on, pass_in_front}
 use Rattle.pytree_fits.proofs.Fields.Levels.{inner}
 
 -- ---- Chains of levels.
@@ -143,10 +143,10 @@ module _ {ts : List Terminal} {e : Expr} where
 -- ---- Places.
 
 -- given at a level
-abbrev pub At : Tests → Level → Expr → Type 0
+abbrev pub At : Standing → Level → Expr → Type 0
 At n l e = GivenAsSpelled n (G.Derives l) e
 
-module _ (n : Tests) where
+module _ (n : Standing) where
   pub lifted : {e : Expr} (l : Level) → At n Atom e → At n l e
   lifted l w = (w.0, w.1, climb l w.2)
 
@@ -170,15 +170,15 @@ module _ (n : Tests) where
   starred_at _ h w = absurd (cc)
 
   -- a name in front
-  pub named_pass : (x : Identifier) (ts : List Terminal) → n.name x ≡ true → all_as_spelled n ts ≡ true → all_as_spelled n (in_form x ∷ ts) ≡ true
-  named_pass x ts p q = and_from (n.name x && bytes_eq x x) (all_as_spelled n ts) (and_from (n.name x) (bytes_eq x x) p ((bytes_eq-Decides x x).1 refl)) q
+  pub named_pass : (x : Identifier) (ts : List Terminal) → n.tests.name x ≡ true → Passed n ts → Passed n (in_form x ∷ ts)
+  named_pass x ts p q = pass_in_front n (in_form x) ts (and_from (n.tests.name x) (bytes_eq x x) p ((bytes_eq-Decides x x).1 refl)) refl q
 
 -- given, perhaps
-pub data MayBe (n : Tests) (l : Level) : Trees.OptionalExpr → Type 0 where
+pub data MayBe (n : Standing) (l : Level) : Trees.OptionalExpr → Type 0 where
   left_out : MayBe n l Trees.absent
   there : {e : Expr} → At n l e → MayBe n l (Trees.present e)
 
 -- each of some
-pub data Each (n : Tests) (l : Level) : Trees.Exprs → Type 0 where
+pub data Each (n : Standing) (l : Level) : Trees.Exprs → Type 0 where
   no_more : Each n l Trees.no_exprs
   one_more : {e : Expr} {es : Trees.Exprs} → At n l e → Each n l es → Each n l (Trees.an_expr e es)

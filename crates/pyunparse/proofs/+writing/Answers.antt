@@ -1,4 +1,4 @@
-use Rattle.std.proofs.Common.{◌≡◌, ◌==◌, ◌&&◌, nat_eq, drop, false, true, ◌<◌, ◌∙◌, ◌++◌, ◌∷◌, [], ap, arith, length, map, refl, sym}
+use Rattle.std.proofs.Common.{◌≡◌, ◌==◌, ◌+◌, ◌&&◌, nat_eq, drop, false, true, ◌<◌, ◌∙◌, ◌++◌, ◌∷◌, [], ap, arith, length, map, refl, sym}
 use Rattle.std.proofs.lemmas.Result.{IfOk-equal}
 use Rattle.pylex_lexeme.specs.declared.kinds.Exact.TheVariants.{Colon, Comma, Equal, LBrace, RBrace, Star}
 use Rattle.pytree_node.specs.declared.expressions.Arg as given_arg
@@ -7,16 +7,16 @@ use Rattle.pytree_node.specs.declared.expressions.Keyword as given_keyword
 use Rattle.pytree_node.specs.declared.operators.Comparison.TheVariants as Is
 use Rattle.pytree_node.specs.Trees.{args, comprehensions, exprs, keywords, optional, optional_arg, optionals}
 use Rattle.pytree_node.specs.TreeOf.{arg_of, arg_option_of, arguments_of, boxed_of, comprehension_of, keyword_of, option_of, tree_of}
-use Rattle.pytree_node.proofs.Callers.ExprShapes.{arg_tree, arguments_tree, attribute_tree, await_tree, bin_op_tree, bool_op_tree, call_tree, compare_tree, comprehension_tree, constant_tree, dict_comp_tree, dict_tree, generator_exp_tree, if_exp_tree, keyword_tree, lambda_tree, list_comp_tree, list_tree, name_tree, named_expr_tree, set_comp_tree, set_tree, slice_tree, starred_tree, subscript_tree, tuple_tree, unary_op_tree, yield_from_tree, yield_tree}
-use Rattle.pygrammar.specs.declared.levels.Level.TheVariants.{BitOr, Elem, Expression, Named}
+use Rattle.pytree_node.proofs.Callers.ExprShapes.{arg_tree, arguments_tree, attribute_tree, await_tree, bin_op_tree, bool_op_tree, call_tree, compare_tree, comprehension_tree, constant_tree, dict_comp_tree, dict_tree, formatted_value_tree, generator_exp_tree, if_exp_tree, joined_str_tree, keyword_tree, lambda_tree, list_comp_tree, list_tree, name_tree, named_expr_tree, set_comp_tree, set_tree, slice_tree, starred_tree, subscript_tree, tuple_tree, unary_op_tree, yield_from_tree, yield_tree}
+use Rattle.pygrammar.specs.declared.levels.Level.TheVariants.{BitOr, Elem, Expression, Named, Or}
 use Rattle.pytree_height.specs.Heights.{arg_height, arg_heights, comprehension_heights, height, heights, keyword_heights, optional_height, optional_heights}
 use Rattle.pytoken.specs.Terminals.{in_form, Op}
 use Rattle.pyunparse_text.specs.Levels.{reaches}
-use Rattle.pyunparse_text.specs.Pieces.{piece, pieces}
-use Rattle.pyunparse_text.specs.Written.{by_name, clauses, conditions, each, element_level, free, gathered, leading, listed, names, pairs, suffixed, tight, trailing, tuple_level, with_star, written, written_keys}
+use Rattle.pyunparse_text.specs.Pieces.{piece, pieces, sited}
+use Rattle.pyunparse_text.specs.Written.{Text, by_name, clauses, conditions, each, element_level, elements_behind, field, first_text, free, gathered, leading, listed, names, pairs, spec_elements, suffixed, tight, trailing, tuple_level, with_star, written, written_keys}
 use Rattle.pyunparse.specs.Inner.Arguments.{argument, argument_name}
 use Rattle.pyunparse.specs.Inner.Clauses.{clause, clause_height, condition}
-use Rattle.pyunparse_text.specs.Folds.{puts}
+use Rattle.pyunparse_text.specs.Folds.{puts, puts_elements}
 use Rattle.pyunparse.specs.Inner.Members.{members, padded}
 use Rattle.pyunparse_text.specs.Marks.{mark}
 use Rattle.pyunparse.specs.Inner.Pairs.{pair}
@@ -24,13 +24,15 @@ use Rattle.pyunparse.specs.Inner.Parameters.{named as named_arg, positional}
 use Rattle.pyunparse.proofs.ExpressionParts.ArgumentLemmas.{alone_is, args_listed, lone_some}
 use Rattle.pyunparse.proofs.ExpressionParts.ClassLemmas.{attribute, awaited, binary, call, chain, comparison, conditional, dict_comprehension, lambda, named, prefixed, slice, subscript, yielded, yielded_from}
 use Rattle.pyunparse.proofs.Sequences.FoldLemmas.{enclosed_on, three, two}
-use Rattle.pyunparse.proofs.Shapes.MeasureLemmas.{call_height, compare_height, dict_comp_height, gathered_lower, generator_height, keyword_height, keyword_only_lower, named_arg_height, parts_height, places_lower, star_lower}
+use Rattle.pyunparse.proofs.Shapes.MeasureLemmas.{call_height, compare_height, dict_comp_height, formatted_height, gathered_lower, generator_height, joined_height, keyword_height, keyword_only_lower, named_arg_height, parts_height, places_lower, star_lower}
 use Rattle.pyunparse.proofs.Sequences.MemberLemmas.{all_items, all_parts, both_done, both_on, compared_done, compared_on, item_on, members_none, no_higher, part_on, read_again, rest_no_higher, take_rest}
 use Rattle.pyunparse.proofs.ExpressionParts.ParameterLemmas.{D, N, places_on, default_bare, default_none, default_some, parameters_told, plain_done, plain_on, plain_start}
 use Rattle.pyunparse.proofs.ExpressionParts.PartLemmas.{by_name_more, clause_on, kwonly, kwonly_more, no_defaults, no_params, no_keys, no_values, pair_more, pairs_of}
 use Rattle.pyunparse_text.proofs.Callers.Writing.{not_alone}
 use Rattle.pyunparse.proofs.ExpressionParts.StarLemmas.{gathered_on, star_given, star_on}
+use Rattle.pyunparse.proofs.ExpressionParts.StringLemmas.{field_on, marked, spec_on, string_end, string_on, text_on, unmarked, value_on, values_done}
 use Rattle.pyunparse.proofs.ExpressionParts.TupleLemmas.{tuple}
+use Rattle.pyunparse.proofs.Shapes.ValueLemmas.{not_field, not_spec}
 use Rattle.pyunparse.proofs.+writing.Goals as goal
 
 pub operators::write_chain-returns : goal.operators::write_chain-returns
@@ -471,7 +473,7 @@ optional::write_suffix-returns-in-None g t c = rw c.in-None.is refl
 pub optional::write_suffix-returns-in_ok-put_operator-in-Some : goal.optional::write_suffix-returns-in_ok-put_operator-in-Some
 unfolding written
 optional::write_suffix-returns-in_ok-put_operator-in-Some g t c = rw (c.in-Some.is, sym c.deref.ensures) (IfOk-equal _ _ _ _ c.write_expr.ensures
-    (two g.W.Writer.after c.args.out.now (piece (Op c.args.sign) true c.args.behind ∷ []) (pieces Expression (tree_of c.deref.result.now)) _ c.in_ok-put_operator-in-Some.ensures))
+    (two g.W.Writer.after c.args.out.now (sited (Op c.args.sign) true c.args.behind ∷ []) (pieces Expression (tree_of c.deref.result.now)) _ c.in_ok-put_operator-in-Some.ensures))
 
 pub parameters::write_own_default-returns-in-None : goal.parameters::write_own_default-returns-in-None
 unfolding written
@@ -499,3 +501,105 @@ pub parameters::write_star-returns : goal.parameters::write_star-returns
 parameters::write_star-returns g t c = IfOk-equal _ _ _ _ c.put_sign.ensures
     (star_on g.W.Writer.after c.args.out.now c.args.is_first c.args.vararg.now c.args.kwonlyargs.now _ _ _
     c.is_some.ensures c.is_empty.ensures c.if-is_some-is_empty.false c.in_ok-put_between.ensures)
+
+-- ---- F-strings.
+
+pub expressions::write_expr-returns-in-JoinedStr : goal.expressions::write_expr-returns-in-JoinedStr
+unfolding written
+expressions::write_expr-returns-in-JoinedStr g t c = rw
+    (c.in-JoinedStr.is, joined_str_tree, sym c.deref-in-JoinedStr.ensures.value) c.write_joined.ensures
+
+pub expressions::write_expr-returns-in-FormattedValue : goal.expressions::write_expr-returns-in-FormattedValue
+unfolding written
+expressions::write_expr-returns-in-FormattedValue g t c = rw
+    (c.in-FormattedValue.is, formatted_value_tree, sym c.deref-in-FormattedValue.ensures) c.write_formatted.ensures
+
+pub strings::write_joined-returns-then-is_unicode : goal.strings::write_joined-returns-then-is_unicode
+strings::write_joined-returns-then-is_unicode g t c = IfOk-equal _ _ _ _ c.write_string.ensures
+    (marked g.W.Writer.after c.args.out.now
+    (exprs (map tree_of c.args.values.now)) _ _ c.is_unicode.ensures c.first_text-text.ensures _ c.if-is_unicode.true c.in_ok-put_str.ensures)
+
+pub strings::write_joined-returns : goal.strings::write_joined-returns
+strings::write_joined-returns g t c = IfOk-equal _ _ _ _ c.write_string-2.ensures
+    (unmarked g.W.Writer.after c.args.out.now
+    (exprs (map tree_of c.args.values.now)) _ _ c.is_unicode.ensures c.first_text-text.ensures c.if-is_unicode.false)
+
+pub strings::write_string-returns : goal.strings::write_string-returns
+strings::write_string-returns g t c = string_end g.W.Writer.after g.W.Writer.step _ _ g.W.Writer.is_in_field _ _ c.args.out.now _
+    (Text false c.args.text.now ∷ elements_behind piece false (exprs (map tree_of c.args.values.now)))
+    c.end_string.ensures c.in_ok-in_field.ensures.site c.in_ok-in_field.ensures.begun
+    (string_on g.W.Writer.after g.W.Writer.step _
+    (exprs (map tree_of c.args.values.now)) c.args.text.now _ _ _ c.in_ok-put_text.ensures c.in_ok-write_values.ensures)
+
+pub strings::write_formatted-returns : goal.strings::write_formatted-returns
+strings::write_formatted-returns g t c = string_end g.W.Writer.after g.W.Writer.step _ _ g.W.Writer.is_in_field _ _ c.args.out.now _
+    (field piece c.args.conversion (pieces Or (tree_of c.args.value.now)) (spec_elements piece (optional (boxed_of c.args.spec.now))))
+    c.end_string.ensures c.in_ok-in_field.ensures.site c.in_ok-in_field.ensures.begun c.in_ok-write_field.ensures
+
+pub strings::write_values-loop-i-preserved : goal.strings::write_values-loop-i-preserved
+strings::write_values-loop-i-preserved g t c = value_on g.W.Writer.after g.W.Writer.step _ c.args.in_spec _ c.loop-i.out c.args.values.now c.loop-i.i c.index-values-i.result _ _
+    (omega arith) c.index-values-i.is
+    (c.first_text-text.ensures ∙ ap (λ z. first_text (exprs (map tree_of z)))
+    (take_rest (c.loop-i.i + 1) c.args.values.now)) c.loop-i.invariant c.in_ok-write_value.ensures
+
+pub strings::write_values-returns : goal.strings::write_values-returns
+strings::write_values-returns g t c = values_done g.W.Writer.after g.W.Writer.step _ c.args.in_spec _ c.loop-i.out c.args.values.now c.loop-i.i
+    (omega arith) c.loop-i.invariant
+
+pub strings::write_values-write_value-requires : goal.strings::write_values-write_value-requires
+strings::write_values-write_value-requires g t c =
+    let b : c.loop-i.i < length c.args.values.now = omega arith in
+    let h : _ = no_higher (λ xs. heights (exprs (map tree_of xs))) (λ x. height (tree_of x)) (λ _ _. refl) _ _ _ b c.index-values-i.is in
+    (λ κs l. (omega (arith, h), l))
+
+pub strings::write_value-returns-in_ok-write_field-in-FormattedValue : goal.strings::write_value-returns-in_ok-write_field-in-FormattedValue
+strings::write_value-returns-in_ok-write_field-in-FormattedValue g t c = rw (c.in-FormattedValue.is, formatted_value_tree, sym c.deref.ensures)
+    (IfOk-equal _ _ _ _ c.put_text.ensures
+    (text_on g.W.Writer.after g.W.Writer.step c.args.in_field c.args.in_spec c.in-FormattedValue.conversion (tree_of c.deref.result.now)
+    (optional (boxed_of c.in-FormattedValue.format_spec)) c.args.text.now c.args.out.now _
+    c.in_ok-write_field-in-FormattedValue.ensures))
+
+pub strings::write_value-returns-in_default : goal.strings::write_value-returns-in_default
+strings::write_value-returns-in_default g t c = sym
+    (ap (puts_elements g.W.Writer.after g.W.Writer.step c.args.in_field c.args.out.now)
+    (not_field c.args.value.now c.in_default.not-FormattedValue c.args.in_spec c.args.text.now))
+
+pub strings::write_value-write_field-requires : goal.strings::write_value-write_field-requires
+strings::write_value-write_field-requires g t c = let h : _ = formatted_height _ _ _ _ _ c.in-FormattedValue.is c.deref.ensures in
+    (λ κs l. (omega (arith, h), l))
+
+pub expressions::write_expr-write_formatted-requires : goal.expressions::write_expr-write_formatted-requires
+expressions::write_expr-write_formatted-requires g t c = let h : _ = formatted_height _ _ _ _ _ c.in-FormattedValue.is c.deref-in-FormattedValue.ensures in (λ κs l. (omega (arith, h), l))
+
+pub expressions::write_expr-write_joined-requires : goal.expressions::write_expr-write_joined-requires
+expressions::write_expr-write_joined-requires g t c = let h : _ = joined_height _ _ _ c.in-JoinedStr.is c.deref-in-JoinedStr.ensures.value in
+    (λ κs l. (omega (arith, h), l))
+
+pub strings::write_field-returns : goal.strings::write_field-returns
+strings::write_field-returns g t c = IfOk-equal _ _ _ _ c.end_field.ensures
+    (field_on g.W.Writer.after g.W.Writer.step c.args.in_field c.args.conversion (pieces Or (tree_of c.args.value.now))
+    (spec_elements piece (optional (boxed_of c.args.spec.now))) c.args.out.now _ _ _ _
+    c.in_ok-begin_field.ensures c.in_ok-write_expr.ensures c.in_ok-end_expression.ensures c.in_ok-write_spec.ensures)
+
+pub strings::write_spec-returns-in-None : goal.strings::write_spec-returns-in-None
+unfolding written
+strings::write_spec-returns-in-None g t c = rw c.in-None.is refl
+
+pub strings::write_spec-returns-in-Some : goal.strings::write_spec-returns-in-Some
+strings::write_spec-returns-in-Some g t c = rw (c.in-Some.is, sym c.deref.ensures) c.write_spec_string.ensures
+
+pub strings::write_spec_string-returns-in-JoinedStr : goal.strings::write_spec_string-returns-in-JoinedStr
+strings::write_spec_string-returns-in-JoinedStr g t c = rw (c.in-JoinedStr.is, joined_str_tree, sym c.deref.ensures.value) c.write_spec_values.ensures
+
+pub strings::write_spec_string-returns-in_default : goal.strings::write_spec_string-returns-in_default
+strings::write_spec_string-returns-in_default g t c = sym
+    (ap (puts_elements g.W.Writer.after g.W.Writer.step c.args.in_field c.args.out.now) (not_spec c.args.spec.now c.in_default.not-JoinedStr))
+
+pub strings::write_spec_string-write_spec_values-requires : goal.strings::write_spec_string-write_spec_values-requires
+strings::write_spec_string-write_spec_values-requires g t c = let h : _ = joined_height _ _ _ c.in-JoinedStr.is c.deref.ensures.value in
+    (λ κs l. (omega (arith, h), l))
+
+pub strings::write_spec_values-returns : goal.strings::write_spec_values-returns
+strings::write_spec_values-returns g t c = IfOk-equal _ _ _ _ c.write_values.ensures
+    (spec_on g.W.Writer.after g.W.Writer.step c.args.in_field
+    (exprs (map tree_of c.args.values.now)) _ c.args.out.now _ _ _ c.first_text.ensures c.in_ok-begin_spec.ensures c.in_ok-put_text.ensures refl)

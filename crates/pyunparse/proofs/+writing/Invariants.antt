@@ -5,9 +5,9 @@ use Rattle.pytree_node.specs.TreeOf.{arg_of, arg_option_of, arguments_of, boxed_
 use Rattle.pygrammar.specs.declared.levels.Level.TheVariants.{BitOr, Expression}
 use Rattle.pytree_height.specs.Heights.{arg_height, arg_heights, arguments_height, comprehension_heights, height, heights, keyword_heights, optional_arg_height, optional_height, optional_heights}
 use Rattle.pyunparse_text.specs.Pieces.{piece}
-use Rattle.pyunparse_text.specs.Written.{behind_equal, beside, by_name, clauses, compared, conditions, defaults, each, names, pairs, trailing, written_keys}
+use Rattle.pyunparse_text.specs.Written.{behind_equal, beside, by_name, clauses, compared, conditions, defaults, each, elements_behind, names, pairs, trailing, written_keys}
 use Rattle.pyunparse.specs.Inner.Clauses.{clause_height}
-use Rattle.pyunparse_text.specs.Folds.{puts}
+use Rattle.pyunparse_text.specs.Folds.{puts, puts_elements}
 use Rattle.pyunparse.specs.Inner.Members.{members, padded}
 use Rattle.pyunparse_text.specs.Marks.{mark}
 use Rattle.pyunparse.proofs.+writing.Given as goal
@@ -53,6 +53,11 @@ abbrev pub invariant-parameters::write_keyword_only-loop-i : goal.invariant-para
 invariant-parameters::write_keyword_only-loop-i g l =
     puts g.W.Writer.after l.out (members false (trailing piece Comma) (beside (names piece (args (map arg_of (drop l.i l.params)))) (defaults piece (optionals (map option_of (drop l.i l.given))))))
     ≡ puts g.W.Writer.after l.initial.out (members false (trailing piece Comma) (beside (names piece (args (map arg_of l.params))) (defaults piece (optionals (map option_of l.given)))))
+
+abbrev pub invariant-strings::write_values-loop-i : goal.invariant-strings::write_values-loop-i
+invariant-strings::write_values-loop-i g l =
+    puts_elements g.W.Writer.after g.W.Writer.step l.in_field l.out (elements_behind piece l.in_spec (exprs (map tree_of (drop l.i l.values))))
+    ≡ puts_elements g.W.Writer.after g.W.Writer.step l.in_field l.initial.out (elements_behind piece l.in_spec (exprs (map tree_of l.values)))
 
 abbrev pub decreases-expressions::write_expr : goal.decreases-expressions::write_expr
 decreases-expressions::write_expr g l = 8 * height (tree_of l.e.now)
@@ -188,3 +193,30 @@ decreases-calls::write_alone g l = 8 * height (tree_of l.e.now) + 1
 
 abbrev pub decreases-parameters::write_both : goal.decreases-parameters::write_both
 decreases-parameters::write_both g l = 8 * max (arg_heights (args (map arg_of l.only.now))) (max (arg_heights (args (map arg_of l.others.now))) (heights (exprs (map tree_of l.given.now)))) + 4
+
+abbrev pub decreases-strings::write_joined : goal.decreases-strings::write_joined
+decreases-strings::write_joined g l = 8 * heights (exprs (map tree_of l.values.now)) + 3
+
+abbrev pub decreases-strings::write_string : goal.decreases-strings::write_string
+decreases-strings::write_string g l = 8 * heights (exprs (map tree_of l.values.now)) + 2
+
+abbrev pub decreases-strings::write_formatted : goal.decreases-strings::write_formatted
+decreases-strings::write_formatted g l = 8 * max (height (tree_of l.value.now)) (optional_height (optional (boxed_of l.spec.now))) + 3
+
+abbrev pub decreases-strings::write_values : goal.decreases-strings::write_values
+decreases-strings::write_values g l = 8 * heights (exprs (map tree_of l.values.now)) + 1
+
+abbrev pub decreases-strings::write_value : goal.decreases-strings::write_value
+decreases-strings::write_value g l = 8 * height (tree_of l.value.now)
+
+abbrev pub decreases-strings::write_field : goal.decreases-strings::write_field
+decreases-strings::write_field g l = 8 * max (height (tree_of l.value.now)) (optional_height (optional (boxed_of l.spec.now))) + 2
+
+abbrev pub decreases-strings::write_spec : goal.decreases-strings::write_spec
+decreases-strings::write_spec g l = 8 * optional_height (optional (boxed_of l.spec.now)) + 1
+
+abbrev pub decreases-strings::write_spec_string : goal.decreases-strings::write_spec_string
+decreases-strings::write_spec_string g l = 8 * height (tree_of l.spec.now)
+
+abbrev pub decreases-strings::write_spec_values : goal.decreases-strings::write_spec_values
+decreases-strings::write_spec_values g l = 8 * heights (exprs (map tree_of l.values.now)) + 2

@@ -14,23 +14,22 @@ use Rattle.pygrammar.specs.declared.levels.Level.TheVariants.{Value, Stars, Name
 use Rattle.pygrammar.specs.Operators.{below, chain_level, chain_word}
 use Rattle.pytree_node.specs.Trees
 use Rattle.pytree_node.specs.Trees.{Identifier, Expr, Exprs, OptionalExpr, Keywords, Comprehensions, Arguments}
-use Rattle.pyunparse_text.specs.Spacing.{Piece}
 use Rattle.pytoken.specs.Terminals.{Op, in_form}
 use Rattle.pyunparse_text.specs.Levels.{reaches, operator_level, left_level, right_level, operator_sign, unary_level}
-use Rattle.pyunparse_text.specs.Pieces.{piece, pieces}
+use Rattle.pyunparse_text.specs.Pieces.{Sited, piece, pieces, sited}
 use Rattle.pyunparse_text.specs.Written.{enclosed, fit, written, free, word, leading, trailing, tight, separated, listed, unary, compared, each, perhaps, suffixed, parameters, clauses, alone, by_name, lone_generator}
 use Rattle.pyunparse_text.specs.Folds.{puts, opened, closed}
 use Rattle.pyunparse.proofs.Sequences.FoldLemmas.{fits, five, four, six, three, two}
 
-module _ {S : Type 0} (after : S → Piece → S) (s : S) (l : Level) where
+module _ {S : Type 0} (after : S → Sited → S) (s : S) (l : Level) where
   -- a form in its brackets, if it needs them, by the states before and behind it
-  within : (k : Level) (b : Bool) (ts : List Piece) (s1 u : S) → b ≡ reaches l k → s1 ≡ puts after s (opened b) → u ≡ puts after s1 ts → puts after u (closed b) ≡ puts after s (fit piece l k ts)
+  within : (k : Level) (b : Bool) (ts : List Sited) (s1 u : S) → b ≡ reaches l k → s1 ≡ puts after s (opened b) → u ≡ puts after s1 ts → puts after u (closed b) ≡ puts after s (fit piece l k ts)
   within k b ts s1 u h e f =
       ap (λ z. puts after z (closed b)) (f ∙ ap (λ z. puts after z ts) e)
       ∙ (λ i. puts after (puts after (puts after s (opened (h i))) ts) (closed (h i)))
       ∙ sym (fits after s l k ts)
 
-  pub chain : (b : Bool) (o : BoolOperator) (es : Exprs) (k : Level) (m : Piece) (s1 s2 : S) →
+  pub chain : (b : Bool) (o : BoolOperator) (es : Exprs) (k : Level) (m : Sited) (s1 s2 : S) →
       b ≡ reaches l (chain_level o) →
       k ≡ below (chain_level o) →
       m ≡ word piece (chain_word o) →
@@ -175,12 +174,12 @@ module _ {S : Type 0} (after : S → Piece → S) (s : S) (l : Level) where
 
   pub binary : (b : Bool) (a : Expr) (o : Operator) (e : Expr) (j k : Level) (x : Exact) (s1 s2 s3 s4 : S) →
       b ≡ reaches l (operator_level o) → j ≡ left_level o → k ≡ right_level o → Op x ≡ operator_sign o →
-      s1 ≡ puts after s (opened b) → s2 ≡ puts after s1 (pieces j a) → s3 ≡ puts after s2 (piece (Op x) false false ∷ []) → s4 ≡ puts after s3 (pieces k e) →
+      s1 ≡ puts after s (opened b) → s2 ≡ puts after s1 (pieces j a) → s3 ≡ puts after s2 (sited (Op x) false false ∷ []) → s4 ≡ puts after s3 (pieces k e) →
       puts after s4 (closed b) ≡ puts after s (pieces l (Trees.BinOp a o e))
   binary b a o e j k x s1 s2 s3 s4 hb hj hk hx e1 e2 e3 e4 = binary_of b a o e s1 s2 s3 s4 hb e1
-      (e2 ∙ ap (λ z. puts after s1 (pieces z a)) hj) (e3 ∙ ap (λ z. puts after s2 (piece z false false ∷ [])) hx) (e4 ∙ ap (λ z. puts after s3 (pieces z e)) hk)
+      (e2 ∙ ap (λ z. puts after s1 (pieces z a)) hj) (e3 ∙ ap (λ z. puts after s2 (sited z false false ∷ [])) hx) (e4 ∙ ap (λ z. puts after s3 (pieces z e)) hk)
 
-pub dict_comprehension : {S : Type 0} (after : S → Piece → S) (s : S) (k e : Expr) (gs : Comprehensions) (s1 s2 s3 s4 s5 : S) →
+pub dict_comprehension : {S : Type 0} (after : S → Sited → S) (s : S) (k e : Expr) (gs : Comprehensions) (s1 s2 s3 s4 s5 : S) →
     s1 ≡ puts after s (leading piece LBrace ∷ []) → s2 ≡ puts after s1 (pieces Expression k) → s3 ≡ puts after s2 (trailing piece Colon ∷ []) →
     s4 ≡ puts after s3 (pieces Expression e) → s5 ≡ puts after s4 (clauses piece gs) →
     puts after s5 (trailing piece RBrace ∷ []) ≡ puts after s (enclosed piece (leading piece LBrace) RBrace (pieces Expression k ++ (trailing piece Colon ∷ (pieces Expression e ++ clauses piece gs))))
@@ -188,5 +187,5 @@ dict_comprehension after s k e gs s1 s2 s3 s4 s5 e1 e2 e3 e4 e5 =
     six after s (leading piece LBrace ∷ []) (pieces Expression k) (trailing piece Colon ∷ []) (pieces Expression e) (clauses piece gs) (trailing piece RBrace ∷ []) s1 s2 s3 s4 s5 e1 e2 e3 e4 e5
     ∙ ap (λ z. puts after s (leading piece LBrace ∷ z)) (regroup (pieces Expression k) (pieces Expression e) (clauses piece gs) (trailing piece Colon) (trailing piece RBrace ∷ []))
   where
-    regroup : (a b c : List Piece) (x : Piece) (d : List Piece) → a ++ (x ∷ (b ++ (c ++ d))) ≡ (a ++ (x ∷ (b ++ c))) ++ d
+    regroup : (a b c : List Sited) (x : Sited) (d : List Sited) → a ++ (x ∷ (b ++ (c ++ d))) ≡ (a ++ (x ∷ (b ++ c))) ++ d
     regroup a b c x d = ap (λ z. a ++ (x ∷ z)) (sym (append_assoc b c d)) ∙ sym (append_assoc a (x ∷ (b ++ c)) d)

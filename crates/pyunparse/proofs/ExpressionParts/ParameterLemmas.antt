@@ -10,9 +10,8 @@ use Rattle.pytree_node.specs.declared.expressions.Arg as given_arg
 use Rattle.pytree_node.specs.Trees.{Arg, arg, Args, an_arg, args, exprs, OptionalArg, absent_arg, present_arg, optional_arg, OptionalExprs, arguments}
 use Rattle.pytree_node.specs.TreeOf.{arg_of, arg_option_of, tree_of}
 use Rattle.pygrammar.specs.declared.levels.Level.TheVariants.{Expression}
-use Rattle.pyunparse_text.specs.Spacing.{Piece}
 use Rattle.pytoken.specs.Terminals.{Op}
-use Rattle.pyunparse_text.specs.Pieces.{piece}
+use Rattle.pyunparse_text.specs.Pieces.{Sited, piece}
 use Rattle.pyunparse_text.specs.Written.{behind_equal, beside, defaults, each, free, gathered, listed, names, parameters, trailing, with_defaults, with_slash, with_star, written}
 use Rattle.pyunparse_text.specs.Folds.{puts}
 use Rattle.pyunparse.specs.Inner.Members.{members, padded}
@@ -76,11 +75,11 @@ padded_nil (ts ∷ tss) zero [] = refl
 padded_nil (ts ∷ tss) zero (us ∷ uss) = refl
 
 -- the `/` that follows positional ones, if there are any
-abbrev pub slash : {A : Type 0} → List A → List (List Piece)
+abbrev pub slash : {A : Type 0} → List A → List (List Sited)
 slash [] = []
 slash (x ∷ xs) = (free piece (Op Slash) ∷ []) ∷ []
 
-pub slash_between : (uss : List (List Piece)) (xss yss : List (List Piece)) → length uss ≡ length xss → with_slash piece uss (xss ++ yss) ≡ xss ++ (slash uss ++ yss)
+pub slash_between : (uss : List (List Sited)) (xss yss : List (List Sited)) → length uss ≡ length xss → with_slash piece uss (xss ++ yss) ≡ xss ++ (slash uss ++ yss)
 slash_between [] [] yss h = refl
 slash_between [] (ts ∷ xss) yss h = absurd (omega (arith, h))
 slash_between (us ∷ uss) [] yss h = absurd (omega (arith, h))
@@ -89,10 +88,10 @@ slash_between (us ∷ []) (ts ∷ (vs ∷ xss)) yss h = absurd (omega (arith, h)
 slash_between (us ∷ (vs ∷ uss)) (ts ∷ xss) yss h = ap (λ z. ts ∷ z) (slash_between (vs ∷ uss) xss yss (omega (arith, h)))
 
 -- the parameters and the defaults of the program
-abbrev pub N : List given_arg.Arg → List (List Piece)
+abbrev pub N : List given_arg.Arg → List (List Sited)
 N ps = names piece (args (map arg_of ps))
 
-abbrev pub D : List given.Expr → List (List Piece)
+abbrev pub D : List given.Expr → List (List Sited)
 D ds = map (behind_equal piece) (each piece Expression (exprs (map tree_of ds)))
 
 pub one_more : (a : Arg) (rest : Args) → names piece (an_arg a rest) ≡ named a ∷ names piece rest
@@ -130,12 +129,12 @@ drop_next zero xs = refl
 drop_next (suc n) [] = refl
 drop_next (suc n) (x ∷ xs) = drop_next n xs
 
-abbrev comma : Piece
+abbrev comma : Sited
 comma = trailing piece Comma
 
 -- ---- One parameter more, with its default.
 
-step_bare : (a : Arg) (rest : Args) (m : ℕ) (uss : List (List Piece)) → padded (names piece (an_arg a rest)) (suc m) uss ≡ (named a ++ []) ∷ padded (names piece rest) m uss
+step_bare : (a : Arg) (rest : Args) (m : ℕ) (uss : List (List Sited)) → padded (names piece (an_arg a rest)) (suc m) uss ≡ (named a ++ []) ∷ padded (names piece rest) m uss
 step_bare a rest m uss = ap (λ z. padded z (suc m) uss) (one_more a rest) ∙ ap (λ z. z ∷ padded (names piece rest) m uss) (sym (append-nil (named a)))
 
 step_given : (a : Arg) (rest : Args) (ds : List given.Expr) → padded (names piece (an_arg a rest)) zero (D ds) ≡ (named a ++ head_default (map tree_of ds)) ∷ padded (names piece rest) zero (D (drop 1 ds))
@@ -164,20 +163,20 @@ step a rest bare i ds = by (nat_lt i bare) refl
         ∙ step_given a rest (drop (i - bare) ds)
         ∙ (λ k. (named a ++ head_default (sym (drop_map tree_of (i - bare) ds) k)) ∷ padded (names piece rest) (next k) (D ((sym (drop_next (i - bare) ds) ∙ ap (λ n. drop n ds) after) k)))
 
-module _ {S : Type 0} (after : S → Piece → S) (base o : S) where
+module _ {S : Type 0} (after : S → Sited → S) (base o : S) where
   pub plain_on : (f : Bool) (ps : List given_arg.Arg) (bare i : ℕ) (ds : List given.Expr) (p : given_arg.Arg) (o1 o2 o3 : S) → i < length ps → p ≡ get_or ps i p →
       puts after o (members f comma (padded (N (drop i ps)) (bare - i) (D (drop (i - bare) ds)))) ≡ base →
       o1 ≡ puts after o (if f then [] else comma ∷ []) → o2 ≡ puts after o1 (named (arg_of p)) → o3 ≡ puts after o2 (default_at bare i (map tree_of ds)) →
       puts after o3 (members false comma (padded (N (drop (i + 1) ps)) (bare - (i + 1)) (D (drop (i + 1 - bare) ds)))) ≡ base
   plain_on f ps bare i ds p o1 o2 o3 lt read so_far e1 e2 e3 =
-      let rest : List (List Piece) = padded (N (drop (i + 1) ps)) (bare - (i + 1)) (D (drop (i + 1 - bare) ds)) in
-      let ts : List Piece = named (arg_of p) ++ default_at bare i (map tree_of ds) in
+      let rest : List (List Sited) = padded (N (drop (i + 1) ps)) (bare - (i + 1)) (D (drop (i + 1 - bare) ds)) in
+      let ts : List Sited = named (arg_of p) ++ default_at bare i (map tree_of ds) in
       ap (λ z. puts after z (members false comma rest)) (e3 ∙ two after o1 (named (arg_of p)) (default_at bare i (map tree_of ds)) o2 e2 ∙ ap (λ z. puts after z ts) e1)
       ∙ sym (members_on after o f comma ts rest)
       ∙ ap (λ z. puts after o (members f comma z)) (sym (ap (λ z. padded (N z) (bare - i) (D (drop (i - bare) ds))) (dropped ps i p lt read) ∙ step (arg_of p) (args (map arg_of (drop (i + 1) ps))) bare i ds))
       ∙ so_far
 
-  pub plain_done : (f : Bool) (ps : List given_arg.Arg) (bare i : ℕ) (uss : List (List Piece)) → length ps ≤ i →
+  pub plain_done : (f : Bool) (ps : List given_arg.Arg) (bare i : ℕ) (uss : List (List Sited)) → length ps ≤ i →
       puts after o (members f comma (padded (N (drop i ps)) (bare - i) uss)) ≡ base → o ≡ base
   unfolding written
   plain_done f ps bare i uss h so_far =
@@ -196,7 +195,7 @@ parts ps qs ds bare e =
     ∙ ap (λ z. padded (N ps) bare (D ds) ++ (slash (N ps) ++ padded (N qs) (bare - length ps) z)) (defaults_left (length ps - bare) ds)
 
 -- a list, the `/` behind it if it isn't empty, and another one
-joined : (us xs ys : List (List Piece)) (n : ℕ) → length us ≡ n → length xs ≡ n →
+joined : (us xs ys : List (List Sited)) (n : ℕ) → length us ≡ n → length xs ≡ n →
     members true comma (xs ++ (slash us ++ ys)) ≡ members true comma xs ++ (slash_behind n ++ members (nat_eq n 0) comma ys)
 joined [] [] ys zero e h = refl
 joined [] [] ys (suc n) e h = absurd (omega (arith, e))
@@ -205,29 +204,29 @@ joined (u ∷ us) [] ys n e h = absurd (omega (arith, e, h))
 joined (u ∷ us) (ts ∷ xs) ys zero e h = absurd (omega (arith, e))
 joined (u ∷ us) (ts ∷ xs) ys (suc n) e h = members_both true comma (ts ∷ xs) (slash (u ∷ us) ++ ys) ∙ ap (λ z. members true comma (ts ∷ xs) ++ (slash_behind (suc n) ++ members z comma ys)) (sym (not_zero n))
 
-pub places_on : {S : Type 0} (after : S → Piece → S) (s : S) (ps qs : List given_arg.Arg) (ds : List given.Expr) (bare : ℕ) (s1 s2 : S) →
+pub places_on : {S : Type 0} (after : S → Sited → S) (s : S) (ps qs : List given_arg.Arg) (ds : List given.Expr) (bare : ℕ) (s1 s2 : S) →
     bare ≡ (length ps + length qs) - length ds →
     s1 ≡ puts after s (members true comma (padded (N ps) bare (D ds))) → s2 ≡ puts after s1 (slash_behind (length ps)) →
     puts after s2 (members (nat_eq (length ps) 0) comma (padded (N qs) (bare - length ps) (D (drop (length ps - bare) ds))))
     ≡ puts after s (listed piece (by_places (args (map arg_of ps)) (args (map arg_of qs)) (exprs (map tree_of ds))))
 places_on after s ps qs ds bare s1 s2 e e1 e2 =
-    let X : List (List Piece) = padded (N ps) bare (D ds) in
-    let Y : List (List Piece) = padded (N qs) (bare - length ps) (D (drop (length ps - bare) ds)) in
+    let X : List (List Sited) = padded (N ps) bare (D ds) in
+    let Y : List (List Sited) = padded (N qs) (bare - length ps) (D (drop (length ps - bare) ds)) in
     let same : length X ≡ length ps = padded_length (N ps) bare (D ds) ∙ name_count ps in
     three after s (members true comma X) (slash_behind (length ps)) (members (nat_eq (length ps) 0) comma Y) s1 s2 e1 e2
     ∙ ap (puts after s) (sym (ap (members true comma) (parts ps qs ds bare e) ∙ joined (N ps) X Y (length ps) (name_count ps) same))
 
 -- ---- All parameters.
 
-nil_slash : (us : List (List Piece)) (b : Bool) → (is_nil us && (is_nil (slash us) && b)) ≡ (is_nil us && b)
+nil_slash : (us : List (List Sited)) (b : Bool) → (is_nil us && (is_nil (slash us) && b)) ≡ (is_nil us && b)
 nil_slash [] b = refl
 nil_slash (u ∷ us) b = refl
 
 no_positional : (ps qs : List given_arg.Arg) (ds : List given.Expr) → is_nil (with_slash piece (N ps) (with_defaults (N ps ++ N qs) (D ds))) ≡ (is_nil ps && is_nil qs)
 no_positional ps qs ds =
     let bare : ℕ = (length ps + length qs) - length ds in
-    let X : List (List Piece) = padded (N ps) bare (D ds) in
-    let Y : List (List Piece) = padded (N qs) (bare - length ps) (D (drop (length ps - bare) ds)) in
+    let X : List (List Sited) = padded (N ps) bare (D ds) in
+    let Y : List (List Sited) = padded (N qs) (bare - length ps) (D (drop (length ps - bare) ds)) in
     ap is_nil (parts ps qs ds bare refl)
     ∙ nil_append X (slash (N ps) ++ Y)
     ∙ ap (λ z. is_nil X && z) (nil_append (slash (N ps)) Y)
@@ -257,7 +256,7 @@ none_first first a (k ∷ ks) kds = ap (λ z. members z comma (beside (N (k ∷ 
     never true false = refl
     never false y = refl
 
-nil_beside : (b : Bool) (ks : List given_arg.Arg) (uss : List (List Piece)) → ((b && is_nil ks) && is_nil (beside (N ks) uss)) ≡ (b && is_nil ks)
+nil_beside : (b : Bool) (ks : List given_arg.Arg) (uss : List (List Sited)) → ((b && is_nil ks) && is_nil (beside (N ks) uss)) ≡ (b && is_nil ks)
 unfolding written
 nil_beside true [] uss = refl
 nil_beside true (k ∷ ks) uss = refl
@@ -267,7 +266,7 @@ and_assoc : (a b c : Bool) → (a && (b && c)) ≡ ((a && b) && c)
 and_assoc true b c = refl
 and_assoc false b c = refl
 
-pub parameters_on : {S : Type 0} (after : S → Piece → S) (s : S) (ps qs ks : List given_arg.Arg) (v k : OptionalArg) (kds : OptionalExprs) (ds : List given.Expr) (first none : Bool) (s1 s2 s3 : S) →
+pub parameters_on : {S : Type 0} (after : S → Sited → S) (s : S) (ps qs ks : List given_arg.Arg) (v k : OptionalArg) (kds : OptionalExprs) (ds : List given.Expr) (first none : Bool) (s1 s2 s3 : S) →
     first ≡ (is_nil ps && is_nil qs) → none ≡ (first && (is_absent v && is_nil ks)) →
     s1 ≡ puts after s (listed piece (positional (arguments (args (map arg_of ps)) (args (map arg_of qs)) v (args (map arg_of ks)) kds k (exprs (map tree_of ds))))) →
     s2 ≡ puts after s1 (members first comma (with_star piece (gathered piece Star v) (N ks))) →
@@ -276,10 +275,10 @@ pub parameters_on : {S : Type 0} (after : S → Piece → S) (s : S) (ps qs ks :
     ≡ puts after s (listed piece (parameters piece (arguments (args (map arg_of ps)) (args (map arg_of qs)) v (args (map arg_of ks)) kds k (exprs (map tree_of ds)))))
 unfolding written
 parameters_on after s ps qs ks v k kds ds first none s1 s2 s3 hf hn e1 e2 e3 =
-    let P : List (List Piece) = with_slash piece (N ps) (with_defaults (N ps ++ N qs) (D ds)) in
-    let V : List (List Piece) = with_star piece (gathered piece Star v) (N ks) in
-    let B : List (List Piece) = beside (N ks) (defaults piece kds) in
-    let K : List (List Piece) = gathered piece DoubleStar k in
+    let P : List (List Sited) = with_slash piece (N ps) (with_defaults (N ps ++ N qs) (D ds)) in
+    let V : List (List Sited) = with_star piece (gathered piece Star v) (N ks) in
+    let B : List (List Sited) = beside (N ks) (defaults piece kds) in
+    let K : List (List Sited) = gathered piece DoubleStar k in
     let a : Bool = is_absent v in
     let p : is_nil P ≡ first = no_positional ps qs ds ∙ sym hf in
     let q : (is_nil P && is_nil V) ≡ (first && (a && is_nil ks)) = (λ i. p i && no_star v ks i) in
@@ -292,7 +291,7 @@ parameters_on after s ps qs ks v k kds ds first none s1 s2 s3 hf hn e1 e2 e3 =
     four after s (members true comma P) (members first comma V) (members false comma B) (members none comma K) s1 s2 s3 e1 e2 e3
     ∙ ap (puts after s) (sym whole)
 
-pub plain_start : {S : Type 0} (after : S → Piece → S) (o : S) (f : Bool) (ps : List given_arg.Arg) (bare : ℕ) (ds : List given.Expr) →
+pub plain_start : {S : Type 0} (after : S → Sited → S) (o : S) (f : Bool) (ps : List given_arg.Arg) (bare : ℕ) (ds : List given.Expr) →
     puts after o (members f comma (padded (N (drop 0 ps)) (bare - 0) (D (drop (0 - bare) ds)))) ≡ puts after o (members f comma (padded (N ps) bare (D ds)))
 plain_start after o f ps bare ds =
     let a : bare - 0 ≡ bare = omega arith in
@@ -329,7 +328,7 @@ absent_is (Some a) true h = absurd (false≢true (sym h))
 absent_is (Some a) false h = refl
 
 -- what the program asks, as the lists are
-pub parameters_told : {S : Type 0} (after : S → Piece → S) (s : S) (ps qs ks : List given_arg.Arg) (v k : Option given_arg.Arg) (kds : OptionalExprs) (ds : List given.Expr) (b1 b2 n b3 : Bool) (s1 s2 s3 : S) →
+pub parameters_told : {S : Type 0} (after : S → Sited → S) (s : S) (ps qs ks : List given_arg.Arg) (v k : Option given_arg.Arg) (kds : OptionalExprs) (ds : List given.Expr) (b1 b2 n b3 : Bool) (s1 s2 s3 : S) →
     b1 ≡ (length ps == 0) → b2 ≡ (length qs == 0) → is_some v ≡ not n → b3 ≡ (length ks == 0) →
     s1 ≡ puts after s (listed piece (positional (arguments (args (map arg_of ps)) (args (map arg_of qs)) (optional_arg (arg_option_of v)) (args (map arg_of ks)) kds (optional_arg (arg_option_of k)) (exprs (map tree_of ds))))) →
     s2 ≡ puts after s1 (members (b1 && b2) comma (with_star piece (gathered piece Star (optional_arg (arg_option_of v))) (N ks))) →

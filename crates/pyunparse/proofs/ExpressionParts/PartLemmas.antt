@@ -8,8 +8,7 @@ use Rattle.pytree_node.specs.declared.expressions.Arg as given_arg
 use Rattle.pytree_node.specs.Trees.{Arg, Args, Identifier, Keyword, Keywords, a_keyword, an_arg, args, arg, Expr, Exprs, exprs, optional, optionals}
 use Rattle.pytree_node.specs.TreeOf.{arg_of, option_of, tree_of}
 use Rattle.pygrammar.specs.declared.levels.Level.TheVariants.{Expression, Or, Stars}
-use Rattle.pyunparse_text.specs.Spacing.{Piece}
-use Rattle.pyunparse_text.specs.Pieces.{piece, pieces}
+use Rattle.pyunparse_text.specs.Pieces.{Sited, piece, pieces}
 use Rattle.pyunparse_text.specs.Written.{beside, by_name, conditions, defaults, for_in, names, pairs, suffixed, tight, word, written, written_keys}
 use Rattle.pyunparse.specs.Inner.Arguments.{argument, argument_name}
 use Rattle.pyunparse_text.specs.Folds.{puts}
@@ -17,7 +16,7 @@ use Rattle.pyunparse.specs.Inner.Pairs.{pair}
 use Rattle.pyunparse.specs.Inner.Parameters.{named}
 use Rattle.pyunparse.proofs.Sequences.FoldLemmas.{five}
 
-abbrev pub pairs_of : List (Option given.Expr) → List given.Expr → List (List Piece)
+abbrev pub pairs_of : List (Option given.Expr) → List given.Expr → List (List Sited)
 pairs_of ks es = pairs piece (written_keys piece (optionals (map option_of ks))) (exprs (map tree_of es))
 
 pub pair_more : (k : Option given.Expr) (e : given.Expr) (ks : List (Option given.Expr)) (es : List given.Expr) → pairs_of (k ∷ ks) (e ∷ es) ≡ pair (option_of k) (tree_of e) ∷ pairs_of ks es
@@ -37,7 +36,7 @@ no_values (None ∷ ks) = refl
 no_values (Some k ∷ ks) = refl
 
 -- a clause
-pub clause_on : {S : Type 0} (after : S → Piece → S) (s : S) (b : Bool) (t e : Expr) (cs : Exprs) (s1 s2 s3 s4 : S) →
+pub clause_on : {S : Type 0} (after : S → Sited → S) (s : S) (b : Bool) (t e : Expr) (cs : Exprs) (s1 s2 s3 s4 : S) →
     s1 ≡ puts after s (for_in piece b []) → s2 ≡ puts after s1 (pieces Stars t) → s3 ≡ puts after s2 (word piece Key.In ∷ []) → s4 ≡ puts after s3 (pieces Or e) →
     puts after s4 (conditions piece cs) ≡ puts after s (for_in piece b (pieces Stars t ++ (word piece Key.In ∷ (pieces Or e ++ conditions piece cs))))
 clause_on after s b t e cs s1 s2 s3 s4 e1 e2 e3 e4 =
@@ -49,7 +48,7 @@ clause_on after s b t e cs s1 s2 s3 s4 e1 e2 e3 e4 =
     by false = refl
 
 -- keyword-only parameters and their defaults
-abbrev pub kwonly : List given_arg.Arg → List (Option given.Expr) → List (List Piece)
+abbrev pub kwonly : List given_arg.Arg → List (Option given.Expr) → List (List Sited)
 kwonly ps ds = beside (names piece (args (map arg_of ps))) (defaults piece (optionals (map option_of ds)))
 
 one_more : (a : Arg) (rest : Args) → names piece (an_arg a rest) ≡ named a ∷ names piece rest

@@ -8,8 +8,7 @@ use Rattle.pylex_lexeme.specs.declared.kinds.Exact.TheVariants.{Comma, Star}
 use Rattle.pytree_node.specs.declared.expressions.Arg as given_arg
 use Rattle.pytree_node.specs.Trees.{Arg, arg, args, present_arg, optional_arg}
 use Rattle.pytree_node.specs.TreeOf.{arg_of, arg_option_of}
-use Rattle.pyunparse_text.specs.Spacing.{Piece}
-use Rattle.pyunparse_text.specs.Pieces.{piece}
+use Rattle.pyunparse_text.specs.Pieces.{Sited, piece}
 use Rattle.pyunparse_text.specs.Written.{gathered, leading, trailing, with_star, written}
 use Rattle.pyunparse_text.specs.Folds.{puts}
 use Rattle.pyunparse.specs.Inner.Members.{members}
@@ -19,7 +18,7 @@ use Rattle.pyunparse.proofs.Sequences.FoldLemmas.{two}
 use Rattle.pyunparse.proofs.Sequences.MemberLemmas.{members_on}
 use Rattle.pyunparse.proofs.ExpressionParts.ParameterLemmas.{N, one_more}
 
-abbrev comma : Piece
+abbrev comma : Sited
 comma = trailing piece Comma
 
 -- one that takes all other arguments
@@ -27,7 +26,7 @@ gathered_one : (x : Exact) (a : Arg) → gathered piece x (present_arg a) ≡ (l
 unfolding written
 gathered_one x (arg n t) = refl
 
-pub gathered_on : {S : Type 0} (after : S → Piece → S) (s : S) (f : Bool) (x : Exact) (a : Arg) (s1 s2 : S) →
+pub gathered_on : {S : Type 0} (after : S → Sited → S) (s : S) (f : Bool) (x : Exact) (a : Arg) (s1 s2 : S) →
     s1 ≡ puts after s (if f then [] else comma ∷ []) → s2 ≡ puts after s1 (leading piece x ∷ []) →
     puts after s2 (named a) ≡ puts after s (members f comma (gathered piece x (present_arg a)))
 gathered_on after s f x a s1 s2 e1 e2 =
@@ -37,7 +36,7 @@ gathered_on after s f x a s1 s2 e1 e2 =
     ∙ ap (λ z. puts after s (members f comma z)) (sym (gathered_one x a))
 
 -- the `*` NAME, where there is one
-abbrev starred : Option given_arg.Arg → List (List Piece)
+abbrev starred : Option given_arg.Arg → List (List Sited)
 starred v = gathered piece Star (optional_arg (arg_option_of v))
 
 -- with it, or with no keyword-only parameter, there is no other `*`
@@ -53,7 +52,7 @@ star_added None [] b d hb hd h = absurd (false≢true (sym h ∙ (λ i. hb i || 
 star_added None (k ∷ ks) b d hb hd h = sym (ap (with_star piece []) (one_more (arg_of k) (args (map arg_of ks))))
 star_added (Some a) ks b d hb hd h = absurd (false≢true (sym h ∙ ap (λ z. z || d) hb))
 
-pub star_on : {S : Type 0} (after : S → Piece → S) (s : S) (f : Bool) (v : Option given_arg.Arg) (ks : List given_arg.Arg) (b d : Bool) (s1 : S) →
+pub star_on : {S : Type 0} (after : S → Sited → S) (s : S) (f : Bool) (v : Option given_arg.Arg) (ks : List given_arg.Arg) (b d : Bool) (s1 : S) →
     b ≡ is_some v → d ≡ (length ks == 0) → (b || d) ≡ false → s1 ≡ puts after s (if f then [] else comma ∷ []) →
     puts after s1 (leading piece Star ∷ []) ≡ puts after s (members f comma (with_star piece (starred v) (N ks)))
 star_on after s f v ks b d s1 hb hd h e1 =

@@ -5,11 +5,10 @@ use Rattle.pytree_node.specs.declared.operators.Comparison.{Comparison}
 use Rattle.pygrammar.specs.declared.levels.Level.{Level}
 use Rattle.pytree_node.specs.Trees.{exprs}
 use Rattle.pytree_node.specs.TreeOf.{tree_of}
-use Rattle.pyunparse_text.specs.Spacing.{Piece}
 use Rattle.pyunparse_text.specs.Levels.{comparison_signs}
-use Rattle.pyunparse_text.specs.Pieces.{piece, pieces}
+use Rattle.pyunparse_text.specs.Pieces.{Sited, piece, pieces}
 use Rattle.pyunparse_text.specs.Written.{compared, each, free, separated, written}
-use Rattle.pyunparse_text.specs.Folds.{in_utf8, puts}
+use Rattle.pyunparse_text.specs.Folds.{puts, sited_in_utf8}
 use Rattle.pyunparse.specs.Inner.Members.{following, members}
 use Rattle.pyunparse.proofs.Sequences.FoldLemmas.{puts_append}
 
@@ -33,10 +32,10 @@ pub separated_on : {A : Type 0} (t : A) (ts : List A) (tss : List (List A)) → 
 separated_on t ts [] = sym (append-nil ts)
 separated_on t ts (us ∷ uss) = ap (λ z. ts ++ (t ∷ z)) (separated_on t us uss)
 
-pub members_on : {S : Type 0} (after : S → Piece → S) (s : S) (f : Bool) (t : Piece) (ts : List Piece) (tss : List (List Piece)) →
+pub members_on : {S : Type 0} (after : S → Sited → S) (s : S) (f : Bool) (t : Sited) (ts : List Sited) (tss : List (List Sited)) →
     puts after s (members f t (ts ∷ tss)) ≡ puts after (puts after (puts after s (if f then [] else t ∷ [])) ts) (members false t tss)
 members_on after s true t ts tss = ap (puts after s) (separated_on t ts tss) ∙ puts_append after s ts (following t tss)
-members_on after s false t ts tss = puts_append after (after s (in_utf8 t)) ts (following t tss)
+members_on after s false t ts tss = puts_append after (after s (sited_in_utf8 t)) ts (following t tss)
 
 -- members of two lists
 following_both : {A : Type 0} (t : A) (xss yss : List (List A)) → following t (xss ++ yss) ≡ following t xss ++ following t yss
@@ -81,15 +80,15 @@ no_higher H h e (y ∷ ys) (suc i) x lt read =
     let l : i < length ys = omega (arith, lt) in
     let k : h x ≤ H ys = no_higher H h e ys i x l read in let m = e y ys in omega (arith, k, m)
 
-module _ {S X : Type 0} (after : S → Piece → S) (base o : S) where
+module _ {S X : Type 0} (after : S → Sited → S) (base o : S) where
   -- a list whose items are members, with a token between each two
-  module _ (f : Bool) (t : Piece) (F : List X → List (List Piece)) where
-    pub item_on : (g : X → List Piece) → ((x : X) (xs : List X) → F (x ∷ xs) ≡ g x ∷ F xs) → (xs : List X) (i : ℕ) (x : X) (o1 o2 : S) →
+  module _ (f : Bool) (t : Sited) (F : List X → List (List Sited)) where
+    pub item_on : (g : X → List Sited) → ((x : X) (xs : List X) → F (x ∷ xs) ≡ g x ∷ F xs) → (xs : List X) (i : ℕ) (x : X) (o1 o2 : S) →
         i < length xs → x ≡ get_or xs i x → puts after o (members f t (F (drop i xs))) ≡ base →
         o1 ≡ puts after o (if f then [] else t ∷ []) → o2 ≡ puts after o1 (g x) →
         puts after o2 (members false t (F (drop (i + 1) xs))) ≡ base
     item_on g cons xs i x o1 o2 lt read so_far e1 e2 =
-        let rest : List (List Piece) = F (drop (i + 1) xs) in
+        let rest : List (List Sited) = F (drop (i + 1) xs) in
         ap (λ z. puts after z (members false t rest)) (e2 ∙ ap (λ z. puts after z (g x)) e1)
         ∙ sym (members_on after o f t (g x) rest)
         ∙ ap (λ z. puts after o (members f t z)) (sym (ap F (dropped xs i x lt read) ∙ cons x (drop (i + 1) xs)))
@@ -100,12 +99,12 @@ module _ {S X : Type 0} (after : S → Piece → S) (base o : S) where
         sym (ap (λ z. puts after o (members f t z)) (ap F (none_left xs i h) ∙ nil) ∙ ap (puts after o) (members_none f t)) ∙ so_far
 
   -- a list whose items stand one behind another
-  module _ (F : List X → List Piece) where
-    pub part_on : (g : X → List Piece) → ((x : X) (xs : List X) → F (x ∷ xs) ≡ g x ++ F xs) → (xs : List X) (i : ℕ) (x : X) (o1 : S) →
+  module _ (F : List X → List Sited) where
+    pub part_on : (g : X → List Sited) → ((x : X) (xs : List X) → F (x ∷ xs) ≡ g x ++ F xs) → (xs : List X) (i : ℕ) (x : X) (o1 : S) →
         i < length xs → x ≡ get_or xs i x → puts after o (F (drop i xs)) ≡ base → o1 ≡ puts after o (g x) →
         puts after o1 (F (drop (i + 1) xs)) ≡ base
     part_on g cons xs i x o1 lt read so_far e1 =
-        let rest : List Piece = F (drop (i + 1) xs) in
+        let rest : List Sited = F (drop (i + 1) xs) in
         ap (λ z. puts after z rest) e1
         ∙ sym (puts_append after o (g x) rest)
         ∙ ap (puts after o) (sym (ap F (dropped xs i x lt read) ∙ cons x (drop (i + 1) xs)))
@@ -115,15 +114,15 @@ module _ {S X : Type 0} (after : S → Piece → S) (base o : S) where
     all_parts nil xs i h so_far = sym (ap (puts after o) (ap F (none_left xs i h) ∙ nil)) ∙ so_far
 
 -- the same of two lists at once
-module _ {S X Y : Type 0} (after : S → Piece → S) (base o : S) where
-  module _ (f : Bool) (t : Piece) (F : List X → List Y → List (List Piece)) where
-    pub both_on : (g : X → Y → List Piece) → ((x : X) (y : Y) (xs : List X) (ys : List Y) → F (x ∷ xs) (y ∷ ys) ≡ g x y ∷ F xs ys) →
+module _ {S X Y : Type 0} (after : S → Sited → S) (base o : S) where
+  module _ (f : Bool) (t : Sited) (F : List X → List Y → List (List Sited)) where
+    pub both_on : (g : X → Y → List Sited) → ((x : X) (y : Y) (xs : List X) (ys : List Y) → F (x ∷ xs) (y ∷ ys) ≡ g x y ∷ F xs ys) →
         (xs : List X) (ys : List Y) (i : ℕ) (x : X) (y : Y) (o1 o2 : S) →
         i < length xs → x ≡ get_or xs i x → i < length ys → y ≡ get_or ys i y → puts after o (members f t (F (drop i xs) (drop i ys))) ≡ base →
         o1 ≡ puts after o (if f then [] else t ∷ []) → o2 ≡ puts after o1 (g x y) →
         puts after o2 (members false t (F (drop (i + 1) xs) (drop (i + 1) ys))) ≡ base
     both_on g cons xs ys i x y o1 o2 lx rx ly ry so_far e1 e2 =
-        let rest : List (List Piece) = F (drop (i + 1) xs) (drop (i + 1) ys) in
+        let rest : List (List Sited) = F (drop (i + 1) xs) (drop (i + 1) ys) in
         ap (λ z. puts after z (members false t rest)) (e2 ∙ ap (λ z. puts after z (g x y)) e1)
         ∙ sym (members_on after o f t (g x y) rest)
         ∙ ap (λ z. puts after o (members f t z)) (sym ((λ k. F (dropped xs i x lx rx k) (dropped ys i y ly ry k)) ∙ cons x y (drop (i + 1) xs) (drop (i + 1) ys)))
@@ -134,14 +133,14 @@ module _ {S X Y : Type 0} (after : S → Piece → S) (base o : S) where
     both_done no_x no_y xs ys i h so_far = sym (ap (λ z. puts after o (members f t z)) (ended F no_x no_y xs ys i h) ∙ ap (puts after o) (members_none f t)) ∙ so_far
 
 -- one comparison more
-pub compared_on : {S : Type 0} (after : S → Piece → S) (base o : S) (l : Level) (os : List Comparison) (es : List given.Expr) (i : ℕ) (c : Comparison) (e : given.Expr) (o1 o2 : S) →
+pub compared_on : {S : Type 0} (after : S → Sited → S) (base o : S) (l : Level) (os : List Comparison) (es : List given.Expr) (i : ℕ) (c : Comparison) (e : given.Expr) (o1 o2 : S) →
     i < length os → c ≡ get_or os i c → i < length es → e ≡ get_or es i e →
     puts after o (compared piece (drop i os) (each piece l (exprs (map tree_of (drop i es))))) ≡ base →
     o1 ≡ puts after o (map (free piece) (comparison_signs c)) → o2 ≡ puts after o1 (pieces l (tree_of e)) →
     puts after o2 (compared piece (drop (i + 1) os) (each piece l (exprs (map tree_of (drop (i + 1) es))))) ≡ base
 unfolding written
 compared_on after base o l os es i c e o1 o2 lo ro le re so_far e1 e2 =
-    let rest : List Piece = compared piece (drop (i + 1) os) (each piece l (exprs (map tree_of (drop (i + 1) es)))) in
+    let rest : List Sited = compared piece (drop (i + 1) os) (each piece l (exprs (map tree_of (drop (i + 1) es)))) in
     ap (λ z. puts after z rest) (e2 ∙ ap (λ z. puts after z (pieces l (tree_of e))) e1)
     ∙ sym (puts_append after (puts after o (map (free piece) (comparison_signs c))) (pieces l (tree_of e)) rest)
     ∙ sym (puts_append after o (map (free piece) (comparison_signs c)) (pieces l (tree_of e) ++ rest))
@@ -152,7 +151,7 @@ no_more : (os : List Comparison) → compared piece os [] ≡ []
 no_more [] = refl
 no_more (o ∷ os) = refl
 
-pub compared_done : {S : Type 0} (after : S → Piece → S) (base o : S) (l : Level) (os : List Comparison) (es : List given.Expr) (i : ℕ) → min (length os) (length es) ≤ i →
+pub compared_done : {S : Type 0} (after : S → Sited → S) (base o : S) (l : Level) (os : List Comparison) (es : List given.Expr) (i : ℕ) → min (length os) (length es) ≤ i →
     puts after o (compared piece (drop i os) (each piece l (exprs (map tree_of (drop i es))))) ≡ base → o ≡ base
 unfolding written
 compared_done after base o l os es i h so_far =

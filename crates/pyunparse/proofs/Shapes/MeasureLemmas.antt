@@ -3,6 +3,7 @@
 use Rattle.std.proofs.Common.{◌≡◌, ◌∙◌, ℕ, ◌+◌, ◌≤◌, max, List, Option, map, Global, ap, sym, arith}
 use Rattle.std.specs.declared.boxed.Box.{Box}
 use Rattle.std.specs.declared.vec.Vec.{Vec}
+use Rattle.pyfstring.specs.declared.parts.Conversion.{Conversion}
 use Rattle.pytree_node.specs.declared.expressions.Arg.{Arg}
 use Rattle.pytree_node.specs.declared.expressions.Arg as given_arg
 use Rattle.pytree_node.specs.declared.expressions.Arguments.{Arguments}
@@ -16,7 +17,7 @@ use Rattle.pytree_node.specs.declared.expressions.Keyword as given_keyword
 use Rattle.pytree_node.specs.declared.operators.Comparison.{Comparison}
 use Rattle.pytree_node.specs.Trees.{args, comprehensions, exprs, keywords, optional, optional_arg, optionals}
 use Rattle.pytree_node.specs.TreeOf.{arg_of, arg_option_of, arguments_of, boxed_of, comprehension_of, keyword_of, option_of, tree_of}
-use Rattle.pytree_node.proofs.Callers.ExprShapes.{arg_tree, arguments_tree, call_tree, compare_tree, comprehension_tree, dict_comp_tree, generator_exp_tree, keyword_tree}
+use Rattle.pytree_node.proofs.Callers.ExprShapes.{arg_tree, arguments_tree, call_tree, compare_tree, comprehension_tree, dict_comp_tree, formatted_value_tree, generator_exp_tree, joined_str_tree, keyword_tree}
 use Rattle.pytree_height.specs.Heights.{arg_height, arg_heights, arguments_height, comprehension_heights, height, heights, keyword_heights, optional_arg_height, optional_height, optional_heights}
 use Rattle.pyunparse.specs.Inner.Clauses.{clause_height}
 
@@ -49,6 +50,18 @@ pub call_height : (e f : Expr) (es : List Expr) (ks : List Keyword) (func : Box 
 call_height e f es ks func arguments words is hf he hk =
     ap (λ z. height (tree_of z)) is ∙ ap height (call_tree func arguments words)
     ∙ (λ i. max (height (tree_of (sym hf i))) (max (heights (exprs (map tree_of (sym he i)))) (keyword_heights (keywords (map keyword_of (sym hk i))))) + 1)
+
+pub formatted_height : (e x : Expr) (value : Box Expr Global) (conversion : Conversion) (spec : Option (Box Expr Global)) →
+    e ≡ variant.FormattedValue value conversion spec → x ≡ value.value →
+    height (tree_of e) ≡ max (height (tree_of x)) (optional_height (optional (boxed_of spec))) + 1
+formatted_height e x value conversion spec is hx =
+    ap (λ z. height (tree_of z)) is ∙ ap height (formatted_value_tree value conversion spec)
+    ∙ (λ i. max (height (tree_of (sym hx i))) (optional_height (optional (boxed_of spec))) + 1)
+
+pub joined_height : (e : Expr) (es : List Expr) (values : Vec Expr Global) → e ≡ variant.JoinedStr values → es ≡ values.items →
+    height (tree_of e) ≡ heights (exprs (map tree_of es)) + 1
+joined_height e es values is he = ap (λ z. height (tree_of z)) is ∙ ap height (joined_str_tree values)
+    ∙ (λ i. heights (exprs (map tree_of (sym he i))) + 1)
 
 -- ---- What is no expression.
 

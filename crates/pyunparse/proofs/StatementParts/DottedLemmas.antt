@@ -8,13 +8,12 @@ use Rattle.std.proofs.lemmas.Str.Pattern.{IsSplitOnceResult, split_parts}
 use denote.Ref.{Bor}
 use Rattle.pylex_lexeme.specs.declared.kinds.Exact.TheVariants.{Dot}
 use Rattle.pytree_node.specs.Trees.{Identifier}
-use Rattle.pyunparse_text.specs.Spacing.{Piece}
 use Rattle.pytoken.specs.Terminals.{in_form, Op}
-use Rattle.pyunparse_text.specs.Pieces.{piece}
+use Rattle.pyunparse_text.specs.Pieces.{Sited, piece, sited}
 use Rattle.pygrammar.specs.DottedNames.{lengthen, names_in}
 use Rattle.pyunparse_text.specs.Statements.{dotted, dotted_names, dotted_rest}
 use Rattle.pyunparse_text.specs.Written.{tight}
-use Rattle.pyunparse_text.specs.Folds.{in_utf8, puts}
+use Rattle.pyunparse_text.specs.Folds.{puts, sited_in_utf8}
 
 -- ---- The names of a text.
 
@@ -69,18 +68,18 @@ sides part tail u =
     )
 
 around_point : (close : Bool) (text part tail : List ℕ) → IsUtf8 text → text ≡ part ++ (46 ∷ tail) → HasNoPoint part →
-    dotted piece close (chars text) ≡ piece (in_form (chars part)) close false ∷ (tight piece Dot ∷ dotted piece false (chars tail))
+    dotted piece close (chars text) ≡ sited (in_form (chars part)) close false ∷ (tight piece Dot ∷ dotted piece false (chars tail))
 around_point close text part tail u e h =
     let v = (sides part tail (subst IsUtf8 e u)).0 in
     ap (λ z. dotted piece close (chars z)) e
     ∙ ap (λ z. dotted piece close z) (chars_around part tail v)
     ∙ ap (dotted_names piece close) (names_around (chars part) (chars tail) (pointless part v h))
-    ∙ ap (λ z. piece (in_form (chars part)) close false ∷ z) (behind_point (chars tail))
+    ∙ ap (λ z. sited (in_form (chars part)) close false ∷ z) (behind_point (chars tail))
 
 -- a text that is split at its first point, or has none
 pub at_point : (close : Bool) (text : List ℕ) (r : Option (Bor (List ℕ) × Bor (List ℕ))) → IsUtf8 text → IsSplitOnceResult 46 text r →
-    MatchOption r (dotted piece close (chars text) ≡ piece (in_form (chars text)) close false ∷ [])
-    (λ x. IsUtf8 x.0.now × IsUtf8 x.1.now × (dotted piece close (chars text) ≡ piece (in_form (chars x.0.now)) close false ∷ (tight piece Dot ∷ dotted piece false (chars x.1.now))))
+    MatchOption r (dotted piece close (chars text) ≡ sited (in_form (chars text)) close false ∷ [])
+    (λ x. IsUtf8 x.0.now × IsUtf8 x.1.now × (dotted piece close (chars text) ≡ sited (in_form (chars x.0.now)) close false ∷ (tight piece Dot ∷ dotted piece false (chars x.1.now))))
 at_point close text None u h = ap (dotted_names piece close) (one_name (chars text) (pointless text u h))
 at_point close text (Some x) u h =
     let is = (split_parts 46 text (Some x) h (omega arith)).0 in
@@ -89,17 +88,17 @@ at_point close text (Some x) u h =
 
 -- ---- They are written.
 
-module _ {S : Type 0} (after : S → Piece → S) (base o : S) (close : Bool) (text : List ℕ) where
+module _ {S : Type 0} (after : S → Sited → S) (base o : S) (close : Bool) (text : List ℕ) where
   -- a name and the point behind it
   pub name_on : (part tail : List ℕ) (o1 o2 : S) →
-      dotted piece close (chars text) ≡ piece (in_form (chars part)) close false ∷ (tight piece Dot ∷ dotted piece false (chars tail)) →
+      dotted piece close (chars text) ≡ sited (in_form (chars part)) close false ∷ (tight piece Dot ∷ dotted piece false (chars tail)) →
       puts after o (dotted piece close (chars text)) ≡ base →
-      o1 ≡ puts after o (piece (in_form (chars part)) close false ∷ []) → o2 ≡ puts after o1 (piece (Op Dot) true true ∷ []) →
+      o1 ≡ puts after o (sited (in_form (chars part)) close false ∷ []) → o2 ≡ puts after o1 (sited (Op Dot) true true ∷ []) →
       puts after o2 (dotted piece false (chars tail)) ≡ base
   name_on part tail o1 o2 is so_far e1 e2 =
-      ap (λ z. puts after z (dotted piece false (chars tail))) (e2 ∙ ap (λ z. after z (in_utf8 (tight piece Dot))) e1) ∙ ap (puts after o) (sym is) ∙ so_far
+      ap (λ z. puts after z (dotted piece false (chars tail))) (e2 ∙ ap (λ z. after z (sited_in_utf8 (tight piece Dot))) e1) ∙ ap (puts after o) (sym is) ∙ so_far
 
   -- the last one
-  pub name_ends : dotted piece close (chars text) ≡ piece (in_form (chars text)) close false ∷ [] → puts after o (dotted piece close (chars text)) ≡ base →
-      puts after o (piece (in_form (chars text)) close false ∷ []) ≡ base
+  pub name_ends : dotted piece close (chars text) ≡ sited (in_form (chars text)) close false ∷ [] → puts after o (dotted piece close (chars text)) ≡ base →
+      puts after o (sited (in_form (chars text)) close false ∷ []) ≡ base
   name_ends is so_far = ap (puts after o) (sym is) ∙ so_far

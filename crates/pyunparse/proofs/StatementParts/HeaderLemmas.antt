@@ -15,8 +15,7 @@ use Rattle.pygrammar.specs.declared.levels.Level.TheVariants.{Named, Subject}
 use Rattle.pygrammar.specs.declared.pattern_levels.PatternLevel.TheVariants.{Patterns}
 use Rattle.pygrammar.specs.Forms.{case_name, match_name}
 use Rattle.pygrammar.specs.Lines.{case_header, match_header}
-use Rattle.pyunparse_text.specs.Spacing.{Piece}
-use Rattle.pyunparse_text.specs.Pieces.{piece, pieces}
+use Rattle.pyunparse_text.specs.Pieces.{Sited, piece, pieces, sited}
 use Rattle.pyunparse_text.specs.Statements.{bases, behind, header_tokens}
 use Rattle.pyunparse_text.specs.Written.{by_name, each, enclosed, free, listed, tight, trailing, word, written}
 use Rattle.pyunparse_text.specs.WrittenPatterns.{written_pattern}
@@ -33,13 +32,13 @@ none_each [] = refl
 none_each (e ∷ es) = sym (not_zero (length es))
 
 -- bases, and keywords behind them
-pub bases_listed : {S : Type 0} (after : S → Piece → S) (s s1 : S) (es : List given.Expr) (ks : Keywords) (b : Bool) →
+pub bases_listed : {S : Type 0} (after : S → Sited → S) (s s1 : S) (es : List given.Expr) (ks : Keywords) (b : Bool) →
     b ≡ (length es == 0) → s1 ≡ puts after s (members true (trailing piece Comma) (each piece Named (exprs (map tree_of es)))) →
     puts after s1 (members b (trailing piece Comma) (by_name piece ks)) ≡ puts after s (listed piece (each piece Named (exprs (map tree_of es)) ++ by_name piece ks))
 bases_listed after s s1 es ks b h e =
-    let t : Piece = trailing piece Comma in
-    let X : List (List Piece) = each piece Named (exprs (map tree_of es)) in
-    let Y : List (List Piece) = by_name piece ks in
+    let t : Sited = trailing piece Comma in
+    let X : List (List Sited) = each piece Named (exprs (map tree_of es)) in
+    let Y : List (List Sited) = by_name piece ks in
     two after s (members true t X) (members b t Y) s1 e
     ∙ ap (λ z. puts after s (members true t X ++ members z t Y)) (h ∙ sym (none_each es))
     ∙ ap (puts after s) (sym (members_both true t X Y))
@@ -70,13 +69,13 @@ unfolding chars
 case_text = refl
 
 -- the headers that begin with them
-module _ {S : Type 0} (after : S → Piece → S) (s : S) where
-  pub match_on : (e : plain.Expr) (s1 s2 : S) → s1 ≡ puts after s (piece (in_form (chars (109 ∷ 97 ∷ 116 ∷ 99 ∷ 104 ∷ []))) false false ∷ []) → s2 ≡ puts after s1 (pieces Subject e) →
+module _ {S : Type 0} (after : S → Sited → S) (s : S) where
+  pub match_on : (e : plain.Expr) (s1 s2 : S) → s1 ≡ puts after s (sited (in_form (chars (109 ∷ 97 ∷ 116 ∷ 99 ∷ 104 ∷ []))) false false ∷ []) → s2 ≡ puts after s1 (pieces Subject e) →
       puts after s2 (trailing piece Colon ∷ []) ≡ puts after s (with_colon (match_header e))
   match_on e s1 s2 e1 e2 =
       three after s (free piece (in_form match_name) ∷ []) (pieces Subject e) (trailing piece Colon ∷ []) s1 s2 (e1 ∙ ap (λ z. puts after s (free piece (in_form z) ∷ [])) match_text) e2
 
-  pub case_on : (p : plain.Pattern) (g : Option plain.Expr) (s1 s2 s3 : S) → s1 ≡ puts after s (piece (in_form (chars (99 ∷ 97 ∷ 115 ∷ 101 ∷ []))) false false ∷ []) →
+  pub case_on : (p : plain.Pattern) (g : Option plain.Expr) (s1 s2 s3 : S) → s1 ≡ puts after s (sited (in_form (chars (99 ∷ 97 ∷ 115 ∷ 101 ∷ []))) false false ∷ []) →
       s2 ≡ puts after s1 (written_pattern piece Patterns p) → s3 ≡ puts after s2 (behind piece (word piece Key.If) Named g) →
       puts after s3 (trailing piece Colon ∷ []) ≡ puts after s (with_colon (case_header p g))
   case_on p g s1 s2 s3 e1 e2 e3 =

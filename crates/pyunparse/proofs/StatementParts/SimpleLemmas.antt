@@ -19,9 +19,8 @@ use Rattle.pytree_node.specs.TreeOf.{alias_of, boxed_of, option_of, stmt_of, tre
 use Rattle.pytree_node.proofs.Callers.StmtShapes.{ann_assign_tree, assert_tree, assign_tree, aug_assign_tree, break_tree, continue_tree, delete_tree, expr_stmt_tree, global_tree, import_from_tree, import_tree, nonlocal_tree, pass_tree, raise_tree, return_tree, type_alias_tree}
 use Rattle.pygrammar.specs.declared.levels.Level.TheVariants as Level
 use Rattle.pygrammar.specs.Forms.{type_name}
-use Rattle.pyunparse_text.specs.Spacing.{Piece}
 use Rattle.pytoken.specs.Terminals.{in_form, Op}
-use Rattle.pyunparse_text.specs.Pieces.{piece, pieces}
+use Rattle.pyunparse_text.specs.Pieces.{Sited, piece, pieces, sited}
 use Rattle.pyunparse_text.specs.Statements.{annotated, annotated_in_brackets, augmented_sign, behind, dotted_alias, one_name, perhaps_written, simple_tokens, targets, type_params}
 use Rattle.pyunparse_text.specs.Written.{each, free, listed, trailing, word, written}
 use Rattle.pyunparse_text.specs.Folds.{closed, opened, puts}
@@ -39,7 +38,7 @@ annotated_parts (plain.Name x c) false = refl
 annotated_parts (plain.Name x c) true = append-nil (pieces Level.Primary (plain.Name x c))
 annotated_parts t simple = append-nil (pieces Level.Primary t)
 
-module _ {S : Type 0} (after : S → Piece → S) (s : S) where
+module _ {S : Type 0} (after : S → Sited → S) (s : S) where
   pub raise_on : (e c : Option plain.Expr) (s1 s2 : S) → s1 ≡ puts after s (word piece Key.Raise ∷ []) → s2 ≡ puts after s1 (perhaps_written piece Level.Expression e) →
       puts after s2 (behind piece (word piece Key.From) Level.Expression c) ≡ puts after s (simple_tokens piece (plain.Raise e c))
   raise_on e c s1 s2 e1 e2 = three after s (word piece Key.Raise ∷ []) (perhaps_written piece Level.Expression e) (behind piece (word piece Key.From) Level.Expression c) s1 s2 e1 e2
@@ -73,7 +72,7 @@ module _ {S : Type 0} (after : S → Piece → S) (s : S) where
         ∙ same (plain.Assign (map tree_of ts.items) (tree_of e)) (ap stmt_of is ∙ assign_tree ts e)
 
     pub augmented_on : (t : Expr) (o : Operator) (e : Expr) (x : Exact) (s1 s2 : S) → r ≡ statement.AugAssign t o e → x ≡ augmented_sign o →
-        s1 ≡ puts after s (pieces Level.Primary (tree_of t)) → s2 ≡ puts after s1 (piece (Op x) false false ∷ []) →
+        s1 ≡ puts after s (pieces Level.Primary (tree_of t)) → s2 ≡ puts after s1 (sited (Op x) false false ∷ []) →
         puts after s2 (pieces Level.Value (tree_of e)) ≡ puts after s (simple_tokens piece (stmt_of r))
     augmented_on t o e x s1 s2 is sign e1 e2 =
         three after s (pieces Level.Primary (tree_of t)) (free piece (Op (augmented_sign o)) ∷ []) (pieces Level.Value (tree_of e)) s1 s2 e1 (e2 ∙ ap (λ z. puts after s1 (free piece (Op z) ∷ [])) sign)
@@ -88,7 +87,7 @@ module _ {S : Type 0} (after : S → Piece → S) (s : S) where
         ∙ same (plain.AnnAssign (tree_of t.value) (tree_of a.value) (boxed_of v) simple) (ap stmt_of is ∙ ann_assign_tree t a v simple)
 
     pub alias_on : (t : Expr) (ps : Vec TypeParam Global) (e : Expr) (qs : List TypeParam) (s1 s2 s3 s4 : S) → r ≡ statement.TypeAlias t ps e → qs ≡ ps.items →
-        s1 ≡ puts after s (piece (in_form (chars (116 ∷ 121 ∷ 112 ∷ 101 ∷ []))) false false ∷ []) → s2 ≡ puts after s1 (pieces Level.Primary (tree_of t)) →
+        s1 ≡ puts after s (sited (in_form (chars (116 ∷ 121 ∷ 112 ∷ 101 ∷ []))) false false ∷ []) → s2 ≡ puts after s1 (pieces Level.Primary (tree_of t)) →
         s3 ≡ puts after s2 (type_params piece (map type_param_of qs)) → s4 ≡ puts after s3 (free piece (Op Equal) ∷ []) →
         puts after s4 (pieces Level.Expression (tree_of e)) ≡ puts after s (simple_tokens piece (stmt_of r))
     alias_on t ps e qs s1 s2 s3 s4 is same_parameters e1 e2 e3 e4 =

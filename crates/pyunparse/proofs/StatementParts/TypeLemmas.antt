@@ -8,16 +8,15 @@ use Rattle.pytree_node.specs.declared.statements.TypeParam.TheVariants as parame
 use Rattle.pytree_node.specs.Trees.{Identifier}
 use Rattle.pytree_node.specs.TreeOf.{option_of, type_param_of}
 use Rattle.pygrammar.specs.declared.levels.Level.TheVariants.{Expression}
-use Rattle.pyunparse_text.specs.Spacing.{Piece}
 use Rattle.pytoken.specs.Terminals.{in_form}
-use Rattle.pyunparse_text.specs.Pieces.{piece}
+use Rattle.pyunparse_text.specs.Pieces.{Sited, piece}
 use Rattle.pyunparse_text.specs.Statements.{behind, type_param, type_params}
 use Rattle.pyunparse_text.specs.Written.{free, leading, listed, tight, trailing}
 use Rattle.pyunparse_text.specs.Folds.{puts}
 use Rattle.pyunparse_text.proofs.Callers.Writing.{not_zero}
 use Rattle.pyunparse.proofs.Sequences.FoldLemmas.{enclosed_on, two}
 
-module _ {S : Type 0} (after : S → Piece → S) (s : S) where
+module _ {S : Type 0} (after : S → Sited → S) (s : S) where
   module _ (p : TypeParam) where
     pub variable_on : (x : Identifier) (bound : Option Expr) (s1 : S) → p ≡ parameter.TypeVar x bound → s1 ≡ puts after s (free piece (in_form x) ∷ []) →
         puts after s1 (behind piece (trailing piece Colon) Expression (option_of bound)) ≡ puts after s (type_param piece (type_param_of p))

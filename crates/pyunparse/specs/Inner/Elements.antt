@@ -4,12 +4,11 @@ use Rattle.pylex_lexeme.specs.declared.kinds.Exact.TheVariants.{Comma}
 use Rattle.pytree_node.specs.Trees.{Exprs, no_exprs, an_expr}
 use Rattle.pygrammar.specs.declared.levels.Level.{Level}
 use Rattle.pygrammar.specs.declared.levels.Level.TheVariants.{Elem, Part}
-use Rattle.pyunparse_text.specs.Spacing.{Piece}
 use Rattle.pyunparse_text.specs.Written.{lone_star, trailing}
-use Rattle.pyunparse_text.specs.Pieces.{piece}
+use Rattle.pyunparse_text.specs.Pieces.{Sited, piece}
 
 -- the comma behind an element that stands alone
-abbrev pub last : Bool → List Piece
+abbrev pub last : Bool → List Sited
 last true = trailing piece Comma ∷ []
 last false = []
 

@@ -2,7 +2,8 @@
 -- places of cases, the heights of forms, and the brackets of lines.
 --
 -- Carries: what crates above may cite.
-use Rattle.pyunparse_text.specs.Laws.{ModulesComeBack, CasesStandInMatches, LinesAreOneModule, AcceptedComeBack, FormsAreLow, ModulesAreLow, LineBracketsAreWithinHeight}
+use Rattle.pyunparse_text.specs.Laws.{ModulesComeBack, CasesStandInMatches, LinesAreOneModule, AcceptedComeBack, FormsAreLow, ModulesAreLow}
+use Rattle.pyunparse_text.specs.Laws.{LineBracketsAreWithinHeight}
 use Rattle.pyunparse_text.proofs.Modules.Law
 use Rattle.pyunparse_text.proofs.Modules.Places
 use Rattle.pyunparse_text.proofs.Modules.Low

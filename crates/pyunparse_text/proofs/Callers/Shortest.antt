@@ -1,19 +1,21 @@
--- On: expressions, targets, parameters and arguments are written in the fewest terminals that give
+-- On: expressions, targets, parameters and arguments are written in the fewest tokens that give
 -- them, with no more brackets open at once than they are high.
 --
 -- Carries: what pyunparse cites.
-use Rattle.std.proofs.Common.{◌≤◌, List, ◌++◌, length, subst}
+use Rattle.std.proofs.Common.{◌≤◌, List, ◌++◌, subst}
 use Rattle.pytree_node.specs.Trees.{Exprs, Keywords}
 use Rattle.pytoken.specs.Terminals.{Terminal}
 use Rattle.pygrammar.specs.declared.levels.Level.TheVariants.{Named}
 use Rattle.pygrammar.specs.Entries.{Entry, Argument}
 use Rattle.pygrammar.specs.Arguments.{positional, keywords}
 use Rattle.pygrammar.specs.Grammar.{Listing}
+use Rattle.pygrammar.specs.OpenStrings.{token_count}
 use Rattle.pygrammar.specs.ArgumentLists.{AreArguments}
 use Rattle.pygrammar.proofs.Callers.Law.{reader_is_exact}
 use Rattle.pyunparse_text.specs.Written.{listed, each, by_name}
 use Rattle.pyunparse_text.specs.Terminals.{terminal, terminals}
-use Rattle.pyunparse_text.specs.Laws.{ExpressionsAreShortest, ExpressionsComeBack, TargetsAreShortest, ParametersAreShortest, ArgumentsAreShortest, BracketsAreWithinHeight}
+use Rattle.pyunparse_text.specs.Laws.{ExpressionsAreShortest, ExpressionsComeBack, TargetsAreShortest, ParametersAreShortest, ArgumentsAreShortest}
+use Rattle.pyunparse_text.specs.Laws.{BracketsAreWithinHeight}
 use Rattle.pyunparse_text.proofs.Fewest.Induction.{fewest}
 use Rattle.pyunparse_text.proofs.Fewest.Places.{target_law, single_target_law, del_target_law, item_target_law, parameters_law, bases_law}
 use Rattle.pyunparse_text.proofs.Fewest.Flat.{brackets_height}
@@ -22,7 +24,8 @@ pub expressions_are_shortest : ExpressionsAreShortest
 expressions_are_shortest l ts e p = record { gives = (fewest p).0; least = λ us q. (fewest q).1 }
 
 pub expressions_come_back : ExpressionsComeBack
-expressions_come_back l e = (λ given. (reader_is_exact l (terminals l e) e).0 (fewest given.1).0, λ read. (terminals l e, (reader_is_exact l (terminals l e) e).1 read))
+expressions_come_back l e =
+    (λ given. (reader_is_exact l (terminals l e) e).0 (fewest given.1).0, λ read. (terminals l e, (reader_is_exact l (terminals l e) e).1 read))
 
 pub targets_are_shortest : TargetsAreShortest
 targets_are_shortest ts s = record {
@@ -41,7 +44,7 @@ parameters_are_shortest annotated ts a p = record {
 -- the arguments that some list gives are written
 record Argued (us : List Terminal) (es : Exprs) (ks : Keywords) : Type 0 where
   gives : AreArguments (listed terminal (each terminal Named es ++ by_name terminal ks)) (es, ks)
-  short : length (listed terminal (each terminal Named es ++ by_name terminal ks)) ≤ length us
+  short : token_count (listed terminal (each terminal Named es ++ by_name terminal ks)) ≤ token_count us
 
 argued_from : {us : List Terminal} {fs : List Entry} → Listing Argument us fs → Argued us (positional fs) (keywords fs)
 argued_from p = let (entries, listing, order, same_args, same_keywords, short) = bases_law p in record {

@@ -2,7 +2,8 @@
 --
 -- Carries: call_claim, sorted, sorted_in_order, sorted_positional and 7 more, for Places,
 -- Induction, Derived. On: Entries, Claims, Reach, Less and 1 more.
-use Rattle.std.proofs.Common.{◌≡◌, refl, sym, ap, subst, ◌∙◌, ◌+◌, ◌≤◌, arith, List, [], ◌∷◌, ◌++◌, length, Some, None, Bool, true, false, cond, length-append}
+use Rattle.std.proofs.Common.{◌≡◌, refl, sym, ap, subst, ◌∙◌, ◌+◌, ◌≤◌, arith, List, [], ◌∷◌, ◌++◌, length, Some, None, Bool, true, false, cond}
+use Rattle.std.proofs.Common.{length-append}
 use Rattle.std.specs.Prelude.{map}
 use Rattle.pylex_lexeme.specs.declared.kinds.Exact.TheVariants.{LPar, RPar, Comma, Star, Equal, DoubleStar}
 use Rattle.pytree_node.specs.declared.operators.Context.TheVariants.{Load}
@@ -13,13 +14,14 @@ use Rattle.pytoken.specs.Terminals.{Terminal, Op, in_form}
 use Rattle.pygrammar.specs.Entries.{Item, Argument, Entry, Single, Paired, Spread, Doubled, Keyed, Plain, Slashed, Bare, Gathered, Collected}
 use Rattle.pygrammar.specs.Arguments.{in_order, positional, keywords, called}
 use Rattle.pygrammar.specs.Grammar as G
-use Rattle.pyunparse_text.specs.Written.{separated, bracketed, written, each, by_name, clauses}
+use Rattle.pyunparse_text.specs.Written.{Maker, separated, free, leading, tight, bracketed, written, each, by_name, clauses}
 use Rattle.pyunparse_text.specs.Terminals.{terminal}
-use Rattle.pyunparse_text.proofs.Fewest.Reach.{length_bracketed, deep_primary}
+use Rattle.pyunparse_text.proofs.Fewest.Counted.{one as marks, AtLeast, both, fewer, in_brackets}
+use Rattle.pyunparse_text.proofs.Fewest.Reach.{deep_primary}
 use Rattle.pyunparse_text.proofs.Fewest.Less.{total, length_separated}
 use Rattle.pyunparse_text.proofs.Fewest.Claims.{Inside, Claim, here, node}
 use Rattle.pyunparse_text.proofs.Fewest.Clauses.{lone_text, lone_length}
-use Rattle.pyunparse_text.proofs.Fewest.Entries.{entry, Standing, Standings, none, one, ListingClaim, listing_of}
+use Rattle.pyunparse_text.proofs.Fewest.Entries.{entry, entry_in, entry_marks, Standing, Standings, none, one, ListingClaim, listing_of}
 
 -- plain and starred ones, then the others
 abbrev pub firsts : List Entry → List Entry
@@ -102,28 +104,33 @@ map_append : {A B : Type 0} (f : A → B) (xs ys : List A) → map f (xs ++ ys) 
 map_append f [] ys = refl
 map_append f (x ∷ xs) ys = ap (λ z. f x ∷ z) (map_append f xs ys)
 
-firsts_written : (es : List Entry) → each terminal Named (positional es) ≡ map (entry Argument) (firsts es)
+firsts_written : {A : Type 0} (make : Maker A) (es : List Entry) → each make Named (positional es) ≡ map (entry_in make Argument) (firsts es)
 unfolding each written
-firsts_written [] = refl
-firsts_written (Single e ∷ es) = ap (λ z. written terminal Named e ∷ z) (firsts_written es)
-firsts_written (Spread e ∷ es) = ap (λ z. (Op Star ∷ written terminal Expression e) ∷ z) (firsts_written es)
-firsts_written (_ ∷ es) = firsts_written es
+firsts_written make [] = refl
+firsts_written make (Single e ∷ es) = ap (λ z. written make Named e ∷ z) (firsts_written make es)
+firsts_written make (Spread e ∷ es) = ap (λ z. (leading make Star ∷ written make Expression e) ∷ z) (firsts_written make es)
+firsts_written make (_ ∷ es) = firsts_written make es
 
-lasts_written : (es : List Entry) → by_name terminal (keywords es) ≡ map (entry Argument) (lasts es)
+lasts_written : {A : Type 0} (make : Maker A) (es : List Entry) → by_name make (keywords es) ≡ map (entry_in make Argument) (lasts es)
 unfolding by_name
-lasts_written [] = refl
-lasts_written (Keyed x e ∷ es) = ap (λ z. (in_form x ∷ (Op Equal ∷ written terminal Expression e)) ∷ z) (lasts_written es)
-lasts_written (Doubled e ∷ es) = ap (λ z. (Op DoubleStar ∷ written terminal Expression e) ∷ z) (lasts_written es)
-lasts_written (_ ∷ es) = lasts_written es
+lasts_written make [] = refl
+lasts_written make (Keyed x e ∷ es) = ap (λ z. (free make (in_form x) ∷ (tight make Equal ∷ written make Expression e)) ∷ z) (lasts_written make es)
+lasts_written make (Doubled e ∷ es) = ap (λ z. (leading make DoubleStar ∷ written make Expression e) ∷ z) (lasts_written make es)
+lasts_written make (_ ∷ es) = lasts_written make es
 
-pub sorted_written : (es : List Entry) → each terminal Named (positional es) ++ by_name terminal (keywords es) ≡ map (entry Argument) (sorted es)
-sorted_written es = rw (firsts_written es, lasts_written es) (sym (map_append (entry Argument) (firsts es) (lasts es)))
+pub sorted_written : {A : Type 0} (make : Maker A) (es : List Entry)
+    → each make Named (positional es) ++ by_name make (keywords es) ≡ map (entry_in make Argument) (sorted es)
+sorted_written make es =
+    ap (λ z. z ++ by_name make (keywords es)) (firsts_written make es)
+    ∙ ap (λ z. map (entry_in make Argument) (firsts es) ++ z) (lasts_written make es)
+    ∙ sym (map_append (entry_in make Argument) (firsts es) (lasts es))
 
-total_append : (xs ys : List (List Terminal)) → total (xs ++ ys) ≡ total xs + total ys
+total_append : (xs ys : List (List (Unit {0}))) → total (xs ++ ys) ≡ total xs + total ys
 total_append [] ys = omega arith
 total_append (x ∷ xs) ys = omega (arith, total_append xs ys)
 
-sorted_total : (es : List Entry) → total (map (entry Argument) (firsts es)) + total (map (entry Argument) (lasts es)) ≤ total (map (entry Argument) es)
+sorted_total : (es : List Entry)
+    → total (map (entry_marks Argument) (firsts es)) + total (map (entry_marks Argument) (lasts es)) ≤ total (map (entry_marks Argument) es)
 sorted_total [] = omega arith
 sorted_total (Single e ∷ es) = omega (arith, sorted_total es)
 sorted_total (Spread e ∷ es) = omega (arith, sorted_total es)
@@ -131,8 +138,19 @@ sorted_total (Keyed x e ∷ es) = omega (arith, sorted_total es)
 sorted_total (Doubled e ∷ es) = omega (arith, sorted_total es)
 sorted_total (_ ∷ es) = omega (arith, sorted_total es)
 
-pub sorted_short : (es : List Entry) → length (separated (Op Comma) (map (entry Argument) (sorted es))) ≤ length (separated (Op Comma) (map (entry Argument) es))
-sorted_short es = rw (map_append (entry Argument) (firsts es) (lasts es)) (omega (arith, length_separated (Op Comma) (map (entry Argument) (firsts es) ++ map (entry Argument) (lasts es)), length_separated (Op Comma) (map (entry Argument) es), total_append (map (entry Argument) (firsts es)) (map (entry Argument) (lasts es)), sorted_total es))
+pub sorted_short : (es : List Entry)
+    → length (separated tt (map (entry_marks Argument) (sorted es))) ≤ length (separated tt (map (entry_marks Argument) es))
+sorted_short es =
+    rw (map_append (entry_marks Argument) (firsts es) (lasts es))
+    (omega (
+      arith,
+      length_separated tt (map (entry_marks Argument) (firsts es) ++ map (entry_marks Argument)
+          (lasts es)),
+      length_separated tt (map (entry_marks Argument) es),
+      total_append (map (entry_marks Argument) (firsts es))
+          (map (entry_marks Argument) (lasts es)),
+      sorted_total es,
+    ))
 
 pub appended : {i : Item} {es fs : List Entry} → Standings i es → Standings i fs → Standings i (es ++ fs)
 appended none r = r
@@ -175,13 +193,35 @@ lone_inside none = tt
 lone_inside (one {e = e} {es = es} s r) = lone_grown e es s (lone_inside r)
 
 -- a call by its parts
-lone_node : (f e : Expr) (cs : Comprehensions) (ts : List Terminal) → G.Derives Primary (written terminal Primary f) f → Inside (Trees.GeneratorExp e cs) → length (written terminal Primary f) + length (separated (Op Comma) (each terminal Named (an_expr (Trees.GeneratorExp e cs) no_exprs) ++ by_name terminal no_keyword)) + 2 ≤ length ts → Claim Primary ts (Trees.Call f (an_expr (Trees.GeneratorExp e cs) no_exprs) no_keyword)
-lone_node f e cs ts p (gs, q, d, c) s = node Primary _ (written terminal Primary f ++ (Op LPar ∷ (written terminal Named e ++ (clauses terminal cs ++ (Op RPar ∷ []))))) ts (lone_text f e cs) refl tt (subst (λ z. G.Derives Primary (written terminal Primary f ++ (Op LPar ∷ (written terminal Named e ++ (clauses terminal cs ++ (Op RPar ∷ []))))) (Trees.Call f (an_expr (Trees.GeneratorExp e z) no_exprs) no_keyword)) (sym q) (G.call_generator p d c)) deep_primary.named (omega (arith, s, lone_length e cs, length-append (written terminal Primary f) (Op LPar ∷ (written terminal Named e ++ (clauses terminal cs ++ (Op RPar ∷ []))))))
+abbrev argument_marks : Exprs → Keywords → List (Unit {0})
+argument_marks zs ks = separated tt (each marks Named zs ++ by_name marks ks)
 
-call_node : (f : Expr) (zs : Exprs) (ks : Keywords) (ts : List Terminal) → G.Derives Primary (written terminal Primary f) f → LoneInside zs → G.Derives Primary (written terminal Primary f ++ bracketed terminal (separated (Op Comma) (each terminal Named zs ++ by_name terminal ks))) (Trees.Call f zs ks) → length (written terminal Primary f) + length (separated (Op Comma) (each terminal Named zs ++ by_name terminal ks)) + 2 ≤ length ts → Claim Primary ts (Trees.Call f zs ks)
+lone_node : (f e : Expr) (cs : Comprehensions) (ts : List Terminal) → G.Derives Primary (written terminal Primary f) f
+    → Inside (Trees.GeneratorExp e cs)
+    → AtLeast (written marks Primary f ++ (tt ∷ (argument_marks (an_expr (Trees.GeneratorExp e cs) no_exprs) no_keyword ++ (tt ∷ [])))) ts → Claim Primary ts (Trees.Call f (an_expr (Trees.GeneratorExp e cs) no_exprs) no_keyword)
+lone_node f e cs ts p (gs, q, d, c) s =
+    let ms : List (Unit {0}) = written marks Named e ++ (clauses marks cs ++ (tt ∷ [])) in
+    let xs : List (Unit {0}) = argument_marks (an_expr (Trees.GeneratorExp e cs) no_exprs) no_keyword in
+    node Primary _ (written terminal Primary f ++ (Op LPar ∷ (written terminal Named e ++ (clauses terminal cs ++ (Op RPar ∷ []))))) ts
+    (written marks Primary f ++ (tt ∷ ms))
+    (lone_text terminal f e cs) (lone_text marks f e cs Primary) refl tt
+    (subst (λ z. G.Derives Primary (written terminal Primary f ++ (Op LPar ∷ (written terminal Named e ++ (clauses terminal cs ++ (Op RPar ∷ [])))))
+    (Trees.Call f (an_expr (Trees.GeneratorExp e z) no_exprs) no_keyword)) (sym q) (G.call_generator p d c)) deep_primary.named
+    (fewer (omega (
+      arith,
+      lone_length e cs,
+      length-append (written marks Primary f) (tt ∷ ms),
+      length-append (written marks Primary f)
+          (tt ∷ (xs ++ (tt ∷ []))),
+      length-append xs (tt ∷ []),
+    )) s)
+
+call_node : (f : Expr) (zs : Exprs) (ks : Keywords) (ts : List Terminal) → G.Derives Primary (written terminal Primary f) f → LoneInside zs
+    → G.Derives Primary (written terminal Primary f ++ bracketed terminal (separated (Op Comma) (each terminal Named zs ++ by_name terminal ks))) (Trees.Call f zs ks)
+    → AtLeast (written marks Primary f ++ (tt ∷ (argument_marks zs ks ++ (tt ∷ [])))) ts → Claim Primary ts (Trees.Call f zs ks)
 unfolding written
 call_node f (an_expr (Trees.GeneratorExp e cs) no_exprs) no_keyword ts p i r s = lone_node f e cs ts p i s
-call_node f zs ks ts p i r s = node Primary _ _ ts (λ m. refl) refl tt r deep_primary.named (omega (arith, s, length-append (written terminal Primary f) (bracketed terminal (separated (Op Comma) (each terminal Named zs ++ by_name terminal ks))), length_bracketed (separated (Op Comma) (each terminal Named zs ++ by_name terminal ks))))
+call_node f zs ks ts p i r s = node Primary _ _ ts _ (λ m. refl) refl refl tt r deep_primary.named s
 
 pub called_is : (f e : Expr) (es : List Entry) → called f es ≡ Some e → Trees.Call f (positional es) (keywords es) ≡ e
 called_is f e es h = by (in_order false false es) h
@@ -193,10 +233,12 @@ called_is f e es h = by (in_order false false es) h
 called_sorted : (f : Expr) (es : List Entry) → called f (sorted es) ≡ Some (Trees.Call f (positional es) (keywords es))
 called_sorted f es = rw (sorted_in_order es es, sorted_positional es es, sorted_keywords es es) refl
 
-pub call_claim : {ts us : List Terminal} {f e : Expr} {es : List Entry} → Claim Primary ts f → ListingClaim Argument us es → called f es ≡ Some e → Claim Primary (ts ++ (Op LPar ∷ (us ++ (Op RPar ∷ [])))) e
+pub call_claim : {ts us : List Terminal} {f e : Expr} {es : List Entry} → Claim Primary ts f → ListingClaim Argument us es → called f es ≡ Some e
+    → Claim Primary (ts ++ (Op LPar ∷ (us ++ (Op RPar ∷ [])))) e
 call_claim {ts} {us} {f} {e} {es} p c h =
-    let q = sorted_written es in
     let d : G.Derives Primary (written terminal Primary f ++ bracketed terminal (separated (Op Comma) (map (entry Argument) (sorted es)))) (Trees.Call f (positional es) (keywords es)) = G.call (here p) (listing_of (appended (firsts_standing c.standing) (lasts_standing c.standing))) (called_sorted f es) in
-    let d2 : G.Derives Primary (written terminal Primary f ++ bracketed terminal (separated (Op Comma) (each terminal Named (positional es) ++ by_name terminal (keywords es)))) (Trees.Call f (positional es) (keywords es)) = subst (λ z. G.Derives Primary (written terminal Primary f ++ bracketed terminal (separated (Op Comma) z)) (Trees.Call f (positional es) (keywords es))) (sym q) d in
-    let s : length (separated (Op Comma) (each terminal Named (positional es) ++ by_name terminal (keywords es))) ≤ length us = subst (λ z. length (separated (Op Comma) z) ≤ length us) (sym q) (omega (arith, sorted_short es, c.short)) in
-    subst (λ x. Claim Primary (ts ++ (Op LPar ∷ (us ++ (Op RPar ∷ [])))) x) (called_is f e es h) (call_node f (positional es) (keywords es) _ (here p) (lone_inside c.standing) d2 (omega (arith, p.short, s, length-append ts (bracketed terminal us), length_bracketed us)))
+    let d2 : G.Derives Primary (written terminal Primary f ++ bracketed terminal (separated (Op Comma) (each terminal Named (positional es) ++ by_name terminal (keywords es)))) (Trees.Call f (positional es) (keywords es)) = subst (λ z. G.Derives Primary (written terminal Primary f ++ bracketed terminal (separated (Op Comma) z)) (Trees.Call f (positional es) (keywords es))) (sym (sorted_written terminal es)) d in
+    let s : AtLeast (argument_marks (positional es) (keywords es)) us =
+    subst (λ z. AtLeast (separated tt z) us) (sym (sorted_written marks es)) (fewer (sorted_short es) c.short) in
+    subst (λ x. Claim Primary (ts ++ (Op LPar ∷ (us ++ (Op RPar ∷ [])))) x) (called_is f e es h)
+    (call_node f (positional es) (keywords es) _ (here p) (lone_inside c.standing) d2 (both p.short (in_brackets LPar RPar s)))

@@ -1,8 +1,11 @@
 -- At every level but Atom no more brackets are open at once than the expression is high.
 --
 -- Carries: brackets_height, for Shortest. On: Reach.
-use Rattle.std.proofs.Common.{◌≡◌, refl, sym, ap, subst, ℕ, zero, suc, ◌+◌, ◌≤◌, arith, List, [], ◌∷◌, ◌++◌, Option, Some, None, Bool, true, false, cond, append_assoc, append-nil}
+use Rattle.std.proofs.Common.{◌≡◌, refl, sym, ap, subst, ℕ, zero, suc, ◌+◌, ◌≤◌, arith, List, [], ◌∷◌, ◌++◌, Option, Some, None, Bool, true, false}
+use Rattle.std.proofs.Common.{cond, append_assoc, append-nil}
 use Rattle.std.specs.Prelude.{max, replicate, map}
+use Rattle.std.proofs.lemmas.Grind.{flat_map-append}
+use Rattle.pyfstring.specs.declared.parts.Conversion.{Conversion}
 use Rattle.pylex_lexeme.specs.declared.kinds.Exact.{Exact}
 use Rattle.pylex_lexeme.specs.declared.kinds.Exact.TheVariants.{LPar, RPar, LSqb, RSqb, LBrace, RBrace, Colon, Comma, Star, Equal, DoubleStar}
 use Rattle.pytree_node.specs.declared.operators.Operator.{Operator}
@@ -14,18 +17,28 @@ use Rattle.pytree_node.specs.declared.operators.BoolOperator.TheVariants as Join
 use Rattle.pytree_node.specs.declared.operators.Comparison.{Comparison}
 use Rattle.pytree_node.specs.declared.operators.Comparison.TheVariants as Is
 use Rattle.pygrammar.specs.declared.levels.Level.{Level}
-use Rattle.pygrammar.specs.declared.levels.Level.TheVariants.{Value, Stars, Named, Expression, Or, Compare, BitOr, Await, Primary, Elem, Slices, Part, Slice}
+use Rattle.pygrammar.specs.declared.levels.Level.TheVariants.{Value, Stars, Named, Expression, Or, Compare, BitOr, Await, Primary, Elem, Slices, Part}
+use Rattle.pygrammar.specs.declared.levels.Level.TheVariants.{Slice}
 use Rattle.pytree_node.specs.Values
 use Rattle.pytree_node.specs.Trees
-use Rattle.pytree_node.specs.Trees.{Expr, Exprs, no_exprs, an_expr, OptionalExpr, absent, present, OptionalExprs, no_optional, an_optional, Comprehensions, no_comprehension, a_comprehension, Keywords, no_keyword, a_keyword, arg, Args, no_arg, an_arg, OptionalArg, absent_arg, present_arg, Arguments, arguments}
+use Rattle.pytree_node.specs.Trees.{Expr, Exprs, no_exprs, an_expr, OptionalExpr, absent, present, OptionalExprs, no_optional, an_optional}
+use Rattle.pytree_node.specs.Trees.{Comprehensions, no_comprehension, a_comprehension, Keywords, no_keyword, a_keyword, arg, Args, no_arg, an_arg}
+use Rattle.pytree_node.specs.Trees.{OptionalArg, absent_arg, present_arg, Arguments, arguments}
 use Rattle.pytoken.specs.Terminals.{Terminal, Op, Word}
 use Rattle.pygrammar.specs.Operators.{below, chain_level, chain_word}
-use Rattle.pytree_height.specs.Heights.{height, heights, optional_height, optional_heights, comprehension_heights, keyword_heights, arg_heights, optional_arg_height, arguments_height}
-use Rattle.pyunparse_text.specs.Levels.{leads, reaches, operator_level, left_level, right_level, operator_sign, unary_level, unary_sign, comparison_signs}
-use Rattle.pyunparse_text.specs.Written.{separated, beside, star_level, some_named, lone_star, element_level, tuple_level, lone_generator, constant_terminal, free, bracketed, fit, with_comma, tuple_of, compared, for_in, behind_equal, with_slash, with_star, written, each, perhaps, suffixed, alone, by_name, written_keys, pairs, clauses, conditions, parameters, names, gathered, defaults}
-use Rattle.pyunparse_text.specs.Terminals.{terminal}
+use Rattle.pytree_height.specs.Heights.{height, heights, optional_height, optional_heights, comprehension_heights, keyword_heights, arg_heights}
+use Rattle.pytree_height.specs.Heights.{optional_arg_height, arguments_height}
+use Rattle.pyunparse_text.specs.Levels.{leads, reaches, operator_level, left_level, right_level, operator_sign, unary_level, unary_sign}
+use Rattle.pyunparse_text.specs.Levels.{comparison_signs}
+use Rattle.pyunparse_text.specs.Written.{separated, beside, star_level, some_named, lone_star, element_level, tuple_level, lone_generator}
+use Rattle.pyunparse_text.specs.Written.{constant_terminal, free, bracketed, fit, with_comma, tuple_of, compared, for_in, behind_equal, with_slash}
+use Rattle.pyunparse_text.specs.Written.{with_star, Element, is_unicode, first_text, joined, field, written, elements_behind, spec_elements, each}
+use Rattle.pyunparse_text.specs.Written.{perhaps, suffixed, alone, by_name, written_keys, pairs, clauses, conditions, parameters, names, gathered}
+use Rattle.pyunparse_text.specs.Written.{defaults}
+use Rattle.pyunparse_text.specs.Terminals.{terminal, element_terminals}
 use Rattle.pyunparse_text.specs.Brackets.{open_after, most_open, brackets}
 use Rattle.pyunparse_text.specs.Laws.{not_atom}
+use Rattle.pyunparse_text.proofs.Fewest.Sizes.{inner}
 use Rattle.pyunparse_text.proofs.Fewest.Reach.{every, implied, fit_within}
 
 -- balanced, with no more than n open at once
@@ -265,35 +278,100 @@ constant_neutral (Values.Bool true) d = refl
 constant_neutral (Values.Bool false) d = refl
 constant_neutral _ d = refl
 
+-- an f-string: the expressions of its fields are in brackets
+string_flat : {n : ℕ} (es : List (Element Terminal)) → Flat n (inner es) → Flat n (terminal.formatted es)
+string_flat {n} es f = plain (λ d. refl) (both f (plain (λ d. refl) (flat_none n)))
+
+joined_flat : {n : ℕ} (b : Bool) (t : List ℕ) (es : List (Element Terminal)) → Flat n (inner es) → Flat n (joined terminal b t es)
+joined_flat false t es f = string_flat (Element.Text false t ∷ es) (plain (λ d. refl) f)
+joined_flat true t es f = plain (λ d. refl) (string_flat (Element.Text false [] ∷ es) (plain (λ d. refl) f))
+
+field_flat : {n : ℕ} (c : Conversion) (ts : List Terminal) (es : List (Element Terminal)) → Flat n ts → Flat (n + 1) (inner es)
+    → Flat (n + 1) (inner (field terminal c ts es))
+field_flat {n} c ts es f g =
+    rw (flat_map-append element_terminals es (Element.End ∷ []))
+    (plain (λ d. refl) (both (pair open_round close_round f) (both g (plain (λ d. refl) (flat_none (n + 1))))))
+
+value_flat : (n : ℕ) (e : Expr) (c : Conversion) (s : OptionalExpr) (es : List (Element Terminal)) → Flat (height e) (written terminal Or e)
+    → Flat (optional_height s) (inner (spec_elements terminal s)) → Flat n (inner es)
+    → max (height e) (optional_height s) + 1 ≤ n → Flat n (inner (field terminal c (written terminal Or e) (spec_elements terminal s) ++ es))
+value_flat n e c s es f g r h =
+    rw (flat_map-append element_terminals (field terminal c (written terminal Or e) (spec_elements terminal s)) es)
+    (both (up (field_flat {n = max (height e) (optional_height s)} c (written terminal Or e) (spec_elements terminal s) (up f (omega arith)) (up g (omega arith))) h) r)
+
 mutual
-  unfolding written each perhaps suffixed alone by_name written_keys pairs clauses conditions parameters names gathered defaults
+  unfolding written elements_behind spec_elements each perhaps suffixed alone by_name written_keys pairs clauses conditions parameters names gathered defaults
 
   pub flat : (l : Level) → not_atom l ≡ true → (e : Expr) → Flat (height e) (written terminal l e)
   flat l a (Trees.Yield e) = fit_flat l Value (plain (λ d. refl) (flat_perhaps Stars refl e))
   flat l a (Trees.YieldFrom e) = fit_flat l Value (plain (λ d. refl) (plain (λ d. refl) (flat Expression refl e)))
   flat l a (Trees.Starred e c) = plain (λ d. refl) (up (flat (star_level l) (star_not_atom l) e) (omega arith))
-  flat l a (Trees.NamedExpr t e) = fit_flat l Named (both (up (flat Primary refl t) (omega arith)) (plain (λ d. refl) (up (flat Expression refl e) (omega arith))))
-  flat l a (Trees.Lambda p e) = fit_flat l Expression (plain (λ d. refl) (both (separated_flat (Op Comma) neutral (all_up (flat_parameters p) (omega arith))) (plain (λ d. refl) (up (flat Expression refl e) (omega arith)))))
-  flat l a (Trees.IfExp x y z) = fit_flat l Expression (both (up (flat Or refl y) (omega arith)) (plain (λ d. refl) (both (up (flat Or refl x) (omega arith)) (plain (λ d. refl) (up (flat Expression refl z) (omega arith))))))
-  flat l a (Trees.BoolOp o es) = fit_flat l (chain_level o) (separated_flat (Word (chain_word o)) (λ d. refl) (flat_each (below (chain_level o)) (chain_not_atom o) es))
+  flat l a (Trees.NamedExpr t e) =
+      fit_flat l Named (both (up (flat Primary refl t) (omega arith)) (plain (λ d. refl) (up (flat Expression refl e) (omega arith))))
+  flat l a (Trees.Lambda p e) =
+      fit_flat l Expression
+      (plain (λ d. refl) (both (separated_flat (Op Comma) neutral (all_up (flat_parameters p) (omega arith)))
+      (plain (λ d. refl) (up (flat Expression refl e) (omega arith)))))
+  flat l a (Trees.IfExp x y z) =
+      fit_flat l Expression
+      (both (up (flat Or refl y) (omega arith))
+      (plain (λ d. refl) (both (up (flat Or refl x) (omega arith)) (plain (λ d. refl) (up (flat Expression refl z) (omega arith))))))
+  flat l a (Trees.BoolOp o es) =
+      fit_flat l (chain_level o) (separated_flat (Word (chain_word o)) (λ d. refl) (flat_each (below (chain_level o)) (chain_not_atom o) es))
   flat l a (Trees.UnaryOp o e) = fit_flat l (unary_level o) (plain (unary_neutral o) (flat (unary_level o) (unary_not_atom o) e))
-  flat l a (Trees.Compare e os es) = fit_flat l Compare (both (up (flat BitOr refl e) (omega arith)) (compared_flat os (all_up (flat_each BitOr refl es) (omega arith))))
-  flat l a (Trees.BinOp x o y) = fit_flat l (operator_level o) (both (up (flat (left_level o) (left_not_atom o) x) (omega arith)) (plain (operator_neutral o) (up (flat (right_level o) (right_not_atom o) y) (omega arith))))
+  flat l a (Trees.Compare e os es) =
+      fit_flat l Compare (both (up (flat BitOr refl e) (omega arith)) (compared_flat os (all_up (flat_each BitOr refl es) (omega arith))))
+  flat l a (Trees.BinOp x o y) =
+      fit_flat l (operator_level o)
+      (both (up (flat (left_level o) (left_not_atom o) x) (omega arith))
+      (plain (operator_neutral o) (up (flat (right_level o) (right_not_atom o) y) (omega arith))))
   flat l a (Trees.Await e) = fit_flat l Await (plain (λ d. refl) (flat Primary refl e))
   flat l a (Trees.Attribute e x c) = fit_flat l Primary (both (flat Primary refl e) (plain (λ d. refl) (plain (λ d. refl) (flat_none (height e)))))
-  flat l a (Trees.Call f es ks) = primary l a (both (up (flat Primary refl f) (omega arith)) (pair {n = max (height f) (max (heights es) (keyword_heights ks))} open_round close_round (if_flat (lone_generator es ks) (up (flat_alone es) (omega arith)) (separated_flat (Op Comma) neutral (all_append (all_up (flat_each Named refl es) (omega arith)) (all_up (flat_by_name ks) (omega arith)))))))
-  flat l a (Trees.Subscript e s c) = primary l a (both (up (flat Primary refl e) (omega arith)) (pair {n = max (height e) (height s)} open_square close_square (up (flat Slices refl s) (omega arith))))
+  flat l a (Trees.Call f es ks) =
+      primary l a
+      (both (up (flat Primary refl f) (omega arith)) (pair {n = max (height f) (max (heights es) (keyword_heights ks))} open_round close_round (if_flat (lone_generator es ks) (up (flat_alone es) (omega arith)) (separated_flat (Op Comma) neutral (all_append (all_up (flat_each Named refl es) (omega arith)) (all_up (flat_by_name ks) (omega arith)))))))
+  flat l a (Trees.Subscript e s c) =
+      primary l a
+      (both (up (flat Primary refl e) (omega arith)) (pair {n = max (height e) (height s)} open_square close_square (up (flat Slices refl s) (omega arith))))
   flat l a (Trees.Name x c) = plain (λ d. refl) (flat_none 1)
   flat l a (Trees.Constant v) = plain (constant_neutral v) (flat_none 1)
-  flat l a (Trees.Tuple es c) = tuple_flat (tuple_level l (some_named es)) (lone_star es) (flat_each (element_level l (some_named es)) (element_not_atom l (some_named es)) es)
+  flat l a (Trees.FormattedValue e c s) =
+      string_flat (field terminal c (written terminal Or e) (spec_elements terminal s))
+      (field_flat c (written terminal Or e) (spec_elements terminal s) (up (flat Or refl e) (omega arith)) (up (flat_spec s) (omega arith)))
+  flat l a (Trees.JoinedStr es) =
+      joined_flat (is_unicode es) (first_text es) (elements_behind terminal false es) (up (flat_behind false es) (omega arith))
+  flat l a (Trees.Tuple es c) =
+      tuple_flat (tuple_level l (some_named es)) (lone_star es) (flat_each (element_level l (some_named es)) (element_not_atom l (some_named es)) es)
   flat l a (Trees.GeneratorExp e gs) = pair open_round close_round (both (up (flat Named refl e) (omega arith)) (up (flat_clauses gs) (omega arith)))
   flat l a (Trees.ListOf es c) = pair open_square close_square (separated_flat (Op Comma) neutral (flat_each Elem refl es))
   flat l a (Trees.ListComp e gs) = pair open_square close_square (both (up (flat Named refl e) (omega arith)) (up (flat_clauses gs) (omega arith)))
-  flat l a (Trees.Dict ks es) = pair open_curly close_curly (separated_flat (Op Comma) neutral (flat_pairs (max (optional_heights ks) (heights es)) (keys_up (flat_keys ks) (omega arith)) es (omega arith)))
-  flat l a (Trees.DictComp k e gs) = pair open_curly close_curly (both (up (flat Expression refl k) (omega arith)) (plain (λ d. refl) (both (up (flat Expression refl e) (omega arith)) (up (flat_clauses gs) (omega arith)))))
+  flat l a (Trees.Dict ks es) =
+      pair open_curly close_curly
+      (separated_flat (Op Comma) neutral (flat_pairs (max (optional_heights ks) (heights es))
+      (keys_up (flat_keys ks) (omega arith)) es (omega arith)))
+  flat l a (Trees.DictComp k e gs) =
+      pair open_curly close_curly
+      (both (up (flat Expression refl k) (omega arith))
+      (plain (λ d. refl) (both (up (flat Expression refl e) (omega arith)) (up (flat_clauses gs) (omega arith)))))
   flat l a (Trees.Set es) = pair open_curly close_curly (separated_flat (Op Comma) neutral (flat_each Elem refl es))
   flat l a (Trees.SetComp e gs) = pair open_curly close_curly (both (up (flat Named refl e) (omega arith)) (up (flat_clauses gs) (omega arith)))
-  flat l a (Trees.Slice x y z) = fit_flat l Slice (both (up (flat_perhaps Expression refl x) (omega arith)) (plain (λ d. refl) (both (up (flat_perhaps Expression refl y) (omega arith)) (up (flat_suffixed Colon (λ d. refl) z) (omega arith)))))
+  flat l a (Trees.Slice x y z) =
+      fit_flat l Slice
+      (both (up (flat_perhaps Expression refl x) (omega arith))
+      (plain (λ d. refl) (both (up (flat_perhaps Expression refl y) (omega arith)) (up (flat_suffixed Colon (λ d. refl) z) (omega arith)))))
+
+  flat_behind : (b : Bool) (es : Exprs) → Flat (heights es) (inner (elements_behind terminal b es))
+  flat_behind b no_exprs = flat_none 0
+  flat_behind b (an_expr (Trees.FormattedValue e c s) es) =
+      value_flat (heights (an_expr (Trees.FormattedValue e c s) es)) e c s (Element.Text b (first_text es) ∷ elements_behind terminal b es)
+      (flat Or refl e) (flat_spec s)
+      (plain (λ d. refl) (up (flat_behind b es) (omega arith))) (omega arith)
+  flat_behind b (an_expr e es) = up (flat_behind b es) (omega arith)
+
+  flat_spec : (s : OptionalExpr) → Flat (optional_height s) (inner (spec_elements terminal s))
+  flat_spec absent = flat_none 0
+  flat_spec (present (Trees.JoinedStr es)) = plain (λ d. refl) (plain (λ d. refl) (up (flat_behind true es) (omega arith)))
+  flat_spec (present e) = flat_none (height e)
 
   pub flat_each : (l : Level) → not_atom l ≡ true → (es : Exprs) → AllFlat (heights es) (each terminal l es)
   flat_each l a no_exprs = none
@@ -314,7 +392,8 @@ mutual
   pub flat_by_name : (ks : Keywords) → AllFlat (keyword_heights ks) (by_name terminal ks)
   flat_by_name no_keyword = none
   flat_by_name (a_keyword None e ks) = one (plain (λ d. refl) (up (flat Expression refl e) (omega arith))) (all_up (flat_by_name ks) (omega arith))
-  flat_by_name (a_keyword (Some x) e ks) = one (plain (λ d. refl) (plain (λ d. refl) (up (flat Expression refl e) (omega arith)))) (all_up (flat_by_name ks) (omega arith))
+  flat_by_name (a_keyword (Some x) e ks) =
+      one (plain (λ d. refl) (plain (λ d. refl) (up (flat Expression refl e) (omega arith)))) (all_up (flat_by_name ks) (omega arith))
 
   flat_keys : (ks : OptionalExprs) → KeysFlat (optional_heights ks) (written_keys terminal ks)
   flat_keys no_optional = no_keys
@@ -325,23 +404,36 @@ mutual
   flat_pairs n no_keys es h = none
   flat_pairs n (no_key r) no_exprs h = none
   flat_pairs n (key f r) no_exprs h = none
-  flat_pairs n (no_key r) (an_expr e es) h = one (plain (λ d. refl) (up (flat BitOr refl e) (omega (arith, h)))) (flat_pairs n r es (omega (arith, h)))
-  flat_pairs n (key f r) (an_expr e es) h = one (both f (plain (λ d. refl) (up (flat Expression refl e) (omega (arith, h))))) (flat_pairs n r es (omega (arith, h)))
+  flat_pairs n (no_key r) (an_expr e es) h =
+      one (plain (λ d. refl) (up (flat BitOr refl e) (omega (arith, h)))) (flat_pairs n r es (omega (arith, h)))
+  flat_pairs n (key f r) (an_expr e es) h =
+      one (both f (plain (λ d. refl) (up (flat Expression refl e) (omega (arith, h))))) (flat_pairs n r es (omega (arith, h)))
 
   flat_clauses : (gs : Comprehensions) → Flat (comprehension_heights gs) (clauses terminal gs)
   flat_clauses no_comprehension = flat_none 0
-  flat_clauses (a_comprehension t e cs b gs) = both (for_flat b (both (up (flat Stars refl t) (omega arith)) (plain (λ d. refl) (both (up (flat Or refl e) (omega arith)) (up (flat_conditions cs) (omega arith)))))) (up (flat_clauses gs) (omega arith))
+  flat_clauses (a_comprehension t e cs b gs) =
+      both
+      (for_flat b (both (up (flat Stars refl t) (omega arith))
+      (plain (λ d. refl) (both (up (flat Or refl e) (omega arith)) (up (flat_conditions cs) (omega arith))))))
+      (up (flat_clauses gs) (omega arith))
 
   flat_conditions : (es : Exprs) → Flat (heights es) (conditions terminal es)
   flat_conditions no_exprs = flat_none 0
   flat_conditions (an_expr e es) = plain (λ d. refl) (both (up (flat Or refl e) (omega arith)) (up (flat_conditions es) (omega arith)))
 
   pub flat_parameters : (a : Arguments) → AllFlat (arguments_height a) (parameters terminal a)
-  flat_parameters (arguments ps qs v ks kds k ds) = all_append (slash_flat (names terminal ps) (beside_flat (all_append (all_up (flat_names ps) (omega arith)) (all_up (flat_names qs) (omega arith))) (all_append (replicate_flat _) (equal_flat (all_up (flat_each Expression refl ds) (omega arith)))))) (all_append (star_flat (names terminal ks) (all_up (flat_gathered Star (λ d. refl) v) (omega arith))) (all_append (beside_flat (all_up (flat_names ks) (omega arith)) (all_up (flat_defaults kds) (omega arith))) (all_up (flat_gathered DoubleStar (λ d. refl) k) (omega arith))))
+  flat_parameters (arguments ps qs v ks kds k ds) =
+      all_append
+      (slash_flat (names terminal ps) (beside_flat (all_append (all_up (flat_names ps) (omega arith)) (all_up (flat_names qs) (omega arith)))
+      (all_append (replicate_flat _) (equal_flat (all_up (flat_each Expression refl ds) (omega arith))))))
+      (all_append (star_flat (names terminal ks) (all_up (flat_gathered Star (λ d. refl) v) (omega arith)))
+      (all_append (beside_flat (all_up (flat_names ks) (omega arith)) (all_up (flat_defaults kds) (omega arith)))
+      (all_up (flat_gathered DoubleStar (λ d. refl) k) (omega arith))))
 
   flat_names : (ps : Args) → AllFlat (arg_heights ps) (names terminal ps)
   flat_names no_arg = none
-  flat_names (an_arg (arg x t) ps) = one (plain (λ d. refl) (up (flat_suffixed Colon (λ d. refl) t) (omega arith))) (all_up (flat_names ps) (omega arith))
+  flat_names (an_arg (arg x t) ps) =
+      one (plain (λ d. refl) (up (flat_suffixed Colon (λ d. refl) t) (omega arith))) (all_up (flat_names ps) (omega arith))
 
   flat_gathered : (s : Exact) → Neutral (Op s) → (k : OptionalArg) → AllFlat (optional_arg_height k) (gathered terminal s k)
   flat_gathered s n absent_arg = none

@@ -1,8 +1,8 @@
--- Every derived expression is derived from its own text, which is no longer than the
+-- Every derived expression is derived from its own text, which has no more tokens than the
 -- list it was derived from.
 --
 -- Carries: fewest, for Shortest. On: Claims, Entries, Clauses, Params and 1 more.
-use Rattle.std.proofs.Common.{◌≤◌, List, length, Option}
+use Rattle.std.proofs.Common.{◌≤◌, refl, List, Option, Bool}
 use Rattle.pylex_lexeme.specs.declared.kinds.Exact.{Exact}
 use Rattle.pytree_node.specs.declared.operators.BoolOperator.{BoolOperator}
 use Rattle.pytree_node.specs.declared.operators.Comparison.{Comparison}
@@ -10,14 +10,32 @@ use Rattle.pygrammar.specs.declared.levels.Level.{Level}
 use Rattle.pytree_node.specs.Trees.{Expr, OptionalExpr, Comprehension}
 use Rattle.pytoken.specs.Terminals.{Terminal}
 use Rattle.pygrammar.specs.Entries.{Item, Entry}
+use Rattle.pygrammar.specs.FormattedStrings.{StringPart}
+use Rattle.pygrammar.specs.OpenStrings.{token_count}
 use Rattle.pygrammar.specs.Grammar as G
 use Rattle.pyunparse_text.specs.Written.{written}
 use Rattle.pyunparse_text.specs.Terminals.{terminal}
-use Rattle.pyunparse_text.proofs.Fewest.Claims.{Claim, here, next_claim, group_claim, if_else_claim, named_claim, await_claim, attribute_claim, subscript_claim, power_claim, binary_claim, unary_claim, ChainClaim, last_link_claim, link_claim, chain_claim, compared_claim, ComparesClaim, last_compare_claim, compares_claim, compare_claim, name_claim, constant_claim, star_item_claim, star_elem_claim, star_part_claim, PerhapsClaim, nothing_claim, something_claim, slice_claim, slice_step_claim, YieldsClaim, yields_claim, yield_group_claim, yield_from_claim, yield_some_claim}
-use Rattle.pyunparse_text.proofs.Fewest.Entries.{PieceClaim, ListingClaim, no_item_claim, last_item_claim, item_claim, single_claim, pair_claim, pairs_of_claim, argument_claim, star_argument_claim, keyword_argument_claim, double_argument_claim, list_claim, set_claim, dict_claim, empty_tuple_claim, star_tuple_claim, subject_tuple_claim, tuple_claim, parts_claim, star_slices_claim}
+use Rattle.pyunparse_text.proofs.Fewest.Counted.{none, token}
+use Rattle.pyunparse_text.proofs.Fewest.Sizes.{same, no_more}
+use Rattle.pyunparse_text.proofs.Fewest.Strings.{FormattedClaim, SpecClaim, LiteralsClaim, no_part_claim, text_part_claim, field_part_claim}
+use Rattle.pyunparse_text.proofs.Fewest.Strings.{no_spec_claim, spec_claim, no_literal_claim, text_literal_claim, formatted_literal_claim}
+use Rattle.pyunparse_text.proofs.Fewest.Strings.{joined_claim}
+use Rattle.pyunparse_text.proofs.Fewest.Claims.{Claim, here, next_claim, group_claim, if_else_claim, named_claim, await_claim, attribute_claim}
+use Rattle.pyunparse_text.proofs.Fewest.Claims.{subscript_claim, power_claim, binary_claim, unary_claim, ChainClaim, last_link_claim, link_claim}
+use Rattle.pyunparse_text.proofs.Fewest.Claims.{chain_claim, compared_claim, ComparesClaim, last_compare_claim, compares_claim, compare_claim}
+use Rattle.pyunparse_text.proofs.Fewest.Claims.{name_claim, constant_claim, word_plain, strings_short, star_item_claim, star_elem_claim}
+use Rattle.pyunparse_text.proofs.Fewest.Claims.{star_part_claim, PerhapsClaim, nothing_claim, something_claim, slice_claim, slice_step_claim}
+use Rattle.pyunparse_text.proofs.Fewest.Claims.{YieldsClaim, yields_claim, yield_group_claim, yield_from_claim, yield_some_claim}
+use Rattle.pyunparse_text.proofs.Fewest.Entries.{PieceClaim, ListingClaim, no_item_claim, last_item_claim, item_claim, single_claim, pair_claim}
+use Rattle.pyunparse_text.proofs.Fewest.Entries.{pairs_of_claim, argument_claim, star_argument_claim, keyword_argument_claim, double_argument_claim}
+use Rattle.pyunparse_text.proofs.Fewest.Entries.{list_claim, set_claim, dict_claim, empty_tuple_claim, star_tuple_claim, subject_tuple_claim}
+use Rattle.pyunparse_text.proofs.Fewest.Entries.{tuple_claim, parts_claim, star_slices_claim}
 use Rattle.pyunparse_text.proofs.Fewest.Calls.{call_claim}
-use Rattle.pyunparse_text.proofs.Fewest.Clauses.{IfsClaim, no_if_claim, if_one_claim, ForInClaim, target_in_claim, CompClaim, for_claim, async_for_claim, CompsClaim, one_comp_claim, comps_claim, generator_group_claim, list_comp_claim, set_comp_claim, dict_comp_claim, call_generator_claim}
-use Rattle.pyunparse_text.proofs.Fewest.Params.{SuffixClaim, no_suffix_claim, suffix_claim, parameter_claim, slash_claim, bare_star_claim, star_parameter_claim, star_annotation_claim, double_parameter_claim, lambda_claim}
+use Rattle.pyunparse_text.proofs.Fewest.Clauses.{IfsClaim, no_if_claim, if_one_claim, ForInClaim, target_in_claim, CompClaim, for_claim}
+use Rattle.pyunparse_text.proofs.Fewest.Clauses.{async_for_claim, CompsClaim, one_comp_claim, comps_claim, generator_group_claim, list_comp_claim}
+use Rattle.pyunparse_text.proofs.Fewest.Clauses.{set_comp_claim, dict_comp_claim, call_generator_claim}
+use Rattle.pyunparse_text.proofs.Fewest.Params.{SuffixClaim, no_suffix_claim, suffix_claim, parameter_claim, slash_claim, bare_star_claim}
+use Rattle.pyunparse_text.proofs.Fewest.Params.{star_parameter_claim, star_annotation_claim, double_parameter_claim, lambda_claim}
 
 mutual
   pub claim : {l : Level} {ts : List Terminal} {e : Expr} → G.Derives l ts e → Claim l ts e
@@ -39,9 +57,10 @@ mutual
   claim (G.call_generator p q c) = call_generator_claim (claim p) (claim q) (comps c)
   claim (G.subscript p q) = subscript_claim (claim p) (claim q)
   claim G.name = name_claim
-  claim (G.constant {t = t} {v = v} h) = constant_claim v t _
-  claim (G.number {v = v}) = constant_claim v _ _
-  claim (G.strings {v = v} {w = w} vs h) = constant_claim w _ _
+  claim (G.constant {t = t} {v = v} h) = constant_claim v (token (word_plain t v h) none)
+  claim (G.number {v = v}) = constant_claim v (token refl none)
+  claim (G.strings {v = v} {w = w} vs h) = constant_claim w (strings_short v vs)
+  claim (G.joined_string p b h) = joined_claim (literals p) b h
   claim (G.group p) = group_claim (claim p)
   claim (G.yield_group p) = yield_group_claim (yields p)
   claim G.empty_tuple = empty_tuple_claim
@@ -81,6 +100,20 @@ mutual
   compares (G.last_compare k p) = last_compare_claim (compared_claim k) (claim p)
   compares (G.compares k p c) = compares_claim (compared_claim k) (claim p) (compares c)
 
+  pub literals : {u : Bool} {ts : List Terminal} {ps : List StringPart} → G.Literals u ts ps → LiteralsClaim u ts ps
+  literals (G.no_literal {u = u}) = no_literal_claim u
+  literals (G.text_literal {t = t} {k = k} p) = text_literal_claim t k (literals p)
+  literals (G.formatted_literal p q) = formatted_literal_claim (formatted p) (literals q)
+
+  formatted : {u : Bool} {ts : List Terminal} {ps : List StringPart} → G.Formatted u ts ps → FormattedClaim u ts ps
+  formatted (G.no_part {u = u}) = no_part_claim u
+  formatted (G.text_part {t = t} p) = text_part_claim t (formatted p)
+  formatted (G.field_part p q r) = field_part_claim (claim p) (spec q) (formatted r)
+
+  spec : {u : Bool} {ts : List Terminal} {s : OptionalExpr} → G.Spec u ts s → SpecClaim u ts s
+  spec (G.no_spec {u = u}) = no_spec_claim u
+  spec (G.spec p) = spec_claim (formatted p)
+
   pub listing : {i : Item} {ts : List Terminal} {es : List Entry} → G.Listing i ts es → ListingClaim i ts es
   listing (G.no_item {i = i}) = no_item_claim i
   listing (G.last_item p) = last_item_claim (piece p)
@@ -116,6 +149,7 @@ mutual
   ifs G.no_if = no_if_claim
   ifs (G.if_one p c) = if_one_claim (claim p) (ifs c)
 
--- every tree comes back, from no more terminals
-pub fewest : {l : Level} {ts : List Terminal} {e : Expr} → G.Derives l ts e → G.Derives l (written terminal l e) e × (length (written terminal l e) ≤ length ts)
-fewest p = let c = claim p in (here c, c.short)
+-- every tree comes back, from no more tokens
+pub fewest : {l : Level} {ts : List Terminal} {e : Expr} → G.Derives l ts e
+    → G.Derives l (written terminal l e) e × (token_count (written terminal l e) ≤ token_count ts)
+fewest {l} {ts} {e} p = let c = claim p in (here c, no_more (same l e) c.short)

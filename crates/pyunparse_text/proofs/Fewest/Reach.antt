@@ -1,6 +1,7 @@
 -- Carries: the laws of fewest brackets. On: which levels lead to which, and what stands at one of
 -- them in brackets or without.
-use Rattle.std.proofs.Common.{◌≡◌, refl, sym, ap, subst, ◌∙◌, ℕ, zero, suc, ◌+◌, ◌≤◌, ◌<◌, arith, List, [], ◌∷◌, length, Bool, true, false, cond, length-append}
+use Rattle.std.proofs.Common.{◌≡◌, refl, sym, ap, subst, ◌∙◌, ℕ, zero, suc, ◌+◌, ◌≤◌, ◌<◌, arith, List, [], ◌∷◌, length, Bool, true, false, cond}
+use Rattle.std.proofs.Common.{length-append}
 use Rattle.std.specs.Prelude.{eqb, get_or, ◌||◌}
 use Rattle.std.specs.List.{list_all}
 use Rattle.std.proofs.lemmas.Bool.{eqb-true}
@@ -12,19 +13,23 @@ use Rattle.pytree_node.specs.declared.operators.UnaryOperator.TheVariants as Un
 use Rattle.pytree_node.specs.declared.operators.BoolOperator.{BoolOperator}
 use Rattle.pytree_node.specs.declared.operators.BoolOperator.TheVariants as Join
 use Rattle.pygrammar.specs.declared.levels.Level.{Level}
-use Rattle.pygrammar.specs.declared.levels.Level.TheVariants.{Value, Stars, StarItem, Named, Expression, Or, And, Not, Compare, BitOr, BitXor, BitAnd, Shift, Sum, Term, Factor, Power, Await, Primary, Atom, Elem, Slices, Part, Slice, Subject}
+use Rattle.pygrammar.specs.declared.levels.Level.TheVariants.{Value, Stars, StarItem, Named, Expression, Or, And, Not, Compare, BitOr, BitXor, BitAnd}
+use Rattle.pygrammar.specs.declared.levels.Level.TheVariants.{Shift, Sum, Term, Factor, Power, Await, Primary, Atom, Elem, Slices, Part, Slice}
+use Rattle.pygrammar.specs.declared.levels.Level.TheVariants.{Subject}
 use Rattle.pytree_node.specs.Trees.{Expr}
 use Rattle.pytoken.specs.Terminals.{Terminal}
 use Rattle.pygrammar.specs.Operators.{below, chain_level, rank}
 use Rattle.pygrammar.specs.Grammar as G
 use Rattle.pyunparse_text.specs.Levels.{leads, reaches, operator_level, unary_level}
-use Rattle.pyunparse_text.specs.Written.{bracketed, fit}
+use Rattle.pyunparse_text.specs.Written.{Maker, bracketed, fit}
 use Rattle.pyunparse_text.specs.Terminals.{terminal}
+use Rattle.pyunparse_text.proofs.Fewest.Counted.{one}
 
 -- ---- All levels, in the order of their ranks.
 
 abbrev pub levels : List Level
-levels = Subject ∷ Value ∷ Slices ∷ Stars ∷ Part ∷ Slice ∷ StarItem ∷ Elem ∷ Named ∷ Expression ∷ Or ∷ And ∷ Not ∷ Compare ∷ BitOr ∷ BitXor ∷ BitAnd ∷ Shift ∷ Sum ∷ Term ∷ Factor ∷ Power ∷ Await ∷ Primary ∷ Atom ∷ []
+levels =
+    Subject ∷ Value ∷ Slices ∷ Stars ∷ Part ∷ Slice ∷ StarItem ∷ Elem ∷ Named ∷ Expression ∷ Or ∷ And ∷ Not ∷ Compare ∷ BitOr ∷ BitXor ∷ BitAnd ∷ Shift ∷ Sum ∷ Term ∷ Factor ∷ Power ∷ Await ∷ Primary ∷ Atom ∷ []
 
 -- a level's place among them
 record Placed (l : Level) : Type 0 where
@@ -76,7 +81,8 @@ unfolding leads
 climb_in zero l k ts e h p = absurd (cc)
 climb_in (suc n) l k ts e h p = by (eqb (rank l) (rank k)) refl h (λ q. climb_in n (below l) k ts e q p)
   where
-    by : (b : Bool) → eqb (rank l) (rank k) ≡ b → (b || leads n (below l) k) ≡ true → (leads n (below l) k ≡ true → G.Derives (below l) ts e) → G.Derives l ts e
+    by : (b : Bool) → eqb (rank l) (rank k) ≡ b → (b || leads n (below l) k) ≡ true → (leads n (below l) k ≡ true → G.Derives (below l) ts e)
+        → G.Derives l ts e
     by true q h r = subst (λ x. G.Derives x ts e) (sym (same_level l k q)) p
     by false q h r = G.next (r h)
 
@@ -206,7 +212,8 @@ elem_named_is = refl
 
 -- ---- A form of the level k at the level l.
 
-pub fits : (l k : Level) (ts : List Terminal) (e : Expr) → G.Derives k ts e → G.Derives Atom (bracketed terminal ts) e → G.Derives l (fit terminal l k ts) e
+pub fits : (l k : Level) (ts : List Terminal) (e : Expr) → G.Derives k ts e → G.Derives Atom (bracketed terminal ts) e
+    → G.Derives l (fit terminal l k ts) e
 unfolding fit
 fits l k ts e p g = by (reaches l k) refl
   where
@@ -218,34 +225,44 @@ pub fits_within : (l k : Level) (ts : List Terminal) (e : Expr) → reaches l k 
 unfolding fit
 fits_within l k ts e h p = subst (λ b. G.Derives l (cond b ts (bracketed terminal ts)) e) (sym h) (climb l k h p)
 
+pub fit_as_is : {A : Type 0} (make : Maker A) (l k : Level) (ts : List A) → reaches l k ≡ true → fit make l k ts ≡ ts
+unfolding fit
+fit_as_is make l k ts h = ap (λ b. cond b ts (bracketed make ts)) h
+
 pub fit_within : (l k : Level) (ts : List Terminal) → reaches l k ≡ true → fit terminal l k ts ≡ ts
 unfolding fit
-fit_within l k ts h = ap (λ b. cond b ts (bracketed terminal ts)) h
+fit_within l k ts h = fit_as_is terminal l k ts h
 
-pub length_bracketed : (ts : List Terminal) → length (bracketed terminal ts) ≡ length ts + 2
+pub fit_marks : (l k : Level) (ms : List (Unit {0})) → reaches l k ≡ true → fit one l k ms ≡ ms
+unfolding fit
+fit_marks l k ms h = fit_as_is one l k ms h
+
+pub length_bracketed : (ts : List (Unit {0})) → length (bracketed one ts) ≡ length ts + 2
 length_bracketed ts = simp length-append (omega arith)
 
 -- more levels lead to it: no more brackets
-pub fit_less : (l m k : Level) (ts : List Terminal) → implied (reaches m k) (reaches l k) ≡ true → length (fit terminal l k ts) ≤ length (fit terminal m k ts)
+pub fit_less : (l m k : Level) (ts : List (Unit {0})) → implied (reaches m k) (reaches l k) ≡ true → length (fit one l k ts) ≤ length (fit one m k ts)
 unfolding fit
 fit_less l m k ts h = by (reaches l k) (reaches m k) h
   where
-    by : (b c : Bool) → implied c b ≡ true → length (cond b ts (bracketed terminal ts)) ≤ length (cond c ts (bracketed terminal ts))
+    by : (b c : Bool) → implied c b ≡ true → length (cond b ts (bracketed one ts)) ≤ length (cond c ts (bracketed one ts))
     by true true h = omega arith
     by true false h = omega (arith, length_bracketed ts)
     by false false h = omega arith
     by false true h = absurd (cc)
 
-pub fit_more : (l m k : Level) (ts : List Terminal) → length (fit terminal l k ts) ≤ length (fit terminal m k ts) + 2
+pub fit_more : (l m k : Level) (ts : List (Unit {0})) → length (fit one l k ts) ≤ length (fit one m k ts) + 2
 unfolding fit
 fit_more l m k ts = by (reaches l k) (reaches m k)
   where
-    by : (b c : Bool) → length (cond b ts (bracketed terminal ts)) ≤ length (cond c ts (bracketed terminal ts)) + 2
+    by : (b c : Bool) → length (cond b ts (bracketed one ts)) ≤ length (cond c ts (bracketed one ts)) + 2
     by true true = omega arith
     by true false = omega (arith, length_bracketed ts)
     by false false = omega arith
     by false true = omega (arith, length_bracketed ts)
 
-pub fit_two : (l m k : Level) (ts : List Terminal) → reaches l k ≡ false → reaches m k ≡ true → length (fit terminal l k ts) ≡ length (fit terminal m k ts) + 2
+pub fit_two : (l m k : Level) (ts : List (Unit {0})) → reaches l k ≡ false → reaches m k ≡ true
+    → length (fit one l k ts) ≡ length (fit one m k ts) + 2
 unfolding fit
-fit_two l m k ts p q = ap (λ b. length (cond b ts (bracketed terminal ts))) p ∙ (length_bracketed ts ∙ ap (λ b. length (cond b ts (bracketed terminal ts)) + 2) (sym q))
+fit_two l m k ts p q =
+    ap (λ b. length (cond b ts (bracketed one ts))) p ∙ (length_bracketed ts ∙ ap (λ b. length (cond b ts (bracketed one ts)) + 2) (sym q))

@@ -2,7 +2,8 @@
 --
 -- Carries: is_lexeme, leaves, run_ends, blanks_front and 1 more, for NameFronts, LineCuts,
 -- NumberFronts, OperatorFronts and 2 more.
-use Rattle.std.proofs.Common.{◌≡◌, ℕ, Bool, true, false, List, [], ◌∷◌, ◌++◌, length, take, drop, refl, sym, ◌∙◌, ap, subst, suc, Option, Some, add-one, add_comm}
+use Rattle.std.proofs.Common.{◌≡◌, ℕ, Bool, true, false, List, [], ◌∷◌, ◌++◌, length, take, drop, refl, sym, ◌∙◌, ap, subst, suc, Option, Some}
+use Rattle.std.proofs.Common.{add-one, add_comm}
 use Rattle.std.specs.Prelude.{option_map}
 use Rattle.std.specs.List.{list_all, prefix_len}
 use Rattle.std.proofs.Math.Seq.{drop-append_seam}
@@ -16,16 +17,19 @@ use Rattle.pylex_lexeme.proofs.Callers.Booleans.{and_parts}
 use Rattle.pylex_lexeme.proofs.Callers.Lexemes.{class_at, blanks_take, feed_takes}
 
 -- What is taken off the front of t and r, where r is left, is t.
-of_class : (o : Option Class) (t : List ℕ) (k : Class) → o ≡ Some k → option_map {U = Lexeme} (λ c. record { «class» = c; text = t }) o ≡ Some (record { «class» = k; text = t })
+of_class : (o : Option Class) (t : List ℕ) (k : Class) → o ≡ Some k
+    → option_map {U = Lexeme} (λ c. record { «class» = c; text = t }) o ≡ Some (record { «class» = k; text = t })
 of_class o t k e = rw e refl
 
 pub is_lexeme : (t r : List ℕ) (k : Class) → TakesLexeme (t ++ r) (Some k) r → lexeme_at (t ++ r) ≡ Some (record { «class» = k; text = t })
 unfolding lexeme_at
 is_lexeme t r k h =
     let c : class_in (t ++ r) (take (lexeme_len (t ++ r)) (t ++ r)) ≡ Some k = sym (class_at (t ++ r)) ∙ sym h.«class» in
-    let w : take (lexeme_len (t ++ r)) (t ++ r) ++ r ≡ t ++ r = ap (λ d. take (lexeme_len (t ++ r)) (t ++ r) ++ d) h.rest ∙ take-append-drop (lexeme_len (t ++ r)) (t ++ r) in
+    let w : take (lexeme_len (t ++ r)) (t ++ r) ++ r ≡ t ++ r =
+    ap (λ d. take (lexeme_len (t ++ r)) (t ++ r) ++ d) h.rest ∙ take-append-drop (lexeme_len (t ++ r)) (t ++ r) in
     let e : take (lexeme_len (t ++ r)) (t ++ r) ≡ t = append_cancel_right (take (lexeme_len (t ++ r)) (t ++ r)) t r w in
-    of_class (class_in (t ++ r) (take (lexeme_len (t ++ r)) (t ++ r))) (take (lexeme_len (t ++ r)) (t ++ r)) k c ∙ ap (λ u. Some (record { «class» = k; text = u })) e
+    of_class (class_in (t ++ r) (take (lexeme_len (t ++ r)) (t ++ r))) (take (lexeme_len (t ++ r)) (t ++ r)) k c
+    ∙ ap (λ u. Some (record { «class» = k; text = u })) e
 
 pub leaves : (t r : List ℕ) (k : Class) (n : ℕ) → n ≡ length t → TakesLexeme (t ++ r) (Some k) (drop n (t ++ r)) → TakesLexeme (t ++ r) (Some k) r
 leaves t r k n e h = subst (TakesLexeme (t ++ r) (Some k)) (ap (λ i. drop i (t ++ r)) e ∙ drop-append_seam t r) h
@@ -39,9 +43,12 @@ run_ends p (c ∷ t) r a b =
     rw (q.0, add_comm, add-one) (ap suc (run_ends p t r q.1 b))
 
 -- Blanks and line ends
-pub blanks_front : (t r : List ℕ) → list_all is_blank_char t ≡ true → begins is_blank_char t ≡ true → begins is_blank_char r ≡ false → lexeme_at (t ++ r) ≡ Some (record { «class» = Blanks; text = t })
+pub blanks_front : (t r : List ℕ) → list_all is_blank_char t ≡ true → begins is_blank_char t ≡ true → begins is_blank_char r ≡ false
+    → lexeme_at (t ++ r) ≡ Some (record { «class» = Blanks; text = t })
 blanks_front [] r a s b = cc
-blanks_front (c ∷ t) r a s b = is_lexeme (c ∷ t) r Blanks (leaves (c ∷ t) r Blanks (prefix_len is_blank_char (c ∷ t ++ r)) (run_ends is_blank_char (c ∷ t) r a b) (blanks_take (c ∷ t ++ r) s))
+blanks_front (c ∷ t) r a s b =
+    is_lexeme (c ∷ t) r Blanks
+    (leaves (c ∷ t) r Blanks (prefix_len is_blank_char (c ∷ t ++ r)) (run_ends is_blank_char (c ∷ t) r a b) (blanks_take (c ∷ t ++ r) s))
 
 pub feed_front : (r : List ℕ) → lexeme_at (10 ∷ r) ≡ Some (record { «class» = LineEnd; text = 10 ∷ [] })
 feed_front r = is_lexeme (10 ∷ []) r LineEnd (feed_takes (10 ∷ r) refl)

@@ -32,8 +32,10 @@ no_r c h = cases (is_r c) (λ e. letter_continues 114 82 c e (is_xid_continue-as
 no_b_or_f : (c : ℕ) → is_xid_continue c ≡ false → is_b_or_f c ≡ false
 no_b_or_f c h = cases (is_b_or_f c)
     (λ e. ⊎_elim
-    (λ (f : ((c == 98) || (c == 66)) ≡ true). letter_continues 98 66 c f (is_xid_continue-ascii 98 (omega arith)) (is_xid_continue-ascii 66 (omega arith)) h)
-    (λ (f : ((c == 102) || (c == 70)) ≡ true). letter_continues 102 70 c f (is_xid_continue-ascii 102 (omega arith)) (is_xid_continue-ascii 70 (omega arith)) h)
+    (λ (f : ((c == 98) || (c == 66)) ≡ true). letter_continues 98 66 c f (is_xid_continue-ascii 98 (omega arith))
+    (is_xid_continue-ascii 66 (omega arith)) h)
+    (λ (f : ((c == 102) || (c == 70)) ≡ true). letter_continues 102 70 c f (is_xid_continue-ascii 102 (omega arith))
+    (is_xid_continue-ascii 70 (omega arith)) h)
     (or_parts ((c == 98) || (c == 66)) ((c == 102) || (c == 70)) e))
 
 -- no prefix is made of a letter and what ends a name
@@ -48,9 +50,11 @@ no_pair c d h = two_prefix c d ∙ rw (no_r d h, no_b_or_f d h) (none (is_r c) (
 
 -- where no quote is the first character or the second, nor the third after
 -- a prefix, no string opens
-pub no_string : (cs : List ℕ) → begins_quote cs ≡ false → begins_quote (drop 1 cs) ≡ false → (is_prefix (take 2 cs) && begins_quote (drop 2 cs)) ≡ false → opens_string cs ≡ false
+pub no_string : (cs : List ℕ) → begins_quote cs ≡ false → begins_quote (drop 1 cs) ≡ false
+    → (is_prefix (take 2 cs) && begins_quote (drop 2 cs)) ≡ false → opens_string cs ≡ false
 unfolding opens_string
-no_string cs a b c = rw (and_false (is_prefix (take 0 cs)) (begins_quote cs) a, and_false (is_prefix (take 1 cs)) (begins_quote (drop 1 cs)) b, c) refl
+no_string cs a b c =
+    rw (and_false (is_prefix (take 0 cs)) (begins_quote cs) a, and_false (is_prefix (take 1 cs)) (begins_quote (drop 1 cs)) b, c) refl
 
 -- no string opens at a name that no quote follows
 pub name_opens : (t r : List ℕ) → is_name t ≡ true → begins is_xid_continue r ≡ false → begins_quote r ≡ false → opens_string (t ++ r) ≡ false
@@ -71,13 +75,17 @@ name_opens (c ∷ d ∷ b ∷ t) r n e q =
     let s = and_parts (starts_name c) (is_xid_continue d && (is_xid_continue b && list_all is_xid_continue t)) n in
     let d1 = and_parts (is_xid_continue d) (is_xid_continue b && list_all is_xid_continue t) s.1 in
     let b1 = and_parts (is_xid_continue b) (list_all is_xid_continue t) d1.1 in
-    no_string (c ∷ d ∷ b ∷ t ++ r) (part_no_quote c (start_continues c s.0)) (part_no_quote d d1.0) (and_false (is_prefix (c ∷ d ∷ [])) (begins_quote (b ∷ t ++ r)) (part_no_quote b b1.0))
+    no_string (c ∷ d ∷ b ∷ t ++ r) (part_no_quote c (start_continues c s.0)) (part_no_quote d d1.0)
+    (and_false (is_prefix (c ∷ d ∷ [])) (begins_quote (b ∷ t ++ r)) (part_no_quote b b1.0))
 
-pub name_front : (t r : List ℕ) → is_name t ≡ true → begins is_xid_continue r ≡ false → begins_quote r ≡ false → lexeme_at (t ++ r) ≡ Some (record { «class» = Name; text = t })
+pub name_front : (t r : List ℕ) → is_name t ≡ true → begins is_xid_continue r ≡ false → begins_quote r ≡ false
+    → lexeme_at (t ++ r) ≡ Some (record { «class» = Name; text = t })
 unfolding is_name
 name_front [] r n e q = cc
 name_front (c ∷ t) r n e q =
     let s = and_parts (starts_name c) (list_all is_xid_continue t) n in
     let x = start_continues c s.0 in
     let w : list_all is_xid_continue (c ∷ t) ≡ true = rw x s.1 in
-    is_lexeme (c ∷ t) r Name (leaves (c ∷ t) r Name (prefix_len is_xid_continue (c ∷ t ++ r)) (run_ends is_xid_continue (c ∷ t) r w e) (name_takes (c ∷ t ++ r) (name_opens (c ∷ t) r n e q) s.0))
+    is_lexeme (c ∷ t) r Name
+    (leaves (c ∷ t) r Name (prefix_len is_xid_continue (c ∷ t ++ r)) (run_ends is_xid_continue (c ∷ t) r w e)
+    (name_takes (c ∷ t ++ r) (name_opens (c ∷ t) r n e q) s.0))

@@ -2,7 +2,8 @@
 -- changes no length that a reader of numbers takes.
 --
 -- Carries: number_front, for PieceFronts. On: NumberParts, Fronts, Cases.
-use Rattle.std.proofs.Common.{◌≡◌, ℕ, ◌+◌, Bool, true, false, not, ◌&&◌, ◌||◌, ◌==◌, List, [], ◌∷◌, ◌++◌, length, drop, refl, sym, ◌∙◌, ap, arith, suc, if◌then◌else◌, leb, ltb, ⊎_elim, Some, drop-drop, length-drop}
+use Rattle.std.proofs.Common.{◌≡◌, ℕ, ◌+◌, Bool, true, false, not, ◌&&◌, ◌||◌, ◌==◌, List, [], ◌∷◌, ◌++◌, length, drop, refl, sym, ◌∙◌, ap, arith}
+use Rattle.std.proofs.Common.{suc, if◌then◌else◌, leb, ltb, ⊎_elim, Some, drop-drop, length-drop}
 use Rattle.std.specs.Char.{is_ascii_alphanumeric}
 use Rattle.std.proofs.Math.Seq.{take-length}
 use Rattle.std.proofs.lemmas.Bool.{eqb-true, leb-true}
@@ -12,8 +13,10 @@ use Rattle.unicode_ident.specs.Ident.{is_xid_continue}
 use Rattle.unicode_ident.proofs.IdentLemmas.{is_xid_continue-ascii}
 use Rattle.pylex_lexeme.specs.declared.lexeme.Class.TheVariants.{Number}
 use Rattle.pylex_lexeme.specs.Chars.{begins}
-use Rattle.pylex_lexeme.specs.Numbers.{is_decimal_digit, is_zero, is_hex_digit, is_octal_digit, is_binary_digit, is_point, is_e, is_j, is_x, is_o, is_b, is_number}
-use Rattle.pylex_lexeme.specs.Lengths.{longest, number_len, plain_len, radix_len, based_len, tail_len, fraction_len, point_len, exponent_len, j_len, digit_part_len, joined_len}
+use Rattle.pylex_lexeme.specs.Numbers.{is_decimal_digit, is_zero, is_hex_digit, is_octal_digit, is_binary_digit, is_point, is_e, is_j, is_x, is_o}
+use Rattle.pylex_lexeme.specs.Numbers.{is_b, is_number}
+use Rattle.pylex_lexeme.specs.Lengths.{longest, number_len, plain_len, radix_len, based_len, tail_len, fraction_len, point_len, exponent_len, j_len}
+use Rattle.pylex_lexeme.specs.Lengths.{digit_part_len, joined_len}
 use Rattle.pylex_lexeme.specs.Lexemes.{lexeme_at}
 use Rattle.pylex_lexeme.proofs.Callers.Booleans.{and_parts}
 use Rattle.pylex_lexeme.proofs.Callers.Fronts.{stop_first}
@@ -200,9 +203,12 @@ number_kept t r n h =
 -- ---- Numbers.
 
 all_longest : (t : List ℕ) → is_number t ≡ true → longest is_number t ≡ length t
-all_longest t e = longest_is is_number t (length t) (record { within = omega arith; passes = ap is_number (take-length t) ∙ e; longest = λ j h i. absurd (omega arith) })
+all_longest t e =
+    longest_is is_number t (length t)
+    (record { within = omega arith; passes = ap is_number (take-length t) ∙ e; longest = λ j h i. absurd (omega arith) })
 
-pub number_front : (t r : List ℕ) → is_number t ≡ true → begins is_xid_continue r ≡ false → begins is_point r ≡ false → lexeme_at (t ++ r) ≡ Some (record { «class» = Number; text = t })
+pub number_front : (t r : List ℕ) → is_number t ≡ true → begins is_xid_continue r ≡ false → begins is_point r ≡ false
+    → lexeme_at (t ++ r) ≡ Some (record { «class» = Number; text = t })
 number_front t r i e p =
     let b = number_begins t i in
     let m = begins_more t r b in

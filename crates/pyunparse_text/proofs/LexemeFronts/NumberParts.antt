@@ -9,7 +9,9 @@ use Rattle.std.proofs.Math.Utf8.{low_scalar}
 use Rattle.std.proofs.lemmas.Bool.{leb-true}
 use Rattle.std.proofs.lemmas.Bool.Decides.{nat_tests}
 use Rattle.pylex_lexeme.specs.Chars.{begins, is_comment_part}
-use Rattle.pylex_lexeme.specs.Numbers.{is_nil, split_any, optional, headed, are_some, is_digit_part, is_exponent, is_decimal_digit, is_zero, is_hex_digit, is_octal_digit, is_point, is_e, is_j, is_decimal, is_radix, is_point_after, is_point_before, is_raised, is_float, is_imaginary, is_number}
+use Rattle.pylex_lexeme.specs.Numbers.{is_nil, split_any, optional, headed, are_some, is_digit_part, is_exponent, is_decimal_digit, is_zero}
+use Rattle.pylex_lexeme.specs.Numbers.{is_hex_digit, is_octal_digit, is_point, is_e, is_j, is_decimal, is_radix, is_point_after, is_point_before}
+use Rattle.pylex_lexeme.specs.Numbers.{is_raised, is_float, is_imaginary, is_number}
 use Rattle.pylex_lexeme.specs.Lengths.{begins_number}
 use Rattle.pylex_lexeme.proofs.Callers.Booleans.{and_parts, or_parts}
 use Rattle.pylex_lexeme.proofs.Callers.Fronts.{joined_all, split_all}
@@ -49,7 +51,8 @@ float_begins : (t : List ℕ) → is_float t ≡ true → begins_number t ≡ tr
 unfolding is_float is_point_after is_raised
 float_begins t e =
     ⊎_elim
-    (λ (h : (is_point_after t || is_point_before t) ≡ true). ⊎_elim (split_begins begins_number is_digit_part _ part_begins t) (point_begins t) (or_parts (is_point_after t) (is_point_before t) h))
+    (λ (h : (is_point_after t || is_point_before t) ≡ true). ⊎_elim (split_begins begins_number is_digit_part _ part_begins t) (point_begins t)
+    (or_parts (is_point_after t) (is_point_before t) h))
     (split_begins begins_number is_digit_part is_exponent part_begins t)
     (or_parts (is_point_after t || is_point_before t) (is_raised t) e)
 
@@ -66,7 +69,8 @@ imaginary_begins : (t : List ℕ) → is_imaginary t ≡ true → begins_number 
 unfolding is_imaginary
 imaginary_begins t e =
     split_begins begins_number (λ u. is_digit_part u || is_float u) (headed is_j is_nil)
-    (λ u r h. ⊎_elim (part_begins u r) (λ (f : is_float u ≡ true). begins_more u r (float_begins u f)) (or_parts (is_digit_part u) (is_float u) h)) t e
+    (λ u r h. ⊎_elim (part_begins u r) (λ (f : is_float u ≡ true). begins_more u r (float_begins u f))
+    (or_parts (is_digit_part u) (is_float u) h)) t e
 
 whole_begins : (t : List ℕ) → (is_decimal t || is_radix t) ≡ true → begins is_decimal_digit t ≡ true
 unfolding is_decimal is_radix

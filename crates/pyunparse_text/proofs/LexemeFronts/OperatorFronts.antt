@@ -2,7 +2,8 @@
 --
 -- Carries: Sign, operator_head, operator_front, makes_number and 5 more, for PieceFronts,
 -- Joins. On: Cases, Fronts.
-use Rattle.std.proofs.Common.{◌≡◌, ℕ, ◌+◌, ◌-◌, ◌≤◌, ◌<◌, Bool, true, false, not, ◌&&◌, ◌||◌, ◌==◌, List, [], ◌∷◌, ◌++◌, length, take, refl, sym, ◌∙◌, ap, subst, arith, ⊎_elim, Some, eqb, ltb, length-append, append_assoc}
+use Rattle.std.proofs.Common.{◌≡◌, ℕ, ◌+◌, ◌-◌, ◌≤◌, ◌<◌, Bool, true, false, not, ◌&&◌, ◌||◌, ◌==◌, List, [], ◌∷◌, ◌++◌, length, take, refl, sym, ◌∙◌}
+use Rattle.std.proofs.Common.{ap, subst, arith, ⊎_elim, Some, eqb, ltb, length-append, append_assoc}
 use Rattle.std.specs.Prelude.{nat_eq}
 use Rattle.std.specs.List.{list_all, list_any, starts_with}
 use Rattle.std.specs.Str.{bytes_eq}
@@ -42,7 +43,8 @@ of_any p c (x ∷ xs) a e =
 -- an ASCII character that stands in no name, begins no number and no string, and is neither a
 -- blank, a line's end, a hash nor a backslash
 abbrev pub is_sign_char : ℕ → Bool
-is_sign_char c = (ltb c 128 && not (is_ascii_alphanumeric c || (c == 95))) && (not (is_ascii_alphabetic c || (c == 95)) && (not (is_decimal_digit c) && (not (is_prefix_letter c) && (not ((c == 39) || (c == 34)) && (not (is_blank_char c) && (not (c == 35) && (not (c == 10) && (not (c == 13) && not (c == 92)))))))))
+is_sign_char c =
+    (ltb c 128 && not (is_ascii_alphanumeric c || (c == 95))) && (not (is_ascii_alphabetic c || (c == 95)) && (not (is_decimal_digit c) && (not (is_prefix_letter c) && (not ((c == 39) || (c == 34)) && (not (is_blank_char c) && (not (c == 35) && (not (c == 10) && (not (c == 13) && not (c == 92)))))))))
 
 -- What the first character of an operator is not
 pub record Sign (c : ℕ) : Type 0 where
@@ -101,7 +103,8 @@ begins_of t u [] e = cc
 begins_of t u (o ∷ os) e =
     ⊎_elim
     (λ (h : bytes_eq (t ++ u) o ≡ true).
-    let s : starts_with nat_eq o t ≡ true = subst (λ (x : List ℕ). starts_with nat_eq x t ≡ true) ((bytes_eq-Decides (t ++ u) o).0 h) (begins_itself t u) in
+    let s : starts_with nat_eq o t ≡ true =
+    subst (λ (x : List ℕ). starts_with nat_eq x t ≡ true) ((bytes_eq-Decides (t ++ u) o).0 h) (begins_itself t u) in
     rw s refl)
     (λ (h : list_any (bytes_eq (t ++ u)) os ≡ true). right (starts_with nat_eq o t) (list_any (λ x. starts_with nat_eq x t) os) (begins_of t u os h))
     (or_parts (bytes_eq (t ++ u) o) (list_any (bytes_eq (t ++ u)) os) e)
@@ -117,18 +120,21 @@ begins_word t = refl
 -- Where no operator begins with a text and one character more, none is that text and more.
 pub none_begins : (t u : List ℕ) (c : ℕ) → begins_operator (t ++ c ∷ []) ≡ false → is_operator (t ++ c ∷ u) ≡ false
 none_begins t u c e = cases (is_operator (t ++ c ∷ u)) (λ h.
-    let w : list_any (bytes_eq ((t ++ c ∷ []) ++ u)) words ≡ true = ap (λ x. list_any (bytes_eq x) words) (append_assoc t (c ∷ []) u) ∙ sym (by_words (t ++ c ∷ u)) ∙ h in
+    let w : list_any (bytes_eq ((t ++ c ∷ []) ++ u)) words ≡ true =
+    ap (λ x. list_any (bytes_eq x) words) (append_assoc t (c ∷ []) u) ∙ sym (by_words (t ++ c ∷ u)) ∙ h in
     let b : begins_operator (t ++ c ∷ []) ≡ true = begins_word (t ++ c ∷ []) ∙ begins_of (t ++ c ∷ []) u words w in
     cc)
 
 -- an operator is the longest at its place
-operator_best : (t r : List ℕ) → is_operator t ≡ true → ((j : ℕ) → 0 < j → j ≤ length r → is_operator (t ++ take j r) ≡ false) → IsBest is_operator (t ++ r) (length t)
+operator_best : (t r : List ℕ) → is_operator t ≡ true → ((j : ℕ) → 0 < j → j ≤ length r → is_operator (t ++ take j r) ≡ false)
+    → IsBest is_operator (t ++ r) (length t)
 operator_best t r e f = let n = length-append t r in record {
   within = omega arith;
   passes = ap is_operator (take-append_seam t r) ∙ e;
   longest = λ j h i.
       let s : length t + (j - length t) ≡ j = omega arith in
-      ap (λ k. is_operator (take k (t ++ r))) (sym s) ∙ ap is_operator (take-append-add t r (j - length t)) ∙ f (j - length t) (omega arith) (omega arith);
+      ap (λ k. is_operator (take k (t ++ r))) (sym s) ∙ ap is_operator (take-append-add t r (j - length t)) ∙ f (j - length t) (omega arith)
+      (omega arith);
 }
 
 point_words : (d : ℕ) (t : List ℕ) → is_decimal_digit d ≡ true → is_operator (46 ∷ d ∷ t) ≡ false
@@ -141,7 +147,8 @@ point_words d t e =
 abbrev pub makes_number : List ℕ → List ℕ → Bool
 makes_number t r = bytes_eq t (46 ∷ []) && begins is_decimal_digit r
 
-no_number_begins : (c : ℕ) (t r : List ℕ) → is_operator (c ∷ t) ≡ true → makes_number (c ∷ t) r ≡ false → (is_point c && begins is_decimal_digit (t ++ r)) ≡ false
+no_number_begins : (c : ℕ) (t r : List ℕ) → is_operator (c ∷ t) ≡ true → makes_number (c ∷ t) r ≡ false
+    → (is_point c && begins is_decimal_digit (t ++ r)) ≡ false
 no_number_begins c [] r o e = ⊎_elim (λ (h : (c == 46) ≡ true). rw h (rw h at e)) (λ (h : (c == 46) ≡ false). rw h refl) (bool_cases (c == 46))
 no_number_begins c (d ∷ t) r o e = cases (is_point c && is_decimal_digit d) (λ h.
     let p = and_parts (is_point c) (is_decimal_digit d) h in
@@ -151,7 +158,9 @@ no_number_begins c (d ∷ t) r o e = cases (is_point c && is_decimal_digit d) (�
     cc)
 
 -- An operator at the front of a text, where no longer one stands, and no number
-pub operator_front : (t r : List ℕ) (x : Exact) → exact_of t ≡ Some x → is_operator t ≡ true → ((j : ℕ) → 0 < j → j ≤ length r → is_operator (t ++ take j r) ≡ false) → makes_number t r ≡ false → lexeme_at (t ++ r) ≡ Some (record { «class» = OperatorClass x; text = t })
+pub operator_front : (t r : List ℕ) (x : Exact) → exact_of t ≡ Some x → is_operator t ≡ true
+    → ((j : ℕ) → 0 < j → j ≤ length r → is_operator (t ++ take j r) ≡ false) → makes_number t r ≡ false
+    → lexeme_at (t ++ r) ≡ Some (record { «class» = OperatorClass x; text = t })
 unfolding operator_at
 operator_front [] r x g e f n = let g = no_operator_none in cc
 operator_front (c ∷ t) r x g e f n =
@@ -162,6 +171,9 @@ operator_front (c ∷ t) r x g e f n =
       number = rw s.digit (no_number_begins c t r e n);
       first = rw (s.starts, s.hash, s.blank, s.feed, s.return, s.slash) refl;
     } in
-    let at : exact_of (take (longest is_operator (c ∷ t ++ r)) (c ∷ t ++ r)) ≡ Some x = ap (λ k. exact_of (take k (c ∷ t ++ r))) l ∙ ap exact_of (take-append_seam (c ∷ t) r) ∙ g in
+    let at : exact_of (take (longest is_operator (c ∷ t ++ r)) (c ∷ t ++ r)) ≡ Some x =
+    ap (λ k. exact_of (take k (c ∷ t ++ r))) l ∙ ap exact_of (take-append_seam (c ∷ t) r) ∙ g in
     let stands : operator_at (c ∷ t ++ r) ≡ Some (x, longest is_operator (c ∷ t ++ r)) = rw at refl in
-    is_lexeme (c ∷ t) r (OperatorClass x) (leaves (c ∷ t) r (OperatorClass x) (longest is_operator (c ∷ t ++ r)) l (operator_takes (c ∷ t ++ r) (operator_at (c ∷ t ++ r)) x (longest is_operator (c ∷ t ++ r)) o refl stands))
+    is_lexeme (c ∷ t) r (OperatorClass x)
+    (leaves (c ∷ t) r (OperatorClass x) (longest is_operator (c ∷ t ++ r)) l (operator_takes (c ∷ t ++ r)
+    (operator_at (c ∷ t ++ r)) x (longest is_operator (c ∷ t ++ r)) o refl stands))

@@ -3,7 +3,8 @@
 --
 -- Carries: ArePieces, token_no_blank, words_all, IsPiece and 5 more, for Decoding, LineCuts, Joins,
 -- Runs and 3 more. On: OperatorFronts, Cases, NameFronts, NumberFronts and 1 more.
-use Rattle.std.proofs.Common.{◌≡◌, ℕ, ◌≤◌, ◌<◌, Bool, true, false, not, ◌&&◌, ◌||◌, ◌==◌, List, [], ◌∷◌, ◌++◌, length, take, map, leb, append_assoc, refl, if◌then◌else◌, ap, sym, ◌∙◌, subst, arith, zero, suc, ⊎_elim, Option, Some, None, eqb}
+use Rattle.std.proofs.Common.{◌≡◌, ℕ, ◌≤◌, ◌<◌, Bool, true, false, not, ◌&&◌, ◌||◌, ◌==◌, List, [], ◌∷◌, ◌++◌, length, take, map, leb, append_assoc}
+use Rattle.std.proofs.Common.{refl, if◌then◌else◌, ap, sym, ◌∙◌, subst, arith, zero, suc, ⊎_elim, Option, Some, None, eqb}
 use Rattle.std.specs.List.{list_all, list_any}
 use Rattle.std.specs.Str.{bytes_eq}
 use Rattle.std.proofs.lemmas.Bool.{eqb-true}
@@ -23,7 +24,8 @@ use Rattle.pylex_lexeme.specs.Lexemes.{lexeme_at, is_name}
 use Rattle.pylex_lexeme.proofs.Callers.Booleans.{and_parts, or_parts, or_parts_false}
 use Rattle.pylex_lexeme.proofs.Callers.Lexemes.{words, heads, by_words, no_head, no_operator, no_operator_none}
 use Rattle.pylex_lexeme.proofs.Callers.Numbers.{digit_bounds}
-use Rattle.pyunparse_text.specs.Spacing.{Piece, is_token, is_number_kind, is_operator_kind, touches, text_behind, begins_operator, stay_apart, are_two_points, all_apart}
+use Rattle.pyunparse_text.specs.Spacing.{Piece, is_token, is_number_kind, is_operator_kind, touches, text_behind, begins_operator, stay_apart}
+use Rattle.pyunparse_text.specs.Spacing.{are_two_points, all_apart}
 use Rattle.pyunparse_text.specs.Inner.Relexed.{class_of}
 use Rattle.pyunparse_text.proofs.LexemeFronts.NameFronts.{name_front}
 use Rattle.pyunparse_text.proofs.LexemeFronts.NumberFronts.{number_front}
@@ -39,7 +41,8 @@ Clear kinds.String t r = begins_quote r ≡ false
 Clear kinds.Op t r = ((j : ℕ) → 0 < j → j ≤ length r → is_operator (t ++ take j r) ≡ false) × (makes_number t r ≡ false)
 Clear _ t r = Unit {0}
 
-pub token_front : (k : Kind) (t r : List ℕ) → is_token k t ≡ true → Clear k t r → lexeme_at (t ++ r) ≡ Some (record { «class» = class_of k t; text = t })
+pub token_front : (k : Kind) (t r : List ℕ) → is_token k t ≡ true → Clear k t r
+    → lexeme_at (t ++ r) ≡ Some (record { «class» = class_of k t; text = t })
 unfolding is_operator
 token_front kinds.Name t r e c = name_front t r e c.0 c.1
 token_front kinds.Number t r e c = number_front t r (and_parts (begins is_decimal_digit t) (is_number t) e).1 c.0 c.1
@@ -92,7 +95,8 @@ feed_gap : Gap 10
 feed_gap = record { continues = is_xid_continue-ascii 10 (omega arith); quote = refl; point = refl; digit = refl; words = feed_ends }
 
 -- where no operator begins with a token and the next character
-none_longer : (t r : List ℕ) (c : ℕ) → begins_operator (t ++ c ∷ []) ≡ false → (j : ℕ) → 0 < j → j ≤ length (c ∷ r) → is_operator (t ++ take j (c ∷ r)) ≡ false
+none_longer : (t r : List ℕ) (c : ℕ) → begins_operator (t ++ c ∷ []) ≡ false → (j : ℕ) → 0 < j → j ≤ length (c ∷ r)
+    → is_operator (t ++ take j (c ∷ r)) ≡ false
 none_longer t r c e zero h i = absurd (omega arith)
 none_longer t r c e (suc j) h i = none_begins t (take j r) c e
 
@@ -137,10 +141,13 @@ no_string : (c : ℕ) (u : List ℕ) → Off c → is_single_string (c ∷ u) �
 unfolding is_single_string is_single is_prefix
 no_string c u o =
     let q = or_parts_false (c == 39) (c == 34) o.quote in
-    let s = split_off (λ t. list_any (bytes_eq (map lower (c ∷ t))) prefixes) (λ v. is_single 39 v || is_single 34 v) u (λ v. no_head (lower c) (map lower v) prefixes o.letter) in
+    let s =
+    split_off (λ t. list_any (bytes_eq (map lower (c ∷ t))) prefixes) (λ v. is_single 39 v || is_single 34 v) u
+    (λ v. no_head (lower c) (map lower v) prefixes o.letter) in
     rw (q.0, q.1, s) refl
 
-pub no_token : (k : Kind) (c : ℕ) (u : List ℕ) → Off c → (is_number_kind k ≡ true → is_decimal_digit c ≡ false) → (is_operator_kind k ≡ true → list_any (eqb c) (heads words) ≡ false) → is_token k (c ∷ u) ≡ false
+pub no_token : (k : Kind) (c : ℕ) (u : List ℕ) → Off c → (is_number_kind k ≡ true → is_decimal_digit c ≡ false)
+    → (is_operator_kind k ≡ true → list_any (eqb c) (heads words) ≡ false) → is_token k (c ∷ u) ≡ false
 no_token kinds.Name c u o d s = no_name c u o.name
 no_token kinds.Number c u o d s = rw (d refl) refl
 no_token kinds.String c u o d s = rw (no_string c u o) refl
@@ -200,7 +207,9 @@ token_no_blank k (c ∷ t) r e = cases (is_blank_char c) (λ h. let o = blank_of
 
 -- but for a number, with no digit
 token_no_digit : (k : Kind) (c : ℕ) (t : List ℕ) → is_token k (c ∷ t) ≡ true → is_number_kind k ≡ false → is_decimal_digit c ≡ false
-token_no_digit k c t e f = cases (is_decimal_digit c) (λ h. let n = no_token k c t (digit_off c h) (λ z. absurd (let y : true ≡ false = sym z ∙ f in cc)) (λ z. digit_no_sign c h) in cc)
+token_no_digit k c t e f =
+    cases (is_decimal_digit c)
+    (λ h. let n = no_token k c t (digit_off c h) (λ z. absurd (let y : true ≡ false = sym z ∙ f in cc)) (λ z. digit_no_sign c h) in cc)
 
 -- After a piece that touches
 operator_only : (k : Kind) (t : List ℕ) → is_operator_kind k ≡ true → is_token k t ≡ true → is_operator t ≡ true
@@ -228,7 +237,8 @@ sign_head l c u e h = operator_head c u (operator_only l (c ∷ u) h e)
 head_eq : (c o : ℕ) → bytes_eq (c ∷ []) (o ∷ []) ≡ (c == o)
 head_eq c o = ⊎_elim (λ (h : (c == o) ≡ true). rw h refl) (λ (h : (c == o) ≡ false). rw h refl) (bool_cases (c == o))
 
-no_number_behind : (t r : List ℕ) (l : Kind) (c : ℕ) (u : List ℕ) → is_token l (c ∷ u) ≡ true → (bytes_eq t (46 ∷ []) && is_number_kind l) ≡ false → makes_number t (c ∷ r) ≡ false
+no_number_behind : (t r : List ℕ) (l : Kind) (c : ℕ) (u : List ℕ) → is_token l (c ∷ u) ≡ true → (bytes_eq t (46 ∷ []) && is_number_kind l) ≡ false
+    → makes_number t (c ∷ r) ≡ false
 no_number_behind t r l c u e n =
     ⊎_elim
     (λ (h : is_number_kind l ≡ true). let f : (bytes_eq t (46 ∷ []) && true) ≡ false = subst (λ (b : Bool). (bytes_eq t (46 ∷ []) && b) ≡ false) h n in first (bytes_eq t (46 ∷ [])) (is_decimal_digit c) f)
@@ -325,13 +335,15 @@ points_of p q (s ∷ ss) h =
 abbrev pub ArePieces : List Piece → Type 0
 ArePieces qs = list_all (λ r. is_token r.kind r.text) qs ≡ true
 
-third_off : (p q : Piece) (qs : List Piece) (more : List ℕ) → ArePieces qs → Points p q qs → begins (λ c. c == 46) (text_behind q qs ++ 10 ∷ more) ≡ false
+third_off : (p q : Piece) (qs : List Piece) (more : List ℕ) → ArePieces qs → Points p q qs
+    → begins (λ c. c == 46) (text_behind q qs ++ 10 ∷ more) ≡ false
 third_off p q [] more a h = refl
 third_off p q (r ∷ rs) more a h =
     ⊎_elim
     (λ (t : touches q r ≡ true).
     let i = and_parts (is_token r.kind r.text) (list_all (λ r. is_token r.kind r.text) rs) a in
-    rw t (subst (λ (u : List ℕ). begins (λ c. c == 46) u ≡ false) (sym (append_assoc r.text (text_behind r rs) (10 ∷ more))) (head r.kind r.text (text_behind r rs ++ 10 ∷ more) i.0 (h.third r rs refl t))))
+    rw t (subst (λ (u : List ℕ). begins (λ c. c == 46) u ≡ false) (sym (append_assoc r.text (text_behind r rs) (10 ∷ more)))
+    (head r.kind r.text (text_behind r rs ++ 10 ∷ more) i.0 (h.third r rs refl t))))
     (λ (t : touches q r ≡ false). rw t refl)
     (bool_cases (touches q r))
   where
@@ -339,12 +351,15 @@ third_off p q (r ∷ rs) more a h =
     head k [] u e h = absurd (none_empty k e)
     head k (c ∷ t) u e h = sym (head_eq c 46) ∙ h
 
-clear_third : (p q : Piece) (r : List ℕ) → IsPiece p → p.text ≡ 46 ∷ [] → q.text ≡ 46 ∷ [] → begins (λ c. c == 46) r ≡ false → Clear p.kind p.text (q.text ++ r)
+clear_third : (p q : Piece) (r : List ℕ) → IsPiece p → p.text ≡ 46 ∷ [] → q.text ≡ 46 ∷ [] → begins (λ c. c == 46) r ≡ false
+    → Clear p.kind p.text (q.text ++ r)
 clear_third p q r e f g h =
     let i : is_token p.kind (46 ∷ []) ≡ true = subst (λ (t : List ℕ). is_token p.kind t ≡ true) f e in
-    subst (λ (t : List ℕ). Clear p.kind t (q.text ++ r)) (sym f) (subst (λ (u : List ℕ). Clear p.kind (46 ∷ []) (u ++ r)) (sym g) (clear_points p.kind r i h))
+    subst (λ (t : List ℕ). Clear p.kind t (q.text ++ r)) (sym f)
+    (subst (λ (u : List ℕ). Clear p.kind (46 ∷ []) (u ++ r)) (sym g) (clear_points p.kind r i h))
 
-pub clear_behind : (p : Piece) (qs : List Piece) (more : List ℕ) → IsPiece p → ArePieces qs → all_apart p qs ≡ true → Clear p.kind p.text (text_behind p qs ++ 10 ∷ more)
+pub clear_behind : (p : Piece) (qs : List Piece) (more : List ℕ) → IsPiece p → ArePieces qs → all_apart p qs ≡ true
+    → Clear p.kind p.text (text_behind p qs ++ 10 ∷ more)
 clear_behind p [] more e a h = clear_gap p.kind p.text more 10 e feed_gap
 clear_behind p (q ∷ qs) more e a h =
     let i = and_parts (is_token q.kind q.text) (list_all (λ r. is_token r.kind r.text) qs) a in

@@ -1,7 +1,8 @@
 -- A literal in one quote at the front of a text.
 --
 -- Carries: string_front, units_slash, for PieceFronts, Literals. On: Fronts, Cases.
-use Rattle.std.proofs.Common.{◌≡◌, ℕ, ◌+◌, ◌≤◌, Bool, true, false, not, ◌&&◌, ◌||◌, ◌==◌, List, [], ◌∷◌, ◌++◌, length, take, drop, map, refl, sym, ◌∙◌, ap, subst, arith, suc, ⊎_elim, Some, leb, length-append, append_assoc}
+use Rattle.std.proofs.Common.{◌≡◌, ℕ, ◌+◌, ◌≤◌, Bool, true, false, not, ◌&&◌, ◌||◌, ◌==◌, List, [], ◌∷◌, ◌++◌, length, take, drop, map, refl, sym}
+use Rattle.std.proofs.Common.{◌∙◌, ap, subst, arith, suc, ⊎_elim, Some, leb, length-append, append_assoc}
 use Rattle.std.specs.List.{list_all, list_any}
 use Rattle.std.specs.Str.{bytes_eq}
 use Rattle.std.proofs.Math.Seq.{take-append_seam, drop-append_seam}
@@ -10,11 +11,13 @@ use Rattle.std.proofs.lemmas.Slice.Eq.{bytes_eq-Decides}
 use Rattle.pylex_lexeme.specs.declared.lexeme.Class.TheVariants.{String}
 use Rattle.pylex_lexeme.specs.Chars.{begins, is_comment_part}
 use Rattle.pylex_lexeme.specs.Numbers.{split_any, is_nil}
-use Rattle.pylex_lexeme.specs.Strings.{units, is_unit, no_units, ends_by_one, is_single, is_single_string, is_prefix, prefixes, lower, begins_quote, counts_as_string}
+use Rattle.pylex_lexeme.specs.Strings.{units, is_unit, no_units, ends_by_one, is_single, is_single_string, is_prefix, prefixes, lower, begins_quote}
+use Rattle.pylex_lexeme.specs.Strings.{counts_as_string}
 use Rattle.pylex_lexeme.specs.Lengths.{Opens, shift, single_of, single_len, quoted_len, begins_quotes, longest}
 use Rattle.pylex_lexeme.specs.Lexemes.{lexeme_at}
 use Rattle.pylex_lexeme.proofs.Callers.Booleans.{and_parts, or_parts, or_parts_false}
-use Rattle.pylex_lexeme.proofs.Callers.Strings.{IsQuote, quote_is, units_plain, nil_units, unit_one, unit_slash, Which, one, two, string_reads, longest_reads, string_opens}
+use Rattle.pylex_lexeme.proofs.Callers.Strings.{IsQuote, quote_is, units_plain, nil_units, unit_one, unit_slash, Which, one, two, string_reads}
+use Rattle.pylex_lexeme.proofs.Callers.Strings.{longest_reads, string_opens}
 use Rattle.pylex_lexeme.proofs.Callers.Lexemes.{string_takes}
 use Rattle.pyunparse_text.proofs.LexemeFronts.Fronts.{is_lexeme, leaves}
 use Rattle.pyunparse_text.proofs.Cases.{bool_cases, off}
@@ -114,7 +117,8 @@ single_behind q k (c ∷ b ∷ t) r =
     (bool_cases (c == 92))
 
 -- no three quotes stand at a literal in one quote, nor where a quote doesn't follow it
-no_three : (q : ℕ) → IsQuote q → (t r : List ℕ) → ends_by_one q (units t) ≡ true → begins (λ c. c == q) r ≡ false → begins_quotes q (q ∷ t ++ r) ≡ false
+no_three : (q : ℕ) → IsQuote q → (t r : List ℕ) → ends_by_one q (units t) ≡ true → begins (λ c. c == q) r ≡ false
+    → begins_quotes q (q ∷ t ++ r) ≡ false
 no_three q k [] r e b = cc
 no_three q k (c ∷ t) r e b =
     ⊎_elim
@@ -144,7 +148,8 @@ no_three q k (c ∷ t) r e b =
     last (d ∷ t) z = cc
 
 -- what is read from its quote on
-quoted_behind : (q : ℕ) → IsQuote q → (t r : List ℕ) → list_all is_comment_part t ≡ true → ends_by_one q (units t) ≡ true → begins (λ c. c == q) r ≡ false → quoted_len q (q ∷ t ++ r) ≡ length (q ∷ t)
+quoted_behind : (q : ℕ) → IsQuote q → (t r : List ℕ) → list_all is_comment_part t ≡ true → ends_by_one q (units t) ≡ true
+    → begins (λ c. c == q) r ≡ false → quoted_len q (q ∷ t ++ r) ≡ length (q ∷ t)
 unfolding quoted_len single_len
 quoted_behind q k t r a e b =
     let n = no_three q k t r e b in
@@ -167,15 +172,19 @@ begins_which q t (one f) = rw f refl
 begins_which q t (two f) = rw f refl
 
 -- a prefix, a quote, and a body up to that quote
-literal_front : (q : ℕ) (a t r : List ℕ) → Which q → is_prefix a ≡ true → list_all is_comment_part t ≡ true → ends_by_one q (units t) ≡ true → begins_quote r ≡ false → lexeme_at ((a ++ q ∷ t) ++ r) ≡ Some (record { «class» = String; text = a ++ q ∷ t })
+literal_front : (q : ℕ) (a t r : List ℕ) → Which q → is_prefix a ≡ true → list_all is_comment_part t ≡ true → ends_by_one q (units t) ≡ true
+    → begins_quote r ≡ false → lexeme_at ((a ++ q ∷ t) ++ r) ≡ Some (record { «class» = String; text = a ++ q ∷ t })
 literal_front q a t r w p c e b =
     let cs : List ℕ = (a ++ q ∷ t) ++ r in
     let s : cs ≡ a ++ (q ∷ t ++ r) = append_assoc a (q ∷ t) r in
     let d : drop (length a) cs ≡ q ∷ t ++ r = ap (drop (length a)) s ∙ drop-append_seam a (q ∷ t ++ r) in
     let f : take (length a) cs ≡ a = ap (take (length a)) s ∙ take-append_seam a (q ∷ t ++ r) in
-    let o : Opens (length a) cs = record { small = prefix_short a p; «prefix» = ap is_prefix f ∙ p; quote = ap begins_quote d ∙ begins_which q (t ++ r) w } in
+    let o : Opens (length a) cs =
+    record { small = prefix_short a p; «prefix» = ap is_prefix f ∙ p; quote = ap begins_quote d ∙ begins_which q (t ++ r) w } in
     let l : quoted_len q (drop (length a) cs) ≡ suc (length t) = ap (quoted_len q) d ∙ quoted_behind q (quote_of q w) t r c e (no_quote_of q r w b) in
-    let m : longest (counts_as_string cs) cs ≡ length a + suc (length t) = longest_reads (counts_as_string cs) cs (shift (length a) (quoted_len q (drop (length a) cs))) (string_reads q (length a) cs (t ++ r) w o d) ∙ ap (shift (length a)) l in
+    let m : longest (counts_as_string cs) cs ≡ length a + suc (length t) =
+    longest_reads (counts_as_string cs) cs (shift (length a) (quoted_len q (drop (length a) cs))) (string_reads q (length a) cs (t ++ r) w o d)
+    ∙ ap (shift (length a)) l in
     let k = string_takes cs (drop (longest (counts_as_string cs) cs) cs) (string_opens (length a) cs o) (omega arith) refl in
     let n : longest (counts_as_string cs) cs ≡ length (a ++ q ∷ t) = m ∙ sym (length-append a (q ∷ t)) in
     is_lexeme (a ++ q ∷ t) r String (leaves (a ++ q ∷ t) r String (longest (counts_as_string cs) cs) n k)
@@ -184,16 +193,19 @@ all_behind : (a t : List ℕ) → list_all is_comment_part (a ++ t) ≡ true →
 all_behind [] t e = e
 all_behind (c ∷ a) t e = all_behind a t (and_parts (is_comment_part c) (list_all is_comment_part (a ++ t)) e).1
 
-single_front : (q : ℕ) (a b r : List ℕ) → Which q → is_prefix a ≡ true → list_all is_comment_part (a ++ b) ≡ true → is_single q b ≡ true → begins_quote r ≡ false → lexeme_at ((a ++ b) ++ r) ≡ Some (record { «class» = String; text = a ++ b })
+single_front : (q : ℕ) (a b r : List ℕ) → Which q → is_prefix a ≡ true → list_all is_comment_part (a ++ b) ≡ true → is_single q b ≡ true
+    → begins_quote r ≡ false → lexeme_at ((a ++ b) ++ r) ≡ Some (record { «class» = String; text = a ++ b })
 unfolding is_single
 single_front q a [] r w p c e b = cc
 single_front q a (x ∷ t) r w p c e b =
     let s = and_parts (x == q) (ends_by_one q (units t)) e in
     let f : x ≡ q = eqb-true x q s.0 in
     let d = and_parts (is_comment_part x) (list_all is_comment_part t) (all_behind a (x ∷ t) c) in
-    subst (λ (y : ℕ). lexeme_at ((a ++ y ∷ t) ++ r) ≡ Some (record { «class» = String; text = a ++ y ∷ t })) (sym f) (literal_front q a t r w p d.1 s.1 b)
+    subst (λ (y : ℕ). lexeme_at ((a ++ y ∷ t) ++ r) ≡ Some (record { «class» = String; text = a ++ y ∷ t })) (sym f)
+    (literal_front q a t r w p d.1 s.1 b)
 
-pub string_front : (t r : List ℕ) → is_single_string t ≡ true → list_all is_comment_part t ≡ true → begins_quote r ≡ false → lexeme_at (t ++ r) ≡ Some (record { «class» = String; text = t })
+pub string_front : (t r : List ℕ) → is_single_string t ≡ true → list_all is_comment_part t ≡ true → begins_quote r ≡ false
+    → lexeme_at (t ++ r) ≡ Some (record { «class» = String; text = t })
 unfolding is_single_string
 string_front t r e c b =
     let s = split_of is_prefix (λ u. is_single 39 u || is_single 34 u) t e in

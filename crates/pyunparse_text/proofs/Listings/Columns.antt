@@ -1,7 +1,8 @@
 -- The open columns of written lines: 0, 4, 8 and so on.
 --
 -- Carries: columns, columns_above, deeper, not_deeper and 2 more, for Runs, Relisting.
-use Rattle.std.proofs.Common.{◌≡◌, ℕ, ◌+◌, ◌-◌, ◌*◌, ◌≤◌, ◌<◌, Bool, true, false, ◌&&◌, ◌||◌, List, [], ◌∷◌, ◌++◌, refl, sym, ◌∙◌, ap, arith, zero, suc, ⊎_elim, cond, eqb, ltb, filter}
+use Rattle.std.proofs.Common.{◌≡◌, ℕ, ◌+◌, ◌-◌, ◌*◌, ◌≤◌, ◌<◌, Bool, true, false, ◌&&◌, ◌||◌, List, [], ◌∷◌, ◌++◌, refl, sym, ◌∙◌, ap, arith, zero}
+use Rattle.std.proofs.Common.{suc, ⊎_elim, cond, eqb, ltb, filter}
 use Rattle.std.specs.Prelude.{count_by}
 use Rattle.std.specs.List.{list_all, list_any}
 use Rattle.std.proofs.lemmas.List.{append-nil}
@@ -115,5 +116,6 @@ columns_pushed m zero h = ap (λ l. l ++ 0 ∷ []) (none m)
   where
     none : (m : ℕ) → filter (λ v. ltb v 0) (columns m) ≡ []
     none zero = refl
-    none (suc m) = filter_last (λ v. ltb v 0) (columns m) (4 * suc m) ∙ (let e : ltb (4 * suc m) 0 ≡ false = grind (arith, nat_tests) in rw (e, none m) refl)
+    none (suc m) =
+        filter_last (λ v. ltb v 0) (columns m) (4 * suc m) ∙ (let e : ltb (4 * suc m) 0 ≡ false = grind (arith, nat_tests) in rw (e, none m) refl)
 columns_pushed m (suc n) h = ap (λ l. l ++ (4 * suc n) ∷ []) (below_column m n (omega arith))

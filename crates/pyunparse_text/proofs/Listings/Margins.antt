@@ -1,6 +1,7 @@
 -- Carries: the law of written lines. On: the blanks before a written line are spaces, so that they
 -- are as wide whichever way tabs count.
-use Rattle.std.proofs.Common.{◌≡◌, ℕ, ◌+◌, ◌*◌, zero, suc, Bool, true, false, ◌==◌, cond, List, [], ◌∷◌, ◌++◌, length, drop, replicate, refl, sym, ◌∙◌, ap, subst, arith, append_assoc}
+use Rattle.std.proofs.Common.{◌≡◌, ℕ, ◌+◌, ◌*◌, zero, suc, Bool, true, false, ◌==◌, cond, List, [], ◌∷◌, ◌++◌, length, drop, replicate, refl, sym}
+use Rattle.std.proofs.Common.{◌∙◌, ap, subst, arith, append_assoc}
 use Rattle.std.specs.List.{list_all}
 use Rattle.std.specs.Str.{chars, encode_utf8_all, all_scalars}
 use Rattle.std.proofs.Math.Seq.{drop-append_seam}
@@ -55,7 +56,8 @@ pieces_unblank [] r e = cc
 pieces_unblank (p ∷ ps) r e =
     let a = and_parts (list_all (λ q. is_token q.kind q.text) (p ∷ ps)) _ e in
     let b = and_parts (is_token p.kind p.text) (list_all (λ q. is_token q.kind q.text) ps) a.0 in
-    subst (λ (t : List ℕ). begins is_blank_char t ≡ false) (sym (append_assoc p.text (text_behind p ps) r)) (token_no_blank p.kind p.text (text_behind p ps ++ r) b.0)
+    subst (λ (t : List ℕ). begins is_blank_char t ≡ false) (sym (append_assoc p.text (text_behind p ps) r))
+    (token_no_blank p.kind p.text (text_behind p ps ++ r) b.0)
 
 same : (n : ℕ) → (n == n) ≡ true
 same n = grind (arith, nat_tests)
@@ -68,8 +70,11 @@ lines_even (l ∷ ls) w s =
     let b = and_parts (are_readable l.pieces) _ a.0 in
     let k : ℕ = 4 * l.level in
     let rest : List ℕ = spaced l.pieces ++ (10 ∷ [] ++ lines_text ls) in
-    let t : lines_text (l ∷ ls) ≡ replicate k 32 ++ rest = append_assoc (replicate k 32) (spaced l.pieces ++ 10 ∷ []) (lines_text ls) ∙ ap (λ u. replicate k 32 ++ u) (append_assoc (spaced l.pieces) (10 ∷ []) (lines_text ls)) in
-    let f : blanks_of (lines_text (l ∷ ls)) ≡ replicate k 32 = ap blanks_of t ∙ spaces_of k rest (pieces_unblank l.pieces (10 ∷ [] ++ lines_text ls) b.0) in
+    let t : lines_text (l ∷ ls) ≡ replicate k 32 ++ rest =
+    append_assoc (replicate k 32) (spaced l.pieces ++ 10 ∷ []) (lines_text ls)
+    ∙ ap (λ u. replicate k 32 ++ u) (append_assoc (spaced l.pieces) (10 ∷ []) (lines_text ls)) in
+    let f : blanks_of (lines_text (l ∷ ls)) ≡ replicate k 32 =
+    ap blanks_of t ∙ spaces_of k rest (pieces_unblank l.pieces (10 ∷ [] ++ lines_text ls) b.0) in
     let e : (width_from 0 (replicate k 32) == width_by_one 0 (replicate k 32)) ≡ true = rw (eights 0 k, ones 0 k) (same (0 + k)) in
     record { widths = rw f e; scalars = s }
 
@@ -78,14 +83,17 @@ lines_even (l ∷ ls) w s =
 behind_is : (text a rest : List ℕ) (o : ℕ) → text ≡ a ++ rest → o ≡ bytes_in a → all_scalars rest ≡ true → behind_offset text o ≡ rest
 behind_is text a rest o w e s =
     let x : encode_utf8_all text ≡ encode_utf8_all a ++ encode_utf8_all rest = ap encode_utf8_all w ∙ encodes-append a rest in
-    let d : drop o (encode_utf8_all text) ≡ encode_utf8_all rest = ap (λ y. drop o y) x ∙ ap (λ n. drop n (encode_utf8_all a ++ encode_utf8_all rest)) e ∙ drop-append_seam (encode_utf8_all a) (encode_utf8_all rest) in
+    let d : drop o (encode_utf8_all text) ≡ encode_utf8_all rest =
+    ap (λ y. drop o y) x ∙ ap (λ n. drop n (encode_utf8_all a ++ encode_utf8_all rest)) e
+    ∙ drop-append_seam (encode_utf8_all a) (encode_utf8_all rest) in
     ap chars d ∙ chars-encodes rest s
 
 pub margin_even : (text a rest : List ℕ) (o : ℕ) → text ≡ a ++ rest → o ≡ bytes_in a → Even rest → list_all is_even (margin_at text o) ≡ true
 margin_even text a rest o w e v =
     let b : behind_offset text o ≡ rest = behind_is text a rest o w e v.scalars in
     let f : (width_from 0 (blanks_of (behind_offset text o)) == width_by_one 0 (blanks_of (behind_offset text o))) ≡ true = rw b v.widths in
-    by (begins_significant (drop (length (blanks_of (behind_offset text o))) (behind_offset text o))) (record { widths = widths_of (behind_offset text o); start = place_at (encode_utf8_all text) (o + length (blanks_of (behind_offset text o))) }) f
+    by (begins_significant (drop (length (blanks_of (behind_offset text o))) (behind_offset text o)))
+    (record { widths = widths_of (behind_offset text o); start = place_at (encode_utf8_all text) (o + length (blanks_of (behind_offset text o))) }) f
   where
     by : (b : Bool) (m : Margin) → is_even m ≡ true → list_all is_even (cond b (m ∷ []) []) ≡ true
     by true m e = rw e refl
@@ -95,7 +103,8 @@ both_even : (xs ys : List Margin) → list_all is_even xs ≡ true → list_all 
 both_even xs ys a b = list_all-append is_even xs ys ∙ rw (a, b) refl
 
 -- the margin that an entry gives
-given_even : (text : List ℕ) (before : List Entry) (e : Entry) (k : Kind) → e.kind ≡ k → ends_evenly text k e.to ≡ true → list_all is_even (cond (ends_line before e) (margin_at text e.to) []) ≡ true
+given_even : (text : List ℕ) (before : List Entry) (e : Entry) (k : Kind) → e.kind ≡ k → ends_evenly text k e.to ≡ true
+    → list_all is_even (cond (ends_line before e) (margin_at text e.to) []) ≡ true
 given_even text before e kinds.Newline k h = by (ends_line before e)
   where
     by : (b : Bool) → list_all is_even (cond b (margin_at text e.to) []) ≡ true
@@ -108,11 +117,13 @@ given_even text before e kinds.Nl k h = by (ends_line before e)
     by false = refl
 given_even text before e _ k h = rw k refl
 
-pub margins_even : (text : List ℕ) (before es : List Entry) → list_all (λ e. ends_evenly text e.kind e.to) es ≡ true → list_all is_even (margins_from text before es) ≡ true
+pub margins_even : (text : List ℕ) (before es : List Entry) → list_all (λ e. ends_evenly text e.kind e.to) es ≡ true
+    → list_all is_even (margins_from text before es) ≡ true
 margins_even text before [] h = refl
 margins_even text before (e ∷ es) h =
     let a = and_parts (ends_evenly text e.kind e.to) (list_all (λ e. ends_evenly text e.kind e.to) es) h in
-    both_even (cond (ends_line before e) (margin_at text e.to) []) (margins_from text (e ∷ before) es) (given_even text before e e.kind refl a.0) (margins_even text (e ∷ before) es a.1)
+    both_even (cond (ends_line before e) (margin_at text e.to) []) (margins_from text (e ∷ before) es) (given_even text before e e.kind refl a.0)
+    (margins_even text (e ∷ before) es a.1)
 
 -- no token but NEWLINE ends a line
 pub token_even : (text : List ℕ) (o : ℕ) (k : Kind) (t : List ℕ) → is_token k t ≡ true → ends_evenly text k o ≡ true

@@ -1,7 +1,8 @@
 -- Steps of a listing that are entries of tokens.
 --
 -- Carries: Tells, tells_both, marks_told, bytes_both and 2 more, for Runs, Relisting.
-use Rattle.std.proofs.Common.{◌≡◌, ℕ, ◌+◌, ◌-◌, ◌&&◌, List, [], ◌∷◌, ◌++◌, length, take, drop, map, true, refl, sym, ◌∙◌, ap, arith, zero, suc, replicate, Option, None, length-append}
+use Rattle.std.proofs.Common.{◌≡◌, ℕ, ◌+◌, ◌-◌, ◌&&◌, List, [], ◌∷◌, ◌++◌, length, take, drop, map, true, refl, sym, ◌∙◌, ap, arith, zero, suc}
+use Rattle.std.proofs.Common.{replicate, Option, None, length-append}
 use Rattle.std.specs.Prelude.{slice_range}
 use Rattle.std.specs.List.{list_all}
 use Rattle.std.specs.Str.{chars, encode_utf8_all, all_scalars}
@@ -35,7 +36,8 @@ pub record Tells (text : List ℕ) (ss : List Step) (ts : List PlainToken) : Typ
 pub nothing_told : (text : List ℕ) → Tells text [] []
 nothing_told text = record { entries = []; are = refl; tokens = refl; exacts = refl; even = refl }
 
-pub tells_both : (text : List ℕ) (ss rs : List Step) (ts us : List PlainToken) → Tells text ss ts → Tells text rs us → Tells text (ss ++ rs) (ts ++ us)
+pub tells_both : (text : List ℕ) (ss rs : List Step) (ts us : List PlainToken) → Tells text ss ts → Tells text rs us
+    → Tells text (ss ++ rs) (ts ++ us)
 tells_both text ss rs ts us a b = record {
   entries = a.entries ++ b.entries;
   are = ap (λ x. x ++ rs) a.are ∙ ap (λ x. map steps.Entry a.entries ++ x) b.are ∙ sym (map-append steps.Entry a.entries b.entries);
@@ -45,15 +47,22 @@ tells_both text ss rs ts us a b = record {
 }
 
 -- what stands in a text between two offsets
-pub sliced : (text a t b : List ℕ) (lo hi : ℕ) → text ≡ a ++ (t ++ b) → all_scalars t ≡ true → lo ≡ bytes_in a → hi ≡ lo + bytes_in t → chars (slice_range (encode_utf8_all text) lo hi) ≡ t
+pub sliced : (text a t b : List ℕ) (lo hi : ℕ) → text ≡ a ++ (t ++ b) → all_scalars t ≡ true → lo ≡ bytes_in a → hi ≡ lo + bytes_in t
+    → chars (slice_range (encode_utf8_all text) lo hi) ≡ t
 sliced text a t b lo hi w u e f =
-    let x : encode_utf8_all text ≡ encode_utf8_all a ++ (encode_utf8_all t ++ encode_utf8_all b) = ap encode_utf8_all w ∙ encodes-append a (t ++ b) ∙ ap (λ y. encode_utf8_all a ++ y) (encodes-append t b) in
-    let d : drop lo (encode_utf8_all text) ≡ encode_utf8_all t ++ encode_utf8_all b = ap (λ y. drop lo y) x ∙ ap (λ n. drop n (encode_utf8_all a ++ (encode_utf8_all t ++ encode_utf8_all b))) e ∙ drop-append_seam (encode_utf8_all a) (encode_utf8_all t ++ encode_utf8_all b) in
+    let x : encode_utf8_all text ≡ encode_utf8_all a ++ (encode_utf8_all t ++ encode_utf8_all b) =
+    ap encode_utf8_all w ∙ encodes-append a (t ++ b) ∙ ap (λ y. encode_utf8_all a ++ y) (encodes-append t b) in
+    let d : drop lo (encode_utf8_all text) ≡ encode_utf8_all t ++ encode_utf8_all b =
+    ap (λ y. drop lo y) x ∙ ap (λ n. drop n (encode_utf8_all a ++ (encode_utf8_all t ++ encode_utf8_all b))) e
+    ∙ drop-append_seam (encode_utf8_all a) (encode_utf8_all t ++ encode_utf8_all b) in
     let n : hi - lo ≡ length (encode_utf8_all t) = omega arith in
-    let s : take (hi - lo) (drop lo (encode_utf8_all text)) ≡ encode_utf8_all t = ap (λ y. take (hi - lo) y) d ∙ ap (λ m. take m (encode_utf8_all t ++ encode_utf8_all b)) n ∙ take-append_seam (encode_utf8_all t) (encode_utf8_all b) in
+    let s : take (hi - lo) (drop lo (encode_utf8_all text)) ≡ encode_utf8_all t =
+    ap (λ y. take (hi - lo) y) d ∙ ap (λ m. take m (encode_utf8_all t ++ encode_utf8_all b)) n
+    ∙ take-append_seam (encode_utf8_all t) (encode_utf8_all b) in
     ap chars s ∙ chars-encodes t u
 
-pub piece_told : (text a t b : List ℕ) (k : Kind) (e : Option Exact) (p q : Point) → text ≡ a ++ (t ++ b) → all_scalars t ≡ true → p.offset ≡ bytes_in a → q.offset ≡ p.offset + bytes_in t
+pub piece_told : (text a t b : List ℕ) (k : Kind) (e : Option Exact) (p q : Point) → text ≡ a ++ (t ++ b) → all_scalars t ≡ true
+    → p.offset ≡ bytes_in a → q.offset ≡ p.offset + bytes_in t
     → exact_in (record { kind = k; text = t }) ≡ e → ends_evenly text k q.offset ≡ true → Tells text (step_of k e p q ∷ []) (record { kind = k; text = t } ∷ [])
 piece_told text a t b k e p q w u f g x v = record {
   entries = record { kind = k; exact = e; start = p.place; «end» = q.place; «from» = p.offset; to = q.offset } ∷ [];
@@ -66,7 +75,8 @@ piece_told text a t b k e p q w u f g x v = record {
 empty_slice : (text : List ℕ) (o : ℕ) → chars (slice_range (encode_utf8_all text) o o) ≡ []
 empty_slice text o = let n : o - o ≡ 0 = omega arith in rw n chars-nil
 
-pub marks_told : (text : List ℕ) (n : ℕ) (k : Kind) (o : ℕ) (p q : Place) → exact_in (record { kind = k; text = [] }) ≡ None → ends_evenly text k o ≡ true
+pub marks_told : (text : List ℕ) (n : ℕ) (k : Kind) (o : ℕ) (p q : Place) → exact_in (record { kind = k; text = [] }) ≡ None
+    → ends_evenly text k o ≡ true
     → Tells text (replicate n (mark_at k o p q)) (replicate n (record { kind = k; text = [] }))
 marks_told text n k o p q x v = record {
   entries = replicate n (record { kind = k; exact = None; start = p; «end» = q; «from» = o; to = o });
@@ -76,18 +86,24 @@ marks_told text n k o p q x v = record {
   even = all n;
 }
   where
-    none : (n : ℕ) → map (λ (e : Entry). e.exact) (replicate n (record { kind = k; exact = None; start = p; «end» = q; «from» = o; to = o })) ≡ map exact_in (replicate n (record { kind = k; text = [] }))
+    none : (n : ℕ)
+        → map (λ (e : Entry). e.exact) (replicate n (record { kind = k; exact = None; start = p; «end» = q; «from» = o; to = o })) ≡ map exact_in (replicate n (record { kind = k; text = [] }))
     none zero = refl
     none (suc n) = rw (x, none n) refl
 
-    all : (n : ℕ) → list_all (λ (e : Entry). ends_evenly text e.kind e.to) (replicate n (record { kind = k; exact = None; start = p; «end» = q; «from» = o; to = o })) ≡ true
+    all : (n : ℕ)
+        → list_all (λ (e : Entry). ends_evenly text e.kind e.to) (replicate n (record { kind = k; exact = None; start = p; «end» = q; «from» = o; to = o })) ≡ true
     all zero = refl
     all (suc n) = rw v (all n)
 
-    spread : (n : ℕ) → replicate n (mark_at k o p q) ≡ map steps.Entry (replicate n (record { kind = k; exact = None; start = p; «end» = q; «from» = o; to = o }))
+    spread : (n : ℕ)
+        → replicate n (mark_at k o p q) ≡ map steps.Entry (replicate n (record { kind = k; exact = None; start = p; «end» = q; «from» = o; to = o }))
     spread zero = refl
     spread (suc n) = ap (λ x. mark_at k o p q ∷ x) (spread n)
 
-    told : (n : ℕ) → map (token_at text) (replicate n (record { kind = k; exact = None; start = p; «end» = q; «from» = o; to = o })) ≡ replicate n (record { kind = k; text = [] })
+    told : (n : ℕ)
+        → map (token_at text) (replicate n (record { kind = k; exact = None; start = p; «end» = q; «from» = o; to = o })) ≡ replicate n (record { kind = k; text = [] })
     told zero = refl
-    told (suc n) = ap (λ v. record { kind = k; text = v } ∷ map (token_at text) (replicate n (record { kind = k; exact = None; start = p; «end» = q; «from» = o; to = o }))) (empty_slice text o) ∙ ap (λ x. record { kind = k; text = [] } ∷ x) (told n)
+    told (suc n) =
+        ap (λ v. record { kind = k; text = v } ∷ map (token_at text) (replicate n (record { kind = k; exact = None; start = p; «end» = q; «from» = o; to = o }))) (empty_slice text o)
+        ∙ ap (λ x. record { kind = k; text = [] } ∷ x) (told n)

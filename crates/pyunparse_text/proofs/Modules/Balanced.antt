@@ -3,7 +3,9 @@
 use Rattle.std.proofs.Common.{◌≡◌, refl, ℕ, suc, List, [], ◌∷◌, ◌++◌, Option, Some, None, Bool, true, false, cond}
 use Rattle.std.specs.Prelude.{map}
 use Rattle.pylex_lexeme.specs.declared.kinds.Exact.{Exact}
-use Rattle.pylex_lexeme.specs.declared.kinds.Exact.TheVariants.{LPar, RPar, LSqb, RSqb, LBrace, RBrace, Colon, Plus, Minus, Star, Slash, VBar, Amper, Less, Greater, Percent, EqEqual, NotEqual, LessEqual, GreaterEqual, Tilde, Circumflex, LeftShift, RightShift, DoubleSlash, At, Ellipsis}
+use Rattle.pylex_lexeme.specs.declared.kinds.Exact.TheVariants.{LPar, RPar, LSqb, RSqb, LBrace, RBrace, Colon, Plus, Minus, Star, Slash, VBar, Amper}
+use Rattle.pylex_lexeme.specs.declared.kinds.Exact.TheVariants.{Less, Greater, Percent, EqEqual, NotEqual, LessEqual, GreaterEqual, Tilde, Circumflex}
+use Rattle.pylex_lexeme.specs.declared.kinds.Exact.TheVariants.{LeftShift, RightShift, DoubleSlash, At, Ellipsis}
 use Rattle.pytoken.specs.declared.keywords.Keyword.TheVariants as Key
 use Rattle.pytree_node.specs.declared.operators.Operator.{Operator}
 use Rattle.pytree_node.specs.declared.operators.UnaryOperator.{UnaryOperator}
@@ -18,6 +20,7 @@ use Rattle.pytoken.specs.Terminals.{Terminal, Op, Word, Literal}
 use Rattle.pygrammar.specs.Operators.{left_operator, prefix_operator, chain_word, comparison}
 use Rattle.pygrammar.specs.Constants.{constant_word}
 use Rattle.pygrammar.specs.Entries.{Item, Entry}
+use Rattle.pygrammar.specs.FormattedStrings.{StringPart}
 use Rattle.pygrammar.specs.Grammar as G
 
 pub data Kind : Type 0 where
@@ -152,6 +155,7 @@ module _ (a : Bool) where
     good (G.constant {t = t} {v = v} h) = good_on (constant_plain t v h) none
     good G.number = good_on refl none
     good (G.strings vs h) = good_on refl (literals vs)
+    good (G.joined_string p b h) = strings p
     good (G.group p) = let u = good p in record { at = λ n. up refl (both (u.at (suc n)) (down refl ends)) }
     good (G.yield_group p) = let u = yields p in record { at = λ n. up refl (on refl (both (u.at (suc n)) (down refl ends))) }
     good G.empty_tuple = record { at = λ n. up refl (down refl ends) }
@@ -170,6 +174,20 @@ module _ (a : Bool) where
     good (G.star_part p) = good_on refl (good p)
     good (G.slice b c) = good_both (perhaps b) (good_on refl (perhaps c))
     good (G.slice_step b c d) = good_both (perhaps b) (good_on refl (good_both (perhaps c) (good_on refl (perhaps d))))
+
+    strings : {u : Bool} {ts : List Terminal} {ps : List StringPart} → G.Literals u ts ps → Good a ts
+    strings G.no_literal = none
+    strings (G.text_literal p) = good_on refl (strings p)
+    strings (G.formatted_literal p q) = good_on refl (good_both (formatted p) (good_on refl (strings q)))
+
+    formatted : {u : Bool} {ts : List Terminal} {ps : List StringPart} → G.Formatted u ts ps → Good a ts
+    formatted G.no_part = none
+    formatted (G.text_part p) = good_on refl (formatted p)
+    formatted (G.field_part p q r) = good_on refl (good_both (good p) (good_both (spec q) (good_on refl (formatted r))))
+
+    spec : {u : Bool} {ts : List Terminal} {e : OptionalExpr} → G.Spec u ts e → Good a ts
+    spec G.no_spec = none
+    spec (G.spec p) = good_on refl (formatted p)
 
     yields : {ts : List Terminal} {e : Expr} → G.Yields ts e → Good a ts
     yields (G.yield_from p) = good_on refl (good p)

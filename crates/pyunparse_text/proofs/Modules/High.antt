@@ -2,7 +2,9 @@
 use Rattle.std.proofs.Common.{ℕ, ◌≤◌, arith, List, [], ◌∷◌, ◌++◌, Option, Bool, true, false}
 use Rattle.pytree_node.specs.Trees.{Expr, Stmt, Case, Handler, Item, stmts, cases, handlers}
 use Rattle.pytree_height.specs.Heights.{list_height, item_heights, highest_in_all, highest_in_cases, highest_in_handlers}
-use Rattle.pygrammar.specs.Lines.{Line, header_form, Header, if_header, elif_header, else_header, loop_header, with_header, try_header, except_header, finally_header, def_header, case_header, LoopHead, while_head, for_head, DefHead, function_head, class_head, loop, with_of, definition, try_of}
+use Rattle.pygrammar.specs.Lines.{Line, header_form, Header, if_header, elif_header, else_header, loop_header, with_header, try_header, except_header}
+use Rattle.pygrammar.specs.Lines.{finally_header, def_header, case_header, LoopHead, while_head, for_head, DefHead, function_head, class_head, loop}
+use Rattle.pygrammar.specs.Lines.{with_of, definition, try_of}
 use Rattle.pygrammar.specs.FormHeights.{header_height, form_height}
 use Rattle.pygrammar.specs.Blocks as B
 use Rattle.pyunparse_text.specs.Laws.{AreWithin, ModulesAreLow}
@@ -21,7 +23,8 @@ joined n (s ∷ ss) more h k = let w = joined n ss more (omega (arith, h)) k in 
 
 -- ---- A statement from its header and blocks.
 
-loop_high : (n : ℕ) (head : LoopHead) (body orelse : List Stmt) → header_height (loop_header head) ≤ n → highest body ≤ n → highest orelse ≤ n → highest (loop head body orelse ∷ []) ≤ n
+loop_high : (n : ℕ) (head : LoopHead) (body orelse : List Stmt) → header_height (loop_header head) ≤ n → highest body ≤ n → highest orelse ≤ n
+    → highest (loop head body orelse ∷ []) ≤ n
 loop_high n (while_head test) body orelse h k l = omega (arith, h, k, l)
 loop_high n (for_head false t e) body orelse h k l = omega (arith, h, k, l)
 loop_high n (for_head true t e) body orelse h k l = omega (arith, h, k, l)
@@ -30,11 +33,13 @@ with_high : (n : ℕ) (b : Bool) (is : List Item) (body : List Stmt) → item_he
 with_high n false is body h k = omega (arith, h, k)
 with_high n true is body h k = omega (arith, h, k)
 
-try_high : (n : ℕ) (b : Bool) (body : List Stmt) (hs : List Handler) (orelse final : List Stmt) → highest body ≤ n → highest_in_handlers (handlers hs) ≤ n → highest orelse ≤ n → highest final ≤ n → highest (try_of b body hs orelse final ∷ []) ≤ n
+try_high : (n : ℕ) (b : Bool) (body : List Stmt) (hs : List Handler) (orelse final : List Stmt) → highest body ≤ n
+    → highest_in_handlers (handlers hs) ≤ n → highest orelse ≤ n → highest final ≤ n → highest (try_of b body hs orelse final ∷ []) ≤ n
 try_high n false body hs orelse final h k l m = omega (arith, h, k, l, m)
 try_high n true body hs orelse final h k l m = omega (arith, h, k, l, m)
 
-definition_high : (n : ℕ) (es : List Expr) (head : DefHead) (body : List Stmt) → list_height es ≤ n → header_height (def_header head) ≤ n → highest body ≤ n → highest (definition es head body ∷ []) ≤ n
+definition_high : (n : ℕ) (es : List Expr) (head : DefHead) (body : List Stmt) → list_height es ≤ n → header_height (def_header head) ≤ n
+    → highest body ≤ n → highest (definition es head body ∷ []) ≤ n
 definition_high n es (function_head false x ps a r) body h k l = omega (arith, h, k, l)
 definition_high n es (function_head true x ps a r) body h k l = omega (arith, h, k, l)
 definition_high n es (class_head x ps bs ks) body h k l = omega (arith, h, k, l)
@@ -69,7 +74,8 @@ mutual
   statement_high n (B.match_statement c) h = let u = cases_high n c h.1 in omega (arith, h.0, u)
 
   -- a header's form and the lines of its block
-  body_high : (n : ℕ) {l : ℕ} {suite : Option (List Stmt)} {xs : List Line} {ss : List Stmt} (head : Header) → B.Body l suite xs ss → form_height (header_form head suite) ≤ n → AreWithin n xs → (header_height head ≤ n) × (highest ss ≤ n)
+  body_high : (n : ℕ) {l : ℕ} {suite : Option (List Stmt)} {xs : List Line} {ss : List Stmt} (head : Header) → B.Body l suite xs ss
+      → form_height (header_form head suite) ≤ n → AreWithin n xs → (header_height head ≤ n) × (highest ss ≤ n)
   body_high n head B.inline h k = (omega (arith, h), omega (arith, h))
   body_high n head (B.indented p) h k = (h, block_high n p k)
 
@@ -86,7 +92,8 @@ mutual
   ending_high n B.no_finally h = omega arith
   ending_high n (B.finally_clause p) h = (body_high n finally_header p h.0 h.1).1
 
-  excepts_high : (n : ℕ) {l : ℕ} {star : Bool} {xs : List Line} {hs : List Handler} → B.Excepts l star xs hs → AreWithin n xs → highest_in_handlers (handlers hs) ≤ n
+  excepts_high : (n : ℕ) {l : ℕ} {star : Bool} {xs : List Line} {hs : List Handler} → B.Excepts l star xs hs → AreWithin n xs
+      → highest_in_handlers (handlers hs) ≤ n
   excepts_high n B.no_except h = omega arith
   excepts_high n (B.except_clause {star = star} {matched = e} {name = x} {xs = xs} {ys = ys} p q) h =
       let w = parted n xs ys h.1 in let u = body_high n (except_header star e x) p h.0 w.0 in let v = excepts_high n q w.1 in omega (arith, u.0, u.1, v)

@@ -24,7 +24,8 @@ use Rattle.pyunparse_text.proofs.Modules.Wells.{HeadOf, other_head, match_head, 
 use Rattle.pyunparse_text.proofs.Modules.Places.{blocks_placed, in_place}
 use Rattle.pyunparse_text.proofs.Modules.Again.{Simple, Head, Test, wells_again}
 
-pattern_again : {l : PatternLevel} {ts : List Terminal} {p : Pattern} → Told ts → DerivesPattern l ts p → DerivesPattern l (written_pattern terminal l p) p
+pattern_again : {l : PatternLevel} {ts : List Terminal} {p : Pattern} → Told ts → DerivesPattern l ts p
+    → DerivesPattern l (written_pattern terminal l p) p
 pattern_again q d = here (claim d) q
 
 elif_again : {profile : Profile} {ts : List Terminal} {e : Expr} → F.HeaderOf profile ts (if_header e) → Head profile (elif_header e)
@@ -36,7 +37,8 @@ if_again (F.elif_line p) = other_head (F.if_line (again p))
 head_again : {profile : Profile} {ts : List Terminal} {h : Header} → Told ts → HeadOf profile ts h → Head profile h
 head_again q (other_head p) = other_head (header_again items_again p)
 head_again q (match_head form w p) = match_head F.match_name w (again p)
-head_again q (case_head w (F.case_line {ts = ts} {us = us} form d g)) = case_head w (F.case_line F.case_name (pattern_again (told_front ts us (told_rest q)) d) (behind_again g))
+head_again q (case_head w (F.case_line {ts = ts} {us = us} form d g)) =
+    case_head w (F.case_line F.case_name (pattern_again (told_front ts us (told_rest q)) d) (behind_again g))
 
 decorator_again : {profile : Profile} {ts : List Terminal} {e : Expr} → F.FormOf profile ts (decorator_form e) → Test e
 decorator_again (F.decorator_line p) = again p
@@ -49,12 +51,14 @@ all_again profile = record {
   if_too = λ q p. if_again p;
   decorator = λ q p. decorator_again p;
   front = told_front;
-  rest = told_behind;
+  rest = λ ts us t c n. told_behind ts us t;
 }
 
-formed : {profile : Profile} {earlier : List Line} {ws : List (WrittenLine Terminal)} {xs : List Line} → All MayBeTokens ws → HaveForms profile earlier ws xs → Formed (Simple profile) (Head profile) Test profile Told (all_again profile) xs
+formed : {profile : Profile} {earlier : List Line} {ws : List (WrittenLine Terminal)} {xs : List Line} → All MayBeTokens ws
+    → HaveForms profile earlier ws xs → Formed (Simple profile) (Head profile) Test profile Told (all_again profile) xs
 formed h no_form = none_formed
-formed h (a_form {l = l} {ts = ts} {ws = ws} p c) = one_formed (record { all = All-head MayBeTokens (written_line l ts) ws h }) p (formed (All-tail MayBeTokens (written_line l ts) ws h) c)
+formed h (a_form {l = l} {ts = ts} {ws = ws} p c) =
+    one_formed (record { all = All-head MayBeTokens (written_line l ts) ws h }) p (formed (All-tail MayBeTokens (written_line l ts) ws h) c)
 
 pub modules_again : ModulesComeBack
 modules_again profile ws m g h =

@@ -3,7 +3,9 @@
 use Rattle.std.proofs.Common.{ℕ, ◌≤◌, arith, List, [], ◌∷◌, ◌++◌, Option, Bool, true, false}
 use Rattle.pytree_node.specs.Trees.{Expr, Stmt, Case, Handler, Item, stmts, cases, handlers}
 use Rattle.pytree_height.specs.Heights.{list_height, item_heights, highest_in_all, highest_in_cases, highest_in_handlers}
-use Rattle.pygrammar.specs.Lines.{Line, header_form, Header, if_header, elif_header, else_header, loop_header, with_header, try_header, except_header, finally_header, def_header, case_header, LoopHead, while_head, for_head, DefHead, function_head, class_head, loop, with_of, definition, try_of}
+use Rattle.pygrammar.specs.Lines.{Line, header_form, Header, if_header, elif_header, else_header, loop_header, with_header, try_header, except_header}
+use Rattle.pygrammar.specs.Lines.{finally_header, def_header, case_header, LoopHead, while_head, for_head, DefHead, function_head, class_head, loop}
+use Rattle.pygrammar.specs.Lines.{with_of, definition, try_of}
 use Rattle.pygrammar.specs.FormHeights.{header_height, form_height}
 use Rattle.pygrammar.specs.Blocks as B
 use Rattle.pyunparse_text.specs.Laws.{AreWithin, FormsAreLow}
@@ -23,20 +25,24 @@ apart n (s ∷ ss) more h = let w = apart n ss more (omega (arith, h)) in (omega
 
 -- ---- A statement's header and blocks.
 
-loop_parts : (n : ℕ) (head : LoopHead) (body orelse : List Stmt) → highest (loop head body orelse ∷ []) ≤ n → (header_height (loop_header head) ≤ n) × (highest body ≤ n) × (highest orelse ≤ n)
+loop_parts : (n : ℕ) (head : LoopHead) (body orelse : List Stmt) → highest (loop head body orelse ∷ []) ≤ n
+    → (header_height (loop_header head) ≤ n) × (highest body ≤ n) × (highest orelse ≤ n)
 loop_parts n (while_head test) body orelse h = (omega (arith, h), omega (arith, h), omega (arith, h))
 loop_parts n (for_head false t e) body orelse h = (omega (arith, h), omega (arith, h), omega (arith, h))
 loop_parts n (for_head true t e) body orelse h = (omega (arith, h), omega (arith, h), omega (arith, h))
 
-with_parts : (n : ℕ) (b : Bool) (is : List Item) (body : List Stmt) → highest (with_of b is body ∷ []) ≤ n → (item_heights is ≤ n) × (highest body ≤ n)
+with_parts : (n : ℕ) (b : Bool) (is : List Item) (body : List Stmt) → highest (with_of b is body ∷ []) ≤ n
+    → (item_heights is ≤ n) × (highest body ≤ n)
 with_parts n false is body h = (omega (arith, h), omega (arith, h))
 with_parts n true is body h = (omega (arith, h), omega (arith, h))
 
-try_parts : (n : ℕ) (b : Bool) (body : List Stmt) (hs : List Handler) (orelse final : List Stmt) → highest (try_of b body hs orelse final ∷ []) ≤ n → (highest body ≤ n) × (highest_in_handlers (handlers hs) ≤ n) × (highest orelse ≤ n) × (highest final ≤ n)
+try_parts : (n : ℕ) (b : Bool) (body : List Stmt) (hs : List Handler) (orelse final : List Stmt) → highest (try_of b body hs orelse final ∷ []) ≤ n
+    → (highest body ≤ n) × (highest_in_handlers (handlers hs) ≤ n) × (highest orelse ≤ n) × (highest final ≤ n)
 try_parts n false body hs orelse final h = (omega (arith, h), omega (arith, h), omega (arith, h), omega (arith, h))
 try_parts n true body hs orelse final h = (omega (arith, h), omega (arith, h), omega (arith, h), omega (arith, h))
 
-definition_parts : (n : ℕ) (es : List Expr) (head : DefHead) (body : List Stmt) → highest (definition es head body ∷ []) ≤ n → (list_height es ≤ n) × (header_height (def_header head) ≤ n) × (highest body ≤ n)
+definition_parts : (n : ℕ) (es : List Expr) (head : DefHead) (body : List Stmt) → highest (definition es head body ∷ []) ≤ n
+    → (list_height es ≤ n) × (header_height (def_header head) ≤ n) × (highest body ≤ n)
 definition_parts n es (function_head false x ps a r) body h = (omega (arith, h), omega (arith, h), omega (arith, h))
 definition_parts n es (function_head true x ps a r) body h = (omega (arith, h), omega (arith, h), omega (arith, h))
 definition_parts n es (class_head x ps bs ks) body h = (omega (arith, h), omega (arith, h), omega (arith, h))
@@ -66,7 +72,8 @@ mutual
   statement_low n (B.match_statement c) h = (omega (arith, h), cases_low n c (omega (arith, h)))
 
   -- a header's form and the lines of its block
-  body_low : (n : ℕ) {l : ℕ} {suite : Option (List Stmt)} {xs : List Line} {ss : List Stmt} (head : Header) → B.Body l suite xs ss → header_height head ≤ n → highest ss ≤ n → (form_height (header_form head suite) ≤ n) × AreWithin n xs
+  body_low : (n : ℕ) {l : ℕ} {suite : Option (List Stmt)} {xs : List Line} {ss : List Stmt} (head : Header) → B.Body l suite xs ss
+      → header_height head ≤ n → highest ss ≤ n → (form_height (header_form head suite) ≤ n) × AreWithin n xs
   body_low n head B.inline h k = (omega (arith, h, k), tt)
   body_low n head (B.indented p) h k = (h, block_low n p k)
 
@@ -82,7 +89,8 @@ mutual
   ending_low n B.no_finally h = tt
   ending_low n (B.finally_clause p) h = body_low n finally_header p (omega arith) h
 
-  excepts_low : (n : ℕ) {l : ℕ} {star : Bool} {xs : List Line} {hs : List Handler} → B.Excepts l star xs hs → highest_in_handlers (handlers hs) ≤ n → AreWithin n xs
+  excepts_low : (n : ℕ) {l : ℕ} {star : Bool} {xs : List Line} {hs : List Handler} → B.Excepts l star xs hs → highest_in_handlers (handlers hs) ≤ n
+      → AreWithin n xs
   excepts_low n B.no_except h = tt
   excepts_low n (B.except_clause {star = star} {matched = e} {name = x} {xs = xs} p q) h = let u = body_low n (except_header star e x) p (omega (arith, h)) (omega (arith, h)) in (u.0, within_both n xs _ u.1 (excepts_low n q (omega (arith, h))))
 

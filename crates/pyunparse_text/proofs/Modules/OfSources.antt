@@ -1,10 +1,9 @@
 -- Carries: the law of source text. On: the tokens of an accepted source are of Unicode characters
 -- and have no fault, so that its module is the one that its own text is.
 use Rattle.std.proofs.Common.{◌≡◌, refl, sym, ap, subst, ◌∙◌, ℕ, ◌+◌, Bool, true, false, List, [], ◌∷◌, ◌++◌, append_assoc, None}
-use Rattle.std.specs.Prelude.{All, map}
+use Rattle.std.specs.Prelude.{All}
+use Rattle.std.specs.List.{flat_map}
 use Rattle.std.specs.Str.{all_scalars}
-use Rattle.std.proofs.Math.Utf8.{scalar}
-use Rattle.std.proofs.lemmas.Bool.{and_parts, and_from}
 use Rattle.std.proofs.lemmas.List.Elements.{All-nil, All-cons, All-head, All-tail, All-append}
 use Rattle.pysource.specs.declared.places.Place.{Place}
 use Rattle.pylex_lexeme.specs.Chars.{bytes_in}
@@ -20,30 +19,25 @@ use Rattle.pytree_node.specs.declared.profiles.Profile.{Profile}
 use Rattle.pytoken.specs.Tokens.{Token, text_of, supplied, is_open, tokens_of_entry, tokens_from, tokens, lines_from, lines}
 use Rattle.pytoken.specs.Tokens as Tokens
 use Rattle.pytoken.specs.Refusals.{refusal}
-use Rattle.pytoken.specs.Terminals.{terminal_of, fault_of, IsSound}
+use Rattle.pytoken.specs.Terminals.{terminals_of, fault_of, IsSound}
 use Rattle.pytoken.proofs.Callers.Said.{tokens_are_sound, extents_differ_in_numbers}
 use Rattle.pygrammar.specs.Lines.{Line}
 use Rattle.pygrammar.specs.Refusals.{terminals, Formed, formed_end, formed_line}
 use Rattle.pyunparse_text.proofs.Callers.Lists.{bytes_both, sliced}
 use Rattle.pyunparse_text.specs.Modules.{written_line}
-use Rattle.pyunparse_text.specs.Laws.{IsOfToken, AreOfTokens, AreWithin, source_lines, IsOfSourceIn, TokensAreOfTokens, AcceptedTextsAreAccepted}
+use Rattle.pyunparse_text.specs.Laws.{AreOfTokens, no_token, a_token, IsOfTokens, AreWithin, source_lines, IsOfSourceIn, TokensAreOfTokens}
+use Rattle.pyunparse_text.specs.Laws.{AcceptedTextsAreAccepted}
+use Rattle.pyunparse_text.proofs.StringTerminals.Elements.{front_scalars, back_scalars}
 use Rattle.pyunparse_text.proofs.Modules.High.{modules_low}
 use Rattle.pyunparse_text.proofs.Modules.Accepted.{source_forms, texts_accepted}
 
 -- ---- The characters of tokens.
 
-front_scalars : (t b : List ℕ) → all_scalars (t ++ b) ≡ true → all_scalars t ≡ true
-front_scalars [] b h = refl
-front_scalars (c ∷ t) b h = let w = and_parts (scalar c) (all_scalars (t ++ b)) h in and_from (scalar c) (all_scalars t) w.0 (front_scalars t b w.1)
-
-back_scalars : (a b : List ℕ) → all_scalars (a ++ b) ≡ true → all_scalars b ≡ true
-back_scalars [] b h = h
-back_scalars (c ∷ a) b h = back_scalars a b (and_parts (scalar c) (all_scalars (a ++ b)) h).1
-
 abbrev HasCharacters : List ℕ → Entry → Type 0
 HasCharacters text e = all_scalars (text_of text e) ≡ true
 
-covered : (text a t : List ℕ) (o : ℕ) (es : List Entry) (left : List ℕ) → text ≡ a ++ t → o ≡ bytes_in a → all_scalars t ≡ true → Covers o t es left → All (HasCharacters text) es
+covered : (text a t : List ℕ) (o : ℕ) (es : List Entry) (left : List ℕ) → text ≡ a ++ t → o ≡ bytes_in a → all_scalars t ≡ true → Covers o t es left
+    → All (HasCharacters text) es
 covered text a t o [] left w e s c = All-nil (HasCharacters text)
 covered text a t o (x ∷ es) left w e s c =
     let n : StandsNext o t x = c.0 in
@@ -55,7 +49,8 @@ covered text a t o (x ∷ es) left w e s c =
     let is : text_of text x ≡ n.own = sliced text b n.own n.behind x.«from» x.to p own f n.ends in
     let q : text ≡ (b ++ n.own) ++ n.behind = p ∙ sym (append_assoc b n.own n.behind) in
     let l : x.to ≡ bytes_in (b ++ n.own) = n.ends ∙ ap (λ k. k + bytes_in n.own) f ∙ sym (bytes_both b n.own) in
-    All-cons (HasCharacters text) x es (ap all_scalars is ∙ own) (covered text (b ++ n.own) n.behind x.to es left q l (back_scalars n.own n.behind r) c.1)
+    All-cons (HasCharacters text) x es (ap all_scalars is ∙ own)
+    (covered text (b ++ n.own) n.behind x.to es left q l (back_scalars n.own n.behind r) c.1)
 
 abbrev IsText : Token → Type 0
 IsText t = all_scalars t.text ≡ true
@@ -63,7 +58,8 @@ IsText t = all_scalars t.text ≡ true
 alone : (k : Kind) (p : Place) (t : List ℕ) → all_scalars t ≡ true → All IsText (record { kind = k; start = p; text = t } ∷ [])
 alone k p t h = All-cons IsText (record { kind = k; start = p; text = t }) [] h (All-nil IsText)
 
-behind_supplied : (text : List ℕ) (k : Kind) (p : Place) (t : List ℕ) → all_scalars t ≡ true → All IsText (supplied text ∷ (record { kind = k; start = p; text = t } ∷ []))
+behind_supplied : (text : List ℕ) (k : Kind) (p : Place) (t : List ℕ) → all_scalars t ≡ true
+    → All IsText (supplied text ∷ (record { kind = k; start = p; text = t } ∷ []))
 behind_supplied text k p t h = All-cons IsText (supplied text) (record { kind = k; start = p; text = t } ∷ []) refl (alone k p t h)
 
 given_texts : (text : List ℕ) (b : Bool) (e : Entry) (k : Kind) → e.kind ≡ k → HasCharacters text e → All IsText (tokens_of_entry text b e)
@@ -82,11 +78,13 @@ all_texts : (text : List ℕ) (before es : List Entry) → All (HasCharacters te
 all_texts text before [] h = All-nil IsText
 all_texts text before (e ∷ es) h =
     All-append IsText (tokens_of_entry text (is_open before) e) (tokens_from text (e ∷ before) es)
-    (given_texts text (is_open before) e e.kind refl (All-head (HasCharacters text) e es h)) (all_texts text (e ∷ before) es (All-tail (HasCharacters text) e es h))
+    (given_texts text (is_open before) e e.kind refl (All-head (HasCharacters text) e es h))
+    (all_texts text (e ∷ before) es (All-tail (HasCharacters text) e es h))
 
 token_texts : (s : Source) → IsLawful s → all_scalars s.text ≡ true → All IsText (tokens s)
 unfolding tokens
-token_texts s w h = all_texts s.text [] (entries_of (listing s)) (covered s.text [] s.text 0 (entries_of (listing s)) w.covered.left refl refl h w.covered.covers)
+token_texts s w h =
+    all_texts s.text [] (entries_of (listing s)) (covered s.text [] s.text 0 (entries_of (listing s)) w.covered.left refl refl h w.covered.covers)
 
 -- ---- Lines of tokens.
 
@@ -100,7 +98,8 @@ module _ (extent : Extent) where
   all_of : (ts : List Token) → All IsText ts → All Sound ts → All (Faultless extent) ts → All (IsOfSourceIn extent) ts
   all_of [] a b c = All-nil (IsOfSourceIn extent)
   all_of (t ∷ ts) a b c =
-      All-cons (IsOfSourceIn extent) t ts ((All-head IsText t ts a, All-head Sound t ts b), All-head (Faultless extent) t ts c) (all_of ts (All-tail IsText t ts a) (All-tail Sound t ts b) (All-tail (Faultless extent) t ts c))
+      All-cons (IsOfSourceIn extent) t ts ((All-head IsText t ts a, All-head Sound t ts b), All-head (Faultless extent) t ts c)
+      (all_of ts (All-tail IsText t ts a) (All-tail Sound t ts b) (All-tail (Faultless extent) t ts c))
 
   abbrev Good : Tokens.Line → Type 0
   Good x = All (IsOfSourceIn extent) x.tokens
@@ -119,7 +118,9 @@ module _ (extent : Extent) where
   all_lines : (before line ts : List Token) → All (IsOfSourceIn extent) line → All (IsOfSourceIn extent) ts → All Good (lines_from before line ts)
   all_lines before line [] a h = All-nil Good
   all_lines before line (t ∷ ts) a h =
-      let b : All (IsOfSourceIn extent) (line ++ t ∷ []) = All-append (IsOfSourceIn extent) line (t ∷ []) a (All-cons (IsOfSourceIn extent) t [] (All-head (IsOfSourceIn extent) t ts h) (All-nil (IsOfSourceIn extent))) in
+      let b : All (IsOfSourceIn extent) (line ++ t ∷ []) =
+      All-append (IsOfSourceIn extent) line (t ∷ []) a
+      (All-cons (IsOfSourceIn extent) t [] (All-head (IsOfSourceIn extent) t ts h) (All-nil (IsOfSourceIn extent))) in
       (goes t.kind t refl).at before line ts a b (λ u c. all_lines (t ∷ before) u ts c (All-tail (IsOfSourceIn extent) t ts h))
 
   good_lines : (s : Source) → All (IsOfSourceIn extent) (tokens s) → All Good (lines s)
@@ -128,23 +129,26 @@ module _ (extent : Extent) where
 
   -- ---- Their terminals.
 
-  token_terminals : (ts : List Token) → All (IsOfSourceIn extent) ts → All (IsOfToken extent) (map (λ (t : Token). terminal_of t.kind t.text) ts)
-  token_terminals [] h = All-nil (IsOfToken extent)
+  token_terminals : (ts : List Token) → All (IsOfSourceIn extent) ts → AreOfTokens extent (flat_map (λ (t : Token). terminals_of t.kind t.text) ts)
+  token_terminals [] h = no_token
   token_terminals (t ∷ ts) h =
       let g : IsOfSourceIn extent t = All-head (IsOfSourceIn extent) t ts h in
-      All-cons (IsOfToken extent) (terminal_of t.kind t.text) _ (record { kind = t.kind; text = t.text; characters = g.0.0; gives = record { terminal = refl; sound = g.0.1 }; faultless = g.1 }) (token_terminals ts (All-tail (IsOfSourceIn extent) t ts h))
+      a_token {k = t.kind} {text = t.text} g.0.0 (record { terminals = refl; sound = g.0.1; faultless = g.1 })
+      (token_terminals ts (All-tail (IsOfSourceIn extent) t ts h))
 
-  lines_of : (xs : List Tokens.Line) → All Good xs → All (AreOfTokens extent) (source_lines xs)
-  lines_of [] h = All-nil (AreOfTokens extent)
+  lines_of : (xs : List Tokens.Line) → All Good xs → All (IsOfTokens extent) (source_lines xs)
+  lines_of [] h = All-nil (IsOfTokens extent)
   lines_of (x ∷ xs) h =
-      All-cons (AreOfTokens extent) (written_line x.level (terminals x)) (source_lines xs) (token_terminals x.tokens (All-head Good x xs h)) (lines_of xs (All-tail Good x xs h))
+      All-cons (IsOfTokens extent) (written_line x.level (terminals x)) (source_lines xs) (token_terminals x.tokens (All-head Good x xs h))
+      (lines_of xs (All-tail Good x xs h))
 
 pub lines_of_tokens : TokensAreOfTokens
 lines_of_tokens extent xs h = lines_of extent xs h
 
 -- ---- Accepted sources.
 
-formed_low : {profile : Profile} {earlier : List Line} {xs : List Tokens.Line} {forms : List Line} → Formed profile earlier xs forms → AreWithin 500 forms
+formed_low : {profile : Profile} {earlier : List Line} {xs : List Tokens.Line} {forms : List Line} → Formed profile earlier xs forms
+    → AreWithin 500 forms
 formed_low formed_end = tt
 formed_low (formed_line p c) = (p.low, formed_low c)
 
@@ -153,7 +157,8 @@ whole_faultless : (ts : List Token) → All Sound ts → All (Faultless Whole) t
 whole_faultless [] h = All-nil (Faultless Whole)
 whole_faultless (t ∷ ts) h = All-cons (Faultless Whole) t ts (All-head Sound t ts h).faultless (whole_faultless ts (All-tail Sound t ts h))
 
-tokens_of_source : (extent : Extent) (s : Source) → IsLawful s → all_scalars s.text ≡ true → refusal extent s ≡ None → All (IsOfSourceIn extent) (tokens s)
+tokens_of_source : (extent : Extent) (s : Source) → IsLawful s → all_scalars s.text ≡ true → refusal extent s ≡ None
+    → All (IsOfSourceIn extent) (tokens s)
 tokens_of_source Plain s w h r =
     let d = (extents_differ_in_numbers s).0 r in
     all_of Plain (tokens s) (token_texts s w h) (tokens_are_sound s w h d.0) d.1

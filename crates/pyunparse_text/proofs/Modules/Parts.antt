@@ -37,7 +37,8 @@ module _ (A : Type 0) (X : List Terminal → A → Type 0) (f : A → List Termi
   none_listed (F.alone p) h = absurd (cc)
   none_listed (F.comma p c) h = absurd (cc)
 
-  more_listed : (a : A) (as_ : List A) → X (f a) a → F.Commas A X (listed terminal (map f as_)) as_ → F.Commas A X (listed terminal (f a ∷ map f as_)) (a ∷ as_)
+  more_listed : (a : A) (as_ : List A) → X (f a) a → F.Commas A X (listed terminal (map f as_)) as_
+      → F.Commas A X (listed terminal (f a ∷ map f as_)) (a ∷ as_)
   more_listed a [] p c = absurd (none_listed c refl)
   more_listed a (b ∷ bs) p c = F.comma p c
 
@@ -58,7 +59,8 @@ as_again F.as_name = F.as_name
 name_again : (ts : List Terminal) (x : Identifier) → F.Name ts x → F.Name (S.one_name terminal x) x
 name_again ts x p = F.name
 
-pub names_again : {ts : List Terminal} {xs : List Identifier} → F.Commas Identifier F.Name ts xs → F.Commas Identifier F.Name (listed terminal (map (S.one_name terminal) xs)) xs
+pub names_again : {ts : List Terminal} {xs : List Identifier} → F.Commas Identifier F.Name ts xs
+    → F.Commas Identifier F.Name (listed terminal (map (S.one_name terminal) xs)) xs
 names_again c = commas_again Identifier F.Name (S.one_name terminal) name_again c
 
 -- names with points, the first of them close to those before it or not
@@ -76,7 +78,8 @@ no_tokens (F.dot_name p) h = absurd (cc)
 longer_one : (c : ℕ) (x y : Identifier) → F.Dotted (in_form x ∷ []) y → F.Dotted (in_form (c ∷ x) ∷ []) (c ∷ y)
 longer_one c x y F.one_name = F.one_name
 
-longer_more : (c : ℕ) (x y : Identifier) (ts : List Terminal) → F.Dotted (in_form x ∷ (Op Dot ∷ ts)) y → F.Dotted (in_form (c ∷ x) ∷ (Op Dot ∷ ts)) (c ∷ y)
+longer_more : (c : ℕ) (x y : Identifier) (ts : List Terminal) → F.Dotted (in_form x ∷ (Op Dot ∷ ts)) y
+    → F.Dotted (in_form (c ∷ x) ∷ (Op Dot ∷ ts)) (c ∷ y)
 longer_more c x y ts (F.dot_name p) = F.dot_name p
 
 longer_first : (c : ℕ) (xs : List Identifier) (y : Identifier) → F.Dotted (tokens xs) y → F.Dotted (tokens (lengthen c xs)) (c ∷ y)
@@ -92,7 +95,8 @@ dotted_plain : (x : Identifier) → F.Dotted (tokens (names_in x)) x
 dotted_plain [] = F.one_name
 dotted_plain (c ∷ cs) = by (eqb c 46) refl (dotted_plain cs)
   where
-    by : (b : Bool) → eqb c 46 ≡ b → F.Dotted (tokens (names_in cs)) cs → F.Dotted (tokens (cond b ([] ∷ names_in cs) (lengthen c (names_in cs)))) (c ∷ cs)
+    by : (b : Bool) → eqb c 46 ≡ b → F.Dotted (tokens (names_in cs)) cs
+        → F.Dotted (tokens (cond b ([] ∷ names_in cs) (lengthen c (names_in cs)))) (c ∷ cs)
     by true h p = subst (λ z. F.Dotted (tokens ([] ∷ names_in cs)) (z ∷ cs)) (sym (eqb-true c 46 h)) (new_first (names_in cs) cs p)
     by false h p = longer_first c (names_in cs) cs p
 
@@ -108,7 +112,8 @@ pub points_again : (close : Bool) (n : ℕ) → F.Dots (S.point_signs terminal c
 points_again close zero = F.no_dot
 points_again close (suc zero) = F.dot F.no_dot
 points_again close (suc (suc zero)) = F.dot (F.dot F.no_dot)
-points_again close (suc (suc (suc n))) = subst (λ k. F.Dots (Op Ellipsis ∷ S.point_signs terminal true (S.points n)) k) (three n) (F.dots (points_again true n))
+points_again close (suc (suc (suc n))) =
+    subst (λ k. F.Dots (Op Ellipsis ∷ S.point_signs terminal true (S.points n)) k) (three n) (F.dots (points_again true n))
 
 dotted_alias_again : (ts : List Terminal) (a : Alias) → F.DottedAlias ts a → F.DottedAlias (S.dotted_alias terminal a) a
 dotted_alias_again _ _ (F.dotted_as {x = x} p q) = F.dotted_as (dotted_again false x) (as_again q)
@@ -116,7 +121,8 @@ dotted_alias_again _ _ (F.dotted_as {x = x} p q) = F.dotted_as (dotted_again fal
 name_alias_again : (ts : List Terminal) (a : Alias) → F.NameAlias ts a → F.NameAlias (S.name_alias terminal a) a
 name_alias_again _ _ (F.name_as q) = F.name_as (as_again q)
 
-pub aliases_again : {ts : List Terminal} {as_ : List Alias} → F.Commas Alias F.DottedAlias ts as_ → F.Commas Alias F.DottedAlias (listed terminal (map (S.dotted_alias terminal) as_)) as_
+pub aliases_again : {ts : List Terminal} {as_ : List Alias} → F.Commas Alias F.DottedAlias ts as_
+    → F.Commas Alias F.DottedAlias (listed terminal (map (S.dotted_alias terminal) as_)) as_
 aliases_again c = commas_again Alias F.DottedAlias (S.dotted_alias terminal) dotted_alias_again c
 
 star_is : (x : Identifier) (o : Option Identifier) → S.is_star x o ≡ true → F.Names (Op Star ∷ []) (F.alias x o ∷ [])
@@ -127,7 +133,8 @@ all_are : (as_ : List Alias) → S.are_all as_ ≡ true → F.Names (Op Star ∷
 all_are (a ∷ []) h = star_is a.name a.asname h
 all_are _ h = absurd (cc)
 
-imported_again : (as_ : List Alias) → F.Commas Alias F.NameAlias (listed terminal (map (S.name_alias terminal) as_)) as_ → F.Names (S.imported terminal as_) as_
+imported_again : (as_ : List Alias) → F.Commas Alias F.NameAlias (listed terminal (map (S.name_alias terminal) as_)) as_
+    → F.Names (S.imported terminal as_) as_
 imported_again as_ c = by (S.are_all as_) refl
   where
     by : (b : Bool) → S.are_all as_ ≡ b → F.Names (cond b (Op Star ∷ []) (listed terminal (map (S.name_alias terminal) as_))) as_
@@ -146,10 +153,12 @@ type_param_again _ _ (F.type_var b) = F.type_var (behind_again b)
 type_param_again _ _ F.type_var_tuple = F.type_var_tuple
 type_param_again _ _ F.param_spec = F.param_spec
 
-some_params : {profile : Profile} (ps : List TypeParam) → has_types profile ≡ true → F.Commas TypeParam F.TypeParamOf (listed terminal (map (S.type_param terminal) ps)) ps → F.TypeParams profile (S.type_params terminal ps) ps
+some_params : {profile : Profile} (ps : List TypeParam) → has_types profile ≡ true
+    → F.Commas TypeParam F.TypeParamOf (listed terminal (map (S.type_param terminal) ps)) ps → F.TypeParams profile (S.type_params terminal ps) ps
 some_params [] h c = F.no_type_params
 some_params (p ∷ ps) h c = F.type_params h (F.ends_bare c)
 
-pub type_params_again : {profile : Profile} {ts : List Terminal} {ps : List TypeParam} → F.TypeParams profile ts ps → F.TypeParams profile (S.type_params terminal ps) ps
+pub type_params_again : {profile : Profile} {ts : List Terminal} {ps : List TypeParam} → F.TypeParams profile ts ps
+    → F.TypeParams profile (S.type_params terminal ps) ps
 type_params_again F.no_type_params = F.no_type_params
 type_params_again (F.type_params {ps = ps} h c) = some_params ps h (last_comma TypeParam F.TypeParamOf (S.type_param terminal) type_param_again c)

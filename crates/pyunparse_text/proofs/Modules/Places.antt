@@ -53,7 +53,8 @@ both {inside} {l} {xs} {ys} p q = record {
 }
 
 -- a line and those of its block
-above : {inside : Bool} {l : ℕ} {xs : List Line} (f : Form) → is_case (kind_of f) ≡ inside → Placed (is_match (kind_of f)) (suc l) xs → Placed inside l (line l f ∷ xs)
+above : {inside : Bool} {l : ℕ} {xs : List Line} (f : Form) → is_case (kind_of f) ≡ inside → Placed (is_match (kind_of f)) (suc l) xs
+    → Placed inside l (line l f ∷ xs)
 above {l = l} f e p = record {
   at = λ earlier h. (h ∙ sym e, p.at (line l f ∷ earlier) (under l f earlier));
   kept = λ m earlier h. p.kept m (line l f ∷ earlier) (omega (arith, h)) ∙ beside m l f earlier h;
@@ -121,6 +122,8 @@ pub data OwnForms (profile : Profile) : List (WrittenLine Terminal) → List Lin
   an_own : {l : ℕ} {ts : List Terminal} {f : Form} {ws : List (WrittenLine Terminal)} {xs : List Line}
       → OwnForm profile ts f → OwnForms profile ws xs → OwnForms profile (written_line l ts ∷ ws) (line l f ∷ xs)
 
-pub in_place : {profile : Profile} {ws : List (WrittenLine Terminal)} {xs : List Line} (earlier : List Line) → OwnForms profile ws xs → ArePlaced earlier xs → HaveForms profile earlier ws xs
+pub in_place : {profile : Profile} {ws : List (WrittenLine Terminal)} {xs : List Line} (earlier : List Line) → OwnForms profile ws xs
+    → ArePlaced earlier xs → HaveForms profile earlier ws xs
 in_place earlier no_own h = no_form
-in_place {profile} earlier (an_own {l = l} {ts = ts} {f = f} p c) h = a_form (subst (λ b. FormAt profile b ts f) (sym h.0) p) (in_place (line l f ∷ earlier) c h.1)
+in_place {profile} earlier (an_own {l = l} {ts = ts} {f = f} p c) h =
+    a_form (subst (λ b. FormAt profile b ts f) (sym h.0) p) (in_place (line l f ∷ earlier) c h.1)

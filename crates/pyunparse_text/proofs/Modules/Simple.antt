@@ -16,7 +16,8 @@ use Rattle.pyunparse_text.specs.Written.{listed, written, each}
 use Rattle.pyunparse_text.specs.Terminals.{terminal}
 use Rattle.pyunparse_text.specs.Statements as S
 use Rattle.pyunparse_text.proofs.Fewest.Places.{target_law, single_target_law, del_target_law}
-use Rattle.pyunparse_text.proofs.Modules.Parts.{again, perhaps_again, behind_again, last_comma, names_again, dotted_again, points_again, aliases_again, all_again, type_params_again}
+use Rattle.pyunparse_text.proofs.Modules.Parts.{again, perhaps_again, behind_again, last_comma, names_again, dotted_again, points_again}
+use Rattle.pyunparse_text.proofs.Modules.Parts.{aliases_again, all_again, type_params_again}
 
 pub target_again : {ts : List Terminal} {s : Expr} → G.Target ts s → G.Target (written terminal Stars s) s
 target_again p = (target_law p).0
@@ -52,7 +53,9 @@ sign_is Bin.Pow = refl
 sign_is Bin.FloorDiv = refl
 
 module _ {profile : Profile} where
-  annotated_again : (s : Expr) {a : Expr} {v : Option Expr} {us vs : List Terminal} → G.SingleTarget (written terminal Primary s) s → G.Derives Expression us a → F.Behind (Op Equal) Value vs v → F.Simple profile (S.annotated terminal s false ++ (Op Colon ∷ (us ++ vs))) (Trees.AnnAssign s a v false)
+  annotated_again : (s : Expr) {a : Expr} {v : Option Expr} {us vs : List Terminal} → G.SingleTarget (written terminal Primary s) s
+      → G.Derives Expression us a → F.Behind (Op Equal) Value vs v
+      → F.Simple profile (S.annotated terminal s false ++ (Op Colon ∷ (us ++ vs))) (Trees.AnnAssign s a v false)
   unfolding written
   annotated_again (Trees.Name x c) p q r = F.annotated_group p q r
   annotated_again _ p q r = F.annotated_part p refl q r
@@ -62,7 +65,8 @@ module _ {profile : Profile} where
   module_again zero m c = F.from_module F.no_dot (dotted_again false m) c
   module_again (suc n) m c = F.from_module (points_again false (suc n)) (dotted_again true m) c
 
-  points_only : (n : ℕ) {as_ : List Alias} → 0 < n → F.Names (S.imported terminal as_) as_ → F.Simple profile (S.simple_tokens terminal (ImportFrom None as_ n)) (ImportFrom None as_ n)
+  points_only : (n : ℕ) {as_ : List Alias} → 0 < n → F.Names (S.imported terminal as_) as_
+      → F.Simple profile (S.simple_tokens terminal (ImportFrom None as_ n)) (ImportFrom None as_ n)
   points_only zero h c = F.from_dots F.no_dot h c
   points_only (suc n) h c = F.from_dots (points_again false (suc n)) h c
 
@@ -79,7 +83,10 @@ module _ {profile : Profile} where
   simple_again F.raise_alone = F.raise_alone
   simple_again (F.raise_of p q) = F.raise_of (again p) (behind_again q)
   simple_again (F.assert_of p q) = F.assert_of (again p) (behind_again q)
-  simple_again (F.delete {es = es} c) = F.delete (F.ends_bare (subst (λ z. F.Commas Expr G.DelTarget (listed terminal z) es) (sym (each_is Expression es)) (last_comma Expr G.DelTarget (written terminal Expression) del_again c)))
+  simple_again (F.delete {es = es} c) =
+      F.delete
+      (F.ends_bare (subst (λ z. F.Commas Expr G.DelTarget (listed terminal z) es) (sym (each_is Expression es))
+      (last_comma Expr G.DelTarget (written terminal Expression) del_again c)))
   simple_again (F.global c) = F.global (names_again c)
   simple_again (F.nonlocal c) = F.nonlocal (names_again c)
   simple_again F.pass = F.pass

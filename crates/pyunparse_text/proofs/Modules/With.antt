@@ -1,6 +1,7 @@
 -- Carries: the law of modules. On: the items of a `with`: where they are written without brackets
 -- nothing else reads them.
-use Rattle.std.proofs.Common.{◌≡◌, refl, sym, ap, subst, ◌∙◌, ℕ, suc, ◌+◌, ◌≤◌, arith, List, [], ◌∷◌, ◌++◌, length, Option, Some, None, Bool, true, false, cond, append_assoc, append-nil, length-append}
+use Rattle.std.proofs.Common.{◌≡◌, refl, sym, ap, subst, ◌∙◌, ℕ, suc, ◌≤◌, arith, List, [], ◌∷◌, ◌++◌, length, Option, Some, None, Bool, true, false}
+use Rattle.std.proofs.Common.{cond, append_assoc, append-nil, length-append}
 use Rattle.std.specs.Prelude.{map}
 use Rattle.pylex_lexeme.specs.declared.kinds.Exact.TheVariants.{LPar, RPar, Comma}
 use Rattle.pytoken.specs.declared.keywords.Keyword.TheVariants as Key
@@ -11,13 +12,15 @@ use Rattle.pytree_node.specs.Trees.{Expr, Exprs, no_exprs, an_expr, exprs, Item}
 use Rattle.pytoken.specs.Terminals.{Terminal, Op, Word}
 use Rattle.pygrammar.specs.Entries.{Of, Single, singles}
 use Rattle.pygrammar.specs.Grammar as G
-use Rattle.pyunparse_text.specs.Written.{some_named, bracketed, listed, with_comma, written, each}
+use Rattle.pyunparse_text.specs.Written.{separated, some_named, bracketed, listed, with_comma, written, each}
 use Rattle.pyunparse_text.specs.Terminals.{terminal}
 use Rattle.pyunparse_text.specs.Statements.{are_plain, reads_as_items, need_brackets, as_target, item_target, item}
 use Rattle.pygrammar.specs.Forms as F
 use Rattle.pygrammar.proofs.Callers.Law.{expressions_are_unique}
 use Rattle.pyunparse_text.proofs.Fewest.Reach.{climb, to_atom, length_bracketed}
-use Rattle.pyunparse_text.proofs.Fewest.Less.{allowed, total, length_with_comma, total_named, step_less}
+use Rattle.pyunparse_text.proofs.Fewest.Counted.{one, AtLeast, none, token, both as joint, fewer, in_brackets}
+use Rattle.pyunparse_text.proofs.Fewest.Sizes.{Same, same, at_most}
+use Rattle.pyunparse_text.proofs.Fewest.Less.{allowed, total, length_separated, length_with_comma, total_named, step_less}
 use Rattle.pyunparse_text.proofs.Fewest.Places.{item_target_law}
 use Rattle.pyunparse_text.proofs.Fewest.Induction.{claim}
 use Rattle.pyunparse_text.proofs.Modules.Parts.{commas_again, last_comma, none_listed}
@@ -27,7 +30,8 @@ use Rattle.pyunparse_text.proofs.Modules.Balanced.{Plain, kind, Runs, ends, on, 
 
 -- an item from its own terminals
 item_again : (ts : List Terminal) (i : Item) → F.ItemOf ts i → F.ItemOf (item terminal i) i
-item_again _ _ (F.bare_item {e = e} p) = subst (λ z. F.ItemOf z (F.item e None)) (sym (append-nil (written terminal Expression e))) (F.bare_item (again p))
+item_again _ _ (F.bare_item {e = e} p) =
+    subst (λ z. F.ItemOf z (F.item e None)) (sym (append-nil (written terminal Expression e))) (F.bare_item (again p))
 item_again _ _ (F.item_as p q) = F.item_as (again p) (item_target_law q).0
 
 items_of : {ts : List Terminal} {is : List Item} → F.Items ts is → F.Commas Item F.ItemOf (listed terminal (map (item terminal) is)) is
@@ -98,7 +102,8 @@ all_good (F.ends_bare c) = items_good c
 all_good (F.ends_comma c) = good_both (items_good c) (good_on refl (record { at = λ n. ends }))
 
 -- brackets that end after an expression don't end after all
-early : (xs : List Terminal) {e : Expr} (t : Terminal) (ws us : List Terminal) → G.Derives Expression xs e → kind false t ≡ Plain → xs ++ (t ∷ ws) ≡ Op LPar ∷ (us ++ (Op RPar ∷ [])) → Good false us → ⊥
+early : (xs : List Terminal) {e : Expr} (t : Terminal) (ws us : List Terminal) → G.Derives Expression xs e → kind false t ≡ Plain
+    → xs ++ (t ∷ ws) ≡ Op LPar ∷ (us ++ (Op RPar ∷ [])) → Good false us → ⊥
 early [] t ws us p k h g = absurd (cc)
 early (x ∷ xs) t ws us p k h g =
     let w = front us xs (Op RPar) t ws (cc) in
@@ -115,40 +120,53 @@ bare : {us : List Terminal} {is : List Item} → F.Commas Item F.ItemOf us is �
 bare (F.alone (F.bare_item {e = e} p)) n m r = record { es = e ∷ []; is = F.alone p }
 bare (F.alone (F.item_as {ts = ts} p q)) n m r = absurd (no_as (split ts r).2)
 bare (F.comma {ts = ts} (F.bare_item {e = e} p) c) n m r = let v = split ts r in let w = bare c v.0 m (passed v.2) in record { es = e ∷ w.es; is = F.comma p w.is }
-bare (F.comma {us = us} (F.item_as {ts = ts} {us = vs} p q) c) n m r = absurd (no_as (split ts (subst (λ z. Runs true n z m) (append_assoc ts (Word Key.As ∷ vs) (Op Comma ∷ us)) r)).2)
+bare (F.comma {us = us} (F.item_as {ts = ts} {us = vs} p q) c) n m r =
+    absurd (no_as (split ts (subst (λ z. Runs true n z m) (append_assoc ts (Word Key.As ∷ vs) (Op Comma ∷ us)) r)).2)
 
 listing : {us : List Terminal} {es : List Expr} → F.Commas Expr (G.Derives Expression) us es → G.Listing (Of Elem) us (map Single es)
 listing (F.alone p) = G.last_item (G.single (G.next (G.next p)))
 listing (F.comma p c) = G.item (G.single (G.next (G.next p))) (listing c)
 
-listing_comma : {us : List Terminal} {es : List Expr} → F.Commas Expr (G.Derives Expression) us es → G.Listing (Of Elem) (us ++ (Op Comma ∷ [])) (map Single es)
+listing_comma : {us : List Terminal} {es : List Expr} → F.Commas Expr (G.Derives Expression) us es
+    → G.Listing (Of Elem) (us ++ (Op Comma ∷ [])) (map Single es)
 listing_comma (F.alone p) = G.item (G.single (G.next (G.next p))) G.no_item
-listing_comma (F.comma {ts = ts} {us = us} {a = a} {as_ = as_} p c) = subst (λ z. G.Listing (Of Elem) z (Single a ∷ map Single as_)) (sym (append_assoc ts (Op Comma ∷ us) (Op Comma ∷ []))) (G.item (G.single (G.next (G.next p))) (listing_comma c))
+listing_comma (F.comma {ts = ts} {us = us} {a = a} {as_ = as_} p c) =
+    subst (λ z. G.Listing (Of Elem) z (Single a ∷ map Single as_)) (sym (append_assoc ts (Op Comma ∷ us) (Op Comma ∷ [])))
+    (G.item (G.single (G.next (G.next p))) (listing_comma c))
 
 singles_are : (es : List Expr) → singles (map Single es) ≡ exprs es
 singles_are [] = refl
 singles_are (e ∷ es) = ap (an_expr e) (singles_are es)
 
 -- sizes
-shortest : {ts : List Terminal} {e : Expr} → G.Derives Expression ts e → length (written terminal Expression e) ≤ length ts
+shortest : {ts : List Terminal} {e : Expr} → G.Derives Expression ts e → AtLeast (written one Expression e) ts
 shortest p = (claim p).short
 
-total_short : {us : List Terminal} {es : List Expr} → F.Commas Expr (G.Derives Expression) us es → total (each terminal Expression (exprs es)) ≤ length us + 1
-unfolding each
-total_short (F.alone p) = omega (arith, shortest p)
-total_short (F.comma {ts = ts} {us = us} p c) = omega (arith, shortest p, total_short c, length-append ts (Op Comma ∷ us))
+-- what a list with one expression more has
+cons_most : (ms : List (Unit {0})) (mss : List (List (Unit {0}))) → length (separated tt (ms ∷ mss)) ≤ length (ms ++ (tt ∷ separated tt mss))
+cons_most ms mss = omega (arith, length_separated tt (ms ∷ mss), length_separated tt mss, length-append ms (tt ∷ separated tt mss))
 
-star_short : {us : List Terminal} {es : List Expr} → F.Commas Expr (G.Derives Expression) us es → total (each terminal StarItem (exprs es)) ≤ total (each terminal Expression (exprs es))
+commas_short : {us : List Terminal} {es : List Expr} → F.Commas Expr (G.Derives Expression) us es
+    → AtLeast (separated tt (each one Expression (exprs es))) us
+unfolding each
+commas_short (F.alone p) = shortest p
+commas_short (F.comma {a = a} {as_ = as_} p c) =
+    fewer (cons_most (written one Expression a) (each one Expression (exprs as_))) (joint (shortest p) (token refl (commas_short c)))
+
+star_short : {us : List Terminal} {es : List Expr} → F.Commas Expr (G.Derives Expression) us es
+    → total (each one StarItem (exprs es)) ≤ total (each one Expression (exprs es))
 unfolding each
 star_short (F.alone {a = a} p) = omega (arith, step_less StarItem a (claim p).place)
 star_short (F.comma {a = a} p c) = omega (arith, step_less StarItem a (claim p).place, star_short c)
 
-first_named : (e : Expr) (z : Exprs) → allowed Expression e ≡ true → are_plain (an_expr e z) ≡ false → (are_plain z ≡ false → some_named z ≡ true) → some_named (an_expr e z) ≡ true
+first_named : (e : Expr) (z : Exprs) → allowed Expression e ≡ true → are_plain (an_expr e z) ≡ false → (are_plain z ≡ false → some_named z ≡ true)
+    → some_named (an_expr e z) ≡ true
 first_named (Trees.Starred e c) z p h f = absurd (cc)
 first_named (Trees.NamedExpr t e) z p h f = refl
 first_named _ z p h f = f h
 
-some_are_named : {us : List Terminal} {es : List Expr} → F.Commas Expr (G.Derives Expression) us es → are_plain (exprs es) ≡ false → some_named (exprs es) ≡ true
+some_are_named : {us : List Terminal} {es : List Expr} → F.Commas Expr (G.Derives Expression) us es → are_plain (exprs es) ≡ false
+    → some_named (exprs es) ≡ true
 some_are_named (F.alone {a = a} p) h = first_named a no_exprs (claim p).place h (λ g. absurd (cc))
 some_are_named (F.comma {a = a} {as_ = as_} p c) h = first_named a (exprs as_) (claim p).place h (λ g. some_are_named c g)
 
@@ -157,25 +175,25 @@ record Inside (us : List Terminal) : Type 0 where
   e : Expr
   es : List Expr
   is : G.Derives Atom (Op LPar ∷ (us ++ (Op RPar ∷ []))) (Trees.Tuple (an_expr e (exprs es)) Load)
-  size : length (with_comma terminal (each terminal Expression (an_expr e (exprs es)))) ≤ length us
-  stars : total (each terminal StarItem (an_expr e (exprs es))) ≤ total (each terminal Expression (an_expr e (exprs es)))
+  size : AtLeast (with_comma one (each one Expression (an_expr e (exprs es)))) us
+  stars : total (each one StarItem (an_expr e (exprs es))) ≤ total (each one Expression (an_expr e (exprs es)))
   named : are_plain (an_expr e (exprs es)) ≡ false → some_named (an_expr e (exprs es)) ≡ true
 
-in_tuple : {ts us : List Terminal} {e : Expr} (es : List Expr) → G.Derives Expression ts e → G.Listing (Of Elem) us (map Single es) → G.Derives Atom (Op LPar ∷ ((ts ++ (Op Comma ∷ us)) ++ (Op RPar ∷ []))) (Trees.Tuple (an_expr e (exprs es)) Load)
-in_tuple {ts} {us} {e} es p c = subst (λ z. G.Derives Atom (Op LPar ∷ z) (Trees.Tuple (an_expr e (exprs es)) Load)) (sym (append_assoc ts (Op Comma ∷ us) (Op RPar ∷ []))) (subst (λ z. G.Derives Atom (Op LPar ∷ (ts ++ (Op Comma ∷ (us ++ (Op RPar ∷ []))))) (Trees.Tuple (an_expr e z) Load)) (singles_are es) (G.tuple (G.next (G.next p)) c))
+in_tuple : {ts us : List Terminal} {e : Expr} (es : List Expr) → G.Derives Expression ts e → G.Listing (Of Elem) us (map Single es)
+    → G.Derives Atom (Op LPar ∷ ((ts ++ (Op Comma ∷ us)) ++ (Op RPar ∷ []))) (Trees.Tuple (an_expr e (exprs es)) Load)
+in_tuple {ts} {us} {e} es p c =
+    subst (λ z. G.Derives Atom (Op LPar ∷ z) (Trees.Tuple (an_expr e (exprs es)) Load)) (sym (append_assoc ts (Op Comma ∷ us) (Op RPar ∷ [])))
+    (subst (λ z. G.Derives Atom (Op LPar ∷ (ts ++ (Op Comma ∷ (us ++ (Op RPar ∷ []))))) (Trees.Tuple (an_expr e z) Load)) (singles_are es)
+    (G.tuple (G.next (G.next p)) c))
 
-some_total : {us : List Terminal} {es : List Expr} → F.Commas Expr (G.Derives Expression) us es → 1 ≤ total (each terminal Expression (exprs es))
-unfolding each
-some_total (F.alone p) = omega arith
-some_total (F.comma p c) = omega arith
-
-pair_inside : {ts us : List Terminal} {e : Expr} {es : List Expr} → G.Derives Expression ts e → F.Commas Expr (G.Derives Expression) us es → Inside (ts ++ (Op Comma ∷ us))
+pair_inside : {ts us : List Terminal} {e : Expr} {es : List Expr} → G.Derives Expression ts e → F.Commas Expr (G.Derives Expression) us es
+    → Inside (ts ++ (Op Comma ∷ us))
 unfolding each
 pair_inside {ts} {us} {e} {es} p c = record {
   e = e;
   es = es;
   is = in_tuple es p (listing c);
-  size = omega (arith, length_with_comma (written terminal Expression e) (each terminal Expression (exprs es)), shortest p, total_short c, some_total c, length-append ts (Op Comma ∷ us));
+  size = joint (shortest p) (token refl (commas_short c));
   stars = star_short (F.comma p c);
   named = λ h. some_are_named (F.comma p c) h;
 }
@@ -186,7 +204,7 @@ comma_inside (F.alone {ts = ts} {a = a} p) = record {
   e = a;
   es = [];
   is = in_tuple [] p G.no_item;
-  size = omega (arith, length_with_comma (written terminal Expression a) [], shortest p, length-append ts (Op Comma ∷ []));
+  size = joint (shortest p) (token refl none);
   stars = star_short (F.alone p);
   named = λ h. some_are_named (F.alone p) h;
 }
@@ -194,57 +212,85 @@ comma_inside (F.comma {ts = ts} {us = us} {a = a} {as_ = as_} p c) = record {
   e = a;
   es = as_;
   is = subst (λ z. G.Derives Atom (Op LPar ∷ (z ++ (Op RPar ∷ []))) (Trees.Tuple (an_expr a (exprs as_)) Load)) (sym (append_assoc ts (Op Comma ∷ us) (Op Comma ∷ []))) (in_tuple as_ p (listing_comma c));
-  size = omega (arith, length_with_comma (written terminal Expression a) (each terminal Expression (exprs as_)), shortest p, total_short c, some_total c, length-append ts (Op Comma ∷ us), length-append (ts ++ (Op Comma ∷ us)) (Op Comma ∷ []));
+  size = fewer (omega (arith, length-append (written one Expression a ++ (tt ∷ separated tt (each one Expression (exprs as_)))) (tt ∷ []))) (joint (joint (shortest p) (token refl (commas_short c))) (token refl none));
   stars = star_short (F.comma p c);
   named = λ h. some_are_named (F.comma p c) h;
 }
 
 -- a Tuple
-not_tuple : {us : List Terminal} {e : Expr} → Inside us → G.Derives Expression (written terminal Expression e) e → written terminal Expression e ≡ Op LPar ∷ (us ++ (Op RPar ∷ [])) → reads_as_items e None ≡ false → ⊥
+not_tuple : {us : List Terminal} {e : Expr} → Inside us → G.Derives Expression (written terminal Expression e) e
+    → written terminal Expression e ≡ Op LPar ∷ (us ++ (Op RPar ∷ [])) → reads_as_items e None ≡ false → ⊥
 unfolding written each
 not_tuple {us} {e} w p q h =
-    let f : e ≡ Trees.Tuple (an_expr w.e (exprs w.es)) Load = expressions_are_unique Expression _ _ _ p (climb Expression Atom (to_atom Expression) (subst (λ z. G.Derives Atom z (Trees.Tuple (an_expr w.e (exprs w.es)) Load)) (sym q) w.is)) in
+    let f : e ≡ Trees.Tuple (an_expr w.e (exprs w.es)) Load =
+    expressions_are_unique Expression _ _ _ p
+    (climb Expression Atom (to_atom Expression) (subst (λ z. G.Derives Atom z (Trees.Tuple (an_expr w.e (exprs w.es)) Load)) (sym q) w.is)) in
     let g : some_named (an_expr w.e (exprs w.es)) ≡ true = w.named (subst (λ z. reads_as_items z None ≡ false) f h) in
-    let k : length (written terminal Expression (Trees.Tuple (an_expr w.e (exprs w.es)) Load)) ≡ length (bracketed terminal us) = ap length (sym (ap (written terminal Expression) f) ∙ q) in
-    omega (arith, k, length_bracketed us, length_bracketed (with_comma terminal (each terminal Elem (an_expr w.e (exprs w.es)))), length_with_comma (written terminal Elem w.e) (each terminal Elem (exprs w.es)), length_with_comma (written terminal Expression w.e) (each terminal Expression (exprs w.es)), w.size, w.stars, total_named (an_expr w.e (exprs w.es)) g)
+    let t : Expr = Trees.Tuple (an_expr w.e (exprs w.es)) Load in
+    let s : Same (written one Expression t) (Op LPar ∷ (us ++ (Op RPar ∷ []))) =
+    subst (Same (written one Expression t)) (sym (ap (written terminal Expression) f) ∙ q) (same Expression t) in
+    let ms : List (Unit {0}) = with_comma one (each one Expression (an_expr w.e (exprs w.es))) in
+    let k : length (tt ∷ (ms ++ (tt ∷ []))) ≤ length (written one Expression t) = at_most s (in_brackets LPar RPar w.size) in
+    omega
+    (arith, k, length-append ms (tt ∷ []), length_bracketed (with_comma one (each one Elem (an_expr w.e (exprs w.es)))), length_with_comma (written one Elem w.e) (each one Elem (exprs w.es)), length_with_comma (written one Expression w.e) (each one Expression (exprs w.es)), w.stars, total_named (an_expr w.e (exprs w.es)) g)
 
 -- a group
-not_group : {us : List Terminal} {e f : Expr} → G.Derives Expression us f → G.Derives Expression (written terminal Expression e) e → written terminal Expression e ≡ Op LPar ∷ (us ++ (Op RPar ∷ [])) → ⊥
+not_group : {us : List Terminal} {e f : Expr} → G.Derives Expression us f → G.Derives Expression (written terminal Expression e) e
+    → written terminal Expression e ≡ Op LPar ∷ (us ++ (Op RPar ∷ [])) → ⊥
 not_group {us} {e} {f} d p q =
-    let g : e ≡ f = expressions_are_unique Expression _ _ _ p (climb Expression Atom (to_atom Expression) (subst (λ z. G.Derives Atom z f) (sym q) (G.group (G.next d)))) in
-    omega (arith, ap length q, length_bracketed us, shortest (subst (G.Derives Expression us) (sym g) d))
+    let g : e ≡ f =
+    expressions_are_unique Expression _ _ _ p
+    (climb Expression Atom (to_atom Expression) (subst (λ z. G.Derives Atom z f) (sym q) (G.group (G.next d)))) in
+    let s : Same (written one Expression e) (Op LPar ∷ (us ++ (Op RPar ∷ []))) = subst (Same (written one Expression e)) q (same Expression e) in
+    omega (
+      arith,
+      at_most s (in_brackets LPar RPar (shortest (subst (G.Derives Expression us) (sym g) d))),
+      length-append (written one Expression e)
+          (tt ∷ []),
+    )
 
-not_alone : {us : List Terminal} {es : List Expr} {e : Expr} → F.Commas Expr (G.Derives Expression) us es → G.Derives Expression (written terminal Expression e) e → written terminal Expression e ≡ Op LPar ∷ (us ++ (Op RPar ∷ [])) → reads_as_items e None ≡ false → ⊥
+not_alone : {us : List Terminal} {es : List Expr} {e : Expr} → F.Commas Expr (G.Derives Expression) us es
+    → G.Derives Expression (written terminal Expression e) e → written terminal Expression e ≡ Op LPar ∷ (us ++ (Op RPar ∷ []))
+    → reads_as_items e None ≡ false → ⊥
 not_alone (F.alone d) p q h = not_group d p q
 not_alone (F.comma d c) p q h = not_tuple (pair_inside d c) p q h
 
 -- from the brackets of other items
-inner : {us : List Terminal} {xs : List Terminal} {e : Expr} → G.Derives Expression xs e → xs ≡ Op LPar ∷ (us ++ (Op RPar ∷ [])) → (k : ℕ) × Runs true 1 us k
+inner : {us : List Terminal} {xs : List Terminal} {e : Expr} → G.Derives Expression xs e → xs ≡ Op LPar ∷ (us ++ (Op RPar ∷ []))
+    → (k : ℕ) × Runs true 1 us k
 inner {us} {xs} p q = let w = split us (opened (subst (λ z. Runs true 0 z 0) q ((good true p).at 0))) in (w.0, w.1)
 
-not_items : {us : List Terminal} {others : List Item} {e : Expr} → F.Commas? Item F.ItemOf us others → G.Derives Expression (written terminal Expression e) e → written terminal Expression e ≡ Op LPar ∷ (us ++ (Op RPar ∷ [])) → reads_as_items e None ≡ false → ⊥
+not_items : {us : List Terminal} {others : List Item} {e : Expr} → F.Commas? Item F.ItemOf us others
+    → G.Derives Expression (written terminal Expression e) e → written terminal Expression e ≡ Op LPar ∷ (us ++ (Op RPar ∷ []))
+    → reads_as_items e None ≡ false → ⊥
 not_items (F.ends_bare c) p q h = not_alone (bare c 1 (inner p q).0 (inner p q).1).is p q h
 not_items (F.ends_comma {ts = ts} c) p q h = not_tuple (comma_inside (bare c 1 (split ts (inner p q).1).0 (split ts (inner p q).1).1).is) p q h
 
-not_bracketed : {ts : List Terminal} {others : List Item} {e : Expr} → F.Bracketed ts others → G.Derives Expression (written terminal Expression e) e → written terminal Expression e ≡ ts → reads_as_items e None ≡ false → ⊥
+not_bracketed : {ts : List Terminal} {others : List Item} {e : Expr} → F.Bracketed ts others → G.Derives Expression (written terminal Expression e) e
+    → written terminal Expression e ≡ ts → reads_as_items e None ≡ false → ⊥
 not_bracketed (F.bracketed c) p q h = not_items c p q h
 
-not_early : {ts : List Terminal} {others : List Item} {xs : List Terminal} {e : Expr} (t : Terminal) (ws : List Terminal) → F.Bracketed ts others → G.Derives Expression xs e → kind false t ≡ Plain → xs ++ (t ∷ ws) ≡ ts → ⊥
+not_early : {ts : List Terminal} {others : List Item} {xs : List Terminal} {e : Expr} (t : Terminal) (ws : List Terminal) → F.Bracketed ts others
+    → G.Derives Expression xs e → kind false t ≡ Plain → xs ++ (t ∷ ws) ≡ ts → ⊥
 not_early {xs = xs} t ws (F.bracketed {ts = us} c) p k q = early xs t ws us p k q (all_good c)
 
 front_of : {ts : List Terminal} {i : Item} → F.ItemOf ts i → G.Derives Expression (written terminal Expression i.context_expr) i.context_expr
 front_of (F.bare_item p) = again p
 front_of (F.item_as p q) = again p
 
-not_with_target : {others : List Item} (e : Expr) (o : Option Expr) → G.Derives Expression (written terminal Expression e) e → reads_as_items e o ≡ false → F.Bracketed (written terminal Expression e ++ as_target terminal o) others → ⊥
+not_with_target : {others : List Item} (e : Expr) (o : Option Expr) → G.Derives Expression (written terminal Expression e) e
+    → reads_as_items e o ≡ false → F.Bracketed (written terminal Expression e ++ as_target terminal o) others → ⊥
 not_with_target e None p h b = not_bracketed b p (sym (append-nil (written terminal Expression e))) h
 not_with_target e (Some t) p h b = not_early _ _ b p refl refl
 
-not_two : {others : List Item} (e : Expr) (o : Option Expr) (ws : List Terminal) → G.Derives Expression (written terminal Expression e) e → F.Bracketed ((written terminal Expression e ++ as_target terminal o) ++ (Op Comma ∷ ws)) others → ⊥
+not_two : {others : List Item} (e : Expr) (o : Option Expr) (ws : List Terminal) → G.Derives Expression (written terminal Expression e) e
+    → F.Bracketed ((written terminal Expression e ++ as_target terminal o) ++ (Op Comma ∷ ws)) others → ⊥
 not_two e None ws p b = not_early _ _ b p refl (ap (λ z. z ++ (Op Comma ∷ ws)) (sym (append-nil (written terminal Expression e))))
-not_two e (Some t) ws p b = not_early _ _ b p refl (sym (append_assoc (written terminal Expression e) (Word Key.As ∷ item_target terminal t) (Op Comma ∷ ws)))
+not_two e (Some t) ws p b =
+    not_early _ _ b p refl (sym (append_assoc (written terminal Expression e) (Word Key.As ∷ item_target terminal t) (Op Comma ∷ ws)))
 
-no_other : (is : List Item) → F.Commas Item F.ItemOf (listed terminal (map (item terminal) is)) is → need_brackets is ≡ false → (others : List Item) → F.Bracketed (listed terminal (map (item terminal) is)) others → ⊥
+no_other : (is : List Item) → F.Commas Item F.ItemOf (listed terminal (map (item terminal) is)) is → need_brackets is ≡ false → (others : List Item)
+    → F.Bracketed (listed terminal (map (item terminal) is)) others → ⊥
 no_other [] c h others b = absurd (none_listed Item F.ItemOf (item terminal) item_again c refl)
 no_other (i ∷ []) c h others b = not_with_target i.context_expr i.optional_vars (front_of (only c)) h b
   where
@@ -253,13 +299,15 @@ no_other (i ∷ []) c h others b = not_with_target i.context_expr i.optional_var
     only (F.comma p c) = absurd (none_listed Item F.ItemOf (item terminal) item_again c refl)
 no_other (i ∷ (j ∷ is)) c h others b = not_two i.context_expr i.optional_vars (listed terminal (map (item terminal) (j ∷ is))) (first c) b
   where
-    first : {ts : List Terminal} {i : Item} {is : List Item} → F.Commas Item F.ItemOf ts (i ∷ is) → G.Derives Expression (written terminal Expression i.context_expr) i.context_expr
+    first : {ts : List Terminal} {i : Item} {is : List Item} → F.Commas Item F.ItemOf ts (i ∷ is)
+        → G.Derives Expression (written terminal Expression i.context_expr) i.context_expr
     first (F.alone p) = front_of p
     first (F.comma p c) = front_of p
 
 pub items_again : ItemsAgain
 items_again ts is p = by (need_brackets is) refl
   where
-    by : (b : Bool) → need_brackets is ≡ b → F.Items (cond b (bracketed terminal (listed terminal (map (item terminal) is))) (listed terminal (map (item terminal) is))) is
+    by : (b : Bool) → need_brackets is ≡ b
+        → F.Items (cond b (bracketed terminal (listed terminal (map (item terminal) is))) (listed terminal (map (item terminal) is))) is
     by true h = F.in_brackets (F.bracketed (F.ends_bare (items_of p)))
     by false h = F.without (items_of p) (no_other is (items_of p) h)

@@ -1,7 +1,7 @@
 -- Carries: the laws of written patterns. On: what the induction says of a pattern, and its step for each form without a list.
 use Rattle.std.proofs.Common.{◌≡◌, refl, sym, subst, ◌≤◌, ◌+◌, arith, List, [], ◌∷◌, ◌++◌, length, length-append, Some, None, Bool, true, false}
 use Rattle.std.specs.Prelude.{if◌then◌else◌}
-use Rattle.pylex_lexeme.specs.declared.kinds.Exact.TheVariants.{LPar, RPar, Comma, Star, Dot, VBar}
+use Rattle.pylex_lexeme.specs.declared.kinds.Exact.TheVariants.{LPar, RPar, Star, Dot, VBar}
 use Rattle.pytoken.specs.declared.keywords.Keyword.TheVariants as Key
 use Rattle.pytree_node.specs.declared.operators.Context.TheVariants.{Load}
 use Rattle.pygrammar.specs.declared.levels.Level.TheVariants.{Sum}
@@ -17,10 +17,12 @@ use Rattle.pygrammar.specs.PatternGrammar as P
 use Rattle.pyunparse_text.specs.Written.{separated, constant_terminal, written}
 use Rattle.pyunparse_text.specs.WrittenPatterns.{pattern_leads, pattern_reaches, target_name, fit_pattern, sequence_of, written_pattern, each_pattern}
 use Rattle.pyunparse_text.specs.Terminals.{terminal}
+use Rattle.pyunparse_text.proofs.Fewest.Counted.{one, AtLeast, none, token, both, fewer, in_brackets}
 use Rattle.pyunparse_text.proofs.Fewest.Reach.{length_bracketed}
 use Rattle.pyunparse_text.proofs.Fewest.Less.{length_separated, length_with_comma}
 use Rattle.pyunparse_text.proofs.Fewest.Claims.{given}
-use Rattle.pyunparse_text.proofs.Patterns.Values.{Told, told_front, told_behind, told_rest, literal_again, literal_length, class_again, class_length, attribute_written}
+use Rattle.pyunparse_text.proofs.Patterns.Values.{Told, told_front, told_behind, told_rest, literal_again, literal_short, singleton_plain}
+use Rattle.pyunparse_text.proofs.Patterns.Values.{class_again, class_short, attribute_written}
 
 -- ---- What may stand at a level: a MatchStar has one place.
 
@@ -51,7 +53,7 @@ Ready p = (m : PatternLevel) → stands m p ≡ true → P.DerivesPattern m (wri
 pub record Claim (l : PatternLevel) (ts : List Terminal) (p : Pattern) : Type 0 where
   pub ready : Told ts → Ready p
   pub place : stands l p ≡ true
-  pub short : length (written_pattern terminal l p) ≤ length ts
+  pub short : AtLeast (written_pattern one l p) ts
 
 pub here : {l : PatternLevel} {ts : List Terminal} {p : Pattern} → Claim l ts p → Told ts → P.DerivesPattern l (written_pattern terminal l p) p
 here {l} c h = c.ready h l c.place
@@ -66,7 +68,8 @@ from_closed OrPattern d = P.next d
 from_closed ClosedPattern d = d
 
 -- forms of the two levels with brackets, at each level
-fits_as : (l : PatternLevel) {ts : List Terminal} {p : Pattern} → P.DerivesPattern AsPattern ts p → P.DerivesPattern l (fit_pattern terminal l AsPattern ts) p
+fits_as : (l : PatternLevel) {ts : List Terminal} {p : Pattern} → P.DerivesPattern AsPattern ts p
+    → P.DerivesPattern l (fit_pattern terminal l AsPattern ts) p
 unfolding fit_pattern pattern_reaches pattern_leads
 fits_as Patterns d = P.next d
 fits_as StarPattern d = P.next d
@@ -74,7 +77,8 @@ fits_as AsPattern d = d
 fits_as OrPattern d = P.next (P.group d)
 fits_as ClosedPattern d = P.group d
 
-fits_or : (l : PatternLevel) {ts : List Terminal} {p : Pattern} → P.DerivesPattern OrPattern ts p → P.DerivesPattern l (fit_pattern terminal l OrPattern ts) p
+fits_or : (l : PatternLevel) {ts : List Terminal} {p : Pattern} → P.DerivesPattern OrPattern ts p
+    → P.DerivesPattern l (fit_pattern terminal l OrPattern ts) p
 unfolding fit_pattern pattern_reaches pattern_leads
 fits_or Patterns d = P.next (P.next d)
 fits_or StarPattern d = P.next (P.next d)
@@ -82,8 +86,9 @@ fits_or AsPattern d = P.next d
 fits_or OrPattern d = d
 fits_or ClosedPattern d = P.group (P.next d)
 
--- at the next level there are no fewer terminals
-as_step : (l : PatternLevel) (ts : List Terminal) → length (fit_pattern terminal l AsPattern ts) ≤ length (fit_pattern terminal (below_pattern l) AsPattern ts)
+-- at the next level there are no fewer tokens
+as_step : (l : PatternLevel) (ts : List (Unit {0}))
+    → length (fit_pattern one l AsPattern ts) ≤ length (fit_pattern one (below_pattern l) AsPattern ts)
 unfolding fit_pattern pattern_reaches pattern_leads
 as_step AsPattern ts = omega (arith, length_bracketed ts)
 as_step Patterns ts = omega arith
@@ -91,7 +96,8 @@ as_step StarPattern ts = omega arith
 as_step OrPattern ts = omega arith
 as_step ClosedPattern ts = omega arith
 
-or_step : (l : PatternLevel) (ts : List Terminal) → length (fit_pattern terminal l OrPattern ts) ≤ length (fit_pattern terminal (below_pattern l) OrPattern ts)
+or_step : (l : PatternLevel) (ts : List (Unit {0}))
+    → length (fit_pattern one l OrPattern ts) ≤ length (fit_pattern one (below_pattern l) OrPattern ts)
 unfolding fit_pattern pattern_reaches pattern_leads
 or_step OrPattern ts = omega (arith, length_bracketed ts)
 or_step Patterns ts = omega arith
@@ -99,15 +105,15 @@ or_step StarPattern ts = omega arith
 or_step AsPattern ts = omega arith
 or_step ClosedPattern ts = omega arith
 
-sequence_step : (l : PatternLevel) (tss : List (List Terminal)) → length (sequence_of terminal l tss) ≤ length (sequence_of terminal (below_pattern l) tss)
+sequence_step : (l : PatternLevel) (tss : List (List (Unit {0}))) → length (sequence_of one l tss) ≤ length (sequence_of one (below_pattern l) tss)
 sequence_step Patterns [] = omega arith
-sequence_step Patterns (ts ∷ tss) = rw length_with_comma (simp length-append (omega (arith, length_separated (Op Comma) (ts ∷ tss), length_separated (Op Comma) tss)))
+sequence_step Patterns (ts ∷ tss) = rw length_with_comma (simp length-append (omega (arith, length_separated tt (ts ∷ tss), length_separated tt tss)))
 sequence_step StarPattern tss = omega arith
 sequence_step AsPattern tss = omega arith
 sequence_step OrPattern tss = omega arith
 sequence_step ClosedPattern tss = omega arith
 
-step_less : (l : PatternLevel) (p : Pattern) → length (written_pattern terminal l p) ≤ length (written_pattern terminal (below_pattern l) p)
+step_less : (l : PatternLevel) (p : Pattern) → length (written_pattern one l p) ≤ length (written_pattern one (below_pattern l) p)
 unfolding written_pattern
 step_less l (Trees.MatchSequence inner) = sequence_step l _
 step_less l (Trees.MatchAs (present_pattern p) name) = as_step l _
@@ -116,15 +122,15 @@ step_less l (Trees.MatchOr inner) = or_step l _
 step_less l _ = omega arith
 
 -- in brackets
-group_more : (p : Pattern) → length (written_pattern terminal ClosedPattern p) ≤ length (written_pattern terminal AsPattern p) + 2
+group_more : (p : Pattern) → length (written_pattern one ClosedPattern p) ≤ length (written_pattern one AsPattern p) + 2
 unfolding written_pattern fit_pattern pattern_reaches pattern_leads
-group_more (Trees.MatchAs (present_pattern p) name) = omega (arith, length_bracketed (written_pattern terminal OrPattern p ++ (Word Key.As ∷ (in_form (target_name name) ∷ []))))
+group_more (Trees.MatchAs (present_pattern p) name) = omega (arith, length_bracketed (written_pattern one OrPattern p ++ (tt ∷ (tt ∷ []))))
 group_more (Trees.MatchAs absent_pattern name) = omega arith
-group_more (Trees.MatchOr inner) = omega (arith, length_bracketed (separated (Op VBar) (each_pattern terminal ClosedPattern inner)))
+group_more (Trees.MatchOr inner) = omega (arith, length_bracketed (separated tt (each_pattern one ClosedPattern inner)))
 group_more _ = omega arith
 
 pub next_claim : {l : PatternLevel} {ts : List Terminal} {p : Pattern} → Claim (below_pattern l) ts p → Claim l ts p
-next_claim {l} {ts} {p} c = record { ready = c.ready; place = stands_below l p c.place; short = omega (arith, c.short, step_less l p) }
+next_claim {l} {ts} {p} c = record { ready = c.ready; place = stands_below l p c.place; short = fewer (step_less l p) c.short }
 
 unstarred : (p : Pattern) → stands AsPattern p ≡ true → stands ClosedPattern p ≡ true
 unstarred (Trees.MatchStar name) h = absurd (cc)
@@ -134,29 +140,37 @@ pub group_claim : {ts : List Terminal} {p : Pattern} → Claim AsPattern ts p �
 group_claim {ts} {p} c = record {
   ready = λ h. c.ready (told_front ts (Op RPar ∷ []) (told_rest h));
   place = unstarred p c.place;
-  short = omega (arith, c.short, group_more p, length_bracketed ts);
+  short = fewer (omega (arith, group_more p, length_bracketed (written_pattern one AsPattern p))) (in_brackets LPar RPar c.short);
 }
 
 -- ---- Closed patterns without a list.
 
-pub closed : (p : Pattern) (us ts : List Terminal) → ((m : PatternLevel) → written_pattern terminal m p ≡ us) → stands ClosedPattern p ≡ true → (Told ts → P.DerivesPattern ClosedPattern us p) → length us ≤ length ts → Claim ClosedPattern ts p
+pub closed : (p : Pattern) (us ts : List Terminal) → ((m : PatternLevel) → written_pattern terminal m p ≡ us) → stands ClosedPattern p ≡ true
+    → (Told ts → P.DerivesPattern ClosedPattern us p) → AtLeast (written_pattern one ClosedPattern p) ts → Claim ClosedPattern ts p
 closed p us ts w a d s = record {
   ready = λ h m i. subst (λ x. P.DerivesPattern m x p) (sym (w m)) (from_closed m (d h));
   place = a;
-  short = subst (λ x. length x ≤ length ts) (sym (w ClosedPattern)) s;
+  short = s;
 }
 
 pub literal_claim : {ts : List Terminal} {e : Expr} → P.LiteralOf ts e → Claim ClosedPattern ts (Trees.MatchValue e)
 unfolding written_pattern
-literal_claim {ts} {e} p = closed (Trees.MatchValue e) (written terminal Sum e) ts (λ m. refl) refl (λ h. P.literal (literal_again p h)) (literal_length p)
+literal_claim {ts} {e} p =
+    closed (Trees.MatchValue e) (written terminal Sum e) ts (λ m. refl) refl (λ h. P.literal (literal_again p h)) (literal_short p)
 
-pub value_claim : {ts : List Terminal} {e : Expr} (x : Spelled) → P.ClassOf ts e → Claim ClosedPattern (ts ++ (Op Dot ∷ (Ident x ∷ []))) (Trees.MatchValue (Trees.Attribute e x.form Load))
+pub value_claim : {ts : List Terminal} {e : Expr} (x : Spelled) → P.ClassOf ts e
+    → Claim ClosedPattern (ts ++ (Op Dot ∷ (Ident x ∷ []))) (Trees.MatchValue (Trees.Attribute e x.form Load))
 unfolding written_pattern
-value_claim {ts} {e} x p = closed _ _ _ (λ m. attribute_written e x.form) refl (λ h. P.value _ (class_again p)) (simp length-append (omega (arith, class_length p)))
+value_claim {ts} {e} x p =
+    closed _ _ _ (λ m. attribute_written terminal e x.form) refl (λ h. P.value _ (class_again p))
+    (subst (λ z. AtLeast z (ts ++ (Op Dot ∷ (Ident x ∷ [])))) (sym (attribute_written one e x.form))
+    (both (class_short p) (token refl (token refl none))))
 
 pub singleton_claim : {t : Terminal} {v : Values.Value} → singleton_word t ≡ Some v → Claim ClosedPattern (t ∷ []) (Trees.MatchSingleton v)
 unfolding written_pattern
-singleton_claim {t} {v} q = closed (Trees.MatchSingleton v) (constant_terminal v ∷ []) (t ∷ []) (λ m. refl) refl (λ h. P.singleton (again t v q)) (omega arith)
+singleton_claim {t} {v} q =
+    closed (Trees.MatchSingleton v) (constant_terminal v ∷ []) (t ∷ []) (λ m. refl) refl (λ h. P.singleton (again t v q))
+    (token (singleton_plain t v q) none)
   where
     again : (t : Terminal) (v : Values.Value) → singleton_word t ≡ Some v → singleton_word (constant_terminal v) ≡ Some v
     again (Word Key.None) v q = given (λ v. singleton_word (constant_terminal v) ≡ Some v) q refl
@@ -178,14 +192,20 @@ captured_again x = by (is_wildcard x) refl
 
 pub capture_claim : {x : Spelled} → Claim ClosedPattern (Ident x ∷ []) (Trees.MatchAs absent_pattern (captured x.form))
 unfolding written_pattern
-capture_claim {x} = closed _ _ _ (λ m. refl) refl (λ h. subst (λ n. P.DerivesPattern ClosedPattern (in_form (target_name (captured x.form)) ∷ []) (Trees.MatchAs absent_pattern n)) (captured_again x.form) (P.capture {x = spelled (target_name (captured x.form))})) (omega arith)
+capture_claim {x} =
+    closed _ _ _ (λ m. refl) refl
+    (λ h. subst (λ n. P.DerivesPattern ClosedPattern (in_form (target_name (captured x.form)) ∷ []) (Trees.MatchAs absent_pattern n)) (captured_again x.form) (P.capture {x = spelled (target_name (captured x.form))}))
+    (token refl none)
 
 pub star_claim : {x : Spelled} → Claim StarPattern (Op Star ∷ (Ident x ∷ [])) (Trees.MatchStar (captured x.form))
 unfolding written_pattern
-star_claim {x} = record { ready = λ h m i. at m i; place = refl; short = omega arith }
+star_claim {x} = record { ready = λ h m i. at m i; place = refl; short = token refl (token refl none) }
   where
-    at : (m : PatternLevel) → takes_star m ≡ true → P.DerivesPattern m (Op Star ∷ (in_form (target_name (captured x.form)) ∷ [])) (Trees.MatchStar (captured x.form))
-    at StarPattern i = subst (λ n. P.DerivesPattern StarPattern (Op Star ∷ (in_form (target_name (captured x.form)) ∷ [])) (Trees.MatchStar n)) (captured_again x.form) (P.star {x = spelled (target_name (captured x.form))})
+    at : (m : PatternLevel) → takes_star m ≡ true
+        → P.DerivesPattern m (Op Star ∷ (in_form (target_name (captured x.form)) ∷ [])) (Trees.MatchStar (captured x.form))
+    at StarPattern i =
+        subst (λ n. P.DerivesPattern StarPattern (Op Star ∷ (in_form (target_name (captured x.form)) ∷ [])) (Trees.MatchStar n))
+        (captured_again x.form) (P.star {x = spelled (target_name (captured x.form))})
     at _ i = absurd (cc)
 
 pub record Named (p : Pattern) (x : Identifier) (q : Pattern) : Type 0 where
@@ -199,29 +219,33 @@ named p x q h = by (is_wildcard x) refl h
     by true w h = absurd (let z = rw w at h in cc)
     by false w h = record { tree = (let z = rw w at h in cc); again = rw w refl }
 
-as_form : {ts : List Terminal} {p : Pattern} (x : Spelled) → Claim OrPattern ts p → as_named p x.form ≡ Some (Trees.MatchAs (present_pattern p) (Some x.form)) → Claim AsPattern (ts ++ (Word Key.As ∷ (Ident x ∷ []))) (Trees.MatchAs (present_pattern p) (Some x.form))
+as_form : {ts : List Terminal} {p : Pattern} (x : Spelled) → Claim OrPattern ts p
+    → as_named p x.form ≡ Some (Trees.MatchAs (present_pattern p) (Some x.form))
+    → Claim AsPattern (ts ++ (Word Key.As ∷ (Ident x ∷ []))) (Trees.MatchAs (present_pattern p) (Some x.form))
 unfolding written_pattern fit_pattern pattern_reaches pattern_leads
 as_form {ts} {p} x c q = record {
   ready = λ h m i. fits_as m (P.as_name (spelled x.form) (here c (told_front ts (Word Key.As ∷ (Ident x ∷ [])) h)) q);
   place = refl;
-  short = simp length-append (omega (arith, c.short));
+  short = both c.short (token refl (token refl none));
 }
 
-pub as_claim : {ts : List Terminal} {p q : Pattern} (x : Spelled) → Claim OrPattern ts p → as_named p x.form ≡ Some q → Claim AsPattern (ts ++ (Word Key.As ∷ (Ident x ∷ []))) q
+pub as_claim : {ts : List Terminal} {p q : Pattern} (x : Spelled) → Claim OrPattern ts p → as_named p x.form ≡ Some q
+    → Claim AsPattern (ts ++ (Word Key.As ∷ (Ident x ∷ []))) q
 as_claim {ts} {p} {q} x c h = let n = named p x.form q h in subst (Claim AsPattern (ts ++ (Word Key.As ∷ (Ident x ∷ [])))) n.tree (as_form x c n.again)
 
 -- ---- Alternatives.
 
 pub record AlternativesClaim (us : List Terminal) (ps : List Pattern) : Type 0 where
   pub list : Told us → P.Alternatives (separated (Op VBar) (each_pattern terminal ClosedPattern (patterns ps))) ps
-  pub short : length (separated (Op VBar) (each_pattern terminal ClosedPattern (patterns ps))) ≤ length us
+  pub short : AtLeast (separated tt (each_pattern one ClosedPattern (patterns ps))) us
   pub some : (ps ≡ []) → ⊥
 
 pub last_alternative_claim : {ts : List Terminal} {p : Pattern} → Claim ClosedPattern ts p → AlternativesClaim ts (p ∷ [])
 unfolding each_pattern
 last_alternative_claim c = record { list = λ h. P.last_alternative (here c h); short = c.short; some = λ q. absurd (cc) }
 
-pub alternative_claim : {ts us : List Terminal} {p : Pattern} {ps : List Pattern} → Claim ClosedPattern ts p → AlternativesClaim us ps → AlternativesClaim (ts ++ (Op VBar ∷ us)) (p ∷ ps)
+pub alternative_claim : {ts us : List Terminal} {p : Pattern} {ps : List Pattern} → Claim ClosedPattern ts p → AlternativesClaim us ps
+    → AlternativesClaim (ts ++ (Op VBar ∷ us)) (p ∷ ps)
 unfolding each_pattern
 alternative_claim {ts} {us} {p} {ps} c a = more ps a
   where
@@ -229,11 +253,12 @@ alternative_claim {ts} {us} {p} {ps} c a = more ps a
     more [] a = absurd (a.some refl)
     more (q ∷ qs) a = record {
       list = λ h. P.alternative (here c (told_front ts (Op VBar ∷ us) h)) (a.list (told_behind ts us (Op VBar) h));
-      short = simp length-append (omega (arith, c.short, a.short));
+      short = both c.short (token refl a.short);
       some = λ e. absurd (cc);
     }
 
-pub alternatives_claim : {ts us : List Terminal} {p : Pattern} {ps : List Pattern} → Claim ClosedPattern ts p → AlternativesClaim us ps → Claim OrPattern (ts ++ (Op VBar ∷ us)) (Trees.MatchOr (patterns (p ∷ ps)))
+pub alternatives_claim : {ts us : List Terminal} {p : Pattern} {ps : List Pattern} → Claim ClosedPattern ts p → AlternativesClaim us ps
+    → Claim OrPattern (ts ++ (Op VBar ∷ us)) (Trees.MatchOr (patterns (p ∷ ps)))
 unfolding written_pattern each_pattern fit_pattern pattern_reaches pattern_leads
 alternatives_claim {ts} {us} {p} {ps} c a = more ps a
   where
@@ -242,5 +267,5 @@ alternatives_claim {ts} {us} {p} {ps} c a = more ps a
     more (q ∷ qs) a = record {
       ready = λ h m i. fits_or m (P.alternatives (here c (told_front ts (Op VBar ∷ us) h)) (a.list (told_behind ts us (Op VBar) h)));
       place = refl;
-      short = simp length-append (omega (arith, c.short, a.short));
+      short = both c.short (token refl a.short);
     }

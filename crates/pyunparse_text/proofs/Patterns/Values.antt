@@ -1,6 +1,6 @@
 -- Carries: the laws of written patterns. On: literals, classes and keys of terminals of tokens, as they are written, are literals, classes and keys
--- again, in no more terminals.
-use Rattle.std.proofs.Common.{◌≡◌, refl, sym, ap, subst, ◌∙◌, ◌≤◌, arith, List, [], ◌∷◌, ◌++◌, length, length-append, Some, true}
+-- again, in no more tokens.
+use Rattle.std.proofs.Common.{◌≡◌, refl, sym, ap, subst, ◌∙◌, List, [], ◌∷◌, ◌++◌, Some, true}
 use Rattle.std.specs.List.{list_all}
 use Rattle.std.proofs.lemmas.Bool.{and_parts}
 use Rattle.std.proofs.lemmas.List.Folds.{list_all-append}
@@ -13,16 +13,21 @@ use Rattle.pygrammar.specs.declared.levels.Level.TheVariants.{Sum, Term, Primary
 use Rattle.pytree_node.specs.Values
 use Rattle.pytree_node.specs.Trees
 use Rattle.pytree_node.specs.Trees.{Expr, Identifier}
-use Rattle.pytoken.specs.Terminals.{Terminal, Op, Word, Number, Literal, in_form}
+use Rattle.pytoken.specs.Terminals.{Terminal, Op, Word, Ident, Number, Literal, in_form}
 use Rattle.pygrammar.specs.Constants.{joined}
+use Rattle.pygrammar.specs.FormattedStrings.{merged, values_of}
 use Rattle.pygrammar.specs.Operators.{left_operator}
 use Rattle.pygrammar.specs.PatternOperators.{is_imaginary, singleton_word}
-use Rattle.pygrammar.specs.PatternGrammar.{SignedNumber, unsigned, negative, LiteralOf, number, complex, strings, Dotted, first_name, dot_name, ClassOf, class_name, KeyOf, literal_key, singleton_key, name_key}
+use Rattle.pygrammar.specs.PatternGrammar.{SignedNumber, unsigned, negative, LiteralOf, number, complex, strings, joined_string, Dotted, first_name}
+use Rattle.pygrammar.specs.PatternGrammar.{dot_name, ClassOf, class_name, KeyOf, literal_key, singleton_key, name_key}
 use Rattle.pyunparse_text.specs.Levels.{leads, reaches}
-use Rattle.pyunparse_text.specs.Written.{constant_terminal, fit, written}
+use Rattle.pyunparse_text.specs.Written.{Maker, constant_terminal, free, tight, fit, written}
 use Rattle.pyunparse_text.specs.Terminals.{terminal}
 use Rattle.pyunparse_text.specs.Laws.{is_number, is_string, may_be_token}
-use Rattle.pyunparse_text.proofs.Fewest.Claims.{given}
+use Rattle.pyunparse_text.proofs.Fewest.Counted.{one, AtLeast, none, token, both, is_plain}
+use Rattle.pyunparse_text.proofs.Fewest.Claims.{given, strings_short}
+use Rattle.pyunparse_text.proofs.Fewest.Strings.{joined_again, joined_short}
+use Rattle.pyunparse_text.proofs.Fewest.Induction.{literals}
 
 -- ---- Terminals that tokens may be.
 
@@ -64,30 +69,39 @@ string_written (Values.Str points unicode) h = refl
 string_written (Values.Bytes bytes) h = refl
 string_written _ h = absurd (cc)
 
-joined_string : (v w : Values.Value) (vs : List Values.Value) → joined v vs ≡ Some w → is_string v ≡ true → is_string w ≡ true
-joined_string v w [] q h = given (λ v. is_string v ≡ true) q h
-joined_string (Values.Str t u) w (Values.Str s x ∷ vs) q h = joined_string (Values.Str (t ++ s) u) w vs q refl
-joined_string (Values.Bytes t) w (Values.Bytes s ∷ vs) q h = joined_string (Values.Bytes (t ++ s)) w vs q refl
-joined_string _ w vs q h = absurd (cc)
+string_joined : (v w : Values.Value) (vs : List Values.Value) → joined v vs ≡ Some w → is_string v ≡ true → is_string w ≡ true
+string_joined v w [] q h = given (λ v. is_string v ≡ true) q h
+string_joined (Values.Str t u) w (Values.Str s x ∷ vs) q h = string_joined (Values.Str (t ++ s) u) w vs q refl
+string_joined (Values.Bytes t) w (Values.Bytes s ∷ vs) q h = string_joined (Values.Bytes (t ++ s)) w vs q refl
+string_joined _ w vs q h = absurd (cc)
 
 -- ---- Literals.
 
 signed_again : {v : Values.Value} {ts : List Terminal} {e : Expr} → SignedNumber v ts e → Told ts → SignedNumber v (written terminal Sum e) e
 unfolding written fit reaches leads
 signed_again (unsigned {v = v}) h = subst (λ t. SignedNumber v (t ∷ []) (Trees.Constant v)) (sym (number_written v (told_first h))) unsigned
-signed_again (negative {v = v}) h = subst (λ t. SignedNumber v (Op Minus ∷ (t ∷ [])) (Trees.UnaryOp Un.USub (Trees.Constant v))) (sym (number_written v (told_first (told_rest h)))) negative
+signed_again (negative {v = v}) h =
+    subst (λ t. SignedNumber v (Op Minus ∷ (t ∷ [])) (Trees.UnaryOp Un.USub (Trees.Constant v)))
+    (sym (number_written v (told_first (told_rest h)))) negative
 
-signed_length : {v : Values.Value} {ts : List Terminal} {e : Expr} → SignedNumber v ts e → length (written terminal Sum e) ≤ length ts
+signed_short : {v : Values.Value} {ts : List Terminal} {e : Expr} → SignedNumber v ts e → AtLeast (written one Sum e) ts
 unfolding written fit reaches leads
-signed_length unsigned = omega arith
-signed_length negative = omega arith
+signed_short unsigned = token refl none
+signed_short negative = token refl (token refl none)
 
 -- a sum stands at Sum without brackets
-sum_written : (t : Terminal) (o : Operator) → left_operator Sum t ≡ Some o → (a b : Expr) → written terminal Sum (Trees.BinOp a o b) ≡ written terminal Sum a ++ (t ∷ written terminal Term b)
+sum_written : {A : Type 0} (make : Maker A) (t : Terminal) (o : Operator) → left_operator Sum t ≡ Some o → (a b : Expr)
+    → written make Sum (Trees.BinOp a o b) ≡ written make Sum a ++ (free make t ∷ written make Term b)
 unfolding written fit reaches leads
-sum_written (Op Plus) o h a b = given (λ o. written terminal Sum (Trees.BinOp a o b) ≡ written terminal Sum a ++ (Op Plus ∷ written terminal Term b)) h refl
-sum_written (Op Minus) o h a b = given (λ o. written terminal Sum (Trees.BinOp a o b) ≡ written terminal Sum a ++ (Op Minus ∷ written terminal Term b)) h refl
-sum_written _ o h a b = absurd (cc)
+sum_written make (Op Plus) o h a b =
+    given (λ o. written make Sum (Trees.BinOp a o b) ≡ written make Sum a ++ (free make (Op Plus) ∷ written make Term b)) h refl
+sum_written make (Op Minus) o h a b =
+    given (λ o. written make Sum (Trees.BinOp a o b) ≡ written make Sum a ++ (free make (Op Minus) ∷ written make Term b)) h refl
+sum_written make _ o h a b = absurd (cc)
+
+sum_plain : (t : Terminal) (o : Operator) → left_operator Sum t ≡ Some o → is_plain t ≡ true
+sum_plain (Op x) o h = refl
+sum_plain _ o h = absurd (cc)
 
 constant_written : (v : Values.Value) → written terminal Term (Trees.Constant v) ≡ constant_terminal v ∷ []
 unfolding written
@@ -97,18 +111,26 @@ pub literal_again : {ts : List Terminal} {e : Expr} → LiteralOf ts e → Told 
 unfolding written
 literal_again (number p) h = number (signed_again p h)
 literal_again (complex {v = v} {w = w} {ts = ts} {a = a} {o = o} t p i q j) h =
-    let s : LiteralOf (written terminal Sum a ++ (t ∷ (Number w ∷ []))) (Trees.BinOp a o (Trees.Constant w)) = complex t (signed_again p (told_front ts (t ∷ (Number w ∷ [])) h)) i q j in
+    let s : LiteralOf (written terminal Sum a ++ (t ∷ (Number w ∷ []))) (Trees.BinOp a o (Trees.Constant w)) =
+    complex t (signed_again p (told_front ts (t ∷ (Number w ∷ [])) h)) i q j in
     let c : written terminal Term (Trees.Constant w) ≡ Number w ∷ [] = constant_written w ∙ ap (λ t. t ∷ []) (imaginary_written w j) in
-    subst (λ us. LiteralOf us (Trees.BinOp a o (Trees.Constant w))) (sym (sum_written t o q a (Trees.Constant w) ∙ ap (λ us. written terminal Sum a ++ (t ∷ us)) c)) s
+    subst (λ us. LiteralOf us (Trees.BinOp a o (Trees.Constant w)))
+    (sym (sum_written terminal t o q a (Trees.Constant w) ∙ ap (λ us. written terminal Sum a ++ (t ∷ us)) c)) s
 literal_again (strings {v = v} {w = w} vs q) h =
-    subst (λ t. LiteralOf (t ∷ []) (Trees.Constant w)) (sym (string_written w (joined_string v w vs q (told_first h)))) (strings [] refl)
+    subst (λ t. LiteralOf (t ∷ []) (Trees.Constant w)) (sym (string_written w (string_joined v w vs q (told_first h)))) (strings [] refl)
+literal_again (joined_string {u = u} {ps = ps} p b f) h =
+    let j = joined_again (literals p) b f Sum in
+    subst (λ z. LiteralOf (written terminal Sum (Trees.JoinedStr (values_of u (merged ps)))) (Trees.JoinedStr z)) j.values
+    (joined_string j.literals j.begins j.formatted)
 
-pub literal_length : {ts : List Terminal} {e : Expr} → LiteralOf ts e → length (written terminal Sum e) ≤ length ts
+pub literal_short : {ts : List Terminal} {e : Expr} → LiteralOf ts e → AtLeast (written one Sum e) ts
 unfolding written
-literal_length (number p) = signed_length p
-literal_length (complex {w = w} {ts = ts} {a = a} {o = o} t p i q j) =
-    rw (sum_written t o q a (Trees.Constant w)) (simp (length-append, constant_written w) (omega (arith, signed_length p)))
-literal_length (strings vs q) = omega arith
+literal_short (number p) = signed_short p
+literal_short (complex {w = w} {ts = ts} {a = a} {o = o} t p i q j) =
+    subst (λ z. AtLeast z (ts ++ (t ∷ (Number w ∷ [])))) (sym (sum_written one t o q a (Trees.Constant w)))
+    (both (signed_short p) (token (sum_plain t o q) (token refl none)))
+literal_short (strings {v = v} vs q) = strings_short v vs
+literal_short (joined_string p b f) = joined_short (literals p) b f Sum
 
 -- ---- Names with points.
 
@@ -117,21 +139,22 @@ unfolding written fit reaches leads
 dotted_again first_name = first_name
 dotted_again (dot_name x p) = dot_name _ (dotted_again p)
 
-dotted_length : {f : Identifier} {ts : List Terminal} {e : Expr} → Dotted f ts e → length (written terminal Primary e) ≤ length ts
+dotted_short : {f : Identifier} {ts : List Terminal} {e : Expr} → Dotted f ts e → AtLeast (written one Primary e) ts
 unfolding written fit reaches leads
-dotted_length first_name = omega arith
-dotted_length (dot_name x p) = simp length-append (omega (arith, dotted_length p))
+dotted_short first_name = token refl none
+dotted_short (dot_name x p) = both (dotted_short p) (token refl (token refl none))
 
 pub class_again : {ts : List Terminal} {e : Expr} → ClassOf ts e → ClassOf (written terminal Primary e) e
 class_again (class_name p h) = class_name (dotted_again p) h
 
-pub class_length : {ts : List Terminal} {e : Expr} → ClassOf ts e → length (written terminal Primary e) ≤ length ts
-class_length (class_name p h) = dotted_length p
+pub class_short : {ts : List Terminal} {e : Expr} → ClassOf ts e → AtLeast (written one Primary e) ts
+class_short (class_name p h) = dotted_short p
 
 -- at Sum as at Primary
-pub attribute_written : (e : Expr) (x : Identifier) → written terminal Sum (Trees.Attribute e x Load) ≡ written terminal Primary e ++ (Op Dot ∷ (in_form x ∷ []))
+pub attribute_written : {A : Type 0} (make : Maker A) (e : Expr) (x : Identifier)
+    → written make Sum (Trees.Attribute e x Load) ≡ written make Primary e ++ (tight make Dot ∷ (free make (in_form x) ∷ []))
 unfolding written fit reaches leads
-attribute_written e x = refl
+attribute_written make e x = refl
 
 -- ---- Keys.
 
@@ -142,13 +165,20 @@ word_written (Word Key.True) v q = given (λ v. written terminal Sum (Trees.Cons
 word_written (Word Key.False) v q = given (λ v. written terminal Sum (Trees.Constant v) ≡ Word Key.False ∷ []) q refl
 word_written _ v q = absurd (cc)
 
+pub singleton_plain : (t : Terminal) (v : Values.Value) → singleton_word t ≡ Some v → is_plain t ≡ true
+singleton_plain (Word k) v q = refl
+singleton_plain _ v q = absurd (cc)
+
 pub key_again : {ts : List Terminal} {e : Expr} → KeyOf ts e → Told ts → KeyOf (written terminal Sum e) e
 key_again (literal_key p) h = literal_key (literal_again p h)
 key_again (singleton_key {t = t} {v = v} q) h = subst (λ us. KeyOf us (Trees.Constant v)) (sym (word_written t v q)) (singleton_key q)
-key_again (name_key {e = e} x p) h = subst (λ us. KeyOf us (Trees.Attribute e x.form Load)) (sym (attribute_written e x.form)) (name_key _ (dotted_again p))
+key_again (name_key {e = e} x p) h =
+    subst (λ us. KeyOf us (Trees.Attribute e x.form Load)) (sym (attribute_written terminal e x.form)) (name_key _ (dotted_again p))
 
-pub key_length : {ts : List Terminal} {e : Expr} → KeyOf ts e → length (written terminal Sum e) ≤ length ts
+pub key_short : {ts : List Terminal} {e : Expr} → KeyOf ts e → AtLeast (written one Sum e) ts
 unfolding written
-key_length (literal_key p) = literal_length p
-key_length (singleton_key q) = omega arith
-key_length (name_key {e = e} x p) = rw (attribute_written e x.form) (simp length-append (omega (arith, dotted_length p)))
+key_short (literal_key p) = literal_short p
+key_short (singleton_key {t = t} {v = v} q) = token (singleton_plain t v q) none
+key_short (name_key {ts = ts} {e = e} x p) =
+    subst (λ z. AtLeast z (ts ++ (Op Dot ∷ (Ident x ∷ [])))) (sym (attribute_written one e x.form))
+    (both (dotted_short p) (token refl (token refl none)))

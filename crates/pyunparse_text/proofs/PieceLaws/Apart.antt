@@ -25,7 +25,8 @@ char_of : (p : ℕ → Bool) (t r : List ℕ) (c : ℕ) → list_all p ((t ++ c 
 char_of p [] r c e = (and_parts (p c) (list_all p r) e).0
 char_of p (d ∷ t) r c e = char_of p t r c (and_parts (p d) (list_all p ((t ++ c ∷ []) ++ r)) e).1
 
-begins_any : (t : List ℕ) (c : ℕ) (os : List (List ℕ)) → list_all (list_all (is_among sign_chars)) os ≡ true → list_any (λ o. starts_with nat_eq o (t ++ c ∷ [])) os ≡ true → is_among sign_chars c ≡ true
+begins_any : (t : List ℕ) (c : ℕ) (os : List (List ℕ)) → list_all (list_all (is_among sign_chars)) os ≡ true
+    → list_any (λ o. starts_with nat_eq o (t ++ c ∷ [])) os ≡ true → is_among sign_chars c ≡ true
 begins_any t c [] a e = cc
 begins_any t c (o ∷ os) a e =
     let q = and_parts (list_all (is_among sign_chars) o) (list_all (list_all (is_among sign_chars)) os) a in

@@ -1,383 +1,41 @@
--- Carries: the laws of pieces. On: what the grammar gives to tokens can be written.
-use Rattle.std.proofs.Common.{◌≡◌, Bool, true, false, List, [], ◌∷◌, ◌++◌, Option, Some, refl, sym, ap, ◌∙◌, subst, ◌<◌, map}
-use Rattle.std.specs.Prelude.{All, cond}
-use Rattle.std.proofs.lemmas.List.Elements.{All-head, All-tail, All-append}
-use Rattle.pylex_lexeme.specs.declared.kinds.Exact.{Exact}
-use Rattle.pylex_lexeme.specs.declared.kinds.Exact.TheVariants.{LPar, RPar, LSqb, RSqb, RBrace, Colon, Comma, Dot, DoubleStar, Ellipsis}
+-- Carries: the laws of pieces. On: what the grammar gives to tokens can be written, outside of f-strings.
+use Rattle.std.proofs.Common.{◌≡◌, Bool, true, List, [], Some}
 use Rattle.pytree_node.specs.declared.profiles.Extent.{Extent}
-use Rattle.pytoken.specs.declared.keywords.Keyword.TheVariants as Key
-use Rattle.pytree_node.specs.declared.operators.Operator.{Operator}
-use Rattle.pytree_node.specs.declared.operators.Operator.TheVariants as Bin
-use Rattle.pytree_node.specs.declared.operators.UnaryOperator.{UnaryOperator}
-use Rattle.pytree_node.specs.declared.operators.UnaryOperator.TheVariants as Un
-use Rattle.pytree_node.specs.declared.operators.BoolOperator.{BoolOperator}
-use Rattle.pytree_node.specs.declared.operators.BoolOperator.TheVariants as Join
-use Rattle.pytree_node.specs.declared.operators.Comparison.{Comparison}
-use Rattle.pytree_node.specs.declared.operators.Context.TheVariants.{Load, Store}
+use Rattle.pytree_node.specs.Trees.{Expr, Arguments}
+use Rattle.pytoken.specs.Terminals.{Terminal}
 use Rattle.pygrammar.specs.declared.levels.Level.{Level}
-use Rattle.pytree_node.specs.Values
-use Rattle.pytree_node.specs.Trees
-use Rattle.pytree_node.specs.Trees.{Expr, Exprs, no_exprs, an_expr, OptionalExpr, absent, present, Arg, arg, Arguments, arguments, exprs, Comprehension, comprehensions}
-use Rattle.pytoken.specs.Terminals.{Terminal, Op, Word, Ident, Literal}
-use Rattle.pygrammar.specs.Operators.{below, left_operator, prefix_operator, chain_level, chain_word}
-use Rattle.pygrammar.specs.Constants.{constant_word, joined}
-use Rattle.pygrammar.specs.Entries.{Item, Entry, Single, Paired, Spread, Doubled, Keyed, Plain, Slashed, Bare, Gathered, Collected, singles, keys, values}
-use Rattle.pygrammar.specs.Arguments.{positional, keywords, called}
-use Rattle.pygrammar.specs.Parameters.{with_kwarg, with_default, add_keyword_only, set_vararg, add_plain, add_before_slash, after_star, at_star, plain_ones, before_slash, has_slash, arranged}
-use Rattle.pygrammar.specs.Targets.{stored, all_stored}
+use Rattle.pygrammar.specs.Entries.{Item, Entry}
+use Rattle.pygrammar.specs.Arguments.{positional, keywords}
+use Rattle.pygrammar.specs.Parameters.{arranged}
+use Rattle.pygrammar.specs.Targets.{stored}
 use Rattle.pygrammar.specs.Grammar as G
-use Rattle.pyunparse_text.specs.Levels.{operator_level, right_level, unary_level}
-use Rattle.pytree_node.specs.Points.{IsPoint}
-use Rattle.pytoken.specs.Laws.{IsProper}
-use Rattle.pyunparse_text.proofs.Fewest.Less.{star_place, allowed_below}
-use Rattle.pyunparse_text.proofs.Fewest.Claims.{given, row, prefixed}
-use Rattle.pyunparse_text.proofs.Fewest.Clauses.{mapped_is, both_is, star_stored}
-use Rattle.pyunparse_text.proofs.Fewest.Calls.{called_is}
-use Rattle.pyunparse_text.proofs.PieceLaws.Fair.{IsConstant}
-use Rattle.pyunparse_text.proofs.PieceLaws.Sound.{Sound, AreSound, SoundOptional, SoundOptionals, SoundClauses, SoundKeywords, SoundArguments}
-use Rattle.pyunparse_text.proofs.PieceLaws.OfTokens.{Sayable}
-
-pub data Said (extent : Extent) : List Terminal → Type 0 where
-  none : Said extent []
-  also : {t : Terminal} {ts : List Terminal} → Sayable extent t → Said extent ts → Said extent (t ∷ ts)
-
-below_plain : (o : BoolOperator) → star_place (below (chain_level o)) ≡ false
-below_plain Join.And = refl
-below_plain Join.Or = refl
-
-operator_plain : (o : Operator) → star_place (operator_level o) ≡ false
-operator_plain Bin.Add = refl
-operator_plain Bin.Sub = refl
-operator_plain Bin.Mult = refl
-operator_plain Bin.MatMult = refl
-operator_plain Bin.Div = refl
-operator_plain Bin.Mod = refl
-operator_plain Bin.Pow = refl
-operator_plain Bin.LShift = refl
-operator_plain Bin.RShift = refl
-operator_plain Bin.BitOr = refl
-operator_plain Bin.BitXor = refl
-operator_plain Bin.BitAnd = refl
-operator_plain Bin.FloorDiv = refl
-
-right_plain : (o : Operator) → star_place (right_level o) ≡ false
-right_plain Bin.Add = refl
-right_plain Bin.Sub = refl
-right_plain Bin.Mult = refl
-right_plain Bin.MatMult = refl
-right_plain Bin.Div = refl
-right_plain Bin.Mod = refl
-right_plain Bin.Pow = refl
-right_plain Bin.LShift = refl
-right_plain Bin.RShift = refl
-right_plain Bin.BitOr = refl
-right_plain Bin.BitXor = refl
-right_plain Bin.BitAnd = refl
-right_plain Bin.FloorDiv = refl
-
-unary_plain : (o : UnaryOperator) → star_place (unary_level o) ≡ false
-unary_plain Un.Not = refl
-unary_plain Un.UAdd = refl
-unary_plain Un.USub = refl
-unary_plain Un.Invert = refl
-
-left_is : (l : Level) (t : Terminal) (o : Operator) → left_operator l t ≡ Some o → star_place l ≡ false
-left_is l t o h = ap star_place (sym (row l t o h).level) ∙ operator_plain o
-
-right_is : (l : Level) (t : Terminal) (o : Operator) → left_operator l t ≡ Some o → star_place (below l) ≡ false
-right_is l t o h = ap star_place (sym (row l t o h).right) ∙ right_plain o
-
-prefix_is : (l : Level) (t : Terminal) (o : UnaryOperator) → prefix_operator l t ≡ Some o → star_place l ≡ false
-prefix_is l t o h = ap star_place (sym (prefixed l t o h).level) ∙ unary_plain o
-
-module _ {extent : Extent} where
-  pub said : (ts : List Terminal) → All (Sayable extent) ts → Said extent ts
-  said [] h = none
-  said (t ∷ ts) h = also (All-head (Sayable extent) t ts h) (said ts (All-tail (Sayable extent) t ts h))
-
-  pub front : (ts us : List Terminal) → Said extent (ts ++ us) → Said extent ts
-  front [] us h = none
-  front (t ∷ ts) us (also s h) = also s (front ts us h)
-
-  pub back : (ts us : List Terminal) → Said extent (ts ++ us) → Said extent us
-  back [] us h = h
-  back (t ∷ ts) us (also s h) = back ts us h
-
-  pub rest : {t : Terminal} {ts : List Terminal} → Said extent (t ∷ ts) → Said extent ts
-  rest (also s h) = h
-
-  pub first : {t : Terminal} {ts : List Terminal} → Said extent (t ∷ ts) → Sayable extent t
-  first (also s h) = s
-
-  -- after some terminals and one more
-  pub behind : (ts us : List Terminal) (t : Terminal) → Said extent (ts ++ (t ∷ us)) → Said extent us
-  behind ts us t h = rest (back ts (t ∷ us) h)
+use Rattle.pyunparse_text.proofs.Fewest.Less.{star_place}
+use Rattle.pyunparse_text.proofs.PieceLaws.Places.{open_place}
+use Rattle.pyunparse_text.proofs.PieceLaws.Sound.{Writable, AreWritable, WritableKeywords, WritableArguments}
+use Rattle.pyunparse_text.proofs.PieceLaws.DerivedAt as At
+pub use Rattle.pyunparse_text.proofs.PieceLaws.SaidLists.{Said, none, also, front, back, rest, first, behind}
 
 module _ (extent : Extent) where
-  -- ---- Levels where no Starred stands.
+  pub starred : (b : Bool) (e : Expr) → Writable (open_place extent) b e → Writable (open_place extent) true e
+  starred = At.starred extent [] (At.within_one extent)
 
-  pub wider : (b c : Bool) (e : Expr) → (b ≡ true → c ≡ true) → Sound extent b e → Sound extent c e
-  wider b c (Trees.Starred e x) f h = (f h.0, h.1)
-  wider b c _ f h = h
-
-  pub starred : (b : Bool) (e : Expr) → Sound extent b e → Sound extent true e
-  starred b e h = wider b true e (λ q. refl) h
-
-  plain : (b : Bool) (e : Expr) → b ≡ false → Sound extent b e → Sound extent false e
-  plain b e q h = subst (λ b. Sound extent b e) q h
-
-  any : (b c : Bool) (e : Expr) → b ≡ false → Sound extent b e → Sound extent c e
-  any b c e q h = wider false c e (λ (z : false ≡ true). absurd (cc)) (plain b e q h)
-
-  optional_starred : (e : OptionalExpr) → SoundOptional extent false e → SoundOptional extent true e
-  optional_starred absent h = tt
-  optional_starred (present e) h = starred false e h
-
-  -- ---- Entries of lists.
-
-  abbrev pub Fine : Entry → Type 0
-  Fine (Single e) = Sound extent true e
-  Fine (Paired k e) = Sound extent false k × Sound extent false e
-  Fine (Spread e) = Sound extent false e
-  Fine (Doubled e) = Sound extent false e
-  Fine (Keyed x e) = IsProper x × Sound extent false e
-  Fine (Plain (arg x a) d) = IsProper x × SoundOptional extent true a × SoundOptional extent false d
-  Fine Slashed = Unit {0}
-  Fine Bare = Unit {0}
-  Fine (Gathered (arg x a)) = IsProper x × SoundOptional extent true a
-  Fine (Collected (arg x a)) = IsProper x × SoundOptional extent true a
+  pub stored_sound : (b : Bool) (t s : Expr) → stored t ≡ Some s → Writable (open_place extent) b t → Writable (open_place extent) b s
+  stored_sound = At.stored_sound extent [] (At.within_one extent)
 
   abbrev pub AllFine : List Entry → Type 0
-  AllFine [] = Unit {0}
-  AllFine (e ∷ es) = Fine e × AllFine es
+  AllFine es = At.AllFine extent [] (At.within_one extent) es
 
-  singles_sound : (es : List Entry) → AllFine es → AreSound extent true (singles es)
-  singles_sound [] h = tt
-  singles_sound (Single e ∷ es) h = (h.0, singles_sound es h.1)
-  singles_sound (_ ∷ es) h = singles_sound es h.1
+  pub positional_sound : (es : List Entry) → AllFine es → AreWritable (open_place extent) true (positional es)
+  positional_sound = At.positional_sound extent [] (At.within_one extent)
 
-  keys_sound : (es : List Entry) → AllFine es → SoundOptionals extent (keys es)
-  keys_sound [] h = tt
-  keys_sound (Paired k e ∷ es) h = (h.0.0, keys_sound es h.1)
-  keys_sound (_ ∷ es) h = (tt, keys_sound es h.1)
+  pub keywords_sound : (es : List Entry) → AllFine es → WritableKeywords (open_place extent) (keywords es)
+  keywords_sound = At.keywords_sound extent [] (At.within_one extent)
 
-  values_sound : (es : List Entry) → AllFine es → AreSound extent false (values es)
-  values_sound [] h = tt
-  values_sound (Paired k e ∷ es) h = (h.0.1, values_sound es h.1)
-  values_sound (Doubled e ∷ es) h = (h.0, values_sound es h.1)
-  values_sound (_ ∷ es) h = values_sound es h.1
+  pub arranged_sound : (es : List Entry) (x : Arguments) → arranged es ≡ Some x → AllFine es → WritableArguments (open_place extent) x
+  arranged_sound = At.arranged_sound extent [] (At.within_one extent)
 
-  pub positional_sound : (es : List Entry) → AllFine es → AreSound extent true (positional es)
-  positional_sound [] h = tt
-  positional_sound (Single e ∷ es) h = (h.0, positional_sound es h.1)
-  positional_sound (Spread e ∷ es) h = ((refl, h.0), positional_sound es h.1)
-  positional_sound (_ ∷ es) h = positional_sound es h.1
+  pub sound : {l : Level} {ts : List Terminal} {e : Expr} → G.Derives l ts e → Said extent [] ts → Writable (open_place extent) (star_place l) e
+  sound p h = At.sound extent [] (At.within_one extent) p h
 
-  pub keywords_sound : (es : List Entry) → AllFine es → SoundKeywords extent (keywords es)
-  keywords_sound [] h = tt
-  keywords_sound (Keyed x e ∷ es) h = (h.0.0, h.0.1, keywords_sound es h.1)
-  keywords_sound (Doubled e ∷ es) h = (h.0, keywords_sound es h.1)
-  keywords_sound (_ ∷ es) h = keywords_sound es h.1
-
-  called_sound : (b : Bool) (f e : Expr) (es : List Entry) → called f es ≡ Some e → Sound extent false f → AllFine es → Sound extent b e
-  called_sound b f e es q s h = subst (Sound extent b) (called_is f e es q) (s, positional_sound es h, keywords_sound es h)
-
-  -- ---- Parameters.
-
-  default_sound : (d : OptionalExpr) (ds : Exprs) → SoundOptional extent false d → AreSound extent false ds → AreSound extent false (with_default d ds)
-  default_sound absent ds s h = h
-  default_sound (present d) ds s h = (s, h)
-
-  kwarg_sound : (a : Arg) → Fine (Collected a) → SoundArguments extent (with_kwarg a)
-  kwarg_sound (arg x t) h = (tt, tt, tt, tt, tt, h, tt)
-
-  keyword_only_sound : (a : Arg) (d : OptionalExpr) (x : Arguments) → Fine (Plain a d) → SoundArguments extent x → SoundArguments extent (add_keyword_only a d x)
-  keyword_only_sound (arg n t) d (arguments ps qs v ks kds k ds) h s = (s.0, s.1, s.2, (h.0, h.1, s.3), (h.2, s.4), s.5, s.6)
-
-  vararg_sound : (a : Arg) (x : Arguments) → Fine (Gathered a) → SoundArguments extent x → SoundArguments extent (set_vararg a x)
-  vararg_sound (arg n t) (arguments ps qs v ks kds k ds) h s = (s.0, s.1, h, s.3, s.4, s.5, s.6)
-
-  plain_sound : (a : Arg) (d : OptionalExpr) (x : Arguments) → Fine (Plain a d) → SoundArguments extent x → SoundArguments extent (add_plain a d x)
-  plain_sound (arg n t) d (arguments ps qs v ks kds k ds) h s = (s.0, (h.0, h.1, s.1), s.2, s.3, s.4, s.5, default_sound d ds h.2 s.6)
-
-  slash_sound : (a : Arg) (d : OptionalExpr) (x : Arguments) → Fine (Plain a d) → SoundArguments extent x → SoundArguments extent (add_before_slash a d x)
-  slash_sound (arg n t) d (arguments ps qs v ks kds k ds) h s = ((h.0, h.1, s.0), s.1, s.2, s.3, s.4, s.5, default_sound d ds h.2 s.6)
-
-  after_sound : (es : List Entry) (x : Arguments) → after_star es ≡ Some x → AllFine es → SoundArguments extent x
-  after_sound [] x q h = given (SoundArguments extent) q (tt, tt, tt, tt, tt, tt, tt)
-  after_sound (Plain a d ∷ es) x q h = let w = mapped_is (add_keyword_only a d) (after_star es) x q in subst (SoundArguments extent) w.2 (keyword_only_sound a d w.0 h.0 (after_sound es w.0 w.1 h.1))
-  after_sound (Collected a ∷ []) x q h = given (SoundArguments extent) q (kwarg_sound a h.0)
-  after_sound _ x q h = absurd (cc)
-
-  at_sound : (es : List Entry) (x : Arguments) → at_star es ≡ Some x → AllFine es → SoundArguments extent x
-  at_sound [] x q h = given (SoundArguments extent) q (tt, tt, tt, tt, tt, tt, tt)
-  at_sound (Gathered a ∷ es) x q h = let w = mapped_is (set_vararg a) (after_star es) x q in subst (SoundArguments extent) w.2 (vararg_sound a w.0 h.0 (after_sound es w.0 w.1 h.1))
-  at_sound (Bare ∷ (Plain a d ∷ es)) x q h = after_sound (Plain a d ∷ es) x q h.1
-  at_sound (Collected a ∷ []) x q h = given (SoundArguments extent) q (kwarg_sound a h.0)
-  at_sound _ x q h = absurd (cc)
-
-  plain_ones_sound : (b : Bool) (es : List Entry) (x : Arguments) → plain_ones b es ≡ Some x → AllFine es → SoundArguments extent x
-  plain_ones_sound true (Plain a absent ∷ es) x q h = absurd (cc)
-  plain_ones_sound false (Plain a absent ∷ es) x q h = let w = mapped_is (add_plain a absent) (plain_ones false es) x q in subst (SoundArguments extent) w.2 (plain_sound a absent w.0 h.0 (plain_ones_sound false es w.0 w.1 h.1))
-  plain_ones_sound b (Plain a (present d) ∷ es) x q h = let w = mapped_is (add_plain a (present d)) (plain_ones true es) x q in subst (SoundArguments extent) w.2 (plain_sound a (present d) w.0 h.0 (plain_ones_sound true es w.0 w.1 h.1))
-  plain_ones_sound b es x q h = at_sound es x q h
-
-  before_slash_sound : (b : Bool) (es : List Entry) (x : Arguments) → before_slash b es ≡ Some x → AllFine es → SoundArguments extent x
-  before_slash_sound true (Plain a absent ∷ es) x q h = absurd (cc)
-  before_slash_sound false (Plain a absent ∷ (Slashed ∷ es)) x q h = let w = mapped_is (add_before_slash a absent) (plain_ones false es) x q in subst (SoundArguments extent) w.2 (slash_sound a absent w.0 h.0 (plain_ones_sound false es w.0 w.1 h.1.1))
-  before_slash_sound b (Plain a (present d) ∷ (Slashed ∷ es)) x q h = let w = mapped_is (add_before_slash a (present d)) (plain_ones true es) x q in subst (SoundArguments extent) w.2 (slash_sound a (present d) w.0 h.0 (plain_ones_sound true es w.0 w.1 h.1.1))
-  before_slash_sound false (Plain a absent ∷ es) x q h = let w = mapped_is (add_before_slash a absent) (before_slash false es) x q in subst (SoundArguments extent) w.2 (slash_sound a absent w.0 h.0 (before_slash_sound false es w.0 w.1 h.1))
-  before_slash_sound b (Plain a (present d) ∷ es) x q h = let w = mapped_is (add_before_slash a (present d)) (before_slash true es) x q in subst (SoundArguments extent) w.2 (slash_sound a (present d) w.0 h.0 (before_slash_sound true es w.0 w.1 h.1))
-  before_slash_sound _ _ x q h = absurd (cc)
-
-  pub arranged_sound : (es : List Entry) (x : Arguments) → arranged es ≡ Some x → AllFine es → SoundArguments extent x
-  arranged_sound es x q h = by (has_slash es) q
-    where
-      by : (b : Bool) → cond b (before_slash false es) (plain_ones false es) ≡ Some x → SoundArguments extent x
-      by true q = before_slash_sound false es x q h
-      by false q = plain_ones_sound false es x q h
-
-  -- ---- Targets.
-
-  mutual
-    pub stored_sound : (b : Bool) (t s : Expr) → stored t ≡ Some s → Sound extent b t → Sound extent b s
-    stored_sound b (Trees.Name x c) s q h = given (Sound extent b) q h
-    stored_sound b (Trees.Attribute e x c) s q h = given (Sound extent b) q h
-    stored_sound b (Trees.Subscript e i c) s q h = given (Sound extent b) q h
-    stored_sound b (Trees.Tuple es c) s q h = let w = mapped_is (λ fs. Trees.Tuple fs Store) (all_stored es) s q in subst (Sound extent b) w.2 (all_sound es w.0 w.1 h)
-    stored_sound b (Trees.ListOf es c) s q h = let w = mapped_is (λ fs. Trees.ListOf fs Store) (all_stored es) s q in subst (Sound extent b) w.2 (all_sound es w.0 w.1 h)
-    stored_sound b (Trees.Starred e c) s q h = let w = star_stored e c s q in subst (Sound extent b) w.2 (h.0, stored_sound false e w.0 w.1 h.1)
-    stored_sound b _ s q h = absurd (cc)
-
-    all_sound : (es fs : Exprs) → all_stored es ≡ Some fs → AreSound extent true es → AreSound extent true fs
-    all_sound no_exprs fs q h = given (AreSound extent true) q h
-    all_sound (an_expr e es) fs q h = let w = both_is (stored e) (all_stored es) fs q in subst (AreSound extent true) w.4 (stored_sound true e w.0 w.2 h.0, all_sound es w.1 w.3 h.1)
-
-  -- ---- Constants.
-
-  joined_sound : (v w : Values.Value) (vs : List Values.Value) → joined v vs ≡ Some w → IsConstant extent v → Said extent (map Literal vs) → IsConstant extent w
-  joined_sound v w [] q h s = given (IsConstant extent) q h
-  joined_sound (Values.Str t u) w (Values.Str r v ∷ vs) q h s = joined_sound (Values.Str (t ++ r) u) w vs q (All-append IsPoint t r h (first s)) (rest s)
-  joined_sound (Values.Bytes t) w (Values.Bytes r ∷ vs) q h s = joined_sound (Values.Bytes (t ++ r)) w vs q (All-append (λ b. b < 0x100) t r h (first s)) (rest s)
-  joined_sound _ w vs q h s = absurd (cc)
-
-  word_sound : (t : Terminal) (v : Values.Value) → constant_word t ≡ Some v → IsConstant extent v
-  word_sound (Word Key.None) v h = given (IsConstant extent) h tt
-  word_sound (Word Key.True) v h = given (IsConstant extent) h tt
-  word_sound (Word Key.False) v h = given (IsConstant extent) h tt
-  word_sound (Op Ellipsis) v h = given (IsConstant extent) h tt
-  word_sound _ v h = absurd (cc)
-
-  -- ---- Lists of expressions.
-
-  abbrev AllSound : List Expr → Type 0
-  AllSound es = AreSound extent false (exprs es)
-
-  -- ---- What is derived.
-
-  mutual
-    pub sound : {l : Level} {ts : List Terminal} {e : Expr} → G.Derives l ts e → Said extent ts → Sound extent (star_place l) e
-    sound (G.next {l = l} {e = e} p) h = wider (star_place (below l)) (star_place l) e (allowed_below l (Trees.Starred e Load)) (sound p h)
-    sound (G.yields p) h = yields_sound true p (rest h)
-    sound (G.star_tuple {ts = ts} {us = us} {es = es} p c) h = (sound p (front ts (Op Comma ∷ us) h), singles_sound es (listing_fine c (behind ts us (Op Comma) h)))
-    sound (G.star_item p) h = (refl, sound p (rest h))
-    sound (G.named p) h = (first h, sound p (rest (rest h)))
-    sound (G.lambda {ts = ts} {us = us} {ps = ps} {a = a} c q p) h = (arranged_sound ps a q (listing_fine c (front ts (Op Colon ∷ us) (rest h))), sound p (behind ts us (Op Colon) (rest h)))
-    sound (G.if_else {ts = ts} {us = us} {vs = vs} p q r) h =
-        let more = behind ts (us ++ (Word Key.Else ∷ vs)) (Word Key.If) h in
-        (sound q (front us (Word Key.Else ∷ vs) more), sound p (front ts (Word Key.If ∷ (us ++ (Word Key.Else ∷ vs))) h), sound r (behind us vs (Word Key.Else) more))
-    sound (G.chain {o = o} {ts = ts} {us = us} {e = e} p c) h = (tt, (plain (star_place (below (chain_level o))) e (below_plain o) (sound p (front ts (Word (chain_word o) ∷ us) h)), chain_sound c (behind ts us (Word (chain_word o)) h)))
-    sound (G.unary {l = l} {t = t} {o = o} {e = e} q p) h = plain (star_place l) e (prefix_is l t o q) (sound p (rest h))
-    sound (G.compare {ts = ts} {us = us} p c) h = (sound p (front ts us h), compares_sound c (back ts us h))
-    sound (G.binary {l = l} {ts = ts} {us = us} {a = a} {b = b} {o = o} t q p r) h = (plain (star_place l) a (left_is l t o q) (sound p (front ts (t ∷ us) h)), plain (star_place (below l)) b (right_is l t o q) (sound r (behind ts us t h)))
-    sound (G.power {ts = ts} {us = us} p q) h = (sound p (front ts (Op DoubleStar ∷ us) h), sound q (behind ts us (Op DoubleStar) h))
-    sound (G.await p) h = sound p (rest h)
-    sound (G.attribute {ts = ts} x p) h = (sound p (front ts (Op Dot ∷ (Ident x ∷ [])) h), first (behind ts (Ident x ∷ []) (Op Dot) h))
-    sound (G.call {ts = ts} {us = us} {f = f} {e = e} {es = es} p c q) h = called_sound false f e es q (sound p (front ts (Op LPar ∷ (us ++ (Op RPar ∷ []))) h)) (listing_fine c (front us (Op RPar ∷ []) (behind ts (us ++ (Op RPar ∷ [])) (Op LPar) h)))
-    sound (G.call_generator {ts = ts} {us = us} {vs = vs} p q c) h =
-        let more = behind ts (us ++ (vs ++ (Op RPar ∷ []))) (Op LPar) h in
-        (sound p (front ts (Op LPar ∷ (us ++ (vs ++ (Op RPar ∷ [])))) h), ((sound q (front us (vs ++ (Op RPar ∷ [])) more), comps_sound c (front vs (Op RPar ∷ []) (back us (vs ++ (Op RPar ∷ [])) more))), tt), tt)
-    sound (G.subscript {ts = ts} {us = us} p q) h = (sound p (front ts (Op LSqb ∷ (us ++ (Op RSqb ∷ []))) h), sound q (front us (Op RSqb ∷ []) (behind ts (us ++ (Op RSqb ∷ [])) (Op LSqb) h)))
-    sound G.name h = first h
-    sound (G.constant {t = t} {v = v} q) h = word_sound t v q
-    sound G.number h = first h
-    sound (G.strings {v = v} {w = w} vs q) h = joined_sound v w vs q (first h) (rest h)
-    sound (G.group {ts = ts} p) h = sound p (front ts (Op RPar ∷ []) (rest h))
-    sound (G.yield_group {ts = ts} p) h = yields_sound false p (front ts (Op RPar ∷ []) (rest (rest h)))
-    sound G.empty_tuple h = tt
-    sound (G.tuple {ts = ts} {us = us} {es = es} p c) h = (sound p (front ts (Op Comma ∷ (us ++ (Op RPar ∷ []))) (rest h)), singles_sound es (listing_fine c (front us (Op RPar ∷ []) (behind ts (us ++ (Op RPar ∷ [])) (Op Comma) (rest h)))))
-    sound (G.generator_group {ts = ts} {us = us} p c) h = (sound p (front ts (us ++ (Op RPar ∷ [])) (rest h)), comps_sound c (front us (Op RPar ∷ []) (back ts (us ++ (Op RPar ∷ [])) (rest h))))
-    sound (G.list {ts = ts} {es = es} c) h = singles_sound es (listing_fine c (front ts (Op RSqb ∷ []) (rest h)))
-    sound (G.list_comp {ts = ts} {us = us} p c) h = (sound p (front ts (us ++ (Op RSqb ∷ [])) (rest h)), comps_sound c (front us (Op RSqb ∷ []) (back ts (us ++ (Op RSqb ∷ [])) (rest h))))
-    sound (G.dict {ts = ts} {es = es} c) h = let fine = listing_fine c (front ts (Op RBrace ∷ []) (rest h)) in (keys_sound es fine, values_sound es fine)
-    sound (G.dict_comp {ts = ts} {us = us} {vs = vs} p q c) h =
-        let more = behind ts (us ++ (vs ++ (Op RBrace ∷ []))) (Op Colon) (rest h) in
-        (sound p (front ts (Op Colon ∷ (us ++ (vs ++ (Op RBrace ∷ [])))) (rest h)), sound q (front us (vs ++ (Op RBrace ∷ [])) more), comps_sound c (front vs (Op RBrace ∷ []) (back us (vs ++ (Op RBrace ∷ [])) more)))
-    sound (G.set {ts = ts} {e = e} {es = es} c) h = singles_sound (e ∷ es) (listing_fine c (front ts (Op RBrace ∷ []) (rest h)))
-    sound (G.set_comp {ts = ts} {us = us} p c) h = (sound p (front ts (us ++ (Op RBrace ∷ [])) (rest h)), comps_sound c (front us (Op RBrace ∷ []) (back ts (us ++ (Op RBrace ∷ [])) (rest h))))
-    sound (G.subject_tuple {ts = ts} {us = us} {es = es} p c) h = (sound p (front ts (Op Comma ∷ us) h), singles_sound es (listing_fine c (behind ts us (Op Comma) h)))
-    sound (G.star_elem p) h = (refl, sound p (rest h))
-    sound (G.star_slices p) h = ((refl, sound p (rest h)), tt)
-    sound (G.parts {ts = ts} {us = us} {es = es} p c) h = (sound p (front ts (Op Comma ∷ us) h), singles_sound es (listing_fine c (behind ts us (Op Comma) h)))
-    sound (G.star_part p) h = (refl, sound p (rest h))
-    sound (G.slice {ts = ts} {us = us} p q) h = (perhaps_sound p (front ts (Op Colon ∷ us) h), perhaps_sound q (behind ts us (Op Colon) h), tt)
-    sound (G.slice_step {ts = ts} {us = us} {vs = vs} p q r) h =
-        let more = behind ts (us ++ (Op Colon ∷ vs)) (Op Colon) h in
-        (perhaps_sound p (front ts (Op Colon ∷ (us ++ (Op Colon ∷ vs))) h), perhaps_sound q (front us (Op Colon ∷ vs) more), perhaps_sound r (behind us vs (Op Colon) more))
-
-    yields_sound : {ts : List Terminal} {e : Expr} (b : Bool) → G.Yields ts e → Said extent ts → Sound extent b e
-    yields_sound b (G.yield_from p) h = sound p (rest h)
-    yields_sound b (G.yield_some p) h = perhaps_sound p h
-
-    perhaps_sound : {l : Level} {ts : List Terminal} {e : OptionalExpr} → G.Perhaps l ts e → Said extent ts → SoundOptional extent (star_place l) e
-    perhaps_sound G.nothing h = tt
-    perhaps_sound (G.something p) h = sound p h
-
-    suffix_sound : {s : Option Exact} {ts : List Terminal} {e : OptionalExpr} → G.Suffix s ts e → Said extent ts → SoundOptional extent false e
-    suffix_sound G.no_suffix h = tt
-    suffix_sound (G.suffix p) h = sound p (rest h)
-
-    chain_sound : {o : BoolOperator} {ts : List Terminal} {es : List Expr} → G.Chain o ts es → Said extent ts → AllSound es
-    chain_sound (G.last_link {o = o} {e = e} p) h = (plain (star_place (below (chain_level o))) e (below_plain o) (sound p h), tt)
-    chain_sound (G.link {o = o} {ts = ts} {us = us} {e = e} p c) h = (plain (star_place (below (chain_level o))) e (below_plain o) (sound p (front ts (Word (chain_word o) ∷ us) h)), chain_sound c (behind ts us (Word (chain_word o)) h))
-
-    compares_sound : {ts : List Terminal} {os : List Comparison} {es : List Expr} → G.Compares ts os es → Said extent ts → AllSound es
-    compares_sound (G.last_compare {ss = ss} {ts = ts} k p) h = (sound p (back ss ts h), tt)
-    compares_sound (G.compares {ss = ss} {ts = ts} {us = us} k p c) h = let more = back ss (ts ++ us) h in (sound p (front ts us more), compares_sound c (back ts us more))
-
-    pub listing_fine : {i : Item} {ts : List Terminal} {es : List Entry} → G.Listing i ts es → Said extent ts → AllFine es
-    listing_fine G.no_item h = tt
-    listing_fine (G.last_item p) h = (piece_fine p h, tt)
-    listing_fine (G.item {ts = ts} {us = us} p c) h = (piece_fine p (front ts (Op Comma ∷ us) h), listing_fine c (behind ts us (Op Comma) h))
-
-    piece_fine : {i : Item} {ts : List Terminal} {e : Entry} → G.Piece i ts e → Said extent ts → Fine e
-    piece_fine (G.single {l = l} {e = e} p) h = starred (star_place l) e (sound p h)
-    piece_fine (G.pair {ts = ts} {us = us} p q) h = (sound p (front ts (Op Colon ∷ us) h), sound q (behind ts us (Op Colon) h))
-    piece_fine (G.pairs_of p) h = sound p (rest h)
-    piece_fine (G.argument {e = e} p) h = starred false e (sound p h)
-    piece_fine (G.star_argument p) h = sound p (rest h)
-    piece_fine (G.keyword_argument p) h = (first h, sound p (rest (rest h)))
-    piece_fine (G.double_argument p) h = sound p (rest h)
-    piece_fine (G.parameter {ts = ts} {us = us} {a = a} p q) h = (first h, optional_starred a (suffix_sound p (front ts us (rest h))), suffix_sound q (back ts us (rest h)))
-    piece_fine G.slash h = tt
-    piece_fine G.bare_star h = tt
-    piece_fine (G.star_parameter {a = a} p) h = (first (rest h), optional_starred a (suffix_sound p (rest (rest h))))
-    piece_fine (G.star_annotation p) h = (first (rest h), (refl, sound p (rest (rest (rest (rest h))))))
-    piece_fine (G.double_parameter {a = a} p) h = (first (rest h), optional_starred a (suffix_sound p (rest (rest h))))
-
-    comps_sound : {ts : List Terminal} {gs : List Comprehension} → G.Comps ts gs → Said extent ts → SoundClauses extent (comprehensions gs)
-    comps_sound (G.one_comp c) h = comp_sound [] c h tt
-    comps_sound (G.comps {ts = ts} {us = us} {gs = gs} c d) h = comp_sound gs c (front ts us h) (comps_sound d (back ts us h))
-
-    comp_sound : {ts : List Terminal} {g : Comprehension} (gs : List Comprehension) → G.Comp ts g → Said extent ts → SoundClauses extent (comprehensions gs) → SoundClauses extent (comprehensions (g ∷ gs))
-    comp_sound gs (G.for_in c) h more = for_sound gs c (rest h) more
-    comp_sound gs (G.async_for_in c) h more = for_sound gs c (rest (rest h)) more
-
-    for_sound : {b : Bool} {ts : List Terminal} {g : Comprehension} (gs : List Comprehension) → G.ForIn b ts g → Said extent ts → SoundClauses extent (comprehensions gs) → SoundClauses extent (comprehensions (g ∷ gs))
-    for_sound gs (G.target_in {ts = ts} {us = us} {vs = vs} {t = t} {s = s} p q r c) h more =
-        let others = behind ts (us ++ vs) (Word Key.In) h in
-        (stored_sound true t s q (sound p (front ts (Word Key.In ∷ (us ++ vs)) h)), sound r (front us vs others), ifs_sound c (back us vs others), more)
-
-    ifs_sound : {ts : List Terminal} {es : List Expr} → G.Ifs ts es → Said extent ts → AllSound es
-    ifs_sound G.no_if h = tt
-    ifs_sound (G.if_one {ts = ts} {us = us} p c) h = (sound p (front ts us (rest h)), ifs_sound c (back ts us (rest h)))
+  pub listing_fine : {i : Item} {ts : List Terminal} {es : List Entry} → G.Listing i ts es → Said extent [] ts → AllFine es
+  listing_fine p h = At.listing_fine extent [] (At.within_one extent) p h

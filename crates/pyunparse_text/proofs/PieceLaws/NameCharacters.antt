@@ -57,5 +57,7 @@ unfolding is_name
 name_scalars [] h = absurd (cc)
 name_scalars (c ∷ cs) h =
     let v = and_parts (starts_name c) (list_all is_xid_continue cs) h in
-    let s : scalar c ≡ true = ⊎_elim (start_scalar c) (λ (e : eqb c 95 ≡ true). let f : c ≡ 95 = eqb-true c 95 e in low_scalar c (omega arith)) (or_cases (is_xid_start c) (eqb c 95) v.0) in
+    let s : scalar c ≡ true =
+    ⊎_elim (start_scalar c) (λ (e : eqb c 95 ≡ true). let f : c ≡ 95 = eqb-true c 95 e in low_scalar c (omega arith))
+    (or_cases (is_xid_start c) (eqb c 95) v.0) in
     rw s (all_continue cs v.1)

@@ -5,13 +5,14 @@ use Rattle.std.specs.Prelude.{codes}
 use Rattle.std.specs.List.{list_all, list_any}
 use Rattle.std.specs.Str.{bytes_eq}
 use Rattle.std.proofs.lemmas.Slice.Eq.{bytes_eq-Decides}
-use Rattle.pylex_lexeme.specs.declared.kinds.Exact.TheVariants.{LPar, RPar, LSqb, RSqb, LBrace, RBrace, Colon, Comma, Plus, Minus, Star, Tilde, DoubleStar, Ellipsis}
+use Rattle.pylex_lexeme.specs.declared.kinds.Exact.TheVariants.{LPar, RPar, LSqb, RSqb, LBrace, RBrace, Colon, Comma, Plus, Minus, Star, Tilde}
+use Rattle.pylex_lexeme.specs.declared.kinds.Exact.TheVariants.{DoubleStar, Ellipsis}
 use Rattle.pygrammar.specs.declared.levels.Level.{Level}
 use Rattle.pygrammar.specs.declared.levels.Level.TheVariants.{Value, Stars, Slices, Part, Slice, Subject}
 use Rattle.pytoken.specs.Terminals.{Op}
 use Rattle.pyunparse_text.specs.Spacing.{Piece, is_number_kind, is_operator_kind, is_token, touches, begins_operator, stay_apart}
 use Rattle.pyunparse_text.specs.Written.{free, leading, trailing, tight}
-use Rattle.pyunparse_text.specs.Pieces.{piece}
+use Rattle.pyunparse_text.specs.Pieces.{Sited, outside, piece}
 use Rattle.pylex.specs.declared.kind.Kind.TheVariants as kinds
 use Rattle.std.proofs.lemmas.Bool.{and_parts, or_cases, cases_Bool}
 use Rattle.pyunparse_text.specs.Inner.Edges.{fit}
@@ -27,11 +28,13 @@ same false b = not b
 
 -- A piece is of the sort of another: the same sign, or a number, or neither of the two; and it is
 -- as close to its neighbours.
-abbrev pub like : Piece → Piece → Bool
-like x p = same (is_operator_kind x.kind) (is_operator_kind p.kind) && (same (is_number_kind x.kind) (is_number_kind p.kind) && (same x.before p.before && (same x.behind p.behind && (not (is_operator_kind x.kind) || bytes_eq p.text x.text))))
+abbrev alike_pieces : Piece → Piece → Bool
+alike_pieces x p =
+    same (is_operator_kind x.kind) (is_operator_kind p.kind) && (same (is_number_kind x.kind)
+    (is_number_kind p.kind) && (same x.before p.before && (same x.behind p.behind && (not (is_operator_kind x.kind) || bytes_eq p.text x.text))))
 
-abbrev pub is_like : List Piece → Piece → Bool
-is_like xs p = list_any (λ x. like x p) xs
+abbrev is_among : List Piece → Piece → Bool
+is_among xs p = list_any (λ x. alike_pieces x p) xs
 
 -- those of the sorts may be neighbours where these would touch
 abbrev pub apart : Piece → Piece → Bool
@@ -42,12 +45,8 @@ apart x y =
 abbrev pub suits : Piece → Piece → Bool
 suits x y = not (x.behind || y.before) || apart x y
 
-abbrev pub suit : List Piece → List Piece → Bool
-suit xs ys = list_all (λ x. list_all (suits x) ys) xs
-
--- a token of some sort
-abbrev pub within : List Piece → Piece → Bool
-within xs p = is_token p.kind p.text && is_like xs p
+abbrev all_suit : List Piece → List Piece → Bool
+all_suit xs ys = list_all (λ x. list_all (suits x) ys) xs
 
 record Alike (x p : Piece) : Type 0 where
   operator : is_operator_kind p.kind ≡ is_operator_kind x.kind
@@ -61,7 +60,7 @@ same_is true b e = e
 same_is false true e = cc
 same_is false false e = refl
 
-alike : (x p : Piece) → like x p ≡ true → Alike x p
+alike : (x p : Piece) → alike_pieces x p ≡ true → Alike x p
 alike x p e =
     let a = and_parts (same (is_operator_kind x.kind) (is_operator_kind p.kind)) _ e in
     let b = and_parts (same (is_number_kind x.kind) (is_number_kind p.kind)) _ a.1 in
@@ -91,7 +90,8 @@ loose : (p q : Piece) → (p.behind || q.before) ≡ false → fit p q ≡ true
 loose p q e = let t : touches p q ≡ false = rw e refl in early (not (touches p q)) (stay_apart p q) (rw t refl)
 
 -- what suits fits
-suits_fit : (x y p q : Piece) → Alike x p → Alike y q → is_token p.kind p.text ≡ true → is_token q.kind q.text ≡ true → suits x y ≡ true → fit p q ≡ true
+suits_fit : (x y p q : Piece) → Alike x p → Alike y q → is_token p.kind p.text ≡ true → is_token q.kind q.text ≡ true → suits x y ≡ true
+    → fit p q ≡ true
 suits_fit x y p q a b s t e =
     ⊎_elim
     (λ (n : not (x.behind || y.before) ≡ true). loose p q (rw (a.behind, b.before) (off (x.behind || y.before) n)))
@@ -115,8 +115,10 @@ suits_fit x y p q a b s t e =
     (cases_Bool (is_operator_kind y.kind)))
     (λ (ox : is_operator_kind x.kind ≡ false).
     let po : is_operator_kind p.kind ≡ false = rw a.operator ox in
-    let f : (is_operator_kind y.kind && (bytes_eq y.text (codes ".") || not (is_number_kind x.kind && bytes_eq (take 1 y.text) (codes ".")))) ≡ true = rw ox at h in
-    let g = and_parts (is_operator_kind y.kind) (bytes_eq y.text (codes ".") || not (is_number_kind x.kind && bytes_eq (take 1 y.text) (codes "."))) f in
+    let f : (is_operator_kind y.kind && (bytes_eq y.text (codes ".") || not (is_number_kind x.kind && bytes_eq (take 1 y.text) (codes ".")))) ≡ true =
+    rw ox at h in
+    let g =
+    and_parts (is_operator_kind y.kind) (bytes_eq y.text (codes ".") || not (is_number_kind x.kind && bytes_eq (take 1 y.text) (codes "."))) f in
     let qo : is_operator_kind q.kind ≡ true = rw b.operator g.0 in
     let ty : q.text ≡ y.text = (bytes_eq-Decides q.text y.text).0 (b.text g.0) in
     ⊎_elim
@@ -149,57 +151,78 @@ record Found (f : Piece → Bool) (p : Piece) : Type 0 where
   passes : f sort ≡ true
   alike : Alike sort p
 
-found : (f : Piece → Bool) (xs : List Piece) (p : Piece) → list_all f xs ≡ true → is_like xs p ≡ true → Found f p
+found : (f : Piece → Bool) (xs : List Piece) (p : Piece) → list_all f xs ≡ true → is_among xs p ≡ true → Found f p
 found f [] p a e = cc
 found f (x ∷ xs) p a e =
     let h = and_parts (f x) (list_all f xs) a in
     ⊎_elim
-    (λ (l : like x p ≡ true). let r : Found f p = record { sort = x; passes = h.0; alike = alike x p l } in r)
-    (λ (l : is_like xs p ≡ true). found f xs p h.1 l)
-    (or_cases (like x p) (is_like xs p) e)
+    (λ (l : alike_pieces x p ≡ true). let r : Found f p = record { sort = x; passes = h.0; alike = alike x p l } in r)
+    (λ (l : is_among xs p ≡ true). found f xs p h.1 l)
+    (or_cases (alike_pieces x p) (is_among xs p) e)
 
-pub sorts_fit : (xs ys : List Piece) → suit xs ys ≡ true → (p q : Piece) → within xs p ≡ true → within ys q ≡ true → fit p q ≡ true
+all_fit : (xs ys : List Piece) → all_suit xs ys ≡ true → (p q : Piece) → is_token p.kind p.text ≡ true → is_token q.kind q.text ≡ true
+    → is_among xs p ≡ true → is_among ys q ≡ true → fit p q ≡ true
+all_fit xs ys e p q s t a b =
+    let x = found (λ x. list_all (suits x) ys) xs p e a in
+    let y = found (suits x.sort) ys q x.passes b in
+    suits_fit x.sort y.sort p q x.alike y.alike s t y.passes
+
+-- ---- Sorts of what is written: those of tokens outside of fields, since that a token stands in a field changes texts of literals alone.
+
+abbrev pub like : Sited → Piece → Bool
+like x p = alike_pieces (x false) p
+
+abbrev pub is_like : List Sited → Piece → Bool
+is_like xs p = is_among (outside xs) p
+
+abbrev pub suit : List Sited → List Sited → Bool
+suit xs ys = all_suit (outside xs) (outside ys)
+
+-- a token of some sort
+abbrev pub within : List Sited → Piece → Bool
+within xs p = is_token p.kind p.text && is_like xs p
+
+pub sorts_fit : (xs ys : List Sited) → suit xs ys ≡ true → (p q : Piece) → within xs p ≡ true → within ys q ≡ true → fit p q ≡ true
 sorts_fit xs ys e p q a b =
     let s = and_parts (is_token p.kind p.text) (is_like xs p) a in
     let t = and_parts (is_token q.kind q.text) (is_like ys q) b in
-    let x = found (λ x. list_all (suits x) ys) xs p e s.1 in
-    let y = found (suits x.sort) ys q x.passes t.1 in
-    suits_fit x.sort y.sort p q x.alike y.alike s.0 t.0 y.passes
+    all_fit (outside xs) (outside ys) e p q s.0 t.0 s.1 t.1
 
 -- Sets
-abbrev pub a_word : Piece
-a_word = record { kind = kinds.Name; text = []; before = false; behind = false }
+abbrev pub a_word : Sited
+a_word is_in_field = record { kind = kinds.Name; text = []; before = false; behind = false }
 
-abbrev pub a_number : Piece
-a_number = record { kind = kinds.Number; text = []; before = false; behind = false }
+abbrev pub a_number : Sited
+a_number is_in_field = record { kind = kinds.Number; text = []; before = false; behind = false }
 
 -- what an expression begins with, words aside
-abbrev pub starts_other : List Piece
-starts_other = a_number ∷ leading piece LPar ∷ leading piece LSqb ∷ leading piece LBrace ∷ leading piece Plus ∷ leading piece Minus ∷ leading piece Tilde ∷ free piece (Op Ellipsis) ∷ []
+abbrev pub starts_other : List Sited
+starts_other =
+    a_number ∷ leading piece LPar ∷ leading piece LSqb ∷ leading piece LBrace ∷ leading piece Plus ∷ leading piece Minus ∷ leading piece Tilde ∷ free piece (Op Ellipsis) ∷ []
 
-abbrev pub starts_plain : List Piece
+abbrev pub starts_plain : List Sited
 starts_plain = a_word ∷ starts_other
 
 -- the same, or a star
-abbrev pub starts_item : List Piece
+abbrev pub starts_item : List Sited
 starts_item = leading piece Star ∷ leading piece DoubleStar ∷ starts_plain
 
 -- the same, or a slice's colon
-abbrev pub starts_part : List Piece
+abbrev pub starts_part : List Sited
 starts_part = tight piece Colon ∷ starts_item
 
-abbrev pub ends_plain : List Piece
+abbrev pub ends_plain : List Sited
 ends_plain = a_word ∷ a_number ∷ trailing piece RPar ∷ trailing piece RSqb ∷ trailing piece RBrace ∷ free piece (Op Ellipsis) ∷ []
 
 -- the same, or a comma
-abbrev pub ends_comma : List Piece
+abbrev pub ends_comma : List Sited
 ends_comma = trailing piece Comma ∷ ends_plain
 
-abbrev pub ends_part : List Piece
+abbrev pub ends_part : List Sited
 ends_part = tight piece Colon ∷ ends_comma
 
 -- by level, and by whether a star may stand there
-abbrev pub starts : Bool → Level → List Piece
+abbrev pub starts : Bool → Level → List Sited
 starts s Slices = starts_part
 starts s Part = starts_part
 starts s Slice = starts_part
@@ -209,7 +232,7 @@ starts s Subject = starts_item
 starts true l = starts_item
 starts false l = starts_plain
 
-abbrev pub ends : Level → List Piece
+abbrev pub ends : Level → List Sited
 ends Slices = ends_part
 ends Part = ends_part
 ends Slice = ends_part

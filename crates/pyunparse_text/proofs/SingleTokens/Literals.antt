@@ -1,7 +1,8 @@
 -- The repr of a text, with `u` before it or not, and the repr of bytes are tokens.
 --
 -- Carries: which_quote, for Scalars. On: StringFronts, Cases.
-use Rattle.std.proofs.Common.{◌≡◌, ℕ, ◌/◌, ◌%◌, ◌<◌, Bool, true, false, not, ◌&&◌, ◌||◌, ◌==◌, List, [], ◌∷◌, ◌++◌, refl, ◌∙◌, ap, subst, arith, zero, suc, ◌⊎◌, inl, inr, ⊎_elim, append_assoc, if◌then◌else◌}
+use Rattle.std.proofs.Common.{◌≡◌, ℕ, ◌/◌, ◌%◌, ◌<◌, Bool, true, false, not, ◌&&◌, ◌||◌, ◌==◌, List, [], ◌∷◌, ◌++◌, refl, ◌∙◌, ap, subst, arith, zero}
+use Rattle.std.proofs.Common.{suc, ◌⊎◌, inl, inr, ⊎_elim, append_assoc, if◌then◌else◌}
 use Rattle.std.specs.Prelude.{codes, nat_lt}
 use Rattle.std.specs.List.{list_all, list_any, flat_map}
 use Rattle.std.specs.Char.{digit_char}
@@ -19,36 +20,36 @@ use Rattle.pyunparse_text.proofs.LexemeFronts.StringFronts.{units_slash}
 use Rattle.pyunparse_text.proofs.Cases.{bool_cases}
 
 -- Characters that neither close a literal nor may not stand in it
-abbrev Skips : ℕ → List ℕ → Type 0
+abbrev pub Skips : ℕ → List ℕ → Type 0
 Skips q e = (list_all is_comment_part e ≡ true) × ((r : List ℕ) → ends_by_one q (units (e ++ r)) ≡ ends_by_one q (units r))
 
 -- an own character
-record Own (q c : ℕ) : Type 0 where
+pub record Own (q c : ℕ) : Type 0 where
   pub slash : (c == 92) ≡ false
   pub quote : (c == q) ≡ false
   pub feed : (c == 10) ≡ false
   pub return : (c == 13) ≡ false
 
-own_skips : (q c : ℕ) → Own q c → Skips q (c ∷ [])
+pub own_skips : (q c : ℕ) → Own q c → Skips q (c ∷ [])
 own_skips q c o = (
   rw (o.feed, o.return) refl,
   λ r. ap (ends_by_one q) (units_plain c r o.slash) ∙ rw (unit_one q c ∙ o.quote, unit_one 13 c ∙ o.return, unit_one 10 c ∙ o.feed) refl,
 )
 
 -- a backslash and a character
-pair_skips : (q b : ℕ) → IsQuote q → (b == 13) ≡ false → (b == 10) ≡ false → Skips q (92 ∷ b ∷ [])
+pub pair_skips : (q b : ℕ) → IsQuote q → (b == 13) ≡ false → (b == 10) ≡ false → Skips q (92 ∷ b ∷ [])
 pair_skips q b k n m = (
   rw (n, m) refl,
   λ r. ap (ends_by_one q) (units_slash b r n) ∙ (let u = unit_slash q 92 (b ∷ []) k.slash refl in rw u refl),
 )
 
-both_skip : (q : ℕ) (a b : List ℕ) → Skips q a → Skips q b → Skips q (a ++ b)
+pub both_skip : (q : ℕ) (a b : List ℕ) → Skips q a → Skips q b → Skips q (a ++ b)
 both_skip q a b x y = (
   list_all-append is_comment_part a b ∙ rw (x.0, y.0) refl,
   λ r. ap (λ u. ends_by_one q (units u)) (append_assoc a b r) ∙ x.1 (b ++ r) ∙ y.1 r,
 )
 
-none_skip : (q : ℕ) → Skips q []
+pub none_skip : (q : ℕ) → Skips q []
 none_skip q = (refl, λ r. refl)
 
 -- digits of base 16
@@ -60,12 +61,14 @@ digit_own q d w h = ⊎_elim
 
 hex_skips : (q : ℕ) → (q ≡ 39) ⊎ (q ≡ 34) → (width n : ℕ) → Skips q (hex width n)
 hex_skips q w zero n = none_skip q
-hex_skips q w (suc width) n = both_skip q (hex width (n / 16)) (digit_char (n % 16) ∷ []) (hex_skips q w width (n / 16)) (own_skips q (digit_char (n % 16)) (digit_own q (n % 16) w (omega arith)))
+hex_skips q w (suc width) n =
+    both_skip q (hex width (n / 16)) (digit_char (n % 16) ∷ []) (hex_skips q w width (n / 16))
+    (own_skips q (digit_char (n % 16)) (digit_own q (n % 16) w (omega arith)))
 
 quote_of : (q : ℕ) → (q ≡ 39) ⊎ (q ≡ 34) → IsQuote q
 quote_of q w = ⊎_elim (λ (e : q ≡ 39). quote_is q (rw e refl)) (λ (e : q ≡ 34). quote_is q (rw e refl)) w
 
-escape_skips : (q c : ℕ) → (q ≡ 39) ⊎ (q ≡ 34) → Skips q (hex_escape c)
+pub escape_skips : (q c : ℕ) → (q ≡ 39) ⊎ (q ≡ 34) → Skips q (hex_escape c)
 escape_skips q c w = by (nat_lt c 0x100) (nat_lt c 0x1_0000)
   where
     by : (a b : Bool) → Skips q (if a then codes "\\x" ++ hex 2 c else (if b then codes "\\u" ++ hex 4 c else codes "\\U" ++ hex 8 c))
@@ -74,7 +77,7 @@ escape_skips q c w = by (nat_lt c 0x100) (nat_lt c 0x1_0000)
     by false false = both_skip q (92 ∷ 85 ∷ []) (hex 8 c) (pair_skips q 85 (quote_of q w) refl refl) (hex_skips q w 8 c)
 
 -- what stands for a character
-escaped_skips : (test : ℕ → Bool) (q c : ℕ) → (q ≡ 39) ⊎ (q ≡ 34) → Skips q (escaped test q c)
+pub escaped_skips : (test : ℕ → Bool) (q c : ℕ) → (q ≡ 39) ⊎ (q ≡ 34) → Skips q (escaped test q c)
 escaped_skips test q c w =
     ⊎_elim
     (λ (h : (c == 92 || c == q) ≡ true). rw h (pair_skips q c (quote_of q w) (special c h).0 (special c h).1))
@@ -121,10 +124,12 @@ literal_in_line test cs =
     let q : ℕ = quote_for cs in
     let k = quote_of q (which_quote cs) in
     let s = all_skip test q (which_quote cs) cs in
-    let l : list_all is_comment_part (flat_map (escaped test q) cs ++ q ∷ []) ≡ true = list_all-append is_comment_part (flat_map (escaped test q) cs) (q ∷ []) ∙ rw (s.0, k.feed, k.ret) refl in
+    let l : list_all is_comment_part (flat_map (escaped test q) cs ++ q ∷ []) ≡ true =
+    list_all-append is_comment_part (flat_map (escaped test q) cs) (q ∷ []) ∙ rw (s.0, k.feed, k.ret) refl in
     rw (k.feed, k.ret) l
 
-literal_ends : (test : ℕ → Bool) (cs : List ℕ) → ends_by_one (quote_for cs) (units (flat_map (escaped test (quote_for cs)) cs ++ quote_for cs ∷ [])) ≡ true
+literal_ends : (test : ℕ → Bool) (cs : List ℕ)
+    → ends_by_one (quote_for cs) (units (flat_map (escaped test (quote_for cs)) cs ++ quote_for cs ∷ [])) ≡ true
 literal_ends test cs =
     let q : ℕ = quote_for cs in
     (all_skip test q (which_quote cs) cs).1 (q ∷ []) ∙ last q (which_quote cs)
@@ -161,7 +166,8 @@ whole_literal test cs = rw (nil_prefix, literal_single test cs) refl
 
 prefixed_literal : (a : ℕ) (test : ℕ → Bool) (cs : List ℕ) → is_prefix (a ∷ []) ≡ true → is_single_string (a ∷ quoted test cs) ≡ true
 unfolding is_single_string
-prefixed_literal a test cs p = rw (p, literal_single test cs) (second (is_prefix [] && (is_single 39 (a ∷ quoted test cs) || is_single 34 (a ∷ quoted test cs))))
+prefixed_literal a test cs p =
+    rw (p, literal_single test cs) (second (is_prefix [] && (is_single 39 (a ∷ quoted test cs) || is_single 34 (a ∷ quoted test cs))))
   where
     second : (b : Bool) → (b || true) ≡ true
     second true = refl

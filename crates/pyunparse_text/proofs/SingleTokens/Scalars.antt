@@ -1,7 +1,8 @@
 -- The characters of reprs are scalars.
 --
 -- Carries: what pyunparse_text cites. On: Bytes, Literals, Cases.
-use Rattle.std.proofs.Common.{◌≡◌, ℕ, ◌/◌, ◌%◌, ◌≤◌, ◌<◌, Bool, true, false, ◌||◌, ◌==◌, List, [], ◌∷◌, ◌++◌, refl, sym, ◌∙◌, arith, zero, suc, ◌⊎◌, inl, ⊎_elim, if◌then◌else◌, leb}
+use Rattle.std.proofs.Common.{◌≡◌, ℕ, ◌/◌, ◌%◌, ◌≤◌, ◌<◌, Bool, true, false, ◌||◌, ◌==◌, List, [], ◌∷◌, ◌++◌, refl, sym, ◌∙◌, arith, zero, suc, ◌⊎◌}
+use Rattle.std.proofs.Common.{inl, ⊎_elim, if◌then◌else◌, leb}
 use Rattle.std.specs.Prelude.{codes, nat_lt}
 use Rattle.std.specs.List.{list_all, flat_map}
 use Rattle.std.specs.Char.{digit_char}
@@ -24,12 +25,14 @@ pair_scalar b h = let s = low_scalar b (omega arith) in rw s refl
 
 hex_scalar : (width n : ℕ) → all_scalars (hex width n) ≡ true
 hex_scalar zero n = refl
-hex_scalar (suc width) n = scalars_both (hex width (n / 16)) (digit_char (n % 16) ∷ []) (hex_scalar width (n / 16)) (one_scalar (digit_char (n % 16)) (small (n % 16) (omega arith)))
+hex_scalar (suc width) n =
+    scalars_both (hex width (n / 16)) (digit_char (n % 16) ∷ []) (hex_scalar width (n / 16))
+    (one_scalar (digit_char (n % 16)) (small (n % 16) (omega arith)))
   where
     small : (d : ℕ) → d < 16 → digit_char d < 128
     small d h = grind (arith, nat_tests)
 
-escape_scalar : (c : ℕ) → all_scalars (hex_escape c) ≡ true
+pub escape_scalar : (c : ℕ) → all_scalars (hex_escape c) ≡ true
 escape_scalar c = by (nat_lt c 0x100) (nat_lt c 0x1_0000)
   where
     by : (a b : Bool) → all_scalars (if a then codes "\\x" ++ hex 2 c else (if b then codes "\\u" ++ hex 4 c else codes "\\U" ++ hex 8 c)) ≡ true
@@ -38,7 +41,8 @@ escape_scalar c = by (nat_lt c 0x100) (nat_lt c 0x1_0000)
     by false false = scalars_both (92 ∷ 85 ∷ []) (hex 8 c) refl (hex_scalar 8 c)
 
 -- what stands for a character, where those that stand for themselves are scalars
-escaped_scalar : (test : ℕ → Bool) (q c : ℕ) → (q ≡ 39) ⊎ (q ≡ 34) → (test c ≡ false → all_scalars (c ∷ []) ≡ true) → all_scalars (escaped test q c) ≡ true
+pub escaped_scalar : (test : ℕ → Bool) (q c : ℕ) → (q ≡ 39) ⊎ (q ≡ 34) → (test c ≡ false → all_scalars (c ∷ []) ≡ true)
+    → all_scalars (escaped test q c) ≡ true
 escaped_scalar test q c w own =
     ⊎_elim
     (λ (h : (c == 92 || c == q) ≡ true). rw h (pair_scalar c (special h)))
@@ -55,13 +59,15 @@ escaped_scalar test q c w own =
     plain true e = escape_scalar c
     plain false e = own e
 
-    others : (t n r : Bool) → all_scalars (if t then codes "\\t" else (if n then codes "\\n" else (if r then codes "\\r" else (if test c then hex_escape c else c ∷ [])))) ≡ true
+    others : (t n r : Bool)
+        → all_scalars (if t then codes "\\t" else (if n then codes "\\n" else (if r then codes "\\r" else (if test c then hex_escape c else c ∷ [])))) ≡ true
     others true n r = refl
     others false true r = refl
     others false false true = refl
     others false false false = plain (test c) refl
 
-quoted_scalar : (test p : ℕ → Bool) → ((c : ℕ) → p c ≡ true → test c ≡ false → all_scalars (c ∷ []) ≡ true) → (cs : List ℕ) → list_all p cs ≡ true → all_scalars (quoted test cs) ≡ true
+quoted_scalar : (test p : ℕ → Bool) → ((c : ℕ) → p c ≡ true → test c ≡ false → all_scalars (c ∷ []) ≡ true) → (cs : List ℕ) → list_all p cs ≡ true
+    → all_scalars (quoted test cs) ≡ true
 quoted_scalar test p f cs a =
     let q : ℕ = quote_for cs in
     let w = which_quote cs in
@@ -87,7 +93,7 @@ bytes_scalars bs = quoted_scalar is_unprintable_byte (λ b. true) (λ b t e. own
 high_scalar : (c : ℕ) → 57344 ≤ c → c ≤ 1114111 → scalar c ≡ true
 high_scalar c h i = grind (arith, nat_tests)
 
-own_char : (c : ℕ) → leb c 1114111 ≡ true → is_unprintable c ≡ false → all_scalars (c ∷ []) ≡ true
+pub own_char : (c : ℕ) → leb c 1114111 ≡ true → is_unprintable c ≡ false → all_scalars (c ∷ []) ≡ true
 own_char c b e =
     let l = leb-true c 1114111 b in
     ⊎_elim

@@ -25,7 +25,8 @@ high c h =
     let e : ltb c 128 ≡ false = grind (arith, nat_tests) in
     rw e (two (ltb c 2048) (ltb c 65536))
   where
-    two : (a b : Bool) → list_all (leb 128) (cond a ((192 + c / 64) ∷ next c ∷ []) (cond b ((224 + c / 4096) ∷ next (c / 64) ∷ next c ∷ []) ((240 + c / 262144) ∷ next (c / 4096) ∷ next (c / 64) ∷ next c ∷ []))) ≡ true
+    two : (a b : Bool)
+        → list_all (leb 128) (cond a ((192 + c / 64) ∷ next c ∷ []) (cond b ((224 + c / 4096) ∷ next (c / 64) ∷ next c ∷ []) ((240 + c / 262144) ∷ next (c / 4096) ∷ next (c / 64) ∷ next c ∷ []))) ≡ true
     two true b = rw (least 192 (c / 64) (omega arith), next_high c) refl
     two false true = rw (least 224 (c / 4096) (omega arith), next_high (c / 64), next_high c) refl
     two false false = rw (least 240 (c / 262144) (omega arith), next_high (c / 4096), next_high (c / 64), next_high c) refl
@@ -47,7 +48,8 @@ bytes_pass p f (c ∷ cs) e =
     (λ (h : 128 ≤ c). rw (weaker p f (encode c) (high c h), r) refl)
     (cases_lt c 128)
 
-begins_all : (p : ℕ → Bool) → ((b : ℕ) → 128 ≤ b → p b ≡ false) → (bs r : List ℕ) → list_all (leb 128) bs ≡ true → 0 < length bs → begins p (bs ++ r) ≡ false
+begins_all : (p : ℕ → Bool) → ((b : ℕ) → 128 ≤ b → p b ≡ false) → (bs r : List ℕ) → list_all (leb 128) bs ≡ true → 0 < length bs
+    → begins p (bs ++ r) ≡ false
 begins_all p f [] r e h = absurd (omega arith)
 begins_all p f (b ∷ bs) r e h = let q = and_parts (leb 128 b) (list_all (leb 128) bs) e in f b (leb-true 128 b q.0)
 

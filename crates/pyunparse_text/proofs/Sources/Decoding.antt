@@ -2,7 +2,8 @@
 --
 -- Carries: lines_scalars, lines_source, lines_chars, for Law, Relisting, Runs. On:
 -- PieceFronts, Bytes, Cases, Fronts and 1 more.
-use Rattle.std.proofs.Common.{◌≡◌, ℕ, zero, suc, ◌+◌, ◌*◌, ◌≤◌, ◌<◌, Bool, true, false, not, ◌&&◌, ◌==◌, List, [], ◌∷◌, ◌++◌, map, length, get_or, take, drop, refl, sym, ◌∙◌, ap, subst, arith, eqb, append_assoc, replicate, None, if◌then◌else◌}
+use Rattle.std.proofs.Common.{◌≡◌, ℕ, zero, suc, ◌+◌, ◌*◌, ◌≤◌, ◌<◌, Bool, true, false, not, ◌&&◌, ◌==◌, List, [], ◌∷◌, ◌++◌, map, length, get_or}
+use Rattle.std.proofs.Common.{take, drop, refl, sym, ◌∙◌, ap, subst, arith, eqb, append_assoc, replicate, None, if◌then◌else◌}
 use Rattle.std.specs.Prelude.{Ok, slice_index_or}
 use Rattle.std.specs.List.{list_all, list_any, prefix_len}
 use Rattle.std.specs.Str.{encode_utf8_all, all_scalars, chars}
@@ -43,8 +44,12 @@ use Rattle.pyunparse_text.proofs.Cases.{cases, off}
 -- No token holds a line's end.
 part_in_line : (c : ℕ) → is_xid_continue c ≡ true → is_comment_part c ≡ true
 part_in_line c e =
-    let f : (c == 10) ≡ false = cases (c == 10) (λ h. let z : is_xid_continue 10 ≡ true = subst (λ (x : ℕ). is_xid_continue x ≡ true) (eqb-true c 10 h) e in let y = is_xid_continue-ascii 10 (omega arith) in cc) in
-    let g : (c == 13) ≡ false = cases (c == 13) (λ h. let z : is_xid_continue 13 ≡ true = subst (λ (x : ℕ). is_xid_continue x ≡ true) (eqb-true c 13 h) e in let y = is_xid_continue-ascii 13 (omega arith) in cc) in
+    let f : (c == 10) ≡ false =
+    cases (c == 10)
+    (λ h. let z : is_xid_continue 10 ≡ true = subst (λ (x : ℕ). is_xid_continue x ≡ true) (eqb-true c 10 h) e in let y = is_xid_continue-ascii 10 (omega arith) in cc) in
+    let g : (c == 13) ≡ false =
+    cases (c == 13)
+    (λ h. let z : is_xid_continue 13 ≡ true = subst (λ (x : ℕ). is_xid_continue x ≡ true) (eqb-true c 13 h) e in let y = is_xid_continue-ascii 13 (omega arith) in cc) in
     rw (f, g) refl
 
 all_by : (p q : ℕ → Bool) → ((c : ℕ) → p c ≡ true → q c ≡ true) → (t : List ℕ) → list_all p t ≡ true → list_all q t ≡ true
@@ -79,7 +84,8 @@ blanks_in p zero e = refl
 blanks_in p (suc n) e = rw e (blanks_in p n e)
 
 -- a property of all characters of the pieces, and of the blank
-behind_in : (p : ℕ → Bool) → p 32 ≡ true → (x : Piece) (qs : List Piece) → list_all (λ q. list_all p q.text) qs ≡ true → list_all p (text_behind x qs) ≡ true
+behind_in : (p : ℕ → Bool) → p 32 ≡ true → (x : Piece) (qs : List Piece) → list_all (λ q. list_all p q.text) qs ≡ true
+    → list_all p (text_behind x qs) ≡ true
 behind_in p s x [] e = refl
 behind_in p s x (q ∷ qs) e =
     let h = and_parts (list_all p q.text) (list_all (λ q. list_all p q.text) qs) e in
@@ -103,7 +109,8 @@ tokens_in (q ∷ qs) e =
     rw (token_in_line q.kind q.text h.0, tokens_in qs h.1) refl
 
 -- What no token begins with
-quiet_off : (c : ℕ) → Off c → is_decimal_digit c ≡ false → list_any (eqb c) (heads words) ≡ false → (k : Kind) (t r : List ℕ) → is_token k t ≡ true → begins (λ d. d == c) (t ++ r) ≡ false
+quiet_off : (c : ℕ) → Off c → is_decimal_digit c ≡ false → list_any (eqb c) (heads words) ≡ false → (k : Kind) (t r : List ℕ) → is_token k t ≡ true
+    → begins (λ d. d == c) (t ++ r) ≡ false
 quiet_off c o n s k [] r e = absurd (none_empty k e)
 quiet_off c o n s k (d ∷ t) r e = cases (d == c) (λ h.
     let f : is_token k (c ∷ t) ≡ true = subst (λ (x : ℕ). is_token k (x ∷ t) ≡ true) (eqb-true d c h) e in
@@ -118,19 +125,22 @@ unfolding is_xid_start in_ranges xid_start_ranges
 mark_off = record { name = refl; quote = refl; letter = refl }
 
 -- the first character of pieces
-spaced_quiet : (c : ℕ) → Off c → is_decimal_digit c ≡ false → list_any (eqb c) (heads words) ≡ false → (ps : List Piece) (r : List ℕ) → are_readable ps ≡ true → begins (λ d. d == c) (spaced ps ++ r) ≡ false
+spaced_quiet : (c : ℕ) → Off c → is_decimal_digit c ≡ false → list_any (eqb c) (heads words) ≡ false → (ps : List Piece) (r : List ℕ)
+    → are_readable ps ≡ true → begins (λ d. d == c) (spaced ps ++ r) ≡ false
 spaced_quiet c o n s [] r e = cc
 spaced_quiet c o n s (p ∷ ps) r e =
     let i = and_parts (list_all (λ q. is_token q.kind q.text) (p ∷ ps)) _ e in
     let j = and_parts (is_token p.kind p.text) (list_all (λ q. is_token q.kind q.text) ps) i.0 in
-    subst (λ (u : List ℕ). begins (λ d. d == c) u ≡ false) (sym (append_assoc p.text (text_behind p ps) r)) (quiet_off c o n s p.kind p.text (text_behind p ps ++ r) j.0)
+    subst (λ (u : List ℕ). begins (λ d. d == c) u ≡ false) (sym (append_assoc p.text (text_behind p ps) r))
+    (quiet_off c o n s p.kind p.text (text_behind p ps ++ r) j.0)
 
 spaced_unblank : (ps : List Piece) (r : List ℕ) → are_readable ps ≡ true → begins is_blank_char (spaced ps ++ r) ≡ false
 spaced_unblank [] r e = cc
 spaced_unblank (p ∷ ps) r e =
     let i = and_parts (list_all (λ q. is_token q.kind q.text) (p ∷ ps)) _ e in
     let j = and_parts (is_token p.kind p.text) (list_all (λ q. is_token q.kind q.text) ps) i.0 in
-    subst (λ (u : List ℕ). begins is_blank_char u ≡ false) (sym (append_assoc p.text (text_behind p ps) r)) (token_no_blank p.kind p.text (text_behind p ps ++ r) j.0)
+    subst (λ (u : List ℕ). begins is_blank_char u ≡ false) (sym (append_assoc p.text (text_behind p ps) r))
+    (token_no_blank p.kind p.text (text_behind p ps ++ r) j.0)
 
 -- A mark is one character.
 mark_bytes : encode 65279 ≡ 239 ∷ 187 ∷ 191 ∷ []
@@ -142,7 +152,8 @@ no_mark [] e = refl
 no_mark (c ∷ cs) e = cases (has_mark (encode_utf8_all (c ∷ cs))) (λ h.
     let bs : List ℕ = encode_utf8_all (c ∷ cs) in
     let t : 239 ∷ 187 ∷ 191 ∷ [] ≡ take 3 bs = (bytes_eq-Decides (239 ∷ 187 ∷ 191 ∷ []) (take 3 bs)).0 h in
-    let w : encode c ++ encode_utf8_all cs ≡ encode 65279 ++ drop 3 bs = sym (take-append-drop 3 bs) ∙ ap (λ u. u ++ drop 3 bs) (sym t ∙ sym mark_bytes) in
+    let w : encode c ++ encode_utf8_all cs ≡ encode 65279 ++ drop 3 bs =
+    sym (take-append-drop 3 bs) ∙ ap (λ u. u ++ drop 3 bs) (sym t ∙ sym mark_bytes) in
     let s = encode_same c 65279 (encode_utf8_all cs) (drop 3 bs) w in
     let f : (c == 65279) ≡ true = rw s.0 refl in
     cc)
@@ -176,7 +187,9 @@ pieces_of [] e = refl
 pieces_of (p ∷ ps) e = (and_parts (list_all (λ q. is_token q.kind q.text) (p ∷ ps)) _ e).0
 
 front_in_line : (l : Line) → Plainly l → list_all is_comment_part (front_of l) ≡ true
-front_in_line l p = both_in is_comment_part (replicate (4 * l.level) 32) (spaced l.pieces) (blanks_in is_comment_part (4 * l.level) refl) (spaced_in is_comment_part refl l.pieces (tokens_in l.pieces (pieces_of l.pieces p.readable)))
+front_in_line l p =
+    both_in is_comment_part (replicate (4 * l.level) 32) (spaced l.pieces) (blanks_in is_comment_part (4 * l.level) refl)
+    (spaced_in is_comment_part refl l.pieces (tokens_in l.pieces (pieces_of l.pieces p.readable)))
 
 high_part : (b : ℕ) → 128 ≤ b → is_comment_part b ≡ true
 high_part b h = grind (arith, nat_tests)
@@ -193,13 +206,15 @@ not_parts : (c : ℕ) → is_comment_part c ≡ true → ((c == 10) ≡ false) �
 not_parts c e = let q = and_parts (not (c == 10)) (not (c == 13)) e in (off (c == 10) q.0, off (c == 13) q.1)
 
 clean : (l : Line) → Plainly l → NoLf (encode_utf8_all (front_of l))
-clean l p k h = (not_parts (get_or (encode_utf8_all (front_of l)) k 0) (all_at is_comment_part (encode_utf8_all (front_of l)) k (front_bytes l p) h)).0
+clean l p k h =
+    (not_parts (get_or (encode_utf8_all (front_of l)) k 0) (all_at is_comment_part (encode_utf8_all (front_of l)) k (front_bytes l p) h)).0
 
 -- the characters are scalars
 line_scalars : (l : Line) → Plainly l → all_scalars (line_text l) ≡ true
 line_scalars l p =
     subst (λ (u : List ℕ). all_scalars u ≡ true) (sym (line_front l))
-    (scalars_both (front_of l) (10 ∷ []) (scalars_both (replicate (4 * l.level) 32) (spaced l.pieces) (blank_scalars (4 * l.level)) (spaced_scalars l.pieces p.scalars)) refl)
+    (scalars_both (front_of l) (10 ∷ []) (scalars_both (replicate (4 * l.level) 32) (spaced l.pieces) (blank_scalars (4 * l.level))
+    (spaced_scalars l.pieces p.scalars)) refl)
   where
     blank_scalars : (n : ℕ) → all_scalars (replicate n 32) ≡ true
     blank_scalars zero = refl
@@ -229,7 +244,9 @@ line_good l p = first_given_none (bad_at Utf8 (bytes_of l)) 0 (length (bytes_of 
     ∙ lone_none_byte (bytes_of l) k (λ e. let f : (get_or (bytes_of l) k 0 == 13) ≡ true = rw e refl in let g = (no_return k h) in cc))
   where
     no_returns : list_all (λ b. not (b == 13)) (bytes_of l) ≡ true
-    no_returns = both_in (λ b. not (b == 13)) (encode_utf8_all (front_of l)) (10 ∷ []) (all_by is_comment_part (λ b. not (b == 13)) (λ c e. rw (not_parts c e).1 refl) (encode_utf8_all (front_of l)) (front_bytes l p)) refl
+    no_returns =
+        both_in (λ b. not (b == 13)) (encode_utf8_all (front_of l)) (10 ∷ [])
+        (all_by is_comment_part (λ b. not (b == 13)) (λ c e. rw (not_parts c e).1 refl) (encode_utf8_all (front_of l)) (front_bytes l p)) refl
 
     no_return : (k : ℕ) → k < length (bytes_of l) → (get_or (bytes_of l) k 0 == 13) ≡ false
     no_return k h = off (get_or (bytes_of l) k 0 == 13) (all_at (λ b. not (b == 13)) (bytes_of l) k no_returns h)
@@ -249,7 +266,8 @@ blanks_ascii (suc n) = ap (λ u. 32 ∷ u) (blanks_ascii n)
 
 no_cookie : (n : ℕ) (r : List ℕ) → begins is_blank r ≡ false → begins (λ b. b == 35) r ≡ false → cookie_of (replicate n 32 ++ r) ≡ []
 no_cookie n r b h =
-    let l : prefix_len is_blank (replicate n 32 ++ r) ≡ length (replicate n 32) = run_ends is_blank (replicate n 32) r (blanks_in is_blank n refl) b in
+    let l : prefix_len is_blank (replicate n 32 ++ r) ≡ length (replicate n 32) =
+    run_ends is_blank (replicate n 32) r (blanks_in is_blank n refl) b in
     let d : drop_while is_blank (replicate n 32 ++ r) ≡ r = ap (λ k. drop k (replicate n 32 ++ r)) l ∙ drop-append_seam (replicate n 32) r in
     rw (d, none r h) refl
   where
@@ -277,7 +295,9 @@ line_quiet l p = record {
     unmarked (suc n) r e = refl
 
     split : bytes_of l ≡ replicate (4 * l.level) 32 ++ encode_utf8_all (spaced l.pieces ++ 10 ∷ [])
-    split = sym (line_encoded l) ∙ encodes-append (replicate (4 * l.level) 32) (spaced l.pieces ++ 10 ∷ []) ∙ ap (λ u. u ++ encode_utf8_all (spaced l.pieces ++ 10 ∷ [])) (blanks_ascii (4 * l.level))
+    split =
+        sym (line_encoded l) ∙ encodes-append (replicate (4 * l.level) 32) (spaced l.pieces ++ 10 ∷ [])
+        ∙ ap (λ u. u ++ encode_utf8_all (spaced l.pieces ++ 10 ∷ [])) (blanks_ascii (4 * l.level))
 
 quiet_plain : (a b : List ℕ) → Quiet a → Quiet b → encoding_of a b ≡ Ok plain
 quiet_plain a b p q =
@@ -302,7 +322,8 @@ unfolding lines_of
 cut_lines [] w = refl
 cut_lines (l ∷ ls) w =
     let a = and_parts (is_written l) (list_all is_written ls) w in
-    ap lines_of (lines_encoded l ls) ∙ lines_at (encode_utf8_all (front_of l)) (encode_utf8_all (lines_text ls)) (clean l (plainly l a.0)) ∙ ap (λ u. bytes_of l ∷ u) (cut_lines ls a.1)
+    ap lines_of (lines_encoded l ls) ∙ lines_at (encode_utf8_all (front_of l)) (encode_utf8_all (lines_text ls)) (clean l (plainly l a.0))
+    ∙ ap (λ u. bytes_of l ∷ u) (cut_lines ls a.1)
 
 all_good : (ls : List Line) → AllPlainly ls → good_text Utf8 (map bytes_of ls) ≡ encode_utf8_all (lines_text ls)
 unfolding good_text
@@ -320,7 +341,8 @@ no_fault row (l ∷ ls) w =
     let g = line_good l (plainly l a.0) in
     rw g (no_fault (row + 1) ls a.1)
 
-first_quiet : (ls : List Line) → AllPlainly ls → encoding_of (slice_index_or (map bytes_of ls) 0 []) (slice_index_or (map bytes_of ls) 1 []) ≡ Ok plain
+first_quiet : (ls : List Line) → AllPlainly ls
+    → encoding_of (slice_index_or (map bytes_of ls) 0 []) (slice_index_or (map bytes_of ls) 1 []) ≡ Ok plain
 first_quiet [] w = quiet_plain [] [] quiet_nil quiet_nil
 first_quiet (l ∷ []) w =
     let a = and_parts (is_written l) true w in
@@ -336,7 +358,8 @@ whole_unmarked (l ∷ ls) w =
     let a = and_parts (is_written l) (list_all is_written ls) w in
     by (4 * l.level) (spaced l.pieces) (spaced_quiet 65279 mark_off refl refl l.pieces (10 ∷ []) (plainly l a.0).readable)
   where
-    by : (n : ℕ) (t : List ℕ) → begins (λ d. d == 65279) (t ++ 10 ∷ []) ≡ false → begins (λ d. d == 65279) ((replicate n 32 ++ (t ++ 10 ∷ [])) ++ lines_text ls) ≡ false
+    by : (n : ℕ) (t : List ℕ) → begins (λ d. d == 65279) (t ++ 10 ∷ []) ≡ false
+        → begins (λ d. d == 65279) ((replicate n 32 ++ (t ++ 10 ∷ [])) ++ lines_text ls) ≡ false
     by zero [] e = refl
     by zero (c ∷ t) e = e
     by (suc n) t e = refl
@@ -348,11 +371,13 @@ lines_scalars (l ∷ ls) w =
     scalars_both (line_text l) (lines_text ls) (line_scalars l (plainly l a.0)) (lines_scalars ls a.1)
 
 -- the source that the bytes of written lines are: UTF-8 without a cookie, and all of them good
-pub lines_source : (ls : List Line) → list_all is_written ls ≡ true → source_of (encode_utf8_all (lines_text ls)) ≡ Ok (record { encoding = plain; text = encode_utf8_all (lines_text ls); fault = None })
+pub lines_source : (ls : List Line) → list_all is_written ls ≡ true
+    → source_of (encode_utf8_all (lines_text ls)) ≡ Ok (record { encoding = plain; text = encode_utf8_all (lines_text ls); fault = None })
 lines_source ls w =
     let c = cut_lines ls w in
     let q = first_quiet ls w in
-    let u : without_mark (encode_utf8_all (lines_text ls)) ≡ encode_utf8_all (lines_text ls) = (let m = no_mark (lines_text ls) (whole_unmarked ls w) in rw m refl) in
+    let u : without_mark (encode_utf8_all (lines_text ls)) ≡ encode_utf8_all (lines_text ls) =
+    (let m = no_mark (lines_text ls) (whole_unmarked ls w) in rw m refl) in
     let g = all_good ls w in
     let f = no_fault 1 ls w in
     rw (c, q, u, c, g, f) refl

@@ -1,7 +1,8 @@
 -- The tokens of a source that is written lines, and its logical lines.
 --
 -- Carries: tokens_are, lines_are, for Law. On: Relisting, PieceFronts.
-use Rattle.std.proofs.Common.{◌≡◌, ℕ, ◌+◌, ◌-◌, ◌<◌, ◌≤◌, Bool, true, false, ◌&&◌, List, [], ◌∷◌, ◌++◌, map, refl, sym, ◌∙◌, ap, subst, arith, zero, suc, replicate, ⊎_elim, append_assoc, if◌then◌else◌, ltb}
+use Rattle.std.proofs.Common.{◌≡◌, ℕ, ◌+◌, ◌-◌, ◌<◌, ◌≤◌, Bool, true, false, ◌&&◌, List, [], ◌∷◌, ◌++◌, map, refl, sym, ◌∙◌, ap, subst, arith, zero}
+use Rattle.std.proofs.Common.{suc, replicate, ⊎_elim, append_assoc, if◌then◌else◌, ltb}
 use Rattle.std.specs.Prelude.{count_by, nat_lt, nat_le}
 use Rattle.std.specs.List.{list_all}
 use Rattle.std.proofs.lemmas.Bool.{cases_lt, leb-true}
@@ -15,7 +16,8 @@ use Rattle.pylex.specs.Listing.{Source, listing}
 use Rattle.pylex.specs.Steps.{entries_of}
 use Rattle.pylex_lexeme.proofs.Callers.Booleans.{and_parts}
 use Rattle.pyunparse_text.specs.Spacing.{Piece, Line, is_token, are_readable}
-use Rattle.pyunparse_text.specs.Tokens.{PlainToken, token_at, token_of, newline, indent, dedent, end_marker, level_tokens, line_tokens, tokens_behind, is_written, are_written, rise_by_one, IsListedAs, PlainLine, unplaced, unplaced_line, token_line}
+use Rattle.pyunparse_text.specs.Tokens.{PlainToken, token_at, token_of, newline, indent, dedent, end_marker, level_tokens, line_tokens, tokens_behind}
+use Rattle.pyunparse_text.specs.Tokens.{is_written, are_written, rise_by_one, IsListedAs, PlainLine, unplaced, unplaced_line, token_line}
 use Rattle.pytoken.specs.Tokens.{is_open, tokens_of_entry, tokens_from, tokens, lines}
 use Rattle.pytoken.specs.Tokens as source
 use Rattle.pysource.specs.declared.places.Place.{Place}
@@ -49,7 +51,8 @@ flows o [] = true
 flows o (t ∷ ts) = has_place o t.kind && flows (opens_line t.kind) ts
 
 -- an entry that has its place gives its token
-one_token : (text : List ℕ) (e : Entry) (o : Bool) (k : Kind) → e.kind ≡ k → has_place o k ≡ true → map unplaced (tokens_of_entry text o e) ≡ token_at text e ∷ []
+one_token : (text : List ℕ) (e : Entry) (o : Bool) (k : Kind) → e.kind ≡ k → has_place o k ≡ true
+    → map unplaced (tokens_of_entry text o e) ≡ token_at text e ∷ []
 one_token text e o kinds.Name k h = rw k refl
 one_token text e o kinds.Number k h = rw k refl
 one_token text e o kinds.String k h = rw k refl
@@ -78,12 +81,14 @@ open_behind e before o kinds.Encoding k h = cc
 open_behind e before o kinds.Comment k h = cc
 open_behind e before o kinds.Nl k h = cc
 
-all_tokens : (text : List ℕ) (before es : List Entry) → flows (is_open before) (map (token_at text) es) ≡ true → map unplaced (tokens_from text before es) ≡ map (token_at text) es
+all_tokens : (text : List ℕ) (before es : List Entry) → flows (is_open before) (map (token_at text) es) ≡ true
+    → map unplaced (tokens_from text before es) ≡ map (token_at text) es
 all_tokens text before [] f = refl
 all_tokens text before (e ∷ es) f =
     let h = and_parts (has_place (is_open before) e.kind) (flows (opens_line e.kind) (map (token_at text) es)) f in
     let o = open_behind e before (is_open before) e.kind refl h.0 in
-    let g : flows (is_open (e ∷ before)) (map (token_at text) es) ≡ true = subst (λ (b : Bool). flows b (map (token_at text) es) ≡ true) (sym o) h.1 in
+    let g : flows (is_open (e ∷ before)) (map (token_at text) es) ≡ true =
+    subst (λ (b : Bool). flows b (map (token_at text) es) ≡ true) (sym o) h.1 in
     map-append unplaced (tokens_of_entry text (is_open before) e) (tokens_from text (e ∷ before) es)
     ∙ ap (λ ts. ts ++ map unplaced (tokens_from text (e ∷ before) es)) (one_token text e (is_open before) e.kind refl h.0)
     ∙ ap (λ ts. token_at text e ∷ ts) (all_tokens text (e ∷ before) es g)
@@ -113,7 +118,8 @@ pieces_flow (p ∷ ps) ts a f =
     let k = piece_place true p.kind p.text h.0 in
     rw (k.0, k.1) (pieces_flow ps ts h.1 f)
 
-first_flows : (ps : List Piece) (ts : List PlainToken) → are_readable ps ≡ true → flows false ts ≡ true → flows false (map token_of ps ++ newline ∷ ts) ≡ true
+first_flows : (ps : List Piece) (ts : List PlainToken) → are_readable ps ≡ true → flows false ts ≡ true
+    → flows false (map token_of ps ++ newline ∷ ts) ≡ true
 first_flows [] ts r f = cc
 first_flows (p ∷ ps) ts r f =
     let i = and_parts (list_all (λ q. is_token q.kind q.text) (p ∷ ps)) _ r in
@@ -130,22 +136,28 @@ level_flows m n ts f = by (nat_lt m n) (m - n)
     by false (suc k) = by false k
 
 shift_line : (m : ℕ) (l : Line) (ts : List PlainToken) → line_tokens m l ++ ts ≡ level_tokens m l.level ++ (map token_of l.pieces ++ newline ∷ ts)
-shift_line m l ts = append_assoc (level_tokens m l.level) (map token_of l.pieces ++ newline ∷ []) ts ∙ ap (λ u. level_tokens m l.level ++ u) (append_assoc (map token_of l.pieces) (newline ∷ []) ts)
+shift_line m l ts =
+    append_assoc (level_tokens m l.level) (map token_of l.pieces ++ newline ∷ []) ts
+    ∙ ap (λ u. level_tokens m l.level ++ u) (append_assoc (map token_of l.pieces) (newline ∷ []) ts)
 
 lines_flow : (m : ℕ) (ls : List Line) → list_all is_written ls ≡ true → flows false (tokens_behind m ls) ≡ true
 lines_flow m [] w = end_flows m
 lines_flow m (l ∷ ls) w =
     let a = and_parts (is_written l) (list_all is_written ls) w in
     let r = and_parts (are_readable l.pieces) _ a.0 in
-    rw (shift_line m l (tokens_behind l.level ls)) (level_flows m l.level (map token_of l.pieces ++ newline ∷ tokens_behind l.level ls) (first_flows l.pieces (tokens_behind l.level ls) r.0 (lines_flow l.level ls a.1)))
+    rw (shift_line m l (tokens_behind l.level ls))
+    (level_flows m l.level (map token_of l.pieces ++ newline ∷ tokens_behind l.level ls)
+    (first_flows l.pieces (tokens_behind l.level ls) r.0 (lines_flow l.level ls a.1)))
 
 -- the tokens of a source that is listed as those of written lines
-pub tokens_are : (s : Source) (ls : List Line) → are_written ls ≡ true → IsListedAs s (tokens_behind 0 ls) → map unplaced (tokens s) ≡ tokens_behind 0 ls
+pub tokens_are : (s : Source) (ls : List Line) → are_written ls ≡ true → IsListedAs s (tokens_behind 0 ls)
+    → map unplaced (tokens s) ≡ tokens_behind 0 ls
 unfolding tokens
 tokens_are s ls w i =
     let a = and_parts (list_all is_written ls) (rise_by_one 0 ls) w in
     let e : entries_of (listing s) ≡ encoding_entry ∷ i.entries = ap entries_of i.listed ∙ ap (λ x. encoding_entry ∷ x) (entries_all i.entries) in
-    let f : flows false (map (token_at s.text) i.entries) ≡ true = subst (λ (ts : List PlainToken). flows false ts ≡ true) (sym i.tokens) (lines_flow 0 ls a.0) in
+    let f : flows false (map (token_at s.text) i.entries) ≡ true =
+    subst (λ (ts : List PlainToken). flows false ts ≡ true) (sym i.tokens) (lines_flow 0 ls a.0) in
     ap (λ es. map unplaced (tokens_from s.text [] es)) e ∙ all_tokens s.text (encoding_entry ∷ []) i.entries f ∙ i.tokens
 
 -- Levels
@@ -158,7 +170,8 @@ is_level m before c = omega (arith, c)
 count_cons : (p : PlainToken → Bool) (t : PlainToken) (ts : List PlainToken) → count_by p (t ∷ ts) ≡ (if p t then 1 else 0) + count_by p ts
 count_cons p t ts = grind (arith, common_steps)
 
-counted_other : (m : ℕ) (t : PlainToken) (before : List PlainToken) → is_indent t ≡ false → is_dedent t ≡ false → Counted m before → Counted m (t ∷ before)
+counted_other : (m : ℕ) (t : PlainToken) (before : List PlainToken) → is_indent t ≡ false → is_dedent t ≡ false → Counted m before
+    → Counted m (t ∷ before)
 counted_other m t before i d c =
     let x = count_cons is_indent t before in
     let y = count_cons is_dedent t before in
@@ -205,7 +218,8 @@ level_is_behind m n us before h c =
 
 -- a piece goes into its line
 record Joins (k : Kind) (t : List ℕ) : Type 0 where
-  pub goes : (before line ts : List PlainToken) → lines_from before line (record { kind = k; text = t } ∷ ts) ≡ lines_from (record { kind = k; text = t } ∷ before) (line ++ record { kind = k; text = t } ∷ []) ts
+  pub goes : (before line ts : List PlainToken)
+      → lines_from before line (record { kind = k; text = t } ∷ ts) ≡ lines_from (record { kind = k; text = t } ∷ before) (line ++ record { kind = k; text = t } ∷ []) ts
   pub indents : is_indent (record { kind = k; text = t }) ≡ false
   pub dedents : is_dedent (record { kind = k; text = t }) ≡ false
 
@@ -251,7 +265,8 @@ pieces_of : (ps : List Piece) → are_readable ps ≡ true → ArePieces ps
 pieces_of [] e = refl
 pieces_of (p ∷ ps) e = (and_parts (list_all (λ q. is_token q.kind q.text) (p ∷ ps)) _ e).0
 
-lines_behind : (m : ℕ) (ls : List Line) (before : List PlainToken) → list_all is_written ls ≡ true → rise_by_one m ls ≡ true → Counted m before → lines_from before [] (tokens_behind m ls) ≡ map token_line ls
+lines_behind : (m : ℕ) (ls : List Line) (before : List PlainToken) → list_all is_written ls ≡ true → rise_by_one m ls ≡ true → Counted m before
+    → lines_from before [] (tokens_behind m ls) ≡ map token_line ls
 lines_behind m [] before w r c = no_lines m before
 lines_behind m (l ∷ ls) before w r c =
     let a = and_parts (is_written l) (list_all is_written ls) w in
@@ -270,33 +285,46 @@ count_unplaced p (t ∷ ts) = let h = count_unplaced p ts in grind (arith, commo
 level_unplaced : (before : List source.Token) → source.level_behind before ≡ level_behind (map unplaced before)
 level_unplaced before = let i = count_unplaced is_indent before in let d = count_unplaced is_dedent before in rw (← i, ← d) refl
 
-line_unplaced : (level : ℕ) (line : List source.Token) (xs : List source.Line) (ys : List PlainLine) (n : ℕ) → level ≡ n → map unplaced_line xs ≡ ys → map unplaced_line (record { level = level; tokens = line } ∷ xs) ≡ record { level = n; tokens = map unplaced line } ∷ ys
+line_unplaced : (level : ℕ) (line : List source.Token) (xs : List source.Line) (ys : List PlainLine) (n : ℕ) → level ≡ n → map unplaced_line xs ≡ ys
+    → map unplaced_line (record { level = level; tokens = line } ∷ xs) ≡ record { level = n; tokens = map unplaced line } ∷ ys
 line_unplaced level line xs ys n l e = rw (l, e) refl
 
 -- one token of a kind, by what is so of the tokens after it
 record Unplaces (before line ts : List source.Token) : Type 0 where
   pub is : map unplaced_line (source.lines_from before line ts) ≡ lines_from (map unplaced before) (map unplaced line) (map unplaced ts)
 
-one_unplaced : (k : Kind) (p : Place) (x : List ℕ) (before line ts : List source.Token) → Unplaces (record { kind = k; start = p; text = x } ∷ before) [] ts → Unplaces (record { kind = k; start = p; text = x } ∷ before) line ts
+one_unplaced : (k : Kind) (p : Place) (x : List ℕ) (before line ts : List source.Token)
+    → Unplaces (record { kind = k; start = p; text = x } ∷ before) [] ts → Unplaces (record { kind = k; start = p; text = x } ∷ before) line ts
     → Unplaces (record { kind = k; start = p; text = x } ∷ before) (line ++ record { kind = k; start = p; text = x } ∷ []) ts → Unplaces before line (record { kind = k; start = p; text = x } ∷ ts)
-one_unplaced kinds.Newline p x before line ts new same more = record { is = line_unplaced (source.level_behind before) line (source.lines_from (record { kind = kinds.Newline; start = p; text = x } ∷ before) [] ts) (lines_from (record { kind = kinds.Newline; text = x } ∷ map unplaced before) [] (map unplaced ts)) (level_behind (map unplaced before)) (level_unplaced before) new.is }
+one_unplaced kinds.Newline p x before line ts new same more =
+    record { is = line_unplaced (source.level_behind before) line (source.lines_from (record { kind = kinds.Newline; start = p; text = x } ∷ before) [] ts) (lines_from (record { kind = kinds.Newline; text = x } ∷ map unplaced before) [] (map unplaced ts)) (level_behind (map unplaced before)) (level_unplaced before) new.is }
 one_unplaced kinds.Indent p x before line ts new same more = record { is = same.is }
 one_unplaced kinds.Dedent p x before line ts new same more = record { is = same.is }
 one_unplaced kinds.EndMarker p x before line ts new same more = record { is = same.is }
-one_unplaced kinds.Name p x before line ts new same more = record { is = more.is ∙ ap (λ l. lines_from (record { kind = kinds.Name; text = x } ∷ map unplaced before) l (map unplaced ts)) (map-append unplaced line (record { kind = kinds.Name; start = p; text = x } ∷ [])) }
-one_unplaced kinds.Number p x before line ts new same more = record { is = more.is ∙ ap (λ l. lines_from (record { kind = kinds.Number; text = x } ∷ map unplaced before) l (map unplaced ts)) (map-append unplaced line (record { kind = kinds.Number; start = p; text = x } ∷ [])) }
-one_unplaced kinds.String p x before line ts new same more = record { is = more.is ∙ ap (λ l. lines_from (record { kind = kinds.String; text = x } ∷ map unplaced before) l (map unplaced ts)) (map-append unplaced line (record { kind = kinds.String; start = p; text = x } ∷ [])) }
-one_unplaced kinds.Op p x before line ts new same more = record { is = more.is ∙ ap (λ l. lines_from (record { kind = kinds.Op; text = x } ∷ map unplaced before) l (map unplaced ts)) (map-append unplaced line (record { kind = kinds.Op; start = p; text = x } ∷ [])) }
-one_unplaced kinds.Comment p x before line ts new same more = record { is = more.is ∙ ap (λ l. lines_from (record { kind = kinds.Comment; text = x } ∷ map unplaced before) l (map unplaced ts)) (map-append unplaced line (record { kind = kinds.Comment; start = p; text = x } ∷ [])) }
-one_unplaced kinds.Nl p x before line ts new same more = record { is = more.is ∙ ap (λ l. lines_from (record { kind = kinds.Nl; text = x } ∷ map unplaced before) l (map unplaced ts)) (map-append unplaced line (record { kind = kinds.Nl; start = p; text = x } ∷ [])) }
-one_unplaced kinds.Encoding p x before line ts new same more = record { is = more.is ∙ ap (λ l. lines_from (record { kind = kinds.Encoding; text = x } ∷ map unplaced before) l (map unplaced ts)) (map-append unplaced line (record { kind = kinds.Encoding; start = p; text = x } ∷ [])) }
+one_unplaced kinds.Name p x before line ts new same more =
+    record { is = more.is ∙ ap (λ l. lines_from (record { kind = kinds.Name; text = x } ∷ map unplaced before) l (map unplaced ts)) (map-append unplaced line (record { kind = kinds.Name; start = p; text = x } ∷ [])) }
+one_unplaced kinds.Number p x before line ts new same more =
+    record { is = more.is ∙ ap (λ l. lines_from (record { kind = kinds.Number; text = x } ∷ map unplaced before) l (map unplaced ts)) (map-append unplaced line (record { kind = kinds.Number; start = p; text = x } ∷ [])) }
+one_unplaced kinds.String p x before line ts new same more =
+    record { is = more.is ∙ ap (λ l. lines_from (record { kind = kinds.String; text = x } ∷ map unplaced before) l (map unplaced ts)) (map-append unplaced line (record { kind = kinds.String; start = p; text = x } ∷ [])) }
+one_unplaced kinds.Op p x before line ts new same more =
+    record { is = more.is ∙ ap (λ l. lines_from (record { kind = kinds.Op; text = x } ∷ map unplaced before) l (map unplaced ts)) (map-append unplaced line (record { kind = kinds.Op; start = p; text = x } ∷ [])) }
+one_unplaced kinds.Comment p x before line ts new same more =
+    record { is = more.is ∙ ap (λ l. lines_from (record { kind = kinds.Comment; text = x } ∷ map unplaced before) l (map unplaced ts)) (map-append unplaced line (record { kind = kinds.Comment; start = p; text = x } ∷ [])) }
+one_unplaced kinds.Nl p x before line ts new same more =
+    record { is = more.is ∙ ap (λ l. lines_from (record { kind = kinds.Nl; text = x } ∷ map unplaced before) l (map unplaced ts)) (map-append unplaced line (record { kind = kinds.Nl; start = p; text = x } ∷ [])) }
+one_unplaced kinds.Encoding p x before line ts new same more =
+    record { is = more.is ∙ ap (λ l. lines_from (record { kind = kinds.Encoding; text = x } ∷ map unplaced before) l (map unplaced ts)) (map-append unplaced line (record { kind = kinds.Encoding; start = p; text = x } ∷ [])) }
 
 lines_unplaced : (before line ts : List source.Token) → Unplaces before line ts
 lines_unplaced before line [] = record { is = refl }
-lines_unplaced before line (t ∷ ts) = one_unplaced t.kind t.start t.text before line ts (lines_unplaced (t ∷ before) [] ts) (lines_unplaced (t ∷ before) line ts) (lines_unplaced (t ∷ before) (line ++ t ∷ []) ts)
+lines_unplaced before line (t ∷ ts) =
+    one_unplaced t.kind t.start t.text before line ts (lines_unplaced (t ∷ before) [] ts) (lines_unplaced (t ∷ before) line ts)
+    (lines_unplaced (t ∷ before) (line ++ t ∷ []) ts)
 
 -- The logical lines of such a source are the written lines, each at its level.
-pub lines_are : (s : Source) (ls : List Line) → are_written ls ≡ true → IsListedAs s (tokens_behind 0 ls) → map unplaced_line (lines s) ≡ map token_line ls
+pub lines_are : (s : Source) (ls : List Line) → are_written ls ≡ true → IsListedAs s (tokens_behind 0 ls)
+    → map unplaced_line (lines s) ≡ map token_line ls
 unfolding lines
 lines_are s ls w i =
     let a = and_parts (list_all is_written ls) (rise_by_one 0 ls) w in

@@ -1,5 +1,6 @@
 -- Carries: need_brackets, is_bare_tuple. Which parts of a line have brackets.
-use Rattle.std.proofs.Common.{◌≡◌, ◌∙◌, ℕ, suc, ◌==◌, Bool, true, false, not, ◌&&◌, List, [], ◌∷◌, Option, None, Some, length, get_or, map, refl, ap, sym, arith}
+use Rattle.std.proofs.Common.{◌≡◌, ◌∙◌, ℕ, suc, ◌==◌, Bool, true, false, not, ◌&&◌, List, [], ◌∷◌, Option, None, Some, length, get_or, map, refl, ap}
+use Rattle.std.proofs.Common.{sym, arith}
 use Rattle.std.specs.Prelude.{is_some}
 use Rattle.std.proofs.lemmas.Bool.{eqb-true, false≢true}
 use Rattle.pytree_node.specs.declared.operators.Context.{Context}
@@ -44,12 +45,14 @@ same_some : (o : Option given.Expr) → is_some (option_of o) ≡ is_some o
 same_some None = refl
 same_some (Some e) = refl
 
-pub one_brackets : (is : List given_item.Item) (i : given_item.Item) (b r : Bool) → length is ≡ 1 → i ≡ get_or is 0 i → is_some i.optional_vars ≡ not b → r ≡ reads_as_items (tree_of i.context_expr) None →
+pub one_brackets : (is : List given_item.Item) (i : given_item.Item) (b r : Bool) → length is ≡ 1 → i ≡ get_or is 0 i
+    → is_some i.optional_vars ≡ not b → r ≡ reads_as_items (tree_of i.context_expr) None →
     (b && r) ≡ need_brackets (map item_of is)
 one_brackets is i b r e read h k =
     ap (λ z. b && z) k ∙ reads (tree_of i.context_expr) (option_of i.optional_vars) b (same_some i.optional_vars ∙ h)
     ∙ ap (λ z. need_brackets (map item_of z)) (sym (one_item is i e read))
 
-pub tuple_reads : (es : List given.Expr) (c : Context) (b p : Bool) → b ≡ (length es == 0) → p ≡ are_plain (exprs (map tree_of es)) → (not b && p) ≡ reads_as_items (plain.Tuple (exprs (map tree_of es)) c) None
+pub tuple_reads : (es : List given.Expr) (c : Context) (b p : Bool) → b ≡ (length es == 0) → p ≡ are_plain (exprs (map tree_of es))
+    → (not b && p) ≡ reads_as_items (plain.Tuple (exprs (map tree_of es)) c) None
 tuple_reads [] c b p h k = ap (λ z. not z && p) h
 tuple_reads (e ∷ es) c b p h k = (λ i. not ((h ∙ not_zero (length es)) i) && k i)

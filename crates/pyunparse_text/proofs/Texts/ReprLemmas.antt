@@ -1,5 +1,6 @@
 -- Carries: put_bytes, put_str. The texts of literals: those of bytes are ASCII, and none is a sign.
-use Rattle.std.proofs.Common.{◌≡◌, ◌∙◌, ℕ, zero, suc, ◌/◌, ◌%◌, ◌<◌, Bool, true, false, ◌&&◌, ◌||◌, ◌==◌, if◌then◌else◌, List, [], ◌∷◌, ◌++◌, refl, arith, not}
+use Rattle.std.proofs.Common.{◌≡◌, ◌∙◌, ℕ, zero, suc, ◌/◌, ◌%◌, ◌<◌, Bool, true, false, ◌&&◌, ◌||◌, ◌==◌, if◌then◌else◌, List, [], ◌∷◌, ◌++◌, refl}
+use Rattle.std.proofs.Common.{arith, not}
 use Rattle.std.specs.Prelude.{codes, nat_lt}
 use Rattle.std.specs.List.{flat_map, list_any}
 use Rattle.std.specs.Char.{digit_char}
@@ -23,7 +24,8 @@ pair c h = both (92 ∷ []) (c ∷ []) (one 92 (omega arith)) (one c h)
 
 hex_plain : (width n : ℕ) → Plain (hex width n)
 hex_plain zero n = refl
-hex_plain (suc width) n = both (hex width (n / 16)) (digit_char (n % 16) ∷ []) (hex_plain width (n / 16)) (one (digit_char (n % 16)) (small (n % 16) (omega arith)))
+hex_plain (suc width) n =
+    both (hex width (n / 16)) (digit_char (n % 16) ∷ []) (hex_plain width (n / 16)) (one (digit_char (n % 16)) (small (n % 16) (omega arith)))
   where
     small : (d : ℕ) → d < 16 → digit_char d < 128
     small d h = grind (arith, nat_tests)
@@ -50,21 +52,24 @@ escaped_plain q c w = special (c == 92) (c == q) refl refl
     own true e = escape_plain c
     own false e = one c (grind (arith, nat_tests))
 
-    others : (t n r : Bool) → Plain (if t then codes "\\t" else (if n then codes "\\n" else (if r then codes "\\r" else (if is_unprintable_byte c then hex_escape c else c ∷ []))))
+    others : (t n r : Bool)
+        → Plain (if t then codes "\\t" else (if n then codes "\\n" else (if r then codes "\\r" else (if is_unprintable_byte c then hex_escape c else c ∷ []))))
     others true n r = pair 116 (omega arith)
     others false true r = pair 110 (omega arith)
     others false false true = pair 114 (omega arith)
     others false false false = own (is_unprintable_byte c) refl
 
     special : (a b : Bool) → (c == 92) ≡ a → (c == q) ≡ b →
-        Plain (if a || b then 92 ∷ c ∷ [] else (if c == 9 then codes "\\t" else (if c == 10 then codes "\\n" else (if c == 13 then codes "\\r" else (if is_unprintable_byte c then hex_escape c else c ∷ [])))))
+        Plain
+        (if a || b then 92 ∷ c ∷ [] else (if c == 9 then codes "\\t" else (if c == 10 then codes "\\n" else (if c == 13 then codes "\\r" else (if is_unprintable_byte c then hex_escape c else c ∷ [])))))
     special true b e f = let g : c ≡ 92 = eqb-true c 92 e in pair c (omega arith)
     special false true e f = let g : c ≡ q = eqb-true c q f in pair c (omega arith)
     special false false e f = others (c == 9) (c == 10) (c == 13)
 
 each_plain : (q : ℕ) → q < 128 → (cs : List ℕ) → Plain (flat_map (escaped is_unprintable_byte q) cs)
 each_plain q w [] = refl
-each_plain q w (c ∷ cs) = both (escaped is_unprintable_byte q c) (flat_map (escaped is_unprintable_byte q) cs) (escaped_plain q c w) (each_plain q w cs)
+each_plain q w (c ∷ cs) =
+    both (escaped is_unprintable_byte q c) (flat_map (escaped is_unprintable_byte q) cs) (escaped_plain q c w) (each_plain q w cs)
 
 pub bytes_plain : (bs : List ℕ) → encode_utf8_all (repr_bytes bs) ≡ repr_bytes bs
 bytes_plain bs =

@@ -1,7 +1,7 @@
 -- The texts of signs and words are ASCII, and pieces are put into a list of tokens.
 --
 -- Carries: put_sign, put_word, expression_tokens.
-use Rattle.std.proofs.Common.{◌≡◌, ◌∙◌, List, [], ◌∷◌, ◌++◌, map, refl, sym, append-nil, append_assoc}
+use Rattle.std.proofs.Common.{◌≡◌, ◌∙◌, Bool, false, List, [], ◌∷◌, ◌++◌, map, refl, ap, sym, append-nil, append_assoc}
 use Rattle.std.specs.Str.{encode_utf8_all}
 use Rattle.std.specs.Char.{encode_utf8}
 use Rattle.pylex_lexeme.specs.declared.kinds.Exact.{Exact}
@@ -10,10 +10,11 @@ use Rattle.pylex_lexeme.specs.Operators.{exact_text}
 use Rattle.pytoken.specs.declared.keywords.Keyword.{Keyword}
 use Rattle.pytoken.specs.declared.keywords.Keyword.TheVariants.{False}
 use Rattle.pytoken.specs.Keywords.{spelling_of}
-use Rattle.pyunparse_text.specs.Spacing.{Piece}
+use Rattle.pyunparse_text.specs.Written.{Element}
+use Rattle.pyunparse_text.specs.Pieces.{Sited, outside}
 use Rattle.pyunparse_text.specs.Tokens.{PlainToken, token_of}
-use Rattle.pyunparse_text.specs.Folds.{in_utf8, puts}
-use Rattle.pyunparse_text.specs.Told.{in_bytes}
+use Rattle.pyunparse_text.specs.Folds.{Step, in_utf8, puts, puts_element, puts_elements}
+use Rattle.pyunparse_text.specs.Told.{in_bytes, listed, listed_behind}
 
 -- the texts of operators and keywords are ASCII
 pub sign_bytes : (x : Exact) → encode_utf8_all (exact_text x) ≡ exact_text x
@@ -26,7 +27,15 @@ unfolding encode_utf8
 word_bytes False = refl
 word_bytes _ = refl
 
--- tokens that are written into a list
-pub tokens_put : (ts : List PlainToken) (ps : List Piece) → puts (λ us p. us ++ token_of p ∷ []) ts ps ≡ ts ++ map in_bytes ps
-tokens_put ts [] = sym (append-nil ts)
-tokens_put ts (p ∷ ps) = tokens_put (ts ++ token_of (in_utf8 p) ∷ []) ps ∙ append_assoc ts (token_of (in_utf8 p) ∷ []) (map in_bytes ps)
+-- tokens that are written into a list where no f-string is open
+pub tokens_put : (ts : List PlainToken) (ps : List Sited) → puts listed_behind (listed ts) ps ≡ listed (ts ++ map in_bytes (outside ps))
+tokens_put ts [] = ap listed (sym (append-nil ts))
+tokens_put ts (p ∷ ps) =
+    tokens_put (ts ++ token_of (in_utf8 (p false)) ∷ []) ps
+    ∙ ap listed (append_assoc ts (token_of (in_utf8 (p false)) ∷ []) (map in_bytes (outside ps)))
+
+-- elements of f-strings one after another
+pub elements_both : {S : Type 0} (after : S → Sited → S) (step : S → Step → S) (b : Bool) (s : S) (es fs : List (Element Sited)) →
+    puts_elements after step b s (es ++ fs) ≡ puts_elements after step b (puts_elements after step b s es) fs
+elements_both after step b s [] fs = refl
+elements_both after step b s (e ∷ es) fs = elements_both after step b (puts_element after step b s e) es fs

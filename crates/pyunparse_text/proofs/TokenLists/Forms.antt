@@ -13,10 +13,12 @@ use Rattle.pylex_lexeme.specs.Operators.{operators, exact_of}
 use Rattle.pylex_lexeme.proofs.Callers.Booleans.{and_parts, or_parts}
 use Rattle.pylex_lexeme.proofs.Callers.Lexemes.{by_words}
 use Rattle.pyunparse_text.specs.Spacing.{Piece, is_token, is_operator_kind, touches, begins_operator, stay_apart, are_readable}
-use Rattle.pyunparse_text.specs.Inner.Edges.{begins_item, openers, stars, is_among, closings, leading, openings, trailing, begins_expression, ends_expression, is_free_behind, is_free_before, is_sign, fit, are_neat, begins_by, ends_by}
+use Rattle.pyunparse_text.specs.Inner.Edges.{begins_item, openers, stars, is_among, closings, leading, openings, trailing, begins_expression}
+use Rattle.pyunparse_text.specs.Inner.Edges.{ends_expression, is_free_behind, is_free_before, is_sign, fit, are_neat, begins_by, ends_by}
 use Rattle.pyunparse_text.proofs.LexemeFronts.PieceFronts.{ArePieces, words_all}
 use Rattle.pyunparse_text.proofs.Listings.Runs.{AreScalar}
-use Rattle.pyunparse_text.proofs.TokenLists.Joins.{neat_both, begins_both, ends_both, neat_readable, Balanced, balanced_within, behind_leading, before_trailing, before_point, behind_point}
+use Rattle.pyunparse_text.proofs.TokenLists.Joins.{neat_both, begins_both, ends_both, neat_readable, Balanced, balanced_within, behind_leading}
+use Rattle.pyunparse_text.proofs.TokenLists.Joins.{before_trailing, before_point, behind_point}
 use Rattle.pyunparse_text.proofs.Cases.{off}
 
 -- pieces that begin and end by these tests
@@ -28,7 +30,8 @@ pub record Written (b e : Piece → Bool) (ps : List Piece) : Type 0 where
   pub ends : ends_by e ps ≡ true
 
 -- two lists, where the one's last piece and the other's first fit
-pub both : (b f g e : Piece → Bool) → ((p q : Piece) → f p ≡ true → g q ≡ true → fit p q ≡ true) → (xs ys : List Piece) → Written b f xs → Written g e ys → Written b e (xs ++ ys)
+pub both : (b f g e : Piece → Bool) → ((p q : Piece) → f p ≡ true → g q ≡ true → fit p q ≡ true) → (xs ys : List Piece) → Written b f xs
+    → Written g e ys → Written b e (xs ++ ys)
 both b f g e j xs ys x y = record {
   pieces = list_all-append (λ r. is_token r.kind r.text) xs ys ∙ and (list_all (λ r. is_token r.kind r.text) xs) _ x.pieces y.pieces;
   scalars = list_all-append (λ r. all_scalars r.text) xs ys ∙ and (list_all (λ r. all_scalars r.text) xs) _ x.scalars y.scalars;
@@ -41,7 +44,8 @@ both b f g e j xs ys x y = record {
     and x y e f = rw (e, f) refl
 
 -- other tests that say less
-pub weaker : (b c e f : Piece → Bool) → ((p : Piece) → b p ≡ true → c p ≡ true) → ((p : Piece) → e p ≡ true → f p ≡ true) → (xs : List Piece) → Written b e xs → Written c f xs
+pub weaker : (b c e f : Piece → Bool) → ((p : Piece) → b p ≡ true → c p ≡ true) → ((p : Piece) → e p ≡ true → f p ≡ true) → (xs : List Piece)
+    → Written b e xs → Written c f xs
 weaker b c e f g h xs x = record { pieces = x.pieces; scalars = x.scalars; neat = x.neat; begins = first xs x.begins; ends = last xs x.ends }
   where
     first : (xs : List Piece) → begins_by b xs ≡ true → begins_by c xs ≡ true
@@ -84,7 +88,8 @@ free_before p e = (and_parts (not (is_operator_kind p.kind) || is_among openings
 abbrev pub Expression : List Piece → Type 0
 Expression ps = Written begins_expression ends_expression ps
 
-pub one_piece : (p : Piece) → is_token p.kind p.text ≡ true → is_operator_kind p.kind ≡ false → p.before ≡ false → p.behind ≡ false → all_scalars p.text ≡ true → Expression (p ∷ [])
+pub one_piece : (p : Piece) → is_token p.kind p.text ≡ true → is_operator_kind p.kind ≡ false → p.before ≡ false → p.behind ≡ false
+    → all_scalars p.text ≡ true → Expression (p ∷ [])
 one_piece p t o l r s = record { pieces = rw t refl; scalars = rw s refl; neat = refl; begins = rw (t, o, l) refl; ends = rw (t, o, r) refl }
 
 -- a sign alone, by what its neighbours are to know of it
@@ -100,7 +105,8 @@ pub in_brackets : (xs : List Piece) → Expression xs → Expression (sign false
 in_brackets xs x =
     let l : Written begins_expression (is_sign leading) (sign false true (codes "(") ∷ []) = (let t = by_words (codes "(") in record { pieces = rw t refl; scalars = refl; neat = refl; begins = rw t refl; ends = refl }) in
     let r : Written (is_sign trailing) ends_expression (sign true false (codes ")") ∷ []) = (let t = by_words (codes ")") in record { pieces = rw t refl; scalars = refl; neat = refl; begins = refl; ends = rw t refl }) in
-    both begins_expression (is_sign leading) begins_expression ends_expression leading_fits (sign false true (codes "(") ∷ []) (xs ++ sign true false (codes ")") ∷ []) l
+    both begins_expression (is_sign leading) begins_expression ends_expression leading_fits
+    (sign false true (codes "(") ∷ []) (xs ++ sign true false (codes ")") ∷ []) l
     (both begins_expression ends_expression (is_sign trailing) ends_expression trailing_fits xs (sign true false (codes ")") ∷ []) x r)
 
 pub brackets_balance : (xs : List Piece) → Balanced xs → Balanced (sign false true (codes "(") ∷ xs ++ sign true false (codes ")") ∷ [])
@@ -110,20 +116,26 @@ brackets_balance xs b = balanced_within (sign false true (codes "(")) (sign true
 -- `-` xs
 pub negated : (xs : List Piece) → Expression xs → Expression (sign false true (codes "-") ∷ xs)
 negated xs x =
-    let l : Written begins_expression (is_sign leading) (sign false true (codes "-") ∷ []) = (let t = by_words (codes "-") in record { pieces = rw t refl; scalars = refl; neat = refl; begins = rw t refl; ends = refl }) in
+    let l : Written begins_expression (is_sign leading) (sign false true (codes "-") ∷ []) =
+    (let t = by_words (codes "-") in record { pieces = rw t refl; scalars = refl; neat = refl; begins = rw t refl; ends = refl }) in
     both begins_expression (is_sign leading) begins_expression ends_expression leading_fits (sign false true (codes "-") ∷ []) xs l x
 
 -- xs `+` ys
 pub added : (xs ys : List Piece) → Expression xs → Expression ys → Expression (xs ++ sign false false (codes "+") ∷ ys)
 added xs ys x y =
-    let m : Written is_free_before is_free_behind (sign false false (codes "+") ∷ []) = (let t = by_words (codes "+") in record { pieces = rw t refl; scalars = refl; neat = refl; begins = refl; ends = refl }) in
-    both begins_expression ends_expression is_free_before ends_expression (λ p q a b. blank_fits p q (free_behind p a) b) xs (sign false false (codes "+") ∷ ys) x
-    (both is_free_before is_free_behind begins_expression ends_expression (λ p q a b. blank_fits p q a (free_before q b)) (sign false false (codes "+") ∷ []) ys m y)
+    let m : Written is_free_before is_free_behind (sign false false (codes "+") ∷ []) =
+    (let t = by_words (codes "+") in record { pieces = rw t refl; scalars = refl; neat = refl; begins = refl; ends = refl }) in
+    both begins_expression ends_expression is_free_before ends_expression (λ p q a b. blank_fits p q (free_behind p a) b) xs
+    (sign false false (codes "+") ∷ ys) x
+    (both is_free_before is_free_behind begins_expression ends_expression (λ p q a b. blank_fits p q a (free_before q b))
+    (sign false false (codes "+") ∷ []) ys m y)
 
 -- xs `.` name
-pub attribute : (xs : List Piece) (t : List ℕ) → Expression xs → is_token kinds.Name t ≡ true → all_scalars t ≡ true → Expression (xs ++ sign true true (codes ".") ∷ record { kind = kinds.Name; text = t; before = false; behind = false } ∷ [])
+pub attribute : (xs : List Piece) (t : List ℕ) → Expression xs → is_token kinds.Name t ≡ true → all_scalars t ≡ true
+    → Expression (xs ++ sign true true (codes ".") ∷ record { kind = kinds.Name; text = t; before = false; behind = false } ∷ [])
 attribute xs t x e s =
-    let n : Expression (record { kind = kinds.Name; text = t; before = false; behind = false } ∷ []) = one_piece (record { kind = kinds.Name; text = t; before = false; behind = false }) e refl refl refl s in
+    let n : Expression (record { kind = kinds.Name; text = t; before = false; behind = false } ∷ []) =
+    one_piece (record { kind = kinds.Name; text = t; before = false; behind = false }) e refl refl refl s in
     let d : Written (λ q. is_operator_kind q.kind && bytes_eq q.text (codes ".")) ends_expression (sign true true (codes ".") ∷ record { kind = kinds.Name; text = t; before = false; behind = false } ∷ []) = (let o = by_words (codes ".") in record {
       pieces = rw (o, e) refl;
       scalars = rw s refl;
@@ -131,7 +143,8 @@ attribute xs t x e s =
       begins = refl;
       ends = n.ends;
     }) in
-    both begins_expression ends_expression (λ q. is_operator_kind q.kind && bytes_eq q.text (codes ".")) ends_expression (λ p q a b. let h = and_parts (is_operator_kind q.kind) (bytes_eq q.text (codes ".")) b in before_point p q a h.0 ((bytes_eq-Decides q.text (codes ".")).0 h.1)) xs _ x d
+    both begins_expression ends_expression (λ q. is_operator_kind q.kind && bytes_eq q.text (codes ".")) ends_expression
+    (λ p q a b. let h = and_parts (is_operator_kind q.kind) (bytes_eq q.text (codes ".")) b in before_point p q a h.0 ((bytes_eq-Decides q.text (codes ".")).0 h.1)) xs _ x d
 
 -- A line of an expression alone can be read back.
 pub expression_readable : (xs : List Piece) → Expression xs → are_readable xs ≡ true
@@ -161,9 +174,12 @@ opener_fits p q a b =
     let l : is_among leading p.text ≡ true = words_all (is_among leading) p.text openers refl x.1 in
     leading_fits p q (rw (x.0, l) refl) h)
     (λ (h : ((is_operator_kind q.kind && is_among stars q.text) && not q.before) ≡ true).
-    let s = and_parts (is_operator_kind q.kind) (is_among stars q.text) (and_parts (is_operator_kind q.kind && is_among stars q.text) (not q.before) h).0 in
+    let s =
+    and_parts (is_operator_kind q.kind) (is_among stars q.text) (and_parts (is_operator_kind q.kind && is_among stars q.text) (not q.before) h).0 in
     let n = off (bytes_eq p.text (codes ".")) (words_all (λ t. not (bytes_eq t (codes "."))) p.text openers refl x.1) in
-    let m = off (begins_operator (p.text ++ take 1 q.text)) (words_all (λ u. not (begins_operator (p.text ++ take 1 u))) q.text stars (words_all (λ t. list_all (λ u. not (begins_operator (t ++ take 1 u))) stars) p.text openers openers_stars x.1) s.1) in
+    let m =
+    off (begins_operator (p.text ++ take 1 q.text))
+    (words_all (λ u. not (begins_operator (p.text ++ take 1 u))) q.text stars (words_all (λ t. list_all (λ u. not (begins_operator (t ++ take 1 u))) stars) p.text openers openers_stars x.1) s.1) in
     apart_fits p q (rw (x.0, n, m) refl))
     (or_parts (begins_expression q) ((is_operator_kind q.kind && is_among stars q.text) && not q.before) b)
 
@@ -176,14 +192,18 @@ item_free q b = ⊎_elim
 -- `*` xs
 pub starred : (xs : List Piece) → Expression xs → Item (sign false true (codes "*") ∷ xs)
 starred xs x =
-    let l : Written begins_item (is_sign leading) (sign false true (codes "*") ∷ []) = (let t = by_words (codes "*") in record { pieces = rw t refl; scalars = refl; neat = refl; begins = rw t refl; ends = refl }) in
+    let l : Written begins_item (is_sign leading) (sign false true (codes "*") ∷ []) =
+    (let t = by_words (codes "*") in record { pieces = rw t refl; scalars = refl; neat = refl; begins = rw t refl; ends = refl }) in
     both begins_item (is_sign leading) begins_expression ends_expression leading_fits (sign false true (codes "*") ∷ []) xs l x
 
 -- name `=` xs
-pub keyword : (t : List ℕ) (xs : List Piece) → is_token kinds.Name t ≡ true → all_scalars t ≡ true → Expression xs → Item (record { kind = kinds.Name; text = t; before = false; behind = false } ∷ sign true true (codes "=") ∷ xs)
+pub keyword : (t : List ℕ) (xs : List Piece) → is_token kinds.Name t ≡ true → all_scalars t ≡ true → Expression xs
+    → Item (record { kind = kinds.Name; text = t; before = false; behind = false } ∷ sign true true (codes "=") ∷ xs)
 keyword t xs e s x =
-    let n : Expression (record { kind = kinds.Name; text = t; before = false; behind = false } ∷ []) = one_piece (record { kind = kinds.Name; text = t; before = false; behind = false }) e refl refl refl s in
-    let m : Written (is_sign trailing) (is_sign leading) (sign true true (codes "=") ∷ []) = (let o = by_words (codes "=") in record { pieces = rw o refl; scalars = refl; neat = refl; begins = refl; ends = refl }) in
+    let n : Expression (record { kind = kinds.Name; text = t; before = false; behind = false } ∷ []) =
+    one_piece (record { kind = kinds.Name; text = t; before = false; behind = false }) e refl refl refl s in
+    let m : Written (is_sign trailing) (is_sign leading) (sign true true (codes "=") ∷ []) =
+    (let o = by_words (codes "=") in record { pieces = rw o refl; scalars = refl; neat = refl; begins = refl; ends = refl }) in
     item (record { kind = kinds.Name; text = t; before = false; behind = false } ∷ sign true true (codes "=") ∷ xs)
     (both begins_expression ends_expression (is_sign trailing) ends_expression trailing_fits (record { kind = kinds.Name; text = t; before = false; behind = false } ∷ []) (sign true true (codes "=") ∷ xs) n
     (both (is_sign trailing) (is_sign leading) begins_expression ends_expression leading_fits (sign true true (codes "=") ∷ []) xs m x))
@@ -191,15 +211,19 @@ keyword t xs e s x =
 -- xs `,` ys
 pub separated : (xs ys : List Piece) → Item xs → Item ys → Item (xs ++ sign true false (codes ",") ∷ ys)
 separated xs ys x y =
-    let m : Written (is_sign trailing) is_free_behind (sign true false (codes ",") ∷ []) = (let o = by_words (codes ",") in record { pieces = rw o refl; scalars = refl; neat = refl; begins = refl; ends = refl }) in
+    let m : Written (is_sign trailing) is_free_behind (sign true false (codes ",") ∷ []) =
+    (let o = by_words (codes ",") in record { pieces = rw o refl; scalars = refl; neat = refl; begins = refl; ends = refl }) in
     both begins_item ends_expression (is_sign trailing) ends_expression trailing_fits xs (sign true false (codes ",") ∷ ys) x
-    (both (is_sign trailing) is_free_behind begins_item ends_expression (λ p q a b. blank_fits p q a (item_free q b)) (sign true false (codes ",") ∷ []) ys m y)
+    (both (is_sign trailing) is_free_behind begins_item ends_expression (λ p q a b. blank_fits p q a (item_free q b))
+    (sign true false (codes ",") ∷ []) ys m y)
 
 -- xs `(` ys `)`
 pub called : (xs ys : List Piece) → Expression xs → Item ys → Expression (xs ++ (sign true true (codes "(") ∷ ys ++ sign true false (codes ")") ∷ []))
 called xs ys x y =
     let l : Written (is_sign trailing) (is_sign openers) (sign true true (codes "(") ∷ []) = (let o = by_words (codes "(") in record { pieces = rw o refl; scalars = refl; neat = refl; begins = refl; ends = refl }) in
     let r : Written (is_sign trailing) ends_expression (sign true false (codes ")") ∷ []) = (let o = by_words (codes ")") in record { pieces = rw o refl; scalars = refl; neat = refl; begins = refl; ends = rw o refl }) in
-    both begins_expression ends_expression (is_sign trailing) ends_expression trailing_fits xs (sign true true (codes "(") ∷ ys ++ sign true false (codes ")") ∷ []) x
-    (both (is_sign trailing) (is_sign openers) begins_item ends_expression opener_fits (sign true true (codes "(") ∷ []) (ys ++ sign true false (codes ")") ∷ []) l
+    both begins_expression ends_expression (is_sign trailing) ends_expression trailing_fits xs
+    (sign true true (codes "(") ∷ ys ++ sign true false (codes ")") ∷ []) x
+    (both (is_sign trailing) (is_sign openers) begins_item ends_expression opener_fits (sign true true (codes "(") ∷ [])
+    (ys ++ sign true false (codes ")") ∷ []) l
     (both begins_item ends_expression (is_sign trailing) ends_expression trailing_fits ys (sign true false (codes ")") ∷ []) y r))

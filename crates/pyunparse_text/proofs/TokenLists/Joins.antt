@@ -2,7 +2,8 @@
 --
 -- Carries: neat_both, begins_both, ends_both, neat_readable and 6 more, for Forms. On:
 -- PieceFronts, OperatorFronts, Cases.
-use Rattle.std.proofs.Common.{◌≡◌, ℕ, ◌+◌, ◌-◌, Bool, true, false, not, ◌&&◌, ◌||◌, ◌==◌, List, [], ◌∷◌, ◌++◌, take, refl, sym, ◌∙◌, ap, subst, arith, ⊎_elim, eqb, append_assoc, append-nil, length, drop}
+use Rattle.std.proofs.Common.{◌≡◌, ℕ, ◌+◌, ◌-◌, Bool, true, false, not, ◌&&◌, ◌||◌, ◌==◌, List, [], ◌∷◌, ◌++◌, take, refl, sym, ◌∙◌, ap, subst, arith}
+use Rattle.std.proofs.Common.{⊎_elim, eqb, append_assoc, append-nil, length, drop}
 use Rattle.std.specs.Prelude.{codes, nat_eq}
 use Rattle.std.specs.List.{list_all, list_any, starts_with}
 use Rattle.std.specs.Str.{bytes_eq}
@@ -15,15 +16,18 @@ use Rattle.pylex_lexeme.specs.Operators.{operators}
 use Rattle.pylex_lexeme.proofs.Callers.Booleans.{and_parts, or_parts}
 use Rattle.pylex_lexeme.proofs.Callers.Lexemes.{words, heads}
 use Rattle.pylex_lexeme.specs.Strings.{lower, prefixes}
-use Rattle.pyunparse_text.specs.Spacing.{Piece, is_token, is_operator_kind, is_number_kind, touches, stay_apart, are_two_points, begins_operator, all_apart, are_readable}
-use Rattle.pyunparse_text.specs.Inner.Edges.{is_among, closings, leading, openings, trailing, begins_expression, ends_expression, is_sign, fit, all_fit, are_neat, begins_by, ends_by}
+use Rattle.pyunparse_text.specs.Spacing.{Piece, is_token, is_operator_kind, is_number_kind, touches, stay_apart, are_two_points, begins_operator}
+use Rattle.pyunparse_text.specs.Spacing.{all_apart, are_readable}
+use Rattle.pyunparse_text.specs.Inner.Edges.{is_among, closings, leading, openings, trailing, begins_expression, ends_expression, is_sign, fit}
+use Rattle.pyunparse_text.specs.Inner.Edges.{all_fit, are_neat, begins_by, ends_by}
 use Rattle.pyunparse_text.specs.Tokens.{opens, closes, closes_all}
 use Rattle.pyunparse_text.proofs.LexemeFronts.PieceFronts.{words_all, ArePieces, Off, no_token, none_empty}
 use Rattle.pyunparse_text.proofs.LexemeFronts.OperatorFronts.{begins_word, of_any, is_sign_char, sign_of}
 use Rattle.pyunparse_text.proofs.Cases.{bool_cases, cases, off}
 
 -- Neat lists, put together
-pub neat_both : (f g : Piece → Bool) → ((p q : Piece) → f p ≡ true → g q ≡ true → fit p q ≡ true) → (xs ys : List Piece) → are_neat xs ≡ true → ends_by f xs ≡ true → are_neat ys ≡ true → begins_by g ys ≡ true → are_neat (xs ++ ys) ≡ true
+pub neat_both : (f g : Piece → Bool) → ((p q : Piece) → f p ≡ true → g q ≡ true → fit p q ≡ true) → (xs ys : List Piece) → are_neat xs ≡ true
+    → ends_by f xs ≡ true → are_neat ys ≡ true → begins_by g ys ≡ true → are_neat (xs ++ ys) ≡ true
 neat_both f g j [] ys a e b s = cc
 neat_both f g j (p ∷ []) [] a e b s = cc
 neat_both f g j (p ∷ []) (q ∷ ys) a e b s = rw (j p q e s, b) refl
@@ -92,7 +96,8 @@ char_of : (p : ℕ → Bool) (t r : List ℕ) (c : ℕ) → list_all p ((t ++ c 
 char_of p [] r c e = (and_parts (p c) (list_all p r) e).0
 char_of p (d ∷ t) r c e = char_of p t r c (and_parts (p d) (list_all p ((t ++ c ∷ []) ++ r)) e).1
 
-begins_any : (t : List ℕ) (c : ℕ) (os : List (List ℕ)) → list_all (list_all (λ d. list_any (eqb d) sign_chars)) os ≡ true → list_any (λ o. starts_with nat_eq o (t ++ c ∷ [])) os ≡ true → list_any (eqb c) sign_chars ≡ true
+begins_any : (t : List ℕ) (c : ℕ) (os : List (List ℕ)) → list_all (list_all (λ d. list_any (eqb d) sign_chars)) os ≡ true
+    → list_any (λ o. starts_with nat_eq o (t ++ c ∷ [])) os ≡ true → list_any (eqb c) sign_chars ≡ true
 begins_any t c [] a e = cc
 begins_any t c (o ∷ os) a e =
     let q = and_parts (list_all (λ d. list_any (eqb d) sign_chars) o) (list_all (list_all (λ d. list_any (eqb d) sign_chars)) os) a in
@@ -113,7 +118,8 @@ plain_head k t (c ∷ u) e f = cases (begins_operator (t ++ c ∷ [])) (λ h.
     cc)
 
 -- An expression after a sign
-pairs_all : (p : List ℕ → List ℕ → Bool) (ts us : List (List ℕ)) (t u : List ℕ) → list_all (λ x. list_all (p x) us) ts ≡ true → is_among ts t ≡ true → is_among us u ≡ true → p t u ≡ true
+pairs_all : (p : List ℕ → List ℕ → Bool) (ts us : List (List ℕ)) (t u : List ℕ) → list_all (λ x. list_all (p x) us) ts ≡ true → is_among ts t ≡ true
+    → is_among us u ≡ true → p t u ≡ true
 pairs_all p ts us t u a e f = words_all (p t) u us (words_all (λ x. list_all (p x) us) t ts a e) f
 
 abbrev no_longer : List ℕ → List ℕ → Bool
@@ -131,8 +137,10 @@ pub behind_leading : (p q : Piece) → is_sign leading p ≡ true → begins_exp
 behind_leading p q a b =
     let x = and_parts (is_operator_kind p.kind) (is_among leading p.text) a in
     let y0 = and_parts (is_token q.kind q.text) ((not (is_operator_kind q.kind) || is_among openings q.text) && not q.before) b in
-    let y : (is_token q.kind q.text ≡ true) × ((not (is_operator_kind q.kind) || is_among openings q.text) ≡ true) = (y0.0, (and_parts (not (is_operator_kind q.kind) || is_among openings q.text) (not q.before) y0.1).0) in
-    let n : bytes_eq p.text (codes ".") ≡ false = off (bytes_eq p.text (codes ".")) (words_all (λ t. not (bytes_eq t (codes "."))) p.text leading refl x.1) in
+    let y : (is_token q.kind q.text ≡ true) × ((not (is_operator_kind q.kind) || is_among openings q.text) ≡ true) =
+    (y0.0, (and_parts (not (is_operator_kind q.kind) || is_among openings q.text) (not q.before) y0.1).0) in
+    let n : bytes_eq p.text (codes ".") ≡ false =
+    off (bytes_eq p.text (codes ".")) (words_all (λ t. not (bytes_eq t (codes "."))) p.text leading refl x.1) in
     let m : begins_operator (p.text ++ take 1 q.text) ≡ false = ⊎_elim
     (λ (h : is_operator_kind q.kind ≡ true). let g : is_among openings q.text ≡ true = rw h at y.1 in off (begins_operator (p.text ++ take 1 q.text)) (pairs_all no_longer leading openings p.text q.text leading_openings x.1 g))
     (λ (h : is_operator_kind q.kind ≡ false). plain_head q.kind p.text q.text y.0 h)
@@ -143,14 +151,20 @@ behind_leading p q a b =
 pub before_trailing : (p q : Piece) → ends_expression p ≡ true → is_sign trailing q ≡ true → stay_apart p q ≡ true
 before_trailing p q a b =
     let x0 = and_parts (is_token p.kind p.text) ((not (is_operator_kind p.kind) || is_among closings p.text) && not p.behind) a in
-    let x : (is_token p.kind p.text ≡ true) × ((not (is_operator_kind p.kind) || is_among closings p.text) ≡ true) = (x0.0, (and_parts (not (is_operator_kind p.kind) || is_among closings p.text) (not p.behind) x0.1).0) in
+    let x : (is_token p.kind p.text ≡ true) × ((not (is_operator_kind p.kind) || is_among closings p.text) ≡ true) =
+    (x0.0, (and_parts (not (is_operator_kind p.kind) || is_among closings p.text) (not p.behind) x0.1).0) in
     let y = and_parts (is_operator_kind q.kind) (is_among trailing q.text) b in
-    let d : bytes_eq (take 1 q.text) (codes ".") ≡ false = off (bytes_eq (take 1 q.text) (codes ".")) (words_all (λ t. not (bytes_eq (take 1 t) (codes "."))) q.text trailing refl y.1) in
+    let d : bytes_eq (take 1 q.text) (codes ".") ≡ false =
+    off (bytes_eq (take 1 q.text) (codes ".")) (words_all (λ t. not (bytes_eq (take 1 t) (codes "."))) q.text trailing refl y.1) in
     ⊎_elim
     (λ (h : is_operator_kind p.kind ≡ true).
     let g : is_among closings p.text ≡ true = rw h at x.1 in
-    let n : bytes_eq p.text (codes ".") ≡ false = off (bytes_eq p.text (codes ".")) (words_all (λ t. not (bytes_eq t (codes "."))) p.text closings refl g) in
-    let m = off (begins_operator (p.text ++ take 1 q.text)) (pairs_all no_longer closings (codes "." ∷ trailing) p.text q.text closings_trailing g (right (bytes_eq q.text (codes ".")) (is_among trailing q.text) y.1)) in
+    let n : bytes_eq p.text (codes ".") ≡ false =
+    off (bytes_eq p.text (codes ".")) (words_all (λ t. not (bytes_eq t (codes "."))) p.text closings refl g) in
+    let m =
+    off (begins_operator (p.text ++ take 1 q.text))
+    (pairs_all no_longer closings (codes "." ∷ trailing) p.text q.text closings_trailing g (right (bytes_eq q.text (codes "."))
+    (is_among trailing q.text) y.1)) in
     rw (h, n, m) refl)
     (λ (h : is_operator_kind p.kind ≡ false). rw (h, y.0, d) (none (is_number_kind p.kind)))
     (bool_cases (is_operator_kind p.kind))
@@ -167,12 +181,16 @@ before_trailing p q a b =
 pub before_point : (p q : Piece) → ends_expression p ≡ true → is_operator_kind q.kind ≡ true → q.text ≡ codes "." → fit p q ≡ true
 before_point p q a k t =
     let x0 = and_parts (is_token p.kind p.text) ((not (is_operator_kind p.kind) || is_among closings p.text) && not p.behind) a in
-    let x : (is_token p.kind p.text ≡ true) × ((not (is_operator_kind p.kind) || is_among closings p.text) ≡ true) = (x0.0, (and_parts (not (is_operator_kind p.kind) || is_among closings p.text) (not p.behind) x0.1).0) in
+    let x : (is_token p.kind p.text ≡ true) × ((not (is_operator_kind p.kind) || is_among closings p.text) ≡ true) =
+    (x0.0, (and_parts (not (is_operator_kind p.kind) || is_among closings p.text) (not p.behind) x0.1).0) in
     ⊎_elim
     (λ (h : is_operator_kind p.kind ≡ true).
     let g : is_among closings p.text ≡ true = rw h at x.1 in
-    let n : bytes_eq p.text (codes ".") ≡ false = off (bytes_eq p.text (codes ".")) (words_all (λ t. not (bytes_eq t (codes "."))) p.text closings refl g) in
-    let m : begins_operator (p.text ++ take 1 q.text) ≡ false = ap (λ u. begins_operator (p.text ++ take 1 u)) t ∙ off (begins_operator (p.text ++ 46 ∷ [])) (pairs_all no_longer closings (codes "." ∷ trailing) p.text (codes ".") closings_trailing g refl) in
+    let n : bytes_eq p.text (codes ".") ≡ false =
+    off (bytes_eq p.text (codes ".")) (words_all (λ t. not (bytes_eq t (codes "."))) p.text closings refl g) in
+    let m : begins_operator (p.text ++ take 1 q.text) ≡ false =
+    ap (λ u. begins_operator (p.text ++ take 1 u)) t
+    ∙ off (begins_operator (p.text ++ 46 ∷ [])) (pairs_all no_longer closings (codes "." ∷ trailing) p.text (codes ".") closings_trailing g refl) in
     let s : stay_apart p q ≡ true = rw (h, n, m) refl in
     last (not (touches p q)) (stay_apart p q) s)
     (λ (h : is_operator_kind p.kind ≡ false).
@@ -191,7 +209,8 @@ before_point p q a k t =
     blank false = refl
 
 -- A name after a point
-pub behind_point : (p q : Piece) → is_operator_kind p.kind ≡ true → p.text ≡ codes "." → q.kind ≡ kinds.Name → is_token q.kind q.text ≡ true → stay_apart p q ≡ true
+pub behind_point : (p q : Piece) → is_operator_kind p.kind ≡ true → p.text ≡ codes "." → q.kind ≡ kinds.Name → is_token q.kind q.text ≡ true
+    → stay_apart p q ≡ true
 behind_point p q k t n e =
     let m : begins_operator (p.text ++ take 1 q.text) ≡ false = plain_head q.kind p.text q.text e (rw n refl) in
     let z : is_number_kind q.kind ≡ false = rw n refl in

@@ -1,7 +1,8 @@
 -- Text that grows by a piece, and lines by lines.
 --
 -- Carries: what pyunparse_text cites.
-use Rattle.std.proofs.Common.{◌≡◌, ℕ, ◌+◌, ◌≤◌, Bool, true, ◌==◌, List, [], ◌∷◌, ◌++◌, refl, sym, ◌∙◌, ap, arith, append_assoc, append-nil, if◌then◌else◌}
+use Rattle.std.proofs.Common.{◌≡◌, ℕ, ◌+◌, ◌≤◌, Bool, true, ◌==◌, List, [], ◌∷◌, ◌++◌, refl, sym, ◌∙◌, ap, arith, append_assoc, append-nil}
+use Rattle.std.proofs.Common.{if◌then◌else◌}
 use Rattle.std.specs.Prelude.{nat_le}
 use Rattle.std.specs.List.{list_all}
 use Rattle.std.proofs.lemmas.Bool.{leb-true, le-leb, eqb-true}
@@ -39,7 +40,8 @@ abbrev pub begin_at : ℕ → List Line → Bool
 begin_at n [] = true
 begin_at n (l ∷ ls) = l.level == n
 
-pub rise_both : (m n : ℕ) (ls ms : List Line) → rise_by_one m ls ≡ true → list_all (λ l. nat_le n l.level) ls ≡ true → n ≤ m + 1 → begin_at n ms ≡ true → rise_by_one n ms ≡ true → rise_by_one m (ls ++ ms) ≡ true
+pub rise_both : (m n : ℕ) (ls ms : List Line) → rise_by_one m ls ≡ true → list_all (λ l. nat_le n l.level) ls ≡ true → n ≤ m + 1
+    → begin_at n ms ≡ true → rise_by_one n ms ≡ true → rise_by_one m (ls ++ ms) ≡ true
 rise_both m n [] [] r a h b s = refl
 rise_both m n [] (l ∷ ms) r a h b s =
     let e : l.level ≡ n = eqb-true l.level n b in

@@ -1,5 +1,8 @@
-use Rattle.std.proofs.Common.{map, refl}
+use Rattle.std.proofs.Common.{◌+◌, ◌*◌, ◌<◌, List, map, refl, sym, subst, arith}
+use denote.Param.Weighed.{most}
 use Rattle.std.specs.Prelude.{◌&&◌}
+use Rattle.pytree_node.specs.declared.statements.Stmt.{Stmt}
+use Rattle.pytree_node.specs.declared.statements.Stmt.TheViews.{size-Stmt, size_is-Case}
 use Rattle.pytree_node.specs.TreeOf.{case_of, handler_of, stmt_of}
 use Rattle.pytree_node.specs.Trees.{optional, cases, handlers, stmts}
 use Rattle.pygrammar.specs.declared.levels.Level.TheVariants.{Expression}
@@ -38,3 +41,8 @@ pub handlers_fit-loop-h-preserved : goal.handlers_fit-loop-h-preserved
 handlers_fit-loop-h-preserved t c = goes_on (λ hs. handlers_fit c.args.profile (tests_in c.args.profile.extent) c.args.star (handlers (map handler_of hs)))
     (λ h. caught_fits (tests_in c.args.profile.extent) c.args.star (handler_of h).class (handler_of h).name && suite_fits c.args.profile (tests_in c.args.profile.extent) (stmts (handler_of h).body)) refl (λ _ _. refl) _
     c.loop-h-test.true c.h-item.is c.loop-h.invariant c.in_ok-handler_fits.ensures c.if-not-branch.false
+
+-- the body of a case is smaller than the case
+pub case_fits-suite_fits-requires : goal.case_fits-suite_fits-requires
+case_fits-suite_fits-requires t c =
+    (subst (λ (z : List Stmt). 3 * most size-Stmt z + 2 < t) (sym c.deref.ensures.value) (omega (arith, size_is-Case c.args.c.now, c.decreases)), tt)

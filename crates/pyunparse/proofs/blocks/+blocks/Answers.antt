@@ -11,7 +11,7 @@ use Rattle.pylex_lexeme.specs.declared.kinds.Exact.TheVariants.{Colon}
 use Rattle.pyunparse_text.specs.Pieces.{piece}
 use Rattle.pyunparse_text.specs.Written.{trailing}
 use Rattle.pyunparse_text.specs.Folds.{puts}
-use Rattle.pyunparse_text.specs.Writing.{behind}
+use Rattle.pyunparse_text.specs.Writing.{behind_sited}
 use Rattle.pytree_node.proofs.Callers.StmtShapes.{async_for_tree, async_function_def_tree, async_with_tree, case_tree, class_def_tree, for_tree, function_def_tree, handler_tree, if_tree, match_tree, try_star_tree, try_tree, while_tree, with_tree}
 use Rattle.pyunparse.specs.Inner.Lines.{Wrote, def_lines, one_case, one_handler}
 use Rattle.pyunparse.proofs.Shapes.StatementLemmas.{not_compound, not_elif, not_one, one_if, one_other}
@@ -263,7 +263,7 @@ write_handler-returns t c =
 pub write_clause-returns : goal.write_clause-returns
 write_clause-returns t c = λ h e. IfOk-weaker _ _ _ (λ _ b. subst (Wrote c.args.out.now _) (some_clause c.args.out.now.level h c.args.body.now _ c.is_empty.ensures c.if-is_empty.false)
     (header_block c.args.out.now _ _ _ h (λ n. lines_of piece (suc n) (stmts (map stmt_of c.args.body.now)))
-    c.in_ok-begin_line.ensures (c.in_ok-write_word_header.ensures ∙ ap (λ z. puts behind c.begin_line.new.self (z ++ trailing piece Colon ∷ [])) (sym e)) b)) c.write_block.ensures
+    c.in_ok-begin_line.ensures (c.in_ok-write_word_header.ensures ∙ ap (λ z. puts behind_sited c.begin_line.new.self (z ++ trailing piece Colon ∷ [])) (sym e)) b)) c.write_block.ensures
 
 pub write_clause-returns-then-is_empty : goal.write_clause-returns-then-is_empty
 write_clause-returns-then-is_empty t c = λ h e. subst (Wrote c.args.out.now c.args.out.now) (no_clause c.args.out.now.level h c.args.body.now _ c.is_empty.ensures c.if-is_empty.true) (wrote_none c.args.out.now)

@@ -11,7 +11,8 @@ pub returns-in-Tuple : goal.returns-in-Tuple
 returns-in-Tuple c =
     let e : c.in-Tuple.elts.len ≡ length c.in-Tuple.elts.items = omega (arith, c.in-Tuple.elts.ok.0) in
     rw (c.in-Tuple.is, tuple_tree)
-    (tuple_reads c.in-Tuple.elts.items c.in-Tuple.ctx _ _ (c.is_empty.ensures ∙ ap (λ n. n == 0) e) (c.are_plain.ensures ∙ ap (λ z. are_plain (exprs (map tree_of z))) c.deref.ensures.value))
+    (tuple_reads c.in-Tuple.elts.items c.in-Tuple.ctx _ _ (c.is_empty.ensures ∙ ap (λ n. n == 0) e)
+    (c.are_plain.ensures ∙ ap (λ z. are_plain (exprs (map tree_of z))) c.deref.ensures.value))
 
 pub returns-in_default : goal.returns-in_default
 returns-in_default c = sym (not_tuple c.args.e.now c.in_default.not-Tuple None)

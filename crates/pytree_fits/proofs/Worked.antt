@@ -1,0 +1,2 @@
+-- Worked trees that fit, and such that don't.
+pub mod Strings

@@ -1,0 +1,8 @@
+-- What callers cite of the tokens in the fields of an f-string. Cited by pytree_fits.
+pub use Rattle.pyunparse_text.proofs.StringTerminals.Bodies.{body_kept, joined, kept_all, kept_pass, none_all, points_kept, single_kept, unbraced}
+pub use Rattle.pyunparse_text.proofs.StringTerminals.Bodies.{weaker}
+pub use Rattle.pyunparse_text.proofs.StringTerminals.Classes.{OfClass, no_string, of_class}
+pub use Rattle.pyunparse_text.proofs.StringTerminals.Elements.{Laid, LaidIf, a_field, a_spec, a_text, all_laid, at_top, kept_text, nothing}
+pub use Rattle.pyunparse_text.proofs.StringTerminals.Faultless.{field_faultless, no_field_wrong, no_nul, no_nul_in}
+pub use Rattle.pyunparse_text.proofs.StringTerminals.FieldLexemes.{AllTokens, IsToken, IsWholeField, a_gap, a_token, no_lexeme, whole_field}
+pub use Rattle.pyunparse_text.proofs.StringTerminals.Scanned.{expression_calm, is_no_backslash}

@@ -1,0 +1,22 @@
+-- What stands in an f-string is read back as it was meant: the text of a field's expression, and texts.
+pub mod Conditions
+pub mod Characters
+pub mod NumberCharacters
+pub mod OperatorScans
+pub mod LiteralScans
+pub mod PieceScans
+pub mod FieldScans
+pub mod FieldCuts
+pub mod FieldTokens
+pub mod Enclosures
+pub mod TextUnits
+pub mod TextCharacters
+pub mod Texts
+pub mod FormattedCuts
+pub mod FormattedBodies
+pub mod FormattedTokens
+pub mod FormattedTerminals
+pub mod FieldReadings
+pub mod FormattedFaults
+pub mod FieldLiterals
+pub mod FormattedStrings
