@@ -11,5 +11,5 @@ complete -c pyast -n '__fish_seen_subcommand_from tokens' -l resume -x -d 'Resum
 complete -c pyast -n '__fish_seen_subcommand_from dump' -l indent -x -d 'Put each field and each list element on its own line, indented by N spaces a level'
 complete -c pyast -n '__fish_seen_subcommand_from dump' -l bare -d 'Omit the names of fields'
 complete -c pyast -n '__fish_seen_subcommand_from dump unparse' -l py312 -d 'Read the forms of types of Python 3.12'
-complete -c pyast -n '__fish_seen_subcommand_from dump unparse' -l whole -d 'Read floats, imaginary numbers and integers of up to 4,300 digits too'
+complete -c pyast -n '__fish_seen_subcommand_from dump unparse' -l whole -d 'Read match statements, f-strings, floats, imaginary numbers and longer integers too'
 complete -c pyast -n '__fish_seen_subcommand_from help' -f -a 'tokens dump unparse help'

@@ -78,8 +78,9 @@ const VERSION: &str = "1.0.0";
 
 /// What `dump` and `unparse` refuse, after their help.
 const REFUSED: &str = "\
-Refused, though Python 3.11 accepts them: f-strings, \\N{..} in strings, and, without --whole,
-match statements, floats, imaginary numbers, and integers of 2**128 or more.
+Refused, though Python 3.11 accepts them: \\N{..} in strings; in the fields of f-strings, quotes
+and line ends in strings, and = in an f-string; and, without --whole, match statements, f-strings,
+floats, imaginary numbers, and integers of 2**128 or more.
 Limits: integers of 4,300 digits, 600 open brackets, 500 nested expressions or statements.";
 
 /// The largest count of entries that can be asked for.
@@ -191,7 +192,8 @@ fn newer_form<'a>(alloc: Global) -> Arg<'a>
 fn whole_form<'a>(alloc: Global) -> Arg<'a>
     ensures { IsRule (flag_rule (codes "whole")) result }
 {
-    let whole = "Read match statements, floats, imaginary numbers and longer integers too";
+    let whole =
+        "Read match statements, f-strings, floats, imaginary numbers and longer integers too";
     flag_form(alloc, "whole", whole)
 }
 
