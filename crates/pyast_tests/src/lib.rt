@@ -1,6 +1,6 @@
-//! Tests of `pyast_command`: which words give which command, what is listed, dumped and unparsed of
-//! which source, and what is reported where reading or writing fails. The rows are worked by hand
-//! from the documentation of Python, or taken from Python 3.11.
+//! Tests of `pyast_command` and of the examples of `uses`: which words give which command, what is
+//! listed, dumped and unparsed of which source, and what is reported where reading or writing
+//! fails. The rows are worked by hand from the documentation of Python, or taken from Python 3.11.
 #![tactic(auto)]
 
 #[cfg(test)]
@@ -18,6 +18,8 @@ mod dumps;
 #[cfg(test)]
 mod edges;
 #[cfg(test)]
+mod examples;
+#[cfg(test)]
 mod expected;
 #[cfg(test)]
 mod failures;
@@ -25,6 +27,14 @@ mod failures;
 mod fault_lines;
 #[cfg(test)]
 mod fronts;
+#[cfg(test)]
+mod fstring_faults;
+#[cfg(test)]
+mod fstring_patterns;
+#[cfg(test)]
+mod fstring_values;
+#[cfg(test)]
+mod fstrings;
 #[cfg(test)]
 mod listings;
 #[cfg(test)]

@@ -10,7 +10,12 @@ use std::process::Abort;
 use std::test::Fail;
 
 /// Asserts what `dump` reports of a source with `--whole`, in both versions of Python.
-fn refuses(rt: &impl Abort, alloc: Global, source: &str, fault: &str) -> Result<(), Fail> {
+pub(crate) fn refuses(
+    rt: &impl Abort,
+    alloc: Global,
+    source: &str,
+    fault: &str,
+) -> Result<(), Fail> {
     let told = format!(in alloc; "<stdin>:{fault}")?;
     for words in ["dump --whole", "dump --whole --py312"] {
         does(rt, alloc, &(words, source, "", 1, told.as_str()))?;
@@ -19,7 +24,7 @@ fn refuses(rt: &impl Abort, alloc: Global, source: &str, fault: &str) -> Result<
 }
 
 /// Asserts that `dump` writes a tree of a source with `--whole`, in both versions of Python.
-fn gives(rt: &impl Abort, alloc: Global, source: &str, tree: &str) -> Result<(), Fail> {
+pub(crate) fn gives(rt: &impl Abort, alloc: Global, source: &str, tree: &str) -> Result<(), Fail> {
     for words in ["dump --whole", "dump --whole --py312"] {
         does(rt, alloc, &(words, source, tree, 0, ""))?;
     }
@@ -404,7 +409,7 @@ fn texts(rt: HostRuntime) -> Result<(), Fail> {
 }
 
 /// `match x:`, and a line that begins as a case does.
-const CASE: Piece<'_> = ("match x:\n case ", 1);
+pub(crate) const CASE: Piece<'_> = ("match x:\n case ", 1);
 
 #[test]
 fn limits_of_patterns(rt: HostRuntime) -> Result<(), Fail> {

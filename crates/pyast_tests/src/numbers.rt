@@ -10,13 +10,16 @@ use std::test::Fail;
 
 /// A source of one expression, less its line end; the expression in a dump; the text of the source;
 /// and the fault that is reported of it without `--whole`, empty where there is none.
-type Row<'a> = (&'a str, &'a str, &'a str, &'a str);
+pub(crate) type Row<'a> = (&'a str, &'a str, &'a str, &'a str);
 
 /// What is reported of a float at the start of a source.
 const FLOAT: &str = "1:0: error: float literal";
 
 /// What is reported of an imaginary number there.
 const COMPLEX: &str = "1:0: error: complex literal";
+
+/// What is reported of an f-string there.
+pub(crate) const FORMATTED: &str = "1:0: error: f-string";
 
 /// The dump of a module that is one expression.
 fn module_of(alloc: Global, expression: &str) -> Result<String, Fail> {
@@ -44,7 +47,7 @@ fn accepts(rt: &impl Abort, alloc: Global, options: &str, row: &Row<'_>) -> Resu
 }
 
 /// Asserts that both commands refuse a source by these options, and what they tell.
-fn refuses(
+pub(crate) fn refuses(
     rt: &impl Abort,
     alloc: Global,
     options: &str,
@@ -81,7 +84,7 @@ fn reads(rt: &impl Abort, alloc: Global, row: &Row<'_>) -> Result<(), Fail> {
 }
 
 /// Asserts that of each row.
-fn reads_all(rt: &impl Abort, alloc: Global, rows: &[Row<'_>]) -> Result<(), Fail> {
+pub(crate) fn reads_all(rt: &impl Abort, alloc: Global, rows: &[Row<'_>]) -> Result<(), Fail> {
     for row in rows {
         reads(rt, alloc, row)?;
     }
@@ -247,7 +250,7 @@ fn numbers_of_types(rt: HostRuntime) -> Result<(), Fail> {
 #[test]
 fn what_is_left_out(rt: HostRuntime) -> Result<(), Fail> {
     for (source, fault) in &[
-        ("x = f''", "1:4: error: f-string"),
+        ("x = f'}'", "1:4: error: f-string"),
         ("'\\N{DASH}'", "1:0: error: named escape"),
         ("1.5 + '\\x4'", "1:6: error: bad escape"),
         ("if 1.5: 2j\n  x", "2:2: error: unexpected indent"),

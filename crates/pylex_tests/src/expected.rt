@@ -1,5 +1,5 @@
-//! What the tests compare. Each comparison is a function, so that its words on failure stand, and
-//! are proved, once.
+//! What the tests of `pylex` compare. Each comparison is a function, so that its words on failure
+//! stand, and are proved, once.
 
 use pylex::{Kind, Step};
 use std::process::Abort;

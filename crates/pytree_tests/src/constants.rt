@@ -3,6 +3,7 @@
 
 ghost use Rattle.std.specs.Prelude.{◌≡◌, IfOk};
 
+use crate::expected::{same_answer, same_text};
 use pyfloat::Double;
 use pynatural::Natural;
 use pytree::{
@@ -52,9 +53,9 @@ fn is_shown(
     let in_whole = well_formed_at(alloc, &tree, Level::Expression, Extent::Whole);
     drop(tree);
     let whole = format!(in alloc; "Constant(value={expected})")?;
-    assert_eq!(rt; text?.as_str(), whole.as_str());
-    assert_eq!(rt; plain?, fits, "{expected}");
-    assert!(rt; in_whole?, "{expected}");
+    same_text(rt, text?.as_str(), whole.as_str(), expected);
+    same_answer(rt, plain?, fits, expected);
+    same_answer(rt, in_whole?, true, expected);
     Ok(())
 }
 
@@ -100,7 +101,7 @@ fn shows_whole_numbers(rt: HostRuntime) -> Result<(), Fail> {
         ("10000000000000000000000000000000000000000", false),
     ] {
         let number = integer(&rt, alloc, *digits)?;
-        assert_eq!(rt; number.to_u128().is_some(), *fits, "{digits}");
+        same_answer(&rt, number.to_u128().is_some(), *fits, *digits);
         is_shown(&rt, alloc, Constant::Int(number), *digits, *fits)?;
     }
     Ok(())
@@ -116,10 +117,11 @@ fn makes_whole_numbers(rt: HostRuntime) -> Result<(), Fail> {
         ("18446744073709551616", 18_446_744_073_709_551_616_u128),
     ] {
         let number = integer(&rt, alloc, *digits)?;
-        assert!(rt; number == Integer::new(alloc, *value)?, "{digits}");
-        assert!(rt; number.to_u128() == Some(*value), "{digits}");
+        let is_made = number == Integer::new(alloc, *value)?;
+        same_answer(&rt, is_made, true, *digits);
+        same_answer(&rt, number.to_u128() == Some(*value), true, *digits);
         let debug = format!(in alloc; "{number:?}")?;
-        assert_eq!(rt; debug.as_str(), *digits);
+        same_text(&rt, debug.as_str(), *digits, *digits);
     }
     let large = integer(&rt, alloc, "340282366920938463463374607431768211456")?;
     assert!(rt; large != integer(&rt, alloc, "0")?);

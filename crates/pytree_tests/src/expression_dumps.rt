@@ -1,5 +1,6 @@
 //! Dumps of expressions, as Python 3.11 gives them.
 
+use crate::expected::same_text;
 use crate::sources::{expression, module};
 use pytree::{Profile, Style, dump_expr};
 use std::test::Fail;
@@ -69,7 +70,7 @@ fn dumps_expressions(rt: HostRuntime) -> Result<(), Fail> {
     ] {
         let tree = module(alloc, *text)?;
         let dumped = dump_expr(alloc, expression(&rt, &tree), *style)?;
-        assert_eq!(rt; dumped.as_str(), *expected, "{text}");
+        same_text(&rt, dumped.as_str(), *expected, *text);
     }
     Ok(())
 }

@@ -1,6 +1,7 @@
 //! Which modules are well formed in a version of Python, and which expressions at a level.
 
 use crate::changes::{catch_all, put, put_name, set_dots, shorten};
+use crate::expected::same_answer;
 use crate::sources::{expression, module};
 use pytree::{
     Context, Expr, Extent, Identifier, Level, Module, Profile, well_formed, well_formed_at,
@@ -29,7 +30,7 @@ fn names(rt: HostRuntime) -> Result<(), Fail> {
         };
         let fits = well_formed_at(alloc, &tree, Level::Expression, Extent::Plain);
         drop(tree);
-        assert_eq!(rt; fits?, *expected, "{text}");
+        same_answer(&rt, fits?, *expected, *text);
     }
     Ok(())
 }
@@ -41,7 +42,7 @@ fn levels(rt: HostRuntime) -> Result<(), Fail> {
     let tree = module(alloc, "*a")?;
     for (level, expected) in &[(Level::Stars, true), (Level::Expression, false)] {
         let fits = well_formed_at(alloc, expression(&rt, &tree), *level, Extent::Plain)?;
-        assert_eq!(rt; fits, *expected);
+        same_answer(&rt, fits, *expected, "*a");
     }
     Ok(())
 }
@@ -58,7 +59,7 @@ fn members(rt: HostRuntime) -> Result<(), Fail> {
             Level::Expression,
             Extent::Plain,
         )?;
-        assert!(rt; fits, "{text}");
+        same_answer(&rt, fits, true, *text);
         assert!(rt; shorten(&mut tree));
         let fits = well_formed_at(
             alloc,
@@ -66,7 +67,7 @@ fn members(rt: HostRuntime) -> Result<(), Fail> {
             Level::Expression,
             Extent::Plain,
         )?;
-        assert!(rt; !fits, "{text}");
+        same_answer(&rt, fits, false, *text);
     }
     Ok(())
 }
@@ -98,7 +99,7 @@ fn imports(rt: HostRuntime) -> Result<(), Fail> {
         let mut name = module(alloc, *other)?;
         assert!(rt; set_dots(&mut tree, *dots));
         assert!(rt; put_name(&mut tree, &mut name).is_some());
-        assert_eq!(rt; told(alloc, &tree)?, *expected, "{dots} {other}");
+        same_answer(&rt, told(alloc, &tree)?, *expected, *other);
     }
     Ok(())
 }
@@ -113,7 +114,7 @@ fn handlers(rt: HostRuntime) -> Result<(), Fail> {
     ] {
         let mut tree = module(alloc, *text)?;
         assert!(rt; catch_all(&mut tree));
-        assert_eq!(rt; told(alloc, &tree)?, *expected);
+        same_answer(&rt, told(alloc, &tree)?, *expected, *text);
     }
     Ok(())
 }

@@ -1,5 +1,6 @@
 //! Dumps of `match` statements, as Python 3.11 gives them. Their trees are made by hand.
 
+use crate::expected::same_text;
 use crate::module_dumps::same_in_pieces;
 use pytree::{
     Case, Constant, Context, Expr, Identifier, Integer, Module, Pattern, Profile, Stmt, Style, dump,
@@ -338,7 +339,7 @@ fn dumps_cases(rt: HostRuntime) -> Result<(), Fail> {
     ] {
         let tree = module(alloc, shape, *guard)?;
         let dumped = dump(alloc, &tree, *style)?;
-        assert_eq!(rt; dumped.as_str(), *expected);
+        same_text(&rt, dumped.as_str(), *expected, "a match");
         same_in_pieces(&rt, alloc, &tree, *style, *expected)?;
     }
     Ok(())

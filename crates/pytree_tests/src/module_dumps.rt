@@ -1,5 +1,6 @@
 //! Dumps of modules, as Python gives them.
 
+use crate::expected::same_text;
 use crate::sources::module;
 use pytree::{Module, Pieces, Profile, Style, dump};
 use std::alloc::Global;
@@ -48,9 +49,9 @@ pub(crate) fn same_in_pieces(
     for _ in 0..=expected.len() {
         pieces.push_next(&mut text)?;
     }
-    assert_eq!(rt; text.as_str(), expected);
+    same_text(rt, text.as_str(), expected, "pieces");
     assert!(rt; !pieces.push_next(&mut text)?);
-    assert_eq!(rt; text.as_str(), expected);
+    same_text(rt, text.as_str(), expected, "pieces");
     Ok(())
 }
 
@@ -95,7 +96,7 @@ fn dumps_modules(rt: HostRuntime) -> Result<(), Fail> {
     ] {
         let tree = module(alloc, *text)?;
         let dumped = dump(alloc, &tree, *style)?;
-        assert_eq!(rt; dumped.as_str(), *expected, "{text}");
+        same_text(&rt, dumped.as_str(), *expected, *text);
         same_in_pieces(&rt, alloc, &tree, *style, *expected)?;
     }
     Ok(())

@@ -1,5 +1,6 @@
 //! Keywords, identifiers and names, as the language reference has them.
 
+use crate::expected::same_answer;
 use pytree::{is_identifier, is_keyword, is_name};
 use std::test::Fail;
 
@@ -14,7 +15,7 @@ const KEYWORDS: [&str; 35] = [
 #[test]
 fn keywords(rt: HostRuntime) {
     for text in &KEYWORDS {
-        assert!(rt; is_keyword(*text), "{text}");
+        same_answer(&rt, is_keyword(*text), true, *text);
     }
 }
 
@@ -43,7 +44,7 @@ fn no_keywords(rt: HostRuntime) {
         "elseif",
         "ﬁnally",
     ] {
-        assert!(rt; !is_keyword(*text), "{text}");
+        same_answer(&rt, is_keyword(*text), false, *text);
     }
 }
 
@@ -70,7 +71,7 @@ fn identifiers(rt: HostRuntime) {
         ("·x", false),
         ("$x", false),
     ] {
-        assert_eq!(rt; is_identifier(*text), *expected, "{text}");
+        same_answer(&rt, is_identifier(*text), *expected, *text);
     }
 }
 
@@ -90,7 +91,7 @@ fn names(rt: HostRuntime) -> Result<(), Fail> {
         ("1x", false),
         ("", false),
     ] {
-        assert_eq!(rt; is_name(rt.alloc(), *text)?, *expected, "{text}");
+        same_answer(&rt, is_name(rt.alloc(), *text)?, *expected, *text);
     }
     Ok(())
 }

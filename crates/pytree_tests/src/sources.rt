@@ -1,4 +1,4 @@
-//! Trees of source texts.
+//! Texts, and the sources and trees that they are.
 
 use pyparse::parse;
 use pysource::{SOURCE_LIMIT, Source, decode};
@@ -15,6 +15,25 @@ pub(crate) fn source_of(alloc: Global, text: &str) -> Result<Source, Fail> {
     }
     let source = decode(alloc, bytes)?;
     Ok(source)
+}
+
+/// A text, so many times, another one, and a third so many times.
+pub(crate) fn nested(
+    alloc: Global,
+    count: usize,
+    before: &str,
+    middle: &str,
+    behind: &str,
+) -> Result<String, Fail> {
+    let mut text = String::new(alloc);
+    for _ in 0..count {
+        text.push_str(before)?;
+    }
+    text.push_str(middle)?;
+    for _ in 0..count {
+        text.push_str(behind)?;
+    }
+    Ok(text)
 }
 
 /// The module that a text is in Python 3.12.

@@ -1,6 +1,7 @@
 //! Trees: their heights by definition, copies of them, and whether they are equal.
 
 use crate::changes::put;
+use crate::expected::same_answer;
 use crate::sources::module;
 use pytree::{Heights, copy, height, same};
 use std::test::Fail;
@@ -27,7 +28,7 @@ fn heights(rt: HostRuntime) -> Result<(), Fail> {
             statement: *statement,
         };
         let tree = module(rt.alloc(), *text)?;
-        assert!(rt; height(&tree) == expected, "{text}");
+        same_answer(&rt, height(&tree) == expected, true, *text);
     }
     Ok(())
 }
@@ -81,7 +82,7 @@ fn equality(rt: HostRuntime) -> Result<(), Fail> {
     ] {
         let tree = module(alloc, *text)?;
         let others = module(alloc, *other)?;
-        assert!(rt; same(&tree, &others) == *expected, "{text}, {other}");
+        same_answer(&rt, same(&tree, &others), *expected, *other);
     }
     Ok(())
 }

@@ -1,5 +1,6 @@
 //! Tokens of expressions, with a blank between each two.
 
+use crate::expected::same_text;
 use crate::sources::source_of;
 use pygrammar::Level;
 use pyparse::{parse_expression, tokens_of};
@@ -45,7 +46,7 @@ fn writes(
     tokens: &str,
 ) -> Result<(), Fail> {
     let found = written(alloc, text, level)?;
-    assert_eq!(rt; found.as_str(), tokens, "of {text}");
+    same_text(rt, found.as_str(), tokens, text);
     Ok(())
 }
 
@@ -61,11 +62,39 @@ fn places(rt: HostRuntime) -> Result<(), Fail> {
         ("(x := 1)", Level::Value, "( x := 1 )"),
         ("(yield x)", Level::Value, "yield x"),
         ("(yield x)", Level::Stars, "( yield x )"),
+        ("f'{x}'", Level::Atom, "f'{x}'"),
         ("lambda: x", Level::Or, "( lambda : x )"),
         ("a if b else c", Level::Expression, "a if b else c"),
         ("a ** b", Level::Await, "( a ** b )"),
     ] {
         writes(&rt, alloc, *text, *level, *tokens)?;
+    }
+    Ok(())
+}
+
+/// An f-string is one token, behind one of a text where its kind is `u`; a field is written as
+/// an operand of `or` is.
+#[test]
+fn fstrings(rt: HostRuntime) -> Result<(), Fail> {
+    let alloc = rt.alloc();
+    for (text, tokens) in &[
+        ("f''", "f''"),
+        ("f'a' \"b\" + f\"{'c'}\"", "f'ab' + f'{\"c\"}'"),
+        ("f'{a,b}'", "f'{(a, b)}'"),
+        ("f'{(a)+(b)}'", "f'{a + b}'"),
+        ("f'{(not a)}'", "f'{not a}'"),
+        ("f'{(a or b)!r}'", "f'{a or b!r}'"),
+        ("f'{a if b else c}'", "f'{(a if b else c)}'"),
+        ("f'{(a)|b:>{(c)}}'", "f'{a | b:>{c}}'"),
+        ("f'{a!=b!r}'", "f'{a != b!r}'"),
+        ("f'{-a}'", "f'{-a}'"),
+        ("f'{ {a}}'", "f'{ {a}}'"),
+        ("f'{[*a]}'", "f'{[*a]}'"),
+        ("f'{f(a, b=c)}'", "f'{f(a, b=c)}'"),
+        ("u'a' f'{b}'", "u'a' f'{b}'"),
+        ("(f'{a}').b", "f'{a}' . b"),
+    ] {
+        writes(&rt, alloc, *text, Level::Value, *tokens)?;
     }
     Ok(())
 }

@@ -1,27 +1,9 @@
 //! Modules at the limits of what is accepted.
 
+use crate::sources::nested;
 use crate::written_modules::{text_of, writes};
 use std::alloc::Global;
 use std::test::Fail;
-
-/// A text, so many times, another one, and a third so many times.
-fn nested(
-    alloc: Global,
-    count: usize,
-    before: &str,
-    middle: &str,
-    behind: &str,
-) -> Result<String, Fail> {
-    let mut text = String::new(alloc);
-    for _ in 0..count {
-        text.push_str(before)?;
-    }
-    text.push_str(middle)?;
-    for _ in 0..count {
-        text.push_str(behind)?;
-    }
-    Ok(text)
-}
 
 /// What is written in as many brackets as may be open, and what is as high as may be.
 #[test]

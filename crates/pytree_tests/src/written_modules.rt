@@ -1,28 +1,19 @@
 //! Modules that come back from their text.
 
-use crate::sources::source_of;
-use pyparse::parse;
-use pytree::{Module, Profile, same};
+use crate::expected::{same_answer, same_text};
+use crate::sources::module;
+use pytree::same;
 use pyunparse::unparse;
 use std::alloc::Global;
 use std::process::Abort;
 use std::test::Fail;
 
-/// The module that a text is in Python 3.12.
-pub(crate) fn module_of(alloc: Global, text: &str) -> Result<Module, Fail> {
-    let source = source_of(alloc, text)?;
-    match parse(alloc, &source, Profile::PLAIN_312) {
-        Ok(module) => Ok(module),
-        Err(_) => Err(Fail::from("no module")),
-    }
-}
-
 /// The text of the module that a text is, once it was seen to come back from it.
 pub(crate) fn text_of(rt: &impl Abort, alloc: Global, text: &str) -> Result<String, Fail> {
-    let module = module_of(alloc, text)?;
-    let written = unparse(alloc, &module)?;
-    let again = module_of(alloc, written.as_str())?;
-    assert!(rt; same(&module, &again), "{text}");
+    let tree = module(alloc, text)?;
+    let written = unparse(alloc, &tree)?;
+    let again = module(alloc, written.as_str())?;
+    same_answer(rt, same(&tree, &again), true, text);
     Ok(written)
 }
 
@@ -34,7 +25,7 @@ pub(crate) fn writes(
     expected: &str,
 ) -> Result<(), Fail> {
     let written = text_of(rt, alloc, text)?;
-    assert_eq!(rt; written.as_str(), expected);
+    same_text(rt, written.as_str(), expected, text);
     Ok(())
 }
 

@@ -1,0 +1,126 @@
+//! f-strings in match statements: subjects, values and keys of patterns, and what is no pattern.
+
+use crate::dump_limits::{Piece, meets_all};
+use crate::matches::{CASE, gives, refuses};
+use crate::unparses::writes;
+use std::test::Fail;
+
+#[test]
+fn trees(rt: HostRuntime) -> Result<(), Fail> {
+    let rows = &[
+        (
+            "match x:\n case f'{y}' | {f'a': z}: pass\n",
+            "Module(body=[Match(subject=Name(id='x', ctx=Load()), \
+             cases=[match_case(pattern=MatchOr(patterns=[MatchValue(value=JoinedStr(values=\
+             [FormattedValue(value=Name(id='y', ctx=Load()), conversion=-1)])), \
+             MatchMapping(keys=[JoinedStr(values=[Constant(value='a')])], \
+             patterns=[MatchAs(name='z')])]), body=[Pass()])])], type_ignores=[])",
+        ),
+        (
+            "match f'{x}':\n case f'': pass\n",
+            "Module(body=[Match(subject=JoinedStr(values=[FormattedValue(value=Name(id='x', \
+             ctx=Load()), conversion=-1)]), \
+             cases=[match_case(pattern=MatchValue(value=JoinedStr(values=[])), \
+             body=[Pass()])])], type_ignores=[])",
+        ),
+        (
+            "match x:\n case A(f'a', k=f'{y=}'): pass\n",
+            "Module(body=[Match(subject=Name(id='x', ctx=Load()), \
+             cases=[match_case(pattern=MatchClass(cls=Name(id='A', ctx=Load()), \
+             patterns=[MatchValue(value=JoinedStr(values=[Constant(value='a')]))], \
+             kwd_attrs=['k'], \
+             kwd_patterns=[MatchValue(value=JoinedStr(values=[Constant(value='y='), \
+             FormattedValue(value=Name(id='y', ctx=Load()), conversion=114)]))]), \
+             body=[Pass()])])], type_ignores=[])",
+        ),
+    ];
+    for (source, tree) in rows {
+        gives(&rt, rt.alloc(), source, tree)?;
+    }
+    Ok(())
+}
+
+#[test]
+fn texts(rt: HostRuntime) -> Result<(), Fail> {
+    let rows = &[
+        (
+            "match x:\n case f'{y}' | {f'a': z}: pass\n",
+            "match x:\n    case f'{y}' | {f'a': z}:\n        pass",
+        ),
+        (
+            "match x:\n case (f'{y}') | {f'a' 'b': (z)}: pass\n",
+            "match x:\n    case f'{y}' | {f'ab': z}:\n        pass",
+        ),
+        (
+            "match x:\n case 'a' f\"{y['k']}\": pass\n",
+            "match x:\n    case f'a{y[\"k\"]}':\n        pass",
+        ),
+        (
+            "match x:\n case u'a' f'{y}': pass\n",
+            "match x:\n    case u'a' f'{y}':\n        pass",
+        ),
+        (
+            "match f'{x}':\n case f'': pass\n",
+            "match f'{x}':\n    case f'':\n        pass",
+        ),
+    ];
+    for (source, text) in rows {
+        writes(&rt, rt.alloc(), "unparse --whole", source, text)?;
+        writes(&rt, rt.alloc(), "unparse --whole --py312", source, text)?;
+    }
+    writes(
+        &rt,
+        rt.alloc(),
+        "unparse --whole --py312",
+        "match type:\n case type: type X = f'{type}'\n",
+        "match type:\n    case type:\n        type X = f'{type}'",
+    )
+}
+
+/// An f-string is no number, has no parts, and stands in no brackets as a key.
+#[test]
+fn patterns_without_a_form(rt: HostRuntime) -> Result<(), Fail> {
+    for pattern in &[
+        "{(f''): a}",
+        "f'' b''",
+        "-f''",
+        "f'' + 2j",
+        "f''.a",
+        "f''()",
+        "f'{a b}'",
+        "a as f''",
+        "*f''",
+        "A(f''=1)",
+    ] {
+        let source = format!(in rt.alloc(); "match x:\n case {pattern}: pass\n")?;
+        refuses(
+            &rt,
+            rt.alloc(),
+            source.as_str(),
+            "2:1: error: invalid syntax",
+        )?;
+    }
+    Ok(())
+}
+
+#[test]
+fn limits_of_patterns(rt: HostRuntime) -> Result<(), Fail> {
+    let start = ("f'{", 1);
+    let end = ("}': pass\n", 1);
+    let malformed = "2:6: error: f-string";
+    let rows: &[(&[Piece<'_>], &str)] = &[
+        (&[CASE, start, ("-", 496), ("y", 1), end], ""),
+        (
+            &[CASE, start, ("-", 497), ("y", 1), end],
+            "2:1: error: too deep",
+        ),
+        (&[CASE, start, ("(", 599), ("y", 1), (")", 599), end], ""),
+        (
+            &[CASE, start, ("(", 600), ("y", 1), (")", 600), end],
+            malformed,
+        ),
+        (&[CASE, ("f'", 1), end], malformed),
+        (&[CASE, ("f'''{\"it's\"}''': pass\n", 1)], malformed),
+    ];
+    meets_all(&rt, rt.alloc(), "dump --whole", rows)
+}
