@@ -12,6 +12,7 @@ The exit status is 0, but 1 where a run grew more or ended otherwise, and 2 wher
 """
 
 import argparse
+import collections
 import contextlib
 import os
 import resource
@@ -28,6 +29,9 @@ ACCEPTED, REFUSED = 0, 1
 COMMANDS = ("tokens", "dump", "unparse")
 # The stack that a login shell gives.
 STACK = 8 << 20
+
+# A source: its name, a maker of one of size 1 or 2, how each command answers it, and the options by which they are run.
+Source = collections.namedtuple("Source", "name make dues options", defaults=((),))
 
 
 # --- the sources ------------------------------------------------------------------------------------------------------
@@ -93,9 +97,49 @@ def sources_of_trees():
     yield "names in another form", lambda n: "\u00e9 = \ufb01\n".encode() * (n * 300_000), ACCEPTED
 
 
-def with_fault(name, make, dues):
+def sources_of_formatted():
+    """What is hard in f-strings, in the same way, for `dump --whole` and `unparse --whole`."""
+    yield "an f-string of 10,000,000 characters", lambda n: b"f'" + b"a" * (n * 5_000_000) + b"'\n", ACCEPTED
+    yield "an f-string of 1,000,000 pairs of braces", lambda n: b"f'" + b"{{" * (n * 500_000) + b"'\n", ACCEPTED
+    yield "an f-string of 1,000,000 pairs of braces and `{`", lambda n: b"f'" + b"{{" * (n * 500_000) + b"{'\n", REFUSED
+    yield "an f-string of 1,000,000 escapes", lambda n: b"f'" + b"\\n\\'" * (n * 250_000) + b"'\n", ACCEPTED
+    yield "an f-string of 1,000,000 lines", lambda n: b"f'''" + b"a\n" * (n * 500_000) + b"'''\n", ACCEPTED
+    yield "an f-string of 1,000,000 fields", lambda n: b"f'" + b"{a}" * (n * 500_000) + b"'\n", ACCEPTED
+    yield "an f-string of 1,000,000 fields, and one without a name", lambda n: b"f'" + b"{a}" * (n * 500_000) + b"{}'\n", REFUSED
+    yield "an f-string of 200,000 fields with all parts", lambda n: b"f'" + b"b {a=!r:>{w}.3} " * (n * 100_000) + b"'\n", ACCEPTED
+    yield "a field with a name of 10,000,000 characters", lambda n: b"f'{" + b"a" * (n * 5_000_000) + b"}'\n", ACCEPTED
+    yield "a field with a list of 1,000,000", lambda n: b"f'{[" + b"abc, " * (n * 500_000) + b"x]}'\n", ACCEPTED
+    yield "a field with a string of 10,000,000 characters", lambda n: b"f'{\"" + b"a" * (n * 5_000_000) + b"\"}'\n", ACCEPTED
+    yield "a field of 10,000,000 blanks and a name", lambda n: b"f'{" + b" " * (n * 5_000_000) + b"a}'\n", ACCEPTED
+    yield "a field with 1,000,000 `==`", lambda n: b"f'{a" + b"==a" * (n * 500_000) + b"}'\n", ACCEPTED
+    yield "a field with a sum of 100,000", lambda n: b"f'{x" + b"+x" * (n * 50_000) + b"}'\n", REFUSED
+    yield "a field with 1,000,000 open brackets", lambda n: b"f'{" + b"(" * (n * 500_000) + b"}'\n", REFUSED
+    yield "599 brackets in each of 10,000 fields", lambda n: b"f'" + (b"{" + nested(599) + b"}") * (n * 5_000) + b"'\n", ACCEPTED
+    yield "497 signs in each of 1,000 fields", lambda n: b"f'" + (b"{" + b"-" * 497 + b"x}") * (n * 500) + b"'\n", ACCEPTED
+    yield "a format spec of 10,000,000 characters", lambda n: b"f'{x:" + b"a" * (n * 5_000_000) + b"}'\n", ACCEPTED
+    yield "a format spec of 1,000,000 fields", lambda n: b"f'{x:" + b"{a}" * (n * 500_000) + b"}'\n", ACCEPTED
+    yield "1,000,000 format specs in one another", lambda n: b"f'" + b"{x:" * (n * 500_000) + b"'\n", REFUSED
+    yield "a nested f-string of 1,000,000 fields", lambda n: b"f'{f\"" + b"{a}" * (n * 500_000) + b"\"}'\n", ACCEPTED
+    yield "1,000,000 nested f-strings", lambda n: b"f'" + b"{f\"{a}\"}" * (n * 500_000) + b"'\n", ACCEPTED
+    yield "1,000,000 f-strings side by side", lambda n: b"(" + b"f'{a}b'\n" * (n * 500_000) + b")\n", ACCEPTED
+    yield "1,000,000 strings and an f-string side by side", lambda n: b"(u'a'" + b"'a'\n" * (n * 500_000) + b"f'{a}')\n", ACCEPTED
+    yield "1,000,000 lines with an f-string", lambda n: b"f'{x}'\n" * (n * 500_000), ACCEPTED
+
+
+def with_fault(source):
     """A source with a fault of the listing behind it, before its last line end."""
-    return f"{name}, and `$`", lambda n: make(n).removesuffix(b"\n") + b"$\n", dict.fromkeys(dues, REFUSED)
+    make = lambda n: source.make(n).removesuffix(b"\n") + b"$\n"  # noqa: E731
+    return Source(f"{source.name}, and `$`", make, dict.fromkeys(source.dues, REFUSED), source.options)
+
+
+def all_sources():
+    """All sources, as they are and with a fault behind them."""
+    for name, make, listed, read in sources_of_lines():
+        yield Source(name, make, {"tokens": listed, "dump": read, "unparse": read})
+    for name, make, read in sources_of_trees():
+        yield Source(name, make, {"dump": read, "unparse": read})
+    for name, make, read in sources_of_formatted():
+        yield Source(name, make, {"dump": read, "unparse": read}, ("--whole",))
 
 
 # --- the table --------------------------------------------------------------------------------------------------------
@@ -120,23 +164,23 @@ def show_growth(command, half, whole, megabytes, due):
     is_large = memory > LARGEST_GROWTH and whole.memory > SMALLEST_PEAK
     statuses = sorted({half.status, whole.status})
     marks = "  more time than it may" * is_slow + "  more memory than it may" * is_large + f"  status {statuses}" * (statuses != [due])
-    print(f"{command:9}{whole.name:54}{megabytes:8.1f}{half.processor * 1e3:10.0f}{whole.processor * 1e3:11.0f}{time:8.2f}"
+    print(f"{command:9}{whole.name:60}{megabytes:8.1f}{half.processor * 1e3:10.0f}{whole.processor * 1e3:11.0f}{time:8.2f}"
           f"{half.shown_memory():>10}{whole.shown_memory():>11}{memory:8.2f}{marks}", flush=True)
     return not marks
 
 
-def measure(program, dues, name, make, folder):
-    """Measures a source of two sizes by some commands, each with the status that is due; answers whether all is as it should be."""
+def measure(program, commands, source, folder):
+    """Measures a source of two sizes by those of some commands that it is for; answers whether all is as it should be."""
     paths = [os.path.join(folder, f"{size}.py") for size in (1, 2)]
     for size, path in enumerate(paths, 1):
-        apart(lambda size=size, path=path: write_bytes(path, make(size)))
+        apart(lambda size=size, path=path: write_bytes(path, source.make(size)))
     well = True
-    for command, due in dues.items():
-        rows = [Runs(name, [program, command, path]) for path in paths]
+    for command in commands:
+        rows = [Runs(source.name, [program, command, *source.options, path]) for path in paths]
         for _ in range(ROUNDS):
             for row in rows:
                 row.run()
-        well &= show_growth(command, *rows, os.path.getsize(paths[1]) / MEGABYTE, due)
+        well &= show_growth(command, *rows, os.path.getsize(paths[1]) / MEGABYTE, source.dues[command])
     return well
 
 
@@ -151,13 +195,11 @@ def main():
     program, commands = built_program(options.program), [one for one in COMMANDS if one in (options.commands or COMMANDS)]
     show_machine()
     limit_stack()
-    print(f"{'command':9}{'source':54}{'MB':>8}{'half, ms':>10}{'whole, ms':>11}{'growth':>8}{'half, MB':>10}{'whole, MB':>11}{'growth':>8}")
-    sources = [(name, make, {"tokens": listed, "dump": read, "unparse": read}) for name, make, listed, read in sources_of_lines()]
-    sources += [(name, make, {"dump": read, "unparse": read}) for name, make, read in sources_of_trees()]
-    sources += [with_fault(*source) for source in sources]
+    print(f"{'command':9}{'source':60}{'MB':>8}{'half, ms':>10}{'whole, ms':>11}{'growth':>8}{'half, MB':>10}{'whole, MB':>11}{'growth':>8}")
+    sources = list(all_sources())
     with tempfile.TemporaryDirectory(prefix="pyast-bench-") as folder:
-        found = [measure(program, {one: dues[one] for one in commands if one in dues}, name, make, folder) for name, make, dues in sources
-                 if options.only in name and set(commands) & set(dues)]
+        found = [measure(program, [one for one in commands if one in source.dues], source, folder) for source in [*sources, *map(with_fault, sources)]
+                 if options.only in source.name and set(commands) & set(source.dues)]
     return int(not all(found))
 
 

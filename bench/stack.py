@@ -31,6 +31,11 @@ def case(pattern):
     return f"match x:\n case {pattern}: pass\n"
 
 
+def in_fields(within):
+    """600 brackets, 599 in a field within them, and 599 in a field of that, with something within."""
+    return "(" * 600 + "f'{" + "(" * 599 + 'f"{' + "(" * 599 + within + ")" * 599 + '}"' + ")" * 599 + "}'" + ")" * 600
+
+
 def sources():
     """The name of each source, and the source."""
     yield "600 brackets", "(" * 600 + "x" + ")" * 600 + "\n"
@@ -39,6 +44,8 @@ def sources():
     yield "499 nested `if`", within(499, "pass")
     yield "499 `lambda` in 499 `if`", within(499, "lambda: " * 499 + "x")
     yield "249 `[(yield` in 499 `if`", within(499, "[(yield " * 249 + "x" + ")]" * 249)
+    yield "600 brackets, 599 in a field, 599 in a field of that", in_fields("x") + "\n"
+    yield "the same, 495 `lambda` within, in 499 `if`", within(499, in_fields("lambda: " * 495 + "x"))
     yield "600 brackets of a pattern", case("(" * 600 + "_" + ")" * 600)
     yield "499 `[` of a pattern", case("[" * 499 + "_" + "]" * 499)
     yield "498 `A(` of a pattern", case("A(" * 498 + "_" + ")" * 498)

@@ -1,11 +1,12 @@
 #!/usr/bin/env python3
 """Times `pyast unparse` beside Python's own `ast.unparse`, and beside Python's parser alone.
 
-    bench/unparse.py [--program PATH] [--size MB] [--goal TIMES] [--parser-goal TIMES] [--most-bytes N]
+    bench/unparse.py [--program PATH] [--size MB] [--goal TIMES] [--parser-goal TIMES] [--most-bytes N] [--whole] [--fstrings]
 
-The source is made of statements of Python 3.11's library that `dump` accepts, the files mixed in the same order each time. Times are
-those of the processor, the least of some rounds; the peak of memory is the greatest of them. The exit status is 0, but 1 where a program
-failed or a goal was missed, and 2 where nothing could be measured.
+The source is made of statements of Python 3.11's library that `dump` accepts, the files mixed in the same order each time; with --whole of
+those that `dump --whole` accepts, and with --fstrings of the simple statements among them that have f-strings: then --whole is given too.
+Times are those of the processor, the least of some rounds; the peak of memory is the greatest of them. The exit status is 0, but 1 where a
+program failed or a goal was missed, and 2 where nothing could be measured.
 """
 
 import sys

@@ -57,6 +57,11 @@ def python_files(folders):
             yield from (os.path.join(path, name) for name in sorted(names) if name.endswith(".py"))
 
 
+def installed_folders():
+    """The folders of Python's library and of the installed packages; the first of the path is that of the script."""
+    return [path for path in sys.path[1:] if os.path.isdir(path)]
+
+
 def chosen_files(options):
     """The files below the folders of the command line, each once; with --quick every 10th."""
     return list(dict.fromkeys(python_files(options.folders)))[::10 if options.quick else 1]
@@ -173,6 +178,7 @@ def files_parser(description):
     """A command line with what those have that compare files and changed pieces of source."""
     parser = program_parser(description)
     parser.add_argument("folders", nargs="*", metavar="FOLDER", help="a folder or file; default: Python's own library")
+    parser.add_argument("--installed", action="store_true", help="without a FOLDER: Python's own library and the installed packages")
     parser.add_argument("--quick", action="store_true", help="every 10th file alone")
     parser.add_argument("--mutate", type=int, default=0, metavar="N", help="also N changed pieces of source")
     parser.add_argument("--smallest", type=int, default=10, metavar="N",
@@ -184,7 +190,8 @@ def read_options(parser):
     """The command line; the run ends where it names what isn't there."""
     options = parser.parse_args()
     options.program = tuple(shlex.split(options.program))
-    options.folders = [os.path.abspath(folder) for folder in getattr(options, "folders", []) or [sysconfig.get_path("stdlib")]]
+    folders = getattr(options, "folders", []) or (installed_folders() if getattr(options, "installed", False) else [sysconfig.get_path("stdlib")])
+    options.folders = [os.path.abspath(folder) for folder in folders]
     if not options.program or not shutil.which(options.program[0]):
         refuse(f"{' '.join(options.program)} isn't there: run {os.path.join(TOP, 'pyast')} once, which builds it")
     for folder in options.folders:

@@ -8,7 +8,8 @@ Every .py file below the folders (by default that of Python's own library with i
 what Python accepts, or the other way round, the difference has to be of a class of docs/DECISIONS.md. The forms that pyast leaves
 out are such classes: there the fault has to be the first such form of the source, at its place; and the parts of the file without
 one are compared as sources of their own: its statements, and those within statements that have one. Any other difference is a
-failure, shown by the smallest input that has it. With --whole it is `pyast dump --whole` that is compared, which leaves out no number and no `match` statement.
+failure, shown by the smallest input that has it. With --whole it is `pyast dump --whole` that is compared, which leaves out no number, no `match`
+statement, and of f-strings only those with a string in a field that has a quote or a line end, and those with a `=` in a nested f-string.
 
 The exit status is 0 where every difference has a class, 1 where one has none, and 2 where nothing could be compared; with
 --or-skip it is 0 too where there is no Python 3.11.
@@ -18,19 +19,18 @@ import ast
 import collections
 import functools
 import io
-import keyword
 import random
 import re
 import sys
 import time
 import tokenize
-import unicodedata
 import warnings
 
 import compare as listings
 from common import (UNEXPLAINED, chosen_files, files_parser, go_on_with_python_311, outcome_of, read_options, results_of, short_name,
                     show_end, show_table, smallest)
 from compare import LATER_IN_NAMES, is_newer
+from formatted import EQUAL, FORM, NAMED, QUOTED, is_formatted, is_other_keyword, left_out
 from values import reason_of
 
 STYLES = {(): {}, ("--indent", "2"): {"indent": 2}, ("--bare",): {"annotate_fields": False}}
@@ -49,9 +49,7 @@ FLOAT = "left out: float"
 COMPLEX = "left out: complex number"
 FSTRING = "left out: f-string"
 LARGE = "left out: integer too large"
-NAMED = "left out: named escape"
 MATCH = "left out: match statement"
-FORM = "name form"
 OCTAL = "octal escape above 377 in bytes"
 ENCODING = "another encoding"
 MARK = "byte order mark with a cookie"
@@ -92,17 +90,22 @@ SAMPLES = {
 LEFT_OUT = {"Float": (FLOAT, "float literal"), "Complex": (COMPLEX, "complex literal"), "FString": (FSTRING, "f-string"),
             "IntegerTooLarge": (LARGE, "integer too large"), "NamedEscape": (NAMED, "named escape"), "Match": (MATCH, "match statement")}
 # Those that `--whole` lets in. No whole number of more than 4,300 digits is tried: Python refuses to write one.
-OF_WHOLE = ("Float", "Complex", "IntegerTooLarge", "Match")
+OF_WHOLE = ("Float", "Complex", "FString", "IntegerTooLarge", "Match")
+# What it leaves out of f-strings.
+OF_FIELDS = {
+    QUOTED: b"x = f'''{\"it's\"}'''\n",
+    EQUAL: b"x = f'a' f'{f\"{x=}\"}'\n",
+}
 # What calls the program with `--whole` behind all other words.
 WITH_WHOLE = ("sh", "-c", 'exec "$0" "$@" --whole')
 # What Python's parser says where it stops at a limit of its own, looks closer at a number than the tokens do, or takes the brackets
 # of `(b).c: d` for those of the whole target.
-LIMITS = ("too many nested parentheses", "too many levels of indentation", "parser stack overflow", "maximum recursion depth exceeded")
+LIMITS = ("too many nested parenthes", "too many levels of indentation", "parser stack overflow", "maximum recursion depth exceeded")
 NUMBERS = ("invalid decimal literal", "invalid hexadecimal literal", "invalid octal literal", "invalid binary literal",
            "invalid imaginary literal")
 
 Fault = collections.namedtuple("Fault", "row column text rule")
-Result = collections.namedtuple("Result", "name data found parts seconds")
+Result = collections.namedtuple("Result", "name data found parts seconds has_fstring", defaults=(False,))
 
 
 # --- the two programs -------------------------------------------------------------------------------------------------
@@ -135,14 +138,12 @@ def own_fault(token):
         reason = reason_of(token.type, token.string)
         if reason in LEFT_OUT:
             return LEFT_OUT[reason]
+    if is_formatted(token):
+        return left_out(token.string)
     if token.type == tokenize.STRING and "b" in re.match(r"\w*", token.string)[0].lower() and "r" not in token.string[:2].lower():
         if any(OCTAL_IN_BYTES.match(unit) for unit in UNIT.findall(token.string.encode())):
             return OCTAL, "bad escape"
-    if token.type == tokenize.NAME and not token.string.isascii():
-        form = unicodedata.normalize("NFKC", token.string)
-        if form != token.string and keyword.iskeyword(form):
-            return FORM, "name form"
-    return None
+    return (FORM, "name form") if is_other_keyword(token) else None
 
 
 def first_match(tree, data):
@@ -353,6 +354,12 @@ def parts_of_case(found, path, data):
         return list(parts_of(source.read()))
 
 
+def has_fstring(data):
+    """Whether Python's parser takes a source, and it has an f-string."""
+    tree, _ = python_tree(data)
+    return tree is not None and any(isinstance(node, ast.JoinedStr) for node in ast.walk(tree))
+
+
 def compare_case(program, case):
     """The comparison of one case: a path or bytes. Of what is refused for a form that is left out, the parts without one too."""
     name, path, data = case
@@ -366,7 +373,7 @@ def compare_case(program, case):
     if wrong:
         return Result(f"{name}, a part of it", wrong[0].encode(), UNEXPLAINED, len(parts), time.perf_counter() - started)
     kept = None if path and found != UNEXPLAINED else data
-    return Result(name, kept, found, len(parts), time.perf_counter() - started)
+    return Result(name, kept, found, len(parts), time.perf_counter() - started, bool(path) and has_fstring(data))
 
 
 # --- mutants ----------------------------------------------------------------------------------------------------------
@@ -475,6 +482,7 @@ def prepare(whole=False):
         if reason in LEFT_OUT:
             name, _ = LEFT_OUT.pop(reason)
             SAMPLES[SAME] = SAMPLES.pop(name) + SAMPLES[SAME]
+    SAMPLES.update(OF_FIELDS if whole else {})
     warnings.simplefilter("ignore")
     sys.setrecursionlimit(20_000)
 
@@ -487,6 +495,13 @@ def misplaced_samples(program):
             yield Result(f"the sample {source!r} of the class `{name}`, found in `{found}`", source, UNEXPLAINED, 0, 0)
 
 
+def show_fstrings(results):
+    """Prints how many files have f-strings, class by class."""
+    counts = collections.Counter(result.found for result in results if result.has_fstring)
+    shown = "".join(f", {count} of the class `{name}`" for name, count in counts.most_common())
+    print(f"\n{sum(counts.values())} files have f-strings{shown}.")
+
+
 def compare(options):
     """Compares all, prints what was found, and answers the exit status."""
     started = time.monotonic()
@@ -497,6 +512,7 @@ def compare(options):
     for number, failure in enumerate(failures):
         show_failure(options.program, failure, number < options.smallest)
     show_table(results, SAMPLES)
+    show_fstrings(results)
     parts = sum(result.parts for result in results)
     print(f"\nOf files with a form that is left out {parts} parts without one were compared.")
     print(f"{time.monotonic() - started:.0f} s in all; {sum(result.seconds for result in results):.0f} s summed over the jobs")

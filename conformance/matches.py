@@ -14,20 +14,17 @@ The exit status is 0 where every difference has a class, 1 where one has none, a
 """
 
 import ast
-import functools
-import io
 import random
 import sys
 import textwrap
-import time
-import tokenize
 
-from common import UNEXPLAINED, chosen_files, files_parser, go_on_with_python_311, outcome_of, results_of, short_name, show_end, show_table
-from dumps import SAME, SAMPLES, prepare, python_tree, read_language
-from unparse import Result, examine, python_text, show_brackets, show_failure
+from common import chosen_files, files_parser, go_on_with_python_311, short_name
+from dumps import python_tree, read_language
+from sources import changed, results_of_cases, show_results, show_versions, why_too_long
 
 NAMES = ("a", "b", "match", "case", "_", "__", "x1")
-LITERALS = ("0", "-1", "0x1f", "-1.5", "2j", "-2J", "1 + 2j", "-1.5 - 0j", "'k'", "'a' \"b\"", "b'c'", "u'd'", "None", "True", "False")
+LITERALS = ("0", "-1", "0x1f", "-1.5", "2j", "-2J", "1 + 2j", "-1.5 - 0j", "'k'", "'a' \"b\"", "b'c'", "u'd'", "None", "True", "False",
+            "f'e{f!r:>{g}}'", "u'' f'{h}' 'i'")
 SUBJECTS = ("x", "x, y", "x,", "*x, y", "(x)", "-x", "(yield)", "x := 1", "f(x)[1:2]", "lambda: x", "x if y else z", "(x, *y)", "[]", "match", "not x")
 SUITES = (" pass", " y; z", "\n  y")
 GUARDS = ("", "", " if x", " if y := x", " if (x, y)", " if lambda: x", " if not x")
@@ -121,41 +118,7 @@ def random_match(seed, number):
     return f"match {chance.choice(SUBJECTS)}:\n{''.join(cases)}".encode()
 
 
-def changed(source, seed, number):
-    """A source with one token of its first lines changed, taken away or doubled."""
-    chance = random.Random(f"changed {seed}-{number}")
-    try:
-        tokens = [token for token in tokenize.tokenize(io.BytesIO(source).readline) if token.string.strip() and token.type != tokenize.ENCODING]
-    except (tokenize.TokenError, SyntaxError):
-        return source
-    (row, start), (_, end) = (token := chance.choice(tokens[:60])).start, token.end
-    lines = source.decode().splitlines(keepends=True)
-    new = chance.choice(("", f"{token.string} {token.string}", chance.choice(OTHERS), f"{token.string} {chance.choice(OTHERS)}"))
-    if token.start[0] == token.end[0]:
-        lines[row - 1] = f"{lines[row - 1][:start]}{new}{lines[row - 1][end:]}"
-    return "".join(lines).encode()
-
-
 # --- the run ----------------------------------------------------------------------------------------------------------
-
-
-def count_of_tokens(text):
-    """How many tokens a text has."""
-    return sum(bool(token.string.strip()) for token in tokenize.tokenize(io.BytesIO(text).readline))
-
-
-def compare_case(program, case):
-    """The comparison of one source."""
-    name, data = case
-    started = time.perf_counter()
-    finding = examine(program, data)
-    if finding.found == SAME:
-        tree, _ = python_tree(data)
-        other = python_text(tree) if tree is not None else None
-        mine = outcome_of(program, ["unparse"], data).out
-        if other is not None and count_of_tokens(mine) > count_of_tokens(other):
-            finding = finding._replace(found=None, why=f"more tokens than ast.unparse writes: {mine!r}")
-    return Result(name, data, finding.found or UNEXPLAINED, finding.why, 0, time.perf_counter() - started, finding.brackets)
 
 
 def all_cases(options):
@@ -163,7 +126,7 @@ def all_cases(options):
     found = [case for path in chosen_files(options) for case in of_file(path)]
     made = [(f"random match {number} of seed {options.seed}", random_match(options.seed, number)) for number in range(options.random)]
     bases = (found + made) or [("a row", b"match x:\n case a: pass\n")]
-    mutants = [(f"{name}, changed", changed(source, options.seed, number))
+    mutants = [(f"{name}, changed", changed(source, OTHERS, options.seed, number))
                for number, (name, source) in enumerate(random.Random(options.seed).choices(bases, k=options.mutate))]
     print(f"{len(found)} match statements of files, {len(made)} made by chance, {len(mutants)} changed", flush=True)
     return found + made + mutants
@@ -171,15 +134,8 @@ def all_cases(options):
 
 def compare(options):
     """Compares all, prints what was found, and answers the exit status."""
-    print(f"pyast: {' '.join(options.program)}\nast: Python {sys.version.split()[0]}")
-    cases = all_cases(options)
-    results = results_of(functools.partial(compare_case, options.program), len(cases), cases, options.jobs, functools.partial(prepare, True))
-    failures = sorted((one for one in results if one.found == UNEXPLAINED), key=lambda one: one.name)
-    for number, failure in enumerate(failures):
-        show_failure(options.program, failure, number < options.smallest)
-    show_table(results, SAMPLES)
-    show_brackets(results)
-    return show_end(failures)
+    show_versions(options)
+    return show_results(options, results_of_cases(options, all_cases(options), why_too_long), why_too_long)
 
 
 def main():

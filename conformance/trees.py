@@ -1,6 +1,6 @@
 """Trees of Python 3.11 made by chance, and for each a source that is surely its: every expression in it has brackets of its own.
 
-All classes of nodes and all their fields occur but those of what pyast leaves out: f-strings; and without `--whole` floats, complex numbers
+All classes of nodes and all their fields occur but those of what pyast leaves out: without `--whole` floats, complex numbers, f-strings
 and `match`. Where a maker is told so, there are the types of Python 3.12 too: the statement `type`, and parameters of types; or the whole
 language.
 """
@@ -17,6 +17,8 @@ NAMES = ["a", "b", "c", "x", "y", "f", "self", "match", "case", "type", "_", "gr
 PIECES = ["a", "i", "f", "s", "n", "o", "t", "_", "\u00e9", "\u0436", "\u4e2d", "\u00b7"]
 NUMBERS = [0, 1, 2, 10, 255, 2**63, 2**64 - 1, 2**64, 2**128 - 1]
 TEXTS = ["", "a", "it's", '"', "'\"", "a\nb", "\t\\", "\0\x7f\x85", "\u00e9", "\u4e2d", "\ud800", "\U0001f600", "{x}"]
+# Texts that need no escape, as they may stand in a field of an f-string.
+BARE_TEXTS = ["", "a", "a b", "{x}", "#", "%"]
 BINARY = {ast.Add: "+", ast.Sub: "-", ast.Mult: "*", ast.MatMult: "@", ast.Div: "/", ast.Mod: "%", ast.Pow: "**", ast.LShift: "<<",
           ast.RShift: ">>", ast.BitOr: "|", ast.BitXor: "^", ast.BitAnd: "&", ast.FloorDiv: "//"}
 UNARY = {ast.Invert: "~", ast.Not: "not ", ast.UAdd: "+", ast.USub: "-"}
@@ -47,6 +49,8 @@ class Maker:
         self.chance = chance
         self.types = types
         self.whole = whole
+        # In how many fields of f-strings stands what is made.
+        self.fields = 0
 
     def one_of(self, things):
         """One of some things."""
@@ -71,7 +75,7 @@ class Maker:
         leaves = [self.name, self.name, self.constant]
         inner = [self.bool_op, self.named, self.bin_op, self.unary_op, self.lambda_, self.if_exp, self.dict_, self.set_, self.list_comp,
                  self.set_comp, self.dict_comp, self.generator, self.await_, self.yield_, self.yield_from, self.compare, self.call,
-                 self.attribute, self.subscript, self.list_, self.tuple_, self.constant]
+                 self.attribute, self.subscript, self.list_, self.tuple_, self.constant] + [self.joined] * (self.whole and self.fields < 2)
         return self.one_of(inner if depth > 0 else leaves)(depth - 1)
 
     def element(self, depth):
@@ -117,7 +121,16 @@ class Maker:
         found = chr(self.chance.randrange(0x110000))
         return self.one_of(TEXTS) if self.chance.randrange(3) or unicodedata.category(found) == "Cn" else found
 
+    def bare_constant(self):
+        """A constant as it may stand in a field: in two fields none is in quotes."""
+        if self.fields == 2 or self.is_rare():
+            return ast.Constant(self.number())
+        text = self.one_of(BARE_TEXTS)
+        return self.one_of((ast.Constant(text), ast.Constant(text, "u"), ast.Constant(text.encode())))
+
     def constant(self, _):
+        if self.fields:
+            return self.bare_constant()
         kind = self.chance.randrange(6)
         if kind == 0:
             return ast.Constant(self.one_of([None, True, False, ...]))
@@ -128,6 +141,32 @@ class Maker:
         if kind == 3:
             return ast.Constant(self.number())
         return ast.Constant("".join(self.some(0, 3, self.text)) if kind == 4 else self.chance.randrange(100))
+
+    def joined(self, depth):
+        """An f-string."""
+        return ast.JoinedStr(self.pieces(depth, self.one_of((None, None, "u")), 0))
+
+    def pieces(self, depth, kind, level):
+        """The values of an f-string, or of a format spec at a level."""
+        made = []
+        for _ in range(self.chance.randrange(3) if level < 2 else 0):
+            made += [*self.piece(kind, level), self.field(depth, kind, level)]
+        return made + self.piece(None if level else kind, level)
+
+    def piece(self, kind, level):
+        """A text of an f-string, or none."""
+        text = "".join(self.some(0, 2, self.one_of, BARE_TEXTS)) if self.fields else "".join(self.some(0, 2, self.text))
+        if self.fields and level:
+            text = text.replace("{x}", "")
+        return [ast.Constant(text, kind)] if text else []
+
+    def field(self, depth, kind, level):
+        """A field of an f-string."""
+        self.fields += 1
+        value = self.expr(depth)
+        self.fields -= 1
+        spec = ast.JoinedStr(self.pieces(depth - 1, kind, level + 1)) if self.is_rare() else None
+        return ast.FormattedValue(value, self.one_of((-1, -1, *map(ord, "sra"))), spec)
 
     def bool_op(self, depth):
         return ast.BoolOp(self.one_of(BOOLEAN)(), self.some(2, 3, self.expr, depth))
@@ -339,7 +378,7 @@ class Maker:
         real = ast.Constant(self.one_of((self.double(), self.chance.randrange(1000))))
         real = ast.UnaryOp(ast.USub(), real) if self.chance.randrange(2) else real
         total = ast.BinOp(real, self.one_of((ast.Add, ast.Sub))(), ast.Constant(complex(0, self.double())))
-        return self.one_of((real, total, ast.Constant(self.number()), ast.Constant("".join(self.some(0, 3, self.text))),
+        return self.one_of((real, total, self.joined(1), ast.Constant(self.number()), ast.Constant("".join(self.some(0, 3, self.text))),
                             ast.Constant(bytes(self.some(0, 4, self.chance.randrange, 256)))))
 
     def part(self, names):
@@ -451,6 +490,27 @@ def literal(value):
     return ascii(value).replace("inf", "1e309") if isinstance(value, (float, complex)) else ascii(value)
 
 
+def has_kind(values):
+    """Whether a text of an f-string, or of its format specs, is of the kind `u`."""
+    return any(value.kind == "u" if isinstance(value, ast.Constant) else value.format_spec and has_kind(value.format_spec.values) for value in values)
+
+
+def formatted(values, level):
+    """The texts and fields of an f-string, or of a format spec at a level."""
+    made = ""
+    for value in values:
+        if isinstance(value, ast.FormattedValue):
+            # What stands in a field has no quotes but those of its literals.
+            conversion = "" if value.conversion == -1 else f"!{chr(value.conversion)}"
+            spec = "" if value.format_spec is None else f":{formatted(value.format_spec.values, level + 1)}"
+            made += "{" + bracketed(value.value).replace("'", '"') + conversion + spec + "}"
+        else:
+            # A text with a double quote is shown in single ones.
+            text = ascii('"' + value.value)[2:-1]
+            made += text.replace("{", "\\x7b").replace("}", "\\x7d") if level else text.replace("{", "{{").replace("}", "}}")
+    return made
+
+
 def bare(node):
     """An expression without brackets round it."""
     match node:
@@ -479,6 +539,8 @@ def bare(node):
             return f"{bracketed(node.func)}({given(node.args, node.keywords)})"
         case ast.Constant():
             return (node.kind or "") + literal(node.value)
+        case ast.JoinedStr():
+            return "u'' " * has_kind(node.values) + f"f'{formatted(node.values, 0)}'"
         case ast.Attribute():
             return f"{bracketed(node.value)}.{node.attr}"
         case ast.Subscript():

@@ -30,6 +30,7 @@ from common import (UNEXPLAINED, Outcome, chosen_files, files_parser, go_on_with
                     short_name, show_end, show_table, smallest)
 from dumps import (LIMIT, NAMES, NEWER, SAME, SAMPLES, as_escapes, class_of_acceptance, class_of_outcome, differing_parts, mutants,
                    parts_of_case, prepare, python_dump, python_tree, read_language)
+from formatted import all_tokens
 from rows import ROWS
 from trees import random_source
 
@@ -47,9 +48,8 @@ Result = collections.namedtuple("Result", "name data found why parts seconds bra
 
 
 def opening_brackets(text):
-    """How many opening brackets are among the tokens of a text."""
-    tokens = tokenize.tokenize(io.BytesIO(text).readline)
-    return sum(token.type == tokenize.OP and token.string in "([{" for token in tokens)
+    """How many opening brackets are among the tokens of a text, those of fields of f-strings with them."""
+    return sum(token.type == tokenize.OP and token.string in "([{" for token in all_tokens(text))
 
 
 def python_text(tree):
@@ -92,10 +92,10 @@ def coming_back(program, words, dumped, mine):
     return "the text's own text is another" if outcome_of(program, ["unparse", *words], mine.out) != mine else None
 
 
-def examine(program, data):
-    """The finding of a source."""
+def examine(program, data, styles=PLAIN):
+    """The finding of a source, whose dump is compared in some styles of which the plain one is the first."""
     dumped, mine = (outcome_of(program, [command], data) for command in ("dump", "unparse"))
-    found = class_of_outcome(program, data, dumped, PLAIN)
+    found = class_of_outcome(program, data, dumped, styles)
     if found is None:
         return Finding(None, "dump differs from ast.dump")
     if dumped.status != 0:
@@ -182,13 +182,13 @@ def random_sources(count, seed, whole):
         yield f"random tree {number} of seed {seed}", None, source
 
 
-def show_failure(program, result, reduce):
-    """Prints a difference without class, on its smallest input unless told not to look for it."""
+def show_failure(program, result, reduce, find=examine):
+    """Prints a difference without class, on its smallest input unless told not to look for it; a function finds the difference again."""
     print(f"\n{UNEXPLAINED}: {result.name}: {result.why}")
     if not reduce or result.data is None:
         return
-    data = smallest(result.data, lambda source: examine(program, source).found is None)
-    print(f"  smallest input: {data!r}: {examine(program, data).why}")
+    data = smallest(result.data, lambda source: find(program, source).found is None)
+    print(f"  smallest input: {data!r}: {find(program, data).why}")
     mine = outcome_of(program, ["unparse"], data)
     sources = {"source": data, "text": mine.out} if mine.status == 0 else {"source": data}
     print(f"  pyast unparse           status {mine.status}: {mine.out or mine.err!r}")
