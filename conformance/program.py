@@ -1,6 +1,6 @@
 #!/usr/bin/env python3
 """Runs the built program where no contract can say what has to hold: its words, files, statuses and lines of faults, as a shell sees them; how
-it reads and writes; that memory, and 4 MB of stack, suffice past every round number.
+it reads and writes; that memory, and 4 MB of stack (6 for f-strings), suffice past every round number.
 
     conformance/program.py [--program PATH]
 
@@ -19,8 +19,6 @@ import time
 
 from common import PROGRAM, run
 
-# The stack within which the deepest sources are accepted, in bytes.
-STACK = 4 << 20
 # The memory within which a source of any length is listed, in bytes, the program and the C library with it.
 MEMORY = 12 << 20
 # The seconds within which an answer has to come that waits for nothing.
@@ -214,8 +212,13 @@ def within(levels, line):
     return "".join(" " * level + "if x:\n" for level in range(levels)) + " " * levels + line + "\n"
 
 
+def in_fields(most, within):
+    """600 brackets, 599 in a field within them, and so many in a field of that, with something within."""
+    return "(" * 600 + "f'{" + "(" * 599 + 'f"{' + "(" * most + within + ")" * most + '}"' + ")" * 599 + "}'" + ")" * 600
+
+
 def check_stack(checks):
-    """4 MB of stack suffice for the deepest sources, and for those that are too deep by one."""
+    """4 MB of stack suffice for the deepest sources, 6 with fields of f-strings, and for those that are too deep by one."""
     deepest = {
         "brackets": ("(" * 600 + "x" + ")" * 600 + "\n", "(" * 601 + "x" + ")" * 601 + "\n"),
         "yields": ("[(yield " * 249 + "x" + ")]" * 249 + "\n", "[(yield " * 251 + "x" + ")]" * 251 + "\n"),
@@ -226,14 +229,25 @@ def check_stack(checks):
         "statements": (within(499, "pass"), within(500, "pass")),
         "lambdas in statements": (within(499, "lambda: " * 498 + "x"), within(499, "lambda: " * 500 + "x")),
     }
-    stack = lambda: resource.setrlimit(resource.RLIMIT_STACK, (STACK, STACK))
-    for name, (accepted, refused) in deepest.items():
+    in_field = {
+        "brackets in fields": (in_fields(599, "x") + "\n", in_fields(600, "x") + "\n"),
+        "lambdas in fields": (within(499, in_fields(599, "lambda: " * 495 + "x")), within(499, in_fields(599, "lambda: " * 496 + "x"))),
+    }
+    check_stack_of(checks, deepest, 4, [])
+    check_stack_of(checks, in_field, 6, ["--whole"])
+
+
+def check_stack_of(checks, sources, megabytes, words):
+    """So much stack suffices for each pair of an accepted source and one that is too deep by one, by `dump` and `unparse` with these words."""
+    size = megabytes << 20
+    stack = lambda: resource.setrlimit(resource.RLIMIT_STACK, (size, size))
+    for name, (accepted, refused) in sources.items():
         for command in ("dump", "unparse"):
             for source, status in ((accepted, 0), (refused, 1)):
-                outcome = run([checks.program, command], input=source.encode(), preexec_fn=stack)
-                checks.is_due(f"{command} of {name}, in 4 MB of stack", outcome.status, status)
+                outcome = run([checks.program, command, *words], input=source.encode(), preexec_fn=stack)
+                checks.is_due(f"{command} of {name}, in {megabytes} MB of stack", outcome.status, status)
         outcome = run([checks.program, "tokens"], input=refused.encode(), preexec_fn=stack)
-        checks.is_due(f"tokens of {name}, in 4 MB of stack", outcome.status, 0)
+        checks.is_due(f"tokens of {name}, in {megabytes} MB of stack", outcome.status, 0)
 
 
 def main():
