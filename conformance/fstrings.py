@@ -70,6 +70,17 @@ class Writer(ast._Unparser):  # pylint: disable=protected-access
         is_number = isinstance(node.value, ast.Constant) and type(node.value.value) in (int, float, complex)
         self.write(" ." if is_number else ".", node.attr)
 
+    def visit_Subscript(self, node):
+        """One starred element in an index has no comma behind it."""
+        elts = node.slice.elts if isinstance(node.slice, ast.Tuple) else ()
+        if len(elts) != 1 or not isinstance(elts[0], ast.Starred):
+            super().visit_Subscript(node)
+            return
+        self.set_precedence(ast._Precedence.ATOM, node.value)
+        self.traverse(node.value)
+        with self.delimit("[", "]"):
+            self.traverse(elts[0])
+
     def _write_constant(self, value):
         if self.fields and isinstance(value, (str, bytes)):
             characters = value if isinstance(value, str) else value.decode("ascii")

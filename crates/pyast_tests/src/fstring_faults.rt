@@ -174,22 +174,26 @@ fn trees_in_other_styles(rt: HostRuntime) -> Result<(), Fail> {
     does_all(&rt, rt.alloc(), rows)
 }
 
+/// What ends a field, its f-string and the line.
+const END: Piece<'_> = ("}'\n", 1);
+
+/// What is reported of an expression that is too high.
+const DEEP: &str = "1:0: error: too deep";
+
 /// The nodes of an f-string and the fields in one another are counted as expressions, and the
 /// brackets of a field for themselves.
 #[test]
 fn limits(rt: HostRuntime) -> Result<(), Fail> {
-    let end = ("}'\n", 1);
-    let deep = "1:0: error: too deep";
     let rows: &[(&[Piece<'_>], &str)] = &[
-        (&[("f'{", 1), ("-", 497), ("x", 1), end], ""),
-        (&[("f'{", 1), ("-", 498), ("x", 1), end], deep),
-        (&[("f'{x:{", 1), ("-", 495), ("y}", 1), end], ""),
-        (&[("f'{x:{", 1), ("-", 496), ("y}", 1), end], deep),
-        (&[("f'{f\"{", 1), ("-", 495), ("x}\"", 1), end], ""),
-        (&[("f'{f\"{", 1), ("-", 496), ("x}\"", 1), end], deep),
-        (&[("f'{", 1), ("(", 599), ("x", 1), (")", 599), end], ""),
+        (&[("f'{", 1), ("-", 497), ("x", 1), END], ""),
+        (&[("f'{", 1), ("-", 498), ("x", 1), END], DEEP),
+        (&[("f'{x:{", 1), ("-", 495), ("y}", 1), END], ""),
+        (&[("f'{x:{", 1), ("-", 496), ("y}", 1), END], DEEP),
+        (&[("f'{f\"{", 1), ("-", 495), ("x}\"", 1), END], ""),
+        (&[("f'{f\"{", 1), ("-", 496), ("x}\"", 1), END], DEEP),
+        (&[("f'{", 1), ("(", 599), ("x", 1), (")", 599), END], ""),
         (
-            &[("f'{", 1), ("(", 600), ("x", 1), (")", 600), end],
+            &[("f'{", 1), ("(", 600), ("x", 1), (")", 600), END],
             FORMATTED,
         ),
         (

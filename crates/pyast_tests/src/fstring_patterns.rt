@@ -103,24 +103,30 @@ fn patterns_without_a_form(rt: HostRuntime) -> Result<(), Fail> {
     Ok(())
 }
 
+/// What begins an f-string and its field.
+const START: Piece<'_> = ("f'{", 1);
+
+/// What ends a field, its f-string and the pattern.
+const END: Piece<'_> = ("}': pass\n", 1);
+
+/// What is reported of an f-string that is malformed.
+const MALFORMED: &str = "2:6: error: f-string";
+
 #[test]
 fn limits_of_patterns(rt: HostRuntime) -> Result<(), Fail> {
-    let start = ("f'{", 1);
-    let end = ("}': pass\n", 1);
-    let malformed = "2:6: error: f-string";
     let rows: &[(&[Piece<'_>], &str)] = &[
-        (&[CASE, start, ("-", 496), ("y", 1), end], ""),
+        (&[CASE, START, ("-", 496), ("y", 1), END], ""),
         (
-            &[CASE, start, ("-", 497), ("y", 1), end],
+            &[CASE, START, ("-", 497), ("y", 1), END],
             "2:1: error: too deep",
         ),
-        (&[CASE, start, ("(", 599), ("y", 1), (")", 599), end], ""),
+        (&[CASE, START, ("(", 599), ("y", 1), (")", 599), END], ""),
         (
-            &[CASE, start, ("(", 600), ("y", 1), (")", 600), end],
-            malformed,
+            &[CASE, START, ("(", 600), ("y", 1), (")", 600), END],
+            MALFORMED,
         ),
-        (&[CASE, ("f'", 1), end], malformed),
-        (&[CASE, ("f'''{\"it's\"}''': pass\n", 1)], malformed),
+        (&[CASE, ("f'", 1), END], MALFORMED),
+        (&[CASE, ("f'''{\"it's\"}''': pass\n", 1)], MALFORMED),
     ];
     meets_all(&rt, rt.alloc(), "dump --whole", rows)
 }
