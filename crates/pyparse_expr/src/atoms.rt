@@ -70,11 +70,13 @@ fn atom_of(
 {
     match t {
         Terminal::Ident(name) => make_name(alloc, name, Context::Load, next),
+        Terminal::Op(Exact::LPar) => round(alloc, tokens, next, depth),
         _ => other_atom(alloc, tokens, t, next, depth),
     }
 }
 
-/// The same, kept apart from the many names.
+/// The same, kept apart from names, of which there are many, and from `(`, which nests deepest:
+/// their frames on the stack are small.
 #[cycle(reading)]
 #[inline(never)]
 fn other_atom(
@@ -173,6 +175,7 @@ pub(crate) fn round(
 
 /// A tuple in round brackets, from the comma after its first element on.
 #[cycle(reading)]
+#[inline(never)]
 fn group_tuple(alloc: Global, tokens: &[Terminal], first: Read, depth: Depth) -> Result<Read, Stop>
     requires open { IsOpen depth }
     requires low { first.height ≤ depth.room }
@@ -195,6 +198,7 @@ fn group_tuple(alloc: Global, tokens: &[Terminal], first: Read, depth: Depth) ->
 
 /// A generator expression in round brackets, after its element.
 #[cycle(reading)]
+#[inline(never)]
 fn generator_group(
     alloc: Global,
     tokens: &[Terminal],
@@ -255,6 +259,7 @@ fn square(alloc: Global, tokens: &[Terminal], at: usize, depth: Depth) -> Result
 
 /// A list comprehension, after its element.
 #[cycle(reading)]
+#[inline(never)]
 fn list_comp(alloc: Global, tokens: &[Terminal], first: Read, depth: Depth) -> Result<Read, Stop>
     requires within { first.next ≤ length tokens.now }
     requires open { IsOpen depth }

@@ -50,6 +50,7 @@ pub(crate) fn read_primary(
 }
 
 /// An attribute, from its dot on.
+#[inline(never)]
 fn attribute_step(alloc: Global, tokens: &[Terminal], e: Read, depth: Depth) -> Result<Read, Stop>
     requires within { e.next < length tokens.now }
     ensures { Answered tokens.now depth.room (e.next + 1)

@@ -340,6 +340,7 @@ fn read_parameter(
 
 /// Parameters with commas between them, with annotations or without.
 #[cycle(reading)]
+#[inline(never)]
 pub(crate) fn parameters(
     alloc: Global,
     tokens: &[Terminal],

@@ -16,6 +16,7 @@ use std::alloc::Global;
 
 /// A tuple, of elements of this height.
 #[tactic(auto, using(pytree_node::proofs::Callers::ExprShapes::expr_shapes))]
+#[inline(never)]
 pub fn make_tuple(
     alloc: Global,
     elts: Vec<Expr>,
@@ -40,6 +41,7 @@ pub fn make_tuple(
 
 /// A list, of elements of this height.
 #[tactic(auto, using(pytree_node::proofs::Callers::ExprShapes::expr_shapes))]
+#[inline(never)]
 pub fn make_list(
     alloc: Global,
     elts: Vec<Expr>,
@@ -223,6 +225,7 @@ pub fn make_dict_comp(
 
 /// A lambda, of parameters of this height.
 #[tactic(auto, using(pytree_node::proofs::Callers::ExprShapes::expr_shapes))]
+#[inline(never)]
 pub fn make_lambda(
     alloc: Global,
     args: Arguments,
@@ -249,6 +252,7 @@ pub fn make_lambda(
 
 /// A `yield`, of a value of this height.
 #[tactic(auto, using(pytree_node::proofs::Callers::ExprShapes::expr_shapes))]
+#[inline(never)]
 pub fn make_yield(
     alloc: Global,
     value: Option<Box<Expr>>,

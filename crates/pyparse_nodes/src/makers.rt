@@ -73,7 +73,7 @@ pub fn make_number(alloc: Global, number: NumberText, next: usize) -> Result<Rea
 
 /// A name.
 #[tactic(auto, using(pytree_node::proofs::Callers::ExprShapes::expr_shapes))]
-#[inline(always)]
+#[inline(never)]
 pub fn make_name(alloc: Global, name: &str, ctx: Context, next: usize) -> Result<Read, Stop>
     ensures { MatchResult result (λ r. Made 1 (plain.Name (nfkc (chars name.now)) ctx) next r)
         (λ s. s ≡ Stop.Memory) }
@@ -144,6 +144,7 @@ pub fn make_await(alloc: Global, e: Read, room: usize) -> Result<Read, Stop>
 
 /// A starred expression.
 #[tactic(auto, using(pytree_node::proofs::Callers::ExprShapes::expr_shapes))]
+#[inline(never)]
 pub fn make_starred(alloc: Global, e: Read, room: usize) -> Result<Read, Stop>
     ensures { Makes room (plain.Starred (tree_of e.expr.value) Context.Load) e.next result }
 {
@@ -192,6 +193,7 @@ pub fn make_yield_from(alloc: Global, e: Read, room: usize) -> Result<Read, Stop
 
 /// A conditional.
 #[tactic(auto, using(pytree_node::proofs::Callers::ExprShapes::expr_shapes))]
+#[inline(never)]
 pub fn make_if(
     alloc: Global,
     test: Read,
@@ -218,6 +220,7 @@ pub fn make_if(
 
 /// An assignment expression.
 #[tactic(auto, using(pytree_node::proofs::Callers::ExprShapes::expr_shapes))]
+#[inline(never)]
 pub fn make_named(alloc: Global, target: Read, value: Read, room: usize) -> Result<Read, Stop>
     ensures { Makes room
         (plain.NamedExpr (tree_of target.expr.value) (tree_of value.expr.value)) value.next result }

@@ -289,6 +289,7 @@ fn node_of(formal: Formal) -> Arguments
 }
 
 /// The node of the parameters, if they may end here.
+#[inline(never)]
 pub fn arranged(formal: Formal) -> Result<Arguments, Stop>
     ensures { MatchResult result
         (λ a. formals.outcome (state_of formal) ≡ Some (arguments_of a))
