@@ -30,7 +30,8 @@ use Rattle.pytoken.specs.declared.faults.TokenError.{TokenError}
 use Rattle.pytoken.specs.declared.refusals.Refusal.{Refusal}
 use Rattle.pytoken.specs.declared.refusals.Refusal.TheVariants as refusals
 use Rattle.pytoken.specs.Indentation.{Margin, margins, is_mixed}
-use Rattle.pytoken.specs.Refusals.{most_brackets, opens_too_many, entry_refusal, first_entry_refusal, bracket_refusal, first_too_deep, margin_refusal, first_mixed, refusal_of, refusal_at, refusal}
+use Rattle.pytoken.specs.Refusals.{most_brackets, opens_too_many, entry_refusal, first_entry_refusal, bracket_refusal, first_too_deep}
+use Rattle.pytoken.specs.Refusals.{margin_refusal, first_mixed, refusal_of, refusal_at, refusal}
 use Rattle.pytoken.specs.Terminals.{fault_of}
 use Rattle.pytoken.specs.Tokens.{text_of}
 use Rattle.pytree_node.specs.declared.profiles.Extent.{Extent}
@@ -79,29 +80,36 @@ entry_own extent text e = by_fault (fault_of extent e.kind (text_of text e))
 
 entries_own : (extent : Extent) (text : List ℕ) (es : List Entry) → IsOwn (first_entry_refusal extent text es)
 entries_own extent text [] = tt
-entries_own extent text (e ∷ es) = or_own (entry_refusal extent text e) (first_entry_refusal extent text es) (entry_own extent text e) (entries_own extent text es)
+entries_own extent text (e ∷ es) = or_own (entry_refusal extent text e) (first_entry_refusal extent text es) (entry_own extent text e)
+    (entries_own extent text es)
 
 brackets_own : (most : ℕ) (before es : List Entry) → IsOwn (first_too_deep most before es)
 brackets_own most before [] = tt
 brackets_own most before (e ∷ es) =
-    or_own (bracket_refusal most before e) (first_too_deep most (e ∷ before) es) (if_own (opens_too_many most before e) (Some (refusals.TooDeep e.start)) tt) (brackets_own most (e ∷ before) es)
+    or_own (bracket_refusal most before e) (first_too_deep most (e ∷ before) es)
+        (if_own (opens_too_many most before e) (Some (refusals.TooDeep e.start)) tt) (brackets_own most (e ∷ before) es)
 
 margins_own : (earlier ms : List Margin) → IsOwn (first_mixed earlier ms)
 margins_own earlier [] = tt
-margins_own earlier (m ∷ ms) = or_own (margin_refusal earlier m) (first_mixed (m ∷ earlier) ms) (if_own (is_mixed earlier m) (Some (refusals.MixedTabs m.start)) tt) (margins_own (m ∷ earlier) ms)
+margins_own earlier (m ∷ ms) = or_own (margin_refusal earlier m) (first_mixed (m ∷ earlier) ms)
+    (if_own (is_mixed earlier m) (Some (refusals.MixedTabs m.start)) tt) (margins_own (m ∷ earlier) ms)
 
 tokens_own : (extent : Extent) (most : ℕ) (text : List ℕ) (es : List Entry) → IsOwn (refusal_of extent most text es)
 tokens_own extent most text es =
-    or_own (first_entry_refusal extent text es) (option_or (first_too_deep most [] es) (first_mixed [] (margins text es))) (entries_own extent text es)
+    or_own (first_entry_refusal extent text es) (option_or (first_too_deep most [] es) (first_mixed [] (margins text es)))
+        (entries_own extent text es)
     (or_own (first_too_deep most [] es) (first_mixed [] (margins text es)) (brackets_own most [] es) (margins_own [] (margins text es)))
 
 -- a refusal by the listing's fault is by the fault that the listing has
-listing_refusal : (extent : Extent) (s : Source) (f : ListingFault) → refusal extent s ≡ Some (refusals.Listing f) → listing_fault (listing s) ≡ Some f
+listing_refusal : (extent : Extent) (s : Source) (f : ListingFault) → refusal extent s ≡ Some (refusals.Listing f)
+    → listing_fault (listing s) ≡ Some f
 unfolding refusal_at
 listing_refusal extent s f h =
-    by_fault (listing_fault (listing s)) (refusal_of extent most_brackets s.text (entries_of (listing s))) (tokens_own extent most_brackets s.text (entries_of (listing s))) h
+    by_fault (listing_fault (listing s)) (refusal_of extent most_brackets s.text (entries_of (listing s)))
+        (tokens_own extent most_brackets s.text (entries_of (listing s))) h
   where
-    by_fault : (o : Option ListingFault) (r : Option Refusal) → IsOwn r → ◌≡◌ {A = Option Refusal} (elim o [ Some g ↦ Some (refusals.Listing g) | None ↦ r ]) (Some (refusals.Listing f)) → o ≡ Some f
+    by_fault : (o : Option ListingFault) (r : Option Refusal) → IsOwn r
+        → ◌≡◌ {A = Option Refusal} (elim o [ Some g ↦ Some (refusals.Listing g) | None ↦ r ]) (Some (refusals.Listing f)) → o ≡ Some f
     by_fault (Some g) r own e = cc
     by_fault None r own e = absurd (subst IsOwn e own)
 
@@ -109,11 +117,13 @@ tokens_refused : (profile : Profile) (s : Source) (r : Refusal) → Refused prof
 tokens_refused profile s r (by_tokens h) = h
 
 -- what is not a line that could not be read whole is told at its place
-told_in_source : (profile : Profile) (bytes : List ℕ) (f : ListingFault) → is_unread_code f.code ≡ false → IsRefused profile bytes (told_at (listing_code f.code) f.place)
+told_in_source : (profile : Profile) (bytes : List ℕ) (f : ListingFault) → is_unread_code f.code ≡ false
+    → IsRefused profile bytes (told_at (listing_code f.code) f.place)
     → Refuses profile bytes (told_at (listing_code f.code) f.place)
 told_in_source profile bytes f read h = by_code f.code read h
   where
-    by_code : (e : ListingError) → is_unread_code e ≡ false → IsRefused profile bytes (told_at (listing_code e) f.place) → Refuses profile bytes (told_at (listing_code e) f.place)
+    by_code : (e : ListingError) → is_unread_code e ≡ false → IsRefused profile bytes (told_at (listing_code e) f.place)
+        → Refuses profile bytes (told_at (listing_code e) f.place)
     by_code (errors.Line line_errors.NotUtf8) u k = k
     by_code (errors.Line line_errors.NotAscii) u k = k
     by_code (errors.Line line_errors.LoneReturn) u k = k
@@ -125,32 +135,39 @@ told_in_source profile bytes f read h = by_code f.code read h
     by_code errors.UnindentMismatch u k = k
     by_code errors.UnmatchedCloser u k = k
 
-refused_tokens : (profile : Profile) (bytes : List ℕ) (p : Parts) (r : Refusal) → source_of bytes ≡ Ok p → Refused profile (in_characters p) (in_tokens r) → Refuses profile bytes (of_refusal r)
+refused_tokens : (profile : Profile) (bytes : List ℕ) (p : Parts) (r : Refusal) → source_of bytes ≡ Ok p
+    → Refused profile (in_characters p) (in_tokens r) → Refuses profile bytes (of_refusal r)
 refused_tokens profile bytes p (refusals.Listing f) is h =
-    told_in_source profile bytes f (listing_is_read bytes p f is (listing_refusal profile.extent (in_characters p) f (tokens_refused profile (in_characters p) (refusals.Listing f) h))) (refused is h)
+    told_in_source profile bytes f
+        (listing_is_read bytes p f is (listing_refusal profile.extent (in_characters p) f
+        (tokens_refused profile (in_characters p) (refusals.Listing f) h))) (refused is h)
 refused_tokens profile bytes p (refusals.Token error place) is h = refused is h
 refused_tokens profile bytes p (refusals.TooDeep place) is h = refused is h
 refused_tokens profile bytes p (refusals.MixedTabs place) is h = refused is h
 
 -- what is told of a source that is refused
-pub refused_by : (profile : Profile) (bytes : List ℕ) (p : Parts) (fault : ParseFault) → source_of bytes ≡ Ok p → parsing.Refuses profile (in_characters p) fault → Refuses profile bytes (of_parse fault)
+pub refused_by : (profile : Profile) (bytes : List ℕ) (p : Parts) (fault : ParseFault) → source_of bytes ≡ Ok p
+    → parsing.Refuses profile (in_characters p) fault → Refuses profile bytes (of_parse fault)
 refused_by profile bytes p (parse_faults.Refused r) is h = refused_tokens profile bytes p r is h
 refused_by profile bytes p (parse_faults.Grammar e place) is h = refused is h
 refused_by profile bytes p parse_faults.Memory is h = tt
 
 -- and of bytes that are none
-pub no_source_by : (profile : Profile) (bytes : List ℕ) (fault : SourceFault) → UnlessMemory {X = Parts} (Err fault) (source_of bytes) → Refuses profile bytes (of_source fault)
+pub no_source_by : (profile : Profile) (bytes : List ℕ) (fault : SourceFault) → UnlessMemory {X = Parts} (Err fault) (source_of bytes)
+    → Refuses profile bytes (of_source fault)
 no_source_by profile bytes (source_faults.UnsupportedEncoding place) is = no_source is
 no_source_by profile bytes (source_faults.BomConflict place) is = no_source is
 no_source_by profile bytes source_faults.Memory is = tt
 
 -- the text of a source is UTF-8
 text_utf8 : (named : Result Named SourceFault) (bytes : List ℕ) (p : Parts) → source_under named bytes ≡ Ok p → IsUtf8 p.text
-text_utf8 (Ok named) bytes p is = let same : parts_under named bytes ≡ p = cc in subst (λ (q : Parts). IsUtf8 q.text) same (good_utf8 named.charset (lines_of (without_mark bytes)))
+text_utf8 (Ok named) bytes p is = let same : parts_under named bytes ≡ p = cc in
+    subst (λ (q : Parts). IsUtf8 q.text) same (good_utf8 named.charset (lines_of (without_mark bytes)))
 text_utf8 (Err fault) bytes p is = cc
 
 -- the text of the module that a source is accepted as gives it back
-pub gives_back : (profile : Profile) (bytes : List ℕ) (p : Parts) (m : Module) → source_of bytes ≡ Ok p → IsLawful (in_characters p) → Accepted profile (in_characters p) m
+pub gives_back : (profile : Profile) (bytes : List ℕ) (p : Parts) (m : Module) → source_of bytes ≡ Ok p → IsLawful (in_characters p)
+    → Accepted profile (in_characters p) m
     → GivesBack profile (encode_utf8_all (module_text m)) m
 gives_back profile bytes p m is lawful accepted =
     let utf8 = text_utf8 (encoding_of (nth_line bytes 0) (nth_line bytes 1)) bytes p is in
@@ -167,8 +184,10 @@ reads_none profile seen_old seen_new input (Plain Memory) all h = all.unfailed
 reads_none profile seen_old seen_new input (Plain other) all h = absurd h
 
 -- where there is no module nothing is written
-pub none_written : (making : Making) (profile : Profile) (output : Module → List ℕ → Type 0) (seen_old seen_new : Seen) (x : Option (List ℕ)) (fault : Fault)
-    → ReadsNone profile seen_old seen_new fault → PerformsWhole making (Writes profile output) seen_old seen_new x x source_limit (Some fault)
+pub none_written : (making : Making) (profile : Profile) (output : Module → List ℕ → Type 0) (seen_old seen_new : Seen)
+    (x : Option (List ℕ)) (fault : Fault)
+    → ReadsNone profile seen_old seen_new fault → PerformsWhole making (Writes profile output) seen_old seen_new x x
+        source_limit (Some fault)
 none_written making profile output seen_old seen_new x (InSource code place) h = (h.0, h.1, of_none h.2, Appends-refl x)
 none_written whole profile output seen_old seen_new x (Plain Memory) h = (h, Appends-refl x)
 none_written in_pieces profile output seen_old seen_new x (Plain Memory) h = (h, inl (Appends-refl x))
@@ -176,7 +195,8 @@ none_written making profile output seen_old seen_new x (Plain Read) h = (h, Appe
 none_written making profile output seen_old seen_new x (Plain other) h = absurd h
 
 -- where a write fails a front of the output is, and else all of it
-module _ (making : Making) {profile : Profile} {output : Module → List ℕ → Type 0} {seen_old seen_new : Seen} {m : Module} (x y : Option (List ℕ)) (text : List ℕ) where
+module _ (making : Making) {profile : Profile} {output : Module → List ℕ → Type 0} {seen_old seen_new : Seen} {m : Module}
+    (x y : Option (List ℕ)) (text : List ℕ) where
   pub front_written : ReadsModule profile seen_old seen_new m → output m text → TakesFront x y text
       → PerformsWhole making (Writes profile output) seen_old seen_new x y source_limit (Some (Plain Write))
   front_written reads is front = (reads.input, text, reads.all, of_module reads.is is, front)
@@ -186,16 +206,19 @@ module _ (making : Making) {profile : Profile} {output : Module → List ℕ →
   all_written reads is all = (reads.input, text, reads.all, of_module reads.is is, all)
 
 -- where memory ends while the output is made in pieces, a front of it is written
-pub pieces_cut : (profile : Profile) (output : Module → List ℕ → Type 0) (seen_old seen_new : Seen) (m : Module) (x y : Option (List ℕ)) (text : List ℕ) (fault : Fault)
+pub pieces_cut : (profile : Profile) (output : Module → List ℕ → Type 0) (seen_old seen_new : Seen) (m : Module) (x y : Option (List ℕ))
+    (text : List ℕ) (fault : Fault)
     → ReadsModule profile seen_old seen_new m → output m text → WritesFor text None x y (Some fault)
     → PerformsWhole in_pieces (Writes profile output) seen_old seen_new x y source_limit (Some fault)
 pieces_cut profile output seen_old seen_new m x y text (InSource code place) reads is h = cc
 pieces_cut profile output seen_old seen_new m x y text (Plain Read) reads is h = cc
 pieces_cut profile output seen_old seen_new m x y text (Plain Write) reads is h = (reads.input, text, reads.all, of_module reads.is is, h)
-pieces_cut profile output seen_old seen_new m x y text (Plain Memory) reads is h = (reads.all.unfailed, inr (reads.input, text, reads.all, of_module reads.is is, h))
+pieces_cut profile output seen_old seen_new m x y text (Plain Memory) reads is h =
+    (reads.all.unfailed, inr (reads.input, text, reads.all, of_module reads.is is, h))
 pieces_cut profile output seen_old seen_new m x y text (Plain CursorOfAnotherSource) reads is h = cc
 pieces_cut profile output seen_old seen_new m x y text (Plain other) reads is h = absurd h
 
 -- the text of a module that its own text gives back
-pub is_text : {profile : Profile} {m : Module} {text : List ℕ} → text ≡ encode_utf8_all (module_text m) → GivesBack profile (encode_utf8_all (module_text m)) m → IsTextOf profile m text
+pub is_text : {profile : Profile} {m : Module} {text : List ℕ} → text ≡ encode_utf8_all (module_text m)
+    → GivesBack profile (encode_utf8_all (module_text m)) m → IsTextOf profile m text
 is_text {profile} {m} {text} is back = record { text = is; back = subst (λ (bytes : List ℕ). GivesBack profile bytes m) (sym is) back }

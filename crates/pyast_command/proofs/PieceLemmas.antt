@@ -11,7 +11,8 @@ pub none_came : (x : Option (List ℕ)) (output held : List ℕ) → held ≡ []
 none_came x output held none = ([], rw none refl, Appends-refl x)
 
 -- a further piece is held
-pub piece_came : (x y : Option (List ℕ)) (output end held held1 left left1 : List ℕ) → held1 ++ left1 ≡ held ++ left → TakesAllBut x y output held (left ++ end)
+pub piece_came : (x y : Option (List ℕ)) (output end held held1 left left1 : List ℕ) → held1 ++ left1 ≡ held ++ left
+    → TakesAllBut x y output held (left ++ end)
     → TakesAllBut x y output held1 (left1 ++ end)
 piece_came x y output end held held1 left left1 same (written, is, p) =
     let old : (written ++ held) ++ (left ++ end) ≡ written ++ ((held ++ left) ++ end) = simp append_assoc refl in
@@ -23,7 +24,8 @@ pub front_came : (x y : Option (List ℕ)) (output held left : List ℕ) → Tak
 front_came x y output held left (written, is, p) = (written, held ++ left, is ∙ append_assoc written held left, p)
 
 -- no piece is still to come, and what ends the output is held
-pub all_came : (x y : Option (List ℕ)) (output end held held1 : List ℕ) (left : List (List ℕ)) → left ≡ [] → held1 ≡ held ++ end → TakesAllBut x y output held (concat left ++ end)
+pub all_came : (x y : Option (List ℕ)) (output end held held1 : List ℕ) (left : List (List ℕ)) → left ≡ [] → held1 ≡ held ++ end
+    → TakesAllBut x y output held (concat left ++ end)
     → TakesAllBut x y output held1 []
 all_came x y output end held held1 left none ended (written, is, p) =
     let at_end : output ≡ (written ++ held) ++ end = rw none at is in

@@ -1,7 +1,8 @@
 -- Laws of a run.
 --
 -- Carries: list, write_listing, run.
-use Rattle.std.proofs.Common.{true, Bool, ◌≡◌, ◌≢◌, ◌++◌, ℕ, List, [], false, Option, None, Some, Ok, Err, Result, refl, sym, ap, inl, inr, ◌∙◌, append_assoc, append-nil}
+use Rattle.std.proofs.Common.{true, Bool, ◌≡◌, ◌≢◌, ◌++◌, ℕ, List, [], false, Option, None, Some, Ok, Err, Result, refl, sym, ap, inl, inr}
+use Rattle.std.proofs.Common.{◌∙◌, append_assoc, append-nil}
 use Rattle.std.specs.Prelude.{OnOk, OnErr, is_err}
 use Rattle.std.specs.Io.KnownBytes.{Appends}
 use Rattle.pysource.specs.Bytes.{Seen, TakesFront}
@@ -36,16 +37,21 @@ on_failure (Ok a) n p = cc
 on_failure (Err e) n p = p
 
 -- a further line is held, and no longer left
-pub TakesAllBut-held : (x y : Option (List ℕ)) (output held line left : List ℕ) → TakesAllBut x y output held (line ++ left) → TakesAllBut x y output (held ++ line) left
+pub TakesAllBut-held : (x y : Option (List ℕ)) (output held line left : List ℕ) → TakesAllBut x y output held (line ++ left)
+    → TakesAllBut x y output (held ++ line) left
 TakesAllBut-held x y output held line left (written, is, p) = (written, is ∙ simp append_assoc, p)
 
 -- what was held is written
-pub TakesAllBut-written : (x y z : Option (List ℕ)) (output held left : List ℕ) → TakesAllBut x y output held left → Appends y z held → TakesAllBut x z output [] left
-TakesAllBut-written x y z output held left (written, is, p) q = (written ++ held, is ∙ ap (λ t. t ++ left) (sym (append-nil (written ++ held))), Appends-append x y z written held p q)
+pub TakesAllBut-written : (x y z : Option (List ℕ)) (output held left : List ℕ) → TakesAllBut x y output held left → Appends y z held
+    → TakesAllBut x z output [] left
+TakesAllBut-written x y z output held left (written, is, p) q =
+    (written ++ held, is ∙ ap (λ t. t ++ left) (sym (append-nil (written ++ held))), Appends-append x y z written held p q)
 
 -- a front of what was held is written
-pub TakesAllBut-cut : (x y z : Option (List ℕ)) (output held left : List ℕ) → TakesAllBut x y output held left → TakesFront y z held → TakesFront x z output
-TakesAllBut-cut x y z output held left (written, is, p) q = TakesFront-after x y z written held left output (is ∙ append_assoc written held left) p q
+pub TakesAllBut-cut : (x y z : Option (List ℕ)) (output held left : List ℕ) → TakesAllBut x y output held left
+    → TakesFront y z held → TakesFront x z output
+TakesAllBut-cut x y z output held left (written, is, p) q = TakesFront-after x y z written held left output (is
+    ∙ append_assoc written held left) p q
 
 -- a front of what is held at a listing's end is written
 pub HoldsFor-cut : (output : List ℕ) (told : Option Fault) (x y z : Option (List ℕ)) (held : List ℕ) (ended : Option Fault)
@@ -63,7 +69,8 @@ pub HoldsFor-failed : (output : List ℕ) (told : Option Fault) (x y : Option (L
 HoldsFor-failed output told x y held ended is p = rw is (rw is at p)
 
 -- all of the output is written
-pub all_written : (output : List ℕ) (x y z : Option (List ℕ)) (held : List ℕ) → TakesAllBut x y output held [] → Appends y z held → Appends x z output
+pub all_written : (output : List ℕ) (x y z : Option (List ℕ)) (held : List ℕ) → TakesAllBut x y output held []
+    → Appends y z held → Appends x z output
 all_written output x y z held (written, is, p) q = rw (is, append-nil (written ++ held)) (Appends-append x y z written held p q)
 
 -- all that was held at a listing's end is written
@@ -72,12 +79,14 @@ pub HoldsFor-written : (output : List ℕ) (told : Option Fault) (x y z : Option
 HoldsFor-written output told x y z held None n p q = (p.0, all_written output x y z held p.1 q)
 HoldsFor-written output told x y z held (Some (InSource code place)) n p q = (p.0, all_written output x y z held p.1 q)
 HoldsFor-written output told x y z held (Some (Plain Read)) n p q = (p.0, all_written output x y z held p.1 q)
-HoldsFor-written output told x y z held (Some (Plain Memory)) n (left, (written, is, p)) q = (written ++ held, left, is, Appends-append x y z written held p q)
+HoldsFor-written output told x y z held (Some (Plain Memory)) n (left, (written, is, p)) q =
+    (written ++ held, left, is, Appends-append x y z written held p q)
 HoldsFor-written output told x y z held (Some (Plain Write)) n p q = absurd (n refl)
 HoldsFor-written output told x y z held (Some (Plain other)) n p q = absurd p
 
 -- a listing ended by a fault, and all before that is held
-pub HoldsFor-fault : (output : List ℕ) (told : Option Fault) (x y : Option (List ℕ)) (held : List ℕ) (f : ListingFault) → told ≡ Some (of_listing f) → TakesAllBut x y output held []
+pub HoldsFor-fault : (output : List ℕ) (told : Option Fault) (x y : Option (List ℕ)) (held : List ℕ) (f : ListingFault)
+    → told ≡ Some (of_listing f) → TakesAllBut x y output held []
     → HoldsFor output told x y held (Some (of_listing f))
 HoldsFor-fault output told x y held f is p = by_code (listing_code f.code) is
   where
@@ -86,7 +95,8 @@ HoldsFor-fault output told x y held f is p = by_code (listing_code f.code) is
     by_code (Some code) e = (e, p)
 
 -- whatever was written stands at the front of the output
-pub WritesFor-front : (output : List ℕ) (told : Option Fault) (x y : Option (List ℕ)) (ended : Option Fault) → WritesFor output told x y ended → TakesFront x y output
+pub WritesFor-front : (output : List ℕ) (told : Option Fault) (x y : Option (List ℕ)) (ended : Option Fault)
+    → WritesFor output told x y ended → TakesFront x y output
 WritesFor-front output told x y None p = (output, [], sym (append-nil output), p.1)
 WritesFor-front output told x y (Some (InSource code place)) p = (output, [], sym (append-nil output), p.1)
 WritesFor-front output told x y (Some (Plain Read)) p = (output, [], sym (append-nil output), p.1)
@@ -96,8 +106,10 @@ WritesFor-front output told x y (Some (Plain CursorOfAnotherSource)) p = (output
 WritesFor-front output told x y (Some (Plain other)) p = absurd p
 
 -- A run whose fault was told as another ended by that one.
-Performs-told : (output : Bool → List ℕ → List ℕ) (told : Bool → List ℕ → Option Fault) (seen_old seen_new : Seen) (x y : Option (List ℕ)) (limit : ℕ) (fault other : Fault)
-    → IsToldAs fault other → Performs output told seen_old seen_new x y limit (Some fault) → Performs output told seen_old seen_new x y limit (Some other)
+Performs-told : (output : Bool → List ℕ → List ℕ) (told : Bool → List ℕ → Option Fault) (seen_old seen_new : Seen) (x y : Option (List ℕ))
+    (limit : ℕ) (fault other : Fault)
+    → IsToldAs fault other → Performs output told seen_old seen_new x y limit (Some fault)
+        → Performs output told seen_old seen_new x y limit (Some other)
 Performs-told output told seen_old seen_new x y limit (Plain code) other is p = rw is p
 Performs-told output told seen_old seen_new x y limit (InSource code place) other is p = elim is [
   | inl e ↦ rw e p
@@ -112,8 +124,10 @@ Performs-told output told seen_old seen_new x y limit (InSource code place) othe
   })
 ]
 
-PerformsWhole-told : (making : Making) (does : List ℕ → List ℕ → Option Fault → Type 0) (seen_old seen_new : Seen) (x y : Option (List ℕ)) (limit : ℕ) (fault other : Fault)
-    → IsToldAs fault other → PerformsWhole making does seen_old seen_new x y limit (Some fault) → PerformsWhole making does seen_old seen_new x y limit (Some other)
+PerformsWhole-told : (making : Making) (does : List ℕ → List ℕ → Option Fault → Type 0) (seen_old seen_new : Seen) (x y : Option (List ℕ))
+    (limit : ℕ) (fault other : Fault)
+    → IsToldAs fault other → PerformsWhole making does seen_old seen_new x y limit (Some fault)
+        → PerformsWhole making does seen_old seen_new x y limit (Some other)
 PerformsWhole-told making does seen_old seen_new x y limit (Plain code) other is p = rw is p
 PerformsWhole-told whole does seen_old seen_new x y limit (InSource code place) other is p = elim is [
   | inl e ↦ rw e p
@@ -126,12 +140,16 @@ PerformsWhole-told in_pieces does seen_old seen_new x y limit (InSource code pla
 
 pub Does-told : (command : Command) (seen_old seen_new : Seen) (x y : Option (List ℕ)) (limit : ℕ) (fault other : Fault)
     → IsToldAs fault other → Does command seen_old seen_new x y limit (Some fault) → Does command seen_old seen_new x y limit (Some other)
-Does-told (Tokens asked) seen_old seen_new x y limit fault other is p = Performs-told (output_of asked) (fault_in asked) seen_old seen_new x y limit fault other is p
-Does-told (Dump asked) seen_old seen_new x y limit fault other is p = PerformsWhole-told in_pieces (Dumps asked.style) seen_old seen_new x y limit fault other is p
-Does-told (Unparse asked) seen_old seen_new x y limit fault other is p = PerformsWhole-told whole (Unparses asked.profile) seen_old seen_new x y limit fault other is p
+Does-told (Tokens asked) seen_old seen_new x y limit fault other is p = Performs-told (output_of asked) (fault_in asked) seen_old seen_new x
+    y limit fault other is p
+Does-told (Dump asked) seen_old seen_new x y limit fault other is p = PerformsWhole-told in_pieces (Dumps asked.style) seen_old seen_new x
+    y limit fault other is p
+Does-told (Unparse asked) seen_old seen_new x y limit fault other is p = PerformsWhole-told whole (Unparses asked.profile) seen_old seen_new
+    x y limit fault other is p
 
 -- a fault without a place is told as itself, and only as that
-pub told-plain : (fault told : Fault) (code : RunFaultCode) → code ≢ Memory → IsToldAs fault told → (told ≡ Plain code → fault ≡ Plain code) × (fault ≡ Plain code → told ≡ Plain code)
+pub told-plain : (fault told : Fault) (code : RunFaultCode) → code ≢ Memory → IsToldAs fault told
+    → (told ≡ Plain code → fault ≡ Plain code) × (fault ≡ Plain code → told ≡ Plain code)
 told-plain (Plain other) told code ne is = (λ e. cc, λ e. cc)
 told-plain (InSource other place) told code ne is = (λ e. elim is [ inl f ↦ cc | inr f ↦ absurd (ne (injects (sym e ∙ f))) ], λ e. cc)
   where

@@ -1,7 +1,8 @@
 -- Laws of what was taken of a reader.
 --
 -- Carries: is_broken, continues_none, performs, for ListLemmas, StartLemmas.
-use Rattle.std.proofs.Common.{◌≡◌, ◌≢◌, ◌+◌, ◌-◌, ◌++◌, ◌<◌, ◌≤◌, ℕ, Bool, true, false, List, [], ◌∷◌, length, take, drop, Option, None, Some, refl, sym, ap, subst, inl, inr, ◌∙◌, append_assoc, append-nil, length-append, length-drop, arith}
+use Rattle.std.proofs.Common.{◌≡◌, ◌≢◌, ◌+◌, ◌-◌, ◌++◌, ◌<◌, ◌≤◌, ℕ, Bool, true, false, List, [], ◌∷◌, length, take, drop, Option, None}
+use Rattle.std.proofs.Common.{Some, refl, sym, ap, subst, inl, inr, ◌∙◌, append_assoc, append-nil, length-append, length-drop, arith}
 use Rattle.std.specs.Prelude.{IfSome}
 use Rattle.std.specs.Io.KnownBytes.{Consumes, IsAtEnd}
 use Rattle.std.proofs.lemmas.Bool.{cases_lt}
@@ -46,10 +47,12 @@ all_known (Some known) (Some rest) all c e = c ∙ ap (λ r. all ++ r) e ∙ app
 
 -- What was done with each source that what was taken can be the front of, was done with
 -- that which the reader gives.
-module _ (output : Bool → List ℕ → List ℕ) (told : Bool → List ℕ → Option Fault) (x y : Option (List ℕ)) (n : ℕ) (all : List ℕ) (ended : Option Fault) (quiet : (bytes : List ℕ) → told false bytes ≢ Some (Plain Read)) where
+module _ (output : Bool → List ℕ → List ℕ) (told : Bool → List ℕ → Option Fault) (x y : Option (List ℕ)) (n : ℕ) (all : List ℕ)
+    (ended : Option Fault) (quiet : (bytes : List ℕ) → told false bytes ≢ Some (Plain Read)) where
   -- whatever may follow
   abbrev Does : Reach → Type 0
-  Does r = (more : List ℕ) (broken : Bool) → FollowsAt r more broken → n + length more ≤ source_limit → WritesFor (output broken (all ++ more)) (told broken (all ++ more)) x y ended
+  Does r = (more : List ℕ) (broken : Bool) → FollowsAt r more broken → n + length more ≤ source_limit
+      → WritesFor (output broken (all ++ more)) (told broken (all ++ more)) x y ended
 
   abbrev Done : Seen → Seen → Type 0
   Done seen_old seen_new = Performs output told seen_old seen_new x y source_limit ended
@@ -58,8 +61,10 @@ module _ (output : Bool → List ℕ → List ℕ) (told : Bool → List ℕ →
   unread : (bytes : List ℕ) → WritesFor (output false bytes) (told false bytes) x y ended → ended ≡ Some (Plain Read) → ⊥
   unread bytes w is = quiet bytes (rw is at w).0
 
-  reading : (come new : Option (List ℕ)) (failures_old failures_new : ℕ) (may_old may_new : Bool) → n ≤ source_limit → n ≡ length all → failures_new ≡ failures_old → Consumes come new all → Does reach.Reading
-      → Done (record { to_come = come; failures = failures_old; may_fail = may_old }) (record { to_come = new; failures = failures_new; may_fail = may_new })
+  reading : (come new : Option (List ℕ)) (failures_old failures_new : ℕ) (may_old may_new : Bool) → n ≤ source_limit → n ≡ length all
+      → failures_new ≡ failures_old → Consumes come new all → Does reach.Reading
+      → Done (record { to_come = come; failures = failures_old; may_fail = may_old })
+          (record { to_come = new; failures = failures_new; may_fail = may_new })
   reading None new failures_old failures_new may_old may_new within size same c does = record {
     input = all ++ [];
     broken = false;
@@ -70,7 +75,8 @@ module _ (output : Bool → List ℕ → List ℕ) (told : Bool → List ℕ →
     writes = does [] false tt (omega arith);
   }
   reading (Some known) None failures_old failures_new may_old may_new within size same c does = absurd c
-  reading (Some known) (Some rest) failures_old failures_new may_old may_new within size same c does = elim (cases_lt source_limit (n + length rest)) [
+  reading (Some known) (Some rest) failures_old failures_new may_old may_new within size same c does =
+      elim (cases_lt source_limit (n + length rest)) [
     | inl past ↦
         let front = take (source_limit - n) rest in
         let back = drop (source_limit - n) rest in
@@ -84,7 +90,8 @@ module _ (output : Bool → List ℕ → List ℕ) (told : Bool → List ℕ →
           broken = true;
           within = omega (arith, both, long, size, within);
           whole = λ e. cc;
-          cut = λ e. inr (record { past = back; some = omega (arith, left, past, within); full = omega (arith, both, long, size, within); front = inr (ap (λ b. Some b) parts); unfailed = same });
+          cut = λ e. inr (record { past = back; some = omega (arith, left, past, within); full = omega (arith, both, long, size, within);
+              front = inr (ap (λ b. Some b) parts); unfailed = same });
           read = λ is. absurd (unread (all ++ []) (does [] false tt (omega (arith, within))) is);
           writes = does front true tt (omega (arith, long, within));
         }
@@ -99,10 +106,12 @@ module _ (output : Bool → List ℕ → List ℕ) (told : Bool → List ℕ →
     }
   ]
 
-  pub performs : (seen_old seen_new : Seen) (r : Reach) → ReadsBytes seen_old seen_new reach.Reading r 0 n all → Does r → Done seen_old seen_new
+  pub performs : (seen_old seen_new : Seen) (r : Reach) → ReadsBytes seen_old seen_new reach.Reading r 0 n all → Does r
+      → Done seen_old seen_new
   performs seen_old seen_new reach.Reading t does =
       let none : t.lost ≡ [] = none_long t.lost (λ h. absurd (let e = (t.passed h).0 in cc)) in
-      reading seen_old.to_come seen_new.to_come seen_old.failures seen_new.failures seen_old.may_fail seen_new.may_fail (t.within (omega arith)) (omega (arith, t.count)) (omega (arith, t.told))
+      reading seen_old.to_come seen_new.to_come seen_old.failures seen_new.failures seen_old.may_fail seen_new.may_fail
+          (t.within (omega arith)) (omega (arith, t.count)) (omega (arith, t.told))
       (subst (Consumes seen_old.to_come seen_new.to_come) (ap (λ l. all ++ l) none ∙ append-nil all) t.consumes) does
   performs seen_old seen_new reach.End t does =
       let none : t.lost ≡ [] = none_long t.lost (λ h. absurd (let e = (t.passed h).0 in cc)) in
@@ -112,7 +121,9 @@ module _ (output : Bool → List ℕ → List ℕ) (told : Bool → List ℕ →
         input = all ++ [];
         broken = false;
         within = rw length-append (omega (arith, within, t.count));
-        whole = λ e. (all_known seen_old.to_come seen_new.to_come (all ++ []) (subst (λ l. Consumes seen_old.to_come seen_new.to_come (all ++ l)) none t.consumes) (t.ended (λ e. cc) refl), omega (arith, t.told));
+        whole = λ e. (all_known seen_old.to_come seen_new.to_come (all ++ [])
+            (subst (λ l. Consumes seen_old.to_come seen_new.to_come (all ++ l)) none t.consumes) (t.ended (λ e. cc) refl),
+            omega (arith, t.told));
         cut = λ e. cc;
         read = λ is. absurd (unread (all ++ []) writes is);
         writes = writes;
@@ -125,7 +136,8 @@ module _ (output : Bool → List ℕ → List ℕ) (told : Bool → List ℕ →
         broken = true;
         within = rw length-append (omega (arith, within, t.count));
         whole = λ e. cc;
-        cut = λ e. inl (record { front = subst (λ l. Consumes seen_old.to_come seen_new.to_come (all ++ l)) none t.consumes; failed = omega (arith, t.told) });
+        cut = λ e. inl (record { front = subst (λ l. Consumes seen_old.to_come seen_new.to_come (all ++ l)) none t.consumes; failed =
+            omega (arith, t.told) });
         read = λ is. inl (omega (arith, t.told));
         writes = does [] true (refl, refl) (omega (arith, within));
       }
@@ -139,7 +151,8 @@ module _ (output : Bool → List ℕ → List ℕ) (told : Bool → List ℕ →
         broken = true;
         within = rw length-append (omega (arith, within, t.count));
         whole = λ e. cc;
-        cut = λ e. inr (record { past = t.lost; some = some; full = ap length same ∙ omega (arith, full, t.count); front = inl (rw same t.consumes); unfailed = omega (arith, t.told) });
+        cut = λ e. inr (record { past = t.lost; some = some; full = ap length same ∙ omega (arith, full, t.count); front =
+            inl (rw same t.consumes); unfailed = omega (arith, t.told) });
         read = λ is. inr (all ++ t.lost, rw length-append (omega (arith, some, full, t.count)), t.consumes);
         writes = does [] true (refl, refl) (omega (arith, within));
       }

@@ -1,5 +1,6 @@
 -- What `tokens` writes of a source, and the fault that it tells.
-use Rattle.std.specs.Prelude.{ℕ, ◌+◌, ◌-◌, nat_le, nat_lt, ◌==◌, Bool, true, false, not, ◌&&◌, if◌then◌else◌, List, [], ◌∷◌, ◌++◌, length, take, Option, Some, None, Result, Ok, Err, codes, option_map}
+use Rattle.std.specs.Prelude.{ℕ, ◌+◌, ◌-◌, nat_le, nat_lt, ◌==◌, Bool, true, false, not, ◌&&◌, if◌then◌else◌, List, [], ◌∷◌, ◌++◌, length}
+use Rattle.std.specs.Prelude.{take, Option, Some, None, Result, Ok, Err, codes, option_map}
 use Rattle.std.specs.List.{flat_map}
 use Rattle.pysource.specs.Parts.{Parts}
 use Rattle.pysource.specs.Streams.{stream_of}
@@ -44,7 +45,8 @@ ends_in_marker (e ∷ d ∷ es) = ends_in_marker (d ∷ es)
 abbrev pub stops_after : ℕ → List Entry → Bool
 stops_after n es = nat_le n (length es) && not (ends_in_marker (take n es))
 
--- what is written of a source behind its first k entries: the lines of all the others, or, where a count stops it, those of as many and that of the cursor behind them
+-- what is written of a source behind its first k entries: the lines of all the others, or, where a count stops it, those of as many and
+-- that of the cursor behind them
 abbrev pub output_from : Bool → Parts → Option ℕ → ℕ → List ℕ
 output_from exact p None k = lines_of exact p (entries_of (rest (in_characters p) k))
 output_from exact p (Some n) k =
@@ -65,7 +67,8 @@ abbrev pub fault_from : Parts → Option ℕ → ℕ → Option Fault
 fault_from p None k = told_of (rest (in_characters p) k)
 fault_from p (Some n) k = if stops_after n (entries_of (rest (in_characters p) k)) then None else told_of (rest (in_characters p) k)
 
--- how many entries of a source stand before those that are listed, the source's start or a cursor being given; none where the source has no such cursor
+-- how many entries of a source stand before those that are listed, the source's start or a cursor being given; none where the source has no
+-- such cursor
 abbrev pub start_in : Option CursorParts → Source → Option ℕ
 start_in None s = Some 0
 start_in (Some c) s = if is_cursor_of c s then Some c.given else None
@@ -86,7 +89,8 @@ tokens_output exact count resume (Err fault) = []
 
 -- the fault that `tokens` tells of a source
 abbrev pub tokens_fault : Option ℕ → Option CursorParts → Result Parts StreamFault → Option Fault
-tokens_fault count resume (Ok p) = elim (start_in resume (in_characters p)) [ Some k ↦ fault_from p count k | None ↦ Some (Plain (missed resume (in_characters p))) ]
+tokens_fault count resume (Ok p) = elim (start_in resume (in_characters p)) [ Some k ↦ fault_from p count k
+    | None ↦ Some (Plain (missed resume (in_characters p))) ]
 tokens_fault count resume (Err fault) = Some (of_stream fault)
 
 -- the whole output of `tokens` on the bytes of a source, behind which a read failed or not, and the fault that it tells of them

@@ -1,5 +1,6 @@
 -- What a run of the program is, whatever its reader and its writers do.
-use Rattle.std.specs.Prelude.{◌≡◌, ◌≢◌, ◌⊎◌, ◌≤◌, ℕ, ◌+◌, ◌<◌, Bool, true, false, List, [], ◌++◌, length, Option, Some, None, IfSome, Result, Ok, Err}
+use Rattle.std.specs.Prelude.{◌≡◌, ◌≢◌, ◌⊎◌, ◌≤◌, ℕ, ◌+◌, ◌<◌, Bool, true, false, List, [], ◌++◌, length, Option, Some, None, IfSome}
+use Rattle.std.specs.Prelude.{Result, Ok, Err}
 use Rattle.std.specs.Io.KnownBytes.{Appends, Consumes, IsAtEnd}
 use Rattle.pysource.specs.Bytes.{Seen, Sent, TakesFront, GivesTooMany}
 use Rattle.pyast_fault.specs.Faults.{status_of, fault_line, Tells}
@@ -14,11 +15,14 @@ use Rattle.pyast_command.specs.Listings.{output_of, fault_in}
 use Rattle.pyast_command.specs.Unparses.{Unparses}
 
 -- What a writer took, from old to new, where a run with this whole output and this fault of the source ended by a fault
--- or by none: all of the output where it ended by what the source says (a cursor of another one and a failed read included), and else a front.
+-- or by none: all of the output where it ended by what the source says (a cursor of another one and a failed read included), and else a
+-- front.
 abbrev pub WritesFor : List ℕ → Option Fault → Option (List ℕ) → Option (List ℕ) → Option Fault → Type 0
 WritesFor output told old new None = (told ≡ None) × Appends old new output
 WritesFor output told old new (Some (InSource code place)) = (told ≡ Some (InSource code place)) × Appends old new output
-WritesFor output told old new (Some (Plain code)) = elim code [ Read ↦ (told ≡ Some (Plain Read)) × Appends old new output | Write ↦ TakesFront old new output | Memory ↦ TakesFront old new output | CursorOfAnotherSource ↦ (told ≡ Some (Plain CursorOfAnotherSource)) × Appends old new output | _ ↦ ⊥ ]
+WritesFor output told old new (Some (Plain code)) = elim code [ Read ↦ (told ≡ Some (Plain Read)) × Appends old new output
+    | Write ↦ TakesFront old new output | Memory ↦ TakesFront old new output
+    | CursorOfAnotherSource ↦ (told ≡ Some (Plain CursorOfAnotherSource)) × Appends old new output | _ ↦ ⊥ ]
 
 -- the writer took a front of the output, of which this much is held and the rest left
 abbrev pub TakesAllBut : Option (List ℕ) → Option (List ℕ) → List ℕ → List ℕ → List ℕ → Type 0
@@ -28,7 +32,8 @@ TakesAllBut old new output held left = (written : List ℕ) × (output ≡ (writ
 abbrev pub HoldsFor : List ℕ → Option Fault → Option (List ℕ) → Option (List ℕ) → List ℕ → Option Fault → Type 0
 HoldsFor output told old new held None = (told ≡ None) × TakesAllBut old new output held []
 HoldsFor output told old new held (Some (InSource code place)) = (told ≡ Some (InSource code place)) × TakesAllBut old new output held []
-HoldsFor output told old new held (Some (Plain code)) = elim code [ Memory ↦ (left : List ℕ) × TakesAllBut old new output held left | Read ↦ (told ≡ Some (Plain Read)) × TakesAllBut old new output held [] | Write ↦ TakesFront old new output | _ ↦ ⊥ ]
+HoldsFor output told old new held (Some (Plain code)) = elim code [ Memory ↦ (left : List ℕ) × TakesAllBut old new output held left
+    | Read ↦ (told ≡ Some (Plain Read)) × TakesAllBut old new output held [] | Write ↦ TakesFront old new output | _ ↦ ⊥ ]
 
 -- the outcome of a call as the fault that ended it, if one did
 abbrev pub ended_by : {A : Type 0} → Result A Fault → Option Fault
@@ -85,7 +90,8 @@ pub data Making : Type 0 where
 -- A run that reads its source whole first ended by a fault or by none; its output and the fault that it tells are known by the bytes.
 -- Nothing was written where a read failed or the source is at fault, and a front of the output where a write failed. Where memory was
 -- wanting nothing was written, or of an output that is made in pieces a front.
-abbrev pub PerformsWhole : Making → (List ℕ → List ℕ → Option Fault → Type 0) → Seen → Seen → Option (List ℕ) → Option (List ℕ) → ℕ → Option Fault → Type 0
+abbrev pub PerformsWhole : Making → (List ℕ → List ℕ → Option Fault → Type 0) → Seen → Seen → Option (List ℕ) → Option (List ℕ)
+    → ℕ → Option Fault → Type 0
 PerformsWhole making does seen_old seen_new old new limit None =
     (input output : List ℕ) × ReadsAll seen_old seen_new limit input × does input output None × Appends old new output
 PerformsWhole making does seen_old seen_new old new limit (Some (InSource code place)) =
@@ -93,11 +99,13 @@ PerformsWhole making does seen_old seen_new old new limit (Some (InSource code p
 PerformsWhole making does seen_old seen_new old new limit (Some (Plain code)) = elim code [
   | Read ↦ ReadsNotAll seen_old seen_new limit × Appends old new []
   | Write ↦ WritesFront does seen_old seen_new old new limit
-  | Memory ↦ (seen_new.failures ≡ seen_old.failures) × elim making [ whole ↦ Appends old new [] | in_pieces ↦ Appends old new [] ⊎ WritesFront does seen_old seen_new old new limit ]
+  | Memory ↦ (seen_new.failures ≡ seen_old.failures) × elim making [ whole ↦ Appends old new []
+      | in_pieces ↦ Appends old new [] ⊎ WritesFront does seen_old seen_new old new limit ]
   | _ ↦ ⊥
 ]
 
--- What a command does with what its reader gives: `tokens` reads it line by line, `dump` and `unparse` whole. The text of a dump is made in pieces.
+-- What a command does with what its reader gives: `tokens` reads it line by line, `dump` and `unparse` whole. The text of a dump is made in
+-- pieces.
 abbrev pub Does : Command → Seen → Seen → Option (List ℕ) → Option (List ℕ) → ℕ → Option Fault → Type 0
 Does (Tokens asked) = Performs (output_of asked) (fault_in asked)
 Does (Dump asked) = PerformsWhole in_pieces (Dumps asked.style)

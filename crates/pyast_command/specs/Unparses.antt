@@ -13,6 +13,7 @@ pub record IsTextOf (profile : Profile) (m : Module) (output : List ℕ) : Type 
   pub text : output ≡ encode_utf8_all (module_text m)
   pub back : GivesBack profile output m
 
--- What `unparse` writes of bytes, and the fault that it tells of them: where they are a source that the grammar accepts, the text of its module.
+-- What `unparse` writes of bytes, and the fault that it tells of them: where they are a source that the grammar accepts, the text of its
+-- module.
 abbrev pub Unparses : Profile → List ℕ → List ℕ → Option Fault → Type 0
 Unparses profile = Writes profile (IsTextOf profile)

@@ -16,7 +16,8 @@ use Rattle.pylex.specs.declared.entries.ListingFault.{ListingFault}
 use Rattle.pylex.specs.declared.line_lister.ResumeFault.{ResumeFault}
 use Rattle.pylex.specs.declared.line_lister.ResumeFault.TheVariants as resume_faults
 use Rattle.pytoken.specs.declared.faults.TokenError.{TokenError}
-use Rattle.pytoken.specs.declared.faults.TokenError.TheVariants.{Float, Complex, FString, IntegerTooLarge, NamedEscape, BadEscape, NonAsciiBytes, Nul, NameForm}
+use Rattle.pytoken.specs.declared.faults.TokenError.TheVariants.{Float, Complex, FString, IntegerTooLarge, NamedEscape, BadEscape}
+use Rattle.pytoken.specs.declared.faults.TokenError.TheVariants.{NonAsciiBytes, Nul, NameForm}
 use Rattle.pytoken.specs.declared.refusals.Refusal.{Refusal}
 use Rattle.pytoken.specs.declared.refusals.Refusal.TheVariants as refusals
 use Rattle.pygrammar.specs.Blocks as blocks
@@ -26,8 +27,13 @@ use Rattle.pyparse_tokens.specs.declared.faults.ParseFault.{ParseFault}
 use Rattle.pyparse_tokens.specs.declared.faults.ParseFault.TheVariants as parse_faults
 use Rattle.pyparse.specs.Modules.{code_of}
 use Rattle.pyast_fault.specs.declared.fault.SourceFaultCode.{SourceFaultCode}
-use Rattle.pyast_fault.specs.declared.fault.SourceFaultCode.TheVariants.{UnsupportedEncoding, BomConflict, NotUtf8, NotAscii, LoneReturn, BadCharacter, UnterminatedString, EofInString, EofInStatement, UnindentMismatch, UnmatchedCloser, Token, Syntax, MatchStatement, ExpectedIndent, UnexpectedIndent, MisplacedClause, TooDeep, InconsistentTabs}
-use Rattle.pyast_fault.specs.declared.fault.RunFaultCode.TheVariants.{Read, CursorOfAnotherSource, CursorText, BadArguments, Open, Write, Memory}
+use Rattle.pyast_fault.specs.declared.fault.SourceFaultCode.TheVariants.{UnsupportedEncoding, BomConflict, NotUtf8, NotAscii, LoneReturn}
+use Rattle.pyast_fault.specs.declared.fault.SourceFaultCode.TheVariants.{BadCharacter, UnterminatedString, EofInString, EofInStatement}
+use Rattle.pyast_fault.specs.declared.fault.SourceFaultCode.TheVariants.{UnindentMismatch, UnmatchedCloser, Token, Syntax, MatchStatement}
+use Rattle.pyast_fault.specs.declared.fault.SourceFaultCode.TheVariants.{ExpectedIndent, UnexpectedIndent, MisplacedClause, TooDeep}
+use Rattle.pyast_fault.specs.declared.fault.SourceFaultCode.TheVariants.{InconsistentTabs}
+use Rattle.pyast_fault.specs.declared.fault.RunFaultCode.TheVariants.{Read, CursorOfAnotherSource, CursorText, BadArguments, Open, Write}
+use Rattle.pyast_fault.specs.declared.fault.RunFaultCode.TheVariants.{Memory}
 use Rattle.pyast_fault.specs.declared.fault.FaultCode.{FaultCode}
 use Rattle.pyast_fault.specs.declared.fault.FaultCode.TheVariants.{Source, Run}
 use Rattle.pyast_fault.specs.declared.fault.Fault.{Fault}

@@ -1,5 +1,6 @@
 -- Carries: Command::read, dump_form. What `clap` finds among the words gives the command, or refuses them.
-use Rattle.std.proofs.Common.{◌≡◌, ◌≢◌, ◌⊎◌, ℕ, ◌≤◌, ◌<◌, Bool, true, false, not, ◌||◌, List, [], ◌∷◌, ◌++◌, codes, refl, sym, ap, ap₂, subst, ◌∙◌, inl, inr, Option, Some, None, Result, Ok, Err, arith}
+use Rattle.std.proofs.Common.{◌≡◌, ◌≢◌, ◌⊎◌, ℕ, ◌≤◌, ◌<◌, Bool, true, false, not, ◌||◌, List, [], ◌∷◌, ◌++◌, codes, refl, sym, ap, ap₂}
+use Rattle.std.proofs.Common.{subst, ◌∙◌, inl, inr, Option, Some, None, Result, Ok, Err, arith}
 use Rattle.std.specs.Prelude.{IfOk, unwrap_or}
 use Rattle.std.specs.Str.Parse.{ParsesUnsigned}
 use Rattle.clap.specs.Built.{AddsArg}
@@ -31,13 +32,15 @@ grammar_is_free : is_simple_and_free grammar ≡ true
 grammar_is_free = refl
 
 -- an argument more of a subcommand
-pub one_more : {shape : Shape} {old new : ClapCommand} {rule : Rule} {a : Arg} → IsForm shape old → IsRule rule a → AddsArg old a new → IsForm (record shape { rules = shape.rules ++ rule ∷ [] }) new
+pub one_more : {shape : Shape} {old new : ClapCommand} {rule : Rule} {a : Arg} → IsForm shape old → IsRule rule a → AddsArg old a new
+    → IsForm (record shape { rules = shape.rules ++ rule ∷ [] }) new
 one_more form rule added = record {
   is = added.shape rule.local ∙ ap₂ with_rule form.is rule.is;
   local = added.globals ∙ ap₂ ◌||◌ form.local rule.local;
 }
 
-pub is_flag : (o : Option (List ℕ)) (set : Bool) → (o ≡ None → set ≡ false) → (o ≡ Some (codes "true") → set ≡ true) → (o ≡ Some (codes "false") → set ≡ false) → IsFlag o set
+pub is_flag : (o : Option (List ℕ)) (set : Bool) → (o ≡ None → set ≡ false) → (o ≡ Some (codes "true") → set ≡ true)
+    → (o ≡ Some (codes "false") → set ≡ false) → IsFlag o set
 is_flag None set none set_by unset_by = none refl
 is_flag (Some text) set none set_by unset_by = (λ e. set_by (ap (λ t. Some t) e), λ e. unset_by (ap (λ t. Some t) e))
 
@@ -47,8 +50,10 @@ not_not true = refl
 not_not false = refl
 
 -- the number that was read of what was found for an option
-module _ {E : Type 0} (gives : List ℕ → Result ℕ E → Type 0) (parses : (t : List ℕ) (r : Result ℕ E) → gives t r → ParsesUnsigned 64 10 t r) (largest : ℕ) where
-  pub number_given : (o : Option (List ℕ)) (number : Option ℕ) → (o ≡ None → number ≡ None) → ((t : List ℕ) → o ≡ Some t → TriesOne gives t (Ok number)) → unwrap_or number 0 ≤ largest → IsNumber largest o number
+module _ {E : Type 0} (gives : List ℕ → Result ℕ E → Type 0) (parses : (t : List ℕ) (r : Result ℕ E) → gives t r
+    → ParsesUnsigned 64 10 t r) (largest : ℕ) where
+  pub number_given : (o : Option (List ℕ)) (number : Option ℕ) → (o ≡ None → number ≡ None)
+      → ((t : List ℕ) → o ≡ Some t → TriesOne gives t (Ok number)) → unwrap_or number 0 ≤ largest → IsNumber largest o number
   number_given None number none value small = none refl
   number_given (Some t) None none value small = absurd (value t refl)
   number_given (Some t) (Some n) none value small =
@@ -56,7 +61,8 @@ module _ {E : Type 0} (gives : List ℕ → Result ℕ E → Type 0) (parses : (
       let is = p.1 in
       ((p.0.0, p.0.1, omega arith, rw (← is) small), ap (λ m. Some m) is)
 
-  pub number_large : (o : Option (List ℕ)) (number : Option ℕ) → (o ≡ None → number ≡ None) → ((t : List ℕ) → o ≡ Some t → TriesOne gives t (Ok number)) → largest < unwrap_or number 0
+  pub number_large : (o : Option (List ℕ)) (number : Option ℕ) → (o ≡ None → number ≡ None)
+      → ((t : List ℕ) → o ≡ Some t → TriesOne gives t (Ok number)) → largest < unwrap_or number 0
       → (m : Option ℕ) → IsNumber largest o m → ⊥
   number_large o None none value large m is = absurd (omega arith)
   number_large None (Some n) none value large m is = let e = none refl in cc
@@ -66,11 +72,13 @@ module _ {E : Type 0} (gives : List ℕ → Result ℕ E → Type 0) (parses : (
       let small = is.0.3 in
       absurd (omega arith)
 
-  pub number_missed : (o : Option (List ℕ)) (e : E) → (o ≢ None) → ((t : List ℕ) → o ≡ Some t → TriesOne gives t (Err e)) → (m : Option ℕ) → IsNumber largest o m → ⊥
+  pub number_missed : (o : Option (List ℕ)) (e : E) → (o ≢ None) → ((t : List ℕ) → o ≡ Some t → TriesOne gives t (Err e)) → (m : Option ℕ)
+      → IsNumber largest o m → ⊥
   number_missed None e none value m is = none refl
   number_missed (Some t) e none value m is = parses t (Err e) (value t refl) (is.0.0, is.0.1)
 
-pub misses_cursor : (found : List Row) (word : List ℕ) (fault : CursorFault) → Some word ≡ first_of (codes "resume") found → fault ≢ cursor_faults.AnotherSource
+pub misses_cursor : (found : List Row) (word : List ℕ) (fault : CursorFault) → Some word ≡ first_of (codes "resume") found
+    → fault ≢ cursor_faults.AnotherSource
     → (fault ≡ cursor_faults.Text → (c : CursorParts) → IsWellFormed c → cursor_text c ≡ word → ⊥) → MissesCursor found (of_cursor fault)
 misses_cursor found word cursor_faults.Text is n m = (word, sym is, m refl)
 misses_cursor found word cursor_faults.AnotherSource is n m = absurd (n refl)
@@ -80,7 +88,8 @@ misses_cursor found word cursor_faults.Memory is n m = tt
 none_among : (kind : ErrorKind) (words : List (List ℕ)) → fault_of grammar words ≡ [] → IsAmong kind (fault_of grammar words) → ⊥
 none_among kind words none among = rw none at among
 
-only_one : (kind one : ErrorKind) (words : List (List ℕ)) → kind ≢ one → fault_of grammar words ≡ one ∷ [] → IsAmong kind (fault_of grammar words) → ⊥
+only_one : (kind one : ErrorKind) (words : List (List ℕ)) → kind ≢ one → fault_of grammar words ≡ one ∷ []
+    → IsAmong kind (fault_of grammar words) → ⊥
 only_one kind one words other is among = by_first (rw is at among)
   where
     by_first : IsAmong kind (one ∷ []) → ⊥
@@ -88,7 +97,8 @@ only_one kind one words other is among = by_first (rw is at among)
     by_first (inr n) = n
 
 -- a refusal by the grammar
-pub refuses_kind : (words : List (List ℕ)) (kind : ErrorKind) (fault : UsageFault) → Explains kind fault → (kind ≡ OutOfMemory) ⊎ IsAmong kind (fault_of grammar words) → Refuses words fault
+pub refuses_kind : (words : List (List ℕ)) (kind : ErrorKind) (fault : UsageFault) → Explains kind fault
+    → (kind ≡ OutOfMemory) ⊎ IsAmong kind (fault_of grammar words) → Refuses words fault
 refuses_kind words kind faults.BadArguments x (inl e) = absurd (x.2 e)
 refuses_kind words kind faults.BadArguments x (inr among) = record {
   no_command = λ command given. none_among kind words given.0 among;
@@ -104,7 +114,8 @@ refuses_kind words kind faults.MalformedCursor x among = absurd x
 refuses_kind words kind faults.Memory x among = tt
 
 -- a refusal by what was found
-pub refuses_found : (words : List (List ℕ)) (sub : Option (List ℕ × List Row)) (fault : UsageFault) → fault_of grammar words ≡ [] → sub ≡ subcommand_of grammar words → MissesCommand sub fault → Refuses words fault
+pub refuses_found : (words : List (List ℕ)) (sub : Option (List ℕ × List Row)) (fault : UsageFault) → fault_of grammar words ≡ []
+    → sub ≡ subcommand_of grammar words → MissesCommand sub fault → Refuses words fault
 refuses_found words sub faults.BadArguments none is misses = record {
   no_command = λ command given. misses.0 command (subst (λ s. IsCommand s command) (sym is) given.1);
   not_by_cursor = λ malformed. misses.1 malformed.1.0 (is ∙ malformed.1.1) malformed.1.2;
@@ -117,16 +128,21 @@ refuses_found words sub faults.MalformedCursor none is misses = (none, (misses.0
 refuses_found words sub faults.Memory none is misses = tt
 
 -- what a parse by the grammar that succeeds has found
-pub found_ok : (g : ClapCommand) (words : List (List ℕ)) (r : Result ArgMatches Error) (m : ArgMatches) → app_of g ≡ grammar → r ≡ Ok m → (is_simple_and_free (app_of g) ≡ true → FailsBy (fault_of (app_of g) words) r)
+pub found_ok : (g : ClapCommand) (words : List (List ℕ)) (r : Result ArgMatches Error) (m : ArgMatches) → app_of g ≡ grammar → r ≡ Ok m
+    → (is_simple_and_free (app_of g) ≡ true → FailsBy (fault_of (app_of g) words) r)
     → IfOk r (HasMatchesOf (app_of g) words) → (fault_of grammar words ≡ []) × (subcommand_rows_of m ≡ subcommand_of grammar words)
 found_ok g words r m app ok kinds matches =
-    let none : fault_of (app_of g) words ≡ [] = subst (FailsBy (fault_of (app_of g) words)) ok (kinds (ap is_simple_and_free app ∙ grammar_is_free)) in
-    let has : HasMatchesOf (app_of g) words m = subst (λ (x : Result ArgMatches Error). IfOk x (HasMatchesOf (app_of g) words)) ok matches in
+    let none : fault_of (app_of g) words ≡ [] =
+        subst (FailsBy (fault_of (app_of g) words)) ok (kinds (ap is_simple_and_free app ∙ grammar_is_free)) in
+    let has : HasMatchesOf (app_of g) words m =
+        subst (λ (x : Result ArgMatches Error). IfOk x (HasMatchesOf (app_of g) words)) ok matches in
     (ap (λ a. fault_of a words) (sym app) ∙ none, (has (ap is_simple app ∙ grammar_is_simple)).1 ∙ ap (λ a. subcommand_of a words) app)
 
 -- why one that fails does
-pub failed_err : (g : ClapCommand) (words : List (List ℕ)) (r : Result ArgMatches Error) (e : Error) → app_of g ≡ grammar → r ≡ Err e → (is_simple_and_free (app_of g) ≡ true → FailsBy (fault_of (app_of g) words) r)
+pub failed_err : (g : ClapCommand) (words : List (List ℕ)) (r : Result ArgMatches Error) (e : Error) → app_of g ≡ grammar → r ≡ Err e
+    → (is_simple_and_free (app_of g) ≡ true → FailsBy (fault_of (app_of g) words) r)
     → (kind_of e ≡ OutOfMemory) ⊎ IsAmong (kind_of e) (fault_of grammar words)
 failed_err g words r e app is kinds =
-    let has : HasKind (fault_of (app_of g) words) e = subst (FailsBy (fault_of (app_of g) words)) is (kinds (ap is_simple_and_free app ∙ grammar_is_free)) in
+    let has : HasKind (fault_of (app_of g) words) e =
+        subst (FailsBy (fault_of (app_of g) words)) is (kinds (ap is_simple_and_free app ∙ grammar_is_free)) in
     subst (λ a. HasKind (fault_of a words) e) app has

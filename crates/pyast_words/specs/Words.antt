@@ -1,5 +1,7 @@
--- Which words give which command. What is found among words is `clap`'s: `subcommand_of` and `fault_of` are its own definitions of matching.
-use Rattle.std.specs.Prelude.{◌≡◌, ◌≢◌, ℕ, ◌≤◌, Bool, true, false, not, List, [], ◌∷◌, Option, Some, None, IfSome, ⊤, codes, option_map, unwrap_or, slice_get, string_bytes}
+-- Which words give which command. What is found among words is `clap`'s: `subcommand_of` and `fault_of` are its own definitions of
+-- matching.
+use Rattle.std.specs.Prelude.{◌≡◌, ◌≢◌, ℕ, ◌≤◌, Bool, true, false, not, List, [], ◌∷◌, Option, Some, None, IfSome, ⊤, codes, option_map}
+use Rattle.std.specs.Prelude.{unwrap_or, slice_get, string_bytes}
 use Rattle.std.specs.Str.Parse.{digits_value, without_leading_plus}
 use Rattle.clap.specs.Faults.{fault_of}
 use Rattle.clap.specs.Kinds.{IsAmong}
@@ -57,12 +59,14 @@ file_rule = new_rule (codes "FILE")
 
 -- `tokens [-e] [--count N] [--resume CURSOR] [FILE]`
 abbrev pub tokens_shape : Shape
-tokens_shape = record (new_shape (codes "tokens")) { rules = exact_rule ∷ number_rule (codes "count") largest_count ∷ resume_rule ∷ file_rule ∷ [] }
+tokens_shape = record (new_shape (codes "tokens")) { rules = exact_rule ∷ number_rule (codes "count") largest_count ∷
+    resume_rule ∷ file_rule ∷ [] }
 
 -- `dump [--indent N] [--bare] [--py312] [--whole] [FILE]`
 abbrev pub dump_shape : Shape
 dump_shape = record (new_shape (codes "dump")) {
-  rules = number_rule (codes "indent") largest_indent ∷ flag_rule (codes "bare") ∷ flag_rule (codes "py312") ∷ flag_rule (codes "whole") ∷ file_rule ∷ [];
+  rules = number_rule (codes "indent") largest_indent ∷ flag_rule (codes "bare") ∷ flag_rule (codes "py312") ∷ flag_rule
+      (codes "whole") ∷ file_rule ∷ [];
 }
 
 -- `unparse [--py312] [--whole] [FILE]`
@@ -156,7 +160,8 @@ of_cursor cursor_faults.Memory = faults.Memory
 
 -- the words are those of `tokens`, and good but for the cursor
 abbrev pub IsMalformed : List (List ℕ) → Type 0
-IsMalformed words = (fault_of grammar words ≡ []) × ((found : List Row) × (subcommand_of grammar words ≡ Some (codes "tokens", found)) × LacksCursor found)
+IsMalformed words = (fault_of grammar words ≡ []) ×
+    ((found : List Row) × (subcommand_of grammar words ≡ Some (codes "tokens", found)) × LacksCursor found)
 
 -- the words are no command's, for another reason than the cursor, and don't only ask for help or for the version
 pub record AreBad (words : List (List ℕ)) : Type 0 where

@@ -3,7 +3,9 @@
 use Rattle.std.specs.Prelude.{◌≡◌, ℕ, suc, ◌<◌, ◌≤◌, Bool, true, false, ◌==◌, nat_lt, cond, List, [], ◌∷◌, ◌++◌, Option, Some, None}
 pub use Rattle.pytoken.specs.Indentation.{same_bool}
 use Rattle.pytree_node.specs.Trees.{Expr, Identifier, Pattern, Stmt, Case, Handler, Item, If, Match, cases, stmts}
-use Rattle.pygrammar.specs.Lines.{Line, line, Form, simple_form, decorator_form, header_form, Header, if_header, elif_header, else_header, loop_header, with_header, try_header, except_header, finally_header, def_header, match_header, case_header, LoopHead, DefHead, opens, loop, with_of, definition, try_of}
+use Rattle.pygrammar.specs.Lines.{Line, line, Form, simple_form, decorator_form, header_form, Header, if_header, elif_header, else_header}
+use Rattle.pygrammar.specs.Lines.{loop_header, with_header, try_header, except_header, finally_header, def_header, match_header}
+use Rattle.pygrammar.specs.Lines.{case_header, LoopHead, DefHead, opens, loop, with_of, definition, try_of}
 
 -- ---- The tree.
 
@@ -37,7 +39,8 @@ mutual
         Body l suite xs body → Body l last ys final →
         Statement l (line l (header_form try_header suite) ∷ (xs ++ (line l (header_form finally_header last) ∷ ys)))
         (try_of false body [] [] final ∷ [])
-    try_except : {l : ℕ} {star : Bool} {suite : Option (List Stmt)} {xs ys zs ws : List Line} {body orelse final : List Stmt} {h : Handler} {hs : List Handler} →
+    try_except : {l : ℕ} {star : Bool} {suite : Option (List Stmt)} {xs ys zs ws : List Line} {body orelse final : List Stmt}
+        {h : Handler} {hs : List Handler} →
         Body l suite xs body → Excepts l star ys (h ∷ hs) → Otherwise l zs orelse → Ending l ws final →
         Statement l (line l (header_form try_header suite) ∷ (xs ++ (ys ++ (zs ++ ws)))) (try_of star body (h ∷ hs) orelse final ∷ [])
     definition_of : {l : ℕ} (head : DefHead) {suite : Option (List Stmt)} {ds xs : List Line} {es : List Expr} {body : List Stmt} →
@@ -68,14 +71,16 @@ mutual
   -- `except` clauses of one kind
   pub data Excepts : ℕ → Bool → List Line → List Handler → Type 0 where
     no_except : {l : ℕ} {star : Bool} → Excepts l star [] []
-    except_clause : {l : ℕ} {star : Bool} {matched : Option Expr} {name : Option Identifier} {suite : Option (List Stmt)} {xs ys : List Line} {body : List Stmt} {hs : List Handler} →
+    except_clause : {l : ℕ} {star : Bool} {matched : Option Expr} {name : Option Identifier} {suite : Option (List Stmt)}
+        {xs ys : List Line} {body : List Stmt} {hs : List Handler} →
         Body l suite xs body → Excepts l star ys hs →
         Excepts l star (line l (header_form (except_header star matched name) suite) ∷ (xs ++ ys)) (handler matched name body ∷ hs)
 
   -- the lines of a `match`, one level deeper: cases alone
   pub data Cases : ℕ → List Line → List Case → Type 0 where
     no_case : {l : ℕ} → Cases l [] []
-    case_clause : {l : ℕ} {pattern : Pattern} {guard : Option Expr} {suite : Option (List Stmt)} {xs ys : List Line} {body : List Stmt} {cs : List Case} →
+    case_clause : {l : ℕ} {pattern : Pattern} {guard : Option Expr} {suite : Option (List Stmt)} {xs ys : List Line}
+        {body : List Stmt} {cs : List Case} →
         Body l suite xs body → Cases l ys cs →
         Cases l (line l (header_form (case_header pattern guard) suite) ∷ (xs ++ ys)) (case_of pattern guard body ∷ cs)
 
@@ -252,10 +257,13 @@ pub record IsFault (earlier : List Line) (l : ℕ) (k : Kind) (f : Fault) : Type
 -- none of these lines is faulty, nor ENDMARKER after them
 pub data IsFaultless : List Line → List Line → Type 0 where
   clear_end : {earlier : List Line} → IsClear earlier 0 EndLine → IsFaultless earlier []
-  clear_line : {earlier : List Line} {x : Line} {xs : List Line} → IsClear earlier x.level (kind_of x.form) → IsFaultless (x ∷ earlier) xs → IsFaultless earlier (x ∷ xs)
+  clear_line : {earlier : List Line} {x : Line} {xs : List Line} → IsClear earlier x.level (kind_of x.form) → IsFaultless (x ∷ earlier) xs
+      → IsFaultless earlier (x ∷ xs)
 
 -- the first faulty line with the lines after it (where there is none, ENDMARKER is faulty), and its fault
 pub data FirstFault : List Line → List Line → List Line → Fault → Type 0 where
   fault_at_end : {earlier : List Line} {f : Fault} → IsFault earlier 0 EndLine f → FirstFault earlier [] [] f
-  fault_at : {earlier : List Line} {x : Line} {xs : List Line} {f : Fault} → IsFault earlier x.level (kind_of x.form) f → FirstFault earlier (x ∷ xs) (x ∷ xs) f
-  fault_behind : {earlier : List Line} {x : Line} {xs rest : List Line} {f : Fault} → IsClear earlier x.level (kind_of x.form) → FirstFault (x ∷ earlier) xs rest f → FirstFault earlier (x ∷ xs) rest f
+  fault_at : {earlier : List Line} {x : Line} {xs : List Line} {f : Fault} → IsFault earlier x.level (kind_of x.form) f
+      → FirstFault earlier (x ∷ xs) (x ∷ xs) f
+  fault_behind : {earlier : List Line} {x : Line} {xs rest : List Line} {f : Fault} → IsClear earlier x.level (kind_of x.form)
+      → FirstFault (x ∷ earlier) xs rest f → FirstFault earlier (x ∷ xs) rest f

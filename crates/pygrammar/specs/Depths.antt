@@ -1,4 +1,5 @@
--- How many statements are around the next line, counted line by line: what is kept is the last line of each level that later lines can be in.
+-- How many statements are around the next line, counted line by line: what is kept is the last line of each level that later lines can be
+-- in.
 use Rattle.std.specs.Prelude.{ℕ, suc, ◌+◌, Bool, false, nat_lt, nat_le, ◌==◌, cond, List, [], ◌∷◌, Option, Some, None, option_map}
 use Rattle.pygrammar.specs.Lines.{Line, Form, header_form}
 use Rattle.pygrammar.specs.Blocks.{Kind, ElifLine, ElseLine, kind_of, header_kind}
@@ -30,7 +31,8 @@ under l (d ∷ ds) = cond (nat_lt d.level l) (d ∷ ds) (under l ds)
 
 -- a line as the last of its level
 abbrev pub depth_of : Line → List Depth → Depth
-depth_of x ds = record { level = x.level; round = round_at x.level ds; arms = arms_at (kind_of x.form) x.level ds; own = own (kind_of x.form) }
+depth_of x ds = record { level = x.level; round = round_at x.level ds; arms = arms_at (kind_of x.form) x.level ds;
+    own = own (kind_of x.form) }
 
 -- one line more
 abbrev pub counted : List Depth → Line → List Depth

@@ -1,7 +1,8 @@
 -- What stands between the commas of a list in the grammar, and the parts of a node that a list gives.
 use Rattle.std.specs.Prelude.{List, [], ◌∷◌, Bool}
 use Rattle.pygrammar.specs.declared.levels.Level.{Level}
-use Rattle.pytree_node.specs.Trees.{Expr, Exprs, no_exprs, an_expr, OptionalExpr, absent, present, OptionalExprs, no_optional, an_optional, Arg, Identifier}
+use Rattle.pytree_node.specs.Trees.{Expr, Exprs, no_exprs, an_expr, OptionalExpr, absent, present, OptionalExprs, no_optional, an_optional}
+use Rattle.pytree_node.specs.Trees.{Arg, Identifier}
 
 -- what stands between the commas of a list
 pub data Item : Type 0 where

@@ -1,4 +1,5 @@
--- Which modules have nothing of the whole language alone: no float, no imaginary number, no whole number of 2 to the 128 or more, no f-string, and no `match`.
+-- Which modules have nothing of the whole language alone: no float, no imaginary number, no whole number of 2 to the 128 or more, no
+-- f-string, and no `match`.
 use Rattle.std.specs.Prelude.{◌^◌, Bool, true, false, ◌&&◌, nat_lt, List, Option}
 use Rattle.std.specs.List.{list_all}
 use Rattle.pytree_node.specs.Values as values
@@ -56,7 +57,8 @@ abbrev mutual
 
   pub are_comprehensions_plain : Trees.Comprehensions → Bool
   are_comprehensions_plain Trees.no_comprehension = true
-  are_comprehensions_plain (Trees.a_comprehension target iter ifs is_async cs) = is_plain target && (is_plain iter && (are_plain ifs && are_comprehensions_plain cs))
+  are_comprehensions_plain (Trees.a_comprehension target iter ifs is_async cs) =
+      is_plain target && (is_plain iter && (are_plain ifs && are_comprehensions_plain cs))
 
   pub are_keywords_plain : Trees.Keywords → Bool
   are_keywords_plain Trees.no_keyword = true
@@ -95,19 +97,24 @@ is_type_param_plain _ = true
 abbrev mutual
   pub is_statement_plain : Trees.Stmt → Bool
   is_statement_plain (Trees.FunctionDef name args body decorators returns parameters) =
-      are_arguments_plain args && (are_statements_plain body && (all_plain decorators && (is_perhaps_plain returns && list_all is_type_param_plain parameters)))
+      are_arguments_plain args &&
+          (are_statements_plain body && (all_plain decorators && (is_perhaps_plain returns && list_all is_type_param_plain parameters)))
   is_statement_plain (Trees.AsyncFunctionDef name args body decorators returns parameters) =
-      are_arguments_plain args && (are_statements_plain body && (all_plain decorators && (is_perhaps_plain returns && list_all is_type_param_plain parameters)))
+      are_arguments_plain args &&
+          (are_statements_plain body && (all_plain decorators && (is_perhaps_plain returns && list_all is_type_param_plain parameters)))
   is_statement_plain (Trees.ClassDef name bases keywords body decorators parameters) =
-      all_plain bases && (are_keywords_plain keywords && (are_statements_plain body && (all_plain decorators && list_all is_type_param_plain parameters)))
+      all_plain bases && (are_keywords_plain keywords &&
+          (are_statements_plain body && (all_plain decorators && list_all is_type_param_plain parameters)))
   is_statement_plain (Trees.Return value) = is_perhaps_plain value
   is_statement_plain (Trees.Delete targets) = all_plain targets
   is_statement_plain (Trees.Assign targets value) = all_plain targets && is_plain value
   is_statement_plain (Trees.TypeAlias name parameters value) = is_plain name && (list_all is_type_param_plain parameters && is_plain value)
   is_statement_plain (Trees.AugAssign target op value) = is_plain target && is_plain value
   is_statement_plain (Trees.AnnAssign target annotation value simple) = is_plain target && (is_plain annotation && is_perhaps_plain value)
-  is_statement_plain (Trees.For target iter body orelse) = is_plain target && (is_plain iter && (are_statements_plain body && are_statements_plain orelse))
-  is_statement_plain (Trees.AsyncFor target iter body orelse) = is_plain target && (is_plain iter && (are_statements_plain body && are_statements_plain orelse))
+  is_statement_plain (Trees.For target iter body orelse) =
+      is_plain target && (is_plain iter && (are_statements_plain body && are_statements_plain orelse))
+  is_statement_plain (Trees.AsyncFor target iter body orelse) =
+      is_plain target && (is_plain iter && (are_statements_plain body && are_statements_plain orelse))
   is_statement_plain (Trees.While test body orelse) = is_plain test && (are_statements_plain body && are_statements_plain orelse)
   is_statement_plain (Trees.If test body orelse) = is_plain test && (are_statements_plain body && are_statements_plain orelse)
   is_statement_plain (Trees.With items body) = list_all is_item_plain items && are_statements_plain body

@@ -1,8 +1,11 @@
 -- The height of a form of a logical line: that of its highest expression or pattern, or 0 where it has none.
 use Rattle.std.specs.Prelude.{ℕ, max, Some, None}
 use Rattle.pytree_node.specs.Trees.{stmts}
-use Rattle.pytree_height.specs.Heights.{height, pattern_height, option_height, list_height, item_heights, keyword_heights, arguments_height, type_param_heights, highest_in_all}
-use Rattle.pygrammar.specs.Lines.{Form, simple_form, decorator_form, header_form, Header, if_header, elif_header, else_header, loop_header, with_header, try_header, except_header, finally_header, def_header, match_header, case_header, while_head, for_head, function_head, class_head}
+use Rattle.pytree_height.specs.Heights.{height, pattern_height, option_height, list_height, item_heights, keyword_heights, arguments_height}
+use Rattle.pytree_height.specs.Heights.{type_param_heights, highest_in_all}
+use Rattle.pygrammar.specs.Lines.{Form, simple_form, decorator_form, header_form, Header, if_header, elif_header, else_header, loop_header}
+use Rattle.pygrammar.specs.Lines.{with_header, try_header, except_header, finally_header, def_header, match_header, case_header, while_head}
+use Rattle.pygrammar.specs.Lines.{for_head, function_head, class_head}
 
 abbrev pub header_height : Header → ℕ
 header_height (if_header test) = height test

@@ -5,7 +5,9 @@ use Rattle.std.specs.declared.vec.Vec.{Vec}
 use Rattle.pytree_node.specs.Trees as plain
 use Rattle.pytree_node.specs.declared.statements.Stmt.{Stmt}
 use Rattle.pytree_node.specs.TreeOf.{tree_of, boxed_of, arguments_of, keyword_of, item_of, type_param_of, pattern_of, stmt_of}
-use Rattle.pygrammar.specs.Lines.{LoopHead, while_head, for_head, DefHead, function_head, class_head, Header, if_header, elif_header, else_header, loop_header, with_header, try_header, except_header, finally_header, def_header, match_header, case_header, Form, simple_form, decorator_form, header_form}
+use Rattle.pygrammar.specs.Lines.{LoopHead, while_head, for_head, DefHead, function_head, class_head, Header, if_header, elif_header}
+use Rattle.pygrammar.specs.Lines.{else_header, loop_header, with_header, try_header, except_header, finally_header, def_header}
+use Rattle.pygrammar.specs.Lines.{match_header, case_header, Form, simple_form, decorator_form, header_form}
 use Rattle.pygrammar.specs.declared.headers.LoopHead as given_loop
 use Rattle.pygrammar.specs.declared.headers.LoopHead.TheVariants as loop_variant
 use Rattle.pygrammar.specs.declared.headers.DefHead as given_def

@@ -1,4 +1,5 @@
--- The forms of a logical line (reference 7 and 8): which lists of terminals are which line in a version and an extent of Python, a constructor
+-- The forms of a logical line (reference 7 and 8): which lists of terminals are which line in a version and an extent of Python, a
+-- constructor
 -- for each alternative of the table. The NEWLINE is not part of the list.
 use Rattle.std.specs.Prelude.{◌≡◌, ℕ, ◌+◌, ◌<◌, List, [], ◌∷◌, ◌++◌, Option, Some, None, Bool, true, false, ◌&&◌, codes}
 use Rattle.std.specs.Str.{bytes_eq}
@@ -16,7 +17,9 @@ use Rattle.pytree_node.specs.Profiles.{has_types}
 use Rattle.pygrammar.specs.declared.levels.Level.{Level}
 use Rattle.pygrammar.specs.declared.levels.Level.TheVariants.{Value, Stars, Named, Expression, Subject}
 use Rattle.pygrammar.specs.declared.pattern_levels.PatternLevel.TheVariants.{Patterns}
-use Rattle.pytree_node.specs.Trees.{Expr, Exprs, no_exprs, an_expr, Arguments, Keywords, no_keyword, Identifier, Pattern, Stmt, Alias, Item, TypeParam, TypeVar, ParamSpec, TypeVarTuple, Return, Delete, Assign, TypeAlias, AugAssign, AnnAssign, Raise, Assert, Import, ImportFrom, Global, Nonlocal, ExprOf, Pass, Break, Continue}
+use Rattle.pytree_node.specs.Trees.{Expr, Exprs, no_exprs, an_expr, Arguments, Keywords, no_keyword, Identifier, Pattern, Stmt, Alias, Item}
+use Rattle.pytree_node.specs.Trees.{TypeParam, TypeVar, ParamSpec, TypeVarTuple, Return, Delete, Assign, TypeAlias, AugAssign, AnnAssign}
+use Rattle.pytree_node.specs.Trees.{Raise, Assert, Import, ImportFrom, Global, Nonlocal, ExprOf, Pass, Break, Continue}
 use Rattle.pytree_node.specs.Trees as Trees
 use Rattle.pytoken.specs.Terminals.{Terminal, Spelled, Op, Word, Ident}
 use Rattle.pygrammar.specs.Entries.{Argument, Parameter, Entry}
@@ -24,7 +27,9 @@ use Rattle.pygrammar.specs.Arguments.{in_order, positional, keywords}
 use Rattle.pygrammar.specs.Parameters.{arranged}
 use Rattle.pygrammar.specs.Grammar.{Derives, Listing, Target, SingleTarget, DelTarget, ItemTarget}
 use Rattle.pygrammar.specs.PatternGrammar.{DerivesPattern}
-use Rattle.pygrammar.specs.Lines.{Form, simple_form, decorator_form, header_form, Header, if_header, elif_header, else_header, loop_header, with_header, try_header, except_header, finally_header, def_header, match_header, case_header, while_head, for_head, function_head, class_head}
+use Rattle.pygrammar.specs.Lines.{Form, simple_form, decorator_form, header_form, Header, if_header, elif_header, else_header, loop_header}
+use Rattle.pygrammar.specs.Lines.{with_header, try_header, except_header, finally_header, def_header, match_header, case_header, while_head}
+use Rattle.pygrammar.specs.Lines.{for_head, function_head, class_head}
 
 -- ---- Parts.
 
@@ -73,7 +78,8 @@ type_word form = Ident (record { spelling = type_name; form = form })
 
 -- TypeParam = NAME [":" Expression] | "*" NAME | "**" NAME
 pub data TypeParamOf : List Terminal → TypeParam → Type 0 where
-  type_var : {x : Spelled} {ts : List Terminal} {bound : Option Expr} → Behind (Op Sign.Colon) Expression ts bound → TypeParamOf (Ident x ∷ ts) (TypeVar x.form bound)
+  type_var : {x : Spelled} {ts : List Terminal} {bound : Option Expr} → Behind (Op Sign.Colon) Expression ts bound
+      → TypeParamOf (Ident x ∷ ts) (TypeVar x.form bound)
   type_var_tuple : {x : Spelled} → TypeParamOf (Op Sign.Star ∷ (Ident x ∷ [])) (TypeVarTuple x.form)
   param_spec : {x : Spelled} → TypeParamOf (Op Sign.DoubleStar ∷ (Ident x ∷ [])) (ParamSpec x.form)
 
@@ -88,7 +94,8 @@ pub data TypeParams (profile : Profile) : List Terminal → List TypeParam → T
 -- Dotted = NAME ("." NAME)*
 pub data Dotted : List Terminal → Identifier → Type 0 where
   one_name : {x : Spelled} → Dotted (Ident x ∷ []) x.form
-  dot_name : {x : Spelled} {y : Identifier} {ts : List Terminal} → Dotted ts y → Dotted (Ident x ∷ (Op Sign.Dot ∷ ts)) (x.form ++ (full_stop ∷ y))
+  dot_name : {x : Spelled} {y : Identifier} {ts : List Terminal} → Dotted ts y
+      → Dotted (Ident x ∷ (Op Sign.Dot ∷ ts)) (x.form ++ (full_stop ∷ y))
 
 abbrev pub alias : Identifier → Option Identifier → Alias
 alias x a = record { name = x; asname = a }
@@ -111,7 +118,8 @@ pub data Dots : List Terminal → ℕ → Type 0 where
 pub data Names : List Terminal → List Alias → Type 0 where
   all_names : Names (Op Sign.Star ∷ []) (alias (asterisk ∷ []) None ∷ [])
   names : {ts : List Terminal} {as_ : List Alias} → Commas Alias NameAlias ts as_ → Names ts as_
-  bracketed_names : {ts : List Terminal} {as_ : List Alias} → Commas? Alias NameAlias ts as_ → Names (Op Sign.LPar ∷ (ts ++ (Op Sign.RPar ∷ []))) as_
+  bracketed_names : {ts : List Terminal} {as_ : List Alias} → Commas? Alias NameAlias ts as_
+      → Names (Op Sign.LPar ∷ (ts ++ (Op Sign.RPar ∷ []))) as_
 
 -- ---- Simple statements.
 
@@ -139,7 +147,8 @@ is_name _ = false
 -- (Target "=")+
 pub data Targets : List Terminal → List Expr → Type 0 where
   last_target : {ts : List Terminal} {e : Expr} → Target ts e → Targets (ts ++ (Op Sign.Equal ∷ [])) (e ∷ [])
-  more_targets : {ts us : List Terminal} {e : Expr} {es : List Expr} → Target ts e → Targets us es → Targets (ts ++ (Op Sign.Equal ∷ us)) (e ∷ es)
+  more_targets : {ts us : List Terminal} {e : Expr} {es : List Expr} → Target ts e → Targets us es
+      → Targets (ts ++ (Op Sign.Equal ∷ us)) (e ∷ es)
 
 pub data Simple (profile : Profile) : List Terminal → Stmt → Type 0 where
   -- Value
@@ -181,7 +190,8 @@ pub data Simple (profile : Profile) : List Terminal → Stmt → Type 0 where
   -- "global" NAME,..
   global : {ts : List Terminal} {xs : List Identifier} → Commas Identifier Name ts xs → Simple profile (Word Key.Global ∷ ts) (Global xs)
   -- "nonlocal" NAME,..
-  nonlocal : {ts : List Terminal} {xs : List Identifier} → Commas Identifier Name ts xs → Simple profile (Word Key.Nonlocal ∷ ts) (Nonlocal xs)
+  nonlocal : {ts : List Terminal} {xs : List Identifier} → Commas Identifier Name ts xs
+      → Simple profile (Word Key.Nonlocal ∷ ts) (Nonlocal xs)
   -- "pass"
   pass : Simple profile (Word Key.Pass ∷ []) Pass
   -- "break"
@@ -189,10 +199,12 @@ pub data Simple (profile : Profile) : List Terminal → Stmt → Type 0 where
   -- "continue"
   continue : Simple profile (Word Key.Continue ∷ []) Continue
   -- "import" (Dotted ["as" NAME]),..
-  import_names : {ts : List Terminal} {as_ : List Alias} → Commas Alias DottedAlias ts as_ → Simple profile (Word Key.Import ∷ ts) (Import as_)
+  import_names : {ts : List Terminal} {as_ : List Alias} → Commas Alias DottedAlias ts as_
+      → Simple profile (Word Key.Import ∷ ts) (Import as_)
   -- "from" ("." | "...")* Dotted "import" Names
   from_module : {ts us vs : List Terminal} {n : ℕ} {m : Identifier} {as_ : List Alias} →
-      Dots ts n → Dotted us m → Names vs as_ → Simple profile (Word Key.From ∷ (ts ++ (us ++ (Word Key.Import ∷ vs)))) (ImportFrom (Some m) as_ n)
+      Dots ts n → Dotted us m → Names vs as_ → Simple profile (Word Key.From ∷ (ts ++ (us ++ (Word Key.Import ∷ vs))))
+          (ImportFrom (Some m) as_ n)
   -- "from" ("." | "...")+ "import" Names
   from_dots : {ts vs : List Terminal} {n : ℕ} {as_ : List Alias} →
       Dots ts n → 0 < n → Names vs as_ → Simple profile (Word Key.From ∷ (ts ++ (Word Key.Import ∷ vs))) (ImportFrom None as_ n)
@@ -201,7 +213,8 @@ pub data Simple (profile : Profile) : List Terminal → Stmt → Type 0 where
 pub data Simples (profile : Profile) : List Terminal → List Stmt → Type 0 where
   last_simple : {ts : List Terminal} {s : Stmt} → Simple profile ts s → Simples profile ts (s ∷ [])
   ended_simple : {ts : List Terminal} {s : Stmt} → Simple profile ts s → Simples profile (ts ++ (Op Sign.Semi ∷ [])) (s ∷ [])
-  more_simples : {ts us : List Terminal} {s : Stmt} {ss : List Stmt} → Simple profile ts s → Simples profile us ss → Simples profile (ts ++ (Op Sign.Semi ∷ us)) (s ∷ ss)
+  more_simples : {ts us : List Terminal} {s : Stmt} {ss : List Stmt} → Simple profile ts s → Simples profile us ss
+      → Simples profile (ts ++ (Op Sign.Semi ∷ us)) (s ∷ ss)
 
 -- ---- Headers, up to their colon.
 
@@ -211,7 +224,8 @@ item e t = record { context_expr = e; optional_vars = t }
 -- Item = Expression ["as" ItemTarget]
 pub data ItemOf : List Terminal → Item → Type 0 where
   bare_item : {ts : List Terminal} {e : Expr} → Derives Expression ts e → ItemOf ts (item e None)
-  item_as : {ts us : List Terminal} {e t : Expr} → Derives Expression ts e → ItemTarget us t → ItemOf (ts ++ (Word Key.As ∷ us)) (item e (Some t))
+  item_as : {ts us : List Terminal} {e t : Expr} → Derives Expression ts e → ItemTarget us t
+      → ItemOf (ts ++ (Word Key.As ∷ us)) (item e (Some t))
 
 -- "(" Item,.. [,] ")"
 pub data Bracketed : List Terminal → List Item → Type 0 where
@@ -220,7 +234,8 @@ pub data Bracketed : List Terminal → List Item → Type 0 where
 -- Items = Item,.. | "(" Item,.. [,] ")"; of the two readings the bracketed one counts where both exist
 pub data Items : List Terminal → List Item → Type 0 where
   in_brackets : {ts : List Terminal} {is : List Item} → Bracketed ts is → Items ts is
-  without : {ts : List Terminal} {is : List Item} → Commas Item ItemOf ts is → ((others : List Item) → Bracketed ts others → ⊥) → Items ts is
+  without : {ts : List Terminal} {is : List Item} → Commas Item ItemOf ts is
+      → ((others : List Item) → Bracketed ts others → ⊥) → Items ts is
 
 abbrev pub listed : Exprs → List Expr
 listed no_exprs = []
@@ -245,7 +260,8 @@ pub data HeaderOf (profile : Profile) : List Terminal → Header → Type 0 wher
   for_line : {ts us vs : List Terminal} {b : Bool} {t e : Expr} → Async ts b → Target us t → Derives Stars vs e →
       HeaderOf profile (ts ++ (Word Key.For ∷ (us ++ (Word Key.In ∷ vs)))) (loop_header (for_head b t e))
   -- ["async"] "with" Items
-  with_line : {ts us : List Terminal} {b : Bool} {is : List Item} → Async ts b → Items us is → HeaderOf profile (ts ++ (Word Key.With ∷ us)) (with_header b is)
+  with_line : {ts us : List Terminal} {b : Bool} {is : List Item} → Async ts b → Items us is
+      → HeaderOf profile (ts ++ (Word Key.With ∷ us)) (with_header b is)
   -- "try"
   try_line : HeaderOf profile (Word Key.Try ∷ []) try_header
   -- "finally"
@@ -259,12 +275,16 @@ pub data HeaderOf (profile : Profile) : List Terminal → Header → Type 0 wher
   except_star : {ts us : List Terminal} {e : Expr} {x : Option Identifier} → Derives Expression ts e → As us x →
       HeaderOf profile (Word Key.Except ∷ (Op Sign.Star ∷ (ts ++ us))) (except_header true (Some e) x)
   -- ["async"] "def" NAME [TypeParams] "(" [Params] ")" ["->" Expression]
-  def_line : {ts us vs ws : List Terminal} {b : Bool} (x : Spelled) {tps : List TypeParam} {ps : List Entry} {a : Arguments} {r : Option Expr} →
-      Async ts b → TypeParams profile us tps → Listing (Parameter true) vs ps → arranged ps ≡ Some a → Behind (Op Sign.RArrow) Expression ws r →
-      HeaderOf profile (ts ++ (Word Key.Def ∷ (Ident x ∷ (us ++ (Op Sign.LPar ∷ (vs ++ (Op Sign.RPar ∷ ws))))))) (def_header (function_head b x.form tps a r))
+  def_line : {ts us vs ws : List Terminal} {b : Bool} (x : Spelled) {tps : List TypeParam} {ps : List Entry}
+      {a : Arguments} {r : Option Expr} →
+      Async ts b → TypeParams profile us tps → Listing (Parameter true) vs ps → arranged ps ≡ Some a
+          → Behind (Op Sign.RArrow) Expression ws r →
+      HeaderOf profile (ts ++ (Word Key.Def ∷ (Ident x ∷ (us ++ (Op Sign.LPar ∷ (vs ++ (Op Sign.RPar ∷ ws)))))))
+          (def_header (function_head b x.form tps a r))
   -- "class" NAME [TypeParams] ["(" [Args] ")"]
   class_line : {x : Spelled} {ts us : List Terminal} {tps : List TypeParam} {es : List Expr} {ks : Keywords} →
-      TypeParams profile ts tps → Bases us es ks → HeaderOf profile (Word Key.Class ∷ (Ident x ∷ (ts ++ us))) (def_header (class_head x.form tps es ks))
+      TypeParams profile ts tps → Bases us es ks → HeaderOf profile (Word Key.Class ∷ (Ident x ∷ (ts ++ us)))
+          (def_header (class_head x.form tps es ks))
 
 -- ---- `match` and `case`, which are no keywords: NAMEs that are spelled so.
 
@@ -295,7 +315,8 @@ is_case_line profile inside ts = is_whole profile.extent && (inside && begins_ca
 
 -- "case" Patterns ["if" Named], up to the colon
 pub data CaseOf : List Terminal → Header → Type 0 where
-  case_line : {ts us : List Terminal} {p : Pattern} {g : Option Expr} (form : Identifier) → DerivesPattern Patterns ts p → Behind (Word Key.If) Named us g →
+  case_line : {ts us : List Terminal} {p : Pattern} {g : Option Expr} (form : Identifier) → DerivesPattern Patterns ts p
+      → Behind (Word Key.If) Named us g →
       CaseOf (case_word form ∷ (ts ++ us)) (case_header p g)
 
 -- ---- Lines.
@@ -317,9 +338,12 @@ pub data FormOf (profile : Profile) : List Terminal → Form → Type 0 where
 
 -- what a line is at its place: whether it stands in a `match`
 pub data FormAt (profile : Profile) : Bool → List Terminal → Form → Type 0 where
-  other_line : {inside : Bool} {ts : List Terminal} {f : Form} → is_case_line profile inside ts ≡ false → FormOf profile ts f → FormAt profile inside ts f
+  other_line : {inside : Bool} {ts : List Terminal} {f : Form} → is_case_line profile inside ts ≡ false → FormOf profile ts f
+      → FormAt profile inside ts f
   -- Case ":"
-  case_alone : {ts : List Terminal} {h : Header} → is_whole profile.extent ≡ true → CaseOf ts h → FormAt profile true (ts ++ (Op Sign.Colon ∷ [])) (header_form h None)
+  case_alone : {ts : List Terminal} {h : Header} → is_whole profile.extent ≡ true → CaseOf ts h
+      → FormAt profile true (ts ++ (Op Sign.Colon ∷ [])) (header_form h None)
   -- Case ":" Simple (";" Simple)* [";"]
-  case_suite : {ts us : List Terminal} {h : Header} {ss : List Stmt} → is_whole profile.extent ≡ true → CaseOf ts h → Simples profile us ss →
+  case_suite : {ts us : List Terminal} {h : Header} {ss : List Stmt} → is_whole profile.extent ≡ true → CaseOf ts h
+      → Simples profile us ss →
       FormAt profile true (ts ++ (Op Sign.Colon ∷ us)) (header_form h (Some ss))

@@ -1,7 +1,8 @@
 -- Which lists of terminals give which expressions: the table of the grammar, a constructor for each alternative.
 use Rattle.std.specs.Prelude.{◌≡◌, ℕ, List, [], ◌∷◌, ◌++◌, map, Option, Some, None, Bool, true, false, cond}
 use Rattle.pylex_lexeme.specs.declared.kinds.Exact.{Exact}
-use Rattle.pylex_lexeme.specs.declared.kinds.Exact.TheVariants.{LPar, RPar, LSqb, RSqb, LBrace, RBrace, Colon, Comma, Star, Slash, Equal, Dot, DoubleStar, ColonEqual}
+use Rattle.pylex_lexeme.specs.declared.kinds.Exact.TheVariants.{LPar, RPar, LSqb, RSqb, LBrace, RBrace, Colon, Comma, Star, Slash, Equal}
+use Rattle.pylex_lexeme.specs.declared.kinds.Exact.TheVariants.{Dot, DoubleStar, ColonEqual}
 use Rattle.pytoken.specs.declared.keywords.Keyword.TheVariants as Key
 use Rattle.pytree_node.specs.declared.operators.Operator.{Operator}
 use Rattle.pytree_node.specs.declared.operators.Operator.TheVariants as Bin
@@ -11,16 +12,20 @@ use Rattle.pytree_node.specs.declared.operators.Comparison.{Comparison}
 use Rattle.pytree_node.specs.declared.operators.Comparison.TheVariants as Is
 use Rattle.pytree_node.specs.declared.operators.Context.TheVariants.{Load, Store}
 use Rattle.pygrammar.specs.declared.levels.Level.{Level}
-use Rattle.pygrammar.specs.declared.levels.Level.TheVariants.{Value, Stars, StarItem, Named, Expression, Or, Compare, BitOr, Factor, Power, Await, Primary, Atom, Elem, Slices, Part, Slice, Subject}
+use Rattle.pygrammar.specs.declared.levels.Level.TheVariants.{Value, Stars, StarItem, Named, Expression, Or, Compare, BitOr, Factor, Power}
+use Rattle.pygrammar.specs.declared.levels.Level.TheVariants.{Await, Primary, Atom, Elem, Slices, Part, Slice, Subject}
 use Rattle.pytree_node.specs.Trees
-use Rattle.pytree_node.specs.Trees.{Expr, no_exprs, an_expr, OptionalExpr, absent, present, arg, Arguments, Identifier, exprs, Comprehension, comprehensions}
+use Rattle.pytree_node.specs.Trees.{Expr, no_exprs, an_expr, OptionalExpr, absent, present, arg, Arguments, Identifier, exprs}
+use Rattle.pytree_node.specs.Trees.{Comprehension, comprehensions}
 use Rattle.pytree_node.specs.Values
 use Rattle.pyfstring.specs.declared.parts.Conversion.{Conversion}
-use Rattle.pytoken.specs.Terminals.{Terminal, Spelled, Op, Word, Ident, Number, Literal, FormattedBegin, FormattedEnd, FormattedText, FieldBegin, SpecBegin, FieldEnd}
+use Rattle.pytoken.specs.Terminals.{Terminal, Spelled, Op, Word, Ident, Number, Literal, FormattedBegin, FormattedEnd, FormattedText}
+use Rattle.pytoken.specs.Terminals.{FieldBegin, SpecBegin, FieldEnd}
 use Rattle.pygrammar.specs.Operators.{below, left_operator, prefix_operator, chain_level, chain_word, comparison}
 use Rattle.pygrammar.specs.Constants.{constant_word, joined}
 use Rattle.pygrammar.specs.FormattedStrings.{StringPart, Text, Field, merged, values_of, spec_values_of, begins_unicode, has_formatted}
-use Rattle.pygrammar.specs.Entries.{Item, Of, Pair, Argument, Parameter, Entry, Single, Paired, Spread, Doubled, Keyed, Plain, Slashed, Bare, Gathered, Collected, singles, keys, values}
+use Rattle.pygrammar.specs.Entries.{Item, Of, Pair, Argument, Parameter, Entry, Single, Paired, Spread, Doubled, Keyed, Plain, Slashed}
+use Rattle.pygrammar.specs.Entries.{Bare, Gathered, Collected, singles, keys, values}
 use Rattle.pygrammar.specs.Arguments.{called}
 use Rattle.pygrammar.specs.Parameters.{arranged}
 use Rattle.pygrammar.specs.Targets.{stored, deleted, single_stored}
@@ -93,7 +98,8 @@ mutual
     -- Primary = Primary "(" Named Comp+ ")"
     call_generator : {ts us vs : List Terminal} {f e : Expr} {gs : List Comprehension}
         → Derives Primary ts f → Derives Named us e → Comps vs gs
-        → Derives Primary (ts ++ (Op LPar ∷ (us ++ (vs ++ (Op RPar ∷ []))))) (Trees.Call f (an_expr (Trees.GeneratorExp e (comprehensions gs)) no_exprs) Trees.no_keyword)
+        → Derives Primary (ts ++ (Op LPar ∷ (us ++ (vs ++ (Op RPar ∷ [])))))
+            (Trees.Call f (an_expr (Trees.GeneratorExp e (comprehensions gs)) no_exprs) Trees.no_keyword)
     -- Primary = Primary "[" Slices "]"
     subscript : {ts us : List Terminal} {e s : Expr}
         → Derives Primary ts e → Derives Slices us s
@@ -292,7 +298,8 @@ mutual
     -- Params: "*" NAME ":" "*" BitOr
     star_annotation : {x : Spelled} {ts : List Terminal} {e : Expr}
         → Derives BitOr ts e
-        → Piece (Parameter true) (Op Star ∷ (Ident x ∷ (Op Colon ∷ (Op Star ∷ ts)))) (Gathered (arg x.form (present (Trees.Starred e Load))))
+        → Piece (Parameter true) (Op Star ∷ (Ident x ∷ (Op Colon ∷ (Op Star ∷ ts))))
+            (Gathered (arg x.form (present (Trees.Starred e Load))))
     -- Params: "**" NAME [":" Expression]
     double_parameter : {b : Bool} {x : Spelled} {ts : List Terminal} {a : OptionalExpr}
         → Suffix (cond b (Some Colon) None) ts a
@@ -337,4 +344,5 @@ pub data DelTarget : List Terminal → Expr → Type 0 where
 
 pub data ItemTarget : List Terminal → Expr → Type 0 where
   item_target : {ts : List Terminal} {e s : Expr} → Derives Expression ts e → stored e ≡ Some s → ItemTarget ts s
-  star_target : {ts : List Terminal} {e s : Expr} → Derives Expression ts e → stored (Trees.Starred e Load) ≡ Some s → ItemTarget (Op Star ∷ ts) s
+  star_target : {ts : List Terminal} {e s : Expr} → Derives Expression ts e → stored (Trees.Starred e Load) ≡ Some s
+      → ItemTarget (Op Star ∷ ts) s

@@ -17,4 +17,5 @@ cap_form d TooDeep = TooDeep
 
 -- up to height d
 abbrev pub limit_line : Profile → Bool → ℕ → List Terminal → Answer Form
-limit_line profile inside d ts = cap_form d (line_at profile (capped (suc (length ts)) (suc d)) (capped_pattern (suc (length ts)) (suc d)) inside ts)
+limit_line profile inside d ts =
+    cap_form d (line_at profile (capped (suc (length ts)) (suc d)) (capped_pattern (suc (length ts)) (suc d)) inside ts)

@@ -10,7 +10,9 @@ use Rattle.pytree_node.specs.declared.profiles.Profile.{Profile}
 use Rattle.pygrammar.specs.declared.levels.Level.{Level}
 use Rattle.pygrammar.specs.declared.levels.Level.TheVariants.{Value, Stars, Named, Expression, Subject}
 use Rattle.pygrammar.specs.declared.pattern_levels.PatternLevel.TheVariants.{Patterns}
-use Rattle.pytree_node.specs.Trees.{Expr, Arguments, Keywords, no_keyword, Identifier, Stmt, Alias, Item, TypeParam, TypeVar, ParamSpec, TypeVarTuple, Return, Delete, Assign, TypeAlias, AugAssign, AnnAssign, Raise, Assert, Import, ImportFrom, Global, Nonlocal, ExprOf, Pass, Break, Continue}
+use Rattle.pytree_node.specs.Trees.{Expr, Arguments, Keywords, no_keyword, Identifier, Stmt, Alias, Item, TypeParam, TypeVar, ParamSpec}
+use Rattle.pytree_node.specs.Trees.{TypeVarTuple, Return, Delete, Assign, TypeAlias, AugAssign, AnnAssign, Raise, Assert, Import}
+use Rattle.pytree_node.specs.Trees.{ImportFrom, Global, Nonlocal, ExprOf, Pass, Break, Continue}
 use Rattle.pytree_node.specs.Trees as Trees
 use Rattle.pytoken.specs.Terminals.{Terminal, Op, Word, Ident}
 use Rattle.pygrammar.specs.Looks.{is_op, is_word, name_in}
@@ -18,9 +20,12 @@ use Rattle.pygrammar.specs.Entries.{Of, Argument, Parameter}
 use Rattle.pygrammar.specs.Arguments.{in_order, positional, keywords}
 use Rattle.pygrammar.specs.Parameters.{arranged}
 use Rattle.pygrammar.specs.Targets.{stored, deleted, single_stored}
-use Rattle.pygrammar.specs.Reader.{Answer, Found, NoForm, TooDeep, and_then, on_some, on_first, on_name_with, closed, made, Reads, listing_of, read_target, read}
+use Rattle.pygrammar.specs.Reader.{Answer, Found, NoForm, TooDeep, and_then, on_some, on_first, on_name_with, closed, made, Reads}
+use Rattle.pygrammar.specs.Reader.{listing_of, read_target, read}
 use Rattle.pygrammar.specs.Precedence.{starts}
-use Rattle.pygrammar.specs.Lines.{Form, simple_form, decorator_form, header_form, Header, if_header, elif_header, else_header, loop_header, with_header, try_header, except_header, finally_header, def_header, match_header, case_header, while_head, for_head, function_head, class_head}
+use Rattle.pygrammar.specs.Lines.{Form, simple_form, decorator_form, header_form, Header, if_header, elif_header, else_header, loop_header}
+use Rattle.pygrammar.specs.Lines.{with_header, try_header, except_header, finally_header, def_header, match_header, case_header, while_head}
+use Rattle.pygrammar.specs.Lines.{for_head, function_head, class_head}
 use Rattle.pygrammar.specs.Forms.{alias, type_name, match_name, is_whole, is_case_line, augmented, item, listed}
 use Rattle.pygrammar.specs.PatternReader.{PatternReads, capped_pattern}
 use Rattle.pytree_node.specs.Profiles.{has_types}
@@ -68,7 +73,9 @@ always r = true
 -- X,..: after a comma another one follows where `more` says so; the number is larger than the number of terminals
 abbrev pub commas : {A : Type 0} → (List Terminal → Answer A) → (List Terminal → Bool) → ℕ → List Terminal → Answer (List A)
 commas one more zero i = NoForm
-commas one more (suc n) i = and_then (one i) (λ a r. on_first (is_op Sign.Comma) r (λ _ r1. cond (more r1) (and_then (commas one more n r1) (λ as_ r2. Found (a ∷ as_) r2)) (Found (a ∷ []) r1)) (Found (a ∷ []) r))
+commas one more (suc n) i =
+    and_then (one i) (λ a r. on_first (is_op Sign.Comma) r
+    (λ _ r1. cond (more r1) (and_then (commas one more n r1) (λ as_ r2. Found (a ∷ as_) r2)) (Found (a ∷ []) r1)) (Found (a ∷ []) r))
 
 abbrev pub commas_of : {A : Type 0} → (List Terminal → Answer A) → (List Terminal → Bool) → List Terminal → Answer (List A)
 commas_of one more i = commas one more (suc (length i)) i
@@ -84,7 +91,8 @@ read_as i = on_first (is_word Key.As) i (λ _ r. on_first name_in r (λ x r1. Fo
 
 abbrev pub dotted : ℕ → List Terminal → Answer Identifier
 dotted zero i = NoForm
-dotted (suc n) i = on_first name_in i (λ x r. on_first (is_op Sign.Dot) r (λ _ r1. and_then (dotted n r1) (λ y r2. Found (x ++ (full_stop ∷ y)) r2)) (Found x r)) NoForm
+dotted (suc n) i = on_first name_in i
+    (λ x r. on_first (is_op Sign.Dot) r (λ _ r1. and_then (dotted n r1) (λ y r2. Found (x ++ (full_stop ∷ y)) r2)) (Found x r)) NoForm
 
 abbrev pub read_dotted : List Terminal → Answer Identifier
 read_dotted i = dotted (suc (length i)) i
@@ -165,14 +173,17 @@ module _ (self : Reads) where
   abbrev pub end_value : List Expr → Expr → List Terminal → Answer Stmt
   end_value (t ∷ ts) e r = Found (Assign (t ∷ ts) e) r
   end_value [] e r =
-      on_first augmented_sign r (λ o r1. on_some (single_stored e) (λ t. and_then (self Value r1) (λ v r2. Found (AugAssign t o v) r2)) NoForm)
+      on_first augmented_sign r
+          (λ o r1. on_some (single_stored e) (λ t. and_then (self Value r1) (λ v r2. Found (AugAssign t o v) r2)) NoForm)
       (on_first (is_op Sign.Colon) r (λ _ r1. on_some (single_stored e) (λ t. annotation t false r1) NoForm)
       (Found (ExprOf e) r))
 
   -- a Value, and what follows it; the targets so far
   abbrev pub value_loop : ℕ → List Expr → List Terminal → Answer Stmt
   value_loop zero acc i = NoForm
-  value_loop (suc n) acc i = and_then (self Value i) (λ e r. on_first (is_op Sign.Equal) r (λ _ r1. on_some (stored e) (λ t. value_loop n (acc ++ (t ∷ [])) r1) NoForm) (end_value acc e r))
+  value_loop (suc n) acc i =
+      and_then (self Value i) (λ e r. on_first (is_op Sign.Equal) r (λ _ r1. on_some (stored e) (λ t. value_loop n (acc ++ (t ∷ [])) r1)
+      NoForm) (end_value acc e r))
 
   abbrev pub value_statement : List Terminal → Answer Stmt
   value_statement i = on_name_with Sign.Colon i (λ x r. annotation (Trees.Name x Store) true r) (value_loop (suc (length i)) [] i)
@@ -187,7 +198,9 @@ module _ (self : Reads) where
       (on_first (is_op Sign.DoubleStar) i (λ _ r. on_first name_in r (λ x r1. Found (ParamSpec x) r1) NoForm) NoForm))
 
   abbrev pub bracketed_type_params : List Terminal → Answer (List TypeParam)
-  bracketed_type_params i = on_first (is_op Sign.LSqb) i (λ _ r. and_then (commas_of read_type_param starts_type_param r) (λ ps r1. closed Sign.RSqb r1 ps)) (Found [] i)
+  bracketed_type_params i =
+      on_first (is_op Sign.LSqb) i (λ _ r. and_then (commas_of read_type_param starts_type_param r) (λ ps r1. closed Sign.RSqb r1 ps))
+      (Found [] i)
 
 module _ (profile : Profile) (self : Reads) where
   -- [TypeParams]
@@ -196,14 +209,20 @@ module _ (profile : Profile) (self : Reads) where
 
   -- after `type` and the NAME
   abbrev pub alias_rest : Identifier → List Terminal → Answer Stmt
-  alias_rest x i = and_then (read_type_params i) (λ ps r. on_first (is_op Sign.Equal) r (λ _ r1. and_then (self Expression r1) (λ e r2. Found (TypeAlias (Trees.Name x Store) ps e) r2)) NoForm)
+  alias_rest x i = and_then (read_type_params i)
+      (λ ps r. on_first (is_op Sign.Equal) r
+      (λ _ r1. and_then (self Expression r1) (λ e r2. Found (TypeAlias (Trees.Name x Store) ps e) r2)) NoForm)
 
   -- r are the terminals after the first
   abbrev pub statement_of : Start → (i r : List Terminal) → Answer Stmt
   statement_of Values i r = on_type profile i alias_rest (value_statement self i)
   statement_of Returns i r = and_then (if_any self Stars r) (λ e r1. Found (Return e) r1)
-  statement_of Raises i r = cond (starts (Of Expression) r) (and_then (self Expression r) (λ e r1. and_then (after self (Word Key.From) Expression r1) (λ c r2. Found (Raise (Some e) c) r2))) (Found (Raise None None) r)
-  statement_of Asserts i r = and_then (self Expression r) (λ e r1. and_then (after self (Op Sign.Comma) Expression r1) (λ m r2. Found (Assert e m) r2))
+  statement_of Raises i r =
+      cond (starts (Of Expression) r)
+      (and_then (self Expression r) (λ e r1. and_then (after self (Word Key.From) Expression r1) (λ c r2. Found (Raise (Some e) c) r2)))
+      (Found (Raise None None) r)
+  statement_of Asserts i r =
+      and_then (self Expression r) (λ e r1. and_then (after self (Op Sign.Comma) Expression r1) (λ m r2. Found (Assert e m) r2))
   statement_of Deletes i r = and_then (commas_of (deleted_one self) (starts (Of Expression)) r) (λ es r1. Found (Delete es) r1)
   statement_of Globals i r = and_then (commas_of read_name always r) (λ xs r1. Found (Global xs) r1)
   statement_of Nonlocals i r = and_then (commas_of read_name always r) (λ xs r1. Found (Nonlocal xs) r1)
@@ -220,27 +239,35 @@ module _ (profile : Profile) (self : Reads) where
   -- with `;` between
   abbrev pub statements : ℕ → List Terminal → Answer (List Stmt)
   statements zero i = NoForm
-  statements (suc n) i = and_then (statement i) (λ s r. on_first (is_op Sign.Semi) r (λ _ r1. on_none r1 (Found (s ∷ []) []) (and_then (statements n r1) (λ ss r2. Found (s ∷ ss) r2))) (Found (s ∷ []) r))
+  statements (suc n) i =
+      and_then (statement i)
+      (λ s r. on_first (is_op Sign.Semi) r
+      (λ _ r1. on_none r1 (Found (s ∷ []) []) (and_then (statements n r1) (λ ss r2. Found (s ∷ ss) r2))) (Found (s ∷ []) r))
 
 -- ---- Headers.
 
 module _ (self : Reads) where
   abbrev pub item_target : List Terminal → Answer Expr
-  item_target i = on_first (is_op Sign.Star) i (λ _ r. and_then (self Expression r) (λ e r1. made (stored (Trees.Starred e Load)) r1)) (and_then (self Expression i) (λ e r. made (stored e) r))
+  item_target i = on_first (is_op Sign.Star) i (λ _ r. and_then (self Expression r) (λ e r1. made (stored (Trees.Starred e Load)) r1))
+      (and_then (self Expression i) (λ e r. made (stored e) r))
 
   abbrev pub read_item : List Terminal → Answer Item
-  read_item i = and_then (self Expression i) (λ e r. on_first (is_word Key.As) r (λ _ r1. and_then (item_target r1) (λ t r2. Found (item e (Some t)) r2)) (Found (item e None) r))
+  read_item i = and_then (self Expression i)
+      (λ e r. on_first (is_word Key.As) r (λ _ r1. and_then (item_target r1) (λ t r2. Found (item e (Some t)) r2)) (Found (item e None) r))
 
   -- items in brackets directly before a colon
   abbrev pub bracketed : List Terminal → Answer (List Item)
-  bracketed i = on_first (is_op Sign.LPar) i (λ _ r. and_then (commas_of read_item (starts (Of Expression)) r) (λ is r1. on_first (is_op Sign.RPar) r1 (λ _ r2. on_first (is_op Sign.Colon) r2 (λ _ _. Found is r2) NoForm) NoForm)) NoForm
+  bracketed i = on_first (is_op Sign.LPar) i (λ _ r. and_then (commas_of read_item (starts (Of Expression)) r)
+      (λ is r1. on_first (is_op Sign.RPar) r1 (λ _ r2. on_first (is_op Sign.Colon) r2 (λ _ _. Found is r2) NoForm) NoForm)) NoForm
 
   abbrev pub read_items : List Terminal → Answer (List Item)
   read_items i = or_else (bracketed i) (commas_of read_item always i)
 
   -- after the words
   abbrev pub for_rest : Bool → List Terminal → Answer Header
-  for_rest b i = and_then (read_target self i) (λ t r. on_first (is_word Key.In) r (λ _ r1. and_then (self Stars r1) (λ e r2. on_some (stored t) (λ s. Found (loop_header (for_head b s e)) r2) NoForm)) NoForm)
+  for_rest b i = and_then (read_target self i)
+      (λ t r. on_first (is_word Key.In) r
+      (λ _ r1. and_then (self Stars r1) (λ e r2. on_some (stored t) (λ s. Found (loop_header (for_head b s e)) r2) NoForm)) NoForm)
 
   abbrev pub with_rest : Bool → List Terminal → Answer Header
   with_rest b i = and_then (read_items i) (λ is r. Found (with_header b is) r)
@@ -249,15 +276,25 @@ module _ (self : Reads) where
   except_of b i = and_then (self Expression i) (λ e r. and_then (read_as r) (λ x r1. Found (except_header b (Some e) x) r1))
 
   abbrev pub except_rest : List Terminal → Answer Header
-  except_rest i = on_first (is_op Sign.Star) i (λ _ r. except_of true r) (cond (starts (Of Expression) i) (except_of false i) (Found (except_header false None None) i))
+  except_rest i = on_first (is_op Sign.Star) i (λ _ r. except_of true r) (cond (starts (Of Expression) i) (except_of false i)
+      (Found (except_header false None None) i))
 
   -- after `def`, its NAME and the parameters of types
   abbrev pub function_rest : Bool → Identifier → List TypeParam → List Terminal → Answer Header
-  function_rest b x tps i = on_first (is_op Sign.LPar) i (λ _ r. and_then (listing_of self (Parameter true) [] r) (λ ps r1. on_first (is_op Sign.RPar) r1 (λ _ r2. on_some (arranged ps) (λ a. and_then (after self (Op Sign.RArrow) Expression r2) (λ e r3. Found (def_header (function_head b x tps a e)) r3)) NoForm) NoForm)) NoForm
+  function_rest b x tps i =
+      on_first (is_op Sign.LPar) i (λ _ r. and_then (listing_of self (Parameter true) [] r)
+      (λ ps r1. on_first (is_op Sign.RPar) r1
+      (λ _ r2. on_some (arranged ps) (λ a. and_then (after self (Op Sign.RArrow) Expression r2)
+      (λ e r3. Found (def_header (function_head b x tps a e)) r3)) NoForm) NoForm)) NoForm
 
   -- after `class`, its NAME and the parameters of types
   abbrev pub bases_rest : Identifier → List TypeParam → List Terminal → Answer Header
-  bases_rest x tps i = on_first (is_op Sign.LPar) i (λ _ r. and_then (listing_of self Argument [] r) (λ es r1. on_first (is_op Sign.RPar) r1 (λ _ r2. cond (in_order false false es) (Found (def_header (class_head x tps (listed (positional es)) (keywords es))) r2) NoForm) NoForm)) (Found (def_header (class_head x tps [] no_keyword)) i)
+  bases_rest x tps i =
+      on_first (is_op Sign.LPar) i
+      (λ _ r. and_then (listing_of self Argument [] r)
+      (λ es r1. on_first (is_op Sign.RPar) r1
+      (λ _ r2. cond (in_order false false es) (Found (def_header (class_head x tps (listed (positional es)) (keywords es))) r2) NoForm)
+      NoForm)) (Found (def_header (class_head x tps [] no_keyword)) i)
 
 module _ (profile : Profile) (self : Reads) where
   abbrev pub def_rest : Bool → List Terminal → Answer Header
@@ -299,7 +336,8 @@ ends_in_colon [] = false
 ends_in_colon (t ∷ []) = is_colon t
 ends_in_colon (t ∷ ts) = ends_in_colon ts
 
--- A line that begins with `match` and ends in a colon is the header of a `match`, if it is anything: no other line that begins with a NAME ends so.
+-- A line that begins with `match` and ends in a colon is the header of a `match`, if it is anything: no other line that begins with a NAME
+-- ends so.
 abbrev pub is_match_line : Profile → List Terminal → Bool
 is_match_line profile [] = false
 is_match_line profile (t ∷ ts) = is_whole profile.extent && (is_match t && ends_in_colon ts)
@@ -342,7 +380,8 @@ module _ (profile : Profile) (self : Reads) where
 
   -- after `match`
   abbrev pub match_rest : List Terminal → Answer Form
-  match_rest i = and_then (self Subject i) (λ e r. on_first (is_op Sign.Colon) r (λ _ r1. Found (header_form (match_header e) None) r1) NoForm)
+  match_rest i = and_then (self Subject i)
+      (λ e r. on_first (is_op Sign.Colon) r (λ _ r1. Found (header_form (match_header e) None) r1) NoForm)
 
   abbrev pub line_front : List Terminal → Answer Form
   line_front [] = NoForm
@@ -355,7 +394,8 @@ module _ (profile : Profile) (self : Reads) where
 module _ (profile : Profile) (self : Reads) (patterns : PatternReads) where
   -- after `case`
   abbrev pub case_rest : List Terminal → Answer Form
-  case_rest i = and_then (patterns Patterns i) (λ p r. and_then (after self (Word Key.If) Named r) (λ g r1. on_first (is_op Sign.Colon) r1 (λ _ r2. suite profile self (case_header p g) r2) NoForm))
+  case_rest i = and_then (patterns Patterns i) (λ p r. and_then (after self (Word Key.If) Named r)
+      (λ g r1. on_first (is_op Sign.Colon) r1 (λ _ r2. suite profile self (case_header p g) r2) NoForm))
 
   abbrev pub case_front : List Terminal → Answer Form
   case_front [] = NoForm

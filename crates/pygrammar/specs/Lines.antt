@@ -1,6 +1,8 @@
 -- Logical lines, each by itself: what its own tokens say, without the lines around it.
 use Rattle.std.specs.Prelude.{ℕ, Bool, true, false, not, ◌&&◌, List, [], ◌∷◌, Option, Some, None}
-use Rattle.pytree_node.specs.Trees.{Expr, Arguments, Keywords, Identifier, Pattern, Stmt, Item, Handler, TypeParam, FunctionDef, AsyncFunctionDef, ClassDef, TypeAlias, While, For, AsyncFor, With, AsyncWith, Try, TryStar, stmts, handlers}
+use Rattle.pytree_node.specs.Trees.{Expr, Arguments, Keywords, Identifier, Pattern, Stmt, Item, Handler, TypeParam, FunctionDef}
+use Rattle.pytree_node.specs.Trees.{AsyncFunctionDef, ClassDef, TypeAlias, While, For, AsyncFor, With, AsyncWith, Try, TryStar, stmts}
+use Rattle.pytree_node.specs.Trees.{handlers}
 
 -- the heads of `while` and `for`, which differ in nothing else
 pub data LoopHead : Type 0 where
@@ -65,8 +67,10 @@ with_of false items body = With items (stmts body)
 with_of true items body = AsyncWith items (stmts body)
 
 abbrev pub definition : List Expr → DefHead → List Stmt → Stmt
-definition decorators (function_head false name parameters args returns) body = FunctionDef name args (stmts body) decorators returns parameters
-definition decorators (function_head true name parameters args returns) body = AsyncFunctionDef name args (stmts body) decorators returns parameters
+definition decorators (function_head false name parameters args returns) body =
+    FunctionDef name args (stmts body) decorators returns parameters
+definition decorators (function_head true name parameters args returns) body =
+    AsyncFunctionDef name args (stmts body) decorators returns parameters
 definition decorators (class_head name parameters bases keywords) body = ClassDef name bases keywords (stmts body) decorators parameters
 
 -- the Try, or TryStar, of its four parts

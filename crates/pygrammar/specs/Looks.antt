@@ -1,12 +1,19 @@
 -- What one terminal is: a certain sign, a certain keyword, a name, a literal, or a part of an f-string.
 use Rattle.std.specs.Prelude.{ℕ, List, Option, Some, None, cond, ◌==◌}
 use Rattle.pylex_lexeme.specs.declared.kinds.Exact.{Exact}
-use Rattle.pylex_lexeme.specs.declared.kinds.Exact.TheVariants.{LPar, RPar, LSqb, RSqb, LBrace, RBrace, Colon, Comma, Semi, Plus, Minus, Star, Slash, VBar, Amper, Less, Greater, Equal, Dot, Percent, EqEqual, NotEqual, LessEqual, GreaterEqual, Tilde, Circumflex, LeftShift, RightShift, DoubleStar, PlusEqual, MinEqual, StarEqual, SlashEqual, PercentEqual, AmperEqual, VBarEqual, CircumflexEqual, LeftShiftEqual, RightShiftEqual, DoubleStarEqual, DoubleSlash, DoubleSlashEqual, At, AtEqual, RArrow, Ellipsis, ColonEqual}
+use Rattle.pylex_lexeme.specs.declared.kinds.Exact.TheVariants.{LPar, RPar, LSqb, RSqb, LBrace, RBrace, Colon, Comma, Semi, Plus, Minus}
+use Rattle.pylex_lexeme.specs.declared.kinds.Exact.TheVariants.{Star, Slash, VBar, Amper, Less, Greater, Equal, Dot, Percent, EqEqual}
+use Rattle.pylex_lexeme.specs.declared.kinds.Exact.TheVariants.{NotEqual, LessEqual, GreaterEqual, Tilde, Circumflex, LeftShift, RightShift}
+use Rattle.pylex_lexeme.specs.declared.kinds.Exact.TheVariants.{DoubleStar, PlusEqual, MinEqual, StarEqual, SlashEqual, PercentEqual}
+use Rattle.pylex_lexeme.specs.declared.kinds.Exact.TheVariants.{AmperEqual, VBarEqual, CircumflexEqual, LeftShiftEqual, RightShiftEqual}
+use Rattle.pylex_lexeme.specs.declared.kinds.Exact.TheVariants.{DoubleStarEqual, DoubleSlash, DoubleSlashEqual, At, AtEqual, RArrow}
+use Rattle.pylex_lexeme.specs.declared.kinds.Exact.TheVariants.{Ellipsis, ColonEqual}
 use Rattle.pytoken.specs.declared.keywords.Keyword.{Keyword}
 use Rattle.pytoken.specs.declared.keywords.Keyword.TheVariants as Key
 use Rattle.pyfstring.specs.declared.parts.Conversion.{Conversion}
 use Rattle.pytree_node.specs.Values.{Value}
-use Rattle.pytoken.specs.Terminals.{Terminal, Op, Word, Ident, Literal, FormattedBegin, FormattedEnd, FormattedText, FieldBegin, SpecBegin, FieldEnd}
+use Rattle.pytoken.specs.Terminals.{Terminal, Op, Word, Ident, Literal, FormattedBegin, FormattedEnd, FormattedText, FieldBegin, SpecBegin}
+use Rattle.pytoken.specs.Terminals.{FieldEnd}
 
 abbrev pub exact_number : Exact → ℕ
 exact_number LPar = 0

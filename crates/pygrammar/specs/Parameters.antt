@@ -1,6 +1,7 @@
 -- The order of parameters (language reference, 8.7).
 use Rattle.std.specs.Prelude.{List, [], ◌∷◌, Option, Some, None, Bool, true, false, cond, option_map}
-use Rattle.pytree_node.specs.Trees.{Exprs, no_exprs, an_expr, OptionalExpr, absent, present, no_optional, an_optional, Arg, no_arg, an_arg, absent_arg, present_arg, Arguments, arguments}
+use Rattle.pytree_node.specs.Trees.{Exprs, no_exprs, an_expr, OptionalExpr, absent, present, no_optional, an_optional, Arg, no_arg, an_arg}
+use Rattle.pytree_node.specs.Trees.{absent_arg, present_arg, Arguments, arguments}
 use Rattle.pygrammar.specs.Entries.{Entry, Plain, Slashed, Bare, Gathered, Collected}
 
 -- Parameters, in this order: plain ones, and `/` behind at least one; plain ones; `*` NAME, or a bare `*` that a keyword-only one follows;

@@ -1,6 +1,7 @@
 -- What stands between the commas of a pattern's list, and the patterns that a list gives (language reference, 8.6.4.8 to 8.6.4.10).
 use Rattle.std.specs.Prelude.{Bool, true, false, ◌&&◌, not, List, [], ◌∷◌, Option, Some, None, if◌then◌else◌, option_map}
-use Rattle.pytree_node.specs.Trees.{Expr, Identifier, Pattern, MatchMapping, MatchClass, MatchAs, Patterns, no_pattern, a_pattern, present_pattern}
+use Rattle.pytree_node.specs.Trees.{Expr, Identifier, Pattern, MatchMapping, MatchClass, MatchAs, Patterns, no_pattern, a_pattern}
+use Rattle.pytree_node.specs.Trees.{present_pattern}
 use Rattle.pygrammar.specs.PatternOperators.{captured, is_wildcard}
 
 -- what stands between the commas of a list
@@ -58,7 +59,8 @@ all_named [] = true
 all_named (Named x p ∷ es) = all_named es
 all_named _ = false
 
--- Patterns alone come first. The first NAME `=` after one has another name than `_`: Python's parser takes `A(a, _` for two patterns. The flag: a pattern
+-- Patterns alone come first. The first NAME `=` after one has another name than `_`: Python's parser takes `A(a, _` for two patterns. The
+-- flag: a pattern
 -- alone stood before.
 abbrev pub are_class_arguments : Bool → List PatternEntry → Bool
 are_class_arguments b [] = true

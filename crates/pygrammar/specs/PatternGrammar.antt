@@ -1,6 +1,8 @@
--- Which lists of terminals give which patterns: the table of the grammar, a constructor for each alternative (language reference, 8.6.4 and 10).
+-- Which lists of terminals give which patterns: the table of the grammar, a constructor for each alternative (language reference, 8.6.4 and
+-- 10).
 use Rattle.std.specs.Prelude.{◌≡◌, Bool, List, [], ◌∷◌, ◌++◌, map, Some, true, false}
-use Rattle.pylex_lexeme.specs.declared.kinds.Exact.TheVariants.{LPar, RPar, LSqb, RSqb, LBrace, RBrace, Colon, Comma, Star, Equal, Dot, DoubleStar, Minus, VBar}
+use Rattle.pylex_lexeme.specs.declared.kinds.Exact.TheVariants.{LPar, RPar, LSqb, RSqb, LBrace, RBrace, Colon, Comma, Star, Equal, Dot}
+use Rattle.pylex_lexeme.specs.declared.kinds.Exact.TheVariants.{DoubleStar, Minus, VBar}
 use Rattle.pytoken.specs.declared.keywords.Keyword.TheVariants as Key
 use Rattle.pytree_node.specs.declared.operators.Operator.{Operator}
 use Rattle.pytree_node.specs.declared.operators.UnaryOperator.TheVariants as Un
@@ -9,7 +11,8 @@ use Rattle.pygrammar.specs.declared.levels.Level.TheVariants.{Sum}
 use Rattle.pygrammar.specs.declared.pattern_levels.PatternLevel.{PatternLevel}
 use Rattle.pygrammar.specs.declared.pattern_levels.PatternLevel.TheVariants.{Patterns, StarPattern, AsPattern, OrPattern, ClosedPattern}
 use Rattle.pytree_node.specs.Trees
-use Rattle.pytree_node.specs.Trees.{Expr, Identifier, Pattern, MatchValue, MatchSingleton, MatchSequence, MatchStar, MatchAs, MatchOr, no_pattern, a_pattern, absent_pattern, patterns}
+use Rattle.pytree_node.specs.Trees.{Expr, Identifier, Pattern, MatchValue, MatchSingleton, MatchSequence, MatchStar, MatchAs, MatchOr}
+use Rattle.pytree_node.specs.Trees.{no_pattern, a_pattern, absent_pattern, patterns}
 use Rattle.pytree_node.specs.Values
 use Rattle.pytoken.specs.Terminals.{Terminal, Spelled, Op, Word, Ident, Number, Literal}
 use Rattle.pygrammar.specs.Constants.{joined}
@@ -17,7 +20,8 @@ use Rattle.pygrammar.specs.FormattedStrings.{StringPart, merged, values_of, begi
 use Rattle.pygrammar.specs.Grammar.{Literals}
 use Rattle.pygrammar.specs.Operators.{left_operator}
 use Rattle.pygrammar.specs.PatternOperators.{below_pattern, captured, is_imaginary, is_wildcard, singleton_word}
-use Rattle.pygrammar.specs.PatternEntries.{PatternItem, Element, KeyPattern, ClassArgument, PatternEntry, Alone, Keyed, Rest, Named, elements, mapped, class_of, as_named}
+use Rattle.pygrammar.specs.PatternEntries.{PatternItem, Element, KeyPattern, ClassArgument, PatternEntry, Alone, Keyed, Rest, Named}
+use Rattle.pygrammar.specs.PatternEntries.{elements, mapped, class_of, as_named}
 
 -- ---- Values.
 

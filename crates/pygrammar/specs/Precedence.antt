@@ -1,6 +1,8 @@
 -- What a terminal can begin, and all operators in two tables: after an expression and before one.
 use Rattle.std.specs.Prelude.{ℕ, List, [], ◌∷◌, Option, Some, None, Bool, true, false, cond, leb}
-use Rattle.pylex_lexeme.specs.declared.kinds.Exact.TheVariants.{LPar, LSqb, LBrace, Colon, Plus, Minus, Star, Slash, VBar, Amper, Less, Greater, Percent, EqEqual, NotEqual, LessEqual, GreaterEqual, Tilde, Circumflex, LeftShift, RightShift, DoubleStar, DoubleSlash, At, Ellipsis}
+use Rattle.pylex_lexeme.specs.declared.kinds.Exact.TheVariants.{LPar, LSqb, LBrace, Colon, Plus, Minus, Star, Slash, VBar, Amper, Less}
+use Rattle.pylex_lexeme.specs.declared.kinds.Exact.TheVariants.{Greater, Percent, EqEqual, NotEqual, LessEqual, GreaterEqual, Tilde}
+use Rattle.pylex_lexeme.specs.declared.kinds.Exact.TheVariants.{Circumflex, LeftShift, RightShift, DoubleStar, DoubleSlash, At, Ellipsis}
 use Rattle.pytoken.specs.declared.keywords.Keyword.TheVariants as Key
 use Rattle.pytree_node.specs.declared.operators.Operator.{Operator}
 use Rattle.pytree_node.specs.declared.operators.Operator.TheVariants as Bin
@@ -9,7 +11,8 @@ use Rattle.pytree_node.specs.declared.operators.UnaryOperator.TheVariants as Un
 use Rattle.pytree_node.specs.declared.operators.BoolOperator.{BoolOperator}
 use Rattle.pytree_node.specs.declared.operators.BoolOperator.TheVariants as Join
 use Rattle.pygrammar.specs.declared.levels.Level.{Level}
-use Rattle.pygrammar.specs.declared.levels.Level.TheVariants.{Stars, StarItem, Named, Not, BitOr, BitXor, BitAnd, Shift, Sum, Term, Factor, Elem, Slices, Part, Slice, Subject}
+use Rattle.pygrammar.specs.declared.levels.Level.TheVariants.{Stars, StarItem, Named, Not, BitOr, BitXor, BitAnd, Shift, Sum, Term, Factor}
+use Rattle.pygrammar.specs.declared.levels.Level.TheVariants.{Elem, Slices, Part, Slice, Subject}
 use Rattle.pytoken.specs.Terminals.{Terminal, Op, Word, Ident, Number, Literal, FormattedBegin}
 use Rattle.pygrammar.specs.Operators.{chain_level, rank}
 use Rattle.pygrammar.specs.Entries.{Item, Of, Pair, Argument, Parameter}

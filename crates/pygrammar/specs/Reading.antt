@@ -1,7 +1,9 @@
 -- Blocks read line by line: what is kept of the lines so far, and what the next line makes of it.
 use Rattle.std.specs.Prelude.{ℕ, Bool, true, false, nat_lt, cond, List, [], ◌∷◌, ◌++◌, length, Option, Some, None}
 use Rattle.pytree_node.specs.Trees.{Expr, Stmt, Case, Handler, If, Match, cases, stmts}
-use Rattle.pygrammar.specs.Lines.{Line, Form, simple_form, decorator_form, header_form, Header, if_header, elif_header, else_header, loop_header, with_header, try_header, except_header, finally_header, def_header, match_header, case_header, LoopHead, loop, with_of, definition, try_of}
+use Rattle.pygrammar.specs.Lines.{Line, Form, simple_form, decorator_form, header_form, Header, if_header, elif_header, else_header}
+use Rattle.pygrammar.specs.Lines.{loop_header, with_header, try_header, except_header, finally_header, def_header, match_header}
+use Rattle.pygrammar.specs.Lines.{case_header, LoopHead, loop, with_of, definition, try_of}
 use Rattle.pygrammar.specs.Blocks.{case_of, handler, Fault, ExpectedIndent, UnexpectedIndent, MisplacedClause, same_bool}
 
 pub data Answer (A : Type 0) : Type 0 where

@@ -1,6 +1,8 @@
--- What is accepted in a version and an extent of Python, and what is refused where. A refusal of the tokens comes first, in the order that `refusal` gives; then the first line
+-- What is accepted in a version and an extent of Python, and what is refused where. A refusal of the tokens comes first, in the order that
+-- `refusal` gives; then the first line
 -- without a form, the first faulty line of the blocks, and the first statement that stands too deep.
-use Rattle.std.specs.Prelude.{◌≡◌, ℕ, suc, ◌+◌, ◌<◌, ◌≤◌, Bool, true, false, not, ◌&&◌, nat_lt, ◌==◌, cond, List, [], ◌∷◌, ◌++◌, length, Option, Some, None}
+use Rattle.std.specs.Prelude.{◌≡◌, ℕ, suc, ◌+◌, ◌<◌, ◌≤◌, Bool, true, false, not, ◌&&◌, nat_lt, ◌==◌, cond, List, [], ◌∷◌, ◌++◌, length}
+use Rattle.std.specs.Prelude.{Option, Some, None}
 use Rattle.std.specs.List.{flat_map}
 use Rattle.pysource.specs.declared.places.Place.{Place}
 use Rattle.pylex.specs.Listing.{Source}
@@ -17,7 +19,8 @@ use Rattle.pygrammar.specs.Lengths.{weight}
 use Rattle.pygrammar.specs.Lines.{Line, line, Form, header_form}
 use Rattle.pygrammar.specs.Forms.{FormAt, is_whole}
 use Rattle.pygrammar.specs.FormHeights.{form_height}
-use Rattle.pygrammar.specs.Blocks.{Block, Fault, FirstFault, Kind, ElifLine, ElseLine, ExceptLine, FinallyLine, CaseLine, kind_of, header_kind, stands_in_match}
+use Rattle.pygrammar.specs.Blocks.{Block, Fault, FirstFault, Kind, ElifLine, ElseLine, ExceptLine, FinallyLine, CaseLine, kind_of}
+use Rattle.pygrammar.specs.Blocks.{header_kind, stands_in_match}
 
 -- why a line or ENDMARKER is refused
 pub data Code : Type 0 where
@@ -43,7 +46,8 @@ pub data StartsAt (s : Source) (n : ℕ) : Place → Type 0 where
 abbrev pub terminals : Tokens.Line → List Terminal
 terminals x = flat_map (λ t. terminals_of t.kind t.text) x.tokens
 
--- Each line is asked for its form at its place: whether it stands in a `match`, by the forms of the lines before it. Those are given nearest
+-- Each line is asked for its form at its place: whether it stands in a `match`, by the forms of the lines before it. Those are given
+-- nearest
 -- first.
 
 -- a form whose expressions and patterns are no higher than 500
@@ -85,8 +89,10 @@ pub data FirstUnread (profile : Profile) : List Line → List Tokens.Line → �
 -- how many `elif`s the `if` of a line of this kind has up to the line; the lines before it come nearest first
 abbrev pub elifs : Kind → ℕ → List Line → ℕ
 elifs k l [] = 0
-elifs ElifLine l (x ∷ earlier) = cond (nat_lt l x.level) (elifs ElifLine l earlier) (cond (x.level == l) (1 + elifs (kind_of x.form) l earlier) 0)
-elifs ElseLine l (x ∷ earlier) = cond (nat_lt l x.level) (elifs ElseLine l earlier) (cond (x.level == l) (elifs (kind_of x.form) l earlier) 0)
+elifs ElifLine l (x ∷ earlier) = cond (nat_lt l x.level) (elifs ElifLine l earlier)
+    (cond (x.level == l) (1 + elifs (kind_of x.form) l earlier) 0)
+elifs ElseLine l (x ∷ earlier) = cond (nat_lt l x.level) (elifs ElseLine l earlier)
+    (cond (x.level == l) (elifs (kind_of x.form) l earlier) 0)
 elifs _ l (x ∷ earlier) = 0
 
 -- how many statements a line's own header is: the header of a case is none
@@ -97,7 +103,8 @@ own _ = 1
 -- how many statements are around a line of this level: those around its header, the header's own, and its `elif`s
 abbrev pub around : ℕ → List Line → ℕ
 around l [] = 0
-around l (x ∷ earlier) = cond (nat_lt x.level l) (around x.level earlier + (elifs (kind_of x.form) x.level earlier + own (kind_of x.form))) (around l earlier)
+around l (x ∷ earlier) =
+    cond (nat_lt x.level l) (around x.level earlier + (elifs (kind_of x.form) x.level earlier + own (kind_of x.form))) (around l earlier)
 
 -- no statement begins in the header of a clause
 abbrev pub is_clause : Kind → Bool
@@ -122,7 +129,8 @@ IsDeep (Some n) = 500 ≤ n
 -- the first line in which a statement begins that has 500 around it
 pub data FirstDeep : List Line → List Line → ℕ → Type 0 where
   deep : {earlier : List Line} {x : Line} {xs : List Line} → IsDeep (beginning x earlier) → FirstDeep earlier (x ∷ xs) 0
-  deep_behind : {earlier : List Line} {x : Line} {xs : List Line} {n : ℕ} → (IsDeep (beginning x earlier) → ⊥) → FirstDeep (x ∷ earlier) xs n → FirstDeep earlier (x ∷ xs) (suc n)
+  deep_behind : {earlier : List Line} {x : Line} {xs : List Line} {n : ℕ} → (IsDeep (beginning x earlier) → ⊥)
+      → FirstDeep (x ∷ earlier) xs n → FirstDeep earlier (x ∷ xs) (suc n)
 
 -- ---- The answer.
 
@@ -137,10 +145,13 @@ pub record Accepted (profile : Profile) (s : Source) (m : Module) : Type 0 where
 -- the first of the reasons, in their order
 pub data Refused (profile : Profile) (s : Source) : Reason → Type 0 where
   by_tokens : {r : Refusal} → refusal profile.extent s ≡ Some r → Refused profile s (in_tokens r)
-  by_line : {n : ℕ} {p : Place} {c : Code} → refusal profile.extent s ≡ None → FirstUnread profile [] (lines s) n c → StartsAt s n p → Refused profile s (at p c)
+  by_line : {n : ℕ} {p : Place} {c : Code} → refusal profile.extent s ≡ None → FirstUnread profile [] (lines s) n c → StartsAt s n p
+      → Refused profile s (at p c)
   by_block : {forms rest : List Line} {f : Fault} {n : ℕ} {p : Place} →
-      refusal profile.extent s ≡ None → Formed profile [] (lines s) forms → FirstFault [] forms rest f → n + length rest ≡ length forms → StartsAt s n p →
+      refusal profile.extent s ≡ None → Formed profile [] (lines s) forms → FirstFault [] forms rest f
+          → n + length rest ≡ length forms → StartsAt s n p →
       Refused profile s (at p (Indentation f))
   by_height : {forms : List Line} {m : Module} {n : ℕ} {p : Place} →
-      refusal profile.extent s ≡ None → Formed profile [] (lines s) forms → Block 0 forms m.body → 500 < statement_height m → FirstDeep [] forms n → StartsAt s n p →
+      refusal profile.extent s ≡ None → Formed profile [] (lines s) forms → Block 0 forms m.body → 500 < statement_height m
+          → FirstDeep [] forms n → StartsAt s n p →
       Refused profile s (at p TooDeep)

@@ -23,7 +23,8 @@ use Rattle.pygrammar.specs.Refusals.{Code, Reason, terminals, at, HasNone, Forme
 
 -- in a version and an extent a line has at most one form in a `match`, and at most one elsewhere
 abbrev pub FormsAreUnique : Type 0
-FormsAreUnique = (profile : Profile) (inside : Bool) (ts : List Terminal) (f g : Form) → FormAt profile inside ts f → FormAt profile inside ts g → f ≡ g
+FormsAreUnique = (profile : Profile) (inside : Bool) (ts : List Terminal) (f g : Form) → FormAt profile inside ts f
+    → FormAt profile inside ts g → f ≡ g
 
 -- in either extent the forms of Python 3.11 are those of 3.12 without types
 abbrev pub TypesAreNew : Type 0
@@ -41,7 +42,8 @@ TreesAreUnique = (xs : List Line) (a b : List Stmt) → Block 0 xs a → Block 0
 
 -- they have a tree, or a first faulty line
 abbrev pub TreesAreDecided : Type 0
-TreesAreDecided = (xs : List Line) → are_proper xs ≡ true → ((ss : List Stmt) × Block 0 xs ss) ⊎ ((rest : List Line) × (f : Fault) × FirstFault [] xs rest f)
+TreesAreDecided = (xs : List Line) → are_proper xs ≡ true
+    → ((ss : List Stmt) × Block 0 xs ss) ⊎ ((rest : List Line) × (f : Fault) × FirstFault [] xs rest f)
 
 -- and never both
 abbrev pub FaultyLinesAreNoTree : Type 0
@@ -75,9 +77,11 @@ abbrev pub ModulesReturn : Type 0
 ModulesReturn = (extent : Extent) (s : Source) (m : Module) →
     Accepted (python Py311 extent) s m ↔ (Accepted (python Py312 extent) s m × (is_module_untyped m ≡ true))
 
--- a source is accepted in the plain language exactly where it is in the whole one with the same tree, and that has nothing of the whole language alone
+-- a source is accepted in the plain language exactly where it is in the whole one with the same tree, and that has nothing of the whole
+-- language alone
 abbrev pub ExtentsDifferInTrees : Type 0
-ExtentsDifferInTrees = (version : Version) (s : Source) (m : Module) → Accepted (python version Plain) s m ↔ (Accepted (python version Whole) s m × (is_module_plain m ≡ true))
+ExtentsDifferInTrees = (version : Version) (s : Source) (m : Module)
+    → Accepted (python version Plain) s m ↔ (Accepted (python version Whole) s m × (is_module_plain m ≡ true))
 
 -- each source is accepted or refused
 abbrev pub SourcesAreAnswered : Type 0
@@ -85,15 +89,18 @@ SourcesAreAnswered = (profile : Profile) (s : Source) → ((m : Module) × Accep
 
 -- the one free choice: a long line without any form may be refused by either of two reasons, at one place
 pub data IsFreeChoice (profile : Profile) (s : Source) : Reason → Reason → Type 0 where
-  free : {p : Place} {c d : Code} {inside : Bool} (x : Tokens.Line) → Contains (lines s) x → HasNone profile inside x → 500 < weight (terminals x) → IsFreeChoice profile s (at p c) (at p d)
+  free : {p : Place} {c d : Code} {inside : Bool} (x : Tokens.Line) → Contains (lines s) x → HasNone profile inside x
+      → 500 < weight (terminals x) → IsFreeChoice profile s (at p c) (at p d)
 
 -- what is refused has one reason otherwise
 abbrev pub ReasonsAreUnique : Type 0
-ReasonsAreUnique = (profile : Profile) (s : Source) (r q : Reason) → Refused profile s r → Refused profile s q → (r ≡ q) ⊎ IsFreeChoice profile s r q
+ReasonsAreUnique = (profile : Profile) (s : Source) (r q : Reason) → Refused profile s r → Refused profile s q
+    → (r ≡ q) ⊎ IsFreeChoice profile s r q
 
 -- where the lines of a source have a tree, a line begins a statement too deep exactly where the tree is too high
 abbrev pub DepthsAreHeights : Type 0
-DepthsAreHeights = (profile : Profile) (xs : List Tokens.Line) (forms : List Line) (m : Module) → Formed profile [] xs forms → Block 0 forms m.body →
+DepthsAreHeights = (profile : Profile) (xs : List Tokens.Line) (forms : List Line) (m : Module) → Formed profile [] xs forms
+    → Block 0 forms m.body →
     ((n : ℕ) × FirstDeep [] forms n) ↔ (500 < statement_height m)
 
 -- the laws of the answer for a source

@@ -17,8 +17,10 @@ abbrev mutual
   is_untyped (Trees.With items body) = are_untyped body
   is_untyped (Trees.AsyncWith items body) = are_untyped body
   is_untyped (Trees.Match subject cases) = are_cases_untyped cases
-  is_untyped (Trees.Try body handlers orelse finalbody) = are_untyped body && (are_handlers_untyped handlers && (are_untyped orelse && are_untyped finalbody))
-  is_untyped (Trees.TryStar body handlers orelse finalbody) = are_untyped body && (are_handlers_untyped handlers && (are_untyped orelse && are_untyped finalbody))
+  is_untyped (Trees.Try body handlers orelse finalbody) =
+      are_untyped body && (are_handlers_untyped handlers && (are_untyped orelse && are_untyped finalbody))
+  is_untyped (Trees.TryStar body handlers orelse finalbody) =
+      are_untyped body && (are_handlers_untyped handlers && (are_untyped orelse && are_untyped finalbody))
   is_untyped _ = true
 
   pub are_untyped : Trees.Stmts → Bool

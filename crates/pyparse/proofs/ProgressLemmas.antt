@@ -1,5 +1,6 @@
 -- Carries: Known, Progress. On: what is known of a source behind one line more.
-use Rattle.std.proofs.Common.{◌≡◌, inl, inr, ℕ, zero, suc, ◌+◌, ◌≤◌, Bool, true, false, List, [], ◌∷◌, ◌++◌, length, take, refl, sym, ap, ◌∙◌, subst, append_assoc, length-append, arith, Some}
+use Rattle.std.proofs.Common.{◌≡◌, inl, inr, ℕ, zero, suc, ◌+◌, ◌≤◌, Bool, true, false, List, [], ◌∷◌, ◌++◌, length, take, refl, sym, ap}
+use Rattle.std.proofs.Common.{◌∙◌, subst, append_assoc, length-append, arith, Some}
 use Rattle.std.specs.Prelude.{slice_get}
 use Rattle.pysource.specs.declared.places.Place.{Place}
 use Rattle.pylex.specs.Listing.{Source}
@@ -14,8 +15,10 @@ use Rattle.pygrammar.specs.FormHeights.{form_height}
 use Rattle.pygrammar.specs.Blocks.{Fault, FirstFault, stands_in_match}
 use Rattle.pygrammar.specs.Depths.{count, innermost, is_deep}
 use Rattle.pygrammar.specs.Reading.{Fine, run, start}
-use Rattle.pygrammar.specs.Refusals.{Indentation, StartsAt, at_line, terminals, Formed, formed_end, formed_line, Unread, FirstUnread, FirstDeep, beginning}
-use Rattle.pygrammar.proofs.Callers.Blocks.{formed_on, unread_on, unread_more, innermost_on, deep_is, not_deep, deep_more, deep_last, deep_parts}
+use Rattle.pygrammar.specs.Refusals.{Indentation, StartsAt, at_line, terminals, Formed, formed_end, formed_line, Unread, FirstUnread}
+use Rattle.pygrammar.specs.Refusals.{FirstDeep, beginning}
+use Rattle.pygrammar.proofs.Callers.Blocks.{formed_on, unread_on, unread_more, innermost_on, deep_is, not_deep, deep_more, deep_last}
+use Rattle.pygrammar.proofs.Callers.Blocks.{deep_parts}
 use Rattle.pyparse_block.specs.declared.blocks.Blocks.{Blocks}
 use Rattle.pyparse_block.specs.StateOf.{state_of}
 use Rattle.pyparse_block.specs.declared.outline.outlines.Outline.{Outline}
@@ -48,7 +51,8 @@ parted {A} (y ∷ xs) zero x is =
     record { more = xs; whole = ap (λ (z : A). z ∷ xs) one; next = ap (λ (z : A). z ∷ []) one; size = refl }
 parted {A} (y ∷ xs) (suc k) x is =
     let rest = parted xs k x is in
-    record { more = rest.more; whole = ap (λ (zs : List A). y ∷ zs) rest.whole; next = ap (λ (zs : List A). y ∷ zs) rest.next; size = ap suc rest.size }
+    record { more = rest.more; whole = ap (λ (zs : List A). y ∷ zs) rest.whole; next = ap (λ (zs : List A). y ∷ zs) rest.next;
+        size = ap suc rest.size }
 
 next_lines : (s : Source) (k : ℕ) (x : Tokens.Line) → slice_get (lines s) k ≡ Some x → first_lines s (k + 1) ≡ first_lines s k ++ x ∷ []
 next_lines s k x stands =
@@ -67,13 +71,16 @@ starts_held s k r held =
     subst (StartsAt s k) one.3 (at_line (take k (lines s)) at.more held.line one.0 one.1 at.whole at.size one.2)
 
 -- where it stands
-pub place_held : {s : Source} {k : ℕ} {r : LineReading} (earlier : List Line) (inside : Bool) (level : ℕ) (held : HoldsLine s k r) → inside ≡ stands_in_match level earlier →
+pub place_held : {s : Source} {k : ℕ} {r : LineReading} (earlier : List Line) (inside : Bool) (level : ℕ) (held : HoldsLine s k r)
+    → inside ≡ stands_in_match level earlier →
     level ≡ r.level → inside ≡ stands_in_match held.line.level earlier
 place_held earlier inside level held placed at = placed ∙ ap (λ (l : ℕ). stands_in_match l earlier) (at ∙ held.holds.level)
 
 -- it comes next, by its form
-pub comes_held : {profile : Profile} {s : Source} {k : ℕ} {r : LineReading} (earlier : List Line) (inside : Bool) (ts : List Terminal) (level : ℕ) (f : Form) (p : Place) →
-    HoldsLine s k r → inside ≡ stands_in_match level earlier → ts ≡ r.terminals → level ≡ r.level → p ≡ r.start → FormAt profile inside ts f × (form_height f ≤ 500) →
+pub comes_held : {profile : Profile} {s : Source} {k : ℕ} {r : LineReading} (earlier : List Line) (inside : Bool) (ts : List Terminal)
+    (level : ℕ) (f : Form) (p : Place) →
+    HoldsLine s k r → inside ≡ stands_in_match level earlier → ts ≡ r.terminals → level ≡ r.level → p ≡ r.start
+        → FormAt profile inside ts f × (form_height f ≤ 500) →
     Comes profile s k earlier (line level f) p
 comes_held {profile} {s} {k} {r} earlier inside ts level f p held placed same at starts form =
     record {
@@ -90,7 +97,8 @@ comes_held {profile} {s} {k} {r} earlier inside ts level f p held placed same at
     }
 
 -- as many forms as lines
-pub formed_length : {profile : Profile} {earlier : List Line} {xs : List Tokens.Line} {ys : List Line} → Formed profile earlier xs ys → length ys ≡ length xs
+pub formed_length : {profile : Profile} {earlier : List Line} {xs : List Tokens.Line} {ys : List Line}
+    → Formed profile earlier xs ys → length ys ≡ length xs
 formed_length formed_end = refl
 formed_length (formed_line h p) = ap suc (formed_length p)
 
@@ -100,7 +108,8 @@ none_deep n found = elim found [ ]
 
 -- ---- One line more.
 
-module _ {profile : Profile} {s : Source} {k : ℕ} (forms : List Line) {l : Line} {p : Place} (comes : Comes profile s k (behind [] forms) l p) where
+module _ {profile : Profile} {s : Source} {k : ℕ} (forms : List Line) {l : Line} {p : Place}
+    (comes : Comes profile s k (behind [] forms) l p) where
   formed_next : Formed profile [] (first_lines s k) forms → Formed profile [] (first_lines s (k + 1)) (forms ++ l ∷ [])
   formed_next formed =
       let same : line comes.line.level l.form ≡ l = ap (λ (n : ℕ). line n l.form) (sym comes.level) in
@@ -111,7 +120,8 @@ module _ {profile : Profile} {s : Source} {k : ℕ} (forms : List Line) {l : Lin
   number_of formed = formed_length formed ∙ (parted (lines s) k comes.line comes.stands).size
 
   -- a sound line
-  pub sound_on : {o : Outline} {b : Blocks} (o2 : Outline) (b2 : Blocks) (was : IsSound profile s k forms o b) → (deep : Bool) → deep ≡ false
+  pub sound_on : {o : Outline} {b : Blocks} (o2 : Outline) (b2 : Blocks) (was : IsSound profile s k forms o b)
+      → (deep : Bool) → deep ≡ false
       → ((xs : List Line) → Follows xs o → Follows (xs ++ l ∷ []) o2 × (deep ≡ is_deep (innermost l (count [] xs))))
       → ((xs : List Line) → run xs start ≡ Fine (state_of b) → run (xs ++ l ∷ []) start ≡ Fine (state_of b2))
       → IsSound profile s (k + 1) (forms ++ l ∷ []) o2 b2
@@ -176,19 +186,23 @@ module _ {profile : Profile} {s : Source} {k : ℕ} (forms : List Line) {l : Lin
 
   faulty_by : (stop : BlockStop) (known : Known) → Formed profile [] (first_lines s k) forms → Fails stop p known
       → ((more : List Line) → Blames (forms ++ (l ∷ more)) (l ∷ more) stop) → IsKnown profile s (k + 1) (forms ++ l ∷ []) known
-  faulty_by (variant.Faulty f) known formed fails blames = subst (IsKnown profile s (k + 1) (forms ++ l ∷ [])) (sym fails.2) (faulty_on fails.0 (fault_of f) formed fails.1 blames)
+  faulty_by (variant.Faulty f) known formed fails blames = subst (IsKnown profile s (k + 1) (forms ++ l ∷ [])) (sym fails.2)
+      (faulty_on fails.0 (fault_of f) formed fails.1 blames)
   faulty_by variant.Memory known formed fails blames = absurd fails.1
 
   pub sound_faulty : {o : Outline} {b : Blocks} (stop : BlockStop) (known : Known) → IsSound profile s k forms o b → Fails stop p known
-      → ((xs more : List Line) → Follows xs o → Blames (xs ++ (l ∷ more)) (l ∷ more) stop) → IsKnown profile s (k + 1) (forms ++ l ∷ []) known
+      → ((xs more : List Line) → Follows xs o → Blames (xs ++ (l ∷ more)) (l ∷ more) stop)
+          → IsKnown profile s (k + 1) (forms ++ l ∷ []) known
   sound_faulty stop known was fails blames = faulty_by stop known was.formed fails (λ more. blames forms more was.follows)
 
   pub sound_misplaced : {o : Outline} {b : Blocks} (stop : BlockStop) (known : Known) → IsSound profile s k forms o b → Fails stop p known
-      → ((xs more : List Line) → run xs start ≡ Fine (state_of b) → Blames (xs ++ (l ∷ more)) (l ∷ more) stop) → IsKnown profile s (k + 1) (forms ++ l ∷ []) known
+      → ((xs more : List Line) → run xs start ≡ Fine (state_of b) → Blames (xs ++ (l ∷ more)) (l ∷ more) stop)
+          → IsKnown profile s (k + 1) (forms ++ l ∷ []) known
   sound_misplaced stop known was fails blames = faulty_by stop known was.formed fails (λ more. blames forms more was.read)
 
   pub deep_faulty : {o : Outline} {q : Place} (stop : BlockStop) (known : Known) → IsDeepAt profile s k forms o q → Fails stop p known
-      → ((xs more : List Line) → Follows xs o → Blames (xs ++ (l ∷ more)) (l ∷ more) stop) → IsKnown profile s (k + 1) (forms ++ l ∷ []) known
+      → ((xs more : List Line) → Follows xs o → Blames (xs ++ (l ∷ more)) (l ∷ more) stop)
+          → IsKnown profile s (k + 1) (forms ++ l ∷ []) known
   deep_faulty stop known was fails blames = faulty_by stop known was.formed fails (λ more. blames forms more was.follows)
 
   -- one behind it
@@ -203,24 +217,28 @@ module _ {profile : Profile} {s : Source} {k : ℕ} (forms : List Line) {l : Lin
         first =
             λ more.
             subst (λ (xs : List Line). FirstFault [] xs ((was.rest ++ l ∷ []) ++ more) was.fault) (sym (append_assoc forms (l ∷ []) more))
-            (subst (λ (xs : List Line). FirstFault [] (forms ++ (l ∷ more)) xs was.fault) (sym (append_assoc was.rest (l ∷ []) more)) (was.first (l ∷ more)));
+            (subst (λ (xs : List Line). FirstFault [] (forms ++ (l ∷ more)) xs was.fault) (sym (append_assoc was.rest (l ∷ []) more))
+                (was.first (l ∷ more)));
         n = was.n;
         number = omega (arith, had, length-append forms (l ∷ []), length-append was.rest (l ∷ []));
         starts = was.starts;
       }
 
 -- a line behind one without a form
-pub unread_next : {profile : Profile} {s : Source} {k : ℕ} {e : GrammarError} {q : Place} (x : Tokens.Line) → slice_get (lines s) k ≡ Some x → IsUnreadAt profile s k e q →
+pub unread_next : {profile : Profile} {s : Source} {k : ℕ} {e : GrammarError} {q : Place} (x : Tokens.Line) → slice_get (lines s) k ≡ Some x
+    → IsUnreadAt profile s k e q →
     IsUnreadAt profile s (k + 1) e q
 unread_next {profile} {s} {k} {e} x stands was =
     record {
       n = was.n;
-      first = subst (λ (xs : List Tokens.Line). FirstUnread profile [] xs was.n (code_of e)) (sym (next_lines s k x stands)) (unread_more was.first (x ∷ []));
+      first = subst (λ (xs : List Tokens.Line). FirstUnread profile [] xs was.n (code_of e)) (sym (next_lines s k x stands))
+          (unread_more was.first (x ∷ []));
       starts = was.starts;
     }
 
 -- the lines have these forms where none is without one
-formed_all : {profile : Profile} (s : Source) (k : ℕ) (forms : List Line) (known : Known) → is_unread known ≡ false → IsKnown profile s k forms known →
+formed_all : {profile : Profile} (s : Source) (k : ℕ) (forms : List Line) (known : Known) → is_unread known ≡ false
+    → IsKnown profile s k forms known →
     Formed profile [] (first_lines s k) forms
 formed_all s k forms (Sound o b) is was = was.formed
 formed_all s k forms (Deep o p) is was = was.formed
@@ -228,7 +246,8 @@ formed_all s k forms (Faulty e p) is was = was.formed
 formed_all s k forms (known.Unread e p) is was = absurd (cc)
 
 -- nothing more is known behind one without a form
-pub unread_stays : (profile : Profile) (s : Source) (k : ℕ) (forms : List Line) (known : Known) (r : LineReading) → is_unread known ≡ true → HoldsLine s k r →
+pub unread_stays : (profile : Profile) (s : Source) (k : ℕ) (forms : List Line) (known : Known) (r : LineReading)
+    → is_unread known ≡ true → HoldsLine s k r →
     IsKnown profile s k forms known → IsKnown profile s (k + 1) forms known
 unread_stays profile s k forms (Sound o b) r is held was = absurd (cc)
 unread_stays profile s k forms (Deep o p) r is held was = absurd (cc)
@@ -236,8 +255,10 @@ unread_stays profile s k forms (Faulty e p) r is held was = absurd (cc)
 unread_stays profile s k forms (known.Unread e p) r is held was = unread_next held.line held.stands was
 
 -- a line without a form
-pub unread_first : {profile : Profile} {s : Source} {k : ℕ} (forms : List Line) (known : Known) (x : Tokens.Line) (e : GrammarError) (p : Place) → is_unread known ≡ false →
-    IsKnown profile s k forms known → slice_get (lines s) k ≡ Some x → Unread profile (stands_in_match x.level (behind [] forms)) x (code_of e) → StartsAt s k p →
+pub unread_first : {profile : Profile} {s : Source} {k : ℕ} (forms : List Line) (known : Known) (x : Tokens.Line) (e : GrammarError)
+    (p : Place) → is_unread known ≡ false →
+    IsKnown profile s k forms known → slice_get (lines s) k ≡ Some x → Unread profile (stands_in_match x.level (behind [] forms)) x
+        (code_of e) → StartsAt s k p →
     IsUnreadAt profile s (k + 1) e p
 unread_first {profile} {s} {k} forms known x e p is was stands unread starts =
     let formed = formed_all s k forms known is was in

@@ -8,7 +8,8 @@ use Rattle.pyparse_tokens.specs.declared.faults.ParseFault.TheVariants.{Refused,
 use Rattle.pyparse_tokens.specs.declared.tokens.Token.{Token}
 use Rattle.pyparse.specs.TokenLists.{terminals, first_place, first_refusal}
 
--- Why tokens are not read as a pattern of a level: the first that is faulty by itself in the whole language; or they are none; or only one higher than 500,
+-- Why tokens are not read as a pattern of a level: the first that is faulty by itself in the whole language; or they are none; or only one
+-- higher than 500,
 -- where a list that is none and counts 500 or more may be told so too; or memory was wanting, as it may be at any point.
 abbrev pub RefusesPattern : PatternLevel → List Token → ParseFault → Type 0
 RefusesPattern l ts (Refused r) = first_refusal ts ≡ Some r

@@ -34,4 +34,5 @@ read_parameters d i = and_then (listing_of (reads d) (Parameter true) [] i) (λ 
 
 -- the arguments of a call or a `class`, if they are in order: those without a name, and the others
 abbrev pub read_arguments : Depth → List Terminal → Answer (Exprs × Keywords)
-read_arguments d i = and_then (listing_of (reads d) Argument [] i) (λ es r. cond (in_order false false es) (Found (positional es, keywords es) r) NoForm)
+read_arguments d i =
+    and_then (listing_of (reads d) Argument [] i) (λ es r. cond (in_order false false es) (Found (positional es, keywords es) r) NoForm)

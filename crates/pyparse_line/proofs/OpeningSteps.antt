@@ -19,7 +19,8 @@ use Rattle.pyparse_line.specs.Inner.Openings.{name_of, opening_at}
 abbrev named_opening : Bool → Bool → Bool → Opening
 named_opening whole is_case is_match = cond (whole && is_case) Cases (cond (whole && is_match) Matches States)
 
-module _ (profile : Profile) (inside : Bool) (ts : List given.Terminal) (text : List ℕ) (h : first_of (seen ts 0) ≡ Some (name_of text)) where
+module _ (profile : Profile) (inside : Bool) (ts : List given.Terminal) (text : List ℕ)
+    (h : first_of (seen ts 0) ≡ Some (name_of text)) where
   abbrev is_case : Bool
   is_case = inside && bytes_eq text case_name
 

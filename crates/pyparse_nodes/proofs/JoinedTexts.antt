@@ -17,5 +17,7 @@ filled : (u : Bool) (t : List ℕ) → (t ≡ [] → ⊥) → constants u t ≡ 
 filled u [] h = absurd (h refl)
 filled u (c ∷ t) h = refl
 
-pub put_constant : (xs ys : List given.Expr) (e : given.Expr) (u : Bool) (t : List ℕ) → ys ≡ xs ++ (e ∷ []) → tree_of e ≡ Trees.Constant (Values.Str t u) → (t ≡ [] → ⊥) → map tree_of ys ≡ map tree_of xs ++ constants u t
-put_constant xs ys e u t q h n = pushed xs ys e q ∙ ap (λ z. map tree_of xs ++ (z ∷ [])) h ∙ ap (λ z. map tree_of xs ++ z) (sym (filled u t n))
+pub put_constant : (xs ys : List given.Expr) (e : given.Expr) (u : Bool) (t : List ℕ) → ys ≡ xs ++ (e ∷ [])
+    → tree_of e ≡ Trees.Constant (Values.Str t u) → (t ≡ [] → ⊥) → map tree_of ys ≡ map tree_of xs ++ constants u t
+put_constant xs ys e u t q h n = pushed xs ys e q ∙ ap (λ z. map tree_of xs ++ (z ∷ [])) h
+    ∙ ap (λ z. map tree_of xs ++ z) (sym (filled u t n))

@@ -1,6 +1,7 @@
 -- Parameters as they are read, one behind the other.
 use Rattle.std.specs.Prelude.{List, [], ◌∷◌, ◌++◌, Option, Some, None, Bool, true, false}
-use Rattle.pytree_node.specs.Trees.{Expr, Exprs, an_expr, OptionalExpr, absent, present, OptionalExprs, an_optional, Arg, Args, an_arg, OptionalArg, present_arg, Arguments, arguments}
+use Rattle.pytree_node.specs.Trees.{Expr, Exprs, an_expr, OptionalExpr, absent, present, OptionalExprs, an_optional, Arg, Args, an_arg}
+use Rattle.pytree_node.specs.Trees.{OptionalArg, present_arg, Arguments, arguments}
 use Rattle.pygrammar.specs.Entries.{Entry, Plain, Slashed, Bare, Gathered, Collected}
 use Rattle.pygrammar.specs.Parameters.{no_arguments}
 use Rattle.pyparse_nodes.specs.declared.parameters.Stage.{Stage}
@@ -71,7 +72,8 @@ arg_or (Some a) r = present_arg a
 
 abbrev pub before : State → Arguments → Arguments
 before (state g b ps qs v ks kds k ds) (arguments ps2 qs2 v2 ks2 kds2 k2 ds2) =
-    arguments (args_before ps ps2) (args_before qs qs2) (arg_or v v2) (args_before ks ks2) (optionals_before kds kds2) (arg_or k k2) (exprs_before ds ds2)
+    arguments (args_before ps ps2) (args_before qs qs2) (arg_or v v2) (args_before ks ks2) (optionals_before kds kds2)
+        (arg_or k k2) (exprs_before ds ds2)
 
 -- the node, where they may end here
 abbrev pub outcome : State → Option Arguments

@@ -1,7 +1,8 @@
 -- What the operators of the program are to the grammar, and of which levels they are.
 use Rattle.std.specs.Prelude.{◌≡◌, Bool, true, false}
 use Rattle.pygrammar.specs.declared.levels.Level.{Level}
-use Rattle.pygrammar.specs.declared.levels.Level.TheVariants.{Or, And, Not, Compare, BitOr, BitXor, BitAnd, Shift, Sum, Term, Factor, Power, Await}
+use Rattle.pygrammar.specs.declared.levels.Level.TheVariants.{Or, And, Not, Compare, BitOr, BitXor, BitAnd, Shift, Sum, Term, Factor, Power}
+use Rattle.pygrammar.specs.declared.levels.Level.TheVariants.{Await}
 use Rattle.pygrammar.specs.Operators.{below}
 use Rattle.pygrammar.specs.Precedence as precedence
 use Rattle.pyparse_nodes.specs.declared.operators.Infix.{Infix}

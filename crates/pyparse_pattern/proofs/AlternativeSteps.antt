@@ -35,7 +35,8 @@ module _ (ts : List given.Terminal) (d : Depth) (p : Pattern) where
     pub is : x ≡ loop most others (seen ts s.next)
     pub gives : map pattern_of s.items.items ≡ p ∷ others
 
-  pub bars_start : (at : ℕ) (s : Patterns) → at ≤ length ts → map pattern_of s.items.items ≡ p ∷ [] → s.next ≡ at → Alternatives (alternatives_of d (seen ts at)) s
+  pub bars_start : (at : ℕ) (s : Patterns) → at ≤ length ts → map pattern_of s.items.items ≡ p ∷ [] → s.next ≡ at
+      → Alternatives (alternatives_of d (seen ts at)) s
   bars_start at s w g n = record {
     within = omega arith;
     most = length (seen ts s.next);
@@ -54,7 +55,8 @@ module _ (ts : List given.Terminal) (d : Depth) (p : Pattern) where
         go (suc m) = first_miss (is_op VBar) (seen ts s.next) _ _ n
 
     module _ (bar : Stands (Op VBar) ts s.next) where
-      turn : (m : ℕ) → loop (suc m) c.others (seen ts s.next) ≡ and_then (inner_reads d ClosedPattern (seen ts (s.next + 1))) (λ q r. loop m (c.others ++ (q ∷ [])) r)
+      turn : (m : ℕ) → loop (suc m) c.others (seen ts s.next) ≡ and_then (inner_reads d ClosedPattern (seen ts (s.next + 1)))
+          (λ q r. loop m (c.others ++ (q ∷ [])) r)
       turn m = rw bar.is refl
 
       pub bars_error : (e : Stop) → Failed e (inner_reads d ClosedPattern (seen ts (s.next + 1))) → Failed e x
@@ -64,7 +66,10 @@ module _ (ts : List given.Terminal) (d : Depth) (p : Pattern) where
           go zero le q = absurd (omega (arith, le, bar.within, seen_length ts s.next))
           go (suc m) le q = rw (q ∙ turn m) (failed_then e _ (λ y r. loop m (c.others ++ (y ∷ [])) r) f)
 
-      pub bars_more : (room : ℕ) (q : ReadPattern) (r : Patterns) → PatternAt ts room (s.next + 1 + 1) (inner_reads d ClosedPattern (seen ts (s.next + 1))) q → map pattern_of r.items.items ≡ map pattern_of s.items.items ++ (pattern_of q.pattern.value ∷ []) → r.next ≡ q.next → Alternatives x r
+      pub bars_more : (room : ℕ) (q : ReadPattern) (r : Patterns)
+          → PatternAt ts room (s.next + 1 + 1) (inner_reads d ClosedPattern (seen ts (s.next + 1))) q
+          → map pattern_of r.items.items ≡ map pattern_of s.items.items ++ (pattern_of q.pattern.value ∷ [])
+          → r.next ≡ q.next → Alternatives x r
       bars_more room q r f g k = go c.most c.enough c.is
         where
           go : (m : ℕ) → length (seen ts s.next) ≤ m → x ≡ loop m c.others (seen ts s.next) → Alternatives x r
@@ -74,6 +79,7 @@ module _ (ts : List given.Terminal) (d : Depth) (p : Pattern) where
             most = m;
             enough = omega (arith, le, k, f.ahead, f.within, seen_length ts s.next, seen_length ts r.next);
             others = c.others ++ (pattern_of q.pattern.value ∷ []);
-            is = y ∙ turn m ∙ ap (λ z. and_then z (λ b i. loop m (c.others ++ (b ∷ [])) i)) f.is ∙ ap (λ n. loop m (c.others ++ (pattern_of q.pattern.value ∷ [])) (seen ts n)) (sym k);
+            is = y ∙ turn m ∙ ap (λ z. and_then z (λ b i. loop m (c.others ++ (b ∷ [])) i)) f.is
+                ∙ ap (λ n. loop m (c.others ++ (pattern_of q.pattern.value ∷ [])) (seen ts n)) (sym k);
             gives = g ∙ ap (λ l. l ++ (pattern_of q.pattern.value ∷ [])) c.gives;
           }

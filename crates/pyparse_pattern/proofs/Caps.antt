@@ -80,6 +80,7 @@ module _ (ts : List given.Terminal) (more room least : ℕ) (x : Answer Expr) (r
   lower_found f h = low_found (found f) h
 
 -- an answer that has room
-pub low_answered : (ts : List given.Terminal) (room least : ℕ) (x : Answer Expr) (z : Result Read Stop) → Answered ts room least x z → Answered ts room least (cap_value room x) z
+pub low_answered : (ts : List given.Terminal) (room least : ℕ) (x : Answer Expr) (z : Result Read Stop) → Answered ts room least x z
+    → Answered ts room least (cap_value room x) z
 low_answered ts room least x (Ok r) h = low_found ts room room least x r h h.low
 low_answered ts room least x (Err s) h = low_failed room s x h

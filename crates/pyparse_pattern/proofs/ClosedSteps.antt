@@ -1,7 +1,8 @@
 -- Patterns by their first terminal, and what follows a name.
 --
 -- Carries: read_closed, name_pattern, and what is read further in. On: PatternReader, Points.
-use Rattle.std.proofs.Common.{◌≡◌, inl, inr, refl, sym, ap, subst, ◌∙◌, arith, ℕ, ◌+◌, ◌-◌, ◌<◌, List, ◌∷◌, length, Some, None, false, cond, Result, MatchResult}
+use Rattle.std.proofs.Common.{◌≡◌, inl, inr, refl, sym, ap, subst, ◌∙◌, arith, ℕ, ◌+◌, ◌-◌, ◌<◌, List, ◌∷◌, length, Some, None, false, cond}
+use Rattle.std.proofs.Common.{Result, MatchResult}
 use Rattle.pylex_lexeme.specs.declared.kinds.Exact.TheVariants.{Dot, LPar}
 use Rattle.pytoken.specs.declared.keywords.Keyword.{Keyword}
 use Rattle.pytree_node.specs.Trees
@@ -35,31 +36,48 @@ use Rattle.pyparse_pattern.proofs.LevelSteps.{cap_low, leaf, node}
 use Rattle.pyparse_pattern.proofs.Points.{after_point}
 
 -- what was read with the steps and the room of the parts, and with those within brackets
-pub inner_found : (ts : List given.Terminal) (least : ℕ) (d i : Depth) (l : PatternLevel) (x : List Terminal) (r : ReadPattern) → i.steps ≡ d.steps - 1 → i.room ≡ d.room - 1 → PatternAt ts i.room least (reads i l x) r → PatternAt ts (d.room - 1) least (inner_reads d l x) r
+pub inner_found : (ts : List given.Terminal) (least : ℕ) (d i : Depth) (l : PatternLevel) (x : List Terminal) (r : ReadPattern)
+    → i.steps ≡ d.steps - 1 → i.room ≡ d.room - 1 → PatternAt ts i.room least (reads i l x) r
+    → PatternAt ts (d.room - 1) least (inner_reads d l x) r
 inner_found ts least d i l x r p q f = record { ahead = f.ahead; within = f.within; low = omega (arith, q, f.low); is = rw (← p, ← q) f.is }
 
-pub same_found : (ts : List given.Terminal) (least : ℕ) (d i : Depth) (l : PatternLevel) (x : List Terminal) (r : ReadPattern) → i.steps ≡ d.steps - 1 → i.room ≡ d.room → PatternAt ts i.room least (reads i l x) r → PatternAt ts d.room least (same_reads d l x) r
+pub same_found : (ts : List given.Terminal) (least : ℕ) (d i : Depth) (l : PatternLevel) (x : List Terminal) (r : ReadPattern)
+    → i.steps ≡ d.steps - 1 → i.room ≡ d.room → PatternAt ts i.room least (reads i l x) r → PatternAt ts d.room least (same_reads d l x) r
 same_found ts least d i l x r p q f = record { ahead = f.ahead; within = f.within; low = omega (arith, q, f.low); is = rw (← p, ← q) f.is }
 
 -- ---- By the first terminal.
 
-pub closed_here : (ts : List given.Terminal) (d : Depth) (at least : ℕ) (t : Terminal) (z : Result ReadPattern Stop) → first_of (seen ts at) ≡ Some t → PatternAnswered ts d.room least (level_reads d level.ClosedPattern (t ∷ seen ts (at + 1))) z → PatternAnswered ts d.room least (level_reads d level.ClosedPattern (seen ts at)) z
+pub closed_here : (ts : List given.Terminal) (d : Depth) (at least : ℕ) (t : Terminal) (z : Result ReadPattern Stop)
+    → first_of (seen ts at) ≡ Some t → PatternAnswered ts d.room least (level_reads d level.ClosedPattern (t ∷ seen ts (at + 1))) z
+    → PatternAnswered ts d.room least (level_reads d level.ClosedPattern (seen ts at)) z
 closed_here ts d at least t z h a = rw (front ts at t h) a
 
-pub closed_word : (ts : List given.Terminal) (d : Depth) (at : ℕ) (w : Keyword) (v : Value) (z : Result ReadPattern Stop) → IsOpen d → at < length ts → first_of (seen ts at) ≡ Some (Word w) → singleton_word (Word w) ≡ Some v → MatchResult z (λ r. MadePattern 1 (MatchSingleton v) (at + 1) r) (λ s. s ≡ stop.Memory) → PatternAnswered ts d.room (at + 1) (level_reads d level.ClosedPattern (seen ts at)) z
+pub closed_word : (ts : List given.Terminal) (d : Depth) (at : ℕ) (w : Keyword) (v : Value) (z : Result ReadPattern Stop) → IsOpen d
+    → at < length ts → first_of (seen ts at) ≡ Some (Word w) → singleton_word (Word w) ≡ Some v
+    → MatchResult z (λ r. MadePattern 1 (MatchSingleton v) (at + 1) r) (λ s. s ≡ stop.Memory)
+    → PatternAnswered ts d.room (at + 1) (level_reads d level.ClosedPattern (seen ts at)) z
 closed_word ts d at w v z o l h e m =
-    let g : level_reads d level.ClosedPattern (Word w ∷ seen ts (at + 1)) ≡ Found (MatchSingleton v) (seen ts (at + 1)) = ap (λ c. cap_pattern d.room (on_some c (λ u. Found (MatchSingleton u) (seen ts (at + 1))) (reader.literal_pattern (d.room - 1) (field_reads d) (inner_reads d) (Word w ∷ seen ts (at + 1))))) e ∙ cap_low d.room (MatchSingleton v) (seen ts (at + 1)) (omega (arith, o.room)) in
-    closed_here ts d at (at + 1) (Word w) z h (rw g (leaf ts d.room (at + 1) (MatchSingleton v) (at + 1) (omega arith) (omega (arith, l)) z o.room m))
+    let g : level_reads d level.ClosedPattern (Word w ∷ seen ts (at + 1)) ≡ Found (MatchSingleton v) (seen ts (at + 1)) =
+        ap (λ c. cap_pattern d.room (on_some c (λ u. Found (MatchSingleton u) (seen ts (at + 1)))
+        (reader.literal_pattern (d.room - 1) (field_reads d) (inner_reads d) (Word w ∷ seen ts (at + 1))))) e
+        ∙ cap_low d.room (MatchSingleton v) (seen ts (at + 1)) (omega (arith, o.room)) in
+    closed_here ts d at (at + 1) (Word w) z h
+        (rw g (leaf ts d.room (at + 1) (MatchSingleton v) (at + 1) (omega arith) (omega (arith, l)) z o.room m))
 
 -- ---- A name that is a value.
 
 module _ (ts : List given.Terminal) (d : Depth) (at : ℕ) (x : Identifier) where
   -- no bracket behind its points
-  pointed : (e : Read) → Stands (Op Dot) ts at → FoundAt ts (d.room - 1 + 1) at (dotted_from (d.room - 1) x (seen ts at)) e → None ≡ first_is (is_op LPar) (seen ts e.next) → and_then (dotted_from (d.room - 1) x (seen ts at)) (reader.dotted_pattern (d.room - 1) (field_reads d) (inner_reads d)) ≡ Found (MatchValue (tree_of e.expr.value)) (seen ts e.next)
-  pointed e s f n = after_point (d.room - 1) (reader.dotted_pattern (d.room - 1) (field_reads d) (inner_reads d)) (qualified d) (λ g y r. refl) ts at x s ∙ ap (λ y. and_then y (qualified d)) f.is ∙ first_miss (is_op LPar) (seen ts e.next) _ (Found (MatchValue (tree_of e.expr.value)) (seen ts e.next)) n
+  pointed : (e : Read) → Stands (Op Dot) ts at → FoundAt ts (d.room - 1 + 1) at (dotted_from (d.room - 1) x (seen ts at)) e
+      → None ≡ first_is (is_op LPar) (seen ts e.next) → and_then (dotted_from (d.room - 1) x (seen ts at))
+      (reader.dotted_pattern (d.room - 1) (field_reads d) (inner_reads d)) ≡ Found (MatchValue (tree_of e.expr.value)) (seen ts e.next)
+  pointed e s f n = after_point (d.room - 1) (reader.dotted_pattern (d.room - 1) (field_reads d) (inner_reads d)) (qualified d)
+      (λ g y r. refl) ts at x s ∙ ap (λ y. and_then y (qualified d)) f.is
+      ∙ first_miss (is_op LPar) (seen ts e.next) _ (Found (MatchValue (tree_of e.expr.value)) (seen ts e.next)) n
 
   -- with a bracket behind the name there are none
-  no_bracket : (e : Read) → Stands (Op LPar) ts at → FoundAt ts (d.room - 1 + 1) at (dotted_from (d.room - 1) x (seen ts at)) e → None ≡ first_is (is_op LPar) (seen ts e.next) → ⊥
+  no_bracket : (e : Read) → Stands (Op LPar) ts at → FoundAt ts (d.room - 1 + 1) at (dotted_from (d.room - 1) x (seen ts at)) e
+      → None ≡ first_is (is_op LPar) (seen ts e.next) → ⊥
   no_bracket e s f n =
       let g : dotted_from (d.room - 1) x (seen ts at) ≡ Found (Trees.Name x Load) (seen ts at) = rw s.is refl in
       let h : seen ts e.next ≡ seen ts at = same (tree_of e.expr.value) (Trees.Name x Load) (seen ts e.next) (seen ts at) (sym f.is ∙ g) in
@@ -72,11 +90,17 @@ module _ (ts : List given.Terminal) (d : Depth) (at : ℕ) (x : Identifier) wher
       none h = cc
 
   -- with the room of the parts
-  pub inner_dotted : (k : ℕ) (e : Read) → k ≡ d.room - 1 → FoundAt ts (k + 1) at (dotted_from k x (seen ts at)) e → FoundAt ts (d.room - 1 + 1) at (dotted_from (d.room - 1) x (seen ts at)) e
+  pub inner_dotted : (k : ℕ) (e : Read) → k ≡ d.room - 1 → FoundAt ts (k + 1) at (dotted_from k x (seen ts at)) e
+      → FoundAt ts (d.room - 1 + 1) at (dotted_from (d.room - 1) x (seen ts at)) e
   inner_dotted k e q f = subst (λ n. FoundAt ts (n + 1) at (dotted_from n x (seen ts at)) e) q f
 
-  pub name_value : (e : Read) (z : Result ReadPattern Stop) → is_wildcard x ≡ false → IsQualified ts at → FoundAt ts (d.room - 1 + 1) at (dotted_from (d.room - 1) x (seen ts at)) e → None ≡ first_is (is_op LPar) (seen ts e.next) → MakesPattern d.room (MatchValue (tree_of e.expr.value)) e.next z → PatternAnswered ts d.room at (cap_pattern d.room (name_reads d x (seen ts at))) z
+  pub name_value : (e : Read) (z : Result ReadPattern Stop) → is_wildcard x ≡ false → IsQualified ts at
+      → FoundAt ts (d.room - 1 + 1) at (dotted_from (d.room - 1) x (seen ts at)) e → None ≡ first_is (is_op LPar) (seen ts e.next)
+      → MakesPattern d.room (MatchValue (tree_of e.expr.value)) e.next z
+      → PatternAnswered ts d.room at (cap_pattern d.room (name_reads d x (seen ts at))) z
   name_value e z w (inr s) f n m = absurd (no_bracket e s f n)
   name_value e z w (inl s) f n m =
-      let g : name_reads d x (seen ts at) ≡ Found (MatchValue (tree_of e.expr.value)) (seen ts e.next) = ap (λ b. cond b (Found (Trees.MatchAs Trees.absent_pattern None) (seen ts at)) (and_then (dotted_from (d.room - 1) x (seen ts at)) (reader.dotted_pattern (d.room - 1) (field_reads d) (inner_reads d)))) w ∙ pointed e s f n in
+      let g : name_reads d x (seen ts at) ≡ Found (MatchValue (tree_of e.expr.value)) (seen ts e.next) =
+          ap (λ b. cond b (Found (Trees.MatchAs Trees.absent_pattern None) (seen ts at)) (and_then (dotted_from (d.room - 1) x (seen ts at))
+          (reader.dotted_pattern (d.room - 1) (field_reads d) (inner_reads d)))) w ∙ pointed e s f n in
       rw g (node ts d.room at (MatchValue (tree_of e.expr.value)) e.next f.ahead f.within z m)

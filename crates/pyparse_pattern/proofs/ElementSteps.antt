@@ -1,7 +1,8 @@
 -- The entries of a sequence are patterns alone.
 --
 -- Carries: elements. On: PatternReader.
-use Rattle.std.proofs.Common.{◌≡◌, refl, ℕ, zero, suc, ◌-◌, List, [], ◌∷◌, ◌++◌, length, Option, Some, None, Bool, true, false, cond, sym, ap, ◌∙◌}
+use Rattle.std.proofs.Common.{◌≡◌, refl, ℕ, zero, suc, ◌-◌, List, [], ◌∷◌, ◌++◌, length, Option, Some, None, Bool, true, false, cond, sym}
+use Rattle.std.proofs.Common.{ap, ◌∙◌}
 use Rattle.pylex_lexeme.specs.declared.kinds.Exact.TheVariants.{Comma}
 use Rattle.pytree_node.specs.Trees.{Pattern}
 use Rattle.pytoken.specs.Terminals.{Terminal}
@@ -35,7 +36,8 @@ module _ (n : ℕ) (self : Reads) (inner : PatternReads) (es : List PatternEntry
       let e : acc ≡ es = cc in
       ap are_alone (sym e) ∙ h
 
-  turn : (m : ℕ) (acc : List PatternEntry) (i : List Terminal) → are_alone acc ≡ true → ((j : List Terminal) → Good (loop m acc j)) → Good (on_first (is_op Comma) i (λ _ j. loop m acc j) (Found acc i))
+  turn : (m : ℕ) (acc : List PatternEntry) (i : List Terminal) → are_alone acc ≡ true → ((j : List Terminal) → Good (loop m acc j))
+      → Good (on_first (is_op Comma) i (λ _ j. loop m acc j) (Found acc i))
   turn m acc [] h more = ends acc [] h
   turn m acc (t ∷ i) h more = go (is_op Comma t)
     where
@@ -47,14 +49,20 @@ module _ (n : ℕ) (self : Reads) (inner : PatternReads) (es : List PatternEntry
   loop_alone zero acc i h = ends acc i h
   loop_alone (suc m) acc i h = by_start (λ b j w. loop_alone m b j w) (starts_entry Element i)
     where
-      by_answer : ((b : List PatternEntry) (j : List Terminal) → are_alone b ≡ true → Good (loop m b j)) → (x : Answer Pattern) → Good (and_then (and_then x (λ p s. Found (Alone p) s)) (λ e s. on_first (is_op Comma) s (λ _ j. loop m (acc ++ (e ∷ [])) j) (Found (acc ++ (e ∷ [])) s)))
-      by_answer more (Found p s) = turn m (acc ++ (Alone p ∷ [])) s (one_more acc p h) (λ j. more (acc ++ (Alone p ∷ [])) j (one_more acc p h))
+      by_answer : ((b : List PatternEntry) (j : List Terminal) → are_alone b ≡ true → Good (loop m b j)) → (x : Answer Pattern)
+          → Good (and_then (and_then x (λ p s. Found (Alone p) s)) (λ e s. on_first (is_op Comma) s (λ _ j. loop m (acc ++ (e ∷ [])) j)
+          (Found (acc ++ (e ∷ [])) s)))
+      by_answer more (Found p s) = turn m (acc ++ (Alone p ∷ [])) s (one_more acc p h)
+          (λ j. more (acc ++ (Alone p ∷ [])) j (one_more acc p h))
       by_answer more NoForm = λ q. absurd (cc)
       by_answer more TooDeep = λ q. absurd (cc)
 
-      by_start : ((b : List PatternEntry) (j : List Terminal) → are_alone b ≡ true → Good (loop m b j)) → (c : Bool) → Good (cond c (and_then (and_then (inner StarPattern i) (λ p s. Found (Alone p) s)) (λ e s. on_first (is_op Comma) s (λ _ j. loop m (acc ++ (e ∷ [])) j) (Found (acc ++ (e ∷ [])) s))) (Found acc i))
+      by_start : ((b : List PatternEntry) (j : List Terminal) → are_alone b ≡ true → Good (loop m b j)) → (c : Bool)
+          → Good (cond c (and_then (and_then (inner StarPattern i) (λ p s. Found (Alone p) s))
+          (λ e s. on_first (is_op Comma) s (λ _ j. loop m (acc ++ (e ∷ [])) j) (Found (acc ++ (e ∷ [])) s))) (Found acc i))
       by_start more true = by_answer more (inner StarPattern i)
       by_start more false = ends acc i h
 
-pub elements_alone : (d : Depth) (i : List Terminal) (es : List PatternEntry) (r : List Terminal) → entries_of d Element i ≡ Found es r → are_alone es ≡ true
+pub elements_alone : (d : Depth) (i : List Terminal) (es : List PatternEntry) (r : List Terminal)
+    → entries_of d Element i ≡ Found es r → are_alone es ≡ true
 elements_alone d i es r q = loop_alone (d.room - 1) (field_reads d) (inner_reads d) es r (length i) [] i refl q

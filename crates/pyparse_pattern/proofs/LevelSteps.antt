@@ -1,7 +1,8 @@
 -- The levels of patterns, by what stands at a place.
 --
 -- Carries: the levels. On: Answers, Readings.
-use Rattle.std.proofs.Common.{◌≡◌, refl, sym, ap, ◌∙◌, arith, ℕ, zero, suc, ◌+◌, ◌-◌, ◌≤◌, ◌<◌, List, length, Option, Some, None, false, cond, if◌then◌else◌, Result, Ok, Err, MatchResult}
+use Rattle.std.proofs.Common.{◌≡◌, refl, sym, ap, ◌∙◌, arith, ℕ, zero, suc, ◌+◌, ◌-◌, ◌≤◌, ◌<◌, List, length, Option, Some, None, false}
+use Rattle.std.proofs.Common.{cond, if◌then◌else◌, Result, Ok, Err, MatchResult}
 use Rattle.std.specs.Prelude.{option_map}
 use Rattle.std.proofs.lemmas.Bool.{le-leb, lt-leb}
 use Rattle.pytoken.specs.declared.keywords.Keyword.TheVariants as Key
@@ -30,23 +31,27 @@ use Rattle.pyparse_pattern.specs.Inner.Made.{MadePattern, MakesPattern}
 use Rattle.pyparse_pattern.specs.Inner.Readings.{as_from, level_at, level_reads, rest_reads, star_name}
 
 -- where there are steps and room
-opened : (g n : ℕ) (l : PatternLevel) (i : List Terminal) → capped_pattern (suc g) (suc n) l i ≡ level_at (suc n) n (capped g n) (capped_pattern g n) (capped_pattern g (suc n)) l i
+opened : (g n : ℕ) (l : PatternLevel) (i : List Terminal) → capped_pattern (suc g) (suc n) l i ≡ level_at (suc n) n (capped g n)
+    (capped_pattern g n) (capped_pattern g (suc n)) l i
 opened g n level.Patterns i = refl
 opened g n level.StarPattern i = refl
 opened g n level.AsPattern i = refl
 opened g n level.OrPattern i = refl
 opened g n level.ClosedPattern i = refl
 
-level_is : (s r : ℕ) (l : PatternLevel) (i : List Terminal) → 0 < s → 0 < r → capped_pattern s r l i ≡ level_at r (r - 1) (capped (s - 1) (r - 1)) (capped_pattern (s - 1) (r - 1)) (capped_pattern (s - 1) r) l i
+level_is : (s r : ℕ) (l : PatternLevel) (i : List Terminal) → 0 < s → 0 < r
+    → capped_pattern s r l i ≡ level_at r (r - 1) (capped (s - 1) (r - 1)) (capped_pattern (s - 1) (r - 1)) (capped_pattern (s - 1) r) l i
 level_is zero r l i h w = absurd (omega arith)
 level_is (suc g) zero l i h w = absurd (omega arith)
 level_is (suc g) (suc n) l i h w = go (suc g - 1) (suc n - 1) (omega arith) (omega arith)
   where
-    go : (a b : ℕ) → a ≡ g → b ≡ n → capped_pattern (suc g) (suc n) l i ≡ level_at (suc n) b (capped a b) (capped_pattern a b) (capped_pattern a (suc n)) l i
+    go : (a b : ℕ) → a ≡ g → b ≡ n → capped_pattern (suc g) (suc n) l i ≡ level_at (suc n) b (capped a b) (capped_pattern a b)
+        (capped_pattern a (suc n)) l i
     go a b p q = rw (p, q) (opened g n l i)
 
 -- one level
-pub by_level : (ts : List given.Terminal) (least : ℕ) (d : Depth) (l : PatternLevel) (i : List Terminal) (z : Result ReadPattern Stop) → IsOpen d → PatternAnswered ts d.room least (level_reads d l i) z → PatternAnswered ts d.room least (reads d l i) z
+pub by_level : (ts : List given.Terminal) (least : ℕ) (d : Depth) (l : PatternLevel) (i : List Terminal) (z : Result ReadPattern Stop)
+    → IsOpen d → PatternAnswered ts d.room least (level_reads d l i) z → PatternAnswered ts d.room least (reads d l i) z
 by_level ts least d l i z o h = rw (level_is d.steps d.room l i o.steps o.room) h
 
 -- what is no higher than the room, and what is
@@ -66,14 +71,17 @@ module _ (ts : List given.Terminal) (room least : ℕ) (p : Pattern) (n : ℕ) (
   }
 
   -- a pattern, where it was made
-  pub node : (z : Result ReadPattern Stop) → MakesPattern room p n z → PatternAnswered ts room least (cap_pattern room (Found p (seen ts n))) z
-  node (Ok r) m = rw (cap_low room p (seen ts n) (omega (arith, m.low, r.is_height, ap pattern_height m.pattern))) (here room r (omega arith) m)
+  pub node : (z : Result ReadPattern Stop) → MakesPattern room p n z
+      → PatternAnswered ts room least (cap_pattern room (Found p (seen ts n))) z
+  node (Ok r) m = rw (cap_low room p (seen ts n) (omega (arith, m.low, r.is_height, ap pattern_height m.pattern)))
+      (here room r (omega arith) m)
   node (Err stop.NoForm) m = absurd m
   node (Err stop.TooDeep) m = cap_high room p (seen ts n) m
   node (Err stop.Memory) m = tt
 
   -- one of height 1
-  pub leaf : (z : Result ReadPattern Stop) → 0 < room → MatchResult z (λ r. MadePattern 1 p n r) (λ s. s ≡ stop.Memory) → PatternAnswered ts room least (Found p (seen ts n)) z
+  pub leaf : (z : Result ReadPattern Stop) → 0 < room → MatchResult z (λ r. MadePattern 1 p n r) (λ s. s ≡ stop.Memory)
+      → PatternAnswered ts room least (Found p (seen ts n)) z
   leaf (Ok r) o m = here 1 r (omega (arith, o)) m
   leaf (Err stop.NoForm) o m = absurd (cc)
   leaf (Err stop.TooDeep) o m = absurd (cc)
@@ -85,19 +93,29 @@ module _ (ts : List given.Terminal) (at : ℕ) (x : Identifier) (stands : Some x
   named_is : {A : Type 0} (k : Identifier → List Terminal → Answer A) → on_first name_in (seen ts at) k NoForm ≡ k x (seen ts (at + 1))
   named_is k = first_hit name_in (seen ts at) x k NoForm stands ∙ ap (λ r. k x r) (seen_next ts at)
 
-  pub star_named : (d : Depth) (y : Option Identifier) (z : Result ReadPattern Stop) → IsOpen d → y ≡ captured x → MatchResult z (λ r. MadePattern 1 (MatchStar y) (at + 1) r) (λ s. s ≡ stop.Memory) → PatternAnswered ts d.room at (star_name d (seen ts at)) z
-  star_named d y z o e m = rw (named_is (λ v r. Found (MatchStar (captured v)) r), ← e) (leaf ts d.room at (MatchStar y) (at + 1) (omega arith) (omega (arith, w)) z o.room m)
+  pub star_named : (d : Depth) (y : Option Identifier) (z : Result ReadPattern Stop) → IsOpen d → y ≡ captured x
+      → MatchResult z (λ r. MadePattern 1 (MatchStar y) (at + 1) r) (λ s. s ≡ stop.Memory)
+      → PatternAnswered ts d.room at (star_name d (seen ts at)) z
+  star_named d y z o e m = rw (named_is (λ v r. Found (MatchStar (captured v)) r), ← e)
+      (leaf ts d.room at (MatchStar y) (at + 1) (omega arith) (omega (arith, w)) z o.room m)
 
   -- one that is no wildcard
   module _ (y : Identifier) (same : y ≡ x) (n : is_wildcard y ≡ false) where
     as_name : (p : Pattern) → as_named p x ≡ Some (MatchAs (present_pattern p) (Some y))
     as_name p = ap (as_named p) (sym same) ∙ ap (λ b. option_map (λ v. MatchAs (present_pattern p) (Some v)) (if b then None else Some y)) n
 
-    pub as_made : (d : Depth) (p : Pattern) (at0 : ℕ) (z : Result ReadPattern Stop) → Stands (Word Key.As) ts at0 → at ≡ at0 + 1 → MakesPattern d.room (MatchAs (present_pattern p) (Some y)) (at + 1) z → PatternAnswered ts d.room at0 (as_from d.room p (seen ts at0)) z
+    pub as_made : (d : Depth) (p : Pattern) (at0 : ℕ) (z : Result ReadPattern Stop) → Stands (Word Key.As) ts at0 → at ≡ at0 + 1
+        → MakesPattern d.room (MatchAs (present_pattern p) (Some y)) (at + 1) z
+        → PatternAnswered ts d.room at0 (as_from d.room p (seen ts at0)) z
     as_made d p at0 z s q m =
-        let e : as_from d.room p (seen ts at0) ≡ on_first name_in (seen ts (at0 + 1)) (λ v r. cap_pattern d.room (made (as_named p v) r)) NoForm = rw s.is refl in
-        let f = ap (λ k. on_first name_in (seen ts k) (λ v r. cap_pattern d.room (made (as_named p v) r)) NoForm) (sym q) ∙ named_is (λ v r. cap_pattern d.room (made (as_named p v) r)) ∙ ap (λ o. cap_pattern d.room (made o (seen ts (at + 1)))) (as_name p) in
+        let e : as_from d.room p (seen ts at0) ≡ on_first name_in (seen ts (at0 + 1)) (λ v r. cap_pattern d.room (made (as_named p v) r))
+            NoForm = rw s.is refl in
+        let f = ap (λ k. on_first name_in (seen ts k) (λ v r. cap_pattern d.room (made (as_named p v) r)) NoForm) (sym q)
+            ∙ named_is (λ v r. cap_pattern d.room (made (as_named p v) r))
+            ∙ ap (λ o. cap_pattern d.room (made o (seen ts (at + 1)))) (as_name p) in
         rw (e ∙ f) (node ts d.room at0 (MatchAs (present_pattern p) (Some y)) (at + 1) (omega (arith, q)) (omega (arith, w)) z m)
 
     pub rest_found : rest_reads (seen ts at) ≡ Found (Rest y) (seen ts (at + 1))
-    rest_found = named_is (λ v r. cond (is_wildcard v) NoForm (Found (Rest v) r)) ∙ ap (λ v. cond (is_wildcard v) NoForm (Found (Rest v) (seen ts (at + 1)))) (sym same) ∙ ap (λ b. cond b NoForm (Found (Rest y) (seen ts (at + 1)))) n
+    rest_found = named_is (λ v r. cond (is_wildcard v) NoForm (Found (Rest v) r))
+        ∙ ap (λ v. cond (is_wildcard v) NoForm (Found (Rest v) (seen ts (at + 1)))) (sym same)
+        ∙ ap (λ b. cond b NoForm (Found (Rest y) (seen ts (at + 1)))) n

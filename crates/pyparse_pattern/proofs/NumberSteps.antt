@@ -1,7 +1,8 @@
 -- Numbers at a place.
 --
 -- Carries: value_at, signed_at, with_imaginary. On: Values, PatternReader.
-use Rattle.std.proofs.Common.{◌≡◌, refl, sym, ap, ◌∙◌, arith, ℕ, ◌+◌, ◌≤◌, ◌<◌, List, [], ◌∷◌, length, Some, None, Bool, true, false, cond, Result, Ok, Err}
+use Rattle.std.proofs.Common.{◌≡◌, refl, sym, ap, ◌∙◌, arith, ℕ, ◌+◌, ◌≤◌, ◌<◌, List, [], ◌∷◌, length, Some, None, Bool, true, false, cond}
+use Rattle.std.proofs.Common.{Result, Ok, Err}
 use Rattle.pytree_node.specs.declared.operators.Operator.{Operator}
 use Rattle.pytree_node.specs.Trees
 use Rattle.pytree_node.specs.Trees.{Expr}
@@ -29,7 +30,8 @@ pub stands_here : (ts : List given.Terminal) (at : ℕ) (t : Terminal) → at < 
 stands_here ts at t w h = record { within = w; is = front ts at t h }
 
 -- an expression of a height below a limit
-pub low_node : (ts : List given.Terminal) (room least : ℕ) (e : Expr) (n : ℕ) (z : Result Read Stop) → least ≤ n → n ≤ length ts → height e ≤ room → Makes room e n z → Answered ts room least (Found e (seen ts n)) z
+pub low_node : (ts : List given.Terminal) (room least : ℕ) (e : Expr) (n : ℕ) (z : Result Read Stop) → least ≤ n → n ≤ length ts
+    → height e ≤ room → Makes room e n z → Answered ts room least (Found e (seen ts n)) z
 low_node ts room least e n (Ok r) le w b h = record {
   ahead = omega (arith, le, h.next_is);
   within = omega (arith, w, h.next_is);
@@ -47,13 +49,15 @@ not_deep (Op s ∷ i) h = absurd (cc)
 not_deep (t ∷ i) h = absurd (cc)
 
 -- where no number stands, no imaginary one does
-no_imaginary : {A : Type 0} (i : List Terminal) (k : Value → List Terminal → Answer A) → on_first number_in i (λ v r. Found v r) NoForm ≡ NoForm → on_first imaginary_in i k NoForm ≡ NoForm
+no_imaginary : {A : Type 0} (i : List Terminal) (k : Value → List Terminal → Answer A) → on_first number_in i (λ v r. Found v r) NoForm ≡
+    NoForm → on_first imaginary_in i k NoForm ≡ NoForm
 no_imaginary [] k h = refl
 no_imaginary (Number v ∷ i) k h = absurd (cc)
 no_imaginary (Op s ∷ i) k h = refl
 no_imaginary (t ∷ i) k h = refl
 
-imaginaryless : {A : Type 0} (ts : List given.Terminal) (at : ℕ) (s : Stop) (k : Value → List Terminal → Answer A) → NoNumberAt ts at s → Failed s (on_first imaginary_in (seen ts at) k NoForm)
+imaginaryless : {A : Type 0} (ts : List given.Terminal) (at : ℕ) (s : Stop) (k : Value → List Terminal → Answer A) → NoNumberAt ts at s
+    → Failed s (on_first imaginary_in (seen ts at) k NoForm)
 imaginaryless ts at stop.NoForm k h = no_imaginary (seen ts at) k h
 imaginaryless ts at stop.TooDeep k h = absurd (not_deep (seen ts at) h)
 imaginaryless ts at stop.Memory k h = tt
@@ -70,13 +74,18 @@ module _ (ts : List given.Terminal) (e : Expr) (at : ℕ) (o : Operator) (sign :
   pub sum_failed : (s : Stop) → NoNumberAt ts (at + 1) s → Failed s (summed false e (seen ts at))
   sum_failed s h = rw sum_is (imaginaryless ts (at + 1) s (λ w r2. Found (Trees.BinOp e o (Trees.Constant w)) r2) h)
 
-  by_value : (n : found.Number) (b : Bool) → n.imaginary ≡ b → (h : NumberAt ts (at + 1) n) → right (seen ts (at + 1)) ≡ cond b (Found (Trees.BinOp e o (tree_of n.read.expr.value)) (seen ts n.read.next)) NoForm
+  by_value : (n : found.Number) (b : Bool) → n.imaginary ≡ b → (h : NumberAt ts (at + 1) n)
+      → right (seen ts (at + 1)) ≡ cond b (Found (Trees.BinOp e o (tree_of n.read.expr.value)) (seen ts n.read.next)) NoForm
   by_value n b q h = rw h.stands.is (go (is_imaginary h.value) b (sym h.imaginary ∙ q))
     where
-      there : Found (Trees.BinOp e o (Trees.Constant h.value)) (seen ts (at + 1 + 1)) ≡ Found (Trees.BinOp e o (tree_of n.read.expr.value)) (seen ts n.read.next)
-      there = ap (λ t. Found (Trees.BinOp e o t) (seen ts (at + 1 + 1))) (sym h.tree) ∙ ap (λ k. Found (Trees.BinOp e o (tree_of n.read.expr.value)) (seen ts k)) (sym h.next)
+      there : Found (Trees.BinOp e o (Trees.Constant h.value)) (seen ts (at + 1 + 1)) ≡ Found
+          (Trees.BinOp e o (tree_of n.read.expr.value)) (seen ts n.read.next)
+      there = ap (λ t. Found (Trees.BinOp e o t) (seen ts (at + 1 + 1))) (sym h.tree)
+          ∙ ap (λ k. Found (Trees.BinOp e o (tree_of n.read.expr.value)) (seen ts k)) (sym h.next)
 
-      go : (c d : Bool) → c ≡ d → on_some (cond c (Some h.value) None) (λ w. Found (Trees.BinOp e o (Trees.Constant w)) (seen ts (at + 1 + 1))) NoForm ≡ cond d (Found (Trees.BinOp e o (tree_of n.read.expr.value)) (seen ts n.read.next)) NoForm
+      go : (c d : Bool) → c ≡ d
+          → on_some (cond c (Some h.value) None) (λ w. Found (Trees.BinOp e o (Trees.Constant w)) (seen ts (at + 1 + 1))) NoForm ≡ cond d
+          (Found (Trees.BinOp e o (tree_of n.read.expr.value)) (seen ts n.read.next)) NoForm
       go true true p = there
       go true false p = absurd (cc)
       go false true p = absurd (cc)
@@ -85,5 +94,7 @@ module _ (ts : List given.Terminal) (e : Expr) (at : ℕ) (o : Operator) (sign :
   pub sum_real : (n : found.Number) → n.imaginary ≡ false → NumberAt ts (at + 1) n → summed false e (seen ts at) ≡ NoForm
   sum_real n q h = sum_is ∙ by_value n false q h
 
-  pub sum_made : (n : found.Number) (z : Result Read Stop) → n.imaginary ≡ true → NumberAt ts (at + 1) n → height e ≤ 2 → Makes 3 (Trees.BinOp e o (tree_of n.read.expr.value)) n.read.next z → Answered ts 3 at (summed false e (seen ts at)) z
-  sum_made n z q h l m = rw (sum_is ∙ by_value n true q h) (low_node ts 3 at (Trees.BinOp e o (tree_of n.read.expr.value)) n.read.next z (omega (arith, h.next)) (omega (arith, h.next, h.stands.within)) (omega (arith, l, ap height h.tree)) m)
+  pub sum_made : (n : found.Number) (z : Result Read Stop) → n.imaginary ≡ true → NumberAt ts (at + 1) n → height e ≤ 2
+      → Makes 3 (Trees.BinOp e o (tree_of n.read.expr.value)) n.read.next z → Answered ts 3 at (summed false e (seen ts at)) z
+  sum_made n z q h l m = rw (sum_is ∙ by_value n true q h) (low_node ts 3 at (Trees.BinOp e o (tree_of n.read.expr.value)) n.read.next z
+      (omega (arith, h.next)) (omega (arith, h.next, h.stands.within)) (omega (arith, l, ap height h.tree)) m)

@@ -12,5 +12,6 @@ use Rattle.pytree_node.proofs.Callers.PatternShapes.{match_as_tree}
 pub capture_tree : (name : Option Identifier) → pattern_of (variant.MatchAs None name) ≡ MatchAs absent_pattern name
 capture_tree name = match_as_tree None name
 
-pub as_tree : (p : Box Pattern Global) (name : Option Identifier) → pattern_of (variant.MatchAs (Some p) name) ≡ MatchAs (present_pattern (pattern_of p.value)) name
+pub as_tree : (p : Box Pattern Global) (name : Option Identifier) → pattern_of (variant.MatchAs (Some p) name) ≡ MatchAs
+    (present_pattern (pattern_of p.value)) name
 as_tree p name = match_as_tree (Some p) name

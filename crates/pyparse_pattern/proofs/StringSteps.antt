@@ -1,7 +1,8 @@
 -- Strings as values: literals and f-strings are read as the atom that they are.
 --
 -- Carries: read_literal, literal_pattern. On: Capped, PatternReader.
-use Rattle.std.proofs.Common.{◌≡◌, refl, ap, sym, ◌∙◌, arith, ℕ, zero, suc, ◌+◌, ◌-◌, ◌<◌, List, [], ◌∷◌, Bool, true, false, cond, leb, Result}
+use Rattle.std.proofs.Common.{◌≡◌, refl, ap, sym, ◌∙◌, arith, ℕ, zero, suc, ◌+◌, ◌-◌, ◌<◌, List, [], ◌∷◌, Bool, true, false, cond, leb}
+use Rattle.std.proofs.Common.{Result}
 use Rattle.std.proofs.lemmas.Bool.{leb-false}
 use Rattle.pylex_lexeme.specs.declared.kinds.Exact.TheVariants.{Minus}
 use Rattle.pytree_node.specs.Trees.{Expr, MatchValue, Pattern}
@@ -37,13 +38,15 @@ caps_agree room (Found e r) = refl
 caps_agree room NoForm = refl
 caps_agree room TooDeep = refl
 
-opened : (g n : ℕ) (i : List Terminal) → starts_string i ≡ true → capped (suc g) (suc n) Atom i ≡ cap (suc n) (literal_or (capped g n) i NoForm)
+opened : (g n : ℕ) (i : List Terminal) → starts_string i ≡ true
+    → capped (suc g) (suc n) Atom i ≡ cap (suc n) (literal_or (capped g n) i NoForm)
 opened g n [] h = absurd (cc)
 opened g n (Literal v ∷ r) h = unroll_capped g n Atom (Literal v ∷ r)
 opened g n (FormattedBegin ∷ r) h = unroll_capped g n Atom (FormattedBegin ∷ r)
 opened g n (t ∷ r) h = absurd (cc)
 
-string_is : (s room : ℕ) (i : List Terminal) → 0 < s → 0 < room → starts_string i ≡ true → capped s room Atom i ≡ cap room (literal_or (capped (s - 1) (room - 1)) i NoForm)
+string_is : (s room : ℕ) (i : List Terminal) → 0 < s → 0 < room → starts_string i ≡ true
+    → capped s room Atom i ≡ cap room (literal_or (capped (s - 1) (room - 1)) i NoForm)
 string_is zero room i p q h = absurd (omega arith)
 string_is (suc g) zero i p q h = absurd (omega arith)
 string_is (suc g) (suc n) i p q h = go (suc g - 1) (suc n - 1) (omega arith) (omega arith)
@@ -51,9 +54,12 @@ string_is (suc g) (suc n) i p q h = go (suc g - 1) (suc n - 1) (omega arith) (om
     go : (a b : ℕ) → a ≡ g → b ≡ n → capped (suc g) (suc n) Atom i ≡ cap (suc n) (literal_or (capped a b) i NoForm)
     go a b u v = rw (u, v) (opened g n i h)
 
-pub strings_read : (ts : List given.Terminal) (d : Depth) (at : ℕ) (z : Result Read Stop) → IsOpen d → true ≡ starts_string (seen ts at) → Answered ts d.room (at + 1) (expressions.reads d Atom (seen ts at)) z → Answered ts d.room (at + 1) (cap_value d.room (literal_or (field_reads d) (seen ts at) NoForm)) z
+pub strings_read : (ts : List given.Terminal) (d : Depth) (at : ℕ) (z : Result Read Stop) → IsOpen d → true ≡ starts_string (seen ts at)
+    → Answered ts d.room (at + 1) (expressions.reads d Atom (seen ts at)) z
+    → Answered ts d.room (at + 1) (cap_value d.room (literal_or (field_reads d) (seen ts at) NoForm)) z
 strings_read ts d at z o h a =
-    let e : expressions.reads d Atom (seen ts at) ≡ cap_value d.room (literal_or (field_reads d) (seen ts at) NoForm) = string_is d.steps d.room (seen ts at) o.steps o.room (sym h) ∙ caps_agree d.room (literal_or (field_reads d) (seen ts at) NoForm) in
+    let e : expressions.reads d Atom (seen ts at) ≡ cap_value d.room (literal_or (field_reads d) (seen ts at) NoForm) =
+        string_is d.steps d.room (seen ts at) o.steps o.room (sym h) ∙ caps_agree d.room (literal_or (field_reads d) (seen ts at) NoForm) in
     rw (← e) a
 
 -- ---- Any other literal is a number.
@@ -67,7 +73,9 @@ number_is self (Op Minus ∷ i) h = refl
 number_is self (Op s ∷ i) h = refl
 number_is self (t ∷ i) h = refl
 
-pub number_read : (ts : List given.Terminal) (d : Depth) (at : ℕ) (z : Result Read Stop) → false ≡ starts_string (seen ts at) → Answered ts d.room (at + 1) (cap_value d.room (numbers (seen ts at))) z → Answered ts d.room (at + 1) (cap_value d.room (literal_or (field_reads d) (seen ts at) NoForm)) z
+pub number_read : (ts : List given.Terminal) (d : Depth) (at : ℕ) (z : Result Read Stop) → false ≡ starts_string (seen ts at)
+    → Answered ts d.room (at + 1) (cap_value d.room (numbers (seen ts at))) z
+    → Answered ts d.room (at + 1) (cap_value d.room (literal_or (field_reads d) (seen ts at) NoForm)) z
 number_read ts d at z h a = rw (number_is (field_reads d) (seen ts at) h) a
 
 -- ---- The pattern of a literal, which is one higher.
@@ -92,11 +100,17 @@ valued_failed room stop.TooDeep NoForm h = absurd (cc)
 valued_failed room stop.TooDeep TooDeep h = refl
 valued_failed room stop.Memory x h = tt
 
-pub value_failed : (d : Depth) (i : List Terminal) (s : Stop) → Failed s (cap_value d.room (literal_or (field_reads d) i NoForm)) → Failed s (cap_pattern d.room (literal_reads d i))
+pub value_failed : (d : Depth) (i : List Terminal) (s : Stop) → Failed s (cap_value d.room (literal_or (field_reads d) i NoForm))
+    → Failed s (cap_pattern d.room (literal_reads d i))
 value_failed d i s h = valued_failed d.room s (literal_or (field_reads d) i NoForm) h
 
-pub value_read : (ts : List given.Terminal) (d : Depth) (at : ℕ) (e : Read) (z : Result ReadPattern Stop) → FoundAt ts d.room (at + 1) (cap_value d.room (literal_or (field_reads d) (seen ts at) NoForm)) e → MakesPattern d.room (MatchValue (tree_of e.expr.value)) e.next z → PatternAnswered ts d.room (at + 1) (cap_pattern d.room (literal_reads d (seen ts at))) z
+pub value_read : (ts : List given.Terminal) (d : Depth) (at : ℕ) (e : Read) (z : Result ReadPattern Stop)
+    → FoundAt ts d.room (at + 1) (cap_value d.room (literal_or (field_reads d) (seen ts at) NoForm)) e
+    → MakesPattern d.room (MatchValue (tree_of e.expr.value)) e.next z
+    → PatternAnswered ts d.room (at + 1) (cap_pattern d.room (literal_reads d (seen ts at))) z
 value_read ts d at e z f m =
-    let q : literal_or (field_reads d) (seen ts at) NoForm ≡ Found (tree_of e.expr.value) (seen ts e.next) = uncapped d.room (literal_or (field_reads d) (seen ts at) NoForm) (tree_of e.expr.value) (seen ts e.next) f.is in
-    let g : literal_reads d (seen ts at) ≡ Found (MatchValue (tree_of e.expr.value)) (seen ts e.next) = ap (λ x. and_then x (λ v r. Found (MatchValue v) r)) q in
+    let q : literal_or (field_reads d) (seen ts at) NoForm ≡ Found (tree_of e.expr.value) (seen ts e.next) =
+        uncapped d.room (literal_or (field_reads d) (seen ts at) NoForm) (tree_of e.expr.value) (seen ts e.next) f.is in
+    let g : literal_reads d (seen ts at) ≡ Found (MatchValue (tree_of e.expr.value)) (seen ts e.next) =
+        ap (λ x. and_then x (λ v r. Found (MatchValue v) r)) q in
     rw g (node ts d.room (at + 1) (MatchValue (tree_of e.expr.value)) e.next f.ahead f.within z m)

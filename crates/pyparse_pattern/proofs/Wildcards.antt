@@ -31,9 +31,11 @@ is_the_one (c ∷ d ∷ r) = go (eqb c low_line)
 -- a text is that name by its bytes where it is by its characters
 pub spelt_wildcard : (x s : List ℕ) → s ≡ encode_utf8_all x → bytes_eq s (codes "_") ≡ is_wildcard x
 spelt_wildcard x s e = elim (cases_Bool (bytes_eq x (low_line ∷ []))) [
-  | inl same ↦ (bytes_eq-Decides s (codes "_")).1 (e ∙ ap encode_utf8_all ((bytes_eq-Decides x (low_line ∷ [])).0 same) ∙ encoded) ∙ sym (is_the_one x ∙ same)
+  | inl same ↦ (bytes_eq-Decides s (codes "_")).1 (e ∙ ap encode_utf8_all ((bytes_eq-Decides x (low_line ∷ [])).0 same) ∙ encoded)
+      ∙ sym (is_the_one x ∙ same)
   | inr other ↦
       false_from_ne_true (bytes_eq s (codes "_")) (λ same.
       let is : encode_utf8_all x ≡ encode_utf8_all (low_line ∷ []) = sym e ∙ (bytes_eq-Decides s (codes "_")).0 same ∙ sym encoded in
-      both_ways (bytes_eq x (low_line ∷ [])) other ((bytes_eq-Decides x (low_line ∷ [])).1 (encodes_same x (low_line ∷ []) is))) ∙ sym (is_the_one x ∙ other)
+      both_ways (bytes_eq x (low_line ∷ [])) other ((bytes_eq-Decides x (low_line ∷ [])).1 (encodes_same x (low_line ∷ []) is)))
+          ∙ sym (is_the_one x ∙ other)
 ]

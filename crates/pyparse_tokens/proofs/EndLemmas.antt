@@ -1,6 +1,7 @@
 -- Carries: spell_match, read_line. On: the texts of a line's first and last token, and
 -- the last token of a source.
-use Rattle.std.proofs.Common.{◌≡◌, ℕ, Bool, true, false, List, [], ◌∷◌, ◌++◌, length, refl, sym, ap, ◌∙◌, inl, inr, append_assoc, ◌<◌, arith, Some, None}
+use Rattle.std.proofs.Common.{◌≡◌, ℕ, Bool, true, false, List, [], ◌∷◌, ◌++◌, length, refl, sym, ap, ◌∙◌, inl, inr, append_assoc, ◌<◌}
+use Rattle.std.proofs.Common.{arith, Some, None}
 use Rattle.std.specs.Prelude.{◌&&◌}
 use Rattle.std.specs.Str.{chars, bytes_eq, IsUtf8, IsAscii, encode_utf8_all}
 use Rattle.std.proofs.lemmas.Bool.{cases_Bool, both_ways, false_from_ne_true}
@@ -28,7 +29,8 @@ pub match_is_ascii : IsAscii (109 ∷ 97 ∷ 116 ∷ 99 ∷ 104 ∷ [])
 match_is_ascii =
     IsAscii-cons 109 (97 ∷ 116 ∷ 99 ∷ 104 ∷ []) (omega arith)
     (IsAscii-cons 97 (116 ∷ 99 ∷ 104 ∷ []) (omega arith)
-    (IsAscii-cons 116 (99 ∷ 104 ∷ []) (omega arith) (IsAscii-cons 99 (104 ∷ []) (omega arith) (IsAscii-cons 104 [] (omega arith) IsAscii-nil))))
+    (IsAscii-cons 116 (99 ∷ 104 ∷ []) (omega arith)
+        (IsAscii-cons 99 (104 ∷ []) (omega arith) (IsAscii-cons 104 [] (omega arith) IsAscii-nil))))
 
 pub colon_is_ascii : IsAscii (58 ∷ [])
 colon_is_ascii = IsAscii-cons 58 [] (omega arith) IsAscii-nil
@@ -54,7 +56,8 @@ last_on [] t = refl
 last_on (u ∷ []) t = refl
 last_on (u ∷ v ∷ line) t = last_on (v ∷ line) t
 
-colon_last : (t : Token) (line : List Token) (last : List ℕ) → last_text (t ∷ line) ≡ Some last → ends_in_colon (t ∷ line) ≡ bytes_eq last (58 ∷ [])
+colon_last : (t : Token) (line : List Token) (last : List ℕ) → last_text (t ∷ line) ≡ Some last
+    → ends_in_colon (t ∷ line) ≡ bytes_eq last (58 ∷ [])
 colon_last t [] last is = let same : t.text ≡ last = cc in ap (λ (w : List ℕ). bytes_eq w (58 ∷ [])) same
 colon_last t (u ∷ line) last is = colon_last u line last is
 
@@ -63,13 +66,15 @@ has_last t [] = (t.text, refl)
 has_last t (u ∷ line) = has_last u line
 
 -- a line that has tokens looks like a `match` statement where its ends do
-pub match_is : (line : List Token) (first last : List ℕ) → ((t : List ℕ) → first_text line ≡ Some t → first ≡ t) → ((t : List ℕ) → last_text line ≡ Some t → last ≡ t) →
+pub match_is : (line : List Token) (first last : List ℕ) → ((t : List ℕ) → first_text line ≡ Some t → first ≡ t)
+    → ((t : List ℕ) → last_text line ≡ Some t → last ≡ t) →
     0 < length line → spell_match first last ≡ is_match line
 match_is [] first last f l some = absurd (omega (arith, some))
 match_is (t ∷ line) first last f l some =
     let one : first ≡ t.text = f t.text refl in
     let end = has_last t line in
-    let other : ends_in_colon (t ∷ line) ≡ bytes_eq last (58 ∷ []) = colon_last t line end.0 end.1 ∙ ap (λ (w : List ℕ). bytes_eq w (58 ∷ [])) (sym (l end.0 end.1)) in
+    let other : ends_in_colon (t ∷ line) ≡ bytes_eq last (58 ∷ []) = colon_last t line end.0 end.1
+        ∙ ap (λ (w : List ℕ). bytes_eq w (58 ∷ [])) (sym (l end.0 end.1)) in
     ap (λ (w : List ℕ). bytes_eq w (109 ∷ 97 ∷ 116 ∷ 99 ∷ 104 ∷ []) && bytes_eq last (58 ∷ [])) one
     ∙ ap (λ (b : Bool). bytes_eq t.text (109 ∷ 97 ∷ 116 ∷ 99 ∷ 104 ∷ []) && b) (sym other)
 
@@ -108,7 +113,8 @@ marker_last text begun e is = by begun
     by false = ([], token_of text e, rw is refl, refl)
 
 -- where the listing comes to its end, ENDMARKER is the last token
-pub ends_at : (s : Source) → AreWhole (listing s) → fault_of (listing s) ≡ None → (front : List Entry) × (e : Entry) × (entries_of (listing s) ≡ front ++ e ∷ [])
+pub ends_at : (s : Source) → AreWhole (listing s) → fault_of (listing s) ≡ None
+    → (front : List Entry) × (e : Entry) × (entries_of (listing s) ≡ front ++ e ∷ [])
     × (e.kind ≡ kinds.EndMarker) × EndsAt s e.start
 unfolding tokens
 ends_at s w none =

@@ -1,5 +1,6 @@
 -- Carries: Indents::take, tokens_of. On: the first mixed line, behind more lines.
-use Rattle.std.proofs.Common.{◌≡◌, ℕ, zero, suc, ◌<◌, Bool, true, false, List, [], ◌∷◌, ◌++◌, ◌+◌, ◌-◌, ◌≤◌, length, take, drop, refl, sym, ap, ap₂, subst, ◌∙◌}
+use Rattle.std.proofs.Common.{◌≡◌, ℕ, zero, suc, ◌<◌, Bool, true, false, List, [], ◌∷◌, ◌++◌, ◌+◌, ◌-◌, ◌≤◌, length, take, drop, refl, sym}
+use Rattle.std.proofs.Common.{ap, ap₂, subst, ◌∙◌}
 use Rattle.std.proofs.Common.{arith, length-append, length-take, take-append-drop, Option, Some, None, append_assoc, append-nil}
 use Rattle.pysource.specs.declared.places.Place.{Place}
 use Rattle.std.specs.Char.{encode_utf8}
@@ -68,7 +69,8 @@ takes_behind more i is ms had =
 abbrev margin : Widths → Place → Margin
 margin w p = record { widths = w; start = p }
 
-one_more : (text : List ℕ) (o : ℕ) → is_logical_at text o ≡ true → margin_at text o ≡ margin (widths_of (behind_offset text o)) (start_at text o) ∷ []
+one_more : (text : List ℕ) (o : ℕ) → is_logical_at text o ≡ true
+    → margin_at text o ≡ margin (widths_of (behind_offset text o)) (start_at text o) ∷ []
 one_more text o logical = rw logical refl
 
 -- the first mixed line among some and one more
@@ -83,13 +85,15 @@ mixed_by : (m : Margin) (b : Bool) → Option Refusal
 mixed_by m b = if b then Some (MixedTabs m.start) else None
 
 -- a mixed line was taken
-pub takes_mixed : (text : List ℕ) (o : ℕ) (w : Widths) (old new : Indents) → is_logical_at text o ≡ true → w ≡ widths_of (behind_offset text o)
+pub takes_mixed : (text : List ℕ) (o : ℕ) (w : Widths) (old new : Indents) → is_logical_at text o ≡ true
+    → w ≡ widths_of (behind_offset text o)
     → old.mixed ≡ None → (are_rising old.standing.items ≡ true → Drops old.standing.items new.standing.items w true)
     → new.mixed ≡ Some (MixedTabs (start_at text o)) → Measures (margin_at text o) old new
 takes_mixed text o w old new logical is none drops mixed ms had =
     let m = margin w (start_at text o) in
     let stood = had.standing none in
-    let met : is_mixed (behind [] ms) m ≡ true = sym (mixed_is (behind [] ms) old.standing.items m stood.same) ∙ sym (drops stood.rising).clash in
+    let met : is_mixed (behind [] ms) m ≡ true = sym (mixed_is (behind [] ms) old.standing.items m stood.same)
+        ∙ sym (drops stood.rising).clash in
     let whole : margin_at text o ≡ m ∷ [] = one_more text o logical ∙ ap (λ (v : Widths). margin v (start_at text o) ∷ []) (sym is) in
     subst (λ (ls : List Margin). Measured (ms ++ ls) new) (sym whole) (record {
       mixed = mixed ∙ sym (mixed_one ms m (sym had.mixed ∙ none) ∙ (rw met refl));
@@ -107,7 +111,8 @@ takes_line text o w dropped old new logical is none drops standing mixed ms had 
     let done = drops stood.rising in
     let free : is_mixed (behind [] ms) m ≡ false = sym (mixed_is (behind [] ms) old.standing.items m stood.same) ∙ sym done.clash in
     let whole : margin_at text o ≡ m ∷ [] = one_more text o logical ∙ ap (λ (v : Widths). margin v (start_at text o) ∷ []) (sym is) in
-    let items : new.standing.items ≡ narrower old.standing.items w ++ w ∷ [] = standing ∙ ap (λ (vs : List Widths). vs ++ w ∷ []) (done.kept refl) in
+    let items : new.standing.items ≡ narrower old.standing.items w ++ w ∷ [] = standing
+        ∙ ap (λ (vs : List Widths). vs ++ w ∷ []) (done.kept refl) in
     let order : behind [] (ms ++ m ∷ []) ≡ m ∷ behind [] ms = behind_on [] ms m in
     subst (λ (ls : List Margin). Measured (ms ++ ls) new) (sym whole) (record {
       mixed = mixed ∙ sym (mixed_one ms m (sym had.mixed ∙ none) ∙ (rw free refl));
@@ -131,7 +136,8 @@ pub record Passed (start now : List ℕ) : Type 0 where
 pub none_passed : (bs : List ℕ) → IsUtf8 bs → Passed bs bs
 none_passed bs utf8 = record { front = []; cut = refl; blanks = refl; rest = refl; utf8 = utf8 }
 
-pub passes_on : (start now left : List ℕ) (c : ℕ) → Passed start now → now ≡ encode_utf8 c ++ left → is_blank_char c ≡ true → Passed start left
+pub passes_on : (start now left : List ℕ) (c : ℕ) → Passed start now → now ≡ encode_utf8 c ++ left
+    → is_blank_char c ≡ true → Passed start left
 passes_on start now left c had cut blank =
     let one : encode_utf8 c ≡ c ∷ [] = encode_ascii c (blank_low c blank) in
     let s = past now left c had.utf8 cut in
@@ -139,7 +145,8 @@ passes_on start now left c had cut blank =
     ∙ (rw blank refl) in
     record {
       front = had.front ++ c ∷ [];
-      cut = had.cut ∙ ap (λ (t : List ℕ). had.front ++ t) (cut ∙ ap (λ (t : List ℕ). t ++ left) one) ∙ sym (append_assoc had.front (c ∷ []) left);
+      cut = had.cut ∙ ap (λ (t : List ℕ). had.front ++ t) (cut ∙ ap (λ (t : List ℕ). t ++ left) one)
+          ∙ sym (append_assoc had.front (c ∷ []) left);
       blanks = had.blanks ∙ ap (λ (t : List ℕ). had.front ++ t) more ∙ sym (append_assoc had.front (c ∷ []) (blanks_of (chars left)));
       rest = had.rest ∙ ap₂ (λ (b t : List ℕ). drop (length b) t) more s.same;
       utf8 = s.utf8;
@@ -168,7 +175,8 @@ space_front t = sym (ap (λ (front : List ℕ). front ++ t) (encode_ascii 32 (om
 
 spaces_utf8 : (n : ℕ) (rest : List ℕ) → IsUtf8 (replicate n 32 ++ rest) → IsUtf8 rest
 spaces_utf8 zero rest utf8 = utf8
-spaces_utf8 (suc n) rest utf8 = spaces_utf8 n rest (past (32 ∷ (replicate n 32 ++ rest)) (replicate n 32 ++ rest) 32 utf8 (space_front (replicate n 32 ++ rest))).utf8
+spaces_utf8 (suc n) rest utf8 =
+    spaces_utf8 n rest (past (32 ∷ (replicate n 32 ++ rest)) (replicate n 32 ++ rest) 32 utf8 (space_front (replicate n 32 ++ rest))).utf8
 
 spaces_chars : (n : ℕ) (rest : List ℕ) → IsUtf8 (replicate n 32 ++ rest) → chars (replicate n 32 ++ rest) ≡ replicate n 32 ++ chars rest
 spaces_chars zero rest utf8 = refl
@@ -219,7 +227,8 @@ spaced bs n utf8 is =
           subst (IsCharBoundary bs) (length-replicate n 32)
           (IsCharBoundary-at_seam bs (replicate n 32) behind (sym whole) (spaces_utf8 n behind split));
       widths = λ other.
-          sym (ap₂ widths_by (ap (width_from 0) (blanks other) ∙ eight_spaces 0 n ∙ none) (ap (width_by_one 0) (blanks other) ∙ one_spaces 0 n ∙ none));
+          sym (ap₂ widths_by (ap (width_from 0) (blanks other) ∙ eight_spaces 0 n ∙ none) (ap (width_by_one 0) (blanks other)
+              ∙ one_spaces 0 n ∙ none));
       rest = λ other.
           ap₂ (λ (b t : List ℕ). drop (length b) t) (blanks other) same
           ∙ ap (λ (k : ℕ). drop k (replicate n 32 ++ chars behind)) (length-replicate n 32) ∙ behind_spaces n (chars behind);
@@ -229,7 +238,8 @@ spaced bs n utf8 is =
 
 -- it, by the text's bytes
 pub line_of : (bs source : List ℕ) (o : ℕ) → IsUtf8 bs → bs ≡ source → chars (drop o bs) ≡ behind_offset (chars source) o
-line_of bs source o utf8 is = ap (λ (t : List ℕ). chars (drop o t)) (sym (encodes-chars bs utf8)) ∙ ap (λ (t : List ℕ). behind_offset (chars t) o) is
+line_of bs source o utf8 is = ap (λ (t : List ℕ). chars (drop o t)) (sym (encodes-chars bs utf8))
+    ∙ ap (λ (t : List ℕ). behind_offset (chars t) o) is
 
 pub whole_of : (bs source : List ℕ) → IsUtf8 bs → bs ≡ source → bs ≡ encode_utf8_all (chars source)
 whole_of bs source utf8 is = sym (encodes-chars bs utf8) ∙ ap (λ (t : List ℕ). encode_utf8_all (chars t)) is

@@ -1,6 +1,7 @@
 -- Carries: read_line. On: what one pass gathers of its lines, with one entry more
 -- and at the listing's end.
-use Rattle.std.proofs.Common.{◌≡◌, ℕ, ◌+◌, ◌-◌, ◌≤◌, ◌<◌, Bool, true, false, List, [], ◌∷◌, ◌++◌, length, take, drop, map, refl, sym, ap, ap₂, subst, ◌∙◌, append-nil, arith, length-append, Some, None}
+use Rattle.std.proofs.Common.{◌≡◌, ℕ, ◌+◌, ◌-◌, ◌≤◌, ◌<◌, Bool, true, false, List, [], ◌∷◌, ◌++◌, length, take, drop, map, refl, sym, ap}
+use Rattle.std.proofs.Common.{ap₂, subst, ◌∙◌, append-nil, arith, length-append, Some, None}
 use Rattle.std.specs.Prelude.{if◌then◌else◌, slice_get}
 use Rattle.std.specs.List.{flat_map}
 use Rattle.std.proofs.lemmas.List.{flat_map_more, length-map, take-append-drop}
@@ -29,7 +30,9 @@ use Rattle.pyparse_tokens.specs.declared.line_gather.LineGather.{LineGather}
 use Rattle.pyparse_tokens.specs.declared.open_line.OpenLine.{OpenLine}
 use Rattle.pyparse_tokens.specs.LineReadings.{first_start, token_terminals, lines_within}
 use Rattle.pyparse_tokens.specs.Inner.Passing.{counted, still_open, kept_refusal}
-use Rattle.pyparse_tokens.specs.Inner.LineGathering.{stands_in_line, ends_open_line, ended_by, is_indent, is_dedent, own_terminals, line_behind, front_tokens, front_line, front_lines, Adds, TakesEntry, Counts, StandsAt, ReadsLine}
+use Rattle.pyparse_tokens.specs.Inner.LineGathering.{stands_in_line, ends_open_line, ended_by, is_indent, is_dedent, own_terminals}
+use Rattle.pyparse_tokens.specs.Inner.LineGathering.{line_behind, front_tokens, front_line, front_lines, Adds, TakesEntry, Counts, StandsAt}
+use Rattle.pyparse_tokens.specs.Inner.LineGathering.{ReadsLine}
 use Rattle.pyparse_tokens.specs.Inner.OpenLines.{of_first, first_text, KeepsLine}
 use Rattle.pyparse_tokens.proofs.PassLemmas.{passes, kept_before}
 use Rattle.pyparse_tokens.proofs.ListingLemmas.{moved, at_entry}
@@ -79,7 +82,8 @@ pub keeps : (extent : Extent) (text : List ℕ) (e : Entry) (line : List Token) 
     entry_refusal extent text e ≡ None → Adds text e old new → KeepsLine (with_own text e line) new
 keeps extent text e line old new had sound adds = by (stands_in_line e.kind) refl
   where
-    begins : (ts : List Terminal) (l : List Token) (w v : List ℕ) → (0 < length l → 0 < length ts) → map terminal ts ≡ flat_map token_terminals l
+    begins : (ts : List Terminal) (l : List Token) (w v : List ℕ) → (0 < length l → 0 < length ts)
+        → map terminal ts ≡ flat_map token_terminals l
         → ((t : List ℕ) → first_text l ≡ Some t → w ≡ t) → (t : List ℕ)
         → first_text (l ++ token_of text e ∷ []) ≡ Some t → v ≡ text_of text e → of_first ts w v ≡ t
     begins [] [] w v some same was t is own = let one : text_of text e ≡ t = cc in own ∙ one
@@ -98,7 +102,8 @@ keeps extent text e line old new had sound adds = by (stands_in_line e.kind) ref
     size : length new.terminals.items ≡ length old.terminals.items + length (own_terminals text e)
     size =
         sym (length-map new.terminals.items terminal) ∙ ap length adds.terminals
-        ∙ length-append (map terminal old.terminals.items) (own_terminals text e) ∙ ap (λ (n : ℕ). n + length (own_terminals text e)) (length-map old.terminals.items terminal)
+        ∙ length-append (map terminal old.terminals.items) (own_terminals text e) ∙ ap (λ (n : ℕ). n + length (own_terminals text e))
+            (length-map old.terminals.items terminal)
 
     by : (b : Bool) → stands_in_line e.kind ≡ b → KeepsLine (with_own text e line) new
     by true is =
@@ -116,8 +121,10 @@ keeps extent text e line old new had sound adds = by (stands_in_line e.kind) ref
               ∙ flat_map_more token_terminals [] line (token_of text e);
           some = λ _. omega (arith, size, ap length own, more);
           start = λ p at. start ∙ starts old.terminals.items line had.some had.terminals old.start had.start p at;
-          first = λ t at. first ∙ begins old.terminals.items line (chars old.first.now) (text_of text e) had.some had.terminals had.first t at refl;
-          last = λ t at. let same : text_of text e ≡ t = some_same (text_of text e) t (sym (last_on line (token_of text e)) ∙ at) in last ∙ same;
+          first = λ t at. first ∙ begins old.terminals.items line (chars old.first.now) (text_of text e) had.some
+              had.terminals had.first t at refl;
+          last = λ t at. let same : text_of text e ≡ t = some_same (text_of text e) t (sym (last_on line (token_of text e)) ∙ at) in last
+              ∙ same;
         } in
         rw is all
     by false is =
@@ -127,7 +134,8 @@ keeps extent text e line old new had sound adds = by (stands_in_line e.kind) ref
         let last : chars new.last.now ≡ chars old.last.now = rw is at adds.last in
         let all : KeepsLine line new =
         record {
-          terminals = adds.terminals ∙ ap₂ (λ (a b : List Terminals.Terminal). a ++ b) had.terminals own ∙ append-nil (flat_map token_terminals line);
+          terminals = adds.terminals ∙ ap₂ (λ (a b : List Terminals.Terminal). a ++ b) had.terminals own
+              ∙ append-nil (flat_map token_terminals line);
           some = λ more. let kept = had.some more in omega (arith, size, ap length own, kept);
           start = λ p at. start ∙ had.start p at;
           first = λ t at. first ∙ had.first t at;
@@ -139,7 +147,8 @@ keeps extent text e line old new had sound adds = by (stands_in_line e.kind) ref
 abbrev pub line_at : List ℕ → List Entry → Line
 line_at text es = record { level = level_behind (behind [] (front_tokens text es)); tokens = front_line text es }
 
-pub lines_more : (s : Source) (k : ℕ) (e : Entry) → (ended : Bool) → ended_by e (is_open (behind [] (take k (entries_of (listing s))))) ≡ ended
+pub lines_more : (s : Source) (k : ℕ) (e : Entry) → (ended : Bool)
+    → ended_by e (is_open (behind [] (take k (entries_of (listing s))))) ≡ ended
     → take (k + 1) (entries_of (listing s)) ≡ take k (entries_of (listing s)) ++ e ∷ []
     → lines_within s (k + 1) ≡ lines_within s k ++ (if ended then line_at s.text (take k (entries_of (listing s))) ∷ [] else [])
 lines_more s k e ended is next =
@@ -182,10 +191,12 @@ pub record Read (p : Parts) (old new : Listed) (e : Entry) : Type 0 where
   pub exact : HasExact (chars p.text) e
   pub count : new.shown.given ≡ old.shown.given + 1
   pub within : old.shown.given < length (entries_of (listing (in_characters p)))
-  pub grown : take (old.shown.given + 1) (entries_of (listing (in_characters p))) ≡ take old.shown.given (entries_of (listing (in_characters p))) ++ e ∷ []
+  pub grown : take (old.shown.given + 1) (entries_of (listing (in_characters p))) ≡ take old.shown.given
+      (entries_of (listing (in_characters p))) ++ e ∷ []
   pub stands : StandsIn new (in_characters p) new.shown.given
 
-pub entry_read : (p : Parts) (old new : Listed) (g : LineGather) (step : Step) (e : Entry) → StandsAt p old g → NextStep old step new → step ≡ steps.Entry e →
+pub entry_read : (p : Parts) (old new : Listed) (g : LineGather) (step : Step) (e : Entry) → StandsAt p old g → NextStep old step new
+    → step ≡ steps.Entry e →
     Read p old new e
 entry_read p old new g step e had stepped is =
     let s = in_characters p in
@@ -201,7 +212,8 @@ entry_read p old new g step e had stepped is =
       stands = subst (λ (n : ℕ). StandsIn new s n) (sym m.1.count) m.1;
     }
 
-pub stands_on : (p : Parts) (old new : Listed) (e : Entry) (g h : LineGather) → StandsAt p old g → Read p old new e → new.shown.given ≤ most_entries →
+pub stands_on : (p : Parts) (old new : Listed) (e : Entry) (g h : LineGather) → StandsAt p old g → Read p old new e
+    → new.shown.given ≤ most_entries →
     new.source ≡ p → TakesEntry (chars p.text) e g h → StandsAt p new h
 stands_on p old new e g h had read few source gains =
     let es = entries_of (listing (in_characters p)) in
@@ -244,14 +256,17 @@ cleared p l g h had is =
     }
 
 -- what is gathered has no refusal, so it had none before the entry
-pub none_before : (p : Parts) (l : Listed) (e : Entry) (g h : LineGather) → StandsAt p l g → TakesEntry (chars p.text) e g h → kept_refusal h.pass ≡ None →
+pub none_before : (p : Parts) (l : Listed) (e : Entry) (g h : LineGather) → StandsAt p l g → TakesEntry (chars p.text) e g h
+    → kept_refusal h.pass ≡ None →
     (kept_refusal g.pass ≡ None) × (entry_refusal g.pass.extent (chars p.text) e ≡ None)
 none_before p l e g h had gains none =
-    kept_before (chars p.text) (take l.shown.given (entries_of (listing (in_characters p)))) e (entry_refusal g.pass.extent (chars p.text) e) g.pass h.pass
+    kept_before (chars p.text) (take l.shown.given (entries_of (listing (in_characters p)))) e
+        (entry_refusal g.pass.extent (chars p.text) e) g.pass h.pass
     had.counts.pass gains.pass none
 
 -- the same line, by an entry that doesn't end it
-pub same_line : (p : Parts) (old new : Listed) (e : Entry) (g h : LineGather) → StandsAt p old g → Read p old new e → TakesEntry (chars p.text) e g h →
+pub same_line : (p : Parts) (old new : Listed) (e : Entry) (g h : LineGather) → StandsAt p old g → Read p old new e
+    → TakesEntry (chars p.text) e g h →
     ended_by e g.pass.begun ≡ false → kept_refusal h.pass ≡ None →
     KeepsLine (front_line (chars p.text) (take old.shown.given (entries_of (listing (in_characters p))))) g.line →
     KeepsLine (front_line (chars p.text) (take new.shown.given (entries_of (listing (in_characters p))))) h.line
@@ -268,7 +283,8 @@ same_line p old new e g h had read gains goes none keep =
     subst (λ (l : List Token). KeepsLine l h.line) (sym line)
     (keeps g.pass.extent text e (front_line text front) g.line h.line keep before.1 (gains.line before.1))
 
-pub same_lines : (p : Parts) (old new : Listed) (e : Entry) (g : LineGather) → StandsAt p old g → Read p old new e → ended_by e g.pass.begun ≡ false →
+pub same_lines : (p : Parts) (old new : Listed) (e : Entry) (g : LineGather) → StandsAt p old g → Read p old new e
+    → ended_by e g.pass.begun ≡ false →
     lines_within (in_characters p) new.shown.given ≡ lines_within (in_characters p) old.shown.given
 same_lines p old new e g had read goes =
     let s = in_characters p in
@@ -296,7 +312,8 @@ first_starts : (l : List Token) (p : Place) → 0 < length l → ((q : Place) �
 first_starts [] p some start = absurd (omega (arith, some))
 first_starts (t ∷ l) p some start = ap Some (sym (start t.start refl))
 
-pub line_read : (p : Parts) (first old new : Listed) (e : Entry) (g h : LineGather) → StandsAt p old g → Read p old new e → new.shown.given ≤ most_entries →
+pub line_read : (p : Parts) (first old new : Listed) (e : Entry) (g h : LineGather) → StandsAt p old g → Read p old new e
+    → new.shown.given ≤ most_entries →
     new.source ≡ p → TakesEntry (chars p.text) e g h → ended_by e g.pass.begun ≡ true → kept_refusal h.pass ≡ None →
     KeepsLine (front_line (chars p.text) (take old.shown.given (entries_of (listing (in_characters p))))) g.line →
     lines_within (in_characters p) old.shown.given ≡ lines_within (in_characters p) first.shown.given →
@@ -311,9 +328,11 @@ line_read p first old new e g h had read few source gains ends none keep same =
     let ended : ended_by e (is_open (behind [] front)) ≡ true = ap (ended_by e) (sym had.counts.pass.begun) ∙ ends in
     let parts = and_parts (ends_open_line e.kind) g.pass.begun ends in
     let before = none_before p old e g h had gains none in
-    let beside : with_own text e line ≡ line = ap (λ (b : Bool). if b then line ++ token_of text e ∷ [] else line) (stands_beside e.kind parts.0) in
+    let beside : with_own text e line ≡ line = ap (λ (b : Bool). if b then line ++ token_of text e ∷ [] else line)
+        (stands_beside e.kind parts.0) in
     let kept =
-    subst (λ (l : List Token). KeepsLine l h.line) beside (keeps g.pass.extent text e line g.line h.line keep before.1 (gains.line before.1)) in
+    subst (λ (l : List Token). KeepsLine l h.line) beside (keeps g.pass.extent text e line g.line h.line keep before.1
+        (gains.line before.1)) in
     let more = lines_more s k e true ended read.grown in
     let size : length (lines_within s new.shown.given) ≡ length (lines_within s k) + 1 =
     ap (λ (n : ℕ). length (lines_within s n)) read.count ∙ ap length more ∙ length-append (lines_within s k) (line_at text front ∷ [])

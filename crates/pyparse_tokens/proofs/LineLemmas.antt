@@ -1,6 +1,7 @@
 -- Carries: read_line. On: the tokens and the logical lines of a front of a listing, with one entry
 -- more, and what stands behind it.
-use Rattle.std.proofs.Common.{◌≡◌, ℕ, ◌<◌, Bool, true, false, List, [], ◌∷◌, ◌++◌, length, refl, sym, ap, ◌∙◌, append_assoc, arith, length-append}
+use Rattle.std.proofs.Common.{◌≡◌, ℕ, ◌<◌, Bool, true, false, List, [], ◌∷◌, ◌++◌, length, refl, sym, ap, ◌∙◌, append_assoc, arith}
+use Rattle.std.proofs.Common.{length-append}
 use Rattle.std.specs.Prelude.{count_by, if◌then◌else◌}
 use Rattle.pylex.specs.declared.kind.Kind.{Kind}
 use Rattle.pylex.specs.declared.kind.Kind.TheVariants as kinds
@@ -70,7 +71,8 @@ line_past line (t ∷ ts) more =
     by t.kind (λ l. line_behind l more) (all []) (here []) (line_past [] ts more) (all line) (here line) (line_past line ts more)
     (all (line ++ t ∷ [])) (here (line ++ t ∷ [])) (line_past (line ++ t ∷ []) ts more)
   where
-    by : (k : Kind) (rest : List Token → List Token) (all0 here0 : List Token) → all0 ≡ rest here0 → (all1 here1 : List Token) → all1 ≡ rest here1
+    by : (k : Kind) (rest : List Token → List Token) (all0 here0 : List Token) → all0 ≡ rest here0
+        → (all1 here1 : List Token) → all1 ≡ rest here1
         → (all2 here2 : List Token) → all2 ≡ rest here2 → by_kind k all0 all1 all2 ≡ rest (by_kind k here0 here1 here2)
     by kinds.Newline rest a0 b0 h0 a1 b1 h1 a2 b2 h2 = h0
     by kinds.Indent rest a0 b0 h0 a1 b1 h1 a2 b2 h2 = h1
@@ -94,7 +96,8 @@ line_by : (text : List ℕ) (begun : Bool) (e : Entry) (line : List Token)
     → line_behind line (tokens_of_entry text begun e) ≡ (if ended_by e begun then [] else with_own text e line)
 line_by text begun e line = by begun e.kind refl
   where
-    by : (b : Bool) (k : Kind) → e.kind ≡ k → line_behind line (tokens_of_entry text b e) ≡ (if ended_by e b then [] else with_own text e line)
+    by : (b : Bool) (k : Kind) → e.kind ≡ k
+        → line_behind line (tokens_of_entry text b e) ≡ (if ended_by e b then [] else with_own text e line)
     by true kinds.Newline is = rw is refl
     by false kinds.Newline is = rw is refl
     by true kinds.Dedent is = rw is refl
@@ -112,11 +115,13 @@ line_by text begun e line = by begun e.kind refl
 
 -- and which line ends by it
 lines_by : (text : List ℕ) (begun : Bool) (e : Entry) (before line : List Token)
-    → lines_from before line (tokens_of_entry text begun e) ≡ (if ended_by e begun then record { level = level_behind before; tokens = line } ∷ [] else [])
+    → lines_from before line (tokens_of_entry text begun e) ≡ (if ended_by e begun then record { level = level_behind before;
+        tokens = line } ∷ [] else [])
 lines_by text begun e before line = by begun e.kind refl
   where
     by : (b : Bool) (k : Kind) → e.kind ≡ k
-        → lines_from before line (tokens_of_entry text b e) ≡ (if ended_by e b then record { level = level_behind before; tokens = line } ∷ [] else [])
+        → lines_from before line (tokens_of_entry text b e) ≡ (if ended_by e b then record { level = level_behind before;
+            tokens = line } ∷ [] else [])
     by true kinds.Newline is = rw is refl
     by false kinds.Newline is = rw is refl
     by true kinds.Dedent is = rw is refl
@@ -146,7 +151,8 @@ line_on text es e =
 
 pub lines_on : (text : List ℕ) (es : List Entry) (e : Entry)
     → front_lines text (es ++ e ∷ []) ≡ front_lines text es
-    ++ (if ended_by e (is_open (behind [] es)) then record { level = level_behind (behind [] (front_tokens text es)); tokens = front_line text es } ∷ [] else [])
+    ++ (if ended_by e (is_open (behind [] es)) then record { level = level_behind (behind [] (front_tokens text es)); tokens =
+        front_line text es } ∷ [] else [])
 lines_on text es e =
     let begun = is_open (behind [] es) in
     let ts = front_tokens text es in
@@ -170,12 +176,15 @@ tally_by p newline encoding comment nl text begun e before = by begun e.kind ref
     one : (ts : List Token) (t : Token) → tally p (t ∷ ts) ≡ counted (tally p ts) (p t.kind)
     one ts t = sym (count_on (λ (t : Token). p t.kind) ts t)
 
-    own : (ts : List Token) (k : Kind) → tally p (record { kind = k; start = e.start; text = text_of text e } ∷ ts) ≡ counted (tally p ts) (p k)
+    own : (ts : List Token) (k : Kind) → tally p (record { kind = k; start = e.start; text = text_of text e } ∷ ts) ≡
+        counted (tally p ts) (p k)
     own ts k = one ts (record { kind = k; start = e.start; text = text_of text e })
 
-    behind_newline : (k : Kind) → tally p (record { kind = k; start = e.start; text = text_of text e } ∷ supplied text ∷ before) ≡ counted (tally p before) (p k)
+    behind_newline : (k : Kind) → tally p (record { kind = k; start = e.start; text = text_of text e } ∷ supplied text ∷ before) ≡
+        counted (tally p before) (p k)
     behind_newline k =
-        own (supplied text ∷ before) k ∙ ap (λ (n : ℕ). counted n (p k)) (one before (supplied text) ∙ ap (counted (tally p before)) newline)
+        own (supplied text ∷ before) k ∙ ap (λ (n : ℕ). counted n (p k)) (one before (supplied text)
+            ∙ ap (counted (tally p before)) newline)
 
     by : (b : Bool) (k : Kind) → e.kind ≡ k → tally p (behind before (tokens_of_entry text b e)) ≡ counted (tally p before) (p e.kind)
     by true kinds.Newline is = rw is (own before kinds.Newline)

@@ -1,5 +1,6 @@
 -- Carries: tokens_of. On: a listing step by step, its entries and then its one end.
-use Rattle.std.proofs.Common.{◌≡◌, ℕ, zero, suc, ◌+◌, ◌<◌, ◌≤◌, List, [], ◌∷◌, ◌++◌, length, take, map, refl, sym, subst, ap, ◌∙◌, arith, Some}
+use Rattle.std.proofs.Common.{◌≡◌, ℕ, zero, suc, ◌+◌, ◌<◌, ◌≤◌, List, [], ◌∷◌, ◌++◌, length, take, map, refl, sym, subst, ap, ◌∙◌, arith}
+use Rattle.std.proofs.Common.{Some}
 use Rattle.std.proofs.Common.{slice_get, take_all}
 use Rattle.std.specs.Prelude.{slice_index_or}
 use Rattle.std.specs.Str.{IsCharBoundary}
@@ -25,7 +26,8 @@ walk_entry (x ∷ es) last stops (suc k) e h =
     let rest = walk_entry es last stops k e h in
     (omega (arith, rest.0), ap (λ (t : List Entry). x ∷ t) rest.1, rest.2)
 
-walk_stop : (es : List Entry) (last : Step) (k : ℕ) (s : Step) → k ≤ length es → IsNoEntry s → slice_get (map steps.Entry es ++ last ∷ []) k ≡ Some s →
+walk_stop : (es : List Entry) (last : Step) (k : ℕ) (s : Step) → k ≤ length es → IsNoEntry s
+    → slice_get (map steps.Entry es ++ last ∷ []) k ≡ Some s →
     (k ≡ length es) × (last ≡ s)
 walk_stop [] last zero s within stops h = let is : last ≡ s = cc in (refl, is)
 walk_stop [] last (suc k) s within stops h = absurd (cc)
@@ -42,7 +44,8 @@ fault_last (x ∷ es) last = fault_last es last
 
 -- the next entry
 pub at_entry : (ss : List Step) (k : ℕ) (e : Entry) → AreWhole ss → slice_get ss k ≡ Some (steps.Entry e) →
-    (k < length (entries_of ss)) × (take (k + 1) (entries_of ss) ≡ take k (entries_of ss) ++ e ∷ []) × (slice_index_or (entries_of ss) k e ≡ e)
+    (k < length (entries_of ss)) × (take (k + 1) (entries_of ss) ≡ take k (entries_of ss) ++ e ∷ []) ×
+        (slice_index_or (entries_of ss) k e ≡ e)
 at_entry ss k e whole h =
     let next = walk_entry (entries_of ss) whole.last whole.stops k e (ap (λ (t : List Step). slice_get t k) (sym whole.whole) ∙ h) in
     let one : k + 1 ≡ suc k = omega arith in

@@ -48,7 +48,8 @@ none_of : (extent : Extent) (t : List ℕ) → fault_of extent kinds.Op t ≡ No
 unfolding single_fault
 none_of extent t = of_single extent kinds.Op t refl
 
-pub operator_faultless : (extent : Extent) (text : List ℕ) (e : Entry) (x : Exact) → HasExact text e → e.exact ≡ Some x → entry_refusal extent text e ≡ None
+pub operator_faultless : (extent : Extent) (text : List ℕ) (e : Entry) (x : Exact) → HasExact text e → e.exact ≡ Some x
+    → entry_refusal extent text e ≡ None
 operator_faultless extent text e x has is =
     let own = is_operator text e x has is in
     no_refusal extent text e (ap (λ (k : Kind). fault_of extent k (text_of text e)) own.kind ∙ none_of extent (text_of text e))

@@ -1,5 +1,6 @@
 -- Carries: Pass, tokens_of. On: what one pass keeps, with one entry more and at the listing's end.
-use Rattle.std.proofs.Common.{◌≡◌, ℕ, ◌+◌, ◌≤◌, Bool, true, false, List, [], ◌∷◌, ◌++◌, length, refl, sym, ap, ap₂, subst, append_assoc, ◌∙◌}
+use Rattle.std.proofs.Common.{◌≡◌, ℕ, ◌+◌, ◌≤◌, Bool, true, false, List, [], ◌∷◌, ◌++◌, length, refl, sym, ap, ap₂, subst, append_assoc}
+use Rattle.std.proofs.Common.{◌∙◌}
 use Rattle.std.proofs.Common.{arith, Option, Some, None}
 use Rattle.std.specs.Prelude.{count_by, if◌then◌else◌}
 use Rattle.std.proofs.lemmas.List.Sums.{sum_by-cons, count_by-le-length}
@@ -30,20 +31,24 @@ count_on p es e = by (p e) ∙ sym (sum_by-cons (λ x. if p x then 1 else 0) e e
     by true = omega arith
     by false = omega arith
 
-margins_more : (text : List ℕ) (es : List Entry) (e : Entry) → margins text (es ++ e ∷ []) ≡ margins text es ++ margins_of_entry text (behind [] es) e
+margins_more : (text : List ℕ) (es : List Entry) (e : Entry) → margins text (es ++ e ∷ []) ≡ margins text es ++
+    margins_of_entry text (behind [] es) e
 margins_more text es e =
     ap (λ (ms : List Margin). margin_at text 0 ++ ms) (margins_on text [] es e)
     ∙ sym (append_assoc (margin_at text 0) (margins_from text [] es) (margins_of_entry text (behind [] es) e))
 
 -- one entry more
-pub passes : (text : List ℕ) (es : List Entry) (e : Entry) (old new : Pass) → Passed text es old → Gains text e (entry_refusal old.extent text e) old new →
+pub passes : (text : List ℕ) (es : List Entry) (e : Entry) (old new : Pass) → Passed text es old
+    → Gains text e (entry_refusal old.extent text e) old new →
     Passed text (es ++ e ∷ []) new
 passes text es e old new had gains =
     let order = behind_on [] es e in
     record {
       begun = gains.begun ∙ ap (still_open e.kind) had.begun ∙ sym (ap is_open order);
-      opened = gains.opened ∙ ap (λ (n : ℕ). counted n (opens e)) had.opened ∙ count_on opens (behind [] es) e ∙ sym (ap (count_by opens) order);
-      closed = gains.closed ∙ ap (λ (n : ℕ). counted n (closes e)) had.closed ∙ count_on closes (behind [] es) e ∙ sym (ap (count_by closes) order);
+      opened = gains.opened ∙ ap (λ (n : ℕ). counted n (opens e)) had.opened ∙ count_on opens (behind [] es) e
+          ∙ sym (ap (count_by opens) order);
+      closed = gains.closed ∙ ap (λ (n : ℕ). counted n (closes e)) had.closed ∙ count_on closes (behind [] es) e
+          ∙ sym (ap (count_by closes) order);
       faulty =
           gains.faulty
           ∙ ap (λ (r : Option Refusal). option_or r (entry_refusal old.extent text e)) had.faulty
@@ -57,11 +62,13 @@ passes text es e old new had gains =
       indents =
           subst (λ (ms : List Margin). Measured ms new.indents) (sym (margins_more text es e))
           (measures (margins text es) (margins_of_entry text (behind [] es) e) old.indents new.indents had.indents
-          (subst (λ (ms : List Margin). Measures ms old.indents new.indents) (ap₂ (given_margins text e) had.opened had.closed) gains.indents));
+          (subst (λ (ms : List Margin). Measures ms old.indents new.indents)
+              (ap₂ (given_margins text e) had.opened had.closed) gains.indents));
     }
 
 -- where no refusal is kept, none was before, and the entry has none
-pub kept_before : (text : List ℕ) (es : List Entry) (e : Entry) (own : Option Refusal) (old new : Pass) → Passed text es old → Gains text e own old new →
+pub kept_before : (text : List ℕ) (es : List Entry) (e : Entry) (own : Option Refusal) (old new : Pass) → Passed text es old
+    → Gains text e own old new →
     kept_refusal new ≡ None → (kept_refusal old ≡ None) × (own ≡ None)
 kept_before text es e own old new had gains none =
     let more = given_margins text e old.opened old.closed in
@@ -92,7 +99,8 @@ few text es p had =
 
 -- behind all entries
 
-pub all_refusals : (extent : Extent) (s : Source) (es : List Entry) (p : Pass) → p.extent ≡ extent → Passed s.text es p → es ≡ entries_of (listing s) → fault_of (listing s) ≡ None →
+pub all_refusals : (extent : Extent) (s : Source) (es : List Entry) (p : Pass) → p.extent ≡ extent → Passed s.text es p
+    → es ≡ entries_of (listing s) → fault_of (listing s) ≡ None →
     kept_refusal p ≡ refusal extent s
 unfolding refusal_at
 all_refusals extent s es p is had all none =
@@ -101,6 +109,7 @@ all_refusals extent s es p is had all none =
     (had.indents.mixed ∙ ap (λ (es : List Entry). first_mixed [] (margins s.text es)) all))
     ∙ sym (rw (none, refusal_at) refl)
 
-pub refused_listing : (extent : Extent) (s : Source) (f : ListingFault) → fault_of (listing s) ≡ Some f → refusal extent s ≡ Some (refusals.Listing f)
+pub refused_listing : (extent : Extent) (s : Source) (f : ListingFault) → fault_of (listing s) ≡ Some f
+    → refusal extent s ≡ Some (refusals.Listing f)
 unfolding refusal_at
 refused_listing extent s f is = rw (is, refusal_at) refl

@@ -1,6 +1,7 @@
 -- Carries: drop_wider, Indents::take. On: lines that rise by both widths, of which
 -- the last decides for all.
-use Rattle.std.proofs.Common.{◌≡◌, ℕ, ◌<◌, Bool, true, false, not, ◌&&◌, ◌||◌, List, [], ◌∷◌, ◌++◌, ◌+◌, ◌-◌, length, take, drop, refl, sym, ap, ap₂, ◌∙◌}
+use Rattle.std.proofs.Common.{◌≡◌, ℕ, ◌<◌, Bool, true, false, not, ◌&&◌, ◌||◌, List, [], ◌∷◌, ◌++◌, ◌+◌, ◌-◌, length, take, drop, refl, sym}
+use Rattle.std.proofs.Common.{ap, ap₂, ◌∙◌}
 use Rattle.std.proofs.Common.{inl, inr, arith, take-append-drop, Some, append-nil}
 use Rattle.std.specs.Prelude.{nat_lt, nat_le, filter, slice_get}
 use Rattle.std.specs.List.{list_any, list_all}
@@ -120,7 +121,8 @@ alike_same v w alike not_less within =
 
 -- Lines that rise
 
-rising_parts : (v : Widths) (ws : List Widths) → are_rising (v ∷ ws) ≡ true → (list_all (λ w. is_less v w) ws ≡ true) × (are_rising ws ≡ true)
+rising_parts : (v : Widths) (ws : List Widths) → are_rising (v ∷ ws) ≡ true
+    → (list_all (λ w. is_less v w) ws ≡ true) × (are_rising ws ≡ true)
 rising_parts v ws h = and_parts (list_all (λ w. is_less v w) ws) (are_rising ws) h
 
 all_filter : (p q : Widths → Bool) (ws : List Widths) → list_all p ws ≡ true → list_all p (filter q ws) ≡ true
@@ -155,7 +157,8 @@ all_pop p (v ∷ ws) w all =
     let more = all_pop p ws w parts.1 in
     (and_from (p v) (list_all p ws) parts.0 more.0, more.1)
 
-rising_push : (ws : List Widths) (w : Widths) → are_rising ws ≡ true → list_all (λ v. is_less v w) ws ≡ true → are_rising (ws ++ w ∷ []) ≡ true
+rising_push : (ws : List Widths) (w : Widths) → are_rising ws ≡ true → list_all (λ v. is_less v w) ws ≡ true
+    → are_rising (ws ++ w ∷ []) ≡ true
 rising_push [] w h below = refl
 rising_push (v ∷ ws) w h below =
     let parts = rising_parts v ws h in
@@ -163,7 +166,8 @@ rising_push (v ∷ ws) w h below =
     and_from (list_all (λ u. is_less v u) (ws ++ w ∷ [])) (are_rising (ws ++ w ∷ []))
     (all_push (λ u. is_less v u) ws w parts.0 least.0) (rising_push ws w parts.1 least.1)
 
-rising_pop : (ws : List Widths) (w : Widths) → are_rising (ws ++ w ∷ []) ≡ true → (are_rising ws ≡ true) × (list_all (λ v. is_less v w) ws ≡ true)
+rising_pop : (ws : List Widths) (w : Widths) → are_rising (ws ++ w ∷ []) ≡ true
+    → (are_rising ws ≡ true) × (list_all (λ v. is_less v w) ws ≡ true)
 rising_pop [] w h = (refl, refl)
 rising_pop (v ∷ ws) w h =
     let parts = rising_parts v (ws ++ w ∷ []) h in
@@ -219,7 +223,8 @@ stands_on earlier ws m had none =
       same = λ p.
           any_push p (narrower ws w) w
           ∙ once p ws w none
-          ∙ ap (λ (b : Bool). b || p w) (any_filter p within ws ∙ had.same (λ v. within v && p v) ∙ sym (any_filter p within (standing_of earlier)))
+          ∙ ap (λ (b : Bool). b || p w) (any_filter p within ws ∙ had.same (λ v. within v && p v)
+              ∙ sym (any_filter p within (standing_of earlier)))
           ∙ sym (any_push p (filter within (standing_of earlier)) w);
     }
 
@@ -232,7 +237,8 @@ pub record Dropped (start now : List Widths) (w : Widths) : Type 0 where
   pub rising : are_rising start ≡ true → are_rising now ≡ true
 
 -- one more was
-pub drops_on : (start ws : List Widths) (v w : Widths) → Dropped start (ws ++ v ∷ []) w → are_alike v w ≡ true → nat_lt v.eight w.eight ≡ false
+pub drops_on : (start ws : List Widths) (v w : Widths) → Dropped start (ws ++ v ∷ []) w → are_alike v w ≡ true
+    → nat_lt v.eight w.eight ≡ false
     → Dropped start ws w
 drops_on start ws v w had alike not_below = record {
   narrower = sym (filter-append (λ v. nat_lt v.eight w.eight) ws (v ∷ []) ∙ (rw not_below (append-nil (narrower ws w)))) ∙ had.narrower;
@@ -247,9 +253,11 @@ last_of [] v h = absurd cc
 last_of (u ∷ ws) v h =
     let k = length (u ∷ ws) - 1 in
     let none : drop (k + 1) (u ∷ ws) ≡ [] = drop_of_length-le (u ∷ ws) (omega arith) in
-    sym (take-append-drop k (u ∷ ws)) ∙ ap (λ (b : List Widths). take k (u ∷ ws) ++ b) (drop_at (u ∷ ws) k v (sym h) ∙ ap (λ (b : List Widths). v ∷ b) none)
+    sym (take-append-drop k (u ∷ ws)) ∙ ap (λ (b : List Widths). take k (u ∷ ws) ++ b) (drop_at (u ∷ ws) k v (sym h)
+        ∙ ap (λ (b : List Widths). v ∷ b) none)
 
-all_less : (ws : List Widths) (v w : Widths) → list_all (λ u. is_less u v) ws ≡ true → is_less v w ≡ true → (clashes ws w ≡ false) × (narrower ws w ≡ ws)
+all_less : (ws : List Widths) (v w : Widths) → list_all (λ u. is_less u v) ws ≡ true → is_less v w ≡ true
+    → (clashes ws w ≡ false) × (narrower ws w ≡ ws)
 all_less [] v w below last = (refl, refl)
 all_less (u ∷ ws) v w below last =
     let parts = and_parts (is_less u v) (list_all (λ u. is_less u v) ws) below in

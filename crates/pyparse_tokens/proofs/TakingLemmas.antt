@@ -1,6 +1,7 @@
 -- Carries: take_token, take_operator, take_line_end, take_lexeme. On: what is kept of a lexeme of the line that
 -- is open is what is kept of its entry.
-use Rattle.std.proofs.Common.{◌≡◌, ℕ, ◌-◌, ◌<◌, Bool, true, false, not, List, [], ◌∷◌, ◌++◌, length, map, refl, sym, ap, ap₂, subst, ◌∙◌, append-nil, arith, Option, Some, None}
+use Rattle.std.proofs.Common.{◌≡◌, ℕ, ◌-◌, ◌<◌, Bool, true, false, not, List, [], ◌∷◌, ◌++◌, length, map, refl, sym, ap, ap₂, subst, ◌∙◌}
+use Rattle.std.proofs.Common.{append-nil, arith, Option, Some, None}
 use Rattle.std.specs.Prelude.{if◌then◌else◌, Result, Ok, Err, OnOk}
 use Rattle.std.specs.Option.{option_or}
 use Rattle.std.specs.Str.{chars}
@@ -31,8 +32,10 @@ use Rattle.pyparse_tokens.specs.declared.line_gather.LineGather.{LineGather}
 use Rattle.pyparse_tokens.specs.Inner.Indenting.{Measured, Measures}
 use Rattle.pyparse_tokens.specs.Inner.Passing.{still_open, line_ends, exceeding, counted, given_margins, Gains}
 use Rattle.pyparse_tokens.specs.Inner.OpenLines.{of_first, Pushes}
-use Rattle.pyparse_tokens.specs.Inner.LineGathering.{stands_in_line, ends_open_line, is_indent, is_dedent, marker_behind, own_terminals, Adds, TakesEntry}
-use Rattle.pyparse_tokens.specs.Inner.Walking.{IsEntry, Takes, is_plain_token, line_end_kind, TakesLineEnd, TakesLexeme, PassesOperator, PassesLineEnd}
+use Rattle.pyparse_tokens.specs.Inner.LineGathering.{stands_in_line, ends_open_line, is_indent, is_dedent, marker_behind, own_terminals}
+use Rattle.pyparse_tokens.specs.Inner.LineGathering.{Adds, TakesEntry}
+use Rattle.pyparse_tokens.specs.Inner.Walking.{IsEntry, Takes, is_plain_token, line_end_kind, TakesLineEnd, TakesLexeme, PassesOperator}
+use Rattle.pyparse_tokens.specs.Inner.Walking.{PassesLineEnd}
 use Rattle.pyparse_tokens.proofs.TerminalLemmas.{of_single, no_refusal, pushed_adds}
 use Rattle.pyparse_tokens.proofs.OperatorLemmas.{operator_faultless, operator_adds}
 
@@ -52,9 +55,11 @@ none_measured i ms had = subst (λ (xs : List Margin). Measured xs i) (sym (appe
 
 -- ---- What is kept of faults.
 
-operator_gains : (text : List ℕ) (e : Entry) (x : Exact) (old new : Pass) → old.begun ≡ true → PassesOperator x old new → Gains text (as_entry e kinds.Op (Some x)) None old new
+operator_gains : (text : List ℕ) (e : Entry) (x : Exact) (old new : Pass) → old.begun ≡ true → PassesOperator x old new
+    → Gains text (as_entry e kinds.Op (Some x)) None old new
 operator_gains text e x old new b passes =
-    let few : exceeding (as_entry e kinds.Op (Some x)) old.opened old.closed ≡ None = ap (λ (d : Bool). if d then Some (TooDeep e.start) else None) passes.few in
+    let few : exceeding (as_entry e kinds.Op (Some x)) old.opened old.closed ≡ None =
+        ap (λ (d : Bool). if d then Some (TooDeep e.start) else None) passes.few in
     subst (Gains text (as_entry e kinds.Op (Some x)) None old) (sym passes.rest)
     record {
       extent = refl;
@@ -92,7 +97,8 @@ is_within kinds.Indent plain = absurd cc
 is_within kinds.Dedent plain = absurd cc
 is_within kinds.EndMarker plain = absurd cc
 
-token_gains : (text : List ℕ) (e : Entry) (k : Kind) (old : Pass) → IsWithin k → old.begun ≡ true → Gains text (as_entry e k None) None old old
+token_gains : (text : List ℕ) (e : Entry) (k : Kind) (old : Pass) → IsWithin k → old.begun ≡ true
+    → Gains text (as_entry e k None) None old old
 token_gains text e k old within begun =
     let none : given_margins text (as_entry e k None) old.opened old.closed ≡ [] =
     ap (λ (b : Bool). if b then margin_at text e.to else []) (within.inner old.opened old.closed) in
@@ -113,7 +119,8 @@ of_first_some [] p q some = absurd (omega (arith, some))
 of_first_some (t ∷ ts) p q some = refl
 
 -- behind the first token no place counts
-later : (p q : Place) (own mine : List ℕ) (ts : List Terminals.Terminal) (old new : OpenLine) → 0 < length old.terminals.items → own ≡ mine →
+later : (p q : Place) (own mine : List ℕ) (ts : List Terminals.Terminal) (old new : OpenLine)
+    → 0 < length old.terminals.items → own ≡ mine →
     Pushes p own ts old new → Pushes q mine ts old new
 later p q own mine ts old new some same pushes = record {
   terminals = pushes.terminals;
@@ -132,7 +139,8 @@ none_adds text e k line beside kind =
           sym (append-nil (map terminal line.terminals.items))
           ∙ ap (λ (ts : List Terminals.Terminal). map terminal line.terminals.items ++ ts) (sym mine);
       start = ap (λ (b : Bool). if b then of_first line.terminals.items line.start e.start else line.start) (sym here);
-      first = ap (λ (b : Bool). if b then of_first line.terminals.items (chars line.first.now) (text_of text e) else chars line.first.now) (sym here);
+      first = ap (λ (b : Bool). if b then of_first line.terminals.items (chars line.first.now) (text_of text e) else chars
+          line.first.now) (sym here);
       last = ap (λ (b : Bool). if b then text_of text e else chars line.last.now) (sym here);
     }
 
@@ -160,7 +168,8 @@ operator_takes x own old new begun some passes pushes rest text e is =
 
 -- a name, a number or a string without a fault
 pub token_takes : (k : Kind) (own : List ℕ) (old new : LineGather) → is_plain_token k ≡ true → old.pass.begun ≡ true
-    → 0 < length old.line.terminals.items → fault_of old.pass.extent k own ≡ None → Pushes old.line.start own (terminals_of k own) old.line new.line
+    → 0 < length old.line.terminals.items → fault_of old.pass.extent k own ≡ None
+        → Pushes old.line.start own (terminals_of k own) old.line new.line
     → new ≡ record old { line = new.line } → Takes k None own old new
 token_takes k own old new plain begun some sound pushes rest text e is =
     let within = is_within k plain in
@@ -168,7 +177,8 @@ token_takes k own old new plain begun some sound pushes rest text e is =
     no_refusal old.pass.extent text e (ap₂ (fault_of old.pass.extent) is.kind is.own_text ∙ sound) in
     let pass : new.pass ≡ old.pass = ap (λ (g : LineGather). g.pass) rest in
     let gains : Gains text e None old.pass old.pass =
-    subst (λ (d : Entry). Gains text d None old.pass old.pass) (entry_as e k None is.kind is.exact) (token_gains text e k old.pass within begun) in
+    subst (λ (d : Entry). Gains text d None old.pass old.pass) (entry_as e k None is.kind is.exact)
+        (token_gains text e k old.pass within begun) in
     record {
       pass =
           subst (λ (p : Pass). Gains text e (entry_refusal old.pass.extent text e) old.pass p) (sym pass)
@@ -188,19 +198,23 @@ token_takes k own old new plain begun some sound pushes rest text e is =
     not_both : (b : Bool) → b ≡ true → b ≡ false → ⊥
     not_both b t f = cc
 
-line_end_faultless : (extent : Extent) (text : List ℕ) (e : Entry) (b : Bool) → e.kind ≡ line_end_kind b → entry_refusal extent text e ≡ None
+line_end_faultless : (extent : Extent) (text : List ℕ) (e : Entry) (b : Bool) → e.kind ≡ line_end_kind b
+    → entry_refusal extent text e ≡ None
 unfolding single_fault
 line_end_faultless extent text e true kind =
-    no_refusal extent text e (ap (λ (k : Kind). fault_of extent k (text_of text e)) kind ∙ of_single extent kinds.Newline (text_of text e) refl)
+    no_refusal extent text e (ap (λ (k : Kind). fault_of extent k (text_of text e)) kind
+        ∙ of_single extent kinds.Newline (text_of text e) refl)
 line_end_faultless extent text e false kind =
     no_refusal extent text e (ap (λ (k : Kind). fault_of extent k (text_of text e)) kind ∙ of_single extent kinds.Nl (text_of text e) refl)
 
 -- a line end within brackets, and one that ends the logical line
 pub line_end_takes : (text : List ℕ) (ends : Bool) (to : ℕ) (old new : LineGather) → (ends ≡ true → new.level ≡ old.indents - old.dedents)
-    → PassesLineEnd text ends to old.pass new.pass → new ≡ record old { pass = new.pass; level = new.level } → TakesLineEnd text ends to old new
+    → PassesLineEnd text ends to old.pass new.pass → new ≡ record old { pass = new.pass; level = new.level }
+        → TakesLineEnd text ends to old new
 line_end_takes text ends to old new level passes rest own e is there =
     let none : entry_refusal old.pass.extent text e ≡ None = line_end_faultless old.pass.extent text e ends is.kind in
-    let pass : Gains text e (entry_refusal old.pass.extent text e) old.pass new.pass = subst (λ (r : Option Refusal). Gains text e r old.pass new.pass) (sym none) (passes e is.kind is.exact there) in
+    let pass : Gains text e (entry_refusal old.pass.extent text e) old.pass new.pass =
+        subst (λ (r : Option Refusal). Gains text e r old.pass new.pass) (sym none) (passes e is.kind is.exact there) in
     let beside : stands_in_line (line_end_kind ends) ≡ false = aside ends in
     let indents : new.indents ≡ old.indents = ap (λ (g : LineGather). g.indents) rest in
     let dedents : new.dedents ≡ old.dedents = ap (λ (g : LineGather). g.dedents) rest in
@@ -214,14 +228,21 @@ line_end_takes text ends to old new level passes rest own e is there =
     aside true = refl
     aside false = refl
 
-    taken : (b : Bool) → (b ≡ true → new.level ≡ old.indents - old.dedents) → e.kind ≡ line_end_kind b → Gains text e (entry_refusal old.pass.extent text e) old.pass new.pass
-        → new.indents ≡ old.indents → new.dedents ≡ old.dedents → new.marker ≡ old.marker → Adds text e old.line new.line → TakesEntry text e old new
-    taken true level kind pass indents dedents marker adds = record { pass = pass; level = λ _. level refl; indents = indents ∙ rw kind refl; dedents = dedents ∙ rw kind refl; marker = marker ∙ rw kind refl; line = λ _. adds }
-    taken false level kind pass indents dedents marker adds = record { pass = pass; level = λ ends. let n : false ≡ true = rw kind at ends in absurd cc; indents = indents ∙ rw kind refl; dedents = dedents ∙ rw kind refl; marker = marker ∙ rw kind refl; line = λ _. adds }
+    taken : (b : Bool) → (b ≡ true → new.level ≡ old.indents - old.dedents) → e.kind ≡ line_end_kind b
+        → Gains text e (entry_refusal old.pass.extent text e) old.pass new.pass
+        → new.indents ≡ old.indents → new.dedents ≡ old.dedents → new.marker ≡ old.marker → Adds text e old.line new.line
+            → TakesEntry text e old new
+    taken true level kind pass indents dedents marker adds = record { pass = pass; level = λ _. level refl; indents = indents
+        ∙ rw kind refl; dedents = dedents ∙ rw kind refl; marker = marker ∙ rw kind refl; line = λ _. adds }
+    taken false level kind pass indents dedents marker adds = record { pass = pass; level = λ ends. let n : false ≡ true =
+        rw kind at ends in absurd cc; indents = indents ∙ rw kind refl; dedents = dedents ∙ rw kind refl; marker = marker
+        ∙ rw kind refl; line = λ _. adds }
 
 -- a line end, by what its pass answers
-pub line_end_kept : {E : Type 0} (answer : Result (Unit {0}) E) (text : List ℕ) (ends : Bool) (to : ℕ) (old mid : LineGather) (pass : Pass) → (ends ≡ true → mid.level ≡ old.indents - old.dedents)
-    → mid ≡ record old { level = mid.level } → OnOk answer (PassesLineEnd text ends to mid.pass pass) → OnOk answer (TakesLineEnd text ends to old (record mid { pass = pass }))
+pub line_end_kept : {E : Type 0} (answer : Result (Unit {0}) E) (text : List ℕ) (ends : Bool) (to : ℕ) (old mid : LineGather) (pass : Pass)
+    → (ends ≡ true → mid.level ≡ old.indents - old.dedents)
+    → mid ≡ record old { level = mid.level } → OnOk answer (PassesLineEnd text ends to mid.pass pass)
+        → OnOk answer (TakesLineEnd text ends to old (record mid { pass = pass }))
 line_end_kept (Ok u) text ends to old mid pass level rest passes =
     let was : mid.pass ≡ old.pass = ap (λ (g : LineGather). g.pass) rest in
     line_end_takes text ends to old (record mid { pass = pass }) level (subst (λ (p : Pass). PassesLineEnd text ends to p pass) was passes)
@@ -229,7 +250,8 @@ line_end_kept (Ok u) text ends to old mid pass level rest passes =
 line_end_kept (Err fault) text ends to old mid pass level rest passes = tt
 
 -- what is no other lexeme that gives an entry is a line end
-pub end_takes : (text own : List ℕ) (k : Class) (t : Spot) (old new : LineGather) → (k ≡ Name → ⊥) → (k ≡ Number → ⊥) → (k ≡ String → ⊥) → ((x : Exact) → k ≡ Operator x → ⊥)
+pub end_takes : (text own : List ℕ) (k : Class) (t : Spot) (old new : LineGather) → (k ≡ Name → ⊥) → (k ≡ Number → ⊥) → (k ≡ String → ⊥)
+    → ((x : Exact) → k ≡ Operator x → ⊥)
     → (k ≡ Comment → ⊥) → is_silent k ≡ false → TakesLineEnd text (not t.begun) t.offset old new → TakesLexeme text k own t old new
 end_takes text own LineEnd t old new name number string operator comment gives takes e is there = takes own e (as_end t.begun is) there
   where

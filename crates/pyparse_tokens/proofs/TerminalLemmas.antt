@@ -1,5 +1,7 @@
--- Carries: push_token, push_string, push, take_token, take_operator, read_line. On: which terminals a token is, and that one without a fault is some.
-use Rattle.std.proofs.Common.{◌≡◌, ℕ, ◌<◌, Bool, true, false, List, [], ◌∷◌, ◌++◌, length, map, refl, sym, ap, ◌∙◌, arith, Option, Some, None}
+-- Carries: push_token, push_string, push, take_token, take_operator, read_line. On: which terminals a token is, and that one without a
+-- fault is some.
+use Rattle.std.proofs.Common.{◌≡◌, ℕ, ◌<◌, Bool, true, false, List, [], ◌∷◌, ◌++◌, length, map, refl, sym, ap, ◌∙◌, arith, Option, Some}
+use Rattle.std.proofs.Common.{None}
 use Rattle.std.specs.Prelude.{if◌then◌else◌}
 use Rattle.std.specs.Str.{chars}
 use Rattle.pysource.specs.declared.places.Place.{Place}
@@ -15,7 +17,8 @@ use Rattle.pytoken.specs.declared.refusals.Refusal.TheVariants as refusals
 use Rattle.pytoken.specs.StringValues.{string_fault, literal_fault}
 use Rattle.pytoken.specs.FormattedStrings.{Element, is_fstring, elements_of, elements_fault}
 use Rattle.pytoken.specs.Terminals
-use Rattle.pytoken.specs.Terminals.{terminal_of, single_fault, terminals_by, fault_by, terminals_of, fault_of, expression, elements_terminals, is_faulty}
+use Rattle.pytoken.specs.Terminals.{terminal_of, single_fault, terminals_by, fault_by, terminals_of, fault_of, expression}
+use Rattle.pytoken.specs.Terminals.{elements_terminals, is_faulty}
 use Rattle.pytoken.specs.TerminalOf.{terminal}
 use Rattle.pytoken.specs.Tokens.{text_of}
 use Rattle.pytoken.specs.Refusals.{entry_refusal}
@@ -84,22 +87,26 @@ is_single extent k t none = by (is_fstring k t) refl
 abbrev refusal_by : Place → Option TokenError → Option Refusal
 refusal_by p o = elim o [ Some x ↦ Some (refusals.Token x p) | None ↦ None ]
 
-pub no_refusal : (extent : Extent) (text : List ℕ) (e : Entry) → fault_of extent e.kind (text_of text e) ≡ None → entry_refusal extent text e ≡ None
+pub no_refusal : (extent : Extent) (text : List ℕ) (e : Entry) → fault_of extent e.kind (text_of text e) ≡ None
+    → entry_refusal extent text e ≡ None
 no_refusal extent text e none = ap (refusal_by e.start) none
 
-pub no_fault : (extent : Extent) (text : List ℕ) (e : Entry) → entry_refusal extent text e ≡ None → fault_of extent e.kind (text_of text e) ≡ None
+pub no_fault : (extent : Extent) (text : List ℕ) (e : Entry) → entry_refusal extent text e ≡ None
+    → fault_of extent e.kind (text_of text e) ≡ None
 no_fault extent text e none = by (fault_of extent e.kind (text_of text e)) none
   where
     by : (o : Option TokenError) → refusal_by e.start o ≡ None → o ≡ None
     by None is = refl
     by (Some x) is = absurd cc
 
-cut_terminals : (t : List ℕ) (es : Option (List Element)) → elements_fault is_faulty t es ≡ None → 0 < length (elements_terminals expression es)
+cut_terminals : (t : List ℕ) (es : Option (List Element)) → elements_fault is_faulty t es ≡ None
+    → 0 < length (elements_terminals expression es)
 unfolding elements_fault
 cut_terminals t None none = absurd cc
 cut_terminals t (Some es) none = omega arith
 
-formatted_terminals : (extent : Extent) (k : Kind) (t : List ℕ) → is_fstring k t ≡ true → fault_of extent k t ≡ None → 0 < length (terminals_of k t)
+formatted_terminals : (extent : Extent) (k : Kind) (t : List ℕ) → is_fstring k t ≡ true → fault_of extent k t ≡ None
+    → 0 < length (terminals_of k t)
 unfolding fault_of fault_by terminals_by
 formatted_terminals Plain k t is none = let some : single_fault Plain k t ≡ Some errors.FString = formatted_fault Plain k t is in absurd cc
 formatted_terminals Whole k t is none =
@@ -127,6 +134,7 @@ pushed_adds text e ts old new stands own pushes = record {
   start = pushes.start ∙ ap (λ (b : Bool). if b then of_first old.terminals.items old.start e.start else old.start) (sym stands);
   first =
       pushes.first
-      ∙ ap (λ (b : Bool). if b then of_first old.terminals.items (chars old.first.now) (text_of text e) else chars old.first.now) (sym stands);
+      ∙ ap (λ (b : Bool). if b then of_first old.terminals.items (chars old.first.now) (text_of text e) else chars
+          old.first.now) (sym stands);
   last = pushes.last ∙ ap (λ (b : Bool). if b then text_of text e else chars old.last.now) (sym stands);
 }

@@ -1,6 +1,7 @@
 -- Carries: walk, walk_line, read_line. On: what was read of a line, with one entry more, and from
 -- one spot to the next.
-use Rattle.std.proofs.Common.{◌≡◌, ℕ, ◌^◌, ◌<◌, ◌≤◌, Bool, true, false, not, ◌&&◌, List, [], length, take, drop, map, length-take, refl, sym, ap, ap₂, subst, ◌∙◌, arith, Some, None}
+use Rattle.std.proofs.Common.{◌≡◌, ℕ, ◌^◌, ◌<◌, ◌≤◌, Bool, true, false, not, ◌&&◌, List, [], length, take, drop, map, length-take, refl}
+use Rattle.std.proofs.Common.{sym, ap, ap₂, subst, ◌∙◌, arith, Some, None}
 use Rattle.std.specs.Str.{chars, IsUtf8, IsCharBoundary}
 use Rattle.pysource.specs.Limits.{source_limit}
 use Rattle.pysource.specs.declared.places.Place.{Place}
@@ -47,7 +48,8 @@ keeps_none l empty = record {
     no_text : (t : List ℕ) → None ≡ Some t → ⊥
     no_text t is = cc
 
-pub reads_begin : (p : Parts) (l : Listed) (g h : LineGather) → StandsBetween p l g → h ≡ record g { line = h.line } → h.line.terminals.items ≡ [] →
+pub reads_begin : (p : Parts) (l : Listed) (g h : LineGather) → StandsBetween p l g → h ≡ record g { line = h.line }
+    → h.line.terminals.items ≡ [] →
     Reads p l l h
 reads_begin p l g h between is empty = record {
   at = cleared p l g h between.at is;
@@ -57,7 +59,8 @@ reads_begin p l g h between is empty = record {
 
 -- ---- One entry more.
 
-pub reads_on : (p : Parts) (first old new : Listed) (e : Entry) (g h : LineGather) → Reads p first old g → Read p old new e → new.shown.given ≤ most_entries → new.source ≡ p →
+pub reads_on : (p : Parts) (first old new : Listed) (e : Entry) (g h : LineGather) → Reads p first old g → Read p old new e
+    → new.shown.given ≤ most_entries → new.source ≡ p →
     TakesEntry (chars p.text) e g h → ended_by e g.pass.begun ≡ false → Reads p first new h
 reads_on p first old new e g h had read few source gains goes = record {
   at = stands_on p old new e g h had.at read few source gains;
@@ -65,7 +68,8 @@ reads_on p first old new e g h had read few source gains goes = record {
   same = λ none. same_lines p old new e g had.at read goes ∙ had.same (none_before p old e g h had.at gains none).0;
 }
 
-pub reads_end : (p : Parts) (first old new : Listed) (e : Entry) (g h : LineGather) → Reads p first old g → Read p old new e → new.shown.given ≤ most_entries → new.source ≡ p →
+pub reads_end : (p : Parts) (first old new : Listed) (e : Entry) (g h : LineGather) → Reads p first old g → Read p old new e
+    → new.shown.given ≤ most_entries → new.source ≡ p →
     TakesEntry (chars p.text) e g h → ended_by e g.pass.begun ≡ true → Ended p first new h
 reads_end p first old new e g h had read few source gains ends = record {
   at = stands_on p old new e g h had.at read few source gains;
@@ -125,8 +129,10 @@ pub record Stepped (p : Parts) (levels : List ℕ) (s t : Spot) (k : Class) (fro
   pub entry : IsEntry (chars p.text) (kind_of k t.begun) (operator_of k) (chars front) goes.entry
   pub boundary : IsCharBoundary p.text t.offset
 
-pub stepped : (p : Parts) (levels left : List ℕ) (s t : Spot) (k : Class) (front back : List ℕ) (g : LineGather) → IsUtf8 p.text → length p.text ≤ source_limit →
-    StandsAt p (at_spot p s levels) g → 0 < s.given → s.begun ≡ true → left ≡ drop s.offset p.text → Steps s left k front back t → Stepped p levels s t k front back g
+pub stepped : (p : Parts) (levels left : List ℕ) (s t : Spot) (k : Class) (front back : List ℕ) (g : LineGather) → IsUtf8 p.text
+    → length p.text ≤ source_limit →
+    StandsAt p (at_spot p s levels) g → 0 < s.given → s.begun ≡ true → left ≡ drop s.offset p.text → Steps s left k front back t
+        → Stepped p levels s t k front back g
 stepped p levels left s t k front back g utf8 small at some begun is_left x =
     let goes = step_goes p s t levels left k front back utf8 small at.stands some begun is_left x in
     let read = entry_read p (at_spot p s levels) (at_spot p t levels) g (steps.Entry goes.entry) goes.entry at goes.step refl in
@@ -138,24 +144,28 @@ stepped p levels left s t k front back g utf8 small at some begun is_left x =
     }
 
 -- the entry that the lexeme gives is taken
-pub step_taken : (p : Parts) (levels : List ℕ) (s t : Spot) (k : Class) (front back : List ℕ) (g h : LineGather) → (x : Stepped p levels s t k front back g) →
+pub step_taken : (p : Parts) (levels : List ℕ) (s t : Spot) (k : Class) (front back : List ℕ) (g h : LineGather)
+    → (x : Stepped p levels s t k front back g) →
     TakesLexeme (chars p.text) k (chars front) t g h → TakesEntry (chars p.text) x.goes.entry g h
 step_taken p levels s t k front back g h x takes = takes x.goes.entry x.entry x.goes.to
 
 -- within the line
-pub step_within : (p : Parts) (levels : List ℕ) (s t : Spot) (k : Class) (front back : List ℕ) (g h : LineGather) → (x : Stepped p levels s t k front back g) →
+pub step_within : (p : Parts) (levels : List ℕ) (s t : Spot) (k : Class) (front back : List ℕ) (g h : LineGather)
+    → (x : Stepped p levels s t k front back g) →
     TakesEntry (chars p.text) x.goes.entry g h → is_silent k ≡ false → t.begun ≡ true → ended_by x.goes.entry g.pass.begun ≡ false
 step_within p levels s t k front back g h x gains gives goes =
     ap (λ (j : Kind). ends_open_line j && g.pass.begun) (x.goes.kind ∙ ap (kind_of k) goes)
     ∙ ap (λ (b : Bool). b && g.pass.begun) (kind_within k gives)
 
-pub step_open : (p : Parts) (levels : List ℕ) (s t : Spot) (k : Class) (front back : List ℕ) (g h : LineGather) → (x : Stepped p levels s t k front back g) →
+pub step_open : (p : Parts) (levels : List ℕ) (s t : Spot) (k : Class) (front back : List ℕ) (g h : LineGather)
+    → (x : Stepped p levels s t k front back g) →
     TakesEntry (chars p.text) x.goes.entry g h → is_silent k ≡ false → t.begun ≡ true → g.pass.begun ≡ true → h.pass.begun ≡ true
 step_open p levels s t k front back g h x gains gives goes begun =
     gains.pass.begun ∙ ap₂ still_open (x.goes.kind ∙ ap (kind_of k) goes) begun ∙ kind_open k gives
 
 -- at its end
-pub step_ends : (p : Parts) (levels left : List ℕ) (s t : Spot) (k : Class) (front back : List ℕ) (g h : LineGather) → (x : Stepped p levels s t k front back g) →
+pub step_ends : (p : Parts) (levels left : List ℕ) (s t : Spot) (k : Class) (front back : List ℕ) (g h : LineGather)
+    → (x : Stepped p levels s t k front back g) →
     Steps s left k front back t → t.begun ≡ false → g.pass.begun ≡ true → ended_by x.goes.entry g.pass.begun ≡ true
 step_ends p levels left s t k front back g h x moved ends begun =
     let class : k ≡ LineEnd = end_only k _ (sym moved.begun ∙ ends) in
@@ -176,7 +186,8 @@ few_levels p l g at =
 
 -- ---- A walk.
 
-pub walk_begins : (p : Parts) (levels left : List ℕ) (s : Spot) (g : LineGather) → IsUtf8 left → StandsAt p (at_spot p s levels) g → s.begun ≡ true → g.pass.begun ≡ true →
+pub walk_begins : (p : Parts) (levels left : List ℕ) (s : Spot) (g : LineGather) → IsUtf8 left → StandsAt p (at_spot p s levels) g
+    → s.begun ≡ true → g.pass.begun ≡ true →
     0 < length g.line.terminals.items → left ≡ drop s.offset p.text → Walks p levels s s g g left
 walk_begins p levels left s g utf8 at within begun some is_left = record {
   utf8 = utf8;
@@ -190,16 +201,20 @@ walk_begins p levels left s g utf8 at within begun some is_left = record {
   left_is = is_left;
 }
 
-pub walk_room : (p : Parts) (levels left : List ℕ) (s t : Spot) (old g : LineGather) → IsUtf8 p.text → length p.text ≤ source_limit → Walks p levels s t old g left →
+pub walk_room : (p : Parts) (levels left : List ℕ) (s t : Spot) (old g : LineGather) → IsUtf8 p.text → length p.text ≤ source_limit
+    → Walks p levels s t old g left →
     SpotHasRoom t (length left)
 walk_room p levels left s t old g utf8 small w = spot_room p t levels left utf8 small w.at.stands w.within w.left_is
 
-pub walk_steps : (p : Parts) (levels left : List ℕ) (s t u : Spot) (k : Class) (front back : List ℕ) (old g : LineGather) → IsUtf8 p.text → length p.text ≤ source_limit →
+pub walk_steps : (p : Parts) (levels left : List ℕ) (s t u : Spot) (k : Class) (front back : List ℕ) (old g : LineGather) → IsUtf8 p.text
+    → length p.text ≤ source_limit →
     0 < s.given → Walks p levels s t old g left → Steps t left k front back u → Stepped p levels t u k front back g
-walk_steps p levels left s t u k front back old g utf8 small some w x = stepped p levels left t u k front back g utf8 small w.at (omega (arith, w.given)) w.within w.left_is x
+walk_steps p levels left s t u k front back old g utf8 small some w x = stepped p levels left t u k front back g utf8 small w.at
+    (omega (arith, w.given)) w.within w.left_is x
 
 -- to the next spot within the line
-pub walk_on : (p : Parts) (levels left : List ℕ) (s t u : Spot) (k : Class) (front back : List ℕ) (old g h : LineGather) → Walks p levels s t old g left →
+pub walk_on : (p : Parts) (levels left : List ℕ) (s t u : Spot) (k : Class) (front back : List ℕ) (old g h : LineGather)
+    → Walks p levels s t old g left →
     (x : Stepped p levels t u k front back g) → Steps t left k front back u → TakesLexeme (chars p.text) k (chars front) u g h →
     0 < length h.line.terminals.items → u.begun ≡ true → Walks p levels s u old h back
 walk_on p levels left s t u k front back old g h w x moved takes some goes =
@@ -210,7 +225,8 @@ walk_on p levels left s t u k front back old g h w x moved takes some goes =
     record {
       utf8 = moved.ahead.cuts.back_utf8;
       at = stands_on p (at_spot p t levels) (at_spot p u levels) x.goes.entry g h w.at x.read x.goes.few source gains;
-      reads = λ first r. reads_on p first (at_spot p t levels) (at_spot p u levels) x.goes.entry g h (w.reads first r) x.read x.goes.few source gains inside;
+      reads = λ first r. reads_on p first (at_spot p t levels) (at_spot p u levels) x.goes.entry g h (w.reads first r) x.read
+          x.goes.few source gains inside;
       within = goes;
       begun = step_open p levels t u k front back g h x gains moved.ahead.gives goes w.begun;
       extent = gains.pass.extent ∙ w.extent;
@@ -228,8 +244,10 @@ pub record WalkEnds (p : Parts) (levels : List ℕ) (s t : Spot) (old new : Line
 different : (b : Bool) → b ≡ true → b ≡ false → ⊥
 different b t f = cc
 
-pub walk_ends : (p : Parts) (levels left : List ℕ) (s t u : Spot) (k : Class) (front back : List ℕ) (old g h : LineGather) → Walks p levels s t old g left →
-    (x : Stepped p levels t u k front back g) → Steps t left k front back u → TakesLexeme (chars p.text) k (chars front) u g h → u.begun ≡ false → WalkEnds p levels s u old h
+pub walk_ends : (p : Parts) (levels left : List ℕ) (s t u : Spot) (k : Class) (front back : List ℕ) (old g h : LineGather)
+    → Walks p levels s t old g left →
+    (x : Stepped p levels t u k front back g) → Steps t left k front back u → TakesLexeme (chars p.text) k (chars front) u g h
+        → u.begun ≡ false → WalkEnds p levels s u old h
 walk_ends p levels left s t u k front back old g h w x moved takes ends =
     let gains = step_taken p levels t u k front back g h x takes in
     let source : (at_spot p u levels).source ≡ p = refl in
@@ -239,7 +257,8 @@ walk_ends p levels left s t u k front back old g h w x moved takes ends =
       at = stands_on p (at_spot p t levels) (at_spot p u levels) x.goes.entry g h w.at x.read x.goes.few source gains;
       went = record {
         within = λ goes. absurd (different u.begun goes ends);
-        ended = λ _ first r. reads_end p first (at_spot p t levels) (at_spot p u levels) x.goes.entry g h (w.reads first r) x.read x.goes.few source gains last;
+        ended = λ _ first r. reads_end p first (at_spot p t levels) (at_spot p u levels) x.goes.entry g h (w.reads first r) x.read
+            x.goes.few source gains last;
       };
       given = omega (arith, w.given, count);
     }
@@ -250,8 +269,10 @@ walk_ends p levels left s t u k front back old g h w x moved takes ends =
 here_is : (p : Parts) (l : Listed) (s : Spot) → l.source ≡ p → spot_cursor s l.shown.levels ≡ l.shown → at_spot p s l.shown.levels ≡ l
 here_is p l s source shown = ap₂ (λ (q : Parts) (c : CursorParts). record { source = q; shown = c }) (sym source) shown
 
-pub stands_here : (p : Parts) (l : Listed) (s : Spot) (g : LineGather) → StandsAt p l g → spot_cursor s l.shown.levels ≡ l.shown → StandsAt p (at_spot p s l.shown.levels) g
+pub stands_here : (p : Parts) (l : Listed) (s : Spot) (g : LineGather) → StandsAt p l g → spot_cursor s l.shown.levels ≡ l.shown
+    → StandsAt p (at_spot p s l.shown.levels) g
 stands_here p l s g at shown = subst (λ (x : Listed). StandsAt p x g) (sym (here_is p l s at.source shown)) at
 
-pub leads_there : (p : Parts) (l : Listed) (t : Spot) (g : LineGather) → l.source ≡ p → StandsAt p (at_spot p t l.shown.levels) g → LeadsInto (spot_cursor t l.shown.levels) l.source
+pub leads_there : (p : Parts) (l : Listed) (t : Spot) (g : LineGather) → l.source ≡ p → StandsAt p (at_spot p t l.shown.levels) g
+    → LeadsInto (spot_cursor t l.shown.levels) l.source
 leads_there p l t g source at = subst (LeadsInto (spot_cursor t l.shown.levels)) (sym source) (spot_leads p t l.shown.levels at.stands)

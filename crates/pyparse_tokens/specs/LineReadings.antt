@@ -15,8 +15,10 @@ use Rattle.pyparse_tokens.specs.declared.faults.ParseFault.{ParseFault}
 abbrev pub lines_within : Source → ℕ → List Line
 lines_within s n = lines_from [] [] (tokens_from s.text [] (take n (entries_of (listing s))))
 
--- A source in hand, and the extent of the language in which it is read; how many of its lines were given, which behind a fault says nothing; of
--- the line that is held its level, its start, its terminals and whether it looks like a `match` statement; where ENDMARKER starts, behind the
+-- A source in hand, and the extent of the language in which it is read; how many of its lines were given, which behind a fault says
+-- nothing; of
+-- the line that is held its level, its start, its terminals and whether it looks like a `match` statement; where ENDMARKER starts, behind
+-- the
 -- last line; and what each later call answers, once that is known.
 pub record LineReading : Type 0 where
   pub source : Parts

@@ -18,7 +18,8 @@ second_of_three true false z h g = refl
 second_of_three true true z h g = absurd (cc)
 second_of_three false y z h g = absurd (cc)
 
-pub last_of_three : {E : Type 0} (r : Result Bool E) (x y z : Bool) → true ≡ x → true ≡ y → IfOk r (λ told. told ≡ z) → IfOk r (λ told. told ≡ (x && y && z))
+pub last_of_three : {E : Type 0} (r : Result Bool E) (x y z : Bool) → true ≡ x → true ≡ y → IfOk r (λ told. told ≡ z)
+    → IfOk r (λ told. told ≡ (x && y && z))
 last_of_three r true true z h g f = f
 last_of_three r true false z h g f = absurd (cc)
 last_of_three r false y z h g f = absurd (cc)
@@ -36,7 +37,8 @@ third_of_four true true z w h g f = first z w f
 third_of_four true false z w h g f = absurd (cc)
 third_of_four false y z w h g f = absurd (cc)
 
-pub last_of_four : {E : Type 0} (r : Result Bool E) (x y z w : Bool) → true ≡ x → true ≡ y → true ≡ z → IfOk r (λ told. told ≡ w) → IfOk r (λ told. told ≡ (x && y && z && w))
+pub last_of_four : {E : Type 0} (r : Result Bool E) (x y z w : Bool) → true ≡ x → true ≡ y → true ≡ z → IfOk r (λ told. told ≡ w)
+    → IfOk r (λ told. told ≡ (x && y && z && w))
 last_of_four r true true true w h g f e = e
 last_of_four r true true false w h g f e = absurd (cc)
 last_of_four r true false z w h g f e = absurd (cc)
@@ -47,8 +49,10 @@ second_fails true y h = h
 second_fails false y h = refl
 
 -- the patterns of a mapping
-pub mapping_fails : (n : Tests) (l : PatternLevel) (keys : List Expr) (ps : Patterns) (o : Option Identifier) → false ≡ each_pattern_fits n AsPattern ps → false ≡ pattern_fits_at n l (MatchMapping keys ps o)
-mapping_fails n l keys ps None h = second_fails (eqb (length keys) (count_patterns ps) && list_all (key_fits n) keys) (each_pattern_fits n AsPattern ps) h
+pub mapping_fails : (n : Tests) (l : PatternLevel) (keys : List Expr) (ps : Patterns) (o : Option Identifier)
+    → false ≡ each_pattern_fits n AsPattern ps → false ≡ pattern_fits_at n l (MatchMapping keys ps o)
+mapping_fails n l keys ps None h = second_fails (eqb (length keys) (count_patterns ps) && list_all (key_fits n) keys)
+    (each_pattern_fits n AsPattern ps) h
 mapping_fails n l keys ps (Some x) h =
     first_fails (eqb (length keys) (count_patterns ps) && list_all (key_fits n) keys && each_pattern_fits n AsPattern ps) (target_fits n x)
     (second_fails (eqb (length keys) (count_patterns ps) && list_all (key_fits n) keys) (each_pattern_fits n AsPattern ps) h)

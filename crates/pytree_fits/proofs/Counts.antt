@@ -1,9 +1,11 @@
 -- Carries: the tests of lengths. On: the nodes of a list are as many as the list has.
-use Rattle.std.proofs.Common.{◌≡◌, refl, sym, ap, ◌∙◌, inl, inr, ℕ, suc, ◌+◌, ◌-◌, ◌≤◌, ◌<◌, arith, List, [], ◌∷◌, length, map, Option, Bool, true, false}
+use Rattle.std.proofs.Common.{◌≡◌, refl, sym, ap, ◌∙◌, inl, inr, ℕ, suc, ◌+◌, ◌-◌, ◌≤◌, ◌<◌, arith, List, [], ◌∷◌, length, map, Option}
+use Rattle.std.proofs.Common.{Bool, true, false}
 use Rattle.std.specs.Prelude.{leb, not, ◌&&◌, ◌==◌}
 use Rattle.std.proofs.lemmas.Bool.{both_ways, ne_eqb, le-leb, lt-leb, leb-true, leb-false, cases_Bool}
 use Rattle.std.proofs.lemmas.List.{length-map}
-use Rattle.pytree_node.specs.Trees.{Expr, Arg, Comprehension, Pattern, Stmt, Stmts, Case, Handler, exprs, optionals, args, comprehensions, patterns, stmts, cases, handlers}
+use Rattle.pytree_node.specs.Trees.{Expr, Arg, Comprehension, Pattern, Stmt, Stmts, Case, Handler, exprs, optionals, args, comprehensions}
+use Rattle.pytree_node.specs.Trees.{patterns, stmts, cases, handlers}
 use Rattle.pytree_fits.specs.Statements.{has_stmt, has_case, clauses_fit}
 use Rattle.pytree_fits.specs.PatternSlots.{count_patterns}
 use Rattle.pytree_fits.specs.Slots.{count, count_optional, count_args, has_some}
@@ -68,7 +70,8 @@ module _ {A : Type 0} (star : Bool) (f : A → Handler) where
   with_handler (x ∷ xs) o e h = refl
 
   module _ {B : Type 0} (g : B → Stmt) where
-    pub with_orelse : (xs : List A) (os : List B) (e : Stmts) → true ≡ (length xs == 0) → false ≡ (length os == 0) → false ≡ clauses_fit star (handlers (map f xs)) (stmts (map g os)) e
+    pub with_orelse : (xs : List A) (os : List B) (e : Stmts) → true ≡ (length xs == 0) → false ≡ (length os == 0)
+        → false ≡ clauses_fit star (handlers (map f xs)) (stmts (map g os)) e
     with_orelse [] [] e h q = absurd (cc)
     with_orelse [] (o ∷ os) e h q = by star
       where
@@ -77,7 +80,8 @@ module _ {A : Type 0} (star : Bool) (f : A → Handler) where
         by false = refl
     with_orelse (x ∷ xs) os e h q = absurd (some_length x xs h)
 
-    pub with_neither : (xs : List A) (os es : List B) → star ≡ false → true ≡ (length xs == 0) → true ≡ (length os == 0) → not (length es == 0) ≡ clauses_fit star (handlers (map f xs)) (stmts (map g os)) (stmts (map g es))
+    pub with_neither : (xs : List A) (os es : List B) → star ≡ false → true ≡ (length xs == 0) → true ≡ (length os == 0)
+        → not (length es == 0) ≡ clauses_fit star (handlers (map f xs)) (stmts (map g os)) (stmts (map g es))
     with_neither [] [] es s h q = final es ∙ sym (ap (λ b. not b && true && has_stmt (stmts (map g es))) s)
       where
         final : (es : List B) → not (length es == 0) ≡ has_stmt (stmts (map g es))

@@ -1,12 +1,14 @@
 -- Carries: dotted_fits, is_star. On: the characters of a text around its first dot.
-use Rattle.std.proofs.Common.{◌≡◌, refl, sym, ap, subst, ◌∙◌, ℕ, ◌+◌, ◌<◌, arith, List, [], ◌∷◌, ◌++◌, length, get_or, drop, append_assoc, length-append, Option, Some, None, Bool, true, false}
+use Rattle.std.proofs.Common.{◌≡◌, refl, sym, ap, subst, ◌∙◌, ℕ, ◌+◌, ◌<◌, arith, List, [], ◌∷◌, ◌++◌, length, get_or, drop, append_assoc}
+use Rattle.std.proofs.Common.{length-append, Option, Some, None, Bool, true, false}
 use Rattle.std.specs.Prelude.{◌&&◌, ◌==◌, not, MatchOption}
 use Rattle.std.specs.Bool.{Decides}
 use Rattle.std.specs.List.{list_all}
 use Rattle.std.specs.Str.{chars, IsUtf8, NoCharPasses, NonePass, encode_utf8_all}
 use Rattle.std.proofs.lemmas.Bool.{and_from, eqb-true}
 use Rattle.std.proofs.lemmas.List.{take_at, drop_at, get_or_at}
-use Rattle.std.proofs.lemmas.Str.{chars-append, chars_from_encodes, IsUtf8-take, IsUtf8-drop, IsCharBoundary-before_ascii, IsCharBoundary-after_ascii}
+use Rattle.std.proofs.lemmas.Str.{chars-append, chars_from_encodes, IsUtf8-take, IsUtf8-drop, IsCharBoundary-before_ascii}
+use Rattle.std.proofs.lemmas.Str.{IsCharBoundary-after_ascii}
 use Rattle.std.proofs.lemmas.Str.Pattern.{IsSplitOnceResult, split_parts}
 use denote.Ref.{Bor}
 use Rattle.pytree_fits.specs.Names.{is_name}
@@ -46,10 +48,12 @@ sides part behind u =
       subst IsUtf8 (ap (drop (length part + 1)) (sym same) ∙ drop_at (part ++ (46 ∷ [])) behind (length part + 1) long) back,
     )
 
-around_dot : (text part behind : List ℕ) → IsUtf8 text → text ≡ part ++ (46 ∷ behind) → IsDotless part → dotted is_name (chars text) ≡ (is_name (chars part) && dotted is_name (chars behind))
+around_dot : (text part behind : List ℕ) → IsUtf8 text → text ≡ part ++ (46 ∷ behind) → IsDotless part
+    → dotted is_name (chars text) ≡ (is_name (chars part) && dotted is_name (chars behind))
 around_dot text part behind u e h =
     let v = (sides part behind (subst IsUtf8 e u)).0 in
-    ap (λ z. dotted is_name (chars z)) e ∙ ap (dotted is_name) (chars_around part behind v) ∙ ap (list_all is_name) (part_before_dot (chars part) (chars behind) (dotless_chars part v h))
+    ap (λ z. dotted is_name (chars z)) e ∙ ap (dotted is_name) (chars_around part behind v)
+        ∙ ap (list_all is_name) (part_before_dot (chars part) (chars behind) (dotless_chars part v h))
 
 without_dot : (text : List ℕ) → IsUtf8 text → IsDotless text → dotted is_name (chars text) ≡ is_name (chars text)
 without_dot text u h = ap (list_all is_name) (one_part (chars text) (dotless_chars text u h)) ∙ and_true (is_name (chars text))
@@ -60,7 +64,8 @@ without_dot text u h = ap (list_all is_name) (one_part (chars text) (dotless_cha
 
 -- a text that is split at its first dot, or has none
 pub at_dot : (text : List ℕ) (r : Option (Bor (List ℕ) × Bor (List ℕ))) → IsUtf8 text → IsSplitOnceResult 46 text r →
-    MatchOption r (dotted is_name (chars text) ≡ is_name (chars text)) (λ x. IsUtf8 x.1.now × (dotted is_name (chars text) ≡ (is_name (chars x.0.now) && dotted is_name (chars x.1.now))))
+    MatchOption r (dotted is_name (chars text) ≡ is_name (chars text))
+        (λ x. IsUtf8 x.1.now × (dotted is_name (chars text) ≡ (is_name (chars x.0.now) && dotted is_name (chars x.1.now))))
 at_dot text None u h = without_dot text u h
 at_dot text (Some x) u h =
     let is = (split_parts 46 text (Some x) h (omega arith)).0 in
@@ -88,7 +93,8 @@ star_is [] h = absurd (cc)
 star_is (c ∷ []) h = ap (λ z. z ∷ []) (eqb-true c 42 h)
 star_is (c ∷ (d ∷ cs)) h = absurd (cc)
 
-pub star_told : (text x : List ℕ) (told : Bool) → chars text ≡ x → text ≡ encode_utf8_all x → Decides told (text ≡ 42 ∷ []) → told ≡ is_star x
+pub star_told : (text x : List ℕ) (told : Bool) → chars text ≡ x → text ≡ encode_utf8_all x
+    → Decides told (text ≡ 42 ∷ []) → told ≡ is_star x
 star_told text x told characters bytes decides =
     same_answer told (is_star x) (λ t. ap is_star (sym characters ∙ ap chars (decides.0 t) ∙ star_chars))
     (λ s. decides.1 (bytes ∙ ap encode_utf8_all (star_is x s) ∙ star_bytes))

@@ -9,11 +9,13 @@ use Rattle.pytoken.specs.Laws.{is_byte, is_point}
 
 pub all_points : (ps : List ℕ) → All IsPoint ps → list_all is_point ps ≡ true
 all_points [] h = refl
-all_points (p ∷ ps) h = and_from (is_point p) (list_all is_point ps) (le-leb p 0x10_FFFF (All-head IsPoint p ps h)) (all_points ps (All-tail IsPoint p ps h))
+all_points (p ∷ ps) h = and_from (is_point p) (list_all is_point ps) (le-leb p 0x10_FFFF (All-head IsPoint p ps h))
+    (all_points ps (All-tail IsPoint p ps h))
 
 small : (bs : List ℕ) → All (λ b. b < 0x100) bs → list_all is_byte bs ≡ true
 small [] h = refl
-small (b ∷ bs) h = and_from (is_byte b) (list_all is_byte bs) (lt-ltb b 0x100 (All-head (λ b. b < 0x100) b bs h)) (small bs (All-tail (λ b. b < 0x100) b bs h))
+small (b ∷ bs) h = and_from (is_byte b) (list_all is_byte bs) (lt-ltb b 0x100 (All-head (λ b. b < 0x100) b bs h))
+    (small bs (All-tail (λ b. b < 0x100) b bs h))
 
 pub all_bytes : (bs : List ℕ) → ((i : ℕ) → Fits w8 (get_or bs i 0)) → list_all is_byte bs ≡ true
 all_bytes bs h = small bs (All-from_get_or (λ b. b < 0x100) bs 0 (λ i lt. omega (arith, h i)))

@@ -24,7 +24,8 @@ same_answer false true to from = from refl
 same_answer false false to from = refl
 
 -- an identifier that is no keyword is a name where its form passes the test
-pub told : {E : Type 0} (r : Result Bool E) (cs : List ℕ) → is_identifier cs ≡ true → is_keyword cs ≡ false → IfOk r (λ b. IsTrue b ↔ IsInForm Nfkc cs) → IfOk r (λ b. b ≡ is_name cs)
+pub told : {E : Type 0} (r : Result Bool E) (cs : List ℕ) → is_identifier cs ≡ true → is_keyword cs ≡ false
+    → IfOk r (λ b. IsTrue b ↔ IsInForm Nfkc cs) → IfOk r (λ b. b ≡ is_name cs)
 told (Ok b) cs identifier other by =
     let decides = bytes_eq-Decides (nfkc cs) cs in
     same_answer b (is_in_form Nfkc cs) (λ t. decides.1 (by.0 t)) (λ t. by.1 (decides.0 t)) ∙ by_form cs identifier other

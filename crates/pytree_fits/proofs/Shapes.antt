@@ -19,7 +19,8 @@ use Rattle.pytree_node.specs.declared.expressions.Comprehension.{Comprehension}
 use Rattle.pytree_node.specs.declared.expressions.Keyword.{Keyword}
 use Rattle.pytree_node.specs.Trees as plain
 use Rattle.pytree_node.specs.Trees.{Identifier}
-use Rattle.pytree_node.specs.TreeOf.{tree_of, arg_of, arguments_of, comprehension_of, keyword_of, expr_step, arg_step, arguments_step, comprehension_step, keyword_step}
+use Rattle.pytree_node.specs.TreeOf.{tree_of, arg_of, arguments_of, comprehension_of, keyword_of, expr_step, arg_step, arguments_step}
+use Rattle.pytree_node.specs.TreeOf.{comprehension_step, keyword_step}
 
 -- one node, whose children are nodes of the program
 abbrev Layer : Type 0
@@ -37,16 +38,20 @@ opened = given.fold_out-Expr plain.Expr plain.Arg plain.Arguments plain.Comprehe
 
 -- it has the shape of this target, of this value of a pattern, or of this part of an f-string
 abbrev pub HasShape : plain.Expr → Expr → Type 0
-HasShape (plain.Attribute _ _ _) given = (value : Box Expr Global) × (attr : Identifier) × (ctx : Context) × (given ≡ variant.Attribute value attr ctx)
-HasShape (plain.Subscript _ _ _) given = (value : Box Expr Global) × (slice : Box Expr Global) × (ctx : Context) × (given ≡ variant.Subscript value slice ctx)
+HasShape (plain.Attribute _ _ _) given = (value : Box Expr Global) × (attr : Identifier) × (ctx : Context) ×
+    (given ≡ variant.Attribute value attr ctx)
+HasShape (plain.Subscript _ _ _) given = (value : Box Expr Global) × (slice : Box Expr Global) × (ctx : Context) ×
+    (given ≡ variant.Subscript value slice ctx)
 HasShape (plain.Starred _ _) given = (value : Box Expr Global) × (ctx : Context) × (given ≡ variant.Starred value ctx)
 HasShape (plain.Name _ _) given = (id : Identifier) × (ctx : Context) × (given ≡ variant.Name id ctx)
 HasShape (plain.ListOf _ _) given = (elts : Vec Expr Global) × (ctx : Context) × (given ≡ variant.List elts ctx)
 HasShape (plain.Tuple _ _) given = (elts : Vec Expr Global) × (ctx : Context) × (given ≡ variant.Tuple elts ctx)
 HasShape (plain.Constant _) given = (value : Constant) × (given ≡ variant.Constant value)
 HasShape (plain.UnaryOp _ _) given = (op : UnaryOperator) × (operand : Box Expr Global) × (given ≡ variant.UnaryOp op operand)
-HasShape (plain.BinOp _ _ _) given = (left : Box Expr Global) × (op : Operator) × (right : Box Expr Global) × (given ≡ variant.BinOp left op right)
-HasShape (plain.FormattedValue _ _ _) given = (value : Box Expr Global) × (conversion : Conversion) × (spec : Option (Box Expr Global)) × (given ≡ variant.FormattedValue value conversion spec)
+HasShape (plain.BinOp _ _ _) given = (left : Box Expr Global) × (op : Operator) × (right : Box Expr Global) ×
+    (given ≡ variant.BinOp left op right)
+HasShape (plain.FormattedValue _ _ _) given = (value : Box Expr Global) × (conversion : Conversion) × (spec : Option (Box Expr Global)) ×
+    (given ≡ variant.FormattedValue value conversion spec)
 HasShape (plain.JoinedStr _) given = (values : Vec Expr Global) × (given ≡ variant.JoinedStr values)
 HasShape _ given = Unit {0}
 

@@ -14,13 +14,17 @@ one_more : (n : ℕ) → n + 1 ≡ suc n
 one_more n = omega arith
 
 module _ (x : Extent) (f d : ℕ) where
-  pub value_told : {y : Extent} {g : ℕ} {a b : Expr} {told value : Bool} → d ≤ 1 → value ≡ told → told ≡ fits_at (tests_at y g) Expression (tree_of a) → y ≡ x → g ≡ f + 1 → a ≡ b →
+  pub value_told : {y : Extent} {g : ℕ} {a b : Expr} {told value : Bool} → d ≤ 1 → value ≡ told
+      → told ≡ fits_at (tests_at y g) Expression (tree_of a) → y ≡ x → g ≡ f + 1 → a ≡ b →
       value ≡ (leb d 1 && fits_at (in_field (tests_at x f)) Expression (tree_of b))
   value_told {b = b} low is h e q r =
-      is ∙ h ∙ (λ i. fits_at (tests_at (e i) ((q ∙ one_more f) i)) Expression (tree_of (r i))) ∙ sym (ap (λ z. z && fits_at (in_field (tests_at x f)) Expression (tree_of b)) (le-leb d 1 low))
+      is ∙ h ∙ (λ i. fits_at (tests_at (e i) ((q ∙ one_more f) i)) Expression (tree_of (r i)))
+          ∙ sym (ap (λ z. z && fits_at (in_field (tests_at x f)) Expression (tree_of b)) (le-leb d 1 low))
 
-  pub too_deep : (b : Expr) {value : Bool} → 1 < d → value ≡ leb d 1 → value ≡ (leb d 1 && fits_at (in_field (tests_at x f)) Expression (tree_of b))
-  too_deep b deep is = is ∙ lt-leb d 1 deep ∙ sym (ap (λ z. z && fits_at (in_field (tests_at x f)) Expression (tree_of b)) (lt-leb d 1 deep))
+  pub too_deep : (b : Expr) {value : Bool} → 1 < d → value ≡ leb d 1
+      → value ≡ (leb d 1 && fits_at (in_field (tests_at x f)) Expression (tree_of b))
+  too_deep b deep is = is ∙ lt-leb d 1 deep
+      ∙ sym (ap (λ z. z && fits_at (in_field (tests_at x f)) Expression (tree_of b)) (lt-leb d 1 deep))
 
   pub spec_told : (s : OptionalExpr) {told : Bool} → told ≡ spec_fits (tests_at x f) (d + 1) s → told ≡ spec_fits (tests_at x f) (suc d) s
   spec_told s h = h ∙ ap (λ k. spec_fits (tests_at x f) k s) (one_more d)

@@ -25,7 +25,8 @@ module _ (e : Expr) (no_constant : (value : Constant) → e ≡ variant.Constant
   pub not_text : is_text (tree_of e) ≡ false
   not_text = no_text_is (tree_of e) (has_shape e)
 
-  module _ (no_field : (value : Box Expr Global) (conversion : Conversion) (spec : Option (Box Expr Global)) → e ≡ variant.FormattedValue value conversion spec → ⊥) where
+  module _ (no_field : (value : Box Expr Global) (conversion : Conversion) (spec : Option (Box Expr Global))
+      → e ≡ variant.FormattedValue value conversion spec → ⊥) where
     no_value_is : (n : Tests) (d : ℕ) (t : plain.Expr) → HasShape t e → value_fits n d t ≡ false
     no_value_is n d (plain.Constant _) h = absurd (no_constant h.0 h.1)
     no_value_is n d (plain.FormattedValue _ _ _) h = absurd (no_field h.0 h.1 h.2 h.3)
@@ -65,5 +66,7 @@ module _ (e : Expr) (values : Vec Expr Global) (is : e ≡ variant.JoinedStr val
   pub joined_kind : (u : Bool) → have_kind u true (exprs (map tree_of values.items)) ≡ spec_has_kind u (present (tree_of e))
   joined_kind u = ap (λ t. spec_has_kind u (present t)) (sym joined_tree)
 
-  pub joined_spec : (n : Tests) (d : ℕ) → (are_apart false (exprs (map tree_of values.items)) && each_value_fits n d (exprs (map tree_of values.items))) ≡ spec_fits n d (present (tree_of e))
+  pub joined_spec : (n : Tests) (d : ℕ)
+      → (are_apart false (exprs (map tree_of values.items)) && each_value_fits n d (exprs (map tree_of values.items))) ≡ spec_fits
+      n d (present (tree_of e))
   joined_spec n d = ap (λ t. spec_fits n d (present t)) (sym joined_tree)

@@ -23,7 +23,8 @@ module _ (e : Expr) where
   pub not_a_name : ((id : Identifier) (ctx : Context) → e ≡ variant.Name id ctx → ⊥) → is_a_name (tree_of e) ≡ false
   not_a_name s = no_name_is (tree_of e) (has_shape e) s
 
-  no_star_is : (t : plain.Expr) → HasShape t e → ((value : Box Expr Global) (ctx : Context) → e ≡ variant.Starred value ctx → ⊥) → is_starred t ≡ false
+  no_star_is : (t : plain.Expr) → HasShape t e → ((value : Box Expr Global) (ctx : Context) → e ≡ variant.Starred value ctx
+      → ⊥) → is_starred t ≡ false
   no_star_is (plain.Starred _ _) h s = absurd (s h.0 h.1 h.2)
   no_star_is _ h s = refl
 

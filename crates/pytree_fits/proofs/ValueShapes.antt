@@ -15,7 +15,8 @@ use Rattle.pytree_node.specs.Trees as plain
 use Rattle.pytree_node.specs.Trees.{Identifier}
 use Rattle.pytree_node.specs.TreeOf.{tree_of}
 use Rattle.pytree_fits.specs.Tests.{Tests}
-use Rattle.pytree_fits.specs.PatternSlots.{number_fits, imaginary_fits, real_fits, literal_fits, dotted_fits, is_attribute, starts_wild, singleton_fits}
+use Rattle.pytree_fits.specs.PatternSlots.{number_fits, imaginary_fits, real_fits, literal_fits, dotted_fits, is_attribute, starts_wild}
+use Rattle.pytree_fits.specs.PatternSlots.{singleton_fits}
 use Rattle.pytree_fits.proofs.Shapes.{HasShape, has_shape}
 
 module _ (e : Expr) where

@@ -15,7 +15,8 @@ wildcard_bytes : encode_utf8_all wildcard ≡ wildcard
 unfolding lib.Utf8.encode
 wildcard_bytes = refl
 
-pub wildcard_told : (text x : List ℕ) (told : Bool) → chars text ≡ x → text ≡ encode_utf8_all x → Decides told (text ≡ wildcard) → told ≡ is_wildcard x
+pub wildcard_told : (text x : List ℕ) (told : Bool) → chars text ≡ x → text ≡ encode_utf8_all x
+    → Decides told (text ≡ wildcard) → told ≡ is_wildcard x
 wildcard_told text x told characters bytes decides =
     same_answer told (is_wildcard x) (λ t. ap is_wildcard (sym characters ∙ ap chars (decides.0 t) ∙ wildcard_chars))
     (λ s. decides.1 (bytes ∙ ap encode_utf8_all (wildcard_is x s) ∙ wildcard_bytes))

@@ -5,7 +5,8 @@ use Rattle.pytree_node.specs.declared.profiles.Extent.{Extent}
 use Rattle.pytree_node.specs.declared.profiles.Profile.{Profile}
 use Rattle.pytree_node.specs.Trees.{Expr, Pattern, Module}
 use Rattle.pytree_node.specs.Values.{Value, Int, Float, Imaginary, Str, Bytes}
-use Rattle.pytoken.specs.Terminals.{Terminal, Ident, Number, Literal, FormattedBegin, FormattedEnd, FormattedText, FieldBegin, SpecBegin, FieldEnd, terminals_of, fault_of}
+use Rattle.pytoken.specs.Terminals.{Terminal, Ident, Number, Literal, FormattedBegin, FormattedEnd, FormattedText, FieldBegin, SpecBegin}
+use Rattle.pytoken.specs.Terminals.{FieldEnd, terminals_of, fault_of}
 use Rattle.pytoken.specs.Tokens.{Token}
 use Rattle.pytoken.specs.Tokens as Tokens
 use Rattle.pytoken.specs.SourceTokens.{IsOfSource}
@@ -36,7 +37,8 @@ is_literal (Str points unicode) = true
 is_literal (Bytes bytes) = true
 is_literal _ = false
 
--- A terminal that may stand where these f-strings are open, each with so many fields: a name passes the test; f-strings stand two deep at most, and so
+-- A terminal that may stand where these f-strings are open, each with so many fields: a name passes the test; f-strings stand two deep at
+-- most, and so
 -- do the fields of one f-string, one in the format spec of the other. Parts of f-strings stand in one.
 abbrev pub passes : Tests → Open → Terminal → Bool
 passes n o (Ident x) = n.name x.form
@@ -65,7 +67,8 @@ Given n r a = (ts : List Terminal) × (all_pass n [] ts ≡ true) × r ts a
 pub data AreGiven (profile : Profile) (n : Tests) : List Line → List Line → Type 0 where
   no_line : {earlier : List Line} → AreGiven profile n earlier []
   a_line : {earlier : List Line} {x : Line} {xs : List Line} →
-      Given n (FormAt profile (stands_in_match x.level earlier)) x.form → AreGiven profile n (x ∷ earlier) xs → AreGiven profile n earlier (x ∷ xs)
+      Given n (FormAt profile (stands_in_match x.level earlier)) x.form → AreGiven profile n (x ∷ earlier) xs
+          → AreGiven profile n earlier (x ∷ xs)
 
 -- a module's statements are those of such lines
 abbrev pub GivenModule : Profile → Tests → Module → Type 0
@@ -94,7 +97,8 @@ pub record Patterned (extent : Extent) (l : PatternLevel) (p : Pattern) : Type 0
 pub data HaveForms (profile : Profile) : List Line → List Tokens.Line → List Line → Type 0 where
   no_form : {earlier : List Line} → HaveForms profile earlier [] []
   a_form : {earlier : List Line} {x : Tokens.Line} {xs : List Tokens.Line} {f : Form} {ys : List Line} →
-      AreSound profile.extent x.tokens → FormAt profile (stands_in_match x.level earlier) (terminals x) f → HaveForms profile (line x.level f ∷ earlier) xs ys →
+      AreSound profile.extent x.tokens → FormAt profile (stands_in_match x.level earlier) (terminals x) f
+          → HaveForms profile (line x.level f ∷ earlier) xs ys →
       HaveForms profile earlier (x ∷ xs) (line x.level f ∷ ys)
 
 -- in a version and an extent of Python the grammar gives this module to some lines of such tokens

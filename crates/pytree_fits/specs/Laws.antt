@@ -1,4 +1,5 @@
--- What holds of the trees that fit: they are those that the grammar gives, to terminals and, unless they are too high for an f-string, to tokens.
+-- What holds of the trees that fit: they are those that the grammar gives, to terminals and, unless they are too high for an f-string, to
+-- tokens.
 use Rattle.std.specs.Prelude.{◌≡◌, ◌↔◌, Bool, true, ◌&&◌}
 use Rattle.pytree_node.specs.declared.operators.Context.TheVariants.{Store, Del}
 use Rattle.pytree_node.specs.declared.profiles.Extent.{Extent}
@@ -50,17 +51,20 @@ ArgumentsFitExactly = (n : Tests) (zs : Exprs) (ks : Keywords) →
 abbrev pub PatternsFitExactly : Type 0
 PatternsFitExactly = (n : Tests) (l : PatternLevel) (p : Pattern) → Given n (DerivesPattern l) p ↔ (pattern_fits_at n l p ≡ true)
 
--- ---- By tokens. A tree that some tokens are fits. One that fits is some tokens, unless it has an f-string and is higher than 500: such a one may be
+-- ---- By tokens. A tree that some tokens are fits. One that fits is some tokens, unless it has an f-string and is higher than 500: such a
+-- one may be
 -- well formed by its parts, and have no tokens, since a field of an f-string opens 599 brackets at most.
 
--- an expression that the grammar gives at a level to some tokens without a fault in an extent fits there; and a low one that fits is so given
+-- an expression that the grammar gives at a level to some tokens without a fault in an extent fits there; and a low one that fits is so
+-- given
 abbrev pub ExpressionsFitExactly : Type 0
 ExpressionsFitExactly = (extent : Extent) (l : Level) (e : Expr) → (Expressed extent l e → fits_at (tests_in extent) l e ≡ true)
     × (IsLow l e → fits_at (tests_in extent) l e ≡ true → Expressed extent l e)
 
 -- so with patterns
 abbrev pub PatternsFitExactlyInTokens : Type 0
-PatternsFitExactlyInTokens = (extent : Extent) (l : PatternLevel) (p : Pattern) → (Patterned extent l p → pattern_fits_at (tests_in extent) l p ≡ true)
+PatternsFitExactlyInTokens = (extent : Extent) (l : PatternLevel) (p : Pattern)
+    → (Patterned extent l p → pattern_fits_at (tests_in extent) l p ≡ true)
     × (IsLowPattern l p → pattern_fits_at (tests_in extent) l p ≡ true → Patterned extent l p)
 
 -- so with modules, in a version of Python and its extent, and some lines of such tokens
@@ -76,7 +80,8 @@ ExpressionsStay = (extent : Extent) (l : Level) (e : Expr) → fits_at (tests_in
 
 -- a module that fits in a version of Python, in its extent, fits in Python 3.12, whole
 abbrev pub ModulesStay : Type 0
-ModulesStay = (profile : Profile) (m : Module) → module_fits profile (tests_in profile.extent) m ≡ true → module_fits (python Py312 Whole) (tests_in Whole) m ≡ true
+ModulesStay = (profile : Profile) (m : Module) → module_fits profile (tests_in profile.extent) m ≡ true
+    → module_fits (python Py312 Whole) (tests_in Whole) m ≡ true
 
 -- the laws of the slots
 pub record SlotsAreLawful : Type 0 where

@@ -8,7 +8,8 @@ use Rattle.pytree_node.specs.Values as values
 use Rattle.pytree_node.specs.Values.{Value}
 use Rattle.pytree_node.specs.declared.profiles.Extent.{Extent}
 use Rattle.pytree_node.specs.declared.profiles.Extent.TheVariants.{Plain, Whole}
-use Rattle.pylex_lexeme.specs.Characters.{line_feed, carriage_return, backslash, single_quote, double_quote, left_curly_bracket, right_curly_bracket}
+use Rattle.pylex_lexeme.specs.Characters.{line_feed, carriage_return, backslash, single_quote, double_quote, left_curly_bracket}
+use Rattle.pylex_lexeme.specs.Characters.{right_curly_bracket}
 use Rattle.pytoken.specs.Laws.{is_point, is_byte}
 use Rattle.pytree_fits.specs.Tests.{Tests}
 
@@ -22,7 +23,8 @@ abbrev pub has_float : Extent → Float → Bool
 has_float Plain x = false
 has_float Whole x = fits binary64 x && is_unsigned x
 
--- A character that stands for itself between quotes of either kind: none of NUL, the line ends, the backslash and the quotes, and no surrogate.
+-- A character that stands for itself between quotes of either kind: none of NUL, the line ends, the backslash and the quotes, and no
+-- surrogate.
 abbrev pub is_bare : ℕ → Bool
 is_bare c =
     is_point c && not (nat_le 0xD800 c && nat_le c 0xDFFF)
@@ -34,7 +36,8 @@ is_bare_byte b = nat_lt b 0x80 && is_bare b
 abbrev pub is_no_brace : ℕ → Bool
 is_no_brace c = not (c == left_curly_bracket || c == right_curly_bracket)
 
--- a text of code points, and bytes, by the number of fields that they stand in: in a field of an f-string each character is bare, and an f-string there
+-- a text of code points, and bytes, by the number of fields that they stand in: in a field of an f-string each character is bare, and an
+-- f-string there
 -- has no literal in its own fields
 abbrev pub has_text : ℕ → List ℕ → Bool
 has_text zero points = list_all is_point points

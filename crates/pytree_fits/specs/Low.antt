@@ -1,4 +1,5 @@
--- Which trees are low enough that an f-string in them has tokens. A field of an f-string opens 599 brackets at most, so a tree that fits and is
+-- Which trees are low enough that an f-string in them has tokens. A field of an f-string opens 599 brackets at most, so a tree that fits
+-- and is
 -- much higher may have none.
 use Rattle.std.specs.Prelude.{◌≡◌, ◌≤◌, true}
 use Rattle.std.specs.List.{list_any}

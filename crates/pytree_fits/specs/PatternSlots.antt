@@ -1,4 +1,5 @@
--- Which patterns the grammar gives at a level to some list of terminals, with no regard to heights (reference 8.6.4). Brackets lead from every
+-- Which patterns the grammar gives at a level to some list of terminals, with no regard to heights (reference 8.6.4). Brackets lead from
+-- every
 -- level to ClosedPattern, so a level asks only whether a MatchStar may stand there. Each function takes the tests.
 use Rattle.std.specs.Prelude.{ℕ, ◌+◌, eqb, leb, Bool, true, false, ◌&&◌, ◌||◌, not, List, [], ◌∷◌, length, Option, Some, None}
 use Rattle.std.specs.List.{list_all}
@@ -121,7 +122,8 @@ abbrev mutual
   pattern_fits_at n l (Trees.MatchValue value) = value_fits n value
   pattern_fits_at n l (Trees.MatchSingleton value) = is_singleton value
   pattern_fits_at n l (Trees.MatchSequence inner) = each_pattern_fits n StarPattern inner
-  pattern_fits_at n l (Trees.MatchMapping keys inner None) = eqb (length keys) (count_patterns inner) && list_all (key_fits n) keys && each_pattern_fits n AsPattern inner
+  pattern_fits_at n l (Trees.MatchMapping keys inner None) = eqb (length keys) (count_patterns inner) && list_all (key_fits n) keys &&
+      each_pattern_fits n AsPattern inner
   pattern_fits_at n l (Trees.MatchMapping keys inner (Some rest)) =
       eqb (length keys) (count_patterns inner) && list_all (key_fits n) keys && each_pattern_fits n AsPattern inner && target_fits n rest
   pattern_fits_at n l (Trees.MatchClass cls inner names named) =

@@ -5,7 +5,9 @@ use Rattle.std.specs.Prelude.{ℕ, suc, ◌+◌, eqb, leb, Bool, true, false, �
 use Rattle.pytree_node.specs.declared.operators.Context.{Context}
 use Rattle.pytree_node.specs.declared.operators.Context.TheVariants.{Load, Store, Del}
 use Rattle.pytree_node.specs.Trees
-use Rattle.pytree_node.specs.Trees.{Identifier, Expr, Exprs, no_exprs, an_expr, OptionalExpr, absent, present, OptionalExprs, no_optional, an_optional, Comprehensions, no_comprehension, a_comprehension, Keywords, no_keyword, a_keyword, Arg, arg, Args, no_arg, an_arg, OptionalArg, absent_arg, present_arg, Arguments, arguments}
+use Rattle.pytree_node.specs.Trees.{Identifier, Expr, Exprs, no_exprs, an_expr, OptionalExpr, absent, present, OptionalExprs, no_optional}
+use Rattle.pytree_node.specs.Trees.{an_optional, Comprehensions, no_comprehension, a_comprehension, Keywords, no_keyword, a_keyword, Arg}
+use Rattle.pytree_node.specs.Trees.{arg, Args, no_arg, an_arg, OptionalArg, absent_arg, present_arg, Arguments, arguments}
 use Rattle.pygrammar.specs.declared.levels.Level.{Level}
 use Rattle.pygrammar.specs.declared.levels.Level.TheVariants.{Value, Stars, StarItem, Expression, Elem, Slices, Part, Slice}
 use Rattle.pytree_fits.specs.Tests.{Tests, in_field}
@@ -132,16 +134,19 @@ abbrev mutual
   fits_at n l (Trees.UnaryOp op operand) = fits_at n Expression operand
   fits_at n l (Trees.Lambda args body) = fits_arguments n false args && fits_at n Expression body
   fits_at n l (Trees.IfExp test body orelse) = fits_at n Expression test && fits_at n Expression body && fits_at n Expression orelse
-  fits_at n l (Trees.Dict keys values) = eqb (count_optional keys) (count values) && each_perhaps_fits n keys && each_fits n Expression values
+  fits_at n l (Trees.Dict keys values) = eqb (count_optional keys) (count values) && each_perhaps_fits n keys &&
+      each_fits n Expression values
   fits_at n l (Trees.Set elts) = leb 1 (count elts) && each_fits n Elem elts
   fits_at n l (Trees.ListComp elt generators) = has_some generators && fits_at n Expression elt && each_clause_fits n generators
   fits_at n l (Trees.SetComp elt generators) = has_some generators && fits_at n Expression elt && each_clause_fits n generators
-  fits_at n l (Trees.DictComp key value generators) = has_some generators && fits_at n Expression key && fits_at n Expression value && each_clause_fits n generators
+  fits_at n l (Trees.DictComp key value generators) = has_some generators && fits_at n Expression key && fits_at n Expression value &&
+      each_clause_fits n generators
   fits_at n l (Trees.GeneratorExp elt generators) = has_some generators && fits_at n Expression elt && each_clause_fits n generators
   fits_at n l (Trees.Await value) = fits_at n Expression value
   fits_at n l (Trees.Yield value) = perhaps_fits n Stars value
   fits_at n l (Trees.YieldFrom value) = fits_at n Expression value
-  fits_at n l (Trees.Compare left ops comparators) = leb 1 (length ops) && eqb (length ops) (count comparators) && fits_at n Expression left && each_fits n Expression comparators
+  fits_at n l (Trees.Compare left ops comparators) = leb 1 (length ops) && eqb (length ops) (count comparators) && fits_at n Expression left
+      && each_fits n Expression comparators
   fits_at n l (Trees.Call func args keywords) = fits_at n Expression func && each_fits n Elem args && each_keyword_fits n keywords
   fits_at n l (Trees.Constant value) = is_value n value
   fits_at n l (Trees.FormattedValue value conversion spec) = false
@@ -152,7 +157,8 @@ abbrev mutual
   fits_at n l (Trees.Name id ctx) = is_context Load ctx && n.name id
   fits_at n l (Trees.ListOf elts ctx) = is_context Load ctx && each_fits n Elem elts
   fits_at n l (Trees.Tuple elts ctx) = is_context Load ctx && each_fits n (member_level l) elts
-  fits_at n l (Trees.Slice lower upper step) = takes_slice l && perhaps_fits n Expression lower && perhaps_fits n Expression upper && perhaps_fits n Expression step
+  fits_at n l (Trees.Slice lower upper step) = takes_slice l && perhaps_fits n Expression lower && perhaps_fits n Expression upper &&
+      perhaps_fits n Expression step
 
   -- the values of an f-string or of a format spec, which stand in so many format specs
   pub each_value_fits : Tests → ℕ → Exprs → Bool
@@ -202,7 +208,8 @@ abbrev mutual
 
   pub each_clause_fits : Tests → Comprehensions → Bool
   each_clause_fits n no_comprehension = true
-  each_clause_fits n (a_comprehension target iter ifs is_async gs) = fits_target n Store target && fits_at n Expression iter && each_fits n Expression ifs && each_clause_fits n gs
+  each_clause_fits n (a_comprehension target iter ifs is_async gs) = fits_target n Store target && fits_at n Expression iter && each_fits n
+      Expression ifs && each_clause_fits n gs
 
   -- parameters, with annotations or without; that of `*` NAME may be a Starred
   pub fits_arguments : Tests → (annotated : Bool) → Arguments → Bool

@@ -5,7 +5,8 @@ use Rattle.std.specs.List.{list_all}
 use Rattle.pytree_node.specs.declared.operators.Context.TheVariants.{Store, Del}
 use Rattle.pytree_node.specs.declared.profiles.Profile.{Profile}
 use Rattle.pytree_node.specs.Trees
-use Rattle.pytree_node.specs.Trees.{Identifier, Expr, exprs, optional, Stmt, Stmts, no_stmt, a_stmt, stmts, Cases, no_case, a_case, Handlers, no_handler, a_handler, Alias, Item, TypeParam, Module}
+use Rattle.pytree_node.specs.Trees.{Identifier, Expr, exprs, optional, Stmt, Stmts, no_stmt, a_stmt, stmts, Cases, no_case, a_case}
+use Rattle.pytree_node.specs.Trees.{Handlers, no_handler, a_handler, Alias, Item, TypeParam, Module}
 use Rattle.pygrammar.specs.declared.levels.Level.TheVariants.{Value, Stars, Expression, Elem}
 use Rattle.pygrammar.specs.declared.pattern_levels.PatternLevel.TheVariants.{AsPattern}
 use Rattle.pygrammar.specs.Forms.{is_whole}
@@ -14,7 +15,8 @@ use Rattle.pygrammar.specs.DottedNames.{names_in}
 use Rattle.pytree_node.specs.Profiles.{has_types}
 use Rattle.pytree_fits.specs.Tests.{Tests}
 use Rattle.pytree_fits.specs.PatternSlots.{pattern_fits_at}
-use Rattle.pytree_fits.specs.Slots.{is_a_name, is_single, perhaps_name, fits_at, fits_target, each_target_fits, each_fits, perhaps_fits, each_keyword_fits, fits_arguments}
+use Rattle.pytree_fits.specs.Slots.{is_a_name, is_single, perhaps_name, fits_at, fits_target, each_target_fits, each_fits, perhaps_fits}
+use Rattle.pytree_fits.specs.Slots.{each_keyword_fits, fits_arguments}
 
 abbrev pub has_one : {A : Type 0} → List A → Bool
 has_one [] = false
@@ -125,7 +127,8 @@ abbrev mutual
   statement_fits p n (Trees.If test body orelse) = fits_at n Expression test && suite_fits p n body && statements_fit p n orelse
   statement_fits p n (Trees.With items body) = has_one items && list_all (item_fits n) items && suite_fits p n body
   statement_fits p n (Trees.AsyncWith items body) = has_one items && list_all (item_fits n) items && suite_fits p n body
-  statement_fits p n (Trees.Match subject cases) = is_whole p.extent && has_case cases && fits_at n Expression subject && cases_fit p n cases
+  statement_fits p n (Trees.Match subject cases) = is_whole p.extent && has_case cases && fits_at n Expression
+      subject && cases_fit p n cases
   statement_fits p n (Trees.Raise exc cause) = raised_fits n exc cause
   statement_fits p n (Trees.Try body handlers orelse finalbody) =
       clauses_fit false handlers orelse finalbody && suite_fits p n body && handlers_fit p n false handlers

@@ -16,6 +16,8 @@ pub record GivesBack (profile : Profile) (bytes : List ℕ) (m : Module) : Type 
   pub accepted : Accepted profile (in_characters back.parts) m
   pub only : (n : Module) → Accepted profile (in_characters back.parts) n → n ≡ m
 
--- They give the module back wherever the grammar gives it to some tokens, in a version and an extent of Python, and it is no higher than 500.
+-- They give the module back wherever the grammar gives it to some tokens, in a version and an extent of Python, and it is no higher than
+-- 500.
 abbrev pub RoundTrips : List ℕ → Module → Type 0
-RoundTrips bytes m = (profile : Profile) → Stated profile m → expression_height m ≤ 500 → statement_height m ≤ 500 → GivesBack profile bytes m
+RoundTrips bytes m = (profile : Profile) → Stated profile m → expression_height m ≤ 500 → statement_height m ≤ 500
+    → GivesBack profile bytes m

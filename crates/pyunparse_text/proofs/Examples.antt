@@ -28,16 +28,20 @@ sign l r t = record { kind = kinds.Op; text = t; before = l; behind = r }
 call_line : Line
 call_line = record {
   level = 0;
-  pieces = name (codes "x") ∷ sign false false (codes "=") ∷ sign false true (codes "-") ∷ name (codes "f") ∷ sign true true (codes "(") ∷ name (codes "a") ∷ sign true false (codes ",") ∷
-      sign false true (codes "*") ∷ name (codes "b") ∷ sign true false (codes ",") ∷ name (codes "c") ∷ sign true true (codes "=") ∷ number (codes "1") ∷ sign true false (codes ")") ∷ sign true true (codes "[") ∷
-      number (codes "1") ∷ sign true true (codes ":") ∷ sign true false (codes ",") ∷ sign true true (codes ":") ∷ sign true true (codes ":") ∷ number (codes "2") ∷ sign true false (codes "]") ∷ [];
+  pieces = name (codes "x") ∷ sign false false (codes "=") ∷ sign false true (codes "-") ∷ name (codes "f") ∷ sign true true (codes "(") ∷
+      name (codes "a") ∷ sign true false (codes ",") ∷
+      sign false true (codes "*") ∷ name (codes "b") ∷ sign true false (codes ",") ∷ name (codes "c") ∷ sign true true (codes "=") ∷ number
+          (codes "1") ∷ sign true false (codes ")") ∷ sign true true (codes "[") ∷
+      number (codes "1") ∷ sign true true (codes ":") ∷ sign true false (codes ",") ∷ sign true true (codes ":") ∷ sign true true
+          (codes ":") ∷ number (codes "2") ∷ sign true false (codes "]") ∷ [];
 }
 
 -- from ..a import b
 import_line : Line
 import_line = record {
   level = 0;
-  pieces = name (codes "from") ∷ sign false false (codes ".") ∷ sign true false (codes ".") ∷ module_name (codes "a") ∷ name (codes "import") ∷ name (codes "b") ∷ [];
+  pieces = name (codes "from") ∷ sign false false (codes ".") ∷ sign true false (codes ".") ∷ module_name (codes "a") ∷ name
+      (codes "import") ∷ name (codes "b") ∷ [];
 }
 
 -- if 1 .real:
@@ -51,10 +55,12 @@ if_line = record {
 dict_line : Line
 dict_line = record {
   level = 1;
-  pieces = sign false true (codes "{") ∷ string (codes "'a'") ∷ sign true false (codes ":") ∷ string (codes "u'b'") ∷ sign true false (codes ",") ∷ sign false true (codes "**") ∷ name (codes "d") ∷ sign true false (codes "}") ∷ [];
+  pieces = sign false true (codes "{") ∷ string (codes "'a'") ∷ sign true false (codes ":") ∷ string (codes "u'b'") ∷ sign true false
+      (codes ",") ∷ sign false true (codes "**") ∷ name (codes "d") ∷ sign true false (codes "}") ∷ [];
 }
 
-written : lines_text (call_line ∷ import_line ∷ if_line ∷ dict_line ∷ []) ≡ codes "x = -f(a, *b, c=1)[1:, ::2]\nfrom ..a import b\nif 1 .real:\n    {'a': u'b', **d}\n"
+written : lines_text (call_line ∷ import_line ∷ if_line ∷ dict_line ∷ []) ≡ codes
+    "x = -f(a, *b, c=1)[1:, ::2]\nfrom ..a import b\nif 1 .real:\n    {'a': u'b', **d}\n"
 unfolding call_line import_line if_line dict_line
 written = refl
 

@@ -10,11 +10,14 @@ use Rattle.pylex_lexeme.specs.declared.kinds.Exact.TheVariants.{LPar, RPar, LBra
 use Rattle.pytree_node.specs.declared.operators.Comparison.TheVariants as Is
 use Rattle.pytree_node.specs.declared.operators.Context.TheVariants.{Load, Store}
 use Rattle.pytree_node.specs.Values
-use Rattle.pytree_node.specs.Trees.{Expr, NamedExpr, Lambda, IfExp, Dict, Set, Yield, Compare, Constant, FormattedValue, JoinedStr, Subscript}
-use Rattle.pytree_node.specs.Trees.{Starred, Name, Tuple, exprs, no_exprs, absent, present, optionals, no_optional, no_arg, absent_arg, arguments}
+use Rattle.pytree_node.specs.Trees.{Expr, NamedExpr, Lambda, IfExp, Dict, Set, Yield, Compare, Constant, FormattedValue, JoinedStr}
+use Rattle.pytree_node.specs.Trees.{Subscript}
+use Rattle.pytree_node.specs.Trees.{Starred, Name, Tuple, exprs, no_exprs, absent, present, optionals, no_optional, no_arg, absent_arg}
+use Rattle.pytree_node.specs.Trees.{arguments}
 use Rattle.pygrammar.specs.declared.levels.Level.TheVariants as At
 use Rattle.pygrammar.specs.OpenStrings.{token_count}
-use Rattle.pytoken.specs.Terminals.{Terminal, Op, in_form, Literal, FormattedBegin, FormattedEnd, FormattedText, FieldBegin, SpecBegin, FieldEnd}
+use Rattle.pytoken.specs.Terminals.{Terminal, Op, in_form, Literal, FormattedBegin, FormattedEnd, FormattedText, FieldBegin, SpecBegin}
+use Rattle.pytoken.specs.Terminals.{FieldEnd}
 use Rattle.pyunparse_text.specs.Spacing.{spaced}
 use Rattle.pyunparse_text.specs.Levels.{leads, reaches}
 use Rattle.pyunparse_text.specs.Written.{fit, written, elements_behind}
@@ -68,7 +71,8 @@ pub plain : AreWritten (
     row (with_spec [] By.None x ∷ []) (codes "f'{x:}'") ∷
     row (with_spec (field (Set (exprs (y ∷ []))) ∷ []) By.None x ∷ []) (codes "f'{x:{ {y}}}'") ∷
     row (with_spec (a_text (codes "{") ∷ []) By.None x ∷ []) (codes "f'{x:\\x7b}'") ∷
-    row (with_spec (a_text (codes "\n") ∷ with_spec (a_text (codes "\t") ∷ []) By.Ascii w ∷ []) By.Repr x ∷ []) (codes "f'{x!r:\\n{w!a:\\t}}'") ∷
+    row (with_spec (a_text (codes "\n") ∷ with_spec (a_text (codes "\t") ∷ []) By.Ascii w ∷ []) By.Repr x ∷ [])
+        (codes "f'{x!r:\\n{w!a:\\t}}'") ∷
     row (a_text (codes "\\") ∷ field x ∷ a_text (codes "'") ∷ []) (codes "f'\\\\{x}\\''") ∷ [])
 unfolding written elements_behind fit reaches leads decimal_text
 plain = refl
@@ -78,11 +82,13 @@ fields : AreWritten (
     row (field (Compare x (Is.NotEq ∷ []) (exprs (y ∷ []))) ∷ []) (codes "f'{x != y}'") ∷
     row (by By.Repr (Compare x (Is.Eq ∷ []) (exprs (y ∷ []))) ∷ []) (codes "f'{x == y!r}'") ∷
     row (field (NamedExpr (Name (codes "x") Store) (number 5)) ∷ []) (codes "f'{(x := 5)}'") ∷
-    row (field (Lambda (arguments no_arg no_arg absent_arg no_arg no_optional absent_arg no_exprs) (number 1)) ∷ []) (codes "f'{(lambda: 1)}'") ∷
+    row (field (Lambda (arguments no_arg no_arg absent_arg no_arg no_optional absent_arg no_exprs) (number 1)) ∷ [])
+        (codes "f'{(lambda: 1)}'") ∷
     row (field (Tuple (exprs (Starred x Load ∷ y ∷ [])) Load) ∷ []) (codes "f'{(*x, y)}'") ∷
     row (field (Yield (present x)) ∷ []) (codes "f'{(yield x)}'") ∷
     row (field (IfExp y x w) ∷ []) (codes "f'{(x if y else w)}'") ∷
-    row (field (Subscript (Dict (optionals (Some (number 1) ∷ [])) (exprs (number 2 ∷ []))) (number 1) Load) ∷ []) (codes "f'{ {1: 2}[1]}'") ∷
+    row (field (Subscript (Dict (optionals (Some (number 1) ∷ [])) (exprs (number 2 ∷ []))) (number 1) Load) ∷ [])
+        (codes "f'{ {1: 2}[1]}'") ∷
     row (field (Set (exprs (number 1 ∷ []))) ∷ []) (codes "f'{ {1}}'") ∷ [])
 unfolding written elements_behind fit reaches leads decimal_text
 fields = refl
@@ -94,7 +100,8 @@ literals : AreWritten (
     row (field (of_kind_u (codes "ab")) ∷ []) (codes "f'{u\"ab\"}'") ∷
     row (field (Constant (Values.Bytes (codes "a"))) ∷ []) (codes "f'{b\"a\"}'") ∷
     row (field (JoinedStr (exprs (field x ∷ []))) ∷ []) (codes "f'{f\"{x}\"}'") ∷
-    row (field (JoinedStr (exprs (with_spec (a_text (codes ">5") ∷ []) By.Repr x ∷ a_text (codes "=") ∷ field y ∷ []))) ∷ []) (codes "f'{f\"{x!r:>5}={y}\"}'") ∷ [])
+    row (field (JoinedStr (exprs (with_spec (a_text (codes ">5") ∷ []) By.Repr x ∷ a_text (codes "=") ∷ field y ∷ []))) ∷ [])
+        (codes "f'{f\"{x!r:>5}={y}\"}'") ∷ [])
 unfolding written elements_behind fit reaches leads decimal_text
 literals = refl
 
@@ -103,7 +110,8 @@ kinds : AreWritten (
     row (of_kind_u (codes "\n") ∷ []) (codes "u'\\n' f''") ∷
     row (of_kind_u (codes "\n") ∷ field x ∷ of_kind_u (codes "\t") ∷ []) (codes "u'\\n' f'{x}\\t'") ∷
     row (with_spec (of_kind_u (codes "\n") ∷ field y ∷ a_text (codes "\t") ∷ []) By.None x ∷ []) (codes "u'' f'{x:\\n{y}\\t}'") ∷
-    row (of_kind_u (codes "\n") ∷ field (JoinedStr (exprs (of_kind_u (codes "b") ∷ field x ∷ []))) ∷ []) (codes "u'\\n' f'{u\"b\" f\"{x}\"}'") ∷ [])
+    row (of_kind_u (codes "\n") ∷ field (JoinedStr (exprs (of_kind_u (codes "b") ∷ field x ∷ []))) ∷ [])
+        (codes "u'\\n' f'{u\"b\" f\"{x}\"}'") ∷ [])
 unfolding written elements_behind fit reaches leads decimal_text
 kinds = refl
 
@@ -133,17 +141,22 @@ abbrev rows : List Read
 rows =
     read [] (FormattedBegin ∷ no_text ∷ FormattedEnd ∷ []) 1 ∷
     read (field x ∷ []) (FormattedBegin ∷ no_text ∷ x_field (FieldEnd ∷ no_text ∷ FormattedEnd ∷ [])) 1 ∷
-    read (field x ∷ field x ∷ []) (FormattedBegin ∷ no_text ∷ x_field (FieldEnd ∷ no_text ∷ x_field (FieldEnd ∷ no_text ∷ FormattedEnd ∷ []))) 1 ∷
+    read (field x ∷ field x ∷ [])
+        (FormattedBegin ∷ no_text ∷ x_field (FieldEnd ∷ no_text ∷ x_field (FieldEnd ∷ no_text ∷ FormattedEnd ∷ []))) 1 ∷
     read (a_text (codes "{") ∷ field x ∷ a_text (codes "}") ∷ [])
     (FormattedBegin ∷ FormattedText (codes "{") ∷ x_field (FieldEnd ∷ FormattedText (codes "}") ∷ FormattedEnd ∷ [])) 1 ∷
     read (with_spec (a_text (codes ">") ∷ field x ∷ []) By.None x ∷ [])
-    (FormattedBegin ∷ no_text ∷ x_field (SpecBegin ∷ FormattedText (codes ">") ∷ x_field (FieldEnd ∷ no_text ∷ FieldEnd ∷ no_text ∷ FormattedEnd ∷ []))) 1 ∷
+    (FormattedBegin ∷ no_text ∷ x_field
+        (SpecBegin ∷ FormattedText (codes ">") ∷ x_field (FieldEnd ∷ no_text ∷ FieldEnd ∷ no_text ∷ FormattedEnd ∷ []))) 1 ∷
     read (field (Set (exprs (x ∷ []))) ∷ [])
-    (FormattedBegin ∷ no_text ∷ FieldBegin By.None ∷ Op LPar ∷ Op LBrace ∷ in_form (codes "x") ∷ Op RBrace ∷ Op RPar ∷ FieldEnd ∷ no_text ∷ FormattedEnd ∷ []) 1 ∷
+    (FormattedBegin ∷ no_text ∷ FieldBegin By.None ∷ Op LPar ∷ Op LBrace ∷ in_form (codes "x") ∷ Op RBrace ∷ Op RPar ∷ FieldEnd ∷ no_text
+        ∷ FormattedEnd ∷ []) 1 ∷
     read (of_kind_u (codes "a") ∷ field x ∷ of_kind_u (codes "b") ∷ [])
-    (Literal (Values.Str (codes "a") true) ∷ FormattedBegin ∷ no_text ∷ x_field (FieldEnd ∷ FormattedText (codes "b") ∷ FormattedEnd ∷ [])) 2 ∷
+    (Literal (Values.Str (codes "a") true) ∷ FormattedBegin ∷ no_text ∷ x_field (FieldEnd ∷ FormattedText (codes "b") ∷ FormattedEnd ∷ []))
+        2 ∷
     read (field (JoinedStr (exprs (of_kind_u (codes "a") ∷ []))) ∷ [])
-    (FormattedBegin ∷ no_text ∷ FieldBegin By.None ∷ Op LPar ∷ Literal (Values.Str (codes "a") true) ∷ FormattedBegin ∷ no_text ∷ FormattedEnd ∷ Op RPar ∷
+    (FormattedBegin ∷ no_text ∷ FieldBegin By.None ∷ Op LPar ∷ Literal (Values.Str (codes "a") true) ∷ FormattedBegin ∷ no_text ∷
+        FormattedEnd ∷ Op RPar ∷
     FieldEnd ∷ no_text ∷ FormattedEnd ∷ []) 1 ∷ []
 
 lists : AreRead rows

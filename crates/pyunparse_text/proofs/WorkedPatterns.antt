@@ -11,9 +11,12 @@ use Rattle.pytree_node.specs.declared.operators.Operator.TheVariants as Bin
 use Rattle.pytree_node.specs.declared.operators.UnaryOperator.TheVariants as Un
 use Rattle.pytree_node.specs.declared.operators.Context.TheVariants.{Load, Store}
 use Rattle.pytree_node.specs.Values
-use Rattle.pytree_node.specs.Trees.{Identifier, Expr, NamedExpr, Yield, Constant, UnaryOp, BinOp, Attribute, Starred, Name, Tuple, Lambda, exprs}
-use Rattle.pytree_node.specs.Trees.{no_exprs, absent, Pattern, MatchValue, MatchSingleton, MatchSequence, MatchMapping, MatchClass, MatchStar}
-use Rattle.pytree_node.specs.Trees.{MatchAs, MatchOr, patterns, no_pattern, absent_pattern, present_pattern, Match, a_case, no_case, ExprOf, Pass}
+use Rattle.pytree_node.specs.Trees.{Identifier, Expr, NamedExpr, Yield, Constant, UnaryOp, BinOp, Attribute, Starred, Name, Tuple, Lambda}
+use Rattle.pytree_node.specs.Trees.{exprs}
+use Rattle.pytree_node.specs.Trees.{no_exprs, absent, Pattern, MatchValue, MatchSingleton, MatchSequence, MatchMapping, MatchClass}
+use Rattle.pytree_node.specs.Trees.{MatchStar}
+use Rattle.pytree_node.specs.Trees.{MatchAs, MatchOr, patterns, no_pattern, absent_pattern, present_pattern, Match, a_case, no_case, ExprOf}
+use Rattle.pytree_node.specs.Trees.{Pass}
 use Rattle.pytree_node.specs.Trees.{stmts}
 use Rattle.pygrammar.specs.Parameters.{no_arguments}
 use Rattle.pyunparse_text.specs.Levels.{leads, reaches}
@@ -68,11 +71,13 @@ r = capture (codes "c")
 
 -- a statement of this subject, and its first line
 abbrev of_subject : Expr → List ℕ → Row
-of_subject e line = row (Match e (a_case wildcard None (stmts (Pass ∷ [])) no_case) ∷ []) (line ∷ codes "    case _:" ∷ codes "        pass" ∷ [])
+of_subject e line = row (Match e (a_case wildcard None (stmts (Pass ∷ [])) no_case) ∷ [])
+    (line ∷ codes "    case _:" ∷ codes "        pass" ∷ [])
 
 -- a statement of this case, and its line
 abbrev guarded : Pattern → Option Expr → List ℕ → Row
-guarded p g line = row (Match a (a_case p g (stmts (Pass ∷ [])) no_case) ∷ []) (codes "match a:" ∷ (codes "    " ++ line) ∷ codes "        pass" ∷ [])
+guarded p g line = row (Match a (a_case p g (stmts (Pass ∷ [])) no_case) ∷ [])
+    (codes "match a:" ∷ (codes "    " ++ line) ∷ codes "        pass" ∷ [])
 
 abbrev of_case : Pattern → List ℕ → Row
 of_case p line = guarded p None line
@@ -117,8 +122,10 @@ choices : AreWritten (
     of_case (alias (alias p (codes "b")) (codes "c")) (codes "case (a as b) as c:") ∷
     of_case (alias (any (any (p ∷ q ∷ []) ∷ r ∷ [])) (codes "d")) (codes "case (a | b) | c as d:") ∷
     of_case (alias p (codes "b")) (codes "case a as b:") ∷
-    of_case (any (MatchValue (Attribute a (codes "b") Load) ∷ MatchSingleton Values.None ∷ MatchValue (bytes (codes "st")) ∷ alias r (codes "d") ∷ [])) (codes "case a.b | None | b'st' | (c as d):") ∷ [])
-unfolding lines_of statement_lines case_lines written_pattern each_pattern fit_pattern pattern_reaches pattern_leads written fit reaches leads
+    of_case (any (MatchValue (Attribute a (codes "b") Load) ∷ MatchSingleton Values.None ∷ MatchValue (bytes (codes "st")) ∷ alias r
+        (codes "d") ∷ [])) (codes "case a.b | None | b'st' | (c as d):") ∷ [])
+unfolding lines_of statement_lines case_lines written_pattern each_pattern fit_pattern pattern_reaches pattern_leads
+    written fit reaches leads
 choices = refl
 
 -- Values.
@@ -127,30 +134,38 @@ values : AreWritten (
     of_case (MatchValue (minus one)) (codes "case -1:") ∷
     of_case (MatchValue (BinOp (minus one) Bin.Add (Constant (Values.Imaginary float_zero)))) (codes "case -1 + 0j:") ∷
     of_case
-    (any (MatchValue (BinOp (minus (Constant (Values.Float float_zero))) Bin.Sub (Constant (Values.Imaginary (inf false)))) ∷ MatchValue (Constant (Values.Imaginary float_zero)) ∷ MatchValue (minus (Constant (Values.Imaginary (inf false)))) ∷ []))
+    (any (MatchValue (BinOp (minus (Constant (Values.Float float_zero))) Bin.Sub (Constant (Values.Imaginary (inf false)))) ∷ MatchValue
+        (Constant (Values.Imaginary float_zero)) ∷ MatchValue (minus (Constant (Values.Imaginary (inf false)))) ∷ []))
     (codes "case -0.0 - 1e309j | 0j | -1e309j:") ∷
     of_case (any (MatchSingleton (Values.Bool true) ∷ MatchSingleton (Values.Bool false) ∷ MatchValue (bytes (codes "a")) ∷ []))
     (codes "case True | False | b'a':") ∷
     of_case (MatchValue (Attribute (Attribute a (codes "b") Load) (codes "c") Load)) (codes "case a.b.c:") ∷ [])
-unfolding lines_of statement_lines case_lines written_pattern each_pattern fit_pattern pattern_reaches pattern_leads written fit reaches leads decimal_text float_text
+unfolding lines_of statement_lines case_lines written_pattern each_pattern fit_pattern pattern_reaches pattern_leads written fit reaches
+    leads decimal_text float_text
 values = refl
 
 -- Mappings and class patterns.
 listings : AreWritten (
-    of_case (MatchMapping (minus one ∷ bytes (codes "k") ∷ []) (patterns (p ∷ q ∷ [])) (Some (codes "r"))) (codes "case {-1: a, b'k': b, **r}:") ∷
+    of_case (MatchMapping (minus one ∷ bytes (codes "k") ∷ []) (patterns (p ∷ q ∷ [])) (Some (codes "r")))
+        (codes "case {-1: a, b'k': b, **r}:") ∷
     of_case
-    (MatchMapping (minus one ∷ bytes (codes "kl") ∷ Constant Values.None ∷ Attribute (named (codes "f")) (codes "g") Load ∷ []) (patterns (p ∷ any (q ∷ r ∷ []) ∷ alias (capture (codes "d")) (codes "e") ∷ wildcard ∷ [])) (Some (codes "h")))
+    (MatchMapping (minus one ∷ bytes (codes "kl") ∷ Constant Values.None ∷ Attribute (named (codes "f")) (codes "g") Load ∷ [])
+        (patterns (p ∷ any (q ∷ r ∷ []) ∷ alias (capture (codes "d")) (codes "e") ∷ wildcard ∷ [])) (Some (codes "h")))
     (codes "case {-1: a, b'kl': b | c, None: d as e, f.g: _, **h}:") ∷
     of_case (MatchMapping [] no_pattern None) (codes "case {}:") ∷
     of_case (MatchMapping [] no_pattern (Some (codes "r"))) (codes "case {**r}:") ∷
-    of_case (MatchClass (Attribute (named (codes "A")) (codes "B") Load) (patterns (r ∷ [])) (codes "k" ∷ []) (patterns (capture (codes "d") ∷ [])))
+    of_case (MatchClass (Attribute (named (codes "A")) (codes "B") Load) (patterns (r ∷ [])) (codes "k" ∷ [])
+        (patterns (capture (codes "d") ∷ [])))
     (codes "case A.B(c, k=d):") ∷
     of_case
-    (MatchClass (named (codes "A")) (patterns (alias p (codes "b") ∷ any (r ∷ capture (codes "d") ∷ []) ∷ [])) (codes "k" ∷ []) (patterns (alias (capture (codes "e")) (codes "f") ∷ [])))
+    (MatchClass (named (codes "A")) (patterns (alias p (codes "b") ∷ any (r ∷ capture (codes "d") ∷ []) ∷ [])) (codes "k" ∷ [])
+        (patterns (alias (capture (codes "e")) (codes "f") ∷ [])))
     (codes "case A(a as b, c | d, k=e as f):") ∷
     of_case (MatchClass (named (codes "A")) no_pattern [] no_pattern) (codes "case A():") ∷
-    of_case (MatchClass (named (codes "A")) (patterns (MatchValue one ∷ sequence (p ∷ []) ∷ [])) (codes "k" ∷ codes "_" ∷ []) (patterns (wildcard ∷ MatchValue (minus one) ∷ []))) (codes "case A(1, [a], k=_, _=-1):") ∷ [])
-unfolding lines_of statement_lines case_lines written_pattern each_pattern key_patterns named_patterns fit_pattern pattern_reaches pattern_leads written fit reaches leads decimal_text
+    of_case (MatchClass (named (codes "A")) (patterns (MatchValue one ∷ sequence (p ∷ []) ∷ [])) (codes "k" ∷ codes "_" ∷ [])
+        (patterns (wildcard ∷ MatchValue (minus one) ∷ []))) (codes "case A(1, [a], k=_, _=-1):") ∷ [])
+unfolding lines_of statement_lines case_lines written_pattern each_pattern key_patterns named_patterns fit_pattern pattern_reaches
+    pattern_leads written fit reaches leads decimal_text
 listings = refl
 
 -- Guards, and cases in order.
@@ -159,7 +174,10 @@ cases : AreWritten (
     guarded (sequence (p ∷ [])) (Some (Lambda no_arguments b)) (codes "case a, if lambda: b:") ∷
     guarded wildcard (Some (Tuple (exprs (a ∷ [])) Load)) (codes "case _ if (a,):") ∷
     row
-    (Match a (a_case (sequence (capture (codes "y") ∷ [])) None (stmts (ExprOf (named (codes "int")) ∷ [])) (a_case (capture (codes "case")) None (stmts (Match b (a_case wildcard None (stmts (Pass ∷ [])) no_case) ∷ [])) no_case)) ∷ [])
-    (codes "match a:" ∷ codes "    case y,:" ∷ codes "        int" ∷ codes "    case case:" ∷ codes "        match b:" ∷ codes "            case _:" ∷ codes "                pass" ∷ []) ∷ [])
-unfolding lines_of statement_lines case_lines written_pattern each_pattern fit_pattern pattern_reaches pattern_leads written fit reaches leads decimal_text
+    (Match a (a_case (sequence (capture (codes "y") ∷ [])) None (stmts (ExprOf (named (codes "int")) ∷ []))
+        (a_case (capture (codes "case")) None (stmts (Match b (a_case wildcard None (stmts (Pass ∷ [])) no_case) ∷ [])) no_case)) ∷ [])
+    (codes "match a:" ∷ codes "    case y,:" ∷ codes "        int" ∷ codes "    case case:" ∷ codes "        match b:" ∷ codes
+        "            case _:" ∷ codes "                pass" ∷ []) ∷ [])
+unfolding lines_of statement_lines case_lines written_pattern each_pattern fit_pattern pattern_reaches pattern_leads written fit
+    reaches leads decimal_text
 cases = refl

@@ -94,7 +94,8 @@ may_be_token (Number v) = is_number v
 may_be_token (Literal v) = is_string v
 may_be_token _ = true
 
--- A pattern that the grammar gives to some terminals of tokens at a level is written there in terminals that give it back, and in no more of them
+-- A pattern that the grammar gives to some terminals of tokens at a level is written there in terminals that give it back, and in no more
+-- of them
 -- than any list has that does. (A NUMBER that stood for None would be a value to the grammar, but is written as the word, which is none.)
 abbrev pub PatternsAreShortest : Type 0
 PatternsAreShortest = (l : PatternLevel) (ts : List Terminal) (p : Pattern) → list_all may_be_token ts ≡ true → DerivesPattern l ts p
@@ -127,7 +128,8 @@ pub record WritingIsShortest : Type 0 where
 
 -- ---- Pieces.
 
--- In an extent of the language a token of this type and text gives these terminals: it is what its type says, and has no fault, in that extent
+-- In an extent of the language a token of this type and text gives these terminals: it is what its type says, and has no fault, in that
+-- extent
 -- either.
 pub record GivesAll (extent : Extent) (k : Kind) (text : List ℕ) (ts : List Terminal) : Type 0 where
   pub terminals : terminals_of k text ≡ ts
@@ -151,7 +153,8 @@ pub record AreRead (extent : Extent) (ps : List Piece) (ts : List Terminal) : Ty
   pub give : Give extent ps ts
   pub line : (level : ℕ) → is_written (record { level = level; pieces = ps }) ≡ true
 
--- What is written for an expression that the grammar gives to some tokens, and that is no higher than 500 where it has an f-string. (A much higher
+-- What is written for an expression that the grammar gives to some tokens, and that is no higher than 500 where it has an f-string. (A much
+-- higher
 -- one may open more brackets in a field than may be open there.)
 abbrev pub ExpressionsAreRead : Type 0
 ExpressionsAreRead = (extent : Extent) (l : Level) (ts : List Terminal) (e : Expr) → AreOfTokens extent ts → Derives l ts e
@@ -182,7 +185,8 @@ pub record AreModule (profile : Profile) (ws : List (WrittenLine Terminal)) (m :
 abbrev pub MayBeTokens : WrittenLine Terminal → Type 0
 MayBeTokens w = list_all may_be_token w.tokens ≡ true
 
--- A module that some lines of terminals of tokens give is given by the lines that it is written in. Lines give one module at most (`pygrammar`'s
+-- A module that some lines of terminals of tokens give is given by the lines that it is written in. Lines give one module at most
+-- (`pygrammar`'s
 -- laws), so these give no other.
 abbrev pub ModulesComeBack : Type 0
 ModulesComeBack = (profile : Profile) (ws : List (WrittenLine Terminal)) (m : Module) → AreModule profile ws m → All MayBeTokens ws
@@ -199,7 +203,8 @@ CasesStandInMatches = (profile : Profile) (m : Module) (a : AreModule profile (t
 
 -- lines give one module at most
 abbrev pub LinesAreOneModule : Type 0
-LinesAreOneModule = (profile : Profile) (ws : List (WrittenLine Terminal)) (m n : Module) → AreModule profile ws m → AreModule profile ws n → m ≡ n
+LinesAreOneModule = (profile : Profile) (ws : List (WrittenLine Terminal)) (m n : Module) → AreModule profile ws m
+    → AreModule profile ws n → m ≡ n
 
 -- a module that is accepted is given by its own lines
 abbrev pub AcceptedComeBack : Type 0
@@ -240,10 +245,12 @@ pub record ModuleIsRead (extent : Extent) (m : Module) : Type 0 where
 
 -- so are the lines of a module that some lines of tokens give, and that is no higher than 500 where it has an f-string
 abbrev pub ModulesAreRead : Type 0
-ModulesAreRead = (profile : Profile) (ws : List (WrittenLine Terminal)) (m : Module) → AreModule profile ws m → All (IsOfTokens profile.extent) ws
+ModulesAreRead = (profile : Profile) (ws : List (WrittenLine Terminal)) (m : Module) → AreModule profile ws m
+    → All (IsOfTokens profile.extent) ws
     → (list_any (λ w. has_formatted w.tokens) (terminal_lines m) ≡ true → expression_height m ≤ 500) → ModuleIsRead profile.extent m
 
--- The UTF-8 of a module's text is a source in UTF-8, without a mark, a cookie or a fault, whose tokens and lines are the module's pieces; it is
+-- The UTF-8 of a module's text is a source in UTF-8, without a mark, a cookie or a fault, whose tokens and lines are the module's pieces;
+-- it is
 -- accepted as this module, and as no other.
 pub record TextIsAccepted (profile : Profile) (m : Module) : Type 0 where
   pub back : ReadsBack (encode_utf8_all (module_text m)) (piece_lines m)

@@ -1,7 +1,9 @@
 -- What may stand at a level without brackets, and the operators by their own levels and signs (reference 6.5 to 6.17, and 10).
 use Rattle.std.specs.Prelude.{ℕ, zero, suc, ◌==◌, Bool, false, ◌||◌, List, [], ◌∷◌}
-use Rattle.pylex_lexeme.specs.declared.kinds.Exact.TheVariants.{Plus, Minus, Star, Slash, VBar, Amper, Less, Greater, Percent, EqEqual, NotEqual}
-use Rattle.pylex_lexeme.specs.declared.kinds.Exact.TheVariants.{LessEqual, GreaterEqual, Tilde, Circumflex, LeftShift, RightShift, DoubleStar}
+use Rattle.pylex_lexeme.specs.declared.kinds.Exact.TheVariants.{Plus, Minus, Star, Slash, VBar, Amper, Less, Greater, Percent, EqEqual}
+use Rattle.pylex_lexeme.specs.declared.kinds.Exact.TheVariants.{NotEqual}
+use Rattle.pylex_lexeme.specs.declared.kinds.Exact.TheVariants.{LessEqual, GreaterEqual, Tilde, Circumflex, LeftShift, RightShift}
+use Rattle.pylex_lexeme.specs.declared.kinds.Exact.TheVariants.{DoubleStar}
 use Rattle.pylex_lexeme.specs.declared.kinds.Exact.TheVariants.{DoubleSlash, At}
 use Rattle.pytoken.specs.declared.keywords.Keyword.TheVariants as Key
 use Rattle.pytree_node.specs.declared.operators.Operator.{Operator}

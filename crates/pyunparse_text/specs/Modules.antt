@@ -1,12 +1,15 @@
--- The lines that a module is written in, each with its level (reference 2.1.8, 7 and 8): a statement a line, blocks one level deeper, never in
+-- The lines that a module is written in, each with its level (reference 2.1.8, 7 and 8): a statement a line, blocks one level deeper, never
+-- in
 -- the line of their header.
 use Rattle.std.specs.Prelude.{ℕ, suc, Bool, true, false, List, [], ◌∷◌, ◌++◌, map}
 use Rattle.pylex_lexeme.specs.declared.kinds.Exact.TheVariants.{Colon, At}
 use Rattle.pytree_node.specs.Trees
-use Rattle.pytree_node.specs.Trees.{Expr, Stmt, Stmts, no_stmt, a_stmt, Cases, no_case, a_case, Handlers, no_handler, a_handler, stmts, Module}
+use Rattle.pytree_node.specs.Trees.{Expr, Stmt, Stmts, no_stmt, a_stmt, Cases, no_case, a_case, Handlers, no_handler, a_handler, stmts}
+use Rattle.pytree_node.specs.Trees.{Module}
 use Rattle.pytoken.specs.Terminals.{Terminal}
 use Rattle.pygrammar.specs.declared.levels.Level.TheVariants.{Named}
-use Rattle.pygrammar.specs.Lines.{Header, if_header, elif_header, else_header, loop_header, with_header, try_header, except_header, finally_header}
+use Rattle.pygrammar.specs.Lines.{Header, if_header, elif_header, else_header, loop_header, with_header, try_header, except_header}
+use Rattle.pygrammar.specs.Lines.{finally_header}
 use Rattle.pygrammar.specs.Lines.{def_header, match_header, case_header, while_head, for_head, function_head, class_head}
 use Rattle.pyunparse_text.specs.Spacing.{Line, lines_text}
 use Rattle.pyunparse_text.specs.Written.{Maker, leading, trailing, written}
@@ -47,21 +50,25 @@ module _ {A : Type 0} (make : Maker A) where
     statement_lines l (Trees.With items body) = header l (with_header false items) ∷ lines_of (suc l) body
     statement_lines l (Trees.AsyncWith items body) = header l (with_header true items) ∷ lines_of (suc l) body
     statement_lines l (Trees.Try body hs orelse final) =
-        header l try_header ∷ (lines_of (suc l) body ++ (handler_lines l false hs ++ (clause l else_header orelse ++ clause l finally_header final)))
+        header l try_header ∷
+            (lines_of (suc l) body ++ (handler_lines l false hs ++ (clause l else_header orelse ++ clause l finally_header final)))
     statement_lines l (Trees.TryStar body hs orelse final) =
-        header l try_header ∷ (lines_of (suc l) body ++ (handler_lines l true hs ++ (clause l else_header orelse ++ clause l finally_header final)))
+        header l try_header ∷
+            (lines_of (suc l) body ++ (handler_lines l true hs ++ (clause l else_header orelse ++ clause l finally_header final)))
     statement_lines l (Trees.FunctionDef x a body ds r ps) =
         decorators l ds ++ (header l (def_header (function_head false x ps a r)) ∷ lines_of (suc l) body)
     statement_lines l (Trees.AsyncFunctionDef x a body ds r ps) =
         decorators l ds ++ (header l (def_header (function_head true x ps a r)) ∷ lines_of (suc l) body)
-    statement_lines l (Trees.ClassDef x es ks body ds ps) = decorators l ds ++ (header l (def_header (class_head x ps es ks)) ∷ lines_of (suc l) body)
+    statement_lines l (Trees.ClassDef x es ks body ds ps) =
+        decorators l ds ++ (header l (def_header (class_head x ps es ks)) ∷ lines_of (suc l) body)
     statement_lines l (Trees.Match subject cases) = header l (match_header subject) ∷ case_lines (suc l) cases
     statement_lines l s = written_line l (simple_tokens make s) ∷ []
 
     -- the `else` of an If; an `elif` where it is exactly one If
     pub alternative : ℕ → Stmts → List (WrittenLine A)
     alternative l no_stmt = []
-    alternative l (a_stmt (Trees.If test body orelse) no_stmt) = header l (elif_header test) ∷ (lines_of (suc l) body ++ alternative l orelse)
+    alternative l (a_stmt (Trees.If test body orelse) no_stmt) =
+        header l (elif_header test) ∷ (lines_of (suc l) body ++ alternative l orelse)
     alternative l (a_stmt s ss) = header l else_header ∷ (statement_lines (suc l) s ++ lines_of (suc l) ss)
 
     -- a clause with its block; nothing where the block is empty

@@ -12,7 +12,8 @@ use Rattle.pytoken.specs.Terminals.{fault_of}
 use Rattle.pytoken.specs.Tokens.{tokens, lines}
 use Rattle.pytoken.specs.Refusals.{most_brackets, refusal}
 
--- Bytes are a source in UTF-8 without a mark, a cookie or a fault; it is listed as these lines, and its tokens and logical lines are theirs.
+-- Bytes are a source in UTF-8 without a mark, a cookie or a fault; it is listed as these lines, and its tokens and logical lines are
+-- theirs.
 pub record ReadsBack (bytes : List ℕ) (ls : List Line) : Type 0 where
   pub parts : Parts
   pub source : source_of bytes ≡ Ok parts

@@ -1,26 +1,32 @@
 -- The tokens that a logical line is written in: a simple statement, or a header up to its colon (reference 7 and 8).
 use Rattle.std.specs.Prelude.{ℕ, zero, suc, ◌==◌, Bool, true, false, not, if◌then◌else◌, List, [], ◌∷◌, ◌++◌, map, Option, Some, None}
 use Rattle.pylex_lexeme.specs.declared.kinds.Exact.{Exact}
-use Rattle.pylex_lexeme.specs.declared.kinds.Exact.TheVariants.{LPar, RPar, LSqb, RSqb, Colon, Comma, Star, Equal, Dot, DoubleStar, RArrow, Ellipsis}
-use Rattle.pylex_lexeme.specs.declared.kinds.Exact.TheVariants.{PlusEqual, MinEqual, StarEqual, SlashEqual, PercentEqual, AmperEqual, VBarEqual}
-use Rattle.pylex_lexeme.specs.declared.kinds.Exact.TheVariants.{CircumflexEqual, LeftShiftEqual, RightShiftEqual, DoubleStarEqual, DoubleSlashEqual}
+use Rattle.pylex_lexeme.specs.declared.kinds.Exact.TheVariants.{LPar, RPar, LSqb, RSqb, Colon, Comma, Star, Equal, Dot, DoubleStar, RArrow}
+use Rattle.pylex_lexeme.specs.declared.kinds.Exact.TheVariants.{Ellipsis}
+use Rattle.pylex_lexeme.specs.declared.kinds.Exact.TheVariants.{PlusEqual, MinEqual, StarEqual, SlashEqual, PercentEqual, AmperEqual}
+use Rattle.pylex_lexeme.specs.declared.kinds.Exact.TheVariants.{VBarEqual}
+use Rattle.pylex_lexeme.specs.declared.kinds.Exact.TheVariants.{CircumflexEqual, LeftShiftEqual, RightShiftEqual, DoubleStarEqual}
+use Rattle.pylex_lexeme.specs.declared.kinds.Exact.TheVariants.{DoubleSlashEqual}
 use Rattle.pylex_lexeme.specs.declared.kinds.Exact.TheVariants.{AtEqual}
 use Rattle.pytoken.specs.declared.keywords.Keyword.TheVariants as Key
 use Rattle.pytree_node.specs.declared.operators.Operator.{Operator}
 use Rattle.pytree_node.specs.declared.operators.Operator.TheVariants as Bin
 use Rattle.pytree_node.specs.Trees
-use Rattle.pytree_node.specs.Trees.{Identifier, Expr, Exprs, no_exprs, an_expr, exprs, Keywords, no_keyword, Alias, Item, TypeParam, TypeVar}
+use Rattle.pytree_node.specs.Trees.{Identifier, Expr, Exprs, no_exprs, an_expr, exprs, Keywords, no_keyword, Alias, Item, TypeParam}
+use Rattle.pytree_node.specs.Trees.{TypeVar}
 use Rattle.pytree_node.specs.Trees.{ParamSpec, TypeVarTuple, Stmt}
 use Rattle.pytoken.specs.Terminals.{Op, in_form}
 use Rattle.pygrammar.specs.declared.levels.Level.{Level}
 use Rattle.pygrammar.specs.declared.levels.Level.TheVariants.{Value, Stars, Named, Expression, Primary, Subject}
 use Rattle.pygrammar.specs.declared.pattern_levels.PatternLevel.TheVariants.{Patterns}
-use Rattle.pygrammar.specs.Lines.{Header, if_header, elif_header, else_header, loop_header, with_header, try_header, except_header, finally_header}
+use Rattle.pygrammar.specs.Lines.{Header, if_header, elif_header, else_header, loop_header, with_header, try_header, except_header}
+use Rattle.pygrammar.specs.Lines.{finally_header}
 use Rattle.pygrammar.specs.Lines.{def_header, match_header, case_header, while_head, for_head, function_head, class_head}
 use Rattle.pygrammar.specs.DottedNames.{names_in}
 use Rattle.pygrammar.specs.Forms.{type_name, match_name, case_name}
 use Rattle.pyunparse_text.specs.WrittenPatterns.{written_pattern}
-use Rattle.pyunparse_text.specs.Written.{Maker, free, word, leading, trailing, tight, enclosed, bracketed, listed, written, each, by_name, parameters}
+use Rattle.pyunparse_text.specs.Written.{Maker, free, word, leading, trailing, tight, enclosed, bracketed, listed, written, each, by_name}
+use Rattle.pyunparse_text.specs.Written.{parameters}
 
 -- ---- Tables.
 
@@ -212,7 +218,8 @@ module _ {A : Type 0} (make : Maker A) where
   header_tokens (elif_header e) = word make Key.Elif ∷ written make Named e
   header_tokens else_header = word make Key.Else ∷ []
   header_tokens (loop_header (while_head e)) = word make Key.While ∷ written make Named e
-  header_tokens (loop_header (for_head b t e)) = async b ++ (word make Key.For ∷ (written make Stars t ++ (word make Key.In ∷ written make Stars e)))
+  header_tokens (loop_header (for_head b t e)) =
+      async b ++ (word make Key.For ∷ (written make Stars t ++ (word make Key.In ∷ written make Stars e)))
   header_tokens (with_header b is) = async b ++ (word make Key.With ∷ items is)
   header_tokens try_header = word make Key.Try ∷ []
   header_tokens (except_header b e x) = word make Key.Except ∷ (starred b ++ (perhaps_written Expression e ++ as_name x))

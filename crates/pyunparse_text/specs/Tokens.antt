@@ -1,6 +1,7 @@
 -- Which tokens lines of pieces are, and when they are: each line's brackets are closed within it, and no line is more than a level deeper
 -- than the one before.
-use Rattle.std.specs.Prelude.{◌≡◌, ℕ, ◌+◌, ◌-◌, ◌*◌, nat_le, nat_lt, Bool, true, not, ◌&&◌, ◌==◌, List, [], ◌∷◌, ◌++◌, map, replicate, if◌then◌else◌}
+use Rattle.std.specs.Prelude.{◌≡◌, ℕ, ◌+◌, ◌-◌, ◌*◌, nat_le, nat_lt, Bool, true, not, ◌&&◌, ◌==◌, List, [], ◌∷◌, ◌++◌, map, replicate}
+use Rattle.std.specs.Prelude.{if◌then◌else◌}
 use Rattle.std.specs.Prelude.{false, Option, Some, None}
 use Rattle.std.specs.List.{list_all}
 use Rattle.std.specs.Str.{all_scalars}
@@ -89,7 +90,8 @@ closes p = is_operator_kind p.kind && is_closing p.text
 -- with d brackets open before them, the pieces close these and their own
 abbrev pub closes_all : ℕ → List Piece → Bool
 closes_all d [] = d == 0
-closes_all d (p ∷ ps) = if opens p then closes_all (d + 1) ps else (if closes p then not (d == 0) && closes_all (d - 1) ps else closes_all d ps)
+closes_all d (p ∷ ps) =
+    if opens p then closes_all (d + 1) ps else (if closes p then not (d == 0) && closes_all (d - 1) ps else closes_all d ps)
 
 -- no line is more than a level deeper than the one before it; the one before the first is of level m
 abbrev pub rise_by_one : ℕ → List Line → Bool
@@ -114,7 +116,8 @@ opens_within most d (p ∷ ps) =
 abbrev pub is_even : Margin → Bool
 is_even m = m.widths.eight == m.widths.one
 
--- A source is listed as these tokens: ENCODING, their entries, and the end. The entries say which operators the tokens are, and lines begin with
+-- A source is listed as these tokens: ENCODING, their entries, and the end. The entries say which operators the tokens are, and lines begin
+-- with
 -- blanks that are as wide, whichever way tabs count.
 pub record IsListedAs (s : Source) (ts : List PlainToken) : Type 0 where
   pub entries : List Entry

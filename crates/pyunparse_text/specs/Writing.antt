@@ -10,7 +10,8 @@ use Rattle.pyunparse_text.specs.Pieces.{Sited, character_text, conversion_text, 
 use Rattle.pyunparse_text.specs.Folds.{Step, Begin, PutText, BeginField, EndExpression, BeginSpec, EndField}
 use Rattle.pyunparse_text.specs.declared.edges.Edge.{Edge}
 
--- the text in UTF-8, what the last token of its line says of what follows, how many levels stand open, and whether a field of an f-string does
+-- the text in UTF-8, what the last token of its line says of what follows, how many levels stand open, and whether a field of an f-string
+-- does
 pub record Writing : Type 0 where
   pub text : List ℕ
   pub last : Option Edge
@@ -28,7 +29,8 @@ edge_of p = record { behind = p.behind; number = is_number_kind p.kind; comma = 
 abbrev pub meets : Edge → Piece → Bool
 meets e q =
     not (e.brace && begins_with left_curly_bracket q.text)
-    && ((e.behind || q.before) && not (e.number && bytes_eq q.text (codes ".")) && not (e.comma && (bytes_eq q.text (codes ":") && q.behind)))
+    && ((e.behind || q.before) && not (e.number && bytes_eq q.text (codes ".")) && not
+        (e.comma && (bytes_eq q.text (codes ":") && q.behind)))
 
 -- the blank before a token
 abbrev pub blank : Option Edge → Piece → List ℕ

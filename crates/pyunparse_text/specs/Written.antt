@@ -1,8 +1,10 @@
 -- The tokens that an expression is written in at a level of the grammar, in as few brackets as its place allows, and how close each token
 -- keeps to its neighbours (reference 6 and 10).
-use Rattle.std.specs.Prelude.{ℕ, ◌-◌, List, [], ◌∷◌, ◌++◌, map, length, replicate, Option, Some, None, Bool, true, false, ◌||◌, if◌then◌else◌}
+use Rattle.std.specs.Prelude.{ℕ, ◌-◌, List, [], ◌∷◌, ◌++◌, map, length, replicate, Option, Some, None, Bool, true, false, ◌||◌}
+use Rattle.std.specs.Prelude.{if◌then◌else◌}
 use Rattle.pylex_lexeme.specs.declared.kinds.Exact.{Exact}
-use Rattle.pylex_lexeme.specs.declared.kinds.Exact.TheVariants.{LPar, RPar, LSqb, RSqb, LBrace, RBrace, Colon, Comma, Star, Slash, Equal, Dot}
+use Rattle.pylex_lexeme.specs.declared.kinds.Exact.TheVariants.{LPar, RPar, LSqb, RSqb, LBrace, RBrace, Colon, Comma, Star, Slash, Equal}
+use Rattle.pylex_lexeme.specs.declared.kinds.Exact.TheVariants.{Dot}
 use Rattle.pylex_lexeme.specs.declared.kinds.Exact.TheVariants.{DoubleStar, Ellipsis, ColonEqual}
 use Rattle.pytoken.specs.declared.keywords.Keyword.{Keyword}
 use Rattle.pytoken.specs.declared.keywords.Keyword.TheVariants as Key
@@ -10,18 +12,22 @@ use Rattle.pytree_node.specs.declared.operators.UnaryOperator.{UnaryOperator}
 use Rattle.pytree_node.specs.declared.operators.Comparison.{Comparison}
 use Rattle.pyfstring.specs.declared.parts.Conversion.{Conversion}
 use Rattle.pygrammar.specs.declared.levels.Level.{Level}
-use Rattle.pygrammar.specs.declared.levels.Level.TheVariants.{Value, Stars, StarItem, Named, Expression, Or, Compare, BitOr, Await, Primary, Elem}
+use Rattle.pygrammar.specs.declared.levels.Level.TheVariants.{Value, Stars, StarItem, Named, Expression, Or, Compare, BitOr, Await, Primary}
+use Rattle.pygrammar.specs.declared.levels.Level.TheVariants.{Elem}
 use Rattle.pygrammar.specs.declared.levels.Level.TheVariants.{Slices, Part, Slice, Subject}
 use Rattle.pytree_node.specs.Values
 use Rattle.pytree_node.specs.Trees
 use Rattle.pytree_node.specs.Trees.{Expr, Exprs, no_exprs, an_expr, OptionalExpr, absent, present, OptionalExprs, no_optional, an_optional}
-use Rattle.pytree_node.specs.Trees.{Comprehensions, no_comprehension, a_comprehension, Keywords, no_keyword, a_keyword, arg, Args, no_arg, an_arg}
+use Rattle.pytree_node.specs.Trees.{Comprehensions, no_comprehension, a_comprehension, Keywords, no_keyword, a_keyword, arg, Args, no_arg}
+use Rattle.pytree_node.specs.Trees.{an_arg}
 use Rattle.pytree_node.specs.Trees.{OptionalArg, absent_arg, present_arg, Arguments, arguments}
 use Rattle.pytoken.specs.Terminals.{Terminal, Op, Word, in_form, Number, Literal}
 use Rattle.pygrammar.specs.Operators.{below, chain_level, chain_word}
-use Rattle.pyunparse_text.specs.Levels.{reaches, operator_level, left_level, right_level, operator_sign, unary_level, unary_sign, comparison_signs}
+use Rattle.pyunparse_text.specs.Levels.{reaches, operator_level, left_level, right_level, operator_sign, unary_level, unary_sign}
+use Rattle.pyunparse_text.specs.Levels.{comparison_signs}
 
--- What an f-string is written in, one thing after another: its texts, those of format specs told apart, and its fields, each of which begins with
+-- What an f-string is written in, one thing after another: its texts, those of format specs told apart, and its fields, each of which
+-- begins with
 -- what its expression is written in.
 pub data Element (A : Type 0) : Type 0 where
   Text : Bool → List ℕ → Element A
@@ -29,7 +35,8 @@ pub data Element (A : Type 0) : Type 0 where
   Spec : Element A
   End : Element A
 
--- What is made of a token: of its terminal, and of whether it keeps close to what comes before it, and to what comes after it; and what is made of
+-- What is made of a token: of its terminal, and of whether it keeps close to what comes before it, and to what comes after it; and what is
+-- made of
 -- an f-string. All that follows is said of any such maker: one gives the terminals, for the grammar, another the pieces, with their texts.
 pub record Maker (A : Type 0) : Type 0 where
   pub token : Terminal → Bool → Bool → A
@@ -205,7 +212,8 @@ module _ {A : Type 0} (make : Maker A) where
   abbrev pub field : Conversion → List A → List (Element A) → List (Element A)
   field c ts spec = Field c ts ∷ (spec ++ (End ∷ []))
 
-  -- An f-string, by the text that it begins with, and what follows that. Where a text in it has the kind u, a literal of that kind stands in
+  -- An f-string, by the text that it begins with, and what follows that. Where a text in it has the kind u, a literal of that kind stands
+  -- in
   -- front of it, with the text that it begins with.
   abbrev pub joined : Bool → List ℕ → List (Element A) → List A
   joined false t behind = make.formatted (Text false t ∷ behind)
@@ -220,11 +228,13 @@ module _ {A : Type 0} (make : Maker A) where
     written l (Trees.Starred e c) = leading Star ∷ written (star_level l) e
     written l (Trees.NamedExpr t e) = fit l Named (written Primary t ++ (free (Op ColonEqual) ∷ written Expression e))
     written l (Trees.Lambda a e) = fit l Expression (word Key.Lambda ∷ (listed (parameters a) ++ (trailing Colon ∷ written Expression e)))
-    written l (Trees.IfExp a b c) = fit l Expression (written Or b ++ (word Key.If ∷ (written Or a ++ (word Key.Else ∷ written Expression c))))
+    written l (Trees.IfExp a b c) =
+        fit l Expression (written Or b ++ (word Key.If ∷ (written Or a ++ (word Key.Else ∷ written Expression c))))
     written l (Trees.BoolOp o es) = fit l (chain_level o) (separated (word (chain_word o)) (each (below (chain_level o)) es))
     written l (Trees.UnaryOp o e) = fit l (unary_level o) (unary o ∷ written (unary_level o) e)
     written l (Trees.Compare e os es) = fit l Compare (written BitOr e ++ compared os (each BitOr es))
-    written l (Trees.BinOp a o b) = fit l (operator_level o) (written (left_level o) a ++ (free (operator_sign o) ∷ written (right_level o) b))
+    written l (Trees.BinOp a o b) =
+        fit l (operator_level o) (written (left_level o) a ++ (free (operator_sign o) ∷ written (right_level o) b))
     written l (Trees.Await e) = fit l Await (word Key.Await ∷ written Primary e)
     written l (Trees.Attribute e x c) = fit l Primary (written Primary e ++ (tight Dot ∷ (free (in_form x) ∷ [])))
     written l (Trees.Call f es ks) =
@@ -246,7 +256,8 @@ module _ {A : Type 0} (make : Maker A) where
     written l (Trees.SetComp e gs) = enclosed (leading LBrace) RBrace (written Named e ++ clauses gs)
     written l (Trees.Slice a b c) = fit l Slice (perhaps Expression a ++ (tight Colon ∷ (perhaps Expression b ++ suffixed (tight Colon) c)))
 
-    -- what follows a text among the values of a JoinedStr, of an f-string or of the format spec of a field: fields, and behind each of them the text
+    -- what follows a text among the values of a JoinedStr, of an f-string or of the format spec of a field: fields, and behind each of them
+    -- the text
     -- that follows it, perhaps an empty one
     pub elements_behind : Bool → Exprs → List (Element A)
     elements_behind b no_exprs = []

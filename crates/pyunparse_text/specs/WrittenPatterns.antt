@@ -1,7 +1,8 @@
 -- The tokens that a pattern is written in at a level of the grammar, in as few brackets as its place allows (reference 8.6.4).
 use Rattle.std.specs.Prelude.{ℕ, zero, suc, ◌==◌, Bool, false, ◌||◌, if◌then◌else◌, List, [], ◌∷◌, ◌++◌, Option, Some, None}
 use Rattle.pylex_lexeme.specs.Characters.{low_line}
-use Rattle.pylex_lexeme.specs.declared.kinds.Exact.TheVariants.{LPar, RPar, LSqb, RSqb, LBrace, RBrace, Colon, Star, Equal, DoubleStar, VBar}
+use Rattle.pylex_lexeme.specs.declared.kinds.Exact.TheVariants.{LPar, RPar, LSqb, RSqb, LBrace, RBrace, Colon, Star, Equal, DoubleStar}
+use Rattle.pylex_lexeme.specs.declared.kinds.Exact.TheVariants.{VBar}
 use Rattle.pytoken.specs.declared.keywords.Keyword.TheVariants as Key
 use Rattle.pytree_node.specs.Trees
 use Rattle.pytree_node.specs.Trees.{Identifier, Expr, Pattern, Patterns, no_pattern, a_pattern, absent_pattern, present_pattern}
@@ -59,16 +60,19 @@ module _ {A : Type 0} (make : Maker A) where
     written_pattern l (Trees.MatchAs absent_pattern name) = target name ∷ []
     written_pattern l (Trees.MatchAs (present_pattern p) name) =
         fit_pattern l Level.AsPattern (written_pattern Level.OrPattern p ++ (word make Key.As ∷ (target name ∷ [])))
-    written_pattern l (Trees.MatchOr inner) = fit_pattern l Level.OrPattern (separated (free make (Op VBar)) (each_pattern Level.ClosedPattern inner))
+    written_pattern l (Trees.MatchOr inner) =
+        fit_pattern l Level.OrPattern (separated (free make (Op VBar)) (each_pattern Level.ClosedPattern inner))
 
     pub each_pattern : PatternLevel → Patterns → List (List A)
     each_pattern l no_pattern = []
     each_pattern l (a_pattern p ps) = written_pattern l p ∷ each_pattern l ps
 
     pub key_patterns : List Expr → Patterns → List (List A)
-    key_patterns (k ∷ ks) (a_pattern p ps) = (written make Sum k ++ (trailing make Colon ∷ written_pattern Level.AsPattern p)) ∷ key_patterns ks ps
+    key_patterns (k ∷ ks) (a_pattern p ps) =
+        (written make Sum k ++ (trailing make Colon ∷ written_pattern Level.AsPattern p)) ∷ key_patterns ks ps
     key_patterns _ _ = []
 
     pub named_patterns : List Identifier → Patterns → List (List A)
-    named_patterns (x ∷ xs) (a_pattern p ps) = (free make (in_form x) ∷ (tight make Equal ∷ written_pattern Level.AsPattern p)) ∷ named_patterns xs ps
+    named_patterns (x ∷ xs) (a_pattern p ps) =
+        (free make (in_form x) ∷ (tight make Equal ∷ written_pattern Level.AsPattern p)) ∷ named_patterns xs ps
     named_patterns _ _ = []

@@ -1,5 +1,6 @@
 -- Carries: first_comment. On: a lister over a reader gives one entry more at each step.
-use Rattle.std.proofs.Common.{◌≡◌, ℕ, ◌+◌, ◌≤◌, Bool, true, false, cond, List, [], ◌∷◌, ◌++◌, Option, Some, None, Ok, slice_get, string_bytes, option_map, refl, sym, ap, subst, ◌∙◌, append_assoc, arith}
+use Rattle.std.proofs.Common.{◌≡◌, ℕ, ◌+◌, ◌≤◌, Bool, true, false, cond, List, [], ◌∷◌, ◌++◌, Option, Some, None, Ok, slice_get}
+use Rattle.std.proofs.Common.{string_bytes, option_map, refl, sym, ap, subst, ◌∙◌, append_assoc, arith}
 use Rattle.std.proofs.lemmas.Grind.{common_steps}
 use Rattle.std.specs.Prelude.{find, String}
 use Rattle.std.specs.declared.alloc.Global.{Global}
@@ -54,9 +55,11 @@ other_is e h = by e.kind h
 pub record Searches (seen_old seen_new : Seen) (v : Streamed) : Type 0 where
   pub taken : List ℕ
   pub reads : ReadsBytes seen_old seen_new reach.Reading v.lines.reach 0 v.lines.count taken
-  pub stands : (more : List ℕ) (broken : Bool) → Continues v.lines more broken → (p : Parts) × (stream_of broken (taken ++ more) ≡ Ok p) × StreamsIn v p v.shown.given more broken × (first_comment_of p ≡ first_behind p v.shown.given)
+  pub stands : (more : List ℕ) (broken : Bool) → Continues v.lines more broken → (p : Parts) × (stream_of broken (taken ++ more) ≡ Ok p) ×
+      StreamsIn v p v.shown.given more broken × (first_comment_of p ≡ first_behind p v.shown.given)
 
-given_is : (v : Streamed) (p : Parts) (k : ℕ) (more : List ℕ) (broken : Bool) → StreamsIn v p k more broken → StreamsIn v p v.shown.given more broken
+given_is : (v : Streamed) (p : Parts) (k : ℕ) (more : List ℕ) (broken : Bool) → StreamsIn v p k more broken
+    → StreamsIn v p v.shown.given more broken
 given_is v p k more broken s = subst (λ (n : ℕ). StreamsIn v p n more broken) (sym s.stands.count) s
 
 -- it does where it begins
@@ -64,11 +67,13 @@ pub begun : {seen_old seen_new : Seen} {v : Streamed} → BeginsAnew seen_old se
 begun {v = v} b = record {
   taken = b.begins.taken;
   reads = b.begins.reads;
-  stands = λ more broken f. let s = b.begins.stands more broken f in (s.0, s.1, given_is v s.0 0 more broken s.2, ap (λ (n : ℕ). first_behind s.0 n) (sym s.2.stands.count));
+  stands = λ more broken f. let s = b.begins.stands more broken f in
+      (s.0, s.1, given_is v s.0 0 more broken s.2, ap (λ (n : ℕ). first_behind s.0 n) (sym s.2.stands.count));
 }
 
 -- A step was taken.
-module _ {seen_old seen_mid seen_new : Seen} {old new : Streamed} {step : Step} (s : Next seen_mid seen_new old new (Ok step)) (o : Searches seen_old seen_mid old) where
+module _ {seen_old seen_mid seen_new : Seen} {old new : Streamed} {step : Step} (s : Next seen_mid seen_new old new (Ok step))
+    (o : Searches seen_old seen_mid old) where
   abbrev taken : List ℕ
   taken = o.taken ++ s.taken
 
@@ -77,7 +82,9 @@ module _ {seen_old seen_mid seen_new : Seen} {old new : Streamed} {step : Step} 
 
   -- the step is the next one in the source, and the lister stands behind it
   stepped : (more : List ℕ) (broken : Bool) → Continues new.lines more broken
-      → (p : Parts) × (stream_of broken (taken ++ more) ≡ Ok p) × (first_comment_of p ≡ first_behind p old.shown.given) × (slice_get (listing (in_characters p)) old.shown.given ≡ Some step) × StreamsIn new p (old.shown.given + entries_in step) more broken
+      → (p : Parts) × (stream_of broken (taken ++ more) ≡ Ok p) × (first_comment_of p ≡ first_behind p old.shown.given) ×
+          (slice_get (listing (in_characters p)) old.shown.given ≡ Some step) × StreamsIn new p
+          (old.shown.given + entries_in step) more broken
   stepped more broken f =
       let t = o.stands (s.taken ++ more) broken (s.follows more broken f) in
       let m = s.steps t.0 old.shown.given more broken f t.2 in
@@ -86,13 +93,16 @@ module _ {seen_old seen_mid seen_new : Seen} {old new : Streamed} {step : Step} 
   -- by one entry
   pub one_more : (e : Entry) → step ≡ steps.Entry e → new.shown.given ≡ old.shown.given + 1
   one_more e is =
-      let t = stepped [] (is_broken new.lines.reach) (follows_none new.lines.reach, let w = reads.within (omega arith) in omega (arith, w)) in
+      let t = stepped [] (is_broken new.lines.reach) (follows_none new.lines.reach, let w =
+          reads.within (omega arith) in omega (arith, w)) in
       let n : entries_in step ≡ 1 = ap (λ (x : Step). entries_in x) is in
       let c = t.4.stands.count in
       omega (arith, n, c)
 
-  first_of : (p : Parts) (e : Entry) → slice_get (listing (in_characters p)) old.shown.given ≡ Some step → step ≡ steps.Entry e → entries_of (rest (in_characters p) old.shown.given) ≡ e ∷ entries_of (rest (in_characters p) (old.shown.given + 1))
-  first_of p e at is = ap (λ (ss : List Step). entries_of ss) (next_is (in_characters p) old.shown.given (steps.Entry e) (at ∙ ap (λ (x : Step). Some x) is))
+  first_of : (p : Parts) (e : Entry) → slice_get (listing (in_characters p)) old.shown.given ≡ Some step → step ≡ steps.Entry e
+      → entries_of (rest (in_characters p) old.shown.given) ≡ e ∷ entries_of (rest (in_characters p) (old.shown.given + 1))
+  first_of p e at is = ap (λ (ss : List Step). entries_of ss) (next_is (in_characters p) old.shown.given (steps.Entry e) (at
+      ∙ ap (λ (x : Step). Some x) is))
 
   -- past an entry that is no comment
   pub goes_on : (e : Entry) → step ≡ steps.Entry e → is_comment e ≡ false → Searches seen_old seen_new new
@@ -102,12 +112,14 @@ module _ {seen_old seen_mid seen_new : Seen} {old new : Streamed} {step : Step} 
     stands = λ more broken f.
         let t = stepped more broken f in
         let first : first_behind t.0 old.shown.given ≡ first_behind t.0 (old.shown.given + 1) = rw (first_of t.0 e t.3 is, other) refl in
-        (t.0, t.1, given_is new t.0 (old.shown.given + entries_in step) more broken t.4, t.2 ∙ first ∙ ap (λ (n : ℕ). first_behind t.0 n) (sym (one_more e is)));
+        (t.0, t.1, given_is new t.0 (old.shown.given + entries_in step) more broken t.4, t.2 ∙ first
+            ∙ ap (λ (n : ℕ). first_behind t.0 n) (sym (one_more e is)));
   }
 
   -- to a comment
   pub finds : (e : Entry) (text : String Global) → step ≡ steps.Entry e → is_comment e ≡ true
-      → ((p : Parts) (k : ℕ) (more : List ℕ) (broken : Bool) → StreamsIn new p k more broken → string_bytes text ≡ text_of p e) → Finds seen_old (Some text)
+      → ((p : Parts) (k : ℕ) (more : List ℕ) (broken : Bool) → StreamsIn new p k more broken → string_bytes text ≡ text_of p e)
+          → Finds seen_old (Some text)
   finds e text is comment shown = record {
     seen_new = seen_new;
     taken = taken;
@@ -119,10 +131,13 @@ module _ {seen_old seen_mid seen_new : Seen} {old new : Streamed} {step : Step} 
         (t.0, t.1, t.2 ∙ first ∙ ap (λ (bytes : List ℕ). Some bytes) (sym (shown t.0 (old.shown.given + entries_in step) more broken t.4)));
   }
 
-  none_behind : (p : Parts) (met : Step) → slice_get (listing (in_characters p)) old.shown.given ≡ Some met → ((e : Entry) → met ≡ steps.Entry e → ⊥) → first_behind p old.shown.given ≡ None
+  none_behind : (p : Parts) (met : Step) → slice_get (listing (in_characters p)) old.shown.given ≡ Some met
+      → ((e : Entry) → met ≡ steps.Entry e → ⊥) → first_behind p old.shown.given ≡ None
   none_behind p (steps.Entry e) at ends = absurd (ends e refl)
-  none_behind p steps.End at ends = ap (λ (es : List Entry). option_map (text_of p) (find is_comment es)) (end_last (in_characters p) old.shown.given at).0
-  none_behind p (steps.Fault f) at ends = ap (λ (es : List Entry). option_map (text_of p) (find is_comment es)) (fault_last (in_characters p) old.shown.given f at).0
+  none_behind p steps.End at ends = ap (λ (es : List Entry). option_map (text_of p) (find is_comment es))
+      (end_last (in_characters p) old.shown.given at).0
+  none_behind p (steps.Fault f) at ends = ap (λ (es : List Entry). option_map (text_of p) (find is_comment es))
+      (fault_last (in_characters p) old.shown.given f at).0
 
   -- to the end or the fault
   pub finds_none : ((e : Entry) → step ≡ steps.Entry e → ⊥) → Finds seen_old None

@@ -29,7 +29,8 @@ pub record Finds (seen : Seen) (found : Option (String Global)) : Type 0 where
   pub taken : List ℕ
   pub lines : Buffered
   pub reads : ReadsBytes seen seen_new Reading lines.reach 0 lines.count taken
-  pub is : (more : List ℕ) (broken : Bool) → Continues lines more broken → (p : Parts) × (stream_of broken (taken ++ more) ≡ Ok p) × (first_comment_of p ≡ option_map (λ t. string_bytes t) found)
+  pub is : (more : List ℕ) (broken : Bool) → Continues lines more broken → (p : Parts) × (stream_of broken (taken ++ more) ≡ Ok p) ×
+      (first_comment_of p ≡ option_map (λ t. string_bytes t) found)
 
 -- there was no memory, or the reader gives no source
 abbrev pub FindsNone : Seen → StreamFault → Type 0

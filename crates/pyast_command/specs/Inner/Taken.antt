@@ -15,18 +15,23 @@ use Rattle.pyast_fault.specs.declared.fault.Fault.{Fault}
 abbrev pub TookAll : Seen → Seen → Buffered → List ℕ → Type 0
 TookAll seen_old seen_new lines all = ReadsBytes seen_old seen_new reach.Reading lines.reach 0 lines.count all
 
--- a lister that has begun, behind a cursor or at the start: what was taken, and that it stands there in each source that this can be the front of
+-- a lister that has begun, behind a cursor or at the start: what was taken, and that it stands there in each source that this can be the
+-- front of
 pub record Starts (seen_old seen_new : Seen) (resume : Option CursorParts) (v : Streamed) : Type 0 where
   pub all : List ℕ
   pub took : TookAll seen_old seen_new v.lines all
   pub stands : (more : List ℕ) (broken : Bool) → Continues v.lines more broken
-      → (p : Parts) × (stream_of broken (all ++ more) ≡ Ok p) × (start_in resume (in_characters p) ≡ Some v.shown.given) × StreamsIn v p v.shown.given more broken
+      → (p : Parts) × (stream_of broken (all ++ more) ≡ Ok p) × (start_in resume (in_characters p) ≡ Some v.shown.given) × StreamsIn v p
+          v.shown.given more broken
 
--- From a lister on bytes were taken, and the lines stand so then; and something was done with what is to be written and told of each source in which the lister stood.
-pub record Lists (seen_old seen_new : Seen) (old : Streamed) (exact : Bool) (count : Option ℕ) (done : List ℕ → Option Fault → Type 0) : Type 0 where
+-- From a lister on bytes were taken, and the lines stand so then; and something was done with what is to be written and told of each source
+-- in which the lister stood.
+pub record Lists (seen_old seen_new : Seen) (old : Streamed) (exact : Bool) (count : Option ℕ) (done : List ℕ → Option Fault
+    → Type 0) : Type 0 where
   pub new : Buffered
   pub taken : List ℕ
   pub reads : Reads seen_old seen_new old.lines new taken
   pub follows : (more : List ℕ) (broken : Bool) → Continues new more broken → Continues old.lines (taken ++ more) broken
-  pub holds : (p : Parts) (more : List ℕ) (broken : Bool) → Continues new more broken → StreamsIn old p old.shown.given (taken ++ more) broken
+  pub holds : (p : Parts) (more : List ℕ) (broken : Bool) → Continues new more broken
+      → StreamsIn old p old.shown.given (taken ++ more) broken
       → done (output_from exact p count old.shown.given) (fault_from p count old.shown.given)

@@ -50,7 +50,8 @@ MissesDump found fault = ⊥
 
 -- why a subcommand's name and what was found behind it give no command
 abbrev pub MissesCommand : Option (List ℕ × List Row) → UsageFault → Type 0
-MissesCommand sub faults.BadArguments = ((command : Command) → IsCommand sub command → ⊥) × ((found : List Row) → sub ≡ Some (codes "tokens", found) → LacksCursor found → ⊥)
+MissesCommand sub faults.BadArguments = ((command : Command) → IsCommand sub command → ⊥) × ((found : List Row)
+    → sub ≡ Some (codes "tokens", found) → LacksCursor found → ⊥)
 MissesCommand sub faults.MalformedCursor = (found : List Row) × (sub ≡ Some (codes "tokens", found)) × LacksCursor found
 MissesCommand sub faults.Memory = ⊤
 MissesCommand sub fault = ⊥

@@ -14,21 +14,26 @@ use Rattle.pytoken.specs.Tokens as Tokens
 use Rattle.pygrammar.specs.Lines.{Line, line, Form}
 use Rattle.pygrammar.specs.FormHeights.{form_height}
 use Rattle.pygrammar.specs.Blocks.{Block}
-use Rattle.pygrammar.specs.Refusals.{Code, Reason, HasForm, Formed, formed_end, formed_line, Unread, too_high, no_match, no_form, too_long, FirstUnread, unread, unread_behind, Accepted, Refused, by_tokens, by_line, by_block, by_height}
+use Rattle.pygrammar.specs.Refusals.{Code, Reason, HasForm, Formed, formed_end, formed_line, Unread, too_high, no_match, no_form, too_long}
+use Rattle.pygrammar.specs.Refusals.{FirstUnread, unread, unread_behind, Accepted, Refused, by_tokens, by_line, by_block, by_height}
 use Rattle.pygrammar.proofs.Line.Law.{one_form}
 use Rattle.pygrammar.proofs.Line.Stays.{form_stays}
 use Rattle.pygrammar.proofs.Block.Leads.{one_tree}
 use Rattle.pygrammar.proofs.Block.Law.{tree_faultless, no_first}
 
 -- the lines behind one of the same form
-formed_as : {profile : Profile} {earlier : List Line} {l : ℕ} {f g : Form} {xs : List Tokens.Line} {ys : List Line} → f ≡ g → Formed profile (line l f ∷ earlier) xs ys → Formed profile (line l g ∷ earlier) xs ys
-formed_as {profile} {earlier} {l} {xs = xs} {ys = ys} e p = let P : Form → Type 0 = λ z. Formed profile (line l z ∷ earlier) xs ys in subst P e p
+formed_as : {profile : Profile} {earlier : List Line} {l : ℕ} {f g : Form} {xs : List Tokens.Line} {ys : List Line} → f ≡ g
+    → Formed profile (line l f ∷ earlier) xs ys → Formed profile (line l g ∷ earlier) xs ys
+formed_as {profile} {earlier} {l} {xs = xs} {ys = ys} e p = let P : Form → Type 0 =
+    λ z. Formed profile (line l z ∷ earlier) xs ys in subst P e p
 
 pub unread_as : {profile : Profile} {earlier : List Line} {l : ℕ} {f g : Form} {xs : List Tokens.Line} {n : ℕ} {c : Code} → f ≡ g →
     FirstUnread profile (line l f ∷ earlier) xs n c → FirstUnread profile (line l g ∷ earlier) xs n c
-unread_as {profile} {earlier} {l} {xs = xs} {n = n} {c = c} e p = let P : Form → Type 0 = λ z. FirstUnread profile (line l z ∷ earlier) xs n c in subst P e p
+unread_as {profile} {earlier} {l} {xs = xs} {n = n} {c = c} e p = let P : Form → Type 0 =
+    λ z. FirstUnread profile (line l z ∷ earlier) xs n c in subst P e p
 
-pub one_formed : {profile : Profile} {earlier : List Line} {xs : List Tokens.Line} {ys zs : List Line} → Formed profile earlier xs ys → Formed profile earlier xs zs → ys ≡ zs
+pub one_formed : {profile : Profile} {earlier : List Line} {xs : List Tokens.Line} {ys zs : List Line} → Formed profile earlier xs ys
+    → Formed profile earlier xs zs → ys ≡ zs
 one_formed formed_end formed_end = refl
 one_formed (formed_line {x = x} {f = f} {ys = ys} p q) (formed_line {f = g} {ys = zs} r s) =
     let a : f ≡ g = one_form p.is r.is in
@@ -44,14 +49,16 @@ one_answer {a = a} {b = b} p q =
     let e : a.body ≡ b.body = one_tree (subst P (one_formed p.formed q.formed) p.block) q.block in
     ap module_of e
 
-pub unread_formed : {profile : Profile} {inside : Bool} {x : Tokens.Line} {f : Form} {c : Code} → HasForm profile inside x f → Unread profile inside x c → ⊥
+pub unread_formed : {profile : Profile} {inside : Bool} {x : Tokens.Line} {f : Form} {c : Code} → HasForm profile inside x f
+    → Unread profile inside x c → ⊥
 unread_formed {f = f} h (too_high {f = g} p n) =
     let a : form_height f ≡ form_height g = ap form_height (one_form h.is p) in let b = h.low in omega arith
 unread_formed {f = f} h (no_match p e) = p f h.is
 unread_formed {f = f} h (no_form p e) = p f h.is
 unread_formed {f = f} h (too_long p n) = p f h.is
 
-pub unread_none : {profile : Profile} {earlier : List Line} {xs : List Tokens.Line} {ys : List Line} {n : ℕ} {c : Code} → Formed profile earlier xs ys → FirstUnread profile earlier xs n c → ⊥
+pub unread_none : {profile : Profile} {earlier : List Line} {xs : List Tokens.Line} {ys : List Line} {n : ℕ} {c : Code}
+    → Formed profile earlier xs ys → FirstUnread profile earlier xs n c → ⊥
 unread_none formed_end h = elim h [ ]
 unread_none (formed_line p q) (unread h) = unread_formed p h
 unread_none (formed_line p q) (unread_behind r h) = unread_none q (unread_as (one_form r.is p.is) h)
@@ -68,7 +75,8 @@ never_both {m = m} p (by_height {m = o} c q b n d w) =
     let a : statement_height m ≡ statement_height o = ap statement_height (ap module_of e) in
     let l = p.low in omega arith
 
-formed_stays : {profile : Profile} {earlier : List Line} {xs : List Tokens.Line} {ys : List Line} → Formed profile earlier xs ys → Formed (python Py312 profile.extent) earlier xs ys
+formed_stays : {profile : Profile} {earlier : List Line} {xs : List Tokens.Line} {ys : List Line} → Formed profile earlier xs ys
+    → Formed (python Py312 profile.extent) earlier xs ys
 formed_stays formed_end = formed_end
 formed_stays (formed_line p q) = formed_line (record { is = form_stays p.is; low = p.low }) (formed_stays q)
 

@@ -2,12 +2,17 @@
 --
 -- Carries: statement_from, around_behind, around_past, around_inside and 6
 -- more, for Heights. On: Steps.
-use Rattle.std.proofs.Common.{◌≡◌, ℕ, suc, ◌+◌, ◌<◌, ◌≤◌, List, [], ◌∷◌, ◌++◌, Option, Bool, true, false, cond, refl, ap, ◌∙◌, le_refl, eq-eqb, arith}
+use Rattle.std.proofs.Common.{◌≡◌, ℕ, suc, ◌+◌, ◌<◌, ◌≤◌, List, [], ◌∷◌, ◌++◌, Option, Bool, true, false, cond, refl, ap, ◌∙◌, le_refl}
+use Rattle.std.proofs.Common.{eq-eqb, arith}
 use Rattle.std.specs.Prelude.{nat_lt, ◌==◌}
 use Rattle.pytree_node.specs.Trees.{Expr, Stmt, Case, Handler}
 use Rattle.pytoken.specs.Inner.Behind.{behind}
 use Rattle.pygrammar.specs.Lines.{Line, line, header_form, Header}
-use Rattle.pygrammar.specs.Blocks.{Block, Statement, Body, Alternative, Otherwise, Excepts, Cases, Ending, Decorators, nothing, and_then, simple_line, if_statement, loop_statement, with_statement, try_finally, try_except, definition_of, match_statement, inline, indented, an_else, an_elif, no_else, else_clause, no_except, except_clause, no_case, case_clause, no_finally, finally_clause, no_decorator, decorator, Kind, ElifLine, ElseLine, kind_of, header_kind}
+use Rattle.pygrammar.specs.Blocks.{Block, Statement, Body, Alternative, Otherwise, Excepts, Cases, Ending, Decorators, nothing, and_then}
+use Rattle.pygrammar.specs.Blocks.{simple_line, if_statement, loop_statement, with_statement, try_finally, try_except, definition_of}
+use Rattle.pygrammar.specs.Blocks.{match_statement, inline, indented, an_else, an_elif, no_else, else_clause, no_except, except_clause}
+use Rattle.pygrammar.specs.Blocks.{no_case, case_clause, no_finally, finally_clause, no_decorator, decorator, Kind, ElifLine, ElseLine}
+use Rattle.pygrammar.specs.Blocks.{kind_of, header_kind}
 use Rattle.pygrammar.specs.Refusals.{elifs, own, around}
 use Rattle.pygrammar.proofs.Block.Steps.{not_less, is_less}
 
@@ -40,10 +45,13 @@ mutual
   statement_from {l} (if_statement {xs = xs} {ys = ys} p q) = (le_refl l, headed l xs ys (body_from p) (alternative_from q))
   statement_from {l} (loop_statement {xs = xs} {ys = ys} p q) = (le_refl l, headed l xs ys (body_from p) (otherwise_from q))
   statement_from {l} (with_statement {xs = xs} p) = (le_refl l, from_lower l xs (body_from p))
-  statement_from {l} (try_finally {xs = xs} {ys = ys} p q) = (le_refl l, headed l xs _ (body_from p) (le_refl l, from_lower l ys (body_from q)))
+  statement_from {l} (try_finally {xs = xs} {ys = ys} p q) =
+      (le_refl l, headed l xs _ (body_from p) (le_refl l, from_lower l ys (body_from q)))
   statement_from {l} (try_except {xs = xs} {ys = ys} {zs = zs} {ws = ws} p q o e) =
-      (le_refl l, headed l xs (ys ++ (zs ++ ws)) (body_from p) (from-append l ys (zs ++ ws) (excepts_from q) (from-append l zs ws (otherwise_from o) (ending_from e))))
-  statement_from {l} (definition_of head {ds = ds} {xs = xs} d p) = from-append l ds _ (decorators_from d) (le_refl l, from_lower l xs (body_from p))
+      (le_refl l, headed l xs (ys ++ (zs ++ ws)) (body_from p)
+          (from-append l ys (zs ++ ws) (excepts_from q) (from-append l zs ws (otherwise_from o) (ending_from e))))
+  statement_from {l} (definition_of head {ds = ds} {xs = xs} d p) = from-append l ds _ (decorators_from d) (le_refl l,
+      from_lower l xs (body_from p))
   statement_from {l} (match_statement {x = x} {xs = xs} p) = (le_refl l, from_lower l (x ∷ xs) (cases_from p))
 
   pub body_from : {l : ℕ} {suite : Option (List Stmt)} {xs : List Line} {ss : List Stmt} → Body l suite xs ss → AreFrom (suc l) xs
@@ -79,11 +87,14 @@ mutual
 -- a line that is no deeper than its header
 pub around_past : (l : ℕ) (x : Line) (earlier : List Line) → l ≤ x.level → around l (x ∷ earlier) ≡ around l earlier
 around_past l x earlier h =
-    ap (λ b. cond b (around x.level earlier + (elifs (kind_of x.form) x.level earlier + own (kind_of x.form))) (around l earlier)) (not_less x.level l h)
+    ap (λ b. cond b (around x.level earlier + (elifs (kind_of x.form) x.level earlier + own (kind_of x.form))) (around l earlier))
+        (not_less x.level l h)
 
-pub around_inside : (l : ℕ) (x : Line) (earlier : List Line) → x.level < l → around l (x ∷ earlier) ≡ around x.level earlier + (elifs (kind_of x.form) x.level earlier + own (kind_of x.form))
+pub around_inside : (l : ℕ) (x : Line) (earlier : List Line) → x.level < l → around l (x ∷ earlier) ≡ around x.level earlier +
+    (elifs (kind_of x.form) x.level earlier + own (kind_of x.form))
 around_inside l x earlier h =
-    ap (λ b. cond b (around x.level earlier + (elifs (kind_of x.form) x.level earlier + own (kind_of x.form))) (around l earlier)) (is_less x.level l h)
+    ap (λ b. cond b (around x.level earlier + (elifs (kind_of x.form) x.level earlier + own (kind_of x.form))) (around l earlier))
+        (is_less x.level l h)
 
 -- how the `elif`s are counted, by the last line that is no deeper
 abbrev by_last : ℕ → ℕ → ℕ → ℕ → ℕ
@@ -139,7 +150,8 @@ pub record After (l : ℕ) (h : Header) (earlier now : List Line) : Type 0 where
   pub elif_count : elifs ElifLine l now ≡ 1 + elifs (header_kind h) l earlier
   pub else_count : elifs ElseLine l now ≡ elifs (header_kind h) l earlier
 
-pub after_body : {l : ℕ} {suite : Option (List Stmt)} {xs : List Line} {ss : List Stmt} (h : Header) (earlier : List Line) → Body l suite xs ss →
+pub after_body : {l : ℕ} {suite : Option (List Stmt)} {xs : List Line} {ss : List Stmt} (h : Header) (earlier : List Line)
+    → Body l suite xs ss →
     After l h earlier (behind (line l (header_form h suite) ∷ earlier) xs)
 after_body {l} {suite} {xs} h earlier p =
     let x : Line = line l (header_form h suite) in

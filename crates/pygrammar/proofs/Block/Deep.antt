@@ -1,7 +1,8 @@
 -- Some line is the first that begins a statement too deep exactly where the module is too high.
 --
 -- Carries: formed_flat, formed_proper, deep_is_high, deep_within, for Blocks. On: Heights.
-use Rattle.std.proofs.Common.{◌≡◌, ◌↔◌, ◌⊎◌, inl, inr, ℕ, suc, ◌<◌, ◌≤◌, max, List, [], ◌∷◌, length, ◌+◌, Option, Some, None, Bool, true, false, ◌&&◌, refl, ap, ◌∙◌, arith}
+use Rattle.std.proofs.Common.{◌≡◌, ◌↔◌, ◌⊎◌, inl, inr, ℕ, suc, ◌<◌, ◌≤◌, max, List, [], ◌∷◌, length, ◌+◌, Option, Some, None, Bool, true}
+use Rattle.std.proofs.Common.{false, ◌&&◌, refl, ap, ◌∙◌, arith}
 use Rattle.std.specs.Prelude.{nat_lt}
 use borrow.Author.Tests.{ltb-true, ltb-false}
 use Rattle.pytree_node.specs.declared.profiles.Profile.{Profile}
@@ -38,11 +39,13 @@ place_flat (F.other_line n p) = form_flat p
 place_flat (F.case_alone w p) = tt
 place_flat (F.case_suite w p q) = simples_flat q
 
-pub formed_flat : {profile : Profile} {earlier : List Line} {xs : List Tokens.Line} {ys : List Line} → Formed profile earlier xs ys → AreFlat ys
+pub formed_flat : {profile : Profile} {earlier : List Line} {xs : List Tokens.Line} {ys : List Line}
+    → Formed profile earlier xs ys → AreFlat ys
 formed_flat formed_end = tt
 formed_flat (formed_line h p) = (place_flat h.is, formed_flat p)
 
-header_proper : {profile : Profile} {ts : List Terminal} {h : Header} → F.HeaderOf profile ts h → (ss : List Stmt) → is_proper (header_form h (Some ss)) ≡ true
+header_proper : {profile : Profile} {ts : List Terminal} {h : Header} → F.HeaderOf profile ts h → (ss : List Stmt)
+    → is_proper (header_form h (Some ss)) ≡ true
 header_proper (F.if_line p) ss = refl
 header_proper _ ss = refl
 
@@ -62,7 +65,8 @@ place_proper (F.other_line n p) = form_proper p
 place_proper (F.case_alone {h = h} w p) = alone_proper h
 place_proper (F.case_suite w (F.case_line form p g) q) = refl
 
-pub formed_proper : {profile : Profile} {earlier : List Line} {xs : List Tokens.Line} {ys : List Line} → Formed profile earlier xs ys → are_proper ys ≡ true
+pub formed_proper : {profile : Profile} {earlier : List Line} {xs : List Tokens.Line} {ys : List Line}
+    → Formed profile earlier xs ys → are_proper ys ≡ true
 formed_proper formed_end = refl
 formed_proper (formed_line {ys = ys} h p) = ap (λ z. z && are_proper ys) (place_proper h.is) ∙ formed_proper p
 
@@ -92,18 +96,22 @@ find_deep : (earlier xs : List Line) → 500 < deepest earlier xs → (n : ℕ) 
 find_deep earlier [] h = absurd (omega (arith, h))
 find_deep earlier (x ∷ xs) h = elim (deep_or_not (beginning x earlier)) [
   | inl d ↦ (0, deep d)
-  | inr d ↦ let r = find_deep (x ∷ earlier) xs (less_later (top (beginning x earlier)) (deepest (x ∷ earlier) xs) h d.1) in (suc r.0, deep_behind d.0 r.1)
+  | inr d ↦ let r = find_deep (x ∷ earlier) xs (less_later (top (beginning x earlier)) (deepest (x ∷ earlier) xs) h d.1) in
+      (suc r.0, deep_behind d.0 r.1)
 ]
 
 deep_found : {earlier xs : List Line} {n : ℕ} → FirstDeep earlier xs n → 500 < deepest earlier xs
-deep_found (deep {earlier = earlier} {x = x} {xs = xs} d) = less_left (top (beginning x earlier)) (deepest (x ∷ earlier) xs) (deep_top (beginning x earlier) d)
-deep_found (deep_behind {earlier = earlier} {x = x} {xs = xs} d p) = less_right (top (beginning x earlier)) (deepest (x ∷ earlier) xs) (deep_found p)
+deep_found (deep {earlier = earlier} {x = x} {xs = xs} d) = less_left (top (beginning x earlier)) (deepest (x ∷ earlier) xs)
+    (deep_top (beginning x earlier) d)
+deep_found (deep_behind {earlier = earlier} {x = x} {xs = xs} d p) =
+    less_right (top (beginning x earlier)) (deepest (x ∷ earlier) xs) (deep_found p)
 
 pub deep_within : {earlier xs : List Line} {n : ℕ} → FirstDeep earlier xs n → n < length xs
 deep_within (deep d) = omega arith
 deep_within (deep_behind d p) = let h = deep_within p in omega arith
 
-pub deep_is_high : {forms : List Line} {m : Module} → Block 0 forms m.body → AreFlat forms → ((n : ℕ) × FirstDeep [] forms n) ↔ (500 < statement_height m)
+pub deep_is_high : {forms : List Line} {m : Module} → Block 0 forms m.body → AreFlat forms
+    → ((n : ℕ) × FirstDeep [] forms n) ↔ (500 < statement_height m)
 deep_is_high {forms} {m} b f =
     let e : max 0 (deepest [] forms) ≡ 0 + statement_height m = (block_depth b [] 0 refl f).is in
     (λ p. omega (arith, e, deep_found p.1), λ h. find_deep [] forms (omega (arith, e, h)))

@@ -2,7 +2,8 @@
 --
 -- Carries: deep_by, first_deep_on, first_deep_kept, first_deep_here and 8 more, for
 -- Callers/DeepLines. On: FirstDeep, Deep, Depths, Heights.
-use Rattle.std.proofs.Common.{◌≡◌, inl, inr, ℕ, suc, ◌<◌, ◌≤◌, List, [], ◌∷◌, ◌++◌, length, Option, Some, None, Bool, true, false, cond, refl, sym, ap, ◌∙◌, subst}
+use Rattle.std.proofs.Common.{◌≡◌, inl, inr, ℕ, suc, ◌<◌, ◌≤◌, List, [], ◌∷◌, ◌++◌, length, Option, Some, None, Bool, true, false, cond}
+use Rattle.std.proofs.Common.{refl, sym, ap, ◌∙◌, subst}
 use Rattle.std.specs.Prelude.{nat_lt, option_map}
 use borrow.Author.Tests.{ltb-true, ltb-false}
 use Rattle.pytree_node.specs.Trees.{Module}
@@ -28,27 +29,35 @@ counted_once (Some n) deep next = refl
 counted_once None true next = refl
 counted_once None false next = refl
 
-deep_from : (ds : List Depth) (xs : List Line) (x : Line) → first_deep ds (xs ++ x ∷ []) ≡ deep_by (first_deep ds xs) (is_deep (innermost x (count ds xs))) (length xs)
+deep_from : (ds : List Depth) (xs : List Line) (x : Line) → first_deep ds (xs ++ x ∷ []) ≡ deep_by (first_deep ds xs)
+    (is_deep (innermost x (count ds xs))) (length xs)
 deep_from ds [] x = refl
 deep_from ds (y ∷ xs) x =
     elim (is_deep (innermost y ds)) as (λ b. cond b (Some 0) (option_map suc (first_deep (counted ds y) (xs ++ x ∷ [])))
-    ≡ deep_by (cond b (Some 0) (option_map suc (first_deep (counted ds y) xs))) (is_deep (innermost x (count (counted ds y) xs))) (suc (length xs))) [
+    ≡ deep_by (cond b (Some 0) (option_map suc (first_deep (counted ds y) xs)))
+        (is_deep (innermost x (count (counted ds y) xs))) (suc (length xs))) [
       | true ↦ refl
-      | false ↦ ap (option_map suc) (deep_from (counted ds y) xs x) ∙ counted_once (first_deep (counted ds y) xs) (is_deep (innermost x (count (counted ds y) xs))) (length xs)
+      | false ↦ ap (option_map suc) (deep_from (counted ds y) xs x)
+          ∙ counted_once (first_deep (counted ds y) xs) (is_deep (innermost x (count (counted ds y) xs))) (length xs)
     ]
 
-pub first_deep_on : (xs : List Line) (x : Line) → first_deep [] (xs ++ x ∷ []) ≡ deep_by (first_deep [] xs) (is_deep (innermost x (count [] xs))) (length xs)
+pub first_deep_on : (xs : List Line) (x : Line) → first_deep [] (xs ++ x ∷ []) ≡ deep_by (first_deep [] xs)
+    (is_deep (innermost x (count [] xs))) (length xs)
 first_deep_on = deep_from []
 
 -- by cases: it was found, it is this line, there is none yet
 pub first_deep_kept : (xs : List Line) (x : Line) (n : ℕ) → first_deep [] xs ≡ Some n → first_deep [] (xs ++ x ∷ []) ≡ Some n
 first_deep_kept xs x n h = first_deep_on xs x ∙ ap (λ o. deep_by o (is_deep (innermost x (count [] xs))) (length xs)) h
 
-pub first_deep_here : (xs : List Line) (x : Line) → first_deep [] xs ≡ None → is_deep (innermost x (count [] xs)) ≡ true → first_deep [] (xs ++ x ∷ []) ≡ Some (length xs)
-first_deep_here xs x h d = first_deep_on xs x ∙ ap (λ o. deep_by o (is_deep (innermost x (count [] xs))) (length xs)) h ∙ ap (λ b. deep_by None b (length xs)) d
+pub first_deep_here : (xs : List Line) (x : Line) → first_deep [] xs ≡ None → is_deep (innermost x (count [] xs)) ≡ true
+    → first_deep [] (xs ++ x ∷ []) ≡ Some (length xs)
+first_deep_here xs x h d = first_deep_on xs x ∙ ap (λ o. deep_by o (is_deep (innermost x (count [] xs))) (length xs)) h
+    ∙ ap (λ b. deep_by None b (length xs)) d
 
-pub first_deep_none : (xs : List Line) (x : Line) → first_deep [] xs ≡ None → is_deep (innermost x (count [] xs)) ≡ false → first_deep [] (xs ++ x ∷ []) ≡ None
-first_deep_none xs x h d = first_deep_on xs x ∙ ap (λ o. deep_by o (is_deep (innermost x (count [] xs))) (length xs)) h ∙ ap (λ b. deep_by None b (length xs)) d
+pub first_deep_none : (xs : List Line) (x : Line) → first_deep [] xs ≡ None → is_deep (innermost x (count [] xs)) ≡ false
+    → first_deep [] (xs ++ x ∷ []) ≡ None
+first_deep_none xs x h d = first_deep_on xs x ∙ ap (λ o. deep_by o (is_deep (innermost x (count [] xs))) (length xs)) h
+    ∙ ap (λ b. deep_by None b (length xs)) d
 
 -- ---- As the definition has it.
 
@@ -63,10 +72,12 @@ pub none_deep : (xs : List Line) → first_deep [] xs ≡ None → (n : ℕ) →
 none_deep = no_deep_found []
 
 -- the next line is the first, or there is none
-pub deep_here : (xs : List Line) (x : Line) → ((n : ℕ) → FirstDeep [] xs n → ⊥) → is_deep (innermost x (count [] xs)) ≡ true → FirstDeep [] (xs ++ x ∷ []) (length xs)
+pub deep_here : (xs : List Line) (x : Line) → ((n : ℕ) → FirstDeep [] xs n → ⊥) → is_deep (innermost x (count [] xs)) ≡ true
+    → FirstDeep [] (xs ++ x ∷ []) (length xs)
 deep_here xs x none d = deep_last [] xs x none (subst IsDeep (innermost_on xs x) (deep_is (innermost x (count [] xs)) d))
 
-pub deep_not_here : (xs : List Line) (x : Line) → ((n : ℕ) → FirstDeep [] xs n → ⊥) → is_deep (innermost x (count [] xs)) ≡ false → (n : ℕ) → FirstDeep [] (xs ++ x ∷ []) n → ⊥
+pub deep_not_here : (xs : List Line) (x : Line) → ((n : ℕ) → FirstDeep [] xs n → ⊥) → is_deep (innermost x (count [] xs)) ≡ false → (n : ℕ)
+    → FirstDeep [] (xs ++ x ∷ []) n → ⊥
 deep_not_here xs x none d n p = elim (deep_parts [] xs x p) [
   | inl q ↦ none q.0 q.1
   | inr q ↦ not_deep (innermost x (count [] xs)) d (subst IsDeep (sym (innermost_on xs x)) q)
@@ -74,11 +85,14 @@ deep_not_here xs x none d n p = elim (deep_parts [] xs x p) [
 
 -- ---- The height of the lines' module.
 
-pub deep_high : {forms : List Line} {m : Module} (n : ℕ) → Block 0 forms m.body → AreFlat forms → FirstDeep [] forms n → 500 < statement_height m
+pub deep_high : {forms : List Line} {m : Module} (n : ℕ) → Block 0 forms m.body → AreFlat forms → FirstDeep [] forms n
+    → 500 < statement_height m
 deep_high n b f d = (deep_is_high b f).0 (n, d)
 
-pub none_high : {forms : List Line} {m : Module} → Block 0 forms m.body → AreFlat forms → ((n : ℕ) → FirstDeep [] forms n → ⊥) → statement_height m ≤ 500
-none_high {forms} {m} b f none = elim (nat_lt 500 (statement_height m)) as (λ b. nat_lt 500 (statement_height m) ≡ b → statement_height m ≤ 500) [
+pub none_high : {forms : List Line} {m : Module} → Block 0 forms m.body → AreFlat forms → ((n : ℕ) → FirstDeep [] forms n → ⊥)
+    → statement_height m ≤ 500
+none_high {forms} {m} b f none = elim (nat_lt 500 (statement_height m)) as (λ b. nat_lt 500 (statement_height m) ≡ b
+    → statement_height m ≤ 500) [
   | true ↦ λ e. let found = (deep_is_high b f).1 (ltb-true 500 (statement_height m) e) in absurd (none found.0 found.1)
   | false ↦ λ e. ltb-false 500 (statement_height m) e
 ] refl

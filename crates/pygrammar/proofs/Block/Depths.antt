@@ -1,7 +1,8 @@
 -- What is kept line by line is what the earlier lines say.
 --
 -- Carries: count_on, innermost_on, depths, count_is and 6 more, for Blocks. On: Steps.
-use Rattle.std.proofs.Common.{◌≡◌, ℕ, ◌+◌, ◌<◌, ◌≤◌, List, [], ◌∷◌, ◌++◌, Some, None, true, false, cond, refl, sym, ap, ◌∙◌, eqb-true, length, Bool, suc, arith}
+use Rattle.std.proofs.Common.{◌≡◌, ℕ, ◌+◌, ◌<◌, ◌≤◌, List, [], ◌∷◌, ◌++◌, Some, None, true, false, cond, refl, sym, ap, ◌∙◌, eqb-true}
+use Rattle.std.proofs.Common.{length, Bool, suc, arith}
 use Rattle.std.specs.Prelude.{nat_lt, ◌==◌}
 use borrow.Author.Tests.{ltb-true, ltb-false}
 use Rattle.pytoken.specs.Inner.Behind.{behind}
@@ -28,7 +29,8 @@ count_on ds (y ∷ xs) x = count_on (counted ds y) xs x
 
 round_under : (l m : ℕ) → l ≤ m → (ds : List Depth) → round_at l (under m ds) ≡ round_at l ds
 round_under l m h [] = refl
-round_under l m h (d ∷ ds) = elim (nat_lt d.level m) as (λ b. nat_lt d.level m ≡ b → round_at l (cond b (d ∷ ds) (under m ds)) ≡ round_at l (d ∷ ds)) [
+round_under l m h (d ∷ ds) = elim (nat_lt d.level m) as (λ b. nat_lt d.level m ≡ b
+    → round_at l (cond b (d ∷ ds) (under m ds)) ≡ round_at l (d ∷ ds)) [
   | true ↦ λ e. refl
   | false ↦ λ e.
       let k : m ≤ d.level = ltb-false d.level m e in
@@ -37,30 +39,36 @@ round_under l m h (d ∷ ds) = elim (nat_lt d.level m) as (λ b. nat_lt d.level 
 
 elif_under : (l m : ℕ) → l < m → (ds : List Depth) → arms_at ElifLine l (under m ds) ≡ arms_at ElifLine l ds
 elif_under l m h [] = refl
-elif_under l m h (d ∷ ds) = elim (nat_lt d.level m) as (λ b. nat_lt d.level m ≡ b → arms_at ElifLine l (cond b (d ∷ ds) (under m ds)) ≡ arms_at ElifLine l (d ∷ ds)) [
+elif_under l m h (d ∷ ds) = elim (nat_lt d.level m) as (λ b. nat_lt d.level m ≡ b → arms_at ElifLine l (cond b (d ∷ ds) (under m ds)) ≡
+    arms_at ElifLine l (d ∷ ds)) [
   | true ↦ λ e. refl
   | false ↦ λ e.
       let k : m ≤ d.level = ltb-false d.level m e in
-      elif_under l m h ds ∙ sym (ap (λ b. cond b (arms_at ElifLine l ds) (cond (d.level == l) (1 + d.arms) 0)) (is_less l d.level (omega (arith, h, k))))
+      elif_under l m h ds ∙ sym (ap (λ b. cond b (arms_at ElifLine l ds) (cond (d.level == l) (1 + d.arms) 0))
+          (is_less l d.level (omega (arith, h, k))))
 ] refl
 
 else_under : (l m : ℕ) → l < m → (ds : List Depth) → arms_at ElseLine l (under m ds) ≡ arms_at ElseLine l ds
 else_under l m h [] = refl
-else_under l m h (d ∷ ds) = elim (nat_lt d.level m) as (λ b. nat_lt d.level m ≡ b → arms_at ElseLine l (cond b (d ∷ ds) (under m ds)) ≡ arms_at ElseLine l (d ∷ ds)) [
+else_under l m h (d ∷ ds) = elim (nat_lt d.level m) as (λ b. nat_lt d.level m ≡ b → arms_at ElseLine l (cond b (d ∷ ds) (under m ds)) ≡
+    arms_at ElseLine l (d ∷ ds)) [
   | true ↦ λ e. refl
   | false ↦ λ e.
       let k : m ≤ d.level = ltb-false d.level m e in
-      else_under l m h ds ∙ sym (ap (λ b. cond b (arms_at ElseLine l ds) (cond (d.level == l) d.arms 0)) (is_less l d.level (omega (arith, h, k))))
+      else_under l m h ds ∙ sym (ap (λ b. cond b (arms_at ElseLine l ds) (cond (d.level == l) d.arms 0))
+          (is_less l d.level (omega (arith, h, k))))
 ] refl
 
 -- ---- After any lines.
 
 -- a test of levels, on both sides
 same_here : (l m : ℕ) (f g : ℕ → ℕ) → (m ≡ l → f m ≡ g l) → cond (m == l) (f m) 0 ≡ cond (m == l) (g l) 0
-same_here l m f g h = elim (m == l) as (λ b. m == l ≡ b → cond b (f m) 0 ≡ cond b (g l) 0) [ true ↦ λ e. h (eqb-true m l e) | false ↦ λ e. refl ] refl
+same_here l m f g h = elim (m == l) as (λ b. m == l ≡ b → cond b (f m) 0 ≡ cond b (g l) 0) [ true ↦ λ e. h (eqb-true m l e)
+    | false ↦ λ e. refl ] refl
 
 same_past : (l m a b c d : ℕ) → (l < m → a ≡ b) → c ≡ d → cond (nat_lt l m) a c ≡ cond (nat_lt l m) b d
-same_past l m a b c d h k = elim (nat_lt l m) as (λ t. nat_lt l m ≡ t → cond t a c ≡ cond t b d) [ true ↦ λ e. h (ltb-true l m e) | false ↦ λ e. k ] refl
+same_past l m a b c d h k = elim (nat_lt l m) as (λ t. nat_lt l m ≡ t → cond t a c ≡ cond t b d)
+    [ true ↦ λ e. h (ltb-true l m e) | false ↦ λ e. k ] refl
 
 pub arms_are : (k : Kind) (l : ℕ) (earlier : List Line) → arms_at k l (depths earlier) ≡ elifs k l earlier
 arms_are k l [] = refl
@@ -80,12 +88,15 @@ round_is l (x ∷ earlier) =
     let ds = depths earlier in
     let k = kind_of x.form in
     elim (nat_lt x.level l) as (λ b. nat_lt x.level l ≡ b →
-    cond b (round_at x.level ds + (arms_at k x.level ds + own k)) (round_at l (under x.level ds)) ≡ cond b (around x.level earlier + (elifs k x.level earlier + own k)) (around l earlier)) [
-      | true ↦ λ e. ap (λ z. z + (arms_at k x.level ds + own k)) (round_is x.level earlier) ∙ ap (λ z. around x.level earlier + (z + own k)) (arms_are k x.level earlier)
+    cond b (round_at x.level ds + (arms_at k x.level ds + own k)) (round_at l (under x.level ds)) ≡ cond b
+        (around x.level earlier + (elifs k x.level earlier + own k)) (around l earlier)) [
+      | true ↦ λ e. ap (λ z. z + (arms_at k x.level ds + own k)) (round_is x.level earlier)
+          ∙ ap (λ z. around x.level earlier + (z + own k)) (arms_are k x.level earlier)
       | false ↦ λ e. round_under l x.level (ltb-false x.level l e) ds ∙ round_is l earlier
     ] refl
 
-begins_is : (l : ℕ) (f : Form) (earlier : List Line) → begins (around l earlier) (elifs (kind_of f) l earlier) f ≡ beginning (line l f) earlier
+begins_is : (l : ℕ) (f : Form) (earlier : List Line) → begins (around l earlier) (elifs (kind_of f) l earlier) f ≡
+    beginning (line l f) earlier
 begins_is l (simple_form ss) earlier = refl
 begins_is l (decorator_form e) earlier = refl
 begins_is l (header_form h None) earlier = refl
@@ -129,18 +140,24 @@ own_most _ = omega arith
 pub within_lines : (k : Kind) (l : ℕ) (earlier : List Line) → around l earlier + elifs k l earlier ≤ length earlier
 within_lines k l [] = omega arith
 within_lines ElifLine l (x ∷ earlier) =
-    beside l x.level (around x.level earlier) (elifs (kind_of x.form) x.level earlier) (own (kind_of x.form)) (around l earlier) (elifs ElifLine l earlier) (elifs (kind_of x.form) l earlier) (length earlier) _ _ _ refl refl refl
-    (own_most (kind_of x.form)) (within_lines (kind_of x.form) x.level earlier) (within_lines ElifLine l earlier) (within_lines (kind_of x.form) l earlier)
+    beside l x.level (around x.level earlier) (elifs (kind_of x.form) x.level earlier) (own (kind_of x.form)) (around l earlier)
+        (elifs ElifLine l earlier) (elifs (kind_of x.form) l earlier) (length earlier) _ _ _ refl refl refl
+    (own_most (kind_of x.form)) (within_lines (kind_of x.form) x.level earlier) (within_lines ElifLine l earlier)
+        (within_lines (kind_of x.form) l earlier)
 within_lines ElseLine l (x ∷ earlier) =
     fewer l x.level _ _ _ _ (nat_lt l x.level) (x.level == l)
-    (beside l x.level (around x.level earlier) (elifs (kind_of x.form) x.level earlier) (own (kind_of x.form)) (around l earlier) (elifs ElseLine l earlier) (elifs (kind_of x.form) l earlier) (length earlier) _ _ _ refl refl refl
-    (own_most (kind_of x.form)) (within_lines (kind_of x.form) x.level earlier) (within_lines ElseLine l earlier) (within_lines (kind_of x.form) l earlier))
+    (beside l x.level (around x.level earlier) (elifs (kind_of x.form) x.level earlier) (own (kind_of x.form)) (around l earlier)
+        (elifs ElseLine l earlier) (elifs (kind_of x.form) l earlier) (length earlier) _ _ _ refl refl refl
+    (own_most (kind_of x.form)) (within_lines (kind_of x.form) x.level earlier) (within_lines ElseLine l earlier)
+        (within_lines (kind_of x.form) l earlier))
 within_lines k l (x ∷ earlier) =
     let h = within_lines k l earlier in
-    alone (around x.level earlier) (elifs (kind_of x.form) x.level earlier) (own (kind_of x.form)) (around l earlier) (length earlier) (nat_lt x.level l)
+    alone (around x.level earlier) (elifs (kind_of x.form) x.level earlier) (own (kind_of x.form)) (around l earlier)
+        (length earlier) (nat_lt x.level l)
     (own_most (kind_of x.form)) (within_lines (kind_of x.form) x.level earlier) (omega (arith, h))
 
-pub depth_within : (x : Line) (earlier : List Line) → (depth_of x (depths earlier)).round + (depth_of x (depths earlier)).arms ≤ length earlier
+pub depth_within : (x : Line) (earlier : List Line)
+    → (depth_of x (depths earlier)).round + (depth_of x (depths earlier)).arms ≤ length earlier
 depth_within x earlier =
     let a = round_is x.level earlier in
     let b = arms_are (kind_of x.form) x.level earlier in

@@ -2,7 +2,8 @@
 -- more lines do not change it.
 --
 -- Carries: deep_is, not_deep, first_deep_found, no_deep_found and 4 more, for Blocks. On: Depths.
-use Rattle.std.proofs.Common.{◌≡◌, ◌⊎◌, inl, inr, ℕ, zero, suc, List, [], ◌∷◌, ◌++◌, length, Option, Some, None, Bool, true, false, cond, refl, sym, ap, subst, leb-true, leb-false, arith}
+use Rattle.std.proofs.Common.{◌≡◌, ◌⊎◌, inl, inr, ℕ, zero, suc, List, [], ◌∷◌, ◌++◌, length, Option, Some, None, Bool, true, false, cond}
+use Rattle.std.proofs.Common.{refl, sym, ap, subst, leb-true, leb-false, arith}
 use Rattle.std.specs.Prelude.{option_map}
 use Rattle.pytoken.specs.Inner.Behind.{behind}
 use Rattle.pygrammar.specs.Lines.{Line}
@@ -44,11 +45,13 @@ found_by earlier x xs true e ih n h =
     let i : 0 ≡ n = ap number h in
     subst P i (deep (subst IsDeep (innermost_is x earlier) (deep_is _ e)))
 found_by earlier x xs false e ih zero h = absurd (no_number _ h)
-found_by earlier x xs false e ih (suc n) h = deep_behind (λ d. not_deep _ e (subst IsDeep (sym (innermost_is x earlier)) d)) (ih n (next_number _ n h))
+found_by earlier x xs false e ih (suc n) h = deep_behind (λ d. not_deep _ e (subst IsDeep (sym (innermost_is x earlier)) d))
+    (ih n (next_number _ n h))
 
 pub first_deep_found : (earlier xs : List Line) (n : ℕ) → first_deep (depths earlier) xs ≡ Some n → FirstDeep earlier xs n
 first_deep_found earlier [] n h = absurd cc
-first_deep_found earlier (x ∷ xs) n h = found_by earlier x xs (is_deep (innermost x (depths earlier))) refl (first_deep_found (x ∷ earlier) xs) n h
+first_deep_found earlier (x ∷ xs) n h = found_by earlier x xs (is_deep (innermost x (depths earlier))) refl
+    (first_deep_found (x ∷ earlier) xs) n h
 
 none_by : (earlier : List Line) (x : Line) (xs : List Line) (b : Bool) → is_deep (innermost x (depths earlier)) ≡ b →
     (first_deep (depths (x ∷ earlier)) xs ≡ None → (n : ℕ) → FirstDeep (x ∷ earlier) xs n → ⊥) →
@@ -59,7 +62,8 @@ none_by earlier x xs false e ih h n (deep_behind {n = m} c p) = ih (no_next _ h)
 
 pub no_deep_found : (earlier xs : List Line) → first_deep (depths earlier) xs ≡ None → (n : ℕ) → FirstDeep earlier xs n → ⊥
 no_deep_found earlier [] h n p = elim p [ ]
-no_deep_found earlier (x ∷ xs) h n p = none_by earlier x xs (is_deep (innermost x (depths earlier))) refl (no_deep_found (x ∷ earlier) xs) h n p
+no_deep_found earlier (x ∷ xs) h n p = none_by earlier x xs (is_deep (innermost x (depths earlier))) refl
+    (no_deep_found (x ∷ earlier) xs) h n p
 
 -- ---- It is one alone.
 
@@ -75,13 +79,16 @@ pub deep_more : {earlier xs : List Line} {n : ℕ} → FirstDeep earlier xs n �
 deep_more (deep d) more = deep d
 deep_more (deep_behind c p) more = deep_behind c (deep_more p more)
 
-pub deep_last : (earlier xs : List Line) (x : Line) → ((n : ℕ) → FirstDeep earlier xs n → ⊥) → IsDeep (beginning x (behind earlier xs)) → FirstDeep earlier (xs ++ x ∷ []) (length xs)
+pub deep_last : (earlier xs : List Line) (x : Line) → ((n : ℕ) → FirstDeep earlier xs n → ⊥) → IsDeep (beginning x (behind earlier xs))
+    → FirstDeep earlier (xs ++ x ∷ []) (length xs)
 deep_last earlier [] x none d = deep d
 deep_last earlier (y ∷ xs) x none d =
     deep_behind (λ e. none 0 (deep e)) (deep_last (y ∷ earlier) xs x (λ n p. none (suc n) (deep_behind (λ e. none 0 (deep e)) p)) d)
 
-pub deep_parts : (earlier xs : List Line) (x : Line) {n : ℕ} → FirstDeep earlier (xs ++ x ∷ []) n → ((m : ℕ) × FirstDeep earlier xs m) ⊎ IsDeep (beginning x (behind earlier xs))
+pub deep_parts : (earlier xs : List Line) (x : Line) {n : ℕ} → FirstDeep earlier (xs ++ x ∷ []) n
+    → ((m : ℕ) × FirstDeep earlier xs m) ⊎ IsDeep (beginning x (behind earlier xs))
 deep_parts earlier [] x (deep d) = inr d
 deep_parts earlier [] x (deep_behind c p) = elim p [ ]
 deep_parts earlier (y ∷ xs) x (deep d) = inl (0, deep d)
-deep_parts earlier (y ∷ xs) x (deep_behind c p) = elim (deep_parts (y ∷ earlier) xs x p) [ inl r ↦ inl (suc r.0, deep_behind c r.1) | inr d ↦ inr d ]
+deep_parts earlier (y ∷ xs) x (deep_behind c p) =
+    elim (deep_parts (y ∷ earlier) xs x p) [ inl r ↦ inl (suc r.0, deep_behind c r.1) | inr d ↦ inr d ]

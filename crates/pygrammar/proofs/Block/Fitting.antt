@@ -4,12 +4,16 @@
 -- Law. On: Standing, Growing, Nested.
 use Rattle.std.proofs.Common.{◌≡◌, List, [], ◌∷◌, Option, Some, None, Bool, true, false, cond, refl, sym, ap, ◌∙◌}
 use Rattle.pytree_node.specs.Trees.{Expr, Identifier, Pattern, Stmt, Handler}
-use Rattle.pygrammar.specs.Lines.{Line, Header, if_header, elif_header, else_header, loop_header, with_header, try_header, except_header, finally_header, def_header, match_header, case_header, DefHead}
-use Rattle.pygrammar.specs.Blocks.{Kind, DecoratorLine, IfLine, LoopLine, WithLine, TryLine, DefLine, MatchLine, header_kind, kind_of, same_bool, is_try_clause, is_decorated, is_case}
-use Rattle.pygrammar.specs.Reading.{Group, Idle, Marked, Choice, Loop, Trial, Caught, Settled, Matching, closes, Part, part, ended, meets, grows, decorated, first_group}
+use Rattle.pygrammar.specs.Lines.{Line, Header, if_header, elif_header, else_header, loop_header, with_header, try_header, except_header}
+use Rattle.pygrammar.specs.Lines.{finally_header, def_header, match_header, case_header, DefHead}
+use Rattle.pygrammar.specs.Blocks.{Kind, DecoratorLine, IfLine, LoopLine, WithLine, TryLine, DefLine, MatchLine, header_kind, kind_of}
+use Rattle.pygrammar.specs.Blocks.{same_bool, is_try_clause, is_decorated, is_case}
+use Rattle.pygrammar.specs.Reading.{Group, Idle, Marked, Choice, Loop, Trial, Caught, Settled, Matching, closes, Part, part, ended, meets}
+use Rattle.pygrammar.specs.Reading.{grows, decorated, first_group}
 use Rattle.pygrammar.proofs.Block.Growing.{ended_of}
 use Rattle.pygrammar.proofs.Block.Nested.{is_matching}
-use Rattle.pygrammar.proofs.Block.Standing.{Standing, Free, AfterIf, AfterLoop, AfterTry, AfterExcept, AfterSettled, AfterDecorator, after, stand, admits}
+use Rattle.pygrammar.proofs.Block.Standing.{Standing, Free, AfterIf, AfterLoop, AfterTry, AfterExcept, AfterSettled, AfterDecorator, after}
+use Rattle.pygrammar.proofs.Block.Standing.{stand, admits}
 
 -- ---- What groups take.
 
@@ -33,7 +37,8 @@ unmarked_else : (g : Group) (body : List Stmt) → is_marked (grows g else_heade
 unmarked_else Idle body = refl
 unmarked_else _ body = refl
 
-unmarked_except : (g : Group) (s : Bool) (m : Option Expr) (n : Option Identifier) (body : List Stmt) → is_marked (grows g (except_header s m n) body).group ≡ false
+unmarked_except : (g : Group) (s : Bool) (m : Option Expr) (n : Option Identifier) (body : List Stmt)
+    → is_marked (grows g (except_header s m n) body).group ≡ false
 unmarked_except Idle s m n body = refl
 unmarked_except _ s m n body = refl
 
@@ -45,7 +50,8 @@ unmarked_def : (g : Group) (t : DefHead) (body : List Stmt) → is_marked (grows
 unmarked_def Idle t body = refl
 unmarked_def _ t body = refl
 
-unmarked_case : (g : Group) (q : Pattern) (guard : Option Expr) (body : List Stmt) → is_marked (grows g (case_header q guard) body).group ≡ false
+unmarked_case : (g : Group) (q : Pattern) (guard : Option Expr) (body : List Stmt)
+    → is_marked (grows g (case_header q guard) body).group ≡ false
 unmarked_case Idle q guard body = refl
 unmarked_case _ q guard body = refl
 
@@ -74,23 +80,30 @@ pub no_decorator_header : (h : Header) → is_decorator (header_kind h) ≡ fals
 no_decorator_header (if_header _) = refl
 no_decorator_header _ = refl
 
-stands_new : (g : Group) (h : Header) (p : Part) (body : List Stmt) (s : Standing) → ended g ≡ Some p → stand (grows Idle h body).group ≡ s → stand (grows p.group h body).group ≡ s
+stands_new : (g : Group) (h : Header) (p : Part) (body : List Stmt) (s : Standing) → ended g ≡ Some p → stand (grows Idle h body).group ≡ s
+    → stand (grows p.group h body).group ≡ s
 stands_new g h p body s e k =
     let n = ended_of g p (closes g) refl e in
     let i : part n.more Idle ≡ p = cc (n.is) in
     ap (λ z. stand (grows z.group h body).group) (sym i) ∙ k
 
-stands_on : (g : Group) (h : Header) (p : Part) (body : List Stmt) (s : Standing) → Some (part [] g) ≡ Some p → stand (grows g h body).group ≡ s → stand (grows p.group h body).group ≡ s
+stands_on : (g : Group) (h : Header) (p : Part) (body : List Stmt) (s : Standing) → Some (part [] g) ≡ Some p
+    → stand (grows g h body).group ≡ s → stand (grows p.group h body).group ≡ s
 stands_on g h p body s e k = let i : part [] g ≡ p = cc in ap (λ z. stand (grows z.group h body).group) (sym i) ∙ k
 
-stands_except : (other star : Bool) (first : List Stmt) (hs : List Handler) (m : Option Expr) (name : Option Identifier) (p : Part) (body : List Stmt) →
-    cond (same_bool other star) (Some (part [] (Caught star first hs))) None ≡ Some p → stand (grows p.group (except_header other m name) body).group ≡ AfterExcept other
-stands_except true true first hs m name p body e = stands_on (Caught true first hs) (except_header true m name) p body (AfterExcept true) e refl
-stands_except false false first hs m name p body e = stands_on (Caught false first hs) (except_header false m name) p body (AfterExcept false) e refl
+stands_except : (other star : Bool) (first : List Stmt) (hs : List Handler) (m : Option Expr) (name : Option Identifier)
+    (p : Part) (body : List Stmt) →
+    cond (same_bool other star) (Some (part [] (Caught star first hs))) None ≡ Some p
+        → stand (grows p.group (except_header other m name) body).group ≡ AfterExcept other
+stands_except true true first hs m name p body e = stands_on (Caught true first hs) (except_header true m name) p body
+    (AfterExcept true) e refl
+stands_except false false first hs m name p body e = stands_on (Caught false first hs) (except_header false m name) p body
+    (AfterExcept false) e refl
 stands_except true false first hs m name p body e = cc
 stands_except false true first hs m name p body e = cc
 
-pub grows_stands : (g : Group) (h : Header) (p : Part) (body : List Stmt) → meets g h ≡ Some p → stand (grows p.group h body).group ≡ after (header_kind h) (stand g)
+pub grows_stands : (g : Group) (h : Header) (p : Part) (body : List Stmt) → meets g h ≡ Some p
+    → stand (grows p.group h body).group ≡ after (header_kind h) (stand g)
 grows_stands g (if_header t) p body e = stands_new g (if_header t) p body AfterIf e refl
 grows_stands g (loop_header t) p body e = stands_new g (loop_header t) p body AfterLoop e refl
 grows_stands g (with_header a t) p body e = stands_new g (with_header a t) p body Free e refl
@@ -124,7 +137,8 @@ pub data Wrong (k : Kind) (g : Group) : Type 0 where
   wrong_decorator : stand g ≡ AfterDecorator → is_decorated k ≡ false → Wrong k g
   wrong_place : same_bool (is_matching g) (is_case k) ≡ false → Wrong k g
 
-pub fits_closed : (g : Group) (more : List Stmt) (k : Kind) → closes g ≡ Some more → admits k (stand g) ≡ true → is_case k ≡ false → Fits k g
+pub fits_closed : (g : Group) (more : List Stmt) (k : Kind) → closes g ≡ Some more → admits k (stand g) ≡ true
+    → is_case k ≡ false → Fits k g
 fits_closed (Marked es) more k e h c = cc
 fits_closed (Trial b) more k e h c = cc
 fits_closed (Matching cs) more k e h c = cc
@@ -133,13 +147,15 @@ fits_closed g more k e h c = record { follows = h; tries = λ i. cc; decorates =
 fits_ended : (g : Group) (p : Part) (k : Kind) → ended g ≡ Some p → admits k (stand g) ≡ true → is_case k ≡ false → Fits k g
 fits_ended g p k e h c = let n = ended_of g p (closes g) refl e in fits_closed g n.more k n.closed h c
 
-pub wrong_closed : (g : Group) (k : Kind) → closes g ≡ None → is_try_clause k ≡ false → is_decorated k ≡ false → is_case k ≡ false → Wrong k g
+pub wrong_closed : (g : Group) (k : Kind) → closes g ≡ None → is_try_clause k ≡ false → is_decorated k ≡ false
+    → is_case k ≡ false → Wrong k g
 wrong_closed (Marked es) k e t d c = wrong_decorator refl d
 wrong_closed (Trial b) k e t d c = wrong_try refl t
 wrong_closed (Matching cs) k e t d c = wrong_place (ap (same_bool true) c)
 wrong_closed g k e t d c = cc
 
-not_ended : (g : Group) (o : Option (List Stmt)) → closes g ≡ o → ◌≡◌ {A = Option Part} (elim o [ None ↦ None | Some ss ↦ Some (part ss Idle) ]) None → closes g ≡ None
+not_ended : (g : Group) (o : Option (List Stmt)) → closes g ≡ o
+    → ◌≡◌ {A = Option Part} (elim o [ None ↦ None | Some ss ↦ Some (part ss Idle) ]) None → closes g ≡ None
 not_ended g None c e = c
 not_ended g (Some ss) c e = cc
 
@@ -169,7 +185,8 @@ fits_header (Choice arms) else_header p e = record { follows = refl; tries = λ 
 fits_header (Loop h b) else_header p e = record { follows = refl; tries = λ i. cc; decorates = λ i. cc; placed = refl }
 fits_header (Caught s b hs) else_header p e = record { follows = refl; tries = λ i. cc; decorates = λ i. cc; placed = refl }
 fits_header (Trial b) (except_header s m n) p e = record { follows = refl; tries = λ i. refl; decorates = λ i. cc; placed = refl }
-fits_header (Caught s b hs) (except_header other m n) p e = record { follows = right_kind other s (part [] (Caught s b hs)) p e; tries = λ i. refl; decorates = λ i. cc; placed = refl }
+fits_header (Caught s b hs) (except_header other m n) p e = record { follows = right_kind other s (part [] (Caught s b hs)) p e; tries =
+    λ i. refl; decorates = λ i. cc; placed = refl }
 fits_header (Trial b) finally_header p e = record { follows = refl; tries = λ i. refl; decorates = λ i. cc; placed = refl }
 fits_header (Caught s b hs) finally_header p e = record { follows = refl; tries = λ i. refl; decorates = λ i. cc; placed = refl }
 fits_header (Settled s b hs o) finally_header p e = record { follows = refl; tries = λ i. refl; decorates = λ i. cc; placed = refl }

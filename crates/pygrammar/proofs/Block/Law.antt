@@ -3,23 +3,33 @@
 --
 -- Carries: tree_faultless, no_first, Finds, read_finds and 2 more, for SourceLaw, Reasons, Answer,
 -- LineMore and 2 more. On: Fitting, Settling, Standing, Nested and 2 more.
-use Rattle.std.proofs.Common.{◌≡◌, ℕ, suc, ◌≤◌, List, [], ◌∷◌, ◌++◌, length, Option, Some, None, true, false, cond, refl, sym, ap, ◌∙◌, subst, arith, ◌⊎◌, inl, inr}
+use Rattle.std.proofs.Common.{◌≡◌, ℕ, suc, ◌≤◌, List, [], ◌∷◌, ◌++◌, length, Option, Some, None, true, false, cond, refl, sym, ap, ◌∙◌}
+use Rattle.std.proofs.Common.{subst, arith, ◌⊎◌, inl, inr}
 use Rattle.std.specs.Prelude.{nat_lt}
 use borrow.Author.Tests.{ltb-true, ltb-false}
 use Rattle.pytree_node.specs.Trees.{Expr, Stmt}
 use Rattle.pygrammar.specs.Lines.{Line, line, Form, simple_form, decorator_form, header_form, Header, are_proper, opens}
-use Rattle.pygrammar.specs.Blocks.{Block, Fault, ExpectedIndent, UnexpectedIndent, MisplacedClause, Kind, SimpleLine, DecoratorLine, EndLine, header_kind, kind_of, IsClear, IsFault, IsFaultless, clear_end, clear_line, FirstFault, fault_at_end, fault_at, fault_behind}
-use Rattle.pygrammar.specs.Reading.{Answer, Fine, Faulty, then, Group, Idle, Marked, closes, Part, part, meets, decorated, or_misplaced, place_header, Waiting, waiting, State, state, start, joined, first_group, settle, place, placed, step, run, stops, finish, read}
+use Rattle.pygrammar.specs.Blocks.{Block, Fault, ExpectedIndent, UnexpectedIndent, MisplacedClause, Kind, SimpleLine, DecoratorLine}
+use Rattle.pygrammar.specs.Blocks.{EndLine, header_kind, kind_of, IsClear, IsFault, IsFaultless, clear_end, clear_line, FirstFault}
+use Rattle.pygrammar.specs.Blocks.{fault_at_end, fault_at, fault_behind}
+use Rattle.pygrammar.specs.Reading.{Answer, Fine, Faulty, then, Group, Idle, Marked, closes, Part, part, meets, decorated, or_misplaced}
+use Rattle.pygrammar.specs.Reading.{place_header, Waiting, waiting, State, state, start, joined, first_group, settle, place, placed, step}
+use Rattle.pygrammar.specs.Reading.{run, stops, finish, read}
 use Rattle.pygrammar.proofs.Block.Leads.{read_block}
 use Rattle.pygrammar.proofs.Block.Sound.{read_gives}
-use Rattle.pygrammar.proofs.Block.Standing.{after, standing, stand, standing_above, standing_below, standing_here, place_behind, place_deeper}
+use Rattle.pygrammar.proofs.Block.Standing.{after, standing, stand, standing_above, standing_below, standing_here, place_behind}
+use Rattle.pygrammar.proofs.Block.Standing.{place_deeper}
 use Rattle.pygrammar.proofs.Block.Nested.{is_matching, closed_unmatched, decorated_same, grows_same, nested_on, nested_deeper}
-use Rattle.pygrammar.proofs.Block.Fitting.{is_marked, is_decorator, not_marked, no_decorator_header, first_unmarked, first_stands, grows_stands, fits_closed, wrong_closed, fits_header, wrong_header, fits_decorator, wrong_decorator_line}
-use Rattle.pygrammar.proofs.Block.Settling.{Levels, Marks, Settled, marked_stands, Settles, settles, Reached, clear_here, wrong_here, unsettled_fault, deep_fault}
+use Rattle.pygrammar.proofs.Block.Fitting.{is_marked, is_decorator, not_marked, no_decorator_header, first_unmarked, first_stands}
+use Rattle.pygrammar.proofs.Block.Fitting.{grows_stands, fits_closed, wrong_closed, fits_header, wrong_header, fits_decorator}
+use Rattle.pygrammar.proofs.Block.Fitting.{wrong_decorator_line}
+use Rattle.pygrammar.proofs.Block.Settling.{Levels, Marks, Settled, marked_stands, Settles, settles, Reached, clear_here, wrong_here}
+use Rattle.pygrammar.proofs.Block.Settling.{unsettled_fault, deep_fault}
 
 -- ---- What is known after a line.
 
-levels_behind : (x : Line) (earlier : List Line) (below : List Waiting) → length below ≤ x.level → Levels earlier below → Levels (x ∷ earlier) below
+levels_behind : (x : Line) (earlier : List Line) (below : List Waiting) → length below ≤ x.level → Levels earlier below
+    → Levels (x ∷ earlier) below
 levels_behind x earlier [] n k = tt
 levels_behind x earlier (w ∷ below) n k = (
   λ body. standing_below (length below) x earlier (omega arith) ∙ k.0 body,
@@ -31,7 +41,8 @@ stands_behind : (earlier : List Line) (s t : State) (f : Form) → Reached earli
     standing (length t.below) (line (length t.below) f ∷ earlier) ≡ after (kind_of f) (stand t.group)
 stands_behind earlier s t f r = standing_here (line (length t.below) f) earlier ∙ ap (after (kind_of f)) r.settled.stands
 
-marks_behind : (earlier : List Line) (s t : State) (f : Form) (d : List Stmt) (g : Group) → Reached earlier (length t.below) s t → opens f ≡ false →
+marks_behind : (earlier : List Line) (s t : State) (f : Form) (d : List Stmt) (g : Group)
+    → Reached earlier (length t.below) s t → opens f ≡ false →
     after (kind_of f) (stand t.group) ≡ stand g → is_decorator (kind_of f) ≡ is_marked g → is_matching g ≡ is_matching t.group →
     Marks (line (length t.below) f ∷ earlier) (state d g false t.below)
 marks_behind earlier s t f d g r o e m i = record {
@@ -45,10 +56,12 @@ marks_behind earlier s t f d g r o e m i = record {
   nested = nested_on t.group g t.below i r.settled.nested;
 }
 
-marks_deeper : (earlier : List Line) (s t : State) (h : Header) (d : List Stmt) (p : Part) → Reached earlier (length t.below) s t → meets t.group h ≡ Some p →
+marks_deeper : (earlier : List Line) (s t : State) (h : Header) (d : List Stmt) (p : Part) → Reached earlier (length t.below) s t
+    → meets t.group h ≡ Some p →
     Marks (line (length t.below) (header_form h None) ∷ earlier) (state [] (first_group h) true (waiting d p.group h ∷ t.below))
 marks_deeper earlier s t h d p r e = record {
-  stands = standing_above (suc (length t.below)) (line (length t.below) (header_form h None) ∷ earlier) (omega arith) ∙ sym (first_stands h);
+  stands = standing_above (suc (length t.below)) (line (length t.below) (header_form h None) ∷ earlier)
+      (omega arith) ∙ sym (first_stands h);
   levels = (
     λ body. stands_behind earlier s t (header_form h None) r ∙ sym (grows_stands t.group h p body e),
     place_behind (length t.below) (line (length t.below) (header_form h None)) earlier (omega arith) ∙ r.settled.place,
@@ -66,9 +79,11 @@ abbrev pub Steps : List Line → Line → Answer State → Type 0
 Steps earlier x (Fine t) = IsClear earlier x.level (kind_of x.form) × Marks (x ∷ earlier) t
 Steps earlier x (Faulty e) = IsFault earlier x.level (kind_of x.form) e
 
-steps_simple : (earlier : List Line) (s t : State) (ss : List Stmt) → Reached earlier (length t.below) s t → (o : Option (List Stmt)) → closes t.group ≡ o →
+steps_simple : (earlier : List Line) (s t : State) (ss : List Stmt) → Reached earlier (length t.below) s t
+    → (o : Option (List Stmt)) → closes t.group ≡ o →
     Steps earlier (line (length t.below) (simple_form ss)) (or_misplaced o (λ more. state ((t.done ++ more) ++ ss) Idle false t.below))
-steps_simple earlier s t ss r None c = wrong_here earlier (length t.below) s t SimpleLine r (wrong_closed t.group SimpleLine c refl refl refl)
+steps_simple earlier s t ss r None c = wrong_here earlier (length t.below) s t SimpleLine r
+    (wrong_closed t.group SimpleLine c refl refl refl)
 steps_simple earlier s t ss r (Some more) c = (
   clear_here earlier (length t.below) s t SimpleLine r (fits_closed t.group more SimpleLine c refl refl),
   marks_behind earlier s t (simple_form ss) ((t.done ++ more) ++ ss) Idle r refl refl refl (sym (closed_unmatched t.group more c)),
@@ -78,41 +93,51 @@ marks_decorated : (g : Group) (x : Expr) (p : Part) → decorated g x ≡ Some p
 marks_decorated (Marked es) x p e = let i : part [] (Marked (es ++ x ∷ [])) ≡ p = cc in ap (λ z. is_marked z.group) (sym i)
 marks_decorated g x p e = marks_from g x p (closes g) refl e
   where
-    marks_from : (g : Group) (x : Expr) (p : Part) (o : Option (List Stmt)) → closes g ≡ o → elim o [ None ↦ None | Some ss ↦ Some (part ss (Marked (x ∷ []))) ] ≡ Some p → is_marked p.group ≡ true
+    marks_from : (g : Group) (x : Expr) (p : Part) (o : Option (List Stmt)) → closes g ≡ o
+        → elim o [ None ↦ None | Some ss ↦ Some (part ss (Marked (x ∷ []))) ] ≡ Some p → is_marked p.group ≡ true
     marks_from g x p None c e = cc
     marks_from g x p (Some ss) c e = let i : part ss (Marked (x ∷ [])) ≡ p = cc in ap (λ z. is_marked z.group) (sym i)
 
-steps_decorator : (earlier : List Line) (s t : State) (x : Expr) → Reached earlier (length t.below) s t → (o : Option Part) → decorated t.group x ≡ o →
+steps_decorator : (earlier : List Line) (s t : State) (x : Expr) → Reached earlier (length t.below) s t → (o : Option Part)
+    → decorated t.group x ≡ o →
     Steps earlier (line (length t.below) (decorator_form x)) (or_misplaced o (λ p. state (t.done ++ p.done) p.group false t.below))
 steps_decorator earlier s t x r None c = wrong_here earlier (length t.below) s t DecoratorLine r (wrong_decorator_line t.group x c)
 steps_decorator earlier s t x r (Some p) c =
     let m = marks_decorated t.group x p c in (
       clear_here earlier (length t.below) s t DecoratorLine r (fits_decorator t.group x p c),
-      marks_behind earlier s t (decorator_form x) (t.done ++ p.done) p.group r refl (sym (marked_stands p.group m)) (sym m) (decorated_same t.group x p c),
+      marks_behind earlier s t (decorator_form x) (t.done ++ p.done) p.group r refl (sym (marked_stands p.group m)) (sym m)
+          (decorated_same t.group x p c),
     )
 
-steps_header : (earlier : List Line) (s t : State) (h : Header) (suite : Option (List Stmt)) → Reached earlier (length t.below) s t → (o : Option Part) → meets t.group h ≡ o →
+steps_header : (earlier : List Line) (s t : State) (h : Header) (suite : Option (List Stmt)) → Reached earlier (length t.below) s t
+    → (o : Option Part) → meets t.group h ≡ o →
     Steps earlier (line (length t.below) (header_form h suite)) (or_misplaced o (place_header t h suite))
 steps_header earlier s t h suite r None c = wrong_here earlier (length t.below) s t (header_kind h) r (wrong_header t.group h c)
 steps_header earlier s t h None r (Some p) c =
-    (clear_here earlier (length t.below) s t (header_kind h) r (fits_header t.group h p c), marks_deeper earlier s t h (t.done ++ p.done) p r c)
+    (clear_here earlier (length t.below) s t (header_kind h) r (fits_header t.group h p c),
+        marks_deeper earlier s t h (t.done ++ p.done) p r c)
 steps_header earlier s t h (Some ss) r (Some p) c = (
   clear_here earlier (length t.below) s t (header_kind h) r (fits_header t.group h p c),
-  marks_behind earlier s t (header_form h (Some ss)) (joined (t.done ++ p.done) p.group h ss).done (joined (t.done ++ p.done) p.group h ss).group r refl
+  marks_behind earlier s t (header_form h (Some ss)) (joined (t.done ++ p.done) p.group h ss).done
+      (joined (t.done ++ p.done) p.group h ss).group r refl
       (sym (grows_stands t.group h p ss c)) (no_decorator_header h ∙ sym (not_marked p.group h ss)) (grows_same t.group h p ss c),
 )
 
-steps_place : (earlier : List Line) (s t : State) (f : Form) → Reached earlier (length t.below) s t → Steps earlier (line (length t.below) f) (place t f)
+steps_place : (earlier : List Line) (s t : State) (f : Form) → Reached earlier (length t.below) s t
+    → Steps earlier (line (length t.below) f) (place t f)
 steps_place earlier s t (simple_form ss) r = steps_simple earlier s t ss r (closes t.group) refl
 steps_place earlier s t (decorator_form x) r = steps_decorator earlier s t x r (decorated t.group x) refl
 steps_place earlier s t (header_form h suite) r = steps_header earlier s t h suite r (meets t.group h) refl
 
 settled_level : (l : ℕ) (earlier : List Line) (s t : State) → Settled l earlier s.group s.fresh s.below t → length t.below ≤ l
-settled_level l earlier s t h = elim h.by [ inl x ↦ let y : length t.below ≡ length s.below = ap length x.1 in omega (arith, y, x.0) | inr x ↦ let y = x.4 in omega arith ]
+settled_level l earlier s t h = elim h.by [ inl x ↦ let y : length t.below ≡ length s.below = ap length x.1 in omega (arith, y, x.0)
+    | inr x ↦ let y = x.4 in omega arith ]
 
-steps_placed : (earlier : List Line) (s t : State) (x : Line) → Marks earlier s → Settled x.level earlier s.group s.fresh s.below t → Steps earlier x (placed x.level x.form t)
+steps_placed : (earlier : List Line) (s t : State) (x : Line) → Marks earlier s → Settled x.level earlier s.group s.fresh s.below t
+    → Steps earlier x (placed x.level x.form t)
 steps_placed earlier s t x m h =
-    elim (nat_lt (length t.below) x.level) as (λ b. nat_lt (length t.below) x.level ≡ b → Steps earlier x (cond b (Faulty UnexpectedIndent) (place t x.form))) [
+    elim (nat_lt (length t.below) x.level) as (λ b. nat_lt (length t.below) x.level ≡ b
+        → Steps earlier x (cond b (Faulty UnexpectedIndent) (place t x.form))) [
       | true ↦ λ q. deep_fault earlier x.level s t (kind_of x.form) m h (ltb-true (length t.below) x.level q)
       | false ↦ λ q.
           let a : x.level ≤ length t.below = ltb-false (length t.below) x.level q in
@@ -123,12 +148,14 @@ steps_placed earlier s t x m h =
           subst Q i (steps_place earlier s t x.form (record { marks = m; settled = subst P (sym i) h; level = refl }))
     ] refl
 
-steps_settled : (earlier : List Line) (s : State) (x : Line) → Marks earlier s → (a : Answer State) → Settles x.level earlier s.group s.fresh s.below a → Steps earlier x (then a (placed x.level x.form))
+steps_settled : (earlier : List Line) (s : State) (x : Line) → Marks earlier s → (a : Answer State)
+    → Settles x.level earlier s.group s.fresh s.below a → Steps earlier x (then a (placed x.level x.form))
 steps_settled earlier s x m (Fine t) h = steps_placed earlier s t x m h
 steps_settled earlier s x m (Faulty e) h = unsettled_fault earlier x.level s (kind_of x.form) e m h
 
 steps : (earlier : List Line) (s : State) (x : Line) → Marks earlier s → Steps earlier x (step s x)
-steps earlier s x m = steps_settled earlier s x m (settle x.level s) (settles x.level earlier s.done s.group s.fresh s.below m.stands m.place m.nested m.levels)
+steps earlier s x m = steps_settled earlier s x m (settle x.level s) (settles x.level earlier s.done s.group s.fresh s.below m.stands
+    m.place m.nested m.levels)
 
 -- ---- All lines.
 
@@ -142,25 +169,30 @@ finds_end earlier s m (Faulty e) h = fault_at_end (unsettled_fault earlier 0 s E
 finds_end earlier s m (Fine t) h =
     let n = settled_level 0 earlier s t h in
     let r : Reached earlier 0 s t = record { marks = m; settled = h; level = omega arith } in
-    elim (closes t.group) as (λ o. closes t.group ≡ o → Finds earlier [] [] (elim o [ None ↦ Faulty MisplacedClause | Some ss ↦ Fine (t.done ++ ss) ])) [
+    elim (closes t.group) as (λ o. closes t.group ≡ o
+        → Finds earlier [] [] (elim o [ None ↦ Faulty MisplacedClause | Some ss ↦ Fine (t.done ++ ss) ])) [
       | None ↦ λ c. fault_at_end (wrong_here earlier 0 s t EndLine r (wrong_closed t.group EndLine c refl refl refl))
       | Some ss ↦ λ c. clear_end (clear_here earlier 0 s t EndLine r (fits_closed t.group ss EndLine c refl refl))
     ] refl
 
-finds_behind : (earlier : List Line) (x : Line) (xs rest : List Line) (a : Answer (List Stmt)) → IsClear earlier x.level (kind_of x.form) → Finds (x ∷ earlier) xs rest a → Finds earlier (x ∷ xs) rest a
+finds_behind : (earlier : List Line) (x : Line) (xs rest : List Line) (a : Answer (List Stmt)) → IsClear earlier x.level (kind_of x.form)
+    → Finds (x ∷ earlier) xs rest a → Finds earlier (x ∷ xs) rest a
 finds_behind earlier x xs rest (Fine ss) c h = clear_line c h
 finds_behind earlier x xs rest (Faulty e) c h = fault_behind c h
 
 finds : (earlier xs : List Line) (s : State) → Marks earlier s → Finds earlier xs (stops xs s) (then (run xs s) finish)
-finds earlier [] s m = finds_end earlier s m (settle 0 s) (settles 0 earlier s.done s.group s.fresh s.below m.stands m.place m.nested m.levels)
+finds earlier [] s m =
+    finds_end earlier s m (settle 0 s) (settles 0 earlier s.done s.group s.fresh s.below m.stands m.place m.nested m.levels)
 finds earlier (x ∷ xs) s m =
-    elim (step s x) as (λ a. Steps earlier x a → Finds earlier (x ∷ xs) (elim a [ Fine t ↦ stops xs t | Faulty e ↦ x ∷ xs ]) (then (then a (run xs)) finish)) [
+    elim (step s x) as (λ a. Steps earlier x a → Finds earlier (x ∷ xs) (elim a [ Fine t ↦ stops xs t | Faulty e ↦ x ∷ xs ])
+        (then (then a (run xs)) finish)) [
       | Fine t ↦ λ h. finds_behind earlier x xs (stops xs t) (then (run xs t) finish) h.0 (finds (x ∷ earlier) xs t h.1)
       | Faulty e ↦ λ h. fault_at h
     ] (steps earlier s x m)
 
 start_marks : Marks [] start
-start_marks = record { stands = refl; levels = tt; opened = refl; fresh_level = λ i. cc; level = λ i. refl; marked = refl; place = refl; nested = refl }
+start_marks = record { stands = refl; levels = tt; opened = refl; fresh_level = λ i. cc; level = λ i. refl; marked = refl;
+    place = refl; nested = refl }
 
 -- the reading finds the tree, or the first fault
 pub read_finds : (xs : List Line) → Finds [] xs (stops xs start) (read xs)
@@ -194,7 +226,8 @@ no_first (clear_line c k) (fault_behind d p) = no_first k p
 
 -- where the lines have a tree, no line is faulty
 pub tree_faultless : (xs : List Line) (ss : List Stmt) → Block 0 xs ss → IsFaultless [] xs
-tree_faultless xs ss p = let h = read_finds xs in let P : Answer (List Stmt) → Type 0 = λ z. Finds [] xs (stops xs start) z in subst P (read_block p) h
+tree_faultless xs ss p = let h = read_finds xs in let P : Answer (List Stmt) → Type 0 = λ z. Finds [] xs (stops xs start) z in
+    subst P (read_block p) h
 
 -- where no line is faulty, they have one
 pub faultless_tree : (xs : List Line) → are_proper xs ≡ true → IsFaultless [] xs → (ss : List Stmt) × Block 0 xs ss
@@ -205,9 +238,11 @@ faultless_tree xs o p =
     ] refl (read_finds xs)
 
 -- and where it has none, there is a first faulty line
-pub fault_or_tree : (xs : List Line) → are_proper xs ≡ true → ((ss : List Stmt) × Block 0 xs ss) ⊎ ((rest : List Line) × (f : Fault) × FirstFault [] xs rest f)
+pub fault_or_tree : (xs : List Line) → are_proper xs ≡ true
+    → ((ss : List Stmt) × Block 0 xs ss) ⊎ ((rest : List Line) × (f : Fault) × FirstFault [] xs rest f)
 fault_or_tree xs o =
-    elim (read xs) as (λ a. read xs ≡ a → Finds [] xs (stops xs start) a → ((ss : List Stmt) × Block 0 xs ss) ⊎ ((rest : List Line) × (f : Fault) × FirstFault [] xs rest f)) [
+    elim (read xs) as (λ a. read xs ≡ a → Finds [] xs (stops xs start) a
+        → ((ss : List Stmt) × Block 0 xs ss) ⊎ ((rest : List Line) × (f : Fault) × FirstFault [] xs rest f)) [
       | Fine ss ↦ λ e h. inl (ss, read_gives xs ss o e)
       | Faulty f ↦ λ e h. inr (stops xs start, f, h)
     ] refl (read_finds xs)

@@ -2,11 +2,20 @@
 -- relation, and gives its tree.
 --
 -- Carries: choice-append, for Blocks. On: Steps.
-use Rattle.std.proofs.Common.{◌≡◌, ℕ, suc, List, [], ◌∷◌, ◌++◌, length, Option, Some, None, Bool, true, false, cond, refl, sym, ap, ◌∙◌, subst, arith, append_assoc, append-nil}
+use Rattle.std.proofs.Common.{◌≡◌, ℕ, suc, List, [], ◌∷◌, ◌++◌, length, Option, Some, None, Bool, true, false, cond, refl, sym, ap, ◌∙◌}
+use Rattle.std.proofs.Common.{subst, arith, append_assoc, append-nil}
 use Rattle.pytree_node.specs.Trees.{Expr, Stmt, Case, Handler, If, Match, cases, stmts}
-use Rattle.pygrammar.specs.Lines.{Line, line, Form, simple_form, decorator_form, header_form, Header, if_header, elif_header, else_header, loop_header, with_header, try_header, except_header, finally_header, def_header, match_header, case_header, DefHead, loop, definition, try_of}
-use Rattle.pygrammar.specs.Blocks.{handler, case_of, same_bool, MisplacedClause, Block, Statement, Body, Alternative, Otherwise, Excepts, Cases, Ending, Decorators, nothing, and_then, simple_line, if_statement, loop_statement, with_statement, try_finally, try_except, definition_of, match_statement, inline, indented, an_else, an_elif, no_else, else_clause, no_except, except_clause, no_case, case_clause, no_finally, finally_clause, no_decorator, decorator}
-use Rattle.pygrammar.specs.Reading.{Answer, Fine, Faulty, then, Arm, arm, Group, Idle, Marked, Choice, Loop, Trial, Caught, Settled, Matching, choice, closes, Part, part, ended, meets, grows, decorated, or_misplaced, place_header, Waiting, waiting, State, state, start, joined, first_group, above, settle, place, run, finish, read}
+use Rattle.pygrammar.specs.Lines.{Line, line, Form, simple_form, decorator_form, header_form, Header, if_header, elif_header, else_header}
+use Rattle.pygrammar.specs.Lines.{loop_header, with_header, try_header, except_header, finally_header, def_header, match_header}
+use Rattle.pygrammar.specs.Lines.{case_header, DefHead, loop, definition, try_of}
+use Rattle.pygrammar.specs.Blocks.{handler, case_of, same_bool, MisplacedClause, Block, Statement, Body, Alternative, Otherwise, Excepts}
+use Rattle.pygrammar.specs.Blocks.{Cases, Ending, Decorators, nothing, and_then, simple_line, if_statement, loop_statement, with_statement}
+use Rattle.pygrammar.specs.Blocks.{try_finally, try_except, definition_of, match_statement, inline, indented, an_else, an_elif, no_else}
+use Rattle.pygrammar.specs.Blocks.{else_clause, no_except, except_clause, no_case, case_clause, no_finally, finally_clause, no_decorator}
+use Rattle.pygrammar.specs.Blocks.{decorator}
+use Rattle.pygrammar.specs.Reading.{Answer, Fine, Faulty, then, Arm, arm, Group, Idle, Marked, Choice, Loop, Trial, Caught, Settled}
+use Rattle.pygrammar.specs.Reading.{Matching, choice, closes, Part, part, ended, meets, grows, decorated, or_misplaced, place_header}
+use Rattle.pygrammar.specs.Reading.{Waiting, waiting, State, state, start, joined, first_group, above, settle, place, run, finish, read}
 use Rattle.pygrammar.proofs.Block.Steps.{then_then, run-append, closes_above, settle_here, settle_block, step_here}
 
 -- whether a level still has had no line
@@ -27,12 +36,15 @@ pub record Leads (l : ℕ) (xs : List Line) (d : List Stmt) (g : Group) (d' : Li
 leads_none : (l : ℕ) (d : List Stmt) (g : Group) → Leads l [] d g d g
 leads_none l d g = record { go = λ s f below n h. h }
 
-go_on : (l : ℕ) (ys : List Line) (d1 d2 : List Stmt) (g1 g2 : Group) → Leads l ys d1 g1 d2 g2 → (f : Bool) (below : List Waiting) → length below ≡ l →
-    (a : Answer State) → then a (settle l) ≡ Fine (state d1 g1 f below) → then a (λ t. then (run ys t) (settle l)) ≡ Fine (state d2 g2 (still ys f) below)
+go_on : (l : ℕ) (ys : List Line) (d1 d2 : List Stmt) (g1 g2 : Group) → Leads l ys d1 g1 d2 g2
+    → (f : Bool) (below : List Waiting) → length below ≡ l →
+    (a : Answer State) → then a (settle l) ≡ Fine (state d1 g1 f below)
+        → then a (λ t. then (run ys t) (settle l)) ≡ Fine (state d2 g2 (still ys f) below)
 go_on l ys d1 d2 g1 g2 q f below n (Fine t) h = q.go t f below n h
 go_on l ys d1 d2 g1 g2 q f below n (Faulty e) h = cc
 
-leads-append : {l : ℕ} {xs ys : List Line} {d d1 d2 : List Stmt} {g g1 g2 : Group} → Leads l xs d g d1 g1 → Leads l ys d1 g1 d2 g2 → Leads l (xs ++ ys) d g d2 g2
+leads-append : {l : ℕ} {xs ys : List Line} {d d1 d2 : List Stmt} {g g1 g2 : Group} → Leads l xs d g d1 g1 → Leads l ys d1 g1 d2 g2
+    → Leads l (xs ++ ys) d g d2 g2
 leads-append {l} {xs} {ys} {d} {d1} {d2} {g} {g1} {g2} p q = record {
   go = λ s f below n h.
       ap (λ a. then a (settle l)) (run-append xs ys s)
@@ -41,11 +53,13 @@ leads-append {l} {xs} {ys} {d} {d1} {d2} {g} {g1} {g2} p q = record {
       ∙ ap (λ b. Fine (state d2 g2 b below)) (sym (still-append xs ys f));
 }
 
-leads_to : {l : ℕ} {xs : List Line} {d d1 d2 : List Stmt} {g g1 g2 : Group} → d1 ≡ d2 → g1 ≡ g2 → Leads l xs d g d1 g1 → Leads l xs d g d2 g2
+leads_to : {l : ℕ} {xs : List Line} {d d1 d2 : List Stmt} {g g1 g2 : Group} → d1 ≡ d2 → g1 ≡ g2
+    → Leads l xs d g d1 g1 → Leads l xs d g d2 g2
 leads_to {l} {xs} {d} {d1} {d2} {g} {g1} {g2} e k p = subst (λ z. Leads l xs d g d2 z) k (subst (λ z. Leads l xs d g z g1) e p)
 
 -- one line that opens no block
-one_line : (l : ℕ) (f : Form) (d d' : List Stmt) (g g' : Group) → ((b : Bool) (below : List Waiting) → place (state d g b below) f ≡ Fine (state d' g' false below)) →
+one_line : (l : ℕ) (f : Form) (d d' : List Stmt) (g g' : Group)
+    → ((b : Bool) (below : List Waiting) → place (state d g b below) f ≡ Fine (state d' g' false below)) →
     Leads l (line l f ∷ []) d g d' g'
 one_line l f d d' g g' e = record {
   go = λ s b below n h.
@@ -62,7 +76,8 @@ pub record Closing (l : ℕ) (xs : List Line) (d : List Stmt) (g : Group) (whole
   pub is : done ++ last ≡ whole
   pub leads : Leads l xs d g done group
 
-closing-append : {l : ℕ} {xs ys : List Line} {d d1 : List Stmt} {g g1 : Group} {whole : List Stmt} → Leads l xs d g d1 g1 → Closing l ys d1 g1 whole → Closing l (xs ++ ys) d g whole
+closing-append : {l : ℕ} {xs ys : List Line} {d d1 : List Stmt} {g g1 : Group} {whole : List Stmt} → Leads l xs d g d1 g1
+    → Closing l ys d1 g1 whole → Closing l (xs ++ ys) d g whole
 closing-append p c = record { done = c.done; group = c.group; last = c.last; closed = c.closed; is = c.is; leads = leads-append p c.leads }
 
 closing_to : {l : ℕ} {xs : List Line} {d : List Stmt} {g : Group} {v w : List Stmt} → v ≡ w → Closing l xs d g v → Closing l xs d g w
@@ -86,8 +101,10 @@ body_inline l ss d g h p i e =
     one_line l (header_form h (Some ss)) d (joined (d ++ p.done) p.group h ss).done g (joined (d ++ p.done) p.group h ss).group
     (λ b below. ap (λ o. or_misplaced o (place_header (state d g b below) h (Some ss))) e)
 
-after_block : (l : ℕ) (d1 : List Stmt) (g1 : Group) (w : Waiting) (below : List Waiting) (p : Part) → above w d1 g1 ≡ Some p → length below ≡ l →
-    (a : Answer State) → then a (settle (suc l)) ≡ Fine (state d1 g1 false (w ∷ below)) → then a (settle l) ≡ Fine (state p.done p.group false below)
+after_block : (l : ℕ) (d1 : List Stmt) (g1 : Group) (w : Waiting) (below : List Waiting) (p : Part)
+    → above w d1 g1 ≡ Some p → length below ≡ l →
+    (a : Answer State) → then a (settle (suc l)) ≡ Fine (state d1 g1 false (w ∷ below))
+        → then a (settle l) ≡ Fine (state p.done p.group false below)
 after_block l d1 g1 w below p c n (Fine t) h = settle_block l t d1 g1 w below p n h c
 after_block l d1 g1 w below p c n (Faulty f) h = cc
 
@@ -98,9 +115,11 @@ with_lines : (l : ℕ) (x : Line) (xs : List Line) (d d1 : List Stmt) (g g1 : Gr
 with_lines l x xs d d1 g g1 h p q e c u = record {
   go = λ s f below n k.
       let w : Waiting = waiting (d ++ p.done) p.group h in
-      ap (λ a. then (then a (run (x ∷ xs))) (settle l)) (step_here s l (header_form h None) (state d g f below) n k ∙ ap (λ o. or_misplaced o (place_header (state d g f below) h None)) e)
+      ap (λ a. then (then a (run (x ∷ xs))) (settle l)) (step_here s l (header_form h None) (state d g f below) n k
+          ∙ ap (λ o. or_misplaced o (place_header (state d g f below) h None)) e)
       ∙ after_block l d1 g1 w below q u n (run (x ∷ xs) (state [] (first_group h) true (w ∷ below)))
-      (c.go (state [] (first_group h) true (w ∷ below)) true (w ∷ below) (ap suc n) (settle_here (suc l) [] (first_group h) true (w ∷ below) (omega (arith, n))));
+      (c.go (state [] (first_group h) true (w ∷ below)) true (w ∷ below) (ap suc n)
+          (settle_here (suc l) [] (first_group h) true (w ∷ below) (omega (arith, n))));
 }
 
 body_indented : (l : ℕ) (x : Line) (xs : List Line) (ss : List Stmt) → Gives (suc l) (x ∷ xs) ss → GivesBody l None (x ∷ xs) ss
@@ -144,31 +163,37 @@ same_self true = refl
 same_self false = refl
 
 -- a last clause that may be left out, and makes the group whole
-last_clause : {l : ℕ} {suite : Option (List Stmt)} {xs : List Line} {body : List Stmt} (h : Header) (whole : List Stmt → List Stmt) (d : List Stmt) (g : Group) →
+last_clause : {l : ℕ} {suite : Option (List Stmt)} {xs : List Line} {body : List Stmt} (h : Header) (whole : List Stmt → List Stmt)
+    (d : List Stmt) (g : Group) →
     first_group h ≡ Idle → GivesBody l suite xs body → meets g h ≡ Some (part [] g) → grows g h body ≡ part (whole body) Idle →
     Closing l (line l (header_form h suite) ∷ xs) d g (d ++ whole body)
 last_clause {l} {suite} {xs} {body} h whole d g i b m e =
-    closing_whole (leads_to (ap (λ p. (d ++ []) ++ p.done) e ∙ ap (λ z. z ++ whole body) (append-nil d)) (ap (λ p. p.group) e) (b d g h (part [] g) i m))
+    closing_whole (leads_to (ap (λ p. (d ++ []) ++ p.done) e ∙ ap (λ z. z ++ whole body) (append-nil d)) (ap (λ p. p.group) e)
+        (b d g h (part [] g) i m))
 
-no_clause : (l : ℕ) (whole : List Stmt → List Stmt) (d : List Stmt) (g : Group) → closes g ≡ Some (whole []) → Closing l [] d g (d ++ whole [])
+no_clause : (l : ℕ) (whole : List Stmt → List Stmt) (d : List Stmt) (g : Group) → closes g ≡ Some (whole [])
+    → Closing l [] d g (d ++ whole [])
 no_clause l whole d g e = record { done = d; group = g; last = whole []; closed = e; is = refl; leads = leads_none l d g }
 
 -- what has to be shown of the clauses
 abbrev pub GivesLast : ℕ → Header → List Line → List Stmt → Type 0
-GivesLast l h xs body = (whole : List Stmt → List Stmt) (d : List Stmt) (g : Group) → closes g ≡ Some (whole []) → meets g h ≡ Some (part [] g) →
+GivesLast l h xs body = (whole : List Stmt → List Stmt) (d : List Stmt) (g : Group) → closes g ≡ Some (whole [])
+    → meets g h ≡ Some (part [] g) →
     ((b : List Stmt) → grows g h b ≡ part (whole b) Idle) → Closing l xs d g (d ++ whole body)
 
 abbrev pub GivesAlternative : ℕ → List Line → List Stmt → Type 0
 GivesAlternative l xs orelse = (d : List Stmt) (arms : List Arm) → Closing l xs d (Choice arms) (d ++ choice arms orelse)
 
 abbrev pub GivesExcepts : ℕ → Bool → List Line → List Handler → Type 0
-GivesExcepts l star xs hs = (d body : List Stmt) (first : List Handler) → Leads l xs d (Caught star body first) d (Caught star body (first ++ hs))
+GivesExcepts l star xs hs = (d body : List Stmt) (first : List Handler)
+    → Leads l xs d (Caught star body first) d (Caught star body (first ++ hs))
 
 abbrev pub GivesCases : ℕ → List Line → List Case → Type 0
 GivesCases l xs cs = (d : List Stmt) (first : List Case) → Leads l xs d (Matching first) d (Matching (first ++ cs))
 
 -- after the `except`s and perhaps an `else`
-pub record Last (l : ℕ) (xs : List Line) (star : Bool) (body : List Stmt) (hs : List Handler) (orelse : List Stmt) (d : List Stmt) : Type 0 where
+pub record Last (l : ℕ) (xs : List Line) (star : Bool) (body : List Stmt) (hs : List Handler) (orelse : List Stmt)
+    (d : List Stmt) : Type 0 where
   pub group : Group
   pub leads : Leads l xs d (Caught star body hs) d group
   pub closed : closes group ≡ Some (try_of star body hs orelse [] ∷ [])
@@ -176,20 +201,24 @@ pub record Last (l : ℕ) (xs : List Line) (star : Bool) (body : List Stmt) (hs 
   pub growing : (b : List Stmt) → grows group finally_header b ≡ part (try_of star body hs orelse b ∷ []) Idle
 
 abbrev pub GivesElse : ℕ → List Line → List Stmt → Type 0
-GivesElse l xs orelse = GivesLast l else_header xs orelse × ((star : Bool) (body : List Stmt) (hs : List Handler) (d : List Stmt) → Last l xs star body hs orelse d)
+GivesElse l xs orelse = GivesLast l else_header xs orelse × ((star : Bool) (body : List Stmt) (hs : List Handler) (d : List Stmt)
+    → Last l xs star body hs orelse d)
 
 no_else_gives : (l : ℕ) → GivesElse l [] []
 no_else_gives l = (
   λ whole d g c m e. no_clause l whole d g c,
-  λ star body hs d. record { group = Caught star body hs; leads = leads_none l d (Caught star body hs); closed = refl; meeting = refl; growing = λ b. refl },
+  λ star body hs d. record { group = Caught star body hs; leads = leads_none l d (Caught star body hs); closed = refl; meeting =
+      refl; growing = λ b. refl },
 )
 
-else_gives : (l : ℕ) (suite : Option (List Stmt)) (xs : List Line) (orelse : List Stmt) → GivesBody l suite xs orelse → GivesElse l (line l (header_form else_header suite) ∷ xs) orelse
+else_gives : (l : ℕ) (suite : Option (List Stmt)) (xs : List Line) (orelse : List Stmt) → GivesBody l suite xs orelse
+    → GivesElse l (line l (header_form else_header suite) ∷ xs) orelse
 else_gives l suite xs orelse b = (
   λ whole d g c m e. last_clause else_header whole d g refl b m (e orelse),
   λ star body hs d. record {
     group = Settled star body hs orelse;
-    leads = leads_to (append-nil (d ++ []) ∙ append-nil d) refl (b d (Caught star body hs) else_header (part [] (Caught star body hs)) refl refl);
+    leads = leads_to (append-nil (d ++ []) ∙ append-nil d) refl
+        (b d (Caught star body hs) else_header (part [] (Caught star body hs)) refl refl);
     closed = refl;
     meeting = refl;
     growing = λ b. refl;
@@ -197,20 +226,24 @@ else_gives l suite xs orelse b = (
 )
 
 -- decorators after decorators
-marked_goes : {l : ℕ} {ds : List Line} {es : List Expr} → Decorators l ds es → (d : List Stmt) (first : List Expr) → Leads l ds d (Marked first) d (Marked (first ++ es))
+marked_goes : {l : ℕ} {ds : List Line} {es : List Expr} → Decorators l ds es → (d : List Stmt) (first : List Expr)
+    → Leads l ds d (Marked first) d (Marked (first ++ es))
 marked_goes {l} no_decorator d first = leads_to refl (ap Marked (sym (append-nil first))) (leads_none l d (Marked first))
 marked_goes {l} (decorator {e = e} {xs = xs} {es = es} p) d first =
     leads_to refl (ap Marked (append_assoc first (e ∷ []) es))
-    (leads-append (one_line l (decorator_form e) d d (Marked first) (Marked (first ++ e ∷ [])) (λ b below. ap (λ z. Fine (state z (Marked (first ++ e ∷ [])) false below)) (append-nil d)))
+    (leads-append (one_line l (decorator_form e) d d (Marked first) (Marked (first ++ e ∷ []))
+        (λ b below. ap (λ z. Fine (state z (Marked (first ++ e ∷ [])) false below)) (append-nil d)))
     (marked_goes p d (first ++ e ∷ [])))
 
 definition_gives : {l : ℕ} (head : DefHead) {suite : Option (List Stmt)} {ds xs : List Line} {es : List Expr} {body : List Stmt} →
-    Decorators l ds es → GivesBody l suite xs body → Gives l (ds ++ (line l (header_form (def_header head) suite) ∷ xs)) (definition es head body ∷ [])
+    Decorators l ds es → GivesBody l suite xs body → Gives l (ds ++ (line l (header_form (def_header head) suite) ∷ xs))
+        (definition es head body ∷ [])
 definition_gives head {body = body} no_decorator b d g more c =
     closing_whole (b d g (def_header head) (part more Idle) refl (ends_def g head more c))
 definition_gives {l} head {body = body} (decorator {e = e} {xs = ds} {es = es} p) b d g more c =
     closing_whole (leads-append
-    (leads-append (one_line l (decorator_form e) d (d ++ more) g (Marked (e ∷ [])) (λ f below. ap (λ o. or_misplaced o (λ p. state (d ++ p.done) p.group false below)) (ends_marked g e more c)))
+    (leads-append (one_line l (decorator_form e) d (d ++ more) g (Marked (e ∷ []))
+        (λ f below. ap (λ o. or_misplaced o (λ p. state (d ++ p.done) p.group false below)) (ends_marked g e more c)))
     (marked_goes p (d ++ more) (e ∷ [])))
     (leads_to (ap (λ z. z ++ (definition (e ∷ es) head body ∷ [])) (append-nil (d ++ more))) refl
     (b (d ++ more) (Marked (e ∷ es)) (def_header head) (part [] (Marked (e ∷ es))) refl refl)))
@@ -219,12 +252,14 @@ definition_gives {l} head {body = body} (decorator {e = e} {xs = ds} {es = es} p
 match_gives : (l : ℕ) (subject : Expr) (x : Line) (xs : List Line) (cs : List Case) → GivesCases (suc l) (x ∷ xs) cs →
     Gives l (line l (header_form (match_header subject) None) ∷ (x ∷ xs)) (Match subject (cases cs) ∷ [])
 match_gives l subject x xs cs ih d g more c =
-    closing_whole (with_lines l x xs d [] g (Matching cs) (match_header subject) (part more Idle) (part ((d ++ more) ++ (Match subject (cases cs) ∷ [])) Idle) (ends g more c) (ih [] []) refl)
+    closing_whole (with_lines l x xs d [] g (Matching cs) (match_header subject) (part more Idle)
+        (part ((d ++ more) ++ (Match subject (cases cs) ∷ [])) Idle) (ends g more c) (ih [] []) refl)
 
 pub no_gap : (d x : List Stmt) → (d ++ []) ++ x ≡ d ++ x
 no_gap d x = ap (λ z. z ++ x) (append-nil d)
 
-finishes : (a : Answer State) (d : List Stmt) (g : Group) (f : Bool) (last ss : List Stmt) → then a (settle 0) ≡ Fine (state d g f []) → closes g ≡ Some last → d ++ last ≡ ss → then a finish ≡ Fine ss
+finishes : (a : Answer State) (d : List Stmt) (g : Group) (f : Bool) (last ss : List Stmt) → then a (settle 0) ≡ Fine (state d g f [])
+    → closes g ≡ Some last → d ++ last ≡ ss → then a finish ≡ Fine ss
 finishes (Faulty e) d g f last ss h c i = cc
 finishes (Fine t) d g f last ss h c i =
     ap (λ z. then z (λ t. elim (closes t.group) [ None ↦ Faulty MisplacedClause | Some ss ↦ Fine (t.done ++ ss) ])) h
@@ -236,17 +271,21 @@ same_fine a b e = cc
 
 mutual
   pub block_gives : {l : ℕ} {xs : List Line} {ss : List Stmt} → Block l xs ss → Gives l xs ss
-  block_gives {l} nothing d g more c = record { done = d; group = g; last = more; closed = c; is = sym (append-nil (d ++ more)); leads = leads_none l d g }
+  block_gives {l} nothing d g more c = record { done = d; group = g; last = more; closed = c; is = sym (append-nil (d ++ more));
+      leads = leads_none l d g }
   block_gives {l} (and_then {ss = ss} {more = rest} p q) d g more c =
       let a = statement_gives p d g more c in
-      closing_to (ap (λ z. z ++ rest) a.is ∙ append_assoc (d ++ more) ss rest) (closing-append a.leads (block_gives q a.done a.group a.last a.closed))
+      closing_to (ap (λ z. z ++ rest) a.is ∙ append_assoc (d ++ more) ss rest)
+          (closing-append a.leads (block_gives q a.done a.group a.last a.closed))
 
   pub statement_gives : {l : ℕ} {xs : List Line} {ss : List Stmt} → Statement l xs ss → Gives l xs ss
   statement_gives {l} (simple_line {ss = ss}) d g more c =
-      closing_whole (one_line l (simple_form ss) d ((d ++ more) ++ ss) g Idle (λ f below. ap (λ o. or_misplaced o (λ more. state ((d ++ more) ++ ss) Idle false below)) c))
+      closing_whole (one_line l (simple_form ss) d ((d ++ more) ++ ss) g Idle
+          (λ f below. ap (λ o. or_misplaced o (λ more. state ((d ++ more) ++ ss) Idle false below)) c))
   statement_gives {l} (if_statement {test = test} {body = body} {orelse = orelse} p q) d g more c =
       closing_to (no_gap (d ++ more) (choice (arm test body ∷ []) orelse))
-      (closing-append (body_gives p d g (if_header test) (part more Idle) refl (ends g more c)) (alternative_gives q ((d ++ more) ++ []) (arm test body ∷ [])))
+      (closing-append (body_gives p d g (if_header test) (part more Idle) refl (ends g more c))
+          (alternative_gives q ((d ++ more) ++ []) (arm test body ∷ [])))
   statement_gives {l} (loop_statement {head = head} {body = body} {orelse = orelse} p q) d g more c =
       closing_to (no_gap (d ++ more) (loop head body orelse ∷ []))
       (closing-append (body_gives p d g (loop_header head) (part more Idle) refl (ends g more c))
@@ -257,18 +296,21 @@ mutual
       closing_to (no_gap (d ++ more) (try_of false body [] [] final ∷ []))
       (closing-append (body_gives p d g try_header (part more Idle) refl (ends g more c))
       (last_clause finally_header (λ f. try_of false body [] [] f ∷ []) ((d ++ more) ++ []) (Trial body) refl (body_gives q) refl refl))
-  statement_gives {l} (try_except {star = star} {body = body} {orelse = orelse} {final = final} p (except_clause {matched = m} {name = n} {body = first} {hs = hs} r q) o e) d g more c =
+  statement_gives {l} (try_except {star = star} {body = body} {orelse = orelse} {final = final} p
+      (except_clause {matched = m} {name = n} {body = first} {hs = hs} r q) o e) d g more c =
       let z : List Stmt = (d ++ more) ++ [] in
       let k = (else_clause_gives o).1 star body (handler m n first ∷ hs) z in
       closing_to (no_gap (d ++ more) (try_of star body (handler m n first ∷ hs) orelse final ∷ []))
       (closing-append (body_gives p d g try_header (part more Idle) refl (ends g more c))
       (closing-append (leads-append
-      (leads_to (append-nil (z ++ []) ∙ append-nil z) refl (body_gives r z (Trial body) (except_header star m n) (part [] (Trial body)) refl refl))
+      (leads_to (append-nil (z ++ []) ∙ append-nil z) refl (body_gives r z (Trial body) (except_header star m n)
+          (part [] (Trial body)) refl refl))
       (excepts_gives q z body (handler m n first ∷ [])))
       (closing-append k.leads
       (ending_gives e (λ f. try_of star body (handler m n first ∷ hs) orelse f ∷ []) z k.group k.closed k.meeting k.growing))))
   statement_gives {l} (definition_of head p q) d g more c = definition_gives head p (body_gives q) d g more c
-  statement_gives {l} (match_statement {subject = subject} {x = x} {xs = xs} {cs = cs} p) d g more c = match_gives l subject x xs cs (cases_gives p) d g more c
+  statement_gives {l} (match_statement {subject = subject} {x = x} {xs = xs} {cs = cs} p) d g more c =
+      match_gives l subject x xs cs (cases_gives p) d g more c
 
   pub body_gives : {l : ℕ} {suite : Option (List Stmt)} {xs : List Line} {ss : List Stmt} → Body l suite xs ss → GivesBody l suite xs ss
   body_gives {l} (inline {ss = ss}) = body_inline l ss
@@ -279,7 +321,8 @@ mutual
   alternative_gives {l} (an_elif {test = test} {body = body} {orelse = orelse} p q) d arms =
       closing_to (ap (λ z. d ++ z) (choice-append arms (arm test body) orelse))
       (closing-append
-      (leads_to (append-nil (d ++ []) ∙ append-nil d) refl (body_gives p d (Choice arms) (elif_header test) (part [] (Choice arms)) refl refl))
+      (leads_to (append-nil (d ++ []) ∙ append-nil d) refl
+          (body_gives p d (Choice arms) (elif_header test) (part [] (Choice arms)) refl refl))
       (alternative_gives q d (arms ++ arm test body ∷ [])))
 
   pub else_clause_gives : {l : ℕ} {xs : List Line} {ss : List Stmt} → Otherwise l xs ss → GivesElse l xs ss
@@ -287,7 +330,8 @@ mutual
   else_clause_gives {l} (else_clause {suite = suite} {xs = xs} {body = body} p) = else_gives l suite xs body (body_gives p)
 
   pub excepts_gives : {l : ℕ} {star : Bool} {xs : List Line} {hs : List Handler} → Excepts l star xs hs → GivesExcepts l star xs hs
-  excepts_gives {l} {star} no_except d body first = leads_to refl (ap (Caught star body) (sym (append-nil first))) (leads_none l d (Caught star body first))
+  excepts_gives {l} {star} no_except d body first = leads_to refl (ap (Caught star body) (sym (append-nil first)))
+      (leads_none l d (Caught star body first))
   excepts_gives {l} {star} (except_clause {matched = m} {name = n} {body = b} {hs = hs} p q) d body first =
       leads_to refl (ap (Caught star body) (append_assoc first (handler m n b ∷ []) hs))
       (leads-append
@@ -301,7 +345,8 @@ mutual
   cases_gives {l} (case_clause {pattern = pattern} {guard = guard} {body = b} {cs = cs} p q) d first =
       leads_to refl (ap Matching (append_assoc first (case_of pattern guard b ∷ []) cs))
       (leads-append
-      (leads_to (append-nil (d ++ []) ∙ append-nil d) refl (body_gives p d (Matching first) (case_header pattern guard) (part [] (Matching first)) refl refl))
+      (leads_to (append-nil (d ++ []) ∙ append-nil d) refl (body_gives p d (Matching first) (case_header pattern guard)
+          (part [] (Matching first)) refl refl))
       (cases_gives q d (first ++ case_of pattern guard b ∷ [])))
 
   pub ending_gives : {l : ℕ} {xs : List Line} {ss : List Stmt} → Ending l xs ss → GivesLast l finally_header xs ss

@@ -17,17 +17,21 @@ use Rattle.pygrammar.proofs.Block.Law.{Finds, read_finds}
 
 -- ---- Forms.
 
-pub formed_on : {profile : Profile} {earlier : List Line} {xs : List Tokens.Line} {ys : List Line} {x : Tokens.Line} {f : Form} → Formed profile earlier xs ys →
+pub formed_on : {profile : Profile} {earlier : List Line} {xs : List Tokens.Line} {ys : List Line} {x : Tokens.Line} {f : Form}
+    → Formed profile earlier xs ys →
     HasForm profile (stands_in_match x.level (behind earlier ys)) x f → Formed profile earlier (xs ++ x ∷ []) (ys ++ line x.level f ∷ [])
 formed_on formed_end h = formed_line h formed_end
 formed_on (formed_line k p) h = formed_line k (formed_on p h)
 
-pub unread_on : {profile : Profile} {earlier : List Line} {xs : List Tokens.Line} {ys : List Line} {x : Tokens.Line} {c : Code} → Formed profile earlier xs ys →
-    Unread profile (stands_in_match x.level (behind earlier ys)) x c → (more : List Tokens.Line) → FirstUnread profile earlier (xs ++ (x ∷ more)) (length xs) c
+pub unread_on : {profile : Profile} {earlier : List Line} {xs : List Tokens.Line} {ys : List Line} {x : Tokens.Line} {c : Code}
+    → Formed profile earlier xs ys →
+    Unread profile (stands_in_match x.level (behind earlier ys)) x c → (more : List Tokens.Line)
+        → FirstUnread profile earlier (xs ++ (x ∷ more)) (length xs) c
 unread_on formed_end h more = unread h
 unread_on (formed_line k p) h more = unread_behind k (unread_on p h more)
 
-pub unread_more : {profile : Profile} {earlier : List Line} {xs : List Tokens.Line} {n : ℕ} {c : Code} → FirstUnread profile earlier xs n c → (more : List Tokens.Line) →
+pub unread_more : {profile : Profile} {earlier : List Line} {xs : List Tokens.Line} {n : ℕ} {c : Code} → FirstUnread profile earlier xs n c
+    → (more : List Tokens.Line) →
     FirstUnread profile earlier (xs ++ more) n c
 unread_more (unread h) more = unread h
 unread_more (unread_behind k p) more = unread_behind k (unread_more p more)
@@ -47,10 +51,12 @@ pub step_on : (xs : List Line) (x : Line) (s t : State) → run xs start ≡ Fin
 step_on xs x s t h e = run-append xs (x ∷ []) start ∙ ap (λ a. then a (run (x ∷ []))) h ∙ ap (λ a. then a (run [])) e
 
 -- the line at which a step fails is the first faulty one, whatever follows
-pub fault_found : (xs : List Line) (x : Line) (s : State) (f : Fault) → run xs start ≡ Fine s → step s x ≡ Faulty f → (more : List Line) → FirstFault [] (xs ++ (x ∷ more)) (x ∷ more) f
+pub fault_found : (xs : List Line) (x : Line) (s : State) (f : Fault) → run xs start ≡ Fine s → step s x ≡ Faulty f → (more : List Line)
+    → FirstFault [] (xs ++ (x ∷ more)) (x ∷ more) f
 fault_found xs x s f h e more =
     let whole = xs ++ (x ∷ more) in
-    let last : stops whole start ≡ x ∷ more = stops_on xs (x ∷ more) start s h ∙ ap (λ a. elim a [ Fine t ↦ stops more t | Faulty f ↦ x ∷ more ]) e in
+    let last : stops whole start ≡ x ∷ more = stops_on xs (x ∷ more) start s h
+        ∙ ap (λ a. elim a [ Fine t ↦ stops more t | Faulty f ↦ x ∷ more ]) e in
     let answer : read whole ≡ Faulty f =
     ap (λ a. then a finish) (run-append xs (x ∷ more) start ∙ ap (λ a. then a (run (x ∷ more))) h ∙ ap (λ a. then a (run more)) e) in
     let P : Answer (List Stmt) → Type 0 = λ a. Finds [] whole (stops whole start) a in
@@ -66,5 +72,6 @@ end_fault_found xs s f h e =
     let Q : List Line → Type 0 = λ r. FirstFault [] xs r f in
     subst Q last (subst P answer (read_finds xs))
 
-pub block_found : (xs : List Line) (s : State) (ss : List Stmt) → are_proper xs ≡ true → run xs start ≡ Fine s → finish s ≡ Fine ss → Block 0 xs ss
+pub block_found : (xs : List Line) (s : State) (ss : List Stmt) → are_proper xs ≡ true → run xs start ≡ Fine s
+    → finish s ≡ Fine ss → Block 0 xs ss
 block_found xs s ss o h e = read_gives xs ss o (ap (λ a. then a finish) h ∙ e)

@@ -1,7 +1,8 @@
 -- A source that is refused has one reason, but for a long line without any form.
 --
 -- Carries: one_reason, for SourceLaw. On: Law, Line/Law, Answer, FirstDeep.
-use Rattle.std.proofs.Common.{◌≡◌, ◌⊎◌, inl, inr, ℕ, suc, ◌<◌, List, [], ◌∷◌, ◌++◌, length, Bool, Some, None, Contains, refl, sym, ap, ◌∙◌, subst, length-append, arith}
+use Rattle.std.proofs.Common.{◌≡◌, ◌⊎◌, inl, inr, ℕ, suc, ◌<◌, List, [], ◌∷◌, ◌++◌, length, Bool, Some, None, Contains, refl, sym, ap, ◌∙◌}
+use Rattle.std.proofs.Common.{subst, length-append, arith}
 use Rattle.std.proofs.lemmas.List.Elements.{Contains-append_right}
 use Rattle.pysource.specs.declared.places.Place.{Place}
 use Rattle.pylex.specs.Listing.{Source}
@@ -14,7 +15,9 @@ use Rattle.pytoken.specs.Tokens as Tokens
 use Rattle.pygrammar.specs.Lengths.{weight}
 use Rattle.pygrammar.specs.Lines.{Line}
 use Rattle.pygrammar.specs.Blocks.{Fault, FirstFault, stands_in_match}
-use Rattle.pygrammar.specs.Refusals.{Code, terminals, Indentation, TooDeep, Reason, in_tokens, at, StartsAt, at_line, at_end, HasNone, Unread, too_high, no_match, no_form, too_long, FirstUnread, unread, unread_behind, FirstDeep, Refused, by_tokens, by_line, by_block, by_height}
+use Rattle.pygrammar.specs.Refusals.{Code, terminals, Indentation, TooDeep, Reason, in_tokens, at, StartsAt, at_line, at_end, HasNone}
+use Rattle.pygrammar.specs.Refusals.{Unread, too_high, no_match, no_form, too_long, FirstUnread, unread, unread_behind, FirstDeep, Refused}
+use Rattle.pygrammar.specs.Refusals.{by_tokens, by_line, by_block, by_height}
 use Rattle.pygrammar.specs.SourceLaws.{IsFreeChoice, free}
 use Rattle.pygrammar.proofs.Line.Law.{one_form}
 use Rattle.pygrammar.proofs.Block.Law.{tree_faultless, no_first, one_first}
@@ -37,7 +40,8 @@ same_last xs ys a b e =
     let n : length (xs ++ (a ∷ [])) ≡ length (ys ++ (b ∷ [])) = ap length e in
     same_at xs ys a b [] [] e (omega (arith, n, length-append xs (a ∷ []), length-append ys (b ∷ [])))
 
-past_end : (n : ℕ) (xs before behind : List Tokens.Line) (x : Tokens.Line) → xs ≡ before ++ (x ∷ behind) → length before ≡ n → length xs ≡ n → ⊥
+past_end : (n : ℕ) (xs before behind : List Tokens.Line) (x : Tokens.Line) → xs ≡ before ++ (x ∷ behind)
+    → length before ≡ n → length xs ≡ n → ⊥
 past_end n xs before behind x e b l =
     let k : length xs ≡ length (before ++ (x ∷ behind)) = ap length e in omega (arith, k, b, l, length-append before (x ∷ behind))
 
@@ -57,7 +61,8 @@ place_at {s} {p = p} e a b = let P : ℕ → Type 0 = λ z. StartsAt s z p in on
 abbrev IsLong : Profile → Bool → Tokens.Line → Type 0
 IsLong profile inside x = HasNone profile inside x × (500 < weight (terminals x))
 
-one_code : {profile : Profile} {inside : Bool} {x : Tokens.Line} {c d : Code} → Unread profile inside x c → Unread profile inside x d → (c ≡ d) ⊎ IsLong profile inside x
+one_code : {profile : Profile} {inside : Bool} {x : Tokens.Line} {c d : Code} → Unread profile inside x c → Unread profile inside x d
+    → (c ≡ d) ⊎ IsLong profile inside x
 one_code (too_high p h) (too_high q k) = inl refl
 one_code (too_high {f = f} p h) (no_match q k) = absurd (q f p)
 one_code (too_high {f = f} p h) (no_form q k) = absurd (q f p)
@@ -75,9 +80,11 @@ one_code (too_long p h) _ = inr (p, h)
 abbrev HasLong : Profile → List Tokens.Line → Type 0
 HasLong profile xs = (x : Tokens.Line) × (inside : Bool) × Contains xs x × IsLong profile inside x
 
-pub one_unread : {profile : Profile} {earlier : List Line} {xs : List Tokens.Line} {a b : ℕ} {c d : Code} → FirstUnread profile earlier xs a c → FirstUnread profile earlier xs b d →
+pub one_unread : {profile : Profile} {earlier : List Line} {xs : List Tokens.Line} {a b : ℕ} {c d : Code}
+    → FirstUnread profile earlier xs a c → FirstUnread profile earlier xs b d →
     (a ≡ b) × ((c ≡ d) ⊎ HasLong profile xs)
-one_unread (unread {earlier = earlier} {x = x} h) (unread k) = (refl, elim (one_code h k) [ inl e ↦ inl e | inr l ↦ inr (x, stands_in_match x.level earlier, (0, omega arith, refl), l) ])
+one_unread (unread {earlier = earlier} {x = x} h) (unread k) =
+    (refl, elim (one_code h k) [ inl e ↦ inl e | inr l ↦ inr (x, stands_in_match x.level earlier, (0, omega arith, refl), l) ])
 one_unread (unread h) (unread_behind k q) = absurd (unread_formed k h)
 one_unread (unread_behind h p) (unread k) = absurd (unread_formed h k)
 one_unread (unread_behind {x = x} {xs = xs} h p) (unread_behind k q) =
@@ -92,9 +99,11 @@ IsOne profile s r q = (r ≡ q) ⊎ IsFreeChoice profile s r q
 same_reason : (p q : Place) (c d : Code) → p ≡ q → c ≡ d → at p c ≡ at q d
 same_reason p q c d e f = ap (λ z. at z c) e ∙ ap (λ z. at q z) f
 
-of_lines : {profile : Profile} {s : Source} {p q : Place} {c d : Code} → p ≡ q → (c ≡ d) ⊎ HasLong profile (lines s) → IsOne profile s (at p c) (at q d)
+of_lines : {profile : Profile} {s : Source} {p q : Place} {c d : Code} → p ≡ q → (c ≡ d) ⊎ HasLong profile (lines s)
+    → IsOne profile s (at p c) (at q d)
 of_lines {p = p} {q = q} {c = c} {d = d} e (inl f) = inl (same_reason p q c d e f)
-of_lines {profile} {s} {p = p} {c = c} {d = d} e (inr l) = let P : Place → Type 0 = λ z. IsFreeChoice profile s (at p c) (at z d) in inr (subst P e (free {inside = l.1} l.0 l.2 l.3.0 l.3.1))
+of_lines {profile} {s} {p = p} {c = c} {d = d} e (inr l) = let P : Place → Type 0 = λ z. IsFreeChoice profile s (at p c) (at z d) in
+    inr (subst P e (free {inside = l.1} l.0 l.2 l.3.0 l.3.1))
 
 clear_or_not : (x : Extent) (s : Source) {r : Refusal} → refusal x s ≡ None → refusal x s ≡ Some r → ⊥
 clear_or_not x s h k = absurd (cc)
@@ -116,16 +125,19 @@ one_reason (by_line c u w) (by_block e p f n z) = absurd (unread_none p u)
 one_reason (by_line c u w) (by_height e p b t d z) = absurd (unread_none p u)
 one_reason {s = s} (by_block c p f n w) (by_tokens h) = absurd (clear_or_not _ s c h)
 one_reason (by_block c p f n w) (by_line e v z) = absurd (unread_none p v)
-one_reason (by_block {forms = xs} {rest = a} {f = e1} {n = n1} {p = p1} c p f n w) (by_block {forms = ys} {rest = b} {f = e2} {n = n2} {p = p2} e q g m z) =
+one_reason (by_block {forms = xs} {rest = a} {f = e1} {n = n1} {p = p1} c p f n w)
+    (by_block {forms = ys} {rest = b} {f = e2} {n = n2} {p = p2} e q g m z) =
     let same = one_formed p q in
     let r = one_first (in_forms same f) g in
     let i : length xs ≡ length ys = ap length same in
     let j : length a ≡ length b = ap length r.0 in
     inl (same_reason p1 p2 (Indentation e1) (Indentation e2) (place_at (omega (arith, n, m, i, j)) w z) (ap Indentation r.1))
-one_reason (by_block c p f n w) (by_height {forms = ys} {m = m} e q b t d z) = absurd (no_first (tree_faultless ys m.body b) (in_forms (one_formed p q) f))
+one_reason (by_block c p f n w) (by_height {forms = ys} {m = m} e q b t d z) =
+    absurd (no_first (tree_faultless ys m.body b) (in_forms (one_formed p q) f))
 one_reason {s = s} (by_height c p b t d w) (by_tokens h) = absurd (clear_or_not _ s c h)
 one_reason (by_height c p b t d w) (by_line e v z) = absurd (unread_none p v)
-one_reason (by_height {forms = xs} {m = m} c p b t d w) (by_block e q g n z) = absurd (no_first (tree_faultless xs m.body b) (in_forms (one_formed q p) g))
+one_reason (by_height {forms = xs} {m = m} c p b t d w) (by_block e q g n z) =
+    absurd (no_first (tree_faultless xs m.body b) (in_forms (one_formed q p) g))
 one_reason (by_height {n = n1} {p = p1} c p b t d w) (by_height {n = n2} {p = p2} e q b2 u d2 z) =
     let P : List Line → Type 0 = λ y. FirstDeep [] y n1 in
     inl (same_reason p1 p2 TooDeep TooDeep (place_at (one_deep (subst P (one_formed p q) d) d2) w z) refl)

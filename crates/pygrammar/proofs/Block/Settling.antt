@@ -2,17 +2,25 @@
 -- faults of the line there.
 --
 -- Carries: Levels, Marks, Settled, marked_stands and 7 more, for Law. On: Fitting, Nested, Standing, Steps.
-use Rattle.std.proofs.Common.{◌≡◌, ℕ, suc, ◌<◌, ◌≤◌, List, [], ◌∷◌, ◌++◌, length, Some, None, Bool, true, false, cond, refl, sym, ap, ◌∙◌, arith, ◌⊎◌, inl, inr}
+use Rattle.std.proofs.Common.{◌≡◌, ℕ, suc, ◌<◌, ◌≤◌, List, [], ◌∷◌, ◌++◌, length, Some, None, Bool, true, false, cond, refl, sym, ap, ◌∙◌}
+use Rattle.std.proofs.Common.{arith, ◌⊎◌, inl, inr}
 use Rattle.std.specs.Prelude.{nat_lt, ◌==◌}
 use borrow.Author.Tests.{ltb-true, ltb-false, eqb-true, eqb-false}
 use Rattle.pytree_node.specs.Trees.{Stmt}
 use Rattle.pygrammar.specs.Lines.{Line, Form, simple_form, decorator_form, header_form, Header, opens}
-use Rattle.pygrammar.specs.Blocks.{Fault, ExpectedIndent, UnexpectedIndent, MisplacedClause, Kind, SimpleLine, DecoratorLine, header_kind, kind_of, previous, may_follow, is_try_clause, is_decorated, level_before, opens_before, is_match, is_case, same_bool, stands_in_match, Misplaced, not_taken, ends_try, ends_decorators, not_by_place, HasFault, not_deeper, far_deeper, opens_none, misplaced, comes_before, IsClear, IsFault}
-use Rattle.pygrammar.specs.Reading.{Answer, Fine, Faulty, Group, Marked, Trial, closes, Part, grows, Waiting, State, state, above, settle_in}
+use Rattle.pygrammar.specs.Blocks.{Fault, ExpectedIndent, UnexpectedIndent, MisplacedClause, Kind, SimpleLine, DecoratorLine, header_kind}
+use Rattle.pygrammar.specs.Blocks.{kind_of, previous, may_follow, is_try_clause, is_decorated, level_before, opens_before, is_match}
+use Rattle.pygrammar.specs.Blocks.{is_case, same_bool, stands_in_match, Misplaced, not_taken, ends_try, ends_decorators, not_by_place}
+use Rattle.pygrammar.specs.Blocks.{HasFault, not_deeper, far_deeper, opens_none, misplaced, comes_before, IsClear, IsFault}
+use Rattle.pygrammar.specs.Reading.{Answer, Fine, Faulty, Group, Marked, Trial, closes, Part, grows, Waiting, State, state, above}
+use Rattle.pygrammar.specs.Reading.{settle_in}
 use Rattle.pygrammar.proofs.Block.Steps.{popped}
-use Rattle.pygrammar.proofs.Block.Standing.{Standing, Free, AfterTry, AfterDecorator, standing, stand, admits, may_follow_is, try_stands, try_at, standing_above}
-use Rattle.pygrammar.proofs.Block.Fitting.{is_marked, is_decorator, last_decorator, not_marked, no_decorator_header, Fits, Wrong, wrong_follow, wrong_try, wrong_decorator, wrong_place, fits_closed}
-use Rattle.pygrammar.proofs.Block.Nested.{Ends, ends_cases, ends_block, ends_of, is_matching, in_match, AreNested, nested_is, nested_pop, grows_match}
+use Rattle.pygrammar.proofs.Block.Standing.{Standing, Free, AfterTry, AfterDecorator, standing, stand, admits, may_follow_is, try_stands}
+use Rattle.pygrammar.proofs.Block.Standing.{try_at, standing_above}
+use Rattle.pygrammar.proofs.Block.Fitting.{is_marked, is_decorator, last_decorator, not_marked, no_decorator_header, Fits, Wrong}
+use Rattle.pygrammar.proofs.Block.Fitting.{wrong_follow, wrong_try, wrong_decorator, wrong_place, fits_closed}
+use Rattle.pygrammar.proofs.Block.Nested.{Ends, ends_cases, ends_block, ends_of, is_matching, in_match, AreNested, nested_is, nested_pop}
+use Rattle.pygrammar.proofs.Block.Nested.{grows_match}
 
 -- each level that waits will be found as its header leaves it, and where it is
 abbrev pub Levels : List Line → List Waiting → Type 0
@@ -44,7 +52,8 @@ pub record Settled (l : ℕ) (earlier : List Line) (g : Group) (f : Bool) (below
 -- why they could not
 pub record Unsettled (l : ℕ) (earlier : List Line) (g : Group) (f : Bool) (below : List Waiting) (e : Fault) : Type 0 where
   pub above : l < length below
-  pub why : ((e ≡ ExpectedIndent) × (f ≡ true)) ⊎ ((e ≡ MisplacedClause) × (f ≡ false) × (((m : ℕ) × (l < m) × (standing m earlier ≡ AfterTry)) ⊎ (is_marked g ≡ true)))
+  pub why : ((e ≡ ExpectedIndent) × (f ≡ true)) ⊎
+      ((e ≡ MisplacedClause) × (f ≡ false) × (((m : ℕ) × (l < m) × (standing m earlier ≡ AfterTry)) ⊎ (is_marked g ≡ true)))
 
 closes_no_try : (g : Group) (ss : List Stmt) → closes g ≡ Some ss → stand g ≡ AfterTry → ⊥
 closes_no_try g ss c e = let f = (fits_closed g ss SimpleLine c refl refl).tries e in cc f
@@ -83,7 +92,8 @@ left_unmarked : (w : Waiting) (d : List Stmt) (g : Group) (p : Part) → Ends w 
 left_unmarked w d g p (ends_cases cs) = refl
 left_unmarked w d g p (ends_block ss c) = not_marked w.group w.header (d ++ ss)
 
-left_stands : (s : Standing) (w : Waiting) (d : List Stmt) (g : Group) (p : Part) → Ends w d g p → is_matching g ≡ is_match (header_kind w.header) →
+left_stands : (s : Standing) (w : Waiting) (d : List Stmt) (g : Group) (p : Part) → Ends w d g p
+    → is_matching g ≡ is_match (header_kind w.header) →
     ((body : List Stmt) → s ≡ stand (grows w.group w.header body).group) → s ≡ stand p.group
 left_stands s w d g p (ends_cases cs) n k = k [] ∙ ap stand (grows_match w.group w.header [] (sym n))
 left_stands s w d g p (ends_block ss c) n k = k (d ++ ss)
@@ -125,31 +135,42 @@ settles_up l earlier g g' w below (Faulty e) n s c m m' h = record {
   ];
 }
 
-settles_pop : (l : ℕ) (earlier : List Line) (d : List Stmt) (g : Group) (f : Bool) (w : Waiting) (below : List Waiting) → l < length (w ∷ below) →
-    standing (length (w ∷ below)) earlier ≡ stand g → ((p : Part) → Ends w d g p → Settles l earlier p.group false below (settle_in l p.done p.group false below)) →
+settles_pop : (l : ℕ) (earlier : List Line) (d : List Stmt) (g : Group) (f : Bool) (w : Waiting) (below : List Waiting)
+    → l < length (w ∷ below) →
+    standing (length (w ∷ below)) earlier ≡ stand g
+        → ((p : Part) → Ends w d g p → Settles l earlier p.group false below (settle_in l p.done p.group false below)) →
     Settles l earlier g f (w ∷ below) (cond f (Faulty ExpectedIndent) (popped l d g w below))
 settles_pop l earlier d g true w below n s k = record { above = n; why = inl (refl, refl) }
 settles_pop l earlier d g false w below n s k =
-    elim (above w d g) as (λ o. above w d g ≡ o → Settles l earlier g false (w ∷ below) (elim o [ None ↦ Faulty MisplacedClause | Some p ↦ settle_in l p.done p.group false below ])) [
-      | None ↦ λ c. record { above = n; why = inr (refl, refl, elim (open_group w d g c) [ inl a ↦ inl (length (w ∷ below), n, s ∙ a) | inr a ↦ inr a ]) }
+    elim (above w d g) as (λ o. above w d g ≡ o
+        → Settles l earlier g false (w ∷ below)
+        (elim o [ None ↦ Faulty MisplacedClause | Some p ↦ settle_in l p.done p.group false below ])) [
+      | None ↦ λ c. record { above = n; why =
+          inr (refl, refl, elim (open_group w d g c) [ inl a ↦ inl (length (w ∷ below), n, s ∙ a) | inr a ↦ inr a ]) }
       | Some p ↦ λ c.
           let e = ends_of w d g p c in
-          settles_up l earlier g p.group w below (settle_in l p.done p.group false below) n s (ends_no_try w d g p e) (ends_unmarked w d g p e) (left_unmarked w d g p e) (k p e)
+          settles_up l earlier g p.group w below (settle_in l p.done p.group false below) n s (ends_no_try w d g p e)
+              (ends_unmarked w d g p e) (left_unmarked w d g p e) (k p e)
     ] refl
 
-stays_settled : (l : ℕ) (earlier : List Line) (d : List Stmt) (g : Group) (f : Bool) (below : List Waiting) → length below ≤ l → standing (length below) earlier ≡ stand g →
-    stands_in_match (length below) earlier ≡ in_match below → AreNested g below → Levels earlier below → Settled l earlier g f below (state d g f below)
+stays_settled : (l : ℕ) (earlier : List Line) (d : List Stmt) (g : Group) (f : Bool) (below : List Waiting) → length below ≤ l
+    → standing (length below) earlier ≡ stand g →
+    stands_in_match (length below) earlier ≡ in_match below → AreNested g below → Levels earlier below
+        → Settled l earlier g f below (state d g f below)
 stays_settled l earlier d g f below n s i a k =
     record { stands = s; levels = k; place = i; nested = a; tries = λ m a b i. absurd (omega arith); by = inl (n, refl, refl, refl) }
 
-pub settles : (l : ℕ) (earlier : List Line) (d : List Stmt) (g : Group) (f : Bool) (below : List Waiting) → standing (length below) earlier ≡ stand g →
-    stands_in_match (length below) earlier ≡ in_match below → AreNested g below → Levels earlier below → Settles l earlier g f below (settle_in l d g f below)
+pub settles : (l : ℕ) (earlier : List Line) (d : List Stmt) (g : Group) (f : Bool) (below : List Waiting)
+    → standing (length below) earlier ≡ stand g →
+    stands_in_match (length below) earlier ≡ in_match below → AreNested g below → Levels earlier below
+        → Settles l earlier g f below (settle_in l d g f below)
 settles l earlier d g f [] s i a k = stays_settled l earlier d g f [] (omega arith) s i a k
 settles l earlier d g f (w ∷ below) s i a k =
     elim (nat_lt l (length (w ∷ below))) as (λ b. nat_lt l (length (w ∷ below)) ≡ b →
     Settles l earlier g f (w ∷ below) (cond b (cond f (Faulty ExpectedIndent) (popped l d g w below)) (Fine (state d g f (w ∷ below))))) [
       | true ↦ λ n. settles_pop l earlier d g f w below (ltb-true l (length (w ∷ below)) n) s
-          (λ p e. settles l earlier p.done p.group false below (left_stands (standing (length below) earlier) w d g p e a.0 k.0) k.1 (nested_pop w d g p below e a) k.2)
+          (λ p e. settles l earlier p.done p.group false below (left_stands (standing (length below) earlier) w d g p e a.0 k.0) k.1
+              (nested_pop w d g p below e a) k.2)
       | false ↦ λ n. stays_settled l earlier d g f (w ∷ below) (ltb-false l (length (w ∷ below)) n) s i a k
     ] refl
 
@@ -175,7 +196,8 @@ pub record Reached (earlier : List Line) (l : ℕ) (s t : State) : Type 0 where
   pub settled : Settled l earlier s.group s.fresh s.below t
   pub level : length t.below ≡ l
 
-no_expected : (earlier : List Line) (l : ℕ) (s t : State) → Reached earlier l s t → opens_before earlier ≡ true → l ≤ level_before earlier → ⊥
+no_expected : (earlier : List Line) (l : ℕ) (s t : State) → Reached earlier l s t → opens_before earlier ≡ true
+    → l ≤ level_before earlier → ⊥
 no_expected earlier l s t r o n =
     let f : s.fresh ≡ true = sym r.marks.opened ∙ o in
     let k : length s.below ≡ suc (level_before earlier) = r.marks.fresh_level f in
@@ -183,7 +205,8 @@ no_expected earlier l s t r o n =
 
 reached_below : (earlier : List Line) (l : ℕ) (s t : State) → Reached earlier l s t → l ≤ length s.below
 reached_below earlier l s t r =
-    elim r.settled.by [ inl x ↦ let y : length t.below ≡ length s.below = ap length x.1 in omega (arith, y, r.level) | inr x ↦ let y = x.0 in omega arith ]
+    elim r.settled.by [ inl x ↦ let y : length t.below ≡ length s.below = ap length x.1 in omega (arith, y, r.level)
+        | inr x ↦ let y = x.0 in omega arith ]
 
 no_unexpected : (earlier : List Line) (l : ℕ) (s t : State) → Reached earlier l s t → (k : Kind) → HasFault earlier l k UnexpectedIndent → ⊥
 no_unexpected earlier l s t r k h = unexpected h
@@ -246,7 +269,8 @@ decorates_here earlier l s t k r f e c =
     ]
 
 place_is : (earlier : List Line) (l : ℕ) (s t : State) → Reached earlier l s t → stands_in_match l earlier ≡ is_matching t.group
-place_is earlier l s t r = ap (λ z. stands_in_match z earlier) (sym r.level) ∙ r.settled.place ∙ sym (nested_is t.group t.below r.settled.nested)
+place_is earlier l s t r = ap (λ z. stands_in_match z earlier) (sym r.level) ∙ r.settled.place
+    ∙ sym (nested_is t.group t.below r.settled.nested)
 
 pub clear_here : (earlier : List Line) (l : ℕ) (s t : State) (k : Kind) → Reached earlier l s t → Fits k t.group → IsClear earlier l k
 clear_here earlier l s t k r f = record { none = λ e h. clears e h }
@@ -262,7 +286,8 @@ clear_here earlier l s t k r f = record { none = λ e h. clears e h }
         decorates_here earlier l s t k r f (ap last_decorator p ∙ ap is_decorator i) (λ j. c (j ∙ ap level_before p))
     wrongly (not_by_place e) =
         let a : same_bool (is_matching t.group) (is_case k) ≡ true = f.placed in
-        let b : same_bool (stands_in_match l earlier) (is_case k) ≡ same_bool (is_matching t.group) (is_case k) = ap (λ z. same_bool z (is_case k)) (place_is earlier l s t r) in cc
+        let b : same_bool (stands_in_match l earlier) (is_case k) ≡ same_bool (is_matching t.group) (is_case k) =
+            ap (λ z. same_bool z (is_case k)) (place_is earlier l s t r) in cc
 
     clears : (e : Fault) → HasFault earlier l k e → ⊥
     clears ExpectedIndent (not_deeper o n) = no_expected earlier l s t r o n
@@ -270,7 +295,8 @@ clear_here earlier l s t k r f = record { none = λ e h. clears e h }
     clears MisplacedClause (misplaced h) = wrongly h
 
 -- a fault of order where none of indentation stands
-only_misplaced : (earlier : List Line) (l : ℕ) (k : Kind) → (HasFault earlier l k ExpectedIndent → ⊥) → (HasFault earlier l k UnexpectedIndent → ⊥) → Misplaced earlier l k → IsFault earlier l k MisplacedClause
+only_misplaced : (earlier : List Line) (l : ℕ) (k : Kind) → (HasFault earlier l k ExpectedIndent → ⊥)
+    → (HasFault earlier l k UnexpectedIndent → ⊥) → Misplaced earlier l k → IsFault earlier l k MisplacedClause
 only_misplaced earlier l k a b h = record {
   has = misplaced h;
   first = λ e. elim e as (λ e. comes_before e MisplacedClause ≡ true → HasFault earlier l k e → ⊥) [
@@ -280,14 +306,16 @@ only_misplaced earlier l k a b h = record {
   ];
 }
 
-expected_of : (earlier : List Line) (l : ℕ) (k : Kind) → HasFault earlier l k ExpectedIndent → (opens_before earlier ≡ true) × (l ≤ level_before earlier)
+expected_of : (earlier : List Line) (l : ℕ) (k : Kind) → HasFault earlier l k ExpectedIndent
+    → (opens_before earlier ≡ true) × (l ≤ level_before earlier)
 expected_of earlier l k (not_deeper o n) = (o, n)
 
 unexpected_of : (earlier : List Line) (l : ℕ) (k : Kind) → HasFault earlier l k UnexpectedIndent → level_before earlier < l
 unexpected_of earlier l k (far_deeper n) = omega arith
 unexpected_of earlier l k (opens_none e o) = omega arith
 
-last_line : (earlier : List Line) → last_decorator earlier ≡ true → (x : Line) × (more : List Line) × (earlier ≡ x ∷ more) × (kind_of x.form ≡ DecoratorLine)
+last_line : (earlier : List Line) → last_decorator earlier ≡ true → (x : Line) × (more : List Line) × (earlier ≡ x ∷ more) ×
+    (kind_of x.form ≡ DecoratorLine)
 last_line [] e = cc
 last_line (x ∷ more) e = (x, more, refl, decorator_is (kind_of x.form) e)
   where
@@ -295,14 +323,17 @@ last_line (x ∷ more) e = (x, more, refl, decorator_is (kind_of x.form) e)
     decorator_is DecoratorLine e = refl
     decorator_is _ e = cc
 
-ends_marks : (earlier : List Line) (l : ℕ) (k : Kind) → last_decorator earlier ≡ true → (l ≡ level_before earlier → is_decorated k ≡ false) → Misplaced earlier l k
+ends_marks : (earlier : List Line) (l : ℕ) (k : Kind) → last_decorator earlier ≡ true
+    → (l ≡ level_before earlier → is_decorated k ≡ false) → Misplaced earlier l k
 ends_marks earlier l k e c =
     let y = last_line earlier e in
     ends_decorators {x = y.0} {more = y.1} y.2 y.3 (λ i. c (i ∙ sym (ap level_before y.2)))
 
-pub wrong_here : (earlier : List Line) (l : ℕ) (s t : State) (k : Kind) → Reached earlier l s t → Wrong k t.group → IsFault earlier l k MisplacedClause
+pub wrong_here : (earlier : List Line) (l : ℕ) (s t : State) (k : Kind) → Reached earlier l s t → Wrong k t.group
+    → IsFault earlier l k MisplacedClause
 wrong_here earlier l s t k r h =
-    only_misplaced earlier l k (λ i. let v = expected_of earlier l k i in no_expected earlier l s t r v.0 v.1) (no_unexpected earlier l s t r k) (elim h [
+    only_misplaced earlier l k (λ i. let v = expected_of earlier l k i in no_expected earlier l s t r v.0 v.1)
+        (no_unexpected earlier l s t r k) (elim h [
       | wrong_follow a ↦ not_taken (may_follow_is k l earlier ∙ ap (admits k) stood ∙ a)
       | wrong_try a b ↦ let y = try_at l earlier (stood ∙ a) in ends_try {x = y.first} {more = y.more} l y.is y.kind (omega arith) (λ i. b)
       | wrong_decorator a b ↦ ends_marks earlier l k (r.marks.marked ∙ marked_before a) (λ i. b)
@@ -318,7 +349,8 @@ wrong_here earlier l s t k r h =
       | inr x ↦ absurd (unmarked t.group (stands_marked t.group a) x.3)
     ]
 
-pub unsettled_fault : (earlier : List Line) (l : ℕ) (s : State) (k : Kind) (e : Fault) → Marks earlier s → Unsettled l earlier s.group s.fresh s.below e → IsFault earlier l k e
+pub unsettled_fault : (earlier : List Line) (l : ℕ) (s : State) (k : Kind) (e : Fault) → Marks earlier s
+    → Unsettled l earlier s.group s.fresh s.below e → IsFault earlier l k e
 unsettled_fault earlier l s k ExpectedIndent m u = elim u.why [
   | inl x ↦
       let n : length s.below ≡ suc (level_before earlier) = m.fresh_level x.1 in
@@ -340,16 +372,19 @@ unsettled_fault earlier l s k MisplacedClause m u = elim u.why [
       let n : length s.below ≡ level_before earlier = m.level x.1 in
       let a = u.above in
       only_misplaced earlier l k
-      (λ i. let v = expected_of earlier l k i in let o : opens_before earlier ≡ true = v.0 in let p : opens_before earlier ≡ false = m.opened ∙ x.1 in cc)
+      (λ i. let v = expected_of earlier l k i in let o : opens_before earlier ≡ true = v.0 in
+          let p : opens_before earlier ≡ false = m.opened ∙ x.1 in cc)
       (λ i. let v = unexpected_of earlier l k i in omega arith)
       (elim x.2 [
-        | inl y ↦ let z = try_at y.0 earlier y.2 in ends_try {x = z.first} {more = z.more} y.0 z.is z.kind (let b = y.1 in omega arith) (λ i. let b = y.1 in absurd (omega arith))
+        | inl y ↦ let z = try_at y.0 earlier y.2 in ends_try {x = z.first} {more = z.more} y.0 z.is z.kind (let b = y.1 in omega arith)
+            (λ i. let b = y.1 in absurd (omega arith))
         | inr y ↦ ends_marks earlier l k (m.marked ∙ y) (λ i. absurd (omega arith))
       ])
 ]
 
 -- a line that is too deep
-pub deep_fault : (earlier : List Line) (l : ℕ) (s t : State) (k : Kind) → Marks earlier s → Settled l earlier s.group s.fresh s.below t → length t.below < l → IsFault earlier l k UnexpectedIndent
+pub deep_fault : (earlier : List Line) (l : ℕ) (s t : State) (k : Kind) → Marks earlier s → Settled l earlier s.group s.fresh s.below t
+    → length t.below < l → IsFault earlier l k UnexpectedIndent
 deep_fault earlier l s t k m h n =
     let a : length s.below ≡ length t.below = elim h.by [ inl x ↦ ap length (sym x.1) | inr x ↦ let y = x.4 in absurd (omega arith) ] in
     record {

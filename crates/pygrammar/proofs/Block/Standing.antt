@@ -6,7 +6,9 @@ use Rattle.std.proofs.Common.{◌≡◌, ℕ, ◌<◌, ◌≤◌, List, [], ◌�
 use Rattle.std.specs.Prelude.{nat_lt, ◌==◌}
 use borrow.Author.Tests.{eqb-true, eq-eqb}
 use Rattle.pygrammar.specs.Lines.{Line}
-use Rattle.pygrammar.specs.Blocks.{Kind, DecoratorLine, IfLine, ElifLine, ElseLine, LoopLine, TryLine, ExceptLine, FinallyLine, kind_of, previous, begins_with, is_if_or_elif, is_except, takes_else, same_bool, takes_except, may_follow, is_match, stands_in_match, level_before}
+use Rattle.pygrammar.specs.Blocks.{Kind, DecoratorLine, IfLine, ElifLine, ElseLine, LoopLine, TryLine, ExceptLine, FinallyLine, kind_of}
+use Rattle.pygrammar.specs.Blocks.{previous, begins_with, is_if_or_elif, is_except, takes_else, same_bool, takes_except, may_follow}
+use Rattle.pygrammar.specs.Blocks.{is_match, stands_in_match, level_before}
 use Rattle.pygrammar.specs.Reading.{Group, Idle, Marked, Choice, Loop, Trial, Caught, Settled, Matching}
 use Rattle.pygrammar.proofs.Block.Steps.{not_less, is_less}
 
@@ -32,7 +34,8 @@ after _ _ = Free
 
 abbrev pub standing : ℕ → List Line → Standing
 standing l [] = Free
-standing l (x ∷ earlier) = cond (nat_lt l x.level) (standing l earlier) (cond (x.level == l) (after (kind_of x.form) (standing l earlier)) Free)
+standing l (x ∷ earlier) =
+    cond (nat_lt l x.level) (standing l earlier) (cond (x.level == l) (after (kind_of x.form) (standing l earlier)) Free)
 
 abbrev pub stand_of : List Line → Standing
 stand_of [] = Free
@@ -74,7 +77,8 @@ standing_is l (x ∷ earlier) =
     elim (nat_lt l x.level) as (λ b. cond b (standing l earlier) (cond (x.level == l) (after (kind_of x.form) (standing l earlier)) Free)
     ≡ stand_of (cond b (previous l earlier) (cond (x.level == l) (x ∷ earlier) []))) [
       | true ↦ standing_is l earlier
-      | false ↦ elim (x.level == l) as (λ b. x.level == l ≡ b → cond b (after (kind_of x.form) (standing l earlier)) Free ≡ stand_of (cond b (x ∷ earlier) [])) [
+      | false ↦ elim (x.level == l) as (λ b. x.level == l ≡ b → cond b (after (kind_of x.form) (standing l earlier)) Free ≡ stand_of
+          (cond b (x ∷ earlier) [])) [
         | true ↦ λ e. let i : x.level ≡ l = eqb-true x.level l e in ap (λ z. after (kind_of x.form) (standing z earlier)) (sym i)
         | false ↦ λ e. refl
       ] refl
@@ -125,7 +129,8 @@ may_follow_is k l earlier = follows k (previous l earlier) ∙ ap (admits k) (sy
     follows (ExceptLine star) [] = refl
     follows (ExceptLine star) (x ∷ more) = except_of star (kind_of x.form) (standing x.level more)
     follows FinallyLine [] = refl
-    follows FinallyLine (x ∷ more) = finally_of (kind_of x.form) (begins_with is_except (previous x.level more)) (standing x.level more) (begins_except (previous x.level more) ∙ ap is_after_except (sym (standing_is x.level more)))
+    follows FinallyLine (x ∷ more) = finally_of (kind_of x.form) (begins_with is_except (previous x.level more)) (standing x.level more)
+        (begins_except (previous x.level more) ∙ ap is_after_except (sym (standing_is x.level more)))
     follows _ xs = refl
 
 -- a `try` is the previous line
@@ -135,7 +140,8 @@ pub record TryAt (l : ℕ) (earlier : List Line) : Type 0 where
   pub is : previous l earlier ≡ first ∷ more
   pub kind : kind_of first.form ≡ TryLine
 
-pub try_stands : (l : ℕ) (earlier : List Line) (x : Line) (more : List Line) → previous l earlier ≡ x ∷ more → kind_of x.form ≡ TryLine → standing l earlier ≡ AfterTry
+pub try_stands : (l : ℕ) (earlier : List Line) (x : Line) (more : List Line) → previous l earlier ≡ x ∷ more → kind_of x.form ≡ TryLine
+    → standing l earlier ≡ AfterTry
 try_stands l earlier x more e k = standing_is l earlier ∙ ap stand_of e ∙ ap (λ j. after j (standing x.level more)) k
 
 try_kind : (j : Kind) (s : Standing) → after j s ≡ AfterTry → j ≡ TryLine
@@ -155,18 +161,22 @@ try_at l earlier e = try_in l earlier (previous l earlier) refl (sym (standing_i
 pub standing_above : (l : ℕ) (earlier : List Line) → level_before earlier < l → standing l earlier ≡ Free
 standing_above l [] h = refl
 standing_above l (x ∷ earlier) h =
-    ap (λ b. cond b (standing l earlier) (cond (x.level == l) (after (kind_of x.form) (standing l earlier)) Free)) (not_less l x.level (omega arith))
+    ap (λ b. cond b (standing l earlier) (cond (x.level == l) (after (kind_of x.form) (standing l earlier)) Free))
+        (not_less l x.level (omega arith))
     ∙ ap (λ b. cond b (after (kind_of x.form) (standing l earlier)) Free) (differs x.level l h)
   where
     differs : (a b : ℕ) → a < b → a == b ≡ false
-    differs a b h = elim (a == b) as (λ c. a == b ≡ c → c ≡ false) [ true ↦ λ e. absurd (let i : a ≡ b = eqb-true a b e in omega arith) | false ↦ λ e. refl ] refl
+    differs a b h = elim (a == b) as (λ c. a == b ≡ c → c ≡ false) [ true ↦ λ e. absurd (let i : a ≡ b = eqb-true a b e in omega arith)
+        | false ↦ λ e. refl ] refl
 
 pub standing_below : (l : ℕ) (x : Line) (earlier : List Line) → l < x.level → standing l (x ∷ earlier) ≡ standing l earlier
-standing_below l x earlier h = ap (λ b. cond b (standing l earlier) (cond (x.level == l) (after (kind_of x.form) (standing l earlier)) Free)) (is_less l x.level h)
+standing_below l x earlier h =
+    ap (λ b. cond b (standing l earlier) (cond (x.level == l) (after (kind_of x.form) (standing l earlier)) Free)) (is_less l x.level h)
 
 pub standing_here : (x : Line) (earlier : List Line) → standing x.level (x ∷ earlier) ≡ after (kind_of x.form) (standing x.level earlier)
 standing_here x earlier =
-    ap (λ b. cond b (standing x.level earlier) (cond (x.level == x.level) (after (kind_of x.form) (standing x.level earlier)) Free)) (not_less x.level x.level (omega arith))
+    ap (λ b. cond b (standing x.level earlier) (cond (x.level == x.level) (after (kind_of x.form) (standing x.level earlier)) Free))
+        (not_less x.level x.level (omega arith))
     ∙ ap (λ b. cond b (after (kind_of x.form) (standing x.level earlier)) Free) (eq-eqb x.level x.level refl)
 
 -- ---- In a `match`.

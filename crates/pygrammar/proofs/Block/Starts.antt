@@ -1,7 +1,8 @@
 -- Each line of a source has a place, and so has its end.
 --
 -- Carries: starts_line, starts_end, starts, for Blocks.
-use Rattle.std.proofs.Common.{◌≡◌, ℕ, zero, suc, ◌<◌, ◌≤◌, Bool, true, false, not, ◌&&◌, ◌||◌, ◌==◌, cond, List, [], ◌∷◌, ◌++◌, length, replicate, refl, sym, ap, ◌∙◌, subst, Option, Some, None, if◌then◌else◌, append_assoc, arith}
+use Rattle.std.proofs.Common.{◌≡◌, ℕ, zero, suc, ◌<◌, ◌≤◌, Bool, true, false, not, ◌&&◌, ◌||◌, ◌==◌, cond, List, [], ◌∷◌, ◌++◌, length}
+use Rattle.std.proofs.Common.{replicate, refl, sym, ap, ◌∙◌, subst, Option, Some, None, if◌then◌else◌, append_assoc, arith}
 use Rattle.std.specs.List.{list_all, list_any, count_by}
 use Rattle.std.specs.Prelude.{nat_lt}
 use borrow.Author.Tests.{ltb-true, ltb-false}
@@ -21,7 +22,8 @@ use Rattle.pylex.specs.declared.entries.Step.{Step}
 use Rattle.pylex.specs.declared.entries.Step.TheVariants as steps
 use Rattle.pylex.specs.Indentation.{open_levels, width_at, widths, dedents, layout, layout_by}
 use Rattle.pylex.specs.Lines.{depth, is_significant, is_at_margin, is_logical, text_before}
-use Rattle.pylex.specs.Listing.{Source, listing, up_to_end, entry_of, steps_of, stop_fault, line_end_of_last, end_place, begins_comment, last_line, ends_in_join, tail, stop, steps_from}
+use Rattle.pylex.specs.Listing.{Source, listing, up_to_end, entry_of, steps_of, stop_fault, line_end_of_last, end_place, begins_comment}
+use Rattle.pylex.specs.Listing.{last_line, ends_in_join, tail, stop, steps_from}
 use Rattle.pylex.specs.Steps.{entries_of, fault_of, mark, fault_at}
 use Rattle.pylex.specs.Laws.{EndsWithMarker}
 use Rattle.pysource.specs.Places.{place_after}
@@ -62,14 +64,16 @@ module _ (text : List ℕ) (es before : List Entry) (seen line : List Token)
   closed : (line : List Token) → false ≡ true → IsFilled line
   closed line o = absurd cc
 
-  one : (k : Kind) (x : Option Exact) (p q : Place) (f t : ℕ) → AreFilled (lines_from seen line (tokens_from text before (entry k x p q f t ∷ es)))
+  one : (k : Kind) (x : Option Exact) (p q : Place) (f t : ℕ)
+      → AreFilled (lines_from seen line (tokens_from text before (entry k x p q f t ∷ es)))
   one kinds.Encoding x p q f t = ih (entry kinds.Encoding x p q f t ∷ before) seen line (closed line)
   one kinds.Comment x p q f t = ih (entry kinds.Comment x p q f t ∷ before) seen line h
   one kinds.Nl x p q f t = ih (entry kinds.Nl x p q f t ∷ before) seen line h
   one kinds.Newline x p q f t =
       let e = entry kinds.Newline x p q f t in
       let u = token_of text e in
-      elim (is_open before) as (λ b. (b ≡ true → IsFilled line) → AreFilled (lines_from seen line ((if b then u ∷ [] else []) ++ tokens_from text (e ∷ before) es))) [
+      elim (is_open before) as (λ b. (b ≡ true → IsFilled line)
+          → AreFilled (lines_from seen line ((if b then u ∷ [] else []) ++ tokens_from text (e ∷ before) es))) [
         | true ↦ λ o. (o refl, ih (e ∷ before) (u ∷ seen) [] (closed []))
         | false ↦ λ o. ih (e ∷ before) seen line (closed line)
       ] h
@@ -78,35 +82,44 @@ module _ (text : List ℕ) (es before : List Entry) (seen line : List Token)
   one kinds.Dedent x p q f t =
       let e = entry kinds.Dedent x p q f t in
       let u = token_of text e in
-      elim (is_open before) as (λ b. (b ≡ true → IsFilled line) → AreFilled (lines_from seen line ((if b then supplied text ∷ u ∷ [] else u ∷ []) ++ tokens_from text (e ∷ before) es))) [
+      elim (is_open before) as (λ b. (b ≡ true → IsFilled line)
+          → AreFilled (lines_from seen line ((if b then supplied text ∷ u ∷ [] else u ∷ []) ++ tokens_from text (e ∷ before) es))) [
         | true ↦ λ o. (o refl, ih (e ∷ before) (u ∷ supplied text ∷ seen) [] (closed []))
         | false ↦ λ o. ih (e ∷ before) (u ∷ seen) line (closed line)
       ] h
   one kinds.EndMarker x p q f t =
       let e = entry kinds.EndMarker x p q f t in
       let u = token_of text e in
-      elim (is_open before) as (λ b. (b ≡ true → IsFilled line) → AreFilled (lines_from seen line ((if b then supplied text ∷ u ∷ [] else u ∷ []) ++ tokens_from text (e ∷ before) es))) [
+      elim (is_open before) as (λ b. (b ≡ true → IsFilled line)
+          → AreFilled (lines_from seen line ((if b then supplied text ∷ u ∷ [] else u ∷ []) ++ tokens_from text (e ∷ before) es))) [
         | true ↦ λ o. (o refl, ih (e ∷ before) (u ∷ supplied text ∷ seen) [] (closed []))
         | false ↦ λ o. ih (e ∷ before) (u ∷ seen) line (closed line)
       ] h
   one kinds.Name x p q f t =
-      let e = entry kinds.Name x p q f t in ih (e ∷ before) (token_of text e ∷ seen) (line ++ token_of text e ∷ []) (λ o. filled_on line (token_of text e))
+      let e = entry kinds.Name x p q f t in ih (e ∷ before) (token_of text e ∷ seen) (line ++ token_of text e ∷ [])
+          (λ o. filled_on line (token_of text e))
   one kinds.Number x p q f t =
-      let e = entry kinds.Number x p q f t in ih (e ∷ before) (token_of text e ∷ seen) (line ++ token_of text e ∷ []) (λ o. filled_on line (token_of text e))
+      let e = entry kinds.Number x p q f t in ih (e ∷ before) (token_of text e ∷ seen) (line ++ token_of text e ∷ [])
+          (λ o. filled_on line (token_of text e))
   one kinds.String x p q f t =
-      let e = entry kinds.String x p q f t in ih (e ∷ before) (token_of text e ∷ seen) (line ++ token_of text e ∷ []) (λ o. filled_on line (token_of text e))
+      let e = entry kinds.String x p q f t in ih (e ∷ before) (token_of text e ∷ seen) (line ++ token_of text e ∷ [])
+          (λ o. filled_on line (token_of text e))
   one kinds.Op x p q f t =
-      let e = entry kinds.Op x p q f t in ih (e ∷ before) (token_of text e ∷ seen) (line ++ token_of text e ∷ []) (λ o. filled_on line (token_of text e))
+      let e = entry kinds.Op x p q f t in ih (e ∷ before) (token_of text e ∷ seen) (line ++ token_of text e ∷ [])
+          (λ o. filled_on line (token_of text e))
 
-lines_filled : (text : List ℕ) (es before : List Entry) (seen line : List Token) → Open before line → AreFilled (lines_from seen line (tokens_from text before es))
+lines_filled : (text : List ℕ) (es before : List Entry) (seen line : List Token) → Open before line
+    → AreFilled (lines_from seen line (tokens_from text before es))
 lines_filled text [] before seen line h = tt
-lines_filled text (e ∷ es) before seen line h = one text es before seen line (lines_filled text es) h e.kind e.exact e.start e.«end» e.«from» e.to
+lines_filled text (e ∷ es) before seen line h = one text es before seen line (lines_filled text es) h e.kind e.exact
+    e.start e.«end» e.«from» e.to
 
 all_filled : (s : Source) → AreFilled (lines s)
 unfolding tokens lines
 all_filled s = lines_filled s.text (entries_of (listing s)) [] [] [] (λ o. absurd cc)
 
-split_at : {A : Type 0} (xs : List A) (n : ℕ) → n < length xs → (front : List A) × (x : A) × (back : List A) × (xs ≡ front ++ (x ∷ back)) × (length front ≡ n)
+split_at : {A : Type 0} (xs : List A) (n : ℕ) → n < length xs
+    → (front : List A) × (x : A) × (back : List A) × (xs ≡ front ++ (x ∷ back)) × (length front ≡ n)
 split_at [] n h = absurd (omega (arith, h))
 split_at (x ∷ xs) zero h = ([], x, xs, refl, refl)
 split_at (x ∷ xs) (suc n) h = let r = split_at xs n (omega (arith, h)) in (x ∷ r.0, r.1, r.2, ap (λ z. x ∷ z) r.3, ap suc r.4)
@@ -192,7 +205,8 @@ module _ (before : List Lexeme) where
 
   steps_no_end : (x : Lexeme) → NoEnd (steps_of before x)
   unfolding steps_of
-  steps_no_end x = NoEnd-append (cond (is_significant x) (layout before) []) (entry_of before x) (cond_no_end (is_significant x) (layout before) [] layout_no_end tt) (entry_no_end x)
+  steps_no_end x = NoEnd-append (cond (is_significant x) (layout before) []) (entry_of before x)
+      (cond_no_end (is_significant x) (layout before) [] layout_no_end tt) (entry_no_end x)
 
   last_no_end : (p : Place) → NoEnd (line_end_of_last before p)
   unfolding line_end_of_last
@@ -216,7 +230,8 @@ module _ (before : List Lexeme) where
       (stops_behind (layout before) _ layout_no_end (is_fault (place_after (text_before before))))
       (by_fault o)
     where
-      in_string : (o : Option ListingFault) (p : Place) → Stops (elim o [ Some f ↦ steps.Fault f | None ↦ fault_at errors.EofInString p ] ∷ [])
+      in_string : (o : Option ListingFault) (p : Place)
+          → Stops (elim o [ Some f ↦ steps.Fault f | None ↦ fault_at errors.EofInString p ] ∷ [])
       in_string (Some f) p = fault
       in_string None p = fault
 
@@ -227,7 +242,8 @@ module _ (before : List Lexeme) where
       is_fault : (p : Place) → Stops (stop_fault o p left ∷ [])
       is_fault p = either (not (opens_string left)) _ _ fault (either (not (is_open_string left)) _ _ fault (in_string o p))
 
-      by_fault : (o : Option ListingFault) → Stops (elim o [ Some f ↦ steps.Fault f ∷ [] | None ↦ tail before (place_after (text_before before)) ])
+      by_fault : (o : Option ListingFault)
+          → Stops (elim o [ Some f ↦ steps.Fault f ∷ [] | None ↦ tail before (place_after (text_before before)) ])
       by_fault (Some f) = fault
       by_fault None = tail_stops (place_after (text_before before))
 
@@ -250,14 +266,16 @@ pub no_listing_fault : (x : Extent) (s : Source) → refusal x s ≡ None → fa
 unfolding refusal_at
 no_listing_fault x s h = by_fault (fault_of (listing s)) (refusal_of x most_brackets s.text (entries_of (listing s))) h
   where
-    by_fault : (o : Option ListingFault) (r : Option Refusal) → ◌≡◌ {A = Option Refusal} (elim o [ Some f ↦ Some (refusals.Listing f) | None ↦ r ]) None → o ≡ None
+    by_fault : (o : Option ListingFault) (r : Option Refusal)
+        → ◌≡◌ {A = Option Refusal} (elim o [ Some f ↦ Some (refusals.Listing f) | None ↦ r ]) None → o ≡ None
     by_fault (Some f) r h = absurd cc
     by_fault None r h = refl
 
 abbrev HasLast : List Token → Type 0
 HasLast ts = (front : List Token) × (t : Token) × (ts ≡ front ++ (t ∷ []))
 
-marker_tokens : (text : List ℕ) (b : Bool) (k : Kind) (x : Option Exact) (p q : Place) (f t : ℕ) → k ≡ kinds.EndMarker → HasLast (tokens_of_entry text b (entry k x p q f t))
+marker_tokens : (text : List ℕ) (b : Bool) (k : Kind) (x : Option Exact) (p q : Place) (f t : ℕ) → k ≡ kinds.EndMarker
+    → HasLast (tokens_of_entry text b (entry k x p q f t))
 marker_tokens text true kinds.EndMarker x p q f t h = (supplied text ∷ [], token_of text (entry kinds.EndMarker x p q f t), refl)
 marker_tokens text false kinds.EndMarker x p q f t h = ([], token_of text (entry kinds.EndMarker x p q f t), refl)
 marker_tokens text b _ x p q f t h = absurd cc

@@ -1,7 +1,8 @@
 -- Each source is accepted or refused.
 --
 -- Carries: answered, for SourceLaw. On: Deep, Answered, Law, Starts.
-use Rattle.std.proofs.Common.{◌≡◌, ◌⊎◌, inl, inr, ℕ, suc, ◌-◌, ◌<◌, ◌≤◌, List, [], ◌∷◌, length, Option, Some, None, Bool, true, false, refl, arith}
+use Rattle.std.proofs.Common.{◌≡◌, ◌⊎◌, inl, inr, ℕ, suc, ◌-◌, ◌<◌, ◌≤◌, List, [], ◌∷◌, length, Option, Some, None, Bool, true, false, refl}
+use Rattle.std.proofs.Common.{arith}
 use Rattle.std.specs.Prelude.{nat_lt}
 use borrow.Author.Tests.{ltb-true, ltb-false}
 use Rattle.pylex.specs.Listing.{Source}
@@ -16,7 +17,9 @@ use Rattle.pygrammar.specs.Lines.{Line, line, Form}
 use Rattle.pygrammar.specs.FormHeights.{form_height}
 use Rattle.pygrammar.specs.Forms.{FormAt}
 use Rattle.pygrammar.specs.Blocks.{stands_in_match, Block, Fault, FirstFault, fault_at_end, fault_at, fault_behind}
-use Rattle.pygrammar.specs.Refusals.{Code, Syntax, MatchStatement, Indentation, TooDeep, Reason, in_tokens, at, terminals, HasForm, HasNone, is_left_out, Formed, formed_end, formed_line, Unread, too_high, no_match, no_form, FirstUnread, unread, unread_behind, Accepted, Refused, by_tokens, by_line, by_block, by_height}
+use Rattle.pygrammar.specs.Refusals.{Code, Syntax, MatchStatement, Indentation, TooDeep, Reason, in_tokens, at, terminals, HasForm, HasNone}
+use Rattle.pygrammar.specs.Refusals.{is_left_out, Formed, formed_end, formed_line, Unread, too_high, no_match, no_form, FirstUnread, unread}
+use Rattle.pygrammar.specs.Refusals.{unread_behind, Accepted, Refused, by_tokens, by_line, by_block, by_height}
 use Rattle.pygrammar.proofs.Line.Answered.{read_or_not}
 use Rattle.pygrammar.proofs.Block.Law.{fault_or_tree}
 use Rattle.pygrammar.proofs.Block.Deep.{formed_flat, formed_proper, deep_is_high, deep_within}
@@ -24,7 +27,8 @@ use Rattle.pygrammar.proofs.Block.Starts.{starts}
 
 -- ---- Lines.
 
-low_or_high : (profile : Profile) (inside : Bool) (x : Tokens.Line) (f : Form) → FormAt profile inside (terminals x) f → HasForm profile inside x f ⊎ Unread profile inside x TooDeep
+low_or_high : (profile : Profile) (inside : Bool) (x : Tokens.Line) (f : Form) → FormAt profile inside (terminals x) f
+    → HasForm profile inside x f ⊎ Unread profile inside x TooDeep
 low_or_high profile inside x f p = by_height_of (nat_lt 500 (form_height f)) refl
   where
     by_height_of : (b : Bool) → nat_lt 500 (form_height f) ≡ b → HasForm profile inside x f ⊎ Unread profile inside x TooDeep
@@ -38,7 +42,8 @@ none_unread profile inside x p = by_first (is_left_out profile x) refl
     by_first true e = (MatchStatement, no_match p e)
     by_first false e = (Syntax, no_form p e)
 
-line_or_not : (profile : Profile) (inside : Bool) (x : Tokens.Line) → ((f : Form) × HasForm profile inside x f) ⊎ ((c : Code) × Unread profile inside x c)
+line_or_not : (profile : Profile) (inside : Bool) (x : Tokens.Line)
+    → ((f : Form) × HasForm profile inside x f) ⊎ ((c : Code) × Unread profile inside x c)
 line_or_not profile inside x = elim (read_or_not profile inside (terminals x)) [
   | inl r ↦ elim (low_or_high profile inside x r.0 r.2) [ inl h ↦ inl (r.0, h) | inr h ↦ inr (TooDeep, h) ]
   | inr r ↦ inr (none_unread profile inside x r.1)
@@ -46,7 +51,8 @@ line_or_not profile inside x = elim (read_or_not profile inside (terminals x)) [
 
 -- each line has a form, or there is a first that has none
 lines_or_not : (profile : Profile) (earlier : List Line) (xs : List Tokens.Line) →
-    ((ys : List Line) × Formed profile earlier xs ys × (length ys ≡ length xs)) ⊎ ((n : ℕ) × (c : Code) × FirstUnread profile earlier xs n c × (n < length xs))
+    ((ys : List Line) × Formed profile earlier xs ys × (length ys ≡ length xs)) ⊎ ((n : ℕ) × (c : Code) × FirstUnread profile earlier
+        xs n c × (n < length xs))
 lines_or_not profile earlier [] = inl ([], formed_end, refl)
 lines_or_not profile earlier (x ∷ xs) = elim (line_or_not profile (stands_in_match x.level earlier) x) [
   | inl h ↦ elim (lines_or_not profile (line x.level h.0 ∷ earlier) xs) [
@@ -67,7 +73,8 @@ abbrev IsAnswered : Profile → Source → Type 0
 IsAnswered profile s = ((m : Module) × Accepted profile s m) ⊎ ((r : Reason) × Refused profile s r)
 
 module _ (profile : Profile) (s : Source) (clear : refusal profile.extent s ≡ None) where
-  of_tree : (forms : List Line) (m : Module) → Formed profile [] (lines s) forms → length forms ≡ length (lines s) → Block 0 forms m.body → IsAnswered profile s
+  of_tree : (forms : List Line) (m : Module) → Formed profile [] (lines s) forms → length forms ≡ length (lines s)
+      → Block 0 forms m.body → IsAnswered profile s
   of_tree forms m p l b = by_depth (nat_lt 500 (statement_height m)) refl
     where
       by_depth : (c : Bool) → nat_lt 500 (statement_height m) ≡ c → IsAnswered profile s
@@ -79,7 +86,8 @@ module _ (profile : Profile) (s : Source) (clear : refusal profile.extent s ≡ 
           inr (at place.0 TooDeep, by_height clear p b h d.1 place.1)
       by_depth false e = inl (m, record { clear = clear; forms = forms; formed = p; block = b; low = ltb-false 500 (statement_height m) e })
 
-  of_fault : (forms rest : List Line) (f : Fault) → Formed profile [] (lines s) forms → length forms ≡ length (lines s) → FirstFault [] forms rest f → IsAnswered profile s
+  of_fault : (forms rest : List Line) (f : Fault) → Formed profile [] (lines s) forms → length forms ≡ length (lines s)
+      → FirstFault [] forms rest f → IsAnswered profile s
   of_fault forms rest f p l h =
       let w = fault_within h in
       let n : ℕ = length forms - length rest in

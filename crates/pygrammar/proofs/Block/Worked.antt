@@ -5,7 +5,8 @@ use Rattle.std.proofs.Common.{◌≡◌, ℕ, List, [], ◌∷◌, Some, None, t
 use Rattle.pytree_node.specs.Trees.{Expr, no_keyword, Arguments, Stmt, If, ClassDef, Try, ExprOf, stmts, handlers}
 use Rattle.pytree_node.specs.Trees as Trees
 use Rattle.pytree_node.specs.declared.operators.Context.TheVariants.{Load}
-use Rattle.pygrammar.specs.Lines.{Line, line, simple_form, decorator_form, header_form, Header, if_header, elif_header, else_header, loop_header, try_header, except_header, finally_header, def_header, for_head, class_head}
+use Rattle.pygrammar.specs.Lines.{Line, line, simple_form, decorator_form, header_form, Header, if_header, elif_header, else_header}
+use Rattle.pygrammar.specs.Lines.{loop_header, try_header, except_header, finally_header, def_header, for_head, class_head}
 use Rattle.pygrammar.specs.Blocks.{Block, handler, Fault, ExpectedIndent, UnexpectedIndent, MisplacedClause, FirstFault}
 use Rattle.pygrammar.specs.Reading.{Answer, Faulty, start, stops, read}
 use Rattle.pygrammar.proofs.Block.Sound.{read_gives}
@@ -64,16 +65,22 @@ decorated_end : FirstFault [] (line 0 (decorator_form (v 1)) ∷ []) [] Misplace
 decorated_end = refused (line 0 (decorator_form (v 1)) ∷ []) [] MisplacedClause refl refl
 
 -- two `else` of a `for`
-else_twice : FirstFault [] (short 0 (loop_header (for_head false (v 1) (v 2))) 3 ∷ short 0 else_header 4 ∷ short 0 else_header 5 ∷ []) (short 0 else_header 5 ∷ []) MisplacedClause
-else_twice = refused (short 0 (loop_header (for_head false (v 1) (v 2))) 3 ∷ short 0 else_header 4 ∷ short 0 else_header 5 ∷ []) (short 0 else_header 5 ∷ []) MisplacedClause refl refl
+else_twice : FirstFault [] (short 0 (loop_header (for_head false (v 1) (v 2))) 3 ∷ short 0 else_header 4 ∷ short 0 else_header 5 ∷ [])
+    (short 0 else_header 5 ∷ []) MisplacedClause
+else_twice = refused (short 0 (loop_header (for_head false (v 1) (v 2))) 3 ∷ short 0 else_header 4 ∷ short 0 else_header 5 ∷ [])
+    (short 0 else_header 5 ∷ []) MisplacedClause refl refl
 
 -- `except` and `except *` in one group
-two_kinds : FirstFault [] (short 0 try_header 1 ∷ short 0 (except_header false None None) 2 ∷ short 0 (except_header true (Some (v 3)) None) 4 ∷ []) (short 0 (except_header true (Some (v 3)) None) 4 ∷ []) MisplacedClause
-two_kinds = refused (short 0 try_header 1 ∷ short 0 (except_header false None None) 2 ∷ short 0 (except_header true (Some (v 3)) None) 4 ∷ []) (short 0 (except_header true (Some (v 3)) None) 4 ∷ []) MisplacedClause refl refl
+two_kinds : FirstFault [] (short 0 try_header 1 ∷ short 0 (except_header false None None) 2 ∷ short 0 (except_header true (Some (v 3)) None)
+    4 ∷ []) (short 0 (except_header true (Some (v 3)) None) 4 ∷ []) MisplacedClause
+two_kinds = refused (short 0 try_header 1 ∷ short 0 (except_header false None None) 2 ∷ short 0 (except_header true (Some (v 3)) None) 4 ∷
+    []) (short 0 (except_header true (Some (v 3)) None) 4 ∷ []) MisplacedClause refl refl
 
 -- a `finally` behind the `else` of a `for`
-finally_of_for : FirstFault [] (short 0 (loop_header (for_head false (v 1) (v 2))) 3 ∷ short 0 else_header 4 ∷ short 0 finally_header 5 ∷ []) (short 0 finally_header 5 ∷ []) MisplacedClause
-finally_of_for = refused (short 0 (loop_header (for_head false (v 1) (v 2))) 3 ∷ short 0 else_header 4 ∷ short 0 finally_header 5 ∷ []) (short 0 finally_header 5 ∷ []) MisplacedClause refl refl
+finally_of_for : FirstFault [] (short 0 (loop_header (for_head false (v 1) (v 2))) 3 ∷ short 0 else_header 4 ∷ short 0 finally_header 5 ∷
+    []) (short 0 finally_header 5 ∷ []) MisplacedClause
+finally_of_for = refused (short 0 (loop_header (for_head false (v 1) (v 2))) 3 ∷ short 0 else_header 4 ∷ short 0 finally_header 5 ∷ [])
+    (short 0 finally_header 5 ∷ []) MisplacedClause refl refl
 
 -- an `elif` is an If inside the one before
 elif_nested : Block 0 (short 0 (if_header (v 1)) 2 ∷ head 0 (elif_header (v 3)) ∷ says 1 4 ∷ short 0 else_header 5 ∷ [])
@@ -81,11 +88,13 @@ elif_nested : Block 0 (short 0 (if_header (v 1)) 2 ∷ head 0 (elif_header (v 3)
 elif_nested = read_gives _ _ refl refl
 
 -- a whole `try` group, and a statement after it
-try_group : Block 0 (short 0 try_header 1 ∷ short 0 (except_header false (Some (v 2)) None) 3 ∷ short 0 else_header 4 ∷ short 0 finally_header 5 ∷ says 0 6 ∷ [])
+try_group : Block 0 (short 0 try_header 1 ∷ short 0 (except_header false (Some (v 2)) None) 3 ∷ short 0 else_header 4 ∷ short 0
+    finally_header 5 ∷ says 0 6 ∷ [])
     (Try (stmts (s 1)) (handlers (handler (Some (v 2)) None (s 3) ∷ [])) (stmts (s 4)) (stmts (s 5)) ∷ s 6)
 try_group = read_gives _ _ refl refl
 
 -- decorators
-decorated_class : Block 0 (line 0 (decorator_form (v 1)) ∷ line 0 (decorator_form (v 2)) ∷ short 0 (def_header (class_head (3 ∷ []) [] [] no_keyword)) 4 ∷ [])
+decorated_class : Block 0 (line 0 (decorator_form (v 1)) ∷ line 0 (decorator_form (v 2)) ∷ short 0
+    (def_header (class_head (3 ∷ []) [] [] no_keyword)) 4 ∷ [])
     (ClassDef (3 ∷ []) [] no_keyword (stmts (s 4)) (v 1 ∷ v 2 ∷ []) [] ∷ [])
 decorated_class = read_gives _ _ refl refl

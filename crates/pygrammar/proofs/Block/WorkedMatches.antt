@@ -3,7 +3,8 @@
 -- Carries: no contract; its rows are computed as it is checked. On: Worked, WorkedDepths, Sound.
 use Rattle.std.proofs.Common.{◌≡◌, ℕ, zero, suc, ◌+◌, List, [], ◌∷◌, ◌++◌, Some, None, true, false, refl}
 use Rattle.pytree_node.specs.Trees.{Pattern, MatchAs, MatchValue, absent_pattern, no_keyword, If, Match, cases, stmts}
-use Rattle.pygrammar.specs.Lines.{Line, line, decorator_form, Header, if_header, else_header, try_header, finally_header, def_header, match_header, case_header, class_head, are_proper}
+use Rattle.pygrammar.specs.Lines.{Line, line, decorator_form, Header, if_header, else_header, try_header, finally_header, def_header}
+use Rattle.pygrammar.specs.Lines.{match_header, case_header, class_head, are_proper}
 use Rattle.pygrammar.specs.Blocks.{Block, case_of, ExpectedIndent, UnexpectedIndent, MisplacedClause, FirstFault, stands_in_match}
 use Rattle.pygrammar.specs.Reading.{Fine, read}
 use Rattle.pygrammar.specs.Depths.{first_deep}
@@ -57,11 +58,15 @@ match_alone : FirstFault [] (head 0 matches ∷ []) [] ExpectedIndent
 match_alone = refused (head 0 matches ∷ []) [] ExpectedIndent refl refl
 
 -- directly in a `match` another `match`, a decorator, and after a case an `else` or any other line
-match_inside : FirstFault [] (head 0 matches ∷ head 1 matches ∷ short 2 other 3 ∷ []) (head 1 matches ∷ short 2 other 3 ∷ []) MisplacedClause
-match_inside = refused (head 0 matches ∷ head 1 matches ∷ short 2 other 3 ∷ []) (head 1 matches ∷ short 2 other 3 ∷ []) MisplacedClause refl refl
+match_inside : FirstFault [] (head 0 matches ∷ head 1 matches ∷ short 2 other 3 ∷ [])
+    (head 1 matches ∷ short 2 other 3 ∷ []) MisplacedClause
+match_inside = refused (head 0 matches ∷ head 1 matches ∷ short 2 other 3 ∷ []) (head 1 matches ∷ short 2 other 3 ∷ [])
+    MisplacedClause refl refl
 
-decorator_inside : FirstFault [] (head 0 matches ∷ line 1 (decorator_form (v 2)) ∷ short 1 other 3 ∷ []) (line 1 (decorator_form (v 2)) ∷ short 1 other 3 ∷ []) MisplacedClause
-decorator_inside = refused (head 0 matches ∷ line 1 (decorator_form (v 2)) ∷ short 1 other 3 ∷ []) (line 1 (decorator_form (v 2)) ∷ short 1 other 3 ∷ []) MisplacedClause refl refl
+decorator_inside : FirstFault [] (head 0 matches ∷ line 1 (decorator_form (v 2)) ∷ short 1 other 3 ∷ [])
+    (line 1 (decorator_form (v 2)) ∷ short 1 other 3 ∷ []) MisplacedClause
+decorator_inside = refused (head 0 matches ∷ line 1 (decorator_form (v 2)) ∷ short 1 other 3 ∷ [])
+    (line 1 (decorator_form (v 2)) ∷ short 1 other 3 ∷ []) MisplacedClause refl refl
 
 else_inside : FirstFault [] (head 0 matches ∷ short 1 other 2 ∷ short 1 else_header 3 ∷ []) (short 1 else_header 3 ∷ []) MisplacedClause
 else_inside = refused (head 0 matches ∷ short 1 other 2 ∷ short 1 else_header 3 ∷ []) (short 1 else_header 3 ∷ []) MisplacedClause refl refl
@@ -73,12 +78,16 @@ statement_after_case = refused (head 0 matches ∷ short 1 other 2 ∷ says 1 3 
 else_behind : FirstFault [] (head 0 matches ∷ short 1 other 2 ∷ short 0 else_header 3 ∷ []) (short 0 else_header 3 ∷ []) MisplacedClause
 else_behind = refused (head 0 matches ∷ short 1 other 2 ∷ short 0 else_header 3 ∷ []) (short 0 else_header 3 ∷ []) MisplacedClause refl refl
 
-decorated_match : FirstFault [] (line 0 (decorator_form (v 2)) ∷ head 0 matches ∷ short 1 other 3 ∷ []) (head 0 matches ∷ short 1 other 3 ∷ []) MisplacedClause
-decorated_match = refused (line 0 (decorator_form (v 2)) ∷ head 0 matches ∷ short 1 other 3 ∷ []) (head 0 matches ∷ short 1 other 3 ∷ []) MisplacedClause refl refl
+decorated_match : FirstFault [] (line 0 (decorator_form (v 2)) ∷ head 0 matches ∷ short 1 other 3 ∷ [])
+    (head 0 matches ∷ short 1 other 3 ∷ []) MisplacedClause
+decorated_match = refused (line 0 (decorator_form (v 2)) ∷ head 0 matches ∷ short 1 other 3 ∷ []) (head 0 matches ∷ short 1 other 3 ∷ [])
+    MisplacedClause refl refl
 
 -- a case that ends a `try`
-case_after_try : FirstFault [] (head 0 matches ∷ head 1 other ∷ short 2 try_header 2 ∷ short 1 other 3 ∷ []) (short 1 other 3 ∷ []) MisplacedClause
-case_after_try = refused (head 0 matches ∷ head 1 other ∷ short 2 try_header 2 ∷ short 1 other 3 ∷ []) (short 1 other 3 ∷ []) MisplacedClause refl refl
+case_after_try : FirstFault [] (head 0 matches ∷ head 1 other ∷ short 2 try_header 2 ∷ short 1 other 3 ∷ [])
+    (short 1 other 3 ∷ []) MisplacedClause
+case_after_try = refused (head 0 matches ∷ head 1 other ∷ short 2 try_header 2 ∷ short 1 other 3 ∷ []) (short 1 other 3 ∷ [])
+    MisplacedClause refl refl
 
 -- a case in no `match`: first of all, beside its `match`, in the block of a case
 case_first : FirstFault [] (short 0 other 2 ∷ []) (short 0 other 2 ∷ []) MisplacedClause
@@ -105,9 +114,11 @@ two_cases : Block 0 (head 0 matches ∷ head 1 (case_header (value 2) (Some (v 3
 two_cases = read_gives _ _ refl refl
 
 -- a `match` in a case, and one in the suite of an `if`
-match_in_case : Block 0 (head 0 (if_header (v 1)) ∷ head 1 matches ∷ head 2 other ∷ head 3 matches ∷ short 4 (case_header (value 2) None) 3 ∷ short 2 other 4 ∷ short 0 else_header 5 ∷ [])
+match_in_case : Block 0 (head 0 (if_header (v 1)) ∷ head 1 matches ∷ head 2 other ∷ head 3 matches ∷ short 4 (case_header (value 2) None) 3
+    ∷ short 2 other 4 ∷ short 0 else_header 5 ∷ [])
     (If (v 1)
-    (stmts (Match (v 1) (cases (case_of any None (Match (v 1) (cases (case_of (value 2) None (s 3) ∷ [])) ∷ []) ∷ case_of any None (s 4) ∷ [])) ∷ []))
+    (stmts (Match (v 1) (cases (case_of any None (Match (v 1) (cases (case_of (value 2) None (s 3) ∷ [])) ∷ []) ∷ case_of any
+        None (s 4) ∷ [])) ∷ []))
     (stmts (s 5)) ∷ [])
 match_in_case = read_gives _ _ refl refl
 
@@ -120,10 +131,12 @@ improper = (refl, refl)
 flat_cases : Agrees (head 0 matches ∷ short 1 (case_header (value 2) None) 2 ∷ head 1 other ∷ says 2 3 ∷ []) 2
 flat_cases = (refl, refl)
 
-deep_cases : Agrees (head 0 matches ∷ head 1 other ∷ head 2 (if_header (v 1)) ∷ short 3 (if_header (v 1)) 2 ∷ short 1 other 3 ∷ says 0 4 ∷ []) 4
+deep_cases : Agrees (head 0 matches ∷ head 1 other ∷ head 2 (if_header (v 1)) ∷ short 3 (if_header (v 1)) 2 ∷ short 1
+    other 3 ∷ says 0 4 ∷ []) 4
 deep_cases = (refl, refl)
 
-nested : Agrees (head 0 matches ∷ head 1 other ∷ head 2 matches ∷ head 3 other ∷ head 4 (def_header (class_head (3 ∷ []) [] [] no_keyword)) ∷ says 5 3 ∷ short 1 other 3 ∷ []) 4
+nested : Agrees (head 0 matches ∷ head 1 other ∷ head 2 matches ∷ head 3 other ∷ head 4 (def_header (class_head (3 ∷ []) [] [] no_keyword))
+    ∷ says 5 3 ∷ short 1 other 3 ∷ []) 4
 nested = (refl, refl)
 
 tries : Agrees (head 0 try_header ∷ head 1 matches ∷ short 2 other 3 ∷ short 0 finally_header 5 ∷ []) 3

@@ -7,7 +7,8 @@ use Rattle.pytoken.specs.Terminals.{Terminal}
 use Rattle.pygrammar.specs.Grammar.{Derives}
 use Rattle.pygrammar.specs.Reader.{Answer, Found, NoForm, TooDeep, reads}
 use Rattle.pygrammar.specs.Meets.{Shapeless}
-use Rattle.pygrammar.specs.Laws.{ExpressionsAreUnique, ExpressionsAreDecided, HeightsAreBounded, ReaderIsExact, LimitIsExact, LimitMeets, GrammarIsLawful}
+use Rattle.pygrammar.specs.Laws.{ExpressionsAreUnique, ExpressionsAreDecided, HeightsAreBounded, ReaderIsExact, LimitIsExact, LimitMeets}
+use Rattle.pygrammar.specs.Laws.{GrammarIsLawful}
 use Rattle.pygrammar.proofs.Completeness.Complete
 use Rattle.pygrammar.proofs.Depths.Whole
 use Rattle.pygrammar.proofs.Heights.Bound

@@ -31,5 +31,6 @@ lines_are_lawful = record {
 }
 
 -- a line has the form of the header of a `match` exactly where it begins with that word and ends in a colon
-pub match_by_ends : (profile : Profile) (inside : Bool) (ts : List Terminal) (f : Form) → FormAt profile inside ts f → is_match (kind_of f) ≡ has_match_ends ts
+pub match_by_ends : (profile : Profile) (inside : Bool) (ts : List Terminal) (f : Form) → FormAt profile inside ts f
+    → is_match (kind_of f) ≡ has_match_ends ts
 match_by_ends profile inside ts f p = MatchLines.match_by_ends p

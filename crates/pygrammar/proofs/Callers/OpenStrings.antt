@@ -25,7 +25,8 @@ use Rattle.pygrammar.proofs.Opened.Expressions
 use Rattle.pygrammar.proofs.Opened.Patterns
 use Rattle.pygrammar.proofs.Opened.Forms as Lines
 use Rattle.pygrammar.proofs.Opened.Tokens
-pub use Rattle.pygrammar.proofs.Opened.Counts.{behind_append, tokens_append, count_append, count_most, count_plain, count_within, count_formatted}
+pub use Rattle.pygrammar.proofs.Opened.Counts.{behind_append, tokens_append, count_append, count_most, count_plain, count_within}
+pub use Rattle.pygrammar.proofs.Opened.Counts.{count_formatted}
 pub use Rattle.pygrammar.proofs.Opened.Tokens.{terminals_counted, tokens_counted}
 
 -- ---- Tokens.
@@ -47,7 +48,8 @@ yields_closes p = (Expressions.closes_yields p).is
 pub perhaps_closes : {l : Level} {ts : List Terminal} {a : OptionalExpr} → Grammar.Perhaps l ts a → (o : Open) → open_behind_all o ts ≡ o
 perhaps_closes p = (Expressions.closes_perhaps p).is
 
-pub suffix_closes : {s : Option Exact} {ts : List Terminal} {a : OptionalExpr} → Grammar.Suffix s ts a → (o : Open) → open_behind_all o ts ≡ o
+pub suffix_closes : {s : Option Exact} {ts : List Terminal} {a : OptionalExpr} → Grammar.Suffix s ts a → (o : Open)
+    → open_behind_all o ts ≡ o
 suffix_closes p = (Expressions.closes_suffix p).is
 
 pub chain_closes : {b : BoolOperator} {ts : List Terminal} {es : List Expr} → Grammar.Chain b ts es → (o : Open) → open_behind_all o ts ≡ o
@@ -56,14 +58,17 @@ chain_closes p = (Expressions.closes_chain p).is
 pub compared_closes : {ts : List Terminal} {c : Comparison} → Grammar.Compared ts c → (o : Open) → open_behind_all o ts ≡ o
 compared_closes p = (Expressions.closes_comparison p).is
 
-pub compares_closes : {ts : List Terminal} {cs : List Comparison} {es : List Expr} → Grammar.Compares ts cs es → (o : Open) → open_behind_all o ts ≡ o
+pub compares_closes : {ts : List Terminal} {cs : List Comparison} {es : List Expr} → Grammar.Compares ts cs es → (o : Open)
+    → open_behind_all o ts ≡ o
 compares_closes p = (Expressions.closes_compares p).is
 
 -- the parts of f-strings
-pub literals_closes : {u : Bool} {ts : List Terminal} {ps : List StringPart} → Grammar.Literals u ts ps → (o : Open) → open_behind_all o ts ≡ o
+pub literals_closes : {u : Bool} {ts : List Terminal} {ps : List StringPart} → Grammar.Literals u ts ps → (o : Open)
+    → open_behind_all o ts ≡ o
 literals_closes p = (Expressions.closes_literals p).is
 
-pub formatted_closes : {u : Bool} {ts : List Terminal} {ps : List StringPart} → Grammar.Formatted u ts ps → (o : Open) → open_behind_all o ts ≡ o
+pub formatted_closes : {u : Bool} {ts : List Terminal} {ps : List StringPart} → Grammar.Formatted u ts ps → (o : Open)
+    → open_behind_all o ts ≡ o
 formatted_closes p = (Expressions.closes_formatted p).is
 
 pub spec_closes : {u : Bool} {ts : List Terminal} {a : OptionalExpr} → Grammar.Spec u ts a → (o : Open) → open_behind_all o ts ≡ o
@@ -117,7 +122,8 @@ pub pattern_closes : {l : PatternLevel} {ts : List Terminal} {p : Pattern} → P
     → (o : Open) → open_behind_all o ts ≡ o
 pattern_closes p = (Patterns.closes_pattern p).is
 
-pub alternatives_closes : {ts : List Terminal} {ps : List Pattern} → PatternGrammar.Alternatives ts ps → (o : Open) → open_behind_all o ts ≡ o
+pub alternatives_closes : {ts : List Terminal} {ps : List Pattern} → PatternGrammar.Alternatives ts ps → (o : Open)
+    → open_behind_all o ts ≡ o
 alternatives_closes p = (Patterns.closes_alternatives p).is
 
 pub entries_closes : {i : PatternItem} {ts : List Terminal} {es : List PatternEntry} → PatternGrammar.PatternListing i ts es
@@ -133,10 +139,12 @@ entry_closes p = (Patterns.closes_entry p).is
 pub simple_closes : {profile : Profile} {ts : List Terminal} {s : Stmt} → Forms.Simple profile ts s → (o : Open) → open_behind_all o ts ≡ o
 simple_closes p = (Lines.closes_simple p).is
 
-pub simples_closes : {profile : Profile} {ts : List Terminal} {ss : List Stmt} → Forms.Simples profile ts ss → (o : Open) → open_behind_all o ts ≡ o
+pub simples_closes : {profile : Profile} {ts : List Terminal} {ss : List Stmt} → Forms.Simples profile ts ss → (o : Open)
+    → open_behind_all o ts ≡ o
 simples_closes p = (Lines.closes_simples p).is
 
-pub header_closes : {profile : Profile} {ts : List Terminal} {h : Header} → Forms.HeaderOf profile ts h → (o : Open) → open_behind_all o ts ≡ o
+pub header_closes : {profile : Profile} {ts : List Terminal} {h : Header} → Forms.HeaderOf profile ts h → (o : Open)
+    → open_behind_all o ts ≡ o
 header_closes p = (Lines.closes_header p).is
 
 pub case_closes : {ts : List Terminal} {h : Header} → Forms.CaseOf ts h → (o : Open) → open_behind_all o ts ≡ o

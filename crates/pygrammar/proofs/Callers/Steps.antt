@@ -18,7 +18,8 @@ pub unroll : (d : ℕ) (l : Level) (i : List Terminal) → read (suc d) l i ≡ 
 unroll d Value i = refl
 unroll d _ i = refl
 
-pub unroll_capped : (g d : ℕ) (l : Level) (i : List Terminal) → capped (suc g) (suc d) l i ≡ cap (suc d) (capped_step (suc d) (capped (suc g) (suc d)) (capped g (suc d)) (capped g d) l i)
+pub unroll_capped : (g d : ℕ) (l : Level) (i : List Terminal)
+    → capped (suc g) (suc d) l i ≡ cap (suc d) (capped_step (suc d) (capped (suc g) (suc d)) (capped g (suc d)) (capped g d) l i)
 unroll_capped = Contract.unroll_capped
 
 -- what is found is no higher than the room
@@ -26,13 +27,15 @@ pub capped_low : (g d : ℕ) (l : Level) (i : List Terminal) (e : Expr) (r : Lis
 capped_low = Limits.capped_low
 
 -- beside the plain reader
-pub capped_found : (g d : ℕ) (l : Level) (i : List Terminal) (e : Expr) (r : List Terminal) → capped g d l i ≡ Found e r → read g l i ≡ Found e r
+pub capped_found : (g d : ℕ) (l : Level) (i : List Terminal) (e : Expr) (r : List Terminal) → capped g d l i ≡ Found e r
+    → read g l i ≡ Found e r
 capped_found = Limits.capped_found
 
 pub capped_no_form : (g d : ℕ) (l : Level) (i : List Terminal) → capped g d l i ≡ NoForm → read g l i ≡ NoForm
 capped_no_form = Limits.capped_no_form
 
-pub capped_deep : (g d : ℕ) (l : Level) (i : List Terminal) (e : Expr) (r : List Terminal) → capped g d l i ≡ TooDeep → read g l i ≡ Found e r → d < height e
+pub capped_deep : (g d : ℕ) (l : Level) (i : List Terminal) (e : Expr) (r : List Terminal) → capped g d l i ≡ TooDeep
+    → read g l i ≡ Found e r → d < height e
 capped_deep = Limits.capped_deep
 
 pub enough : (g : ℕ) (l : Level) (ts : List Terminal) → length ts < g → read g l ts ≡ reads l ts

@@ -1,10 +1,17 @@
 -- Tests on one terminal: what they say of it.
 --
 -- Carries: op_is, op_or_not, word_is, word_or_not, for Terminals.
-use Rattle.std.proofs.Common.{◌≡◌, ◌⊎◌, inl, inr, refl, sym, ap, ◌∙◌, ℕ, ◌≤◌, ◌<◌, arith, List, [], ◌∷◌, ◌++◌, Option, Some, None, Bool, true, false, cond, ◌==◌}
+use Rattle.std.proofs.Common.{◌≡◌, ◌⊎◌, inl, inr, refl, sym, ap, ◌∙◌, ℕ, ◌≤◌, ◌<◌, arith, List, [], ◌∷◌, ◌++◌, Option, Some, None, Bool}
+use Rattle.std.proofs.Common.{true, false, cond, ◌==◌}
 use Rattle.std.proofs.lemmas.Bool.{eqb-true}
 use Rattle.pylex_lexeme.specs.declared.kinds.Exact.{Exact}
-use Rattle.pylex_lexeme.specs.declared.kinds.Exact.TheVariants.{LPar, RPar, LSqb, RSqb, LBrace, RBrace, Colon, Comma, Semi, Plus, Minus, Star, Slash, VBar, Amper, Less, Greater, Equal, Dot, Percent, EqEqual, NotEqual, LessEqual, GreaterEqual, Tilde, Circumflex, LeftShift, RightShift, DoubleStar, PlusEqual, MinEqual, StarEqual, SlashEqual, PercentEqual, AmperEqual, VBarEqual, CircumflexEqual, LeftShiftEqual, RightShiftEqual, DoubleStarEqual, DoubleSlash, DoubleSlashEqual, At, AtEqual, RArrow, Ellipsis, ColonEqual}
+use Rattle.pylex_lexeme.specs.declared.kinds.Exact.TheVariants.{LPar, RPar, LSqb, RSqb, LBrace, RBrace, Colon, Comma, Semi, Plus, Minus}
+use Rattle.pylex_lexeme.specs.declared.kinds.Exact.TheVariants.{Star, Slash, VBar, Amper, Less, Greater, Equal, Dot, Percent, EqEqual}
+use Rattle.pylex_lexeme.specs.declared.kinds.Exact.TheVariants.{NotEqual, LessEqual, GreaterEqual, Tilde, Circumflex, LeftShift, RightShift}
+use Rattle.pylex_lexeme.specs.declared.kinds.Exact.TheVariants.{DoubleStar, PlusEqual, MinEqual, StarEqual, SlashEqual, PercentEqual}
+use Rattle.pylex_lexeme.specs.declared.kinds.Exact.TheVariants.{AmperEqual, VBarEqual, CircumflexEqual, LeftShiftEqual, RightShiftEqual}
+use Rattle.pylex_lexeme.specs.declared.kinds.Exact.TheVariants.{DoubleStarEqual, DoubleSlash, DoubleSlashEqual, At, AtEqual, RArrow}
+use Rattle.pylex_lexeme.specs.declared.kinds.Exact.TheVariants.{Ellipsis, ColonEqual}
 use Rattle.pytoken.specs.declared.keywords.Keyword.{Keyword}
 use Rattle.pytoken.specs.declared.keywords.Keyword.TheVariants as Key
 use Rattle.pytree_node.specs.Values.{Value}
@@ -14,7 +21,46 @@ use Rattle.pygrammar.specs.Reader.{on_some, on_first, on_name_with}
 use Rattle.pygrammar.specs.Precedence.{lead, behind, infix_rank}
 
 abbrev exact_at : ℕ → Exact
-exact_at n = cond (n == 0) LPar (cond (n == 1) RPar (cond (n == 2) LSqb (cond (n == 3) RSqb (cond (n == 4) LBrace (cond (n == 5) RBrace (cond (n == 6) Colon (cond (n == 7) Comma (cond (n == 8) Semi (cond (n == 9) Plus (cond (n == 10) Minus (cond (n == 11) Star (cond (n == 12) Slash (cond (n == 13) VBar (cond (n == 14) Amper (cond (n == 15) Less (cond (n == 16) Greater (cond (n == 17) Equal (cond (n == 18) Dot (cond (n == 19) Percent (cond (n == 20) EqEqual (cond (n == 21) NotEqual (cond (n == 22) LessEqual (cond (n == 23) GreaterEqual (cond (n == 24) Tilde (cond (n == 25) Circumflex (cond (n == 26) LeftShift (cond (n == 27) RightShift (cond (n == 28) DoubleStar (cond (n == 29) PlusEqual (cond (n == 30) MinEqual (cond (n == 31) StarEqual (cond (n == 32) SlashEqual (cond (n == 33) PercentEqual (cond (n == 34) AmperEqual (cond (n == 35) VBarEqual (cond (n == 36) CircumflexEqual (cond (n == 37) LeftShiftEqual (cond (n == 38) RightShiftEqual (cond (n == 39) DoubleStarEqual (cond (n == 40) DoubleSlash (cond (n == 41) DoubleSlashEqual (cond (n == 42) At (cond (n == 43) AtEqual (cond (n == 44) RArrow (cond (n == 45) Ellipsis (ColonEqual))))))))))))))))))))))))))))))))))))))))))))))
+exact_at n = cond (n == 0) LPar
+    (cond (n == 1) RPar (cond (n == 2) LSqb
+    (cond (n == 3) RSqb (cond (n == 4) LBrace
+    (cond (n == 5) RBrace
+    (cond (n == 6) Colon
+    (cond (n == 7) Comma
+    (cond (n == 8) Semi (cond (n == 9) Plus
+    (cond (n == 10) Minus
+    (cond (n == 11) Star
+    (cond (n == 12) Slash
+    (cond (n == 13) VBar
+    (cond (n == 14) Amper
+    (cond (n == 15) Less
+    (cond (n == 16) Greater
+    (cond (n == 17) Equal
+    (cond (n == 18) Dot (cond (n == 19) Percent
+    (cond (n == 20) EqEqual
+    (cond (n == 21) NotEqual
+    (cond (n == 22) LessEqual
+    (cond (n == 23) GreaterEqual
+    (cond (n == 24) Tilde
+    (cond (n == 25) Circumflex
+    (cond (n == 26) LeftShift
+    (cond (n == 27) RightShift
+    (cond (n == 28) DoubleStar
+    (cond (n == 29) PlusEqual
+    (cond (n == 30) MinEqual
+    (cond (n == 31) StarEqual
+    (cond (n == 32) SlashEqual
+    (cond (n == 33) PercentEqual
+    (cond (n == 34) AmperEqual
+    (cond (n == 35) VBarEqual
+    (cond (n == 36) CircumflexEqual
+    (cond (n == 37) LeftShiftEqual
+    (cond (n == 38) RightShiftEqual
+    (cond (n == 39) DoubleStarEqual
+    (cond (n == 40) DoubleSlash
+    (cond (n == 41) DoubleSlashEqual
+    (cond (n == 42) At (cond (n == 43) AtEqual
+    (cond (n == 44) RArrow (cond (n == 45) Ellipsis (ColonEqual))))))))))))))))))))))))))))))))))))))))))))))
 
 exact_back : (x : Exact) → exact_at (exact_number x) ≡ x
 exact_back LPar = refl
@@ -24,7 +70,38 @@ exact_same : (x y : Exact) → exact_number x ≡ exact_number y → x ≡ y
 exact_same x y h = sym (exact_back x) ∙ ap exact_at h ∙ exact_back y
 
 abbrev keyword_at : ℕ → Keyword
-keyword_at n = cond (n == 0) Key.False (cond (n == 1) Key.None (cond (n == 2) Key.True (cond (n == 3) Key.And (cond (n == 4) Key.As (cond (n == 5) Key.Assert (cond (n == 6) Key.Async (cond (n == 7) Key.Await (cond (n == 8) Key.Break (cond (n == 9) Key.Class (cond (n == 10) Key.Continue (cond (n == 11) Key.Def (cond (n == 12) Key.Del (cond (n == 13) Key.Elif (cond (n == 14) Key.Else (cond (n == 15) Key.Except (cond (n == 16) Key.Finally (cond (n == 17) Key.For (cond (n == 18) Key.From (cond (n == 19) Key.Global (cond (n == 20) Key.If (cond (n == 21) Key.Import (cond (n == 22) Key.In (cond (n == 23) Key.Is (cond (n == 24) Key.Lambda (cond (n == 25) Key.Nonlocal (cond (n == 26) Key.Not (cond (n == 27) Key.Or (cond (n == 28) Key.Pass (cond (n == 29) Key.Raise (cond (n == 30) Key.Return (cond (n == 31) Key.Try (cond (n == 32) Key.While (cond (n == 33) Key.With (Key.Yield))))))))))))))))))))))))))))))))))
+keyword_at n = cond (n == 0) Key.False
+    (cond (n == 1) Key.None
+    (cond (n == 2) Key.True
+    (cond (n == 3) Key.And
+    (cond (n == 4) Key.As
+    (cond (n == 5) Key.Assert
+    (cond (n == 6) Key.Async
+    (cond (n == 7) Key.Await
+    (cond (n == 8) Key.Break
+    (cond (n == 9) Key.Class
+    (cond (n == 10) Key.Continue
+    (cond (n == 11) Key.Def
+    (cond (n == 12) Key.Del
+    (cond (n == 13) Key.Elif
+    (cond (n == 14) Key.Else
+    (cond (n == 15) Key.Except
+    (cond (n == 16) Key.Finally
+    (cond (n == 17) Key.For
+    (cond (n == 18) Key.From
+    (cond (n == 19) Key.Global
+    (cond (n == 20) Key.If
+    (cond (n == 21) Key.Import
+    (cond (n == 22) Key.In
+    (cond (n == 23) Key.Is
+    (cond (n == 24) Key.Lambda
+    (cond (n == 25) Key.Nonlocal
+    (cond (n == 26) Key.Not
+    (cond (n == 27) Key.Or
+    (cond (n == 28) Key.Pass
+    (cond (n == 29) Key.Raise
+    (cond (n == 30) Key.Return
+    (cond (n == 31) Key.Try (cond (n == 32) Key.While (cond (n == 33) Key.With (Key.Yield))))))))))))))))))))))))))))))))))
 
 keyword_back : (x : Keyword) → keyword_at (keyword_number x) ≡ x
 keyword_back Key.False = refl
@@ -94,54 +171,67 @@ lead_front [] us n p h = absurd (omega (arith, p, h))
 lead_front (t ∷ ts) us n p h = h
 
 -- a first terminal that a test refuses
-pub miss_op : {A : Type 0} (x : Exact) (r : List Terminal) (hit : ℕ → List Terminal → A) (other : A) → (grip_of r ≡ grip (Op x) → ⊥) → on_first (is_op x) r hit other ≡ other
+pub miss_op : {A : Type 0} (x : Exact) (r : List Terminal) (hit : ℕ → List Terminal → A) (other : A) → (grip_of r ≡ grip (Op x) → ⊥)
+    → on_first (is_op x) r hit other ≡ other
 miss_op x [] hit other h = refl
 miss_op x (t ∷ r) hit other h = ap (λ o. on_some o (λ a. hit a r) other) (no_op grip x t h)
 
-pub pass_op : {A : Type 0} (x : Exact) (ts us : List Terminal) (hit : ℕ → List Terminal → A) (other : A) → lead (Op x) < lead_of ts → on_first (is_op x) (ts ++ us) hit other ≡ other
+pub pass_op : {A : Type 0} (x : Exact) (ts us : List Terminal) (hit : ℕ → List Terminal → A) (other : A) → lead (Op x) < lead_of ts
+    → on_first (is_op x) (ts ++ us) hit other ≡ other
 pass_op x [] us hit other h = absurd (omega (arith, h))
 pass_op x (t ∷ r) us hit other h = ap (λ o. on_some o (λ a. hit a (r ++ us)) other) (no_op lead x t (λ e. omega (arith, e, h)))
 
-pub pass_op_not : {A : Type 0} (x : Exact) (ts us : List Terminal) (hit : ℕ → List Terminal → A) (other : A) → 0 < lead_of ts → (lead_of ts ≡ lead (Op x) → ⊥) → on_first (is_op x) (ts ++ us) hit other ≡ other
+pub pass_op_not : {A : Type 0} (x : Exact) (ts us : List Terminal) (hit : ℕ → List Terminal → A) (other : A) → 0 < lead_of ts
+    → (lead_of ts ≡ lead (Op x) → ⊥) → on_first (is_op x) (ts ++ us) hit other ≡ other
 pass_op_not x [] us hit other h k = absurd (omega (arith, h))
 pass_op_not x (t ∷ r) us hit other h k = ap (λ o. on_some o (λ a. hit a (r ++ us)) other) (no_op lead x t k)
 
-pub hit_op : {A : Type 0} (x : Exact) (r : List Terminal) (hit : ℕ → List Terminal → A) (other : A) → on_first (is_op x) (Op x ∷ r) hit other ≡ hit 0 r
+pub hit_op : {A : Type 0} (x : Exact) (r : List Terminal) (hit : ℕ → List Terminal → A) (other : A)
+    → on_first (is_op x) (Op x ∷ r) hit other ≡ hit 0 r
 hit_op x r hit other = ap (λ o. on_some o (λ a. hit a r) other) (op_is x)
 
-pub miss_word : {A : Type 0} (x : Keyword) (r : List Terminal) (hit : ℕ → List Terminal → A) (other : A) → (grip_of r ≡ grip (Word x) → ⊥) → on_first (is_word x) r hit other ≡ other
+pub miss_word : {A : Type 0} (x : Keyword) (r : List Terminal) (hit : ℕ → List Terminal → A) (other : A) → (grip_of r ≡ grip (Word x) → ⊥)
+    → on_first (is_word x) r hit other ≡ other
 miss_word x [] hit other h = refl
 miss_word x (t ∷ r) hit other h = ap (λ o. on_some o (λ a. hit a r) other) (no_word grip x t h)
 
-pub pass_word : {A : Type 0} (x : Keyword) (ts us : List Terminal) (hit : ℕ → List Terminal → A) (other : A) → lead (Word x) < lead_of ts → on_first (is_word x) (ts ++ us) hit other ≡ other
+pub pass_word : {A : Type 0} (x : Keyword) (ts us : List Terminal) (hit : ℕ → List Terminal → A) (other : A) → lead (Word x) < lead_of ts
+    → on_first (is_word x) (ts ++ us) hit other ≡ other
 pass_word x [] us hit other h = absurd (omega (arith, h))
 pass_word x (t ∷ r) us hit other h = ap (λ o. on_some o (λ a. hit a (r ++ us)) other) (no_word lead x t (λ e. omega (arith, e, h)))
 
-pub pass_word_not : {A : Type 0} (x : Keyword) (ts us : List Terminal) (hit : ℕ → List Terminal → A) (other : A) → 0 < lead_of ts → (lead_of ts ≡ lead (Word x) → ⊥) → on_first (is_word x) (ts ++ us) hit other ≡ other
+pub pass_word_not : {A : Type 0} (x : Keyword) (ts us : List Terminal) (hit : ℕ → List Terminal → A) (other : A) → 0 < lead_of ts
+    → (lead_of ts ≡ lead (Word x) → ⊥) → on_first (is_word x) (ts ++ us) hit other ≡ other
 pass_word_not x [] us hit other h k = absurd (omega (arith, h))
 pass_word_not x (t ∷ r) us hit other h k = ap (λ o. on_some o (λ a. hit a (r ++ us)) other) (no_word lead x t k)
 
-pub hit_word : {A : Type 0} (x : Keyword) (r : List Terminal) (hit : ℕ → List Terminal → A) (other : A) → on_first (is_word x) (Word x ∷ r) hit other ≡ hit 0 r
+pub hit_word : {A : Type 0} (x : Keyword) (r : List Terminal) (hit : ℕ → List Terminal → A) (other : A)
+    → on_first (is_word x) (Word x ∷ r) hit other ≡ hit 0 r
 hit_word x r hit other = ap (λ o. on_some o (λ a. hit a r) other) (word_is x)
 
-pub miss_name : {A : Type 0} (r : List Terminal) (hit : List ℕ → List Terminal → A) (other : A) → lead_of r < 24 → on_first name_in r hit other ≡ other
+pub miss_name : {A : Type 0} (r : List Terminal) (hit : List ℕ → List Terminal → A) (other : A) → lead_of r < 24
+    → on_first name_in r hit other ≡ other
 miss_name [] hit other h = refl
 miss_name (Ident x ∷ r) hit other h = absurd (omega (arith, h))
 miss_name (_ ∷ r) hit other h = refl
 
-pub miss_name_with : {A : Type 0} (s : Exact) (i : List Terminal) (hit : List ℕ → List Terminal → A) (other : A) → ((x : Spelled) (us : List Terminal) → i ≡ Ident x ∷ (Op s ∷ us) → ⊥) → on_name_with s i hit other ≡ other
+pub miss_name_with : {A : Type 0} (s : Exact) (i : List Terminal) (hit : List ℕ → List Terminal → A) (other : A)
+    → ((x : Spelled) (us : List Terminal) → i ≡ Ident x ∷ (Op s ∷ us) → ⊥) → on_name_with s i hit other ≡ other
 miss_name_with s [] hit other h = refl
 miss_name_with s (Ident x ∷ []) hit other h = refl
-miss_name_with s (Ident x ∷ (t ∷ r)) hit other h = elim (op_or_not s t) [ inl e ↦ absurd (h x r (ap (λ z. Ident x ∷ (z ∷ r)) e)) | inr q ↦ ap (λ o. on_some o (λ a. hit x.form r) other) q ]
+miss_name_with s (Ident x ∷ (t ∷ r)) hit other h = elim (op_or_not s t) [ inl e ↦ absurd (h x r (ap (λ z. Ident x ∷ (z ∷ r)) e))
+    | inr q ↦ ap (λ o. on_some o (λ a. hit x.form r) other) q ]
 miss_name_with s (_ ∷ r) hit other h = refl
 
 -- and no literal
-pub miss_literal : {A : Type 0} (r : List Terminal) (hit : Value → List Terminal → A) (other : A) → grip_of r ≤ 24 → on_first literal_in r hit other ≡ other
+pub miss_literal : {A : Type 0} (r : List Terminal) (hit : Value → List Terminal → A) (other : A) → grip_of r ≤ 24
+    → on_first literal_in r hit other ≡ other
 miss_literal [] hit other h = refl
 miss_literal (Literal v ∷ r) hit other h = absurd (omega (arith, h))
 miss_literal (_ ∷ r) hit other h = refl
 
-pub miss_formatted : {A : Type 0} (r : List Terminal) (hit : ℕ → List Terminal → A) (other : A) → grip_of r ≤ 24 → on_first is_formatted_begin r hit other ≡ other
+pub miss_formatted : {A : Type 0} (r : List Terminal) (hit : ℕ → List Terminal → A) (other : A) → grip_of r ≤ 24
+    → on_first is_formatted_begin r hit other ≡ other
 miss_formatted [] hit other h = refl
 miss_formatted (FormattedBegin ∷ r) hit other h = absurd (omega (arith, h))
 miss_formatted (_ ∷ r) hit other h = refl

@@ -1,7 +1,8 @@
 -- How long lists count, and which tests pass only on terminals that count.
 --
 -- Carries: weight_append, weight_most, counted, heavy_op and its like, for Enough, Room, Bound, Long and others.
-use Rattle.std.proofs.Common.{◌≡◌, refl, sym, ap, ◌∙◌, ℕ, suc, ◌+◌, ◌≤◌, arith, List, [], ◌∷◌, ◌++◌, length, Option, Some, None, Bool, true, false, cond}
+use Rattle.std.proofs.Common.{◌≡◌, refl, sym, ap, ◌∙◌, ℕ, suc, ◌+◌, ◌≤◌, arith, List, [], ◌∷◌, ◌++◌, length, Option, Some, None, Bool, true}
+use Rattle.std.proofs.Common.{false, cond}
 use Rattle.pylex_lexeme.specs.declared.kinds.Exact.{Exact}
 use Rattle.pyfstring.specs.declared.parts.Conversion.{Conversion}
 use Rattle.pytoken.specs.declared.keywords.Keyword.{Keyword}
@@ -38,7 +39,8 @@ pub weight_append : (ts us : List Terminal) → weight (ts ++ us) ≡ weight ts 
 weight_append [] us = omega arith
 weight_append (t ∷ ts) us = both (counts t) (weight_append ts us)
   where
-    both : (b : Bool) → weight (ts ++ us) ≡ weight ts + weight us → cond b (suc (weight (ts ++ us))) (weight (ts ++ us)) ≡ cond b (suc (weight ts)) (weight ts) + weight us
+    both : (b : Bool) → weight (ts ++ us) ≡ weight ts + weight us → cond b (suc (weight (ts ++ us))) (weight (ts ++ us)) ≡ cond b
+        (suc (weight ts)) (weight ts) + weight us
     both true h = omega (arith, h)
     both false h = h
 
@@ -52,7 +54,8 @@ weight_most (t ∷ ts) = omega (arith, most (counts t) (weight ts), weight_most 
 abbrev pub Heavy : {A : Type 0} → (Terminal → Option A) → Type 0
 Heavy {A} f = (t : Terminal) (a : A) → f t ≡ Some a → counts t ≡ true
 
-heavy_by : {A : Type 0} (f : Terminal → Option A) → ((t : List ℕ) → f (FormattedText t) ≡ None) → ((c : Conversion) → f (FieldBegin c) ≡ None) → f SpecBegin ≡ None → f FieldEnd ≡ None → Heavy f
+heavy_by : {A : Type 0} (f : Terminal → Option A) → ((t : List ℕ) → f (FormattedText t) ≡ None)
+    → ((c : Conversion) → f (FieldBegin c) ≡ None) → f SpecBegin ≡ None → f FieldEnd ≡ None → Heavy f
 heavy_by {A = A} f h k m n (FormattedText t) a q = absurd (none_some a (sym (h t) ∙ q))
   where
     none_some : (a : A) → ◌≡◌ {A = Option A} None (Some a) → ⊥

@@ -1,6 +1,7 @@
 -- Carries: `reader_is_exact`, `expressions_are_decided`. The plain reader without a depth answers
 -- exactly what the grammar gives.
-use Rattle.std.proofs.Common.{◌≡◌, ◌⊎◌, inl, inr, ◌↔◌, sym, ap, subst, ◌∙◌, ℕ, zero, suc, ◌+◌, ◌≤◌, ◌<◌, arith, List, [], ◌++◌, length, Some}
+use Rattle.std.proofs.Common.{◌≡◌, ◌⊎◌, inl, inr, ◌↔◌, sym, ap, subst, ◌∙◌, ℕ, zero, suc, ◌+◌, ◌≤◌, ◌<◌, arith, List, [], ◌++◌, length}
+use Rattle.std.proofs.Common.{Some}
 use Rattle.pygrammar.specs.Lengths.{weight}
 use Rattle.pygrammar.proofs.Depths.Weights.{weight_most}
 use Rattle.pygrammar.specs.declared.levels.Level.{Level}
@@ -27,7 +28,8 @@ stays zero d l ts w = ap (λ n. read n l ts) (plus_zero d)
   where
     plus_zero : (d : ℕ) → zero + d ≡ d
     plus_zero d = omega arith
-stays (suc k) d l ts w = ap (λ n. read n l ts) (plus_suc k d) ∙ (elim (keeps_read (k + d) l ts) [ inl q ↦ absurd (not_deep l ts (k + d) (omega (arith, w)) q) | inr q ↦ sym q ] ∙ stays k d l ts w)
+stays (suc k) d l ts w = ap (λ n. read n l ts) (plus_suc k d)
+    ∙ (elim (keeps_read (k + d) l ts) [ inl q ↦ absurd (not_deep l ts (k + d) (omega (arith, w)) q) | inr q ↦ sym q ] ∙ stays k d l ts w)
   where
     plus_suc : (k d : ℕ) → suc k + d ≡ suc (k + d)
     plus_suc k d = omega arith
@@ -35,7 +37,8 @@ stays (suc k) d l ts w = ap (λ n. read n l ts) (plus_suc k d) ∙ (elim (keeps_
 pub reads_all : {l : Level} {ts : List Terminal} {e : Expr} → Derives l ts e → reads l ts ≡ Found e []
 reads_all {l} {ts} {e} p =
     let c = complete p in
-    sym (stays c.0 (suc (length ts)) l ts (omega arith)) ∙ (ap (λ n. read n l ts) (one c.0 (length ts)) ∙ c.1 (c.0 + length ts) (omega arith))
+    sym (stays c.0 (suc (length ts)) l ts (omega arith))
+        ∙ (ap (λ n. read n l ts) (one c.0 (length ts)) ∙ c.1 (c.0 + length ts) (omega arith))
   where
     one : (k n : ℕ) → k + suc n ≡ suc (k + n)
     one k n = omega arith
@@ -50,11 +53,13 @@ pub at_any_depth : (d : ℕ) (l : Level) (ts : List Terminal) (e : Expr) → rea
 at_any_depth d l ts e h = reads_all (sound d l ts e h)
 
 -- for the forms of a line: an expression at the front, where what follows may stop it
-pub reads_front : {l : Level} {ts : List Terminal} {e : Expr} → Derives l ts e → (rest : List Terminal) → Stops l rest → reads l (ts ++ rest) ≡ Found e rest
+pub reads_front : {l : Level} {ts : List Terminal} {e : Expr} → Derives l ts e → (rest : List Terminal) → Stops l rest
+    → reads l (ts ++ rest) ≡ Found e rest
 reads_front {l} {ts} {e} p rest s =
     let g = goes p in
     let n : ℕ = length (ts ++ rest) in
-    sym (stays g.0 (suc n) l (ts ++ rest) (omega arith)) ∙ (ap (λ k. read k l (ts ++ rest)) (one g.0 n) ∙ answers l ts e (g.0 + n) rest (g.1 (g.0 + n) (omega arith)) s)
+    sym (stays g.0 (suc n) l (ts ++ rest) (omega arith))
+        ∙ (ap (λ k. read k l (ts ++ rest)) (one g.0 n) ∙ answers l ts e (g.0 + n) rest (g.1 (g.0 + n) (omega arith)) s)
   where
     one : (k n : ℕ) → k + suc n ≡ suc (k + n)
     one k n = omega arith
@@ -62,13 +67,16 @@ reads_front {l} {ts} {e} p rest s =
 pub says_found : {A : Type 0} {P : A → List Terminal → Type 0} (a : A) (r : List Terminal) → Says P (Found a r) → P a r
 says_found a r (found p) = p
 
-pub sound_front : (d : ℕ) (l : Level) (i r : List Terminal) (e : Expr) → read d l i ≡ Found e r → (ts : List Terminal) × (i ≡ ts ++ r) × Derives l ts e
+pub sound_front : (d : ℕ) (l : Level) (i r : List Terminal) (e : Expr) → read d l i ≡ Found e r
+    → (ts : List Terminal) × (i ≡ ts ++ r) × Derives l ts e
 sound_front d l i r e h =
     let p : Reads_as l i e r = says_found e r (subst (Says (Reads_as l i)) h (sound_read d l i)) in
     (p.0, p.1, p.2)
 
 -- a target in front of `in`
-pub target_front : {ts : List Terminal} {e : Expr} (s : Expr) → Derives Stars ts e → stored e ≡ Some s → (rest : List Terminal) → grip_of rest ≤ 22 → (grip_of rest ≡ 3 → ⊥) → lead_of rest ≤ 6 → (n : ℕ) × ((d : ℕ) → n ≤ d → read_target (read (suc d)) (ts ++ rest) ≡ Found e rest)
+pub target_front : {ts : List Terminal} {e : Expr} (s : Expr) → Derives Stars ts e → stored e ≡ Some s → (rest : List Terminal)
+    → grip_of rest ≤ 22 → (grip_of rest ≡ 3 → ⊥) → lead_of rest ≤ 6
+    → (n : ℕ) × ((d : ℕ) → n ≤ d → read_target (read (suc d)) (ts ++ rest) ≡ Found e rest)
 target_front s p q rest a b c = let g = goes p in (g.0, λ d h. g.2 d h s q rest a b c)
 
 -- at any depth the reader says that it went too deep, or what the plain reader says
@@ -102,7 +110,8 @@ deep_not_no_form : ◌≡◌ {A = Answer Expr} TooDeep NoForm → ⊥
 deep_not_no_form h = absurd (cc)
 
 pub no_tree : (d : ℕ) (l : Level) (ts : List Terminal) (e : Expr) → read d l ts ≡ NoForm → Derives l ts e → ⊥
-no_tree d l ts e h p = elim (final d l ts) [ inl q ↦ deep_not_no_form (sym q ∙ h) | inr q ↦ no_form_not_found e [] (sym h ∙ (q ∙ reads_all p)) ]
+no_tree d l ts e h p = elim (final d l ts) [ inl q ↦ deep_not_no_form (sym q ∙ h)
+    | inr q ↦ no_form_not_found e [] (sym h ∙ (q ∙ reads_all p)) ]
 
 -- the plain reader always comes to an answer
 pub answered : (l : Level) (ts : List Terminal) → reads l ts ≡ TooDeep → ⊥

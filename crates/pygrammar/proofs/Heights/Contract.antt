@@ -1,6 +1,7 @@
 -- Carries: `limit_meets`, `limit_is_exact`: what each answer of the reader within a height says,
 -- and that each tree that is low is found.
-use Rattle.std.proofs.Common.{◌≡◌, ◌↔◌, sym, ap, subst, ◌∙◌, refl, ℕ, suc, ◌≤◌, ◌<◌, arith, List, [], ◌∷◌, length, length-append, Bool, true, false, cond, leb}
+use Rattle.std.proofs.Common.{◌≡◌, ◌↔◌, sym, ap, subst, ◌∙◌, refl, ℕ, suc, ◌≤◌, ◌<◌, arith, List, [], ◌∷◌, length, length-append, Bool}
+use Rattle.std.proofs.Common.{true, false, cond, leb}
 use Rattle.std.proofs.lemmas.Bool.{leb-true, leb-false, le-leb}
 use Rattle.pygrammar.specs.Lengths.{weight}
 use Rattle.pygrammar.proofs.Depths.Weights.{weight_append, weight_most}
@@ -19,16 +20,19 @@ use Rattle.pygrammar.proofs.Heights.Bound.{tall}
 use Rattle.pygrammar.proofs.Heights.Room.{slack_most, limited_enough}
 
 -- the equation of the capped reader: one level
-pub unroll_capped : (g d : ℕ) (l : Level) (i : List Terminal) → capped (suc g) (suc d) l i ≡ cap (suc d) (capped_step (suc d) (capped (suc g) (suc d)) (capped g (suc d)) (capped g d) l i)
+pub unroll_capped : (g d : ℕ) (l : Level) (i : List Terminal)
+    → capped (suc g) (suc d) l i ≡ cap (suc d) (capped_step (suc d) (capped (suc g) (suc d)) (capped g (suc d)) (capped g d) l i)
 unroll_capped g d Value i = refl
 unroll_capped g d _ i = refl
 
 -- with room d alone
-pub limited_meets : (d : ℕ) (l : Level) (ts : List Terminal) → limited d l ts ≡ TooDeep → ((e : Expr) → Derives l ts e → d < height e) × (d ≤ weight ts)
+pub limited_meets : (d : ℕ) (l : Level) (ts : List Terminal) → limited d l ts ≡ TooDeep
+    → ((e : Expr) → Derives l ts e → d < height e) × (d ≤ weight ts)
 limited_meets d l ts h = (limited_deep d l ts h, limited_enough d l ts h)
 
 -- what is left over, and what is too high
-too_high : (d : ℕ) (l : Level) (ts : List Terminal) (e : Expr) (r : List Terminal) → limited (suc d) l ts ≡ Found e r → d < height e → High d l ts
+too_high : (d : ℕ) (l : Level) (ts : List Terminal) (e : Expr) (r : List Terminal) → limited (suc d) l ts ≡ Found e r
+    → d < height e → High d l ts
 too_high d l ts e [] h w =
     let p = (limited_exactly (suc d) l ts e).1 h in
     (λ f q. subst (λ z. d < height z) (same e f (sym h' ∙ reads_all q)) w, λ no. absurd (no e p.0))
@@ -40,9 +44,12 @@ too_high d l ts e [] h w =
     h' = capped_found (suc (length ts)) (suc d) l ts e [] h
 too_high d l ts e (t ∷ r) h w =
     let p = sound_front (suc (length ts)) l ts (t ∷ r) e (capped_found (suc (length ts)) (suc d) l ts e (t ∷ r) h) in
-    (λ f q. absurd (limited_rest (suc d) l ts e t r h f q), λ no. (omega (arith, w, tall p.2, slack_most l, weight_most p.0, ap length p.1, length-append p.0 (t ∷ r)), omega (arith, w, tall p.2, ap weight p.1, weight_append p.0 (t ∷ r))))
+    (λ f q. absurd (limited_rest (suc d) l ts e t r h f q),
+        λ no. (omega (arith, w, tall p.2, slack_most l, weight_most p.0, ap length p.1, length-append p.0 (t ∷ r)),
+        omega (arith, w, tall p.2, ap weight p.1, weight_append p.0 (t ∷ r))))
 
-fits : (d : ℕ) (l : Level) (ts : List Terminal) (e : Expr) (r : List Terminal) → limited (suc d) l ts ≡ Found e r → height e ≤ d → Meets d l ts (Found e r)
+fits : (d : ℕ) (l : Level) (ts : List Terminal) (e : Expr) (r : List Terminal) → limited (suc d) l ts ≡ Found e r → height e ≤ d
+    → Meets d l ts (Found e r)
 fits d l ts e [] h w = (((limited_exactly (suc d) l ts e).1 h).0, w)
 fits d l ts e (t ∷ r) h w = limited_rest (suc d) l ts e t r h
 
@@ -52,7 +59,8 @@ meets d l ts = go (limited (suc d) l ts) refl
   where
     go : (x : Answer Expr) → limited (suc d) l ts ≡ x → Meets d l ts (cap d x)
     go NoForm q = limited_no_form (suc d) l ts q
-    go TooDeep q = (λ e p. omega (arith, limited_deep (suc d) l ts q e p), λ no. (omega (arith, limited_enough (suc d) l ts q, weight_most ts), omega (arith, limited_enough (suc d) l ts q)))
+    go TooDeep q = (λ e p. omega (arith, limited_deep (suc d) l ts q e p),
+        λ no. (omega (arith, limited_enough (suc d) l ts q, weight_most ts), omega (arith, limited_enough (suc d) l ts q)))
     go (Found e r) q = check (leb (height e) d) refl
       where
         check : (b : Bool) → leb (height e) d ≡ b → Meets d l ts (cond b (Found e r) TooDeep)
@@ -61,7 +69,8 @@ meets d l ts = go (limited (suc d) l ts) refl
 
 -- and each tree that is at most d high is found
 pub found_all : (d : ℕ) (l : Level) (ts : List Terminal) (e : Expr) → Derives l ts e → height e ≤ d → limit d l ts ≡ Found e []
-found_all d l ts e p w = ap (cap d) ((limited_exactly (suc d) l ts e).0 (p, omega (arith, w))) ∙ ap (λ b. cond b (Found e []) TooDeep) (le-leb (height e) d w)
+found_all d l ts e p w = ap (cap d) ((limited_exactly (suc d) l ts e).0 (p, omega (arith, w)))
+    ∙ ap (λ b. cond b (Found e []) TooDeep) (le-leb (height e) d w)
 
 pub limit_exactly : (d : ℕ) (l : Level) (ts : List Terminal) (e : Expr) → (Derives l ts e × (height e ≤ d)) ↔ (limit d l ts ≡ Found e [])
 limit_exactly d l ts e = (λ p. found_all d l ts e p.0 p.1, λ h. subst (Meets d l ts) h (meets d l ts))

@@ -104,7 +104,8 @@ mutual
   ends h (G.star_item {ts = ts} p) = headed (Op Sign.Star) ts refl (ends refl p)
   ends h (G.named {x = x} {ts = ts} p) = behind (Ident x ∷ []) ts (Op Sign.ColonEqual) refl (ends refl p)
   ends h (G.lambda {ts = ts} {us = us} c q p) = full_behind (Word Key.Lambda ∷ ts) us (Op Sign.Colon) (some_lead p) (ends refl p)
-  ends h (G.if_else {ts = ts} {us = us} {vs = vs} p q r) = behind ts (us ++ (Word Key.Else ∷ vs)) (Word Key.If) refl (behind us vs (Word Key.Else) refl (ends refl r))
+  ends h (G.if_else {ts = ts} {us = us} {vs = vs} p q r) = behind ts (us ++ (Word Key.Else ∷ vs)) (Word Key.If) refl
+      (behind us vs (Word Key.Else) refl (ends refl r))
   ends h (G.chain {o = o} {ts = ts} {us = us} p c) = behind ts us (Word (chain_word o)) refl (chain_end c)
   ends h (G.unary {t = t} {ts = ts} q p) = full (t ∷ []) ts (some_lead p) (ends h p)
   ends h (G.compare {ts = ts} {us = us} p c) = joined ts us (ends refl p) (compares_end c)
@@ -113,7 +114,8 @@ mutual
   ends h (G.await {ts = ts} p) = headed (Word Key.Await) ts refl (ends refl p)
   ends h (G.attribute {ts = ts} x p) = last ts (Ident x ∷ []) (Op Sign.Dot)
   ends h (G.call {ts = ts} {us = us} p c k) = closed ts (Op Sign.LPar ∷ us) (Op Sign.RPar) refl
-  ends h (G.call_generator {ts = ts} {us = us} {vs = vs} p q c) = last ts (us ++ (vs ++ (Op Sign.RPar ∷ []))) (Op Sign.LPar) ∙ closed (Op Sign.LPar ∷ us) vs (Op Sign.RPar) refl
+  ends h (G.call_generator {ts = ts} {us = us} {vs = vs} p q c) = last ts (us ++ (vs ++ (Op Sign.RPar ∷ []))) (Op Sign.LPar)
+      ∙ closed (Op Sign.LPar ∷ us) vs (Op Sign.RPar) refl
   ends h (G.subscript {ts = ts} {us = us} p q) = closed ts (Op Sign.LSqb ∷ us) (Op Sign.RSqb) refl
   ends h G.name = refl
   ends h (G.constant {t = t} {v = v} k) = constant_end t v k
@@ -128,7 +130,8 @@ mutual
   ends h (G.list {ts = ts} c) = last (Op Sign.LSqb ∷ ts) [] (Op Sign.RSqb)
   ends h (G.list_comp {ts = ts} {us = us} p c) = closed (Op Sign.LSqb ∷ ts) us (Op Sign.RSqb) refl
   ends h (G.dict {ts = ts} c) = last (Op Sign.LBrace ∷ ts) [] (Op Sign.RBrace)
-  ends h (G.dict_comp {ts = ts} {us = us} {vs = vs} p q c) = last (Op Sign.LBrace ∷ ts) (us ++ (vs ++ (Op Sign.RBrace ∷ []))) (Op Sign.Colon) ∙ closed (Op Sign.Colon ∷ us) vs (Op Sign.RBrace) refl
+  ends h (G.dict_comp {ts = ts} {us = us} {vs = vs} p q c) = last (Op Sign.LBrace ∷ ts) (us ++ (vs ++ (Op Sign.RBrace ∷ [])))
+      (Op Sign.Colon) ∙ closed (Op Sign.Colon ∷ us) vs (Op Sign.RBrace) refl
   ends h (G.set {ts = ts} c) = last (Op Sign.LBrace ∷ ts) [] (Op Sign.RBrace)
   ends h (G.set_comp {ts = ts} {us = us} p c) = closed (Op Sign.LBrace ∷ ts) us (Op Sign.RBrace) refl
   ends h (G.subject_tuple {ts = ts} {us = us} p c) = behind ts us (Op Sign.Comma) refl (listing_end refl c)
@@ -150,7 +153,8 @@ mutual
 
   compares_end : {us : List Terminal} {os : List Comparison} {es : List Expr} → G.Compares us os es → NotColon us
   compares_end (G.last_compare {ss = ss} {ts = ts} c p) = full ss ts (some_lead p) (ends refl p)
-  compares_end (G.compares {ss = ss} {ts = ts} {us = us} c p w) = full ss (ts ++ us) (lead_front ts us 1 (omega arith) (some_lead p)) (joined ts us (ends refl p) (compares_end w))
+  compares_end (G.compares {ss = ss} {ts = ts} {us = us} c p w) = full ss (ts ++ us) (lead_front ts us 1 (omega arith) (some_lead p))
+      (joined ts us (ends refl p) (compares_end w))
 
   listing_end : {l : Level} {us : List Terminal} {es : List Entry} → closes l ≡ true → G.Listing (Of l) us es → NotColon us
   listing_end h G.no_item = refl
@@ -159,12 +163,14 @@ mutual
 
 -- ---- Simple statements.
 
-behind_end : {t : Terminal} {l : Level} {ts : List Terminal} {e : Option Expr} → is_colon t ≡ false → closes l ≡ true → F.Behind t l ts e → NotColon ts
+behind_end : {t : Terminal} {l : Level} {ts : List Terminal} {e : Option Expr} → is_colon t ≡ false → closes l ≡ true
+    → F.Behind t l ts e → NotColon ts
 behind_end k h F.none_behind = refl
 behind_end k h (F.behind {t = t} {ts = ts} p) = headed t ts k (ends h p)
 
 -- an expression and what stands behind it
-with_behind : {l m : Level} {t : Terminal} {ts us : List Terminal} {e : Expr} {v : Option Expr} → closes l ≡ true → G.Derives l ts e → is_colon t ≡ false → closes m ≡ true → F.Behind t m us v → NotColon (ts ++ us)
+with_behind : {l m : Level} {t : Terminal} {ts us : List Terminal} {e : Expr} {v : Option Expr} → closes l ≡ true → G.Derives l ts e
+    → is_colon t ≡ false → closes m ≡ true → F.Behind t m us v → NotColon (ts ++ us)
 with_behind {ts = ts} {us = us} h p k g q = joined ts us (ends h p) (behind_end k g q)
 
 front_lead : {l : Level} {ts : List Terminal} {e : Expr} (us : List Terminal) → G.Derives l ts e → 0 < lead_of (ts ++ us)
@@ -208,10 +214,14 @@ simple_end : {profile : Profile} {ts : List Terminal} {s : Stmt} → F.Simple pr
 simple_end (F.value p) = ends refl p
 simple_end (F.assign {ts = ts} {us = us} c p) = full ts us (some_lead p) (ends refl p)
 simple_end (F.augmented_assign {ts = ts} {us = us} x p h q) = full_behind ts us (Op x) (some_lead q) (ends refl q)
-simple_end (F.annotated_name {x = x} {ts = ts} {us = us} p q) = full_behind (Ident x ∷ []) (ts ++ us) (Op Sign.Colon) (front_lead us p) (with_behind refl p refl refl q)
-simple_end (F.annotated_group {ts = ts} {us = us} {vs = vs} t p q) = last (Op Sign.LPar ∷ ts) (Op Sign.Colon ∷ (us ++ vs)) (Op Sign.RPar) ∙ full_behind [] (us ++ vs) (Op Sign.Colon) (front_lead vs p) (with_behind refl p refl refl q)
-simple_end (F.annotated_part {ts = ts} {us = us} {vs = vs} t n p q) = full_behind ts (us ++ vs) (Op Sign.Colon) (front_lead vs p) (with_behind refl p refl refl q)
-simple_end (F.type_alias {form = form} {x = x} {ts = ts} {us = us} h c p) = behind (type_word form ∷ (Ident x ∷ ts)) us (Op Sign.Equal) refl (ends refl p)
+simple_end (F.annotated_name {x = x} {ts = ts} {us = us} p q) = full_behind (Ident x ∷ []) (ts ++ us) (Op Sign.Colon) (front_lead us p)
+    (with_behind refl p refl refl q)
+simple_end (F.annotated_group {ts = ts} {us = us} {vs = vs} t p q) = last (Op Sign.LPar ∷ ts) (Op Sign.Colon ∷ (us ++ vs)) (Op Sign.RPar)
+    ∙ full_behind [] (us ++ vs) (Op Sign.Colon) (front_lead vs p) (with_behind refl p refl refl q)
+simple_end (F.annotated_part {ts = ts} {us = us} {vs = vs} t n p q) = full_behind ts (us ++ vs) (Op Sign.Colon) (front_lead vs p)
+    (with_behind refl p refl refl q)
+simple_end (F.type_alias {form = form} {x = x} {ts = ts} {us = us} h c p) =
+    behind (type_word form ∷ (Ident x ∷ ts)) us (Op Sign.Equal) refl (ends refl p)
 simple_end (F.return_of F.left_out) = refl
 simple_end (F.return_of (F.given {ts = ts} p)) = headed (Word Key.Return) ts refl (ends refl p)
 simple_end F.raise_alone = refl
@@ -224,7 +234,9 @@ simple_end F.pass = refl
 simple_end F.break = refl
 simple_end F.continue = refl
 simple_end (F.import_names {ts = ts} c) = headed (Word Key.Import) ts refl (commas_end Alias F.DottedAlias module_end c)
-simple_end (F.from_module {ts = ts} {us = us} {vs = vs} d m c) = ap (λ z. ends_in_colon (Word Key.From ∷ z)) (sym (append_assoc ts us (Word Key.Import ∷ vs))) ∙ behind (Word Key.From ∷ (ts ++ us)) vs (Word Key.Import) refl (names_end c)
+simple_end (F.from_module {ts = ts} {us = us} {vs = vs} d m c) =
+    ap (λ z. ends_in_colon (Word Key.From ∷ z)) (sym (append_assoc ts us (Word Key.Import ∷ vs)))
+    ∙ behind (Word Key.From ∷ (ts ++ us)) vs (Word Key.Import) refl (names_end c)
 simple_end (F.from_dots {ts = ts} {vs = vs} d w c) = behind (Word Key.From ∷ ts) vs (Word Key.Import) refl (names_end c)
 
 pub simples_end : {profile : Profile} {ts : List Terminal} {ss : List Stmt} → F.Simples profile ts ss → NotColon ts

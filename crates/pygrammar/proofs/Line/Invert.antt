@@ -20,7 +20,8 @@ use Rattle.pygrammar.specs.Grammar as G
 use Rattle.pygrammar.specs.Forms.{is_name}
 
 -- a Name, Attribute or Subscript was derived as a Primary
-pub to_primary : {l : Level} {ts : List Terminal} {e : Expr} (s : Expr) → G.Derives l ts e → single_stored e ≡ Some s → G.Derives Primary ts e
+pub to_primary : {l : Level} {ts : List Terminal} {e : Expr} (s : Expr) → G.Derives l ts e → single_stored e ≡ Some s
+    → G.Derives Primary ts e
 to_primary s (G.next p) h = to_primary s p h
 to_primary s (G.attribute x p) h = G.attribute x p
 to_primary s (G.call p c k) h = G.call p c k
@@ -43,7 +44,9 @@ called_name f e es h = go (in_order false false es) h
     go false q = absurd (cc)
 
 -- a Name is its NAME, or stands in brackets
-pub name_inv : {l : Level} {ts : List Terminal} {e : Expr} (s : Expr) → G.Derives l ts e → single_stored e ≡ Some s → is_name e ≡ true → ((x : Spelled) × (ts ≡ Ident x ∷ [])) ⊎ ((us : List Terminal) × (ts ≡ Op Sign.LPar ∷ (us ++ (Op Sign.RPar ∷ []))) × G.Derives Primary us e)
+pub name_inv : {l : Level} {ts : List Terminal} {e : Expr} (s : Expr) → G.Derives l ts e → single_stored e ≡ Some s → is_name e ≡ true
+    → ((x : Spelled) × (ts ≡ Ident x ∷ [])) ⊎ ((us : List Terminal) × (ts ≡ Op Sign.LPar ∷ (us ++ (Op Sign.RPar ∷ [])))
+    × G.Derives Primary us e)
 name_inv s (G.next p) h k = name_inv s p h k
 name_inv s (G.name {x = x}) h k = inl (x, refl)
 name_inv s (G.group {ts = ts} p) h k = inr (ts, refl, to_primary s p h)

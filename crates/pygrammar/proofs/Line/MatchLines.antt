@@ -38,7 +38,8 @@ pub simples_ends : {profile : Profile} {ts : List Terminal} {ss : List Stmt} →
 simples_ends {ts = ts} c = unmatched ts (simples_end c)
 
 -- a header of another statement begins with another word
-pub header_ends : {profile : Profile} {ts : List Terminal} {h : Header} → F.HeaderOf profile ts h → (r : List Terminal) → (Blocks.is_match (header_kind h) ≡ false) × (has_match_ends (ts ++ r) ≡ false)
+pub header_ends : {profile : Profile} {ts : List Terminal} {h : Header} → F.HeaderOf profile ts h → (r : List Terminal)
+    → (Blocks.is_match (header_kind h) ≡ false) × (has_match_ends (ts ++ r) ≡ false)
 header_ends (F.for_line F.no_async p q) r = (refl, refl)
 header_ends (F.for_line F.async p q) r = (refl, refl)
 header_ends (F.with_line F.no_async p) r = (refl, refl)
@@ -55,7 +56,8 @@ form_by_ends (F.header_suite {us = us} p c) = let h = header_ends p (Op Sign.Col
 form_by_ends (F.match_line {ts = ts} form w p) = sym (last ts [] (Op Sign.Colon))
 
 -- the law
-pub match_by_ends : {profile : Profile} {inside : Bool} {ts : List Terminal} {f : Form} → F.FormAt profile inside ts f → Blocks.is_match (kind_of f) ≡ has_match_ends ts
+pub match_by_ends : {profile : Profile} {inside : Bool} {ts : List Terminal} {f : Form} → F.FormAt profile inside ts f
+    → Blocks.is_match (kind_of f) ≡ has_match_ends ts
 match_by_ends (F.other_line n p) = form_by_ends p
 match_by_ends (F.case_alone w (F.case_line form p g)) = refl
 match_by_ends (F.case_suite w (F.case_line form p g) c) = refl

@@ -25,10 +25,12 @@ use Rattle.pygrammar.proofs.Pattern.Keeps.{keeps}
 use Rattle.pygrammar.proofs.Pattern.Long.{long}
 
 -- a pattern at the front
-pub plain_pattern_goes : {l : PatternLevel} {ts : List Terminal} {p : Pattern} → DerivesPattern l ts p → (r : List Terminal) → EndsPattern l r → plain_pattern l (ts ++ r) ≡ Found p r
+pub plain_pattern_goes : {l : PatternLevel} {ts : List Terminal} {p : Pattern} → DerivesPattern l ts p → (r : List Terminal)
+    → EndsPattern l r → plain_pattern l (ts ++ r) ≡ Found p r
 plain_pattern_goes {l} {ts} {p} q r e =
     let n : ℕ = length (ts ++ r) in
-    complete q (suc n) (suc (suc n)) r (omega (arith, length-append ts r)) (omega (arith, bounded l ts p q, weight_most ts, length-append ts r)) e
+    complete q (suc n) (suc (suc n)) r (omega (arith, length-append ts r))
+        (omega (arith, bounded l ts p q, weight_most ts, length-append ts r)) e
 
 -- what is found is derived, and no terminal is lost
 shorter : (g d : ℕ) (l : PatternLevel) (i r : List Terminal) (p : Pattern) → capped_pattern g d l i ≡ Found p r → weight r ≤ weight i
@@ -36,7 +38,8 @@ shorter g d l i r p h = let s = sound g d l i r p h in omega (arith, ap weight s
 
 -- the plain reader never goes too deep
 plain_answers : (l : PatternLevel) (i : List Terminal) → plain_pattern l i ≡ TooDeep → ⊥
-plain_answers l i h = absurd (omega (arith, long (suc (length i)) (suc (suc (length i))) l i (omega (arith, weight_most i)) h, weight_most i))
+plain_answers l i h =
+    absurd (omega (arith, long (suc (length i)) (suc (suc (length i))) l i (omega (arith, weight_most i)) h, weight_most i))
 
 -- any other goes too deep, or answers the same
 pub final_pattern : (g d : ℕ) (l : PatternLevel) (i : List Terminal) → Keeps (capped_pattern g d l i) (plain_pattern l i)
@@ -50,7 +53,8 @@ final_pattern g d l i =
     ]
 
 -- it doesn't go too deep where there is room for as many levels as the terminals count
-pub pattern_good : (g d n : ℕ) (l : PatternLevel) (i : List Terminal) → weight i < g → weight i < d → weight i < n → Good n (capped_pattern g d l i)
+pub pattern_good : (g d n : ℕ) (l : PatternLevel) (i : List Terminal) → weight i < g → weight i < d → weight i < n
+    → Good n (capped_pattern g d l i)
 pattern_good g d n l i a b w = go (capped_pattern g d l i) refl
   where
     go : (x : Answer Pattern) → capped_pattern g d l i ≡ x → Good n x
@@ -59,10 +63,13 @@ pattern_good g d n l i a b w = go (capped_pattern g d l i) refl
     go TooDeep q = absurd (omega (arith, b, long g d l i a q))
 
 -- where it does, what the plain reader finds in front of a terminal that ends it is higher than the room
-pub pattern_over : (g d : ℕ) (l : PatternLevel) (i r : List Terminal) (p : Pattern) → length i < g → capped_pattern g d l i ≡ TooDeep → plain_pattern l i ≡ Found p r → EndsPattern l r → d < pattern_height p
+pub pattern_over : (g d : ℕ) (l : PatternLevel) (i r : List Terminal) (p : Pattern) → length i < g → capped_pattern g d l i ≡ TooDeep
+    → plain_pattern l i ≡ Found p r → EndsPattern l r → d < pattern_height p
 pattern_over g d l i r p a h k e =
     let s = sound (suc (length i)) (suc (suc (length i))) l i r p k in
-    least d (pattern_height p) (λ w. differ (sym h ∙ (ap (capped_pattern g d l) s.1 ∙ complete s.2 g d r (omega (arith, a, ap length s.1, length-append s.0 r)) w e)))
+    least d (pattern_height p)
+        (λ w. differ (sym h ∙ (ap (capped_pattern g d l) s.1
+        ∙ complete s.2 g d r (omega (arith, a, ap length s.1, length-append s.0 r)) w e)))
   where
     differ : ◌≡◌ {A = Answer Pattern} TooDeep (Found p r) → ⊥
     differ q = absurd (cc)

@@ -23,7 +23,8 @@ use Rattle.pygrammar.specs.Blocks.{kind_of, is_match}
 abbrev HasTypesOf : Profile → Profile → Type 0
 HasTypesOf p q = has_types p ≡ true → has_types q ≡ true
 
-type_params_lead : {p q : Profile} → HasTypesOf p q → {ts : List Terminal} {ps : List TypeParam} → F.TypeParams p ts ps → F.TypeParams q ts ps
+type_params_lead : {p q : Profile} → HasTypesOf p q → {ts : List Terminal} {ps : List TypeParam}
+    → F.TypeParams p ts ps → F.TypeParams q ts ps
 type_params_lead k F.no_type_params = F.no_type_params
 type_params_lead k (F.type_params h c) = F.type_params (k h) c
 
@@ -80,19 +81,22 @@ form_leads k w (F.header_line p) = F.header_line (header_leads k p)
 form_leads k w (F.header_suite p c) = F.header_suite (header_leads k p) (simples_lead k c)
 form_leads k w (F.match_line form h p) = F.match_line form (w h) p
 
-pub form_stays : {profile : Profile} {inside : Bool} {ts : List Terminal} {f : Form} → F.FormAt profile inside ts f → F.FormAt (python Py312 profile.extent) inside ts f
+pub form_stays : {profile : Profile} {inside : Bool} {ts : List Terminal} {f : Form} → F.FormAt profile inside ts f
+    → F.FormAt (python Py312 profile.extent) inside ts f
 form_stays (F.other_line n p) = F.other_line n (form_leads (λ _. refl) (λ h. h) p)
 form_stays (F.case_alone w c) = F.case_alone w c
 form_stays (F.case_suite w c s) = F.case_suite w c (simples_lead (λ _. refl) s)
 
 -- ---- The extents.
 -- in no `match` the whole extent has what the plain one has anywhere
-pub form_widens : {version : Version} {inside : Bool} {ts : List Terminal} {f : Form} → F.FormAt (python version Plain) inside ts f → F.FormAt (python version Whole) false ts f
+pub form_widens : {version : Version} {inside : Bool} {ts : List Terminal} {f : Form} → F.FormAt (python version Plain) inside ts f
+    → F.FormAt (python version Whole) false ts f
 form_widens (F.other_line n p) = F.other_line refl (form_leads (λ h. h) (λ h. refl) p)
 form_widens (F.case_alone w c) = absurd (cc)
 form_widens (F.case_suite w c s) = absurd (cc)
 
-narrow : {version : Version} {ts : List Terminal} {f : Form} → F.FormOf (python version Whole) ts f → is_match (kind_of f) ≡ false → F.FormOf (python version Plain) ts f
+narrow : {version : Version} {ts : List Terminal} {f : Form} → F.FormOf (python version Whole) ts f → is_match (kind_of f) ≡ false
+    → F.FormOf (python version Plain) ts f
 narrow (F.simple_statements c) n = F.simple_statements (simples_lead (λ h. h) c)
 narrow (F.decorator_line p) n = F.decorator_line p
 narrow (F.header_line p) n = F.header_line (header_leads (λ h. h) p)
@@ -100,11 +104,13 @@ narrow (F.header_suite p c) n = F.header_suite (header_leads (λ h. h) p) (simpl
 narrow (F.match_line form h p) n = absurd (cc)
 
 -- and nothing else but the header of a `match`
-pub form_narrows : {version : Version} (inside : Bool) {ts : List Terminal} {f : Form} → F.FormAt (python version Whole) false ts f → is_match (kind_of f) ≡ false → F.FormAt (python version Plain) inside ts f
+pub form_narrows : {version : Version} (inside : Bool) {ts : List Terminal} {f : Form} → F.FormAt (python version Whole) false ts f
+    → is_match (kind_of f) ≡ false → F.FormAt (python version Plain) inside ts f
 form_narrows inside (F.other_line n p) h = F.other_line refl (narrow p h)
 
 -- ---- In Python 3.11 no form has types.
-no_type_params : {extent : Extent} {ts : List Terminal} {ps : List TypeParam} → F.TypeParams (python Py311 extent) ts ps → no_types ps ≡ true
+no_type_params : {extent : Extent} {ts : List Terminal} {ps : List TypeParam}
+    → F.TypeParams (python Py311 extent) ts ps → no_types ps ≡ true
 no_type_params F.no_type_params = refl
 no_type_params (F.type_params h c) = absurd (cc)
 
@@ -132,7 +138,8 @@ form_untyped (F.header_line p) = header_untyped p
 form_untyped (F.header_suite p c) = both _ _ (header_untyped p) (no_aliases c)
 form_untyped (F.match_line form w p) = refl
 
-place_untyped : {extent : Extent} {inside : Bool} {ts : List Terminal} {f : Form} → F.FormAt (python Py311 extent) inside ts f → untyped f ≡ true
+place_untyped : {extent : Extent} {inside : Bool} {ts : List Terminal} {f : Form}
+    → F.FormAt (python Py311 extent) inside ts f → untyped f ≡ true
 place_untyped (F.other_line n p) = form_untyped p
 place_untyped (F.case_alone w (F.case_line form p g)) = refl
 place_untyped (F.case_suite w (F.case_line form p g) c) = no_aliases c
@@ -154,12 +161,14 @@ filled : {ts : List Terminal} {ps : List TypeParam} → F.Commas TypeParam F.Typ
 filled (F.alone p) n = absurd (cc)
 filled (F.comma p c) n = absurd (cc)
 
-type_params_return : {extent : Extent} {ts : List Terminal} {ps : List TypeParam} → F.TypeParams (python Py312 extent) ts ps → no_types ps ≡ true → F.TypeParams (python Py311 extent) ts ps
+type_params_return : {extent : Extent} {ts : List Terminal} {ps : List TypeParam} → F.TypeParams (python Py312 extent) ts ps
+    → no_types ps ≡ true → F.TypeParams (python Py311 extent) ts ps
 type_params_return F.no_type_params n = F.no_type_params
 type_params_return (F.type_params h (F.ends_bare c)) n = absurd (filled c n)
 type_params_return (F.type_params h (F.ends_comma c)) n = absurd (filled c n)
 
-simple_returns : {extent : Extent} {ts : List Terminal} {s : Stmt} → F.Simple (python Py312 extent) ts s → is_alias s ≡ false → F.Simple (python Py311 extent) ts s
+simple_returns : {extent : Extent} {ts : List Terminal} {s : Stmt} → F.Simple (python Py312 extent) ts s → is_alias s ≡ false
+    → F.Simple (python Py311 extent) ts s
 simple_returns (F.value p) n = F.value p
 simple_returns (F.assign c p) n = F.assign c p
 simple_returns (F.augmented_assign x p q v) n = F.augmented_assign x p q v
@@ -181,13 +190,16 @@ simple_returns (F.import_names c) n = F.import_names c
 simple_returns (F.from_module d p q) n = F.from_module d p q
 simple_returns (F.from_dots d h q) n = F.from_dots d h q
 
-simples_return : {extent : Extent} {ts : List Terminal} {ss : List Stmt} → F.Simples (python Py312 extent) ts ss → untyped_statements ss ≡ true → F.Simples (python Py311 extent) ts ss
+simples_return : {extent : Extent} {ts : List Terminal} {ss : List Stmt} → F.Simples (python Py312 extent) ts ss
+    → untyped_statements ss ≡ true → F.Simples (python Py311 extent) ts ss
 simples_return (F.last_simple {s = s} p) n = F.last_simple (simple_returns p (none (is_alias s) (first (not (is_alias s)) true n)))
 simples_return (F.ended_simple {s = s} p) n = F.ended_simple (simple_returns p (none (is_alias s) (first (not (is_alias s)) true n)))
 simples_return (F.more_simples {s = s} {ss = ss} p c) n =
-    F.more_simples (simple_returns p (none (is_alias s) (first (not (is_alias s)) (untyped_statements ss) n))) (simples_return c (second (not (is_alias s)) (untyped_statements ss) n))
+    F.more_simples (simple_returns p (none (is_alias s) (first (not (is_alias s)) (untyped_statements ss) n)))
+        (simples_return c (second (not (is_alias s)) (untyped_statements ss) n))
 
-header_returns : {extent : Extent} {ts : List Terminal} {h : Header} → F.HeaderOf (python Py312 extent) ts h → untyped_header h ≡ true → F.HeaderOf (python Py311 extent) ts h
+header_returns : {extent : Extent} {ts : List Terminal} {h : Header} → F.HeaderOf (python Py312 extent) ts h → untyped_header h ≡ true
+    → F.HeaderOf (python Py311 extent) ts h
 header_returns (F.if_line p) n = F.if_line p
 header_returns (F.elif_line p) n = F.elif_line p
 header_returns F.else_line n = F.else_line
@@ -202,18 +214,23 @@ header_returns (F.except_star p a) n = F.except_star p a
 header_returns (F.def_line x a g c q k) n = F.def_line x a (type_params_return g n) c q k
 header_returns (F.class_line g c) n = F.class_line (type_params_return g n) c
 
-form_returns : {extent : Extent} {ts : List Terminal} {f : Form} → F.FormOf (python Py312 extent) ts f → untyped f ≡ true → F.FormOf (python Py311 extent) ts f
+form_returns : {extent : Extent} {ts : List Terminal} {f : Form} → F.FormOf (python Py312 extent) ts f → untyped f ≡ true
+    → F.FormOf (python Py311 extent) ts f
 form_returns (F.simple_statements c) n = F.simple_statements (simples_return c n)
 form_returns (F.decorator_line p) n = F.decorator_line p
 form_returns (F.header_line p) n = F.header_line (header_returns p n)
 form_returns (F.header_suite {h = h} {ss = ss} p c) n =
-    F.header_suite (header_returns p (first (untyped_header h) (untyped_statements ss) n)) (simples_return c (second (untyped_header h) (untyped_statements ss) n))
+    F.header_suite (header_returns p (first (untyped_header h) (untyped_statements ss) n))
+        (simples_return c (second (untyped_header h) (untyped_statements ss) n))
 form_returns (F.match_line form w p) n = F.match_line form w p
 
-place_returns : {extent : Extent} {inside : Bool} {ts : List Terminal} {f : Form} → F.FormAt (python Py312 extent) inside ts f → untyped f ≡ true → F.FormAt (python Py311 extent) inside ts f
+place_returns : {extent : Extent} {inside : Bool} {ts : List Terminal} {f : Form} → F.FormAt (python Py312 extent) inside ts f
+    → untyped f ≡ true → F.FormAt (python Py311 extent) inside ts f
 place_returns (F.other_line h p) n = F.other_line h (form_returns p n)
 place_returns (F.case_alone w c) n = F.case_alone w c
-place_returns (F.case_suite {h = h} {ss = ss} w c s) n = F.case_suite w c (simples_return s (second (untyped_header h) (untyped_statements ss) n))
+place_returns (F.case_suite {h = h} {ss = ss} w c s) n =
+    F.case_suite w c (simples_return s (second (untyped_header h) (untyped_statements ss) n))
 
-pub old_is_untyped : (extent : Extent) (inside : Bool) (ts : List Terminal) (f : Form) → F.FormAt (python Py311 extent) inside ts f ↔ (F.FormAt (python Py312 extent) inside ts f × (untyped f ≡ true))
+pub old_is_untyped : (extent : Extent) (inside : Bool) (ts : List Terminal) (f : Form)
+    → F.FormAt (python Py311 extent) inside ts f ↔ (F.FormAt (python Py312 extent) inside ts f × (untyped f ≡ true))
 old_is_untyped extent inside ts f = (λ p. (form_stays p, place_untyped p), λ q. place_returns q.0 q.1)

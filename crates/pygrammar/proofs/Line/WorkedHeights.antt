@@ -75,13 +75,16 @@ suite_high : kind (limit_line Py312 false 2 (Word Key.If ∷ x ∷ Op Colon ∷ 
 suite_high = refl
 
 -- class x[x: - - x](x):, which only the newer version has
-class_fits : kind (limit_line Py312 false 3 (Word Key.Class ∷ x ∷ Op LSqb ∷ x ∷ Op Colon ∷ signs 2 (Op RSqb ∷ Op LPar ∷ x ∷ Op RPar ∷ Op Colon ∷ []))) ≡ 6
+class_fits : kind (limit_line Py312 false 3 (Word Key.Class ∷ x ∷ Op LSqb ∷ x ∷ Op Colon ∷ signs 2
+    (Op RSqb ∷ Op LPar ∷ x ∷ Op RPar ∷ Op Colon ∷ []))) ≡ 6
 class_fits = refl
 
-class_high : kind (limit_line Py312 false 2 (Word Key.Class ∷ x ∷ Op LSqb ∷ x ∷ Op Colon ∷ signs 2 (Op RSqb ∷ Op LPar ∷ x ∷ Op RPar ∷ Op Colon ∷ []))) ≡ 2
+class_high : kind (limit_line Py312 false 2 (Word Key.Class ∷ x ∷ Op LSqb ∷ x ∷ Op Colon ∷ signs 2
+    (Op RSqb ∷ Op LPar ∷ x ∷ Op RPar ∷ Op Colon ∷ []))) ≡ 2
 class_high = refl
 
-class_new : kind (limit_line Py311 false 2 (Word Key.Class ∷ x ∷ Op LSqb ∷ x ∷ Op Colon ∷ signs 2 (Op RSqb ∷ Op LPar ∷ x ∷ Op RPar ∷ Op Colon ∷ []))) ≡ 1
+class_new : kind (limit_line Py311 false 2 (Word Key.Class ∷ x ∷ Op LSqb ∷ x ∷ Op Colon ∷ signs 2
+    (Op RSqb ∷ Op LPar ∷ x ∷ Op RPar ∷ Op Colon ∷ []))) ≡ 1
 class_new = refl
 
 -- def x(x = - - x):
@@ -99,14 +102,17 @@ items_high : kind (limit_line Py312 false 2 (Word Key.With ∷ Op LPar ∷ x ∷
 items_high = refl
 
 -- with (x, - - x) as x: the brackets are a Tuple, which is one higher
-tuple_fits : kind (limit_line Py312 false 4 (Word Key.With ∷ Op LPar ∷ x ∷ Op Comma ∷ signs 2 (Op RPar ∷ Word Key.As ∷ x ∷ Op Colon ∷ []))) ≡ 7
+tuple_fits : kind (limit_line Py312 false 4 (Word Key.With ∷ Op LPar ∷ x ∷ Op Comma ∷ signs 2 (Op RPar ∷ Word Key.As ∷ x ∷ Op Colon ∷ [])))
+    ≡ 7
 tuple_fits = refl
 
-tuple_high : kind (limit_line Py312 false 3 (Word Key.With ∷ Op LPar ∷ x ∷ Op Comma ∷ signs 2 (Op RPar ∷ Word Key.As ∷ x ∷ Op Colon ∷ []))) ≡ 2
+tuple_high : kind (limit_line Py312 false 3 (Word Key.With ∷ Op LPar ∷ x ∷ Op Comma ∷ signs 2 (Op RPar ∷ Word Key.As ∷ x ∷ Op Colon ∷ [])))
+    ≡ 2
 tuple_high = refl
 
 -- the same, where the first reading, of items, goes too deep
-tuple_higher : kind (limit_line Py312 false 1 (Word Key.With ∷ Op LPar ∷ x ∷ Op Comma ∷ signs 2 (Op RPar ∷ Word Key.As ∷ x ∷ Op Colon ∷ []))) ≡ 2
+tuple_higher : kind (limit_line Py312 false 1 (Word Key.With ∷ Op LPar ∷ x ∷ Op Comma ∷ signs 2
+    (Op RPar ∷ Word Key.As ∷ x ∷ Op Colon ∷ []))) ≡ 2
 tuple_higher = refl
 
 -- for x() in - - x: no form, as x() is no target; but where it is too deep, that is said

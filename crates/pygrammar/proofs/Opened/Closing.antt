@@ -6,7 +6,8 @@ use Rattle.pylex_lexeme.specs.declared.kinds.Exact.{Exact}
 use Rattle.pyfstring.specs.declared.parts.Conversion.{Conversion}
 use Rattle.pytree_node.specs.Values.{Value}
 use Rattle.pytoken.specs.declared.keywords.Keyword.{Keyword}
-use Rattle.pytoken.specs.Terminals.{Terminal, Spelled, Op, Word, Ident, Number, Literal, FormattedBegin, FormattedEnd, FormattedText, FieldBegin, SpecBegin, FieldEnd}
+use Rattle.pytoken.specs.Terminals.{Terminal, Spelled, Op, Word, Ident, Number, Literal, FormattedBegin, FormattedEnd, FormattedText}
+use Rattle.pytoken.specs.Terminals.{FieldBegin, SpecBegin, FieldEnd}
 use Rattle.pygrammar.specs.declared.levels.Level.{Level}
 use Rattle.pygrammar.specs.declared.levels.Level.TheVariants.{BitOr, Not}
 use Rattle.pygrammar.specs.Operators.{left_operator, prefix_operator, comparison}
@@ -78,7 +79,8 @@ formatted {ts} {us} p q = record { is = λ o. past p (0 ∷ o) (FormattedEnd ∷
 one_less : (n : ℕ) → suc n - 1 ≡ n
 one_less n = omega arith
 
-pub field : {c : Conversion} {ts us vs : List Terminal} → Closes ts → Closes us → Closes vs → Closes (FieldBegin c ∷ (ts ++ (us ++ (FieldEnd ∷ vs))))
+pub field : {c : Conversion} {ts us vs : List Terminal} → Closes ts → Closes us → Closes vs
+    → Closes (FieldBegin c ∷ (ts ++ (us ++ (FieldEnd ∷ vs))))
 field {c} {ts} {us} {vs} p q r = record { is = by }
   where
     inside : (o : Open) → open_behind_all o (ts ++ (us ++ (FieldEnd ∷ vs))) ≡ open_behind_all o (FieldEnd ∷ vs)
@@ -97,7 +99,8 @@ none_some : {A : Type 0} (o : Option A) (a : A) → o ≡ None → o ≡ Some a 
 none_some None a h q = absurd cc
 none_some (Some x) a h q = absurd cc
 
-quiet_by : {A : Type 0} (f : Terminal → Option A) → f FormattedBegin ≡ None → f FormattedEnd ≡ None → ((c : Conversion) → f (FieldBegin c) ≡ None)
+quiet_by : {A : Type 0} (f : Terminal → Option A) → f FormattedBegin ≡ None → f FormattedEnd ≡ None
+    → ((c : Conversion) → f (FieldBegin c) ≡ None)
     → f FieldEnd ≡ None → Quiet f
 quiet_by f h k m n FormattedBegin a q o = absurd (none_some (f FormattedBegin) a h q)
 quiet_by f h k m n FormattedEnd a q o = absurd (none_some (f FormattedEnd) a k q)

@@ -12,7 +12,8 @@ pub behind_append : (o : Open) (ts us : List Terminal) → open_behind_all o (ts
 behind_append o [] us = refl
 behind_append o (t ∷ ts) us = behind_append (open_behind o t) ts us
 
-pub tokens_append : (o : Open) (ts us : List Terminal) → tokens_behind o (ts ++ us) ≡ tokens_behind o ts + tokens_behind (open_behind_all o ts) us
+pub tokens_append : (o : Open) (ts us : List Terminal) → tokens_behind o (ts ++ us) ≡ tokens_behind o ts + tokens_behind
+    (open_behind_all o ts) us
 tokens_append o [] us = omega arith
 tokens_append [] (t ∷ ts) us = omega (arith, tokens_append (open_behind [] t) ts us)
 tokens_append (n ∷ o) (t ∷ ts) us = tokens_append (open_behind (n ∷ o) t) ts us
@@ -34,7 +35,8 @@ count_plain (t ∷ ts) h = ap suc (count_plain ts h)
 
 -- ---- Within an f-string.
 
--- With some f-strings open within one that is open itself, no token begins; or that one ends, and what is open then is what would be without it.
+-- With some f-strings open within one that is open itself, no token begins; or that one ends, and what is open then is what would be
+-- without it.
 within_or_not : (ts : List Terminal) (q : Open) (n : ℕ) (o : Open)
     → (tokens_behind (q ++ (n ∷ o)) ts ≡ 0) ⊎ (open_behind_all (q ++ (n ∷ [])) ts ≡ open_behind_all q ts)
 within_or_not [] q n o = inl refl

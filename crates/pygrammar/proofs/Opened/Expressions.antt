@@ -12,7 +12,8 @@ use Rattle.pygrammar.specs.declared.levels.Level.{Level}
 use Rattle.pygrammar.specs.FormattedStrings.{StringPart}
 use Rattle.pygrammar.specs.Entries.{Item, Entry}
 use Rattle.pygrammar.specs.Grammar as G
-use Rattle.pygrammar.proofs.Opened.Closing.{Closes, none, front, sign, word, ident, number, literal, literals, text, spec, both, ended, formatted, field, quiet_comparison, quiet_constant, quiet_left, quiet_unary}
+use Rattle.pygrammar.proofs.Opened.Closing.{Closes, none, front, sign, word, ident, number, literal, literals, text, spec, both, ended}
+use Rattle.pygrammar.proofs.Opened.Closing.{formatted, field, quiet_comparison, quiet_constant, quiet_left, quiet_unary}
 
 pub closes_comparison : {ts : List Terminal} {o : Comparison} → G.Compared ts o → Closes ts
 closes_comparison (G.one_sign {t = t} {o = o} h) = front (quiet_comparison t o h) none

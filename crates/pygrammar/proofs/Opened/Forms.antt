@@ -12,7 +12,9 @@ use Rattle.pygrammar.specs.Forms as F
 use Rattle.pygrammar.proofs.Opened.Closing.{Closes, none, sign, word, ident, both, ended}
 use Rattle.pygrammar.proofs.Opened.Expressions.{closes, closes_listing, closes_target, closes_single_target, closes_del_target}
 use Rattle.pygrammar.proofs.Opened.Patterns.{closes_pattern}
-use Rattle.pygrammar.proofs.Opened.Parts.{closes_given, closes_behind, closes_as, closes_async, closes_name, closes_commas, closes_commas?, closes_type_params, closes_module, closes_module_alias, closes_dots, closes_names, closes_targets, closes_items, closes_bases}
+use Rattle.pygrammar.proofs.Opened.Parts.{closes_given, closes_behind, closes_as, closes_async, closes_name, closes_commas, closes_commas?}
+use Rattle.pygrammar.proofs.Opened.Parts.{closes_type_params, closes_module, closes_module_alias, closes_dots, closes_names, closes_targets}
+use Rattle.pygrammar.proofs.Opened.Parts.{closes_items, closes_bases}
 
 -- ---- Simple statements.
 

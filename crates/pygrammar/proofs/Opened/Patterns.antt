@@ -10,7 +10,8 @@ use Rattle.pygrammar.specs.declared.levels.Level.TheVariants.{Sum}
 use Rattle.pygrammar.specs.declared.pattern_levels.PatternLevel.{PatternLevel}
 use Rattle.pygrammar.specs.PatternEntries.{PatternItem, PatternEntry}
 use Rattle.pygrammar.specs.PatternGrammar as P
-use Rattle.pygrammar.proofs.Opened.Closing.{Closes, none, front, sign, word, ident, number, literal, literals, both, ended, quiet_left, quiet_singleton}
+use Rattle.pygrammar.proofs.Opened.Closing.{Closes, none, front, sign, word, ident, number, literal, literals, both, ended, quiet_left}
+use Rattle.pygrammar.proofs.Opened.Closing.{quiet_singleton}
 use Rattle.pygrammar.proofs.Opened.Expressions.{closes_literals}
 
 -- ---- Values.

@@ -15,8 +15,10 @@ use Rattle.pyfstring.specs.Parts.{FieldParts, Part, text as text_part, field as 
 use Rattle.pytree_node.specs.declared.profiles.Extent.TheVariants.{Whole}
 use Rattle.pytoken.specs.declared.keywords.Keyword.{Keyword}
 use Rattle.pytoken.specs.Keywords.{keyword_of}
-use Rattle.pytoken.specs.FormattedStrings.{Element, Field, End, text_element, kept_elements, spec_elements, field_elements, part_elements, inner_elements, spec_part_elements, body_part_elements, is_fstring, elements_of, elements_fault}
-use Rattle.pytoken.specs.Terminals.{Terminal, Op, Word, Ident, Layout, FieldBegin, terminal_of, element_terminals, elements_terminals, terminals_by, nested_expression, expression, terminals_of, fault_by, fault_of, is_faulty}
+use Rattle.pytoken.specs.FormattedStrings.{Element, Field, End, text_element, kept_elements, spec_elements, field_elements, part_elements}
+use Rattle.pytoken.specs.FormattedStrings.{inner_elements, spec_part_elements, body_part_elements, is_fstring, elements_of, elements_fault}
+use Rattle.pytoken.specs.Terminals.{Terminal, Op, Word, Ident, Layout, FieldBegin, terminal_of, element_terminals, elements_terminals}
+use Rattle.pytoken.specs.Terminals.{terminals_by, nested_expression, expression, terminals_of, fault_by, fault_of, is_faulty}
 use Rattle.pytoken.specs.Tokens.{Token}
 use Rattle.pygrammar.specs.OpenStrings.{token_count}
 use Rattle.pygrammar.proofs.Opened.Counts.{count_append, count_formatted}
@@ -28,7 +30,8 @@ single_closes : (k : Kind) (t : List ℕ) → Closes (terminal_of k t ∷ [])
 unfolding terminal_of
 single_closes kinds.Name t = by (keyword_of t) _
   where
-    by : (o : Option Keyword) (form : List ℕ) → Closes (elim o [ Some w ↦ Word w | None ↦ Ident (record { spelling = t; form = form }) ] ∷ [])
+    by : (o : Option Keyword) (form : List ℕ)
+        → Closes (elim o [ Some w ↦ Word w | None ↦ Ident (record { spelling = t; form = form }) ] ∷ [])
     by (Some w) form = word none
     by None form = ident none
 single_closes kinds.Number t = number none

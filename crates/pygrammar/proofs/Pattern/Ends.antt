@@ -64,11 +64,13 @@ end_of_pattern Patterns = omega arith
 end_of_pattern _ = omega arith
 
 -- a first terminal that a test refuses
-pub miss_sign : {A : Type 0} (x : Exact) (r : List Terminal) (hit : ℕ → List Terminal → A) (other : A) → (pattern_grip_of r ≡ pattern_grip (Op x) → ⊥) → on_first (is_op x) r hit other ≡ other
+pub miss_sign : {A : Type 0} (x : Exact) (r : List Terminal) (hit : ℕ → List Terminal → A) (other : A)
+    → (pattern_grip_of r ≡ pattern_grip (Op x) → ⊥) → on_first (is_op x) r hit other ≡ other
 miss_sign x [] hit other h = refl
 miss_sign x (t ∷ r) hit other h = ap (λ o. on_some o (λ a. hit a r) other) (no_op pattern_grip x t h)
 
-pub miss_keyword : {A : Type 0} (x : Keyword) (r : List Terminal) (hit : ℕ → List Terminal → A) (other : A) → (pattern_grip_of r ≡ pattern_grip (Word x) → ⊥) → on_first (is_word x) r hit other ≡ other
+pub miss_keyword : {A : Type 0} (x : Keyword) (r : List Terminal) (hit : ℕ → List Terminal → A) (other : A)
+    → (pattern_grip_of r ≡ pattern_grip (Word x) → ⊥) → on_first (is_word x) r hit other ≡ other
 miss_keyword x [] hit other h = refl
 miss_keyword x (t ∷ r) hit other h = ap (λ o. on_some o (λ a. hit a r) other) (no_word pattern_grip x t h)
 
@@ -78,7 +80,8 @@ no_sum (Op Minus) h = absurd (omega (arith, h))
 no_sum (Op _) h = refl
 no_sum _ h = refl
 
-pub miss_sum : {A : Type 0} (r : List Terminal) (hit : Operator → List Terminal → A) (other : A) → pattern_grip_of r < 5 → on_first (left_operator Sum) r hit other ≡ other
+pub miss_sum : {A : Type 0} (r : List Terminal) (hit : Operator → List Terminal → A) (other : A) → pattern_grip_of r < 5
+    → on_first (left_operator Sum) r hit other ≡ other
 miss_sum [] hit other h = refl
 miss_sum (t ∷ r) hit other h = ap (λ o. on_some o (λ a. hit a r) other) (no_sum t h)
 
@@ -122,9 +125,11 @@ starts_wide i [] h = absurd (cc)
 starts_wide i (t ∷ ts) h = begins_wide i t h
 
 -- a sign that doesn't begin what stands here
-pub pass_start : {A : Type 0} (i : PatternItem) (x : Exact) (ts us : List Terminal) (hit : ℕ → List Terminal → A) (other : A) → begins_entry i (Op x) ≡ false → starts_entry i ts ≡ true → on_first (is_op x) (ts ++ us) hit other ≡ other
+pub pass_start : {A : Type 0} (i : PatternItem) (x : Exact) (ts us : List Terminal) (hit : ℕ → List Terminal → A) (other : A)
+    → begins_entry i (Op x) ≡ false → starts_entry i ts ≡ true → on_first (is_op x) (ts ++ us) hit other ≡ other
 pass_start i x [] us hit other h k = absurd (cc)
-pass_start i x (t ∷ ts) us hit other h k = elim (op_or_not x t) [ inl e ↦ absurd (differ (begins_entry i t) k (ap (begins_entry i) e ∙ h)) | inr q ↦ ap (λ o. on_some o (λ a. hit a (ts ++ us)) other) q ]
+pass_start i x (t ∷ ts) us hit other h k = elim (op_or_not x t) [ inl e ↦ absurd (differ (begins_entry i t) k (ap (begins_entry i) e ∙ h))
+    | inr q ↦ ap (λ o. on_some o (λ a. hit a (ts ++ us)) other) q ]
   where
     differ : (b : Bool) → b ≡ true → b ≡ false → ⊥
     differ b p q = absurd (cc)
@@ -136,7 +141,8 @@ singleton_begins (Word Key.False) v h = refl
 singleton_begins (Word _) v h = absurd (cc)
 singleton_begins _ v h = absurd (cc)
 
-joined_starts : {u : Bool} {ts : List Terminal} {ps : List StringPart} → G.Literals u ts ps → has_formatted ts ≡ true → starts_entry ClassArgument ts ≡ true
+joined_starts : {u : Bool} {ts : List Terminal} {ps : List StringPart} → G.Literals u ts ps → has_formatted ts ≡ true
+    → starts_entry ClassArgument ts ≡ true
 joined_starts G.no_literal h = absurd (cc)
 joined_starts (G.text_literal l) h = refl
 joined_starts (G.formatted_literal p l) h = refl
@@ -167,7 +173,8 @@ item_at Patterns = Element
 item_at StarPattern = Element
 item_at _ = ClassArgument
 
-next_starts : (l : PatternLevel) (ts : List Terminal) → starts_entry (item_at (below_pattern l)) ts ≡ true → starts_entry (item_at l) ts ≡ true
+next_starts : (l : PatternLevel) (ts : List Terminal) → starts_entry (item_at (below_pattern l)) ts ≡ true
+    → starts_entry (item_at l) ts ≡ true
 next_starts Patterns ts h = starts_wide Element ts h
 next_starts StarPattern ts h = starts_wide Element ts h
 next_starts _ ts h = h

@@ -7,7 +7,8 @@ use Rattle.std.specs.Prelude.{max}
 use Rattle.pytree_node.specs.Trees.{Expr, Identifier, Pattern, MatchValue, MatchMapping, MatchClass, MatchAs, present_pattern, patterns}
 use Rattle.pytree_height.specs.Heights.{height, list_height, pattern_height, pattern_heights}
 use Rattle.pygrammar.specs.PatternOperators.{captured}
-use Rattle.pygrammar.specs.PatternEntries.{PatternEntry, Alone, Keyed, Rest, Named, elements, is_mapping, pattern_keys, key_patterns, rest_of, mapped, are_class_arguments, named_attributes, named_patterns, class_of, as_named}
+use Rattle.pygrammar.specs.PatternEntries.{PatternEntry, Alone, Keyed, Rest, Named, elements, is_mapping, pattern_keys, key_patterns}
+use Rattle.pygrammar.specs.PatternEntries.{rest_of, mapped, are_class_arguments, named_attributes, named_patterns, class_of, as_named}
 use Rattle.pygrammar.proofs.Heights.HeightLemmas.{some_is, mapped_keeps}
 
 pub pattern_some : (p : Pattern) → 0 < pattern_height p
@@ -62,13 +63,19 @@ chosen true p q h = some_is p q h
 chosen false p q h = absurd (cc)
 
 pub mapped_low : (es : List PatternEntry) (p : Pattern) → mapped es ≡ Some p → pattern_height p ≤ suc (entries_size es)
-mapped_low es p h = omega (arith, ap pattern_height (chosen (is_mapping es) (MatchMapping (pattern_keys es) (key_patterns es) (rest_of es)) p h), keyed_low es)
+mapped_low es p h = omega (arith,
+    ap pattern_height (chosen (is_mapping es) (MatchMapping (pattern_keys es) (key_patterns es) (rest_of es)) p h), keyed_low es)
 
-pub class_low : (f : Expr) (es : List PatternEntry) (p : Pattern) → class_of f es ≡ Some p → pattern_height p ≤ suc (max (height f) (entries_size es))
-class_low f es p h = omega (arith, ap pattern_height (chosen (are_class_arguments false es) (MatchClass f (elements es) (named_attributes es) (named_patterns es)) p h), elements_low es, named_low es)
+pub class_low : (f : Expr) (es : List PatternEntry) (p : Pattern) → class_of f es ≡ Some p
+    → pattern_height p ≤ suc (max (height f) (entries_size es))
+class_low f es p h =
+    omega (arith, ap pattern_height
+    (chosen (are_class_arguments false es) (MatchClass f (elements es) (named_attributes es) (named_patterns es)) p h),
+    elements_low es, named_low es)
 
 pub as_low : (p q : Pattern) (x : Identifier) → as_named p x ≡ Some q → pattern_height q ≡ suc (pattern_height p)
-as_low p q x h = mapped_keeps (λ y. MatchAs (present_pattern p) (Some y)) (captured x) q length pattern_height (suc (pattern_height p)) (λ y e. omega arith) h
+as_low p q x h = mapped_keeps (λ y. MatchAs (present_pattern p) (Some y)) (captured x) q length pattern_height
+    (suc (pattern_height p)) (λ y e. omega arith) h
 
 -- ---- Alternatives.
 
@@ -80,7 +87,8 @@ pub alternatives_some : (ps : List Pattern) → 0 < alternatives_size ps
 alternatives_some [] = omega arith
 alternatives_some (p ∷ ps) = omega (arith, alternatives_some ps)
 
-pub alternatives_last : (ps : List Pattern) (p : Pattern) → alternatives_size (ps ++ (p ∷ [])) ≡ max (alternatives_size ps) (pattern_height p)
+pub alternatives_last : (ps : List Pattern) (p : Pattern)
+    → alternatives_size (ps ++ (p ∷ [])) ≡ max (alternatives_size ps) (pattern_height p)
 alternatives_last [] p = omega (arith, pattern_some p)
 alternatives_last (q ∷ ps) p = omega (arith, alternatives_last ps p)
 

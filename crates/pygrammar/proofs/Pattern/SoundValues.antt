@@ -2,7 +2,8 @@
 --
 -- Carries: says_cap, says_choice, literal_sound, dotted_sound, key_sound, for SoundLists, Sound.
 -- On: Says, Sound of expressions, HeightLemmas.
-use Rattle.std.proofs.Common.{◌≡◌, refl, sym, ap, ◌∙◌, ℕ, zero, suc, ◌≤◌, List, [], ◌∷◌, ◌++◌, length, Some, None, Bool, true, false, cond, leb, append_assoc}
+use Rattle.std.proofs.Common.{◌≡◌, refl, sym, ap, ◌∙◌, ℕ, zero, suc, ◌≤◌, List, [], ◌∷◌, ◌++◌, length, Some, None, Bool, true, false, cond}
+use Rattle.std.proofs.Common.{leb, append_assoc}
 use Rattle.std.proofs.lemmas.Bool.{leb-true}
 use Rattle.pylex_lexeme.specs.declared.kinds.Exact.TheVariants.{Minus, Dot}
 use Rattle.pytree_node.specs.declared.operators.Context.TheVariants.{Load}
@@ -16,14 +17,16 @@ use Rattle.pygrammar.specs.Operators.{left_operator}
 use Rattle.pygrammar.specs.Reader.{Answer, Found, NoForm, TooDeep, Reads}
 use Rattle.pygrammar.specs.PatternOperators.{is_imaginary, singleton_word}
 use Rattle.pygrammar.specs.PatternGrammar as P
-use Rattle.pygrammar.specs.PatternReader.{cap_by, imaginary_in, number_in, number_rest, literal_or, dotted_loop, dotted_from, named_key, read_key}
+use Rattle.pygrammar.specs.PatternReader.{cap_by, imaginary_in, number_in, number_rest, literal_or, dotted_loop, dotted_from, named_key}
+use Rattle.pygrammar.specs.PatternReader.{read_key}
 use Rattle.pygrammar.proofs.Soundness.Says.{Says, SoundAt, found, no_form, deep, says_then, says_first, says_op, says_name, says_is}
 use Rattle.pygrammar.proofs.Soundness.SoundStrings.{joined_sound, literals_sound}
 use Rattle.pygrammar.proofs.Heights.HeightLemmas.{some_is}
 
 -- ---- Tests with what they tell.
 
-pub says_cap : {A : Type 0} {Q : A → List Terminal → Type 0} (f : A → ℕ) (d : ℕ) (x : Answer A) → Says Q x → Says (λ a r. Q a r × (f a ≤ d)) (cap_by f d x)
+pub says_cap : {A : Type 0} {Q : A → List Terminal → Type 0} (f : A → ℕ) (d : ℕ) (x : Answer A) → Says Q x
+    → Says (λ a r. Q a r × (f a ≤ d)) (cap_by f d x)
 says_cap {A} {Q} f d x (found {a = a} {r = r} p) = go (leb (f a) d) refl
   where
     go : (b : Bool) → leb (f a) d ≡ b → Says (λ a r. Q a r × (f a ≤ d)) (cond b (Found a r) TooDeep)
@@ -32,7 +35,8 @@ says_cap {A} {Q} f d x (found {a = a} {r = r} p) = go (leb (f a) d) refl
 says_cap f d x no_form = no_form
 says_cap f d x deep = deep
 
-pub says_choice : {B : Type 0} {Q : B → List Terminal → Type 0} (b : Bool) (x y : Answer B) → (b ≡ true → Says Q x) → (b ≡ false → Says Q y) → Says Q (cond b x y)
+pub says_choice : {B : Type 0} {Q : B → List Terminal → Type 0} (b : Bool) (x y : Answer B) → (b ≡ true → Says Q x)
+    → (b ≡ false → Says Q y) → Says Q (cond b x y)
 says_choice true x y h k = h refl
 says_choice false x y h k = k refl
 
@@ -53,24 +57,33 @@ imaginary_is _ v h = absurd (cc)
 abbrev LiteralAt : List Terminal → Expr → List Terminal → Type 0
 LiteralAt i e r = (ts : List Terminal) × (i ≡ ts ++ r) × P.LiteralOf ts e
 
-number_sound : {v : Values.Value} {ts : List Terminal} {e : Expr} (i r : List Terminal) → i ≡ ts ++ r → P.SignedNumber v ts e → Says (LiteralAt i) (number_rest v e r)
+number_sound : {v : Values.Value} {ts : List Terminal} {e : Expr} (i r : List Terminal) → i ≡ ts ++ r → P.SignedNumber v ts e
+    → Says (LiteralAt i) (number_rest v e r)
 number_sound {v} {ts} {e} i r q p =
     says_choice (is_imaginary v) _ _ (λ _. found (ts, q, P.number p)) (λ real.
     says_first (left_operator Sum) r _ _
     (λ t o s h u. says_first imaginary_in s _ _
-    (λ n w s1 k v1. let z = imaginary_is n w k in found (ts ++ (t ∷ (Number w ∷ [])), rw (q, u, v1, z.0) (simp append_assoc refl), P.complex t p real h z.1))
+    (λ n w s1 k v1. let z = imaginary_is n w k in found (ts ++ (t ∷ (Number w ∷ [])), rw (q, u, v1, z.0) (simp append_assoc refl),
+        P.complex t p real h z.1))
     (λ _. no_form))
     (λ _. found (ts, q, P.number p)))
 
 minus_sound : (self : Reads) (s : List Terminal) → Says (LiteralAt (Op Minus ∷ s)) (literal_or self (Op Minus ∷ s) NoForm)
-minus_sound self s = says_first number_in s _ _ (λ t v s1 h q. number_sound (Op Minus ∷ s) s1 (ap (λ z. Op Minus ∷ z) (q ∙ ap (λ z. z ∷ s1) (number_is t v h))) P.negative) (λ _. no_form)
+minus_sound self s =
+    says_first number_in s _ _
+    (λ t v s1 h q. number_sound (Op Minus ∷ s) s1 (ap (λ z. Op Minus ∷ z) (q ∙ ap (λ z. z ∷ s1) (number_is t v h)))
+    P.negative) (λ _. no_form)
 
 module _ (self : Reads) (fields : SoundAt self) where
-  pub literal_sound : {Q : Expr → List Terminal → Type 0} (i : List Terminal) (other : Answer Expr) → ((e : Expr) (r ts : List Terminal) → i ≡ ts ++ r → P.LiteralOf ts e → Q e r) → Says Q other → Says Q (literal_or self i other)
+  pub literal_sound : {Q : Expr → List Terminal → Type 0} (i : List Terminal) (other : Answer Expr)
+      → ((e : Expr) (r ts : List Terminal) → i ≡ ts ++ r → P.LiteralOf ts e → Q e r) → Says Q other → Says Q (literal_or self i other)
   literal_sound [] other f g = g
   literal_sound (Number v ∷ r) other f g = says_is _ (number_sound (Number v ∷ r) r refl P.unsigned) (λ e s p. f e s p.0 p.1 p.2)
-  literal_sound (Literal v ∷ r) other f g = says_is _ (literals_sound self fields P.LiteralOf (λ u ts ps l b h. P.joined_string l b h) (λ v w vs h. P.strings vs h) v r) (λ e s p. f e s p.0 p.1 p.2)
-  literal_sound (FormattedBegin ∷ r) other f g = says_is _ (joined_sound self fields P.LiteralOf (λ u ts ps l b h. P.joined_string l b h) r) (λ e s p. f e s p.0 p.1 p.2)
+  literal_sound (Literal v ∷ r) other f g =
+      says_is _ (literals_sound self fields P.LiteralOf (λ u ts ps l b h. P.joined_string l b h) (λ v w vs h. P.strings vs h) v r)
+      (λ e s p. f e s p.0 p.1 p.2)
+  literal_sound (FormattedBegin ∷ r) other f g = says_is _ (joined_sound self fields P.LiteralOf (λ u ts ps l b h. P.joined_string l b h) r)
+      (λ e s p. f e s p.0 p.1 p.2)
   literal_sound (Op Minus ∷ r) other f g = says_is _ (minus_sound self r) (λ e s p. f e s p.0 p.1 p.2)
   literal_sound (Op _ ∷ r) other f g = g
   literal_sound (_ ∷ r) other f g = g
@@ -80,12 +93,15 @@ module _ (self : Reads) (fields : SoundAt self) where
 abbrev pub DottedAt : Identifier → List Terminal → Expr → List Terminal → Type 0
 DottedAt f i e r = (ts : List Terminal) × (i ≡ ts ++ r) × P.Dotted f ts e
 
-dotted_loop_sound : (d m : ℕ) (f : Identifier) (i : List Terminal) (e : Expr) (r : List Terminal) → DottedAt f i e r → Says (DottedAt f i) (dotted_loop d m e r)
+dotted_loop_sound : (d m : ℕ) (f : Identifier) (i : List Terminal) (e : Expr) (r : List Terminal) → DottedAt f i e r
+    → Says (DottedAt f i) (dotted_loop d m e r)
 dotted_loop_sound d zero f i e r p = found p
 dotted_loop_sound d (suc m) f i e r p =
     says_op Dot r _ _
     (λ a s q. says_name s _ _
-    (λ x u v. says_then _ _ (says_cap height d (Found (Trees.Attribute e x.form Load) u) (found (p.0 ++ (Op Dot ∷ (Ident x ∷ [])), rw (p.1, q, v) (simp append_assoc refl), P.dot_name x p.2))) (λ g r1 y. dotted_loop_sound d m f i g r1 y.0))
+    (λ x u v. says_then _ _ (says_cap height d (Found (Trees.Attribute e x.form Load) u)
+        (found (p.0 ++ (Op Dot ∷ (Ident x ∷ [])), rw (p.1, q, v) (simp append_assoc refl), P.dot_name x p.2)))
+        (λ g r1 y. dotted_loop_sound d m f i g r1 y.0))
     no_form)
     (λ _. found p)
 
@@ -97,7 +113,8 @@ dotted_sound d x r = dotted_loop_sound d (length r) x.form (Ident x ∷ r) (Tree
 abbrev pub KeyAt : List Terminal → Expr → List Terminal → Type 0
 KeyAt i e r = (ts : List Terminal) × (i ≡ ts ++ r) × P.KeyOf ts e
 
-named_key_sound : {f : Identifier} {ts : List Terminal} {e : Expr} (i r : List Terminal) → i ≡ ts ++ r → P.Dotted f ts e → Says (KeyAt i) (named_key e r)
+named_key_sound : {f : Identifier} {ts : List Terminal} {e : Expr} (i r : List Terminal) → i ≡ ts ++ r → P.Dotted f ts e
+    → Says (KeyAt i) (named_key e r)
 named_key_sound i r q P.first_name = no_form
 named_key_sound i r q (P.dot_name {ts = ts} x p) = found (ts ++ (Op Dot ∷ (Ident x ∷ [])), q, P.name_key x p)
 

@@ -10,7 +10,8 @@ use Rattle.pygrammar.specs.declared.levels.Level.TheVariants.{Sum, Term, Factor,
 use Rattle.pygrammar.specs.Constants.{constant_word}
 use Rattle.pygrammar.specs.Grammar as G
 use Rattle.pygrammar.specs.PatternOperators.{singleton_word}
-use Rattle.pygrammar.specs.PatternGrammar.{SignedNumber, unsigned, negative, LiteralOf, number, complex, strings, joined_string, Dotted, first_name, dot_name, ClassOf, class_name, KeyOf, literal_key, singleton_key, name_key}
+use Rattle.pygrammar.specs.PatternGrammar.{SignedNumber, unsigned, negative, LiteralOf, number, complex, strings, joined_string, Dotted}
+use Rattle.pygrammar.specs.PatternGrammar.{first_name, dot_name, ClassOf, class_name, KeyOf, literal_key, singleton_key, name_key}
 use Rattle.pygrammar.specs.PatternLaws.{ValuesAreExpressions}
 use Rattle.pygrammar.proofs.Soundness.Says.{lower}
 

@@ -27,7 +27,8 @@ use Rattle.pygrammar.specs.Entries.{Item, Entry}
 use Rattle.pygrammar.specs.Extents.{is_plain_value, is_plain, are_plain, is_optional_plain, are_comprehensions_plain}
 use Rattle.pygrammar.specs.Grammar as G
 use Rattle.pygrammar.proofs.Heights.HeightLemmas.{some_is}
-use Rattle.pygrammar.proofs.Plain.Terminals.{and_swap, is_terminal_plain, Plainness, none, same, alone, front, sign, word, ident, both, ended}
+use Rattle.pygrammar.proofs.Plain.Terminals.{and_swap, is_terminal_plain, Plainness, none, same, alone, front, sign, word, ident, both}
+use Rattle.pygrammar.proofs.Plain.Terminals.{ended}
 use Rattle.pygrammar.proofs.Plain.Targets.{stored_plain, deleted_plain, single_plain}
 use Rattle.pygrammar.proofs.Plain.Entries.{is_entry_plain, are_entries_plain, singles_plain, pairs_plain, called_plain}
 use Rattle.pygrammar.proofs.Plain.Parameters.{arranged_plain}
@@ -35,11 +36,13 @@ use Rattle.pygrammar.proofs.Plain.Parameters.{arranged_plain}
 -- ---- Operators and constants.
 
 -- a constant is no operator
-prefix_none : (l : Level) (v : Value) → (prefix_operator l (Number v) ≡ None) × (prefix_operator l (Literal v) ≡ None) × (prefix_operator l FormattedBegin ≡ None)
+prefix_none : (l : Level) (v : Value) → (prefix_operator l (Number v) ≡ None) × (prefix_operator l (Literal v) ≡ None) ×
+    (prefix_operator l FormattedBegin ≡ None)
 prefix_none Not v = (refl, refl, refl)
 prefix_none _ v = (refl, refl, refl)
 
-operator_none : (l : Level) (v : Value) → (left_operator l (Number v) ≡ None) × (left_operator l (Literal v) ≡ None) × (left_operator l FormattedBegin ≡ None)
+operator_none : (l : Level) (v : Value) → (left_operator l (Number v) ≡ None) × (left_operator l (Literal v) ≡ None) ×
+    (left_operator l FormattedBegin ≡ None)
 operator_none BitOr v = (refl, refl, refl)
 operator_none _ v = (refl, refl, refl)
 
@@ -75,7 +78,8 @@ word_plain (Word Key.False) v h = (refl, ap is_plain_value (sym (some_is _ v h))
 word_plain (Op Sign.Ellipsis) v h = (refl, ap is_plain_value (sym (some_is Values.Ellipsis v h)))
 word_plain _ v h = absurd cc
 
-joined_plain : (v : Value) (vs : List Value) (w : Value) → joined v vs ≡ Some w → list_all is_terminal_plain (Literal v ∷ map Literal vs) ≡ is_plain_value w
+joined_plain : (v : Value) (vs : List Value) (w : Value) → joined v vs ≡ Some w
+    → list_all is_terminal_plain (Literal v ∷ map Literal vs) ≡ is_plain_value w
 joined_plain v [] w h = and-true (is_plain_value v) ∙ ap is_plain_value (some_is v w h)
 joined_plain (Values.Str t u) (Values.Str s v ∷ vs) w h = joined_plain (Values.Str (t ++ s) u) vs w h
 joined_plain (Values.Bytes t) (Values.Bytes s ∷ vs) w h = joined_plain (Values.Bytes (t ++ s)) vs w h
@@ -95,10 +99,12 @@ formatted_plain (t ∷ ts) h = ap (λ z. is_terminal_plain t && z) (formatted_pl
 abbrev is_comprehension_plain : Comprehension → Bool
 is_comprehension_plain g = is_plain g.target && (is_plain g.iter && are_plain (exprs g.ifs))
 
-first_plain : (g : Comprehension) (gs : List Comprehension) → is_comprehension_plain g && are_comprehensions_plain (comprehensions gs) ≡ are_comprehensions_plain (comprehensions (g ∷ gs))
+first_plain : (g : Comprehension) (gs : List Comprehension) → is_comprehension_plain g && are_comprehensions_plain (comprehensions gs) ≡
+    are_comprehensions_plain (comprehensions (g ∷ gs))
 first_plain g gs =
     and_assoc (is_plain g.target) (is_plain g.iter && are_plain (exprs g.ifs)) (are_comprehensions_plain (comprehensions gs))
-    ∙ ap (λ z. is_plain g.target && z) (and_assoc (is_plain g.iter) (are_plain (exprs g.ifs)) (are_comprehensions_plain (comprehensions gs)))
+    ∙ ap (λ z. is_plain g.target && z) (and_assoc (is_plain g.iter) (are_plain (exprs g.ifs))
+        (are_comprehensions_plain (comprehensions gs)))
 
 -- ---- Expressions.
 
@@ -111,7 +117,8 @@ mutual
   plain (G.star_item p) = sign (plain p)
   plain (G.named p) = ident (sign (plain p))
   plain (G.lambda {ps = ps} {a = a} c h p) = word (both (same (plain_listing c) (arranged_plain ps a h)) (sign (plain p)))
-  plain (G.if_else {a = a} {b = b} {c = c} p q r) = same (both (plain p) (word (both (plain q) (word (plain r))))) (and_swap (is_plain b) (is_plain a) (is_plain c))
+  plain (G.if_else {a = a} {b = b} {c = c} p q r) = same (both (plain p) (word (both (plain q) (word (plain r)))))
+      (and_swap (is_plain b) (is_plain a) (is_plain c))
   plain (G.chain p c) = both (plain p) (word (plain_chain c))
   plain (G.unary {l = l} {t = t} {o = o} h p) = front (prefix_plain l t o h) (plain p)
   plain (G.compare p c) = both (plain p) (plain_compares c)
@@ -122,7 +129,8 @@ mutual
   plain (G.call {f = f} {e = e} p c h) = same (both (plain p) (sign (ended Sign.RPar (plain_listing c)))) (called_plain f e c h)
   plain (G.call_generator {f = f} {e = e} {gs = gs} p q c) =
       let inner : Bool = is_plain e && are_comprehensions_plain (comprehensions gs) in
-      same (both (plain p) (sign (both (plain q) (ended Sign.RPar (plain_comps c))))) (ap (λ z. is_plain f && z) (alone inner ∙ alone (inner && true)))
+      same (both (plain p) (sign (both (plain q) (ended Sign.RPar (plain_comps c)))))
+          (ap (λ z. is_plain f && z) (alone inner ∙ alone (inner && true)))
   plain (G.subscript p q) = both (plain p) (sign (ended Sign.RSqb (plain q)))
   plain G.name = ident none
   plain (G.constant {t = t} {v = v} h) = let w = word_plain t v h in same (front w.0 none) (sym w.1)
@@ -196,7 +204,8 @@ mutual
   plain_comp (G.async_for_in p) = word (word (plain_for_in p))
 
   plain_for_in : {b : Bool} {ts : List Terminal} {g : Comprehension} → G.ForIn b ts g → Plainness ts (is_comprehension_plain g)
-  plain_for_in (G.target_in {t = t} {s = s} p h q c) = both (same (plain p) (sym (stored_plain t s h))) (word (both (plain q) (plain_ifs c)))
+  plain_for_in (G.target_in {t = t} {s = s} p h q c) =
+      both (same (plain p) (sym (stored_plain t s h))) (word (both (plain q) (plain_ifs c)))
 
   plain_ifs : {ts : List Terminal} {es : List Expr} → G.Ifs ts es → Plainness ts (are_plain (exprs es))
   plain_ifs G.no_if = none

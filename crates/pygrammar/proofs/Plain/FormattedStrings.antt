@@ -10,7 +10,8 @@ use Rattle.pytree_node.specs.declared.profiles.Extent.TheVariants.{Plain, Whole}
 use Rattle.pytoken.specs.declared.faults.TokenError.TheVariants as errors
 use Rattle.pytoken.specs.StringValues.{literal_fault, string_fault}
 use Rattle.pytoken.specs.FormattedStrings.{Element, is_fstring, elements_of, elements_fault}
-use Rattle.pytoken.specs.Terminals.{terminal_of, single_fault, elements_terminals, terminals_by, fault_by, terminals_of, fault_of, expression, is_faulty}
+use Rattle.pytoken.specs.Terminals.{terminal_of, single_fault, elements_terminals, terminals_by, fault_by, terminals_of, fault_of}
+use Rattle.pytoken.specs.Terminals.{expression, is_faulty}
 use Rattle.pygrammar.proofs.Plain.Terminals.{is_terminal_plain}
 
 -- ---- What is no f-string.

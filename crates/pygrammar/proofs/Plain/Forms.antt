@@ -14,10 +14,13 @@ use Rattle.pygrammar.specs.declared.levels.Level.{Level}
 use Rattle.pytree_node.specs.Trees.{Expr, Exprs, no_exprs, an_expr, exprs, Keywords, Identifier, Stmt, stmts, Alias, Item, TypeParam}
 use Rattle.pytoken.specs.Terminals.{Terminal}
 use Rattle.pygrammar.specs.Arguments.{positional, keywords}
-use Rattle.pygrammar.specs.Lines.{Form, simple_form, decorator_form, header_form, Header, if_header, elif_header, else_header, loop_header, with_header, try_header, except_header, finally_header, def_header, match_header, case_header, LoopHead, while_head, for_head, DefHead, function_head, class_head}
+use Rattle.pygrammar.specs.Lines.{Form, simple_form, decorator_form, header_form, Header, if_header, elif_header, else_header, loop_header}
+use Rattle.pygrammar.specs.Lines.{with_header, try_header, except_header, finally_header, def_header, match_header, case_header, LoopHead}
+use Rattle.pygrammar.specs.Lines.{while_head, for_head, DefHead, function_head, class_head}
 use Rattle.pygrammar.specs.Grammar.{DelTarget}
 use Rattle.pygrammar.specs.Forms as F
-use Rattle.pygrammar.specs.Extents.{is_plain, are_plain, are_keywords_plain, are_arguments_plain, all_plain, is_perhaps_plain, is_item_plain, is_type_param_plain, is_statement_plain, are_statements_plain}
+use Rattle.pygrammar.specs.Extents.{is_plain, are_plain, are_keywords_plain, are_arguments_plain, all_plain, is_perhaps_plain}
+use Rattle.pygrammar.specs.Extents.{is_item_plain, is_type_param_plain, is_statement_plain, are_statements_plain}
 use Rattle.pygrammar.proofs.Plain.Terminals.{is_terminal_plain, Plainness, none, same, alone, front, sign, word, ident, both, ended}
 use Rattle.pygrammar.proofs.Plain.Entries.{arguments_plain}
 use Rattle.pygrammar.proofs.Plain.Parameters.{arranged_plain}
@@ -30,8 +33,10 @@ is_loop_plain (while_head test) = is_plain test
 is_loop_plain (for_head is_async target iter) = is_plain target && is_plain iter
 
 abbrev pub is_definition_plain : DefHead → Bool
-is_definition_plain (function_head is_async name parameters args returns) = list_all is_type_param_plain parameters && (are_arguments_plain args && is_perhaps_plain returns)
-is_definition_plain (class_head name parameters bases keywords) = list_all is_type_param_plain parameters && (all_plain bases && are_keywords_plain keywords)
+is_definition_plain (function_head is_async name parameters args returns) =
+    list_all is_type_param_plain parameters && (are_arguments_plain args && is_perhaps_plain returns)
+is_definition_plain (class_head name parameters bases keywords) =
+    list_all is_type_param_plain parameters && (all_plain bases && are_keywords_plain keywords)
 
 abbrev pub is_header_plain : Header → Bool
 is_header_plain (if_header test) = is_plain test
@@ -58,7 +63,8 @@ plain_perhaps : {l : Level} {ts : List Terminal} {e : Option Expr} → F.Perhaps
 plain_perhaps F.left_out = none
 plain_perhaps (F.given p) = plain p
 
-plain_behind : {t : Terminal} {l : Level} {ts : List Terminal} {e : Option Expr} → is_terminal_plain t ≡ true → F.Behind t l ts e → Plainness ts (is_perhaps_plain e)
+plain_behind : {t : Terminal} {l : Level} {ts : List Terminal} {e : Option Expr} → is_terminal_plain t ≡ true → F.Behind t l ts e
+    → Plainness ts (is_perhaps_plain e)
 plain_behind h F.none_behind = none
 plain_behind h (F.behind p) = front h (plain p)
 
@@ -74,7 +80,8 @@ plain_name : (ts : List Terminal) (x : Identifier) → F.Name ts x → Plainness
 plain_name ts x F.name = ident none
 
 -- lists with commas, of which each part is plain where its value passes a test
-module _ (A : Type 0) (X : List Terminal → A → Type 0) (test : A → Bool) (each : (ts : List Terminal) (a : A) → X ts a → Plainness ts (test a)) where
+module _ (A : Type 0) (X : List Terminal → A → Type 0) (test : A → Bool) (each : (ts : List Terminal) (a : A) → X ts a
+    → Plainness ts (test a)) where
   plain_commas : {ts : List Terminal} {as_ : List A} → F.Commas A X ts as_ → Plainness ts (list_all test as_)
   plain_commas (F.alone {a = a} p) = same (each _ _ p) (alone (test a))
   plain_commas (F.comma p c) = both (each _ _ p) (sign (plain_commas c))
@@ -100,9 +107,11 @@ plain_type_param ts p (F.type_var k) = ident (plain_behind refl k)
 plain_type_param ts p F.type_var_tuple = sign (ident none)
 plain_type_param ts p F.param_spec = sign (ident none)
 
-plain_type_params : {profile : Profile} {ts : List Terminal} {ps : List TypeParam} → F.TypeParams profile ts ps → Plainness ts (list_all is_type_param_plain ps)
+plain_type_params : {profile : Profile} {ts : List Terminal} {ps : List TypeParam} → F.TypeParams profile ts ps
+    → Plainness ts (list_all is_type_param_plain ps)
 plain_type_params F.no_type_params = none
-plain_type_params (F.type_params h c) = sign (ended Sign.RSqb (plain_commas? TypeParam F.TypeParamOf is_type_param_plain plain_type_param c))
+plain_type_params (F.type_params h c) =
+    sign (ended Sign.RSqb (plain_commas? TypeParam F.TypeParamOf is_type_param_plain plain_type_param c))
 
 -- ---- Imports.
 
@@ -158,7 +167,8 @@ plain_simple (F.import_names c) = word (no_constants Alias F.DottedAlias plain_d
 plain_simple (F.from_module d p q) = word (both (plain_dots d) (both (plain_dotted p) (word (plain_names q))))
 plain_simple (F.from_dots d h q) = word (both (plain_dots d) (word (plain_names q)))
 
-plain_simples : {profile : Profile} {ts : List Terminal} {ss : List Stmt} → F.Simples profile ts ss → Plainness ts (are_statements_plain (stmts ss))
+plain_simples : {profile : Profile} {ts : List Terminal} {ss : List Stmt} → F.Simples profile ts ss
+    → Plainness ts (are_statements_plain (stmts ss))
 plain_simples (F.last_simple {s = s} p) = same (plain_simple p) (alone (is_statement_plain s))
 plain_simples (F.ended_simple {s = s} p) = same (ended Sign.Semi (plain_simple p)) (alone (is_statement_plain s))
 plain_simples (F.more_simples p c) = both (plain_simple p) (sign (plain_simples c))
@@ -177,13 +187,16 @@ exprs_listed : (es : Exprs) → exprs (F.listed es) ≡ es
 exprs_listed no_exprs = refl
 exprs_listed (an_expr e es) = ap (λ z. an_expr e z) (exprs_listed es)
 
-plain_bases : {ts : List Terminal} {es : List Expr} {ks : Keywords} → F.Bases ts es ks → Plainness ts (all_plain es && are_keywords_plain ks)
+plain_bases : {ts : List Terminal} {es : List Expr} {ks : Keywords} → F.Bases ts es ks
+    → Plainness ts (all_plain es && are_keywords_plain ks)
 plain_bases F.no_bases = none
 plain_bases (F.bases {es = es} c h) =
-    sign (ended Sign.RPar (same (plain_listing c) (arguments_plain c ∙ ap (λ z. are_plain z && are_keywords_plain (keywords es)) (sym (exprs_listed (positional es))))))
+    sign (ended Sign.RPar (same (plain_listing c) (arguments_plain c ∙ ap (λ z. are_plain z && are_keywords_plain (keywords es))
+        (sym (exprs_listed (positional es))))))
 
 -- in the plain language
-plain_header : {version : Version} {ts : List Terminal} {h : Header} → F.HeaderOf (python version extents.Plain) ts h → Plainness ts (is_header_plain h)
+plain_header : {version : Version} {ts : List Terminal} {h : Header} → F.HeaderOf (python version extents.Plain) ts h
+    → Plainness ts (is_header_plain h)
 plain_header (F.if_line p) = word (plain p)
 plain_header (F.elif_line p) = word (plain p)
 plain_header F.else_line = word none
@@ -196,17 +209,21 @@ plain_header F.except_all = word none
 plain_header (F.except_line {e = e} p a) = word (same (both (plain p) (plain_as a)) (and-true (is_plain e)))
 plain_header (F.except_star {e = e} p a) = word (sign (same (both (plain p) (plain_as a)) (and-true (is_plain e))))
 plain_header (F.def_line x {ps = ps} {a = a} y g c h r) =
-    both (plain_async y) (word (ident (both (plain_type_params g) (sign (both (same (plain_listing c) (arranged_plain ps a h)) (sign (plain_behind refl r)))))))
+    both (plain_async y)
+        (word (ident (both (plain_type_params g)
+        (sign (both (same (plain_listing c) (arranged_plain ps a h)) (sign (plain_behind refl r)))))))
 plain_header (F.class_line g c) = word (ident (both (plain_type_params g) (plain_bases c)))
 
-plain_form : {version : Version} {ts : List Terminal} {f : Form} → F.FormOf (python version extents.Plain) ts f → Plainness ts (is_form_plain f)
+plain_form : {version : Version} {ts : List Terminal} {f : Form} → F.FormOf (python version extents.Plain) ts f
+    → Plainness ts (is_form_plain f)
 plain_form (F.simple_statements c) = plain_simples c
 plain_form (F.decorator_line p) = sign (plain p)
 plain_form (F.header_line p) = ended Sign.Colon (plain_header p)
 plain_form (F.header_suite p c) = both (plain_header p) (sign (plain_simples c))
 plain_form (F.match_line form h p) = absurd cc
 
-pub plain_line : {version : Version} {inside : Bool} {ts : List Terminal} {f : Form} → F.FormAt (python version extents.Plain) inside ts f → Plainness ts (is_form_plain f)
+pub plain_line : {version : Version} {inside : Bool} {ts : List Terminal} {f : Form} → F.FormAt (python version extents.Plain) inside ts f
+    → Plainness ts (is_form_plain f)
 plain_line (F.other_line n p) = plain_form p
 plain_line (F.case_alone h c) = absurd cc
 plain_line (F.case_suite h c p) = absurd cc

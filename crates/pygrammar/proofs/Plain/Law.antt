@@ -38,7 +38,8 @@ HaveNoMatch (x ∷ xs) = (is_match (kind_of x.form) ≡ false) × HaveNoMatch xs
 
 stands_in_none : (l : ℕ) (earlier : List Line) → HaveNoMatch earlier → stands_in_match l earlier ≡ false
 stands_in_none l [] n = refl
-stands_in_none l (x ∷ earlier) n = either (nat_lt x.level l) (is_match (kind_of x.form)) (stands_in_match l earlier) n.0 (stands_in_none l earlier n.1)
+stands_in_none l (x ∷ earlier) n = either (nat_lt x.level l) (is_match (kind_of x.form)) (stands_in_match l earlier) n.0
+    (stands_in_none l earlier n.1)
   where
     either : (b m o : Bool) → m ≡ false → o ≡ false → cond b m o ≡ false
     either true m o e f = e
@@ -64,37 +65,44 @@ form_no_match (F.header_line p) = headed_no_match p
 form_no_match (F.header_suite p c) = headed_no_match p
 form_no_match (F.match_line form h p) = absurd cc
 
-line_no_match : {version : Version} {inside : Bool} {ts : List Terminal} {f : Form} → F.FormAt (python version Plain) inside ts f → is_match (kind_of f) ≡ false
+line_no_match : {version : Version} {inside : Bool} {ts : List Terminal} {f : Form} → F.FormAt (python version Plain) inside ts f
+    → is_match (kind_of f) ≡ false
 line_no_match (F.other_line n p) = form_no_match p
 line_no_match (F.case_alone h c) = absurd cc
 line_no_match (F.case_suite h c p) = absurd cc
 
 -- the lines of the plain language are lines of the whole one
-formed_widens : {version : Version} {earlier : List Line} {xs : List Tokens.Line} {ys : List Line} → HaveNoMatch earlier → Formed (python version Plain) earlier xs ys → Formed (python version Whole) earlier xs ys
+formed_widens : {version : Version} {earlier : List Line} {xs : List Tokens.Line} {ys : List Line} → HaveNoMatch earlier
+    → Formed (python version Plain) earlier xs ys → Formed (python version Whole) earlier xs ys
 formed_widens n formed_end = formed_end
 formed_widens {version} {earlier} n (formed_line {x = x} {f = f} h p) =
     let at : Bool → Type 0 = λ inside. F.FormAt (python version Whole) inside (terminals x) f in
-    formed_line (record { is = subst at (sym (stands_in_none x.level earlier n)) (form_widens h.is); low = h.low }) (formed_widens (line_no_match h.is, n) p)
+    formed_line (record { is = subst at (sym (stands_in_none x.level earlier n)) (form_widens h.is); low = h.low })
+        (formed_widens (line_no_match h.is, n) p)
 
 -- and those of the whole one are, where they are plain
-formed_narrows : {version : Version} {earlier : List Line} {xs : List Tokens.Line} {ys : List Line} → HaveNoMatch earlier → list_all is_line_plain ys ≡ true
+formed_narrows : {version : Version} {earlier : List Line} {xs : List Tokens.Line} {ys : List Line} → HaveNoMatch earlier
+    → list_all is_line_plain ys ≡ true
     → Formed (python version Whole) earlier xs ys → Formed (python version Plain) earlier xs ys
 formed_narrows n e formed_end = formed_end
 formed_narrows {version} {earlier} n e (formed_line {x = x} {f = f} {ys = ys} h p) =
     let parts = and_parts (is_form_plain f) (list_all is_line_plain ys) e in
     let none = plain_no_match f parts.0 in
     let at : Bool → Type 0 = λ inside. F.FormAt (python version Whole) inside (terminals x) f in
-    formed_line (record { is = form_narrows (stands_in_match x.level earlier) (subst at (stands_in_none x.level earlier n) h.is) none; low = h.low }) (formed_narrows (none, n) parts.1 p)
+    formed_line (record { is = form_narrows (stands_in_match x.level earlier) (subst at (stands_in_none x.level earlier n) h.is) none; low =
+        h.low }) (formed_narrows (none, n) parts.1 p)
 
 -- ---- The law.
 
 -- the forms of lines are plain where their terminals are
-formed_said : {version : Version} {earlier : List Line} {xs : List Tokens.Line} {ys : List Line} → Formed (python version Plain) earlier xs ys → list_all are_terminals_plain xs ≡ list_all is_line_plain ys
+formed_said : {version : Version} {earlier : List Line} {xs : List Tokens.Line} {ys : List Line}
+    → Formed (python version Plain) earlier xs ys → list_all are_terminals_plain xs ≡ list_all is_line_plain ys
 formed_said formed_end = refl
 formed_said (formed_line h p) = and_both (plain_line h.is).is (formed_said p)
 
 -- the tokens of a source that has forms in the plain language are plain where its module is
-module_said : {version : Version} {forms : List Line} (s : Source) (m : Module) → refusal Whole s ≡ None → Formed (python version Plain) [] (lines s) forms → Block 0 forms m.body
+module_said : {version : Version} {forms : List Line} (s : Source) (m : Module) → refusal Whole s ≡ None
+    → Formed (python version Plain) [] (lines s) forms → Block 0 forms m.body
     → list_all is_token_plain (tokens s) ≡ is_module_plain m
 module_said s m clear formed block = sym (lines_said s (no_listing_fault Whole s clear)) ∙ formed_said formed ∙ (plain_block block).is
 

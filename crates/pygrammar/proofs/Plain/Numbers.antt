@@ -51,7 +51,8 @@ unfolding number_fault number_value
 number_plain t = by (is_complex t) (is_real t) _ (whole_value t)
   where
     by : (c r : Bool) (x : ieee.Float) (n : ℕ) →
-        (cond c (Some errors.Complex) (cond r (Some errors.Float) (fault_if (nat_le limit n))) ≡ None) ↔ (is_plain_value (cond c (Imaginary x) (cond r (Float x) (Int n))) ≡ true)
+        (cond c (Some errors.Complex) (cond r (Some errors.Float) (fault_if (nat_le limit n))) ≡ None) ↔
+            (is_plain_value (cond c (Imaginary x) (cond r (Float x) (Int n))) ≡ true)
     by true r x n = (λ h. absurd cc, λ h. absurd cc)
     by false true x n = (λ h. absurd cc, λ h. absurd cc)
     by false false x n = small n
@@ -73,7 +74,8 @@ single_plain kinds.Number t h = (number_plain (encode_utf8_all t)).0 h
 single_plain kinds.String t h = string_plain t
 single_plain kinds.Name t h = by (keyword_of t) _
   where
-    by : (o : Option Keyword) (form : List ℕ) → is_terminal_plain (elim o [ Some w ↦ Word w | None ↦ Ident (record { spelling = t; form = form }) ]) ≡ true
+    by : (o : Option Keyword) (form : List ℕ)
+        → is_terminal_plain (elim o [ Some w ↦ Word w | None ↦ Ident (record { spelling = t; form = form }) ]) ≡ true
     by (Some w) form = refl
     by None form = refl
 single_plain kinds.Op t h = by (exact_of t)
@@ -84,7 +86,8 @@ single_plain kinds.Op t h = by (exact_of t)
 single_plain _ t h = refl
 
 -- and what is plain, and has no fault in the whole language, has none in the plain one
-plain_single : (k : Kind) (t : List ℕ) → is_terminal_plain (terminal_of k t) ≡ true → single_fault Whole k t ≡ None → single_fault Plain k t ≡ None
+plain_single : (k : Kind) (t : List ℕ) → is_terminal_plain (terminal_of k t) ≡ true → single_fault Whole k t ≡ None
+    → single_fault Plain k t ≡ None
 unfolding single_fault terminal_of
 plain_single kinds.Number t p h = (number_plain (encode_utf8_all t)).1 p
 plain_single _ t p h = h
@@ -103,7 +106,8 @@ pub plain_faultless : (k : Kind) (t : List ℕ) → list_all is_terminal_plain (
 plain_faultless k t p h = elim (cases_Bool (is_fstring k t)) [
   | inl formatted ↦ absurd (let e = formatted_said k t formatted h in cc)
   | inr other ↦
-      let plain = and_parts (is_terminal_plain (terminal_of k t)) true (sym (ap (list_all is_terminal_plain) (one_terminal k t other)) ∙ p) in
+      let plain = and_parts (is_terminal_plain (terminal_of k t)) true
+          (sym (ap (list_all is_terminal_plain) (one_terminal k t other)) ∙ p) in
       of_single Plain k t other ∙ plain_single k t plain.0 (sym (of_single Whole k t other) ∙ h)
 ]
 

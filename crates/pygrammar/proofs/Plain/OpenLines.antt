@@ -1,7 +1,8 @@
 -- In a listing no INDENT stands within a line, and where it comes to its end no line is open.
 --
 -- Carries: next, may_stand, Fit, listing_fits, for Tokens.
-use Rattle.std.proofs.Common.{◌≡◌, refl, sym, ap, ◌∙◌, subst, ℕ, zero, suc, Bool, true, false, not, ◌&&◌, ◌||◌, ◌==◌, cond, List, [], ◌∷◌, ◌++◌, length, replicate, Option, Some, None, append_assoc}
+use Rattle.std.proofs.Common.{◌≡◌, refl, sym, ap, ◌∙◌, subst, ℕ, zero, suc, Bool, true, false, not, ◌&&◌, ◌||◌, ◌==◌, cond, List, [], ◌∷◌}
+use Rattle.std.proofs.Common.{◌++◌, length, replicate, Option, Some, None, append_assoc}
 use Rattle.std.specs.List.{list_all, list_any, count_by}
 use Rattle.std.specs.Prelude.{nat_lt}
 use Rattle.std.proofs.lemmas.Bool.{and_parts}
@@ -21,7 +22,8 @@ use Rattle.pylex.specs.declared.entries.Step.{Step}
 use Rattle.pylex.specs.declared.entries.Step.TheVariants as steps
 use Rattle.pylex.specs.Lines.{text_before, depth, is_of_blanks, is_significant, line_so_far, is_at_margin, is_logical}
 use Rattle.pylex.specs.Indentation.{open_levels, width_at, widths, dedents, layout, layout_by}
-use Rattle.pylex.specs.Listing.{Source, listing, origin, up_to_end, entry_of, steps_of, stop_fault, line_end_of_last, end_place, begins_comment, last_line, ends_in_join, tail, stop, steps_from}
+use Rattle.pylex.specs.Listing.{Source, listing, origin, up_to_end, entry_of, steps_of, stop_fault, line_end_of_last, end_place}
+use Rattle.pylex.specs.Listing.{begins_comment, last_line, ends_in_join, tail, stop, steps_from}
 use Rattle.pylex.specs.Steps.{entries_of, fault_of, mark, fault_at}
 
 -- whether a line is open behind an entry, where one is or isn't before it
@@ -73,7 +75,8 @@ cond_fit : (begun c : Bool) (ss us : List Step) → Fits begun ss → Fits begun
 cond_fit begun true ss us h k = h
 cond_fit begun false ss us h k = k
 
-dedents_fit : (n : ℕ) (earlier : List ℕ) (p : Place) (begun : Bool) (ts : List Step) → Fits begun ts → Fits false ts → Fits begun (replicate n (mark kinds.Dedent earlier p p) ++ ts)
+dedents_fit : (n : ℕ) (earlier : List ℕ) (p : Place) (begun : Bool) (ts : List Step) → Fits begun ts → Fits false ts
+    → Fits begun (replicate n (mark kinds.Dedent earlier p p) ++ ts)
 dedents_fit zero earlier p begun ts h k = h
 dedents_fit (suc n) earlier p begun ts h k = (refl, dedents_fit n earlier p false ts k k)
 
@@ -94,10 +97,12 @@ none_open false logical h e = refl
 
 -- NEWLINE or NL in front
 abbrev LineEndFits : Bool → Bool → List Step → Type 0
-LineEndFits begun closes ts = (may_stand (cond closes kinds.Newline kinds.Nl) begun ≡ true) × Fits (next (cond closes kinds.Newline kinds.Nl) begun) ts
+LineEndFits begun closes ts = (may_stand (cond closes kinds.Newline kinds.Nl) begun ≡ true) × Fits
+    (next (cond closes kinds.Newline kinds.Nl) begun) ts
 
 module _ (before : List Lexeme) where
-  layout_fits : (begun : Bool) (ts : List Step) → (begun ≡ true → is_logical before ≡ true) → Ahead (is_logical before) ts → Fits begun (layout before ++ ts)
+  layout_fits : (begun : Bool) (ts : List Step) → (begun ≡ true → is_logical before ≡ true) → Ahead (is_logical before) ts
+      → Fits begun (layout before ++ ts)
   unfolding layout layout_by is_at_margin is_logical
   layout_fits begun ts h ahead = by (list_all is_of_blanks (line_so_far before)) refl
     where
@@ -107,48 +112,57 @@ module _ (before : List Lexeme) where
           let k = ahead false closed in
           cond_fits false (list_all (λ v. nat_lt v (width_at before)) (open_levels (widths before))) _ _ ts (refl, k)
           (cond_fits false (list_any (λ v. v == width_at before) (open_levels (widths before))) _ _ ts
-          (dedents_fit (count_by (nat_lt (width_at before)) (open_levels (widths before))) (text_before before) (place_after (text_before before)) false ts k k)
+          (dedents_fit (count_by (nat_lt (width_at before)) (open_levels (widths before))) (text_before before)
+              (place_after (text_before before)) false ts k k)
           tt)
 
-      by : (m : Bool) → list_all is_of_blanks (line_so_far before) ≡ m → Fits begun (cond m (layout_by (width_at before) (open_levels (widths before)) before) [] ++ ts)
+      by : (m : Bool) → list_all is_of_blanks (line_so_far before) ≡ m
+          → Fits begun (cond m (layout_by (width_at before) (open_levels (widths before)) before) [] ++ ts)
       by true e = at_margin begun (none_open begun (list_any is_significant (line_so_far before)) h (blanks_only (line_so_far before) e))
       by false e = ahead begun h
 
   -- a line end closes a logical line where no bracket is open
-  line_end_fits : (begun d : Bool) (x : Lexeme) (inner : List Lexeme) (ts : List Step) → x.«class» ≡ LineEnd → (begun ≡ true → list_any is_significant inner ≡ true)
+  line_end_fits : (begun d : Bool) (x : Lexeme) (inner : List Lexeme) (ts : List Step) → x.«class» ≡ LineEnd
+      → (begun ≡ true → list_any is_significant inner ≡ true)
       → Ahead (list_any is_significant (cond d [] (x ∷ inner))) ts → LineEndFits begun (list_any is_significant inner && d) ts
   line_end_fits begun true x inner ts e h ahead = by (list_any is_significant inner) h
     where
       by : (l : Bool) → (begun ≡ true → l ≡ true) → LineEndFits begun (l && true) ts
       by true h = (refl, ahead false closed)
       by false h = (refl, ahead begun h)
-  line_end_fits begun false x inner ts e h ahead = by (list_any is_significant inner) h (λ c i. ahead c (λ j. ap (λ k. is_significant_class k || list_any is_significant inner) e ∙ i j))
+  line_end_fits begun false x inner ts e h ahead =
+      by (list_any is_significant inner) h (λ c i. ahead c (λ j. ap (λ k. is_significant_class k || list_any is_significant inner) e ∙ i j))
     where
       by : (l : Bool) → (begun ≡ true → l ≡ true) → Ahead l ts → LineEndFits begun (l && false) ts
       by true h ahead = (refl, ahead begun h)
       by false h ahead = (refl, ahead begun h)
 
-  entry_fits : (x : Lexeme) (begun : Bool) (ts : List Step) → (begun ≡ true → is_logical before ≡ true) → Ahead (is_logical (x ∷ before)) ts → Fits begun (entry_of before x ++ ts)
+  entry_fits : (x : Lexeme) (begun : Bool) (ts : List Step) → (begun ≡ true → is_logical before ≡ true) → Ahead (is_logical (x ∷ before)) ts
+      → Fits begun (entry_of before x ++ ts)
   unfolding entry_of is_logical line_so_far
   entry_fits x begun ts h ahead = by_class x.«class» x.text ahead
     where
-      by_class : (k : Class) (t : List ℕ) → Ahead (is_logical (record { «class» = k; text = t } ∷ before)) ts → Fits begun (entry_of before (record { «class» = k; text = t }) ++ ts)
+      by_class : (k : Class) (t : List ℕ) → Ahead (is_logical (record { «class» = k; text = t } ∷ before)) ts
+          → Fits begun (entry_of before (record { «class» = k; text = t }) ++ ts)
       by_class Name t ahead = (refl, ahead true (λ _. refl))
       by_class Number t ahead = (refl, ahead true (λ _. refl))
       by_class String t ahead = (refl, ahead true (λ _. refl))
       by_class (Operator o) t ahead = cond_fits begun (is_closer o && (depth before == 0)) _ _ ts tt (refl, ahead true (λ _. refl))
       by_class Comment t ahead = (refl, ahead begun h)
       by_class Blanks t ahead = ahead begun h
-      by_class LineEnd t ahead = line_end_fits begun (depth before == 0) (record { «class» = LineEnd; text = t }) (line_so_far before) ts refl h ahead
+      by_class LineEnd t ahead = line_end_fits begun (depth before == 0) (record { «class» = LineEnd; text = t })
+          (line_so_far before) ts refl h ahead
       by_class Join t ahead = ahead begun (λ _. refl)
 
-  steps_fit : (x : Lexeme) (begun : Bool) (ts : List Step) → (begun ≡ true → is_logical before ≡ true) → Ahead (is_logical (x ∷ before)) ts → Fits begun (steps_of before x ++ ts)
+  steps_fit : (x : Lexeme) (begun : Bool) (ts : List Step) → (begun ≡ true → is_logical before ≡ true) → Ahead (is_logical (x ∷ before)) ts
+      → Fits begun (steps_of before x ++ ts)
   unfolding steps_of
   steps_fit x begun ts h ahead =
       let first = cond (is_significant x) (layout before) [] in
       let own = entry_of before x in
       subst (Fits begun) (sym (append_assoc first own ts))
-      (cond_fits begun (is_significant x) (layout before) [] (own ++ ts) (layout_fits begun (own ++ ts) h (λ c i. entry_fits x c ts i ahead)) (entry_fits x begun ts h ahead))
+      (cond_fits begun (is_significant x) (layout before) [] (own ++ ts)
+          (layout_fits begun (own ++ ts) h (λ c i. entry_fits x c ts i ahead)) (entry_fits x begun ts h ahead))
 
   -- ---- And at the end.
 
@@ -165,16 +179,21 @@ module _ (before : List Lexeme) where
       let closing = dedents 0 (open_levels (widths before)) (text_before before) (end_place before p) in
       let marker = mark kinds.EndMarker (text_before before) (end_place before p) (end_place before p) ∷ steps.End ∷ [] in
       let closes : (begun : Bool) → Fits begun (closing ++ marker) =
-      λ begun. dedents_fit (count_by (nat_lt 0) (open_levels (widths before))) (text_before before) (end_place before p) begun marker (refl, refl) (refl, refl) in
+      λ begun. dedents_fit (count_by (nat_lt 0) (open_levels (widths before))) (text_before before) (end_place before p) begun marker
+          (refl, refl) (refl, refl) in
       cond_fit begun (not (depth before == 0) || ends_in_join before) _ _ tt
-      (subst (Fits begun) (sym (append_assoc (line_end_of_last before p) closing marker)) (last_fits p begun (closing ++ marker) (closes begun) (closes false)))
+      (subst (Fits begun) (sym (append_assoc (line_end_of_last before p) closing marker))
+          (last_fits p begun (closing ++ marker) (closes begun) (closes false)))
 
-  stop_fits : (o : Option ListingFault) (left : List ℕ) (begun : Bool) → (begun ≡ true → is_logical before ≡ true) → Fits begun (stop o before left)
+  stop_fits : (o : Option ListingFault) (left : List ℕ) (begun : Bool) → (begun ≡ true → is_logical before ≡ true)
+      → Fits begun (stop o before left)
   unfolding stop stop_fault
   stop_fits o left begun h =
-      cond_fit begun (not (length left == 0)) _ _ (layout_fits begun _ h (λ c i. is_fault c (place_after (text_before before)))) (by_fault o)
+      cond_fit begun (not (length left == 0)) _ _ (layout_fits begun _ h (λ c i. is_fault c (place_after (text_before before))))
+          (by_fault o)
     where
-      in_string : (c : Bool) (o : Option ListingFault) (p : Place) → Fits c (elim o [ Some f ↦ steps.Fault f | None ↦ fault_at errors.EofInString p ] ∷ [])
+      in_string : (c : Bool) (o : Option ListingFault) (p : Place)
+          → Fits c (elim o [ Some f ↦ steps.Fault f | None ↦ fault_at errors.EofInString p ] ∷ [])
       in_string c (Some f) p = tt
       in_string c None p = tt
 
@@ -185,7 +204,8 @@ module _ (before : List Lexeme) where
       is_fault : (c : Bool) (p : Place) → Fits c (stop_fault o p left ∷ [])
       is_fault c p = either c (not (opens_string left)) _ _ tt (either c (not (is_open_string left)) _ _ tt (in_string c o p))
 
-      by_fault : (o : Option ListingFault) → Fits begun (elim o [ Some f ↦ steps.Fault f ∷ [] | None ↦ tail before (place_after (text_before before)) ])
+      by_fault : (o : Option ListingFault)
+          → Fits begun (elim o [ Some f ↦ steps.Fault f ∷ [] | None ↦ tail before (place_after (text_before before)) ])
       by_fault (Some f) = tt
       by_fault None = tail_fits (place_after (text_before before)) begun
 

@@ -2,7 +2,8 @@
 -- language where it has none in the whole one and its tokens are plain.
 --
 -- Carries: lines_said, faultless_said, plain_refusal, for Law. On: Numbers, OpenLines.
-use Rattle.std.proofs.Common.{◌≡◌, refl, sym, ap, ◌∙◌, ℕ, Bool, true, false, not, ◌&&◌, List, [], ◌∷◌, ◌++◌, Option, Some, None, if◌then◌else◌}
+use Rattle.std.proofs.Common.{◌≡◌, refl, sym, ap, ◌∙◌, ℕ, Bool, true, false, not, ◌&&◌, List, [], ◌∷◌, ◌++◌, Option, Some, None}
+use Rattle.std.proofs.Common.{if◌then◌else◌}
 use Rattle.std.specs.Prelude.{All}
 use Rattle.std.specs.List.{list_all, flat_map}
 use Rattle.std.specs.Option.{option_or}
@@ -26,7 +27,8 @@ use Rattle.pytoken.specs.Indentation.{margins}
 use Rattle.pytoken.specs.Terminals.{terminal_of, single_fault, terminals_by, terminals_of, fault_by, fault_of}
 use Rattle.pytoken.specs.Tokens.{Token, token_of, text_of, supplied, is_open, tokens_of_entry, tokens_from, tokens, lines_from, lines}
 use Rattle.pytoken.specs.Tokens as Tokens
-use Rattle.pytoken.specs.Refusals.{most_brackets, entry_refusal, first_entry_refusal, first_too_deep, first_mixed, refusal_of, refusal_at, refusal}
+use Rattle.pytoken.specs.Refusals.{most_brackets, entry_refusal, first_entry_refusal, first_too_deep, first_mixed, refusal_of, refusal_at}
+use Rattle.pytoken.specs.Refusals.{refusal}
 use Rattle.pygrammar.specs.Refusals.{terminals}
 use Rattle.pygrammar.proofs.Plain.Terminals.{is_terminal_plain, and_both}
 use Rattle.pygrammar.proofs.Plain.Numbers.{is_token_plain, faultless_plain, plain_faultless}
@@ -48,7 +50,8 @@ IsEmpty begun line = begun ≡ false → line ≡ []
 open_line : (line : List Token) → IsEmpty true line
 open_line line h = absurd cc
 
-line_said : (line : List Token) → list_all is_terminal_plain (flat_map (λ t. terminals_of t.kind t.text) line) ≡ list_all is_token_plain line
+line_said : (line : List Token) → list_all is_terminal_plain (flat_map (λ t. terminals_of t.kind t.text) line) ≡
+    list_all is_token_plain line
 line_said [] = refl
 line_said (t ∷ ts) =
     list_all-append is_terminal_plain (terminals_of t.kind t.text) (flat_map (λ t. terminals_of t.kind t.text) ts)
@@ -61,8 +64,10 @@ ended_said : (line seen ts : List Token) → Said seen [] ts
 ended_said line seen ts h = and_both (line_said line) h
 
 -- a token more
-more_said : (line : List Token) (t : Token) (rest : Bool) → list_all is_token_plain (line ++ t ∷ []) && rest ≡ list_all is_token_plain line && (is_token_plain t && rest)
-more_said line t rest = ap (λ z. z && rest) (list_all-append is_token_plain line (t ∷ [])) ∙ regroup (list_all is_token_plain line) (is_token_plain t)
+more_said : (line : List Token) (t : Token) (rest : Bool) → list_all is_token_plain (line ++ t ∷ []) && rest ≡ list_all is_token_plain line
+    && (is_token_plain t && rest)
+more_said line t rest = ap (λ z. z && rest) (list_all-append is_token_plain line (t ∷ []))
+    ∙ regroup (list_all is_token_plain line) (is_token_plain t)
   where
     regroup : (a b : Bool) → (a && (b && true)) && rest ≡ a && (b && rest)
     regroup true true = refl
@@ -73,7 +78,8 @@ abbrev entry : Kind → Option Exact → Place → Place → ℕ → ℕ → Ent
 entry k x p q f t = record { kind = k; exact = x; start = p; «end» = q; «from» = f; to = t }
 
 module _ (text : List ℕ) (es before : List Entry) (seen line : List Token)
-    (ih : (before : List Entry) (seen line : List Token) → Fit (is_open before) es → IsEmpty (is_open before) line → Said seen line (tokens_from text before es))
+    (ih : (before : List Entry) (seen line : List Token) → Fit (is_open before) es → IsEmpty (is_open before) line
+        → Said seen line (tokens_from text before es))
     (h : IsEmpty (is_open before) line) where
   -- where no line is open
   none_open : (begun : Bool) → not begun ≡ true → begun ≡ false
@@ -98,39 +104,50 @@ module _ (text : List ℕ) (es before : List Entry) (seen line : List Token)
   one kinds.Dedent x p q f t m k =
       let e = entry kinds.Dedent x p q f t in
       let u = token_of text e in
-      elim (is_open before) as (λ b. IsEmpty b line → Said seen line ((if b then supplied text ∷ u ∷ [] else u ∷ []) ++ tokens_from text (e ∷ before) es)) [
-        | true ↦ λ o. ended_said line (u ∷ supplied text ∷ seen) (tokens_from text (e ∷ before) es) (ih (e ∷ before) (u ∷ supplied text ∷ seen) [] k (λ _. refl))
+      elim (is_open before) as (λ b. IsEmpty b line
+          → Said seen line ((if b then supplied text ∷ u ∷ [] else u ∷ []) ++ tokens_from text (e ∷ before) es)) [
+        | true ↦ λ o. ended_said line (u ∷ supplied text ∷ seen) (tokens_from text (e ∷ before) es)
+            (ih (e ∷ before) (u ∷ supplied text ∷ seen) [] k (λ _. refl))
         | false ↦ λ o. ih (e ∷ before) (u ∷ seen) line k o
       ] h
   one kinds.EndMarker x p q f t m k =
       let e = entry kinds.EndMarker x p q f t in
       let u = token_of text e in
-      elim (is_open before) as (λ b. IsEmpty b line → Said seen line ((if b then supplied text ∷ u ∷ [] else u ∷ []) ++ tokens_from text (e ∷ before) es)) [
-        | true ↦ λ o. ended_said line (u ∷ supplied text ∷ seen) (tokens_from text (e ∷ before) es) (ih (e ∷ before) (u ∷ supplied text ∷ seen) [] k (λ _. refl))
+      elim (is_open before) as (λ b. IsEmpty b line
+          → Said seen line ((if b then supplied text ∷ u ∷ [] else u ∷ []) ++ tokens_from text (e ∷ before) es)) [
+        | true ↦ λ o. ended_said line (u ∷ supplied text ∷ seen) (tokens_from text (e ∷ before) es)
+            (ih (e ∷ before) (u ∷ supplied text ∷ seen) [] k (λ _. refl))
         | false ↦ λ o. ih (e ∷ before) (u ∷ seen) line k o
       ] h
   one kinds.Name x p q f t m k =
       let e = entry kinds.Name x p q f t in
       let u = token_of text e in
-      ih (e ∷ before) (u ∷ seen) (line ++ u ∷ []) k (open_line (line ++ u ∷ [])) ∙ more_said line u (list_all is_token_plain (tokens_from text (e ∷ before) es))
+      ih (e ∷ before) (u ∷ seen) (line ++ u ∷ []) k (open_line (line ++ u ∷ []))
+          ∙ more_said line u (list_all is_token_plain (tokens_from text (e ∷ before) es))
   one kinds.Number x p q f t m k =
       let e = entry kinds.Number x p q f t in
       let u = token_of text e in
-      ih (e ∷ before) (u ∷ seen) (line ++ u ∷ []) k (open_line (line ++ u ∷ [])) ∙ more_said line u (list_all is_token_plain (tokens_from text (e ∷ before) es))
+      ih (e ∷ before) (u ∷ seen) (line ++ u ∷ []) k (open_line (line ++ u ∷ []))
+          ∙ more_said line u (list_all is_token_plain (tokens_from text (e ∷ before) es))
   one kinds.String x p q f t m k =
       let e = entry kinds.String x p q f t in
       let u = token_of text e in
-      ih (e ∷ before) (u ∷ seen) (line ++ u ∷ []) k (open_line (line ++ u ∷ [])) ∙ more_said line u (list_all is_token_plain (tokens_from text (e ∷ before) es))
+      ih (e ∷ before) (u ∷ seen) (line ++ u ∷ []) k (open_line (line ++ u ∷ []))
+          ∙ more_said line u (list_all is_token_plain (tokens_from text (e ∷ before) es))
   one kinds.Op x p q f t m k =
       let e = entry kinds.Op x p q f t in
       let u = token_of text e in
-      ih (e ∷ before) (u ∷ seen) (line ++ u ∷ []) k (open_line (line ++ u ∷ [])) ∙ more_said line u (list_all is_token_plain (tokens_from text (e ∷ before) es))
+      ih (e ∷ before) (u ∷ seen) (line ++ u ∷ []) k (open_line (line ++ u ∷ []))
+          ∙ more_said line u (list_all is_token_plain (tokens_from text (e ∷ before) es))
 
-all_said : (text : List ℕ) (es before : List Entry) (seen line : List Token) → Fit (is_open before) es → IsEmpty (is_open before) line → Said seen line (tokens_from text before es)
+all_said : (text : List ℕ) (es before : List Entry) (seen line : List Token) → Fit (is_open before) es → IsEmpty (is_open before) line
+    → Said seen line (tokens_from text before es)
 all_said text [] before seen line k h = sym (ap (λ z. list_all is_token_plain z && true) (h k))
-all_said text (e ∷ es) before seen line k h = one text es before seen line (all_said text es) h e.kind e.exact e.start e.«end» e.«from» e.to k.0 k.1
+all_said text (e ∷ es) before seen line k h = one text es before seen line (all_said text es) h e.kind e.exact e.start
+    e.«end» e.«from» e.to k.0 k.1
 
-pub lines_said : (s : Source) → listing_fault (listing s) ≡ None → list_all are_terminals_plain (lines s) ≡ list_all is_token_plain (tokens s)
+pub lines_said : (s : Source) → listing_fault (listing s) ≡ None → list_all are_terminals_plain (lines s) ≡ list_all
+    is_token_plain (tokens s)
 unfolding tokens lines
 lines_said s h = all_said s.text (entries_of (listing s)) [] [] [] (listing_fits s h) (λ _. refl)
 
@@ -141,7 +158,8 @@ Faultless t = fault_of Plain t.kind t.text ≡ None
 
 pub faultless_said : (ts : List Token) → All Faultless ts → list_all is_token_plain ts ≡ true
 faultless_said [] h = refl
-faultless_said (t ∷ ts) h = and_both (faultless_plain t.kind t.text (All-head Faultless t ts h)) (faultless_said ts (All-tail Faultless t ts h))
+faultless_said (t ∷ ts) h = and_both (faultless_plain t.kind t.text (All-head Faultless t ts h))
+    (faultless_said ts (All-tail Faultless t ts h))
 
 none_parts : (a b : Option Refusal) → option_or a b ≡ None → (a ≡ None) × (b ≡ None)
 none_parts (Some r) b h = absurd cc
@@ -167,7 +185,8 @@ literal_plain text e h n =
     ap (λ o. refusal_by o e.start) (plain_faultless e.kind own plain (no_fault (fault_of Whole e.kind own) e.start n))
 
 -- an entry whose tokens are plain has no fault in the plain language, if it has none in the whole one
-entry_plain : (text : List ℕ) (b : Bool) (k : Kind) (x : Option Exact) (p q : Place) (f t : ℕ) → list_all is_token_plain (tokens_of_entry text b (entry k x p q f t)) ≡ true
+entry_plain : (text : List ℕ) (b : Bool) (k : Kind) (x : Option Exact) (p q : Place) (f t : ℕ)
+    → list_all is_token_plain (tokens_of_entry text b (entry k x p q f t)) ≡ true
     → entry_refusal Whole text (entry k x p q f t) ≡ None → entry_refusal Plain text (entry k x p q f t) ≡ None
 unfolding single_fault fault_by fault_of
 entry_plain text b kinds.Number x p q f t h n = literal_plain text (entry kinds.Number x p q f t) h n
@@ -180,15 +199,18 @@ plain_entries text before [] h n = refl
 plain_entries text before (e ∷ es) h n =
     let own = tokens_of_entry text (is_open before) e in
     let others = tokens_from text (e ∷ before) es in
-    let parts = and_parts (list_all is_token_plain own) (list_all is_token_plain others) (sym (list_all-append is_token_plain own others) ∙ h) in
+    let parts = and_parts (list_all is_token_plain own) (list_all is_token_plain others)
+        (sym (list_all-append is_token_plain own others) ∙ h) in
     let none = none_parts (entry_refusal Whole text e) (first_entry_refusal Whole text es) n in
     none_from (entry_refusal Plain text e) (first_entry_refusal Plain text es)
-    (entry_plain text (is_open before) e.kind e.exact e.start e.«end» e.«from» e.to parts.0 none.0) (plain_entries text (e ∷ before) es parts.1 none.1)
+    (entry_plain text (is_open before) e.kind e.exact e.start e.«end» e.«from» e.to parts.0 none.0)
+        (plain_entries text (e ∷ before) es parts.1 none.1)
 
 abbrev refusal_behind : Option ListingFault → Option Refusal → Option Refusal
 refusal_behind o r = elim o [ Some f ↦ Some (refusals.Listing f) | None ↦ r ]
 
-as_refused : (o : Option ListingFault) (r q : Option Refusal) → (r ≡ None → q ≡ None) → refusal_behind o r ≡ None → refusal_behind o q ≡ None
+as_refused : (o : Option ListingFault) (r q : Option Refusal) → (r ≡ None → q ≡ None) → refusal_behind o r ≡ None
+    → refusal_behind o q ≡ None
 as_refused (Some f) r q h k = absurd cc
 as_refused None r q h k = h k
 

@@ -2,13 +2,15 @@
 --
 -- Carries: Says, found, no_form, says_then and 15 more, for Sound, SoundClimb, SoundLists,
 -- SoundParts and 7 more. On: LookLemmas.
-use Rattle.std.proofs.Common.{◌≡◌, inl, inr, refl, sym, ap, subst, ◌∙◌, ℕ, ◌≤◌, ◌<◌, arith, List, [], ◌∷◌, ◌++◌, Option, Some, None, Bool, true, false, cond}
+use Rattle.std.proofs.Common.{◌≡◌, inl, inr, refl, sym, ap, subst, ◌∙◌, ℕ, ◌≤◌, ◌<◌, arith, List, [], ◌∷◌, ◌++◌, Option, Some, None, Bool}
+use Rattle.std.proofs.Common.{true, false, cond}
 use Rattle.pylex_lexeme.specs.declared.kinds.Exact.{Exact}
 use Rattle.pylex_lexeme.specs.declared.kinds.Exact.TheVariants.{LPar}
 use Rattle.pytoken.specs.declared.keywords.Keyword.{Keyword}
 use Rattle.pytoken.specs.declared.keywords.Keyword.TheVariants as Key
 use Rattle.pygrammar.specs.declared.levels.Level.{Level}
-use Rattle.pygrammar.specs.declared.levels.Level.TheVariants.{Or, And, Not, Compare, BitOr, BitXor, BitAnd, Shift, Sum, Term, Factor, Power, Await, Primary, Atom}
+use Rattle.pygrammar.specs.declared.levels.Level.TheVariants.{Or, And, Not, Compare, BitOr, BitXor, BitAnd, Shift, Sum, Term, Factor, Power}
+use Rattle.pygrammar.specs.declared.levels.Level.TheVariants.{Await, Primary, Atom}
 use Rattle.pytree_node.specs.Trees.{Expr, Identifier}
 use Rattle.pytoken.specs.Terminals.{Spelled, Terminal, Op, Word, Ident}
 use Rattle.pygrammar.specs.Looks.{is_op, is_word, name_in}
@@ -23,13 +25,16 @@ pub data Says {A : Type 0} (P : A → List Terminal → Type 0) : Answer A → T
   no_form : Says P NoForm
   deep : Says P TooDeep
 
-pub says_then : {A B : Type 0} {P : A → List Terminal → Type 0} {Q : B → List Terminal → Type 0} (x : Answer A) (k : A → List Terminal → Answer B) → Says P x → ((a : A) (r : List Terminal) → P a r → Says Q (k a r)) → Says Q (and_then x k)
+pub says_then : {A B : Type 0} {P : A → List Terminal → Type 0} {Q : B → List Terminal → Type 0} (x : Answer A) (k : A → List Terminal
+    → Answer B) → Says P x → ((a : A) (r : List Terminal) → P a r → Says Q (k a r)) → Says Q (and_then x k)
 says_then x k (found {a = a} {r = r} p) h = h a r p
 says_then x k no_form h = no_form
 says_then x k deep h = deep
 
 -- a test on the first terminal, with what both answers tell
-pub says_first : {A B : Type 0} {Q : B → List Terminal → Type 0} (f : Terminal → Option A) (i : List Terminal) (k : A → List Terminal → Answer B) (x : Answer B) → ((t : Terminal) (a : A) (s : List Terminal) → f t ≡ Some a → i ≡ t ∷ s → Says Q (k a s)) → (((t : Terminal) (s : List Terminal) → i ≡ t ∷ s → f t ≡ None) → Says Q x) → Says Q (on_first f i k x)
+pub says_first : {A B : Type 0} {Q : B → List Terminal → Type 0} (f : Terminal → Option A) (i : List Terminal) (k : A → List Terminal
+    → Answer B) (x : Answer B) → ((t : Terminal) (a : A) (s : List Terminal) → f t ≡ Some a → i ≡ t ∷ s → Says Q (k a s))
+    → (((t : Terminal) (s : List Terminal) → i ≡ t ∷ s → f t ≡ None) → Says Q x) → Says Q (on_first f i k x)
 says_first f [] k x h g = g (λ t s q. absurd (cc))
 says_first {A} {B} {Q} f (t ∷ s) k x h g = go (f t) refl
   where
@@ -40,14 +45,22 @@ says_first {A} {B} {Q} f (t ∷ s) k x h g = go (f t) refl
     go (Some a) e = h t a s e refl
     go None e = g (λ u r q. ap f (sym (head t u s r q)) ∙ e)
 
-pub says_op : {B : Type 0} {Q : B → List Terminal → Type 0} (y : Exact) (i : List Terminal) (k : ℕ → List Terminal → Answer B) (x : Answer B) → ((a : ℕ) (s : List Terminal) → i ≡ Op y ∷ s → Says Q (k a s)) → (((t : Terminal) (s : List Terminal) → i ≡ t ∷ s → is_op y t ≡ None) → Says Q x) → Says Q (on_first (is_op y) i k x)
-says_op {B} {Q} y i k x h g = says_first (is_op y) i k x (λ t a s f q. elim (op_or_not y t) as (λ _. Says Q (k a s)) [ inl e ↦ h a s (q ∙ ap (λ z. z ∷ s) e) | inr n ↦ absurd (some_none a (sym f ∙ n)) ]) g
+pub says_op : {B : Type 0} {Q : B → List Terminal → Type 0} (y : Exact) (i : List Terminal) (k : ℕ → List Terminal → Answer B)
+    (x : Answer B) → ((a : ℕ) (s : List Terminal) → i ≡ Op y ∷ s → Says Q (k a s))
+    → (((t : Terminal) (s : List Terminal) → i ≡ t ∷ s → is_op y t ≡ None) → Says Q x) → Says Q (on_first (is_op y) i k x)
+says_op {B} {Q} y i k x h g =
+    says_first (is_op y) i k x (λ t a s f q. elim (op_or_not y t) as (λ _. Says Q (k a s)) [ inl e ↦ h a s (q ∙ ap (λ z. z ∷ s) e)
+    | inr n ↦ absurd (some_none a (sym f ∙ n)) ]) g
   where
     some_none : (a : ℕ) → ◌≡◌ {A = Option ℕ} (Some a) None → ⊥
     some_none a h = absurd (cc)
 
-pub says_word : {B : Type 0} {Q : B → List Terminal → Type 0} (y : Keyword) (i : List Terminal) (k : ℕ → List Terminal → Answer B) (x : Answer B) → ((a : ℕ) (s : List Terminal) → i ≡ Word y ∷ s → Says Q (k a s)) → (((t : Terminal) (s : List Terminal) → i ≡ t ∷ s → is_word y t ≡ None) → Says Q x) → Says Q (on_first (is_word y) i k x)
-says_word {B} {Q} y i k x h g = says_first (is_word y) i k x (λ t a s f q. elim (word_or_not y t) as (λ _. Says Q (k a s)) [ inl e ↦ h a s (q ∙ ap (λ z. z ∷ s) e) | inr n ↦ absurd (some_none a (sym f ∙ n)) ]) g
+pub says_word : {B : Type 0} {Q : B → List Terminal → Type 0} (y : Keyword) (i : List Terminal) (k : ℕ → List Terminal → Answer B)
+    (x : Answer B) → ((a : ℕ) (s : List Terminal) → i ≡ Word y ∷ s → Says Q (k a s))
+    → (((t : Terminal) (s : List Terminal) → i ≡ t ∷ s → is_word y t ≡ None) → Says Q x) → Says Q (on_first (is_word y) i k x)
+says_word {B} {Q} y i k x h g =
+    says_first (is_word y) i k x (λ t a s f q. elim (word_or_not y t) as (λ _. Says Q (k a s)) [ inl e ↦ h a s (q ∙ ap (λ z. z ∷ s) e)
+    | inr n ↦ absurd (some_none a (sym f ∙ n)) ]) g
   where
     some_none : (a : ℕ) → ◌≡◌ {A = Option ℕ} (Some a) None → ⊥
     some_none a h = absurd (cc)
@@ -56,18 +69,22 @@ name_is : (t : Terminal) (x : Identifier) → name_in t ≡ Some x → (y : Spel
 name_is (Ident y) x h = (y, refl, cc)
 name_is _ x h = absurd (cc)
 
-pub says_name : {B : Type 0} {Q : B → List Terminal → Type 0} (i : List Terminal) (k : List ℕ → List Terminal → Answer B) (x : Answer B) → ((a : Spelled) (s : List Terminal) → i ≡ Ident a ∷ s → Says Q (k a.form s)) → Says Q x → Says Q (on_first name_in i k x)
-says_name {B} {Q} i k x h g = says_first name_in i k x (λ t a s f q. let w = name_is t a f in subst (λ z. Says Q (k z s)) w.2 (h w.0 s (q ∙ ap (λ z. z ∷ s) w.1))) (λ _. g)
+pub says_name : {B : Type 0} {Q : B → List Terminal → Type 0} (i : List Terminal) (k : List ℕ → List Terminal → Answer B) (x : Answer B)
+    → ((a : Spelled) (s : List Terminal) → i ≡ Ident a ∷ s → Says Q (k a.form s)) → Says Q x → Says Q (on_first name_in i k x)
+says_name {B} {Q} i k x h g = says_first name_in i k x (λ t a s f q. let w = name_is t a f in
+    subst (λ z. Says Q (k z s)) w.2 (h w.0 s (q ∙ ap (λ z. z ∷ s) w.1))) (λ _. g)
 
 pub says_cond : {B : Type 0} {Q : B → List Terminal → Type 0} (b : Bool) (x y : Answer B) → Says Q x → Says Q y → Says Q (cond b x y)
 says_cond true x y h k = h
 says_cond false x y h k = k
 
-pub says_made : {B : Type 0} {Q : B → List Terminal → Type 0} (o : Option B) (r : List Terminal) → ((a : B) → o ≡ Some a → Q a r) → Says Q (made o r)
+pub says_made : {B : Type 0} {Q : B → List Terminal → Type 0} (o : Option B) (r : List Terminal)
+    → ((a : B) → o ≡ Some a → Q a r) → Says Q (made o r)
 says_made (Some a) r h = found (h a refl)
 says_made None r h = no_form
 
-pub says_is : {A : Type 0} {P Q : A → List Terminal → Type 0} (x : Answer A) → Says P x → ((a : A) (r : List Terminal) → P a r → Q a r) → Says Q x
+pub says_is : {A : Type 0} {P Q : A → List Terminal → Type 0} (x : Answer A) → Says P x
+    → ((a : A) (r : List Terminal) → P a r → Q a r) → Says Q x
 says_is x (found {a = a} {r = r} p) h = found (h a r p)
 says_is x no_form h = no_form
 says_is x deep h = deep
@@ -168,7 +185,8 @@ to_Or : (c : Level) (ts : List Terminal) (e : Expr) → 10 ≤ rank c → G.Deri
 to_Or Or ts e h p = p
 to_Or c ts e h p = G.next (to_And c ts e (omega (arith, h)) p)
 
-pub lower : (l c : Level) (ts : List Terminal) (e : Expr) → 10 ≤ rank l → rank l ≤ 22 → rank l ≤ rank c → G.Derives c ts e → G.Derives l ts e
+pub lower : (l c : Level) (ts : List Terminal) (e : Expr) → 10 ≤ rank l → rank l ≤ 22 → rank l ≤ rank c
+    → G.Derives c ts e → G.Derives l ts e
 lower Or c ts e a b h p = to_Or c ts e h p
 lower And c ts e a b h p = to_And c ts e h p
 lower Not c ts e a b h p = to_Not c ts e h p

@@ -3,7 +3,9 @@
 --
 -- Carries: no contract; its rows are computed as it is checked.
 use Rattle.std.proofs.Common.{◌≡◌, refl, [], ◌∷◌, Some, None, true, false, Bool}
-use Rattle.pylex_lexeme.specs.declared.kinds.Exact.TheVariants.{Amper, Circumflex, Colon, ColonEqual, Comma, DoubleStar, EqEqual, Equal, LBrace, LeftShift, Less, LPar, LSqb, Minus, Plus, RBrace, RightShift, RPar, RSqb, Star, Tilde, VBar, Ellipsis, Slash}
+use Rattle.pylex_lexeme.specs.declared.kinds.Exact.TheVariants.{Amper, Circumflex, Colon, ColonEqual, Comma, DoubleStar, EqEqual, Equal}
+use Rattle.pylex_lexeme.specs.declared.kinds.Exact.TheVariants.{LBrace, LeftShift, Less, LPar, LSqb, Minus, Plus, RBrace, RightShift, RPar}
+use Rattle.pylex_lexeme.specs.declared.kinds.Exact.TheVariants.{RSqb, Star, Tilde, VBar, Ellipsis, Slash}
 use Rattle.pytoken.specs.declared.keywords.Keyword.TheVariants as Key
 use Rattle.pytree_node.specs.declared.operators.Operator.TheVariants as Bin
 use Rattle.pytree_node.specs.declared.operators.UnaryOperator.TheVariants as Un
@@ -31,11 +33,13 @@ case_5 : refused (read 20 Stars (in_form (99 ∷ []) ∷ Op Circumflex ∷ Op LS
 case_5 = refl
 
 -- Stars: yield not { a , * b , a
-case_7 : refused (read 20 Stars (Word Key.Yield ∷ Word Key.Not ∷ Op LBrace ∷ in_form (97 ∷ []) ∷ Op Comma ∷ Op Star ∷ in_form (98 ∷ []) ∷ Op Comma ∷ in_form (97 ∷ []) ∷ [])) ≡ true
+case_7 : refused (read 20 Stars (Word Key.Yield ∷ Word Key.Not ∷ Op LBrace ∷ in_form (97 ∷ []) ∷ Op Comma ∷ Op Star ∷ in_form (98 ∷ []) ∷ Op
+    Comma ∷ in_form (97 ∷ []) ∷ [])) ≡ true
 case_7 = refl
 
 -- Value: a [ x := 1 ]
-case_21 : read 20 Value (in_form (97 ∷ []) ∷ Op LSqb ∷ in_form (120 ∷ []) ∷ Op ColonEqual ∷ whole 1 ∷ Op RSqb ∷ []) ≡ Found (Trees.Subscript (Trees.Name (97 ∷ []) Load) (Trees.NamedExpr (Trees.Name (120 ∷ []) Store) (Trees.Constant (Values.Int 1))) Load) []
+case_21 : read 20 Value (in_form (97 ∷ []) ∷ Op LSqb ∷ in_form (120 ∷ []) ∷ Op ColonEqual ∷ whole 1 ∷ Op RSqb ∷ []) ≡ Found
+    (Trees.Subscript (Trees.Name (97 ∷ []) Load) (Trees.NamedExpr (Trees.Name (120 ∷ []) Store) (Trees.Constant (Values.Int 1))) Load) []
 case_21 = refl
 
 -- Expression: x : x
@@ -43,11 +47,17 @@ case_30 : refused (read 20 Expression (in_form (120 ∷ []) ∷ Op Colon ∷ in_
 case_30 = refl
 
 -- Stars: a < b == c
-case_32 : read 20 Stars (in_form (97 ∷ []) ∷ Op Less ∷ in_form (98 ∷ []) ∷ Op EqEqual ∷ in_form (99 ∷ []) ∷ []) ≡ Found (Trees.Compare (Trees.Name (97 ∷ []) Load) (Is.Lt ∷ Is.Eq ∷ []) (Trees.an_expr (Trees.Name (98 ∷ []) Load) (Trees.an_expr (Trees.Name (99 ∷ []) Load) Trees.no_exprs))) []
+case_32 : read 20 Stars (in_form (97 ∷ []) ∷ Op Less ∷ in_form (98 ∷ []) ∷ Op EqEqual ∷ in_form (99 ∷ []) ∷ []) ≡ Found
+    (Trees.Compare (Trees.Name (97 ∷ []) Load) (Is.Lt ∷ Is.Eq ∷ [])
+    (Trees.an_expr (Trees.Name (98 ∷ []) Load) (Trees.an_expr (Trees.Name (99 ∷ []) Load) Trees.no_exprs))) []
 case_32 = refl
 
 -- Value: ( lambda x : x ) ( y )
-case_35 : read 20 Value (Op LPar ∷ Word Key.Lambda ∷ in_form (120 ∷ []) ∷ Op Colon ∷ in_form (120 ∷ []) ∷ Op RPar ∷ Op LPar ∷ in_form (121 ∷ []) ∷ Op RPar ∷ []) ≡ Found (Trees.Call (Trees.Lambda (Trees.arguments Trees.no_arg (Trees.an_arg (Trees.arg (120 ∷ []) Trees.absent) Trees.no_arg) Trees.absent_arg Trees.no_arg Trees.no_optional Trees.absent_arg Trees.no_exprs) (Trees.Name (120 ∷ []) Load)) (Trees.an_expr (Trees.Name (121 ∷ []) Load) Trees.no_exprs) Trees.no_keyword) []
+case_35 : read 20 Value (Op LPar ∷ Word Key.Lambda ∷ in_form (120 ∷ []) ∷ Op Colon ∷ in_form (120 ∷ []) ∷ Op RPar ∷ Op LPar ∷ in_form
+    (121 ∷ []) ∷ Op RPar ∷ []) ≡ Found
+    (Trees.Call (Trees.Lambda (Trees.arguments Trees.no_arg (Trees.an_arg (Trees.arg (120 ∷ []) Trees.absent) Trees.no_arg) Trees.absent_arg
+    Trees.no_arg Trees.no_optional Trees.absent_arg Trees.no_exprs) (Trees.Name (120 ∷ []) Load))
+    (Trees.an_expr (Trees.Name (121 ∷ []) Load) Trees.no_exprs) Trees.no_keyword) []
 case_35 = refl
 
 -- Value: a
@@ -55,11 +65,19 @@ case_37 : read 20 Value (in_form (97 ∷ []) ∷ []) ≡ Found (Trees.Name (97 �
 case_37 = refl
 
 -- Expression: a is not b < c not in d
-case_38 : read 20 Expression (in_form (97 ∷ []) ∷ Word Key.Is ∷ Word Key.Not ∷ in_form (98 ∷ []) ∷ Op Less ∷ in_form (99 ∷ []) ∷ Word Key.Not ∷ Word Key.In ∷ in_form (100 ∷ []) ∷ []) ≡ Found (Trees.Compare (Trees.Name (97 ∷ []) Load) (Is.IsNot ∷ Is.Lt ∷ Is.NotIn ∷ []) (Trees.an_expr (Trees.Name (98 ∷ []) Load) (Trees.an_expr (Trees.Name (99 ∷ []) Load) (Trees.an_expr (Trees.Name (100 ∷ []) Load) Trees.no_exprs)))) []
+case_38 : read 20 Expression (in_form (97 ∷ []) ∷ Word Key.Is ∷ Word Key.Not ∷ in_form (98 ∷ []) ∷ Op Less ∷ in_form (99 ∷ []) ∷ Word
+    Key.Not ∷ Word Key.In ∷ in_form (100 ∷ []) ∷ []) ≡ Found (Trees.Compare (Trees.Name (97 ∷ []) Load) (Is.IsNot ∷ Is.Lt ∷ Is.NotIn ∷ [])
+    (Trees.an_expr (Trees.Name (98 ∷ []) Load)
+    (Trees.an_expr (Trees.Name (99 ∷ []) Load) (Trees.an_expr (Trees.Name (100 ∷ []) Load) Trees.no_exprs)))) []
 case_38 = refl
 
 -- StarItem: ( a and b ) and c and d
-case_46 : read 20 StarItem (Op LPar ∷ in_form (97 ∷ []) ∷ Word Key.And ∷ in_form (98 ∷ []) ∷ Op RPar ∷ Word Key.And ∷ in_form (99 ∷ []) ∷ Word Key.And ∷ in_form (100 ∷ []) ∷ []) ≡ Found (Trees.BoolOp Join.And (Trees.an_expr (Trees.BoolOp Join.And (Trees.an_expr (Trees.Name (97 ∷ []) Load) (Trees.an_expr (Trees.Name (98 ∷ []) Load) Trees.no_exprs))) (Trees.an_expr (Trees.Name (99 ∷ []) Load) (Trees.an_expr (Trees.Name (100 ∷ []) Load) Trees.no_exprs)))) []
+case_46 : read 20 StarItem (Op LPar ∷ in_form (97 ∷ []) ∷ Word Key.And ∷ in_form (98 ∷ []) ∷ Op RPar ∷ Word Key.And ∷ in_form (99 ∷ []) ∷
+    Word Key.And ∷ in_form (100 ∷ []) ∷ []) ≡ Found
+    (Trees.BoolOp Join.And
+    (Trees.an_expr (Trees.BoolOp Join.And
+    (Trees.an_expr (Trees.Name (97 ∷ []) Load) (Trees.an_expr (Trees.Name (98 ∷ []) Load) Trees.no_exprs)))
+    (Trees.an_expr (Trees.Name (99 ∷ []) Load) (Trees.an_expr (Trees.Name (100 ∷ []) Load) Trees.no_exprs)))) []
 case_46 = refl
 
 -- Stars: c x for
@@ -79,7 +97,8 @@ case_79 : refused (read 20 Value (in_form (98 ∷ []) ∷ Op Star ∷ in_form (9
 case_79 = refl
 
 -- StarItem: a a [ lambda : x : y ] ** < b **
-case_80 : refused (read 20 StarItem (in_form (97 ∷ []) ∷ in_form (97 ∷ []) ∷ Op LSqb ∷ Word Key.Lambda ∷ Op Colon ∷ in_form (120 ∷ []) ∷ Op Colon ∷ in_form (121 ∷ []) ∷ Op RSqb ∷ Op DoubleStar ∷ Op Less ∷ in_form (98 ∷ []) ∷ Op DoubleStar ∷ [])) ≡ true
+case_80 : refused (read 20 StarItem (in_form (97 ∷ []) ∷ in_form (97 ∷ []) ∷ Op LSqb ∷ Word Key.Lambda ∷ Op Colon ∷ in_form (120 ∷ []) ∷ Op
+    Colon ∷ in_form (121 ∷ []) ∷ Op RSqb ∷ Op DoubleStar ∷ Op Less ∷ in_form (98 ∷ []) ∷ Op DoubleStar ∷ [])) ≡ true
 case_80 = refl
 
 -- Expression: x
@@ -91,15 +110,24 @@ case_98 : refused (read 20 StarItem (Op LPar ∷ Word Key.Yield ∷ [])) ≡ tru
 case_98 = refl
 
 -- Stars: ~ a | b and a & c ^ d << e >> f
-case_100 : read 20 Stars (Op Tilde ∷ in_form (97 ∷ []) ∷ Op VBar ∷ in_form (98 ∷ []) ∷ Word Key.And ∷ in_form (97 ∷ []) ∷ Op Amper ∷ in_form (99 ∷ []) ∷ Op Circumflex ∷ in_form (100 ∷ []) ∷ Op LeftShift ∷ in_form (101 ∷ []) ∷ Op RightShift ∷ in_form (102 ∷ []) ∷ []) ≡ Found (Trees.BoolOp Join.And (Trees.an_expr (Trees.BinOp (Trees.UnaryOp Un.Invert (Trees.Name (97 ∷ []) Load)) Bin.BitOr (Trees.Name (98 ∷ []) Load)) (Trees.an_expr (Trees.BinOp (Trees.BinOp (Trees.Name (97 ∷ []) Load) Bin.BitAnd (Trees.Name (99 ∷ []) Load)) Bin.BitXor (Trees.BinOp (Trees.BinOp (Trees.Name (100 ∷ []) Load) Bin.LShift (Trees.Name (101 ∷ []) Load)) Bin.RShift (Trees.Name (102 ∷ []) Load))) Trees.no_exprs))) []
+case_100 : read 20 Stars (Op Tilde ∷ in_form (97 ∷ []) ∷ Op VBar ∷ in_form (98 ∷ []) ∷ Word Key.And ∷ in_form (97 ∷ []) ∷ Op Amper ∷ in_form
+    (99 ∷ []) ∷ Op Circumflex ∷ in_form (100 ∷ []) ∷ Op LeftShift ∷ in_form (101 ∷ []) ∷ Op RightShift ∷ in_form (102 ∷ []) ∷ []) ≡ Found
+    (Trees.BoolOp Join.And
+    (Trees.an_expr (Trees.BinOp (Trees.UnaryOp Un.Invert (Trees.Name (97 ∷ []) Load)) Bin.BitOr (Trees.Name (98 ∷ []) Load))
+    (Trees.an_expr (Trees.BinOp (Trees.BinOp (Trees.Name (97 ∷ []) Load) Bin.BitAnd (Trees.Name (99 ∷ []) Load)) Bin.BitXor
+    (Trees.BinOp (Trees.BinOp (Trees.Name (100 ∷ []) Load) Bin.LShift (Trees.Name (101 ∷ []) Load)) Bin.RShift
+    (Trees.Name (102 ∷ []) Load))) Trees.no_exprs))) []
 case_100 = refl
 
 -- Expression: x yield : y for x in / x if y else z
-case_101 : refused (read 20 Expression (in_form (120 ∷ []) ∷ Word Key.Yield ∷ Op Colon ∷ in_form (121 ∷ []) ∷ Word Key.For ∷ in_form (120 ∷ []) ∷ Word Key.In ∷ Op Slash ∷ in_form (120 ∷ []) ∷ Word Key.If ∷ in_form (121 ∷ []) ∷ Word Key.Else ∷ in_form (122 ∷ []) ∷ [])) ≡ true
+case_101 : refused (read 20 Expression (in_form (120 ∷ []) ∷ Word Key.Yield ∷ Op Colon ∷ in_form (121 ∷ []) ∷ Word Key.For ∷ in_form
+    (120 ∷ []) ∷ Word Key.In ∷ Op Slash ∷ in_form (120 ∷ []) ∷ Word Key.If ∷ in_form (121 ∷ []) ∷ Word Key.Else ∷ in_form (122 ∷ []) ∷ []))
+    ≡ true
 case_101 = refl
 
 -- Expression: lambda a if b else lambda : : ^
-case_104 : refused (read 20 Expression (Word Key.Lambda ∷ in_form (97 ∷ []) ∷ Word Key.If ∷ in_form (98 ∷ []) ∷ Word Key.Else ∷ Word Key.Lambda ∷ Op Colon ∷ Op Colon ∷ Op Circumflex ∷ [])) ≡ true
+case_104 : refused (read 20 Expression (Word Key.Lambda ∷ in_form (97 ∷ []) ∷ Word Key.If ∷ in_form (98 ∷ []) ∷ Word Key.Else ∷ Word
+    Key.Lambda ∷ Op Colon ∷ Op Colon ∷ Op Circumflex ∷ [])) ≡ true
 case_104 = refl
 
 -- Stars: b x :
@@ -131,19 +159,26 @@ case_126 : refused (read 20 Stars (Op LPar ∷ in_form (120 ∷ []) ∷ Op Colon
 case_126 = refl
 
 -- Value: not not - x lambda : 0
-case_129 : refused (read 20 Value (Word Key.Not ∷ Word Key.Not ∷ Op Minus ∷ in_form (120 ∷ []) ∷ Word Key.Lambda ∷ Op Colon ∷ whole 0 ∷ [])) ≡ true
+case_129 : refused (read 20 Value (Word Key.Not ∷ Word Key.Not ∷ Op Minus ∷ in_form (120 ∷ []) ∷ Word Key.Lambda ∷ Op Colon ∷ whole 0 ∷ []))
+    ≡ true
 case_129 = refl
 
 -- Value: lambda * * a , b 1 [ a
-case_133 : refused (read 20 Value (Word Key.Lambda ∷ Op Star ∷ Op Star ∷ in_form (97 ∷ []) ∷ Op Comma ∷ in_form (98 ∷ []) ∷ whole 1 ∷ Op LSqb ∷ in_form (97 ∷ []) ∷ [])) ≡ true
+case_133 : refused (read 20 Value (Word Key.Lambda ∷ Op Star ∷ Op Star ∷ in_form (97 ∷ []) ∷ Op Comma ∷ in_form (98 ∷ []) ∷ whole 1 ∷ Op
+    LSqb ∷ in_form (97 ∷ []) ∷ [])) ≡ true
 case_133 = refl
 
 -- Value: [ x : x , y in z for q in r ]
-case_144 : refused (read 20 Value (Op LSqb ∷ in_form (120 ∷ []) ∷ Op Colon ∷ in_form (120 ∷ []) ∷ Op Comma ∷ in_form (121 ∷ []) ∷ Word Key.In ∷ in_form (122 ∷ []) ∷ Word Key.For ∷ in_form (113 ∷ []) ∷ Word Key.In ∷ in_form (114 ∷ []) ∷ Op RSqb ∷ [])) ≡ true
+case_144 : refused (read 20 Value (Op LSqb ∷ in_form (120 ∷ []) ∷ Op Colon ∷ in_form (120 ∷ []) ∷ Op Comma ∷ in_form (121 ∷ []) ∷ Word
+    Key.In ∷ in_form (122 ∷ []) ∷ Word Key.For ∷ in_form (113 ∷ []) ∷ Word Key.In ∷ in_form (114 ∷ []) ∷ Op RSqb ∷ [])) ≡ true
 case_144 = refl
 
 -- StarItem: ( lambda x : x ) ( y )
-case_148 : read 20 StarItem (Op LPar ∷ Word Key.Lambda ∷ in_form (120 ∷ []) ∷ Op Colon ∷ in_form (120 ∷ []) ∷ Op RPar ∷ Op LPar ∷ in_form (121 ∷ []) ∷ Op RPar ∷ []) ≡ Found (Trees.Call (Trees.Lambda (Trees.arguments Trees.no_arg (Trees.an_arg (Trees.arg (120 ∷ []) Trees.absent) Trees.no_arg) Trees.absent_arg Trees.no_arg Trees.no_optional Trees.absent_arg Trees.no_exprs) (Trees.Name (120 ∷ []) Load)) (Trees.an_expr (Trees.Name (121 ∷ []) Load) Trees.no_exprs) Trees.no_keyword) []
+case_148 : read 20 StarItem (Op LPar ∷ Word Key.Lambda ∷ in_form (120 ∷ []) ∷ Op Colon ∷ in_form (120 ∷ []) ∷ Op RPar ∷ Op LPar ∷ in_form
+    (121 ∷ []) ∷ Op RPar ∷ []) ≡ Found
+    (Trees.Call (Trees.Lambda (Trees.arguments Trees.no_arg (Trees.an_arg (Trees.arg (120 ∷ []) Trees.absent) Trees.no_arg) Trees.absent_arg
+    Trees.no_arg Trees.no_optional Trees.absent_arg Trees.no_exprs) (Trees.Name (120 ∷ []) Load))
+    (Trees.an_expr (Trees.Name (121 ∷ []) Load) Trees.no_exprs) Trees.no_keyword) []
 case_148 = refl
 
 -- Stars: ( f :
@@ -151,7 +186,8 @@ case_162 : refused (read 20 Stars (Op LPar ∷ in_form (102 ∷ []) ∷ Op Colon
 case_162 = refl
 
 -- StarItem: - x ** - y
-case_173 : read 20 StarItem (Op Minus ∷ in_form (120 ∷ []) ∷ Op DoubleStar ∷ Op Minus ∷ in_form (121 ∷ []) ∷ []) ≡ Found (Trees.UnaryOp Un.USub (Trees.BinOp (Trees.Name (120 ∷ []) Load) Bin.Pow (Trees.UnaryOp Un.USub (Trees.Name (121 ∷ []) Load)))) []
+case_173 : read 20 StarItem (Op Minus ∷ in_form (120 ∷ []) ∷ Op DoubleStar ∷ Op Minus ∷ in_form (121 ∷ []) ∷ []) ≡ Found
+    (Trees.UnaryOp Un.USub (Trees.BinOp (Trees.Name (120 ∷ []) Load) Bin.Pow (Trees.UnaryOp Un.USub (Trees.Name (121 ∷ []) Load)))) []
 case_173 = refl
 
 -- Stars: c
@@ -159,11 +195,14 @@ case_177 : read 20 Stars (in_form (99 ∷ []) ∷ []) ≡ Found (Trees.Name (99 
 case_177 = refl
 
 -- Stars: ... is None
-case_184 : read 20 Stars (Op Ellipsis ∷ Word Key.Is ∷ Word Key.None ∷ []) ≡ Found (Trees.Compare (Trees.Constant (Values.Ellipsis)) (Is.Is ∷ []) (Trees.an_expr (Trees.Constant (Values.None)) Trees.no_exprs)) []
+case_184 : read 20 Stars (Op Ellipsis ∷ Word Key.Is ∷ Word Key.None ∷ []) ≡ Found
+    (Trees.Compare (Trees.Constant (Values.Ellipsis)) (Is.Is ∷ []) (Trees.an_expr (Trees.Constant (Values.None)) Trees.no_exprs)) []
 case_184 = refl
 
 -- Named: [ * a , b ]
-case_191 : read 20 Named (Op LSqb ∷ Op Star ∷ in_form (97 ∷ []) ∷ Op Comma ∷ in_form (98 ∷ []) ∷ Op RSqb ∷ []) ≡ Found (Trees.ListOf (Trees.an_expr (Trees.Starred (Trees.Name (97 ∷ []) Load) Load) (Trees.an_expr (Trees.Name (98 ∷ []) Load) Trees.no_exprs)) Load) []
+case_191 : read 20 Named (Op LSqb ∷ Op Star ∷ in_form (97 ∷ []) ∷ Op Comma ∷ in_form (98 ∷ []) ∷ Op RSqb ∷ []) ≡ Found
+    (Trees.ListOf (Trees.an_expr (Trees.Starred (Trees.Name (97 ∷ []) Load) Load)
+    (Trees.an_expr (Trees.Name (98 ∷ []) Load) Trees.no_exprs)) Load) []
 case_191 = refl
 
 -- StarItem: r
@@ -171,11 +210,14 @@ case_193 : read 20 StarItem (in_form (114 ∷ []) ∷ []) ≡ Found (Trees.Name 
 case_193 = refl
 
 -- Value: not "a" * "b"
-case_194 : read 20 Value (Word Key.Not ∷ Literal (Values.Str (97 ∷ []) false) ∷ Op Star ∷ Literal (Values.Str (98 ∷ []) false) ∷ []) ≡ Found (Trees.UnaryOp Un.Not (Trees.BinOp (Trees.Constant (Values.Str (97 ∷ []) false)) Bin.Mult (Trees.Constant (Values.Str (98 ∷ []) false)))) []
+case_194 : read 20 Value (Word Key.Not ∷ Literal (Values.Str (97 ∷ []) false) ∷ Op Star ∷ Literal (Values.Str (98 ∷ []) false) ∷ []) ≡ Found
+    (Trees.UnaryOp Un.Not (Trees.BinOp (Trees.Constant (Values.Str (97 ∷ []) false)) Bin.Mult
+    (Trees.Constant (Values.Str (98 ∷ []) false)))) []
 case_194 = refl
 
 -- Stars: a [ x := y ]
-case_196 : read 20 Stars (in_form (97 ∷ []) ∷ Op LSqb ∷ in_form (120 ∷ []) ∷ Op ColonEqual ∷ in_form (121 ∷ []) ∷ Op RSqb ∷ []) ≡ Found (Trees.Subscript (Trees.Name (97 ∷ []) Load) (Trees.NamedExpr (Trees.Name (120 ∷ []) Store) (Trees.Name (121 ∷ []) Load)) Load) []
+case_196 : read 20 Stars (in_form (97 ∷ []) ∷ Op LSqb ∷ in_form (120 ∷ []) ∷ Op ColonEqual ∷ in_form (121 ∷ []) ∷ Op RSqb ∷ []) ≡ Found
+    (Trees.Subscript (Trees.Name (97 ∷ []) Load) (Trees.NamedExpr (Trees.Name (120 ∷ []) Store) (Trees.Name (121 ∷ []) Load)) Load) []
 case_196 = refl
 
 -- StarItem: not a
@@ -187,15 +229,22 @@ case_198 : read 20 Value (in_form (98 ∷ []) ∷ []) ≡ Found (Trees.Name (98 
 case_198 = refl
 
 -- Named: a if b else lambda : x
-case_203 : read 20 Named (in_form (97 ∷ []) ∷ Word Key.If ∷ in_form (98 ∷ []) ∷ Word Key.Else ∷ Word Key.Lambda ∷ Op Colon ∷ in_form (120 ∷ []) ∷ []) ≡ Found (Trees.IfExp (Trees.Name (98 ∷ []) Load) (Trees.Name (97 ∷ []) Load) (Trees.Lambda (Trees.arguments Trees.no_arg Trees.no_arg Trees.absent_arg Trees.no_arg Trees.no_optional Trees.absent_arg Trees.no_exprs) (Trees.Name (120 ∷ []) Load))) []
+case_203 : read 20 Named (in_form (97 ∷ []) ∷ Word Key.If ∷ in_form (98 ∷ []) ∷ Word Key.Else ∷ Word Key.Lambda ∷ Op Colon ∷ in_form
+    (120 ∷ []) ∷ []) ≡ Found (Trees.IfExp (Trees.Name (98 ∷ []) Load) (Trees.Name (97 ∷ []) Load)
+    (Trees.Lambda (Trees.arguments Trees.no_arg Trees.no_arg Trees.absent_arg Trees.no_arg Trees.no_optional Trees.absent_arg
+    Trees.no_exprs) (Trees.Name (120 ∷ []) Load))) []
 case_203 = refl
 
 -- Value: a - b - c
-case_209 : read 20 Value (in_form (97 ∷ []) ∷ Op Minus ∷ in_form (98 ∷ []) ∷ Op Minus ∷ in_form (99 ∷ []) ∷ []) ≡ Found (Trees.BinOp (Trees.BinOp (Trees.Name (97 ∷ []) Load) Bin.Sub (Trees.Name (98 ∷ []) Load)) Bin.Sub (Trees.Name (99 ∷ []) Load)) []
+case_209 : read 20 Value (in_form (97 ∷ []) ∷ Op Minus ∷ in_form (98 ∷ []) ∷ Op Minus ∷ in_form (99 ∷ []) ∷ []) ≡ Found
+    (Trees.BinOp (Trees.BinOp (Trees.Name (97 ∷ []) Load) Bin.Sub (Trees.Name (98 ∷ []) Load)) Bin.Sub (Trees.Name (99 ∷ []) Load)) []
 case_209 = refl
 
 -- Named: a [ 1 : 2 , * b ]
-case_210 : read 20 Named (in_form (97 ∷ []) ∷ Op LSqb ∷ whole 1 ∷ Op Colon ∷ whole 2 ∷ Op Comma ∷ Op Star ∷ in_form (98 ∷ []) ∷ Op RSqb ∷ []) ≡ Found (Trees.Subscript (Trees.Name (97 ∷ []) Load) (Trees.Tuple (Trees.an_expr (Trees.Slice (Trees.present (Trees.Constant (Values.Int 1))) (Trees.present (Trees.Constant (Values.Int 2))) Trees.absent) (Trees.an_expr (Trees.Starred (Trees.Name (98 ∷ []) Load) Load) Trees.no_exprs)) Load) Load) []
+case_210 : read 20 Named (in_form (97 ∷ []) ∷ Op LSqb ∷ whole 1 ∷ Op Colon ∷ whole 2 ∷ Op Comma ∷ Op Star ∷ in_form (98 ∷ []) ∷ Op RSqb ∷
+    []) ≡ Found (Trees.Subscript (Trees.Name (97 ∷ []) Load)
+    (Trees.Tuple (Trees.an_expr (Trees.Slice (Trees.present (Trees.Constant (Values.Int 1))) (Trees.present (Trees.Constant (Values.Int 2)))
+    Trees.absent) (Trees.an_expr (Trees.Starred (Trees.Name (98 ∷ []) Load) Load) Trees.no_exprs)) Load) Load) []
 case_210 = refl
 
 -- Value: x
@@ -203,7 +252,9 @@ case_211 : read 20 Value (in_form (120 ∷ []) ∷ []) ≡ Found (Trees.Name (12
 case_211 = refl
 
 -- Named: { a , * b , }
-case_213 : read 20 Named (Op LBrace ∷ in_form (97 ∷ []) ∷ Op Comma ∷ Op Star ∷ in_form (98 ∷ []) ∷ Op Comma ∷ Op RBrace ∷ []) ≡ Found (Trees.Set (Trees.an_expr (Trees.Name (97 ∷ []) Load) (Trees.an_expr (Trees.Starred (Trees.Name (98 ∷ []) Load) Load) Trees.no_exprs))) []
+case_213 : read 20 Named (Op LBrace ∷ in_form (97 ∷ []) ∷ Op Comma ∷ Op Star ∷ in_form (98 ∷ []) ∷ Op Comma ∷ Op RBrace ∷ []) ≡ Found
+    (Trees.Set (Trees.an_expr (Trees.Name (97 ∷ []) Load) (Trees.an_expr (Trees.Starred (Trees.Name (98 ∷ []) Load) Load) Trees.no_exprs)))
+    []
 case_213 = refl
 
 -- Stars: { }
@@ -211,11 +262,25 @@ case_216 : read 20 Stars (Op LBrace ∷ Op RBrace ∷ []) ≡ Found (Trees.Dict 
 case_216 = refl
 
 -- Value: x ( a and b ) and not c or d
-case_226 : read 20 Value (in_form (120 ∷ []) ∷ Op LPar ∷ in_form (97 ∷ []) ∷ Word Key.And ∷ in_form (98 ∷ []) ∷ Op RPar ∷ Word Key.And ∷ Word Key.Not ∷ in_form (99 ∷ []) ∷ Word Key.Or ∷ in_form (100 ∷ []) ∷ []) ≡ Found (Trees.BoolOp Join.Or (Trees.an_expr (Trees.BoolOp Join.And (Trees.an_expr (Trees.Call (Trees.Name (120 ∷ []) Load) (Trees.an_expr (Trees.BoolOp Join.And (Trees.an_expr (Trees.Name (97 ∷ []) Load) (Trees.an_expr (Trees.Name (98 ∷ []) Load) Trees.no_exprs))) Trees.no_exprs) Trees.no_keyword) (Trees.an_expr (Trees.UnaryOp Un.Not (Trees.Name (99 ∷ []) Load)) Trees.no_exprs))) (Trees.an_expr (Trees.Name (100 ∷ []) Load) Trees.no_exprs))) []
+case_226 : read 20 Value (in_form (120 ∷ []) ∷ Op LPar ∷ in_form (97 ∷ []) ∷ Word Key.And ∷ in_form (98 ∷ []) ∷ Op RPar ∷ Word Key.And ∷
+    Word Key.Not ∷ in_form (99 ∷ []) ∷ Word Key.Or ∷ in_form (100 ∷ []) ∷ []) ≡ Found
+    (Trees.BoolOp Join.Or
+    (Trees.an_expr (Trees.BoolOp Join.And
+    (Trees.an_expr (Trees.Call (Trees.Name (120 ∷ []) Load)
+    (Trees.an_expr (Trees.BoolOp Join.And
+    (Trees.an_expr (Trees.Name (97 ∷ []) Load) (Trees.an_expr (Trees.Name (98 ∷ []) Load) Trees.no_exprs))) Trees.no_exprs)
+    Trees.no_keyword) (Trees.an_expr (Trees.UnaryOp Un.Not (Trees.Name (99 ∷ []) Load)) Trees.no_exprs)))
+    (Trees.an_expr (Trees.Name (100 ∷ []) Load) Trees.no_exprs))) []
 case_226 = refl
 
 -- StarItem: [ x async for x , * y in z for q in r ]
-case_230 : read 20 StarItem (Op LSqb ∷ in_form (120 ∷ []) ∷ Word Key.Async ∷ Word Key.For ∷ in_form (120 ∷ []) ∷ Op Comma ∷ Op Star ∷ in_form (121 ∷ []) ∷ Word Key.In ∷ in_form (122 ∷ []) ∷ Word Key.For ∷ in_form (113 ∷ []) ∷ Word Key.In ∷ in_form (114 ∷ []) ∷ Op RSqb ∷ []) ≡ Found (Trees.ListComp (Trees.Name (120 ∷ []) Load) (Trees.a_comprehension (Trees.Tuple (Trees.an_expr (Trees.Name (120 ∷ []) Store) (Trees.an_expr (Trees.Starred (Trees.Name (121 ∷ []) Store) Store) Trees.no_exprs)) Store) (Trees.Name (122 ∷ []) Load) Trees.no_exprs true (Trees.a_comprehension (Trees.Name (113 ∷ []) Store) (Trees.Name (114 ∷ []) Load) Trees.no_exprs false Trees.no_comprehension))) []
+case_230 : read 20 StarItem (Op LSqb ∷ in_form (120 ∷ []) ∷ Word Key.Async ∷ Word Key.For ∷ in_form (120 ∷ []) ∷ Op Comma ∷ Op Star ∷
+    in_form (121 ∷ []) ∷ Word Key.In ∷ in_form (122 ∷ []) ∷ Word Key.For ∷ in_form (113 ∷ []) ∷ Word Key.In ∷ in_form (114 ∷ []) ∷ Op RSqb ∷
+    []) ≡ Found (Trees.ListComp (Trees.Name (120 ∷ []) Load)
+    (Trees.a_comprehension
+    (Trees.Tuple (Trees.an_expr (Trees.Name (120 ∷ []) Store) (Trees.an_expr (Trees.Starred (Trees.Name (121 ∷ []) Store) Store)
+    Trees.no_exprs)) Store) (Trees.Name (122 ∷ []) Load) Trees.no_exprs true (Trees.a_comprehension (Trees.Name (113 ∷ []) Store)
+    (Trees.Name (114 ∷ []) Load) Trees.no_exprs false Trees.no_comprehension))) []
 case_230 = refl
 
 -- Stars: None
@@ -227,59 +292,104 @@ case_238 : read 20 Expression (in_form (122 ∷ []) ∷ []) ≡ Found (Trees.Nam
 case_238 = refl
 
 -- Expression: f ( ** a , b = c )
-case_240 : read 20 Expression (in_form (102 ∷ []) ∷ Op LPar ∷ Op DoubleStar ∷ in_form (97 ∷ []) ∷ Op Comma ∷ in_form (98 ∷ []) ∷ Op Equal ∷ in_form (99 ∷ []) ∷ Op RPar ∷ []) ≡ Found (Trees.Call (Trees.Name (102 ∷ []) Load) Trees.no_exprs (Trees.a_keyword None (Trees.Name (97 ∷ []) Load) (Trees.a_keyword (Some (98 ∷ [])) (Trees.Name (99 ∷ []) Load) Trees.no_keyword))) []
+case_240 : read 20 Expression (in_form (102 ∷ []) ∷ Op LPar ∷ Op DoubleStar ∷ in_form (97 ∷ []) ∷ Op Comma ∷ in_form (98 ∷ []) ∷ Op Equal ∷
+    in_form (99 ∷ []) ∷ Op RPar ∷ []) ≡ Found (Trees.Call (Trees.Name (102 ∷ []) Load) Trees.no_exprs
+    (Trees.a_keyword None (Trees.Name (97 ∷ []) Load) (Trees.a_keyword (Some (98 ∷ [])) (Trees.Name (99 ∷ []) Load) Trees.no_keyword))) []
 case_240 = refl
 
 -- StarItem: a [ : ( a and b ) and c ]
-case_243 : read 20 StarItem (in_form (97 ∷ []) ∷ Op LSqb ∷ Op Colon ∷ Op LPar ∷ in_form (97 ∷ []) ∷ Word Key.And ∷ in_form (98 ∷ []) ∷ Op RPar ∷ Word Key.And ∷ in_form (99 ∷ []) ∷ Op RSqb ∷ []) ≡ Found (Trees.Subscript (Trees.Name (97 ∷ []) Load) (Trees.Slice Trees.absent (Trees.present (Trees.BoolOp Join.And (Trees.an_expr (Trees.BoolOp Join.And (Trees.an_expr (Trees.Name (97 ∷ []) Load) (Trees.an_expr (Trees.Name (98 ∷ []) Load) Trees.no_exprs))) (Trees.an_expr (Trees.Name (99 ∷ []) Load) Trees.no_exprs)))) Trees.absent) Load) []
+case_243 : read 20 StarItem (in_form (97 ∷ []) ∷ Op LSqb ∷ Op Colon ∷ Op LPar ∷ in_form (97 ∷ []) ∷ Word Key.And ∷ in_form (98 ∷ []) ∷ Op
+    RPar ∷ Word Key.And ∷ in_form (99 ∷ []) ∷ Op RSqb ∷ []) ≡ Found
+    (Trees.Subscript (Trees.Name (97 ∷ []) Load)
+    (Trees.Slice Trees.absent
+    (Trees.present (Trees.BoolOp Join.And
+    (Trees.an_expr (Trees.BoolOp Join.And
+    (Trees.an_expr (Trees.Name (97 ∷ []) Load) (Trees.an_expr (Trees.Name (98 ∷ []) Load) Trees.no_exprs)))
+    (Trees.an_expr (Trees.Name (99 ∷ []) Load) Trees.no_exprs)))) Trees.absent) Load) []
 case_243 = refl
 
 -- Value: lambda * a , b : a
-case_246 : read 20 Value (Word Key.Lambda ∷ Op Star ∷ in_form (97 ∷ []) ∷ Op Comma ∷ in_form (98 ∷ []) ∷ Op Colon ∷ in_form (97 ∷ []) ∷ []) ≡ Found (Trees.Lambda (Trees.arguments Trees.no_arg Trees.no_arg (Trees.present_arg (Trees.arg (97 ∷ []) Trees.absent)) (Trees.an_arg (Trees.arg (98 ∷ []) Trees.absent) Trees.no_arg) (Trees.an_optional Trees.absent Trees.no_optional) Trees.absent_arg Trees.no_exprs) (Trees.Name (97 ∷ []) Load)) []
+case_246 : read 20 Value (Word Key.Lambda ∷ Op Star ∷ in_form (97 ∷ []) ∷ Op Comma ∷ in_form (98 ∷ []) ∷ Op Colon ∷ in_form (97 ∷ []) ∷ [])
+    ≡ Found (Trees.Lambda (Trees.arguments Trees.no_arg Trees.no_arg (Trees.present_arg (Trees.arg (97 ∷ []) Trees.absent))
+    (Trees.an_arg (Trees.arg (98 ∷ []) Trees.absent) Trees.no_arg) (Trees.an_optional Trees.absent Trees.no_optional) Trees.absent_arg
+    Trees.no_exprs) (Trees.Name (97 ∷ []) Load)) []
 case_246 = refl
 
 -- StarItem: [ x async for x , * y in z for q in x ]
-case_249 : read 20 StarItem (Op LSqb ∷ in_form (120 ∷ []) ∷ Word Key.Async ∷ Word Key.For ∷ in_form (120 ∷ []) ∷ Op Comma ∷ Op Star ∷ in_form (121 ∷ []) ∷ Word Key.In ∷ in_form (122 ∷ []) ∷ Word Key.For ∷ in_form (113 ∷ []) ∷ Word Key.In ∷ in_form (120 ∷ []) ∷ Op RSqb ∷ []) ≡ Found (Trees.ListComp (Trees.Name (120 ∷ []) Load) (Trees.a_comprehension (Trees.Tuple (Trees.an_expr (Trees.Name (120 ∷ []) Store) (Trees.an_expr (Trees.Starred (Trees.Name (121 ∷ []) Store) Store) Trees.no_exprs)) Store) (Trees.Name (122 ∷ []) Load) Trees.no_exprs true (Trees.a_comprehension (Trees.Name (113 ∷ []) Store) (Trees.Name (120 ∷ []) Load) Trees.no_exprs false Trees.no_comprehension))) []
+case_249 : read 20 StarItem (Op LSqb ∷ in_form (120 ∷ []) ∷ Word Key.Async ∷ Word Key.For ∷ in_form (120 ∷ []) ∷ Op Comma ∷ Op Star ∷
+    in_form (121 ∷ []) ∷ Word Key.In ∷ in_form (122 ∷ []) ∷ Word Key.For ∷ in_form (113 ∷ []) ∷ Word Key.In ∷ in_form (120 ∷ []) ∷ Op RSqb ∷
+    []) ≡ Found (Trees.ListComp (Trees.Name (120 ∷ []) Load)
+    (Trees.a_comprehension
+    (Trees.Tuple (Trees.an_expr (Trees.Name (120 ∷ []) Store) (Trees.an_expr (Trees.Starred (Trees.Name (121 ∷ []) Store) Store)
+    Trees.no_exprs)) Store) (Trees.Name (122 ∷ []) Load) Trees.no_exprs true (Trees.a_comprehension (Trees.Name (113 ∷ []) Store)
+    (Trees.Name (120 ∷ []) Load) Trees.no_exprs false Trees.no_comprehension))) []
 case_249 = refl
 
 -- Expression: ~ a | b & c ^ d << e >> f
-case_256 : read 20 Expression (Op Tilde ∷ in_form (97 ∷ []) ∷ Op VBar ∷ in_form (98 ∷ []) ∷ Op Amper ∷ in_form (99 ∷ []) ∷ Op Circumflex ∷ in_form (100 ∷ []) ∷ Op LeftShift ∷ in_form (101 ∷ []) ∷ Op RightShift ∷ in_form (102 ∷ []) ∷ []) ≡ Found (Trees.BinOp (Trees.UnaryOp Un.Invert (Trees.Name (97 ∷ []) Load)) Bin.BitOr (Trees.BinOp (Trees.BinOp (Trees.Name (98 ∷ []) Load) Bin.BitAnd (Trees.Name (99 ∷ []) Load)) Bin.BitXor (Trees.BinOp (Trees.BinOp (Trees.Name (100 ∷ []) Load) Bin.LShift (Trees.Name (101 ∷ []) Load)) Bin.RShift (Trees.Name (102 ∷ []) Load)))) []
+case_256 : read 20 Expression (Op Tilde ∷ in_form (97 ∷ []) ∷ Op VBar ∷ in_form (98 ∷ []) ∷ Op Amper ∷ in_form (99 ∷ []) ∷ Op Circumflex ∷
+    in_form (100 ∷ []) ∷ Op LeftShift ∷ in_form (101 ∷ []) ∷ Op RightShift ∷ in_form (102 ∷ []) ∷ []) ≡ Found
+    (Trees.BinOp (Trees.UnaryOp Un.Invert (Trees.Name (97 ∷ []) Load)) Bin.BitOr
+    (Trees.BinOp (Trees.BinOp (Trees.Name (98 ∷ []) Load) Bin.BitAnd (Trees.Name (99 ∷ []) Load)) Bin.BitXor
+    (Trees.BinOp (Trees.BinOp (Trees.Name (100 ∷ []) Load) Bin.LShift (Trees.Name (101 ∷ []) Load)) Bin.RShift
+    (Trees.Name (102 ∷ []) Load)))) []
 case_256 = refl
 
 -- Expression: { lambda : x : y }
-case_259 : read 20 Expression (Op LBrace ∷ Word Key.Lambda ∷ Op Colon ∷ in_form (120 ∷ []) ∷ Op Colon ∷ in_form (121 ∷ []) ∷ Op RBrace ∷ []) ≡ Found (Trees.Dict (Trees.an_optional (Trees.present (Trees.Lambda (Trees.arguments Trees.no_arg Trees.no_arg Trees.absent_arg Trees.no_arg Trees.no_optional Trees.absent_arg Trees.no_exprs) (Trees.Name (120 ∷ []) Load))) Trees.no_optional) (Trees.an_expr (Trees.Name (121 ∷ []) Load) Trees.no_exprs)) []
+case_259 : read 20 Expression (Op LBrace ∷ Word Key.Lambda ∷ Op Colon ∷ in_form (120 ∷ []) ∷ Op Colon ∷ in_form (121 ∷ []) ∷ Op RBrace ∷ [])
+    ≡ Found (Trees.Dict (Trees.an_optional
+    (Trees.present (Trees.Lambda (Trees.arguments Trees.no_arg Trees.no_arg Trees.absent_arg Trees.no_arg Trees.no_optional Trees.absent_arg
+    Trees.no_exprs) (Trees.Name (120 ∷ []) Load))) Trees.no_optional) (Trees.an_expr (Trees.Name (121 ∷ []) Load) Trees.no_exprs)) []
 case_259 = refl
 
 -- Stars: ( lambda x : x ) ( y )
-case_263 : read 20 Stars (Op LPar ∷ Word Key.Lambda ∷ in_form (120 ∷ []) ∷ Op Colon ∷ in_form (120 ∷ []) ∷ Op RPar ∷ Op LPar ∷ in_form (121 ∷ []) ∷ Op RPar ∷ []) ≡ Found (Trees.Call (Trees.Lambda (Trees.arguments Trees.no_arg (Trees.an_arg (Trees.arg (120 ∷ []) Trees.absent) Trees.no_arg) Trees.absent_arg Trees.no_arg Trees.no_optional Trees.absent_arg Trees.no_exprs) (Trees.Name (120 ∷ []) Load)) (Trees.an_expr (Trees.Name (121 ∷ []) Load) Trees.no_exprs) Trees.no_keyword) []
+case_263 : read 20 Stars (Op LPar ∷ Word Key.Lambda ∷ in_form (120 ∷ []) ∷ Op Colon ∷ in_form (120 ∷ []) ∷ Op RPar ∷ Op LPar ∷ in_form
+    (121 ∷ []) ∷ Op RPar ∷ []) ≡ Found
+    (Trees.Call (Trees.Lambda (Trees.arguments Trees.no_arg (Trees.an_arg (Trees.arg (120 ∷ []) Trees.absent) Trees.no_arg) Trees.absent_arg
+    Trees.no_arg Trees.no_optional Trees.absent_arg Trees.no_exprs) (Trees.Name (120 ∷ []) Load))
+    (Trees.an_expr (Trees.Name (121 ∷ []) Load) Trees.no_exprs) Trees.no_keyword) []
 case_263 = refl
 
 -- Stars: a [ 1 : : 2 ]
-case_288 : read 20 Stars (in_form (97 ∷ []) ∷ Op LSqb ∷ whole 1 ∷ Op Colon ∷ Op Colon ∷ whole 2 ∷ Op RSqb ∷ []) ≡ Found (Trees.Subscript (Trees.Name (97 ∷ []) Load) (Trees.Slice (Trees.present (Trees.Constant (Values.Int 1))) Trees.absent (Trees.present (Trees.Constant (Values.Int 2)))) Load) []
+case_288 : read 20 Stars (in_form (97 ∷ []) ∷ Op LSqb ∷ whole 1 ∷ Op Colon ∷ Op Colon ∷ whole 2 ∷ Op RSqb ∷ []) ≡ Found
+    (Trees.Subscript (Trees.Name (97 ∷ []) Load) (Trees.Slice (Trees.present (Trees.Constant (Values.Int 1))) Trees.absent
+    (Trees.present (Trees.Constant (Values.Int 2)))) Load) []
 case_288 = refl
 
 -- StarItem: ( a and b ) and c or d
-case_290 : read 20 StarItem (Op LPar ∷ in_form (97 ∷ []) ∷ Word Key.And ∷ in_form (98 ∷ []) ∷ Op RPar ∷ Word Key.And ∷ in_form (99 ∷ []) ∷ Word Key.Or ∷ in_form (100 ∷ []) ∷ []) ≡ Found (Trees.BoolOp Join.Or (Trees.an_expr (Trees.BoolOp Join.And (Trees.an_expr (Trees.BoolOp Join.And (Trees.an_expr (Trees.Name (97 ∷ []) Load) (Trees.an_expr (Trees.Name (98 ∷ []) Load) Trees.no_exprs))) (Trees.an_expr (Trees.Name (99 ∷ []) Load) Trees.no_exprs))) (Trees.an_expr (Trees.Name (100 ∷ []) Load) Trees.no_exprs))) []
+case_290 : read 20 StarItem (Op LPar ∷ in_form (97 ∷ []) ∷ Word Key.And ∷ in_form (98 ∷ []) ∷ Op RPar ∷ Word Key.And ∷ in_form (99 ∷ []) ∷
+    Word Key.Or ∷ in_form (100 ∷ []) ∷ []) ≡ Found
+    (Trees.BoolOp Join.Or
+    (Trees.an_expr (Trees.BoolOp Join.And
+    (Trees.an_expr (Trees.BoolOp Join.And
+    (Trees.an_expr (Trees.Name (97 ∷ []) Load) (Trees.an_expr (Trees.Name (98 ∷ []) Load) Trees.no_exprs)))
+    (Trees.an_expr (Trees.Name (99 ∷ []) Load) Trees.no_exprs))) (Trees.an_expr (Trees.Name (100 ∷ []) Load) Trees.no_exprs))) []
 case_290 = refl
 
 -- StarItem: c < b == c
-case_294 : read 20 StarItem (in_form (99 ∷ []) ∷ Op Less ∷ in_form (98 ∷ []) ∷ Op EqEqual ∷ in_form (99 ∷ []) ∷ []) ≡ Found (Trees.Compare (Trees.Name (99 ∷ []) Load) (Is.Lt ∷ Is.Eq ∷ []) (Trees.an_expr (Trees.Name (98 ∷ []) Load) (Trees.an_expr (Trees.Name (99 ∷ []) Load) Trees.no_exprs))) []
+case_294 : read 20 StarItem (in_form (99 ∷ []) ∷ Op Less ∷ in_form (98 ∷ []) ∷ Op EqEqual ∷ in_form (99 ∷ []) ∷ []) ≡ Found
+    (Trees.Compare (Trees.Name (99 ∷ []) Load) (Is.Lt ∷ Is.Eq ∷ [])
+    (Trees.an_expr (Trees.Name (98 ∷ []) Load) (Trees.an_expr (Trees.Name (99 ∷ []) Load) Trees.no_exprs))) []
 case_294 = refl
 
 -- Stars: "a" "b"
-case_295 : read 20 Stars (Literal (Values.Str (97 ∷ []) false) ∷ Literal (Values.Str (98 ∷ []) false) ∷ []) ≡ Found (Trees.Constant (Values.Str (97 ∷ 98 ∷ []) false)) []
+case_295 : read 20 Stars (Literal (Values.Str (97 ∷ []) false) ∷ Literal (Values.Str (98 ∷ []) false) ∷ []) ≡ Found
+    (Trees.Constant (Values.Str (97 ∷ 98 ∷ []) false)) []
 case_295 = refl
 
 -- Subject: a , * b
-case_301 : read 20 Subject (in_form (97 ∷ []) ∷ Op Comma ∷ Op Star ∷ in_form (98 ∷ []) ∷ []) ≡ Found (Trees.Tuple (Trees.an_expr (Trees.Name (97 ∷ []) Load) (Trees.an_expr (Trees.Starred (Trees.Name (98 ∷ []) Load) Load) Trees.no_exprs)) Load) []
+case_301 : read 20 Subject (in_form (97 ∷ []) ∷ Op Comma ∷ Op Star ∷ in_form (98 ∷ []) ∷ []) ≡ Found
+    (Trees.Tuple (Trees.an_expr (Trees.Name (97 ∷ []) Load) (Trees.an_expr (Trees.Starred (Trees.Name (98 ∷ []) Load) Load) Trees.no_exprs))
+    Load) []
 case_301 = refl
 
 -- Subject: * a ,
-case_302 : read 20 Subject (Op Star ∷ in_form (97 ∷ []) ∷ Op Comma ∷ []) ≡ Found (Trees.Tuple (Trees.an_expr (Trees.Starred (Trees.Name (97 ∷ []) Load) Load) Trees.no_exprs) Load) []
+case_302 : read 20 Subject (Op Star ∷ in_form (97 ∷ []) ∷ Op Comma ∷ []) ≡ Found
+    (Trees.Tuple (Trees.an_expr (Trees.Starred (Trees.Name (97 ∷ []) Load) Load) Trees.no_exprs) Load) []
 case_302 = refl
 
 -- Subject: a := 1, and a colon after it
-case_303 : read 20 Subject (in_form (97 ∷ []) ∷ Op ColonEqual ∷ whole 1 ∷ Op Colon ∷ []) ≡ Found (Trees.NamedExpr (Trees.Name (97 ∷ []) Store) (Trees.Constant (Values.Int 1))) (Op Colon ∷ [])
+case_303 : read 20 Subject (in_form (97 ∷ []) ∷ Op ColonEqual ∷ whole 1 ∷ Op Colon ∷ []) ≡ Found
+    (Trees.NamedExpr (Trees.Name (97 ∷ []) Store) (Trees.Constant (Values.Int 1))) (Op Colon ∷ [])
 case_303 = refl
 
 -- Subject: * a

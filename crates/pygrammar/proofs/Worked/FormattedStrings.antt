@@ -10,7 +10,8 @@ use Rattle.pygrammar.specs.declared.pattern_levels.PatternLevel.TheVariants.{Pat
 use Rattle.pytree_node.specs.Trees
 use Rattle.pytree_node.specs.Trees.{Expr, Exprs, Pattern, no_exprs, an_expr, absent, present, MatchValue}
 use Rattle.pytree_node.specs.Values
-use Rattle.pytoken.specs.Terminals.{Terminal, Op, Literal, in_form, FormattedBegin, FormattedEnd, FormattedText, FieldBegin, SpecBegin, FieldEnd}
+use Rattle.pytoken.specs.Terminals.{Terminal, Op, Literal, in_form, FormattedBegin, FormattedEnd, FormattedText, FieldBegin, SpecBegin}
+use Rattle.pytoken.specs.Terminals.{FieldEnd}
 use Rattle.pygrammar.specs.Lengths.{weight}
 use Rattle.pygrammar.specs.Reader.{Answer, Found, NoForm, TooDeep, read}
 use Rattle.pygrammar.specs.Capped.{limit}
@@ -56,7 +57,8 @@ worked_1 : read 12 Value (FormattedBegin ∷ FormattedEnd ∷ []) ≡ Found (of 
 worked_1 = refl
 
 -- f'a' 'b'
-worked_2 : read 12 Value (FormattedBegin ∷ FormattedText (97 ∷ []) ∷ FormattedEnd ∷ plain 98 ∷ []) ≡ Found (of (text (97 ∷ 98 ∷ []) false ∷ [])) []
+worked_2 : read 12 Value (FormattedBegin ∷ FormattedText (97 ∷ []) ∷ FormattedEnd ∷ plain 98 ∷ []) ≡ Found
+    (of (text (97 ∷ 98 ∷ []) false ∷ [])) []
 worked_2 = refl
 
 -- f'{x}'
@@ -64,27 +66,36 @@ worked_3 : read 12 Value (FormattedBegin ∷ (braced x ++ FormattedEnd ∷ [])) 
 worked_3 = refl
 
 -- f'{x!r:>{w}}'
-worked_4 : read 12 Value (FormattedBegin ∷ FieldBegin By.Repr ∷ Op LPar ∷ x ∷ Op RPar ∷ SpecBegin ∷ FormattedText (62 ∷ []) ∷ (braced (in_form (119 ∷ [])) ++ FieldEnd ∷ FormattedEnd ∷ [])) ≡ Found (of (Trees.FormattedValue (named 120) By.Repr (present (of (text (62 ∷ []) false ∷ field (named 119) ∷ []))) ∷ [])) []
+worked_4 : read 12 Value (FormattedBegin ∷ FieldBegin By.Repr ∷ Op LPar ∷ x ∷ Op RPar ∷ SpecBegin ∷ FormattedText (62 ∷ []) ∷
+    (braced (in_form (119 ∷ [])) ++ FieldEnd ∷ FormattedEnd ∷ [])) ≡ Found
+    (of (Trees.FormattedValue (named 120) By.Repr (present (of (text (62 ∷ []) false ∷ field (named 119) ∷ []))) ∷ [])) []
 worked_4 = refl
 
 -- u'a' f'{x}b'
-worked_5 : read 12 Value (unicode (97 ∷ []) ∷ FormattedBegin ∷ (braced x ++ FormattedText (98 ∷ []) ∷ FormattedEnd ∷ [])) ≡ Found (of (text (97 ∷ []) true ∷ field (named 120) ∷ text (98 ∷ []) true ∷ [])) []
+worked_5 : read 12 Value (unicode (97 ∷ []) ∷ FormattedBegin ∷ (braced x ++ FormattedText (98 ∷ []) ∷ FormattedEnd ∷ [])) ≡ Found
+    (of (text (97 ∷ []) true ∷ field (named 120) ∷ text (98 ∷ []) true ∷ [])) []
 worked_5 = refl
 
 -- u'' f'{x:a{y}b}'
-worked_6 : read 12 Value (unicode [] ∷ FormattedBegin ∷ FieldBegin By.None ∷ Op LPar ∷ x ∷ Op RPar ∷ SpecBegin ∷ FormattedText (97 ∷ []) ∷ (braced y ++ FormattedText (98 ∷ []) ∷ FieldEnd ∷ FormattedEnd ∷ [])) ≡ Found (of (Trees.FormattedValue (named 120) By.None (present (of (text (97 ∷ []) true ∷ field (named 121) ∷ text (98 ∷ []) false ∷ []))) ∷ [])) []
+worked_6 : read 12 Value (unicode [] ∷ FormattedBegin ∷ FieldBegin By.None ∷ Op LPar ∷ x ∷ Op RPar ∷ SpecBegin ∷ FormattedText (97 ∷ []) ∷
+    (braced y ++ FormattedText (98 ∷ []) ∷ FieldEnd ∷ FormattedEnd ∷ [])) ≡ Found
+    (of (Trees.FormattedValue (named 120) By.None (present (of (text (97 ∷ []) true ∷ field (named 121) ∷ text (98 ∷ []) false ∷ []))) ∷
+    [])) []
 worked_6 = refl
 
 -- f'{x}' u'a'
-worked_7 : read 12 Value (FormattedBegin ∷ (braced x ++ FormattedEnd ∷ unicode (97 ∷ []) ∷ [])) ≡ Found (of (field (named 120) ∷ text (97 ∷ []) false ∷ [])) []
+worked_7 : read 12 Value (FormattedBegin ∷ (braced x ++ FormattedEnd ∷ unicode (97 ∷ []) ∷ [])) ≡ Found
+    (of (field (named 120) ∷ text (97 ∷ []) false ∷ [])) []
 worked_7 = refl
 
 -- f'{x:}'
-worked_8 : read 12 Value (FormattedBegin ∷ FieldBegin By.None ∷ Op LPar ∷ x ∷ Op RPar ∷ SpecBegin ∷ FieldEnd ∷ FormattedEnd ∷ []) ≡ Found (of (Trees.FormattedValue (named 120) By.None (present (of [])) ∷ [])) []
+worked_8 : read 12 Value (FormattedBegin ∷ FieldBegin By.None ∷ Op LPar ∷ x ∷ Op RPar ∷ SpecBegin ∷ FieldEnd ∷ FormattedEnd ∷ []) ≡ Found
+    (of (Trees.FormattedValue (named 120) By.None (present (of [])) ∷ [])) []
 worked_8 = refl
 
 -- f'{x, y}'
-worked_9 : read 12 Value (FormattedBegin ∷ FieldBegin By.None ∷ Op LPar ∷ x ∷ Op Comma ∷ y ∷ Op RPar ∷ FieldEnd ∷ FormattedEnd ∷ []) ≡ Found (of (field (Trees.Tuple (Trees.exprs (named 120 ∷ named 121 ∷ [])) Load) ∷ [])) []
+worked_9 : read 12 Value (FormattedBegin ∷ FieldBegin By.None ∷ Op LPar ∷ x ∷ Op Comma ∷ y ∷ Op RPar ∷ FieldEnd ∷ FormattedEnd ∷ []) ≡ Found
+    (of (field (Trees.Tuple (Trees.exprs (named 120 ∷ named 121 ∷ [])) Load) ∷ [])) []
 worked_9 = refl
 
 -- no form: b'' f''
@@ -106,7 +117,8 @@ worked_13 = refl
 -- ---- Patterns.
 
 -- f'{x}'
-pattern_1 : limit_pattern 12 Patterns (FormattedBegin ∷ (braced x ++ FormattedEnd ∷ [])) ≡ Found (MatchValue (of (field (named 120) ∷ []))) []
+pattern_1 : limit_pattern 12 Patterns (FormattedBegin ∷ (braced x ++ FormattedEnd ∷ [])) ≡ Found
+    (MatchValue (of (field (named 120) ∷ []))) []
 pattern_1 = refl
 
 -- no form: -f''

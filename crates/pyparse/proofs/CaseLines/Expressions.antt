@@ -3,7 +3,8 @@
 -- Carries: expression, strings, listing, comps, for Patterns, Trailers, Statements, Law. On: Machine, Signs.
 use Rattle.std.proofs.Common.{◌≡◌, refl, ap, ◌∙◌, List, ◌∷◌, Option, Some, None, Bool, true, false, cond}
 use Rattle.pylex_lexeme.specs.declared.kinds.Exact.{Exact}
-use Rattle.pylex_lexeme.specs.declared.kinds.Exact.TheVariants.{LPar, LSqb, LBrace, Colon, Comma, Star, Slash, Equal, Dot, DoubleStar, ColonEqual}
+use Rattle.pylex_lexeme.specs.declared.kinds.Exact.TheVariants.{LPar, LSqb, LBrace, Colon, Comma, Star, Slash, Equal, Dot, DoubleStar}
+use Rattle.pylex_lexeme.specs.declared.kinds.Exact.TheVariants.{ColonEqual}
 use Rattle.pytoken.specs.declared.keywords.Keyword.TheVariants as Key
 use Rattle.pytree_node.specs.declared.operators.BoolOperator.{BoolOperator}
 use Rattle.pytree_node.specs.declared.operators.Comparison.{Comparison}
@@ -11,12 +12,14 @@ use Rattle.pygrammar.specs.declared.levels.Level.{Level}
 use Rattle.pygrammar.specs.declared.levels.Level.TheVariants.{Value, Slices, Part, Slice}
 use Rattle.pytree_node.specs.Trees.{Expr, OptionalExpr, Comprehension}
 use Rattle.pytree_node.specs.Values
-use Rattle.pytoken.specs.Terminals.{Terminal, Op, Word, Ident, Number, Literal, FormattedBegin, FormattedEnd, FormattedText, FieldBegin, SpecBegin, FieldEnd}
+use Rattle.pytoken.specs.Terminals.{Terminal, Op, Word, Ident, Number, Literal, FormattedBegin, FormattedEnd, FormattedText, FieldBegin}
+use Rattle.pytoken.specs.Terminals.{SpecBegin, FieldEnd}
 use Rattle.pygrammar.specs.Operators.{below, chain_level, chain_word}
 use Rattle.pygrammar.specs.FormattedStrings.{StringPart}
 use Rattle.pygrammar.specs.Entries.{Item, Of, Pair, Parameter, Entry}
 use Rattle.pygrammar.specs.Grammar as G
-use Rattle.pyparse.proofs.CaseLines.Machine.{Open, bracket, lambda, act, after, Takes, none, one, join, neutral, between, colon_inside, round_end, square_end, curly_end}
+use Rattle.pyparse.proofs.CaseLines.Machine.{Open, bracket, lambda, act, after, Takes, none, one, join, neutral, between, colon_inside}
+use Rattle.pyparse.proofs.CaseLines.Machine.{round_end, square_end, curly_end}
 use Rattle.pyparse.proofs.CaseLines.Signs.{left_plain, prefix_plain, chain_plain, compared, constant_plain, literals}
 
 -- what stands open at an expression of a level: round a slice a bracket

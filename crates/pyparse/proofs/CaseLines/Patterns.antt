@@ -12,7 +12,8 @@ use Rattle.pytoken.specs.Terminals.{Terminal, Op, Word, Ident, Number, Literal}
 use Rattle.pygrammar.specs.PatternOperators.{singleton_word}
 use Rattle.pygrammar.specs.PatternEntries.{PatternItem, KeyPattern, PatternEntry}
 use Rattle.pygrammar.specs.PatternGrammar as P
-use Rattle.pyparse.proofs.CaseLines.Machine.{Open, bracket, plain, act, Takes, none, one, join, neutral, between, colon_inside, round_end, square_end, curly_end}
+use Rattle.pyparse.proofs.CaseLines.Machine.{Open, bracket, plain, act, Takes, none, one, join, neutral, between, colon_inside, round_end}
+use Rattle.pyparse.proofs.CaseLines.Machine.{square_end, curly_end}
 use Rattle.pyparse.proofs.CaseLines.Signs.{no_some, left_plain, literals}
 use Rattle.pyparse.proofs.CaseLines.Expressions.{strings}
 

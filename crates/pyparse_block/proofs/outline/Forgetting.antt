@@ -1,12 +1,17 @@
 -- Carries: Outline. On: the reading of blocks, whose steps are those of its outline:
 -- `step_outlined`, `finish_outlined`.
-use Rattle.std.proofs.Common.{◌≡◌, ℕ, suc, List, [], ◌∷◌, ◌++◌, length, map, Option, Some, None, Bool, true, false, cond, refl, sym, ap, ◌∙◌}
+use Rattle.std.proofs.Common.{◌≡◌, ℕ, suc, List, [], ◌∷◌, ◌++◌, length, map, Option, Some, None, Bool, true, false, cond, refl, sym, ap}
+use Rattle.std.proofs.Common.{◌∙◌}
 use Rattle.std.specs.Prelude.{nat_lt}
 use Rattle.std.proofs.lemmas.List.{length-map}
 use Rattle.pytree_node.specs.Trees.{Expr, Stmt}
-use Rattle.pygrammar.specs.Lines.{Line, Header, DefHead, if_header, elif_header, else_header, loop_header, with_header, try_header, except_header, finally_header, def_header, match_header, case_header, Form, simple_form, decorator_form, header_form}
+use Rattle.pygrammar.specs.Lines.{Line, Header, DefHead, if_header, elif_header, else_header, loop_header, with_header, try_header}
+use Rattle.pygrammar.specs.Lines.{except_header, finally_header, def_header, match_header, case_header, Form, simple_form, decorator_form}
+use Rattle.pygrammar.specs.Lines.{header_form}
 use Rattle.pygrammar.specs.Blocks.{Fault, ExpectedIndent, UnexpectedIndent, MisplacedClause, same_bool}
-use Rattle.pygrammar.specs.Reading.{Answer, Fine, Faulty, then, Group, Idle, Marked, Choice, Loop, Trial, Caught, Settled, Matching, closes, Part, part, meets, grows, decorated, or_misplaced, place_header, Waiting, waiting, State, state, start, joined}
+use Rattle.pygrammar.specs.Reading.{Answer, Fine, Faulty, then, Group, Idle, Marked, Choice, Loop, Trial, Caught, Settled, Matching, closes}
+use Rattle.pygrammar.specs.Reading.{Part, part, meets, grows, decorated, or_misplaced, place_header, Waiting, waiting, State, state, start}
+use Rattle.pygrammar.specs.Reading.{joined}
 use Rattle.pygrammar.specs.Reading as reading
 use Rattle.pyparse_block.specs.declared.outline.shapes.Shape as bare_shape
 use Rattle.pyparse_block.specs.declared.outline.shapes.Shape.TheVariants as shape
@@ -47,7 +52,8 @@ grown_alike _ (case_header p t) body = refl
 abbrev met : Option Part → Header → Option bare.GroupKind
 met o h = elim o [ None ↦ None | Some p ↦ Some (group_of (grows p.group h []).group) ]
 
-met_new : (g : Group) (h : Header) (b : bare.GroupKind) → group_of (grows Idle h []).group ≡ b → met (reading.ended g) h ≡ ended (group_of g) b
+met_new : (g : Group) (h : Header) (b : bare.GroupKind) → group_of (grows Idle h []).group ≡ b
+    → met (reading.ended g) h ≡ ended (group_of g) b
 met_new (Marked es) h b e = refl
 met_new (Trial body) h b e = refl
 met_new (Matching cs) h b e = refl
@@ -104,7 +110,8 @@ above_alike : (w : Waiting) (done : List Stmt) (g : Group) → open_in (reading.
 above_alike w done (Matching cs) = refl
 above_alike w done g = by_closes (closes g) ∙ ap (λ b. cond b (Some (awaited w)) None) (sym (whole_is g))
   where
-    by_closes : (o : Option (List Stmt)) → open_in (elim o [ None ↦ None | Some ss ↦ Some (joined w.done w.group w.header (done ++ ss)) ]) ≡ cond (is_some o) (Some (awaited w)) None
+    by_closes : (o : Option (List Stmt)) → open_in (elim o [ None ↦ None | Some ss ↦ Some (joined w.done w.group w.header (done ++ ss)) ]) ≡
+        cond (is_some o) (Some (awaited w)) None
     by_closes None = refl
     by_closes (Some ss) = ap Some (grown_alike w.group w.header (done ++ ss))
 
@@ -123,27 +130,34 @@ settle_outlined : (l : ℕ) (done : List Stmt) (g : Group) (fresh : Bool) (below
     outlined (reading.settle_in l done g fresh below) ≡ settle_in l (group_of g) fresh (map awaited below)
 settle_outlined l done g fresh [] = refl
 settle_outlined l done g fresh (w ∷ below) =
-    let gone : Answer State = elim (reading.above w done g) [ None ↦ Faulty MisplacedClause | Some p ↦ reading.settle_in l p.done p.group false below ] in
+    let gone : Answer State = elim (reading.above w done g) [ None ↦ Faulty MisplacedClause
+        | Some p ↦ reading.settle_in l p.done p.group false below ] in
     let here : Answer Levels = Fine (levels (group_of g) fresh (map awaited (w ∷ below))) in
     let ends : outlined gone ≡ left l (map awaited below) (above (group_of g) (awaited w)) =
-    settled l below (reading.above w done g) (λ d h. settle_outlined l d h false below) ∙ ap (left l (map awaited below)) (above_alike w done g) in
+    settled l below (reading.above w done g) (λ d h. settle_outlined l d h false below)
+        ∙ ap (left l (map awaited below)) (above_alike w done g) in
     outlined_cond (nat_lt l (length (w ∷ below))) (cond fresh (Faulty ExpectedIndent) gone) (Fine (state done g fresh (w ∷ below)))
-    ∙ ap (λ a. cond (nat_lt l (length (w ∷ below))) a here) (outlined_cond fresh (Faulty ExpectedIndent) gone ∙ ap (λ a. cond fresh (Faulty ExpectedIndent) a) ends)
-    ∙ ap (λ n. cond (nat_lt l n) (cond fresh (Faulty ExpectedIndent) (left l (map awaited below) (above (group_of g) (awaited w)))) here) (sym (length-map (w ∷ below) awaited))
+    ∙ ap (λ a. cond (nat_lt l (length (w ∷ below))) a here) (outlined_cond fresh (Faulty ExpectedIndent) gone
+        ∙ ap (λ a. cond fresh (Faulty ExpectedIndent) a) ends)
+    ∙ ap (λ n. cond (nat_lt l n) (cond fresh (Faulty ExpectedIndent) (left l (map awaited below) (above (group_of g) (awaited w)))) here)
+        (sym (length-map (w ∷ below) awaited))
 
 -- ---- A line of the deepest level.
 
 -- what a line makes of the levels, by what is then open
 abbrev behind : bare_shape.Shape → Levels → Option bare.GroupKind → Answer Levels
-behind x s o = elim o [ None ↦ Faulty MisplacedClause | Some g ↦ Fine (cond (opens x) (levels (first x) true (g ∷ s.below)) (levels g false s.below)) ]
+behind x s o = elim o [ None ↦ Faulty MisplacedClause
+    | Some g ↦ Fine (cond (opens x) (levels (first x) true (g ∷ s.below)) (levels g false s.below)) ]
 
 simple_outlined : (s : State) (ss : List Stmt) (g : Group) →
-    outlined (or_misplaced (closes g) (λ more. state ((s.done ++ more) ++ ss) Idle false s.below)) ≡ behind shape.Simple (outline s) (next shape.Simple (group_of g))
+    outlined (or_misplaced (closes g) (λ more. state ((s.done ++ more) ++ ss) Idle false s.below)) ≡ behind shape.Simple (outline s)
+        (next shape.Simple (group_of g))
 simple_outlined s ss Idle = refl
 simple_outlined s ss _ = refl
 
 decorator_outlined : (s : State) (e : Expr) (g : Group) →
-    outlined (or_misplaced (decorated g e) (λ p. state (s.done ++ p.done) p.group false s.below)) ≡ behind shape.Decorator (outline s) (next shape.Decorator (group_of g))
+    outlined (or_misplaced (decorated g e) (λ p. state (s.done ++ p.done) p.group false s.below)) ≡ behind shape.Decorator (outline s)
+        (next shape.Decorator (group_of g))
 decorator_outlined s e (Marked es) = refl
 decorator_outlined s e Idle = refl
 decorator_outlined s e _ = refl
@@ -156,14 +170,17 @@ header_outlined : (s : State) (h : Header) (suite : Option (List Stmt)) (o : Opt
     outlined (or_misplaced o (place_header s h suite)) ≡ behind (shape_of (header_form h suite)) (outline s) (met o h)
 header_outlined s h None None = refl
 header_outlined s h (Some ss) None = refl
-header_outlined s h None (Some p) = ap (λ g. Fine (levels g true (awaited (waiting (s.done ++ p.done) p.group h) ∷ map awaited s.below))) (first_alike h)
+header_outlined s h None (Some p) =
+    ap (λ g. Fine (levels g true (awaited (waiting (s.done ++ p.done) p.group h) ∷ map awaited s.below))) (first_alike h)
 header_outlined s h (Some ss) (Some p) = ap (λ g. Fine (levels g false (map awaited s.below))) (grown_alike p.group h ss)
 
 place_outlined : (s : State) (f : Form) → outlined (reading.place s f) ≡ place (shape_of f) (outline s)
 place_outlined s (simple_form ss) = simple_outlined s ss s.group
 place_outlined s (decorator_form e) = decorator_outlined s e s.group
-place_outlined s (header_form h None) = header_outlined s h None (meets s.group h) ∙ ap (behind (shape_of (header_form h None)) (outline s)) (met_is s.group h)
-place_outlined s (header_form h (Some ss)) = header_outlined s h (Some ss) (meets s.group h) ∙ ap (behind (shape_of (header_form h (Some ss))) (outline s)) (met_is s.group h)
+place_outlined s (header_form h None) = header_outlined s h None (meets s.group h)
+    ∙ ap (behind (shape_of (header_form h None)) (outline s)) (met_is s.group h)
+place_outlined s (header_form h (Some ss)) = header_outlined s h (Some ss) (meets s.group h)
+    ∙ ap (behind (shape_of (header_form h (Some ss))) (outline s)) (met_is s.group h)
 
 -- ---- Lines and their end.
 
@@ -180,16 +197,19 @@ then_outlined (Faulty x) f out g e h = e x
 
 pub step_outlined : (s : State) (x : Line) → outlined (reading.step s x) ≡ step x.level (shape_of x.form) (outline s)
 step_outlined s x =
-    then_outlined (reading.settle x.level s) (reading.placed x.level x.form) outlined (placed x.level (shape_of x.form)) (λ e. refl) (placed_outlined x.level x.form)
+    then_outlined (reading.settle x.level s) (reading.placed x.level x.form) outlined (placed x.level (shape_of x.form)) (λ e. refl)
+        (placed_outlined x.level x.form)
     ∙ ap (λ a. then a (placed x.level (shape_of x.form))) (settle_outlined x.level s.done s.group s.fresh s.below)
 
-ended_outlined : (d : List Stmt) (o : Option (List Stmt)) → bare_end (elim o [ None ↦ Faulty MisplacedClause | Some ss ↦ Fine (d ++ ss) ]) ≡ cond (is_some o) (Fine tt) (Faulty MisplacedClause)
+ended_outlined : (d : List Stmt) (o : Option (List Stmt)) → bare_end (elim o [ None ↦ Faulty MisplacedClause | Some ss ↦ Fine (d ++ ss) ]) ≡
+    cond (is_some o) (Fine tt) (Faulty MisplacedClause)
 ended_outlined d None = refl
 ended_outlined d (Some ss) = refl
 
 pub finish_outlined : (s : State) → bare_end (reading.finish s) ≡ finish (outline s)
 finish_outlined s =
-    then_outlined (reading.settle 0 s) (λ t. elim (closes t.group) [ None ↦ Faulty MisplacedClause | Some ss ↦ Fine (t.done ++ ss) ]) bare_end
+    then_outlined (reading.settle 0 s) (λ t. elim (closes t.group) [ None ↦ Faulty MisplacedClause | Some ss ↦ Fine (t.done ++ ss) ])
+        bare_end
     (λ t. cond (is_whole t.group) (Fine tt) (Faulty MisplacedClause)) (λ e. refl)
     (λ t. ended_outlined t.done (closes t.group) ∙ ap (λ b. cond b (Fine tt) (Faulty MisplacedClause)) (sym (whole_is t.group)))
     ∙ ap (λ a. then a (λ t. cond (is_whole t.group) (Fine tt) (Faulty MisplacedClause))) (settle_outlined 0 s.done s.group s.fresh s.below)

@@ -1,5 +1,6 @@
 -- Carries: Levels::settle, Levels::finish, may_end. On: levels that come to their end.
-use Rattle.std.proofs.Common.{◌≡◌, ℕ, ◌<◌, ◌≤◌, List, [], ◌∷◌, ◌++◌, length, reverse, Option, Some, None, Bool, true, false, cond, refl, sym, ap, ◌∙◌, arith}
+use Rattle.std.proofs.Common.{◌≡◌, ℕ, ◌<◌, ◌≤◌, List, [], ◌∷◌, ◌++◌, length, reverse, Option, Some, None, Bool, true, false, cond, refl}
+use Rattle.std.proofs.Common.{sym, ap, ◌∙◌, arith}
 use Rattle.std.specs.Prelude.{nat_lt}
 use borrow.Author.Tests.{ltb-true, lt-ltb}
 use Rattle.std.proofs.lemmas.List.{length-reverse, reverse-append}
@@ -30,7 +31,8 @@ settle_stays l s h =
     elim s.below as (λ b. length b ≤ l → settle_in l s.group s.fresh b ≡ Fine (levels s.group s.fresh b)) [
       | [] ↦ λ h. refl
       | w ∷ below ↦ λ h.
-          ap (λ b. cond b (cond s.fresh (Faulty ExpectedIndent) (left l below (above s.group w))) (Fine (levels s.group s.fresh (w ∷ below)))) (not_less l (length (w ∷ below)) h)
+          ap (λ b. cond b (cond s.fresh (Faulty ExpectedIndent) (left l below (above s.group w)))
+              (Fine (levels s.group s.fresh (w ∷ below)))) (not_less l (length (w ∷ below)) h)
     ] h
 
 -- the deepest of several levels
@@ -48,14 +50,17 @@ settle_fresh l s h f =
       | w ∷ below ↦ λ e n. ends l s w below e h ∙ ap (λ b. cond b (Faulty ExpectedIndent) (left l below (above s.group w))) f
     ] refl h
 
-ends_old : (l : ℕ) (s : Levels) (w : GroupKind) (below : List GroupKind) → s.below ≡ w ∷ below → l < length s.below → s.fresh ≡ false → settle l s ≡ left l below (above s.group w)
+ends_old : (l : ℕ) (s : Levels) (w : GroupKind) (below : List GroupKind) → s.below ≡ w ∷ below → l < length s.below → s.fresh ≡ false
+    → settle l s ≡ left l below (above s.group w)
 ends_old l s w below e h f = ends l s w below e h ∙ ap (λ b. cond b (Faulty ExpectedIndent) (left l below (above s.group w))) f
 
-pub settle_misplaced : (l : ℕ) (s : Levels) (w : GroupKind) (below : List GroupKind) → s.below ≡ w ∷ below → l < length s.below → s.fresh ≡ false → above s.group w ≡ None →
+pub settle_misplaced : (l : ℕ) (s : Levels) (w : GroupKind) (below : List GroupKind) → s.below ≡ w ∷ below → l < length s.below
+    → s.fresh ≡ false → above s.group w ≡ None →
     settle l s ≡ Faulty MisplacedClause
 settle_misplaced l s w below e h f k = ends_old l s w below e h f ∙ ap (left l below) k
 
-pub settle_goes : (l : ℕ) (s : Levels) (w : GroupKind) (below : List GroupKind) (g : GroupKind) → s.below ≡ w ∷ below → l < length s.below → s.fresh ≡ false → above s.group w ≡ Some g →
+pub settle_goes : (l : ℕ) (s : Levels) (w : GroupKind) (below : List GroupKind) (g : GroupKind) → s.below ≡ w ∷ below → l < length s.below
+    → s.fresh ≡ false → above s.group w ≡ Some g →
     settle l s ≡ settle l (levels g s.fresh below)
 settle_goes l s w below g e h f k = ends_old l s w below e h f ∙ ap (left l below) k ∙ ap (λ b. settle_in l g b below) (sym f)
 
@@ -74,7 +79,8 @@ by_end b = cond b (Fine tt) (Faulty MisplacedClause)
 finish_settled : (g : GroupKind) (below : List GroupKind) → finish (levels g false below) ≡ by_end (may_end g below)
 finish_settled g [] = refl
 finish_settled g (w ∷ below) =
-    ap (λ a. then a (λ t. by_end (is_whole t.group))) (ends 0 (levels g false (w ∷ below)) w below refl (omega arith)) ∙ by_above (above g w) (λ h. finish_settled h below)
+    ap (λ a. then a (λ t. by_end (is_whole t.group))) (ends 0 (levels g false (w ∷ below)) w below refl (omega arith))
+        ∙ by_above (above g w) (λ h. finish_settled h below)
   where
     by_above : (o : Option GroupKind) → ((h : GroupKind) → finish (levels h false below) ≡ by_end (may_end h below)) →
         then (left 0 below o) (λ t. by_end (is_whole t.group)) ≡ by_end (elim o [ None ↦ false | Some h ↦ may_end h below ])
@@ -83,11 +89,15 @@ finish_settled g (w ∷ below) =
 
 finish_is : (s : Levels) → finish s ≡ cond (awaits_block s) (Faulty ExpectedIndent) (by_end (may_end s.group s.below))
 finish_is s =
-    elim s.fresh as (λ f. finish (levels s.group f s.below) ≡ cond (awaits_block (levels s.group f s.below)) (Faulty ExpectedIndent) (by_end (may_end s.group s.below))) [
-      | false ↦ finish_settled s.group s.below ∙ ap (λ b. cond b (Faulty ExpectedIndent) (by_end (may_end s.group s.below))) (sym (awaits_none s.group s.below))
-      | true ↦ elim s.below as (λ b. finish (levels s.group true b) ≡ cond (awaits_block (levels s.group true b)) (Faulty ExpectedIndent) (by_end (may_end s.group b))) [
+    elim s.fresh as (λ f. finish (levels s.group f s.below) ≡ cond (awaits_block (levels s.group f s.below)) (Faulty ExpectedIndent)
+        (by_end (may_end s.group s.below))) [
+      | false ↦ finish_settled s.group s.below ∙ ap (λ b. cond b (Faulty ExpectedIndent) (by_end (may_end s.group s.below)))
+          (sym (awaits_none s.group s.below))
+      | true ↦ elim s.below as (λ b. finish (levels s.group true b) ≡ cond (awaits_block (levels s.group true b)) (Faulty ExpectedIndent)
+          (by_end (may_end s.group b))) [
         | [] ↦ refl
-        | w ∷ below ↦ ap (λ a. then a (λ t. by_end (is_whole t.group))) (ends 0 (levels s.group true (w ∷ below)) w below refl (omega arith))
+        | w ∷ below ↦ ap (λ a. then a (λ t. by_end (is_whole t.group)))
+            (ends 0 (levels s.group true (w ∷ below)) w below refl (omega arith))
       ]
     ]
   where

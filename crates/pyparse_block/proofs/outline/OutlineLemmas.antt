@@ -53,7 +53,8 @@ step_of xs o l f k =
     let r = reads (run xs start) (levels_of o.levels) k.read in
     step_outlined r.state (line l f) ∙ ap (step l (shape_of f)) r.kept
 
-counted_by : (l : ℕ) (x y : Shape) (ds es new : List Depth) (deep : Bool) → x ≡ y → ds ≡ es → Counts l x ds new deep → Counts l y es new deep
+counted_by : (l : ℕ) (x y : Shape) (ds es new : List Depth) (deep : Bool) → x ≡ y → ds ≡ es → Counts l x ds new deep
+    → Counts l y es new deep
 counted_by l x y ds es new deep e d c =
     let P : Shape → Type 0 = λ z. Counts l z es new deep in
     let Q : List Depth → Type 0 = λ z. Counts l x z new deep in
@@ -61,28 +62,34 @@ counted_by l x y ds es new deep e d c =
 
 -- a line more
 pub follows_on : (xs : List Line) (old new : Outline) (l : ℕ) (f : Form) (x : Shape) (deep : Bool) → x ≡ shape_of f → Follows xs old →
-    step l x (levels_of old.levels) ≡ Fine (levels_of new.levels) → Counts l x (lasts_of old.depths.lasts.items) (lasts_of new.depths.lasts.items) deep → Follows (xs ++ line l f ∷ []) new
+    step l x (levels_of old.levels) ≡ Fine (levels_of new.levels)
+        → Counts l x (lasts_of old.depths.lasts.items) (lasts_of new.depths.lasts.items) deep → Follows (xs ++ line l f ∷ []) new
 follows_on xs old new l f x deep e k s c =
     let r = reads (run xs start) (levels_of old.levels) k.read in
-    let t = reads (reading.step r.state (line l f)) (levels_of new.levels) (step_of xs old l f k ∙ ap (λ z. step l z (levels_of old.levels)) (sym e) ∙ s) in
+    let t = reads (reading.step r.state (line l f)) (levels_of new.levels) (step_of xs old l f k
+        ∙ ap (λ z. step l z (levels_of old.levels)) (sym e) ∙ s) in
     record {
       read = ap outlined (step_on xs (line l f) r.state t.state r.is t.is) ∙ ap Fine t.kept;
-      counted = line_counted l f (count [] xs) (lasts_of new.depths.lasts.items) deep (counted_by l x (shape_of f) _ _ (lasts_of new.depths.lasts.items) deep e k.counted c)
+      counted = line_counted l f (count [] xs) (lasts_of new.depths.lasts.items) deep
+          (counted_by l x (shape_of f) _ _ (lasts_of new.depths.lasts.items) deep e k.counted c)
           ∙ ap (map capped) (sym (count_on [] xs (line l f)));
     }
 
 -- and whether a statement begins in it that stands too deep
-pub deep_told : (xs : List Line) (old : Outline) (new : List Depth) (l : ℕ) (f : Form) (x : Shape) (deep : Bool) → x ≡ shape_of f → Follows xs old →
+pub deep_told : (xs : List Line) (old : Outline) (new : List Depth) (l : ℕ) (f : Form) (x : Shape) (deep : Bool)
+    → x ≡ shape_of f → Follows xs old →
     Counts l x (lasts_of old.depths.lasts.items) new deep → deep ≡ is_deep (innermost (line l f) (count [] xs))
 deep_told xs old new l f x deep e k c = line_deep l f (count [] xs) new deep (counted_by l x (shape_of f) _ _ new deep e k.counted c)
 
 -- a line that is refused is the first faulty one
-pub line_blamed : (xs more : List Line) (o : Outline) (l : ℕ) (f : Form) (e : BlockStop) → Follows xs o → Tells (step l (shape_of f) (levels_of o.levels)) e →
+pub line_blamed : (xs more : List Line) (o : Outline) (l : ℕ) (f : Form) (e : BlockStop) → Follows xs o
+    → Tells (step l (shape_of f) (levels_of o.levels)) e →
     Blames (xs ++ line l f ∷ more) (line l f ∷ more) e
 line_blamed xs more o l f stop.Memory k t = tt
 line_blamed xs more o l f (stop.Faulty x) k t =
     let r = reads (run xs start) (levels_of o.levels) k.read in
-    fault_found xs (line l f) r.state (fault_of x) r.is (faulty (reading.step r.state (line l f)) (fault_of x) (step_of xs o l f k ∙ t)) more
+    fault_found xs (line l f) r.state (fault_of x) r.is (faulty (reading.step r.state (line l f)) (fault_of x) (step_of xs o l f k ∙ t))
+        more
 
 finish_of : (xs : List Line) (o : Outline) → (k : Follows xs o) →
     bare_end (reading.finish (reads (run xs start) (levels_of o.levels) k.read).state) ≡ finish (levels_of o.levels)
@@ -98,7 +105,8 @@ end_blamed xs o (stop.Faulty x) k t =
     end_fault_found xs r.state (fault_of x) r.is (ends_faulty (reading.finish r.state) (fault_of x) (finish_of xs o k ∙ t))
 
 -- lines that come to their end are statements
-pub end_read : (xs : List Line) (o : Outline) → are_proper xs ≡ true → Follows xs o → finish (levels_of o.levels) ≡ Fine tt → (ss : List Stmt) × Block 0 xs ss
+pub end_read : (xs : List Line) (o : Outline) → are_proper xs ≡ true → Follows xs o → finish (levels_of o.levels) ≡ Fine tt
+    → (ss : List Stmt) × Block 0 xs ss
 end_read xs o p k t =
     let r = reads (run xs start) (levels_of o.levels) k.read in
     let e = ends (reading.finish r.state) (finish_of xs o k ∙ t) in

@@ -1,9 +1,11 @@
 -- What ends, and what a header goes on with.
 use Rattle.std.specs.Prelude.{Bool, true, false, List, ◌++◌, Some, None}
 use Rattle.pytree_node.specs.Trees.{Expr, Stmt}
-use Rattle.pygrammar.specs.Lines.{Header, if_header, elif_header, else_header, loop_header, with_header, try_header, except_header, finally_header, def_header, match_header, case_header}
+use Rattle.pygrammar.specs.Lines.{Header, if_header, elif_header, else_header, loop_header, with_header, try_header, except_header}
+use Rattle.pygrammar.specs.Lines.{finally_header, def_header, match_header, case_header}
 use Rattle.pygrammar.specs.Blocks.{MisplacedClause, same_bool}
-use Rattle.pygrammar.specs.Reading.{Answer, Fine, Faulty, Group, Marked, Choice, Loop, Trial, Caught, Settled, Matching, Part, part, closes, meets, decorated}
+use Rattle.pygrammar.specs.Reading.{Answer, Fine, Faulty, Group, Marked, Choice, Loop, Trial, Caught, Settled, Matching, Part, part, closes}
+use Rattle.pygrammar.specs.Reading.{meets, decorated}
 
 -- the statements of a level whose group ends
 abbrev pub closed : List Stmt → Group → Answer (List Stmt)

@@ -1,6 +1,7 @@
 -- Lines without the trees.
 use Rattle.std.specs.Prelude.{Some, None}
-use Rattle.pygrammar.specs.Lines.{Header, if_header, elif_header, else_header, loop_header, with_header, try_header, except_header, finally_header, def_header, match_header, case_header, Form, simple_form, decorator_form, header_form}
+use Rattle.pygrammar.specs.Lines.{Header, if_header, elif_header, else_header, loop_header, with_header, try_header, except_header}
+use Rattle.pygrammar.specs.Lines.{finally_header, def_header, match_header, case_header, Form, simple_form, decorator_form, header_form}
 use Rattle.pyparse_block.specs.declared.outline.shapes.Clause.{Clause}
 use Rattle.pyparse_block.specs.declared.outline.shapes.Clause.TheVariants as clause
 use Rattle.pyparse_block.specs.declared.outline.shapes.Shape.{Shape}

@@ -101,7 +101,8 @@ decreases-slices::read_slices l = 2 ^ 65 * (20 * l.depth.steps + 9)
 abbrev pub invariant-climbing::climb-loop-o : goal.invariant-climbing::climb-loop-o
 invariant-climbing::climb-loop-o l = record {
   ahead : l.at + 1 ≤ l.left.next;
-  is : Climbs l.tokens l.depth l.least (capped_climb l.depth.room (reads l.depth) (same_reads l.depth) (inner_reads l.depth) l.least (seen l.tokens l.at)) l.left;
+  is : Climbs l.tokens l.depth l.least (capped_climb l.depth.room (reads l.depth) (same_reads l.depth) (inner_reads l.depth) l.least
+      (seen l.tokens l.at)) l.left;
 }
 
 abbrev pub decreases-climbing::climb-loop-o : goal.decreases-climbing::climb-loop-o
@@ -158,7 +159,8 @@ decreases-chains::links-sides l = length l.tokens - l.items.next
 abbrev pub invariant-chains::compare-sides : goal.invariant-chains::compare-sides
 invariant-chains::compare-sides l = record {
   ahead : l.fn.left.next ≤ l.items.next;
-  is : Sides l.tokens l.depth (tree_of l.fn.left.expr.value) (operation (inner_reads l.depth) (tree_of l.fn.left.expr.value) precedence.Compares (seen l.tokens l.fn.left.next) (seen l.tokens (l.fn.left.next + 1))) l.ops.items l.items;
+  is : Sides l.tokens l.depth (tree_of l.fn.left.expr.value) (operation (inner_reads l.depth) (tree_of l.fn.left.expr.value)
+      precedence.Compares (seen l.tokens l.fn.left.next) (seen l.tokens (l.fn.left.next + 1))) l.ops.items l.items;
 }
 
 abbrev pub decreases-chains::compare-sides : goal.decreases-chains::compare-sides
@@ -340,7 +342,9 @@ abbrev pub invariant-strings::more_literals-more : goal.invariant-strings::more_
 invariant-strings::more_literals-more l = record {
   ahead : l.fn.before.next ≤ l.values.next;
   within : l.values.next ≤ length l.tokens;
-  is : (acc : List StringPart) → state_of l.fn.before ≡ gathered l.unicode acc → Literals l.tokens l.depth l.unicode (literals_loop (inner_reads l.depth) l.unicode (length (seen l.tokens l.fn.before.next)) acc (seen l.tokens l.fn.before.next)) l.values;
+  is : (acc : List StringPart) → state_of l.fn.before ≡ gathered l.unicode acc
+      → Literals l.tokens l.depth l.unicode (literals_loop (inner_reads l.depth) l.unicode (length (seen l.tokens l.fn.before.next)) acc
+      (seen l.tokens l.fn.before.next)) l.values;
 }
 
 abbrev pub decreases-strings::more_literals-more : goal.decreases-strings::more_literals-more
@@ -350,7 +354,8 @@ abbrev pub invariant-strings::read_parts-parts : goal.invariant-strings::read_pa
 invariant-strings::read_parts-parts l = record {
   ahead : l.fn.before.next ≤ l.values.next;
   within : l.values.next ≤ length l.tokens;
-  is : (most : ℕ) (acc : List StringPart) → length (seen l.tokens l.fn.before.next) ≤ most → state_of l.fn.before ≡ gathered l.unicode acc → Parts l.tokens l.depth l.unicode (parts_loop (inner_reads l.depth) l.unicode most acc (seen l.tokens l.fn.before.next)) l.values;
+  is : (most : ℕ) (acc : List StringPart) → length (seen l.tokens l.fn.before.next) ≤ most → state_of l.fn.before ≡ gathered l.unicode acc
+      → Parts l.tokens l.depth l.unicode (parts_loop (inner_reads l.depth) l.unicode most acc (seen l.tokens l.fn.before.next)) l.values;
 }
 
 abbrev pub decreases-strings::read_parts-parts : goal.decreases-strings::read_parts-parts

@@ -26,12 +26,15 @@ pub failed_then : {A B : Type 0} (s : Stop) (x : Answer A) (k : A → List Termi
 failed_then s x k h = Reading.failed_then s x k h
 
 -- a choice by a test on the first terminal
-pub first_miss : {A B : Type 0} (f : Terminal → Option A) (r : List Terminal) (hit : A → List Terminal → B) (miss : B) → None ≡ first_is f r → on_first f r hit miss ≡ miss
+pub first_miss : {A B : Type 0} (f : Terminal → Option A) (r : List Terminal) (hit : A → List Terminal → B) (miss : B) → None ≡ first_is f r
+    → on_first f r hit miss ≡ miss
 first_miss f r hit miss h = Reading.first_miss f r hit miss h
 
-pub first_hit : {A B : Type 0} (f : Terminal → Option A) (r : List Terminal) (a : A) (hit : A → List Terminal → B) (miss : B) → Some a ≡ first_is f r → on_first f r hit miss ≡ hit a (drop 1 r)
+pub first_hit : {A B : Type 0} (f : Terminal → Option A) (r : List Terminal) (a : A) (hit : A → List Terminal → B) (miss : B)
+    → Some a ≡ first_is f r → on_first f r hit miss ≡ hit a (drop 1 r)
 first_hit f r a hit miss h = Reading.first_hit f r a hit miss h
 
 -- a choice by a name and a sign behind it
-pub name_miss : {B : Type 0} (s : Exact) (ts : List given.Terminal) (at : ℕ) (hit : List ℕ → List Terminal → B) (miss : B) → IsNotNamed s ts at → on_name_with s (seen ts at) hit miss ≡ miss
+pub name_miss : {B : Type 0} (s : Exact) (ts : List given.Terminal) (at : ℕ) (hit : List ℕ → List Terminal → B) (miss : B)
+    → IsNotNamed s ts at → on_name_with s (seen ts at) hit miss ≡ miss
 name_miss s ts at hit miss h = LevelSteps.name_miss s ts at hit miss h

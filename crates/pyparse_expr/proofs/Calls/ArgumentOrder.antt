@@ -35,26 +35,32 @@ unfolding exprs_before
 exprs_snoc [] e r = refl
 exprs_snoc (x ∷ xs) e r = ap (λ z. an_expr x z) (exprs_snoc xs e r)
 
-keywords_snoc : (ks : List Keyword) (k : Keyword) (r : Keywords) → keywords_before ks (a_keyword k.arg k.value r) ≡ keywords_before (ks ++ (k ∷ [])) r
+keywords_snoc : (ks : List Keyword) (k : Keyword) (r : Keywords) → keywords_before ks (a_keyword k.arg k.value r) ≡
+    keywords_before (ks ++ (k ∷ [])) r
 unfolding keywords_before
 keywords_snoc [] k r = refl
 keywords_snoc (x ∷ ks) k r = ap (λ z. a_keyword x.arg x.value z) (keywords_snoc ks k r)
 
 -- behind some that were read
-args_behind : (k d w : Bool) (xs : List Expr) (ks : List Keyword) (es : List Entry) → exprs_before xs (positional es) ≡ exprs (args_in (steps (state k d w xs ks) es))
+args_behind : (k d w : Bool) (xs : List Expr) (ks : List Keyword) (es : List Entry)
+    → exprs_before xs (positional es) ≡ exprs (args_in (steps (state k d w xs ks) es))
 args_behind k d w xs ks [] = exprs_all xs
 args_behind k d w xs ks (Single e ∷ es) = exprs_snoc xs e (positional es) ∙ args_behind _ _ _ (xs ++ (e ∷ [])) ks es
-args_behind k d w xs ks (Spread e ∷ es) = exprs_snoc xs (Trees.Starred e Load) (positional es) ∙ args_behind _ _ _ (xs ++ (Trees.Starred e Load ∷ [])) ks es
+args_behind k d w xs ks (Spread e ∷ es) = exprs_snoc xs (Trees.Starred e Load) (positional es)
+    ∙ args_behind _ _ _ (xs ++ (Trees.Starred e Load ∷ [])) ks es
 args_behind k d w xs ks (Keyed x e ∷ es) = args_behind true d w xs (ks ++ (record { arg = Some x; value = e } ∷ [])) es
 args_behind k d w xs ks (Doubled e ∷ es) = args_behind true true w xs (ks ++ (record { arg = None; value = e } ∷ [])) es
 args_behind k d w xs ks (_ ∷ es) = args_behind k d true xs ks es
 
-keywords_behind : (k d w : Bool) (xs : List Expr) (ks : List Keyword) (es : List Entry) → keywords_before ks (rule.keywords es) ≡ Trees.keywords (keywords_in (steps (state k d w xs ks) es))
+keywords_behind : (k d w : Bool) (xs : List Expr) (ks : List Keyword) (es : List Entry)
+    → keywords_before ks (rule.keywords es) ≡ Trees.keywords (keywords_in (steps (state k d w xs ks) es))
 keywords_behind k d w xs ks [] = keywords_all ks
 keywords_behind k d w xs ks (Single e ∷ es) = keywords_behind _ _ _ (xs ++ (e ∷ [])) ks es
 keywords_behind k d w xs ks (Spread e ∷ es) = keywords_behind _ _ _ (xs ++ (Trees.Starred e Load ∷ [])) ks es
-keywords_behind k d w xs ks (Keyed x e ∷ es) = keywords_snoc ks (record { arg = Some x; value = e }) (rule.keywords es) ∙ keywords_behind true d w xs (ks ++ (record { arg = Some x; value = e } ∷ [])) es
-keywords_behind k d w xs ks (Doubled e ∷ es) = keywords_snoc ks (record { arg = None; value = e }) (rule.keywords es) ∙ keywords_behind true true w xs (ks ++ (record { arg = None; value = e } ∷ [])) es
+keywords_behind k d w xs ks (Keyed x e ∷ es) = keywords_snoc ks (record { arg = Some x; value = e }) (rule.keywords es)
+    ∙ keywords_behind true d w xs (ks ++ (record { arg = Some x; value = e } ∷ [])) es
+keywords_behind k d w xs ks (Doubled e ∷ es) = keywords_snoc ks (record { arg = None; value = e }) (rule.keywords es)
+    ∙ keywords_behind true true w xs (ks ++ (record { arg = None; value = e } ∷ [])) es
 keywords_behind k d w xs ks (_ ∷ es) = keywords_behind k d true xs ks es
 
 wrong_behind : (k d : Bool) (xs : List Expr) (ks : List Keyword) (es : List Entry) → wrong_in (steps (state k d true xs ks) es) ≡ true
@@ -68,7 +74,8 @@ wrong_behind k d xs ks (_ ∷ es) = wrong_behind k d xs ks es
 spoilt : (k d : Bool) (xs : List Expr) (ks : List Keyword) (es : List Entry) → false ≡ not (wrong_in (steps (state k d true xs ks) es))
 spoilt k d xs ks es = sym (ap (λ w. not w) (wrong_behind k d xs ks es))
 
-order_behind : (k d : Bool) (xs : List Expr) (ks : List Keyword) (es : List Entry) → in_order k d es ≡ not (wrong_in (steps (state k d false xs ks) es))
+order_behind : (k d : Bool) (xs : List Expr) (ks : List Keyword) (es : List Entry)
+    → in_order k d es ≡ not (wrong_in (steps (state k d false xs ks) es))
 order_behind k d xs ks [] = refl
 order_behind false d xs ks (Single e ∷ es) = order_behind false d (xs ++ (e ∷ [])) ks es
 order_behind true true xs ks (Single e ∷ es) = spoilt true true (xs ++ (e ∷ [])) ks es
@@ -95,9 +102,11 @@ pub keywords_steps : (es : List Entry) → rule.keywords es ≡ Trees.keywords (
 unfolding keywords_before
 keywords_steps es = keywords_behind false false false [] [] es
 
-outcome_is : (f : Expr) (s : State) → cond (not (wrong_in s)) (Some (Trees.Call f (exprs (args_in s)) (Trees.keywords (keywords_in s)))) None ≡ outcome f s
+outcome_is : (f : Expr) (s : State)
+    → cond (not (wrong_in s)) (Some (Trees.Call f (exprs (args_in s)) (Trees.keywords (keywords_in s)))) None ≡ outcome f s
 outcome_is f (state k d true xs ks) = refl
 outcome_is f (state k d false xs ks) = refl
 
 pub called_steps : (f : Expr) (es : List Entry) → called f es ≡ outcome f (steps start es)
-called_steps f es = (λ i. cond (order_steps es i) (Some (Trees.Call f (args_steps es i) (keywords_steps es i))) None) ∙ outcome_is f (steps start es)
+called_steps f es = (λ i. cond (order_steps es i) (Some (Trees.Call f (args_steps es i) (keywords_steps es i))) None)
+    ∙ outcome_is f (steps start es)

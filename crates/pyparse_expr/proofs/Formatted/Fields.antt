@@ -1,7 +1,8 @@
 -- The parts of an f-string one by one: texts, and fields with their format specs.
 --
 -- Carries: with_part, read_field, read_spec, string_atom, formatted_atom. On: Formatted.Values, Reading.
-use Rattle.std.proofs.Common.{◌≡◌, refl, sym, ap, ◌∙◌, arith, ℕ, ◌+◌, ◌≤◌, ◌<◌, List, [], length, drop, Option, Some, None, Bool, false, Result, Ok, Err, MatchResult}
+use Rattle.std.proofs.Common.{◌≡◌, refl, sym, ap, ◌∙◌, arith, ℕ, ◌+◌, ◌≤◌, ◌<◌, List, [], length, drop, Option, Some, None, Bool, false}
+use Rattle.std.proofs.Common.{Result, Ok, Err, MatchResult}
 use Rattle.pylex_lexeme.specs.declared.kinds.Exact.TheVariants.{LPar}
 use Rattle.pyfstring.specs.declared.parts.Conversion.{Conversion}
 use Rattle.pytree_node.specs.Trees
@@ -40,7 +41,9 @@ module _ (ts : List given.Terminal) (d : Depth) (u : Bool) (most : ℕ) where
 
   -- one part behind others
   module _ (before : JoinedValues) (w : before.next < length ts) where
-    pub text_added : (p : TextPiece) (points : List ℕ) (z : Result JoinedValues Stop) → points ≡ text_points (text_part p) → MatchResult z (λ j. Gathers (step u (state_of before) (Text points)) (before.next + 1) j) (λ s. s ≡ stop.Memory) → PartAdded u ts (before.next + 1) before (part_reads (inner_reads d) u most (part.Text p) (seen ts (before.next + 1))) z
+    pub text_added : (p : TextPiece) (points : List ℕ) (z : Result JoinedValues Stop) → points ≡ text_points (text_part p)
+        → MatchResult z (λ j. Gathers (step u (state_of before) (Text points)) (before.next + 1) j) (λ s. s ≡ stop.Memory)
+        → PartAdded u ts (before.next + 1) before (part_reads (inner_reads d) u most (part.Text p) (seen ts (before.next + 1))) z
     text_added p points (Ok j) q g = record {
       ahead = omega (arith, g.next_is);
       within = omega (arith, w, g.next_is);
@@ -54,20 +57,27 @@ module _ (ts : List given.Terminal) (d : Depth) (u : Bool) (most : ℕ) where
       abbrev field : Answer Expr
       field = field_with (inner_reads d) parts u c (seen ts (before.next + 1))
 
-      pub field_wrong : (e : Stop) → Failed e field → Failed e (part_reads (inner_reads d) u most (part.Field c) (seen ts (before.next + 1)))
+      pub field_wrong : (e : Stop) → Failed e field
+          → Failed e (part_reads (inner_reads d) u most (part.Field c) (seen ts (before.next + 1)))
       field_wrong e f = failed_then e field (λ f s. Found (Field f) s) f
 
-      field_added : (r : Read) (z : Result JoinedValues Stop) → PartAt ts (before.next + 1) field (tree_of r.expr.value) r.next → MatchResult z (λ j. Gathers (step u (state_of before) (Field (tree_of r.expr.value))) r.next j) (λ s. s ≡ stop.Memory) → PartAdded u ts (before.next + 1) before (part_reads (inner_reads d) u most (part.Field c) (seen ts (before.next + 1))) z
+      field_added : (r : Read) (z : Result JoinedValues Stop) → PartAt ts (before.next + 1) field (tree_of r.expr.value) r.next
+          → MatchResult z (λ j. Gathers (step u (state_of before) (Field (tree_of r.expr.value))) r.next j) (λ s. s ≡ stop.Memory)
+          → PartAdded u ts (before.next + 1) before (part_reads (inner_reads d) u most (part.Field c) (seen ts (before.next + 1))) z
       field_added r (Ok j) f g = record {
         ahead = omega (arith, f.ahead, g.next_is);
         within = omega (arith, f.within, g.next_is);
         one = Field (tree_of r.expr.value);
-        is = ap (λ y. and_then y (λ f s. Found (Field f) s)) f.is ∙ ap (λ n. Found (Field (tree_of r.expr.value)) (seen ts n)) (sym g.next_is);
+        is = ap (λ y. and_then y (λ f s. Found (Field f) s)) f.is
+            ∙ ap (λ n. Found (Field (tree_of r.expr.value)) (seen ts n)) (sym g.next_is);
         gives = g.is;
       }
       field_added r (Err s) f g = rw g tt
 
-      pub field_put : (p : Part) (r : Read) (z : Result JoinedValues Stop) → p ≡ part.Field c → PartAt ts (before.next + 1) field (tree_of r.expr.value) r.next → MatchResult z (λ j. Gathers (step u (state_of before) (Field (tree_of r.expr.value))) r.next j) (λ s. s ≡ stop.Memory) → PartAdded u ts (before.next + 1) before (part_reads (inner_reads d) u most p (seen ts (before.next + 1))) z
+      pub field_put : (p : Part) (r : Read) (z : Result JoinedValues Stop) → p ≡ part.Field c
+          → PartAt ts (before.next + 1) field (tree_of r.expr.value) r.next
+          → MatchResult z (λ j. Gathers (step u (state_of before) (Field (tree_of r.expr.value))) r.next j) (λ s. s ≡ stop.Memory)
+          → PartAdded u ts (before.next + 1) before (part_reads (inner_reads d) u most p (seen ts (before.next + 1))) z
       field_put p r z q f g = rw q (field_added r z f g)
 
   -- a format spec, or none
@@ -85,13 +95,17 @@ module _ (ts : List given.Terminal) (d : Depth) (u : Bool) (most : ℕ) where
       pub spec_failed : (e : Stop) → Failed e (parts (seen ts (at + 1))) → Failed e (spec_with parts u (seen ts at))
       spec_failed e f = rw spec_is (failed_then e _ closing f)
 
-      pub spec_made : (j : JoinedValues) (r : Read) → PartsAt u ts (at + 1) (parts (seen ts (at + 1))) j → IsNode (Trees.JoinedStr (exprs (ended false (state_of j)))) j.next r → PartAt ts at (spec_with parts u (seen ts at)) (present (tree_of r.expr.value)) r.next
+      pub spec_made : (j : JoinedValues) (r : Read) → PartsAt u ts (at + 1) (parts (seen ts (at + 1))) j
+          → IsNode (Trees.JoinedStr (exprs (ended false (state_of j)))) j.next r
+          → PartAt ts at (spec_with parts u (seen ts at)) (present (tree_of r.expr.value)) r.next
       spec_made j r f k =
-          let tree : tree_of r.expr.value ≡ Trees.JoinedStr (spec_values_of u (merged f.parts)) = k.tree ∙ ap (λ s. Trees.JoinedStr (exprs (ended false s))) f.gives ∙ ap (λ es. Trees.JoinedStr es) (spec_values u f.parts) in
+          let tree : tree_of r.expr.value ≡ Trees.JoinedStr (spec_values_of u (merged f.parts)) = k.tree
+              ∙ ap (λ s. Trees.JoinedStr (exprs (ended false s))) f.gives ∙ ap (λ es. Trees.JoinedStr es) (spec_values u f.parts) in
           record {
             ahead = omega (arith, f.ahead, k.next_is);
             within = omega (arith, f.within, k.next_is);
-            is = spec_is ∙ ap (λ y. and_then y closing) f.is ∙ ap (λ t. Found (present t) (seen ts j.next)) (sym tree) ∙ ap (λ n. Found (present (tree_of r.expr.value)) (seen ts n)) (sym k.next_is);
+            is = spec_is ∙ ap (λ y. and_then y closing) f.is ∙ ap (λ t. Found (present t) (seen ts j.next)) (sym tree)
+                ∙ ap (λ n. Found (present (tree_of r.expr.value)) (seen ts n)) (sym k.next_is);
           }
 
   -- a field, from behind its begin
@@ -110,7 +124,8 @@ module _ (ts : List given.Terminal) (d : Depth) (u : Bool) (most : ℕ) where
       behind e r1 = and_then (spec_with parts u r1) (ending e)
 
       field_is : whole ≡ and_then (inner_reads d level.Atom (seen ts at)) behind
-      field_is = first_hit (is_op LPar) (seen ts at) 0 (λ _ _. and_then (inner_reads d level.Atom (seen ts at)) behind) NoForm (sym (ap (λ r. first_is (is_op LPar) r) p.is))
+      field_is = first_hit (is_op LPar) (seen ts at) 0 (λ _ _. and_then (inner_reads d level.Atom (seen ts at)) behind) NoForm
+          (sym (ap (λ r. first_is (is_op LPar) r) p.is))
 
       pub value_failed : (e : Stop) → Failed e (inner_reads d level.Atom (seen ts at)) → Failed e whole
       value_failed e f = rw field_is (failed_then e _ behind f)
@@ -129,20 +144,26 @@ module _ (ts : List given.Terminal) (d : Depth) (u : Bool) (most : ℕ) where
           pub field_open : None ≡ first_is is_field_end (seen ts o.next) → whole ≡ NoForm
           field_open n = ending_is ∙ first_miss is_field_end (seen ts o.next) _ _ n
 
-          pub field_made : (z : Result Read Stop) → Stands FieldEnd ts o.next → MatchResult z (λ r. IsNode (Trees.FormattedValue (tree_of v.expr.value) c (optional (boxed_of o.expr))) (o.next + 1) r) (λ s. s ≡ stop.Memory) → PartAnswered ts at whole (λ r. tree_of r.expr.value) (λ r. r.next) z
+          pub field_made : (z : Result Read Stop) → Stands FieldEnd ts o.next
+              → MatchResult z (λ r. IsNode (Trees.FormattedValue (tree_of v.expr.value) c (optional (boxed_of o.expr))) (o.next + 1) r)
+              (λ s. s ≡ stop.Memory) → PartAnswered ts at whole (λ r. tree_of r.expr.value) (λ r. r.next) z
           field_made (Ok r) s k = record {
             ahead = omega (arith, f.ahead, g.ahead, k.next_is);
             within = omega (arith, s.within, k.next_is);
-            is = ending_is ∙ ap (λ i. ending (tree_of v.expr.value) (optional (boxed_of o.expr)) i) s.is ∙ ap (λ t. Found t (seen ts (o.next + 1))) (sym k.tree) ∙ ap (λ n. Found (tree_of r.expr.value) (seen ts n)) (sym k.next_is);
+            is = ending_is ∙ ap (λ i. ending (tree_of v.expr.value) (optional (boxed_of o.expr)) i) s.is
+                ∙ ap (λ t. Found t (seen ts (o.next + 1))) (sym k.tree)
+                ∙ ap (λ n. Found (tree_of r.expr.value) (seen ts n)) (sym k.next_is);
           }
           field_made (Err s) m k = rw k tt
 
 -- what is read is an answer within the room
-pub lowered_answer : (ts : List given.Terminal) (room at : ℕ) (x : Answer Expr) (e : Read) (z : Result Read Stop) → PartAt ts at x (tree_of e.expr.value) e.next → Lowers room e z → Answered ts room at (cap room x) z
+pub lowered_answer : (ts : List given.Terminal) (room at : ℕ) (x : Answer Expr) (e : Read) (z : Result Read Stop)
+    → PartAt ts at x (tree_of e.expr.value) e.next → Lowers room e z → Answered ts room at (cap room x) z
 lowered_answer ts room at x e (Ok r) f l = rw l.same (record {
   ahead = f.ahead;
   within = f.within;
   low = l.low;
   is = ap (λ y. cap room y) f.is ∙ cap_low room (tree_of e.expr.value) (seen ts e.next) (omega (arith, l.low, e.is_height));
 })
-lowered_answer ts room at x e (Err s) f l = rw l.why (ap (λ y. cap room y) f.is ∙ cap_high room (tree_of e.expr.value) (seen ts e.next) (omega (arith, l.high, e.is_height)))
+lowered_answer ts room at x e (Err s) f l =
+    rw l.why (ap (λ y. cap room y) f.is ∙ cap_high room (tree_of e.expr.value) (seen ts e.next) (omega (arith, l.high, e.is_height)))

@@ -44,11 +44,13 @@ text_alone : (u w : Bool) (t : List ℕ) → list_by u w (with_text t []) ≡ co
 text_alone u w [] = refl
 text_alone u w (c ∷ t) = refl
 
-text_in_front : (u w : Bool) (t : List ℕ) (e : Expr) (ps : List StringPart) → list_by u w (with_text t (Field e ∷ ps)) ≡ constants u t ++ (e ∷ list_by u w ps)
+text_in_front : (u w : Bool) (t : List ℕ) (e : Expr) (ps : List StringPart) → list_by u w (with_text t (Field e ∷ ps)) ≡ constants u
+    t ++ (e ∷ list_by u w ps)
 text_in_front u w [] e ps = refl
 text_in_front u w (c ∷ t) e ps = refl
 
-ended_steps : (u w : Bool) (vs : List Expr) (t : List ℕ) (ps : List StringPart) → ended w (steps u (state vs t) ps) ≡ vs ++ list_by u w (with_text t (merged ps))
+ended_steps : (u w : Bool) (vs : List Expr) (t : List ℕ) (ps : List StringPart) → ended w (steps u (state vs t) ps) ≡ vs ++ list_by u w
+    (with_text t (merged ps))
 ended_steps u w vs t [] = ap (λ z. vs ++ z) (sym (text_alone u w t))
 ended_steps u w vs t (Text s ∷ ps) = ended_steps u w vs (t ++ s) ps ∙ ap (λ z. vs ++ list_by u w z) (two_texts t s (merged ps))
 ended_steps u w vs t (Field e ∷ ps) =

@@ -1,7 +1,8 @@
 -- The pairs of a dictionary, with commas between them.
 --
 -- Carries: put_pair, starts_pair, more_pairs. On: Reading, Pushes.
-use Rattle.std.proofs.Common.{◌≡◌, refl, sym, ap, ◌∙◌, arith, ℕ, zero, suc, ◌+◌, ◌-◌, ◌≤◌, ◌<◌, max, List, [], ◌∷◌, ◌++◌, length, map, length-append, Option, Some, None, true, false, cond, leb}
+use Rattle.std.proofs.Common.{◌≡◌, refl, sym, ap, ◌∙◌, arith, ℕ, zero, suc, ◌+◌, ◌-◌, ◌≤◌, ◌<◌, max, List, [], ◌∷◌, ◌++◌, length, map}
+use Rattle.std.proofs.Common.{length-append, Option, Some, None, true, false, cond, leb}
 use Rattle.std.proofs.lemmas.List.{length-map}
 use Rattle.pylex_lexeme.specs.declared.kinds.Exact.TheVariants.{Comma, DoubleStar}
 use Rattle.pytree_node.specs.declared.expressions.Expr as given_expr
@@ -26,7 +27,8 @@ use Rattle.pyparse_nodes.proofs.Callers.Pushes.{pushed}
 use Rattle.pyparse_expr.proofs.Reader.Reading.{first_miss, failed_then, seen_length}
 
 -- equally many keys and values
-pub zipped_more : (ks : List (Option Expr)) (vs : List Expr) (k : Option Expr) (v : Expr) → length ks ≡ length vs → zipped (ks ++ (k ∷ [])) (vs ++ (v ∷ [])) ≡ zipped ks vs ++ (entry k v ∷ [])
+pub zipped_more : (ks : List (Option Expr)) (vs : List Expr) (k : Option Expr) (v : Expr) → length ks ≡ length vs
+    → zipped (ks ++ (k ∷ [])) (vs ++ (v ∷ [])) ≡ zipped ks vs ++ (entry k v ∷ [])
 zipped_more [] [] k v h = refl
 zipped_more [] (w ∷ vs) k v h = absurd (omega (arith, h))
 zipped_more (j ∷ ks) [] k v h = absurd (omega (arith, h))
@@ -45,7 +47,8 @@ zipped_values (k ∷ ks) [] h = absurd (omega (arith, h))
 zipped_values (None ∷ ks) (v ∷ vs) h = ap (λ es. an_expr v es) (zipped_values ks vs (omega (arith, h)))
 zipped_values (Some k ∷ ks) (v ∷ vs) h = ap (λ es. an_expr v es) (zipped_values ks vs (omega (arith, h)))
 
-key_higher : (ks : List (Option Expr)) (k : Option Expr) → optional_heights (optionals (ks ++ (k ∷ []))) ≡ max (optional_heights (optionals ks)) (optional_height (optional k))
+key_higher : (ks : List (Option Expr)) (k : Option Expr) → optional_heights (optionals (ks ++ (k ∷ []))) ≡ max
+    (optional_heights (optionals ks)) (optional_height (optional k))
 key_higher [] k = omega arith
 key_higher (j ∷ ks) k = omega (arith, key_higher ks k)
 
@@ -53,21 +56,29 @@ value_higher : (vs : List Expr) (v : Expr) → list_height (vs ++ (v ∷ [])) �
 value_higher [] v = omega arith
 value_higher (w ∷ vs) v = omega (arith, value_higher vs v)
 
-same_length : (ks : List (Option given_expr.Expr)) (vs : List given_expr.Expr) → length ks ≡ length vs → length (map option_of ks) ≡ length (map tree_of vs)
+same_length : (ks : List (Option given_expr.Expr)) (vs : List given_expr.Expr) → length ks ≡ length vs
+    → length (map option_of ks) ≡ length (map tree_of vs)
 same_length ks vs h = length-map ks _ ∙ h ∙ sym (length-map vs _)
 
 -- one more key and value
-module _ (ks ls : List (Option given_expr.Expr)) (vs ws : List given_expr.Expr) (k : Option Expr) (v : given_expr.Expr) (p : map option_of ls ≡ map option_of ks ++ (k ∷ [])) (q : ws ≡ vs ++ (v ∷ [])) (same : length ks ≡ length vs) where
+module _ (ks ls : List (Option given_expr.Expr)) (vs ws : List given_expr.Expr) (k : Option Expr) (v : given_expr.Expr)
+    (p : map option_of ls ≡ map option_of ks ++ (k ∷ [])) (q : ws ≡ vs ++ (v ∷ [])) (same : length ks ≡ length vs) where
   pub put_entries : zipped (map option_of ls) (map tree_of ws) ≡ zipped (map option_of ks) (map tree_of vs) ++ (entry k (tree_of v) ∷ [])
-  put_entries = ap (λ l. zipped l (map tree_of ws)) p ∙ ap (λ l. zipped (map option_of ks ++ (k ∷ [])) l) (pushed vs ws v q) ∙ zipped_more (map option_of ks) (map tree_of vs) k (tree_of v) (same_length ks vs same)
+  put_entries = ap (λ l. zipped l (map tree_of ws)) p ∙ ap (λ l. zipped (map option_of ks ++ (k ∷ [])) l) (pushed vs ws v q)
+      ∙ zipped_more (map option_of ks) (map tree_of vs) k (tree_of v) (same_length ks vs same)
 
   pub put_same : length ls ≡ length ws
-  put_same = sym (length-map ls option_of) ∙ ap (λ l. length l) p ∙ length-append (map option_of ks) (k ∷ []) ∙ ap (λ n. n + 1) (length-map ks option_of ∙ same) ∙ sym (ap (λ l. length l) q ∙ length-append vs (v ∷ []))
+  put_same = sym (length-map ls option_of) ∙ ap (λ l. length l) p ∙ length-append (map option_of ks) (k ∷ [])
+      ∙ ap (λ n. n + 1) (length-map ks option_of ∙ same) ∙ sym (ap (λ l. length l) q ∙ length-append vs (v ∷ []))
 
-  pub put_height : (h n m : ℕ) → m ≡ max h n → h ≡ max (optional_heights (optionals (map option_of ks))) (list_height (map tree_of vs)) → n ≡ max (optional_height (optional k)) (height (tree_of v)) → m ≡ max (optional_heights (optionals (map option_of ls))) (list_height (map tree_of ws))
+  pub put_height : (h n m : ℕ) → m ≡ max h n → h ≡ max (optional_heights (optionals (map option_of ks))) (list_height (map tree_of vs))
+      → n ≡ max (optional_height (optional k)) (height (tree_of v)) → m ≡ max (optional_heights (optionals (map option_of ls)))
+      (list_height (map tree_of ws))
   put_height h n m e a b =
-      let x : optional_heights (optionals (map option_of ls)) ≡ max (optional_heights (optionals (map option_of ks))) (optional_height (optional k)) = ap (λ l. optional_heights (optionals l)) p ∙ key_higher (map option_of ks) k in
-      let y : list_height (map tree_of ws) ≡ max (list_height (map tree_of vs)) (height (tree_of v)) = ap (λ l. list_height l) (pushed vs ws v q) ∙ value_higher (map tree_of vs) (tree_of v) in
+      let x : optional_heights (optionals (map option_of ls)) ≡ max (optional_heights (optionals (map option_of ks)))
+          (optional_height (optional k)) = ap (λ l. optional_heights (optionals l)) p ∙ key_higher (map option_of ks) k in
+      let y : list_height (map tree_of ws) ≡ max (list_height (map tree_of vs)) (height (tree_of v)) =
+          ap (λ l. list_height l) (pushed vs ws v q) ∙ value_higher (map tree_of vs) (tree_of v) in
       omega (arith, e, a, b, x, y)
 
 -- what a dictionary is made of
@@ -112,7 +123,8 @@ pub record HasPairs (ts : List given.Terminal) (d : Depth) (x : Answer (List Ent
   pub enough : length (seen ts p.next) ≤ most + 1
   pub is : x ≡ on_first (is_op Comma) (seen ts p.next) (λ _ r. pair_loop d most (pairs_of p) r) (Found (pairs_of p) (seen ts p.next))
 
-pub pairs_start : (ts : List given.Terminal) (d : Depth) (p : Pairs) → p.next ≤ length ts → p.height ≤ d.room → HasPairs ts d (more_pairs_at d (pairs_of p) (seen ts p.next)) p
+pub pairs_start : (ts : List given.Terminal) (d : Depth) (p : Pairs) → p.next ≤ length ts → p.height ≤ d.room
+    → HasPairs ts d (more_pairs_at d (pairs_of p) (seen ts p.next)) p
 pairs_start ts d p w h = record {
   within = w;
   low = h;
@@ -121,19 +133,26 @@ pairs_start ts d p w h = record {
   is = go (pairs_of p) (seen ts p.next);
 }
   where
-    go : (acc : List Entry) (r : List Terminal) → more_pairs_at d acc r ≡ on_first (is_op Comma) r (λ _ s. pair_loop d (length r - 1) acc s) (Found acc r)
+    go : (acc : List Entry) (r : List Terminal) → more_pairs_at d acc r ≡ on_first (is_op Comma) r
+        (λ _ s. pair_loop d (length r - 1) acc s) (Found acc r)
     go acc [] = refl
     go acc (t ∷ r) = ap (λ n. on_some (is_op Comma t) (λ _. pair_loop d n acc r) (Found acc (t ∷ r))) (less r (t ∷ r) refl)
       where
         less : (r s : List Terminal) → s ≡ t ∷ r → length r ≡ length s - 1
         less r s q = omega (arith, ap (λ l. length l) q)
 
-loop_turn : (d : Depth) (m : ℕ) (acc : List Entry) (r : List Terminal) → true ≡ starts Pair r → pair_loop d (suc m) acc r ≡ and_then (read_pair (inner_reads d) r) (λ e r1. on_first (is_op Comma) r1 (λ _ r2. pair_loop d m (acc ++ (e ∷ [])) r2) (Found (acc ++ (e ∷ [])) r1))
-loop_turn d m acc r h = ap (λ b. cond b (and_then (read_pair (inner_reads d) r) (λ e r1. on_first (is_op Comma) r1 (λ _ r2. pair_loop d m (acc ++ (e ∷ [])) r2) (Found (acc ++ (e ∷ [])) r1))) (Found acc r)) (sym h)
+loop_turn : (d : Depth) (m : ℕ) (acc : List Entry) (r : List Terminal) → true ≡ starts Pair r
+    → pair_loop d (suc m) acc r ≡ and_then (read_pair (inner_reads d) r)
+    (λ e r1. on_first (is_op Comma) r1 (λ _ r2. pair_loop d m (acc ++ (e ∷ [])) r2) (Found (acc ++ (e ∷ [])) r1))
+loop_turn d m acc r h =
+    ap (λ b. cond b (and_then (read_pair (inner_reads d) r) (λ e r1. on_first (is_op Comma) r1 (λ _ r2. pair_loop d m (acc ++ (e ∷ [])) r2)
+    (Found (acc ++ (e ∷ [])) r1))) (Found acc r)) (sym h)
 
 loop_stops : (d : Depth) (m : ℕ) (acc : List Entry) (r : List Terminal) → false ≡ starts Pair r → pair_loop d m acc r ≡ Found acc r
 loop_stops d zero acc r h = refl
-loop_stops d (suc m) acc r h = ap (λ b. cond b (and_then (read_pair (inner_reads d) r) (λ e r1. on_first (is_op Comma) r1 (λ _ r2. pair_loop d m (acc ++ (e ∷ [])) r2) (Found (acc ++ (e ∷ [])) r1))) (Found acc r)) (sym h)
+loop_stops d (suc m) acc r h =
+    ap (λ b. cond b (and_then (read_pair (inner_reads d) r) (λ e r1. on_first (is_op Comma) r1 (λ _ r2. pair_loop d m (acc ++ (e ∷ [])) r2)
+    (Found (acc ++ (e ∷ [])) r1))) (Found acc r)) (sym h)
 
 module _ (ts : List given.Terminal) (d : Depth) (x : Answer (List Entry)) (p : Pairs) (c : HasPairs ts d x p) where
   pub pairs_end : (least : ℕ) → None ≡ first_is (is_op Comma) (seen ts p.next) → least ≤ p.next → PairsAt ts d.room least x p
@@ -145,7 +164,8 @@ module _ (ts : List given.Terminal) (d : Depth) (x : Answer (List Entry)) (p : P
   }
 
   -- a comma at the end
-  pub pairs_stop : (r : Pairs) (least : ℕ) → Stands (Op Comma) ts p.next → false ≡ starts Pair (seen ts (p.next + 1)) → pairs_of r ≡ pairs_of p → r.next ≡ p.next + 1 → r.height ≡ p.height → least ≤ p.next → PairsAt ts d.room least x r
+  pub pairs_stop : (r : Pairs) (least : ℕ) → Stands (Op Comma) ts p.next → false ≡ starts Pair (seen ts (p.next + 1))
+      → pairs_of r ≡ pairs_of p → r.next ≡ p.next + 1 → r.height ≡ p.height → least ≤ p.next → PairsAt ts d.room least x r
   pairs_stop r least s n e q h le = record {
     ahead = omega (arith, q, le);
     within = omega (arith, q, s.within);
@@ -156,22 +176,29 @@ module _ (ts : List given.Terminal) (d : Depth) (x : Answer (List Entry)) (p : P
       after : turned ts d c.most (pairs_of p) p.next ≡ Found (pairs_of p) (seen ts (p.next + 1))
       after = rw s.is (loop_stops d c.most (pairs_of p) (seen ts (p.next + 1)) n)
 
-  pub pairs_error : (s : Stop) → Stands (Op Comma) ts p.next → true ≡ starts Pair (seen ts (p.next + 1)) → Failed s (read_pair (inner_reads d) (seen ts (p.next + 1))) → Failed s x
+  pub pairs_error : (s : Stop) → Stands (Op Comma) ts p.next → true ≡ starts Pair (seen ts (p.next + 1))
+      → Failed s (read_pair (inner_reads d) (seen ts (p.next + 1))) → Failed s x
   pairs_error s o b f = go c.most c.enough c.is
     where
       go : (m : ℕ) → length (seen ts p.next) ≤ m + 1 → x ≡ turned ts d m (pairs_of p) p.next → Failed s x
       go zero le q = absurd (omega (arith, le, some_pair ts (p.next + 1) b, seen_length ts p.next, seen_length ts (p.next + 1)))
       go (suc m) le q =
-          let one : Failed s (pair_loop d (suc m) (pairs_of p) (seen ts (p.next + 1))) = rw (loop_turn d m (pairs_of p) (seen ts (p.next + 1)) b) (failed_then s _ _ f) in
+          let one : Failed s (pair_loop d (suc m) (pairs_of p) (seen ts (p.next + 1))) =
+              rw (loop_turn d m (pairs_of p) (seen ts (p.next + 1)) b) (failed_then s _ _ f) in
           rw (q, o.is) one
 
-  pub pairs_more : (r : Pairs) (e : pair.Pair) → Stands (Op Comma) ts p.next → true ≡ starts Pair (seen ts (p.next + 1)) → PairAt ts d.room (p.next + 1 + 1) (read_pair (inner_reads d) (seen ts (p.next + 1))) e → pairs_of r ≡ pairs_of p ++ (pair_of e ∷ []) → r.next ≡ e.next → r.height ≡ max p.height e.height → HasPairs ts d x r
+  pub pairs_more : (r : Pairs) (e : pair.Pair) → Stands (Op Comma) ts p.next → true ≡ starts Pair (seen ts (p.next + 1))
+      → PairAt ts d.room (p.next + 1 + 1) (read_pair (inner_reads d) (seen ts (p.next + 1))) e → pairs_of r ≡ pairs_of p ++ (pair_of e ∷ [])
+      → r.next ≡ e.next → r.height ≡ max p.height e.height → HasPairs ts d x r
   pairs_more r e o b f g k h = go c.most c.enough c.is
     where
       go : (m : ℕ) → length (seen ts p.next) ≤ m + 1 → x ≡ turned ts d m (pairs_of p) p.next → HasPairs ts d x r
       go zero le q = absurd (omega (arith, le, some_pair ts (p.next + 1) b, seen_length ts p.next, seen_length ts (p.next + 1)))
       go (suc m) le q =
-          let one : pair_loop d (suc m) (pairs_of p) (seen ts (p.next + 1)) ≡ turned ts d m (pairs_of p ++ (pair_of e ∷ [])) e.next = loop_turn d m (pairs_of p) (seen ts (p.next + 1)) b ∙ ap (λ z. and_then z (λ e2 r1. on_first (is_op Comma) r1 (λ _ r2. pair_loop d m (pairs_of p ++ (e2 ∷ [])) r2) (Found (pairs_of p ++ (e2 ∷ [])) r1))) f.is in
+          let one : pair_loop d (suc m) (pairs_of p) (seen ts (p.next + 1)) ≡ turned ts d m (pairs_of p ++ (pair_of e ∷ [])) e.next =
+              loop_turn d m (pairs_of p) (seen ts (p.next + 1)) b
+              ∙ ap (λ z. and_then z (λ e2 r1. on_first (is_op Comma) r1 (λ _ r2. pair_loop d m (pairs_of p ++ (e2 ∷ [])) r2)
+              (Found (pairs_of p ++ (e2 ∷ [])) r1))) f.is in
           let at : turned ts d (suc m) (pairs_of p) p.next ≡ turned ts d m (pairs_of p ++ (pair_of e ∷ [])) e.next = rw o.is one in
           record {
             within = omega (arith, k, f.within);

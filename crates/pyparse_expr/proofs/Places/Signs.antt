@@ -26,43 +26,57 @@ use Rattle.pyparse_nodes.proofs.Callers.Places.{front}
 abbrev Hit : Type 0
 Hit = Comparison → List Terminal → Answer Expr
 
-pub one_sign : (ts : List given.Terminal) (at : ℕ) (c : Compared) → Some c.op ≡ first_is comparison (seen ts at) → at < length ts → c.next ≡ at + 1 → ComparedAt ts at c
+pub one_sign : (ts : List given.Terminal) (at : ℕ) (c : Compared) → Some c.op ≡ first_is comparison (seen ts at) → at < length ts
+    → c.next ≡ at + 1 → ComparedAt ts at c
 one_sign ts at c h w n = record {
   ahead = omega (arith, n);
   within = omega (arith, n, w);
-  is = λ self hit other. first_hit comparison (seen ts at) c.op hit _ h ∙ ap (λ r. hit c.op r) (seen_next ts at ∙ ap (λ k. seen ts k) (sym n));
+  is = λ self hit other. first_hit comparison (seen ts at) c.op hit _ h
+      ∙ ap (λ r. hit c.op r) (seen_next ts at ∙ ap (λ k. seen ts k) (sym n));
 }
 
-pub not_in : (ts : List given.Terminal) (at : ℕ) (c : Compared) → Stands (Word Key.Not) ts at → Stands (Word Key.In) ts (at + 1) → c.op ≡ Is.NotIn → c.next ≡ at + 2 → ComparedAt ts at c
+pub not_in : (ts : List given.Terminal) (at : ℕ) (c : Compared) → Stands (Word Key.Not) ts at → Stands (Word Key.In) ts (at + 1)
+    → c.op ≡ Is.NotIn → c.next ≡ at + 2 → ComparedAt ts at c
 not_in ts at c s i o n = record {
   ahead = omega (arith, n);
   within = omega (arith, n, i.within);
-  is = λ self hit other. ap (λ r. on_comparison self r hit other) (s.is ∙ ap (λ r. Word Key.Not ∷ r) i.is) ∙ ap (λ k. hit Is.NotIn (seen ts k)) (omega (arith, n)) ∙ ap (λ p. hit p (seen ts c.next)) (sym o);
+  is = λ self hit other. ap (λ r. on_comparison self r hit other) (s.is ∙ ap (λ r. Word Key.Not ∷ r) i.is)
+      ∙ ap (λ k. hit Is.NotIn (seen ts k)) (omega (arith, n)) ∙ ap (λ p. hit p (seen ts c.next)) (sym o);
 }
 
-pub not_alone : (ts : List given.Terminal) (at : ℕ) → Stands (Word Key.Not) ts at → None ≡ first_is (is_word Key.In) (seen ts (at + 1)) → MisComparedAt ts at stop.NoForm
+pub not_alone : (ts : List given.Terminal) (at : ℕ) → Stands (Word Key.Not) ts at → None ≡ first_is (is_word Key.In) (seen ts (at + 1))
+    → MisComparedAt ts at stop.NoForm
 not_alone ts at s n = record {
   within = s.within;
-  is = λ self hit other. ap (λ r. on_comparison self r hit other) s.is ∙ first_miss (is_word Key.In) (seen ts (at + 1)) (λ _ r. hit Is.NotIn r) NoForm n;
+  is = λ self hit other. ap (λ r. on_comparison self r hit other) s.is
+      ∙ first_miss (is_word Key.In) (seen ts (at + 1)) (λ _ r. hit Is.NotIn r) NoForm n;
 }
 
-pub is_not : (ts : List given.Terminal) (at : ℕ) (c : Compared) → Stands (Word Key.Is) ts at → Stands (Word Key.Not) ts (at + 1) → c.op ≡ Is.IsNot → c.next ≡ at + 2 → ComparedAt ts at c
+pub is_not : (ts : List given.Terminal) (at : ℕ) (c : Compared) → Stands (Word Key.Is) ts at → Stands (Word Key.Not) ts (at + 1)
+    → c.op ≡ Is.IsNot → c.next ≡ at + 2 → ComparedAt ts at c
 is_not ts at c s i o n = record {
   ahead = omega (arith, n);
   within = omega (arith, n, i.within);
-  is = λ self hit other. ap (λ r. on_comparison self r hit other) (s.is ∙ ap (λ r. Word Key.Is ∷ r) i.is) ∙ ap (λ k. hit Is.IsNot (seen ts k)) (omega (arith, n)) ∙ ap (λ p. hit p (seen ts c.next)) (sym o);
+  is = λ self hit other. ap (λ r. on_comparison self r hit other) (s.is ∙ ap (λ r. Word Key.Is ∷ r) i.is)
+      ∙ ap (λ k. hit Is.IsNot (seen ts k)) (omega (arith, n)) ∙ ap (λ p. hit p (seen ts c.next)) (sym o);
 }
 
-pub is_alone : (ts : List given.Terminal) (at : ℕ) (c : Compared) → Stands (Word Key.Is) ts at → None ≡ first_is (is_word Key.Not) (seen ts (at + 1)) → c.op ≡ Is.Is → c.next ≡ at + 1 → ComparedAt ts at c
+pub is_alone : (ts : List given.Terminal) (at : ℕ) (c : Compared) → Stands (Word Key.Is) ts at
+    → None ≡ first_is (is_word Key.Not) (seen ts (at + 1)) → c.op ≡ Is.Is → c.next ≡ at + 1 → ComparedAt ts at c
 is_alone ts at c s m o n = record {
   ahead = omega (arith, n);
   within = omega (arith, n, s.within);
-  is = λ self hit other. ap (λ r. on_comparison self r hit other) s.is ∙ first_miss (is_word Key.Not) (seen ts (at + 1)) (λ _ r. hit Is.IsNot r) (hit Is.Is (seen ts (at + 1))) m ∙ ap (λ k. hit Is.Is (seen ts k)) (sym n) ∙ ap (λ p. hit p (seen ts c.next)) (sym o);
+  is = λ self hit other. ap (λ r. on_comparison self r hit other) s.is ∙ first_miss (is_word Key.Not) (seen ts (at + 1))
+      (λ _ r. hit Is.IsNot r) (hit Is.Is (seen ts (at + 1))) m ∙ ap (λ k. hit Is.Is (seen ts k)) (sym n)
+      ∙ ap (λ p. hit p (seen ts c.next)) (sym o);
 }
 
-pub no_sign : (ts : List given.Terminal) (at : ℕ) → None ≡ first_is comparison (seen ts at) → None ≡ first_is (is_word Key.Not) (seen ts at) → None ≡ first_is (is_word Key.Is) (seen ts at) → NotComparedAt ts at
+pub no_sign : (ts : List given.Terminal) (at : ℕ) → None ≡ first_is comparison (seen ts at) → None ≡ first_is (is_word Key.Not) (seen ts at)
+    → None ≡ first_is (is_word Key.Is) (seen ts at) → NotComparedAt ts at
 no_sign ts at a b c = record {
-  is = λ self hit other. first_miss comparison (seen ts at) hit _ a ∙ first_miss (is_word Key.Not) (seen ts at) (λ _ r1. on_first (is_word Key.In) r1 (λ _ r2. hit Is.NotIn r2) NoForm) _ b ∙ first_miss (is_word Key.Is) (seen ts at) (λ _ r1. on_first (is_word Key.Not) r1 (λ _ r2. hit Is.IsNot r2) (hit Is.Is r1)) other c;
+  is = λ self hit other. first_miss comparison (seen ts at) hit _ a
+      ∙ first_miss (is_word Key.Not) (seen ts at) (λ _ r1. on_first (is_word Key.In) r1 (λ _ r2. hit Is.NotIn r2) NoForm) _ b
+      ∙ first_miss (is_word Key.Is) (seen ts at) (λ _ r1. on_first (is_word Key.Not) r1 (λ _ r2. hit Is.IsNot r2) (hit Is.Is r1)) other c;
 }
 
 -- where the grammar sees a comparison, one stands, or the half of one
@@ -74,7 +88,8 @@ same f (t ∷ r) x = go (f t)
     go None = refl
     go (Some a) = refl
 
-seen_sign : (self : Reads) (t : Terminal) (r : List Terminal) → Some Compares ≡ behind t → ◌≡◌ {A = Answer Expr} (on_comparison self (t ∷ r) (λ _ _. NoForm) TooDeep) NoForm
+seen_sign : (self : Reads) (t : Terminal) (r : List Terminal) → Some Compares ≡ behind t
+    → ◌≡◌ {A = Answer Expr} (on_comparison self (t ∷ r) (λ _ _. NoForm) TooDeep) NoForm
 seen_sign self (Op EqEqual) r h = refl
 seen_sign self (Op NotEqual) r h = refl
 seen_sign self (Op Less) r h = refl
@@ -94,14 +109,17 @@ compares ts n h c = go (seen ts n) h (c.is (λ _ _. NoForm) (λ _ _. NoForm) Too
     differ : ◌≡◌ {A = Answer Expr} NoForm TooDeep → ⊥
     differ q = absurd (cc)
 
-    go : (r : List Terminal) → Some Compares ≡ first_is behind r → ◌≡◌ {A = Answer Expr} (on_comparison (λ _ _. NoForm) r (λ _ _. NoForm) TooDeep) TooDeep → ⊥
+    go : (r : List Terminal) → Some Compares ≡ first_is behind r
+        → ◌≡◌ {A = Answer Expr} (on_comparison (λ _ _. NoForm) r (λ _ _. NoForm) TooDeep) TooDeep → ⊥
     go [] h q = absurd (cc)
     go (t ∷ r) h q = differ (sym (seen_sign (λ _ _. NoForm) t r h) ∙ q)
 
-pub hit_sign : (ts : List given.Terminal) (at : ℕ) (o : Option Compared) (c : Compared) → o ≡ Some c → MatchOption o (NotComparedAt ts at) (λ x. ComparedAt ts at x) → ComparedAt ts at c
+pub hit_sign : (ts : List given.Terminal) (at : ℕ) (o : Option Compared) (c : Compared) → o ≡ Some c
+    → MatchOption o (NotComparedAt ts at) (λ x. ComparedAt ts at x) → ComparedAt ts at c
 hit_sign ts at o c q m = subst (λ p. MatchOption p (NotComparedAt ts at) (λ x. ComparedAt ts at x)) q m
 
-pub miss_sign : (ts : List given.Terminal) (at : ℕ) (o : Option Compared) → o ≡ None → MatchOption o (NotComparedAt ts at) (λ x. ComparedAt ts at x) → NotComparedAt ts at
+pub miss_sign : (ts : List given.Terminal) (at : ℕ) (o : Option Compared) → o ≡ None
+    → MatchOption o (NotComparedAt ts at) (λ x. ComparedAt ts at x) → NotComparedAt ts at
 miss_sign ts at o q m = subst (λ p. MatchOption p (NotComparedAt ts at) (λ x. ComparedAt ts at x)) q m
 
 -- an `and` or `or` is its word
@@ -113,7 +131,8 @@ joins_word (Op EqEqual) o h = absurd (cc)
 joins_word (Op _) o h = absurd (cc)
 joins_word _ o h = absurd (cc)
 
-pub joins_stands : (ts : List given.Terminal) (n k : ℕ) (o : BoolOperator) → n < length ts → Some (Joins o) ≡ first_is behind (seen ts n) → k ≡ n → Stands (Word (chain_word o)) ts k
+pub joins_stands : (ts : List given.Terminal) (n k : ℕ) (o : BoolOperator) → n < length ts → Some (Joins o) ≡ first_is behind (seen ts n)
+    → k ≡ n → Stands (Word (chain_word o)) ts k
 joins_stands ts n k o w h q = record {
   within = omega (arith, w, q);
   is = front ts k (Word (chain_word o)) (ap (λ m. first_of (seen ts m)) q ∙ go (seen ts n) h);

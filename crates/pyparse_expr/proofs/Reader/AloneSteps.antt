@@ -1,7 +1,8 @@
 -- Atoms of one terminal that no level goes on with.
 --
 -- Carries: read_expression. On: Reading, Alone.
-use Rattle.std.proofs.Common.{◌≡◌, refl, sym, ap, ◌∙◌, arith, ℕ, zero, suc, ◌+◌, ◌<◌, List, [], ◌∷◌, length, Option, Some, None, Bool, true, false, ◌&&◌, cond, leb, Result}
+use Rattle.std.proofs.Common.{◌≡◌, refl, sym, ap, ◌∙◌, arith, ℕ, zero, suc, ◌+◌, ◌<◌, List, [], ◌∷◌, length, Option, Some, None, Bool, true}
+use Rattle.std.proofs.Common.{false, ◌&&◌, cond, leb, Result}
 use Rattle.pylex_lexeme.specs.declared.kinds.Exact.TheVariants.{RPar, RSqb, RBrace, Colon, Comma, Equal}
 use Rattle.pytree_node.specs.declared.operators.Context.TheVariants.{Load}
 use Rattle.pytree_node.specs.Trees
@@ -29,7 +30,8 @@ no_run [] h = refl
 no_run (Op s ∷ r) h = refl
 no_run (_ ∷ r) h = absurd (cc)
 
-no_begin : {B : Type 0} (r : List Terminal) (hit : ℕ → List Terminal → Answer B) (miss : Answer B) → ends r ≡ true → on_first is_formatted_begin r hit miss ≡ miss
+no_begin : {B : Type 0} (r : List Terminal) (hit : ℕ → List Terminal → Answer B) (miss : Answer B) → ends r ≡ true
+    → on_first is_formatted_begin r hit miss ≡ miss
 no_begin [] hit miss h = refl
 no_begin (Op s ∷ r) hit miss h = refl
 no_begin (_ ∷ r) hit miss h = absurd (cc)
@@ -96,13 +98,15 @@ value_of (Number v) = Some (Trees.Constant v)
 value_of (Literal v) = constant_of (joined v [])
 value_of _ = None
 
-atom_is : (same inner : Reads) (t : Terminal) (r : List Terminal) → atom_with t ≡ true → ends r ≡ true → capped_atom same inner (t ∷ r) ≡ made (value_of t) r
+atom_is : (same inner : Reads) (t : Terminal) (r : List Terminal) → atom_with t ≡ true → ends r ≡ true
+    → capped_atom same inner (t ∷ r) ≡ made (value_of t) r
 atom_is same inner (Ident x) r a h = refl
 atom_is same inner (Number v) r a h = refl
 atom_is same inner (Literal v) r a h = one_literal inner v r h
 atom_is same inner _ r a h = absurd (cc)
 
-levels_are : (g k : ℕ) (t : Terminal) (r : List Terminal) → atom_with t ≡ true → capped (suc g) (suc k) level.Expression (t ∷ r) ≡ forks (suc k) (capped g k) (climbs (suc k) (capped g k) (trails (suc k) (capped g k) (capped (suc g) (suc k) level.Atom (t ∷ r))))
+levels_are : (g k : ℕ) (t : Terminal) (r : List Terminal) → atom_with t ≡ true → capped (suc g) (suc k) level.Expression (t ∷ r) ≡ forks
+    (suc k) (capped g k) (climbs (suc k) (capped g k) (trails (suc k) (capped g k) (capped (suc g) (suc k) level.Atom (t ∷ r))))
 levels_are g k (Ident x) r a = refl
 levels_are g k (Number v) r a = refl
 levels_are g k (Literal v) r a = refl
@@ -119,8 +123,12 @@ same_answer (suc g) zero i p q h = absurd (omega arith)
 same_answer (suc g) (suc k) [] p q h = absurd (cc)
 same_answer (suc g) (suc k) (t ∷ r) p q h =
     let w = both (atom_with t) (ends r) h in
-    let atom : capped (suc g) (suc k) level.Atom (t ∷ r) ≡ cap (suc k) (made (value_of t) r) = ap (λ y. cap (suc k) y) (atom_is (capped g (suc k)) (capped g k) t r w.0 w.1) in
-    levels_are g k t r w.0 ∙ ap (λ y. forks (suc k) (capped g k) (climbs (suc k) (capped g k) (trails (suc k) (capped g k) y))) atom ∙ passed (suc k) (capped g k) (value_of t) r w.1 ∙ sym atom
+    let atom : capped (suc g) (suc k) level.Atom (t ∷ r) ≡ cap (suc k) (made (value_of t) r) =
+        ap (λ y. cap (suc k) y) (atom_is (capped g (suc k)) (capped g k) t r w.0 w.1) in
+    levels_are g k t r w.0 ∙ ap (λ y. forks (suc k) (capped g k) (climbs (suc k) (capped g k) (trails (suc k) (capped g k) y))) atom
+        ∙ passed (suc k) (capped g k) (value_of t) r w.1 ∙ sym atom
 
-pub expression_atom : (ts : List given.Terminal) (d : Depth) (at : ℕ) (z : Result Read Stop) → IsOpen d → true ≡ alone (seen ts at) → Answered ts d.room (at + 1) (reads d level.Atom (seen ts at)) z → Answered ts d.room (at + 1) (reads d level.Expression (seen ts at)) z
+pub expression_atom : (ts : List given.Terminal) (d : Depth) (at : ℕ) (z : Result Read Stop) → IsOpen d → true ≡ alone (seen ts at)
+    → Answered ts d.room (at + 1) (reads d level.Atom (seen ts at)) z
+    → Answered ts d.room (at + 1) (reads d level.Expression (seen ts at)) z
 expression_atom ts d at z o h a = rw (same_answer d.steps d.room (seen ts at) o.steps o.room (sym h)) a

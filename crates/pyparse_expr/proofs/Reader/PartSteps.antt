@@ -44,22 +44,28 @@ outer_reads o d h = go (o.steps - 1) (o.room - 1) (omega (arith, h.steps)) (omeg
     go a b p q = rw (p, q) refl
 
 module _ (ts : List given.Terminal) (o d : Depth) (at : ℕ) (h : IsOuter o d) where
-  pub target_outer : (z : Result Read Stop) → Answered ts (o.room + 1) (at + 1) (read_target (inner_reads o) (seen ts at)) z → Answered ts (d.room + 2) (at + 1) (read_target (reads d) (seen ts at)) z
+  pub target_outer : (z : Result Read Stop) → Answered ts (o.room + 1) (at + 1) (read_target (inner_reads o) (seen ts at)) z
+      → Answered ts (d.room + 2) (at + 1) (read_target (reads d) (seen ts at)) z
   target_outer z f =
       let r : o.room + 1 ≡ d.room + 2 = omega (arith, h.room) in
       rw (← r, ← outer_reads o d h) f
 
-  pub literals_outer : (v : Value) (z : Result Read Stop) → PartAnswered ts at (literals (inner_reads o) v (seen ts at)) (λ r. tree_of r.expr.value) (λ r. r.next) z → PartAnswered ts at (literals (reads d) v (seen ts at)) (λ r. tree_of r.expr.value) (λ r. r.next) z
+  pub literals_outer : (v : Value) (z : Result Read Stop) → PartAnswered ts at (literals (inner_reads o) v (seen ts at))
+      (λ r. tree_of r.expr.value) (λ r. r.next) z → PartAnswered ts at (literals (reads d) v (seen ts at))
+      (λ r. tree_of r.expr.value) (λ r. r.next) z
   literals_outer v z f = rw (← outer_reads o d h) f
 
-  pub joined_outer : (u : Bool) (acc : List StringPart) (z : Result Read Stop) → PartAnswered ts at (joined_step (inner_reads o) u acc (seen ts at)) (λ r. tree_of r.expr.value) (λ r. r.next) z → PartAnswered ts at (joined_step (reads d) u acc (seen ts at)) (λ r. tree_of r.expr.value) (λ r. r.next) z
+  pub joined_outer : (u : Bool) (acc : List StringPart) (z : Result Read Stop)
+      → PartAnswered ts at (joined_step (inner_reads o) u acc (seen ts at)) (λ r. tree_of r.expr.value) (λ r. r.next) z
+      → PartAnswered ts at (joined_step (reads d) u acc (seen ts at)) (λ r. tree_of r.expr.value) (λ r. r.next) z
   joined_outer u acc z f = rw (← outer_reads o d h) f
 
   parameters_outer : listed o true (seen ts at) ≡ listing_of (reads d) (Parameter true) [] (seen ts at)
   parameters_outer = ap (λ (self : Reads). listing_of self (Parameter true) [] (seen ts at)) (outer_reads o d h)
 
   pub parameters_failed : (e : Stop) → Failed e (listed o true (seen ts at)) → Failed e (read_parameters d (seen ts at))
-  parameters_failed e f = failed_then e (listing_of (reads d) (Parameter true) [] (seen ts at)) (λ ps r. made (arranged ps) r) (rw (← parameters_outer) f)
+  parameters_failed e f = failed_then e (listing_of (reads d) (Parameter true) [] (seen ts at)) (λ ps r. made (arranged ps) r)
+      (rw (← parameters_outer) f)
 
   module _ (room : ℕ) (s : Signature) (f : SignatureAt ts room at (listed o true (seen ts at)) s) where
     parameters_is : read_parameters d (seen ts at) ≡ made (outcome (state_of s.formal)) (seen ts s.next)
@@ -86,19 +92,26 @@ module _ (ts : List given.Terminal) (o d : Depth) (at : ℕ) (h : IsOuter o d) w
     order_is : in_order false false f.entries ≡ not a.wrong
     order_is = order_steps f.entries ∙ ap (λ s. not (actuals.wrong_in s)) (sym f.gives)
 
-    arguments_is : read_arguments d (seen ts at) ≡ cond (not a.wrong) (Found (exprs (map tree_of a.args.items), Trees.keywords (map keyword_of a.keywords.items)) (seen ts a.next)) NoForm
+    arguments_is : read_arguments d (seen ts at) ≡ cond (not a.wrong)
+        (Found (exprs (map tree_of a.args.items), Trees.keywords (map keyword_of a.keywords.items)) (seen ts a.next)) NoForm
     arguments_is =
-        let p : positional f.entries ≡ exprs (map tree_of a.args.items) = args_steps f.entries ∙ ap (λ s. exprs (actuals.args_in s)) (sym f.gives) in
-        let k : rule.keywords f.entries ≡ Trees.keywords (map keyword_of a.keywords.items) = keywords_steps f.entries ∙ ap (λ s. Trees.keywords (actuals.keywords_in s)) (sym f.gives) in
+        let p : positional f.entries ≡ exprs (map tree_of a.args.items) = args_steps f.entries
+            ∙ ap (λ s. exprs (actuals.args_in s)) (sym f.gives) in
+        let k : rule.keywords f.entries ≡ Trees.keywords (map keyword_of a.keywords.items) = keywords_steps f.entries
+            ∙ ap (λ s. Trees.keywords (actuals.keywords_in s)) (sym f.gives) in
         ap (λ z. and_then z ordered) (sym arguments_outer ∙ f.is)
         ∙ (λ i. cond (order_is i) (Found (p i, k i) (seen ts a.next)) NoForm)
 
     pub arguments_wrong : a.wrong ≡ true → read_arguments d (seen ts at) ≡ NoForm
-    arguments_wrong q = arguments_is ∙ ap (λ b. cond (not b) (Found (exprs (map tree_of a.args.items), Trees.keywords (map keyword_of a.keywords.items)) (seen ts a.next)) NoForm) q
+    arguments_wrong q = arguments_is
+        ∙ ap (λ b. cond (not b) (Found (exprs (map tree_of a.args.items), Trees.keywords (map keyword_of a.keywords.items))
+        (seen ts a.next)) NoForm) q
 
-    pub arguments_found : a.wrong ≡ false → PartAt ts at (read_arguments d (seen ts at)) (exprs (map tree_of a.args.items), Trees.keywords (map keyword_of a.keywords.items)) a.next
+    pub arguments_found : a.wrong ≡ false → PartAt ts at (read_arguments d (seen ts at)) (exprs (map tree_of a.args.items),
+        Trees.keywords (map keyword_of a.keywords.items)) a.next
     arguments_found q = record {
       ahead = f.ahead;
       within = f.within;
-      is = arguments_is ∙ ap (λ b. cond (not b) (Found (exprs (map tree_of a.args.items), Trees.keywords (map keyword_of a.keywords.items)) (seen ts a.next)) NoForm) q;
+      is = arguments_is ∙ ap (λ b. cond (not b) (Found (exprs (map tree_of a.args.items), Trees.keywords (map keyword_of a.keywords.items))
+          (seen ts a.next)) NoForm) q;
     }

@@ -1,7 +1,8 @@
 -- The reader within a height at a depth, and what the answers of parts say of the whole's.
 --
 -- Carries: the readers. On: Answers, Readings.
-use Rattle.std.proofs.Common.{◌≡◌, refl, sym, ap, ◌∙◌, arith, ℕ, zero, suc, ◌+◌, ◌-◌, ◌≤◌, ◌<◌, List, [], ◌∷◌, length, map, drop, length-drop, drop-drop, Option, Some, None, cond, Result, Ok, Err}
+use Rattle.std.proofs.Common.{◌≡◌, refl, sym, ap, ◌∙◌, arith, ℕ, zero, suc, ◌+◌, ◌-◌, ◌≤◌, ◌<◌, List, [], ◌∷◌, length, map, drop}
+use Rattle.std.proofs.Common.{length-drop, drop-drop, Option, Some, None, cond, Result, Ok, Err}
 use Rattle.std.proofs.lemmas.List.{length-map}
 use Rattle.std.proofs.lemmas.Bool.{le-leb, lt-leb}
 use Rattle.pytree_node.specs.Trees.{Expr}
@@ -30,15 +31,18 @@ pub seen_length : (ts : List given.Terminal) (n : ℕ) → length (seen ts n) �
 seen_length ts n = length-drop n (map _ ts) ∙ ap (λ z. z - n) (length-map ts _)
 
 -- one level
-pub opened : (g d : ℕ) (l : Level) (i : List Terminal) → 0 < g → 0 < d → capped g d l i ≡ cap d (capped_step d (capped g d) (capped (g - 1) d) (capped (g - 1) (d - 1)) l i)
+pub opened : (g d : ℕ) (l : Level) (i : List Terminal) → 0 < g → 0 < d
+    → capped g d l i ≡ cap d (capped_step d (capped g d) (capped (g - 1) d) (capped (g - 1) (d - 1)) l i)
 opened zero d l i h w = absurd (omega arith)
 opened (suc g) zero l i h w = absurd (omega arith)
 opened (suc g) (suc d) l i h w = go (suc g - 1) (suc d - 1) (omega arith) (omega arith)
   where
-    go : (a b : ℕ) → a ≡ g → b ≡ d → capped (suc g) (suc d) l i ≡ cap (suc d) (capped_step (suc d) (capped (suc g) (suc d)) (capped a (suc d)) (capped a b) l i)
+    go : (a b : ℕ) → a ≡ g → b ≡ d
+        → capped (suc g) (suc d) l i ≡ cap (suc d) (capped_step (suc d) (capped (suc g) (suc d)) (capped a (suc d)) (capped a b) l i)
     go a b p q = rw (p, q) (unroll_capped g d l i)
 
-pub by_level : (ts : List given.Terminal) (least : ℕ) (d : Depth) (l : Level) (i : List Terminal) (z : Result Read Stop) → IsOpen d → Answered ts d.room least (level_at d l i) z → Answered ts d.room least (reads d l i) z
+pub by_level : (ts : List given.Terminal) (least : ℕ) (d : Depth) (l : Level) (i : List Terminal) (z : Result Read Stop) → IsOpen d
+    → Answered ts d.room least (level_at d l i) z → Answered ts d.room least (reads d l i) z
 by_level ts least d l i z o h = rw (opened d.steps d.room l i o.steps o.room) h
 
 -- what is no higher than the room, and what is
@@ -60,7 +64,8 @@ failed_cap stop.TooDeep d x h = ap (λ z. cap d z) h
 failed_cap stop.Memory d x h = tt
 
 -- an answer within the room is the same where the room is looked at again
-pub again : (ts : List given.Terminal) (room least : ℕ) (x : Answer Expr) (z : Result Read Stop) → Answered ts room least x z → Answered ts room least (cap room x) z
+pub again : (ts : List given.Terminal) (room least : ℕ) (x : Answer Expr) (z : Result Read Stop) → Answered ts room least x z
+    → Answered ts room least (cap room x) z
 again ts room least x (Ok r) h = record {
   ahead = h.ahead;
   within = h.within;
@@ -70,24 +75,29 @@ again ts room least x (Ok r) h = record {
 again ts room least x (Err s) h = failed_cap s room x h
 
 -- an answer of the same, from an earlier place on
-pub earlier : (ts : List given.Terminal) (room most least next : ℕ) (x : Answer Expr) (z : Result Read Stop) → most ≤ room → least ≤ next → Answered ts most next x z → Answered ts room least x z
-earlier ts room most least next x (Ok r) m le h = record { ahead = omega (arith, le, h.ahead); within = h.within; low = omega (arith, m, h.low); is = h.is }
+pub earlier : (ts : List given.Terminal) (room most least next : ℕ) (x : Answer Expr) (z : Result Read Stop) → most ≤ room → least ≤ next
+    → Answered ts most next x z → Answered ts room least x z
+earlier ts room most least next x (Ok r) m le h = record { ahead = omega (arith, le, h.ahead); within = h.within; low =
+    omega (arith, m, h.low); is = h.is }
 earlier ts room most least next x (Err s) m le h = h
 
 -- an answer that is a node, where the node was made
-pub node : (ts : List given.Terminal) (room least : ℕ) (e : Expr) (n : ℕ) (z : Result Read Stop) → least ≤ n → n ≤ length ts → Makes room e n z → Answered ts room least (cap room (Found e (seen ts n))) z
+pub node : (ts : List given.Terminal) (room least : ℕ) (e : Expr) (n : ℕ) (z : Result Read Stop) → least ≤ n → n ≤ length ts
+    → Makes room e n z → Answered ts room least (cap room (Found e (seen ts n))) z
 node ts room least e n (Ok r) le w h = record {
   ahead = omega (arith, le, h.next_is);
   within = omega (arith, w, h.next_is);
   low = h.low;
-  is = cap_low room e (seen ts n) (omega (arith, h.low, r.is_height, ap height h.tree)) ∙ ap (λ t. Found t (seen ts n)) (sym h.tree) ∙ ap (λ m. Found (tree_of r.expr.value) (seen ts m)) (sym h.next_is);
+  is = cap_low room e (seen ts n) (omega (arith, h.low, r.is_height, ap height h.tree)) ∙ ap (λ t. Found t (seen ts n)) (sym h.tree)
+      ∙ ap (λ m. Found (tree_of r.expr.value) (seen ts m)) (sym h.next_is);
 }
 node ts room least e n (Err stop.NoForm) le w h = absurd h
 node ts room least e n (Err stop.TooDeep) le w h = cap_high room e (seen ts n) h
 node ts room least e n (Err stop.Memory) le w h = tt
 
 -- a node that is no higher than the room
-pub low_node : (ts : List given.Terminal) (room least : ℕ) (e : Expr) (n : ℕ) (z : Result Read Stop) → least ≤ n → n ≤ length ts → height e ≤ room → Makes room e n z → Answered ts room least (Found e (seen ts n)) z
+pub low_node : (ts : List given.Terminal) (room least : ℕ) (e : Expr) (n : ℕ) (z : Result Read Stop) → least ≤ n → n ≤ length ts
+    → height e ≤ room → Makes room e n z → Answered ts room least (Found e (seen ts n)) z
 low_node ts room least e n (Ok r) le w b h = record {
   ahead = omega (arith, le, h.next_is);
   within = omega (arith, w, h.next_is);
@@ -99,10 +109,12 @@ low_node ts room least e n (Err stop.TooDeep) le w b h = absurd (omega (arith, b
 low_node ts room least e n (Err stop.Memory) le w b h = tt
 
 -- a choice by a test on the first terminal, where the test fails
-pub first_miss : {A B : Type 0} (f : Terminal → Option A) (r : List Terminal) (hit : A → List Terminal → B) (miss : B) → None ≡ first_is f r → on_first f r hit miss ≡ miss
+pub first_miss : {A B : Type 0} (f : Terminal → Option A) (r : List Terminal) (hit : A → List Terminal → B) (miss : B) → None ≡ first_is f r
+    → on_first f r hit miss ≡ miss
 first_miss f [] hit miss h = refl
 first_miss f (t ∷ r) hit miss h = ap (λ o. on_some o (λ b. hit b r) miss) (sym h)
 
-pub first_hit : {A B : Type 0} (f : Terminal → Option A) (r : List Terminal) (a : A) (hit : A → List Terminal → B) (miss : B) → Some a ≡ first_is f r → on_first f r hit miss ≡ hit a (drop 1 r)
+pub first_hit : {A B : Type 0} (f : Terminal → Option A) (r : List Terminal) (a : A) (hit : A → List Terminal → B) (miss : B)
+    → Some a ≡ first_is f r → on_first f r hit miss ≡ hit a (drop 1 r)
 first_hit f [] a hit miss h = absurd (cc)
 first_hit f (t ∷ r) a hit miss h = ap (λ o. on_some o (λ b. hit b r) miss) (sym h)

@@ -77,7 +77,8 @@ entry_of (kind.Keyed x) e = Keyed (nfkc (chars x.now)) e
 -- an argument of this kind stands at a place, if any does
 pub record IsKindAt (k : ArgumentForm) (ts : List Terminal) (at : ℕ) : Type 0 where
   pub within : place_of k at ≤ length ts
-  pub is : (self : Reads) → read_argument self (seen ts at) ≡ and_then (self (level_of k) (seen ts (place_of k at))) (λ e r. Found (entry_of k e) r)
+  pub is : (self : Reads) → read_argument self (seen ts at) ≡ and_then (self (level_of k) (seen ts (place_of k at)))
+      (λ e r. Found (entry_of k e) r)
 
 -- one more argument was read
 pub record AddedAt (ts : List Terminal) (room least : ℕ) (s : State) (x : Answer Entry) (r : Actual) : Type 0 where

@@ -28,11 +28,14 @@ pub record LinkedAt (ts : List Terminal) (least : ℕ) (x : Answer (List Expr)) 
 pub record ComparedAt (ts : List Terminal) (at : ℕ) (c : Compared) : Type 0 where
   pub ahead : at + 1 ≤ c.next
   pub within : c.next ≤ length ts
-  pub is : (self : Reads) (hit : Comparison → List tokens.Terminal → Answer Expr) (other : Answer Expr) → on_comparison self (seen ts at) hit other ≡ hit c.op (seen ts c.next)
+  pub is : (self : Reads) (hit : Comparison → List tokens.Terminal → Answer Expr) (other : Answer Expr)
+      → on_comparison self (seen ts at) hit other ≡ hit c.op (seen ts c.next)
 
 pub record MisComparedAt (ts : List Terminal) (at : ℕ) (s : Stop) : Type 0 where
   pub within : at < length ts
-  pub is : (self : Reads) (hit : Comparison → List tokens.Terminal → Answer Expr) (other : Answer Expr) → Failed s (on_comparison self (seen ts at) hit other)
+  pub is : (self : Reads) (hit : Comparison → List tokens.Terminal → Answer Expr) (other : Answer Expr)
+      → Failed s (on_comparison self (seen ts at) hit other)
 
 pub record NotComparedAt (ts : List Terminal) (at : ℕ) : Type 0 where
-  pub is : (self : Reads) (hit : Comparison → List tokens.Terminal → Answer Expr) (other : Answer Expr) → on_comparison self (seen ts at) hit other ≡ other
+  pub is : (self : Reads) (hit : Comparison → List tokens.Terminal → Answer Expr) (other : Answer Expr)
+      → on_comparison self (seen ts at) hit other ≡ other

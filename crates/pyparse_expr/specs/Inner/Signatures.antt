@@ -19,7 +19,8 @@ use Rattle.pyparse_expr.specs.Inner.FormalHeights.{entry_height, entry_heights}
 
 -- what stands behind the name of a parameter
 abbrev pub plain_reads : Depth → Bool → Identifier → List tokens.Terminal → Answer Entry
-plain_reads d b x r = and_then (annotated (inner_reads d) b r) (λ a r2. and_then (suffixed (inner_reads d) (Some Equal) r2) (λ e r3. Found (Plain (arg x a) e) r3))
+plain_reads d b x r = and_then (annotated (inner_reads d) b r) (λ a r2. and_then (suffixed (inner_reads d) (Some Equal) r2)
+    (λ e r3. Found (Plain (arg x a) e) r3))
 
 abbrev pub gathered_reads : Depth → Bool → Identifier → List tokens.Terminal → Answer Entry
 gathered_reads d b x r = and_then (star_annotated (inner_reads d) b r) (λ a r2. Found (Gathered (arg x a)) r2)

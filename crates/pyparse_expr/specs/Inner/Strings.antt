@@ -44,7 +44,8 @@ abbrev pub part_reads : Reads → Bool → ℕ → Part → List tokens.Terminal
 part_reads self u most (part.Text p) r = Found (Text (text_points (text_part p))) r
 part_reads self u most (part.Field c) r = and_then (field_with self (λ i. parts_loop self u most [] i) u c r) (λ e s. Found (Field e) s)
 
-pub record AddedAt (u : Bool) (ts : List Terminal) (least : ℕ) (before : JoinedValues) (x : Answer StringPart) (j : JoinedValues) : Type 0 where
+pub record AddedAt (u : Bool) (ts : List Terminal) (least : ℕ) (before : JoinedValues) (x : Answer StringPart)
+    (j : JoinedValues) : Type 0 where
   pub ahead : least ≤ j.next
   pub within : j.next ≤ length ts
   pub one : StringPart

@@ -31,32 +31,43 @@ listed_all [] = refl
 listed_all (e ∷ es) = ap (λ r. e ∷ r) (listed_all es)
 
 -- the same answer, of what is the same, from an earlier place on
-header_as : (ts : List given.Terminal) (least low : ℕ) (x y : Answer Header) (z : Result ReadHeader Stop) → x ≡ y → least ≤ low → HeaderAnswered ts low y z → HeaderAnswered ts least x z
+header_as : (ts : List given.Terminal) (least low : ℕ) (x y : Answer Header) (z : Result ReadHeader Stop) → x ≡ y → least ≤ low
+    → HeaderAnswered ts low y z → HeaderAnswered ts least x z
 header_as ts least low x y z q le h = answered_as ts least low x y (λ r. header_of r.header) (λ r. r.next) z q le h
 
 module _ (ts : List given.Terminal) (d : Depth) (x : Identifier) (tps : List TypeParam) where
-  pub class_made : (at m : ℕ) (xs : List Expr) (ks : Keywords) (r : ReadHeader) → PartAt ts at (read_arguments d (seen ts at)) (exprs xs, ks) m → Stands (Op RPar) ts m → header_of r.header ≡ def_header (class_head x tps xs ks) → r.next ≡ m + 1 → PartAt ts at (class_from d x tps (seen ts at)) (header_of r.header) r.next
+  pub class_made : (at m : ℕ) (xs : List Expr) (ks : Keywords) (r : ReadHeader) → PartAt ts at (read_arguments d (seen ts at)) (exprs xs,
+      ks) m → Stands (Op RPar) ts m → header_of r.header ≡ def_header (class_head x tps xs ks) → r.next ≡ m + 1
+      → PartAt ts at (class_from d x tps (seen ts at)) (header_of r.header) r.next
   class_made at m xs ks r f e h k = record {
     ahead = omega (arith, f.ahead, k);
     within = omega (arith, e.within, k);
-    is = rw (f.is, e.is) (ap (λ es. Found (def_header (class_head x tps es ks)) (seen ts (m + 1))) (listed_all xs) ∙ ap (λ y. Found y (seen ts (m + 1))) (sym h) ∙ ap (λ n. Found (header_of r.header) (seen ts n)) (sym k));
+    is = rw (f.is, e.is) (ap (λ es. Found (def_header (class_head x tps es ks)) (seen ts (m + 1))) (listed_all xs)
+        ∙ ap (λ y. Found y (seen ts (m + 1))) (sym h) ∙ ap (λ n. Found (header_of r.header) (seen ts n)) (sym k));
   }
 
   module _ (n : ℕ) (s : Stands (Op LPar) ts n) where
     function_is : (b : Bool) → function_rest (reads d) b x tps (seen ts n) ≡ function_from d b x tps (seen ts (n + 1))
-    function_is b = rw s.is (parameters_then d (seen ts (n + 1)) (λ a r. and_then (after (reads d) (Op RArrow) Expression r) (λ e r1. Found (def_header (function_head b x tps a e)) r1)))
+    function_is b = rw s.is
+        (parameters_then d (seen ts (n + 1)) (λ a r. and_then (after (reads d) (Op RArrow) Expression r)
+        (λ e r1. Found (def_header (function_head b x tps a e)) r1)))
 
-    pub function_open : (b : Bool) (z : Result ReadHeader Stop) → HeaderAnswered ts (n + 1) (function_from d b x tps (seen ts (n + 1))) z → HeaderAnswered ts n (function_rest (reads d) b x tps (seen ts n)) z
-    function_open b z h = header_as ts n (n + 1) (function_rest (reads d) b x tps (seen ts n)) (function_from d b x tps (seen ts (n + 1))) z (function_is b) (omega arith) h
+    pub function_open : (b : Bool) (z : Result ReadHeader Stop) → HeaderAnswered ts (n + 1) (function_from d b x tps (seen ts (n + 1))) z
+        → HeaderAnswered ts n (function_rest (reads d) b x tps (seen ts n)) z
+    function_open b z h = header_as ts n (n + 1) (function_rest (reads d) b x tps (seen ts n)) (function_from d b x tps (seen ts (n + 1))) z
+        (function_is b) (omega arith) h
 
     class_is : bases_rest (reads d) x tps (seen ts n) ≡ class_from d x tps (seen ts (n + 1))
     class_is = rw s.is (arguments_then d (seen ts (n + 1)) (λ es ks r. Found (def_header (class_head x tps (listed es) ks)) r))
 
-    pub class_open : (z : Result ReadHeader Stop) → HeaderAnswered ts (n + 1) (class_from d x tps (seen ts (n + 1))) z → HeaderAnswered ts n (bases_rest (reads d) x tps (seen ts n)) z
-    class_open z h = header_as ts n (n + 1) (bases_rest (reads d) x tps (seen ts n)) (class_from d x tps (seen ts (n + 1))) z class_is (omega arith) h
+    pub class_open : (z : Result ReadHeader Stop) → HeaderAnswered ts (n + 1) (class_from d x tps (seen ts (n + 1))) z
+        → HeaderAnswered ts n (bases_rest (reads d) x tps (seen ts n)) z
+    class_open z h = header_as ts n (n + 1) (bases_rest (reads d) x tps (seen ts n)) (class_from d x tps (seen ts (n + 1))) z
+        class_is (omega arith) h
 
 -- a name, the parameters of types, and what follows them
-module _ (ts : List given.Terminal) (profile : Profile) (d : Depth) (at : ℕ) (x : Identifier) (h : Some x ≡ first_is name_in (seen ts at)) (k : Identifier → List TypeParam → List Terminal → Answer Header) where
+module _ (ts : List given.Terminal) (profile : Profile) (d : Depth) (at : ℕ) (x : Identifier) (h : Some x ≡ first_is name_in (seen ts at))
+    (k : Identifier → List TypeParam → List Terminal → Answer Header) where
   abbrev whole : Answer Header
   whole = on_first name_in (seen ts at) (λ y r. and_then (read_type_params profile (reads d) r) (λ tps r1. k y tps r1)) NoForm
 
@@ -69,5 +80,7 @@ module _ (ts : List given.Terminal) (profile : Profile) (d : Depth) (at : ℕ) (
   pub types_failed : (s : Stop) → Failed s types → Failed s whole
   types_failed s f = rw named (failed_then s types (λ tps r. k x tps r) f)
 
-  pub types_found : (tps : List TypeParam) (n : ℕ) (z : Result ReadHeader Stop) → PartAt ts (at + 1) types tps n → HeaderAnswered ts n (k x tps (seen ts n)) z → HeaderAnswered ts at whole z
-  types_found tps n z f g = header_as ts at n whole (k x tps (seen ts n)) z (named ∙ ap (λ y. and_then y (λ tps r. k x tps r)) f.is) (omega (arith, f.ahead)) g
+  pub types_found : (tps : List TypeParam) (n : ℕ) (z : Result ReadHeader Stop) → PartAt ts (at + 1) types tps n
+      → HeaderAnswered ts n (k x tps (seen ts n)) z → HeaderAnswered ts at whole z
+  types_found tps n z f g = header_as ts at n whole (k x tps (seen ts n)) z (named ∙ ap (λ y. and_then y (λ tps r. k x tps r)) f.is)
+      (omega (arith, f.ahead)) g

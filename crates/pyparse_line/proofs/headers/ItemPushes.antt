@@ -15,5 +15,6 @@ higher : (is : List Item) (i : Item) → item_heights (is ++ (i ∷ [])) ≡ max
 higher [] i = omega arith
 higher (x ∷ is) i = omega (arith, higher is i)
 
-pub item_pushed_height : (xs ys : List given.Item) (i : given.Item) (h k : ℕ) → ys ≡ xs ++ (i ∷ []) → h ≡ item_heights (map item_of xs) → k ≡ item_heights (item_of i ∷ []) → max h k ≡ item_heights (map item_of ys)
+pub item_pushed_height : (xs ys : List given.Item) (i : given.Item) (h k : ℕ) → ys ≡ xs ++ (i ∷ []) → h ≡ item_heights (map item_of xs)
+    → k ≡ item_heights (item_of i ∷ []) → max h k ≡ item_heights (map item_of ys)
 item_pushed_height xs ys i h k q a b = omega (arith, a, b, ap item_heights (item_pushed xs ys i q), higher (map item_of xs) (item_of i))

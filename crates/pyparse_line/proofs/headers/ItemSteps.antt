@@ -24,12 +24,18 @@ module _ (ts : List given.Terminal) (self : Reads) (more : List Terminal → Boo
   found : PartAt ts (old.next + 1) (read_item self (seen ts old.next)) (item_of i.item) new.next
   found = subst (λ n. PartAt ts (old.next + 1) (read_item self (seen ts old.next)) (item_of i.item) n) (sym k) f
 
-  pub items_last : (at : ℕ) → at ≤ old.next → None ≡ first_is (is_op Comma) (seen ts new.next) → PartAt ts (at + 1) x (map item_of new.items.items) new.next
-  items_last at le n = list_last ts (read_item self) more x (map item_of old.items.items) old.next c (old.next + 1) (item_of i.item) new.next found (map item_of new.items.items) p (at + 1) new.next (omega arith) (omega (arith, le, f.ahead, k)) n
+  pub items_last : (at : ℕ) → at ≤ old.next → None ≡ first_is (is_op Comma) (seen ts new.next)
+      → PartAt ts (at + 1) x (map item_of new.items.items) new.next
+  items_last at le n = list_last ts (read_item self) more x (map item_of old.items.items) old.next c (old.next + 1) (item_of i.item)
+      new.next found (map item_of new.items.items) p (at + 1) new.next (omega arith) (omega (arith, le, f.ahead, k)) n
 
-  module _ (s : Stands (Op Comma) ts new.next) (next : ReadItems) (same : map item_of next.items.items ≡ map item_of new.items.items) (e : next.next ≡ new.next + 1) where
-    pub items_end : (at : ℕ) → at ≤ old.next → more (seen ts next.next) ≡ false → PartAt ts (at + 1) x (map item_of next.items.items) next.next
-    items_end at le n = list_end ts (read_item self) more x (map item_of old.items.items) old.next c (old.next + 1) (item_of i.item) new.next found (map item_of next.items.items) (same ∙ p) s next.next e (at + 1) (omega (arith, le, f.ahead, k)) n
+  module _ (s : Stands (Op Comma) ts new.next) (next : ReadItems) (same : map item_of next.items.items ≡ map item_of new.items.items)
+      (e : next.next ≡ new.next + 1) where
+    pub items_end : (at : ℕ) → at ≤ old.next → more (seen ts next.next) ≡ false
+        → PartAt ts (at + 1) x (map item_of next.items.items) next.next
+    items_end at le n = list_end ts (read_item self) more x (map item_of old.items.items) old.next c (old.next + 1) (item_of i.item)
+        new.next found (map item_of next.items.items) (same ∙ p) s next.next e (at + 1) (omega (arith, le, f.ahead, k)) n
 
     pub items_more : more (seen ts next.next) ≡ true → Listed ts (read_item self) more x (map item_of next.items.items) next.next
-    items_more n = list_more ts (read_item self) more x (map item_of old.items.items) old.next c (old.next + 1) (item_of i.item) new.next found (map item_of next.items.items) (same ∙ p) s next.next e (omega (arith, f.ahead, k)) n
+    items_more n = list_more ts (read_item self) more x (map item_of old.items.items) old.next c (old.next + 1) (item_of i.item) new.next
+        found (map item_of next.items.items) (same ∙ p) s next.next e (omega (arith, f.ahead, k)) n

@@ -1,7 +1,8 @@
 -- The ends of the header of a `match`.
 --
 -- Carries: ends_in_colon. On: LineReader.
-use Rattle.std.proofs.Common.{◌≡◌, refl, sym, ap, ◌∙◌, arith, ℕ, zero, suc, ◌+◌, ◌<◌, List, [], ◌∷◌, length, drop, map, None, is_some, Bool, true, false, MatchBool}
+use Rattle.std.proofs.Common.{◌≡◌, refl, sym, ap, ◌∙◌, arith, ℕ, zero, suc, ◌+◌, ◌<◌, List, [], ◌∷◌, length, drop, map, None, is_some, Bool}
+use Rattle.std.proofs.Common.{true, false, MatchBool}
 use Rattle.std.proofs.lemmas.List.{length-map}
 use Rattle.pylex_lexeme.specs.declared.kinds.Exact.{Exact}
 use Rattle.pylex_lexeme.specs.declared.kinds.Exact.TheVariants.{Colon}
@@ -28,7 +29,8 @@ at_last (t ∷ []) (suc n) e = absurd (omega (arith, e))
 at_last (t ∷ (u ∷ i)) zero e = absurd (omega (arith, e))
 at_last (t ∷ (u ∷ i)) (suc n) e = at_last (u ∷ i) n (omega (arith, e))
 
-behind_first : (i : List Terminal) (n : ℕ) → length i ≡ n + 1 → 0 < n → ends_in_colon (drop 1 i) ≡ is_some (first_is (is_op Colon) (drop n i))
+behind_first : (i : List Terminal) (n : ℕ) → length i ≡ n + 1 → 0 < n
+    → ends_in_colon (drop 1 i) ≡ is_some (first_is (is_op Colon) (drop n i))
 behind_first [] n e w = absurd (omega (arith, e))
 behind_first (t ∷ i) zero e w = absurd (omega (arith, w))
 behind_first (t ∷ i) (suc n) e w = at_last i n (omega (arith, e))
@@ -38,7 +40,8 @@ module _ (ts : List given.Terminal) where
   lasts n e w = behind_first (map terminal ts) n (length-map ts terminal ∙ e) w
 
   -- a list of two terminals or more ends in what stands last
-  pub last_colon : (n : ℕ) (b : Bool) → length ts ≡ n + 1 → 0 < n → MatchBool b (Stands (Op Colon) ts n) (None ≡ first_is (is_op Colon) (seen ts n)) → b ≡ ends_in_colon (seen ts 1)
+  pub last_colon : (n : ℕ) (b : Bool) → length ts ≡ n + 1 → 0 < n
+      → MatchBool b (Stands (Op Colon) ts n) (None ≡ first_is (is_op Colon) (seen ts n)) → b ≡ ends_in_colon (seen ts 1)
   last_colon n true e w s = sym (lasts n e w ∙ ap (λ r. is_some (first_is (is_op Colon) r)) s.is)
   last_colon n false e w h = ap is_some h ∙ sym (lasts n e w)
 

@@ -18,7 +18,8 @@ module _ (ts : List given.Terminal) (at : ℕ) where
   pub name_missing : None ≡ first_is name_in (seen ts at) → read_name (seen ts at) ≡ NoForm
   name_missing h = first_miss name_in (seen ts at) (λ x r. Found x r) NoForm h
 
-  pub name_found : (x y : Identifier) → Some x ≡ first_is name_in (seen ts at) → y ≡ x → at < length ts → PartAt ts (at + 1) (read_name (seen ts at)) y (at + 1)
+  pub name_found : (x y : Identifier) → Some x ≡ first_is name_in (seen ts at) → y ≡ x → at < length ts
+      → PartAt ts (at + 1) (read_name (seen ts at)) y (at + 1)
   name_found x y h e w = record {
     ahead = omega arith;
     within = omega (arith, w);
@@ -39,11 +40,13 @@ module _ (ts : List given.Terminal) (at : ℕ) where
     pub as_missing : None ≡ first_is name_in (seen ts (at + 1)) → read_as (seen ts at) ≡ NoForm
     as_missing h = named ∙ first_miss name_in (seen ts (at + 1)) (λ x r. Found (Some x) r) NoForm h
 
-    pub as_found : (x y : Identifier) → Some x ≡ first_is name_in (seen ts (at + 1)) → y ≡ x → at + 1 < length ts → PartAt ts at (read_as (seen ts at)) (Some y) (at + 2)
+    pub as_found : (x y : Identifier) → Some x ≡ first_is name_in (seen ts (at + 1)) → y ≡ x → at + 1 < length ts
+        → PartAt ts at (read_as (seen ts at)) (Some y) (at + 2)
     as_found x y h e w = record {
       ahead = omega arith;
       within = omega (arith, w);
-      is = named ∙ name_next ts (at + 1) x (λ z r. Found (Some z) r) NoForm h ∙ ap (λ z. Found (Some z) (seen ts (at + 1 + 1))) (sym e) ∙ ap (λ n. Found (Some y) (seen ts n)) two;
+      is = named ∙ name_next ts (at + 1) x (λ z r. Found (Some z) r) NoForm h ∙ ap (λ z. Found (Some z) (seen ts (at + 1 + 1))) (sym e)
+          ∙ ap (λ n. Found (Some y) (seen ts n)) two;
     }
       where
         two : at + 1 + 1 ≡ at + 2

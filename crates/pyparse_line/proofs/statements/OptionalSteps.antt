@@ -2,7 +2,8 @@
 --
 -- Carries: starts_expression, starts_stars, stars_or_none, after_sign, after_word.
 -- On: LineReader, Precedence.
-use Rattle.std.proofs.Common.{◌≡◌, refl, sym, ap, ◌∙◌, arith, ℕ, ◌+◌, ◌≤◌, ◌<◌, List, [], ◌∷◌, Option, Some, None, true, false, cond, length, leb}
+use Rattle.std.proofs.Common.{◌≡◌, refl, sym, ap, ◌∙◌, arith, ℕ, ◌+◌, ◌≤◌, ◌<◌, List, [], ◌∷◌, Option, Some, None, true, false, cond}
+use Rattle.std.proofs.Common.{length, leb}
 use Rattle.std.proofs.lemmas.Bool.{le-leb, lt-leb}
 use Rattle.pylex_lexeme.specs.declared.kinds.Exact.{Exact}
 use Rattle.pytree_node.specs.Trees.{Expr}
@@ -57,11 +58,13 @@ module _ (ts : List given.Terminal) (self : Reads) (l : Level) (at : ℕ) where
   pub any_failed : starts (Of l) (seen ts at) ≡ true → (e : Stop) → Failed e (self l (seen ts at)) → Failed e (if_any self l (seen ts at))
   any_failed h e f = rw (some_is h) (failed_then e (self l (seen ts at)) (λ e r. Found (Some e) r) f)
 
-  pub any_found : starts (Of l) (seen ts at) ≡ true → (e : Expr) (o : Option Expr) (n m : ℕ) → self l (seen ts at) ≡ Found e (seen ts n) → at ≤ n → n ≤ length ts → o ≡ Some e → m ≡ n → PartAt ts at (if_any self l (seen ts at)) o m
+  pub any_found : starts (Of l) (seen ts at) ≡ true → (e : Expr) (o : Option Expr) (n m : ℕ) → self l (seen ts at) ≡ Found e (seen ts n)
+      → at ≤ n → n ≤ length ts → o ≡ Some e → m ≡ n → PartAt ts at (if_any self l (seen ts at)) o m
   any_found h e o n m f le w p q = record {
     ahead = omega (arith, le, q);
     within = omega (arith, w, q);
-    is = some_is h ∙ ap (λ y. and_then y (λ e r. Found (Some e) r)) f ∙ ap (λ y. Found y (seen ts n)) (sym p) ∙ ap (λ k. Found o (seen ts k)) (sym q);
+    is = some_is h ∙ ap (λ y. and_then y (λ e r. Found (Some e) r)) f ∙ ap (λ y. Found y (seen ts n)) (sym p)
+        ∙ ap (λ k. Found o (seen ts k)) (sym q);
   }
 
 -- what is read behind a mark, where it stands
@@ -70,18 +73,22 @@ module _ (ts : List given.Terminal) (self : Reads) (t : Terminal) (l : Level) (a
     pub after_failed : (e : Stop) → Failed e (self l (seen ts (at + 1))) → Failed e (after self t l (seen ts at))
     after_failed e f = rw h (failed_then e (self l (seen ts (at + 1))) (λ e r. Found (Some e) r) f)
 
-    pub after_found : (e : Expr) (o : Option Expr) (n m : ℕ) → self l (seen ts (at + 1)) ≡ Found e (seen ts n) → at ≤ n → n ≤ length ts → o ≡ Some e → m ≡ n → PartAt ts at (after self t l (seen ts at)) o m
+    pub after_found : (e : Expr) (o : Option Expr) (n m : ℕ) → self l (seen ts (at + 1)) ≡ Found e (seen ts n) → at ≤ n → n ≤ length ts
+        → o ≡ Some e → m ≡ n → PartAt ts at (after self t l (seen ts at)) o m
     after_found e o n m f le w p q = record {
       ahead = omega (arith, le, q);
       within = omega (arith, w, q);
-      is = h ∙ ap (λ y. and_then y (λ e r. Found (Some e) r)) f ∙ ap (λ y. Found y (seen ts n)) (sym p) ∙ ap (λ k. Found o (seen ts k)) (sym q);
+      is = h ∙ ap (λ y. and_then y (λ e r. Found (Some e) r)) f ∙ ap (λ y. Found y (seen ts n)) (sym p)
+          ∙ ap (λ k. Found o (seen ts k)) (sym q);
     }
 
 module _ (ts : List given.Terminal) (self : Reads) (l : Level) (at : ℕ) where
-  pub sign_absent : (s : Exact) → None ≡ first_is (is_op s) (seen ts at) → at ≤ length ts → PartAt ts at (after self (Op s) l (seen ts at)) None at
+  pub sign_absent : (s : Exact) → None ≡ first_is (is_op s) (seen ts at) → at ≤ length ts
+      → PartAt ts at (after self (Op s) l (seen ts at)) None at
   sign_absent s h w = record { ahead = omega arith; within = w; is = first_miss (is_op s) (seen ts at) _ (Found None (seen ts at)) h }
 
-  pub word_absent : (s : Keyword) → None ≡ first_is (is_word s) (seen ts at) → at ≤ length ts → PartAt ts at (after self (Word s) l (seen ts at)) None at
+  pub word_absent : (s : Keyword) → None ≡ first_is (is_word s) (seen ts at) → at ≤ length ts
+      → PartAt ts at (after self (Word s) l (seen ts at)) None at
   word_absent s h w = record { ahead = omega arith; within = w; is = first_miss (is_word s) (seen ts at) _ (Found None (seen ts at)) h }
 
   abbrev some : List Terminal → Answer (Option Expr)

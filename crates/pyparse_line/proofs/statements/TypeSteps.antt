@@ -33,19 +33,24 @@ starts_not [] h = refl
 starts_not (t ∷ r) h = absurd (cc)
 
 -- one more
-pub param_pushed : (xs ys : List given_param.TypeParam) (p : given_param.TypeParam) → ys ≡ xs ++ (p ∷ []) → map type_param_of ys ≡ map type_param_of xs ++ (type_param_of p ∷ [])
+pub param_pushed : (xs ys : List given_param.TypeParam) (p : given_param.TypeParam) → ys ≡ xs ++ (p ∷ [])
+    → map type_param_of ys ≡ map type_param_of xs ++ (type_param_of p ∷ [])
 param_pushed xs ys p h = ap (λ l. map type_param_of l) h ∙ map-append type_param_of xs (p ∷ [])
 
 higher : (ps : List TypeParam) (p : TypeParam) → type_param_heights (ps ++ (p ∷ [])) ≡ max (type_param_heights ps) (type_param_height p)
 higher [] p = omega arith
 higher (q ∷ ps) p = omega (arith, higher ps p)
 
-pub param_height : (xs ys : List given_param.TypeParam) (p : given_param.TypeParam) (h k : ℕ) → ys ≡ xs ++ (p ∷ []) → h ≡ type_param_heights (map type_param_of xs) → k ≡ type_param_height (type_param_of p) → max h k ≡ type_param_heights (map type_param_of ys)
-param_height xs ys p h k e a b = omega (arith, a, b, ap type_param_heights (param_pushed xs ys p e), higher (map type_param_of xs) (type_param_of p))
+pub param_height : (xs ys : List given_param.TypeParam) (p : given_param.TypeParam) (h k : ℕ) → ys ≡ xs ++ (p ∷ [])
+    → h ≡ type_param_heights (map type_param_of xs) → k ≡ type_param_height (type_param_of p)
+    → max h k ≡ type_param_heights (map type_param_of ys)
+param_height xs ys p h k e a b = omega (arith, a, b, ap type_param_heights (param_pushed xs ys p e),
+    higher (map type_param_of xs) (type_param_of p))
 
 -- one, by what it begins with
 module _ (ts : List given.Terminal) (self : Reads) (at : ℕ) where
-  pub by_name : (x : Identifier) → Some x ≡ first_is name_in (seen ts at) → read_type_param self (seen ts at) ≡ type_var self x (seen ts (at + 1))
+  pub by_name : (x : Identifier) → Some x ≡ first_is name_in (seen ts at)
+      → read_type_param self (seen ts at) ≡ type_var self x (seen ts (at + 1))
   by_name x h = name_next ts at x (λ y r. type_var self y r) _ h
 
   module _ (n : None ≡ first_is name_in (seen ts at)) where
@@ -55,16 +60,20 @@ module _ (ts : List given.Terminal) (self : Reads) (at : ℕ) where
     abbrev doubled : List Terminal → Answer TypeParam
     doubled r = on_first name_in r (λ x r1. Found (ParamSpec x) r1) NoForm
 
-    nameless : read_type_param self (seen ts at) ≡ on_first (is_op Star) (seen ts at) (λ _ r. starred r) (on_first (is_op DoubleStar) (seen ts at) (λ _ r. doubled r) NoForm)
+    nameless : read_type_param self (seen ts at) ≡ on_first (is_op Star) (seen ts at) (λ _ r. starred r)
+        (on_first (is_op DoubleStar) (seen ts at) (λ _ r. doubled r) NoForm)
     nameless = first_miss name_in (seen ts at) (λ y r. type_var self y r) _ n
 
     star_is : Stands (Op Star) ts at → read_type_param self (seen ts at) ≡ starred (seen ts (at + 1))
     star_is s =
-        let w : on_first (is_op Star) (seen ts at) (λ _ r. starred r) (on_first (is_op DoubleStar) (seen ts at) (λ _ r. doubled r) NoForm) ≡ starred (seen ts (at + 1)) = rw s.is refl in
+        let w : on_first (is_op Star) (seen ts at) (λ _ r. starred r) (on_first (is_op DoubleStar) (seen ts at) (λ _ r. doubled r) NoForm) ≡
+            starred (seen ts (at + 1)) = rw s.is refl in
         nameless ∙ w
 
-    pub by_star : (x : Identifier) → Stands (Op Star) ts at → Some x ≡ first_is name_in (seen ts (at + 1)) → read_type_param self (seen ts at) ≡ Found (TypeVarTuple x) (seen ts (at + 2))
-    by_star x s h = star_is s ∙ name_next ts (at + 1) x (λ y r. Found (TypeVarTuple y) r) NoForm h ∙ ap (λ k. Found (TypeVarTuple x) (seen ts k)) two
+    pub by_star : (x : Identifier) → Stands (Op Star) ts at → Some x ≡ first_is name_in (seen ts (at + 1))
+        → read_type_param self (seen ts at) ≡ Found (TypeVarTuple x) (seen ts (at + 2))
+    by_star x s h = star_is s ∙ name_next ts (at + 1) x (λ y r. Found (TypeVarTuple y) r) NoForm h
+        ∙ ap (λ k. Found (TypeVarTuple x) (seen ts k)) two
       where
         two : at + 1 + 1 ≡ at + 2
         two = omega arith
@@ -81,13 +90,16 @@ module _ (ts : List given.Terminal) (self : Reads) (at : ℕ) where
           let w : on_first (is_op DoubleStar) (seen ts at) (λ _ r. doubled r) NoForm ≡ doubled (seen ts (at + 1)) = rw s.is refl in
           starless ∙ w
 
-      pub by_stars : (x : Identifier) → Stands (Op DoubleStar) ts at → Some x ≡ first_is name_in (seen ts (at + 1)) → read_type_param self (seen ts at) ≡ Found (ParamSpec x) (seen ts (at + 2))
-      by_stars x s h = stars_are s ∙ name_next ts (at + 1) x (λ y r. Found (ParamSpec y) r) NoForm h ∙ ap (λ k. Found (ParamSpec x) (seen ts k)) two
+      pub by_stars : (x : Identifier) → Stands (Op DoubleStar) ts at → Some x ≡ first_is name_in (seen ts (at + 1))
+          → read_type_param self (seen ts at) ≡ Found (ParamSpec x) (seen ts (at + 2))
+      by_stars x s h = stars_are s ∙ name_next ts (at + 1) x (λ y r. Found (ParamSpec y) r) NoForm h
+          ∙ ap (λ k. Found (ParamSpec x) (seen ts k)) two
         where
           two : at + 1 + 1 ≡ at + 2
           two = omega arith
 
-      pub stars_alone : Stands (Op DoubleStar) ts at → None ≡ first_is name_in (seen ts (at + 1)) → read_type_param self (seen ts at) ≡ NoForm
+      pub stars_alone : Stands (Op DoubleStar) ts at → None ≡ first_is name_in (seen ts (at + 1))
+          → read_type_param self (seen ts at) ≡ NoForm
       stars_alone s h = stars_are s ∙ first_miss name_in (seen ts (at + 1)) (λ y r. Found (ParamSpec y) r) NoForm h
 
       pub no_param : None ≡ first_is (is_op DoubleStar) (seen ts at) → read_type_param self (seen ts at) ≡ NoForm
@@ -97,5 +109,6 @@ module _ (ts : List given.Terminal) (self : Reads) (at : ℕ) where
   pub no_bracket : None ≡ first_is (is_op LSqb) (seen ts at) → bracketed_type_params self (seen ts at) ≡ Found [] (seen ts at)
   no_bracket h = first_miss (is_op LSqb) (seen ts at) _ (Found [] (seen ts at)) h
 
-  pub in_brackets : Stands (Op LSqb) ts at → bracketed_type_params self (seen ts at) ≡ and_then (commas_of (read_type_param self) starts_type_param (seen ts (at + 1))) (λ ps r. closed RSqb r ps)
+  pub in_brackets : Stands (Op LSqb) ts at → bracketed_type_params self (seen ts at) ≡ and_then
+      (commas_of (read_type_param self) starts_type_param (seen ts (at + 1))) (λ ps r. closed RSqb r ps)
   in_brackets s = rw s.is refl

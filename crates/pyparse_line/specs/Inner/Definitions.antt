@@ -14,8 +14,13 @@ use Rattle.pyparse_expr.specs.Readings.{read_arguments, read_parameters, reads}
 
 -- the parameters of a `def`, their bracket, and what is returned
 abbrev pub function_from : Depth → Bool → Identifier → List TypeParam → List Terminal → Answer Header
-function_from d b x tps i = and_then (read_parameters d i) (λ a r. on_first (is_op RPar) r (λ _ r1. and_then (after (reads d) (Op RArrow) Expression r1) (λ e r2. Found (def_header (function_head b x tps a e)) r2)) NoForm)
+function_from d b x tps i =
+    and_then (read_parameters d i)
+    (λ a r. on_first (is_op RPar) r (λ _ r1. and_then (after (reads d) (Op RArrow) Expression r1)
+    (λ e r2. Found (def_header (function_head b x tps a e)) r2)) NoForm)
 
 -- the arguments of a `class`, and their bracket
 abbrev pub class_from : Depth → Identifier → List TypeParam → List Terminal → Answer Header
-class_from d x tps i = and_then (read_arguments d i) (λ p r. on_first (is_op RPar) r (λ _ r1. Found (def_header (class_head x tps (listed p.0) p.1)) r1) NoForm)
+class_from d x tps i =
+    and_then (read_arguments d i)
+    (λ p r. on_first (is_op RPar) r (λ _ r1. Found (def_header (class_head x tps (listed p.0) p.1)) r1) NoForm)

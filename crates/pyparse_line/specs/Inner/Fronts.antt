@@ -42,7 +42,8 @@ matched self i = and_then (self Subject i) (λ e r. on_first (is_op Colon) r (λ
 
 -- behind `case`, up to the colon
 abbrev pub case_header_of : Reads → PatternReads → List Terminal → Answer Header
-case_header_of self patterns i = and_then (patterns Patterns i) (λ p r. and_then (reader.after self (Word If) Named r) (λ g r1. Found (case_header p g) r1))
+case_header_of self patterns i =
+    and_then (patterns Patterns i) (λ p r. and_then (reader.after self (Word If) Named r) (λ g r1. Found (case_header p g) r1))
 
 abbrev pub cased : Profile → Reads → PatternReads → List Terminal → Answer Form
 cased profile self patterns i = with_colon profile self (case_header_of self patterns i)

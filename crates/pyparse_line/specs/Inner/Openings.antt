@@ -29,4 +29,5 @@ name_of text = Ident (record { spelling = text; form = nfkc text })
 -- of a line at its place
 abbrev pub opening_at : Profile → Bool → List Terminal → Opening
 opening_at profile inside [] = kind.States
-opening_at profile inside (t ∷ r) = cond (is_case_line profile inside (t ∷ r)) kind.Cases (cond (is_match_line profile (t ∷ r)) kind.Matches (terminal_opening t))
+opening_at profile inside (t ∷ r) = cond (is_case_line profile inside (t ∷ r)) kind.Cases
+    (cond (is_match_line profile (t ∷ r)) kind.Matches (terminal_opening t))

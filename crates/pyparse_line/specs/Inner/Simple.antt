@@ -22,7 +22,9 @@ module _ (self : Reads) where
   returns i = and_then (if_any self Stars i) (λ e r. Found (Return e) r)
 
   abbrev pub raises : List Terminal → Answer Stmt
-  raises i = cond (starts (Of Expression) i) (and_then (self Expression i) (λ e r. and_then (after self (Word From) Expression r) (λ c r1. Found (Raise (Some e) c) r1))) (Found (Raise None None) i)
+  raises i = cond (starts (Of Expression) i)
+      (and_then (self Expression i) (λ e r. and_then (after self (Word From) Expression r) (λ c r1. Found (Raise (Some e) c) r1)))
+      (Found (Raise None None) i)
 
   abbrev pub asserts : List Terminal → Answer Stmt
   asserts i = and_then (self Expression i) (λ e r. and_then (after self (Op Comma) Expression r) (λ m r1. Found (Assert e m) r1))

@@ -24,7 +24,8 @@ begins_type_param t = false
 -- `type` and a name stand at a place, in a version that has types; or they don't
 pub record HasTypeName (profile : Profile) (x : Identifier) (ts : List Terminal) (at : ℕ) : Type 0 where
   pub within : at + 1 < length ts
-  pub is : (hit : Identifier → List tokens.Terminal → Answer Stmt) (miss : Answer Stmt) → on_type profile (seen ts at) hit miss ≡ hit x (seen ts (at + 2))
+  pub is : (hit : Identifier → List tokens.Terminal → Answer Stmt) (miss : Answer Stmt)
+      → on_type profile (seen ts at) hit miss ≡ hit x (seen ts (at + 2))
 
 pub record HasNoTypeName (profile : Profile) (ts : List Terminal) (at : ℕ) : Type 0 where
   pub is : (hit : Identifier → List tokens.Terminal → Answer Stmt) (miss : Answer Stmt) → on_type profile (seen ts at) hit miss ≡ miss

@@ -6,7 +6,8 @@ use Rattle.pytoken.specs.declared.values.terminals.Terminal as given
 use Rattle.pyparse_nodes.specs.Views.{seen, first_of}
 use Rattle.pytoken.specs.TerminalOf.{terminal}
 
-pub here : (ts : List given.Terminal) (at : ℕ) (d : given.Terminal) → at < length ts → first_of (seen ts at) ≡ Some (terminal (get_or ts at d))
+pub here : (ts : List given.Terminal) (at : ℕ) (d : given.Terminal) → at < length ts
+    → first_of (seen ts at) ≡ Some (terminal (get_or ts at d))
 here [] at d h = absurd (omega (arith, h))
 here (t ∷ ts) zero d h = refl
 here (t ∷ ts) (suc at) d h = here ts at d (omega (arith, h))

@@ -26,6 +26,7 @@ miss : (o : Option ℕ) → false ≡ is_some o → None ≡ o
 miss None h = refl
 miss (Some n) h = absurd (cc)
 
-pub mark_stands : (ts : List given.Terminal) (at : ℕ) (m : Mark) (t : Terminal) (b : Bool) → at < length ts → first_of (seen ts at) ≡ Some t → b ≡ is_some (marks m t) → MatchBool b (Stands (mark_terminal m) ts at) (None ≡ first_is (marks m) (seen ts at))
+pub mark_stands : (ts : List given.Terminal) (at : ℕ) (m : Mark) (t : Terminal) (b : Bool) → at < length ts → first_of (seen ts at) ≡ Some t
+    → b ≡ is_some (marks m t) → MatchBool b (Stands (mark_terminal m) ts at) (None ≡ first_is (marks m) (seen ts at))
 mark_stands ts at m t true w h q = record { within = w; is = front ts at (mark_terminal m) (h ∙ ap (λ z. Some z) (hit m t q)) }
 mark_stands ts at m t false w h q = miss (marks m t) q ∙ sym (ap (λ o. on_some o (marks m) None) h)

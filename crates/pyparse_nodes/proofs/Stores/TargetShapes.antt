@@ -15,7 +15,8 @@ use Rattle.pytree_node.specs.declared.expressions.Comprehension.{Comprehension}
 use Rattle.pytree_node.specs.declared.expressions.Keyword.{Keyword}
 use Rattle.pytree_node.specs.Trees as plain
 use Rattle.pytree_node.specs.Trees.{Identifier}
-use Rattle.pytree_node.specs.TreeOf.{tree_of, arg_of, arguments_of, comprehension_of, keyword_of, expr_step, arg_step, arguments_step, comprehension_step, keyword_step}
+use Rattle.pytree_node.specs.TreeOf.{tree_of, arg_of, arguments_of, comprehension_of, keyword_of, expr_step, arg_step, arguments_step}
+use Rattle.pytree_node.specs.TreeOf.{comprehension_step, keyword_step}
 use Rattle.pygrammar.specs.Targets.{deleted, single_stored, stored}
 use Rattle.pyparse_nodes.specs.Inner.Targets.{is_starred}
 
@@ -35,8 +36,10 @@ opened = given.fold_out-Expr plain.Expr plain.Arg plain.Arguments plain.Comprehe
 
 -- it has the shape of this target
 abbrev pub HasShape : plain.Expr → Expr → Type 0
-HasShape (plain.Attribute _ _ _) given = (value : Box Expr Global) × (attr : Identifier) × (ctx : Context) × (given ≡ variant.Attribute value attr ctx)
-HasShape (plain.Subscript _ _ _) given = (value : Box Expr Global) × (slice : Box Expr Global) × (ctx : Context) × (given ≡ variant.Subscript value slice ctx)
+HasShape (plain.Attribute _ _ _) given = (value : Box Expr Global) × (attr : Identifier) × (ctx : Context) ×
+    (given ≡ variant.Attribute value attr ctx)
+HasShape (plain.Subscript _ _ _) given = (value : Box Expr Global) × (slice : Box Expr Global) × (ctx : Context) ×
+    (given ≡ variant.Subscript value slice ctx)
 HasShape (plain.Starred _ _) given = (value : Box Expr Global) × (ctx : Context) × (given ≡ variant.Starred value ctx)
 HasShape (plain.Name _ _) given = (id : Identifier) × (ctx : Context) × (given ≡ variant.Name id ctx)
 HasShape (plain.ListOf _ _) given = (elts : Vec Expr Global) × (ctx : Context) × (given ≡ variant.List elts ctx)
@@ -59,7 +62,8 @@ has_shape e = subst (λ given. HasShape (tree_of e) given) (given.roll-out-Expr 
 
 -- an expression of no such shape
 module _ (e : Expr) where
-  no_star : (t : plain.Expr) → HasShape t e → ((value : Box Expr Global) (ctx : Context) → e ≡ variant.Starred value ctx → ⊥) → is_starred t ≡ false
+  no_star : (t : plain.Expr) → HasShape t e → ((value : Box Expr Global) (ctx : Context) → e ≡ variant.Starred value ctx
+      → ⊥) → is_starred t ≡ false
   no_star (plain.Starred _ _) h s = absurd (s h.0 h.1 h.2)
   no_star _ h s = refl
 

@@ -64,7 +64,8 @@ decreases-listings::argument_entry l = 20 * l.depth.steps + 1
 abbrev pub invariant-levels::alternatives-bars : goal.invariant-levels::alternatives-bars
 invariant-levels::alternatives-bars l = record {
   ahead : l.fn.first.next ≤ l.patterns.next;
-  is : Alternatives l.tokens l.depth (pattern_of l.fn.first.pattern.value) (alternatives_of l.depth (seen l.tokens l.fn.first.next)) l.patterns;
+  is : Alternatives l.tokens l.depth (pattern_of l.fn.first.pattern.value)
+      (alternatives_of l.depth (seen l.tokens l.fn.first.next)) l.patterns;
 }
 
 abbrev pub decreases-levels::alternatives-bars : goal.decreases-levels::alternatives-bars

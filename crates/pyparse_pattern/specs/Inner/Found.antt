@@ -37,7 +37,8 @@ abbrev pub EntriesAnswered : List Terminal → (room least : ℕ) → Answer (Li
 EntriesAnswered ts room least x z = MatchResult z (λ r. EntriesAt ts room least x r) (λ s. Failed s x)
 
 -- the patterns of a sequence, behind some that were read
-pub record ElementsAt (ts : List Terminal) (least : ℕ) (before : List Pattern) (x : Answer (List PatternEntry)) (r : Patterns) : Type 0 where
+pub record ElementsAt (ts : List Terminal) (least : ℕ) (before : List Pattern) (x : Answer (List PatternEntry))
+    (r : Patterns) : Type 0 where
   pub ahead : least ≤ r.next
   pub within : r.next ≤ length ts
   pub entries : List PatternEntry

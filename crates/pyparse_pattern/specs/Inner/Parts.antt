@@ -9,10 +9,13 @@ use Rattle.pyparse_pattern.specs.Inner.Entries.{alone_in, keyed_in, named_in, re
 -- one more entry is among the parts, whichever follow
 pub record IsMappingGrown (old new : mappings.Parts) (e : PatternEntry) : Type 0 where
   pub keys : (es : List PatternEntry) → map tree_of new.keys.items ++ pattern_keys es ≡ map tree_of old.keys.items ++ pattern_keys (e ∷ es)
-  pub patterns : (es : List PatternEntry) → map pattern_of new.patterns.items ++ keyed_in es ≡ map pattern_of old.patterns.items ++ keyed_in (e ∷ es)
+  pub patterns : (es : List PatternEntry) → map pattern_of new.patterns.items ++ keyed_in es ≡ map pattern_of
+      old.patterns.items ++ keyed_in (e ∷ es)
   pub rest : (es : List PatternEntry) → rest_from new.rest es ≡ rest_from old.rest (e ∷ es)
 
 pub record IsClassGrown (old new : classes.Parts) (e : PatternEntry) : Type 0 where
-  pub patterns : (es : List PatternEntry) → map pattern_of new.patterns.items ++ alone_in es ≡ map pattern_of old.patterns.items ++ alone_in (e ∷ es)
+  pub patterns : (es : List PatternEntry) → map pattern_of new.patterns.items ++ alone_in es ≡ map pattern_of
+      old.patterns.items ++ alone_in (e ∷ es)
   pub names : (es : List PatternEntry) → new.kwd_attrs.items ++ named_attributes es ≡ old.kwd_attrs.items ++ named_attributes (e ∷ es)
-  pub named : (es : List PatternEntry) → map pattern_of new.kwd_patterns.items ++ named_in es ≡ map pattern_of old.kwd_patterns.items ++ named_in (e ∷ es)
+  pub named : (es : List PatternEntry) → map pattern_of new.kwd_patterns.items ++ named_in es ≡ map pattern_of
+      old.kwd_patterns.items ++ named_in (e ∷ es)

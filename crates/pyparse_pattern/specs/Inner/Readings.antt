@@ -74,7 +74,8 @@ module _ (d : Depth) where
 
 -- behind a pattern of or_pattern
 abbrev pub as_from : ℕ → Pattern → List Terminal → Answer Pattern
-as_from room p r = on_first (is_word Key.As) r (λ _ r1. on_first name_in r1 (λ x r2. cap_pattern room (made (as_named p x) r2)) NoForm) (Found p r)
+as_from room p r = on_first (is_word Key.As) r (λ _ r1. on_first name_in r1 (λ x r2. cap_pattern room (made (as_named p x) r2)) NoForm)
+    (Found p r)
 
 -- the levels, each over the one below: a pattern may be as high as `room`, what stands in it as `below`
 module _ (room below : ℕ) (self : Reads) (inner same : PatternReads) where
@@ -82,7 +83,9 @@ module _ (room below : ℕ) (self : Reads) (inner same : PatternReads) where
   closed_at i = cap_pattern room (reader.closed_pattern below self inner same i)
 
   abbrev pub or_at : List Terminal → Answer Pattern
-  or_at i = and_then (closed_at i) (λ p r. on_first (is_op VBar) r (λ _ _. and_then (reader.alternatives_loop below self inner (length r) [] r) (λ ps r1. cap_pattern room (Found (MatchOr (patterns (p ∷ ps))) r1))) (Found p r))
+  or_at i = and_then (closed_at i)
+      (λ p r. on_first (is_op VBar) r (λ _ _. and_then (reader.alternatives_loop below self inner (length r) [] r)
+      (λ ps r1. cap_pattern room (Found (MatchOr (patterns (p ∷ ps))) r1))) (Found p r))
 
   abbrev pub as_at : List Terminal → Answer Pattern
   as_at i = and_then (or_at i) (as_from room)
@@ -91,7 +94,9 @@ module _ (room below : ℕ) (self : Reads) (inner same : PatternReads) where
   star_at i = on_first (is_op Star) i (λ _ r. reader.star_pattern below self inner r) (as_at i)
 
   abbrev pub patterns_from : List Terminal → Pattern → List Terminal → Answer Pattern
-  patterns_from i p r = reader.sequence_or below self inner p r (λ es r1. cap_pattern room (Found (MatchSequence (a_pattern p (elements es))) r1)) (unstarred i (Found p r))
+  patterns_from i p r =
+      reader.sequence_or below self inner p r (λ es r1. cap_pattern room (Found (MatchSequence (a_pattern p (elements es))) r1))
+      (unstarred i (Found p r))
 
   abbrev pub patterns_at : List Terminal → Answer Pattern
   patterns_at i = and_then (star_at i) (patterns_from i)

@@ -27,7 +27,8 @@ use Rattle.pyparse_pattern.specs.Inner.Readings.{field_reads}
 abbrev pub summed : Bool → Expr → List tokens.Terminal → Answer Expr
 summed b e r =
     cond b (Found e r)
-    (on_first (left_operator Sum) r (λ o r1. on_first imaginary_in r1 (λ w r2. Found (Trees.BinOp e o (Trees.Constant w)) r2) NoForm) (Found e r))
+    (on_first (left_operator Sum) r (λ o r1. on_first imaginary_in r1 (λ w r2. Found (Trees.BinOp e o (Trees.Constant w)) r2) NoForm)
+        (Found e r))
 
 -- ["-"] NUMBER, and what may follow
 abbrev pub numbers : List tokens.Terminal → Answer Expr
@@ -72,4 +73,5 @@ starts_string (t ∷ r) = begins_string t
 
 -- a key of any height, among the parts of a pattern
 abbrev pub keys : Depth → List tokens.Terminal → Answer Expr
-keys d i = literal_or (field_reads d) i (on_first singleton_word i (λ v r. Found (Trees.Constant v) r) (on_first name_in i (λ x r. and_then (dotted_from (d.room - 1) x r) named_key) NoForm))
+keys d i = literal_or (field_reads d) i (on_first singleton_word i (λ v r. Found (Trees.Constant v) r)
+    (on_first name_in i (λ x r. and_then (dotted_from (d.room - 1) x r) named_key) NoForm))

@@ -1,5 +1,6 @@
 -- What one pass over the lines of a source keeps of their indentation.
-use Rattle.std.specs.Prelude.{◌≡◌, ℕ, ◌+◌, ◌≤◌, replicate, Bool, true, false, not, ◌&&◌, nat_lt, nat_le, List, [], ◌∷◌, ◌++◌, length, take, drop, filter, None}
+use Rattle.std.specs.Prelude.{◌≡◌, ℕ, ◌+◌, ◌≤◌, replicate, Bool, true, false, not, ◌&&◌, nat_lt, nat_le, List, [], ◌∷◌, ◌++◌, length, take}
+use Rattle.std.specs.Prelude.{drop, filter, None}
 use Rattle.std.specs.List.{list_any, list_all}
 use Rattle.std.specs.Str.{encode_utf8_all}
 use Rattle.pysource.specs.declared.places.Place.{Place}

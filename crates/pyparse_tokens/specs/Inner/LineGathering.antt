@@ -1,5 +1,6 @@
 -- What one pass over a listing gathers of its lines behind some entries.
-use Rattle.std.specs.Prelude.{◌≡◌, ℕ, ◌+◌, ◌-◌, ◌<◌, ◌≤◌, ◌&&◌, Bool, true, false, List, [], ◌∷◌, ◌++◌, length, take, map, count_by, slice_get, Some, None, if◌then◌else◌}
+use Rattle.std.specs.Prelude.{◌≡◌, ℕ, ◌+◌, ◌-◌, ◌<◌, ◌≤◌, ◌&&◌, Bool, true, false, List, [], ◌∷◌, ◌++◌, length, take, map, count_by}
+use Rattle.std.specs.Prelude.{slice_get, Some, None, if◌then◌else◌}
 use Rattle.std.specs.List.{flat_map}
 use Rattle.std.specs.Str.{chars}
 use Rattle.pysource.specs.declared.places.Place.{Place}
@@ -54,7 +55,8 @@ marker_behind e p = elim e.kind [ kinds.EndMarker ↦ e.start | _ ↦ p ]
 pub record Adds (text : List ℕ) (e : Entry) (old new : OpenLine) : Type 0 where
   pub terminals : map terminal new.terminals.items ≡ map terminal old.terminals.items ++ own_terminals text e
   pub start : new.start ≡ (if stands_in_line e.kind then of_first old.terminals.items old.start e.start else old.start)
-  pub first : chars new.first.now ≡ (if stands_in_line e.kind then of_first old.terminals.items (chars old.first.now) (text_of text e) else chars old.first.now)
+  pub first : chars new.first.now ≡ (if stands_in_line e.kind then of_first old.terminals.items (chars old.first.now) (text_of text e)
+      else chars old.first.now)
   pub last : chars new.last.now ≡ (if stands_in_line e.kind then text_of text e else chars old.last.now)
 
 -- what is gathered behind one entry more

@@ -1,5 +1,6 @@
 -- What is gathered of the rest of a line, from one spot of a listing to the next.
-use Rattle.std.specs.Prelude.{◌≡◌, ℕ, ◌+◌, ◌-◌, ◌<◌, ◌≤◌, ◌&&◌, nat_lt, Bool, true, false, List, length, take, drop, Option, None, if◌then◌else◌}
+use Rattle.std.specs.Prelude.{◌≡◌, ℕ, ◌+◌, ◌-◌, ◌<◌, ◌≤◌, ◌&&◌, nat_lt, Bool, true, false, List, length, take, drop, Option, None}
+use Rattle.std.specs.Prelude.{if◌then◌else◌}
 use Rattle.std.specs.Str.{chars, IsUtf8}
 use Rattle.pysource.specs.Parts.{Parts}
 use Rattle.pylex_lexeme.specs.declared.kinds.Exact.{Exact}
@@ -44,11 +45,13 @@ line_end_kind ends = if ends then kinds.Newline else kinds.Nl
 
 -- a line end is taken that ends at an offset
 abbrev pub TakesLineEnd : List ℕ → Bool → ℕ → LineGather → LineGather → Type 0
-TakesLineEnd text ends to old new = (own : List ℕ) (e : Entry) → IsEntry text (line_end_kind ends) None own e → e.to ≡ to → TakesEntry text e old new
+TakesLineEnd text ends to old new = (own : List ℕ) (e : Entry) → IsEntry text (line_end_kind ends) None own e → e.to ≡ to
+    → TakesEntry text e old new
 
 -- the entry of a lexeme is taken, after which a lister stands at a spot
 abbrev pub TakesLexeme : List ℕ → Class → List ℕ → Spot → LineGather → LineGather → Type 0
-TakesLexeme text k own t old new = (e : Entry) → IsEntry text (kind_of k t.begun) (operator_of k) own e → e.to ≡ t.offset → TakesEntry text e old new
+TakesLexeme text k own t old new = (e : Entry) → IsEntry text (kind_of k t.begun) (operator_of k) own e → e.to ≡ t.offset
+    → TakesEntry text e old new
 
 -- what is kept of an operator that opens no bracket too many
 pub record PassesOperator (x : Exact) (old new : Pass) : Type 0 where

@@ -76,7 +76,8 @@ flat_bare c h =
     from3 (is_point c) (not (nat_le 0xD800 c && nat_le c 0xDFFF)) _ (point_of c v.0) (no_surrogate c v.0)
     (by (c == 0) (c == 10) (c == 13) (c == 92) (c == 39) (c == 34) v.3 v.2 w.1 v.1)
   where
-    by : (z l r b s d : Bool) → not z ≡ true → not ((s || d) || l) ≡ true → not r ≡ true → not b ≡ true → not (z || l || r || b || s || d) ≡ true
+    by : (z l r b s d : Bool) → not z ≡ true → not ((s || d) || l) ≡ true → not r ≡ true → not b ≡ true
+        → not (z || l || r || b || s || d) ≡ true
     by true l r b s d h i j k = h
     by false l r b true d h i j k = absurd (cc)
     by false l r b false true h i j k = absurd (cc)
@@ -100,13 +101,15 @@ no_quote_open c q h =
 -- the body of a STRING that is not bulky
 pub open_body : (t : List ℕ) → list_all is_calm t ≡ true → is_bulky kinds.String t ≡ false → list_all is_open (body_of t) ≡ true
 open_body t h b =
-    joined is_calm (λ c. not (is_quote c || (c == 10))) (body_of t) (body_all is_calm t h) (none_all (λ c. is_quote c || (c == 10)) (body_of t) b)
+    joined is_calm (λ c. not (is_quote c || (c == 10))) (body_of t) (body_all is_calm t h)
+        (none_all (λ c. is_quote c || (c == 10)) (body_of t) b)
 
 pub no_nuls : (t : List ℕ) → list_any (λ c. c == 0) t ≡ false → list_all (λ c. not (c == 0)) (body_of t) ≡ true
 no_nuls t n = body_all (λ c. not (c == 0)) t (none_all (λ c. c == 0) t n)
 
 -- that of the literal without its CRs
-literal_body : (t : List ℕ) → list_all is_calm t ≡ true → is_bulky kinds.String t ≡ false → list_any (λ c. c == 0) (with_line_feeds t) ≡ false
+literal_body : (t : List ℕ) → list_all is_calm t ≡ true → is_bulky kinds.String t ≡ false
+    → list_any (λ c. c == 0) (with_line_feeds t) ≡ false
     → list_all is_bare (body_of (with_line_feeds t)) ≡ true
 literal_body t h b n =
     let u : List ℕ = with_line_feeds t in
@@ -118,7 +121,8 @@ literal_body t h b n =
 calm_body : (t : List ℕ) → list_all is_calm t ≡ true → list_all is_no_backslash (body_of (with_line_feeds t)) ≡ true
 calm_body t h =
     body_all is_no_backslash (with_line_feeds t)
-    (filter_all is_no_backslash (λ c. not (c == 13)) t (weaker is_calm is_no_backslash (λ c k. (and_parts (scalar c) (is_no_backslash c) k).1) t h))
+    (filter_all is_no_backslash (λ c. not (c == 13)) t
+        (weaker is_calm is_no_backslash (λ c k. (and_parts (scalar c) (is_no_backslash c) k).1) t h))
 
 -- ---- Literals.
 
@@ -128,7 +132,8 @@ record Literally (t : List ℕ) : Type 0 where
 
 literally : (t : List ℕ) → literal_fault t ≡ None → Literally t
 unfolding literal_fault
-literally t f = by (is_formatted t) (escape_fault (meanings (is_raw t) (is_bytes t) (body_of t))) (is_bytes t && list_any (nat_lt 0x7F) t) refl f
+literally t f = by (is_formatted t) (escape_fault (meanings (is_raw t) (is_bytes t) (body_of t)))
+    (is_bytes t && list_any (nat_lt 0x7F) t) refl f
   where
     by : (a : Bool) (o : Option TokenError) (b : Bool) → (is_bytes t && list_any (nat_lt 0x7F) t) ≡ b
         → cond a (Some FString) (option_or o (cond b (Some NonAsciiBytes) (nul_fault t))) ≡ None → Literally t
@@ -145,7 +150,8 @@ small_byte c h =
     low : not (nat_lt 0x7F c) ≡ true → nat_lt c 0x80 ≡ true
     low h = grind (arith, nat_tests)
 
-value_stands : (m : ℕ) (t : List ℕ) → list_all is_bare (body_of t) ≡ true → list_all is_no_backslash (body_of t) ≡ true → literal_fault t ≡ None
+value_stands : (m : ℕ) (t : List ℕ) → list_all is_bare (body_of t) ≡ true → list_all is_no_backslash (body_of t) ≡ true
+    → literal_fault t ≡ None
     → Stands (m ∷ []) (Literal (value_of t))
 unfolding value_of points_of
 value_stands m t h b f = by (is_bytes t) refl

@@ -1,5 +1,6 @@
 -- Carries: the laws by tokens. On: an f-string without a fault stands for terminals that pass.
-use Rattle.std.proofs.Common.{◌≡◌, refl, sym, ap, subst, ◌∙◌, ℕ, zero, suc, ◌-◌, arith, List, [], ◌∷◌, ◌++◌, Option, Some, None, Bool, true, false}
+use Rattle.std.proofs.Common.{◌≡◌, refl, sym, ap, subst, ◌∙◌, ℕ, zero, suc, ◌-◌, arith, List, [], ◌∷◌, ◌++◌, Option, Some, None, Bool, true}
+use Rattle.std.proofs.Common.{false}
 use Rattle.std.proofs.Common.{cond}
 use Rattle.std.specs.Prelude.{◌&&◌, ◌==◌, not, if◌then◌else◌}
 use Rattle.std.specs.List.{list_all, list_any, flat_map}
@@ -23,22 +24,26 @@ use Rattle.pylex.specs.Spots.{kind_of}
 use Rattle.pytree_node.specs.declared.profiles.Extent.TheVariants.{Whole}
 use Rattle.pytoken.specs.Escapes.{meanings, points_in}
 use Rattle.pytoken.specs.StringValues.{with_line_feeds, is_quote, body_of, string_value, string_fault}
-use Rattle.pytoken.specs.FormattedStrings.{Element, End, TextPart, text_meanings, text_points, is_fstring, is_bulky, is_field_of, elements_of}
+use Rattle.pytoken.specs.FormattedStrings.{Element, End, TextPart, text_meanings, text_points, is_fstring, is_bulky, is_field_of}
+use Rattle.pytoken.specs.FormattedStrings.{elements_of}
 use Rattle.pytoken.specs.FormattedStrings.{elements_fault}
 use Rattle.pytoken.specs.Terminals.{Terminal, Literal, FormattedBegin, FormattedEnd, FormattedText, FieldBegin, SpecBegin, FieldEnd}
-use Rattle.pytoken.specs.Terminals.{element_terminals, elements_terminals, terminal_of, terminals_by, terminals_of, single_fault, fault_by, fault_of}
+use Rattle.pytoken.specs.Terminals.{element_terminals, elements_terminals, terminal_of, terminals_by, terminals_of, single_fault, fault_by}
+use Rattle.pytoken.specs.Terminals.{fault_of}
 use Rattle.pytoken.specs.Terminals.{field_fault, nested_expression, expression, is_nested_faulty, is_faulty}
 use Rattle.pytoken.specs.Laws.{is_point}
 use Rattle.pytoken.proofs.Callers.Bodies.{body_all, filter_all}
 use Rattle.pytoken.proofs.Callers.Said.{points_are_in_range}
 use Rattle.pygrammar.specs.OpenStrings.{Open}
-use Rattle.pyunparse_text.proofs.Callers.Strings.{Laid, nothing, a_text, kept_text, a_spec, a_field, at_top, LaidIf, all_laid, no_field_wrong}
+use Rattle.pyunparse_text.proofs.Callers.Strings.{Laid, nothing, a_text, kept_text, a_spec, a_field, at_top, LaidIf, all_laid}
+use Rattle.pyunparse_text.proofs.Callers.Strings.{no_field_wrong}
 use Rattle.pyunparse_text.proofs.Callers.Strings.{no_nul_in, field_faultless, OfClass, of_class, no_string, whole_field, is_no_backslash}
 use Rattle.pyunparse_text.proofs.Callers.Strings.{expression_calm, weaker, joined, kept_all, kept_pass, points_kept, single_kept, unbraced}
 use Rattle.pytree_fits.specs.Literals.{is_bare, is_no_brace}
 use Rattle.pytree_fits.specs.Given.{all_pass}
 use Rattle.pytree_fits.proofs.Exactness.Walks.{whole, Stands, Walk, walk_none, walk_one, walk_both, field_walk, operator_walk, lexeme_walk}
-use Rattle.pytree_fits.proofs.Exactness.FieldCharacters.{is_calm, is_open, is_flat, point_of, flat_scalar, flat_calm, flat_unquoted, flat_bare}
+use Rattle.pytree_fits.proofs.Exactness.FieldCharacters.{is_calm, is_open, is_flat, point_of, flat_scalar, flat_calm, flat_unquoted}
+use Rattle.pytree_fits.proofs.Exactness.FieldCharacters.{flat_bare}
 use Rattle.pytree_fits.proofs.Exactness.FieldCharacters.{open_body, no_nuls, string_stands}
 
 -- ---- Elements, where these f-strings are open around theirs.
@@ -53,7 +58,8 @@ module _ (o : Open) (p : ℕ → Bool) (is_nested : Bool) (terminals : List ℕ 
   elements_walk : {k : ℕ} {es : List Element} → Laid p is_nested k es → list_any (is_field_of is_wrong) es ≡ false
       → Walk (k ∷ o) (k ∷ o) (flat_map (element_terminals terminals) es)
   elements_walk {k} nothing n = walk_none (k ∷ o)
-  elements_walk {k} (a_text {raw = raw} {t = t} {rest = rest} h w l) n = walk_both (walk_one _ (texts k raw t rest h w) refl) (elements_walk l n)
+  elements_walk {k} (a_text {raw = raw} {t = t} {rest = rest} h w l) n =
+      walk_both (walk_one _ (texts k raw t rest h w) refl) (elements_walk l n)
   elements_walk {k} (kept_text {t = t} q h l) n = walk_both (walk_one _ (kept k t q h) refl) (elements_walk l n)
   elements_walk {k} (a_spec l) n = walk_both (walk_one SpecBegin refl refl) (elements_walk l n)
   elements_walk {k} (a_field {c = c} {t = t} {rest = rest} {ss = ss} {es = es} b h w s l) n =
@@ -81,7 +87,8 @@ unfolding exact_of operators
 brackets_are = (refl, refl)
 
 -- in its fields stands no STRING
-inner_field : (m k : ℕ) (t rest : List ℕ) → list_all is_flat t ≡ true → behind_expression (t ++ rest) ≡ Some rest → is_nested_faulty t ≡ false
+inner_field : (m k : ℕ) (t rest : List ℕ) → list_all is_flat t ≡ true → behind_expression (t ++ rest) ≡ Some rest
+    → is_nested_faulty t ≡ false
     → Walk (k ∷ (m ∷ [])) (k ∷ (m ∷ [])) (nested_expression t)
 unfolding nested_expression
 inner_field m k t rest h w n =
@@ -104,19 +111,22 @@ inner_text m k raw t rest h w = by k w
   where
     calm : (u : List ℕ) → list_all is_flat u ≡ true → read raw u ≡ with_line_feeds u
     calm u e =
-        points_kept raw false (with_line_feeds u) (kept_all is_no_backslash (λ c. not (c == 13)) u (weaker is_flat is_no_backslash flat_calm u e))
+        points_kept raw false (with_line_feeds u)
+            (kept_all is_no_backslash (λ c. not (c == 13)) u (weaker is_flat is_no_backslash flat_calm u e))
 
     bare : (u : List ℕ) → list_all is_flat u ≡ true → list_all is_bare (read raw u) ≡ true
     bare u e =
         subst (λ z. list_all is_bare z ≡ true) (sym (calm u e))
         (weaker (λ c. is_flat c && not (c == 13)) is_bare flat_bare (with_line_feeds u)
-        (joined is_flat (λ c. not (c == 13)) (with_line_feeds u) (kept_all is_flat (λ c. not (c == 13)) u e) (kept_pass (λ c. not (c == 13)) u)))
+        (joined is_flat (λ c. not (c == 13)) (with_line_feeds u) (kept_all is_flat (λ c. not (c == 13)) u e)
+            (kept_pass (λ c. not (c == 13)) u)))
 
     unbraced_there : (u : List ℕ) → list_all is_flat u ≡ true → list_all is_literal_char u ≡ true → list_all is_no_brace (read raw u) ≡ true
     unbraced_there u e l = subst (λ z. list_all is_no_brace z ≡ true) (sym (calm u e)) (kept_all is_no_brace (λ c. not (c == 13)) u l)
 
     by : (k : ℕ) → behind_text raw (at_top k) (t ++ rest) ≡ rest
-        → Stands (k ∷ (m ∷ [])) (FormattedText (flat_map points_in (meanings raw false (with_line_feeds (if at_top k then single raw t else t)))))
+        → Stands (k ∷ (m ∷ []))
+            (FormattedText (flat_map points_in (meanings raw false (with_line_feeds (if at_top k then single raw t else t)))))
     by zero w = bare (single raw t) (single_kept is_flat raw t h)
     by (suc k) w =
         and_from (list_all is_bare (read raw t)) _ (bare t h)
@@ -148,7 +158,8 @@ field_string m t h n = by (is_fstring kinds.String t) f.1
     by true g = nested_walk m t h f.0 (elements_of true t) refl g
     by false g = walk_one (Literal (string_value t)) (string_stands m t h f.0 g) refl
 
-field_lexeme : (m : ℕ) (k : Class) (t : List ℕ) → is_gap k ≡ false → OfClass k t → list_all is_calm t ≡ true → field_fault (kind_of k true) t ≡ None
+field_lexeme : (m : ℕ) (k : Class) (t : List ℕ) → is_gap k ≡ false → OfClass k t → list_all is_calm t ≡ true
+    → field_fault (kind_of k true) t ≡ None
     → Walk (m ∷ []) (m ∷ []) (terminals_by true nested_expression (kind_of k true) t)
 unfolding terminals_by fault_by
 field_lexeme m classes.String t g c h f = field_string m t h f

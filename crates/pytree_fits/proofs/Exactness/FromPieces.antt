@@ -57,7 +57,8 @@ record AreTokens (extent : Extent) (ts : List Terminal) : Type 0 where
 abbrev somewhere : Place
 somewhere = record { row = 0; column = 0 }
 
-as_tokens : {extent : Extent} {ps : List Piece} {ts : List Terminal} → Give extent ps ts → list_all (λ (p : Piece). all_scalars p.text) ps ≡ true
+as_tokens : {extent : Extent} {ps : List Piece} {ts : List Terminal} → Give extent ps ts
+    → list_all (λ (p : Piece). all_scalars p.text) ps ≡ true
     → AreTokens extent ts
 as_tokens {extent} give_none h =
     record { tokens = []; sound = record { of_source = All-nil IsOfSource; faultless = All-nil (IsFaultless extent) }; terminals = refl }
@@ -89,7 +90,8 @@ pub fits_expressed : (extent : Extent) (l : Level) (e : Expr) → IsLow l e → 
 fits_expressed extent l e low h =
     let (ts, passed, derived) = (fits_exactly (tests_in extent) l e).1 h in
     let k = read_tokens (expressions_said extent l ts e (passing_said extent [] ts tt passed) derived low) in
-    record { tokens = k.tokens; sound = k.sound; derived = subst (λ z. Derives l z e) (sym k.terminals) (expressions_are_shortest l ts e derived).gives }
+    record { tokens = k.tokens; sound = k.sound; derived =
+        subst (λ z. Derives l z e) (sym k.terminals) (expressions_are_shortest l ts e derived).gives }
 
 pub fits_patterned : (extent : Extent) (l : PatternLevel) (p : Pattern) → IsLowPattern l p → pattern_fits_at (tests_in extent) l p ≡ true
     → Patterned extent l p
@@ -109,7 +111,8 @@ record Lined (profile : Profile) (earlier xs : List Line) : Type 0 where
   may_be : All MayBeTokens lines
 
 lined : {profile : Profile} {earlier xs : List Line} → AreGiven profile (tests_in profile.extent) earlier xs → Lined profile earlier xs
-lined {profile} no_line = record { lines = []; formed = Written.no_form; said = All-nil (IsSaid profile.extent); may_be = All-nil MayBeTokens }
+lined {profile} no_line = record { lines = []; formed = Written.no_form; said = All-nil (IsSaid profile.extent);
+    may_be = All-nil MayBeTokens }
 lined {profile} (a_line {x = x} w r) =
     let (ts, passed, form) = w in
     let k = lined r in
@@ -140,7 +143,8 @@ tokened {profile} {earlier} (Written.a_line {l = l} {ps = ps} {rs = rs} g c) h (
       formed = a_form {x = x} t.sound (subst (λ z. FormAt profile (stands_in_match l earlier) z f) (sym t.terminals) p) k.formed;
     }
 
-pub fits_stated : (profile : Profile) (m : Module) → IsLowModule m → module_fits profile (tests_in profile.extent) m ≡ true → Stated profile m
+pub fits_stated : (profile : Profile) (m : Module) → IsLowModule m
+    → module_fits profile (tests_in profile.extent) m ≡ true → Stated profile m
 fits_stated profile m low h =
     let (xs, given, block) = module_given profile profile.extent m h in
     let y = lined given in

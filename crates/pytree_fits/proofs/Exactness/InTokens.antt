@@ -1,4 +1,5 @@
--- Carries: the laws by tokens. On: expressions, patterns and modules that some tokens are fit, and those that fit are some tokens, but for high ones
+-- Carries: the laws by tokens. On: expressions, patterns and modules that some tokens are fit, and those that fit are some tokens, but for
+-- high ones
 -- with f-strings.
 use Rattle.std.proofs.Common.{◌≡◌, List, true}
 use Rattle.std.specs.List.{flat_map}

@@ -61,13 +61,16 @@ undotted x h = lexeme_undotted x (proper x h).name
 words : (extent : Extent) → Words (tests_in extent)
 words extent = record { typed = type_is_name; matched = match_is_name; cased = case_is_name }
 
-pub module_exactly : (profile : Profile) (extent : Extent) (m : Module) → GivenModule profile (tests_in extent) m → module_fits profile (tests_in extent) m ≡ true
+pub module_exactly : (profile : Profile) (extent : Extent) (m : Module) → GivenModule profile (tests_in extent) m
+    → module_fits profile (tests_in extent) m ≡ true
 module_exactly profile extent m w = block_fits profile (tests_in extent) w.2 (given_fit profile (tests_in extent) undotted w.1)
 
-module_as_spelled : (profile : Profile) (extent : Extent) (m : Module) → module_fits profile (tests_in extent) m ≡ true → (xs : List Line) × AreGivenAsSpelled profile (tests_in extent) [] xs × Block 0 xs m.body
+module_as_spelled : (profile : Profile) (extent : Extent) (m : Module) → module_fits profile (tests_in extent) m ≡ true
+    → (xs : List Line) × AreGivenAsSpelled profile (tests_in extent) [] xs × Block 0 xs m.body
 module_as_spelled profile extent m h =
     let d = drawn_all profile (tests_in extent) (words extent) 0 (stmts m.body) h in
     (d.lines, d.given.given [] refl, subst (Block 0 d.lines) (of_stmts_back m.body) d.is)
 
-pub module_given : (profile : Profile) (extent : Extent) (m : Module) → module_fits profile (tests_in extent) m ≡ true → GivenModule profile (tests_in extent) m
+pub module_given : (profile : Profile) (extent : Extent) (m : Module) → module_fits profile (tests_in extent) m ≡ true
+    → GivenModule profile (tests_in extent) m
 module_given profile extent m h = let w = module_as_spelled profile extent m h in (w.0, lines_given (tests_in extent) w.1, w.2)

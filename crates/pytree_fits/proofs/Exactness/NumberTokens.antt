@@ -69,12 +69,14 @@ pub number_class : (t : List ℕ) → is_number (number_value t) ≡ true
 unfolding number_value
 number_class t = class_by (is_complex t) (is_real t) t
 
-plain_value : (complex real : Bool) (t : List ℕ) → plain_fault complex real t ≡ None → is_value (tests_in Plain) (value_by complex real t) ≡ true
+plain_value : (complex real : Bool) (t : List ℕ) → plain_fault complex real t ≡ None
+    → is_value (tests_in Plain) (value_by complex real t) ≡ true
 plain_value true real t h = absurd (cc)
 plain_value false true t h = absurd (cc)
 plain_value false false t h = not_past (2 ^ 128) (whole_value t) h
 
-its_value : (complex real : Bool) (t : List ℕ) → whole_fault complex real t ≡ None → is_value (tests_in Whole) (value_by complex real t) ≡ true
+its_value : (complex real : Bool) (t : List ℕ) → whole_fault complex real t ≡ None
+    → is_value (tests_in Whole) (value_by complex real t) ≡ true
 its_value true real t h = double_is t
 its_value false true t h = double_is t
 its_value false false t h = not_past (10 ^ most_digits) (whole_value t) h
@@ -86,7 +88,8 @@ number_is_value Whole t h = its_value (is_complex t) (is_real t) t h
 
 -- ---- As tokens.
 
-pub number_passes : (extent : Extent) (t : List ℕ) → number_fault extent (encode_utf8_all t) ≡ None → passes (tests_in extent) [] (terminal_of kinds.Number t) ≡ true
+pub number_passes : (extent : Extent) (t : List ℕ) → number_fault extent (encode_utf8_all t) ≡ None
+    → passes (tests_in extent) [] (terminal_of kinds.Number t) ≡ true
 unfolding terminal_of
 number_passes extent t h =
     let v = number_value (encode_utf8_all t) in

@@ -1,4 +1,5 @@
--- Carries: the laws by tokens. On: terminals that pass can be said, and tokens may be they: two ways of telling where names and constants may stand.
+-- Carries: the laws by tokens. On: terminals that pass can be said, and tokens may be they: two ways of telling where names and constants
+-- may stand.
 use Rattle.std.proofs.Common.{◌≡◌, ℕ, zero, suc, ◌^◌, ◌<◌, Bool, true, false, not, List, [], ◌∷◌, refl, arith, leb}
 use Rattle.std.specs.Prelude.{All, nat_lt}
 use Rattle.std.specs.List.{list_all}
@@ -18,7 +19,8 @@ use Rattle.pygrammar.specs.OpenStrings.{Open, open_behind}
 use Rattle.pyunparse_text.specs.Pieces.{is_brace}
 use Rattle.pyunparse_text.specs.Laws as Written
 use Rattle.pyunparse_text.specs.Laws.{may_be_token}
-use Rattle.pyunparse_text.proofs.Callers.Said.{is_own, is_field_character, is_field_byte, can_stand, HasWhole, HasDouble, Sayable, Said, none, also}
+use Rattle.pyunparse_text.proofs.Callers.Said.{is_own, is_field_character, is_field_byte, can_stand, HasWhole, HasDouble, Sayable, Said}
+use Rattle.pyunparse_text.proofs.Callers.Said.{none, also}
 use Rattle.pyunparse_text.proofs.Callers.Strings.{weaker}
 use Rattle.pytree_fits.specs.Tests.{Tests, tests_in, within}
 use Rattle.pytree_fits.specs.Literals.{has_integer, has_float, is_bare, is_bare_byte, is_no_brace, is_value}
@@ -101,14 +103,16 @@ begin_said Whole [] h = tt
 begin_said Whole (k ∷ []) h = tt
 begin_said Whole (k ∷ (m ∷ o)) h = absurd (let z = leb-true _ 1 (and_parts true _ h).1 in omega (arith, z))
 
-text_said : (extent : Extent) (k : ℕ) (o : Open) (t : List ℕ) → passes (tests_in extent) (k ∷ o) (FormattedText t) ≡ true → Sayable extent (k ∷ o) (FormattedText t)
+text_said : (extent : Extent) (k : ℕ) (o : Open) (t : List ℕ) → passes (tests_in extent) (k ∷ o) (FormattedText t) ≡ true
+    → Sayable extent (k ∷ o) (FormattedText t)
 text_said extent k [] t h = h
 text_said extent zero (m ∷ []) t h = weaker is_bare (can_stand true false) bare_stands t h
 text_said extent (suc k) (m ∷ []) t h = let w = and_parts (list_all is_bare t) _ h in spec_stands t w.0 w.1
 text_said extent zero (m ∷ (n ∷ o)) t h = absurd (cc)
 text_said extent (suc k) (m ∷ (n ∷ o)) t h = absurd (cc)
 
-field_said : (extent : Extent) (k : ℕ) (o : Open) (c : _) → passes (tests_in extent) (k ∷ o) (FieldBegin c) ≡ true → Sayable extent (k ∷ o) (FieldBegin c)
+field_said : (extent : Extent) (k : ℕ) (o : Open) (c : _) → passes (tests_in extent) (k ∷ o) (FieldBegin c) ≡ true
+    → Sayable extent (k ∷ o) (FieldBegin c)
 field_said extent zero o c h = tt
 field_said extent (suc zero) o c h = tt
 field_said extent (suc (suc k)) o c h = absurd (too_many k h)

@@ -84,7 +84,8 @@ name_opens : (n : ℕ) (o : Open) (t : List ℕ) → open_behind (n ∷ o) (term
 unfolding terminal_of
 name_opens n o t = by (keyword_of t)
   where
-    by : (k : Option Keyword) → open_behind (n ∷ o) (elim k [ Some w ↦ Word w | None ↦ Ident (record { spelling = t; form = nfkc t }) ]) ≡ n ∷ o
+    by : (k : Option Keyword)
+        → open_behind (n ∷ o) (elim k [ Some w ↦ Word w | None ↦ Ident (record { spelling = t; form = nfkc t }) ]) ≡ n ∷ o
     by (Some w) = refl
     by None = refl
 
@@ -92,7 +93,8 @@ name_stands : (n : ℕ) (o : Open) (t : List ℕ) → is_name t ≡ true → nam
 unfolding terminal_of
 name_stands n o t h s = by (keyword_of t) refl
   where
-    by : (k : Option Keyword) → keyword_of t ≡ k → Stands (n ∷ o) (elim k [ Some w ↦ Word w | None ↦ Ident (record { spelling = t; form = nfkc t }) ])
+    by : (k : Option Keyword) → keyword_of t ≡ k
+        → Stands (n ∷ o) (elim k [ Some w ↦ Word w | None ↦ Ident (record { spelling = t; form = nfkc t }) ])
     by (Some w) e = refl
     by None e = proper_name (nfkc t) (names_are_proper t h e s)
 
@@ -129,7 +131,8 @@ module _ (n : ℕ) (o : Open) where
       → Walk (n ∷ o) (n ∷ o) (terminal_of (kind_of k true) t ∷ [])
   unfolding single_fault
   lexeme_walk classes.Name t g c f x = walk_one (terminal_of kinds.Name t) (name_stands n o t c f) (name_opens n o t)
-  lexeme_walk classes.Number t g c f x = walk_one (terminal_of kinds.Number t) (number_stands n o t f (number_passes Whole t f)) (number_opens n o t)
+  lexeme_walk classes.Number t g c f x =
+      walk_one (terminal_of kinds.Number t) (number_stands n o t f (number_passes Whole t f)) (number_opens n o t)
   lexeme_walk classes.String t g c f x = x refl c
   lexeme_walk (classes.Operator e) t g c f x = operator_walk t e c
   lexeme_walk classes.Comment t g c f x = comment_walk t

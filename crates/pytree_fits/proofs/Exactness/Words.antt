@@ -50,7 +50,8 @@ wildcard_free = refl
 
 -- a text of ASCII alone is its own form
 ascii_form : (x : Identifier) → list_all is_ascii x ≡ true → nfkc x ≡ x
-ascii_form x h = normalize-ascii Nfkc x (λ i d within. ltb-true (get_or x i d) 128 (and_at (list_all is_ascii) is_ascii refl (λ x xs. refl) x i d within h))
+ascii_form x h = normalize-ascii Nfkc x
+    (λ i d within. ltb-true (get_or x i d) 128 (and_at (list_all is_ascii) is_ascii refl (λ x xs. refl) x i d within h))
 
 pub type_is_name : is_name type_name ≡ true
 type_is_name = proper_name type_name (record { name = type_named; free = type_free; form = ascii_form type_name refl })

@@ -36,10 +36,12 @@ GivenAsSpelled n r a = (ts : List Terminal) × Passed n ts × r ts a
 pub data AreGivenAsSpelled (profile : Profile) (n : Tests) : List Line → List Line → Type 0 where
   none_spelled : {earlier : List Line} → AreGivenAsSpelled profile n earlier []
   one_spelled : {earlier : List Line} {x : Line} {xs : List Line} →
-      GivenAsSpelled (outside n) (FormAt profile (stands_in_match x.level earlier)) x.form → AreGivenAsSpelled profile n (x ∷ earlier) xs → AreGivenAsSpelled profile n earlier (x ∷ xs)
+      GivenAsSpelled (outside n) (FormAt profile (stands_in_match x.level earlier)) x.form → AreGivenAsSpelled profile n (x ∷ earlier) xs
+          → AreGivenAsSpelled profile n earlier (x ∷ xs)
 
 -- a list by its parts
-spelled_append : (n : Tests) (o : Open) (ts us : List Terminal) → all_as_spelled n o ts ≡ true → all_as_spelled n (open_behind_all o ts) us ≡ true → all_as_spelled n o (ts ++ us) ≡ true
+spelled_append : (n : Tests) (o : Open) (ts us : List Terminal) → all_as_spelled n o ts ≡ true
+    → all_as_spelled n (open_behind_all o ts) us ≡ true → all_as_spelled n o (ts ++ us) ≡ true
 spelled_append n o [] us p q = q
 spelled_append n o (t ∷ ts) us p q =
     let w = and_parts (passes_as_spelled n o t) (all_as_spelled n (open_behind o t) ts) p in
@@ -68,22 +70,26 @@ module _ (n : Standing) where
   -- behind a list that closes what it opens
   pub pass_past : (o : Open) (ts us : List Terminal) → Passed n ts → Ends n o us → Ends n o (ts ++ us)
   pass_past o ts us p q =
-      ends o (ts ++ us) (spelled_append n.tests n.opened ts us (spelled ts p) (ap (λ o. all_as_spelled n.tests o us) (closed ts p) ∙ spelled us q))
+      ends o (ts ++ us) (spelled_append n.tests n.opened ts us (spelled ts p)
+          (ap (λ o. all_as_spelled n.tests o us) (closed ts p) ∙ spelled us q))
       (behind_append n.opened ts us ∙ ap (λ o. open_behind_all o us) (closed ts p) ∙ closed us q)
 
   pub pass_on : (ts us : List Terminal) → Passed n ts → Passed n us → Passed n (ts ++ us)
   pass_on ts us p q = pass_past n.opened ts us p q
 
   -- behind a terminal
-  pub pass_behind : (t : Terminal) (m o : Open) (ts : List Terminal) → passes_as_spelled n.tests n.opened t ≡ true → open_behind n.opened t ≡ m →
+  pub pass_behind : (t : Terminal) (m o : Open) (ts : List Terminal) → passes_as_spelled n.tests n.opened t ≡ true
+      → open_behind n.opened t ≡ m →
       Ends (record { tests = n.tests; opened = m }) o ts → Ends n o (t ∷ ts)
   pass_behind t m o ts h q p =
       ends o (t ∷ ts)
-      (and_from (passes_as_spelled n.tests n.opened t) (all_as_spelled n.tests (open_behind n.opened t) ts) h (ap (λ x. all_as_spelled n.tests x ts) q ∙ ap (λ x. x.0) p))
+      (and_from (passes_as_spelled n.tests n.opened t) (all_as_spelled n.tests (open_behind n.opened t) ts) h
+          (ap (λ x. all_as_spelled n.tests x ts) q ∙ ap (λ x. x.0) p))
       (ap (λ x. open_behind_all x ts) q ∙ ap (λ x. x.1) p)
 
   -- behind one that neither opens nor closes an f-string
-  pub pass_in_front : (t : Terminal) (ts : List Terminal) → passes_as_spelled n.tests n.opened t ≡ true → open_behind n.opened t ≡ n.opened → Passed n ts → Passed n (t ∷ ts)
+  pub pass_in_front : (t : Terminal) (ts : List Terminal) → passes_as_spelled n.tests n.opened t ≡ true → open_behind n.opened t ≡ n.opened
+      → Passed n ts → Passed n (t ∷ ts)
   pass_in_front t ts h q p = pass_behind t n.opened n.opened ts h q p
 
 module _ (n : Tests) where

@@ -21,7 +21,8 @@ none_some : {A : Type 0} (o : Option A) (a : A) → o ≡ None → o ≡ Some a 
 none_some None a h q = absurd (cc)
 none_some (Some x) a h q = absurd (cc)
 
-quiet_by : {A : Type 0} (f : Terminal → Option A) → f FormattedBegin ≡ None → f FormattedEnd ≡ None → ((c : Conversion) → f (FieldBegin c) ≡ None)
+quiet_by : {A : Type 0} (f : Terminal → Option A) → f FormattedBegin ≡ None → f FormattedEnd ≡ None
+    → ((c : Conversion) → f (FieldBegin c) ≡ None)
     → f FieldEnd ≡ None → (t : Terminal) (a : A) → f t ≡ Some a → (o : Open) → open_behind o t ≡ o
 quiet_by f h k m n FormattedBegin a q o = absurd (none_some (f FormattedBegin) a h q)
 quiet_by f h k m n FormattedEnd a q o = absurd (none_some (f FormattedEnd) a k q)

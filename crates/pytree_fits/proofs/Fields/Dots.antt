@@ -64,12 +64,14 @@ pub parts_join : (x : Identifier) → with_dots (names_in x) ≡ x
 parts_join [] = refl
 parts_join (c ∷ cs) = by (c == 46) (eqb-true c 46) (parts_join cs)
   where
-    by : (b : Bool) → (b ≡ true → c ≡ 46) → with_dots (names_in cs) ≡ cs → with_dots (cond b ([] ∷ names_in cs) (lengthen c (names_in cs))) ≡ c ∷ cs
+    by : (b : Bool) → (b ≡ true → c ≡ 46) → with_dots (names_in cs) ≡ cs
+        → with_dots (cond b ([] ∷ names_in cs) (lengthen c (names_in cs))) ≡ c ∷ cs
     by true h e = none_before (names_in cs) (some_part cs) ∙ ap (λ z. 46 ∷ z) e ∙ ap (λ z. z ∷ cs) (sym (h refl))
     by false h e = lengthened c (names_in cs) (some_part cs) ∙ ap (λ z. c ∷ z) e
 
 module _ (n : Tests) where
-  joined_given : (x : Identifier) (xs : List Identifier) → list_all n.name (x ∷ xs) ≡ true → GivenAsSpelled (outside n) F.Dotted (with_dots (x ∷ xs))
+  joined_given : (x : Identifier) (xs : List Identifier) → list_all n.name (x ∷ xs) ≡ true
+      → GivenAsSpelled (outside n) F.Dotted (with_dots (x ∷ xs))
   joined_given x [] h = let w = and_parts (n.name x) true h in (in_form x ∷ [], named_pass (outside n) x [] w.0 refl, F.one_name)
   joined_given x (y ∷ ys) h =
       let w = and_parts (n.name x) (list_all n.name (y ∷ ys)) h in
@@ -84,10 +86,12 @@ module _ (n : Tests) where
   dotted_given x h = subst (GivenAsSpelled (outside n) F.Dotted) (parts_join x) (some_joined (names_in x) (some_part x) h)
 
   -- where no name that passes holds a dot
-  pub dotted_fits : ((x : Identifier) → n.name x ≡ true → list_all is_other x ≡ true) → {ts : List Terminal} {x : Identifier} → F.Dotted ts x → pass_at (outside n) ts ≡ true → dotted n.name x ≡ true
+  pub dotted_fits : ((x : Identifier) → n.name x ≡ true → list_all is_other x ≡ true) → {ts : List Terminal} {x : Identifier}
+      → F.Dotted ts x → pass_at (outside n) ts ≡ true → dotted n.name x ≡ true
   dotted_fits f (F.one_name {x = x}) s =
       let w = and_parts (n.name x.form) true s in
       subst (λ z. list_all n.name z ≡ true) (sym (one_part x.form (f x.form w.0))) (and_from (n.name x.form) true w.0 refl)
   dotted_fits f (F.dot_name {x = x} {y = y} {ts = ts} d) s =
       let w = and_parts (n.name x.form) (pass_at (outside n) ts) s in
-      subst (λ z. list_all n.name z ≡ true) (sym (part_before_dot x.form y (f x.form w.0))) (and_from (n.name x.form) (dotted n.name y) w.0 (dotted_fits f d w.1))
+      subst (λ z. list_all n.name z ≡ true) (sym (part_before_dot x.form y (f x.form w.0)))
+          (and_from (n.name x.form) (dotted n.name y) w.0 (dotted_fits f d w.1))

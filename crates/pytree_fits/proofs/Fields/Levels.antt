@@ -11,7 +11,8 @@ use Rattle.pytree_node.specs.Trees
 use Rattle.pytree_node.specs.Trees.{Expr, Exprs, no_exprs, an_expr}
 use Rattle.pytoken.specs.Terminals.{Terminal}
 use Rattle.pygrammar.specs.declared.levels.Level.{Level}
-use Rattle.pygrammar.specs.declared.levels.Level.TheVariants.{Value, Stars, StarItem, Expression, Not, BitOr, BitXor, BitAnd, Shift, Sum, Term, Factor, Elem, Slices, Part, Slice, Subject}
+use Rattle.pygrammar.specs.declared.levels.Level.TheVariants.{Value, Stars, StarItem, Expression, Not, BitOr, BitXor, BitAnd, Shift, Sum}
+use Rattle.pygrammar.specs.declared.levels.Level.TheVariants.{Term, Factor, Elem, Slices, Part, Slice, Subject}
 use Rattle.pygrammar.specs.Operators.{below, left_operator, prefix_operator, chain_level}
 use Rattle.pytree_fits.specs.Tests.{Tests}
 use Rattle.pytree_fits.specs.Slots.{takes_star, takes_slice, member_level, is_context, fits_at, each_fits, perhaps_fits}
@@ -88,9 +89,11 @@ module _ (n : Tests) where
   star_elem (Trees.Tuple es c) h = h
   star_elem _ h = h
 
-  pub each_moved : (l m : Level) → ((e : Expr) → fits_at n l e ≡ true → fits_at n m e ≡ true) → (es : Exprs) → each_fits n l es ≡ true → each_fits n m es ≡ true
+  pub each_moved : (l m : Level) → ((e : Expr) → fits_at n l e ≡ true → fits_at n m e ≡ true) → (es : Exprs) → each_fits n l es ≡ true
+      → each_fits n m es ≡ true
   each_moved l m f no_exprs h = refl
-  each_moved l m f (an_expr e es) h = let w = and_parts (fits_at n l e) (each_fits n l es) h in and_from (fits_at n m e) (each_fits n m es) (f e w.0) (each_moved l m f es w.1)
+  each_moved l m f (an_expr e es) h = let w = and_parts (fits_at n l e) (each_fits n l es) h in
+      and_from (fits_at n m e) (each_fits n m es) (f e w.0) (each_moved l m f es w.1)
 
   -- the members of a Tuple
   pub members_at : (m : Level) (es : Exprs) → each_fits n Elem es ≡ true → each_fits n (member_level m) es ≡ true
@@ -98,12 +101,17 @@ module _ (n : Tests) where
   members_at _ es h = h
 
   pub fits_below : (l : Level) (e : Expr) → fits_at n (below l) e ≡ true → fits_at n l e ≡ true
-  fits_below l (Trees.Starred e c) h = let w = parts3 (takes_star (below l)) (is_context Load c) (fits_at n Expression e) h in from3 (takes_star l) (is_context Load c) (fits_at n Expression e) (star_below l w.0) w.1 w.2
-  fits_below l (Trees.Slice a b c) h = let w = parts4 (takes_slice (below l)) (perhaps_fits n Expression a) (perhaps_fits n Expression b) (perhaps_fits n Expression c) h in from4 (takes_slice l) (perhaps_fits n Expression a) (perhaps_fits n Expression b) (perhaps_fits n Expression c) (slice_below l w.0) w.1 w.2 w.3
+  fits_below l (Trees.Starred e c) h = let w = parts3 (takes_star (below l)) (is_context Load c) (fits_at n Expression e) h in
+      from3 (takes_star l) (is_context Load c) (fits_at n Expression e) (star_below l w.0) w.1 w.2
+  fits_below l (Trees.Slice a b c) h = let w = parts4 (takes_slice (below l)) (perhaps_fits n Expression a) (perhaps_fits n Expression b)
+      (perhaps_fits n Expression c) h in from4 (takes_slice l) (perhaps_fits n Expression a) (perhaps_fits n Expression b)
+      (perhaps_fits n Expression c) (slice_below l w.0) w.1 w.2 w.3
   fits_below l (Trees.Tuple es c) h = at l h
     where
-      at : (l : Level) → (is_context Load c && each_fits n (member_level (below l)) es) ≡ true → (is_context Load c && each_fits n (member_level l) es) ≡ true
-      at Slices h = let w = and_parts (is_context Load c) (each_fits n Elem es) h in and_from (is_context Load c) (each_fits n Part es) w.0 (each_moved Elem Part elem_part es w.1)
+      at : (l : Level) → (is_context Load c && each_fits n (member_level (below l)) es) ≡ true
+          → (is_context Load c && each_fits n (member_level l) es) ≡ true
+      at Slices h = let w = and_parts (is_context Load c) (each_fits n Elem es) h in and_from (is_context Load c) (each_fits n Part es) w.0
+          (each_moved Elem Part elem_part es w.1)
       at _ h = h
   fits_below l _ h = h
 
@@ -111,7 +119,8 @@ module _ (n : Tests) where
   pub anywhere : (l m : Level) (e : Expr) → inner l ≡ true → fits_at n l e ≡ true → fits_at n m e ≡ true
   anywhere l m (Trees.Starred e c) i h = absurd (inner_star l i (parts3 (takes_star l) _ _ h).0)
   anywhere l m (Trees.Slice a b c) i h = absurd (inner_slice l i (parts4 (takes_slice l) _ _ _ h).0)
-  anywhere l m (Trees.Tuple es c) i h = let w = and_parts (is_context Load c) (each_fits n (member_level l) es) h in and_from (is_context Load c) (each_fits n (member_level m) es) w.0 (members_at m es (at l i w.1))
+  anywhere l m (Trees.Tuple es c) i h = let w = and_parts (is_context Load c) (each_fits n (member_level l) es) h in
+      and_from (is_context Load c) (each_fits n (member_level m) es) w.0 (members_at m es (at l i w.1))
     where
       at : (l : Level) → inner l ≡ true → each_fits n (member_level l) es ≡ true → each_fits n Elem es ≡ true
       at Slices i h = absurd (cc)

@@ -14,7 +14,8 @@ use Rattle.pytree_fits.proofs.Fields.Closings.{Closes, none, both, sign, word, i
 expression : {l : Level} {ts : List Terminal} {e : Expr} → G.Derives l ts e → Closes ts
 expression p = record { is = expression_closes p }
 
-behind_sign : {t : Terminal} {l : Level} {ts : List Terminal} {e : Option Expr} → ((o : Open) → open_behind o t ≡ o) → F.Behind t l ts e → Closes ts
+behind_sign : {t : Terminal} {l : Level} {ts : List Terminal} {e : Option Expr} → ((o : Open) → open_behind o t ≡ o)
+    → F.Behind t l ts e → Closes ts
 behind_sign h F.none_behind = none
 behind_sign {t} h (F.behind {ts = ts} p) = record { is = λ o. ap (λ x. open_behind_all x ts) (h o) ∙ expression_closes p o }
 

@@ -10,9 +10,12 @@ use Rattle.pytree_node.specs.Trees.{Identifier, Expr, Pattern, no_pattern, absen
 use Rattle.pygrammar.specs.declared.pattern_levels.PatternLevel.{PatternLevel}
 use Rattle.pygrammar.specs.declared.pattern_levels.PatternLevel.TheVariants.{Patterns, StarPattern, AsPattern, OrPattern, ClosedPattern}
 use Rattle.pygrammar.specs.PatternOperators.{below_pattern, captured, is_wildcard}
-use Rattle.pygrammar.specs.PatternEntries.{PatternItem, Element, KeyPattern, ClassArgument, PatternEntry, Alone, Keyed, Rest, Named, elements, is_mapping, pattern_keys, key_patterns, rest_of, mapped, all_named, are_class_arguments, named_attributes, named_patterns, class_of}
+use Rattle.pygrammar.specs.PatternEntries.{PatternItem, Element, KeyPattern, ClassArgument, PatternEntry, Alone, Keyed, Rest, Named}
+use Rattle.pygrammar.specs.PatternEntries.{elements, is_mapping, pattern_keys, key_patterns, rest_of, mapped, all_named}
+use Rattle.pygrammar.specs.PatternEntries.{are_class_arguments, named_attributes, named_patterns, class_of}
 use Rattle.pytree_fits.specs.Tests.{Tests}
-use Rattle.pytree_fits.specs.PatternSlots.{wildcard, target_fits, perhaps_target_fits, begins_with_wildcard, class_fits, key_fits, takes_star_pattern, count_patterns, pattern_fits_at, each_pattern_fits}
+use Rattle.pytree_fits.specs.PatternSlots.{wildcard, target_fits, perhaps_target_fits, begins_with_wildcard, class_fits, key_fits}
+use Rattle.pytree_fits.specs.PatternSlots.{takes_star_pattern, count_patterns, pattern_fits_at, each_pattern_fits}
 use Rattle.pytree_fits.proofs.Fields.Tests.{from3, from4, given, never, not_true}
 
 -- ---- Names.
@@ -54,7 +57,8 @@ module _ (n : Tests) where
   -- ---- Levels.
 
   -- what fits at a level without a star, fits at every level
-  pub fits_anywhere : (l m : PatternLevel) (p : Pattern) → takes_star_pattern l ≡ false → pattern_fits_at n l p ≡ true → pattern_fits_at n m p ≡ true
+  pub fits_anywhere : (l m : PatternLevel) (p : Pattern) → takes_star_pattern l ≡ false → pattern_fits_at n l p ≡ true
+      → pattern_fits_at n m p ≡ true
   fits_anywhere l m (Trees.MatchStar name) e h = at (takes_star_pattern l) e h
     where
       at : (b : Bool) → b ≡ false → (b && perhaps_target_fits n name) ≡ true → pattern_fits_at n m (Trees.MatchStar name) ≡ true
@@ -105,7 +109,8 @@ module _ (n : Tests) where
   keys_fit [] h = refl
   keys_fit (Keyed k p ∷ es) h =
       let w = and_parts (key_fits n k && pattern_fits_at n AsPattern p) (all_fit n KeyPattern es) h in
-      and_from (key_fits n k) (list_all (key_fits n) (pattern_keys es)) (and_parts (key_fits n k) (pattern_fits_at n AsPattern p) w.0).0 (keys_fit es w.1)
+      and_from (key_fits n k) (list_all (key_fits n) (pattern_keys es)) (and_parts (key_fits n k) (pattern_fits_at n AsPattern p)
+          w.0).0 (keys_fit es w.1)
   keys_fit (Rest x ∷ es) h = keys_fit es (and_parts (target_fits n x) (all_fit n KeyPattern es) h).1
   keys_fit (_ ∷ es) h = absurd (cc)
 
@@ -113,7 +118,8 @@ module _ (n : Tests) where
   key_patterns_fit [] h = refl
   key_patterns_fit (Keyed k p ∷ es) h =
       let w = and_parts (key_fits n k && pattern_fits_at n AsPattern p) (all_fit n KeyPattern es) h in
-      and_from (pattern_fits_at n AsPattern p) (each_pattern_fits n AsPattern (key_patterns es)) (and_parts (key_fits n k) (pattern_fits_at n AsPattern p) w.0).1 (key_patterns_fit es w.1)
+      and_from (pattern_fits_at n AsPattern p) (each_pattern_fits n AsPattern (key_patterns es))
+          (and_parts (key_fits n k) (pattern_fits_at n AsPattern p) w.0).1 (key_patterns_fit es w.1)
   key_patterns_fit (Rest x ∷ es) h = key_patterns_fit es (and_parts (target_fits n x) (all_fit n KeyPattern es) h).1
   key_patterns_fit (_ ∷ es) h = absurd (cc)
 
@@ -124,22 +130,29 @@ module _ (n : Tests) where
 
   rest_target : (es : List PatternEntry) (x : Identifier) → all_fit n KeyPattern es ≡ true → rest_of es ≡ Some x → target_fits n x ≡ true
   rest_target [] x h q = absurd (cc)
-  rest_target (Keyed k p ∷ es) x h q = rest_target es x (and_parts (key_fits n k && pattern_fits_at n AsPattern p) (all_fit n KeyPattern es) h).1 q
+  rest_target (Keyed k p ∷ es) x h q =
+      rest_target es x (and_parts (key_fits n k && pattern_fits_at n AsPattern p) (all_fit n KeyPattern es) h).1 q
   rest_target (Rest y ∷ es) x h q = given (λ z. target_fits n z ≡ true) q (and_parts (target_fits n y) (all_fit n KeyPattern es) h).0
   rest_target (_ ∷ es) x h q = absurd (cc)
 
-  mapping_fits : (l : PatternLevel) (es : List PatternEntry) (o : Option Identifier) → all_fit n KeyPattern es ≡ true → rest_of es ≡ o → pattern_fits_at n l (Trees.MatchMapping (pattern_keys es) (key_patterns es) o) ≡ true
+  mapping_fits : (l : PatternLevel) (es : List PatternEntry) (o : Option Identifier) → all_fit n KeyPattern es ≡ true → rest_of es ≡ o
+      → pattern_fits_at n l (Trees.MatchMapping (pattern_keys es) (key_patterns es) o) ≡ true
   mapping_fits l es None h q =
-      from3 (eqb (length (pattern_keys es)) (count_patterns (key_patterns es))) (list_all (key_fits n) (pattern_keys es)) (each_pattern_fits n AsPattern (key_patterns es))
+      from3 (eqb (length (pattern_keys es)) (count_patterns (key_patterns es))) (list_all (key_fits n) (pattern_keys es))
+          (each_pattern_fits n AsPattern (key_patterns es))
       (eq-eqb (length (pattern_keys es)) (count_patterns (key_patterns es)) (as_many_keys es)) (keys_fit es h) (key_patterns_fit es h)
   mapping_fits l es (Some x) h q =
-      from4 (eqb (length (pattern_keys es)) (count_patterns (key_patterns es))) (list_all (key_fits n) (pattern_keys es)) (each_pattern_fits n AsPattern (key_patterns es)) (target_fits n x)
-      (eq-eqb (length (pattern_keys es)) (count_patterns (key_patterns es)) (as_many_keys es)) (keys_fit es h) (key_patterns_fit es h) (rest_target es x h q)
+      from4 (eqb (length (pattern_keys es)) (count_patterns (key_patterns es))) (list_all (key_fits n) (pattern_keys es))
+          (each_pattern_fits n AsPattern (key_patterns es)) (target_fits n x)
+      (eq-eqb (length (pattern_keys es)) (count_patterns (key_patterns es)) (as_many_keys es)) (keys_fit es h)
+          (key_patterns_fit es h) (rest_target es x h q)
 
-  pub mapped_fits : (l : PatternLevel) (es : List PatternEntry) (p : Pattern) → all_fit n KeyPattern es ≡ true → mapped es ≡ Some p → pattern_fits_at n l p ≡ true
+  pub mapped_fits : (l : PatternLevel) (es : List PatternEntry) (p : Pattern) → all_fit n KeyPattern es ≡ true → mapped es ≡ Some p
+      → pattern_fits_at n l p ≡ true
   mapped_fits l es p h q = by (is_mapping es) q
     where
-      by : (b : Bool) → (if b then Some (Trees.MatchMapping (pattern_keys es) (key_patterns es) (rest_of es)) else None) ≡ Some p → pattern_fits_at n l p ≡ true
+      by : (b : Bool) → (if b then Some (Trees.MatchMapping (pattern_keys es) (key_patterns es) (rest_of es)) else None) ≡ Some p
+          → pattern_fits_at n l p ≡ true
       by true q = given (λ z. pattern_fits_at n l z ≡ true) q (mapping_fits l es (rest_of es) h refl)
       by false q = absurd (cc)
 
@@ -158,7 +171,8 @@ module _ (n : Tests) where
   attributes_fit (Alone p ∷ es) h = attributes_fit es (and_parts (pattern_fits_at n AsPattern p) (all_fit n ClassArgument es) h).1
   attributes_fit (Named x p ∷ es) h =
       let w = and_parts (n.name x && pattern_fits_at n AsPattern p) (all_fit n ClassArgument es) h in
-      and_from (n.name x) (list_all n.name (named_attributes es)) (and_parts (n.name x) (pattern_fits_at n AsPattern p) w.0).0 (attributes_fit es w.1)
+      and_from (n.name x) (list_all n.name (named_attributes es)) (and_parts (n.name x) (pattern_fits_at n AsPattern p)
+          w.0).0 (attributes_fit es w.1)
   attributes_fit (_ ∷ es) h = absurd (cc)
 
   named_fit : (es : List PatternEntry) → all_fit n ClassArgument es ≡ true → each_pattern_fits n AsPattern (named_patterns es) ≡ true
@@ -166,7 +180,8 @@ module _ (n : Tests) where
   named_fit (Alone p ∷ es) h = named_fit es (and_parts (pattern_fits_at n AsPattern p) (all_fit n ClassArgument es) h).1
   named_fit (Named x p ∷ es) h =
       let w = and_parts (n.name x && pattern_fits_at n AsPattern p) (all_fit n ClassArgument es) h in
-      and_from (pattern_fits_at n AsPattern p) (each_pattern_fits n AsPattern (named_patterns es)) (and_parts (n.name x) (pattern_fits_at n AsPattern p) w.0).1 (named_fit es w.1)
+      and_from (pattern_fits_at n AsPattern p) (each_pattern_fits n AsPattern (named_patterns es))
+          (and_parts (n.name x) (pattern_fits_at n AsPattern p) w.0).1 (named_fit es w.1)
   named_fit (_ ∷ es) h = absurd (cc)
 
   as_many_named : (es : List PatternEntry) → length (named_attributes es) ≡ count_patterns (named_patterns es)
@@ -185,20 +200,29 @@ module _ (n : Tests) where
   behind_alone (Named x p ∷ es) h = (and_parts (not (is_wildcard x)) (all_named es) h).0
   behind_alone (_ ∷ es) h = absurd (never h)
 
-  first_named : (es : List PatternEntry) → are_class_arguments false es ≡ true → (eqb (count_patterns (elements es)) 0 || not (begins_with_wildcard (named_attributes es))) ≡ true
+  first_named : (es : List PatternEntry) → are_class_arguments false es ≡ true
+      → (eqb (count_patterns (elements es)) 0 || not (begins_with_wildcard (named_attributes es))) ≡ true
   first_named [] h = refl
-  first_named (Alone p ∷ es) h = or_right (eqb (count_patterns (elements es) + 1) 0) (not (begins_with_wildcard (named_attributes es))) (behind_alone es h)
+  first_named (Alone p ∷ es) h = or_right (eqb (count_patterns (elements es) + 1) 0)
+      (not (begins_with_wildcard (named_attributes es))) (behind_alone es h)
   first_named (Named x p ∷ es) h = subst (λ z. (eqb (count_patterns z) 0 || not (is_wildcard x)) ≡ true) (sym (none_alone es h)) refl
   first_named (_ ∷ es) h = absurd (never h)
 
-  pub class_of_fits : (l : PatternLevel) (e : Expr) (es : List PatternEntry) (p : Pattern) → class_fits n e ≡ true → all_fit n ClassArgument es ≡ true → class_of e es ≡ Some p → pattern_fits_at n l p ≡ true
+  pub class_of_fits : (l : PatternLevel) (e : Expr) (es : List PatternEntry) (p : Pattern) → class_fits n e ≡ true
+      → all_fit n ClassArgument es ≡ true → class_of e es ≡ Some p → pattern_fits_at n l p ≡ true
   class_of_fits l e es p c h q = by (are_class_arguments false es) refl q
     where
-      by : (b : Bool) → are_class_arguments false es ≡ b → (if b then Some (Trees.MatchClass e (elements es) (named_attributes es) (named_patterns es)) else None) ≡ Some p → pattern_fits_at n l p ≡ true
+      by : (b : Bool) → are_class_arguments false es ≡ b
+          → (if b then Some (Trees.MatchClass e (elements es) (named_attributes es) (named_patterns es)) else None) ≡ Some p
+          → pattern_fits_at n l p ≡ true
       by true o q =
-          let t : Bool = class_fits n e && each_pattern_fits n AsPattern (elements es) && eqb (length (named_attributes es)) (count_patterns (named_patterns es)) in
+          let t : Bool = class_fits n e && each_pattern_fits n AsPattern (elements es) && eqb (length (named_attributes es))
+              (count_patterns (named_patterns es)) in
           given (λ z. pattern_fits_at n l z ≡ true) q
-          (from4 t (list_all n.name (named_attributes es)) (each_pattern_fits n AsPattern (named_patterns es)) (eqb (count_patterns (elements es)) 0 || not (begins_with_wildcard (named_attributes es)))
-          (from3 (class_fits n e) (each_pattern_fits n AsPattern (elements es)) (eqb (length (named_attributes es)) (count_patterns (named_patterns es))) c (alone_fit es h)
-          (eq-eqb (length (named_attributes es)) (count_patterns (named_patterns es)) (as_many_named es))) (attributes_fit es h) (named_fit es h) (first_named es o))
+          (from4 t (list_all n.name (named_attributes es)) (each_pattern_fits n AsPattern (named_patterns es))
+              (eqb (count_patterns (elements es)) 0 || not (begins_with_wildcard (named_attributes es)))
+          (from3 (class_fits n e) (each_pattern_fits n AsPattern (elements es))
+              (eqb (length (named_attributes es)) (count_patterns (named_patterns es))) c (alone_fit es h)
+          (eq-eqb (length (named_attributes es)) (count_patterns (named_patterns es)) (as_many_named es))) (attributes_fit es h)
+              (named_fit es h) (first_named es o))
       by false o q = absurd (cc)

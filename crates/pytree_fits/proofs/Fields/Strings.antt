@@ -12,7 +12,8 @@ use Rattle.pytree_fits.specs.Tests.{Tests, in_field}
 use Rattle.std.specs.List.{list_all}
 use Rattle.pytoken.specs.Laws.{is_point}
 use Rattle.pytree_fits.specs.Literals.{is_no_brace, has_text, has_formatted_text}
-use Rattle.pytree_fits.specs.Slots.{fits_at, is_kind, is_text, are_apart, is_last, have_kind, has_kind, spec_has_kind, may_be_joined, text_fits, each_value_fits, value_fits, spec_fits, joined_fits}
+use Rattle.pytree_fits.specs.Slots.{fits_at, is_kind, is_text, are_apart, is_last, have_kind, has_kind, spec_has_kind, may_be_joined}
+use Rattle.pytree_fits.specs.Slots.{text_fits, each_value_fits, value_fits, spec_fits, joined_fits}
 use Rattle.pytree_fits.proofs.Fields.Tests.{from3, all_on, text_on}
 
 -- ---- Texts.
@@ -23,7 +24,8 @@ plain_text zero t h = h
 plain_text (suc k) t h = h
 
 -- texts side by side
-pub formatted_on : (f d : ℕ) (t s : List ℕ) → has_formatted_text f d t ≡ true → has_formatted_text f d s ≡ true → has_formatted_text f d (t ++ s) ≡ true
+pub formatted_on : (f d : ℕ) (t s : List ℕ) → has_formatted_text f d t ≡ true → has_formatted_text f d s ≡ true
+    → has_formatted_text f d (t ++ s) ≡ true
 formatted_on zero d t s h g = all_on is_point t s h g
 formatted_on (suc k) zero t s h g = text_on (suc k) t s h g
 formatted_on (suc k) (suc d) t s h g =
@@ -35,7 +37,8 @@ formatted_on (suc k) (suc d) t s h g =
 
 pub data PartFits (n : Tests) (u : Bool) (d : ℕ) : StringPart → Type 0 where
   text_part : {t : List ℕ} → has_formatted_text n.fields d t ≡ true → PartFits n u d (Text t)
-  field_part : {v : Expr} {c : Conversion} {s : OptionalExpr} → leb d 1 ≡ true → fits_at (in_field n) Expression v ≡ true → spec_fits n (suc d) s ≡ true → spec_has_kind u s ≡ true →
+  field_part : {v : Expr} {c : Conversion} {s : OptionalExpr} → leb d 1 ≡ true → fits_at (in_field n) Expression v ≡ true
+      → spec_fits n (suc d) s ≡ true → spec_has_kind u s ≡ true →
       PartFits n u d (Field (Trees.FormattedValue v c s))
 
 pub data PartsFit (n : Tests) (u : Bool) (d : ℕ) : List StringPart → Type 0 where
@@ -45,9 +48,11 @@ pub data PartsFit (n : Tests) (u : Bool) (d : ℕ) : List StringPart → Type 0 
 -- none of their texts is empty, and no two stand side by side, behind a text or not
 data Valued (n : Tests) (u : Bool) (d : ℕ) : Bool → List StringPart → Type 0 where
   no_value : {b : Bool} → Valued n u d b []
-  a_text : {c : ℕ} {cs : List ℕ} {ps : List StringPart} → has_formatted_text n.fields d (c ∷ cs) ≡ true → Valued n u d true ps → Valued n u d false (Text (c ∷ cs) ∷ ps)
+  a_text : {c : ℕ} {cs : List ℕ} {ps : List StringPart} → has_formatted_text n.fields d (c ∷ cs) ≡ true → Valued n u d true ps
+      → Valued n u d false (Text (c ∷ cs) ∷ ps)
   a_field : {b : Bool} {v : Expr} {c : Conversion} {s : OptionalExpr} {ps : List StringPart} →
-      leb d 1 ≡ true → fits_at (in_field n) Expression v ≡ true → spec_fits n (suc d) s ≡ true → spec_has_kind u s ≡ true → Valued n u d false ps →
+      leb d 1 ≡ true → fits_at (in_field n) Expression v ≡ true → spec_fits n (suc d) s ≡ true → spec_has_kind u s ≡ true
+          → Valued n u d false ps →
       Valued n u d b (Field (Trees.FormattedValue v c s) ∷ ps)
 
 own_kind : (u : Bool) → is_kind (u && not false) u ≡ true
@@ -59,7 +64,8 @@ module _ (n : Tests) (u : Bool) (d : ℕ) where
   parts_on no_part g = g
   parts_on (a_part p r) g = a_part p (parts_on r g)
 
-  text_before : (t : List ℕ) {ps : List StringPart} → has_formatted_text n.fields d t ≡ true → Valued n u d false ps → Valued n u d false (with_text t ps)
+  text_before : (t : List ℕ) {ps : List StringPart} → has_formatted_text n.fields d t ≡ true → Valued n u d false ps
+      → Valued n u d false (with_text t ps)
   text_before [] h r = r
   text_before (c ∷ cs) h no_value = a_text h no_value
   text_before (c ∷ cs) h (a_text {c = e} {cs = es} g r) = a_text (formatted_on n.fields d (c ∷ cs) (e ∷ es) h g) r
@@ -80,7 +86,8 @@ module _ (n : Tests) (u : Bool) (d : ℕ) where
 
   each : {b : Bool} {ps : List StringPart} → Valued n u d b ps → each_value_fits n d (values_of u ps) ≡ true
   each no_value = refl
-  each (a_text {c = c} {cs = cs} {ps = ps} h r) = and_from (has_formatted_text n.fields d (c ∷ cs)) (each_value_fits n d (values_of u ps)) h (each r)
+  each (a_text {c = c} {cs = cs} {ps = ps} h r) = and_from (has_formatted_text n.fields d (c ∷ cs))
+      (each_value_fits n d (values_of u ps)) h (each r)
   each (a_field {v = v} {s = s} {ps = ps} f g x y r) =
       and_from (leb d 1 && fits_at (in_field n) Expression v && spec_fits n (suc d) s) (each_value_fits n d (values_of u ps))
       (from3 (leb d 1) (fits_at (in_field n) Expression v) (spec_fits n (suc d) s) f g x) (each r)
@@ -102,7 +109,8 @@ module _ (n : Tests) (u : Bool) (d : ℕ) where
   spec_each : {b : Bool} {ps : List StringPart} → Valued n u d b ps → each_value_fits n d (spec_values_of u ps) ≡ true
   spec_each no_value = refl
   spec_each (a_text {c = c} {cs = cs} {ps = []} h r) = and_from (has_formatted_text n.fields d (c ∷ cs)) true h refl
-  spec_each (a_text {c = c} {cs = cs} {ps = p ∷ ps} h r) = and_from (has_formatted_text n.fields d (c ∷ cs)) (each_value_fits n d (spec_values_of u (p ∷ ps))) h (spec_each r)
+  spec_each (a_text {c = c} {cs = cs} {ps = p ∷ ps} h r) = and_from (has_formatted_text n.fields d (c ∷ cs))
+      (each_value_fits n d (spec_values_of u (p ∷ ps))) h (spec_each r)
   spec_each (a_field {v = v} {s = s} {ps = ps} f g x y r) =
       and_from (leb d 1 && fits_at (in_field n) Expression v && spec_fits n (suc d) s) (each_value_fits n d (spec_values_of u ps))
       (from3 (leb d 1) (fits_at (in_field n) Expression v) (spec_fits n (suc d) s) f g x) (spec_each r)
@@ -121,26 +129,31 @@ module _ (n : Tests) (u : Bool) (d : ℕ) where
   spec_kinds : {b : Bool} {ps : List StringPart} → Valued n u d b ps → have_kind u true (spec_values_of u ps) ≡ true
   spec_kinds no_value = refl
   spec_kinds (a_text {ps = []} h r) = and_from (is_kind (u && false) false) true no_kind refl
-  spec_kinds (a_text {ps = p ∷ ps} h r) = rw (more r) (and_from (is_kind (u && true) u) (have_kind u true (spec_values_of u (p ∷ ps))) (own_kind u) (spec_kinds r))
+  spec_kinds (a_text {ps = p ∷ ps} h r) =
+      rw (more r) (and_from (is_kind (u && true) u) (have_kind u true (spec_values_of u (p ∷ ps))) (own_kind u) (spec_kinds r))
   spec_kinds (a_field {s = s} {ps = ps} f g x y r) = and_from (spec_has_kind u s) (have_kind u true (spec_values_of u ps)) y (spec_kinds r)
 
   -- ---- Nodes of parts.
 
   pub spec_of_parts : {ps : List StringPart} → PartsFit n u d ps →
-      (spec_fits n d (Trees.present (Trees.JoinedStr (spec_values_of u (merged ps)))) ≡ true) × (spec_has_kind u (Trees.present (Trees.JoinedStr (spec_values_of u (merged ps)))) ≡ true)
+      (spec_fits n d (Trees.present (Trees.JoinedStr (spec_values_of u (merged ps)))) ≡ true) ×
+          (spec_has_kind u (Trees.present (Trees.JoinedStr (spec_values_of u (merged ps)))) ≡ true)
   spec_of_parts {ps} r =
       let w = merged_values r in
-      (and_from (are_apart false (spec_values_of u (merged ps))) (each_value_fits n d (spec_values_of u (merged ps))) (spec_apart w) (spec_each w), spec_kinds w)
+      (and_from (are_apart false (spec_values_of u (merged ps))) (each_value_fits n d (spec_values_of u (merged ps))) (spec_apart w)
+          (spec_each w), spec_kinds w)
 
 one_kind : (u : Bool) (es : Exprs) → have_kind u false es ≡ true → (have_kind false false es || have_kind true false es) ≡ true
 one_kind true es h = or_right (have_kind false false es) (have_kind true false es) h
 one_kind false es h = or_left (have_kind false false es) (have_kind true false es) h
 
-pub joined_of_parts : (n : Tests) (u : Bool) {ps : List StringPart} → (is_whole n.extent && leb n.fields 1) ≡ true → PartsFit n u 0 ps → joined_fits n (values_of u (merged ps)) ≡ true
+pub joined_of_parts : (n : Tests) (u : Bool) {ps : List StringPart} → (is_whole n.extent && leb n.fields 1) ≡ true → PartsFit n u 0 ps
+    → joined_fits n (values_of u (merged ps)) ≡ true
 joined_of_parts n u {ps} h r =
     let w = merged_values n u 0 r in
     let es : Exprs = values_of u (merged ps) in
     let k = and_parts (is_whole n.extent) (leb n.fields 1) h in
     from3 (may_be_joined n es) (are_apart false es) (each_value_fits n 0 es)
-    (from3 (is_whole n.extent) (leb n.fields 1) (have_kind false false es || have_kind true false es) k.0 k.1 (one_kind u es (kinds n u 0 w)))
+    (from3 (is_whole n.extent) (leb n.fields 1) (have_kind false false es || have_kind true false es) k.0 k.1
+        (one_kind u es (kinds n u 0 w)))
     (apart n u 0 w) (each n u 0 w)

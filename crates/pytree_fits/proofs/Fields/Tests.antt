@@ -42,7 +42,8 @@ pub parts5 : (x y z u v : Bool) → (x && y && z && u && v) ≡ true → (x ≡ 
 parts5 true y z u v h = let w = parts4 y z u v h in (refl, w.0, w.1, w.2, w.3)
 parts5 false y z u v h = absurd (cc)
 
-pub parts6 : (x y z u v w : Bool) → (x && y && z && u && v && w) ≡ true → (x ≡ true) × (y ≡ true) × (z ≡ true) × (u ≡ true) × (v ≡ true) × (w ≡ true)
+pub parts6 : (x y z u v w : Bool) → (x && y && z && u && v && w) ≡ true → (x ≡ true) × (y ≡ true) × (z ≡ true) × (u ≡ true)
+    × (v ≡ true) × (w ≡ true)
 parts6 true y z u v w h = let o = parts5 y z u v w h in (refl, o.0, o.1, o.2, o.3, o.4)
 parts6 false y z u v w h = absurd (cc)
 
@@ -65,7 +66,8 @@ pub mapped_is : {A B : Type 0} (f : A → B) (o : Option A) (b : B) → option_m
 mapped_is {A} {B} f None b h = absurd (cc)
 mapped_is {A} {B} f (Some a) b h = (a, refl, given (λ x. f a ≡ x) h refl)
 
-pub both_is : (o : Option Expr) (p : Option Exprs) (z : Exprs) → both o p ≡ Some z → (e : Expr) × (es : Exprs) × (o ≡ Some e) × (p ≡ Some es) × (an_expr e es ≡ z)
+pub both_is : (o : Option Expr) (p : Option Exprs) (z : Exprs) → both o p ≡ Some z
+    → (e : Expr) × (es : Exprs) × (o ≡ Some e) × (p ≡ Some es) × (an_expr e es ≡ z)
 both_is None p z h = absurd (cc)
 both_is (Some e) None z h = absurd (cc)
 both_is (Some e) (Some es) z h = (e, es, refl, refl, given (λ x. an_expr e es ≡ x) h refl)
@@ -73,7 +75,8 @@ both_is (Some e) (Some es) z h = (e, es, refl, refl, given (λ x. an_expr e es �
 pub both_some : (o : Option Expr) (p : Option Exprs) (e : Expr) (es : Exprs) → o ≡ Some e → p ≡ Some es → both o p ≡ Some (an_expr e es)
 both_some o p e es h g = rw (h, g) refl
 
-pub star_stored : (e : Expr) (c : Context) (s : Expr) → stored (Trees.Starred e c) ≡ Some s → (f : Expr) × (stored e ≡ Some f) × (Trees.Starred f Store ≡ s)
+pub star_stored : (e : Expr) (c : Context) (s : Expr) → stored (Trees.Starred e c) ≡ Some s
+    → (f : Expr) × (stored e ≡ Some f) × (Trees.Starred f Store ≡ s)
 star_stored (Trees.Starred e d) c s h = absurd (cc)
 star_stored e c s h = mapped_is (λ f. Trees.Starred f Store) (stored e) s h
 
@@ -114,7 +117,8 @@ bytes_on (suc zero) t s h g = all_on is_bare_byte t s h g
 bytes_on (suc (suc k)) t s h g = absurd (cc)
 
 -- literals side by side
-pub joined_value : (n : Standing) (v w : Values.Value) (vs : List Values.Value) → passes n.tests n.opened (Literal v) ≡ true → pass_at n (map Literal vs) ≡ true → joined v vs ≡ Some w → is_value (here n) w ≡ true
+pub joined_value : (n : Standing) (v w : Values.Value) (vs : List Values.Value) → passes n.tests n.opened (Literal v) ≡ true
+    → pass_at n (map Literal vs) ≡ true → joined v vs ≡ Some w → is_value (here n) w ≡ true
 joined_value n v w [] p q h = given (λ z. is_value (here n) z ≡ true) h (and_parts (is_literal v) (is_value (here n) v) p).1
 joined_value n (Values.Str t u) w (Values.Str s x ∷ vs) p q h =
     let r = and_parts (has_text (here n).fields s) (pass_at n (map Literal vs)) q in

@@ -22,12 +22,15 @@ use Rattle.pygrammar.proofs.Callers.OpenStrings.{class_closes, entry_closes, key
 use Rattle.pytree_fits.specs.Tests.{Tests}
 use Rattle.pytree_fits.specs.Literals.{is_value}
 use Rattle.pytree_fits.specs.Given.{is_number, is_literal, passes}
-use Rattle.pytree_fits.specs.PatternSlots.{is_sum, imaginary_fits, real_fits, literal_fits, dotted_fits, starts_wild, class_fits, is_attribute, is_singleton, singleton_fits, key_fits, count_patterns, target_fits, pattern_fits_at, each_pattern_fits}
+use Rattle.pytree_fits.specs.PatternSlots.{is_sum, imaginary_fits, real_fits, literal_fits, dotted_fits, starts_wild, class_fits}
+use Rattle.pytree_fits.specs.PatternSlots.{is_attribute, is_singleton, singleton_fits, key_fits, count_patterns, target_fits}
+use Rattle.pytree_fits.specs.PatternSlots.{pattern_fits_at, each_pattern_fits}
 use Rattle.pytree_fits.proofs.Fields.Standing.{outside, pass_at, left, right, behind}
 use Rattle.pytree_fits.proofs.Fields.Closings.{quiet_left, dotted_closes, signed_closes}
 use Rattle.pytree_fits.proofs.Fields.Tests.{from3, given, mapped_is, joined_value}
 use Rattle.pytree_fits.proofs.Fitting.Fits.{joined_of}
-use Rattle.pytree_fits.proofs.Fields.PatternFields.{captured_fits, bound_fits, other_fits, fits_below, fits_anywhere, entry_fits, all_fit, elements_fit, mapped_fits, class_of_fits}
+use Rattle.pytree_fits.proofs.Fields.PatternFields.{captured_fits, bound_fits, other_fits, fits_below, fits_anywhere, entry_fits, all_fit}
+use Rattle.pytree_fits.proofs.Fields.PatternFields.{elements_fit, mapped_fits, class_of_fits}
 
 -- ---- Values.
 
@@ -54,25 +57,33 @@ module _ (n : Tests) where
   number_passes : (v : Values.Value) → pass_at (outside n) (Number v ∷ []) ≡ true → (is_number v ≡ true) × (is_value n v ≡ true)
   number_passes v s = and_parts (is_number v) (is_value n v) (and_parts (passes n [] (Number v)) true s).0
 
-  signed_fits : {v : Values.Value} {ts : List Terminal} {e : Expr} → G.SignedNumber v ts e → pass_at (outside n) ts ≡ true → literal_fits n e ≡ true
+  signed_fits : {v : Values.Value} {ts : List Terminal} {e : Expr} → G.SignedNumber v ts e → pass_at (outside n) ts ≡ true
+      → literal_fits n e ≡ true
   signed_fits (G.unsigned {v = v}) s =
       let w = number_passes v s in
       and_from (is_number v || is_literal v) (is_value n v) (or_left (is_number v) (is_literal v) w.0) w.1
   signed_fits (G.negative {v = v}) s = let w = number_passes v s in and_from (is_number v) (is_value n v) w.0 w.1
 
-  signed_real : {v : Values.Value} {ts : List Terminal} {e : Expr} → G.SignedNumber v ts e → is_imaginary v ≡ false → pass_at (outside n) ts ≡ true → real_fits n e ≡ true
-  signed_real (G.unsigned {v = v}) h s = let w = number_passes v s in from3 (is_number v) (not (is_imaginary v)) (is_value n v) w.0 (rw h refl) w.1
-  signed_real (G.negative {v = v}) h s = let w = number_passes v s in from3 (is_number v) (not (is_imaginary v)) (is_value n v) w.0 (rw h refl) w.1
+  signed_real : {v : Values.Value} {ts : List Terminal} {e : Expr} → G.SignedNumber v ts e → is_imaginary v ≡ false
+      → pass_at (outside n) ts ≡ true → real_fits n e ≡ true
+  signed_real (G.unsigned {v = v}) h s = let w = number_passes v s in
+      from3 (is_number v) (not (is_imaginary v)) (is_value n v) w.0 (rw h refl) w.1
+  signed_real (G.negative {v = v}) h s = let w = number_passes v s in
+      from3 (is_number v) (not (is_imaginary v)) (is_value n v) w.0 (rw h refl) w.1
 
   literal : {ts : List Terminal} {e : Expr} → G.LiteralOf ts e → pass_at (outside n) ts ≡ true → literal_fits n e ≡ true
   literal (G.number p) s = signed_fits p s
   literal (G.complex {w = w} {ts = ts} {a = a} {o = o} t p h q k) s =
-      let u = number_passes w (behind (outside n) t (quiet_left Sum t o q []) (Number w ∷ []) (right (outside n) ts (signed_closes p) (t ∷ (Number w ∷ [])) s)) in
-      from3 (is_sum o) (real_fits n a) (imaginary_fits n (Trees.Constant w)) (sum_operator t o q) (signed_real p h (left (outside n) ts (t ∷ (Number w ∷ [])) s))
+      let u = number_passes w (behind (outside n) t (quiet_left Sum t o q []) (Number w ∷ [])
+          (right (outside n) ts (signed_closes p) (t ∷ (Number w ∷ [])) s)) in
+      from3 (is_sum o) (real_fits n a) (imaginary_fits n (Trees.Constant w)) (sum_operator t o q)
+          (signed_real p h (left (outside n) ts (t ∷ (Number w ∷ [])) s))
       (and_from (is_imaginary w) (is_value n w) k u.1)
   literal (G.strings {v = v} {w = w} vs h) s =
       let u = and_parts (passes n [] (Literal v)) (pass_at (outside n) (map Literal vs)) s in
-      and_from (is_number w || is_literal w) (is_value n w) (or_right (is_number w) (is_literal w) (joined_literal v w vs (and_parts (is_literal v) (is_value n v) u.0).0 h)) (joined_value (outside n) v w vs u.0 u.1 h)
+      and_from (is_number w || is_literal w) (is_value n w)
+          (or_right (is_number w) (is_literal w) (joined_literal v w vs (and_parts (is_literal v) (is_value n v) u.0).0 h))
+          (joined_value (outside n) v w vs u.0 u.1 h)
   literal (G.joined_string c h q) s = joined_of (outside n) c q s
 
   record DottedFits (f : Identifier) (e : Expr) : Type 0 where
@@ -83,7 +94,8 @@ module _ (n : Tests) where
   dotted (G.first_name {x = x}) s = record { each = (and_parts (n.name x.form) true s).0; first = refl }
   dotted (G.dot_name {ts = ts} {e = e} x p) s =
       let w = dotted p (left (outside n) ts (Op Dot ∷ (Ident x ∷ [])) s) in
-      record { each = and_from (n.name x.form) (dotted_fits n e) (and_parts (n.name x.form) true (right (outside n) ts (dotted_closes p) (Op Dot ∷ (Ident x ∷ [])) s)).0 w.each; first = w.first }
+      record { each = and_from (n.name x.form) (dotted_fits n e)
+          (and_parts (n.name x.form) true (right (outside n) ts (dotted_closes p) (Op Dot ∷ (Ident x ∷ [])) s)).0 w.each; first = w.first }
 
   class : {ts : List Terminal} {e : Expr} → G.ClassOf ts e → pass_at (outside n) ts ≡ true → class_fits n e ≡ true
   class (G.class_name {e = e} p h) s = let w = dotted p s in and_from (dotted_fits n e) (not (starts_wild e)) w.each (rw (w.first, h) refl)
@@ -95,12 +107,15 @@ module _ (n : Tests) where
       and_from (n.name x && dotted_fits n e) (not (starts_wild e)) (and_from (n.name x) (dotted_fits n e) h w.0) w.1
 
   key : {ts : List Terminal} {e : Expr} → G.KeyOf ts e → pass_at (outside n) ts ≡ true → key_fits n e ≡ true
-  key (G.literal_key {e = e} p) s = or_left (literal_fits n e || singleton_fits e) (is_attribute e && dotted_fits n e) (or_left (literal_fits n e) (singleton_fits e) (literal p s))
+  key (G.literal_key {e = e} p) s = or_left (literal_fits n e || singleton_fits e) (is_attribute e && dotted_fits n e)
+      (or_left (literal_fits n e) (singleton_fits e) (literal p s))
   key (G.singleton_key {t = t} {v = v} h) s =
       let e : Expr = Trees.Constant v in
       or_left (literal_fits n e || is_singleton v) false (or_right (literal_fits n e) (is_singleton v) (singleton_is t v h))
   key (G.name_key {ts = ts} {e = e} x p) s =
-      and_from (n.name x.form) (dotted_fits n e) (and_parts (n.name x.form) true (right (outside n) ts (dotted_closes p) (Op Dot ∷ (Ident x ∷ [])) s)).0 (dotted p (left (outside n) ts (Op Dot ∷ (Ident x ∷ [])) s)).each
+      and_from (n.name x.form) (dotted_fits n e)
+          (and_parts (n.name x.form) true (right (outside n) ts (dotted_closes p) (Op Dot ∷ (Ident x ∷ [])) s)).0
+          (dotted p (left (outside n) ts (Op Dot ∷ (Ident x ∷ [])) s)).each
 
   -- ---- Patterns.
 
@@ -109,55 +124,75 @@ module _ (n : Tests) where
     each : each_pattern_fits n AsPattern (patterns ps) ≡ true
     some : 1 ≤ count_patterns (patterns ps)
 
-  as_fits : (l : PatternLevel) (p q : Pattern) (x : Identifier) → pattern_fits_at n OrPattern p ≡ true → n.name x ≡ true → as_named p x ≡ Some q → pattern_fits_at n l q ≡ true
+  as_fits : (l : PatternLevel) (p q : Pattern) (x : Identifier) → pattern_fits_at n OrPattern p ≡ true → n.name x ≡ true
+      → as_named p x ≡ Some q → pattern_fits_at n l q ≡ true
   as_fits l p q x f h k =
       let w = mapped_is (λ y. Trees.MatchAs (present_pattern p) (Some y)) (captured x) q k in
       subst (λ z. pattern_fits_at n l z ≡ true) w.2
-      (and_from (target_fits n w.0) (pattern_fits_at n AsPattern p) (bound_fits n x w.0 w.1 h) (fits_anywhere n OrPattern AsPattern p refl f))
+      (and_from (target_fits n w.0) (pattern_fits_at n AsPattern p) (bound_fits n x w.0 w.1 h)
+          (fits_anywhere n OrPattern AsPattern p refl f))
 
   mutual
-    pub fits : {l : PatternLevel} {ts : List Terminal} {p : Pattern} → G.DerivesPattern l ts p → pass_at (outside n) ts ≡ true → pattern_fits_at n l p ≡ true
+    pub fits : {l : PatternLevel} {ts : List Terminal} {p : Pattern} → G.DerivesPattern l ts p → pass_at (outside n) ts ≡ true
+        → pattern_fits_at n l p ≡ true
     fits (G.next {l = l} {p = p} d) s = fits_below n l p (fits d s)
     fits (G.open_sequence {ts = ts} {us = us} {p = p} {es = es} d c) s =
-        and_from (pattern_fits_at n StarPattern p) (each_pattern_fits n StarPattern (elements es)) (fits d (left (outside n) ts (Op Comma ∷ us) s)) (elements_fit n es (listing c (right (outside n) ts (pattern_closes d) (Op Comma ∷ us) s)))
+        and_from (pattern_fits_at n StarPattern p) (each_pattern_fits n StarPattern (elements es))
+            (fits d (left (outside n) ts (Op Comma ∷ us) s))
+            (elements_fit n es (listing c (right (outside n) ts (pattern_closes d) (Op Comma ∷ us) s)))
     fits (G.star {x = x}) s = captured_fits n x.form (and_parts (n.name x.form) true s).0
     fits (G.as_name {ts = ts} {p = p} {q = q} x d h) s =
-        as_fits AsPattern p q x.form (fits d (left (outside n) ts (Word Key.As ∷ (Ident x ∷ [])) s)) (and_parts (n.name x.form) true (right (outside n) ts (pattern_closes d) (Word Key.As ∷ (Ident x ∷ [])) s)).0 h
+        as_fits AsPattern p q x.form (fits d (left (outside n) ts (Word Key.As ∷ (Ident x ∷ [])) s))
+            (and_parts (n.name x.form) true (right (outside n) ts (pattern_closes d) (Word Key.As ∷ (Ident x ∷ [])) s)).0 h
     fits (G.alternatives {ts = ts} {us = us} {p = p} {ps = ps} d c) s =
         let w = choices c (right (outside n) ts (pattern_closes d) (Op VBar ∷ us) s) in
-        and_from (leb 2 (count_patterns (patterns ps) + 1)) (pattern_fits_at n AsPattern p && each_pattern_fits n AsPattern (patterns ps)) (le-leb 2 (count_patterns (patterns ps) + 1) (omega (arith, w.some)))
-        (and_from (pattern_fits_at n AsPattern p) (each_pattern_fits n AsPattern (patterns ps)) (fits_anywhere n ClosedPattern AsPattern p refl (fits d (left (outside n) ts (Op VBar ∷ us) s))) w.each)
+        and_from (leb 2 (count_patterns (patterns ps) + 1)) (pattern_fits_at n AsPattern p && each_pattern_fits n AsPattern (patterns ps))
+            (le-leb 2 (count_patterns (patterns ps) + 1) (omega (arith, w.some)))
+        (and_from (pattern_fits_at n AsPattern p) (each_pattern_fits n AsPattern (patterns ps))
+            (fits_anywhere n ClosedPattern AsPattern p refl (fits d (left (outside n) ts (Op VBar ∷ us) s))) w.each)
     fits (G.literal {e = e} p) s = or_left (literal_fits n e) (is_attribute e && class_fits n e) (literal p s)
     fits (G.singleton {t = t} {v = v} h) s = singleton_is t v h
     fits (G.capture {x = x}) s = captured_fits n x.form (and_parts (n.name x.form) true s).0
     fits (G.value {ts = ts} {e = e} x p) s =
-        class_dot e x.form (and_parts (n.name x.form) true (right (outside n) ts (class_closes p) (Op Dot ∷ (Ident x ∷ [])) s)).0 (class p (left (outside n) ts (Op Dot ∷ (Ident x ∷ [])) s))
+        class_dot e x.form (and_parts (n.name x.form) true (right (outside n) ts (class_closes p) (Op Dot ∷ (Ident x ∷ [])) s)).0
+            (class p (left (outside n) ts (Op Dot ∷ (Ident x ∷ [])) s))
     fits (G.group {ts = ts} {p = p} d) s = fits_anywhere n AsPattern ClosedPattern p refl (fits d (left (outside n) ts (Op RPar ∷ []) s))
     fits G.empty_sequence s = refl
     fits (G.round_sequence {ts = ts} {us = us} {p = p} {es = es} d c) s =
-        and_from (pattern_fits_at n StarPattern p) (each_pattern_fits n StarPattern (elements es)) (fits d (left (outside n) ts (Op Comma ∷ (us ++ (Op RPar ∷ []))) s))
-        (elements_fit n es (listing c (left (outside n) us (Op RPar ∷ []) (right (outside n) ts (pattern_closes d) (Op Comma ∷ (us ++ (Op RPar ∷ []))) s))))
+        and_from (pattern_fits_at n StarPattern p) (each_pattern_fits n StarPattern (elements es))
+            (fits d (left (outside n) ts (Op Comma ∷ (us ++ (Op RPar ∷ []))) s))
+        (elements_fit n es (listing c
+            (left (outside n) us (Op RPar ∷ []) (right (outside n) ts (pattern_closes d) (Op Comma ∷ (us ++ (Op RPar ∷ []))) s))))
     fits (G.square_sequence {ts = ts} {es = es} c) s = elements_fit n es (listing c (left (outside n) ts (Op RSqb ∷ []) s))
-    fits (G.mapping {ts = ts} {es = es} {p = p} c h) s = mapped_fits n ClosedPattern es p (listing c (left (outside n) ts (Op RBrace ∷ []) s)) h
+    fits (G.mapping {ts = ts} {es = es} {p = p} c h) s =
+        mapped_fits n ClosedPattern es p (listing c (left (outside n) ts (Op RBrace ∷ []) s)) h
     fits (G.class_pattern {ts = ts} {us = us} {e = e} {es = es} {p = p} k c h) s =
-        class_of_fits n ClosedPattern e es p (class k (left (outside n) ts (Op LPar ∷ (us ++ (Op RPar ∷ []))) s)) (listing c (left (outside n) us (Op RPar ∷ []) (right (outside n) ts (class_closes k) (Op LPar ∷ (us ++ (Op RPar ∷ []))) s))) h
+        class_of_fits n ClosedPattern e es p (class k (left (outside n) ts (Op LPar ∷ (us ++ (Op RPar ∷ []))) s))
+            (listing c (left (outside n) us (Op RPar ∷ []) (right (outside n) ts (class_closes k) (Op LPar ∷ (us ++ (Op RPar ∷ []))) s))) h
 
     choices : {ts : List Terminal} {ps : List Pattern} → G.Alternatives ts ps → pass_at (outside n) ts ≡ true → Choices ps
-    choices (G.last_alternative {p = p} d) s = record { each = and_from (pattern_fits_at n AsPattern p) true (fits_anywhere n ClosedPattern AsPattern p refl (fits d s)) refl; some = omega arith }
+    choices (G.last_alternative {p = p} d) s =
+        record { each = and_from (pattern_fits_at n AsPattern p) true (fits_anywhere n ClosedPattern AsPattern p refl (fits d s))
+        refl; some = omega arith }
     choices (G.alternative {ts = ts} {us = us} {p = p} {ps = ps} d c) s =
         let w = choices c (right (outside n) ts (pattern_closes d) (Op VBar ∷ us) s) in
-        record { each = and_from (pattern_fits_at n AsPattern p) (each_pattern_fits n AsPattern (patterns ps)) (fits_anywhere n ClosedPattern AsPattern p refl (fits d (left (outside n) ts (Op VBar ∷ us) s))) w.each; some = omega arith }
+        record { each = and_from (pattern_fits_at n AsPattern p) (each_pattern_fits n AsPattern (patterns ps))
+            (fits_anywhere n ClosedPattern AsPattern p refl (fits d (left (outside n) ts (Op VBar ∷ us) s))) w.each; some = omega arith }
 
-    listing : {i : PatternItem} {ts : List Terminal} {es : List PatternEntry} → G.PatternListing i ts es → pass_at (outside n) ts ≡ true → all_fit n i es ≡ true
+    listing : {i : PatternItem} {ts : List Terminal} {es : List PatternEntry} → G.PatternListing i ts es
+        → pass_at (outside n) ts ≡ true → all_fit n i es ≡ true
     listing G.no_entry s = refl
     listing (G.last_entry {i = i} {e = e} p) s = and_from (entry_fits n i e) true (piece p s) refl
     listing (G.entry {i = i} {ts = ts} {us = us} {e = e} {es = es} p c) s =
-        and_from (entry_fits n i e) (all_fit n i es) (piece p (left (outside n) ts (Op Comma ∷ us) s)) (listing c (right (outside n) ts (entry_closes p) (Op Comma ∷ us) s))
+        and_from (entry_fits n i e) (all_fit n i es) (piece p (left (outside n) ts (Op Comma ∷ us) s))
+            (listing c (right (outside n) ts (entry_closes p) (Op Comma ∷ us) s))
 
-    piece : {i : PatternItem} {ts : List Terminal} {e : PatternEntry} → G.PatternPiece i ts e → pass_at (outside n) ts ≡ true → entry_fits n i e ≡ true
+    piece : {i : PatternItem} {ts : List Terminal} {e : PatternEntry} → G.PatternPiece i ts e → pass_at (outside n) ts ≡ true
+        → entry_fits n i e ≡ true
     piece (G.element d) s = fits d s
     piece (G.key_pattern {ts = ts} {us = us} {k = k} {p = p} q d) s =
-        and_from (key_fits n k) (pattern_fits_at n AsPattern p) (key q (left (outside n) ts (Op Colon ∷ us) s)) (fits d (right (outside n) ts (key_closes q) (Op Colon ∷ us) s))
+        and_from (key_fits n k) (pattern_fits_at n AsPattern p) (key q (left (outside n) ts (Op Colon ∷ us) s))
+            (fits d (right (outside n) ts (key_closes q) (Op Colon ∷ us) s))
     piece (G.rest {x = x} h) s = other_fits n x.form (and_parts (n.name x.form) true s).0 h
     piece (G.argument d) s = fits d s
     piece (G.named_argument {x = x} {ts = ts} {p = p} d) s =

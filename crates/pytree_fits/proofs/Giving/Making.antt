@@ -2,7 +2,10 @@
 -- operators, displays, primaries.
 use Rattle.std.proofs.Common.{◌≡◌, refl, ap, subst, ◌≤◌, arith, List, [], ◌∷◌, ◌++◌, length, Some, true, false}
 use Rattle.std.proofs.lemmas.Bool.{and_from}
-use Rattle.pylex_lexeme.specs.declared.kinds.Exact.TheVariants.{LPar, RPar, LSqb, RSqb, LBrace, RBrace, Colon, Comma, Star, Slash, Dot, DoubleStar, ColonEqual, VBar, Circumflex, Amper, LeftShift, RightShift, Plus, Minus, DoubleSlash, Percent, At, Tilde, EqEqual, NotEqual, Less, LessEqual, Greater, GreaterEqual, Ellipsis}
+use Rattle.pylex_lexeme.specs.declared.kinds.Exact.TheVariants.{LPar, RPar, LSqb, RSqb, LBrace, RBrace, Colon, Comma, Star, Slash, Dot}
+use Rattle.pylex_lexeme.specs.declared.kinds.Exact.TheVariants.{DoubleStar, ColonEqual, VBar, Circumflex, Amper, LeftShift, RightShift}
+use Rattle.pylex_lexeme.specs.declared.kinds.Exact.TheVariants.{Plus, Minus, DoubleSlash, Percent, At, Tilde, EqEqual, NotEqual, Less}
+use Rattle.pylex_lexeme.specs.declared.kinds.Exact.TheVariants.{LessEqual, Greater, GreaterEqual, Ellipsis}
 use Rattle.pytoken.specs.declared.keywords.Keyword.TheVariants as Key
 use Rattle.pytree_node.specs.declared.operators.Operator.{Operator}
 use Rattle.pytree_node.specs.declared.operators.Operator.TheVariants as Bin
@@ -14,11 +17,13 @@ use Rattle.pytree_node.specs.declared.operators.Comparison.{Comparison}
 use Rattle.pytree_node.specs.declared.operators.Comparison.TheVariants as Is
 use Rattle.pytree_node.specs.declared.operators.Context.TheVariants.{Load, Store}
 use Rattle.pytree_node.specs.Trees
-use Rattle.pytree_node.specs.Trees.{Identifier, Expr, Exprs, no_exprs, an_expr, OptionalExpr, OptionalExprs, no_optional, an_optional, absent, present, exprs}
+use Rattle.pytree_node.specs.Trees.{Identifier, Expr, Exprs, no_exprs, an_expr, OptionalExpr, OptionalExprs, no_optional, an_optional}
+use Rattle.pytree_node.specs.Trees.{absent, present, exprs}
 use Rattle.pytree_node.specs.Values
 use Rattle.pytoken.specs.Terminals.{Terminal, Op, Word, in_form, Number, Literal}
 use Rattle.pygrammar.specs.declared.levels.Level.{Level}
-use Rattle.pygrammar.specs.declared.levels.Level.TheVariants.{Stars, Named, Expression, Or, Not, Compare, BitOr, BitXor, BitAnd, Shift, Sum, Term, Factor, Power, Await, Primary, Atom, Elem, Slices, Part, Slice}
+use Rattle.pygrammar.specs.declared.levels.Level.TheVariants.{Stars, Named, Expression, Or, Not, Compare, BitOr, BitXor, BitAnd, Shift, Sum}
+use Rattle.pygrammar.specs.declared.levels.Level.TheVariants.{Term, Factor, Power, Await, Primary, Atom, Elem, Slices, Part, Slice}
 use Rattle.pygrammar.specs.Operators.{below, left_operator, prefix_operator, chain_level, chain_word}
 use Rattle.pygrammar.specs.Entries.{Item, Of, Entry, Single, singles}
 use Rattle.pygrammar.specs.Grammar as G
@@ -60,7 +65,8 @@ module _ (n : Standing) where
   name_given l x h = lifted n l (in_form x ∷ [], named_pass n x [] h refl, G.name)
 
   number_given : (l : Level) (v : Values.Value) → is_number v ≡ true → is_value (here n) v ≡ true → P.At n l (Trees.Constant v)
-  number_given l v k h = lifted n l (Number v ∷ [], pass_in_front n (Number v) [] (and_from (is_number v) (is_value (here n) v) k h) refl refl, G.number)
+  number_given l v k h =
+      lifted n l (Number v ∷ [], pass_in_front n (Number v) [] (and_from (is_number v) (is_value (here n) v) k h) refl refl, G.number)
 
   pub constant_given : (l : Level) (v : Values.Value) → is_value (here n) v ≡ true → P.At n l (Trees.Constant v)
   constant_given l Values.None h = lifted n l (Word Key.None ∷ [], refl, G.constant refl)
@@ -70,8 +76,10 @@ module _ (n : Standing) where
   constant_given l (Values.Int k) h = number_given l (Values.Int k) refl h
   constant_given l (Values.Float x) h = number_given l (Values.Float x) refl h
   constant_given l (Values.Imaginary x) h = number_given l (Values.Imaginary x) refl h
-  constant_given l (Values.Str t u) h = lifted n l (Literal (Values.Str t u) ∷ [], pass_in_front n (Literal (Values.Str t u)) [] h refl refl, G.strings [] refl)
-  constant_given l (Values.Bytes t) h = lifted n l (Literal (Values.Bytes t) ∷ [], pass_in_front n (Literal (Values.Bytes t)) [] h refl refl, G.strings [] refl)
+  constant_given l (Values.Str t u) h =
+      lifted n l (Literal (Values.Str t u) ∷ [], pass_in_front n (Literal (Values.Str t u)) [] h refl refl, G.strings [] refl)
+  constant_given l (Values.Bytes t) h =
+      lifted n l (Literal (Values.Bytes t) ∷ [], pass_in_front n (Literal (Values.Bytes t)) [] h refl refl, G.strings [] refl)
 
   -- ---- Operators.
 
@@ -87,7 +95,8 @@ module _ (n : Standing) where
       P.At n Expression a → P.At n Expression b → (m : Level) → P.At n m (Trees.BinOp a o b)
   binary l t i h q f g = let w = joined t l (below l) h f g in anywhere_at n l i (w.0 ++ (t ∷ w.1), w.2, G.binary t q w.3 w.4)
 
-  pub binary_given : (l : Level) (a : Expr) (o : Operator) (b : Expr) → P.At n Expression a → P.At n Expression b → P.At n l (Trees.BinOp a o b)
+  pub binary_given : (l : Level) (a : Expr) (o : Operator) (b : Expr) → P.At n Expression a → P.At n Expression b
+      → P.At n l (Trees.BinOp a o b)
   binary_given l a Bin.BitOr b f g = binary BitOr (Op VBar) refl refl refl f g l
   binary_given l a Bin.BitXor b f g = binary BitXor (Op Circumflex) refl refl refl f g l
   binary_given l a Bin.BitAnd b f g = binary BitAnd (Op Amper) refl refl refl f g l
@@ -100,7 +109,8 @@ module _ (n : Standing) where
   binary_given l a Bin.FloorDiv b f g = binary Term (Op DoubleSlash) refl refl refl f g l
   binary_given l a Bin.Mod b f g = binary Term (Op Percent) refl refl refl f g l
   binary_given l a Bin.MatMult b f g = binary Term (Op At) refl refl refl f g l
-  binary_given l a Bin.Pow b f g = let w = joined (Op DoubleStar) Await Factor refl f g in anywhere_at n Power refl (w.0 ++ (Op DoubleStar ∷ w.1), w.2, G.power w.3 w.4) l
+  binary_given l a Bin.Pow b f g = let w = joined (Op DoubleStar) Await Factor refl f g in
+      anywhere_at n Power refl (w.0 ++ (Op DoubleStar ∷ w.1), w.2, G.power w.3 w.4) l
 
   prefixed : {e : Expr} {o : UnaryOperator} (l : Level) (t : Terminal) → inner l ≡ true → Passed n (t ∷ []) → prefix_operator l t ≡ Some o →
       P.At n Expression e → (m : Level) → P.At n m (Trees.UnaryOp o e)
@@ -122,11 +132,13 @@ module _ (n : Standing) where
     links : GivenAsSpelled n (G.Chain o) list
 
   linked : (o : BoolOperator) {e : Expr} {es : Exprs} → P.At n Expression e → Each n Expression es → Linked o (an_expr e es)
-  linked o {e = e} f no_more = let u = at n (below (chain_level o)) f in record { list = e ∷ []; is = refl; links = (u.0, u.1, G.last_link u.2) }
+  linked o {e = e} f no_more = let u = at n (below (chain_level o)) f in
+      record { list = e ∷ []; is = refl; links = (u.0, u.1, G.last_link u.2) }
   linked o {e = e} f (one_more g r) =
       let u = at n (below (chain_level o)) f in
       let w = linked o g r in
-      record { list = e ∷ w.list; is = ap (an_expr e) w.is; links = (u.0 ++ (Word (chain_word o) ∷ w.links.0), pass_on n u.0 (Word (chain_word o) ∷ w.links.0) u.1 w.links.1, G.link u.2 w.links.2) }
+      record { list = e ∷ w.list; is = ap (an_expr e) w.is; links =
+          (u.0 ++ (Word (chain_word o) ∷ w.links.0), pass_on n u.0 (Word (chain_word o) ∷ w.links.0) u.1 w.links.1, G.link u.2 w.links.2) }
 
   level_inner : (o : BoolOperator) → inner (chain_level o) ≡ true
   level_inner Join.And = refl
@@ -159,7 +171,8 @@ module _ (n : Standing) where
     is : exprs list ≡ es
     right : (ts : List Terminal) × Passed n ts × G.Compares ts os list
 
-  rightwards : (o : Comparison) (os : List Comparison) {e : Expr} {es : Exprs} → length os ≡ count es → P.At n Expression e → Each n Expression es → Rightwards (o ∷ os) (an_expr e es)
+  rightwards : (o : Comparison) (os : List Comparison) {e : Expr} {es : Exprs} → length os ≡ count es → P.At n Expression e
+      → Each n Expression es → Rightwards (o ∷ os) (an_expr e es)
   rightwards o [] {e = e} h f no_more =
       let s = compared o in
       let u = at n BitOr f in
@@ -170,15 +183,19 @@ module _ (n : Standing) where
       let s = compared o in
       let u = at n BitOr f in
       let w = rightwards p os (omega (arith, h)) g r in
-      record { list = e ∷ w.list; is = ap (an_expr e) w.is; right = (s.0 ++ (u.0 ++ w.right.0), pass_on n s.0 (u.0 ++ w.right.0) s.1 (pass_on n u.0 w.right.0 u.1 w.right.1), G.compares s.2 u.2 w.right.2) }
+      record { list = e ∷ w.list; is = ap (an_expr e) w.is; right =
+          (s.0 ++ (u.0 ++ w.right.0), pass_on n s.0 (u.0 ++ w.right.0) s.1 (pass_on n u.0 w.right.0 u.1 w.right.1),
+          G.compares s.2 u.2 w.right.2) }
 
-  pub compare_given : (l : Level) (a : Expr) (os : List Comparison) (es : Exprs) → 1 ≤ length os → length os ≡ count es → P.At n Expression a → Each n Expression es → P.At n l (Trees.Compare a os es)
+  pub compare_given : (l : Level) (a : Expr) (os : List Comparison) (es : Exprs) → 1 ≤ length os → length os ≡ count es
+      → P.At n Expression a → Each n Expression es → P.At n l (Trees.Compare a os es)
   compare_given l a [] es h q f r = absurd (omega (arith, h))
   compare_given l a (o ∷ os) no_exprs h q f no_more = absurd (omega (arith, q))
   compare_given l a (o ∷ os) (an_expr e es) h q f (one_more g r) =
       let u = at n BitOr f in
       let w = rightwards o os (omega (arith, q)) g r in
-      anywhere_at n Compare refl (subst (λ z. P.At n Compare (Trees.Compare a (o ∷ os) z)) w.is (u.0 ++ w.right.0, pass_on n u.0 w.right.0 u.1 w.right.1, G.compare u.2 w.right.2)) l
+      anywhere_at n Compare refl (subst (λ z. P.At n Compare (Trees.Compare a (o ∷ os) z)) w.is (u.0 ++ w.right.0,
+          pass_on n u.0 w.right.0 u.1 w.right.1, G.compare u.2 w.right.2)) l
 
   pub if_given : (l : Level) (a b c : Expr) → P.At n Expression a → P.At n Expression b → P.At n Expression c → P.At n l (Trees.IfExp a b c)
   if_given l a b c f g h =
@@ -186,10 +203,13 @@ module _ (n : Standing) where
       let v = at n Or f in
       let w = at n Expression h in
       anywhere_at n Expression refl
-      (u.0 ++ (Word Key.If ∷ (v.0 ++ (Word Key.Else ∷ w.0))), pass_on n u.0 (Word Key.If ∷ (v.0 ++ (Word Key.Else ∷ w.0))) u.1 (pass_on n v.0 (Word Key.Else ∷ w.0) v.1 w.1), G.if_else u.2 v.2 w.2) l
+      (u.0 ++ (Word Key.If ∷ (v.0 ++ (Word Key.Else ∷ w.0))), pass_on n u.0 (Word Key.If ∷ (v.0 ++ (Word Key.Else ∷ w.0))) u.1
+          (pass_on n v.0 (Word Key.Else ∷ w.0) v.1 w.1), G.if_else u.2 v.2 w.2) l
 
-  pub named_given : (l : Level) (x : Identifier) (e : Expr) → n.tests.name x ≡ true → P.At n Expression e → P.At n l (Trees.NamedExpr (Trees.Name x Store) e)
-  named_given l x e h f = anywhere_at n Named refl (in_form x ∷ (Op ColonEqual ∷ f.0), named_pass n x (Op ColonEqual ∷ f.0) h f.1, G.named f.2) l
+  pub named_given : (l : Level) (x : Identifier) (e : Expr) → n.tests.name x ≡ true → P.At n Expression e
+      → P.At n l (Trees.NamedExpr (Trees.Name x Store) e)
+  named_given l x e h f = anywhere_at n Named refl (in_form x ∷ (Op ColonEqual ∷ f.0),
+      named_pass n x (Op ColonEqual ∷ f.0) h f.1, G.named f.2) l
 
   -- ---- Yields.
 
@@ -213,7 +233,8 @@ module _ (n : Standing) where
       elems (one_more f r) =
           let w = listing (single_pieces r) in
           subst (λ z. P.At n Atom (Trees.Tuple (an_expr e z) Load)) (singles_are es)
-          (Op LPar ∷ (f.0 ++ (Op Comma ∷ (w.0 ++ (Op RPar ∷ [])))), pass_on n f.0 (Op Comma ∷ (w.0 ++ (Op RPar ∷ []))) f.1 (pass_on n w.0 (Op RPar ∷ []) w.1 refl), G.tuple f.2 w.2)
+          (Op LPar ∷ (f.0 ++ (Op Comma ∷ (w.0 ++ (Op RPar ∷ [])))), pass_on n f.0 (Op Comma ∷ (w.0 ++ (Op RPar ∷ []))) f.1
+              (pass_on n w.0 (Op RPar ∷ []) w.1 refl), G.tuple f.2 w.2)
 
       parts : Each n Part (an_expr e es) → P.At n Slices (Trees.Tuple (an_expr e es) Load)
       parts (one_more f r) =
@@ -228,25 +249,30 @@ module _ (n : Standing) where
   pub list_given : (l : Level) (es : Exprs) → Each n Elem es → P.At n l (Trees.ListOf es Load)
   list_given l es r =
       let w = listing (single_pieces r) in
-      lifted n l (subst (λ z. P.At n Atom (Trees.ListOf z Load)) (singles_are es) (Op LSqb ∷ (w.0 ++ (Op RSqb ∷ [])), pass_on n w.0 (Op RSqb ∷ []) w.1 refl, G.list w.2))
+      lifted n l (subst (λ z. P.At n Atom (Trees.ListOf z Load)) (singles_are es) (Op LSqb ∷ (w.0 ++ (Op RSqb ∷ [])),
+          pass_on n w.0 (Op RSqb ∷ []) w.1 refl, G.list w.2))
 
   pub set_given : (l : Level) (es : Exprs) → 1 ≤ count es → Each n Elem es → P.At n l (Trees.Set es)
   set_given l no_exprs h no_more = absurd (omega (arith, h))
   set_given l (an_expr e es) h (one_more f r) =
       let w = listing (single_pieces (one_more f r)) in
-      lifted n l (subst (λ z. P.At n Atom (Trees.Set (an_expr e z))) (singles_are es) (Op LBrace ∷ (w.0 ++ (Op RBrace ∷ [])), pass_on n w.0 (Op RBrace ∷ []) w.1 refl, G.set w.2))
+      lifted n l (subst (λ z. P.At n Atom (Trees.Set (an_expr e z))) (singles_are es) (Op LBrace ∷ (w.0 ++ (Op RBrace ∷ [])),
+          pass_on n w.0 (Op RBrace ∷ []) w.1 refl, G.set w.2))
 
   -- ---- Attributes, subscripts, slices.
 
-  pub attribute_given : (l : Level) (e : Expr) (x : Identifier) → n.tests.name x ≡ true → P.At n Expression e → P.At n l (Trees.Attribute e x Load)
+  pub attribute_given : (l : Level) (e : Expr) (x : Identifier) → n.tests.name x ≡ true → P.At n Expression e
+      → P.At n l (Trees.Attribute e x Load)
   attribute_given l e x h f =
       let u = at n Primary f in
-      anywhere_at n Primary refl (u.0 ++ (Op Dot ∷ (in_form x ∷ [])), pass_on n u.0 (Op Dot ∷ (in_form x ∷ [])) u.1 (named_pass n x [] h refl), G.attribute _ u.2) l
+      anywhere_at n Primary refl (u.0 ++ (Op Dot ∷ (in_form x ∷ [])),
+          pass_on n u.0 (Op Dot ∷ (in_form x ∷ [])) u.1 (named_pass n x [] h refl), G.attribute _ u.2) l
 
   pub subscript_given : (l : Level) (e s : Expr) → P.At n Expression e → P.At n Slices s → P.At n l (Trees.Subscript e s Load)
   subscript_given l e s f g =
       let u = at n Primary f in
-      anywhere_at n Primary refl (u.0 ++ (Op LSqb ∷ (g.0 ++ (Op RSqb ∷ []))), pass_on n u.0 (Op LSqb ∷ (g.0 ++ (Op RSqb ∷ []))) u.1 (pass_on n g.0 (Op RSqb ∷ []) g.1 refl), G.subscript u.2 g.2) l
+      anywhere_at n Primary refl (u.0 ++ (Op LSqb ∷ (g.0 ++ (Op RSqb ∷ []))), pass_on n u.0 (Op LSqb ∷ (g.0 ++ (Op RSqb ∷ []))) u.1
+          (pass_on n g.0 (Op RSqb ∷ []) g.1 refl), G.subscript u.2 g.2) l
 
   may_be : {l : Level} {e : OptionalExpr} → MayBe n l e → GivenAsSpelled n (G.Perhaps l) e
   may_be left_out = ([], refl, G.nothing)
@@ -258,9 +284,11 @@ module _ (n : Standing) where
   slice_at Slice h w = w
   slice_at _ h w = absurd (cc)
 
-  pub slice_given : (l : Level) (a b c : OptionalExpr) → takes_slice l ≡ true → MayBe n Expression a → MayBe n Expression b → MayBe n Expression c → P.At n l (Trees.Slice a b c)
+  pub slice_given : (l : Level) (a b c : OptionalExpr) → takes_slice l ≡ true → MayBe n Expression a → MayBe n Expression b
+      → MayBe n Expression c → P.At n l (Trees.Slice a b c)
   slice_given l a b c h f g k =
       let u = may_be f in
       let v = may_be g in
       let w = may_be k in
-      slice_at l h (u.0 ++ (Op Colon ∷ (v.0 ++ (Op Colon ∷ w.0))), pass_on n u.0 (Op Colon ∷ (v.0 ++ (Op Colon ∷ w.0))) u.1 (pass_on n v.0 (Op Colon ∷ w.0) v.1 w.1), G.slice_step u.2 v.2 w.2)
+      slice_at l h (u.0 ++ (Op Colon ∷ (v.0 ++ (Op Colon ∷ w.0))), pass_on n u.0 (Op Colon ∷ (v.0 ++ (Op Colon ∷ w.0))) u.1
+          (pass_on n v.0 (Op Colon ∷ w.0) v.1 w.1), G.slice_step u.2 v.2 w.2)

@@ -22,7 +22,8 @@ use Rattle.pytree_fits.specs.Tests.{Tests}
 use Rattle.pytree_fits.specs.Literals.{is_value}
 use Rattle.pytree_fits.specs.Given.{is_number, is_literal}
 use Rattle.pytree_fits.specs.Slots.{is_context}
-use Rattle.pytree_fits.specs.PatternSlots.{is_sum, is_minus, number_fits, imaginary_fits, real_fits, literal_fits, dotted_fits, is_attribute, starts_wild, class_fits, value_fits, is_singleton, singleton_fits, key_fits}
+use Rattle.pytree_fits.specs.PatternSlots.{is_sum, is_minus, number_fits, imaginary_fits, real_fits, literal_fits, dotted_fits}
+use Rattle.pytree_fits.specs.PatternSlots.{is_attribute, starts_wild, class_fits, value_fits, is_singleton, singleton_fits, key_fits}
 use Rattle.pytree_fits.proofs.Fields.Standing.{outside}
 use Rattle.pytree_fits.proofs.Fields.AsSpelled.{Passed, GivenAsSpelled, pass_on, pass_in_front}
 use Rattle.pytree_fits.proofs.Fields.Tests.{parts3, parts4, never, not_true, in_context}
@@ -47,22 +48,28 @@ module _ (n : Tests) where
       record { value = v; real = not_true (is_imaginary v) w.1; given = (Number v ∷ [], one_number v w.0 w.2, G.unsigned) }
   real_given (Trees.UnaryOp o (Trees.Constant v)) h =
       let w = parts4 (is_minus o) (is_number v) (not (is_imaginary v)) (is_value n v) h in
-      record { value = v; real = not_true (is_imaginary v) w.2; given = minus o (Trees.Constant v) w.0 (Op Minus ∷ (Number v ∷ []), one_number v w.1 w.3, G.negative) }
+      record { value = v; real = not_true (is_imaginary v) w.2; given = minus o (Trees.Constant v) w.0 (Op Minus ∷ (Number v ∷ []),
+          one_number v w.1 w.3, G.negative) }
     where
-      minus : (o : UnaryOperator) (e : Expr) → is_minus o ≡ true → GivenAsSpelled (outside n) (G.SignedNumber v) (Trees.UnaryOp Un.USub e) → GivenAsSpelled (outside n) (G.SignedNumber v) (Trees.UnaryOp o e)
+      minus : (o : UnaryOperator) (e : Expr) → is_minus o ≡ true → GivenAsSpelled (outside n) (G.SignedNumber v) (Trees.UnaryOp Un.USub e)
+          → GivenAsSpelled (outside n) (G.SignedNumber v) (Trees.UnaryOp o e)
       minus Un.USub e h u = u
       minus _ e h u = absurd (never h)
   real_given _ h = absurd (never h)
 
-  constant_given : (v : Values.Value) → (is_number v || is_literal v) ≡ true → is_value n v ≡ true → GivenAsSpelled (outside n) G.LiteralOf (Trees.Constant v)
+  constant_given : (v : Values.Value) → (is_number v || is_literal v) ≡ true → is_value n v ≡ true
+      → GivenAsSpelled (outside n) G.LiteralOf (Trees.Constant v)
   constant_given (Values.Int k) h q = (Number (Values.Int k) ∷ [], one_number (Values.Int k) refl q, G.number G.unsigned)
   constant_given (Values.Float x) h q = (Number (Values.Float x) ∷ [], one_number (Values.Float x) refl q, G.number G.unsigned)
   constant_given (Values.Imaginary x) h q = (Number (Values.Imaginary x) ∷ [], one_number (Values.Imaginary x) refl q, G.number G.unsigned)
-  constant_given (Values.Str t u) h q = (Literal (Values.Str t u) ∷ [], pass_in_front (outside n) (Literal (Values.Str t u)) [] q refl refl, G.strings [] refl)
-  constant_given (Values.Bytes t) h q = (Literal (Values.Bytes t) ∷ [], pass_in_front (outside n) (Literal (Values.Bytes t)) [] q refl refl, G.strings [] refl)
+  constant_given (Values.Str t u) h q =
+      (Literal (Values.Str t u) ∷ [], pass_in_front (outside n) (Literal (Values.Str t u)) [] q refl refl, G.strings [] refl)
+  constant_given (Values.Bytes t) h q =
+      (Literal (Values.Bytes t) ∷ [], pass_in_front (outside n) (Literal (Values.Bytes t)) [] q refl refl, G.strings [] refl)
   constant_given _ h q = absurd (never h)
 
-  minus_given : (o : UnaryOperator) (e : Expr) → is_minus o ≡ true → number_fits n e ≡ true → GivenAsSpelled (outside n) G.LiteralOf (Trees.UnaryOp o e)
+  minus_given : (o : UnaryOperator) (e : Expr) → is_minus o ≡ true → number_fits n e ≡ true
+      → GivenAsSpelled (outside n) G.LiteralOf (Trees.UnaryOp o e)
   minus_given Un.USub (Trees.Constant v) h q =
       let w = and_parts (is_number v) (is_value n v) q in
       (Op Minus ∷ (Number v ∷ []), one_number v w.0 w.1, G.number G.negative)
@@ -79,13 +86,16 @@ module _ (n : Tests) where
   imaginary_number (Values.Imaginary x) h = refl
   imaginary_number _ h = absurd (never h)
 
-  complex_given : (a : Expr) (o : Operator) (b : Expr) → is_sum o ≡ true → real_fits n a ≡ true → imaginary_fits n b ≡ true → GivenAsSpelled (outside n) G.LiteralOf (Trees.BinOp a o b)
+  complex_given : (a : Expr) (o : Operator) (b : Expr) → is_sum o ≡ true → real_fits n a ≡ true → imaginary_fits n b ≡ true
+      → GivenAsSpelled (outside n) G.LiteralOf (Trees.BinOp a o b)
   complex_given a o (Trees.Constant v) h p q =
       let s = sign_of o h in
       let r = real_given a p in
       let w = and_parts (is_imaginary v) (is_value n v) q in
       let u = r.given in
-      (u.0 ++ (s.0 ∷ (Number v ∷ [])), pass_on (outside n) u.0 (s.0 ∷ (Number v ∷ [])) u.1 (pass_on (outside n) (s.0 ∷ []) (Number v ∷ []) s.1 (one_number v (imaginary_number v w.0) w.1)), G.complex s.0 u.2 r.real s.2 w.0)
+      (u.0 ++ (s.0 ∷ (Number v ∷ [])), pass_on (outside n) u.0 (s.0 ∷ (Number v ∷ [])) u.1
+          (pass_on (outside n) (s.0 ∷ []) (Number v ∷ []) s.1 (one_number v (imaginary_number v w.0) w.1)),
+          G.complex s.0 u.2 r.real s.2 w.0)
   complex_given a o _ h p q = absurd (never q)
 
   literal_given : (e : Expr) → literal_fits n e ≡ true → GivenAsSpelled (outside n) G.LiteralOf e
@@ -95,7 +105,8 @@ module _ (n : Tests) where
   literal_given (Trees.JoinedStr es) h =
       let j = joined_given (outside n) es h in
       let w = j.given in
-      subst (λ z. GivenAsSpelled (outside n) G.LiteralOf (Trees.JoinedStr z)) j.values_are (w.0, w.1, G.joined_string w.2 j.begins j.formatted)
+      subst (λ z. GivenAsSpelled (outside n) G.LiteralOf (Trees.JoinedStr z)) j.values_are (w.0, w.1,
+          G.joined_string w.2 j.begins j.formatted)
   literal_given _ h = absurd (never h)
 
   -- names with points between them, and the first
@@ -107,13 +118,16 @@ module _ (n : Tests) where
   dotted_given : (e : Expr) → dotted_fits n e ≡ true → Points e
   dotted_given (Trees.Name x c) h =
       let w = and_parts (is_context Load c) (n.name x) h in
-      in_context (λ k. Points (Trees.Name x k)) Load c w.0 (record { first = x; starts = refl; given = (in_form x ∷ [], named_pass (outside n) x [] w.1 refl, G.first_name) })
+      in_context (λ k. Points (Trees.Name x k)) Load c w.0
+          (record { first = x; starts = refl; given = (in_form x ∷ [], named_pass (outside n) x [] w.1 refl, G.first_name) })
   dotted_given (Trees.Attribute e x c) h =
       let w = parts3 (is_context Load c) (n.name x) (dotted_fits n e) h in
       let r = dotted_given e w.2 in
       let u = r.given in
       in_context (λ k. Points (Trees.Attribute e x k)) Load c w.0
-      (record { first = r.first; starts = r.starts; given = (u.0 ++ (Op Dot ∷ (in_form x ∷ [])), pass_on (outside n) u.0 (Op Dot ∷ (in_form x ∷ [])) u.1 (named_pass (outside n) x [] w.1 refl), G.dot_name _ u.2) })
+      (record { first = r.first; starts = r.starts; given =
+          (u.0 ++ (Op Dot ∷ (in_form x ∷ [])), pass_on (outside n) u.0 (Op Dot ∷ (in_form x ∷ [])) u.1
+          (named_pass (outside n) x [] w.1 refl), G.dot_name _ u.2) })
   dotted_given _ h = absurd (never h)
 
   pub class_given : (e : Expr) → class_fits n e ≡ true → GivenAsSpelled (outside n) G.ClassOf e
@@ -123,13 +137,15 @@ module _ (n : Tests) where
       let u = r.given in
       (u.0, u.1, G.class_name u.2 (sym r.starts ∙ not_true (starts_wild e) w.1))
 
-  attribute_given : (e : Expr) → is_attribute e ≡ true → class_fits n e ≡ true → GivenAsSpelled (outside n) (G.DerivesPattern ClosedPattern) (Trees.MatchValue e)
+  attribute_given : (e : Expr) → is_attribute e ≡ true → class_fits n e ≡ true
+      → GivenAsSpelled (outside n) (G.DerivesPattern ClosedPattern) (Trees.MatchValue e)
   attribute_given (Trees.Attribute e x c) h q =
       let w = and_parts (is_context Load c && n.name x && dotted_fits n e) (not (starts_wild e)) q in
       let v = parts3 (is_context Load c) (n.name x) (dotted_fits n e) w.0 in
       let u = class_given e (and_from (dotted_fits n e) (not (starts_wild e)) v.2 w.1) in
       in_context (λ k. GivenAsSpelled (outside n) (G.DerivesPattern ClosedPattern) (Trees.MatchValue (Trees.Attribute e x k))) Load c v.0
-      (u.0 ++ (Op Dot ∷ (in_form x ∷ [])), pass_on (outside n) u.0 (Op Dot ∷ (in_form x ∷ [])) u.1 (named_pass (outside n) x [] v.1 refl), G.value _ u.2)
+      (u.0 ++ (Op Dot ∷ (in_form x ∷ [])), pass_on (outside n) u.0 (Op Dot ∷ (in_form x ∷ [])) u.1 (named_pass (outside n) x [] v.1 refl),
+          G.value _ u.2)
   attribute_given _ h q = absurd (never h)
 
   pub value_given : (e : Expr) → value_fits n e ≡ true → GivenAsSpelled (outside n) (G.DerivesPattern ClosedPattern) (Trees.MatchValue e)
@@ -138,13 +154,16 @@ module _ (n : Tests) where
     | inr b ↦ attributed (and_parts (is_attribute e) (class_fits n e) b)
   ]
     where
-      literally : GivenAsSpelled (outside n) G.LiteralOf e → GivenAsSpelled (outside n) (G.DerivesPattern ClosedPattern) (Trees.MatchValue e)
+      literally : GivenAsSpelled (outside n) G.LiteralOf e
+          → GivenAsSpelled (outside n) (G.DerivesPattern ClosedPattern) (Trees.MatchValue e)
       literally u = (u.0, u.1, G.literal u.2)
 
-      attributed : (is_attribute e ≡ true) × (class_fits n e ≡ true) → GivenAsSpelled (outside n) (G.DerivesPattern ClosedPattern) (Trees.MatchValue e)
+      attributed : (is_attribute e ≡ true) × (class_fits n e ≡ true)
+          → GivenAsSpelled (outside n) (G.DerivesPattern ClosedPattern) (Trees.MatchValue e)
       attributed w = attribute_given e w.0 w.1
 
-  pub singleton_given : (v : Values.Value) → is_singleton v ≡ true → GivenAsSpelled (outside n) (G.DerivesPattern ClosedPattern) (Trees.MatchSingleton v)
+  pub singleton_given : (v : Values.Value) → is_singleton v ≡ true → GivenAsSpelled (outside n) (G.DerivesPattern ClosedPattern)
+      (Trees.MatchSingleton v)
   singleton_given Values.None h = (Word Key.None ∷ [], refl, G.singleton refl)
   singleton_given (Values.Bool true) h = (Word Key.True ∷ [], refl, G.singleton refl)
   singleton_given (Values.Bool false) h = (Word Key.False ∷ [], refl, G.singleton refl)
@@ -161,7 +180,8 @@ module _ (n : Tests) where
       let v = parts3 (is_context Load c) (n.name x) (dotted_fits n e) q in
       let u = (dotted_given e v.2).given in
       in_context (λ k. GivenAsSpelled (outside n) G.KeyOf (Trees.Attribute e x k)) Load c v.0
-      (u.0 ++ (Op Dot ∷ (in_form x ∷ [])), pass_on (outside n) u.0 (Op Dot ∷ (in_form x ∷ [])) u.1 (named_pass (outside n) x [] v.1 refl), G.name_key _ u.2)
+      (u.0 ++ (Op Dot ∷ (in_form x ∷ [])), pass_on (outside n) u.0 (Op Dot ∷ (in_form x ∷ [])) u.1 (named_pass (outside n) x [] v.1 refl),
+          G.name_key _ u.2)
   name_key _ h q = absurd (never h)
 
   pub key_given : (e : Expr) → key_fits n e ≡ true → GivenAsSpelled (outside n) G.KeyOf e

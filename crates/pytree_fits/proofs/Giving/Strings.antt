@@ -1,5 +1,6 @@
 -- Carries: the laws of the slots. On: f-strings of what is given are given.
-use Rattle.std.proofs.Common.{◌≡◌, refl, sym, ap, subst, ◌∙◌, inl, inr, ℕ, zero, suc, ◌-◌, arith, List, [], ◌∷◌, ◌++◌, Bool, true, false, ◌&&◌}
+use Rattle.std.proofs.Common.{◌≡◌, refl, sym, ap, subst, ◌∙◌, inl, inr, ℕ, zero, suc, ◌-◌, arith, List, [], ◌∷◌, ◌++◌, Bool, true, false}
+use Rattle.std.proofs.Common.{◌&&◌}
 use Rattle.std.specs.Prelude.{leb, not, ◌||◌}
 use Rattle.std.proofs.lemmas.Bool.{and_parts, and_from, or_cases, leb-true}
 use Rattle.pylex_lexeme.specs.declared.kinds.Exact.TheVariants.{LPar, RPar}
@@ -11,7 +12,8 @@ use Rattle.pytoken.specs.Terminals.{Terminal, Op, Literal, FormattedBegin, Forma
 use Rattle.pygrammar.specs.declared.levels.Level.TheVariants.{Named, Expression, Atom}
 use Rattle.pygrammar.specs.Forms.{is_whole}
 use Rattle.pygrammar.specs.OpenStrings.{Open}
-use Rattle.pygrammar.specs.FormattedStrings.{StringPart, Text, Field, with_text, merged, values_of, spec_values_of, begins_unicode, has_formatted}
+use Rattle.pygrammar.specs.FormattedStrings.{StringPart, Text, Field, with_text, merged, values_of, spec_values_of, begins_unicode}
+use Rattle.pygrammar.specs.FormattedStrings.{has_formatted}
 use Rattle.pygrammar.specs.Grammar as G
 use Rattle.pytree_fits.specs.Literals.{has_text, has_formatted_text}
 use Rattle.pytree_fits.specs.Slots.{is_kind, is_last, have_kind, are_apart, may_be_joined, each_value_fits, joined_fits}
@@ -62,11 +64,14 @@ own_kind false b h = refl
 
 text_of : (s u k : Bool) (t : List ℕ) (ps : List StringPart) → is_kind (u && not (s && is_last (made_of s u ps))) k ≡ true →
     made_of s u (Text t ∷ ps) ≡ an_expr (Trees.Constant (Values.Str t k)) (made_of s u ps)
-text_of false u k t ps h = ap (λ z. an_expr (Trees.Constant (Values.Str t z)) (values_of u ps)) (sym (kind_is (u && not false) k h ∙ own_kind u false refl))
-text_of true u k t [] h = ap (λ z. an_expr (Trees.Constant (Values.Str t z)) no_exprs) (sym (kind_is (u && not (true && true)) k h ∙ last_kind u))
+text_of false u k t ps h = ap (λ z. an_expr (Trees.Constant (Values.Str t z)) (values_of u ps))
+    (sym (kind_is (u && not false) k h ∙ own_kind u false refl))
+text_of true u k t [] h = ap (λ z. an_expr (Trees.Constant (Values.Str t z)) no_exprs)
+    (sym (kind_is (u && not (true && true)) k h ∙ last_kind u))
 text_of true u k t (p ∷ ps) h =
     ap (λ z. an_expr (Trees.Constant (Values.Str t z)) (spec_values_of u (p ∷ ps)))
-    (sym (kind_is (u && not (true && is_last (spec_values_of u (p ∷ ps)))) k h ∙ own_kind u (true && is_last (spec_values_of u (p ∷ ps))) (some_left u p ps)))
+    (sym (kind_is (u && not (true && is_last (spec_values_of u (p ∷ ps)))) k h
+        ∙ own_kind u (true && is_last (spec_values_of u (p ∷ ps))) (some_left u p ps)))
 
 one_less : (n : ℕ) → suc n - 1 ≡ n
 one_less n = omega arith
@@ -76,7 +81,8 @@ module _ (n : Standing) (u s : Bool) where
   none_formed b = record { parts = []; given = ([], refl, G.no_part); merged_are = refl; apart = λ h c cs. refl; values_are = none_of s u }
 
 module _ (n : Standing) (d : ℕ) (u s : Bool) where
-  pub text_formed : (c : ℕ) (cs : List ℕ) (k : Bool) (es : Exprs) → has_formatted_text (here n).fields d (c ∷ cs) ≡ true → is_kind (u && not (s && is_last es)) k ≡ true →
+  pub text_formed : (c : ℕ) (cs : List ℕ) (k : Bool) (es : Exprs) → has_formatted_text (here n).fields d (c ∷ cs) ≡ true
+      → is_kind (u && not (s && is_last es)) k ≡ true →
       Formed (in_string n d) u s true es → Formed (in_string n d) u s false (an_expr (Trees.Constant (Values.Str (c ∷ cs) k)) es)
   text_formed c cs k es h q f =
       let w = f.given in
@@ -85,25 +91,30 @@ module _ (n : Standing) (d : ℕ) (u s : Bool) where
         given = (FormattedText (c ∷ cs) ∷ w.0, pass_in_front (in_string n d) (FormattedText (c ∷ cs)) w.0 h refl w.1, G.text_part w.2);
         merged_are = ap (with_text (c ∷ cs)) f.merged_are ∙ f.apart refl c cs;
         apart = λ r c cs. absurd (never r);
-        values_are = text_of s u k (c ∷ cs) f.parts (subst (λ z. is_kind (u && not (s && is_last z)) k ≡ true) (sym f.values_are) q) ∙ ap (an_expr (Trees.Constant (Values.Str (c ∷ cs) k))) f.values_are;
+        values_are = text_of s u k (c ∷ cs) f.parts (subst (λ z. is_kind (u && not (s && is_last z)) k ≡ true) (sym f.values_are) q)
+            ∙ ap (an_expr (Trees.Constant (Values.Str (c ∷ cs) k))) f.values_are;
       }
     where
       never : ◌≡◌ {A = Bool} false true → ⊥
       never h = absurd (cc)
 
-  pub field_formed : (b : Bool) (v : Expr) (c : Conversion) (a : OptionalExpr) (es : Exprs) → leb d 1 ≡ true → P.At (in_string n (suc d)) Expression v →
-      GivenAsSpelled (in_string n (suc d)) (G.Spec u) a → Formed (in_string n d) u s false es → Formed (in_string n d) u s b (an_expr (Trees.FormattedValue v c a) es)
+  pub field_formed : (b : Bool) (v : Expr) (c : Conversion) (a : OptionalExpr) (es : Exprs) → leb d 1 ≡ true
+      → P.At (in_string n (suc d)) Expression v →
+      GivenAsSpelled (in_string n (suc d)) (G.Spec u) a → Formed (in_string n d) u s false es
+          → Formed (in_string n d) u s b (an_expr (Trees.FormattedValue v c a) es)
   field_formed b v c a es h p q f =
       let m : Standing = in_string n (suc d) in
       let w = f.given in
       let ts : List Terminal = p.0 ++ (Op RPar ∷ []) in
-      let rest : Ends m (d ∷ n.opened) (FieldEnd ∷ w.0) = pass_behind m FieldEnd (d ∷ n.opened) (d ∷ n.opened) w.0 refl (ap (λ k. k ∷ n.opened) (one_less d)) w.1 in
+      let rest : Ends m (d ∷ n.opened) (FieldEnd ∷ w.0) = pass_behind m FieldEnd (d ∷ n.opened) (d ∷ n.opened) w.0 refl
+          (ap (λ k. k ∷ n.opened) (one_less d)) w.1 in
       record {
         parts = Field (Trees.FormattedValue v c a) ∷ f.parts;
         given = (
           FieldBegin c ∷ (Op LPar ∷ (ts ++ (q.0 ++ (FieldEnd ∷ w.0)))),
           pass_behind (in_string n d) (FieldBegin c) (suc d ∷ n.opened) (d ∷ n.opened) (Op LPar ∷ (ts ++ (q.0 ++ (FieldEnd ∷ w.0)))) h refl
-              (pass_past m (d ∷ n.opened) (Op LPar ∷ ts) (q.0 ++ (FieldEnd ∷ w.0)) (pass_on m p.0 (Op RPar ∷ []) p.1 refl) (pass_past m (d ∷ n.opened) q.0 (FieldEnd ∷ w.0) q.1 rest)),
+              (pass_past m (d ∷ n.opened) (Op LPar ∷ ts) (q.0 ++ (FieldEnd ∷ w.0)) (pass_on m p.0 (Op RPar ∷ []) p.1 refl)
+                  (pass_past m (d ∷ n.opened) q.0 (FieldEnd ∷ w.0) q.1 rest)),
           G.field_part (G.group (G.next {l = Named} p.2)) q.2 w.2,
         );
         merged_are = ap (λ z. Field (Trees.FormattedValue v c a) ∷ z) f.merged_are;
@@ -111,10 +122,12 @@ module _ (n : Standing) (d : ℕ) (u s : Bool) where
         values_are = field_of s u (Trees.FormattedValue v c a) f.parts ∙ ap (an_expr (Trees.FormattedValue v c a)) f.values_are;
       }
 
-pub spec_given : (n : Standing) (d : ℕ) (u : Bool) (es : Exprs) → Formed (in_string n d) u true false es → GivenAsSpelled (in_string n d) (G.Spec u) (Trees.present (Trees.JoinedStr es))
+pub spec_given : (n : Standing) (d : ℕ) (u : Bool) (es : Exprs) → Formed (in_string n d) u true false es
+    → GivenAsSpelled (in_string n d) (G.Spec u) (Trees.present (Trees.JoinedStr es))
 spec_given n d u es f =
     let w = f.given in
-    subst (λ z. GivenAsSpelled (in_string n d) (G.Spec u) (Trees.present (Trees.JoinedStr z))) (ap (spec_values_of u) f.merged_are ∙ f.values_are)
+    subst (λ z. GivenAsSpelled (in_string n d) (G.Spec u) (Trees.present (Trees.JoinedStr z)))
+        (ap (spec_values_of u) f.merged_are ∙ f.values_are)
     (SpecBegin ∷ w.0, w.1, G.spec w.2)
 
 -- ---- A JoinedStr.
@@ -143,7 +156,8 @@ module _ (n : Standing) (es : Exprs) (stands : (is_whole (here n).extent && leb 
   alone u f =
       let w = f.given in (
         FormattedBegin ∷ (w.0 ++ (FormattedEnd ∷ [])),
-        pass_behind n FormattedBegin (0 ∷ n.opened) n.opened (w.0 ++ (FormattedEnd ∷ [])) stands refl (pass_past (in_string n 0) n.opened w.0 (FormattedEnd ∷ []) w.1 refl),
+        pass_behind n FormattedBegin (0 ∷ n.opened) n.opened (w.0 ++ (FormattedEnd ∷ [])) stands refl
+            (pass_past (in_string n 0) n.opened w.0 (FormattedEnd ∷ []) w.1 refl),
         G.formatted_literal w.2 G.no_literal,
       )
 
@@ -152,7 +166,8 @@ module _ (n : Standing) (es : Exprs) (stands : (is_whole (here n).extent && leb 
 
   pub plain_joined : Formed (in_string n 0) false false false es → Joined n es
   unfolding alone
-  plain_joined f = record { unicode = false; parts = f.parts ++ []; given = alone false f; begins = refl; formatted = refl; values_are = are false f }
+  plain_joined f = record { unicode = false; parts = f.parts ++ []; given = alone false f; begins = refl; formatted = refl;
+      values_are = are false f }
 
   -- behind an empty text of its kind
   pub unicode_joined : Formed (in_string n 0) true false false es → Joined n es
@@ -162,14 +177,16 @@ module _ (n : Standing) (es : Exprs) (stands : (is_whole (here n).extent && leb 
       record {
         unicode = true;
         parts = Text [] ∷ (f.parts ++ []);
-        given = (Literal (Values.Str [] true) ∷ w.0, pass_in_front n (Literal (Values.Str [] true)) w.0 (no_text (here n).fields (and_parts (is_whole (here n).extent) (leb (here n).fields 1) stands).1) refl w.1, G.text_literal w.2);
+        given = (Literal (Values.Str [] true) ∷ w.0, pass_in_front n (Literal (Values.Str [] true)) w.0
+            (no_text (here n).fields (and_parts (is_whole (here n).extent) (leb (here n).fields 1) stands).1) refl w.1, G.text_literal w.2);
         begins = refl;
         formatted = refl;
         values_are = are true f;
       }
 
 -- of a JoinedStr that fits, where its values are formed for each kind that they have
-pub strings_given : (n : Standing) (es : Exprs) → may_be_joined (here n) es ≡ true → ((u : Bool) → have_kind u false es ≡ true → Formed (in_string n 0) u false false es) → Joined n es
+pub strings_given : (n : Standing) (es : Exprs) → may_be_joined (here n) es ≡ true
+    → ((u : Bool) → have_kind u false es ≡ true → Formed (in_string n 0) u false false es) → Joined n es
 strings_given n es h f =
     let w = parts3 (is_whole (here n).extent) (leb (here n).fields 1) (have_kind false false es || have_kind true false es) h in
     let stands = and_from (is_whole (here n).extent) (leb (here n).fields 1) w.0 w.1 in

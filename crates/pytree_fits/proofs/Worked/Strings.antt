@@ -10,7 +10,8 @@ use Rattle.pytree_node.specs.declared.profiles.Extent.TheVariants.{Plain, Whole}
 use Rattle.pytree_node.specs.Trees
 use Rattle.pytree_node.specs.Trees.{Expr, Exprs, no_exprs, an_expr, exprs, absent, present}
 use Rattle.pytree_node.specs.Values.{Str, Bytes}
-use Rattle.pytoken.specs.Terminals.{Terminal, Op, Literal, in_form, FormattedBegin, FormattedEnd, FormattedText, FieldBegin, SpecBegin, FieldEnd}
+use Rattle.pytoken.specs.Terminals.{Terminal, Op, Literal, in_form, FormattedBegin, FormattedEnd, FormattedText, FieldBegin, SpecBegin}
+use Rattle.pytoken.specs.Terminals.{FieldEnd}
 use Rattle.pygrammar.specs.declared.levels.Level.TheVariants.{Expression, Primary}
 use Rattle.pytree_fits.specs.Tests.{Tests}
 use Rattle.pytree_fits.specs.Slots.{fits_at}

@@ -3,9 +3,11 @@ use Rattle.pylex_lexeme.specs.declared.kinds.Exact.TheVariants.{Comma}
 use Rattle.pytree_node.specs.Trees.{args, comprehensions, exprs, keywords, optional, optional_arg, optionals}
 use Rattle.pytree_node.specs.TreeOf.{arg_of, arg_option_of, arguments_of, boxed_of, comprehension_of, keyword_of, option_of, tree_of}
 use Rattle.pygrammar.specs.declared.levels.Level.TheVariants.{BitOr, Expression}
-use Rattle.pytree_height.specs.Heights.{arg_height, arg_heights, arguments_height, comprehension_heights, height, heights, keyword_heights, optional_arg_height, optional_height, optional_heights}
+use Rattle.pytree_height.specs.Heights.{arg_height, arg_heights, arguments_height, comprehension_heights, height, heights, keyword_heights}
+use Rattle.pytree_height.specs.Heights.{optional_arg_height, optional_height, optional_heights}
 use Rattle.pyunparse_text.specs.Pieces.{piece}
-use Rattle.pyunparse_text.specs.Written.{behind_equal, beside, by_name, clauses, compared, conditions, defaults, each, elements_behind, names, pairs, trailing, written_keys}
+use Rattle.pyunparse_text.specs.Written.{behind_equal, beside, by_name, clauses, compared, conditions, defaults, each, elements_behind}
+use Rattle.pyunparse_text.specs.Written.{names, pairs, trailing, written_keys}
 use Rattle.pyunparse.specs.Inner.Clauses.{clause_height}
 use Rattle.pyunparse_text.specs.Folds.{puts, puts_elements}
 use Rattle.pyunparse.specs.Inner.Members.{members, padded}
@@ -24,8 +26,12 @@ invariant-operators::write_compared-loop-i g l =
 
 abbrev pub invariant-displays::write_pairs-loop-i : goal.invariant-displays::write_pairs-loop-i
 invariant-displays::write_pairs-loop-i g l =
-    puts g.W.Writer.after l.out (members l.first (trailing piece Comma) (pairs piece (written_keys piece (optionals (map option_of (drop l.i l.keys)))) (exprs (map tree_of (drop l.i l.values)))))
-    ≡ puts g.W.Writer.after l.initial.out (members true (trailing piece Comma) (pairs piece (written_keys piece (optionals (map option_of l.keys))) (exprs (map tree_of l.values))))
+    puts g.W.Writer.after l.out
+        (members l.first (trailing piece Comma) (pairs piece (written_keys piece (optionals (map option_of (drop l.i l.keys))))
+        (exprs (map tree_of (drop l.i l.values)))))
+    ≡ puts g.W.Writer.after l.initial.out
+        (members true (trailing piece Comma) (pairs piece (written_keys piece (optionals (map option_of l.keys)))
+        (exprs (map tree_of l.values))))
 
 abbrev pub invariant-clauses::write_clauses-loop-generator : goal.invariant-clauses::write_clauses-loop-generator
 invariant-clauses::write_clauses-loop-generator g l =
@@ -39,25 +45,34 @@ invariant-clauses::write_conditions-loop-test g l =
 
 abbrev pub invariant-calls::write_keywords-loop-word : goal.invariant-calls::write_keywords-loop-word
 invariant-calls::write_keywords-loop-word g l =
-    puts g.W.Writer.after l.out (members l.first (trailing piece Comma) (by_name piece (keywords (map keyword_of (drop l.word-index l.words)))))
+    puts g.W.Writer.after l.out
+        (members l.first (trailing piece Comma) (by_name piece (keywords (map keyword_of (drop l.word-index l.words)))))
     ≡ puts g.W.Writer.after l.initial.out (members l.fn.is_first (trailing piece Comma) (by_name piece (keywords (map keyword_of l.words))))
 
 abbrev pub invariant-parameters::write_plain-loop-i : goal.invariant-parameters::write_plain-loop-i
 invariant-parameters::write_plain-loop-i g l =
     puts g.W.Writer.after l.out (members l.first (trailing piece Comma)
-    (padded (names piece (args (map arg_of (drop l.i l.params)))) (l.bare - l.i) (map (behind_equal piece) (each piece Expression (exprs (map tree_of (drop (l.i - l.bare) l.given)))))))
+    (padded (names piece (args (map arg_of (drop l.i l.params)))) (l.bare - l.i)
+        (map (behind_equal piece) (each piece Expression (exprs (map tree_of (drop (l.i - l.bare) l.given)))))))
     ≡ puts g.W.Writer.after l.initial.out (members l.is_first (trailing piece Comma)
-    (padded (names piece (args (map arg_of l.params))) l.bare (map (behind_equal piece) (each piece Expression (exprs (map tree_of l.given))))))
+    (padded (names piece (args (map arg_of l.params))) l.bare
+        (map (behind_equal piece) (each piece Expression (exprs (map tree_of l.given))))))
 
 abbrev pub invariant-parameters::write_keyword_only-loop-i : goal.invariant-parameters::write_keyword_only-loop-i
 invariant-parameters::write_keyword_only-loop-i g l =
-    puts g.W.Writer.after l.out (members false (trailing piece Comma) (beside (names piece (args (map arg_of (drop l.i l.params)))) (defaults piece (optionals (map option_of (drop l.i l.given))))))
-    ≡ puts g.W.Writer.after l.initial.out (members false (trailing piece Comma) (beside (names piece (args (map arg_of l.params))) (defaults piece (optionals (map option_of l.given)))))
+    puts g.W.Writer.after l.out
+        (members false (trailing piece Comma) (beside (names piece (args (map arg_of (drop l.i l.params))))
+        (defaults piece (optionals (map option_of (drop l.i l.given))))))
+    ≡ puts g.W.Writer.after l.initial.out
+        (members false (trailing piece Comma) (beside (names piece (args (map arg_of l.params)))
+        (defaults piece (optionals (map option_of l.given)))))
 
 abbrev pub invariant-strings::write_values-loop-i : goal.invariant-strings::write_values-loop-i
 invariant-strings::write_values-loop-i g l =
-    puts_elements g.W.Writer.after g.W.Writer.step l.in_field l.out (elements_behind piece l.in_spec (exprs (map tree_of (drop l.i l.values))))
-    ≡ puts_elements g.W.Writer.after g.W.Writer.step l.in_field l.initial.out (elements_behind piece l.in_spec (exprs (map tree_of l.values)))
+    puts_elements g.W.Writer.after g.W.Writer.step l.in_field l.out
+        (elements_behind piece l.in_spec (exprs (map tree_of (drop l.i l.values))))
+    ≡ puts_elements g.W.Writer.after g.W.Writer.step l.in_field l.initial.out
+        (elements_behind piece l.in_spec (exprs (map tree_of l.values)))
 
 abbrev pub decreases-expressions::write_expr : goal.decreases-expressions::write_expr
 decreases-expressions::write_expr g l = 8 * height (tree_of l.e.now)
@@ -75,10 +90,12 @@ abbrev pub decreases-displays::write_display : goal.decreases-displays::write_di
 decreases-displays::write_display g l = 8 * heights (exprs (map tree_of l.elts.now)) + 2
 
 abbrev pub decreases-displays::write_dict : goal.decreases-displays::write_dict
-decreases-displays::write_dict g l = 8 * max (optional_heights (optionals (map option_of l.keys.now))) (heights (exprs (map tree_of l.values.now))) + 3
+decreases-displays::write_dict g l = 8 * max (optional_heights (optionals (map option_of l.keys.now)))
+    (heights (exprs (map tree_of l.values.now))) + 3
 
 abbrev pub decreases-displays::write_pairs : goal.decreases-displays::write_pairs
-decreases-displays::write_pairs g l = 8 * max (optional_heights (optionals (map option_of l.keys.now))) (heights (exprs (map tree_of l.values.now))) + 2
+decreases-displays::write_pairs g l = 8 * max (optional_heights (optionals (map option_of l.keys.now)))
+    (heights (exprs (map tree_of l.values.now))) + 2
 
 abbrev pub decreases-displays::write_pair : goal.decreases-displays::write_pair
 decreases-displays::write_pair g l = 8 * max (optional_height (optional (option_of l.key.now))) (height (tree_of l.value.now)) + 1
@@ -99,7 +116,8 @@ abbrev pub decreases-operators::write_lambda : goal.decreases-operators::write_l
 decreases-operators::write_lambda g l = 8 * max (arguments_height (arguments_of l.args.now)) (height (tree_of l.body.now)) + 7
 
 abbrev pub decreases-operators::write_conditional : goal.decreases-operators::write_conditional
-decreases-operators::write_conditional g l = 8 * max (height (tree_of l.test.now)) (max (height (tree_of l.body.now)) (height (tree_of l.orelse.now))) + 1
+decreases-operators::write_conditional g l =
+    8 * max (height (tree_of l.test.now)) (max (height (tree_of l.body.now)) (height (tree_of l.orelse.now))) + 1
 
 abbrev pub decreases-operators::write_await : goal.decreases-operators::write_await
 decreases-operators::write_await g l = 8 * height (tree_of l.value.now) + 1
@@ -117,13 +135,17 @@ abbrev pub decreases-operators::write_compared : goal.decreases-operators::write
 decreases-operators::write_compared g l = 8 * heights (exprs (map tree_of l.comparators.now)) + 1
 
 abbrev pub decreases-clauses::write_comprehension : goal.decreases-clauses::write_comprehension
-decreases-clauses::write_comprehension g l = 8 * max (height (tree_of l.elt.now)) (comprehension_heights (comprehensions (map comprehension_of l.generators.now))) + 6
+decreases-clauses::write_comprehension g l =
+    8 * max (height (tree_of l.elt.now)) (comprehension_heights (comprehensions (map comprehension_of l.generators.now))) + 6
 
 abbrev pub decreases-clauses::write_generator : goal.decreases-clauses::write_generator
-decreases-clauses::write_generator g l = 8 * max (height (tree_of l.elt.now)) (comprehension_heights (comprehensions (map comprehension_of l.generators.now))) + 5
+decreases-clauses::write_generator g l =
+    8 * max (height (tree_of l.elt.now)) (comprehension_heights (comprehensions (map comprehension_of l.generators.now))) + 5
 
 abbrev pub decreases-clauses::write_dict_comprehension : goal.decreases-clauses::write_dict_comprehension
-decreases-clauses::write_dict_comprehension g l = 8 * max (height (tree_of l.key.now)) (max (height (tree_of l.value.now)) (comprehension_heights (comprehensions (map comprehension_of l.generators.now)))) + 5
+decreases-clauses::write_dict_comprehension g l =
+    8 * max (height (tree_of l.key.now))
+    (max (height (tree_of l.value.now)) (comprehension_heights (comprehensions (map comprehension_of l.generators.now)))) + 5
 
 abbrev pub decreases-clauses::write_clauses : goal.decreases-clauses::write_clauses
 decreases-clauses::write_clauses g l = 8 * comprehension_heights (comprehensions (map comprehension_of l.generators.now)) + 4
@@ -138,10 +160,13 @@ abbrev pub decreases-calls::write_subscript : goal.decreases-calls::write_subscr
 decreases-calls::write_subscript g l = 8 * max (height (tree_of l.value.now)) (height (tree_of l.slice.now)) + 1
 
 abbrev pub decreases-calls::write_call : goal.decreases-calls::write_call
-decreases-calls::write_call g l = 8 * max (height (tree_of l.func.now)) (max (heights (exprs (map tree_of l.args.now))) (keyword_heights (keywords (map keyword_of l.words.now)))) + 4
+decreases-calls::write_call g l =
+    8 * max (height (tree_of l.func.now))
+    (max (heights (exprs (map tree_of l.args.now))) (keyword_heights (keywords (map keyword_of l.words.now)))) + 4
 
 abbrev pub decreases-calls::write_arguments : goal.decreases-calls::write_arguments
-decreases-calls::write_arguments g l = 8 * max (heights (exprs (map tree_of l.args.now))) (keyword_heights (keywords (map keyword_of l.words.now))) + 3
+decreases-calls::write_arguments g l = 8 * max (heights (exprs (map tree_of l.args.now)))
+    (keyword_heights (keywords (map keyword_of l.words.now))) + 3
 
 abbrev pub decreases-calls::write_keywords : goal.decreases-calls::write_keywords
 decreases-calls::write_keywords g l = 8 * keyword_heights (keywords (map keyword_of l.words.now)) + 2
@@ -150,7 +175,8 @@ abbrev pub decreases-tuples::write_tuple : goal.decreases-tuples::write_tuple
 decreases-tuples::write_tuple g l = 8 * heights (exprs (map tree_of l.elts.now)) + 2
 
 abbrev pub decreases-tuples::write_slice : goal.decreases-tuples::write_slice
-decreases-tuples::write_slice g l = 8 * max (optional_height (optional (boxed_of l.lower.now))) (max (optional_height (optional (boxed_of l.upper.now))) (optional_height (optional (boxed_of l.step.now)))) + 2
+decreases-tuples::write_slice g l = 8 * max (optional_height (optional (boxed_of l.lower.now)))
+    (max (optional_height (optional (boxed_of l.upper.now))) (optional_height (optional (boxed_of l.step.now)))) + 2
 
 abbrev pub decreases-parameters::write_parameters : goal.decreases-parameters::write_parameters
 decreases-parameters::write_parameters g l = 8 * arguments_height (arguments_of l.a.now) + 6
@@ -159,10 +185,12 @@ abbrev pub decreases-parameters::write_positional : goal.decreases-parameters::w
 decreases-parameters::write_positional g l = 8 * arguments_height (arguments_of l.a.now) + 5
 
 abbrev pub decreases-parameters::write_plain : goal.decreases-parameters::write_plain
-decreases-parameters::write_plain g l = 8 * max (arg_heights (args (map arg_of l.params.now))) (heights (exprs (map tree_of l.given.now))) + 3
+decreases-parameters::write_plain g l = 8 * max (arg_heights (args (map arg_of l.params.now)))
+    (heights (exprs (map tree_of l.given.now))) + 3
 
 abbrev pub decreases-parameters::write_keyword_only : goal.decreases-parameters::write_keyword_only
-decreases-parameters::write_keyword_only g l = 8 * max (arg_heights (args (map arg_of l.params.now))) (optional_heights (optionals (map option_of l.given.now))) + 3
+decreases-parameters::write_keyword_only g l = 8 * max (arg_heights (args (map arg_of l.params.now)))
+    (optional_heights (optionals (map option_of l.given.now))) + 3
 
 abbrev pub decreases-parameters::write_named_arg : goal.decreases-parameters::write_named_arg
 decreases-parameters::write_named_arg g l = 8 * arg_height (arg_of l.arg.now) + 2
@@ -192,7 +220,8 @@ abbrev pub decreases-calls::write_alone : goal.decreases-calls::write_alone
 decreases-calls::write_alone g l = 8 * height (tree_of l.e.now) + 1
 
 abbrev pub decreases-parameters::write_both : goal.decreases-parameters::write_both
-decreases-parameters::write_both g l = 8 * max (arg_heights (args (map arg_of l.only.now))) (max (arg_heights (args (map arg_of l.others.now))) (heights (exprs (map tree_of l.given.now)))) + 4
+decreases-parameters::write_both g l = 8 * max (arg_heights (args (map arg_of l.only.now)))
+    (max (arg_heights (args (map arg_of l.others.now))) (heights (exprs (map tree_of l.given.now)))) + 4
 
 abbrev pub decreases-strings::write_joined : goal.decreases-strings::write_joined
 decreases-strings::write_joined g l = 8 * heights (exprs (map tree_of l.values.now)) + 3

@@ -1,5 +1,6 @@
 -- Carries: the functions of strings. What is written for an f-string, element after element.
-use Rattle.std.proofs.Common.{◌≡◌, ◌∙◌, ℕ, ◌+◌, ◌<◌, ◌≤◌, Result, IfOk, Bool, true, false, List, [], ◌∷◌, ◌++◌, map, length, drop, get_or, refl, ap, sym, append_assoc}
+use Rattle.std.proofs.Common.{◌≡◌, ◌∙◌, ℕ, ◌+◌, ◌<◌, ◌≤◌, Result, IfOk, Bool, true, false, List, [], ◌∷◌, ◌++◌, map, length, drop, get_or}
+use Rattle.std.proofs.Common.{refl, ap, sym, append_assoc}
 use Rattle.std.proofs.lemmas.Result.{IfOk-weaker}
 use Rattle.pyfstring.specs.declared.parts.Conversion.{Conversion}
 use Rattle.pytree_node.specs.declared.expressions.Expr as given
@@ -10,7 +11,8 @@ use Rattle.pygrammar.specs.declared.levels.Level.TheVariants.{Or}
 use Rattle.pytree_node.specs.Values.{Str}
 use Rattle.pytoken.specs.Terminals.{Literal}
 use Rattle.pyunparse_text.specs.Pieces.{Sited, piece, pieces, sited, sited_string}
-use Rattle.pyunparse_text.specs.Folds.{Step, Begin, PutText, BeginField, EndExpression, BeginSpec, EndField, puts, puts_elements, sited_in_utf8}
+use Rattle.pyunparse_text.specs.Folds.{Step, Begin, PutText, BeginField, EndExpression, BeginSpec, EndField, puts, puts_elements}
+use Rattle.pyunparse_text.specs.Folds.{sited_in_utf8}
 use Rattle.pyunparse_text.specs.Written.{Element, Text, End, elements_behind, field, first_text, is_unicode, joined, spec_elements, written}
 use Rattle.pyunparse_text.proofs.Callers.Writing.{elements_both}
 use Rattle.pyunparse.specs.Inner.Values.{value_elements}
@@ -52,7 +54,8 @@ module _ {S : Type 0} (after : S → Sited → S) (step : S → Step → S) (is_
       ∙ sym (elements_both after step is_in_field s (field piece c (pieces Or e) (spec_elements piece spec)) (Text b t ∷ []))
 
   -- a format spec
-  pub spec_on : (es : Exprs) (t : List ℕ) (s s1 s2 s3 : S) → t ≡ first_text es → s1 ≡ step s BeginSpec → s2 ≡ step s1 (PutText is_in_field true t) →
+  pub spec_on : (es : Exprs) (t : List ℕ) (s s1 s2 s3 : S) → t ≡ first_text es → s1 ≡ step s BeginSpec
+      → s2 ≡ step s1 (PutText is_in_field true t) →
       s3 ≡ put_all s2 (elements_behind piece true es) →
       s3 ≡ put_all s (spec_elements piece (plain.present (plain.JoinedStr es)))
   unfolding written
@@ -76,10 +79,12 @@ module _ {S : Type 0} (after : S → Sited → S) (step : S → Step → S) (is_
         let rest : Exprs = exprs (map tree_of (drop (i + 1) xs)) in
         ap (λ z. put_all z (elements_behind piece b rest)) (e1 ∙ ap (λ z. put_all o (value_elements b (tree_of x) z)) h)
         ∙ sym (elements_both after step is_in_field o (value_elements b (tree_of x) (first_text rest)) (elements_behind piece b rest))
-        ∙ ap (put_all o) (sym (ap (λ z. elements_behind piece b (exprs (map tree_of z))) (dropped xs i x lt read) ∙ values_both b (tree_of x) rest))
+        ∙ ap (put_all o) (sym (ap (λ z. elements_behind piece b (exprs (map tree_of z))) (dropped xs i x lt read)
+            ∙ values_both b (tree_of x) rest))
         ∙ so_far
 
-    pub values_done : (xs : List given.Expr) (i : ℕ) → length xs ≤ i → put_all o (elements_behind piece b (exprs (map tree_of (drop i xs)))) ≡ base →
+    pub values_done : (xs : List given.Expr) (i : ℕ) → length xs ≤ i
+        → put_all o (elements_behind piece b (exprs (map tree_of (drop i xs)))) ≡ base →
         o ≡ base
     unfolding written
     values_done xs i h so_far = sym (ap (λ z. put_all o (elements_behind piece b (exprs (map tree_of z)))) (none_left xs i h)) ∙ so_far

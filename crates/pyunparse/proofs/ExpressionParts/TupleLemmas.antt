@@ -17,7 +17,8 @@ abbrev comma : Sited
 comma = trailing piece Comma
 
 -- one element
-single : (k : Level) (b : Bool) (ts : List Sited) → opened (not (is_elem k)) ++ (ts ++ (last (not (is_part k && b)) ++ closed (not (is_elem k)))) ≡ tuple_of piece k b (ts ∷ [])
+single : (k : Level) (b : Bool) (ts : List Sited)
+    → opened (not (is_elem k)) ++ (ts ++ (last (not (is_part k && b)) ++ closed (not (is_elem k)))) ≡ tuple_of piece k b (ts ∷ [])
 single Elem b ts = ap (λ z. opened false ++ z) (sym (append_assoc ts (comma ∷ []) (closed false)))
 single Part true ts = append-nil ts
 single Part false ts = refl
@@ -25,7 +26,8 @@ single _ b ts = refl
 
 -- more of them
 more : (k : Level) (b : Bool) (ts us : List Sited) (tss : List (List Sited)) →
-    opened (not (is_elem k)) ++ (separated comma (ts ∷ (us ∷ tss)) ++ ([] ++ closed (not (is_elem k)))) ≡ tuple_of piece k b (ts ∷ (us ∷ tss))
+    opened (not (is_elem k)) ++ (separated comma (ts ∷ (us ∷ tss)) ++ ([] ++ closed (not (is_elem k)))) ≡ tuple_of
+        piece k b (ts ∷ (us ∷ tss))
 more Elem b ts us tss = refl
 more Part true ts us tss = append-nil (separated comma (ts ∷ (us ∷ tss)))
 more Part false ts us tss = append-nil (separated comma (ts ∷ (us ∷ tss)))
@@ -33,13 +35,15 @@ more _ b ts us tss = append-nil (separated comma (ts ∷ (us ∷ tss)))
 
 -- any number of them, written at one level and joined by another
 whole : (j k : Level) (es : Exprs) →
-    opened (are_bare es j) ++ (separated comma (each piece k es) ++ (last (is_alone es j) ++ closed (are_bare es j))) ≡ tuple_of piece j (lone_star es) (each piece k es)
+    opened (are_bare es j) ++ (separated comma (each piece k es) ++ (last (is_alone es j) ++ closed (are_bare es j))) ≡ tuple_of piece j
+        (lone_star es) (each piece k es)
 unfolding written
 whole j k no_exprs = refl
 whole j k (an_expr e no_exprs) = single j (lone_star (an_expr e no_exprs)) (pieces k e)
 whole j k (an_expr e (an_expr f es)) = more j (lone_star (an_expr e (an_expr f es))) (pieces k e) (pieces k f) (each piece k es)
 
-pub tuple : {S : Type 0} (after : S → Sited → S) (s : S) (l : Level) (es : Exprs) (c : Context) (j k : Level) (bare alone : Bool) (s1 s2 s3 : S) →
+pub tuple : {S : Type 0} (after : S → Sited → S) (s : S) (l : Level) (es : Exprs) (c : Context) (j k : Level)
+    (bare alone : Bool) (s1 s2 s3 : S) →
     j ≡ tuple_level l (some_named es) → k ≡ element_level l (some_named es) → bare ≡ are_bare es j → alone ≡ is_alone es j →
     s1 ≡ puts after s (opened bare) → s2 ≡ puts after s1 (separated comma (each piece k es)) → s3 ≡ puts after s2 (last alone) →
     puts after s3 (closed bare) ≡ puts after s (pieces l (Trees.Tuple es c))

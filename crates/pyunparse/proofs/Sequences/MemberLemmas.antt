@@ -1,5 +1,6 @@
 -- Carries: the loops. One item more is written, or there is none left.
-use Rattle.std.proofs.Common.{◌≡◌, ◌∙◌, ℕ, zero, suc, ◌+◌, ◌-◌, ◌<◌, ◌≤◌, max, min, Bool, true, false, ◌&&◌, if◌then◌else◌, List, [], ◌∷◌, ◌++◌, map, length, length-drop, drop, take, get_or, refl, ap, sym, arith, append-nil, append_assoc}
+use Rattle.std.proofs.Common.{◌≡◌, ◌∙◌, ℕ, zero, suc, ◌+◌, ◌-◌, ◌<◌, ◌≤◌, max, min, Bool, true, false, ◌&&◌, if◌then◌else◌, List, [], ◌∷◌}
+use Rattle.std.proofs.Common.{◌++◌, map, length, length-drop, drop, take, get_or, refl, ap, sym, arith, append-nil, append_assoc}
 use Rattle.pytree_node.specs.declared.expressions.Expr as given
 use Rattle.pytree_node.specs.declared.operators.Comparison.{Comparison}
 use Rattle.pygrammar.specs.declared.levels.Level.{Level}
@@ -40,13 +41,16 @@ members_on after s false t ts tss = puts_append after (after s (sited_in_utf8 t)
 -- members of two lists
 following_both : {A : Type 0} (t : A) (xss yss : List (List A)) → following t (xss ++ yss) ≡ following t xss ++ following t yss
 following_both t [] yss = refl
-following_both t (ts ∷ xss) yss = ap (λ z. t ∷ (ts ++ z)) (following_both t xss yss) ∙ ap (λ z. t ∷ z) (sym (append_assoc ts (following t xss) (following t yss)))
+following_both t (ts ∷ xss) yss = ap (λ z. t ∷ (ts ++ z)) (following_both t xss yss)
+    ∙ ap (λ z. t ∷ z) (sym (append_assoc ts (following t xss) (following t yss)))
 
-pub members_both : {A : Type 0} (f : Bool) (t : A) (xss yss : List (List A)) → members f t (xss ++ yss) ≡ members f t xss ++ members (f && is_nil xss) t yss
+pub members_both : {A : Type 0} (f : Bool) (t : A) (xss yss : List (List A))
+    → members f t (xss ++ yss) ≡ members f t xss ++ members (f && is_nil xss) t yss
 members_both true t [] yss = refl
 members_both false t [] yss = refl
 members_both true t (ts ∷ xss) yss =
-    separated_on t ts (xss ++ yss) ∙ ap (λ z. ts ++ z) (following_both t xss yss) ∙ sym (append_assoc ts (following t xss) (following t yss))
+    separated_on t ts (xss ++ yss) ∙ ap (λ z. ts ++ z) (following_both t xss yss)
+        ∙ sym (append_assoc ts (following t xss) (following t yss))
     ∙ ap (λ z. z ++ following t yss) (sym (separated_on t ts xss))
 members_both false t (ts ∷ xss) yss = following_both t (ts ∷ xss) yss
 
@@ -118,22 +122,27 @@ module _ {S X Y : Type 0} (after : S → Sited → S) (base o : S) where
   module _ (f : Bool) (t : Sited) (F : List X → List Y → List (List Sited)) where
     pub both_on : (g : X → Y → List Sited) → ((x : X) (y : Y) (xs : List X) (ys : List Y) → F (x ∷ xs) (y ∷ ys) ≡ g x y ∷ F xs ys) →
         (xs : List X) (ys : List Y) (i : ℕ) (x : X) (y : Y) (o1 o2 : S) →
-        i < length xs → x ≡ get_or xs i x → i < length ys → y ≡ get_or ys i y → puts after o (members f t (F (drop i xs) (drop i ys))) ≡ base →
+        i < length xs → x ≡ get_or xs i x → i < length ys → y ≡ get_or ys i y
+            → puts after o (members f t (F (drop i xs) (drop i ys))) ≡ base →
         o1 ≡ puts after o (if f then [] else t ∷ []) → o2 ≡ puts after o1 (g x y) →
         puts after o2 (members false t (F (drop (i + 1) xs) (drop (i + 1) ys))) ≡ base
     both_on g cons xs ys i x y o1 o2 lx rx ly ry so_far e1 e2 =
         let rest : List (List Sited) = F (drop (i + 1) xs) (drop (i + 1) ys) in
         ap (λ z. puts after z (members false t rest)) (e2 ∙ ap (λ z. puts after z (g x y)) e1)
         ∙ sym (members_on after o f t (g x y) rest)
-        ∙ ap (λ z. puts after o (members f t z)) (sym ((λ k. F (dropped xs i x lx rx k) (dropped ys i y ly ry k)) ∙ cons x y (drop (i + 1) xs) (drop (i + 1) ys)))
+        ∙ ap (λ z. puts after o (members f t z)) (sym ((λ k. F (dropped xs i x lx rx k) (dropped ys i y ly ry k))
+            ∙ cons x y (drop (i + 1) xs) (drop (i + 1) ys)))
         ∙ so_far
 
-    pub both_done : ((ys : List Y) → F [] ys ≡ []) → ((xs : List X) → F xs [] ≡ []) → (xs : List X) (ys : List Y) (i : ℕ) → min (length xs) (length ys) ≤ i →
+    pub both_done : ((ys : List Y) → F [] ys ≡ []) → ((xs : List X) → F xs [] ≡ []) → (xs : List X) (ys : List Y) (i : ℕ)
+        → min (length xs) (length ys) ≤ i →
         puts after o (members f t (F (drop i xs) (drop i ys))) ≡ base → o ≡ base
-    both_done no_x no_y xs ys i h so_far = sym (ap (λ z. puts after o (members f t z)) (ended F no_x no_y xs ys i h) ∙ ap (puts after o) (members_none f t)) ∙ so_far
+    both_done no_x no_y xs ys i h so_far = sym (ap (λ z. puts after o (members f t z)) (ended F no_x no_y xs ys i h)
+        ∙ ap (puts after o) (members_none f t)) ∙ so_far
 
 -- one comparison more
-pub compared_on : {S : Type 0} (after : S → Sited → S) (base o : S) (l : Level) (os : List Comparison) (es : List given.Expr) (i : ℕ) (c : Comparison) (e : given.Expr) (o1 o2 : S) →
+pub compared_on : {S : Type 0} (after : S → Sited → S) (base o : S) (l : Level) (os : List Comparison) (es : List given.Expr) (i : ℕ)
+    (c : Comparison) (e : given.Expr) (o1 o2 : S) →
     i < length os → c ≡ get_or os i c → i < length es → e ≡ get_or es i e →
     puts after o (compared piece (drop i os) (each piece l (exprs (map tree_of (drop i es))))) ≡ base →
     o1 ≡ puts after o (map (free piece) (comparison_signs c)) → o2 ≡ puts after o1 (pieces l (tree_of e)) →
@@ -144,18 +153,21 @@ compared_on after base o l os es i c e o1 o2 lo ro le re so_far e1 e2 =
     ap (λ z. puts after z rest) (e2 ∙ ap (λ z. puts after z (pieces l (tree_of e))) e1)
     ∙ sym (puts_append after (puts after o (map (free piece) (comparison_signs c))) (pieces l (tree_of e)) rest)
     ∙ sym (puts_append after o (map (free piece) (comparison_signs c)) (pieces l (tree_of e) ++ rest))
-    ∙ (λ k. puts after o (compared piece (sym (dropped os i c lo ro) k) (each piece l (exprs (map tree_of (sym (dropped es i e le re) k))))))
+    ∙ (λ k. puts after o
+        (compared piece (sym (dropped os i c lo ro) k) (each piece l (exprs (map tree_of (sym (dropped es i e le re) k))))))
     ∙ so_far
 
 no_more : (os : List Comparison) → compared piece os [] ≡ []
 no_more [] = refl
 no_more (o ∷ os) = refl
 
-pub compared_done : {S : Type 0} (after : S → Sited → S) (base o : S) (l : Level) (os : List Comparison) (es : List given.Expr) (i : ℕ) → min (length os) (length es) ≤ i →
+pub compared_done : {S : Type 0} (after : S → Sited → S) (base o : S) (l : Level) (os : List Comparison) (es : List given.Expr) (i : ℕ)
+    → min (length os) (length es) ≤ i →
     puts after o (compared piece (drop i os) (each piece l (exprs (map tree_of (drop i es))))) ≡ base → o ≡ base
 unfolding written
 compared_done after base o l os es i h so_far =
-    sym (ap (puts after o) (ended (λ xs ys. compared piece xs (each piece l (exprs (map tree_of ys)))) (λ _. refl) no_more os es i h)) ∙ so_far
+    sym (ap (puts after o) (ended (λ xs ys. compared piece xs (each piece l (exprs (map tree_of ys)))) (λ _. refl) no_more os es i h))
+        ∙ so_far
 
 -- an item that is read is what any other reading gives
 pub read_again : {A : Type 0} (xs : List A) (i : ℕ) (d : A) → i < length xs → get_or xs i d ≡ get_or xs i (get_or xs i d)

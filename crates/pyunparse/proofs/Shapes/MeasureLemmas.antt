@@ -17,8 +17,10 @@ use Rattle.pytree_node.specs.declared.expressions.Keyword as given_keyword
 use Rattle.pytree_node.specs.declared.operators.Comparison.{Comparison}
 use Rattle.pytree_node.specs.Trees.{args, comprehensions, exprs, keywords, optional, optional_arg, optionals}
 use Rattle.pytree_node.specs.TreeOf.{arg_of, arg_option_of, arguments_of, boxed_of, comprehension_of, keyword_of, option_of, tree_of}
-use Rattle.pytree_node.proofs.Callers.ExprShapes.{arg_tree, arguments_tree, call_tree, compare_tree, comprehension_tree, dict_comp_tree, formatted_value_tree, generator_exp_tree, joined_str_tree, keyword_tree}
-use Rattle.pytree_height.specs.Heights.{arg_height, arg_heights, arguments_height, comprehension_heights, height, heights, keyword_heights, optional_arg_height, optional_height, optional_heights}
+use Rattle.pytree_node.proofs.Callers.ExprShapes.{arg_tree, arguments_tree, call_tree, compare_tree, comprehension_tree, dict_comp_tree}
+use Rattle.pytree_node.proofs.Callers.ExprShapes.{formatted_value_tree, generator_exp_tree, joined_str_tree, keyword_tree}
+use Rattle.pytree_height.specs.Heights.{arg_height, arg_heights, arguments_height, comprehension_heights, height, heights, keyword_heights}
+use Rattle.pytree_height.specs.Heights.{optional_arg_height, optional_height, optional_heights}
 use Rattle.pyunparse.specs.Inner.Clauses.{clause_height}
 
 -- ---- Classes of expressions.
@@ -32,10 +34,12 @@ generator_height e x gs elt generators is hx hg =
 
 pub dict_comp_height : (e k x : Expr) (gs : List Comprehension) (key value : Box Expr Global) (generators : Vec Comprehension Global) →
     e ≡ variant.DictComp key value generators → k ≡ key.value → x ≡ value.value → gs ≡ generators.items →
-    height (tree_of e) ≡ max (height (tree_of k)) (max (height (tree_of x)) (comprehension_heights (comprehensions (map comprehension_of gs)))) + 1
+    height (tree_of e) ≡ max (height (tree_of k))
+        (max (height (tree_of x)) (comprehension_heights (comprehensions (map comprehension_of gs)))) + 1
 dict_comp_height e k x gs key value generators is hk hx hg =
     ap (λ z. height (tree_of z)) is ∙ ap height (dict_comp_tree key value generators)
-    ∙ (λ i. max (height (tree_of (sym hk i))) (max (height (tree_of (sym hx i))) (comprehension_heights (comprehensions (map comprehension_of (sym hg i))))) + 1)
+    ∙ (λ i. max (height (tree_of (sym hk i)))
+        (max (height (tree_of (sym hx i))) (comprehension_heights (comprehensions (map comprehension_of (sym hg i))))) + 1)
 
 pub compare_height : (e l : Expr) (es : List Expr) (left : Box Expr Global) (ops : Vec Comparison Global) (comparators : Vec Expr Global) →
     e ≡ variant.Compare left ops comparators → l ≡ left.value → es ≡ comparators.items →
@@ -44,12 +48,15 @@ compare_height e l es left ops comparators is hl he =
     ap (λ z. height (tree_of z)) is ∙ ap height (compare_tree left ops comparators)
     ∙ (λ i. max (height (tree_of (sym hl i))) (heights (exprs (map tree_of (sym he i)))) + 1)
 
-pub call_height : (e f : Expr) (es : List Expr) (ks : List Keyword) (func : Box Expr Global) (arguments : Vec Expr Global) (words : Vec Keyword Global) →
+pub call_height : (e f : Expr) (es : List Expr) (ks : List Keyword) (func : Box Expr Global) (arguments : Vec Expr Global)
+    (words : Vec Keyword Global) →
     e ≡ variant.Call func arguments words → f ≡ func.value → es ≡ arguments.items → ks ≡ words.items →
-    height (tree_of e) ≡ max (height (tree_of f)) (max (heights (exprs (map tree_of es))) (keyword_heights (keywords (map keyword_of ks)))) + 1
+    height (tree_of e) ≡ max (height (tree_of f)) (max (heights (exprs (map tree_of es))) (keyword_heights (keywords (map keyword_of ks))))
+        + 1
 call_height e f es ks func arguments words is hf he hk =
     ap (λ z. height (tree_of z)) is ∙ ap height (call_tree func arguments words)
-    ∙ (λ i. max (height (tree_of (sym hf i))) (max (heights (exprs (map tree_of (sym he i)))) (keyword_heights (keywords (map keyword_of (sym hk i))))) + 1)
+    ∙ (λ i. max (height (tree_of (sym hf i)))
+        (max (heights (exprs (map tree_of (sym he i)))) (keyword_heights (keywords (map keyword_of (sym hk i))))) + 1)
 
 pub formatted_height : (e x : Expr) (value : Box Expr Global) (conversion : Conversion) (spec : Option (Box Expr Global)) →
     e ≡ variant.FormattedValue value conversion spec → x ≡ value.value →
@@ -73,10 +80,12 @@ named_arg_height a = ap arg_height (arg_tree a)
 
 pub parts_height : (c : Comprehension) (es : List Expr) → es ≡ (given_comprehension.out-Comprehension c).ifs.items →
     clause_height (comprehension_of c)
-    ≡ max (height (tree_of (given_comprehension.out-Comprehension c).target)) (max (height (tree_of (given_comprehension.out-Comprehension c).iter)) (heights (exprs (map tree_of es))))
+    ≡ max (height (tree_of (given_comprehension.out-Comprehension c).target))
+        (max (height (tree_of (given_comprehension.out-Comprehension c).iter)) (heights (exprs (map tree_of es))))
 parts_height c es h =
     ap clause_height (comprehension_tree c)
-    ∙ (λ i. max (height (tree_of (given_comprehension.out-Comprehension c).target)) (max (height (tree_of (given_comprehension.out-Comprehension c).iter)) (heights (exprs (map tree_of (sym h i))))))
+    ∙ (λ i. max (height (tree_of (given_comprehension.out-Comprehension c).target))
+        (max (height (tree_of (given_comprehension.out-Comprehension c).iter)) (heights (exprs (map tree_of (sym h i))))))
 
 -- ---- Parameters.
 
@@ -119,11 +128,15 @@ module _ (a : Arguments) where
   whole = ap arguments_height (arguments_tree a)
 
   pub places_lower : (ps qs : List Arg) (ds : List Expr) →
-      ps ≡ (given_arguments.out-Arguments a).posonlyargs.items → qs ≡ (given_arguments.out-Arguments a).args.items → ds ≡ (given_arguments.out-Arguments a).defaults.items →
-      max (arg_heights (args (map arg_of ps))) (max (arg_heights (args (map arg_of qs))) (heights (exprs (map tree_of ds)))) ≤ arguments_height (arguments_of a)
+      ps ≡ (given_arguments.out-Arguments a).posonlyargs.items → qs ≡ (given_arguments.out-Arguments a).args.items
+          → ds ≡ (given_arguments.out-Arguments a).defaults.items →
+      max (arg_heights (args (map arg_of ps))) (max (arg_heights (args (map arg_of qs))) (heights (exprs (map tree_of ds)))) ≤
+          arguments_height (arguments_of a)
   places_lower ps qs ds hp hq hd =
-      let same : max (arg_heights (args (map arg_of ps))) (max (arg_heights (args (map arg_of qs))) (heights (exprs (map tree_of ds)))) ≡ max P (max Q D) =
-      (λ i. max (arg_heights (args (map arg_of (hp i)))) (max (arg_heights (args (map arg_of (hq i)))) (heights (exprs (map tree_of (hd i)))))) in
+      let same : max (arg_heights (args (map arg_of ps))) (max (arg_heights (args (map arg_of qs))) (heights (exprs (map tree_of ds)))) ≡
+          max P (max Q D) =
+      (λ i. max (arg_heights (args (map arg_of (hp i))))
+          (max (arg_heights (args (map arg_of (hq i)))) (heights (exprs (map tree_of (hd i)))))) in
       rw (same, whole) (seven_places P Q V O E K D)
 
   pub star_lower : V ≤ arguments_height (arguments_of a)

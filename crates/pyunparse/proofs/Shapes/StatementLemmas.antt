@@ -40,28 +40,42 @@ opened = given.fold_out-Stmt plain.Stmt plain.Case plain.Handler stmt_step case_
 
 -- it has this shape
 abbrev HasShape : plain.Stmt → Stmt → Type 0
-HasShape (plain.FunctionDef _ _ _ _ _ _) s = (name : Identifier) × (args : Box Arguments Global) × (body : Vec Stmt Global) × (decorators : Vec Expr Global) × (returns : Option (Box Expr Global)) × (parameters : Vec TypeParam Global) × (s ≡ (variant.FunctionDef name args body decorators returns parameters))
-HasShape (plain.AsyncFunctionDef _ _ _ _ _ _) s = (name : Identifier) × (args : Box Arguments Global) × (body : Vec Stmt Global) × (decorators : Vec Expr Global) × (returns : Option (Box Expr Global)) × (parameters : Vec TypeParam Global) × (s ≡ (variant.AsyncFunctionDef name args body decorators returns parameters))
-HasShape (plain.ClassDef _ _ _ _ _ _) s = (name : Identifier) × (bases : Vec Expr Global) × (words : Vec Keyword Global) × (body : Vec Stmt Global) × (decorators : Vec Expr Global) × (parameters : Vec TypeParam Global) × (s ≡ (variant.ClassDef name bases words body decorators parameters))
+HasShape (plain.FunctionDef _ _ _ _ _ _) s = (name : Identifier) × (args : Box Arguments Global) × (body : Vec Stmt Global) ×
+    (decorators : Vec Expr Global) × (returns : Option (Box Expr Global)) × (parameters : Vec TypeParam Global) ×
+    (s ≡ (variant.FunctionDef name args body decorators returns parameters))
+HasShape (plain.AsyncFunctionDef _ _ _ _ _ _) s = (name : Identifier) × (args : Box Arguments Global) × (body : Vec Stmt Global) ×
+    (decorators : Vec Expr Global) × (returns : Option (Box Expr Global)) × (parameters : Vec TypeParam Global) ×
+    (s ≡ (variant.AsyncFunctionDef name args body decorators returns parameters))
+HasShape (plain.ClassDef _ _ _ _ _ _) s = (name : Identifier) × (bases : Vec Expr Global) × (words : Vec Keyword Global) ×
+    (body : Vec Stmt Global) × (decorators : Vec Expr Global) × (parameters : Vec TypeParam Global) ×
+    (s ≡ (variant.ClassDef name bases words body decorators parameters))
 HasShape (plain.Return _) s = (value : Option Expr) × (s ≡ (variant.Return value))
 HasShape (plain.Delete _) s = (targets : Vec Expr Global) × (s ≡ (variant.Delete targets))
 HasShape (plain.Assign _ _) s = (targets : Vec Expr Global) × (value : Expr) × (s ≡ (variant.Assign targets value))
-HasShape (plain.TypeAlias _ _ _) s = (name : Expr) × (parameters : Vec TypeParam Global) × (value : Expr) × (s ≡ (variant.TypeAlias name parameters value))
+HasShape (plain.TypeAlias _ _ _) s = (name : Expr) × (parameters : Vec TypeParam Global) × (value : Expr) ×
+    (s ≡ (variant.TypeAlias name parameters value))
 HasShape (plain.AugAssign _ _ _) s = (target : Expr) × (op : Operator) × (value : Expr) × (s ≡ (variant.AugAssign target op value))
-HasShape (plain.AnnAssign _ _ _ _) s = (target : Box Expr Global) × (annotation : Box Expr Global) × (value : Option (Box Expr Global)) × (simple : Bool) × (s ≡ (variant.AnnAssign target annotation value simple))
-HasShape (plain.For _ _ _ _) s = (target : Box Expr Global) × (iter : Box Expr Global) × (body : Vec Stmt Global) × (orelse : Vec Stmt Global) × (s ≡ (variant.For target iter body orelse))
-HasShape (plain.AsyncFor _ _ _ _) s = (target : Box Expr Global) × (iter : Box Expr Global) × (body : Vec Stmt Global) × (orelse : Vec Stmt Global) × (s ≡ (variant.AsyncFor target iter body orelse))
-HasShape (plain.While _ _ _) s = (test : Expr) × (body : Vec Stmt Global) × (orelse : Vec Stmt Global) × (s ≡ (variant.While test body orelse))
+HasShape (plain.AnnAssign _ _ _ _) s = (target : Box Expr Global) × (annotation : Box Expr Global) × (value : Option (Box Expr Global)) ×
+    (simple : Bool) × (s ≡ (variant.AnnAssign target annotation value simple))
+HasShape (plain.For _ _ _ _) s = (target : Box Expr Global) × (iter : Box Expr Global) × (body : Vec Stmt Global) ×
+    (orelse : Vec Stmt Global) × (s ≡ (variant.For target iter body orelse))
+HasShape (plain.AsyncFor _ _ _ _) s = (target : Box Expr Global) × (iter : Box Expr Global) × (body : Vec Stmt Global) ×
+    (orelse : Vec Stmt Global) × (s ≡ (variant.AsyncFor target iter body orelse))
+HasShape (plain.While _ _ _) s = (test : Expr) × (body : Vec Stmt Global) × (orelse : Vec Stmt Global) ×
+    (s ≡ (variant.While test body orelse))
 HasShape (plain.If _ _ _) s = (test : Expr) × (body : Vec Stmt Global) × (orelse : Vec Stmt Global) × (s ≡ (variant.If test body orelse))
 HasShape (plain.With _ _) s = (items : Vec Item Global) × (body : Vec Stmt Global) × (s ≡ (variant.With items body))
 HasShape (plain.AsyncWith _ _) s = (items : Vec Item Global) × (body : Vec Stmt Global) × (s ≡ (variant.AsyncWith items body))
 HasShape (plain.Match _ _) s = (subject : Expr) × (clauses : Vec Case Global) × (s ≡ (variant.Match subject clauses))
 HasShape (plain.Raise _ _) s = (exc : Option Expr) × (cause : Option Expr) × (s ≡ (variant.Raise exc cause))
-HasShape (plain.Try _ _ _ _) s = (body : Vec Stmt Global) × (caught : Vec Handler Global) × (orelse : Vec Stmt Global) × (finalbody : Vec Stmt Global) × (s ≡ (variant.Try body caught orelse finalbody))
-HasShape (plain.TryStar _ _ _ _) s = (body : Vec Stmt Global) × (caught : Vec Handler Global) × (orelse : Vec Stmt Global) × (finalbody : Vec Stmt Global) × (s ≡ (variant.TryStar body caught orelse finalbody))
+HasShape (plain.Try _ _ _ _) s = (body : Vec Stmt Global) × (caught : Vec Handler Global) × (orelse : Vec Stmt Global) ×
+    (finalbody : Vec Stmt Global) × (s ≡ (variant.Try body caught orelse finalbody))
+HasShape (plain.TryStar _ _ _ _) s = (body : Vec Stmt Global) × (caught : Vec Handler Global) × (orelse : Vec Stmt Global) ×
+    (finalbody : Vec Stmt Global) × (s ≡ (variant.TryStar body caught orelse finalbody))
 HasShape (plain.Assert _ _) s = (test : Expr) × (msg : Option Expr) × (s ≡ (variant.Assert test msg))
 HasShape (plain.Import _) s = (names : Vec Alias Global) × (s ≡ (variant.Import names))
-HasShape (plain.ImportFrom _ _ _) s = (source : Option Identifier) × (names : Vec Alias Global) × (level : ℕ) × (s ≡ (variant.ImportFrom source names level))
+HasShape (plain.ImportFrom _ _ _) s = (source : Option Identifier) × (names : Vec Alias Global) × (level : ℕ) ×
+    (s ≡ (variant.ImportFrom source names level))
 HasShape (plain.Global _) s = (names : Vec Identifier Global) × (s ≡ (variant.Global names))
 HasShape (plain.Nonlocal _) s = (names : Vec Identifier Global) × (s ≡ (variant.Nonlocal names))
 HasShape (plain.ExprOf _) s = (value : Expr) × (s ≡ (variant.Expr value))
@@ -72,7 +86,8 @@ HasShape plain.Continue s = s ≡ variant.Continue
 layer_has_shape : (node : Layer) → HasShape (stmt_step (valued node)) (given.roll-Stmt node)
 unfolding given.roll-Stmt denote.Hole.Carrier.roll
 layer_has_shape (layer.FunctionDef name args body decorators returns parameters) = (name, args, body, decorators, returns, parameters, refl)
-layer_has_shape (layer.AsyncFunctionDef name args body decorators returns parameters) = (name, args, body, decorators, returns, parameters, refl)
+layer_has_shape (layer.AsyncFunctionDef name args body decorators returns parameters) =
+    (name, args, body, decorators, returns, parameters, refl)
 layer_has_shape (layer.ClassDef name bases words body decorators parameters) = (name, bases, words, body, decorators, parameters, refl)
 layer_has_shape (layer.Return value) = (value, refl)
 layer_has_shape (layer.Delete targets) = (targets, refl)
@@ -108,16 +123,26 @@ has_shape s = subst (λ g. HasShape (stmt_of s) g) (given.roll-out-Stmt s)
 module _ (s : Stmt)
     (no_if : (test : Expr) (body : Vec Stmt Global) (orelse : Vec Stmt Global) → s ≡ variant.If test body orelse → ⊥)
     (no_while : (test : Expr) (body : Vec Stmt Global) (orelse : Vec Stmt Global) → s ≡ variant.While test body orelse → ⊥)
-    (no_for : (target : Box Expr Global) (iter : Box Expr Global) (body : Vec Stmt Global) (orelse : Vec Stmt Global) → s ≡ variant.For target iter body orelse → ⊥)
-    (no_async_for : (target : Box Expr Global) (iter : Box Expr Global) (body : Vec Stmt Global) (orelse : Vec Stmt Global) → s ≡ variant.AsyncFor target iter body orelse → ⊥)
+    (no_for : (target : Box Expr Global) (iter : Box Expr Global) (body : Vec Stmt Global) (orelse : Vec Stmt Global)
+        → s ≡ variant.For target iter body orelse → ⊥)
+    (no_async_for : (target : Box Expr Global) (iter : Box Expr Global) (body : Vec Stmt Global) (orelse : Vec Stmt Global)
+        → s ≡ variant.AsyncFor target iter body orelse → ⊥)
     (no_with : (items : Vec Item Global) (body : Vec Stmt Global) → s ≡ variant.With items body → ⊥)
     (no_async_with : (items : Vec Item Global) (body : Vec Stmt Global) → s ≡ variant.AsyncWith items body → ⊥)
     (no_match : (subject : Expr) (clauses : Vec Case Global) → s ≡ variant.Match subject clauses → ⊥)
-    (no_try : (body : Vec Stmt Global) (caught : Vec Handler Global) (orelse : Vec Stmt Global) (finalbody : Vec Stmt Global) → s ≡ variant.Try body caught orelse finalbody → ⊥)
-    (no_try_star : (body : Vec Stmt Global) (caught : Vec Handler Global) (orelse : Vec Stmt Global) (finalbody : Vec Stmt Global) → s ≡ variant.TryStar body caught orelse finalbody → ⊥)
-    (no_function_def : (name : Identifier) (args : Box Arguments Global) (body : Vec Stmt Global) (decorators : Vec Expr Global) (returns : Option (Box Expr Global)) (parameters : Vec TypeParam Global) → s ≡ variant.FunctionDef name args body decorators returns parameters → ⊥)
-    (no_async_function_def : (name : Identifier) (args : Box Arguments Global) (body : Vec Stmt Global) (decorators : Vec Expr Global) (returns : Option (Box Expr Global)) (parameters : Vec TypeParam Global) → s ≡ variant.AsyncFunctionDef name args body decorators returns parameters → ⊥)
-    (no_class_def : (name : Identifier) (bases : Vec Expr Global) (words : Vec Keyword Global) (body : Vec Stmt Global) (decorators : Vec Expr Global) (parameters : Vec TypeParam Global) → s ≡ variant.ClassDef name bases words body decorators parameters → ⊥) where
+    (no_try : (body : Vec Stmt Global) (caught : Vec Handler Global) (orelse : Vec Stmt Global) (finalbody : Vec Stmt Global)
+        → s ≡ variant.Try body caught orelse finalbody → ⊥)
+    (no_try_star : (body : Vec Stmt Global) (caught : Vec Handler Global) (orelse : Vec Stmt Global) (finalbody : Vec Stmt Global)
+        → s ≡ variant.TryStar body caught orelse finalbody → ⊥)
+    (no_function_def : (name : Identifier) (args : Box Arguments Global) (body : Vec Stmt Global) (decorators : Vec Expr Global)
+        (returns : Option (Box Expr Global)) (parameters : Vec TypeParam Global)
+        → s ≡ variant.FunctionDef name args body decorators returns parameters → ⊥)
+    (no_async_function_def : (name : Identifier) (args : Box Arguments Global) (body : Vec Stmt Global) (decorators : Vec Expr Global)
+        (returns : Option (Box Expr Global)) (parameters : Vec TypeParam Global)
+        → s ≡ variant.AsyncFunctionDef name args body decorators returns parameters → ⊥)
+    (no_class_def : (name : Identifier) (bases : Vec Expr Global) (words : Vec Keyword Global) (body : Vec Stmt Global)
+        (decorators : Vec Expr Global) (parameters : Vec TypeParam Global)
+        → s ≡ variant.ClassDef name bases words body decorators parameters → ⊥) where
   none_compound : (t : plain.Stmt) → HasShape t s → (l : ℕ) → written_line l (simple_tokens piece t) ∷ [] ≡ statement_lines piece l t
   unfolding lines_of
   none_compound (plain.If _ _ _) h l = absurd (no_if h.0 h.1 h.2 h.3)
@@ -142,7 +167,8 @@ module _ (s : Stmt)
     (no_expr_stmt : (value : Expr) → s ≡ variant.Expr value → ⊥)
     (no_assign : (targets : Vec Expr Global) (value : Expr) → s ≡ variant.Assign targets value → ⊥)
     (no_aug_assign : (target : Expr) (op : Operator) (value : Expr) → s ≡ variant.AugAssign target op value → ⊥)
-    (no_ann_assign : (target : Box Expr Global) (annotation : Box Expr Global) (value : Option (Box Expr Global)) (simple : Bool) → s ≡ variant.AnnAssign target annotation value simple → ⊥)
+    (no_ann_assign : (target : Box Expr Global) (annotation : Box Expr Global) (value : Option (Box Expr Global)) (simple : Bool)
+        → s ≡ variant.AnnAssign target annotation value simple → ⊥)
     (no_type_alias : (name : Expr) (parameters : Vec TypeParam Global) (value : Expr) → s ≡ variant.TypeAlias name parameters value → ⊥)
     (no_return : (value : Option Expr) → s ≡ variant.Return value → ⊥)
     (no_raise : (exc : Option Expr) (cause : Option Expr) → s ≡ variant.Raise exc cause → ⊥)
@@ -154,7 +180,8 @@ module _ (s : Stmt)
     (no_break : s ≡ variant.Break → ⊥)
     (no_continue : s ≡ variant.Continue → ⊥)
     (no_import : (names : Vec Alias Global) → s ≡ variant.Import names → ⊥)
-    (no_import_from : (source : Option Identifier) (names : Vec Alias Global) (level : ℕ) → s ≡ variant.ImportFrom source names level → ⊥) where
+    (no_import_from : (source : Option Identifier) (names : Vec Alias Global) (level : ℕ)
+        → s ≡ variant.ImportFrom source names level → ⊥) where
   none_simple : (t : plain.Stmt) → HasShape t s → simple_tokens piece t ≡ []
   none_simple (plain.ExprOf _) h = absurd (no_expr_stmt h.0 h.1)
   none_simple (plain.Assign _ _) h = absurd (no_assign h.0 h.1 h.2)
@@ -199,12 +226,14 @@ unfolding lines_of
 lone_if l (plain.If _ _ _) e = refl
 lone_if l _ e = cc
 
-pub lone_other : (l : ℕ) (s : plain.Stmt) → is_if s ≡ false → clause piece l else_header (plain.a_stmt s plain.no_stmt) ≡ alternative piece l (plain.a_stmt s plain.no_stmt)
+pub lone_other : (l : ℕ) (s : plain.Stmt) → is_if s ≡ false → clause piece l else_header (plain.a_stmt s plain.no_stmt) ≡ alternative piece
+    l (plain.a_stmt s plain.no_stmt)
 unfolding lines_of
 lone_other l (plain.If _ _ _) e = cc
 lone_other l _ e = refl
 
-pub more_others : (l : ℕ) (s r : plain.Stmt) (ss : plain.Stmts) → clause piece l else_header (plain.a_stmt s (plain.a_stmt r ss)) ≡ alternative piece l (plain.a_stmt s (plain.a_stmt r ss))
+pub more_others : (l : ℕ) (s r : plain.Stmt) (ss : plain.Stmts) → clause piece l else_header (plain.a_stmt s (plain.a_stmt r ss)) ≡
+    alternative piece l (plain.a_stmt s (plain.a_stmt r ss))
 unfolding lines_of
 more_others l (plain.If _ _ _) r ss = refl
 more_others l _ r ss = refl
@@ -214,12 +243,14 @@ unfolding lines_of
 no_others l = refl
 
 -- of the program's statements
-pub not_one : (l : ℕ) (ss : List Stmt) → (length ss ≡ 1 → ⊥) → clause piece l else_header (plain.stmts (map stmt_of ss)) ≡ alternative piece l (plain.stmts (map stmt_of ss))
+pub not_one : (l : ℕ) (ss : List Stmt) → (length ss ≡ 1 → ⊥) → clause piece l else_header (plain.stmts (map stmt_of ss)) ≡ alternative piece
+    l (plain.stmts (map stmt_of ss))
 not_one l [] n = no_others l
 not_one l (s ∷ []) n = absurd (n refl)
 not_one l (s ∷ (r ∷ ss)) n = more_others l (stmt_of s) (stmt_of r) (plain.stmts (map stmt_of ss))
 
-pub one_if : (l : ℕ) (ss : List Stmt) (s : Stmt) → length ss ≡ 1 → s ≡ get_or ss 0 s → is_if (stmt_of s) ≡ true → elif_lines l (stmt_of s) ≡ alternative piece l (plain.stmts (map stmt_of ss))
+pub one_if : (l : ℕ) (ss : List Stmt) (s : Stmt) → length ss ≡ 1 → s ≡ get_or ss 0 s → is_if (stmt_of s) ≡ true
+    → elif_lines l (stmt_of s) ≡ alternative piece l (plain.stmts (map stmt_of ss))
 one_if l ss s e read h = lone_if l (stmt_of s) h ∙ ap (λ z. alternative piece l (plain.stmts (map stmt_of z))) (sym (one_item ss s e read))
 
 pub one_other : (l : ℕ) (ss : List Stmt) (s : Stmt) → length ss ≡ 1 → s ≡ get_or ss 0 s → is_if (stmt_of s) ≡ false →

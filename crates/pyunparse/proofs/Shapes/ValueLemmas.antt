@@ -1,6 +1,7 @@
 -- Carries: the functions of strings and of their texts. Constants, and expressions of the program,
 -- by their shapes.
-use Rattle.std.proofs.Common.{◌≡◌, ◌∙◌, ℕ, ◌==◌, Bool, true, false, List, [], ◌∷◌, map, length, get_or, Option, Global, refl, ap, sym, subst}
+use Rattle.std.proofs.Common.{◌≡◌, ◌∙◌, ℕ, ◌==◌, Bool, true, false, List, [], ◌∷◌, map, length, get_or, Option, Global, refl, ap, sym}
+use Rattle.std.proofs.Common.{subst}
 use Rattle.std.proofs.lemmas.Bool.{false≢true}
 use Rattle.std.specs.declared.vec.Vec.{Vec}
 use Rattle.std.specs.declared.boxed.Box.{Box}
@@ -17,7 +18,8 @@ use Rattle.pytree_node.specs.declared.expressions.Keyword.{Keyword}
 use Rattle.pytree_node.specs.Values as values
 use Rattle.pytree_node.specs.Trees as plain
 use Rattle.pytree_node.specs.Trees.{Exprs, an_expr, exprs, no_exprs, present}
-use Rattle.pytree_node.specs.TreeOf.{tree_of, arg_of, arguments_of, comprehension_of, keyword_of, expr_step, arg_step, arguments_step, comprehension_step, keyword_step}
+use Rattle.pytree_node.specs.TreeOf.{tree_of, arg_of, arguments_of, comprehension_of, keyword_of, expr_step, arg_step, arguments_step}
+use Rattle.pytree_node.specs.TreeOf.{comprehension_step, keyword_step}
 use Rattle.pyunparse_text.specs.Pieces.{piece}
 use Rattle.pyunparse_text.specs.Written.{first_text, is_unicode, is_unicode_spec, spec_elements, written}
 use Rattle.pyunparse_text.proofs.Callers.Writing.{not_zero}
@@ -116,4 +118,5 @@ first_none (x ∷ xs) b h e = absurd (false≢true (sym (not_zero (length xs)) �
 pub first_read : (xs : List Expr) (x : Expr) (b : Bool) → b ≡ (length xs == 0) → b ≡ false → x ≡ get_or xs 0 x →
     first_text (exprs (map tree_of xs)) ≡ first_text (an_expr (tree_of x) no_exprs)
 first_read [] x b h e read = absurd (false≢true (sym e ∙ h))
-first_read (y ∷ xs) x b h e read = first_alone (tree_of y) (exprs (map tree_of xs)) ∙ ap (λ z. first_text (an_expr (tree_of z) no_exprs)) (sym read)
+first_read (y ∷ xs) x b h e read = first_alone (tree_of y) (exprs (map tree_of xs))
+    ∙ ap (λ z. first_text (an_expr (tree_of z) no_exprs)) (sym read)

@@ -1,9 +1,11 @@
 -- Carries: write_dotted, write_module_alias. A name is written point by point.
-use Rattle.std.proofs.Common.{◌≡◌, ◌∙◌, ℕ, ◌+◌, ◌<◌, ◌==◌, Bool, true, false, if◌then◌else◌, List, [], ◌∷◌, ◌++◌, length, get_or, drop, Option, Some, None, refl, ap, sym, subst, arith, append_assoc, length-append}
+use Rattle.std.proofs.Common.{◌≡◌, ◌∙◌, ℕ, ◌+◌, ◌<◌, ◌==◌, Bool, true, false, if◌then◌else◌, List, [], ◌∷◌, ◌++◌, length, get_or, drop}
+use Rattle.std.proofs.Common.{Option, Some, None, refl, ap, sym, subst, arith, append_assoc, length-append}
 use Rattle.std.specs.Prelude.{MatchOption}
 use Rattle.std.specs.Str.{chars, IsUtf8, NoCharPasses, NonePass}
 use Rattle.std.proofs.lemmas.List.{take_at, drop_at, get_or_at}
-use Rattle.std.proofs.lemmas.Str.{chars-append, chars_from_encodes, IsUtf8-take, IsUtf8-drop, IsCharBoundary-before_ascii, IsCharBoundary-after_ascii}
+use Rattle.std.proofs.lemmas.Str.{chars-append, chars_from_encodes, IsUtf8-take, IsUtf8-drop, IsCharBoundary-before_ascii}
+use Rattle.std.proofs.lemmas.Str.{IsCharBoundary-after_ascii}
 use Rattle.std.proofs.lemmas.Str.Pattern.{IsSplitOnceResult, split_parts}
 use denote.Ref.{Bor}
 use Rattle.pylex_lexeme.specs.declared.kinds.Exact.TheVariants.{Dot}
@@ -33,7 +35,8 @@ behind_point [] = refl
 behind_point (c ∷ cs) = by (c == 46) (names_in cs)
   where
     by : (b : Bool) (xs : List Identifier) →
-        dotted_rest piece (if b then [] ∷ xs else lengthen c xs) ≡ tight piece Dot ∷ dotted_names piece false (if b then [] ∷ xs else lengthen c xs)
+        dotted_rest piece (if b then [] ∷ xs else lengthen c xs) ≡ tight piece Dot ∷ dotted_names piece false
+            (if b then [] ∷ xs else lengthen c xs)
     by true xs = refl
     by false [] = refl
     by false (x ∷ xs) = refl
@@ -79,7 +82,8 @@ around_point close text part tail u e h =
 -- a text that is split at its first point, or has none
 pub at_point : (close : Bool) (text : List ℕ) (r : Option (Bor (List ℕ) × Bor (List ℕ))) → IsUtf8 text → IsSplitOnceResult 46 text r →
     MatchOption r (dotted piece close (chars text) ≡ sited (in_form (chars text)) close false ∷ [])
-    (λ x. IsUtf8 x.0.now × IsUtf8 x.1.now × (dotted piece close (chars text) ≡ sited (in_form (chars x.0.now)) close false ∷ (tight piece Dot ∷ dotted piece false (chars x.1.now))))
+    (λ x. IsUtf8 x.0.now × IsUtf8 x.1.now × (dotted piece close (chars text) ≡ sited (in_form (chars x.0.now)) close false ∷
+        (tight piece Dot ∷ dotted piece false (chars x.1.now))))
 at_point close text None u h = ap (dotted_names piece close) (one_name (chars text) (pointless text u h))
 at_point close text (Some x) u h =
     let is = (split_parts 46 text (Some x) h (omega arith)).0 in
@@ -96,9 +100,11 @@ module _ {S : Type 0} (after : S → Sited → S) (base o : S) (close : Bool) (t
       o1 ≡ puts after o (sited (in_form (chars part)) close false ∷ []) → o2 ≡ puts after o1 (sited (Op Dot) true true ∷ []) →
       puts after o2 (dotted piece false (chars tail)) ≡ base
   name_on part tail o1 o2 is so_far e1 e2 =
-      ap (λ z. puts after z (dotted piece false (chars tail))) (e2 ∙ ap (λ z. after z (sited_in_utf8 (tight piece Dot))) e1) ∙ ap (puts after o) (sym is) ∙ so_far
+      ap (λ z. puts after z (dotted piece false (chars tail))) (e2 ∙ ap (λ z. after z (sited_in_utf8 (tight piece Dot))) e1)
+          ∙ ap (puts after o) (sym is) ∙ so_far
 
   -- the last one
-  pub name_ends : dotted piece close (chars text) ≡ sited (in_form (chars text)) close false ∷ [] → puts after o (dotted piece close (chars text)) ≡ base →
+  pub name_ends : dotted piece close (chars text) ≡ sited (in_form (chars text)) close false ∷ []
+      → puts after o (dotted piece close (chars text)) ≡ base →
       puts after o (sited (in_form (chars text)) close false ∷ []) ≡ base
   name_ends is so_far = ap (puts after o) (sym is) ∙ so_far

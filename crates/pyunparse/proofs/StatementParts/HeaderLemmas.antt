@@ -34,7 +34,8 @@ none_each (e ∷ es) = sym (not_zero (length es))
 -- bases, and keywords behind them
 pub bases_listed : {S : Type 0} (after : S → Sited → S) (s s1 : S) (es : List given.Expr) (ks : Keywords) (b : Bool) →
     b ≡ (length es == 0) → s1 ≡ puts after s (members true (trailing piece Comma) (each piece Named (exprs (map tree_of es)))) →
-    puts after s1 (members b (trailing piece Comma) (by_name piece ks)) ≡ puts after s (listed piece (each piece Named (exprs (map tree_of es)) ++ by_name piece ks))
+    puts after s1 (members b (trailing piece Comma) (by_name piece ks)) ≡ puts after s
+        (listed piece (each piece Named (exprs (map tree_of es)) ++ by_name piece ks))
 bases_listed after s s1 es ks b h e =
     let t : Sited = trailing piece Comma in
     let X : List (List Sited) = each piece Named (exprs (map tree_of es)) in
@@ -51,8 +52,10 @@ module _ (b c : Bool) where
   no_bases [] (w ∷ ks) h k e = absurd (false≢true (sym (λ i. h i && (k ∙ not_zero (length ks)) i) ∙ e))
   no_bases (x ∷ es) ks h k e = absurd (false≢true (sym (ap (λ z. z && c) (h ∙ not_zero (length es))) ∙ e))
 
-  pub some_bases : (es : List given.Expr) (ks : List given_keyword.Keyword) → b ≡ (length es == 0) → c ≡ (length ks == 0) → (b && c) ≡ false →
-      enclosed piece (tight piece LPar) RPar (listed piece (each piece Named (exprs (map tree_of es)) ++ by_name piece (keywords (map keyword_of ks))))
+  pub some_bases : (es : List given.Expr) (ks : List given_keyword.Keyword) → b ≡ (length es == 0)
+      → c ≡ (length ks == 0) → (b && c) ≡ false →
+      enclosed piece (tight piece LPar) RPar
+          (listed piece (each piece Named (exprs (map tree_of es)) ++ by_name piece (keywords (map keyword_of ks))))
       ≡ bases piece (map tree_of es) (keywords (map keyword_of ks))
   some_bases [] [] h k e = absurd (false≢true (sym e ∙ (λ i. h i && k i)))
   some_bases [] (w ∷ ks) h k e = refl
@@ -70,14 +73,19 @@ case_text = refl
 
 -- the headers that begin with them
 module _ {S : Type 0} (after : S → Sited → S) (s : S) where
-  pub match_on : (e : plain.Expr) (s1 s2 : S) → s1 ≡ puts after s (sited (in_form (chars (109 ∷ 97 ∷ 116 ∷ 99 ∷ 104 ∷ []))) false false ∷ []) → s2 ≡ puts after s1 (pieces Subject e) →
+  pub match_on : (e : plain.Expr) (s1 s2 : S)
+      → s1 ≡ puts after s (sited (in_form (chars (109 ∷ 97 ∷ 116 ∷ 99 ∷ 104 ∷ []))) false false ∷ [])
+      → s2 ≡ puts after s1 (pieces Subject e) →
       puts after s2 (trailing piece Colon ∷ []) ≡ puts after s (with_colon (match_header e))
   match_on e s1 s2 e1 e2 =
-      three after s (free piece (in_form match_name) ∷ []) (pieces Subject e) (trailing piece Colon ∷ []) s1 s2 (e1 ∙ ap (λ z. puts after s (free piece (in_form z) ∷ [])) match_text) e2
+      three after s (free piece (in_form match_name) ∷ []) (pieces Subject e) (trailing piece Colon ∷ []) s1 s2 (e1
+          ∙ ap (λ z. puts after s (free piece (in_form z) ∷ [])) match_text) e2
 
-  pub case_on : (p : plain.Pattern) (g : Option plain.Expr) (s1 s2 s3 : S) → s1 ≡ puts after s (sited (in_form (chars (99 ∷ 97 ∷ 115 ∷ 101 ∷ []))) false false ∷ []) →
+  pub case_on : (p : plain.Pattern) (g : Option plain.Expr) (s1 s2 s3 : S)
+      → s1 ≡ puts after s (sited (in_form (chars (99 ∷ 97 ∷ 115 ∷ 101 ∷ []))) false false ∷ []) →
       s2 ≡ puts after s1 (written_pattern piece Patterns p) → s3 ≡ puts after s2 (behind piece (word piece Key.If) Named g) →
       puts after s3 (trailing piece Colon ∷ []) ≡ puts after s (with_colon (case_header p g))
   case_on p g s1 s2 s3 e1 e2 e3 =
       two after s (header_tokens piece (case_header p g)) (trailing piece Colon ∷ []) s3
-      (e3 ∙ three after s (free piece (in_form case_name) ∷ []) (written_pattern piece Patterns p) (behind piece (word piece Key.If) Named g) s1 s2 (e1 ∙ ap (λ z. puts after s (free piece (in_form z) ∷ [])) case_text) e2)
+      (e3 ∙ three after s (free piece (in_form case_name) ∷ []) (written_pattern piece Patterns p)
+          (behind piece (word piece Key.If) Named g) s1 s2 (e1 ∙ ap (λ z. puts after s (free piece (in_form z) ∷ [])) case_text) e2)

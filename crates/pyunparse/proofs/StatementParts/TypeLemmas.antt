@@ -18,7 +18,8 @@ use Rattle.pyunparse.proofs.Sequences.FoldLemmas.{enclosed_on, two}
 
 module _ {S : Type 0} (after : S → Sited → S) (s : S) where
   module _ (p : TypeParam) where
-    pub variable_on : (x : Identifier) (bound : Option Expr) (s1 : S) → p ≡ parameter.TypeVar x bound → s1 ≡ puts after s (free piece (in_form x) ∷ []) →
+    pub variable_on : (x : Identifier) (bound : Option Expr) (s1 : S) → p ≡ parameter.TypeVar x bound
+        → s1 ≡ puts after s (free piece (in_form x) ∷ []) →
         puts after s1 (behind piece (trailing piece Colon) Expression (option_of bound)) ≡ puts after s (type_param piece (type_param_of p))
     variable_on x bound s1 is e1 =
         two after s (free piece (in_form x) ∷ []) (behind piece (trailing piece Colon) Expression (option_of bound)) s1 e1
@@ -26,11 +27,13 @@ module _ {S : Type 0} (after : S → Sited → S) (s : S) where
 
     pub tuple_on : (x : Identifier) (s1 : S) → p ≡ parameter.TypeVarTuple x → s1 ≡ puts after s (leading piece Star ∷ []) →
         puts after s1 (free piece (in_form x) ∷ []) ≡ puts after s (type_param piece (type_param_of p))
-    tuple_on x s1 is e1 = two after s (leading piece Star ∷ []) (free piece (in_form x) ∷ []) s1 e1 ∙ ap (λ z. puts after s (type_param piece (type_param_of z))) (sym is)
+    tuple_on x s1 is e1 = two after s (leading piece Star ∷ []) (free piece (in_form x) ∷ []) s1 e1
+        ∙ ap (λ z. puts after s (type_param piece (type_param_of z))) (sym is)
 
     pub specification_on : (x : Identifier) (s1 : S) → p ≡ parameter.ParamSpec x → s1 ≡ puts after s (leading piece DoubleStar ∷ []) →
         puts after s1 (free piece (in_form x) ∷ []) ≡ puts after s (type_param piece (type_param_of p))
-    specification_on x s1 is e1 = two after s (leading piece DoubleStar ∷ []) (free piece (in_form x) ∷ []) s1 e1 ∙ ap (λ z. puts after s (type_param piece (type_param_of z))) (sym is)
+    specification_on x s1 is e1 = two after s (leading piece DoubleStar ∷ []) (free piece (in_form x) ∷ []) s1 e1
+        ∙ ap (λ z. puts after s (type_param piece (type_param_of z))) (sym is)
 
   -- in their brackets, if there are any
   pub no_params : (ps : List TypeParam) → true ≡ (length ps == 0) → s ≡ puts after s (type_params piece (map type_param_of ps))
@@ -41,4 +44,5 @@ module _ {S : Type 0} (after : S → Sited → S) (s : S) where
       s2 ≡ puts after s1 (listed piece (map (type_param piece) (map type_param_of ps))) →
       puts after s2 (trailing piece RSqb ∷ []) ≡ puts after s (type_params piece (map type_param_of ps))
   params_on [] s1 s2 e e1 e2 = absurd (false≢true e)
-  params_on (p ∷ ps) s1 s2 e e1 e2 = enclosed_on after s (tight piece LSqb) RSqb (listed piece (map (type_param piece) (map type_param_of (p ∷ ps)))) s1 s2 e1 e2
+  params_on (p ∷ ps) s1 s2 e e1 e2 =
+      enclosed_on after s (tight piece LSqb) RSqb (listed piece (map (type_param piece) (map type_param_of (p ∷ ps)))) s1 s2 e1 e2

@@ -18,7 +18,8 @@ use Rattle.pyunparse_text.specs.Modules.{module_text}
 use Rattle.pyunparse_text.proofs.Callers.Texts.{module_texts_are_accepted, tokens_are_of_tokens}
 use Rattle.pyunparse.specs.RoundTrips.{GivesBack, RoundTrips}
 
-forms_are : {profile : Profile} {earlier : List Line} {xs : List Tokens.Line} {fs : List Line} → given.HaveForms profile earlier xs fs → HaveForms profile earlier (source_lines xs) fs
+forms_are : {profile : Profile} {earlier : List Line} {xs : List Tokens.Line} {fs : List Line} → given.HaveForms profile earlier xs fs
+    → HaveForms profile earlier (source_lines xs) fs
 forms_are given.no_form = no_form
 forms_are (given.a_form h p c) = a_form p (forms_are c)
 
@@ -28,18 +29,23 @@ Faultless extent t = fault_of extent t.kind t.text ≡ None
 both : (extent : Extent) (ts : List Tokens.Token) → All IsOfSource ts → All (Faultless extent) ts → All (IsOfSourceIn extent) ts
 both extent [] a b = All-nil (IsOfSourceIn extent)
 both extent (t ∷ ts) a b =
-    All-cons (IsOfSourceIn extent) t ts (All-head IsOfSource t ts a, All-head (Faultless extent) t ts b) (both extent ts (All-tail IsOfSource t ts a) (All-tail (Faultless extent) t ts b))
+    All-cons (IsOfSourceIn extent) t ts (All-head IsOfSource t ts a, All-head (Faultless extent) t ts b)
+        (both extent ts (All-tail IsOfSource t ts a) (All-tail (Faultless extent) t ts b))
 
 abbrev Good : Extent → Tokens.Line → Type 0
 Good extent x = All (IsOfSourceIn extent) x.tokens
 
-good : {profile : Profile} {earlier : List Line} {xs : List Tokens.Line} {fs : List Line} → given.HaveForms profile earlier xs fs → All (Good profile.extent) xs
+good : {profile : Profile} {earlier : List Line} {xs : List Tokens.Line} {fs : List Line} → given.HaveForms profile earlier xs fs
+    → All (Good profile.extent) xs
 good {profile} given.no_form = All-nil (Good profile.extent)
-good {profile} (given.a_form {x = x} {xs = xs} h p c) = All-cons (Good profile.extent) x xs (both profile.extent x.tokens h.of_source h.faultless) (good c)
+good {profile} (given.a_form {x = x} {xs = xs} h p c) =
+    All-cons (Good profile.extent) x xs (both profile.extent x.tokens h.of_source h.faultless) (good c)
 
-stated_texts : (profile : Profile) (m : Module) → Stated profile m → expression_height m ≤ 500 → statement_height m ≤ 500 → TextIsAccepted profile m
+stated_texts : (profile : Profile) (m : Module) → Stated profile m → expression_height m ≤ 500 → statement_height m ≤ 500
+    → TextIsAccepted profile m
 stated_texts profile m s a b =
-    module_texts_are_accepted profile (source_lines s.lines) m (record { forms = s.forms; formed = forms_are s.formed; block = s.block }) (tokens_are_of_tokens profile.extent s.lines (good s.formed)) a b
+    module_texts_are_accepted profile (source_lines s.lines) m (record { forms = s.forms; formed = forms_are s.formed; block = s.block })
+        (tokens_are_of_tokens profile.extent s.lines (good s.formed)) a b
 
 -- bytes that are its text give it back
 pub gives_back : (bytes : List ℕ) (m : Module) → bytes ≡ encode_utf8_all (module_text m) → RoundTrips bytes m

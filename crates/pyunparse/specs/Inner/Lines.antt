@@ -2,7 +2,8 @@
 use Rattle.std.specs.Prelude.{◌≡◌, ℕ, suc, Bool, true, false, List, [], ◌∷◌, ◌++◌, map}
 use Rattle.std.specs.Str.{encode_utf8_all}
 use Rattle.pylex_lexeme.specs.declared.kinds.Exact.TheVariants.{Colon}
-use Rattle.pygrammar.specs.Lines.{DefHead, Header, case_header, def_header, elif_header, else_header, except_header, finally_header, for_head, loop_header, try_header, with_header}
+use Rattle.pygrammar.specs.Lines.{DefHead, Header, case_header, def_header, elif_header, else_header, except_header, finally_header}
+use Rattle.pygrammar.specs.Lines.{for_head, loop_header, try_header, with_header}
 use Rattle.pytree_node.specs.Trees
 use Rattle.pytree_node.specs.Trees.{Case, Expr, Handler, Handlers, Item, Stmt, Stmts, stmts}
 use Rattle.pyunparse_text.specs.Spacing.{lines_text}
@@ -32,7 +33,8 @@ pub record Blocked (v w : Writing) (ls : List (WrittenLine Sited)) : Type 0 wher
 
 -- those of a `for`, a `with`, a `def` or `class` behind its decorators, a `try`, one of its handlers, and a case of a `match`
 abbrev pub for_lines : ℕ → Bool → Expr → Expr → Stmts → Stmts → List (WrittenLine Sited)
-for_lines l b t e body orelse = header piece l (loop_header (for_head b t e)) ∷ (lines_of piece (suc l) body ++ clause piece l else_header orelse)
+for_lines l b t e body orelse =
+    header piece l (loop_header (for_head b t e)) ∷ (lines_of piece (suc l) body ++ clause piece l else_header orelse)
 
 abbrev pub with_lines : ℕ → Bool → List Item → Stmts → List (WrittenLine Sited)
 with_lines l b items body = header piece l (with_header b items) ∷ lines_of piece (suc l) body
@@ -41,7 +43,10 @@ abbrev pub def_lines : ℕ → DefHead → Stmts → List (WrittenLine Sited)
 def_lines l h body = header piece l (def_header h) ∷ lines_of piece (suc l) body
 
 abbrev pub try_lines : ℕ → Bool → Stmts → Handlers → Stmts → Stmts → List (WrittenLine Sited)
-try_lines l b body hs orelse final = header piece l try_header ∷ (lines_of piece (suc l) body ++ (handler_lines piece l b hs ++ (clause piece l else_header orelse ++ clause piece l finally_header final)))
+try_lines l b body hs orelse final =
+    header piece l try_header ∷
+    (lines_of piece (suc l) body ++
+    (handler_lines piece l b hs ++ (clause piece l else_header orelse ++ clause piece l finally_header final)))
 
 abbrev pub one_handler : ℕ → Bool → Handler → List (WrittenLine Sited)
 one_handler l b h = header piece l (except_header b h.class h.name) ∷ lines_of piece (suc l) (stmts h.body)

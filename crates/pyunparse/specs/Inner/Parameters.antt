@@ -13,7 +13,9 @@ named (arg x a) = free piece (in_form x) ∷ suffixed piece (trailing piece Colo
 
 -- those that may be given by their places
 abbrev pub by_places : Args → Args → Exprs → List (List Sited)
-by_places ps qs ds = with_slash piece (names piece ps) (with_defaults (names piece ps ++ names piece qs) (map (behind_equal piece) (each piece Expression ds)))
+by_places ps qs ds =
+    with_slash piece (names piece ps)
+    (with_defaults (names piece ps ++ names piece qs) (map (behind_equal piece) (each piece Expression ds)))
 
 abbrev pub positional : Arguments → List (List Sited)
 positional (arguments ps qs v ks kds k ds) = by_places ps qs ds

@@ -2,7 +2,8 @@
 --
 -- Carries: what crates above may cite.
 use Rattle.pyunparse_text.specs.Laws.{WritingIsLawful, WritingIsShortest}
-use Rattle.pyunparse_text.proofs.Callers.Shortest.{expressions_are_shortest, expressions_come_back, targets_are_shortest, parameters_are_shortest}
+use Rattle.pyunparse_text.proofs.Callers.Shortest.{expressions_are_shortest, expressions_come_back, targets_are_shortest}
+use Rattle.pyunparse_text.proofs.Callers.Shortest.{parameters_are_shortest}
 use Rattle.pyunparse_text.proofs.Callers.Shortest.{arguments_are_shortest, brackets_are_within_height}
 use Rattle.pyunparse_text.proofs.Callers.Read.{expressions_are_read}
 use Rattle.pyunparse_text.proofs.Callers.Patterns.{patterns_are_shortest, pattern_brackets_are_within_height, patterns_are_read}

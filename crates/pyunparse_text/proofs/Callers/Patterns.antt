@@ -1,4 +1,5 @@
--- On: patterns of tokens are written in the fewest tokens that give them, with no more brackets open at once than they are high, and are read back.
+-- On: patterns of tokens are written in the fewest tokens that give them, with no more brackets open at once than they are high, and are
+-- read back.
 --
 -- Carries: what pyunparse cites.
 use Rattle.pyunparse_text.specs.Laws.{PatternsAreShortest, PatternBracketsAreWithinHeight, PatternsAreRead}

@@ -14,7 +14,8 @@ use Rattle.pygrammar.specs.ArgumentLists.{AreArguments}
 use Rattle.pygrammar.proofs.Callers.Law.{reader_is_exact}
 use Rattle.pyunparse_text.specs.Written.{listed, each, by_name}
 use Rattle.pyunparse_text.specs.Terminals.{terminal, terminals}
-use Rattle.pyunparse_text.specs.Laws.{ExpressionsAreShortest, ExpressionsComeBack, TargetsAreShortest, ParametersAreShortest, ArgumentsAreShortest}
+use Rattle.pyunparse_text.specs.Laws.{ExpressionsAreShortest, ExpressionsComeBack, TargetsAreShortest, ParametersAreShortest}
+use Rattle.pyunparse_text.specs.Laws.{ArgumentsAreShortest}
 use Rattle.pyunparse_text.specs.Laws.{BracketsAreWithinHeight}
 use Rattle.pyunparse_text.proofs.Fewest.Induction.{fewest}
 use Rattle.pyunparse_text.proofs.Fewest.Places.{target_law, single_target_law, del_target_law, item_target_law, parameters_law, bases_law}
@@ -25,7 +26,8 @@ expressions_are_shortest l ts e p = record { gives = (fewest p).0; least = λ us
 
 pub expressions_come_back : ExpressionsComeBack
 expressions_come_back l e =
-    (λ given. (reader_is_exact l (terminals l e) e).0 (fewest given.1).0, λ read. (terminals l e, (reader_is_exact l (terminals l e) e).1 read))
+    (λ given. (reader_is_exact l (terminals l e) e).0 (fewest given.1).0,
+        λ read. (terminals l e, (reader_is_exact l (terminals l e) e).1 read))
 
 pub targets_are_shortest : TargetsAreShortest
 targets_are_shortest ts s = record {

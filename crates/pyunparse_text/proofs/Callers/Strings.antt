@@ -1,5 +1,6 @@
 -- What callers cite of the tokens in the fields of an f-string. Cited by pytree_fits.
-pub use Rattle.pyunparse_text.proofs.StringTerminals.Bodies.{body_kept, joined, kept_all, kept_pass, none_all, points_kept, single_kept, unbraced}
+pub use Rattle.pyunparse_text.proofs.StringTerminals.Bodies.{body_kept, joined, kept_all, kept_pass, none_all, points_kept, single_kept}
+pub use Rattle.pyunparse_text.proofs.StringTerminals.Bodies.{unbraced}
 pub use Rattle.pyunparse_text.proofs.StringTerminals.Bodies.{weaker}
 pub use Rattle.pyunparse_text.proofs.StringTerminals.Classes.{OfClass, no_string, of_class}
 pub use Rattle.pyunparse_text.proofs.StringTerminals.Elements.{Laid, LaidIf, a_field, a_spec, a_text, all_laid, at_top, kept_text, nothing}

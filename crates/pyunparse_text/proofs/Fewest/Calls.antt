@@ -2,7 +2,8 @@
 --
 -- Carries: call_claim, sorted, sorted_in_order, sorted_positional and 7 more, for Places,
 -- Induction, Derived. On: Entries, Claims, Reach, Less and 1 more.
-use Rattle.std.proofs.Common.{◌≡◌, refl, sym, ap, subst, ◌∙◌, ◌+◌, ◌≤◌, arith, List, [], ◌∷◌, ◌++◌, length, Some, None, Bool, true, false, cond}
+use Rattle.std.proofs.Common.{◌≡◌, refl, sym, ap, subst, ◌∙◌, ◌+◌, ◌≤◌, arith, List, [], ◌∷◌, ◌++◌, length, Some, None, Bool, true, false}
+use Rattle.std.proofs.Common.{cond}
 use Rattle.std.proofs.Common.{length-append}
 use Rattle.std.specs.Prelude.{map}
 use Rattle.pylex_lexeme.specs.declared.kinds.Exact.TheVariants.{LPar, RPar, Comma, Star, Equal, DoubleStar}
@@ -11,7 +12,8 @@ use Rattle.pygrammar.specs.declared.levels.Level.TheVariants.{Named, Expression,
 use Rattle.pytree_node.specs.Trees
 use Rattle.pytree_node.specs.Trees.{Expr, Exprs, no_exprs, an_expr, Comprehensions, Keywords, no_keyword, a_keyword, Identifier}
 use Rattle.pytoken.specs.Terminals.{Terminal, Op, in_form}
-use Rattle.pygrammar.specs.Entries.{Item, Argument, Entry, Single, Paired, Spread, Doubled, Keyed, Plain, Slashed, Bare, Gathered, Collected}
+use Rattle.pygrammar.specs.Entries.{Item, Argument, Entry, Single, Paired, Spread, Doubled, Keyed, Plain, Slashed, Bare, Gathered}
+use Rattle.pygrammar.specs.Entries.{Collected}
 use Rattle.pygrammar.specs.Arguments.{in_order, positional, keywords, called}
 use Rattle.pygrammar.specs.Grammar as G
 use Rattle.pyunparse_text.specs.Written.{Maker, separated, free, leading, tight, bracketed, written, each, by_name, clauses}
@@ -104,7 +106,8 @@ map_append : {A B : Type 0} (f : A → B) (xs ys : List A) → map f (xs ++ ys) 
 map_append f [] ys = refl
 map_append f (x ∷ xs) ys = ap (λ z. f x ∷ z) (map_append f xs ys)
 
-firsts_written : {A : Type 0} (make : Maker A) (es : List Entry) → each make Named (positional es) ≡ map (entry_in make Argument) (firsts es)
+firsts_written : {A : Type 0} (make : Maker A) (es : List Entry)
+    → each make Named (positional es) ≡ map (entry_in make Argument) (firsts es)
 unfolding each written
 firsts_written make [] = refl
 firsts_written make (Single e ∷ es) = ap (λ z. written make Named e ∷ z) (firsts_written make es)
@@ -114,7 +117,8 @@ firsts_written make (_ ∷ es) = firsts_written make es
 lasts_written : {A : Type 0} (make : Maker A) (es : List Entry) → by_name make (keywords es) ≡ map (entry_in make Argument) (lasts es)
 unfolding by_name
 lasts_written make [] = refl
-lasts_written make (Keyed x e ∷ es) = ap (λ z. (free make (in_form x) ∷ (tight make Equal ∷ written make Expression e)) ∷ z) (lasts_written make es)
+lasts_written make (Keyed x e ∷ es) =
+    ap (λ z. (free make (in_form x) ∷ (tight make Equal ∷ written make Expression e)) ∷ z) (lasts_written make es)
 lasts_written make (Doubled e ∷ es) = ap (λ z. (leading make DoubleStar ∷ written make Expression e) ∷ z) (lasts_written make es)
 lasts_written make (_ ∷ es) = lasts_written make es
 
@@ -198,14 +202,16 @@ argument_marks zs ks = separated tt (each marks Named zs ++ by_name marks ks)
 
 lone_node : (f e : Expr) (cs : Comprehensions) (ts : List Terminal) → G.Derives Primary (written terminal Primary f) f
     → Inside (Trees.GeneratorExp e cs)
-    → AtLeast (written marks Primary f ++ (tt ∷ (argument_marks (an_expr (Trees.GeneratorExp e cs) no_exprs) no_keyword ++ (tt ∷ [])))) ts → Claim Primary ts (Trees.Call f (an_expr (Trees.GeneratorExp e cs) no_exprs) no_keyword)
+    → AtLeast (written marks Primary f ++ (tt ∷ (argument_marks (an_expr (Trees.GeneratorExp e cs) no_exprs) no_keyword ++ (tt ∷ [])))) ts
+        → Claim Primary ts (Trees.Call f (an_expr (Trees.GeneratorExp e cs) no_exprs) no_keyword)
 lone_node f e cs ts p (gs, q, d, c) s =
     let ms : List (Unit {0}) = written marks Named e ++ (clauses marks cs ++ (tt ∷ [])) in
     let xs : List (Unit {0}) = argument_marks (an_expr (Trees.GeneratorExp e cs) no_exprs) no_keyword in
     node Primary _ (written terminal Primary f ++ (Op LPar ∷ (written terminal Named e ++ (clauses terminal cs ++ (Op RPar ∷ []))))) ts
     (written marks Primary f ++ (tt ∷ ms))
     (lone_text terminal f e cs) (lone_text marks f e cs Primary) refl tt
-    (subst (λ z. G.Derives Primary (written terminal Primary f ++ (Op LPar ∷ (written terminal Named e ++ (clauses terminal cs ++ (Op RPar ∷ [])))))
+    (subst (λ z. G.Derives Primary
+        (written terminal Primary f ++ (Op LPar ∷ (written terminal Named e ++ (clauses terminal cs ++ (Op RPar ∷ [])))))
     (Trees.Call f (an_expr (Trees.GeneratorExp e z) no_exprs) no_keyword)) (sym q) (G.call_generator p d c)) deep_primary.named
     (fewer (omega (
       arith,
@@ -217,7 +223,8 @@ lone_node f e cs ts p (gs, q, d, c) s =
     )) s)
 
 call_node : (f : Expr) (zs : Exprs) (ks : Keywords) (ts : List Terminal) → G.Derives Primary (written terminal Primary f) f → LoneInside zs
-    → G.Derives Primary (written terminal Primary f ++ bracketed terminal (separated (Op Comma) (each terminal Named zs ++ by_name terminal ks))) (Trees.Call f zs ks)
+    → G.Derives Primary (written terminal Primary f ++ bracketed terminal
+        (separated (Op Comma) (each terminal Named zs ++ by_name terminal ks))) (Trees.Call f zs ks)
     → AtLeast (written marks Primary f ++ (tt ∷ (argument_marks zs ks ++ (tt ∷ [])))) ts → Claim Primary ts (Trees.Call f zs ks)
 unfolding written
 call_node f (an_expr (Trees.GeneratorExp e cs) no_exprs) no_keyword ts p i r s = lone_node f e cs ts p i s
@@ -226,18 +233,26 @@ call_node f zs ks ts p i r s = node Primary _ _ ts _ (λ m. refl) refl refl tt r
 pub called_is : (f e : Expr) (es : List Entry) → called f es ≡ Some e → Trees.Call f (positional es) (keywords es) ≡ e
 called_is f e es h = by (in_order false false es) h
   where
-    by : (b : Bool) → cond b (Some (Trees.Call f (positional es) (keywords es))) None ≡ Some e → Trees.Call f (positional es) (keywords es) ≡ e
+    by : (b : Bool) → cond b (Some (Trees.Call f (positional es) (keywords es))) None ≡ Some e
+        → Trees.Call f (positional es) (keywords es) ≡ e
     by true h = cc
     by false h = absurd (cc)
 
 called_sorted : (f : Expr) (es : List Entry) → called f (sorted es) ≡ Some (Trees.Call f (positional es) (keywords es))
 called_sorted f es = rw (sorted_in_order es es, sorted_positional es es, sorted_keywords es es) refl
 
-pub call_claim : {ts us : List Terminal} {f e : Expr} {es : List Entry} → Claim Primary ts f → ListingClaim Argument us es → called f es ≡ Some e
+pub call_claim : {ts us : List Terminal} {f e : Expr} {es : List Entry} → Claim Primary ts f
+    → ListingClaim Argument us es → called f es ≡ Some e
     → Claim Primary (ts ++ (Op LPar ∷ (us ++ (Op RPar ∷ [])))) e
 call_claim {ts} {us} {f} {e} {es} p c h =
-    let d : G.Derives Primary (written terminal Primary f ++ bracketed terminal (separated (Op Comma) (map (entry Argument) (sorted es)))) (Trees.Call f (positional es) (keywords es)) = G.call (here p) (listing_of (appended (firsts_standing c.standing) (lasts_standing c.standing))) (called_sorted f es) in
-    let d2 : G.Derives Primary (written terminal Primary f ++ bracketed terminal (separated (Op Comma) (each terminal Named (positional es) ++ by_name terminal (keywords es)))) (Trees.Call f (positional es) (keywords es)) = subst (λ z. G.Derives Primary (written terminal Primary f ++ bracketed terminal (separated (Op Comma) z)) (Trees.Call f (positional es) (keywords es))) (sym (sorted_written terminal es)) d in
+    let d : G.Derives Primary (written terminal Primary f ++ bracketed terminal (separated (Op Comma) (map (entry Argument) (sorted es))))
+        (Trees.Call f (positional es) (keywords es)) =
+        G.call (here p) (listing_of (appended (firsts_standing c.standing) (lasts_standing c.standing))) (called_sorted f es) in
+    let d2 : G.Derives Primary (written terminal Primary f ++ bracketed terminal
+        (separated (Op Comma) (each terminal Named (positional es) ++ by_name terminal (keywords es))))
+        (Trees.Call f (positional es) (keywords es)) =
+        subst (λ z. G.Derives Primary (written terminal Primary f ++ bracketed terminal (separated (Op Comma) z))
+        (Trees.Call f (positional es) (keywords es))) (sym (sorted_written terminal es)) d in
     let s : AtLeast (argument_marks (positional es) (keywords es)) us =
     subst (λ z. AtLeast (separated tt z) us) (sym (sorted_written marks es)) (fewer (sorted_short es) c.short) in
     subst (λ x. Claim Primary (ts ++ (Op LPar ∷ (us ++ (Op RPar ∷ [])))) x) (called_is f e es h)

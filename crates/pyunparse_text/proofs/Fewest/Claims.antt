@@ -2,9 +2,11 @@
 --
 -- Carries: here, given, Claim, node and 39 more, for Induction, Clauses, Calls, Entries and
 -- 6 more. On: Reach, Less.
-use Rattle.std.proofs.Common.{◌≡◌, refl, sym, ap, subst, ◌∙◌, ◌≤◌, arith, List, [], ◌∷◌, ◌++◌, length, Option, Some, true, false, length-append}
+use Rattle.std.proofs.Common.{◌≡◌, refl, sym, ap, subst, ◌∙◌, ◌≤◌, arith, List, [], ◌∷◌, ◌++◌, length, Option, Some, true, false}
+use Rattle.std.proofs.Common.{length-append}
 use Rattle.std.proofs.Common.{append-nil, map}
-use Rattle.pylex_lexeme.specs.declared.kinds.Exact.TheVariants.{LPar, RPar, LSqb, RSqb, Colon, Plus, Minus, Star, Slash, VBar, Amper, Less, Greater}
+use Rattle.pylex_lexeme.specs.declared.kinds.Exact.TheVariants.{LPar, RPar, LSqb, RSqb, Colon, Plus, Minus, Star, Slash, VBar, Amper, Less}
+use Rattle.pylex_lexeme.specs.declared.kinds.Exact.TheVariants.{Greater}
 use Rattle.pylex_lexeme.specs.declared.kinds.Exact.TheVariants.{Dot, Percent, EqEqual, NotEqual, LessEqual, GreaterEqual, Tilde, Circumflex}
 use Rattle.pylex_lexeme.specs.declared.kinds.Exact.TheVariants.{LeftShift, RightShift, DoubleStar, DoubleSlash, At, ColonEqual}
 use Rattle.pytoken.specs.declared.keywords.Keyword.TheVariants as Key
@@ -16,8 +18,10 @@ use Rattle.pytree_node.specs.declared.operators.Comparison.{Comparison}
 use Rattle.pytree_node.specs.declared.operators.Comparison.TheVariants as Is
 use Rattle.pytree_node.specs.declared.operators.Context.TheVariants.{Load, Store}
 use Rattle.pygrammar.specs.declared.levels.Level.{Level}
-use Rattle.pygrammar.specs.declared.levels.Level.TheVariants.{Value, Stars, StarItem, Named, Expression, Or, Not, Compare, BitOr, BitXor, BitAnd}
-use Rattle.pygrammar.specs.declared.levels.Level.TheVariants.{Shift, Sum, Term, Factor, Power, Await, Primary, Atom, Elem, Slices, Part, Slice}
+use Rattle.pygrammar.specs.declared.levels.Level.TheVariants.{Value, Stars, StarItem, Named, Expression, Or, Not, Compare, BitOr, BitXor}
+use Rattle.pygrammar.specs.declared.levels.Level.TheVariants.{BitAnd}
+use Rattle.pygrammar.specs.declared.levels.Level.TheVariants.{Shift, Sum, Term, Factor, Power, Await, Primary, Atom, Elem, Slices, Part}
+use Rattle.pygrammar.specs.declared.levels.Level.TheVariants.{Slice}
 use Rattle.pytree_node.specs.Values
 use Rattle.pytree_node.specs.Trees
 use Rattle.pytree_node.specs.Trees.{Expr, OptionalExpr, absent, present, Identifier, exprs, Comprehension, comprehensions}
@@ -27,18 +31,21 @@ use Rattle.pygrammar.specs.Constants.{constant_word}
 use Rattle.pygrammar.specs.Grammar as G
 use Rattle.pyunparse_text.specs.Levels.{leads, reaches, operator_level, left_level, right_level, operator_sign, unary_level, unary_sign}
 use Rattle.pyunparse_text.specs.Levels.{comparison_signs}
-use Rattle.pyunparse_text.specs.Written.{separated, star_level, constant_terminal, free, fit, compared, written, each, perhaps, suffixed, clauses}
+use Rattle.pyunparse_text.specs.Written.{separated, star_level, constant_terminal, free, fit, compared, written, each, perhaps, suffixed}
+use Rattle.pyunparse_text.specs.Written.{clauses}
 use Rattle.pyunparse_text.specs.Terminals.{terminal}
 use Rattle.pyunparse_text.proofs.Fewest.Counted.{one, AtLeast, none, token, both, fewer, in_brackets, is_plain}
 use Rattle.pyunparse_text.proofs.Fewest.Sizes.{operator_plain, unary_plain}
-use Rattle.pyunparse_text.proofs.Fewest.Reach.{climb, reaches_self, to_atom, fits, fits_within, fit_marks, length_bracketed, fit_more, operator_deep}
+use Rattle.pyunparse_text.proofs.Fewest.Reach.{climb, reaches_self, to_atom, fits, fits_within, fit_marks, length_bracketed, fit_more}
+use Rattle.pyunparse_text.proofs.Fewest.Reach.{operator_deep}
 use Rattle.pyunparse_text.proofs.Fewest.Reach.{chain_deep, unary_deep, deep_expression, deep_compare, deep_await, deep_primary}
 use Rattle.pyunparse_text.proofs.Fewest.Less.{star_place, slice_place, allowed, inner, allowed_below, allowed_all, step_less, group_more}
 
 -- what a star's value and a lone generator's parts have to be
 abbrev pub Inside : Expr → Type 0
 Inside (Trees.Starred e c) = (c ≡ Load) × G.Derives Expression (written terminal Expression e) e
-Inside (Trees.GeneratorExp e cs) = (gs : List Comprehension) × (cs ≡ comprehensions gs) × G.Derives Named (written terminal Named e) e × G.Comps (clauses terminal cs) gs
+Inside (Trees.GeneratorExp e cs) = (gs : List Comprehension) × (cs ≡ comprehensions gs) × G.Derives Named (written terminal Named e) e ×
+    G.Comps (clauses terminal cs) gs
 Inside _ = Unit {0}
 
 pub record Ready (e : Expr) : Type 0 where
@@ -61,10 +68,12 @@ next_claim {l} {ts} {e} c = record { ready = c.ready; place = allowed_below l e 
 
 pub group_claim : {ts : List Terminal} {e : Expr} → Claim Named ts e → Claim Atom (Op LPar ∷ (ts ++ (Op RPar ∷ []))) e
 group_claim {ts} {e} c =
-    record { ready = c.ready; place = allowed_all Named Atom e refl c.place; short = fewer (omega (arith, group_more e c.place, length_bracketed (written one Named e))) (in_brackets LPar RPar c.short) }
+    record { ready = c.ready; place = allowed_all Named Atom e refl c.place; short =
+        fewer (omega (arith, group_more e c.place, length_bracketed (written one Named e))) (in_brackets LPar RPar c.short) }
 
 -- a form of the level k, and one of Atom
-pub node : (k : Level) (e : Expr) (us ts : List Terminal) (ms : List (Unit {0})) → ((m : Level) → written terminal m e ≡ fit terminal m k us)
+pub node : (k : Level) (e : Expr) (us ts : List Terminal) (ms : List (Unit {0}))
+    → ((m : Level) → written terminal m e ≡ fit terminal m k us)
     → written one k e ≡ fit one k k ms
     → allowed k e ≡ true → Inside e → G.Derives k us e → reaches Named k ≡ true → AtLeast ms ts → Claim k ts e
 node k e us ts ms w v a i p r s = record {
@@ -73,7 +82,8 @@ node k e us ts ms w v a i p r s = record {
   short = subst (λ x. AtLeast x ts) (sym (v ∙ fit_marks k k ms (reaches_self k))) s;
 }
 
-pub atom : (e : Expr) (us ts : List Terminal) → ((m : Level) → written terminal m e ≡ us) → allowed Atom e ≡ true → Inside e → G.Derives Atom us e
+pub atom : (e : Expr) (us ts : List Terminal) → ((m : Level) → written terminal m e ≡ us) → allowed Atom e ≡ true
+    → Inside e → G.Derives Atom us e
     → AtLeast (written one Atom e) ts → Claim Atom ts e
 atom e us ts w a i p s = record {
   ready = record { all = λ m h. subst (λ x. G.Derives m x e) (sym (w m)) (climb m Atom (to_atom m) p); inside = i };
@@ -108,13 +118,15 @@ pub subscript_claim : {ts us : List Terminal} {e s : Expr} → Claim Primary ts 
     → Claim Primary (ts ++ (Op LSqb ∷ (us ++ (Op RSqb ∷ [])))) (Trees.Subscript e s Load)
 unfolding written
 subscript_claim p q =
-    node Primary _ _ _ _ (λ m. refl) refl refl tt (G.subscript (here p) (here q)) deep_primary.named (both p.short (in_brackets LSqb RSqb q.short))
+    node Primary _ _ _ _ (λ m. refl) refl refl tt (G.subscript (here p) (here q)) deep_primary.named
+        (both p.short (in_brackets LSqb RSqb q.short))
 
 pub power_claim : {ts us : List Terminal} {a b : Expr} → Claim Await ts a → Claim Factor us b
     → Claim Power (ts ++ (Op DoubleStar ∷ us)) (Trees.BinOp a Bin.Pow b)
 unfolding written
 power_claim p q =
-    node Power _ _ _ _ (λ m. refl) refl refl tt (G.power (here p) (here q)) (operator_deep Bin.Pow).named (both p.short (token refl q.short))
+    node Power _ _ _ _ (λ m. refl) refl refl tt (G.power (here p) (here q)) (operator_deep Bin.Pow).named
+        (both p.short (token refl q.short))
 
 -- an operator's row in the table
 pub record Row (l : Level) (t : Terminal) (o : Operator) : Type 0 where
@@ -144,7 +156,8 @@ row Term (Op Percent) o h = given (Row Term (Op Percent)) h (record { level = re
 row Term (Op At) o h = given (Row Term (Op At)) h (record { level = refl; sign = refl; left = refl; right = refl })
 row _ _ o h = absurd (cc)
 
-pub binary_claim : {l : Level} {ts us : List Terminal} {a b : Expr} {o : Operator} (t : Terminal) → left_operator l t ≡ Some o → Claim l ts a
+pub binary_claim : {l : Level} {ts us : List Terminal} {a b : Expr} {o : Operator} (t : Terminal)
+    → left_operator l t ≡ Some o → Claim l ts a
     → Claim (below l) us b → Claim l (ts ++ (t ∷ us)) (Trees.BinOp a o b)
 unfolding written
 binary_claim {l} {ts} {us} {a} {b} {o} t h p q =
@@ -165,7 +178,8 @@ prefixed Factor (Op Minus) o h = given (Prefix Factor (Op Minus)) h (record { le
 prefixed Factor (Op Tilde) o h = given (Prefix Factor (Op Tilde)) h (record { level = refl; sign = refl })
 prefixed _ _ o h = absurd (cc)
 
-pub unary_claim : {l : Level} {t : Terminal} {o : UnaryOperator} {ts : List Terminal} {e : Expr} → prefix_operator l t ≡ Some o → Claim l ts e
+pub unary_claim : {l : Level} {t : Terminal} {o : UnaryOperator} {ts : List Terminal} {e : Expr}
+    → prefix_operator l t ≡ Some o → Claim l ts e
     → Claim l (t ∷ ts) (Trees.UnaryOp o e)
 unfolding written
 unary_claim {l} {t} {o} {ts} {e} h p =
@@ -187,7 +201,8 @@ pub last_link_claim : {o : BoolOperator} {ts : List Terminal} {e : Expr} → Cla
 unfolding each
 last_link_claim p = record { list = G.last_link (here p); short = p.short }
 
-pub link_claim : {o : BoolOperator} {ts us : List Terminal} {e : Expr} {es : List Expr} → Claim (below (chain_level o)) ts e → ChainClaim o us es
+pub link_claim : {o : BoolOperator} {ts us : List Terminal} {e : Expr} {es : List Expr}
+    → Claim (below (chain_level o)) ts e → ChainClaim o us es
     → ChainClaim o (ts ++ (Word (chain_word o) ∷ us)) (e ∷ es)
 unfolding each
 link_claim {o} {ts} {us} {e} {es} p c = more es c
@@ -196,15 +211,18 @@ link_claim {o} {ts} {us} {e} {es} p c = more es c
     more [] c = absurd (no_chain c.list refl)
     more (f ∷ fs) c = record { list = G.link (here p) c.list; short = both p.short (token refl c.short) }
 
-pub chain_claim : {o : BoolOperator} {ts us : List Terminal} {e : Expr} {es : List Expr} → Claim (below (chain_level o)) ts e → ChainClaim o us es
+pub chain_claim : {o : BoolOperator} {ts us : List Terminal} {e : Expr} {es : List Expr}
+    → Claim (below (chain_level o)) ts e → ChainClaim o us es
     → Claim (chain_level o) (ts ++ (Word (chain_word o) ∷ us)) (Trees.BoolOp o (exprs (e ∷ es)))
 unfolding written each
 chain_claim {o} {ts} {us} {e} {es} p c = more es c
   where
-    more : (es : List Expr) → ChainClaim o us es → Claim (chain_level o) (ts ++ (Word (chain_word o) ∷ us)) (Trees.BoolOp o (exprs (e ∷ es)))
+    more : (es : List Expr) → ChainClaim o us es → Claim (chain_level o) (ts ++ (Word (chain_word o) ∷ us))
+        (Trees.BoolOp o (exprs (e ∷ es)))
     more [] c = absurd (no_chain c.list refl)
     more (f ∷ fs) c =
-        node (chain_level o) _ _ _ _ (λ m. refl) refl refl tt (G.chain (here p) c.list) (chain_deep o).named (both p.short (token refl c.short))
+        node (chain_level o) _ _ _ _ (λ m. refl) refl refl tt (G.chain (here p) c.list) (chain_deep o).named
+            (both p.short (token refl c.short))
 
 -- comparisons
 abbrev pub signs : Comparison → List Terminal
@@ -253,7 +271,8 @@ pub last_compare_claim : {ss ts : List Terminal} {o : Comparison} {e : Expr} →
     → ComparesClaim (ss ++ ts) (o ∷ []) (e ∷ [])
 unfolding each
 last_compare_claim {ss} {ts} {o} {e} k p = record {
-  list = subst (λ x. G.Compares (signs o ++ x) (o ∷ []) (e ∷ [])) (sym (append-nil (written terminal BitOr e))) (G.last_compare k.is (here p));
+  list = subst (λ x. G.Compares (signs o ++ x) (o ∷ []) (e ∷ [])) (sym (append-nil (written terminal BitOr e)))
+      (G.last_compare k.is (here p));
   short = both k.short (subst (λ x. AtLeast x ts) (sym (append-nil (written one BitOr e))) p.short);
 }
 
@@ -310,7 +329,8 @@ star_all e p q Elem h = G.star_elem p
 star_all e p q Part h = G.star_part q
 star_all e p q _ h = absurd (cc)
 
-star_claim : {l : Level} {ts : List Terminal} {e : Expr} (m : Level) → inner l ≡ true → Claim l ts e → star_place m ≡ true → star_level m ≡ l
+star_claim : {l : Level} {ts : List Terminal} {e : Expr} (m : Level) → inner l ≡ true → Claim l ts e
+    → star_place m ≡ true → star_level m ≡ l
     → Claim m (Op Star ∷ ts) (Trees.Starred e Load)
 unfolding written
 star_claim {l} {ts} {e} m i c h q = record {
@@ -355,11 +375,15 @@ slice_node : (a b c : OptionalExpr) (us ts : List Terminal)
     → AtLeast (perhaps one Expression a ++ (tt ∷ (perhaps one Expression b ++ suffixed one tt c))) ts → Claim Slice ts (Trees.Slice a b c)
 unfolding written
 slice_node a b c us ts e p s =
-    let p2 : G.Derives Slice (perhaps terminal Expression a ++ (Op Colon ∷ (perhaps terminal Expression b ++ suffixed terminal (Op Colon) c))) (Trees.Slice a b c) = subst (λ x. G.Derives Slice x (Trees.Slice a b c)) e p in
+    let p2 : G.Derives Slice
+        (perhaps terminal Expression a ++ (Op Colon ∷ (perhaps terminal Expression b ++ suffixed terminal (Op Colon) c)))
+        (Trees.Slice a b c) = subst (λ x. G.Derives Slice x (Trees.Slice a b c)) e p in
     record {
       ready = record { all = λ m h. fits_within m Slice _ _ (slice_reach m h) p2; inside = tt };
       place = refl;
-      short = subst (λ x. AtLeast x ts) (sym (fit_marks Slice Slice (perhaps one Expression a ++ (tt ∷ (perhaps one Expression b ++ suffixed one tt c))) (reaches_self Slice))) s;
+      short = subst (λ x. AtLeast x ts)
+          (sym (fit_marks Slice Slice (perhaps one Expression a ++ (tt ∷ (perhaps one Expression b ++ suffixed one tt c)))
+          (reaches_self Slice))) s;
     }
 
 -- without a second colon
@@ -401,18 +425,22 @@ pub record YieldsClaim (ts : List Terminal) (e : Expr) : Type 0 where
 
 yields_ready : {ts : List Terminal} {e : Expr} → YieldsClaim ts e → Ready e
 yields_ready {ts} {e} c =
-    record { all = λ m h. subst (λ x. G.Derives m x e) (sym (c.writes m)) (fits m Value _ e (G.yields c.is) (G.yield_group c.is)); inside = c.inside }
+    record { all = λ m h. subst (λ x. G.Derives m x e) (sym (c.writes m)) (fits m Value _ e (G.yields c.is) (G.yield_group c.is)); inside =
+        c.inside }
 
 pub yields_claim : {ts : List Terminal} {e : Expr} → YieldsClaim ts e → Claim Value (Word Key.Yield ∷ ts) e
 yields_claim {ts} {e} c = record {
   ready = yields_ready c;
   place = c.free Value;
-  short = subst (λ x. AtLeast x (Word Key.Yield ∷ ts)) (sym (c.counts Value ∙ fit_marks Value Value (tt ∷ c.marks) (reaches_self Value))) (token refl c.short);
+  short = subst (λ x. AtLeast x (Word Key.Yield ∷ ts)) (sym (c.counts Value ∙ fit_marks Value Value (tt ∷ c.marks) (reaches_self Value)))
+      (token refl c.short);
 }
 
-pub yield_group_claim : {ts : List Terminal} {e : Expr} → YieldsClaim ts e → Claim Atom (Op LPar ∷ (Word Key.Yield ∷ (ts ++ (Op RPar ∷ [])))) e
+pub yield_group_claim : {ts : List Terminal} {e : Expr} → YieldsClaim ts e
+    → Claim Atom (Op LPar ∷ (Word Key.Yield ∷ (ts ++ (Op RPar ∷ [])))) e
 yield_group_claim {ts} {e} c =
-    record { ready = yields_ready c; place = c.free Atom; short = fewer bracketed_most (token refl (token refl (both c.short (token refl none)))) }
+    record { ready = yields_ready c; place = c.free Atom; short =
+        fewer bracketed_most (token refl (token refl (both c.short (token refl none)))) }
   where
     bracketed_most : length (written one Atom e) ≤ length (tt ∷ (tt ∷ (c.marks ++ (tt ∷ []))))
     bracketed_most =
@@ -428,9 +456,11 @@ yield_group_claim {ts} {e} c =
 pub yield_from_claim : {ts : List Terminal} {e : Expr} → Claim Expression ts e → YieldsClaim (Word Key.From ∷ ts) (Trees.YieldFrom e)
 unfolding written
 yield_from_claim {ts} {e} c =
-    record { text = Word Key.From ∷ written terminal Expression e; marks = tt ∷ written one Expression e; is = G.yield_from (here c); writes = λ m. refl; counts = λ m. refl; free = λ m. refl; inside = tt; short = token refl c.short }
+    record { text = Word Key.From ∷ written terminal Expression e; marks = tt ∷ written one Expression e; is = G.yield_from (here c);
+        writes = λ m. refl; counts = λ m. refl; free = λ m. refl; inside = tt; short = token refl c.short }
 
 pub yield_some_claim : {ts : List Terminal} {e : OptionalExpr} → PerhapsClaim Stars ts e → YieldsClaim ts (Trees.Yield e)
 unfolding written
 yield_some_claim {ts} {e} c =
-    record { text = perhaps terminal Stars e; marks = perhaps one Stars e; is = G.yield_some c.is; writes = λ m. refl; counts = λ m. refl; free = λ m. refl; inside = tt; short = c.short }
+    record { text = perhaps terminal Stars e; marks = perhaps one Stars e; is = G.yield_some c.is; writes = λ m. refl; counts = λ m. refl;
+        free = λ m. refl; inside = tt; short = c.short }

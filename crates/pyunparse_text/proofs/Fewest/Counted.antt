@@ -1,7 +1,8 @@
 -- How many tokens a list is, wherever it stands: an f-string is one, and what stands in its fields is none.
 --
 -- Carries: Counted, Silent, AtLeast, for Sizes, Claims and 4 more. On: nothing here.
-use Rattle.std.proofs.Common.{◌≡◌, refl, ap, ◌∙◌, ℕ, suc, ◌+◌, ◌-◌, ◌≤◌, arith, List, [], ◌∷◌, ◌++◌, length, Bool, true, false, append_assoc}
+use Rattle.std.proofs.Common.{◌≡◌, refl, ap, ◌∙◌, ℕ, suc, ◌+◌, ◌-◌, ◌≤◌, arith, List, [], ◌∷◌, ◌++◌, length, Bool, true, false}
+use Rattle.std.proofs.Common.{append_assoc}
 use Rattle.std.proofs.Common.{length-append}
 use Rattle.pylex_lexeme.specs.declared.kinds.Exact.{Exact}
 use Rattle.pyfstring.specs.declared.parts.Conversion.{Conversion}
@@ -78,13 +79,15 @@ silent_field {c} {ts} {us} {vs} p q r = record { is = λ n o ws. at n o ws }
     last : (n : ℕ) (o : Open) (ws : List Terminal) → tokens_behind ((suc n - 1) ∷ o) (vs ++ ws) ≡ tokens_behind (n ∷ o) ws
     last n o ws = let e : suc n - 1 ≡ n = omega arith in ap (λ k. tokens_behind (k ∷ o) (vs ++ ws)) e ∙ r.is n o ws
 
-    at : (n : ℕ) (o : Open) (ws : List Terminal) → tokens_behind (suc n ∷ o) ((ts ++ (us ++ (FieldEnd ∷ vs))) ++ ws) ≡ tokens_behind (n ∷ o) ws
+    at : (n : ℕ) (o : Open) (ws : List Terminal) → tokens_behind (suc n ∷ o) ((ts ++ (us ++ (FieldEnd ∷ vs))) ++ ws) ≡
+        tokens_behind (n ∷ o) ws
     at n o ws =
         rw (append_assoc ts (us ++ (FieldEnd ∷ vs)) ws, append_assoc us (FieldEnd ∷ vs) ws)
         (p.is (suc n) o (us ++ (FieldEnd ∷ (vs ++ ws))) ∙ (q.is (suc n) o (FieldEnd ∷ (vs ++ ws)) ∙ last n o ws))
 
 -- an f-string is one token
-pub counted_string : {k : ℕ} {ts us : List Terminal} → Silent ts → Counted k us → Counted (suc k) (FormattedBegin ∷ (ts ++ (FormattedEnd ∷ us)))
+pub counted_string : {k : ℕ} {ts us : List Terminal} → Silent ts → Counted k us
+    → Counted (suc k) (FormattedBegin ∷ (ts ++ (FormattedEnd ∷ us)))
 counted_string {k} {ts} {us} c d = record {
   outside = λ vs. rw (append_assoc ts (FormattedEnd ∷ us) vs) (ap suc (c.is 0 [] (FormattedEnd ∷ (us ++ vs)) ∙ d.outside vs) ∙ omega arith);
   inside = λ n o vs. rw (append_assoc ts (FormattedEnd ∷ us) vs) (c.is 0 (n ∷ o) (FormattedEnd ∷ (us ++ vs)) ∙ d.inside n o vs);
@@ -109,7 +112,8 @@ token p c = record { count = suc c.count; counted = counted_token p c.counted; e
 
 pub both : {ms ns : List (Unit {0})} {ts us : List Terminal} → AtLeast ms ts → AtLeast ns us → AtLeast (ms ++ ns) (ts ++ us)
 both {ms} {ns} c d =
-    record { count = c.count + d.count; counted = counted_both c.counted d.counted; enough = omega (arith, length-append ms ns, c.enough, d.enough) }
+    record { count = c.count + d.count; counted = counted_both c.counted d.counted; enough =
+        omega (arith, length-append ms ns, c.enough, d.enough) }
 
 pub in_brackets : {ms : List (Unit {0})} {ts : List Terminal} (x y : Exact) → AtLeast ms ts
     → AtLeast (tt ∷ (ms ++ (tt ∷ []))) (Op x ∷ (ts ++ (Op y ∷ [])))

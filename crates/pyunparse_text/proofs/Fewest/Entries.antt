@@ -2,25 +2,31 @@
 --
 -- Carries: entry, ListingClaim, listing_of, PieceClaim and 22 more, for Induction, Calls, Params,
 -- Places and 1 more. On: Less, Claims, Reach.
-use Rattle.std.proofs.Common.{◌≡◌, refl, sym, ap, subst, ◌≤◌, arith, List, [], ◌∷◌, ◌++◌, length, Bool, true, false, append_assoc, length-append}
+use Rattle.std.proofs.Common.{◌≡◌, refl, sym, ap, subst, ◌≤◌, arith, List, [], ◌∷◌, ◌++◌, length, Bool, true, false, append_assoc}
+use Rattle.std.proofs.Common.{length-append}
 use Rattle.std.specs.Prelude.{not, map}
-use Rattle.pylex_lexeme.specs.declared.kinds.Exact.TheVariants.{LPar, RPar, LSqb, RSqb, LBrace, RBrace, Colon, Comma, Star, Slash, Equal, DoubleStar}
+use Rattle.pylex_lexeme.specs.declared.kinds.Exact.TheVariants.{LPar, RPar, LSqb, RSqb, LBrace, RBrace, Colon, Comma, Star, Slash, Equal}
+use Rattle.pylex_lexeme.specs.declared.kinds.Exact.TheVariants.{DoubleStar}
 use Rattle.pytree_node.specs.declared.operators.Context.TheVariants.{Load}
 use Rattle.pygrammar.specs.declared.levels.Level.{Level}
-use Rattle.pygrammar.specs.declared.levels.Level.TheVariants.{Value, Stars, StarItem, Named, Expression, BitOr, Atom, Elem, Slices, Part, Subject}
+use Rattle.pygrammar.specs.declared.levels.Level.TheVariants.{Value, Stars, StarItem, Named, Expression, BitOr, Atom, Elem, Slices, Part}
+use Rattle.pygrammar.specs.declared.levels.Level.TheVariants.{Subject}
 use Rattle.pytree_node.specs.Trees
 use Rattle.pytree_node.specs.Trees.{Expr, Exprs, no_exprs, an_expr, arg, Identifier}
 use Rattle.pytoken.specs.Terminals.{Terminal, Op, Ident, in_form, Spelled}
-use Rattle.pygrammar.specs.Entries.{Item, Of, Pair, Argument, Parameter, Entry, Single, Paired, Spread, Doubled, Keyed, Plain, Slashed, Bare}
+use Rattle.pygrammar.specs.Entries.{Item, Of, Pair, Argument, Parameter, Entry, Single, Paired, Spread, Doubled, Keyed, Plain, Slashed}
+use Rattle.pygrammar.specs.Entries.{Bare}
 use Rattle.pygrammar.specs.Entries.{Gathered, Collected, singles, keys, values}
 use Rattle.pygrammar.specs.Grammar as G
-use Rattle.pyunparse_text.specs.Written.{Maker, separated, some_named, lone_star, free, leading, trailing, tight, bracketed, with_comma, tuple_of}
+use Rattle.pyunparse_text.specs.Written.{Maker, separated, some_named, lone_star, free, leading, trailing, tight, bracketed, with_comma}
+use Rattle.pyunparse_text.specs.Written.{tuple_of}
 use Rattle.pyunparse_text.specs.Written.{written, each, suffixed, written_keys, pairs}
 use Rattle.pyunparse_text.specs.Terminals.{terminal}
 use Rattle.pyunparse_text.proofs.Fewest.Counted as counted
 use Rattle.pyunparse_text.proofs.Fewest.Counted.{one as marks, AtLeast, token, both, fewer, in_brackets}
 use Rattle.pyunparse_text.proofs.Fewest.Reach.{climb, to_atom, length_bracketed}
-use Rattle.pyunparse_text.proofs.Fewest.Less.{some_slice, tuple_place, allowed, length_separated, length_with_comma, total_named, length_part}
+use Rattle.pyunparse_text.proofs.Fewest.Less.{some_slice, tuple_place, allowed, length_separated, length_with_comma, total_named}
+use Rattle.pyunparse_text.proofs.Fewest.Less.{length_part}
 use Rattle.pyunparse_text.proofs.Fewest.Less.{tuple_text}
 use Rattle.pyunparse_text.proofs.Fewest.Claims.{Ready, Claim, here, atom}
 
@@ -38,7 +44,8 @@ entry_in make (Parameter b) (Plain (arg x a) d) =
 entry_in make (Parameter b) Slashed = free make (Op Slash) ∷ []
 entry_in make (Parameter b) Bare = leading make Star ∷ []
 entry_in make (Parameter b) (Gathered (arg x a)) = leading make Star ∷ (free make (in_form x) ∷ suffixed make (trailing make Colon) a)
-entry_in make (Parameter b) (Collected (arg x a)) = leading make DoubleStar ∷ (free make (in_form x) ∷ suffixed make (trailing make Colon) a)
+entry_in make (Parameter b) (Collected (arg x a)) =
+    leading make DoubleStar ∷ (free make (in_form x) ∷ suffixed make (trailing make Colon) a)
 entry_in make _ _ = []
 
 -- as it is read, and its marks
@@ -79,7 +86,8 @@ pub item_claim : {i : Item} {ts us : List Terminal} {e : Entry} {es : List Entry
     → ListingClaim i (ts ++ (Op Comma ∷ us)) (e ∷ es)
 item_claim {i} {ts} {us} {e} {es} p c = record {
   standing = one p.standing c.standing;
-  short = fewer (omega (arith, length_separated tt (entry_marks i e ∷ map (entry_marks i) es), length_separated tt (map (entry_marks i) es), length-append (entry_marks i e) (tt ∷ separated tt (map (entry_marks i) es)))) (both p.short (token refl c.short));
+  short = fewer (omega (arith, length_separated tt (entry_marks i e ∷ map (entry_marks i) es), length_separated tt (map (entry_marks i) es),
+      length-append (entry_marks i e) (tt ∷ separated tt (map (entry_marks i) es)))) (both p.short (token refl c.short));
 }
 
 piece_of : (i : Item) (e : Entry) → Standing i e → G.Piece i (entry i e) e
@@ -111,7 +119,8 @@ unfolding each
 pieces_are none = refl
 pieces_are {l} (one {e = e} {es = es} s r) = pieces_grown l e es s (pieces_are r)
 
-pub list_of : {l : Level} {es : List Entry} → Standings (Of l) es → G.Listing (Of l) (separated (Op Comma) (each terminal l (singles es))) es
+pub list_of : {l : Level} {es : List Entry} → Standings (Of l) es
+    → G.Listing (Of l) (separated (Op Comma) (each terminal l (singles es))) es
 list_of {l} {es} s = subst (λ z. G.Listing (Of l) (separated (Op Comma) z) es) (sym (pieces_are s)) (listing_of s)
 
 marks_grown : (l : Level) (e : Entry) (es : List Entry) → Standing (Of l) e → each marks l (singles es) ≡ map (entry_marks (Of l)) es
@@ -164,7 +173,8 @@ pub set_claim : {ts : List Terminal} {e : Entry} {es : List Entry} → ListingCl
 unfolding written
 set_claim c = atom _ _ _ (λ m. refl) refl tt (G.set (list_of c.standing)) (in_brackets LBrace RBrace (list_short c))
 
-pair_grown : (e : Entry) (es : List Entry) → Standing Pair e → pairs terminal (written_keys terminal (keys es)) (values es) ≡ map (entry Pair) es
+pair_grown : (e : Entry) (es : List Entry) → Standing Pair e → pairs terminal (written_keys terminal (keys es))
+    (values es) ≡ map (entry Pair) es
     → pairs terminal (written_keys terminal (keys (e ∷ es))) (values (e ∷ es)) ≡ map (entry Pair) (e ∷ es)
 unfolding pairs written_keys
 pair_grown (Paired k e) es s q = ap (λ z. (written terminal Expression k ++ (Op Colon ∷ written terminal Expression e)) ∷ z) q
@@ -194,7 +204,8 @@ pub dict_claim : {ts : List Terminal} {es : List Entry} → ListingClaim Pair ts
 unfolding written
 dict_claim {ts} {es} c =
     atom _ (Op LBrace ∷ (separated (Op Comma) (map (entry Pair) es) ++ (Op RBrace ∷ []))) _
-    (λ m. ap (λ z. Op LBrace ∷ (separated (Op Comma) z ++ (Op RBrace ∷ []))) (pairs_are c.standing)) refl tt (G.dict (listing_of c.standing))
+    (λ m. ap (λ z. Op LBrace ∷ (separated (Op Comma) z ++ (Op RBrace ∷ []))) (pairs_are c.standing)) refl tt
+        (G.dict (listing_of c.standing))
     (in_brackets LBrace RBrace (subst (λ z. AtLeast (separated tt z) ts) (sym (pair_marks_are c.standing)) c.short))
 
 pub empty_tuple_claim : Claim Atom (Op LPar ∷ (Op RPar ∷ [])) (Trees.Tuple no_exprs Load)
@@ -215,7 +226,8 @@ part_from_elem (Trees.Tuple es c) h = h
 part_from_elem _ h = refl
 
 -- the same entries at another level
-moved : (l m : Level) → ((e : Expr) → allowed l e ≡ true → allowed m e ≡ true) → {es : List Entry} → Standings (Of l) es → Standings (Of m) es
+moved : (l m : Level) → ((e : Expr) → allowed l e ≡ true → allowed m e ≡ true) → {es : List Entry}
+    → Standings (Of l) es → Standings (Of m) es
 moved l m f none = none
 moved l m f (one {e = e} s r) = one (move e s) (moved l m f r)
   where
@@ -268,7 +280,8 @@ module _ (m : Level) (from : (e : Expr) (z : Exprs) → some_slice (an_expr e z)
   placed (one {e = e} {es = es} s r) q = let w = placed_one e es s q in one w.0 (placed r w.1)
 
 -- a Tuple at each terminal level, whether its elements have their own brackets or not
-with_comma_brackets : (ts us : List Terminal) → bracketed terminal (ts ++ (Op Comma ∷ us)) ≡ Op LPar ∷ (ts ++ (Op Comma ∷ (us ++ (Op RPar ∷ []))))
+with_comma_brackets : (ts us : List Terminal) → bracketed terminal (ts ++ (Op Comma ∷ us)) ≡ Op LPar ∷
+    (ts ++ (Op Comma ∷ (us ++ (Op RPar ∷ []))))
 with_comma_brackets ts us = ap (λ z. Op LPar ∷ z) (append_assoc ts (Op Comma ∷ us) (Op RPar ∷ []))
 
 head_of : {i : Item} {e : Entry} {es : List Entry} → Standings i (e ∷ es) → Standing i e
@@ -278,26 +291,33 @@ tail_of : {i : Item} {e : Entry} {es : List Entry} → Standings i (e ∷ es) �
 tail_of (one s r) = r
 
 at_slices : (e : Expr) (es : List Entry) → Ready e → G.Derives Part (written terminal Part e) e → Standings (Of Part) es
-    → G.Derives Slices (tuple_of terminal Part (lone_star (an_expr e (singles es))) (written terminal Part e ∷ each terminal Part (singles es))) (Trees.Tuple (an_expr e (singles es)) Load)
+    → G.Derives Slices (tuple_of terminal Part (lone_star (an_expr e (singles es)))
+        (written terminal Part e ∷ each terminal Part (singles es))) (Trees.Tuple (an_expr e (singles es)) Load)
 unfolding written each
 at_slices (Trees.Starred v c) [] r p s =
-    subst (λ d. G.Derives Slices (Op Star ∷ written terminal Expression v) (Trees.Tuple (an_expr (Trees.Starred v d) no_exprs) Load)) (sym r.inside.0)
+    subst (λ d. G.Derives Slices (Op Star ∷ written terminal Expression v) (Trees.Tuple (an_expr (Trees.Starred v d) no_exprs) Load))
+        (sym r.inside.0)
     (G.star_slices r.inside.1)
 at_slices (Trees.Starred v c) (Single f ∷ es) r p s = G.parts p (list_of s)
 at_slices (Trees.Starred v c) (_ ∷ es) r p s = absurd (head_of s)
 at_slices _ es r p s = G.parts p (list_of s)
 
 at_stars : (e : Expr) (es : List Entry) → Standings (Of StarItem) (Single e ∷ es)
-    → G.Derives Stars (written terminal StarItem e ++ (Op Comma ∷ separated (Op Comma) (each terminal StarItem (singles es)))) (Trees.Tuple (an_expr e (singles es)) Load)
+    → G.Derives Stars (written terminal StarItem e ++ (Op Comma ∷ separated (Op Comma) (each terminal StarItem (singles es))))
+        (Trees.Tuple (an_expr e (singles es)) Load)
 at_stars e es s = let h = head_of s in G.star_tuple (h.0.all StarItem h.1) (list_of (tail_of s))
 
 at_subject : (e : Expr) (es : List Entry) → Standings (Of Elem) (Single e ∷ es)
-    → G.Derives Subject (written terminal Elem e ++ (Op Comma ∷ separated (Op Comma) (each terminal Elem (singles es)))) (Trees.Tuple (an_expr e (singles es)) Load)
+    → G.Derives Subject (written terminal Elem e ++ (Op Comma ∷ separated (Op Comma) (each terminal Elem (singles es))))
+        (Trees.Tuple (an_expr e (singles es)) Load)
 at_subject e es s = let h = head_of s in G.subject_tuple (h.0.all Elem h.1) (list_of (tail_of s))
 
 at_atom : (e : Expr) (es : List Entry) → Standings (Of Elem) (Single e ∷ es)
-    → G.Derives Atom (bracketed terminal (written terminal Elem e ++ (Op Comma ∷ separated (Op Comma) (each terminal Elem (singles es))))) (Trees.Tuple (an_expr e (singles es)) Load)
-at_atom e es s = let h = head_of s in subst (λ z. G.Derives Atom z (Trees.Tuple (an_expr e (singles es)) Load)) (sym (with_comma_brackets (written terminal Elem e) (separated (Op Comma) (each terminal Elem (singles es))))) (G.tuple (h.0.all Elem h.1) (list_of (tail_of s)))
+    → G.Derives Atom (bracketed terminal (written terminal Elem e ++ (Op Comma ∷ separated (Op Comma) (each terminal Elem (singles es)))))
+        (Trees.Tuple (an_expr e (singles es)) Load)
+at_atom e es s = let h = head_of s in subst (λ z. G.Derives Atom z (Trees.Tuple (an_expr e (singles es)) Load))
+    (sym (with_comma_brackets (written terminal Elem e) (separated (Op Comma) (each terminal Elem (singles es)))))
+    (G.tuple (h.0.all Elem h.1) (list_of (tail_of s)))
 
 not_false : (b : Bool) → not b ≡ true → b ≡ false
 not_false true h = absurd (cc)
@@ -332,10 +352,14 @@ unfolding each
 star_size e z false q = omega arith
 star_size e no_exprs true q =
     omega
-    (arith, total_named (an_expr e no_exprs) q, length_bracketed (with_comma marks (written marks Elem e ∷ [])), length_with_comma (written marks Elem e) [], length_with_comma (written marks StarItem e) [])
+    (arith, total_named (an_expr e no_exprs) q, length_bracketed (with_comma marks (written marks Elem e ∷ [])),
+        length_with_comma (written marks Elem e) [], length_with_comma (written marks StarItem e) [])
 star_size e (an_expr f z) true q =
     omega
-    (arith, total_named (an_expr e (an_expr f z)) q, length_bracketed (with_comma marks (written marks Elem e ∷ (written marks Elem f ∷ each marks Elem z))), length_with_comma (written marks Elem e) (written marks Elem f ∷ each marks Elem z), length_with_comma (written marks StarItem e) (written marks StarItem f ∷ each marks StarItem z))
+    (arith, total_named (an_expr e (an_expr f z)) q,
+        length_bracketed (with_comma marks (written marks Elem e ∷ (written marks Elem f ∷ each marks Elem z))),
+        length_with_comma (written marks Elem e) (written marks Elem f ∷ each marks Elem z),
+        length_with_comma (written marks StarItem e) (written marks StarItem f ∷ each marks StarItem z))
 
 pub star_tuple_claim : {ts us : List Terminal} {e : Expr} {es : List Entry} → Claim StarItem ts e → ListingClaim (Of StarItem) us es
     → Claim Stars (ts ++ (Op Comma ∷ us)) (Trees.Tuple (an_expr e (singles es)) Load)
@@ -379,10 +403,12 @@ unfolding written each
 parts_claim {ts} {us} {e} {es} p c = record {
   ready = tuple_ready e es (one (p.ready, p.place) c.standing);
   place = refl;
-  short = fewer (length_part (lone_star (an_expr e (singles es))) (written marks Part e) (each marks Part (singles es))) (both p.short (token refl (list_short c)));
+  short = fewer (length_part (lone_star (an_expr e (singles es))) (written marks Part e) (each marks Part (singles es)))
+      (both p.short (token refl (list_short c)));
 }
 
 pub star_slices_claim : {ts : List Terminal} {e : Expr} → Claim Part (Op Star ∷ ts) (Trees.Starred e Load)
     → Claim Slices (Op Star ∷ ts) (Trees.Tuple (an_expr (Trees.Starred e Load) no_exprs) Load)
 unfolding written each
-star_slices_claim {ts} {e} p = record { ready = tuple_ready (Trees.Starred e Load) [] (one (p.ready, p.place) none); place = refl; short = p.short }
+star_slices_claim {ts} {e} p = record { ready = tuple_ready (Trees.Starred e Load) [] (one (p.ready, p.place) none);
+    place = refl; short = p.short }

@@ -1,13 +1,15 @@
 -- At every level but Atom no more brackets are open at once than the expression is high.
 --
 -- Carries: brackets_height, for Shortest. On: Reach.
-use Rattle.std.proofs.Common.{◌≡◌, refl, sym, ap, subst, ℕ, zero, suc, ◌+◌, ◌≤◌, arith, List, [], ◌∷◌, ◌++◌, Option, Some, None, Bool, true, false}
+use Rattle.std.proofs.Common.{◌≡◌, refl, sym, ap, subst, ℕ, zero, suc, ◌+◌, ◌≤◌, arith, List, [], ◌∷◌, ◌++◌, Option, Some, None, Bool, true}
+use Rattle.std.proofs.Common.{false}
 use Rattle.std.proofs.Common.{cond, append_assoc, append-nil}
 use Rattle.std.specs.Prelude.{max, replicate, map}
 use Rattle.std.proofs.lemmas.Grind.{flat_map-append}
 use Rattle.pyfstring.specs.declared.parts.Conversion.{Conversion}
 use Rattle.pylex_lexeme.specs.declared.kinds.Exact.{Exact}
-use Rattle.pylex_lexeme.specs.declared.kinds.Exact.TheVariants.{LPar, RPar, LSqb, RSqb, LBrace, RBrace, Colon, Comma, Star, Equal, DoubleStar}
+use Rattle.pylex_lexeme.specs.declared.kinds.Exact.TheVariants.{LPar, RPar, LSqb, RSqb, LBrace, RBrace, Colon, Comma, Star, Equal}
+use Rattle.pylex_lexeme.specs.declared.kinds.Exact.TheVariants.{DoubleStar}
 use Rattle.pytree_node.specs.declared.operators.Operator.{Operator}
 use Rattle.pytree_node.specs.declared.operators.Operator.TheVariants as Bin
 use Rattle.pytree_node.specs.declared.operators.UnaryOperator.{UnaryOperator}
@@ -17,23 +19,29 @@ use Rattle.pytree_node.specs.declared.operators.BoolOperator.TheVariants as Join
 use Rattle.pytree_node.specs.declared.operators.Comparison.{Comparison}
 use Rattle.pytree_node.specs.declared.operators.Comparison.TheVariants as Is
 use Rattle.pygrammar.specs.declared.levels.Level.{Level}
-use Rattle.pygrammar.specs.declared.levels.Level.TheVariants.{Value, Stars, Named, Expression, Or, Compare, BitOr, Await, Primary, Elem, Slices, Part}
+use Rattle.pygrammar.specs.declared.levels.Level.TheVariants.{Value, Stars, Named, Expression, Or, Compare, BitOr, Await, Primary, Elem}
+use Rattle.pygrammar.specs.declared.levels.Level.TheVariants.{Slices, Part}
 use Rattle.pygrammar.specs.declared.levels.Level.TheVariants.{Slice}
 use Rattle.pytree_node.specs.Values
 use Rattle.pytree_node.specs.Trees
 use Rattle.pytree_node.specs.Trees.{Expr, Exprs, no_exprs, an_expr, OptionalExpr, absent, present, OptionalExprs, no_optional, an_optional}
-use Rattle.pytree_node.specs.Trees.{Comprehensions, no_comprehension, a_comprehension, Keywords, no_keyword, a_keyword, arg, Args, no_arg, an_arg}
+use Rattle.pytree_node.specs.Trees.{Comprehensions, no_comprehension, a_comprehension, Keywords, no_keyword, a_keyword, arg, Args, no_arg}
+use Rattle.pytree_node.specs.Trees.{an_arg}
 use Rattle.pytree_node.specs.Trees.{OptionalArg, absent_arg, present_arg, Arguments, arguments}
 use Rattle.pytoken.specs.Terminals.{Terminal, Op, Word}
 use Rattle.pygrammar.specs.Operators.{below, chain_level, chain_word}
-use Rattle.pytree_height.specs.Heights.{height, heights, optional_height, optional_heights, comprehension_heights, keyword_heights, arg_heights}
+use Rattle.pytree_height.specs.Heights.{height, heights, optional_height, optional_heights, comprehension_heights, keyword_heights}
+use Rattle.pytree_height.specs.Heights.{arg_heights}
 use Rattle.pytree_height.specs.Heights.{optional_arg_height, arguments_height}
 use Rattle.pyunparse_text.specs.Levels.{leads, reaches, operator_level, left_level, right_level, operator_sign, unary_level, unary_sign}
 use Rattle.pyunparse_text.specs.Levels.{comparison_signs}
 use Rattle.pyunparse_text.specs.Written.{separated, beside, star_level, some_named, lone_star, element_level, tuple_level, lone_generator}
-use Rattle.pyunparse_text.specs.Written.{constant_terminal, free, bracketed, fit, with_comma, tuple_of, compared, for_in, behind_equal, with_slash}
-use Rattle.pyunparse_text.specs.Written.{with_star, Element, is_unicode, first_text, joined, field, written, elements_behind, spec_elements, each}
-use Rattle.pyunparse_text.specs.Written.{perhaps, suffixed, alone, by_name, written_keys, pairs, clauses, conditions, parameters, names, gathered}
+use Rattle.pyunparse_text.specs.Written.{constant_terminal, free, bracketed, fit, with_comma, tuple_of, compared, for_in, behind_equal}
+use Rattle.pyunparse_text.specs.Written.{with_slash}
+use Rattle.pyunparse_text.specs.Written.{with_star, Element, is_unicode, first_text, joined, field, written, elements_behind, spec_elements}
+use Rattle.pyunparse_text.specs.Written.{each}
+use Rattle.pyunparse_text.specs.Written.{perhaps, suffixed, alone, by_name, written_keys, pairs, clauses, conditions, parameters, names}
+use Rattle.pyunparse_text.specs.Written.{gathered}
 use Rattle.pyunparse_text.specs.Written.{defaults}
 use Rattle.pyunparse_text.specs.Terminals.{terminal, element_terminals}
 use Rattle.pyunparse_text.specs.Brackets.{open_after, most_open, brackets}
@@ -93,7 +101,9 @@ pub pair : {n : ℕ} {o c : Terminal} {ts : List Terminal} → Opens o → Close
 pair {n} {o} {c} {ts} p q f = record { at = λ d us. rw (p.is d, append_assoc ts (c ∷ []) us) (step d us) }
   where
     step : (d : ℕ) (us : List Terminal) → max d (most_open (suc d) (ts ++ (c ∷ us))) ≤ max (d + (n + 1)) (most_open d us)
-    step d us = let h : most_open (suc d) (ts ++ (c ∷ us)) ≤ max (suc d + n) (max (suc d) (most_open d us)) = subst (λ k. most_open (suc d) (ts ++ (c ∷ us)) ≤ max (suc d + n) (max (suc d) (most_open k us))) (q.is d) (f.at (suc d) (c ∷ us)) in omega (arith, h, start_open d us)
+    step d us = let h : most_open (suc d) (ts ++ (c ∷ us)) ≤ max (suc d + n) (max (suc d) (most_open d us)) =
+        subst (λ k. most_open (suc d) (ts ++ (c ∷ us)) ≤ max (suc d + n) (max (suc d) (most_open k us))) (q.is d) (f.at (suc d) (c ∷ us)) in
+        omega (arith, h, start_open d us)
 
 pub up : {m n : ℕ} {ts : List Terminal} → Flat m ts → m ≤ n → Flat n ts
 up {m} {n} f h = flat_more m n h f
@@ -294,13 +304,16 @@ field_flat {n} c ts es f g =
 
 value_flat : (n : ℕ) (e : Expr) (c : Conversion) (s : OptionalExpr) (es : List (Element Terminal)) → Flat (height e) (written terminal Or e)
     → Flat (optional_height s) (inner (spec_elements terminal s)) → Flat n (inner es)
-    → max (height e) (optional_height s) + 1 ≤ n → Flat n (inner (field terminal c (written terminal Or e) (spec_elements terminal s) ++ es))
+    → max (height e) (optional_height s) + 1 ≤ n
+        → Flat n (inner (field terminal c (written terminal Or e) (spec_elements terminal s) ++ es))
 value_flat n e c s es f g r h =
     rw (flat_map-append element_terminals (field terminal c (written terminal Or e) (spec_elements terminal s)) es)
-    (both (up (field_flat {n = max (height e) (optional_height s)} c (written terminal Or e) (spec_elements terminal s) (up f (omega arith)) (up g (omega arith))) h) r)
+    (both (up (field_flat {n = max (height e) (optional_height s)} c (written terminal Or e) (spec_elements terminal s) (up f (omega arith))
+        (up g (omega arith))) h) r)
 
 mutual
-  unfolding written elements_behind spec_elements each perhaps suffixed alone by_name written_keys pairs clauses conditions parameters names gathered defaults
+  unfolding written elements_behind spec_elements each perhaps suffixed alone by_name written_keys pairs clauses conditions
+      parameters names gathered defaults
 
   pub flat : (l : Level) → not_atom l ≡ true → (e : Expr) → Flat (height e) (written terminal l e)
   flat l a (Trees.Yield e) = fit_flat l Value (plain (λ d. refl) (flat_perhaps Stars refl e))
@@ -317,7 +330,8 @@ mutual
       (both (up (flat Or refl y) (omega arith))
       (plain (λ d. refl) (both (up (flat Or refl x) (omega arith)) (plain (λ d. refl) (up (flat Expression refl z) (omega arith))))))
   flat l a (Trees.BoolOp o es) =
-      fit_flat l (chain_level o) (separated_flat (Word (chain_word o)) (λ d. refl) (flat_each (below (chain_level o)) (chain_not_atom o) es))
+      fit_flat l (chain_level o)
+          (separated_flat (Word (chain_word o)) (λ d. refl) (flat_each (below (chain_level o)) (chain_not_atom o) es))
   flat l a (Trees.UnaryOp o e) = fit_flat l (unary_level o) (plain (unary_neutral o) (flat (unary_level o) (unary_not_atom o) e))
   flat l a (Trees.Compare e os es) =
       fit_flat l Compare (both (up (flat BitOr refl e) (omega arith)) (compared_flat os (all_up (flat_each BitOr refl es) (omega arith))))
@@ -326,13 +340,18 @@ mutual
       (both (up (flat (left_level o) (left_not_atom o) x) (omega arith))
       (plain (operator_neutral o) (up (flat (right_level o) (right_not_atom o) y) (omega arith))))
   flat l a (Trees.Await e) = fit_flat l Await (plain (λ d. refl) (flat Primary refl e))
-  flat l a (Trees.Attribute e x c) = fit_flat l Primary (both (flat Primary refl e) (plain (λ d. refl) (plain (λ d. refl) (flat_none (height e)))))
+  flat l a (Trees.Attribute e x c) =
+      fit_flat l Primary (both (flat Primary refl e) (plain (λ d. refl) (plain (λ d. refl) (flat_none (height e)))))
   flat l a (Trees.Call f es ks) =
       primary l a
-      (both (up (flat Primary refl f) (omega arith)) (pair {n = max (height f) (max (heights es) (keyword_heights ks))} open_round close_round (if_flat (lone_generator es ks) (up (flat_alone es) (omega arith)) (separated_flat (Op Comma) neutral (all_append (all_up (flat_each Named refl es) (omega arith)) (all_up (flat_by_name ks) (omega arith)))))))
+      (both (up (flat Primary refl f) (omega arith)) (pair {n = max (height f) (max (heights es) (keyword_heights ks))} open_round
+          close_round (if_flat (lone_generator es ks) (up (flat_alone es) (omega arith))
+          (separated_flat (Op Comma) neutral (all_append (all_up (flat_each Named refl es) (omega arith))
+          (all_up (flat_by_name ks) (omega arith)))))))
   flat l a (Trees.Subscript e s c) =
       primary l a
-      (both (up (flat Primary refl e) (omega arith)) (pair {n = max (height e) (height s)} open_square close_square (up (flat Slices refl s) (omega arith))))
+      (both (up (flat Primary refl e) (omega arith)) (pair {n = max (height e) (height s)} open_square close_square
+          (up (flat Slices refl s) (omega arith))))
   flat l a (Trees.Name x c) = plain (λ d. refl) (flat_none 1)
   flat l a (Trees.Constant v) = plain (constant_neutral v) (flat_none 1)
   flat l a (Trees.FormattedValue e c s) =
@@ -341,10 +360,13 @@ mutual
   flat l a (Trees.JoinedStr es) =
       joined_flat (is_unicode es) (first_text es) (elements_behind terminal false es) (up (flat_behind false es) (omega arith))
   flat l a (Trees.Tuple es c) =
-      tuple_flat (tuple_level l (some_named es)) (lone_star es) (flat_each (element_level l (some_named es)) (element_not_atom l (some_named es)) es)
-  flat l a (Trees.GeneratorExp e gs) = pair open_round close_round (both (up (flat Named refl e) (omega arith)) (up (flat_clauses gs) (omega arith)))
+      tuple_flat (tuple_level l (some_named es)) (lone_star es)
+          (flat_each (element_level l (some_named es)) (element_not_atom l (some_named es)) es)
+  flat l a (Trees.GeneratorExp e gs) =
+      pair open_round close_round (both (up (flat Named refl e) (omega arith)) (up (flat_clauses gs) (omega arith)))
   flat l a (Trees.ListOf es c) = pair open_square close_square (separated_flat (Op Comma) neutral (flat_each Elem refl es))
-  flat l a (Trees.ListComp e gs) = pair open_square close_square (both (up (flat Named refl e) (omega arith)) (up (flat_clauses gs) (omega arith)))
+  flat l a (Trees.ListComp e gs) =
+      pair open_square close_square (both (up (flat Named refl e) (omega arith)) (up (flat_clauses gs) (omega arith)))
   flat l a (Trees.Dict ks es) =
       pair open_curly close_curly
       (separated_flat (Op Comma) neutral (flat_pairs (max (optional_heights ks) (heights es))
@@ -354,7 +376,8 @@ mutual
       (both (up (flat Expression refl k) (omega arith))
       (plain (λ d. refl) (both (up (flat Expression refl e) (omega arith)) (up (flat_clauses gs) (omega arith)))))
   flat l a (Trees.Set es) = pair open_curly close_curly (separated_flat (Op Comma) neutral (flat_each Elem refl es))
-  flat l a (Trees.SetComp e gs) = pair open_curly close_curly (both (up (flat Named refl e) (omega arith)) (up (flat_clauses gs) (omega arith)))
+  flat l a (Trees.SetComp e gs) =
+      pair open_curly close_curly (both (up (flat Named refl e) (omega arith)) (up (flat_clauses gs) (omega arith)))
   flat l a (Trees.Slice x y z) =
       fit_flat l Slice
       (both (up (flat_perhaps Expression refl x) (omega arith))
@@ -391,7 +414,8 @@ mutual
 
   pub flat_by_name : (ks : Keywords) → AllFlat (keyword_heights ks) (by_name terminal ks)
   flat_by_name no_keyword = none
-  flat_by_name (a_keyword None e ks) = one (plain (λ d. refl) (up (flat Expression refl e) (omega arith))) (all_up (flat_by_name ks) (omega arith))
+  flat_by_name (a_keyword None e ks) = one (plain (λ d. refl) (up (flat Expression refl e) (omega arith)))
+      (all_up (flat_by_name ks) (omega arith))
   flat_by_name (a_keyword (Some x) e ks) =
       one (plain (λ d. refl) (plain (λ d. refl) (up (flat Expression refl e) (omega arith)))) (all_up (flat_by_name ks) (omega arith))
 
@@ -400,7 +424,8 @@ mutual
   flat_keys (an_optional absent ks) = no_key (keys_up (flat_keys ks) (omega arith))
   flat_keys (an_optional (present k) ks) = key (up (flat Expression refl k) (omega arith)) (keys_up (flat_keys ks) (omega arith))
 
-  flat_pairs : (n : ℕ) {ks : List (Option (List Terminal))} → KeysFlat n ks → (es : Exprs) → heights es ≤ n → AllFlat n (pairs terminal ks es)
+  flat_pairs : (n : ℕ) {ks : List (Option (List Terminal))} → KeysFlat n ks → (es : Exprs) → heights es ≤ n
+      → AllFlat n (pairs terminal ks es)
   flat_pairs n no_keys es h = none
   flat_pairs n (no_key r) no_exprs h = none
   flat_pairs n (key f r) no_exprs h = none
@@ -424,7 +449,8 @@ mutual
   pub flat_parameters : (a : Arguments) → AllFlat (arguments_height a) (parameters terminal a)
   flat_parameters (arguments ps qs v ks kds k ds) =
       all_append
-      (slash_flat (names terminal ps) (beside_flat (all_append (all_up (flat_names ps) (omega arith)) (all_up (flat_names qs) (omega arith)))
+      (slash_flat (names terminal ps)
+          (beside_flat (all_append (all_up (flat_names ps) (omega arith)) (all_up (flat_names qs) (omega arith)))
       (all_append (replicate_flat _) (equal_flat (all_up (flat_each Expression refl ds) (omega arith))))))
       (all_append (star_flat (names terminal ks) (all_up (flat_gathered Star (λ d. refl) v) (omega arith)))
       (all_append (beside_flat (all_up (flat_names ks) (omega arith)) (all_up (flat_defaults kds) (omega arith)))

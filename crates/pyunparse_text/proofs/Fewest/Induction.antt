@@ -20,19 +20,27 @@ use Rattle.pyunparse_text.proofs.Fewest.Sizes.{same, no_more}
 use Rattle.pyunparse_text.proofs.Fewest.Strings.{FormattedClaim, SpecClaim, LiteralsClaim, no_part_claim, text_part_claim, field_part_claim}
 use Rattle.pyunparse_text.proofs.Fewest.Strings.{no_spec_claim, spec_claim, no_literal_claim, text_literal_claim, formatted_literal_claim}
 use Rattle.pyunparse_text.proofs.Fewest.Strings.{joined_claim}
-use Rattle.pyunparse_text.proofs.Fewest.Claims.{Claim, here, next_claim, group_claim, if_else_claim, named_claim, await_claim, attribute_claim}
-use Rattle.pyunparse_text.proofs.Fewest.Claims.{subscript_claim, power_claim, binary_claim, unary_claim, ChainClaim, last_link_claim, link_claim}
-use Rattle.pyunparse_text.proofs.Fewest.Claims.{chain_claim, compared_claim, ComparesClaim, last_compare_claim, compares_claim, compare_claim}
+use Rattle.pyunparse_text.proofs.Fewest.Claims.{Claim, here, next_claim, group_claim, if_else_claim, named_claim, await_claim}
+use Rattle.pyunparse_text.proofs.Fewest.Claims.{attribute_claim}
+use Rattle.pyunparse_text.proofs.Fewest.Claims.{subscript_claim, power_claim, binary_claim, unary_claim, ChainClaim, last_link_claim}
+use Rattle.pyunparse_text.proofs.Fewest.Claims.{link_claim}
+use Rattle.pyunparse_text.proofs.Fewest.Claims.{chain_claim, compared_claim, ComparesClaim, last_compare_claim, compares_claim}
+use Rattle.pyunparse_text.proofs.Fewest.Claims.{compare_claim}
 use Rattle.pyunparse_text.proofs.Fewest.Claims.{name_claim, constant_claim, word_plain, strings_short, star_item_claim, star_elem_claim}
-use Rattle.pyunparse_text.proofs.Fewest.Claims.{star_part_claim, PerhapsClaim, nothing_claim, something_claim, slice_claim, slice_step_claim}
+use Rattle.pyunparse_text.proofs.Fewest.Claims.{star_part_claim, PerhapsClaim, nothing_claim, something_claim, slice_claim}
+use Rattle.pyunparse_text.proofs.Fewest.Claims.{slice_step_claim}
 use Rattle.pyunparse_text.proofs.Fewest.Claims.{YieldsClaim, yields_claim, yield_group_claim, yield_from_claim, yield_some_claim}
-use Rattle.pyunparse_text.proofs.Fewest.Entries.{PieceClaim, ListingClaim, no_item_claim, last_item_claim, item_claim, single_claim, pair_claim}
-use Rattle.pyunparse_text.proofs.Fewest.Entries.{pairs_of_claim, argument_claim, star_argument_claim, keyword_argument_claim, double_argument_claim}
-use Rattle.pyunparse_text.proofs.Fewest.Entries.{list_claim, set_claim, dict_claim, empty_tuple_claim, star_tuple_claim, subject_tuple_claim}
+use Rattle.pyunparse_text.proofs.Fewest.Entries.{PieceClaim, ListingClaim, no_item_claim, last_item_claim, item_claim, single_claim}
+use Rattle.pyunparse_text.proofs.Fewest.Entries.{pair_claim}
+use Rattle.pyunparse_text.proofs.Fewest.Entries.{pairs_of_claim, argument_claim, star_argument_claim, keyword_argument_claim}
+use Rattle.pyunparse_text.proofs.Fewest.Entries.{double_argument_claim}
+use Rattle.pyunparse_text.proofs.Fewest.Entries.{list_claim, set_claim, dict_claim, empty_tuple_claim, star_tuple_claim}
+use Rattle.pyunparse_text.proofs.Fewest.Entries.{subject_tuple_claim}
 use Rattle.pyunparse_text.proofs.Fewest.Entries.{tuple_claim, parts_claim, star_slices_claim}
 use Rattle.pyunparse_text.proofs.Fewest.Calls.{call_claim}
 use Rattle.pyunparse_text.proofs.Fewest.Clauses.{IfsClaim, no_if_claim, if_one_claim, ForInClaim, target_in_claim, CompClaim, for_claim}
-use Rattle.pyunparse_text.proofs.Fewest.Clauses.{async_for_claim, CompsClaim, one_comp_claim, comps_claim, generator_group_claim, list_comp_claim}
+use Rattle.pyunparse_text.proofs.Fewest.Clauses.{async_for_claim, CompsClaim, one_comp_claim, comps_claim, generator_group_claim}
+use Rattle.pyunparse_text.proofs.Fewest.Clauses.{list_comp_claim}
 use Rattle.pyunparse_text.proofs.Fewest.Clauses.{set_comp_claim, dict_comp_claim, call_generator_claim}
 use Rattle.pyunparse_text.proofs.Fewest.Params.{SuffixClaim, no_suffix_claim, suffix_claim, parameter_claim, slash_claim, bare_star_claim}
 use Rattle.pyunparse_text.proofs.Fewest.Params.{star_parameter_claim, star_annotation_claim, double_parameter_claim, lambda_claim}

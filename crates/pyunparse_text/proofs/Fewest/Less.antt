@@ -5,18 +5,23 @@
 use Rattle.std.proofs.Common.{◌≡◌, refl, ℕ, ◌+◌, ◌≤◌, arith, List, [], ◌∷◌, length, Bool, true, false, length-append}
 use Rattle.std.specs.Prelude.{◌-◌, not}
 use Rattle.pygrammar.specs.declared.levels.Level.{Level}
-use Rattle.pygrammar.specs.declared.levels.Level.TheVariants.{Value, Stars, StarItem, Named, Expression, BitOr, Atom, Elem, Slices, Part, Slice}
+use Rattle.pygrammar.specs.declared.levels.Level.TheVariants.{Value, Stars, StarItem, Named, Expression, BitOr, Atom, Elem, Slices, Part}
+use Rattle.pygrammar.specs.declared.levels.Level.TheVariants.{Slice}
 use Rattle.pygrammar.specs.declared.levels.Level.TheVariants.{Subject}
 use Rattle.pytree_node.specs.Trees
 use Rattle.pytree_node.specs.Trees.{Expr, Exprs, no_exprs, an_expr}
 use Rattle.pygrammar.specs.Operators.{below}
 use Rattle.pyunparse_text.specs.Levels.{reaches}
-use Rattle.pyunparse_text.specs.Written.{Maker, separated, some_named, lone_star, element_level, tuple_level, fit, with_comma, tuple_of, written}
+use Rattle.pyunparse_text.specs.Written.{Maker, separated, some_named, lone_star, element_level, tuple_level, fit, with_comma, tuple_of}
+use Rattle.pyunparse_text.specs.Written.{written}
 use Rattle.pyunparse_text.specs.Written.{each}
 use Rattle.pyunparse_text.proofs.Fewest.Counted.{one}
-use Rattle.pyunparse_text.proofs.Fewest.Reach.{implied, from_below, to_expression, length_bracketed, fit_less, fit_more, operator_deep, chain_deep}
-use Rattle.pyunparse_text.proofs.Fewest.Reach.{unary_deep, deep_expression, deep_compare, deep_await, deep_primary, part_elem_value, part_elem_named}
-use Rattle.pyunparse_text.proofs.Fewest.Reach.{part_elem_slice, elem_star_value, elem_star_named, elem_star_slice, star_elem_value, star_elem_slice}
+use Rattle.pyunparse_text.proofs.Fewest.Reach.{implied, from_below, to_expression, length_bracketed, fit_less, fit_more, operator_deep}
+use Rattle.pyunparse_text.proofs.Fewest.Reach.{chain_deep}
+use Rattle.pyunparse_text.proofs.Fewest.Reach.{unary_deep, deep_expression, deep_compare, deep_await, deep_primary, part_elem_value}
+use Rattle.pyunparse_text.proofs.Fewest.Reach.{part_elem_named}
+use Rattle.pyunparse_text.proofs.Fewest.Reach.{part_elem_slice, elem_star_value, elem_star_named, elem_star_slice, star_elem_value}
+use Rattle.pyunparse_text.proofs.Fewest.Reach.{star_elem_slice}
 use Rattle.pyunparse_text.proofs.Fewest.Reach.{star_named_not, elem_named_is, fit_two}
 
 -- what may stand at a level: a Starred, a Slice and a Tuple with Slices have their own places
@@ -122,7 +127,8 @@ length_separated t [] = refl
 length_separated t (ts ∷ []) = omega arith
 length_separated t (ts ∷ (us ∷ tss)) = simp length-append (omega (arith, length_separated t (us ∷ tss)))
 
-pub length_with_comma : (ts : List (Unit {0})) (tss : List (List (Unit {0}))) → length (with_comma one (ts ∷ tss)) ≡ length ts + 1 + (total tss - 1)
+pub length_with_comma : (ts : List (Unit {0})) (tss : List (List (Unit {0})))
+    → length (with_comma one (ts ∷ tss)) ≡ length ts + 1 + (total tss - 1)
 length_with_comma ts tss = simp length-append (omega (arith, length_separated tt tss))
 
 pub total_less : (l m : Level) → ((e : Expr) → length (written one l e) ≤ length (written one m e)) → (es : Exprs)
@@ -320,7 +326,8 @@ step_less l (Trees.Subscript _ _ _) h = fit_less l (below l) _ _ (from_below l _
 step_less l (Trees.Slice _ _ _) h = fit_less l (below l) _ _ (from_below l _)
 step_less l (Trees.Starred e c) h = star l h
   where
-    star : (l : Level) → star_place (below l) ≡ true → length (written one l (Trees.Starred e c)) ≤ length (written one (below l) (Trees.Starred e c))
+    star : (l : Level) → star_place (below l) ≡ true → length (written one l (Trees.Starred e c)) ≤ length
+        (written one (below l) (Trees.Starred e c))
     star Value h = omega arith
     star Stars h = omega arith
     star _ h = absurd (cc)

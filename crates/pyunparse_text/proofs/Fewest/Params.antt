@@ -62,15 +62,19 @@ pub star_parameter_claim : {b : Bool} {x : Spelled} {ts : List Terminal} {a : Op
 star_parameter_claim {b} p = record { standing = G.star_parameter (p.is Colon (colon_signed b)); short = token refl (token refl p.short) }
 
 pub star_annotation_claim : {x : Spelled} {ts : List Terminal} {e : Expr} → Claim BitOr ts e
-    → PieceClaim (Parameter true) (Op Star ∷ (Ident x ∷ (Op Colon ∷ (Op Star ∷ ts)))) (Gathered (arg x.form (present (Trees.Starred e Load))))
+    → PieceClaim (Parameter true) (Op Star ∷ (Ident x ∷ (Op Colon ∷ (Op Star ∷ ts))))
+        (Gathered (arg x.form (present (Trees.Starred e Load))))
 unfolding suffixed written
-star_annotation_claim p = record { standing = G.star_annotation (here p); short = token refl (token refl (token refl (token refl p.short))) }
+star_annotation_claim p = record { standing = G.star_annotation (here p); short =
+    token refl (token refl (token refl (token refl p.short))) }
 
 pub double_parameter_claim : {b : Bool} {x : Spelled} {ts : List Terminal} {a : OptionalExpr} → SuffixClaim (cond b (Some Colon) None) ts a
     → PieceClaim (Parameter b) (Op DoubleStar ∷ (Ident x ∷ ts)) (Collected (arg x.form a))
-double_parameter_claim {b} p = record { standing = G.double_parameter (p.is Colon (colon_signed b)); short = token refl (token refl p.short) }
+double_parameter_claim {b} p = record { standing = G.double_parameter (p.is Colon (colon_signed b)); short =
+    token refl (token refl p.short) }
 
-pub lambda_claim : {ts us : List Terminal} {ps : List Entry} {a : Arguments} {e : Expr} → ListingClaim (Parameter false) ts ps → arranged ps ≡ Some a
+pub lambda_claim : {ts us : List Terminal} {ps : List Entry} {a : Arguments} {e : Expr}
+    → ListingClaim (Parameter false) ts ps → arranged ps ≡ Some a
     → Claim Expression us e → Claim Expression (Word Key.Lambda ∷ (ts ++ (Op Colon ∷ us))) (Trees.Lambda a e)
 unfolding written
 lambda_claim {ts} {us} {ps} {a} {e} c h p =

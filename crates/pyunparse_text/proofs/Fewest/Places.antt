@@ -28,7 +28,8 @@ use Rattle.pyunparse_text.proofs.Fewest.Less.{allowed}
 use Rattle.pyunparse_text.proofs.Fewest.Claims.{given, here}
 use Rattle.pyunparse_text.proofs.Fewest.Entries.{entry_in, listing_of}
 use Rattle.pyunparse_text.proofs.Fewest.Clauses.{mapped_is, both_is, star_stored, stored_same, SameClass, SameList, same_grown, tuple_same}
-use Rattle.pyunparse_text.proofs.Fewest.Calls.{sorted, sorted_in_order, sorted_positional, sorted_keywords, sorted_written, sorted_short, appended}
+use Rattle.pyunparse_text.proofs.Fewest.Calls.{sorted, sorted_in_order, sorted_positional, sorted_keywords, sorted_written, sorted_short}
+use Rattle.pyunparse_text.proofs.Fewest.Calls.{appended}
 use Rattle.pyunparse_text.proofs.Fewest.Calls.{firsts_standing, lasts_standing}
 use Rattle.pyunparse_text.proofs.Fewest.Arranged.{parameters_are}
 use Rattle.pyunparse_text.proofs.Fewest.Induction.{claim, listing}
@@ -62,8 +63,10 @@ deleted_class : (e f : Expr) → deleted e ≡ Some f → SameClass e f
 deleted_class (Trees.Name x c) f h = given (SameClass (Trees.Name x c)) h (record { named = refl; starred = refl })
 deleted_class (Trees.Attribute e x c) f h = given (SameClass (Trees.Attribute e x c)) h (record { named = refl; starred = refl })
 deleted_class (Trees.Subscript e s c) f h = given (SameClass (Trees.Subscript e s c)) h (record { named = refl; starred = refl })
-deleted_class (Trees.Tuple es c) f h = let w = mapped_is (λ fs. Trees.Tuple fs Del) (all_deleted es) f h in subst (SameClass (Trees.Tuple es c)) w.2 (record { named = refl; starred = refl })
-deleted_class (Trees.ListOf es c) f h = let w = mapped_is (λ fs. Trees.ListOf fs Del) (all_deleted es) f h in subst (SameClass (Trees.ListOf es c)) w.2 (record { named = refl; starred = refl })
+deleted_class (Trees.Tuple es c) f h = let w = mapped_is (λ fs. Trees.Tuple fs Del) (all_deleted es) f h in
+    subst (SameClass (Trees.Tuple es c)) w.2 (record { named = refl; starred = refl })
+deleted_class (Trees.ListOf es c) f h = let w = mapped_is (λ fs. Trees.ListOf fs Del) (all_deleted es) f h in
+    subst (SameClass (Trees.ListOf es c)) w.2 (record { named = refl; starred = refl })
 deleted_class _ f h = absurd (cc)
 
 module _ {A : Type 0} (make : Maker A) where
@@ -74,13 +77,17 @@ module _ {A : Type 0} (make : Maker A) where
     deleted_same (Trees.Name x c) s h l = given (λ z. written make l (Trees.Name x c) ≡ written make l z) h refl
     deleted_same (Trees.Attribute e x c) s h l = given (λ z. written make l (Trees.Attribute e x c) ≡ written make l z) h refl
     deleted_same (Trees.Subscript e i c) s h l = given (λ z. written make l (Trees.Subscript e i c) ≡ written make l z) h refl
-    deleted_same (Trees.Tuple es c) s h l = let w = mapped_is (λ fs. Trees.Tuple fs Del) (all_deleted es) s h in tuple_same make l es w.0 (all_same es w.0 w.1) ∙ ap (written make l) w.2
-    deleted_same (Trees.ListOf es c) s h l = let w = mapped_is (λ fs. Trees.ListOf fs Del) (all_deleted es) s h in ap (λ z. enclosed make (leading make LSqb) RSqb (listed make z)) ((all_same es w.0 w.1).pieces_same Elem) ∙ ap (written make l) w.2
+    deleted_same (Trees.Tuple es c) s h l = let w = mapped_is (λ fs. Trees.Tuple fs Del) (all_deleted es) s h in
+        tuple_same make l es w.0 (all_same es w.0 w.1) ∙ ap (written make l) w.2
+    deleted_same (Trees.ListOf es c) s h l = let w = mapped_is (λ fs. Trees.ListOf fs Del) (all_deleted es) s h in
+        ap (λ z. enclosed make (leading make LSqb) RSqb (listed make z)) ((all_same es w.0 w.1).pieces_same Elem) ∙ ap (written make l) w.2
     deleted_same _ s h l = absurd (cc)
 
     all_same : (es fs : Exprs) → all_deleted es ≡ Some fs → SameList make es fs
     all_same no_exprs fs h = given (SameList make no_exprs) h (record { pieces_same = λ l. refl; named = refl; lone = refl; empty = refl })
-    all_same (an_expr e es) fs h = let w = both_is (deleted e) (all_deleted es) fs h in subst (SameList make (an_expr e es)) w.4 (same_grown make e w.0 es w.1 (λ l. deleted_same e w.0 w.2 l) (deleted_class e w.0 w.2) (all_same es w.1 w.3))
+    all_same (an_expr e es) fs h = let w = both_is (deleted e) (all_deleted es) fs h in
+        subst (SameList make (an_expr e es)) w.4 (same_grown make e w.0 es w.1 (λ l. deleted_same e w.0 w.2 l)
+        (deleted_class e w.0 w.2) (all_same es w.1 w.3))
 
 pub del_target_law : {ts : List Terminal} {s : Expr} → G.DelTarget ts s
     → G.DelTarget (written terminal Expression s) s × (token_count (written terminal Expression s) ≤ token_count ts)
@@ -115,8 +122,10 @@ module _ {A : Type 0} (make : Maker A) where
   target_is (Trees.Subscript e i c) s h =
       given (λ z. written make Named z ≡ item_target make z) h
       (fit_as_is make Named Primary _ deep_primary.named ∙ sym (fit_as_is make Expression Primary _ expression_primary))
-  target_is (Trees.Tuple es c) s h = let w = mapped_is (λ fs. Trees.Tuple fs Store) (all_stored es) s h in subst (λ z. written make Named z ≡ item_target make z) w.2 refl
-  target_is (Trees.ListOf es c) s h = let w = mapped_is (λ fs. Trees.ListOf fs Store) (all_stored es) s h in subst (λ z. written make Named z ≡ item_target make z) w.2 refl
+  target_is (Trees.Tuple es c) s h = let w = mapped_is (λ fs. Trees.Tuple fs Store) (all_stored es) s h in
+      subst (λ z. written make Named z ≡ item_target make z) w.2 refl
+  target_is (Trees.ListOf es c) s h = let w = mapped_is (λ fs. Trees.ListOf fs Store) (all_stored es) s h in
+      subst (λ z. written make Named z ≡ item_target make z) w.2 refl
   target_is (Trees.Starred e c) s h = let w = star_stored e c s h in subst (λ z. written make Named z ≡ item_target make z) w.2 refl
   target_is _ s h = absurd (cc)
 
@@ -136,7 +145,8 @@ item_target_law {ts} (G.star_target {ts = us} {e = e} {s = s} p h) =
     let c = claim p in
     let q = stored_same terminal (Trees.Starred e Load) s h Named ∙ target_is terminal (Trees.Starred e Load) s h in
     let r = stored_same one (Trees.Starred e Load) s h Named ∙ target_is one (Trees.Starred e Load) s h in
-    (subst (λ z. G.ItemTarget z s) q (G.star_target (here c) h), no_more (item_same s) (subst (λ z. AtLeast z (Op Star ∷ us)) r (token refl c.short)))
+    (subst (λ z. G.ItemTarget z s) q (G.star_target (here c) h),
+        no_more (item_same s) (subst (λ z. AtLeast z (Op Star ∷ us)) r (token refl c.short)))
 
 -- parameters, with or without annotations
 same_entries : {A : Type 0} (make : Maker A) (b : Bool) (es : List Entry)
@@ -144,8 +154,10 @@ same_entries : {A : Type 0} (make : Maker A) (b : Bool) (es : List Entry)
 same_entries make b [] = refl
 same_entries make b (e ∷ es) = ap (λ z. entry_in make (Parameter false) e ∷ z) (same_entries make b es)
 
-pub parameters_law : {b : Bool} {ts : List Terminal} {ps : List Entry} {a : Arguments} → G.Listing (Parameter b) ts ps → arranged ps ≡ Some a
-    → G.Listing (Parameter b) (separated (Op Comma) (parameters terminal a)) ps × (token_count (separated (Op Comma) (parameters terminal a)) ≤ token_count ts)
+pub parameters_law : {b : Bool} {ts : List Terminal} {ps : List Entry} {a : Arguments}
+    → G.Listing (Parameter b) ts ps → arranged ps ≡ Some a
+    → G.Listing (Parameter b) (separated (Op Comma) (parameters terminal a)) ps ×
+        (token_count (separated (Op Comma) (parameters terminal a)) ≤ token_count ts)
 parameters_law {b} {ts} {ps} {a} p h =
     let c = listing p in
     let q = ap (separated (Op Comma)) (same_entries terminal b ps ∙ sym (parameters_are terminal ps a h)) in
@@ -159,7 +171,9 @@ parameters_law {b} {ts} {ps} {a} p h =
 -- no exception for a generator
 pub bases_law : {us : List Terminal} {es : List Entry} → G.Listing Argument us es →
     (fs : List Entry) × G.Listing Argument (separated (Op Comma)
-    (each terminal Named (positional es) ++ by_name terminal (keywords es))) fs × (in_order false false fs ≡ true) × (positional fs ≡ positional es) × (keywords fs ≡ keywords es) × (token_count (separated (Op Comma) (each terminal Named (positional es) ++ by_name terminal (keywords es))) ≤ token_count us)
+    (each terminal Named (positional es) ++ by_name terminal (keywords es))) fs × (in_order false false fs ≡ true) ×
+        (positional fs ≡ positional es) × (keywords fs ≡ keywords es) ×
+        (token_count (separated (Op Comma) (each terminal Named (positional es) ++ by_name terminal (keywords es))) ≤ token_count us)
 bases_law {us} {es} p =
     let c = listing p in
     let q = sym (sorted_written terminal es) in
@@ -171,5 +185,6 @@ bases_law {us} {es} p =
       sorted_in_order es es,
       sorted_positional es es,
       sorted_keywords es es,
-      no_more (listed_same (append_same (same_each Named (positional es)) (same_by_name (keywords es)))) (subst (λ z. AtLeast (separated tt z) us) r (fewer (sorted_short es) c.short)),
+      no_more (listed_same (append_same (same_each Named (positional es)) (same_by_name (keywords es))))
+          (subst (λ z. AtLeast (separated tt z) us) r (fewer (sorted_short es) c.short)),
     )

@@ -1,6 +1,7 @@
 -- Carries: the laws of fewest brackets. On: which levels lead to which, and what stands at one of
 -- them in brackets or without.
-use Rattle.std.proofs.Common.{◌≡◌, refl, sym, ap, subst, ◌∙◌, ℕ, zero, suc, ◌+◌, ◌≤◌, ◌<◌, arith, List, [], ◌∷◌, length, Bool, true, false, cond}
+use Rattle.std.proofs.Common.{◌≡◌, refl, sym, ap, subst, ◌∙◌, ℕ, zero, suc, ◌+◌, ◌≤◌, ◌<◌, arith, List, [], ◌∷◌, length, Bool, true, false}
+use Rattle.std.proofs.Common.{cond}
 use Rattle.std.proofs.Common.{length-append}
 use Rattle.std.specs.Prelude.{eqb, get_or, ◌||◌}
 use Rattle.std.specs.List.{list_all}
@@ -13,8 +14,10 @@ use Rattle.pytree_node.specs.declared.operators.UnaryOperator.TheVariants as Un
 use Rattle.pytree_node.specs.declared.operators.BoolOperator.{BoolOperator}
 use Rattle.pytree_node.specs.declared.operators.BoolOperator.TheVariants as Join
 use Rattle.pygrammar.specs.declared.levels.Level.{Level}
-use Rattle.pygrammar.specs.declared.levels.Level.TheVariants.{Value, Stars, StarItem, Named, Expression, Or, And, Not, Compare, BitOr, BitXor, BitAnd}
-use Rattle.pygrammar.specs.declared.levels.Level.TheVariants.{Shift, Sum, Term, Factor, Power, Await, Primary, Atom, Elem, Slices, Part, Slice}
+use Rattle.pygrammar.specs.declared.levels.Level.TheVariants.{Value, Stars, StarItem, Named, Expression, Or, And, Not, Compare, BitOr}
+use Rattle.pygrammar.specs.declared.levels.Level.TheVariants.{BitXor, BitAnd}
+use Rattle.pygrammar.specs.declared.levels.Level.TheVariants.{Shift, Sum, Term, Factor, Power, Await, Primary, Atom, Elem, Slices, Part}
+use Rattle.pygrammar.specs.declared.levels.Level.TheVariants.{Slice}
 use Rattle.pygrammar.specs.declared.levels.Level.TheVariants.{Subject}
 use Rattle.pytree_node.specs.Trees.{Expr}
 use Rattle.pytoken.specs.Terminals.{Terminal}
@@ -29,7 +32,8 @@ use Rattle.pyunparse_text.proofs.Fewest.Counted.{one}
 
 abbrev pub levels : List Level
 levels =
-    Subject ∷ Value ∷ Slices ∷ Stars ∷ Part ∷ Slice ∷ StarItem ∷ Elem ∷ Named ∷ Expression ∷ Or ∷ And ∷ Not ∷ Compare ∷ BitOr ∷ BitXor ∷ BitAnd ∷ Shift ∷ Sum ∷ Term ∷ Factor ∷ Power ∷ Await ∷ Primary ∷ Atom ∷ []
+    Subject ∷ Value ∷ Slices ∷ Stars ∷ Part ∷ Slice ∷ StarItem ∷ Elem ∷ Named ∷ Expression ∷ Or ∷ And ∷ Not ∷ Compare ∷ BitOr ∷ BitXor ∷
+        BitAnd ∷ Shift ∷ Sum ∷ Term ∷ Factor ∷ Power ∷ Await ∷ Primary ∷ Atom ∷ []
 
 -- a level's place among them
 record Placed (l : Level) : Type 0 where
@@ -81,7 +85,8 @@ unfolding leads
 climb_in zero l k ts e h p = absurd (cc)
 climb_in (suc n) l k ts e h p = by (eqb (rank l) (rank k)) refl h (λ q. climb_in n (below l) k ts e q p)
   where
-    by : (b : Bool) → eqb (rank l) (rank k) ≡ b → (b || leads n (below l) k) ≡ true → (leads n (below l) k ≡ true → G.Derives (below l) ts e)
+    by : (b : Bool) → eqb (rank l) (rank k) ≡ b → (b || leads n (below l) k) ≡ true
+        → (leads n (below l) k ≡ true → G.Derives (below l) ts e)
         → G.Derives l ts e
     by true q h r = subst (λ x. G.Derives x ts e) (sym (same_level l k q)) p
     by false q h r = G.next (r h)
@@ -221,7 +226,8 @@ fits l k ts e p g = by (reaches l k) refl
     by true q = climb l k q p
     by false q = climb l Atom (to_atom l) g
 
-pub fits_within : (l k : Level) (ts : List Terminal) (e : Expr) → reaches l k ≡ true → G.Derives k ts e → G.Derives l (fit terminal l k ts) e
+pub fits_within : (l k : Level) (ts : List Terminal) (e : Expr) → reaches l k ≡ true → G.Derives k ts e
+    → G.Derives l (fit terminal l k ts) e
 unfolding fit
 fits_within l k ts e h p = subst (λ b. G.Derives l (cond b ts (bracketed terminal ts)) e) (sym h) (climb l k h p)
 
@@ -241,7 +247,8 @@ pub length_bracketed : (ts : List (Unit {0})) → length (bracketed one ts) ≡ 
 length_bracketed ts = simp length-append (omega arith)
 
 -- more levels lead to it: no more brackets
-pub fit_less : (l m k : Level) (ts : List (Unit {0})) → implied (reaches m k) (reaches l k) ≡ true → length (fit one l k ts) ≤ length (fit one m k ts)
+pub fit_less : (l m k : Level) (ts : List (Unit {0})) → implied (reaches m k) (reaches l k) ≡ true
+    → length (fit one l k ts) ≤ length (fit one m k ts)
 unfolding fit
 fit_less l m k ts h = by (reaches l k) (reaches m k) h
   where

@@ -1,14 +1,16 @@
 -- How many tokens an expression is written in.
 --
 -- Carries: same, size_is, for Shortest, Patterns. On: Counted.
-use Rattle.std.proofs.Common.{◌≡◌, refl, sym, ap, subst, ℕ, zero, suc, ◌≤◌, arith, List, [], ◌∷◌, ◌++◌, length, Option, Some, None, Bool, true, false}
+use Rattle.std.proofs.Common.{◌≡◌, refl, sym, ap, subst, ℕ, zero, suc, ◌≤◌, arith, List, [], ◌∷◌, ◌++◌, length, Option, Some, None, Bool}
+use Rattle.std.proofs.Common.{true, false}
 use Rattle.std.proofs.Common.{cond, length-append}
 use Rattle.std.specs.Prelude.{◌-◌, map, replicate}
 use Rattle.std.specs.List.{flat_map}
 use Rattle.std.proofs.lemmas.Grind.{flat_map-append}
 use Rattle.pyfstring.specs.declared.parts.Conversion.{Conversion}
 use Rattle.pylex_lexeme.specs.declared.kinds.Exact.{Exact}
-use Rattle.pylex_lexeme.specs.declared.kinds.Exact.TheVariants.{LPar, RPar, LSqb, RSqb, LBrace, RBrace, Colon, Comma, Star, Equal, DoubleStar}
+use Rattle.pylex_lexeme.specs.declared.kinds.Exact.TheVariants.{LPar, RPar, LSqb, RSqb, LBrace, RBrace, Colon, Comma, Star, Equal}
+use Rattle.pylex_lexeme.specs.declared.kinds.Exact.TheVariants.{DoubleStar}
 use Rattle.pytree_node.specs.declared.operators.Operator.{Operator}
 use Rattle.pytree_node.specs.declared.operators.Operator.TheVariants as Bin
 use Rattle.pytree_node.specs.declared.operators.UnaryOperator.{UnaryOperator}
@@ -16,23 +18,31 @@ use Rattle.pytree_node.specs.declared.operators.UnaryOperator.TheVariants as Un
 use Rattle.pytree_node.specs.declared.operators.Comparison.{Comparison}
 use Rattle.pytree_node.specs.declared.operators.Comparison.TheVariants as Is
 use Rattle.pygrammar.specs.declared.levels.Level.{Level}
-use Rattle.pygrammar.specs.declared.levels.Level.TheVariants.{Value, Stars, Named, Expression, Or, Compare, BitOr, Await, Primary, Elem, Slices, Part}
+use Rattle.pygrammar.specs.declared.levels.Level.TheVariants.{Value, Stars, Named, Expression, Or, Compare, BitOr, Await, Primary, Elem}
+use Rattle.pygrammar.specs.declared.levels.Level.TheVariants.{Slices, Part}
 use Rattle.pygrammar.specs.declared.levels.Level.TheVariants.{Slice}
 use Rattle.pytree_node.specs.Values
 use Rattle.pytree_node.specs.Trees
 use Rattle.pytree_node.specs.Trees.{Expr, Exprs, no_exprs, an_expr, OptionalExpr, absent, present, OptionalExprs, no_optional, an_optional}
-use Rattle.pytree_node.specs.Trees.{Comprehensions, no_comprehension, a_comprehension, Keywords, no_keyword, a_keyword, arg, Args, no_arg, an_arg}
+use Rattle.pytree_node.specs.Trees.{Comprehensions, no_comprehension, a_comprehension, Keywords, no_keyword, a_keyword, arg, Args, no_arg}
+use Rattle.pytree_node.specs.Trees.{an_arg}
 use Rattle.pytree_node.specs.Trees.{OptionalArg, absent_arg, present_arg, Arguments, arguments}
 use Rattle.pytoken.specs.Terminals.{Terminal, Op, Word}
 use Rattle.pygrammar.specs.OpenStrings.{token_count}
 use Rattle.pygrammar.specs.Operators.{below, chain_level, chain_word}
-use Rattle.pyunparse_text.specs.Levels.{reaches, operator_level, left_level, right_level, operator_sign, unary_level, unary_sign, comparison_signs}
-use Rattle.pyunparse_text.specs.Written.{Element, separated, beside, star_level, some_named, lone_star, element_level, tuple_level, lone_generator}
-use Rattle.pyunparse_text.specs.Written.{constant_terminal, is_unicode, first_text, joined, free, bracketed, fit, with_comma, tuple_of, compared}
-use Rattle.pyunparse_text.specs.Written.{for_in, behind_equal, with_slash, with_star, field, written, elements_behind, spec_elements, each, perhaps}
-use Rattle.pyunparse_text.specs.Written.{suffixed, alone, by_name, written_keys, pairs, clauses, conditions, parameters, names, gathered, defaults}
+use Rattle.pyunparse_text.specs.Levels.{reaches, operator_level, left_level, right_level, operator_sign, unary_level, unary_sign}
+use Rattle.pyunparse_text.specs.Levels.{comparison_signs}
+use Rattle.pyunparse_text.specs.Written.{Element, separated, beside, star_level, some_named, lone_star, element_level, tuple_level}
+use Rattle.pyunparse_text.specs.Written.{lone_generator}
+use Rattle.pyunparse_text.specs.Written.{constant_terminal, is_unicode, first_text, joined, free, bracketed, fit, with_comma, tuple_of}
+use Rattle.pyunparse_text.specs.Written.{compared}
+use Rattle.pyunparse_text.specs.Written.{for_in, behind_equal, with_slash, with_star, field, written, elements_behind, spec_elements, each}
+use Rattle.pyunparse_text.specs.Written.{perhaps}
+use Rattle.pyunparse_text.specs.Written.{suffixed, alone, by_name, written_keys, pairs, clauses, conditions, parameters, names, gathered}
+use Rattle.pyunparse_text.specs.Written.{defaults}
 use Rattle.pyunparse_text.specs.Terminals.{terminal, element_terminals}
-use Rattle.pyunparse_text.proofs.Fewest.Counted.{one, AtLeast, Counted, is_plain, counted_none, counted_token, counted_both, count_is, Silent, silent}
+use Rattle.pyunparse_text.proofs.Fewest.Counted.{one, AtLeast, Counted, is_plain, counted_none, counted_token, counted_both, count_is}
+use Rattle.pyunparse_text.proofs.Fewest.Counted.{Silent, silent}
 use Rattle.pyunparse_text.proofs.Fewest.Counted.{silent_none, silent_token, silent_both, silent_field, counted_string}
 
 -- as many marks as tokens
@@ -51,7 +61,8 @@ both {ms} {ns} {ts} {us} c d = record { is = subst (λ k. Counted k (ts ++ us)) 
 pub last : {t : Terminal} → is_plain t ≡ true → Same (tt ∷ []) (t ∷ [])
 last p = token p same_none
 
-pub in_brackets : {ms : List (Unit {0})} {ts : List Terminal} (x y : Exact) → Same ms ts → Same (tt ∷ (ms ++ (tt ∷ []))) (Op x ∷ (ts ++ (Op y ∷ [])))
+pub in_brackets : {ms : List (Unit {0})} {ts : List Terminal} (x y : Exact) → Same ms ts
+    → Same (tt ∷ (ms ++ (tt ∷ []))) (Op x ∷ (ts ++ (Op y ∷ [])))
 in_brackets x y c = token refl (both c (last refl))
 
 pub fit_same : {ms : List (Unit {0})} {ts : List Terminal} (l k : Level) → Same ms ts → Same (fit one l k ms) (fit terminal l k ts)
@@ -65,7 +76,8 @@ fit_same {ms} {ts} l k c = by (reaches l k)
 -- lists of lists
 pub data AllSame : List (List (Unit {0})) → List (List Terminal) → Type 0 where
   none : AllSame [] []
-  more : {ms : List (Unit {0})} {ts : List Terminal} {mss : List (List (Unit {0}))} {tss : List (List Terminal)} → Same ms ts → AllSame mss tss
+  more : {ms : List (Unit {0})} {ts : List Terminal} {mss : List (List (Unit {0}))} {tss : List (List Terminal)}
+      → Same ms ts → AllSame mss tss
       → AllSame (ms ∷ mss) (ts ∷ tss)
 
 pub separated_same : {mss : List (List (Unit {0}))} {tss : List (List Terminal)} (t : Terminal) → is_plain t ≡ true → AllSame mss tss
@@ -74,7 +86,8 @@ separated_same t p none = same_none
 separated_same t p (more c none) = c
 separated_same t p (more c (more d r)) = both c (token p (separated_same t p (more d r)))
 
-pub listed_same : {mss : List (List (Unit {0}))} {tss : List (List Terminal)} → AllSame mss tss → Same (separated tt mss) (separated (Op Comma) tss)
+pub listed_same : {mss : List (List (Unit {0}))} {tss : List (List Terminal)} → AllSame mss tss
+    → Same (separated tt mss) (separated (Op Comma) tss)
 listed_same r = separated_same (Op Comma) refl r
 
 pub with_comma_same : {mss : List (List (Unit {0}))} {tss : List (List Terminal)} → AllSame mss tss
@@ -200,7 +213,8 @@ inner_field c ts es p q =
     (silent_field {c = c} (silent_token refl (silent_both p (silent_token refl silent_none))) q silent_none)
 
 mutual
-  unfolding written elements_behind spec_elements each perhaps suffixed alone by_name written_keys pairs clauses conditions parameters names gathered defaults
+  unfolding written elements_behind spec_elements each perhaps suffixed alone by_name written_keys pairs clauses conditions
+      parameters names gathered defaults
 
   pub same : (l : Level) (e : Expr) → Same (written one l e) (written terminal l e)
   same l (Trees.Yield e) = fit_same l Value (token refl (same_perhaps Stars e))
@@ -212,7 +226,8 @@ mutual
   same l (Trees.BoolOp o es) = fit_same l (chain_level o) (separated_same (Word (chain_word o)) refl (same_each (below (chain_level o)) es))
   same l (Trees.UnaryOp o e) = fit_same l (unary_level o) (token (unary_plain o) (same (unary_level o) e))
   same l (Trees.Compare e os es) = fit_same l Compare (both (same BitOr e) (compared_same os (same_each BitOr es)))
-  same l (Trees.BinOp x o y) = fit_same l (operator_level o) (both (same (left_level o) x) (token (operator_plain o) (same (right_level o) y)))
+  same l (Trees.BinOp x o y) =
+      fit_same l (operator_level o) (both (same (left_level o) x) (token (operator_plain o) (same (right_level o) y)))
   same l (Trees.Await e) = fit_same l Await (token refl (same Primary e))
   same l (Trees.Attribute e x c) = fit_same l Primary (both (same Primary e) (token refl (last refl)))
   same l (Trees.Call f es ks) =
@@ -226,13 +241,15 @@ mutual
       string_same (field terminal c (written terminal Or e) (spec_elements terminal s))
       (inner_field c (written terminal Or e) (spec_elements terminal s) (silent (same Or e).is) (silent_spec s))
   same l (Trees.JoinedStr es) =
-      joined_same (is_unicode es) (first_text es) (elements_behind one false es) (elements_behind terminal false es) (silent_behind false es)
+      joined_same (is_unicode es) (first_text es) (elements_behind one false es) (elements_behind terminal false es)
+          (silent_behind false es)
   same l (Trees.Tuple es c) = tuple_same (tuple_level l (some_named es)) (lone_star es) (same_each (element_level l (some_named es)) es)
   same l (Trees.GeneratorExp e gs) = in_brackets LPar RPar (both (same Named e) (same_clauses gs))
   same l (Trees.ListOf es c) = in_brackets LSqb RSqb (listed_same (same_each Elem es))
   same l (Trees.ListComp e gs) = in_brackets LSqb RSqb (both (same Named e) (same_clauses gs))
   same l (Trees.Dict ks es) = in_brackets LBrace RBrace (listed_same (same_pairs (same_keys ks) es))
-  same l (Trees.DictComp k e gs) = in_brackets LBrace RBrace (both (same Expression k) (token refl (both (same Expression e) (same_clauses gs))))
+  same l (Trees.DictComp k e gs) =
+      in_brackets LBrace RBrace (both (same Expression k) (token refl (both (same Expression e) (same_clauses gs))))
   same l (Trees.Set es) = in_brackets LBrace RBrace (listed_same (same_each Elem es))
   same l (Trees.SetComp e gs) = in_brackets LBrace RBrace (both (same Named e) (same_clauses gs))
   same l (Trees.Slice x y z) =
@@ -297,10 +314,13 @@ mutual
 
   pub same_parameters : (a : Arguments) → AllSame (parameters one a) (parameters terminal a)
   same_parameters (arguments ps qs v ks kds k ds) =
-      let firsts : AllSame (names one ps ++ names one qs) (names terminal ps ++ names terminal qs) = append_same (same_names ps) (same_names qs) in
+      let firsts : AllSame (names one ps ++ names one qs) (names terminal ps ++ names terminal qs) =
+          append_same (same_names ps) (same_names qs) in
       let values : AllSame (map (behind_equal one) (each one Expression ds)) (map (behind_equal terminal) (each terminal Expression ds)) =
       equal_same (same_each Expression ds) in
-      let gap : length (names one ps ++ names one qs) - length (map (behind_equal one) (each one Expression ds)) ≡ length (names terminal ps ++ names terminal qs) - length (map (behind_equal terminal) (each terminal Expression ds)) = cc (length_same firsts, length_same values) in
+      let gap : length (names one ps ++ names one qs) - length (map (behind_equal one) (each one Expression ds)) ≡ length
+          (names terminal ps ++ names terminal qs) - length (map (behind_equal terminal) (each terminal Expression ds)) =
+          cc (length_same firsts, length_same values) in
       append_same (slash_same (same_names ps) (beside_same firsts (append_same (replicate_same _ _ gap) values)))
       (append_same (star_same (same_gathered Star v) (same_names ks))
       (append_same (beside_same (same_names ks) (same_defaults kds)) (same_gathered DoubleStar k)))

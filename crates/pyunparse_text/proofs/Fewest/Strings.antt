@@ -1,7 +1,8 @@
 -- F-strings: the values of a JoinedStr are written in parts that give them back.
 --
 -- Carries: joined_claim and the claims of its parts, for Induction. On: Counted, Claims, Sizes, Reach, Less.
-use Rattle.std.proofs.Common.{◌≡◌, refl, sym, ap, subst, ◌∙◌, ℕ, suc, ◌≤◌, arith, List, [], ◌∷◌, ◌++◌, Bool, true, false, append_assoc, append-nil}
+use Rattle.std.proofs.Common.{◌≡◌, refl, sym, ap, subst, ◌∙◌, ℕ, suc, ◌≤◌, arith, List, [], ◌∷◌, ◌++◌, Bool, true, false, append_assoc}
+use Rattle.std.proofs.Common.{append-nil}
 use Rattle.std.specs.Prelude.{◌||◌}
 use Rattle.std.proofs.lemmas.Grind.{flat_map-append}
 use Rattle.pyfstring.specs.declared.parts.Conversion.{Conversion}
@@ -16,10 +17,12 @@ use Rattle.pygrammar.specs.FormattedStrings as Parts
 use Rattle.pygrammar.specs.FormattedStrings.{StringPart, with_text, merged, values_of, spec_values_of, begins_unicode, has_formatted}
 use Rattle.pygrammar.specs.Grammar as G
 use Rattle.pyunparse_text.specs.Levels.{leads, reaches}
-use Rattle.pyunparse_text.specs.Written.{Element, is_unicode, is_unicode_spec, first_text, field, joined, written, elements_behind, spec_elements}
+use Rattle.pyunparse_text.specs.Written.{Element, is_unicode, is_unicode_spec, first_text, field, joined, written, elements_behind}
+use Rattle.pyunparse_text.specs.Written.{spec_elements}
 use Rattle.pyunparse_text.specs.Written as W
 use Rattle.pyunparse_text.specs.Terminals.{terminal, element_terminals}
-use Rattle.pyunparse_text.proofs.Fewest.Counted.{one, Counted, AtLeast, counted_none, counted_token, counted_string, Silent, silent, silent_none}
+use Rattle.pyunparse_text.proofs.Fewest.Counted.{one, Counted, AtLeast, counted_none, counted_token, counted_string, Silent, silent}
+use Rattle.pyunparse_text.proofs.Fewest.Counted.{silent_none}
 use Rattle.pyunparse_text.proofs.Fewest.Counted.{silent_token, silent_field}
 use Rattle.pyunparse_text.proofs.Fewest.Sizes.{inner}
 use Rattle.pyunparse_text.proofs.Fewest.Reach.{climb}
@@ -67,7 +70,8 @@ mutual
   pub data Stands (u : Bool) : List StringPart → Type 0 where
     no_part : Stands u []
     text : {t : List ℕ} {ps : List StringPart} → Stands u ps → Stands u (Parts.Text t ∷ ps)
-    field_of : {e : Expr} {c : Conversion} {s : OptionalExpr} {ps : List StringPart} → Ready e → allowed Or e ≡ true → SpecStands u s → Stands u ps
+    field_of : {e : Expr} {c : Conversion} {s : OptionalExpr} {ps : List StringPart} → Ready e → allowed Or e ≡ true
+        → SpecStands u s → Stands u ps
         → Stands u (Parts.Field (Trees.FormattedValue e c s) ∷ ps)
 
   pub data SpecStands (u : Bool) : OptionalExpr → Type 0 where
@@ -105,7 +109,8 @@ field_given : {u : Bool} {s : OptionalExpr} {ps : List StringPart} (e : Expr) (c
     → G.Formatted u (inner (field terminal c (written terminal Or e) es ++ fs)) (Parts.Field (Trees.FormattedValue e c s) ∷ ps)
 field_given {u} {s} {ps} e c es fs r a p q =
     subst
-    (λ z. G.Formatted u (FieldBegin c ∷ (Op LPar ∷ ((written terminal Or e ++ (Op RPar ∷ [])) ++ z))) (Parts.Field (Trees.FormattedValue e c s) ∷ ps))
+    (λ z. G.Formatted u (FieldBegin c ∷ (Op LPar ∷ ((written terminal Or e ++ (Op RPar ∷ [])) ++ z)))
+        (Parts.Field (Trees.FormattedValue e c s) ∷ ps))
     (sym (inner_parts es fs))
     (G.field_part (G.group (climb Named Or named_or (r.all Or a))) p q)
 
@@ -139,7 +144,8 @@ no_first_text k no_part h = refl
 no_first_text k (text s) h = absurd (cc)
 no_first_text k (field_of r a q s) h = refl
 
-no_first_spec_text : {u : Bool} {ps : List StringPart} (k : Bool) → Stands u ps → begins_text ps ≡ false → first_text (spec_values_of k ps) ≡ []
+no_first_spec_text : {u : Bool} {ps : List StringPart} (k : Bool) → Stands u ps → begins_text ps ≡ false
+    → first_text (spec_values_of k ps) ≡ []
 no_first_spec_text k no_part h = refl
 no_first_spec_text k (text s) h = absurd (cc)
 no_first_spec_text k (field_of r a q s) h = refl
@@ -153,7 +159,8 @@ mutual
   parts_behind b k (text {ps = ps} s) (neat_text {c = c} {cs = cs} n h) =
       text_behind c cs (first_text (values_of k ps)) h (no_first_text k s h) (parts_behind b k s n)
   parts_behind b k (field_of {e = e} {c = c} {s = t} {ps = ps} r a q s) (neat_field n) =
-      field_behind b (first_text (values_of k ps)) e c (spec_elements terminal t) (elements_behind terminal b (values_of k ps)) r a (spec_given q)
+      field_behind b (first_text (values_of k ps)) e c (spec_elements terminal t)
+          (elements_behind terminal b (values_of k ps)) r a (spec_given q)
       (parts_behind b k s n)
 
   spec_parts_behind : {u : Bool} {ps : List StringPart} (k : Bool) → Stands u ps → Neat ps
@@ -164,7 +171,8 @@ mutual
   spec_parts_behind k (text (field_of r a q s)) (neat_text {c = c} {cs = cs} n h) =
       text_behind c cs [] h refl (spec_parts_behind k (field_of r a q s) n)
   spec_parts_behind k (field_of {e = e} {c = c} {s = t} {ps = ps} r a q s) (neat_field n) =
-      field_behind true (first_text (spec_values_of k ps)) e c (spec_elements terminal t) (elements_behind terminal true (spec_values_of k ps)) r a
+      field_behind true (first_text (spec_values_of k ps)) e c (spec_elements terminal t)
+          (elements_behind terminal true (spec_values_of k ps)) r a
       (spec_given q) (spec_parts_behind k s n)
 
   spec_given : {u : Bool} {s : OptionalExpr} → SpecStands u s → G.Spec u (inner (spec_elements terminal s)) s
@@ -224,13 +232,15 @@ mutual
         same = ap (an_expr (Trees.FormattedValue e c t)) k.same;
       }
 
-  kindless_in_spec : {ps : List StringPart} → Stands true ps → is_unicode (spec_values_of true ps) ≡ false → Kindless (λ k. spec_values_of k ps) ps
+  kindless_in_spec : {ps : List StringPart} → Stands true ps → is_unicode (spec_values_of true ps) ≡ false
+      → Kindless (λ k. spec_values_of k ps) ps
   kindless_in_spec no_part h = record { stands = no_part; same = refl }
   kindless_in_spec (text no_part) h = record { stands = text no_part; same = refl }
   kindless_in_spec (text (text s)) h = absurd (cc)
   kindless_in_spec (text (field_of r a q s)) h = absurd (cc)
   kindless_in_spec (field_of {e = e} {c = c} {s = t} {ps = ps} r a q s) h =
-      let k : Kindless (λ k. spec_values_of k ps) ps = kindless_in_spec s (second_none (is_unicode_spec t) (is_unicode (spec_values_of true ps)) h) in
+      let k : Kindless (λ k. spec_values_of k ps) ps =
+          kindless_in_spec s (second_none (is_unicode_spec t) (is_unicode (spec_values_of true ps)) h) in
       record {
         stands = field_of r a (kindless_spec q (first_none (is_unicode_spec t) (is_unicode (spec_values_of true ps)) h)) k.stands;
         same = ap (an_expr (Trees.FormattedValue e c t)) k.same;
@@ -323,7 +333,8 @@ text_at k es = joined terminal k (first_text es) (elements_behind terminal false
 -- with a literal in front of the f-string
 kind_given : {ps : List StringPart} → Stands true ps → merged ps ≡ ps → Joins (text_at true (values_of true ps)) (values_of true ps)
 kind_given {ps} s m =
-    let f : Behind true (first_text (values_of true ps)) (elements_behind terminal false (values_of true ps)) ps = all_behind true s m in record {
+    let f : Behind true (first_text (values_of true ps)) (elements_behind terminal false (values_of true ps)) ps =
+        all_behind true s m in record {
       kind = true;
       parts = Parts.Text (first_text (values_of true ps)) ∷ (Parts.Text [] ∷ f.parts ++ []);
       literals = G.text_literal (G.formatted_literal (G.text_part f.given) G.no_literal);
@@ -333,7 +344,8 @@ kind_given {ps} s m =
     }
 
 -- without one
-plain_given : {ps : List StringPart} (k : Bool) → Stands false ps → merged ps ≡ ps → Joins (text_at false (values_of k ps)) (values_of false ps)
+plain_given : {ps : List StringPart} (k : Bool) → Stands false ps → merged ps ≡ ps
+    → Joins (text_at false (values_of k ps)) (values_of false ps)
 plain_given {ps} k s m =
     let f : Behind false (first_text (values_of k ps)) (elements_behind terminal false (values_of k ps)) ps = all_behind k s m in record {
       kind = false;
@@ -354,7 +366,8 @@ joined_given true false {ps} s m h =
     subst (λ z. Joins (text_at false (values_of true ps)) z) (sym k.same) (plain_given true k.stands m)
 
 enough : {u : Bool} {ts : List Terminal} {ps : List StringPart} (k : Bool) (es : Exprs) → LiteralsClaim u ts ps
-    → (k ≡ true → begins_unicode ts ≡ true) → has_formatted ts ≡ true → AtLeast (joined one k (first_text es) (elements_behind one false es)) ts
+    → (k ≡ true → begins_unicode ts ≡ true) → has_formatted ts ≡ true
+        → AtLeast (joined one k (first_text es) (elements_behind one false es)) ts
 enough true es c b h = record { count = c.count; counted = c.counted; enough = omega (arith, c.two (b refl) h) }
 enough false es c b h = record { count = c.count; counted = c.counted; enough = omega (arith, c.some h) }
 
@@ -371,7 +384,8 @@ module _ {u : Bool} {ts : List Terminal} {ps : List StringPart} (c : LiteralsCla
 
   pub joined_short : (l : Level) → AtLeast (written one l (Trees.JoinedStr (values_of u (merged ps)))) ts
   unfolding written
-  joined_short l = enough (is_unicode (values_of u (merged ps))) (values_of u (merged ps)) c (λ k. b ∙ kind_is u (merged_stands c.stands) k) h
+  joined_short l = enough (is_unicode (values_of u (merged ps))) (values_of u (merged ps)) c (λ k. b
+      ∙ kind_is u (merged_stands c.stands) k) h
 
   joined_derived : {us : List Terminal} {es : Exprs} → Joins us es → G.Derives Atom us (Trees.JoinedStr es)
   joined_derived {us} {es} j = subst (λ z. G.Derives Atom us (Trees.JoinedStr z)) j.values (G.joined_string j.literals j.begins j.formatted)

@@ -2,7 +2,8 @@
 --
 -- Carries: plain_but, name_plain, plain_passed, inner_passed, calm_passed and 1 more, for NumberCharacters, OperatorScans,
 -- PieceScans. On: Conditions.
-use Rattle.std.proofs.Common.{◌≡◌, ℕ, ◌<◌, Bool, true, false, not, ◌&&◌, ◌||◌, ◌==◌, List, [], ◌∷◌, ◌++◌, refl, ◌∙◌, eqb, ltb, Option, Some, None}
+use Rattle.std.proofs.Common.{◌≡◌, ℕ, ◌<◌, Bool, true, false, not, ◌&&◌, ◌||◌, ◌==◌, List, [], ◌∷◌, ◌++◌, refl, ◌∙◌, eqb, ltb, Option, Some}
+use Rattle.std.proofs.Common.{None}
 use Rattle.std.proofs.Common.{inl, inr}
 use Rattle.std.specs.Char.{is_ascii_alphanumeric}
 use Rattle.std.specs.List.{list_all, list_any}
@@ -10,7 +11,8 @@ use Rattle.std.proofs.lemmas.Bool.{ltb-true, cases_Bool}
 use Rattle.unicode_ident.specs.Ident.{is_xid_continue}
 use Rattle.unicode_ident.proofs.IdentLemmas.{is_xid_continue-ascii}
 use Rattle.pyfstring.specs.Texts.{begins_with}
-use Rattle.pyfstring.specs.Expressions.{is_quote, is_refused, is_end, opened_by, closed_by, is_empty, begins_comparison, step, scan, expression}
+use Rattle.pyfstring.specs.Expressions.{is_quote, is_refused, is_end, opened_by, closed_by, is_empty, begins_comparison, step, scan}
+use Rattle.pyfstring.specs.Expressions.{expression}
 use Rattle.pylex_lexeme.proofs.Callers.Booleans.{and_parts, or_parts_false}
 use Rattle.pyunparse_text.proofs.LexemeFronts.OperatorFronts.{of_any}
 use Rattle.pyunparse_text.proofs.Cases.{cases, off}
@@ -46,7 +48,8 @@ not_special c e =
 
 -- those of a set that has none of them
 pub plain_but : (f : ℕ → Bool) → list_all (λ d. not (f d)) specials ≡ true → (c : ℕ) → f c ≡ true → is_plain c ≡ true
-plain_but f a c e = not_special c (cases (list_any (eqb c) specials) (λ h. let n = off (f c) (of_any (λ d. not (f d)) c specials a h) in cc))
+plain_but f a c e = not_special c
+    (cases (list_any (eqb c) specials) (λ h. let n = off (f c) (of_any (λ d. not (f d)) c specials a h) in cc))
 
 -- those that go on in names
 pub name_plain : (c : ℕ) → is_xid_continue c ≡ true → is_plain c ≡ true
@@ -106,7 +109,8 @@ pass_calm os c cs k n =
 
 no_equals : (c : ℕ) → is_calm c ≡ true → (c == 61) ≡ false
 no_equals c k =
-    let a = and_parts (is_inner c) (not (is_end c)) k in (or_parts_false ((c == 125) || (c == 33) || (c == 58)) (c == 61) (off (is_end c) a.1)).1
+    let a = and_parts (is_inner c) (not (is_end c)) k in
+        (or_parts_false ((c == 125) || (c == 33) || (c == 58)) (c == 61) (off (is_end c) a.1)).1
 
 -- whatever follows
 pub plain_passed : (os : List Bracket) (t r : List ℕ) → list_all is_plain t ≡ true → scan expression os 0 (t ++ r) ≡ scan expression os 0 r

@@ -2,10 +2,12 @@
 -- (reference 2.4.3).
 --
 -- Carries: IsFieldExpression, for FieldScans, FieldCuts.
-use Rattle.std.specs.Prelude.{◌≡◌, ℕ, Bool, true, false, not, ◌&&◌, ◌||◌, ◌==◌, List, [], ◌∷◌, ◌++◌, drop, codes, Option, Some, None, if◌then◌else◌}
+use Rattle.std.specs.Prelude.{◌≡◌, ℕ, Bool, true, false, not, ◌&&◌, ◌||◌, ◌==◌, List, [], ◌∷◌, ◌++◌, drop, codes, Option, Some, None}
+use Rattle.std.specs.Prelude.{if◌then◌else◌}
 use Rattle.std.specs.List.{list_all, list_any}
 use Rattle.std.specs.Str.{bytes_eq, all_scalars}
-use Rattle.pyfstring.specs.Characters.{exclamation_mark, colon, equals_sign, backslash, hash, double_quote, left_curly_bracket, right_curly_bracket}
+use Rattle.pyfstring.specs.Characters.{exclamation_mark, colon, equals_sign, backslash, hash, double_quote, left_curly_bracket}
+use Rattle.pyfstring.specs.Characters.{right_curly_bracket}
 use Rattle.pyfstring.specs.Characters.{space, less_than_sign, greater_than_sign}
 use Rattle.pyfstring.specs.Texts.{begins_with}
 use Rattle.pyfstring.specs.Expressions.{is_quote, is_end, opened_by, closed_by}
@@ -67,7 +69,8 @@ ends_text t = bytes_eq t (codes "->") || (not (is_comparison t) && list_any is_e
 abbrev pub ends_field : Piece → Bool
 ends_field p = is_operator_kind p.kind && ends_text p.text
 
--- Behind pieces that left these brackets open, the last one first: each bracket is closed by one of its own kind, and outside brackets there is no
+-- Behind pieces that left these brackets open, the last one first: each bracket is closed by one of its own kind, and outside brackets
+-- there is no
 -- operator that an expression of a field doesn't have there.
 abbrev pub are_enclosed : List (List ℕ) → List Piece → Bool
 are_enclosed os [] = not (is_within os)

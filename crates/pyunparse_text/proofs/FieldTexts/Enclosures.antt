@@ -1,7 +1,8 @@
 -- How lists of pieces are joined so that the expression of a field is scanned to their end, and which literals are scanned.
 --
 -- Carries: Enclosed, Kept, enclosed_none and 9 more, for the pieces of an expression. On: Conditions.
-use Rattle.std.proofs.Common.{◌≡◌, ℕ, ◌+◌, ◌-◌, length, drop, subst, arith, inl, inr, Bool, true, false, not, ◌&&◌, ◌||◌, ◌==◌, List, [], ◌∷◌, ◌++◌}
+use Rattle.std.proofs.Common.{◌≡◌, ℕ, ◌+◌, ◌-◌, length, drop, subst, arith, inl, inr, Bool, true, false, not, ◌&&◌, ◌||◌, ◌==◌, List, []}
+use Rattle.std.proofs.Common.{◌∷◌, ◌++◌}
 use Rattle.std.proofs.Common.{refl, sym, ◌∙◌, ap, append_assoc, append-nil, if◌then◌else◌}
 use Rattle.std.specs.List.{list_all}
 use Rattle.std.proofs.lemmas.Bool.{and_from, cases_Bool}
@@ -11,7 +12,8 @@ use Rattle.pylex_lexeme.proofs.Callers.Booleans.{and_parts, or_parts_false}
 use Rattle.pyunparse_text.specs.Spacing.{Piece}
 use Rattle.pyunparse_text.specs.Tokens.{opens, closes, closes_all}
 use Rattle.pyunparse_text.proofs.Cases.{off}
-use Rattle.pyunparse_text.proofs.FieldTexts.Conditions.{is_pair, is_within, closes_last, ends_field, are_enclosed, is_inner, is_calm, is_plain}
+use Rattle.pyunparse_text.proofs.FieldTexts.Conditions.{is_pair, is_within, closes_last, ends_field, are_enclosed, is_inner, is_calm}
+use Rattle.pyunparse_text.proofs.FieldTexts.Conditions.{is_plain}
 use Rattle.pyunparse_text.proofs.FieldTexts.Conditions.{is_own, ends_plainly, is_plain_literal}
 
 -- ---- Brackets.
@@ -52,7 +54,8 @@ pub kept_both : (xs ys : List Piece) → Kept xs → Kept ys → Kept (xs ++ ys)
 kept_both xs ys a b o os zs = ap (are_enclosed (o ∷ os)) (append_assoc xs ys zs) ∙ a o os (ys ++ zs) ∙ b o os zs
 
 -- pieces in brackets
-pub kept_within : (p q : Piece) (xs : List Piece) → opens p ≡ true → opens q ≡ false → closes q ≡ true → is_pair p.text q.text ≡ true → Kept xs
+pub kept_within : (p q : Piece) (xs : List Piece) → opens p ≡ true → opens q ≡ false → closes q ≡ true
+    → is_pair p.text q.text ≡ true → Kept xs
     → Enclosed (p ∷ xs ++ q ∷ [])
 kept_within p q xs o n c m a os ys =
     rw o (ap (are_enclosed (p.text ∷ os)) (append_assoc xs (q ∷ []) ys) ∙ a p.text os (q ∷ ys) ∙ rw (n, c, m) refl)
@@ -96,11 +99,13 @@ ends_with_quote q (c ∷ d ∷ t) e a =
     and_from (is_own c) (ends_plainly q (d ∷ t ++ q ∷ [])) p.0 (ends_with_quote q (d ∷ t) e p.1)
 
 -- a prefix, and bare characters in double quotes
-pub literal_plain : (a t : List ℕ) → list_all is_plain a ≡ true → list_all is_own t ≡ true → is_plain_literal (a ++ 34 ∷ (t ++ 34 ∷ [])) ≡ true
+pub literal_plain : (a t : List ℕ) → list_all is_plain a ≡ true → list_all is_own t ≡ true
+    → is_plain_literal (a ++ 34 ∷ (t ++ 34 ∷ [])) ≡ true
 literal_plain [] t e b = ends_with_quote 34 t refl b
 literal_plain (c ∷ a) t e b =
     let p = and_parts (is_plain c) (list_all is_plain a) e in
-    otherwise (c == 34) (ends_plainly 34 (a ++ 34 ∷ (t ++ 34 ∷ []))) (is_plain c && is_plain_literal (a ++ 34 ∷ (t ++ 34 ∷ []))) (plain_quote c p.0)
+    otherwise (c == 34) (ends_plainly 34 (a ++ 34 ∷ (t ++ 34 ∷ [])))
+        (is_plain c && is_plain_literal (a ++ 34 ∷ (t ++ 34 ∷ []))) (plain_quote c p.0)
     (and_from (is_plain c) (is_plain_literal (a ++ 34 ∷ (t ++ 34 ∷ []))) p.0 (literal_plain a t p.1 b))
   where
     plain_quote : (c : ℕ) → is_plain c ≡ true → (c == 34) ≡ false

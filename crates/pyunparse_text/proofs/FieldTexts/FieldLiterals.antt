@@ -1,7 +1,8 @@
 -- A literal as it is written in a field of an f-string: its characters stand for themselves, in double quotes (reference 2.4.1 and 2.4.3).
 --
 -- Carries: IsFieldLiteral, text_in_field, bytes_in_field, for what reads f-strings back. On: FormattedBodies, FormattedTokens.
-use Rattle.std.proofs.Common.{◌≡◌, ℕ, ◌<◌, Bool, true, false, not, ◌&&◌, ◌||◌, ◌==◌, List, [], ◌∷◌, ◌++◌, drop, map, None, refl, sym, ◌∙◌, ap, ap₂}
+use Rattle.std.proofs.Common.{◌≡◌, ℕ, ◌<◌, Bool, true, false, not, ◌&&◌, ◌||◌, ◌==◌, List, [], ◌∷◌, ◌++◌, drop, map, None, refl, sym, ◌∙◌}
+use Rattle.std.proofs.Common.{ap, ap₂}
 use Rattle.std.proofs.Common.{subst, arith, if◌then◌else◌}
 use Rattle.std.specs.Prelude.{nat_lt}
 use Rattle.std.specs.List.{list_all, list_any, flat_map}
@@ -19,10 +20,12 @@ use Rattle.pytree_node.specs.Values.{Value, Str, Bytes}
 use Rattle.pytoken.specs.declared.meanings.Meaning.{Meaning}
 use Rattle.pytoken.specs.declared.meanings.Meaning.TheVariants.{Point}
 use Rattle.pytoken.specs.Escapes.{meanings_after, meanings, points_in, escape_fault}
-use Rattle.pytoken.specs.StringValues.{with_line_feeds, is_raw, is_bytes, is_formatted, is_unicode, prefix_len_of, inside, body_of, points_of}
+use Rattle.pytoken.specs.StringValues.{with_line_feeds, is_raw, is_bytes, is_formatted, is_unicode, prefix_len_of, inside, body_of}
+use Rattle.pytoken.specs.StringValues.{points_of}
 use Rattle.pytoken.specs.StringValues.{value_of, string_value, nul_fault, literal_fault, string_fault}
 use Rattle.pytoken.specs.FormattedStrings.{is_fstring, is_bulky}
-use Rattle.pytoken.specs.Terminals.{Literal, Gives, terminal_of, single_fault, fault_by, fault_of, field_fault, terminals_by, nested_expression}
+use Rattle.pytoken.specs.Terminals.{Literal, Gives, terminal_of, single_fault, fault_by, fault_of, field_fault, terminals_by}
+use Rattle.pytoken.specs.Terminals.{nested_expression}
 use Rattle.pyunparse_text.specs.Spacing.{is_token}
 use Rattle.pyunparse_text.specs.Pieces.{prefix, in_double_quotes, field_character, field_literal_text}
 use Rattle.pyunparse_text.proofs.Cases.{off}
@@ -143,7 +146,8 @@ quoted_single : (body : List ℕ) → IsInString true body → is_single_string 
 unfolding is_single_string is_single
 quoted_single body i = let p = prefixes_are.0 in let e = ends_at_quote true body i in rw (p, e) refl
 
-marked_single : (a : ℕ) (body : List ℕ) → IsInString true body → is_prefix (a ∷ []) ≡ true → is_single_string (a ∷ 34 ∷ body ++ 34 ∷ []) ≡ true
+marked_single : (a : ℕ) (body : List ℕ) → IsInString true body → is_prefix (a ∷ []) ≡ true
+    → is_single_string (a ∷ 34 ∷ body ++ 34 ∷ []) ≡ true
 unfolding is_single_string is_single
 marked_single a body i p = let e = ends_at_quote true body i in rw (p, e) (or_true _)
 
@@ -265,7 +269,8 @@ none_high (b ∷ t) a =
     let n : nat_lt 0x7F b ≡ false = grind (arith, nat_tests) in
     rw n (none_high t p.1)
 
-pub bytes_in_field : (bytes : List ℕ) → list_all is_field_byte bytes ≡ true → IsFieldLiteral (field_literal_text (Bytes bytes)) (Bytes bytes)
+pub bytes_in_field : (bytes : List ℕ) → list_all is_field_byte bytes ≡ true
+    → IsFieldLiteral (field_literal_text (Bytes bytes)) (Bytes bytes)
 bytes_in_field bytes a =
     let o = own_bytes bytes a in
     let i = own_in_string true bytes o.scalars o.own in

@@ -14,7 +14,8 @@ use Rattle.pylex_lexeme.specs.Operators.{operators, exact_of}
 use Rattle.pytree_node.specs.declared.profiles.Extent.TheVariants.{Whole}
 use Rattle.pytoken.specs.declared.faults.TokenError.{TokenError}
 use Rattle.pytoken.specs.FormattedStrings.{is_faulty_by}
-use Rattle.pytoken.specs.Terminals.{Terminal, Op, terminal_of, terminals_by, nested_expression, expression, single_fault, fault_by, field_fault}
+use Rattle.pytoken.specs.Terminals.{Terminal, Op, terminal_of, terminals_by, nested_expression, expression, single_fault, fault_by}
+use Rattle.pytoken.specs.Terminals.{field_fault}
 use Rattle.pytoken.specs.Terminals.{is_nested_faulty, is_faulty}
 use Rattle.pyunparse_text.specs.Spacing.{Piece}
 use Rattle.pyunparse_text.proofs.FieldTexts.Conditions.{IsFieldExpression, expression_text}
@@ -33,7 +34,8 @@ all_given : (by : Kind → List ℕ → List Terminal) (ps : List Piece) → fla
 all_given by [] = refl
 all_given by (p ∷ ps) = ap (λ ts. by p.kind p.text ++ ts) (all_given by ps)
 
-tokens_given : (by : Kind → List ℕ → List Terminal) → by kinds.Op (40 ∷ []) ≡ Op LPar ∷ [] → by kinds.Op (41 ∷ []) ≡ Op RPar ∷ [] → (ps : List Piece)
+tokens_given : (by : Kind → List ℕ → List Terminal) → by kinds.Op (40 ∷ []) ≡ Op LPar ∷ []
+    → by kinds.Op (41 ∷ []) ≡ Op RPar ∷ [] → (ps : List Piece)
     → IsFieldExpression ps → HasOwnTokens (expression_text ps)
     → flat_map (λ x. by x.kind x.text) (field_tokens (expression_text ps)) ≡ Op LPar ∷ (given_by by ps ++ (Op RPar ∷ []))
 tokens_given by o c ps e h =
@@ -57,7 +59,8 @@ expression_is ps e h =
 pub nested_expression_is : (ps : List Piece) → IsFieldExpression ps → HasOwnTokens (expression_text ps)
     → nested_expression (expression_text ps) ≡ Op LPar ∷ (given_by single_terminal ps ++ (Op RPar ∷ []))
 unfolding nested_expression
-nested_expression_is ps e h = tokens_given single_terminal (ap (λ x. x ∷ []) bracket_terminals.0) (ap (λ x. x ∷ []) bracket_terminals.1) ps e h
+nested_expression_is ps e h = tokens_given single_terminal (ap (λ x. x ∷ []) bracket_terminals.0)
+    (ap (λ x. x ∷ []) bracket_terminals.1) ps e h
 
 -- ---- Faults.
 
@@ -70,7 +73,8 @@ all_faults : (fault : Kind → List ℕ → Option TokenError) (ps : List Piece)
 all_faults fault [] = refl
 all_faults fault (p ∷ ps) = ap (λ b. is_some (fault p.kind p.text) || b) (all_faults fault ps)
 
-faultless_by : (fault : Kind → List ℕ → Option TokenError) → fault kinds.Op (40 ∷ []) ≡ None → fault kinds.Op (41 ∷ []) ≡ None → (ps : List Piece)
+faultless_by : (fault : Kind → List ℕ → Option TokenError) → fault kinds.Op (40 ∷ []) ≡ None
+    → fault kinds.Op (41 ∷ []) ≡ None → (ps : List Piece)
     → IsFieldExpression ps → HasOwnTokens (expression_text ps) → has_fault_by fault ps ≡ false
     → is_faulty_by fault (expression_text ps) ≡ false
 unfolding is_faulty_by

@@ -1,7 +1,8 @@
 -- The text of a field's expression is scanned as a whole (reference 2.4.3).
 --
 -- Carries: field_scanned, field_taken, for what reads f-strings back. On: PieceScans.
-use Rattle.std.proofs.Common.{◌≡◌, ℕ, ◌-◌, Bool, true, false, not, ◌||◌, ◌==◌, List, [], ◌∷◌, ◌++◌, length, take, refl, sym, ◌∙◌, ap, subst, arith}
+use Rattle.std.proofs.Common.{◌≡◌, ℕ, ◌-◌, Bool, true, false, not, ◌||◌, ◌==◌, List, [], ◌∷◌, ◌++◌, length, take, refl, sym, ◌∙◌, ap, subst}
+use Rattle.std.proofs.Common.{arith}
 use Rattle.std.proofs.Common.{eqb, Option, Some, None, inl, inr, if◌then◌else◌, append_assoc, length-append}
 use Rattle.std.specs.Prelude.{option_and_then}
 use Rattle.std.specs.List.{list_all, list_any}
@@ -24,7 +25,8 @@ use Rattle.pyunparse_text.specs.Spacing.{Piece, is_token, touches, text_behind, 
 use Rattle.pyunparse_text.specs.Tokens.{opens_within}
 use Rattle.pyunparse_text.proofs.Cases.{bool_cases, cases}
 use Rattle.pyunparse_text.proofs.LexemeFronts.PieceFronts.{IsPiece, ArePieces, Clear, Off, clear_behind, none_empty, no_token}
-use Rattle.pyunparse_text.proofs.FieldTexts.Conditions.{is_within, are_enclosed, is_plain_piece, most_open, IsFieldExpression, expression_text}
+use Rattle.pyunparse_text.proofs.FieldTexts.Conditions.{is_within, are_enclosed, is_plain_piece, most_open, IsFieldExpression}
+use Rattle.pyunparse_text.proofs.FieldTexts.Conditions.{expression_text}
 use Rattle.pyunparse_text.proofs.FieldTexts.Conditions.{EndsExpression, brace, spec, conversion}
 use Rattle.pyunparse_text.proofs.FieldTexts.Characters.{Bracket, plain_passed}
 use Rattle.pyunparse_text.proofs.FieldTexts.OperatorScans.{Stands, none, more, joins_equals}
@@ -71,7 +73,8 @@ equals_clear : (t r : List ℕ) → Clear kinds.Op t r → joins_equals t ≡ tr
 equals_clear t [] c e = refl
 equals_clear t (d ∷ r) c e =
     cases (d == 61)
-    (λ h. let n = c.0 1 (omega arith) (omega arith) in let f : d ≡ 61 = eqb-true d 61 h in let g : is_operator (t ++ 61 ∷ []) ≡ false = subst
+    (λ h. let n = c.0 1 (omega arith) (omega arith) in let f : d ≡ 61 = eqb-true d 61 h in
+        let g : is_operator (t ++ 61 ∷ []) ≡ false = subst
     (λ (x : ℕ). is_operator (t ++ x ∷ []) ≡ false) f n in cc)
 
 follows : (q : Piece) (qs : List Piece) (rest : List ℕ) → IsPiece q → ArePieces qs → all_apart q qs ≡ true → EndsExpression rest
@@ -91,12 +94,14 @@ follows q (s ∷ ss) rest i a p e =
       equals = λ k j.
           equals_begins (text_behind q (s ∷ ss) ++ rest)
           (same_first (λ c. c == 61) q s ss (10 ∷ []) rest b
-          (equals_clear q.text (text_behind q (s ∷ ss) ++ 10 ∷ []) (subst (λ (x : Kind). Clear x q.text (text_behind q (s ∷ ss) ++ 10 ∷ [])) k c) j));
+          (equals_clear q.text (text_behind q (s ∷ ss) ++ 10 ∷ [])
+              (subst (λ (x : Kind). Clear x q.text (text_behind q (s ∷ ss) ++ 10 ∷ [])) k c) j));
     }
 
 -- ---- The scan.
 
-blank_scanned : (bs : List Bracket) (b : Bool) (r : List ℕ) → scan expression bs 0 ((if b then 32 ∷ [] else []) ++ r) ≡ scan expression bs 0 r
+blank_scanned : (bs : List Bracket) (b : Bool) (r : List ℕ)
+    → scan expression bs 0 ((if b then 32 ∷ [] else []) ++ r) ≡ scan expression bs 0 r
 blank_scanned bs true r = plain_passed bs (32 ∷ []) r refl
 blank_scanned bs false r = refl
 

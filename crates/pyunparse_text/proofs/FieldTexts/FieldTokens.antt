@@ -1,7 +1,8 @@
 -- The tokens of the text of a field's expression are its pieces.
 --
 -- Carries: field_tokens_are, field_has_tokens, field_scalars, for what reads f-strings back. On: FieldCuts.
-use Rattle.std.proofs.Common.{◌≡◌, ℕ, ◌+◌, ◌-◌, Bool, true, false, not, ◌&&◌, ◌||◌, ◌==◌, List, [], ◌∷◌, ◌++◌, map, count_by, refl, sym, ◌∙◌, ap, ap₂}
+use Rattle.std.proofs.Common.{◌≡◌, ℕ, ◌+◌, ◌-◌, Bool, true, false, not, ◌&&◌, ◌||◌, ◌==◌, List, [], ◌∷◌, ◌++◌, map, count_by, refl, sym}
+use Rattle.std.proofs.Common.{◌∙◌, ap, ap₂}
 use Rattle.std.proofs.Common.{subst, arith, Option, Some, None, inl, inr, if◌then◌else◌}
 use Rattle.std.specs.List.{list_all, list_any}
 use Rattle.std.specs.Str.{all_scalars}
@@ -9,7 +10,8 @@ use Rattle.std.proofs.lemmas.Bool.{eqb-true}
 use Rattle.std.proofs.lemmas.Bool.Decides.{nat_tests}
 use Rattle.std.proofs.lemmas.List.Sums.{sum_by-cons}
 use Rattle.pyfstring.specs.Texts.{begins_with}
-use Rattle.pyfstring_tokens.specs.FieldTokens.{FieldToken, is_comment_class, is_of_comment, closes_none, closes_outer, has_comment, field_tokens}
+use Rattle.pyfstring_tokens.specs.FieldTokens.{FieldToken, is_comment_class, is_of_comment, closes_none, closes_outer, has_comment}
+use Rattle.pyfstring_tokens.specs.FieldTokens.{field_tokens}
 use Rattle.pyfstring_tokens.specs.FieldTokens.{opening, closing}
 use Rattle.pyfstring_tokens.specs.Laws.{tokens_of, IsWhole, HasOwnTokens}
 use Rattle.pylex.specs.declared.kind.Kind.{Kind}
@@ -212,7 +214,8 @@ field_whole ps e c =
 pub field_tokens_are : (ps : List Piece) → are_readable ps ≡ true → closes_all 0 ps ≡ true → HasOwnTokens (expression_text ps)
     → field_tokens (expression_text ps) ≡ opening ∷ (map own_token ps ++ closing ∷ [])
 field_tokens_are ps e c h =
-    h.all (field_whole ps e c) ∙ ap (λ ts. opening ∷ (ts ++ closing ∷ [])) (ap tokens_of (expression_cut ps e) ∙ (expression_own ps e).tokens)
+    h.all (field_whole ps e c) ∙ ap (λ ts. opening ∷ (ts ++ closing ∷ [])) (ap tokens_of (expression_cut ps e)
+        ∙ (expression_own ps e).tokens)
 
 pub field_has_tokens : (ps : List Piece) → are_readable ps ≡ true → closes_all 0 ps ≡ true → HasOwnTokens (expression_text ps)
     → has_no_tokens (expression_text ps) ≡ false

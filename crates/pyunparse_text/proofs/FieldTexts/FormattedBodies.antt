@@ -1,7 +1,8 @@
 -- What stands between the quotes of an f-string ends no literal, and has no U+0000; in a field it stands for itself.
 --
 -- Carries: IsInString, body_in_string, for FormattedTokens. On: FormattedCuts, FieldTokens, Texts.
-use Rattle.std.proofs.Common.{◌≡◌, ℕ, Bool, true, false, not, ◌&&◌, ◌||◌, ◌==◌, List, [], ◌∷◌, ◌++◌, Option, inl, inr, refl, sym, ◌∙◌, subst}
+use Rattle.std.proofs.Common.{◌≡◌, ℕ, Bool, true, false, not, ◌&&◌, ◌||◌, ◌==◌, List, [], ◌∷◌, ◌++◌, Option, inl, inr, refl, sym, ◌∙◌}
+use Rattle.std.proofs.Common.{subst}
 use Rattle.std.proofs.Common.{if◌then◌else◌}
 use Rattle.std.specs.List.{list_all}
 use Rattle.std.specs.Str.{all_scalars}
@@ -34,7 +35,8 @@ use Rattle.pyunparse_text.proofs.FieldTexts.PieceScans.{name_all}
 use Rattle.pyunparse_text.proofs.FieldTexts.TextCharacters.{can_stand, is_kept}
 use Rattle.pyunparse_text.proofs.FieldTexts.Texts.{text_source, IsText, text_skips, text_scalars, text_kept}
 use Rattle.pyunparse_text.proofs.FieldTexts.FormattedCuts.{is_allowed, IsWrittenField, a_written_field, AreParts, no_parts, a_text, a_field}
-use Rattle.pyunparse_text.proofs.FieldTexts.FormattedCuts.{text_and_field, IsInner, IsInnerField, IsOuter, IsOuterField, IsBody, elements_text}
+use Rattle.pyunparse_text.proofs.FieldTexts.FormattedCuts.{text_and_field, IsInner, IsInnerField, IsOuter, IsOuterField, IsBody}
+use Rattle.pyunparse_text.proofs.FieldTexts.FormattedCuts.{elements_text}
 use Rattle.pyunparse_text.proofs.FieldTexts.FormattedCuts.{field_text_is}
 use Rattle.pyunparse_text.proofs.FieldTexts.FormattedCuts as cut
 
@@ -80,7 +82,8 @@ own_free is_in_field c o =
     record {
       skips =
           own_skips (quote is_in_field) c
-          (record { slash = off (c == 92) p2.0; quote = which is_in_field q.0 q.1; feed = off (c == 10) p4.0; return = off (c == 13) p4.1 });
+          (record { slash = off (c == 92) p2.0; quote = which is_in_field q.0 q.1; feed = off (c == 10) p4.0;
+              return = off (c == 13) p4.1 });
       kept = and_from (not (c == 13)) (not (c == 0)) p4.1 p3.1;
       own = λ e. o;
     }
@@ -102,7 +105,8 @@ free is_in_field c e = elim (cases_Bool (is_own c)) [
         (record { skips = own_skips 39 34 (record { slash = refl; quote = refl; feed = refl; return = refl }); kept = refl; own = λ f. cc })
 
 -- scalars that are such characters
-all_free : (is_in_field : Bool) (t : List ℕ) → all_scalars t ≡ true → list_all (is_in_quotes is_in_field) t ≡ true → IsInString is_in_field t
+all_free : (is_in_field : Bool) (t : List ℕ) → all_scalars t ≡ true → list_all (is_in_quotes is_in_field) t ≡ true
+    → IsInString is_in_field t
 all_free is_in_field [] s a = nothing is_in_field
 all_free is_in_field (c ∷ t) s a =
     let p = and_parts (is_in_quotes is_in_field c) (list_all (is_in_quotes is_in_field) t) a in
@@ -130,7 +134,8 @@ own_in_string is_in_field t s a = all_free is_in_field t s (weaker is_own (is_in
 -- ---- The expression of a field.
 
 plain_in_quotes : (is_in_field : Bool) (c : ℕ) → is_plain c ≡ true → is_in_quotes is_in_field c ≡ true
-plain_in_quotes is_in_field c e = own_in_quotes is_in_field c (and_parts (is_own c) _ (and_parts (is_inner c) _ (and_parts (is_calm c) _ e).0).0).0
+plain_in_quotes is_in_field c e =
+    own_in_quotes is_in_field c (and_parts (is_own c) _ (and_parts (is_inner c) _ (and_parts (is_calm c) _ e).0).0).0
 
 operator_own : (t : List ℕ) → is_operator t ≡ true → list_all is_own t ≡ true
 operator_own t e = words_all (list_all is_own) t words refl (sym (by_words t) ∙ e)
@@ -246,9 +251,11 @@ text_own false in_spec t a e = cc
 text_own true in_spec [] a e = refl
 text_own true in_spec (c ∷ t) a e =
     let p = and_parts (can_stand true in_spec c) (list_all (can_stand true in_spec) t) a in
-    both_all is_own (character_text true in_spec c) (text_source true in_spec t) (character_own in_spec c p.0) (text_own true in_spec t p.1 e)
+    both_all is_own (character_text true in_spec c) (text_source true in_spec t) (character_own in_spec c p.0)
+        (text_own true in_spec t p.1 e)
 
-text_in : (is_in_field in_spec : Bool) (t : List ℕ) → IsText is_in_field in_spec t → IsInString is_in_field (text_source is_in_field in_spec t)
+text_in : (is_in_field in_spec : Bool) (t : List ℕ) → IsText is_in_field in_spec t
+    → IsInString is_in_field (text_source is_in_field in_spec t)
 text_in is_in_field in_spec t a = record {
   skips = text_skips is_in_field in_spec t a;
   kept = text_kept is_in_field in_spec t a;
@@ -283,7 +290,8 @@ field_in is_in_field IsSpecOf h es f (a_written_field {c = c} {ps = ps} {es = ss
     (conversion_in is_in_field c))
     (elements_both is_in_field ss (End ∷ []) (h ss s i) (all_free is_in_field (125 ∷ []) refl refl))
 
-parts_in : {S : Type 0} (is_in_field in_spec : Bool) (IsFieldOf : List (Element Sited) → FieldParts S → Type 0) → AreIn is_in_field IsFieldOf
+parts_in : {S : Type 0} (is_in_field in_spec : Bool) (IsFieldOf : List (Element Sited) → FieldParts S → Type 0)
+    → AreIn is_in_field IsFieldOf
     → AreIn is_in_field (AreParts is_in_field in_spec IsFieldOf)
 parts_in is_in_field in_spec IsFieldOf h es ps no_parts = nothing is_in_field
 parts_in is_in_field in_spec IsFieldOf h es ps (a_text {t = t} a) =

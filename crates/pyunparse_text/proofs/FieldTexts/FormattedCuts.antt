@@ -1,7 +1,8 @@
 -- The body of an f-string is cut into the texts and fields that it is written of (reference 2.4.3).
 --
 -- Carries: IsBody, body_cut, for FormattedBodies, FormattedTokens. On: FieldScans, Texts.
-use Rattle.std.proofs.Common.{◌≡◌, ℕ, Bool, true, false, not, List, [], ◌∷◌, ◌++◌, Option, Some, None, refl, sym, ◌∙◌, ap, subst, append_assoc}
+use Rattle.std.proofs.Common.{◌≡◌, ℕ, Bool, true, false, not, List, [], ◌∷◌, ◌++◌, Option, Some, None, refl, sym, ◌∙◌, ap, subst}
+use Rattle.std.proofs.Common.{append_assoc}
 use Rattle.std.proofs.Common.{append-nil, inl, inr, is_some}
 use Rattle.std.specs.List.{list_all, flat_map}
 use Rattle.std.proofs.lemmas.Grind.{flat_map-append}
@@ -33,7 +34,8 @@ abbrev pub is_allowed : Bool → Piece → Bool
 is_allowed is_in_field p = elim p.kind [ kinds.String ↦ not is_in_field | _ ↦ true ]
 
 -- a field, by whether its f-string stands in a field, where a relation says which elements are which format spec
-pub data IsWrittenField (is_in_field : Bool) {S : Type 0} (IsSpecOf : List (Element Sited) → Option S → Type 0) : List (Element Sited) → FieldParts S
+pub data IsWrittenField (is_in_field : Bool) {S : Type 0} (IsSpecOf : List (Element Sited) → Option S → Type 0) : List
+    (Element Sited) → FieldParts S
     → Type 0 where
   a_written_field : {c : Conversion} {ps : List Sited} {es : List (Element Sited)} {s : Option S} → IsFieldExpression (in_field ps)
       → list_all (is_allowed is_in_field) (in_field ps) ≡ true → IsSpecOf es s
@@ -41,14 +43,17 @@ pub data IsWrittenField (is_in_field : Bool) {S : Type 0} (IsSpecOf : List (Elem
       (record { text = expression_text (in_field ps); kept = None; conversion = c; spec = s })
 
 -- texts and fields, no two texts side by side, in a body or in a format spec
-pub data AreParts (is_in_field in_spec : Bool) {S : Type 0} (IsFieldOf : List (Element Sited) → FieldParts S → Type 0) : List (Element Sited) → List
+pub data AreParts (is_in_field in_spec : Bool) {S : Type 0} (IsFieldOf : List (Element Sited) → FieldParts S
+    → Type 0) : List (Element Sited) → List
     (Part S) → Type 0 where
   no_parts : AreParts is_in_field in_spec IsFieldOf [] (text [] ∷ [])
   a_text : {t : List ℕ} → IsText is_in_field in_spec t
       → AreParts is_in_field in_spec IsFieldOf (Text in_spec t ∷ []) (text (text_source is_in_field in_spec t) ∷ [])
-  a_field : {es fs : List (Element Sited)} {f : FieldParts S} {ps : List (Part S)} → IsFieldOf es f → AreParts is_in_field in_spec IsFieldOf fs ps
+  a_field : {es fs : List (Element Sited)} {f : FieldParts S} {ps : List (Part S)} → IsFieldOf es f
+      → AreParts is_in_field in_spec IsFieldOf fs ps
       → AreParts is_in_field in_spec IsFieldOf (es ++ fs) (text [] ∷ field f ∷ ps)
-  text_and_field : {t : List ℕ} {es fs : List (Element Sited)} {f : FieldParts S} {ps : List (Part S)} → IsText is_in_field in_spec t → IsFieldOf es f
+  text_and_field : {t : List ℕ} {es fs : List (Element Sited)} {f : FieldParts S} {ps : List (Part S)}
+      → IsText is_in_field in_spec t → IsFieldOf es f
       → AreParts is_in_field in_spec IsFieldOf fs ps
       → AreParts is_in_field in_spec IsFieldOf (Text in_spec t ∷ (es ++ fs)) (text (text_source is_in_field in_spec t) ∷ field f ∷ ps)
 
@@ -140,12 +145,15 @@ same_conversion conversions.Ascii b = refl
 -- a format spec, with its colon, before the end of its field
 abbrev IsSpecified : {S : Type 0} → Bool → (List ℕ → S → List ℕ → Type 0) → (List (Element Sited) → Option S → Type 0) → Type 0
 IsSpecified {S} is_in_field IsSpecAt IsSpecOf = (es : List (Element Sited)) (s : Option S) (rest : List ℕ) → IsSpecOf es s
-    → (Specifies IsSpecAt (elements_text is_in_field es ++ 125 ∷ rest) s (125 ∷ rest)) × (IsBehind (elements_text is_in_field es ++ 125 ∷ rest))
+    → (Specifies IsSpecAt (elements_text is_in_field es ++ 125 ∷ rest) s (125 ∷ rest)) ×
+        (IsBehind (elements_text is_in_field es ++ 125 ∷ rest))
 
 -- a field, behind its brace
-abbrev IsCutField : {S : Type 0} → Bool → (List ℕ → FieldParts S → List ℕ → Type 0) → (List (Element Sited) → FieldParts S → Type 0) → Type 0
+abbrev IsCutField : {S : Type 0} → Bool → (List ℕ → FieldParts S → List ℕ → Type 0)
+    → (List (Element Sited) → FieldParts S → Type 0) → Type 0
 IsCutField {S} is_in_field IsFieldAt IsFieldOf = (es : List (Element Sited)) (f : FieldParts S) (rest : List ℕ) → IsFieldOf es f
-    → (inside : List ℕ) × (elements_text is_in_field es ++ rest ≡ 123 ∷ inside) × (begins_with 123 inside ≡ false) × (IsFieldAt inside f rest)
+    → (inside : List ℕ) × (elements_text is_in_field es ++ rest ≡ 123 ∷ inside) × (begins_with 123 inside ≡ false) ×
+        (IsFieldAt inside f rest)
 
 whole_field : (is_in_field : Bool) (c : Conversion) (ps : List Sited) (ss : List (Element Sited)) (rest : List ℕ)
     → elements_text is_in_field (Field c ps ∷ (ss ++ End ∷ [])) ++ rest
@@ -177,7 +185,8 @@ field_cut is_in_field is_nested IsSpecAt IsSpecOf h es f rest (a_written_field {
         after_conversion = later;
         given = c;
         expression =
-            record { whole = refl; scanned = field_scanned qs behind e (ends_expression c later at.1); some = field_not_blank qs e.readable };
+            record { whole = refl; scanned = field_scanned qs behind e (ends_expression c later at.1); some =
+                field_not_blank qs e.readable };
         keeps = unkept (no_equals c later at.1);
         converts = converts c later at.1;
         conversion = same_conversion c (is_some s);
@@ -266,4 +275,5 @@ module _ (is_in_field is_nested : Bool) where
   body_cut es ps b =
       cut_of_complete (manner is_nested) (elements_text is_in_field es) ps
       (subst (λ (cs : List ℕ). IsCut (manner is_nested) cs ps) (append-nil (elements_text is_in_field es))
-      (parts_cut is_in_field false (IsField (IsSpec (manner is_nested)) is_nested) (IsOuterField is_in_field) outer_cut es ps [] nothing refl b))
+      (parts_cut is_in_field false (IsField (IsSpec (manner is_nested)) is_nested) (IsOuterField is_in_field) outer_cut
+          es ps [] nothing refl b))

@@ -9,7 +9,8 @@ use Rattle.pyfstring.specs.Parts.{FieldParts, Part, BodyPart}
 use Rattle.pytoken.specs.declared.meanings.Meaning.{Meaning}
 use Rattle.pytoken.specs.Escapes.{is_named_escape, is_bad_escape, escape_fault}
 use Rattle.pytoken.specs.FormattedStrings as read
-use Rattle.pytoken.specs.FormattedStrings.{spec_elements, field_elements, part_elements, inner_elements, spec_part_elements, body_part_elements}
+use Rattle.pytoken.specs.FormattedStrings.{spec_elements, field_elements, part_elements, inner_elements, spec_part_elements}
+use Rattle.pytoken.specs.FormattedStrings.{body_part_elements}
 use Rattle.pytoken.specs.FormattedStrings.{text_element, element_meanings, is_field_of, elements_of, elements_fault}
 use Rattle.pyunparse_text.specs.Spacing.{Piece}
 use Rattle.pyunparse_text.specs.Written.{Element, Text, Field, Spec, End}
@@ -17,7 +18,8 @@ use Rattle.pyunparse_text.specs.Pieces.{Sited, in_field, formatted_text}
 use Rattle.pyunparse_text.proofs.FieldTexts.Conditions.{expression_text}
 use Rattle.pyunparse_text.proofs.FieldTexts.Texts.{text_source, IsText, text_sound}
 use Rattle.pyunparse_text.proofs.FieldTexts.FormattedCuts as cut
-use Rattle.pyunparse_text.proofs.FieldTexts.FormattedCuts.{IsWrittenField, a_written_field, AreParts, no_parts, a_text, a_field, text_and_field}
+use Rattle.pyunparse_text.proofs.FieldTexts.FormattedCuts.{IsWrittenField, a_written_field, AreParts, no_parts, a_text, a_field}
+use Rattle.pyunparse_text.proofs.FieldTexts.FormattedCuts.{text_and_field}
 use Rattle.pyunparse_text.proofs.FieldTexts.FormattedCuts.{IsInner, IsInnerField, IsOuter, IsOuterField, IsBody}
 use Rattle.pyunparse_text.proofs.FieldTexts.FormattedTokens.{formatted_elements, formatted_no_nul}
 
@@ -51,7 +53,8 @@ module _ (test : List ℕ → Bool) (is_in_field : Bool) where
     named = no_escape is_named_escape rs qs x.named y.named;
     bad = no_escape is_bad_escape rs qs x.bad y.bad;
     fields = list_any-append (is_field_of test) rs qs ∙ ap₂ (λ a b. a || b) x.fields y.fields
-        ∙ sym (ap (list_any (λ ps. test (expression_text ps))) (flat_map-append field_of es fs) ∙ list_any-append (λ ps. test (expression_text ps))
+        ∙ sym (ap (list_any (λ ps. test (expression_text ps))) (flat_map-append field_of es fs)
+            ∙ list_any-append (λ ps. test (expression_text ps))
         (fields_of es) (fields_of fs));
   }
 
@@ -66,27 +69,34 @@ module _ (test : List ℕ → Bool) (is_in_field : Bool) where
       record { named = no_more is_named_escape s.0; bad = no_more is_bad_escape s.1; fields = refl }
     where
       no_more : (f : Meaning → Bool)
-          → list_any f (read.text_meanings (record { is_raw = false; has_pairs = not in_spec; source = text_source is_in_field in_spec t })) ≡ false
-          → list_any f (read.text_meanings (record { is_raw = false; has_pairs = not in_spec; source = text_source is_in_field in_spec t }) ++ [])
+          → list_any f (read.text_meanings (record { is_raw = false; has_pairs = not in_spec; source = text_source is_in_field in_spec t }))
+              ≡ false
+          → list_any f (read.text_meanings (record { is_raw = false; has_pairs = not in_spec; source = text_source is_in_field in_spec t })
+              ++ [])
           ≡ false
       no_more f e =
           ap (list_any f)
-          (append-nil (read.text_meanings (record { is_raw = false; has_pairs = not in_spec; source = text_source is_in_field in_spec t }))) ∙ e
+          (append-nil (read.text_meanings (record { is_raw = false; has_pairs = not in_spec; source = text_source is_in_field in_spec t })))
+              ∙ e
 
   -- a text is no field
-  without_text : (in_spec : Bool) (t : List ℕ) (es : List (Element Sited)) (rs : List read.Element) → Reads (Text in_spec t ∷ es) rs → Reads es rs
+  without_text : (in_spec : Bool) (t : List ℕ) (es : List (Element Sited)) (rs : List read.Element)
+      → Reads (Text in_spec t ∷ es) rs → Reads es rs
   without_text in_spec t es rs x = record { named = x.named; bad = x.bad; fields = x.fields }
 
   abbrev AreRead : {S : Type 0} → (S → List read.Element) → (List (Element Sited) → Option S → Type 0) → Type 0
   AreRead {S} elements IsSpecOf = (es : List (Element Sited)) (s : Option S) → IsSpecOf es s → Reads es (spec_elements elements s)
 
   abbrev FieldsAreRead : {S : Type 0} → (S → List read.Element) → (List (Element Sited) → FieldParts S → Type 0) → Type 0
-  FieldsAreRead {S} elements IsFieldOf = (es : List (Element Sited)) (f : FieldParts S) → IsFieldOf es f → Reads es (field_elements elements f)
+  FieldsAreRead {S} elements IsFieldOf = (es : List (Element Sited)) (f : FieldParts S) → IsFieldOf es f
+      → Reads es (field_elements elements f)
 
-  field_reads : {S : Type 0} (elements : S → List read.Element) (IsSpecOf : List (Element Sited) → Option S → Type 0) → AreRead elements IsSpecOf
+  field_reads : {S : Type 0} (elements : S → List read.Element) (IsSpecOf : List (Element Sited) → Option S → Type 0)
+      → AreRead elements IsSpecOf
       → FieldsAreRead elements (IsWrittenField is_in_field IsSpecOf)
   field_reads elements IsSpecOf h es f (a_written_field {c = c} {ps = ps} {es = ss} {s = s} e n i) =
-      both (Field c ps ∷ []) (ss ++ End ∷ []) (read.Field c (expression_text (in_field ps)) ∷ []) (spec_elements elements s ++ read.End ∷ [])
+      both (Field c ps ∷ []) (ss ++ End ∷ []) (read.Field c (expression_text (in_field ps)) ∷ [])
+          (spec_elements elements s ++ read.End ∷ [])
       (record { named = refl; bad = refl; fields = refl })
       (both ss (End ∷ []) (spec_elements elements s) (read.End ∷ []) (h ss s i) (record { named = refl; bad = refl; fields = refl }))
 
@@ -117,7 +127,8 @@ module _ (test : List ℕ → Bool) (is_in_field : Bool) where
       both (Spec ∷ []) [] (read.Spec ∷ []) (inner_elements false []) spec_begins
       (without_text true [] [] (inner_elements false []) (text_reads true [] refl))
   inner_reads es s (cut.one {t = t} a) =
-      both (Spec ∷ []) (Text true t ∷ []) (read.Spec ∷ []) (inner_elements false (text_source is_in_field true t)) spec_begins (text_reads true t a)
+      both (Spec ∷ []) (Text true t ∷ []) (read.Spec ∷ []) (inner_elements false (text_source is_in_field true t))
+          spec_begins (text_reads true t a)
 
   outer_reads : AreRead (spec_part_elements false) (IsOuter is_in_field)
   outer_reads es s cut.none = nothing

@@ -13,7 +13,8 @@ use Rattle.pylex.specs.declared.kind.Kind.TheVariants as kinds
 use Rattle.pylex_lexeme.proofs.Callers.Booleans.{or_parts_false}
 use Rattle.pytree_node.specs.declared.profiles.Extent.TheVariants.{Whole}
 use Rattle.pytoken.specs.declared.faults.TokenError.{TokenError}
-use Rattle.pytoken.specs.Terminals.{FormattedBegin, FormattedEnd, terminals_by, terminals_of, nested_expression, expression, single_fault, fault_by}
+use Rattle.pytoken.specs.Terminals.{FormattedBegin, FormattedEnd, terminals_by, terminals_of, nested_expression, expression, single_fault}
+use Rattle.pytoken.specs.Terminals.{fault_by}
 use Rattle.pytoken.specs.Terminals.{field_fault, fault_of, is_nested_faulty, is_faulty}
 use Rattle.pyunparse_text.specs.Spacing.{Piece}
 use Rattle.pyunparse_text.specs.Written.{Element, End}
@@ -23,7 +24,8 @@ use Rattle.pyunparse_text.proofs.FieldTexts.FieldTokens.{field_scalars}
 use Rattle.pyunparse_text.proofs.FieldTexts.FieldReadings.{given_by, single_terminal, expression_is, nested_expression_is, has_fault_by}
 use Rattle.pyunparse_text.proofs.FieldTexts.FieldReadings.{field_faultless, nested_field_faultless}
 use Rattle.pyunparse_text.proofs.FieldTexts.FormattedCuts as cut
-use Rattle.pyunparse_text.proofs.FieldTexts.FormattedCuts.{IsWrittenField, a_written_field, AreParts, no_parts, a_text, a_field, text_and_field}
+use Rattle.pyunparse_text.proofs.FieldTexts.FormattedCuts.{IsWrittenField, a_written_field, AreParts, no_parts, a_text, a_field}
+use Rattle.pyunparse_text.proofs.FieldTexts.FormattedCuts.{text_and_field}
 use Rattle.pyunparse_text.proofs.FieldTexts.FormattedCuts.{IsInner, IsInnerField, IsOuter, IsOuterField, IsBody}
 use Rattle.pyunparse_text.proofs.FieldTexts.FormattedTokens.{formatted_not_bulky}
 use Rattle.pyunparse_text.proofs.FieldTexts.FormattedTerminals.{padded, all_terminals, formatted_terminals_are}
@@ -39,7 +41,8 @@ both_are : (xs ys : List (List Piece)) → AreExpressions xs → AreExpressions 
 both_are [] ys a b = b
 both_are (p ∷ xs) ys a b = (a.0, both_are xs ys a.1 b)
 
-fields_both : (es fs : List (Element Sited)) → AreExpressions (fields_of es) → AreExpressions (fields_of fs) → AreExpressions (fields_of (es ++ fs))
+fields_both : (es fs : List (Element Sited)) → AreExpressions (fields_of es) → AreExpressions (fields_of fs)
+    → AreExpressions (fields_of (es ++ fs))
 fields_both es fs x y = subst AreExpressions (sym (flat_map-append field_of es fs)) (both_are (fields_of es) (fields_of fs) x y)
 
 -- what a relation says of elements, their fields have such expressions
@@ -67,7 +70,8 @@ module _ (is_in_field : Bool) where
 
   of_outer : HaveExpressions (IsOuter is_in_field)
   of_outer es s cut.none = tt
-  of_outer es s (cut.some {es = gs} {ps = ps} a) = of_parts true (IsInnerField is_in_field) (of_field (IsInner is_in_field) of_inner) gs ps a
+  of_outer es s (cut.some {es = gs} {ps = ps} a) =
+      of_parts true (IsInnerField is_in_field) (of_field (IsInner is_in_field) of_inner) gs ps a
 
   pub body_expressions : (es : List (Element Sited)) (ps : List BodyPart) → IsBody is_in_field es ps → AreExpressions (fields_of es)
   body_expressions es ps b = of_parts false (IsOuterField is_in_field) (of_field (IsOuter is_in_field) of_outer) es ps b
@@ -93,7 +97,8 @@ module _ (own : (t : List ℕ) → all_scalars t ≡ true → HasOwnTokens t) wh
       → terminals_of kinds.String (formatted_text false es)
       ≡ FormattedBegin ∷ (padded true (all_terminals (given_by (terminals_by true nested_expression)) es) ++ (FormattedEnd ∷ []))
   string_terminals es ps b =
-      formatted_terminals_are (given_by (terminals_by true nested_expression)) expression (λ qs e. expression_is qs e (of_text qs e)) false es ps b
+      formatted_terminals_are (given_by (terminals_by true nested_expression)) expression
+          (λ qs e. expression_is qs e (of_text qs e)) false es ps b
 
   -- and in one that stands in a field
   pub nested_string_terminals : (es : List (Element Sited)) (ps : List BodyPart) → IsBody true es ps
@@ -107,7 +112,8 @@ module _ (own : (t : List ℕ) → all_scalars t ≡ true → HasOwnTokens t) wh
       → fault_of Whole kinds.String (formatted_text false es) ≡ None
   unfolding fault_of fault_by
   string_faultless es ps b n =
-      let m = none_faulty field_fault is_faulty (λ qs e k. field_faultless qs e (of_text qs e) k) (fields_of es) (body_expressions false es ps b) n in
+      let m = none_faulty field_fault is_faulty (λ qs e k. field_faultless qs e (of_text qs e) k) (fields_of es)
+          (body_expressions false es ps b) n in
       formatted_faultless is_faulty false es ps b m
 
   pub nested_string_faultless : (es : List (Element Sited)) (ps : List BodyPart) → IsBody true es ps

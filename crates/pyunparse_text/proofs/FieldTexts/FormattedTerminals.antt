@@ -1,17 +1,21 @@
 -- The terminals of a written f-string are those of what it is written of, with an empty text wherever none is written between fields.
 --
 -- Carries: padded, formatted_terminals_are, for FormattedStrings and what reads f-strings back. On: FormattedTokens, FieldTokens.
-use Rattle.std.proofs.Common.{◌≡◌, ℕ, Bool, true, false, not, List, [], ◌∷◌, ◌++◌, map, Option, refl, sym, ◌∙◌, ap, ap₂, append_assoc, append-nil}
+use Rattle.std.proofs.Common.{◌≡◌, ℕ, Bool, true, false, not, List, [], ◌∷◌, ◌++◌, map, Option, refl, sym, ◌∙◌, ap, ap₂, append_assoc}
+use Rattle.std.proofs.Common.{append-nil}
 use Rattle.std.specs.List.{flat_map}
 use Rattle.std.proofs.lemmas.Grind.{flat_map-append}
 use Rattle.pyfstring.specs.Parts.{FieldParts, Part, BodyPart}
 use Rattle.pylex.specs.declared.kind.Kind.TheVariants as kinds
 use Rattle.pylex_lexeme.specs.declared.kinds.Exact.TheVariants.{LPar, RPar}
 use Rattle.pytoken.specs.FormattedStrings as read
-use Rattle.pytoken.specs.FormattedStrings.{TextPart, text_points, text_meanings, kept_elements, spec_elements, field_elements, part_elements}
-use Rattle.pytoken.specs.FormattedStrings.{inner_elements, spec_part_elements, body_part_elements, element_meanings, is_field_of, elements_fault}
+use Rattle.pytoken.specs.FormattedStrings.{TextPart, text_points, text_meanings, kept_elements, spec_elements, field_elements}
+use Rattle.pytoken.specs.FormattedStrings.{part_elements}
+use Rattle.pytoken.specs.FormattedStrings.{inner_elements, spec_part_elements, body_part_elements, element_meanings, is_field_of}
+use Rattle.pytoken.specs.FormattedStrings.{elements_fault}
 use Rattle.pytoken.specs.Terminals as tokens
-use Rattle.pytoken.specs.Terminals.{Terminal, Op, FormattedBegin, FormattedEnd, FormattedText, FieldBegin, SpecBegin, FieldEnd, terminals_by}
+use Rattle.pytoken.specs.Terminals.{Terminal, Op, FormattedBegin, FormattedEnd, FormattedText, FieldBegin, SpecBegin, FieldEnd}
+use Rattle.pytoken.specs.Terminals.{terminals_by}
 use Rattle.pytoken.specs.Terminals.{elements_terminals}
 use Rattle.pyunparse_text.specs.Spacing.{Piece}
 use Rattle.pyunparse_text.specs.Written.{Element, Text, Field, Spec, End}
@@ -19,7 +23,8 @@ use Rattle.pyunparse_text.specs.Pieces.{Sited, in_field, formatted_text}
 use Rattle.pyunparse_text.proofs.FieldTexts.Conditions.{IsFieldExpression, expression_text}
 use Rattle.pyunparse_text.proofs.FieldTexts.Texts.{text_comes_back}
 use Rattle.pyunparse_text.proofs.FieldTexts.FormattedCuts as cut
-use Rattle.pyunparse_text.proofs.FieldTexts.FormattedCuts.{IsWrittenField, a_written_field, AreParts, no_parts, a_text, a_field, text_and_field}
+use Rattle.pyunparse_text.proofs.FieldTexts.FormattedCuts.{IsWrittenField, a_written_field, AreParts, no_parts, a_text, a_field}
+use Rattle.pyunparse_text.proofs.FieldTexts.FormattedCuts.{text_and_field}
 use Rattle.pyunparse_text.proofs.FieldTexts.FormattedCuts.{IsInner, IsInnerField, IsOuter, IsOuterField, IsBody}
 use Rattle.pyunparse_text.proofs.FieldTexts.FormattedTokens.{formatted_is, formatted_elements}
 
@@ -61,21 +66,27 @@ module _ (given : List Piece → List Terminal) where
       at_end : Closes []
       before_end : {es : List (Element Sited)} → Closes (End ∷ es)
 
-    closes_padded : (es : List (Element Sited)) → Closes es → padded true (all_terminals es) ≡ FormattedText [] ∷ padded false (all_terminals es)
+    closes_padded : (es : List (Element Sited)) → Closes es → padded true (all_terminals es) ≡ FormattedText [] ∷ padded
+        false (all_terminals es)
     closes_padded es at_end = refl
     closes_padded es before_end = refl
 
     abbrev IsPaddedSpec : {S : Type 0} → (S → List read.Element) → (List (Element Sited) → Option S → Type 0) → Type 0
     IsPaddedSpec {S} elements IsSpecOf = (es : List (Element Sited)) (s : Option S) (rest : List (Element Sited)) → IsSpecOf es s
-        → padded false (all_terminals (es ++ End ∷ rest)) ≡ read_terminals (spec_elements elements s) ++ padded false (all_terminals (End ∷ rest))
+        → padded false (all_terminals (es ++ End ∷ rest)) ≡ read_terminals (spec_elements elements s) ++ padded false
+            (all_terminals (End ∷ rest))
 
     abbrev IsPaddedField : {S : Type 0} → (S → List read.Element) → (List (Element Sited) → FieldParts S → Type 0) → Type 0
-    IsPaddedField {S} elements IsFieldOf = (b : Bool) (es : List (Element Sited)) (f : FieldParts S) (rest : List (Element Sited)) → IsFieldOf es f
-        → padded b (all_terminals (es ++ rest)) ≡ wanting b ++ (read_terminals (field_elements elements f) ++ padded true (all_terminals rest))
+    IsPaddedField {S} elements IsFieldOf = (b : Bool) (es : List (Element Sited)) (f : FieldParts S) (rest : List (Element Sited))
+        → IsFieldOf es f
+        → padded b (all_terminals (es ++ rest)) ≡ wanting b ++ (read_terminals (field_elements elements f) ++ padded
+            true (all_terminals rest))
 
-    both_read : (xs ys : List read.Element) (ts : List Terminal) → read_terminals (xs ++ ys) ++ ts ≡ read_terminals xs ++ (read_terminals ys ++ ts)
+    both_read : (xs ys : List read.Element) (ts : List Terminal) → read_terminals (xs ++ ys) ++ ts ≡ read_terminals xs ++
+        (read_terminals ys ++ ts)
     both_read xs ys ts =
-        ap (λ x. x ++ ts) (flat_map-append (tokens.element_terminals expression) xs ys) ∙ append_assoc (read_terminals xs) (read_terminals ys) ts
+        ap (λ x. x ++ ts) (flat_map-append (tokens.element_terminals expression) xs ys)
+            ∙ append_assoc (read_terminals xs) (read_terminals ys) ts
 
     field_padded : {S : Type 0} (elements : S → List read.Element) (IsSpecOf : List (Element Sited) → Option S → Type 0)
         → IsPaddedSpec elements IsSpecOf → IsPaddedField elements (IsWrittenField is_in_field IsSpecOf)
@@ -88,20 +99,24 @@ module _ (given : List Piece → List Terminal) where
         let later : padded false (all_terminals ((ss ++ End ∷ []) ++ rest)) ≡ m ++ p =
         ap (λ (xs : List (Element Sited)). padded false (all_terminals xs)) (append_assoc ss (End ∷ []) rest)
         ∙ h ss s rest i
-        ∙ sym (ap (λ x. x ++ p) (flat_map-append (tokens.element_terminals expression) (spec_elements elements s) (read.End ∷ [])) ∙ append_assoc n
+        ∙ sym (ap (λ x. x ++ p) (flat_map-append (tokens.element_terminals expression) (spec_elements elements s) (read.End ∷ []))
+            ∙ append_assoc n
         (FieldEnd ∷ []) p) in
         let whole : (expression t ++ m) ++ p ≡ Op LPar ∷ (g ++ (Op RPar ∷ (m ++ p))) =
         ap (λ x. (x ++ m) ++ p) (reads (in_field ps) e)
         ∙ ap (λ x. Op LPar ∷ x) (append_assoc (g ++ Op RPar ∷ []) m p ∙ append_assoc g (Op RPar ∷ []) (m ++ p)) in
-        ap (λ x. wanting b ++ (FieldBegin c ∷ (Op LPar ∷ (g ++ (Op RPar ∷ x))))) later ∙ ap (λ x. wanting b ++ (FieldBegin c ∷ x)) (sym whole)
+        ap (λ x. wanting b ++ (FieldBegin c ∷ (Op LPar ∷ (g ++ (Op RPar ∷ x))))) later
+            ∙ ap (λ x. wanting b ++ (FieldBegin c ∷ x)) (sym whole)
 
-    parts_padded : {S : Type 0} (in_spec : Bool) (elements : S → List read.Element) (IsFieldOf : List (Element Sited) → FieldParts S → Type 0)
+    parts_padded : {S : Type 0} (in_spec : Bool) (elements : S → List read.Element) (IsFieldOf : List (Element Sited)
+        → FieldParts S → Type 0)
         → IsPaddedField elements IsFieldOf → (es : List (Element Sited)) (ps : List (Part S)) (rest : List (Element Sited)) → Closes rest
         → AreParts is_in_field in_spec IsFieldOf es ps
         → padded true (all_terminals (es ++ rest))
         ≡ read_terminals (flat_map (part_elements false (not in_spec) elements) ps) ++ padded false (all_terminals rest)
     parts_padded in_spec elements IsFieldOf h es ps rest k no_parts =
-        closes_padded rest k ∙ ap (λ t. FormattedText t ∷ padded false (all_terminals rest)) (sym (text_comes_back is_in_field in_spec [] refl))
+        closes_padded rest k ∙ ap (λ t. FormattedText t ∷ padded false (all_terminals rest))
+            (sym (text_comes_back is_in_field in_spec [] refl))
     parts_padded in_spec elements IsFieldOf h es ps rest k (a_text {t = t} a) =
         ap (λ u. FormattedText u ∷ padded false (all_terminals rest)) (sym (text_comes_back is_in_field in_spec t a))
     parts_padded in_spec elements IsFieldOf h es ps rest k (a_field {es = gs} {fs = fs} {f = f} {ps = qs} g r) =
@@ -126,7 +141,8 @@ module _ (given : List Piece → List Terminal) where
     inner_padded : IsPaddedSpec (inner_elements false) (IsInner is_in_field)
     inner_padded es s rest cut.none = refl
     inner_padded es s rest cut.empty =
-        ap (λ u. SpecBegin ∷ (FormattedText u ∷ (FieldEnd ∷ padded true (all_terminals rest)))) (sym (text_comes_back is_in_field true [] refl))
+        ap (λ u. SpecBegin ∷ (FormattedText u ∷ (FieldEnd ∷ padded true (all_terminals rest))))
+            (sym (text_comes_back is_in_field true [] refl))
     inner_padded es s rest (cut.one {t = t} a) =
         ap (λ u. SpecBegin ∷ (FormattedText u ∷ (FieldEnd ∷ padded true (all_terminals rest)))) (sym (text_comes_back is_in_field true t a))
 

@@ -1,7 +1,9 @@
 -- A written f-string is one token, and its elements are those that it is written of (reference 2.4.1 and 2.4.3).
 --
--- Carries: formatted_token, formatted_scalars, formatted_plain, formatted_elements and 2 more, for what reads f-strings back. On: FormattedBodies.
-use Rattle.std.proofs.Common.{◌≡◌, ℕ, ◌-◌, Bool, true, false, not, ◌&&◌, ◌||◌, ◌==◌, List, [], ◌∷◌, ◌++◌, length, take, Some, None, refl, sym, ◌∙◌}
+-- Carries: formatted_token, formatted_scalars, formatted_plain, formatted_elements and 2 more, for what reads f-strings back. On:
+-- FormattedBodies.
+use Rattle.std.proofs.Common.{◌≡◌, ℕ, ◌-◌, Bool, true, false, not, ◌&&◌, ◌||◌, ◌==◌, List, [], ◌∷◌, ◌++◌, length, take, Some, None, refl}
+use Rattle.std.proofs.Common.{sym, ◌∙◌}
 use Rattle.std.proofs.Common.{ap, ap₂, subst, arith, length-append}
 use Rattle.std.specs.Prelude.{option_map}
 use Rattle.std.specs.List.{list_all, list_any}
@@ -34,7 +36,8 @@ use Rattle.pyunparse_text.proofs.FieldTexts.FormattedBodies.{IsInString, body_in
 abbrev literal : Bool → List ℕ → List ℕ
 literal is_in_field w = 102 ∷ quote is_in_field ∷ w ++ quote is_in_field ∷ []
 
-text_is : (is_in_field : Bool) (es : List (Element Sited)) → formatted_text is_in_field es ≡ literal is_in_field (elements_text is_in_field es)
+text_is : (is_in_field : Bool) (es : List (Element Sited)) → formatted_text is_in_field es ≡ literal is_in_field
+    (elements_text is_in_field es)
 text_is is_in_field es = refl
 
 -- ---- It is one token.
@@ -192,14 +195,17 @@ module _ (is_in_field : Bool) (es : List (Element Sited)) (ps : List BodyPart) (
 
   pub formatted_no_nul : nul_fault (formatted_text is_in_field es) ≡ None
   unfolding nul_fault in_string
-  formatted_no_nul = let n = no_nul (formatted_text is_in_field es) (all_kept is_in_field (elements_text is_in_field es) in_string.kept) in rw n refl
+  formatted_no_nul = let n = no_nul (formatted_text is_in_field es) (all_kept is_in_field (elements_text is_in_field es) in_string.kept) in
+      rw n refl
 
 -- one in a field is a plain literal, and without quotes in its body
-pub formatted_plain : (es : List (Element Sited)) (ps : List BodyPart) → IsBody true es ps → is_plain_literal (formatted_text true es) ≡ true
+pub formatted_plain : (es : List (Element Sited)) (ps : List BodyPart) → IsBody true es ps
+    → is_plain_literal (formatted_text true es) ≡ true
 formatted_plain es ps b = literal_plain (102 ∷ []) (elements_text true es) refl ((body_in_string true es ps b).own refl)
 
 pub formatted_not_bulky : (es : List (Element Sited)) (ps : List BodyPart) → IsBody true es ps
     → is_bulky kinds.String (formatted_text true es) ≡ false
 formatted_not_bulky es ps b =
     let i = body_in_string true es ps b in
-    ap (list_any (λ c. is_quote c || (c == 10))) (literal_body true (elements_text true es) i) ∙ own_is_no_bulk (elements_text true es) (i.own refl)
+    ap (list_any (λ c. is_quote c || (c == 10))) (literal_body true (elements_text true es) i)
+        ∙ own_is_no_bulk (elements_text true es) (i.own refl)

@@ -1,7 +1,8 @@
 -- A literal that a scan of a field's expression passes.
 --
 -- Carries: literal_scanned, for PieceScans. On: Conditions, Characters.
-use Rattle.std.proofs.Common.{◌≡◌, ℕ, Bool, true, false, not, ◌&&◌, ◌==◌, List, [], ◌∷◌, ◌++◌, refl, sym, ◌∙◌, subst, inl, inr, if◌then◌else◌}
+use Rattle.std.proofs.Common.{◌≡◌, ℕ, Bool, true, false, not, ◌&&◌, ◌==◌, List, [], ◌∷◌, ◌++◌, refl, sym, ◌∙◌, subst, inl, inr}
+use Rattle.std.proofs.Common.{if◌then◌else◌}
 use Rattle.std.proofs.lemmas.Bool.{and_from, cases_Bool, eqb-true}
 use Rattle.std.specs.List.{list_all}
 use Rattle.pyfstring.specs.Texts.{begins_with}
@@ -47,7 +48,8 @@ no_quote q (c ∷ r) e n =
     ]
 
 -- one quote is none of three where the literal ends plainly
-no_three : (q : ℕ) (t r : List ℕ) → is_quote q ≡ true → ends_plainly q t ≡ true → begins_quote r ≡ false → begins_three q (q ∷ t ++ r) ≡ false
+no_three : (q : ℕ) (t r : List ℕ) → is_quote q ≡ true → ends_plainly q t ≡ true → begins_quote r ≡ false
+    → begins_three q (q ∷ t ++ r) ≡ false
 no_three q [] r k e n = cc
 no_three q (c ∷ []) r k e n = let m = no_quote q r k n in rw m (right (q == q) (c == q))
   where

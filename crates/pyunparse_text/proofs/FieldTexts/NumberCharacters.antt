@@ -5,7 +5,8 @@ use Rattle.std.proofs.Common.{◌≡◌, ℕ, Bool, true, ◌||◌, ◌==◌, Li
 use Rattle.std.specs.List.{list_all}
 use Rattle.std.proofs.lemmas.Bool.Decides.{nat_tests}
 use Rattle.pylex_lexeme.specs.Numbers.{is_nil, split_any, optional, headed, are_some, is_digit_part, is_exponent, is_decimal_digit, is_zero}
-use Rattle.pylex_lexeme.specs.Numbers.{is_hex_digit, is_octal_digit, is_point, is_e, is_radix, is_point_after, is_point_before, is_raised, is_float}
+use Rattle.pylex_lexeme.specs.Numbers.{is_hex_digit, is_octal_digit, is_point, is_e, is_radix, is_point_after, is_point_before, is_raised}
+use Rattle.pylex_lexeme.specs.Numbers.{is_float}
 use Rattle.pylex_lexeme.specs.Numbers.{is_imaginary, is_number}
 use Rattle.pylex_lexeme.proofs.Callers.Booleans.{and_parts, or_parts}
 use Rattle.pylex_lexeme.proofs.Callers.Fronts.{joined_all, split_all}

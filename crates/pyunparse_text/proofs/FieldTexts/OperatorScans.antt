@@ -1,7 +1,8 @@
 -- An operator that a scan of a field's expression passes, and the brackets that it opens and closes.
 --
 -- Carries: Stands, opener_scanned, closer_scanned, operator_scanned and 2 more, for PieceScans. On: Conditions, Characters.
-use Rattle.std.proofs.Common.{◌≡◌, ℕ, ◌-◌, suc, ◌==◌, Bool, true, false, not, ◌&&◌, ◌||◌, List, [], ◌∷◌, ◌++◌, length, take, refl, sym, ◌∙◌, ap}
+use Rattle.std.proofs.Common.{◌≡◌, ℕ, ◌-◌, suc, ◌==◌, Bool, true, false, not, ◌&&◌, ◌||◌, List, [], ◌∷◌, ◌++◌, length, take, refl, sym, ◌∙◌}
+use Rattle.std.proofs.Common.{ap}
 use Rattle.std.proofs.Common.{subst, arith, Option, Some, None, inl, inr, length-append}
 use Rattle.std.specs.Prelude.{codes, nat_lt, slice_get}
 use Rattle.std.specs.List.{list_all, list_any}
@@ -11,7 +12,8 @@ use Rattle.std.proofs.lemmas.Bool.Decides.{nat_tests}
 use Rattle.std.proofs.lemmas.List.{take_at}
 use Rattle.std.proofs.lemmas.Slice.Eq.{bytes_eq-Decides}
 use Rattle.pyfstring.specs.Texts.{begins_with}
-use Rattle.pyfstring.specs.Expressions.{is_quote, is_refused, is_end, opened_by, closed_by, same_bracket, begins_comparison, is_empty, step, scan}
+use Rattle.pyfstring.specs.Expressions.{is_quote, is_refused, is_end, opened_by, closed_by, same_bracket, begins_comparison, is_empty, step}
+use Rattle.pyfstring.specs.Expressions.{scan}
 use Rattle.pyfstring.specs.Expressions.{expression}
 use Rattle.pylex_lexeme.specs.Operators.{operators, exact_of, is_operator}
 use Rattle.pylex_lexeme.proofs.Callers.Booleans.{and_parts, or_parts}
@@ -55,7 +57,8 @@ at_seam (o ∷ bs) b = at_seam bs b
 
 last_is : (bs : List Bracket) (b : Bracket) → slice_get (bs ++ b ∷ []) (length (bs ++ b ∷ []) - 1) ≡ Some b
 last_is bs b =
-    let e = length-append bs (b ∷ []) in let f : length (bs ++ b ∷ []) - 1 ≡ length bs = omega arith in ap (slice_get (bs ++ b ∷ [])) f ∙ at_seam bs b
+    let e = length-append bs (b ∷ []) in let f : length (bs ++ b ∷ []) - 1 ≡ length bs = omega arith in
+        ap (slice_get (bs ++ b ∷ [])) f ∙ at_seam bs b
 
 -- a character that opens a bracket
 record IsOpener (c : ℕ) : Type 0 where
@@ -204,7 +207,8 @@ outside_shape : (t : List ℕ) → is_operator t ≡ true
 unfolding is_operator exact_of operators
 outside_shape t e =
     words_all (λ t. is_bracket t ||
-    (ends_text t || (is_comparison t || (list_all is_plain t || (list_all is_calm t && joins_equals t))))) t words refl (sym (by_words t) ∙ e)
+    (ends_text t || (is_comparison t || (list_all is_plain t || (list_all is_calm t && joins_equals t))))) t words
+        refl (sym (by_words t) ∙ e)
 
 comparison_scanned : (t r : List ℕ) → is_comparison t ≡ true → scan expression [] 0 (t ++ r) ≡ scan expression [] 0 r
 unfolding step

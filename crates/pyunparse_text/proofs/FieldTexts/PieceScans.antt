@@ -1,7 +1,8 @@
 -- A piece that a scan of a field's expression passes, whatever stands behind it that doesn't join it.
 --
 -- Carries: Follows, piece_scanned, for FieldScans. On: Characters, NumberCharacters, OperatorScans, LiteralScans.
-use Rattle.std.proofs.Common.{◌≡◌, ℕ, ◌+◌, ◌-◌, true, false, not, ◌&&◌, ◌||◌, List, [], ◌∷◌, ◌++◌, length, refl, sym, ◌∙◌, ap, arith, inl, inr}
+use Rattle.std.proofs.Common.{◌≡◌, ℕ, ◌+◌, ◌-◌, true, false, not, ◌&&◌, ◌||◌, List, [], ◌∷◌, ◌++◌, length, refl, sym, ◌∙◌, ap, arith, inl}
+use Rattle.std.proofs.Common.{inr}
 use Rattle.std.specs.Prelude.{nat_lt}
 use Rattle.std.specs.List.{list_all}
 use Rattle.std.proofs.lemmas.Bool.{cases_Bool}
@@ -19,7 +20,8 @@ use Rattle.pylex_lexeme.proofs.Callers.Booleans.{and_parts}
 use Rattle.pylex_lexeme.proofs.Callers.Lexemes.{start_continues}
 use Rattle.pyunparse_text.specs.Spacing.{Piece, is_token, is_operator_kind}
 use Rattle.pyunparse_text.specs.Tokens.{opens, closes, opens_within}
-use Rattle.pyunparse_text.proofs.FieldTexts.Conditions.{is_plain, is_pair, is_within, ends_field, are_enclosed, is_plain_literal, is_plain_piece}
+use Rattle.pyunparse_text.proofs.FieldTexts.Conditions.{is_plain, is_pair, is_within, ends_field, are_enclosed, is_plain_literal}
+use Rattle.pyunparse_text.proofs.FieldTexts.Conditions.{is_plain_piece}
 use Rattle.pyunparse_text.proofs.FieldTexts.Conditions.{most_open}
 use Rattle.pyunparse_text.proofs.FieldTexts.Characters.{Bracket, name_plain, plain_passed}
 use Rattle.pyunparse_text.proofs.FieldTexts.NumberCharacters.{number_plain}
@@ -45,7 +47,8 @@ pub record Follows (k : Kind) (t r : List ℕ) : Type 0 where
 
 -- a token that is no operator
 other_scanned : (bs : List Bracket) (k : Kind) (t r : List ℕ) → is_token k t ≡ true → is_operator_kind k ≡ false
-    → (elim k [ kinds.String ↦ is_plain_literal t | _ ↦ true ]) ≡ true → Follows k t r → scan expression bs 0 (t ++ r) ≡ scan expression bs 0 r
+    → (elim k [ kinds.String ↦ is_plain_literal t | _ ↦ true ]) ≡ true → Follows k t r
+        → scan expression bs 0 (t ++ r) ≡ scan expression bs 0 r
 other_scanned bs kinds.Name t r e n p f = plain_passed bs t r (name_all t e)
 other_scanned bs kinds.Number t r e n p f = plain_passed bs t r (number_plain t (and_parts _ (is_number t) e).1)
 other_scanned bs kinds.String t r e n p f = literal_scanned bs t r p (f.quote refl)
@@ -80,7 +83,8 @@ pub record Behind (d : ℕ) (bs : List Bracket) (p : Piece) (ps : List Piece) (r
   pub shallow : opens_within most_open depth ps ≡ true
   pub long : depth ≡ length opened
 
-pub piece_scanned : {os : List (List ℕ)} {bs : List Bracket} (d : ℕ) (p : Piece) (ps : List Piece) (r : List ℕ) → Stands os bs → d ≡ length os
+pub piece_scanned : {os : List (List ℕ)} {bs : List Bracket} (d : ℕ) (p : Piece) (ps : List Piece) (r : List ℕ)
+    → Stands os bs → d ≡ length os
     → is_token p.kind p.text ≡ true → is_plain_piece p ≡ true → are_enclosed os (p ∷ ps) ≡ true → opens_within most_open d (p ∷ ps) ≡ true
     → Follows p.kind p.text r → Behind d bs p ps r
 piece_scanned {os} {bs} d p ps r s l e k a w f = elim (cases_Bool (is_operator_kind p.kind)) [
@@ -127,7 +131,8 @@ piece_scanned {os} {bs} d p ps r s l e k a w f = elim (cases_Bool (is_operator_k
           long = omega arith;
         }
 
-    closer : (os : List (List ℕ)) → Stands os bs → are_enclosed os (p ∷ ps) ≡ true → d ≡ length os → is_operator_kind p.kind ≡ true → opens p ≡ false
+    closer : (os : List (List ℕ)) → Stands os bs → are_enclosed os (p ∷ ps) ≡ true → d ≡ length os
+        → is_operator_kind p.kind ≡ true → opens p ≡ false
         → closes p ≡ true → Behind d bs p ps r
     closer [] s a l n o c = absurd (let z : false ≡ true = rw (o, c) at a in cc)
     closer (t ∷ os) s a l n o c =

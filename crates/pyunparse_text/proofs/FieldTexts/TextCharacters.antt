@@ -1,7 +1,8 @@
 -- What stands for a character of a text in an f-string is read as that character again (reference 2.4.1 and 2.4.3).
 --
 -- Carries: can_stand, Comes, character_comes, brace_of, for Texts. On: TextUnits, Literals, Scalars, and what pytoken proves of reprs.
-use Rattle.std.proofs.Common.{◌≡◌, ℕ, zero, suc, ◌/◌, ◌%◌, ◌<◌, ◌≤◌, Bool, true, false, not, ◌&&◌, ◌||◌, ◌==◌, List, [], ◌∷◌, ◌++◌, ◌⊎◌, inl, inr}
+use Rattle.std.proofs.Common.{◌≡◌, ℕ, zero, suc, ◌/◌, ◌%◌, ◌<◌, ◌≤◌, Bool, true, false, not, ◌&&◌, ◌||◌, ◌==◌, List, [], ◌∷◌, ◌++◌, ◌⊎◌}
+use Rattle.std.proofs.Common.{inl, inr}
 use Rattle.std.proofs.Common.{refl, sym, ◌∙◌, subst, arith, if◌then◌else◌}
 use Rattle.std.specs.Prelude.{nat_lt}
 use Rattle.std.specs.Char.{digit_char}
@@ -27,7 +28,8 @@ use Rattle.pyunparse_text.proofs.SingleTokens.Scalars.{escape_scalar, escaped_sc
 use Rattle.pyunparse_text.proofs.FieldTexts.Conditions.{is_own}
 use Rattle.pyunparse_text.proofs.FieldTexts.TextUnits.{Units, units_own, units_pair, units_escape, units_both, is_unit, units_all}
 
--- A character that has a writing in a text of an f-string, by whether that stands in a field, and whether the text is one of a format spec: a code
+-- A character that has a writing in a text of an f-string, by whether that stands in a field, and whether the text is one of a format spec:
+-- a code
 -- point; in a field a scalar that stands for itself, and in a spec there no brace.
 abbrev pub can_stand : Bool → Bool → ℕ → Bool
 can_stand false in_spec c = is_point c
@@ -37,7 +39,8 @@ can_stand true in_spec c = is_own c && (all_scalars (c ∷ []) && not (in_spec &
 abbrev pub is_kept : ℕ → Bool
 is_kept c = not (c == 13) && not (c == 0)
 
--- What stands for c in a text, where pairs of braces are read as one or not, between quotes q: it is whole units, stands for v but for escapes,
+-- What stands for c in a text, where pairs of braces are read as one or not, between quotes q: it is whole units, stands for v but for
+-- escapes,
 -- and for c with them; it doesn't end a literal, and its characters are scalars.
 pub record Comes (has_pairs : Bool) (q c : ℕ) (w v : List ℕ) : Type 0 where
   pub units : Units has_pairs w v
@@ -142,12 +145,15 @@ pair_comes q c w e =
         → Skips q (x ∷ [])
     own q x s f r n (inl h) =
         own_skips q x
-        (record { slash = s; quote = subst (λ (y : ℕ). (x == y) ≡ false) (sym h) (or_parts_false (x == 39) (x == 34) n).0; feed = f; return = r })
+        (record { slash = s; quote = subst (λ (y : ℕ). (x == y) ≡ false) (sym h) (or_parts_false (x == 39) (x == 34) n).0; feed = f;
+            return = r })
     own q x s f r n (inr h) =
         own_skips q x
-        (record { slash = s; quote = subst (λ (y : ℕ). (x == y) ≡ false) (sym h) (or_parts_false (x == 39) (x == 34) n).1; feed = f; return = r })
+        (record { slash = s; quote = subst (λ (y : ℕ). (x == y) ≡ false) (sym h) (or_parts_false (x == 39) (x == 34) n).1; feed = f;
+            return = r })
 
-    at : (x : ℕ) → (x == 92) ≡ false → is_brace x ≡ true → (x == x) ≡ true → Skips q (x ∷ []) → all_scalars (x ∷ []) ≡ true → is_kept x ≡ true
+    at : (x : ℕ) → (x == 92) ≡ false → is_brace x ≡ true → (x == x) ≡ true → Skips q (x ∷ [])
+        → all_scalars (x ∷ []) ≡ true → is_kept x ≡ true
         → Comes true q x (x ∷ x ∷ []) (x ∷ [])
     at x s b i k a n =
         let m = (and_parts _ true a).0 in
@@ -170,7 +176,8 @@ brace_escaped c e =
         let f : hex_escape x ≡ 92 ∷ 120 ∷ hex 2 x = rw n refl in
         let k = hex_all is_kept digit_kept 2 x in
         subst (λ (u : List ℕ). Comes false 39 x u u) (sym f) (record {
-          units = units_both (hex 2 x) (hex 2 x) (units_escape false 120 refl refl) (units_all false (hex 2 x) (hex_all is_unit digit_unit 2 x));
+          units = units_both (hex 2 x) (hex 2 x) (units_escape false 120 refl refl)
+              (units_all false (hex 2 x) (hex_all is_unit digit_unit 2 x));
           read = λ r. reads_back is_unprintable false 39 x r (92 ∷ 120 ∷ hex 2 x) (inl refl) (fits x p) (short l);
           kept = k;
           skips = subst (Skips 39) f (escape_skips 39 x (inl refl));
@@ -180,7 +187,8 @@ brace_escaped c e =
 
 -- ---- Own characters.
 
-own_comes : (has_pairs : Bool) (c : ℕ) → is_own c ≡ true → all_scalars (c ∷ []) ≡ true → is_brace c ≡ false → Comes has_pairs 34 c (c ∷ []) (c ∷ [])
+own_comes : (has_pairs : Bool) (c : ℕ) → is_own c ≡ true → all_scalars (c ∷ []) ≡ true → is_brace c ≡ false
+    → Comes has_pairs 34 c (c ∷ []) (c ∷ [])
 own_comes has_pairs c o a b =
     let p1 = and_parts (not (is_quote c)) _ o in
     let p2 = and_parts (not (c == 92)) _ p1.1 in

@@ -1,7 +1,8 @@
 -- What stands for a character of a text in an f-string is read off the front of the text as whole units (reference 2.4.3).
 --
 -- Carries: Units, units_own, units_pair, units_escape, units_both, for TextCharacters. On: no other file.
-use Rattle.std.proofs.Common.{◌≡◌, ℕ, zero, suc, Bool, true, false, not, ◌&&◌, ◌==◌, List, [], ◌∷◌, ◌++◌, refl, sym, ◌∙◌, ap, subst, append_assoc}
+use Rattle.std.proofs.Common.{◌≡◌, ℕ, zero, suc, Bool, true, false, not, ◌&&◌, ◌==◌, List, [], ◌∷◌, ◌++◌, refl, sym, ◌∙◌, ap, subst}
+use Rattle.std.proofs.Common.{append_assoc}
 use Rattle.std.specs.List.{list_all}
 use Rattle.pyfstring.specs.Texts.{is_brace, unit_len, units_after}
 use Rattle.pyfstring.specs.Singles.{single_after}
@@ -78,7 +79,8 @@ units_escape has_pairs l b n = record {
 pub units_none : (has_pairs : Bool) → Units has_pairs [] []
 units_none has_pairs = record { passed = λ r. refl; single = λ r h. refl }
 
-pub units_both : {has_pairs : Bool} {w v : List ℕ} (x y : List ℕ) → Units has_pairs w v → Units has_pairs x y → Units has_pairs (w ++ x) (v ++ y)
+pub units_both : {has_pairs : Bool} {w v : List ℕ} (x y : List ℕ) → Units has_pairs w v → Units has_pairs x y
+    → Units has_pairs (w ++ x) (v ++ y)
 units_both {has_pairs} {w} {v} x y a b = record {
   passed = λ r. ap (units_after false has_pairs 0) (append_assoc w x r) ∙ a.passed (x ++ r) ∙ b.passed r;
   single = λ r h.

@@ -1,7 +1,9 @@
--- A text of an f-string comes back: what it is written in is read as it, and neither ends the literal nor has a fault (reference 2.4.1 and 2.4.3).
+-- A text of an f-string comes back: what it is written in is read as it, and neither ends the literal nor has a fault (reference 2.4.1 and
+-- 2.4.3).
 --
 -- Carries: text_passed, text_comes_back and 3 more, for what reads f-strings back. On: TextCharacters.
-use Rattle.std.proofs.Common.{◌≡◌, ℕ, Bool, true, false, not, ◌==◌, List, [], ◌∷◌, ◌++◌, map, None, refl, sym, ◌∙◌, ap, append-nil, if◌then◌else◌}
+use Rattle.std.proofs.Common.{◌≡◌, ℕ, Bool, true, false, not, ◌==◌, List, [], ◌∷◌, ◌++◌, map, None, refl, sym, ◌∙◌, ap, append-nil}
+use Rattle.std.proofs.Common.{if◌then◌else◌}
 use Rattle.std.specs.List.{list_all, list_any, flat_map}
 use Rattle.std.specs.Str.{all_scalars}
 use Rattle.std.proofs.lemmas.Bool.{and_from}
@@ -51,7 +53,8 @@ both_kept a b e f = list_all-append is_kept a b ∙ and_from (list_all is_kept a
 all : (is_in_field in_spec : Bool) (t : List ℕ) → IsText is_in_field in_spec t
     → All is_in_field in_spec t (text_source is_in_field in_spec t) (text_single is_in_field in_spec t)
 all is_in_field in_spec [] a =
-    record { units = units_none (not in_spec); read = refl; kept = refl; skips = none_skip (quote is_in_field); scalars = refl; whole = refl }
+    record { units = units_none (not in_spec); read = refl; kept = refl; skips = none_skip (quote is_in_field);
+        scalars = refl; whole = refl }
 all is_in_field in_spec (c ∷ t) a =
     let p = and_parts (can_stand is_in_field in_spec c) (list_all (can_stand is_in_field in_spec) t) a in
     let i = character_comes is_in_field in_spec c p.0 in
@@ -118,7 +121,8 @@ pub points_are : (t : List ℕ) → flat_map points_in (map (λ c. Point c) t) �
 points_are [] = refl
 points_are (c ∷ t) = ap (λ u. c ∷ u) (points_are t)
 
-pub text_comes_back : (is_in_field in_spec : Bool) (t : List ℕ) → IsText is_in_field in_spec t → text_points (text_part is_in_field in_spec t) ≡ t
+pub text_comes_back : (is_in_field in_spec : Bool) (t : List ℕ) → IsText is_in_field in_spec t
+    → text_points (text_part is_in_field in_spec t) ≡ t
 unfolding text_points
 text_comes_back is_in_field in_spec t a = ap (flat_map points_in) (all_read is_in_field in_spec t a) ∙ points_are t
 
@@ -151,9 +155,11 @@ pub text_skips : (is_in_field in_spec : Bool) (t : List ℕ) → IsText is_in_fi
     → Skips (quote is_in_field) (text_source is_in_field in_spec t)
 text_skips is_in_field in_spec t a = (all is_in_field in_spec t a).skips
 
-pub text_scalars : (is_in_field in_spec : Bool) (t : List ℕ) → IsText is_in_field in_spec t → all_scalars (text_source is_in_field in_spec t) ≡ true
+pub text_scalars : (is_in_field in_spec : Bool) (t : List ℕ) → IsText is_in_field in_spec t
+    → all_scalars (text_source is_in_field in_spec t) ≡ true
 text_scalars is_in_field in_spec t a = (all is_in_field in_spec t a).scalars
 
 -- it has neither a CR nor U+0000
-pub text_kept : (is_in_field in_spec : Bool) (t : List ℕ) → IsText is_in_field in_spec t → list_all is_kept (text_source is_in_field in_spec t) ≡ true
+pub text_kept : (is_in_field in_spec : Bool) (t : List ℕ) → IsText is_in_field in_spec t
+    → list_all is_kept (text_source is_in_field in_spec t) ≡ true
 text_kept is_in_field in_spec t a = (all is_in_field in_spec t a).whole

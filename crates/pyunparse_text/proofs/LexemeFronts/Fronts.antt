@@ -2,7 +2,8 @@
 --
 -- Carries: is_lexeme, leaves, run_ends, blanks_front and 1 more, for NameFronts, LineCuts,
 -- NumberFronts, OperatorFronts and 2 more.
-use Rattle.std.proofs.Common.{◌≡◌, ℕ, Bool, true, false, List, [], ◌∷◌, ◌++◌, length, take, drop, refl, sym, ◌∙◌, ap, subst, suc, Option, Some}
+use Rattle.std.proofs.Common.{◌≡◌, ℕ, Bool, true, false, List, [], ◌∷◌, ◌++◌, length, take, drop, refl, sym, ◌∙◌, ap, subst, suc, Option}
+use Rattle.std.proofs.Common.{Some}
 use Rattle.std.proofs.Common.{add-one, add_comm}
 use Rattle.std.specs.Prelude.{option_map}
 use Rattle.std.specs.List.{list_all, prefix_len}
@@ -31,7 +32,8 @@ is_lexeme t r k h =
     of_class (class_in (t ++ r) (take (lexeme_len (t ++ r)) (t ++ r))) (take (lexeme_len (t ++ r)) (t ++ r)) k c
     ∙ ap (λ u. Some (record { «class» = k; text = u })) e
 
-pub leaves : (t r : List ℕ) (k : Class) (n : ℕ) → n ≡ length t → TakesLexeme (t ++ r) (Some k) (drop n (t ++ r)) → TakesLexeme (t ++ r) (Some k) r
+pub leaves : (t r : List ℕ) (k : Class) (n : ℕ) → n ≡ length t → TakesLexeme (t ++ r) (Some k) (drop n (t ++ r))
+    → TakesLexeme (t ++ r) (Some k) r
 leaves t r k n e h = subst (TakesLexeme (t ++ r) (Some k)) (ap (λ i. drop i (t ++ r)) e ∙ drop-append_seam t r) h
 
 -- A run of characters of a set ends where another stands.

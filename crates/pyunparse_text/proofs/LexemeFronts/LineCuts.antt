@@ -1,7 +1,8 @@
 -- Lines of pieces are cut into these pieces, the blanks between them, and the line ends.
 --
 -- Carries: lines_cut, lines_end, for Relisting. On: PieceFronts, Fronts, Cases.
-use Rattle.std.proofs.Common.{◌≡◌, ℕ, ◌+◌, ◌*◌, true, false, not, ◌||◌, List, [], ◌∷◌, ◌++◌, refl, sym, ◌∙◌, ap, subst, arith, zero, suc, ⊎_elim}
+use Rattle.std.proofs.Common.{◌≡◌, ℕ, ◌+◌, ◌*◌, true, false, not, ◌||◌, List, [], ◌∷◌, ◌++◌, refl, sym, ◌∙◌, ap, subst, arith, zero, suc}
+use Rattle.std.proofs.Common.{⊎_elim}
 use Rattle.std.proofs.Common.{Some, None, append_assoc, replicate}
 use Rattle.std.specs.List.{list_all}
 use Rattle.std.proofs.lemmas.List.{append_cancel_left}
@@ -11,9 +12,11 @@ use Rattle.pylex.specs.Laws.{AreLexemes}
 use Rattle.pylex_lexeme.proofs.Callers.Booleans.{and_parts}
 use Rattle.pylex_lexeme.proofs.Callers.Lexemes.{none_is, nothing_takes}
 use Rattle.pylex.proofs.Callers.{cut_lexed}
-use Rattle.pyunparse_text.specs.Spacing.{Piece, Line, is_token, touches, text_behind, spaced, stay_apart, are_two_points, all_apart, are_readable}
+use Rattle.pyunparse_text.specs.Spacing.{Piece, Line, is_token, touches, text_behind, spaced, stay_apart, are_two_points, all_apart}
+use Rattle.pyunparse_text.specs.Spacing.{are_readable}
 use Rattle.pyunparse_text.specs.Spacing.{line_text, lines_text}
-use Rattle.pyunparse_text.specs.Inner.Relexed.{lexeme_of, blanks, feed, lexemes_behind, lexemes_of, indent_lexemes, line_lexemes, lines_lexemes}
+use Rattle.pyunparse_text.specs.Inner.Relexed.{lexeme_of, blanks, feed, lexemes_behind, lexemes_of, indent_lexemes, line_lexemes}
+use Rattle.pyunparse_text.specs.Inner.Relexed.{lines_lexemes}
 use Rattle.pyunparse_text.proofs.LexemeFronts.Fronts.{blanks_front, feed_front}
 use Rattle.pyunparse_text.proofs.LexemeFronts.PieceFronts.{IsPiece, ArePieces, token_front, token_no_blank, clear_behind}
 use Rattle.pyunparse_text.proofs.Cases.{bool_cases}
@@ -24,13 +27,16 @@ before : (x : Lexeme) (t r : List ℕ) (xs : List Lexeme) (left : List ℕ) → 
 before x t r xs left e h a = (r, h, ap (λ u. u ++ r) (sym e), a)
 
 -- a piece, and what stands after it in its line
-piece_before : (q : Piece) (qs : List Piece) (more : List ℕ) (ys : List Lexeme) (left : List ℕ) → IsPiece q → ArePieces qs → all_apart q qs ≡ true
+piece_before : (q : Piece) (qs : List Piece) (more : List ℕ) (ys : List Lexeme) (left : List ℕ) → IsPiece q
+    → ArePieces qs → all_apart q qs ≡ true
     → AreLexemes (text_behind q qs ++ 10 ∷ more) ys left → AreLexemes ((q.text ++ text_behind q qs) ++ 10 ∷ more) (lexeme_of q ∷ ys) left
 piece_before q qs more ys left e a h l =
     subst (λ (u : List ℕ). AreLexemes u (lexeme_of q ∷ ys) left) (sym (append_assoc q.text (text_behind q qs) (10 ∷ more)))
-    (before (lexeme_of q) q.text (text_behind q qs ++ 10 ∷ more) ys left refl (token_front q.kind q.text (text_behind q qs ++ 10 ∷ more) e (clear_behind q qs more e a h)) l)
+    (before (lexeme_of q) q.text (text_behind q qs ++ 10 ∷ more) ys left refl (token_front q.kind q.text (text_behind q qs ++ 10 ∷ more) e
+        (clear_behind q qs more e a h)) l)
 
-no_blank_first : (q : Piece) (qs : List Piece) (more : List ℕ) → IsPiece q → begins is_blank_char ((q.text ++ text_behind q qs) ++ 10 ∷ more) ≡ false
+no_blank_first : (q : Piece) (qs : List Piece) (more : List ℕ) → IsPiece q
+    → begins is_blank_char ((q.text ++ text_behind q qs) ++ 10 ∷ more) ≡ false
 no_blank_first q qs more e =
     subst (λ (u : List ℕ). begins is_blank_char u ≡ false) (sym (append_assoc q.text (text_behind q qs) (10 ∷ more)))
     (token_no_blank q.kind q.text (text_behind q qs ++ 10 ∷ more) e)
@@ -109,7 +115,8 @@ pub record Same (xs ys : List Lexeme) (left right : List ℕ) : Type 0 where
   pub lexemes : xs ≡ ys
   pub stop : left ≡ right
 
-pub same_lexemes : (xs ys : List Lexeme) (text left right : List ℕ) → AreLexemes text xs left → AreLexemes text ys right → Same xs ys left right
+pub same_lexemes : (xs ys : List Lexeme) (text left right : List ℕ) → AreLexemes text xs left
+    → AreLexemes text ys right → Same xs ys left right
 same_lexemes [] [] text left right a b = record { lexemes = refl; stop = a.0 ∙ sym b.0 }
 same_lexemes [] (y ∷ ys) text left right a b = absurd (let e : None ≡ Some y = sym a.1 ∙ b.1 in cc)
 same_lexemes (x ∷ xs) [] text left right a b = absurd (let e : None ≡ Some x = sym b.1 ∙ a.1 in cc)

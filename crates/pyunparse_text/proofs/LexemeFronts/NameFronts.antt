@@ -23,11 +23,13 @@ quote_ends_name c e = either_not is_xid_continue 39 34 c e (is_xid_continue-asci
 pub part_no_quote : (c : ℕ) → is_xid_continue c ≡ true → ((c == 39) || (c == 34)) ≡ false
 part_no_quote c e = cases ((c == 39) || (c == 34)) (λ h. let f = quote_ends_name c h in cc)
 
-letter_continues : (a b c : ℕ) → ((c == a) || (c == b)) ≡ true → is_xid_continue a ≡ true → is_xid_continue b ≡ true → is_xid_continue c ≡ false → ⊥
+letter_continues : (a b c : ℕ) → ((c == a) || (c == b)) ≡ true → is_xid_continue a ≡ true → is_xid_continue b ≡ true
+    → is_xid_continue c ≡ false → ⊥
 letter_continues a b c e f g h = let y = either is_xid_continue a b c e f g in cc
 
 no_r : (c : ℕ) → is_xid_continue c ≡ false → is_r c ≡ false
-no_r c h = cases (is_r c) (λ e. letter_continues 114 82 c e (is_xid_continue-ascii 114 (omega arith)) (is_xid_continue-ascii 82 (omega arith)) h)
+no_r c h = cases (is_r c) (λ e. letter_continues 114 82 c e (is_xid_continue-ascii 114 (omega arith))
+    (is_xid_continue-ascii 82 (omega arith)) h)
 
 no_b_or_f : (c : ℕ) → is_xid_continue c ≡ false → is_b_or_f c ≡ false
 no_b_or_f c h = cases (is_b_or_f c)
@@ -57,7 +59,8 @@ no_string cs a b c =
     rw (and_false (is_prefix (take 0 cs)) (begins_quote cs) a, and_false (is_prefix (take 1 cs)) (begins_quote (drop 1 cs)) b, c) refl
 
 -- no string opens at a name that no quote follows
-pub name_opens : (t r : List ℕ) → is_name t ≡ true → begins is_xid_continue r ≡ false → begins_quote r ≡ false → opens_string (t ++ r) ≡ false
+pub name_opens : (t r : List ℕ) → is_name t ≡ true → begins is_xid_continue r ≡ false → begins_quote r ≡ false
+    → opens_string (t ++ r) ≡ false
 unfolding is_name
 name_opens [] r n e q = cc
 name_opens (c ∷ []) r n e q =
@@ -70,7 +73,8 @@ name_opens (c ∷ []) r n e q =
 name_opens (c ∷ d ∷ []) r n e q =
     let s = and_parts (starts_name c) (is_xid_continue d && true) n in
     let d1 = and_parts (is_xid_continue d) true s.1 in
-    no_string (c ∷ d ∷ r) (part_no_quote c (start_continues c s.0)) (part_no_quote d d1.0) (and_false (is_prefix (c ∷ d ∷ [])) (begins_quote r) q)
+    no_string (c ∷ d ∷ r) (part_no_quote c (start_continues c s.0)) (part_no_quote d d1.0)
+        (and_false (is_prefix (c ∷ d ∷ [])) (begins_quote r) q)
 name_opens (c ∷ d ∷ b ∷ t) r n e q =
     let s = and_parts (starts_name c) (is_xid_continue d && (is_xid_continue b && list_all is_xid_continue t)) n in
     let d1 = and_parts (is_xid_continue d) (is_xid_continue b && list_all is_xid_continue t) s.1 in

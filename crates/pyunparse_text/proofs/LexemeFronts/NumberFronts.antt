@@ -2,7 +2,8 @@
 -- changes no length that a reader of numbers takes.
 --
 -- Carries: number_front, for PieceFronts. On: NumberParts, Fronts, Cases.
-use Rattle.std.proofs.Common.{◌≡◌, ℕ, ◌+◌, Bool, true, false, not, ◌&&◌, ◌||◌, ◌==◌, List, [], ◌∷◌, ◌++◌, length, drop, refl, sym, ◌∙◌, ap, arith}
+use Rattle.std.proofs.Common.{◌≡◌, ℕ, ◌+◌, Bool, true, false, not, ◌&&◌, ◌||◌, ◌==◌, List, [], ◌∷◌, ◌++◌, length, drop, refl, sym, ◌∙◌, ap}
+use Rattle.std.proofs.Common.{arith}
 use Rattle.std.proofs.Common.{suc, if◌then◌else◌, leb, ltb, ⊎_elim, Some, drop-drop, length-drop}
 use Rattle.std.specs.Char.{is_ascii_alphanumeric}
 use Rattle.std.proofs.Math.Seq.{take-length}
@@ -13,9 +14,11 @@ use Rattle.unicode_ident.specs.Ident.{is_xid_continue}
 use Rattle.unicode_ident.proofs.IdentLemmas.{is_xid_continue-ascii}
 use Rattle.pylex_lexeme.specs.declared.lexeme.Class.TheVariants.{Number}
 use Rattle.pylex_lexeme.specs.Chars.{begins}
-use Rattle.pylex_lexeme.specs.Numbers.{is_decimal_digit, is_zero, is_hex_digit, is_octal_digit, is_binary_digit, is_point, is_e, is_j, is_x, is_o}
+use Rattle.pylex_lexeme.specs.Numbers.{is_decimal_digit, is_zero, is_hex_digit, is_octal_digit, is_binary_digit, is_point, is_e, is_j, is_x}
+use Rattle.pylex_lexeme.specs.Numbers.{is_o}
 use Rattle.pylex_lexeme.specs.Numbers.{is_b, is_number}
-use Rattle.pylex_lexeme.specs.Lengths.{longest, number_len, plain_len, radix_len, based_len, tail_len, fraction_len, point_len, exponent_len, j_len}
+use Rattle.pylex_lexeme.specs.Lengths.{longest, number_len, plain_len, radix_len, based_len, tail_len, fraction_len, point_len}
+use Rattle.pylex_lexeme.specs.Lengths.{exponent_len, j_len}
 use Rattle.pylex_lexeme.specs.Lengths.{digit_part_len, joined_len}
 use Rattle.pylex_lexeme.specs.Lexemes.{lexeme_at}
 use Rattle.pylex_lexeme.proofs.Callers.Booleans.{and_parts}
@@ -122,12 +125,14 @@ unfolding j_len
 j_front t r n = rw (begins_front is_j t r (two_continue 106 74 refl refl) n) refl
 
 -- An `e` at the end would take a sign behind it, but isn't taken itself.
-exponent_front : (t r : List ℕ) → Ends r → exponent_len t + j_len (drop (exponent_len t) t) ≡ length t → exponent_len (t ++ r) ≡ exponent_len t
+exponent_front : (t r : List ℕ) → Ends r → exponent_len t + j_len (drop (exponent_len t) t) ≡ length t
+    → exponent_len (t ++ r) ≡ exponent_len t
 unfolding exponent_len j_len
 exponent_front [] r n h = exponent_none r (ends_there is_e r (two_continue 101 69 refl refl) n)
 exponent_front (c ∷ []) r n h =
     ⊎_elim
-    (λ (e : is_e c ≡ true). let j : is_j c ≡ false = either_not is_j 101 69 c e refl refl in let w : 0 + 0 ≡ 1 = simp (e, j) at h in absurd (omega arith))
+    (λ (e : is_e c ≡ true). let j : is_j c ≡ false = either_not is_j 101 69 c e refl refl in let w : 0 + 0 ≡ 1 =
+        simp (e, j) at h in absurd (omega arith))
     (λ (e : is_e c ≡ false). rw e refl)
     (bool_cases (is_e c))
 exponent_front (c ∷ s ∷ t) r n h =
@@ -141,7 +146,8 @@ tail_front t r n h =
     let p = point_front t r n in
     let a = drop-append-le (point_len t) t r (omega arith) in
     let l = length-drop (point_len t) t in
-    let x = exponent_front (drop (point_len t) t) r n (rw (drop-drop (exponent_len (drop (point_len t) t)) (point_len t) t) (omega arith)) in
+    let x = exponent_front (drop (point_len t) t) r n
+        (rw (drop-drop (exponent_len (drop (point_len t) t)) (point_len t) t) (omega arith)) in
     let b = drop-append-le (fraction_len t) t r (omega arith) in
     let j = j_front (drop (fraction_len t) t) r n in
     rw (p, a, x, b, j) refl
@@ -160,7 +166,8 @@ zeros_run (a ∷ []) h =
     (bool_cases (is_zero a))
 zeros_run (a ∷ b ∷ t) h =
     ⊎_elim
-    (λ (e : is_zero a ≡ true). let w : suc (joined_len is_zero (b ∷ t)) ≡ suc (length (b ∷ t)) = simp e at h in rw (zero_digit a e) (ap suc (zeros_run (b ∷ t) (omega arith))))
+    (λ (e : is_zero a ≡ true). let w : suc (joined_len is_zero (b ∷ t)) ≡ suc (length (b ∷ t)) = simp e at h in
+        rw (zero_digit a e) (ap suc (zeros_run (b ∷ t) (omega arith))))
     (λ (e : is_zero a ≡ false).
     ⊎_elim
     (λ (f : ((a == 95) && is_zero b) ≡ true).

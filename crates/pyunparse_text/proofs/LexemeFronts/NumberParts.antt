@@ -10,7 +10,8 @@ use Rattle.std.proofs.lemmas.Bool.{leb-true}
 use Rattle.std.proofs.lemmas.Bool.Decides.{nat_tests}
 use Rattle.pylex_lexeme.specs.Chars.{begins, is_comment_part}
 use Rattle.pylex_lexeme.specs.Numbers.{is_nil, split_any, optional, headed, are_some, is_digit_part, is_exponent, is_decimal_digit, is_zero}
-use Rattle.pylex_lexeme.specs.Numbers.{is_hex_digit, is_octal_digit, is_point, is_e, is_j, is_decimal, is_radix, is_point_after, is_point_before}
+use Rattle.pylex_lexeme.specs.Numbers.{is_hex_digit, is_octal_digit, is_point, is_e, is_j, is_decimal, is_radix, is_point_after}
+use Rattle.pylex_lexeme.specs.Numbers.{is_point_before}
 use Rattle.pylex_lexeme.specs.Numbers.{is_raised, is_float, is_imaginary, is_number}
 use Rattle.pylex_lexeme.specs.Lengths.{begins_number}
 use Rattle.pylex_lexeme.proofs.Callers.Booleans.{and_parts, or_parts}
@@ -20,7 +21,8 @@ use Rattle.pylex_lexeme.proofs.Callers.Numbers.{digit_bounds, either, zero_digit
 -- ---- The first characters.
 
 -- a test of texts that a first part settles
-split_begins : (b p q : List ℕ → Bool) → ((u r : List ℕ) → p u ≡ true → b (u ++ r) ≡ true) → (t : List ℕ) → split_any p q t ≡ true → b t ≡ true
+split_begins : (b p q : List ℕ → Bool) → ((u r : List ℕ) → p u ≡ true → b (u ++ r) ≡ true) → (t : List ℕ)
+    → split_any p q t ≡ true → b t ≡ true
 split_begins b p q f [] e = f [] [] (and_parts (p []) (q []) e).0
 split_begins b p q f (c ∷ t) e =
     ⊎_elim
@@ -51,7 +53,8 @@ float_begins : (t : List ℕ) → is_float t ≡ true → begins_number t ≡ tr
 unfolding is_float is_point_after is_raised
 float_begins t e =
     ⊎_elim
-    (λ (h : (is_point_after t || is_point_before t) ≡ true). ⊎_elim (split_begins begins_number is_digit_part _ part_begins t) (point_begins t)
+    (λ (h : (is_point_after t || is_point_before t) ≡ true). ⊎_elim
+        (split_begins begins_number is_digit_part _ part_begins t) (point_begins t)
     (or_parts (is_point_after t) (is_point_before t) h))
     (split_begins begins_number is_digit_part is_exponent part_begins t)
     (or_parts (is_point_after t || is_point_before t) (is_raised t) e)

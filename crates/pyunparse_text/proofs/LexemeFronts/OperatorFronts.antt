@@ -2,7 +2,8 @@
 --
 -- Carries: Sign, operator_head, operator_front, makes_number and 5 more, for PieceFronts,
 -- Joins. On: Cases, Fronts.
-use Rattle.std.proofs.Common.{◌≡◌, ℕ, ◌+◌, ◌-◌, ◌≤◌, ◌<◌, Bool, true, false, not, ◌&&◌, ◌||◌, ◌==◌, List, [], ◌∷◌, ◌++◌, length, take, refl, sym, ◌∙◌}
+use Rattle.std.proofs.Common.{◌≡◌, ℕ, ◌+◌, ◌-◌, ◌≤◌, ◌<◌, Bool, true, false, not, ◌&&◌, ◌||◌, ◌==◌, List, [], ◌∷◌, ◌++◌, length, take, refl}
+use Rattle.std.proofs.Common.{sym, ◌∙◌}
 use Rattle.std.proofs.Common.{ap, subst, arith, ⊎_elim, Some, eqb, ltb, length-append, append_assoc}
 use Rattle.std.specs.Prelude.{nat_eq}
 use Rattle.std.specs.List.{list_all, list_any, starts_with}
@@ -44,7 +45,12 @@ of_any p c (x ∷ xs) a e =
 -- blank, a line's end, a hash nor a backslash
 abbrev pub is_sign_char : ℕ → Bool
 is_sign_char c =
-    (ltb c 128 && not (is_ascii_alphanumeric c || (c == 95))) && (not (is_ascii_alphabetic c || (c == 95)) && (not (is_decimal_digit c) && (not (is_prefix_letter c) && (not ((c == 39) || (c == 34)) && (not (is_blank_char c) && (not (c == 35) && (not (c == 10) && (not (c == 13) && not (c == 92)))))))))
+    (ltb c 128 && not (is_ascii_alphanumeric c || (c == 95))) &&
+        (not (is_ascii_alphabetic c || (c == 95)) &&
+        (not (is_decimal_digit c) &&
+        (not (is_prefix_letter c) &&
+        (not ((c == 39) || (c == 34)) &&
+        (not (is_blank_char c) && (not (c == 35) && (not (c == 10) && (not (c == 13) && not (c == 92)))))))))
 
 -- What the first character of an operator is not
 pub record Sign (c : ℕ) : Type 0 where
@@ -106,7 +112,8 @@ begins_of t u (o ∷ os) e =
     let s : starts_with nat_eq o t ≡ true =
     subst (λ (x : List ℕ). starts_with nat_eq x t ≡ true) ((bytes_eq-Decides (t ++ u) o).0 h) (begins_itself t u) in
     rw s refl)
-    (λ (h : list_any (bytes_eq (t ++ u)) os ≡ true). right (starts_with nat_eq o t) (list_any (λ x. starts_with nat_eq x t) os) (begins_of t u os h))
+    (λ (h : list_any (bytes_eq (t ++ u)) os ≡ true). right (starts_with nat_eq o t)
+        (list_any (λ x. starts_with nat_eq x t) os) (begins_of t u os h))
     (or_parts (bytes_eq (t ++ u) o) (list_any (bytes_eq (t ++ u)) os) e)
   where
     right : (x y : Bool) → y ≡ true → (x || y) ≡ true
@@ -149,7 +156,8 @@ makes_number t r = bytes_eq t (46 ∷ []) && begins is_decimal_digit r
 
 no_number_begins : (c : ℕ) (t r : List ℕ) → is_operator (c ∷ t) ≡ true → makes_number (c ∷ t) r ≡ false
     → (is_point c && begins is_decimal_digit (t ++ r)) ≡ false
-no_number_begins c [] r o e = ⊎_elim (λ (h : (c == 46) ≡ true). rw h (rw h at e)) (λ (h : (c == 46) ≡ false). rw h refl) (bool_cases (c == 46))
+no_number_begins c [] r o e = ⊎_elim (λ (h : (c == 46) ≡ true). rw h (rw h at e))
+    (λ (h : (c == 46) ≡ false). rw h refl) (bool_cases (c == 46))
 no_number_begins c (d ∷ t) r o e = cases (is_point c && is_decimal_digit d) (λ h.
     let p = and_parts (is_point c) (is_decimal_digit d) h in
     let f : c ≡ 46 = eqb-true c 46 p.0 in
@@ -165,7 +173,8 @@ unfolding operator_at
 operator_front [] r x g e f n = let g = no_operator_none in cc
 operator_front (c ∷ t) r x g e f n =
     let s = operator_head c t e in
-    let l : longest is_operator (c ∷ t ++ r) ≡ length (c ∷ t) = longest_is is_operator (c ∷ t ++ r) (length (c ∷ t)) (operator_best (c ∷ t) r e f) in
+    let l : longest is_operator (c ∷ t ++ r) ≡ length (c ∷ t) = longest_is is_operator (c ∷ t ++ r) (length (c ∷ t))
+        (operator_best (c ∷ t) r e f) in
     let o : BeginsOther (c ∷ t ++ r) = record {
       string = opens_off c (t ++ r) s.letter s.quote;
       number = rw s.digit (no_number_begins c t r e n);

@@ -3,7 +3,8 @@
 --
 -- Carries: ArePieces, token_no_blank, words_all, IsPiece and 5 more, for Decoding, LineCuts, Joins,
 -- Runs and 3 more. On: OperatorFronts, Cases, NameFronts, NumberFronts and 1 more.
-use Rattle.std.proofs.Common.{◌≡◌, ℕ, ◌≤◌, ◌<◌, Bool, true, false, not, ◌&&◌, ◌||◌, ◌==◌, List, [], ◌∷◌, ◌++◌, length, take, map, leb, append_assoc}
+use Rattle.std.proofs.Common.{◌≡◌, ℕ, ◌≤◌, ◌<◌, Bool, true, false, not, ◌&&◌, ◌||◌, ◌==◌, List, [], ◌∷◌, ◌++◌, length, take, map, leb}
+use Rattle.std.proofs.Common.{append_assoc}
 use Rattle.std.proofs.Common.{refl, if◌then◌else◌, ap, sym, ◌∙◌, subst, arith, zero, suc, ⊎_elim, Option, Some, None, eqb}
 use Rattle.std.specs.List.{list_all, list_any}
 use Rattle.std.specs.Str.{bytes_eq}
@@ -24,7 +25,8 @@ use Rattle.pylex_lexeme.specs.Lexemes.{lexeme_at, is_name}
 use Rattle.pylex_lexeme.proofs.Callers.Booleans.{and_parts, or_parts, or_parts_false}
 use Rattle.pylex_lexeme.proofs.Callers.Lexemes.{words, heads, by_words, no_head, no_operator, no_operator_none}
 use Rattle.pylex_lexeme.proofs.Callers.Numbers.{digit_bounds}
-use Rattle.pyunparse_text.specs.Spacing.{Piece, is_token, is_number_kind, is_operator_kind, touches, text_behind, begins_operator, stay_apart}
+use Rattle.pyunparse_text.specs.Spacing.{Piece, is_token, is_number_kind, is_operator_kind, touches, text_behind, begins_operator}
+use Rattle.pyunparse_text.specs.Spacing.{stay_apart}
 use Rattle.pyunparse_text.specs.Spacing.{are_two_points, all_apart}
 use Rattle.pyunparse_text.specs.Inner.Relexed.{class_of}
 use Rattle.pyunparse_text.proofs.LexemeFronts.NameFronts.{name_front}
@@ -50,7 +52,8 @@ token_front kinds.String t r e c = let p = and_parts (is_single_string t) (list_
 token_front kinds.Op t r e c = by (exact_of t) refl
   where
     by : (o : Option Exact) → exact_of t ≡ o → lexeme_at (t ++ r) ≡ Some (record { «class» = class_of kinds.Op t; text = t })
-    by (Some x) f = operator_front t r x f e c.0 c.1 ∙ ap (λ o. Some (record { «class» = elim o [ Some y ↦ Operator y | None ↦ Join ]; text = t })) (sym f)
+    by (Some x) f = operator_front t r x f e c.0 c.1
+        ∙ ap (λ o. Some (record { «class» = elim o [ Some y ↦ Operator y | None ↦ Join ]; text = t })) (sym f)
     by None f = let g : false ≡ true = rw f at e in cc
 token_front kinds.Encoding t r e c = cc
 token_front kinds.Comment t r e c = cc
@@ -194,16 +197,20 @@ blank_off c e =
     ⊎_elim
     (λ (g : (eqb c 32 || eqb c 9) ≡ true).
     ⊎_elim
-    (λ (h : eqb c 32 ≡ true). let f : c ≡ 32 = eqb-true c 32 h in rw f (record { name = rw (is_xid_start-ascii 32 (omega arith)) refl; quote = refl; letter = refl }, refl, refl))
-    (λ (h : eqb c 9 ≡ true). let f : c ≡ 9 = eqb-true c 9 h in rw f (record { name = rw (is_xid_start-ascii 9 (omega arith)) refl; quote = refl; letter = refl }, refl, refl))
+    (λ (h : eqb c 32 ≡ true). let f : c ≡ 32 = eqb-true c 32 h in
+        rw f (record { name = rw (is_xid_start-ascii 32 (omega arith)) refl; quote = refl; letter = refl }, refl, refl))
+    (λ (h : eqb c 9 ≡ true). let f : c ≡ 9 = eqb-true c 9 h in
+        rw f (record { name = rw (is_xid_start-ascii 9 (omega arith)) refl; quote = refl; letter = refl }, refl, refl))
     (or_parts (eqb c 32) (eqb c 9) g))
-    (λ (h : eqb c 12 ≡ true). let f : c ≡ 12 = eqb-true c 12 h in rw f (record { name = rw (is_xid_start-ascii 12 (omega arith)) refl; quote = refl; letter = refl }, refl, refl))
+    (λ (h : eqb c 12 ≡ true). let f : c ≡ 12 = eqb-true c 12 h in
+        rw f (record { name = rw (is_xid_start-ascii 12 (omega arith)) refl; quote = refl; letter = refl }, refl, refl))
     (or_parts (eqb c 32 || eqb c 9) (eqb c 12) e)
 
 -- a token begins with no blank
 pub token_no_blank : (k : Kind) (t r : List ℕ) → is_token k t ≡ true → begins is_blank_char (t ++ r) ≡ false
 token_no_blank k [] r e = absurd (none_empty k e)
-token_no_blank k (c ∷ t) r e = cases (is_blank_char c) (λ h. let o = blank_off c h in let n = no_token k c t o.0 (λ z. o.1) (λ z. o.2) in cc)
+token_no_blank k (c ∷ t) r e = cases (is_blank_char c) (λ h. let o = blank_off c h in let n =
+    no_token k c t o.0 (λ z. o.1) (λ z. o.2) in cc)
 
 -- but for a number, with no digit
 token_no_digit : (k : Kind) (c : ℕ) (t : List ℕ) → is_token k (c ∷ t) ≡ true → is_number_kind k ≡ false → is_decimal_digit c ≡ false
@@ -237,11 +244,13 @@ sign_head l c u e h = operator_head c u (operator_only l (c ∷ u) h e)
 head_eq : (c o : ℕ) → bytes_eq (c ∷ []) (o ∷ []) ≡ (c == o)
 head_eq c o = ⊎_elim (λ (h : (c == o) ≡ true). rw h refl) (λ (h : (c == o) ≡ false). rw h refl) (bool_cases (c == o))
 
-no_number_behind : (t r : List ℕ) (l : Kind) (c : ℕ) (u : List ℕ) → is_token l (c ∷ u) ≡ true → (bytes_eq t (46 ∷ []) && is_number_kind l) ≡ false
+no_number_behind : (t r : List ℕ) (l : Kind) (c : ℕ) (u : List ℕ) → is_token l (c ∷ u) ≡ true
+    → (bytes_eq t (46 ∷ []) && is_number_kind l) ≡ false
     → makes_number t (c ∷ r) ≡ false
 no_number_behind t r l c u e n =
     ⊎_elim
-    (λ (h : is_number_kind l ≡ true). let f : (bytes_eq t (46 ∷ []) && true) ≡ false = subst (λ (b : Bool). (bytes_eq t (46 ∷ []) && b) ≡ false) h n in first (bytes_eq t (46 ∷ [])) (is_decimal_digit c) f)
+    (λ (h : is_number_kind l ≡ true). let f : (bytes_eq t (46 ∷ []) && true) ≡ false =
+        subst (λ (b : Bool). (bytes_eq t (46 ∷ []) && b) ≡ false) h n in first (bytes_eq t (46 ∷ [])) (is_decimal_digit c) f)
     (λ (h : is_number_kind l ≡ false). no_number t r c (token_no_digit l c u e h))
     (bool_cases (is_number_kind l))
   where
@@ -265,7 +274,8 @@ clear_close kinds.String l t (c ∷ u) r p =
     s.quote
 clear_close kinds.Op l t (c ∷ u) r p =
     let q = and_parts (not (begins_operator (t ++ c ∷ []))) (not (bytes_eq t (46 ∷ []) && is_number_kind l)) p.apart in
-    (none_longer t (u ++ r) c (off (begins_operator (t ++ c ∷ [])) q.0), no_number_behind t (u ++ r) l c u p.right (off (bytes_eq t (46 ∷ []) && is_number_kind l) q.1))
+    (none_longer t (u ++ r) c (off (begins_operator (t ++ c ∷ [])) q.0),
+        no_number_behind t (u ++ r) l c u p.right (off (bytes_eq t (46 ∷ []) && is_number_kind l) q.1))
 clear_close kinds.Encoding l t (c ∷ u) r p = tt
 clear_close kinds.Comment l t (c ∷ u) r p = tt
 clear_close kinds.Nl l t (c ∷ u) r p = tt
@@ -278,7 +288,8 @@ clear_close kinds.EndMarker l t (c ∷ u) r p = tt
 two_points : (d : ℕ) (t : List ℕ) → (d == 46) ≡ false → is_operator (46 ∷ 46 ∷ d ∷ t) ≡ false
 two_points d t e = by_words (46 ∷ 46 ∷ d ∷ t) ∙ rw e refl
 
-no_third : (r : List ℕ) → begins (λ c. c == 46) r ≡ false → (j : ℕ) → 0 < j → j ≤ length (46 ∷ r) → is_operator (46 ∷ take j (46 ∷ r)) ≡ false
+no_third : (r : List ℕ) → begins (λ c. c == 46) r ≡ false → (j : ℕ) → 0 < j → j ≤ length (46 ∷ r)
+    → is_operator (46 ∷ take j (46 ∷ r)) ≡ false
 no_third r e zero h i = absurd (omega arith)
 no_third r e (suc zero) h i = by_words (46 ∷ 46 ∷ [])
 no_third [] e (suc (suc j)) h i = by_words (46 ∷ 46 ∷ [])
@@ -311,7 +322,8 @@ points_of p q [] h =
     let b = and_parts (bytes_eq p.text (46 ∷ [])) (bytes_eq q.text (46 ∷ [])) h in
     record { first = (bytes_eq-Decides p.text (46 ∷ [])).0 b.0; second = (bytes_eq-Decides q.text (46 ∷ [])).0 b.1; third = λ r rs e. cc }
 points_of p q (s ∷ ss) h =
-    let a = and_parts (bytes_eq p.text (46 ∷ []) && bytes_eq q.text (46 ∷ [])) (not (touches q s && bytes_eq (take 1 s.text) (46 ∷ []))) h in
+    let a = and_parts (bytes_eq p.text (46 ∷ []) && bytes_eq q.text (46 ∷ []))
+        (not (touches q s && bytes_eq (take 1 s.text) (46 ∷ []))) h in
     let b = and_parts (bytes_eq p.text (46 ∷ [])) (bytes_eq q.text (46 ∷ [])) a.0 in
     record {
       first = (bytes_eq-Decides p.text (46 ∷ [])).0 b.0;
@@ -329,7 +341,8 @@ points_of p q (s ∷ ss) h =
     same_touch : (r : Piece) (rs : List Piece) → s ∷ ss ≡ r ∷ rs → touches q r ≡ true → touches q s ≡ true
     same_touch r rs e t = subst (λ (x : Piece). touches q x ≡ true) (sym (first_of_both r rs e)) t
 
-    same : (r : Piece) (rs : List Piece) → s ∷ ss ≡ r ∷ rs → bytes_eq (take 1 s.text) (46 ∷ []) ≡ false → bytes_eq (take 1 r.text) (46 ∷ []) ≡ false
+    same : (r : Piece) (rs : List Piece) → s ∷ ss ≡ r ∷ rs → bytes_eq (take 1 s.text) (46 ∷ []) ≡ false
+        → bytes_eq (take 1 r.text) (46 ∷ []) ≡ false
     same r rs e n = subst (λ (x : Piece). bytes_eq (take 1 x.text) (46 ∷ []) ≡ false) (first_of_both r rs e) n
 
 abbrev pub ArePieces : List Piece → Type 0
@@ -369,8 +382,10 @@ clear_behind p (q ∷ qs) more e a h =
     let s : (stay_apart p q || are_two_points p q qs) ≡ true = rw t at j.0 in
     rw t (subst (λ (u : List ℕ). Clear p.kind p.text u) (sym (append_assoc q.text (text_behind q qs) (10 ∷ more)))
     (⊎_elim
-    (λ (c : stay_apart p q ≡ true). clear_close p.kind q.kind p.text q.text (text_behind q qs ++ 10 ∷ more) (record { left = e; right = i.0; apart = c }))
-    (λ (c : are_two_points p q qs ≡ true). let x = points_of p q qs c in clear_third p q (text_behind q qs ++ 10 ∷ more) e x.first x.second (third_off p q qs more i.1 x))
+    (λ (c : stay_apart p q ≡ true). clear_close p.kind q.kind p.text q.text (text_behind q qs ++ 10 ∷ more)
+        (record { left = e; right = i.0; apart = c }))
+    (λ (c : are_two_points p q qs ≡ true). let x = points_of p q qs c in clear_third p q (text_behind q qs ++ 10 ∷ more) e x.first x.second
+        (third_off p q qs more i.1 x))
     (or_parts (stay_apart p q) (are_two_points p q qs) s))))
     (λ (t : touches p q ≡ false). rw t (clear_gap p.kind p.text ((q.text ++ text_behind q qs) ++ 10 ∷ more) 32 e blank_gap))
     (bool_cases (touches p q))

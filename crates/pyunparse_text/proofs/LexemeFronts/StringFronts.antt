@@ -1,7 +1,8 @@
 -- A literal in one quote at the front of a text.
 --
 -- Carries: string_front, units_slash, for PieceFronts, Literals. On: Fronts, Cases.
-use Rattle.std.proofs.Common.{◌≡◌, ℕ, ◌+◌, ◌≤◌, Bool, true, false, not, ◌&&◌, ◌||◌, ◌==◌, List, [], ◌∷◌, ◌++◌, length, take, drop, map, refl, sym}
+use Rattle.std.proofs.Common.{◌≡◌, ℕ, ◌+◌, ◌≤◌, Bool, true, false, not, ◌&&◌, ◌||◌, ◌==◌, List, [], ◌∷◌, ◌++◌, length, take, drop, map}
+use Rattle.std.proofs.Common.{refl, sym}
 use Rattle.std.proofs.Common.{◌∙◌, ap, subst, arith, suc, ⊎_elim, Some, leb, length-append, append_assoc}
 use Rattle.std.specs.List.{list_all, list_any}
 use Rattle.std.specs.Str.{bytes_eq}
@@ -11,12 +12,14 @@ use Rattle.std.proofs.lemmas.Slice.Eq.{bytes_eq-Decides}
 use Rattle.pylex_lexeme.specs.declared.lexeme.Class.TheVariants.{String}
 use Rattle.pylex_lexeme.specs.Chars.{begins, is_comment_part}
 use Rattle.pylex_lexeme.specs.Numbers.{split_any, is_nil}
-use Rattle.pylex_lexeme.specs.Strings.{units, is_unit, no_units, ends_by_one, is_single, is_single_string, is_prefix, prefixes, lower, begins_quote}
+use Rattle.pylex_lexeme.specs.Strings.{units, is_unit, no_units, ends_by_one, is_single, is_single_string, is_prefix, prefixes, lower}
+use Rattle.pylex_lexeme.specs.Strings.{begins_quote}
 use Rattle.pylex_lexeme.specs.Strings.{counts_as_string}
 use Rattle.pylex_lexeme.specs.Lengths.{Opens, shift, single_of, single_len, quoted_len, begins_quotes, longest}
 use Rattle.pylex_lexeme.specs.Lexemes.{lexeme_at}
 use Rattle.pylex_lexeme.proofs.Callers.Booleans.{and_parts, or_parts, or_parts_false}
-use Rattle.pylex_lexeme.proofs.Callers.Strings.{IsQuote, quote_is, units_plain, nil_units, unit_one, unit_slash, Which, one, two, string_reads}
+use Rattle.pylex_lexeme.proofs.Callers.Strings.{IsQuote, quote_is, units_plain, nil_units, unit_one, unit_slash, Which, one, two}
+use Rattle.pylex_lexeme.proofs.Callers.Strings.{string_reads}
 use Rattle.pylex_lexeme.proofs.Callers.Strings.{longest_reads, string_opens}
 use Rattle.pylex_lexeme.proofs.Callers.Lexemes.{string_takes}
 use Rattle.pyunparse_text.proofs.LexemeFronts.Fronts.{is_lexeme, leaves}
@@ -31,20 +34,26 @@ pub record Split (p q : List ℕ → Bool) (t : List ℕ) : Type 0 where
   pub rest_passes : q rest ≡ true
 
 pub split_of : (p q : List ℕ → Bool) (t : List ℕ) → split_any p q t ≡ true → Split p q t
-split_of p q [] e = let h = and_parts (p []) (q []) e in record { front = []; rest = []; whole = refl; front_passes = h.0; rest_passes = h.1 }
+split_of p q [] e = let h = and_parts (p []) (q []) e in record { front = []; rest = []; whole = refl; front_passes =
+    h.0; rest_passes = h.1 }
 split_of p q (c ∷ t) e =
     ⊎_elim
-    (λ (h : (p [] && q (c ∷ t)) ≡ true). let i = and_parts (p []) (q (c ∷ t)) h in record { front = []; rest = c ∷ t; whole = refl; front_passes = i.0; rest_passes = i.1 })
-    (λ (h : split_any (λ u. p (c ∷ u)) q t ≡ true). let s = split_of (λ u. p (c ∷ u)) q t h in record { front = c ∷ s.front; rest = s.rest; whole = ap (λ u. c ∷ u) s.whole; front_passes = s.front_passes; rest_passes = s.rest_passes })
+    (λ (h : (p [] && q (c ∷ t)) ≡ true). let i = and_parts (p []) (q (c ∷ t)) h in
+        record { front = []; rest = c ∷ t; whole = refl; front_passes = i.0; rest_passes = i.1 })
+    (λ (h : split_any (λ u. p (c ∷ u)) q t ≡ true). let s = split_of (λ u. p (c ∷ u)) q t h in
+        record { front = c ∷ s.front; rest = s.rest; whole = ap (λ u. c ∷ u) s.whole; front_passes = s.front_passes;
+        rest_passes = s.rest_passes })
     (or_parts (p [] && q (c ∷ t)) (split_any (λ u. p (c ∷ u)) q t) e)
 
 -- A prefix has at most two letters.
-among_short : (n : ℕ) (t : List ℕ) (os : List (List ℕ)) → list_all (λ o. leb (length o) n) os ≡ true → list_any (bytes_eq t) os ≡ true → length t ≤ n
+among_short : (n : ℕ) (t : List ℕ) (os : List (List ℕ)) → list_all (λ o. leb (length o) n) os ≡ true
+    → list_any (bytes_eq t) os ≡ true → length t ≤ n
 among_short n t [] a e = cc
 among_short n t (o ∷ os) a e =
     let q = and_parts (leb (length o) n) (list_all (λ o. leb (length o) n) os) a in
     ⊎_elim
-    (λ (h : bytes_eq t o ≡ true). let f : length t ≡ length o = ap length ((bytes_eq-Decides t o).0 h) in let g = leb-true (length o) n q.0 in omega arith)
+    (λ (h : bytes_eq t o ≡ true). let f : length t ≡ length o = ap length ((bytes_eq-Decides t o).0 h) in let g =
+        leb-true (length o) n q.0 in omega arith)
     (λ (h : list_any (bytes_eq t) os ≡ true). among_short n t os q.1 h)
     (or_parts (bytes_eq t o) (list_any (bytes_eq t) os) e)
 
@@ -112,7 +121,8 @@ single_behind q k (c ∷ []) r =
     (bool_cases (c == 92))
 single_behind q k (c ∷ b ∷ t) r =
     ⊎_elim
-    (λ (h : (c == 92) ≡ true). subst (λ (x : ℕ). Behind q r (x ∷ b ∷ t)) (sym (eqb-true c 92 h)) (behind_slash q b t r k (single_behind q k t r)))
+    (λ (h : (c == 92) ≡ true). subst (λ (x : ℕ). Behind q r (x ∷ b ∷ t)) (sym (eqb-true c 92 h))
+        (behind_slash q b t r k (single_behind q k t r)))
     (λ (h : (c == 92) ≡ false). behind_plain q c (b ∷ t) r h (single_behind q k (b ∷ t) r))
     (bool_cases (c == 92))
 
@@ -181,9 +191,11 @@ literal_front q a t r w p c e b =
     let f : take (length a) cs ≡ a = ap (take (length a)) s ∙ take-append_seam a (q ∷ t ++ r) in
     let o : Opens (length a) cs =
     record { small = prefix_short a p; «prefix» = ap is_prefix f ∙ p; quote = ap begins_quote d ∙ begins_which q (t ++ r) w } in
-    let l : quoted_len q (drop (length a) cs) ≡ suc (length t) = ap (quoted_len q) d ∙ quoted_behind q (quote_of q w) t r c e (no_quote_of q r w b) in
+    let l : quoted_len q (drop (length a) cs) ≡ suc (length t) = ap (quoted_len q) d
+        ∙ quoted_behind q (quote_of q w) t r c e (no_quote_of q r w b) in
     let m : longest (counts_as_string cs) cs ≡ length a + suc (length t) =
-    longest_reads (counts_as_string cs) cs (shift (length a) (quoted_len q (drop (length a) cs))) (string_reads q (length a) cs (t ++ r) w o d)
+    longest_reads (counts_as_string cs) cs (shift (length a) (quoted_len q (drop (length a) cs)))
+        (string_reads q (length a) cs (t ++ r) w o d)
     ∙ ap (shift (length a)) l in
     let k = string_takes cs (drop (longest (counts_as_string cs) cs) cs) (string_opens (length a) cs o) (omega arith) refl in
     let n : longest (counts_as_string cs) cs ≡ length (a ++ q ∷ t) = m ∙ sym (length-append a (q ∷ t)) in

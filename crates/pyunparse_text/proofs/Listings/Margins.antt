@@ -1,6 +1,7 @@
 -- Carries: the law of written lines. On: the blanks before a written line are spaces, so that they
 -- are as wide whichever way tabs count.
-use Rattle.std.proofs.Common.{◌≡◌, ℕ, ◌+◌, ◌*◌, zero, suc, Bool, true, false, ◌==◌, cond, List, [], ◌∷◌, ◌++◌, length, drop, replicate, refl, sym}
+use Rattle.std.proofs.Common.{◌≡◌, ℕ, ◌+◌, ◌*◌, zero, suc, Bool, true, false, ◌==◌, cond, List, [], ◌∷◌, ◌++◌, length, drop, replicate}
+use Rattle.std.proofs.Common.{refl, sym}
 use Rattle.std.proofs.Common.{◌∙◌, ap, subst, arith, append_assoc}
 use Rattle.std.specs.List.{list_all}
 use Rattle.std.specs.Str.{chars, encode_utf8_all, all_scalars}
@@ -88,12 +89,14 @@ behind_is text a rest o w e s =
     ∙ drop-append_seam (encode_utf8_all a) (encode_utf8_all rest) in
     ap chars d ∙ chars-encodes rest s
 
-pub margin_even : (text a rest : List ℕ) (o : ℕ) → text ≡ a ++ rest → o ≡ bytes_in a → Even rest → list_all is_even (margin_at text o) ≡ true
+pub margin_even : (text a rest : List ℕ) (o : ℕ) → text ≡ a ++ rest → o ≡ bytes_in a → Even rest
+    → list_all is_even (margin_at text o) ≡ true
 margin_even text a rest o w e v =
     let b : behind_offset text o ≡ rest = behind_is text a rest o w e v.scalars in
     let f : (width_from 0 (blanks_of (behind_offset text o)) == width_by_one 0 (blanks_of (behind_offset text o))) ≡ true = rw b v.widths in
     by (begins_significant (drop (length (blanks_of (behind_offset text o))) (behind_offset text o)))
-    (record { widths = widths_of (behind_offset text o); start = place_at (encode_utf8_all text) (o + length (blanks_of (behind_offset text o))) }) f
+    (record { widths = widths_of (behind_offset text o); start =
+        place_at (encode_utf8_all text) (o + length (blanks_of (behind_offset text o))) }) f
   where
     by : (b : Bool) (m : Margin) → is_even m ≡ true → list_all is_even (cond b (m ∷ []) []) ≡ true
     by true m e = rw e refl
@@ -122,7 +125,8 @@ pub margins_even : (text : List ℕ) (before es : List Entry) → list_all (λ e
 margins_even text before [] h = refl
 margins_even text before (e ∷ es) h =
     let a = and_parts (ends_evenly text e.kind e.to) (list_all (λ e. ends_evenly text e.kind e.to) es) h in
-    both_even (cond (ends_line before e) (margin_at text e.to) []) (margins_from text (e ∷ before) es) (given_even text before e e.kind refl a.0)
+    both_even (cond (ends_line before e) (margin_at text e.to) []) (margins_from text (e ∷ before) es)
+        (given_even text before e e.kind refl a.0)
     (margins_even text (e ∷ before) es a.1)
 
 -- no token but NEWLINE ends a line

@@ -21,7 +21,8 @@ use Rattle.pylex_lexeme.proofs.Callers.Booleans.{and_parts}
 use Rattle.pylex.proofs.Callers.{listing_is}
 use Rattle.pyunparse_text.specs.Spacing.{Line, are_readable, lines_text}
 use Rattle.pyunparse_text.specs.Inner.Relexed.{lines_lexemes}
-use Rattle.pyunparse_text.specs.Tokens.{dedent, end_marker, exact_in, tokens_behind, is_written, are_written, rise_by_one, is_even, IsListedAs}
+use Rattle.pyunparse_text.specs.Tokens.{dedent, end_marker, exact_in, tokens_behind, is_written, are_written, rise_by_one, is_even}
+use Rattle.pyunparse_text.specs.Tokens.{IsListedAs}
 use Rattle.pyunparse_text.proofs.LexemeFronts.LineCuts.{lines_cut, lines_end}
 use Rattle.pyunparse_text.proofs.Listings.Columns.{columns, columns_above}
 use Rattle.pyunparse_text.proofs.Sources.Decoding.{lines_scalars}
@@ -31,7 +32,8 @@ use Rattle.pyunparse_text.proofs.Listings.Runs.{AtLine, steps_on, after_all, run
 
 -- the end
 tail_at : (text : List ℕ) (s : State) (m : ℕ) → AtLine text s m []
-    → tail_of s ≡ (replicate m (mark_at kinds.Dedent s.now.offset (last_place s) (last_place s)) ++ mark_at kinds.EndMarker s.now.offset (last_place s) (last_place s) ∷ []) ++ steps.End ∷ []
+    → tail_of s ≡ (replicate m (mark_at kinds.Dedent s.now.offset (last_place s) (last_place s)) ++ mark_at kinds.EndMarker s.now.offset
+        (last_place s) (last_place s) ∷ []) ++ steps.End ∷ []
 unfolding tail_of last_line_end
 tail_at text s m i =
     let p = last_place s in
@@ -52,7 +54,8 @@ up_to_all (e ∷ es) = ap (λ x. steps.Entry e ∷ x) (up_to_all es)
 
 first_at : (text : List ℕ) → AtLine text first_state 0 text
 first_at text =
-    record { before = []; whole = refl; offset = refl; line = refl; depth = refl; levels = refl; margin = refl; width = refl; logical = refl; joined = refl }
+    record { before = []; whole = refl; offset = refl; line = refl; depth = refl; levels = refl; margin = refl; width = refl;
+        logical = refl; joined = refl }
 
 readable : (ls : List Line) → list_all is_written ls ≡ true → list_all (λ l. are_readable l.pieces) ls ≡ true
 readable [] w = refl
@@ -70,12 +73,14 @@ abbrev pub encoding_entry : Entry
 encoding_entry = record { kind = kinds.Encoding; exact = None; start = origin; «end» = origin; «from» = bytes_in []; to = bytes_in [] }
 
 stops : (text : List ℕ) (s : State) (m : ℕ) → AtLine text s m []
-    → stop_of None s [] ≡ (replicate m (mark_at kinds.Dedent s.now.offset (last_place s) (last_place s)) ++ mark_at kinds.EndMarker s.now.offset (last_place s) (last_place s) ∷ []) ++ steps.End ∷ []
+    → stop_of None s [] ≡ (replicate m (mark_at kinds.Dedent s.now.offset (last_place s) (last_place s)) ++ mark_at kinds.EndMarker
+        s.now.offset (last_place s) (last_place s) ∷ []) ++ steps.End ∷ []
 unfolding stop_of
 stops text s m i = tail_at text s m i
 
 end_told : (text : List ℕ) (s : State) (m : ℕ)
-    → Tells text (replicate m (mark_at kinds.Dedent s.now.offset (last_place s) (last_place s)) ++ mark_at kinds.EndMarker s.now.offset (last_place s) (last_place s) ∷ []) (replicate m dedent ++ end_marker ∷ [])
+    → Tells text (replicate m (mark_at kinds.Dedent s.now.offset (last_place s) (last_place s)) ++ mark_at kinds.EndMarker s.now.offset
+        (last_place s) (last_place s) ∷ []) (replicate m dedent ++ end_marker ∷ [])
 end_told text s m =
     tells_both text (replicate m (mark_at kinds.Dedent s.now.offset (last_place s) (last_place s)))
     (mark_at kinds.EndMarker s.now.offset (last_place s) (last_place s) ∷ []) (replicate m dedent) (end_marker ∷ [])
@@ -89,14 +94,16 @@ remaining_is text xs c l = rw (c, l) refl
 
 -- The law: a source with the text of written lines, and no faulty line after it,
 -- is listed as their tokens.
-pub lines_listed : (s : Source) (ls : List Line) → s.text ≡ lines_text ls → s.fault ≡ None → are_written ls ≡ true → IsListedAs s (tokens_behind 0 ls)
+pub lines_listed : (s : Source) (ls : List Line) → s.text ≡ lines_text ls → s.fault ≡ None → are_written ls ≡ true
+    → IsListedAs s (tokens_behind 0 ls)
 lines_listed s ls e f w =
     let a = and_parts (list_all is_written ls) (rise_by_one 0 ls) w in
     let r = readable ls a.0 in
     let d = lines_run s.text first_state 0 ls (subst (AtLine s.text first_state 0) e (first_at s.text)) a.0 a.1 in
     let z : State = after_all first_state (lines_lexemes ls) in
     let ends : List Step =
-    replicate d.level (mark_at kinds.Dedent z.now.offset (last_place z) (last_place z)) ++ mark_at kinds.EndMarker z.now.offset (last_place z)
+    replicate d.level (mark_at kinds.Dedent z.now.offset (last_place z) (last_place z)) ++ mark_at kinds.EndMarker
+        z.now.offset (last_place z)
     (last_place z) ∷ [] in
     let g : run None [] first_state (lines_lexemes ls) ≡ (steps_on first_state (lines_lexemes ls) ++ ends) ++ steps.End ∷ [] =
     run_is None [] first_state (lines_lexemes ls) ∙ ap (λ x. steps_on first_state (lines_lexemes ls) ++ x)
@@ -106,8 +113,10 @@ lines_listed s ls e f w =
     (end_told s.text z d.level) in
     let c : cut s.text ≡ lines_lexemes ls = ap cut e ∙ lines_cut ls r in
     let l : left_by_cut s.text ≡ [] = ap left_by_cut e ∙ lines_end ls r in
-    let u : listing s ≡ mark kinds.Encoding [] origin origin ∷ (map steps.Entry t.entries ++ steps.End ∷ []) = listing_is s ∙ ap (λ x. mark kinds.Encoding [] origin origin ∷ x)
-    (ap (λ x. remaining x first_state s.text) f ∙ remaining_is s.text (lines_lexemes ls) c l ∙ ap up_to_end (g ∙ ap (λ x. x ++ steps.End ∷ []) t.are) ∙ up_to_all t.entries) in
+    let u : listing s ≡ mark kinds.Encoding [] origin origin ∷ (map steps.Entry t.entries ++ steps.End ∷ []) = listing_is s
+        ∙ ap (λ x. mark kinds.Encoding [] origin origin ∷ x)
+    (ap (λ x. remaining x first_state s.text) f ∙ remaining_is s.text (lines_lexemes ls) c l
+        ∙ ap up_to_end (g ∙ ap (λ x. x ++ steps.End ∷ []) t.are) ∙ up_to_all t.entries) in
     let v : entries_of (listing s) ≡ encoding_entry ∷ t.entries = ap entries_of u ∙ ap (λ x. encoding_entry ∷ x) (entries_all t.entries) in
     let m : list_all is_even (margin_at s.text 0) ≡ true =
     margin_even s.text [] (lines_text ls) 0 e refl (lines_even ls a.0 (lines_scalars ls a.0)) in

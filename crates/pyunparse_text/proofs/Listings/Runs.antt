@@ -2,7 +2,8 @@
 --
 -- Carries: AtLine, steps_on, after_all, run_is and 3 more, for Relisting, Clear, Forms. On:
 -- Columns, Tells, Margins, PieceFronts and 2 more.
-use Rattle.std.proofs.Common.{◌≡◌, ℕ, ◌+◌, ◌-◌, ◌*◌, ◌≤◌, ◌<◌, Bool, true, false, not, ◌&&◌, ◌==◌, List, [], ◌∷◌, ◌++◌, map, refl, sym, ◌∙◌, ap, subst, arith, zero, suc, ⊎_elim, cond, replicate, Option, Some, None, append_assoc, ltb}
+use Rattle.std.proofs.Common.{◌≡◌, ℕ, ◌+◌, ◌-◌, ◌*◌, ◌≤◌, ◌<◌, Bool, true, false, not, ◌&&◌, ◌==◌, List, [], ◌∷◌, ◌++◌, map, refl, sym, ◌∙◌}
+use Rattle.std.proofs.Common.{ap, subst, arith, zero, suc, ⊎_elim, cond, replicate, Option, Some, None, append_assoc, ltb}
 use Rattle.std.specs.Prelude.{nat_le}
 use Rattle.std.specs.List.{list_all}
 use Rattle.std.specs.Str.{all_scalars}
@@ -22,9 +23,12 @@ use Rattle.pylex_lexeme.specs.Chars.{bytes_in}
 use Rattle.pylex.specs.Indentation.{width_from}
 use Rattle.pylex.specs.Machine.{State, after, gives, run, stop_of, layout_of, entry_by, step_of, past, behind, pushed}
 use Rattle.pylex_lexeme.proofs.Callers.Booleans.{and_parts}
-use Rattle.pyunparse_text.specs.Spacing.{Piece, Line, is_token, is_operator_kind, touches, text_behind, spaced, are_readable, line_text, lines_text}
-use Rattle.pyunparse_text.specs.Inner.Relexed.{class_of, lexeme_of, blanks, feed, lexemes_behind, lexemes_of, indent_lexemes, line_lexemes, lines_lexemes}
-use Rattle.pyunparse_text.specs.Tokens.{PlainToken, token_of, exact_in, newline, dedent, end_marker, level_tokens, line_tokens, tokens_behind, opens, closes, closes_all, rise_by_one, is_written, is_opening, is_closing}
+use Rattle.pyunparse_text.specs.Spacing.{Piece, Line, is_token, is_operator_kind, touches, text_behind, spaced, are_readable, line_text}
+use Rattle.pyunparse_text.specs.Spacing.{lines_text}
+use Rattle.pyunparse_text.specs.Inner.Relexed.{class_of, lexeme_of, blanks, feed, lexemes_behind, lexemes_of, indent_lexemes, line_lexemes}
+use Rattle.pyunparse_text.specs.Inner.Relexed.{lines_lexemes}
+use Rattle.pyunparse_text.specs.Tokens.{PlainToken, token_of, exact_in, newline, dedent, end_marker, level_tokens, line_tokens}
+use Rattle.pyunparse_text.specs.Tokens.{tokens_behind, opens, closes, closes_all, rise_by_one, is_written, is_opening, is_closing}
 use Rattle.pyunparse_text.proofs.LexemeFronts.PieceFronts.{IsPiece, ArePieces}
 use Rattle.pyunparse_text.proofs.Listings.Columns.{columns, deeper, not_deeper, is_column, columns_above, columns_pushed}
 use Rattle.pyunparse_text.proofs.Listings.Tells.{Tells, bytes_both, nothing_told, tells_both, piece_told, marks_told}
@@ -42,13 +46,16 @@ abbrev pub after_all : State → List Lexeme → State
 after_all s [] = s
 after_all s (x ∷ xs) = after_all (after s x) xs
 
-pub run_is : (f : Option ListingFault) (left : List ℕ) (s : State) (xs : List Lexeme) → run f left s xs ≡ steps_on s xs ++ stop_of f (after_all s xs) left
+pub run_is : (f : Option ListingFault) (left : List ℕ) (s : State) (xs : List Lexeme)
+    → run f left s xs ≡ steps_on s xs ++ stop_of f (after_all s xs) left
 run_is f left s [] = refl
-run_is f left s (x ∷ xs) = ap (λ r. gives s x ++ r) (run_is f left (after s x) xs) ∙ sym (append_assoc (gives s x) (steps_on (after s x) xs) (stop_of f (after_all (after s x) xs) left))
+run_is f left s (x ∷ xs) = ap (λ r. gives s x ++ r) (run_is f left (after s x) xs)
+    ∙ sym (append_assoc (gives s x) (steps_on (after s x) xs) (stop_of f (after_all (after s x) xs) left))
 
 pub steps_both : (s : State) (xs ys : List Lexeme) → steps_on s (xs ++ ys) ≡ steps_on s xs ++ steps_on (after_all s xs) ys
 steps_both s [] ys = refl
-steps_both s (x ∷ xs) ys = ap (λ r. gives s x ++ r) (steps_both (after s x) xs ys) ∙ sym (append_assoc (gives s x) (steps_on (after s x) xs) (steps_on (after_all (after s x) xs) ys))
+steps_both s (x ∷ xs) ys = ap (λ r. gives s x ++ r) (steps_both (after s x) xs ys)
+    ∙ sym (append_assoc (gives s x) (steps_on (after s x) xs) (steps_on (after_all (after s x) xs) ys))
 
 pub after_both : (s : State) (xs ys : List Lexeme) → after_all s (xs ++ ys) ≡ after_all (after_all s xs) ys
 after_both s [] ys = refl
@@ -116,7 +123,8 @@ piece_gives s kinds.Op t e c = by (exact_of t) refl
     by : (o : Option Exact) → exact_of t ≡ o → Gives s kinds.Op t
     by (Some x) f =
         let d : (is_closer x && (s.depth == 0)) ≡ false = subst (λ (b : Bool). (b && (s.depth == 0)) ≡ false) (closing_is t x f) c in
-        let i : gives s (record { «class» = Operator x; text = t }) ≡ layout_of s ++ step_of kinds.Op (Some x) s.now (past s.now t) ∷ [] = rw d refl in
+        let i : gives s (record { «class» = Operator x; text = t }) ≡ layout_of s ++ step_of kinds.Op (Some x) s.now (past s.now t) ∷ [] =
+            rw d refl in
         record { exact = Some x; is = ap (λ k. gives s (record { «class» = k; text = t })) (class_is t x f) ∙ i; same = f }
     by None f = let g : false ≡ true = rw f at e in cc
 piece_gives s kinds.Encoding t e c = cc
@@ -134,7 +142,8 @@ record After (s : State) (k : Kind) (t : List ℕ) (r : State) : Type 0 where
   pub margin : r.margin ≡ false
   pub logical : r.logical ≡ true
 
-piece_after : (s : State) (k : Kind) (t : List ℕ) → is_token k t ≡ true → After s k t (after s (record { «class» = class_of k t; text = t }))
+piece_after : (s : State) (k : Kind) (t : List ℕ) → is_token k t ≡ true
+    → After s k t (after s (record { «class» = class_of k t; text = t }))
 unfolding after is_operator
 piece_after s kinds.Name t e = record { now = refl; depth = refl; levels = refl; margin = refl; logical = refl }
 piece_after s kinds.Number t e = record { now = refl; depth = refl; levels = refl; margin = refl; logical = refl }
@@ -146,7 +155,8 @@ piece_after s kinds.Op t e = by (exact_of t) refl
         let k = class_is t x f in
         record {
           now = refl;
-          depth = ap (λ k. (after s (record { «class» = k; text = t })).depth) k ∙ ap (λ b. s.depth + count_if b - count_if (is_closer x)) (sym (opening_is t x f)) ∙ ap (λ b. s.depth + count_if (is_opening t) - count_if b) (sym (closing_is t x f));
+          depth = ap (λ k. (after s (record { «class» = k; text = t })).depth) k ∙ ap (λ b. s.depth + count_if b - count_if (is_closer x))
+              (sym (opening_is t x f)) ∙ ap (λ b. s.depth + count_if (is_opening t) - count_if b) (sym (closing_is t x f));
           levels = ap (λ k. (after s (record { «class» = k; text = t })).levels) k;
           margin = ap (λ k. (after s (record { «class» = k; text = t })).margin) k;
           logical = ap (λ k. (after s (record { «class» = k; text = t })).logical) k;
@@ -221,7 +231,8 @@ no_layout : (s : State) → s.margin ≡ false → layout_of s ≡ []
 unfolding layout_of
 no_layout s m = rw m refl
 
-goes : (text : List ℕ) (s : State) (d n : ℕ) (p : Piece) (ps : List Piece) (rest : List ℕ) → InLine text s d n (p.text ++ rest) → IsPiece p → all_scalars p.text ≡ true → closes_all d (p ∷ ps) ≡ true → Went text s p n ps rest
+goes : (text : List ℕ) (s : State) (d n : ℕ) (p : Piece) (ps : List Piece) (rest : List ℕ) → InLine text s d n (p.text ++ rest) → IsPiece p
+    → all_scalars p.text ≡ true → closes_all d (p ∷ ps) ≡ true → Went text s p n ps rest
 goes text s d n p ps rest i e u c =
     let h = deep d p ps c in
     let m : (closes p && (s.depth == 0)) ≡ false = rw i.depth h.matched in
@@ -229,7 +240,10 @@ goes text s d n p ps rest i e u c =
     let a = piece_after s p.kind p.text e in
     record {
       next = h.next;
-      tells = subst (λ (ss : List Step). Tells text ss (token_of p ∷ [])) (sym (g.is ∙ ap (λ l. l ++ step_of p.kind g.exact s.now (past s.now p.text) ∷ []) (no_layout s i.margin))) (piece_told text i.before p.text rest p.kind g.exact s.now (past s.now p.text) i.whole u i.offset refl g.same (token_even text (past s.now p.text).offset p.kind p.text e));
+      tells = subst (λ (ss : List Step). Tells text ss (token_of p ∷ []))
+          (sym (g.is ∙ ap (λ l. l ++ step_of p.kind g.exact s.now (past s.now p.text) ∷ []) (no_layout s i.margin)))
+          (piece_told text i.before p.text rest p.kind g.exact s.now (past s.now p.text) i.whole u i.offset refl g.same
+          (token_even text (past s.now p.text).offset p.kind p.text e));
       at = record {
         before = i.before ++ p.text;
         whole = i.whole ∙ sym (append_assoc i.before p.text rest);
@@ -247,7 +261,8 @@ blank_gives : (s : State) (t : List ℕ) → gives s (blanks t) ≡ []
 unfolding gives entry_by is_operator
 blank_gives s t = refl
 
-blank_goes : (text : List ℕ) (s : State) (d n : ℕ) (rest : List ℕ) → InLine text s d n (32 ∷ rest) → InLine text (after s (blanks (32 ∷ []))) d n rest
+blank_goes : (text : List ℕ) (s : State) (d n : ℕ) (rest : List ℕ) → InLine text s d n (32 ∷ rest)
+    → InLine text (after s (blanks (32 ∷ []))) d n rest
 unfolding after
 blank_goes text s d n rest i = record {
   before = i.before ++ 32 ∷ [];
@@ -267,7 +282,8 @@ feed_gives s l d = rw (l, d) refl
 feed_after : (text : List ℕ) (s : State) (n : ℕ) (rest : List ℕ) → InLine text s 0 n (10 ∷ rest) → AtLine text (after s feed) n rest
 unfolding after
 feed_after text s n rest i =
-    let o : (past s.now (10 ∷ [])).offset ≡ bytes_in (i.before ++ 10 ∷ []) = ap (λ o. o + bytes_in (10 ∷ [])) i.offset ∙ sym (bytes_both i.before (10 ∷ [])) in
+    let o : (past s.now (10 ∷ [])).offset ≡ bytes_in (i.before ++ 10 ∷ []) = ap (λ o. o + bytes_in (10 ∷ [])) i.offset
+        ∙ sym (bytes_both i.before (10 ∷ [])) in
     record {
       before = i.before ++ 10 ∷ [];
       whole = i.whole ∙ sym (append_assoc i.before (10 ∷ []) rest);
@@ -281,10 +297,13 @@ feed_after text s n rest i =
       joined = refl;
     }
 
-feed_runs : (text : List ℕ) (s : State) (n : ℕ) (rest : List ℕ) → Even rest → InLine text s 0 n (10 ∷ rest) → Ran text s (feed ∷ []) (newline ∷ []) n rest
+feed_runs : (text : List ℕ) (s : State) (n : ℕ) (rest : List ℕ) → Even rest → InLine text s 0 n (10 ∷ rest)
+    → Ran text s (feed ∷ []) (newline ∷ []) n rest
 feed_runs text s n rest v i = record {
-  tells = subst (λ (ss : List Step). Tells text ss (newline ∷ [])) (sym (append-nil (gives s feed) ∙ feed_gives s i.logical i.depth)) (piece_told text i.before (10 ∷ []) rest kinds.Newline None s.now (behind s.now (10 ∷ [])) i.whole refl i.offset refl refl
-      (margin_even text (i.before ++ 10 ∷ []) rest (behind s.now (10 ∷ [])).offset (i.whole ∙ sym (append_assoc i.before (10 ∷ []) rest)) (ap (λ o. o + bytes_in (10 ∷ [])) i.offset ∙ sym (bytes_both i.before (10 ∷ []))) v));
+  tells = subst (λ (ss : List Step). Tells text ss (newline ∷ [])) (sym (append-nil (gives s feed) ∙ feed_gives s i.logical i.depth))
+      (piece_told text i.before (10 ∷ []) rest kinds.Newline None s.now (behind s.now (10 ∷ [])) i.whole refl i.offset refl refl
+      (margin_even text (i.before ++ 10 ∷ []) rest (behind s.now (10 ∷ [])).offset (i.whole ∙ sym (append_assoc i.before (10 ∷ []) rest))
+          (ap (λ o. o + bytes_in (10 ∷ [])) i.offset ∙ sym (bytes_both i.before (10 ∷ []))) v));
   at = feed_after text s n rest i;
 }
 
@@ -292,14 +311,17 @@ abbrev pub AreScalar : List Piece → Type 0
 AreScalar ps = list_all (λ p. all_scalars p.text) ps ≡ true
 
 -- a piece, and what runs after it
-then_runs : (text : List ℕ) (s : State) (p : Piece) (n : ℕ) (ps : List Piece) (rest more : List ℕ) (xs : List Lexeme) (ts : List PlainToken) (w : Went text s p n ps rest) → Ran text (after s (lexeme_of p)) xs ts n more → Ran text s (lexeme_of p ∷ xs) (token_of p ∷ ts) n more
+then_runs : (text : List ℕ) (s : State) (p : Piece) (n : ℕ) (ps : List Piece) (rest more : List ℕ) (xs : List Lexeme) (ts : List PlainToken)
+    (w : Went text s p n ps rest) → Ran text (after s (lexeme_of p)) xs ts n more → Ran text s (lexeme_of p ∷ xs) (token_of p ∷ ts) n more
 then_runs text s p n ps rest more xs ts w r = record {
   tells = tells_both text (gives s (lexeme_of p)) (steps_on (after s (lexeme_of p)) xs) (token_of p ∷ []) ts w.tells r.tells;
   at = r.at;
 }
 
 -- what stands after a piece of a line
-behind_runs : (text : List ℕ) (s : State) (d n : ℕ) (p : Piece) (qs : List Piece) (more : List ℕ) → Even more → InLine text s d n (text_behind p qs ++ 10 ∷ more) → ArePieces qs → AreScalar qs → closes_all d qs ≡ true → Ran text s (lexemes_behind p qs ++ feed ∷ []) (map token_of qs ++ newline ∷ []) n more
+behind_runs : (text : List ℕ) (s : State) (d n : ℕ) (p : Piece) (qs : List Piece) (more : List ℕ) → Even more
+    → InLine text s d n (text_behind p qs ++ 10 ∷ more) → ArePieces qs → AreScalar qs → closes_all d qs ≡ true
+    → Ran text s (lexemes_behind p qs ++ feed ∷ []) (map token_of qs ++ newline ∷ []) n more
 behind_runs text s d n p [] more f i a u c =
     let z : d ≡ 0 = eqb-true d 0 c in
     feed_runs text s n more f (subst (λ (x : ℕ). InLine text s x n (10 ∷ more)) z i)
@@ -310,17 +332,22 @@ behind_runs text s d n p (q ∷ qs) more f i a u c =
     (λ (t : touches p q ≡ true).
     let j : InLine text s d n ((q.text ++ text_behind q qs) ++ 10 ∷ more) = rw t at i in
     let w = goes text s d n q qs (text_behind q qs ++ 10 ∷ more) (again text s d n q qs more j) e.0 v.0 c in
-    rw t (then_runs text s q n qs (text_behind q qs ++ 10 ∷ more) more (lexemes_behind q qs ++ feed ∷ []) (map token_of qs ++ newline ∷ []) w (behind_runs text (after s (lexeme_of q)) w.next n q qs more f w.at e.1 v.1 w.rest_closes)))
+    rw t (then_runs text s q n qs (text_behind q qs ++ 10 ∷ more) more (lexemes_behind q qs ++ feed ∷ []) (map token_of qs ++ newline ∷ [])
+        w (behind_runs text (after s (lexeme_of q)) w.next n q qs more f w.at e.1 v.1 w.rest_closes)))
     (λ (t : touches p q ≡ false).
     let j : InLine text s d n (32 ∷ ((q.text ++ text_behind q qs) ++ 10 ∷ more)) = rw t at i in
     let b = blank_goes text s d n ((q.text ++ text_behind q qs) ++ 10 ∷ more) j in
     let r = after s (blanks (32 ∷ [])) in
     let w = goes text r d n q qs (text_behind q qs ++ 10 ∷ more) (again text r d n q qs more b) e.0 v.0 c in
-    let g = then_runs text r q n qs (text_behind q qs ++ 10 ∷ more) more (lexemes_behind q qs ++ feed ∷ []) (map token_of qs ++ newline ∷ []) w (behind_runs text (after r (lexeme_of q)) w.next n q qs more f w.at e.1 v.1 w.rest_closes) in
-    rw t (record { tells = tells_both text (gives s (blanks (32 ∷ []))) (steps_on r (lexeme_of q ∷ (lexemes_behind q qs ++ feed ∷ []))) [] (token_of q ∷ (map token_of qs ++ newline ∷ [])) (subst (λ (ss : List Step). Tells text ss []) (sym (blank_gives s (32 ∷ []))) (nothing_told text)) g.tells; at = g.at }))
+    let g = then_runs text r q n qs (text_behind q qs ++ 10 ∷ more) more (lexemes_behind q qs ++ feed ∷ [])
+        (map token_of qs ++ newline ∷ []) w (behind_runs text (after r (lexeme_of q)) w.next n q qs more f w.at e.1 v.1 w.rest_closes) in
+    rw t (record { tells = tells_both text (gives s (blanks (32 ∷ []))) (steps_on r (lexeme_of q ∷ (lexemes_behind q qs ++ feed ∷ []))) []
+        (token_of q ∷ (map token_of qs ++ newline ∷ [])) (subst (λ (ss : List Step). Tells text ss []) (sym (blank_gives s (32 ∷ [])))
+        (nothing_told text)) g.tells; at = g.at }))
     (bool_cases (touches p q))
   where
-    again : (text : List ℕ) (s : State) (d n : ℕ) (q : Piece) (qs : List Piece) (more : List ℕ) → InLine text s d n ((q.text ++ text_behind q qs) ++ 10 ∷ more) → InLine text s d n (q.text ++ (text_behind q qs ++ 10 ∷ more))
+    again : (text : List ℕ) (s : State) (d n : ℕ) (q : Piece) (qs : List Piece) (more : List ℕ)
+        → InLine text s d n ((q.text ++ text_behind q qs) ++ 10 ∷ more) → InLine text s d n (q.text ++ (text_behind q qs ++ 10 ∷ more))
     again text s d n q qs more i = subst (InLine text s d n) (append_assoc q.text (text_behind q qs) (10 ∷ more)) i
 
 -- The blanks before a line
@@ -337,10 +364,12 @@ record Margin (text : List ℕ) (s : State) (m n : ℕ) (rest : List ℕ) : Type
   pub tells : Tells text (steps_on s (indent_lexemes n)) []
   pub at : AtMargin text (after_all s (indent_lexemes n)) m n rest
 
-blanks_margin : (text : List ℕ) (s : State) (m n : ℕ) (rest : List ℕ) → AtLine text s m (replicate (4 * n) 32 ++ rest) → AtMargin text (after s (blanks (replicate (4 * n) 32))) m n rest
+blanks_margin : (text : List ℕ) (s : State) (m n : ℕ) (rest : List ℕ) → AtLine text s m (replicate (4 * n) 32 ++ rest)
+    → AtMargin text (after s (blanks (replicate (4 * n) 32))) m n rest
 unfolding after
 blanks_margin text s m n rest i =
-    let w : width_from s.width (replicate (4 * n) 32) ≡ 4 * n = ap (λ v. width_from v (replicate (4 * n) 32)) i.width ∙ width_blanks 0 (4 * n) ∙ omega arith in
+    let w : width_from s.width (replicate (4 * n) 32) ≡ 4 * n = ap (λ v. width_from v (replicate (4 * n) 32)) i.width
+        ∙ width_blanks 0 (4 * n) ∙ omega arith in
     record {
       before = i.before;
       whole = i.whole;
@@ -352,7 +381,8 @@ blanks_margin text s m n rest i =
       width = rw i.margin w;
     }
 
-margin_runs : (text : List ℕ) (s : State) (m n : ℕ) (rest : List ℕ) → AtLine text s m (replicate (4 * n) 32 ++ rest) → Margin text s m n rest
+margin_runs : (text : List ℕ) (s : State) (m n : ℕ) (rest : List ℕ) → AtLine text s m (replicate (4 * n) 32 ++ rest)
+    → Margin text s m n rest
 margin_runs text s m zero rest i = record {
   tells = nothing_told text;
   at = record {
@@ -367,7 +397,8 @@ margin_runs text s m zero rest i = record {
   };
 }
 margin_runs text s m (suc n) rest i = record {
-  tells = subst (λ (ss : List Step). Tells text ss []) (sym (append-nil (gives s (blanks (replicate (4 * suc n) 32))) ∙ blank_gives s (replicate (4 * suc n) 32))) (nothing_told text);
+  tells = subst (λ (ss : List Step). Tells text ss []) (sym (append-nil (gives s (blanks (replicate (4 * suc n) 32)))
+      ∙ blank_gives s (replicate (4 * suc n) 32))) (nothing_told text);
   at = blanks_margin text s m (suc n) rest i;
 }
 
@@ -379,7 +410,8 @@ layout_told text s m n rest i =
     (λ (h : m < n).
     let e : ltb m n ≡ true = grind (arith, nat_tests) in
     let d = deeper m n h in
-    rw (i.margin, i.width, i.levels, d, e) (piece_told text i.before (replicate (4 * n) 32) rest kinds.Indent None s.line s.now i.whole (blanks_scalar (4 * n)) i.line i.offset refl refl))
+    rw (i.margin, i.width, i.levels, d, e) (piece_told text i.before (replicate (4 * n) 32) rest kinds.Indent None s.line s.now i.whole
+        (blanks_scalar (4 * n)) i.line i.offset refl refl))
     (λ (h : n ≤ m).
     let e : ltb m n ≡ false = grind (arith, nat_tests) in
     let d = not_deeper m n h in
@@ -394,7 +426,8 @@ record First (text : List ℕ) (s : State) (p : Piece) (m n : ℕ) (ps : List Pi
   pub at : InLine text (after s (lexeme_of p)) next n rest
   pub rest_closes : closes_all next ps ≡ true
 
-first_goes : (text : List ℕ) (s : State) (m n : ℕ) (p : Piece) (ps : List Piece) (rest : List ℕ) → AtMargin text s m n (p.text ++ rest) → n ≤ m + 1 → IsPiece p → all_scalars p.text ≡ true → closes_all 0 (p ∷ ps) ≡ true → First text s p m n ps rest
+first_goes : (text : List ℕ) (s : State) (m n : ℕ) (p : Piece) (ps : List Piece) (rest : List ℕ) → AtMargin text s m n (p.text ++ rest)
+    → n ≤ m + 1 → IsPiece p → all_scalars p.text ≡ true → closes_all 0 (p ∷ ps) ≡ true → First text s p m n ps rest
 first_goes text s m n p ps rest i l e u c =
     let h = deep 0 p ps c in
     let z : (closes p && (s.depth == 0)) ≡ false = rw i.depth h.matched in
@@ -402,11 +435,15 @@ first_goes text s m n p ps rest i l e u c =
     let a = piece_after s p.kind p.text e in
     let b : List ℕ = i.before ++ replicate (4 * n) 32 in
     let w : text ≡ b ++ (p.text ++ rest) = i.whole ∙ sym (append_assoc i.before (replicate (4 * n) 32) (p.text ++ rest)) in
-    let o : s.now.offset ≡ bytes_in b = i.offset ∙ ap (λ x. x + bytes_in (replicate (4 * n) 32)) i.line ∙ sym (bytes_both i.before (replicate (4 * n) 32)) in
-    let t = piece_told text b p.text rest p.kind g.exact s.now (past s.now p.text) w u o refl g.same (token_even text (past s.now p.text).offset p.kind p.text e) in
+    let o : s.now.offset ≡ bytes_in b = i.offset ∙ ap (λ x. x + bytes_in (replicate (4 * n) 32)) i.line
+        ∙ sym (bytes_both i.before (replicate (4 * n) 32)) in
+    let t = piece_told text b p.text rest p.kind g.exact s.now (past s.now p.text) w u o refl g.same
+        (token_even text (past s.now p.text).offset p.kind p.text e) in
     record {
       next = h.next;
-      tells = subst (λ (ss : List Step). Tells text ss (level_tokens m n ++ token_of p ∷ [])) (sym g.is) (tells_both text (layout_of s) (step_of p.kind g.exact s.now (past s.now p.text) ∷ []) (level_tokens m n) (token_of p ∷ []) (layout_told text s m n (p.text ++ rest) i) t);
+      tells = subst (λ (ss : List Step). Tells text ss (level_tokens m n ++ token_of p ∷ [])) (sym g.is)
+          (tells_both text (layout_of s) (step_of p.kind g.exact s.now (past s.now p.text) ∷ []) (level_tokens m n) (token_of p ∷ [])
+          (layout_told text s m n (p.text ++ rest) i) t);
       at = record {
         before = b ++ p.text;
         whole = w ∙ sym (append_assoc b p.text rest);
@@ -420,32 +457,44 @@ first_goes text s m n p ps rest i l e u c =
     }
 
 -- A line
-pieces_run : (text : List ℕ) (s : State) (m n : ℕ) (ps : List Piece) (more : List ℕ) → Even more → AtMargin text s m n (spaced ps ++ 10 ∷ more) → n ≤ m + 1 → are_readable ps ≡ true → AreScalar ps → closes_all 0 ps ≡ true → Ran text s (lexemes_of ps ++ feed ∷ []) (level_tokens m n ++ (map token_of ps ++ newline ∷ [])) n more
+pieces_run : (text : List ℕ) (s : State) (m n : ℕ) (ps : List Piece) (more : List ℕ) → Even more
+    → AtMargin text s m n (spaced ps ++ 10 ∷ more) → n ≤ m + 1 → are_readable ps ≡ true → AreScalar ps → closes_all 0 ps ≡ true
+    → Ran text s (lexemes_of ps ++ feed ∷ []) (level_tokens m n ++ (map token_of ps ++ newline ∷ [])) n more
 pieces_run text s m n [] more even i l r u c = cc
 pieces_run text s m n (p ∷ ps) more even i l r u c =
     let a = and_parts (list_all (λ q. is_token q.kind q.text) (p ∷ ps)) _ r in
     let e = and_parts (is_token p.kind p.text) (list_all (λ q. is_token q.kind q.text) ps) a.0 in
     let v = and_parts (all_scalars p.text) (list_all (λ q. all_scalars q.text) ps) u in
-    let j : AtMargin text s m n (p.text ++ (text_behind p ps ++ 10 ∷ more)) = subst (AtMargin text s m n) (append_assoc p.text (text_behind p ps) (10 ∷ more)) i in
+    let j : AtMargin text s m n (p.text ++ (text_behind p ps ++ 10 ∷ more)) =
+        subst (AtMargin text s m n) (append_assoc p.text (text_behind p ps) (10 ∷ more)) i in
     let f = first_goes text s m n p ps (text_behind p ps ++ 10 ∷ more) j l e.0 v.0 c in
     let b = behind_runs text (after s (lexeme_of p)) f.next n p ps more even f.at e.1 v.1 f.rest_closes in
     record {
-      tells = subst (λ (ts : List PlainToken). Tells text (steps_on s (lexeme_of p ∷ (lexemes_behind p ps ++ feed ∷ []))) ts) (append_assoc (level_tokens m n) (token_of p ∷ []) (map token_of ps ++ newline ∷ []))
-          (tells_both text (gives s (lexeme_of p)) (steps_on (after s (lexeme_of p)) (lexemes_behind p ps ++ feed ∷ [])) (level_tokens m n ++ token_of p ∷ []) (map token_of ps ++ newline ∷ []) f.tells b.tells);
+      tells = subst (λ (ts : List PlainToken). Tells text (steps_on s (lexeme_of p ∷ (lexemes_behind p ps ++ feed ∷ []))) ts)
+          (append_assoc (level_tokens m n) (token_of p ∷ []) (map token_of ps ++ newline ∷ []))
+          (tells_both text (gives s (lexeme_of p)) (steps_on (after s (lexeme_of p)) (lexemes_behind p ps ++ feed ∷ []))
+              (level_tokens m n ++ token_of p ∷ []) (map token_of ps ++ newline ∷ []) f.tells b.tells);
       at = b.at;
     }
 
-pub line_runs : (text : List ℕ) (s : State) (m : ℕ) (l : Line) (more : List ℕ) → Even more → AtLine text s m (line_text l ++ more) → is_written l ≡ true → l.level ≤ m + 1 → Ran text s (line_lexemes l) (line_tokens m l) l.level more
+pub line_runs : (text : List ℕ) (s : State) (m : ℕ) (l : Line) (more : List ℕ) → Even more → AtLine text s m (line_text l ++ more)
+    → is_written l ≡ true → l.level ≤ m + 1 → Ran text s (line_lexemes l) (line_tokens m l) l.level more
 line_runs text s m l more even i w h =
     let a = and_parts (are_readable l.pieces) (closes_all 0 l.pieces && list_all (λ p. all_scalars p.text) l.pieces) w in
     let b = and_parts (closes_all 0 l.pieces) (list_all (λ p. all_scalars p.text) l.pieces) a.1 in
-    let t : line_text l ++ more ≡ replicate (4 * l.level) 32 ++ (spaced l.pieces ++ 10 ∷ more) = append_assoc (replicate (4 * l.level) 32) (spaced l.pieces ++ 10 ∷ []) more ∙ ap (λ u. replicate (4 * l.level) 32 ++ u) (append_assoc (spaced l.pieces) (10 ∷ []) more) in
+    let t : line_text l ++ more ≡ replicate (4 * l.level) 32 ++ (spaced l.pieces ++ 10 ∷ more) =
+        append_assoc (replicate (4 * l.level) 32) (spaced l.pieces ++ 10 ∷ []) more
+        ∙ ap (λ u. replicate (4 * l.level) 32 ++ u) (append_assoc (spaced l.pieces) (10 ∷ []) more) in
     let j : AtLine text s m (replicate (4 * l.level) 32 ++ (spaced l.pieces ++ 10 ∷ more)) = subst (AtLine text s m) t i in
     let g = margin_runs text s m l.level (spaced l.pieces ++ 10 ∷ more) j in
     let p = pieces_run text (after_all s (indent_lexemes l.level)) m l.level l.pieces more even g.at h a.0 b.1 b.0 in
     record {
-      tells = subst (λ (ss : List Step). Tells text ss (line_tokens m l)) (sym (steps_both s (indent_lexemes l.level) (lexemes_of l.pieces ++ feed ∷ []))) (tells_both text (steps_on s (indent_lexemes l.level)) (steps_on (after_all s (indent_lexemes l.level)) (lexemes_of l.pieces ++ feed ∷ [])) [] (line_tokens m l) g.tells p.tells);
-      at = subst (λ (r : State). AtLine text r l.level more) (sym (after_both s (indent_lexemes l.level) (lexemes_of l.pieces ++ feed ∷ []))) p.at;
+      tells = subst (λ (ss : List Step). Tells text ss (line_tokens m l))
+          (sym (steps_both s (indent_lexemes l.level) (lexemes_of l.pieces ++ feed ∷ [])))
+          (tells_both text (steps_on s (indent_lexemes l.level))
+          (steps_on (after_all s (indent_lexemes l.level)) (lexemes_of l.pieces ++ feed ∷ [])) [] (line_tokens m l) g.tells p.tells);
+      at = subst (λ (r : State). AtLine text r l.level more)
+          (sym (after_both s (indent_lexemes l.level) (lexemes_of l.pieces ++ feed ∷ []))) p.at;
     }
 
 -- Lines
@@ -456,7 +505,8 @@ pub record Done (text : List ℕ) (s : State) (m : ℕ) (ls : List Line) : Type 
   pub at : AtLine text (after_all s (lines_lexemes ls)) level []
   pub whole : tokens ++ (replicate level dedent ++ end_marker ∷ []) ≡ tokens_behind m ls
 
-pub lines_run : (text : List ℕ) (s : State) (m : ℕ) (ls : List Line) → AtLine text s m (lines_text ls) → list_all is_written ls ≡ true → rise_by_one m ls ≡ true → Done text s m ls
+pub lines_run : (text : List ℕ) (s : State) (m : ℕ) (ls : List Line) → AtLine text s m (lines_text ls) → list_all is_written ls ≡ true
+    → rise_by_one m ls ≡ true → Done text s m ls
 lines_run text s m [] i w r = record { tokens = []; level = m; tells = nothing_told text; at = i; whole = refl }
 lines_run text s m (l ∷ ls) i w r =
     let a = and_parts (is_written l) (list_all is_written ls) w in
@@ -466,7 +516,11 @@ lines_run text s m (l ∷ ls) i w r =
     record {
       tokens = line_tokens m l ++ d.tokens;
       level = d.level;
-      tells = subst (λ (ss : List Step). Tells text ss (line_tokens m l ++ d.tokens)) (sym (steps_both s (line_lexemes l) (lines_lexemes ls))) (tells_both text (steps_on s (line_lexemes l)) (steps_on (after_all s (line_lexemes l)) (lines_lexemes ls)) (line_tokens m l) d.tokens g.tells d.tells);
+      tells = subst (λ (ss : List Step). Tells text ss (line_tokens m l ++ d.tokens))
+          (sym (steps_both s (line_lexemes l) (lines_lexemes ls)))
+          (tells_both text (steps_on s (line_lexemes l)) (steps_on (after_all s (line_lexemes l)) (lines_lexemes ls)) (line_tokens m l)
+          d.tokens g.tells d.tells);
       at = subst (λ (x : State). AtLine text x d.level []) (sym (after_both s (line_lexemes l) (lines_lexemes ls))) d.at;
-      whole = append_assoc (line_tokens m l) d.tokens (replicate d.level dedent ++ end_marker ∷ []) ∙ ap (λ u. line_tokens m l ++ u) d.whole;
+      whole = append_assoc (line_tokens m l) d.tokens (replicate d.level dedent ++ end_marker ∷ [])
+          ∙ ap (λ u. line_tokens m l ++ u) d.whole;
     }

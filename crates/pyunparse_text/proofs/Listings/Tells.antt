@@ -1,7 +1,8 @@
 -- Steps of a listing that are entries of tokens.
 --
 -- Carries: Tells, tells_both, marks_told, bytes_both and 2 more, for Runs, Relisting.
-use Rattle.std.proofs.Common.{◌≡◌, ℕ, ◌+◌, ◌-◌, ◌&&◌, List, [], ◌∷◌, ◌++◌, length, take, drop, map, true, refl, sym, ◌∙◌, ap, arith, zero, suc}
+use Rattle.std.proofs.Common.{◌≡◌, ℕ, ◌+◌, ◌-◌, ◌&&◌, List, [], ◌∷◌, ◌++◌, length, take, drop, map, true, refl, sym, ◌∙◌, ap, arith, zero}
+use Rattle.std.proofs.Common.{suc}
 use Rattle.std.proofs.Common.{replicate, Option, None, length-append}
 use Rattle.std.specs.Prelude.{slice_range}
 use Rattle.std.specs.List.{list_all}
@@ -41,9 +42,12 @@ pub tells_both : (text : List ℕ) (ss rs : List Step) (ts us : List PlainToken)
 tells_both text ss rs ts us a b = record {
   entries = a.entries ++ b.entries;
   are = ap (λ x. x ++ rs) a.are ∙ ap (λ x. map steps.Entry a.entries ++ x) b.are ∙ sym (map-append steps.Entry a.entries b.entries);
-  tokens = map-append (token_at text) a.entries b.entries ∙ ap (λ x. x ++ map (token_at text) b.entries) a.tokens ∙ ap (λ x. ts ++ x) b.tokens;
-  exacts = map-append (λ (e : Entry). e.exact) a.entries b.entries ∙ ap (λ x. x ++ map (λ (e : Entry). e.exact) b.entries) a.exacts ∙ ap (λ x. map exact_in ts ++ x) b.exacts ∙ sym (map-append exact_in ts us);
-  even = list_all-append (λ (e : Entry). ends_evenly text e.kind e.to) a.entries b.entries ∙ ap (λ x. x && list_all (λ (e : Entry). ends_evenly text e.kind e.to) b.entries) a.even ∙ b.even;
+  tokens = map-append (token_at text) a.entries b.entries ∙ ap (λ x. x ++ map (token_at text) b.entries) a.tokens
+      ∙ ap (λ x. ts ++ x) b.tokens;
+  exacts = map-append (λ (e : Entry). e.exact) a.entries b.entries ∙ ap (λ x. x ++ map (λ (e : Entry). e.exact) b.entries) a.exacts
+      ∙ ap (λ x. map exact_in ts ++ x) b.exacts ∙ sym (map-append exact_in ts us);
+  even = list_all-append (λ (e : Entry). ends_evenly text e.kind e.to) a.entries b.entries
+      ∙ ap (λ x. x && list_all (λ (e : Entry). ends_evenly text e.kind e.to) b.entries) a.even ∙ b.even;
 }
 
 -- what stands in a text between two offsets
@@ -63,7 +67,8 @@ sliced text a t b lo hi w u e f =
 
 pub piece_told : (text a t b : List ℕ) (k : Kind) (e : Option Exact) (p q : Point) → text ≡ a ++ (t ++ b) → all_scalars t ≡ true
     → p.offset ≡ bytes_in a → q.offset ≡ p.offset + bytes_in t
-    → exact_in (record { kind = k; text = t }) ≡ e → ends_evenly text k q.offset ≡ true → Tells text (step_of k e p q ∷ []) (record { kind = k; text = t } ∷ [])
+    → exact_in (record { kind = k; text = t }) ≡ e → ends_evenly text k q.offset ≡ true
+        → Tells text (step_of k e p q ∷ []) (record { kind = k; text = t } ∷ [])
 piece_told text a t b k e p q w u f g x v = record {
   entries = record { kind = k; exact = e; start = p.place; «end» = q.place; «from» = p.offset; to = q.offset } ∷ [];
   are = refl;
@@ -87,23 +92,28 @@ marks_told text n k o p q x v = record {
 }
   where
     none : (n : ℕ)
-        → map (λ (e : Entry). e.exact) (replicate n (record { kind = k; exact = None; start = p; «end» = q; «from» = o; to = o })) ≡ map exact_in (replicate n (record { kind = k; text = [] }))
+        → map (λ (e : Entry). e.exact) (replicate n (record { kind = k; exact = None; start = p; «end» = q; «from» = o; to = o })) ≡ map
+            exact_in (replicate n (record { kind = k; text = [] }))
     none zero = refl
     none (suc n) = rw (x, none n) refl
 
     all : (n : ℕ)
-        → list_all (λ (e : Entry). ends_evenly text e.kind e.to) (replicate n (record { kind = k; exact = None; start = p; «end» = q; «from» = o; to = o })) ≡ true
+        → list_all (λ (e : Entry). ends_evenly text e.kind e.to)
+            (replicate n (record { kind = k; exact = None; start = p; «end» = q; «from» = o; to = o })) ≡ true
     all zero = refl
     all (suc n) = rw v (all n)
 
     spread : (n : ℕ)
-        → replicate n (mark_at k o p q) ≡ map steps.Entry (replicate n (record { kind = k; exact = None; start = p; «end» = q; «from» = o; to = o }))
+        → replicate n (mark_at k o p q) ≡ map steps.Entry
+            (replicate n (record { kind = k; exact = None; start = p; «end» = q; «from» = o; to = o }))
     spread zero = refl
     spread (suc n) = ap (λ x. mark_at k o p q ∷ x) (spread n)
 
     told : (n : ℕ)
-        → map (token_at text) (replicate n (record { kind = k; exact = None; start = p; «end» = q; «from» = o; to = o })) ≡ replicate n (record { kind = k; text = [] })
+        → map (token_at text) (replicate n (record { kind = k; exact = None; start = p; «end» = q; «from» = o; to = o })) ≡ replicate n
+            (record { kind = k; text = [] })
     told zero = refl
     told (suc n) =
-        ap (λ v. record { kind = k; text = v } ∷ map (token_at text) (replicate n (record { kind = k; exact = None; start = p; «end» = q; «from» = o; to = o }))) (empty_slice text o)
+        ap (λ v. record { kind = k; text = v } ∷ map (token_at text)
+            (replicate n (record { kind = k; exact = None; start = p; «end» = q; «from» = o; to = o }))) (empty_slice text o)
         ∙ ap (λ x. record { kind = k; text = [] } ∷ x) (told n)

@@ -1,6 +1,7 @@
 -- Carries: the law of source text. On: a module's text is a source that is accepted as the
 -- module, and as no other.
-use Rattle.std.proofs.Common.{◌≡◌, refl, sym, ap, subst, ◌∙◌, ℕ, suc, ◌+◌, ◌-◌, ◌≤◌, arith, Bool, true, false, ◌&&◌, List, [], ◌∷◌, ◌++◌, map, Option}
+use Rattle.std.proofs.Common.{◌≡◌, refl, sym, ap, subst, ◌∙◌, ℕ, suc, ◌+◌, ◌-◌, ◌≤◌, arith, Bool, true, false, ◌&&◌, List, [], ◌∷◌, ◌++◌}
+use Rattle.std.proofs.Common.{map, Option}
 use Rattle.std.proofs.Common.{Some, None, if◌then◌else◌}
 use Rattle.std.specs.Prelude.{All, nat_lt}
 use Rattle.std.specs.List.{flat_map, list_all}
@@ -32,8 +33,10 @@ use Rattle.pyunparse_text.proofs.Callers.Pieces.{written_is_read, written_is_cle
 use Rattle.pyunparse_text.specs.Pieces.{Sited, outside}
 use Rattle.pyunparse_text.specs.Brackets.{open_after, most_open, brackets}
 use Rattle.pyunparse_text.specs.Modules.{WrittenLine, written_line, line_of, terminal_lines, piece_lines}
-use Rattle.pyunparse_text.specs.Laws.{Give, give_none, give, GivesAll, HaveForms, no_form, a_form, AreModule, LinesAreOneModule, MayBeTokens}
-use Rattle.pyunparse_text.specs.Laws.{AcceptedComeBack, IsOfTokens, source_lines, AreWithin, GiveLines, no_line, a_line, ModuleTextsAreAccepted}
+use Rattle.pyunparse_text.specs.Laws.{Give, give_none, give, GivesAll, HaveForms, no_form, a_form, AreModule, LinesAreOneModule}
+use Rattle.pyunparse_text.specs.Laws.{MayBeTokens}
+use Rattle.pyunparse_text.specs.Laws.{AcceptedComeBack, IsOfTokens, source_lines, AreWithin, GiveLines, no_line, a_line}
+use Rattle.pyunparse_text.specs.Laws.{ModuleTextsAreAccepted}
 use Rattle.pyunparse_text.proofs.StringTerminals.Brackets.{name_after, string_closed}
 use Rattle.pyunparse_text.proofs.Patterns.OfTokens.{tokens_may_be, of_tokens_may_be}
 use Rattle.pyunparse_text.proofs.Fewest.Flat.{start_open}
@@ -44,7 +47,8 @@ use Rattle.pyunparse_text.proofs.Modules.LinesRead.{modules_read}
 
 -- ---- Lines are one module.
 
-same_forms : {profile : Profile} {earlier : List Line} {ws : List (WrittenLine Terminal)} {xs ys : List Line} → HaveForms profile earlier ws xs
+same_forms : {profile : Profile} {earlier : List Line} {ws : List (WrittenLine Terminal)} {xs ys : List Line}
+    → HaveForms profile earlier ws xs
     → HaveForms profile earlier ws ys → xs ≡ ys
 same_forms no_form no_form = refl
 same_forms {profile} {earlier} (a_form {l = l} {ts = ts} {f = f} {ws = ws} {xs = xs} p c) (a_form {f = g} {xs = ys} q d) =
@@ -62,7 +66,8 @@ one_module profile ws m n g h =
 lines_may_be : {extent : Extent} (ws : List (WrittenLine Terminal)) → All (IsOfTokens extent) ws → All MayBeTokens ws
 lines_may_be [] h = All-nil MayBeTokens
 lines_may_be {extent} (w ∷ ws) h =
-    All-cons MayBeTokens w ws (of_tokens_may_be (All-head (IsOfTokens extent) w ws h)) (lines_may_be ws (All-tail (IsOfTokens extent) w ws h))
+    All-cons MayBeTokens w ws (of_tokens_may_be (All-head (IsOfTokens extent) w ws h))
+        (lines_may_be ws (All-tail (IsOfTokens extent) w ws h))
 
 source_lines_may_be : (xs : List Tokens.Line) → All MayBeTokens (source_lines xs)
 source_lines_may_be [] = All-nil MayBeTokens
@@ -88,7 +93,8 @@ op_after : (text : List ℕ) (d : ℕ) → open_after d (terminal_of kinds.Op te
 unfolding terminal_of
 op_after text d = by (exact_of text)
   where
-    by : (o : Option Exact) → open_after d (elim o [ Some e ↦ Op e | None ↦ Layout ]) ≡ by_text d (elim o [ Some e ↦ is_opener e | None ↦ false ]) (elim o [ Some e ↦ is_closer e | None ↦ false ])
+    by : (o : Option Exact) → open_after d (elim o [ Some e ↦ Op e | None ↦ Layout ]) ≡ by_text d
+        (elim o [ Some e ↦ is_opener e | None ↦ false ]) (elim o [ Some e ↦ is_closer e | None ↦ false ])
     by (Some e) = refl
     by None = refl
 
@@ -99,9 +105,11 @@ text_after kinds.Op text d = op_after text d
 text_after kinds.Name text d = name_after text d
 text_after _ text d = refl
 
-one_more : (most d : ℕ) (ts : List Terminal) (ps : List Piece) → ((n : ℕ) → most_open n ts ≤ most → opens_within most n ps ≡ true) → (o s : Bool)
+one_more : (most d : ℕ) (ts : List Terminal) (ps : List Piece) → ((n : ℕ) → most_open n ts ≤ most → opens_within most n ps ≡ true)
+    → (o s : Bool)
     → most_open (by_text d o s) ts ≤ most
-    → (if o then nat_lt d most && opens_within most (d + 1) ps else (if s then opens_within most (d - 1) ps else opens_within most d ps)) ≡ true
+    → (if o then nat_lt d most && opens_within most (d + 1) ps else (if s then opens_within most (d - 1) ps else opens_within most d ps)) ≡
+        true
 one_more most d ts ps more true s k =
     let e : suc d ≤ most_open (suc d) ts = start_open (suc d) ts in
     let b : nat_lt d most ≡ true = grind (arith, nat_tests) in
@@ -147,16 +155,19 @@ shallow most d (give {p = p} {ps = ps} {us = us} g c) s h =
 faultless : {extent : Extent} {ps : List Piece} {ts : List Terminal} → Give extent ps ts
     → All (λ (p : Piece). fault_of extent p.kind p.text ≡ None) ps
 faultless {extent} give_none = All-nil (λ (p : Piece). fault_of extent p.kind p.text ≡ None)
-faultless {extent} (give {p = p} {ps = ps} g c) = All-cons (λ (p : Piece). fault_of extent p.kind p.text ≡ None) p ps g.faultless (faultless c)
+faultless {extent} (give {p = p} {ps = ps} g c) = All-cons (λ (p : Piece). fault_of extent p.kind p.text ≡ None) p ps
+    g.faultless (faultless c)
 
 all_clear : {extent : Extent} {rs : List (WrittenLine Sited)} {qs : List (WrittenLine Terminal)} → GiveLines extent rs qs
     → list_all is_written (map line_of rs) ≡ true
     → All (λ w. brackets w.tokens ≤ most_brackets) qs → All (IsClear extent) (map line_of rs)
 all_clear {extent} no_line s h = All-nil (IsClear extent)
 all_clear {extent} (a_line {l = l} {ps = ps} {ts = ts} {rs = rs} {qs = qs} g c) s h =
-    let b : brackets ts ≤ most_brackets = All-head (λ (w : WrittenLine Terminal). brackets w.tokens ≤ most_brackets) (written_line l ts) qs h in
+    let b : brackets ts ≤ most_brackets = All-head (λ (w : WrittenLine Terminal). brackets w.tokens ≤ most_brackets)
+        (written_line l ts) qs h in
     let w = and_parts (is_written (line_of (written_line l ps))) (list_all is_written (map line_of rs)) s in
-    let r = and_parts (are_readable (outside ps)) (closes_all 0 (outside ps) && list_all (λ (p : Piece). all_scalars p.text) (outside ps)) w.0 in
+    let r = and_parts (are_readable (outside ps)) (closes_all 0 (outside ps) && list_all (λ (p : Piece). all_scalars p.text) (outside ps))
+        w.0 in
     let k = and_parts (closes_all 0 (outside ps)) (list_all (λ (p : Piece). all_scalars p.text) (outside ps)) r.1 in
     All-cons (IsClear extent) (line_of (written_line l ps)) (map line_of rs)
     (record { faultless = faultless g; shallow = shallow most_brackets 0 g k.1 b })
@@ -183,8 +194,10 @@ same_terminals (u ∷ us) e (give {p = p} {ps = ps} {ts = ts} g c) =
     let k : terminals_of u.kind u.text ≡ ts = ap (λ x. terminals_of x.kind x.text) h ∙ g.terminals in
     ap (λ z. z ++ flat_map (λ (t : Tokens.Token). terminals_of t.kind t.text) us) k ∙ ap (λ z. ts ++ z) (same_terminals us r c)
 
-formed_by : {extent : Extent} (profile : Profile) {earlier : List Line} (xs : List Tokens.Line) {rs : List (WrittenLine Sited)} {qs : List (WrittenLine Terminal)} {fs : List Line}
-    → map unplaced_line xs ≡ map token_line (map line_of rs) → GiveLines extent rs qs → HaveForms profile earlier qs fs → AreWithin 500 fs → Formed profile earlier xs fs
+formed_by : {extent : Extent} (profile : Profile) {earlier : List Line} (xs : List Tokens.Line) {rs : List (WrittenLine Sited)}
+    {qs : List (WrittenLine Terminal)} {fs : List Line}
+    → map unplaced_line xs ≡ map token_line (map line_of rs) → GiveLines extent rs qs → HaveForms profile earlier qs fs → AreWithin 500 fs
+        → Formed profile earlier xs fs
 formed_by profile [] e no_line no_form h = formed_end
 formed_by profile [] e (a_line g c) f h = absurd (cc)
 formed_by profile (x ∷ xs) e no_line no_form h = absurd (cc)
@@ -193,7 +206,8 @@ formed_by profile {earlier} (x ∷ xs) e (a_line {l = l} {ps = ps} {ts = ts} {rs
     let r : map unplaced_line xs ≡ map token_line (map line_of rs) = cc in
     let n : x.level ≡ l = ap (λ y. y.level) i in
     let s : terminals x ≡ ts = same_terminals x.tokens (ap (λ y. y.tokens) i) g in
-    let a : FormAt profile (stands_in_match x.level earlier) ts f = subst (λ z. FormAt profile (stands_in_match z earlier) ts f) (sym n) p in
+    let a : FormAt profile (stands_in_match x.level earlier) ts f =
+        subst (λ z. FormAt profile (stands_in_match z earlier) ts f) (sym n) p in
     let q : HasForm profile (stands_in_match x.level earlier) x f =
     record { is = subst (λ z. FormAt profile (stands_in_match x.level earlier) z f) (sym s) a; low = h.0 } in
     let b : HaveForms profile (line x.level f ∷ earlier) qs fs = subst (λ z. HaveForms profile (line z f ∷ earlier) qs fs) (sym n) d in

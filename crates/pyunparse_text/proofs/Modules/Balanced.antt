@@ -3,8 +3,10 @@
 use Rattle.std.proofs.Common.{◌≡◌, refl, ℕ, suc, List, [], ◌∷◌, ◌++◌, Option, Some, None, Bool, true, false, cond}
 use Rattle.std.specs.Prelude.{map}
 use Rattle.pylex_lexeme.specs.declared.kinds.Exact.{Exact}
-use Rattle.pylex_lexeme.specs.declared.kinds.Exact.TheVariants.{LPar, RPar, LSqb, RSqb, LBrace, RBrace, Colon, Plus, Minus, Star, Slash, VBar, Amper}
-use Rattle.pylex_lexeme.specs.declared.kinds.Exact.TheVariants.{Less, Greater, Percent, EqEqual, NotEqual, LessEqual, GreaterEqual, Tilde, Circumflex}
+use Rattle.pylex_lexeme.specs.declared.kinds.Exact.TheVariants.{LPar, RPar, LSqb, RSqb, LBrace, RBrace, Colon, Plus, Minus, Star, Slash}
+use Rattle.pylex_lexeme.specs.declared.kinds.Exact.TheVariants.{VBar, Amper}
+use Rattle.pylex_lexeme.specs.declared.kinds.Exact.TheVariants.{Less, Greater, Percent, EqEqual, NotEqual, LessEqual, GreaterEqual, Tilde}
+use Rattle.pylex_lexeme.specs.declared.kinds.Exact.TheVariants.{Circumflex}
 use Rattle.pylex_lexeme.specs.declared.kinds.Exact.TheVariants.{LeftShift, RightShift, DoubleSlash, At, Ellipsis}
 use Rattle.pytoken.specs.declared.keywords.Keyword.TheVariants as Key
 use Rattle.pytree_node.specs.declared.operators.Operator.{Operator}
@@ -148,9 +150,12 @@ module _ (a : Bool) where
     good (G.power p q) = good_both (good p) (good_on refl (good q))
     good (G.await p) = good_on refl (good p)
     good (G.attribute x p) = good_both (good p) (good_on refl (good_on refl none))
-    good (G.call p c h) = let u = good p in let v = listing c in record { at = λ n. both (u.at n) (up refl (both (v.at (suc n)) (down refl ends))) }
-    good (G.call_generator p q c) = let u = good p in let v = good q in let w = comps c in record { at = λ n. both (u.at n) (up refl (both (v.at (suc n)) (both (w.at (suc n)) (down refl ends)))) }
-    good (G.subscript p q) = let u = good p in let v = good q in record { at = λ n. both (u.at n) (up refl (both (v.at (suc n)) (down refl ends))) }
+    good (G.call p c h) = let u = good p in let v = listing c in
+        record { at = λ n. both (u.at n) (up refl (both (v.at (suc n)) (down refl ends))) }
+    good (G.call_generator p q c) = let u = good p in let v = good q in let w = comps c in
+        record { at = λ n. both (u.at n) (up refl (both (v.at (suc n)) (both (w.at (suc n)) (down refl ends)))) }
+    good (G.subscript p q) = let u = good p in let v = good q in
+        record { at = λ n. both (u.at n) (up refl (both (v.at (suc n)) (down refl ends))) }
     good G.name = good_on refl none
     good (G.constant {t = t} {v = v} h) = good_on (constant_plain t v h) none
     good G.number = good_on refl none
@@ -159,14 +164,19 @@ module _ (a : Bool) where
     good (G.group p) = let u = good p in record { at = λ n. up refl (both (u.at (suc n)) (down refl ends)) }
     good (G.yield_group p) = let u = yields p in record { at = λ n. up refl (on refl (both (u.at (suc n)) (down refl ends))) }
     good G.empty_tuple = record { at = λ n. up refl (down refl ends) }
-    good (G.tuple p c) = let u = good p in let v = listing c in record { at = λ n. up refl (both (u.at (suc n)) (on refl (both (v.at (suc n)) (down refl ends)))) }
-    good (G.generator_group p c) = let u = good p in let v = comps c in record { at = λ n. up refl (both (u.at (suc n)) (both (v.at (suc n)) (down refl ends))) }
+    good (G.tuple p c) = let u = good p in let v = listing c in
+        record { at = λ n. up refl (both (u.at (suc n)) (on refl (both (v.at (suc n)) (down refl ends)))) }
+    good (G.generator_group p c) = let u = good p in let v = comps c in
+        record { at = λ n. up refl (both (u.at (suc n)) (both (v.at (suc n)) (down refl ends))) }
     good (G.list c) = let u = listing c in record { at = λ n. up refl (both (u.at (suc n)) (down refl ends)) }
-    good (G.list_comp p c) = let u = good p in let v = comps c in record { at = λ n. up refl (both (u.at (suc n)) (both (v.at (suc n)) (down refl ends))) }
+    good (G.list_comp p c) = let u = good p in let v = comps c in
+        record { at = λ n. up refl (both (u.at (suc n)) (both (v.at (suc n)) (down refl ends))) }
     good (G.dict c) = let u = listing c in record { at = λ n. up refl (both (u.at (suc n)) (down refl ends)) }
-    good (G.dict_comp p q c) = let u = good p in let v = good q in let w = comps c in record { at = λ n. up refl (both (u.at (suc n)) (on refl (both (v.at (suc n)) (both (w.at (suc n)) (down refl ends))))) }
+    good (G.dict_comp p q c) = let u = good p in let v = good q in let w = comps c in
+        record { at = λ n. up refl (both (u.at (suc n)) (on refl (both (v.at (suc n)) (both (w.at (suc n)) (down refl ends))))) }
     good (G.set c) = let u = listing c in record { at = λ n. up refl (both (u.at (suc n)) (down refl ends)) }
-    good (G.set_comp p c) = let u = good p in let v = comps c in record { at = λ n. up refl (both (u.at (suc n)) (both (v.at (suc n)) (down refl ends))) }
+    good (G.set_comp p c) = let u = good p in let v = comps c in
+        record { at = λ n. up refl (both (u.at (suc n)) (both (v.at (suc n)) (down refl ends))) }
     good (G.subject_tuple p c) = good_both (good p) (good_on refl (listing c))
     good (G.star_elem p) = good_on refl (good p)
     good (G.star_slices p) = good_on refl (good p)

@@ -1,6 +1,7 @@
 -- Carries: the law of accepted modules. On: in no line of a module more brackets are open at once
 -- than its highest expression is high, and one more.
-use Rattle.std.proofs.Common.{refl, ap, ℕ, zero, suc, ◌+◌, ◌≤◌, arith, List, [], ◌∷◌, ◌++◌, Option, Some, None, Bool, true, false, cond, append-nil}
+use Rattle.std.proofs.Common.{refl, ap, ℕ, zero, suc, ◌+◌, ◌≤◌, arith, List, [], ◌∷◌, ◌++◌, Option, Some, None, Bool, true, false, cond}
+use Rattle.std.proofs.Common.{append-nil}
 use Rattle.std.specs.Prelude.{max, map, All}
 use Rattle.std.proofs.lemmas.List.Elements.{All-nil, All-cons}
 use Rattle.pylex_lexeme.specs.declared.kinds.Exact.TheVariants.{LPar, RPar, Star, Equal, Comma, Colon, RArrow}
@@ -12,25 +13,31 @@ use Rattle.pygrammar.specs.declared.levels.Level.TheVariants.{Value, Stars, Name
 use Rattle.pygrammar.specs.declared.pattern_levels.PatternLevel.TheVariants.{Patterns}
 use Rattle.pytree_node.specs.Trees
 use Rattle.pytree_node.specs.Trees.{Identifier, Expr, exprs, Keywords, no_keyword, a_keyword, Alias, Item, TypeParam, TypeVar, ParamSpec}
-use Rattle.pytree_node.specs.Trees.{TypeVarTuple, Stmt, Stmts, no_stmt, a_stmt, stmts, Cases, no_case, a_case, Handlers, no_handler, a_handler}
+use Rattle.pytree_node.specs.Trees.{TypeVarTuple, Stmt, Stmts, no_stmt, a_stmt, stmts, Cases, no_case, a_case, Handlers, no_handler}
+use Rattle.pytree_node.specs.Trees.{a_handler}
 use Rattle.pytree_node.specs.Trees.{Module}
 use Rattle.pytoken.specs.declared.keywords.Keyword.TheVariants as Key
 use Rattle.pytoken.specs.Terminals.{Terminal, Op, Word}
-use Rattle.pytree_height.specs.Heights.{height, option_height, list_height, item_heights, type_param_height, type_param_heights, keyword_heights}
+use Rattle.pytree_height.specs.Heights.{height, option_height, list_height, item_heights, type_param_height, type_param_heights}
+use Rattle.pytree_height.specs.Heights.{keyword_heights}
 use Rattle.pytree_height.specs.Heights.{highest_in, highest_in_all, highest_in_cases, highest_in_handlers, expression_height}
-use Rattle.pygrammar.specs.Lines.{Header, if_header, elif_header, else_header, loop_header, with_header, try_header, except_header, finally_header}
+use Rattle.pygrammar.specs.Lines.{Header, if_header, elif_header, else_header, loop_header, with_header, try_header, except_header}
+use Rattle.pygrammar.specs.Lines.{finally_header}
 use Rattle.pygrammar.specs.Lines.{def_header, match_header, case_header, while_head, for_head, function_head, class_head}
 use Rattle.pygrammar.specs.FormHeights.{header_height}
 use Rattle.pyunparse_text.specs.Written.{listed, written, each, by_name}
 use Rattle.pyunparse_text.specs.Terminals.{terminal}
 use Rattle.pyunparse_text.specs.Statements as S
 use Rattle.pyunparse_text.specs.Brackets.{brackets}
-use Rattle.pyunparse_text.specs.Modules.{WrittenLine, header, decorators, lines_of, statement_lines, alternative, clause, case_lines, handler_lines}
+use Rattle.pyunparse_text.specs.Modules.{WrittenLine, header, decorators, lines_of, statement_lines, alternative, clause, case_lines}
+use Rattle.pyunparse_text.specs.Modules.{handler_lines}
 use Rattle.pyunparse_text.specs.Modules.{terminal_lines}
 use Rattle.pyunparse_text.specs.Laws.{LineBracketsAreWithinHeight}
 use Rattle.pyunparse_text.proofs.Patterns.Flat.{flat_pattern}
-use Rattle.pyunparse_text.proofs.Fewest.Flat.{Flat, Neutral, flat_none, both, plain, pair, up, neutral, AllFlat, none, one, all_up, all_append}
-use Rattle.pyunparse_text.proofs.Fewest.Flat.{separated_flat, open_round, open_square, close_round, close_square, flat, flat_each, flat_by_name}
+use Rattle.pyunparse_text.proofs.Fewest.Flat.{Flat, Neutral, flat_none, both, plain, pair, up, neutral, AllFlat, none, one, all_up}
+use Rattle.pyunparse_text.proofs.Fewest.Flat.{all_append}
+use Rattle.pyunparse_text.proofs.Fewest.Flat.{separated_flat, open_round, open_square, close_round, close_square, flat, flat_each}
+use Rattle.pyunparse_text.proofs.Fewest.Flat.{flat_by_name}
 use Rattle.pyunparse_text.proofs.Fewest.Flat.{flat_parameters}
 
 listed_flat : {n : ℕ} {tss : List (List Terminal)} → AllFlat n tss → Flat n (listed terminal tss)
@@ -110,7 +117,8 @@ imported_flat names = by (S.are_all names)
 
 from_flat : (m : Option Identifier) (names : List Alias) (n : ℕ) → Flat 0 (S.simple_tokens terminal (Trees.ImportFrom m names n))
 from_flat m names zero = plain (λ d. refl) (both (module_flat false m) (plain (λ d. refl) (imported_flat names)))
-from_flat m names (suc n) = plain (λ d. refl) (both (points_flat false (suc n)) (both (module_flat true m) (plain (λ d. refl) (imported_flat names))))
+from_flat m names (suc n) =
+    plain (λ d. refl) (both (points_flat false (suc n)) (both (module_flat true m) (plain (λ d. refl) (imported_flat names))))
 
 -- ---- Simple statements.
 
@@ -189,7 +197,8 @@ items_flat : (is : List Item) → Flat (item_heights is + 1) (S.items terminal i
 items_flat is = by (S.need_brackets is)
   where
     by : (b : Bool)
-        → Flat (item_heights is + 1) (cond b (Op LPar ∷ (listed terminal (map (S.item terminal) is) ++ (Op RPar ∷ []))) (listed terminal (map (S.item terminal) is)))
+        → Flat (item_heights is + 1) (cond b (Op LPar ∷ (listed terminal (map (S.item terminal) is) ++ (Op RPar ∷ [])))
+            (listed terminal (map (S.item terminal) is)))
     by true = pair open_round close_round (listed_flat (items_each is))
     by false = up (listed_flat (items_each is)) (omega arith)
 
@@ -211,7 +220,8 @@ header_flat (elif_header e) = plain (λ d. refl) (up (flat Named refl e) (omega 
 header_flat else_header = plain (λ d. refl) (flat_none (0 + 1))
 header_flat (loop_header (while_head e)) = plain (λ d. refl) (up (flat Named refl e) (omega arith))
 header_flat (loop_header (for_head b t e)) =
-    async_flat b (plain (λ d. refl) (both (up (flat Stars refl t) (omega arith)) (plain (λ d. refl) (up (flat Stars refl e) (omega arith)))))
+    async_flat b (plain (λ d. refl)
+        (both (up (flat Stars refl t) (omega arith)) (plain (λ d. refl) (up (flat Stars refl e) (omega arith)))))
 header_flat (with_header b is) = async_flat b (plain (λ d. refl) (items_flat is))
 header_flat try_header = plain (λ d. refl) (flat_none (0 + 1))
 header_flat (except_header b e x) =
@@ -227,7 +237,8 @@ header_flat (def_header (class_head x ps es ks)) =
 header_flat (match_header e) = plain (λ d. refl) (up (flat Subject refl e) (omega arith))
 header_flat (case_header p g) =
     plain (λ d. refl)
-    (both (up (flat_pattern Patterns p) (omega arith)) (up (behind_flat (Word Key.If) Named g (λ d. refl) (λ e. flat Named refl e)) (omega arith)))
+    (both (up (flat_pattern Patterns p) (omega arith))
+        (up (behind_flat (Word Key.If) Named g (λ d. refl) (λ e. flat Named refl e)) (omega arith)))
 
 -- ---- Lines.
 
@@ -244,7 +255,8 @@ head_within n h e = both (up (header_flat h) e) (plain (λ d. refl) (flat_none n
 
 decorators_within : (n l : ℕ) (es : List Expr) → list_height es + 1 ≤ n → AllWithin n (decorators terminal l es)
 decorators_within n l [] h = tt
-decorators_within n l (e ∷ es) h = (plain (λ d. refl) (up (flat Named refl e) (omega (arith, h))), decorators_within n l es (omega (arith, h)))
+decorators_within n l (e ∷ es) h = (plain (λ d. refl) (up (flat Named refl e) (omega (arith, h))),
+    decorators_within n l es (omega (arith, h)))
 
 mutual
   unfolding lines_of statement_lines alternative clause case_lines handler_lines
@@ -306,18 +318,21 @@ mutual
         (clause_within n l finally_header (omega (arith, h)) final (omega (arith, h))))),
   )
   statement_within n l (Trees.FunctionDef x a body ds r ps) h =
-      within_both n (decorators terminal l ds) (header terminal l (def_header (function_head false x ps a r)) ∷ lines_of terminal (suc l) body)
+      within_both n (decorators terminal l ds) (header terminal l (def_header (function_head false x ps a r)) ∷
+          lines_of terminal (suc l) body)
       (decorators_within n l ds (omega (arith, h)))
       (head_within n (def_header (function_head false x ps a r)) (omega (arith, h)), lines_within n (suc l) body (omega (arith, h)))
   statement_within n l (Trees.AsyncFunctionDef x a body ds r ps) h =
-      within_both n (decorators terminal l ds) (header terminal l (def_header (function_head true x ps a r)) ∷ lines_of terminal (suc l) body)
+      within_both n (decorators terminal l ds) (header terminal l (def_header (function_head true x ps a r)) ∷
+          lines_of terminal (suc l) body)
       (decorators_within n l ds (omega (arith, h)))
       (head_within n (def_header (function_head true x ps a r)) (omega (arith, h)), lines_within n (suc l) body (omega (arith, h)))
   statement_within n l (Trees.ClassDef x es ks body ds ps) h =
       within_both n (decorators terminal l ds) (header terminal l (def_header (class_head x ps es ks)) ∷ lines_of terminal (suc l) body)
       (decorators_within n l ds (omega (arith, h)))
       (head_within n (def_header (class_head x ps es ks)) (omega (arith, h)), lines_within n (suc l) body (omega (arith, h)))
-  statement_within n l (Trees.Match e cs) h = (head_within n (match_header e) (omega (arith, h)), cases_within n (suc l) cs (omega (arith, h)))
+  statement_within n l (Trees.Match e cs) h = (head_within n (match_header e) (omega (arith, h)),
+      cases_within n (suc l) cs (omega (arith, h)))
   statement_within n l s h = (up (simple_flat s) h, tt)
 
   alternative_within : (n l : ℕ) (ss : Stmts) → highest_in_all ss + 1 ≤ n → AllWithin n (alternative terminal l ss)
@@ -333,7 +348,8 @@ mutual
         (statement_within n (suc l) s (omega (arith, h))) (lines_within n (suc l) ss (omega (arith, h))),
   )
 
-  clause_within : (n l : ℕ) (c : Header) → header_height c + 1 ≤ n → (ss : Stmts) → highest_in_all ss + 1 ≤ n → AllWithin n (clause terminal l c ss)
+  clause_within : (n l : ℕ) (c : Header) → header_height c + 1 ≤ n → (ss : Stmts) → highest_in_all ss + 1 ≤ n
+      → AllWithin n (clause terminal l c ss)
   clause_within n l c k no_stmt h = tt
   clause_within n l c k (a_stmt s ss) h = (
     head_within n c k,
@@ -349,7 +365,8 @@ mutual
         (lines_within n (suc l) body (omega (arith, h))) (cases_within n l cs (omega (arith, h))),
   )
 
-  handlers_within : (n l : ℕ) (star : Bool) (hs : Handlers) → highest_in_handlers hs + 1 ≤ n → 1 ≤ n → AllWithin n (handler_lines terminal l star hs)
+  handlers_within : (n l : ℕ) (star : Bool) (hs : Handlers) → highest_in_handlers hs + 1 ≤ n → 1 ≤ n
+      → AllWithin n (handler_lines terminal l star hs)
   handlers_within n l star no_handler h k = tt
   handlers_within n l star (a_handler e x body hs) h k = (
     head_within n (except_header star e x) (omega (arith, h)),
@@ -364,4 +381,5 @@ all_within n (w ∷ ws) h =
     All-cons (λ w. brackets w.tokens ≤ n) w ws b (all_within n ws h.1)
 
 pub line_brackets : LineBracketsAreWithinHeight
-line_brackets m = all_within (expression_height m + 1) (terminal_lines m) (lines_within (expression_height m + 1) 0 (stmts m.body) (omega arith))
+line_brackets m = all_within (expression_height m + 1) (terminal_lines m)
+    (lines_within (expression_height m + 1) 0 (stmts m.body) (omega arith))

@@ -30,7 +30,8 @@ exprs_listed (an_expr e z) = ap (an_expr e) (exprs_listed z)
 abbrev arguments_of : List Expr → Keywords → List Terminal
 arguments_of es ks = listed terminal (each terminal Named (exprs es) ++ by_name terminal ks)
 
-bare_bases : (es : List Expr) (ks : Keywords) → F.Bases (bracketed terminal (arguments_of es ks)) es ks → F.Bases (S.bases terminal es ks) es ks
+bare_bases : (es : List Expr) (ks : Keywords) → F.Bases (bracketed terminal (arguments_of es ks)) es ks
+    → F.Bases (S.bases terminal es ks) es ks
 bare_bases [] no_keyword p = F.no_bases
 bare_bases [] (a_keyword x e ks) p = p
 bare_bases (e ∷ es) ks p = p
@@ -39,12 +40,15 @@ listed_again : {ts : List Terminal} (es : List Entry) → G.Listing Argument ts 
     → F.Bases (bracketed terminal (arguments_of (F.listed (positional es)) (keywords es))) (F.listed (positional es)) (keywords es)
 listed_again es c =
     let (fs, d, order, same_args, same_keywords, short) = bases_law c in
-    let text : List Terminal = bracketed terminal (listed terminal (each terminal Named (positional es) ++ by_name terminal (keywords es))) in
+    let text : List Terminal =
+        bracketed terminal (listed terminal (each terminal Named (positional es) ++ by_name terminal (keywords es))) in
     let b : F.Bases text (F.listed (positional fs)) (keywords fs) = F.bases d order in
     let b1 : F.Bases text (F.listed (positional es)) (keywords fs) = subst (λ z. F.Bases text (F.listed z) (keywords fs)) same_args b in
-    let b2 : F.Bases text (F.listed (positional es)) (keywords es) = subst (λ z. F.Bases text (F.listed (positional es)) z) same_keywords b1 in
+    let b2 : F.Bases text (F.listed (positional es)) (keywords es) =
+        subst (λ z. F.Bases text (F.listed (positional es)) z) same_keywords b1 in
     subst
-    (λ z. F.Bases (bracketed terminal (listed terminal (each terminal Named z ++ by_name terminal (keywords es)))) (F.listed (positional es))
+    (λ z. F.Bases (bracketed terminal (listed terminal (each terminal Named z ++ by_name terminal (keywords es))))
+        (F.listed (positional es))
     (keywords es))
     (sym (exprs_listed (positional es))) b2
 
@@ -75,5 +79,6 @@ module _ (items_again : ItemsAgain) {profile : Profile} where
       subst
       (λ z. F.HeaderOf profile (S.async terminal b ++ (Word Key.Def ∷ (in_form x.form ∷ (S.type_params terminal tps ++ (Op LPar ∷ z)))))
       (def_header (function_head b x.form tps a r)))
-      (sym (append_assoc ps (Op RPar ∷ []) rest)) (F.def_line _ (async_again y) (type_params_again t) (parameters_law c h).0 h (behind_again q))
+      (sym (append_assoc ps (Op RPar ∷ []) rest)) (F.def_line _ (async_again y) (type_params_again t)
+          (parameters_law c h).0 h (behind_again q))
   header_again (F.class_line t b) = F.class_line (type_params_again t) (bases_again b)

@@ -2,8 +2,10 @@
 use Rattle.std.proofs.Common.{ℕ, ◌≤◌, arith, List, [], ◌∷◌, ◌++◌, Option, Bool, true, false}
 use Rattle.pytree_node.specs.Trees.{Expr, Stmt, Case, Handler, Item, stmts, cases, handlers}
 use Rattle.pytree_height.specs.Heights.{list_height, item_heights, highest_in_all, highest_in_cases, highest_in_handlers}
-use Rattle.pygrammar.specs.Lines.{Line, header_form, Header, if_header, elif_header, else_header, loop_header, with_header, try_header, except_header}
-use Rattle.pygrammar.specs.Lines.{finally_header, def_header, case_header, LoopHead, while_head, for_head, DefHead, function_head, class_head, loop}
+use Rattle.pygrammar.specs.Lines.{Line, header_form, Header, if_header, elif_header, else_header, loop_header, with_header, try_header}
+use Rattle.pygrammar.specs.Lines.{except_header}
+use Rattle.pygrammar.specs.Lines.{finally_header, def_header, case_header, LoopHead, while_head, for_head, DefHead, function_head}
+use Rattle.pygrammar.specs.Lines.{class_head, loop}
 use Rattle.pygrammar.specs.Lines.{with_of, definition, try_of}
 use Rattle.pygrammar.specs.FormHeights.{header_height, form_height}
 use Rattle.pygrammar.specs.Blocks as B
@@ -23,13 +25,15 @@ joined n (s ∷ ss) more h k = let w = joined n ss more (omega (arith, h)) k in 
 
 -- ---- A statement from its header and blocks.
 
-loop_high : (n : ℕ) (head : LoopHead) (body orelse : List Stmt) → header_height (loop_header head) ≤ n → highest body ≤ n → highest orelse ≤ n
+loop_high : (n : ℕ) (head : LoopHead) (body orelse : List Stmt) → header_height (loop_header head) ≤ n
+    → highest body ≤ n → highest orelse ≤ n
     → highest (loop head body orelse ∷ []) ≤ n
 loop_high n (while_head test) body orelse h k l = omega (arith, h, k, l)
 loop_high n (for_head false t e) body orelse h k l = omega (arith, h, k, l)
 loop_high n (for_head true t e) body orelse h k l = omega (arith, h, k, l)
 
-with_high : (n : ℕ) (b : Bool) (is : List Item) (body : List Stmt) → item_heights is ≤ n → highest body ≤ n → highest (with_of b is body ∷ []) ≤ n
+with_high : (n : ℕ) (b : Bool) (is : List Item) (body : List Stmt) → item_heights is ≤ n → highest body ≤ n
+    → highest (with_of b is body ∷ []) ≤ n
 with_high n false is body h k = omega (arith, h, k)
 with_high n true is body h k = omega (arith, h, k)
 
@@ -53,24 +57,30 @@ decorators_high n (B.decorator d) h = let w = decorators_high n d h.1 in omega (
 mutual
   block_high : (n : ℕ) {l : ℕ} {xs : List Line} {ss : List Stmt} → B.Block l xs ss → AreWithin n xs → highest ss ≤ n
   block_high n B.nothing h = omega arith
-  block_high n (B.and_then {xs = xs} {ys = ys} {ss = ss} {more = more} p q) h = let w = parted n xs ys h in joined n ss more (statement_high n p w.0) (block_high n q w.1)
+  block_high n (B.and_then {xs = xs} {ys = ys} {ss = ss} {more = more} p q) h = let w = parted n xs ys h in
+      joined n ss more (statement_high n p w.0) (block_high n q w.1)
 
   statement_high : (n : ℕ) {l : ℕ} {xs : List Line} {ss : List Stmt} → B.Statement l xs ss → AreWithin n xs → highest ss ≤ n
   statement_high n B.simple_line h = h.0
   statement_high n (B.if_statement {test = test} {xs = xs} {ys = ys} p q) h =
-      let w = parted n xs ys h.1 in let u = body_high n (if_header test) p h.0 w.0 in let v = alternative_high n q w.1 in omega (arith, u.0, u.1, v)
+      let w = parted n xs ys h.1 in let u = body_high n (if_header test) p h.0 w.0 in let v = alternative_high n q w.1 in
+          omega (arith, u.0, u.1, v)
   statement_high n (B.loop_statement {head = head} {xs = xs} {ys = ys} {body = body} {orelse = orelse} p q) h =
-      let w = parted n xs ys h.1 in let u = body_high n (loop_header head) p h.0 w.0 in loop_high n head body orelse u.0 u.1 (otherwise_high n q w.1)
-  statement_high n (B.with_statement {is_async = b} {items = is} {body = body} p) h = let u = body_high n (with_header b is) p h.0 h.1 in with_high n b is body u.0 u.1
+      let w = parted n xs ys h.1 in let u = body_high n (loop_header head) p h.0 w.0 in
+          loop_high n head body orelse u.0 u.1 (otherwise_high n q w.1)
+  statement_high n (B.with_statement {is_async = b} {items = is} {body = body} p) h = let u = body_high n (with_header b is) p h.0 h.1 in
+      with_high n b is body u.0 u.1
   statement_high n (B.try_finally {xs = xs} {ys = ys} {body = body} {final = final} p q) h =
       let w = parted n xs _ h.1 in let u = body_high n try_header p h.0 w.0 in let v = body_high n finally_header q w.1.0 w.1.1 in
       try_high n false body [] [] final u.1 (omega arith) (omega arith) v.1
-  statement_high n (B.try_except {star = star} {xs = xs} {ys = ys} {zs = zs} {ws = ws} {body = body} {orelse = orelse} {final = final} {h = x} {hs = hs} p c q r) h =
+  statement_high n (B.try_except {star = star} {xs = xs} {ys = ys} {zs = zs} {ws = ws} {body = body} {orelse = orelse} {final = final} {h =
+      x} {hs = hs} p c q r) h =
       let w = parted n xs (ys ++ (zs ++ ws)) h.1 in let v = parted n ys (zs ++ ws) w.1 in let z = parted n zs ws v.1 in
       let u = body_high n try_header p h.0 w.0 in
       try_high n star body (x ∷ hs) orelse final u.1 (excepts_high n c v.0) (otherwise_high n q z.0) (ending_high n r z.1)
   statement_high n (B.definition_of head {ds = ds} {es = es} {body = body} d p) h =
-      let w = parted n ds _ h in let u = body_high n (def_header head) p w.1.0 w.1.1 in definition_high n es head body (decorators_high n d w.0) u.0 u.1
+      let w = parted n ds _ h in let u = body_high n (def_header head) p w.1.0 w.1.1 in
+          definition_high n es head body (decorators_high n d w.0) u.0 u.1
   statement_high n (B.match_statement c) h = let u = cases_high n c h.1 in omega (arith, h.0, u)
 
   -- a header's form and the lines of its block
@@ -82,7 +92,8 @@ mutual
   alternative_high : (n : ℕ) {l : ℕ} {xs : List Line} {ss : List Stmt} → B.Alternative l xs ss → AreWithin n xs → highest ss ≤ n
   alternative_high n (B.an_else p) h = otherwise_high n p h
   alternative_high n (B.an_elif {test = test} {xs = xs} {ys = ys} p q) h =
-      let w = parted n xs ys h.1 in let u = body_high n (elif_header test) p h.0 w.0 in let v = alternative_high n q w.1 in omega (arith, u.0, u.1, v)
+      let w = parted n xs ys h.1 in let u = body_high n (elif_header test) p h.0 w.0 in let v = alternative_high n q w.1 in
+          omega (arith, u.0, u.1, v)
 
   otherwise_high : (n : ℕ) {l : ℕ} {xs : List Line} {ss : List Stmt} → B.Otherwise l xs ss → AreWithin n xs → highest ss ≤ n
   otherwise_high n B.no_else h = omega arith
@@ -96,12 +107,14 @@ mutual
       → highest_in_handlers (handlers hs) ≤ n
   excepts_high n B.no_except h = omega arith
   excepts_high n (B.except_clause {star = star} {matched = e} {name = x} {xs = xs} {ys = ys} p q) h =
-      let w = parted n xs ys h.1 in let u = body_high n (except_header star e x) p h.0 w.0 in let v = excepts_high n q w.1 in omega (arith, u.0, u.1, v)
+      let w = parted n xs ys h.1 in let u = body_high n (except_header star e x) p h.0 w.0 in let v = excepts_high n q w.1 in
+          omega (arith, u.0, u.1, v)
 
   cases_high : (n : ℕ) {l : ℕ} {xs : List Line} {cs : List Case} → B.Cases l xs cs → AreWithin n xs → highest_in_cases (cases cs) ≤ n
   cases_high n B.no_case h = omega arith
   cases_high n (B.case_clause {pattern = p} {guard = g} {xs = xs} {ys = ys} b q) h =
-      let w = parted n xs ys h.1 in let u = body_high n (case_header p g) b h.0 w.0 in let v = cases_high n q w.1 in omega (arith, u.0, u.1, v)
+      let w = parted n xs ys h.1 in let u = body_high n (case_header p g) b h.0 w.0 in let v = cases_high n q w.1 in
+          omega (arith, u.0, u.1, v)
 
 pub modules_low : ModulesAreLow
 modules_low n xs m p h = block_high n p h

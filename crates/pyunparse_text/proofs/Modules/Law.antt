@@ -20,7 +20,8 @@ use Rattle.pyunparse_text.proofs.Modules.Parts.{again, behind_again}
 use Rattle.pyunparse_text.proofs.Modules.Simple.{simple_again}
 use Rattle.pyunparse_text.proofs.Modules.Headers.{header_again}
 use Rattle.pyunparse_text.proofs.Modules.With.{items_again}
-use Rattle.pyunparse_text.proofs.Modules.Wells.{HeadOf, other_head, match_head, case_head, Gives, Formed, none_formed, one_formed, block_wells}
+use Rattle.pyunparse_text.proofs.Modules.Wells.{HeadOf, other_head, match_head, case_head, Gives, Formed, none_formed, one_formed}
+use Rattle.pyunparse_text.proofs.Modules.Wells.{block_wells}
 use Rattle.pyunparse_text.proofs.Modules.Places.{blocks_placed, in_place}
 use Rattle.pyunparse_text.proofs.Modules.Again.{Simple, Head, Test, wells_again}
 
@@ -62,5 +63,6 @@ formed h (a_form {l = l} {ts = ts} {ws = ws} p c) =
 
 pub modules_again : ModulesComeBack
 modules_again profile ws m g h =
-    let w = wells_again profile (block_wells (Simple profile) (Head profile) Test profile Told (all_again profile) g.block (formed h g.formed)) 0 in
+    let w = wells_again profile (block_wells (Simple profile) (Head profile) Test profile Told (all_again profile) g.block
+        (formed h g.formed)) 0 in
     record { forms = w.lines; formed = in_place [] w.formed (blocks_placed w.is); block = w.is }

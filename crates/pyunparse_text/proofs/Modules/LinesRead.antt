@@ -1,6 +1,7 @@
 -- Carries: the law of read modules. On: the lines that statements are written in are read back, and
 -- no line stands more than a level deeper than the one before.
-use Rattle.std.proofs.Common.{◌≡◌, ℕ, suc, ◌+◌, ◌≤◌, Bool, true, false, ◌&&◌, ◌||◌, ◌==◌, List, [], ◌∷◌, ◌++◌, map, refl, sym, ◌∙◌, subst, arith}
+use Rattle.std.proofs.Common.{◌≡◌, ℕ, suc, ◌+◌, ◌≤◌, Bool, true, false, ◌&&◌, ◌||◌, ◌==◌, List, [], ◌∷◌, ◌++◌, map, refl, sym, ◌∙◌, subst}
+use Rattle.std.proofs.Common.{arith}
 use Rattle.std.specs.Prelude.{nat_le, All}
 use Rattle.std.specs.List.{list_all, list_any}
 use Rattle.std.proofs.lemmas.List.{map-append}
@@ -26,9 +27,11 @@ use Rattle.pyunparse_text.specs.Terminals.{terminal}
 use Rattle.pyunparse_text.specs.Pieces.{Sited, outside, piece}
 use Rattle.pyunparse_text.specs.Brackets.{brackets}
 use Rattle.pyunparse_text.specs.Statements.{simple_tokens}
-use Rattle.pyunparse_text.specs.Modules.{WrittenLine, written_line, terminal_lines, line_of, decorators, lines_of, statement_lines, alternative}
+use Rattle.pyunparse_text.specs.Modules.{WrittenLine, written_line, terminal_lines, line_of, decorators, lines_of, statement_lines}
+use Rattle.pyunparse_text.specs.Modules.{alternative}
 use Rattle.pyunparse_text.specs.Modules.{clause, case_lines, handler_lines}
-use Rattle.pyunparse_text.specs.Laws.{IsOfTokens, GiveLines, no_line, a_line, HaveForms, no_form, a_form, AreModule, ModuleIsRead, ModulesAreRead}
+use Rattle.pyunparse_text.specs.Laws.{IsOfTokens, GiveLines, no_line, a_line, HaveForms, no_form, a_form, AreModule, ModuleIsRead}
+use Rattle.pyunparse_text.specs.Laws.{ModulesAreRead}
 use Rattle.pyunparse_text.proofs.PieceLaws.Shallow.{Low}
 use Rattle.pyunparse_text.proofs.PieceLaws.Derived.{Said, front, rest, behind}
 use Rattle.pyunparse_text.proofs.PieceLaws.OfTokens.{of_tokens}
@@ -36,11 +39,14 @@ use Rattle.pyunparse_text.proofs.PieceLaws.Law.{Reads}
 use Rattle.pyunparse_text.proofs.Modules.FlatLines.{line_brackets}
 use Rattle.pyunparse_text.proofs.PieceLaws.HeaderForms.{ReadHeader, header_read, decorator_read}
 use Rattle.pyunparse_text.proofs.PieceLaws.LinesDerived.{simple_read, header_said, decorator_said}
-use Rattle.pyunparse_text.proofs.Modules.Wells.{HeadOf, other_head, Well, well_simple, well_if, well_loop, well_with, well_finally, well_except}
-use Rattle.pyunparse_text.proofs.Modules.Wells.{well_definition, well_match, Wells, none, one, Full, full, Handled, none_handled, one_handled, Cased}
+use Rattle.pyunparse_text.proofs.Modules.Wells.{HeadOf, other_head, Well, well_simple, well_if, well_loop, well_with, well_finally}
+use Rattle.pyunparse_text.proofs.Modules.Wells.{well_except}
+use Rattle.pyunparse_text.proofs.Modules.Wells.{well_definition, well_match, Wells, none, one, Full, full, Handled, none_handled}
+use Rattle.pyunparse_text.proofs.Modules.Wells.{one_handled, Cased}
 use Rattle.pyunparse_text.proofs.Modules.Wells.{none_cased, one_cased, Decorated, none_decorated, one_decorated, Gives, Formed, none_formed}
 use Rattle.pyunparse_text.proofs.Modules.Wells.{one_formed, block_wells}
-use Rattle.pyunparse_text.proofs.Modules.Shapes.{lone_if, not_lone, simple_lines, loop_lines, with_lines, try_lines, definition_lines, else_lines}
+use Rattle.pyunparse_text.proofs.Modules.Shapes.{lone_if, not_lone, simple_lines, loop_lines, with_lines, try_lines, definition_lines}
+use Rattle.pyunparse_text.proofs.Modules.Shapes.{else_lines}
 
 -- a line of terminals that can be said
 abbrev pub IsSaid : Extent → WrittenLine Terminal → Type 0
@@ -91,9 +97,11 @@ module _ (extent : Extent) where
       let xs : List Line = map line_of rs in
       let ys : List Line = map line_of ss in
       record {
-        written = λ low. rw e (list_all-append is_written xs ys ∙ and_both (list_all is_written xs) (list_all is_written ys) (x.written (low_first qs us low)) (y.written (low_later qs us low)));
+        written = λ low. rw e (list_all-append is_written xs ys ∙ and_both (list_all is_written xs) (list_all is_written ys)
+            (x.written (low_first qs us low)) (y.written (low_later qs us low)));
         begins = rw e (begin_both n xs ys x.begins y.begins);
-        above = rw e (list_all-append (λ (l : Line). nat_le n l.level) xs ys ∙ and_both (list_all (λ (l : Line). nat_le n l.level) xs) (list_all (λ (l : Line). nat_le n l.level) ys) x.above y.above);
+        above = rw e (list_all-append (λ (l : Line). nat_le n l.level) xs ys ∙ and_both (list_all (λ (l : Line). nat_le n l.level) xs)
+            (list_all (λ (l : Line). nat_le n l.level) ys) x.above y.above);
         rises = rw e (rise_both n n xs ys x.rises x.above (omega arith) y.begins y.rises);
         give = λ low. give_both (x.give (low_first qs us low)) (y.give (low_later qs us low));
       }
@@ -105,7 +113,8 @@ module _ (extent : Extent) where
       let h = and_parts (nat_le l.level (suc n + 1)) (rise_by_one l.level ls) f in
       and_both (nat_le l.level (n + 1)) (rise_by_one l.level ls) (le-leb l.level (n + 1) (omega arith)) h.1
 
-  lower : (n : ℕ) (ls : List Line) → list_all (λ (l : Line). nat_le (suc n) l.level) ls ≡ true → list_all (λ (l : Line). nat_le n l.level) ls ≡ true
+  lower : (n : ℕ) (ls : List Line) → list_all (λ (l : Line). nat_le (suc n) l.level) ls ≡ true
+      → list_all (λ (l : Line). nat_le n l.level) ls ≡ true
   lower n [] e = refl
   lower n (l ∷ ls) e =
       let h = and_parts (nat_le (suc n) l.level) (list_all (λ (l : Line). nat_le (suc n) l.level) ls) e in
@@ -113,12 +122,14 @@ module _ (extent : Extent) where
       and_both (nat_le n l.level) (list_all (λ (l : Line). nat_le n l.level) ls) (le-leb n l.level (omega arith)) (lower n ls h.1)
 
   -- a line, and lines one level deeper after it
-  fine_head : {n : ℕ} {ps : List Sited} {ts : List Terminal} {rs : List (WrittenLine Sited)} {qs : List (WrittenLine Terminal)} → Reads extent ps ts
+  fine_head : {n : ℕ} {ps : List Sited} {ts : List Terminal} {rs : List (WrittenLine Sited)} {qs : List (WrittenLine Terminal)}
+      → Reads extent ps ts
       → Fine (suc n) rs qs → Fine n (written_line n ps ∷ rs) (written_line n ts ∷ qs)
   fine_head {n} {ps} {ts} {rs} {qs} x y =
       let ls : List Line = map line_of rs in
       record {
-        written = λ low. and_both (is_written (record { level = n; pieces = outside ps })) (list_all is_written ls) ((x low.0).line n) (y.written low.1);
+        written = λ low. and_both (is_written (record { level = n; pieces = outside ps })) (list_all is_written ls)
+            ((x low.0).line n) (y.written low.1);
         begins = (let e : (n == n) ≡ true = grind (arith, nat_tests) in e);
         above = and_both (nat_le n n) (list_all (λ (l : Line). nat_le n l.level) ls) (le-leb n n (omega arith)) (lower n ls y.above);
         rises = and_both (nat_le n (n + 1)) (rise_by_one n ls) (le-leb n (n + 1) (omega arith)) (deeper n ls y.begins y.rises);
@@ -216,7 +227,8 @@ module _ (extent : Extent) where
       → ReadHeader extent (if_header e)
   if_read {e = e} q p = header_read (if_header e) (header_said extent (other_head p) q)
 
-  decorated_read : {profile : Profile} {ts : List Terminal} {e : Expr} → Said extent [] ts → F.FormOf profile ts (decorator_form e) → ReadDecorator e
+  decorated_read : {profile : Profile} {ts : List Terminal} {e : Expr} → Said extent [] ts
+      → F.FormOf profile ts (decorator_form e) → ReadDecorator e
   decorated_read q (F.decorator_line {ts = ts} {e = e} p) = decorator_read e (decorator_said extent p (rest q))
 
   all_read : (profile : Profile) → Gives ReadSimple (ReadHeader extent) ReadDecorator profile (Said extent [])
@@ -262,9 +274,11 @@ module _ (extent : Extent) where
   read_in profile ws m g h low =
       let f =
       wells_fine
-      (block_wells ReadSimple (ReadHeader extent) ReadDecorator profile (Said extent []) (all_read profile) g.block (formed h g.formed)) 0 in
+      (block_wells ReadSimple (ReadHeader extent) ReadDecorator profile (Said extent []) (all_read profile) g.block (formed h g.formed))
+          0 in
       let ls : List Line = map line_of (lines_of piece 0 (stmts m.body)) in
-      let few = all_low (expression_height m + 1) (lines_of terminal 0 (stmts m.body)) (λ f. (let k = low f in omega (arith, k))) (line_brackets m) in
+      let few = all_low (expression_height m + 1) (lines_of terminal 0 (stmts m.body))
+          (λ f. (let k = low f in omega (arith, k))) (line_brackets m) in
       record { written = and_both (list_all is_written ls) (rise_by_one 0 ls) (f.written few) f.rises; give = f.give few }
 
   of_lines : (ws : List (WrittenLine Terminal)) → All (IsOfTokens extent) ws → All (IsSaid extent) ws
@@ -273,7 +287,8 @@ module _ (extent : Extent) where
       All-cons (IsSaid extent) w ws (of_tokens (All-head (IsOfTokens extent) w ws h)) (of_lines ws (All-tail (IsOfTokens extent) w ws h))
 
 -- what is written for a module that some lines of terminals that can be said give
-pub modules_said : (profile : Profile) (ws : List (WrittenLine Terminal)) (m : Module) → AreModule profile ws m → All (IsSaid profile.extent) ws
+pub modules_said : (profile : Profile) (ws : List (WrittenLine Terminal)) (m : Module) → AreModule profile ws m
+    → All (IsSaid profile.extent) ws
     → (list_any (λ w. has_formatted w.tokens) (terminal_lines m) ≡ true → expression_height m ≤ 500) → ModuleIsRead profile.extent m
 modules_said profile ws m g h low = read_in profile.extent profile ws m g h low
 

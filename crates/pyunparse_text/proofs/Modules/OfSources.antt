@@ -36,7 +36,8 @@ use Rattle.pyunparse_text.proofs.Modules.Accepted.{source_forms, texts_accepted}
 abbrev HasCharacters : List ℕ → Entry → Type 0
 HasCharacters text e = all_scalars (text_of text e) ≡ true
 
-covered : (text a t : List ℕ) (o : ℕ) (es : List Entry) (left : List ℕ) → text ≡ a ++ t → o ≡ bytes_in a → all_scalars t ≡ true → Covers o t es left
+covered : (text a t : List ℕ) (o : ℕ) (es : List Entry) (left : List ℕ) → text ≡ a ++ t → o ≡ bytes_in a
+    → all_scalars t ≡ true → Covers o t es left
     → All (HasCharacters text) es
 covered text a t o [] left w e s c = All-nil (HasCharacters text)
 covered text a t o (x ∷ es) left w e s c =
@@ -84,7 +85,8 @@ all_texts text before (e ∷ es) h =
 token_texts : (s : Source) → IsLawful s → all_scalars s.text ≡ true → All IsText (tokens s)
 unfolding tokens
 token_texts s w h =
-    all_texts s.text [] (entries_of (listing s)) (covered s.text [] s.text 0 (entries_of (listing s)) w.covered.left refl refl h w.covered.covers)
+    all_texts s.text [] (entries_of (listing s)) (covered s.text [] s.text 0 (entries_of (listing s)) w.covered.left refl
+        refl h w.covered.covers)
 
 -- ---- Lines of tokens.
 
@@ -106,7 +108,8 @@ module _ (extent : Extent) where
 
   record Goes (t : Token) : Type 0 where
     at : (before line ts : List Token) → All (IsOfSourceIn extent) line → All (IsOfSourceIn extent) (line ++ t ∷ [])
-        → ((line : List Token) → All (IsOfSourceIn extent) line → All Good (lines_from (t ∷ before) line ts)) → All Good (lines_from before line (t ∷ ts))
+        → ((line : List Token) → All (IsOfSourceIn extent) line → All Good (lines_from (t ∷ before) line ts))
+            → All Good (lines_from before line (t ∷ ts))
 
   goes : (k : Kind) (t : Token) → t.kind ≡ k → Goes t
   goes kinds.Newline t q = record { at = λ before line ts a b more. rw q (All-cons Good _ _ a (more [] (All-nil (IsOfSourceIn extent)))) }
@@ -115,7 +118,8 @@ module _ (extent : Extent) where
   goes kinds.EndMarker t q = record { at = λ before line ts a b more. rw q (more line a) }
   goes _ t q = record { at = λ before line ts a b more. rw q (more (line ++ t ∷ []) b) }
 
-  all_lines : (before line ts : List Token) → All (IsOfSourceIn extent) line → All (IsOfSourceIn extent) ts → All Good (lines_from before line ts)
+  all_lines : (before line ts : List Token) → All (IsOfSourceIn extent) line → All (IsOfSourceIn extent) ts
+      → All Good (lines_from before line ts)
   all_lines before line [] a h = All-nil Good
   all_lines before line (t ∷ ts) a h =
       let b : All (IsOfSourceIn extent) (line ++ t ∷ []) =
@@ -129,7 +133,8 @@ module _ (extent : Extent) where
 
   -- ---- Their terminals.
 
-  token_terminals : (ts : List Token) → All (IsOfSourceIn extent) ts → AreOfTokens extent (flat_map (λ (t : Token). terminals_of t.kind t.text) ts)
+  token_terminals : (ts : List Token) → All (IsOfSourceIn extent) ts
+      → AreOfTokens extent (flat_map (λ (t : Token). terminals_of t.kind t.text) ts)
   token_terminals [] h = no_token
   token_terminals (t ∷ ts) h =
       let g : IsOfSourceIn extent t = All-head (IsOfSourceIn extent) t ts h in

@@ -26,13 +26,15 @@ pub perhaps_again : {l : Level} {ts : List Terminal} {e : Option Expr} → F.Per
 perhaps_again F.left_out = F.left_out
 perhaps_again (F.given p) = F.given (again p)
 
-pub behind_again : {t : Terminal} {l : Level} {ts : List Terminal} {e : Option Expr} → F.Behind t l ts e → F.Behind t l (S.behind terminal t l e) e
+pub behind_again : {t : Terminal} {l : Level} {ts : List Terminal} {e : Option Expr} → F.Behind t l ts e
+    → F.Behind t l (S.behind terminal t l e) e
 behind_again F.none_behind = F.none_behind
 behind_again (F.behind p) = F.behind (again p)
 
 -- ---- Lists with commas.
 
-module _ (A : Type 0) (X : List Terminal → A → Type 0) (f : A → List Terminal) (again : (ts : List Terminal) (a : A) → X ts a → X (f a) a) where
+module _ (A : Type 0) (X : List Terminal → A → Type 0) (f : A → List Terminal) (again : (ts : List Terminal) (a : A)
+    → X ts a → X (f a) a) where
   pub none_listed : {ts : List Terminal} {as_ : List A} → F.Commas A X ts as_ → as_ ≡ [] → ⊥
   none_listed (F.alone p) h = absurd (cc)
   none_listed (F.comma p c) h = absurd (cc)
@@ -154,11 +156,13 @@ type_param_again _ _ F.type_var_tuple = F.type_var_tuple
 type_param_again _ _ F.param_spec = F.param_spec
 
 some_params : {profile : Profile} (ps : List TypeParam) → has_types profile ≡ true
-    → F.Commas TypeParam F.TypeParamOf (listed terminal (map (S.type_param terminal) ps)) ps → F.TypeParams profile (S.type_params terminal ps) ps
+    → F.Commas TypeParam F.TypeParamOf (listed terminal (map (S.type_param terminal) ps)) ps
+        → F.TypeParams profile (S.type_params terminal ps) ps
 some_params [] h c = F.no_type_params
 some_params (p ∷ ps) h c = F.type_params h (F.ends_bare c)
 
 pub type_params_again : {profile : Profile} {ts : List Terminal} {ps : List TypeParam} → F.TypeParams profile ts ps
     → F.TypeParams profile (S.type_params terminal ps) ps
 type_params_again F.no_type_params = F.no_type_params
-type_params_again (F.type_params {ps = ps} h c) = some_params ps h (last_comma TypeParam F.TypeParamOf (S.type_param terminal) type_param_again c)
+type_params_again (F.type_params {ps = ps} h c) =
+    some_params ps h (last_comma TypeParam F.TypeParamOf (S.type_param terminal) type_param_again c)

@@ -2,7 +2,8 @@
 use Rattle.std.proofs.Common.{◌≡◌, refl, ℕ, suc, List, [], ◌∷◌, ◌++◌, Bool, true, false}
 use Rattle.pytree_node.specs.Trees
 use Rattle.pytree_node.specs.Trees.{Expr, Stmt, Stmts, no_stmt, a_stmt, stmts, cases, Handler, handlers, Item, If}
-use Rattle.pygrammar.specs.Lines.{Header, else_header, loop_header, with_header, try_header, finally_header, def_header, LoopHead, while_head}
+use Rattle.pygrammar.specs.Lines.{Header, else_header, loop_header, with_header, try_header, finally_header, def_header, LoopHead}
+use Rattle.pygrammar.specs.Lines.{while_head}
 use Rattle.pygrammar.specs.Lines.{for_head, DefHead, function_head, class_head, loop, with_of, definition, try_of}
 use Rattle.pyunparse_text.specs.Written.{Maker}
 use Rattle.pyunparse_text.specs.Statements.{simple_tokens}
@@ -54,13 +55,15 @@ module _ {S : Stmt → Type 0} {H : Header → Type 0} {D : Expr → Type 0} whe
   not_lone (well_if p q b d) none h = absurd h
   not_lone (well_if p q b d) (one r c) h = refl
   not_lone {ss = ss} (well_simple {s = s} p q) c h = no_lone s ss (simple_no_if s p)
-  not_lone {ss = ss} (well_loop head {body = body} {orelse = orelse} p b d) c h = no_lone (loop head body orelse) ss (loop_no_if head body orelse)
+  not_lone {ss = ss} (well_loop head {body = body} {orelse = orelse} p b d) c h =
+      no_lone (loop head body orelse) ss (loop_no_if head body orelse)
   not_lone {ss = ss} (well_with b is {body = body} p d) c h = no_lone (with_of b is body) ss (with_no_if b is body)
   not_lone {ss = ss} (well_finally {body = body} {final = final} b d) c h =
       no_lone (try_of false body [] [] final) ss (try_no_if false body [] [] final)
   not_lone {ss = ss} (well_except star {body = body} {orelse = orelse} {final = final} {h = x} {hs = hs} b d e f) c h =
       no_lone (try_of star body (x ∷ hs) orelse final) ss (try_no_if star body (x ∷ hs) orelse final)
-  not_lone {ss = ss} (well_definition head {es = es} {body = body} d p b) c h = no_lone (definition es head body) ss (definition_no_if es head body)
+  not_lone {ss = ss} (well_definition head {es = es} {body = body} d p b) c h =
+      no_lone (definition es head body) ss (definition_no_if es head body)
   not_lone {ss = ss} (well_match {subject = subject} {c = c} {cs = cs} p d) e h = no_lone (Trees.Match subject (cases (c ∷ cs))) ss refl
 
 module _ {A : Type 0} (make : Maker A) where
@@ -81,7 +84,8 @@ module _ {A : Type 0} (make : Maker A) where
   simple_lines l _ h = refl
 
   pub loop_lines : (l : ℕ) (head : LoopHead) (body orelse : List Stmt)
-      → statement_lines make l (loop head body orelse) ≡ header make l (loop_header head) ∷ (lines_of make (suc l) (stmts body) ++ clause make l else_header (stmts orelse))
+      → statement_lines make l (loop head body orelse) ≡ header make l (loop_header head) ∷
+          (lines_of make (suc l) (stmts body) ++ clause make l else_header (stmts orelse))
   unfolding statement_lines
   loop_lines l (while_head test) body orelse = refl
   loop_lines l (for_head false t e) body orelse = refl
@@ -94,13 +98,17 @@ module _ {A : Type 0} (make : Maker A) where
   with_lines l true is body = refl
 
   pub try_lines : (l : ℕ) (b : Bool) (body : List Stmt) (hs : List Handler) (orelse final : List Stmt)
-      → statement_lines make l (try_of b body hs orelse final) ≡ header make l try_header ∷ (lines_of make (suc l) (stmts body) ++ (handler_lines make l b (handlers hs) ++ (clause make l else_header (stmts orelse) ++ clause make l finally_header (stmts final))))
+      → statement_lines make l (try_of b body hs orelse final) ≡ header make l try_header ∷
+          (lines_of make (suc l) (stmts body) ++
+          (handler_lines make l b (handlers hs) ++ (clause make l else_header (stmts orelse) ++ clause make l
+          finally_header (stmts final))))
   unfolding statement_lines
   try_lines l false body hs orelse final = refl
   try_lines l true body hs orelse final = refl
 
   pub definition_lines : (l : ℕ) (es : List Expr) (head : DefHead) (body : List Stmt)
-      → statement_lines make l (definition es head body) ≡ decorators make l es ++ (header make l (def_header head) ∷ lines_of make (suc l) (stmts body))
+      → statement_lines make l (definition es head body) ≡ decorators make l es ++
+          (header make l (def_header head) ∷ lines_of make (suc l) (stmts body))
   unfolding statement_lines
   definition_lines l es (function_head false x ps a r) body = refl
   definition_lines l es (function_head true x ps a r) body = refl

@@ -61,7 +61,8 @@ module _ {profile : Profile} where
   annotated_again _ p q r = F.annotated_part p refl q r
 
   -- imports, with points or without
-  module_again : (n : ℕ) (m : Identifier) {as_ : List Alias} → F.Names (S.imported terminal as_) as_ → F.Simple profile (S.simple_tokens terminal (ImportFrom (Some m) as_ n)) (ImportFrom (Some m) as_ n)
+  module_again : (n : ℕ) (m : Identifier) {as_ : List Alias} → F.Names (S.imported terminal as_) as_
+      → F.Simple profile (S.simple_tokens terminal (ImportFrom (Some m) as_ n)) (ImportFrom (Some m) as_ n)
   module_again zero m c = F.from_module F.no_dot (dotted_again false m) c
   module_again (suc n) m c = F.from_module (points_again false (suc n)) (dotted_again true m) c
 

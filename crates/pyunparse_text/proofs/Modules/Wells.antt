@@ -7,8 +7,10 @@ use Rattle.pytree_node.specs.Trees.{Expr, Identifier, Pattern, Stmt, stmts, Case
 use Rattle.pytoken.specs.Terminals.{Terminal}
 use Rattle.pygrammar.specs.OpenStrings.{Open, open_behind, open_behind_all}
 use Rattle.pygrammar.proofs.Callers.OpenStrings.{simple_closes, header_closes, case_closes}
-use Rattle.pygrammar.specs.Lines.{LoopHead, DefHead, Header, Form, Line, line, if_header, elif_header, loop_header, with_header, except_header}
-use Rattle.pygrammar.specs.Lines.{def_header, match_header, case_header, simple_form, decorator_form, header_form, loop, with_of, definition, try_of}
+use Rattle.pygrammar.specs.Lines.{LoopHead, DefHead, Header, Form, Line, line, if_header, elif_header, loop_header, with_header}
+use Rattle.pygrammar.specs.Lines.{except_header}
+use Rattle.pygrammar.specs.Lines.{def_header, match_header, case_header, simple_form, decorator_form, header_form, loop, with_of}
+use Rattle.pygrammar.specs.Lines.{definition, try_of}
 use Rattle.pygrammar.specs.declared.levels.Level.TheVariants.{Subject}
 use Rattle.pygrammar.specs.Grammar as G
 use Rattle.pygrammar.specs.Forms as F
@@ -70,7 +72,8 @@ module _ (S : Stmt → Type 0) (H : Header → Type 0) (D : Expr → Type 0) whe
       -- its line may be an `elif` too
       well_if : {test : Expr} {body orelse : List Stmt} →
           H (if_header test) → H (elif_header test) → Full body → Wells orelse → Well (If test (stmts body) (stmts orelse))
-      well_loop : (head : LoopHead) {body orelse : List Stmt} → H (loop_header head) → Full body → Wells orelse → Well (loop head body orelse)
+      well_loop : (head : LoopHead) {body orelse : List Stmt} → H (loop_header head) → Full body → Wells orelse
+          → Well (loop head body orelse)
       well_with : (is_async : Bool) (items : List Item) {body : List Stmt} → H (with_header is_async items) → Full body
           → Well (with_of is_async items body)
       well_finally : {body final : List Stmt} → Full body → Full final → Well (try_of false body [] [] final)
@@ -134,7 +137,8 @@ module _ (S : Stmt → Type 0) (H : Header → Type 0) (D : Expr → Type 0) whe
     -- lines that have forms at some places
     pub data Formed : List Line → Type 0 where
       none_formed : Formed []
-      one_formed : {l : ℕ} {inside : Bool} {ts : List Terminal} {f : Form} {xs : List Line} → Q ts → F.FormAt profile inside ts f → Formed xs
+      one_formed : {l : ℕ} {inside : Bool} {ts : List Terminal} {f : Form} {xs : List Line} → Q ts
+          → F.FormAt profile inside ts f → Formed xs
           → Formed (line l f ∷ xs)
 
     cut : (xs : List Line) {ys : List Line} → Formed (xs ++ ys) → Formed xs × Formed ys
@@ -161,16 +165,19 @@ module _ (S : Stmt → Type 0) (H : Header → Type 0) (D : Expr → Type 0) whe
     suite_full : {inside : Bool} {ts : List Terminal} {h : Header} {suite : Option (List Stmt)} → Q ts
         → F.FormAt profile inside ts (header_form h suite) → FullSuite suite
     suite_full q (F.other_line n (F.header_line p)) = tt
-    suite_full q (F.other_line n (F.header_suite {ts = ts} {us = us} p c)) = simples_full (given.rest ts us _ (header_closes p) (λ o. refl) q) c
+    suite_full q (F.other_line n (F.header_suite {ts = ts} {us = us} p c)) =
+        simples_full (given.rest ts us _ (header_closes p) (λ o. refl) q) c
     suite_full q (F.other_line n (F.match_line form w p)) = tt
     suite_full q (F.case_alone w p) = tt
     suite_full q (F.case_suite {ts = ts} {us = us} w p c) = simples_full (given.rest ts us _ (case_closes p) (λ o. refl) q) c
 
-    head_is : {inside : Bool} {ts : List Terminal} {h : Header} {suite : Option (List Stmt)} → Q ts → F.FormAt profile inside ts (header_form h suite)
+    head_is : {inside : Bool} {ts : List Terminal} {h : Header} {suite : Option (List Stmt)} → Q ts
+        → F.FormAt profile inside ts (header_form h suite)
         → H h
     head_is q (F.other_line n (F.header_line {ts = ts} p)) = given.header (given.front ts _ q) (other_head p)
     head_is q (F.other_line n (F.header_suite {ts = ts} p c)) = given.header (given.front ts _ q) (other_head p)
-    head_is q (F.other_line n (F.match_line {ts = ts} form w p)) = given.header (given.front (F.match_word form ∷ ts) _ q) (match_head form w p)
+    head_is q (F.other_line n (F.match_line {ts = ts} form w p)) =
+        given.header (given.front (F.match_word form ∷ ts) _ q) (match_head form w p)
     head_is q (F.case_alone {ts = ts} w p) = given.header (given.front ts _ q) (case_head w p)
     head_is q (F.case_suite {ts = ts} w p c) = given.header (given.front ts _ q) (case_head w p)
 
@@ -188,38 +195,52 @@ module _ (S : Stmt → Type 0) (H : Header → Type 0) (D : Expr → Type 0) whe
     if_is q (F.case_alone w p) = absurd (let z = case_is p in cc)
     if_is q (F.case_suite w p c) = absurd (let z = case_is p in cc)
 
-    definition_full : {l : ℕ} (head : DefHead) {suite : Option (List Stmt)} {xs : List Line} {es : List Expr} {body : List Stmt} → Decorated es
-        → (FullSuite suite → Formed xs → Full body) → Formed (line l (header_form (def_header head) suite) ∷ xs) → Full (definition es head body ∷ [])
+    definition_full : {l : ℕ} (head : DefHead) {suite : Option (List Stmt)} {xs : List Line} {es : List Expr} {body : List Stmt}
+        → Decorated es
+        → (FullSuite suite → Formed xs → Full body) → Formed (line l (header_form (def_header head) suite) ∷ xs)
+            → Full (definition es head body ∷ [])
     definition_full head d p (one_formed q f a) = full (well_definition head d (head_is q f) (p (suite_full q f) a)) none
 
-    clause_full : {l : ℕ} {h : Header} {suite : Option (List Stmt)} {xs : List Line} {body : List Stmt} → (FullSuite suite → Formed xs → Full body)
+    clause_full : {l : ℕ} {h : Header} {suite : Option (List Stmt)} {xs : List Line} {body : List Stmt}
+        → (FullSuite suite → Formed xs → Full body)
         → Formed (line l (header_form h suite) ∷ xs) → Full body
     clause_full p (one_formed q f a) = p (suite_full q f) a
 
     mutual
       block_found : {l : ℕ} {xs : List Line} {ss : List Stmt} → B.Block l xs ss → Formed xs → Found xs ss
       block_found B.nothing a = record { wells = none; some = λ h. absurd (h refl) }
-      block_found (B.and_then {xs = xs} p q) a = let w = cut xs a in let u = append_full (statement_full p w.0) (block_found q w.1).wells in record { wells = wells_of u; some = λ h. u }
+      block_found (B.and_then {xs = xs} p q) a = let w = cut xs a in let u = append_full (statement_full p w.0) (block_found q w.1).wells in
+          record { wells = wells_of u; some = λ h. u }
 
       statement_full : {l : ℕ} {xs : List Line} {ss : List Stmt} → B.Statement l xs ss → Formed xs → Full ss
       statement_full B.simple_line (one_formed q f a) = line_full q f
-      statement_full (B.if_statement {xs = xs} p r) (one_formed q f a) = let w = cut xs a in full (well_if (head_is q f) (elif_is q f) (body_full p (suite_full q f) w.0) (alternative_wells r w.1)) none
-      statement_full (B.loop_statement {head = head} {xs = xs} p r) (one_formed q f a) = let w = cut xs a in full (well_loop head (head_is q f) (body_full p (suite_full q f) w.0) (otherwise_wells r w.1)) none
+      statement_full (B.if_statement {xs = xs} p r) (one_formed q f a) = let w = cut xs a in
+          full (well_if (head_is q f) (elif_is q f) (body_full p (suite_full q f) w.0) (alternative_wells r w.1)) none
+      statement_full (B.loop_statement {head = head} {xs = xs} p r) (one_formed q f a) = let w = cut xs a in
+          full (well_loop head (head_is q f) (body_full p (suite_full q f) w.0) (otherwise_wells r w.1)) none
       statement_full (B.with_statement {is_async = b} {items = items} p) (one_formed q f a) =
           full (well_with b items (head_is q f) (body_full p (suite_full q f) a)) none
-      statement_full (B.try_finally {xs = xs} p r) (one_formed q f a) = let w = cut xs a in full (well_finally (body_full p (suite_full q f) w.0) (clause_full (λ s b. body_full r s b) w.1)) none
-      statement_full (B.try_except {star = star} {xs = xs} {ys = ys} {zs = zs} p c r t) (one_formed q f a) = let u = cut xs a in let v = cut ys u.1 in let w = cut zs v.1 in full (well_except star (body_full p (suite_full q f) u.0) (excepts_handled c v.0) (otherwise_wells r w.0) (ending_wells t w.1)) none
-      statement_full (B.definition_of head {ds = ds} d p) a = let w = cut ds a in definition_full head (decorators_decorated d w.0) (λ s b. body_full p s b) w.1
-      statement_full (B.match_statement (B.case_clause {xs = xs} p c)) (one_formed q f (one_formed r g a)) = let w = cut xs a in full (well_match (head_is q f) (one_cased (head_is r g) (body_full p (suite_full r g) w.0) (cases_cased c w.1))) none
+      statement_full (B.try_finally {xs = xs} p r) (one_formed q f a) = let w = cut xs a in
+          full (well_finally (body_full p (suite_full q f) w.0) (clause_full (λ s b. body_full r s b) w.1)) none
+      statement_full (B.try_except {star = star} {xs = xs} {ys = ys} {zs = zs} p c r t) (one_formed q f a) = let u = cut xs a in let v =
+          cut ys u.1 in let w = cut zs v.1 in
+          full (well_except star (body_full p (suite_full q f) u.0) (excepts_handled c v.0) (otherwise_wells r w.0) (ending_wells t w.1))
+          none
+      statement_full (B.definition_of head {ds = ds} d p) a = let w = cut ds a in
+          definition_full head (decorators_decorated d w.0) (λ s b. body_full p s b) w.1
+      statement_full (B.match_statement (B.case_clause {xs = xs} p c)) (one_formed q f (one_formed r g a)) = let w = cut xs a in
+          full (well_match (head_is q f) (one_cased (head_is r g) (body_full p (suite_full r g) w.0) (cases_cased c w.1))) none
 
-      body_full : {l : ℕ} {suite : Option (List Stmt)} {xs : List Line} {ss : List Stmt} → B.Body l suite xs ss → FullSuite suite → Formed xs
+      body_full : {l : ℕ} {suite : Option (List Stmt)} {xs : List Line} {ss : List Stmt} → B.Body l suite xs ss
+          → FullSuite suite → Formed xs
           → Full ss
       body_full B.inline s a = s
       body_full (B.indented p) s a = (block_found p a).some (λ h. absurd (cc))
 
       alternative_wells : {l : ℕ} {xs : List Line} {ss : List Stmt} → B.Alternative l xs ss → Formed xs → Wells ss
       alternative_wells (B.an_else p) a = otherwise_wells p a
-      alternative_wells (B.an_elif {xs = xs} p r) (one_formed q f a) = let w = cut xs a in one (well_if (if_is q f) (head_is q f) (body_full p (suite_full q f) w.0) (alternative_wells r w.1)) none
+      alternative_wells (B.an_elif {xs = xs} p r) (one_formed q f a) = let w = cut xs a in
+          one (well_if (if_is q f) (head_is q f) (body_full p (suite_full q f) w.0) (alternative_wells r w.1)) none
 
       otherwise_wells : {l : ℕ} {xs : List Line} {ss : List Stmt} → B.Otherwise l xs ss → Formed xs → Wells ss
       otherwise_wells B.no_else a = none
@@ -231,11 +252,13 @@ module _ (S : Stmt → Type 0) (H : Header → Type 0) (D : Expr → Type 0) whe
 
       excepts_handled : {l : ℕ} {star : Bool} {xs : List Line} {hs : List Handler} → B.Excepts l star xs hs → Formed xs → Handled star hs
       excepts_handled B.no_except a = none_handled
-      excepts_handled (B.except_clause {xs = xs} p r) (one_formed q f a) = let w = cut xs a in one_handled (head_is q f) (body_full p (suite_full q f) w.0) (excepts_handled r w.1)
+      excepts_handled (B.except_clause {xs = xs} p r) (one_formed q f a) = let w = cut xs a in
+          one_handled (head_is q f) (body_full p (suite_full q f) w.0) (excepts_handled r w.1)
 
       cases_cased : {l : ℕ} {xs : List Line} {cs : List Case} → B.Cases l xs cs → Formed xs → Cased cs
       cases_cased B.no_case a = none_cased
-      cases_cased (B.case_clause {xs = xs} p r) (one_formed q f a) = let w = cut xs a in one_cased (head_is q f) (body_full p (suite_full q f) w.0) (cases_cased r w.1)
+      cases_cased (B.case_clause {xs = xs} p r) (one_formed q f a) = let w = cut xs a in
+          one_cased (head_is q f) (body_full p (suite_full q f) w.0) (cases_cased r w.1)
 
       decorators_decorated : {l : ℕ} {xs : List Line} {es : List Expr} → B.Decorators l xs es → Formed xs → Decorated es
       decorators_decorated B.no_decorator a = none_decorated

@@ -1,6 +1,7 @@
 -- Carries: the law of modules. On: the items of a `with`: where they are written without brackets
 -- nothing else reads them.
-use Rattle.std.proofs.Common.{◌≡◌, refl, sym, ap, subst, ◌∙◌, ℕ, suc, ◌≤◌, arith, List, [], ◌∷◌, ◌++◌, length, Option, Some, None, Bool, true, false}
+use Rattle.std.proofs.Common.{◌≡◌, refl, sym, ap, subst, ◌∙◌, ℕ, suc, ◌≤◌, arith, List, [], ◌∷◌, ◌++◌, length, Option, Some, None, Bool}
+use Rattle.std.proofs.Common.{true, false}
 use Rattle.std.proofs.Common.{cond, append_assoc, append-nil, length-append}
 use Rattle.std.specs.Prelude.{map}
 use Rattle.pylex_lexeme.specs.declared.kinds.Exact.TheVariants.{LPar, RPar, Comma}
@@ -79,7 +80,8 @@ no_as (up h p) = absurd (cc)
 no_as (down h p) = absurd (cc)
 
 -- all but the last one
-front : (us xs : List Terminal) (z t : Terminal) (ws : List Terminal) → us ++ (z ∷ []) ≡ xs ++ (t ∷ ws) → (vs : List Terminal) × (us ≡ xs ++ vs)
+front : (us xs : List Terminal) (z t : Terminal) (ws : List Terminal) → us ++ (z ∷ []) ≡ xs ++ (t ∷ ws)
+    → (vs : List Terminal) × (us ≡ xs ++ vs)
 front us [] z t ws h = (us, refl)
 front [] (x ∷ []) z t ws h = absurd (cc)
 front [] (x ∷ (y ∷ xs)) z t ws h = absurd (cc)
@@ -119,7 +121,8 @@ record Bare (us : List Terminal) : Type 0 where
 bare : {us : List Terminal} {is : List Item} → F.Commas Item F.ItemOf us is → (n m : ℕ) → Runs true n us m → Bare us
 bare (F.alone (F.bare_item {e = e} p)) n m r = record { es = e ∷ []; is = F.alone p }
 bare (F.alone (F.item_as {ts = ts} p q)) n m r = absurd (no_as (split ts r).2)
-bare (F.comma {ts = ts} (F.bare_item {e = e} p) c) n m r = let v = split ts r in let w = bare c v.0 m (passed v.2) in record { es = e ∷ w.es; is = F.comma p w.is }
+bare (F.comma {ts = ts} (F.bare_item {e = e} p) c) n m r = let v = split ts r in let w = bare c v.0 m (passed v.2) in
+    record { es = e ∷ w.es; is = F.comma p w.is }
 bare (F.comma {us = us} (F.item_as {ts = ts} {us = vs} p q) c) n m r =
     absurd (no_as (split ts (subst (λ z. Runs true n z m) (append_assoc ts (Word Key.As ∷ vs) (Op Comma ∷ us)) r)).2)
 
@@ -143,7 +146,8 @@ shortest : {ts : List Terminal} {e : Expr} → G.Derives Expression ts e → AtL
 shortest p = (claim p).short
 
 -- what a list with one expression more has
-cons_most : (ms : List (Unit {0})) (mss : List (List (Unit {0}))) → length (separated tt (ms ∷ mss)) ≤ length (ms ++ (tt ∷ separated tt mss))
+cons_most : (ms : List (Unit {0})) (mss : List (List (Unit {0})))
+    → length (separated tt (ms ∷ mss)) ≤ length (ms ++ (tt ∷ separated tt mss))
 cons_most ms mss = omega (arith, length_separated tt (ms ∷ mss), length_separated tt mss, length-append ms (tt ∷ separated tt mss))
 
 commas_short : {us : List Terminal} {es : List Expr} → F.Commas Expr (G.Derives Expression) us es
@@ -159,7 +163,8 @@ unfolding each
 star_short (F.alone {a = a} p) = omega (arith, step_less StarItem a (claim p).place)
 star_short (F.comma {a = a} p c) = omega (arith, step_less StarItem a (claim p).place, star_short c)
 
-first_named : (e : Expr) (z : Exprs) → allowed Expression e ≡ true → are_plain (an_expr e z) ≡ false → (are_plain z ≡ false → some_named z ≡ true)
+first_named : (e : Expr) (z : Exprs) → allowed Expression e ≡ true → are_plain (an_expr e z) ≡ false
+    → (are_plain z ≡ false → some_named z ≡ true)
     → some_named (an_expr e z) ≡ true
 first_named (Trees.Starred e c) z p h f = absurd (cc)
 first_named (Trees.NamedExpr t e) z p h f = refl
@@ -182,7 +187,8 @@ record Inside (us : List Terminal) : Type 0 where
 in_tuple : {ts us : List Terminal} {e : Expr} (es : List Expr) → G.Derives Expression ts e → G.Listing (Of Elem) us (map Single es)
     → G.Derives Atom (Op LPar ∷ ((ts ++ (Op Comma ∷ us)) ++ (Op RPar ∷ []))) (Trees.Tuple (an_expr e (exprs es)) Load)
 in_tuple {ts} {us} {e} es p c =
-    subst (λ z. G.Derives Atom (Op LPar ∷ z) (Trees.Tuple (an_expr e (exprs es)) Load)) (sym (append_assoc ts (Op Comma ∷ us) (Op RPar ∷ [])))
+    subst (λ z. G.Derives Atom (Op LPar ∷ z) (Trees.Tuple (an_expr e (exprs es)) Load))
+        (sym (append_assoc ts (Op Comma ∷ us) (Op RPar ∷ [])))
     (subst (λ z. G.Derives Atom (Op LPar ∷ (ts ++ (Op Comma ∷ (us ++ (Op RPar ∷ []))))) (Trees.Tuple (an_expr e z) Load)) (singles_are es)
     (G.tuple (G.next (G.next p)) c))
 
@@ -211,8 +217,10 @@ comma_inside (F.alone {ts = ts} {a = a} p) = record {
 comma_inside (F.comma {ts = ts} {us = us} {a = a} {as_ = as_} p c) = record {
   e = a;
   es = as_;
-  is = subst (λ z. G.Derives Atom (Op LPar ∷ (z ++ (Op RPar ∷ []))) (Trees.Tuple (an_expr a (exprs as_)) Load)) (sym (append_assoc ts (Op Comma ∷ us) (Op Comma ∷ []))) (in_tuple as_ p (listing_comma c));
-  size = fewer (omega (arith, length-append (written one Expression a ++ (tt ∷ separated tt (each one Expression (exprs as_)))) (tt ∷ []))) (joint (joint (shortest p) (token refl (commas_short c))) (token refl none));
+  is = subst (λ z. G.Derives Atom (Op LPar ∷ (z ++ (Op RPar ∷ []))) (Trees.Tuple (an_expr a (exprs as_)) Load))
+      (sym (append_assoc ts (Op Comma ∷ us) (Op Comma ∷ []))) (in_tuple as_ p (listing_comma c));
+  size = fewer (omega (arith, length-append (written one Expression a ++ (tt ∷ separated tt (each one Expression (exprs as_)))) (tt ∷ [])))
+      (joint (joint (shortest p) (token refl (commas_short c))) (token refl none));
   stars = star_short (F.comma p c);
   named = λ h. some_are_named (F.comma p c) h;
 }
@@ -224,7 +232,8 @@ unfolding written each
 not_tuple {us} {e} w p q h =
     let f : e ≡ Trees.Tuple (an_expr w.e (exprs w.es)) Load =
     expressions_are_unique Expression _ _ _ p
-    (climb Expression Atom (to_atom Expression) (subst (λ z. G.Derives Atom z (Trees.Tuple (an_expr w.e (exprs w.es)) Load)) (sym q) w.is)) in
+    (climb Expression Atom (to_atom Expression)
+        (subst (λ z. G.Derives Atom z (Trees.Tuple (an_expr w.e (exprs w.es)) Load)) (sym q) w.is)) in
     let g : some_named (an_expr w.e (exprs w.es)) ≡ true = w.named (subst (λ z. reads_as_items z None ≡ false) f h) in
     let t : Expr = Trees.Tuple (an_expr w.e (exprs w.es)) Load in
     let s : Same (written one Expression t) (Op LPar ∷ (us ++ (Op RPar ∷ []))) =
@@ -232,7 +241,10 @@ not_tuple {us} {e} w p q h =
     let ms : List (Unit {0}) = with_comma one (each one Expression (an_expr w.e (exprs w.es))) in
     let k : length (tt ∷ (ms ++ (tt ∷ []))) ≤ length (written one Expression t) = at_most s (in_brackets LPar RPar w.size) in
     omega
-    (arith, k, length-append ms (tt ∷ []), length_bracketed (with_comma one (each one Elem (an_expr w.e (exprs w.es)))), length_with_comma (written one Elem w.e) (each one Elem (exprs w.es)), length_with_comma (written one Expression w.e) (each one Expression (exprs w.es)), w.stars, total_named (an_expr w.e (exprs w.es)) g)
+    (arith, k, length-append ms (tt ∷ []), length_bracketed (with_comma one (each one Elem (an_expr w.e (exprs w.es)))),
+        length_with_comma (written one Elem w.e) (each one Elem (exprs w.es)),
+        length_with_comma (written one Expression w.e) (each one Expression (exprs w.es)), w.stars,
+        total_named (an_expr w.e (exprs w.es)) g)
 
 -- a group
 not_group : {us : List Terminal} {e f : Expr} → G.Derives Expression us f → G.Derives Expression (written terminal Expression e) e
@@ -241,7 +253,8 @@ not_group {us} {e} {f} d p q =
     let g : e ≡ f =
     expressions_are_unique Expression _ _ _ p
     (climb Expression Atom (to_atom Expression) (subst (λ z. G.Derives Atom z f) (sym q) (G.group (G.next d)))) in
-    let s : Same (written one Expression e) (Op LPar ∷ (us ++ (Op RPar ∷ []))) = subst (Same (written one Expression e)) q (same Expression e) in
+    let s : Same (written one Expression e) (Op LPar ∷ (us ++ (Op RPar ∷ []))) =
+        subst (Same (written one Expression e)) q (same Expression e) in
     omega (
       arith,
       at_most s (in_brackets LPar RPar (shortest (subst (G.Derives Expression us) (sym g) d))),
@@ -264,17 +277,21 @@ not_items : {us : List Terminal} {others : List Item} {e : Expr} → F.Commas? I
     → G.Derives Expression (written terminal Expression e) e → written terminal Expression e ≡ Op LPar ∷ (us ++ (Op RPar ∷ []))
     → reads_as_items e None ≡ false → ⊥
 not_items (F.ends_bare c) p q h = not_alone (bare c 1 (inner p q).0 (inner p q).1).is p q h
-not_items (F.ends_comma {ts = ts} c) p q h = not_tuple (comma_inside (bare c 1 (split ts (inner p q).1).0 (split ts (inner p q).1).1).is) p q h
+not_items (F.ends_comma {ts = ts} c) p q h =
+    not_tuple (comma_inside (bare c 1 (split ts (inner p q).1).0 (split ts (inner p q).1).1).is) p q h
 
-not_bracketed : {ts : List Terminal} {others : List Item} {e : Expr} → F.Bracketed ts others → G.Derives Expression (written terminal Expression e) e
+not_bracketed : {ts : List Terminal} {others : List Item} {e : Expr} → F.Bracketed ts others
+    → G.Derives Expression (written terminal Expression e) e
     → written terminal Expression e ≡ ts → reads_as_items e None ≡ false → ⊥
 not_bracketed (F.bracketed c) p q h = not_items c p q h
 
-not_early : {ts : List Terminal} {others : List Item} {xs : List Terminal} {e : Expr} (t : Terminal) (ws : List Terminal) → F.Bracketed ts others
+not_early : {ts : List Terminal} {others : List Item} {xs : List Terminal} {e : Expr} (t : Terminal) (ws : List Terminal)
+    → F.Bracketed ts others
     → G.Derives Expression xs e → kind false t ≡ Plain → xs ++ (t ∷ ws) ≡ ts → ⊥
 not_early {xs = xs} t ws (F.bracketed {ts = us} c) p k q = early xs t ws us p k q (all_good c)
 
-front_of : {ts : List Terminal} {i : Item} → F.ItemOf ts i → G.Derives Expression (written terminal Expression i.context_expr) i.context_expr
+front_of : {ts : List Terminal} {i : Item} → F.ItemOf ts i
+    → G.Derives Expression (written terminal Expression i.context_expr) i.context_expr
 front_of (F.bare_item p) = again p
 front_of (F.item_as p q) = again p
 
@@ -289,7 +306,8 @@ not_two e None ws p b = not_early _ _ b p refl (ap (λ z. z ++ (Op Comma ∷ ws)
 not_two e (Some t) ws p b =
     not_early _ _ b p refl (sym (append_assoc (written terminal Expression e) (Word Key.As ∷ item_target terminal t) (Op Comma ∷ ws)))
 
-no_other : (is : List Item) → F.Commas Item F.ItemOf (listed terminal (map (item terminal) is)) is → need_brackets is ≡ false → (others : List Item)
+no_other : (is : List Item) → F.Commas Item F.ItemOf (listed terminal (map (item terminal) is)) is
+    → need_brackets is ≡ false → (others : List Item)
     → F.Bracketed (listed terminal (map (item terminal) is)) others → ⊥
 no_other [] c h others b = absurd (none_listed Item F.ItemOf (item terminal) item_again c refl)
 no_other (i ∷ []) c h others b = not_with_target i.context_expr i.optional_vars (front_of (only c)) h b

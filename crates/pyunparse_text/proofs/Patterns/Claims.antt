@@ -1,5 +1,6 @@
 -- Carries: the laws of written patterns. On: what the induction says of a pattern, and its step for each form without a list.
-use Rattle.std.proofs.Common.{◌≡◌, refl, sym, subst, ◌≤◌, ◌+◌, arith, List, [], ◌∷◌, ◌++◌, length, length-append, Some, None, Bool, true, false}
+use Rattle.std.proofs.Common.{◌≡◌, refl, sym, subst, ◌≤◌, ◌+◌, arith, List, [], ◌∷◌, ◌++◌, length, length-append, Some, None, Bool, true}
+use Rattle.std.proofs.Common.{false}
 use Rattle.std.specs.Prelude.{if◌then◌else◌}
 use Rattle.pylex_lexeme.specs.declared.kinds.Exact.TheVariants.{LPar, RPar, Star, Dot, VBar}
 use Rattle.pytoken.specs.declared.keywords.Keyword.TheVariants as Key
@@ -15,7 +16,8 @@ use Rattle.pygrammar.specs.PatternOperators.{below_pattern, captured, is_wildcar
 use Rattle.pygrammar.specs.PatternEntries.{as_named}
 use Rattle.pygrammar.specs.PatternGrammar as P
 use Rattle.pyunparse_text.specs.Written.{separated, constant_terminal, written}
-use Rattle.pyunparse_text.specs.WrittenPatterns.{pattern_leads, pattern_reaches, target_name, fit_pattern, sequence_of, written_pattern, each_pattern}
+use Rattle.pyunparse_text.specs.WrittenPatterns.{pattern_leads, pattern_reaches, target_name, fit_pattern, sequence_of, written_pattern}
+use Rattle.pyunparse_text.specs.WrittenPatterns.{each_pattern}
 use Rattle.pyunparse_text.specs.Terminals.{terminal}
 use Rattle.pyunparse_text.proofs.Fewest.Counted.{one, AtLeast, none, token, both, fewer, in_brackets}
 use Rattle.pyunparse_text.proofs.Fewest.Reach.{length_bracketed}
@@ -55,7 +57,8 @@ pub record Claim (l : PatternLevel) (ts : List Terminal) (p : Pattern) : Type 0 
   pub place : stands l p ≡ true
   pub short : AtLeast (written_pattern one l p) ts
 
-pub here : {l : PatternLevel} {ts : List Terminal} {p : Pattern} → Claim l ts p → Told ts → P.DerivesPattern l (written_pattern terminal l p) p
+pub here : {l : PatternLevel} {ts : List Terminal} {p : Pattern} → Claim l ts p → Told ts
+    → P.DerivesPattern l (written_pattern terminal l p) p
 here {l} c h = c.ready h l c.place
 
 -- ---- Levels.
@@ -105,9 +108,11 @@ or_step StarPattern ts = omega arith
 or_step AsPattern ts = omega arith
 or_step ClosedPattern ts = omega arith
 
-sequence_step : (l : PatternLevel) (tss : List (List (Unit {0}))) → length (sequence_of one l tss) ≤ length (sequence_of one (below_pattern l) tss)
+sequence_step : (l : PatternLevel) (tss : List (List (Unit {0})))
+    → length (sequence_of one l tss) ≤ length (sequence_of one (below_pattern l) tss)
 sequence_step Patterns [] = omega arith
-sequence_step Patterns (ts ∷ tss) = rw length_with_comma (simp length-append (omega (arith, length_separated tt (ts ∷ tss), length_separated tt tss)))
+sequence_step Patterns (ts ∷ tss) =
+    rw length_with_comma (simp length-append (omega (arith, length_separated tt (ts ∷ tss), length_separated tt tss)))
 sequence_step StarPattern tss = omega arith
 sequence_step AsPattern tss = omega arith
 sequence_step OrPattern tss = omega arith
@@ -145,7 +150,8 @@ group_claim {ts} {p} c = record {
 
 -- ---- Closed patterns without a list.
 
-pub closed : (p : Pattern) (us ts : List Terminal) → ((m : PatternLevel) → written_pattern terminal m p ≡ us) → stands ClosedPattern p ≡ true
+pub closed : (p : Pattern) (us ts : List Terminal) → ((m : PatternLevel) → written_pattern terminal m p ≡ us)
+    → stands ClosedPattern p ≡ true
     → (Told ts → P.DerivesPattern ClosedPattern us p) → AtLeast (written_pattern one ClosedPattern p) ts → Claim ClosedPattern ts p
 closed p us ts w a d s = record {
   ready = λ h m i. subst (λ x. P.DerivesPattern m x p) (sym (w m)) (from_closed m (d h));
@@ -194,7 +200,8 @@ pub capture_claim : {x : Spelled} → Claim ClosedPattern (Ident x ∷ []) (Tree
 unfolding written_pattern
 capture_claim {x} =
     closed _ _ _ (λ m. refl) refl
-    (λ h. subst (λ n. P.DerivesPattern ClosedPattern (in_form (target_name (captured x.form)) ∷ []) (Trees.MatchAs absent_pattern n)) (captured_again x.form) (P.capture {x = spelled (target_name (captured x.form))}))
+    (λ h. subst (λ n. P.DerivesPattern ClosedPattern (in_form (target_name (captured x.form)) ∷ []) (Trees.MatchAs absent_pattern n))
+        (captured_again x.form) (P.capture {x = spelled (target_name (captured x.form))}))
     (token refl none)
 
 pub star_claim : {x : Spelled} → Claim StarPattern (Op Star ∷ (Ident x ∷ [])) (Trees.MatchStar (captured x.form))
@@ -231,7 +238,8 @@ as_form {ts} {p} x c q = record {
 
 pub as_claim : {ts : List Terminal} {p q : Pattern} (x : Spelled) → Claim OrPattern ts p → as_named p x.form ≡ Some q
     → Claim AsPattern (ts ++ (Word Key.As ∷ (Ident x ∷ []))) q
-as_claim {ts} {p} {q} x c h = let n = named p x.form q h in subst (Claim AsPattern (ts ++ (Word Key.As ∷ (Ident x ∷ [])))) n.tree (as_form x c n.again)
+as_claim {ts} {p} {q} x c h = let n = named p x.form q h in subst (Claim AsPattern (ts ++ (Word Key.As ∷ (Ident x ∷ []))))
+    n.tree (as_form x c n.again)
 
 -- ---- Alternatives.
 

@@ -1,5 +1,6 @@
 -- Carries: the laws of written patterns. On: the lists of sequences, mappings and class patterns.
-use Rattle.std.proofs.Common.{◌≡◌, refl, sym, ap, subst, arith, List, [], ◌∷◌, ◌++◌, append_assoc, length-append, map, Some, None, Bool, true, false}
+use Rattle.std.proofs.Common.{◌≡◌, refl, sym, ap, subst, arith, List, [], ◌∷◌, ◌++◌, append_assoc, length-append, map, Some, None, Bool}
+use Rattle.std.proofs.Common.{true, false}
 use Rattle.std.specs.Prelude.{if◌then◌else◌, not}
 use Rattle.std.proofs.lemmas.Bool.{and_parts}
 use Rattle.pylex_lexeme.specs.declared.kinds.Exact.TheVariants.{LPar, RPar, LSqb, RSqb, LBrace, RBrace, Colon, Comma, Equal, DoubleStar}
@@ -11,8 +12,10 @@ use Rattle.pytree_node.specs.Trees.{Expr, Pattern, no_pattern, a_pattern}
 use Rattle.pytoken.specs.Terminals.{Terminal, Spelled, Op, Ident, in_form}
 use Rattle.pygrammar.specs.PatternOperators.{is_wildcard}
 use Rattle.pygrammar.specs.PatternEntries as Entries
-use Rattle.pygrammar.specs.PatternEntries.{PatternItem, Element, KeyPattern, ClassArgument, PatternEntry, Alone, Keyed, Rest, Named, elements}
-use Rattle.pygrammar.specs.PatternEntries.{is_mapping, pattern_keys, rest_of, mapped, all_named, are_class_arguments, named_attributes, class_of}
+use Rattle.pygrammar.specs.PatternEntries.{PatternItem, Element, KeyPattern, ClassArgument, PatternEntry, Alone, Keyed, Rest, Named}
+use Rattle.pygrammar.specs.PatternEntries.{elements}
+use Rattle.pygrammar.specs.PatternEntries.{is_mapping, pattern_keys, rest_of, mapped, all_named, are_class_arguments, named_attributes}
+use Rattle.pygrammar.specs.PatternEntries.{class_of}
 use Rattle.pygrammar.specs.PatternGrammar as P
 use Rattle.pyunparse_text.specs.Written.{Maker, separated, free, leading, trailing, tight, enclosed, listed, written}
 use Rattle.pyunparse_text.specs.WrittenPatterns.{rest_name, sequence_of, written_pattern, each_pattern, key_patterns, named_patterns}
@@ -78,12 +81,14 @@ no_entry_claim i = record { standing = λ h. tt; shaped = tt; short = none }
 pub last_entry_claim : {i : PatternItem} {ts : List Terminal} {e : PatternEntry} → PieceClaim i ts e → ListingClaim i ts (e ∷ [])
 last_entry_claim p = record { standing = λ h. (p.standing h, tt); shaped = (p.shaped, tt); short = p.short }
 
-pub entry_claim : {i : PatternItem} {ts us : List Terminal} {e : PatternEntry} {es : List PatternEntry} → PieceClaim i ts e → ListingClaim i us es
+pub entry_claim : {i : PatternItem} {ts us : List Terminal} {e : PatternEntry} {es : List PatternEntry}
+    → PieceClaim i ts e → ListingClaim i us es
     → ListingClaim i (ts ++ (Op Comma ∷ us)) (e ∷ es)
 entry_claim {i} {ts} {us} {e} {es} p c = record {
   standing = λ h. (p.standing (told_front ts (Op Comma ∷ us) h), c.standing (told_behind ts us (Op Comma) h));
   shaped = (p.shaped, c.shaped);
-  short = fewer (omega (arith, length_separated tt (entry_marks i e ∷ map (entry_marks i) es), length_separated tt (map (entry_marks i) es), length-append (entry_marks i e) (tt ∷ separated tt (map (entry_marks i) es)))) (both p.short (token refl c.short));
+  short = fewer (omega (arith, length_separated tt (entry_marks i e ∷ map (entry_marks i) es), length_separated tt (map (entry_marks i) es),
+      length-append (entry_marks i e) (tt ∷ separated tt (map (entry_marks i) es)))) (both p.short (token refl c.short));
 }
 
 piece_of : (i : PatternItem) (e : PatternEntry) → Standing i e → P.PatternPiece i (entry i e) e
@@ -155,7 +160,8 @@ sequence_ready es s k m i =
     at ClosedPattern es s k = square ClosedPattern es k
 
 sequence_marks : (es : List PatternEntry) → AllShaped Element es
-    → written_pattern marks ClosedPattern (Trees.MatchSequence (elements es)) ≡ tt ∷ (separated tt (map (entry_marks Element) es) ++ (tt ∷ []))
+    → written_pattern marks ClosedPattern (Trees.MatchSequence (elements es)) ≡ tt ∷
+        (separated tt (map (entry_marks Element) es) ++ (tt ∷ []))
 unfolding written_pattern
 sequence_marks es s = ap (sequence_of marks ClosedPattern) (elements_are marks es s)
 
@@ -169,7 +175,8 @@ square_claim {ts} {es} c = record {
 
 pub empty_claim : Claim ClosedPattern (Op LPar ∷ (Op RPar ∷ [])) (Trees.MatchSequence no_pattern)
 empty_claim =
-    record { ready = λ h. sequence_ready [] tt tt; place = refl; short = subst (λ z. AtLeast z (Op LPar ∷ (Op RPar ∷ []))) (sym (sequence_marks [] tt)) (token refl (token refl none)) }
+    record { ready = λ h. sequence_ready [] tt tt; place = refl; short = subst (λ z. AtLeast z (Op LPar ∷ (Op RPar ∷ [])))
+        (sym (sequence_marks [] tt)) (token refl (token refl none)) }
 
 -- the first of a list, and the others
 first_claim : {ts us : List Terminal} {p : Pattern} {es : List PatternEntry} → Claim StarPattern ts p → ListingClaim Element us es
@@ -198,9 +205,11 @@ pub open_claim : {ts us : List Terminal} {p : Pattern} {es : List PatternEntry} 
     → Claim Patterns (ts ++ (Op Comma ∷ us)) (Trees.MatchSequence (a_pattern p (elements es)))
 unfolding written_pattern each_pattern
 open_claim {ts} {us} {p} {es} c d = record {
-  ready = λ h. sequence_ready (Alone p ∷ es) (tt, d.shaped) (here c (told_front ts (Op Comma ∷ us) h), d.standing (told_behind ts us (Op Comma) h));
+  ready = λ h. sequence_ready (Alone p ∷ es) (tt, d.shaped) (here c (told_front ts (Op Comma ∷ us) h),
+      d.standing (told_behind ts us (Op Comma) h));
   place = refl;
-  short = subst (λ z. AtLeast (written_pattern marks StarPattern p ++ (tt ∷ separated tt z)) (ts ++ (Op Comma ∷ us))) (sym (elements_are marks es d.shaped)) (both c.short (token refl d.short));
+  short = subst (λ z. AtLeast (written_pattern marks StarPattern p ++ (tt ∷ separated tt z)) (ts ++ (Op Comma ∷ us)))
+      (sym (elements_are marks es d.shaped)) (both c.short (token refl d.short));
 }
 
 -- ---- Mappings.
@@ -217,7 +226,8 @@ keys_are make (Alone p ∷ es) h = absurd (cc)
 keys_are make (Named x p ∷ es) h = absurd (cc)
 
 mapping_written : {A : Type 0} (make : Maker A) (es : List PatternEntry) → is_mapping es ≡ true → (m : PatternLevel)
-    → written_pattern make m (Trees.MatchMapping (pattern_keys es) (Entries.key_patterns es) (rest_of es)) ≡ enclosed make (leading make LBrace) RBrace (listed make (map (entry_in make KeyPattern) es))
+    → written_pattern make m (Trees.MatchMapping (pattern_keys es) (Entries.key_patterns es) (rest_of es)) ≡ enclosed make
+        (leading make LBrace) RBrace (listed make (map (entry_in make KeyPattern) es))
 unfolding written_pattern
 mapping_written make es h m = ap (λ tss. enclosed make (leading make LBrace) RBrace (listed make tss)) (keys_are make es h)
 
@@ -264,7 +274,8 @@ named_are make (Rest x ∷ es) h = absurd (cc)
 abbrev arguments : {A : Type 0} → Maker A → List PatternEntry → List (List A)
 arguments make es = each_pattern make AsPattern (elements es) ++ named_patterns make (named_attributes es) (Entries.named_patterns es)
 
-only_named : {A : Type 0} (make : Maker A) (es : List PatternEntry) → all_named es ≡ true → arguments make es ≡ map (entry_in make ClassArgument) es
+only_named : {A : Type 0} (make : Maker A) (es : List PatternEntry) → all_named es ≡ true
+    → arguments make es ≡ map (entry_in make ClassArgument) es
 unfolding each_pattern
 only_named make es h = rw (none_alone es h) (named_are make es h)
 
@@ -282,7 +293,8 @@ abbrev pub class_tree : Expr → List PatternEntry → Pattern
 class_tree e es = Trees.MatchClass e (elements es) (named_attributes es) (Entries.named_patterns es)
 
 class_written : {A : Type 0} (make : Maker A) (e : Expr) (es : List PatternEntry) → are_class_arguments false es ≡ true → (m : PatternLevel)
-    → written_pattern make m (class_tree e es) ≡ written make Primary e ++ enclosed make (tight make LPar) RPar (listed make (map (entry_in make ClassArgument) es))
+    → written_pattern make m (class_tree e es) ≡ written make Primary e ++ enclosed make (tight make LPar) RPar
+        (listed make (map (entry_in make ClassArgument) es))
 unfolding written_pattern
 class_written make e es h m =
     ap (λ tss. written make Primary e ++ enclosed make (tight make LPar) RPar (listed make tss)) (arguments_are make false es h)
@@ -297,7 +309,8 @@ class_form {ts} {us} {e} {es} k c q =
     (subst (λ z. AtLeast z (ts ++ (Op LPar ∷ (us ++ (Op RPar ∷ []))))) (sym (class_written marks e es q ClosedPattern))
     (both (class_short k) (in_brackets LPar RPar c.short)))
 
-pub class_claim : {ts us : List Terminal} {e : Expr} {es : List PatternEntry} {p : Pattern} → P.ClassOf ts e → ListingClaim ClassArgument us es
+pub class_claim : {ts us : List Terminal} {e : Expr} {es : List PatternEntry} {p : Pattern} → P.ClassOf ts e
+    → ListingClaim ClassArgument us es
     → class_of e es ≡ Some p → Claim ClosedPattern (ts ++ (Op LPar ∷ (us ++ (Op RPar ∷ [])))) p
 class_claim {ts} {us} {e} {es} {p} k c h = by (are_class_arguments false es) refl h
   where

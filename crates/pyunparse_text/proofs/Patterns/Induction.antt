@@ -7,11 +7,14 @@ use Rattle.pytree_node.specs.Trees.{Pattern}
 use Rattle.pytoken.specs.Terminals.{Terminal}
 use Rattle.pygrammar.specs.PatternEntries.{PatternItem, PatternEntry}
 use Rattle.pygrammar.specs.PatternGrammar as P
-use Rattle.pyunparse_text.proofs.Patterns.Claims.{Claim, next_claim, group_claim, literal_claim, value_claim, singleton_claim, capture_claim}
+use Rattle.pyunparse_text.proofs.Patterns.Claims.{Claim, next_claim, group_claim, literal_claim, value_claim, singleton_claim}
+use Rattle.pyunparse_text.proofs.Patterns.Claims.{capture_claim}
 use Rattle.pyunparse_text.proofs.Patterns.Claims.{star_claim, as_claim, AlternativesClaim, last_alternative_claim, alternative_claim}
 use Rattle.pyunparse_text.proofs.Patterns.Claims.{alternatives_claim}
-use Rattle.pyunparse_text.proofs.Patterns.Entries.{PieceClaim, ListingClaim, no_entry_claim, last_entry_claim, entry_claim, element_claim, key_claim}
-use Rattle.pyunparse_text.proofs.Patterns.Entries.{rest_claim, argument_claim, named_claim, square_claim, empty_claim, round_claim, open_claim}
+use Rattle.pyunparse_text.proofs.Patterns.Entries.{PieceClaim, ListingClaim, no_entry_claim, last_entry_claim, entry_claim, element_claim}
+use Rattle.pyunparse_text.proofs.Patterns.Entries.{key_claim}
+use Rattle.pyunparse_text.proofs.Patterns.Entries.{rest_claim, argument_claim, named_claim, square_claim, empty_claim, round_claim}
+use Rattle.pyunparse_text.proofs.Patterns.Entries.{open_claim}
 use Rattle.pyunparse_text.proofs.Patterns.Entries.{mapping_claim, class_claim}
 
 mutual

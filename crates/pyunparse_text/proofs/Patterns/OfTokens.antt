@@ -1,4 +1,5 @@
--- Carries: the laws of written patterns. On: what the grammar reads of a token may be one: a NUMBER gives a number, and a STRING a text or bytes.
+-- Carries: the laws of written patterns. On: what the grammar reads of a token may be one: a NUMBER gives a number, and a STRING a text or
+-- bytes.
 use Rattle.std.proofs.Common.{◌≡◌, ◌∙◌, refl, subst, ℕ, Bool, true, false, List, [], ◌∷◌, ◌++◌, Option, Some, None, if◌then◌else◌}
 use Rattle.std.specs.List.{flat_map, list_all}
 use Rattle.std.specs.Str.{encode_utf8_all}
@@ -18,7 +19,8 @@ use Rattle.pytoken.specs.NumberValues.{whole_value, is_complex, is_real, number_
 use Rattle.pytoken.specs.StringValues.{with_line_feeds, is_bytes, is_unicode, points_of, value_of, string_value}
 use Rattle.pytoken.specs.Tokens.{Token}
 use Rattle.pytoken.specs.FormattedStrings.{Element, Text, Field, Spec, End, is_fstring, elements_of}
-use Rattle.pytoken.specs.Terminals.{Terminal, Op, Word, Ident, FormattedEnd, Layout, terminal_of, element_terminals, elements_terminals, terminals_by}
+use Rattle.pytoken.specs.Terminals.{Terminal, Op, Word, Ident, FormattedEnd, Layout, terminal_of, element_terminals, elements_terminals}
+use Rattle.pytoken.specs.Terminals.{terminals_by}
 use Rattle.pytoken.specs.Terminals.{nested_expression, expression, terminals_of}
 use Rattle.pyunparse_text.specs.Laws.{is_number, is_string, may_be_token, AreOfTokens, no_token, a_token}
 
@@ -27,7 +29,8 @@ unfolding number_value
 number_is t = by (is_complex t) (is_real t)
   where
     by : (a b : Bool)
-        → is_number (if a then Values.Imaginary (float_value t) else (if b then Values.Float (float_value t) else Values.Int (whole_value t))) ≡ true
+        → is_number (if a then Values.Imaginary (float_value t) else (if b then Values.Float (float_value t) else Values.Int
+            (whole_value t))) ≡ true
     by true b = refl
     by false true = refl
     by false false = refl
@@ -70,7 +73,8 @@ nested_may_be : (t : List ℕ) → list_all may_be_token (nested_expression t) �
 unfolding nested_expression
 nested_may_be t = single_may_be (field_tokens t)
 
-both_may_be : (ts us : List Terminal) → list_all may_be_token ts ≡ true → list_all may_be_token us ≡ true → list_all may_be_token (ts ++ us) ≡ true
+both_may_be : (ts us : List Terminal) → list_all may_be_token ts ≡ true → list_all may_be_token us ≡ true
+    → list_all may_be_token (ts ++ us) ≡ true
 both_may_be ts us p q = list_all-append may_be_token ts us ∙ rw p q
 
 -- where the expressions of fields may be
@@ -94,7 +98,8 @@ module _ (expression : List ℕ → List Terminal) (may_be : (t : List ℕ) → 
   unfolding terminals_by
   given_may_be is_nested k t = by (is_fstring k t)
     where
-      by : (b : Bool) → list_all may_be_token (if b then elements_terminals expression (elements_of is_nested t) else terminal_of k t ∷ []) ≡ true
+      by : (b : Bool) → list_all may_be_token (if b then elements_terminals expression (elements_of is_nested t) else
+          terminal_of k t ∷ []) ≡ true
       by true = string_may_be (elements_of is_nested t)
       by false = rw (token_may_be k t) refl
 
@@ -116,7 +121,8 @@ terminals_may_be k t = given_may_be expression expression_may_be false k t
 pub tokens_may_be : (ts : List Token) → list_all may_be_token (flat_map (λ t. terminals_of t.kind t.text) ts) ≡ true
 tokens_may_be [] = refl
 tokens_may_be (t ∷ ts) =
-    both_may_be (terminals_of t.kind t.text) (flat_map (λ t. terminals_of t.kind t.text) ts) (terminals_may_be t.kind t.text) (tokens_may_be ts)
+    both_may_be (terminals_of t.kind t.text) (flat_map (λ t. terminals_of t.kind t.text) ts)
+        (terminals_may_be t.kind t.text) (tokens_may_be ts)
 
 pub of_tokens_may_be : {extent : Extent} {ts : List Terminal} → AreOfTokens extent ts → list_all may_be_token ts ≡ true
 of_tokens_may_be no_token = refl

@@ -23,7 +23,8 @@ use Rattle.pyunparse_text.specs.Pieces.{Sited, outside, piece}
 use Rattle.pyunparse_text.specs.Laws.{AreRead, PatternsAreRead}
 use Rattle.pyunparse_text.proofs.PieceLaws.Places.{open_place}
 use Rattle.pyunparse_text.proofs.PieceLaws.Sorts.{starts_plain, starts_item, ends_plain, ends_comma, more_item, more_comma}
-use Rattle.pyunparse_text.proofs.PieceLaws.Segments.{Closed, Each, none, more, widen, sign, group, square, braces, called, loosely, separated_some}
+use Rattle.pyunparse_text.proofs.PieceLaws.Segments.{Closed, Each, none, more, widen, sign, group, square, braces, called, loosely}
+use Rattle.pyunparse_text.proofs.PieceLaws.Segments.{separated_some}
 use Rattle.pyunparse_text.proofs.PieceLaws.Segments as Segments
 use Rattle.pyunparse_text.proofs.PieceLaws.Shapes.{Plain, keyword, plain_name, constant, plain_both, double_star, paired_form}
 use Rattle.pyunparse_text.proofs.PieceLaws.Listings.{each_widen, each_both, items_listed, with_comma_items, named_argument, call_behind}
@@ -37,7 +38,8 @@ use Rattle.pyunparse_text.proofs.Patterns.Flat.{pattern_brackets}
 use Rattle.pyunparse_text.proofs.Patterns.Claims.{takes_star}
 use Rattle.pyunparse_text.proofs.Patterns.Sound.{SoundKeys, SoundPattern, SoundPatterns, pattern_sound}
 
--- what a pattern begins and ends with, by level, and by whether a star may stand there: a sequence without brackets ends in a comma if it is of one
+-- what a pattern begins and ends with, by level, and by whether a star may stand there: a sequence without brackets ends in a comma if it
+-- is of one
 abbrev pub starts_pattern : Bool → PatternLevel → List Sited
 starts_pattern s Level.Patterns = starts_item
 starts_pattern true l = starts_item
@@ -65,7 +67,8 @@ module _ {extent : Extent} where
   itemly Level.OrPattern x = x
   itemly Level.ClosedPattern x = x
 
-  plainly : (s : Bool) (l : PatternLevel) {ps : List Sited} {ts : List Terminal} → Plain (open_place extent) ps ts → Written extent s l ps ts
+  plainly : (s : Bool) (l : PatternLevel) {ps : List Sited} {ts : List Terminal} → Plain (open_place extent) ps ts
+      → Written extent s l ps ts
   plainly s Level.Patterns x = widen more_item more_comma x
   plainly true l x = itemly l (widen {d = ends_plain} more_item (λ p e. e) x)
   plainly false Level.StarPattern x = x
@@ -109,7 +112,8 @@ module _ {extent : Extent} where
   sequence_form s Level.OrPattern xs = plainly s Level.OrPattern (square (items_listed xs))
   sequence_form s Level.ClosedPattern xs = plainly s Level.ClosedPattern (square (items_listed xs))
 
-  rest_form : (x : Option Identifier) → MaybeProper x → Each (open_place extent) starts_item ends_plain (rest_name piece x) (rest_name terminal x)
+  rest_form : (x : Option Identifier) → MaybeProper x → Each (open_place extent) starts_item ends_plain
+      (rest_name piece x) (rest_name terminal x)
   rest_form None h = none
   rest_form (Some x) h = more (double_star (plain_name x h)) none
 
@@ -144,17 +148,20 @@ module _ {extent : Extent} where
     pattern_readable s l (Trees.MatchOr no_pattern) h = absurd h.0
 
     elements_are : (ps : Patterns) → SoundPatterns extent true ps
-        → Each (open_place extent) starts_item ends_plain (each_pattern piece Level.StarPattern ps) (each_pattern terminal Level.StarPattern ps)
+        → Each (open_place extent) starts_item ends_plain (each_pattern piece Level.StarPattern ps)
+            (each_pattern terminal Level.StarPattern ps)
     elements_are no_pattern h = none
     elements_are (a_pattern p ps) h = more (pattern_readable true Level.StarPattern p h.0) (elements_are ps h.1)
 
     arguments_are : (ps : Patterns) → SoundPatterns extent false ps
-        → Each (open_place extent) starts_plain ends_plain (each_pattern piece Level.AsPattern ps) (each_pattern terminal Level.AsPattern ps)
+        → Each (open_place extent) starts_plain ends_plain (each_pattern piece Level.AsPattern ps)
+            (each_pattern terminal Level.AsPattern ps)
     arguments_are no_pattern h = none
     arguments_are (a_pattern p ps) h = more (pattern_readable false Level.AsPattern p h.0) (arguments_are ps h.1)
 
     closed_are : (ps : Patterns) → SoundPatterns extent false ps
-        → Each (open_place extent) starts_plain ends_plain (each_pattern piece Level.ClosedPattern ps) (each_pattern terminal Level.ClosedPattern ps)
+        → Each (open_place extent) starts_plain ends_plain (each_pattern piece Level.ClosedPattern ps)
+            (each_pattern terminal Level.ClosedPattern ps)
     closed_are no_pattern h = none
     closed_are (a_pattern p ps) h = more (pattern_readable false Level.ClosedPattern p h.0) (closed_are ps h.1)
 
@@ -169,7 +176,8 @@ module _ {extent : Extent} where
         → Each (open_place extent) starts_item ends_plain (named_patterns piece xs ps) (named_patterns terminal xs ps)
     named_are [] ps h i = none
     named_are (x ∷ xs) no_pattern h i = none
-    named_are (x ∷ xs) (a_pattern p ps) h i = more (named_argument x h.0 (pattern_readable false Level.AsPattern p i.0)) (named_are xs ps h.1 i.1)
+    named_are (x ∷ xs) (a_pattern p ps) h i = more (named_argument x h.0 (pattern_readable false Level.AsPattern p i.0))
+        (named_are xs ps h.1 i.1)
 
 -- what is written for a pattern that the grammar gives to terminals that can be said
 pub patterns_said : (extent : Extent) (l : PatternLevel) (ts : List Terminal) (p : Pattern) → Said extent [] ts → DerivesPattern l ts p

@@ -11,14 +11,17 @@ use Rattle.pytree_node.specs.Trees
 use Rattle.pytree_node.specs.Trees.{Expr, Identifier, Pattern, Patterns, no_pattern, a_pattern, absent_pattern, present_pattern}
 use Rattle.pytoken.specs.Terminals.{Terminal, Op}
 use Rattle.pyunparse_text.specs.Written.{bracketed}
-use Rattle.pyunparse_text.specs.WrittenPatterns.{pattern_reaches, fit_pattern, sequence_of, rest_name, written_pattern, each_pattern, key_patterns}
+use Rattle.pyunparse_text.specs.WrittenPatterns.{pattern_reaches, fit_pattern, sequence_of, rest_name, written_pattern, each_pattern}
+use Rattle.pyunparse_text.specs.WrittenPatterns.{key_patterns}
 use Rattle.pyunparse_text.specs.WrittenPatterns.{named_patterns}
 use Rattle.pyunparse_text.specs.Terminals.{terminal}
 use Rattle.pyunparse_text.proofs.Fewest.Counted.{one}
-use Rattle.pyunparse_text.proofs.Fewest.Sizes.{Same, AllSame, none, more, same_none, token, both, last, in_brackets, separated_same, listed_same}
+use Rattle.pyunparse_text.proofs.Fewest.Sizes.{Same, AllSame, none, more, same_none, token, both, last, in_brackets, separated_same}
+use Rattle.pyunparse_text.proofs.Fewest.Sizes.{listed_same}
 use Rattle.pyunparse_text.proofs.Fewest.Sizes.{with_comma_same, append_same, constant_plain, same}
 
-fit_same : {ms : List (Unit {0})} {ts : List Terminal} (l k : PatternLevel) → Same ms ts → Same (fit_pattern one l k ms) (fit_pattern terminal l k ts)
+fit_same : {ms : List (Unit {0})} {ts : List Terminal} (l k : PatternLevel) → Same ms ts
+    → Same (fit_pattern one l k ms) (fit_pattern terminal l k ts)
 unfolding fit_pattern
 fit_same {ms} {ts} l k c = by (pattern_reaches l k)
   where
@@ -46,14 +49,17 @@ mutual
   same_pattern l (Trees.MatchValue value) = same Sum value
   same_pattern l (Trees.MatchSingleton value) = last (constant_plain value)
   same_pattern l (Trees.MatchSequence inner) = sequence_same l (same_patterns Level.StarPattern inner)
-  same_pattern l (Trees.MatchMapping keys inner rest) = in_brackets LBrace RBrace (listed_same (append_same (same_keys keys inner) (rest_same rest)))
+  same_pattern l (Trees.MatchMapping keys inner rest) =
+      in_brackets LBrace RBrace (listed_same (append_same (same_keys keys inner) (rest_same rest)))
   same_pattern l (Trees.MatchClass cls inner names named) =
-      both (same Primary cls) (in_brackets LPar RPar (listed_same (append_same (same_patterns Level.AsPattern inner) (same_named names named))))
+      both (same Primary cls)
+          (in_brackets LPar RPar (listed_same (append_same (same_patterns Level.AsPattern inner) (same_named names named))))
   same_pattern l (Trees.MatchStar name) = token refl (last refl)
   same_pattern l (Trees.MatchAs absent_pattern name) = last refl
   same_pattern l (Trees.MatchAs (present_pattern p) name) =
       fit_same l Level.AsPattern (both (same_pattern Level.OrPattern p) (token refl (last refl)))
-  same_pattern l (Trees.MatchOr inner) = fit_same l Level.OrPattern (separated_same (Op VBar) refl (same_patterns Level.ClosedPattern inner))
+  same_pattern l (Trees.MatchOr inner) =
+      fit_same l Level.OrPattern (separated_same (Op VBar) refl (same_patterns Level.ClosedPattern inner))
 
   same_patterns : (l : PatternLevel) (ps : Patterns) → AllSame (each_pattern one l ps) (each_pattern terminal l ps)
   same_patterns l no_pattern = none

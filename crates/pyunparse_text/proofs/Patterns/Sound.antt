@@ -1,4 +1,5 @@
--- Carries: the laws of written patterns. On: patterns whose names and constants can be written in an extent of the language, and whose stars stand only
+-- Carries: the laws of written patterns. On: patterns whose names and constants can be written in an extent of the language, and whose
+-- stars stand only
 -- where they may; those of tokens are such.
 use Rattle.std.proofs.Common.{◌≡◌, refl, subst, List, [], ◌∷◌, ◌++◌, Some, None, Bool, true, false}
 use Rattle.std.specs.Prelude.{if◌then◌else◌}
@@ -13,7 +14,8 @@ use Rattle.pytoken.specs.Terminals.{Terminal, Op, Word, Ident}
 use Rattle.pytoken.specs.Laws.{IsProper}
 use Rattle.pygrammar.specs.PatternOperators.{captured, is_wildcard, singleton_word}
 use Rattle.pygrammar.specs.PatternEntries as Entries
-use Rattle.pygrammar.specs.PatternEntries.{PatternItem, Element, KeyPattern, ClassArgument, PatternEntry, Alone, Keyed, Rest, Named, elements}
+use Rattle.pygrammar.specs.PatternEntries.{PatternItem, Element, KeyPattern, ClassArgument, PatternEntry, Alone, Keyed, Rest, Named}
+use Rattle.pygrammar.specs.PatternEntries.{elements}
 use Rattle.pygrammar.specs.PatternEntries.{pattern_keys, rest_of, named_attributes, is_mapping, are_class_arguments}
 use Rattle.pygrammar.specs.PatternGrammar as P
 use Rattle.pygrammar.proofs.Callers.PatternLaw.{patterns_are_lawful}
@@ -48,7 +50,8 @@ module _ (extent : Extent) where
     SoundPattern s (Trees.MatchSingleton value) = IsConstant (open_place extent) value
     SoundPattern s (Trees.MatchSequence inner) = SoundPatterns true inner
     SoundPattern s (Trees.MatchMapping keys inner rest) = SoundKeys keys × SoundPatterns false inner × MaybeProper rest
-    SoundPattern s (Trees.MatchClass cls inner names named) = Writable (open_place extent) false cls × SoundPatterns false inner × AreProper names × SoundPatterns false named
+    SoundPattern s (Trees.MatchClass cls inner names named) = Writable (open_place extent) false cls × SoundPatterns false inner × AreProper
+        names × SoundPatterns false named
     SoundPattern s (Trees.MatchStar name) = (s ≡ true) × MaybeProper name
     SoundPattern s (Trees.MatchAs absent_pattern name) = MaybeProper name
     SoundPattern s (Trees.MatchAs (present_pattern p) name) = SoundPattern false p × MaybeProper name
@@ -142,7 +145,8 @@ module _ (extent : Extent) where
         → SoundPattern (takes_star l) p
     pattern_sound (P.next {l = l} {p = p} d) h = wider (takes_star l) p (subst (λ b. SoundPattern b p) (none_below l) (pattern_sound d h))
     pattern_sound (P.open_sequence {ts = ts} {us = us} {es = es} d c) h =
-        (pattern_sound d (front ts (Op Comma ∷ us) h), elements_sound Element es (listing_fine c (behind ts us (Op Comma) (pattern_closes d) h)))
+        (pattern_sound d (front ts (Op Comma ∷ us) h),
+            elements_sound Element es (listing_fine c (behind ts us (Op Comma) (pattern_closes d) h)))
     pattern_sound (P.star {x = x}) h = (refl, captured_sound x.form (first (rest h)))
     pattern_sound (P.as_name {ts = ts} {p = p} {q = q} x d n) h =
         subst (SoundPattern false) (named p x.form q n).tree
@@ -162,7 +166,8 @@ module _ (extent : Extent) where
               (rest h)),
           elements_sound Element es (listing_fine c (front us (Op RPar ∷ []) more)),
         )
-    pattern_sound (P.square_sequence {ts = ts} {es = es} c) h = elements_sound Element es (listing_fine c (front ts (Op RSqb ∷ []) (rest h)))
+    pattern_sound (P.square_sequence {ts = ts} {es = es} c) h =
+        elements_sound Element es (listing_fine c (front ts (Op RSqb ∷ []) (rest h)))
     pattern_sound (P.mapping {ts = ts} {es = es} {p = p} c n) h =
         let fine = listing_fine c (front ts (Op RBrace ∷ []) (rest h)) in
         made_sound (is_mapping es) (mapping_tree es) p n
@@ -170,14 +175,17 @@ module _ (extent : Extent) where
     pattern_sound (P.class_pattern {ts = ts} {us = us} {e = e} {es = es} {p = p} q c n) h =
         let fine = listing_fine c (front us (Op RPar ∷ []) (behind ts (us ++ (Op RPar ∷ [])) (Op LPar) (class_closes q) h)) in
         made_sound (are_class_arguments false es) (class_tree e es) p n
-        (class_sound q (front ts (Op LPar ∷ (us ++ (Op RPar ∷ []))) h), elements_sound ClassArgument es fine, names_sound ClassArgument es fine, named_sound ClassArgument es fine)
+        (class_sound q (front ts (Op LPar ∷ (us ++ (Op RPar ∷ []))) h), elements_sound ClassArgument es fine,
+            names_sound ClassArgument es fine, named_sound ClassArgument es fine)
 
-    alternatives_sound : {ts : List Terminal} {ps : List Pattern} → P.Alternatives ts ps → Said extent [] ts → SoundPatterns false (patterns ps)
+    alternatives_sound : {ts : List Terminal} {ps : List Pattern} → P.Alternatives ts ps → Said extent [] ts
+        → SoundPatterns false (patterns ps)
     alternatives_sound (P.last_alternative d) h = (pattern_sound d h, tt)
     alternatives_sound (P.alternative {ts = ts} {us = us} d c) h =
         (pattern_sound d (front ts (Op VBar ∷ us) h), alternatives_sound c (behind ts us (Op VBar) (pattern_closes d) h))
 
-    listing_fine : {i : PatternItem} {ts : List Terminal} {es : List PatternEntry} → P.PatternListing i ts es → Said extent [] ts → AllFine i es
+    listing_fine : {i : PatternItem} {ts : List Terminal} {es : List PatternEntry} → P.PatternListing i ts es
+        → Said extent [] ts → AllFine i es
     listing_fine P.no_entry h = tt
     listing_fine (P.last_entry p) h = (piece_fine p h, tt)
     listing_fine (P.entry {ts = ts} {us = us} p c) h =

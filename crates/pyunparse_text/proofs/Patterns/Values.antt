@@ -1,4 +1,5 @@
--- Carries: the laws of written patterns. On: literals, classes and keys of terminals of tokens, as they are written, are literals, classes and keys
+-- Carries: the laws of written patterns. On: literals, classes and keys of terminals of tokens, as they are written, are literals, classes
+-- and keys
 -- again, in no more tokens.
 use Rattle.std.proofs.Common.{◌≡◌, refl, sym, ap, subst, ◌∙◌, List, [], ◌∷◌, ◌++◌, Some, true}
 use Rattle.std.specs.List.{list_all}
@@ -18,7 +19,8 @@ use Rattle.pygrammar.specs.Constants.{joined}
 use Rattle.pygrammar.specs.FormattedStrings.{merged, values_of}
 use Rattle.pygrammar.specs.Operators.{left_operator}
 use Rattle.pygrammar.specs.PatternOperators.{is_imaginary, singleton_word}
-use Rattle.pygrammar.specs.PatternGrammar.{SignedNumber, unsigned, negative, LiteralOf, number, complex, strings, joined_string, Dotted, first_name}
+use Rattle.pygrammar.specs.PatternGrammar.{SignedNumber, unsigned, negative, LiteralOf, number, complex, strings, joined_string, Dotted}
+use Rattle.pygrammar.specs.PatternGrammar.{first_name}
 use Rattle.pygrammar.specs.PatternGrammar.{dot_name, ClassOf, class_name, KeyOf, literal_key, singleton_key, name_key}
 use Rattle.pyunparse_text.specs.Levels.{leads, reaches}
 use Rattle.pyunparse_text.specs.Written.{Maker, constant_terminal, free, tight, fit, written}
@@ -77,7 +79,8 @@ string_joined _ w vs q h = absurd (cc)
 
 -- ---- Literals.
 
-signed_again : {v : Values.Value} {ts : List Terminal} {e : Expr} → SignedNumber v ts e → Told ts → SignedNumber v (written terminal Sum e) e
+signed_again : {v : Values.Value} {ts : List Terminal} {e : Expr} → SignedNumber v ts e → Told ts
+    → SignedNumber v (written terminal Sum e) e
 unfolding written fit reaches leads
 signed_again (unsigned {v = v}) h = subst (λ t. SignedNumber v (t ∷ []) (Trees.Constant v)) (sym (number_written v (told_first h))) unsigned
 signed_again (negative {v = v}) h =

@@ -1,6 +1,7 @@
 -- Carries: the laws of pieces. On: behind an operator no name, number or
 -- string makes it a longer one.
-use Rattle.std.proofs.Common.{◌≡◌, ℕ, Bool, true, false, not, List, [], ◌∷◌, ◌++◌, take, drop, length, refl, sym, ◌∙◌, ap, subst, ⊎_elim, eqb}
+use Rattle.std.proofs.Common.{◌≡◌, ℕ, Bool, true, false, not, List, [], ◌∷◌, ◌++◌, take, drop, length, refl, sym, ◌∙◌, ap, subst, ⊎_elim}
+use Rattle.std.proofs.Common.{eqb}
 use Rattle.std.specs.Prelude.{codes, nat_eq}
 use Rattle.std.specs.List.{list_all, list_any, starts_with}
 use Rattle.std.proofs.lemmas.Bool.{and_parts, or_cases, cases_Bool}
@@ -31,7 +32,8 @@ begins_any t c [] a e = cc
 begins_any t c (o ∷ os) a e =
     let q = and_parts (list_all (is_among sign_chars) o) (list_all (list_all (is_among sign_chars)) os) a in
     ⊎_elim
-    (λ (h : starts_with nat_eq o (t ++ c ∷ []) ≡ true). char_of (is_among sign_chars) t (drop (length (t ++ c ∷ [])) o) c (subst (λ (u : List ℕ). list_all (is_among sign_chars) u ≡ true) (front_is o (t ++ c ∷ []) h) q.0))
+    (λ (h : starts_with nat_eq o (t ++ c ∷ []) ≡ true). char_of (is_among sign_chars) t (drop (length (t ++ c ∷ [])) o) c
+        (subst (λ (u : List ℕ). list_all (is_among sign_chars) u ≡ true) (front_is o (t ++ c ∷ []) h) q.0))
     (λ (h : list_any (λ o. starts_with nat_eq o (t ++ c ∷ [])) os ≡ true). begins_any t c os q.1 h)
     (or_cases (starts_with nat_eq o (t ++ c ∷ [])) (list_any (λ o. starts_with nat_eq o (t ++ c ∷ [])) os) e)
 

@@ -1,7 +1,8 @@
 -- At every level no more than one bracket more is open at once than an expression is high: at Atom a form of Primary has brackets.
 --
 -- Carries: brackets_low, for Law. On: Fewest, Shallow.
-use Rattle.std.proofs.Common.{◌≡◌, ◌⊎◌, inl, inr, ⊎_elim, ℕ, suc, ◌+◌, ◌-◌, ◌≤◌, Bool, true, false, List, [], ◌∷◌, ◌++◌, refl, sym, subst, arith}
+use Rattle.std.proofs.Common.{◌≡◌, ◌⊎◌, inl, inr, ⊎_elim, ℕ, suc, ◌+◌, ◌-◌, ◌≤◌, Bool, true, false, List, [], ◌∷◌, ◌++◌, refl, sym, subst}
+use Rattle.std.proofs.Common.{arith}
 use Rattle.std.proofs.Common.{if◌then◌else◌}
 use Rattle.pylex_lexeme.specs.declared.kinds.Exact.TheVariants.{RPar}
 use Rattle.pylex_lexeme.specs.Operators.{is_opener, is_closer}
@@ -76,7 +77,8 @@ atom_low e =
     let h = brackets_height Primary e refl in
     ⊎_elim
     (λ (q : written terminal Atom e ≡ written terminal Primary e). subst (λ ts. brackets ts ≤ height e + 1) (sym q) (omega (arith, h)))
-    (λ (q : written terminal Atom e ≡ bracketed terminal (written terminal Primary e)). let a = around (written terminal Primary e) in subst (λ ts. brackets ts ≤ height e + 1) (sym q) (omega (arith, a, h)))
+    (λ (q : written terminal Atom e ≡ bracketed terminal (written terminal Primary e)). let a = around (written terminal Primary e) in
+        subst (λ ts. brackets ts ≤ height e + 1) (sym q) (omega (arith, a, h)))
     (at_atom e)
 
 pub brackets_low : (l : Level) (e : Expr) → brackets (terminals l e) ≤ height e + 1

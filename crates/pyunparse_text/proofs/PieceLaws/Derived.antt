@@ -34,7 +34,8 @@ module _ (extent : Extent) where
   pub arranged_sound : (es : List Entry) (x : Arguments) → arranged es ≡ Some x → AllFine es → WritableArguments (open_place extent) x
   arranged_sound = At.arranged_sound extent [] (At.within_one extent)
 
-  pub sound : {l : Level} {ts : List Terminal} {e : Expr} → G.Derives l ts e → Said extent [] ts → Writable (open_place extent) (star_place l) e
+  pub sound : {l : Level} {ts : List Terminal} {e : Expr} → G.Derives l ts e → Said extent [] ts
+      → Writable (open_place extent) (star_place l) e
   sound p h = At.sound extent [] (At.within_one extent) p h
 
   pub listing_fine : {i : Item} {ts : List Terminal} {es : List Entry} → G.Listing i ts es → Said extent [] ts → AllFine es

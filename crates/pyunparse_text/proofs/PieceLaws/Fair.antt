@@ -1,6 +1,7 @@
 -- Carries: the laws of pieces. On: the text of a terminal is a token of its
 -- type, gives the terminal, and has no fault.
-use Rattle.std.proofs.Common.{◌≡◌, ℕ, ◌<◌, ◌≤◌, ◌^◌, Bool, true, false, List, [], ◌∷◌, refl, arith, leb, Option, Some, None, ap, ◌∙◌, if◌then◌else◌}
+use Rattle.std.proofs.Common.{◌≡◌, ℕ, ◌<◌, ◌≤◌, ◌^◌, Bool, true, false, List, [], ◌∷◌, refl, arith, leb, Option, Some, None, ap, ◌∙◌}
+use Rattle.std.proofs.Common.{if◌then◌else◌}
 use Rattle.std.specs.Prelude.{All, is_some}
 use Rattle.std.specs.Float.Ieee.{Float}
 use Rattle.std.specs.List.{list_all}
@@ -27,7 +28,8 @@ use Rattle.pytoken.specs.declared.keywords.Keyword.{Keyword}
 use Rattle.pytoken.specs.declared.keywords.Keyword.TheVariants as Key
 use Rattle.pytoken.specs.Keywords.{spelling_of}
 use Rattle.pytoken.specs.NumberValues.{whole_value, is_complex, is_real, number_value, number_fault, too_large}
-use Rattle.pytoken.specs.Terminals.{Terminal, Op, Word, in_form, Number, Literal, Layout, Gives, terminal_of, single_fault, fault_of, fault_by}
+use Rattle.pytoken.specs.Terminals.{Terminal, Op, Word, in_form, Number, Literal, Layout, Gives, terminal_of, single_fault, fault_of}
+use Rattle.pytoken.specs.Terminals.{fault_by}
 use Rattle.pytoken.specs.Laws.{IsProper}
 use Rattle.pytoken.proofs.Callers.Numerals.{IsNumeral, float_numeral, imaginary_numeral, whole_numeral}
 use Rattle.pytoken.proofs.Callers.Said.{come_back}
@@ -37,7 +39,8 @@ use Rattle.pyunparse_text.proofs.Callers.Tokens.{text_token, marked_token, bytes
 use Rattle.pyunparse_text.specs.Written.{constant_terminal}
 use Rattle.pyunparse_text.specs.Pieces.{number_text, field_literal_text, kind_of, text_of, sited}
 use Rattle.pyunparse_text.proofs.FieldTexts.FieldLiterals.{is_field_character, is_field_byte, IsFieldLiteral, text_in_field, bytes_in_field}
-use Rattle.pyunparse_text.proofs.PieceLaws.Places.{Depth, outside, in_field, in_two, Place, open_place, is_inside, may_stand, GivesAt, one_terminal}
+use Rattle.pyunparse_text.proofs.PieceLaws.Places.{Depth, outside, in_field, in_two, Place, open_place, is_inside, may_stand, GivesAt}
+use Rattle.pyunparse_text.proofs.PieceLaws.Places.{one_terminal}
 use Rattle.pyunparse_text.proofs.PieceLaws.Places.{single_fault_of}
 use Rattle.pyunparse_text.proofs.PieceLaws.NameCharacters.{name_scalars}
 
@@ -83,7 +86,8 @@ fair_sign {place} x =
     let name = exact_of_text x in
     let is : is_operator (exact_text x) ≡ true = ap (λ (o : Option Exact). is_some o) name in
     let g : Gives kinds.Op (exact_text x) (Op x) =
-    record { single = refl; terminal = ap as_terminal name; sound = record { of_kind = is; faultless = sign_faultless Whole (exact_text x) } } in
+    record { single = refl; terminal = ap as_terminal name; sound =
+        record { of_kind = is; faultless = sign_faultless Whole (exact_text x) } } in
     record {
       token = is;
       scalars = exact_scalars x;
@@ -130,7 +134,8 @@ fair_word {place} k =
     record {
       token = g.sound.of_kind;
       scalars = name_scalars (spelling_of k) g.sound.of_kind;
-      gives = one_terminal place kinds.Name (spelling_of k) (Word k) g (λ s. refl) (name_faultless place.extent (spelling_of k) g.sound.faultless);
+      gives = one_terminal place kinds.Name (spelling_of k) (Word k) g (λ s. refl)
+          (name_faultless place.extent (spelling_of k) g.sound.faultless);
       stands = name_stands place.depth (spelling_of k);
     }
 
@@ -148,7 +153,8 @@ fair_name {place} x i =
 
 points_pass : (points : List ℕ) → All IsPoint points → list_all (λ c. leb c 1114111) points ≡ true
 points_pass [] h = refl
-points_pass (c ∷ cs) h = let f : leb c 1114111 ≡ true = le-leb c 1114111 (All-head IsPoint c cs h) in let r = points_pass cs (All-tail IsPoint c cs h) in rw (f, r) refl
+points_pass (c ∷ cs) h = let f : leb c 1114111 ≡ true = le-leb c 1114111 (All-head IsPoint c cs h) in let r =
+    points_pass cs (All-tail IsPoint c cs h) in rw (f, r) refl
 
 -- ---- Numbers.
 
@@ -175,7 +181,8 @@ unfolding number_value number_fault
 small_faultless t n e h = by (is_complex t) (is_real t) e
   where
     by : (a b : Bool)
-        → (if a then Values.Imaginary (float_value t) else (if b then Values.Float (float_value t) else Values.Int (whole_value t))) ≡ Values.Int n
+        → (if a then Values.Imaginary (float_value t) else (if b then Values.Float (float_value t) else Values.Int (whole_value t))) ≡
+            Values.Int n
         → (if a then Some errors.Complex else (if b then Some errors.Float else too_large (2 ^ 128) t)) ≡ None
     by true b e = absurd (cc)
     by false true e = absurd (cc)
@@ -195,7 +202,8 @@ fair_number : {place : Place} (v : Values.Value) → IsNumeral (number_text v) �
 fair_number {place} v i g f =
     let first = i.first in
     let number = i.number in
-    record { token = rw (first, number) refl; scalars = i.scalars; gives = one_terminal place kinds.Number (number_text v) (Number v) g (λ s. refl) f; stands = number_stands place.depth (number_text v) }
+    record { token = rw (first, number) refl; scalars = i.scalars; gives = one_terminal place kinds.Number (number_text v) (Number v) g
+        (λ s. refl) f; stands = number_stands place.depth (number_text v) }
 
 fair_whole : (place : Place) (n : ℕ) → HasWhole place.extent n → Fair place (Number (Values.Int n))
 fair_whole place n h =
@@ -251,7 +259,8 @@ outside_literal : (extent : Extent) (v : Values.Value) (t : List ℕ) → is_tok
 outside_literal extent v t n s g = record {
   token = n;
   scalars = s;
-  gives = one_terminal (open_place extent) kinds.String t (Literal v) g (λ (i : false ≡ true). absurd (cc)) (string_faultless extent t (Literal v) g);
+  gives = one_terminal (open_place extent) kinds.String t (Literal v) g (λ (i : false ≡ true). absurd (cc))
+      (string_faultless extent t (Literal v) g);
   stands = refl;
 }
 
@@ -287,7 +296,8 @@ fair_bytes : (extent : Extent) (d : Depth) (bytes : List ℕ) → HasBytes d byt
     → Fair (record { extent = extent; depth = d }) (Literal (Values.Bytes bytes))
 fair_bytes extent outside bytes h =
     outside_literal extent (Values.Bytes bytes) (repr_bytes bytes) (bytes_token bytes) (bytes_scalars bytes) (come_back.bytes bytes h)
-fair_bytes extent in_field bytes h = field_literal extent (Values.Bytes bytes) (field_literal_text (Values.Bytes bytes)) (bytes_in_field bytes h)
+fair_bytes extent in_field bytes h = field_literal extent (Values.Bytes bytes) (field_literal_text (Values.Bytes bytes))
+    (bytes_in_field bytes h)
 fair_bytes extent in_two bytes h = absurd h
 
 pub fair_constant : {place : Place} (v : Values.Value) → IsConstant place v → Fair place (constant_terminal v)

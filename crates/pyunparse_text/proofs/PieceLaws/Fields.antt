@@ -18,7 +18,8 @@ use Rattle.pytree_node.specs.Trees.{Exprs, no_exprs, an_expr}
 use Rattle.pytoken.specs.Laws.{is_point}
 use Rattle.pytoken.specs.Terminals.{Terminal, Literal}
 use Rattle.pygrammar.specs.declared.levels.Level.{Level}
-use Rattle.pygrammar.specs.declared.levels.Level.TheVariants.{Or, And, Not, Compare, BitOr, BitXor, BitAnd, Shift, Sum, Term, Factor, Power, Await}
+use Rattle.pygrammar.specs.declared.levels.Level.TheVariants.{Or, And, Not, Compare, BitOr, BitXor, BitAnd, Shift, Sum, Term, Factor, Power}
+use Rattle.pygrammar.specs.declared.levels.Level.TheVariants.{Await}
 use Rattle.pygrammar.specs.declared.levels.Level.TheVariants.{Primary, Atom, Elem}
 use Rattle.pyunparse_text.specs.Spacing.{Piece, are_readable}
 use Rattle.pyunparse_text.specs.Inner.Edges.{begins_by}
@@ -47,7 +48,8 @@ pub has_whole : (extent : Extent) (d : Depth) → HasStrings extent d → extent
 has_whole Plain d s = absurd s
 has_whole Whole d s = refl
 
-one_plain : (d : Depth) (k : Kind) (t : List ℕ) → may_stand (deeper d) k t ≡ true → elim k [ kinds.String ↦ is_plain_literal t | _ ↦ true ] ≡ true
+one_plain : (d : Depth) (k : Kind) (t : List ℕ) → may_stand (deeper d) k t ≡ true
+    → elim k [ kinds.String ↦ is_plain_literal t | _ ↦ true ] ≡ true
 one_plain outside k t h = h
 one_plain in_field kinds.String t h = absurd (cc)
 one_plain in_field _ t h = refl
@@ -103,7 +105,8 @@ empty_text Whole d n s = empty_in d n s
 
 points_are : (t : List ℕ) → list_all is_point t ≡ true → All IsPoint t
 points_are [] h = All-nil IsPoint
-points_are (c ∷ t) h = let w = and_parts (is_point c) (list_all is_point t) h in All-cons IsPoint c t (leb-true c 1114111 w.0) (points_are t w.1)
+points_are (c ∷ t) h = let w = and_parts (is_point c) (list_all is_point t) h in
+    All-cons IsPoint c t (leb-true c 1114111 w.0) (points_are t w.1)
 
 field_characters : (t : List ℕ) → list_all (can_stand true false) t ≡ true → list_all is_field_character t ≡ true
 field_characters [] h = refl
@@ -130,7 +133,8 @@ first_formatted place n (an_expr e es) s h = empty_text place.extent place.depth
 
 pub joined_form : {place : Place} {es : List (Element Sited)} {fs : List (Element Terminal)} (b : Bool) (t : List ℕ)
     → HasStrings place.extent place.depth → HasFormatted place.depth 0 t
-    → Behind (Promised place.depth) place.depth 0 es fs → Closed place starts_plain ends_plain (joined piece b t es) (joined terminal b t fs)
+    → Behind (Promised place.depth) place.depth 0 es fs → Closed place starts_plain ends_plain (joined piece b t es)
+        (joined terminal b t fs)
 joined_form {es = es} {fs = fs} false t s h x = string (Text false t ∷ es) (Text false t ∷ fs) s (text h x)
 joined_form {place} {es} {fs} true t s h x =
     plain_both (constant (Values.Str t true) (text_constant place.extent place.depth t true h))
@@ -139,7 +143,8 @@ joined_form {place} {es} {fs} true t s h x =
 pub shut_joined : {d : Depth} (b : Bool) (t : List ℕ) (es : List (Element Sited)) → Shut d (joined piece b t es)
 shut_joined false t es = shut_one (sited_string (Text false t ∷ es)) refl refl refl
 shut_joined true t es =
-    shut_both (shut_one (free piece (Literal (Values.Str t true))) refl refl refl) (shut_one (sited_string (Text false [] ∷ es)) refl refl refl)
+    shut_both (shut_one (free piece (Literal (Values.Str t true))) refl refl refl)
+        (shut_one (sited_string (Text false [] ∷ es)) refl refl refl)
 
 -- ---- What else stands in a field.
 
@@ -184,7 +189,8 @@ tuple_bracketed Primary b o = record { element = refl; tuple = refl }
 tuple_bracketed Atom b o = record { element = refl; tuple = refl }
 tuple_bracketed _ b o = absurd (cc)
 
-pub shut_tuple : {place : Place} {xss : List (List Sited)} {tss : List (List Terminal)} (lone : Bool) → Each place starts_item ends_plain xss tss
+pub shut_tuple : {place : Place} {xss : List (List Sited)} {tss : List (List Terminal)} (lone : Bool)
+    → Each place starts_item ends_plain xss tss
     → Shut place.depth (tuple_of piece Elem lone xss)
 shut_tuple lone none = shut_group {xs = []} (record { is = λ o os ys. refl })
 shut_tuple lone (more x xs) = shut_group (held (with_comma_items x xs))

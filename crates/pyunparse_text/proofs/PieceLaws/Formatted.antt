@@ -14,7 +14,8 @@ use Rattle.pyunparse_text.specs.Written.{Element, Text, Field, Spec, End}
 use Rattle.pyunparse_text.specs.Terminals.{element_terminals, formatted_terminals}
 use Rattle.pyunparse_text.specs.Pieces.{Sited}
 use Rattle.pyunparse_text.proofs.FieldTexts.Conditions.{IsFieldExpression}
-use Rattle.pyunparse_text.proofs.PieceLaws.Places.{Depth, Place, deeper, at, stands, GiveAt, depth_after, Flat, flat_none, flat_both, flat_within}
+use Rattle.pyunparse_text.proofs.PieceLaws.Places.{Depth, Place, deeper, at, stands, GiveAt, depth_after, Flat, flat_none, flat_both}
+use Rattle.pyunparse_text.proofs.PieceLaws.Places.{flat_within}
 use Rattle.pyunparse_text.proofs.PieceLaws.Shallow.{Few, Low, low_next, few_at, low_rest, front_low}
 use Rattle.pyunparse_text.proofs.PieceLaws.Sound.{is_spec, HasFormatted, HasFields}
 
@@ -36,7 +37,8 @@ pub record Promised (d : Depth) (ps : List Sited) (ts : List Terminal) : Type 0 
 
 mutual
   -- Texts and fields in turn, in so many format specs, a text first and last; a relation says what fields are.
-  pub data Elements (Is : List Sited → List Terminal → Type 0) (d : Depth) : ℕ → List (Element Sited) → List (Element Terminal) → Type 0 where
+  pub data Elements (Is : List Sited → List Terminal → Type 0) (d : Depth) : ℕ → List (Element Sited)
+      → List (Element Terminal) → Type 0 where
     text : {n : ℕ} {t : List ℕ} {es : List (Element Sited)} {fs : List (Element Terminal)} → HasFormatted d n t → Behind Is d n es fs
         → Elements Is d n (Text (is_spec n) t ∷ es) (Text (is_spec n) t ∷ fs)
 
@@ -48,7 +50,8 @@ mutual
         → Behind Is d n (Field c ps ∷ ((ss ++ (End ∷ [])) ++ es)) (Field c ts ∷ ((us ++ (End ∷ [])) ++ fs))
 
   -- a format spec, or none
-  pub data Specified (Is : List Sited → List Terminal → Type 0) (d : Depth) : ℕ → List (Element Sited) → List (Element Terminal) → Type 0 where
+  pub data Specified (Is : List Sited → List Terminal → Type 0) (d : Depth) : ℕ → List (Element Sited)
+      → List (Element Terminal) → Type 0 where
     no_spec : {n : ℕ} → Specified Is d n [] []
     a_spec : {n : ℕ} {es : List (Element Sited)} {fs : List (Element Terminal)} → Elements Is d (suc n) es fs
         → Specified Is d n (Spec ∷ es) (Spec ∷ fs)
@@ -94,7 +97,8 @@ module _ {d : Depth} where
   mutual
     pub elements_kept : {n : ℕ} {es : List (Element Sited)} {fs : List (Element Terminal)} (k : ℕ) → Elements (Promised d) d n es fs
         → most_open k (flat_map element_terminals fs) ≤ 599 → Elements (IsField d) d n es fs
-    elements_kept k (text {t = t} {fs = fs} h b) low = text h (behind_kept k b (low_next k (FormattedText t) (flat_map element_terminals fs) low))
+    elements_kept k (text {t = t} {fs = fs} h b) low =
+        text h (behind_kept k b (low_next k (FormattedText t) (flat_map element_terminals fs) low))
 
     behind_kept : {n : ℕ} {es : List (Element Sited)} {fs : List (Element Terminal)} (k : ℕ) → Behind (Promised d) d n es fs
         → most_open k (flat_map element_terminals fs) ≤ 599 → Behind (IsField d) d n es fs
@@ -102,17 +106,21 @@ module _ {d : Depth} where
     behind_kept k (field {c = c} {ts = ts} {us = us} {fs = fs} h f s e) low =
         let tail = flat_map element_terminals ((us ++ (End ∷ [])) ++ fs) in
         let inside : most_open (suc k) ((ts ++ (Op RPar ∷ [])) ++ tail) ≤ 599 =
-        low_next k (Op LPar) ((ts ++ (Op RPar ∷ [])) ++ tail) (low_next k (FieldBegin c) (Op LPar ∷ ((ts ++ (Op RPar ∷ [])) ++ tail)) low) in
+        low_next k (Op LPar) ((ts ++ (Op RPar ∷ [])) ++ tail)
+            (low_next k (FieldBegin c) (Op LPar ∷ ((ts ++ (Op RPar ∷ [])) ++ tail)) low) in
         let own : Few ts =
         few_at (suc k) ts ((Op RPar ∷ []) ++ tail) (subst (λ x. most_open (suc k) x ≤ 599) (append_assoc ts (Op RPar ∷ []) tail) inside) in
         let brackets : Flat (Op LPar ∷ (ts ++ (Op RPar ∷ []))) = flat_within LPar RPar refl refl refl f.flat in
         let later : most_open k tail ≤ 599 =
-        low_rest k (Op LPar ∷ (ts ++ (Op RPar ∷ []))) tail brackets (low_next k (FieldBegin c) ((Op LPar ∷ (ts ++ (Op RPar ∷ []))) ++ tail) low) in
+        low_rest k (Op LPar ∷ (ts ++ (Op RPar ∷ []))) tail brackets
+            (low_next k (FieldBegin c) ((Op LPar ∷ (ts ++ (Op RPar ∷ []))) ++ tail) low) in
         let parts : most_open k ((flat_map element_terminals us ++ (FieldEnd ∷ [])) ++ flat_map element_terminals fs) ≤ 599 =
-        subst (λ x. most_open k x ≤ 599) (flat_map-append element_terminals (us ++ (End ∷ [])) fs ∙ ap (λ x. x ++ flat_map element_terminals fs)
+        subst (λ x. most_open k x ≤ 599) (flat_map-append element_terminals (us ++ (End ∷ [])) fs
+            ∙ ap (λ x. x ++ flat_map element_terminals fs)
         (flat_map-append element_terminals us (End ∷ []))) later in
         let spec : most_open k (flat_map element_terminals us ++ ((FieldEnd ∷ []) ++ flat_map element_terminals fs)) ≤ 599 =
-        subst (λ x. most_open k x ≤ 599) (append_assoc (flat_map element_terminals us) (FieldEnd ∷ []) (flat_map element_terminals fs)) parts in
+        subst (λ x. most_open k x ≤ 599) (append_assoc (flat_map element_terminals us) (FieldEnd ∷ []) (flat_map element_terminals fs))
+            parts in
         let rest : most_open k (flat_map element_terminals fs) ≤ 599 =
         low_next k FieldEnd (flat_map element_terminals fs)
         (low_rest k (flat_map element_terminals us) (FieldEnd ∷ flat_map element_terminals fs) (spec_flat s) spec) in

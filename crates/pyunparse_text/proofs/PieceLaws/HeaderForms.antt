@@ -8,7 +8,8 @@ use Rattle.pytoken.specs.declared.keywords.Keyword.TheVariants as Key
 use Rattle.pygrammar.specs.declared.levels.Level.TheVariants.{Stars, Named, Expression, Subject}
 use Rattle.pygrammar.specs.declared.pattern_levels.PatternLevel.TheVariants.{Patterns}
 use Rattle.pygrammar.specs.Forms.{match_name, case_name}
-use Rattle.pygrammar.specs.Lines.{Header, if_header, elif_header, else_header, loop_header, with_header, try_header, except_header, finally_header}
+use Rattle.pygrammar.specs.Lines.{Header, if_header, elif_header, else_header, loop_header, with_header, try_header, except_header}
+use Rattle.pygrammar.specs.Lines.{finally_header}
 use Rattle.pygrammar.specs.Lines.{def_header, match_header, case_header, while_head, for_head, function_head, class_head}
 use Rattle.pytree_node.specs.Trees
 use Rattle.pytree_node.specs.Trees.{Identifier, Expr, exprs, Keywords, no_keyword, a_keyword, Item}
@@ -22,31 +23,38 @@ use Rattle.pyunparse_text.specs.Pieces.{Sited, piece}
 use Rattle.pyunparse_text.specs.Statements as S
 use Rattle.pyunparse_text.proofs.PieceLaws.Sound.{Writable, AreWritable, WritableKeywords, WritableArguments}
 use Rattle.pyunparse_text.proofs.PieceLaws.Places.{open_place}
-use Rattle.pyunparse_text.proofs.PieceLaws.Sorts.{within, suit, is_like, like, late, starts_plain, starts_item, ends_plain, ends_comma, more_item}
+use Rattle.pyunparse_text.proofs.PieceLaws.Sorts.{within, suit, is_like, like, late, starts_plain, starts_item, ends_plain, ends_comma}
+use Rattle.pyunparse_text.proofs.PieceLaws.Sorts.{more_item}
 use Rattle.pyunparse_text.proofs.PieceLaws.Sorts.{more_comma}
 use Rattle.pyunparse_text.proofs.PieceLaws.Fair.{fair_sign}
-use Rattle.pyunparse_text.proofs.PieceLaws.Segments.{Closed, Perhaps, nothing, some, Each, none, more, join, widen, one, within_brackets, sign, tail}
+use Rattle.pyunparse_text.proofs.PieceLaws.Segments.{Closed, Perhaps, nothing, some, Each, none, more, join, widen, one, within_brackets}
+use Rattle.pyunparse_text.proofs.PieceLaws.Segments.{sign, tail}
 use Rattle.pyunparse_text.proofs.PieceLaws.Segments.{between, group, called}
-use Rattle.pyunparse_text.proofs.PieceLaws.Shapes.{Plain, Item as AnItem, keyword, plain_name, plain_both, colon, starred_form, starts_parameter}
+use Rattle.pyunparse_text.proofs.PieceLaws.Shapes.{Plain, Item as AnItem, keyword, plain_name, plain_both, colon, starred_form}
+use Rattle.pyunparse_text.proofs.PieceLaws.Shapes.{starts_parameter}
 use Rattle.pyunparse_text.proofs.PieceLaws.Shapes.{ends_parameter}
-use Rattle.pyunparse_text.proofs.PieceLaws.Listings.{perhaps_widen, perhaps_both, each_widen, each_both, items_listed, parameters_listed, plain_tail}
+use Rattle.pyunparse_text.proofs.PieceLaws.Listings.{perhaps_widen, perhaps_both, each_widen, each_both, items_listed, parameters_listed}
+use Rattle.pyunparse_text.proofs.PieceLaws.Listings.{plain_tail}
 use Rattle.pyunparse_text.proofs.PieceLaws.Readable.{readable, each_are, by_name_are, parameters_are}
 use Rattle.pyunparse_text.proofs.PieceLaws.Law.{Reads, closed_read}
 use Rattle.pyunparse_text.proofs.PieceLaws.SoftWords.{match_is_proper, case_is_proper}
 use Rattle.pyunparse_text.proofs.PieceLaws.LineForms.{Valued, word_value, name_value, word_plain, SoundOption, option_plain, option_result}
-use Rattle.pyunparse_text.proofs.PieceLaws.LineForms.{option_test, MaybeProper, as_name_are, plain_suit, plain_listed, SoundTypes, types_are}
+use Rattle.pyunparse_text.proofs.PieceLaws.LineForms.{option_test, MaybeProper, as_name_are, plain_suit, plain_listed, SoundTypes}
+use Rattle.pyunparse_text.proofs.PieceLaws.LineForms.{types_are}
 use Rattle.pyunparse_text.proofs.Patterns.Sound.{SoundPattern}
 use Rattle.pyunparse_text.proofs.Patterns.Readable.{pattern_readable}
 
 abbrev pub SoundItems : Extent → List Item → Type 0
 SoundItems extent [] = Unit {0}
-SoundItems extent (i ∷ is) = Writable (open_place extent) false i.context_expr × SoundOption (open_place extent) true i.optional_vars × SoundItems extent is
+SoundItems extent (i ∷ is) = Writable (open_place extent) false i.context_expr × SoundOption (open_place extent) true
+    i.optional_vars × SoundItems extent is
 
 abbrev ends_handler : List Sited
 ends_handler = leading piece Star ∷ ends_plain
 
 more_star : (p : Piece) → within ends_plain p ≡ true → within ends_handler p ≡ true
-more_star p e = let h = and_parts (is_token p.kind p.text) (is_like ends_plain p) e in let g = late (like (leading piece Star) p) (is_like ends_plain p) h.1 in rw (h.0, g) refl
+more_star p e = let h = and_parts (is_token p.kind p.text) (is_like ends_plain p) e in let g =
+    late (like (leading piece Star) p) (is_like ends_plain p) h.1 in rw (h.0, g) refl
 
 abbrev pub SoundHeader : Extent → Header → Type 0
 SoundHeader extent (if_header e) = Writable (open_place extent) false e
@@ -58,14 +66,17 @@ SoundHeader extent (with_header b is) = SoundItems extent is
 SoundHeader extent try_header = Unit {0}
 SoundHeader extent (except_header b e x) = SoundOption (open_place extent) false e × MaybeProper x
 SoundHeader extent finally_header = Unit {0}
-SoundHeader extent (def_header (function_head b x ps a r)) = IsProper x × SoundTypes (open_place extent) ps × WritableArguments (open_place extent) a × SoundOption (open_place extent) false r
-SoundHeader extent (def_header (class_head x ps es ks)) = IsProper x × SoundTypes (open_place extent) ps × AreWritable (open_place extent) true (exprs es) × WritableKeywords (open_place extent) ks
+SoundHeader extent (def_header (function_head b x ps a r)) = IsProper x × SoundTypes (open_place extent) ps × WritableArguments
+    (open_place extent) a × SoundOption (open_place extent) false r
+SoundHeader extent (def_header (class_head x ps es ks)) = IsProper x × SoundTypes (open_place extent) ps × AreWritable (open_place extent)
+    true (exprs es) × WritableKeywords (open_place extent) ks
 SoundHeader extent (match_header e) = Writable (open_place extent) false e
 SoundHeader extent (case_header p g) = SoundPattern extent false p × SoundOption (open_place extent) false g
 
 -- a header with its colon
 abbrev pub ReadHeader : Extent → Header → Type 0
-ReadHeader extent h = Reads extent (S.header_tokens piece h ++ (trailing piece Colon ∷ [])) (S.header_tokens terminal h ++ (trailing terminal Colon ∷ []))
+ReadHeader extent h = Reads extent (S.header_tokens piece h ++ (trailing piece Colon ∷ []))
+    (S.header_tokens terminal h ++ (trailing terminal Colon ∷ []))
 
 module _ {extent : Extent} where
   -- ---- Parts.
@@ -83,7 +94,8 @@ module _ {extent : Extent} where
   after x nothing z p q = tail x z q
   after x (some y) z p q = join x (tail y z q) p
 
-  item_target_is : (e : Expr) → Writable (open_place extent) true e → AnItem (open_place extent) (S.item_target piece e) (S.item_target terminal e)
+  item_target_is : (e : Expr) → Writable (open_place extent) true e → AnItem (open_place extent) (S.item_target piece e)
+      (S.item_target terminal e)
   item_target_is (Trees.Starred e c) h = starred_form Expression (readable false Expression e h.1)
   item_target_is e h = readable true Expression e h
 
@@ -96,9 +108,11 @@ module _ {extent : Extent} where
   items_each : (is : List Item) → SoundItems extent is
       → Each (open_place extent) starts_plain ends_plain (map (S.item piece) is) (map (S.item terminal) is)
   items_each [] h = none
-  items_each (i ∷ is) h = more (plain_tail (readable false Expression i.context_expr h.0) (as_target_are i.optional_vars h.1)) (items_each is h.2)
+  items_each (i ∷ is) h =
+      more (plain_tail (readable false Expression i.context_expr h.0) (as_target_are i.optional_vars h.1)) (items_each is h.2)
 
-  items_are : (is : List Item) → SoundItems extent is → Perhaps (open_place extent) starts_plain ends_plain (S.items piece is) (S.items terminal is)
+  items_are : (is : List Item) → SoundItems extent is → Perhaps (open_place extent) starts_plain ends_plain
+      (S.items piece is) (S.items terminal is)
   items_are is h = by (S.need_brackets is)
     where
       by : (b : Bool)
@@ -127,7 +141,8 @@ module _ {extent : Extent} where
   call_tail x y = tail (parameters_called x) y refl
 
   def_form : (x : Identifier) {ys zs : List Sited} {us vs : List Terminal} → IsProper x
-      → Perhaps (open_place extent) (tight piece LSqb ∷ []) ends_plain ys us → Closed (open_place extent) (tight piece LPar ∷ []) ends_plain zs vs
+      → Perhaps (open_place extent) (tight piece LSqb ∷ []) ends_plain ys us
+          → Closed (open_place extent) (tight piece LPar ∷ []) ends_plain zs vs
       → Plain (open_place extent) (word piece Key.Def ∷ (free piece (in_form x) ∷ (ys ++ zs)))
       (word terminal Key.Def ∷ (free terminal (in_form x) ∷ (us ++ vs)))
   unfolding operators
@@ -141,7 +156,8 @@ module _ {extent : Extent} where
   bases_are (e ∷ es) ks h i = some (called (items_listed (each_both (each_are Named (exprs (e ∷ es)) h) (by_name_are ks i))))
 
   class_form : (x : Identifier) {ys zs : List Sited} {us vs : List Terminal} → IsProper x
-      → Perhaps (open_place extent) (tight piece LSqb ∷ []) ends_plain ys us → Perhaps (open_place extent) (tight piece LPar ∷ []) ends_plain zs vs
+      → Perhaps (open_place extent) (tight piece LSqb ∷ []) ends_plain ys us
+          → Perhaps (open_place extent) (tight piece LPar ∷ []) ends_plain zs vs
       → Plain (open_place extent) (word piece Key.Class ∷ (free piece (in_form x) ∷ (ys ++ zs)))
       (word terminal Key.Class ∷ (free terminal (in_form x) ∷ (us ++ vs)))
   unfolding operators
@@ -155,7 +171,8 @@ module _ {extent : Extent} where
   unfolding operators
   star_handler x =
       join (keyword Key.Except)
-      (tail (sign (leading piece Star ∷ []) ends_handler Star false true refl refl refl) (perhaps_widen {c = starts_plain} (λ p e. e) more_star x) refl) refl
+      (tail (sign (leading piece Star ∷ []) ends_handler Star false true refl refl refl)
+          (perhaps_widen {c = starts_plain} (λ p e. e) more_star x) refl) refl
 
   handler_is : (b : Bool) (e : Option Expr) (x : Option Identifier) → SoundOption (open_place extent) false e → MaybeProper x
       → Closed (open_place extent) starts_plain ends_handler (S.header_tokens piece (except_header b e x))
@@ -207,7 +224,8 @@ module _ {extent : Extent} where
   header_read (except_header b e x) h = handler_read (handler_is b e x h.0 h.1)
   header_read finally_header h = plain_read (keyword Key.Finally)
   header_read (def_header (function_head b x ps a r)) h =
-      plain_read (async_before b (def_form x h.0 (types_are ps h.1) (call_tail (parameters_listed (parameters_are a h.2)) (option_result r h.3))))
+      plain_read (async_before b
+          (def_form x h.0 (types_are ps h.1) (call_tail (parameters_listed (parameters_are a h.2)) (option_result r h.3))))
   header_read (def_header (class_head x ps es ks)) h = plain_read (class_form x h.0 (types_are ps h.1) (bases_are es ks h.2 h.3))
   header_read (match_header e) h = comma_read (name_value match_name match_is_proper (readable false Subject e h))
   header_read (case_header p g) h =

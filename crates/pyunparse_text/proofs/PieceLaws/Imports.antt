@@ -1,6 +1,7 @@
 -- Carries: the laws of pieces. On: imports: names with points between, and the points of a level,
 -- of which two may stand together, since no third does.
-use Rattle.std.proofs.Common.{◌≡◌, ℕ, zero, suc, ◌==◌, Bool, true, false, not, ◌&&◌, ◌||◌, List, [], ◌∷◌, ◌++◌, take, map, Option, Some, None, refl}
+use Rattle.std.proofs.Common.{◌≡◌, ℕ, zero, suc, ◌==◌, Bool, true, false, not, ◌&&◌, ◌||◌, List, [], ◌∷◌, ◌++◌, take, map, Option, Some}
+use Rattle.std.proofs.Common.{None, refl}
 use Rattle.std.proofs.Common.{sym, subst, ◌∙◌, arith}
 use Rattle.std.specs.Prelude.{cond, codes}
 use Rattle.std.specs.List.{list_all}
@@ -35,7 +36,8 @@ use Rattle.pyunparse_text.proofs.PieceLaws.Places.{outside as no_field, open_pla
 use Rattle.pyunparse_text.proofs.PieceLaws.Shallow.{Low, low_front, low_back}
 use Rattle.pyunparse_text.proofs.PieceLaws.Law.{Reads}
 use Rattle.pyunparse_text.proofs.PieceLaws.Sorts.{late, is_like, like, within, suit, sorts_fit, a_word, starts_plain, ends_plain}
-use Rattle.pyunparse_text.proofs.PieceLaws.Segments.{Closed, Perhaps, nothing, some, Each, none, more, join, widen, token, sign, tail, give_both}
+use Rattle.pyunparse_text.proofs.PieceLaws.Segments.{Closed, Perhaps, nothing, some, Each, none, more, join, widen, token, sign, tail}
+use Rattle.pyunparse_text.proofs.PieceLaws.Segments.{give_both}
 use Rattle.pyunparse_text.proofs.PieceLaws.Shapes.{Plain, keyword, name, plain_name}
 use Rattle.pyunparse_text.proofs.PieceLaws.Listings.{perhaps_widen, plain_tail}
 use Rattle.pyunparse_text.proofs.PieceLaws.LineForms.{AreProper, MaybeProper, as_name_are, plain_listed, word_plain}
@@ -95,10 +97,12 @@ abbrev ends_near : List Sited
 ends_near = near_word ∷ ends_plain
 
 more_near : (p : Piece) → within ends_plain p ≡ true → within ends_near p ≡ true
-more_near p e = let h = and_parts (is_token p.kind p.text) (is_like ends_plain p) e in let g = late (like near_word p) (is_like ends_plain p) h.1 in rw (h.0, g) refl
+more_near p e = let h = and_parts (is_token p.kind p.text) (is_like ends_plain p) e in let g =
+    late (like near_word p) (is_like ends_plain p) h.1 in rw (h.0, g) refl
 
 word_behind : (p : Piece) → within (a_word ∷ []) p ≡ true → within behind_points p ≡ true
-word_behind p e = let h = and_parts (is_token p.kind p.text) (is_like (a_word ∷ []) p) e in let g = late (like near_word p) (is_like (a_word ∷ []) p) h.1 in rw (h.0, g) refl
+word_behind p e = let h = and_parts (is_token p.kind p.text) (is_like (a_word ∷ []) p) e in let g =
+    late (like near_word p) (is_like (a_word ∷ []) p) h.1 in rw (h.0, g) refl
 
 -- a text is of one name at least
 record Named (x : Identifier) : Type 0 where
@@ -136,7 +140,8 @@ word_kind q e = by (is_operator_kind q.kind) refl e
 abbrev second : Piece
 second = sited (Op Dot) true false false
 
-two_apart : (close : Bool) (q : Piece) (qs : List Piece) → bytes_eq (take 1 q.text) (codes ".") ≡ false → fit second q ≡ true → all_apart q qs ≡ true
+two_apart : (close : Bool) (q : Piece) (qs : List Piece) → bytes_eq (take 1 q.text) (codes ".") ≡ false
+    → fit second q ≡ true → all_apart q qs ≡ true
     → all_apart (sited (Op Dot) close false false) (second ∷ q ∷ qs) ≡ true
 two_apart close q qs n f a =
     let p : Piece = sited (Op Dot) close false false in
@@ -178,7 +183,8 @@ abbrev ends_import : List Sited
 ends_import = free piece (Op Star) ∷ ends_plain
 
 more_import : (p : Piece) → within ends_plain p ≡ true → within ends_import p ≡ true
-more_import p e = let h = and_parts (is_token p.kind p.text) (is_like ends_plain p) e in let g = late (like (free piece (Op Star)) p) (is_like ends_plain p) h.1 in rw (h.0, g) refl
+more_import p e = let h = and_parts (is_token p.kind p.text) (is_like ends_plain p) e in let g =
+    late (like (free piece (Op Star)) p) (is_like ends_plain p) h.1 in rw (h.0, g) refl
 
 abbrev pub SoundAliases : List Alias → Type 0
 SoundAliases [] = Unit {0}
@@ -200,21 +206,25 @@ module _ {extent : Extent} where
   later {ps = ps} x = record {
     parts = λ low.
         let g = x.segment low in
-        record { pieces = g.form.pieces; scalars = g.form.scalars; apart = neat_told (outside ps) g.form.neat; begins = g.form.begins; gives = g.gives };
+        record { pieces = g.form.pieces; scalars = g.form.scalars; apart = neat_told (outside ps) g.form.neat; begins =
+            g.form.begins; gives = g.gives };
     balanced = x.balanced;
   }
 
   joined_parts : {a c : List Sited} {xs ys : List Piece} {ts us : List Terminal} (b : List Sited) → Written (within a) (within b) xs
       → GiveAt (open_place extent) xs ts → LaterParts extent c ys us → suit b c ≡ true → LaterParts extent a (xs ++ ys) (ts ++ us)
   joined_parts {a} {c} {xs} {ys} b f g y s = record {
-    pieces = list_all-append (λ p. is_token p.kind p.text) xs ys ∙ and_both (list_all (λ p. is_token p.kind p.text) xs) (list_all (λ p. is_token p.kind p.text) ys) f.pieces y.pieces;
-    scalars = list_all-append (λ p. all_scalars p.text) xs ys ∙ and_both (list_all (λ p. all_scalars p.text) xs) (list_all (λ p. all_scalars p.text) ys) f.scalars y.scalars;
+    pieces = list_all-append (λ p. is_token p.kind p.text) xs ys ∙ and_both (list_all (λ p. is_token p.kind p.text) xs)
+        (list_all (λ p. is_token p.kind p.text) ys) f.pieces y.pieces;
+    scalars = list_all-append (λ p. all_scalars p.text) xs ys ∙ and_both (list_all (λ p. all_scalars p.text) xs)
+        (list_all (λ p. all_scalars p.text) ys) f.scalars y.scalars;
     apart = told_both (within b) (within c) (sorts_fit b c s) xs ys f.neat f.ends y.apart y.begins;
     begins = begins_both (within a) xs ys f.begins;
     gives = give_both g y.gives;
   }
 
-  pub join_later : {a b c : List Sited} {xs ys : List Sited} {ts us : List Terminal} → Closed (open_place extent) a b xs ts → Later extent c ys us
+  pub join_later : {a b c : List Sited} {xs ys : List Sited} {ts us : List Terminal}
+      → Closed (open_place extent) a b xs ts → Later extent c ys us
       → suit b c ≡ true → Later extent a (xs ++ ys) (ts ++ us)
   join_later {a} {b} {c} {xs} {ys} {ts} {us} x y s =
       let e = sym (at_both no_field xs ys) in
@@ -239,7 +249,8 @@ module _ {extent : Extent} where
 
   -- ---- Names with points between.
 
-  near_name : (x : Identifier) → IsProper x → Closed (open_place extent) behind_points ends_near (sited (in_form x) true false ∷ []) (in_form x ∷ [])
+  near_name : (x : Identifier) → IsProper x → Closed (open_place extent) behind_points ends_near
+      (sited (in_form x) true false ∷ []) (in_form x ∷ [])
   near_name x h = token behind_points ends_near (in_form x) true false (fair_name x h) refl refl refl refl
 
   first_word : (k : Keyword) → Closed (open_place extent) (a_word ∷ []) ends_plain (word piece k ∷ []) (word terminal k ∷ [])
@@ -264,16 +275,22 @@ module _ {extent : Extent} where
   unfolding operators
   near_names x xs h = tail (near_name x h.0) (perhaps_widen {c = tight piece Dot ∷ []} (λ p e. e) more_near (rest_are xs h.1)) refl
 
-  pub dotted_plain : (x : Identifier) → AreProper (names_in x) → Plain (open_place extent) (S.dotted piece false x) (S.dotted terminal false x)
-  dotted_plain x h = let w = named x in subst (λ xs. Plain (open_place extent) (S.dotted_names piece false xs) (S.dotted_names terminal false xs)) (sym w.is) (plain_names w.first w.others (subst AreProper w.is h))
+  pub dotted_plain : (x : Identifier) → AreProper (names_in x) → Plain (open_place extent) (S.dotted piece false x)
+      (S.dotted terminal false x)
+  dotted_plain x h = let w = named x in
+      subst (λ xs. Plain (open_place extent) (S.dotted_names piece false xs) (S.dotted_names terminal false xs)) (sym w.is)
+      (plain_names w.first w.others (subst AreProper w.is h))
 
   dotted_near : (x : Identifier) → AreProper (names_in x)
       → Closed (open_place extent) behind_points ends_near (S.dotted piece true x) (S.dotted terminal true x)
-  dotted_near x h = let w = named x in subst (λ xs. Closed (open_place extent) behind_points ends_near (S.dotted_names piece true xs) (S.dotted_names terminal true xs)) (sym w.is) (near_names w.first w.others (subst AreProper w.is h))
+  dotted_near x h = let w = named x in
+      subst (λ xs. Closed (open_place extent) behind_points ends_near (S.dotted_names piece true xs) (S.dotted_names terminal true xs))
+      (sym w.is) (near_names w.first w.others (subst AreProper w.is h))
 
   -- ---- Points.
 
-  one_point : (close : Bool) → Closed (open_place extent) (point_starts close) (point_starts close) (sited (Op Dot) close false ∷ []) (Op Dot ∷ [])
+  one_point : (close : Bool) → Closed (open_place extent) (point_starts close) (point_starts close)
+      (sited (Op Dot) close false ∷ []) (Op Dot ∷ [])
   one_point true = sign (point_starts true) (point_starts true) Dot true false refl refl refl
   one_point false = sign (point_starts false) (point_starts false) Dot false false refl refl refl
 
@@ -322,9 +339,17 @@ module _ {extent : Extent} where
             let g = x.segment (low_front (Op Dot ∷ []) (Op Dot ∷ us) low) in
             let r = z.parts (low_back (Op Dot ∷ []) (Op Dot ∷ us) x.flat low) in
             record {
-              pieces = list_all-append (λ p. is_token p.kind p.text) (p ∷ []) (second ∷ outside ys) ∙ and_both (list_all (λ p. is_token p.kind p.text) (p ∷ [])) (list_all (λ p. is_token p.kind p.text) (second ∷ outside ys)) g.form.pieces r.pieces;
-              scalars = list_all-append (λ p. all_scalars p.text) (p ∷ []) (second ∷ outside ys) ∙ and_both (list_all (λ p. all_scalars p.text) (p ∷ [])) (list_all (λ p. all_scalars p.text) (second ∷ outside ys)) g.form.scalars r.scalars;
-              apart = both_told close (outside ys) (y.parts (low_back (Op Dot ∷ []) us (one_point {extent = extent} true).flat (low_back (Op Dot ∷ []) (Op Dot ∷ us) x.flat low))).begins (y.parts (low_back (Op Dot ∷ []) us (one_point {extent = extent} true).flat (low_back (Op Dot ∷ []) (Op Dot ∷ us) x.flat low))).apart;
+              pieces = list_all-append (λ p. is_token p.kind p.text) (p ∷ []) (second ∷ outside ys)
+                  ∙ and_both (list_all (λ p. is_token p.kind p.text) (p ∷ []))
+                  (list_all (λ p. is_token p.kind p.text) (second ∷ outside ys)) g.form.pieces r.pieces;
+              scalars = list_all-append (λ p. all_scalars p.text) (p ∷ []) (second ∷ outside ys)
+                  ∙ and_both (list_all (λ p. all_scalars p.text) (p ∷ [])) (list_all (λ p. all_scalars p.text) (second ∷ outside ys))
+                  g.form.scalars r.scalars;
+              apart = both_told close (outside ys)
+                  (y.parts (low_back (Op Dot ∷ []) us (one_point {extent = extent} true).flat
+                  (low_back (Op Dot ∷ []) (Op Dot ∷ us) x.flat low))).begins
+                  (y.parts (low_back (Op Dot ∷ []) us (one_point {extent = extent} true).flat
+                  (low_back (Op Dot ∷ []) (Op Dot ∷ us) x.flat low))).apart;
               begins = g.form.begins;
               gives = give_both g.gives r.gives;
             };
@@ -386,6 +411,9 @@ module _ {extent : Extent} where
 
   pub from_points : (n : ℕ) (m : Option Identifier) (names : List Alias) → SoundModule m → SoundUnless (S.are_all names) names
       → Later extent starts_plain
-      (word piece Key.From ∷ (S.point_signs piece false (S.points (suc n)) ++ (S.module_name piece true m ++ (word piece Key.Import ∷ S.imported piece names))))
-      (word terminal Key.From ∷ (S.point_signs terminal false (S.points (suc n)) ++ (S.module_name terminal true m ++ (word terminal Key.Import ∷ S.imported terminal names))))
+      (word piece Key.From ∷
+          (S.point_signs piece false (S.points (suc n)) ++
+          (S.module_name piece true m ++ (word piece Key.Import ∷ S.imported piece names))))
+      (word terminal Key.From ∷ (S.point_signs terminal false (S.points (suc n)) ++
+          (S.module_name terminal true m ++ (word terminal Key.Import ∷ S.imported terminal names))))
   from_points n m names h i = join_later (keyword Key.From) (points_before false (suc n) (module_are m names h i)) level_suit

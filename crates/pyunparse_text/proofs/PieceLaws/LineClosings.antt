@@ -17,7 +17,8 @@ closing_both : (ts us : List Terminal) → Closing ts → Closing us → Closing
 closing_both ts us c d o = behind_append o ts us ∙ (ap (λ x. open_behind_all x us) (c o) ∙ d o)
 
 -- [t X], where t opens nothing
-pub behind_close : {t : Terminal} {l : Level} {ts : List Terminal} {e : Option Expr} → ((o : Open) → open_behind o t ≡ o) → F.Behind t l ts e
+pub behind_close : {t : Terminal} {l : Level} {ts : List Terminal} {e : Option Expr}
+    → ((o : Open) → open_behind o t ≡ o) → F.Behind t l ts e
     → Closing ts
 behind_close q F.none_behind o = refl
 behind_close q (F.behind {ts = ts} p) o = ap (λ x. open_behind_all x ts) (q o) ∙ expression_closes p o
@@ -45,7 +46,8 @@ type_close _ _ F.param_spec o = refl
 
 pub types_close : {profile : Profile} {ts : List Terminal} {ps : List TypeParam} → F.TypeParams profile ts ps → Closing ts
 types_close F.no_type_params o = refl
-types_close (F.type_params {ts = ts} q c) o = closing_both ts (Op Sign.RSqb ∷ []) (last_close TypeParam F.TypeParamOf type_close c) (λ o. refl) o
+types_close (F.type_params {ts = ts} q c) o =
+    closing_both ts (Op Sign.RSqb ∷ []) (last_close TypeParam F.TypeParamOf type_close c) (λ o. refl) o
 
 pub dotted_close : {ts : List Terminal} {x : Identifier} → F.Dotted ts x → Closing ts
 dotted_close F.one_name o = refl

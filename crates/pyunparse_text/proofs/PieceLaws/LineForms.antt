@@ -23,7 +23,8 @@ use Rattle.pyunparse_text.proofs.PieceLaws.Sound.{Writable, AreWritable}
 use Rattle.pyunparse_text.proofs.PieceLaws.Places.{Place, is_inside}
 use Rattle.pyunparse_text.proofs.PieceLaws.Sorts.{suit, starts_plain, starts_item, ends_plain, ends_comma, more_item, more_comma}
 use Rattle.pyunparse_text.proofs.PieceLaws.Fair.{fair_sign, is_bracket, opens_none, closes_none}
-use Rattle.pyunparse_text.proofs.PieceLaws.Segments.{Closed, Perhaps, nothing, some, Each, none, more, join, widen, token, sign, tail, between, group}
+use Rattle.pyunparse_text.proofs.PieceLaws.Segments.{Closed, Perhaps, nothing, some, Each, none, more, join, widen, token, sign, tail}
+use Rattle.pyunparse_text.proofs.PieceLaws.Segments.{between, group}
 use Rattle.pyunparse_text.proofs.PieceLaws.Segments.{indexed, loosely, separated_are, comma}
 use Rattle.pyunparse_text.proofs.PieceLaws.Shapes.{Plain, keyword, plain_name, plain_both, colon, double_star}
 use Rattle.pyunparse_text.proofs.PieceLaws.Shapes as Shape
@@ -100,10 +101,12 @@ module _ {place : Place} where
   loose s b =
       let e : bytes_eq (sited (Op s) false false false).text (sited (Op s) false false false).text ≡ true =
       (bytes_eq-Decides (sited (Op s) false false false).text (sited (Op s) false false false).text).1 refl in
-      token (free piece (Op s) ∷ []) (free piece (Op s) ∷ []) (Op s) false false (fair_sign s) (opens_none s false false (is_inside place.depth) b)
+      token (free piece (Op s) ∷ []) (free piece (Op s) ∷ []) (Op s) false false (fair_sign s)
+          (opens_none s false false (is_inside place.depth) b)
       (closes_none s false false (is_inside place.depth) b) (rw e refl) (rw e refl)
 
-  pub loose_between : (s : Exact) → is_bracket s ≡ false → {xs ys : List Sited} {ts us : List Terminal} → Valued place xs ts → Valued place ys us
+  pub loose_between : (s : Exact) → is_bracket s ≡ false → {xs ys : List Sited} {ts us : List Terminal}
+      → Valued place xs ts → Valued place ys us
       → Valued place (xs ++ (free piece (Op s) ∷ ys)) (ts ++ (free terminal (Op s) ∷ us))
   unfolding operators
   loose_between s b x y = join x (join (loose s b) y refl) refl
@@ -121,7 +124,8 @@ module _ {place : Place} where
   option_plain (Some e) h = some (readable false Expression e h)
 
   pub option_word : (k : Keyword) (e : Option Expr) → SoundOption place false e
-      → Perhaps place starts_plain ends_plain (S.behind piece (word piece k) Expression e) (S.behind terminal (word terminal k) Expression e)
+      → Perhaps place starts_plain ends_plain (S.behind piece (word piece k) Expression e)
+          (S.behind terminal (word terminal k) Expression e)
   option_word k None h = nothing
   option_word k (Some e) h = some (plain_both (keyword k) (readable false Expression e h))
 
@@ -155,11 +159,13 @@ module _ {place : Place} where
 
   -- a guard
   pub option_test : (e : Option Expr) → SoundOption place false e
-      → Perhaps place starts_plain ends_plain (S.behind piece (word piece Key.If) Named e) (S.behind terminal (word terminal Key.If) Named e)
+      → Perhaps place starts_plain ends_plain (S.behind piece (word piece Key.If) Named e)
+          (S.behind terminal (word terminal Key.If) Named e)
   option_test None h = nothing
   option_test (Some e) h = some (plain_both (keyword Key.If) (readable false Named e h))
 
-  pub as_name_are : (x : Option Identifier) → MaybeProper x → Perhaps place starts_plain ends_plain (S.as_name piece x) (S.as_name terminal x)
+  pub as_name_are : (x : Option Identifier) → MaybeProper x
+      → Perhaps place starts_plain ends_plain (S.as_name piece x) (S.as_name terminal x)
   as_name_are None h = nothing
   as_name_are (Some x) h = some (plain_both (keyword Key.As) (plain_name x h))
 
@@ -207,10 +213,12 @@ module _ {place : Place} where
   pub annotate_are : (t a : Expr) (e : Option Expr) (b : Bool) → Writable place false t → Writable place false a → SoundOption place true e
       → Closed place starts_plain ends_comma
       (S.annotated piece t b ++ (trailing piece Colon ∷ (written piece Expression a ++ S.behind piece (free piece (Op Equal)) Value e)))
-      (S.annotated terminal t b ++ (trailing terminal Colon ∷ (written terminal Expression a ++ S.behind terminal (free terminal (Op Equal)) Value e)))
+      (S.annotated terminal t b ++
+          (trailing terminal Colon ∷ (written terminal Expression a ++ S.behind terminal (free terminal (Op Equal)) Value e)))
   annotate_are t a e b h i j = annotation_form (annotated_are t b h) (readable false Expression a i) (option_value e j)
 
-  assert_form : {xs ys : List Sited} {ts us : List Terminal} → Plain place xs ts → Perhaps place (trailing piece Comma ∷ []) ends_plain ys us
+  assert_form : {xs ys : List Sited} {ts us : List Terminal} → Plain place xs ts
+      → Perhaps place (trailing piece Comma ∷ []) ends_plain ys us
       → Plain place (word piece Key.Assert ∷ (xs ++ ys)) (word terminal Key.Assert ∷ (ts ++ us))
   unfolding operators
   assert_form x y = plain_both (keyword Key.Assert) (tail x y refl)
@@ -227,7 +235,8 @@ module _ {place : Place} where
   unfolding operators
   star_name x h = join (sign starts_item (leading piece Star ∷ []) Star false true refl refl refl) (plain_name x h) refl
 
-  type_var_form : (x : Identifier) → IsProper x → {ys : List Sited} {us : List Terminal} → Perhaps place (trailing piece Colon ∷ []) ends_plain ys us
+  type_var_form : (x : Identifier) → IsProper x → {ys : List Sited} {us : List Terminal}
+      → Perhaps place (trailing piece Colon ∷ []) ends_plain ys us
       → Shape.Item place (free piece (in_form x) ∷ ys) (free terminal (in_form x) ∷ us)
   unfolding operators
   type_var_form x h y = widen more_item (λ p e. e) (tail (plain_name x h) y refl)
@@ -247,7 +256,8 @@ module _ {place : Place} where
   types_are [] h = nothing
   types_are (p ∷ ps) h = some (indexed (items_listed (type_each (p ∷ ps) h)))
 
-  alias_form : {xs ys zs : List Sited} {ts us vs : List Terminal} → Plain place xs ts → Perhaps place (tight piece LSqb ∷ []) ends_plain ys us
+  alias_form : {xs ys zs : List Sited} {ts us vs : List Terminal} → Plain place xs ts
+      → Perhaps place (tight piece LSqb ∷ []) ends_plain ys us
       → Plain place zs vs
       → Plain place (free piece (in_form type_name) ∷ (xs ++ (ys ++ (free piece (Op Equal) ∷ zs))))
       (free terminal (in_form type_name) ∷ (ts ++ (us ++ (free terminal (Op Equal) ∷ vs))))
@@ -256,6 +266,8 @@ module _ {place : Place} where
 
   pub type_alias_are : (t : Expr) (ps : List TypeParam) (e : Expr) → Writable place false t → SoundTypes place ps → Writable place false e
       → Plain place
-      (free piece (in_form type_name) ∷ (written piece Primary t ++ (S.type_params piece ps ++ (free piece (Op Equal) ∷ written piece Expression e))))
-      (free terminal (in_form type_name) ∷ (written terminal Primary t ++ (S.type_params terminal ps ++ (free terminal (Op Equal) ∷ written terminal Expression e))))
+      (free piece (in_form type_name) ∷
+          (written piece Primary t ++ (S.type_params piece ps ++ (free piece (Op Equal) ∷ written piece Expression e))))
+      (free terminal (in_form type_name) ∷
+          (written terminal Primary t ++ (S.type_params terminal ps ++ (free terminal (Op Equal) ∷ written terminal Expression e))))
   type_alias_are t ps e h i j = alias_form (readable false Primary t h) (types_are ps i) (readable false Expression e j)

@@ -1,6 +1,7 @@
 -- Carries: the laws of pieces. On: what the forms of lines of tokens give can be written, and what
 -- is written is read back.
-use Rattle.std.proofs.Common.{◌≡◌, ℕ, zero, suc, ◌<◌, ◌==◌, Bool, true, false, List, [], ◌∷◌, ◌++◌, Option, Some, None, refl, sym, ap, subst, arith}
+use Rattle.std.proofs.Common.{◌≡◌, ℕ, zero, suc, ◌<◌, ◌==◌, Bool, true, false, List, [], ◌∷◌, ◌++◌, Option, Some, None, refl, sym, ap}
+use Rattle.std.proofs.Common.{subst, arith}
 use Rattle.std.specs.List.{list_all}
 use Rattle.std.proofs.lemmas.Bool.{and_parts, eqb-true}
 use Rattle.unicode_ident.specs.Ident.{is_xid_continue}
@@ -34,7 +35,8 @@ use Rattle.pyunparse_text.proofs.Fewest.Clauses.{mapped_is, both_is}
 use Rattle.pyunparse_text.proofs.PieceLaws.Sound.{Writable, AreWritable, WritableKeywords}
 use Rattle.pyunparse_text.proofs.PieceLaws.Places.{open_place}
 use Rattle.pyunparse_text.proofs.PieceLaws.SaidLists.{Closing}
-use Rattle.pyunparse_text.proofs.PieceLaws.LineClosings.{name_close, type_close, types_close, dotted_close, dotted_alias_close, name_alias_close}
+use Rattle.pyunparse_text.proofs.PieceLaws.LineClosings.{name_close, type_close, types_close, dotted_close, dotted_alias_close}
+use Rattle.pyunparse_text.proofs.PieceLaws.LineClosings.{name_alias_close}
 use Rattle.pyunparse_text.proofs.PieceLaws.LineClosings.{dots_close, targets_close, item_close, async_close}
 use Rattle.pygrammar.specs.OpenStrings.{Open, open_behind}
 use Rattle.pygrammar.proofs.Callers.OpenStrings.{expression_closes, target_closes, single_target_closes, del_target_closes, listing_closes}
@@ -45,7 +47,8 @@ use Rattle.pyunparse_text.proofs.PieceLaws.Shapes.{keyword}
 use Rattle.pyunparse_text.proofs.PieceLaws.Readable.{readable, each_expression}
 use Rattle.pyunparse_text.proofs.PieceLaws.Law.{Reads, closed_read}
 use Rattle.pyunparse_text.proofs.PieceLaws.LineForms.{SoundOption, MaybeProper, AreProper, word_value, word_plain, option_stars, raise_are}
-use Rattle.pyunparse_text.proofs.PieceLaws.LineForms.{plain_listed, names_each, assign_are, augment_are, annotate_are, assert_are, SoundType}
+use Rattle.pyunparse_text.proofs.PieceLaws.LineForms.{plain_listed, names_each, assign_are, augment_are, annotate_are, assert_are}
+use Rattle.pyunparse_text.proofs.PieceLaws.LineForms.{SoundType}
 use Rattle.pyunparse_text.proofs.PieceLaws.LineForms.{SoundTypes, type_alias_are}
 use Rattle.pyunparse_text.proofs.PieceLaws.Imports.{later_read, SoundNames, SoundUnless, SoundAliases, import_are, from_plain, from_points}
 use Rattle.pyunparse_text.proofs.PieceLaws.HeaderForms.{SoundItems, SoundHeader}
@@ -57,7 +60,8 @@ not_point c h = by (c == 46) refl
   where
     by : (b : Bool) → (c == 46) ≡ b → b ≡ false
     by false e = refl
-    by true e = let z : is_xid_continue 46 ≡ true = subst (λ (x : ℕ). is_xid_continue x ≡ true) (eqb-true c 46 e) h in let y = is_xid_continue-ascii 46 (omega arith) in absurd (cc)
+    by true e = let z : is_xid_continue 46 ≡ true = subst (λ (x : ℕ). is_xid_continue x ≡ true) (eqb-true c 46 e) h in let y =
+        is_xid_continue-ascii 46 (omega arith) in absurd (cc)
 
 abbrev pointless : List ℕ → Bool
 pointless t = list_all is_xid_continue t
@@ -65,15 +69,18 @@ pointless t = list_all is_xid_continue t
 name_pointless : (t : List ℕ) → is_name t ≡ true → pointless t ≡ true
 unfolding is_name
 name_pointless [] h = refl
-name_pointless (c ∷ cs) h = let w = and_parts (starts_name c) (list_all is_xid_continue cs) h in let s = start_continues c w.0 in rw (s, w.1) refl
+name_pointless (c ∷ cs) h = let w = and_parts (starts_name c) (list_all is_xid_continue cs) h in let s =
+    start_continues c w.0 in rw (s, w.1) refl
 
 one_in : (t : List ℕ) → pointless t ≡ true → names_in t ≡ t ∷ []
 one_in [] h = refl
-one_in (c ∷ cs) h = let w = and_parts (is_xid_continue c) (pointless cs) h in let n = not_point c w.0 in let r = one_in cs w.1 in rw (n, r) refl
+one_in (c ∷ cs) h = let w = and_parts (is_xid_continue c) (pointless cs) h in let n = not_point c w.0 in let r =
+    one_in cs w.1 in rw (n, r) refl
 
 names_behind : (t y : List ℕ) → pointless t ≡ true → names_in (t ++ (46 ∷ y)) ≡ t ∷ names_in y
 names_behind [] y h = refl
-names_behind (c ∷ cs) y h = let w = and_parts (is_xid_continue c) (pointless cs) h in let n = not_point c w.0 in let r = names_behind cs y w.1 in rw (n, r) refl
+names_behind (c ∷ cs) y h = let w = and_parts (is_xid_continue c) (pointless cs) h in let n = not_point c w.0 in let r =
+    names_behind cs y w.1 in rw (n, r) refl
 
 abbrev SoundAlias : Alias → Type 0
 SoundAlias a = AreProper (names_in a.name) × MaybeProper a.asname
@@ -123,7 +130,8 @@ module _ (extent : Extent) where
   target_said : {ts : List Terminal} {s : Expr} → G.Target ts s → Said extent [] ts → Writable (open_place extent) true s
   target_said (G.target {e = e} {s = s} p q) h = stored_sound extent true e s q (sound extent p h)
 
-  single_stored_sound : (e s : Expr) → single_stored e ≡ Some s → Writable (open_place extent) false e → Writable (open_place extent) false s
+  single_stored_sound : (e s : Expr) → single_stored e ≡ Some s → Writable (open_place extent) false e
+      → Writable (open_place extent) false s
   single_stored_sound (Trees.Name x c) s q h = given (Writable (open_place extent) false) q h
   single_stored_sound (Trees.Attribute e x c) s q h = given (Writable (open_place extent) false) q h
   single_stored_sound (Trees.Subscript e i c) s q h = given (Writable (open_place extent) false) q h
@@ -138,20 +146,26 @@ module _ (extent : Extent) where
     deleted_sound b (Trees.Name x c) s q h = given (Writable (open_place extent) false) q h
     deleted_sound b (Trees.Attribute e x c) s q h = given (Writable (open_place extent) false) q h
     deleted_sound b (Trees.Subscript e i c) s q h = given (Writable (open_place extent) false) q h
-    deleted_sound b (Trees.Tuple es c) s q h = let w = mapped_is (λ fs. Trees.Tuple fs Del) (all_deleted es) s q in subst (Writable (open_place extent) false) w.2 (all_deleted_sound es w.0 w.1 h)
-    deleted_sound b (Trees.ListOf es c) s q h = let w = mapped_is (λ fs. Trees.ListOf fs Del) (all_deleted es) s q in subst (Writable (open_place extent) false) w.2 (all_deleted_sound es w.0 w.1 h)
+    deleted_sound b (Trees.Tuple es c) s q h = let w = mapped_is (λ fs. Trees.Tuple fs Del) (all_deleted es) s q in
+        subst (Writable (open_place extent) false) w.2 (all_deleted_sound es w.0 w.1 h)
+    deleted_sound b (Trees.ListOf es c) s q h = let w = mapped_is (λ fs. Trees.ListOf fs Del) (all_deleted es) s q in
+        subst (Writable (open_place extent) false) w.2 (all_deleted_sound es w.0 w.1 h)
     deleted_sound b _ s q h = absurd (cc)
 
-    all_deleted_sound : (es fs : Exprs) → all_deleted es ≡ Some fs → AreWritable (open_place extent) true es → AreWritable (open_place extent) true fs
+    all_deleted_sound : (es fs : Exprs) → all_deleted es ≡ Some fs → AreWritable (open_place extent) true es
+        → AreWritable (open_place extent) true fs
     all_deleted_sound no_exprs fs q h = given (AreWritable (open_place extent) true) q h
-    all_deleted_sound (an_expr e es) fs q h = let w = both_is (deleted e) (all_deleted es) fs q in subst (AreWritable (open_place extent) true) w.4 (starred extent false w.0 (deleted_sound true e w.0 w.2 h.0), all_deleted_sound es w.1 w.3 h.1)
+    all_deleted_sound (an_expr e es) fs q h = let w = both_is (deleted e) (all_deleted es) fs q in
+        subst (AreWritable (open_place extent) true) w.4 (starred extent false w.0 (deleted_sound true e w.0 w.2 h.0),
+        all_deleted_sound es w.1 w.3 h.1)
 
   del_said : (ts : List Terminal) (s : Expr) → G.DelTarget ts s → Said extent [] ts → Writable (open_place extent) false s
   del_said _ _ (G.del_target {e = e} {s = s} p q) h = deleted_sound false e s q (sound extent p h)
 
   item_target_said : {ts : List Terminal} {s : Expr} → G.ItemTarget ts s → Said extent [] ts → Writable (open_place extent) true s
   item_target_said (G.item_target {e = e} {s = s} p q) h = stored_sound extent true e s q (starred extent false e (sound extent p h))
-  item_target_said (G.star_target {e = e} {s = s} p q) h = stored_sound extent true (Trees.Starred e Load) s q (refl, sound extent p (rest h))
+  item_target_said (G.star_target {e = e} {s = s} p q) h = stored_sound extent true (Trees.Starred e Load) s q (refl,
+      sound extent p (rest h))
 
   name_said : (ts : List Terminal) (x : Identifier) → F.Name ts x → Said extent [] ts → IsProper x
   name_said _ _ F.name h = first h
@@ -180,14 +194,17 @@ module _ (extent : Extent) where
   -- ---- Imports. No name has a point in it.
 
   dotted_said : {ts : List Terminal} {x : Identifier} → F.Dotted ts x → Said extent [] ts → AreProper (names_in x)
-  dotted_said (F.one_name {x = x}) h = let p : IsProper x.form = first h in subst AreProper (sym (one_in x.form (name_pointless x.form p.name))) (p, tt)
-  dotted_said (F.dot_name {x = x} {y = y} d) h = let p : IsProper x.form = first h in subst AreProper (sym (names_behind x.form y (name_pointless x.form p.name))) (p, dotted_said d (rest (rest h)))
+  dotted_said (F.one_name {x = x}) h = let p : IsProper x.form = first h in
+      subst AreProper (sym (one_in x.form (name_pointless x.form p.name))) (p, tt)
+  dotted_said (F.dot_name {x = x} {y = y} d) h = let p : IsProper x.form = first h in
+      subst AreProper (sym (names_behind x.form y (name_pointless x.form p.name))) (p, dotted_said d (rest (rest h)))
 
   dotted_alias_said : (ts : List Terminal) (a : Alias) → F.DottedAlias ts a → Said extent [] ts → SoundAlias a
   dotted_alias_said _ _ (F.dotted_as {ts = ts} {us = us} p q) h = (dotted_said p (front ts us h), as_said q (back ts us (dotted_close p) h))
 
   aliases_said : {ts : List Terminal} {as_ : List Alias} → F.Commas Alias F.DottedAlias ts as_ → Said extent [] ts → SoundAliases as_
-  aliases_said c h = commas_said Alias F.DottedAlias SoundAlias SoundAliases tt (λ a as_ p q. (p.0, p.1, q)) dotted_alias_said dotted_alias_close c h
+  aliases_said c h = commas_said Alias F.DottedAlias SoundAlias SoundAliases tt (λ a as_ p q. (p.0, p.1, q))
+      dotted_alias_said dotted_alias_close c h
 
   name_alias_said : (ts : List Terminal) (a : Alias) → F.NameAlias ts a → Said extent [] ts → SoundName a
   name_alias_said _ _ (F.name_as q) h = (first h, as_said q (rest h))
@@ -199,7 +216,8 @@ module _ (extent : Extent) where
       (commas_said Alias F.NameAlias SoundName SoundNames tt (λ a as_ p q. (p.0, p.1, q)) name_alias_said name_alias_close c h)
   imported_said (F.bracketed_names {ts = ts} {as_ = as_} c) h =
       unless (S.are_all as_) as_
-      (last_said Alias F.NameAlias SoundName SoundNames tt (λ a as_ p q. (p.0, p.1, q)) name_alias_said name_alias_close c (front ts (Op Sign.RPar ∷ []) (rest h)))
+      (last_said Alias F.NameAlias SoundName SoundNames tt (λ a as_ p q. (p.0, p.1, q)) name_alias_said name_alias_close c
+          (front ts (Op Sign.RPar ∷ []) (rest h)))
 
   from_read : (n : ℕ) (m : Identifier) (as_ : List Alias) → AreProper (names_in m) → SoundUnless (S.are_all as_) as_
       → Reads extent (S.simple_tokens piece (Trees.ImportFrom (Some m) as_ n)) (S.simple_tokens terminal (Trees.ImportFrom (Some m) as_ n))
@@ -213,7 +231,8 @@ module _ (extent : Extent) where
 
   -- ---- Simple statements.
 
-  targets_said : {ts : List Terminal} {es : List Expr} → F.Targets ts es → Said extent [] ts → AreWritable (open_place extent) true (exprs es)
+  targets_said : {ts : List Terminal} {es : List Expr} → F.Targets ts es → Said extent [] ts
+      → AreWritable (open_place extent) true (exprs es)
   targets_said (F.last_target {ts = ts} p) h = (target_said p (front ts (Op Sign.Equal ∷ []) h), tt)
   targets_said (F.more_targets {ts = ts} {us = us} p c) h =
       (target_said p (front ts (Op Sign.Equal ∷ us) h), targets_said c (behind ts us (Op Sign.Equal) (target_closes p) h))
@@ -224,7 +243,8 @@ module _ (extent : Extent) where
   simple_read (F.assign {ts = ts} {us = us} {targets = targets} {e = e} c p) h =
       closed_read (assign_are targets e (targets_said c (front ts us h)) (sound extent p (back ts us (targets_close c) h)))
   simple_read (F.augmented_assign {ts = ts} {us = us} x {o = o} {t = t} {e = e} p q r) h =
-      closed_read (augment_are t o e (single_said p (front ts (Op x ∷ us) h)) (sound extent r (behind ts us (Op x) (single_target_closes p) h)))
+      closed_read (augment_are t o e (single_said p (front ts (Op x ∷ us) h))
+          (sound extent r (behind ts us (Op x) (single_target_closes p) h)))
   simple_read (F.annotated_name {x = x} {ts = ts} {us = us} {a = a} {v = v} p q) h =
       let w = rest (rest h) in
       closed_read
@@ -233,7 +253,8 @@ module _ (extent : Extent) where
   simple_read (F.annotated_group {ts = ts} {us = us} {vs = vs} {t = t} {a = a} {v = v} p q r) h =
       let w = rest (behind ts (Op Sign.Colon ∷ (us ++ vs)) (Op Sign.RPar) (single_target_closes p) (rest h)) in
       closed_read
-      (annotate_are t a v false (single_said p (front ts (Op Sign.RPar ∷ (Op Sign.Colon ∷ (us ++ vs))) (rest h))) (sound extent q (front us vs w))
+      (annotate_are t a v false (single_said p (front ts (Op Sign.RPar ∷ (Op Sign.Colon ∷ (us ++ vs))) (rest h)))
+          (sound extent q (front us vs w))
       (behind_said (λ o. refl) r (back us vs (expression_closes q) w)))
   simple_read (F.annotated_part {ts = ts} {us = us} {vs = vs} {t = t} {a = a} {v = v} p n q r) h =
       let w = behind ts (us ++ vs) (Op Sign.Colon) (single_target_closes p) h in
@@ -251,8 +272,10 @@ module _ (extent : Extent) where
       closed_read
       (raise_are (Some e) c (sound extent p (front ts us (rest h))) (behind_said (λ o. refl) q (back ts us (expression_closes p) (rest h))))
   simple_read (F.assert_of {ts = ts} {us = us} {e = e} {m = m} p q) h =
-      closed_read (assert_are e m (sound extent p (front ts us (rest h))) (behind_said (λ o. refl) q (back ts us (expression_closes p) (rest h))))
-  simple_read (F.delete {es = es} c) h = closed_read (word_plain Key.Del (plain_listed (each_expression (exprs es) (deleted_said c (rest h)))))
+      closed_read (assert_are e m (sound extent p (front ts us (rest h)))
+          (behind_said (λ o. refl) q (back ts us (expression_closes p) (rest h))))
+  simple_read (F.delete {es = es} c) h =
+      closed_read (word_plain Key.Del (plain_listed (each_expression (exprs es) (deleted_said c (rest h)))))
   simple_read (F.global {xs = xs} c) h = closed_read (word_plain Key.Global (plain_listed (names_each xs (names_said c (rest h)))))
   simple_read (F.nonlocal {xs = xs} c) h = closed_read (word_plain Key.Nonlocal (plain_listed (names_each xs (names_said c (rest h)))))
   simple_read F.pass h = closed_read (keyword Key.Pass)
@@ -261,7 +284,8 @@ module _ (extent : Extent) where
   simple_read (F.import_names {as_ = as_} c) h = closed_read (import_are as_ (aliases_said c (rest h)))
   simple_read (F.from_module {ts = ts} {us = us} {vs = vs} {n = n} {m = m} {as_ = as_} p q c) h =
       let w = back ts (us ++ (Word Key.Import ∷ vs)) (dots_close p) (rest h) in
-      from_read n m as_ (dotted_said q (front us (Word Key.Import ∷ vs) w)) (imported_said c (behind us vs (Word Key.Import) (dotted_close q) w))
+      from_read n m as_ (dotted_said q (front us (Word Key.Import ∷ vs) w))
+          (imported_said c (behind us vs (Word Key.Import) (dotted_close q) w))
   simple_read (F.from_dots {ts = ts} {vs = vs} {n = n} {as_ = as_} p z c) h =
       points_read n as_ z (imported_said c (behind ts vs (Word Key.Import) (dots_close p) (rest h)))
 
@@ -283,14 +307,16 @@ module _ (extent : Extent) where
 
   items_said : {ts : List Terminal} {is : List Item} → F.Items ts is → Said extent [] ts → SoundItems extent is
   items_said (F.in_brackets b) h = bracketed_said b h
-  items_said (F.without c n) h = commas_said Item F.ItemOf SoundItem (SoundItems extent) tt (λ i is p q. (p.0, p.1, q)) item_said item_close c h
+  items_said (F.without c n) h = commas_said Item F.ItemOf SoundItem (SoundItems extent) tt (λ i is p q. (p.0, p.1, q))
+      item_said item_close c h
 
   bases_said : {ts : List Terminal} {es : List Expr} {ks : Keywords} → F.Bases ts es ks → Said extent [] ts
       → AreWritable (open_place extent) true (exprs es) × WritableKeywords (open_place extent) ks
   bases_said F.no_bases h = (tt, tt)
   bases_said (F.bases {ts = ts} {es = es} c q) h =
       let f = listing_fine extent c (front ts (Op Sign.RPar ∷ []) (rest h)) in
-      (subst (AreWritable (open_place extent) true) (sym (exprs_listed (positional es))) (positional_sound extent es f), keywords_sound extent es f)
+      (subst (AreWritable (open_place extent) true) (sym (exprs_listed (positional es))) (positional_sound extent es f),
+          keywords_sound extent es f)
 
   other_said : {profile : Profile} {ts : List Terminal} {h : Header} → F.HeaderOf profile ts h → Said extent [] ts → SoundHeader extent h
   other_said (F.if_line p) h = sound extent p (rest h)

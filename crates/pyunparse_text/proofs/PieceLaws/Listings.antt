@@ -1,5 +1,6 @@
 -- Carries: the laws of pieces. On: the forms of expressions that have lists in them.
-use Rattle.std.proofs.Common.{◌≡◌, ℕ, ◌-◌, Bool, true, false, ◌||◌, List, [], ◌∷◌, ◌++◌, Option, Some, None, map, length, replicate, refl, ap, zero}
+use Rattle.std.proofs.Common.{◌≡◌, ℕ, ◌-◌, Bool, true, false, ◌||◌, List, [], ◌∷◌, ◌++◌, Option, Some, None, map, length, replicate, refl}
+use Rattle.std.proofs.Common.{ap, zero}
 use Rattle.std.proofs.Common.{suc}
 use Rattle.std.specs.Prelude.{cond}
 use Rattle.pylex_lexeme.specs.declared.kinds.Exact.TheVariants.{LPar, LSqb, Colon, Comma, Star, Slash, Equal, DoubleStar}
@@ -9,7 +10,8 @@ use Rattle.pygrammar.specs.declared.levels.Level.TheVariants.{Value, Stars, Star
 use Rattle.pytree_node.specs.Trees.{Identifier}
 use Rattle.pytoken.specs.Terminals.{Terminal, Op, Word, in_form}
 use Rattle.pyunparse_text.specs.Spacing.{Piece, is_token}
-use Rattle.pyunparse_text.specs.Written.{beside, element_level, tuple_level, free, leading, trailing, tight, listed, with_comma, tuple_of, for_in}
+use Rattle.pyunparse_text.specs.Written.{beside, element_level, tuple_level, free, leading, trailing, tight, listed, with_comma, tuple_of}
+use Rattle.pyunparse_text.specs.Written.{for_in}
 use Rattle.pyunparse_text.specs.Written.{behind_equal, with_defaults, with_slash, with_star}
 use Rattle.pyunparse_text.specs.Terminals.{terminal}
 use Rattle.pyunparse_text.specs.Pieces.{Sited, piece}
@@ -17,17 +19,23 @@ use Rattle.pylex_lexeme.specs.Operators.{operators}
 use Rattle.std.proofs.lemmas.Bool.{and_parts}
 use Rattle.pytoken.specs.Laws.{IsProper}
 use Rattle.pyunparse_text.proofs.PieceLaws.Places.{Place}
-use Rattle.pyunparse_text.proofs.PieceLaws.Sorts.{suit, within, like, is_like, late, a_word, starts_other, starts_plain, starts_item, starts_part}
-use Rattle.pyunparse_text.proofs.PieceLaws.Sorts.{ends_plain, ends_comma, ends_part, starts, ends, more_item, more_part, more_comma, more_colon}
-use Rattle.pyunparse_text.proofs.PieceLaws.Segments.{Closed, Perhaps, nothing, some, Each, none, more, join, widen, sign, tail, head, group, plainly}
+use Rattle.pyunparse_text.proofs.PieceLaws.Sorts.{suit, within, like, is_like, late, a_word, starts_other, starts_plain, starts_item}
+use Rattle.pyunparse_text.proofs.PieceLaws.Sorts.{starts_part}
+use Rattle.pyunparse_text.proofs.PieceLaws.Sorts.{ends_plain, ends_comma, ends_part, starts, ends, more_item, more_part, more_comma}
+use Rattle.pyunparse_text.proofs.PieceLaws.Sorts.{more_colon}
+use Rattle.pyunparse_text.proofs.PieceLaws.Segments.{Closed, Perhaps, nothing, some, Each, none, more, join, widen, sign, tail, head, group}
+use Rattle.pyunparse_text.proofs.PieceLaws.Segments.{plainly}
 use Rattle.pyunparse_text.proofs.PieceLaws.Segments.{separated_some, separated_are, comma}
-use Rattle.pyunparse_text.proofs.PieceLaws.Shapes.{Plain, Item, keyword, name, plain_name, plain_both, colon, equal, starts_parameter, ends_parameter}
+use Rattle.pyunparse_text.proofs.PieceLaws.Shapes.{Plain, Item, keyword, name, plain_name, plain_both, colon, equal, starts_parameter}
+use Rattle.pyunparse_text.proofs.PieceLaws.Shapes.{ends_parameter}
 
 -- dictionaries: the keys, one of them absent for each `**`
 pub data Keys (place : Place) : List (Option (List Sited)) → List (Option (List Terminal)) → Type 0 where
   no_key : Keys place [] []
-  star_key : {xss : List (Option (List Sited))} {tss : List (Option (List Terminal))} → Keys place xss tss → Keys place (None ∷ xss) (None ∷ tss)
-  a_key : {xs : List Sited} {ts : List Terminal} {xss : List (Option (List Sited))} {tss : List (Option (List Terminal))} → Plain place xs ts
+  star_key : {xss : List (Option (List Sited))} {tss : List (Option (List Terminal))} → Keys place xss tss
+      → Keys place (None ∷ xss) (None ∷ tss)
+  a_key : {xs : List Sited} {ts : List Terminal} {xss : List (Option (List Sited))} {tss : List (Option (List Terminal))}
+      → Plain place xs ts
       → Keys place xss tss → Keys place (Some xs ∷ xss) (Some ts ∷ tss)
 
 pub any_both : suit ends_part starts_part ≡ true
@@ -41,7 +49,8 @@ pub data Maybes (place : Place) (b e : List Sited) : List (List Sited) → List 
 
 -- parameters among others
 more_last : (p : Piece) → within ends_plain p ≡ true → within ends_parameter p ≡ true
-more_last p e = let h = and_parts (is_token p.kind p.text) (is_like ends_plain p) e in let g = late (like (free piece (Op Slash)) p) _ (late (like (leading piece Star) p) (is_like ends_plain p) h.1) in rw (h.0, g) refl
+more_last p e = let h = and_parts (is_token p.kind p.text) (is_like ends_plain p) e in let g =
+    late (like (free piece (Op Slash)) p) _ (late (like (leading piece Star) p) (is_like ends_plain p) h.1) in rw (h.0, g) refl
 
 word_first : (p : Piece) → within (a_word ∷ []) p ≡ true → within starts_parameter p ≡ true
 word_first p e =
@@ -64,12 +73,14 @@ module _ {place : Place} where
   perhaps_widen f g (some x) = some (widen f g x)
 
   pub each_widen : {a b c d : List Sited} {xss : List (List Sited)} {tss : List (List Terminal)}
-      → ((p : Piece) → within a p ≡ true → within c p ≡ true) → ((p : Piece) → within b p ≡ true → within d p ≡ true) → Each place a b xss tss
+      → ((p : Piece) → within a p ≡ true → within c p ≡ true) → ((p : Piece) → within b p ≡ true → within d p ≡ true)
+          → Each place a b xss tss
       → Each place c d xss tss
   each_widen f g none = none
   each_widen f g (more x xs) = more (widen f g x) (each_widen f g xs)
 
-  pub each_both : {a b : List Sited} {xss yss : List (List Sited)} {tss uss : List (List Terminal)} → Each place a b xss tss → Each place a b yss uss
+  pub each_both : {a b : List Sited} {xss yss : List (List Sited)} {tss uss : List (List Terminal)} → Each place a b xss tss
+      → Each place a b yss uss
       → Each place a b (xss ++ yss) (tss ++ uss)
   each_both none ys = ys
   each_both (more x xs) ys = more x (each_both xs ys)
@@ -80,7 +91,8 @@ module _ {place : Place} where
   perhaps_both e (some x) y = some (tail x y e)
 
   -- what stands in brackets
-  pub inside : {xs : List Sited} {ts : List Terminal} → Perhaps place starts_item ends_plain xs ts → Perhaps place starts_part ends_part xs ts
+  pub inside : {xs : List Sited} {ts : List Terminal} → Perhaps place starts_item ends_plain xs ts
+      → Perhaps place starts_part ends_part xs ts
   inside x = perhaps_widen more_part (λ p e. more_colon p (more_comma p e)) x
 
   pub inside_plain : {xs : List Sited} {ts : List Terminal} → Plain place xs ts → Perhaps place starts_part ends_part xs ts
@@ -104,17 +116,20 @@ module _ {place : Place} where
   comma_parts = sign (trailing piece Comma ∷ []) ends_part Comma true false refl refl refl
 
   pub with_comma_items : {xs : List Sited} {ts : List Terminal} {xss : List (List Sited)} {tss : List (List Terminal)} → Item place xs ts
-      → Each place starts_item ends_plain xss tss → Closed place starts_item ends_comma (with_comma piece (xs ∷ xss)) (with_comma terminal (ts ∷ tss))
+      → Each place starts_item ends_plain xss tss → Closed place starts_item ends_comma (with_comma piece (xs ∷ xss))
+          (with_comma terminal (ts ∷ tss))
   unfolding operators
   with_comma_items x xs =
       join x
-      (tail comma_items (separated_are (trailing piece Comma) (trailing terminal Comma) comma refl refl (each_widen {c = starts_item} (λ p e. e) more_comma xs)) refl) refl
+      (tail comma_items (separated_are (trailing piece Comma) (trailing terminal Comma) comma refl refl
+          (each_widen {c = starts_item} (λ p e. e) more_comma xs)) refl) refl
 
   with_comma_parts : {xs : List Sited} {ts : List Terminal} {xss : List (List Sited)} {tss : List (List Terminal)}
       → Closed place starts_part ends_part xs ts → Each place starts_part ends_part xss tss
       → Closed place starts_part ends_part (with_comma piece (xs ∷ xss)) (with_comma terminal (ts ∷ tss))
   unfolding operators
-  with_comma_parts x xs = join x (tail comma_parts (separated_are (trailing piece Comma) (trailing terminal Comma) comma refl refl xs) refl) refl
+  with_comma_parts x xs =
+      join x (tail comma_parts (separated_are (trailing piece Comma) (trailing terminal Comma) comma refl refl xs) refl) refl
 
   parts_listed : {xs : List Sited} {ts : List Terminal} {xss : List (List Sited)} {tss : List (List Terminal)}
       → Closed place starts_part ends_part xs ts → Each place starts_part ends_part xss tss
@@ -162,7 +177,8 @@ module _ {place : Place} where
   named_argument x i y = join (widen {d = ends_plain} more_item (λ p e. e) (plain_name x i)) (join equal y refl) refl
 
   -- comprehensions
-  pub for_form : (b : Bool) {xs : List Sited} {ts : List Terminal} → Plain place (free piece (Word Key.For) ∷ xs) (free terminal (Word Key.For) ∷ ts)
+  pub for_form : (b : Bool) {xs : List Sited} {ts : List Terminal}
+      → Plain place (free piece (Word Key.For) ∷ xs) (free terminal (Word Key.For) ∷ ts)
       → Plain place (for_in piece b xs) (for_in terminal b ts)
   for_form false x = x
   for_form true x = plain_both (keyword Key.Async) x
@@ -229,8 +245,10 @@ module _ {place : Place} where
   equals (more x xs) = more (join equal x refl) (equals xs)
 
   pub with_defaults_are : {xss yss : List (List Sited)} {tss uss : List (List Terminal)} → Each place (a_word ∷ []) ends_plain xss tss
-      → Each place (tight piece Equal ∷ []) ends_plain yss uss → Each place (a_word ∷ []) ends_plain (with_defaults xss yss) (with_defaults tss uss)
-  with_defaults_are {xss} {yss} {tss} {uss} x y = let e = length_same x in let f = length_same y in rw (e, f) (beside_are x (before_maybes (length tss - length uss) (maybes y)))
+      → Each place (tight piece Equal ∷ []) ends_plain yss uss
+          → Each place (a_word ∷ []) ends_plain (with_defaults xss yss) (with_defaults tss uss)
+  with_defaults_are {xss} {yss} {tss} {uss} x y = let e = length_same x in let f = length_same y in
+      rw (e, f) (beside_are x (before_maybes (length tss - length uss) (maybes y)))
 
   slash : Closed place starts_parameter ends_parameter (free piece (Op Slash) ∷ []) (free terminal (Op Slash) ∷ [])
   slash = sign starts_parameter ends_parameter Slash false false refl refl refl
@@ -265,7 +283,8 @@ module _ {place : Place} where
   unfolding operators
   call_behind x y = join x y refl
 
-  pub subscript_behind : {xs ys : List Sited} {ts us : List Terminal} → Plain place xs ts → Closed place (tight piece LSqb ∷ []) ends_plain ys us
+  pub subscript_behind : {xs ys : List Sited} {ts us : List Terminal} → Plain place xs ts
+      → Closed place (tight piece LSqb ∷ []) ends_plain ys us
       → Plain place (xs ++ ys) (ts ++ us)
   unfolding operators
   subscript_behind x y = join x y refl
@@ -294,7 +313,8 @@ module _ {place : Place} where
       → Closed place starts_parameter ends_parameter (leading piece Star ∷ xs) (leading terminal Star ∷ ts)
   unfolding operators
   star_parameter x =
-      widen {c = starts_parameter} (λ p e. e) more_last (join (sign starts_parameter (leading piece Star ∷ []) Star false true refl refl refl) x refl)
+      widen {c = starts_parameter} (λ p e. e) more_last
+          (join (sign starts_parameter (leading piece Star ∷ []) Star false true refl refl refl) x refl)
 
   pub stars_parameter : {xs : List Sited} {ts : List Terminal} → Closed place (a_word ∷ []) ends_plain xs ts
       → Closed place starts_parameter ends_parameter (leading piece DoubleStar ∷ xs) (leading terminal DoubleStar ∷ ts)

@@ -13,7 +13,8 @@ use Rattle.pytree_node.specs.Values
 use Rattle.pytree_node.specs.declared.profiles.Extent.{Extent}
 use Rattle.pytree_node.specs.declared.profiles.Extent.TheVariants.{Plain, Whole}
 use Rattle.pytoken.specs.declared.faults.TokenError.TheVariants.{FString}
-use Rattle.pytoken.specs.StringValues.{with_line_feeds, is_raw, is_bytes, is_unicode, body_of, points_of, value_of, string_value, literal_fault}
+use Rattle.pytoken.specs.StringValues.{with_line_feeds, is_raw, is_bytes, is_unicode, body_of, points_of, value_of, string_value}
+use Rattle.pytoken.specs.StringValues.{literal_fault}
 use Rattle.pytoken.specs.StringValues.{string_fault}
 use Rattle.pytoken.specs.FormattedStrings.{is_fstring}
 use Rattle.pytoken.specs.Terminals.{Terminal, is_of, terminal_of, terminals_of, terminals_by, single_fault, fault_of, fault_by}
@@ -40,15 +41,18 @@ literal_points : (t : List ℕ) → list_all is_point t ≡ true → list_all is
 unfolding points_of
 literal_points t h = points_are_in_range (is_raw t) (is_bytes t) (body_of t) (body_all is_point t h)
 
-value_constant : (extent : Extent) (t : List ℕ) → list_all is_point t ≡ true → literal_fault t ≡ None → IsConstant (open_place extent) (value_of t)
+value_constant : (extent : Extent) (t : List ℕ) → list_all is_point t ≡ true → literal_fault t ≡ None
+    → IsConstant (open_place extent) (value_of t)
 unfolding value_of
 value_constant extent t h f = by (is_bytes t) refl
   where
-    by : (b : Bool) → is_bytes t ≡ b → IsConstant (open_place extent) (cond b (Values.Bytes (points_of t)) (Values.Str (points_of t) (is_unicode t)))
+    by : (b : Bool) → is_bytes t ≡ b
+        → IsConstant (open_place extent) (cond b (Values.Bytes (points_of t)) (Values.Str (points_of t) (is_unicode t)))
     by true q = passing is_byte (λ b. b < 0x100) (λ b k. grind (arith, nat_tests)) (points_of t) (points_small t q f)
     by false q = passing is_point IsPoint (λ c k. leb-true c 1114111 k) (points_of t) (literal_points t h)
 
-string_constant : (extent : Extent) (t : List ℕ) → all_scalars t ≡ true → string_fault t ≡ None → IsConstant (open_place extent) (string_value t)
+string_constant : (extent : Extent) (t : List ℕ) → all_scalars t ≡ true → string_fault t ≡ None
+    → IsConstant (open_place extent) (string_value t)
 unfolding string_value string_fault
 string_constant extent t h f = value_constant extent (with_line_feeds t) (filter_all is_point _ t (scalars_points t h)) f
 

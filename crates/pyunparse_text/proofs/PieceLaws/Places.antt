@@ -1,8 +1,10 @@
--- Where what is written stands: in an extent of the language, and in no field of an f-string, in one, or in a field of an f-string in a field;
+-- Where what is written stands: in an extent of the language, and in no field of an f-string, in one, or in a field of an f-string in a
+-- field;
 -- and which terminals a piece gives there.
 --
 -- Carries: the laws of pieces. On: nothing here.
-use Rattle.std.proofs.Common.{◌≡◌, ℕ, suc, ◌-◌, Bool, true, false, List, [], ◌∷◌, ◌++◌, map, refl, ap, ◌∙◌, Option, Some, None, arith, if◌then◌else◌}
+use Rattle.std.proofs.Common.{◌≡◌, ℕ, suc, ◌-◌, Bool, true, false, List, [], ◌∷◌, ◌++◌, map, refl, ap, ◌∙◌, Option, Some, None, arith}
+use Rattle.std.proofs.Common.{if◌then◌else◌}
 use Rattle.pylex_lexeme.specs.declared.kinds.Exact.{Exact}
 use Rattle.pylex_lexeme.specs.Operators.{exact_text, is_opener, is_closer}
 use Rattle.pylex_lexeme.proofs.Callers.Lexemes.{exact_of_text}
@@ -11,7 +13,8 @@ use Rattle.pytree_node.specs.declared.profiles.Extent.TheVariants.{Whole}
 use Rattle.pylex.specs.declared.kind.Kind.{Kind}
 use Rattle.pylex.specs.declared.kind.Kind.TheVariants as kinds
 use Rattle.pytoken.specs.FormattedStrings.{is_fstring, is_bulky}
-use Rattle.pytoken.specs.Terminals.{Terminal, Op, Gives, terminal_of, terminals_by, nested_expression, single_fault, fault_of, fault_by, field_fault}
+use Rattle.pytoken.specs.Terminals.{Terminal, Op, Gives, terminal_of, terminals_by, nested_expression, single_fault, fault_of, fault_by}
+use Rattle.pytoken.specs.Terminals.{field_fault}
 use Rattle.pyunparse_text.specs.Spacing.{Piece}
 use Rattle.pyunparse_text.specs.Brackets.{open_after}
 use Rattle.pyunparse_text.specs.Tokens.{is_opening, is_closing, opens, closes}
@@ -146,7 +149,8 @@ pub flat_within : {ts : List Terminal} (o s : Exact) → is_opener o ≡ true �
     → Flat (Op o ∷ (ts ++ (Op s ∷ [])))
 flat_within {ts} o s i j k f = record {
   is = λ d.
-      depth_both (open_after d (Op o)) ts (Op s ∷ []) ∙ (ap (λ n. open_after n (Op s)) (f.is (open_after d (Op o))) ∙ rw (i, j, k) (one_less d));
+      depth_both (open_after d (Op o)) ts (Op s ∷ []) ∙ (ap (λ n. open_after n (Op s)) (f.is (open_after d (Op o)))
+          ∙ rw (i, j, k) (one_less d));
 }
   where
     one_less : (d : ℕ) → suc d - 1 ≡ d

@@ -87,7 +87,8 @@ module _ {extent : Extent} where
   first (also s h) = s
 
   -- after some terminals and one more
-  pub behind : {o : Open} (ts us : List Terminal) (t : Terminal) → Closing ts → Said extent o (ts ++ (t ∷ us)) → Said extent (open_behind o t) us
+  pub behind : {o : Open} (ts us : List Terminal) (t : Terminal) → Closing ts → Said extent o (ts ++ (t ∷ us))
+      → Said extent (open_behind o t) us
   behind ts us t c h = rest (back ts (t ∷ us) c h)
 
   pub quiet : {o : Open} {ts : List Terminal} (t : Terminal) → IsQuiet t → Said extent (open_behind o t) ts → Said extent o ts
@@ -110,7 +111,8 @@ formatted_both in_two n t r h k = absurd h
 
 points_stand : (t : List ℕ) → All IsPoint t → list_all is_point t ≡ true
 points_stand [] h = refl
-points_stand (c ∷ t) h = let f : is_point c ≡ true = le-leb c 1114111 (All-head IsPoint c t h) in let r = points_stand t (All-tail IsPoint c t h) in rw (f, r) refl
+points_stand (c ∷ t) h = let f : is_point c ≡ true = le-leb c 1114111 (All-head IsPoint c t h) in let r =
+    points_stand t (All-tail IsPoint c t h) in rw (f, r) refl
 
 characters_stand : (t : List ℕ) → list_all is_field_character t ≡ true → list_all (can_stand true false) t ≡ true
 characters_stand [] h = refl

@@ -1,7 +1,9 @@
 -- Carries: the laws of pieces. On: the forms of expressions, each from its parts.
 use Rattle.std.proofs.Common.{true, false, List, [], ◌∷◌, ◌++◌, map, refl}
-use Rattle.pylex_lexeme.specs.declared.kinds.Exact.TheVariants.{Colon, Plus, Minus, Star, Slash, VBar, Amper, Less, Greater, Equal, Dot, Percent}
-use Rattle.pylex_lexeme.specs.declared.kinds.Exact.TheVariants.{EqEqual, NotEqual, LessEqual, GreaterEqual, Tilde, Circumflex, LeftShift, RightShift}
+use Rattle.pylex_lexeme.specs.declared.kinds.Exact.TheVariants.{Colon, Plus, Minus, Star, Slash, VBar, Amper, Less, Greater, Equal, Dot}
+use Rattle.pylex_lexeme.specs.declared.kinds.Exact.TheVariants.{Percent}
+use Rattle.pylex_lexeme.specs.declared.kinds.Exact.TheVariants.{EqEqual, NotEqual, LessEqual, GreaterEqual, Tilde, Circumflex, LeftShift}
+use Rattle.pylex_lexeme.specs.declared.kinds.Exact.TheVariants.{RightShift}
 use Rattle.pylex_lexeme.specs.declared.kinds.Exact.TheVariants.{DoubleStar, DoubleSlash, At, ColonEqual}
 use Rattle.pytoken.specs.declared.keywords.Keyword.{Keyword}
 use Rattle.pytoken.specs.declared.keywords.Keyword.TheVariants as Key
@@ -26,10 +28,12 @@ use Rattle.pyunparse_text.specs.Pieces.{Sited, piece}
 use Rattle.pylex_lexeme.specs.Operators.{operators}
 use Rattle.pytoken.specs.Laws.{IsProper}
 use Rattle.pyunparse_text.proofs.PieceLaws.Places.{Place}
-use Rattle.pyunparse_text.proofs.PieceLaws.Sorts.{a_word, starts_plain, starts_item, ends_plain, ends_comma, starts, ends, more_part, more_comma}
+use Rattle.pyunparse_text.proofs.PieceLaws.Sorts.{a_word, starts_plain, starts_item, ends_plain, ends_comma, starts, ends, more_part}
+use Rattle.pyunparse_text.proofs.PieceLaws.Sorts.{more_comma}
 use Rattle.pyunparse_text.proofs.PieceLaws.Sorts.{more_colon}
 use Rattle.pyunparse_text.proofs.PieceLaws.Fair.{IsConstant, fair_word, fair_name, fair_constant}
-use Rattle.pyunparse_text.proofs.PieceLaws.Segments.{Closed, Perhaps, nothing, some, Each, none, more, join, widen, token, sign, tail, between}
+use Rattle.pyunparse_text.proofs.PieceLaws.Segments.{Closed, Perhaps, nothing, some, Each, none, more, join, widen, token, sign, tail}
+use Rattle.pyunparse_text.proofs.PieceLaws.Segments.{between}
 use Rattle.pyunparse_text.proofs.PieceLaws.Segments.{separated_some}
 
 abbrev pub Plain : Place → List Sited → List Terminal → Type 0
@@ -48,13 +52,15 @@ ends_parameter = free piece (Op Slash) ∷ leading piece Star ∷ ends_plain
 -- comparisons
 abbrev pub starts_behind : List Sited
 starts_behind =
-    a_word ∷ free piece (Op EqEqual) ∷ free piece (Op NotEqual) ∷ free piece (Op Less) ∷ free piece (Op LessEqual) ∷ free piece (Op Greater) ∷ free piece (Op GreaterEqual) ∷ []
+    a_word ∷ free piece (Op EqEqual) ∷ free piece (Op NotEqual) ∷ free piece (Op Less) ∷ free piece (Op LessEqual) ∷ free piece (Op Greater)
+        ∷ free piece (Op GreaterEqual) ∷ []
 
 module _ {place : Place} where
   pub keyword : (k : Keyword) → Plain place (free piece (Word k) ∷ []) (free terminal (Word k) ∷ [])
   keyword k = token starts_plain ends_plain (Word k) false false (fair_word k) refl refl refl refl
 
-  pub name : (x : Identifier) → IsProper x → Closed place (a_word ∷ []) ends_plain (free piece (in_form x) ∷ []) (free terminal (in_form x) ∷ [])
+  pub name : (x : Identifier) → IsProper x → Closed place (a_word ∷ []) ends_plain (free piece (in_form x) ∷ [])
+      (free terminal (in_form x) ∷ [])
   name x i = token (a_word ∷ []) ends_plain (in_form x) false false (fair_name x i) refl refl refl refl
 
   pub plain_name : (x : Identifier) → IsProper x → Plain place (free piece (in_form x) ∷ []) (free terminal (in_form x) ∷ [])
@@ -62,7 +68,8 @@ module _ {place : Place} where
 
   pub constant : (v : Values.Value) → IsConstant place v
       → Plain place (free piece (constant_terminal v) ∷ []) (free terminal (constant_terminal v) ∷ [])
-  constant (Values.Int n) h = token starts_plain ends_plain (Number (Values.Int n)) false false (fair_constant (Values.Int n) h) refl refl refl refl
+  constant (Values.Int n) h = token starts_plain ends_plain (Number (Values.Int n)) false false
+      (fair_constant (Values.Int n) h) refl refl refl refl
   constant (Values.Float x) h =
       token starts_plain ends_plain (Number (Values.Float x)) false false (fair_constant (Values.Float x) h) refl refl refl refl
   constant (Values.Imaginary x) h =
@@ -119,7 +126,8 @@ module _ {place : Place} where
   item_at Subject x = widen (λ p e. e) more_comma x
   item_at l x = x
 
-  pub starred_form : (l : Level) {xs : List Sited} {ts : List Terminal} → Closed place (starts false (star_level l)) (ends (star_level l)) xs ts
+  pub starred_form : (l : Level) {xs : List Sited} {ts : List Terminal}
+      → Closed place (starts false (star_level l)) (ends (star_level l)) xs ts
       → Closed place (starts true l) (ends l) (leading piece Star ∷ xs) (leading terminal Star ∷ ts)
   starred_form l x = item_at l (star_item (star_value l x))
 
@@ -127,10 +135,12 @@ module _ {place : Place} where
       → Plain place (xs ++ (free piece (Op ColonEqual) ∷ ys)) (ts ++ (free terminal (Op ColonEqual) ∷ us))
   unfolding operators
   named_form x y =
-      join x (join (sign (free piece (Op ColonEqual) ∷ []) (free piece (Op ColonEqual) ∷ []) ColonEqual false false refl refl refl) y refl) refl
+      join x (join (sign (free piece (Op ColonEqual) ∷ []) (free piece (Op ColonEqual) ∷ []) ColonEqual false false refl refl refl) y refl)
+          refl
 
   -- a colon that keeps close to what stands before it
-  pub colon : Closed place (trailing piece Colon ∷ []) (trailing piece Colon ∷ []) (trailing piece Colon ∷ []) (trailing terminal Colon ∷ [])
+  pub colon : Closed place (trailing piece Colon ∷ []) (trailing piece Colon ∷ []) (trailing piece Colon ∷ [])
+      (trailing terminal Colon ∷ [])
   colon = sign (trailing piece Colon ∷ []) (trailing piece Colon ∷ []) Colon true false refl refl refl
 
   pub equal : Closed place (tight piece Equal ∷ []) (tight piece Equal ∷ []) (tight piece Equal ∷ []) (tight terminal Equal ∷ [])
@@ -162,7 +172,8 @@ module _ {place : Place} where
       → Plain place xs ts → Each place starts_plain ends_plain xss tss
       → Plain place (separated (free piece (Word (chain_word o))) (xs ∷ xss)) (separated (free terminal (Word (chain_word o))) (ts ∷ tss))
   unfolding operators
-  chain_form o x xs = separated_some (free piece (Word (chain_word o))) (free terminal (Word (chain_word o))) (keyword (chain_word o)) refl refl x xs
+  chain_form o x xs = separated_some (free piece (Word (chain_word o))) (free terminal (Word (chain_word o)))
+      (keyword (chain_word o)) refl refl x xs
 
   pub unary_form : (o : UnaryOperator) {xs : List Sited} {ts : List Terminal}
       → Closed place (starts false (unary_level o)) (ends (unary_level o)) xs ts → Plain place (unary piece o ∷ xs) (unary terminal o ∷ ts)
@@ -177,28 +188,37 @@ module _ {place : Place} where
       → Closed place (starts false (right_level o)) (ends (right_level o)) ys us
       → Plain place (xs ++ (free piece (operator_sign o) ∷ ys)) (ts ++ (free terminal (operator_sign o) ∷ us))
   unfolding operators
-  binary_form Bin.BitOr x y = join x (join (sign (free piece (Op VBar) ∷ []) (free piece (Op VBar) ∷ []) VBar false false refl refl refl) y refl) refl
+  binary_form Bin.BitOr x y =
+      join x (join (sign (free piece (Op VBar) ∷ []) (free piece (Op VBar) ∷ []) VBar false false refl refl refl) y refl) refl
   binary_form Bin.BitXor x y =
-      join x (join (sign (free piece (Op Circumflex) ∷ []) (free piece (Op Circumflex) ∷ []) Circumflex false false refl refl refl) y refl) refl
+      join x (join (sign (free piece (Op Circumflex) ∷ []) (free piece (Op Circumflex) ∷ []) Circumflex false false refl refl refl) y refl)
+          refl
   binary_form Bin.BitAnd x y =
       join x (join (sign (free piece (Op Amper) ∷ []) (free piece (Op Amper) ∷ []) Amper false false refl refl refl) y refl) refl
   binary_form Bin.LShift x y =
-      join x (join (sign (free piece (Op LeftShift) ∷ []) (free piece (Op LeftShift) ∷ []) LeftShift false false refl refl refl) y refl) refl
+      join x (join (sign (free piece (Op LeftShift) ∷ []) (free piece (Op LeftShift) ∷ []) LeftShift false false refl refl refl) y refl)
+          refl
   binary_form Bin.RShift x y =
-      join x (join (sign (free piece (Op RightShift) ∷ []) (free piece (Op RightShift) ∷ []) RightShift false false refl refl refl) y refl) refl
-  binary_form Bin.Add x y = join x (join (sign (free piece (Op Plus) ∷ []) (free piece (Op Plus) ∷ []) Plus false false refl refl refl) y refl) refl
+      join x (join (sign (free piece (Op RightShift) ∷ []) (free piece (Op RightShift) ∷ []) RightShift false false refl refl refl) y refl)
+          refl
+  binary_form Bin.Add x y =
+      join x (join (sign (free piece (Op Plus) ∷ []) (free piece (Op Plus) ∷ []) Plus false false refl refl refl) y refl) refl
   binary_form Bin.Sub x y =
       join x (join (sign (free piece (Op Minus) ∷ []) (free piece (Op Minus) ∷ []) Minus false false refl refl refl) y refl) refl
-  binary_form Bin.Mult x y = join x (join (sign (free piece (Op Star) ∷ []) (free piece (Op Star) ∷ []) Star false false refl refl refl) y refl) refl
-  binary_form Bin.MatMult x y = join x (join (sign (free piece (Op At) ∷ []) (free piece (Op At) ∷ []) At false false refl refl refl) y refl) refl
+  binary_form Bin.Mult x y =
+      join x (join (sign (free piece (Op Star) ∷ []) (free piece (Op Star) ∷ []) Star false false refl refl refl) y refl) refl
+  binary_form Bin.MatMult x y =
+      join x (join (sign (free piece (Op At) ∷ []) (free piece (Op At) ∷ []) At false false refl refl refl) y refl) refl
   binary_form Bin.Div x y =
       join x (join (sign (free piece (Op Slash) ∷ []) (free piece (Op Slash) ∷ []) Slash false false refl refl refl) y refl) refl
   binary_form Bin.Mod x y =
       join x (join (sign (free piece (Op Percent) ∷ []) (free piece (Op Percent) ∷ []) Percent false false refl refl refl) y refl) refl
   binary_form Bin.FloorDiv x y =
-      join x (join (sign (free piece (Op DoubleSlash) ∷ []) (free piece (Op DoubleSlash) ∷ []) DoubleSlash false false refl refl refl) y refl) refl
+      join x (join (sign (free piece (Op DoubleSlash) ∷ []) (free piece (Op DoubleSlash) ∷ []) DoubleSlash false false refl refl refl) y
+          refl) refl
   binary_form Bin.Pow x y =
-      join x (join (sign (free piece (Op DoubleStar) ∷ []) (free piece (Op DoubleStar) ∷ []) DoubleStar false false refl refl refl) y refl) refl
+      join x (join (sign (free piece (Op DoubleStar) ∷ []) (free piece (Op DoubleStar) ∷ []) DoubleStar false false refl refl refl) y refl)
+          refl
 
   pub signs_form : (o : Comparison)
       → Closed place starts_behind starts_behind (map (free piece) (comparison_signs o)) (map (free terminal) (comparison_signs o))
@@ -219,7 +239,8 @@ module _ {place : Place} where
       (token starts_behind starts_behind (Word Key.In) false false (fair_word Key.In) refl refl refl refl) refl
 
   -- a comparison's signs, each with what stands after it
-  pub compared_more : (o : Comparison) {xs ys : List Sited} {ts us : List Terminal} → Plain place xs ts → Perhaps place starts_behind ends_plain ys us
+  pub compared_more : (o : Comparison) {xs ys : List Sited} {ts us : List Terminal} → Plain place xs ts
+      → Perhaps place starts_behind ends_plain ys us
       → Closed place starts_behind ends_plain (map (free piece) (comparison_signs o) ++ (xs ++ ys))
       (map (free terminal) (comparison_signs o) ++ (ts ++ us))
   unfolding operators
@@ -230,7 +251,8 @@ module _ {place : Place} where
   unfolding operators
   compare_form x y = tail x y refl
 
-  pub compared_are : (os : List Comparison) {xss : List (List Sited)} {tss : List (List Terminal)} → Each place starts_plain ends_plain xss tss
+  pub compared_are : (os : List Comparison) {xss : List (List Sited)} {tss : List (List Terminal)}
+      → Each place starts_plain ends_plain xss tss
       → Perhaps place starts_behind ends_plain (compared piece os xss) (compared terminal os tss)
   compared_are [] none = nothing
   compared_are [] (more x xs) = nothing
@@ -239,6 +261,8 @@ module _ {place : Place} where
 
   -- primaries
   pub attribute_form : (x : Identifier) → IsProper x → {xs : List Sited} {ts : List Terminal} → Plain place xs ts
-      → Plain place (xs ++ (tight piece Dot ∷ (free piece (in_form x) ∷ []))) (ts ++ (tight terminal Dot ∷ (free terminal (in_form x) ∷ [])))
+      → Plain place (xs ++ (tight piece Dot ∷ (free piece (in_form x) ∷ [])))
+          (ts ++ (tight terminal Dot ∷ (free terminal (in_form x) ∷ [])))
   unfolding operators
-  attribute_form x i y = join y (join (sign (tight piece Dot ∷ []) (tight piece Dot ∷ []) Dot true true refl refl refl) (name x i) refl) refl
+  attribute_form x i y =
+      join y (join (sign (tight piece Dot ∷ []) (tight piece Dot ∷ []) Dot true true refl refl refl) (name x i) refl) refl

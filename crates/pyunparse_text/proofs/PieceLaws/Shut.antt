@@ -4,7 +4,8 @@
 use Rattle.std.proofs.Common.{◌≡◌, Bool, true, false, List, [], ◌∷◌, ◌++◌, map, refl, sym, subst}
 use Rattle.std.specs.Prelude.{cond}
 use Rattle.pylex_lexeme.specs.declared.kinds.Exact.{Exact}
-use Rattle.pylex_lexeme.specs.declared.kinds.Exact.TheVariants.{LPar, RPar, LSqb, RSqb, LBrace, RBrace, Less, Greater, Dot, EqEqual, NotEqual}
+use Rattle.pylex_lexeme.specs.declared.kinds.Exact.TheVariants.{LPar, RPar, LSqb, RSqb, LBrace, RBrace, Less, Greater, Dot, EqEqual}
+use Rattle.pylex_lexeme.specs.declared.kinds.Exact.TheVariants.{NotEqual}
 use Rattle.pylex_lexeme.specs.declared.kinds.Exact.TheVariants.{LessEqual, GreaterEqual, Ellipsis}
 use Rattle.pylex_lexeme.specs.Operators.{exact_of, exact_text, operators}
 use Rattle.pytree_node.specs.declared.operators.Comparison.{Comparison}
@@ -16,7 +17,8 @@ use Rattle.pytree_node.specs.declared.operators.UnaryOperator.TheVariants as Un
 use Rattle.pytree_node.specs.declared.operators.BoolOperator.{BoolOperator}
 use Rattle.pytree_node.specs.declared.operators.BoolOperator.TheVariants as Join
 use Rattle.pygrammar.specs.declared.levels.Level.{Level}
-use Rattle.pygrammar.specs.declared.levels.Level.TheVariants.{Value, Named, Expression, Or, And, Not, Compare, BitOr, BitXor, BitAnd, Shift, Sum}
+use Rattle.pygrammar.specs.declared.levels.Level.TheVariants.{Value, Named, Expression, Or, And, Not, Compare, BitOr, BitXor, BitAnd, Shift}
+use Rattle.pygrammar.specs.declared.levels.Level.TheVariants.{Sum}
 use Rattle.pygrammar.specs.declared.levels.Level.TheVariants.{Term, Factor, Power, Await, Primary, Atom, Slice}
 use Rattle.pygrammar.specs.Operators.{below, chain_level}
 use Rattle.pytoken.specs.declared.keywords.Keyword.{Keyword}
@@ -27,7 +29,8 @@ use Rattle.pyunparse_text.specs.Levels.{leads, reaches, left_level, right_level,
 use Rattle.pyunparse_text.specs.Written.{separated, free, leading, tight, enclosed, bracketed, fit, unary}
 use Rattle.pyunparse_text.specs.Pieces.{Sited, sited, piece}
 use Rattle.pyunparse_text.proofs.FieldTexts.Conditions.{is_pair, ends_field}
-use Rattle.pyunparse_text.proofs.FieldTexts.Enclosures.{Enclosed, Kept, enclosed_none, enclosed_one, enclosed_both, enclosed_kept, kept_within}
+use Rattle.pyunparse_text.proofs.FieldTexts.Enclosures.{Enclosed, Kept, enclosed_none, enclosed_one, enclosed_both, enclosed_kept}
+use Rattle.pyunparse_text.proofs.FieldTexts.Enclosures.{kept_within}
 use Rattle.pyunparse_text.proofs.PieceLaws.Places.{Depth, is_inside, at, at_both}
 use Rattle.pyunparse_text.proofs.PieceLaws.Segments.{enclosed_at}
 
@@ -47,13 +50,15 @@ shut_both {d} {xs} {ys} x y = record { is = subst Enclosed (sym (at_both d xs ys
 pub shut_held : {d : Depth} {xs : List Sited} → Shut d xs → Held d xs
 shut_held {d} {xs} x = record { is = enclosed_kept (at d xs) x.is }
 
-pub shut_one : {d : Depth} (p : Sited) → opens (p (is_inside d)) ≡ false → closes (p (is_inside d)) ≡ false → ends_field (p (is_inside d)) ≡ false
+pub shut_one : {d : Depth} (p : Sited) → opens (p (is_inside d)) ≡ false → closes (p (is_inside d)) ≡ false
+    → ends_field (p (is_inside d)) ≡ false
     → Shut d (p ∷ [])
 shut_one {d} p o c e = record { is = enclosed_one (p (is_inside d)) o c e }
 
 pub shut_within : {d : Depth} {xs : List Sited} (o s : Exact) (h : Bool) → opens (sited (Op o) h true (is_inside d)) ≡ true
     → opens (sited (Op s) true false (is_inside d)) ≡ false
-    → closes (sited (Op s) true false (is_inside d)) ≡ true → is_pair (exact_text o) (exact_text s) ≡ true → Held d xs → Shut d (enclosed piece (sited (Op o) h true) s xs)
+    → closes (sited (Op s) true false (is_inside d)) ≡ true → is_pair (exact_text o) (exact_text s) ≡ true → Held d xs
+        → Shut d (enclosed piece (sited (Op o) h true) s xs)
 shut_within {d} {xs} o s h i j k m x = record {
   is =
       enclosed_at d (sited (Op o) h true) (sited (Op s) true false) xs Enclosed (kept_within (sited (Op o) h true (is_inside d))
@@ -149,7 +154,8 @@ outer_far l Expression o u = (far l o).expression
 outer_far l Slice o u = (far l o).slice
 outer_far l _ o u = absurd (cc)
 
-pub shut_outer : {d : Depth} {xs : List Sited} (l k : Level) → is_operand l ≡ true → is_outer k ≡ true → Held d xs → Shut d (fit piece l k xs)
+pub shut_outer : {d : Depth} {xs : List Sited} (l k : Level) → is_operand l ≡ true → is_outer k ≡ true → Held d xs
+    → Shut d (fit piece l k xs)
 unfolding fit
 shut_outer {d} {xs} l k o u x = by (reaches l k) (outer_far l k o u)
   where

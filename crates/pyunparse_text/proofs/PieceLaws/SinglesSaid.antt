@@ -1,7 +1,8 @@
 -- Tokens that are names, numbers and operators can be said wherever they stand.
 --
 -- Carries: IsShallow, name_sayable, number_sayable, sign_sayable, scalars_points, for StringsSaid, OfTokens. On: Sayings.
-use Rattle.std.proofs.Common.{◌≡◌, ℕ, ◌^◌, ◌<◌, ◌≤◌, Bool, true, false, ◌||◌, List, [], ◌∷◌, Option, Some, None, refl, arith, ⊎_elim, if◌then◌else◌}
+use Rattle.std.proofs.Common.{◌≡◌, ℕ, ◌^◌, ◌<◌, ◌≤◌, Bool, true, false, ◌||◌, List, [], ◌∷◌, Option, Some, None, refl, arith, ⊎_elim}
+use Rattle.std.proofs.Common.{if◌then◌else◌}
 use Rattle.std.specs.Prelude.{nat_le}
 use Rattle.std.specs.List.{list_all}
 use Rattle.std.specs.Str.{all_scalars}
@@ -75,7 +76,8 @@ word_sayable extent (k ∷ []) w = tt
 word_sayable extent (k ∷ (m ∷ [])) w = tt
 word_sayable extent (k ∷ (m ∷ (n ∷ o))) w = tt
 
-pub name_sayable : (extent : Extent) (o : Open) (t : List ℕ) → is_name t ≡ true → name_fault t ≡ None → Sayable extent o (terminal_of kinds.Name t)
+pub name_sayable : (extent : Extent) (o : Open) (t : List ℕ) → is_name t ≡ true → name_fault t ≡ None
+    → Sayable extent o (terminal_of kinds.Name t)
 unfolding terminal_of
 name_sayable extent o t i f = by (keyword_of t) refl
   where
@@ -106,7 +108,8 @@ sign_sayable extent {o} s t = by (exact_of t)
 
 scalar_point : (c : ℕ) → scalar c ≡ true → is_point c ≡ true
 scalar_point c h =
-    ⊎_elim (λ (low : c < 55296). le-leb c 1114111 (omega arith)) (λ (high : (57344 ≤ c) × (c < 1114112)). le-leb c 1114111 (omega (arith, high.1)))
+    ⊎_elim (λ (low : c < 55296). le-leb c 1114111 (omega arith)) (λ (high : (57344 ≤ c) × (c < 1114112)). le-leb c 1114111
+        (omega (arith, high.1)))
     (scalar_cases c h)
 
 pub scalars_points : (t : List ℕ) → all_scalars t ≡ true → list_all is_point t ≡ true

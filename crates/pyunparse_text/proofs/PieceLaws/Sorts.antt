@@ -5,7 +5,8 @@ use Rattle.std.specs.Prelude.{codes}
 use Rattle.std.specs.List.{list_all, list_any}
 use Rattle.std.specs.Str.{bytes_eq}
 use Rattle.std.proofs.lemmas.Slice.Eq.{bytes_eq-Decides}
-use Rattle.pylex_lexeme.specs.declared.kinds.Exact.TheVariants.{LPar, RPar, LSqb, RSqb, LBrace, RBrace, Colon, Comma, Plus, Minus, Star, Tilde}
+use Rattle.pylex_lexeme.specs.declared.kinds.Exact.TheVariants.{LPar, RPar, LSqb, RSqb, LBrace, RBrace, Colon, Comma, Plus, Minus, Star}
+use Rattle.pylex_lexeme.specs.declared.kinds.Exact.TheVariants.{Tilde}
 use Rattle.pylex_lexeme.specs.declared.kinds.Exact.TheVariants.{DoubleStar, Ellipsis}
 use Rattle.pygrammar.specs.declared.levels.Level.{Level}
 use Rattle.pygrammar.specs.declared.levels.Level.TheVariants.{Value, Stars, Slices, Part, Slice, Subject}
@@ -31,7 +32,8 @@ same false b = not b
 abbrev alike_pieces : Piece → Piece → Bool
 alike_pieces x p =
     same (is_operator_kind x.kind) (is_operator_kind p.kind) && (same (is_number_kind x.kind)
-    (is_number_kind p.kind) && (same x.before p.before && (same x.behind p.behind && (not (is_operator_kind x.kind) || bytes_eq p.text x.text))))
+    (is_number_kind p.kind) &&
+        (same x.before p.before && (same x.behind p.behind && (not (is_operator_kind x.kind) || bytes_eq p.text x.text))))
 
 abbrev is_among : List Piece → Piece → Bool
 is_among xs p = list_any (λ x. alike_pieces x p) xs
@@ -39,7 +41,8 @@ is_among xs p = list_any (λ x. alike_pieces x p) xs
 -- those of the sorts may be neighbours where these would touch
 abbrev pub apart : Piece → Piece → Bool
 apart x y =
-    if is_operator_kind x.kind then (if is_operator_kind y.kind then fit x y else not (bytes_eq x.text (codes ".") && is_number_kind y.kind))
+    if is_operator_kind x.kind then (if is_operator_kind y.kind then fit x y else not
+        (bytes_eq x.text (codes ".") && is_number_kind y.kind))
     else is_operator_kind y.kind && (bytes_eq y.text (codes ".") || not (is_number_kind x.kind && bytes_eq (take 1 y.text) (codes ".")))
 
 abbrev pub suits : Piece → Piece → Bool
@@ -115,10 +118,12 @@ suits_fit x y p q a b s t e =
     (cases_Bool (is_operator_kind y.kind)))
     (λ (ox : is_operator_kind x.kind ≡ false).
     let po : is_operator_kind p.kind ≡ false = rw a.operator ox in
-    let f : (is_operator_kind y.kind && (bytes_eq y.text (codes ".") || not (is_number_kind x.kind && bytes_eq (take 1 y.text) (codes ".")))) ≡ true =
+    let f : (is_operator_kind y.kind &&
+        (bytes_eq y.text (codes ".") || not (is_number_kind x.kind && bytes_eq (take 1 y.text) (codes ".")))) ≡ true =
     rw ox at h in
     let g =
-    and_parts (is_operator_kind y.kind) (bytes_eq y.text (codes ".") || not (is_number_kind x.kind && bytes_eq (take 1 y.text) (codes "."))) f in
+    and_parts (is_operator_kind y.kind) (bytes_eq y.text (codes ".") || not (is_number_kind x.kind && bytes_eq (take 1 y.text) (codes ".")))
+        f in
     let qo : is_operator_kind q.kind ≡ true = rw b.operator g.0 in
     let ty : q.text ≡ y.text = (bytes_eq-Decides q.text y.text).0 (b.text g.0) in
     ⊎_elim
@@ -198,7 +203,8 @@ a_number is_in_field = record { kind = kinds.Number; text = []; before = false; 
 -- what an expression begins with, words aside
 abbrev pub starts_other : List Sited
 starts_other =
-    a_number ∷ leading piece LPar ∷ leading piece LSqb ∷ leading piece LBrace ∷ leading piece Plus ∷ leading piece Minus ∷ leading piece Tilde ∷ free piece (Op Ellipsis) ∷ []
+    a_number ∷ leading piece LPar ∷ leading piece LSqb ∷ leading piece LBrace ∷ leading piece Plus ∷ leading piece Minus ∷ leading piece
+        Tilde ∷ free piece (Op Ellipsis) ∷ []
 
 abbrev pub starts_plain : List Sited
 starts_plain = a_word ∷ starts_other
@@ -242,16 +248,20 @@ ends Subject = ends_comma
 ends l = ends_plain
 
 pub more_item : (p : Piece) → within starts_plain p ≡ true → within starts_item p ≡ true
-more_item p e = let h = and_parts (is_token p.kind p.text) (is_like starts_plain p) e in let g = late (like (leading piece Star) p) _ (late (like (leading piece DoubleStar) p) (is_like starts_plain p) h.1) in rw (h.0, g) refl
+more_item p e = let h = and_parts (is_token p.kind p.text) (is_like starts_plain p) e in let g =
+    late (like (leading piece Star) p) _ (late (like (leading piece DoubleStar) p) (is_like starts_plain p) h.1) in rw (h.0, g) refl
 
 pub more_part : (p : Piece) → within starts_item p ≡ true → within starts_part p ≡ true
-more_part p e = let h = and_parts (is_token p.kind p.text) (is_like starts_item p) e in let g = late (like (tight piece Colon) p) (is_like starts_item p) h.1 in rw (h.0, g) refl
+more_part p e = let h = and_parts (is_token p.kind p.text) (is_like starts_item p) e in let g =
+    late (like (tight piece Colon) p) (is_like starts_item p) h.1 in rw (h.0, g) refl
 
 pub more_comma : (p : Piece) → within ends_plain p ≡ true → within ends_comma p ≡ true
-more_comma p e = let h = and_parts (is_token p.kind p.text) (is_like ends_plain p) e in let g = late (like (trailing piece Comma) p) (is_like ends_plain p) h.1 in rw (h.0, g) refl
+more_comma p e = let h = and_parts (is_token p.kind p.text) (is_like ends_plain p) e in let g =
+    late (like (trailing piece Comma) p) (is_like ends_plain p) h.1 in rw (h.0, g) refl
 
 pub more_colon : (p : Piece) → within ends_comma p ≡ true → within ends_part p ≡ true
-more_colon p e = let h = and_parts (is_token p.kind p.text) (is_like ends_comma p) e in let g = late (like (tight piece Colon) p) (is_like ends_comma p) h.1 in rw (h.0, g) refl
+more_colon p e = let h = and_parts (is_token p.kind p.text) (is_like ends_comma p) e in let g =
+    late (like (tight piece Colon) p) (is_like ends_comma p) h.1 in rw (h.0, g) refl
 
 pub starts_more : (s : Bool) (l : Level) (p : Piece) → within starts_plain p ≡ true → within (starts s l) p ≡ true
 starts_more s Slices p e = more_part p (more_item p e)

@@ -6,7 +6,8 @@ use Rattle.pytree_node.specs.declared.profiles.Extent.TheVariants.{Plain, Whole}
 use Rattle.pytree_node.specs.Values
 use Rattle.pytree_node.specs.Trees
 use Rattle.pytree_node.specs.Trees.{Expr, Exprs, no_exprs, an_expr, OptionalExpr, absent, present, OptionalExprs, no_optional, an_optional}
-use Rattle.pytree_node.specs.Trees.{Comprehensions, no_comprehension, a_comprehension, Keywords, no_keyword, a_keyword, arg, Args, no_arg, an_arg}
+use Rattle.pytree_node.specs.Trees.{Comprehensions, no_comprehension, a_comprehension, Keywords, no_keyword, a_keyword, arg, Args, no_arg}
+use Rattle.pytree_node.specs.Trees.{an_arg}
 use Rattle.pytree_node.specs.Trees.{OptionalArg, absent_arg, present_arg, Arguments, arguments}
 use Rattle.pytoken.specs.Laws.{IsProper}
 use Rattle.pyunparse_text.proofs.FieldTexts.Texts.{IsText}
@@ -116,7 +117,8 @@ module _ (extent : Extent) where
     SoundArg d (present_arg (arg x a)) = IsProper x × SoundOptional d true a
 
     pub SoundArguments : Depth → Arguments → Type 0
-    SoundArguments d (arguments ps qs v ks kds k ds) = SoundArgs d ps × SoundArgs d qs × SoundArg d v × SoundArgs d ks × SoundOptionals d kds × SoundArg d k × AreSound d false ds
+    SoundArguments d (arguments ps qs v ks kds k ds) = SoundArgs d ps × SoundArgs d qs × SoundArg d v × SoundArgs d ks × SoundOptionals d
+        kds × SoundArg d k × AreSound d false ds
 
 -- ---- What can be written at a place.
 

@@ -1,7 +1,8 @@
 -- A written f-string is one token, and gives the terminals that its texts and fields are read as.
 --
 -- Carries: strings_read, for Segments. On: Formatted, FieldTexts.
-use Rattle.std.proofs.Common.{◌≡◌, ℕ, Bool, true, false, ◌||◌, List, [], ◌∷◌, ◌++◌, Option, Some, None, refl, sym, ap, ap₂, ◌∙◌, subst, append-nil}
+use Rattle.std.proofs.Common.{◌≡◌, ℕ, Bool, true, false, ◌||◌, List, [], ◌∷◌, ◌++◌, Option, Some, None, refl, sym, ap, ap₂, ◌∙◌, subst}
+use Rattle.std.proofs.Common.{append-nil}
 use Rattle.std.proofs.Common.{append_assoc}
 use Rattle.std.specs.List.{list_all, list_any, flat_map}
 use Rattle.std.specs.Str.{all_scalars}
@@ -17,7 +18,8 @@ use Rattle.pylex.specs.declared.kind.Kind.TheVariants as kinds
 use Rattle.pyfstring.specs.declared.parts.Conversion.{Conversion}
 use Rattle.pytree_node.specs.declared.profiles.Extent.TheVariants.{Whole}
 use Rattle.pytoken.specs.declared.faults.TokenError.{TokenError}
-use Rattle.pytoken.specs.Terminals.{Terminal, Op, FormattedBegin, FormattedEnd, FormattedText, FieldBegin, SpecBegin, FieldEnd, terminals_by}
+use Rattle.pytoken.specs.Terminals.{Terminal, Op, FormattedBegin, FormattedEnd, FormattedText, FieldBegin, SpecBegin, FieldEnd}
+use Rattle.pytoken.specs.Terminals.{terminals_by}
 use Rattle.pytoken.specs.Terminals.{nested_expression, single_fault, field_fault}
 use Rattle.pyunparse_text.specs.Spacing.{Piece, is_token}
 use Rattle.pyunparse_text.specs.Written.{Element, Text, Field, Spec, End}
@@ -27,13 +29,16 @@ use Rattle.pyunparse_text.proofs.FieldTexts.Conditions.{IsFieldExpression, expre
 use Rattle.pyunparse_text.proofs.FieldTexts.FieldReadings.{given_by, single_terminal, has_fault_by}
 use Rattle.pyunparse_text.proofs.FieldTexts.Texts.{text_source, IsText}
 use Rattle.pyunparse_text.proofs.FieldTexts.FormattedCuts as cut
-use Rattle.pyunparse_text.proofs.FieldTexts.FormattedCuts.{is_allowed, IsWrittenField, a_written_field, AreParts, a_text, text_and_field, IsInner}
+use Rattle.pyunparse_text.proofs.FieldTexts.FormattedCuts.{is_allowed, IsWrittenField, a_written_field, AreParts, a_text, text_and_field}
+use Rattle.pyunparse_text.proofs.FieldTexts.FormattedCuts.{IsInner}
 use Rattle.pyunparse_text.proofs.FieldTexts.FormattedCuts.{IsInnerField, IsOuter, IsOuterField}
 use Rattle.pyunparse_text.proofs.FieldTexts.FormattedTerminals.{padded, as_terminals, all_terminals}
 use Rattle.pyunparse_text.proofs.FieldTexts.FormattedTokens.{formatted_token, formatted_scalars, formatted_plain}
 use Rattle.pyunparse_text.proofs.FieldTexts.FormattedFaults.{field_of, fields_of}
-use Rattle.pyunparse_text.proofs.FieldTexts.FormattedStrings.{string_terminals, nested_string_terminals, string_faultless, nested_string_faultless}
-use Rattle.pyunparse_text.proofs.PieceLaws.Places.{Depth, outside, in_field, in_two, deeper, is_inside, at, may_stand, stands, GivesIn, GiveAt}
+use Rattle.pyunparse_text.proofs.FieldTexts.FormattedStrings.{string_terminals, nested_string_terminals, string_faultless}
+use Rattle.pyunparse_text.proofs.FieldTexts.FormattedStrings.{nested_string_faultless}
+use Rattle.pyunparse_text.proofs.PieceLaws.Places.{Depth, outside, in_field, in_two, deeper, is_inside, at, may_stand, stands, GivesIn}
+use Rattle.pyunparse_text.proofs.PieceLaws.Places.{GiveAt}
 use Rattle.pyunparse_text.proofs.PieceLaws.Places.{none_given, given}
 use Rattle.pyunparse_text.proofs.PieceLaws.Sound.{HasStrings, HasFormatted, is_spec}
 use Rattle.pyunparse_text.proofs.PieceLaws.Formatted.{whole, IsField, Elements, text, Behind, no_field, field, Specified, no_spec, a_spec}
@@ -60,7 +65,8 @@ text_is : {d : Depth} (o : IsOpen d) (n : ℕ) (t : List ℕ) → HasFormatted d
 text_is out n t h = h
 text_is within n t h = h
 
-allowed : {d : Depth} (o : IsOpen d) (ps : List Piece) → list_all (stands (deeper d)) ps ≡ true → list_all (is_allowed (is_inside d)) ps ≡ true
+allowed : {d : Depth} (o : IsOpen d) (ps : List Piece) → list_all (stands (deeper d)) ps ≡ true
+    → list_all (is_allowed (is_inside d)) ps ≡ true
 allowed out [] h = refl
 allowed out (p ∷ ps) h =
     let w = and_parts (stands in_field p) (list_all (stands in_field) ps) h in
@@ -74,7 +80,8 @@ allowed out (p ∷ ps) h =
 allowed within ps h = h
 
 -- a field, by what is its spec
-written_field : {d : Depth} (o : IsOpen d) {S : Type 0} (Is : List (Element Sited) → Option S → Type 0) {c : Conversion} {ps : List Sited} {ts : List Terminal} {es : List (Element Sited)} {s : Option S}
+written_field : {d : Depth} (o : IsOpen d) {S : Type 0} (Is : List (Element Sited) → Option S → Type 0) {c : Conversion} {ps : List Sited}
+    {ts : List Terminal} {es : List (Element Sited)} {s : Option S}
     → IsField d ps ts → Is es s
     → IsWrittenField (is_inside d) Is (Field c ps ∷ (es ++ End ∷ []))
     (record { text = expression_text (in_a_field ps); kept = None; conversion = c; spec = s })
@@ -91,18 +98,21 @@ inner o no_spec = record { spec = None; is = cut.none }
 inner {d} o (a_spec (text {t = t} h no_field)) = record { spec = Some (text_source (is_inside d) true t); is = cut.one (text_is o 2 t h) }
 inner o (a_spec (text h (field n f s e))) = absurd n
 
-record Parts {S : Type 0} (d : Depth) (in_spec : Bool) (Is : List (Element Sited) → FieldParts S → Type 0) (es : List (Element Sited)) : Type 0 where
+record Parts {S : Type 0} (d : Depth) (in_spec : Bool) (Is : List (Element Sited) → FieldParts S → Type 0)
+    (es : List (Element Sited)) : Type 0 where
   parts : List (Part S)
   is : AreParts (is_inside d) in_spec Is es parts
 
 spec_parts : {d : Depth} (o : IsOpen d) {es : List (Element Sited)} {fs : List (Element Terminal)} → Elements (IsField d) d 1 es fs
     → Parts d true (IsInnerField (is_inside d)) es
-spec_parts {d} o (text {t = t} h no_field) = record { parts = text_part (text_source (is_inside d) true t) ∷ []; is = a_text (text_is o 1 t h) }
+spec_parts {d} o (text {t = t} h no_field) = record { parts = text_part (text_source (is_inside d) true t) ∷ []; is =
+    a_text (text_is o 1 t h) }
 spec_parts {d} o (text {t = t} h (field {c = c} {ps = ps} n f s e)) =
     let i = inner o s in
     let r = spec_parts o e in
     record {
-      parts = text_part (text_source (is_inside d) true t) ∷ field_part (record { text = expression_text (in_a_field ps); kept = None; conversion = c; spec = i.spec }) ∷ r.parts;
+      parts = text_part (text_source (is_inside d) true t) ∷ field_part (record { text = expression_text (in_a_field ps); kept = None;
+          conversion = c; spec = i.spec }) ∷ r.parts;
       is = text_and_field (text_is o 1 t h) (written_field o (IsInner (is_inside d)) f i.is) r.is;
     }
 
@@ -116,12 +126,14 @@ outer o (a_spec e) = let r = spec_parts o e in record { spec = Some r.parts; is 
 
 body_parts : {d : Depth} (o : IsOpen d) {es : List (Element Sited)} {fs : List (Element Terminal)} → Elements (IsField d) d 0 es fs
     → Parts d false (IsOuterField (is_inside d)) es
-body_parts {d} o (text {t = t} h no_field) = record { parts = text_part (text_source (is_inside d) false t) ∷ []; is = a_text (text_is o 0 t h) }
+body_parts {d} o (text {t = t} h no_field) = record { parts = text_part (text_source (is_inside d) false t) ∷ []; is =
+    a_text (text_is o 0 t h) }
 body_parts {d} o (text {t = t} h (field {c = c} {ps = ps} n f s e)) =
     let i = outer o s in
     let r = body_parts o e in
     record {
-      parts = text_part (text_source (is_inside d) false t) ∷ field_part (record { text = expression_text (in_a_field ps); kept = None; conversion = c; spec = i.spec }) ∷ r.parts;
+      parts = text_part (text_source (is_inside d) false t) ∷ field_part (record { text = expression_text (in_a_field ps); kept = None;
+          conversion = c; spec = i.spec }) ∷ r.parts;
       is = text_and_field (text_is o 0 t h) (written_field o (IsOuter (is_inside d)) f i.is) r.is;
     }
 
@@ -132,15 +144,18 @@ abbrev by_depth : Depth → Kind → List ℕ → List Terminal
 by_depth outside = terminals_by true nested_expression
 by_depth _ = single_terminal
 
-pieces_give : {d : Depth} (o : IsOpen d) {ps : List Piece} {ts : List Terminal} → GiveAt (whole (deeper d)) ps ts → given_by (by_depth d) ps ≡ ts
+pieces_give : {d : Depth} (o : IsOpen d) {ps : List Piece} {ts : List Terminal} → GiveAt (whole (deeper d)) ps ts
+    → given_by (by_depth d) ps ≡ ts
 pieces_give o none_given = refl
 pieces_give out (given {us = us} g s c) = ap₂ (λ x y. x ++ y) g.terminals (pieces_give out c)
 pieces_give within (given {us = us} g s c) = ap₂ (λ x y. x ++ y) g.terminals (pieces_give within c)
 
-field_gives : {d : Depth} (o : IsOpen d) {ps : List Sited} {ts : List Terminal} → IsField d ps ts → given_by (by_depth d) (in_a_field ps) ≡ ts
+field_gives : {d : Depth} (o : IsOpen d) {ps : List Sited} {ts : List Terminal} → IsField d ps ts
+    → given_by (by_depth d) (in_a_field ps) ≡ ts
 field_gives {d} o {ps} f = ap (given_by (by_depth d)) (sym (sited_at o ps)) ∙ pieces_give o f.gives
 
-all_both : (g : List Piece → List Terminal) (xs ys : List (Element Sited)) → all_terminals g (xs ++ ys) ≡ all_terminals g xs ++ all_terminals g ys
+all_both : (g : List Piece → List Terminal) (xs ys : List (Element Sited))
+    → all_terminals g (xs ++ ys) ≡ all_terminals g xs ++ all_terminals g ys
 all_both g [] ys = refl
 all_both g (x ∷ xs) ys = ap (λ es. as_terminals g x ∷ es) (all_both g xs ys)
 
@@ -180,7 +195,8 @@ module _ {d : Depth} where
         let spec : padded false (((us ++ (End ∷ [])) ++ fs) ++ rest) ≡ flat_map element_terminals us ++ (FieldEnd ∷ later) =
         ap (padded false) (append_assoc (us ++ (End ∷ [])) fs rest ∙ append_assoc us (End ∷ []) (fs ++ rest))
         ∙ (spec_turn s (End ∷ (fs ++ rest)) ∙ ap (λ x. flat_map element_terminals us ++ (FieldEnd ∷ x)) (elements_turn e rest)) in
-        let back : flat_map element_terminals ((us ++ (End ∷ [])) ++ fs) ++ padded false rest ≡ flat_map element_terminals us ++ (FieldEnd ∷ later) =
+        let back : flat_map element_terminals ((us ++ (End ∷ [])) ++ fs) ++ padded false rest ≡ flat_map element_terminals
+            us ++ (FieldEnd ∷ later) =
         ap (λ x. x ++ padded false rest)
         (flat_map-append element_terminals (us ++ (End ∷ [])) fs ∙ ap (λ x. x ++ flat_map element_terminals fs)
         (flat_map-append element_terminals us (End ∷ [])))
@@ -217,7 +233,8 @@ abbrev fault_at : Depth → Kind → List ℕ → Option TokenError
 fault_at outside = field_fault
 fault_at _ = single_fault Whole
 
-field_sound : {d : Depth} (o : IsOpen d) {ps : List Sited} {ts : List Terminal} → IsField d ps ts → has_fault_by (fault_at d) (in_a_field ps) ≡ false
+field_sound : {d : Depth} (o : IsOpen d) {ps : List Sited} {ts : List Terminal} → IsField d ps ts
+    → has_fault_by (fault_at d) (in_a_field ps) ≡ false
 field_sound out f = faults_none out field_fault (λ k t ts g. g.faultless) f.gives
 field_sound within f = faults_none within (single_fault Whole) (λ k t ts g. g.faultless) f.gives
 
@@ -255,7 +272,8 @@ a_string t h = let k = (and_parts (is_single_string t) _ h).0 in rw k (or_true _
     or_true true = refl
     or_true false = refl
 
-pub strings_read : (d : Depth) → HasStrings Whole d → (es : List (Element Sited)) (fs : List (Element Terminal)) → Elements (IsField d) d 0 es fs
+pub strings_read : (d : Depth) → HasStrings Whole d → (es : List (Element Sited)) (fs : List (Element Terminal))
+    → Elements (IsField d) d 0 es fs
     → IsString d (formatted_text (is_inside d) es) (formatted_terminals fs)
 strings_read outside s es fs x =
     let b = body_parts out x in

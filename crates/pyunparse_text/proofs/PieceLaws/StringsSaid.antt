@@ -1,7 +1,8 @@
 -- An f-string without a fault stands for terminals that can be said.
 --
 -- Carries: string_said, for OfTokens. On: SinglesSaid, SaidLists, StringTerminals.
-use Rattle.std.proofs.Common.{◌≡◌, ℕ, zero, suc, ◌-◌, Bool, true, false, not, ◌&&◌, ◌||◌, ◌==◌, List, [], ◌∷◌, ◌++◌, Option, Some, None, refl, sym}
+use Rattle.std.proofs.Common.{◌≡◌, ℕ, zero, suc, ◌-◌, Bool, true, false, not, ◌&&◌, ◌||◌, ◌==◌, List, [], ◌∷◌, ◌++◌, Option, Some, None}
+use Rattle.std.proofs.Common.{refl, sym}
 use Rattle.std.proofs.Common.{◌∙◌, ap, subst, cond, leb, arith, if◌then◌else◌}
 use Rattle.std.specs.Prelude.{nat_lt}
 use Rattle.std.specs.List.{list_all, list_any, flat_map}
@@ -37,10 +38,13 @@ use Rattle.pytoken.specs.Keywords.{keyword_of}
 use Rattle.pytoken.specs.Escapes.{escape_fault, meanings, points_in}
 use Rattle.pytoken.specs.StringValues.{with_line_feeds, is_quote, is_raw, is_bytes, is_unicode, is_formatted, body_of, points_of, value_of}
 use Rattle.pytoken.specs.StringValues.{string_value, literal_fault, string_fault, nul_fault}
-use Rattle.pytoken.specs.FormattedStrings.{Element, End, TextPart, text_meanings, text_points, is_fstring, is_bulky, is_field_of, elements_of}
+use Rattle.pytoken.specs.FormattedStrings.{Element, End, TextPart, text_meanings, text_points, is_fstring, is_bulky, is_field_of}
+use Rattle.pytoken.specs.FormattedStrings.{elements_of}
 use Rattle.pytoken.specs.FormattedStrings.{elements_fault}
-use Rattle.pytoken.specs.Terminals.{Terminal, Op, Word, Ident, Literal, FormattedBegin, FormattedEnd, FormattedText, FieldBegin, SpecBegin, FieldEnd}
-use Rattle.pytoken.specs.Terminals.{element_terminals, elements_terminals, terminal_of, terminals_by, terminals_of, single_fault, fault_by, fault_of}
+use Rattle.pytoken.specs.Terminals.{Terminal, Op, Word, Ident, Literal, FormattedBegin, FormattedEnd, FormattedText, FieldBegin, SpecBegin}
+use Rattle.pytoken.specs.Terminals.{FieldEnd}
+use Rattle.pytoken.specs.Terminals.{element_terminals, elements_terminals, terminal_of, terminals_by, terminals_of, single_fault, fault_by}
+use Rattle.pytoken.specs.Terminals.{fault_of}
 use Rattle.pytoken.specs.Terminals.{field_fault, nested_expression, expression, is_nested_faulty, is_faulty}
 use Rattle.pytoken.specs.Laws.{is_point}
 use Rattle.pytoken.proofs.Callers.Bodies.{body_all, filter_all}
@@ -55,7 +59,8 @@ use Rattle.pyunparse_text.proofs.PieceLaws.Fair.{IsConstant}
 use Rattle.pyunparse_text.proofs.PieceLaws.Sound.{HasFields}
 use Rattle.pyunparse_text.proofs.PieceLaws.Sayings.{Sayable, depth_of}
 use Rattle.pyunparse_text.proofs.PieceLaws.SaidLists.{Said, none, also}
-use Rattle.pyunparse_text.proofs.PieceLaws.SinglesSaid.{IsShallow, one_open, two_open, name_sayable, number_sayable, operator_sayable, layout_sayable}
+use Rattle.pyunparse_text.proofs.PieceLaws.SinglesSaid.{IsShallow, one_open, two_open, name_sayable, number_sayable, operator_sayable}
+use Rattle.pyunparse_text.proofs.PieceLaws.SinglesSaid.{layout_sayable}
 use Rattle.pyunparse_text.proofs.PieceLaws.SinglesSaid.{scalars_points}
 use Rattle.pyunparse_text.proofs.StringTerminals.Elements.{Laid, nothing, a_text, kept_text, a_spec, a_field, at_top, LaidIf, all_laid}
 use Rattle.pyunparse_text.proofs.StringTerminals.Faultless.{no_field_wrong, no_nul, no_nul_in, field_faultless}
@@ -63,7 +68,8 @@ use Rattle.pyunparse_text.proofs.StringTerminals.Classes.{OfClass, of_class, no_
 use Rattle.pyunparse_text.proofs.StringTerminals.Brackets.{operator_terminal}
 use Rattle.pyunparse_text.proofs.StringTerminals.FieldLexemes.{IsToken, AllTokens, no_lexeme, a_gap, a_token, IsWholeField, whole_field}
 use Rattle.pyunparse_text.proofs.StringTerminals.Scanned.{is_no_backslash, expression_calm}
-use Rattle.pyunparse_text.proofs.StringTerminals.Bodies.{weaker, joined, none_all, kept_all, kept_pass, body_kept, points_kept, single_kept, unbraced}
+use Rattle.pyunparse_text.proofs.StringTerminals.Bodies.{weaker, joined, none_all, kept_all, kept_pass, body_kept, points_kept, single_kept}
+use Rattle.pyunparse_text.proofs.StringTerminals.Bodies.{unbraced}
 
 -- ---- Terminals that can be said, with what is open behind them.
 
@@ -118,21 +124,24 @@ name_opens [] t = by (keyword_of t)
     by None = refl
 name_opens (n ∷ o) t = by (keyword_of t)
   where
-    by : (k : Option Keyword) → open_behind (n ∷ o) (elim k [ Some w ↦ Word w | None ↦ Ident (record { spelling = t; form = nfkc t }) ]) ≡ n ∷ o
+    by : (k : Option Keyword)
+        → open_behind (n ∷ o) (elim k [ Some w ↦ Word w | None ↦ Ident (record { spelling = t; form = nfkc t }) ]) ≡ n ∷ o
     by (Some w) = refl
     by None = refl
 
 -- where nothing is open but f-strings, in a field of each
 module _ {n : ℕ} {o : Open} (s : IsShallow (n ∷ o)) where
   operator_walk : (t : List ℕ) (e : Exact) → exact_of t ≡ Some e → Walk (n ∷ o) (n ∷ o) (terminal_of kinds.Op t ∷ [])
-  operator_walk t e h = subst (λ z. Walk (n ∷ o) (n ∷ o) (z ∷ [])) (sym (operator_terminal t e h)) (walk_one (Op e) (operator_sayable Whole s e) refl)
+  operator_walk t e h = subst (λ z. Walk (n ∷ o) (n ∷ o) (z ∷ [])) (sym (operator_terminal t e h))
+      (walk_one (Op e) (operator_sayable Whole s e) refl)
 
   lexeme_walk : (k : Class) (t : List ℕ) → is_gap k ≡ false → OfClass k t → single_fault Whole (kind_of k true) t ≡ None
       → (k ≡ classes.String → OfClass classes.String t → Walk (n ∷ o) (n ∷ o) (terminal_of kinds.String t ∷ []))
       → Walk (n ∷ o) (n ∷ o) (terminal_of (kind_of k true) t ∷ [])
   unfolding terminal_of single_fault
   lexeme_walk classes.Name t g c f x = walk_one (terminal_of kinds.Name t) (name_sayable Whole (n ∷ o) t c f) (name_opens (n ∷ o) t)
-  lexeme_walk classes.Number t g c f x = walk_one (terminal_of kinds.Number t) (number_sayable Whole (depth_of (n ∷ o)) (encode_utf8_all t) f) refl
+  lexeme_walk classes.Number t g c f x =
+      walk_one (terminal_of kinds.Number t) (number_sayable Whole (depth_of (n ∷ o)) (encode_utf8_all t) f) refl
   lexeme_walk classes.String t g c f x = x refl c
   lexeme_walk (classes.Operator e) t g c f x = operator_walk t e c
   lexeme_walk classes.Comment t g c f x = walk_one (terminal_of kinds.Comment t) (layout_sayable Whole s) refl
@@ -213,7 +222,8 @@ record Literally (t : List ℕ) : Type 0 where
 
 literally : (t : List ℕ) → literal_fault t ≡ None → Literally t
 unfolding literal_fault
-literally t f = by (is_formatted t) (escape_fault (meanings (is_raw t) (is_bytes t) (body_of t))) (is_bytes t && list_any (nat_lt 0x7F) t) refl f
+literally t f = by (is_formatted t) (escape_fault (meanings (is_raw t) (is_bytes t) (body_of t)))
+    (is_bytes t && list_any (nat_lt 0x7F) t) refl f
   where
     by : (a : Bool) (o : Option TokenError) (b : Bool) → (is_bytes t && list_any (nat_lt 0x7F) t) ≡ b
         → cond a (Some FString) (option_or o (cond b (Some NonAsciiBytes) (nul_fault t))) ≡ None → Literally t
@@ -232,7 +242,8 @@ small_byte c h =
     low : not (nat_lt 0x7F c) ≡ true → nat_lt c 0x80 ≡ true
     low h = grind (arith, nat_tests)
 
-value_sayable : (t : List ℕ) → list_all is_field_character (body_of t) ≡ true → list_all is_no_backslash (body_of t) ≡ true → literal_fault t ≡ None
+value_sayable : (t : List ℕ) → list_all is_field_character (body_of t) ≡ true → list_all is_no_backslash (body_of t) ≡ true
+    → literal_fault t ≡ None
     → IsConstant (record { extent = Whole; depth = in_field }) (value_of t)
 unfolding value_of points_of
 value_sayable t h b f = by (is_bytes t) refl
@@ -241,13 +252,15 @@ value_sayable t h b f = by (is_bytes t) refl
     e = points_kept (is_raw t) (is_bytes t) (body_of t) b
 
     by : (k : Bool) → is_bytes t ≡ k
-        → IsConstant (record { extent = Whole; depth = in_field }) (cond k (Values.Bytes (points_of t)) (Values.Str (points_of t) (is_unicode t)))
+        → IsConstant (record { extent = Whole; depth = in_field })
+            (cond k (Values.Bytes (points_of t)) (Values.Str (points_of t) (is_unicode t)))
     by true q =
         let a = (literally t f).ascii in
         let n : list_any (nat_lt 0x7F) t ≡ false = rw q at a in
         subst (λ z. list_all is_field_byte z ≡ true) (sym e)
         (weaker (λ c. is_field_character c && not (nat_lt 0x7F c)) is_field_byte small_byte (body_of t)
-        (joined is_field_character (λ c. not (nat_lt 0x7F c)) (body_of t) h (body_all (λ c. not (nat_lt 0x7F c)) t (none_all (nat_lt 0x7F) t n))))
+        (joined is_field_character (λ c. not (nat_lt 0x7F c)) (body_of t) h
+            (body_all (λ c. not (nat_lt 0x7F c)) t (none_all (nat_lt 0x7F) t n))))
     by false q = subst (λ z. list_all is_field_character z ≡ true) (sym e) h
 
 string_sayable : (t : List ℕ) → list_all is_calm t ≡ true → is_bulky kinds.String t ≡ false → string_fault t ≡ None
@@ -273,7 +286,8 @@ module _ (o : Open) (p : ℕ → Bool) (is_nested : Bool) (terminals : List ℕ 
   elements_walk : {k : ℕ} {es : List Element} → Laid p is_nested k es → list_any (is_field_of is_wrong) es ≡ false
       → Walk (k ∷ o) (k ∷ o) (flat_map (element_terminals terminals) es)
   elements_walk {k} nothing n = walk_none (k ∷ o)
-  elements_walk {k} (a_text {raw = raw} {t = t} {rest = rest} h w l) n = walk_both (walk_one _ (texts k raw t rest h w) refl) (elements_walk l n)
+  elements_walk {k} (a_text {raw = raw} {t = t} {rest = rest} h w l) n =
+      walk_both (walk_one _ (texts k raw t rest h w) refl) (elements_walk l n)
   elements_walk {k} (kept_text {t = t} q h l) n = walk_both (walk_one _ (kept k t q h) refl) (elements_walk l n)
   elements_walk {k} (a_spec l) n = walk_both (walk_one SpecBegin (signs k).0 refl) (elements_walk l n)
   elements_walk {k} (a_field {c = c} {t = t} {rest = rest} {ss = ss} {es = es} b h w s l) n =
@@ -301,7 +315,8 @@ unfolding exact_of operators
 brackets_are = (refl, refl)
 
 -- in its fields stands no STRING
-inner_field : (m k : ℕ) (t rest : List ℕ) → list_all is_flat t ≡ true → behind_expression (t ++ rest) ≡ Some rest → is_nested_faulty t ≡ false
+inner_field : (m k : ℕ) (t rest : List ℕ) → list_all is_flat t ≡ true → behind_expression (t ++ rest) ≡ Some rest
+    → is_nested_faulty t ≡ false
     → Walk (k ∷ (m ∷ [])) (k ∷ (m ∷ [])) (nested_expression t)
 unfolding nested_expression
 inner_field m k t rest h w n =
@@ -350,12 +365,14 @@ inner_text m k raw t rest h w = by k w
   where
     calm : (u : List ℕ) → list_all is_flat u ≡ true → flat_map points_in (meanings raw false (with_line_feeds u)) ≡ with_line_feeds u
     calm u e =
-        points_kept raw false (with_line_feeds u) (kept_all is_no_backslash (λ c. not (c == 13)) u (weaker is_flat is_no_backslash flat_calm u e))
+        points_kept raw false (with_line_feeds u)
+            (kept_all is_no_backslash (λ c. not (c == 13)) u (weaker is_flat is_no_backslash flat_calm u e))
 
     fielded : (u : List ℕ) → list_all is_flat u ≡ true → list_all is_field_character (with_line_feeds u) ≡ true
     fielded u e =
         weaker (λ c. is_flat c && not (c == 13)) is_field_character flat_field (with_line_feeds u)
-        (joined is_flat (λ c. not (c == 13)) (with_line_feeds u) (kept_all is_flat (λ c. not (c == 13)) u e) (kept_pass (λ c. not (c == 13)) u))
+        (joined is_flat (λ c. not (c == 13)) (with_line_feeds u) (kept_all is_flat (λ c. not (c == 13)) u e)
+            (kept_pass (λ c. not (c == 13)) u))
 
     in_spec : (b : Bool) (u : List ℕ) → list_all is_flat u ≡ true → list_all (λ c. cond b (is_literal_char c) true) u ≡ true
         → list_all (can_stand true b) (flat_map points_in (meanings raw false (with_line_feeds u))) ≡ true
@@ -401,14 +418,17 @@ field_string m t h n = by (is_fstring kinds.String t) f.1
     by true g = nested_walk m t h f.0 (elements_of true t) refl g
     by false g = walk_one (Literal (string_value t)) (string_sayable t h f.0 g) refl
 
-outer_lexeme : (m : ℕ) (k : Class) (t : List ℕ) → is_gap k ≡ false → OfClass k t → list_all is_calm t ≡ true → field_fault (kind_of k true) t ≡ None
+outer_lexeme : (m : ℕ) (k : Class) (t : List ℕ) → is_gap k ≡ false → OfClass k t → list_all is_calm t ≡ true
+    → field_fault (kind_of k true) t ≡ None
     → Walk (m ∷ []) (m ∷ []) (terminals_by true nested_expression (kind_of k true) t)
 unfolding terminals_by fault_by
 outer_lexeme m classes.String t g c h f = field_string m t h f
 outer_lexeme m classes.Name t g c h f = lexeme_walk one_open classes.Name t g c (field_faultless kinds.Name t f).1 (λ e c. absurd (cc))
-outer_lexeme m classes.Number t g c h f = lexeme_walk one_open classes.Number t g c (field_faultless kinds.Number t f).1 (λ e c. absurd (cc))
+outer_lexeme m classes.Number t g c h f =
+    lexeme_walk one_open classes.Number t g c (field_faultless kinds.Number t f).1 (λ e c. absurd (cc))
 outer_lexeme m (classes.Operator e) t g c h f = operator_walk one_open t e c
-outer_lexeme m classes.Comment t g c h f = lexeme_walk one_open classes.Comment t g c (field_faultless kinds.Comment t f).1 (λ e c. absurd (cc))
+outer_lexeme m classes.Comment t g c h f =
+    lexeme_walk one_open classes.Comment t g c (field_faultless kinds.Comment t f).1 (λ e c. absurd (cc))
 outer_lexeme m _ t g c h f = absurd (cc)
 
 outer_field : (k : ℕ) (t rest : List ℕ) → list_all scalar t ≡ true → behind_expression (t ++ rest) ≡ Some rest → is_faulty t ≡ false

@@ -1,7 +1,8 @@
 -- The repr of a text, with `u` before it or not, and the repr of bytes are tokens.
 --
 -- Carries: which_quote, for Scalars. On: StringFronts, Cases.
-use Rattle.std.proofs.Common.{◌≡◌, ℕ, ◌/◌, ◌%◌, ◌<◌, Bool, true, false, not, ◌&&◌, ◌||◌, ◌==◌, List, [], ◌∷◌, ◌++◌, refl, ◌∙◌, ap, subst, arith, zero}
+use Rattle.std.proofs.Common.{◌≡◌, ℕ, ◌/◌, ◌%◌, ◌<◌, Bool, true, false, not, ◌&&◌, ◌||◌, ◌==◌, List, [], ◌∷◌, ◌++◌, refl, ◌∙◌, ap, subst}
+use Rattle.std.proofs.Common.{arith, zero}
 use Rattle.std.proofs.Common.{suc, ◌⊎◌, inl, inr, ⊎_elim, append_assoc, if◌then◌else◌}
 use Rattle.std.specs.Prelude.{codes, nat_lt}
 use Rattle.std.specs.List.{list_all, list_any, flat_map}
@@ -55,8 +56,10 @@ none_skip q = (refl, λ r. refl)
 -- digits of base 16
 digit_own : (q d : ℕ) → (q ≡ 39) ⊎ (q ≡ 34) → d < 16 → Own q (digit_char d)
 digit_own q d w h = ⊎_elim
-    (λ (e : q ≡ 39). rw e (record { slash = grind (arith, nat_tests); quote = grind (arith, nat_tests); feed = grind (arith, nat_tests); return = grind (arith, nat_tests) }))
-    (λ (e : q ≡ 34). rw e (record { slash = grind (arith, nat_tests); quote = grind (arith, nat_tests); feed = grind (arith, nat_tests); return = grind (arith, nat_tests) }))
+    (λ (e : q ≡ 39). rw e (record { slash = grind (arith, nat_tests); quote = grind (arith, nat_tests); feed = grind (arith, nat_tests);
+        return = grind (arith, nat_tests) }))
+    (λ (e : q ≡ 34). rw e (record { slash = grind (arith, nat_tests); quote = grind (arith, nat_tests); feed = grind (arith, nat_tests);
+        return = grind (arith, nat_tests) }))
     w
 
 hex_skips : (q : ℕ) → (q ≡ 39) ⊎ (q ≡ 34) → (width n : ℕ) → Skips q (hex width n)
@@ -101,7 +104,8 @@ escaped_skips test q c w =
     special : (c : ℕ) → (c == 92 || c == q) ≡ true → ((c == 13) ≡ false) × ((c == 10) ≡ false)
     special c h = ⊎_elim
         (λ (e : (c == 92) ≡ true). let f : c ≡ 92 = eqb-true c 92 e in rw f (refl, refl))
-        (λ (e : (c == q) ≡ true). let f : c ≡ q = eqb-true c q e in ⊎_elim (λ (g : q ≡ 39). rw (f, g) (refl, refl)) (λ (g : q ≡ 34). rw (f, g) (refl, refl)) w)
+        (λ (e : (c == q) ≡ true). let f : c ≡ q = eqb-true c q e in
+            ⊎_elim (λ (g : q ≡ 39). rw (f, g) (refl, refl)) (λ (g : q ≡ 34). rw (f, g) (refl, refl)) w)
         (or_parts (c == 92) (c == q) h)
 
 all_skip : (test : ℕ → Bool) (q : ℕ) → (q ≡ 39) ⊎ (q ≡ 34) → (cs : List ℕ) → Skips q (flat_map (escaped test q) cs)
@@ -142,9 +146,11 @@ unfolding is_single
 literal_single test cs =
     let e = literal_ends test cs in
     ⊎_elim
-    (λ (w : quote_for cs ≡ 39). let f : ends_by_one 39 (units (flat_map (escaped test (quote_for cs)) cs ++ quote_for cs ∷ [])) ≡ true = subst (λ (q : ℕ). ends_by_one q (units (flat_map (escaped test (quote_for cs)) cs ++ quote_for cs ∷ [])) ≡ true) w e in
+    (λ (w : quote_for cs ≡ 39). let f : ends_by_one 39 (units (flat_map (escaped test (quote_for cs)) cs ++ quote_for cs ∷ [])) ≡ true =
+        subst (λ (q : ℕ). ends_by_one q (units (flat_map (escaped test (quote_for cs)) cs ++ quote_for cs ∷ [])) ≡ true) w e in
     first (quote_for cs == 39) (ends_by_one 39 (units (flat_map (escaped test (quote_for cs)) cs ++ quote_for cs ∷ []))) _ (rw w refl) f)
-    (λ (w : quote_for cs ≡ 34). let f : ends_by_one 34 (units (flat_map (escaped test (quote_for cs)) cs ++ quote_for cs ∷ [])) ≡ true = subst (λ (q : ℕ). ends_by_one q (units (flat_map (escaped test (quote_for cs)) cs ++ quote_for cs ∷ [])) ≡ true) w e in
+    (λ (w : quote_for cs ≡ 34). let f : ends_by_one 34 (units (flat_map (escaped test (quote_for cs)) cs ++ quote_for cs ∷ [])) ≡ true =
+        subst (λ (q : ℕ). ends_by_one q (units (flat_map (escaped test (quote_for cs)) cs ++ quote_for cs ∷ [])) ≡ true) w e in
     second _ (quote_for cs == 34) (ends_by_one 34 (units (flat_map (escaped test (quote_for cs)) cs ++ quote_for cs ∷ []))) (rw w refl) f)
     (which_quote cs)
   where
@@ -182,7 +188,9 @@ pub text_token : (cs : List ℕ) → is_token kinds.String (repr_chars cs) ≡ t
 text_token cs = let s = whole_literal is_unprintable cs in let l = literal_in_line is_unprintable cs in rw (s, l) refl
 
 pub marked_token : (cs : List ℕ) → is_token kinds.String (117 ∷ repr_chars cs) ≡ true
-marked_token cs = let s = prefixed_literal 117 is_unprintable cs letter_prefix.1 in let l = literal_in_line is_unprintable cs in rw (s, l) refl
+marked_token cs = let s = prefixed_literal 117 is_unprintable cs letter_prefix.1 in let l =
+    literal_in_line is_unprintable cs in rw (s, l) refl
 
 pub bytes_token : (bs : List ℕ) → is_token kinds.String (repr_bytes bs) ≡ true
-bytes_token bs = let s = prefixed_literal 98 is_unprintable_byte bs letter_prefix.0 in let l = literal_in_line is_unprintable_byte bs in rw (s, l) refl
+bytes_token bs = let s = prefixed_literal 98 is_unprintable_byte bs letter_prefix.0 in let l =
+    literal_in_line is_unprintable_byte bs in rw (s, l) refl

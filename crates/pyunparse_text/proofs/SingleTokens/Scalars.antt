@@ -1,7 +1,8 @@
 -- The characters of reprs are scalars.
 --
 -- Carries: what pyunparse_text cites. On: Bytes, Literals, Cases.
-use Rattle.std.proofs.Common.{◌≡◌, ℕ, ◌/◌, ◌%◌, ◌≤◌, ◌<◌, Bool, true, false, ◌||◌, ◌==◌, List, [], ◌∷◌, ◌++◌, refl, sym, ◌∙◌, arith, zero, suc, ◌⊎◌}
+use Rattle.std.proofs.Common.{◌≡◌, ℕ, ◌/◌, ◌%◌, ◌≤◌, ◌<◌, Bool, true, false, ◌||◌, ◌==◌, List, [], ◌∷◌, ◌++◌, refl, sym, ◌∙◌, arith, zero}
+use Rattle.std.proofs.Common.{suc, ◌⊎◌}
 use Rattle.std.proofs.Common.{inl, ⊎_elim, if◌then◌else◌, leb}
 use Rattle.std.specs.Prelude.{codes, nat_lt}
 use Rattle.std.specs.List.{list_all, flat_map}
@@ -35,7 +36,8 @@ hex_scalar (suc width) n =
 pub escape_scalar : (c : ℕ) → all_scalars (hex_escape c) ≡ true
 escape_scalar c = by (nat_lt c 0x100) (nat_lt c 0x1_0000)
   where
-    by : (a b : Bool) → all_scalars (if a then codes "\\x" ++ hex 2 c else (if b then codes "\\u" ++ hex 4 c else codes "\\U" ++ hex 8 c)) ≡ true
+    by : (a b : Bool) → all_scalars (if a then codes "\\x" ++ hex 2 c else (if b then codes "\\u" ++ hex 4 c else codes "\\U" ++ hex 8 c)) ≡
+        true
     by true b = scalars_both (92 ∷ 120 ∷ []) (hex 2 c) refl (hex_scalar 2 c)
     by false true = scalars_both (92 ∷ 117 ∷ []) (hex 4 c) refl (hex_scalar 4 c)
     by false false = scalars_both (92 ∷ 85 ∷ []) (hex 8 c) refl (hex_scalar 8 c)
@@ -60,19 +62,22 @@ escaped_scalar test q c w own =
     plain false e = own e
 
     others : (t n r : Bool)
-        → all_scalars (if t then codes "\\t" else (if n then codes "\\n" else (if r then codes "\\r" else (if test c then hex_escape c else c ∷ [])))) ≡ true
+        → all_scalars (if t then codes "\\t" else
+            (if n then codes "\\n" else (if r then codes "\\r" else (if test c then hex_escape c else c ∷ [])))) ≡ true
     others true n r = refl
     others false true r = refl
     others false false true = refl
     others false false false = plain (test c) refl
 
-quoted_scalar : (test p : ℕ → Bool) → ((c : ℕ) → p c ≡ true → test c ≡ false → all_scalars (c ∷ []) ≡ true) → (cs : List ℕ) → list_all p cs ≡ true
+quoted_scalar : (test p : ℕ → Bool) → ((c : ℕ) → p c ≡ true → test c ≡ false → all_scalars (c ∷ []) ≡ true)
+    → (cs : List ℕ) → list_all p cs ≡ true
     → all_scalars (quoted test cs) ≡ true
 quoted_scalar test p f cs a =
     let q : ℕ = quote_for cs in
     let w = which_quote cs in
     let s : all_scalars (q ∷ []) ≡ true = ⊎_elim (λ (e : q ≡ 39). rw e refl) (λ (e : q ≡ 34). rw e refl) w in
-    scalars_both (q ∷ []) (flat_map (escaped test q) cs ++ q ∷ []) s (scalars_both (flat_map (escaped test q) cs) (q ∷ []) (each cs q w a) s)
+    scalars_both (q ∷ []) (flat_map (escaped test q) cs ++ q ∷ []) s
+        (scalars_both (flat_map (escaped test q) cs) (q ∷ []) (each cs q w a) s)
   where
     each : (cs : List ℕ) (q : ℕ) → (q ≡ 39) ⊎ (q ≡ 34) → list_all p cs ≡ true → all_scalars (flat_map (escaped test q) cs) ≡ true
     each [] q w a = refl

@@ -1,7 +1,8 @@
 -- The bytes of characters.
 --
 -- Carries: scalars_both, bytes_pass, first_byte, for Decoding, Scalars.
-use Rattle.std.proofs.Common.{◌≡◌, ℕ, ◌+◌, ◌/◌, ◌≤◌, ◌<◌, Bool, true, false, List, [], ◌∷◌, ◌++◌, length, refl, ◌∙◌, arith, leb, ltb, cond, ⊎_elim}
+use Rattle.std.proofs.Common.{◌≡◌, ℕ, ◌+◌, ◌/◌, ◌≤◌, ◌<◌, Bool, true, false, List, [], ◌∷◌, ◌++◌, length, refl, ◌∙◌, arith, leb, ltb, cond}
+use Rattle.std.proofs.Common.{⊎_elim}
 use Rattle.std.specs.List.{list_all}
 use Rattle.std.specs.Str.{encode_utf8_all, all_scalars}
 use Rattle.std.proofs.Math.Utf8.{encode, next, scalar}
@@ -26,7 +27,9 @@ high c h =
     rw e (two (ltb c 2048) (ltb c 65536))
   where
     two : (a b : Bool)
-        → list_all (leb 128) (cond a ((192 + c / 64) ∷ next c ∷ []) (cond b ((224 + c / 4096) ∷ next (c / 64) ∷ next c ∷ []) ((240 + c / 262144) ∷ next (c / 4096) ∷ next (c / 64) ∷ next c ∷ []))) ≡ true
+        → list_all (leb 128)
+            (cond a ((192 + c / 64) ∷ next c ∷ []) (cond b ((224 + c / 4096) ∷ next (c / 64) ∷ next c ∷ [])
+            ((240 + c / 262144) ∷ next (c / 4096) ∷ next (c / 64) ∷ next c ∷ []))) ≡ true
     two true b = rw (least 192 (c / 64) (omega arith), next_high c) refl
     two false true = rw (least 224 (c / 4096) (omega arith), next_high (c / 64), next_high c) refl
     two false false = rw (least 240 (c / 262144) (omega arith), next_high (c / 4096), next_high (c / 64), next_high c) refl
@@ -38,7 +41,8 @@ weaker p f (b ∷ bs) e =
     rw (f b (leb-true 128 b q.0), weaker p f bs q.1) refl
 
 -- What each character passes, and each byte past ASCII, each byte passes.
-pub bytes_pass : (p : ℕ → Bool) → ((b : ℕ) → 128 ≤ b → p b ≡ true) → (cs : List ℕ) → list_all p cs ≡ true → list_all p (encode_utf8_all cs) ≡ true
+pub bytes_pass : (p : ℕ → Bool) → ((b : ℕ) → 128 ≤ b → p b ≡ true) → (cs : List ℕ) → list_all p cs ≡ true
+    → list_all p (encode_utf8_all cs) ≡ true
 bytes_pass p f [] e = refl
 bytes_pass p f (c ∷ cs) e =
     let q = and_parts (p c) (list_all p cs) e in
@@ -54,12 +58,14 @@ begins_all p f [] r e h = absurd (omega arith)
 begins_all p f (b ∷ bs) r e h = let q = and_parts (leb 128 b) (list_all (leb 128) bs) e in f b (leb-true 128 b q.0)
 
 -- the first byte of a text
-pub first_byte : (p : ℕ → Bool) → ((b : ℕ) → 128 ≤ b → p b ≡ false) → (cs : List ℕ) → begins p cs ≡ false → begins p (encode_utf8_all cs) ≡ false
+pub first_byte : (p : ℕ → Bool) → ((b : ℕ) → 128 ≤ b → p b ≡ false) → (cs : List ℕ) → begins p cs ≡ false
+    → begins p (encode_utf8_all cs) ≡ false
 first_byte p f [] e = refl
 first_byte p f (c ∷ cs) e =
     ⊎_elim
     (λ (h : c < 128). rw (encode_ascii c h) e)
-    (λ (h : 128 ≤ c). let l = length-encode c in let b = len_utf8_bounds c in begins_all p f (encode c) (encode_utf8_all cs) (high c h) (omega arith))
+    (λ (h : 128 ≤ c). let l = length-encode c in let b = len_utf8_bounds c in
+        begins_all p f (encode c) (encode_utf8_all cs) (high c h) (omega arith))
     (cases_lt c 128)
 
 pub scalars_both : (a b : List ℕ) → all_scalars a ≡ true → all_scalars b ≡ true → all_scalars (a ++ b) ≡ true

@@ -1,6 +1,7 @@
 -- Carries: the law of clear lines. On: why no token of written lines refuses their source: none has
 -- a fault, not too many brackets are open at once, and no line begins with tabs and spaces.
-use Rattle.std.proofs.Common.{◌≡◌, ℕ, ◌+◌, ◌-◌, zero, suc, Bool, true, false, not, ◌&&◌, ◌||◌, ◌==◌, cond, List, [], ◌∷◌, ◌++◌, map, replicate}
+use Rattle.std.proofs.Common.{◌≡◌, ℕ, ◌+◌, ◌-◌, zero, suc, Bool, true, false, not, ◌&&◌, ◌||◌, ◌==◌, cond, List, [], ◌∷◌, ◌++◌, map}
+use Rattle.std.proofs.Common.{replicate}
 use Rattle.std.proofs.Common.{Option, Some, None, refl, sym, ◌∙◌, ap, subst, arith, append_assoc, ⊎_elim, if◌then◌else◌}
 use Rattle.std.specs.Prelude.{count_by, nat_lt, nat_le, All}
 use Rattle.std.specs.List.{list_all}
@@ -29,10 +30,12 @@ use Rattle.pytoken.specs.declared.refusals.Refusal.TheVariants as refusals
 use Rattle.pytoken.specs.Brackets.{opens as entry_opens, closes as entry_closes}
 use Rattle.pytoken.specs.Indentation.{Margin, margins, are_alike, is_mixed_past, same_bool}
 use Rattle.pytoken.specs.Terminals.{fault_of, fault_by, single_fault}
-use Rattle.pytoken.specs.Refusals.{most_brackets, entry_refusal, first_entry_refusal, bracket_refusal, first_too_deep, first_mixed, refusal_of}
+use Rattle.pytoken.specs.Refusals.{most_brackets, entry_refusal, first_entry_refusal, bracket_refusal, first_too_deep, first_mixed}
+use Rattle.pytoken.specs.Refusals.{refusal_of}
 use Rattle.pytoken.specs.Refusals.{refusal_at, refusal}
 use Rattle.pyunparse_text.specs.Spacing.{Piece, Line, is_operator_kind, are_readable}
-use Rattle.pyunparse_text.specs.Tokens.{PlainToken, token_at, token_of, exact_in, newline, indent, dedent, end_marker, level_tokens, line_tokens}
+use Rattle.pyunparse_text.specs.Tokens.{PlainToken, token_at, token_of, exact_in, newline, indent, dedent, end_marker, level_tokens}
+use Rattle.pyunparse_text.specs.Tokens.{line_tokens}
 use Rattle.pyunparse_text.specs.Tokens.{tokens_behind, is_opening, is_closing, opens, closes, closes_all, opens_within, is_even, is_written}
 use Rattle.pyunparse_text.specs.Tokens.{are_written, rise_by_one, IsListedAs}
 use Rattle.pyunparse_text.specs.SpacingLaws.{IsClear}
@@ -88,7 +91,8 @@ module _ (extent : Extent) where
   pieces_faultless : (ps : List Piece) → All (λ p. fault_of extent p.kind p.text ≡ None) ps → Faultless (map token_of ps)
   pieces_faultless [] h = tt
   pieces_faultless (p ∷ ps) h =
-      (All-head (λ p. fault_of extent p.kind p.text ≡ None) p ps h, pieces_faultless ps (All-tail (λ p. fault_of extent p.kind p.text ≡ None) p ps h))
+      (All-head (λ p. fault_of extent p.kind p.text ≡ None) p ps h,
+          pieces_faultless ps (All-tail (λ p. fault_of extent p.kind p.text ≡ None) p ps h))
 
   lines_faultless : (m : ℕ) (ls : List Line) → All (IsClear extent) ls → Faultless (tokens_behind m ls)
   lines_faultless m [] h =
@@ -103,7 +107,8 @@ module _ (extent : Extent) where
   none_refused : (text : List ℕ) (es : List Entry) → Faultless (map (token_at text) es) → first_entry_refusal extent text es ≡ None
   none_refused text [] h = refl
   none_refused text (e ∷ es) h =
-      let f : entry_refusal extent text e ≡ None = ap (λ (o : Option TokenError). elim o [ Some x ↦ Some (refusals.Token x e.start) | None ↦ None ]) h.0 in
+      let f : entry_refusal extent text e ≡ None =
+          ap (λ (o : Option TokenError). elim o [ Some x ↦ Some (refusals.Token x e.start) | None ↦ None ]) h.0 in
       rw f (none_refused text es h.1)
 
 -- ---- Brackets, by the operators that the tokens are.
@@ -241,13 +246,15 @@ lines_shallow extent m (l ∷ ls) w h =
     let b = and_parts (are_readable l.pieces) (closes_all 0 l.pieces && list_all _ l.pieces) a.0 in
     let c = and_parts (closes_all 0 l.pieces) _ b.1 in
     let rest : List PlainToken = tokens_behind l.level ls in
-    let r : shallow most_brackets 0 (map exact_in (newline ∷ rest)) ≡ true = lines_shallow extent l.level ls a.1 (All-tail (IsClear extent) l ls h) in
+    let r : shallow most_brackets 0 (map exact_in (newline ∷ rest)) ≡ true =
+        lines_shallow extent l.level ls a.1 (All-tail (IsClear extent) l ls h) in
     let p : shallow most_brackets 0 (map exact_in (map token_of l.pieces) ++ map exact_in (newline ∷ rest)) ≡ true =
     pieces_shallow most_brackets 0 l.pieces (map exact_in (newline ∷ rest)) c.0 (All-head (IsClear extent) l ls h).shallow r in
     let q =
     plain_shallow most_brackets 0 (level_tokens m l.level) (map exact_in (map token_of l.pieces) ++ map exact_in (newline ∷ rest))
     (level_plain m l.level) p in
-    let s : map exact_in (tokens_behind m (l ∷ ls)) ≡ map exact_in (level_tokens m l.level) ++ (map exact_in (map token_of l.pieces) ++ map exact_in (newline ∷ rest)) =
+    let s : map exact_in (tokens_behind m (l ∷ ls)) ≡ map exact_in (level_tokens m l.level) ++
+        (map exact_in (map token_of l.pieces) ++ map exact_in (newline ∷ rest)) =
     ap (map exact_in)
     (append_assoc (level_tokens m l.level) (map token_of l.pieces ++ newline ∷ []) rest ∙ ap (λ u. level_tokens m l.level ++ u)
     (append_assoc (map token_of l.pieces) (newline ∷ []) rest))
@@ -267,7 +274,8 @@ alike v w a b =
     let y : w.eight ≡ w.one = eqb-true w.eight w.one b in
     let f = agrees (nat_lt v.one w.one) in
     let g = agrees (nat_lt w.one v.one) in
-    let h : (same_bool (nat_lt v.one w.one) (nat_lt v.one w.one) && same_bool (nat_lt w.one v.one) (nat_lt w.one v.one)) ≡ true = rw (f, g) refl in
+    let h : (same_bool (nat_lt v.one w.one) (nat_lt v.one w.one) && same_bool (nat_lt w.one v.one) (nat_lt w.one v.one)) ≡
+        true = rw (f, g) refl in
     rw (x, y) h
 
 not_mixed : (between earlier : List Margin) (m : Margin) → list_all is_even earlier ≡ true → is_even m ≡ true
@@ -300,28 +308,33 @@ all_none (Some r) b c e f g = absurd (cc)
 all_none None (Some r) c e f g = absurd (cc)
 all_none None None c e f g = g
 
-none_stands : (f : Option ListingFault) (r : Option Refusal) → f ≡ None → r ≡ None → ◌≡◌ {A = Option Refusal} (elim f [ Some x ↦ Some (refusals.Listing x) | None ↦ r ]) None
+none_stands : (f : Option ListingFault) (r : Option Refusal) → f ≡ None → r ≡ None
+    → ◌≡◌ {A = Option Refusal} (elim f [ Some x ↦ Some (refusals.Listing x) | None ↦ r ]) None
 none_stands (Some x) r e h = absurd (cc)
 none_stands None r e h = h
 
-first_none : (o : Option TokenError) (p : Place) (r : Option Refusal) → o ≡ None → r ≡ None → option_or (elim o [ Some x ↦ Some (refusals.Token x p) | None ↦ None ]) r ≡ None
+first_none : (o : Option TokenError) (p : Place) (r : Option Refusal) → o ≡ None → r ≡ None
+    → option_or (elim o [ Some x ↦ Some (refusals.Token x p) | None ↦ None ]) r ≡ None
 first_none (Some x) p r e h = absurd (cc)
 first_none None p r e h = h
 
-pub clear : (extent : Extent) (s : Source) (ls : List Line) → are_written ls ≡ true → All (IsClear extent) ls → IsListedAs s (tokens_behind 0 ls)
+pub clear : (extent : Extent) (s : Source) (ls : List Line) → are_written ls ≡ true → All (IsClear extent) ls
+    → IsListedAs s (tokens_behind 0 ls)
     → refusal extent s ≡ None
 unfolding refusal_at
 clear extent s ls w h i =
     let a = and_parts (list_all is_written ls) (rise_by_one 0 ls) w in
     let f : listing_fault (listing s) ≡ None = ap listing_fault i.listed ∙ no_fault i.entries in
-    let e : entries_of (listing s) ≡ encoding_entry ∷ i.entries = ap entries_of i.listed ∙ ap (λ x. encoding_entry ∷ x) (entries_all i.entries) in
+    let e : entries_of (listing s) ≡ encoding_entry ∷ i.entries = ap entries_of i.listed
+        ∙ ap (λ x. encoding_entry ∷ x) (entries_all i.entries) in
     let t : first_entry_refusal extent s.text (encoding_entry ∷ i.entries) ≡ None =
     first_none _ _ _ (layout_faultless extent kinds.Encoding _ refl)
     (none_refused extent s.text i.entries (subst (Faultless extent) (sym i.tokens) (lines_faultless extent 0 ls h))) in
     let d : first_too_deep most_brackets [] (encoding_entry ∷ i.entries) ≡ None =
     deep_none most_brackets 0 (encoding_entry ∷ []) i.entries refl
     (subst (λ os. shallow most_brackets 0 os ≡ true) (sym i.exacts) (lines_shallow extent 0 ls a.0 h)) in
-    let m : first_mixed [] (margins s.text (entries_of (listing s))) ≡ None = none_mixed [] (margins s.text (entries_of (listing s))) refl i.even in
+    let m : first_mixed [] (margins s.text (entries_of (listing s))) ≡ None =
+        none_mixed [] (margins s.text (entries_of (listing s))) refl i.even in
     none_stands (listing_fault (listing s)) (refusal_of extent most_brackets s.text (entries_of (listing s))) f
     (all_none (first_entry_refusal extent s.text (entries_of (listing s))) (first_too_deep most_brackets [] (entries_of (listing s)))
     (first_mixed [] (margins s.text (entries_of (listing s))))

@@ -2,7 +2,8 @@
 --
 -- Carries: lines_scalars, lines_source, lines_chars, for Law, Relisting, Runs. On:
 -- PieceFronts, Bytes, Cases, Fronts and 1 more.
-use Rattle.std.proofs.Common.{◌≡◌, ℕ, zero, suc, ◌+◌, ◌*◌, ◌≤◌, ◌<◌, Bool, true, false, not, ◌&&◌, ◌==◌, List, [], ◌∷◌, ◌++◌, map, length, get_or}
+use Rattle.std.proofs.Common.{◌≡◌, ℕ, zero, suc, ◌+◌, ◌*◌, ◌≤◌, ◌<◌, Bool, true, false, not, ◌&&◌, ◌==◌, List, [], ◌∷◌, ◌++◌, map, length}
+use Rattle.std.proofs.Common.{get_or}
 use Rattle.std.proofs.Common.{take, drop, refl, sym, ◌∙◌, ap, subst, arith, eqb, append_assoc, replicate, None, if◌then◌else◌}
 use Rattle.std.specs.Prelude.{Ok, slice_index_or}
 use Rattle.std.specs.List.{list_all, list_any, prefix_len}
@@ -46,10 +47,12 @@ part_in_line : (c : ℕ) → is_xid_continue c ≡ true → is_comment_part c �
 part_in_line c e =
     let f : (c == 10) ≡ false =
     cases (c == 10)
-    (λ h. let z : is_xid_continue 10 ≡ true = subst (λ (x : ℕ). is_xid_continue x ≡ true) (eqb-true c 10 h) e in let y = is_xid_continue-ascii 10 (omega arith) in cc) in
+    (λ h. let z : is_xid_continue 10 ≡ true = subst (λ (x : ℕ). is_xid_continue x ≡ true) (eqb-true c 10 h) e in let y =
+        is_xid_continue-ascii 10 (omega arith) in cc) in
     let g : (c == 13) ≡ false =
     cases (c == 13)
-    (λ h. let z : is_xid_continue 13 ≡ true = subst (λ (x : ℕ). is_xid_continue x ≡ true) (eqb-true c 13 h) e in let y = is_xid_continue-ascii 13 (omega arith) in cc) in
+    (λ h. let z : is_xid_continue 13 ≡ true = subst (λ (x : ℕ). is_xid_continue x ≡ true) (eqb-true c 13 h) e in let y =
+        is_xid_continue-ascii 13 (omega arith) in cc) in
     rw (f, g) refl
 
 all_by : (p q : ℕ → Bool) → ((c : ℕ) → p c ≡ true → q c ≡ true) → (t : List ℕ) → list_all p t ≡ true → list_all q t ≡ true
@@ -109,7 +112,8 @@ tokens_in (q ∷ qs) e =
     rw (token_in_line q.kind q.text h.0, tokens_in qs h.1) refl
 
 -- What no token begins with
-quiet_off : (c : ℕ) → Off c → is_decimal_digit c ≡ false → list_any (eqb c) (heads words) ≡ false → (k : Kind) (t r : List ℕ) → is_token k t ≡ true
+quiet_off : (c : ℕ) → Off c → is_decimal_digit c ≡ false → list_any (eqb c) (heads words) ≡ false
+    → (k : Kind) (t r : List ℕ) → is_token k t ≡ true
     → begins (λ d. d == c) (t ++ r) ≡ false
 quiet_off c o n s k [] r e = absurd (none_empty k e)
 quiet_off c o n s k (d ∷ t) r e = cases (d == c) (λ h.
@@ -246,7 +250,8 @@ line_good l p = first_given_none (bad_at Utf8 (bytes_of l)) 0 (length (bytes_of 
     no_returns : list_all (λ b. not (b == 13)) (bytes_of l) ≡ true
     no_returns =
         both_in (λ b. not (b == 13)) (encode_utf8_all (front_of l)) (10 ∷ [])
-        (all_by is_comment_part (λ b. not (b == 13)) (λ c e. rw (not_parts c e).1 refl) (encode_utf8_all (front_of l)) (front_bytes l p)) refl
+        (all_by is_comment_part (λ b. not (b == 13)) (λ c e. rw (not_parts c e).1 refl) (encode_utf8_all (front_of l)) (front_bytes l p))
+            refl
 
     no_return : (k : ℕ) → k < length (bytes_of l) → (get_or (bytes_of l) k 0 == 13) ≡ false
     no_return k h = off (get_or (bytes_of l) k 0 == 13) (all_at (λ b. not (b == 13)) (bytes_of l) k no_returns h)
@@ -268,7 +273,8 @@ no_cookie : (n : ℕ) (r : List ℕ) → begins is_blank r ≡ false → begins 
 no_cookie n r b h =
     let l : prefix_len is_blank (replicate n 32 ++ r) ≡ length (replicate n 32) =
     run_ends is_blank (replicate n 32) r (blanks_in is_blank n refl) b in
-    let d : drop_while is_blank (replicate n 32 ++ r) ≡ r = ap (λ k. drop k (replicate n 32 ++ r)) l ∙ drop-append_seam (replicate n 32) r in
+    let d : drop_while is_blank (replicate n 32 ++ r) ≡ r = ap (λ k. drop k (replicate n 32 ++ r)) l
+        ∙ drop-append_seam (replicate n 32) r in
     rw (d, none r h) refl
   where
     none : (r : List ℕ) → begins (λ b. b == 35) r ≡ false → (get_or r 0 0 == 35) ≡ false
@@ -283,11 +289,14 @@ high_hash b h = grind (arith, nat_tests)
 
 line_quiet : (l : Line) → Plainly l → Quiet (bytes_of l)
 line_quiet l p = record {
-  unmarked = subst (λ (u : List ℕ). has_mark u ≡ false) (line_encoded l) (no_mark (line_text l) (unmarked (4 * l.level) (spaced l.pieces ++ 10 ∷ []) (spaced_quiet 65279 mark_off refl refl l.pieces (10 ∷ []) p.readable)));
+  unmarked = subst (λ (u : List ℕ). has_mark u ≡ false) (line_encoded l)
+      (no_mark (line_text l) (unmarked (4 * l.level) (spaced l.pieces ++ 10 ∷ [])
+      (spaced_quiet 65279 mark_off refl refl l.pieces (10 ∷ []) p.readable)));
   silent = subst (λ (u : List ℕ). cookie_of u ≡ []) (sym split)
       (no_cookie (4 * l.level) (encode_utf8_all (spaced l.pieces ++ 10 ∷ []))
       (first_byte is_blank high_blank (spaced l.pieces ++ 10 ∷ []) (spaced_unblank l.pieces (10 ∷ []) p.readable))
-      (first_byte (λ b. b == 35) high_hash (spaced l.pieces ++ 10 ∷ []) (spaced_quiet 35 hash_off refl refl l.pieces (10 ∷ []) p.readable)));
+      (first_byte (λ b. b == 35) high_hash (spaced l.pieces ++ 10 ∷ [])
+          (spaced_quiet 35 hash_off refl refl l.pieces (10 ∷ []) p.readable)));
 }
   where
     unmarked : (n : ℕ) (r : List ℕ) → begins (λ d. d == 65279) r ≡ false → begins (λ d. d == 65279) (replicate n 32 ++ r) ≡ false

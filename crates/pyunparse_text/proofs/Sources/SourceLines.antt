@@ -1,7 +1,8 @@
 -- The tokens of a source that is written lines, and its logical lines.
 --
 -- Carries: tokens_are, lines_are, for Law. On: Relisting, PieceFronts.
-use Rattle.std.proofs.Common.{◌≡◌, ℕ, ◌+◌, ◌-◌, ◌<◌, ◌≤◌, Bool, true, false, ◌&&◌, List, [], ◌∷◌, ◌++◌, map, refl, sym, ◌∙◌, ap, subst, arith, zero}
+use Rattle.std.proofs.Common.{◌≡◌, ℕ, ◌+◌, ◌-◌, ◌<◌, ◌≤◌, Bool, true, false, ◌&&◌, List, [], ◌∷◌, ◌++◌, map, refl, sym, ◌∙◌, ap, subst}
+use Rattle.std.proofs.Common.{arith, zero}
 use Rattle.std.proofs.Common.{suc, replicate, ⊎_elim, append_assoc, if◌then◌else◌, ltb}
 use Rattle.std.specs.Prelude.{count_by, nat_lt, nat_le}
 use Rattle.std.specs.List.{list_all}
@@ -16,7 +17,8 @@ use Rattle.pylex.specs.Listing.{Source, listing}
 use Rattle.pylex.specs.Steps.{entries_of}
 use Rattle.pylex_lexeme.proofs.Callers.Booleans.{and_parts}
 use Rattle.pyunparse_text.specs.Spacing.{Piece, Line, is_token, are_readable}
-use Rattle.pyunparse_text.specs.Tokens.{PlainToken, token_at, token_of, newline, indent, dedent, end_marker, level_tokens, line_tokens, tokens_behind}
+use Rattle.pyunparse_text.specs.Tokens.{PlainToken, token_at, token_of, newline, indent, dedent, end_marker, level_tokens, line_tokens}
+use Rattle.pyunparse_text.specs.Tokens.{tokens_behind}
 use Rattle.pyunparse_text.specs.Tokens.{is_written, are_written, rise_by_one, IsListedAs, PlainLine, unplaced, unplaced_line, token_line}
 use Rattle.pytoken.specs.Tokens.{is_open, tokens_of_entry, tokens_from, tokens, lines}
 use Rattle.pytoken.specs.Tokens as source
@@ -68,7 +70,8 @@ one_token text e o kinds.Comment k h = cc
 one_token text e o kinds.Nl k h = cc
 
 -- and says whether a line is open after it
-open_behind : (e : Entry) (before : List Entry) (o : Bool) (k : Kind) → e.kind ≡ k → has_place o k ≡ true → is_open (e ∷ before) ≡ opens_line k
+open_behind : (e : Entry) (before : List Entry) (o : Bool) (k : Kind) → e.kind ≡ k → has_place o k ≡ true
+    → is_open (e ∷ before) ≡ opens_line k
 open_behind e before o kinds.Name k h = rw k refl
 open_behind e before o kinds.Number k h = rw k refl
 open_behind e before o kinds.String k h = rw k refl
@@ -111,7 +114,8 @@ piece_place o kinds.Indent t e = cc
 piece_place o kinds.Dedent t e = cc
 piece_place o kinds.EndMarker t e = cc
 
-pieces_flow : (ps : List Piece) (ts : List PlainToken) → ArePieces ps → flows false ts ≡ true → flows true (map token_of ps ++ newline ∷ ts) ≡ true
+pieces_flow : (ps : List Piece) (ts : List PlainToken) → ArePieces ps → flows false ts ≡ true
+    → flows true (map token_of ps ++ newline ∷ ts) ≡ true
 pieces_flow [] ts a f = f
 pieces_flow (p ∷ ps) ts a f =
     let h = and_parts (is_token p.kind p.text) (list_all (λ q. is_token q.kind q.text) ps) a in
@@ -135,7 +139,8 @@ level_flows m n ts f = by (nat_lt m n) (m - n)
     by false zero = f
     by false (suc k) = by false k
 
-shift_line : (m : ℕ) (l : Line) (ts : List PlainToken) → line_tokens m l ++ ts ≡ level_tokens m l.level ++ (map token_of l.pieces ++ newline ∷ ts)
+shift_line : (m : ℕ) (l : Line) (ts : List PlainToken) → line_tokens m l ++ ts ≡ level_tokens m l.level ++
+    (map token_of l.pieces ++ newline ∷ ts)
 shift_line m l ts =
     append_assoc (level_tokens m l.level) (map token_of l.pieces ++ newline ∷ []) ts
     ∙ ap (λ u. level_tokens m l.level ++ u) (append_assoc (map token_of l.pieces) (newline ∷ []) ts)
@@ -155,7 +160,8 @@ pub tokens_are : (s : Source) (ls : List Line) → are_written ls ≡ true → I
 unfolding tokens
 tokens_are s ls w i =
     let a = and_parts (list_all is_written ls) (rise_by_one 0 ls) w in
-    let e : entries_of (listing s) ≡ encoding_entry ∷ i.entries = ap entries_of i.listed ∙ ap (λ x. encoding_entry ∷ x) (entries_all i.entries) in
+    let e : entries_of (listing s) ≡ encoding_entry ∷ i.entries = ap entries_of i.listed
+        ∙ ap (λ x. encoding_entry ∷ x) (entries_all i.entries) in
     let f : flows false (map (token_at s.text) i.entries) ≡ true =
     subst (λ (ts : List PlainToken). flows false ts ≡ true) (sym i.tokens) (lines_flow 0 ls a.0) in
     ap (λ es. map unplaced (tokens_from s.text [] es)) e ∙ all_tokens s.text (encoding_entry ∷ []) i.entries f ∙ i.tokens
@@ -209,7 +215,8 @@ level_is_behind m n us before h c =
     (λ (i : m < n).
     let e : ltb m n ≡ true = grind (arith, nat_tests) in
     let z : n ≡ suc m = omega arith in
-    rw e (record { passed = indent n ∷ before; counted = subst (λ (x : ℕ). Counted x (indent n ∷ before)) (sym z) (counted_indent m n before c); same = refl }))
+    rw e (record { passed = indent n ∷ before; counted = subst (λ (x : ℕ). Counted x (indent n ∷ before)) (sym z)
+        (counted_indent m n before c); same = refl }))
     (λ (i : n ≤ m).
     let e : ltb m n ≡ false = grind (arith, nat_tests) in
     let z : m ≡ (m - n) + n = omega arith in
@@ -219,7 +226,8 @@ level_is_behind m n us before h c =
 -- a piece goes into its line
 record Joins (k : Kind) (t : List ℕ) : Type 0 where
   pub goes : (before line ts : List PlainToken)
-      → lines_from before line (record { kind = k; text = t } ∷ ts) ≡ lines_from (record { kind = k; text = t } ∷ before) (line ++ record { kind = k; text = t } ∷ []) ts
+      → lines_from before line (record { kind = k; text = t } ∷ ts) ≡ lines_from (record { kind = k; text = t } ∷ before)
+          (line ++ record { kind = k; text = t } ∷ []) ts
   pub indents : is_indent (record { kind = k; text = t }) ≡ false
   pub dedents : is_dedent (record { kind = k; text = t }) ≡ false
 
@@ -239,22 +247,27 @@ piece_joins kinds.EndMarker t e = cc
 record Ends (n : ℕ) (ps : List Piece) (ts before line : List PlainToken) : Type 0 where
   pub passed : List PlainToken
   pub counted : Counted n passed
-  pub same : lines_from before line (map token_of ps ++ newline ∷ ts) ≡ record { level = n; tokens = line ++ map token_of ps } ∷ lines_from passed [] ts
+  pub same : lines_from before line (map token_of ps ++ newline ∷ ts) ≡ record { level = n; tokens = line ++ map token_of ps }
+      ∷ lines_from passed [] ts
 
 line_ends : (n : ℕ) (ps : List Piece) (ts before line : List PlainToken) → ArePieces ps → Counted n before → Ends n ps ts before line
 line_ends n [] ts before line a c = record {
   passed = newline ∷ before;
   counted = counted_other n newline before refl refl c;
-  same = ap (λ k. record { level = k; tokens = line } ∷ lines_from (newline ∷ before) [] ts) (is_level n before c) ∙ ap (λ (l : List PlainToken). record { level = n; tokens = l } ∷ lines_from (newline ∷ before) [] ts) (sym (append-nil line));
+  same = ap (λ k. record { level = k; tokens = line } ∷ lines_from (newline ∷ before) [] ts) (is_level n before c)
+      ∙ ap (λ (l : List PlainToken). record { level = n; tokens = l } ∷ lines_from (newline ∷ before) [] ts) (sym (append-nil line));
 }
 line_ends n (p ∷ ps) ts before line a c =
     let h = and_parts (is_token p.kind p.text) (list_all (λ q. is_token q.kind q.text) ps) a in
     let j = piece_joins p.kind p.text h.0 in
-    let r = line_ends n ps ts (token_of p ∷ before) (line ++ token_of p ∷ []) h.1 (counted_other n (token_of p) before j.indents j.dedents c) in
+    let r = line_ends n ps ts (token_of p ∷ before) (line ++ token_of p ∷ []) h.1
+        (counted_other n (token_of p) before j.indents j.dedents c) in
     record {
       passed = r.passed;
       counted = r.counted;
-      same = j.goes before line (map token_of ps ++ newline ∷ ts) ∙ r.same ∙ ap (λ (l : List PlainToken). record { level = n; tokens = l } ∷ lines_from r.passed [] ts) (append_assoc line (token_of p ∷ []) (map token_of ps));
+      same = j.goes before line (map token_of ps ++ newline ∷ ts) ∙ r.same
+          ∙ ap (λ (l : List PlainToken). record { level = n; tokens = l } ∷ lines_from r.passed [] ts)
+          (append_assoc line (token_of p ∷ []) (map token_of ps));
     }
 
 no_lines : (m : ℕ) (before : List PlainToken) → lines_from before [] (replicate m dedent ++ end_marker ∷ []) ≡ []
@@ -265,7 +278,8 @@ pieces_of : (ps : List Piece) → are_readable ps ≡ true → ArePieces ps
 pieces_of [] e = refl
 pieces_of (p ∷ ps) e = (and_parts (list_all (λ q. is_token q.kind q.text) (p ∷ ps)) _ e).0
 
-lines_behind : (m : ℕ) (ls : List Line) (before : List PlainToken) → list_all is_written ls ≡ true → rise_by_one m ls ≡ true → Counted m before
+lines_behind : (m : ℕ) (ls : List Line) (before : List PlainToken) → list_all is_written ls ≡ true
+    → rise_by_one m ls ≡ true → Counted m before
     → lines_from before [] (tokens_behind m ls) ≡ map token_line ls
 lines_behind m [] before w r c = no_lines m before
 lines_behind m (l ∷ ls) before w r c =
@@ -275,7 +289,8 @@ lines_behind m (l ∷ ls) before w r c =
     let ts : List PlainToken = tokens_behind l.level ls in
     let v = level_is_behind m l.level (map token_of l.pieces ++ newline ∷ ts) before (leb-true l.level (m + 1) b.0) c in
     let e = line_ends l.level l.pieces ts v.passed [] (pieces_of l.pieces p.0) v.counted in
-    ap (lines_from before []) (shift_line m l ts) ∙ v.same ∙ e.same ∙ ap (λ x. token_line l ∷ x) (lines_behind l.level ls e.passed a.1 b.1 e.counted)
+    ap (lines_from before []) (shift_line m l ts) ∙ v.same ∙ e.same
+        ∙ ap (λ x. token_line l ∷ x) (lines_behind l.level ls e.passed a.1 b.1 e.counted)
 
 -- Lines of tokens, and those of the same tokens without their places.
 count_unplaced : (p : PlainToken → Bool) (ts : List source.Token) → count_by (λ t. p (unplaced t)) ts ≡ count_by p (map unplaced ts)
@@ -285,7 +300,8 @@ count_unplaced p (t ∷ ts) = let h = count_unplaced p ts in grind (arith, commo
 level_unplaced : (before : List source.Token) → source.level_behind before ≡ level_behind (map unplaced before)
 level_unplaced before = let i = count_unplaced is_indent before in let d = count_unplaced is_dedent before in rw (← i, ← d) refl
 
-line_unplaced : (level : ℕ) (line : List source.Token) (xs : List source.Line) (ys : List PlainLine) (n : ℕ) → level ≡ n → map unplaced_line xs ≡ ys
+line_unplaced : (level : ℕ) (line : List source.Token) (xs : List source.Line) (ys : List PlainLine) (n : ℕ) → level ≡ n
+    → map unplaced_line xs ≡ ys
     → map unplaced_line (record { level = level; tokens = line } ∷ xs) ≡ record { level = n; tokens = map unplaced line } ∷ ys
 line_unplaced level line xs ys n l e = rw (l, e) refl
 
@@ -294,27 +310,39 @@ record Unplaces (before line ts : List source.Token) : Type 0 where
   pub is : map unplaced_line (source.lines_from before line ts) ≡ lines_from (map unplaced before) (map unplaced line) (map unplaced ts)
 
 one_unplaced : (k : Kind) (p : Place) (x : List ℕ) (before line ts : List source.Token)
-    → Unplaces (record { kind = k; start = p; text = x } ∷ before) [] ts → Unplaces (record { kind = k; start = p; text = x } ∷ before) line ts
-    → Unplaces (record { kind = k; start = p; text = x } ∷ before) (line ++ record { kind = k; start = p; text = x } ∷ []) ts → Unplaces before line (record { kind = k; start = p; text = x } ∷ ts)
+    → Unplaces (record { kind = k; start = p; text = x } ∷ before) [] ts
+        → Unplaces (record { kind = k; start = p; text = x } ∷ before) line ts
+    → Unplaces (record { kind = k; start = p; text = x } ∷ before) (line ++ record { kind = k; start = p; text = x } ∷ []) ts
+        → Unplaces before line (record { kind = k; start = p; text = x } ∷ ts)
 one_unplaced kinds.Newline p x before line ts new same more =
-    record { is = line_unplaced (source.level_behind before) line (source.lines_from (record { kind = kinds.Newline; start = p; text = x } ∷ before) [] ts) (lines_from (record { kind = kinds.Newline; text = x } ∷ map unplaced before) [] (map unplaced ts)) (level_behind (map unplaced before)) (level_unplaced before) new.is }
+    record { is = line_unplaced (source.level_behind before) line
+        (source.lines_from (record { kind = kinds.Newline; start = p; text = x } ∷ before) [] ts)
+        (lines_from (record { kind = kinds.Newline; text = x } ∷ map unplaced before) [] (map unplaced ts))
+        (level_behind (map unplaced before)) (level_unplaced before) new.is }
 one_unplaced kinds.Indent p x before line ts new same more = record { is = same.is }
 one_unplaced kinds.Dedent p x before line ts new same more = record { is = same.is }
 one_unplaced kinds.EndMarker p x before line ts new same more = record { is = same.is }
 one_unplaced kinds.Name p x before line ts new same more =
-    record { is = more.is ∙ ap (λ l. lines_from (record { kind = kinds.Name; text = x } ∷ map unplaced before) l (map unplaced ts)) (map-append unplaced line (record { kind = kinds.Name; start = p; text = x } ∷ [])) }
+    record { is = more.is ∙ ap (λ l. lines_from (record { kind = kinds.Name; text = x } ∷ map unplaced before) l (map unplaced ts))
+        (map-append unplaced line (record { kind = kinds.Name; start = p; text = x } ∷ [])) }
 one_unplaced kinds.Number p x before line ts new same more =
-    record { is = more.is ∙ ap (λ l. lines_from (record { kind = kinds.Number; text = x } ∷ map unplaced before) l (map unplaced ts)) (map-append unplaced line (record { kind = kinds.Number; start = p; text = x } ∷ [])) }
+    record { is = more.is ∙ ap (λ l. lines_from (record { kind = kinds.Number; text = x } ∷ map unplaced before) l (map unplaced ts))
+        (map-append unplaced line (record { kind = kinds.Number; start = p; text = x } ∷ [])) }
 one_unplaced kinds.String p x before line ts new same more =
-    record { is = more.is ∙ ap (λ l. lines_from (record { kind = kinds.String; text = x } ∷ map unplaced before) l (map unplaced ts)) (map-append unplaced line (record { kind = kinds.String; start = p; text = x } ∷ [])) }
+    record { is = more.is ∙ ap (λ l. lines_from (record { kind = kinds.String; text = x } ∷ map unplaced before) l (map unplaced ts))
+        (map-append unplaced line (record { kind = kinds.String; start = p; text = x } ∷ [])) }
 one_unplaced kinds.Op p x before line ts new same more =
-    record { is = more.is ∙ ap (λ l. lines_from (record { kind = kinds.Op; text = x } ∷ map unplaced before) l (map unplaced ts)) (map-append unplaced line (record { kind = kinds.Op; start = p; text = x } ∷ [])) }
+    record { is = more.is ∙ ap (λ l. lines_from (record { kind = kinds.Op; text = x } ∷ map unplaced before) l (map unplaced ts))
+        (map-append unplaced line (record { kind = kinds.Op; start = p; text = x } ∷ [])) }
 one_unplaced kinds.Comment p x before line ts new same more =
-    record { is = more.is ∙ ap (λ l. lines_from (record { kind = kinds.Comment; text = x } ∷ map unplaced before) l (map unplaced ts)) (map-append unplaced line (record { kind = kinds.Comment; start = p; text = x } ∷ [])) }
+    record { is = more.is ∙ ap (λ l. lines_from (record { kind = kinds.Comment; text = x } ∷ map unplaced before) l (map unplaced ts))
+        (map-append unplaced line (record { kind = kinds.Comment; start = p; text = x } ∷ [])) }
 one_unplaced kinds.Nl p x before line ts new same more =
-    record { is = more.is ∙ ap (λ l. lines_from (record { kind = kinds.Nl; text = x } ∷ map unplaced before) l (map unplaced ts)) (map-append unplaced line (record { kind = kinds.Nl; start = p; text = x } ∷ [])) }
+    record { is = more.is ∙ ap (λ l. lines_from (record { kind = kinds.Nl; text = x } ∷ map unplaced before) l (map unplaced ts))
+        (map-append unplaced line (record { kind = kinds.Nl; start = p; text = x } ∷ [])) }
 one_unplaced kinds.Encoding p x before line ts new same more =
-    record { is = more.is ∙ ap (λ l. lines_from (record { kind = kinds.Encoding; text = x } ∷ map unplaced before) l (map unplaced ts)) (map-append unplaced line (record { kind = kinds.Encoding; start = p; text = x } ∷ [])) }
+    record { is = more.is ∙ ap (λ l. lines_from (record { kind = kinds.Encoding; text = x } ∷ map unplaced before) l (map unplaced ts))
+        (map-append unplaced line (record { kind = kinds.Encoding; start = p; text = x } ∷ [])) }
 
 lines_unplaced : (before line ts : List source.Token) → Unplaces before line ts
 lines_unplaced before line [] = record { is = refl }

@@ -1,7 +1,8 @@
 -- What a literal stands for whose body has no backslash and no quote: its characters, but for CRs.
 --
 -- Carries: list lemmas, body_kept, points_kept, single_kept, unbraced, for StringsSaid. On: Scanned.
-use Rattle.std.proofs.Common.{◌≡◌, ℕ, zero, suc, ◌-◌, ◌+◌, ◌≤◌, Bool, true, false, not, ◌&&◌, ◌==◌, List, [], ◌∷◌, ◌++◌, length, take, drop, refl}
+use Rattle.std.proofs.Common.{◌≡◌, ℕ, zero, suc, ◌-◌, ◌+◌, ◌≤◌, Bool, true, false, not, ◌&&◌, ◌==◌, List, [], ◌∷◌, ◌++◌, length, take, drop}
+use Rattle.std.proofs.Common.{refl}
 use Rattle.std.proofs.Common.{sym, ap, subst, inl, inr, ◌⊎◌, arith, length-append, if◌then◌else◌}
 use Rattle.std.specs.Prelude.{filter, nat_le}
 use Rattle.std.specs.List.{list_all, list_any, flat_map}
@@ -157,11 +158,13 @@ body_kept p f (c ∷ t) h = elim (cases_Bool (is_quote c)) [
       (subst (λ z. list_all p z ≡ true) (sym (body_quote c (with_line_feeds t) quote))
       (three_all p f c quote t (subst (λ z. list_all p z ≡ true) (body_quote c t quote) h))))
   | inr other ↦ (
-      let g : list_all p (body_of (with_line_feeds t)) ≡ true = body_kept p f t (subst (λ z. list_all p z ≡ true) (body_next c t other) h) in
+      let g : list_all p (body_of (with_line_feeds t)) ≡ true =
+          body_kept p f t (subst (λ z. list_all p z ≡ true) (body_next c t other) h) in
       elim (cases_Bool (not (c == 13))) [
         | inl kept ↦ (
             let e : with_line_feeds (c ∷ t) ≡ c ∷ with_line_feeds t = rw kept refl in
-            subst (λ z. list_all p (body_of z) ≡ true) (sym e) (subst (λ z. list_all p z ≡ true) (sym (body_next c (with_line_feeds t) other)) g))
+            subst (λ z. list_all p (body_of z) ≡ true) (sym e)
+                (subst (λ z. list_all p z ≡ true) (sym (body_next c (with_line_feeds t) other)) g))
         | inr left_out ↦ (
             let e : with_line_feeds (c ∷ t) ≡ with_line_feeds t = rw left_out refl in
             subst (λ z. list_all p (body_of z) ≡ true) (sym e) g)
@@ -170,7 +173,8 @@ body_kept p f (c ∷ t) h = elim (cases_Bool (is_quote c)) [
 
 -- ---- Escapes.
 
-points_after : (raw bytes : Bool) (cs : List ℕ) → list_all is_no_backslash cs ≡ true → flat_map points_in (meanings_after raw bytes 0 cs) ≡ cs
+points_after : (raw bytes : Bool) (cs : List ℕ) → list_all is_no_backslash cs ≡ true
+    → flat_map points_in (meanings_after raw bytes 0 cs) ≡ cs
 points_after raw bytes [] h = refl
 points_after raw bytes (c ∷ cs) h =
     let w = and_parts (is_no_backslash c) (list_all is_no_backslash cs) h in

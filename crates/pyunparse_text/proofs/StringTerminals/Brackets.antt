@@ -1,7 +1,8 @@
 -- The terminals of an f-string close the brackets that they open.
 --
 -- Carries: Closed, name_after, operator_terminal, string_closed, for Accepted, StringsSaid. On: Elements, Faultless, Classes, FieldLexemes.
-use Rattle.std.proofs.Common.{◌≡◌, ℕ, suc, ◌+◌, ◌-◌, ◌≤◌, arith, Bool, true, false, ◌&&◌, ◌==◌, List, [], ◌∷◌, ◌++◌, Option, Some, None, refl, sym}
+use Rattle.std.proofs.Common.{◌≡◌, ℕ, suc, ◌+◌, ◌-◌, ◌≤◌, arith, Bool, true, false, ◌&&◌, ◌==◌, List, [], ◌∷◌, ◌++◌, Option, Some, None}
+use Rattle.std.proofs.Common.{refl, sym}
 use Rattle.std.proofs.Common.{◌∙◌, ap, subst, cond, append_assoc, count_by}
 use Rattle.std.specs.Prelude.{max}
 use Rattle.std.specs.List.{flat_map, list_any}
@@ -31,8 +32,10 @@ use Rattle.pytoken.specs.declared.faults.TokenError.{TokenError}
 use Rattle.pytoken.specs.Keywords.{keyword_of}
 use Rattle.pytoken.specs.FormattedStrings.{Element, End, is_fstring, is_field_of, elements_of, elements_fault}
 use Rattle.pytoken.proofs.Callers.Bodies.{body_all}
-use Rattle.pytoken.specs.Terminals.{Terminal, Op, Word, Ident, Layout, FormattedBegin, FormattedEnd, FieldBegin, FieldEnd, terminal_of, terminals_by}
-use Rattle.pytoken.specs.Terminals.{terminals_of, fault_by, fault_of, field_fault, single_fault, nested_expression, expression, is_nested_faulty}
+use Rattle.pytoken.specs.Terminals.{Terminal, Op, Word, Ident, Layout, FormattedBegin, FormattedEnd, FieldBegin, FieldEnd, terminal_of}
+use Rattle.pytoken.specs.Terminals.{terminals_by}
+use Rattle.pytoken.specs.Terminals.{terminals_of, fault_by, fault_of, field_fault, single_fault, nested_expression, expression}
+use Rattle.pytoken.specs.Terminals.{is_nested_faulty}
 use Rattle.pytoken.specs.Terminals.{is_faulty, element_terminals, elements_terminals, IsSound}
 use Rattle.pyunparse_text.specs.Spacing.{is_operator_kind}
 use Rattle.pyunparse_text.specs.Brackets.{open_after, most_open}
@@ -126,10 +129,12 @@ module _ (fault : Kind → List ℕ → Option TokenError) (by : Kind → List �
       → most_open ((n + 0 - 0) + d) us ≤ most_open (n + d) (by k text ++ us)
   apart n d us c = let e : (n + 0 - 0) + d ≡ n + d = omega arith in rw e (c.is (n + d) us)
 
-  lexeme_closed : (k : Class) (text : List ℕ) → is_gap k ≡ false → OfClass k text → all_scalars text ≡ true → fault (kind_of k true) text ≡ None
+  lexeme_closed : (k : Class) (text : List ℕ) → is_gap k ≡ false → OfClass k text → all_scalars text ≡ true
+      → fault (kind_of k true) text ≡ None
       → (n d : ℕ) (us : List Terminal)
       → (is_closer_class k ≡ true → 1 ≤ n)
-      → most_open ((n + count_if (is_opener_class k) - count_if (is_closer_class k)) + d) us ≤ most_open (n + d) (by (kind_of k true) text ++ us)
+      → most_open ((n + count_if (is_opener_class k) - count_if (is_closer_class k)) + d) us ≤ most_open (n + d)
+          (by (kind_of k true) text ++ us)
   lexeme_closed (classes.Operator e) text g t s f n d us low =
       let a : open_after (n + d) (Op e) ≡ (n + count_if (is_opener e) - count_if (is_closer e)) + d =
       operator_after (is_opener e) (is_closer e) n d (no_both e) low in
@@ -141,7 +146,8 @@ module _ (fault : Kind → List ℕ → Option TokenError) (by : Kind → List �
   lexeme_closed classes.Comment text g t s f n d us low = apart n d us (others_closed kinds.Comment text refl s f)
   lexeme_closed _ text g t s f n d us low = absurd (cc)
 
-  lexemes_closed : (n : ℕ) {xs : List Lexeme} → AllTokens scalar fault xs → closes_none n xs ≡ false → n + count_by opens xs ≡ count_by closes xs
+  lexemes_closed : (n : ℕ) {xs : List Lexeme} → AllTokens scalar fault xs → closes_none n xs ≡ false
+      → n + count_by opens xs ≡ count_by closes xs
       → (d : ℕ) (us : List Terminal)
       → most_open d us ≤ most_open (n + d) (given by (tokens_of xs) ++ us)
   lexemes_closed n no_lexeme c e d us = let z : n + d ≡ d = omega (arith, e) in rw z (omega arith)
@@ -156,7 +162,8 @@ module _ (fault : Kind → List ℕ → Option TokenError) (by : Kind → List �
       let p = or_parts_false (closes x && (n == 0)) (closes_none (n + count_if (opens x) - count_if (closes x)) xs) c in
       let low : closes x ≡ true → 1 ≤ n = closer_low (closes x) n p.0 in
       let m : ℕ = n + count_if (opens x) - count_if (closes x) in
-      let q : m + count_by opens xs ≡ count_by closes xs = omega (arith, counted opens x xs, counted closes x xs, e, count_low (closes x) n low) in
+      let q : m + count_by opens xs ≡ count_by closes xs = omega (arith, counted opens x xs, counted closes x xs, e,
+          count_low (closes x) n low) in
       let r : most_open d us ≤ most_open (m + d) (given by (tokens_of xs) ++ us) = lexemes_closed m h p.1 q d us in
       let vs : List Terminal = given by (tokens_of xs) ++ us in
       let l : most_open (m + d) vs ≤ most_open (n + d) (by (kind_of x.«class» true) x.text ++ vs) =
@@ -179,7 +186,8 @@ module _ (fault : Kind → List ℕ → Option TokenError) (by : Kind → List �
             lexemes_closed 0 w.all w.whole.balanced (omega (arith, w.whole.closed)) (suc d) (Op RPar ∷ us) in
             let s : suc d - 1 ≡ d = omega arith in
             let k : most_open (suc d - 1) us ≤ most_open (suc d) (Op RPar ∷ us) = omega arith in
-            let m : most_open d us ≤ most_open (suc d) (Op RPar ∷ us) = subst (λ n. most_open n us ≤ most_open (suc d) (Op RPar ∷ us)) s k in
+            let m : most_open d us ≤ most_open (suc d) (Op RPar ∷ us) =
+                subst (λ n. most_open n us ≤ most_open (suc d) (Op RPar ∷ us)) s k in
             let z : 0 + suc d ≡ suc d = omega arith in
             let q : most_open (suc d) (Op RPar ∷ us) ≤ most_open (suc d) (given by ts ++ (Op RPar ∷ us)) =
             subst (λ n. most_open (suc d) (Op RPar ∷ us) ≤ most_open n (given by ts ++ (Op RPar ∷ us))) z r in

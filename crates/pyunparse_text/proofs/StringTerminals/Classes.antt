@@ -1,7 +1,8 @@
 -- What the class of a lexeme says of its text.
 --
 -- Carries: OfClass, of_class, no_string, for Brackets, StringsSaid. On: StringFronts.
-use Rattle.std.proofs.Common.{◌≡◌, ℕ, Bool, true, false, ◌||◌, ◌==◌, not, List, [], ◌∷◌, Option, Some, None, refl, sym, ◌∙◌, subst, cond, ⊎_elim}
+use Rattle.std.proofs.Common.{◌≡◌, ℕ, Bool, true, false, ◌||◌, ◌==◌, not, List, [], ◌∷◌, Option, Some, None, refl, sym, ◌∙◌, subst, cond}
+use Rattle.std.proofs.Common.{⊎_elim}
 use Rattle.std.specs.Prelude.{option_map}
 use Rattle.std.specs.List.{list_all}
 use Rattle.std.proofs.lemmas.Bool.{eqb-true}
@@ -10,7 +11,8 @@ use Rattle.pylex_lexeme.specs.declared.kinds.Exact.{Exact}
 use Rattle.pylex_lexeme.specs.declared.lexeme.Class.{Class}
 use Rattle.pylex_lexeme.specs.declared.lexeme.Class.TheVariants.{Name, Number, String, Operator, Comment, Blanks, LineEnd, Join}
 use Rattle.pylex_lexeme.specs.Numbers.{is_number, headed, split_any}
-use Rattle.pylex_lexeme.specs.Strings.{opens_string, opens_triple, counts_as_string, is_single, is_triple, is_single_string, is_triple_string}
+use Rattle.pylex_lexeme.specs.Strings.{opens_string, opens_triple, counts_as_string, is_single, is_triple, is_single_string}
+use Rattle.pylex_lexeme.specs.Strings.{is_triple_string}
 use Rattle.pylex_lexeme.specs.Operators.{is_operator, exact_of}
 use Rattle.pylex_lexeme.specs.Lexemes.{class_in, plain_class, is_name, is_comment, are_blanks, is_line_end, is_join}
 use Rattle.pylex_lexeme.proofs.Callers.Booleans.{and_parts, or_parts}
@@ -72,7 +74,8 @@ pub of_class : (cs t : List ℕ) (k : Class) → class_in cs t ≡ Some k → Of
 unfolding class_in
 of_class cs t k e = by (opens_string cs) (counts_as_string cs t) (counted cs t) e
   where
-    by : (o c : Bool) → (c ≡ true → (is_triple_string t || is_single_string t) ≡ true) → cond o (cond c (Some String) None) (plain_class t) ≡ Some k
+    by : (o c : Bool) → (c ≡ true → (is_triple_string t || is_single_string t) ≡ true)
+        → cond o (cond c (Some String) None) (plain_class t) ≡ Some k
         → OfClass k t
     by true true counts h = let f : String ≡ k = cc in subst (λ (m : Class). OfClass m t) f (counts refl)
     by true false counts h = absurd cc
@@ -83,7 +86,8 @@ of_class cs t k e = by (opens_string cs) (counts_as_string cs t) (counted cs t) 
 abbrev is_no_quote : ℕ → Bool
 is_no_quote c = not (is_quote c)
 
-headed_quote : (q : ℕ) → is_quote q ≡ true → (p : List ℕ → Bool) (t : List ℕ) → list_all is_no_quote t ≡ true → headed (λ a. a == q) p t ≡ true → ⊥
+headed_quote : (q : ℕ) → is_quote q ≡ true → (p : List ℕ → Bool) (t : List ℕ) → list_all is_no_quote t ≡ true
+    → headed (λ a. a == q) p t ≡ true → ⊥
 headed_quote q k p [] h e = cc
 headed_quote q k p (c ∷ t) h e =
     let w = and_parts (c == q) (p t) e in

@@ -1,7 +1,9 @@
--- How the elements of an f-string are laid: its texts and fields, of characters of its body, and the format specs of fields, one in another.
+-- How the elements of an f-string are laid: its texts and fields, of characters of its body, and the format specs of fields, one in
+-- another.
 --
 -- Carries: front_scalars, back_scalars, Laid, all_laid, for the other files of StringTerminals, OfSources. On: no other file.
-use Rattle.std.proofs.Common.{◌≡◌, ℕ, zero, suc, Bool, true, false, List, [], ◌∷◌, ◌++◌, Option, Some, None, refl, sym, ◌∙◌, subst, leb, append_assoc}
+use Rattle.std.proofs.Common.{◌≡◌, ℕ, zero, suc, Bool, true, false, List, [], ◌∷◌, ◌++◌, Option, Some, None, refl, sym, ◌∙◌, subst, leb}
+use Rattle.std.proofs.Common.{append_assoc}
 use Rattle.std.specs.Prelude.{option_map}
 use Rattle.std.specs.List.{list_all, flat_map}
 use Rattle.std.specs.Str.{all_scalars}
@@ -19,12 +21,14 @@ use Rattle.pyfstring.specs.Pieces.{IsField, Keeps, Converts, Specifies, Cuts, Is
 use Rattle.pyfstring.proofs.Callers.Law.{cut_of_sound}
 use Rattle.pylex_lexeme.proofs.Callers.Booleans.{and_parts}
 use Rattle.pytoken.specs.StringValues.{with_line_feeds, is_raw, body_of}
-use Rattle.pytoken.specs.FormattedStrings.{Element, Field, Spec, End, text_element, kept_elements, spec_elements, field_elements, part_elements}
+use Rattle.pytoken.specs.FormattedStrings.{Element, Field, Spec, End, text_element, kept_elements, spec_elements, field_elements}
+use Rattle.pytoken.specs.FormattedStrings.{part_elements}
 use Rattle.pytoken.specs.FormattedStrings.{inner_elements, spec_part_elements, body_part_elements, elements_of}
 
 pub front_scalars : (t b : List ℕ) → all_scalars (t ++ b) ≡ true → all_scalars t ≡ true
 front_scalars [] b h = refl
-front_scalars (c ∷ t) b h = let w = and_parts (scalar c) (all_scalars (t ++ b)) h in and_from (scalar c) (all_scalars t) w.0 (front_scalars t b w.1)
+front_scalars (c ∷ t) b h = let w = and_parts (scalar c) (all_scalars (t ++ b)) h in
+    and_from (scalar c) (all_scalars t) w.0 (front_scalars t b w.1)
 
 pub back_scalars : (a b : List ℕ) → all_scalars (a ++ b) ≡ true → all_scalars b ≡ true
 back_scalars [] b h = h
@@ -93,7 +97,8 @@ module _ (p : ℕ → Bool) (is_nested : Bool) where
 
   module _ {S : Type 0} (k : ℕ) (IsSpecOf : List ℕ → S → List ℕ → Type 0) (elements : S → List Element) (low : leb k 1 ≡ true)
       (reads : Reads (suc k) IsSpecOf elements) where
-    specifies_left : {here rest : List ℕ} {s : Option S} → Specifies IsSpecOf here s rest → AllIn here → Left (suc k) (spec_elements elements s) rest
+    specifies_left : {here rest : List ℕ} {s : Option S} → Specifies IsSpecOf here s rest → AllIn here
+        → Left (suc k) (spec_elements elements s) rest
     specifies_left (Specifies.unspecified n) h = record { laid = nothing; behind = h }
     specifies_left (Specifies.specified {cs = cs} {rest = rest} {s = s} i) h =
         let l = reads cs rest s i (behind_one colon cs h) in
@@ -121,7 +126,8 @@ module _ (p : ℕ → Bool) (is_nested : Bool) where
         let l = reads inside behind f i (behind_one left_curly_bracket inside u.1) in
         let m = cuts_left raw c l.behind in
         record {
-          laid = a_text u.0 (subst (λ z. behind_text raw (at_top k) z ≡ left_curly_bracket ∷ inside) w.whole w.longest) (both l.laid m.laid);
+          laid = a_text u.0 (subst (λ z. behind_text raw (at_top k) z ≡ left_curly_bracket ∷ inside) w.whole
+              w.longest) (both l.laid m.laid);
           behind = m.behind;
         }
 
@@ -129,7 +135,8 @@ module _ (p : ℕ → Bool) (is_nested : Bool) where
   inner_left m cs rest t w h =
       let u = parts t rest (subst AllIn w.whole h) in
       record {
-        laid = a_text {k = 2} {raw = m.is_raw} {t = t} {rest = rest} u.0 (subst (λ z. behind_text m.is_raw false z ≡ rest) w.whole w.longest) nothing;
+        laid = a_text {k = 2} {raw = m.is_raw} {t = t} {rest = rest} u.0 (subst (λ z. behind_text m.is_raw false z ≡ rest)
+            w.whole w.longest) nothing;
         behind = u.1;
       }
 
@@ -139,7 +146,8 @@ module _ (p : ℕ → Bool) (is_nested : Bool) where
       cuts_left 1 (IsField (IsInnerSpec m) is_nested) (inner_elements raw)
       (field_left 1 (IsInnerSpec m) (inner_elements raw) refl (inner_left m)) raw i h
 
-  body_laid : (raw : Bool) (body : List ℕ) (ps : List BodyPart) → IsCut (record { is_raw = raw; is_nested = is_nested }) body ps → AllIn body
+  body_laid : (raw : Bool) (body : List ℕ) (ps : List BodyPart)
+      → IsCut (record { is_raw = raw; is_nested = is_nested }) body ps → AllIn body
       → Laid p is_nested 0 (body_part_elements raw ps)
   body_laid raw body ps i h =
       let m : Manner = record { is_raw = raw; is_nested = is_nested } in

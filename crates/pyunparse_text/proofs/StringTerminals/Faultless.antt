@@ -16,7 +16,8 @@ use Rattle.pytoken.specs.Terminals.{fault_by, field_fault, is_nested_faulty}
 pub no_field_wrong : (is_wrong : List ℕ → Bool) (t : List ℕ) (es : List Element) → elements_fault is_wrong t (Some es) ≡ None
     → list_any (is_field_of is_wrong) es ≡ false
 unfolding elements_fault
-no_field_wrong is_wrong t es n = by (list_any (is_field_of is_wrong) es) (option_or (escape_fault (flat_map element_meanings es)) (nul_fault t)) n
+no_field_wrong is_wrong t es n =
+    by (list_any (is_field_of is_wrong) es) (option_or (escape_fault (flat_map element_meanings es)) (nul_fault t)) n
   where
     by : (b : Bool) (r : Option TokenError) → cond b (Some FString) r ≡ None → b ≡ false
     by true r n = absurd (cc)
@@ -45,9 +46,11 @@ no_nul_in is_wrong t es n = by (list_any (is_field_of is_wrong) es) n
     by false n = no_nul t (second_none (escape_fault (flat_map element_meanings es)) (nul_fault t) n)
 
 -- a token of a field is not bulky, and has no fault of its own
-pub field_faultless : (k : Kind) (t : List ℕ) → field_fault k t ≡ None → (is_bulky k t ≡ false) × (fault_by true is_nested_faulty k t ≡ None)
+pub field_faultless : (k : Kind) (t : List ℕ) → field_fault k t ≡ None
+    → (is_bulky k t ≡ false) × (fault_by true is_nested_faulty k t ≡ None)
 field_faultless k t n = by (is_bulky k t) n
   where
-    by : (b : Bool) → cond b (Some FString) (fault_by true is_nested_faulty k t) ≡ None → (b ≡ false) × (fault_by true is_nested_faulty k t ≡ None)
+    by : (b : Bool) → cond b (Some FString) (fault_by true is_nested_faulty k t) ≡ None
+        → (b ≡ false) × (fault_by true is_nested_faulty k t ≡ None)
     by true n = absurd (cc)
     by false n = (refl, n)

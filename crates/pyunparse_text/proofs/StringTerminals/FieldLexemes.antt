@@ -1,7 +1,9 @@
--- The tokens of a field without a fault: the text is cut to its end, its brackets are closed, and each token is what its type says, and has no fault.
+-- The tokens of a field without a fault: the text is cut to its end, its brackets are closed, and each token is what its type says, and has
+-- no fault.
 --
 -- Carries: AllTokens, IsWholeField, whole_field, for Brackets, StringsSaid. On: Elements.
-use Rattle.std.proofs.Common.{◌≡◌, ℕ, Bool, true, false, ◌||◌, List, [], ◌∷◌, ◌++◌, Option, Some, None, refl, sym, ◌∙◌, ap, subst, cond, is_some}
+use Rattle.std.proofs.Common.{◌≡◌, ℕ, Bool, true, false, ◌||◌, List, [], ◌∷◌, ◌++◌, Option, Some, None, refl, sym, ◌∙◌, ap, subst, cond}
+use Rattle.std.proofs.Common.{is_some}
 use Rattle.std.specs.List.{list_all, list_any}
 use Rattle.std.specs.Str.{all_scalars}
 use Rattle.std.proofs.lemmas.List.Folds.{list_all-append}
@@ -31,7 +33,8 @@ pub record IsToken (p : ℕ → Bool) (fault : Kind → List ℕ → Option Toke
 pub data AllTokens (p : ℕ → Bool) (fault : Kind → List ℕ → Option TokenError) : List Lexeme → Type 0 where
   no_lexeme : AllTokens p fault []
   a_gap : {x : Lexeme} {xs : List Lexeme} → is_gap x.«class» ≡ true → AllTokens p fault xs → AllTokens p fault (x ∷ xs)
-  a_token : {x : Lexeme} {xs : List Lexeme} → is_gap x.«class» ≡ false → IsToken p fault x → AllTokens p fault xs → AllTokens p fault (x ∷ xs)
+  a_token : {x : Lexeme} {xs : List Lexeme} → is_gap x.«class» ≡ false → IsToken p fault x → AllTokens p fault xs
+      → AllTokens p fault (x ∷ xs)
 
 pub record IsWholeField (p : ℕ → Bool) (fault : Kind → List ℕ → Option TokenError) (t : List ℕ) : Type 0 where
   pub whole : IsWhole t
@@ -47,7 +50,8 @@ abbrev has_one : (Kind → List ℕ → Option TokenError) → List FieldToken �
 has_one fault ts = list_any (λ (x : FieldToken). is_some (fault x.kind x.text)) ts
 
 module _ (p : ℕ → Bool) (fault : Kind → List ℕ → Option TokenError) where
-  lexeme_tokens : (text : List ℕ) (xs : List Lexeme) (left : List ℕ) → AreLexemes text xs left → all_scalars text ≡ true → list_all p text ≡ true
+  lexeme_tokens : (text : List ℕ) (xs : List Lexeme) (left : List ℕ) → AreLexemes text xs left → all_scalars text ≡ true
+      → list_all p text ≡ true
       → (behind : List FieldToken) → has_one fault (tokens_of xs ++ behind) ≡ false
       → AllTokens p fault xs
   lexeme_tokens text [] left h s q behind n = no_lexeme
@@ -60,7 +64,8 @@ module _ (p : ℕ → Bool) (fault : Kind → List ℕ → Option TokenError) wh
       v : (list_all p x.text ≡ true) × (list_all p rest ≡ true)
       v = and_parts (list_all p x.text) (list_all p rest) (sym (list_all-append p x.text rest) ∙ subst (λ z. list_all p z ≡ true) parts q)
 
-      by : (b : Bool) → is_gap x.«class» ≡ b → has_one fault (cond b (tokens_of xs) (field_token x.«class» x.text ∷ tokens_of xs) ++ behind) ≡ false
+      by : (b : Bool) → is_gap x.«class» ≡ b
+          → has_one fault (cond b (tokens_of xs) (field_token x.«class» x.text ∷ tokens_of xs) ++ behind) ≡ false
           → (has_one fault (tokens_of xs ++ behind) ≡ false → AllTokens p fault xs) → AllTokens p fault (x ∷ xs)
       by true e n more = a_gap e (more n)
       by false e n more =

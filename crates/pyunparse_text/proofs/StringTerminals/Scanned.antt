@@ -1,7 +1,8 @@
 -- In the expression of a field stands no backslash (reference 2.4.3).
 --
 -- Carries: is_no_backslash, expression_calm, for Bodies, StringsSaid. On: no other file.
-use Rattle.std.proofs.Common.{◌≡◌, ℕ, zero, suc, ◌-◌, Bool, true, false, not, ◌&&◌, ◌==◌, List, [], ◌∷◌, ◌++◌, length, take, Option, Some, None, refl}
+use Rattle.std.proofs.Common.{◌≡◌, ℕ, zero, suc, ◌-◌, Bool, true, false, not, ◌&&◌, ◌==◌, List, [], ◌∷◌, ◌++◌, length, take, Option, Some}
+use Rattle.std.proofs.Common.{None, refl}
 use Rattle.std.proofs.Common.{sym, ◌∙◌, ap, subst, inl, inr, ◌⊎◌, arith, length-append}
 use Rattle.std.specs.Prelude.{nat_lt, slice_get}
 use Rattle.std.specs.List.{list_all}
@@ -88,7 +89,8 @@ module _ (t rest : List ℕ)
   at_other opened c q r m n h = elim (some_or_none (opened_by c)) [
     | inl b ↦ elim (cases_Bool (nat_lt (length opened) most_open)) [
       | inl l ↦ (let o = b.1 in
-          let e : scan expression opened 0 (c ∷ t ++ rest) ≡ scan expression (opened ++ b.0 ∷ []) 0 (t ++ rest) = rw (q, r, m, n, o, l, scan) refl in
+          let e : scan expression opened 0 (c ∷ t ++ rest) ≡ scan expression (opened ++ b.0 ∷ []) 0 (t ++ rest) =
+              rw (q, r, m, n, o, l, scan) refl in
           more expression (opened ++ b.0 ∷ []) 0 tt (sym e ∙ h))
       | inr l ↦ (let o = b.1 in
           let e : scan expression opened 0 (c ∷ t ++ rest) ≡ None = rw (q, r, m, n, o, l, scan) refl in
@@ -110,7 +112,8 @@ module _ (t rest : List ℕ)
     ]
   ]
 
-  at_expression : (opened : List Bracket) (c : ℕ) → scan expression opened 0 (c ∷ t ++ rest) ≡ Some rest → list_all is_no_backslash (c ∷ t) ≡ true
+  at_expression : (opened : List Bracket) (c : ℕ) → scan expression opened 0 (c ∷ t ++ rest) ≡ Some rest
+      → list_all is_no_backslash (c ∷ t) ≡ true
   unfolding step
   at_expression opened c h = elim (cases_Bool (is_quote c)) [
     | inl q ↦ at_literal opened c q h
@@ -168,7 +171,8 @@ module _ (t rest : List ℕ)
       by false true k w h = both_calm c (no_backslash c k) (more expression opened 2 (w (no_backslash c k) refl) h)
       by false false k w h = both_calm c (no_backslash c k) (more (longstring q) opened 0 tt h)
 
-scan_calm : (inside : Inside) (opened : List Bracket) (n : ℕ) (t rest : List ℕ) → Calm n (t ++ rest) → scan inside opened n (t ++ rest) ≡ Some rest
+scan_calm : (inside : Inside) (opened : List Bracket) (n : ℕ) (t rest : List ℕ) → Calm n (t ++ rest)
+    → scan inside opened n (t ++ rest) ≡ Some rest
     → list_all is_no_backslash t ≡ true
 scan_calm inside opened n [] rest k h = refl
 scan_calm inside opened (suc n) (c ∷ t) rest k h =

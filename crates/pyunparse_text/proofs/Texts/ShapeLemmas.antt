@@ -40,7 +40,8 @@ opened = given.fold_out-Expr plain.Expr plain.Arg plain.Arguments plain.Comprehe
 abbrev HasShape : plain.Expr → Expr → Type 0
 HasShape (plain.Starred _ _) e = (value : Box Expr Global) × (ctx : Context) × (e ≡ variant.Starred value ctx)
 HasShape (plain.Name _ _) e = (id : Identifier) × (ctx : Context) × (e ≡ variant.Name id ctx)
-HasShape (plain.GeneratorExp _ _) e = (elt : Box Expr Global) × (generators : Vec Comprehension Global) × (e ≡ variant.GeneratorExp elt generators)
+HasShape (plain.GeneratorExp _ _) e = (elt : Box Expr Global) × (generators : Vec Comprehension Global) ×
+    (e ≡ variant.GeneratorExp elt generators)
 HasShape (plain.Tuple _ _) e = (elts : Vec Expr Global) × (ctx : Context) × (e ≡ variant.Tuple elts ctx)
 HasShape _ e = Unit {0}
 
@@ -58,7 +59,8 @@ has_shape e = subst (λ g. HasShape (tree_of e) g) (given.roll-out-Expr e)
 
 -- an expression of no such shape
 module _ (e : Expr) where
-  module _ (no_generator : (elt : Box Expr Global) (generators : Vec Comprehension Global) → e ≡ variant.GeneratorExp elt generators → ⊥) where
+  module _ (no_generator : (elt : Box Expr Global) (generators : Vec Comprehension Global)
+      → e ≡ variant.GeneratorExp elt generators → ⊥) where
     none_generated : (t : plain.Expr) → HasShape t e → is_generator t ≡ false
     none_generated (plain.GeneratorExp _ _) h = absurd (no_generator h.0 h.1 h.2)
     none_generated _ h = refl

@@ -1,5 +1,6 @@
 -- Carries: put_str, put_bytes. A literal stands among blanks as any text does that is no sign.
-use Rattle.std.proofs.Common.{◌≡◌, ◌∙◌, ℕ, Bool, true, false, ◌&&◌, ◌==◌, List, [], ◌∷◌, ◌++◌, Option, Some, None, refl, ap, sym, append_assoc}
+use Rattle.std.proofs.Common.{◌≡◌, ◌∙◌, ℕ, Bool, true, false, ◌&&◌, ◌==◌, List, [], ◌∷◌, ◌++◌, Option, Some, None, refl, ap, sym}
+use Rattle.std.proofs.Common.{append_assoc}
 use Rattle.std.specs.Prelude.{codes, not, if◌then◌else◌}
 use Rattle.std.specs.List.{flat_map, list_any}
 use Rattle.std.specs.Char.{encode_utf8}
@@ -62,19 +63,22 @@ no_brace cs = by (list_any (λ c. c == 39) cs && not (list_any (λ c. c == 34) c
     by false = refl
 
 pub text_sign : (points : List ℕ) (u is_in_field : Bool) → IsNoSign (encode_utf8_all (literal_text_in is_in_field (Str points u)))
-text_sign points true false = quoted_sign 117 (quote_for points) (quote_for points ∷ flat_map (escaped is_unprintable (quote_for points)) points) refl
+text_sign points true false =
+    quoted_sign 117 (quote_for points) (quote_for points ∷ flat_map (escaped is_unprintable (quote_for points)) points) refl
 text_sign points false false =
     quoted_sign (quote_for points) (quote_for points) (flat_map (escaped is_unprintable (quote_for points)) points) (no_brace points)
 text_sign points true true = quoted_sign 117 34 (34 ∷ flat_map field_character points) refl
 text_sign points false true = quoted_sign 34 34 (flat_map field_character points) refl
 
 pub bytes_sign : (bytes : List ℕ) (is_in_field : Bool) → IsNoSign (encode_utf8_all (literal_text_in is_in_field (Bytes bytes)))
-bytes_sign bytes false = quoted_sign 98 (quote_for bytes) (quote_for bytes ∷ flat_map (escaped is_unprintable_byte (quote_for bytes)) bytes) refl
+bytes_sign bytes false =
+    quoted_sign 98 (quote_for bytes) (quote_for bytes ∷ flat_map (escaped is_unprintable_byte (quote_for bytes)) bytes) refl
 bytes_sign bytes true = quoted_sign 98 34 (34 ∷ bytes) refl
 
 -- a literal behind a text, where its blank is that of an empty one
 pub literal_on : (old w : Writing) (t out : List ℕ) → IsNoSign t →
-    w ≡ record { text = old.text ++ blank old.last (literal []); last = Some (edge_of (literal [])); level = old.level; in_field = old.in_field } → out ≡ w.text ++ t →
+    w ≡ record { text = old.text ++ blank old.last (literal []); last = Some (edge_of (literal [])); level = old.level; in_field =
+        old.in_field } → out ≡ w.text ++ t →
     record { text = out; last = w.last; level = w.level; in_field = w.in_field } ≡ behind old (literal t)
 literal_on old w t out n h e =
     let a : out ≡ old.text ++ (blank old.last (literal t) ++ t) =
@@ -84,7 +88,8 @@ literal_on old w t out n h e =
     (λ i. record { text = a i; last = b i; level = ap (λ z. z.level) h i; in_field = ap (λ z. z.in_field) h i })
 
 -- the prefix and the quoted text are the literal
-pub prefixed_text : (points : List ℕ) (u : Bool) → prefix u ++ encode_utf8_all (repr_chars points) ≡ encode_utf8_all (literal_text (Str points u))
+pub prefixed_text : (points : List ℕ) (u : Bool) → prefix u ++ encode_utf8_all (repr_chars points) ≡ encode_utf8_all
+    (literal_text (Str points u))
 unfolding encode_utf8
 prefixed_text points true = refl
 prefixed_text points false = refl

@@ -1,5 +1,6 @@
 -- Carries: the writers. An f-string that is written step by step is one token.
-use Rattle.std.proofs.Common.{◌≡◌, ◌∙◌, ℕ, Bool, true, false, if◌then◌else◌, List, [], ◌∷◌, ◌++◌, Option, Some, None, refl, ap, sym, append_assoc}
+use Rattle.std.proofs.Common.{◌≡◌, ◌∙◌, ℕ, Bool, true, false, if◌then◌else◌, List, [], ◌∷◌, ◌++◌, Option, Some, None, refl, ap, sym}
+use Rattle.std.proofs.Common.{append_assoc}
 use Rattle.std.proofs.Common.{append-nil}
 use Rattle.std.specs.Prelude.{codes, not, ◌&&◌}
 use Rattle.std.specs.List.{flat_map}
@@ -27,7 +28,8 @@ unfolding encode_utf8
 brace_gap true = refl
 brace_gap false = refl
 
-field_blank : (p : Piece) → blank (Some field_edge) (in_utf8 p) ≡ encode_utf8_all (if begins_with left_curly_bracket p.text then 32 ∷ [] else [])
+field_blank : (p : Piece) → blank (Some field_edge) (in_utf8 p) ≡ encode_utf8_all
+    (if begins_with left_curly_bracket p.text then 32 ∷ [] else [])
 field_blank p = ap (λ b. if not b && true then [] else 32 ∷ []) (same_brace p.text) ∙ brace_gap (begins_with left_curly_bracket p.text)
 
 conversion_bytes : (c : Conversion) → encode_utf8_all (conversion_text c) ≡ conversion_text c
@@ -49,7 +51,8 @@ field_written v (p ∷ ps) =
     let here = p true in
     let gap = if begins_with left_curly_bracket here.text then 32 ∷ [] else [] in
     behind_text (behind (stepped v BeginField) (in_utf8 here)) here ps refl
-    ∙ ap (λ z. ((v.text ++ (123 ∷ [])) ++ (z ++ encode_utf8_all here.text)) ++ encode_utf8_all (text_behind here (at true ps))) (field_blank here)
+    ∙ ap (λ z. ((v.text ++ (123 ∷ [])) ++ (z ++ encode_utf8_all here.text)) ++ encode_utf8_all (text_behind here (at true ps)))
+        (field_blank here)
     ∙ joined v.text (encode_utf8_all gap) (encode_utf8_all here.text) (encode_utf8_all (text_behind here (at true ps)))
     ∙ ap (λ z. v.text ++ (123 ∷ z))
     (sym (encodes-append gap (here.text ++ text_behind here (at true ps)) ∙ ap (λ z. encode_utf8_all gap ++ z)
@@ -58,7 +61,8 @@ field_written v (p ∷ ps) =
   where
     joined : (a b c d : List ℕ) → ((a ++ (123 ∷ [])) ++ (b ++ c)) ++ d ≡ a ++ (123 ∷ (b ++ (c ++ d)))
     joined a b c d =
-        append_assoc (a ++ (123 ∷ [])) (b ++ c) d ∙ append_assoc a (123 ∷ []) ((b ++ c) ++ d) ∙ ap (λ z. a ++ (123 ∷ z)) (append_assoc b c d)
+        append_assoc (a ++ (123 ∷ [])) (b ++ c) d ∙ append_assoc a (123 ∷ []) ((b ++ c) ++ d)
+            ∙ ap (λ z. a ++ (123 ∷ z)) (append_assoc b c d)
 
 -- between the elements of an f-string
 record Between (is_in_field : Bool) (w : Writing) : Type 0 where
@@ -73,8 +77,10 @@ element_put b v Spec k = refl
 element_put b v End k = refl
 element_put b v (Field c ps) k =
     let level : (puts behind_sited (stepped v BeginField) ps).level ≡ v.level = level_kept (stepped v BeginField) ps in
-    let text : (puts behind_sited (stepped v BeginField) ps).text ++ conversion_text c ≡ v.text ++ encode_utf8_all (field_text (at true ps) ++ conversion_text c) =
-    ap (λ z. z ++ conversion_text c) (field_written v ps) ∙ append_assoc v.text (encode_utf8_all (field_text (at true ps))) (conversion_text c)
+    let text : (puts behind_sited (stepped v BeginField) ps).text ++ conversion_text c ≡ v.text ++ encode_utf8_all
+        (field_text (at true ps) ++ conversion_text c) =
+    ap (λ z. z ++ conversion_text c) (field_written v ps)
+        ∙ append_assoc v.text (encode_utf8_all (field_text (at true ps))) (conversion_text c)
     ∙ ap (λ z. v.text ++ z) (sym (encodes-append (field_text (at true ps))
     (conversion_text c) ∙ ap (λ z. encode_utf8_all (field_text (at true ps)) ++ z) (conversion_bytes c))) in
     (λ i. record { text = text i; last = sym k.last i; level = level i; in_field = sym k.field i })
@@ -88,7 +94,9 @@ elements_put b v (e ∷ es) k =
     ap (λ z. puts_elements behind_sited stepped b z es) (element_put b v e k)
     ∙ elements_put b (more v t) es (record { last = k.last; field = k.field })
     ∙
-    (λ i. record { text = (append_assoc v.text t u ∙ ap (λ z. v.text ++ z) (sym (encodes-append (element_text b e) (flat_map (element_text b) es)))) i; last = v.last; level = v.level; in_field = v.in_field })
+    (λ i. record { text =
+        (append_assoc v.text t u ∙ ap (λ z. v.text ++ z) (sym (encodes-append (element_text b e) (flat_map (element_text b) es)))) i; last =
+        v.last; level = v.level; in_field = v.in_field })
 
 -- an f-string's text is no sign
 string_sign : (b : Bool) (es : List (Element Sited)) → IsNoSign (encode_utf8_all (formatted_text b es))
@@ -114,9 +122,11 @@ string_is_token w es =
     let parts : (codes "f" ++ (quote b ∷ [])) ++ (encode_utf8_all inner ++ (quote b ∷ [])) ≡ whole =
     ap (λ z. z ++ (quote b ∷ [])) (opening_bytes b inner) ∙ ap (λ z. encode_utf8_all (open_text b es) ++ z)
     (sym (quote_bytes b)) ∙ sym (encodes-append (open_text b es) (quote b ∷ [])) in
-    let text : ((w.text ++ (blank w.last a_string ++ (codes "f" ++ (quote b ∷ [])))) ++ encode_utf8_all inner) ++ (quote b ∷ []) ≡ w.text ++ (blank w.last (literal whole) ++ whole) =
+    let text : ((w.text ++ (blank w.last a_string ++ (codes "f" ++ (quote b ∷ [])))) ++ encode_utf8_all inner) ++ (quote b ∷ []) ≡ w.text ++
+        (blank w.last (literal whole) ++ whole) =
     regrouped w.text (blank w.last a_string) (codes "f" ++ (quote b ∷ [])) (encode_utf8_all inner) (quote b ∷ [])
-    ∙ ap (λ z. w.text ++ (blank w.last a_string ++ z)) parts ∙ ap (λ z. w.text ++ (z ++ whole)) (sym (same_blank w.last whole (string_sign b es))) in
+    ∙ ap (λ z. w.text ++ (blank w.last a_string ++ z)) parts
+        ∙ ap (λ z. w.text ++ (z ++ whole)) (sym (same_blank w.last whole (string_sign b es))) in
     ap (λ z. more z (quote b ∷ [])) (elements_put b (stepped w Begin) es (record { last = refl; field = refl }))
     ∙ (λ i. record { text = text i; last = Some (sym (same_edge whole (string_sign b es)) i); level = w.level; in_field = w.in_field })
   where
@@ -142,7 +152,8 @@ put_in ts w [] h = refl
 put_in ts w (p ∷ ps) h = ap (λ z. puts listed_behind z ps) one ∙ put_in ts (behind_sited w (sited_in_utf8 p)) ps h
   where
     one : listed_behind (open_behind ts w) (sited_in_utf8 p) ≡ open_behind ts (behind_sited w (sited_in_utf8 p))
-    one = ap (λ b. behind_in ts (if b then Some w else None) (sited_in_utf8 p)) h ∙ ap (λ b. open_behind ts (behind w (sited_in_utf8 p b))) (sym h)
+    one = ap (λ b. behind_in ts (if b then Some w else None) (sited_in_utf8 p)) h
+        ∙ ap (λ b. open_behind ts (behind w (sited_in_utf8 p b))) (sym h)
 
 element_in : (b : Bool) (ts : List PlainToken) (w : Writing) (e : Element Sited)
     → puts_element listed_behind listed_stepped b (open_behind ts w) e ≡ open_behind ts (puts_element behind_sited stepped b w e)
@@ -155,7 +166,8 @@ elements_in : (b : Bool) (ts : List PlainToken) (w : Writing) (es : List (Elemen
     → puts_elements listed_behind listed_stepped b (open_behind ts w) es ≡ open_behind ts (puts_elements behind_sited stepped b w es)
 elements_in b ts w [] = refl
 elements_in b ts w (e ∷ es) =
-    ap (λ z. puts_elements listed_behind listed_stepped b z es) (element_in b ts w e) ∙ elements_in b ts (puts_element behind_sited stepped b w e) es
+    ap (λ z. puts_elements listed_behind listed_stepped b z es) (element_in b ts w e)
+        ∙ elements_in b ts (puts_element behind_sited stepped b w e) es
 
 -- the text that an f-string is written into
 abbrev pub around : Listed → Writing
@@ -173,7 +185,8 @@ site_of l = by l.string
     by (Some w) = at w w.in_field refl
 
 -- with the elements of an open f-string
-opened_text : (b : Bool) (l m : Listed) (es : List (Element Sited)) → m ≡ puts_elements listed_behind listed_stepped b (listed_stepped l Begin) es →
+opened_text : (b : Bool) (l m : Listed) (es : List (Element Sited)) → m ≡ puts_elements listed_behind listed_stepped b
+    (listed_stepped l Begin) es →
     m ≡ open_behind l.tokens (puts_elements behind_sited stepped b (stepped (around l) Begin) es)
 opened_text b l m es e = e ∙ elements_in b l.tokens (stepped (around l) Begin) es
 
@@ -198,26 +211,32 @@ ends_outside : (l : Listed) (w : Writing) (es : List (Element Sited)) → is_fie
 ends_outside l w es h e = by l.string h e
   where
     at : (v : Writing) (b : Bool) → b ≡ false → w ≡ behind_sited (or_none (if b then Some v else None)) (sited_in_utf8 (sited_string es))
-        → listed (l.tokens ++ record { kind = kinds.String; text = w.text } ∷ []) ≡ behind_in l.tokens (if b then Some v else None) (sited_in_utf8 (sited_string es))
+        → listed (l.tokens ++ record { kind = kinds.String; text = w.text } ∷ []) ≡ behind_in l.tokens (if b then Some v else None)
+            (sited_in_utf8 (sited_string es))
     at v true h e = absurd (cc)
     at v false h e = ap (λ (z : Writing). listed (l.tokens ++ record { kind = kinds.String; text = z.text } ∷ [])) e
 
     by : (o : Option Writing) → is_field o ≡ false → w ≡ behind_sited (or_none (field_of o)) (sited_in_utf8 (sited_string es))
-        → listed (l.tokens ++ record { kind = kinds.String; text = w.text } ∷ []) ≡ behind_in l.tokens (field_of o) (sited_in_utf8 (sited_string es))
+        → listed (l.tokens ++ record { kind = kinds.String; text = w.text } ∷ []) ≡ behind_in l.tokens (field_of o)
+            (sited_in_utf8 (sited_string es))
     by None h e = ap (λ (z : Writing). listed (l.tokens ++ record { kind = kinds.String; text = z.text } ∷ [])) e
     by (Some v) h e = at v v.in_field h e
 
 -- what ends is open
-pub not_closed : (b : Bool) (l m : Listed) (es : List (Element Sited)) → m ≡ puts_elements listed_behind listed_stepped b (listed_stepped l Begin) es
+pub not_closed : (b : Bool) (l m : Listed) (es : List (Element Sited)) → m ≡ puts_elements listed_behind listed_stepped b
+    (listed_stepped l Begin) es
     → m.string ≡ None → ⊥
-not_closed b l m es e n = let t : m.string ≡ Some (puts_elements behind_sited stepped b (stepped (around l) Begin) es) = ap (λ z. z.string) (opened_text b l m es e) in absurd (cc)
+not_closed b l m es e n = let t : m.string ≡ Some (puts_elements behind_sited stepped b (stepped (around l) Begin) es) =
+    ap (λ z. z.string) (opened_text b l m es e) in absurd (cc)
 
 -- the text of an f-string that ends
 abbrev pub IsEnded : Bool → Writing → Writing → Type 0
-IsEnded b w x = (v : Writing) (es : List (Element Sited)) → b ≡ v.in_field → w ≡ puts_elements behind_sited stepped b (stepped v Begin) es → x ≡ behind_sited v (sited_in_utf8 (sited_string es))
+IsEnded b w x = (v : Writing) (es : List (Element Sited)) → b ≡ v.in_field → w ≡ puts_elements behind_sited stepped b (stepped v Begin) es
+    → x ≡ behind_sited v (sited_in_utf8 (sited_string es))
 
 module _ (b : Bool) (l m : Listed) (w x : Writing) (es : List (Element Sited))
-    (site : b ≡ is_field l.string) (opened : m ≡ puts_elements listed_behind listed_stepped b (listed_stepped l Begin) es) (is : m.string ≡ Some w)
+    (site : b ≡ is_field l.string) (opened : m ≡ puts_elements listed_behind listed_stepped b (listed_stepped l Begin) es)
+        (is : m.string ≡ Some w)
     (ended : IsEnded b w x) where
   text_is : x ≡ behind_sited (around l) (sited_in_utf8 (sited_string es))
   text_is =

@@ -13,11 +13,13 @@ use Rattle.pylex_lexeme.specs.Operators.{operators, exact_of}
 use Rattle.pylex_lexeme.proofs.Callers.Booleans.{and_parts, or_parts}
 use Rattle.pylex_lexeme.proofs.Callers.Lexemes.{by_words}
 use Rattle.pyunparse_text.specs.Spacing.{Piece, is_token, is_operator_kind, touches, begins_operator, stay_apart, are_readable}
-use Rattle.pyunparse_text.specs.Inner.Edges.{begins_item, openers, stars, is_among, closings, leading, openings, trailing, begins_expression}
+use Rattle.pyunparse_text.specs.Inner.Edges.{begins_item, openers, stars, is_among, closings, leading, openings, trailing}
+use Rattle.pyunparse_text.specs.Inner.Edges.{begins_expression}
 use Rattle.pyunparse_text.specs.Inner.Edges.{ends_expression, is_free_behind, is_free_before, is_sign, fit, are_neat, begins_by, ends_by}
 use Rattle.pyunparse_text.proofs.LexemeFronts.PieceFronts.{ArePieces, words_all}
 use Rattle.pyunparse_text.proofs.Listings.Runs.{AreScalar}
-use Rattle.pyunparse_text.proofs.TokenLists.Joins.{neat_both, begins_both, ends_both, neat_readable, Balanced, balanced_within, behind_leading}
+use Rattle.pyunparse_text.proofs.TokenLists.Joins.{neat_both, begins_both, ends_both, neat_readable, Balanced, balanced_within}
+use Rattle.pyunparse_text.proofs.TokenLists.Joins.{behind_leading}
 use Rattle.pyunparse_text.proofs.TokenLists.Joins.{before_trailing, before_point, behind_point}
 use Rattle.pyunparse_text.proofs.Cases.{off}
 
@@ -44,9 +46,11 @@ both b f g e j xs ys x y = record {
     and x y e f = rw (e, f) refl
 
 -- other tests that say less
-pub weaker : (b c e f : Piece → Bool) → ((p : Piece) → b p ≡ true → c p ≡ true) → ((p : Piece) → e p ≡ true → f p ≡ true) → (xs : List Piece)
+pub weaker : (b c e f : Piece → Bool) → ((p : Piece) → b p ≡ true → c p ≡ true)
+    → ((p : Piece) → e p ≡ true → f p ≡ true) → (xs : List Piece)
     → Written b e xs → Written c f xs
-weaker b c e f g h xs x = record { pieces = x.pieces; scalars = x.scalars; neat = x.neat; begins = first xs x.begins; ends = last xs x.ends }
+weaker b c e f g h xs x = record { pieces = x.pieces; scalars = x.scalars; neat = x.neat; begins =
+    first xs x.begins; ends = last xs x.ends }
   where
     first : (xs : List Piece) → begins_by b xs ≡ true → begins_by c xs ≡ true
     first [] s = cc
@@ -79,10 +83,12 @@ pub trailing_fits : (p q : Piece) → ends_expression p ≡ true → is_sign tra
 trailing_fits p q a b = apart_fits p q (before_trailing p q a b)
 
 pub free_behind : (p : Piece) → ends_expression p ≡ true → is_free_behind p ≡ true
-free_behind p e = (and_parts (not (is_operator_kind p.kind) || is_among closings p.text) (not p.behind) (and_parts (is_token p.kind p.text) _ e).1).1
+free_behind p e = (and_parts (not (is_operator_kind p.kind) || is_among closings p.text) (not p.behind)
+    (and_parts (is_token p.kind p.text) _ e).1).1
 
 pub free_before : (p : Piece) → begins_expression p ≡ true → is_free_before p ≡ true
-free_before p e = (and_parts (not (is_operator_kind p.kind) || is_among openings p.text) (not p.before) (and_parts (is_token p.kind p.text) _ e).1).1
+free_before p e = (and_parts (not (is_operator_kind p.kind) || is_among openings p.text) (not p.before)
+    (and_parts (is_token p.kind p.text) _ e).1).1
 
 -- One piece
 abbrev pub Expression : List Piece → Type 0
@@ -90,10 +96,12 @@ Expression ps = Written begins_expression ends_expression ps
 
 pub one_piece : (p : Piece) → is_token p.kind p.text ≡ true → is_operator_kind p.kind ≡ false → p.before ≡ false → p.behind ≡ false
     → all_scalars p.text ≡ true → Expression (p ∷ [])
-one_piece p t o l r s = record { pieces = rw t refl; scalars = rw s refl; neat = refl; begins = rw (t, o, l) refl; ends = rw (t, o, r) refl }
+one_piece p t o l r s = record { pieces = rw t refl; scalars = rw s refl; neat = refl; begins = rw (t, o, l) refl;
+    ends = rw (t, o, r) refl }
 
 -- a sign alone, by what its neighbours are to know of it
-pub one_sign : (f : Piece → Bool) (p : Piece) → is_token p.kind p.text ≡ true → all_scalars p.text ≡ true → f p ≡ true → Written f f (p ∷ [])
+pub one_sign : (f : Piece → Bool) (p : Piece) → is_token p.kind p.text ≡ true → all_scalars p.text ≡ true
+    → f p ≡ true → Written f f (p ∷ [])
 one_sign f p t s e = record { pieces = rw t refl; scalars = rw s refl; neat = refl; begins = e; ends = e }
 
 -- Forms
@@ -103,8 +111,10 @@ sign l r t = record { kind = kinds.Op; text = t; before = l; behind = r }
 -- `(` xs `)`
 pub in_brackets : (xs : List Piece) → Expression xs → Expression (sign false true (codes "(") ∷ xs ++ sign true false (codes ")") ∷ [])
 in_brackets xs x =
-    let l : Written begins_expression (is_sign leading) (sign false true (codes "(") ∷ []) = (let t = by_words (codes "(") in record { pieces = rw t refl; scalars = refl; neat = refl; begins = rw t refl; ends = refl }) in
-    let r : Written (is_sign trailing) ends_expression (sign true false (codes ")") ∷ []) = (let t = by_words (codes ")") in record { pieces = rw t refl; scalars = refl; neat = refl; begins = refl; ends = rw t refl }) in
+    let l : Written begins_expression (is_sign leading) (sign false true (codes "(") ∷ []) =
+        (let t = by_words (codes "(") in record { pieces = rw t refl; scalars = refl; neat = refl; begins = rw t refl; ends = refl }) in
+    let r : Written (is_sign trailing) ends_expression (sign true false (codes ")") ∷ []) =
+        (let t = by_words (codes ")") in record { pieces = rw t refl; scalars = refl; neat = refl; begins = refl; ends = rw t refl }) in
     both begins_expression (is_sign leading) begins_expression ends_expression leading_fits
     (sign false true (codes "(") ∷ []) (xs ++ sign true false (codes ")") ∷ []) l
     (both begins_expression ends_expression (is_sign trailing) ends_expression trailing_fits xs (sign true false (codes ")") ∷ []) x r)
@@ -136,15 +146,20 @@ pub attribute : (xs : List Piece) (t : List ℕ) → Expression xs → is_token 
 attribute xs t x e s =
     let n : Expression (record { kind = kinds.Name; text = t; before = false; behind = false } ∷ []) =
     one_piece (record { kind = kinds.Name; text = t; before = false; behind = false }) e refl refl refl s in
-    let d : Written (λ q. is_operator_kind q.kind && bytes_eq q.text (codes ".")) ends_expression (sign true true (codes ".") ∷ record { kind = kinds.Name; text = t; before = false; behind = false } ∷ []) = (let o = by_words (codes ".") in record {
+    let d : Written (λ q. is_operator_kind q.kind && bytes_eq q.text (codes ".")) ends_expression
+        (sign true true (codes ".") ∷ record { kind = kinds.Name; text = t; before = false; behind = false } ∷ []) =
+        (let o = by_words (codes ".") in record {
       pieces = rw (o, e) refl;
       scalars = rw s refl;
-      neat = (let f = apart_fits (sign true true (codes ".")) (record { kind = kinds.Name; text = t; before = false; behind = false }) (behind_point (sign true true (codes ".")) (record { kind = kinds.Name; text = t; before = false; behind = false }) refl refl refl e) in rw f refl);
+      neat = (let f = apart_fits (sign true true (codes ".")) (record { kind = kinds.Name; text = t; before = false; behind = false })
+          (behind_point (sign true true (codes ".")) (record { kind = kinds.Name; text = t; before = false; behind = false }) refl
+          refl refl e) in rw f refl);
       begins = refl;
       ends = n.ends;
     }) in
     both begins_expression ends_expression (λ q. is_operator_kind q.kind && bytes_eq q.text (codes ".")) ends_expression
-    (λ p q a b. let h = and_parts (is_operator_kind q.kind) (bytes_eq q.text (codes ".")) b in before_point p q a h.0 ((bytes_eq-Decides q.text (codes ".")).0 h.1)) xs _ x d
+    (λ p q a b. let h = and_parts (is_operator_kind q.kind) (bytes_eq q.text (codes ".")) b in
+        before_point p q a h.0 ((bytes_eq-Decides q.text (codes ".")).0 h.1)) xs _ x d
 
 -- A line of an expression alone can be read back.
 pub expression_readable : (xs : List Piece) → Expression xs → are_readable xs ≡ true
@@ -175,18 +190,21 @@ opener_fits p q a b =
     leading_fits p q (rw (x.0, l) refl) h)
     (λ (h : ((is_operator_kind q.kind && is_among stars q.text) && not q.before) ≡ true).
     let s =
-    and_parts (is_operator_kind q.kind) (is_among stars q.text) (and_parts (is_operator_kind q.kind && is_among stars q.text) (not q.before) h).0 in
+    and_parts (is_operator_kind q.kind) (is_among stars q.text)
+        (and_parts (is_operator_kind q.kind && is_among stars q.text) (not q.before) h).0 in
     let n = off (bytes_eq p.text (codes ".")) (words_all (λ t. not (bytes_eq t (codes "."))) p.text openers refl x.1) in
     let m =
     off (begins_operator (p.text ++ take 1 q.text))
-    (words_all (λ u. not (begins_operator (p.text ++ take 1 u))) q.text stars (words_all (λ t. list_all (λ u. not (begins_operator (t ++ take 1 u))) stars) p.text openers openers_stars x.1) s.1) in
+    (words_all (λ u. not (begins_operator (p.text ++ take 1 u))) q.text stars
+        (words_all (λ t. list_all (λ u. not (begins_operator (t ++ take 1 u))) stars) p.text openers openers_stars x.1) s.1) in
     apart_fits p q (rw (x.0, n, m) refl))
     (or_parts (begins_expression q) ((is_operator_kind q.kind && is_among stars q.text) && not q.before) b)
 
 item_free : (q : Piece) → begins_item q ≡ true → is_free_before q ≡ true
 item_free q b = ⊎_elim
     (λ (h : begins_expression q ≡ true). free_before q h)
-    (λ (h : ((is_operator_kind q.kind && is_among stars q.text) && not q.before) ≡ true). (and_parts (is_operator_kind q.kind && is_among stars q.text) (not q.before) h).1)
+    (λ (h : ((is_operator_kind q.kind && is_among stars q.text) && not q.before) ≡ true).
+        (and_parts (is_operator_kind q.kind && is_among stars q.text) (not q.before) h).1)
     (or_parts (begins_expression q) ((is_operator_kind q.kind && is_among stars q.text) && not q.before) b)
 
 -- `*` xs
@@ -205,7 +223,8 @@ keyword t xs e s x =
     let m : Written (is_sign trailing) (is_sign leading) (sign true true (codes "=") ∷ []) =
     (let o = by_words (codes "=") in record { pieces = rw o refl; scalars = refl; neat = refl; begins = refl; ends = refl }) in
     item (record { kind = kinds.Name; text = t; before = false; behind = false } ∷ sign true true (codes "=") ∷ xs)
-    (both begins_expression ends_expression (is_sign trailing) ends_expression trailing_fits (record { kind = kinds.Name; text = t; before = false; behind = false } ∷ []) (sign true true (codes "=") ∷ xs) n
+    (both begins_expression ends_expression (is_sign trailing) ends_expression trailing_fits
+        (record { kind = kinds.Name; text = t; before = false; behind = false } ∷ []) (sign true true (codes "=") ∷ xs) n
     (both (is_sign trailing) (is_sign leading) begins_expression ends_expression leading_fits (sign true true (codes "=") ∷ []) xs m x))
 
 -- xs `,` ys
@@ -218,10 +237,13 @@ separated xs ys x y =
     (sign true false (codes ",") ∷ []) ys m y)
 
 -- xs `(` ys `)`
-pub called : (xs ys : List Piece) → Expression xs → Item ys → Expression (xs ++ (sign true true (codes "(") ∷ ys ++ sign true false (codes ")") ∷ []))
+pub called : (xs ys : List Piece) → Expression xs → Item ys
+    → Expression (xs ++ (sign true true (codes "(") ∷ ys ++ sign true false (codes ")") ∷ []))
 called xs ys x y =
-    let l : Written (is_sign trailing) (is_sign openers) (sign true true (codes "(") ∷ []) = (let o = by_words (codes "(") in record { pieces = rw o refl; scalars = refl; neat = refl; begins = refl; ends = refl }) in
-    let r : Written (is_sign trailing) ends_expression (sign true false (codes ")") ∷ []) = (let o = by_words (codes ")") in record { pieces = rw o refl; scalars = refl; neat = refl; begins = refl; ends = rw o refl }) in
+    let l : Written (is_sign trailing) (is_sign openers) (sign true true (codes "(") ∷ []) =
+        (let o = by_words (codes "(") in record { pieces = rw o refl; scalars = refl; neat = refl; begins = refl; ends = refl }) in
+    let r : Written (is_sign trailing) ends_expression (sign true false (codes ")") ∷ []) =
+        (let o = by_words (codes ")") in record { pieces = rw o refl; scalars = refl; neat = refl; begins = refl; ends = rw o refl }) in
     both begins_expression ends_expression (is_sign trailing) ends_expression trailing_fits xs
     (sign true true (codes "(") ∷ ys ++ sign true false (codes ")") ∷ []) x
     (both (is_sign trailing) (is_sign openers) begins_item ends_expression opener_fits (sign true true (codes "(") ∷ [])

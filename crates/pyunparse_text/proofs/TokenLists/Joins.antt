@@ -2,7 +2,8 @@
 --
 -- Carries: neat_both, begins_both, ends_both, neat_readable and 6 more, for Forms. On:
 -- PieceFronts, OperatorFronts, Cases.
-use Rattle.std.proofs.Common.{◌≡◌, ℕ, ◌+◌, ◌-◌, Bool, true, false, not, ◌&&◌, ◌||◌, ◌==◌, List, [], ◌∷◌, ◌++◌, take, refl, sym, ◌∙◌, ap, subst, arith}
+use Rattle.std.proofs.Common.{◌≡◌, ℕ, ◌+◌, ◌-◌, Bool, true, false, not, ◌&&◌, ◌||◌, ◌==◌, List, [], ◌∷◌, ◌++◌, take, refl, sym, ◌∙◌, ap}
+use Rattle.std.proofs.Common.{subst, arith}
 use Rattle.std.proofs.Common.{⊎_elim, eqb, append_assoc, append-nil, length, drop}
 use Rattle.std.specs.Prelude.{codes, nat_eq}
 use Rattle.std.specs.List.{list_all, list_any, starts_with}
@@ -16,9 +17,11 @@ use Rattle.pylex_lexeme.specs.Operators.{operators}
 use Rattle.pylex_lexeme.proofs.Callers.Booleans.{and_parts, or_parts}
 use Rattle.pylex_lexeme.proofs.Callers.Lexemes.{words, heads}
 use Rattle.pylex_lexeme.specs.Strings.{lower, prefixes}
-use Rattle.pyunparse_text.specs.Spacing.{Piece, is_token, is_operator_kind, is_number_kind, touches, stay_apart, are_two_points, begins_operator}
+use Rattle.pyunparse_text.specs.Spacing.{Piece, is_token, is_operator_kind, is_number_kind, touches, stay_apart, are_two_points}
+use Rattle.pyunparse_text.specs.Spacing.{begins_operator}
 use Rattle.pyunparse_text.specs.Spacing.{all_apart, are_readable}
-use Rattle.pyunparse_text.specs.Inner.Edges.{is_among, closings, leading, openings, trailing, begins_expression, ends_expression, is_sign, fit}
+use Rattle.pyunparse_text.specs.Inner.Edges.{is_among, closings, leading, openings, trailing, begins_expression, ends_expression, is_sign}
+use Rattle.pyunparse_text.specs.Inner.Edges.{fit}
 use Rattle.pyunparse_text.specs.Inner.Edges.{all_fit, are_neat, begins_by, ends_by}
 use Rattle.pyunparse_text.specs.Tokens.{opens, closes, closes_all}
 use Rattle.pyunparse_text.proofs.LexemeFronts.PieceFronts.{words_all, ArePieces, Off, no_token, none_empty}
@@ -26,7 +29,8 @@ use Rattle.pyunparse_text.proofs.LexemeFronts.OperatorFronts.{begins_word, of_an
 use Rattle.pyunparse_text.proofs.Cases.{bool_cases, cases, off}
 
 -- Neat lists, put together
-pub neat_both : (f g : Piece → Bool) → ((p q : Piece) → f p ≡ true → g q ≡ true → fit p q ≡ true) → (xs ys : List Piece) → are_neat xs ≡ true
+pub neat_both : (f g : Piece → Bool) → ((p q : Piece) → f p ≡ true → g q ≡ true → fit p q ≡ true)
+    → (xs ys : List Piece) → are_neat xs ≡ true
     → ends_by f xs ≡ true → are_neat ys ≡ true → begins_by g ys ≡ true → are_neat (xs ++ ys) ≡ true
 neat_both f g j [] ys a e b s = cc
 neat_both f g j (p ∷ []) [] a e b s = cc
@@ -76,7 +80,8 @@ balanced_one p o c d ys = rw (o, c) refl
 pub balanced_both : (xs ys : List Piece) → Balanced xs → Balanced ys → Balanced (xs ++ ys)
 balanced_both xs ys a b d zs = ap (closes_all d) (append_assoc xs ys zs) ∙ a d (ys ++ zs) ∙ b d zs
 
-pub balanced_within : (p q : Piece) (xs : List Piece) → opens p ≡ true → opens q ≡ false → closes q ≡ true → Balanced xs → Balanced (p ∷ xs ++ q ∷ [])
+pub balanced_within : (p q : Piece) (xs : List Piece) → opens p ≡ true → opens q ≡ false → closes q ≡ true → Balanced xs
+    → Balanced (p ∷ xs ++ q ∷ [])
 balanced_within p q xs o n c a d ys =
     let e : (d + 1 == 0) ≡ false = grind (arith, nat_tests) in
     let m : d + 1 - 1 ≡ d = omega arith in
@@ -102,7 +107,8 @@ begins_any t c [] a e = cc
 begins_any t c (o ∷ os) a e =
     let q = and_parts (list_all (λ d. list_any (eqb d) sign_chars) o) (list_all (list_all (λ d. list_any (eqb d) sign_chars)) os) a in
     ⊎_elim
-    (λ (h : starts_with nat_eq o (t ++ c ∷ []) ≡ true). char_of (λ d. list_any (eqb d) sign_chars) t (drop (length (t ++ c ∷ [])) o) c (subst (λ (u : List ℕ). list_all (λ d. list_any (eqb d) sign_chars) u ≡ true) (front_is o (t ++ c ∷ []) h) q.0))
+    (λ (h : starts_with nat_eq o (t ++ c ∷ []) ≡ true). char_of (λ d. list_any (eqb d) sign_chars) t (drop (length (t ++ c ∷ [])) o) c
+        (subst (λ (u : List ℕ). list_all (λ d. list_any (eqb d) sign_chars) u ≡ true) (front_is o (t ++ c ∷ []) h) q.0))
     (λ (h : list_any (λ o. starts_with nat_eq o (t ++ c ∷ [])) os ≡ true). begins_any t c os q.1 h)
     (or_parts (starts_with nat_eq o (t ++ c ∷ [])) (list_any (λ o. starts_with nat_eq o (t ++ c ∷ [])) os) e)
 
@@ -112,13 +118,15 @@ plain_head k t [] e f = absurd (none_empty k e)
 plain_head k t (c ∷ u) e f = cases (begins_operator (t ++ c ∷ [])) (λ h.
     let s : list_any (eqb c) sign_chars ≡ true = begins_any t c words refl (sym (begins_word (t ++ c ∷ [])) ∙ h) in
     let g = sign_of c (of_any is_sign_char c sign_chars refl s) in
-    let l = off (list_any (eqb (lower c)) (heads prefixes)) (of_any (λ d. not (list_any (eqb (lower d)) (heads prefixes))) c sign_chars refl s) in
+    let l = off (list_any (eqb (lower c)) (heads prefixes))
+        (of_any (λ d. not (list_any (eqb (lower d)) (heads prefixes))) c sign_chars refl s) in
     let o : Off c = record { name = g.starts; quote = g.quote; letter = l } in
     let n = no_token k c u o (λ z. g.digit) (λ z. absurd (let y : true ≡ false = sym z ∙ f in cc)) in
     cc)
 
 -- An expression after a sign
-pairs_all : (p : List ℕ → List ℕ → Bool) (ts us : List (List ℕ)) (t u : List ℕ) → list_all (λ x. list_all (p x) us) ts ≡ true → is_among ts t ≡ true
+pairs_all : (p : List ℕ → List ℕ → Bool) (ts us : List (List ℕ)) (t u : List ℕ)
+    → list_all (λ x. list_all (p x) us) ts ≡ true → is_among ts t ≡ true
     → is_among us u ≡ true → p t u ≡ true
 pairs_all p ts us t u a e f = words_all (p t) u us (words_all (λ x. list_all (p x) us) t ts a e) f
 
@@ -142,7 +150,8 @@ behind_leading p q a b =
     let n : bytes_eq p.text (codes ".") ≡ false =
     off (bytes_eq p.text (codes ".")) (words_all (λ t. not (bytes_eq t (codes "."))) p.text leading refl x.1) in
     let m : begins_operator (p.text ++ take 1 q.text) ≡ false = ⊎_elim
-    (λ (h : is_operator_kind q.kind ≡ true). let g : is_among openings q.text ≡ true = rw h at y.1 in off (begins_operator (p.text ++ take 1 q.text)) (pairs_all no_longer leading openings p.text q.text leading_openings x.1 g))
+    (λ (h : is_operator_kind q.kind ≡ true). let g : is_among openings q.text ≡ true = rw h at y.1 in
+        off (begins_operator (p.text ++ take 1 q.text)) (pairs_all no_longer leading openings p.text q.text leading_openings x.1 g))
     (λ (h : is_operator_kind q.kind ≡ false). plain_head q.kind p.text q.text y.0 h)
     (bool_cases (is_operator_kind q.kind)) in
     rw (x.0, n, m) refl
@@ -190,13 +199,15 @@ before_point p q a k t =
     off (bytes_eq p.text (codes ".")) (words_all (λ t. not (bytes_eq t (codes "."))) p.text closings refl g) in
     let m : begins_operator (p.text ++ take 1 q.text) ≡ false =
     ap (λ u. begins_operator (p.text ++ take 1 u)) t
-    ∙ off (begins_operator (p.text ++ 46 ∷ [])) (pairs_all no_longer closings (codes "." ∷ trailing) p.text (codes ".") closings_trailing g refl) in
+    ∙ off (begins_operator (p.text ++ 46 ∷ [])) (pairs_all no_longer closings (codes "." ∷ trailing) p.text (codes ".")
+        closings_trailing g refl) in
     let s : stay_apart p q ≡ true = rw (h, n, m) refl in
     last (not (touches p q)) (stay_apart p q) s)
     (λ (h : is_operator_kind p.kind ≡ false).
     ⊎_elim
     (λ (i : is_number_kind p.kind ≡ true). let u : touches p q ≡ false = rw (t, i) (blank (p.behind || q.before)) in rw u refl)
-    (λ (i : is_number_kind p.kind ≡ false). let s : stay_apart p q ≡ true = rw (h, k, i) refl in last (not (touches p q)) (stay_apart p q) s)
+    (λ (i : is_number_kind p.kind ≡ false). let s : stay_apart p q ≡ true = rw (h, k, i) refl in
+        last (not (touches p q)) (stay_apart p q) s)
     (bool_cases (is_number_kind p.kind)))
     (bool_cases (is_operator_kind p.kind))
   where

@@ -12,7 +12,8 @@ is_among ts t = list_any (bytes_eq t) ts
 
 -- operators after which an expression may stand without a blank: opening brackets, prefixes, and those with none on either side
 abbrev pub leading : List (List ℕ)
-leading = codes "(" ∷ codes "[" ∷ codes "{" ∷ codes "-" ∷ codes "+" ∷ codes "~" ∷ codes "*" ∷ codes "**" ∷ codes "@" ∷ codes "=" ∷ codes ":" ∷ []
+leading = codes "(" ∷ codes "[" ∷ codes "{" ∷ codes "-" ∷ codes "+" ∷ codes "~" ∷ codes "*" ∷ codes "**" ∷ codes "@" ∷
+    codes "=" ∷ codes ":" ∷ []
 
 -- operators that an expression begins with, stars aside
 abbrev pub openings : List (List ℕ)

@@ -4,7 +4,8 @@ use Rattle.pyast_command.proofs.StartLemmas.{starts, starts_at, refused, unresum
 use Rattle.pyast_command.proofs.listings.begin.Goals as goal
 
 pub returns-in_ok-new-in-None-clause-starts : goal.returns-in_ok-new-in-None-clause-starts
-returns-in_ok-new-in-None-clause-starts g c = rw c.in-None.is (starts _ _ _ _ 0 c.in_ok-new-in-None.ensures.begins.begins c.in_ok-new-in-None.ensures.given (λ p more broken s. refl))
+returns-in_ok-new-in-None-clause-starts g c =
+    rw c.in-None.is (starts _ _ _ _ 0 c.in_ok-new-in-None.ensures.begins.begins c.in_ok-new-in-None.ensures.given (λ p more broken s. refl))
 
 pub returns-in_ok-resume_checked-in-Some-clause-starts :
     goal.returns-in_ok-resume_checked-in-Some-clause-starts
@@ -19,5 +20,7 @@ returns-in_err-new-in-None-clause-refused g c =
 pub returns-in_err-resume_checked-in-Some-clause-refused :
     goal.returns-in_err-resume_checked-in-Some-clause-refused
 returns-in_err-resume_checked-in-Some-clause-refused g c =
-    let p = err_from_is_err_and c.from_residual-in_err-resume_checked-in-Some.result c.from_residual-in_err-resume_checked-in-Some.ensures.1 in
-    rw (p.1, p.2, c.in-Some.is) (λ exact count taken. unresumed exact count _ _ _ c.in_err-resume_checked-in-Some.field-0.0 taken c.in_err-resume_checked-in-Some.ensures.misses)
+    let p = err_from_is_err_and c.from_residual-in_err-resume_checked-in-Some.result
+        c.from_residual-in_err-resume_checked-in-Some.ensures.1 in
+    rw (p.1, p.2, c.in-Some.is) (λ exact count taken. unresumed exact count _ _ _ c.in_err-resume_checked-in-Some.field-0.0 taken
+        c.in_err-resume_checked-in-Some.ensures.misses)

@@ -7,7 +7,9 @@ use Rattle.pyast_words.proofs.command.tokens_of.Goals as goal
 
 pub returns-clause-given : goal.returns-clause-given
 returns-clause-given c = record {
-  exact = is_flag _ _ (λ e. c.get_flag-exact.ensures.none (one_text-rows (found_of c.args.matches.now) (codes "exact") ∙ e)) (λ e. c.get_flag-exact.ensures.value (one_text-rows (found_of c.args.matches.now) (codes "exact") ∙ e)) (λ e. c.get_flag-exact.ensures.other (one_text-rows (found_of c.args.matches.now) (codes "exact") ∙ e));
+  exact = is_flag _ _ (λ e. c.get_flag-exact.ensures.none (one_text-rows (found_of c.args.matches.now) (codes "exact") ∙ e))
+      (λ e. c.get_flag-exact.ensures.value (one_text-rows (found_of c.args.matches.now) (codes "exact") ∙ e))
+      (λ e. c.get_flag-exact.ensures.other (one_text-rows (found_of c.args.matches.now) (codes "exact") ∙ e));
   count = c.in_ok-count.ensures.given;
   resume = c.in_ok-resume.ensures.given;
   well_formed = c.in_ok-resume.ensures.well_formed;

@@ -5,7 +5,8 @@ use Rattle.pyparse.proofs.FinishLemmas.{sound_accepted, sound_refused}
 use Rattle.pyparse.proofs.known.finish_sound.Goals as goal
 
 pub returns-in-Ok-clause-accepted : goal.returns-in-Ok-clause-accepted
-returns-in-Ok-clause-accepted c profile s k forms outline was closes = sound_accepted closes (map stmt_of c.in-Ok.body.items) was (c.in-Ok.ensures.block forms (formed_proper was.formed) was.read)
+returns-in-Ok-clause-accepted c profile s k forms outline was closes = sound_accepted closes (map stmt_of c.in-Ok.body.items) was
+    (c.in-Ok.ensures.block forms (formed_proper was.formed) was.read)
 
 pub returns-in_ok-block_error-in-Err-clause-refused : goal.returns-in_ok-block_error-in-Err-clause-refused
 returns-in_ok-block_error-in-Err-clause-refused c profile s k forms outline was closes =

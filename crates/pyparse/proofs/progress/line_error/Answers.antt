@@ -14,4 +14,5 @@ returns-else-left_out c profile inside x refused is =
     no_form (subst (λ (s : Stop). Refused s profile inside (terminals x)) c.in-NoForm.is refused) (sym is ∙ c.if-left_out.false)
 
 pub returns-in-TooDeep : goal.returns-in-TooDeep
-returns-in-TooDeep c profile inside x refused is = unread_high inside x (subst (λ (s : Stop). Refused s profile inside (terminals x)) c.in-TooDeep.is refused)
+returns-in-TooDeep c profile inside x refused is =
+    unread_high inside x (subst (λ (s : Stop). Refused s profile inside (terminals x)) c.in-TooDeep.is refused)

@@ -12,20 +12,32 @@ use Rattle.pyparse_pattern.proofs.classes.make_class.Goals.{After-drop-entry-ite
 pub returns-in_err-height : goal.returns-in_err-height
 returns-in_err-height c =
     let es = map entry_of c.args.entries.items.items in
-    let f : c.args.room < pattern_height (MatchClass (tree_of c.args.class.expr.value) (elements es) (named_attributes es) (named_patterns es)) = omega (arith, c.in_err-height.ensures.low, c.max.ensures, class_tall (tree_of c.args.class.expr.value) es _ _ c.requires c.args.class.is_height c.args.entries.is_height) in
+    let f : c.args.room < pattern_height (MatchClass (tree_of c.args.class.expr.value) (elements es) (named_attributes es)
+        (named_patterns es)) = omega (arith, c.in_err-height.ensures.low, c.max.ensures, class_tall (tree_of c.args.class.expr.value) es _ _
+        c.requires c.args.class.is_height c.args.entries.is_height) in
     search (rules, f)
 
 -- the value of the pattern
-value : (c : After-drop-entry-iterator-2) → pattern_of (variant.MatchClass c.args.class.expr c.loop-entry.parts.patterns c.loop-entry.parts.kwd_attrs c.loop-entry.parts.kwd_patterns) ≡ MatchClass (tree_of c.args.class.expr.value) (elements (map entry_of c.args.entries.items.items)) (named_attributes (map entry_of c.args.entries.items.items)) (named_patterns (map entry_of c.args.entries.items.items))
+value : (c : After-drop-entry-iterator-2)
+    → pattern_of (variant.MatchClass c.args.class.expr c.loop-entry.parts.patterns c.loop-entry.parts.kwd_attrs
+    c.loop-entry.parts.kwd_patterns) ≡ MatchClass (tree_of c.args.class.expr.value) (elements (map entry_of c.args.entries.items.items))
+    (named_attributes (map entry_of c.args.entries.items.items)) (named_patterns (map entry_of c.args.entries.items.items))
 value c =
-    let l : length c.loop-entry.entry-iterator.rest.items ≡ 0 = omega (arith, c.loop-entry.entry-iterator.rest.ok.0, c.in-None.ensures.steps.0) in
-    class_shape c.args.class.expr c.loop-entry.parts.patterns c.loop-entry.parts.kwd_attrs c.loop-entry.parts.kwd_patterns (map entry_of c.args.entries.items.items)
-    (ended (map pattern_of c.loop-entry.parts.patterns.items) _ alone_in c.loop-entry.entry-iterator.rest.items l refl c.loop-entry.invariant.patterns)
+    let l : length c.loop-entry.entry-iterator.rest.items ≡ 0 = omega (arith, c.loop-entry.entry-iterator.rest.ok.0,
+        c.in-None.ensures.steps.0) in
+    class_shape c.args.class.expr c.loop-entry.parts.patterns c.loop-entry.parts.kwd_attrs c.loop-entry.parts.kwd_patterns
+        (map entry_of c.args.entries.items.items)
+    (ended (map pattern_of c.loop-entry.parts.patterns.items) _ alone_in c.loop-entry.entry-iterator.rest.items l refl
+        c.loop-entry.invariant.patterns)
     (ended c.loop-entry.parts.kwd_attrs.items _ named_attributes c.loop-entry.entry-iterator.rest.items l refl c.loop-entry.invariant.names)
-    (ended (map pattern_of c.loop-entry.parts.kwd_patterns.items) _ named_in c.loop-entry.entry-iterator.rest.items l refl c.loop-entry.invariant.named)
+    (ended (map pattern_of c.loop-entry.parts.kwd_patterns.items) _ named_in c.loop-entry.entry-iterator.rest.items l refl
+        c.loop-entry.invariant.named)
 
 pub boxed-requires : goal.boxed-requires
-boxed-requires c = c.in_ok-height.ensures.one ∙ ap (λ n. n + 1) c.max.ensures ∙ sym (class_tall (tree_of c.args.class.expr.value) (map entry_of c.args.entries.items.items) _ _ c.requires c.args.class.is_height c.args.entries.is_height) ∙ ap pattern_height (sym (value c))
+boxed-requires c = c.in_ok-height.ensures.one ∙ ap (λ n. n + 1) c.max.ensures
+    ∙ sym (class_tall (tree_of c.args.class.expr.value) (map entry_of c.args.entries.items.items) _ _ c.requires c.args.class.is_height
+    c.args.entries.is_height) ∙ ap pattern_height (sym (value c))
 
 pub returns : goal.returns
-returns c = made_of c.args.room _ _ _ c.args.next c.boxed.result c.in_ok-height.ensures.low (value (goal.at.returns c).After-drop-entry-iterator-2) c.boxed.ensures
+returns c = made_of c.args.room _ _ _ c.args.next c.boxed.result c.in_ok-height.ensures.low
+    (value (goal.at.returns c).After-drop-entry-iterator-2) c.boxed.ensures

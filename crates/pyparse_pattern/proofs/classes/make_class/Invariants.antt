@@ -6,7 +6,10 @@ use Rattle.pyparse_pattern.proofs.classes.make_class.Given as goal
 
 abbrev pub invariant-loop-entry : goal.invariant-loop-entry
 invariant-loop-entry l = record {
-  patterns : map pattern_of l.parts.patterns.items ++ alone_in (map entry_of l.entry-iterator.rest.items) ≡ alone_in (map entry_of l.fn.entries.items.items);
-  names : l.parts.kwd_attrs.items ++ named_attributes (map entry_of l.entry-iterator.rest.items) ≡ named_attributes (map entry_of l.fn.entries.items.items);
-  named : map pattern_of l.parts.kwd_patterns.items ++ named_in (map entry_of l.entry-iterator.rest.items) ≡ named_in (map entry_of l.fn.entries.items.items);
+  patterns : map pattern_of l.parts.patterns.items ++ alone_in (map entry_of l.entry-iterator.rest.items) ≡ alone_in
+      (map entry_of l.fn.entries.items.items);
+  names : l.parts.kwd_attrs.items ++ named_attributes (map entry_of l.entry-iterator.rest.items) ≡ named_attributes
+      (map entry_of l.fn.entries.items.items);
+  named : map pattern_of l.parts.kwd_patterns.items ++ named_in (map entry_of l.entry-iterator.rest.items) ≡ named_in
+      (map entry_of l.fn.entries.items.items);
 }

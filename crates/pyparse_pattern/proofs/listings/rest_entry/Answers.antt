@@ -7,5 +7,6 @@ returns-else-is_wildcard c = record {
   ahead = omega arith;
   within = omega (arith, c.in-Some.ensures.within);
   low = omega arith;
-  is = rest_found c.args.tokens.now c.args.at _ c.in-Some.ensures.is c.in-Some.ensures.within c.in_ok-name-in-Some.name c.in_ok-name-in-Some.ensures (sym c.if-is_wildcard.ensures);
+  is = rest_found c.args.tokens.now c.args.at _ c.in-Some.ensures.is c.in-Some.ensures.within c.in_ok-name-in-Some.name
+      c.in_ok-name-in-Some.ensures (sym c.if-is_wildcard.ensures);
 }

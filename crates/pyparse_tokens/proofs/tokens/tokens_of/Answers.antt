@@ -33,7 +33,8 @@ loop-gather-init c =
       typed = tokens_are_sound s c.new-lister.ensures.lawful;
       lies = c.new-lister.ensures.lies;
       extent = c.in_ok-gather.ensures.extent;
-      gathered = subst (λ (es : List Entry). Gathered (chars c.args.source.now.text) es c.in_ok-gather.gather) (sym none) c.in_ok-gather.ensures.gathered;
+      gathered = subst (λ (es : List Entry). Gathered (chars c.args.source.now.text) es c.in_ok-gather.gather) (sym none)
+          c.in_ok-gather.ensures.gathered;
     }
 
 pub take-requires-clause-lies : goal.take-requires-clause-lies
@@ -41,7 +42,8 @@ take-requires-clause-lies c =
     let s = in_characters c.args.source.now in
     let k = c.loop-gather.lister.shown.given in
     let entry = c.in-Entry.entry in
-    let m = moved c.loop-gather.lister c.next.new.self c.in_ok-entry.field-0 (steps.Entry entry) s k c.in_ok-entry.ensures.steps c.in-Entry.is
+    let m = moved c.loop-gather.lister c.next.new.self c.in_ok-entry.field-0 (steps.Entry entry) s k
+        c.in_ok-entry.ensures.steps c.in-Entry.is
     c.loop-gather.invariant.stands in
     entry_lies c.args.source.now.text (listing s) k entry c.loop-gather.invariant.lies m.0
 
@@ -64,7 +66,8 @@ loop-gather-smaller c =
     let s = in_characters c.args.source.now in
     let k = c.loop-gather.lister.shown.given in
     let entry = c.in-Entry.entry in
-    let m = moved c.loop-gather.lister c.next.new.self c.in_ok-entry.field-0 (steps.Entry entry) s k c.in_ok-entry.ensures.steps c.in-Entry.is
+    let m = moved c.loop-gather.lister c.next.new.self c.in_ok-entry.field-0 (steps.Entry entry) s k
+        c.in_ok-entry.ensures.steps c.in-Entry.is
     c.loop-gather.invariant.stands in
     let next = at_entry (listing s) k entry c.loop-gather.invariant.whole m.0 in
     omega (arith, m.1.count, next.0)
@@ -76,7 +79,8 @@ loop-gather-preserved c =
     let es = entries_of (listing s) in
     let text = chars c.args.source.now.text in
     let entry = c.in-Entry.entry in
-    let m = moved c.loop-gather.lister c.next.new.self c.in_ok-entry.field-0 (steps.Entry entry) s k c.in_ok-entry.ensures.steps c.in-Entry.is
+    let m = moved c.loop-gather.lister c.next.new.self c.in_ok-entry.field-0 (steps.Entry entry) s k
+        c.in_ok-entry.ensures.steps c.in-Entry.is
     c.loop-gather.invariant.stands in
     let next = at_entry (listing s) k entry c.loop-gather.invariant.whole m.0 in
     let grown = ap (λ (n : ℕ). take n es) m.1.count ∙ next.1 in
@@ -90,7 +94,8 @@ loop-gather-preserved c =
       extent = c.in_ok-take-in-Entry.ensures.pass.extent ∙ c.loop-gather.invariant.extent;
       gathered =
           subst (λ (read : List Entry). Gathered text read c.take.new.self) (sym grown)
-          (gathers text (take k es) entry c.loop-gather.gather c.take.new.self c.loop-gather.invariant.gathered c.in_ok-take-in-Entry.ensures);
+          (gathers text (take k es) entry c.loop-gather.gather c.take.new.self c.loop-gather.invariant.gathered
+              c.in_ok-take-in-Entry.ensures);
     }
 
 pub returns-in-End-clause-tokens : goal.returns-in-End-clause-tokens
@@ -110,7 +115,8 @@ returns-in-End-clause-sound c =
     let m = moved c.loop-gather.lister c.next.new.self c.in_ok-entry.field-0 steps.End s k c.in_ok-entry.ensures.steps c.in-End.is
     c.loop-gather.invariant.stands in
     let last = at_stop (listing s) k steps.End c.loop-gather.invariant.whole c.loop-gather.invariant.within tt m.0 in
-    let all = all_refusals c.args.extent s (take k (entries_of (listing s))) c.loop-gather.gather.pass c.loop-gather.invariant.extent c.loop-gather.invariant.gathered.pass last.0 last.1 in
+    let all = all_refusals c.args.extent s (take k (entries_of (listing s))) c.loop-gather.gather.pass c.loop-gather.invariant.extent
+        c.loop-gather.invariant.gathered.pass last.0 last.1 in
     subst (λ (r : Option Refusal). OnOk c.finish.result (r ≡ None)) all c.finish.ensures.sound
 
 pub returns-in-End-clause-refused : goal.returns-in-End-clause-refused
@@ -120,7 +126,8 @@ returns-in-End-clause-refused c =
     let m = moved c.loop-gather.lister c.next.new.self c.in_ok-entry.field-0 steps.End s k c.in_ok-entry.ensures.steps c.in-End.is
     c.loop-gather.invariant.stands in
     let last = at_stop (listing s) k steps.End c.loop-gather.invariant.whole c.loop-gather.invariant.within tt m.0 in
-    let all = all_refusals c.args.extent s (take k (entries_of (listing s))) c.loop-gather.gather.pass c.loop-gather.invariant.extent c.loop-gather.invariant.gathered.pass last.0 last.1 in
+    let all = all_refusals c.args.extent s (take k (entries_of (listing s))) c.loop-gather.gather.pass c.loop-gather.invariant.extent
+        c.loop-gather.invariant.gathered.pass last.0 last.1 in
     subst (λ (r : Option Refusal). IfErr c.finish.result (Tells r)) all c.finish.ensures.refused
 
 pub returns-in-Fault-clause-refused : goal.returns-in-Fault-clause-refused
@@ -128,7 +135,8 @@ returns-in-Fault-clause-refused c =
     let s = in_characters c.args.source.now in
     let k = c.loop-gather.lister.shown.given in
     let fault = c.in-Fault.fault in
-    let m = moved c.loop-gather.lister c.next.new.self c.in_ok-entry.field-0 (steps.Fault fault) s k c.in_ok-entry.ensures.steps c.in-Fault.is
+    let m = moved c.loop-gather.lister c.next.new.self c.in_ok-entry.field-0 (steps.Fault fault) s k
+        c.in_ok-entry.ensures.steps c.in-Fault.is
     c.loop-gather.invariant.stands in
     let last = at_stop (listing s) k (steps.Fault fault) c.loop-gather.invariant.whole c.loop-gather.invariant.within tt m.0 in
     refused_listing c.args.extent s fault last.1

@@ -11,5 +11,6 @@ use Rattle.pytree_fits.proofs.Counts.{with_case}
 use Rattle.pytree_fits.proofs.headers.match_head_fits.Goals as goal
 
 pub returns : goal.returns
-returns c = last_of_three c.expr_fits.result (is_whole c.args.asked.extent) (has_case (cases (map case_of c.args.clauses.now))) (fits_at (tests_at c.args.asked.extent c.args.asked.fields) Expression (tree_of c.args.subject.now))
+returns c = last_of_three c.expr_fits.result (is_whole c.args.asked.extent) (has_case (cases (map case_of c.args.clauses.now)))
+    (fits_at (tests_at c.args.asked.extent c.args.asked.fields) Expression (tree_of c.args.subject.now))
     c.if-not-is_whole.ensures (with_case case_of c.args.clauses.now c.if-is_empty.ensures) c.expr_fits.ensures

@@ -6,7 +6,9 @@ use Rattle.pytree_fits.proofs.Loops.{mapped_on, mapped_stops}
 use Rattle.pytree_fits.proofs.imports.modules_fit.Goals as goal
 
 pub loop-alias-preserved : goal.loop-alias-preserved
-loop-alias-preserved c = mapped_on (import_fits is_name) alias_of _ c.loop-alias-test.true c.alias-item.is c.loop-alias.invariant c.in_ok-module_fits.ensures c.if-not-branch.false
+loop-alias-preserved c = mapped_on (import_fits is_name) alias_of _ c.loop-alias-test.true c.alias-item.is c.loop-alias.invariant
+    c.in_ok-module_fits.ensures c.if-not-branch.false
 
 pub returns-then-not-branch : goal.returns-then-not-branch
-returns-then-not-branch c = second_fails _ _ (mapped_stops (import_fits is_name) alias_of _ c.loop-alias-test.true c.alias-item.is c.in_ok-module_fits.ensures c.if-not-branch.true)
+returns-then-not-branch c = second_fails _ _ (mapped_stops (import_fits is_name) alias_of _ c.loop-alias-test.true c.alias-item.is
+    c.in_ok-module_fits.ensures c.if-not-branch.true)

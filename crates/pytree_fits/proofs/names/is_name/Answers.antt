@@ -10,4 +10,5 @@ pub returns-then-is_keyword : goal.returns-then-is_keyword
 returns-then-is_keyword c = sym (a_keyword (chars c.args.text.now) (sym c.if-not-is_identifier.ensures) (sym c.if-is_keyword.ensures))
 
 pub returns : goal.returns
-returns c = told c.is_nfkc.result (chars c.args.text.now) (sym c.if-not-is_identifier.ensures) (sym c.if-is_keyword.ensures) c.is_nfkc.ensures.answer
+returns c = told c.is_nfkc.result (chars c.args.text.now) (sym c.if-not-is_identifier.ensures) (sym c.if-is_keyword.ensures)
+    c.is_nfkc.ensures.answer

@@ -6,4 +6,5 @@ use Rattle.pytree_fits.specs.Statements.{type_param_fits}
 use Rattle.pytree_fits.proofs.simple.each_type_param_fits.Given as goal
 
 abbrev pub invariant-loop-parameter : goal.invariant-loop-parameter
-invariant-loop-parameter l = list_all (type_param_fits (tests_at l.asked.extent l.asked.fields)) (map type_param_of (take l.parameter-index l.parameters)) ≡ true
+invariant-loop-parameter l = list_all (type_param_fits (tests_at l.asked.extent l.asked.fields))
+    (map type_param_of (take l.parameter-index l.parameters)) ≡ true

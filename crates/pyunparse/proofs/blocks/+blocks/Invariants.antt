@@ -9,19 +9,23 @@ use Rattle.pyunparse.proofs.blocks.+blocks.Given as goal
 
 abbrev pub invariant-write_stmts-loop-s : goal.invariant-write_stmts-loop-s
 invariant-write_stmts-loop-s l = record {
-  text : l.out.text ++ in_utf8 (lines_of piece l.initial.out.level (stmts (map stmt_of (drop l.s-index l.body)))) ≡ l.initial.out.text ++ in_utf8 (lines_of piece l.initial.out.level (stmts (map stmt_of l.body)));
+  text : l.out.text ++ in_utf8 (lines_of piece l.initial.out.level (stmts (map stmt_of (drop l.s-index l.body)))) ≡ l.initial.out.text ++
+      in_utf8 (lines_of piece l.initial.out.level (stmts (map stmt_of l.body)));
   level : l.out.level ≡ l.initial.out.level;
 }
 
 abbrev pub invariant-write_handlers-loop-handler : goal.invariant-write_handlers-loop-handler
 invariant-write_handlers-loop-handler l = record {
-  text : l.out.text ++ in_utf8 (handler_lines piece l.initial.out.level l.is_star (handlers (map handler_of (drop l.handler-index l.caught)))) ≡ l.initial.out.text ++ in_utf8 (handler_lines piece l.initial.out.level l.is_star (handlers (map handler_of l.caught)));
+  text : l.out.text ++ in_utf8 (handler_lines piece l.initial.out.level l.is_star
+      (handlers (map handler_of (drop l.handler-index l.caught)))) ≡ l.initial.out.text ++ in_utf8
+      (handler_lines piece l.initial.out.level l.is_star (handlers (map handler_of l.caught)));
   level : l.out.level ≡ l.initial.out.level;
 }
 
 abbrev pub invariant-write_cases-loop-case : goal.invariant-write_cases-loop-case
 invariant-write_cases-loop-case l = record {
-  text : l.out.text ++ in_utf8 (case_lines piece l.initial.out.level (cases (map case_of (drop l.case-index l.clauses)))) ≡ l.initial.out.text ++ in_utf8 (case_lines piece l.initial.out.level (cases (map case_of l.clauses)));
+  text : l.out.text ++ in_utf8 (case_lines piece l.initial.out.level (cases (map case_of (drop l.case-index l.clauses)))) ≡
+      l.initial.out.text ++ in_utf8 (case_lines piece l.initial.out.level (cases (map case_of l.clauses)));
   level : l.out.level ≡ l.initial.out.level;
 }
 
@@ -77,7 +81,9 @@ abbrev pub decreases-write_class : goal.decreases-write_class
 decreases-write_class l = 8 * stmt_heights (stmts (map stmt_of l.body.now)) + 5
 
 abbrev pub decreases-write_try : goal.decreases-write_try
-decreases-write_try l = 8 * max (stmt_heights (stmts (map stmt_of l.body.now))) (max (handler_heights (handlers (map handler_of l.caught.now))) (max (stmt_heights (stmts (map stmt_of l.orelse.now))) (stmt_heights (stmts (map stmt_of l.finalbody.now))))) + 5
+decreases-write_try l = 8 * max (stmt_heights (stmts (map stmt_of l.body.now)))
+    (max (handler_heights (handlers (map handler_of l.caught.now))) (max (stmt_heights (stmts (map stmt_of l.orelse.now)))
+    (stmt_heights (stmts (map stmt_of l.finalbody.now))))) + 5
 
 abbrev pub decreases-write_elif : goal.decreases-write_elif
 decreases-write_elif l = 8 * stmt_height (stmt_of l.s.now) + 1

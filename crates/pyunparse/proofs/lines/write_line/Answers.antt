@@ -6,4 +6,5 @@ use Rattle.pyunparse.proofs.Texts.LineLemmas.{whole_line}
 use Rattle.pyunparse.proofs.lines.write_line.Goals as goal
 
 pub returns : goal.returns
-returns c = IfOk-weaker _ _ _ (λ _ e. whole_line c.args.out.now _ _ _ (simple_tokens piece (stmt_of c.args.s.now)) c.in_ok-begin_line.ensures c.in_ok-write_simple.ensures e) c.end_line.ensures
+returns c = IfOk-weaker _ _ _ (λ _ e. whole_line c.args.out.now _ _ _ (simple_tokens piece (stmt_of c.args.s.now))
+    c.in_ok-begin_line.ensures c.in_ok-write_simple.ensures e) c.end_line.ensures

@@ -6,7 +6,8 @@ use Rattle.pyunparse_text.specs.Written.{is_unicode}
 use Rattle.pyunparse.proofs.string_texts.+kinds.Given as goal
 
 abbrev pub invariant-is_unicode-loop-value : goal.invariant-is_unicode-loop-value
-invariant-is_unicode-loop-value l = is_unicode (exprs (map tree_of (drop l.value-index l.values))) ≡ is_unicode (exprs (map tree_of l.values))
+invariant-is_unicode-loop-value l = is_unicode (exprs (map tree_of (drop l.value-index l.values))) ≡ is_unicode
+    (exprs (map tree_of l.values))
 
 abbrev pub decreases-is_unicode : goal.decreases-is_unicode
 decreases-is_unicode l = 4 * heights (exprs (map tree_of l.values.now)) + 1

@@ -6,4 +6,6 @@ pub returns-then-is_empty : goal.returns-then-is_empty
 returns-then-is_empty c = sym (first_none c.args.values.now c.is_empty.result c.is_empty.ensures c.if-is_empty.true)
 
 pub returns : goal.returns
-returns c = c.text_of.ensures ∙ sym (first_read c.args.values.now c.index-values-0.result c.is_empty.result c.is_empty.ensures c.if-is_empty.false c.index-values-0.is)
+returns c = c.text_of.ensures
+    ∙ sym (first_read c.args.values.now c.index-values-0.result c.is_empty.result c.is_empty.ensures
+    c.if-is_empty.false c.index-values-0.is)

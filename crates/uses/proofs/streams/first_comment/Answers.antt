@@ -19,10 +19,12 @@ loop-step-preserved g c =
     goes_on c.in-Ok.ensures.steps c.loop-step.invariant c.in-Entry.entry c.in-Entry.is (other_is c.in-Entry.entry other)
 
 pub returns-in_default-step : goal.returns-in_default-step
-returns-in_default-step g c = record { found = finds_none c.in-Ok.ensures.steps c.loop-step.invariant c.in_default-step.not-Entry; refused = tt }
+returns-in_default-step g c =
+    record { found = finds_none c.in-Ok.ensures.steps c.loop-step.invariant c.in_default-step.not-Entry; refused = tt }
 
 pub returns-then-eq-clause-found : goal.returns-then-eq-clause-found
 returns-then-eq-clause-found g c =
     let same : c.in-Entry.entry.kind ≡ kinds.Comment = same_true the_type (search rules) _ _ (sym c.eq.ensures ∙ c.if-eq.true) in
-    finds c.in-Ok.ensures.steps c.loop-step.invariant c.in-Entry.entry c.in-Ok-from_str.comment c.in-Entry.is (comment_is c.in-Entry.entry same)
+    finds c.in-Ok.ensures.steps c.loop-step.invariant c.in-Entry.entry c.in-Ok-from_str.comment c.in-Entry.is
+        (comment_is c.in-Entry.entry same)
     (λ p k more broken s. c.in-Ok-from_str.ensures.ok ∙ c.text.ensures p k more broken s)

@@ -4,4 +4,5 @@ use Rattle.pyparse_line.proofs.headers.DefinitionSteps.{function_open}
 use Rattle.pyparse_line.proofs.headers.definitions.function_rest.Goals as goal
 
 pub returns : goal.returns
-returns c = function_open c.args.tokens.now c.args.depth c.args.name (map type_param_of c.args.types.params.items) c.args.types.next c.if-not-is_op.ensures c.args.is_async c.function_at.result c.function_at.ensures
+returns c = function_open c.args.tokens.now c.args.depth c.args.name (map type_param_of c.args.types.params.items) c.args.types.next
+    c.if-not-is_op.ensures c.args.is_async c.function_at.result c.function_at.ensures

@@ -11,22 +11,35 @@ use Rattle.pyparse_line.proofs.headers.items.items_at.Goals as goal
 pub more-init : goal.more-init
 more-init c = record {
   ahead = omega (arith, c.no_items-items.ensures.next);
-  is = list_start c.args.tokens.now (read_item (reads c.args.depth)) (more_items c.args.in_brackets) c.args.at (map item_of c.no_items-items.result.items.items) c.no_items-items.result.next c.requires c.no_items-items.ensures.items c.no_items-items.ensures.next;
+  is = list_start c.args.tokens.now (read_item (reads c.args.depth)) (more_items c.args.in_brackets) c.args.at
+      (map item_of c.no_items-items.result.items.items) c.no_items-items.result.next c.requires c.no_items-items.ensures.items
+      c.no_items-items.ensures.next;
 }
 
 pub returns-in_err-item : goal.returns-in_err-item
 returns-in_err-item c =
-    let f = list_failed c.args.tokens.now (read_item (reads c.args.depth)) (more_items c.args.in_brackets) _ (map item_of c.more.items.items.items) c.more.items.next c.more.invariant.is c.in_err-item.field-0.0 c.in_err-item.ensures in
+    let f = list_failed c.args.tokens.now (read_item (reads c.args.depth)) (more_items c.args.in_brackets) _
+        (map item_of c.more.items.items.items) c.more.items.next c.more.invariant.is c.in_err-item.field-0.0 c.in_err-item.ensures in
     search (rules, f)
 
 pub returns-then-not-is_op : goal.returns-then-not-is_op
-returns-then-not-is_op c = items_last c.args.tokens.now (reads c.args.depth) (more_items c.args.in_brackets) _ c.more.items c.more.invariant.is c.in_ok-item.item c.in_ok-item.ensures c.in_ok-grown.grown c.in_ok-grown.ensures.items c.in_ok-grown.ensures.next c.args.at c.more.invariant.ahead c.if-not-is_op.ensures
+returns-then-not-is_op c = items_last c.args.tokens.now (reads c.args.depth) (more_items c.args.in_brackets) _ c.more.items
+    c.more.invariant.is c.in_ok-item.item c.in_ok-item.ensures c.in_ok-grown.grown c.in_ok-grown.ensures.items c.in_ok-grown.ensures.next
+    c.args.at c.more.invariant.ahead c.if-not-is_op.ensures
 
 pub returns-then-not-goes_on : goal.returns-then-not-goes_on
-returns-then-not-goes_on c = items_end c.args.tokens.now (reads c.args.depth) (more_items c.args.in_brackets) _ c.more.items c.more.invariant.is c.in_ok-item.item c.in_ok-item.ensures c.in_ok-grown.grown c.in_ok-grown.ensures.items c.in_ok-grown.ensures.next c.if-not-is_op.ensures c.placed-items.result c.placed-items.ensures.items c.placed-items.ensures.next c.args.at c.more.invariant.ahead (ap (λ n. more_items c.args.in_brackets (seen c.args.tokens.now n)) c.placed-items.ensures.next ∙ sym c.goes_on.ensures ∙ c.if-not-goes_on.true)
+returns-then-not-goes_on c = items_end c.args.tokens.now (reads c.args.depth) (more_items c.args.in_brackets) _ c.more.items
+    c.more.invariant.is c.in_ok-item.item c.in_ok-item.ensures c.in_ok-grown.grown c.in_ok-grown.ensures.items c.in_ok-grown.ensures.next
+    c.if-not-is_op.ensures c.placed-items.result c.placed-items.ensures.items c.placed-items.ensures.next c.args.at c.more.invariant.ahead
+    (ap (λ n. more_items c.args.in_brackets (seen c.args.tokens.now n)) c.placed-items.ensures.next ∙ sym c.goes_on.ensures
+    ∙ c.if-not-goes_on.true)
 
 pub more-preserved : goal.more-preserved
 more-preserved c = record {
   ahead = omega (arith, c.more.invariant.ahead, c.in_ok-item.ensures.ahead, c.in_ok-grown.ensures.next, c.placed-items.ensures.next);
-  is = items_more c.args.tokens.now (reads c.args.depth) (more_items c.args.in_brackets) _ c.more.items c.more.invariant.is c.in_ok-item.item c.in_ok-item.ensures c.in_ok-grown.grown c.in_ok-grown.ensures.items c.in_ok-grown.ensures.next c.if-not-is_op.ensures c.placed-items.result c.placed-items.ensures.items c.placed-items.ensures.next (ap (λ n. more_items c.args.in_brackets (seen c.args.tokens.now n)) c.placed-items.ensures.next ∙ sym c.goes_on.ensures ∙ c.if-not-goes_on.false);
+  is = items_more c.args.tokens.now (reads c.args.depth) (more_items c.args.in_brackets) _ c.more.items c.more.invariant.is
+      c.in_ok-item.item c.in_ok-item.ensures c.in_ok-grown.grown c.in_ok-grown.ensures.items c.in_ok-grown.ensures.next
+      c.if-not-is_op.ensures c.placed-items.result c.placed-items.ensures.items c.placed-items.ensures.next
+      (ap (λ n. more_items c.args.in_brackets (seen c.args.tokens.now n)) c.placed-items.ensures.next ∙ sym c.goes_on.ensures
+      ∙ c.if-not-goes_on.false);
 }

@@ -10,7 +10,9 @@ use Rattle.pyparse_line.proofs.headers.items.items_at.Given as goal
 abbrev pub invariant-more : goal.invariant-more
 invariant-more l = record {
   ahead : l.at ≤ l.items.next;
-  is : Listed l.tokens (read_item (reads l.depth)) (more_items l.in_brackets) (commas_of (read_item (reads l.depth)) (more_items l.in_brackets) (seen l.tokens l.at)) (map item_of l.items.items.items) l.items.next;
+  is : Listed l.tokens (read_item (reads l.depth)) (more_items l.in_brackets)
+      (commas_of (read_item (reads l.depth)) (more_items l.in_brackets) (seen l.tokens l.at))
+      (map item_of l.items.items.items) l.items.next;
 }
 
 abbrev pub decreases-more : goal.decreases-more

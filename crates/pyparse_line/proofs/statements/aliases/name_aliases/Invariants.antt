@@ -9,7 +9,8 @@ use Rattle.pyparse_line.proofs.statements.aliases.name_aliases.Given as goal
 abbrev pub invariant-more : goal.invariant-more
 invariant-more l = record {
   ahead : l.at ≤ l.next;
-  is : Listed l.tokens name_alias (more_names l.bracketed) (commas_of name_alias (more_names l.bracketed) (seen l.tokens l.at)) (map alias_of l.aliases.items) l.next;
+  is : Listed l.tokens name_alias (more_names l.bracketed) (commas_of name_alias (more_names l.bracketed) (seen l.tokens l.at))
+      (map alias_of l.aliases.items) l.next;
 }
 
 abbrev pub decreases-more : goal.decreases-more

@@ -7,5 +7,6 @@ more-preserved c =
     let e : c.in_ok-count.count ≡ c.more.count + c.dots_at-more.result = search rules in
     record {
       ahead = omega (arith, c.more.invariant.ahead);
-      is = dots_more c.args.tokens.now _ c.more.count c.more.next c.more.invariant.is _ _ (omega (arith, c.dots_at-more.ensures.is)) (e ∙ ap (λ d. c.more.count + d) c.dots_at-more.ensures.is) refl (c.dots_at-more.ensures.within (omega arith));
+      is = dots_more c.args.tokens.now _ c.more.count c.more.next c.more.invariant.is _ _ (omega (arith, c.dots_at-more.ensures.is)) (e
+          ∙ ap (λ d. c.more.count + d) c.dots_at-more.ensures.is) refl (c.dots_at-more.ensures.within (omega arith));
     }

@@ -12,7 +12,9 @@ use Rattle.pyparse_line.proofs.statements.simple.deleted_all.Given as goal
 abbrev pub invariant-more : goal.invariant-more
 invariant-more l = record {
   ahead : l.at ≤ l.targets.next;
-  is : Listed l.tokens (deleted_one (reads l.depth)) (starts (Of Expression)) (commas_of (deleted_one (reads l.depth)) (starts (Of Expression)) (seen l.tokens l.at)) (map tree_of l.targets.exprs.items) l.targets.next;
+  is : Listed l.tokens (deleted_one (reads l.depth)) (starts (Of Expression))
+      (commas_of (deleted_one (reads l.depth)) (starts (Of Expression)) (seen l.tokens l.at))
+      (map tree_of l.targets.exprs.items) l.targets.next;
 }
 
 abbrev pub decreases-more : goal.decreases-more

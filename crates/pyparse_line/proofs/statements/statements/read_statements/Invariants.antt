@@ -9,7 +9,8 @@ use Rattle.pyparse_line.proofs.statements.statements.read_statements.Given as go
 abbrev pub invariant-more : goal.invariant-more
 invariant-more l = record {
   ahead : l.at ≤ l.statements.next;
-  is : Runs l.tokens l.profile (reads l.depth) (statements l.profile (reads l.depth) (suc (length (seen l.tokens l.at))) (seen l.tokens l.at)) (map stmt_of l.statements.statements.items) l.statements.next;
+  is : Runs l.tokens l.profile (reads l.depth) (statements l.profile (reads l.depth) (suc (length (seen l.tokens l.at)))
+      (seen l.tokens l.at)) (map stmt_of l.statements.statements.items) l.statements.next;
 }
 
 abbrev pub decreases-more : goal.decreases-more

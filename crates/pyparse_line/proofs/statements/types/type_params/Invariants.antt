@@ -9,7 +9,8 @@ use Rattle.pyparse_line.proofs.statements.types.type_params.Given as goal
 abbrev pub invariant-more : goal.invariant-more
 invariant-more l = record {
   ahead : l.at ≤ l.params.next;
-  is : Listed l.tokens (read_type_param (reads l.depth)) starts_type_param (commas_of (read_type_param (reads l.depth)) starts_type_param (seen l.tokens l.at)) (map type_param_of l.params.params.items) l.params.next;
+  is : Listed l.tokens (read_type_param (reads l.depth)) starts_type_param (commas_of (read_type_param (reads l.depth)) starts_type_param
+      (seen l.tokens l.at)) (map type_param_of l.params.params.items) l.params.next;
 }
 
 abbrev pub decreases-more : goal.decreases-more

@@ -9,7 +9,8 @@ use Rattle.pyparse_line.proofs.statements.values.assignment.Given as goal
 abbrev pub invariant-more : goal.invariant-more
 invariant-more l = record {
   ahead : l.at ≤ l.targets.next;
-  is : Assigns l.tokens (reads l.depth) (value_loop (reads l.depth) (suc (length (seen l.tokens l.at))) [] (seen l.tokens l.at)) (map tree_of l.targets.exprs.items) l.targets.next;
+  is : Assigns l.tokens (reads l.depth) (value_loop (reads l.depth) (suc (length (seen l.tokens l.at))) [] (seen l.tokens l.at))
+      (map tree_of l.targets.exprs.items) l.targets.next;
 }
 
 abbrev pub decreases-more : goal.decreases-more

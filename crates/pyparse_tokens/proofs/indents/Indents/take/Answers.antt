@@ -11,7 +11,8 @@ pub returns-then-is_some : goal.returns-then-is_some
 returns-then-is_some c = takes_behind (margin_at (chars c.args.source.now.text) c.args.offset) c.args.self.now (sym c.if-is_some.ensures)
 
 pub range_from-behind-requires : goal.range_from-behind-requires
-range_from-behind-requires c = λ some. (spaced c.range_from-line.result.now c.space_count-count.result c.range_from-line.utf8 c.space_count-count.ensures).boundary
+range_from-behind-requires c =
+    λ some. (spaced c.range_from-line.result.now c.space_count-count.result c.range_from-line.utf8 c.space_count-count.ensures).boundary
 
 pub returns-then-not-begins_significant : goal.returns-then-not-begins_significant
 returns-then-not-begins_significant c =

@@ -11,57 +11,73 @@ use Rattle.pysource.specs.declared.places.Place.{Place}
 use Rattle.pyparse_tokens.specs.Inner.LineReading.{Ends}
 use Rattle.pyparse_tokens.proofs.logical_lines.LogicalLines.next.Goals as goal
 
-no_line : (extent : Extent) (s : Source) (r : LineReading) (k : ℕ) (p : Place) (answer : Result Bool ParseFault) → Ends extent s k p answer → IfOk answer (λ more. more ≡ true → HoldsLine s k r)
+no_line : (extent : Extent) (s : Source) (r : LineReading) (k : ℕ) (p : Place) (answer : Result Bool ParseFault) → Ends extent s k p answer
+    → IfOk answer (λ more. more ≡ true → HoldsLine s k r)
 no_line extent s r k p (Ok more) ends = λ is. absurd (cc)
 no_line extent s r k p (Err fault) ends = tt
 
-none_given : (extent : Extent) (s : Source) (k : ℕ) (p : Place) (answer : Result Bool ParseFault) → Ends extent s k p answer → IfOk answer (λ more. k ≡ (if more then k + 1 else k))
+none_given : (extent : Extent) (s : Source) (k : ℕ) (p : Place) (answer : Result Bool ParseFault) → Ends extent s k p answer
+    → IfOk answer (λ more. k ≡ (if more then k + 1 else k))
 none_given extent s k p (Ok more) ends = rw ends.0 refl
 none_given extent s k p (Err fault) ends = tt
 
-all_given : (extent : Extent) (s : Source) (k : ℕ) (p : Place) (answer : Result Bool ParseFault) → Ends extent s k p answer → IfOk answer (λ more. more ≡ false → k ≡ length (lines s))
+all_given : (extent : Extent) (s : Source) (k : ℕ) (p : Place) (answer : Result Bool ParseFault) → Ends extent s k p answer
+    → IfOk answer (λ more. more ≡ false → k ≡ length (lines s))
 all_given extent s k p (Ok more) ends = λ _. ends.1
 all_given extent s k p (Err fault) ends = tt
 
-not_refused : (extent : Extent) (s : Source) (k : ℕ) (p : Place) (answer : Result Bool ParseFault) → Ends extent s k p answer → IfOk answer (λ more. more ≡ false → refusal extent s ≡ None)
+not_refused : (extent : Extent) (s : Source) (k : ℕ) (p : Place) (answer : Result Bool ParseFault) → Ends extent s k p answer
+    → IfOk answer (λ more. more ≡ false → refusal extent s ≡ None)
 not_refused extent s k p (Ok more) ends = λ _. ends.2
 not_refused extent s k p (Err fault) ends = tt
 
-marked : (extent : Extent) (s : Source) (k : ℕ) (p : Place) (answer : Result Bool ParseFault) → Ends extent s k p answer → IfOk answer (λ more. more ≡ false → EndsAt s p)
+marked : (extent : Extent) (s : Source) (k : ℕ) (p : Place) (answer : Result Bool ParseFault) → Ends extent s k p answer
+    → IfOk answer (λ more. more ≡ false → EndsAt s p)
 marked extent s k p (Ok more) ends = λ _. ends.3
 marked extent s k p (Err fault) ends = tt
 
-told : (extent : Extent) (s : Source) (k : ℕ) (p : Place) (answer : Result Bool ParseFault) → Ends extent s k p answer → IfErr answer (Tells (refusal extent s))
+told : (extent : Extent) (s : Source) (k : ℕ) (p : Place) (answer : Result Bool ParseFault) → Ends extent s k p answer
+    → IfErr answer (Tells (refusal extent s))
 told extent s k p (Ok more) ends = tt
 told extent s k p (Err fault) ends = ends
 
-stays : (extent : Extent) (s : Source) (k : ℕ) (p : Place) (answer : Result Bool ParseFault) → Ends extent s k p answer → Some answer ≡ outcome_of answer
+stays : (extent : Extent) (s : Source) (k : ℕ) (p : Place) (answer : Result Bool ParseFault) → Ends extent s k p answer
+    → Some answer ≡ outcome_of answer
 stays extent s k p (Ok more) ends = rw ends.0 refl
 stays extent s k p (Err fault) ends = refl
 
-ended : (c : goal.In-Some) → Ends c.args.self.now.extent (in_characters c.args.self.now.source) c.args.self.now.given c.args.self.now.marker c.in-Some.outcome
+ended : (c : goal.In-Some) → Ends c.args.self.now.extent (in_characters c.args.self.now.source) c.args.self.now.given
+    c.args.self.now.marker c.in-Some.outcome
 ended c =
-    subst (λ (r : LineReading). Ends r.extent (in_characters r.source) r.given r.marker c.in-Some.outcome) c.self.view_is (c.self.invariant.ended c.in-Some.outcome c.in-Some.is)
+    subst (λ (r : LineReading). Ends r.extent (in_characters r.source) r.given r.marker c.in-Some.outcome) c.self.view_is
+        (c.self.invariant.ended c.in-Some.outcome c.in-Some.is)
 
 pub returns-in-Some-clause-line : goal.returns-in-Some-clause-line
-returns-in-Some-clause-line c = no_line c.args.self.now.extent (in_characters c.args.self.now.source) c.args.self.now c.args.self.now.given c.args.self.now.marker c.in-Some.outcome (ended c)
+returns-in-Some-clause-line c = no_line c.args.self.now.extent (in_characters c.args.self.now.source) c.args.self.now c.args.self.now.given
+    c.args.self.now.marker c.in-Some.outcome (ended c)
 
 pub returns-in-Some-clause-given : goal.returns-in-Some-clause-given
-returns-in-Some-clause-given c = none_given c.args.self.now.extent (in_characters c.args.self.now.source) c.args.self.now.given c.args.self.now.marker c.in-Some.outcome (ended c)
+returns-in-Some-clause-given c = none_given c.args.self.now.extent (in_characters c.args.self.now.source) c.args.self.now.given
+    c.args.self.now.marker c.in-Some.outcome (ended c)
 
 pub returns-in-Some-clause-all : goal.returns-in-Some-clause-all
-returns-in-Some-clause-all c = all_given c.args.self.now.extent (in_characters c.args.self.now.source) c.args.self.now.given c.args.self.now.marker c.in-Some.outcome (ended c)
+returns-in-Some-clause-all c = all_given c.args.self.now.extent (in_characters c.args.self.now.source) c.args.self.now.given
+    c.args.self.now.marker c.in-Some.outcome (ended c)
 
 pub returns-in-Some-clause-sound : goal.returns-in-Some-clause-sound
-returns-in-Some-clause-sound c = not_refused c.args.self.now.extent (in_characters c.args.self.now.source) c.args.self.now.given c.args.self.now.marker c.in-Some.outcome (ended c)
+returns-in-Some-clause-sound c = not_refused c.args.self.now.extent (in_characters c.args.self.now.source) c.args.self.now.given
+    c.args.self.now.marker c.in-Some.outcome (ended c)
 
 pub returns-in-Some-clause-end : goal.returns-in-Some-clause-end
-returns-in-Some-clause-end c = marked c.args.self.now.extent (in_characters c.args.self.now.source) c.args.self.now.given c.args.self.now.marker c.in-Some.outcome (ended c)
+returns-in-Some-clause-end c = marked c.args.self.now.extent (in_characters c.args.self.now.source) c.args.self.now.given
+    c.args.self.now.marker c.in-Some.outcome (ended c)
 
 pub returns-in-Some-clause-refused : goal.returns-in-Some-clause-refused
-returns-in-Some-clause-refused c = told c.args.self.now.extent (in_characters c.args.self.now.source) c.args.self.now.given c.args.self.now.marker c.in-Some.outcome (ended c)
+returns-in-Some-clause-refused c = told c.args.self.now.extent (in_characters c.args.self.now.source) c.args.self.now.given
+    c.args.self.now.marker c.in-Some.outcome (ended c)
 
 pub returns-in-Some-clause-outcome : goal.returns-in-Some-clause-outcome
 returns-in-Some-clause-outcome c =
     sym (ap (λ (r : LineReading). r.outcome) c.self.view_is) ∙ c.in-Some.is
-    ∙ stays c.args.self.now.extent (in_characters c.args.self.now.source) c.args.self.now.given c.args.self.now.marker c.in-Some.outcome (ended c)
+    ∙ stays c.args.self.now.extent (in_characters c.args.self.now.source) c.args.self.now.given c.args.self.now.marker
+        c.in-Some.outcome (ended c)
