@@ -75,7 +75,7 @@ pub goes_here : (seen_old seen_new : Seen) (old new : Streamed) (exact : Bool) (
     (held : List ℕ) (done : List ℕ → Option Fault → Type 0)
     → Came seen_old seen_new old new exact count left x y held
     → ((p : Parts) (more : List ℕ) (broken : Bool) → Stood new p old.shown.given more broken exact count left x y held
-        → done (output_from exact p count old.shown.given) (fault_from p count old.shown.given))
+    → done (output_from exact p count old.shown.given) (fault_from p count old.shown.given))
     → Lists seen_old seen_new old exact count done
 goes_here seen_old seen_new old new exact count left x y held done c does = record {
   new = new.lines;
@@ -89,9 +89,9 @@ goes_here seen_old seen_new old new exact count left x y held done c does = reco
 pub goes_on : (seen_old seen_mid seen_new : Seen) (old mid new : Streamed) (result : Result Step AllocError) (exact : Bool)
     (count left : Option ℕ) (x y : Option (List ℕ)) (held : List ℕ)
     (done : List ℕ → Option Fault → Type 0) → Came seen_old seen_mid old mid exact count left x y held
-        → (s : Next seen_mid seen_new mid new result)
+    → (s : Next seen_mid seen_new mid new result)
     → ((p : Parts) (more : List ℕ) (broken : Bool) → Continues new.lines more broken → Stood mid p old.shown.given (s.taken ++ more) broken
-        exact count left x y held → done (output_from exact p count old.shown.given) (fault_from p count old.shown.given))
+    exact count left x y held → done (output_from exact p count old.shown.given) (fault_from p count old.shown.given))
     → Lists seen_old seen_new old exact count done
 goes_on seen_old seen_mid seen_new old mid new result exact count left x y held done c s does = record {
   new = new.lines;
@@ -105,9 +105,9 @@ goes_on seen_old seen_mid seen_new old mid new result exact count left x y held 
 pub came_next : (seen_old seen_mid seen_new : Seen) (old mid new : Streamed) (step : Step) (e : Entry) (exact : Bool)
     (count left : Option ℕ) (x y : Option (List ℕ)) (before text held : List ℕ)
     → Came seen_old seen_mid old mid exact count left x y before → Next seen_mid seen_new mid new (Ok step)
-        → step ≡ steps.Entry e → left ≢ Some 0
+    → step ≡ steps.Entry e → left ≢ Some 0
     → ((p : Parts) (k : ℕ) (more : List ℕ) (broken : Bool) → StreamsIn new p k more broken → text ≡ text_of p e)
-        → held ≡ before ++ listing_line exact e text
+    → held ≡ before ++ listing_line exact e text
     → Came seen_old seen_new old new exact count (left_behind left e.kind) x y held
 came_next seen_old seen_mid seen_new old mid new step e exact count left x y before text held c s is n shown held_is = record {
   taken = c.taken ++ s.taken;
@@ -118,7 +118,7 @@ came_next seen_old seen_mid seen_new old mid new step e exact count left x y bef
       let next = moved p mid.shown.given more broken f m.stands in
       let given : new.shown.given ≡ mid.shown.given + 1 = next.1.stands.count in
       let line : held ≡ before ++ listing_line exact e (text_of p e) = held_is
-          ∙ ap (λ u. before ++ listing_line exact e u) (shown p (mid.shown.given + 1) more broken next.1) in
+      ∙ ap (λ u. before ++ listing_line exact e u) (shown p (mid.shown.given + 1) more broken next.1) in
       record {
         stands = subst (λ n. StreamsIn new p n more broken) (sym given) next.1;
         holds = rw given (held_next exact p mid.shown.given left e x y _ before held next.0 n line m.holds);
@@ -135,9 +135,9 @@ came_next seen_old seen_mid seen_new old mid new step e exact count left x y bef
 pub counts_up : (seen_old seen_mid seen_new : Seen) (old mid new : Streamed) (step : Step) (e : Entry) (exact : Bool)
     (count left : Option ℕ) (x y : Option (List ℕ)) (held : List ℕ)
     → old.lines.count ≤ source_limit → ((more : List ℕ) (broken : Bool) → Continues old.lines more broken
-        → (p : Parts) × StreamsIn old p old.shown.given more broken)
+    → (p : Parts) × StreamsIn old p old.shown.given more broken)
     → Came seen_old seen_mid old mid exact count left x y held → Next seen_mid seen_new mid new (Ok step) → step ≡ steps.Entry e
-        → new.shown.given ≤ most_entries
+    → new.shown.given ≤ most_entries
     → most_entries - new.shown.given < most_entries - mid.shown.given
 counts_up seen_old seen_mid seen_new old mid new step e exact count left x y held limited somewhere c s is bound =
     let broken = is_broken new.lines.reach in
@@ -146,7 +146,7 @@ counts_up seen_old seen_mid seen_new old mid new step e exact count left x y hel
     let source = somewhere (c.taken ++ (s.taken ++ [])) broken (c.follows (s.taken ++ []) broken before) in
     let m = c.stood source.0 (s.taken ++ []) broken before source.1 in
     let next : StreamsIn new source.0 (mid.shown.given + 1) [] broken =
-        (rw is at s.steps source.0 mid.shown.given [] broken after m.stands).1 in
+    (rw is at s.steps source.0 mid.shown.given [] broken after m.stands).1 in
     let given : new.shown.given ≡ mid.shown.given + 1 = next.stands.count in
     omega arith
 
@@ -154,7 +154,7 @@ counts_up seen_old seen_mid seen_new old mid new step e exact count left x y hel
 pub next_in : (seen_mid seen_new : Seen) (mid new : Streamed) (step met : Step) (p : Parts) (k : ℕ) (more : List ℕ) (broken exact : Bool)
     (count left : Option ℕ) (x y : Option (List ℕ)) (held : List ℕ)
     (s : Next seen_mid seen_new mid new (Ok step)) → step ≡ met → Continues new.lines more broken
-        → Stood mid p k (s.taken ++ more) broken exact count left x y held
+    → Stood mid p k (s.taken ++ more) broken exact count left x y held
     → slice_get (listing (in_characters p)) mid.shown.given ≡ Some met
 next_in seen_mid seen_new mid new step met p k more broken exact count left x y held s is f m =
     (rw is at s.steps p mid.shown.given more broken f m.stands).0
@@ -163,36 +163,39 @@ next_in seen_mid seen_new mid new step met p k more broken exact count left x y 
 pub memory_held : (v : Streamed) (p : Parts) (k : ℕ) (more : List ℕ) (broken exact : Bool) (count left : Option ℕ)
     (x y : Option (List ℕ)) (held : List ℕ)
     → Stood v p k more broken exact count left x y held → HoldsFor (output_from exact p count k) (fault_from p count k) x y
-        held (Some (Plain Memory))
+    held (Some (Plain Memory))
 memory_held v p k more broken exact count left x y held s = (output_from exact p left v.shown.given, s.holds)
 
 -- where the count is reached, the cursor's line is held behind the others
 pub stopped_held : (v : Streamed) (p : Parts) (k : ℕ) (more : List ℕ) (broken exact : Bool) (count left : Option ℕ)
     (x y : Option (List ℕ)) (before held : List ℕ)
     → left ≡ Some 0 → held ≡ before ++ cursor_line v.shown → Stood v p k more broken exact count left x y before
-        → HoldsFor (output_from exact p count k) (fault_from p count k) x y held None
-stopped_held v p k more broken exact count left x y before held none is s =
-    (s.told ∙ told_none p left v.shown.given none, cursor_held exact p v.shown left x y _ before held none
-        s.stands.stands.cursor is s.holds)
+    → HoldsFor (output_from exact p count k) (fault_from p count k) x y held None
+stopped_held v p k more broken exact count left x y before held none is s = (
+  s.told ∙ told_none p left v.shown.given none,
+  cursor_held exact p v.shown left x y _ before held none
+      s.stands.stands.cursor is s.holds,
+)
 
 -- where the listing ends, all is held
 pub ended_held : (v : Streamed) (p : Parts) (k : ℕ) (more : List ℕ) (broken exact : Bool) (count left : Option ℕ)
     (x y : Option (List ℕ)) (held : List ℕ)
     → left ≢ Some 0 → slice_get (listing (in_characters p)) v.shown.given ≡ Some steps.End
-        → Stood v p k more broken exact count left x y held
+    → Stood v p k more broken exact count left x y held
     → HoldsFor (output_from exact p count k) (fault_from p count k) x y held None
 ended_held v p k more broken exact count left x y held n next s =
-    let none = end_last (in_characters p) v.shown.given next in
-    (s.told ∙ fault_ended p left v.shown.given n none.0 ∙ ap (λ f. option_map of_listing f) none.1,
-        rw (output_ended exact p left v.shown.given n none.0) at s.holds)
+    let none = end_last (in_characters p) v.shown.given next in (
+      s.told ∙ fault_ended p left v.shown.given n none.0 ∙ ap (λ f. option_map of_listing f) none.1,
+      rw (output_ended exact p left v.shown.given n none.0) at s.holds,
+    )
 
 -- where it ends by a fault, all before that is held
 pub faulty_held : (v : Streamed) (p : Parts) (k : ℕ) (more : List ℕ) (broken exact : Bool) (count left : Option ℕ) (x y : Option (List ℕ))
     (held : List ℕ) (f : ListingFault)
     → left ≢ Some 0 → slice_get (listing (in_characters p)) v.shown.given ≡ Some (steps.Fault f)
-        → Stood v p k more broken exact count left x y held
+    → Stood v p k more broken exact count left x y held
     → HoldsFor (output_from exact p count k) (fault_from p count k) x y held (Some (of_listing f))
 faulty_held v p k more broken exact count left x y held f n next s =
     let none = fault_last (in_characters p) v.shown.given f next in
     HoldsFor-fault _ _ x y held f (s.told ∙ fault_ended p left v.shown.given n none.0 ∙ ap (λ f. option_map of_listing f) none.1)
-        (rw (output_ended exact p left v.shown.given n none.0) at s.holds)
+    (rw (output_ended exact p left v.shown.given n none.0) at s.holds)

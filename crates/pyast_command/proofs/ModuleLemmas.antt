@@ -87,7 +87,7 @@ brackets_own : (most : ℕ) (before es : List Entry) → IsOwn (first_too_deep m
 brackets_own most before [] = tt
 brackets_own most before (e ∷ es) =
     or_own (bracket_refusal most before e) (first_too_deep most (e ∷ before) es)
-        (if_own (opens_too_many most before e) (Some (refusals.TooDeep e.start)) tt) (brackets_own most (e ∷ before) es)
+    (if_own (opens_too_many most before e) (Some (refusals.TooDeep e.start)) tt) (brackets_own most (e ∷ before) es)
 
 margins_own : (earlier ms : List Margin) → IsOwn (first_mixed earlier ms)
 margins_own earlier [] = tt
@@ -97,7 +97,7 @@ margins_own earlier (m ∷ ms) = or_own (margin_refusal earlier m) (first_mixed 
 tokens_own : (extent : Extent) (most : ℕ) (text : List ℕ) (es : List Entry) → IsOwn (refusal_of extent most text es)
 tokens_own extent most text es =
     or_own (first_entry_refusal extent text es) (option_or (first_too_deep most [] es) (first_mixed [] (margins text es)))
-        (entries_own extent text es)
+    (entries_own extent text es)
     (or_own (first_too_deep most [] es) (first_mixed [] (margins text es)) (brackets_own most [] es) (margins_own [] (margins text es)))
 
 -- a refusal by the listing's fault is by the fault that the listing has
@@ -106,7 +106,7 @@ listing_refusal : (extent : Extent) (s : Source) (f : ListingFault) → refusal 
 unfolding refusal_at
 listing_refusal extent s f h =
     by_fault (listing_fault (listing s)) (refusal_of extent most_brackets s.text (entries_of (listing s)))
-        (tokens_own extent most_brackets s.text (entries_of (listing s))) h
+    (tokens_own extent most_brackets s.text (entries_of (listing s))) h
   where
     by_fault : (o : Option ListingFault) (r : Option Refusal) → IsOwn r
         → ◌≡◌ {A = Option Refusal} (elim o [ Some g ↦ Some (refusals.Listing g) | None ↦ r ]) (Some (refusals.Listing f)) → o ≡ Some f
@@ -139,8 +139,8 @@ refused_tokens : (profile : Profile) (bytes : List ℕ) (p : Parts) (r : Refusal
     → Refused profile (in_characters p) (in_tokens r) → Refuses profile bytes (of_refusal r)
 refused_tokens profile bytes p (refusals.Listing f) is h =
     told_in_source profile bytes f
-        (listing_is_read bytes p f is (listing_refusal profile.extent (in_characters p) f
-        (tokens_refused profile (in_characters p) (refusals.Listing f) h))) (refused is h)
+    (listing_is_read bytes p f is (listing_refusal profile.extent (in_characters p) f
+    (tokens_refused profile (in_characters p) (refusals.Listing f) h))) (refused is h)
 refused_tokens profile bytes p (refusals.Token error place) is h = refused is h
 refused_tokens profile bytes p (refusals.TooDeep place) is h = refused is h
 refused_tokens profile bytes p (refusals.MixedTabs place) is h = refused is h
@@ -187,7 +187,7 @@ reads_none profile seen_old seen_new input (Plain other) all h = absurd h
 pub none_written : (making : Making) (profile : Profile) (output : Module → List ℕ → Type 0) (seen_old seen_new : Seen)
     (x : Option (List ℕ)) (fault : Fault)
     → ReadsNone profile seen_old seen_new fault → PerformsWhole making (Writes profile output) seen_old seen_new x x
-        source_limit (Some fault)
+    source_limit (Some fault)
 none_written making profile output seen_old seen_new x (InSource code place) h = (h.0, h.1, of_none h.2, Appends-refl x)
 none_written whole profile output seen_old seen_new x (Plain Memory) h = (h, Appends-refl x)
 none_written in_pieces profile output seen_old seen_new x (Plain Memory) h = (h, inl (Appends-refl x))

@@ -86,7 +86,7 @@ among_next exact p m k e es =
     let c : k + suc (suc m) ≡ (k + 1) + suc m = omega arith in
     let b = stops_next m e es in
     rw (b, c) (if_lines (stops_after (suc m) es) (listing_line exact e (text_of p e)) (lines_of exact p (take (suc m) es))
-        (cursor_line (cursor (in_characters p) ((k + 1) + suc m))) (lines_of exact p es))
+    (cursor_line (cursor (in_characters p) ((k + 1) + suc m))) (lines_of exact p es))
 
 -- the output behind k entries, the next of which is known, is its line and the output behind that
 pub output_next : (exact : Bool) (p : Parts) (left : Option ℕ) (k : ℕ) (e : Entry) → left ≢ Some 0
@@ -118,15 +118,18 @@ fault_next p (Some (suc zero)) k e n h = rw h (by_kind (is_marker e.kind) refl)
     by_kind : (b : Bool) → b ≡ is_marker e.kind → fault_among 1 (e ∷ entries_of (rest (in_characters p) (k + 1)))
         (told_of (rest (in_characters p) (k + 1))) ≡ fault_from p (left_behind (Some 1) e.kind) (k + 1)
     by_kind true is = rw (stops_first e (entries_of (rest (in_characters p) (k + 1))), ← is) refl
-    by_kind false is = rw (stops_first e (entries_of (rest (in_characters p) (k + 1))), ← is,
-        stops_at_once (entries_of (rest (in_characters p) (k + 1)))) refl
+    by_kind false is = rw (
+      stops_first e (entries_of (rest (in_characters p) (k + 1))),
+      ← is,
+      stops_at_once (entries_of (rest (in_characters p) (k + 1))),
+    ) refl
 fault_next p (Some (suc (suc m))) k e n h = rw (h, behind_more m e.kind, stops_next m e (entries_of (rest (in_characters p) (k + 1)))) refl
 
 -- the line of the next entry is held then
 pub held_next : (exact : Bool) (p : Parts) (k : ℕ) (left : Option ℕ) (e : Entry) (x y : Option (List ℕ)) (output before held : List ℕ)
     → slice_get (listing (in_characters p)) k ≡ Some (steps.Entry e) → left ≢ Some 0 → held ≡ before ++ listing_line exact e (text_of p e)
     → TakesAllBut x y output before (output_from exact p left k)
-        → TakesAllBut x y output held (output_from exact p (left_behind left e.kind) (k + 1))
+    → TakesAllBut x y output held (output_from exact p (left_behind left e.kind) (k + 1))
 held_next exact p k left e x y output before held t n is h =
     rw is (TakesAllBut-held x y output before (listing_line exact e (text_of p e)) (output_from exact p (left_behind left e.kind) (k + 1))
     (rw (output_next exact p left k e n (next_is (in_characters p) k (steps.Entry e) t)) at h))
@@ -144,7 +147,7 @@ pub cursor_held : (exact : Bool) (p : Parts) (shown : CursorParts) (left : Optio
 cursor_held exact p shown left x y output before held zero_left own is h =
     let line : output_from exact p left shown.given ≡ cursor_line shown ++ [] =
     ap (λ n. output_from exact p n shown.given) zero_left ∙ output_stopped exact p shown.given ∙ ap cursor_line (sym (is_behind own).is)
-        ∙ sym (append-nil (cursor_line shown)) in
+    ∙ sym (append-nil (cursor_line shown)) in
     rw is (TakesAllBut-held x y output before (cursor_line shown) [] (rw line at h))
 
 pub told_none : (p : Parts) (left : Option ℕ) (k : ℕ) → left ≡ Some 0 → fault_from p left k ≡ None

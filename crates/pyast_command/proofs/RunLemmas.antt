@@ -109,7 +109,7 @@ WritesFor-front output told x y (Some (Plain other)) p = absurd p
 Performs-told : (output : Bool → List ℕ → List ℕ) (told : Bool → List ℕ → Option Fault) (seen_old seen_new : Seen) (x y : Option (List ℕ))
     (limit : ℕ) (fault other : Fault)
     → IsToldAs fault other → Performs output told seen_old seen_new x y limit (Some fault)
-        → Performs output told seen_old seen_new x y limit (Some other)
+    → Performs output told seen_old seen_new x y limit (Some other)
 Performs-told output told seen_old seen_new x y limit (Plain code) other is p = rw is p
 Performs-told output told seen_old seen_new x y limit (InSource code place) other is p = elim is [
   | inl e ↦ rw e p
@@ -127,7 +127,7 @@ Performs-told output told seen_old seen_new x y limit (InSource code place) othe
 PerformsWhole-told : (making : Making) (does : List ℕ → List ℕ → Option Fault → Type 0) (seen_old seen_new : Seen) (x y : Option (List ℕ))
     (limit : ℕ) (fault other : Fault)
     → IsToldAs fault other → PerformsWhole making does seen_old seen_new x y limit (Some fault)
-        → PerformsWhole making does seen_old seen_new x y limit (Some other)
+    → PerformsWhole making does seen_old seen_new x y limit (Some other)
 PerformsWhole-told making does seen_old seen_new x y limit (Plain code) other is p = rw is p
 PerformsWhole-told whole does seen_old seen_new x y limit (InSource code place) other is p = elim is [
   | inl e ↦ rw e p

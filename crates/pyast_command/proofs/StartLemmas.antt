@@ -41,7 +41,7 @@ use Rattle.pyast_command.proofs.UnreadLemmas.{quiet}
 pub starts : (seen_old seen_new : Seen) (resume : Option CursorParts) (v : Streamed) (k : ℕ)
     → Begins seen_old seen_new v k → v.shown.given ≡ k
     → ((p : Parts) (more : List ℕ) (broken : Bool) → StreamsIn v p k more broken → start_in resume (in_characters p) ≡ Some k)
-        → Starts seen_old seen_new resume v
+    → Starts seen_old seen_new resume v
 starts seen_old seen_new resume v k b given start = record {
   all = b.taken;
   took = b.reads;
@@ -70,10 +70,10 @@ front_of output x = ([], output, refl, Appends-refl x)
 unread : (exact : Bool) (count : Option ℕ) (resume : Option CursorParts) (seen_old seen_new : Seen) (x : Option (List ℕ)) (r : Reach)
     (n : ℕ) (taken : List ℕ)
     → ReadsBytes seen_old seen_new reach.Reading r 0 n taken → Performs (output_by exact count resume) (fault_by count resume) seen_old
-        seen_new x x source_limit (Some (Plain Memory))
+    seen_new x x source_limit (Some (Plain Memory))
 unread exact count resume seen_old seen_new x r n taken t =
     performs _ _ x x n taken _ (quiet count resume) seen_old seen_new r t
-        (λ more broken f w. front_of (output_by exact count resume broken (taken ++ more)) x)
+    (λ more broken f w. front_of (output_by exact count resume broken (taken ++ more)) x)
 
 -- what gives no source
 pub refused : (exact : Bool) (count : Option ℕ) (resume : Option CursorParts) (seen_old seen_new : Seen) (fault : StreamFault)
@@ -83,13 +83,13 @@ refused exact count resume seen_old seen_new stream_faults.Memory x r =
     unread exact count resume seen_old seen_new x r.reach _ r.taken r.reads
 refused exact count resume seen_old seen_new stream_faults.Read x r =
     performs _ _ x x _ r.taken _ (quiet count resume) seen_old seen_new r.reach r.reads
-        (λ more broken f w. rw (r.explains.1 more broken f) (refl, Appends-refl x))
+    (λ more broken f w. rw (r.explains.1 more broken f) (refl, Appends-refl x))
 refused exact count resume seen_old seen_new (stream_faults.UnsupportedEncoding place) x r =
     performs _ _ x x _ r.taken _ (quiet count resume) seen_old seen_new r.reach r.reads
-        (λ more broken f w. rw (r.explains.1 more broken f) (refl, Appends-refl x))
+    (λ more broken f w. rw (r.explains.1 more broken f) (refl, Appends-refl x))
 refused exact count resume seen_old seen_new (stream_faults.BomConflict place) x r =
     performs _ _ x x _ r.taken _ (quiet count resume) seen_old seen_new r.reach r.reads
-        (λ more broken f w. rw (r.explains.1 more broken f) (refl, Appends-refl x))
+    (λ more broken f w. rw (r.explains.1 more broken f) (refl, Appends-refl x))
 
 is_unread_is : (e : ListingError) → is_unread_code e ≡ true → e ≡ errors.Line line_errors.FailedRead
 is_unread_is (errors.Line line_errors.FailedRead) h = refl
@@ -139,12 +139,16 @@ misses_by : (exact : Bool) (count : Option ℕ) (seen_old seen_new : Seen) (c : 
     → Performs (output_by exact count (Some c)) (fault_by count (Some c)) seen_old seen_new x x source_limit (Some (Plain Read))
 misses_by exact count seen_old seen_new c x m =
     performs _ _ x x _ m.taken _ (quiet count (Some c)) seen_old seen_new m.lines.reach m.reads
-    (λ more broken f w. let s = m.misses more broken (f, w) in rw (s.1, starts_nowhere c (in_characters s.0) s.2, tokens_output,
-        tokens_fault) (ap (λ code. Some (Plain code)) (missed_unread c s.0 (s.3 refl)), Appends-refl x))
+    (λ more broken f w. let s = m.misses more broken (f, w) in rw (
+      s.1,
+      starts_nowhere c (in_characters s.0) s.2,
+      tokens_output,
+      tokens_fault,
+    ) (ap (λ code. Some (Plain code)) (missed_unread c s.0 (s.3 refl)), Appends-refl x))
 
 misses_stream : (exact : Bool) (count : Option ℕ) (seen_old seen_new : Seen) (c : CursorParts) (fault : StreamFault) (x : Option (List ℕ))
     → ResumeRefusal seen_old seen_new c (resumes.Stream fault) → Performs (output_by exact count (Some c)) (fault_by count (Some c))
-        seen_old seen_new x x source_limit (Some (of_stream fault))
+    seen_old seen_new x x source_limit (Some (of_stream fault))
 misses_stream exact count seen_old seen_new c fault x m = elim m [
   | inl r ↦ refused exact count (Some c) seen_old seen_new fault x r
   | inr (inl r) ↦ rw r.0 (misses_by exact count seen_old seen_new c x r.1)
@@ -154,16 +158,20 @@ misses_stream exact count seen_old seen_new c fault x m = elim m [
 misses : (exact : Bool) (count : Option ℕ) (seen_old seen_new : Seen) (c : CursorParts) (x : Option (List ℕ))
     → Misses seen_old seen_new c false
     → Performs (output_by exact count (Some c)) (fault_by count (Some c)) seen_old seen_new x x source_limit
-        (Some (Plain CursorOfAnotherSource))
+    (Some (Plain CursorOfAnotherSource))
 misses exact count seen_old seen_new c x m =
     performs _ _ x x _ m.taken _ (quiet count (Some c)) seen_old seen_new m.lines.reach m.reads
-    (λ more broken f w. let s = m.misses more broken (f, w) in rw (s.1, starts_nowhere c (in_characters s.0) s.2, tokens_output,
-        tokens_fault) (ap (λ code. Some (Plain code)) (missed_another c s.0 (s.4 refl)), Appends-refl x))
+    (λ more broken f w. let s = m.misses more broken (f, w) in rw (
+      s.1,
+      starts_nowhere c (in_characters s.0) s.2,
+      tokens_output,
+      tokens_fault,
+    ) (ap (λ code. Some (Plain code)) (missed_another c s.0 (s.4 refl)), Appends-refl x))
 
 -- what gives no source with such a cursor
 pub unresumed : (exact : Bool) (count : Option ℕ) (seen_old seen_new : Seen) (c : CursorParts) (fault : ResumeFault) (x : Option (List ℕ))
     → ResumeRefusal seen_old seen_new c fault → Performs (output_by exact count (Some c)) (fault_by count (Some c)) seen_old seen_new x x
-        source_limit (Some (of_resume fault))
+    source_limit (Some (of_resume fault))
 unresumed exact count seen_old seen_new c (resumes.Stream fault) x m = misses_stream exact count seen_old seen_new c fault x m
 unresumed exact count seen_old seen_new c resumes.AnotherSource x m = misses exact count seen_old seen_new c x m
 
@@ -177,7 +185,7 @@ begun exact count resume seen_old seen_new x v s = unread exact count resume see
 all_taken : (seen_old seen_mid seen_new : Seen) (resume : Option CursorParts) (exact : Bool) (count : Option ℕ) (v : Streamed)
     (done : List ℕ → Option Fault → Type 0)
     → (s : Starts seen_old seen_mid resume v) → (g : Lists seen_mid seen_new v exact count done)
-        → TookAll seen_old seen_new g.new (s.all ++ g.taken)
+    → TookAll seen_old seen_new g.new (s.all ++ g.taken)
 all_taken seen_old seen_mid seen_new resume exact count v done s g = ReadsBytes-on seen_old seen_mid seen_new 0 _ _ reach.Reading
     v.lines.reach g.new.reach s.all g.taken s.took g.reads
 
@@ -185,11 +193,11 @@ all_taken seen_old seen_mid seen_new resume exact count v done s g = ReadsBytes-
 pub listed : (exact : Bool) (count : Option ℕ) (resume : Option CursorParts) (seen_old seen_mid seen_new : Seen) (x y : Option (List ℕ))
     (v : Streamed) (done : List ℕ → Option Fault → Type 0) (ended : Option Fault)
     → Starts seen_old seen_mid resume v → Lists seen_mid seen_new v exact count done
-        → ((output : List ℕ) (told : Option Fault) → done output told → WritesFor output told x y ended)
+    → ((output : List ℕ) (told : Option Fault) → done output told → WritesFor output told x y ended)
     → Performs (output_by exact count resume) (fault_by count resume) seen_old seen_new x y source_limit ended
 listed exact count resume seen_old seen_mid seen_new x y v done ended s g does =
     performs _ _ x y _ (s.all ++ g.taken) ended (quiet count resume) seen_old seen_new g.new.reach
-        (all_taken seen_old seen_mid seen_new resume exact count v done s g)
+    (all_taken seen_old seen_mid seen_new resume exact count v done s g)
     (λ more broken f w.
     let p = s.stands (g.taken ++ more) broken (g.follows more broken (f, w)) in
     let is : stream_of broken ((s.all ++ g.taken) ++ more) ≡ Ok p.0 = ap (stream_of broken) (append_assoc s.all g.taken more) ∙ p.1 in

@@ -64,7 +64,7 @@ module _ (output : Bool → List ℕ → List ℕ) (told : Bool → List ℕ →
   reading : (come new : Option (List ℕ)) (failures_old failures_new : ℕ) (may_old may_new : Bool) → n ≤ source_limit → n ≡ length all
       → failures_new ≡ failures_old → Consumes come new all → Does reach.Reading
       → Done (record { to_come = come; failures = failures_old; may_fail = may_old })
-          (record { to_come = new; failures = failures_new; may_fail = may_new })
+      (record { to_come = new; failures = failures_new; may_fail = may_new })
   reading None new failures_old failures_new may_old may_new within size same c does = record {
     input = all ++ [];
     broken = false;
@@ -77,41 +77,46 @@ module _ (output : Bool → List ℕ → List ℕ) (told : Bool → List ℕ →
   reading (Some known) None failures_old failures_new may_old may_new within size same c does = absurd c
   reading (Some known) (Some rest) failures_old failures_new may_old may_new within size same c does =
       elim (cases_lt source_limit (n + length rest)) [
-    | inl past ↦
-        let front = take (source_limit - n) rest in
-        let back = drop (source_limit - n) rest in
-        let long : length front ≡ source_limit - n = length-take-le (source_limit - n) rest (omega (arith, past, within)) in
-        let left = length-drop (source_limit - n) rest in
-        let both = length-append all front in
-        let split : front ++ back ≡ rest = take-append-drop (source_limit - n) rest in
-        let parts : known ≡ (all ++ front) ++ back = c ∙ ap (λ r. all ++ r) (sym split) ∙ sym (append_assoc all front back) in
-        record {
-          input = all ++ front;
-          broken = true;
-          within = omega (arith, both, long, size, within);
-          whole = λ e. cc;
-          cut = λ e. inr (record { past = back; some = omega (arith, left, past, within); full = omega (arith, both, long, size, within);
-              front = inr (ap (λ b. Some b) parts); unfailed = same });
+        | inl past ↦
+            let front = take (source_limit - n) rest in
+            let back = drop (source_limit - n) rest in
+            let long : length front ≡ source_limit - n = length-take-le (source_limit - n) rest (omega (arith, past, within)) in
+            let left = length-drop (source_limit - n) rest in
+            let both = length-append all front in
+            let split : front ++ back ≡ rest = take-append-drop (source_limit - n) rest in
+            let parts : known ≡ (all ++ front) ++ back = c ∙ ap (λ r. all ++ r) (sym split) ∙ sym (append_assoc all front back) in
+            record {
+              input = all ++ front;
+              broken = true;
+              within = omega (arith, both, long, size, within);
+              whole = λ e. cc;
+              cut = λ e. inr (record {
+                past = back;
+                some = omega (arith, left, past, within);
+                full = omega (arith, both, long, size, within);
+                front = inr (ap (λ b. Some b) parts);
+                unfailed = same;
+              });
+              read = λ is. absurd (unread (all ++ []) (does [] false tt (omega (arith, within))) is);
+              writes = does front true tt (omega (arith, long, within));
+            }
+        | inr fits ↦ record {
+          input = all ++ rest;
+          broken = false;
+          within = rw length-append (omega (arith, fits, size));
+          whole = λ e. (c, same);
+          cut = λ e. cc;
           read = λ is. absurd (unread (all ++ []) (does [] false tt (omega (arith, within))) is);
-          writes = does front true tt (omega (arith, long, within));
+          writes = does rest false tt (omega (arith, fits));
         }
-    | inr fits ↦ record {
-      input = all ++ rest;
-      broken = false;
-      within = rw length-append (omega (arith, fits, size));
-      whole = λ e. (c, same);
-      cut = λ e. cc;
-      read = λ is. absurd (unread (all ++ []) (does [] false tt (omega (arith, within))) is);
-      writes = does rest false tt (omega (arith, fits));
-    }
-  ]
+      ]
 
   pub performs : (seen_old seen_new : Seen) (r : Reach) → ReadsBytes seen_old seen_new reach.Reading r 0 n all → Does r
       → Done seen_old seen_new
   performs seen_old seen_new reach.Reading t does =
       let none : t.lost ≡ [] = none_long t.lost (λ h. absurd (let e = (t.passed h).0 in cc)) in
       reading seen_old.to_come seen_new.to_come seen_old.failures seen_new.failures seen_old.may_fail seen_new.may_fail
-          (t.within (omega arith)) (omega (arith, t.count)) (omega (arith, t.told))
+      (t.within (omega arith)) (omega (arith, t.count)) (omega (arith, t.told))
       (subst (Consumes seen_old.to_come seen_new.to_come) (ap (λ l. all ++ l) none ∙ append-nil all) t.consumes) does
   performs seen_old seen_new reach.End t does =
       let none : t.lost ≡ [] = none_long t.lost (λ h. absurd (let e = (t.passed h).0 in cc)) in
@@ -121,9 +126,11 @@ module _ (output : Bool → List ℕ → List ℕ) (told : Bool → List ℕ →
         input = all ++ [];
         broken = false;
         within = rw length-append (omega (arith, within, t.count));
-        whole = λ e. (all_known seen_old.to_come seen_new.to_come (all ++ [])
-            (subst (λ l. Consumes seen_old.to_come seen_new.to_come (all ++ l)) none t.consumes) (t.ended (λ e. cc) refl),
-            omega (arith, t.told));
+        whole = λ e. (
+          all_known seen_old.to_come seen_new.to_come (all ++ [])
+              (subst (λ l. Consumes seen_old.to_come seen_new.to_come (all ++ l)) none t.consumes) (t.ended (λ e. cc) refl),
+          omega (arith, t.told),
+        );
         cut = λ e. cc;
         read = λ is. absurd (unread (all ++ []) writes is);
         writes = writes;
@@ -136,8 +143,11 @@ module _ (output : Bool → List ℕ → List ℕ) (told : Bool → List ℕ →
         broken = true;
         within = rw length-append (omega (arith, within, t.count));
         whole = λ e. cc;
-        cut = λ e. inl (record { front = subst (λ l. Consumes seen_old.to_come seen_new.to_come (all ++ l)) none t.consumes; failed =
-            omega (arith, t.told) });
+        cut = λ e. inl (record {
+          front = subst (λ l. Consumes seen_old.to_come seen_new.to_come (all ++ l)) none t.consumes;
+          failed =
+              omega (arith, t.told);
+        });
         read = λ is. inl (omega (arith, t.told));
         writes = does [] true (refl, refl) (omega (arith, within));
       }
@@ -151,8 +161,14 @@ module _ (output : Bool → List ℕ → List ℕ) (told : Bool → List ℕ →
         broken = true;
         within = rw length-append (omega (arith, within, t.count));
         whole = λ e. cc;
-        cut = λ e. inr (record { past = t.lost; some = some; full = ap length same ∙ omega (arith, full, t.count); front =
-            inl (rw same t.consumes); unfailed = omega (arith, t.told) });
+        cut = λ e. inr (record {
+          past = t.lost;
+          some = some;
+          full = ap length same ∙ omega (arith, full, t.count);
+          front =
+              inl (rw same t.consumes);
+          unfailed = omega (arith, t.told);
+        });
         read = λ is. inr (all ++ t.lost, rw length-append (omega (arith, some, full, t.count)), t.consumes);
         writes = does [] true (refl, refl) (omega (arith, within));
       }

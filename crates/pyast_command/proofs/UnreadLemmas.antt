@@ -89,8 +89,14 @@ marks_read zero e = tt
 marks_read (suc n) e = marks_read n e
 
 dedents_read : (width : ℕ) (levels earlier : List ℕ) (p : Place) → AllRead (dedents width levels earlier p)
-dedents_read width levels earlier p = marks_read (count_by (nat_lt width) levels) (record { kind = kinds.Dedent; exact = None; start = p;
-    «end» = p; «from» = bytes_in earlier; to = bytes_in earlier })
+dedents_read width levels earlier p = marks_read (count_by (nat_lt width) levels) (record {
+  kind = kinds.Dedent;
+  exact = None;
+  start = p;
+  «end» = p;
+  «from» = bytes_in earlier;
+  to = bytes_in earlier;
+})
 
 layout_read : (before : List Lexeme) → AllRead (layout before)
 unfolding layout layout_by
@@ -127,7 +133,7 @@ tail_read before end =
     (AllRead-append (line_end_of_last before end ++ dedents 0 (open_levels (widths before)) (text_before before) (end_place before end)) _
     (AllRead-append (line_end_of_last before end) _
     (either (is_logical before) _ _ (either (begins_comment (last_line (text_before before))) [] _ tt tt)
-        (either (is_at_margin before) [] _ tt tt))
+    (either (is_at_margin before) [] _ tt tt))
     (dedents_read 0 (open_levels (widths before)) (text_before before) (end_place before end)))
     tt)
 
@@ -210,8 +216,8 @@ line_read charset row (line ∷ lines) =
   where
     by_first : (o : Option (ℕ × LineError)) → IsOwnAt o → IsRead (option_map of_line (line_fault charset (row + 1) lines))
         → IsRead (option_map of_line
-            (option_map_or (λ bad. Some (record { code = bad.1; place = record { row = row; column = length (chars (take bad.0 line)) } }))
-            o (line_fault charset (row + 1) lines)))
+        (option_map_or (λ bad. Some (record { code = bad.1; place = record { row = row; column = length (chars (take bad.0 line)) } }))
+        o (line_fault charset (row + 1) lines)))
     by_first None u rest = rest
     by_first (Some bad) u rest = u
 
@@ -225,7 +231,7 @@ pub listing_is_read : (bytes : List ℕ) (p : Parts) (f : ListingFault) → sour
     → fault_of (listing (in_characters p)) ≡ Some f → is_unread_code f.code ≡ false
 listing_is_read bytes p f is told =
     subst IsRead told (fault_read (listing (in_characters p))
-        (listing_read (in_characters p) (by_named (encoding_of (nth_line bytes 0) (nth_line bytes 1)) bytes p is)))
+    (listing_read (in_characters p) (by_named (encoding_of (nth_line bytes 0) (nth_line bytes 1)) bytes p is)))
 
 -- the fault of a source that was read whole
 abbrev Quiet : Option Fault → Type 0
@@ -285,8 +291,12 @@ quiet_under count resume (Err (refused.UnsupportedEncoding place)) bytes = λ e.
 quiet_under count resume (Err (refused.BomConflict place)) bytes = λ e. cc
 quiet_under count resume (Err refused.Memory) bytes = λ e. cc
 quiet_under count resume (Ok named) bytes =
-    quiet_source count resume (record { encoding = named; text = good_text named.charset lines; fault =
-    option_or (line_fault named.charset 1 lines) None }) (by_line (line_fault named.charset 1 lines) (line_read named.charset 1 lines))
+    quiet_source count resume (record {
+      encoding = named;
+      text = good_text named.charset lines;
+      fault =
+          option_or (line_fault named.charset 1 lines) None;
+    }) (by_line (line_fault named.charset 1 lines) (line_read named.charset 1 lines))
   where
     lines : List (List ℕ)
     lines = lines_read false (without_mark bytes)

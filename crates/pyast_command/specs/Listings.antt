@@ -89,8 +89,10 @@ tokens_output exact count resume (Err fault) = []
 
 -- the fault that `tokens` tells of a source
 abbrev pub tokens_fault : Option ℕ → Option CursorParts → Result Parts StreamFault → Option Fault
-tokens_fault count resume (Ok p) = elim (start_in resume (in_characters p)) [ Some k ↦ fault_from p count k
-    | None ↦ Some (Plain (missed resume (in_characters p))) ]
+tokens_fault count resume (Ok p) = elim (start_in resume (in_characters p)) [
+  | Some k ↦ fault_from p count k
+  | None ↦ Some (Plain (missed resume (in_characters p)))
+]
 tokens_fault count resume (Err fault) = Some (of_stream fault)
 
 -- the whole output of `tokens` on the bytes of a source, behind which a read failed or not, and the fault that it tells of them

@@ -20,9 +20,13 @@ use Rattle.pyast_command.specs.Unparses.{Unparses}
 abbrev pub WritesFor : List ℕ → Option Fault → Option (List ℕ) → Option (List ℕ) → Option Fault → Type 0
 WritesFor output told old new None = (told ≡ None) × Appends old new output
 WritesFor output told old new (Some (InSource code place)) = (told ≡ Some (InSource code place)) × Appends old new output
-WritesFor output told old new (Some (Plain code)) = elim code [ Read ↦ (told ≡ Some (Plain Read)) × Appends old new output
-    | Write ↦ TakesFront old new output | Memory ↦ TakesFront old new output
-    | CursorOfAnotherSource ↦ (told ≡ Some (Plain CursorOfAnotherSource)) × Appends old new output | _ ↦ ⊥ ]
+WritesFor output told old new (Some (Plain code)) = elim code [
+  | Read ↦ (told ≡ Some (Plain Read)) × Appends old new output
+  | Write ↦ TakesFront old new output
+  | Memory ↦ TakesFront old new output
+  | CursorOfAnotherSource ↦ (told ≡ Some (Plain CursorOfAnotherSource)) × Appends old new output
+  | _ ↦ ⊥
+]
 
 -- the writer took a front of the output, of which this much is held and the rest left
 abbrev pub TakesAllBut : Option (List ℕ) → Option (List ℕ) → List ℕ → List ℕ → List ℕ → Type 0
@@ -32,8 +36,12 @@ TakesAllBut old new output held left = (written : List ℕ) × (output ≡ (writ
 abbrev pub HoldsFor : List ℕ → Option Fault → Option (List ℕ) → Option (List ℕ) → List ℕ → Option Fault → Type 0
 HoldsFor output told old new held None = (told ≡ None) × TakesAllBut old new output held []
 HoldsFor output told old new held (Some (InSource code place)) = (told ≡ Some (InSource code place)) × TakesAllBut old new output held []
-HoldsFor output told old new held (Some (Plain code)) = elim code [ Memory ↦ (left : List ℕ) × TakesAllBut old new output held left
-    | Read ↦ (told ≡ Some (Plain Read)) × TakesAllBut old new output held [] | Write ↦ TakesFront old new output | _ ↦ ⊥ ]
+HoldsFor output told old new held (Some (Plain code)) = elim code [
+  | Memory ↦ (left : List ℕ) × TakesAllBut old new output held left
+  | Read ↦ (told ≡ Some (Plain Read)) × TakesAllBut old new output held []
+  | Write ↦ TakesFront old new output
+  | _ ↦ ⊥
+]
 
 -- the outcome of a call as the fault that ended it, if one did
 abbrev pub ended_by : {A : Type 0} → Result A Fault → Option Fault
@@ -99,8 +107,10 @@ PerformsWhole making does seen_old seen_new old new limit (Some (InSource code p
 PerformsWhole making does seen_old seen_new old new limit (Some (Plain code)) = elim code [
   | Read ↦ ReadsNotAll seen_old seen_new limit × Appends old new []
   | Write ↦ WritesFront does seen_old seen_new old new limit
-  | Memory ↦ (seen_new.failures ≡ seen_old.failures) × elim making [ whole ↦ Appends old new []
-      | in_pieces ↦ Appends old new [] ⊎ WritesFront does seen_old seen_new old new limit ]
+  | Memory ↦ (seen_new.failures ≡ seen_old.failures) × elim making [
+    | whole ↦ Appends old new []
+    | in_pieces ↦ Appends old new [] ⊎ WritesFront does seen_old seen_new old new limit
+  ]
   | _ ↦ ⊥
 ]
 

@@ -18,7 +18,7 @@ tells_cut x y z done part rest line is p t f = record {
 pub tells_last : {A E : Type 0} (r : Result A E) (x y z : Sent) (done part line : List ℕ) → line ≡ done ++ part → y.failures ≡ x.failures
     → Appends x.taken y.taken done
     → OnOk r (Appends y.taken z.taken part) → OnErr r (TakesFront y.taken z.taken part)
-        → OnErr r (z.failures ≡ y.failures + 1) → Tells x z line
+    → OnErr r (z.failures ≡ y.failures + 1) → Tells x z line
 tells_last (Ok a) x y z done part line is same p q t f = record {
   front = TakesFront-done x.taken z.taken (done ++ part) [] line (is ∙ sym (append-nil (done ++ part)))
       (Appends-append x.taken y.taken z.taken done part p q);

@@ -133,9 +133,9 @@ pub found_ok : (g : ClapCommand) (words : List (List ℕ)) (r : Result ArgMatche
     → IfOk r (HasMatchesOf (app_of g) words) → (fault_of grammar words ≡ []) × (subcommand_rows_of m ≡ subcommand_of grammar words)
 found_ok g words r m app ok kinds matches =
     let none : fault_of (app_of g) words ≡ [] =
-        subst (FailsBy (fault_of (app_of g) words)) ok (kinds (ap is_simple_and_free app ∙ grammar_is_free)) in
+    subst (FailsBy (fault_of (app_of g) words)) ok (kinds (ap is_simple_and_free app ∙ grammar_is_free)) in
     let has : HasMatchesOf (app_of g) words m =
-        subst (λ (x : Result ArgMatches Error). IfOk x (HasMatchesOf (app_of g) words)) ok matches in
+    subst (λ (x : Result ArgMatches Error). IfOk x (HasMatchesOf (app_of g) words)) ok matches in
     (ap (λ a. fault_of a words) (sym app) ∙ none, (has (ap is_simple app ∙ grammar_is_simple)).1 ∙ ap (λ a. subcommand_of a words) app)
 
 -- why one that fails does
@@ -144,5 +144,5 @@ pub failed_err : (g : ClapCommand) (words : List (List ℕ)) (r : Result ArgMatc
     → (kind_of e ≡ OutOfMemory) ⊎ IsAmong (kind_of e) (fault_of grammar words)
 failed_err g words r e app is kinds =
     let has : HasKind (fault_of (app_of g) words) e =
-        subst (FailsBy (fault_of (app_of g) words)) is (kinds (ap is_simple_and_free app ∙ grammar_is_free)) in
+    subst (FailsBy (fault_of (app_of g) words)) is (kinds (ap is_simple_and_free app ∙ grammar_is_free)) in
     subst (λ a. HasKind (fault_of a words) e) app has

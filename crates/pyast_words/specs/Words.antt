@@ -59,8 +59,10 @@ file_rule = new_rule (codes "FILE")
 
 -- `tokens [-e] [--count N] [--resume CURSOR] [FILE]`
 abbrev pub tokens_shape : Shape
-tokens_shape = record (new_shape (codes "tokens")) { rules = exact_rule ∷ number_rule (codes "count") largest_count ∷
-    resume_rule ∷ file_rule ∷ [] }
+tokens_shape = record (new_shape (codes "tokens")) {
+  rules = exact_rule ∷ number_rule (codes "count") largest_count ∷
+      resume_rule ∷ file_rule ∷ [];
+}
 
 -- `dump [--indent N] [--bare] [--py312] [--whole] [FILE]`
 abbrev pub dump_shape : Shape

@@ -35,9 +35,9 @@ module _ (same inner : Reads) where
       (on_first (is_word Key.Yield) r (λ _ r1. and_then (yield_step inner r1) (λ e r2. closed RPar r2 e))
       (and_then (same Elem r) (λ e r1.
       on_first (is_op Comma) r1 (λ _ r2. and_then (listing_of inner (Of Elem) [] r2)
-          (λ es r3. closed RPar r3 (Trees.Tuple (an_expr e (singles es)) Load)))
+      (λ es r3. closed RPar r3 (Trees.Tuple (an_expr e (singles es)) Load)))
       (unstarred r (cond (starts_comp r1) (comps_closed inner RPar r1 (λ gs. Trees.GeneratorExp e (comprehensions gs)))
-          (closed RPar r1 e))))))
+      (closed RPar r1 e))))))
 
   abbrev pub capped_atom : List Terminal → Answer Expr
   capped_atom r = on_first (is_op LPar) r (λ _ r1. capped_round r1) (atom inner r)
@@ -48,13 +48,13 @@ module _ (d : ℕ) (inner : Reads) where
   capped_primary zero e r = Found e r
   capped_primary (suc m) e r =
       on_first (is_op Dot) r
-          (λ _ r1. on_first name_in r1 (λ x r2. and_then (cap d (Found (Trees.Attribute e x Load) r2)) (λ f r3. capped_primary m f r3))
-          NoForm)
+      (λ _ r1. on_first name_in r1 (λ x r2. and_then (cap d (Found (Trees.Attribute e x Load) r2)) (λ f r3. capped_primary m f r3))
+      NoForm)
       (on_first (is_op LPar) r (λ _ r1. and_then (cap d (call_step inner e r1)) (λ f r2. capped_primary m f r2))
       (on_first (is_op LSqb) r
-          (λ _ r1. and_then (inner Slices r1)
-          (λ s r2. on_first (is_op RSqb) r2 (λ _ r3. and_then (cap d (Found (Trees.Subscript e s Load) r3)) (λ f r4. capped_primary m f r4))
-          NoForm))
+      (λ _ r1. and_then (inner Slices r1)
+      (λ s r2. on_first (is_op RSqb) r2 (λ _ r3. and_then (cap d (Found (Trees.Subscript e s Load) r3)) (λ f r4. capped_primary m f r4))
+      NoForm))
       (Found e r)))
 
   abbrev pub capped_loop : ℕ → ℕ → Expr → List Terminal → Answer Expr

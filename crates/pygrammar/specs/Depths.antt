@@ -31,8 +31,12 @@ under l (d ∷ ds) = cond (nat_lt d.level l) (d ∷ ds) (under l ds)
 
 -- a line as the last of its level
 abbrev pub depth_of : Line → List Depth → Depth
-depth_of x ds = record { level = x.level; round = round_at x.level ds; arms = arms_at (kind_of x.form) x.level ds;
-    own = own (kind_of x.form) }
+depth_of x ds = record {
+  level = x.level;
+  round = round_at x.level ds;
+  arms = arms_at (kind_of x.form) x.level ds;
+  own = own (kind_of x.form);
+}
 
 -- one line more
 abbrev pub counted : List Depth → Line → List Depth

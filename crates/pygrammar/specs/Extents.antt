@@ -98,13 +98,13 @@ abbrev mutual
   pub is_statement_plain : Trees.Stmt → Bool
   is_statement_plain (Trees.FunctionDef name args body decorators returns parameters) =
       are_arguments_plain args &&
-          (are_statements_plain body && (all_plain decorators && (is_perhaps_plain returns && list_all is_type_param_plain parameters)))
+      (are_statements_plain body && (all_plain decorators && (is_perhaps_plain returns && list_all is_type_param_plain parameters)))
   is_statement_plain (Trees.AsyncFunctionDef name args body decorators returns parameters) =
       are_arguments_plain args &&
-          (are_statements_plain body && (all_plain decorators && (is_perhaps_plain returns && list_all is_type_param_plain parameters)))
+      (are_statements_plain body && (all_plain decorators && (is_perhaps_plain returns && list_all is_type_param_plain parameters)))
   is_statement_plain (Trees.ClassDef name bases keywords body decorators parameters) =
       all_plain bases && (are_keywords_plain keywords &&
-          (are_statements_plain body && (all_plain decorators && list_all is_type_param_plain parameters)))
+      (are_statements_plain body && (all_plain decorators && list_all is_type_param_plain parameters)))
   is_statement_plain (Trees.Return value) = is_perhaps_plain value
   is_statement_plain (Trees.Delete targets) = all_plain targets
   is_statement_plain (Trees.Assign targets value) = all_plain targets && is_plain value

@@ -204,7 +204,7 @@ pub data Simple (profile : Profile) : List Terminal → Stmt → Type 0 where
   -- "from" ("." | "...")* Dotted "import" Names
   from_module : {ts us vs : List Terminal} {n : ℕ} {m : Identifier} {as_ : List Alias} →
       Dots ts n → Dotted us m → Names vs as_ → Simple profile (Word Key.From ∷ (ts ++ (us ++ (Word Key.Import ∷ vs))))
-          (ImportFrom (Some m) as_ n)
+      (ImportFrom (Some m) as_ n)
   -- "from" ("." | "...")+ "import" Names
   from_dots : {ts vs : List Terminal} {n : ℕ} {as_ : List Alias} →
       Dots ts n → 0 < n → Names vs as_ → Simple profile (Word Key.From ∷ (ts ++ (Word Key.Import ∷ vs))) (ImportFrom None as_ n)
@@ -278,13 +278,13 @@ pub data HeaderOf (profile : Profile) : List Terminal → Header → Type 0 wher
   def_line : {ts us vs ws : List Terminal} {b : Bool} (x : Spelled) {tps : List TypeParam} {ps : List Entry}
       {a : Arguments} {r : Option Expr} →
       Async ts b → TypeParams profile us tps → Listing (Parameter true) vs ps → arranged ps ≡ Some a
-          → Behind (Op Sign.RArrow) Expression ws r →
+      → Behind (Op Sign.RArrow) Expression ws r →
       HeaderOf profile (ts ++ (Word Key.Def ∷ (Ident x ∷ (us ++ (Op Sign.LPar ∷ (vs ++ (Op Sign.RPar ∷ ws)))))))
-          (def_header (function_head b x.form tps a r))
+      (def_header (function_head b x.form tps a r))
   -- "class" NAME [TypeParams] ["(" [Args] ")"]
   class_line : {x : Spelled} {ts us : List Terminal} {tps : List TypeParam} {es : List Expr} {ks : Keywords} →
       TypeParams profile ts tps → Bases us es ks → HeaderOf profile (Word Key.Class ∷ (Ident x ∷ (ts ++ us)))
-          (def_header (class_head x.form tps es ks))
+      (def_header (class_head x.form tps es ks))
 
 -- ---- `match` and `case`, which are no keywords: NAMEs that are spelled so.
 

@@ -99,7 +99,7 @@ mutual
     call_generator : {ts us vs : List Terminal} {f e : Expr} {gs : List Comprehension}
         → Derives Primary ts f → Derives Named us e → Comps vs gs
         → Derives Primary (ts ++ (Op LPar ∷ (us ++ (vs ++ (Op RPar ∷ [])))))
-            (Trees.Call f (an_expr (Trees.GeneratorExp e (comprehensions gs)) no_exprs) Trees.no_keyword)
+        (Trees.Call f (an_expr (Trees.GeneratorExp e (comprehensions gs)) no_exprs) Trees.no_keyword)
     -- Primary = Primary "[" Slices "]"
     subscript : {ts us : List Terminal} {e s : Expr}
         → Derives Primary ts e → Derives Slices us s
@@ -299,7 +299,7 @@ mutual
     star_annotation : {x : Spelled} {ts : List Terminal} {e : Expr}
         → Derives BitOr ts e
         → Piece (Parameter true) (Op Star ∷ (Ident x ∷ (Op Colon ∷ (Op Star ∷ ts))))
-            (Gathered (arg x.form (present (Trees.Starred e Load))))
+        (Gathered (arg x.form (present (Trees.Starred e Load))))
     -- Params: "**" NAME [":" Expression]
     double_parameter : {b : Bool} {x : Spelled} {ts : List Terminal} {a : OptionalExpr}
         → Suffix (cond b (Some Colon) None) ts a

@@ -20,13 +20,13 @@ LineReaderIsExact = (profile : Profile) (inside : Bool) (ts : List Terminal) (f 
 abbrev pub FormsAreDecided : Type 0
 FormsAreDecided = (profile : Profile) (inside : Bool) (ts : List Terminal) →
     ((f : Form) × (read_line profile inside ts ≡ Found f []) × FormAt profile inside ts f) ⊎
-        ((read_line profile inside ts ≡ NoForm) × ((f : Form) → FormAt profile inside ts f → ⊥))
+    ((read_line profile inside ts ≡ NoForm) × ((f : Form) → FormAt profile inside ts f → ⊥))
 
 -- to a depth it answers the same or goes too deep, and it goes too deep in no line that counts less
 abbrev pub DepthIsKept : Type 0
 DepthIsKept = (profile : Profile) (inside : Bool) (d : ℕ) (ts : List Terminal) →
     ((read_line_to profile inside d ts ≡ TooDeep) ⊎ (read_line_to profile inside d ts ≡ read_line profile inside ts)) × (weight ts < d
-        → read_line_to profile inside d ts ≡ TooDeep → ⊥)
+    → read_line_to profile inside d ts ≡ TooDeep → ⊥)
 
 -- within a height it gives a line's form exactly where that is no higher
 abbrev pub LineLimitIsExact : Type 0

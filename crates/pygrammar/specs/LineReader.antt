@@ -174,7 +174,7 @@ module _ (self : Reads) where
   end_value (t ∷ ts) e r = Found (Assign (t ∷ ts) e) r
   end_value [] e r =
       on_first augmented_sign r
-          (λ o r1. on_some (single_stored e) (λ t. and_then (self Value r1) (λ v r2. Found (AugAssign t o v) r2)) NoForm)
+      (λ o r1. on_some (single_stored e) (λ t. and_then (self Value r1) (λ v r2. Found (AugAssign t o v) r2)) NoForm)
       (on_first (is_op Sign.Colon) r (λ _ r1. on_some (single_stored e) (λ t. annotation t false r1) NoForm)
       (Found (ExprOf e) r))
 

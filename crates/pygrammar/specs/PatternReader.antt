@@ -85,7 +85,7 @@ abbrev pub number_rest : Values.Value → Expr → List Terminal → Answer Expr
 number_rest v e r =
     cond (is_imaginary v) (Found e r)
     (on_first (left_operator Sum) r (λ o r1. on_first imaginary_in r1 (λ w r2. Found (Trees.BinOp e o (Trees.Constant w)) r2) NoForm)
-        (Found e r))
+    (Found e r))
 
 -- a Literal, if the list begins with one; else the other reader. `self` reads the fields of f-strings
 abbrev pub literal_or : Reads → List Terminal → Answer Expr → Answer Expr
@@ -124,7 +124,7 @@ module _ (d : ℕ) (self : Reads) (inner : PatternReads) where
   read_entry KeyPattern i =
       on_first (is_op DoubleStar) i (λ _ r. on_first name_in r (λ x r1. cond (is_wildcard x) NoForm (Found (Rest x) r1)) NoForm)
       (and_then (read_key d self i)
-          (λ k r. on_first (is_op Colon) r (λ _ r1. and_then (inner AsPattern r1) (λ p r2. Found (Keyed k p) r2)) NoForm))
+      (λ k r. on_first (is_op Colon) r (λ _ r1. and_then (inner AsPattern r1) (λ p r2. Found (Keyed k p) r2)) NoForm))
   read_entry ClassArgument i =
       on_name_with Equal i (λ x r. and_then (inner AsPattern r) (λ p r1. Found (Named x p) r1))
       (and_then (inner AsPattern i) (λ p r. Found (Alone p) r))
@@ -154,7 +154,7 @@ module _ (d : ℕ) (self : Reads) (inner : PatternReads) where
   round_pattern same i =
       on_first (is_op RPar) i (λ _ r. Found (MatchSequence no_pattern) r)
       (and_then (same StarPattern i) (λ p r. sequence_or p r (λ es r1. closed RPar r1 (MatchSequence (a_pattern p (elements es))))
-          (unstarred i (closed RPar r p))))
+      (unstarred i (closed RPar r p))))
 
   -- after `[`, `{`, and the `(` of a class pattern
   abbrev pub square_pattern : List Terminal → Answer Pattern

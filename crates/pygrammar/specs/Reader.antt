@@ -103,7 +103,7 @@ module _ (self : Reads) where
   read_pair r =
       on_first (is_op DoubleStar) r (λ _ r1. and_then (self BitOr r1) (λ e r2. Found (Doubled e) r2))
       (and_then (self Expression r)
-          (λ k r1. on_first (is_op Colon) r1 (λ _ r2. and_then (self Expression r2) (λ e r3. Found (Paired k e) r3)) NoForm))
+      (λ k r1. on_first (is_op Colon) r1 (λ _ r2. and_then (self Expression r2) (λ e r3. Found (Paired k e) r3)) NoForm))
 
   abbrev pub read_argument : List Terminal → Answer Entry
   read_argument r =
@@ -115,11 +115,11 @@ module _ (self : Reads) where
   abbrev pub read_parameter : Bool → List Terminal → Answer Entry
   read_parameter b r =
       on_first name_in r (λ x r1. and_then (annotated b r1)
-          (λ a r2. and_then (suffixed (Some Equal) r2) (λ d r3. Found (Plain (arg x a) d) r3)))
+      (λ a r2. and_then (suffixed (Some Equal) r2) (λ d r3. Found (Plain (arg x a) d) r3)))
       (on_first (is_op Star) r
-          (λ _ r1. on_first name_in r1 (λ x r2. and_then (star_annotated b r2) (λ a r3. Found (Gathered (arg x a)) r3)) (Found Bare r1))
+      (λ _ r1. on_first name_in r1 (λ x r2. and_then (star_annotated b r2) (λ a r3. Found (Gathered (arg x a)) r3)) (Found Bare r1))
       (on_first (is_op DoubleStar) r
-          (λ _ r1. on_first name_in r1 (λ x r2. and_then (annotated b r2) (λ a r3. Found (Collected (arg x a)) r3)) NoForm)
+      (λ _ r1. on_first name_in r1 (λ x r2. and_then (annotated b r2) (λ a r3. Found (Collected (arg x a)) r3)) NoForm)
       (on_first (is_op Slash) r (λ _ r1. Found Slashed r1) NoForm)))
 
   abbrev pub piece : Item → List Terminal → Answer Entry
@@ -176,8 +176,8 @@ module _ (self : Reads) where
   comps_loop (suc m) acc r =
       on_first (is_word Key.For) r (λ _ r1. and_then (for_in_step false r1) (λ g r2. comps_loop m (acc ++ (g ∷ [])) r2))
       (on_first (is_word Key.Async) r
-          (λ _ r1. on_first (is_word Key.For) r1 (λ _ r2. and_then (for_in_step true r2) (λ g r3. comps_loop m (acc ++ (g ∷ [])) r3))
-          NoForm) (Found acc r))
+      (λ _ r1. on_first (is_word Key.For) r1 (λ _ r2. and_then (for_in_step true r2) (λ g r3. comps_loop m (acc ++ (g ∷ [])) r3))
+      NoForm) (Found acc r))
 
   -- Comp+ and a bracket, with what they make
   abbrev pub comps_closed : Exact → List Terminal → (List Comprehension → Expr) → Answer Expr
@@ -220,7 +220,7 @@ module _ (self : Reads) where
   parts_loop u (suc m) acc r =
       on_first text_in r (λ t r1. parts_loop u m (acc ++ (Text t ∷ [])) r1)
       (on_first conversion_in r (λ c r1. and_then (field_with (λ r2. parts_loop u m [] r2) u c r1)
-          (λ e r2. parts_loop u m (acc ++ (Field e ∷ [])) r2))
+      (λ e r2. parts_loop u m (acc ++ (Field e ∷ [])) r2))
       (Found acc r))
 
   -- an f-string, after its beginning
@@ -259,9 +259,9 @@ module _ (self : Reads) where
       (on_first (is_word Key.Yield) r (λ _ r1. and_then (yield_step r1) (λ e r2. closed RPar r2 e))
       (and_then (self Elem r) (λ e r1.
       on_first (is_op Comma) r1 (λ _ r2. and_then (listing_of self (Of Elem) [] r2)
-          (λ es r3. closed RPar r3 (Trees.Tuple (an_expr e (singles es)) Load)))
+      (λ es r3. closed RPar r3 (Trees.Tuple (an_expr e (singles es)) Load)))
       (unstarred r (cond (starts_comp r1) (comps_closed self RPar r1 (λ gs. Trees.GeneratorExp e (comprehensions gs)))
-          (closed RPar r1 e))))))
+      (closed RPar r1 e))))))
 
   abbrev pub square : List Terminal → Answer Expr
   square r =
@@ -323,8 +323,8 @@ module _ (self : Reads) where
       on_first (is_op Dot) r (λ _ r1. on_first name_in r1 (λ x r2. primary_loop m (Trees.Attribute e x Load) r2) NoForm)
       (on_first (is_op LPar) r (λ _ r1. and_then (call_step e r1) (λ f r2. primary_loop m f r2))
       (on_first (is_op LSqb) r
-          (λ _ r1. and_then (self Slices r1)
-          (λ s r2. on_first (is_op RSqb) r2 (λ _ r3. primary_loop m (Trees.Subscript e s Load) r3) NoForm))
+      (λ _ r1. and_then (self Slices r1)
+      (λ s r2. on_first (is_op RSqb) r2 (λ _ r3. primary_loop m (Trees.Subscript e s Load) r3) NoForm))
       (Found e r)))
 
   -- chains

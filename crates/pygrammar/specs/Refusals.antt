@@ -149,9 +149,9 @@ pub data Refused (profile : Profile) (s : Source) : Reason → Type 0 where
       → Refused profile s (at p c)
   by_block : {forms rest : List Line} {f : Fault} {n : ℕ} {p : Place} →
       refusal profile.extent s ≡ None → Formed profile [] (lines s) forms → FirstFault [] forms rest f
-          → n + length rest ≡ length forms → StartsAt s n p →
+      → n + length rest ≡ length forms → StartsAt s n p →
       Refused profile s (at p (Indentation f))
   by_height : {forms : List Line} {m : Module} {n : ℕ} {p : Place} →
       refusal profile.extent s ≡ None → Formed profile [] (lines s) forms → Block 0 forms m.body → 500 < statement_height m
-          → FirstDeep [] forms n → StartsAt s n p →
+      → FirstDeep [] forms n → StartsAt s n p →
       Refused profile s (at p TooDeep)

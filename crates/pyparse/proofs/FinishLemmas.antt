@@ -111,8 +111,10 @@ module _ {profile : Profile} {s : Source} {k : ℕ} {end : Place} (closes : Clos
   high_refused {forms} was tree =
       let body = tree forms (formed_proper was.formed) was.follows in
       let m : Module = record { body = body.0 } in
-      by_height {m = m} closes.clear (formed_to_end was.formed) body.1 ((deep_is_high {m = m} body.1 (formed_flat was.formed)).0 (was.n,
-          was.deep)) was.deep was.starts
+      by_height {m = m} closes.clear (formed_to_end was.formed) body.1 ((deep_is_high {m = m} body.1 (formed_flat was.formed)).0 (
+        was.n,
+        was.deep,
+      )) was.deep was.starts
 
   pub faulty_refused : {forms : List Line} {e : GrammarError} {p : Place} → IsFaultyAt profile s k forms e p
       → Refused profile s (at p (code_of e))
@@ -127,7 +129,7 @@ module _ {profile : Profile} {s : Source} {k : ℕ} {end : Place} (closes : Clos
   pub unread_refused : {e : GrammarError} {p : Place} → IsUnreadAt profile s k e p → Refused profile s (at p (code_of e))
   unread_refused {e} was =
       by_line closes.clear (subst (λ (xs : List Tokens.Line). FirstUnread profile [] xs was.n (code_of e)) (all_lines closes) was.first)
-          was.starts
+      was.starts
 
 -- ---- The whole source.
 
@@ -143,15 +145,15 @@ pub told_on : {A : Type 0} (profile : Profile) (s : Source) (answer : Result A P
     (x : ParseFault) × (answer ≡ Err x) × (x ≡ fault) → IfErr answer (Refuses profile s)
 told_on {A} profile s answer fault tells passed =
     subst (λ (r : Result A ParseFault). IfErr r (Refuses profile s)) (sym passed.1)
-        (subst (Refuses profile s) (sym passed.2) (told profile s fault tells))
+    (subst (Refuses profile s) (sym passed.2) (told profile s fault tells))
 
 -- no line comes more
 pub closes_at : (profile : Profile) (s : Source) (extent : Extent) (given : ℕ) (p : Parts) (marker end : Place)
     → extent ≡ profile.extent → in_characters p ≡ s →
     given ≡ length (lines (in_characters p)) → refusal extent (in_characters p) ≡ None → EndsAt (in_characters p) marker → end ≡ marker
-        → Closes profile s given end
+    → Closes profile s given end
 closes_at profile s extent given p marker end read same all clear ends is =
     let unrefused : refusal profile.extent (in_characters p) ≡ None =
-        subst (λ (x : Extent). refusal x (in_characters p) ≡ None) read clear in
+    subst (λ (x : Extent). refusal x (in_characters p) ≡ None) read clear in
     subst (λ (s : Source). Closes profile s given end) same
-        (record { all = all; clear = unrefused; ends = subst (EndsAt (in_characters p)) (sym is) ends })
+    (record { all = all; clear = unrefused; ends = subst (EndsAt (in_characters p)) (sym is) ends })

@@ -28,14 +28,14 @@ pub holds_next : (level : ℕ) (header : Bool) (f : Form) (earlier : List Line) 
     → header ≡ is_match (kind_of f) →
     ((l : ℕ) → l ≤ level → stands_behind l (reverse lower) ≡ stands_behind l (reverse old.lasts.items)) →
     new.lasts.items ≡ lower ++ record { level = level; is_match = header } ∷ [] → HoldsPlaces earlier old
-        → HoldsPlaces (line level f ∷ earlier) new
+    → HoldsPlaces (line level f ∷ earlier) new
 holds_next level header f earlier old new lower is low more was =
     record {
       stands =
           λ l.
           ap (λ (xs : List Last). stands_behind l (reverse xs)) more ∙ stands_first l lower (record { level = level; is_match = header })
           ∙ elim (nat_lt level l) as (λ b. nat_lt level l ≡ b → cond b header (stands_behind l (reverse lower)) ≡ cond b
-              (is_match (kind_of f)) (stands_in_match l earlier)) [
+          (is_match (kind_of f)) (stands_in_match l earlier)) [
             | true ↦ λ e. is
             | false ↦ λ e. low l (ltb-false level l e) ∙ was.stands l
           ] refl;

@@ -51,8 +51,12 @@ parted {A} (y ∷ xs) zero x is =
     record { more = xs; whole = ap (λ (z : A). z ∷ xs) one; next = ap (λ (z : A). z ∷ []) one; size = refl }
 parted {A} (y ∷ xs) (suc k) x is =
     let rest = parted xs k x is in
-    record { more = rest.more; whole = ap (λ (zs : List A). y ∷ zs) rest.whole; next = ap (λ (zs : List A). y ∷ zs) rest.next;
-        size = ap suc rest.size }
+    record {
+      more = rest.more;
+      whole = ap (λ (zs : List A). y ∷ zs) rest.whole;
+      next = ap (λ (zs : List A). y ∷ zs) rest.next;
+      size = ap suc rest.size;
+    }
 
 next_lines : (s : Source) (k : ℕ) (x : Tokens.Line) → slice_get (lines s) k ≡ Some x → first_lines s (k + 1) ≡ first_lines s k ++ x ∷ []
 next_lines s k x stands =
@@ -80,7 +84,7 @@ place_held earlier inside level held placed at = placed ∙ ap (λ (l : ℕ). st
 pub comes_held : {profile : Profile} {s : Source} {k : ℕ} {r : LineReading} (earlier : List Line) (inside : Bool) (ts : List Terminal)
     (level : ℕ) (f : Form) (p : Place) →
     HoldsLine s k r → inside ≡ stands_in_match level earlier → ts ≡ r.terminals → level ≡ r.level → p ≡ r.start
-        → FormAt profile inside ts f × (form_height f ≤ 500) →
+    → FormAt profile inside ts f × (form_height f ≤ 500) →
     Comes profile s k earlier (line level f) p
 comes_held {profile} {s} {k} {r} earlier inside ts level f p held placed same at starts form =
     record {
@@ -192,17 +196,17 @@ module _ {profile : Profile} {s : Source} {k : ℕ} (forms : List Line) {l : Lin
 
   pub sound_faulty : {o : Outline} {b : Blocks} (stop : BlockStop) (known : Known) → IsSound profile s k forms o b → Fails stop p known
       → ((xs more : List Line) → Follows xs o → Blames (xs ++ (l ∷ more)) (l ∷ more) stop)
-          → IsKnown profile s (k + 1) (forms ++ l ∷ []) known
+      → IsKnown profile s (k + 1) (forms ++ l ∷ []) known
   sound_faulty stop known was fails blames = faulty_by stop known was.formed fails (λ more. blames forms more was.follows)
 
   pub sound_misplaced : {o : Outline} {b : Blocks} (stop : BlockStop) (known : Known) → IsSound profile s k forms o b → Fails stop p known
       → ((xs more : List Line) → run xs start ≡ Fine (state_of b) → Blames (xs ++ (l ∷ more)) (l ∷ more) stop)
-          → IsKnown profile s (k + 1) (forms ++ l ∷ []) known
+      → IsKnown profile s (k + 1) (forms ++ l ∷ []) known
   sound_misplaced stop known was fails blames = faulty_by stop known was.formed fails (λ more. blames forms more was.read)
 
   pub deep_faulty : {o : Outline} {q : Place} (stop : BlockStop) (known : Known) → IsDeepAt profile s k forms o q → Fails stop p known
       → ((xs more : List Line) → Follows xs o → Blames (xs ++ (l ∷ more)) (l ∷ more) stop)
-          → IsKnown profile s (k + 1) (forms ++ l ∷ []) known
+      → IsKnown profile s (k + 1) (forms ++ l ∷ []) known
   deep_faulty stop known was fails blames = faulty_by stop known was.formed fails (λ more. blames forms more was.follows)
 
   -- one behind it
@@ -218,7 +222,7 @@ module _ {profile : Profile} {s : Source} {k : ℕ} (forms : List Line) {l : Lin
             λ more.
             subst (λ (xs : List Line). FirstFault [] xs ((was.rest ++ l ∷ []) ++ more) was.fault) (sym (append_assoc forms (l ∷ []) more))
             (subst (λ (xs : List Line). FirstFault [] (forms ++ (l ∷ more)) xs was.fault) (sym (append_assoc was.rest (l ∷ []) more))
-                (was.first (l ∷ more)));
+            (was.first (l ∷ more)));
         n = was.n;
         number = omega (arith, had, length-append forms (l ∷ []), length-append was.rest (l ∷ []));
         starts = was.starts;
@@ -258,7 +262,7 @@ unread_stays profile s k forms (known.Unread e p) r is held was = unread_next he
 pub unread_first : {profile : Profile} {s : Source} {k : ℕ} (forms : List Line) (known : Known) (x : Tokens.Line) (e : GrammarError)
     (p : Place) → is_unread known ≡ false →
     IsKnown profile s k forms known → slice_get (lines s) k ≡ Some x → Unread profile (stands_in_match x.level (behind [] forms)) x
-        (code_of e) → StartsAt s k p →
+    (code_of e) → StartsAt s k p →
     IsUnreadAt profile s (k + 1) e p
 unread_first {profile} {s} {k} forms known x e p is was stands unread starts =
     let formed = formed_all s k forms known is was in

@@ -31,7 +31,7 @@ ended_popped s w below e = ap (λ z. elim z [ [] ↦ Fine s | w ∷ below ↦ po
 pub ended_fresh : (s : State) → 0 < length s.below → s.fresh ≡ true → ended s ≡ Faulty ExpectedIndent
 ended_fresh s n f =
     elim s.below as (λ b. 0 < length b → ◌≡◌ {A = Answer State} (elim b [ [] ↦ Fine s | w ∷ below ↦ popped s w below ])
-        (Faulty ExpectedIndent)) [
+    (Faulty ExpectedIndent)) [
       | [] ↦ λ n. absurd (omega arith)
       | w ∷ below ↦ λ n. ap (λ b. cond b (Faulty ExpectedIndent) (behind below (above w s.done s.group))) f
     ] n
@@ -75,7 +75,7 @@ ended_fine s w below body b e m c =
 pub level_ended : (s : State) (ws lower : List given_waiting.Waiting) (w : given_waiting.Waiting) (body done : List Stmt) (group : Group) →
     s.below ≡ below_of ws → ws ≡ lower ++ w ∷ [] → s.fresh ≡ false → is_matching s.group ≡ false → closed s.done s.group ≡ Fine body →
     done ≡ (grown (waiting_of w) (below_of lower) body).done → group ≡ (grown (waiting_of w) (below_of lower) body).group
-        → ended s ≡ Fine (state done group false (below_of lower))
+    → ended s ≡ Fine (state done group false (below_of lower))
 level_ended s ws lower w body done group b v e m c d g =
     ended_fine s (waiting_of w) (below_of lower) body (b ∙ ap below_of v ∙ below_of-append lower w) e m c
     ∙ ap (λ z. Fine (state z (grown (waiting_of w) (below_of lower) body).group false (below_of lower))) (sym d)
@@ -90,22 +90,26 @@ ended_match s w below cs b e g = ended_whole s w below b e ∙ ap (λ g. behind 
 -- one level, and then the others
 settle_behind : (l : ℕ) (below : List Waiting) (o : Option Part) →
     ◌≡◌ {A = Answer State} (elim o [ None ↦ Faulty MisplacedClause | Some p ↦ settle_in l p.done p.group false below ])
-        (then (behind below o) (settle l))
+    (then (behind below o) (settle l))
 settle_behind l below None = refl
 settle_behind l below (Some p) = refl
 
 settle_popped : (l : ℕ) (d : List Stmt) (g : Group) (f : Bool) (w : Waiting) (below : List Waiting) → l < length (w ∷ below) →
     settle_in l d g f (w ∷ below) ≡ then (popped (state d g f (w ∷ below)) w below) (settle l)
 settle_popped l d g f w below h =
-    ap (λ b. cond b (cond f (Faulty ExpectedIndent) (elim (above w d g) [ None ↦ Faulty MisplacedClause
-        | Some p ↦ settle_in l p.done p.group false below ])) (Fine (state d g f (w ∷ below))))
+    ap (λ b. cond b (cond f (Faulty ExpectedIndent) (elim (above w d g) [
+      | None ↦ Faulty MisplacedClause
+      | Some p ↦ settle_in l p.done p.group false below
+    ])) (Fine (state d g f (w ∷ below))))
     (is_less l (length (w ∷ below)) h)
     ∙ by_fresh f
   where
     by_fresh : (f : Bool) →
         ◌≡◌ {A = Answer State}
-            (cond f (Faulty ExpectedIndent) (elim (above w d g) [ None ↦ Faulty MisplacedClause
-            | Some p ↦ settle_in l p.done p.group false below ]))
+        (cond f (Faulty ExpectedIndent) (elim (above w d g) [
+          | None ↦ Faulty MisplacedClause
+          | Some p ↦ settle_in l p.done p.group false below
+        ]))
         (then (popped (state d g f (w ∷ below)) w below) (settle l))
     by_fresh true = refl
     by_fresh false = settle_behind l below (above w d g)
@@ -113,7 +117,7 @@ settle_popped l d g f w below h =
 pub settle_ended : (l : ℕ) (s : State) → l < length s.below → settle l s ≡ then (ended s) (settle l)
 settle_ended l s h =
     elim s.below as (λ b. l < length b
-        → settle_in l s.done s.group s.fresh b ≡ then (elim b [ [] ↦ Fine s | w ∷ below ↦ popped s w below ]) (settle l)) [
+    → settle_in l s.done s.group s.fresh b ≡ then (elim b [ [] ↦ Fine s | w ∷ below ↦ popped s w below ]) (settle l)) [
       | [] ↦ λ h. absurd (omega arith)
       | w ∷ below ↦ λ h. settle_popped l s.done s.group s.fresh w below h
     ] h
@@ -145,7 +149,7 @@ place_simple_is s ss = by_closed (closes s.group)
     by_closed : (o : Option (List Stmt))
         → ◌≡◌ {A = Answer State} (or_misplaced o (λ more. state ((s.done ++ more) ++ ss) Idle false s.below))
         (then {A = List Stmt} (elim o [ None ↦ Faulty MisplacedClause | Some more ↦ Fine (s.done ++ more) ])
-            (λ body. Fine (state (body ++ ss) Idle false s.below)))
+        (λ body. Fine (state (body ++ ss) Idle false s.below)))
     by_closed None = refl
     by_closed (Some more) = refl
 
@@ -155,7 +159,7 @@ place_decorator_is s e = by_found (decorated s.group e)
   where
     by_found : (o : Option Part) → ◌≡◌ {A = Answer State} (or_misplaced o (λ p. state (s.done ++ p.done) p.group false s.below))
         (then {A = Part} (elim o [ None ↦ Faulty MisplacedClause | Some p ↦ Fine (part (s.done ++ p.done) p.group) ])
-            (λ p. Fine (state p.done p.group false s.below)))
+        (λ p. Fine (state p.done p.group false s.below)))
     by_found None = refl
     by_found (Some p) = refl
 
@@ -166,7 +170,7 @@ place_header_is s h suite = by_found (meets s.group h) suite
   where
     by_found : (o : Option Part) (suite : Option (List Stmt)) → ◌≡◌ {A = Answer State} (or_misplaced o (place_header s h suite))
         (then {A = Part} (elim o [ None ↦ Faulty MisplacedClause | Some p ↦ Fine (part (s.done ++ p.done) p.group) ])
-            (λ p. Fine (place_header (state [] s.group s.fresh s.below) h suite p)))
+        (λ p. Fine (place_header (state [] s.group s.fresh s.below) h suite p)))
     by_found None suite = refl
     by_found (Some p) None = refl
     by_found (Some p) (Some body) = refl
@@ -182,5 +186,13 @@ placed_here l f s h = ap (λ b. cond b (Faulty UnexpectedIndent) (place s f)) (n
 pub ruleset ending = (length-below_of, below_of-append, ended_fresh, ended_refused, ended_match, settle_ended, settle_stays, tells_then)
 
 -- for a line of the deepest level
-pub ruleset placing = (length-below_of, below_of-append, place_simple_is, place_decorator_is, place_header_is, placed_deep,
-    placed_here, tells_then)
+pub ruleset placing = (
+  length-below_of,
+  below_of-append,
+  place_simple_is,
+  place_decorator_is,
+  place_header_is,
+  placed_deep,
+  placed_here,
+  tells_then,
+)

@@ -31,8 +31,10 @@ new d Idle = refl
 new d _ = refl
 
 kind : (d : List Stmt) (g : Group) (b : Bool)
-    → ◌≡◌ {A = Answer Part} (elim (cond b (Some (part [] g)) None) [ None ↦ Faulty MisplacedClause
-    | Some p ↦ Fine (part (d ++ p.done) p.group) ]) (cond b (Fine (part d g)) (Faulty MisplacedClause))
+    → ◌≡◌ {A = Answer Part} (elim (cond b (Some (part [] g)) None) [
+      | None ↦ Faulty MisplacedClause
+      | Some p ↦ Fine (part (d ++ p.done) p.group)
+    ]) (cond b (Fine (part d g)) (Faulty MisplacedClause))
 kind d g true = on d g
 kind d g false = refl
 

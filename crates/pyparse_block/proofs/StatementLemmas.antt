@@ -13,7 +13,7 @@ use Rattle.pyparse_block.specs.Values.{arm_of}
 pub choice_popped : (all rest : List given_arm.Arm) (a : given_arm.Arm) (s : Stmt) (outer start : List Stmt)
     (inner whole : List plain.Stmt) →
     all ≡ rest ++ a ∷ [] → outer ≡ start ++ s ∷ [] → start ≡ [] → stmt_of s ∷ [] ≡ choice (arm_of a ∷ []) inner
-        → choice (map arm_of all) inner ≡ whole →
+    → choice (map arm_of all) inner ≡ whole →
     choice (map arm_of rest) (map stmt_of outer) ≡ whole
 choice_popped all rest a s outer start inner whole e f n i h =
     ap (λ z. choice (map arm_of rest) (map stmt_of z)) (f ∙ ap (λ z. z ++ s ∷ []) n)

@@ -51,8 +51,12 @@ module _ (profile : Profile) (self : Reads) where
 
     pub suite_found : (ss : List Stmt) (n : ℕ) → PartAt ts (at + 1) (statements profile self (suc (length (seen ts at))) (seen ts at)) ss n
         → PartAt ts at (suite profile self (seen ts at)) (Some ss) n
-    suite_found ss n f = record { ahead = omega (arith, f.ahead); within = f.within; is = read
-        ∙ ap (λ y. and_then y (λ ss r. Found (Some ss) r)) f.is }
+    suite_found ss n f = record {
+      ahead = omega (arith, f.ahead);
+      within = f.within;
+      is = read
+          ∙ ap (λ y. and_then y (λ ss r. Found (Some ss) r)) f.is;
+    }
 
   -- a header, its colon, and what stands behind it
   suite_is : (h : Header) (r : List Terminal) → reader.suite profile self h r ≡ and_then (suite profile self r)

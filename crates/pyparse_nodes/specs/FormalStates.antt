@@ -13,7 +13,7 @@ use Rattle.pyparse_nodes.specs.Formals.{State, outcome, state}
 abbrev pub state_of : Formal → State
 state_of f = state f.stage f.defaulted (map arg_of f.posonlyargs.items) (map arg_of f.args.items) (arg_option_of f.vararg)
     (map arg_of f.kwonlyargs.items) (map optional (map option_of f.kw_defaults.items)) (arg_option_of f.kwarg)
-        (map tree_of f.defaults.items)
+    (map tree_of f.defaults.items)
 
 -- the grammar's entry for one of them
 abbrev pub entry_of : Parameter → Entry

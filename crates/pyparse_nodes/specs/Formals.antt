@@ -73,7 +73,7 @@ arg_or (Some a) r = present_arg a
 abbrev pub before : State → Arguments → Arguments
 before (state g b ps qs v ks kds k ds) (arguments ps2 qs2 v2 ks2 kds2 k2 ds2) =
     arguments (args_before ps ps2) (args_before qs qs2) (arg_or v v2) (args_before ks ks2) (optionals_before kds kds2)
-        (arg_or k k2) (exprs_before ds ds2)
+    (arg_or k k2) (exprs_before ds ds2)
 
 -- the node, where they may end here
 abbrev pub outcome : State → Option Arguments

@@ -58,11 +58,11 @@ pub closed_word : (ts : List given.Terminal) (d : Depth) (at : ℕ) (w : Keyword
     → PatternAnswered ts d.room (at + 1) (level_reads d level.ClosedPattern (seen ts at)) z
 closed_word ts d at w v z o l h e m =
     let g : level_reads d level.ClosedPattern (Word w ∷ seen ts (at + 1)) ≡ Found (MatchSingleton v) (seen ts (at + 1)) =
-        ap (λ c. cap_pattern d.room (on_some c (λ u. Found (MatchSingleton u) (seen ts (at + 1)))
-        (reader.literal_pattern (d.room - 1) (field_reads d) (inner_reads d) (Word w ∷ seen ts (at + 1))))) e
-        ∙ cap_low d.room (MatchSingleton v) (seen ts (at + 1)) (omega (arith, o.room)) in
+    ap (λ c. cap_pattern d.room (on_some c (λ u. Found (MatchSingleton u) (seen ts (at + 1)))
+    (reader.literal_pattern (d.room - 1) (field_reads d) (inner_reads d) (Word w ∷ seen ts (at + 1))))) e
+    ∙ cap_low d.room (MatchSingleton v) (seen ts (at + 1)) (omega (arith, o.room)) in
     closed_here ts d at (at + 1) (Word w) z h
-        (rw g (leaf ts d.room (at + 1) (MatchSingleton v) (at + 1) (omega arith) (omega (arith, l)) z o.room m))
+    (rw g (leaf ts d.room (at + 1) (MatchSingleton v) (at + 1) (omega arith) (omega (arith, l)) z o.room m))
 
 -- ---- A name that is a value.
 
@@ -101,6 +101,6 @@ module _ (ts : List given.Terminal) (d : Depth) (at : ℕ) (x : Identifier) wher
   name_value e z w (inr s) f n m = absurd (no_bracket e s f n)
   name_value e z w (inl s) f n m =
       let g : name_reads d x (seen ts at) ≡ Found (MatchValue (tree_of e.expr.value)) (seen ts e.next) =
-          ap (λ b. cond b (Found (Trees.MatchAs Trees.absent_pattern None) (seen ts at)) (and_then (dotted_from (d.room - 1) x (seen ts at))
-          (reader.dotted_pattern (d.room - 1) (field_reads d) (inner_reads d)))) w ∙ pointed e s f n in
+      ap (λ b. cond b (Found (Trees.MatchAs Trees.absent_pattern None) (seen ts at)) (and_then (dotted_from (d.room - 1) x (seen ts at))
+      (reader.dotted_pattern (d.room - 1) (field_reads d) (inner_reads d)))) w ∙ pointed e s f n in
       rw g (node ts d.room at (MatchValue (tree_of e.expr.value)) e.next f.ahead f.within z m)

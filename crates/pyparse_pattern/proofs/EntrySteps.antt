@@ -62,8 +62,13 @@ module _ (ts : List given.Terminal) (d : Depth) (i : PatternItem) where
 
   module _ (x : Answer (List PatternEntry)) (s : Entries) (c : Listed x s) where
     pub entries_end : (least : ℕ) → false ≡ starts_entry i (seen ts s.next) → least ≤ s.next → EntriesAt ts (d.room - 1) least x s
-    entries_end least n le = record { ahead = le; within = c.within; low = c.low; is = c.is
-        ∙ stops c.most (map entry_of s.items.items) (seen ts s.next) (sym n) }
+    entries_end least n le = record {
+      ahead = le;
+      within = c.within;
+      low = c.low;
+      is = c.is
+          ∙ stops c.most (map entry_of s.items.items) (seen ts s.next) (sym n);
+    }
 
     module _ (begun : true ≡ starts_entry i (seen ts s.next)) where
       pub entries_error : (e : Stop) → Failed e (entry_reads d i (seen ts s.next)) → Failed e x
@@ -107,7 +112,7 @@ module _ (ts : List given.Terminal) (d : Depth) (i : PatternItem) where
             go zero l q = absurd (omega (arith, l, some_left i (seen ts s.next) (sym begun)))
             go (suc m) l q =
                 let w : turned m (map entry_of r.items.items) (seen ts r.next) ≡ loop m (map entry_of r.items.items)
-                    (seen ts (r.next + 1)) = rw o.is refl in
+                (seen ts (r.next + 1)) = rw o.is refl in
                 record {
                   within = omega (arith, zn, o.within);
                   low = omega (arith, zh, h, c.low, f.low);

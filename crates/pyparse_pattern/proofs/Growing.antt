@@ -26,8 +26,13 @@ joined_heights (x ∷ xs) ys = omega (arith, joined_heights xs ys)
 pub pushed_height : (xs ys : List given.Pattern) (p : given.Pattern) (h k : ℕ) → ys ≡ xs ++ (p ∷ [])
     → h ≡ pattern_heights (patterns (map pattern_of xs)) → k ≡ pattern_height (pattern_of p)
     → max h k ≡ pattern_heights (patterns (map pattern_of ys))
-pushed_height xs ys p h k q a b = omega (arith, a, b, ap (λ l. pattern_heights (patterns l)) (pushed xs ys p q),
-    joined_heights (map pattern_of xs) (pattern_of p ∷ []))
+pushed_height xs ys p h k q a b = omega (
+  arith,
+  a,
+  b,
+  ap (λ l. pattern_heights (patterns l)) (pushed xs ys p q),
+  joined_heights (map pattern_of xs) (pattern_of p ∷ []),
+)
 
 alone_height : (es : List PatternEntry) → are_alone es ≡ true → entry_heights es ≡ pattern_heights (patterns (alone_in es))
 alone_height [] h = refl
@@ -39,8 +44,14 @@ alone_height (Named x p ∷ es) h = absurd (cc)
 -- patterns behind others
 pub alone_heights : (xs ys : List Pattern) (es : List PatternEntry) (h k : ℕ) → ys ≡ xs ++ alone_in es → are_alone es ≡ true
     → h ≡ pattern_heights (patterns xs) → k ≡ entry_heights es → max h k ≡ pattern_heights (patterns ys)
-alone_heights xs ys es h k q s a b = omega (arith, a, b, alone_height es s, ap (λ l. pattern_heights (patterns l)) q,
-    joined_heights xs (alone_in es))
+alone_heights xs ys es h k q s a b = omega (
+  arith,
+  a,
+  b,
+  alone_height es s,
+  ap (λ l. pattern_heights (patterns l)) q,
+  joined_heights xs (alone_in es),
+)
 
 -- ---- Entries.
 
@@ -54,8 +65,13 @@ entry_pushed xs ys e h = ap (λ l. map entry_of l) h ∙ map-append entry_of xs 
 
 pub entry_pushed_height : (xs ys : List given_entry.PatternEntry) (e : given_entry.PatternEntry) (h k : ℕ) → ys ≡ xs ++ (e ∷ [])
     → h ≡ entry_heights (map entry_of xs) → k ≡ entry_height (entry_of e) → max h k ≡ entry_heights (map entry_of ys)
-entry_pushed_height xs ys e h k q a b = omega (arith, a, b, ap entry_heights (entry_pushed xs ys e q),
-    higher (map entry_of xs) (entry_of e))
+entry_pushed_height xs ys e h k q a b = omega (
+  arith,
+  a,
+  b,
+  ap entry_heights (entry_pushed xs ys e q),
+  higher (map entry_of xs) (entry_of e),
+)
 
 -- ---- Parts, whichever follow.
 

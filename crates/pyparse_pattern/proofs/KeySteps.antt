@@ -36,7 +36,7 @@ pub key_dotted : (ts : List given.Terminal) (room at : ℕ) (x : Identifier) (z 
     → Answered ts (room + 1) at (and_then (dotted_from room x (seen ts at)) named_key) z
 key_dotted ts room at x z s a =
     let e : and_then (dotted_from room x (seen ts at)) named_key ≡ dotted_from room x (seen ts at) =
-        after_point room named_key (λ f r. Found f r) (λ f y r. refl) ts at x s ∙ unchanged (dotted_from room x (seen ts at)) in
+    after_point room named_key (λ f r. Found f r) (λ f y r. refl) ts at x s ∙ unchanged (dotted_from room x (seen ts at)) in
     rw e a
 
 module _ (ts : List given.Terminal) (d : Depth) (at : ℕ) (o : IsOpen d) where
@@ -45,17 +45,17 @@ module _ (ts : List given.Terminal) (d : Depth) (at : ℕ) (o : IsOpen d) where
       → Answered ts d.room (at + 1) (cap_value d.room (keys d (seen ts at))) z
   key_named room x z q h a =
       let e : keys d (seen ts at) ≡ and_then (dotted_from room x.form (seen ts (at + 1))) named_key =
-          rw (front ts at (Ident x) h, q) refl in
+      rw (front ts at (Ident x) h, q) refl in
       let n : room + 1 ≡ d.room = omega (arith, q, o.room) in
       rw e (low_answered ts d.room (at + 1) _ z
-          (subst (λ m. Answered ts m (at + 1) (and_then (dotted_from room x.form (seen ts (at + 1))) named_key) z) n a))
+      (subst (λ m. Answered ts m (at + 1) (and_then (dotted_from room x.form (seen ts (at + 1))) named_key) z) n a))
 
   pub key_word : (w : Keyword) (v : Value) (z : Result Read Stop) → at < length ts → first_of (seen ts at) ≡ Some (Word w)
       → singleton_word (Word w) ≡ Some v → MatchResult z (λ r. Made 1 (Trees.Constant v) (at + 1) r) (λ s. s ≡ stop.Memory)
       → Answered ts d.room (at + 1) (cap_value d.room (keys d (seen ts at))) z
   key_word w v z l h e m =
       let f : keys d (seen ts at) ≡ Found (Trees.Constant v) (seen ts (at + 1)) =
-          rw (front ts at (Word w) h) (ap (λ k. on_some k (λ u. Found (Trees.Constant u) (seen ts (at + 1))) NoForm) e) in
+      rw (front ts at (Word w) h) (ap (λ k. on_some k (λ u. Found (Trees.Constant u) (seen ts (at + 1))) NoForm) e) in
       rw f (low_answered ts d.room (at + 1) (Found (Trees.Constant v) (seen ts (at + 1))) z (go z m))
     where
       go : (y : Result Read Stop) → MatchResult y (λ r. Made 1 (Trees.Constant v) (at + 1) r) (λ s. s ≡ stop.Memory)

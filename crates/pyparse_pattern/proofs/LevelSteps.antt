@@ -109,10 +109,10 @@ module _ (ts : List given.Terminal) (at : ℕ) (x : Identifier) (stands : Some x
         → PatternAnswered ts d.room at0 (as_from d.room p (seen ts at0)) z
     as_made d p at0 z s q m =
         let e : as_from d.room p (seen ts at0) ≡ on_first name_in (seen ts (at0 + 1)) (λ v r. cap_pattern d.room (made (as_named p v) r))
-            NoForm = rw s.is refl in
+        NoForm = rw s.is refl in
         let f = ap (λ k. on_first name_in (seen ts k) (λ v r. cap_pattern d.room (made (as_named p v) r)) NoForm) (sym q)
-            ∙ named_is (λ v r. cap_pattern d.room (made (as_named p v) r))
-            ∙ ap (λ o. cap_pattern d.room (made o (seen ts (at + 1)))) (as_name p) in
+        ∙ named_is (λ v r. cap_pattern d.room (made (as_named p v) r))
+        ∙ ap (λ o. cap_pattern d.room (made o (seen ts (at + 1)))) (as_name p) in
         rw (e ∙ f) (node ts d.room at0 (MatchAs (present_pattern p) (Some y)) (at + 1) (omega (arith, q)) (omega (arith, w)) z m)
 
     pub rest_found : rest_reads (seen ts at) ≡ Found (Rest y) (seen ts (at + 1))

@@ -58,15 +58,15 @@ module _ (ts : List given.Terminal) (d : Depth) (at : ℕ) where
         → PatternAnswered ts d.room (at + 1) (level_reads d level.Patterns (seen ts at)) z
     open_sequence z f m =
         let hit : List PatternEntry → List Terminal → Answer Pattern =
-            λ es r. cap_pattern d.room (Found (MatchSequence (a_pattern (pattern_of first.pattern.value) (elements es))) r) in
+        λ es r. cap_pattern d.room (Found (MatchSequence (a_pattern (pattern_of first.pattern.value) (elements es))) r) in
         let e : behind_first (pattern_of first.pattern.value) (seen ts first.next) ≡ and_then
-            (entries_of d Element (seen ts (first.next + 1))) hit = rw comma.is refl in
+        (entries_of d Element (seen ts (first.next + 1))) hit = rw comma.is refl in
         let g : level_reads d level.Patterns (seen ts at) ≡ cap_pattern d.room
-            (Found (MatchSequence (patterns (map pattern_of ps.items.items))) (seen ts ps.next)) = ap (λ x. and_then x (behind_first)) f.is
-            ∙ e ∙ ap (λ x. and_then x hit) others.is
-            ∙ ap (λ qs. cap_pattern d.room (Found (MatchSequence qs) (seen ts ps.next))) whole_is in
+        (Found (MatchSequence (patterns (map pattern_of ps.items.items))) (seen ts ps.next)) = ap (λ x. and_then x (behind_first)) f.is
+        ∙ e ∙ ap (λ x. and_then x hit) others.is
+        ∙ ap (λ qs. cap_pattern d.room (Found (MatchSequence qs) (seen ts ps.next))) whole_is in
         rw g (node ts d.room (at + 1) (MatchSequence (patterns (map pattern_of ps.items.items))) ps.next
-            (omega (arith, f.ahead, others.ahead)) others.within z m)
+        (omega (arith, f.ahead, others.ahead)) others.within z m)
 
     pub round_sequence : (z : Result ReadPattern Stop) → None ≡ first_is (is_op RPar) (seen ts at)
         → PatternAt ts d.room (at + 1) (same_reads d level.StarPattern (seen ts at)) first
@@ -75,13 +75,13 @@ module _ (ts : List given.Terminal) (d : Depth) (at : ℕ) where
         → PatternAnswered ts d.room at (cap_pattern d.room (round_reads d (seen ts at))) z
     round_sequence z n f a =
         let hit : List PatternEntry → List Terminal → Answer Pattern =
-            λ es r. closed RPar r (MatchSequence (a_pattern (pattern_of first.pattern.value) (elements es))) in
+        λ es r. closed RPar r (MatchSequence (a_pattern (pattern_of first.pattern.value) (elements es))) in
         let e : round_from (pattern_of first.pattern.value) (seen ts first.next) ≡ and_then
-            (entries_of d Element (seen ts (first.next + 1))) hit = rw comma.is refl in
+        (entries_of d Element (seen ts (first.next + 1))) hit = rw comma.is refl in
         let g : round_reads d (seen ts at) ≡ closed RPar (seen ts ps.next) (MatchSequence (patterns (map pattern_of ps.items.items))) =
-            first_miss (is_op RPar) (seen ts at) _ (and_then (same_reads d level.StarPattern (seen ts at)) round_from) n
-            ∙ ap (λ x. and_then x round_from) f.is ∙ e ∙ ap (λ x. and_then x hit) others.is
-            ∙ ap (λ qs. closed RPar (seen ts ps.next) (MatchSequence qs)) whole_is in
+        first_miss (is_op RPar) (seen ts at) _ (and_then (same_reads d level.StarPattern (seen ts at)) round_from) n
+        ∙ ap (λ x. and_then x round_from) f.is ∙ e ∙ ap (λ x. and_then x hit) others.is
+        ∙ ap (λ qs. closed RPar (seen ts ps.next) (MatchSequence qs)) whole_is in
         rw g (earlier ts d.room at ps.next _ z (omega (arith, f.ahead, others.ahead)) a)
 
   pub square_sequence : (before : List Pattern) (n : ℕ) (ps : Patterns) (z : Result ReadPattern Stop) → before ≡ [] → n ≡ at
@@ -92,8 +92,8 @@ module _ (ts : List given.Terminal) (d : Depth) (at : ℕ) where
   square_sequence before n ps z b q others a =
       let hit : List PatternEntry → List Terminal → Answer Pattern = λ es r. closed RSqb r (MatchSequence (elements es)) in
       let w : elements others.entries ≡ patterns (map pattern_of ps.items.items) = sym (alone_elements others.entries)
-          ∙ ap patterns (sym (others.gives ∙ ap (λ l. l ++ alone_in others.entries) b)) in
+      ∙ ap patterns (sym (others.gives ∙ ap (λ l. l ++ alone_in others.entries) b)) in
       let g : square_reads d (seen ts at) ≡ closed RSqb (seen ts ps.next) (MatchSequence (patterns (map pattern_of ps.items.items))) =
-          ap (λ k. square_reads d (seen ts k)) (sym q) ∙ ap (λ x. and_then x hit) others.is
-          ∙ ap (λ qs. closed RSqb (seen ts ps.next) (MatchSequence qs)) w in
+      ap (λ k. square_reads d (seen ts k)) (sym q) ∙ ap (λ x. and_then x hit) others.is
+      ∙ ap (λ qs. closed RSqb (seen ts ps.next) (MatchSequence qs)) w in
       rw g (earlier ts d.room at ps.next _ z (omega (arith, q, others.ahead)) a)

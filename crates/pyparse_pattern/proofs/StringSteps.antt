@@ -59,7 +59,7 @@ pub strings_read : (ts : List given.Terminal) (d : Depth) (at : ℕ) (z : Result
     → Answered ts d.room (at + 1) (cap_value d.room (literal_or (field_reads d) (seen ts at) NoForm)) z
 strings_read ts d at z o h a =
     let e : expressions.reads d Atom (seen ts at) ≡ cap_value d.room (literal_or (field_reads d) (seen ts at) NoForm) =
-        string_is d.steps d.room (seen ts at) o.steps o.room (sym h) ∙ caps_agree d.room (literal_or (field_reads d) (seen ts at) NoForm) in
+    string_is d.steps d.room (seen ts at) o.steps o.room (sym h) ∙ caps_agree d.room (literal_or (field_reads d) (seen ts at) NoForm) in
     rw (← e) a
 
 -- ---- Any other literal is a number.
@@ -110,7 +110,7 @@ pub value_read : (ts : List given.Terminal) (d : Depth) (at : ℕ) (e : Read) (z
     → PatternAnswered ts d.room (at + 1) (cap_pattern d.room (literal_reads d (seen ts at))) z
 value_read ts d at e z f m =
     let q : literal_or (field_reads d) (seen ts at) NoForm ≡ Found (tree_of e.expr.value) (seen ts e.next) =
-        uncapped d.room (literal_or (field_reads d) (seen ts at) NoForm) (tree_of e.expr.value) (seen ts e.next) f.is in
+    uncapped d.room (literal_or (field_reads d) (seen ts at) NoForm) (tree_of e.expr.value) (seen ts e.next) f.is in
     let g : literal_reads d (seen ts at) ≡ Found (MatchValue (tree_of e.expr.value)) (seen ts e.next) =
-        ap (λ x. and_then x (λ v r. Found (MatchValue v) r)) q in
+    ap (λ x. and_then x (λ v r. Found (MatchValue v) r)) q in
     rw g (node ts d.room (at + 1) (MatchValue (tree_of e.expr.value)) e.next f.ahead f.within z m)

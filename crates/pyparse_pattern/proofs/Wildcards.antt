@@ -37,5 +37,5 @@ spelt_wildcard x s e = elim (cases_Bool (bytes_eq x (low_line ∷ []))) [
       false_from_ne_true (bytes_eq s (codes "_")) (λ same.
       let is : encode_utf8_all x ≡ encode_utf8_all (low_line ∷ []) = sym e ∙ (bytes_eq-Decides s (codes "_")).0 same ∙ sym encoded in
       both_ways (bytes_eq x (low_line ∷ [])) other ((bytes_eq-Decides x (low_line ∷ [])).1 (encodes_same x (low_line ∷ []) is)))
-          ∙ sym (is_the_one x ∙ other)
+      ∙ sym (is_the_one x ∙ other)
 ]

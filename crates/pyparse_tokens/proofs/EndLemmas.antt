@@ -30,7 +30,7 @@ match_is_ascii =
     IsAscii-cons 109 (97 ∷ 116 ∷ 99 ∷ 104 ∷ []) (omega arith)
     (IsAscii-cons 97 (116 ∷ 99 ∷ 104 ∷ []) (omega arith)
     (IsAscii-cons 116 (99 ∷ 104 ∷ []) (omega arith)
-        (IsAscii-cons 99 (104 ∷ []) (omega arith) (IsAscii-cons 104 [] (omega arith) IsAscii-nil))))
+    (IsAscii-cons 99 (104 ∷ []) (omega arith) (IsAscii-cons 104 [] (omega arith) IsAscii-nil))))
 
 pub colon_is_ascii : IsAscii (58 ∷ [])
 colon_is_ascii = IsAscii-cons 58 [] (omega arith) IsAscii-nil
@@ -74,7 +74,7 @@ match_is (t ∷ line) first last f l some =
     let one : first ≡ t.text = f t.text refl in
     let end = has_last t line in
     let other : ends_in_colon (t ∷ line) ≡ bytes_eq last (58 ∷ []) = colon_last t line end.0 end.1
-        ∙ ap (λ (w : List ℕ). bytes_eq w (58 ∷ [])) (sym (l end.0 end.1)) in
+    ∙ ap (λ (w : List ℕ). bytes_eq w (58 ∷ [])) (sym (l end.0 end.1)) in
     ap (λ (w : List ℕ). bytes_eq w (109 ∷ 97 ∷ 116 ∷ 99 ∷ 104 ∷ []) && bytes_eq last (58 ∷ [])) one
     ∙ ap (λ (b : Bool). bytes_eq t.text (109 ∷ 97 ∷ 116 ∷ 99 ∷ 104 ∷ []) && b) (sym other)
 

@@ -93,7 +93,7 @@ takes_mixed text o w old new logical is none drops mixed ms had =
     let m = margin w (start_at text o) in
     let stood = had.standing none in
     let met : is_mixed (behind [] ms) m ≡ true = sym (mixed_is (behind [] ms) old.standing.items m stood.same)
-        ∙ sym (drops stood.rising).clash in
+    ∙ sym (drops stood.rising).clash in
     let whole : margin_at text o ≡ m ∷ [] = one_more text o logical ∙ ap (λ (v : Widths). margin v (start_at text o) ∷ []) (sym is) in
     subst (λ (ls : List Margin). Measured (ms ++ ls) new) (sym whole) (record {
       mixed = mixed ∙ sym (mixed_one ms m (sym had.mixed ∙ none) ∙ (rw met refl));
@@ -112,7 +112,7 @@ takes_line text o w dropped old new logical is none drops standing mixed ms had 
     let free : is_mixed (behind [] ms) m ≡ false = sym (mixed_is (behind [] ms) old.standing.items m stood.same) ∙ sym done.clash in
     let whole : margin_at text o ≡ m ∷ [] = one_more text o logical ∙ ap (λ (v : Widths). margin v (start_at text o) ∷ []) (sym is) in
     let items : new.standing.items ≡ narrower old.standing.items w ++ w ∷ [] = standing
-        ∙ ap (λ (vs : List Widths). vs ++ w ∷ []) (done.kept refl) in
+    ∙ ap (λ (vs : List Widths). vs ++ w ∷ []) (done.kept refl) in
     let order : behind [] (ms ++ m ∷ []) ≡ m ∷ behind [] ms = behind_on [] ms m in
     subst (λ (ls : List Margin). Measured (ms ++ ls) new) (sym whole) (record {
       mixed = mixed ∙ sym (mixed_one ms m (sym had.mixed ∙ none) ∙ (rw free refl));
@@ -228,7 +228,7 @@ spaced bs n utf8 is =
           (IsCharBoundary-at_seam bs (replicate n 32) behind (sym whole) (spaces_utf8 n behind split));
       widths = λ other.
           sym (ap₂ widths_by (ap (width_from 0) (blanks other) ∙ eight_spaces 0 n ∙ none) (ap (width_by_one 0) (blanks other)
-              ∙ one_spaces 0 n ∙ none));
+          ∙ one_spaces 0 n ∙ none));
       rest = λ other.
           ap₂ (λ (b t : List ℕ). drop (length b) t) (blanks other) same
           ∙ ap (λ (k : ℕ). drop k (replicate n 32 ++ chars behind)) (length-replicate n 32) ∙ behind_spaces n (chars behind);

@@ -103,7 +103,7 @@ keeps extent text e line old new had sound adds = by (stands_in_line e.kind) ref
     size =
         sym (length-map new.terminals.items terminal) ∙ ap length adds.terminals
         ∙ length-append (map terminal old.terminals.items) (own_terminals text e) ∙ ap (λ (n : ℕ). n + length (own_terminals text e))
-            (length-map old.terminals.items terminal)
+        (length-map old.terminals.items terminal)
 
     by : (b : Bool) → stands_in_line e.kind ≡ b → KeepsLine (with_own text e line) new
     by true is =
@@ -261,7 +261,7 @@ pub none_before : (p : Parts) (l : Listed) (e : Entry) (g h : LineGather) → St
     (kept_refusal g.pass ≡ None) × (entry_refusal g.pass.extent (chars p.text) e ≡ None)
 none_before p l e g h had gains none =
     kept_before (chars p.text) (take l.shown.given (entries_of (listing (in_characters p)))) e
-        (entry_refusal g.pass.extent (chars p.text) e) g.pass h.pass
+    (entry_refusal g.pass.extent (chars p.text) e) g.pass h.pass
     had.counts.pass gains.pass none
 
 -- the same line, by an entry that doesn't end it
@@ -329,10 +329,10 @@ line_read p first old new e g h had read few source gains ends none keep same =
     let parts = and_parts (ends_open_line e.kind) g.pass.begun ends in
     let before = none_before p old e g h had gains none in
     let beside : with_own text e line ≡ line = ap (λ (b : Bool). if b then line ++ token_of text e ∷ [] else line)
-        (stands_beside e.kind parts.0) in
+    (stands_beside e.kind parts.0) in
     let kept =
     subst (λ (l : List Token). KeepsLine l h.line) beside (keeps g.pass.extent text e line g.line h.line keep before.1
-        (gains.line before.1)) in
+    (gains.line before.1)) in
     let more = lines_more s k e true ended read.grown in
     let size : length (lines_within s new.shown.given) ≡ length (lines_within s k) + 1 =
     ap (λ (n : ℕ). length (lines_within s n)) read.count ∙ ap length more ∙ length-append (lines_within s k) (line_at text front ∷ [])

@@ -115,13 +115,17 @@ line_by text begun e line = by begun e.kind refl
 
 -- and which line ends by it
 lines_by : (text : List ℕ) (begun : Bool) (e : Entry) (before line : List Token)
-    → lines_from before line (tokens_of_entry text begun e) ≡ (if ended_by e begun then record { level = level_behind before;
-        tokens = line } ∷ [] else [])
+    → lines_from before line (tokens_of_entry text begun e) ≡ (if ended_by e begun then record {
+      level = level_behind before;
+      tokens = line;
+    } ∷ [] else [])
 lines_by text begun e before line = by begun e.kind refl
   where
     by : (b : Bool) (k : Kind) → e.kind ≡ k
-        → lines_from before line (tokens_of_entry text b e) ≡ (if ended_by e b then record { level = level_behind before;
-            tokens = line } ∷ [] else [])
+        → lines_from before line (tokens_of_entry text b e) ≡ (if ended_by e b then record {
+          level = level_behind before;
+          tokens = line;
+        } ∷ [] else [])
     by true kinds.Newline is = rw is refl
     by false kinds.Newline is = rw is refl
     by true kinds.Dedent is = rw is refl
@@ -151,8 +155,11 @@ line_on text es e =
 
 pub lines_on : (text : List ℕ) (es : List Entry) (e : Entry)
     → front_lines text (es ++ e ∷ []) ≡ front_lines text es
-    ++ (if ended_by e (is_open (behind [] es)) then record { level = level_behind (behind [] (front_tokens text es)); tokens =
-        front_line text es } ∷ [] else [])
+    ++ (if ended_by e (is_open (behind [] es)) then record {
+      level = level_behind (behind [] (front_tokens text es));
+      tokens =
+          front_line text es;
+    } ∷ [] else [])
 lines_on text es e =
     let begun = is_open (behind [] es) in
     let ts = front_tokens text es in
@@ -184,7 +191,7 @@ tally_by p newline encoding comment nl text begun e before = by begun e.kind ref
         counted (tally p before) (p k)
     behind_newline k =
         own (supplied text ∷ before) k ∙ ap (λ (n : ℕ). counted n (p k)) (one before (supplied text)
-            ∙ ap (counted (tally p before)) newline)
+        ∙ ap (counted (tally p before)) newline)
 
     by : (b : Bool) (k : Kind) → e.kind ≡ k → tally p (behind before (tokens_of_entry text b e)) ≡ counted (tally p before) (p e.kind)
     by true kinds.Newline is = rw is (own before kinds.Newline)

@@ -45,7 +45,7 @@ fault_last (x ∷ es) last = fault_last es last
 -- the next entry
 pub at_entry : (ss : List Step) (k : ℕ) (e : Entry) → AreWhole ss → slice_get ss k ≡ Some (steps.Entry e) →
     (k < length (entries_of ss)) × (take (k + 1) (entries_of ss) ≡ take k (entries_of ss) ++ e ∷ []) ×
-        (slice_index_or (entries_of ss) k e ≡ e)
+    (slice_index_or (entries_of ss) k e ≡ e)
 at_entry ss k e whole h =
     let next = walk_entry (entries_of ss) whole.last whole.stops k e (ap (λ (t : List Step). slice_get t k) (sym whole.whole) ∙ h) in
     let one : k + 1 ≡ suc k = omega arith in

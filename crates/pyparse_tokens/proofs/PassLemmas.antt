@@ -63,7 +63,7 @@ passes text es e old new had gains =
           subst (λ (ms : List Margin). Measured ms new.indents) (sym (margins_more text es e))
           (measures (margins text es) (margins_of_entry text (behind [] es) e) old.indents new.indents had.indents
           (subst (λ (ms : List Margin). Measures ms old.indents new.indents)
-              (ap₂ (given_margins text e) had.opened had.closed) gains.indents));
+          (ap₂ (given_margins text e) had.opened had.closed) gains.indents));
     }
 
 -- where no refusal is kept, none was before, and the entry has none

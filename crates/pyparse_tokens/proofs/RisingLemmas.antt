@@ -224,7 +224,7 @@ stands_on earlier ws m had none =
           any_push p (narrower ws w) w
           ∙ once p ws w none
           ∙ ap (λ (b : Bool). b || p w) (any_filter p within ws ∙ had.same (λ v. within v && p v)
-              ∙ sym (any_filter p within (standing_of earlier)))
+          ∙ sym (any_filter p within (standing_of earlier)))
           ∙ sym (any_push p (filter within (standing_of earlier)) w);
     }
 
@@ -254,7 +254,7 @@ last_of (u ∷ ws) v h =
     let k = length (u ∷ ws) - 1 in
     let none : drop (k + 1) (u ∷ ws) ≡ [] = drop_of_length-le (u ∷ ws) (omega arith) in
     sym (take-append-drop k (u ∷ ws)) ∙ ap (λ (b : List Widths). take k (u ∷ ws) ++ b) (drop_at (u ∷ ws) k v (sym h)
-        ∙ ap (λ (b : List Widths). v ∷ b) none)
+    ∙ ap (λ (b : List Widths). v ∷ b) none)
 
 all_less : (ws : List Widths) (v w : Widths) → list_all (λ u. is_less u v) ws ≡ true → is_less v w ≡ true
     → (clashes ws w ≡ false) × (narrower ws w ≡ ws)

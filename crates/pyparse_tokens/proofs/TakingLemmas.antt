@@ -59,7 +59,7 @@ operator_gains : (text : List ℕ) (e : Entry) (x : Exact) (old new : Pass) → 
     → Gains text (as_entry e kinds.Op (Some x)) None old new
 operator_gains text e x old new b passes =
     let few : exceeding (as_entry e kinds.Op (Some x)) old.opened old.closed ≡ None =
-        ap (λ (d : Bool). if d then Some (TooDeep e.start) else None) passes.few in
+    ap (λ (d : Bool). if d then Some (TooDeep e.start) else None) passes.few in
     subst (Gains text (as_entry e kinds.Op (Some x)) None old) (sym passes.rest)
     record {
       extent = refl;
@@ -169,7 +169,7 @@ operator_takes x own old new begun some passes pushes rest text e is =
 -- a name, a number or a string without a fault
 pub token_takes : (k : Kind) (own : List ℕ) (old new : LineGather) → is_plain_token k ≡ true → old.pass.begun ≡ true
     → 0 < length old.line.terminals.items → fault_of old.pass.extent k own ≡ None
-        → Pushes old.line.start own (terminals_of k own) old.line new.line
+    → Pushes old.line.start own (terminals_of k own) old.line new.line
     → new ≡ record old { line = new.line } → Takes k None own old new
 token_takes k own old new plain begun some sound pushes rest text e is =
     let within = is_within k plain in
@@ -178,7 +178,7 @@ token_takes k own old new plain begun some sound pushes rest text e is =
     let pass : new.pass ≡ old.pass = ap (λ (g : LineGather). g.pass) rest in
     let gains : Gains text e None old.pass old.pass =
     subst (λ (d : Entry). Gains text d None old.pass old.pass) (entry_as e k None is.kind is.exact)
-        (token_gains text e k old.pass within begun) in
+    (token_gains text e k old.pass within begun) in
     record {
       pass =
           subst (λ (p : Pass). Gains text e (entry_refusal old.pass.extent text e) old.pass p) (sym pass)
@@ -203,18 +203,18 @@ line_end_faultless : (extent : Extent) (text : List ℕ) (e : Entry) (b : Bool) 
 unfolding single_fault
 line_end_faultless extent text e true kind =
     no_refusal extent text e (ap (λ (k : Kind). fault_of extent k (text_of text e)) kind
-        ∙ of_single extent kinds.Newline (text_of text e) refl)
+    ∙ of_single extent kinds.Newline (text_of text e) refl)
 line_end_faultless extent text e false kind =
     no_refusal extent text e (ap (λ (k : Kind). fault_of extent k (text_of text e)) kind ∙ of_single extent kinds.Nl (text_of text e) refl)
 
 -- a line end within brackets, and one that ends the logical line
 pub line_end_takes : (text : List ℕ) (ends : Bool) (to : ℕ) (old new : LineGather) → (ends ≡ true → new.level ≡ old.indents - old.dedents)
     → PassesLineEnd text ends to old.pass new.pass → new ≡ record old { pass = new.pass; level = new.level }
-        → TakesLineEnd text ends to old new
+    → TakesLineEnd text ends to old new
 line_end_takes text ends to old new level passes rest own e is there =
     let none : entry_refusal old.pass.extent text e ≡ None = line_end_faultless old.pass.extent text e ends is.kind in
     let pass : Gains text e (entry_refusal old.pass.extent text e) old.pass new.pass =
-        subst (λ (r : Option Refusal). Gains text e r old.pass new.pass) (sym none) (passes e is.kind is.exact there) in
+    subst (λ (r : Option Refusal). Gains text e r old.pass new.pass) (sym none) (passes e is.kind is.exact there) in
     let beside : stands_in_line (line_end_kind ends) ≡ false = aside ends in
     let indents : new.indents ≡ old.indents = ap (λ (g : LineGather). g.indents) rest in
     let dedents : new.dedents ≡ old.dedents = ap (λ (g : LineGather). g.dedents) rest in
@@ -231,18 +231,32 @@ line_end_takes text ends to old new level passes rest own e is there =
     taken : (b : Bool) → (b ≡ true → new.level ≡ old.indents - old.dedents) → e.kind ≡ line_end_kind b
         → Gains text e (entry_refusal old.pass.extent text e) old.pass new.pass
         → new.indents ≡ old.indents → new.dedents ≡ old.dedents → new.marker ≡ old.marker → Adds text e old.line new.line
-            → TakesEntry text e old new
-    taken true level kind pass indents dedents marker adds = record { pass = pass; level = λ _. level refl; indents = indents
-        ∙ rw kind refl; dedents = dedents ∙ rw kind refl; marker = marker ∙ rw kind refl; line = λ _. adds }
-    taken false level kind pass indents dedents marker adds = record { pass = pass; level = λ ends. let n : false ≡ true =
-        rw kind at ends in absurd cc; indents = indents ∙ rw kind refl; dedents = dedents ∙ rw kind refl; marker = marker
-        ∙ rw kind refl; line = λ _. adds }
+        → TakesEntry text e old new
+    taken true level kind pass indents dedents marker adds = record {
+      pass = pass;
+      level = λ _. level refl;
+      indents = indents
+          ∙ rw kind refl;
+      dedents = dedents ∙ rw kind refl;
+      marker = marker ∙ rw kind refl;
+      line = λ _. adds;
+    }
+    taken false level kind pass indents dedents marker adds = record {
+      pass = pass;
+      level = λ ends. let n : false ≡ true =
+          rw kind at ends in absurd cc;
+      indents = indents ∙ rw kind refl;
+      dedents = dedents ∙ rw kind refl;
+      marker = marker
+          ∙ rw kind refl;
+      line = λ _. adds;
+    }
 
 -- a line end, by what its pass answers
 pub line_end_kept : {E : Type 0} (answer : Result (Unit {0}) E) (text : List ℕ) (ends : Bool) (to : ℕ) (old mid : LineGather) (pass : Pass)
     → (ends ≡ true → mid.level ≡ old.indents - old.dedents)
     → mid ≡ record old { level = mid.level } → OnOk answer (PassesLineEnd text ends to mid.pass pass)
-        → OnOk answer (TakesLineEnd text ends to old (record mid { pass = pass }))
+    → OnOk answer (TakesLineEnd text ends to old (record mid { pass = pass }))
 line_end_kept (Ok u) text ends to old mid pass level rest passes =
     let was : mid.pass ≡ old.pass = ap (λ (g : LineGather). g.pass) rest in
     line_end_takes text ends to old (record mid { pass = pass }) level (subst (λ (p : Pass). PassesLineEnd text ends to p pass) was passes)

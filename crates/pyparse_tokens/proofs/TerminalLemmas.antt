@@ -135,6 +135,6 @@ pushed_adds text e ts old new stands own pushes = record {
   first =
       pushes.first
       ∙ ap (λ (b : Bool). if b then of_first old.terminals.items (chars old.first.now) (text_of text e) else chars
-          old.first.now) (sym stands);
+      old.first.now) (sym stands);
   last = pushes.last ∙ ap (λ (b : Bool). if b then text_of text e else chars old.last.now) (sym stands);
 }

@@ -132,7 +132,7 @@ pub record Stepped (p : Parts) (levels : List ℕ) (s t : Spot) (k : Class) (fro
 pub stepped : (p : Parts) (levels left : List ℕ) (s t : Spot) (k : Class) (front back : List ℕ) (g : LineGather) → IsUtf8 p.text
     → length p.text ≤ source_limit →
     StandsAt p (at_spot p s levels) g → 0 < s.given → s.begun ≡ true → left ≡ drop s.offset p.text → Steps s left k front back t
-        → Stepped p levels s t k front back g
+    → Stepped p levels s t k front back g
 stepped p levels left s t k front back g utf8 small at some begun is_left x =
     let goes = step_goes p s t levels left k front back utf8 small at.stands some begun is_left x in
     let read = entry_read p (at_spot p s levels) (at_spot p t levels) g (steps.Entry goes.entry) goes.entry at goes.step refl in
@@ -247,7 +247,7 @@ different b t f = cc
 pub walk_ends : (p : Parts) (levels left : List ℕ) (s t u : Spot) (k : Class) (front back : List ℕ) (old g h : LineGather)
     → Walks p levels s t old g left →
     (x : Stepped p levels t u k front back g) → Steps t left k front back u → TakesLexeme (chars p.text) k (chars front) u g h
-        → u.begun ≡ false → WalkEnds p levels s u old h
+    → u.begun ≡ false → WalkEnds p levels s u old h
 walk_ends p levels left s t u k front back old g h w x moved takes ends =
     let gains = step_taken p levels t u k front back g h x takes in
     let source : (at_spot p u levels).source ≡ p = refl in

@@ -53,7 +53,7 @@ around_dot : (text part behind : List ℕ) → IsUtf8 text → text ≡ part ++ 
 around_dot text part behind u e h =
     let v = (sides part behind (subst IsUtf8 e u)).0 in
     ap (λ z. dotted is_name (chars z)) e ∙ ap (dotted is_name) (chars_around part behind v)
-        ∙ ap (list_all is_name) (part_before_dot (chars part) (chars behind) (dotless_chars part v h))
+    ∙ ap (list_all is_name) (part_before_dot (chars part) (chars behind) (dotless_chars part v h))
 
 without_dot : (text : List ℕ) → IsUtf8 text → IsDotless text → dotted is_name (chars text) ≡ is_name (chars text)
 without_dot text u h = ap (list_all is_name) (one_part (chars text) (dotless_chars text u h)) ∙ and_true (is_name (chars text))
@@ -65,7 +65,7 @@ without_dot text u h = ap (list_all is_name) (one_part (chars text) (dotless_cha
 -- a text that is split at its first dot, or has none
 pub at_dot : (text : List ℕ) (r : Option (Bor (List ℕ) × Bor (List ℕ))) → IsUtf8 text → IsSplitOnceResult 46 text r →
     MatchOption r (dotted is_name (chars text) ≡ is_name (chars text))
-        (λ x. IsUtf8 x.1.now × (dotted is_name (chars text) ≡ (is_name (chars x.0.now) && dotted is_name (chars x.1.now))))
+    (λ x. IsUtf8 x.1.now × (dotted is_name (chars text) ≡ (is_name (chars x.0.now) && dotted is_name (chars x.1.now))))
 at_dot text None u h = without_dot text u h
 at_dot text (Some x) u h =
     let is = (split_parts 46 text (Some x) h (omega arith)).0 in

@@ -17,7 +17,7 @@ module _ {A : Type 0} (all : List A → Bool) (one : A → Bool) (none : all [] 
       → told ≡ true → all (take (i + 1) xs) ≡ true
   goes_on xs {i} {x} lt read before is passed =
       each (take (i + 1) xs) ∙ list_all_more one xs i x lt ∙ and_from (list_all one (take i xs)) (one (get_or xs i x))
-          (sym (each (take i xs)) ∙ before) (ap one (sym read) ∙ sym is ∙ passed)
+      (sym (each (take i xs)) ∙ before) (ap one (sym read) ∙ sym is ∙ passed)
 
   -- one doesn't
   pub stops : (xs : List A) {i : ℕ} {x : A} {told : Bool} → i < length xs → x ≡ get_or xs i x → told ≡ one x → told ≡ false → false ≡ all xs

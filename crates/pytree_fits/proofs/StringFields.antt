@@ -19,7 +19,7 @@ module _ (x : Extent) (f d : ℕ) where
       value ≡ (leb d 1 && fits_at (in_field (tests_at x f)) Expression (tree_of b))
   value_told {b = b} low is h e q r =
       is ∙ h ∙ (λ i. fits_at (tests_at (e i) ((q ∙ one_more f) i)) Expression (tree_of (r i)))
-          ∙ sym (ap (λ z. z && fits_at (in_field (tests_at x f)) Expression (tree_of b)) (le-leb d 1 low))
+      ∙ sym (ap (λ z. z && fits_at (in_field (tests_at x f)) Expression (tree_of b)) (le-leb d 1 low))
 
   pub too_deep : (b : Expr) {value : Bool} → 1 < d → value ≡ leb d 1
       → value ≡ (leb d 1 && fits_at (in_field (tests_at x f)) Expression (tree_of b))

@@ -33,7 +33,7 @@ module _ {A : Type 0} (f : A → Expr) (u s : Bool) (xs : List A) {i : ℕ} {x :
       let e : i + 1 ≡ suc i = omega arith in
       rw e (ap (λ ys. have_kind u s (exprs (map f ys))) (drop-cons xs i x lt)
       ∙ (ap (λ y. has_kind u (s && is_last (exprs (map f (drop (suc i) xs)))) (f y) && have_kind u s (exprs (map f (drop (suc i) xs))))
-          (sym read)
+      (sym read)
       ∙ ap (λ b. has_kind u (s && b) (f x) && have_kind u s (exprs (map f (drop (suc i) xs)))) (last_left f xs i lt)))
 
   -- one hasn't the kind
@@ -41,7 +41,7 @@ module _ {A : Type 0} (f : A → Expr) (u s : Bool) (xs : List A) {i : ℕ} {x :
       → have_kind u s (exprs (map f xs)) ≡ have_kind u s (exprs (map f (drop i xs))) → false ≡ have_kind u s (exprs (map f xs))
   kinds_stop is h q before =
       sym (before ∙ kinds_from ∙ ap (λ z. z && have_kind u s (exprs (map f (drop (i + 1) xs))))
-          (ap (λ z. has_kind u z (f x)) (sym is) ∙ sym h ∙ q))
+      (ap (λ z. has_kind u z (f x)) (sym is) ∙ sym h ∙ q))
 
   -- the next one has it
   pub kinds_go_on : {e told : Bool} → e ≡ (s && (i + 1 == length xs)) → told ≡ has_kind u e (f x) → told ≡ true
@@ -49,4 +49,4 @@ module _ {A : Type 0} (f : A → Expr) (u s : Bool) (xs : List A) {i : ℕ} {x :
       have_kind u s (exprs (map f xs)) ≡ have_kind u s (exprs (map f (drop (i + 1) xs)))
   kinds_go_on is h q before =
       before ∙ kinds_from ∙ ap (λ z. z && have_kind u s (exprs (map f (drop (i + 1) xs))))
-          (ap (λ z. has_kind u z (f x)) (sym is) ∙ sym h ∙ q)
+      (ap (λ z. has_kind u z (f x)) (sym is) ∙ sym h ∙ q)

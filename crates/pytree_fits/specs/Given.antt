@@ -68,7 +68,7 @@ pub data AreGiven (profile : Profile) (n : Tests) : List Line → List Line → 
   no_line : {earlier : List Line} → AreGiven profile n earlier []
   a_line : {earlier : List Line} {x : Line} {xs : List Line} →
       Given n (FormAt profile (stands_in_match x.level earlier)) x.form → AreGiven profile n (x ∷ earlier) xs
-          → AreGiven profile n earlier (x ∷ xs)
+      → AreGiven profile n earlier (x ∷ xs)
 
 -- a module's statements are those of such lines
 abbrev pub GivenModule : Profile → Tests → Module → Type 0
@@ -98,7 +98,7 @@ pub data HaveForms (profile : Profile) : List Line → List Tokens.Line → List
   no_form : {earlier : List Line} → HaveForms profile earlier [] []
   a_form : {earlier : List Line} {x : Tokens.Line} {xs : List Tokens.Line} {f : Form} {ys : List Line} →
       AreSound profile.extent x.tokens → FormAt profile (stands_in_match x.level earlier) (terminals x) f
-          → HaveForms profile (line x.level f ∷ earlier) xs ys →
+      → HaveForms profile (line x.level f ∷ earlier) xs ys →
       HaveForms profile earlier (x ∷ xs) (line x.level f ∷ ys)
 
 -- in a version and an extent of Python the grammar gives this module to some lines of such tokens

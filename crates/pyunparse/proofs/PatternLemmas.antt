@@ -101,7 +101,7 @@ not_one x y xs false e = refl
 -- without brackets
 without : (l : PatternLevel) (ps : List given.Pattern) → is_bare l (patterns (map pattern_of ps)) ≡ true →
     separated comma (each_pattern piece Level.StarPattern (patterns (map pattern_of ps))) ++ last (length ps == 1) ≡ sequence_of piece l
-        (each_pattern piece Level.StarPattern (patterns (map pattern_of ps)))
+    (each_pattern piece Level.StarPattern (patterns (map pattern_of ps)))
 unfolding written_pattern
 without Level.Patterns [] h = absurd (false≢true h)
 without Level.Patterns (p ∷ []) h = refl
@@ -113,7 +113,7 @@ without _ ps h = absurd (false≢true h)
 -- and with them
 within_brackets : (l : PatternLevel) (ps : List given.Pattern) → is_bare l (patterns (map pattern_of ps)) ≡ false →
     enclosed piece (leading piece LSqb) RSqb (listed piece (each_pattern piece Level.StarPattern (patterns (map pattern_of ps)))) ≡
-        sequence_of piece l (each_pattern piece Level.StarPattern (patterns (map pattern_of ps)))
+    sequence_of piece l (each_pattern piece Level.StarPattern (patterns (map pattern_of ps)))
 unfolding written_pattern
 within_brackets Level.Patterns [] h = refl
 within_brackets Level.Patterns (p ∷ ps) h = absurd (false≢true (sym h))
@@ -169,7 +169,7 @@ module _ {S : Type 0} (after : S → Sited → S) (s : S) where
     pub as_on : (b : Bool) (p : Pattern) (x : Option Identifier) (s1 s2 s3 s4 : S) → b ≡ pattern_reaches l Level.AsPattern
         → s1 ≡ puts after s (opened b) →
         s2 ≡ puts after s1 (written_pattern piece Level.OrPattern p) → s3 ≡ puts after s2 (word piece Key.As ∷ [])
-            → s4 ≡ puts after s3 (target piece x ∷ []) →
+        → s4 ≡ puts after s3 (target piece x ∷ []) →
         puts after s4 (closed b) ≡ puts after s (written_pattern piece l (plain.MatchAs (present_pattern p) x))
     unfolding written_pattern
     as_on b p x s1 s2 s3 s4 h e1 e2 e3 e4 =
@@ -195,21 +195,21 @@ module _ {S : Type 0} (after : S → Sited → S) (s : S) where
 
     pub sequence_on : (ps : List given.Pattern) (s1 s2 : S) → is_bare l (patterns (map pattern_of ps)) ≡ false →
         s1 ≡ puts after s (leading piece LSqb ∷ [])
-            → s2 ≡ puts after s1 (listed piece (each_pattern piece Level.StarPattern (patterns (map pattern_of ps)))) →
+        → s2 ≡ puts after s1 (listed piece (each_pattern piece Level.StarPattern (patterns (map pattern_of ps)))) →
         puts after s2 (trailing piece RSqb ∷ []) ≡ puts after s
-            (written_pattern piece l (plain.MatchSequence (patterns (map pattern_of ps))))
+        (written_pattern piece l (plain.MatchSequence (patterns (map pattern_of ps))))
     unfolding written_pattern
     sequence_on ps s1 s2 h e1 e2 =
         enclosed_on after s (leading piece LSqb) RSqb (listed piece (each_pattern piece Level.StarPattern (patterns (map pattern_of ps))))
-            s1 s2 e1 e2
+        s1 s2 e1 e2
         ∙ ap (puts after s) (within_brackets l ps h)
 
     pub mapping_on : (ks : List given_expr.Expr) (ps : List given.Pattern) (x : Option Identifier) (b d : Bool) (s1 s2 s3 : S)
         → b ≡ (length ks == 0) → d ≡ (length ps == 0) →
         s1 ≡ puts after s (leading piece LBrace ∷ []) → s2 ≡ puts after s1 (listed piece (keyed ks ps))
-            → s3 ≡ puts after s2 (members (b || d) comma (rest_name piece x)) →
+        → s3 ≡ puts after s2 (members (b || d) comma (rest_name piece x)) →
         puts after s3 (trailing piece RBrace ∷ []) ≡ puts after s
-            (written_pattern piece l (plain.MatchMapping (map tree_of ks) (patterns (map pattern_of ps)) x))
+        (written_pattern piece l (plain.MatchMapping (map tree_of ks) (patterns (map pattern_of ps)) x))
     unfolding written_pattern
     mapping_on ks ps x b d s1 s2 s3 h k e1 e2 e3 =
         enclosed_on after s (leading piece LBrace) RBrace (listed piece (keyed ks ps ++ rest_name piece x)) s1 s3 e1
@@ -218,13 +218,13 @@ module _ {S : Type 0} (after : S → Sited → S) (s : S) where
     pub class_on : (e : plain.Expr) (ps : List given.Pattern) (xs : List Identifier) (qs : List given.Pattern) (b : Bool) (s1 s2 s3 s4 : S)
         → b ≡ (length ps == 0) →
         s1 ≡ puts after s (pieces Primary e) → s2 ≡ puts after s1 (tight piece LPar ∷ [])
-            → s3 ≡ puts after s2 (listed piece (each_pattern piece Level.AsPattern (patterns (map pattern_of ps)))) →
+        → s3 ≡ puts after s2 (listed piece (each_pattern piece Level.AsPattern (patterns (map pattern_of ps)))) →
         s4 ≡ puts after s3 (members b comma (by_names xs qs)) →
         puts after s4 (trailing piece RPar ∷ []) ≡ puts after s
-            (written_pattern piece l (plain.MatchClass e (patterns (map pattern_of ps)) xs (patterns (map pattern_of qs))))
+        (written_pattern piece l (plain.MatchClass e (patterns (map pattern_of ps)) xs (patterns (map pattern_of qs))))
     unfolding written_pattern
     class_on e ps xs qs b s1 s2 s3 s4 h e1 e2 e3 e4 =
         let tss : List (List Sited) = each_pattern piece Level.AsPattern (patterns (map pattern_of ps)) in
         four after s (pieces Primary e) (tight piece LPar ∷ []) (listed piece (tss ++ by_names xs qs))
-            (trailing piece RPar ∷ []) s1 s2 s4 e1 e2
+        (trailing piece RPar ∷ []) s1 s2 s4 e1 e2
         (e4 ∙ listed_both after s2 s3 tss (by_names xs qs) b (none_each ps b h) e3)

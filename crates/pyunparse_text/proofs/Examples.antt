@@ -31,9 +31,9 @@ call_line = record {
   pieces = name (codes "x") ∷ sign false false (codes "=") ∷ sign false true (codes "-") ∷ name (codes "f") ∷ sign true true (codes "(") ∷
       name (codes "a") ∷ sign true false (codes ",") ∷
       sign false true (codes "*") ∷ name (codes "b") ∷ sign true false (codes ",") ∷ name (codes "c") ∷ sign true true (codes "=") ∷ number
-          (codes "1") ∷ sign true false (codes ")") ∷ sign true true (codes "[") ∷
+      (codes "1") ∷ sign true false (codes ")") ∷ sign true true (codes "[") ∷
       number (codes "1") ∷ sign true true (codes ":") ∷ sign true false (codes ",") ∷ sign true true (codes ":") ∷ sign true true
-          (codes ":") ∷ number (codes "2") ∷ sign true false (codes "]") ∷ [];
+      (codes ":") ∷ number (codes "2") ∷ sign true false (codes "]") ∷ [];
 }
 
 -- from ..a import b

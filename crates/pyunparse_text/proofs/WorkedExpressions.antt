@@ -80,7 +80,7 @@ operators : AreWritten (
     row At.Power (BinOp a Bin.Pow (BinOp b Bin.Pow c)) (codes "a ** b ** c") ∷
     row At.Factor (BinOp (BinOp a Bin.Pow b) Bin.Pow c) (codes "(a ** b) ** c") ∷
     row At.BitOr (BinOp (UnaryOp Un.Invert a) Bin.BitOr
-        (BinOp (BinOp b Bin.BitAnd c) Bin.BitXor (BinOp (BinOp d Bin.LShift e) Bin.RShift f)))
+    (BinOp (BinOp b Bin.BitAnd c) Bin.BitXor (BinOp (BinOp d Bin.LShift e) Bin.RShift f)))
     (codes "~a | b & c ^ d << e >> f") ∷
     row At.Term (BinOp (BinOp (BinOp a Bin.MatMult b) Bin.FloorDiv c) Bin.Mod d) (codes "a @ b // c % d") ∷
     row At.Compare (UnaryOp Un.Not a) (codes "(not a)") ∷
@@ -106,9 +106,9 @@ tests : AreWritten (
     row At.Value (IfExp b a (IfExp d c e)) (codes "a if b else c if d else e") ∷
     row At.Elem (IfExp d (IfExp b a c) e) (codes "(a if b else c) if d else e") ∷
     row At.Or (Lambda (arguments no_arg no_arg absent_arg no_arg no_optional absent_arg no_exprs) (Constant (Values.Int 0)))
-        (codes "(lambda: 0)") ∷
+    (codes "(lambda: 0)") ∷
     row At.Named (IfExp b a (Lambda (arguments no_arg no_arg absent_arg no_arg no_optional absent_arg no_exprs) c))
-        (codes "a if b else lambda: c") ∷ [])
+    (codes "a if b else lambda: c") ∷ [])
 unfolding written fit reaches leads decimal_text
 tests = refl
 
@@ -133,29 +133,29 @@ primaries : AreWritten (
     row At.Value (Constant (Values.Bytes (97 ∷ 10 ∷ 39 ∷ 0 ∷ []))) (codes "b\"a\\n'\\x00\"") ∷
     row At.Value
     (Call (Lambda (arguments no_arg no_arg absent_arg no_arg no_optional absent_arg no_exprs) (Constant (Values.Int 0))) no_exprs
-        no_keyword)
+    no_keyword)
     (codes "(lambda: 0)()") ∷
     row At.Value (Call f (exprs (a ∷ (Starred b Load) ∷ [])) (a_keyword (Some (codes "c")) d (a_keyword None e no_keyword)))
     (codes "f(a, *b, c=d, **e)") ∷
     row At.Value (Call f (exprs ((Starred c Load) ∷ [])) (a_keyword (Some (codes "a")) b no_keyword)) (codes "f(*c, a=b)") ∷
     row At.Value (Call f (exprs ((GeneratorExp x (a_comprehension (Name (codes "x") Store) y no_exprs false no_comprehension)) ∷ []))
-        no_keyword)
+    no_keyword)
     (codes "f(x for x in y)") ∷
     row At.Value (Call f (exprs ((GeneratorExp x (a_comprehension (Name (codes "x") Store) y no_exprs false no_comprehension)) ∷ z ∷ []))
-        no_keyword)
+    no_keyword)
     (codes "f((x for x in y), z)") ∷
     row At.Value
     (Call f (exprs ((GeneratorExp x (a_comprehension (Name (codes "x") Store) y no_exprs false no_comprehension)) ∷ []))
-        (a_keyword (Some (codes "a")) (Constant (Values.Int 1)) no_keyword))
+    (a_keyword (Some (codes "a")) (Constant (Values.Int 1)) no_keyword))
     (codes "f((x for x in y), a=1)") ∷
     row At.Value
     (Call f (exprs ((GeneratorExp
-        (Call g (exprs ((GeneratorExp x (a_comprehension (Name (codes "x") Store) y no_exprs false no_comprehension)) ∷ [])) no_keyword)
-        (a_comprehension (Name (codes "x") Store) z no_exprs false no_comprehension)) ∷ [])) no_keyword)
+    (Call g (exprs ((GeneratorExp x (a_comprehension (Name (codes "x") Store) y no_exprs false no_comprehension)) ∷ [])) no_keyword)
+    (a_comprehension (Name (codes "x") Store) z no_exprs false no_comprehension)) ∷ [])) no_keyword)
     (codes "f(g(x for x in y) for x in z)") ∷
     row At.Value
     (Call f (exprs ((NamedExpr (Name (codes "a") Store) (Constant (Values.Int 1))) ∷ (Starred (BoolOp Join.Or (exprs (b ∷ c ∷ []))) Load) ∷
-        [])) (a_keyword (Some (codes "d")) (Yield absent) no_keyword))
+    [])) (a_keyword (Some (codes "d")) (Yield absent) no_keyword))
     (codes "f(a := 1, *b or c, d=(yield))") ∷
     row At.Value (Call f (exprs ((Starred (IfExp b a c) Load) ∷ [])) no_keyword) (codes "f(*a if b else c)") ∷ [])
 unfolding written fit reaches leads decimal_text
@@ -166,13 +166,13 @@ subscripts : AreWritten (
     row At.Value (Subscript a b Load) (codes "a[b]") ∷
     row At.Value
     (Subscript a (Tuple (exprs ((Slice (present (Constant (Values.Int 1))) (present (Constant (Values.Int 2))) absent) ∷
-        (Starred b Load) ∷ [])) Load) Load)
+    (Starred b Load) ∷ [])) Load) Load)
     (codes "a[1:2, *b]") ∷
     row At.Value (Subscript a (Tuple (exprs ((Starred b Load) ∷ [])) Load) Load) (codes "a[*b]") ∷
     row At.Value (Subscript a (Tuple (exprs ((Starred (IfExp c b d) Load) ∷ [])) Load) Load) (codes "a[*b if c else d]") ∷
     row At.Value (Subscript a (Slice absent absent absent) Load) (codes "a[:]") ∷
     row At.Value (Subscript a (Slice (present (Constant (Values.Int 1))) absent (present (Constant (Values.Int 2)))) Load) (codes "a[1::2]")
-        ∷
+    ∷
     row At.Value (Subscript a (Tuple (exprs ((Slice absent absent absent) ∷ b ∷ (Slice absent absent (present c)) ∷ [])) Load) Load)
     (codes "a[:, b, ::c]") ∷
     row At.Value (Subscript a (Tuple (exprs ((Constant (Values.Int 1)) ∷ (Constant (Values.Int 2)) ∷ [])) Load) Load) (codes "a[1, 2]") ∷
@@ -181,15 +181,15 @@ subscripts : AreWritten (
     row At.Value (Subscript a (NamedExpr (Name (codes "b") Store) (Constant (Values.Int 1))) Load) (codes "a[b := 1]") ∷
     row At.Value
     (Subscript a (Slice (present (NamedExpr (Name (codes "b") Store) (Constant (Values.Int 1)))) (present (Constant (Values.Int 2))) absent)
-        Load)
+    Load)
     (codes "a[(b := 1):2]") ∷
     row At.Value
     (Subscript a (Tuple (exprs ((NamedExpr (Name (codes "b") Store) (Constant (Values.Int 1))) ∷ (Constant (Values.Int 2)) ∷ [])) Load)
-        Load)
+    Load)
     (codes "a[b := 1, 2]") ∷
     row At.Value (Subscript a
-        (Tuple (exprs ((Tuple (exprs ((Constant (Values.Int 1)) ∷ (Constant (Values.Int 2)) ∷ [])) Load) ∷ (Constant (Values.Int 3)) ∷ []))
-        Load) Load) (codes "a[(1, 2), 3]") ∷ [])
+    (Tuple (exprs ((Tuple (exprs ((Constant (Values.Int 1)) ∷ (Constant (Values.Int 2)) ∷ [])) Load) ∷ (Constant (Values.Int 3)) ∷ []))
+    Load) Load) (codes "a[(1, 2), 3]") ∷ [])
 unfolding written fit reaches leads decimal_text
 subscripts = refl
 
@@ -210,7 +210,7 @@ displays : AreWritten (
     row At.Value (Dict (optionals (None ∷ (Some b) ∷ [])) (exprs (a ∷ c ∷ []))) (codes "{**a, b: c}") ∷
     row At.Value
     (Dict (optionals (None ∷ (Some (Yield absent)) ∷ []))
-        (exprs ((BoolOp Join.Or (exprs (a ∷ b ∷ []))) ∷ (NamedExpr (Name (codes "c") Store) (Constant (Values.Int 1))) ∷ [])))
+    (exprs ((BoolOp Join.Or (exprs (a ∷ b ∷ []))) ∷ (NamedExpr (Name (codes "c") Store) (Constant (Values.Int 1))) ∷ [])))
     (codes "{**(a or b), (yield): (c := 1)}") ∷
     row At.Value (ListOf no_exprs Load) (codes "[]") ∷
     row At.Value (Dict no_optional no_exprs) (codes "{}") ∷ [])
@@ -227,41 +227,41 @@ clauses : AreWritten (
     row At.Value (Subscript (YieldFrom a) b Load) (codes "(yield from a)[b]") ∷
     row At.Value
     (Lambda (arguments (args ((arg (codes "x") absent) ∷ [])) (args ((arg (codes "z") absent) ∷ [])) absent_arg
-        (args ((arg (codes "y") absent) ∷ [])) (optionals ((Some (Constant (Values.Int 2))) ∷ [])) (present_arg (arg (codes "a") absent))
-        (exprs ((Constant (Values.Int 1)) ∷ []))) x)
+    (args ((arg (codes "y") absent) ∷ [])) (optionals ((Some (Constant (Values.Int 2))) ∷ [])) (present_arg (arg (codes "a") absent))
+    (exprs ((Constant (Values.Int 1)) ∷ []))) x)
     (codes "lambda x, /, z=1, *, y=2, **a: x") ∷
     row At.Value
     (Lambda (arguments (args ((arg (codes "x") absent) ∷ (arg (codes "y") absent) ∷ [])) (args ((arg (codes "z") absent) ∷ [])) absent_arg
-        no_arg no_optional absent_arg (exprs ((Constant (Values.Int 1)) ∷ (Constant (Values.Int 2)) ∷ []))) x)
+    no_arg no_optional absent_arg (exprs ((Constant (Values.Int 1)) ∷ (Constant (Values.Int 2)) ∷ []))) x)
     (codes "lambda x, y=1, /, z=2: x") ∷
     row At.Value
     (Lambda (arguments no_arg no_arg (present_arg (arg (codes "a") absent)) (args ((arg (codes "b") absent) ∷ []))
-        (optionals (None ∷ [])) absent_arg no_exprs) a)
+    (optionals (None ∷ [])) absent_arg no_exprs) a)
     (codes "lambda *a, b: a") ∷
     row At.Value
     (Lambda (arguments no_arg no_arg absent_arg (args ((arg (codes "b") absent) ∷ (arg (codes "c") absent) ∷ []))
-        (optionals (None ∷ (Some (Constant (Values.Int 1))) ∷ [])) absent_arg no_exprs) a)
+    (optionals (None ∷ (Some (Constant (Values.Int 1))) ∷ [])) absent_arg no_exprs) a)
     (codes "lambda *, b, c=1: a") ∷
     row At.Value
     (Lambda (arguments (args ((arg (codes "x") absent) ∷ [])) no_arg (present_arg (arg (codes "b") absent)) no_arg no_optional
-        (present_arg (arg (codes "c") absent)) no_exprs) (Yield absent))
+    (present_arg (arg (codes "c") absent)) no_exprs) (Yield absent))
     (codes "lambda x, /, *b, **c: (yield)") ∷
     row At.Value
     (ListComp x (a_comprehension (Tuple (exprs ((Name (codes "x") Store) ∷ [])) Store) (Tuple (exprs (a ∷ b ∷ [])) Load) no_exprs
-        false no_comprehension))
+    false no_comprehension))
     (codes "[x for x, in (a, b)]") ∷
     row At.Value
     (DictComp x y (a_comprehension (Tuple (exprs ((Name (codes "x") Store) ∷ (Starred (Name (codes "y") Store) Store) ∷ [])) Store) z
-        (exprs (a ∷ b ∷ [])) false no_comprehension))
+    (exprs (a ∷ b ∷ [])) false no_comprehension))
     (codes "{x: y for x, *y in z if a if b}") ∷
     row At.Value (SetComp (Yield absent) (a_comprehension (Name (codes "x") Store) y no_exprs false no_comprehension))
     (codes "{(yield) for x in y}") ∷
     row At.Value
     (ListComp x (a_comprehension (Attribute x (codes "a") Store) (IfExp b a c) no_exprs true
-        (a_comprehension (Subscript y (Constant (Values.Int 0)) Store) d
-        (exprs ((Lambda (arguments no_arg no_arg absent_arg no_arg no_optional absent_arg no_exprs) x) ∷ [])) false no_comprehension)))
+    (a_comprehension (Subscript y (Constant (Values.Int 0)) Store) d
+    (exprs ((Lambda (arguments no_arg no_arg absent_arg no_arg no_optional absent_arg no_exprs) x) ∷ [])) false no_comprehension)))
     (codes "[x async for x.a in (a if b else c) for y[0] in d if (lambda: x)]") ∷
     row At.Atom (GeneratorExp (Tuple (exprs (a ∷ b ∷ [])) Load) (a_comprehension (Name (codes "a") Store) b no_exprs false
-        no_comprehension)) (codes "((a, b) for a in b)") ∷ [])
+    no_comprehension)) (codes "((a, b) for a in b)") ∷ [])
 unfolding written fit reaches leads decimal_text
 clauses = refl

@@ -72,7 +72,7 @@ pub plain : AreWritten (
     row (with_spec (field (Set (exprs (y ∷ []))) ∷ []) By.None x ∷ []) (codes "f'{x:{ {y}}}'") ∷
     row (with_spec (a_text (codes "{") ∷ []) By.None x ∷ []) (codes "f'{x:\\x7b}'") ∷
     row (with_spec (a_text (codes "\n") ∷ with_spec (a_text (codes "\t") ∷ []) By.Ascii w ∷ []) By.Repr x ∷ [])
-        (codes "f'{x!r:\\n{w!a:\\t}}'") ∷
+    (codes "f'{x!r:\\n{w!a:\\t}}'") ∷
     row (a_text (codes "\\") ∷ field x ∷ a_text (codes "'") ∷ []) (codes "f'\\\\{x}\\''") ∷ [])
 unfolding written elements_behind fit reaches leads decimal_text
 plain = refl
@@ -83,12 +83,12 @@ fields : AreWritten (
     row (by By.Repr (Compare x (Is.Eq ∷ []) (exprs (y ∷ []))) ∷ []) (codes "f'{x == y!r}'") ∷
     row (field (NamedExpr (Name (codes "x") Store) (number 5)) ∷ []) (codes "f'{(x := 5)}'") ∷
     row (field (Lambda (arguments no_arg no_arg absent_arg no_arg no_optional absent_arg no_exprs) (number 1)) ∷ [])
-        (codes "f'{(lambda: 1)}'") ∷
+    (codes "f'{(lambda: 1)}'") ∷
     row (field (Tuple (exprs (Starred x Load ∷ y ∷ [])) Load) ∷ []) (codes "f'{(*x, y)}'") ∷
     row (field (Yield (present x)) ∷ []) (codes "f'{(yield x)}'") ∷
     row (field (IfExp y x w) ∷ []) (codes "f'{(x if y else w)}'") ∷
     row (field (Subscript (Dict (optionals (Some (number 1) ∷ [])) (exprs (number 2 ∷ []))) (number 1) Load) ∷ [])
-        (codes "f'{ {1: 2}[1]}'") ∷
+    (codes "f'{ {1: 2}[1]}'") ∷
     row (field (Set (exprs (number 1 ∷ []))) ∷ []) (codes "f'{ {1}}'") ∷ [])
 unfolding written elements_behind fit reaches leads decimal_text
 fields = refl
@@ -101,7 +101,7 @@ literals : AreWritten (
     row (field (Constant (Values.Bytes (codes "a"))) ∷ []) (codes "f'{b\"a\"}'") ∷
     row (field (JoinedStr (exprs (field x ∷ []))) ∷ []) (codes "f'{f\"{x}\"}'") ∷
     row (field (JoinedStr (exprs (with_spec (a_text (codes ">5") ∷ []) By.Repr x ∷ a_text (codes "=") ∷ field y ∷ []))) ∷ [])
-        (codes "f'{f\"{x!r:>5}={y}\"}'") ∷ [])
+    (codes "f'{f\"{x!r:>5}={y}\"}'") ∷ [])
 unfolding written elements_behind fit reaches leads decimal_text
 literals = refl
 
@@ -111,7 +111,7 @@ kinds : AreWritten (
     row (of_kind_u (codes "\n") ∷ field x ∷ of_kind_u (codes "\t") ∷ []) (codes "u'\\n' f'{x}\\t'") ∷
     row (with_spec (of_kind_u (codes "\n") ∷ field y ∷ a_text (codes "\t") ∷ []) By.None x ∷ []) (codes "u'' f'{x:\\n{y}\\t}'") ∷
     row (of_kind_u (codes "\n") ∷ field (JoinedStr (exprs (of_kind_u (codes "b") ∷ field x ∷ []))) ∷ [])
-        (codes "u'\\n' f'{u\"b\" f\"{x}\"}'") ∷ [])
+    (codes "u'\\n' f'{u\"b\" f\"{x}\"}'") ∷ [])
 unfolding written elements_behind fit reaches leads decimal_text
 kinds = refl
 
@@ -142,21 +142,21 @@ rows =
     read [] (FormattedBegin ∷ no_text ∷ FormattedEnd ∷ []) 1 ∷
     read (field x ∷ []) (FormattedBegin ∷ no_text ∷ x_field (FieldEnd ∷ no_text ∷ FormattedEnd ∷ [])) 1 ∷
     read (field x ∷ field x ∷ [])
-        (FormattedBegin ∷ no_text ∷ x_field (FieldEnd ∷ no_text ∷ x_field (FieldEnd ∷ no_text ∷ FormattedEnd ∷ []))) 1 ∷
+    (FormattedBegin ∷ no_text ∷ x_field (FieldEnd ∷ no_text ∷ x_field (FieldEnd ∷ no_text ∷ FormattedEnd ∷ []))) 1 ∷
     read (a_text (codes "{") ∷ field x ∷ a_text (codes "}") ∷ [])
     (FormattedBegin ∷ FormattedText (codes "{") ∷ x_field (FieldEnd ∷ FormattedText (codes "}") ∷ FormattedEnd ∷ [])) 1 ∷
     read (with_spec (a_text (codes ">") ∷ field x ∷ []) By.None x ∷ [])
     (FormattedBegin ∷ no_text ∷ x_field
-        (SpecBegin ∷ FormattedText (codes ">") ∷ x_field (FieldEnd ∷ no_text ∷ FieldEnd ∷ no_text ∷ FormattedEnd ∷ []))) 1 ∷
+    (SpecBegin ∷ FormattedText (codes ">") ∷ x_field (FieldEnd ∷ no_text ∷ FieldEnd ∷ no_text ∷ FormattedEnd ∷ []))) 1 ∷
     read (field (Set (exprs (x ∷ []))) ∷ [])
     (FormattedBegin ∷ no_text ∷ FieldBegin By.None ∷ Op LPar ∷ Op LBrace ∷ in_form (codes "x") ∷ Op RBrace ∷ Op RPar ∷ FieldEnd ∷ no_text
-        ∷ FormattedEnd ∷ []) 1 ∷
+    ∷ FormattedEnd ∷ []) 1 ∷
     read (of_kind_u (codes "a") ∷ field x ∷ of_kind_u (codes "b") ∷ [])
     (Literal (Values.Str (codes "a") true) ∷ FormattedBegin ∷ no_text ∷ x_field (FieldEnd ∷ FormattedText (codes "b") ∷ FormattedEnd ∷ []))
-        2 ∷
+    2 ∷
     read (field (JoinedStr (exprs (of_kind_u (codes "a") ∷ []))) ∷ [])
     (FormattedBegin ∷ no_text ∷ FieldBegin By.None ∷ Op LPar ∷ Literal (Values.Str (codes "a") true) ∷ FormattedBegin ∷ no_text ∷
-        FormattedEnd ∷ Op RPar ∷
+    FormattedEnd ∷ Op RPar ∷
     FieldEnd ∷ no_text ∷ FormattedEnd ∷ []) 1 ∷ []
 
 lists : AreRead rows

@@ -72,7 +72,7 @@ z = Name (codes "z") Load
 assignments : AreWritten (
     row (
     (Assign ((Name (codes "x") Store) ∷ (Name (codes "y") Store) ∷ [])
-        (Tuple (exprs ((Constant (Values.Int 1)) ∷ (Constant (Values.Int 2)) ∷ [])) Load)) ∷
+    (Tuple (exprs ((Constant (Values.Int 1)) ∷ (Constant (Values.Int 2)) ∷ [])) Load)) ∷
     (Assign ((Tuple (exprs ((Starred (Name (codes "a") Store) Store) ∷ (Name (codes "b") Store) ∷ [])) Store) ∷ []) c) ∷
     (AnnAssign (Name (codes "x") Store) a None true) ∷
     (AnnAssign (Name (codes "x") Store) a (Some (Constant (Values.Int 1))) false) ∷
@@ -104,7 +104,7 @@ assignments = refl
 simples : AreWritten (
     row (
     (Delete ((Name (codes "a") Del) ∷ (Tuple (exprs ((Name (codes "b") Del) ∷ (Name (codes "c") Del) ∷ [])) Del) ∷
-        (Subscript d (Constant (Values.Int 0)) Del) ∷ [])) ∷
+    (Subscript d (Constant (Values.Int 0)) Del) ∷ [])) ∷
     (Return None) ∷
     (Return (Some (Tuple (exprs (a ∷ (Starred b Load) ∷ [])) Load))) ∷
     (Return (Some (Yield absent))) ∷
@@ -135,7 +135,7 @@ simples = refl
 imports : AreWritten (
     row
     ((Import ((alias (codes "a") None) ∷ [])) ∷ (Import ((alias (codes "a.b.c") (Some (codes "d"))) ∷ (alias (codes "e") None) ∷ [])) ∷
-        (ImportFrom (Some (codes "a")) ((alias (codes "b") None) ∷ []) 0) ∷ [])
+    (ImportFrom (Some (codes "a")) ((alias (codes "b") None) ∷ []) 0) ∷ [])
     (codes "import a\nimport a.b.c as d, e\nfrom a import b\n") ∷
     row (
     (ImportFrom None ((alias (codes "b") None) ∷ []) 1) ∷
@@ -157,7 +157,7 @@ choices : AreWritten (
     (codes "if a:\n    b\n") ∷
     row
     ((If a (stmts ((ExprOf b) ∷ []))
-        (stmts ((If c (stmts ((ExprOf d) ∷ [])) (stmts ((If e (stmts ((ExprOf f) ∷ [])) (stmts ((ExprOf g) ∷ []))) ∷ []))) ∷ []))) ∷ [])
+    (stmts ((If c (stmts ((ExprOf d) ∷ [])) (stmts ((If e (stmts ((ExprOf f) ∷ [])) (stmts ((ExprOf g) ∷ []))) ∷ []))) ∷ []))) ∷ [])
     (codes "if a:\n    b\nelif c:\n    d\nelif e:\n    f\nelse:\n    g\n") ∷
     row ((If a (stmts ((ExprOf b) ∷ [])) (stmts ((If c (stmts ((ExprOf d) ∷ [])) no_stmt) ∷ (ExprOf e) ∷ []))) ∷ [])
     (codes "if a:\n    b\nelse:\n    if c:\n        d\n    e\n") ∷
@@ -167,7 +167,7 @@ choices : AreWritten (
     (codes "for x in a,:\n    b\n") ∷
     row
     ((For (Tuple (exprs ((Starred (Name (codes "x") Store) Store) ∷ (Name (codes "y") Store) ∷ [])) Store)
-        (Tuple (exprs ((Starred a Load) ∷ b ∷ [])) Load) (stmts ((ExprOf c) ∷ [])) (stmts ((ExprOf d) ∷ []))) ∷ [])
+    (Tuple (exprs ((Starred a Load) ∷ b ∷ [])) Load) (stmts ((ExprOf c) ∷ [])) (stmts ((ExprOf d) ∷ []))) ∷ [])
     (codes "for *x, y in *a, b:\n    c\nelse:\n    d\n") ∷
     row ((AsyncFor (Name (codes "x") Store) y (stmts ((ExprOf z) ∷ [])) no_stmt) ∷ [])
     (codes "async for x in y:\n    z\n") ∷
@@ -191,11 +191,11 @@ items : AreWritten (
     (codes "with (a, b) as c:\n    d\n") ∷
     row
     ((With ((item (Tuple (exprs (a ∷ (NamedExpr (Name (codes "b") Store) (Constant (Values.Int 1))) ∷ [])) Load) None) ∷ [])
-        (stmts ((ExprOf c) ∷ []))) ∷ [])
+    (stmts ((ExprOf c) ∷ []))) ∷ [])
     (codes "with (a, b := 1):\n    c\n") ∷
     row
     ((With ((item a (Some (Tuple (exprs ((Name (codes "b") Store) ∷ (Name (codes "c") Store) ∷ [])) Store))) ∷ [])
-        (stmts ((ExprOf d) ∷ []))) ∷ [])
+    (stmts ((ExprOf d) ∷ []))) ∷ [])
     (codes "with a as (b, c):\n    d\n") ∷
     row ((With ((item a (Some (Starred (Name (codes "b") Store) Store))) ∷ (item c None) ∷ []) (stmts ((ExprOf d) ∷ []))) ∷ [])
     (codes "with a as *b, c:\n    d\n") ∷
@@ -213,13 +213,13 @@ tries : AreWritten (
     (codes "try:\n    a\nexcept:\n    b\n") ∷
     row
     ((Try (stmts ((ExprOf a) ∷ [])) (a_handler (Some b) None (stmts ((ExprOf c) ∷ [])) (a_handler (Some (Tuple (exprs (b ∷ c ∷ [])) Load))
-        (Some (codes "d")) (stmts ((ExprOf e) ∷ [])) no_handler)) (stmts ((ExprOf f) ∷ [])) (stmts ((ExprOf g) ∷ []))) ∷ [])
+    (Some (codes "d")) (stmts ((ExprOf e) ∷ [])) no_handler)) (stmts ((ExprOf f) ∷ [])) (stmts ((ExprOf g) ∷ []))) ∷ [])
     (codes "try:\n    a\nexcept b:\n    c\nexcept (b, c) as d:\n    e\nelse:\n    f\nfinally:\n    g\n") ∷
     row ((Try (stmts ((ExprOf a) ∷ [])) no_handler no_stmt (stmts ((ExprOf b) ∷ []))) ∷ [])
     (codes "try:\n    a\nfinally:\n    b\n") ∷
     row
     ((TryStar (stmts ((ExprOf a) ∷ [])) (a_handler (Some b) (Some (codes "c")) (stmts ((ExprOf d) ∷ []))
-        (a_handler (Some (Tuple (exprs (b ∷ c ∷ [])) Load)) None (stmts ((ExprOf e) ∷ [])) no_handler)) no_stmt no_stmt) ∷ [])
+    (a_handler (Some (Tuple (exprs (b ∷ c ∷ [])) Load)) None (stmts ((ExprOf e) ∷ [])) no_handler)) no_stmt no_stmt) ∷ [])
     (codes "try:\n    a\nexcept *b as c:\n    d\nexcept *(b, c):\n    e\n") ∷
     [])
 unfolding lines_of written fit reaches leads decimal_text
@@ -229,18 +229,18 @@ tries = refl
 definitions : AreWritten (
     row
     ((FunctionDef (codes "f") (arguments no_arg no_arg absent_arg no_arg no_optional absent_arg no_exprs)
-        (stmts ((ExprOf a) ∷ [])) [] None []) ∷ [])
+    (stmts ((ExprOf a) ∷ [])) [] None []) ∷ [])
     (codes "def f():\n    a\n") ∷
     row
     ((FunctionDef (codes "f") (arguments (args ((arg (codes "x") absent) ∷ [])) (args ((arg (codes "y") (present a)) ∷ []))
-        (present_arg (arg (codes "z") (present (Starred b Load)))) (args ((arg (codes "k") (present c)) ∷ (arg (codes "d") absent) ∷ []))
-        (optionals ((Some (Constant (Values.Int 2))) ∷ None ∷ [])) (present_arg (arg (codes "e") absent))
-        (exprs ((Constant (Values.Int 1)) ∷ []))) (stmts ((Return (Some x)) ∷ []))
-        (a ∷ (Call (Attribute b (codes "c") Load) (exprs (d ∷ [])) no_keyword) ∷ []) (Some f) []) ∷ [])
+    (present_arg (arg (codes "z") (present (Starred b Load)))) (args ((arg (codes "k") (present c)) ∷ (arg (codes "d") absent) ∷ []))
+    (optionals ((Some (Constant (Values.Int 2))) ∷ None ∷ [])) (present_arg (arg (codes "e") absent))
+    (exprs ((Constant (Values.Int 1)) ∷ []))) (stmts ((Return (Some x)) ∷ []))
+    (a ∷ (Call (Attribute b (codes "c") Load) (exprs (d ∷ [])) no_keyword) ∷ []) (Some f) []) ∷ [])
     (codes "@a\n@b.c(d)\ndef f(x, /, y: a=1, *z: *b, k: c=2, d, **e) -> f:\n    return x\n") ∷
     row
     ((AsyncFunctionDef (codes "f") (arguments no_arg no_arg absent_arg (args ((arg (codes "a") absent) ∷ [])) (optionals (None ∷ []))
-        absent_arg no_exprs) (stmts ((ExprOf (Await b)) ∷ [])) [] None []) ∷ [])
+    absent_arg no_exprs) (stmts ((ExprOf (Await b)) ∷ [])) [] None []) ∷ [])
     (codes "async def f(*, a):\n    await b\n") ∷
     row ((ClassDef (codes "A") [] no_keyword (stmts ((ExprOf a) ∷ [])) [] []) ∷ [])
     (codes "class A:\n    a\n") ∷
@@ -248,13 +248,13 @@ definitions : AreWritten (
     (codes "class A:\n    pass\n") ∷
     row
     ((ClassDef (codes "A") (b ∷ (Starred c Load) ∷ []) (a_keyword (Some (codes "k")) d (a_keyword None e no_keyword))
-        (stmts ((Assign ((Name (codes "x") Store) ∷ []) (Constant (Values.Int 1))) ∷
-        (FunctionDef (codes "f") (arguments no_arg (args ((arg (codes "self") absent) ∷ [])) absent_arg no_arg no_optional absent_arg
-        no_exprs) (stmts (Pass ∷ [])) [] None []) ∷ [])) (a ∷ []) []) ∷ [])
+    (stmts ((Assign ((Name (codes "x") Store) ∷ []) (Constant (Values.Int 1))) ∷
+    (FunctionDef (codes "f") (arguments no_arg (args ((arg (codes "self") absent) ∷ [])) absent_arg no_arg no_optional absent_arg
+    no_exprs) (stmts (Pass ∷ [])) [] None []) ∷ [])) (a ∷ []) []) ∷ [])
     (codes "@a\nclass A(b, *c, k=d, **e):\n    x = 1\n    def f(self):\n        pass\n") ∷
     row
     ((ClassDef (codes "A") ((GeneratorExp x (a_comprehension (Name (codes "x") Store) y no_exprs false no_comprehension)) ∷ []) no_keyword
-        (stmts (Pass ∷ [])) [] []) ∷ [])
+    (stmts (Pass ∷ [])) [] []) ∷ [])
     (codes "class A((x for x in y)):\n    pass\n") ∷
     [])
 unfolding lines_of written fit reaches leads decimal_text
@@ -264,19 +264,19 @@ definitions = refl
 types : AreWritten (
     row
     ((TypeAlias (Name (codes "X") Store) ((TypeVar (codes "T") (Some a)) ∷ (TypeVarTuple (codes "Ts")) ∷ (ParamSpec (codes "P")) ∷ [])
-        (Subscript b c Load)) ∷ [])
+    (Subscript b c Load)) ∷ [])
     (codes "type X[T: a, *Ts, **P] = b[c]\n") ∷
     row
     ((FunctionDef (codes "f") (arguments no_arg (args ((arg (codes "a") absent) ∷ [])) absent_arg no_arg no_optional absent_arg no_exprs)
-        (stmts ((Return (Some a)) ∷ [])) [] None ((TypeVar (codes "T") None) ∷ [])) ∷ [])
+    (stmts ((Return (Some a)) ∷ [])) [] None ((TypeVar (codes "T") None) ∷ [])) ∷ [])
     (codes "def f[T](a):\n    return a\n") ∷
     row
     ((ClassDef (codes "A") [] no_keyword (stmts (Pass ∷ [])) [] ((TypeVar (codes "T") None) ∷ [])) ∷
-        (ClassDef (codes "B") (a ∷ []) no_keyword (stmts (Pass ∷ [])) [] ((TypeVarTuple (codes "Ts")) ∷ (ParamSpec (codes "P")) ∷ [])) ∷ [])
+    (ClassDef (codes "B") (a ∷ []) no_keyword (stmts (Pass ∷ [])) [] ((TypeVarTuple (codes "Ts")) ∷ (ParamSpec (codes "P")) ∷ [])) ∷ [])
     (codes "class A[T]:\n    pass\nclass B[*Ts, **P](a):\n    pass\n") ∷
     row
     ((TypeAlias (Name (codes "X") Store) [] (Lambda (arguments no_arg no_arg absent_arg no_arg no_optional absent_arg no_exprs)
-        (Constant (Values.Int 0)))) ∷ [])
+    (Constant (Values.Int 0)))) ∷ [])
     (codes "type X = lambda: 0\n") ∷
     [])
 unfolding lines_of written fit reaches leads decimal_text

@@ -123,7 +123,7 @@ choices : AreWritten (
     of_case (alias (any (any (p ∷ q ∷ []) ∷ r ∷ [])) (codes "d")) (codes "case (a | b) | c as d:") ∷
     of_case (alias p (codes "b")) (codes "case a as b:") ∷
     of_case (any (MatchValue (Attribute a (codes "b") Load) ∷ MatchSingleton Values.None ∷ MatchValue (bytes (codes "st")) ∷ alias r
-        (codes "d") ∷ [])) (codes "case a.b | None | b'st' | (c as d):") ∷ [])
+    (codes "d") ∷ [])) (codes "case a.b | None | b'st' | (c as d):") ∷ [])
 unfolding lines_of statement_lines case_lines written_pattern each_pattern fit_pattern pattern_reaches pattern_leads
     written fit reaches leads
 choices = refl
@@ -135,7 +135,7 @@ values : AreWritten (
     of_case (MatchValue (BinOp (minus one) Bin.Add (Constant (Values.Imaginary float_zero)))) (codes "case -1 + 0j:") ∷
     of_case
     (any (MatchValue (BinOp (minus (Constant (Values.Float float_zero))) Bin.Sub (Constant (Values.Imaginary (inf false)))) ∷ MatchValue
-        (Constant (Values.Imaginary float_zero)) ∷ MatchValue (minus (Constant (Values.Imaginary (inf false)))) ∷ []))
+    (Constant (Values.Imaginary float_zero)) ∷ MatchValue (minus (Constant (Values.Imaginary (inf false)))) ∷ []))
     (codes "case -0.0 - 1e309j | 0j | -1e309j:") ∷
     of_case (any (MatchSingleton (Values.Bool true) ∷ MatchSingleton (Values.Bool false) ∷ MatchValue (bytes (codes "a")) ∷ []))
     (codes "case True | False | b'a':") ∷
@@ -147,23 +147,23 @@ values = refl
 -- Mappings and class patterns.
 listings : AreWritten (
     of_case (MatchMapping (minus one ∷ bytes (codes "k") ∷ []) (patterns (p ∷ q ∷ [])) (Some (codes "r")))
-        (codes "case {-1: a, b'k': b, **r}:") ∷
+    (codes "case {-1: a, b'k': b, **r}:") ∷
     of_case
     (MatchMapping (minus one ∷ bytes (codes "kl") ∷ Constant Values.None ∷ Attribute (named (codes "f")) (codes "g") Load ∷ [])
-        (patterns (p ∷ any (q ∷ r ∷ []) ∷ alias (capture (codes "d")) (codes "e") ∷ wildcard ∷ [])) (Some (codes "h")))
+    (patterns (p ∷ any (q ∷ r ∷ []) ∷ alias (capture (codes "d")) (codes "e") ∷ wildcard ∷ [])) (Some (codes "h")))
     (codes "case {-1: a, b'kl': b | c, None: d as e, f.g: _, **h}:") ∷
     of_case (MatchMapping [] no_pattern None) (codes "case {}:") ∷
     of_case (MatchMapping [] no_pattern (Some (codes "r"))) (codes "case {**r}:") ∷
     of_case (MatchClass (Attribute (named (codes "A")) (codes "B") Load) (patterns (r ∷ [])) (codes "k" ∷ [])
-        (patterns (capture (codes "d") ∷ [])))
+    (patterns (capture (codes "d") ∷ [])))
     (codes "case A.B(c, k=d):") ∷
     of_case
     (MatchClass (named (codes "A")) (patterns (alias p (codes "b") ∷ any (r ∷ capture (codes "d") ∷ []) ∷ [])) (codes "k" ∷ [])
-        (patterns (alias (capture (codes "e")) (codes "f") ∷ [])))
+    (patterns (alias (capture (codes "e")) (codes "f") ∷ [])))
     (codes "case A(a as b, c | d, k=e as f):") ∷
     of_case (MatchClass (named (codes "A")) no_pattern [] no_pattern) (codes "case A():") ∷
     of_case (MatchClass (named (codes "A")) (patterns (MatchValue one ∷ sequence (p ∷ []) ∷ [])) (codes "k" ∷ codes "_" ∷ [])
-        (patterns (wildcard ∷ MatchValue (minus one) ∷ []))) (codes "case A(1, [a], k=_, _=-1):") ∷ [])
+    (patterns (wildcard ∷ MatchValue (minus one) ∷ []))) (codes "case A(1, [a], k=_, _=-1):") ∷ [])
 unfolding lines_of statement_lines case_lines written_pattern each_pattern key_patterns named_patterns fit_pattern pattern_reaches
     pattern_leads written fit reaches leads decimal_text
 listings = refl
@@ -175,9 +175,9 @@ cases : AreWritten (
     guarded wildcard (Some (Tuple (exprs (a ∷ [])) Load)) (codes "case _ if (a,):") ∷
     row
     (Match a (a_case (sequence (capture (codes "y") ∷ [])) None (stmts (ExprOf (named (codes "int")) ∷ []))
-        (a_case (capture (codes "case")) None (stmts (Match b (a_case wildcard None (stmts (Pass ∷ [])) no_case) ∷ [])) no_case)) ∷ [])
+    (a_case (capture (codes "case")) None (stmts (Match b (a_case wildcard None (stmts (Pass ∷ [])) no_case) ∷ [])) no_case)) ∷ [])
     (codes "match a:" ∷ codes "    case y,:" ∷ codes "        int" ∷ codes "    case case:" ∷ codes "        match b:" ∷ codes
-        "            case _:" ∷ codes "                pass" ∷ []) ∷ [])
+    "            case _:" ∷ codes "                pass" ∷ []) ∷ [])
 unfolding lines_of statement_lines case_lines written_pattern each_pattern fit_pattern pattern_reaches pattern_leads written fit
     reaches leads decimal_text
 cases = refl

@@ -21,33 +21,33 @@ use Rattle.pyunparse_text.proofs.WorkedRows.{row, AreWritten, a, b, c, d, f, g}
 -- Assignments.
 assignments : AreWritten (
     row (Assign ((Name (codes "a") Store) ∷ (Name (codes "b") Store) ∷ []) (Tuple (exprs (c ∷ d ∷ [])) Load) ∷ [])
-        (codes "a = b = c, d" ∷ []) ∷
+    (codes "a = b = c, d" ∷ []) ∷
     row (Assign ((Tuple (exprs ((Name (codes "a") Store) ∷ (Starred (Name (codes "b") Store) Store) ∷ [])) Store) ∷ []) c ∷ [])
     (codes "a, *b = c" ∷ []) ∷
     row (Assign ((Tuple (exprs ((Starred (Name (codes "a") Store) Store) ∷ [])) Store) ∷ []) b ∷ []) (codes "*a, = b" ∷ []) ∷
     row (Assign ((Name (codes "a") Store) ∷ []) (Yield (present b)) ∷ []) (codes "a = yield b" ∷ []) ∷
     row (Assign ((Name (codes "a") Store) ∷ []) (NamedExpr (Name (codes "b") Store) (Constant (Values.Int 1))) ∷ [])
-        (codes "a = (b := 1)" ∷ []) ∷
+    (codes "a = (b := 1)" ∷ []) ∷
     row
     (Assign ((Tuple (exprs
-        ((Tuple (exprs ((Name (codes "a") Store) ∷
-        (ListOf (exprs ((Name (codes "b") Store) ∷ (Starred (Name (codes "c") Store) Store) ∷ [])) Store) ∷ [])) Store) ∷
-        (Attribute d (codes "e") Store) ∷ (Subscript f (Constant (Values.Int 0)) Store) ∷ [])) Store) ∷ []) g ∷ [])
+    ((Tuple (exprs ((Name (codes "a") Store) ∷
+    (ListOf (exprs ((Name (codes "b") Store) ∷ (Starred (Name (codes "c") Store) Store) ∷ [])) Store) ∷ [])) Store) ∷
+    (Attribute d (codes "e") Store) ∷ (Subscript f (Constant (Values.Int 0)) Store) ∷ [])) Store) ∷ []) g ∷ [])
     (codes "(a, [b, *c]), d.e, f[0] = g" ∷ []) ∷
     row (AnnAssign (Name (codes "a") Store) b (Some (Tuple (exprs (c ∷ d ∷ [])) Load)) true ∷ []) (codes "a: b = c, d" ∷ []) ∷
     row (AnnAssign (Name (codes "a") Store) b (Some (Yield absent)) false ∷ []) (codes "(a): b = yield" ∷ []) ∷
     row (AnnAssign (Attribute a (codes "b") Store) c None false ∷ []) (codes "a.b: c" ∷ []) ∷
     row
     (AugAssign (Attribute a (codes "b") Store) Bin.Sub (Constant (Values.Int 1)) ∷ AugAssign (Name (codes "a") Store) Bin.Mult
-        (Constant (Values.Int 1)) ∷ AugAssign (Subscript a (Constant (Values.Int 0)) Store) Bin.MatMult (Tuple (exprs (b ∷ c ∷ [])) Load) ∷
-        AugAssign (Name (codes "a") Store) Bin.Div (Constant (Values.Int 1)) ∷ AugAssign (Name (codes "a") Store) Bin.Mod
-        (Constant (Values.Int 1)) ∷ AugAssign (Name (codes "a") Store) Bin.BitAnd (Constant (Values.Int 1)) ∷ [])
+    (Constant (Values.Int 1)) ∷ AugAssign (Subscript a (Constant (Values.Int 0)) Store) Bin.MatMult (Tuple (exprs (b ∷ c ∷ [])) Load) ∷
+    AugAssign (Name (codes "a") Store) Bin.Div (Constant (Values.Int 1)) ∷ AugAssign (Name (codes "a") Store) Bin.Mod
+    (Constant (Values.Int 1)) ∷ AugAssign (Name (codes "a") Store) Bin.BitAnd (Constant (Values.Int 1)) ∷ [])
     (codes "a.b -= 1" ∷ codes "a *= 1" ∷ codes "a[0] @= b, c" ∷ codes "a /= 1" ∷ codes "a %= 1" ∷ codes "a &= 1" ∷ []) ∷
     row (AugAssign (Name (codes "a") Store) Bin.BitOr (Constant (Values.Int 1)) ∷ AugAssign (Name (codes "a") Store) Bin.BitXor
-        (Constant (Values.Int 1)) ∷ AugAssign (Name (codes "a") Store) Bin.LShift (Constant (Values.Int 1)) ∷ AugAssign
-        (Name (codes "a") Store) Bin.RShift (Constant (Values.Int 1)) ∷ AugAssign (Name (codes "a") Store) Bin.Pow (Constant (Values.Int 2))
-        ∷ AugAssign (Name (codes "a") Store) Bin.FloorDiv b ∷ []) (codes "a |= 1" ∷ codes "a ^= 1" ∷ codes "a <<= 1" ∷ codes "a >>= 1" ∷
-        codes "a **= 2" ∷ codes "a //= b" ∷ []) ∷ [])
+    (Constant (Values.Int 1)) ∷ AugAssign (Name (codes "a") Store) Bin.LShift (Constant (Values.Int 1)) ∷ AugAssign
+    (Name (codes "a") Store) Bin.RShift (Constant (Values.Int 1)) ∷ AugAssign (Name (codes "a") Store) Bin.Pow (Constant (Values.Int 2))
+    ∷ AugAssign (Name (codes "a") Store) Bin.FloorDiv b ∷ []) (codes "a |= 1" ∷ codes "a ^= 1" ∷ codes "a <<= 1" ∷ codes "a >>= 1" ∷
+    codes "a **= 2" ∷ codes "a //= b" ∷ []) ∷ [])
 unfolding lines_of statement_lines alternative clause handler_lines written fit reaches leads decimal_text
 assignments = refl
 
@@ -76,8 +76,8 @@ others : AreWritten (
     row (Delete ((Name (codes "a") Del) ∷ []) ∷ []) (codes "del a" ∷ []) ∷
     row
     (Delete ((Name (codes "a") Del) ∷ (Attribute b (codes "c") Del) ∷
-        (Tuple (exprs ((Name (codes "d") Del) ∷ (ListOf (exprs ((Name (codes "e") Del) ∷ [])) Del) ∷ [])) Del) ∷
-        (Subscript f (Constant (Values.Int 0)) Del) ∷ []) ∷ [])
+    (Tuple (exprs ((Name (codes "d") Del) ∷ (ListOf (exprs ((Name (codes "e") Del) ∷ [])) Del) ∷ [])) Del) ∷
+    (Subscript f (Constant (Values.Int 0)) Del) ∷ []) ∷ [])
     (codes "del a, b.c, (d, [e]), f[0]" ∷ []) ∷
     row (Delete ((Tuple no_exprs Del) ∷ []) ∷ []) (codes "del ()" ∷ []) ∷ [])
 unfolding lines_of statement_lines alternative clause handler_lines written fit reaches leads decimal_text

@@ -51,10 +51,10 @@ module _ {A : Type 0} (make : Maker A) where
     statement_lines l (Trees.AsyncWith items body) = header l (with_header true items) ∷ lines_of (suc l) body
     statement_lines l (Trees.Try body hs orelse final) =
         header l try_header ∷
-            (lines_of (suc l) body ++ (handler_lines l false hs ++ (clause l else_header orelse ++ clause l finally_header final)))
+        (lines_of (suc l) body ++ (handler_lines l false hs ++ (clause l else_header orelse ++ clause l finally_header final)))
     statement_lines l (Trees.TryStar body hs orelse final) =
         header l try_header ∷
-            (lines_of (suc l) body ++ (handler_lines l true hs ++ (clause l else_header orelse ++ clause l finally_header final)))
+        (lines_of (suc l) body ++ (handler_lines l true hs ++ (clause l else_header orelse ++ clause l finally_header final)))
     statement_lines l (Trees.FunctionDef x a body ds r ps) =
         decorators l ds ++ (header l (def_header (function_head false x ps a r)) ∷ lines_of (suc l) body)
     statement_lines l (Trees.AsyncFunctionDef x a body ds r ps) =

@@ -65,7 +65,7 @@ begins_operator t = list_any (λ o. starts_with nat_eq o.spelling t) operators
 abbrev pub stay_apart : Piece → Piece → Bool
 stay_apart p q =
     if is_operator_kind p.kind then not (begins_operator (p.text ++ take 1 q.text)) && not
-        (bytes_eq p.text (codes ".") && is_number_kind q.kind)
+    (bytes_eq p.text (codes ".") && is_number_kind q.kind)
     else is_operator_kind q.kind && not (is_number_kind p.kind && bytes_eq (take 1 q.text) (codes "."))
 
 -- two points that are told apart, since no third one touches them

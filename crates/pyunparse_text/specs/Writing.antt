@@ -30,7 +30,7 @@ abbrev pub meets : Edge → Piece → Bool
 meets e q =
     not (e.brace && begins_with left_curly_bracket q.text)
     && ((e.behind || q.before) && not (e.number && bytes_eq q.text (codes ".")) && not
-        (e.comma && (bytes_eq q.text (codes ":") && q.behind)))
+    (e.comma && (bytes_eq q.text (codes ":") && q.behind)))
 
 -- the blank before a token
 abbrev pub blank : Option Edge → Piece → List ℕ

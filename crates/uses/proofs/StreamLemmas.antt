@@ -83,8 +83,8 @@ module _ {seen_old seen_mid seen_new : Seen} {old new : Streamed} {step : Step} 
   -- the step is the next one in the source, and the lister stands behind it
   stepped : (more : List ℕ) (broken : Bool) → Continues new.lines more broken
       → (p : Parts) × (stream_of broken (taken ++ more) ≡ Ok p) × (first_comment_of p ≡ first_behind p old.shown.given) ×
-          (slice_get (listing (in_characters p)) old.shown.given ≡ Some step) × StreamsIn new p
-          (old.shown.given + entries_in step) more broken
+      (slice_get (listing (in_characters p)) old.shown.given ≡ Some step) × StreamsIn new p
+      (old.shown.given + entries_in step) more broken
   stepped more broken f =
       let t = o.stands (s.taken ++ more) broken (s.follows more broken f) in
       let m = s.steps t.0 old.shown.given more broken f t.2 in
@@ -93,8 +93,11 @@ module _ {seen_old seen_mid seen_new : Seen} {old new : Streamed} {step : Step} 
   -- by one entry
   pub one_more : (e : Entry) → step ≡ steps.Entry e → new.shown.given ≡ old.shown.given + 1
   one_more e is =
-      let t = stepped [] (is_broken new.lines.reach) (follows_none new.lines.reach, let w =
-          reads.within (omega arith) in omega (arith, w)) in
+      let t = stepped [] (is_broken new.lines.reach) (
+        follows_none new.lines.reach,
+        let w =
+            reads.within (omega arith) in omega (arith, w),
+      ) in
       let n : entries_in step ≡ 1 = ap (λ (x : Step). entries_in x) is in
       let c = t.4.stands.count in
       omega (arith, n, c)
@@ -111,15 +114,19 @@ module _ {seen_old seen_mid seen_new : Seen} {old new : Streamed} {step : Step} 
     reads = reads;
     stands = λ more broken f.
         let t = stepped more broken f in
-        let first : first_behind t.0 old.shown.given ≡ first_behind t.0 (old.shown.given + 1) = rw (first_of t.0 e t.3 is, other) refl in
-        (t.0, t.1, given_is new t.0 (old.shown.given + entries_in step) more broken t.4, t.2 ∙ first
-            ∙ ap (λ (n : ℕ). first_behind t.0 n) (sym (one_more e is)));
+        let first : first_behind t.0 old.shown.given ≡ first_behind t.0 (old.shown.given + 1) = rw (first_of t.0 e t.3 is, other) refl in (
+          t.0,
+          t.1,
+          given_is new t.0 (old.shown.given + entries_in step) more broken t.4,
+          t.2 ∙ first
+              ∙ ap (λ (n : ℕ). first_behind t.0 n) (sym (one_more e is)),
+        );
   }
 
   -- to a comment
   pub finds : (e : Entry) (text : String Global) → step ≡ steps.Entry e → is_comment e ≡ true
       → ((p : Parts) (k : ℕ) (more : List ℕ) (broken : Bool) → StreamsIn new p k more broken → string_bytes text ≡ text_of p e)
-          → Finds seen_old (Some text)
+      → Finds seen_old (Some text)
   finds e text is comment shown = record {
     seen_new = seen_new;
     taken = taken;

@@ -16,4 +16,4 @@ pub some_text : (m n : Module) (told : Bool) (text : List ℕ) → m ≡ n → (
 some_text m n told text is tokens asked trips expressions statements =
     let low : IsLowModule m = λ f. subst (λ (x : Module). expression_height x ≤ 500) (sym is) expressions in
     subst (λ (x : Module). RoundTrips text x) is trips plain_311 (subst (λ (x : Module). Stated plain_311 x) is (tokens low asked))
-        expressions statements
+    expressions statements

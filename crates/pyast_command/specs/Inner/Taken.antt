@@ -22,7 +22,7 @@ pub record Starts (seen_old seen_new : Seen) (resume : Option CursorParts) (v : 
   pub took : TookAll seen_old seen_new v.lines all
   pub stands : (more : List ℕ) (broken : Bool) → Continues v.lines more broken
       → (p : Parts) × (stream_of broken (all ++ more) ≡ Ok p) × (start_in resume (in_characters p) ≡ Some v.shown.given) × StreamsIn v p
-          v.shown.given more broken
+      v.shown.given more broken
 
 -- From a lister on bytes were taken, and the lines stand so then; and something was done with what is to be written and told of each source
 -- in which the lister stood.

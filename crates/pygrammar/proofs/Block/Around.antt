@@ -47,11 +47,15 @@ mutual
   statement_from {l} (with_statement {xs = xs} p) = (le_refl l, from_lower l xs (body_from p))
   statement_from {l} (try_finally {xs = xs} {ys = ys} p q) =
       (le_refl l, headed l xs _ (body_from p) (le_refl l, from_lower l ys (body_from q)))
-  statement_from {l} (try_except {xs = xs} {ys = ys} {zs = zs} {ws = ws} p q o e) =
-      (le_refl l, headed l xs (ys ++ (zs ++ ws)) (body_from p)
-          (from-append l ys (zs ++ ws) (excepts_from q) (from-append l zs ws (otherwise_from o) (ending_from e))))
-  statement_from {l} (definition_of head {ds = ds} {xs = xs} d p) = from-append l ds _ (decorators_from d) (le_refl l,
-      from_lower l xs (body_from p))
+  statement_from {l} (try_except {xs = xs} {ys = ys} {zs = zs} {ws = ws} p q o e) = (
+    le_refl l,
+    headed l xs (ys ++ (zs ++ ws)) (body_from p)
+        (from-append l ys (zs ++ ws) (excepts_from q) (from-append l zs ws (otherwise_from o) (ending_from e))),
+  )
+  statement_from {l} (definition_of head {ds = ds} {xs = xs} d p) = from-append l ds _ (decorators_from d) (
+    le_refl l,
+    from_lower l xs (body_from p),
+  )
   statement_from {l} (match_statement {x = x} {xs = xs} p) = (le_refl l, from_lower l (x ∷ xs) (cases_from p))
 
   pub body_from : {l : ℕ} {suite : Option (List Stmt)} {xs : List Line} {ss : List Stmt} → Body l suite xs ss → AreFrom (suc l) xs
@@ -88,13 +92,13 @@ mutual
 pub around_past : (l : ℕ) (x : Line) (earlier : List Line) → l ≤ x.level → around l (x ∷ earlier) ≡ around l earlier
 around_past l x earlier h =
     ap (λ b. cond b (around x.level earlier + (elifs (kind_of x.form) x.level earlier + own (kind_of x.form))) (around l earlier))
-        (not_less x.level l h)
+    (not_less x.level l h)
 
 pub around_inside : (l : ℕ) (x : Line) (earlier : List Line) → x.level < l → around l (x ∷ earlier) ≡ around x.level earlier +
     (elifs (kind_of x.form) x.level earlier + own (kind_of x.form))
 around_inside l x earlier h =
     ap (λ b. cond b (around x.level earlier + (elifs (kind_of x.form) x.level earlier + own (kind_of x.form))) (around l earlier))
-        (is_less x.level l h)
+    (is_less x.level l h)
 
 -- how the `elif`s are counted, by the last line that is no deeper
 abbrev by_last : ℕ → ℕ → ℕ → ℕ → ℕ

@@ -35,7 +35,7 @@ deep_from ds [] x = refl
 deep_from ds (y ∷ xs) x =
     elim (is_deep (innermost y ds)) as (λ b. cond b (Some 0) (option_map suc (first_deep (counted ds y) (xs ++ x ∷ [])))
     ≡ deep_by (cond b (Some 0) (option_map suc (first_deep (counted ds y) xs)))
-        (is_deep (innermost x (count (counted ds y) xs))) (suc (length xs))) [
+    (is_deep (innermost x (count (counted ds y) xs))) (suc (length xs))) [
       | true ↦ refl
       | false ↦ ap (option_map suc) (deep_from (counted ds y) xs x)
           ∙ counted_once (first_deep (counted ds y) xs) (is_deep (innermost x (count (counted ds y) xs))) (length xs)
@@ -93,6 +93,6 @@ pub none_high : {forms : List Line} {m : Module} → Block 0 forms m.body → Ar
     → statement_height m ≤ 500
 none_high {forms} {m} b f none = elim (nat_lt 500 (statement_height m)) as (λ b. nat_lt 500 (statement_height m) ≡ b
     → statement_height m ≤ 500) [
-  | true ↦ λ e. let found = (deep_is_high b f).1 (ltb-true 500 (statement_height m) e) in absurd (none found.0 found.1)
-  | false ↦ λ e. ltb-false 500 (statement_height m) e
-] refl
+      | true ↦ λ e. let found = (deep_is_high b f).1 (ltb-true 500 (statement_height m) e) in absurd (none found.0 found.1)
+      | false ↦ λ e. ltb-false 500 (statement_height m) e
+    ] refl

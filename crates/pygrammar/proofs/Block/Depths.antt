@@ -31,40 +31,42 @@ round_under : (l m : ℕ) → l ≤ m → (ds : List Depth) → round_at l (unde
 round_under l m h [] = refl
 round_under l m h (d ∷ ds) = elim (nat_lt d.level m) as (λ b. nat_lt d.level m ≡ b
     → round_at l (cond b (d ∷ ds) (under m ds)) ≡ round_at l (d ∷ ds)) [
-  | true ↦ λ e. refl
-  | false ↦ λ e.
-      let k : m ≤ d.level = ltb-false d.level m e in
-      round_under l m h ds ∙ sym (ap (λ b. cond b (d.round + (d.arms + d.own)) (round_at l ds)) (not_less d.level l (omega (arith, h, k))))
-] refl
+      | true ↦ λ e. refl
+      | false ↦ λ e.
+          let k : m ≤ d.level = ltb-false d.level m e in
+          round_under l m h ds ∙ sym (ap (λ b. cond b (d.round + (d.arms + d.own)) (round_at l ds)) (not_less d.level l (omega (arith, h, k))))
+    ] refl
 
 elif_under : (l m : ℕ) → l < m → (ds : List Depth) → arms_at ElifLine l (under m ds) ≡ arms_at ElifLine l ds
 elif_under l m h [] = refl
 elif_under l m h (d ∷ ds) = elim (nat_lt d.level m) as (λ b. nat_lt d.level m ≡ b → arms_at ElifLine l (cond b (d ∷ ds) (under m ds)) ≡
     arms_at ElifLine l (d ∷ ds)) [
-  | true ↦ λ e. refl
-  | false ↦ λ e.
-      let k : m ≤ d.level = ltb-false d.level m e in
-      elif_under l m h ds ∙ sym (ap (λ b. cond b (arms_at ElifLine l ds) (cond (d.level == l) (1 + d.arms) 0))
+      | true ↦ λ e. refl
+      | false ↦ λ e.
+          let k : m ≤ d.level = ltb-false d.level m e in
+          elif_under l m h ds ∙ sym (ap (λ b. cond b (arms_at ElifLine l ds) (cond (d.level == l) (1 + d.arms) 0))
           (is_less l d.level (omega (arith, h, k))))
-] refl
+    ] refl
 
 else_under : (l m : ℕ) → l < m → (ds : List Depth) → arms_at ElseLine l (under m ds) ≡ arms_at ElseLine l ds
 else_under l m h [] = refl
 else_under l m h (d ∷ ds) = elim (nat_lt d.level m) as (λ b. nat_lt d.level m ≡ b → arms_at ElseLine l (cond b (d ∷ ds) (under m ds)) ≡
     arms_at ElseLine l (d ∷ ds)) [
-  | true ↦ λ e. refl
-  | false ↦ λ e.
-      let k : m ≤ d.level = ltb-false d.level m e in
-      else_under l m h ds ∙ sym (ap (λ b. cond b (arms_at ElseLine l ds) (cond (d.level == l) d.arms 0))
+      | true ↦ λ e. refl
+      | false ↦ λ e.
+          let k : m ≤ d.level = ltb-false d.level m e in
+          else_under l m h ds ∙ sym (ap (λ b. cond b (arms_at ElseLine l ds) (cond (d.level == l) d.arms 0))
           (is_less l d.level (omega (arith, h, k))))
-] refl
+    ] refl
 
 -- ---- After any lines.
 
 -- a test of levels, on both sides
 same_here : (l m : ℕ) (f g : ℕ → ℕ) → (m ≡ l → f m ≡ g l) → cond (m == l) (f m) 0 ≡ cond (m == l) (g l) 0
-same_here l m f g h = elim (m == l) as (λ b. m == l ≡ b → cond b (f m) 0 ≡ cond b (g l) 0) [ true ↦ λ e. h (eqb-true m l e)
-    | false ↦ λ e. refl ] refl
+same_here l m f g h = elim (m == l) as (λ b. m == l ≡ b → cond b (f m) 0 ≡ cond b (g l) 0) [
+  | true ↦ λ e. h (eqb-true m l e)
+  | false ↦ λ e. refl
+] refl
 
 same_past : (l m a b c d : ℕ) → (l < m → a ≡ b) → c ≡ d → cond (nat_lt l m) a c ≡ cond (nat_lt l m) b d
 same_past l m a b c d h k = elim (nat_lt l m) as (λ t. nat_lt l m ≡ t → cond t a c ≡ cond t b d)
@@ -89,7 +91,7 @@ round_is l (x ∷ earlier) =
     let k = kind_of x.form in
     elim (nat_lt x.level l) as (λ b. nat_lt x.level l ≡ b →
     cond b (round_at x.level ds + (arms_at k x.level ds + own k)) (round_at l (under x.level ds)) ≡ cond b
-        (around x.level earlier + (elifs k x.level earlier + own k)) (around l earlier)) [
+    (around x.level earlier + (elifs k x.level earlier + own k)) (around l earlier)) [
       | true ↦ λ e. ap (λ z. z + (arms_at k x.level ds + own k)) (round_is x.level earlier)
           ∙ ap (λ z. around x.level earlier + (z + own k)) (arms_are k x.level earlier)
       | false ↦ λ e. round_under l x.level (ltb-false x.level l e) ds ∙ round_is l earlier
@@ -141,19 +143,19 @@ pub within_lines : (k : Kind) (l : ℕ) (earlier : List Line) → around l earli
 within_lines k l [] = omega arith
 within_lines ElifLine l (x ∷ earlier) =
     beside l x.level (around x.level earlier) (elifs (kind_of x.form) x.level earlier) (own (kind_of x.form)) (around l earlier)
-        (elifs ElifLine l earlier) (elifs (kind_of x.form) l earlier) (length earlier) _ _ _ refl refl refl
+    (elifs ElifLine l earlier) (elifs (kind_of x.form) l earlier) (length earlier) _ _ _ refl refl refl
     (own_most (kind_of x.form)) (within_lines (kind_of x.form) x.level earlier) (within_lines ElifLine l earlier)
-        (within_lines (kind_of x.form) l earlier)
+    (within_lines (kind_of x.form) l earlier)
 within_lines ElseLine l (x ∷ earlier) =
     fewer l x.level _ _ _ _ (nat_lt l x.level) (x.level == l)
     (beside l x.level (around x.level earlier) (elifs (kind_of x.form) x.level earlier) (own (kind_of x.form)) (around l earlier)
-        (elifs ElseLine l earlier) (elifs (kind_of x.form) l earlier) (length earlier) _ _ _ refl refl refl
+    (elifs ElseLine l earlier) (elifs (kind_of x.form) l earlier) (length earlier) _ _ _ refl refl refl
     (own_most (kind_of x.form)) (within_lines (kind_of x.form) x.level earlier) (within_lines ElseLine l earlier)
-        (within_lines (kind_of x.form) l earlier))
+    (within_lines (kind_of x.form) l earlier))
 within_lines k l (x ∷ earlier) =
     let h = within_lines k l earlier in
     alone (around x.level earlier) (elifs (kind_of x.form) x.level earlier) (own (kind_of x.form)) (around l earlier)
-        (length earlier) (nat_lt x.level l)
+    (length earlier) (nat_lt x.level l)
     (own_most (kind_of x.form)) (within_lines (kind_of x.form) x.level earlier) (omega (arith, h))
 
 pub depth_within : (x : Line) (earlier : List Line)

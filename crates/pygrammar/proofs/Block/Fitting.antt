@@ -94,7 +94,7 @@ stands_on g h p body s e k = let i : part [] g ≡ p = cc in ap (λ z. stand (gr
 stands_except : (other star : Bool) (first : List Stmt) (hs : List Handler) (m : Option Expr) (name : Option Identifier)
     (p : Part) (body : List Stmt) →
     cond (same_bool other star) (Some (part [] (Caught star first hs))) None ≡ Some p
-        → stand (grows p.group (except_header other m name) body).group ≡ AfterExcept other
+    → stand (grows p.group (except_header other m name) body).group ≡ AfterExcept other
 stands_except true true first hs m name p body e = stands_on (Caught true first hs) (except_header true m name) p body
     (AfterExcept true) e refl
 stands_except false false first hs m name p body e = stands_on (Caught false first hs) (except_header false m name) p body
@@ -185,8 +185,13 @@ fits_header (Choice arms) else_header p e = record { follows = refl; tries = λ 
 fits_header (Loop h b) else_header p e = record { follows = refl; tries = λ i. cc; decorates = λ i. cc; placed = refl }
 fits_header (Caught s b hs) else_header p e = record { follows = refl; tries = λ i. cc; decorates = λ i. cc; placed = refl }
 fits_header (Trial b) (except_header s m n) p e = record { follows = refl; tries = λ i. refl; decorates = λ i. cc; placed = refl }
-fits_header (Caught s b hs) (except_header other m n) p e = record { follows = right_kind other s (part [] (Caught s b hs)) p e; tries =
-    λ i. refl; decorates = λ i. cc; placed = refl }
+fits_header (Caught s b hs) (except_header other m n) p e = record {
+  follows = right_kind other s (part [] (Caught s b hs)) p e;
+  tries =
+      λ i. refl;
+  decorates = λ i. cc;
+  placed = refl;
+}
 fits_header (Trial b) finally_header p e = record { follows = refl; tries = λ i. refl; decorates = λ i. cc; placed = refl }
 fits_header (Caught s b hs) finally_header p e = record { follows = refl; tries = λ i. refl; decorates = λ i. cc; placed = refl }
 fits_header (Settled s b hs o) finally_header p e = record { follows = refl; tries = λ i. refl; decorates = λ i. cc; placed = refl }

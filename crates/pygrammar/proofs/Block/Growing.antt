@@ -29,7 +29,7 @@ Grown l front xs (Trial body) = (suite : Option (List Stmt)) × (ys : List Line)
 Grown l front xs (Caught star body hs) =
     (ys : List Line) (more : List Handler) (zs : List Line) (orelse : List Stmt) (ws : List Line) (final : List Stmt) →
     Excepts l star ys more → Otherwise l zs orelse → Ending l ws final
-        → Statement l (xs ++ (ys ++ (zs ++ ws))) (try_of star body (hs ++ more) orelse final ∷ [])
+    → Statement l (xs ++ (ys ++ (zs ++ ws))) (try_of star body (hs ++ more) orelse final ∷ [])
 Grown l front xs (Settled star body hs orelse) =
     (ws : List Line) (final : List Stmt) → Ending l ws final → Statement l (xs ++ ws) (try_of star body hs orelse final ∷ [])
 Grown l front xs (Matching cs) = (front ≡ []) × Cases l xs cs
@@ -77,7 +77,7 @@ grown_block l front xs (Trial body) ss e k = cc
 grown_block l front xs (Caught star body hs) ss e k =
     let h : try_of star body hs [] [] ∷ [] ≡ ss = cc in
     block_to (append-nil xs) (ap (λ z. try_of star body z [] [] ∷ []) (append-nil hs) ∙ h)
-        (one_block (k [] [] [] [] [] [] no_except no_else no_finally))
+    (one_block (k [] [] [] [] [] [] no_except no_else no_finally))
 grown_block l front xs (Settled star body hs orelse) ss e k = let h : try_of star body hs orelse [] ∷ [] ≡ ss = cc in
     block_to (append-nil xs) h (one_block (k [] [] no_finally))
 grown_block l front xs (Matching cs) ss e k = cc
@@ -97,15 +97,27 @@ begins {l} {xs} {d} {g} zs more g' e p k = record { front = xs; back = zs; is = 
 pub whole : {l : ℕ} {xs : List Line} {d : List Stmt} {g : Group} (zs : List Line) (more ss : List Stmt) → closes g ≡ Some more
     → Prefix l xs d g → Statement l zs ss → Prefix l (xs ++ zs) ((d ++ more) ++ ss) Idle
 whole {l} {xs} {d} {g} zs more ss e p k =
-    record { front = xs ++ zs; back = []; is = sym (append-nil (xs ++ zs)); block =
-        block-append (closed_prefix more e p) (one_block k); grown = refl }
+    record {
+      front = xs ++ zs;
+      back = [];
+      is = sym (append-nil (xs ++ zs));
+      block =
+          block-append (closed_prefix more e p) (one_block k);
+      grown = refl;
+    }
 
 -- lines that go on with a group, and those that make it whole
 pub extends : {l : ℕ} {xs : List Line} {d : List Stmt} {g : Group} (zs : List Line) (g' : Group) → Prefix l xs d g
     → ((front ys : List Line) → Grown l front ys g → Grown l front (ys ++ zs) g') → Prefix l (xs ++ zs) d g'
 extends {l} {xs} {d} {g} zs g' p k =
-    record { front = p.front; back = p.back ++ zs; is = ap (λ y. y ++ zs) p.is ∙ append_assoc p.front p.back zs; block = p.block; grown =
-        k p.front p.back p.grown }
+    record {
+      front = p.front;
+      back = p.back ++ zs;
+      is = ap (λ y. y ++ zs) p.is ∙ append_assoc p.front p.back zs;
+      block = p.block;
+      grown =
+          k p.front p.back p.grown;
+    }
 
 completes : {l : ℕ} {xs : List Line} {d : List Stmt} {g : Group} (zs : List Line) (ss : List Stmt) → Prefix l xs d g
     → ((front ys : List Line) → Grown l front ys g → Statement l (ys ++ zs) ss) → Prefix l (xs ++ zs) (d ++ ss) Idle
@@ -144,7 +156,7 @@ ended_of g p (Some more) c e = record { more = more; closed = c; is = e }
 opens_group : {l : ℕ} {xs ys : List Line} {suite : Option (List Stmt)} {body d : List Stmt} {g : Group} {h : Header}
     (p : Part) (g' : Group) →
     ended g ≡ Some p → Prefix l xs d g → grows Idle h body ≡ part [] g' → Grown l xs (line l (header_form h suite) ∷ ys) g'
-        → GrowsBy l xs suite ys body h d p
+    → GrowsBy l xs suite ys body h d p
 opens_group {l} {xs} {ys} {suite} {body} {d} {g} {h} p g' e k r b =
     let n = ended_of g p (closes g) refl e in
     from_part (part n.more Idle) p n.is (record {
@@ -156,7 +168,7 @@ opens_group {l} {xs} {ys} {suite} {body} {d} {g} {h} p g' e k r b =
 opens_whole : {l : ℕ} {xs ys : List Line} {suite : Option (List Stmt)} {body d : List Stmt} {g : Group} {h : Header}
     (p : Part) (ss : List Stmt) →
     ended g ≡ Some p → Prefix l xs d g → grows Idle h body ≡ part ss Idle → Statement l (line l (header_form h suite) ∷ ys) ss
-        → GrowsBy l xs suite ys body h d p
+    → GrowsBy l xs suite ys body h d p
 opens_whole {l} {xs} {ys} {suite} {body} {d} {g} {h} p ss e k r b =
     let n = ended_of g p (closes g) refl e in
     from_part (part n.more Idle) p n.is (record {
@@ -168,8 +180,8 @@ opens_whole {l} {xs} {ys} {suite} {body} {d} {g} {h} p ss e k r b =
 -- a clause after which the statement goes on, and one that makes it whole
 goes_on : {l : ℕ} {xs ys : List Line} {suite : Option (List Stmt)} {body d : List Stmt} {g : Group} {h : Header} (p : Part) (g' : Group) →
     Some (part [] g) ≡ Some p → Prefix l xs d g → grows g h body ≡ part [] g'
-        → ((front zs : List Line) → Grown l front zs g → Grown l front (zs ++ (line l (header_form h suite) ∷ ys)) g')
-        → GrowsBy l xs suite ys body h d p
+    → ((front zs : List Line) → Grown l front zs g → Grown l front (zs ++ (line l (header_form h suite) ∷ ys)) g')
+    → GrowsBy l xs suite ys body h d p
 goes_on {l} {xs} {ys} {suite} {body} {d} {g} {h} p g' e k r b =
     from_part (part [] g) p e (record {
       prefix =
@@ -180,8 +192,8 @@ goes_on {l} {xs} {ys} {suite} {body} {d} {g} {h} p g' e k r b =
 makes_whole : {l : ℕ} {xs ys : List Line} {suite : Option (List Stmt)} {body d : List Stmt} {g : Group} {h : Header}
     (p : Part) (ss : List Stmt) →
     Some (part [] g) ≡ Some p → Prefix l xs d g → grows g h body ≡ part ss Idle
-        → ((front zs : List Line) → Grown l front zs g → Statement l (zs ++ (line l (header_form h suite) ∷ ys)) ss)
-        → GrowsBy l xs suite ys body h d p
+    → ((front zs : List Line) → Grown l front zs g → Statement l (zs ++ (line l (header_form h suite) ∷ ys)) ss)
+    → GrowsBy l xs suite ys body h d p
 makes_whole {l} {xs} {ys} {suite} {body} {d} {g} {h} p ss e k r b =
     from_part (part [] g) p e (record {
       prefix =
@@ -196,28 +208,28 @@ behind zs x ys ws ss p = lines_to (sym (append_assoc zs (x ∷ ys) ws)) p
 -- a `try` with its block, and what follows
 tried : {l : ℕ} {zs ws : List Line} {first ss : List Stmt} → Grown l [] zs (Trial first) →
     ((suite : Option (List Stmt)) (ys : List Line) → Body l suite ys first
-        → Statement l (line l (header_form try_header suite) ∷ (ys ++ ws)) ss) → Statement l (zs ++ ws) ss
+    → Statement l (line l (header_form try_header suite) ∷ (ys ++ ws)) ss) → Statement l (zs ++ ws) ss
 tried {l} {zs} {ws} {first} {ss} (suite, ys, e, b) k = lines_to (ap (λ z. z ++ ws) (sym e)) (k suite ys b)
 
 more_excepts : {l : ℕ} {xs ys : List Line} {suite : Option (List Stmt)} {body d : List Stmt} (star : Bool) (m : Option Expr)
     (name : Option Identifier) (p : Part) (first : List Stmt) (hs : List Handler) →
     Some (part [] (Caught star first hs)) ≡ Some p → Prefix l xs d (Caught star first hs) → Body l suite ys body
-        → GrowsBy l xs suite ys body (except_header star m name) d p
+    → GrowsBy l xs suite ys body (except_header star m name) d p
 more_excepts {l} {ys = ys} {suite = suite} {body = body} star m name p first hs e k b =
     goes_on p (Caught star first (hs ++ handler m name body ∷ [])) e k refl
     (λ front zs n us more vs orelse ws final q o f.
     behind zs (line l (header_form (except_header star m name) suite)) ys (us ++ (vs ++ ws))
-        (try_of star first ((hs ++ handler m name body ∷ []) ++ more) orelse final ∷ [])
+    (try_of star first ((hs ++ handler m name body ∷ []) ++ more) orelse final ∷ [])
     (tree_to (ap (λ z. try_of star first z orelse final ∷ []) (sym (append_assoc hs (handler m name body ∷ []) more)))
     (lines_to (ap (λ z. zs ++ (line l (header_form (except_header star m name) suite) ∷ z)) (append_assoc ys us (vs ++ ws)))
     (n (line l (header_form (except_header star m name) suite) ∷ (ys ++ us)) (handler m name body ∷ more) vs orelse ws final
-        (except_clause b q) o f))))
+    (except_clause b q) o f))))
 
 -- a further `except`, which is of the kind of those before it
 one_kind : {l : ℕ} {xs ys : List Line} {suite : Option (List Stmt)} {body d : List Stmt} (other star : Bool) (m : Option Expr)
     (name : Option Identifier) (p : Part) (first : List Stmt) (hs : List Handler) →
     cond (same_bool other star) (Some (part [] (Caught star first hs))) None ≡ Some p → Prefix l xs d (Caught star first hs)
-        → Body l suite ys body → GrowsBy l xs suite ys body (except_header other m name) d p
+    → Body l suite ys body → GrowsBy l xs suite ys body (except_header other m name) d p
 one_kind {l} {ys = ys} {suite = suite} {body = body} true true m name p first hs e k b = more_excepts true m name p first hs e k b
 one_kind {l} {ys = ys} {suite = suite} {body = body} false false m name p first hs e k b = more_excepts false m name p first hs e k b
 one_kind true false m name p first hs e k b = cc
@@ -227,17 +239,17 @@ one_kind false true m name p first hs e k b = cc
 cases_more : {l : ℕ} {zs ys : List Line} {cs : List Case} (pattern : Pattern) (guard : Option Expr)
     {suite : Option (List Stmt)} {body : List Stmt} →
     Cases l zs cs → Body l suite ys body → Cases l (zs ++ (line l (header_form (case_header pattern guard) suite) ∷ ys))
-        (cs ++ case_of pattern guard body ∷ [])
+    (cs ++ case_of pattern guard body ∷ [])
 cases_more {l} {ys = ys} pattern guard {suite = suite} {body = body} no_case b =
     let P : List Line → Type 0 = λ z. Cases l (line l (header_form (case_header pattern guard) suite) ∷ z)
-        (case_of pattern guard body ∷ []) in
+    (case_of pattern guard body ∷ []) in
     subst P (append-nil ys) (case_clause b no_case)
 cases_more {l} {ys = ys} pattern guard {suite = suite} {body = body} (case_clause {pattern = q} {guard = r} {suite = s} {xs = us} {ys = vs}
     {body = first} {cs = cs} a c) b =
     let P : List Line → Type 0 = λ z. Cases l (line l (header_form (case_header q r) s) ∷ z)
-        (case_of q r first ∷ (cs ++ case_of pattern guard body ∷ [])) in
+    (case_of q r first ∷ (cs ++ case_of pattern guard body ∷ [])) in
     subst P (sym (append_assoc us vs (line l (header_form (case_header pattern guard) suite) ∷ ys)))
-        (case_clause a (cases_more pattern guard c b))
+    (case_clause a (cases_more pattern guard c b))
 
 -- a header that is no `match`
 pub grows_by : {l : ℕ} {xs ys : List Line} {suite : Option (List Stmt)} {body d : List Stmt} (g : Group) (h : Header) (p : Part) →
@@ -264,20 +276,20 @@ grows_by {l} {ys = ys} {suite = suite} {body = body} (Trial first) (except_heade
     goes_on p (Caught star first (handler m name body ∷ [])) e k refl
     (λ front zs n us more vs orelse ws final q o f.
     behind zs (line l (header_form (except_header star m name) suite)) ys (us ++ (vs ++ ws))
-        (try_of star first (handler m name body ∷ more) orelse final ∷ [])
+    (try_of star first (handler m name body ∷ more) orelse final ∷ [])
     (tried n (λ suite2 ys2 b2. lines_to
     (ap (λ z. line l (header_form try_header suite2) ∷ (ys2 ++ (line l (header_form (except_header star m name) suite) ∷ z)))
-        (append_assoc ys us (vs ++ ws)))
+    (append_assoc ys us (vs ++ ws)))
     (try_except b2 (except_clause b q) o f))))
 grows_by {l} {ys = ys} {suite = suite} {body = body} (Trial first) finally_header p i e k b =
     makes_whole p (try_of false first [] [] body ∷ []) e k refl (λ front zs n. tried n (λ suite2 ys2 b2. try_finally b2 b))
 grows_by {l} {ys = ys} {suite = suite} {body = body} (Caught star first hs) finally_header p i e k b =
     makes_whole p (try_of star first hs [] body ∷ []) e k refl
     (λ front zs n. tree_to (ap (λ z. try_of star first z [] body ∷ []) (append-nil hs))
-        (n [] [] [] [] (line l (header_form finally_header suite) ∷ ys) body no_except no_else (finally_clause b)))
+    (n [] [] [] [] (line l (header_form finally_header suite) ∷ ys) body no_except no_else (finally_clause b)))
 grows_by {l} {ys = ys} {suite = suite} {body = body} (Settled star first hs orelse) finally_header p i e k b =
     makes_whole p (try_of star first hs orelse body ∷ []) e k refl (λ front zs n. n (line l (header_form finally_header suite) ∷ ys)
-        body (finally_clause b))
+    body (finally_clause b))
 grows_by {l} {ys = ys} {suite = suite} {body = body} (Marked es) (def_header head) p i e k b =
     makes_whole p (definition es head body ∷ []) e k refl (λ front zs n. definition_of head n b)
 grows_by {l} {xs} {ys} {suite} {body} {d} (Caught star first hs) (except_header other m name) p i e k b =
@@ -292,12 +304,12 @@ grows_by g h p i e k b = cc
 pub gathers : {l : ℕ} {xs : List Line} {d : List Stmt} (g : Group) (h : Header) (p : Part) → is_match (header_kind h) ≡ true
     → meets g h ≡ Some p → Prefix l xs d g →
     (x : Line) (ys : List Line) (cs : List Case) → Cases (suc l) (x ∷ ys) cs → Prefix l (xs ++ (line l (header_form h None) ∷ (x ∷ ys)))
-        ((d ++ p.done) ++ matched h cs) Idle
+    ((d ++ p.done) ++ matched h cs) Idle
 gathers {l} {xs} {d} g (match_header subject) p i e k x ys cs c =
     let n = ended_of g p (closes g) refl e in
     let j : part n.more Idle ≡ p = cc (n.is) in
     let Q : Part → Type 0 = λ z. Prefix l (xs ++ (line l (header_form (match_header subject) None) ∷ (x ∷ ys)))
-        ((d ++ z.done) ++ (Match subject (cases cs) ∷ [])) Idle in
+    ((d ++ z.done) ++ (Match subject (cases cs) ∷ [])) Idle in
     subst Q j (whole (line l (header_form (match_header subject) None) ∷ (x ∷ ys)) n.more (Match subject (cases cs) ∷ [])
-        n.closed k (match_statement c))
+    n.closed k (match_statement c))
 gathers g h p i e k x ys cs c = cc

@@ -131,11 +131,13 @@ one_whole m r t w n e h k = omega arith
 compound : {l : ℕ} (h : Header) {suite : Option (List Stmt)} {rest : List Line} (n m : ℕ) (earlier : List Line)
     → is_clause (header_kind h) ≡ false → inside l h earlier ≡ suc m →
     Reaches (inside l h earlier) n earlier (line l (header_form h suite) ∷ rest)
-        → Reaches m (max (n + 1) 0) earlier (line l (header_form h suite) ∷ rest)
+    → Reaches m (max (n + 1) 0) earlier (line l (header_form h suite) ∷ rest)
 compound {l} h {suite} {rest} n m earlier c e p =
     let x : Line = line l (header_form h suite) in
-    record { is = one_whole m (inside l h earlier) (top (beginning x earlier)) (deepest (x ∷ earlier) rest) n e
-        (begins_least l h suite earlier c) p.is }
+    record {
+      is = one_whole m (inside l h earlier) (top (beginning x earlier)) (deepest (x ∷ earlier) rest) n e
+          (begins_least l h suite earlier c) p.is;
+    }
 
 -- a header, and the lines of its block
 over_block : (l n : ℕ) (h : Header) (earlier xs : List Line) → Reaches (inside l h earlier) n (line l (header_form h None) ∷ earlier) xs →
@@ -174,7 +176,7 @@ definition_height es (class_head name parameters bases keywords) body = refl
 
 try_height : (star : Bool) (body : List Stmt) (hs : List Handler) (orelse final : List Stmt) →
     max (max (high body) (max (handler_heights (handlers hs)) (max (high orelse) (high final))) + 1) 0 ≡ high
-        (try_of star body hs orelse final ∷ [])
+    (try_of star body hs orelse final ∷ [])
 try_height false body hs orelse final = refl
 try_height true body hs orelse final = refl
 
@@ -216,7 +218,7 @@ mutual
       let g = flat_parts xs ys f in
       reaches_to (sym (high-append ss more))
       (reaches-append (statement_depth p earlier m e g.0)
-          (block_depth q (behind earlier xs) m (around_behind l earlier xs (statement_from p) ∙ e) g.1))
+      (block_depth q (behind earlier xs) m (around_behind l earlier xs (statement_from p) ∙ e) g.1))
 
   pub statement_depth : {l : ℕ} {xs : List Line} {ss : List Stmt} → Statement l xs ss → (earlier : List Line) (m : ℕ) → around l earlier ≡ m
       → AreFlat xs → Reaches m (high ss) earlier xs
@@ -229,7 +231,7 @@ mutual
       (compound h (max (high body) (high orelse)) (around l earlier) earlier refl (inside_is l h earlier refl refl)
       (reaches-append (body_depth h earlier p f.0 g.0)
       (alternative_depth q (behind (line l (header_form h suite) ∷ earlier) xs) (inside l h earlier) (omega (arith, a.round, a.else_count))
-          (omega (arith, a.elif_count, a.else_count)) g.1)))
+      (omega (arith, a.elif_count, a.else_count)) g.1)))
   statement_depth {l} (loop_statement {head = head} {suite = suite} {xs = xs} {ys = ys} {body = body} {orelse = orelse} p q) earlier m e f =
       let h : Header = loop_header head in
       let g = flat_parts xs ys f.1 in
@@ -239,7 +241,7 @@ mutual
       (compound h (max (high body) (high orelse)) (around l earlier) earlier refl (inside_is l h earlier refl refl)
       (reaches-append (body_depth h earlier p f.0 g.0)
       (otherwise_depth q (behind (line l (header_form h suite) ∷ earlier) xs) (inside l h earlier)
-          (omega (arith, a.round, a.else_count)) g.1))))
+      (omega (arith, a.round, a.else_count)) g.1))))
   statement_depth {l} (with_statement {is_async = is_async} {items = items} {body = body} p) earlier m e f =
       let h : Header = with_header is_async items in
       reaches_in e
@@ -286,7 +288,7 @@ mutual
       (record {
         is = decorated m (high body) (deepest earlier ds) (deepest now (x ∷ xs)) _ (decorators_depth d earlier m e)
             (compound h (high body) m now refl (inside_is l h now refl refl ∙ ap suc same) (body_depth h now p g.1.0 g.1.1)).is
-                (deepest-append earlier ds (x ∷ xs));
+            (deepest-append earlier ds (x ∷ xs));
       })
   statement_depth {l} (match_statement {subject = subject} {x = y} {xs = ys} {cs = cs} p) earlier m e f =
       let h : Header = match_header subject in
@@ -294,7 +296,7 @@ mutual
       reaches_in e
       (compound h (case_heights (cases cs)) (around l earlier) earlier refl (inside_is l h earlier refl refl)
       (over_block l (case_heights (cases cs)) h earlier (y ∷ ys)
-          (cases_depth p (x ∷ earlier) (inside l h earlier) (around_inside (suc l) x earlier (omega arith)) f.1)))
+      (cases_depth p (x ∷ earlier) (inside l h earlier) (around_inside (suc l) x earlier (omega arith)) f.1)))
 
   pub body_depth : {l : ℕ} {suite : Option (List Stmt)} {xs : List Line} {ss : List Stmt} (h : Header) (earlier : List Line)
       → Body l suite xs ss →
@@ -303,7 +305,7 @@ mutual
   body_depth {l} h earlier (indented {x = y} {xs = ys} {ss = ss} p) f g =
       let x : Line = line l (header_form h None) in
       over_block l (high ss) h earlier (y ∷ ys)
-          (block_depth p (x ∷ earlier) (inside l h earlier) (around_inside (suc l) x earlier (omega arith)) g)
+      (block_depth p (x ∷ earlier) (inside l h earlier) (around_inside (suc l) x earlier (omega arith)) g)
 
   pub alternative_depth : {l : ℕ} {xs : List Line} {ss : List Stmt} → Alternative l xs ss → (earlier : List Line) (r : ℕ)
       → around l earlier + (elifs ElseLine l earlier + 1) ≡ r →
@@ -316,7 +318,7 @@ mutual
       compound h (max (high body) (high orelse)) r earlier refl (omega (arith, e, k))
       (reaches-append (body_depth h earlier p f.0 g.0)
       (alternative_depth q (behind (line l (header_form h suite) ∷ earlier) xs) (inside l h earlier) (omega (arith, a.round, a.else_count))
-          (omega (arith, a.elif_count, a.else_count)) g.1))
+      (omega (arith, a.elif_count, a.else_count)) g.1))
 
   pub otherwise_depth : {l : ℕ} {xs : List Line} {ss : List Stmt} → Otherwise l xs ss → (earlier : List Line) (r : ℕ)
       → around l earlier + (elifs ElseLine l earlier + 1) ≡ r → AreFlat xs →

@@ -113,9 +113,10 @@ steps_header : (earlier : List Line) (s t : State) (h : Header) (suite : Option 
     → (o : Option Part) → meets t.group h ≡ o →
     Steps earlier (line (length t.below) (header_form h suite)) (or_misplaced o (place_header t h suite))
 steps_header earlier s t h suite r None c = wrong_here earlier (length t.below) s t (header_kind h) r (wrong_header t.group h c)
-steps_header earlier s t h None r (Some p) c =
-    (clear_here earlier (length t.below) s t (header_kind h) r (fits_header t.group h p c),
-        marks_deeper earlier s t h (t.done ++ p.done) p r c)
+steps_header earlier s t h None r (Some p) c = (
+  clear_here earlier (length t.below) s t (header_kind h) r (fits_header t.group h p c),
+  marks_deeper earlier s t h (t.done ++ p.done) p r c,
+)
 steps_header earlier s t h (Some ss) r (Some p) c = (
   clear_here earlier (length t.below) s t (header_kind h) r (fits_header t.group h p c),
   marks_behind earlier s t (header_form h (Some ss)) (joined (t.done ++ p.done) p.group h ss).done
@@ -130,14 +131,16 @@ steps_place earlier s t (decorator_form x) r = steps_decorator earlier s t x r (
 steps_place earlier s t (header_form h suite) r = steps_header earlier s t h suite r (meets t.group h) refl
 
 settled_level : (l : ℕ) (earlier : List Line) (s t : State) → Settled l earlier s.group s.fresh s.below t → length t.below ≤ l
-settled_level l earlier s t h = elim h.by [ inl x ↦ let y : length t.below ≡ length s.below = ap length x.1 in omega (arith, y, x.0)
-    | inr x ↦ let y = x.4 in omega arith ]
+settled_level l earlier s t h = elim h.by [
+  | inl x ↦ let y : length t.below ≡ length s.below = ap length x.1 in omega (arith, y, x.0)
+  | inr x ↦ let y = x.4 in omega arith
+]
 
 steps_placed : (earlier : List Line) (s t : State) (x : Line) → Marks earlier s → Settled x.level earlier s.group s.fresh s.below t
     → Steps earlier x (placed x.level x.form t)
 steps_placed earlier s t x m h =
     elim (nat_lt (length t.below) x.level) as (λ b. nat_lt (length t.below) x.level ≡ b
-        → Steps earlier x (cond b (Faulty UnexpectedIndent) (place t x.form))) [
+    → Steps earlier x (cond b (Faulty UnexpectedIndent) (place t x.form))) [
       | true ↦ λ q. deep_fault earlier x.level s t (kind_of x.form) m h (ltb-true (length t.below) x.level q)
       | false ↦ λ q.
           let a : x.level ≤ length t.below = ltb-false (length t.below) x.level q in
@@ -170,7 +173,7 @@ finds_end earlier s m (Fine t) h =
     let n = settled_level 0 earlier s t h in
     let r : Reached earlier 0 s t = record { marks = m; settled = h; level = omega arith } in
     elim (closes t.group) as (λ o. closes t.group ≡ o
-        → Finds earlier [] [] (elim o [ None ↦ Faulty MisplacedClause | Some ss ↦ Fine (t.done ++ ss) ])) [
+    → Finds earlier [] [] (elim o [ None ↦ Faulty MisplacedClause | Some ss ↦ Fine (t.done ++ ss) ])) [
       | None ↦ λ c. fault_at_end (wrong_here earlier 0 s t EndLine r (wrong_closed t.group EndLine c refl refl refl))
       | Some ss ↦ λ c. clear_end (clear_here earlier 0 s t EndLine r (fits_closed t.group ss EndLine c refl refl))
     ] refl
@@ -185,14 +188,22 @@ finds earlier [] s m =
     finds_end earlier s m (settle 0 s) (settles 0 earlier s.done s.group s.fresh s.below m.stands m.place m.nested m.levels)
 finds earlier (x ∷ xs) s m =
     elim (step s x) as (λ a. Steps earlier x a → Finds earlier (x ∷ xs) (elim a [ Fine t ↦ stops xs t | Faulty e ↦ x ∷ xs ])
-        (then (then a (run xs)) finish)) [
+    (then (then a (run xs)) finish)) [
       | Fine t ↦ λ h. finds_behind earlier x xs (stops xs t) (then (run xs t) finish) h.0 (finds (x ∷ earlier) xs t h.1)
       | Faulty e ↦ λ h. fault_at h
     ] (steps earlier s x m)
 
 start_marks : Marks [] start
-start_marks = record { stands = refl; levels = tt; opened = refl; fresh_level = λ i. cc; level = λ i. refl; marked = refl;
-    place = refl; nested = refl }
+start_marks = record {
+  stands = refl;
+  levels = tt;
+  opened = refl;
+  fresh_level = λ i. cc;
+  level = λ i. refl;
+  marked = refl;
+  place = refl;
+  nested = refl;
+}
 
 -- the reading finds the tree, or the first fault
 pub read_finds : (xs : List Line) → Finds [] xs (stops xs start) (read xs)
@@ -242,7 +253,7 @@ pub fault_or_tree : (xs : List Line) → are_proper xs ≡ true
     → ((ss : List Stmt) × Block 0 xs ss) ⊎ ((rest : List Line) × (f : Fault) × FirstFault [] xs rest f)
 fault_or_tree xs o =
     elim (read xs) as (λ a. read xs ≡ a → Finds [] xs (stops xs start) a
-        → ((ss : List Stmt) × Block 0 xs ss) ⊎ ((rest : List Line) × (f : Fault) × FirstFault [] xs rest f)) [
+    → ((ss : List Stmt) × Block 0 xs ss) ⊎ ((rest : List Line) × (f : Fault) × FirstFault [] xs rest f)) [
       | Fine ss ↦ λ e h. inl (ss, read_gives xs ss o e)
       | Faulty f ↦ λ e h. inr (stops xs start, f, h)
     ] refl (read_finds xs)

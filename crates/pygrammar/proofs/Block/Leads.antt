@@ -39,7 +39,7 @@ leads_none l d g = record { go = λ s f below n h. h }
 go_on : (l : ℕ) (ys : List Line) (d1 d2 : List Stmt) (g1 g2 : Group) → Leads l ys d1 g1 d2 g2
     → (f : Bool) (below : List Waiting) → length below ≡ l →
     (a : Answer State) → then a (settle l) ≡ Fine (state d1 g1 f below)
-        → then a (λ t. then (run ys t) (settle l)) ≡ Fine (state d2 g2 (still ys f) below)
+    → then a (λ t. then (run ys t) (settle l)) ≡ Fine (state d2 g2 (still ys f) below)
 go_on l ys d1 d2 g1 g2 q f below n (Fine t) h = q.go t f below n h
 go_on l ys d1 d2 g1 g2 q f below n (Faulty e) h = cc
 
@@ -104,7 +104,7 @@ body_inline l ss d g h p i e =
 after_block : (l : ℕ) (d1 : List Stmt) (g1 : Group) (w : Waiting) (below : List Waiting) (p : Part)
     → above w d1 g1 ≡ Some p → length below ≡ l →
     (a : Answer State) → then a (settle (suc l)) ≡ Fine (state d1 g1 false (w ∷ below))
-        → then a (settle l) ≡ Fine (state p.done p.group false below)
+    → then a (settle l) ≡ Fine (state p.done p.group false below)
 after_block l d1 g1 w below p c n (Fine t) h = settle_block l t d1 g1 w below p n h c
 after_block l d1 g1 w below p c n (Faulty f) h = cc
 
@@ -116,10 +116,10 @@ with_lines l x xs d d1 g g1 h p q e c u = record {
   go = λ s f below n k.
       let w : Waiting = waiting (d ++ p.done) p.group h in
       ap (λ a. then (then a (run (x ∷ xs))) (settle l)) (step_here s l (header_form h None) (state d g f below) n k
-          ∙ ap (λ o. or_misplaced o (place_header (state d g f below) h None)) e)
+      ∙ ap (λ o. or_misplaced o (place_header (state d g f below) h None)) e)
       ∙ after_block l d1 g1 w below q u n (run (x ∷ xs) (state [] (first_group h) true (w ∷ below)))
       (c.go (state [] (first_group h) true (w ∷ below)) true (w ∷ below) (ap suc n)
-          (settle_here (suc l) [] (first_group h) true (w ∷ below) (omega (arith, n))));
+      (settle_here (suc l) [] (first_group h) true (w ∷ below) (omega (arith, n))));
 }
 
 body_indented : (l : ℕ) (x : Line) (xs : List Line) (ss : List Stmt) → Gives (suc l) (x ∷ xs) ss → GivesBody l None (x ∷ xs) ss
@@ -169,7 +169,7 @@ last_clause : {l : ℕ} {suite : Option (List Stmt)} {xs : List Line} {body : Li
     Closing l (line l (header_form h suite) ∷ xs) d g (d ++ whole body)
 last_clause {l} {suite} {xs} {body} h whole d g i b m e =
     closing_whole (leads_to (ap (λ p. (d ++ []) ++ p.done) e ∙ ap (λ z. z ++ whole body) (append-nil d)) (ap (λ p. p.group) e)
-        (b d g h (part [] g) i m))
+    (b d g h (part [] g) i m))
 
 no_clause : (l : ℕ) (whole : List Stmt → List Stmt) (d : List Stmt) (g : Group) → closes g ≡ Some (whole [])
     → Closing l [] d g (d ++ whole [])
@@ -207,8 +207,14 @@ GivesElse l xs orelse = GivesLast l else_header xs orelse × ((star : Bool) (bod
 no_else_gives : (l : ℕ) → GivesElse l [] []
 no_else_gives l = (
   λ whole d g c m e. no_clause l whole d g c,
-  λ star body hs d. record { group = Caught star body hs; leads = leads_none l d (Caught star body hs); closed = refl; meeting =
-      refl; growing = λ b. refl },
+  λ star body hs d. record {
+    group = Caught star body hs;
+    leads = leads_none l d (Caught star body hs);
+    closed = refl;
+    meeting =
+        refl;
+    growing = λ b. refl;
+  },
 )
 
 else_gives : (l : ℕ) (suite : Option (List Stmt)) (xs : List Line) (orelse : List Stmt) → GivesBody l suite xs orelse
@@ -232,18 +238,18 @@ marked_goes {l} no_decorator d first = leads_to refl (ap Marked (sym (append-nil
 marked_goes {l} (decorator {e = e} {xs = xs} {es = es} p) d first =
     leads_to refl (ap Marked (append_assoc first (e ∷ []) es))
     (leads-append (one_line l (decorator_form e) d d (Marked first) (Marked (first ++ e ∷ []))
-        (λ b below. ap (λ z. Fine (state z (Marked (first ++ e ∷ [])) false below)) (append-nil d)))
+    (λ b below. ap (λ z. Fine (state z (Marked (first ++ e ∷ [])) false below)) (append-nil d)))
     (marked_goes p d (first ++ e ∷ [])))
 
 definition_gives : {l : ℕ} (head : DefHead) {suite : Option (List Stmt)} {ds xs : List Line} {es : List Expr} {body : List Stmt} →
     Decorators l ds es → GivesBody l suite xs body → Gives l (ds ++ (line l (header_form (def_header head) suite) ∷ xs))
-        (definition es head body ∷ [])
+    (definition es head body ∷ [])
 definition_gives head {body = body} no_decorator b d g more c =
     closing_whole (b d g (def_header head) (part more Idle) refl (ends_def g head more c))
 definition_gives {l} head {body = body} (decorator {e = e} {xs = ds} {es = es} p) b d g more c =
     closing_whole (leads-append
     (leads-append (one_line l (decorator_form e) d (d ++ more) g (Marked (e ∷ []))
-        (λ f below. ap (λ o. or_misplaced o (λ p. state (d ++ p.done) p.group false below)) (ends_marked g e more c)))
+    (λ f below. ap (λ o. or_misplaced o (λ p. state (d ++ p.done) p.group false below)) (ends_marked g e more c)))
     (marked_goes p (d ++ more) (e ∷ [])))
     (leads_to (ap (λ z. z ++ (definition (e ∷ es) head body ∷ [])) (append-nil (d ++ more))) refl
     (b (d ++ more) (Marked (e ∷ es)) (def_header head) (part [] (Marked (e ∷ es))) refl refl)))
@@ -253,7 +259,7 @@ match_gives : (l : ℕ) (subject : Expr) (x : Line) (xs : List Line) (cs : List 
     Gives l (line l (header_form (match_header subject) None) ∷ (x ∷ xs)) (Match subject (cases cs) ∷ [])
 match_gives l subject x xs cs ih d g more c =
     closing_whole (with_lines l x xs d [] g (Matching cs) (match_header subject) (part more Idle)
-        (part ((d ++ more) ++ (Match subject (cases cs) ∷ [])) Idle) (ends g more c) (ih [] []) refl)
+    (part ((d ++ more) ++ (Match subject (cases cs) ∷ [])) Idle) (ends g more c) (ih [] []) refl)
 
 pub no_gap : (d x : List Stmt) → (d ++ []) ++ x ≡ d ++ x
 no_gap d x = ap (λ z. z ++ x) (append-nil d)
@@ -271,21 +277,27 @@ same_fine a b e = cc
 
 mutual
   pub block_gives : {l : ℕ} {xs : List Line} {ss : List Stmt} → Block l xs ss → Gives l xs ss
-  block_gives {l} nothing d g more c = record { done = d; group = g; last = more; closed = c; is = sym (append-nil (d ++ more));
-      leads = leads_none l d g }
+  block_gives {l} nothing d g more c = record {
+    done = d;
+    group = g;
+    last = more;
+    closed = c;
+    is = sym (append-nil (d ++ more));
+    leads = leads_none l d g;
+  }
   block_gives {l} (and_then {ss = ss} {more = rest} p q) d g more c =
       let a = statement_gives p d g more c in
       closing_to (ap (λ z. z ++ rest) a.is ∙ append_assoc (d ++ more) ss rest)
-          (closing-append a.leads (block_gives q a.done a.group a.last a.closed))
+      (closing-append a.leads (block_gives q a.done a.group a.last a.closed))
 
   pub statement_gives : {l : ℕ} {xs : List Line} {ss : List Stmt} → Statement l xs ss → Gives l xs ss
   statement_gives {l} (simple_line {ss = ss}) d g more c =
       closing_whole (one_line l (simple_form ss) d ((d ++ more) ++ ss) g Idle
-          (λ f below. ap (λ o. or_misplaced o (λ more. state ((d ++ more) ++ ss) Idle false below)) c))
+      (λ f below. ap (λ o. or_misplaced o (λ more. state ((d ++ more) ++ ss) Idle false below)) c))
   statement_gives {l} (if_statement {test = test} {body = body} {orelse = orelse} p q) d g more c =
       closing_to (no_gap (d ++ more) (choice (arm test body ∷ []) orelse))
       (closing-append (body_gives p d g (if_header test) (part more Idle) refl (ends g more c))
-          (alternative_gives q ((d ++ more) ++ []) (arm test body ∷ [])))
+      (alternative_gives q ((d ++ more) ++ []) (arm test body ∷ [])))
   statement_gives {l} (loop_statement {head = head} {body = body} {orelse = orelse} p q) d g more c =
       closing_to (no_gap (d ++ more) (loop head body orelse ∷ []))
       (closing-append (body_gives p d g (loop_header head) (part more Idle) refl (ends g more c))
@@ -304,7 +316,7 @@ mutual
       (closing-append (body_gives p d g try_header (part more Idle) refl (ends g more c))
       (closing-append (leads-append
       (leads_to (append-nil (z ++ []) ∙ append-nil z) refl (body_gives r z (Trial body) (except_header star m n)
-          (part [] (Trial body)) refl refl))
+      (part [] (Trial body)) refl refl))
       (excepts_gives q z body (handler m n first ∷ [])))
       (closing-append k.leads
       (ending_gives e (λ f. try_of star body (handler m n first ∷ hs) orelse f ∷ []) z k.group k.closed k.meeting k.growing))))
@@ -322,7 +334,7 @@ mutual
       closing_to (ap (λ z. d ++ z) (choice-append arms (arm test body) orelse))
       (closing-append
       (leads_to (append-nil (d ++ []) ∙ append-nil d) refl
-          (body_gives p d (Choice arms) (elif_header test) (part [] (Choice arms)) refl refl))
+      (body_gives p d (Choice arms) (elif_header test) (part [] (Choice arms)) refl refl))
       (alternative_gives q d (arms ++ arm test body ∷ [])))
 
   pub else_clause_gives : {l : ℕ} {xs : List Line} {ss : List Stmt} → Otherwise l xs ss → GivesElse l xs ss
@@ -346,7 +358,7 @@ mutual
       leads_to refl (ap Matching (append_assoc first (case_of pattern guard b ∷ []) cs))
       (leads-append
       (leads_to (append-nil (d ++ []) ∙ append-nil d) refl (body_gives p d (Matching first) (case_header pattern guard)
-          (part [] (Matching first)) refl refl))
+      (part [] (Matching first)) refl refl))
       (cases_gives q d (first ++ case_of pattern guard b ∷ [])))
 
   pub ending_gives : {l : ℕ} {xs : List Line} {ss : List Stmt} → Ending l xs ss → GivesLast l finally_header xs ss

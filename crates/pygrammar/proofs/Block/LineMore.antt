@@ -26,7 +26,7 @@ formed_on (formed_line k p) h = formed_line k (formed_on p h)
 pub unread_on : {profile : Profile} {earlier : List Line} {xs : List Tokens.Line} {ys : List Line} {x : Tokens.Line} {c : Code}
     → Formed profile earlier xs ys →
     Unread profile (stands_in_match x.level (behind earlier ys)) x c → (more : List Tokens.Line)
-        → FirstUnread profile earlier (xs ++ (x ∷ more)) (length xs) c
+    → FirstUnread profile earlier (xs ++ (x ∷ more)) (length xs) c
 unread_on formed_end h more = unread h
 unread_on (formed_line k p) h more = unread_behind k (unread_on p h more)
 
@@ -56,7 +56,7 @@ pub fault_found : (xs : List Line) (x : Line) (s : State) (f : Fault) → run xs
 fault_found xs x s f h e more =
     let whole = xs ++ (x ∷ more) in
     let last : stops whole start ≡ x ∷ more = stops_on xs (x ∷ more) start s h
-        ∙ ap (λ a. elim a [ Fine t ↦ stops more t | Faulty f ↦ x ∷ more ]) e in
+    ∙ ap (λ a. elim a [ Fine t ↦ stops more t | Faulty f ↦ x ∷ more ]) e in
     let answer : read whole ≡ Faulty f =
     ap (λ a. then a finish) (run-append xs (x ∷ more) start ∙ ap (λ a. then a (run (x ∷ more))) h ∙ ap (λ a. then a (run more)) e) in
     let P : Answer (List Stmt) → Type 0 = λ a. Finds [] whole (stops whole start) a in

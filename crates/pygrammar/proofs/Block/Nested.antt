@@ -23,10 +23,10 @@ ends_of w d (Matching cs) p e = let P : Part → Type 0 = λ z. Ends w d (Matchi
     p = cc in subst P i (ends_cases cs)
 ends_of w d g p e = elim (closes g) as (λ o. closes g ≡ o
     → elim o [ None ↦ None | Some ss ↦ Some (joined w.done w.group w.header (d ++ ss)) ] ≡ Some p → Ends w d g p) [
-  | None ↦ λ c k. cc
-  | Some ss ↦ λ c k. let P : Part → Type 0 = λ z. Ends w d g z in let i : joined w.done w.group w.header (d ++ ss) ≡ p = cc in
-      subst P i (ends_block ss c)
-] refl e
+      | None ↦ λ c k. cc
+      | Some ss ↦ λ c k. let P : Part → Type 0 = λ z. Ends w d g z in let i : joined w.done w.group w.header (d ++ ss) ≡ p = cc in
+          subst P i (ends_block ss c)
+    ] refl e
 
 -- ---- Groups in the block of a `match`.
 
@@ -66,7 +66,7 @@ same_on g h p body e k = let i : part [] g ≡ p = cc in ap (λ z. is_matching (
 same_except : (other star : Bool) (first : List Stmt) (hs : List Handler) (m : Option Expr) (name : Option Identifier)
     (p : Part) (body : List Stmt) →
     cond (same_bool other star) (Some (part [] (Caught star first hs))) None ≡ Some p
-        → is_matching (grows p.group (except_header other m name) body).group ≡ false
+    → is_matching (grows p.group (except_header other m name) body).group ≡ false
 same_except true true first hs m name p body e = same_on (Caught true first hs) (except_header true m name) p body e refl
 same_except false false first hs m name p body e = same_on (Caught false first hs) (except_header false m name) p body e refl
 same_except true false first hs m name p body e = cc

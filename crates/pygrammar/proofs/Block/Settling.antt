@@ -138,39 +138,42 @@ settles_up l earlier g g' w below (Faulty e) n s c m m' h = record {
 settles_pop : (l : ℕ) (earlier : List Line) (d : List Stmt) (g : Group) (f : Bool) (w : Waiting) (below : List Waiting)
     → l < length (w ∷ below) →
     standing (length (w ∷ below)) earlier ≡ stand g
-        → ((p : Part) → Ends w d g p → Settles l earlier p.group false below (settle_in l p.done p.group false below)) →
+    → ((p : Part) → Ends w d g p → Settles l earlier p.group false below (settle_in l p.done p.group false below)) →
     Settles l earlier g f (w ∷ below) (cond f (Faulty ExpectedIndent) (popped l d g w below))
 settles_pop l earlier d g true w below n s k = record { above = n; why = inl (refl, refl) }
 settles_pop l earlier d g false w below n s k =
     elim (above w d g) as (λ o. above w d g ≡ o
-        → Settles l earlier g false (w ∷ below)
-        (elim o [ None ↦ Faulty MisplacedClause | Some p ↦ settle_in l p.done p.group false below ])) [
-      | None ↦ λ c. record { above = n; why =
-          inr (refl, refl, elim (open_group w d g c) [ inl a ↦ inl (length (w ∷ below), n, s ∙ a) | inr a ↦ inr a ]) }
+    → Settles l earlier g false (w ∷ below)
+    (elim o [ None ↦ Faulty MisplacedClause | Some p ↦ settle_in l p.done p.group false below ])) [
+      | None ↦ λ c. record {
+        above = n;
+        why =
+            inr (refl, refl, elim (open_group w d g c) [ inl a ↦ inl (length (w ∷ below), n, s ∙ a) | inr a ↦ inr a ]);
+      }
       | Some p ↦ λ c.
           let e = ends_of w d g p c in
           settles_up l earlier g p.group w below (settle_in l p.done p.group false below) n s (ends_no_try w d g p e)
-              (ends_unmarked w d g p e) (left_unmarked w d g p e) (k p e)
+          (ends_unmarked w d g p e) (left_unmarked w d g p e) (k p e)
     ] refl
 
 stays_settled : (l : ℕ) (earlier : List Line) (d : List Stmt) (g : Group) (f : Bool) (below : List Waiting) → length below ≤ l
     → standing (length below) earlier ≡ stand g →
     stands_in_match (length below) earlier ≡ in_match below → AreNested g below → Levels earlier below
-        → Settled l earlier g f below (state d g f below)
+    → Settled l earlier g f below (state d g f below)
 stays_settled l earlier d g f below n s i a k =
     record { stands = s; levels = k; place = i; nested = a; tries = λ m a b i. absurd (omega arith); by = inl (n, refl, refl, refl) }
 
 pub settles : (l : ℕ) (earlier : List Line) (d : List Stmt) (g : Group) (f : Bool) (below : List Waiting)
     → standing (length below) earlier ≡ stand g →
     stands_in_match (length below) earlier ≡ in_match below → AreNested g below → Levels earlier below
-        → Settles l earlier g f below (settle_in l d g f below)
+    → Settles l earlier g f below (settle_in l d g f below)
 settles l earlier d g f [] s i a k = stays_settled l earlier d g f [] (omega arith) s i a k
 settles l earlier d g f (w ∷ below) s i a k =
     elim (nat_lt l (length (w ∷ below))) as (λ b. nat_lt l (length (w ∷ below)) ≡ b →
     Settles l earlier g f (w ∷ below) (cond b (cond f (Faulty ExpectedIndent) (popped l d g w below)) (Fine (state d g f (w ∷ below))))) [
       | true ↦ λ n. settles_pop l earlier d g f w below (ltb-true l (length (w ∷ below)) n) s
           (λ p e. settles l earlier p.done p.group false below (left_stands (standing (length below) earlier) w d g p e a.0 k.0) k.1
-              (nested_pop w d g p below e a) k.2)
+          (nested_pop w d g p below e a) k.2)
       | false ↦ λ n. stays_settled l earlier d g f (w ∷ below) (ltb-false l (length (w ∷ below)) n) s i a k
     ] refl
 
@@ -205,8 +208,10 @@ no_expected earlier l s t r o n =
 
 reached_below : (earlier : List Line) (l : ℕ) (s t : State) → Reached earlier l s t → l ≤ length s.below
 reached_below earlier l s t r =
-    elim r.settled.by [ inl x ↦ let y : length t.below ≡ length s.below = ap length x.1 in omega (arith, y, r.level)
-        | inr x ↦ let y = x.0 in omega arith ]
+    elim r.settled.by [
+      | inl x ↦ let y : length t.below ≡ length s.below = ap length x.1 in omega (arith, y, r.level)
+      | inr x ↦ let y = x.0 in omega arith
+    ]
 
 no_unexpected : (earlier : List Line) (l : ℕ) (s t : State) → Reached earlier l s t → (k : Kind) → HasFault earlier l k UnexpectedIndent → ⊥
 no_unexpected earlier l s t r k h = unexpected h
@@ -287,7 +292,7 @@ clear_here earlier l s t k r f = record { none = λ e h. clears e h }
     wrongly (not_by_place e) =
         let a : same_bool (is_matching t.group) (is_case k) ≡ true = f.placed in
         let b : same_bool (stands_in_match l earlier) (is_case k) ≡ same_bool (is_matching t.group) (is_case k) =
-            ap (λ z. same_bool z (is_case k)) (place_is earlier l s t r) in cc
+        ap (λ z. same_bool z (is_case k)) (place_is earlier l s t r) in cc
 
     clears : (e : Fault) → HasFault earlier l k e → ⊥
     clears ExpectedIndent (not_deeper o n) = no_expected earlier l s t r o n
@@ -333,7 +338,7 @@ pub wrong_here : (earlier : List Line) (l : ℕ) (s t : State) (k : Kind) → Re
     → IsFault earlier l k MisplacedClause
 wrong_here earlier l s t k r h =
     only_misplaced earlier l k (λ i. let v = expected_of earlier l k i in no_expected earlier l s t r v.0 v.1)
-        (no_unexpected earlier l s t r k) (elim h [
+    (no_unexpected earlier l s t r k) (elim h [
       | wrong_follow a ↦ not_taken (may_follow_is k l earlier ∙ ap (admits k) stood ∙ a)
       | wrong_try a b ↦ let y = try_at l earlier (stood ∙ a) in ends_try {x = y.first} {more = y.more} l y.is y.kind (omega arith) (λ i. b)
       | wrong_decorator a b ↦ ends_marks earlier l k (r.marks.marked ∙ marked_before a) (λ i. b)
@@ -373,7 +378,7 @@ unsettled_fault earlier l s k MisplacedClause m u = elim u.why [
       let a = u.above in
       only_misplaced earlier l k
       (λ i. let v = expected_of earlier l k i in let o : opens_before earlier ≡ true = v.0 in
-          let p : opens_before earlier ≡ false = m.opened ∙ x.1 in cc)
+      let p : opens_before earlier ≡ false = m.opened ∙ x.1 in cc)
       (λ i. let v = unexpected_of earlier l k i in omega arith)
       (elim x.2 [
         | inl y ↦ let z = try_at y.0 earlier y.2 in ends_try {x = z.first} {more = z.more} y.0 z.is z.kind (let b = y.1 in omega arith)

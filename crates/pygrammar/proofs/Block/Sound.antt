@@ -23,7 +23,7 @@ use Rattle.pygrammar.proofs.Block.Nested.{nested_on, nested_deeper, nested_pop, 
 pub record Awaits (l : ℕ) (xs : List Line) (w : Waiting) : Type 0 where
   pub grow : is_match (header_kind w.header) ≡ false → (ys : List Line) (body : List Stmt) → Body l None ys body →
       Prefix l (xs ++ (line l (header_form w.header None) ∷ ys)) (joined w.done w.group w.header body).done
-          (joined w.done w.group w.header body).group
+      (joined w.done w.group w.header body).group
   pub gather : is_match (header_kind w.header) ≡ true → (y : Line) (ys : List Line) (cs : List Case) → Cases (suc l) (y ∷ ys) cs →
       Prefix l (xs ++ (line l (header_form w.header None) ∷ (y ∷ ys))) (w.done ++ matched w.header cs) Idle
 
@@ -31,7 +31,7 @@ abbrev pub Stack : List Line → List Waiting → Type 0
 Stack seen [] = seen ≡ []
 Stack seen (w ∷ below) =
     (earlier : List Line) × (xs : List Line) × (seen ≡ earlier ++ (xs ++ (line (length below) (header_form w.header None) ∷ []))) × Stack
-        earlier below × Awaits (length below) xs w
+    earlier below × Awaits (length below) xs w
 
 -- a level that is not fresh has had a line, but perhaps the lowest
 abbrev pub IsFilled : Bool → List Waiting → List Line → Type 0
@@ -67,7 +67,7 @@ cases_of l front back here cs e k = let P : List Line → Type 0 = λ z. Cases l
 gathered : (l : ℕ) (w : Waiting) (below : List Waiting) (xs ys : List Line) (cs : List Case) → Awaits l xs w
     → is_match (header_kind w.header) ≡ true →
     IsFilled false (w ∷ below) ys → Cases (suc l) ys cs → Prefix l (xs ++ (line l (header_form w.header None) ∷ ys))
-        (w.done ++ matched w.header cs) Idle
+    (w.done ++ matched w.header cs) Idle
 gathered l w below xs [] cs a i h c = absurd h
 gathered l w below xs (y ∷ ys) cs a i h c = a.gather i y ys cs c
 
@@ -79,7 +79,7 @@ ends_prefix seen d g w below p h (ends_cases cs) =
     (cases_of (suc (length below)) h.prefix.front h.prefix.back h.here cs h.prefix.is h.prefix.grown)
 ends_prefix seen d g w below p h (ends_block ss c) =
     h.stack.4.grow (sym h.nested.0 ∙ closed_unmatched g ss c) h.here (d ++ ss) (body_of (length below) w below h.here (d ++ ss) h.filled
-        (closed_prefix ss c h.prefix))
+    (closed_prefix ss c h.prefix))
 
 -- a level comes to its end
 joins : (seen : List Line) (d : List Stmt) (g : Group) (w : Waiting) (below : List Waiting) (p : Part) → Holds seen d g false (w ∷ below)
@@ -109,13 +109,13 @@ settle_pops : (l : ℕ) (seen : List Line) (d : List Stmt) (g : Group) (f : Bool
     → Holds seen d g f (w ∷ below) →
     cond f (Faulty ExpectedIndent) (popped l d g w below) ≡ Fine t →
     ((p : Part) → Holds seen p.done p.group false below → settle_in l p.done p.group false below ≡ Fine t
-        → HoldsState seen t × (length t.below ≤ l)) →
+    → HoldsState seen t × (length t.below ≤ l)) →
     HoldsState seen t × (length t.below ≤ l)
 settle_pops l seen d g true w below t h e k = cc
 settle_pops l seen d g false w below t h e k =
     elim (above w d g) as (λ o. above w d g ≡ o
-        → elim o [ None ↦ Faulty MisplacedClause | Some p ↦ settle_in l p.done p.group false below ] ≡ Fine t
-        → HoldsState seen t × (length t.below ≤ l)) [
+    → elim o [ None ↦ Faulty MisplacedClause | Some p ↦ settle_in l p.done p.group false below ] ≡ Fine t
+    → HoldsState seen t × (length t.below ≤ l)) [
       | None ↦ λ c i. cc
       | Some p ↦ λ c i. k p (joins seen d g w below p h c) i
     ] refl e
@@ -128,8 +128,8 @@ settle_holds l seen d g f [] t h e =
     let P : State → Type 0 = λ z. HoldsState seen z × (length z.below ≤ l) in subst P i (h, omega arith)
 settle_holds l seen d g f (w ∷ below) t h e =
     elim (nat_lt l (length (w ∷ below))) as (λ b. nat_lt l (length (w ∷ below)) ≡ b
-        → cond b (cond f (Faulty ExpectedIndent) (popped l d g w below)) (Fine (state d g f (w ∷ below))) ≡ Fine t
-        → HoldsState seen t × (length t.below ≤ l)) [
+    → cond b (cond f (Faulty ExpectedIndent) (popped l d g w below)) (Fine (state d g f (w ∷ below))) ≡ Fine t
+    → HoldsState seen t × (length t.below ≤ l)) [
       | true ↦ λ n k. settle_pops l seen d g f w below t h k (λ p hh kk. settle_holds l seen p.done p.group false below t hh kk)
       | false ↦ λ n k.
           let i : state d g f (w ∷ below) ≡ t = cc in
@@ -165,7 +165,7 @@ first_prefix l _ = record { front = []; back = []; is = refl; block = nothing; g
 place_header_holds : (seen : List Line) (d : List Stmt) (g : Group) (f : Bool) (below : List Waiting) (h : Header)
     (suite : Option (List Stmt)) (p : Part) → is_proper (header_form h suite) ≡ true →
     Holds seen d g f below → meets g h ≡ Some p → Then seen (line (length below) (header_form h suite))
-        (place_header (state d g f below) h suite p)
+    (place_header (state d g f below) h suite p)
 place_header_holds seen d g f below h None p i k m = record {
   earlier = seen ++ (line (length below) (header_form h None) ∷ []);
   here = [];
@@ -184,7 +184,7 @@ place_header_holds seen d g f below h None p i k m = record {
 }
 place_header_holds seen d g f below h (Some ss) p i k m =
     stays (line (length below) (header_form h (Some ss))) (joined (d ++ p.done) p.group h ss).done (joined (d ++ p.done) p.group h ss).group
-        (grows_same g h p ss m) k
+    (grows_same g h p ss m) k
     (grows_by g h p (proper_no_match h ss i) m k.prefix inline).prefix
 
 decorators-append : {l : ℕ} {xs ys : List Line} {es fs : List Expr} → Decorators l xs es → Decorators l ys fs
@@ -195,7 +195,7 @@ decorators-append (decorator p) q = decorator (decorators-append p q)
 marks : (seen : List Line) (d : List Stmt) (g : Group) (f : Bool) (below : List Waiting) (x : Expr) (p : Part) → Holds seen d g f below
     → (o : Option (List Stmt)) → closes g ≡ o →
     elim o [ None ↦ None | Some ss ↦ Some (part ss (Marked (x ∷ []))) ] ≡ Some p
-        → Holds (seen ++ (line (length below) (decorator_form x) ∷ [])) (d ++ p.done) p.group false below
+    → Holds (seen ++ (line (length below) (decorator_form x) ∷ [])) (d ++ p.done) p.group false below
 marks seen d g f below x p k None c e = cc
 marks seen d g f below x p k (Some more) c e =
     let i : part more (Marked (x ∷ [])) ≡ p = cc in
@@ -211,18 +211,18 @@ decorated_holds seen d (Marked es) f below x p k e =
     let P : Part → Type 0 = λ z. Holds (seen ++ (line (length below) (decorator_form x) ∷ [])) (d ++ z.done) z.group false below in
     subst P i (stays (line (length below) (decorator_form x)) (d ++ []) (Marked (es ++ x ∷ [])) refl k
     (prefix_to (sym (append-nil d)) (extends (line (length below) (decorator_form x) ∷ []) (Marked (es ++ x ∷ [])) k.prefix
-        (λ front ys n. decorators-append n (decorator no_decorator)))))
+    (λ front ys n. decorators-append n (decorator no_decorator)))))
 decorated_holds seen d g f below x p k e = marks seen d g f below x p k (closes g) refl e
 
 simple_holds : (seen : List Line) (s : State) (ss : List Stmt) (t : State) → HoldsState seen s
     → (o : Option (List Stmt)) → closes s.group ≡ o →
     or_misplaced o (λ more. state ((s.done ++ more) ++ ss) Idle false s.below) ≡ Fine t
-        → Then seen (line (length s.below) (simple_form ss)) t
+    → Then seen (line (length s.below) (simple_form ss)) t
 simple_holds seen s ss t h None c e = cc
 simple_holds seen s ss t h (Some more) c e =
     state_is (seen ++ (line (length s.below) (simple_form ss) ∷ [])) (state ((s.done ++ more) ++ ss) Idle false s.below) t e
     (stays (line (length s.below) (simple_form ss)) ((s.done ++ more) ++ ss) Idle (sym (closed_unmatched s.group more c)) h
-        (whole (line (length s.below) (simple_form ss) ∷ []) more ss c h.prefix simple_line))
+    (whole (line (length s.below) (simple_form ss) ∷ []) more ss c h.prefix simple_line))
 
 decorator_holds : (seen : List Line) (s : State) (x : Expr) (t : State) → HoldsState seen s → (o : Option Part) → decorated s.group x ≡ o →
     or_misplaced o (λ p. state (s.done ++ p.done) p.group false s.below) ≡ Fine t → Then seen (line (length s.below) (decorator_form x)) t
@@ -249,7 +249,7 @@ placed_holds : (seen : List Line) (x : Line) (t u : State) → is_proper x.form 
     → placed x.level x.form u ≡ Fine t → Then seen x t
 placed_holds seen x t u o h n e =
     elim (nat_lt (length u.below) x.level) as (λ b. nat_lt (length u.below) x.level ≡ b
-        → cond b (Faulty UnexpectedIndent) (place u x.form) ≡ Fine t → Then seen x t) [
+    → cond b (Faulty UnexpectedIndent) (place u x.form) ≡ Fine t → Then seen x t) [
       | true ↦ λ k i. cc
       | false ↦ λ k i.
           let m : x.level ≤ length u.below = ltb-false (length u.below) x.level k in
@@ -280,7 +280,7 @@ proper_parts x xs o = both (is_proper x.form) (are_proper xs) o
 run_holds : (seen xs : List Line) (s t : State) → are_proper xs ≡ true → HoldsState seen s → run xs s ≡ Fine t → HoldsState (seen ++ xs) t
 run_holds seen [] s t o h e =
     let i : s ≡ t = cc in let P : State → Type 0 = λ z. HoldsState (seen ++ []) z in let Q : List Line → Type 0 = λ z. HoldsState z s in
-        subst P i (subst Q (sym (append-nil seen)) h)
+    subst P i (subst Q (sym (append-nil seen)) h)
 run_holds seen (x ∷ xs) s t o h e =
     let n = proper_parts x xs o in
     elim (step s x) as (λ a. step s x ≡ a → then a (run xs) ≡ Fine t → HoldsState (seen ++ (x ∷ xs)) t) [
@@ -290,8 +290,22 @@ run_holds seen (x ∷ xs) s t o h e =
     ] refl e
 
 start_holds : HoldsState [] start
-start_holds = record { earlier = []; here = []; is = refl; stack = refl; prefix = record { front = []; back = []; is = refl; block =
-    nothing; grown = refl }; filled = tt; nested = refl }
+start_holds = record {
+  earlier = [];
+  here = [];
+  is = refl;
+  stack = refl;
+  prefix = record {
+    front = [];
+    back = [];
+    is = refl;
+    block =
+        nothing;
+    grown = refl;
+  };
+  filled = tt;
+  nested = refl;
+}
 
 closed_gives : (seen : List Line) (d : List Stmt) (g : Group) (f : Bool) (below : List Waiting) (ss : List Stmt) → Holds seen d g f below
     → length below ≤ 0 → (o : Option (List Stmt)) → closes g ≡ o →

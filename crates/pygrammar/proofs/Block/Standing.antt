@@ -79,9 +79,9 @@ standing_is l (x ∷ earlier) =
       | true ↦ standing_is l earlier
       | false ↦ elim (x.level == l) as (λ b. x.level == l ≡ b → cond b (after (kind_of x.form) (standing l earlier)) Free ≡ stand_of
           (cond b (x ∷ earlier) [])) [
-        | true ↦ λ e. let i : x.level ≡ l = eqb-true x.level l e in ap (λ z. after (kind_of x.form) (standing z earlier)) (sym i)
-        | false ↦ λ e. refl
-      ] refl
+            | true ↦ λ e. let i : x.level ≡ l = eqb-true x.level l e in ap (λ z. after (kind_of x.form) (standing z earlier)) (sym i)
+            | false ↦ λ e. refl
+          ] refl
     ]
 
 elif_of : (j : Kind) (s : Standing) → is_if_or_elif j ≡ admits ElifLine (after j s)
@@ -162,12 +162,14 @@ pub standing_above : (l : ℕ) (earlier : List Line) → level_before earlier < 
 standing_above l [] h = refl
 standing_above l (x ∷ earlier) h =
     ap (λ b. cond b (standing l earlier) (cond (x.level == l) (after (kind_of x.form) (standing l earlier)) Free))
-        (not_less l x.level (omega arith))
+    (not_less l x.level (omega arith))
     ∙ ap (λ b. cond b (after (kind_of x.form) (standing l earlier)) Free) (differs x.level l h)
   where
     differs : (a b : ℕ) → a < b → a == b ≡ false
-    differs a b h = elim (a == b) as (λ c. a == b ≡ c → c ≡ false) [ true ↦ λ e. absurd (let i : a ≡ b = eqb-true a b e in omega arith)
-        | false ↦ λ e. refl ] refl
+    differs a b h = elim (a == b) as (λ c. a == b ≡ c → c ≡ false) [
+      | true ↦ λ e. absurd (let i : a ≡ b = eqb-true a b e in omega arith)
+      | false ↦ λ e. refl
+    ] refl
 
 pub standing_below : (l : ℕ) (x : Line) (earlier : List Line) → l < x.level → standing l (x ∷ earlier) ≡ standing l earlier
 standing_below l x earlier h =
@@ -176,7 +178,7 @@ standing_below l x earlier h =
 pub standing_here : (x : Line) (earlier : List Line) → standing x.level (x ∷ earlier) ≡ after (kind_of x.form) (standing x.level earlier)
 standing_here x earlier =
     ap (λ b. cond b (standing x.level earlier) (cond (x.level == x.level) (after (kind_of x.form) (standing x.level earlier)) Free))
-        (not_less x.level x.level (omega arith))
+    (not_less x.level x.level (omega arith))
     ∙ ap (λ b. cond b (after (kind_of x.form) (standing x.level earlier)) Free) (eq-eqb x.level x.level refl)
 
 -- ---- In a `match`.

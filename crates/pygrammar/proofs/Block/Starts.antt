@@ -73,7 +73,7 @@ module _ (text : List ℕ) (es before : List Entry) (seen line : List Token)
       let e = entry kinds.Newline x p q f t in
       let u = token_of text e in
       elim (is_open before) as (λ b. (b ≡ true → IsFilled line)
-          → AreFilled (lines_from seen line ((if b then u ∷ [] else []) ++ tokens_from text (e ∷ before) es))) [
+      → AreFilled (lines_from seen line ((if b then u ∷ [] else []) ++ tokens_from text (e ∷ before) es))) [
         | true ↦ λ o. (o refl, ih (e ∷ before) (u ∷ seen) [] (closed []))
         | false ↦ λ o. ih (e ∷ before) seen line (closed line)
       ] h
@@ -83,7 +83,7 @@ module _ (text : List ℕ) (es before : List Entry) (seen line : List Token)
       let e = entry kinds.Dedent x p q f t in
       let u = token_of text e in
       elim (is_open before) as (λ b. (b ≡ true → IsFilled line)
-          → AreFilled (lines_from seen line ((if b then supplied text ∷ u ∷ [] else u ∷ []) ++ tokens_from text (e ∷ before) es))) [
+      → AreFilled (lines_from seen line ((if b then supplied text ∷ u ∷ [] else u ∷ []) ++ tokens_from text (e ∷ before) es))) [
         | true ↦ λ o. (o refl, ih (e ∷ before) (u ∷ supplied text ∷ seen) [] (closed []))
         | false ↦ λ o. ih (e ∷ before) (u ∷ seen) line (closed line)
       ] h
@@ -91,22 +91,22 @@ module _ (text : List ℕ) (es before : List Entry) (seen line : List Token)
       let e = entry kinds.EndMarker x p q f t in
       let u = token_of text e in
       elim (is_open before) as (λ b. (b ≡ true → IsFilled line)
-          → AreFilled (lines_from seen line ((if b then supplied text ∷ u ∷ [] else u ∷ []) ++ tokens_from text (e ∷ before) es))) [
+      → AreFilled (lines_from seen line ((if b then supplied text ∷ u ∷ [] else u ∷ []) ++ tokens_from text (e ∷ before) es))) [
         | true ↦ λ o. (o refl, ih (e ∷ before) (u ∷ supplied text ∷ seen) [] (closed []))
         | false ↦ λ o. ih (e ∷ before) (u ∷ seen) line (closed line)
       ] h
   one kinds.Name x p q f t =
       let e = entry kinds.Name x p q f t in ih (e ∷ before) (token_of text e ∷ seen) (line ++ token_of text e ∷ [])
-          (λ o. filled_on line (token_of text e))
+      (λ o. filled_on line (token_of text e))
   one kinds.Number x p q f t =
       let e = entry kinds.Number x p q f t in ih (e ∷ before) (token_of text e ∷ seen) (line ++ token_of text e ∷ [])
-          (λ o. filled_on line (token_of text e))
+      (λ o. filled_on line (token_of text e))
   one kinds.String x p q f t =
       let e = entry kinds.String x p q f t in ih (e ∷ before) (token_of text e ∷ seen) (line ++ token_of text e ∷ [])
-          (λ o. filled_on line (token_of text e))
+      (λ o. filled_on line (token_of text e))
   one kinds.Op x p q f t =
       let e = entry kinds.Op x p q f t in ih (e ∷ before) (token_of text e ∷ seen) (line ++ token_of text e ∷ [])
-          (λ o. filled_on line (token_of text e))
+      (λ o. filled_on line (token_of text e))
 
 lines_filled : (text : List ℕ) (es before : List Entry) (seen line : List Token) → Open before line
     → AreFilled (lines_from seen line (tokens_from text before es))

@@ -46,7 +46,7 @@ pub settle_here : (l : ℕ) (d : List Stmt) (g : Group) (f : Bool) (below : List
 settle_here l d g f [] h = refl
 settle_here l d g f (w ∷ below) h =
     ap (λ b. cond b (cond f (Faulty ExpectedIndent) (popped l d g w below)) (Fine (state d g f (w ∷ below))))
-        (not_less l (length (w ∷ below)) h)
+    (not_less l (length (w ∷ below)) h)
 
 two_tests : {A : Type 0} (k : Answer A → Answer A) (a b : Bool) (p q here : Answer A) → (b ≡ true → a ≡ true) → p ≡ k q
     → k here ≡ cond a p here → cond a p here ≡ k (cond b q here)
@@ -60,10 +60,10 @@ settle_settle l m h d g f [] = refl
 settle_settle l m h d g f (w ∷ below) =
     two_tests (λ a. then a (settle l)) (nat_lt l (length (w ∷ below))) (nat_lt m (length (w ∷ below)))
     (cond f (Faulty ExpectedIndent) (popped l d g w below)) (cond f (Faulty ExpectedIndent) (popped m d g w below))
-        (Fine (state d g f (w ∷ below)))
+    (Fine (state d g f (w ∷ below)))
     (λ e. let k : m < length (w ∷ below) = ltb-true m (length (w ∷ below)) e in is_less l (length (w ∷ below)) (omega arith))
     (elim f as (λ f. cond f (Faulty ExpectedIndent) (popped l d g w below) ≡ then
-        (cond f (Faulty ExpectedIndent) (popped m d g w below)) (settle l)) [
+    (cond f (Faulty ExpectedIndent) (popped m d g w below)) (settle l)) [
       | true ↦ refl
       | false ↦ elim (above w d g) as (λ o. elim o [ None ↦ Faulty MisplacedClause | Some p ↦ settle_in l p.done p.group false below ]
           ≡ then (elim o [ None ↦ Faulty MisplacedClause | Some p ↦ settle_in m p.done p.group false below ]) (settle l)) [
@@ -76,7 +76,7 @@ settle_settle l m h d g f (w ∷ below) =
 -- the block of a header ends
 pub settle_block : (l : ℕ) (s : State) (d : List Stmt) (g : Group) (w : Waiting) (below : List Waiting) (p : Part) →
     length below ≡ l → settle (suc l) s ≡ Fine (state d g false (w ∷ below)) → above w d g ≡ Some p
-        → settle l s ≡ Fine (state p.done p.group false below)
+    → settle l s ≡ Fine (state p.done p.group false below)
 settle_block l s d g w below p n h c =
     settle_settle l (suc l) (omega arith) s.done s.group s.fresh s.below
     ∙ ap (λ a. then a (settle l)) h
@@ -88,4 +88,4 @@ settle_block l s d g w below p n h c =
 pub step_here : (s : State) (l : ℕ) (f : Form) (t : State) → length t.below ≡ l → settle l s ≡ Fine t → step s (line l f) ≡ place t f
 step_here s l f t n h =
     ap (λ a. then a (placed l f)) h ∙ ap (λ b. cond b (Faulty UnexpectedIndent) (place t f))
-        (not_less (length t.below) l (omega (arith, n)))
+    (not_less (length t.below) l (omega (arith, n)))

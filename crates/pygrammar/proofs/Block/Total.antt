@@ -52,7 +52,7 @@ line_or_not profile inside x = elim (read_or_not profile inside (terminals x)) [
 -- each line has a form, or there is a first that has none
 lines_or_not : (profile : Profile) (earlier : List Line) (xs : List Tokens.Line) →
     ((ys : List Line) × Formed profile earlier xs ys × (length ys ≡ length xs)) ⊎ ((n : ℕ) × (c : Code) × FirstUnread profile earlier
-        xs n c × (n < length xs))
+    xs n c × (n < length xs))
 lines_or_not profile earlier [] = inl ([], formed_end, refl)
 lines_or_not profile earlier (x ∷ xs) = elim (line_or_not profile (stands_in_match x.level earlier) x) [
   | inl h ↦ elim (lines_or_not profile (line x.level h.0 ∷ earlier) xs) [

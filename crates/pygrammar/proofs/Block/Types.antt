@@ -112,7 +112,7 @@ with_untyped true items body = sym (and_true _)
 
 try_untyped : (star : Bool) (body : List Stmt) (hs : List Handler) (orelse final : List Stmt) →
     are_untyped (stmts body) && (are_handlers_untyped (handlers hs) && (are_untyped (stmts orelse) && are_untyped (stmts final))) ≡
-        are_untyped (stmts (try_of star body hs orelse final ∷ []))
+    are_untyped (stmts (try_of star body hs orelse final ∷ []))
 try_untyped false body hs orelse final = sym (and_true _)
 try_untyped true body hs orelse final = sym (and_true _)
 
@@ -138,17 +138,17 @@ mutual
   statement_untyped {l} (if_statement {test = test} {suite = suite} {xs = xs} {ys = ys} p q) f =
       let g = plain_parts xs ys f.1 in
       joined (line l (header_form (if_header test) suite) ∷ xs) ys _ _ (body_untyped (if_header test) p f.0 g.0) (alternative_untyped q g.1)
-          ∙ sym (and_true _)
+      ∙ sym (and_true _)
   statement_untyped {l} (loop_statement {head = head} {suite = suite} {xs = xs} {ys = ys} {body = body} {orelse = orelse} p q) f =
       let g = plain_parts xs ys f.1 in
       joined (line l (header_form (loop_header head) suite) ∷ xs) ys _ _ (body_untyped (loop_header head) p f.0 g.0)
-          (otherwise_untyped q g.1) ∙ loop_untyped head body orelse
+      (otherwise_untyped q g.1) ∙ loop_untyped head body orelse
   statement_untyped (with_statement {is_async = is_async} {items = items} {body = body} p) f =
       body_untyped (with_header is_async items) p f.0 f.1 ∙ with_untyped is_async items body
   statement_untyped {l} (try_finally {suite = suite} {last = last} {xs = xs} {ys = ys} {body = body} {final = final} p q) f =
       let g = plain_parts xs (line l (header_form finally_header last) ∷ ys) f.1 in
       joined (line l (header_form try_header suite) ∷ xs) (line l (header_form finally_header last) ∷ ys) _ _
-          (body_untyped try_header p f.0 g.0) (body_untyped finally_header q g.1.0 g.1.1)
+      (body_untyped try_header p f.0 g.0) (body_untyped finally_header q g.1.0 g.1.1)
       ∙ try_untyped false body [] [] final
   statement_untyped {l} (try_except {star = star} {suite = suite} {xs = xs} {ys = ys} {zs = zs} {ws = ws} {body = body} {orelse = orelse}
       {final = final} {h = h} {hs = hs} p q o e) f =
@@ -161,7 +161,7 @@ mutual
   statement_untyped {l} (definition_of head {suite = suite} {ds = ds} {xs = xs} {es = es} {body = body} d p) f =
       let g = plain_parts ds (line l (header_form (def_header head) suite) ∷ xs) f in
       joined ds (line l (header_form (def_header head) suite) ∷ xs) _ _ (decorators_untyped d)
-          (body_untyped (def_header head) p g.1.0 g.1.1) ∙ definition_untyped es head body
+      (body_untyped (def_header head) p g.1.0 g.1.1) ∙ definition_untyped es head body
   statement_untyped (match_statement p) f = cases_untyped p f.1 ∙ sym (and_true _)
 
   body_untyped : {l : ℕ} {suite : Option (List Stmt)} {xs : List Line} {ss : List Stmt} (h : Header) → Body l suite xs ss
@@ -176,7 +176,7 @@ mutual
   alternative_untyped {l} (an_elif {test = test} {suite = suite} {xs = xs} {ys = ys} p q) f =
       let g = plain_parts xs ys f.1 in
       joined (line l (header_form (elif_header test) suite) ∷ xs) ys _ _ (body_untyped (elif_header test) p f.0 g.0)
-          (alternative_untyped q g.1) ∙ sym (and_true _)
+      (alternative_untyped q g.1) ∙ sym (and_true _)
 
   otherwise_untyped : {l : ℕ} {xs : List Line} {ss : List Stmt} → Otherwise l xs ss → ArePlain xs
       → are_lines_untyped xs ≡ are_untyped (stmts ss)
@@ -189,7 +189,7 @@ mutual
   excepts_untyped {l} (except_clause {star = star} {matched = matched} {name = name} {suite = suite} {xs = xs} {ys = ys} p q) f =
       let g = plain_parts xs ys f.1 in
       joined (line l (header_form (except_header star matched name) suite) ∷ xs) ys _ _ (body_untyped (except_header star matched name) p
-          f.0 g.0) (excepts_untyped q g.1)
+      f.0 g.0) (excepts_untyped q g.1)
 
   cases_untyped : {l : ℕ} {xs : List Line} {cs : List Case} → Cases l xs cs → ArePlain xs
       → are_lines_untyped xs ≡ are_cases_untyped (cases cs)
@@ -197,7 +197,7 @@ mutual
   cases_untyped {l} (case_clause {pattern = pattern} {guard = guard} {suite = suite} {xs = xs} {ys = ys} p q) f =
       let g = plain_parts xs ys f.1 in
       joined (line l (header_form (case_header pattern guard) suite) ∷ xs) ys _ _
-          (body_untyped (case_header pattern guard) p f.0 g.0) (cases_untyped q g.1)
+      (body_untyped (case_header pattern guard) p f.0 g.0) (cases_untyped q g.1)
 
   ending_untyped : {l : ℕ} {xs : List Line} {ss : List Stmt} → Ending l xs ss → ArePlain xs → are_lines_untyped xs ≡ are_untyped (stmts ss)
   ending_untyped no_finally f = refl
@@ -223,7 +223,7 @@ formed_returns : {extent : Extent} {earlier : List Line} {xs : List Tokens.Line}
 formed_returns formed_end e = formed_end
 formed_returns (formed_line {f = f} h p) e =
     let g = and_parts (untyped f) _ e in
-        formed_line (record { is = (old_is_untyped _ _ _ f).1 (h.is, g.0); low = h.low }) (formed_returns p g.1)
+    formed_line (record { is = (old_is_untyped _ _ _ f).1 (h.is, g.0); low = h.low }) (formed_returns p g.1)
 
 pub old_has_no_types : (extent : Extent) (s : Source) (m : Module)
     → Accepted (python Py311 extent) s m ↔ (Accepted (python Py312 extent) s m × (is_module_untyped m ≡ true))
@@ -231,6 +231,11 @@ old_has_no_types extent s m = (
   λ p. (answer_stays p, sym (block_untyped p.block (formed_plain p.formed)) ∙ formed_untyped p.formed),
   λ q.
       let p = q.0 in
-      record { clear = p.clear; forms = p.forms; formed = formed_returns p.formed (block_untyped p.block (formed_plain p.formed) ∙ q.1);
-          block = p.block; low = p.low },
+      record {
+        clear = p.clear;
+        forms = p.forms;
+        formed = formed_returns p.formed (block_untyped p.block (formed_plain p.formed) ∙ q.1);
+        block = p.block;
+        low = p.low;
+      },
 )

@@ -118,7 +118,7 @@ match_in_case : Block 0 (head 0 (if_header (v 1)) ∷ head 1 matches ∷ head 2 
     ∷ short 2 other 4 ∷ short 0 else_header 5 ∷ [])
     (If (v 1)
     (stmts (Match (v 1) (cases (case_of any None (Match (v 1) (cases (case_of (value 2) None (s 3) ∷ [])) ∷ []) ∷ case_of any
-        None (s 4) ∷ [])) ∷ []))
+    None (s 4) ∷ [])) ∷ []))
     (stmts (s 5)) ∷ [])
 match_in_case = read_gives _ _ refl refl
 

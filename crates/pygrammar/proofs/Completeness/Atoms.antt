@@ -85,7 +85,7 @@ joined_first_goes ks bs xs ys f l = let j = joined_goes false ks bs xs ys f l in
   deeper (ReadsAt Atom (FormattedBegin ∷ (ks ++ (FormattedEnd ∷ bs))) (Trees.JoinedStr (values_of false (merged (xs ++ ys))))) j.0
       (λ d h rest s.
       ap (read (suc (suc d)) Atom) (joined_shape ks bs rest)
-          ∙ (unroll (suc d) Atom (FormattedBegin ∷ (ks ++ (FormattedEnd ∷ (bs ++ rest)))) ∙ j.1 d h [] rest s)),
+      ∙ (unroll (suc d) Atom (FormattedBegin ∷ (ks ++ (FormattedEnd ∷ (bs ++ rest)))) ∙ j.1 d h [] rest s)),
   λ d h. tt,
 )
 
@@ -187,19 +187,25 @@ elem_goes : (ts : List Terminal) (e : Expr) → 9 ≤ lead_of ts → ReadsAs Nam
 elem_goes ts e l p = next_goes Elem ts e l tt p
 
 pub group_goes : (ts : List Terminal) (e : Expr) → 9 ≤ lead_of ts → ReadsAs Named ts e → ReadsAs Atom (Op LPar ∷ (ts ++ (Op RPar ∷ []))) e
-group_goes ts e l p = let q = elem_goes ts e l p in
-    (suc q.0, deeper (ReadsAt Atom (Op LPar ∷ (ts ++ (Op RPar ∷ []))) e) q.0
-    (λ d h rest s. ap (read (suc (suc d)) Atom) (close_shape ts rest (Op LPar) (Op RPar))
-    ∙ (unroll (suc d) Atom (Op LPar ∷ (ts ++ (Op RPar ∷ rest)))
-    ∙ group_step (read (suc d)) ts rest e l (q.1 d h (Op RPar ∷ rest) (omega arith)))), λ d h. tt)
+group_goes ts e l p = let q = elem_goes ts e l p in (
+  suc q.0,
+  deeper (ReadsAt Atom (Op LPar ∷ (ts ++ (Op RPar ∷ []))) e) q.0
+      (λ d h rest s. ap (read (suc (suc d)) Atom) (close_shape ts rest (Op LPar) (Op RPar))
+      ∙ (unroll (suc d) Atom (Op LPar ∷ (ts ++ (Op RPar ∷ rest)))
+      ∙ group_step (read (suc d)) ts rest e l (q.1 d h (Op RPar ∷ rest) (omega arith)))),
+  λ d h. tt,
+)
 
 pub yield_group_goes : (ts : List Terminal) (e : Expr) → YieldsReads ts e
     → ReadsAs Atom (Op LPar ∷ (Word Key.Yield ∷ (ts ++ (Op RPar ∷ [])))) e
-yield_group_goes ts e q =
-    (suc q.0, deeper (ReadsAt Atom (Op LPar ∷ (Word Key.Yield ∷ (ts ++ (Op RPar ∷ [])))) e) q.0
-    (λ d h rest s. ap (λ z. read (suc (suc d)) Atom (Op LPar ∷ z)) (close_shape ts rest (Word Key.Yield) (Op RPar))
-    ∙ (unroll (suc d) Atom (Op LPar ∷ (Word Key.Yield ∷ (ts ++ (Op RPar ∷ rest))))
-    ∙ yield_step_round (read (suc d)) (ts ++ (Op RPar ∷ rest)) rest e (q.1 d h (Op RPar ∷ rest) (omega arith, omega arith)))), λ d h. tt)
+yield_group_goes ts e q = (
+  suc q.0,
+  deeper (ReadsAt Atom (Op LPar ∷ (Word Key.Yield ∷ (ts ++ (Op RPar ∷ [])))) e) q.0
+      (λ d h rest s. ap (λ z. read (suc (suc d)) Atom (Op LPar ∷ z)) (close_shape ts rest (Word Key.Yield) (Op RPar))
+      ∙ (unroll (suc d) Atom (Op LPar ∷ (Word Key.Yield ∷ (ts ++ (Op RPar ∷ rest))))
+      ∙ yield_step_round (read (suc d)) (ts ++ (Op RPar ∷ rest)) rest e (q.1 d h (Op RPar ∷ rest) (omega arith, omega arith)))),
+  λ d h. tt,
+)
 
 pub empty_tuple_goes : ReadsAs Atom (Op LPar ∷ (Op RPar ∷ [])) (Trees.Tuple no_exprs Load)
 empty_tuple_goes = (0, (λ d h rest s. unroll d Atom (Op LPar ∷ (Op RPar ∷ rest))), λ d h. tt)
@@ -211,11 +217,11 @@ tuple_goes ts us e es l p k = (
   deeper (ReadsAt Atom (Op LPar ∷ (ts ++ (Op Comma ∷ (us ++ (Op RPar ∷ []))))) (Trees.Tuple (an_expr e (singles es)) Load))
       (max p.0 k.0) (λ d h rest s.
       ap (read (suc (suc d)) Atom) (close_after ts us rest (Op LPar) (Op Comma) (Op RPar))
-          ∙ (unroll (suc d) Atom (Op LPar ∷ (ts ++ (Op Comma ∷ (us ++ (Op RPar ∷ rest)))))
-          ∙ tuple_step (read (suc d)) ts (us ++ (Op RPar ∷ rest)) rest e es l
-          (p.1 d (omega (arith, h)) (Op Comma ∷ (us ++ (Op RPar ∷ rest))) (omega arith))
-          (k.1 d (omega (arith, h)) (λ r. omega arith) (Op RPar ∷ rest) (refl, (λ q. absurd (omega (arith, q))), omega arith)
-          (length (us ++ (Op RPar ∷ rest))) (omega arith) []))),
+      ∙ (unroll (suc d) Atom (Op LPar ∷ (ts ++ (Op Comma ∷ (us ++ (Op RPar ∷ rest)))))
+      ∙ tuple_step (read (suc d)) ts (us ++ (Op RPar ∷ rest)) rest e es l
+      (p.1 d (omega (arith, h)) (Op Comma ∷ (us ++ (Op RPar ∷ rest))) (omega arith))
+      (k.1 d (omega (arith, h)) (λ r. omega arith) (Op RPar ∷ rest) (refl, (λ q. absurd (omega (arith, q))), omega arith)
+      (length (us ++ (Op RPar ∷ rest))) (omega arith) []))),
   λ d h. tt,
 )
 
@@ -227,10 +233,10 @@ generator_goes ts us e gs l p w k = let q = elem_goes ts e l p in (
       let i = us ++ (Op RPar ∷ rest) in
       let g = comps_first w (Op RPar ∷ rest) in
       ap (read (suc (suc d)) Atom) (close_two ts us rest (Op LPar) (Op RPar))
-          ∙ (unroll (suc d) Atom (Op LPar ∷ (ts ++ i))
-          ∙ generator_step (read (suc d)) ts i rest e (Trees.GeneratorExp e (comprehensions gs))
-          (λ gs. Trees.GeneratorExp e (comprehensions gs)) refl l (q.1 d (omega (arith, h)) i (omega (arith, g.0))) g
-          (comps_close us gs k d (omega (arith, h)) RPar rest refl (λ gs. Trees.GeneratorExp e (comprehensions gs))))),
+      ∙ (unroll (suc d) Atom (Op LPar ∷ (ts ++ i))
+      ∙ generator_step (read (suc d)) ts i rest e (Trees.GeneratorExp e (comprehensions gs))
+      (λ gs. Trees.GeneratorExp e (comprehensions gs)) refl l (q.1 d (omega (arith, h)) i (omega (arith, g.0))) g
+      (comps_close us gs k d (omega (arith, h)) RPar rest refl (λ gs. Trees.GeneratorExp e (comprehensions gs))))),
   λ d h. tt,
 )
 
@@ -249,10 +255,13 @@ list_goes us ts vs e es sp l p k = (
       let c = Op RSqb ∷ rest in
       let i = vs ++ (Op RSqb ∷ rest) in
       ap (read (suc (suc d)) Atom) (close_shape us rest (Op LSqb) (Op RSqb) ∙ ap (λ z. Op LSqb ∷ z) (sp (Op RSqb ∷ rest)))
-          ∙ (unroll (suc d) Atom (Op LSqb ∷ (ts ++ i)) ∙ list_step (read (suc d)) ts i rest e (Single e ∷ es) (starts_of Elem ts i l)
-          (p.1 d (omega (arith, h)) i (tail_keeps (λ r. grip_of r ≤ 7) vs c k.2 (omega arith) (λ r. omega arith)))
-          (tail_keeps (λ r. starts_comp r ≡ false) vs c k.2 refl (λ r. refl)) (k.1 d (omega (arith, h)) (λ r. omega arith) c (refl,
-          (λ q. absurd (omega (arith, q))), omega arith) (Single e)))),
+      ∙ (unroll (suc d) Atom (Op LSqb ∷ (ts ++ i)) ∙ list_step (read (suc d)) ts i rest e (Single e ∷ es) (starts_of Elem ts i l)
+      (p.1 d (omega (arith, h)) i (tail_keeps (λ r. grip_of r ≤ 7) vs c k.2 (omega arith) (λ r. omega arith)))
+      (tail_keeps (λ r. starts_comp r ≡ false) vs c k.2 refl (λ r. refl)) (k.1 d (omega (arith, h)) (λ r. omega arith) c (
+        refl,
+        (λ q. absurd (omega (arith, q))),
+        omega arith,
+      ) (Single e)))),
   λ d h. tt,
 )
 
@@ -264,9 +273,9 @@ list_comp_goes ts us e gs l p w k = let q = elem_goes ts e l p in (
       let i = us ++ (Op RSqb ∷ rest) in
       let g = comps_first w (Op RSqb ∷ rest) in
       ap (read (suc (suc d)) Atom) (close_two ts us rest (Op LSqb) (Op RSqb))
-          ∙ (unroll (suc d) Atom (Op LSqb ∷ (ts ++ i)) ∙ list_comp_step (read (suc d)) ts i rest e (Trees.ListComp e (comprehensions gs))
-          (starts_of Elem ts i (omega (arith, l))) l (q.1 d (omega (arith, h)) i (omega (arith, g.0))) g.1
-          (comps_close us gs k d (omega (arith, h)) RSqb rest refl (λ gs. Trees.ListComp e (comprehensions gs))))),
+      ∙ (unroll (suc d) Atom (Op LSqb ∷ (ts ++ i)) ∙ list_comp_step (read (suc d)) ts i rest e (Trees.ListComp e (comprehensions gs))
+      (starts_of Elem ts i (omega (arith, l))) l (q.1 d (omega (arith, h)) i (omega (arith, g.0))) g.1
+      (comps_close us gs k d (omega (arith, h)) RSqb rest refl (λ gs. Trees.ListComp e (comprehensions gs))))),
   λ d h. tt,
 )
 
@@ -281,11 +290,14 @@ set_goes us ts vs e es sp l p k = (
       let c = Op RBrace ∷ rest in
       let i = vs ++ (Op RBrace ∷ rest) in
       ap (read (suc (suc d)) Atom) (close_shape us rest (Op LBrace) (Op RBrace) ∙ ap (λ z. Op LBrace ∷ z) (sp (Op RBrace ∷ rest)))
-          ∙ (unroll (suc d) Atom (Op LBrace ∷ (ts ++ i)) ∙ set_step (read (suc d)) ts i rest e (Single e ∷ es) l
-          (p.1 d (omega (arith, h)) i (tail_keeps (λ r. grip_of r ≤ 7) vs c k.2 (omega arith) (λ r. omega arith)))
-          (tail_keeps (λ r. grip_of r ≡ 5 → ⊥) vs c k.2 (λ q. omega (arith, q)) (λ r q. omega (arith, q)))
-          (tail_keeps (λ r. starts_comp r ≡ false) vs c k.2 refl (λ r. refl)) (k.1 d (omega (arith, h)) (λ r. omega arith) c (refl,
-          (λ q. absurd (omega (arith, q))), omega arith) (Single e)))),
+      ∙ (unroll (suc d) Atom (Op LBrace ∷ (ts ++ i)) ∙ set_step (read (suc d)) ts i rest e (Single e ∷ es) l
+      (p.1 d (omega (arith, h)) i (tail_keeps (λ r. grip_of r ≤ 7) vs c k.2 (omega arith) (λ r. omega arith)))
+      (tail_keeps (λ r. grip_of r ≡ 5 → ⊥) vs c k.2 (λ q. omega (arith, q)) (λ r q. omega (arith, q)))
+      (tail_keeps (λ r. starts_comp r ≡ false) vs c k.2 refl (λ r. refl)) (k.1 d (omega (arith, h)) (λ r. omega arith) c (
+        refl,
+        (λ q. absurd (omega (arith, q))),
+        omega arith,
+      ) (Single e)))),
   λ d h. tt,
 )
 
@@ -297,9 +309,9 @@ set_comp_goes ts us e gs l p w k = let q = elem_goes ts e l p in (
       let i = us ++ (Op RBrace ∷ rest) in
       let g = comps_first w (Op RBrace ∷ rest) in
       ap (read (suc (suc d)) Atom) (close_two ts us rest (Op LBrace) (Op RBrace))
-          ∙ (unroll (suc d) Atom (Op LBrace ∷ (ts ++ i)) ∙ set_comp_step (read (suc d)) ts i rest e (Trees.SetComp e (comprehensions gs)) l
-          (q.1 d (omega (arith, h)) i (omega (arith, g.0))) g (comps_close us gs k d (omega (arith, h)) RBrace rest refl
-          (λ gs. Trees.SetComp e (comprehensions gs))))),
+      ∙ (unroll (suc d) Atom (Op LBrace ∷ (ts ++ i)) ∙ set_comp_step (read (suc d)) ts i rest e (Trees.SetComp e (comprehensions gs)) l
+      (q.1 d (omega (arith, h)) i (omega (arith, g.0))) g (comps_close us gs k d (omega (arith, h)) RBrace rest refl
+      (λ gs. Trees.SetComp e (comprehensions gs))))),
   λ d h. tt,
 )
 
@@ -323,12 +335,15 @@ dict_goes us ts ws vs k e es sp l p q t = let f = key_goes ts k l p in (
       let r = vs ++ (Op RBrace ∷ rest) in
       let i = ws ++ (vs ++ (Op RBrace ∷ rest)) in
       ap (read (suc (suc d)) Atom) (close_shape us rest (Op LBrace) (Op RBrace)
-          ∙ ap (λ z. Op LBrace ∷ z) (sp (Op RBrace ∷ rest) ∙ append_assoc ts (Op Colon ∷ ws) (vs ++ (Op RBrace ∷ rest))))
-          ∙ (unroll (suc d) Atom (Op LBrace ∷ (ts ++ (Op Colon ∷ i))) ∙ dict_step (read (suc d)) ts i r rest k e (Paired k e ∷ es) l
-          (f.1 d (omega (arith, h)) (Op Colon ∷ i) (omega arith)) (key_free ts i k d (p.1 d (omega (arith, h))))
-          (q.1 d (omega (arith, h)) r (tail_keeps (λ r. grip_of r ≤ 8) vs c t.2 (omega arith) (λ r. omega arith)))
-          (tail_keeps (λ r. starts_comp r ≡ false) vs c t.2 refl (λ r. refl)) (t.1 d (omega (arith, h)) (λ r. omega arith) c (refl,
-          (λ q. absurd (omega (arith, q))), omega arith) (Paired k e)))),
+      ∙ ap (λ z. Op LBrace ∷ z) (sp (Op RBrace ∷ rest) ∙ append_assoc ts (Op Colon ∷ ws) (vs ++ (Op RBrace ∷ rest))))
+      ∙ (unroll (suc d) Atom (Op LBrace ∷ (ts ++ (Op Colon ∷ i))) ∙ dict_step (read (suc d)) ts i r rest k e (Paired k e ∷ es) l
+      (f.1 d (omega (arith, h)) (Op Colon ∷ i) (omega arith)) (key_free ts i k d (p.1 d (omega (arith, h))))
+      (q.1 d (omega (arith, h)) r (tail_keeps (λ r. grip_of r ≤ 8) vs c t.2 (omega arith) (λ r. omega arith)))
+      (tail_keeps (λ r. starts_comp r ≡ false) vs c t.2 refl (λ r. refl)) (t.1 d (omega (arith, h)) (λ r. omega arith) c (
+        refl,
+        (λ q. absurd (omega (arith, q))),
+        omega arith,
+      ) (Paired k e)))),
   λ d h. tt,
 )
 
@@ -342,9 +357,9 @@ doubled_goes us ts vs e es sp p t = (
       let c = Op RBrace ∷ rest in
       let r = vs ++ (Op RBrace ∷ rest) in
       ap (read (suc (suc d)) Atom) (close_shape us rest (Op LBrace) (Op RBrace) ∙ ap (λ z. Op LBrace ∷ z) (sp (Op RBrace ∷ rest)))
-          ∙ (unroll (suc d) Atom (Op LBrace ∷ (Op DoubleStar ∷ (ts ++ r))) ∙ doubled_step (read (suc d)) (ts ++ r) r rest e (Doubled e ∷ es)
-          (answers BitOr ts e d r (p.1 d (omega (arith, h))) (tail_keeps (λ r. grip_of r < 14) vs c t.2 (omega arith) (λ r. omega arith)))
-          (t.1 d (omega (arith, h)) (λ r. omega arith) c (refl, (λ q. absurd (omega (arith, q))), omega arith) (Doubled e)))),
+      ∙ (unroll (suc d) Atom (Op LBrace ∷ (Op DoubleStar ∷ (ts ++ r))) ∙ doubled_step (read (suc d)) (ts ++ r) r rest e (Doubled e ∷ es)
+      (answers BitOr ts e d r (p.1 d (omega (arith, h))) (tail_keeps (λ r. grip_of r < 14) vs c t.2 (omega arith) (λ r. omega arith)))
+      (t.1 d (omega (arith, h)) (λ r. omega arith) c (refl, (λ q. absurd (omega (arith, q))), omega arith) (Doubled e)))),
   λ d h. tt,
 )
 
@@ -359,10 +374,10 @@ dict_comp_goes ts us vs k e gs l p q w t = let f = key_goes ts k l p in (
       let i = us ++ (vs ++ (Op RBrace ∷ rest)) in
       let g = comps_first w (Op RBrace ∷ rest) in
       ap (read (suc (suc d)) Atom) (close_three ts us vs rest (Op LBrace) (Op Colon) (Op RBrace))
-          ∙ (unroll (suc d) Atom (Op LBrace ∷ (ts ++ (Op Colon ∷ i)))
-          ∙ dict_comp_step (read (suc d)) ts i r rest k e (Trees.DictComp k e (comprehensions gs)) l
-          (f.1 d (omega (arith, h)) (Op Colon ∷ i) (omega arith)) (key_free ts i k d (p.1 d (omega (arith, h))))
-          (q.1 d (omega (arith, h)) r (omega (arith, g.0))) g.1 (comps_close vs gs t d (omega (arith, h)) RBrace rest refl
-          (λ gs. Trees.DictComp k e (comprehensions gs))))),
+      ∙ (unroll (suc d) Atom (Op LBrace ∷ (ts ++ (Op Colon ∷ i)))
+      ∙ dict_comp_step (read (suc d)) ts i r rest k e (Trees.DictComp k e (comprehensions gs)) l
+      (f.1 d (omega (arith, h)) (Op Colon ∷ i) (omega arith)) (key_free ts i k d (p.1 d (omega (arith, h))))
+      (q.1 d (omega (arith, h)) r (omega (arith, g.0))) g.1 (comps_close vs gs t d (omega (arith, h)) RBrace rest refl
+      (λ gs. Trees.DictComp k e (comprehensions gs))))),
   λ d h. tt,
 )

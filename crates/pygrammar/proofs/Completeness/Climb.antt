@@ -212,9 +212,9 @@ binary_climbs l n ts us a b t o d e w h p q k le rest s =
     let i = left_behind l t o h in
     let c = p k le (t ∷ (us ++ rest)) (rw i (omega (arith, w))) in
     let op : operation (read (suc d)) a (Left l o) (t ∷ (us ++ rest)) (us ++ rest) ≡ Found (Trees.BinOp a o b) rest =
-        rw e (rw (q rest (omega (arith, s, w))) refl) in
+    rw e (rw (q rest (omega (arith, s, w))) refl) in
     let v = loop_step (read (suc d)) k c.0 a (Trees.BinOp a o b) t (Left l o) (us ++ rest) rest i le op
-        (omega (arith, length-append us rest)) c.1 in
+    (omega (arith, length-append us rest)) c.1 in
     (v.0, v.1, ap (climb (read (suc (suc d))) (read (suc d)) k) (append_assoc ts (t ∷ us) rest) ∙ c.2 ∙ v.2)
 
 -- an operator in front of an expression
@@ -235,9 +235,12 @@ unary_step next inner k l t o i rest e b h q = rw b (rw (le-leb k (rank l) h) (r
 pub unary_climbs : (l : Level) (ts : List Terminal) (t : Terminal) (o : UnaryOperator) (e : Expr) (d : ℕ) → prefix_operator l t ≡ Some o
     → ((rest : List Terminal) → grip_of rest ≤ lim l → read (suc d) l (ts ++ rest) ≡ Found e rest)
     → Climbs l (t ∷ ts) (Trees.UnaryOp o e) (suc d)
-unary_climbs l ts t o e d h p k le rest s =
-    (length rest, omega arith, unary_step (read (suc (suc d))) (read (suc d)) k l t o (ts ++ rest) rest e
-    (prefix_before l t o h) le (p rest s))
+unary_climbs l ts t o e d h p k le rest s = (
+  length rest,
+  omega arith,
+  unary_step (read (suc (suc d))) (read (suc d)) k l t o (ts ++ rest) rest e
+      (prefix_before l t o h) le (p rest s),
+)
 
 await_step : (next inner : Reads) (k : ℕ) (i rest : List Terminal) (e : Expr) → k ≤ 22 → inner Primary i ≡ Found e rest
     → climb next inner k (Word Key.Await ∷ i) ≡ climb_loop inner k (length rest) (Trees.Await e) rest
@@ -245,9 +248,12 @@ await_step next inner k i rest e h q = rw (le-leb k 22 h) (rw q refl)
 
 pub await_climbs : (ts : List Terminal) (e : Expr) (d : ℕ) → ReadsAt Primary ts e d
     → Climbs Await (Word Key.Await ∷ ts) (Trees.Await e) (suc d)
-await_climbs ts e d p k le rest s =
-    (length rest, omega arith, await_step (read (suc (suc d))) (read (suc d)) k (ts ++ rest) rest e le
-    (answers Primary ts e d rest p (omega (arith, s))))
+await_climbs ts e d p k le rest s = (
+  length rest,
+  omega arith,
+  await_step (read (suc (suc d))) (read (suc d)) k (ts ++ rest) rest e le
+      (answers Primary ts e d rest p (omega (arith, s))),
+)
 
 -- a Primary with no operator in front
 no_before : (t : Terminal) → 23 ≤ lead t → before t ≡ None
@@ -276,7 +282,7 @@ power_climbs ts us a b d p q k le rest s =
     let c = p k (omega (arith, le)) (Op DoubleStar ∷ (us ++ rest)) (omega arith) in
     let h2 = answers Factor us b d rest q (omega (arith, s)) in
     let v = loop_step (read (suc d)) k c.0 a (Trees.BinOp a Bin.Pow b) (Op DoubleStar) Raise (us ++ rest) rest refl le (rw h2 refl)
-        (omega (arith, length-append us rest)) c.1 in
+    (omega (arith, length-append us rest)) c.1 in
     (v.0, v.1, ap (climb (read (suc (suc d))) (read (suc d)) k) (append_assoc ts (Op DoubleStar ∷ us) rest) ∙ c.2 ∙ v.2)
 
 -- chains of a word
@@ -333,12 +339,17 @@ link_goes o ts us e es p q = (max p.0 q.0, go)
     go d h rest g zero le acc = absurd (omega (arith, le))
     go d h rest g (suc m) le acc =
         let h1 = answers (below (chain_level o)) ts e d (Word (chain_word o) ∷ (us ++ rest)) (p.1 d (omega (arith, h)))
-            (chain_stops o (Word (chain_word o) ∷ (us ++ rest)) (omega (arith, chain_word_grip o))) in
-        let l1 : suc (length (us ++ rest)) ≤ m = omega (arith, le, length-append (ts ++ (Word (chain_word o) ∷ us)) rest,
-            length-append ts (Word (chain_word o) ∷ us), length-append us rest) in
+        (chain_stops o (Word (chain_word o) ∷ (us ++ rest)) (omega (arith, chain_word_grip o))) in
+        let l1 : suc (length (us ++ rest)) ≤ m = omega (
+          arith,
+          le,
+          length-append (ts ++ (Word (chain_word o) ∷ us)) rest,
+          length-append ts (Word (chain_word o) ∷ us),
+          length-append us rest,
+        ) in
         ap (λ z. chain_loop (read (suc d)) o (suc m) acc (Word (chain_word o) ∷ z)) (append_assoc ts (Word (chain_word o) ∷ us) rest)
-            ∙ chain_loop_more (read (suc d)) o m acc _ _ e h1 ∙ q.1 d (omega (arith, h)) rest g m l1 (acc ++ (e ∷ []))
-            ∙ ap (λ z. Found z rest) (append_assoc acc (e ∷ []) es)
+        ∙ chain_loop_more (read (suc d)) o m acc _ _ e h1 ∙ q.1 d (omega (arith, h)) rest g m l1 (acc ++ (e ∷ []))
+        ∙ ap (λ z. Found z rest) (append_assoc acc (e ∷ []) es)
 
 chain_operation : (self : Reads) (o : BoolOperator) (e : Expr) (es : List Expr) (i rest : List Terminal)
     → chain_loop self o (suc (length i)) [] (Word (chain_word o) ∷ i) ≡ Found es rest → operation self e (Joins o) (Word (chain_word o) ∷ i)
@@ -360,7 +371,7 @@ chain_climbs o l n ts us e es d b0 b1 b2 b3 p q k le rest s =
     let c = p k (omega (arith, le, b2)) (Word (chain_word o) ∷ (us ++ rest)) (omega (arith, b3, w, chain_word_grip o)) in
     let op = chain_operation (read (suc d)) o e es (us ++ rest) rest (q rest (omega (arith, s, b1, w))) in
     let v = loop_step (read (suc d)) k c.0 e (Trees.BoolOp o (exprs (e ∷ es))) (Word (chain_word o)) (Joins o) (us ++ rest) rest
-        (chain_behind o) (omega (arith, le, w)) op (omega (arith, length-append us rest)) c.1 in
+    (chain_behind o) (omega (arith, le, w)) op (omega (arith, length-append us rest)) c.1 in
     (v.0, v.1, ap (climb (read (suc (suc d))) (read (suc d)) k) (append_assoc ts (Word (chain_word o) ∷ us) rest) ∙ c.2 ∙ v.2)
 
 -- comparisons
@@ -460,13 +471,20 @@ compares_goes ss ts us o e os es c l p w q = (max p.0 q.0, go)
         absurd (omega (arith, le, compared_some c, length-append (ss ++ (ts ++ us)) rest, length-append ss (ts ++ us)))
     go d h rest g (suc m) le xs acc k =
         let h1 = answers BitOr ts e d (us ++ rest) (p.1 d (omega (arith, h))) (omega (arith, shape_grip us rest (compares_shape w))) in
-        let l1 : length (us ++ rest) ≤ m = omega (arith, le, compared_some c, length-append (ss ++ (ts ++ us)) rest,
-            length-append ss (ts ++ us), length-append ts us, length-append us rest) in
+        let l1 : length (us ++ rest) ≤ m = omega (
+          arith,
+          le,
+          compared_some c,
+          length-append (ss ++ (ts ++ us)) rest,
+          length-append ss (ts ++ us),
+          length-append ts us,
+          length-append us rest,
+        ) in
         ap (λ z. compare_loop (read (suc d)) (suc m) xs acc z k) (append_assoc ss (ts ++ us) rest
-            ∙ ap (λ z. ss ++ z) (append_assoc ts us rest)) ∙ compare_one (read (suc d)) c m xs acc ts (us ++ rest) (us ++ rest) e k l h1
-            ∙ q.1 d (omega (arith, h)) rest g m l1 (xs ++ (o ∷ [])) (acc ++ (e ∷ [])) k
-            ∙ (ap (λ z. k z ((acc ++ (e ∷ [])) ++ es) rest) (append_assoc xs (o ∷ []) os)
-            ∙ ap (λ z. k (xs ++ (o ∷ os)) z rest) (append_assoc acc (e ∷ []) es))
+        ∙ ap (λ z. ss ++ z) (append_assoc ts us rest)) ∙ compare_one (read (suc d)) c m xs acc ts (us ++ rest) (us ++ rest) e k l h1
+        ∙ q.1 d (omega (arith, h)) rest g m l1 (xs ++ (o ∷ [])) (acc ++ (e ∷ [])) k
+        ∙ (ap (λ z. k z ((acc ++ (e ∷ [])) ++ es) rest) (append_assoc xs (o ∷ []) os)
+        ∙ ap (λ z. k (xs ++ (o ∷ os)) z rest) (append_assoc acc (e ∷ []) es))
 
 compare_climbs : (ts : List Terminal) (t : Terminal) (vs : List Terminal) (e : Expr) (os : List Comparison) (es : List Expr) (d : ℕ)
     → behind t ≡ Some Compares → Climbs BitOr ts e (suc d)
@@ -476,7 +494,7 @@ compare_climbs : (ts : List Terminal) (t : Terminal) (vs : List Terminal) (e : E
 compare_climbs ts t vs e os es d b p q k le rest s =
     let c = p k (omega (arith, le)) (t ∷ (vs ++ rest)) (omega (arith, shape_grip (t ∷ []) (vs ++ rest) (t, [], refl, b))) in
     let v = loop_step (read (suc d)) k c.0 e (Trees.Compare e os (exprs es)) t Compares (vs ++ rest) rest b le
-        (q rest (omega (arith, s)) (λ os es r2. Found (Trees.Compare e os (exprs es)) r2)) (omega (arith, length-append vs rest)) c.1 in
+    (q rest (omega (arith, s)) (λ os es r2. Found (Trees.Compare e os (exprs es)) r2)) (omega (arith, length-append vs rest)) c.1 in
     (v.0, v.1, ap (climb (read (suc (suc d))) (read (suc d)) k) (append_assoc ts (t ∷ vs) rest) ∙ c.2 ∙ v.2)
 
 pub compare_goes : (ts us : List Terminal) (e : Expr) (os : List Comparison) (es : List Expr) → ReadsAs BitOr ts e → G.Compares us os es
@@ -495,69 +513,95 @@ compare_goes ts us e os es p w q = go us (compares_shape w) q
 -- the constructors of these levels
 pub binary_goes : (l : Level) (ts us : List Terminal) (a b : Expr) (t : Terminal) (o : Operator) → left_operator l t ≡ Some o
     → ReadsAs l ts a → ReadsAs (below l) us b → ReadsAs l (ts ++ (t ∷ us)) (Trees.BinOp a o b)
-binary_goes BitOr ts us a b t o e p q =
-    (suc (max p.0 q.0), deeper (ReadsAt BitOr (ts ++ (t ∷ us)) (Trees.BinOp a o b)) (max p.0 q.0)
-    (λ d h. binary_climbs BitOr BitXor ts us a b t o d refl refl e (p.1 (suc d) (omega (arith, h)))
-    (λ rest s. answers BitXor us b d rest (q.1 d (omega (arith, h))) (omega (arith, s)))),
-    λ d h. no_target BitOr (ts ++ (t ∷ us)) (Trees.BinOp a o b) d refl)
-binary_goes BitXor ts us a b t o e p q =
-    (suc (max p.0 q.0), deeper (ReadsAt BitXor (ts ++ (t ∷ us)) (Trees.BinOp a o b)) (max p.0 q.0)
-    (λ d h. binary_climbs BitXor BitAnd ts us a b t o d refl refl e (p.1 (suc d) (omega (arith, h)))
-    (λ rest s. answers BitAnd us b d rest (q.1 d (omega (arith, h))) (omega (arith, s)))),
-    λ d h. no_target BitXor (ts ++ (t ∷ us)) (Trees.BinOp a o b) d refl)
-binary_goes BitAnd ts us a b t o e p q =
-    (suc (max p.0 q.0), deeper (ReadsAt BitAnd (ts ++ (t ∷ us)) (Trees.BinOp a o b)) (max p.0 q.0)
-    (λ d h. binary_climbs BitAnd Shift ts us a b t o d refl refl e (p.1 (suc d) (omega (arith, h)))
-    (λ rest s. answers Shift us b d rest (q.1 d (omega (arith, h))) (omega (arith, s)))),
-    λ d h. no_target BitAnd (ts ++ (t ∷ us)) (Trees.BinOp a o b) d refl)
-binary_goes Shift ts us a b t o e p q =
-    (suc (max p.0 q.0), deeper (ReadsAt Shift (ts ++ (t ∷ us)) (Trees.BinOp a o b)) (max p.0 q.0)
-    (λ d h. binary_climbs Shift Sum ts us a b t o d refl refl e (p.1 (suc d) (omega (arith, h)))
-    (λ rest s. answers Sum us b d rest (q.1 d (omega (arith, h))) (omega (arith, s)))),
-    λ d h. no_target Shift (ts ++ (t ∷ us)) (Trees.BinOp a o b) d refl)
-binary_goes Sum ts us a b t o e p q =
-    (suc (max p.0 q.0), deeper (ReadsAt Sum (ts ++ (t ∷ us)) (Trees.BinOp a o b)) (max p.0 q.0)
-    (λ d h. binary_climbs Sum Term ts us a b t o d refl refl e (p.1 (suc d) (omega (arith, h)))
-    (λ rest s. answers Term us b d rest (q.1 d (omega (arith, h))) (omega (arith, s)))),
-    λ d h. no_target Sum (ts ++ (t ∷ us)) (Trees.BinOp a o b) d refl)
-binary_goes Term ts us a b t o e p q =
-    (suc (max p.0 q.0), deeper (ReadsAt Term (ts ++ (t ∷ us)) (Trees.BinOp a o b)) (max p.0 q.0)
-    (λ d h. binary_climbs Term Factor ts us a b t o d refl refl e (p.1 (suc d) (omega (arith, h)))
-    (λ rest s. answers Factor us b d rest (q.1 d (omega (arith, h))) (omega (arith, s)))),
-    λ d h. no_target Term (ts ++ (t ∷ us)) (Trees.BinOp a o b) d refl)
+binary_goes BitOr ts us a b t o e p q = (
+  suc (max p.0 q.0),
+  deeper (ReadsAt BitOr (ts ++ (t ∷ us)) (Trees.BinOp a o b)) (max p.0 q.0)
+      (λ d h. binary_climbs BitOr BitXor ts us a b t o d refl refl e (p.1 (suc d) (omega (arith, h)))
+      (λ rest s. answers BitXor us b d rest (q.1 d (omega (arith, h))) (omega (arith, s)))),
+  λ d h. no_target BitOr (ts ++ (t ∷ us)) (Trees.BinOp a o b) d refl,
+)
+binary_goes BitXor ts us a b t o e p q = (
+  suc (max p.0 q.0),
+  deeper (ReadsAt BitXor (ts ++ (t ∷ us)) (Trees.BinOp a o b)) (max p.0 q.0)
+      (λ d h. binary_climbs BitXor BitAnd ts us a b t o d refl refl e (p.1 (suc d) (omega (arith, h)))
+      (λ rest s. answers BitAnd us b d rest (q.1 d (omega (arith, h))) (omega (arith, s)))),
+  λ d h. no_target BitXor (ts ++ (t ∷ us)) (Trees.BinOp a o b) d refl,
+)
+binary_goes BitAnd ts us a b t o e p q = (
+  suc (max p.0 q.0),
+  deeper (ReadsAt BitAnd (ts ++ (t ∷ us)) (Trees.BinOp a o b)) (max p.0 q.0)
+      (λ d h. binary_climbs BitAnd Shift ts us a b t o d refl refl e (p.1 (suc d) (omega (arith, h)))
+      (λ rest s. answers Shift us b d rest (q.1 d (omega (arith, h))) (omega (arith, s)))),
+  λ d h. no_target BitAnd (ts ++ (t ∷ us)) (Trees.BinOp a o b) d refl,
+)
+binary_goes Shift ts us a b t o e p q = (
+  suc (max p.0 q.0),
+  deeper (ReadsAt Shift (ts ++ (t ∷ us)) (Trees.BinOp a o b)) (max p.0 q.0)
+      (λ d h. binary_climbs Shift Sum ts us a b t o d refl refl e (p.1 (suc d) (omega (arith, h)))
+      (λ rest s. answers Sum us b d rest (q.1 d (omega (arith, h))) (omega (arith, s)))),
+  λ d h. no_target Shift (ts ++ (t ∷ us)) (Trees.BinOp a o b) d refl,
+)
+binary_goes Sum ts us a b t o e p q = (
+  suc (max p.0 q.0),
+  deeper (ReadsAt Sum (ts ++ (t ∷ us)) (Trees.BinOp a o b)) (max p.0 q.0)
+      (λ d h. binary_climbs Sum Term ts us a b t o d refl refl e (p.1 (suc d) (omega (arith, h)))
+      (λ rest s. answers Term us b d rest (q.1 d (omega (arith, h))) (omega (arith, s)))),
+  λ d h. no_target Sum (ts ++ (t ∷ us)) (Trees.BinOp a o b) d refl,
+)
+binary_goes Term ts us a b t o e p q = (
+  suc (max p.0 q.0),
+  deeper (ReadsAt Term (ts ++ (t ∷ us)) (Trees.BinOp a o b)) (max p.0 q.0)
+      (λ d h. binary_climbs Term Factor ts us a b t o d refl refl e (p.1 (suc d) (omega (arith, h)))
+      (λ rest s. answers Factor us b d rest (q.1 d (omega (arith, h))) (omega (arith, s)))),
+  λ d h. no_target Term (ts ++ (t ∷ us)) (Trees.BinOp a o b) d refl,
+)
 binary_goes _ ts us a b t o e p q = absurd (cc)
 
 pub unary_goes : (l : Level) (ts : List Terminal) (t : Terminal) (o : UnaryOperator) (e : Expr) → prefix_operator l t ≡ Some o
     → ReadsAs l ts e → ReadsAs l (t ∷ ts) (Trees.UnaryOp o e)
-unary_goes Not ts t o e h p =
-    (suc p.0, deeper (ReadsAt Not (t ∷ ts) (Trees.UnaryOp o e)) p.0
-    (λ d w. unary_climbs Not ts t o e d h (λ rest s. answers Not ts e d rest (p.1 d w) (omega (arith, s)))),
-    λ d w. no_target Not (t ∷ ts) (Trees.UnaryOp o e) d refl)
-unary_goes Factor ts t o e h p =
-    (suc p.0, deeper (ReadsAt Factor (t ∷ ts) (Trees.UnaryOp o e)) p.0
-    (λ d w. unary_climbs Factor ts t o e d h (λ rest s. answers Factor ts e d rest (p.1 d w) (omega (arith, s)))),
-    λ d w. no_target Factor (t ∷ ts) (Trees.UnaryOp o e) d refl)
+unary_goes Not ts t o e h p = (
+  suc p.0,
+  deeper (ReadsAt Not (t ∷ ts) (Trees.UnaryOp o e)) p.0
+      (λ d w. unary_climbs Not ts t o e d h (λ rest s. answers Not ts e d rest (p.1 d w) (omega (arith, s)))),
+  λ d w. no_target Not (t ∷ ts) (Trees.UnaryOp o e) d refl,
+)
+unary_goes Factor ts t o e h p = (
+  suc p.0,
+  deeper (ReadsAt Factor (t ∷ ts) (Trees.UnaryOp o e)) p.0
+      (λ d w. unary_climbs Factor ts t o e d h (λ rest s. answers Factor ts e d rest (p.1 d w) (omega (arith, s)))),
+  λ d w. no_target Factor (t ∷ ts) (Trees.UnaryOp o e) d refl,
+)
 unary_goes _ ts t o e h p = absurd (cc)
 
 pub chain_goes : (o : BoolOperator) (ts us : List Terminal) (e : Expr) (es : List Expr) → ReadsAs (below (chain_level o)) ts e
     → ChainReads o us es → ReadsAs (chain_level o) (ts ++ (Word (chain_word o) ∷ us)) (Trees.BoolOp o (exprs (e ∷ es)))
-chain_goes Join.And ts us e es p q =
-    (suc (max p.0 q.0), deeper (ReadsAt And (ts ++ (Word Key.And ∷ us)) (Trees.BoolOp Join.And (exprs (e ∷ es)))) (max p.0 q.0)
-    (λ d h. chain_climbs Join.And And Not ts us e es d refl refl (omega arith) (omega arith) (p.1 (suc d) (omega (arith, h)))
-    (λ rest s. q.1 d (omega (arith, h)) rest s (suc (length (us ++ rest))) (omega arith) [])),
-    λ d h. no_target And (ts ++ (Word Key.And ∷ us)) (Trees.BoolOp Join.And (exprs (e ∷ es))) d refl)
-chain_goes Join.Or ts us e es p q =
-    (suc (max p.0 q.0), deeper (ReadsAt Or (ts ++ (Word Key.Or ∷ us)) (Trees.BoolOp Join.Or (exprs (e ∷ es)))) (max p.0 q.0)
-    (λ d h. chain_climbs Join.Or Or And ts us e es d refl refl (omega arith) (omega arith) (p.1 (suc d) (omega (arith, h)))
-    (λ rest s. q.1 d (omega (arith, h)) rest s (suc (length (us ++ rest))) (omega arith) [])),
-    λ d h. no_target Or (ts ++ (Word Key.Or ∷ us)) (Trees.BoolOp Join.Or (exprs (e ∷ es))) d refl)
+chain_goes Join.And ts us e es p q = (
+  suc (max p.0 q.0),
+  deeper (ReadsAt And (ts ++ (Word Key.And ∷ us)) (Trees.BoolOp Join.And (exprs (e ∷ es)))) (max p.0 q.0)
+      (λ d h. chain_climbs Join.And And Not ts us e es d refl refl (omega arith) (omega arith) (p.1 (suc d) (omega (arith, h)))
+      (λ rest s. q.1 d (omega (arith, h)) rest s (suc (length (us ++ rest))) (omega arith) [])),
+  λ d h. no_target And (ts ++ (Word Key.And ∷ us)) (Trees.BoolOp Join.And (exprs (e ∷ es))) d refl,
+)
+chain_goes Join.Or ts us e es p q = (
+  suc (max p.0 q.0),
+  deeper (ReadsAt Or (ts ++ (Word Key.Or ∷ us)) (Trees.BoolOp Join.Or (exprs (e ∷ es)))) (max p.0 q.0)
+      (λ d h. chain_climbs Join.Or Or And ts us e es d refl refl (omega arith) (omega arith) (p.1 (suc d) (omega (arith, h)))
+      (λ rest s. q.1 d (omega (arith, h)) rest s (suc (length (us ++ rest))) (omega arith) [])),
+  λ d h. no_target Or (ts ++ (Word Key.Or ∷ us)) (Trees.BoolOp Join.Or (exprs (e ∷ es))) d refl,
+)
 
 pub power_goes : (ts us : List Terminal) (a b : Expr) → ReadsAs Await ts a → ReadsAs Factor us b
     → ReadsAs Power (ts ++ (Op DoubleStar ∷ us)) (Trees.BinOp a Bin.Pow b)
-power_goes ts us a b p q = (suc (max p.0 q.0), deeper (ReadsAt Power (ts ++ (Op DoubleStar ∷ us)) (Trees.BinOp a Bin.Pow b)) (max p.0 q.0)
-    (λ d h. power_climbs ts us a b d (p.1 (suc d) (omega (arith, h))) (q.1 d (omega (arith, h)))),
-    λ d h. no_target Power (ts ++ (Op DoubleStar ∷ us)) (Trees.BinOp a Bin.Pow b) d refl)
+power_goes ts us a b p q = (
+  suc (max p.0 q.0),
+  deeper (ReadsAt Power (ts ++ (Op DoubleStar ∷ us)) (Trees.BinOp a Bin.Pow b)) (max p.0 q.0)
+      (λ d h. power_climbs ts us a b d (p.1 (suc d) (omega (arith, h))) (q.1 d (omega (arith, h)))),
+  λ d h. no_target Power (ts ++ (Op DoubleStar ∷ us)) (Trees.BinOp a Bin.Pow b) d refl,
+)
 
 pub await_goes : (ts : List Terminal) (e : Expr) → ReadsAs Primary ts e → ReadsAs Await (Word Key.Await ∷ ts) (Trees.Await e)
-await_goes ts e p = (suc p.0, deeper (ReadsAt Await (Word Key.Await ∷ ts) (Trees.Await e)) p.0 (λ d h. await_climbs ts e d (p.1 d h)),
-    λ d h. no_target Await (Word Key.Await ∷ ts) (Trees.Await e) d refl)
+await_goes ts e p = (
+  suc p.0,
+  deeper (ReadsAt Await (Word Key.Await ∷ ts) (Trees.Await e)) p.0 (λ d h. await_climbs ts e d (p.1 d h)),
+  λ d h. no_target Await (Word Key.Await ∷ ts) (Trees.Await e) d refl,
+)

@@ -84,7 +84,7 @@ subscript_goes ts us e s p q = primary_goes (ts ++ (Op LSqb ∷ (us ++ (Op RSqb 
     let i = us ++ (Op RSqb ∷ rest) in
     let c = p.1 (suc d) (omega (arith, h)) (Op LSqb ∷ i) (omega arith) in
     let w = index_more (read (suc d)) c.0 e s i rest (q.1 d (omega (arith, h)) (Op RSqb ∷ rest) (omega arith, omega arith))
-        (omega (arith, length-append us (Op RSqb ∷ rest))) c.1 in
+    (omega (arith, length-append us (Op RSqb ∷ rest))) c.1 in
     (w.0, w.1, ap (read (suc (suc d)) Primary) (bracket_shape ts us rest (Op LSqb) (Op RSqb)) ∙ c.2 ∙ w.2)))
 
 call_none_step : (self : Reads) (f e : Expr) (rest : List Terminal) → called f [] ≡ Some e
@@ -124,11 +124,16 @@ call_some_goes ts us xs vs f e a es h sp st p q t = any_call ts us f e (max q.0 
     let c = Op RPar ∷ rest in
     let r = vs ++ (Op RPar ∷ rest) in
     ap (call_step (read (suc d)) f) (sp (Op RPar ∷ rest)) ∙ call_first_step (read (suc d)) f e (xs ++ r) r rest a (a ∷ es) (st r)
-        (q.1 d (omega (arith, w)) r (tail_keeps (λ r. (grip_of r ≤ 7) × (grip_of r ≡ 1 → ⊥)) vs c t.2 (omega arith,
-        λ q. absurd (omega (arith, q))) (λ r. (omega arith, λ q. absurd (omega (arith, q))))))
-        (tail_keeps (λ r. starts_comp r ≡ false) vs c t.2 refl (λ r. refl))
-        (t.1 d (omega (arith, w)) (λ r. (omega arith, λ q. absurd (omega (arith, q)))) c (refl, (λ q. absurd (omega (arith, q))),
-        (omega arith, λ q. absurd (omega (arith, q)))) a) h) p
+    (q.1 d (omega (arith, w)) r (tail_keeps (λ r. (grip_of r ≤ 7) × (grip_of r ≡ 1 → ⊥)) vs c t.2 (
+      omega arith,
+      λ q. absurd (omega (arith, q)),
+    ) (λ r. (omega arith, λ q. absurd (omega (arith, q))))))
+    (tail_keeps (λ r. starts_comp r ≡ false) vs c t.2 refl (λ r. refl))
+    (t.1 d (omega (arith, w)) (λ r. (omega arith, λ q. absurd (omega (arith, q)))) c (
+      refl,
+      (λ q. absurd (omega (arith, q))),
+      (omega arith, λ q. absurd (omega (arith, q))),
+    ) a) h) p
 
 call_generator_goes : (ts us vs : List Terminal) (f e : Expr) (gs : List Comprehension)
     → ((r : List Terminal) → starts Argument (us ++ r) ≡ true) → ReadsAs Primary ts f → PieceReads Argument us (Single e) → G.Comps vs gs
@@ -137,15 +142,15 @@ call_generator_goes : (ts us vs : List Terminal) (f e : Expr) (gs : List Compreh
 call_generator_goes ts us vs f e gs st p q w k =
     let g = Trees.Call f (an_expr (Trees.GeneratorExp e (comprehensions gs)) no_exprs) Trees.no_keyword in
     subst (λ z. ReadsAs Primary (ts ++ (Op LPar ∷ z)) (Trees.Call f (an_expr (Trees.GeneratorExp e (comprehensions gs)) no_exprs)
-        Trees.no_keyword)) (append_assoc us vs (Op RPar ∷ []))
-        (any_call ts (us ++ vs) f (Trees.Call f (an_expr (Trees.GeneratorExp e (comprehensions gs)) no_exprs) Trees.no_keyword)
-        (max q.0 k.0) (λ d h rest.
+    Trees.no_keyword)) (append_assoc us vs (Op RPar ∷ []))
+    (any_call ts (us ++ vs) f (Trees.Call f (an_expr (Trees.GeneratorExp e (comprehensions gs)) no_exprs) Trees.no_keyword)
+    (max q.0 k.0) (λ d h rest.
     let r = vs ++ (Op RPar ∷ rest) in
     let c = comps_first w (Op RPar ∷ rest) in
     ap (call_step (read (suc d)) f) (append_assoc us vs (Op RPar ∷ rest)) ∙ call_generator_step (read (suc d)) f e g (us ++ r) r rest (st r)
-        (q.1 d (omega (arith, h)) r (omega (arith, c.0), λ q. omega (arith, q, c.0))) c.1
-        (comps_close vs gs k d (omega (arith, h)) RPar rest refl
-        (λ gs. Trees.Call f (an_expr (Trees.GeneratorExp e (comprehensions gs)) no_exprs) Trees.no_keyword))) p)
+    (q.1 d (omega (arith, h)) r (omega (arith, c.0), λ q. omega (arith, q, c.0))) c.1
+    (comps_close vs gs k d (omega (arith, h)) RPar rest refl
+    (λ gs. Trees.Call f (an_expr (Trees.GeneratorExp e (comprehensions gs)) no_exprs) Trees.no_keyword))) p)
 
 split_last : (ts : List Terminal) → Splits ts ts []
 split_last ts r = refl

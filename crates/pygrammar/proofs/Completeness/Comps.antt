@@ -72,8 +72,12 @@ starts_low l (t ∷ r) h = low (leb (first l) (lead t)) refl
     low true q = absurd (omega (arith, h, leb-true (first l) (lead t) q))
 
 pub no_item_goes : (i : Item) → ListingReads i [] []
-no_item_goes i = (0, (λ d h w rest s m le acc. listing_end (piece (read (suc d)) i) i m acc rest s.0
-    ∙ ap (λ z. Found z rest) (sym (append_no acc))), λ d h. target i d)
+no_item_goes i = (
+  0,
+  (λ d h w rest s m le acc. listing_end (piece (read (suc d)) i) i m acc rest s.0
+      ∙ ap (λ z. Found z rest) (sym (append_no acc))),
+  λ d h. target i d,
+)
   where
     target : (i : Item) (d : ℕ) → ListingTarget i [] [] d
     target (Of StarItem) d = λ z q rest g c l m le acc. listing_end (target_piece (read (suc d))) (Of StarItem) m acc rest
@@ -102,7 +106,7 @@ last_target (Of StarItem) ts a d st (e, eq, p) = λ z q rest g c l m le acc. go 
     go z q rest g c (suc m) le acc =
         let w = both_some (stored e) (Some no_exprs) z (sym (ap (λ x. all_stored (singles (x ∷ []))) eq) ∙ q) in
         listing_last (target_piece (read (suc d))) (Of StarItem) m acc (ts ++ rest) rest a (st rest) (p w.0.0 w.0.1 rest g
-            ∙ ap (λ x. Found x rest) (sym eq)) c
+        ∙ ap (λ x. Found x rest) (sym eq)) c
 last_target _ ts a d st p = tt
 
 item_target : (i : Item) (ts us : List Terminal) (a : Entry) (es : List Entry) (d : ℕ) → ((us : List Terminal) → starts i (ts ++ us) ≡ true)
@@ -115,13 +119,18 @@ item_target (Of StarItem) ts us a es d st (e, eq, p) k = λ z q rest g c l m le 
     go z q rest g c l zero le acc = absurd (omega (arith, le, length-append (ts ++ (Op Comma ∷ us)) rest, length-append ts (Op Comma ∷ us)))
     go z q rest g c l (suc m) le acc =
         let w = both_some (stored e) (all_stored (singles es)) z (sym (ap (λ x. all_stored (singles (x ∷ es))) eq) ∙ q) in
-        let l1 : length (us ++ rest) ≤ m = omega (arith, le, length-append (ts ++ (Op Comma ∷ us)) rest, length-append ts (Op Comma ∷ us),
-            length-append us rest) in
+        let l1 : length (us ++ rest) ≤ m = omega (
+          arith,
+          le,
+          length-append (ts ++ (Op Comma ∷ us)) rest,
+          length-append ts (Op Comma ∷ us),
+          length-append us rest,
+        ) in
         let h1 = p w.0.0 w.0.1 (Op Comma ∷ (us ++ rest)) (omega arith) ∙ ap (λ x. Found x (Op Comma ∷ (us ++ rest))) (sym eq) in
         ap (listing_loop (target_piece (read (suc d))) (Of StarItem) (suc m) acc) (append_assoc ts (Op Comma ∷ us) rest)
-            ∙ (listing_more (target_piece (read (suc d))) (Of StarItem) m acc (ts ++ (Op Comma ∷ (us ++ rest))) (us ++ rest) a
-            (st (Op Comma ∷ (us ++ rest))) h1 ∙ (k w.1.0 w.1.1 rest g c l m l1 (acc ++ (a ∷ []))
-            ∙ ap (λ z. Found z rest) (append_assoc acc (a ∷ []) es)))
+        ∙ (listing_more (target_piece (read (suc d))) (Of StarItem) m acc (ts ++ (Op Comma ∷ (us ++ rest))) (us ++ rest) a
+        (st (Op Comma ∷ (us ++ rest))) h1 ∙ (k w.1.0 w.1.1 rest g c l m l1 (acc ++ (a ∷ []))
+        ∙ ap (λ z. Found z rest) (append_assoc acc (a ∷ []) es)))
 item_target _ ts us a es d st p k = tt
 
 pub last_item_goes : (i : Item) (ts : List Terminal) (a : Entry) → ((us : List Terminal) → starts i (ts ++ us) ≡ true) → PieceReads i ts a
@@ -143,12 +152,17 @@ item_goes i ts us a es st p k =
         → listing_loop (piece (read (suc d)) i) i m acc ((ts ++ (Op Comma ∷ us)) ++ rest) ≡ Found (acc ++ (a ∷ es)) rest
     go d h w rest s zero le acc = absurd (omega (arith, le, length-append (ts ++ (Op Comma ∷ us)) rest, length-append ts (Op Comma ∷ us)))
     go d h w rest s (suc m) le acc =
-        let l1 : length (us ++ rest) ≤ m = omega (arith, le, length-append (ts ++ (Op Comma ∷ us)) rest, length-append ts (Op Comma ∷ us),
-            length-append us rest) in
+        let l1 : length (us ++ rest) ≤ m = omega (
+          arith,
+          le,
+          length-append (ts ++ (Op Comma ∷ us)) rest,
+          length-append ts (Op Comma ∷ us),
+          length-append us rest,
+        ) in
         ap (listing_loop (piece (read (suc d)) i) i (suc m) acc) (append_assoc ts (Op Comma ∷ us) rest)
-            ∙ (listing_more (piece (read (suc d)) i) i m acc (ts ++ (Op Comma ∷ (us ++ rest))) (us ++ rest) a (st (Op Comma ∷ (us ++ rest)))
-            (p.1 d (omega (arith, h)) (Op Comma ∷ (us ++ rest)) (w (us ++ rest)))
-            ∙ (k.1 d (omega (arith, h)) w rest s m l1 (acc ++ (a ∷ [])) ∙ ap (λ z. Found z rest) (append_assoc acc (a ∷ []) es)))
+        ∙ (listing_more (piece (read (suc d)) i) i m acc (ts ++ (Op Comma ∷ (us ++ rest))) (us ++ rest) a (st (Op Comma ∷ (us ++ rest)))
+        (p.1 d (omega (arith, h)) (Op Comma ∷ (us ++ rest)) (w (us ++ rest)))
+        ∙ (k.1 d (omega (arith, h)) w rest s m l1 (acc ++ (a ∷ [])) ∙ ap (λ z. Found z rest) (append_assoc acc (a ∷ []) es)))
 
 -- conditions of a comprehension
 abbrev pub IfsReads : List Terminal → List Expr → Type 0
@@ -181,8 +195,8 @@ if_one_goes ts us e es p w q = (max p.0 q.0, go)
         let l1 : length (us ++ rest) ≤ m = omega (arith, le, length-append (ts ++ us) rest, length-append ts us, length-append us rest) in
         let h1 = answers Or ts e d (us ++ rest) (p.1 d (omega (arith, h))) (omega (arith, ifs_grip w rest g)) in
         ap (λ z. ifs_loop (read (suc d)) (suc m) acc (Word Key.If ∷ z)) (append_assoc ts us rest)
-            ∙ (ifs_more (read (suc d)) m acc (ts ++ (us ++ rest)) (us ++ rest) e h1
-            ∙ (q.1 d (omega (arith, h)) rest g m l1 (acc ++ (e ∷ [])) ∙ ap (λ z. Found z rest) (append_assoc acc (e ∷ []) es)))
+        ∙ (ifs_more (read (suc d)) m acc (ts ++ (us ++ rest)) (us ++ rest) e h1
+        ∙ (q.1 d (omega (arith, h)) rest g m l1 (acc ++ (e ∷ [])) ∙ ap (λ z. Found z rest) (append_assoc acc (e ∷ []) es)))
 
 -- one `for` of a comprehension
 abbrev pub ForInReads : Bool → List Terminal → Comprehension → Type 0
@@ -204,12 +218,12 @@ target_in_goes b ts us vs t s e cs p st q w k = (
   max p.0 (max q.0 k.0),
   λ d h rest g.
       let h1 = p.2 d (omega (arith, h)) s st (Word Key.In ∷ (us ++ (vs ++ rest))) (omega arith)
-          (λ q. absurd (omega (arith, q))) (omega arith) in
+      (λ q. absurd (omega (arith, q))) (omega arith) in
       let h2 = answers Or us e d (vs ++ rest) (q.1 d (omega (arith, h))) (omega (arith, ifs_grip w rest g)) in
       let h3 = k.1 d (omega (arith, h)) rest g (length (vs ++ rest)) (omega arith) [] in
       ap (for_in_step (read (suc d)) b) (in_shape ts us vs rest (Word Key.In))
-          ∙ for_in_one (read (suc d)) b (ts ++ (Word Key.In ∷ (us ++ (vs ++ rest)))) (us ++ (vs ++ rest)) (vs ++ rest)
-          rest t s e cs h1 h2 h3 st,
+      ∙ for_in_one (read (suc d)) b (ts ++ (Word Key.In ∷ (us ++ (vs ++ rest)))) (us ++ (vs ++ rest)) (vs ++ rest)
+      rest t s e cs h1 h2 h3 st,
 )
 
 abbrev pub CompReads : List Terminal → Comprehension → Type 0
@@ -272,11 +286,17 @@ comps_goes ts us g gs v w p q = (max p.0 q.0, go)
     go d h s rest z (suc m) le acc =
         let c = comps_first w (Op s ∷ rest) in
         let b = comp_first v [] in
-        let l1 : length (us ++ (Op s ∷ rest)) ≤ m = omega (arith, le, b.2, length-append (ts ++ us) (Op s ∷ rest), length-append ts us,
-            length-append us (Op s ∷ rest)) in
+        let l1 : length (us ++ (Op s ∷ rest)) ≤ m = omega (
+          arith,
+          le,
+          b.2,
+          length-append (ts ++ us) (Op s ∷ rest),
+          length-append ts us,
+          length-append us (Op s ∷ rest),
+        ) in
         ap (comps_loop (read (suc d)) (suc m) acc) (append_assoc ts us (Op s ∷ rest))
-            ∙ (p.1 d (omega (arith, h)) (us ++ (Op s ∷ rest)) (omega (arith, c.0)) m acc
-            ∙ (q.1 d (omega (arith, h)) s rest z m l1 (acc ++ (g ∷ [])) ∙ ap (λ z. Found z (Op s ∷ rest)) (append_assoc acc (g ∷ []) gs)))
+        ∙ (p.1 d (omega (arith, h)) (us ++ (Op s ∷ rest)) (omega (arith, c.0)) m acc
+        ∙ (q.1 d (omega (arith, h)) s rest z m l1 (acc ++ (g ∷ [])) ∙ ap (λ z. Found z (Op s ∷ rest)) (append_assoc acc (g ∷ []) gs)))
 
 comps_closed_step : (self : Reads) (s : Exact) (i rest : List Terminal) (gs : List Comprehension) (make : List Comprehension → Expr)
     → comps_loop self (length i) [] i ≡ Found gs (Op s ∷ rest) → comps_closed self s i make ≡ Found (make gs) rest

@@ -70,13 +70,19 @@ yield_some_step self i rest a h = rw h refl
 
 pub yield_some_goes : (ts : List Terminal) (a : OptionalExpr) → G.Perhaps Stars ts a → PerhapsReads Stars ts a
     → YieldsReads ts (Trees.Yield a)
-yield_some_goes ts a w p = (p.0, λ d h rest s. not_from w rest s.0 (Answer Expr) _ _ ∙ yield_some_step (read (suc d)) (ts ++ rest) rest a
-    (p.1 d h rest s (starts_low Stars rest (omega (arith, s.1)))))
+yield_some_goes ts a w p = (
+  p.0,
+  λ d h rest s. not_from w rest s.0 (Answer Expr) _ _ ∙ yield_some_step (read (suc d)) (ts ++ rest) rest a
+      (p.1 d h rest s (starts_low Stars rest (omega (arith, s.1)))),
+)
 
 pub yields_goes : (ts : List Terminal) (e : Expr) → YieldsReads ts e → ReadsAs Value (Word Key.Yield ∷ ts) e
-yields_goes ts e p =
-    (suc p.0, deeper (ReadsAt Value (Word Key.Yield ∷ ts) e) p.0 (λ d h rest s. unroll (suc d) Value (Word Key.Yield ∷ (ts ++ rest))
-    ∙ p.1 d h rest s), λ d h. tt)
+yields_goes ts e p = (
+  suc p.0,
+  deeper (ReadsAt Value (Word Key.Yield ∷ ts) e) p.0 (λ d h rest s. unroll (suc d) Value (Word Key.Yield ∷ (ts ++ rest))
+      ∙ p.1 d h rest s),
+  λ d h. tt,
+)
 
 -- stars
 starred_step : (self : Reads) (l : Level) (i rest : List Terminal) (e : Expr) (other : Answer Expr) → self l i ≡ Found e rest
@@ -88,24 +94,32 @@ starred_stored (Trees.Starred e c) s h = absurd (cc)
 starred_stored e s h = mapped_some (λ f. Trees.Starred f Store) (stored e) s h
 
 pub star_item_goes : (ts : List Terminal) (e : Expr) → ReadsAs BitOr ts e → ReadsAs StarItem (Op Star ∷ ts) (Trees.Starred e Load)
-star_item_goes ts e p =
-    (suc p.0, deeper (ReadsAt StarItem (Op Star ∷ ts) (Trees.Starred e Load)) p.0
-    (λ d h rest s. unroll (suc d) StarItem (Op Star ∷ (ts ++ rest)) ∙ starred_step (read (suc d)) BitOr (ts ++ rest) rest e
-    (read (suc (suc d)) Expression (Op Star ∷ (ts ++ rest))) (answers BitOr ts e d rest (p.1 d h) (omega (arith, s)))),
-    λ d h s q rest g. let w = starred_stored e s q in starred_step (read (suc d)) Primary (ts ++ rest) rest e
-    (read (suc d) Primary (Op Star ∷ (ts ++ rest))) (p.2 d (omega (arith, h)) w.0 w.1 rest g))
+star_item_goes ts e p = (
+  suc p.0,
+  deeper (ReadsAt StarItem (Op Star ∷ ts) (Trees.Starred e Load)) p.0
+      (λ d h rest s. unroll (suc d) StarItem (Op Star ∷ (ts ++ rest)) ∙ starred_step (read (suc d)) BitOr (ts ++ rest) rest e
+      (read (suc (suc d)) Expression (Op Star ∷ (ts ++ rest))) (answers BitOr ts e d rest (p.1 d h) (omega (arith, s)))),
+  λ d h s q rest g. let w = starred_stored e s q in starred_step (read (suc d)) Primary (ts ++ rest) rest e
+      (read (suc d) Primary (Op Star ∷ (ts ++ rest))) (p.2 d (omega (arith, h)) w.0 w.1 rest g),
+)
 
 pub star_elem_goes : (ts : List Terminal) (e : Expr) → ReadsAs BitOr ts e → ReadsAs Elem (Op Star ∷ ts) (Trees.Starred e Load)
-star_elem_goes ts e p =
-    (suc p.0, deeper (ReadsAt Elem (Op Star ∷ ts) (Trees.Starred e Load)) p.0 (λ d h rest s. unroll (suc d) Elem (Op Star ∷ (ts ++ rest))
-    ∙ starred_step (read (suc d)) BitOr (ts ++ rest) rest e (read (suc (suc d)) Named (Op Star ∷ (ts ++ rest)))
-    (answers BitOr ts e d rest (p.1 d h) (omega (arith, s)))), λ d h. tt)
+star_elem_goes ts e p = (
+  suc p.0,
+  deeper (ReadsAt Elem (Op Star ∷ ts) (Trees.Starred e Load)) p.0 (λ d h rest s. unroll (suc d) Elem (Op Star ∷ (ts ++ rest))
+      ∙ starred_step (read (suc d)) BitOr (ts ++ rest) rest e (read (suc (suc d)) Named (Op Star ∷ (ts ++ rest)))
+      (answers BitOr ts e d rest (p.1 d h) (omega (arith, s)))),
+  λ d h. tt,
+)
 
 pub star_part_goes : (ts : List Terminal) (e : Expr) → ReadsAs Expression ts e → ReadsAs Part (Op Star ∷ ts) (Trees.Starred e Load)
-star_part_goes ts e p =
-    (suc p.0, deeper (ReadsAt Part (Op Star ∷ ts) (Trees.Starred e Load)) p.0 (λ d h rest s. unroll (suc d) Part (Op Star ∷ (ts ++ rest))
-    ∙ starred_step (read (suc d)) Expression (ts ++ rest) rest e (read (suc (suc d)) Slice (Op Star ∷ (ts ++ rest)))
-    (p.1 d h rest (omega (arith, s.0)))), λ d h. tt)
+star_part_goes ts e p = (
+  suc p.0,
+  deeper (ReadsAt Part (Op Star ∷ ts) (Trees.Starred e Load)) p.0 (λ d h rest s. unroll (suc d) Part (Op Star ∷ (ts ++ rest))
+      ∙ starred_step (read (suc d)) Expression (ts ++ rest) rest e (read (suc (suc d)) Slice (Op Star ∷ (ts ++ rest)))
+      (p.1 d h rest (omega (arith, s.0)))),
+  λ d h. tt,
+)
 
 star_slices_step : (next inner : Reads) (i rest : List Terminal) (e : Expr) → next Part (Op Star ∷ i) ≡ Found e rest
     → (grip_of rest ≡ 3 → ⊥) → level_step next inner Slices (Op Star ∷ i) ≡ Found (Trees.Tuple (an_expr e no_exprs) Load) rest
@@ -113,9 +127,13 @@ star_slices_step next inner i rest e h g = rw h (miss_op Comma rest _ _ g)
 
 pub star_slices_goes : (ts : List Terminal) (e : Expr) → ReadsAs Expression ts e
     → ReadsAs Slices (Op Star ∷ ts) (Trees.Tuple (an_expr (Trees.Starred e Load) no_exprs) Load)
-star_slices_goes ts e p = let k = star_part_goes ts e p in (k.0, λ d h rest s. unroll d Slices (Op Star ∷ (ts ++ rest))
-    ∙ star_slices_step (read (suc d)) (read d) (ts ++ rest) rest (Trees.Starred e Load)
-    (k.1 d h rest (omega (arith, s.0), omega (arith, s.1))) (λ q. omega (arith, s.0, q)), λ d h. tt)
+star_slices_goes ts e p = let k = star_part_goes ts e p in (
+  k.0,
+  λ d h rest s. unroll d Slices (Op Star ∷ (ts ++ rest))
+      ∙ star_slices_step (read (suc d)) (read d) (ts ++ rest) rest (Trees.Starred e Load)
+      (k.1 d h rest (omega (arith, s.0), omega (arith, s.1))) (λ q. omega (arith, s.0, q)),
+  λ d h. tt,
+)
 
 -- tuples without brackets
 tuple_step : (next inner : Reads) (i r rest : List Terminal) (e : Expr) (es : List Entry) → next StarItem i ≡ Found e (Op Comma ∷ r)
@@ -134,17 +152,20 @@ star_tuple_goes ts us e es p k = (
   suc (max p.0 k.0),
   deeper (ReadsAt Stars (ts ++ (Op Comma ∷ us)) (Trees.Tuple (an_expr e (singles es)) Load)) (max p.0 k.0) (λ d h rest s.
       let h1 = p.1 (suc d) (omega (arith, h)) (Op Comma ∷ (us ++ rest)) (omega arith) in
-      let h2 = k.1 d (omega (arith, h)) (λ r. omega arith) rest (starts_low StarItem rest (omega (arith, s.1)), λ q. omega (arith, s.0, q),
-          omega (arith, s.0)) (length (us ++ rest)) (omega arith) [] in
+      let h2 = k.1 d (omega (arith, h)) (λ r. omega arith) rest (
+        starts_low StarItem rest (omega (arith, s.1)),
+        λ q. omega (arith, s.0, q),
+        omega (arith, s.0),
+      ) (length (us ++ rest)) (omega arith) [] in
       ap (read (suc (suc d)) Stars) (append_assoc ts (Op Comma ∷ us) rest) ∙ (unroll (suc d) Stars (ts ++ (Op Comma ∷ (us ++ rest)))
-          ∙ tuple_step (read (suc (suc d))) (read (suc d)) (ts ++ (Op Comma ∷ (us ++ rest))) (us ++ rest) rest e es h1 h2)),
+      ∙ tuple_step (read (suc (suc d))) (read (suc d)) (ts ++ (Op Comma ∷ (us ++ rest))) (us ++ rest) rest e es h1 h2)),
   λ d h s q rest g c l.
       let v = mapped_some _ (both (stored e) (all_stored (singles es))) s q in
       let w = both_some (stored e) (all_stored (singles es)) v.0 v.1 in
       let h1 = p.2 d (omega (arith, h)) w.0.0 w.0.1 (Op Comma ∷ (us ++ rest)) (omega arith) in
       let h2 = k.2 d (omega (arith, h)) w.1.0 w.1.1 rest g c l (length (us ++ rest)) (omega arith) [] in
       ap (read_target (read (suc d))) (append_assoc ts (Op Comma ∷ us) rest)
-          ∙ target_tuple_step (read (suc d)) (ts ++ (Op Comma ∷ (us ++ rest))) (us ++ rest) rest e es h1 h2,
+      ∙ target_tuple_step (read (suc d)) (ts ++ (Op Comma ∷ (us ++ rest))) (us ++ rest) rest e es h1 h2,
 )
 
 parts_step : (next inner : Reads) (i r rest : List Terminal) (e : Expr) (es : List Entry) → next Part i ≡ Found e (Op Comma ∷ r)
@@ -158,10 +179,13 @@ parts_goes ts us e es p k = (
   suc (max p.0 k.0),
   deeper (ReadsAt Slices (ts ++ (Op Comma ∷ us)) (Trees.Tuple (an_expr e (singles es)) Load)) (max p.0 k.0) (λ d h rest s.
       let h1 = p.1 (suc d) (omega (arith, h)) (Op Comma ∷ (us ++ rest)) (omega arith, omega arith) in
-      let h2 = k.1 d (omega (arith, h)) (λ r. (omega arith, omega arith)) rest (starts_low Part rest (omega (arith, s.1)),
-          λ q. omega (arith, s.0, q), (omega (arith, s.0), omega (arith, s.1))) (length (us ++ rest)) (omega arith) [] in
+      let h2 = k.1 d (omega (arith, h)) (λ r. (omega arith, omega arith)) rest (
+        starts_low Part rest (omega (arith, s.1)),
+        λ q. omega (arith, s.0, q),
+        (omega (arith, s.0), omega (arith, s.1)),
+      ) (length (us ++ rest)) (omega arith) [] in
       ap (read (suc (suc d)) Slices) (append_assoc ts (Op Comma ∷ us) rest) ∙ (unroll (suc d) Slices (ts ++ (Op Comma ∷ (us ++ rest)))
-          ∙ parts_step (read (suc (suc d))) (read (suc d)) (ts ++ (Op Comma ∷ (us ++ rest))) (us ++ rest) rest e es h1 h2)),
+      ∙ parts_step (read (suc (suc d))) (read (suc d)) (ts ++ (Op Comma ∷ (us ++ rest))) (us ++ rest) rest e es h1 h2)),
   λ d h. tt,
 )
 
@@ -177,9 +201,9 @@ subject_tuple_goes ts us e es p k = (
   deeper (ReadsAt Subject (ts ++ (Op Comma ∷ us)) (Trees.Tuple (an_expr e (singles es)) Load)) (max p.0 k.0) (λ d h rest s.
       let h1 = p.1 (suc d) (omega (arith, h)) (Op Comma ∷ (us ++ rest)) (omega arith) in
       let h2 = k.1 d (omega (arith, h)) (λ r. omega arith) rest (starts_low Elem rest (omega (arith, s.2)), s.1, s.0)
-          (length (us ++ rest)) (omega arith) [] in
+      (length (us ++ rest)) (omega arith) [] in
       ap (read (suc (suc d)) Subject) (append_assoc ts (Op Comma ∷ us) rest) ∙ (unroll (suc d) Subject (ts ++ (Op Comma ∷ (us ++ rest)))
-          ∙ subject_tuple_step (read (suc (suc d))) (read (suc d)) (ts ++ (Op Comma ∷ (us ++ rest))) (us ++ rest) rest e es h1 h2)),
+      ∙ subject_tuple_step (read (suc (suc d))) (read (suc d)) (ts ++ (Op Comma ∷ (us ++ rest))) (us ++ rest) rest e es h1 h2)),
   λ d h. tt,
 )
 
@@ -190,9 +214,13 @@ named_form_step next inner x i rest e h = rw h refl
 
 pub named_goes : (x : Spelled) (ts : List Terminal) (e : Expr) → ReadsAs Expression ts e
     → ReadsAs Named (Ident x ∷ (Op ColonEqual ∷ ts)) (Trees.NamedExpr (Trees.Name x.form Store) e)
-named_goes x ts e p = (suc p.0, deeper (ReadsAt Named (Ident x ∷ (Op ColonEqual ∷ ts)) (Trees.NamedExpr (Trees.Name x.form Store) e)) p.0
-    (λ d h rest s. unroll (suc d) Named (Ident x ∷ (Op ColonEqual ∷ (ts ++ rest))) ∙ named_form_step (read (suc (suc d))) (read (suc d)) x
-    (ts ++ rest) rest e (p.1 d h rest (omega (arith, s)))), λ d h. tt)
+named_goes x ts e p = (
+  suc p.0,
+  deeper (ReadsAt Named (Ident x ∷ (Op ColonEqual ∷ ts)) (Trees.NamedExpr (Trees.Name x.form Store) e)) p.0
+      (λ d h rest s. unroll (suc d) Named (Ident x ∷ (Op ColonEqual ∷ (ts ++ rest))) ∙ named_form_step (read (suc (suc d))) (read (suc d)) x
+      (ts ++ rest) rest e (p.1 d h rest (omega (arith, s)))),
+  λ d h. tt,
+)
 
 lambda_form_step : (next inner : Reads) (i r rest : List Terminal) (ps : List Entry) (a : Arguments) (e : Expr)
     → listing_of inner (Parameter false) [] i ≡ Found ps (Op Colon ∷ r) → inner Expression r ≡ Found e rest → arranged ps ≡ Some a
@@ -209,12 +237,15 @@ lambda_goes ts us ps a e w k p = (
   suc (max p.0 k.0),
   deeper (ReadsAt Expression (Word Key.Lambda ∷ (ts ++ (Op Colon ∷ us))) (Trees.Lambda a e)) (max p.0 k.0) (λ d h rest s.
       let i = Op Colon ∷ (us ++ rest) in
-      let h1 = k.1 d (omega (arith, h)) (λ r. (λ q. absurd (omega (arith, q)), omega arith, omega arith)) i (refl,
-          λ q. absurd (omega (arith, q)), (λ q. absurd (omega (arith, q)), omega arith, omega arith)) (length (ts ++ i)) (omega arith) [] in
+      let h1 = k.1 d (omega (arith, h)) (λ r. (λ q. absurd (omega (arith, q)), omega arith, omega arith)) i (
+        refl,
+        λ q. absurd (omega (arith, q)),
+        (λ q. absurd (omega (arith, q)), omega arith, omega arith),
+      ) (length (ts ++ i)) (omega arith) [] in
       let h2 = p.1 d (omega (arith, h)) rest s in
       ap (λ z. read (suc (suc d)) Expression (Word Key.Lambda ∷ z)) (append_assoc ts (Op Colon ∷ us) rest)
-          ∙ (unroll (suc d) Expression (Word Key.Lambda ∷ (ts ++ i)) ∙ lambda_form_step (read (suc (suc d))) (read (suc d)) (ts ++ i)
-          (us ++ rest) rest ps a e h1 h2 w)),
+      ∙ (unroll (suc d) Expression (Word Key.Lambda ∷ (ts ++ i)) ∙ lambda_form_step (read (suc (suc d))) (read (suc d)) (ts ++ i)
+      (us ++ rest) rest ps a e h1 h2 w)),
   λ d h. no_target Expression (Word Key.Lambda ∷ (ts ++ (Op Colon ∷ us))) (Trees.Lambda a e) d refl,
 )
 
@@ -236,12 +267,12 @@ if_else_goes ts us vs a b c l p q r = (
       let r2 = vs ++ rest in
       let r1 = us ++ (Word Key.Else ∷ (vs ++ rest)) in
       let h1 = answers Or ts b (suc d) (Word Key.If ∷ (us ++ (Word Key.Else ∷ (vs ++ rest))))
-          (p.1 (suc d) (omega (arith, h))) (omega arith) in
+      (p.1 (suc d) (omega (arith, h))) (omega arith) in
       let h2 = answers Or us a d (Word Key.Else ∷ (vs ++ rest)) (q.1 d (omega (arith, h))) (omega arith) in
       let h3 = r.1 d (omega (arith, h)) rest s in
       ap (read (suc (suc d)) Expression) (if_shape ts us vs rest (Word Key.If) (Word Key.Else))
-          ∙ (unroll (suc d) Expression (ts ++ (Word Key.If ∷ r1)) ∙ if_else_form_step (read (suc (suc d))) (read (suc d)) ts
-          (Word Key.If ∷ r1) r1 r2 rest a b c l h1 h2 h3)),
+      ∙ (unroll (suc d) Expression (ts ++ (Word Key.If ∷ r1)) ∙ if_else_form_step (read (suc (suc d))) (read (suc d)) ts
+      (Word Key.If ∷ r1) r1 r2 rest a b c l h1 h2 h3)),
   λ d h. no_target Expression (ts ++ (Word Key.If ∷ (us ++ (Word Key.Else ∷ vs)))) (Trees.IfExp a b c) d refl,
 )
 
@@ -270,10 +301,12 @@ front_nothing = (0, λ d h i rest e k. unroll (suc d) Slice (Op Colon ∷ i) ∙
 
 pub front_something : (ts : List Terminal) (a : Expr) → 9 ≤ lead_of ts → ReadsAs Expression ts a → FrontReads ts (present a)
 front_something ts a w q =
-    let k = next_goes Named ts a w tt q in
-    (max q.0 k.0, λ d h i rest e v. unroll (suc d) Slice (ts ++ (Op Colon ∷ i)) ∙ front_step (read (suc (suc d))) (read (suc d)) ts i rest a
-        e w (k.1 (suc d) (omega (arith, h)) (Op Colon ∷ i) (omega arith)) (free (suc d) Expression ColonEqual (ts ++ (Op Colon ∷ i))
-        (Op Colon ∷ i) a (λ x us. refl) (q.1 (suc d) (omega (arith, h)) (Op Colon ∷ i) (omega arith)) (λ q. absurd (omega (arith, q)))) v)
+    let k = next_goes Named ts a w tt q in (
+      max q.0 k.0,
+      λ d h i rest e v. unroll (suc d) Slice (ts ++ (Op Colon ∷ i)) ∙ front_step (read (suc (suc d))) (read (suc d)) ts i rest a
+          e w (k.1 (suc d) (omega (arith, h)) (Op Colon ∷ i) (omega arith)) (free (suc d) Expression ColonEqual (ts ++ (Op Colon ∷ i))
+          (Op Colon ∷ i) a (λ x us. refl) (q.1 (suc d) (omega (arith, h)) (Op Colon ∷ i) (omega arith)) (λ q. absurd (omega (arith, q)))) v,
+    )
 
 pub slice_goes : (ts us : List Terminal) (a b : OptionalExpr) → FrontReads ts a → PerhapsReads Expression us b
     → ReadsAs Slice (ts ++ (Op Colon ∷ us)) (Trees.Slice a b absent)
@@ -281,9 +314,9 @@ slice_goes ts us a b f p = (
   suc (max f.0 p.0),
   deeper (ReadsAt Slice (ts ++ (Op Colon ∷ us)) (Trees.Slice a b absent)) (max f.0 p.0) (λ d h rest s.
       ap (read (suc (suc d)) Slice) (append_assoc ts (Op Colon ∷ us) rest)
-          ∙ f.1 d (omega (arith, h)) (us ++ rest) rest (Trees.Slice a b absent)
-          (slice_end (read (suc d)) a b (us ++ rest) rest (p.1 d (omega (arith, h)) rest (omega (arith, s.0))
-          (starts_low Expression rest (omega (arith, s.1)))) (λ q. omega (arith, s.0, q)))),
+      ∙ f.1 d (omega (arith, h)) (us ++ rest) rest (Trees.Slice a b absent)
+      (slice_end (read (suc d)) a b (us ++ rest) rest (p.1 d (omega (arith, h)) rest (omega (arith, s.0))
+      (starts_low Expression rest (omega (arith, s.1)))) (λ q. omega (arith, s.0, q)))),
   λ d h. tt,
 )
 
@@ -293,9 +326,9 @@ slice_step_goes ts us vs a b c f p q = (
   suc (max f.0 (max p.0 q.0)),
   deeper (ReadsAt Slice (ts ++ (Op Colon ∷ (us ++ (Op Colon ∷ vs)))) (Trees.Slice a b c)) (max f.0 (max p.0 q.0)) (λ d h rest s.
       ap (read (suc (suc d)) Slice) (if_shape ts us vs rest (Op Colon) (Op Colon))
-          ∙ f.1 d (omega (arith, h)) (us ++ (Op Colon ∷ (vs ++ rest))) rest (Trees.Slice a b c)
-          (slice_more (read (suc d)) a b c (us ++ (Op Colon ∷ (vs ++ rest))) (vs ++ rest) rest
-          (p.1 d (omega (arith, h)) (Op Colon ∷ (vs ++ rest)) (omega arith) refl) (q.1 d (omega (arith, h)) rest (omega (arith, s.0))
-          (starts_low Expression rest (omega (arith, s.1)))))),
+      ∙ f.1 d (omega (arith, h)) (us ++ (Op Colon ∷ (vs ++ rest))) rest (Trees.Slice a b c)
+      (slice_more (read (suc d)) a b c (us ++ (Op Colon ∷ (vs ++ rest))) (vs ++ rest) rest
+      (p.1 d (omega (arith, h)) (Op Colon ∷ (vs ++ rest)) (omega arith) refl) (q.1 d (omega (arith, h)) rest (omega (arith, s.0))
+      (starts_low Expression rest (omega (arith, s.1)))))),
   λ d h. tt,
 )

@@ -178,38 +178,77 @@ primary_target ts e d p s q rest g = answers Primary ts e d rest p g
 
 pub next_goes : (l : Level) (ts : List Terminal) (e : Expr) → first (below l) ≤ lead_of ts → NotStar (below l) ts
     → ReadsAs (below l) ts e → ReadsAs l ts e
-next_goes Value ts e l n p = (p.0, λ d h rest s. unroll d Value (ts ++ rest) ∙ (pass_word Key.Yield ts rest _ _ (omega (arith, l))
-    ∙ p.1 d h rest s), λ d h. tt)
-next_goes Stars ts e l n p = (p.0, λ d h rest s. unroll d Stars (ts ++ rest) ∙ stars_step (read (suc d)) (read d) (ts ++ rest) rest e
-    (p.1 d h rest (omega (arith, s.0))) (λ q. omega (arith, s.0, q)), λ d h s q rest g c w. target_step (read (suc d)) (read (suc d))
-    (ts ++ rest) rest e (p.2 d h s q rest g) c)
-next_goes StarItem ts e l n p = (p.0, λ d h rest s. unroll d StarItem (ts ++ rest)
-    ∙ (pass_op Star ts rest _ _ (omega (arith, l)) ∙ p.1 d h rest s),
-    λ d h s q rest g. pass_op Star ts rest _ _ (omega (arith, l)) ∙ p.2 d h s q rest g)
+next_goes Value ts e l n p = (
+  p.0,
+  λ d h rest s. unroll d Value (ts ++ rest) ∙ (pass_word Key.Yield ts rest _ _ (omega (arith, l))
+      ∙ p.1 d h rest s),
+  λ d h. tt,
+)
+next_goes Stars ts e l n p = (
+  p.0,
+  λ d h rest s. unroll d Stars (ts ++ rest) ∙ stars_step (read (suc d)) (read d) (ts ++ rest) rest e
+      (p.1 d h rest (omega (arith, s.0))) (λ q. omega (arith, s.0, q)),
+  λ d h s q rest g c w. target_step (read (suc d)) (read (suc d))
+      (ts ++ rest) rest e (p.2 d h s q rest g) c,
+)
+next_goes StarItem ts e l n p = (
+  p.0,
+  λ d h rest s. unroll d StarItem (ts ++ rest)
+      ∙ (pass_op Star ts rest _ _ (omega (arith, l)) ∙ p.1 d h rest s),
+  λ d h s q rest g. pass_op Star ts rest _ _ (omega (arith, l)) ∙ p.2 d h s q rest g,
+)
 next_goes Elem ts e l n p = (p.0, λ d h rest s. elem_answer ts rest e d l (p.1 d h) s, λ d h. tt)
-next_goes Subject ts e l n p = (p.0, λ d h rest s. unroll d Subject (ts ++ rest)
-    ∙ subject_step (read (suc d)) (read d) ts rest e (elem_answer ts rest e d l (p.1 d h) s.0) s.1 l, λ d h. tt)
-next_goes Named ts e l n p = (p.0, λ d h rest s. let a = p.1 d h rest (omega (arith, s)) in unroll d Named (ts ++ rest)
-    ∙ (miss_name_with ColonEqual (ts ++ rest) _ _ (free d Expression ColonEqual (ts ++ rest) rest e (λ x us. refl) a
-    (λ q. omega (arith, s, q))) ∙ a), λ d h. tt)
-next_goes Expression ts e l n p = (p.0, λ d h rest s. unroll d Expression (ts ++ rest)
-    ∙ (pass_word Key.Lambda ts rest _ _ (omega (arith, l)) ∙ or_step (read (suc d)) (read d) (ts ++ rest) rest e
-    (answers Or ts e d rest (p.1 d h) (omega (arith, s))) s), p.2)
-next_goes Primary ts e l n p =
-    (p.0, λ d h rest g. (length rest, omega arith, unroll d Primary (ts ++ rest) ∙ atom_step (read (suc d)) (read d) (ts ++ rest) rest e
-    (p.1 d h rest (omega (arith, g)))),
-    λ d h. primary_target ts e d (λ rest g. (length rest, omega arith, unroll d Primary (ts ++ rest)
-    ∙ atom_step (read (suc d)) (read d) (ts ++ rest) rest e (p.1 d h rest (omega (arith, g))))))
+next_goes Subject ts e l n p = (
+  p.0,
+  λ d h rest s. unroll d Subject (ts ++ rest)
+      ∙ subject_step (read (suc d)) (read d) ts rest e (elem_answer ts rest e d l (p.1 d h) s.0) s.1 l,
+  λ d h. tt,
+)
+next_goes Named ts e l n p = (
+  p.0,
+  λ d h rest s. let a = p.1 d h rest (omega (arith, s)) in unroll d Named (ts ++ rest)
+      ∙ (miss_name_with ColonEqual (ts ++ rest) _ _ (free d Expression ColonEqual (ts ++ rest) rest e (λ x us. refl) a
+      (λ q. omega (arith, s, q))) ∙ a),
+  λ d h. tt,
+)
+next_goes Expression ts e l n p = (
+  p.0,
+  λ d h rest s. unroll d Expression (ts ++ rest)
+      ∙ (pass_word Key.Lambda ts rest _ _ (omega (arith, l)) ∙ or_step (read (suc d)) (read d) (ts ++ rest) rest e
+      (answers Or ts e d rest (p.1 d h) (omega (arith, s))) s),
+  p.2,
+)
+next_goes Primary ts e l n p = (
+  p.0,
+  λ d h rest g. (
+    length rest,
+    omega arith,
+    unroll d Primary (ts ++ rest) ∙ atom_step (read (suc d)) (read d) (ts ++ rest) rest e
+        (p.1 d h rest (omega (arith, g))),
+  ),
+  λ d h. primary_target ts e d (λ rest g. (
+    length rest,
+    omega arith,
+    unroll d Primary (ts ++ rest)
+        ∙ atom_step (read (suc d)) (read d) (ts ++ rest) rest e (p.1 d h rest (omega (arith, g))),
+  )),
+)
 next_goes Atom ts e l n p = p
-next_goes Slices ts e l n p =
-    (p.0, λ d h rest s. unroll d Slices (ts ++ rest)
-    ∙ slices_step (read (suc d)) (read d) ts rest e (part_answer ts rest e d l n (p.1 d h) (omega (arith, s.0), omega (arith, s.1)))
-    (λ q. omega (arith, s.0, q)) (omega (arith, l)) n, λ d h. tt)
+next_goes Slices ts e l n p = (
+  p.0,
+  λ d h rest s. unroll d Slices (ts ++ rest)
+      ∙ slices_step (read (suc d)) (read d) ts rest e (part_answer ts rest e d l n (p.1 d h) (omega (arith, s.0), omega (arith, s.1)))
+      (λ q. omega (arith, s.0, q)) (omega (arith, l)) n,
+  λ d h. tt,
+)
 next_goes Part ts e l n p = (p.0, λ d h rest s. part_answer ts rest e d l n (p.1 d h) s, λ d h. tt)
-next_goes Slice ts e l n p =
-    (p.0, λ d h rest s. unroll d Slice (ts ++ rest)
-    ∙ (pass_op Colon ts rest _ _ (omega (arith, l)) ∙ named_step (read (suc d)) (read d) (ts ++ rest) rest e
-    (p.1 d h rest (omega (arith, s.0))) (λ q. omega (arith, s.0, q))), λ d h. tt)
+next_goes Slice ts e l n p = (
+  p.0,
+  λ d h rest s. unroll d Slice (ts ++ rest)
+      ∙ (pass_op Colon ts rest _ _ (omega (arith, l)) ∙ named_step (read (suc d)) (read d) (ts ++ rest) rest e
+      (p.1 d h rest (omega (arith, s.0))) (λ q. omega (arith, s.0, q))),
+  λ d h. tt,
+)
 next_goes Await ts e l n p = (p.0, λ d h. primary_climbs ts e d l (p.1 d h), λ d h. primary_target ts e d (p.1 d h))
 next_goes Or ts e l n p = (p.0, λ d h. weaken Or And ts e d (omega arith) (omega arith) (p.1 d h), p.2)
 next_goes And ts e l n p = (p.0, λ d h. weaken And Not ts e d (omega arith) (omega arith) (p.1 d h), p.2)

@@ -76,8 +76,11 @@ single_target StarItem ts e d p = (e, refl, λ s q rest g. target_of_step (read 
 single_target _ ts e d p = tt
 
 pub single_goes : (l : Level) (ts : List Terminal) (e : Expr) → ReadsAs l ts e → PieceReads (Of l) ts (Single e)
-single_goes l ts e p = (p.0, λ d h rest s. of_step (read (suc d)) l (ts ++ rest) rest e (answers l ts e d rest (p.1 d h) s),
-    λ d h. single_target l ts e d (p.2 d h))
+single_goes l ts e p = (
+  p.0,
+  λ d h rest s. of_step (read (suc d)) l (ts ++ rest) rest e (answers l ts e d rest (p.1 d h) s),
+  λ d h. single_target l ts e d (p.2 d h),
+)
 
 -- pairs
 pair_step : (self : Reads) (ts r rest : List Terminal) (k e : Expr) → 2 < lead_of ts → self Expression (ts ++ (Op Colon ∷ r)) ≡ Found k
@@ -86,9 +89,13 @@ pair_step self ts r rest k e l h1 h2 = pass_op DoubleStar ts (Op Colon ∷ r) _ 
 
 pub pair_goes : (ts us : List Terminal) (k e : Expr) → 9 ≤ lead_of ts → ReadsAs Expression ts k → ReadsAs Expression us e
     → PieceReads Pair (ts ++ (Op Colon ∷ us)) (Paired k e)
-pair_goes ts us k e l p q = (max p.0 q.0, λ d h rest s. ap (read_pair (read (suc d))) (append_assoc ts (Op Colon ∷ us) rest)
-    ∙ pair_step (read (suc d)) ts (us ++ rest) rest k e (omega (arith, l)) (p.1 d (omega (arith, h)) (Op Colon ∷ (us ++ rest))
-    (omega arith)) (q.1 d (omega (arith, h)) rest (omega (arith, s))), λ d h. tt)
+pair_goes ts us k e l p q = (
+  max p.0 q.0,
+  λ d h rest s. ap (read_pair (read (suc d))) (append_assoc ts (Op Colon ∷ us) rest)
+      ∙ pair_step (read (suc d)) ts (us ++ rest) rest k e (omega (arith, l)) (p.1 d (omega (arith, h)) (Op Colon ∷ (us ++ rest))
+      (omega arith)) (q.1 d (omega (arith, h)) rest (omega (arith, s))),
+  λ d h. tt,
+)
 
 doubled_step : (self : Reads) (i rest : List Terminal) (e : Expr) → self BitOr i ≡ Found e rest
     → read_pair self (Op DoubleStar ∷ i) ≡ Found (Doubled e) rest
@@ -106,9 +113,12 @@ argument_step self ts us rest e l f h = pass_op Star ts us _ _ (omega (arith, l)
     ∙ (miss_name_with Equal (ts ++ us) _ _ f ∙ rw h refl))
 
 pub argument_goes : (ts : List Terminal) (e : Expr) → 9 ≤ lead_of ts → ReadsAs Named ts e → PieceReads Argument ts (Single e)
-argument_goes ts e l p =
-    (p.0, λ d h rest s. let a = p.1 d h rest s.0 in
-    argument_step (read (suc d)) ts rest rest e l (free d Named Equal (ts ++ rest) rest e (λ x us. refl) a s.1) a, λ d h. tt)
+argument_goes ts e l p = (
+  p.0,
+  λ d h rest s. let a = p.1 d h rest s.0 in
+      argument_step (read (suc d)) ts rest rest e l (free d Named Equal (ts ++ rest) rest e (λ x us. refl) a s.1) a,
+  λ d h. tt,
+)
 
 star_argument_step : (self : Reads) (i rest : List Terminal) (e : Expr) → self Expression i ≡ Found e rest
     → read_argument self (Op Star ∷ i) ≡ Found (Spread e) rest
@@ -148,15 +158,23 @@ default_grip (G.suffix p) r = inl refl
 
 pub parameter_goes : (b : Bool) (x : Spelled) (ts us : List Terminal) (a c : OptionalExpr) → SuffixReads (cond b (Some Colon) None) ts a
     → G.Suffix (Some Equal) us c → SuffixReads (Some Equal) us c → PieceReads (Parameter b) (Ident x ∷ (ts ++ us)) (Plain (arg x.form a) c)
-parameter_goes false x ts us a c p w q =
-    (max p.0 q.0, λ d h rest s. ap (λ z. read_parameter (read (suc d)) false (Ident x ∷ z)) (append_assoc ts us rest)
-    ∙ parameter_step (read (suc d)) false x (ts ++ (us ++ rest)) (us ++ rest) rest a c (p.1 d (omega (arith, h)) (us ++ rest) tt)
-    (q.1 d (omega (arith, h)) rest (s.0, s.1)), λ d h. tt)
-parameter_goes true x ts us a c p w q =
-    (max p.0 q.0, λ d h rest s. ap (λ z. read_parameter (read (suc d)) true (Ident x ∷ z)) (append_assoc ts us rest)
-    ∙ parameter_step (read (suc d)) true x (ts ++ (us ++ rest)) (us ++ rest) rest a c
-    (p.1 d (omega (arith, h)) (us ++ rest) (elim (default_grip w rest) [ inl e ↦ (λ q. absurd (omega (arith, e, q)), omega (arith, e))
-    | inr e ↦ (λ q. s.3 (sym e ∙ q), omega (arith, e, s.1)) ])) (q.1 d (omega (arith, h)) rest (s.0, s.1)), λ d h. tt)
+parameter_goes false x ts us a c p w q = (
+  max p.0 q.0,
+  λ d h rest s. ap (λ z. read_parameter (read (suc d)) false (Ident x ∷ z)) (append_assoc ts us rest)
+      ∙ parameter_step (read (suc d)) false x (ts ++ (us ++ rest)) (us ++ rest) rest a c (p.1 d (omega (arith, h)) (us ++ rest) tt)
+      (q.1 d (omega (arith, h)) rest (s.0, s.1)),
+  λ d h. tt,
+)
+parameter_goes true x ts us a c p w q = (
+  max p.0 q.0,
+  λ d h rest s. ap (λ z. read_parameter (read (suc d)) true (Ident x ∷ z)) (append_assoc ts us rest)
+      ∙ parameter_step (read (suc d)) true x (ts ++ (us ++ rest)) (us ++ rest) rest a c
+      (p.1 d (omega (arith, h)) (us ++ rest) (elim (default_grip w rest) [
+        | inl e ↦ (λ q. absurd (omega (arith, e, q)), omega (arith, e))
+        | inr e ↦ (λ q. s.3 (sym e ∙ q), omega (arith, e, s.1))
+      ])) (q.1 d (omega (arith, h)) rest (s.0, s.1)),
+  λ d h. tt,
+)
 
 pub slash_goes : (b : Bool) → PieceReads (Parameter b) (Op Slash ∷ []) Slashed
 slash_goes b = (0, λ d h rest s. refl, λ d h. tt)
@@ -179,9 +197,10 @@ star_suffix G.no_suffix self us rest h = go us h
   where
     go : (us : List Terminal) → suffixed self (Some Colon) us ≡ Found absent rest → star_annotated self true us ≡ Found absent rest
     go [] h = h
-    go (t ∷ r) h = elim (op_or_not Colon t)
-        [ inl e ↦ absurd (colon (self Expression r) (sym (ap (λ z. suffixed self (Some Colon) (z ∷ r)) e) ∙ h))
-        | inr q ↦ rw q (sym (rw q refl) ∙ h) ]
+    go (t ∷ r) h = elim (op_or_not Colon t) [
+      | inl e ↦ absurd (colon (self Expression r) (sym (ap (λ z. suffixed self (Some Colon) (z ∷ r)) e) ∙ h))
+      | inr q ↦ rw q (sym (rw q refl) ∙ h)
+    ]
       where
         colon : (x : Answer Expr) → and_then x (λ e r1. Found (present e) r1) ≡ Found absent rest → ⊥
         colon (Found e r) h = absurd (cc)
@@ -193,9 +212,12 @@ pub star_parameter_goes : (b : Bool) (x : Spelled) (ts : List Terminal) (a : Opt
     → SuffixReads (cond b (Some Colon) None) ts a → PieceReads (Parameter b) (Op Star ∷ (Ident x ∷ ts)) (Gathered (arg x.form a))
 star_parameter_goes false x ts a w p =
     (p.0, λ d h rest s. star_parameter_step (read (suc d)) false x (ts ++ rest) rest a (p.1 d h rest tt), λ d h. tt)
-star_parameter_goes true x ts a w p =
-    (p.0, λ d h rest s. star_parameter_step (read (suc d)) true x (ts ++ rest) rest a
-    (star_suffix w (read (suc d)) rest rest (p.1 d h rest (s.3, s.1))), λ d h. tt)
+star_parameter_goes true x ts a w p = (
+  p.0,
+  λ d h rest s. star_parameter_step (read (suc d)) true x (ts ++ rest) rest a
+      (star_suffix w (read (suc d)) rest rest (p.1 d h rest (s.3, s.1))),
+  λ d h. tt,
+)
 
 star_annotation_step : (self : Reads) (x : Spelled) (i rest : List Terminal) (e : Expr) → self BitOr i ≡ Found e rest
     → read_parameter self true (Op Star ∷ (Ident x ∷ (Op Colon ∷ (Op Star ∷ i)))) ≡ Found
@@ -205,9 +227,12 @@ star_annotation_step self x i rest e h = rw h refl
 pub star_annotation_goes : (x : Spelled) (ts : List Terminal) (e : Expr) → ReadsAs BitOr ts e
     → PieceReads (Parameter true) (Op Star ∷ (Ident x ∷ (Op Colon ∷ (Op Star ∷ ts))))
     (Gathered (arg x.form (present (Trees.Starred e Load))))
-star_annotation_goes x ts e p =
-    (p.0, λ d h rest s. star_annotation_step (read (suc d)) x (ts ++ rest) rest e
-    (answers BitOr ts e d rest (p.1 d h) (omega (arith, s.1))), λ d h. tt)
+star_annotation_goes x ts e p = (
+  p.0,
+  λ d h rest s. star_annotation_step (read (suc d)) x (ts ++ rest) rest e
+      (answers BitOr ts e d rest (p.1 d h) (omega (arith, s.1))),
+  λ d h. tt,
+)
 
 double_parameter_step : (self : Reads) (b : Bool) (x : Spelled) (i rest : List Terminal) (a : OptionalExpr)
     → annotated self b i ≡ Found a rest → read_parameter self b (Op DoubleStar ∷ (Ident x ∷ i)) ≡ Found (Collected (arg x.form a)) rest

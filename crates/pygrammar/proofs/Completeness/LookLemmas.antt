@@ -219,8 +219,10 @@ pub miss_name_with : {A : Type 0} (s : Exact) (i : List Terminal) (hit : List �
     → ((x : Spelled) (us : List Terminal) → i ≡ Ident x ∷ (Op s ∷ us) → ⊥) → on_name_with s i hit other ≡ other
 miss_name_with s [] hit other h = refl
 miss_name_with s (Ident x ∷ []) hit other h = refl
-miss_name_with s (Ident x ∷ (t ∷ r)) hit other h = elim (op_or_not s t) [ inl e ↦ absurd (h x r (ap (λ z. Ident x ∷ (z ∷ r)) e))
-    | inr q ↦ ap (λ o. on_some o (λ a. hit x.form r) other) q ]
+miss_name_with s (Ident x ∷ (t ∷ r)) hit other h = elim (op_or_not s t) [
+  | inl e ↦ absurd (h x r (ap (λ z. Ident x ∷ (z ∷ r)) e))
+  | inr q ↦ ap (λ o. on_some o (λ a. hit x.form r) other) q
+]
 miss_name_with s (_ ∷ r) hit other h = refl
 
 -- and no literal

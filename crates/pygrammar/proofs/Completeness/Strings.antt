@@ -78,8 +78,11 @@ module _ (self : Reads) (u : Bool) where
   spec_step parts i r ps h = rw h refl
 
 pub no_part_goes : (u : Bool) → FormattedReads u [] []
-no_part_goes u = (0, λ d h acc t rest e m w. parts_end (read (suc d)) u m acc t rest e
-    ∙ ap (λ z. Found z (t ∷ rest)) (sym (append-nil acc)))
+no_part_goes u = (
+  0,
+  λ d h acc t rest e m w. parts_end (read (suc d)) u m acc t rest e
+      ∙ ap (λ z. Found z (t ∷ rest)) (sym (append-nil acc)),
+)
 
 pub text_part_goes : (u : Bool) (x : List ℕ) (ts : List Terminal) (ps : List StringPart) → FormattedReads u ts ps
     → FormattedReads u (FormattedText x ∷ ts) (Text x ∷ ps)
@@ -104,9 +107,11 @@ spec_length ks us i = omega (arith, length-append ks (us ++ (FieldEnd ∷ i)))
 pub field_part_goes : (u : Bool) (c : Conversion) (ks us vs : List Terminal) (e : Expr) (s : OptionalExpr) (ps : List StringPart)
     → ReadsAs Atom (Op LPar ∷ ks) e → SpecReads u us s → FormattedReads u vs ps
     → FormattedReads u (FieldBegin c ∷ (Op LPar ∷ (ks ++ (us ++ (FieldEnd ∷ vs))))) (Field (Trees.FormattedValue e c s) ∷ ps)
-field_part_goes u c ks us vs e s ps p q k =
-    (max p.0 (max q.0 k.0), λ d h acc t rest g m w. ap (λ z. parts_loop (read (suc d)) u m acc (FieldBegin c ∷ (Op LPar ∷ z)))
-    (field_shape ks us vs (t ∷ rest)) ∙ go d h acc t rest g m (omega (arith, w, ap length (field_shape ks us vs (t ∷ rest)))))
+field_part_goes u c ks us vs e s ps p q k = (
+  max p.0 (max q.0 k.0),
+  λ d h acc t rest g m w. ap (λ z. parts_loop (read (suc d)) u m acc (FieldBegin c ∷ (Op LPar ∷ z)))
+      (field_shape ks us vs (t ∷ rest)) ∙ go d h acc t rest g m (omega (arith, w, ap length (field_shape ks us vs (t ∷ rest)))),
+)
   where
     go : (d : ℕ) → max p.0 (max q.0 k.0) ≤ d → (acc : List StringPart) (t : Terminal) (rest : List Terminal) → Ends t → (m : ℕ)
         → suc (suc (length (ks ++ (us ++ (FieldEnd ∷ (vs ++ (t ∷ rest))))))) ≤ m
@@ -116,21 +121,24 @@ field_part_goes u c ks us vs e s ps p q k =
     go d h acc t rest g (suc m) w =
         let r = vs ++ (t ∷ rest) in
         let f = field_step (read (suc d)) u (λ z. parts_loop (read (suc d)) u m [] z) c (ks ++ (us ++ (FieldEnd ∷ r)))
-            (us ++ (FieldEnd ∷ r)) r e s (p.1 d (omega (arith, h)) (us ++ (FieldEnd ∷ r)) (q.2 r))
-            (q.1 d (omega (arith, h)) r m (omega (arith, w, spec_length ks us r))) in
+        (us ++ (FieldEnd ∷ r)) r e s (p.1 d (omega (arith, h)) (us ++ (FieldEnd ∷ r)) (q.2 r))
+        (q.1 d (omega (arith, h)) r m (omega (arith, w, spec_length ks us r))) in
         parts_field (read (suc d)) u m acc c (Op LPar ∷ (ks ++ (us ++ (FieldEnd ∷ r)))) r (Trees.FormattedValue e c s) f
-            ∙ (k.1 d (omega (arith, h)) (acc ++ (Field (Trees.FormattedValue e c s) ∷ [])) t rest g m
-            (omega (arith, w, field_length ks us r))
-            ∙ ap (λ z. Found z (t ∷ rest)) (append_assoc acc (Field (Trees.FormattedValue e c s) ∷ []) ps))
+        ∙ (k.1 d (omega (arith, h)) (acc ++ (Field (Trees.FormattedValue e c s) ∷ [])) t rest g m
+        (omega (arith, w, field_length ks us r))
+        ∙ ap (λ z. Found z (t ∷ rest)) (append_assoc acc (Field (Trees.FormattedValue e c s) ∷ []) ps))
 
 pub no_spec_goes : (u : Bool) → SpecReads u [] absent
 no_spec_goes u = (0, (λ d h rest m w. refl), λ rest. omega arith)
 
 pub spec_goes : (u : Bool) (ts : List Terminal) (ps : List StringPart) → FormattedReads u ts ps
     → SpecReads u (SpecBegin ∷ ts) (present (Trees.JoinedStr (spec_values_of u (merged ps))))
-spec_goes u ts ps k =
-    (k.0, (λ d h rest m w. spec_step (read (suc d)) u (λ r. parts_loop (read (suc d)) u m [] r) (ts ++ (FieldEnd ∷ rest)) (FieldEnd ∷ rest)
-    ps (k.1 d h [] FieldEnd rest (refl, refl) m (omega (arith, w)))), λ rest. omega arith)
+spec_goes u ts ps k = (
+  k.0,
+  (λ d h rest m w. spec_step (read (suc d)) u (λ r. parts_loop (read (suc d)) u m [] r) (ts ++ (FieldEnd ∷ rest)) (FieldEnd ∷ rest)
+      ps (k.1 d h [] FieldEnd rest (refl, refl) m (omega (arith, w)))),
+  λ rest. omega arith,
+)
 
 -- ---- Literals and f-strings.
 
@@ -179,9 +187,11 @@ behind_length ks i = omega (arith, length-append ks (FormattedEnd ∷ i))
 
 pub formatted_literal_goes : (u : Bool) (ks bs : List Terminal) (xs ys : List StringPart) → FormattedReads u ks xs → LiteralsRead u bs ys
     → LiteralsRead u (FormattedBegin ∷ (ks ++ (FormattedEnd ∷ bs))) (xs ++ ys)
-formatted_literal_goes u ks bs xs ys k l =
-    (max k.0 l.0, λ d h acc rest g m w. ap (literals_loop (read (suc d)) u m acc) (joined_shape ks bs rest)
-    ∙ go d h acc rest g m (omega (arith, w, ap length (joined_shape ks bs rest))))
+formatted_literal_goes u ks bs xs ys k l = (
+  max k.0 l.0,
+  λ d h acc rest g m w. ap (literals_loop (read (suc d)) u m acc) (joined_shape ks bs rest)
+      ∙ go d h acc rest g m (omega (arith, w, ap length (joined_shape ks bs rest))),
+)
   where
     go : (d : ℕ) → max k.0 l.0 ≤ d → (acc : List StringPart) (rest : List Terminal) → grip_of rest ≤ 24 → (m : ℕ)
         → suc (length (ks ++ (FormattedEnd ∷ (bs ++ rest)))) ≤ m
@@ -189,9 +199,9 @@ formatted_literal_goes u ks bs xs ys k l =
     go d h acc rest g zero w = absurd (omega (arith, w))
     go d h acc rest g (suc m) w =
         literals_formatted (read (suc d)) u m acc (acc ++ xs) (ks ++ (FormattedEnd ∷ (bs ++ rest))) (bs ++ rest)
-            (formatted_reads u ks xs k d (omega (arith, h)) acc (bs ++ rest))
+        (formatted_reads u ks xs k d (omega (arith, h)) acc (bs ++ rest))
         ∙ (l.1 d (omega (arith, h)) (acc ++ xs) rest g m (omega (arith, w, behind_length ks (bs ++ rest)))
-            ∙ ap (λ z. Found z rest) (append_assoc acc xs ys))
+        ∙ ap (λ z. Found z rest) (append_assoc acc xs ys))
 
 -- ---- A run with an f-string, from its beginning on.
 
@@ -210,8 +220,8 @@ joined_goes u ks bs xs ys k l = (
   max k.0 l.0,
   λ d h acc rest g.
       joined_whole (read (suc d)) u acc (acc ++ xs) ((acc ++ xs) ++ ys) (ks ++ (FormattedEnd ∷ (bs ++ rest))) (bs ++ rest) rest
-          (formatted_reads u ks xs k d (omega (arith, h)) acc (bs ++ rest))
-          (l.1 d (omega (arith, h)) (acc ++ xs) rest g (length (bs ++ rest)) (omega arith))
+      (formatted_reads u ks xs k d (omega (arith, h)) acc (bs ++ rest))
+      (l.1 d (omega (arith, h)) (acc ++ xs) rest g (length (bs ++ rest)) (omega arith))
       ∙ ap (λ z. Found (Trees.JoinedStr (values_of u (merged z))) rest) (append_assoc acc xs ys),
 )
 
@@ -240,9 +250,11 @@ texts_last (_ ∷ vs) x k qs h = absurd (cc)
 
 pub mixed_text : (u k : Bool) (x : List ℕ) (ts : List Terminal) (ps : List StringPart) → MixedReads u ts ps
     → MixedReads u (Literal (Values.Str x k) ∷ ts) (Text x ∷ ps)
-mixed_text u k x ts ps m =
-    (m.0, λ d h v vs qs e q rest g. m.1 d h v (vs ++ (Values.Str x k ∷ [])) (qs ++ (Text x ∷ [])) e (texts_last (v ∷ vs) x k qs q) rest g
-    ∙ ap (λ z. Found (Trees.JoinedStr (values_of u (merged z))) rest) (append_assoc qs (Text x ∷ []) ps))
+mixed_text u k x ts ps m = (
+  m.0,
+  λ d h v vs qs e q rest g. m.1 d h v (vs ++ (Values.Str x k ∷ [])) (qs ++ (Text x ∷ [])) e (texts_last (v ∷ vs) x k qs q) rest g
+      ∙ ap (λ z. Found (Trees.JoinedStr (values_of u (merged z))) rest) (append_assoc qs (Text x ∷ []) ps),
+)
 
 run_formatted : (self : Reads) (u : Bool) (v : Values.Value) (vs : List Values.Value) (qs : List StringPart) (i : List Terminal)
     → kind_of v ≡ u → texts_of (v ∷ vs) ≡ Some qs → run self v (string_run vs (FormattedBegin ∷ i)) ≡ joined_step self u qs i
@@ -251,6 +263,8 @@ run_formatted self u v vs qs i e q = ap (λ o. on_some o (λ ps. joined_step sel
 
 pub mixed_formatted : (u : Bool) (ks bs : List Terminal) (xs ys : List StringPart) → FormattedReads u ks xs → LiteralsRead u bs ys
     → MixedReads u (FormattedBegin ∷ (ks ++ (FormattedEnd ∷ bs))) (xs ++ ys)
-mixed_formatted u ks bs xs ys k l = let j = joined_goes u ks bs xs ys k l in
-    (j.0, λ d h v vs qs e q rest g. ap (λ z. run (read (suc d)) v (string_run vs z)) (joined_shape ks bs rest)
-    ∙ (run_formatted (read (suc d)) u v vs qs (ks ++ (FormattedEnd ∷ (bs ++ rest))) e q ∙ j.1 d h qs rest g))
+mixed_formatted u ks bs xs ys k l = let j = joined_goes u ks bs xs ys k l in (
+  j.0,
+  λ d h v vs qs e q rest g. ap (λ z. run (read (suc d)) v (string_run vs z)) (joined_shape ks bs rest)
+      ∙ (run_formatted (read (suc d)) u v vs qs (ks ++ (FormattedEnd ∷ (bs ++ rest))) e q ∙ j.1 d h qs rest g),
+)

@@ -134,13 +134,13 @@ module _ (self : Reads) (b : ℕ) (all : GoodTo b self) where
   pub g_parameter : (n : ℕ) (c : Bool) (r : List Terminal) → weight r ≤ n → weight r < b → Good n (read_parameter self c r)
   g_parameter n c r h w =
       good_first n name_in heavy_name r _ _
-          (λ x r1 q. good_then (suc (weight r1)) n _ _ (g_suffixed (suc (weight r1)) (cond c (Some Colon) None) r1 (omega arith)
-          (omega arith)) (λ a r2 p. good_then n n _ _ (g_suffixed n (Some Equal) r2 (omega arith) (omega arith)) (λ d r3 p2. p2)))
+      (λ x r1 q. good_then (suc (weight r1)) n _ _ (g_suffixed (suc (weight r1)) (cond c (Some Colon) None) r1 (omega arith)
+      (omega arith)) (λ a r2 p. good_then n n _ _ (g_suffixed n (Some Equal) r2 (omega arith) (omega arith)) (λ d r3 p2. p2)))
       (good_first n (is_op Star) (heavy_op Star) r _ _ (λ _ r1 q. good_first n name_in heavy_name r1 _ _
-          (λ x r2 p. good_then n n _ _ (g_star_annotated n c r2 (omega arith) (omega arith)) (λ a r3 p2. p2)) (omega arith))
+      (λ x r2 p. good_then n n _ _ (g_star_annotated n c r2 (omega arith) (omega arith)) (λ a r3 p2. p2)) (omega arith))
       (good_first n (is_op DoubleStar) (heavy_op DoubleStar) r _ _
-          (λ _ r1 q. good_first n name_in heavy_name r1 _ _
-          (λ x r2 p. good_then n n _ _ (g_suffixed n (cond c (Some Colon) None) r2 (omega arith) (omega arith)) (λ a r3 p2. p2)) tt)
+      (λ _ r1 q. good_first n name_in heavy_name r1 _ _
+      (λ x r2 p. good_then n n _ _ (g_suffixed n (cond c (Some Colon) None) r2 (omega arith) (omega arith)) (λ a r3 p2. p2)) tt)
       (good_first n (is_op Slash) (heavy_op Slash) r _ _ (λ _ r1 q. omega arith) tt)))
 
   pub g_piece : (n : ℕ) (i : Item) (r : List Terminal) → weight r ≤ n → weight r < b → Good n (piece self i r)
@@ -227,12 +227,12 @@ module _ (self : Reads) (b : ℕ) (all : GoodTo b self) where
   g_round n r h w =
       good_first n (is_op RPar) (heavy_op RPar) r _ _ (λ _ r1 q. omega arith)
       (good_first n (is_word Key.Yield) (heavy_word Key.Yield) r _ _ (λ _ r1 q. good_then n n _ _ (g_yield n r1 (omega arith) (omega arith))
-          (λ e r2 p. good_closed n RPar r2 _ p))
+      (λ e r2 p. good_closed n RPar r2 _ p))
       (g_one self b all n Elem r _ w (λ e r1 p. good_first n (is_op Comma) (heavy_op Comma) r1 _ _
-          (λ _ r2 q. good_then n n _ _ (g_listing_of n (Of Elem) [] r2 (omega arith) (omega arith))
-          (λ es r3 p3. good_closed n RPar r3 _ p3))
-          (g_unstarred n r _ (good_cond n (starts_comp r1) _ _ (g_comps_closed n RPar r1 _ (omega arith) (omega arith))
-          (good_closed n RPar r1 _ (omega arith)))))))
+      (λ _ r2 q. good_then n n _ _ (g_listing_of n (Of Elem) [] r2 (omega arith) (omega arith))
+      (λ es r3 p3. good_closed n RPar r3 _ p3))
+      (g_unstarred n r _ (good_cond n (starts_comp r1) _ _ (g_comps_closed n RPar r1 _ (omega arith) (omega arith))
+      (good_closed n RPar r1 _ (omega arith)))))))
 
   pub g_square : (n : ℕ) (r : List Terminal) → weight r < n → weight r < b → Good n (square self r)
   g_square n r h w = good_cond n (starts (Of Elem) r) _ _
@@ -248,14 +248,14 @@ module _ (self : Reads) (b : ℕ) (all : GoodTo b self) where
   g_curly n r h w =
       good_first n (is_op RBrace) (heavy_op RBrace) r _ _ (λ _ r1 q. omega arith)
       (good_first n (is_op DoubleStar) (heavy_op DoubleStar) r _ _ (λ _ r1 q. g_one self b all n BitOr r1 _ (omega arith)
-          (λ e r2 p. g_dict n (Doubled e) r2 (omega arith) (omega arith)))
+      (λ e r2 p. g_dict n (Doubled e) r2 (omega arith) (omega arith)))
       (g_one self b all n Elem r _ w (λ e r1 p. good_first n (is_op Colon) (heavy_op Colon) r1 _ _
       (λ _ r2 q. g_unstarred n r _
-          (g_unnamed n r _ (g_one self b all n Expression r2 _ (omega arith)
-          (λ v r3 p3. good_cond n (starts_comp r3) _ _ (g_comps_closed n RBrace r3 _ (omega arith) (omega arith))
-          (g_dict n (Paired e v) r3 (omega arith) (omega arith))))))
+      (g_unnamed n r _ (g_one self b all n Expression r2 _ (omega arith)
+      (λ v r3 p3. good_cond n (starts_comp r3) _ _ (g_comps_closed n RBrace r3 _ (omega arith) (omega arith))
+      (g_dict n (Paired e v) r3 (omega arith) (omega arith))))))
       (good_cond n (starts_comp r1) _ _ (g_unstarred n r _ (g_comps_closed n RBrace r1 _ (omega arith) (omega arith)))
-          (good_then n n _ _ (g_others n (Of Elem) (Single e) r1 (omega arith) (omega arith)) (λ es r2 q. good_closed n RBrace r2 _ q))))))
+      (good_then n n _ _ (g_others n (Of Elem) (Single e) r1 (omega arith) (omega arith)) (λ es r2 q. good_closed n RBrace r2 _ q))))))
 
 pub g_strings : (n : ℕ) (acc : List Values.Value) (r : List Terminal) → weight r < n → Good n (string_run acc r)
 g_strings n acc [] h = h
@@ -281,9 +281,9 @@ module _ (self : Reads) (b : ℕ) (all : GoodTo b self) where
   g_parts n u (suc m) acc r h w =
       good_light n text_in r _ _ (λ t r1 q. g_parts n u m (acc ++ (Text t ∷ [])) r1 (omega arith) (omega arith))
       (good_light n conversion_in r _ _
-          (λ c r1 q. good_then (suc (weight r1)) n _ _ (g_field (suc (weight r1)) (λ z. parts_loop self u m [] z) u c r1 (omega arith)
-          (omega arith) (λ s v. g_parts (suc (weight r1)) u m [] s (omega arith) (omega arith)))
-          (λ e r2 p. g_parts n u m (acc ++ (Field e ∷ [])) r2 (omega arith) (omega arith))) h)
+      (λ c r1 q. good_then (suc (weight r1)) n _ _ (g_field (suc (weight r1)) (λ z. parts_loop self u m [] z) u c r1 (omega arith)
+      (omega arith) (λ s v. g_parts (suc (weight r1)) u m [] s (omega arith) (omega arith)))
+      (λ e r2 p. g_parts n u m (acc ++ (Field e ∷ [])) r2 (omega arith) (omega arith))) h)
 
   g_formatted : (n : ℕ) (u : Bool) (acc : List StringPart) (r : List Terminal) → weight r < n → weight r < b
       → Good n (formatted_step self u acc r)
@@ -295,10 +295,10 @@ module _ (self : Reads) (b : ℕ) (all : GoodTo b self) where
   g_literals_loop n u zero acc r h w = h
   g_literals_loop n u (suc m) acc r h w =
       good_first n literal_in heavy_literal r _ _
-          (λ v r1 q. good_some n (text_of v) _ _ (λ t. g_literals_loop n u m (acc ++ (Text t ∷ [])) r1 (omega arith) (omega arith)) tt)
+      (λ v r1 q. good_some n (text_of v) _ _ (λ t. g_literals_loop n u m (acc ++ (Text t ∷ [])) r1 (omega arith) (omega arith)) tt)
       (good_first n is_formatted_begin heavy_begin r _ _
-          (λ _ r1 q. good_then (suc (weight r1)) n _ _ (g_formatted (suc (weight r1)) u acc r1 (omega arith) (omega arith))
-          (λ ps r2 p. g_literals_loop n u m ps r2 (omega arith) (omega arith))) h)
+      (λ _ r1 q. good_then (suc (weight r1)) n _ _ (g_formatted (suc (weight r1)) u acc r1 (omega arith) (omega arith))
+      (λ ps r2 p. g_literals_loop n u m ps r2 (omega arith) (omega arith))) h)
 
   pub g_joined : (n : ℕ) (u : Bool) (acc : List StringPart) (r : List Terminal) → weight r < n → weight r < b
       → Good n (joined_step self u acc r)
@@ -341,14 +341,14 @@ module _ (self : Reads) (b : ℕ) (all : GoodTo b self) where
   g_primary n zero e r h w = h
   g_primary n (suc m) e r h w =
       good_first n (is_op Dot) (heavy_op Dot) r _ _
-          (λ _ r1 q. good_first n name_in heavy_name r1 _ _ (λ x r2 p. g_primary n m (Trees.Attribute e x Load) r2
-          (omega arith) (omega arith)) tt)
+      (λ _ r1 q. good_first n name_in heavy_name r1 _ _ (λ x r2 p. g_primary n m (Trees.Attribute e x Load) r2
+      (omega arith) (omega arith)) tt)
       (good_first n (is_op LPar) (heavy_op LPar) r _ _
-          (λ _ r1 q. good_then (weight r) n _ _ (g_call (weight r) e r1 (omega arith) (omega arith))
-          (λ f r2 p. g_primary n m f r2 (omega arith) (omega arith)))
+      (λ _ r1 q. good_then (weight r) n _ _ (g_call (weight r) e r1 (omega arith) (omega arith))
+      (λ f r2 p. g_primary n m f r2 (omega arith) (omega arith)))
       (good_first n (is_op LSqb) (heavy_op LSqb) r _ _ (λ _ r1 q. g_one self b all n Slices r1 _ (omega arith)
-          (λ s r2 p. good_first n (is_op RSqb) (heavy_op RSqb) r2 _ _ (λ _ r3 p3. g_primary n m (Trees.Subscript e s Load) r3
-          (omega arith) (omega arith)) tt)) h))
+      (λ s r2 p. good_first n (is_op RSqb) (heavy_op RSqb) r2 _ _ (λ _ r3 p3. g_primary n m (Trees.Subscript e s Load) r3
+      (omega arith) (omega arith)) tt)) h))
 
   pub g_chain : (n : ℕ) (o : BoolOperator) (m : ℕ) (acc : List Expr) (r : List Terminal) → weight r < n → weight r ≤ b
       → Good n (chain_loop self o m acc r)

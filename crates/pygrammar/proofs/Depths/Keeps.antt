@@ -109,12 +109,12 @@ module _ (self other : Reads) (all : AllKeep self other) where
   k_parameter : (b : Bool) (r : List Terminal) → Keeps (read_parameter self b r) (read_parameter other b r)
   k_parameter b r =
       keeps_first name_in r _ _ _ _
-          (λ x r1. keeps_then _ _ _ _ (k_annotated b r1) (λ a r2. keeps_then _ _ _ _ (k_suffixed (Some Equal) r2) (λ d r3. inr refl)))
+      (λ x r1. keeps_then _ _ _ _ (k_annotated b r1) (λ a r2. keeps_then _ _ _ _ (k_suffixed (Some Equal) r2) (λ d r3. inr refl)))
       (keeps_first (is_op Star) r _ _ _ _
-          (λ _ r1. keeps_first name_in r1 _ _ _ _ (λ x r2. keeps_then _ _ _ _ (k_star_annotated b r2) (λ a r3. inr refl)) (inr refl))
+      (λ _ r1. keeps_first name_in r1 _ _ _ _ (λ x r2. keeps_then _ _ _ _ (k_star_annotated b r2) (λ a r3. inr refl)) (inr refl))
       (keeps_first (is_op DoubleStar) r _ _ _ _
-          (λ _ r1. keeps_first name_in r1 _ _ _ _ (λ x r2. keeps_then _ _ _ _ (k_annotated b r2) (λ a r3. inr refl))
-          (inr refl)) (inr refl)))
+      (λ _ r1. keeps_first name_in r1 _ _ _ _ (λ x r2. keeps_then _ _ _ _ (k_annotated b r2) (λ a r3. inr refl))
+      (inr refl)) (inr refl)))
 
   k_piece : (i : Item) (r : List Terminal) → Keeps (piece self i r) (piece other i r)
   k_piece (Of l) r = k_one l r _
@@ -188,8 +188,8 @@ module _ (self other : Reads) (all : AllKeep self other) where
       keeps_first (is_op RPar) r _ _ _ _ (λ _ r1. inr refl)
       (keeps_first (is_word Key.Yield) r _ _ _ _ (λ _ r1. keeps_then _ _ _ _ (k_yield r1) (λ e r2. inr refl))
       (keeps_then _ _ _ _ (all Elem r)
-          (λ e r1. keeps_first (is_op Comma) r1 _ _ _ _ (λ _ r2. keeps_then _ _ _ _ (k_listing_of (Of Elem) [] r2) (λ es r3. inr refl))
-          (k_unstarred r _ _ (keeps_cond (starts_comp r1) _ _ _ _ (k_comps_closed RPar r1 _) (inr refl))))))
+      (λ e r1. keeps_first (is_op Comma) r1 _ _ _ _ (λ _ r2. keeps_then _ _ _ _ (k_listing_of (Of Elem) [] r2) (λ es r3. inr refl))
+      (k_unstarred r _ _ (keeps_cond (starts_comp r1) _ _ _ _ (k_comps_closed RPar r1 _) (inr refl))))))
 
   k_square : (r : List Terminal) → Keeps (square self r) (square other r)
   k_square r = keeps_cond (starts (Of Elem) r) _ _ _ _
@@ -205,10 +205,10 @@ module _ (self other : Reads) (all : AllKeep self other) where
       (keeps_first (is_op DoubleStar) r _ _ _ _ (λ _ r1. keeps_then _ _ _ _ (all BitOr r1) (λ e r2. k_dict (Doubled e) r2))
       (keeps_then _ _ _ _ (all Elem r) (λ e r1. keeps_first (is_op Colon) r1 _ _ _ _
       (λ _ r2. k_unstarred r _ _
-          (k_unnamed r _ _ (keeps_then _ _ _ _ (all Expression r2) (λ v r3. keeps_cond (starts_comp r3) _ _ _ _ (k_comps_closed RBrace r3 _)
-          (k_dict (Paired e v) r3)))))
+      (k_unnamed r _ _ (keeps_then _ _ _ _ (all Expression r2) (λ v r3. keeps_cond (starts_comp r3) _ _ _ _ (k_comps_closed RBrace r3 _)
+      (k_dict (Paired e v) r3)))))
       (keeps_cond (starts_comp r1) _ _ _ _ (k_unstarred r _ _ (k_comps_closed RBrace r1 _))
-          (keeps_then _ _ _ _ (k_others (Of Elem) (Single e) r1) (λ es r2. inr refl))))))
+      (keeps_then _ _ _ _ (k_others (Of Elem) (Single e) r1) (λ es r2. inr refl))))))
 
   -- f-strings
   k_spec : (one two : List Terminal → Answer (List StringPart)) → ((r : List Terminal) → Keeps (one r) (two r))
@@ -226,8 +226,8 @@ module _ (self other : Reads) (all : AllKeep self other) where
   k_parts u (suc m) acc r =
       keeps_first text_in r _ _ _ _ (λ t r1. k_parts u m (acc ++ (Text t ∷ [])) r1)
       (keeps_first conversion_in r _ _ _ _
-          (λ c r1. keeps_then _ _ _ _ (k_field (λ z. parts_loop self u m [] z) (λ z. parts_loop other u m [] z) (λ z. k_parts u m [] z) u c
-          r1) (λ e r2. k_parts u m (acc ++ (Field e ∷ [])) r2)) (inr refl))
+      (λ c r1. keeps_then _ _ _ _ (k_field (λ z. parts_loop self u m [] z) (λ z. parts_loop other u m [] z) (λ z. k_parts u m [] z) u c
+      r1) (λ e r2. k_parts u m (acc ++ (Field e ∷ [])) r2)) (inr refl))
 
   k_formatted : (u : Bool) (acc : List StringPart) (r : List Terminal) → Keeps (formatted_step self u acc r) (formatted_step other u acc r)
   k_formatted u acc r = keeps_then _ _ _ _ (k_parts u (length r) acc r) (λ ps r1. inr refl)
@@ -237,9 +237,9 @@ module _ (self other : Reads) (all : AllKeep self other) where
   k_literals_loop u zero acc r = inr refl
   k_literals_loop u (suc m) acc r =
       keeps_first literal_in r _ _ _ _
-          (λ v r1. keeps_some (text_of v) _ _ _ _ (λ t. k_literals_loop u m (acc ++ (Text t ∷ [])) r1) (inr refl))
+      (λ v r1. keeps_some (text_of v) _ _ _ _ (λ t. k_literals_loop u m (acc ++ (Text t ∷ [])) r1) (inr refl))
       (keeps_first is_formatted_begin r _ _ _ _ (λ _ r1. keeps_then _ _ _ _ (k_formatted u acc r1) (λ ps r2. k_literals_loop u m ps r2))
-          (inr refl))
+      (inr refl))
 
   pub k_joined : (u : Bool) (acc : List StringPart) (r : List Terminal) → Keeps (joined_step self u acc r) (joined_step other u acc r)
   k_joined u acc r = keeps_then _ _ _ _ (k_formatted u acc r)
@@ -272,11 +272,11 @@ module _ (self other : Reads) (all : AllKeep self other) where
   k_primary zero e r = inr refl
   k_primary (suc m) e r =
       keeps_first (is_op Dot) r _ _ _ _
-          (λ _ r1. keeps_first name_in r1 _ _ _ _ (λ x r2. k_primary m (Trees.Attribute e x Load) r2) (inr refl))
+      (λ _ r1. keeps_first name_in r1 _ _ _ _ (λ x r2. k_primary m (Trees.Attribute e x Load) r2) (inr refl))
       (keeps_first (is_op LPar) r _ _ _ _ (λ _ r1. keeps_then _ _ _ _ (k_call e r1) (λ f r2. k_primary m f r2))
       (keeps_first (is_op LSqb) r _ _ _ _
-          (λ _ r1. keeps_then _ _ _ _ (all Slices r1)
-          (λ s r2. keeps_first (is_op RSqb) r2 _ _ _ _ (λ _ r3. k_primary m (Trees.Subscript e s Load) r3) (inr refl))) (inr refl)))
+      (λ _ r1. keeps_then _ _ _ _ (all Slices r1)
+      (λ s r2. keeps_first (is_op RSqb) r2 _ _ _ _ (λ _ r3. k_primary m (Trees.Subscript e s Load) r3) (inr refl))) (inr refl)))
 
   k_chain : (o : BoolOperator) (m : ℕ) (acc : List Expr) (r : List Terminal)
       → Keeps (chain_loop self o m acc r) (chain_loop other o m acc r)
@@ -382,8 +382,11 @@ found_on d zero l i r e h = ap (λ n. read n l i) (plus_zero d) ∙ h
     plus_zero : (d : ℕ) → 0 + d ≡ d
     plus_zero d = omega arith
 found_on d (suc k) l i r e h = ap (λ n. read n l i) (plus_suc k d)
-    ∙ elim (keeps_read (k + d) l i) [ inl q ↦ absurd (not_deep e r (sym (found_on d k l i r e h) ∙ q)) | inr q ↦ sym q
-    ∙ found_on d k l i r e h ]
+    ∙ elim (keeps_read (k + d) l i) [
+      | inl q ↦ absurd (not_deep e r (sym (found_on d k l i r e h) ∙ q))
+      | inr q ↦ sym q
+          ∙ found_on d k l i r e h
+    ]
   where
     plus_suc : (k d : ℕ) → suc k + d ≡ suc (k + d)
     plus_suc k d = omega arith

@@ -38,7 +38,7 @@ pub reads_all : {l : Level} {ts : List Terminal} {e : Expr} → Derives l ts e �
 reads_all {l} {ts} {e} p =
     let c = complete p in
     sym (stays c.0 (suc (length ts)) l ts (omega arith))
-        ∙ (ap (λ n. read n l ts) (one c.0 (length ts)) ∙ c.1 (c.0 + length ts) (omega arith))
+    ∙ (ap (λ n. read n l ts) (one c.0 (length ts)) ∙ c.1 (c.0 + length ts) (omega arith))
   where
     one : (k n : ℕ) → k + suc n ≡ suc (k + n)
     one k n = omega arith
@@ -59,7 +59,7 @@ reads_front {l} {ts} {e} p rest s =
     let g = goes p in
     let n : ℕ = length (ts ++ rest) in
     sym (stays g.0 (suc n) l (ts ++ rest) (omega arith))
-        ∙ (ap (λ k. read k l (ts ++ rest)) (one g.0 n) ∙ answers l ts e (g.0 + n) rest (g.1 (g.0 + n) (omega arith)) s)
+    ∙ (ap (λ k. read k l (ts ++ rest)) (one g.0 n) ∙ answers l ts e (g.0 + n) rest (g.1 (g.0 + n) (omega arith)) s)
   where
     one : (k n : ℕ) → k + suc n ≡ suc (k + n)
     one k n = omega arith
@@ -110,8 +110,10 @@ deep_not_no_form : ◌≡◌ {A = Answer Expr} TooDeep NoForm → ⊥
 deep_not_no_form h = absurd (cc)
 
 pub no_tree : (d : ℕ) (l : Level) (ts : List Terminal) (e : Expr) → read d l ts ≡ NoForm → Derives l ts e → ⊥
-no_tree d l ts e h p = elim (final d l ts) [ inl q ↦ deep_not_no_form (sym q ∙ h)
-    | inr q ↦ no_form_not_found e [] (sym h ∙ (q ∙ reads_all p)) ]
+no_tree d l ts e h p = elim (final d l ts) [
+  | inl q ↦ deep_not_no_form (sym q ∙ h)
+  | inr q ↦ no_form_not_found e [] (sym h ∙ (q ∙ reads_all p))
+]
 
 -- the plain reader always comes to an answer
 pub answered : (l : Level) (ts : List Terminal) → reads l ts ≡ TooDeep → ⊥

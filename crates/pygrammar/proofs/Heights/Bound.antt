@@ -64,16 +64,31 @@ mutual
   pub tall : {l : Level} {ts : List Terminal} {e : Expr} → G.Derives l ts e → height e ≤ slack l + weight ts
   tall (G.next {l = l} p) = omega (arith, tall p, below_slack l)
   tall (G.yields p) = omega (arith, tall_yields p)
-  tall (G.star_tuple {ts = ts} {us = us} {es = es} p c) = omega (arith, tall p, tall_listing c refl, singles_height es,
-      one ts us (Op Comma) refl)
+  tall (G.star_tuple {ts = ts} {us = us} {es = es} p c) = omega (
+    arith,
+    tall p,
+    tall_listing c refl,
+    singles_height es,
+    one ts us (Op Comma) refl,
+  )
   tall (G.star_item p) = omega (arith, tall p)
   tall (G.named p) = omega (arith, tall p)
-  tall (G.lambda {ts = ts} {us = us} {ps = ps} {a = a} c h p) = omega (arith, tall p, tall_listing c refl, arranged_height ps a h,
-      one ts us (Op Colon) refl)
+  tall (G.lambda {ts = ts} {us = us} {ps = ps} {a = a} c h p) = omega (
+    arith,
+    tall p,
+    tall_listing c refl,
+    arranged_height ps a h,
+    one ts us (Op Colon) refl,
+  )
   tall (G.if_else {ts = ts} {us = us} {vs = vs} p q r) =
       omega (arith, tall p, tall q, tall r, one ts (us ++ (Word Key.Else ∷ vs)) (Word Key.If) refl, one us vs (Word Key.Else) refl)
-  tall (G.chain {o = o} {ts = ts} {us = us} p c) = omega (arith, tall p, below_slack (chain_level o), tall_chain c,
-      one ts us (Word (chain_word o)) refl)
+  tall (G.chain {o = o} {ts = ts} {us = us} p c) = omega (
+    arith,
+    tall p,
+    below_slack (chain_level o),
+    tall_chain c,
+    one ts us (Word (chain_word o)) refl,
+  )
   tall (G.unary {l = l} {t = t} {o = o} {ts = ts} h p) = omega (arith, tall p, counted t ts (heavy_unary l t o h))
   tall (G.compare {ts = ts} {us = us} {e = e} p c) = omega (arith, tall p, tall_compares c, height_some e, weight_append ts us)
   tall (G.binary {l = l} {ts = ts} {us = us} {o = o} t h p q) =
@@ -81,11 +96,24 @@ mutual
   tall (G.power {ts = ts} {us = us} p q) = omega (arith, tall p, tall q, one ts us (Op DoubleStar) refl)
   tall (G.await p) = omega (arith, tall p)
   tall (G.attribute {ts = ts} x p) = omega (arith, tall p, one ts (Ident x ∷ []) (Op Dot) refl)
-  tall (G.call {ts = ts} {us = us} {f = f} {e = e} {es = es} p c h) = omega (arith, tall p, tall_listing c refl, called_height f e es h,
-      one ts (us ++ (Op RPar ∷ [])) (Op LPar) refl, end us (Op RPar) refl)
+  tall (G.call {ts = ts} {us = us} {f = f} {e = e} {es = es} p c h) = omega (
+    arith,
+    tall p,
+    tall_listing c refl,
+    called_height f e es h,
+    one ts (us ++ (Op RPar ∷ [])) (Op LPar) refl,
+    end us (Op RPar) refl,
+  )
   tall (G.call_generator {ts = ts} {us = us} {vs = vs} p q c) =
-      omega (arith, tall p, tall q, tall_comps c, one ts (us ++ (vs ++ (Op RPar ∷ []))) (Op LPar) refl,
-      weight_append us (vs ++ (Op RPar ∷ [])), end vs (Op RPar) refl)
+      omega (
+        arith,
+        tall p,
+        tall q,
+        tall_comps c,
+        one ts (us ++ (vs ++ (Op RPar ∷ []))) (Op LPar) refl,
+        weight_append us (vs ++ (Op RPar ∷ [])),
+        end vs (Op RPar) refl,
+      )
   tall (G.subscript {ts = ts} {us = us} p q) =
       omega (arith, tall p, tall q, one ts (us ++ (Op RSqb ∷ [])) (Op LSqb) refl, end us (Op RSqb) refl)
   tall G.name = omega arith
@@ -96,8 +124,14 @@ mutual
   tall (G.group {ts = ts} p) = omega (arith, tall p, end ts (Op RPar) refl)
   tall (G.yield_group {ts = ts} p) = omega (arith, tall_yields p, end ts (Op RPar) refl)
   tall G.empty_tuple = omega arith
-  tall (G.tuple {ts = ts} {us = us} {es = es} p c) = omega (arith, tall p, tall_listing c refl, singles_height es,
-      one ts (us ++ (Op RPar ∷ [])) (Op Comma) refl, end us (Op RPar) refl)
+  tall (G.tuple {ts = ts} {us = us} {es = es} p c) = omega (
+    arith,
+    tall p,
+    tall_listing c refl,
+    singles_height es,
+    one ts (us ++ (Op RPar ∷ [])) (Op Comma) refl,
+    end us (Op RPar) refl,
+  )
   tall (G.generator_group {ts = ts} {us = us} p c) =
       omega (arith, tall p, tall_comps c, weight_append ts (us ++ (Op RPar ∷ [])), end us (Op RPar) refl)
   tall (G.list {ts = ts} {es = es} c) = omega (arith, tall_listing c refl, singles_height es, end ts (Op RSqb) refl)
@@ -105,21 +139,49 @@ mutual
       omega (arith, tall p, tall_comps c, weight_append ts (us ++ (Op RSqb ∷ [])), end us (Op RSqb) refl)
   tall (G.dict {ts = ts} {es = es} c) = omega (arith, tall_listing c refl, pairs_height es, end ts (Op RBrace) refl)
   tall (G.dict_comp {ts = ts} {us = us} {vs = vs} p q c) =
-      omega (arith, tall p, tall q, tall_comps c, one ts (us ++ (vs ++ (Op RBrace ∷ []))) (Op Colon) refl,
-      weight_append us (vs ++ (Op RBrace ∷ [])), end vs (Op RBrace) refl)
+      omega (
+        arith,
+        tall p,
+        tall q,
+        tall_comps c,
+        one ts (us ++ (vs ++ (Op RBrace ∷ []))) (Op Colon) refl,
+        weight_append us (vs ++ (Op RBrace ∷ [])),
+        end vs (Op RBrace) refl,
+      )
   tall (G.set {ts = ts} {e = e} {es = es} c) = omega (arith, tall_listing c refl, singles_height (e ∷ es), end ts (Op RBrace) refl)
-  tall (G.set_comp {ts = ts} {us = us} p c) = omega (arith, tall p, tall_comps c, weight_append ts (us ++ (Op RBrace ∷ [])),
-      end us (Op RBrace) refl)
+  tall (G.set_comp {ts = ts} {us = us} p c) = omega (
+    arith,
+    tall p,
+    tall_comps c,
+    weight_append ts (us ++ (Op RBrace ∷ [])),
+    end us (Op RBrace) refl,
+  )
   tall (G.star_elem p) = omega (arith, tall p)
   tall (G.star_slices p) = omega (arith, tall p)
-  tall (G.subject_tuple {ts = ts} {us = us} {es = es} p c) = omega (arith, tall p, tall_listing c refl, singles_height es,
-      one ts us (Op Comma) refl)
-  tall (G.parts {ts = ts} {us = us} {es = es} p c) = omega (arith, tall p, tall_listing c refl, singles_height es,
-      one ts us (Op Comma) refl)
+  tall (G.subject_tuple {ts = ts} {us = us} {es = es} p c) = omega (
+    arith,
+    tall p,
+    tall_listing c refl,
+    singles_height es,
+    one ts us (Op Comma) refl,
+  )
+  tall (G.parts {ts = ts} {us = us} {es = es} p c) = omega (
+    arith,
+    tall p,
+    tall_listing c refl,
+    singles_height es,
+    one ts us (Op Comma) refl,
+  )
   tall (G.star_part p) = omega (arith, tall p)
   tall (G.slice {ts = ts} {us = us} p q) = omega (arith, tall_perhaps p, tall_perhaps q, one ts us (Op Colon) refl)
-  tall (G.slice_step {ts = ts} {us = us} {vs = vs} p q r) = omega (arith, tall_perhaps p, tall_perhaps q, tall_perhaps r,
-      one ts (us ++ (Op Colon ∷ vs)) (Op Colon) refl, one us vs (Op Colon) refl)
+  tall (G.slice_step {ts = ts} {us = us} {vs = vs} p q r) = omega (
+    arith,
+    tall_perhaps p,
+    tall_perhaps q,
+    tall_perhaps r,
+    one ts (us ++ (Op Colon ∷ vs)) (Op Colon) refl,
+    one us vs (Op Colon) refl,
+  )
 
   tall_joined : {u : Bool} {ts : List Terminal} {ps : List StringPart} → G.Literals u ts ps → has_formatted ts ≡ true
       → suc (max 1 (fields_height ps)) ≤ weight ts
@@ -137,8 +199,15 @@ mutual
   tall_formatted : {u : Bool} {ts : List Terminal} {ps : List StringPart} → G.Formatted u ts ps → fields_height ps ≤ suc (weight ts)
   tall_formatted G.no_part = omega arith
   tall_formatted (G.text_part p) = omega (arith, tall_formatted p)
-  tall_formatted (G.field_part {ts = ts} {us = us} {vs = vs} p q r) = omega (arith, tall p, wide p refl, tall_spec q, tall_formatted r,
-      weight_append ts (us ++ (FieldEnd ∷ vs)), weight_append us (FieldEnd ∷ vs))
+  tall_formatted (G.field_part {ts = ts} {us = us} {vs = vs} p q r) = omega (
+    arith,
+    tall p,
+    wide p refl,
+    tall_spec q,
+    tall_formatted r,
+    weight_append ts (us ++ (FieldEnd ∷ vs)),
+    weight_append us (FieldEnd ∷ vs),
+  )
 
   tall_spec : {u : Bool} {us : List Terminal} {a : OptionalExpr} → G.Spec u us a → optional_height a ≤ suc (suc (weight us))
   tall_spec G.no_spec = omega arith
@@ -158,13 +227,24 @@ mutual
 
   tall_chain : {o : BoolOperator} {us : List Terminal} {es : List Expr} → G.Chain o us es → heights (exprs es) ≤ weight us
   tall_chain (G.last_link {o = o} p) = omega (arith, tall p, below_slack (chain_level o))
-  tall_chain (G.link {o = o} {ts = ts} {us = us} p c) = omega (arith, tall p, below_slack (chain_level o), tall_chain c,
-      one ts us (Word (chain_word o)) refl)
+  tall_chain (G.link {o = o} {ts = ts} {us = us} p c) = omega (
+    arith,
+    tall p,
+    below_slack (chain_level o),
+    tall_chain c,
+    one ts us (Word (chain_word o)) refl,
+  )
 
   tall_compares : {us : List Terminal} {os : List Comparison} {es : List Expr} → G.Compares us os es → suc (heights (exprs es)) ≤ weight us
   tall_compares (G.last_compare {ss = ss} {ts = ts} c p) = omega (arith, tall p, compared_some c, weight_append ss ts)
-  tall_compares (G.compares {ss = ss} {ts = ts} {us = us} c p w) = omega (arith, tall p, tall_compares w, compared_some c,
-      weight_append ss (ts ++ us), weight_append ts us)
+  tall_compares (G.compares {ss = ss} {ts = ts} {us = us} c p w) = omega (
+    arith,
+    tall p,
+    tall_compares w,
+    compared_some c,
+    weight_append ss (ts ++ us),
+    weight_append ts us,
+  )
 
   tall_listing : {i : Item} {us : List Terminal} {es : List Entry} → G.Listing i us es → slack_item i ≡ 0 → entries_height es ≤ weight us
   tall_listing G.no_item z = omega arith
@@ -196,8 +276,15 @@ mutual
   tall_comp (G.async_for_in p) = omega (arith, tall_for_in p)
 
   tall_for_in : {b : Bool} {us : List Terminal} {g : Comprehension} → G.ForIn b us g → gen_size g ≤ weight us
-  tall_for_in (G.target_in {ts = ts} {us = us} {vs = vs} {t = t} {s = s} p h q c) = omega (arith, tall p, stored_height t s h, tall q,
-      tall_ifs c, one ts (us ++ vs) (Word Key.In) refl, weight_append us vs)
+  tall_for_in (G.target_in {ts = ts} {us = us} {vs = vs} {t = t} {s = s} p h q c) = omega (
+    arith,
+    tall p,
+    stored_height t s h,
+    tall q,
+    tall_ifs c,
+    one ts (us ++ vs) (Word Key.In) refl,
+    weight_append us vs,
+  )
 
   tall_ifs : {us : List Terminal} {es : List Expr} → G.Ifs us es → heights (exprs es) ≤ weight us
   tall_ifs G.no_if = omega arith

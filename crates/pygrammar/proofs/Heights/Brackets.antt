@@ -70,8 +70,11 @@ mutual
   wide (G.yield_group {ts = ts} p) h = omega (arith, weight_append ts (Op RPar ∷ []))
   wide G.empty_tuple h = omega arith
   wide (G.tuple {ts = ts} {us = us} p c) h = omega (arith, weight_append ts (Op Comma ∷ (us ++ (Op RPar ∷ []))))
-  wide (G.generator_group {ts = ts} {us = us} p c) h = omega (arith, weight_append ts (us ++ (Op RPar ∷ [])),
-      weight_append us (Op RPar ∷ []))
+  wide (G.generator_group {ts = ts} {us = us} p c) h = omega (
+    arith,
+    weight_append ts (us ++ (Op RPar ∷ [])),
+    weight_append us (Op RPar ∷ []),
+  )
   wide (G.subject_tuple {ts = ts} p c) h = wider ts _ (wide p (front ts _ (omega (arith, led p)) h))
   wide (G.parts {ts = ts} p c) h = wider ts _ (wide p (front ts _ (omega (arith, led p)) h))
   wide (G.slice {ts = ts} p q) h = wide_perhaps p _ h
@@ -81,5 +84,8 @@ mutual
   wide_perhaps : {ts : List Terminal} {a : OptionalExpr} → G.Perhaps Expression ts a → (us : List Terminal)
       → opens (ts ++ (Op Colon ∷ us)) ≡ true → 2 ≤ weight (ts ++ (Op Colon ∷ us))
   wide_perhaps G.nothing us h = absurd (cc)
-  wide_perhaps (G.something {ts = ts} p) us h = omega (arith, wide p (front ts _ (omega (arith, led p)) h),
-      weight_append ts (Op Colon ∷ us))
+  wide_perhaps (G.something {ts = ts} p) us h = omega (
+    arith,
+    wide p (front ts _ (omega (arith, led p)) h),
+    weight_append ts (Op Colon ∷ us),
+  )

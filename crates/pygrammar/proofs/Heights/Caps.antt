@@ -183,13 +183,13 @@ module _ (self : Reads) (n : ℕ) where
   over_primary zero e r h = over h
   over_primary (suc m) e r h =
       over_first height n (is_op Dot) r _ _
-          (λ _ r1. over_first height n name_in r1 _ _ (λ x r2. over_primary m (Trees.Attribute e x Load) r2 (omega (arith, h))) none)
+      (λ _ r1. over_first height n name_in r1 _ _ (λ x r2. over_primary m (Trees.Attribute e x Load) r2 (omega (arith, h))) none)
       (over_first height n (is_op LPar) r _ _ (λ _ r1. over_on height height (suc n) n _ _ (over_call e r1 h)
-          (λ f r2 w. over_primary m f r2 (omega (arith, w))))
+      (λ f r2 w. over_primary m f r2 (omega (arith, w))))
       (over_first height n (is_op LSqb) r _ _
-          (λ _ r1. over_then height n (self Slices r1) _
-          (λ s r2. over_first height n (is_op RSqb) r2 _ _ (λ _ r3. over_primary m (Trees.Subscript e s Load) r3 (omega (arith, h))) none))
-          (over h)))
+      (λ _ r1. over_then height n (self Slices r1) _
+      (λ s r2. over_first height n (is_op RSqb) r2 _ _ (λ _ r3. over_primary m (Trees.Subscript e s Load) r3 (omega (arith, h))) none))
+      (over h)))
 
   over_chain : (o : BoolOperator) (m : ℕ) (acc : List Expr) (r : List Terminal) → n ≤ exprs_size acc
       → Over exprs_size n (chain_loop self o m acc r)
@@ -271,10 +271,10 @@ module _ (d : ℕ) (self other : Reads) (all : CapsAt d self other) where
       (λ a s. c_one (entry_size Pair) d BitOr s (λ e r2. Found (Doubled e) r2) (λ e r1 w. over w))
       (caps_then height (entry_size Pair) d d _ _ _ _ (all Expression r)
       (λ k r1. caps_first (entry_size Pair) d (is_op Colon) r1 _ _ _ _
-          (λ a s. c_one (entry_size Pair) d Expression s (λ e r3. Found (Paired k e) r3) (λ e r2 w. over (omega (arith, w)))) (inl refl))
+      (λ a s. c_one (entry_size Pair) d Expression s (λ e r3. Found (Paired k e) r3) (λ e r2 w. over (omega (arith, w)))) (inl refl))
       (λ k r1 w. over_first (entry_size Pair) (suc d) (is_op Colon) r1 _ _
-          (λ _ r2. over_then (entry_size Pair) (suc d) (other Expression r2) (λ e r3. Found (Paired k e) r3)
-          (λ e r3. over (omega (arith, w)))) none))
+      (λ _ r2. over_then (entry_size Pair) (suc d) (other Expression r2) (λ e r3. Found (Paired k e) r3)
+      (λ e r3. over (omega (arith, w)))) none))
 
   pub c_name_with : {B : Type 0} (t : B → ℕ) (n : ℕ) (s : Exact) (r : List Terminal) (k j : Identifier → List Terminal → Answer B)
       (x y : Answer B) → ((a : Identifier) (u : List Terminal) → Caps t n (k a u) (j a u)) → Caps t n x y
@@ -294,17 +294,17 @@ module _ (d : ℕ) (self other : Reads) (all : CapsAt d self other) where
   c_parameter : (b : Bool) (r : List Terminal) → Caps (entry_size (Parameter b)) d (read_parameter self b r) (read_parameter other b r)
   c_parameter b r =
       caps_first (entry_size (Parameter b)) d name_in r _ _ _ _ (λ x r1. caps_then optional_height (entry_size (Parameter b)) d d _
-          _ _ _ (c_annotated b r1)
+      _ _ _ (c_annotated b r1)
       (λ a r2. caps_then optional_height (entry_size (Parameter b)) d d _ _ (λ c r3. Found (Plain (arg x a) c) r3)
-          (λ c r3. Found (Plain (arg x a) c) r3) (c_suffixed (Some Equal) r2) (λ c r3. inl refl) (λ c r3 w. over (omega (arith, w))))
+      (λ c r3. Found (Plain (arg x a) c) r3) (c_suffixed (Some Equal) r2) (λ c r3. inl refl) (λ c r3 w. over (omega (arith, w))))
       (λ a r2 w. over_then (entry_size (Parameter b)) (suc d) (suffixed other (Some Equal) r2) (λ c r3. Found (Plain (arg x a) c) r3)
-          (λ c r3. over (omega (arith, w)))))
+      (λ c r3. over (omega (arith, w)))))
       (caps_first (entry_size (Parameter b)) d (is_op Star) r _ _ _ _ (λ _ r1. caps_first (entry_size (Parameter b)) d name_in r1 _ _ _ _
-          (λ x r2. caps_then optional_height (entry_size (Parameter b)) d d _ _ (λ a r3. Found (Gathered (arg x a)) r3)
-          (λ a r3. Found (Gathered (arg x a)) r3) (c_star_annotated b r2) (λ a r3. inl refl) (λ a r3 w. over w)) (inl refl))
+      (λ x r2. caps_then optional_height (entry_size (Parameter b)) d d _ _ (λ a r3. Found (Gathered (arg x a)) r3)
+      (λ a r3. Found (Gathered (arg x a)) r3) (c_star_annotated b r2) (λ a r3. inl refl) (λ a r3 w. over w)) (inl refl))
       (caps_first (entry_size (Parameter b)) d (is_op DoubleStar) r _ _ _ _ (λ _ r1. caps_first (entry_size (Parameter b)) d name_in r1 _ _
-          _ _ (λ x r2. caps_then optional_height (entry_size (Parameter b)) d d _ _ (λ a r3. Found (Collected (arg x a)) r3)
-          (λ a r3. Found (Collected (arg x a)) r3) (c_annotated b r2) (λ a r3. inl refl) (λ a r3 w. over w)) (inl refl)) (inl refl)))
+      _ _ (λ x r2. caps_then optional_height (entry_size (Parameter b)) d d _ _ (λ a r3. Found (Collected (arg x a)) r3)
+      (λ a r3. Found (Collected (arg x a)) r3) (c_annotated b r2) (λ a r3. inl refl) (λ a r3 w. over w)) (inl refl)) (inl refl)))
 
   c_piece : (i : Item) (r : List Terminal) → Caps (entry_size i) d (piece self i r) (piece other i r)
   c_piece (Of l) r = c_one (entry_size (Of l)) d l r (λ e r1. Found (Single e) r1) (λ e r1 w. over w)
@@ -320,7 +320,7 @@ c_listing d other i one two h (suc m) acc r =
     caps_cond (list_size i) d (starts i r) _ _ _ _ (caps_then (entry_size i) (list_size i) d d _ _ _ _ (h r)
     (λ e r1. caps_first (list_size i) d (is_op Comma) r1 _ _ _ _ (λ _ r2. c_listing d other i one two h m (acc ++ (e ∷ [])) r2) (inl refl))
     (λ e r1 w. over_first (list_size i) (suc d) (is_op Comma) r1 _ _ (λ _ r2. over_listing other (suc d) two i m (acc ++ (e ∷ [])) r2
-        (omega (arith, w, list_last i acc e))) (over (omega (arith, w, list_last i acc e))))) (inl refl)
+    (omega (arith, w, list_last i acc e))) (over (omega (arith, w, list_last i acc e))))) (inl refl)
 
 module _ (d : ℕ) (self other : Reads) (all : CapsAt d self other) where
   pub c_listing_of : (i : Item) (acc : List Entry) (r : List Terminal)
@@ -346,12 +346,12 @@ module _ (d : ℕ) (self other : Reads) (all : CapsAt d self other) where
   pub c_target : (r : List Terminal) → Caps height d (read_target self r) (read_target other r)
   c_target r = caps_then height height d d _ _ _ _ (c_target_item r)
       (λ e r1. caps_first height d (is_op Comma) r1 _ _ _ _ (λ _ r2. caps_then (list_size (Of StarItem)) height d d _ _
-          (λ es r3. Found (Trees.Tuple (an_expr e (singles es)) Load) r3) (λ es r3. Found (Trees.Tuple (an_expr e (singles es)) Load) r3)
-          (c_listing d other (Of StarItem) (target_piece self) (target_piece other) c_target_piece (length r2) [] r2) (λ es r3. inl refl)
-          (λ es r3 w. over (omega (arith, w, singles_size StarItem es)))) (inl refl))
+      (λ es r3. Found (Trees.Tuple (an_expr e (singles es)) Load) r3) (λ es r3. Found (Trees.Tuple (an_expr e (singles es)) Load) r3)
+      (c_listing d other (Of StarItem) (target_piece self) (target_piece other) c_target_piece (length r2) [] r2) (λ es r3. inl refl)
+      (λ es r3 w. over (omega (arith, w, singles_size StarItem es)))) (inl refl))
       (λ e r1 w. over_first height (suc d) (is_op Comma) r1 _ _
-          (λ _ r2. over_then height (suc d) (listing_loop (target_piece other) (Of StarItem) (length r2) [] r2)
-          (λ es r3. Found (Trees.Tuple (an_expr e (singles es)) Load) r3) (λ es r3. over (omega (arith, w)))) (over w))
+      (λ _ r2. over_then height (suc d) (listing_loop (target_piece other) (Of StarItem) (length r2) [] r2)
+      (λ es r3. Found (Trees.Tuple (an_expr e (singles es)) Load) r3) (λ es r3. over (omega (arith, w)))) (over w))
 
   c_ifs : (m : ℕ) (acc : List Expr) (r : List Terminal) → Caps exprs_size d (ifs_loop self m acc r) (ifs_loop other m acc r)
   c_ifs zero acc r = inl refl
@@ -363,22 +363,22 @@ module _ (d : ℕ) (self other : Reads) (all : CapsAt d self other) where
   c_for_in b r = caps_then height gen_size d d _ _ _ _ (c_target r)
       (λ t r1. caps_first gen_size d (is_word Key.In) r1 _ _ _ _ (λ _ r2. caps_then height gen_size d d _ _ _ _ (all Or r2)
       (λ e r3. caps_then exprs_size gen_size d d _ _ (λ cs r4. made (generator_of (stored t) e cs b) r4)
-          (λ cs r4. made (generator_of (stored t) e cs b) r4) (c_ifs (length r3) [] r3) (λ cs r4. inl refl)
-          (λ cs r4 w. over_generator other (suc d) t e cs b r4 (omega (arith, w))))
+      (λ cs r4. made (generator_of (stored t) e cs b) r4) (c_ifs (length r3) [] r3) (λ cs r4. inl refl)
+      (λ cs r4 w. over_generator other (suc d) t e cs b r4 (omega (arith, w))))
       (λ e r3 w. over_then gen_size (suc d) (ifs_loop other (length r3) [] r3) (λ cs r4. made (generator_of (stored t) e cs b) r4)
-          (λ cs r4. over_generator other (suc d) t e cs b r4 (omega (arith, w))))) (inl refl))
+      (λ cs r4. over_generator other (suc d) t e cs b r4 (omega (arith, w))))) (inl refl))
       (λ t r1 w. over_first gen_size (suc d) (is_word Key.In) r1 _ _ (λ _ r2. over_then gen_size (suc d) (other Or r2) _
-          (λ e r3. over_then gen_size (suc d) (ifs_loop other (length r3) [] r3) (λ cs r4. made (generator_of (stored t) e cs b) r4)
-          (λ cs r4. over_generator other (suc d) t e cs b r4 (omega (arith, w))))) none)
+      (λ e r3. over_then gen_size (suc d) (ifs_loop other (length r3) [] r3) (λ cs r4. made (generator_of (stored t) e cs b) r4)
+      (λ cs r4. over_generator other (suc d) t e cs b r4 (omega (arith, w))))) none)
 
   c_comps : (m : ℕ) (acc : List Comprehension) (r : List Terminal) → Caps gens_size d (comps_loop self m acc r) (comps_loop other m acc r)
   c_comps zero acc r = inl refl
   c_comps (suc m) acc r = caps_first gens_size d (is_word Key.For) r _ _ _ _
       (λ _ r1. caps_then gen_size gens_size d d _ _ _ _ (c_for_in false r1) (λ g r2. c_comps m (acc ++ (g ∷ [])) r2)
-          (λ g r2 w. over_comps other (suc d) m (acc ++ (g ∷ [])) r2 (omega (arith, w, gens_last acc g))))
+      (λ g r2 w. over_comps other (suc d) m (acc ++ (g ∷ [])) r2 (omega (arith, w, gens_last acc g))))
       (caps_first gens_size d (is_word Key.Async) r _ _ _ _ (λ _ r1. caps_first gens_size d (is_word Key.For) r1 _ _ _ _
-          (λ _ r2. caps_then gen_size gens_size d d _ _ _ _ (c_for_in true r2) (λ g r3. c_comps m (acc ++ (g ∷ [])) r3)
-          (λ g r3 w. over_comps other (suc d) m (acc ++ (g ∷ [])) r3 (omega (arith, w, gens_last acc g)))) (inl refl)) (inl refl))
+      (λ _ r2. caps_then gen_size gens_size d d _ _ _ _ (c_for_in true r2) (λ g r3. c_comps m (acc ++ (g ∷ [])) r3)
+      (λ g r3 w. over_comps other (suc d) m (acc ++ (g ∷ [])) r3 (omega (arith, w, gens_last acc g)))) (inl refl)) (inl refl))
 
   c_comps_closed : (s : Exact) (r : List Terminal) (make : List Comprehension → Expr)
       → ((gs : List Comprehension) → suc (gens_size gs) ≤ height (make gs)) → Caps height (suc d) (comps_closed self s r make)
@@ -402,17 +402,17 @@ module _ (d : ℕ) (self other : Reads) (all : CapsAt d self other) where
   c_square : (r : List Terminal) → Caps height (suc d) (square self r) (square other r)
   c_square r = caps_cond height (suc d) (starts (Of Elem) r) _ _ _ _ (caps_then height height d (suc d) _ _ _ _ (all Elem r)
       (λ e r1. caps_cond height (suc d) (starts_comp r1) _ _ _ _
-          (c_unstarred height (suc d) r _ _ (c_comps_closed RSqb r1 (λ gs. Trees.ListComp e (comprehensions gs)) (λ gs. omega arith)))
+      (c_unstarred height (suc d) r _ _ (c_comps_closed RSqb r1 (λ gs. Trees.ListComp e (comprehensions gs)) (λ gs. omega arith)))
       (caps_then (list_size (Of Elem)) height d (suc d) _ _ (λ es r2. closed RSqb r2 (Trees.ListOf (singles es) Load))
-          (λ es r2. closed RSqb r2 (Trees.ListOf (singles es) Load)) (c_others (Of Elem) (Single e) r1) (λ es r2. inl refl)
-          (λ es r2 w. over_closed height (suc (suc d)) RSqb r2 (Trees.ListOf (singles es) Load) (omega (arith, w, singles_size Elem es)))))
+      (λ es r2. closed RSqb r2 (Trees.ListOf (singles es) Load)) (c_others (Of Elem) (Single e) r1) (λ es r2. inl refl)
+      (λ es r2 w. over_closed height (suc (suc d)) RSqb r2 (Trees.ListOf (singles es) Load) (omega (arith, w, singles_size Elem es)))))
       (λ e r1 w. over_cond height (suc (suc d)) (starts_comp r1) _ _
-          (over_unstarred other (suc (suc d)) height r _
-          (over_comps_closed other (suc (suc d)) RSqb r1 (λ gs. Trees.ListComp e (comprehensions gs)) (λ gs. omega (arith, w))))
+      (over_unstarred other (suc (suc d)) height r _
+      (over_comps_closed other (suc (suc d)) RSqb r1 (λ gs. Trees.ListComp e (comprehensions gs)) (λ gs. omega (arith, w))))
       (over_on (list_size (Of Elem)) height (suc d) (suc (suc d)) (others_of other (Of Elem) (Single e) r1)
-          (λ es r2. closed RSqb r2 (Trees.ListOf (singles es) Load)) (over_others other (suc d) (Of Elem) (Single e) r1 w)
-          (λ es r2 v. over_closed height (suc (suc d)) RSqb r2 (Trees.ListOf (singles es) Load) (omega (arith, v, singles_size Elem es))))))
-          (inl refl)
+      (λ es r2. closed RSqb r2 (Trees.ListOf (singles es) Load)) (over_others other (suc d) (Of Elem) (Single e) r1 w)
+      (λ es r2 v. over_closed height (suc (suc d)) RSqb r2 (Trees.ListOf (singles es) Load) (omega (arith, v, singles_size Elem es))))))
+      (inl refl)
 
   c_dict : (e : Entry) (r : List Terminal) → Caps height (suc d) (dict_from self e r) (dict_from other e r)
   c_dict e r = caps_then (list_size Pair) height d (suc d) _ _ (λ fs r1. closed RBrace r1 (Trees.Dict (keys fs) (values fs)))
@@ -423,33 +423,33 @@ module _ (d : ℕ) (self other : Reads) (all : CapsAt d self other) where
   c_curly r =
       caps_first height (suc d) (is_op RBrace) r _ _ _ _ (λ _ r1. inl refl)
       (caps_first height (suc d) (is_op DoubleStar) r _ _ _ _ (λ _ r1. caps_then height height d (suc d) _ _ _ _ (all BitOr r1)
-          (λ e r2. c_dict (Doubled e) r2) (λ e r2 w. over_dict other (suc d) (Doubled e) r2 w))
+      (λ e r2. c_dict (Doubled e) r2) (λ e r2 w. over_dict other (suc d) (Doubled e) r2 w))
       (caps_then height height d (suc d) _ _ _ _ (all Elem r)
       (λ e r1. caps_first height (suc d) (is_op Colon) r1 _ _ _ _
       (λ _ r2. c_unstarred height (suc d) r _ _
-          (c_unnamed height (suc d) r _ _ (caps_then height height d (suc d) _ _ _ _ (all Expression r2)
+      (c_unnamed height (suc d) r _ _ (caps_then height height d (suc d) _ _ _ _ (all Expression r2)
       (λ v r3. caps_cond height (suc d) (starts_comp r3) _ _ _ _ (c_comps_closed RBrace r3 (λ gs. Trees.DictComp e v (comprehensions gs))
-          (λ gs. omega arith)) (c_dict (Paired e v) r3))
+      (λ gs. omega arith)) (c_dict (Paired e v) r3))
       (λ v r3 w. over_cond height (suc (suc d)) (starts_comp r3) _ _
-          (over_comps_closed other (suc (suc d)) RBrace r3 (λ gs. Trees.DictComp e v (comprehensions gs)) (λ gs. omega (arith, w)))
-          (over_dict other (suc d) (Paired e v) r3 (omega (arith, w)))))))
+      (over_comps_closed other (suc (suc d)) RBrace r3 (λ gs. Trees.DictComp e v (comprehensions gs)) (λ gs. omega (arith, w)))
+      (over_dict other (suc d) (Paired e v) r3 (omega (arith, w)))))))
       (caps_cond height (suc d) (starts_comp r1) _ _ _ _
-          (c_unstarred height (suc d) r _ _ (c_comps_closed RBrace r1 (λ gs. Trees.SetComp e (comprehensions gs)) (λ gs. omega arith)))
+      (c_unstarred height (suc d) r _ _ (c_comps_closed RBrace r1 (λ gs. Trees.SetComp e (comprehensions gs)) (λ gs. omega arith)))
       (caps_then (list_size (Of Elem)) height d (suc d) _ _ (λ es r2. closed RBrace r2 (Trees.Set (singles es)))
-          (λ es r2. closed RBrace r2 (Trees.Set (singles es))) (c_others (Of Elem) (Single e) r1) (λ es r2. inl refl)
-          (λ es r2 w. over_closed height (suc (suc d)) RBrace r2 (Trees.Set (singles es)) (omega (arith, w, singles_size Elem es))))))
+      (λ es r2. closed RBrace r2 (Trees.Set (singles es))) (c_others (Of Elem) (Single e) r1) (λ es r2. inl refl)
+      (λ es r2 w. over_closed height (suc (suc d)) RBrace r2 (Trees.Set (singles es)) (omega (arith, w, singles_size Elem es))))))
       (λ e r1 w. over_first height (suc (suc d)) (is_op Colon) r1 _ _
       (λ _ r2. over_unstarred other (suc (suc d)) height r _
-          (over_unnamed other (suc (suc d)) height r _ (over_then height (suc (suc d)) (other Expression r2) _
-          (λ v r3. over_cond height (suc (suc d)) (starts_comp r3) _ _
-          (over_comps_closed other (suc (suc d)) RBrace r3 (λ gs. Trees.DictComp e v (comprehensions gs)) (λ gs. omega (arith, w)))
-          (over_dict other (suc d) (Paired e v) r3 (omega (arith, w)))))))
+      (over_unnamed other (suc (suc d)) height r _ (over_then height (suc (suc d)) (other Expression r2) _
+      (λ v r3. over_cond height (suc (suc d)) (starts_comp r3) _ _
+      (over_comps_closed other (suc (suc d)) RBrace r3 (λ gs. Trees.DictComp e v (comprehensions gs)) (λ gs. omega (arith, w)))
+      (over_dict other (suc d) (Paired e v) r3 (omega (arith, w)))))))
       (over_cond height (suc (suc d)) (starts_comp r1) _ _
-          (over_unstarred other (suc (suc d)) height r _
-          (over_comps_closed other (suc (suc d)) RBrace r1 (λ gs. Trees.SetComp e (comprehensions gs)) (λ gs. omega (arith, w))))
+      (over_unstarred other (suc (suc d)) height r _
+      (over_comps_closed other (suc (suc d)) RBrace r1 (λ gs. Trees.SetComp e (comprehensions gs)) (λ gs. omega (arith, w))))
       (over_on (list_size (Of Elem)) height (suc d) (suc (suc d)) (others_of other (Of Elem) (Single e) r1)
-          (λ es r2. closed RBrace r2 (Trees.Set (singles es))) (over_others other (suc d) (Of Elem) (Single e) r1 w)
-          (λ es r2 v. over_closed height (suc (suc d)) RBrace r2 (Trees.Set (singles es)) (omega (arith, v, singles_size Elem es))))))))
+      (λ es r2. closed RBrace r2 (Trees.Set (singles es))) (over_others other (suc d) (Of Elem) (Single e) r1 w)
+      (λ es r2 v. over_closed height (suc (suc d)) RBrace r2 (Trees.Set (singles es)) (omega (arith, v, singles_size Elem es))))))))
 
   c_generator : (f : Expr) (a : Entry) (r : List Terminal) → Caps height (suc d) (generator_call self f a r) (generator_call other f a r)
   c_generator f (Single e) r = c_comps_closed RPar r _ (λ gs. omega arith)
@@ -459,29 +459,29 @@ module _ (d : ℕ) (self other : Reads) (all : CapsAt d self other) where
   c_call f r = caps_cond height (suc d) (starts Argument r) _ _ _ _ (caps_then (entry_size Argument) height d (suc d) _ _ _ _
       (c_piece d self other all Argument r)
       (λ a r1. caps_cond height (suc d) (starts_comp r1) _ _ _ _ (c_generator f a r1) (caps_then (list_size Argument) height d (suc d) _ _
-          (λ es r2. called_with self f es r2) (λ es r2. called_with other f es r2) (c_others Argument a r1) (λ es r2. inl refl)
-          (λ es r2 w. over_called other (suc d) f es r2 (omega (arith, w, arguments_size es)))))
+      (λ es r2. called_with self f es r2) (λ es r2. called_with other f es r2) (c_others Argument a r1) (λ es r2. inl refl)
+      (λ es r2 w. over_called other (suc d) f es r2 (omega (arith, w, arguments_size es)))))
       (λ a r1 w. over_cond height (suc (suc d)) (starts_comp r1) _ _ (over_generator_call other (suc d) f a r1 (omega (arith, w)))
-          (over_on (list_size Argument) height (suc d) (suc (suc d)) (others_of other Argument a r1) (λ es r2. called_with other f es r2)
-          (over_others other (suc d) Argument a r1 w)
-          (λ es r2 v. over_called other (suc d) f es r2 (omega (arith, v, arguments_size es)))))) (inl refl)
+      (over_on (list_size Argument) height (suc d) (suc (suc d)) (others_of other Argument a r1) (λ es r2. called_with other f es r2)
+      (over_others other (suc d) Argument a r1 w)
+      (λ es r2 v. over_called other (suc d) f es r2 (omega (arith, v, arguments_size es)))))) (inl refl)
 
   c_primary : (m : ℕ) (e : Expr) (r : List Terminal) → Caps height (suc d) (capped_primary (suc d) self m e r) (primary_loop other m e r)
   c_primary zero e r = inl refl
   c_primary (suc m) e r =
       caps_first height (suc d) (is_op Dot) r _ _ _ _ (λ _ r1. caps_first height (suc d) name_in r1 _ _ _ _
-          (λ x r2. caps_checked (suc d) (Found (Trees.Attribute e x Load) r2) (Found (Trees.Attribute e x Load) r2)
-          (λ f r3. capped_primary (suc d) self m f r3) (λ f r3. primary_loop other m f r3) (inl refl) (λ f r3. c_primary m f r3)
-          (λ f r3 w. over_primary other (suc (suc d)) m f r3 w)) (inl refl))
+      (λ x r2. caps_checked (suc d) (Found (Trees.Attribute e x Load) r2) (Found (Trees.Attribute e x Load) r2)
+      (λ f r3. capped_primary (suc d) self m f r3) (λ f r3. primary_loop other m f r3) (inl refl) (λ f r3. c_primary m f r3)
+      (λ f r3 w. over_primary other (suc (suc d)) m f r3 w)) (inl refl))
       (caps_first height (suc d) (is_op LPar) r _ _ _ _ (λ _ r1. caps_checked (suc d) (call_step self e r1) (call_step other e r1)
-          (λ f r3. capped_primary (suc d) self m f r3) (λ f r3. primary_loop other m f r3) (c_call e r1) (λ f r3. c_primary m f r3)
-          (λ f r3 w. over_primary other (suc (suc d)) m f r3 w))
+      (λ f r3. capped_primary (suc d) self m f r3) (λ f r3. primary_loop other m f r3) (c_call e r1) (λ f r3. c_primary m f r3)
+      (λ f r3 w. over_primary other (suc (suc d)) m f r3 w))
       (caps_first height (suc d) (is_op LSqb) r _ _ _ _ (λ _ r1. caps_then height height d (suc d) _ _ _ _ (all Slices r1)
       (λ x r2. caps_first height (suc d) (is_op RSqb) r2 _ _ _ _ (λ _ r4. caps_checked (suc d) (Found (Trees.Subscript e x Load) r4)
-          (Found (Trees.Subscript e x Load) r4) (λ f r3. capped_primary (suc d) self m f r3) (λ f r3. primary_loop other m f r3) (inl refl)
-          (λ f r3. c_primary m f r3) (λ f r3 w. over_primary other (suc (suc d)) m f r3 w)) (inl refl))
+      (Found (Trees.Subscript e x Load) r4) (λ f r3. capped_primary (suc d) self m f r3) (λ f r3. primary_loop other m f r3) (inl refl)
+      (λ f r3. c_primary m f r3) (λ f r3 w. over_primary other (suc (suc d)) m f r3 w)) (inl refl))
       (λ x r2 w. over_first height (suc (suc d)) (is_op RSqb) r2 _ _ (λ _ r3. over_primary other (suc (suc d)) m (Trees.Subscript e x Load)
-          r3 (omega (arith, w))) none)) (inl refl)))
+      r3 (omega (arith, w))) none)) (inl refl)))
 
   c_chain : (o : BoolOperator) (m : ℕ) (acc : List Expr) (r : List Terminal)
       → Caps exprs_size d (chain_loop self o m acc r) (chain_loop other o m acc r)
@@ -532,10 +532,10 @@ module _ (d : ℕ) (self other : Reads) (all : CapsAt d self other) where
   c_slice_rest : (a : OptionalExpr) (r : List Terminal) → Caps height (suc d) (slice_rest self a r) (slice_rest other a r)
   c_slice_rest a r = caps_then optional_height height d (suc d) _ _ _ _ (c_perhaps d self other all Expression r)
       (λ b r1. caps_first height (suc d) (is_op Colon) r1 _ _ _ _ (λ _ r2. caps_then optional_height height d (suc d) _ _
-          (λ c r3. Found (Trees.Slice a b c) r3) (λ c r3. Found (Trees.Slice a b c) r3) (c_perhaps d self other all Expression r2)
-          (λ c r3. inl refl) (λ c r3 w. over (omega (arith, w)))) (inl refl))
+      (λ c r3. Found (Trees.Slice a b c) r3) (λ c r3. Found (Trees.Slice a b c) r3) (c_perhaps d self other all Expression r2)
+      (λ c r3. inl refl) (λ c r3 w. over (omega (arith, w)))) (inl refl))
       (λ b r1 w. over_first height (suc (suc d)) (is_op Colon) r1 _ _ (λ _ r2. over_then height (suc (suc d)) (perhaps other Expression r2)
-          (λ c r3. Found (Trees.Slice a b c) r3) (λ c r3. over (omega (arith, w)))) (over {a = Trees.Slice a b absent} (omega (arith, w))))
+      (λ c r3. Found (Trees.Slice a b c) r3) (λ c r3. over (omega (arith, w)))) (over {a = Trees.Slice a b absent} (omega (arith, w))))
 
   over_lambda : (n : ℕ) (ps : List Entry) (e : Expr) (r : List Terminal) → n ≤ max (entries_height ps) (height e)
       → Over height (suc n) (made (lambda_of (arranged ps) e) r)
@@ -548,17 +548,17 @@ module _ (d : ℕ) (self other : Reads) (all : CapsAt d self other) where
   c_lambda : (r : List Terminal) → Caps height (suc d) (lambda_step self r) (lambda_step other r)
   c_lambda r = caps_then (list_size (Parameter false)) height d (suc d) _ _ _ _ (c_listing_of (Parameter false) [] r)
       (λ ps r1. caps_first height (suc d) (is_op Colon) r1 _ _ _ _ (λ _ r2. c_one d self other all height (suc d) Expression r2
-          (λ e r3. made (lambda_of (arranged ps) e) r3) (λ e r3 w. over_lambda (suc d) ps e r3 (omega (arith, w)))) (inl refl))
+      (λ e r3. made (lambda_of (arranged ps) e) r3) (λ e r3 w. over_lambda (suc d) ps e r3 (omega (arith, w)))) (inl refl))
       (λ ps r1 w. over_first height (suc (suc d)) (is_op Colon) r1 _ _ (λ _ r2. over_then height (suc (suc d)) (other Expression r2)
-          (λ e r3. made (lambda_of (arranged ps) e) r3) (λ e r3. over_lambda (suc d) ps e r3 (omega (arith, w, parameters_size false ps))))
-          none)
+      (λ e r3. made (lambda_of (arranged ps) e) r3) (λ e r3. over_lambda (suc d) ps e r3 (omega (arith, w, parameters_size false ps))))
+      none)
 
   c_if_else : (b : Expr) (r : List Terminal) → Caps height (suc d) (if_else_step self b r) (if_else_step other b r)
   c_if_else b r = caps_first height (suc d) (is_word Key.If) r _ _ _ _ (λ _ r1. caps_then height height d (suc d) _ _ _ _ (all Or r1)
       (λ a r2. caps_first height (suc d) (is_word Key.Else) r2 _ _ _ _ (λ _ r3. c_one d self other all height (suc d) Expression r3
-          (λ c r4. Found (Trees.IfExp a b c) r4) (λ c r4 w. over (omega (arith, w)))) (inl refl))
+      (λ c r4. Found (Trees.IfExp a b c) r4) (λ c r4 w. over (omega (arith, w)))) (inl refl))
       (λ a r2 w. over_first height (suc (suc d)) (is_word Key.Else) r2 _ _ (λ _ r3. over_then height (suc (suc d)) (other Expression r3)
-          (λ c r4. Found (Trees.IfExp a b c) r4) (λ c r4. over (omega (arith, w)))) none)) (inl refl)
+      (λ c r4. Found (Trees.IfExp a b c) r4) (λ c r4. over (omega (arith, w)))) none)) (inl refl)
 
 -- round brackets, where a group has the same room
 module _ (d : ℕ) (same inner other : Reads) (equal : CapsAt (suc d) same other) (all : CapsAt d inner other) where
@@ -566,23 +566,23 @@ module _ (d : ℕ) (same inner other : Reads) (equal : CapsAt (suc d) same other
   c_round r =
       caps_first height (suc d) (is_op RPar) r _ _ _ _ (λ _ r1. inl refl)
       (caps_first height (suc d) (is_word Key.Yield) r _ _ _ _ (λ _ r1. caps_then height height (suc d) (suc d) _ _
-          (λ e r2. closed RPar r2 e) (λ e r2. closed RPar r2 e) (c_yield d inner other all r1) (λ e r2. inl refl)
-          (λ e r2 w. over_closed height (suc (suc d)) RPar r2 e w))
+      (λ e r2. closed RPar r2 e) (λ e r2. closed RPar r2 e) (c_yield d inner other all r1) (λ e r2. inl refl)
+      (λ e r2 w. over_closed height (suc (suc d)) RPar r2 e w))
       (caps_then height height (suc d) (suc d) _ _ _ _ (equal Elem r)
       (λ e r1. caps_first height (suc d) (is_op Comma) r1 _ _ _ _
       (λ _ r2. caps_then (list_size (Of Elem)) height d (suc d) _ _ (λ es r3. closed RPar r3 (Trees.Tuple (an_expr e (singles es)) Load))
-          (λ es r3. closed RPar r3 (Trees.Tuple (an_expr e (singles es)) Load)) (c_listing_of d inner other all (Of Elem) [] r2)
-          (λ es r3. inl refl) (λ es r3 w. over_closed height (suc (suc d)) RPar r3 (Trees.Tuple (an_expr e (singles es)) Load)
-          (omega (arith, w, singles_size Elem es))))
+      (λ es r3. closed RPar r3 (Trees.Tuple (an_expr e (singles es)) Load)) (c_listing_of d inner other all (Of Elem) [] r2)
+      (λ es r3. inl refl) (λ es r3 w. over_closed height (suc (suc d)) RPar r3 (Trees.Tuple (an_expr e (singles es)) Load)
+      (omega (arith, w, singles_size Elem es))))
       (c_unstarred d inner other all height (suc d) r _ _ (caps_cond height (suc d) (starts_comp r1) _ _ _ _
-          (c_comps_closed d inner other all RPar r1 (λ gs. Trees.GeneratorExp e (comprehensions gs)) (λ gs. omega arith)) (inl refl))))
+      (c_comps_closed d inner other all RPar r1 (λ gs. Trees.GeneratorExp e (comprehensions gs)) (λ gs. omega arith)) (inl refl))))
       (λ e r1 w. over_first height (suc (suc d)) (is_op Comma) r1 _ _
       (λ _ r2. over_then height (suc (suc d)) (listing_of other (Of Elem) [] r2)
-          (λ es r3. closed RPar r3 (Trees.Tuple (an_expr e (singles es)) Load)) (λ es r3. over_closed height (suc (suc d)) RPar r3
-          (Trees.Tuple (an_expr e (singles es)) Load) (omega (arith, w))))
+      (λ es r3. closed RPar r3 (Trees.Tuple (an_expr e (singles es)) Load)) (λ es r3. over_closed height (suc (suc d)) RPar r3
+      (Trees.Tuple (an_expr e (singles es)) Load) (omega (arith, w))))
       (over_unstarred other (suc (suc d)) height r _ (over_cond height (suc (suc d)) (starts_comp r1) _ _
-          (over_comps_closed other (suc (suc d)) RPar r1 (λ gs. Trees.GeneratorExp e (comprehensions gs)) (λ gs. omega (arith, w)))
-          (over_closed height (suc (suc d)) RPar r1 e w))))))
+      (over_comps_closed other (suc (suc d)) RPar r1 (λ gs. Trees.GeneratorExp e (comprehensions gs)) (λ gs. omega (arith, w)))
+      (over_closed height (suc (suc d)) RPar r1 e w))))))
 
   c_atom : (r : List Terminal) → Caps height (suc d) (capped_atom same inner r) (atom other r)
   c_atom [] = inl refl
@@ -623,9 +623,9 @@ module _ (d : ℕ) (next next' same inner other : Reads) (n : CapsAt (suc d) nex
   c_step Slice i = caps_first height (suc d) (is_op Colon) i _ _ _ _ (λ _ r. c_slice_rest d inner other all absent r)
       (caps_then height height (suc d) (suc d) _ _ _ _ (n Named i)
       (λ e r. caps_first height (suc d) (is_op Colon) r _ _ _ _ (λ _ r1. c_unnamed d inner other all height (suc d) i _ _
-          (c_slice_rest d inner other all (present e) r1)) (inl refl))
+      (c_slice_rest d inner other all (present e) r1)) (inl refl))
       (λ e r w. over_first height (suc (suc d)) (is_op Colon) r _ _ (λ _ r1. over_unnamed other (suc (suc d)) height i _
-          (over_weak (over_slice_rest other (suc (suc d)) (present e) r1 w))) (over w)))
+      (over_weak (over_slice_rest other (suc (suc d)) (present e) r1 w))) (over w)))
     where
       over_weak : {m : ℕ} {x : Answer Expr} → Over height (suc m) x → Over height m x
       over_weak (over p) = over (omega (arith, p))

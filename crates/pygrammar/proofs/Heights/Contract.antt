@@ -43,10 +43,13 @@ too_high d l ts e [] h w =
     h' : read (suc (length ts)) l ts ≡ Found e []
     h' = capped_found (suc (length ts)) (suc d) l ts e [] h
 too_high d l ts e (t ∷ r) h w =
-    let p = sound_front (suc (length ts)) l ts (t ∷ r) e (capped_found (suc (length ts)) (suc d) l ts e (t ∷ r) h) in
-    (λ f q. absurd (limited_rest (suc d) l ts e t r h f q),
-        λ no. (omega (arith, w, tall p.2, slack_most l, weight_most p.0, ap length p.1, length-append p.0 (t ∷ r)),
-        omega (arith, w, tall p.2, ap weight p.1, weight_append p.0 (t ∷ r))))
+    let p = sound_front (suc (length ts)) l ts (t ∷ r) e (capped_found (suc (length ts)) (suc d) l ts e (t ∷ r) h) in (
+      λ f q. absurd (limited_rest (suc d) l ts e t r h f q),
+      λ no. (
+        omega (arith, w, tall p.2, slack_most l, weight_most p.0, ap length p.1, length-append p.0 (t ∷ r)),
+        omega (arith, w, tall p.2, ap weight p.1, weight_append p.0 (t ∷ r)),
+      ),
+    )
 
 fits : (d : ℕ) (l : Level) (ts : List Terminal) (e : Expr) (r : List Terminal) → limited (suc d) l ts ≡ Found e r → height e ≤ d
     → Meets d l ts (Found e r)
@@ -59,8 +62,10 @@ meets d l ts = go (limited (suc d) l ts) refl
   where
     go : (x : Answer Expr) → limited (suc d) l ts ≡ x → Meets d l ts (cap d x)
     go NoForm q = limited_no_form (suc d) l ts q
-    go TooDeep q = (λ e p. omega (arith, limited_deep (suc d) l ts q e p),
-        λ no. (omega (arith, limited_enough (suc d) l ts q, weight_most ts), omega (arith, limited_enough (suc d) l ts q)))
+    go TooDeep q = (
+      λ e p. omega (arith, limited_deep (suc d) l ts q e p),
+      λ no. (omega (arith, limited_enough (suc d) l ts q, weight_most ts), omega (arith, limited_enough (suc d) l ts q)),
+    )
     go (Found e r) q = check (leb (height e) d) refl
       where
         check : (b : Bool) → leb (height e) d ≡ b → Meets d l ts (cond b (Found e r) TooDeep)

@@ -42,16 +42,16 @@ module _ (d e : ℕ) (le : d ≤ e) (inner other : Reads) (all : AllKeep inner o
   k_capped_primary zero f r = inr refl
   k_capped_primary (suc m) f r =
       keeps_first (is_op Dot) r _ _ _ _
-          (λ _ r1. keeps_first name_in r1 _ _ _ _
-          (λ x r2. keeps_then _ _ _ _ (keeps_cap d e le (Found (Trees.Attribute f x Load) r2) (Found (Trees.Attribute f x Load) r2)
-          (inr refl)) (λ g r3. k_capped_primary m g r3)) (inr refl))
+      (λ _ r1. keeps_first name_in r1 _ _ _ _
+      (λ x r2. keeps_then _ _ _ _ (keeps_cap d e le (Found (Trees.Attribute f x Load) r2) (Found (Trees.Attribute f x Load) r2)
+      (inr refl)) (λ g r3. k_capped_primary m g r3)) (inr refl))
       (keeps_first (is_op LPar) r _ _ _ _ (λ _ r1. keeps_then _ _ _ _ (keeps_cap d e le _ _ (k_call inner other all f r1))
-          (λ g r2. k_capped_primary m g r2))
+      (λ g r2. k_capped_primary m g r2))
       (keeps_first (is_op LSqb) r _ _ _ _
-          (λ _ r1. keeps_then _ _ _ _ (all Slices r1)
-          (λ s r2. keeps_first (is_op RSqb) r2 _ _ _ _
-          (λ _ r3. keeps_then _ _ _ _ (keeps_cap d e le (Found (Trees.Subscript f s Load) r3) (Found (Trees.Subscript f s Load) r3)
-          (inr refl)) (λ g r4. k_capped_primary m g r4)) (inr refl))) (inr refl)))
+      (λ _ r1. keeps_then _ _ _ _ (all Slices r1)
+      (λ s r2. keeps_first (is_op RSqb) r2 _ _ _ _
+      (λ _ r3. keeps_then _ _ _ _ (keeps_cap d e le (Found (Trees.Subscript f s Load) r3) (Found (Trees.Subscript f s Load) r3)
+      (inr refl)) (λ g r4. k_capped_primary m g r4)) (inr refl))) (inr refl)))
 
   k_capped_loop : (k m : ℕ) (f : Expr) (r : List Terminal) → Keeps (capped_loop d inner k m f r) (capped_loop e other k m f r)
   k_capped_loop k zero f r = inr refl
@@ -65,9 +65,9 @@ module _ (same alike inner other : Reads) (equal : AllKeep same alike) (all : Al
       keeps_first (is_op RPar) r _ _ _ _ (λ _ r1. inr refl)
       (keeps_first (is_word Key.Yield) r _ _ _ _ (λ _ r1. keeps_then _ _ _ _ (k_yield inner other all r1) (λ e r2. inr refl))
       (keeps_then _ _ _ _ (equal Elem r)
-          (λ e r1. keeps_first (is_op Comma) r1 _ _ _ _ (λ _ r2. keeps_then _ _ _ _ (k_listing_of inner other all (Of Elem) [] r2)
-          (λ es r3. inr refl))
-          (k_unstarred inner other all r _ _ (keeps_cond (starts_comp r1) _ _ _ _ (k_comps_closed inner other all RPar r1 _) (inr refl))))))
+      (λ e r1. keeps_first (is_op Comma) r1 _ _ _ _ (λ _ r2. keeps_then _ _ _ _ (k_listing_of inner other all (Of Elem) [] r2)
+      (λ es r3. inr refl))
+      (k_unstarred inner other all r _ _ (keeps_cond (starts_comp r1) _ _ _ _ (k_comps_closed inner other all RPar r1 _) (inr refl))))))
 
   k_capped_atom : (r : List Terminal) → Keeps (capped_atom same inner r) (capped_atom alike other r)
   k_capped_atom r = keeps_first (is_op LPar) r _ _ _ _ (λ _ r1. k_capped_round r1) (k_atom inner other all r)

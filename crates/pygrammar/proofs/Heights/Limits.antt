@@ -60,8 +60,10 @@ capped_no_form g d l i h = elim (caps_read g d l i) [ inl q ↦ sym q ∙ h | in
 
 pub capped_deep : (g d : ℕ) (l : Level) (i : List Terminal) (e : Expr) (r : List Terminal) → capped g d l i ≡ TooDeep
     → read g l i ≡ Found e r → d < height e
-capped_deep g d l i e r h k = elim (caps_read g d l i) [ inl q ↦ absurd (deep_found e r (sym h ∙ (q ∙ k)))
-    | inr q ↦ over_found (suc d) e r (subst (λ z. Over height (suc d) z) k q.1) ]
+capped_deep g d l i e r h k = elim (caps_read g d l i) [
+  | inl q ↦ absurd (deep_found e r (sym h ∙ (q ∙ k)))
+  | inr q ↦ over_found (suc d) e r (subst (λ z. Over height (suc d) z) k q.1)
+]
 
 -- more than there are terminals, the first number changes nothing
 pub enough : (g : ℕ) (l : Level) (ts : List Terminal) → length ts < g → read g l ts ≡ reads l ts
@@ -70,8 +72,10 @@ enough g l ts w = elim (final g l ts) [ inl q ↦ absurd (not_deep l ts g w q) |
 -- a tree with a height of at most d is found, with what may follow it
 pub found_low : (g d : ℕ) (l : Level) (i : List Terminal) (e : Expr) (r : List Terminal) → length i < g → reads l i ≡ Found e r
     → height e ≤ d → capped g d l i ≡ Found e r
-found_low g d l i e r w h low = elim (caps_read g d l i) [ inl q ↦ q ∙ (enough g l i w ∙ h)
-    | inr q ↦ absurd (omega (arith, low, over_found (suc d) e r (subst (λ z. Over height (suc d) z) (enough g l i w ∙ h) q.1))) ]
+found_low g d l i e r w h low = elim (caps_read g d l i) [
+  | inl q ↦ q ∙ (enough g l i w ∙ h)
+  | inr q ↦ absurd (omega (arith, low, over_found (suc d) e r (subst (λ z. Over height (suc d) z) (enough g l i w ∙ h) q.1)))
+]
 
 pub capped_front : {l : Level} {ts : List Terminal} {e : Expr} (g d : ℕ) (rest : List Terminal) → Derives l ts e → height e ≤ d
     → Stops l rest → length (ts ++ rest) < g → capped g d l (ts ++ rest) ≡ Found e rest

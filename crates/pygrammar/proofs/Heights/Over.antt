@@ -59,8 +59,10 @@ pub caps_then : {A B : Type 0} (s : A → ℕ) (t : B → ℕ) (m n : ℕ) (x y 
     → ((a : A) (r : List Terminal) → Caps t n (k a r) (j a r)) → ((a : A) (r : List Terminal) → suc m ≤ s a → Over t (suc n) (j a r))
     → Caps t n (and_then x k) (and_then y j)
 caps_then s t m n x y k j (inr (e, w)) h o = inr (ap (λ z. and_then z k) e, over_on s t (suc m) (suc n) y j w o)
-caps_then s t m n (Found a r) y k j (inl e) h o = elim (h a r) [ inl p ↦ inl (p ∙ ap (λ z. and_then z j) e)
-    | inr p ↦ inr (p.0, subst (λ z. Over t (suc n) (and_then z j)) e p.1) ]
+caps_then s t m n (Found a r) y k j (inl e) h o = elim (h a r) [
+  | inl p ↦ inl (p ∙ ap (λ z. and_then z j) e)
+  | inr p ↦ inr (p.0, subst (λ z. Over t (suc n) (and_then z j)) e p.1)
+]
 caps_then s t m n NoForm y k j (inl e) h o = inl (ap (λ z. and_then z j) e)
 caps_then s t m n TooDeep y k j (inl e) h o = inl (ap (λ z. and_then z j) e)
 

@@ -94,8 +94,10 @@ good_test {A} {B} n f (t ∷ s) k x h g = go (f t) refl
 good_op : {B : Type 0} (n : ℕ) (y : Exact) (i : List Terminal) (k : ℕ → List Terminal → Answer B) (x : Answer B)
     → ((a : ℕ) (s : List Terminal) → i ≡ Op y ∷ s → Good n (k a s)) → Good n x → Good n (on_first (is_op y) i k x)
 good_op {B} n y i k x h g =
-    good_test n (is_op y) i k x (λ t a s f q. elim (op_or_not y t) as (λ _. Good n (k a s)) [ inl e ↦ h a s (q ∙ ap (λ z. z ∷ s) e)
-    | inr w ↦ absurd (some_none a (sym f ∙ w)) ]) g
+    good_test n (is_op y) i k x (λ t a s f q. elim (op_or_not y t) as (λ _. Good n (k a s)) [
+      | inl e ↦ h a s (q ∙ ap (λ z. z ∷ s) e)
+      | inr w ↦ absurd (some_none a (sym f ∙ w))
+    ]) g
   where
     some_none : (a : ℕ) → ◌≡◌ {A = Option ℕ} (Some a) None → ⊥
     some_none a h = absurd (cc)
@@ -116,22 +118,22 @@ module _ (b d : ℕ) (le : b ≤ d) (inner : Reads) (all : GoodTo b inner) (deep
   g_capped_primary n zero i e r p li h w = h
   g_capped_primary n (suc m) i e r p li h w =
       good_op n Dot r _ _ (λ a s q. good_name n s _ _ (λ x u v. good_checked {P = PrimaryAt i} (suc d) (weight r) n
-          (Found (Trees.Attribute e x.form Load) u) (λ f r3. capped_primary (suc d) inner m f r3) (omega (arith, ap weight q, ap weight v))
-          (found (p.0 ++ (Op Dot ∷ (Ident x ∷ [])), rw (p.1, q, v) (simp append_assoc refl), G.attribute x p.2))
+      (Found (Trees.Attribute e x.form Load) u) (λ f r3. capped_primary (suc d) inner m f r3) (omega (arith, ap weight q, ap weight v))
+      (found (p.0 ++ (Op Dot ∷ (Ident x ∷ [])), rw (p.1, q, v) (simp append_assoc refl), G.attribute x p.2))
       (λ f r3 y. omega (arith, primary_low i f r3 y, li, le)) (λ f r3 y z. g_capped_primary n m i f r3 y li (omega (arith, h, z))
-          (omega (arith, w, z)))) tt)
+      (omega (arith, w, z)))) tt)
       (good_op n LPar r _ _ (λ a s q. good_checked {P = PrimaryAt i} (suc d) (weight r) n (call_step inner e s)
-          (λ f r3. capped_primary (suc d) inner m f r3) (g_call inner b all (weight r) e s (omega (arith, ap weight q))
-          (omega (arith, ap weight q, w))) (call_sound inner deeper i p.0 e s (p.1 ∙ ap (λ z. p.0 ++ z) q) p.2)
+      (λ f r3. capped_primary (suc d) inner m f r3) (g_call inner b all (weight r) e s (omega (arith, ap weight q))
+      (omega (arith, ap weight q, w))) (call_sound inner deeper i p.0 e s (p.1 ∙ ap (λ z. p.0 ++ z) q) p.2)
       (λ f r3 y. omega (arith, primary_low i f r3 y, li, le))
-          (λ f r3 y z. g_capped_primary n m i f r3 y li (omega (arith, h, z)) (omega (arith, w, z))))
+      (λ f r3 y z. g_capped_primary n m i f r3 y li (omega (arith, h, z)) (omega (arith, w, z))))
       (good_op n LSqb r _ _ (λ a s q. good_says {P = Reads_as Slices s} (weight s) n (inner Slices s) _
-          (all Slices s (omega (arith, ap weight q, w))) (deeper Slices s)
-          (λ x r2 y z. good_op n RSqb r2 _ _ (λ c u v. good_checked {P = PrimaryAt i} (suc d) (weight r) n
-          (Found (Trees.Subscript e x Load) u) (λ f r3. capped_primary (suc d) inner m f r3) (omega (arith, ap weight q, ap weight v, z))
-          (found (p.0 ++ (Op LSqb ∷ (y.0 ++ (Op RSqb ∷ []))), rw (p.1, q, y.1, v) (simp append_assoc refl), G.subscript p.2 y.2))
+      (all Slices s (omega (arith, ap weight q, w))) (deeper Slices s)
+      (λ x r2 y z. good_op n RSqb r2 _ _ (λ c u v. good_checked {P = PrimaryAt i} (suc d) (weight r) n
+      (Found (Trees.Subscript e x Load) u) (λ f r3. capped_primary (suc d) inner m f r3) (omega (arith, ap weight q, ap weight v, z))
+      (found (p.0 ++ (Op LSqb ∷ (y.0 ++ (Op RSqb ∷ []))), rw (p.1, q, y.1, v) (simp append_assoc refl), G.subscript p.2 y.2))
       (λ f r3 y. omega (arith, primary_low i f r3 y, li, le)) (λ f r3 y z. g_capped_primary n m i f r3 y li (omega (arith, h, z))
-          (omega (arith, w, z)))) tt)) h))
+      (omega (arith, w, z)))) tt)) h))
 
   loop_step : (n k m : ℕ) (i : List Terminal) (e : Expr) (t : Terminal) (s : List Terminal) → 10 ≤ k → Stands k i e (t ∷ s) → weight i ≤ b
       → weight (t ∷ s) < n → weight (t ∷ s) ≤ b → ((f : Expr) (r2 : List Terminal) → weight r2 ≤ weight (t ∷ s) → Stands k i f r2
@@ -143,7 +145,7 @@ module _ (b d : ℕ) (le : b ≤ d) (inner : Reads) (all : GoodTo b inner) (deep
       let v = infix_hit k (behind t) o q in
       let c : weight (t ∷ s) ≡ suc (weight s) = counted t s (heavy_infix k t o q) in
       good_checked {P = λ f r2. Stands k i f r2 × (length r2 ≤ length s)} (suc d) (suc (suc (weight s))) n (operation inner e o (t ∷ s) s)
-          (λ f r2. capped_loop (suc d) inner k m f r2)
+      (λ f r2. capped_loop (suc d) inner k m f r2)
       (g_operation inner b all (suc (suc (weight s))) e o (t ∷ s) s (omega (arith, c)) (omega (arith, c)) w)
       (operation_sound inner deeper k p.0 i p.1 e o t s p.2 p.3 p.5 a v.1 (omega (arith, p.6, ap (λ o. on_some o infix_rank 0) v.0)) v.0)
       (λ f r2 y. omega (arith, at_low k i f r2 y.0, li, le)) (λ f r2 y z. rec f r2 (omega (arith, z, c)) y.0)
@@ -161,13 +163,13 @@ module _ (b : ℕ) (same inner : Reads) (equal : GoodTo b same) (all : GoodTo b 
   g_capped_round n r h w =
       good_first n (is_op RPar) (heavy_op RPar) r _ _ (λ _ r1 q. omega arith)
       (good_first n (is_word Key.Yield) (heavy_word Key.Yield) r _ _
-          (λ _ r1 q. good_then n n _ _ (g_yield inner b all n r1 (omega arith) (omega arith)) (λ e r2 p. good_closed n RPar r2 _ p))
+      (λ _ r1 q. good_then n n _ _ (g_yield inner b all n r1 (omega arith) (omega arith)) (λ e r2 p. good_closed n RPar r2 _ p))
       (g_one same b equal n Elem r _ w (λ e r1 p. good_first n (is_op Comma) (heavy_op Comma) r1 _ _
-          (λ _ r2 q. good_then n n _ _ (g_listing_of inner b all n (Of Elem) [] r2 (omega arith) (omega arith))
-          (λ es r3 p3. good_closed n RPar r3 _ p3))
-          (g_unstarred inner b all n r _
-          (good_cond n (starts_comp r1) _ _ (g_comps_closed inner b all n RPar r1 _ (omega arith) (omega arith))
-          (good_closed n RPar r1 _ (omega arith)))))))
+      (λ _ r2 q. good_then n n _ _ (g_listing_of inner b all n (Of Elem) [] r2 (omega arith) (omega arith))
+      (λ es r3 p3. good_closed n RPar r3 _ p3))
+      (g_unstarred inner b all n r _
+      (good_cond n (starts_comp r1) _ _ (g_comps_closed inner b all n RPar r1 _ (omega arith) (omega arith))
+      (good_closed n RPar r1 _ (omega arith)))))))
 
   g_capped_atom : (i : List Terminal) → weight i ≤ b → Good (weight i) (capped_atom same inner i)
   g_capped_atom [] w = tt
@@ -234,10 +236,10 @@ module _ (b d : ℕ) (le : b ≤ d) (same inner other : Reads) (equal : CapsAt (
       let s = sound_descend other sound_other k in
       good_cap {P = Reads_as l i} (suc d) (weight i) (capped_step (suc d) (capped_descend (suc d) same inner k) same inner l i)
       (g_capped_step b d le (capped_descend (suc d) same inner k) same inner (g_capped_descend k) good_same good_inner
-          (λ l i. caps_sound (suc d) l i _ _ (c l i) (s l i))
-          (λ l i. caps_sound d l i _ _ (caps l i) (sound_other l i)) l i (omega (arith, w)))
+      (λ l i. caps_sound (suc d) l i _ _ (c l i) (s l i))
+      (λ l i. caps_sound d l i _ _ (caps l i) (sound_other l i)) l i (omega (arith, w)))
       (caps_sound (suc d) l i _ _ (c_step d (capped_descend (suc d) same inner k) (descend other k) same inner other c equal caps l i)
-          (sound_step (descend other k) other s sound_other l i))
+      (sound_step (descend other k) other s sound_other l i))
       (λ e r p. omega (arith, reads_low l i e r p, w, le))
 
 pub good_capped : (g d b : ℕ) → b ≤ g → b ≤ d → GoodTo b (capped g d)

@@ -324,8 +324,8 @@ pub enough : (profile : Profile) (inside : Bool) (d : ℕ) (ts : List Terminal) 
 enough profile inside d ts w h =
     let n : ℕ = length ts in
     subst (Good d) h (g_place (read d) d (good_read d) (capped_pattern (suc n) d) profile inside ts (omega (arith, w, weight_most ts))
-        (λ l j v. pattern_good (suc n) d d l j (omega (arith, v, weight_most ts)) (omega (arith, w, v, weight_most ts))
-        (omega (arith, w, v, weight_most ts))))
+    (λ l j v. pattern_good (suc n) d d l j (omega (arith, v, weight_most ts)) (omega (arith, w, v, weight_most ts))
+    (omega (arith, w, v, weight_most ts))))
 
 plain_good : (b : ℕ) → GoodTo b plain
 plain_good b l i w = good_read (suc (length i)) l i (omega (arith, weight_most i))
@@ -352,7 +352,7 @@ line_whole profile inside ts =
     let n : ℕ = suc (length ts) in
     whole_cond (is_case_line profile inside ts) _ _
     (whole n _ (g_case_front plain n (plain_good n) plain_pattern profile ts (λ l j v. pattern_good (suc (length j)) (suc (suc (length j)))
-        n l j (omega (arith, weight_most j)) (omega (arith, weight_most j)) (omega (arith, v, weight_most ts)))))
+    n l j (omega (arith, weight_most j)) (omega (arith, weight_most j)) (omega (arith, v, weight_most ts)))))
     (whole n _ (g_front plain n (plain_good n) profile ts (omega (arith, weight_most ts))))
 
 -- so it gives the one form of a line, or there is none

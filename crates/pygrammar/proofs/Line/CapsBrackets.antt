@@ -50,14 +50,18 @@ test_is {A} {B} z f (t ∷ u) k x h g = go (f t) refl
 op_misses : {B : Type 0} (y : Exact) (i : List Terminal) (k : ℕ → List Terminal → B) (x : B) → ((u : List Terminal) → i ≡ Op y ∷ u → ⊥)
     → on_first (is_op y) i k x ≡ x
 op_misses {B} y i k x miss =
-    test_is x (is_op y) i k x (λ t a u f q. elim (op_or_not y t) as (λ _. k a u ≡ x) [ inl e ↦ absurd (miss u (q ∙ ap (λ z. z ∷ u) e))
-    | inr w ↦ absurd (some_none a (sym f ∙ w)) ]) refl
+    test_is x (is_op y) i k x (λ t a u f q. elim (op_or_not y t) as (λ _. k a u ≡ x) [
+      | inl e ↦ absurd (miss u (q ∙ ap (λ z. z ∷ u) e))
+      | inr w ↦ absurd (some_none a (sym f ∙ w))
+    ]) refl
 
 word_misses : {B : Type 0} (y : Keyword) (i : List Terminal) (k : ℕ → List Terminal → B) (x : B)
     → ((u : List Terminal) → i ≡ Word y ∷ u → ⊥) → on_first (is_word y) i k x ≡ x
 word_misses {B} y i k x miss =
-    test_is x (is_word y) i k x (λ t a u f q. elim (word_or_not y t) as (λ _. k a u ≡ x) [ inl e ↦ absurd (miss u (q ∙ ap (λ z. z ∷ u) e))
-    | inr w ↦ absurd (some_none a (sym f ∙ w)) ]) refl
+    test_is x (is_word y) i k x (λ t a u f q. elim (word_or_not y t) as (λ _. k a u ≡ x) [
+      | inl e ↦ absurd (miss u (q ∙ ap (λ z. z ∷ u) e))
+      | inr w ↦ absurd (some_none a (sym f ∙ w))
+    ]) refl
 
 name_is : (t : Terminal) (x : Identifier) → name_in t ≡ Some x → (y : Spelled) × (t ≡ Ident y) × (y.form ≡ x)
 name_is (Ident y) x h = (y, refl, cc)
@@ -153,8 +157,10 @@ module _ (h d : ℕ) where
       low n e r (over w) = w
 
       room_name : room Expression (Ident a ∷ (Op Sign.ColonEqual ∷ u)) ≡ Found (Trees.Name a.form Load) (Op Sign.ColonEqual ∷ u)
-      room_name = elim (caps_read (suc h) (suc d) Expression (Ident a ∷ (Op Sign.ColonEqual ∷ u))) [ inl v ↦ v
-          | inr v ↦ absurd (omega (arith, low (suc (suc d)) (Trees.Name a.form Load) (Op Sign.ColonEqual ∷ u) v.1)) ]
+      room_name = elim (caps_read (suc h) (suc d) Expression (Ident a ∷ (Op Sign.ColonEqual ∷ u))) [
+        | inl v ↦ v
+        | inr v ↦ absurd (omega (arith, low (suc (suc d)) (Trees.Name a.form Load) (Op Sign.ColonEqual ∷ u) v.1))
+      ]
 
   -- an element: high, or before `as`, or before a comma
   -- which an item goes too deep
@@ -162,7 +168,7 @@ module _ (h d : ℕ) where
       ((e : Expr) (r : List Terminal) → suc (suc d) ≤ height e → Higher (K e r)) →
       ((e : Expr) (s : List Terminal) → Higher (K e (Word Key.As ∷ s))) →
       ((e : Expr) (s : List Terminal) → suc (length s) ≤ length i → more s ≡ true → commas one more m s ≡ TooDeep
-          → Higher (K e (Op Sign.Comma ∷ s))) →
+      → Higher (K e (Op Sign.Comma ∷ s))) →
       Higher (and_then (read h Elem i) K)
   element m i K deep high named goes = at h (keeps_read h Expression i)
     where
@@ -177,7 +183,7 @@ module _ (h d : ℕ) where
           comma : behind_expression e r ≡ Found (item e None) r → Higher (K e r)
           comma p =
               let f = further one m (item e None) r (sym (ap (λ z. and_then (and_then z behind_expression) (behind_item one m)) q
-                  ∙ ap (λ z. and_then z (behind_item one m)) p) ∙ deep) in
+              ∙ ap (λ z. and_then z (behind_item one m)) p) ∙ deep) in
               subst (λ z. Higher (K e z)) (sym f.1) (goes e f.0 (omega (arith, shorter, ap length f.1)) f.2 f.3)
 
           by : (s : List Terminal) → r ≡ s → Higher (K e r)
@@ -252,10 +258,10 @@ module _ (h d : ℕ) where
   over_elements (suc m) (suc k) c acc (t ∷ r) b q w = subst Higher (sym (step c k acc (t ∷ r) (elem_starts (t ∷ r) b)))
       (element m (t ∷ r) (behind_element c k acc) q
       (λ e s v. over_on (list_size (Of Elem)) height (suc (suc d)) (suc (suc d)) _ (tuple_closed c)
-          (over_first (list_size (Of Elem)) (suc (suc d)) (is_op Sign.Comma) s _ _
-          (λ _ r2. over_listing (read h) (suc (suc d)) (piece (read h) (Of Elem)) (Of Elem) k (acc ++ (Single e ∷ [])) r2
-          (omega (arith, v, list_last (Of Elem) acc (Single e)))) (over (omega (arith, v, list_last (Of Elem) acc (Single e)))))
-          (λ es r3 y. over_tuple c es r3 y))
+      (over_first (list_size (Of Elem)) (suc (suc d)) (is_op Sign.Comma) s _ _
+      (λ _ r2. over_listing (read h) (suc (suc d)) (piece (read h) (Of Elem)) (Of Elem) k (acc ++ (Single e ∷ [])) r2
+      (omega (arith, v, list_last (Of Elem) acc (Single e)))) (over (omega (arith, v, list_last (Of Elem) acc (Single e)))))
+      (λ es r3 y. over_tuple c es r3 y))
       (λ e s. none)
       (λ e s le x y. over_elements m k c (acc ++ (Single e ∷ [])) s x y (omega (arith, w, le))))
 
@@ -264,17 +270,17 @@ module _ (h d : ℕ) where
   behind_first i e r =
       on_first (is_op Sign.Comma) r (λ _ r1. and_then (listing_of (read h) (Of Elem) [] r1) (tuple_closed e))
       (unstarred i (cond (starts_comp r) (comps_closed (read h) Sign.RPar r (λ gs. Trees.GeneratorExp e (comprehensions gs)))
-          (closed Sign.RPar r e)))
+      (closed Sign.RPar r e)))
 
   over_round : (m : ℕ) (i : List Terminal) → commas one more (suc m) i ≡ TooDeep → Higher (round (read h) i)
   over_round m i q = subst Higher (sym (op_misses Sign.RPar i _ _ (no_bracket m i q) ∙ word_misses Key.Yield i _ _ (no_yield m i q)))
       (element m i (behind_first i) q
       (λ e r w. over_first height (suc (suc d)) (is_op Sign.Comma) r _ _
-          (λ _ r1. over_then height (suc (suc d)) (listing_of (read h) (Of Elem) [] r1) (tuple_closed e)
-          (λ es r2. over_closed height (suc (suc d)) Sign.RPar r2 (Trees.Tuple (an_expr e (singles es)) Load) (omega (arith, w))))
+      (λ _ r1. over_then height (suc (suc d)) (listing_of (read h) (Of Elem) [] r1) (tuple_closed e)
+      (λ es r2. over_closed height (suc (suc d)) Sign.RPar r2 (Trees.Tuple (an_expr e (singles es)) Load) (omega (arith, w))))
       (over_unstarred (read h) (suc (suc d)) height i _ (over_cond height (suc (suc d)) (starts_comp r) _ _
-          (over_comps_closed (read h) (suc (suc d)) Sign.RPar r (λ gs. Trees.GeneratorExp e (comprehensions gs)) (λ gs. omega (arith, w)))
-          (over_closed height (suc (suc d)) Sign.RPar r e w))))
+      (over_comps_closed (read h) (suc (suc d)) Sign.RPar r (λ gs. Trees.GeneratorExp e (comprehensions gs)) (λ gs. omega (arith, w)))
+      (over_closed height (suc (suc d)) Sign.RPar r e w))))
       (λ e s. over_unstarred (read h) (suc (suc d)) height i NoForm none)
       (λ e s le x y. over_elements m (length s) e [] s x y (omega arith)))
 
@@ -283,9 +289,9 @@ module _ (h d : ℕ) where
   over_opened i w =
       over_on height height (suc (suc d)) (suc (suc d)) (read (suc h) Or (Op Sign.LPar ∷ i)) (λ e r. if_else_step (read h) e r)
       (over_on height height (suc (suc d)) (suc (suc d)) (read (suc h) Primary (Op Sign.LPar ∷ i))
-          (λ e r. climb_loop (read h) (rank Or) (length r) e r)
+      (λ e r. climb_loop (read h) (rank Or) (length r) e r)
       (over_on height height (suc (suc d)) (suc (suc d)) (round (read h) i) (λ e r. primary_loop (read h) (length r) e r) w
-          (λ e r v. over_primary (read h) (suc (suc d)) (length r) e r v))
+      (λ e r v. over_primary (read h) (suc (suc d)) (length r) e r v))
       (λ e r v. over_loop (read h) (suc (suc d)) (rank Or) (length r) e r v))
       (λ e r v. over_if_else (read h) (suc (suc d)) e r v)
 

@@ -64,34 +64,34 @@ module _ (n : ℕ) (self other : Reads) (all : CapsAt n self other) where
   c_item_target : (i : List Terminal) → Caps height n (item_target self i) (item_target other i)
   c_item_target i = caps_first height n (is_op Sign.Star) i _ _ _ _
       (λ _ r. c_one n self other all height n Expression r _ (λ e r1 w. over_made height (suc n) (stored (Trees.Starred e Load)) r1
-          (λ a q. omega (arith, w, stored_height (Trees.Starred e Load) a q))))
+      (λ a q. omega (arith, w, stored_height (Trees.Starred e Load) a q))))
       (c_one n self other all height n Expression i _
-          (λ e r w. over_made height (suc n) (stored e) r (λ a q. omega (arith, w, stored_height e a q))))
+      (λ e r w. over_made height (suc n) (stored e) r (λ a q. omega (arith, w, stored_height e a q))))
 
   c_item : (i : List Terminal) → Caps item_height n (read_item self i) (read_item other i)
   c_item i = caps_then height item_height n n _ _ _ _ (all Expression i)
       (λ e r. caps_first item_height n (is_word Key.As) r _ _ _ _ (λ _ s. caps_found height item_height n _ _ (λ t. item e (Some t))
-          (c_item_target s) (λ t. omega arith)) (inl refl))
+      (c_item_target s) (λ t. omega arith)) (inl refl))
       (λ e r w. over_behind n other e r w)
 
   c_bracketed : (i : List Terminal) → Caps item_heights n (bracketed self i) (bracketed other i)
   c_bracketed i = caps_first item_heights n (is_op Sign.LPar) i _ _ _ _
       (λ _ r. caps_then item_heights item_heights n n _ _ _ _ (caps_commas item_height item_heights (λ a as_. refl) n
-          (starts (Of Expression)) (read_item self) (read_item other) c_item (suc (length r)) r) (λ is r1. inl refl)
+      (starts (Of Expression)) (read_item self) (read_item other) c_item (suc (length r)) r) (λ is r1. inl refl)
       (λ is r1 w. over_first item_heights (suc n) (is_op Sign.RPar) r1 _ _ (λ _ r2. over_first item_heights (suc n) (is_op Sign.Colon) r2 _
-          _ (λ _ _. over w) none) none)) (inl refl)
+      _ (λ _ _. over w) none) none)) (inl refl)
 
   -- loops
   c_for : (b : Bool) (i : List Terminal) → Caps header_height n (for_rest self b i) (for_rest other b i)
   c_for b i = caps_then height header_height n n _ _ _ _ (c_target n self other all i)
       (λ t r. caps_first header_height n (is_word Key.In) r _ _ _ _ (λ _ s. caps_then height header_height n n _ _ _ _
-          (all Stars s) (λ e r2. inl refl)
+      (all Stars s) (λ e r2. inl refl)
       (λ e r2 w. over_some header_height (suc n) (stored t) (λ a. Found (loop_header (for_head b a e)) r2) NoForm
-          (λ a q. over (omega (arith, w))) none)) (inl refl))
+      (λ a q. over (omega (arith, w))) none)) (inl refl))
       (λ t r w. over_first header_height (suc n) (is_word Key.In) r _ _ (λ _ s. over_then header_height (suc n) (other Stars s)
-          (λ e r2. on_some (stored t) (λ a. Found (loop_header (for_head b a e)) r2) NoForm)
+      (λ e r2. on_some (stored t) (λ a. Found (loop_header (for_head b a e)) r2) NoForm)
       (λ e r2. over_some header_height (suc n) (stored t) (λ a. Found (loop_header (for_head b a e)) r2) NoForm
-          (λ a q. over (omega (arith, w, stored_height t a q))) none)) none)
+      (λ a q. over (omega (arith, w, stored_height t a q))) none)) none)
 
   -- clauses of `try`
   c_except_of : (b : Bool) (i : List Terminal) → Caps header_height n (except_of self b i) (except_of other b i)
@@ -108,20 +108,20 @@ module _ (n : ℕ) (self other : Reads) (all : CapsAt n self other) where
   c_function b x tps i = caps_first header_height n (is_op Sign.LPar) i _ _ _ _ (λ _ r. caps_then (list_size (Parameter true)) header_height
       n n _ _ _ _ (c_listing_of n self other all (Parameter true) [] r)
       (λ ps r1. caps_first header_height n (is_op Sign.RPar) r1 _ _ _ _ (λ _ r2. caps_some header_height n (arranged ps) _ _ _ _
-          (λ a. caps_found option_height header_height n _ _ (λ e. def_header (function_head b x tps a e))
-          (c_after n self other all (Op Sign.RArrow) Expression r2) (λ e. omega arith)) (inl refl)) (inl refl))
+      (λ a. caps_found option_height header_height n _ _ (λ e. def_header (function_head b x tps a e))
+      (c_after n self other all (Op Sign.RArrow) Expression r2) (λ e. omega arith)) (inl refl)) (inl refl))
       (λ ps r1 w. over_first header_height (suc n) (is_op Sign.RPar) r1 _ _ (λ _ r2. over_some header_height (suc n) (arranged ps) _ _
-          (λ a q. over_found header_height (suc n) (after other (Op Sign.RArrow) Expression r2)
-          (λ e. def_header (function_head b x tps a e)) (λ e. omega (arith, w, arranged_height ps a q, parameters_size true ps))) none)
-          none)) (inl refl)
+      (λ a q. over_found header_height (suc n) (after other (Op Sign.RArrow) Expression r2)
+      (λ e. def_header (function_head b x tps a e)) (λ e. omega (arith, w, arranged_height ps a q, parameters_size true ps))) none)
+      none)) (inl refl)
 
   over_function : (b : Bool) (x : Identifier) (tps : List TypeParam) (i : List Terminal) → suc n ≤ type_param_heights tps
       → Over header_height (suc n) (function_rest other b x tps i)
   over_function b x tps i h = over_first header_height (suc n) (is_op Sign.LPar) i _ _
       (λ _ r. over_then header_height (suc n) (listing_of other (Parameter true) [] r) _
       (λ ps r1. over_first header_height (suc n) (is_op Sign.RPar) r1 _ _ (λ _ r2. over_some header_height (suc n) (arranged ps) _ _
-          (λ a q. over_found header_height (suc n) (after other (Op Sign.RArrow) Expression r2)
-          (λ e. def_header (function_head b x tps a e)) (λ e. omega (arith, h))) none) none)) none
+      (λ a q. over_found header_height (suc n) (after other (Op Sign.RArrow) Expression r2)
+      (λ e. def_header (function_head b x tps a e)) (λ e. omega (arith, h))) none) none)) none
 
   c_def : (profile : Profile) (b : Bool) (i : List Terminal) → Caps header_height n (def_rest profile self b i) (def_rest profile other b i)
   c_def profile b i = caps_first header_height n name_in i _ _ _ _ (λ x r. caps_then type_param_heights header_height n n _ _ _ _
@@ -133,16 +133,16 @@ module _ (n : ℕ) (self other : Reads) (all : CapsAt n self other) where
   c_bases x tps i = caps_first header_height n (is_op Sign.LPar) i _ _ _ _ (λ _ r. caps_then (list_size Argument) header_height n n _ _ _ _
       (c_listing_of n self other all Argument [] r) (λ es r1. inl refl)
       (λ es r1 w. over_first header_height (suc n) (is_op Sign.RPar) r1 _ _ (λ _ r2. over_if header_height (suc n) (in_order false false es)
-          (Found (def_header (class_head x tps (listed (positional es)) (keywords es))) r2) NoForm
-          (λ q. over (omega (arith, w, arguments_size es, bases_height es q))) none) none)) (inl refl)
+      (Found (def_header (class_head x tps (listed (positional es)) (keywords es))) r2) NoForm
+      (λ q. over (omega (arith, w, arguments_size es, bases_height es q))) none) none)) (inl refl)
 
   over_bases : (x : Identifier) (tps : List TypeParam) (i : List Terminal) → suc n ≤ type_param_heights tps
       → Over header_height (suc n) (bases_rest other x tps i)
   over_bases x tps i h = over_first header_height (suc n) (is_op Sign.LPar) i _ _
       (λ _ r. over_then header_height (suc n) (listing_of other Argument [] r) _
       (λ es r1. over_first header_height (suc n) (is_op Sign.RPar) r1 _ _ (λ _ r2. over_if header_height (suc n) (in_order false false es)
-          (Found (def_header (class_head x tps (listed (positional es)) (keywords es))) r2) NoForm (λ q. over (omega (arith, h))) none)
-          none)) (over (omega (arith, h)))
+      (Found (def_header (class_head x tps (listed (positional es)) (keywords es))) r2) NoForm (λ q. over (omega (arith, h))) none)
+      none)) (over (omega (arith, h)))
 
   c_class : (profile : Profile) (i : List Terminal) → Caps header_height n (class_rest profile self i) (class_rest profile other i)
   c_class profile i = caps_first header_height n name_in i _ _ _ _ (λ x r. caps_then type_param_heights header_height n n _ _ _ _

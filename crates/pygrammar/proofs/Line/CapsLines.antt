@@ -73,7 +73,7 @@ module _ (n : ℕ) (self other : Reads) (all : CapsAt n self other) (brackets : 
   c_behind profile p r = caps_then option_height form_height n n _ _ _ _ (c_after n self other all (Word Key.If) Named r)
       (λ g r1. caps_first form_height n (is_op Sign.Colon) r1 _ _ _ _ (λ _ u. c_suite profile (case_header p g) u) (inl refl))
       (λ g r1 w. over_first form_height (suc n) (is_op Sign.Colon) r1 _ _ (λ _ u. over_suite profile (case_header p g) u (omega (arith, w)))
-          none)
+      none)
 
   over_high : (profile : Profile) (p : Pattern) (r : List Terminal) → suc n ≤ pattern_height p
       → Over form_height (suc n) (behind_pattern profile other p r)
@@ -87,8 +87,10 @@ module _ (n : ℕ) (self other : Reads) (all : CapsAt n self other) (brackets : 
   over_behind profile p [] h = none
   over_behind profile p (t ∷ s) h = elim (word_or_not Key.If t) [
     | inl e ↦ over_high profile p (t ∷ s) (h (ended t (Word Key.If) e (omega arith)))
-    | inr a ↦ elim (op_or_not Sign.Colon t) [ inl e ↦ over_high profile p (t ∷ s) (h (ended t (Op Sign.Colon) e (omega arith)))
-        | inr b ↦ subst (Over form_height (suc n)) (sym (neither a b)) none ]
+    | inr a ↦ elim (op_or_not Sign.Colon t) [
+      | inl e ↦ over_high profile p (t ∷ s) (h (ended t (Op Sign.Colon) e (omega arith)))
+      | inr b ↦ subst (Over form_height (suc n)) (sym (neither a b)) none
+    ]
   ]
     where
       ended : (t u : Terminal) → t ≡ u → pattern_grip u < 1 → pattern_grip t < 1

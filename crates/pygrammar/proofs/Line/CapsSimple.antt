@@ -60,7 +60,7 @@ module _ (n : ℕ) (self other : Reads) (all : CapsAt n self other) where
   c_end [] e r = caps_first highest_in n augmented_sign r _ _ _ _ (λ o s. caps_some highest_in n (single_stored e) _ _ _ _
       (λ t. caps_found height highest_in n _ _ (λ v. AugAssign t o v) (all Value s) (λ v. omega arith)) (inl refl))
       (caps_first highest_in n (is_op Sign.Colon) r _ _ _ _ (λ _ s. caps_some highest_in n (single_stored e) _ _ _ _
-          (λ t. c_annotation t false s) (inl refl)) (inl refl))
+      (λ t. c_annotation t false s) (inl refl)) (inl refl))
 
   over_end : (acc : List Expr) (e : Expr) (r : List Terminal) → suc n ≤ max (list_height acc) (height e)
       → Over highest_in (suc n) (end_value other acc e r)
@@ -68,7 +68,7 @@ module _ (n : ℕ) (self other : Reads) (all : CapsAt n self other) where
   over_end [] e r h = over_first highest_in (suc n) augmented_sign r _ _ (λ o s. over_some highest_in (suc n) (single_stored e) _ _
       (λ t q. over_found highest_in (suc n) (other Value s) (λ v. AugAssign t o v) (λ v. omega (arith, h, single_height e t q))) none)
       (over_first highest_in (suc n) (is_op Sign.Colon) r _ _ (λ _ s. over_some highest_in (suc n) (single_stored e) _ _
-          (λ t q. over_annotation t false s (omega (arith, h, single_height e t q))) none) (over (omega (arith, h))))
+      (λ t q. over_annotation t false s (omega (arith, h, single_height e t q))) none) (over (omega (arith, h))))
 
   -- a Value, and what follows it
   over_loop : (m : ℕ) (acc : List Expr) (i : List Terminal) → suc n ≤ list_height acc → Over highest_in (suc n) (value_loop other m acc i)
@@ -81,10 +81,10 @@ module _ (n : ℕ) (self other : Reads) (all : CapsAt n self other) where
   c_loop zero acc i = inl refl
   c_loop (suc m) acc i = caps_then height highest_in n n _ _ _ _ (all Value i)
       (λ e r. caps_first highest_in n (is_op Sign.Equal) r _ _ _ _
-          (λ _ s. caps_some highest_in n (stored e) _ _ _ _ (λ t. c_loop m (acc ++ (t ∷ [])) s) (inl refl)) (c_end acc e r))
+      (λ _ s. caps_some highest_in n (stored e) _ _ _ _ (λ t. c_loop m (acc ++ (t ∷ [])) s) (inl refl)) (c_end acc e r))
       (λ e r w. over_first highest_in (suc n) (is_op Sign.Equal) r _ _ (λ _ s. over_some highest_in (suc n) (stored e) _ _
-          (λ t q. over_loop m (acc ++ (t ∷ [])) s (omega (arith, w, stored_height e t q, exprs_last acc t))) none)
-          (over_end acc e r (omega (arith, w))))
+      (λ t q. over_loop m (acc ++ (t ∷ [])) s (omega (arith, w, stored_height e t q, exprs_last acc t))) none)
+      (over_end acc e r (omega (arith, w))))
 
   c_value : (i : List Terminal) → Caps highest_in n (value_statement self i) (value_statement other i)
   c_value i = c_name_with n self other all highest_in n Sign.Colon i _ _ _ _ (λ x s. c_annotation (Trees.Name x Store) true s)
@@ -103,8 +103,8 @@ module _ (n : ℕ) (self other : Reads) (all : CapsAt n self other) where
   c_bracketed_types i = caps_first type_param_heights n (is_op Sign.LSqb) i _ _ _ _ (λ _ r. caps_then type_param_heights type_param_heights
       n n _ _ (λ ps r1. closed Sign.RSqb r1 ps) (λ ps r1. closed Sign.RSqb r1 ps)
       (caps_commas type_param_height type_param_heights (λ p ps. refl) n starts_type_param (read_type_param self) (read_type_param other)
-          c_type_param (suc (length r)) r) (λ ps r1. inl refl) (λ ps r1 w. over_closed type_param_heights (suc n) Sign.RSqb r1 ps w))
-          (inl refl)
+      c_type_param (suc (length r)) r) (λ ps r1. inl refl) (λ ps r1 w. over_closed type_param_heights (suc n) Sign.RSqb r1 ps w))
+      (inl refl)
 
   pub c_type_params : (profile : Profile) (i : List Terminal) → Caps type_param_heights n (read_type_params profile self i)
       (read_type_params profile other i)
@@ -114,10 +114,10 @@ module _ (n : ℕ) (self other : Reads) (all : CapsAt n self other) where
       (alias_rest profile other x i)
   c_alias profile x i = caps_then type_param_heights highest_in n n _ _ _ _ (c_type_params profile i)
       (λ ps r. caps_first highest_in n (is_op Sign.Equal) r _ _ _ _
-          (λ _ s. caps_found height highest_in n _ _ (λ e. TypeAlias (Trees.Name x Store) ps e) (all Expression s) (λ e. omega arith))
-          (inl refl))
+      (λ _ s. caps_found height highest_in n _ _ (λ e. TypeAlias (Trees.Name x Store) ps e) (all Expression s) (λ e. omega arith))
+      (inl refl))
       (λ ps r w. over_first highest_in (suc n) (is_op Sign.Equal) r _ _ (λ _ s. over_found highest_in (suc n) (other Expression s)
-          (λ e. TypeAlias (Trees.Name x Store) ps e) (λ e. omega (arith, w))) none)
+      (λ e. TypeAlias (Trees.Name x Store) ps e) (λ e. omega (arith, w))) none)
 
   c_type : (profile : Profile) (i : List Terminal)
       → Caps highest_in n (on_type profile i (alias_rest profile self) (value_statement self i))
@@ -135,7 +135,7 @@ module _ (n : ℕ) (self other : Reads) (all : CapsAt n self other) where
       (caps_then height highest_in n n _ _ _ _ (all Expression r)
       (λ e r1. caps_found option_height highest_in n _ _ (λ c. Raise (Some e) c) (c_after (Word Key.From) Expression r1) (λ c. omega arith))
       (λ e r1 w. over_found highest_in (suc n) (after other (Word Key.From) Expression r1) (λ c. Raise (Some e) c) (λ c. omega (arith, w))))
-          (inl refl)
+      (inl refl)
   c_start profile Asserts i r = caps_then height highest_in n n _ _ _ _ (all Expression r)
       (λ e r1. caps_found option_height highest_in n _ _ (λ m. Assert e m) (c_after (Op Sign.Comma) Expression r1) (λ m. omega arith))
       (λ e r1 w. over_found highest_in (suc n) (after other (Op Sign.Comma) Expression r1) (λ m. Assert e m) (λ m. omega (arith, w)))
@@ -153,8 +153,8 @@ module _ (n : ℕ) (self other : Reads) (all : CapsAt n self other) where
   c_statements profile zero i = inl refl
   c_statements profile (suc m) i = caps_then highest_in suite_height n n _ _ _ _ (c_statement profile i)
       (λ s r. caps_first suite_height n (is_op Sign.Semi) r _ _ _ _ (λ _ u. caps_none suite_height n u _ _ _ _ (inl refl)
-          (caps_found suite_height suite_height n _ _ (λ ss. s ∷ ss) (c_statements profile m u) (λ ss. omega arith))) (inl refl))
+      (caps_found suite_height suite_height n _ _ (λ ss. s ∷ ss) (c_statements profile m u) (λ ss. omega arith))) (inl refl))
       (λ s r w. over_first suite_height (suc n) (is_op Sign.Semi) r _ _
-          (λ _ u. over_none suite_height (suc n) u _ _ (over (omega (arith, w)))
-          (over_found suite_height (suc n) (statements profile other m u) (λ ss. s ∷ ss) (λ ss. omega (arith, w))))
-          (over (omega (arith, w))))
+      (λ _ u. over_none suite_height (suc n) u _ _ (over (omega (arith, w)))
+      (over_found suite_height (suc n) (statements profile other m u) (λ ss. s ∷ ss) (λ ss. omega (arith, w))))
+      (over (omega (arith, w))))

@@ -84,8 +84,8 @@ module _ {A : Type 0} (s : A → ℕ) (t : List A → ℕ) (join : (a : A) (as_ 
   caps_commas one two h zero i = inl refl
   caps_commas one two h (suc m) i = caps_then s t n n _ _ _ _ (h i)
       (λ a r. caps_first t n (is_op Sign.Comma) r _ _ _ _
-          (λ _ r1. caps_cond t n (more r1) _ _ _ _ (caps_found t t n _ _ (λ as_. a ∷ as_) (caps_commas one two h m r1)
-          (λ as_. omega (arith, join a as_))) (inl refl)) (inl refl))
+      (λ _ r1. caps_cond t n (more r1) _ _ _ _ (caps_found t t n _ _ (λ as_. a ∷ as_) (caps_commas one two h m r1)
+      (λ as_. omega (arith, join a as_))) (inl refl)) (inl refl))
       (λ a r w. over_first t (suc n) (is_op Sign.Comma) r _ _
-          (λ _ r1. over_cond t (suc n) (more r1) _ _ (over_found t (suc n) (commas two more m r1) (λ as_. a ∷ as_)
-          (λ as_. omega (arith, w, join a as_))) (over (omega (arith, w, join a [])))) (over (omega (arith, w, join a []))))
+      (λ _ r1. over_cond t (suc n) (more r1) _ _ (over_found t (suc n) (commas two more m r1) (λ as_. a ∷ as_)
+      (λ as_. omega (arith, w, join a as_))) (over (omega (arith, w, join a [])))) (over (omega (arith, w, join a []))))

@@ -56,8 +56,8 @@ pub listing_front : {i : Item} {us : List Terminal} {es : List Entry} → G.List
 listing_front {i} {us} {es} c w r s =
     let g = listing_all c in
     lifted (listing_of (read (suc g.0)) i [] (us ++ r)) (listing_of plain i [] (us ++ r)) es r
-        (k_listing_of (read (suc g.0)) plain (all_keep (suc g.0)) i [] (us ++ r))
-        (g.1 g.0 (omega arith) w r s (length (us ++ r)) (omega arith) [])
+    (k_listing_of (read (suc g.0)) plain (all_keep (suc g.0)) i [] (us ++ r))
+    (g.1 g.0 (omega arith) w r s (length (us ++ r)) (omega arith) [])
 
 pub target_goes : {ts : List Terminal} {e : Expr} (s : Expr) → G.Derives Stars ts e → stored e ≡ Some s → (r : List Terminal)
     → read_target plain (ts ++ (Word Key.In ∷ r)) ≡ Found e (Word Key.In ∷ r)
@@ -65,7 +65,7 @@ target_goes {ts} {e} s p q r =
     let z = Word Key.In ∷ r in
     let g = target_front s p q z (omega arith) (λ k. omega (arith, k)) (omega arith) in
     lifted (read_target (read (suc g.0)) (ts ++ z)) (read_target plain (ts ++ z)) e z (k_target (read (suc g.0)) plain (all_keep (suc g.0))
-        (ts ++ z)) (g.1 g.0 (omega arith))
+    (ts ++ z)) (g.1 g.0 (omega arith))
 
 -- ---- Stars in front of a colon.
 abbrev pub StarsInv : Level → List Terminal → Expr → Type 0
@@ -115,11 +115,11 @@ module _ (r : List Terminal) (w : grip_of r ≤ 8) (g : grip_of r ≡ 3 → ⊥)
       let z = Op Sign.Comma ∷ (us ++ r) in
       let y = us ++ r in
       lifted (read (suc (suc d)) Stars ((ts ++ (Op Sign.Comma ∷ us)) ++ r)) (plain Stars ((ts ++ (Op Sign.Comma ∷ us)) ++ r))
-          (Trees.Tuple (an_expr e (singles es)) Load) r (all_keep (suc (suc d)) Stars ((ts ++ (Op Sign.Comma ∷ us)) ++ r))
+      (Trees.Tuple (an_expr e (singles es)) Load) r (all_keep (suc (suc d)) Stars ((ts ++ (Op Sign.Comma ∷ us)) ++ r))
       (ap (read (suc (suc d)) Stars) (append_assoc ts (Op Sign.Comma ∷ us) r)
-          ∙ (unroll (suc d) Stars (ts ++ z) ∙ thus _ _ (answers StarItem ts e (suc d) z (a.1 (suc d) (omega arith)) (omega arith))
-          (thus (listing_of (read (suc d)) (Of StarItem) [] y) _
-          (b.1 d (omega arith) (λ r. omega arith) r (starts_low StarItem r (omega (arith, k)), g, w) (length y) (omega arith) []) refl)))
+      ∙ (unroll (suc d) Stars (ts ++ z) ∙ thus _ _ (answers StarItem ts e (suc d) z (a.1 (suc d) (omega arith)) (omega arith))
+      (thus (listing_of (read (suc d)) (Of StarItem) [] y) _
+      (b.1 d (omega arith) (λ r. omega arith) r (starts_low StarItem r (omega (arith, k)), g, w) (length y) (omega arith) []) refl)))
 
   pub stars_at : {ts : List Terminal} {e : Expr} → G.Derives Stars ts e → plain Stars (ts ++ r) ≡ Found e r
   stars_at {ts} {e} p = elim (stars_inv p) [
@@ -158,9 +158,9 @@ pub bracketed_goes : {ts : List Terminal} {is : List Trees.Item} → F.Bracketed
 bracketed_goes (F.bracketed {ts = ts} c) r =
     let z = Op Sign.Colon ∷ r in
     thus (commas_of (read_item plain) (starts (Of Expression)) ((ts ++ (Op Sign.RPar ∷ [])) ++ z)) _
-        (ap (commas_of (read_item plain) (starts (Of Expression))) (append_assoc ts (Op Sign.RPar ∷ []) z)
-        ∙ commas?_goes Trees.Item F.ItemOf (read_item plain) (starts (Of Expression)) Behind item_goes item_starts
-        (λ r. (omega arith, refl)) c (Op Sign.RPar ∷ z) refl refl (omega arith, refl)) refl
+    (ap (commas_of (read_item plain) (starts (Of Expression))) (append_assoc ts (Op Sign.RPar ∷ []) z)
+    ∙ commas?_goes Trees.Item F.ItemOf (read_item plain) (starts (Of Expression)) Behind item_goes item_starts
+    (λ r. (omega arith, refl)) c (Op Sign.RPar ∷ z) refl refl (omega arith, refl)) refl
 
 -- ---- Headers.
 as_grip : {us : List Terminal} {x : Option Identifier} → F.As us x → (r : List Terminal) → grip_of r ≤ 8 → grip_of (us ++ r) ≤ 8
@@ -172,15 +172,15 @@ pub for_goes : {us vs : List Terminal} {t e : Expr} (b : Bool) → G.Target us t
 for_goes {us} {vs} {t} {e} b (G.target {e = f} p q) k r =
     let z = Op Sign.Colon ∷ r in
     ap (for_rest plain b) (append_assoc us (Word Key.In ∷ vs) z)
-        ∙ thus _ _ (target_goes t p q (vs ++ z)) (thus _ _ (stars_at z (omega arith) (λ k. omega (arith, k)) (omega arith) k)
-        (ap (λ o. on_some o (λ s. Found (loop_header (for_head b s e)) z) NoForm) q))
+    ∙ thus _ _ (target_goes t p q (vs ++ z)) (thus _ _ (stars_at z (omega arith) (λ k. omega (arith, k)) (omega arith) k)
+    (ap (λ o. on_some o (λ s. Found (loop_header (for_head b s e)) z) NoForm) q))
 
 except_goes : {ts us : List Terminal} {e : Expr} {x : Option Identifier} (b : Bool) → G.Derives Expression ts e → F.As us x
     → (r : List Terminal) → except_of plain b ((ts ++ us) ++ (Op Sign.Colon ∷ r)) ≡ Found (except_header b (Some e) x) (Op Sign.Colon ∷ r)
 except_goes {ts} {us} b p a r =
     let z = Op Sign.Colon ∷ r in
     ap (except_of plain b) (append_assoc ts us z) ∙ thus _ _ (front p (us ++ z) (as_grip a z (omega arith)))
-        (thus _ _ (as_goes a z refl) refl)
+    (thus _ _ (as_goes a z refl) refl)
 
 function_goes : {us vs : List Terminal} (b : Bool) (x : Identifier) (tps : List TypeParam) {ps : List Entry} {a : Arguments}
     {e : Option Expr} → G.Listing (Parameter true) us ps → arranged ps ≡ Some a → F.Behind (Op Sign.RArrow) Expression vs e
@@ -190,11 +190,14 @@ function_goes {us} {vs} b x tps {ps} {a} {e} c q k r =
     let z = Op Sign.Colon ∷ r in
     let y = Op Sign.RPar ∷ (vs ++ (Op Sign.Colon ∷ r)) in
     thus (listing_of plain (Parameter true) [] ((us ++ (Op Sign.RPar ∷ vs)) ++ z)) _
-        (ap (listing_of plain (Parameter true) []) (append_assoc us (Op Sign.RPar ∷ vs) z)
-        ∙ listing_front c (λ r. ((λ q. absurd (omega (arith, q))), omega arith, omega arith, (λ q. absurd (omega (arith, q))))) y (refl,
-        (λ q. absurd (omega (arith, q))), ((λ q. absurd (omega (arith, q))), omega arith, omega arith, (λ q. absurd (omega (arith, q))))))
+    (ap (listing_of plain (Parameter true) []) (append_assoc us (Op Sign.RPar ∷ vs) z)
+    ∙ listing_front c (λ r. ((λ q. absurd (omega (arith, q))), omega arith, omega arith, (λ q. absurd (omega (arith, q))))) y (
+      refl,
+      (λ q. absurd (omega (arith, q))),
+      ((λ q. absurd (omega (arith, q))), omega arith, omega arith, (λ q. absurd (omega (arith, q)))),
+    ))
     (ap (λ o. on_some o (λ a. and_then (after plain (Op Sign.RArrow) Expression (vs ++ z))
-        (λ e r3. Found (def_header (function_head b x tps a e)) r3)) NoForm) q ∙ thus _ _ (after_goes k refl z (omega arith) refl) refl)
+    (λ e r3. Found (def_header (function_head b x tps a e)) r3)) NoForm) q ∙ thus _ _ (after_goes k refl z (omega arith) refl) refl)
 
 pub def_goes : (profile : Profile) {us vs ws : List Terminal} (b : Bool) (x : Spelled) {tps : List TypeParam} {ps : List Entry}
     {a : Arguments} {e : Option Expr} → F.TypeParams profile us tps → G.Listing (Parameter true) vs ps → arranged ps ≡ Some a
@@ -204,7 +207,7 @@ pub def_goes : (profile : Profile) {us vs ws : List Terminal} (b : Bool) (x : Sp
 def_goes profile {us} {vs} {ws} b x {tps} g c q k r =
     let y = Op Sign.LPar ∷ (vs ++ (Op Sign.RPar ∷ ws)) in
     ap (λ z. def_rest profile plain b (Ident x ∷ z)) (append_assoc us y (Op Sign.Colon ∷ r))
-        ∙ thus _ _ (type_params_goes profile g (y ++ (Op Sign.Colon ∷ r)) refl) (function_goes b x.form tps c q k r)
+    ∙ thus _ _ (type_params_goes profile g (y ++ (Op Sign.Colon ∷ r)) refl) (function_goes b x.form tps c q k r)
 
 bases_goes : {ts : List Terminal} (x : Identifier) (tps : List TypeParam) {es : List Expr} {ks : Keywords} → F.Bases ts es ks
     → (r : List Terminal) → bases_rest plain x tps (ts ++ (Op Sign.Colon ∷ r)) ≡ Found
@@ -213,9 +216,12 @@ bases_goes x tps F.no_bases r = refl
 bases_goes x tps (F.bases {ts = ts} {es = es} c h) r =
     let z = Op Sign.Colon ∷ r in
     thus (listing_of plain Argument [] ((ts ++ (Op Sign.RPar ∷ [])) ++ z)) _
-        (ap (listing_of plain Argument []) (append_assoc ts (Op Sign.RPar ∷ []) z)
-        ∙ listing_front c (λ r. (omega arith, (λ q. absurd (omega (arith, q))))) (Op Sign.RPar ∷ z) (refl, (λ q. absurd (omega (arith, q))),
-        (omega arith, (λ q. absurd (omega (arith, q))))))
+    (ap (listing_of plain Argument []) (append_assoc ts (Op Sign.RPar ∷ []) z)
+    ∙ listing_front c (λ r. (omega arith, (λ q. absurd (omega (arith, q))))) (Op Sign.RPar ∷ z) (
+      refl,
+      (λ q. absurd (omega (arith, q))),
+      (omega arith, (λ q. absurd (omega (arith, q)))),
+    ))
     (when _ _ _ h refl)
 
 unbracketed : {ts : List Terminal} {es : List Expr} {ks : Keywords} → F.Bases ts es ks → (r : List Terminal)
@@ -230,14 +236,14 @@ pub class_goes : (profile : Profile) {ts us : List Terminal} (x : Spelled) {tps 
 class_goes profile {ts} {us} x {tps} g c r =
     let z = us ++ (Op Sign.Colon ∷ r) in
     ap (λ z. class_rest profile plain (Ident x ∷ z)) (append_assoc ts us (Op Sign.Colon ∷ r))
-        ∙ thus _ _ (type_params_goes profile g z (unbracketed c r)) (bases_goes x.form tps c r)
+    ∙ thus _ _ (type_params_goes profile g z (unbracketed c r)) (bases_goes x.form tps c r)
 
 except_line_goes : {ts us : List Terminal} {e : Expr} {x : Option Identifier} → G.Derives Expression ts e → F.As us x → (r : List Terminal)
     → except_rest plain ((ts ++ us) ++ (Op Sign.Colon ∷ r)) ≡ Found (except_header false (Some e) x) (Op Sign.Colon ∷ r)
 except_line_goes {ts} {us} {e} p a r =
     let z = Op Sign.Colon ∷ r in
     ap (except_rest plain) (append_assoc ts us z) ∙ (pass_op Sign.Star ts (us ++ z) _ _ (omega (arith, led p))
-        ∙ when _ _ _ (started p (us ++ z)) (ap (except_of plain false) (sym (append_assoc ts us z)) ∙ except_goes false p a r))
+    ∙ when _ _ _ (started p (us ++ z)) (ap (except_of plain false) (sym (append_assoc ts us z)) ∙ except_goes false p a r))
 
 module _ (with_goes : (ts : List Terminal) (is : List Trees.Item) → F.Items ts is → (b : Bool) (r : List Terminal)
     → with_rest plain b (ts ++ (Op Sign.Colon ∷ r)) ≡ Found (with_header b is) (Op Sign.Colon ∷ r)) where

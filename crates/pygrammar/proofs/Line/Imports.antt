@@ -97,8 +97,8 @@ pub from_module_goes : {ts us vs : List Terminal} {n : ℕ} {m : Identifier} {xs
 from_module_goes {ts} {us} {vs} d p q r h g =
     let z = Word Key.Import ∷ (vs ++ r) in
     ap import_from (from_shape ts us vs r (Word Key.Import)) ∙ thus _ _ (dots_goes d (us ++ z) (dotted_no_dots p z))
-        (missed (is_word Key.Import) (us ++ z) _ _ (dotted_no_import p z)
-        ∙ thus _ _ (read_dotted_goes p z refl) (thus _ _ (names_goes q r h g) refl))
+    (missed (is_word Key.Import) (us ++ z) _ _ (dotted_no_import p z)
+    ∙ thus _ _ (read_dotted_goes p z refl) (thus _ _ (names_goes q r h g) refl))
 
 pub from_dots_goes : {ts vs : List Terminal} {n : ℕ} {xs : List Alias} → F.Dots ts n → 0 < n → F.Names vs xs → (r : List Terminal)
     → peek (is_op Sign.Comma) r ≡ None → Unnamed r → import_from ((ts ++ (Word Key.Import ∷ vs)) ++ r) ≡ Found (ImportFrom None xs n) r

@@ -134,7 +134,7 @@ match_goes : (profile : Profile) (form : Identifier) {ts : List Terminal} {e : E
     (header_form (match_header e) None) []
 match_goes profile form {ts} w p =
     let m : is_match_line profile (match_word form ∷ (ts ++ (Op Sign.Colon ∷ []))) ≡ true =
-        ap (λ b. b && ends_in_colon (ts ++ (Op Sign.Colon ∷ []))) w ∙ last ts [] (Op Sign.Colon) in
+    ap (λ b. b && ends_in_colon (ts ++ (Op Sign.Colon ∷ []))) w ∙ last ts [] (Op Sign.Colon) in
     thus _ _ (when _ _ _ m (thus _ _ (front p (Op Sign.Colon ∷ []) (omega arith, (λ q. absurd (omega (arith, q))), omega arith)) refl)) refl
 
 line_goes : (profile : Profile) {ts : List Terminal} {f : Form} → F.FormOf profile ts f → line profile plain ts ≡ Found f []
@@ -144,11 +144,11 @@ line_goes profile (F.decorator_line {ts = ts} p) = thus (line_front profile plai
 line_goes profile (F.header_line {ts = ts} {h = h} p) =
     let k = header_kind p (Op Sign.Colon ∷ []) in
     line_by profile Heads (ts ++ (Op Sign.Colon ∷ [])) k.1 k.0 (header_ends p (Op Sign.Colon ∷ [])).1 (header_form h None)
-        (λ t r q. thus _ _ (header_goes profile p []) refl)
+    (λ t r q. thus _ _ (header_goes profile p []) refl)
 line_goes profile (F.header_suite {ts = ts} {us = us} {h = h} {ss = ss} p c) =
     let k = header_kind p (Op Sign.Colon ∷ us) in
     line_by profile Heads (ts ++ (Op Sign.Colon ∷ us)) k.1 k.0 (header_ends p (Op Sign.Colon ∷ us)).1 (header_form h (Some ss))
-        (λ t r q. thus _ _ (header_goes profile p us) (suite_goes profile h c))
+    (λ t r q. thus _ _ (header_goes profile p us) (suite_goes profile h c))
 line_goes profile (F.match_line form w p) = match_goes profile form w p
 
 -- ---- The header of a case.
@@ -164,7 +164,7 @@ case_rest_goes : (profile : Profile) {ts us : List Terminal} {p : Pattern} {g : 
 case_rest_goes profile {ts} {us} q k r =
     let z = Op Sign.Colon ∷ r in
     ap (case_rest profile plain plain_pattern) (append_assoc ts us z) ∙ thus _ _ (plain_pattern_goes q (us ++ z) (guard_ends k r))
-        (thus _ _ (after_goes k refl z (omega arith) refl) refl)
+    (thus _ _ (after_goes k refl z (omega arith) refl) refl)
 
 case_goes : (profile : Profile) {ts : List Terminal} {h : Header} (f : Form) (r : List Terminal) → is_whole profile.extent ≡ true
     → F.CaseOf ts h → suite profile plain h r ≡ Found f [] → read_line profile true (ts ++ (Op Sign.Colon ∷ r)) ≡ Found f []

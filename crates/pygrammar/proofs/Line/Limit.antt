@@ -67,7 +67,7 @@ module _ (profile : Profile) (inside : Bool) (d : ℕ) (ts : List Terminal) wher
   beside : Caps form_height (suc d) roomy (read_line profile inside ts)
   beside = subst (λ z. Caps form_height (suc d) roomy z) plain_one
       (c_place (suc d) (capped most (suc d)) (read most) (caps_read most (suc d)) (brackets most d) (capped_pattern most (suc d))
-          plain_pattern (λ l i. final_pattern most (suc d) l i)
+      plain_pattern (λ l i. final_pattern most (suc d) l i)
       profile inside ts (λ l j r p v h k e. pattern_over most (suc d) l j r p (omega (arith, v)) h k e))
 
   roomy_found : (f : Form) (r : List Terminal) → roomy ≡ Found f r → read_line profile inside ts ≡ Found f r
@@ -77,8 +77,10 @@ module _ (profile : Profile) (inside : Bool) (d : ℕ) (ts : List Terminal) wher
   roomy_no_form h f p = elim beside [ inl q ↦ no_form_found f [] (sym h ∙ (q ∙ read_goes profile p)) | inr q ↦ no_form_deep (sym q.0 ∙ h) ]
 
   roomy_deep : roomy ≡ TooDeep → (f : Form) → FormAt profile inside ts f → suc d < form_height f
-  roomy_deep h f p = elim beside [ inl q ↦ absurd (found_deep f [] (sym h ∙ (q ∙ read_goes profile p)))
-      | inr q ↦ over_is (suc (suc d)) f [] (subst (λ z. Over form_height (suc (suc d)) z) (read_goes profile p) q.1) ]
+  roomy_deep h f p = elim beside [
+    | inl q ↦ absurd (found_deep f [] (sym h ∙ (q ∙ read_goes profile p)))
+    | inr q ↦ over_is (suc (suc d)) f [] (subst (λ z. Over form_height (suc (suc d)) z) (read_goes profile p) q.1)
+  ]
 
   -- it goes too deep in no line that counts at most d
   roomy_enough : roomy ≡ TooDeep → d < weight ts
@@ -94,12 +96,16 @@ module _ (profile : Profile) (inside : Bool) (d : ℕ) (ts : List Terminal) wher
 
   -- no terminal is left
   nothing_left : (f : Form) (t : Terminal) (r : List Terminal) → roomy ≡ Found f (t ∷ r) → ⊥
-  nothing_left f t r h = elim (read_or_not profile inside ts) [ inl q ↦ rest_found f q.0 t r (sym (roomy_found f (t ∷ r) h) ∙ q.1)
-      | inr q ↦ no_form_found f (t ∷ r) (sym q.0 ∙ roomy_found f (t ∷ r) h) ]
+  nothing_left f t r h = elim (read_or_not profile inside ts) [
+    | inl q ↦ rest_found f q.0 t r (sym (roomy_found f (t ∷ r) h) ∙ q.1)
+    | inr q ↦ no_form_found f (t ∷ r) (sym q.0 ∙ roomy_found f (t ∷ r) h)
+  ]
 
   too_high : (f : Form) → roomy ≡ Found f [] → d < form_height f → HighLine profile inside d ts
-  too_high f h w = (λ g p. subst (λ z. d < form_height z) (same f g (sym (roomy_found f [] h) ∙ read_goes profile p)) w,
-      λ no. absurd (no f (read_gives profile inside ts f (roomy_found f [] h))))
+  too_high f h w = (
+    λ g p. subst (λ z. d < form_height z) (same f g (sym (roomy_found f [] h) ∙ read_goes profile p)) w,
+    λ no. absurd (no f (read_gives profile inside ts f (roomy_found f [] h))),
+  )
     where
       same : (f g : Form) → ◌≡◌ {A = Answer Form} (Found f []) (Found g []) → f ≡ g
       same f g h = cc
@@ -125,7 +131,12 @@ line_limit_exactly profile inside d ts f =
     (λ p. found p.0 p.1, λ h. subst (LineMeets profile inside d ts) h (line_limit_meets profile inside d ts))
   where
     found : FormAt profile inside ts f → form_height f ≤ d → limit_line profile inside d ts ≡ Found f []
-    found p w = ap (cap_form d) (elim (beside profile inside d ts) [ inl q ↦ q ∙ read_goes profile p
-        | inr q ↦ absurd (omega (arith, w,
-        over_is (suc (suc d)) f [] (subst (λ z. Over form_height (suc (suc d)) z) (read_goes profile p) q.1))) ])
+    found p w = ap (cap_form d) (elim (beside profile inside d ts) [
+      | inl q ↦ q ∙ read_goes profile p
+      | inr q ↦ absurd (omega (
+        arith,
+        w,
+        over_is (suc (suc d)) f [] (subst (λ z. Over form_height (suc (suc d)) z) (read_goes profile p) q.1),
+      ))
+    ])
         ∙ ap (λ b. cond b (Found f []) TooDeep) (le-leb (form_height f) d w)

@@ -30,7 +30,7 @@ pub plain_pattern_goes : {l : PatternLevel} {ts : List Terminal} {p : Pattern} �
 plain_pattern_goes {l} {ts} {p} q r e =
     let n : ℕ = length (ts ++ r) in
     complete q (suc n) (suc (suc n)) r (omega (arith, length-append ts r))
-        (omega (arith, bounded l ts p q, weight_most ts, length-append ts r)) e
+    (omega (arith, bounded l ts p q, weight_most ts, length-append ts r)) e
 
 -- what is found is derived, and no terminal is lost
 shorter : (g d : ℕ) (l : PatternLevel) (i r : List Terminal) (p : Pattern) → capped_pattern g d l i ≡ Found p r → weight r ≤ weight i
@@ -68,8 +68,8 @@ pub pattern_over : (g d : ℕ) (l : PatternLevel) (i r : List Terminal) (p : Pat
 pattern_over g d l i r p a h k e =
     let s = sound (suc (length i)) (suc (suc (length i))) l i r p k in
     least d (pattern_height p)
-        (λ w. differ (sym h ∙ (ap (capped_pattern g d l) s.1
-        ∙ complete s.2 g d r (omega (arith, a, ap length s.1, length-append s.0 r)) w e)))
+    (λ w. differ (sym h ∙ (ap (capped_pattern g d l) s.1
+    ∙ complete s.2 g d r (omega (arith, a, ap length s.1, length-append s.0 r)) w e)))
   where
     differ : ◌≡◌ {A = Answer Pattern} TooDeep (Found p r) → ⊥
     differ q = absurd (cc)

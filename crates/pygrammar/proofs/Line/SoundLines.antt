@@ -58,8 +58,11 @@ module _ (profile : Profile) (vs : List Terminal) (b : Bool) (a : F.Async vs b) 
       (λ t r p. says_word Key.In r _ _
       (λ _ r1 q. says_then _ _ (plain_sound Stars r1)
       (λ e r2 y. says_some (stored t) _ _
-      (λ s h. found (p.0 ++ (Word Key.In ∷ y.0), joins p.0 (Word Key.In ∷ y.0) r2 p.1 (headed (Word Key.In) q y.1),
-      λ z w. header_at (append_assoc vs (Word Key.For ∷ []) (p.0 ++ (Word Key.In ∷ y.0))) (F.for_line a (G.target p.2 h) y.2))) no_form))
+      (λ s h. found (
+        p.0 ++ (Word Key.In ∷ y.0),
+        joins p.0 (Word Key.In ∷ y.0) r2 p.1 (headed (Word Key.In) q y.1),
+        λ z w. header_at (append_assoc vs (Word Key.For ∷ []) (p.0 ++ (Word Key.In ∷ y.0))) (F.for_line a (G.target p.2 h) y.2),
+      )) no_form))
       (λ _. no_form))
 
   with_sound : (i : List Terminal) → Says (RestAt profile (vs ++ (Word Key.With ∷ [])) i) (with_rest plain b i)
@@ -72,20 +75,24 @@ module _ (profile : Profile) (vs : List Terminal) (b : Bool) (a : F.Async vs b) 
       (λ ps r2 p. says_op Sign.RPar r2 _ _
       (λ _ r3 v. says_some (arranged ps) _ _ (λ c h. says_then _ _ (after_op_sound Sign.RArrow Expression r3) (λ e r4 y.
       let ws = Op Sign.LPar ∷ (p.0 ++ (Op Sign.RPar ∷ y.0)) in
-      found (Ident x ∷ (g.0 ++ ws),
-          headed (Ident x) q (joins g.0 ws r4 g.1
-          (headed (Op Sign.LPar) o (joins p.0 (Op Sign.RPar ∷ y.0) r4 p.3 (headed (Op Sign.RPar) v y.1)))),
-          λ z w. header_at (append_assoc vs (Word Key.Def ∷ []) (Ident x ∷ (g.0 ++ ws))) (F.def_line x a g.2 p.4 (ap arranged (sym p.2) ∙ h)
-          y.2)))) no_form) (λ _. no_form))) (λ _. no_form))) no_form
+      found (
+        Ident x ∷ (g.0 ++ ws),
+        headed (Ident x) q (joins g.0 ws r4 g.1
+            (headed (Op Sign.LPar) o (joins p.0 (Op Sign.RPar ∷ y.0) r4 p.3 (headed (Op Sign.RPar) v y.1)))),
+        λ z w. header_at (append_assoc vs (Word Key.Def ∷ []) (Ident x ∷ (g.0 ++ ws))) (F.def_line x a g.2 p.4 (ap arranged (sym p.2) ∙ h)
+            y.2),
+      ))) no_form) (λ _. no_form))) (λ _. no_form))) no_form
 
 class_sound : (profile : Profile) (i : List Terminal) → Says (RestAt profile (Word Key.Class ∷ []) i) (class_rest profile plain i)
 class_sound profile i = says_name i _ _ (λ x u q. says_then _ _ (type_params_sound profile u) (λ tps r g. says_op Sign.LPar r _ _
     (λ _ r1 v. says_then _ _ (listing_of_sound plain plain_sound Argument r1)
-        (λ es r2 p. says_op Sign.RPar r2 _ _ (λ _ r3 w. says_if (in_order false false es) _ _ (λ h.
+    (λ es r2 p. says_op Sign.RPar r2 _ _ (λ _ r3 w. says_if (in_order false false es) _ _ (λ h.
     let ws = Op Sign.LPar ∷ (p.0 ++ (Op Sign.RPar ∷ [])) in
-    found (Ident x ∷ (g.0 ++ ws),
-        headed (Ident x) q (joins g.0 ws r3 g.1 (headed (Op Sign.LPar) v (joins p.0 (Op Sign.RPar ∷ []) r3 p.3 w))),
-        λ z k. F.class_line g.2 (F.bases (subst (λ k. G.Listing Argument p.0 k) (sym p.2) p.4) h))) no_form) (λ _. no_form)))
+    found (
+      Ident x ∷ (g.0 ++ ws),
+      headed (Ident x) q (joins g.0 ws r3 g.1 (headed (Op Sign.LPar) v (joins p.0 (Op Sign.RPar ∷ []) r3 p.3 w))),
+      λ z k. F.class_line g.2 (F.bases (subst (λ k. G.Listing Argument p.0 k) (sym p.2) p.4) h),
+    )) no_form) (λ _. no_form)))
     (λ _. found (Ident x ∷ (g.0 ++ []), headed (Ident x) q (joins g.0 [] r g.1 refl), λ z k. F.class_line g.2 F.no_bases)))) no_form
 
 except_plain_sound : (profile : Profile) (i : List Terminal)
@@ -106,7 +113,7 @@ except_sound profile i =
     says_op Sign.Star i _ _
     (λ _ s q. says_is _ (except_star_sound profile s) (λ h r p. (Op Sign.Star ∷ p.0, headed (Op Sign.Star) q p.1, λ z w. p.2)))
     (λ _. says_cond (starts (Of Expression) i) _ _ (says_is _ (except_plain_sound profile i) (λ h r p. (p.0, p.1, λ z w. p.2)))
-        (found ([], refl, λ z w. F.except_all)))
+    (found ([], refl, λ z w. F.except_all)))
 
 rest : (profile : Profile) (t : Terminal) {i : List Terminal} (x : Answer Header) → Says (RestAt profile (t ∷ []) i) x
     → Says (HeaderAt profile (t ∷ i)) x
@@ -212,7 +219,7 @@ match_sound profile t i h =
     let w = match_is t k.1 in
     says_then _ _ (plain_sound Subject i) (λ e r p. says_op Sign.Colon r _ _
     (λ _ s q. found (λ n. form_at (ap (λ z. z ∷ i) w.1 ∙ headed (match_word w.0) refl (to_end p.0 [] p.1 q n refl))
-        (F.match_line w.0 k.0 p.2))) (λ _. no_form))
+    (F.match_line w.0 k.0 p.2))) (λ _. no_form))
 
 front_sound : (profile : Profile) (i : List Terminal) → Says (LineAt profile i) (line_front profile plain i)
 front_sound profile [] = no_form
@@ -272,7 +279,7 @@ place_sound profile inside i = go (is_case_line profile inside i) refl
         let k = all_three (is_whole profile.extent) inside (begins_case i) h in
         let c = case_is i k.2 in
         subst (λ z. Says (λ f r. F.FormAt profile inside z f) (case_whole profile plain plain_pattern z)) (sym c.2)
-            (says_is _ (case_sound profile c.0 c.1 k.0) (λ f r p. subst (λ b. F.FormAt profile b (case_word c.0 ∷ c.1) f) (sym k.1) p))
+        (says_is _ (case_sound profile c.0 c.1 k.0) (λ f r p. subst (λ b. F.FormAt profile b (case_word c.0 ∷ c.1) f) (sym k.1) p))
 
 -- what is read has that form
 pub read_gives : (profile : Profile) (inside : Bool) (ts : List Terminal) (f : Form) → read_line profile inside ts ≡ Found f []

@@ -55,8 +55,11 @@ module _ (A : Type 0) (X : List Terminal → A → Type 0) (one : List Terminal 
   pub always_sound : (n : ℕ) (i : List Terminal) → Says (At (F.Commas A X) i) (commas one always n i)
   always_sound zero i = no_form
   always_sound (suc n) i = says_then _ _ (all i) (λ a r p. says_op Sign.Comma r _ _
-      (λ _ s q. says_then _ _ (always_sound n s) (λ as_ r2 y. found (p.0 ++ (Op Sign.Comma ∷ y.0),
-          joins p.0 (Op Sign.Comma ∷ y.0) _ p.1 (headed (Op Sign.Comma) q y.1), F.comma p.2 y.2)))
+      (λ _ s q. says_then _ _ (always_sound n s) (λ as_ r2 y. found (
+        p.0 ++ (Op Sign.Comma ∷ y.0),
+        joins p.0 (Op Sign.Comma ∷ y.0) _ p.1 (headed (Op Sign.Comma) q y.1),
+        F.comma p.2 y.2,
+      )))
       (λ _. found (p.0, p.1, F.alone p.2)))
 
   add_first : {ts us : List Terminal} {a : A} {as_ : List A} → X ts a → F.Commas? A X us as_
@@ -70,8 +73,11 @@ module _ (A : Type 0) (X : List Terminal → A → Type 0) (one : List Terminal 
   more_sound more (suc n) i = says_then _ _ (all i) (λ a r p. says_op Sign.Comma r _ _
       (λ _ s q. says_cond (more s) _ _
       (says_then _ _ (more_sound more n s)
-          (λ as_ r2 y. found (p.0 ++ (Op Sign.Comma ∷ y.0), joins p.0 (Op Sign.Comma ∷ y.0) _ p.1 (headed (Op Sign.Comma) q y.1),
-          add_first p.2 y.2)))
+      (λ as_ r2 y. found (
+        p.0 ++ (Op Sign.Comma ∷ y.0),
+        joins p.0 (Op Sign.Comma ∷ y.0) _ p.1 (headed (Op Sign.Comma) q y.1),
+        add_first p.2 y.2,
+      )))
       (found (p.0 ++ (Op Sign.Comma ∷ []), joins p.0 (Op Sign.Comma ∷ []) _ p.1 q, F.ends_comma (F.alone p.2))))
       (λ _. found (p.0, p.1, F.ends_bare (F.alone p.2))))
 
@@ -102,18 +108,24 @@ name_sound i = says_name i _ _ (λ x s q. found (Ident x ∷ [], q, F.name)) no_
 type_param_sound : (i : List Terminal) → Says (At F.TypeParamOf i) (read_type_param plain i)
 type_param_sound i =
     says_name i _ _ (λ x s q. says_then _ _ (after_op_sound Sign.Colon Expression s)
-        (λ b r p. found (Ident x ∷ p.0, headed (Ident x) q p.1, F.type_var p.2)))
-    (says_op Sign.Star i _ _ (λ _ s q. says_name s _ _ (λ x u v. found (Op Sign.Star ∷ (Ident x ∷ []), headed (Op Sign.Star) q v,
-        F.type_var_tuple)) no_form) (λ _.
+    (λ b r p. found (Ident x ∷ p.0, headed (Ident x) q p.1, F.type_var p.2)))
+    (says_op Sign.Star i _ _ (λ _ s q. says_name s _ _ (λ x u v. found (
+      Op Sign.Star ∷ (Ident x ∷ []),
+      headed (Op Sign.Star) q v,
+      F.type_var_tuple,
+    )) no_form) (λ _.
     says_op Sign.DoubleStar i _ _
-        (λ _ s q. says_name s _ _ (λ x u v. found (Op Sign.DoubleStar ∷ (Ident x ∷ []), headed (Op Sign.DoubleStar) q v, F.param_spec))
-        no_form) (λ _. no_form)))
+    (λ _ s q. says_name s _ _ (λ x u v. found (Op Sign.DoubleStar ∷ (Ident x ∷ []), headed (Op Sign.DoubleStar) q v, F.param_spec))
+    no_form) (λ _. no_form)))
 
 pub type_params_sound : (profile : Profile) (i : List Terminal) → Says (At (F.TypeParams profile) i) (read_type_params profile plain i)
 type_params_sound profile i = says_if (has_types profile) _ _ (λ h. says_op Sign.LSqb i _ _
     (λ _ s q. says_then _ _ (more_sound TypeParam F.TypeParamOf (read_type_param plain) type_param_sound starts_type_param (suc (length s))
-        s) (λ ps r p. says_closed Sign.RSqb r ps (λ r1 v. (Op Sign.LSqb ∷ (p.0 ++ (Op Sign.RSqb ∷ [])),
-        headed (Op Sign.LSqb) q (joins p.0 (Op Sign.RSqb ∷ []) _ p.1 v), F.type_params h p.2))))
+    s) (λ ps r p. says_closed Sign.RSqb r ps (λ r1 v. (
+      Op Sign.LSqb ∷ (p.0 ++ (Op Sign.RSqb ∷ [])),
+      headed (Op Sign.LSqb) q (joins p.0 (Op Sign.RSqb ∷ []) _ p.1 v),
+      F.type_params h p.2,
+    ))))
     (λ _. found ([], refl, F.no_type_params))) (found ([], refl, F.no_type_params))
 
 type_is : (t : Terminal) (n : ℕ) → is_type t ≡ Some n → (form : Identifier) × (t ≡ type_word form)
@@ -137,7 +149,7 @@ dotted_sound : (n : ℕ) (i : List Terminal) → Says (At F.Dotted i) (dotted n 
 dotted_sound zero i = no_form
 dotted_sound (suc n) i = says_name i _ _ (λ x s q. says_op Sign.Dot s _ _
     (λ _ u v. says_then _ _ (dotted_sound n u)
-        (λ y r p. found (Ident x ∷ (Op Sign.Dot ∷ p.0), headed (Ident x) q (headed (Op Sign.Dot) v p.1), F.dot_name p.2)))
+    (λ y r p. found (Ident x ∷ (Op Sign.Dot ∷ p.0), headed (Ident x) q (headed (Op Sign.Dot) v p.1), F.dot_name p.2)))
     (λ _. found (Ident x ∷ [], q, F.one_name))) no_form
 
 pub dotted_alias_sound : (i : List Terminal) → Says (At F.DottedAlias i) (dotted_alias i)
@@ -160,20 +172,28 @@ names_sound : (i : List Terminal) → Says (At F.Names i) (read_names i)
 names_sound i =
     says_op Sign.Star i _ _ (λ _ s q. found (Op Sign.Star ∷ [], q, F.all_names)) (λ _.
     says_op Sign.LPar i _ _ (λ _ s q. says_then _ _ (more_sound Alias F.NameAlias name_alias name_alias_sound starts_name (suc (length s))
-        s) (λ as_ r1 p. says_closed Sign.RPar r1 as_ (λ r2 v. (Op Sign.LPar ∷ (p.0 ++ (Op Sign.RPar ∷ [])),
-        headed (Op Sign.LPar) q (joins p.0 (Op Sign.RPar ∷ []) _ p.1 v), F.bracketed_names p.2)))) (λ _.
+    s) (λ as_ r1 p. says_closed Sign.RPar r1 as_ (λ r2 v. (
+      Op Sign.LPar ∷ (p.0 ++ (Op Sign.RPar ∷ [])),
+      headed (Op Sign.LPar) q (joins p.0 (Op Sign.RPar ∷ []) _ p.1 v),
+      F.bracketed_names p.2,
+    )))) (λ _.
     says_is _ (always_sound Alias F.NameAlias name_alias name_alias_sound (suc (length i)) i) (λ as_ r p. (p.0, p.1, F.names p.2))))
 
 pub import_from_sound : {profile : Profile} (i : List Terminal)
     → Says (λ s r. (ts : List Terminal) × (i ≡ ts ++ r) × F.Simple profile (Word Key.From ∷ ts) s) (import_from i)
 import_from_sound i = says_then _ _ (dots_sound i) (λ n r p.
     says_word Key.Import r _ _
-        (λ _ r1 q. says_if (leb 1 n) _ _
-        (λ h. says_then _ _ (names_sound r1) (λ as_ r2 y. found (p.0 ++ (Word Key.Import ∷ y.0),
-        joins p.0 (Word Key.Import ∷ y.0) _ p.1 (headed (Word Key.Import) q y.1), F.from_dots p.2 (omega (arith, leb-true 1 n h)) y.2)))
-        no_form) (λ _.
+    (λ _ r1 q. says_if (leb 1 n) _ _
+    (λ h. says_then _ _ (names_sound r1) (λ as_ r2 y. found (
+      p.0 ++ (Word Key.Import ∷ y.0),
+      joins p.0 (Word Key.Import ∷ y.0) _ p.1 (headed (Word Key.Import) q y.1),
+      F.from_dots p.2 (omega (arith, leb-true 1 n h)) y.2,
+    )))
+    no_form) (λ _.
     says_then _ _ (dotted_sound (suc (length r)) r)
-        (λ m r1 d. says_word Key.Import r1 _ _
-        (λ _ r2 q. says_then _ _ (names_sound r2) (λ as_ r3 y. found (p.0 ++ (d.0 ++ (Word Key.Import ∷ y.0)),
-        joins p.0 (d.0 ++ (Word Key.Import ∷ y.0)) _ p.1 (joins d.0 (Word Key.Import ∷ y.0) _ d.1 (headed (Word Key.Import) q y.1)),
-        F.from_module p.2 d.2 y.2))) (λ _. no_form))))
+    (λ m r1 d. says_word Key.Import r1 _ _
+    (λ _ r2 q. says_then _ _ (names_sound r2) (λ as_ r3 y. found (
+      p.0 ++ (d.0 ++ (Word Key.Import ∷ y.0)),
+      joins p.0 (d.0 ++ (Word Key.Import ∷ y.0)) _ p.1 (joins d.0 (Word Key.Import ∷ y.0) _ d.1 (headed (Word Key.Import) q y.1)),
+      F.from_module p.2 d.2 y.2,
+    ))) (λ _. no_form))))

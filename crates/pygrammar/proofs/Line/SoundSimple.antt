@@ -98,9 +98,13 @@ sign_of _ o h = absurd (cc)
 
 value_sound : (profile : Profile) (i : List Terminal) → Says (At (F.Simple profile) i) (value_statement plain i)
 value_sound profile i = says_name_with Sign.Colon i _ _
-    (λ x u q. says_is _ (annotation_sound (Trees.Name x.form Store) true u) (λ s r y. (Ident x ∷ (Op Sign.Colon ∷ (y.0 ++ y.1)), q
-        ∙ ap (λ z. Ident x ∷ (Op Sign.Colon ∷ z)) y.4, subst (λ z. F.Simple profile (Ident x ∷ (Op Sign.Colon ∷ (y.0 ++ y.1))) z) (sym y.5)
-        (F.annotated_name y.6 y.7))))
+    (λ x u q. says_is _ (annotation_sound (Trees.Name x.form Store) true u) (λ s r y. (
+      Ident x ∷ (Op Sign.Colon ∷ (y.0 ++ y.1)),
+      q
+          ∙ ap (λ z. Ident x ∷ (Op Sign.Colon ∷ z)) y.4,
+      subst (λ z. F.Simple profile (Ident x ∷ (Op Sign.Colon ∷ (y.0 ++ y.1))) z) (sym y.5)
+          (F.annotated_name y.6 y.7),
+    )))
     (λ f. says_then _ _ (plain_sound Value i) (λ e r p. says_op Sign.Equal r _ _
     (λ _ s q. says_some (stored e) _ _ (λ t h. says_is _ (assign_sound (length i) t [] s) (λ st r2 y. (
       (p.0 ++ (Op Sign.Equal ∷ y.0)) ++ y.1,
@@ -111,21 +115,29 @@ value_sound profile i = says_name_with Sign.Colon i _ _
     (λ _. says_first augmented_sign r _ _
     (λ t o s ho q. says_some (single_stored e) _ _ (λ v h. says_then _ _ (plain_sound Value s) (λ w r2 y.
     let g = sign_of t o ho in
-    found (p.0 ++ (Op g.0 ∷ y.0), joins p.0 (Op g.0 ∷ y.0) r2 p.1 (q ∙ (ap (λ z. z ∷ s) g.1 ∙ ap (λ z. Op g.0 ∷ z) y.1)),
-        F.augmented_assign g.0 (G.single_target (to_primary v p.2 h) h) g.2 y.2))) no_form)
+    found (
+      p.0 ++ (Op g.0 ∷ y.0),
+      joins p.0 (Op g.0 ∷ y.0) r2 p.1 (q ∙ (ap (λ z. z ∷ s) g.1 ∙ ap (λ z. Op g.0 ∷ z) y.1)),
+      F.augmented_assign g.0 (G.single_target (to_primary v p.2 h) h) g.2 y.2,
+    ))) no_form)
     (λ _. says_op Sign.Colon r _ _
     (λ _ s q. says_some (single_stored e) _ _ (λ t h. says_is _ (annotation_sound t false s) (λ st r2 y.
-    let w = joins p.0 (Op Sign.Colon ∷ (y.0 ++ y.1)) r2 p.1 (headed (Op Sign.Colon) q y.4) in
-    (p.0 ++ (Op Sign.Colon ∷ (y.0 ++ y.1)), w, subst (λ z. F.Simple profile (p.0 ++ (Op Sign.Colon ∷ (y.0 ++ y.1))) z) (sym y.5)
-        (annotated profile r2 f w (to_primary t p.2 h) h y.6 y.7)))) no_form)
+    let w = joins p.0 (Op Sign.Colon ∷ (y.0 ++ y.1)) r2 p.1 (headed (Op Sign.Colon) q y.4) in (
+      p.0 ++ (Op Sign.Colon ∷ (y.0 ++ y.1)),
+      w,
+      subst (λ z. F.Simple profile (p.0 ++ (Op Sign.Colon ∷ (y.0 ++ y.1))) z) (sym y.5)
+          (annotated profile r2 f w (to_primary t p.2 h) h y.6 y.7),
+    ))) no_form)
     (λ _. found (p.0, p.1, F.value p.2))))))
 
 alias_sound : (profile : Profile) (form : Identifier) (x : Spelled) (i r : List Terminal) → has_types profile ≡ true
     → i ≡ type_word form ∷ (Ident x ∷ r) → Says (At (F.Simple profile) i) (alias_rest profile plain x.form r)
 alias_sound profile form x i r h q = says_then _ _ (type_params_sound profile r) (λ ps r1 p. says_op Sign.Equal r1 _ _
-    (λ _ r2 v. says_then _ _ (plain_sound Expression r2) (λ e r3 y. found (type_word form ∷ (Ident x ∷ (p.0 ++ (Op Sign.Equal ∷ y.0))),
-        headed (type_word form) q (headed (Ident x) refl (joins p.0 (Op Sign.Equal ∷ y.0) r3 p.1 (headed (Op Sign.Equal) v y.1))),
-        F.type_alias h p.2 y.2)))
+    (λ _ r2 v. says_then _ _ (plain_sound Expression r2) (λ e r3 y. found (
+      type_word form ∷ (Ident x ∷ (p.0 ++ (Op Sign.Equal ∷ y.0))),
+      headed (type_word form) q (headed (Ident x) refl (joins p.0 (Op Sign.Equal ∷ y.0) r3 p.1 (headed (Op Sign.Equal) v y.1))),
+      F.type_alias h p.2 y.2,
+    )))
     (λ _. no_form))
 
 first_sound : (profile : Profile) (i : List Terminal)
@@ -139,7 +151,7 @@ raise_sound : (profile : Profile) (r : List Terminal) → Says (At (F.Simple pro
     (statement profile plain (Word Key.Raise ∷ r))
 raise_sound profile r = says_cond (starts (Of Expression) r) _ _
     (says_then _ _ (plain_sound Expression r) (λ e r1 p. says_then _ _ (after_word_sound Key.From Expression r1)
-        (λ c r2 y. found (Word Key.Raise ∷ (p.0 ++ y.0), headed (Word Key.Raise) refl (joins p.0 y.0 r2 p.1 y.1), F.raise_of p.2 y.2))))
+    (λ c r2 y. found (Word Key.Raise ∷ (p.0 ++ y.0), headed (Word Key.Raise) refl (joins p.0 y.0 r2 p.1 y.1), F.raise_of p.2 y.2))))
     (found (Word Key.Raise ∷ [], refl, F.raise_alone))
 
 pub statement_sound : (profile : Profile) (i : List Terminal) → Says (At (F.Simple profile) i) (statement profile plain i)
@@ -181,5 +193,8 @@ statements_sound profile (suc n) i = says_then _ _ (statement_sound profile i) (
     behind_semi s r p [] q k = found (p.0 ++ (Op Sign.Semi ∷ []), joins p.0 (Op Sign.Semi ∷ []) [] p.1 q, F.ended_simple p.2)
     behind_semi s r p (t ∷ u) q k =
         says_then _ _ (k tt)
-        (λ ss r2 y. found (p.0 ++ (Op Sign.Semi ∷ y.0), joins p.0 (Op Sign.Semi ∷ y.0) r2 p.1 (headed (Op Sign.Semi) q y.1),
-        F.more_simples p.2 y.2))
+        (λ ss r2 y. found (
+          p.0 ++ (Op Sign.Semi ∷ y.0),
+          joins p.0 (Op Sign.Semi ∷ y.0) r2 p.1 (headed (Op Sign.Semi) q y.1),
+          F.more_simples p.2 y.2,
+        ))

@@ -196,7 +196,7 @@ simples_return (F.last_simple {s = s} p) n = F.last_simple (simple_returns p (no
 simples_return (F.ended_simple {s = s} p) n = F.ended_simple (simple_returns p (none (is_alias s) (first (not (is_alias s)) true n)))
 simples_return (F.more_simples {s = s} {ss = ss} p c) n =
     F.more_simples (simple_returns p (none (is_alias s) (first (not (is_alias s)) (untyped_statements ss) n)))
-        (simples_return c (second (not (is_alias s)) (untyped_statements ss) n))
+    (simples_return c (second (not (is_alias s)) (untyped_statements ss) n))
 
 header_returns : {extent : Extent} {ts : List Terminal} {h : Header} → F.HeaderOf (python Py312 extent) ts h → untyped_header h ≡ true
     → F.HeaderOf (python Py311 extent) ts h
@@ -221,7 +221,7 @@ form_returns (F.decorator_line p) n = F.decorator_line p
 form_returns (F.header_line p) n = F.header_line (header_returns p n)
 form_returns (F.header_suite {h = h} {ss = ss} p c) n =
     F.header_suite (header_returns p (first (untyped_header h) (untyped_statements ss) n))
-        (simples_return c (second (untyped_header h) (untyped_statements ss) n))
+    (simples_return c (second (untyped_header h) (untyped_statements ss) n))
 form_returns (F.match_line form w p) n = F.match_line form w p
 
 place_returns : {extent : Extent} {inside : Bool} {ts : List Terminal} {f : Form} → F.FormAt (python Py312 extent) inside ts f

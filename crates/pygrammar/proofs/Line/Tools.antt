@@ -79,7 +79,7 @@ value_front {ts} {e} p r w g =
     let i = ts ++ r in
     let d : ℕ = length (ts ++ r) in
     unroll d Value i ∙ (pass_word Key.Yield ts r _ _ (omega (arith, led p))
-        ∙ (unroll d Stars i ∙ stars_step (read (suc d)) (read d) i r e (reads_front p r w) g))
+    ∙ (unroll d Stars i ∙ stars_step (read (suc d)) (read d) i r e (reads_front p r w) g))
 
 pub if_any_goes : {l : Level} {ts : List Terminal} {e : Option Expr} → F.Perhaps l ts e → (r : List Terminal) → Stops l r
     → lead_of r < first l → if_any plain l (ts ++ r) ≡ Found e r
@@ -128,11 +128,16 @@ module _ (A : Type 0) (X : List Terminal → A → Type 0) (one : List Terminal 
   commas_loop zero c z r t g h = absurd (omega (arith, h))
   commas_loop (suc m) (F.alone {ts = ts} {a = a} x) z r t g h = thus _ _ (goes ts a x z g) (commas_last a m t)
   commas_loop (suc m) (F.comma {ts = ts} {us = us} {a = a} x c) z r t g h =
-      let l : length (us ++ z) < m = omega (arith, h, length-append (ts ++ (Op Sign.Comma ∷ us)) z,
-          length-append ts (Op Sign.Comma ∷ us), length-append us z) in
+      let l : length (us ++ z) < m = omega (
+        arith,
+        h,
+        length-append (ts ++ (Op Sign.Comma ∷ us)) z,
+        length-append ts (Op Sign.Comma ∷ us),
+        length-append us z,
+      ) in
       ap (commas one more (suc m)) (append_assoc ts (Op Sign.Comma ∷ us) z)
-          ∙ thus _ _ (goes ts a x (Op Sign.Comma ∷ (us ++ z)) (separable (us ++ z)))
-          (when _ _ _ (commas_begin c z) (thus _ _ (commas_loop m c z r t g l) refl))
+      ∙ thus _ _ (goes ts a x (Op Sign.Comma ∷ (us ++ z)) (separable (us ++ z)))
+      (when _ _ _ (commas_begin c z) (thus _ _ (commas_loop m c z r t g l) refl))
 
   pub commas_goes : {ts : List Terminal} {as_ : List A} → F.Commas A X ts as_ → (r : List Terminal) → peek (is_op Sign.Comma) r ≡ None
       → good r → commas_of one more (ts ++ r) ≡ Found as_ r

@@ -44,8 +44,8 @@ type_params_goes profile F.no_type_params r m = either (has_types profile)
 type_params_goes profile (F.type_params {ts = ts} h c) r m =
     let read = commas_of (read_type_param plain) starts_type_param in
     when _ _ _ h (thus (read ((ts ++ (Op Sign.RSqb ∷ [])) ++ r)) _ (ap read (append_assoc ts (Op Sign.RSqb ∷ []) r)
-        ∙ commas?_goes TypeParam F.TypeParamOf (read_type_param plain) starts_type_param Behind type_param_goes type_param_starts
-        (λ r. (omega arith, refl)) c (Op Sign.RSqb ∷ r) refl refl (omega arith, refl)) refl)
+    ∙ commas?_goes TypeParam F.TypeParamOf (read_type_param plain) starts_type_param Behind type_param_goes type_param_starts
+    (λ r. (omega arith, refl)) c (Op Sign.RSqb ∷ r) refl refl (omega arith, refl)) refl)
 
 pub alias_goes : (profile : Profile) (form : Identifier) (x : Spelled) {ts us : List Terminal} {ps : List TypeParam} {e : Expr}
     → has_types profile ≡ true → F.TypeParams profile ts ps → G.Derives Expression us e → (r : List Terminal) → Ends r

@@ -101,10 +101,10 @@ pub expression_goes : (profile : Profile) {ts : List Terminal} {e : Expr} → G.
 expression_goes profile {ts} {e} p r w =
     let h = front p r (value_stops w) in
     by_value profile ts r r e (omega (arith, led p)) h (ends_miss name_in refl w)
-        ∙ (unannotated (ts ++ r) r e h (λ q. omega (arith, ends_grip w, q))
-        ∙ (loop_ends (length (ts ++ r)) [] (ts ++ r) r e h (ends_miss (is_op Sign.Equal) refl w)
-        ∙ (missed augmented_sign r _ _ (ends_miss augmented_sign refl w)
-        ∙ missed (is_op Sign.Colon) r _ _ (ends_miss (is_op Sign.Colon) refl w))))
+    ∙ (unannotated (ts ++ r) r e h (λ q. omega (arith, ends_grip w, q))
+    ∙ (loop_ends (length (ts ++ r)) [] (ts ++ r) r e h (ends_miss (is_op Sign.Equal) refl w)
+    ∙ (missed augmented_sign r _ _ (ends_miss augmented_sign refl w)
+    ∙ missed (is_op Sign.Colon) r _ _ (ends_miss (is_op Sign.Colon) refl w))))
 
 -- assignments
 stars_value : {ts : List Terminal} {e : Expr} → G.Derives Stars ts e → G.Derives Value ts e
@@ -129,9 +129,14 @@ targets_goes (suc n) (F.last_target {ts = ts} (G.target {s = s} p q)) i r e h m 
     last (suc n) k = loop_ends n _ i r e h m
 targets_goes (suc n) (F.more_targets {ts = ts} {us = us} {es = es} (G.target {s = s} p q) c) i r e h m acc l =
     ap (value_loop plain (suc n) acc) (append_assoc ts (Op Sign.Equal ∷ us) i)
-        ∙ (one_target p q n acc (us ++ i)
-        ∙ (targets_goes n c i r e h m (acc ++ (s ∷ [])) (omega (arith, l, length-append (ts ++ (Op Sign.Equal ∷ us)) i,
-        length-append ts (Op Sign.Equal ∷ us), length-append us i)) ∙ ap (λ z. end_value plain z e r) (append_assoc acc (s ∷ []) es)))
+    ∙ (one_target p q n acc (us ++ i)
+    ∙ (targets_goes n c i r e h m (acc ++ (s ∷ [])) (omega (
+      arith,
+      l,
+      length-append (ts ++ (Op Sign.Equal ∷ us)) i,
+      length-append ts (Op Sign.Equal ∷ us),
+      length-append us i,
+    )) ∙ ap (λ z. end_value plain z e r) (append_assoc acc (s ∷ []) es)))
 
 -- the first target
 module _ {ts : List Terminal} {e : Expr} (p : G.Derives Stars ts e) (us i : List Terminal) where
@@ -158,9 +163,9 @@ assign_goes profile {ts} {us} {es} {e} c p r w =
     let i = us ++ r in
     let f = first_target c i in
     ap (statement profile plain) (append_assoc ts us r) ∙ (by_value profile ts i (Op Sign.Equal ∷ f.1) f.0 f.3 f.2 refl
-        ∙ (unannotated (ts ++ i) (Op Sign.Equal ∷ f.1) f.0 f.2 (λ q. omega (arith, q))
-        ∙ (targets_goes (suc (length (ts ++ i))) c i r e (front p r (value_stops w)) (ends_miss (is_op Sign.Equal) refl w) []
-        (omega arith) ∙ assigned c e r)))
+    ∙ (unannotated (ts ++ i) (Op Sign.Equal ∷ f.1) f.0 f.2 (λ q. omega (arith, q))
+    ∙ (targets_goes (suc (length (ts ++ i))) c i r e (front p r (value_stops w)) (ends_miss (is_op Sign.Equal) refl w) []
+    (omega arith) ∙ assigned c e r)))
 
 -- augmented ones
 plain_sign : (x : Exact) (o : Operator) → augmented x ≡ Some o → (grip (Op x) ≡ 0) × (is_op Sign.Equal (Op x) ≡ None)
@@ -187,12 +192,12 @@ augmented_goes profile {ts} {us} x {o} {t} {e} (G.single_target {e = f} p q) a v
     let s = plain_sign x o a in
     let h = value_front (item_of p) z (omega (arith, s.0)) (λ k. omega (arith, s.0, k)) in
     ap (statement profile plain) (append_assoc ts (Op x ∷ us) r) ∙ (by_value profile ts z z f (omega (arith, led p)) h refl
-        ∙ (unannotated (ts ++ z) z f h (λ k. omega (arith, s.0, k)) ∙ (loop_ends (length (ts ++ z)) [] (ts ++ z) z f h s.1
+    ∙ (unannotated (ts ++ z) z f h (λ k. omega (arith, s.0, k)) ∙ (loop_ends (length (ts ++ z)) [] (ts ++ z) z f h s.1
     ∙ (ap (λ b. on_some b (λ o. on_some (single_stored f) (λ t. and_then (plain Value (us ++ r)) (λ v r2. Found (AugAssign t o v) r2))
-        NoForm) (on_first (is_op Sign.Colon) z (λ _ r1. on_some (single_stored f) (λ t. annotation plain t false r1) NoForm)
-        (Found (ExprOf f) z))) a
+    NoForm) (on_first (is_op Sign.Colon) z (λ _ r1. on_some (single_stored f) (λ t. annotation plain t false r1) NoForm)
+    (Found (ExprOf f) z))) a
     ∙ (ap (λ b. on_some b (λ t. and_then (plain Value (us ++ r)) (λ v r2. Found (AugAssign t o v) r2)) NoForm) q
-        ∙ thus _ _ (front v r (value_stops w)) refl)))))
+    ∙ thus _ _ (front v r (value_stops w)) refl)))))
 
 -- annotated ones
 annotation_goes : {us vs : List Terminal} {a : Expr} {v : Option Expr} (t : Expr) (b : Bool) → G.Derives Expression us a
@@ -208,7 +213,7 @@ pub name_annotated_goes : (profile : Profile) {us vs : List Terminal} {a : Expr}
 name_annotated_goes profile {us} {vs} x p q r w =
     let i = Op Sign.Colon ∷ ((us ++ vs) ++ r) in
     no_type profile (Ident x ∷ i) i (Trees.Name x.form Load) refl refl (alias_rest profile plain) (value_statement plain (Ident x ∷ i))
-        ∙ annotation_goes (Trees.Name x.form Store) true p q r w
+    ∙ annotation_goes (Trees.Name x.form Store) true p q r w
 
 -- a target that is no NAME alone
 annotated_goes : (profile : Profile) (r : List Terminal) {ts us vs : List Terminal} {f t a : Expr} {v : Option Expr}
@@ -221,7 +226,7 @@ annotated_goes profile r {ts} {us} {vs} {f} {t} p q n k b w =
     let z = Op Sign.Colon ∷ ((us ++ vs) ++ r) in
     let h = value_front (item_of p) z (omega arith) (λ k. omega (arith, k)) in
     by_value profile ts z z f (omega (arith, led p)) h refl
-        ∙ (miss_name_with Sign.Colon (ts ++ z) _ _ n ∙ (loop_ends (length (ts ++ z)) [] (ts ++ z) z f h refl
+    ∙ (miss_name_with Sign.Colon (ts ++ z) _ _ n ∙ (loop_ends (length (ts ++ z)) [] (ts ++ z) z f h refl
     ∙ (ap (λ b. on_some b (λ t. annotation plain t false y) NoForm) q ∙ annotation_goes t false k b r w)))
 
 found_tree : (a b : Expr) (r s : List Terminal) → ◌≡◌ {A = Answer Expr} (Found a r) (Found b s) → a ≡ b

@@ -52,8 +52,13 @@ bracketed_sound : (i : List Terminal) → Says (BracketedAt i) (bracketed plain 
 bracketed_sound i = says_op Sign.LPar i _ _
     (λ _ s q. says_then _ _ (more_sound Trees.Item F.ItemOf (read_item plain) item_sound (starts (Of Expression)) (suc (length s)) s)
     (λ is r1 p. says_op Sign.RPar r1 _ _
-    (λ _ r2 v. says_op Sign.Colon r2 _ _ (λ _ z w. found (Op Sign.LPar ∷ (p.0 ++ (Op Sign.RPar ∷ [])), z,
-    headed (Op Sign.LPar) q (joins p.0 (Op Sign.RPar ∷ []) _ p.1 v), w, F.bracketed p.2)) (λ _. no_form)) (λ _. no_form))) (λ _. no_form)
+    (λ _ r2 v. says_op Sign.Colon r2 _ _ (λ _ z w. found (
+      Op Sign.LPar ∷ (p.0 ++ (Op Sign.RPar ∷ [])),
+      z,
+      headed (Op Sign.LPar) q (joins p.0 (Op Sign.RPar ∷ []) _ p.1 v),
+      w,
+      F.bracketed p.2,
+    )) (λ _. no_form)) (λ _. no_form))) (λ _. no_form)
 
 -- ---- The plain reader of brackets always comes to an answer.
 abbrev Calm : {A : Type 0} → Answer A → Type 0
@@ -158,16 +163,28 @@ split (F.comma {us = vs} (F.item_as {ts = ts} {us = us} p t) c) =
     inr (ts, _, us ++ (Op Sign.Comma ∷ vs), append_assoc ts (Word Key.As ∷ us) (Op Sign.Comma ∷ vs), one p)
 split (F.comma {ts = ts} {us = vs} (F.bare_item p) c) = elim (split c) [
   | inl u ↦ inl (_, more p u.1)
-  | inr u ↦ inr (ts ++ (Op Sign.Comma ∷ u.0), _, u.2, ap (λ z. ts ++ (Op Sign.Comma ∷ z)) u.3
-      ∙ sym (append_assoc ts (Op Sign.Comma ∷ u.0) (Word Key.As ∷ u.2)), more p u.4)
+  | inr u ↦ inr (
+    ts ++ (Op Sign.Comma ∷ u.0),
+    _,
+    u.2,
+    ap (λ z. ts ++ (Op Sign.Comma ∷ z)) u.3
+        ∙ sym (append_assoc ts (Op Sign.Comma ∷ u.0) (Word Key.As ∷ u.2)),
+    more p u.4,
+  )
 ]
 
 split_all : {vs : List Terminal} {is : List Trees.Item} → F.Commas? Trees.Item F.ItemOf vs is → Grouped vs ⊎ HasAs vs
 split_all (F.ends_bare c) = elim (split c) [ inl u ↦ inl (run_grouped u.1) | inr u ↦ inr u ]
 split_all (F.ends_comma c) = elim (split c) [
   | inl u ↦ inl (ended_grouped u.1)
-  | inr u ↦ inr (u.0, u.1, u.2 ++ (Op Sign.Comma ∷ []), ap (λ z. z ++ (Op Sign.Comma ∷ [])) u.3
-      ∙ append_assoc u.0 (Word Key.As ∷ u.2) (Op Sign.Comma ∷ []), u.4)
+  | inr u ↦ inr (
+    u.0,
+    u.1,
+    u.2 ++ (Op Sign.Comma ∷ []),
+    ap (λ z. z ++ (Op Sign.Comma ∷ [])) u.3
+        ∙ append_assoc u.0 (Word Key.As ∷ u.2) (Op Sign.Comma ∷ []),
+    u.4,
+  )
 ]
 
 -- with an `as` nothing is read
@@ -179,19 +196,23 @@ round_fails : {ws : List Terminal} {es : List Entry} → Run ws es → (y : List
     → (n : ℕ) × ((d : ℕ) → n ≤ d → round (read (suc d)) (ws ++ (Word Key.As ∷ y)) ≡ NoForm)
 round_fails (one {ts = ts} {e = e} p) y =
     let a = goes (elem p) in
-    let z = Word Key.As ∷ y in
-    (a.0, λ d h. pass_op Sign.RPar ts z _ _ (omega (arith, led p)) ∙ (pass_word Key.Yield ts z _ _ (omega (arith, led p))
-        ∙ thus _ _ (answers Elem ts e d z (a.1 d h) (omega arith)) (pass_op Sign.Star ts z _ _ (omega (arith, led p)))))
+    let z = Word Key.As ∷ y in (
+      a.0,
+      λ d h. pass_op Sign.RPar ts z _ _ (omega (arith, led p)) ∙ (pass_word Key.Yield ts z _ _ (omega (arith, led p))
+          ∙ thus _ _ (answers Elem ts e d z (a.1 d h) (omega arith)) (pass_op Sign.Star ts z _ _ (omega (arith, led p)))),
+    )
 round_fails (more {ts = ts} {us = us} {e = e} p c) y =
     let a = goes (elem p) in
     let b = listing_all (run_listing c) in
     let z = Op Sign.Comma ∷ (us ++ (Word Key.As ∷ y)) in
-    let j = us ++ (Word Key.As ∷ y) in
-    (max a.0 b.0, λ d h. ap (round (read (suc d))) (append_assoc ts (Op Sign.Comma ∷ us) (Word Key.As ∷ y))
-        ∙ (pass_op Sign.RPar ts z _ _ (omega (arith, led p)) ∙ (pass_word Key.Yield ts z _ _ (omega (arith, led p))
-        ∙ thus _ _ (answers Elem ts e d z (a.1 d (omega (arith, h))) (omega arith)) (thus (listing_of (read (suc d)) (Of Elem) [] j) _
-        (b.1 d (omega (arith, h)) (λ r. omega arith) (Word Key.As ∷ y) (refl, (λ q. absurd (omega (arith, q))), omega arith) (length j)
-        (omega arith) []) refl))))
+    let j = us ++ (Word Key.As ∷ y) in (
+      max a.0 b.0,
+      λ d h. ap (round (read (suc d))) (append_assoc ts (Op Sign.Comma ∷ us) (Word Key.As ∷ y))
+          ∙ (pass_op Sign.RPar ts z _ _ (omega (arith, led p)) ∙ (pass_word Key.Yield ts z _ _ (omega (arith, led p))
+          ∙ thus _ _ (answers Elem ts e d z (a.1 d (omega (arith, h))) (omega arith)) (thus (listing_of (read (suc d)) (Of Elem) [] j) _
+          (b.1 d (omega (arith, h)) (λ r. omega arith) (Word Key.As ∷ y) (refl, (λ q. absurd (omega (arith, q))), omega arith) (length j)
+          (omega arith) []) refl))),
+    )
 
 expression_fails : (d : ℕ) (j : List Terminal) → round (read d) j ≡ NoForm → read (suc d) Expression (Op Sign.LPar ∷ j) ≡ NoForm
 expression_fails d j h = fails _ _ (fails _ _ (fails _ _ h))
@@ -255,13 +276,33 @@ as_colon q = absurd (cc)
 
 first_expression : {ts : List Terminal} {is : List Trees.Item} → F.Commas Trees.Item F.ItemOf ts is → (y : List Terminal) → FirstOf ts y
 first_expression (F.alone (F.bare_item {ts = ts} p)) y = (ts, _, Op Sign.Colon ∷ y, p, refl, omega arith, λ w q. refl)
-first_expression (F.alone (F.item_as {ts = ts} {us = us} p t)) y = (ts, _, Word Key.As ∷ (us ++ (Op Sign.Colon ∷ y)), p,
-    append_assoc ts (Word Key.As ∷ us) (Op Sign.Colon ∷ y), omega arith, λ w q. absurd (no_colon (Word Key.As) _ w as_colon q))
-first_expression (F.comma {us = vs} (F.bare_item {ts = ts} p) c) y = (ts, _, Op Sign.Comma ∷ (vs ++ (Op Sign.Colon ∷ y)), p,
-    append_assoc ts (Op Sign.Comma ∷ vs) (Op Sign.Colon ∷ y), omega arith, λ w q. absurd (no_colon (Op Sign.Comma) _ w comma_colon q))
-first_expression (F.comma {us = vs} (F.item_as {ts = ts} {us = us} p t) c) y =
-    (ts, _, Word Key.As ∷ (us ++ (Op Sign.Comma ∷ (vs ++ (Op Sign.Colon ∷ y)))), p, shape ts us vs (Op Sign.Colon ∷ y), omega arith,
-    λ w q. absurd (no_colon (Word Key.As) _ w as_colon q))
+first_expression (F.alone (F.item_as {ts = ts} {us = us} p t)) y = (
+  ts,
+  _,
+  Word Key.As ∷ (us ++ (Op Sign.Colon ∷ y)),
+  p,
+  append_assoc ts (Word Key.As ∷ us) (Op Sign.Colon ∷ y),
+  omega arith,
+  λ w q. absurd (no_colon (Word Key.As) _ w as_colon q),
+)
+first_expression (F.comma {us = vs} (F.bare_item {ts = ts} p) c) y = (
+  ts,
+  _,
+  Op Sign.Comma ∷ (vs ++ (Op Sign.Colon ∷ y)),
+  p,
+  append_assoc ts (Op Sign.Comma ∷ vs) (Op Sign.Colon ∷ y),
+  omega arith,
+  λ w q. absurd (no_colon (Op Sign.Comma) _ w comma_colon q),
+)
+first_expression (F.comma {us = vs} (F.item_as {ts = ts} {us = us} p t) c) y = (
+  ts,
+  _,
+  Word Key.As ∷ (us ++ (Op Sign.Comma ∷ (vs ++ (Op Sign.Colon ∷ y)))),
+  p,
+  shape ts us vs (Op Sign.Colon ∷ y),
+  omega arith,
+  λ w q. absurd (no_colon (Word Key.As) _ w as_colon q),
+)
   where
     shape : (ts us vs y : List Terminal) → ((ts ++ (Word Key.As ∷ us)) ++ (Op Sign.Comma ∷ vs)) ++ y ≡ ts ++
         (Word Key.As ∷ (us ++ (Op Sign.Comma ∷ (vs ++ y))))
@@ -282,7 +323,7 @@ no_brackets {ts} c n y = go (bracketed plain (ts ++ (Op Sign.Colon ∷ y))) refl
     go : (a : Answer (List Trees.Item)) → bracketed plain (ts ++ (Op Sign.Colon ∷ y)) ≡ a → a ≡ NoForm
     go (Found os r) q =
         let s : BracketedAt (ts ++ (Op Sign.Colon ∷ y)) os r =
-            says_found os r (subst (Says (BracketedAt (ts ++ (Op Sign.Colon ∷ y)))) q (bracketed_sound (ts ++ (Op Sign.Colon ∷ y)))) in
+        says_found os r (subst (Says (BracketedAt (ts ++ (Op Sign.Colon ∷ y)))) q (bracketed_sound (ts ++ (Op Sign.Colon ∷ y)))) in
         absurd (n os (subst (λ z. F.Bracketed z os) (brackets_fit y s.1 c s.4 (s.2 ∙ ap (λ z. s.0 ++ z) s.3)) s.4))
     go NoForm q = refl
     go TooDeep q = absurd (bracketed_calm (ts ++ (Op Sign.Colon ∷ y)) q)
@@ -311,9 +352,12 @@ read_items_sound i = go (bracketed plain i) refl (bracketed_sound i)
     go (Found os r) q s = let p = says_found os r s in found (p.0, p.2, λ z h. F.in_brackets p.4)
     go TooDeep q s = deep
     go NoForm q s = says_is _ (always_sound Trees.Item F.ItemOf (read_item plain) item_sound (suc (length i)) i)
-        (λ is r p. (p.0, p.1,
-        λ z h. F.without p.2 (λ others b. bad others (Op Sign.Colon ∷ z) (sym (bracketed_goes b z)
-        ∙ (ap (bracketed plain) (ap (λ v. p.0 ++ v) (sym h) ∙ sym p.1) ∙ q)))))
+        (λ is r p. (
+          p.0,
+          p.1,
+          λ z h. F.without p.2 (λ others b. bad others (Op Sign.Colon ∷ z) (sym (bracketed_goes b z)
+              ∙ (ap (bracketed plain) (ap (λ v. p.0 ++ v) (sym h) ∙ sym p.1) ∙ q))),
+        ))
       where
         bad : (os : List Trees.Item) (r : List Terminal) → ◌≡◌ {A = Answer (List Trees.Item)} (Found os r) NoForm → ⊥
         bad os r h = absurd (cc)

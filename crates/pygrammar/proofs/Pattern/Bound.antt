@@ -49,8 +49,13 @@ class_of_height (P.class_name p h) = dotted_height p
 mutual
   tall : {l : PatternLevel} {ts : List Terminal} {p : Pattern} → P.DerivesPattern l ts p → pattern_height p ≤ suc (weight ts)
   tall (P.next p) = tall p
-  tall (P.open_sequence {ts = ts} {us = us} {es = es} p c) = omega (arith, tall p, tall_listing c, elements_low es,
-      one ts us (Op Comma) refl)
+  tall (P.open_sequence {ts = ts} {us = us} {es = es} p c) = omega (
+    arith,
+    tall p,
+    tall_listing c,
+    elements_low es,
+    one ts us (Op Comma) refl,
+  )
   tall P.star = omega arith
   tall (P.as_name {ts = ts} {p = p} {q = q} x d h) = omega (arith, tall d, as_low p q x.form h, one ts (Ident x ∷ []) (Word Key.As) refl)
   tall (P.alternatives {ts = ts} {us = us} p c) = omega (arith, tall p, tall_alternatives c, one ts us (Op VBar) refl)
@@ -60,13 +65,25 @@ mutual
   tall (P.value {ts = ts} x p) = omega (arith, class_of_height p, one ts (Ident x ∷ []) (Op Dot) refl)
   tall (P.group {ts = ts} p) = omega (arith, tall p, one ts [] (Op RPar) refl)
   tall P.empty_sequence = omega arith
-  tall (P.round_sequence {ts = ts} {us = us} {es = es} p c) = omega (arith, tall p, tall_listing c, elements_low es,
-      one ts (us ++ (Op RPar ∷ [])) (Op Comma) refl, one us [] (Op RPar) refl)
+  tall (P.round_sequence {ts = ts} {us = us} {es = es} p c) = omega (
+    arith,
+    tall p,
+    tall_listing c,
+    elements_low es,
+    one ts (us ++ (Op RPar ∷ [])) (Op Comma) refl,
+    one us [] (Op RPar) refl,
+  )
   tall (P.square_sequence {ts = ts} {es = es} c) = omega (arith, tall_listing c, elements_low es, one ts [] (Op RSqb) refl)
   tall (P.mapping {ts = ts} {es = es} {p = p} c h) = omega (arith, tall_listing c, mapped_low es p h, one ts [] (Op RBrace) refl)
   tall (P.class_pattern {ts = ts} {us = us} {e = e} {es = es} {p = p} d c h) =
-      omega (arith, class_of_height d, tall_listing c, class_low e es p h, one ts (us ++ (Op RPar ∷ [])) (Op LPar) refl,
-      one us [] (Op RPar) refl)
+      omega (
+        arith,
+        class_of_height d,
+        tall_listing c,
+        class_low e es p h,
+        one ts (us ++ (Op RPar ∷ [])) (Op LPar) refl,
+        one us [] (Op RPar) refl,
+      )
 
   tall_alternatives : {us : List Terminal} {ps : List Pattern} → P.Alternatives us ps → pattern_heights (patterns ps) ≤ suc (weight us)
   tall_alternatives (P.last_alternative p) = omega (arith, tall p)

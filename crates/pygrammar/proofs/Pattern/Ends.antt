@@ -128,8 +128,10 @@ starts_wide i (t ∷ ts) h = begins_wide i t h
 pub pass_start : {A : Type 0} (i : PatternItem) (x : Exact) (ts us : List Terminal) (hit : ℕ → List Terminal → A) (other : A)
     → begins_entry i (Op x) ≡ false → starts_entry i ts ≡ true → on_first (is_op x) (ts ++ us) hit other ≡ other
 pass_start i x [] us hit other h k = absurd (cc)
-pass_start i x (t ∷ ts) us hit other h k = elim (op_or_not x t) [ inl e ↦ absurd (differ (begins_entry i t) k (ap (begins_entry i) e ∙ h))
-    | inr q ↦ ap (λ o. on_some o (λ a. hit a (ts ++ us)) other) q ]
+pass_start i x (t ∷ ts) us hit other h k = elim (op_or_not x t) [
+  | inl e ↦ absurd (differ (begins_entry i t) k (ap (begins_entry i) e ∙ h))
+  | inr q ↦ ap (λ o. on_some o (λ a. hit a (ts ++ us)) other) q
+]
   where
     differ : (b : Bool) → b ≡ true → b ≡ false → ⊥
     differ b p q = absurd (cc)

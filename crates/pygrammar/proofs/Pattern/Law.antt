@@ -88,10 +88,13 @@ too_high d l ts p [] h w =
     let s = (whole_is (suc d) l ts p h).0 in
     (λ q k. subst (λ z. d < pattern_height z) (unique l ts p q s k) w, λ no. absurd (no p s))
 too_high d l ts p (t ∷ r) h w =
-    let s = sound (suc (length ts)) (suc d) l ts (t ∷ r) p h in
-    (λ q k. absurd (no_whole (suc d) l ts p t r h q k),
-        λ no. (omega (arith, w, bounded l s.0 p s.2, weight_most s.0, ap length s.1, length-append s.0 (t ∷ r)),
-        omega (arith, w, bounded l s.0 p s.2, ap weight s.1, weight_append s.0 (t ∷ r))))
+    let s = sound (suc (length ts)) (suc d) l ts (t ∷ r) p h in (
+      λ q k. absurd (no_whole (suc d) l ts p t r h q k),
+      λ no. (
+        omega (arith, w, bounded l s.0 p s.2, weight_most s.0, ap length s.1, length-append s.0 (t ∷ r)),
+        omega (arith, w, bounded l s.0 p s.2, ap weight s.1, weight_append s.0 (t ∷ r)),
+      ),
+    )
 
 pub meets : PatternLimitMeets
 meets d l ts = go (limited_pattern (suc d) l ts) refl
@@ -115,8 +118,11 @@ meets d l ts = go (limited_pattern (suc d) l ts) refl
     go : (x : Answer Pattern) → limited_pattern (suc d) l ts ≡ x → PatternMeets d l ts (cap_pattern d x)
     go (Found p r) h = check p r h (leb (pattern_height p) d) refl
     go NoForm h = no_pattern_at (suc d) l ts h
-    go TooDeep h = (high h, λ _. let n = long (suc (length ts)) (suc d) l ts (omega (arith, weight_most ts)) h in
-        (omega (arith, n, weight_most ts), omega (arith, n)))
+    go TooDeep h = (
+      high h,
+      λ _. let n = long (suc (length ts)) (suc d) l ts (omega (arith, weight_most ts)) h in
+          (omega (arith, n, weight_most ts), omega (arith, n)),
+    )
 
 pub limited : PatternLimitIsExact
 limited d l ts p = (

@@ -148,11 +148,11 @@ module _ (d b : ℕ) (le : b ≤ d) (self : Reads) (good : GoodTo b self) (field
   f_entry KeyPattern r w =
       fits_first entry_size (suc (weight r)) (is_op DoubleStar) (heavy_op DoubleStar) r _ _
       (λ _ u h. fits_first entry_size (suc (weight r)) name_in heavy_name u _ NoForm
-          (λ x v k. fits_cond entry_size (suc (weight r)) (is_wildcard x) NoForm (Found (Rest x) v) tt (omega (arith, h, k))) tt)
+      (λ x v k. fits_cond entry_size (suc (weight r)) (is_wildcard x) NoForm (Found (Rest x) v) tt (omega (arith, h, k))) tt)
       (fits_then height entry_size (weight r) (suc (weight r)) (read_key d self r) _ (f_key d b self good fields r (omega (arith, w)) le)
-          (λ k u h. fits_first entry_size (suc (weight r)) (is_op Colon) (heavy_op Colon) u _ NoForm
-          (λ _ v z. f_one entry_size (suc (weight r)) AsPattern v _ (omega (arith, w, h, z))
-          (λ p y q. omega (arith, h, z, q, pattern_some p))) tt))
+      (λ k u h. fits_first entry_size (suc (weight r)) (is_op Colon) (heavy_op Colon) u _ NoForm
+      (λ _ v z. f_one entry_size (suc (weight r)) AsPattern v _ (omega (arith, w, h, z))
+      (λ p y q. omega (arith, h, z, q, pattern_some p))) tt))
   f_entry ClassArgument r w = fits_first entry_size (suc (weight r)) name_in heavy_name r _ _
       (λ x u h. fits_first entry_size (suc (weight r)) (is_op Equal) (heavy_op Equal) u _ _
       (λ _ v k. f_one entry_size (suc (weight r)) AsPattern v _ (omega (arith, w, h, k)) (λ p y q. omega (arith, h, k, q))) alone) alone
@@ -253,12 +253,12 @@ module _ (d b : ℕ) (le : b ≤ d) (self : Reads) (good : GoodTo b self) (field
     f_round r w =
         fits_first pattern_height (suc (suc (weight r))) (is_op RPar) (heavy_op RPar) r _ _ (λ _ u q. omega (arith, q))
         (fits_then pattern_height pattern_height (suc (weight r)) (suc (suc (weight r))) (same StarPattern r) _
-            (equal StarPattern r w) (λ p u h.
+        (equal StarPattern r w) (λ p u h.
         f_sequence (suc (suc (weight r))) p u _ _ (omega (arith, w, h, pattern_some p))
         (λ es v q. fits_closed pattern_height (suc (suc (weight r))) RPar v (MatchSequence (a_pattern p (elements es)))
-            (omega (arith, h, q, elements_low es, entries_some es, pattern_some p)))
+        (omega (arith, h, q, elements_low es, entries_some es, pattern_some p)))
         (fits_first pattern_height (suc (suc (weight r))) (is_op Star) (heavy_op Star) r _ _ (λ _ _ _. tt)
-            (fits_closed pattern_height (suc (suc (weight r))) RPar u p (omega (arith, h))))))
+        (fits_closed pattern_height (suc (suc (weight r))) RPar u p (omega (arith, h))))))
 
     f_closed : (i : List Terminal) → weight i ≤ b → Fits pattern_height (suc (weight i)) (closed_pattern d self inner same i)
     f_closed [] w = tt

@@ -51,8 +51,11 @@ mapped_height es p h =
 class_height : (e : Expr) (es : List PatternEntry) (p : Pattern) → class_of e es ≡ Some p
     → pattern_height p ≡ suc (max (height e) (max (pattern_heights (elements es)) (pattern_heights (named_patterns es))))
 class_height e es p h =
-    omega (arith, ap pattern_height
-    (chosen (are_class_arguments false es) (MatchClass e (elements es) (named_attributes es) (named_patterns es)) p h))
+    omega (
+      arith,
+      ap pattern_height
+          (chosen (are_class_arguments false es) (MatchClass e (elements es) (named_attributes es) (named_patterns es)) p h),
+    )
 
 -- ---- The steps of the reader.
 
@@ -107,8 +110,8 @@ alternatives_finds ts us p ps f k = by_step OrPattern (ts ++ (Op VBar ∷ us)) (
     let rest = Op VBar ∷ (us ++ r) in
     ap (read_or d (capped g d) (capped_pattern g d) (capped_pattern g (suc d))) (append_assoc ts (Op VBar ∷ us) r) ∙
     alternatives_step d (capped g d) (capped_pattern g d) (capped_pattern g (suc d)) (ts ++ rest) (us ++ r) r p ps
-        (f (suc g) (suc d) rest (omega (arith, w, n, length-append us r)) (omega (arith, h)) (omega arith))
-        (k g d r (omega (arith, w, n)) (omega (arith, h)) e (suc (length (us ++ r))) (omega (arith, length-append us r)) []) h)
+    (f (suc g) (suc d) rest (omega (arith, w, n, length-append us r)) (omega (arith, h)) (omega arith))
+    (k g d r (omega (arith, w, n)) (omega (arith, h)) e (suc (length (us ++ r))) (omega (arith, length-append us r)) []) h)
 
 pub open_sequence_finds : (ts us : List Terminal) (p : Pattern) (es : List PatternEntry) → FindsPattern StarPattern ts p
     → P.PatternListing Element us es → ListingFinds Element us es
@@ -118,15 +121,15 @@ open_sequence_finds ts us p es f c k = by_step Patterns (ts ++ (Op Comma ∷ us)
     let rest = Op Comma ∷ (us ++ r) in
     ap (read_patterns d (capped g d) (capped_pattern g d) (capped_pattern g (suc d))) (append_assoc ts (Op Comma ∷ us) r) ∙
     open_sequence_step d (capped g d) (capped_pattern g d) (capped_pattern g (suc d)) (ts ++ rest) (us ++ r) r p es
-        (f (suc g) (suc d) rest (omega (arith, w, n, length-append us r)) (omega (arith, h)) (omega arith))
-        (k g d r (omega (arith, w, n)) (omega (arith, h, elements_hold c)) e (length (us ++ r)) (omega (arith, length-append us r)) []) h)
+    (f (suc g) (suc d) rest (omega (arith, w, n, length-append us r)) (omega (arith, h)) (omega arith))
+    (k g d r (omega (arith, w, n)) (omega (arith, h, elements_hold c)) e (length (us ++ r)) (omega (arith, length-append us r)) []) h)
 
 pub group_finds : (ts : List Terminal) (p : Pattern) → starts_entry ClassArgument ts ≡ true → FindsPattern StarPattern ts p
     → FindsPattern ClosedPattern (Op LPar ∷ (ts ++ (Op RPar ∷ []))) p
 group_finds ts p s f = by_closed (Op LPar ∷ (ts ++ (Op RPar ∷ []))) p (λ g d r w h e.
     ap (closed_pattern d (capped g d) (capped_pattern g d) (capped_pattern g (suc d))) (close_shape ts r (Op LPar) (Op RPar)) ∙
     group_step d (capped g d) (capped_pattern g d) (capped_pattern g (suc d)) ts r p s
-        (f g (suc d) (Op RPar ∷ r) (omega (arith, w, one_more ts [] (Op RPar))) h (omega arith)))
+    (f g (suc d) (Op RPar ∷ r) (omega (arith, w, one_more ts [] (Op RPar))) h (omega arith)))
 
 pub empty_sequence_finds : FindsPattern ClosedPattern (Op LPar ∷ (Op RPar ∷ [])) (MatchSequence no_pattern)
 empty_sequence_finds = by_closed (Op LPar ∷ (Op RPar ∷ [])) (MatchSequence no_pattern) (λ g d r w h e. refl)
@@ -140,11 +143,11 @@ round_sequence_finds ts us p es s f c k = by_closed (Op LPar ∷ (ts ++ (Op Comm
     let m = one_more us [] (Op RPar) in
     let rest = us ++ (Op RPar ∷ r) in
     ap (closed_pattern d (capped g d) (capped_pattern g d) (capped_pattern g (suc d)))
-        (close_after ts us r (Op LPar) (Op Comma) (Op RPar)) ∙
+    (close_after ts us r (Op LPar) (Op Comma) (Op RPar)) ∙
     round_step d (capped g d) (capped_pattern g d) (capped_pattern g (suc d)) ts rest r p es s
-        (f g (suc d) (Op Comma ∷ rest) (omega (arith, w, n, m, length-append us (Op RPar ∷ r))) (omega (arith, h)) (omega arith))
-        (k g d (Op RPar ∷ r) (omega (arith, w, n, m)) (omega (arith, h, elements_hold c)) (omega arith) (length rest)
-        (omega (arith, length-append us (Op RPar ∷ r))) []))
+    (f g (suc d) (Op Comma ∷ rest) (omega (arith, w, n, m, length-append us (Op RPar ∷ r))) (omega (arith, h)) (omega arith))
+    (k g d (Op RPar ∷ r) (omega (arith, w, n, m)) (omega (arith, h, elements_hold c)) (omega arith) (length rest)
+    (omega (arith, length-append us (Op RPar ∷ r))) []))
 
 pub square_sequence_finds : (ts : List Terminal) (es : List PatternEntry) → P.PatternListing Element ts es → ListingFinds Element ts es
     → FindsPattern ClosedPattern (Op LSqb ∷ (ts ++ (Op RSqb ∷ []))) (MatchSequence (elements es))
@@ -152,8 +155,8 @@ square_sequence_finds ts es c k = by_closed (Op LSqb ∷ (ts ++ (Op RSqb ∷ [])
     let rest = ts ++ (Op RSqb ∷ r) in
     ap (closed_pattern d (capped g d) (capped_pattern g d) (capped_pattern g (suc d))) (close_shape ts r (Op LSqb) (Op RSqb)) ∙
     square_step d (capped g d) (capped_pattern g d) (capped_pattern g (suc d)) rest r es
-        (k g d (Op RSqb ∷ r) (omega (arith, w, one_more ts [] (Op RSqb))) (omega (arith, h, elements_hold c)) (omega arith) (length rest)
-        (omega (arith, length-append ts (Op RSqb ∷ r))) []))
+    (k g d (Op RSqb ∷ r) (omega (arith, w, one_more ts [] (Op RSqb))) (omega (arith, h, elements_hold c)) (omega arith) (length rest)
+    (omega (arith, length-append ts (Op RSqb ∷ r))) []))
 
 pub mapping_finds : (ts : List Terminal) (es : List PatternEntry) (p : Pattern) → P.PatternListing KeyPattern ts es → mapped es ≡ Some p
     → ListingFinds KeyPattern ts es → FindsPattern ClosedPattern (Op LBrace ∷ (ts ++ (Op RBrace ∷ []))) p
@@ -161,8 +164,8 @@ mapping_finds ts es p c q k = by_closed (Op LBrace ∷ (ts ++ (Op RBrace ∷ [])
     let rest = ts ++ (Op RBrace ∷ r) in
     ap (closed_pattern d (capped g d) (capped_pattern g d) (capped_pattern g (suc d))) (close_shape ts r (Op LBrace) (Op RBrace)) ∙
     mapping_step d (capped g d) (capped_pattern g d) (capped_pattern g (suc d)) rest r es p
-        (k g d (Op RBrace ∷ r) (omega (arith, w, one_more ts [] (Op RBrace))) (omega (arith, h, mapping_holds c, mapped_height es p q))
-        (omega arith) (length rest) (omega (arith, length-append ts (Op RBrace ∷ r))) []) q)
+    (k g d (Op RBrace ∷ r) (omega (arith, w, one_more ts [] (Op RBrace))) (omega (arith, h, mapping_holds c, mapped_height es p q))
+    (omega arith) (length rest) (omega (arith, length-append ts (Op RBrace ∷ r))) []) q)
 
 pub class_pattern_finds : (ts us : List Terminal) (e : Expr) (es : List PatternEntry) (p : Pattern) → P.ClassOf ts e
     → P.PatternListing ClassArgument us es → class_of e es ≡ Some p → ListingFinds ClassArgument us es
@@ -176,5 +179,5 @@ class_pattern_finds ts us e es p q c o k = by_closed (ts ++ (Op LPar ∷ (us ++ 
     ap (closed_pattern d (capped g d) (capped_pattern g d) (capped_pattern g (suc d))) (close_behind ts us r (Op LPar) (Op RPar) ∙ b.2.0) ∙
     (class_step d (capped g d) (capped_pattern g d) (capped_pattern g (suc d)) b.0 b.1 rest e b.3 b.2.1 ∙
     arguments_step d (capped g d) (capped_pattern g d) (capped_pattern g (suc d)) rest r e es p
-        (k g d (Op RPar ∷ r) (omega (arith, w, n, m)) (omega (arith, h, v, arguments_hold c)) (omega arith) (length rest)
-        (omega (arith, length-append us (Op RPar ∷ r))) []) o))
+    (k g d (Op RPar ∷ r) (omega (arith, w, n, m)) (omega (arith, h, v, arguments_hold c)) (omega arith) (length rest)
+    (omega (arith, length-append us (Op RPar ∷ r))) []) o))

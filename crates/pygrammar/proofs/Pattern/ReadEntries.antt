@@ -94,8 +94,8 @@ pub key_pattern_finds : (ts us : List Terminal) (k : Expr) (p : Pattern) → P.K
 key_pattern_finds ts us k p q f g d r w h e =
     ap (read_entry d (capped g d) (capped_pattern g d) KeyPattern) (append_assoc ts (Op Colon ∷ us) r) ∙
     key_pattern_step d (capped g d) (capped_pattern g d) ts (us ++ r) r k p (key_starts q)
-        (key_reads q g d (Op Colon ∷ (us ++ r)) (omega (arith, w, length-append ts (Op Colon ∷ us), length-append us r)) (omega (arith, h))
-        (omega arith)) (f g d r (omega (arith, w, length-append ts (Op Colon ∷ us))) (omega (arith, h)) (omega (arith, e)))
+    (key_reads q g d (Op Colon ∷ (us ++ r)) (omega (arith, w, length-append ts (Op Colon ∷ us), length-append us r)) (omega (arith, h))
+    (omega arith)) (f g d r (omega (arith, w, length-append ts (Op Colon ∷ us))) (omega (arith, h)) (omega (arith, e)))
 
 pub rest_finds : (x : Spelled) → is_wildcard x.form ≡ false → EntryFinds KeyPattern (Op DoubleStar ∷ (Ident x ∷ [])) (Rest x.form)
 rest_finds x q g d r w h e = rest_step d (capped g d) (capped_pattern g d) x r q
@@ -105,10 +105,10 @@ unnamed_argument : (g d : ℕ) (i r : List Terminal) (p : Pattern) → length i 
     → pattern_grip_of r < 2 → (x : Spelled) (us : List Terminal) → i ≡ Ident x ∷ (Op Equal ∷ us) → ⊥
 unnamed_argument g d i r p w h k e x us q =
     let f : FindsPattern AsPattern (Ident x ∷ []) (MatchAs absent_pattern (captured x.form)) =
-        next_finds AsPattern (Ident x ∷ []) (MatchAs absent_pattern (captured x.form)) refl
-        (next_finds OrPattern (Ident x ∷ []) (MatchAs absent_pattern (captured x.form)) refl (capture_finds x)) in
+    next_finds AsPattern (Ident x ∷ []) (MatchAs absent_pattern (captured x.form)) refl
+    (next_finds OrPattern (Ident x ∷ []) (MatchAs absent_pattern (captured x.form)) refl (capture_finds x)) in
     let s = same_rest p (MatchAs absent_pattern (captured x.form)) r (Op Equal ∷ us) (sym k
-        ∙ (ap (capped_pattern g d AsPattern) q ∙ f g d (Op Equal ∷ us) (omega (arith, w, ap length q)) h (omega arith))) in
+    ∙ (ap (capped_pattern g d AsPattern) q ∙ f g d (Op Equal ∷ us) (omega (arith, w, ap length q)) h (omega arith))) in
     omega (arith, e, ap pattern_grip_of s)
   where
     same_rest : (p q : Pattern) (r s : List Terminal) → ◌≡◌ {A = Answer Pattern} (Found p r) (Found q s) → r ≡ s
@@ -119,7 +119,7 @@ pub argument_finds : (ts : List Terminal) (p : Pattern) → starts_entry ClassAr
 argument_finds ts p s f g d r w h e =
     let k = f g d r w h (omega (arith, e)) in
     argument_step d (capped g d) (capped_pattern g d) (ts ++ r) r p
-        (unnamed_argument g d (ts ++ r) r p (omega (arith, w, length-append ts r)) (omega (arith, h, pattern_some p)) k e) k
+    (unnamed_argument g d (ts ++ r) r p (omega (arith, w, length-append ts r)) (omega (arith, h, pattern_some p)) k e) k
 
 pub named_finds : (x : Spelled) (ts : List Terminal) (p : Pattern) → FindsPattern AsPattern ts p
     → EntryFinds ClassArgument (Ident x ∷ (Op Equal ∷ ts)) (Named x.form p)
@@ -171,9 +171,9 @@ entry_finds i ts us a es s f k g d r w h e (suc m) le acc =
     let rest = Op Comma ∷ (us ++ r) in
     ap (entries_loop d (capped g d) (capped_pattern g d) i (suc m) acc) (append_assoc ts (Op Comma ∷ us) r) ∙
     (entries_more d (capped g d) (capped_pattern g d) i m acc (ts ++ rest) (us ++ r) a (starts_front i ts rest s)
-        (f g d rest (omega (arith, w, n, length-append us r)) (omega (arith, h)) (omega arith)) ∙
+    (f g d rest (omega (arith, w, n, length-append us r)) (omega (arith, h)) (omega arith)) ∙
     (k g d r (omega (arith, w, n)) (omega (arith, h)) e m (omega (arith, le, n)) (acc ++ (a ∷ []))
-        ∙ ap (λ z. Found z r) (append_assoc acc (a ∷ []) es)))
+    ∙ ap (λ z. Found z r) (append_assoc acc (a ∷ []) es)))
 
 -- ---- Alternatives.
 
@@ -205,6 +205,6 @@ alternative_finds ts us p ps f k g d r w h e (suc m) le acc =
     let rest = Op VBar ∷ (us ++ r) in
     ap (λ z. alternatives_loop d (capped g d) (capped_pattern g d) (suc m) acc (Op VBar ∷ z)) (append_assoc ts (Op VBar ∷ us) r) ∙
     (alternatives_more d (capped g d) (capped_pattern g d) m acc (ts ++ rest) rest p (f g d rest (omega (arith, w, n, length-append us r))
-        (omega (arith, h)) (omega arith)) ∙
+    (omega (arith, h)) (omega arith)) ∙
     (k g d r (omega (arith, w, n)) (omega (arith, h)) e m (omega (arith, le, n)) (acc ++ (p ∷ []))
-        ∙ ap (λ z. Found z r) (append_assoc acc (p ∷ []) ps)))
+    ∙ ap (λ z. Found z r) (append_assoc acc (p ∷ []) ps)))

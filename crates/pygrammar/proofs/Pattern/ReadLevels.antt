@@ -149,7 +149,7 @@ pub value_finds : (ts : List Terminal) (e : Expr) (x : Spelled)
 value_finds ts e x p = by_closed (ts ++ (Op Dot ∷ (Ident x ∷ []))) (MatchValue (Trees.Attribute e x.form Load)) (λ g d r w h k.
     let c = class_reads p d r (omega (arith, h)) (omega (arith, k)) in
     ap (closed_pattern d (capped g d) (capped_pattern g d) (capped_pattern g (suc d))) c.2.0
-        ∙ value_step d (capped g d) (capped_pattern g d) (capped_pattern g (suc d)) c.0 x c.1 r e c.3 c.2.1 k)
+    ∙ value_step d (capped g d) (capped_pattern g d) (capped_pattern g (suc d)) c.0 x c.1 r e c.3 c.2.1 k)
 
 -- ---- A star, and `as`.
 
@@ -176,5 +176,5 @@ pub as_name_finds : (ts : List Terminal) (p q : Pattern) (x : Spelled) → Finds
 as_name_finds ts p q x f k = by_step AsPattern (ts ++ (Word Key.As ∷ (Ident x ∷ []))) q (λ g d r w h e.
     ap (read_as_pattern d (capped g d) (capped_pattern g d) (capped_pattern g (suc d))) (append_assoc ts (Word Key.As ∷ (Ident x ∷ [])) r) ∙
     as_name_step d (capped g d) (capped_pattern g d) (capped_pattern g (suc d)) (ts ++ (Word Key.As ∷ (Ident x ∷ r))) r p q x
-        (f (suc g) (suc d) (Word Key.As ∷ (Ident x ∷ r)) (omega (arith, w, length-append ts (Word Key.As ∷ (Ident x ∷ []))))
-        (omega (arith, h, as_height p x.form q k)) (omega arith)) k h)
+    (f (suc g) (suc d) (Word Key.As ∷ (Ident x ∷ r)) (omega (arith, w, length-append ts (Word Key.As ∷ (Ident x ∷ []))))
+    (omega (arith, h, as_height p x.form q k)) (omega arith)) k h)

@@ -63,15 +63,22 @@ chosen true p q h = some_is p q h
 chosen false p q h = absurd (cc)
 
 pub mapped_low : (es : List PatternEntry) (p : Pattern) → mapped es ≡ Some p → pattern_height p ≤ suc (entries_size es)
-mapped_low es p h = omega (arith,
-    ap pattern_height (chosen (is_mapping es) (MatchMapping (pattern_keys es) (key_patterns es) (rest_of es)) p h), keyed_low es)
+mapped_low es p h = omega (
+  arith,
+  ap pattern_height (chosen (is_mapping es) (MatchMapping (pattern_keys es) (key_patterns es) (rest_of es)) p h),
+  keyed_low es,
+)
 
 pub class_low : (f : Expr) (es : List PatternEntry) (p : Pattern) → class_of f es ≡ Some p
     → pattern_height p ≤ suc (max (height f) (entries_size es))
 class_low f es p h =
-    omega (arith, ap pattern_height
-    (chosen (are_class_arguments false es) (MatchClass f (elements es) (named_attributes es) (named_patterns es)) p h),
-    elements_low es, named_low es)
+    omega (
+      arith,
+      ap pattern_height
+          (chosen (are_class_arguments false es) (MatchClass f (elements es) (named_attributes es) (named_patterns es)) p h),
+      elements_low es,
+      named_low es,
+    )
 
 pub as_low : (p q : Pattern) (x : Identifier) → as_named p x ≡ Some q → pattern_height q ≡ suc (pattern_height p)
 as_low p q x h = mapped_keeps (λ y. MatchAs (present_pattern p) (Some y)) (captured x) q length pattern_height

@@ -62,8 +62,11 @@ module _ (d : ℕ) (self : Reads) (fields : SoundAt self) (inner : PatternReads)
   class_sound : (i ts s : List Terminal) (e : Expr) → i ≡ ts ++ (Op LPar ∷ s) → P.ClassOf ts e
       → Says (PatternAt ClosedPattern i) (class_arguments d self inner e s)
   class_sound i ts s e q c = says_then _ _ (entries_sound d self fields inner all ClassArgument s) (λ es r y. says_op RPar r _ _
-      (λ a u v. says_made _ u (λ p h. (ts ++ (Op LPar ∷ (y.0 ++ (Op RPar ∷ []))), rw (q, y.3, v) (simp append_assoc refl),
-          P.class_pattern c y.4 (ap (class_of e) (sym y.2) ∙ h))))
+      (λ a u v. says_made _ u (λ p h. (
+        ts ++ (Op LPar ∷ (y.0 ++ (Op RPar ∷ []))),
+        rw (q, y.3, v) (simp append_assoc refl),
+        P.class_pattern c y.4 (ap (class_of e) (sym y.2) ∙ h),
+      )))
       (λ _. no_form))
 
   dotted_pattern_sound : {f : Identifier} {ts : List Terminal} {e : Expr} (i r : List Terminal) → i ≡ ts ++ r → is_wildcard f ≡ false
@@ -73,7 +76,7 @@ module _ (d : ℕ) (self : Reads) (fields : SoundAt self) (inner : PatternReads)
       (λ _. found (Ident x ∷ [], q, capture_sound x (Some x.form) (ap (λ b. caught b x.form) h)))
   dotted_pattern_sound i r q h (P.dot_name {ts = ts} {e = e} x p) = says_op LPar r _ _
       (λ a s v. class_sound i (ts ++ (Op Dot ∷ (Ident x ∷ []))) s (Trees.Attribute e x.form Load) (q
-          ∙ ap (λ z. (ts ++ (Op Dot ∷ (Ident x ∷ []))) ++ z) v) (P.class_name (P.dot_name x p) h))
+      ∙ ap (λ z. (ts ++ (Op Dot ∷ (Ident x ∷ []))) ++ z) v) (P.class_name (P.dot_name x p) h))
       (λ _. found (ts ++ (Op Dot ∷ (Ident x ∷ [])), q, P.value x (P.class_name p h)))
 
   name_sound : (x : Spelled) (r : List Terminal) → Says (PatternAt ClosedPattern (Ident x ∷ r)) (name_pattern d self inner x.form r)
@@ -85,15 +88,20 @@ module _ (d : ℕ) (self : Reads) (fields : SoundAt self) (inner : PatternReads)
   -- ---- Brackets.
 
   square_sound : (r : List Terminal) → Says (PatternAt ClosedPattern (Op LSqb ∷ r)) (square_pattern d self inner r)
-  square_sound r = says_then _ _ (entries_sound d self fields inner all Element r) (λ es s y. says_closed RSqb s _ (λ u v.
-      (Op LSqb ∷ (y.0 ++ (Op RSqb ∷ [])), rw (y.3, v) (simp append_assoc refl),
-          subst (λ z. P.DerivesPattern ClosedPattern (Op LSqb ∷ (y.0 ++ (Op RSqb ∷ []))) (MatchSequence (elements z))) (sym y.2)
-          (P.square_sequence y.4))))
+  square_sound r = says_then _ _ (entries_sound d self fields inner all Element r) (λ es s y. says_closed RSqb s _ (λ u v. (
+    Op LSqb ∷ (y.0 ++ (Op RSqb ∷ [])),
+    rw (y.3, v) (simp append_assoc refl),
+    subst (λ z. P.DerivesPattern ClosedPattern (Op LSqb ∷ (y.0 ++ (Op RSqb ∷ []))) (MatchSequence (elements z))) (sym y.2)
+        (P.square_sequence y.4),
+  )))
 
   mapping_sound : (r : List Terminal) → Says (PatternAt ClosedPattern (Op LBrace ∷ r)) (mapping_pattern d self inner r)
   mapping_sound r = says_then _ _ (entries_sound d self fields inner all KeyPattern r) (λ es s y. says_op RBrace s _ _
-      (λ a u v. says_made _ u (λ p h. (Op LBrace ∷ (y.0 ++ (Op RBrace ∷ [])), rw (y.3, v) (simp append_assoc refl),
-          P.mapping y.4 (ap mapped (sym y.2) ∙ h))))
+      (λ a u v. says_made _ u (λ p h. (
+        Op LBrace ∷ (y.0 ++ (Op RBrace ∷ [])),
+        rw (y.3, v) (simp append_assoc refl),
+        P.mapping y.4 (ap mapped (sym y.2) ∙ h),
+      )))
       (λ _. no_form))
 
   literal_pattern_sound : (i : List Terminal) → Says (PatternAt ClosedPattern i) (literal_pattern d self inner i)
@@ -111,10 +119,12 @@ module _ (d : ℕ) (self : Reads) (fields : SoundAt self) (inner : PatternReads)
     round_sound r =
         says_op RPar r _ _ (λ a s q. found (Op LPar ∷ (Op RPar ∷ []), ap (λ z. Op LPar ∷ z) q, P.empty_sequence)) (λ _.
         says_then _ _ (whole StarPattern r) (λ e s p. says_op Comma s _ _
-        (λ a u q. says_then _ _ (entries_sound d self fields inner all Element u) (λ es r1 y. says_closed RPar r1 _ (λ r2 v.
-        (Op LPar ∷ (p.0 ++ (Op Comma ∷ (y.0 ++ (Op RPar ∷ [])))), rw (p.1, q, y.3, v) (simp append_assoc refl),
-            subst (λ z. P.DerivesPattern ClosedPattern (Op LPar ∷ (p.0 ++ (Op Comma ∷ (y.0 ++ (Op RPar ∷ [])))))
-            (MatchSequence (a_pattern e (elements z)))) (sym y.2) (P.round_sequence p.2 y.4)))))
+        (λ a u q. says_then _ _ (entries_sound d self fields inner all Element u) (λ es r1 y. says_closed RPar r1 _ (λ r2 v. (
+          Op LPar ∷ (p.0 ++ (Op Comma ∷ (y.0 ++ (Op RPar ∷ [])))),
+          rw (p.1, q, y.3, v) (simp append_assoc refl),
+          subst (λ z. P.DerivesPattern ClosedPattern (Op LPar ∷ (p.0 ++ (Op Comma ∷ (y.0 ++ (Op RPar ∷ [])))))
+              (MatchSequence (a_pattern e (elements z)))) (sym y.2) (P.round_sequence p.2 y.4),
+        ))))
         (λ _. says_op Star r _ _ (λ _ _ _. no_form) (λ f. says_closed RPar s e (λ r2 v.
         (Op LPar ∷ (p.0 ++ (Op RPar ∷ [])), rw (p.1, v) (simp append_assoc refl), P.group (starless r p.0 s e p.1 f p.2)))))))
 
@@ -156,16 +166,19 @@ module _ (d : ℕ) (self : Reads) (fields : SoundAt self) (inner same : PatternR
   read_or_sound : (i : List Terminal) → Says (LowAt (suc d) OrPattern i) (read_or d self inner same i)
   read_or_sound i = says_then _ _ (read_closed_sound i) (λ e r p. says_op VBar r _ _
       (λ a s q. says_then _ _ (alternatives_sound d self fields inner all r s q)
-          (λ es r1 y. low_cap (suc d) _ (found (p.0 ++ (Op VBar ∷ y.0), rw (p.1, q, y.1) (simp append_assoc refl),
-          P.alternatives p.2 y.2))))
+      (λ es r1 y. low_cap (suc d) _ (found (
+        p.0 ++ (Op VBar ∷ y.0),
+        rw (p.1, q, y.1) (simp append_assoc refl),
+        P.alternatives p.2 y.2,
+      ))))
       (λ _. found (one_up (suc d) OrPattern i e r p)))
 
   read_as_sound : (i : List Terminal) → Says (LowAt (suc d) AsPattern i) (read_as_pattern d self inner same i)
   read_as_sound i = says_then _ _ (read_or_sound i) (λ e r p. says_word Key.As r _ _
       (λ a s q. says_name s _ _
-          (λ x u v. low_cap (suc d) _
-          (says_made _ u (λ g h. (p.0 ++ (Word Key.As ∷ (Ident x ∷ [])), rw (p.1, q, v) (simp append_assoc refl), P.as_name x p.2 h))))
-          no_form)
+      (λ x u v. low_cap (suc d) _
+      (says_made _ u (λ g h. (p.0 ++ (Word Key.As ∷ (Ident x ∷ [])), rw (p.1, q, v) (simp append_assoc refl), P.as_name x p.2 h))))
+      no_form)
       (λ _. found (one_up (suc d) AsPattern i e r p)))
 
   read_star_sound : (i : List Terminal) → Says (LowAt (suc d) StarPattern i) (read_star d self inner same i)
@@ -176,9 +189,12 @@ module _ (d : ℕ) (self : Reads) (fields : SoundAt self) (inner same : PatternR
   read_patterns_sound : (i : List Terminal) → Says (LowAt (suc d) Patterns i) (read_patterns d self inner same i)
   read_patterns_sound i = says_then _ _ (read_star_sound i) (λ e r p. says_op Comma r _ _
       (λ a s q. says_then _ _ (entries_sound d self fields inner all Element s)
-          (λ es r1 y. low_cap (suc d) _ (found (p.0 ++ (Op Comma ∷ y.0), rw (p.1, q, y.3) (simp append_assoc refl),
-          subst (λ z. P.DerivesPattern Patterns (p.0 ++ (Op Comma ∷ y.0)) (MatchSequence (a_pattern e (elements z)))) (sym y.2)
-          (P.open_sequence p.2 y.4)))))
+      (λ es r1 y. low_cap (suc d) _ (found (
+        p.0 ++ (Op Comma ∷ y.0),
+        rw (p.1, q, y.3) (simp append_assoc refl),
+        subst (λ z. P.DerivesPattern Patterns (p.0 ++ (Op Comma ∷ y.0)) (MatchSequence (a_pattern e (elements z)))) (sym y.2)
+            (P.open_sequence p.2 y.4),
+      ))))
       (λ _. says_op Star i _ _ (λ _ _ _. no_form) (λ f. found (p.0, p.1, P.next (starless i p.0 r e p.1 f p.2), p.3))))
 
   step_sound : SoundWithin (suc d) (pattern_step d self inner same)

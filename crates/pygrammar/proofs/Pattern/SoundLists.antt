@@ -43,12 +43,15 @@ module _ (d : ℕ) (self : Reads) (fields : SoundAt self) (inner : PatternReads)
   key_pattern_sound : (i : List Terminal) → Says (EntryAt KeyPattern i) (read_entry d self inner KeyPattern i)
   key_pattern_sound i =
       says_op DoubleStar i _ _
-          (λ a s q. says_name s _ _ (λ x u v. says_choice (is_wildcard x.form) _ _ (λ _. no_form)
-          (λ h. found (Op DoubleStar ∷ (Ident x ∷ []), q ∙ ap (λ z. Op DoubleStar ∷ z) v, P.rest h))) no_form) (λ _.
+      (λ a s q. says_name s _ _ (λ x u v. says_choice (is_wildcard x.form) _ _ (λ _. no_form)
+      (λ h. found (Op DoubleStar ∷ (Ident x ∷ []), q ∙ ap (λ z. Op DoubleStar ∷ z) v, P.rest h))) no_form) (λ _.
       says_then _ _ (key_sound d self fields i)
-          (λ k r p. says_op Colon r _ _
-          (λ a s q. says_then _ _ (all AsPattern s) (λ e r1 y. found (p.0 ++ (Op Colon ∷ y.0), rw (p.1, q, y.1) (simp append_assoc refl),
-          P.key_pattern p.2 y.2))) (λ _. no_form)))
+      (λ k r p. says_op Colon r _ _
+      (λ a s q. says_then _ _ (all AsPattern s) (λ e r1 y. found (
+        p.0 ++ (Op Colon ∷ y.0),
+        rw (p.1, q, y.1) (simp append_assoc refl),
+        P.key_pattern p.2 y.2,
+      ))) (λ _. no_form)))
 
   entry_sound : (j : PatternItem) (i : List Terminal) → Says (EntryAt j i) (read_entry d self inner j i)
   entry_sound Element i = says_then _ _ (all StarPattern i) (λ e r p. found (p.0, p.1, P.element p.2))
@@ -56,7 +59,7 @@ module _ (d : ℕ) (self : Reads) (fields : SoundAt self) (inner : PatternReads)
   entry_sound ClassArgument i =
       says_name_with Equal i _ _
       (λ x u q. says_then _ _ (all AsPattern u)
-          (λ e r p. found (Ident x ∷ (Op Equal ∷ p.0), q ∙ ap (λ z. Ident x ∷ (Op Equal ∷ z)) p.1, P.named_argument p.2)))
+      (λ e r p. found (Ident x ∷ (Op Equal ∷ p.0), q ∙ ap (λ z. Ident x ∷ (Op Equal ∷ z)) p.1, P.named_argument p.2)))
       (λ _. says_then _ _ (all AsPattern i) (λ e r p. found (p.0, p.1, P.argument p.2)))
 
   entries_loop_sound : (j : PatternItem) (m : ℕ) (acc : List PatternEntry) (i : List Terminal)
@@ -65,8 +68,14 @@ module _ (d : ℕ) (self : Reads) (fields : SoundAt self) (inner : PatternReads)
   entries_loop_sound j (suc m) acc i =
       says_cond (starts_entry j i) _ _
       (says_then _ _ (entry_sound j i) (λ e r1 p. says_op Comma r1 _ _
-      (λ a s q. says_is _ (entries_loop_sound j m (acc ++ (e ∷ [])) s) (λ es r2 y. (p.0 ++ (Op Comma ∷ y.0), e ∷ y.1, y.2
-          ∙ append_assoc acc (e ∷ []) y.1, rw (p.1, q, y.3) (simp append_assoc refl), P.entry p.2 y.4)))
+      (λ a s q. says_is _ (entries_loop_sound j m (acc ++ (e ∷ [])) s) (λ es r2 y. (
+        p.0 ++ (Op Comma ∷ y.0),
+        e ∷ y.1,
+        y.2
+            ∙ append_assoc acc (e ∷ []) y.1,
+        rw (p.1, q, y.3) (simp append_assoc refl),
+        P.entry p.2 y.4,
+      )))
       (λ _. found (p.0, e ∷ [], refl, p.1, P.last_entry p.2))))
       (found ([], [], sym (append-nil acc), refl, P.no_entry))
 
@@ -75,18 +84,33 @@ module _ (d : ℕ) (self : Reads) (fields : SoundAt self) (inner : PatternReads)
 
   others_sound : (m : ℕ) (acc : List Pattern) (i : List Terminal) → Says (OthersAt acc i) (alternatives_loop d self inner m acc i)
   others_sound zero acc i =
-      found ([], [], sym (append-nil acc), refl,
-      λ ts p y. subst (λ z. P.Alternatives z (p ∷ [])) (sym (append-nil ts)) (P.last_alternative y))
+      found (
+        [],
+        [],
+        sym (append-nil acc),
+        refl,
+        λ ts p y. subst (λ z. P.Alternatives z (p ∷ [])) (sym (append-nil ts)) (P.last_alternative y),
+      )
   others_sound (suc m) acc i = says_op VBar i _ _
-      (λ a s q. says_then _ _ (all ClosedPattern s) (λ e r1 p. says_is _ (others_sound m (acc ++ (e ∷ [])) r1) (λ es r2 y.
-      (Op VBar ∷ (p.0 ++ y.0), e ∷ y.1, y.2 ∙ append_assoc acc (e ∷ []) y.1, rw (q, p.1, y.3) (simp append_assoc refl),
-          λ ts g h. P.alternative h (y.4 p.0 e p.2)))))
-      (λ _. found ([], [], sym (append-nil acc), refl, λ ts p y. subst (λ z. P.Alternatives z (p ∷ [])) (sym (append-nil ts))
-          (P.last_alternative y)))
+      (λ a s q. says_then _ _ (all ClosedPattern s) (λ e r1 p. says_is _ (others_sound m (acc ++ (e ∷ [])) r1) (λ es r2 y. (
+        Op VBar ∷ (p.0 ++ y.0),
+        e ∷ y.1,
+        y.2 ∙ append_assoc acc (e ∷ []) y.1,
+        rw (q, p.1, y.3) (simp append_assoc refl),
+        λ ts g h. P.alternative h (y.4 p.0 e p.2),
+      ))))
+      (λ _. found (
+        [],
+        [],
+        sym (append-nil acc),
+        refl,
+        λ ts p y. subst (λ z. P.Alternatives z (p ∷ [])) (sym (append-nil ts))
+            (P.last_alternative y),
+      ))
 
   -- at a `|`
   pub alternatives_sound : (i s : List Terminal) → i ≡ Op VBar ∷ s
       → Says (AlternativesAt s) (alternatives_loop d self inner (length i) [] i)
   alternatives_sound i s q = subst (λ z. Says (AlternativesAt s) (alternatives_loop d self inner (length z) [] z)) (sym q)
       (says_then _ _ (all ClosedPattern s) (λ e r p. says_is _ (others_sound (length s) (e ∷ []) r)
-          (λ ps r1 y. (p.0 ++ y.0, rw (p.1, y.3) (simp append_assoc refl), subst (P.Alternatives (p.0 ++ y.0)) (sym y.2) (y.4 p.0 e p.2)))))
+      (λ ps r1 y. (p.0 ++ y.0, rw (p.1, y.3) (simp append_assoc refl), subst (P.Alternatives (p.0 ++ y.0)) (sym y.2) (y.4 p.0 e p.2)))))

@@ -63,8 +63,11 @@ number_sound {v} {ts} {e} i r q p =
     says_choice (is_imaginary v) _ _ (λ _. found (ts, q, P.number p)) (λ real.
     says_first (left_operator Sum) r _ _
     (λ t o s h u. says_first imaginary_in s _ _
-    (λ n w s1 k v1. let z = imaginary_is n w k in found (ts ++ (t ∷ (Number w ∷ [])), rw (q, u, v1, z.0) (simp append_assoc refl),
-        P.complex t p real h z.1))
+    (λ n w s1 k v1. let z = imaginary_is n w k in found (
+      ts ++ (t ∷ (Number w ∷ [])),
+      rw (q, u, v1, z.0) (simp append_assoc refl),
+      P.complex t p real h z.1,
+    ))
     (λ _. no_form))
     (λ _. found (ts, q, P.number p)))
 
@@ -100,8 +103,8 @@ dotted_loop_sound d (suc m) f i e r p =
     says_op Dot r _ _
     (λ a s q. says_name s _ _
     (λ x u v. says_then _ _ (says_cap height d (Found (Trees.Attribute e x.form Load) u)
-        (found (p.0 ++ (Op Dot ∷ (Ident x ∷ [])), rw (p.1, q, v) (simp append_assoc refl), P.dot_name x p.2)))
-        (λ g r1 y. dotted_loop_sound d m f i g r1 y.0))
+    (found (p.0 ++ (Op Dot ∷ (Ident x ∷ [])), rw (p.1, q, v) (simp append_assoc refl), P.dot_name x p.2)))
+    (λ g r1 y. dotted_loop_sound d m f i g r1 y.0))
     no_form)
     (λ _. found p)
 

@@ -55,7 +55,7 @@ with_plain true items body = alone (list_all is_item_plain items && plainness bo
 
 try_plain : (star : Bool) (body : List Stmt) (hs : List Handler) (orelse final : List Stmt) →
     plainness body && (are_handlers_plain (handlers hs) && (plainness orelse && plainness final)) ≡ plainness
-        (try_of star body hs orelse final ∷ [])
+    (try_of star body hs orelse final ∷ [])
 try_plain false body hs orelse final = alone (plainness body && (are_handlers_plain (handlers hs) && (plainness orelse && plainness final)))
 try_plain true body hs orelse final = alone (plainness body && (are_handlers_plain (handlers hs) && (plainness orelse && plainness final)))
 
@@ -70,10 +70,10 @@ definition_plain : (es : List Expr) (head : DefHead) (body : List Stmt) → all_
     plainness (definition es head body ∷ [])
 definition_plain es (function_head false name parameters args returns) body =
     function_plain (all_plain es) (list_all is_type_param_plain parameters) (are_arguments_plain args)
-        (is_perhaps_plain returns) (plainness body)
+    (is_perhaps_plain returns) (plainness body)
 definition_plain es (function_head true name parameters args returns) body =
     function_plain (all_plain es) (list_all is_type_param_plain parameters) (are_arguments_plain args)
-        (is_perhaps_plain returns) (plainness body)
+    (is_perhaps_plain returns) (plainness body)
 definition_plain es (class_head name parameters bases keywords) body =
     class_plain (all_plain es) (list_all is_type_param_plain parameters) (all_plain bases) (are_keywords_plain keywords) (plainness body)
 
@@ -100,7 +100,7 @@ mutual
       (try_plain false body [] [] final)
   plain_statement (try_except {star = star} {body = body} {orelse = orelse} {final = final} {h = h} {hs = hs} p q o e) =
       same (both (plain_body try_header p) (both (plain_excepts q) (both (plain_otherwise o) (plain_ending e))))
-          (try_plain star body (h ∷ hs) orelse final)
+      (try_plain star body (h ∷ hs) orelse final)
   plain_statement (definition_of head {es = es} {body = body} d p) = same (both (plain_decorators d) (plain_body (def_header head) p))
       (definition_plain es head body)
   plain_statement (match_statement c) = record { is = refl }
@@ -124,7 +124,7 @@ mutual
   plain_excepts no_except = none
   plain_excepts (except_clause {star = star} {matched = matched} {name = name} {body = body} {hs = hs} p q) =
       same (both (plain_body (except_header star matched name) p) (plain_excepts q)) (and_assoc (is_perhaps_plain matched) (plainness body)
-          (are_handlers_plain (handlers hs)))
+      (are_handlers_plain (handlers hs)))
 
   plain_ending : {l : ℕ} {xs : List Line} {ss : List Stmt} → Ending l xs ss → ArePlain xs (plainness ss)
   plain_ending no_finally = none

@@ -83,4 +83,4 @@ pub called_plain : {ts : List Terminal} {es : List Entry} (f e : Expr) → G.Lis
     → is_plain f && are_entries_plain es ≡ is_plain e
 called_plain {es = es} f e c h =
     ap (λ z. is_plain f && z) (arguments_plain c)
-        ∙ ap is_plain (called_is (in_order false false es) (Trees.Call f (positional es) (keywords es)) e h)
+    ∙ ap is_plain (called_is (in_order false false es) (Trees.Call f (positional es) (keywords es)) e h)

@@ -104,7 +104,7 @@ first_plain : (g : Comprehension) (gs : List Comprehension) → is_comprehension
 first_plain g gs =
     and_assoc (is_plain g.target) (is_plain g.iter && are_plain (exprs g.ifs)) (are_comprehensions_plain (comprehensions gs))
     ∙ ap (λ z. is_plain g.target && z) (and_assoc (is_plain g.iter) (are_plain (exprs g.ifs))
-        (are_comprehensions_plain (comprehensions gs)))
+    (are_comprehensions_plain (comprehensions gs)))
 
 -- ---- Expressions.
 
@@ -130,7 +130,7 @@ mutual
   plain (G.call_generator {f = f} {e = e} {gs = gs} p q c) =
       let inner : Bool = is_plain e && are_comprehensions_plain (comprehensions gs) in
       same (both (plain p) (sign (both (plain q) (ended Sign.RPar (plain_comps c)))))
-          (ap (λ z. is_plain f && z) (alone inner ∙ alone (inner && true)))
+      (ap (λ z. is_plain f && z) (alone inner ∙ alone (inner && true)))
   plain (G.subscript p q) = both (plain p) (sign (ended Sign.RSqb (plain q)))
   plain G.name = ident none
   plain (G.constant {t = t} {v = v} h) = let w = word_plain t v h in same (front w.0 none) (sym w.1)

@@ -192,7 +192,7 @@ plain_bases : {ts : List Terminal} {es : List Expr} {ks : Keywords} → F.Bases 
 plain_bases F.no_bases = none
 plain_bases (F.bases {es = es} c h) =
     sign (ended Sign.RPar (same (plain_listing c) (arguments_plain c ∙ ap (λ z. are_plain z && are_keywords_plain (keywords es))
-        (sym (exprs_listed (positional es))))))
+    (sym (exprs_listed (positional es))))))
 
 -- in the plain language
 plain_header : {version : Version} {ts : List Terminal} {h : Header} → F.HeaderOf (python version extents.Plain) ts h
@@ -210,8 +210,8 @@ plain_header (F.except_line {e = e} p a) = word (same (both (plain p) (plain_as 
 plain_header (F.except_star {e = e} p a) = word (sign (same (both (plain p) (plain_as a)) (and-true (is_plain e))))
 plain_header (F.def_line x {ps = ps} {a = a} y g c h r) =
     both (plain_async y)
-        (word (ident (both (plain_type_params g)
-        (sign (both (same (plain_listing c) (arranged_plain ps a h)) (sign (plain_behind refl r)))))))
+    (word (ident (both (plain_type_params g)
+    (sign (both (same (plain_listing c) (arranged_plain ps a h)) (sign (plain_behind refl r)))))))
 plain_header (F.class_line g c) = word (ident (both (plain_type_params g) (plain_bases c)))
 
 plain_form : {version : Version} {ts : List Terminal} {f : Form} → F.FormOf (python version extents.Plain) ts f

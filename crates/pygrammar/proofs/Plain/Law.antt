@@ -78,7 +78,7 @@ formed_widens n formed_end = formed_end
 formed_widens {version} {earlier} n (formed_line {x = x} {f = f} h p) =
     let at : Bool → Type 0 = λ inside. F.FormAt (python version Whole) inside (terminals x) f in
     formed_line (record { is = subst at (sym (stands_in_none x.level earlier n)) (form_widens h.is); low = h.low })
-        (formed_widens (line_no_match h.is, n) p)
+    (formed_widens (line_no_match h.is, n) p)
 
 -- and those of the whole one are, where they are plain
 formed_narrows : {version : Version} {earlier : List Line} {xs : List Tokens.Line} {ys : List Line} → HaveNoMatch earlier
@@ -89,8 +89,11 @@ formed_narrows {version} {earlier} n e (formed_line {x = x} {f = f} {ys = ys} h 
     let parts = and_parts (is_form_plain f) (list_all is_line_plain ys) e in
     let none = plain_no_match f parts.0 in
     let at : Bool → Type 0 = λ inside. F.FormAt (python version Whole) inside (terminals x) f in
-    formed_line (record { is = form_narrows (stands_in_match x.level earlier) (subst at (stands_in_none x.level earlier n) h.is) none; low =
-        h.low }) (formed_narrows (none, n) parts.1 p)
+    formed_line (record {
+      is = form_narrows (stands_in_match x.level earlier) (subst at (stands_in_none x.level earlier n) h.is) none;
+      low =
+          h.low;
+    }) (formed_narrows (none, n) parts.1 p)
 
 -- ---- The law.
 

@@ -52,7 +52,7 @@ number_plain t = by (is_complex t) (is_real t) _ (whole_value t)
   where
     by : (c r : Bool) (x : ieee.Float) (n : ℕ) →
         (cond c (Some errors.Complex) (cond r (Some errors.Float) (fault_if (nat_le limit n))) ≡ None) ↔
-            (is_plain_value (cond c (Imaginary x) (cond r (Float x) (Int n))) ≡ true)
+        (is_plain_value (cond c (Imaginary x) (cond r (Float x) (Int n))) ≡ true)
     by true r x n = (λ h. absurd cc, λ h. absurd cc)
     by false true x n = (λ h. absurd cc, λ h. absurd cc)
     by false false x n = small n
@@ -107,7 +107,7 @@ plain_faultless k t p h = elim (cases_Bool (is_fstring k t)) [
   | inl formatted ↦ absurd (let e = formatted_said k t formatted h in cc)
   | inr other ↦
       let plain = and_parts (is_terminal_plain (terminal_of k t)) true
-          (sym (ap (list_all is_terminal_plain) (one_terminal k t other)) ∙ p) in
+      (sym (ap (list_all is_terminal_plain) (one_terminal k t other)) ∙ p) in
       of_single Plain k t other ∙ plain_single k t plain.0 (sym (of_single Whole k t other) ∙ h)
 ]
 

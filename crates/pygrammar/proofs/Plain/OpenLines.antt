@@ -113,7 +113,7 @@ module _ (before : List Lexeme) where
           cond_fits false (list_all (λ v. nat_lt v (width_at before)) (open_levels (widths before))) _ _ ts (refl, k)
           (cond_fits false (list_any (λ v. v == width_at before) (open_levels (widths before))) _ _ ts
           (dedents_fit (count_by (nat_lt (width_at before)) (open_levels (widths before))) (text_before before)
-              (place_after (text_before before)) false ts k k)
+          (place_after (text_before before)) false ts k k)
           tt)
 
       by : (m : Bool) → list_all is_of_blanks (line_so_far before) ≡ m
@@ -162,7 +162,7 @@ module _ (before : List Lexeme) where
       let own = entry_of before x in
       subst (Fits begun) (sym (append_assoc first own ts))
       (cond_fits begun (is_significant x) (layout before) [] (own ++ ts)
-          (layout_fits begun (own ++ ts) h (λ c i. entry_fits x c ts i ahead)) (entry_fits x begun ts h ahead))
+      (layout_fits begun (own ++ ts) h (λ c i. entry_fits x c ts i ahead)) (entry_fits x begun ts h ahead))
 
   -- ---- And at the end.
 
@@ -180,17 +180,17 @@ module _ (before : List Lexeme) where
       let marker = mark kinds.EndMarker (text_before before) (end_place before p) (end_place before p) ∷ steps.End ∷ [] in
       let closes : (begun : Bool) → Fits begun (closing ++ marker) =
       λ begun. dedents_fit (count_by (nat_lt 0) (open_levels (widths before))) (text_before before) (end_place before p) begun marker
-          (refl, refl) (refl, refl) in
+      (refl, refl) (refl, refl) in
       cond_fit begun (not (depth before == 0) || ends_in_join before) _ _ tt
       (subst (Fits begun) (sym (append_assoc (line_end_of_last before p) closing marker))
-          (last_fits p begun (closing ++ marker) (closes begun) (closes false)))
+      (last_fits p begun (closing ++ marker) (closes begun) (closes false)))
 
   stop_fits : (o : Option ListingFault) (left : List ℕ) (begun : Bool) → (begun ≡ true → is_logical before ≡ true)
       → Fits begun (stop o before left)
   unfolding stop stop_fault
   stop_fits o left begun h =
       cond_fit begun (not (length left == 0)) _ _ (layout_fits begun _ h (λ c i. is_fault c (place_after (text_before before))))
-          (by_fault o)
+      (by_fault o)
     where
       in_string : (c : Bool) (o : Option ListingFault) (p : Place)
           → Fits c (elim o [ Some f ↦ steps.Fault f | None ↦ fault_at errors.EofInString p ] ∷ [])

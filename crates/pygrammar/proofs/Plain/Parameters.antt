@@ -47,7 +47,7 @@ plain_plain : (p : Arg) (d : OptionalExpr) (a : Arguments) → are_arguments_pla
     && are_arguments_plain a
 plain_plain p d (arguments ps qs v ks kds k ds) =
     let rest : Bool → Bool =
-        λ z. is_optional_arg_plain v && (are_args_plain ks && (are_optionals_plain kds && (is_optional_arg_plain k && z))) in
+    λ z. is_optional_arg_plain v && (are_args_plain ks && (are_optionals_plain kds && (is_optional_arg_plain k && z))) in
     ap (λ z. are_args_plain ps && ((is_arg_plain p && are_args_plain qs) && rest z)) (default_plain d ds)
     ∙ move_plain (is_optional_plain d) (are_plain ds) (is_optional_arg_plain k) (are_optionals_plain kds) (are_args_plain ks)
     (is_arg_plain p) (are_args_plain ps) (are_args_plain qs) (is_optional_arg_plain v)
@@ -56,7 +56,7 @@ slash_plain : (p : Arg) (d : OptionalExpr) (a : Arguments) → are_arguments_pla
     && are_arguments_plain a
 slash_plain p d (arguments ps qs v ks kds k ds) =
     let rest : Bool → Bool =
-        λ z. is_optional_arg_plain v && (are_args_plain ks && (are_optionals_plain kds && (is_optional_arg_plain k && z))) in
+    λ z. is_optional_arg_plain v && (are_args_plain ks && (are_optionals_plain kds && (is_optional_arg_plain k && z))) in
     ap (λ z. (is_arg_plain p && are_args_plain ps) && (are_args_plain qs && rest z)) (default_plain d ds)
     ∙ move_slash (is_optional_plain d) (are_plain ds) (is_optional_arg_plain k) (are_optionals_plain kds) (are_args_plain ks)
     (is_arg_plain p) (are_args_plain ps) (are_args_plain qs) (is_optional_arg_plain v)
@@ -96,7 +96,7 @@ unfolding is_vararg_plain
 vararg_plain p (arguments ps qs v ks kds k ds) h =
     let rest : Bool = are_args_plain ks && (are_optionals_plain kds && (is_optional_arg_plain k && are_plain ds)) in
     move_vararg (are_args_plain ps) (are_args_plain qs) (is_arg_plain p) rest
-        ∙ ap (λ z. is_arg_plain p && (are_args_plain ps && (are_args_plain qs && (z && rest)))) (sym h)
+    ∙ ap (λ z. is_arg_plain p && (are_args_plain ps && (are_args_plain qs && (z && rest)))) (sym h)
 
 after_plain : (es : List Entry) → Agree es (after_star es)
 after_plain [] a h = ap are_arguments_plain (sym (some_is no_arguments a h))

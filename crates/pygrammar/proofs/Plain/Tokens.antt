@@ -79,7 +79,7 @@ entry k x p q f t = record { kind = k; exact = x; start = p; «end» = q; «from
 
 module _ (text : List ℕ) (es before : List Entry) (seen line : List Token)
     (ih : (before : List Entry) (seen line : List Token) → Fit (is_open before) es → IsEmpty (is_open before) line
-        → Said seen line (tokens_from text before es))
+    → Said seen line (tokens_from text before es))
     (h : IsEmpty (is_open before) line) where
   -- where no line is open
   none_open : (begun : Bool) → not begun ≡ true → begun ≡ false
@@ -105,7 +105,7 @@ module _ (text : List ℕ) (es before : List Entry) (seen line : List Token)
       let e = entry kinds.Dedent x p q f t in
       let u = token_of text e in
       elim (is_open before) as (λ b. IsEmpty b line
-          → Said seen line ((if b then supplied text ∷ u ∷ [] else u ∷ []) ++ tokens_from text (e ∷ before) es)) [
+      → Said seen line ((if b then supplied text ∷ u ∷ [] else u ∷ []) ++ tokens_from text (e ∷ before) es)) [
         | true ↦ λ o. ended_said line (u ∷ supplied text ∷ seen) (tokens_from text (e ∷ before) es)
             (ih (e ∷ before) (u ∷ supplied text ∷ seen) [] k (λ _. refl))
         | false ↦ λ o. ih (e ∷ before) (u ∷ seen) line k o
@@ -114,7 +114,7 @@ module _ (text : List ℕ) (es before : List Entry) (seen line : List Token)
       let e = entry kinds.EndMarker x p q f t in
       let u = token_of text e in
       elim (is_open before) as (λ b. IsEmpty b line
-          → Said seen line ((if b then supplied text ∷ u ∷ [] else u ∷ []) ++ tokens_from text (e ∷ before) es)) [
+      → Said seen line ((if b then supplied text ∷ u ∷ [] else u ∷ []) ++ tokens_from text (e ∷ before) es)) [
         | true ↦ λ o. ended_said line (u ∷ supplied text ∷ seen) (tokens_from text (e ∷ before) es)
             (ih (e ∷ before) (u ∷ supplied text ∷ seen) [] k (λ _. refl))
         | false ↦ λ o. ih (e ∷ before) (u ∷ seen) line k o
@@ -123,22 +123,22 @@ module _ (text : List ℕ) (es before : List Entry) (seen line : List Token)
       let e = entry kinds.Name x p q f t in
       let u = token_of text e in
       ih (e ∷ before) (u ∷ seen) (line ++ u ∷ []) k (open_line (line ++ u ∷ []))
-          ∙ more_said line u (list_all is_token_plain (tokens_from text (e ∷ before) es))
+      ∙ more_said line u (list_all is_token_plain (tokens_from text (e ∷ before) es))
   one kinds.Number x p q f t m k =
       let e = entry kinds.Number x p q f t in
       let u = token_of text e in
       ih (e ∷ before) (u ∷ seen) (line ++ u ∷ []) k (open_line (line ++ u ∷ []))
-          ∙ more_said line u (list_all is_token_plain (tokens_from text (e ∷ before) es))
+      ∙ more_said line u (list_all is_token_plain (tokens_from text (e ∷ before) es))
   one kinds.String x p q f t m k =
       let e = entry kinds.String x p q f t in
       let u = token_of text e in
       ih (e ∷ before) (u ∷ seen) (line ++ u ∷ []) k (open_line (line ++ u ∷ []))
-          ∙ more_said line u (list_all is_token_plain (tokens_from text (e ∷ before) es))
+      ∙ more_said line u (list_all is_token_plain (tokens_from text (e ∷ before) es))
   one kinds.Op x p q f t m k =
       let e = entry kinds.Op x p q f t in
       let u = token_of text e in
       ih (e ∷ before) (u ∷ seen) (line ++ u ∷ []) k (open_line (line ++ u ∷ []))
-          ∙ more_said line u (list_all is_token_plain (tokens_from text (e ∷ before) es))
+      ∙ more_said line u (list_all is_token_plain (tokens_from text (e ∷ before) es))
 
 all_said : (text : List ℕ) (es before : List Entry) (seen line : List Token) → Fit (is_open before) es → IsEmpty (is_open before) line
     → Said seen line (tokens_from text before es)
@@ -200,11 +200,11 @@ plain_entries text before (e ∷ es) h n =
     let own = tokens_of_entry text (is_open before) e in
     let others = tokens_from text (e ∷ before) es in
     let parts = and_parts (list_all is_token_plain own) (list_all is_token_plain others)
-        (sym (list_all-append is_token_plain own others) ∙ h) in
+    (sym (list_all-append is_token_plain own others) ∙ h) in
     let none = none_parts (entry_refusal Whole text e) (first_entry_refusal Whole text es) n in
     none_from (entry_refusal Plain text e) (first_entry_refusal Plain text es)
     (entry_plain text (is_open before) e.kind e.exact e.start e.«end» e.«from» e.to parts.0 none.0)
-        (plain_entries text (e ∷ before) es parts.1 none.1)
+    (plain_entries text (e ∷ before) es parts.1 none.1)
 
 abbrev refusal_behind : Option ListingFault → Option Refusal → Option Refusal
 refusal_behind o r = elim o [ Some f ↦ Some (refusals.Listing f) | None ↦ r ]

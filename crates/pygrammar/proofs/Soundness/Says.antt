@@ -49,8 +49,10 @@ pub says_op : {B : Type 0} {Q : B → List Terminal → Type 0} (y : Exact) (i :
     (x : Answer B) → ((a : ℕ) (s : List Terminal) → i ≡ Op y ∷ s → Says Q (k a s))
     → (((t : Terminal) (s : List Terminal) → i ≡ t ∷ s → is_op y t ≡ None) → Says Q x) → Says Q (on_first (is_op y) i k x)
 says_op {B} {Q} y i k x h g =
-    says_first (is_op y) i k x (λ t a s f q. elim (op_or_not y t) as (λ _. Says Q (k a s)) [ inl e ↦ h a s (q ∙ ap (λ z. z ∷ s) e)
-    | inr n ↦ absurd (some_none a (sym f ∙ n)) ]) g
+    says_first (is_op y) i k x (λ t a s f q. elim (op_or_not y t) as (λ _. Says Q (k a s)) [
+      | inl e ↦ h a s (q ∙ ap (λ z. z ∷ s) e)
+      | inr n ↦ absurd (some_none a (sym f ∙ n))
+    ]) g
   where
     some_none : (a : ℕ) → ◌≡◌ {A = Option ℕ} (Some a) None → ⊥
     some_none a h = absurd (cc)
@@ -59,8 +61,10 @@ pub says_word : {B : Type 0} {Q : B → List Terminal → Type 0} (y : Keyword) 
     (x : Answer B) → ((a : ℕ) (s : List Terminal) → i ≡ Word y ∷ s → Says Q (k a s))
     → (((t : Terminal) (s : List Terminal) → i ≡ t ∷ s → is_word y t ≡ None) → Says Q x) → Says Q (on_first (is_word y) i k x)
 says_word {B} {Q} y i k x h g =
-    says_first (is_word y) i k x (λ t a s f q. elim (word_or_not y t) as (λ _. Says Q (k a s)) [ inl e ↦ h a s (q ∙ ap (λ z. z ∷ s) e)
-    | inr n ↦ absurd (some_none a (sym f ∙ n)) ]) g
+    says_first (is_word y) i k x (λ t a s f q. elim (word_or_not y t) as (λ _. Says Q (k a s)) [
+      | inl e ↦ h a s (q ∙ ap (λ z. z ∷ s) e)
+      | inr n ↦ absurd (some_none a (sym f ∙ n))
+    ]) g
   where
     some_none : (a : ℕ) → ◌≡◌ {A = Option ℕ} (Some a) None → ⊥
     some_none a h = absurd (cc)

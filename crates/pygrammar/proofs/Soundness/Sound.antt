@@ -48,70 +48,111 @@ argument_named (G.argument p) = p
 module _ (self : Reads) (all : SoundAt self) where
   yield_sound : (r : List Terminal) → Says (λ e r1. (ts : List Terminal) × (r ≡ ts ++ r1) × G.Yields ts e) (yield_step self r)
   yield_sound r = says_word Key.From r _ _
-      (λ a s q. says_then _ _ (all Expression s) (λ e r1 p. found (Word Key.From ∷ p.0, q ∙ ap (λ z. Word Key.From ∷ z) p.1,
-      G.yield_from p.2))) (λ _. says_then _ _ (perhaps_sound self all Stars r) (λ e r1 p. found (p.0, p.1, G.yield_some p.2)))
+      (λ a s q. says_then _ _ (all Expression s) (λ e r1 p. found (
+        Word Key.From ∷ p.0,
+        q ∙ ap (λ z. Word Key.From ∷ z) p.1,
+        G.yield_from p.2,
+      ))) (λ _. says_then _ _ (perhaps_sound self all Stars r) (λ e r1 p. found (p.0, p.1, G.yield_some p.2)))
 
   round_sound : (r : List Terminal) → Says (Reads_as Atom (Op LPar ∷ r)) (round self r)
   round_sound r =
       says_op RPar r _ _ (λ a s q. found (Op LPar ∷ (Op RPar ∷ []), ap (λ z. Op LPar ∷ z) q, G.empty_tuple, turns s)) (λ _.
       says_word Key.Yield r _ _
-          (λ a s q. says_then _ _ (yield_sound s)
-          (λ e r1 p. says_closed RPar r1 e (λ r2 v. (Op LPar ∷ (Word Key.Yield ∷ (p.0 ++ (Op RPar ∷ []))),
-          rw (q, p.1, v) (simp append_assoc refl), G.yield_group p.2, turns r2)))) (λ _.
+      (λ a s q. says_then _ _ (yield_sound s)
+      (λ e r1 p. says_closed RPar r1 e (λ r2 v. (
+        Op LPar ∷ (Word Key.Yield ∷ (p.0 ++ (Op RPar ∷ []))),
+        rw (q, p.1, v) (simp append_assoc refl),
+        G.yield_group p.2,
+        turns r2,
+      )))) (λ _.
       says_then _ _ (all Elem r) (λ e r1 p. says_op Comma r1 _ _
       (λ a s q. says_then _ _ (listing_of_sound self all (Of Elem) s)
-          (λ es r2 y. says_closed RPar r2 _ (λ r3 v. (Op LPar ∷ (p.0 ++ (Op Comma ∷ (y.0 ++ (Op RPar ∷ [])))),
-          rw (p.1, q, y.3, v) (simp append_assoc refl),
-          subst (λ z. G.Derives Atom (Op LPar ∷ (p.0 ++ (Op Comma ∷ (y.0 ++ (Op RPar ∷ []))))) (Trees.Tuple (an_expr e (singles z)) Load))
-          (sym y.2) (G.tuple p.2 y.4), turns r3))))
+      (λ es r2 y. says_closed RPar r2 _ (λ r3 v. (
+        Op LPar ∷ (p.0 ++ (Op Comma ∷ (y.0 ++ (Op RPar ∷ [])))),
+        rw (p.1, q, y.3, v) (simp append_assoc refl),
+        subst (λ z. G.Derives Atom (Op LPar ∷ (p.0 ++ (Op Comma ∷ (y.0 ++ (Op RPar ∷ []))))) (Trees.Tuple (an_expr e (singles z)) Load))
+            (sym y.2) (G.tuple p.2 y.4),
+        turns r3,
+      ))))
       (λ _. says_op Star r _ _ (λ _ _ _. no_form) (λ f. says_if (starts_comp r1) _ _
-      (λ t. comps_closed_sound self all RPar r1 _ t (λ us gs r2 q c. (Op LPar ∷ (p.0 ++ (us ++ (Op RPar ∷ []))),
-          rw (p.1, q) (simp append_assoc refl), G.generator_group (elem_named r p.0 r1 e p.1 f p.2) c, turns r2)))
-      (says_closed RPar r1 e (λ r2 v. (Op LPar ∷ (p.0 ++ (Op RPar ∷ [])), rw (p.1, v) (simp append_assoc refl),
-          G.group (elem_named r p.0 r1 e p.1 f p.2), turns r2))))))))
+      (λ t. comps_closed_sound self all RPar r1 _ t (λ us gs r2 q c. (
+        Op LPar ∷ (p.0 ++ (us ++ (Op RPar ∷ []))),
+        rw (p.1, q) (simp append_assoc refl),
+        G.generator_group (elem_named r p.0 r1 e p.1 f p.2) c,
+        turns r2,
+      )))
+      (says_closed RPar r1 e (λ r2 v. (
+        Op LPar ∷ (p.0 ++ (Op RPar ∷ [])),
+        rw (p.1, v) (simp append_assoc refl),
+        G.group (elem_named r p.0 r1 e p.1 f p.2),
+        turns r2,
+      ))))))))
 
   square_sound : (r : List Terminal) → Says (Reads_as Atom (Op LSqb ∷ r)) (square self r)
   square_sound r =
       says_cond (starts (Of Elem) r) _ _
       (says_then _ _ (all Elem r) (λ e r1 p. says_if (starts_comp r1) _ _
       (λ t. says_op Star r _ _ (λ _ _ _. no_form)
-          (λ f. comps_closed_sound self all RSqb r1 _ t (λ us gs r2 q c. (Op LSqb ∷ (p.0 ++ (us ++ (Op RSqb ∷ []))),
-          rw (p.1, q) (simp append_assoc refl), G.list_comp (elem_named r p.0 r1 e p.1 f p.2) c, turns r2))))
+      (λ f. comps_closed_sound self all RSqb r1 _ t (λ us gs r2 q c. (
+        Op LSqb ∷ (p.0 ++ (us ++ (Op RSqb ∷ []))),
+        rw (p.1, q) (simp append_assoc refl),
+        G.list_comp (elem_named r p.0 r1 e p.1 f p.2) c,
+        turns r2,
+      ))))
       (says_then _ _ (others_sound self all (Of Elem) (Single e) r1)
-          (λ es r2 y. says_closed RSqb r2 _ (λ r3 v. (Op LSqb ∷ ((p.0 ++ y.0) ++ (Op RSqb ∷ [])), rw (p.1, y.3, v) (simp append_assoc refl),
-          subst (λ z. G.Derives Atom (Op LSqb ∷ ((p.0 ++ y.0) ++ (Op RSqb ∷ []))) (Trees.ListOf (singles z) Load)) (sym y.2)
-          (G.list (y.4 p.0 (G.single p.2))), turns r3))))))
+      (λ es r2 y. says_closed RSqb r2 _ (λ r3 v. (
+        Op LSqb ∷ ((p.0 ++ y.0) ++ (Op RSqb ∷ [])),
+        rw (p.1, y.3, v) (simp append_assoc refl),
+        subst (λ z. G.Derives Atom (Op LSqb ∷ ((p.0 ++ y.0) ++ (Op RSqb ∷ []))) (Trees.ListOf (singles z) Load)) (sym y.2)
+            (G.list (y.4 p.0 (G.single p.2))),
+        turns r3,
+      ))))))
       (says_closed RSqb r _ (λ r1 q. (Op LSqb ∷ (Op RSqb ∷ []), ap (λ z. Op LSqb ∷ z) q, G.list G.no_item, turns r1)))
 
   dict_sound : (a : Entry) (r ts r1 : List Terminal) → r ≡ ts ++ r1 → G.Piece Pair ts a
       → Says (Reads_as Atom (Op LBrace ∷ r)) (dict_from self a r1)
   dict_sound a r ts r1 q p =
       says_then _ _ (others_sound self all Pair a r1)
-      (λ es r2 y. says_closed RBrace r2 _ (λ r3 v. (Op LBrace ∷ ((ts ++ y.0) ++ (Op RBrace ∷ [])), rw (q, y.3, v) (simp append_assoc refl),
-      subst (λ z. G.Derives Atom (Op LBrace ∷ ((ts ++ y.0) ++ (Op RBrace ∷ []))) (Trees.Dict (keys z) (values z))) (sym y.2)
-      (G.dict (y.4 ts p)), turns r3)))
+      (λ es r2 y. says_closed RBrace r2 _ (λ r3 v. (
+        Op LBrace ∷ ((ts ++ y.0) ++ (Op RBrace ∷ [])),
+        rw (q, y.3, v) (simp append_assoc refl),
+        subst (λ z. G.Derives Atom (Op LBrace ∷ ((ts ++ y.0) ++ (Op RBrace ∷ []))) (Trees.Dict (keys z) (values z))) (sym y.2)
+            (G.dict (y.4 ts p)),
+        turns r3,
+      )))
 
   curly_sound : (r : List Terminal) → Says (Reads_as Atom (Op LBrace ∷ r)) (curly self r)
   curly_sound r =
       says_op RBrace r _ _ (λ a s q. found (Op LBrace ∷ (Op RBrace ∷ []), ap (λ z. Op LBrace ∷ z) q, G.dict G.no_item, turns s)) (λ _.
       says_op DoubleStar r _ _ (λ a s q. says_then _ _ (all BitOr s) (λ e r1 p. dict_sound (Doubled e) r (Op DoubleStar ∷ p.0) r1 (q
-          ∙ ap (λ z. Op DoubleStar ∷ z) p.1) (G.pairs_of p.2))) (λ _.
+      ∙ ap (λ z. Op DoubleStar ∷ z) p.1) (G.pairs_of p.2))) (λ _.
       says_then _ _ (all Elem r) (λ e r1 p. says_op Colon r1 _ _
       (λ a s q. says_op Star r _ _ (λ _ _ _. no_form) (λ f. says_name_with ColonEqual r _ _ (λ _ _ _. no_form) (λ g.
       let k : G.Derives Expression p.0 e = named_expression r p.0 r1 e p.1 g (elem_named r p.0 r1 e p.1 f p.2) in
       says_then _ _ (all Expression s) (λ v r3 y. says_if (starts_comp r3) _ _
-      (λ t. comps_closed_sound self all RBrace r3 _ t (λ us gs r4 w c. (Op LBrace ∷ (p.0 ++ (Op Colon ∷ (y.0 ++ (us ++ (Op RBrace ∷ []))))),
-          rw (p.1, q, y.1, w) (simp append_assoc refl), G.dict_comp k y.2 c, turns r4)))
+      (λ t. comps_closed_sound self all RBrace r3 _ t (λ us gs r4 w c. (
+        Op LBrace ∷ (p.0 ++ (Op Colon ∷ (y.0 ++ (us ++ (Op RBrace ∷ []))))),
+        rw (p.1, q, y.1, w) (simp append_assoc refl),
+        G.dict_comp k y.2 c,
+        turns r4,
+      )))
       (dict_sound (Paired e v) r (p.0 ++ (Op Colon ∷ y.0)) r3 (rw (p.1, q, y.1) (simp append_assoc refl)) (G.pair k y.2))))))
       (λ _. says_if (starts_comp r1) _ _
       (λ t. says_op Star r _ _ (λ _ _ _. no_form)
-          (λ f. comps_closed_sound self all RBrace r1 _ t (λ us gs r2 q c. (Op LBrace ∷ (p.0 ++ (us ++ (Op RBrace ∷ []))),
-          rw (p.1, q) (simp append_assoc refl), G.set_comp (elem_named r p.0 r1 e p.1 f p.2) c, turns r2))))
+      (λ f. comps_closed_sound self all RBrace r1 _ t (λ us gs r2 q c. (
+        Op LBrace ∷ (p.0 ++ (us ++ (Op RBrace ∷ []))),
+        rw (p.1, q) (simp append_assoc refl),
+        G.set_comp (elem_named r p.0 r1 e p.1 f p.2) c,
+        turns r2,
+      ))))
       (says_then _ _ (others_sound self all (Of Elem) (Single e) r1)
-          (λ es r2 y. says_closed RBrace r2 _ (λ r3 v. (Op LBrace ∷ ((p.0 ++ y.0) ++ (Op RBrace ∷ [])),
-          rw (p.1, y.3, v) (simp append_assoc refl),
-          subst (λ z. G.Derives Atom (Op LBrace ∷ ((p.0 ++ y.0) ++ (Op RBrace ∷ []))) (Trees.Set (singles z))) (sym y.2)
-          (G.set (y.4 p.0 (G.single p.2))), turns r3))))))))
+      (λ es r2 y. says_closed RBrace r2 _ (λ r3 v. (
+        Op LBrace ∷ ((p.0 ++ y.0) ++ (Op RBrace ∷ [])),
+        rw (p.1, y.3, v) (simp append_assoc refl),
+        subst (λ z. G.Derives Atom (Op LBrace ∷ ((p.0 ++ y.0) ++ (Op RBrace ∷ []))) (Trees.Set (singles z))) (sym y.2)
+            (G.set (y.4 p.0 (G.single p.2))),
+        turns r3,
+      ))))))))
 
   constant_sound : (t : Terminal) (r : List Terminal) → Says (Reads_as Atom (t ∷ r)) (made (constant_of (constant_word t)) r)
   constant_sound t r = says_made _ r (λ e h. let z = constant_is (constant_word t) e h in
@@ -141,14 +182,20 @@ module _ (self : Reads) (all : SoundAt self) where
   called_sound : (i ts us : List Terminal) (f : Expr) (es xs : List Entry) (r : List Terminal) → i ≡ ts ++ (Op LPar ∷ (us ++ r))
       → G.Derives Primary ts f → es ≡ xs → G.Listing Argument us xs → Says (PrimaryAt i) (called_with self f es r)
   called_sound i ts us f es xs r q p w l =
-      says_op RPar r _ _ (λ a s v. says_made _ s (λ e h. (ts ++ (Op LPar ∷ (us ++ (Op RPar ∷ []))), rw (q, v) (simp append_assoc refl),
-      G.call p l (ap (called f) (sym w) ∙ h)))) (λ _. no_form)
+      says_op RPar r _ _ (λ a s v. says_made _ s (λ e h. (
+        ts ++ (Op LPar ∷ (us ++ (Op RPar ∷ []))),
+        rw (q, v) (simp append_assoc refl),
+        G.call p l (ap (called f) (sym w) ∙ h),
+      ))) (λ _. no_form)
 
   generator_call_sound : (i ts us : List Terminal) (f : Expr) (a : Entry) (r : List Terminal) → i ≡ ts ++ (Op LPar ∷ (us ++ r))
       → G.Derives Primary ts f → G.Piece Argument us a → starts_comp r ≡ true → Says (PrimaryAt i) (generator_call self f a r)
   generator_call_sound i ts us f (Single e) r q p a t =
-      comps_closed_sound self all RPar r _ t (λ vs gs r1 v c. (ts ++ (Op LPar ∷ (us ++ (vs ++ (Op RPar ∷ [])))),
-      rw (q, v) (simp append_assoc refl), G.call_generator p (argument_named a) c))
+      comps_closed_sound self all RPar r _ t (λ vs gs r1 v c. (
+        ts ++ (Op LPar ∷ (us ++ (vs ++ (Op RPar ∷ [])))),
+        rw (q, v) (simp append_assoc refl),
+        G.call_generator p (argument_named a) c,
+      ))
   generator_call_sound i ts us f _ r q p a t = no_form
 
   pub call_sound : (i ts : List Terminal) (f : Expr) (r : List Terminal) → i ≡ ts ++ (Op LPar ∷ r) → G.Derives Primary ts f
@@ -158,7 +205,7 @@ module _ (self : Reads) (all : SoundAt self) where
       (says_then _ _ (piece_sound self all Argument r) (λ a r1 y. says_if (starts_comp r1) _ _
       (λ t. generator_call_sound i ts y.0 f a r1 (rw (q, y.1) refl) p y.2 t)
       (says_then _ _ (others_sound self all Argument a r1) (λ es r2 w. called_sound i ts (y.0 ++ w.0) f es (a ∷ w.1) r2
-          (rw (q, y.1, w.3) (simp append_assoc refl)) p w.2 (w.4 y.0 y.2)))))
+      (rw (q, y.1, w.3) (simp append_assoc refl)) p w.2 (w.4 y.0 y.2)))))
       (called_sound i ts [] f [] [] r q p refl G.no_item)
 
   primary_loop_sound : (m : ℕ) (i : List Terminal) (e : Expr) (r : List Terminal) → PrimaryAt i e r
@@ -166,29 +213,36 @@ module _ (self : Reads) (all : SoundAt self) where
   primary_loop_sound zero i e r p = found p
   primary_loop_sound (suc m) i e r p =
       says_op Dot r _ _ (λ a s q. says_name s _ _ (λ x u v. primary_loop_sound m i (Trees.Attribute e x.form Load) u
-          (p.0 ++ (Op Dot ∷ (Ident x ∷ [])), rw (p.1, q, v) (simp append_assoc refl), G.attribute x p.2)) no_form) (λ _.
+      (p.0 ++ (Op Dot ∷ (Ident x ∷ [])), rw (p.1, q, v) (simp append_assoc refl), G.attribute x p.2)) no_form) (λ _.
       says_op LPar r _ _ (λ a s q. says_then _ _ (call_sound i p.0 e s (p.1 ∙ ap (λ z. p.0 ++ z) q) p.2)
-          (λ f r2 y. primary_loop_sound m i f r2 y)) (λ _.
+      (λ f r2 y. primary_loop_sound m i f r2 y)) (λ _.
       says_op LSqb r _ _ (λ a s q. says_then _ _ (all Slices s)
-          (λ x r2 y. says_op RSqb r2 _ _ (λ b u v. primary_loop_sound m i (Trees.Subscript e x Load) u
-          (p.0 ++ (Op LSqb ∷ (y.0 ++ (Op RSqb ∷ []))), rw (p.1, q, y.1, v) (simp append_assoc refl), G.subscript p.2 y.2)) (λ _. no_form)))
-          (λ _.
+      (λ x r2 y. says_op RSqb r2 _ _ (λ b u v. primary_loop_sound m i (Trees.Subscript e x Load) u
+      (p.0 ++ (Op LSqb ∷ (y.0 ++ (Op RSqb ∷ []))), rw (p.1, q, y.1, v) (simp append_assoc refl), G.subscript p.2 y.2)) (λ _. no_form)))
+      (λ _.
       found p)))
 
   slice_rest_sound : (a : OptionalExpr) (i ts r : List Terminal) → i ≡ ts ++ (Op Colon ∷ r) → G.Perhaps Expression ts a
       → Says (Reads_as Slice i) (slice_rest self a r)
   slice_rest_sound a i ts r q w = says_then _ _ (perhaps_sound self all Expression r) (λ b r1 p. says_op Colon r1 _ _
-      (λ c s v. says_then _ _ (perhaps_sound self all Expression s) (λ x r3 y. found (ts ++ (Op Colon ∷ (p.0 ++ (Op Colon ∷ y.0))),
-          rw (q, p.1, v, y.1) (simp append_assoc refl), G.slice_step w p.2 y.2, turns r3)))
+      (λ c s v. says_then _ _ (perhaps_sound self all Expression s) (λ x r3 y. found (
+        ts ++ (Op Colon ∷ (p.0 ++ (Op Colon ∷ y.0))),
+        rw (q, p.1, v, y.1) (simp append_assoc refl),
+        G.slice_step w p.2 y.2,
+        turns r3,
+      )))
       (λ _. found (ts ++ (Op Colon ∷ p.0), rw (q, p.1) (simp append_assoc refl), G.slice w p.2, turns r1)))
 
   lambda_sound : (r : List Terminal) → Says (Reads_as Expression (Word Key.Lambda ∷ r)) (lambda_step self r)
   lambda_sound r = says_then _ _ (listing_of_sound self all (Parameter false) r)
       (λ ps r1 y. says_op Colon r1 _ _ (λ a s q. says_then _ _ (all Expression s) (λ e r3 p. says_made _ r3 (λ x h.
-      let z = lambda_is (arranged ps) e x h in
-      (Word Key.Lambda ∷ (y.0 ++ (Op Colon ∷ p.0)), rw (y.3, q, p.1) (simp append_assoc refl),
-          subst (λ k. G.Derives Expression (Word Key.Lambda ∷ (y.0 ++ (Op Colon ∷ p.0))) k) z.2
-          (G.lambda y.4 (ap arranged (sym y.2) ∙ z.1) p.2), turns r3)))) (λ _. no_form))
+      let z = lambda_is (arranged ps) e x h in (
+        Word Key.Lambda ∷ (y.0 ++ (Op Colon ∷ p.0)),
+        rw (y.3, q, p.1) (simp append_assoc refl),
+        subst (λ k. G.Derives Expression (Word Key.Lambda ∷ (y.0 ++ (Op Colon ∷ p.0))) k) z.2
+            (G.lambda y.4 (ap arranged (sym y.2) ∙ z.1) p.2),
+        turns r3,
+      )))) (λ _. no_form))
 
   if_else_sound : (i ts : List Terminal) (b : Expr) (r : List Terminal) → i ≡ ts ++ r → G.Derives Or ts b
       → Says (Reads_as Expression i) (if_else_step self b r)
@@ -196,8 +250,12 @@ module _ (self : Reads) (all : SoundAt self) where
       says_word Key.If r _ _
       (λ c s v. says_then _ _ (all Or s)
       (λ a r2 y. says_word Key.Else r2 _ _
-      (λ d u w. says_then _ _ (all Expression u) (λ x r4 z. found (ts ++ (Word Key.If ∷ (y.0 ++ (Word Key.Else ∷ z.0))),
-      rw (q, v, y.1, w, z.1) (simp append_assoc refl), G.if_else p y.2 z.2, turns r4))) (λ _. no_form)))
+      (λ d u w. says_then _ _ (all Expression u) (λ x r4 z. found (
+        ts ++ (Word Key.If ∷ (y.0 ++ (Word Key.Else ∷ z.0))),
+        rw (q, v, y.1, w, z.1) (simp append_assoc refl),
+        G.if_else p y.2 z.2,
+        turns r4,
+      ))) (λ _. no_form)))
       (λ _. found (ts, q, G.next p, turns r))
 
 -- no Slice begins with a star
@@ -213,8 +271,12 @@ module _ (next inner : Reads) (low : SoundAt next) (deeper : SoundAt inner) wher
       → Reads_as Slices i (Trees.Tuple (an_expr e no_exprs) Load) r
   star_part_sound i ts r e s q p v = elim (inv p) [
     | inl d ↦ absurd (not_star d (star_lead ts r s (sym q ∙ v) (omega (arith, led d))))
-    | inr u ↦ (Op Star ∷ u.0, q ∙ ap (λ z. z ++ r) u.2,
-        subst (λ z. G.Derives Slices (Op Star ∷ u.0) (Trees.Tuple (an_expr z no_exprs) Load)) (sym u.3) (G.star_slices u.4), turns r)
+    | inr u ↦ (
+      Op Star ∷ u.0,
+      q ∙ ap (λ z. z ++ r) u.2,
+      subst (λ z. G.Derives Slices (Op Star ∷ u.0) (Trees.Tuple (an_expr z no_exprs) Load)) (sym u.3) (G.star_slices u.4),
+      turns r,
+    )
   ]
 
   plain_part_sound : (i ts r : List Terminal) (e : Expr) → i ≡ ts ++ r → G.Derives Part ts e → NoStar i → Reads_as Slices i e r
@@ -226,21 +288,33 @@ module _ (next inner : Reads) (low : SoundAt next) (deeper : SoundAt inner) wher
   pub sound_step : (l : Level) (i : List Terminal) → Says (Reads_as l i) (level_step next inner l i)
   sound_step Value i =
       says_word Key.Yield i _ _
-      (λ a s q. says_is _ (yield_sound inner deeper s) (λ e r p. (Word Key.Yield ∷ p.0, q ∙ ap (λ z. Word Key.Yield ∷ z) p.1, G.yields p.2,
-      turns r))) (λ _. says_is _ (low Stars i) (λ e r p. (p.0, p.1, G.next p.2, turns r)))
+      (λ a s q. says_is _ (yield_sound inner deeper s) (λ e r p. (
+        Word Key.Yield ∷ p.0,
+        q ∙ ap (λ z. Word Key.Yield ∷ z) p.1,
+        G.yields p.2,
+        turns r,
+      ))) (λ _. says_is _ (low Stars i) (λ e r p. (p.0, p.1, G.next p.2, turns r)))
   sound_step Stars i =
       says_then _ _ (low StarItem i) (λ e r p. says_op Comma r _ _ (λ a s q. says_then _ _ (listing_of_sound inner deeper (Of StarItem) s)
-      (λ es r2 y. found (p.0 ++ (Op Comma ∷ y.0), rw (p.1, q, y.3) (simp append_assoc refl),
-      subst (λ z. G.Derives Stars (p.0 ++ (Op Comma ∷ y.0)) (Trees.Tuple (an_expr e (singles z)) Load)) (sym y.2) (G.star_tuple p.2 y.4),
-      turns r2))) (λ _. found (p.0, p.1, G.next p.2, turns r)))
+      (λ es r2 y. found (
+        p.0 ++ (Op Comma ∷ y.0),
+        rw (p.1, q, y.3) (simp append_assoc refl),
+        subst (λ z. G.Derives Stars (p.0 ++ (Op Comma ∷ y.0)) (Trees.Tuple (an_expr e (singles z)) Load)) (sym y.2) (G.star_tuple p.2 y.4),
+        turns r2,
+      ))) (λ _. found (p.0, p.1, G.next p.2, turns r)))
   sound_step StarItem i = starred_sound inner deeper BitOr i _ (λ ts e r q p. (Op Star ∷ ts, q, G.star_item p, turns r))
       (λ _. says_is _ (low Expression i) (λ e r p. (p.0, p.1, G.next p.2, turns r)))
   sound_step Elem i = starred_sound inner deeper BitOr i _ (λ ts e r q p. (Op Star ∷ ts, q, G.star_elem p, turns r))
       (λ _. says_is _ (low Named i) (λ e r p. (p.0, p.1, G.next p.2, turns r)))
   sound_step Named i =
       says_name_with ColonEqual i _ _
-      (λ x s q. says_then _ _ (deeper Expression s) (λ e r p. found (Ident x ∷ (Op ColonEqual ∷ p.0), q
-      ∙ ap (λ z. Ident x ∷ (Op ColonEqual ∷ z)) p.1, G.named p.2, turns r)))
+      (λ x s q. says_then _ _ (deeper Expression s) (λ e r p. found (
+        Ident x ∷ (Op ColonEqual ∷ p.0),
+        q
+            ∙ ap (λ z. Ident x ∷ (Op ColonEqual ∷ z)) p.1,
+        G.named p.2,
+        turns r,
+      )))
       (λ _. says_is _ (low Expression i) (λ e r p. (p.0, p.1, G.next p.2, turns r)))
   sound_step Expression i =
       says_word Key.Lambda i _ _ (λ a s q. says_is _ (lambda_sound inner deeper s) (λ e r p. (p.0, q ∙ p.1, p.2, turns r)))
@@ -252,9 +326,12 @@ module _ (next inner : Reads) (low : SoundAt next) (deeper : SoundAt inner) wher
   sound_step Slices i =
       says_then _ _ (low Part i)
       (λ e r p. says_op Comma r _ _ (λ a s q. says_then _ _ (listing_of_sound inner deeper (Of Part) s)
-      (λ es r2 y. found (p.0 ++ (Op Comma ∷ y.0), rw (p.1, q, y.3) (simp append_assoc refl),
-      subst (λ z. G.Derives Slices (p.0 ++ (Op Comma ∷ y.0)) (Trees.Tuple (an_expr e (singles z)) Load)) (sym y.2) (G.parts p.2 y.4),
-      turns r2))) (λ _. says_op Star i _ _ (λ a s q. found (star_part_sound i p.0 r e s p.1 p.2 q))
+      (λ es r2 y. found (
+        p.0 ++ (Op Comma ∷ y.0),
+        rw (p.1, q, y.3) (simp append_assoc refl),
+        subst (λ z. G.Derives Slices (p.0 ++ (Op Comma ∷ y.0)) (Trees.Tuple (an_expr e (singles z)) Load)) (sym y.2) (G.parts p.2 y.4),
+        turns r2,
+      ))) (λ _. says_op Star i _ _ (λ a s q. found (star_part_sound i p.0 r e s p.1 p.2 q))
       (λ f. found (plain_part_sound i p.0 r e p.1 p.2 f))))
   sound_step Part i = starred_sound inner deeper Expression i _ (λ ts e r q p. (Op Star ∷ ts, q, G.star_part p, turns r))
       (λ _. says_is _ (low Slice i) (λ e r p. (p.0, p.1, G.next p.2, turns r)))
@@ -266,9 +343,13 @@ module _ (next inner : Reads) (low : SoundAt next) (deeper : SoundAt inner) wher
   sound_step Subject i =
       says_then _ _ (low Elem i)
       (λ e r p. says_op Comma r _ _ (λ a s q. says_then _ _ (listing_of_sound inner deeper (Of Elem) s)
-      (λ es r2 y. found (p.0 ++ (Op Comma ∷ y.0), rw (p.1, q, y.3) (simp append_assoc refl),
-      subst (λ z. G.Derives Subject (p.0 ++ (Op Comma ∷ y.0)) (Trees.Tuple (an_expr e (singles z)) Load)) (sym y.2)
-      (G.subject_tuple p.2 y.4), turns r2)))
+      (λ es r2 y. found (
+        p.0 ++ (Op Comma ∷ y.0),
+        rw (p.1, q, y.3) (simp append_assoc refl),
+        subst (λ z. G.Derives Subject (p.0 ++ (Op Comma ∷ y.0)) (Trees.Tuple (an_expr e (singles z)) Load)) (sym y.2)
+            (G.subject_tuple p.2 y.4),
+        turns r2,
+      )))
       (λ _. says_op Star i _ _ (λ _ _ _. no_form) (λ f. found (p.0, p.1, G.next (elem_named i p.0 r e p.1 f p.2), turns r))))
   sound_step Or i = climb_sound next inner low deeper Or i (omega arith) (omega arith) refl
   sound_step And i = climb_sound next inner low deeper And i (omega arith) (omega arith) refl

@@ -111,11 +111,18 @@ module _ (self : Reads) (all : SoundAt self) where
       says_word (chain_word o) r _ _
       (λ a s q. says_then _ _ (all (below (chain_level o)) s) (λ b r1 p.
       says_is _ (chain_sound o m (acc ++ (b ∷ [])) r1 (omega (arith, le, ap length q, shorter s p.0 r1 p.1))
-          (omega (arith, p.3, halt_chain o))) (λ es r2 v. inr (elim v [
+      (omega (arith, p.3, halt_chain o))) (λ es r2 v. inr (elim v [
         | inl u ↦ (p.0, b ∷ [], u.0, q ∙ ap (λ z. Word (chain_word o) ∷ z) (p.1 ∙ ap (λ z. p.0 ++ z) u.1), G.last_link p.2, u.2)
-        | inr u ↦ (p.0 ++ (Word (chain_word o) ∷ u.0), b ∷ u.1, u.2 ∙ append_assoc acc (b ∷ []) u.1, q
-            ∙ ap (λ z. Word (chain_word o) ∷ z) (p.1 ∙ ap (λ z. p.0 ++ z) u.3)
-            ∙ link_shape (Word (chain_word o)) p.0 u.0 r2, G.link p.2 u.4, u.5)
+        | inr u ↦ (
+          p.0 ++ (Word (chain_word o) ∷ u.0),
+          b ∷ u.1,
+          u.2 ∙ append_assoc acc (b ∷ []) u.1,
+          q
+              ∙ ap (λ z. Word (chain_word o) ∷ z) (p.1 ∙ ap (λ z. p.0 ++ z) u.3)
+              ∙ link_shape (Word (chain_word o)) p.0 u.0 r2,
+          G.link p.2 u.4,
+          u.5,
+        )
       ]))))
       (λ f. found (inl (refl, refl, miss_chain o r f h)))
 
@@ -146,10 +153,10 @@ says_comparison : {B : Type 0} {Q : B → List Terminal → Type 0} (self : Read
 says_comparison self r hit x h g =
     says_first comparison r _ _ (λ t o s f q. h o (t ∷ []) s (G.one_sign f) q (omega arith)) (λ f1.
     says_word Key.Not r _ _ (λ a s q. says_word Key.In s _ _ (λ b u p. h Is.NotIn (Word Key.Not ∷ (Word Key.In ∷ [])) u G.not_in (q
-        ∙ ap (λ z. Word Key.Not ∷ z) p) (omega arith)) (λ _. no_form)) (λ f2.
+    ∙ ap (λ z. Word Key.Not ∷ z) p) (omega arith)) (λ _. no_form)) (λ f2.
     says_word Key.Is r _ _ (λ a s q. says_word Key.Not s _ _ (λ b u p. h Is.IsNot (Word Key.Is ∷ (Word Key.Not ∷ [])) u G.is_not (q
-        ∙ ap (λ z. Word Key.Is ∷ z) p) (omega arith)) (λ _. h Is.Is (Word Key.Is ∷ []) s G.is q (omega arith)))
-        (λ f3. g (miss_comparisons r f1 f2 f3))))
+    ∙ ap (λ z. Word Key.Is ∷ z) p) (omega arith)) (λ _. h Is.Is (Word Key.Is ∷ []) s G.is q (omega arith)))
+    (λ f3. g (miss_comparisons r f1 f2 f3))))
 
 abbrev CompareAt : List Comparison → List Expr → List Terminal → List Comparison → List Expr → List Terminal → Type 0
 CompareAt xs acc r os es r2 = (us : List Terminal) × (ys : List Comparison) × (zs : List Expr) × (os ≡ xs ++ ys) × (es ≡ acc ++ zs) ×
@@ -171,11 +178,28 @@ module _ (self : Reads) (all : SoundAt self) where
       says_comparison self r _ _
       (λ o ss s c q z. says_then _ _ (all BitOr s) (λ b r1 p.
       compare_sound m (xs ++ (o ∷ [])) (acc ++ (b ∷ [])) r1 k (omega (arith, le, ap length q, length-append ss s, z, shorter s p.0 r1 p.1))
-          (omega (arith, p.3)) (λ os es r2 v. j os es r2 (inr (elim v [
-        | inl u ↦ (ss ++ p.0, o ∷ [], b ∷ [], u.0, u.1, q ∙ ap (λ z. ss ++ z) (p.1 ∙ ap (λ z. p.0 ++ z) u.2) ∙ sym (append_assoc ss p.0 r2),
-            G.last_compare c p.2, u.3)
-        | inr u ↦ (ss ++ (p.0 ++ u.0), o ∷ u.1, b ∷ u.2, u.3 ∙ append_assoc xs (o ∷ []) u.1, u.4 ∙ append_assoc acc (b ∷ []) u.2, q
-            ∙ ap (λ z. ss ++ z) (p.1 ∙ ap (λ z. p.0 ++ z) u.5) ∙ three ss p.0 u.0 r2, G.compares c p.2 u.6, u.7)
+      (omega (arith, p.3)) (λ os es r2 v. j os es r2 (inr (elim v [
+        | inl u ↦ (
+          ss ++ p.0,
+          o ∷ [],
+          b ∷ [],
+          u.0,
+          u.1,
+          q ∙ ap (λ z. ss ++ z) (p.1 ∙ ap (λ z. p.0 ++ z) u.2) ∙ sym (append_assoc ss p.0 r2),
+          G.last_compare c p.2,
+          u.3,
+        )
+        | inr u ↦ (
+          ss ++ (p.0 ++ u.0),
+          o ∷ u.1,
+          b ∷ u.2,
+          u.3 ∙ append_assoc xs (o ∷ []) u.1,
+          u.4 ∙ append_assoc acc (b ∷ []) u.2,
+          q
+              ∙ ap (λ z. ss ++ z) (p.1 ∙ ap (λ z. p.0 ++ z) u.5) ∙ three ss p.0 u.0 r2,
+          G.compares c p.2 u.6,
+          u.7,
+        )
       ])))))
       (λ f. j xs acc r (inl (refl, refl, refl, f h)))
 
@@ -195,8 +219,13 @@ same_left P l n o p h q = subst (λ z. P z p) (one l n o p q) (subst (λ z. P l 
 
 left_facts : (t : Terminal) (l : Level) (o : Operator) → behind t ≡ Some (Left l o) → LeftFacts t l o
 left_facts (Op VBar) l o h = same_left (LeftFacts (Op VBar)) BitOr l Bin.BitOr o (refl, refl, refl, omega arith, omega arith) h
-left_facts (Op Circumflex) l o h = same_left (LeftFacts (Op Circumflex)) BitXor l Bin.BitXor o (refl, refl, refl,
-    omega arith, omega arith) h
+left_facts (Op Circumflex) l o h = same_left (LeftFacts (Op Circumflex)) BitXor l Bin.BitXor o (
+  refl,
+  refl,
+  refl,
+  omega arith,
+  omega arith,
+) h
 left_facts (Op Amper) l o h = same_left (LeftFacts (Op Amper)) BitAnd l Bin.BitAnd o (refl, refl, refl, omega arith, omega arith) h
 left_facts (Op LeftShift) l o h = same_left (LeftFacts (Op LeftShift)) Shift l Bin.LShift o (refl, refl, refl, omega arith, omega arith) h
 left_facts (Op RightShift) l o h = same_left (LeftFacts (Op RightShift)) Shift l Bin.RShift o (refl, refl, refl, omega arith, omega arith) h
@@ -204,8 +233,13 @@ left_facts (Op Plus) l o h = same_left (LeftFacts (Op Plus)) Sum l Bin.Add o (re
 left_facts (Op Minus) l o h = same_left (LeftFacts (Op Minus)) Sum l Bin.Sub o (refl, refl, refl, omega arith, omega arith) h
 left_facts (Op Star) l o h = same_left (LeftFacts (Op Star)) Term l Bin.Mult o (refl, refl, refl, omega arith, omega arith) h
 left_facts (Op Slash) l o h = same_left (LeftFacts (Op Slash)) Term l Bin.Div o (refl, refl, refl, omega arith, omega arith) h
-left_facts (Op DoubleSlash) l o h = same_left (LeftFacts (Op DoubleSlash)) Term l Bin.FloorDiv o (refl, refl, refl,
-    omega arith, omega arith) h
+left_facts (Op DoubleSlash) l o h = same_left (LeftFacts (Op DoubleSlash)) Term l Bin.FloorDiv o (
+  refl,
+  refl,
+  refl,
+  omega arith,
+  omega arith,
+) h
 left_facts (Op Percent) l o h = same_left (LeftFacts (Op Percent)) Term l Bin.Mod o (refl, refl, refl, omega arith, omega arith) h
 left_facts (Op At) l o h = same_left (LeftFacts (Op At)) Term l Bin.MatMult o (refl, refl, refl, omega arith, omega arith) h
 left_facts (Op _) l o h = absurd (cc)
@@ -253,24 +287,51 @@ module _ (self : Reads) (all : SoundAt self) where
   operation_sound k c i ts e (Left l o) t r1 q p h a b w f =
       let z = left_facts t l o f in
       says_then _ _ (all (below l) r1)
-          (λ x r2 y. found ((l, ts ++ (t ∷ y.0), q ∙ ap (λ z. ts ++ (t ∷ z)) y.1 ∙ two ts y.0 r2 t,
-          G.binary t z.0 (lower l c ts e (omega (arith, z.3)) (omega (arith, z.4)) (omega (arith, w, lim_rank c h)) p) y.2, b,
-          omega (arith, z.4), omega (arith, y.3, z.1, z.2)), shorter r1 y.0 r2 y.1))
+      (λ x r2 y. found (
+        (
+          l,
+          ts ++ (t ∷ y.0),
+          q ∙ ap (λ z. ts ++ (t ∷ z)) y.1 ∙ two ts y.0 r2 t,
+          G.binary t z.0 (lower l c ts e (omega (arith, z.3)) (omega (arith, z.4)) (omega (arith, w, lim_rank c h)) p) y.2,
+          b,
+          omega (arith, z.4),
+          omega (arith, y.3, z.1, z.2),
+        ),
+        shorter r1 y.0 r2 y.1,
+      ))
   operation_sound k c i ts e Raise t r1 q p h a b w f =
       says_then _ _ (all Factor r1)
-          (λ x r2 y. found ((Power, ts ++ (Op DoubleStar ∷ y.0), q ∙ ap (λ z. ts ++ (z ∷ r1)) (raise_is t f)
-          ∙ ap (λ z. ts ++ (Op DoubleStar ∷ z)) y.1 ∙ two ts y.0 r2 (Op DoubleStar),
-          G.power (lower Await c ts e (omega arith) (omega arith) (joint_power c h w) p) y.2, b, omega arith, omega (arith, y.3)),
-          shorter r1 y.0 r2 y.1))
+      (λ x r2 y. found (
+        (
+          Power,
+          ts ++ (Op DoubleStar ∷ y.0),
+          q ∙ ap (λ z. ts ++ (z ∷ r1)) (raise_is t f)
+              ∙ ap (λ z. ts ++ (Op DoubleStar ∷ z)) y.1 ∙ two ts y.0 r2 (Op DoubleStar),
+          G.power (lower Await c ts e (omega arith) (omega arith) (joint_power c h w) p) y.2,
+          b,
+          omega arith,
+          omega (arith, y.3),
+        ),
+        shorter r1 y.0 r2 y.1,
+      ))
   operation_sound k c i ts e Compares t r1 q p h a b w f =
       compare_sound self all (length (t ∷ r1)) [] [] (t ∷ r1) _ (omega arith)
-          (omega (arith, ap (λ o. on_some o infix_rank 0) f)) (λ os es r2 v. elim v [
+      (omega (arith, ap (λ o. on_some o infix_rank 0) f)) (λ os es r2 v. elim v [
         | inl u ↦ absurd (omega (arith, u.3, ap turn_of u.2, ap (λ o. on_some o infix_rank 0) f))
-        | inr u ↦ found ((Compare, ts ++ u.0, q ∙ ap (λ z. ts ++ z) u.5 ∙ sym (append_assoc ts u.0 r2),
+        | inr u ↦ found (
+          (
+            Compare,
+            ts ++ u.0,
+            q ∙ ap (λ z. ts ++ z) u.5 ∙ sym (append_assoc ts u.0 r2),
             subst (λ z. G.Derives Compare (ts ++ u.0) (Trees.Compare e z (exprs es))) (sym u.3)
-            (subst (λ z. G.Derives Compare (ts ++ u.0) (Trees.Compare e u.1 (exprs z))) (sym u.4)
-            (G.compare (lower BitOr c ts e (omega arith) (omega arith) (joint_compare c h w) p) u.6)), b, omega arith, omega (arith, u.7)),
-            compare_shorter u.0 r2 u.5 (compares_some u.6))
+                (subst (λ z. G.Derives Compare (ts ++ u.0) (Trees.Compare e u.1 (exprs z))) (sym u.4)
+                (G.compare (lower BitOr c ts e (omega arith) (omega arith) (joint_compare c h w) p) u.6)),
+            b,
+            omega arith,
+            omega (arith, u.7),
+          ),
+          compare_shorter u.0 r2 u.5 (compares_some u.6),
+        )
       ])
     where
       compared_some : {ss : List Terminal} {o : Comparison} → G.Compared ss o → 0 < length ss
@@ -289,10 +350,19 @@ module _ (self : Reads) (all : SoundAt self) where
       let g : turn t ≡ rank (chain_level o) = ap (λ o. on_some o infix_rank 0) f in
       says_then _ _ (chain_sound self all o (length (t ∷ r1)) [] (t ∷ r1) (omega arith) (omega (arith, g))) (λ es r2 v. elim v [
         | inl u ↦ absurd (omega (arith, u.2, ap turn_of u.1, g))
-        | inr u ↦ found ((chain_level o, ts ++ (Word (chain_word o) ∷ u.0), q ∙ ap (λ z. ts ++ z) u.3 ∙ two ts u.0 r2 (Word (chain_word o)),
+        | inr u ↦ found (
+          (
+            chain_level o,
+            ts ++ (Word (chain_word o) ∷ u.0),
+            q ∙ ap (λ z. ts ++ z) u.3 ∙ two ts u.0 r2 (Word (chain_word o)),
             subst (λ z. G.Derives (chain_level o) (ts ++ (Word (chain_word o) ∷ u.0)) (Trees.BoolOp o (exprs (e ∷ z)))) (sym u.2)
-            (G.chain (chain_lower o c ts e h w p) u.4), b, chain_top o, omega (arith, u.5, lim_chain o)),
-            omega (arith, ap length u.3, length-append u.0 r2))
+                (G.chain (chain_lower o c ts e h w p) u.4),
+            b,
+            chain_top o,
+            omega (arith, u.5, lim_chain o),
+          ),
+          omega (arith, ap length u.3, length-append u.0 r2),
+        )
       ])
 
 -- all operators of a rank from k on
@@ -370,7 +440,7 @@ module _ (self : Reads) (all : SoundAt self) where
   step_sound k m i e t s a p rec (Some o) q =
       let h = infix_hit k (behind t) o q in
       says_then _ _ (operation_sound self all k p.0 i p.1 e o t s p.2 p.3 p.5 a h.1
-          (omega (arith, p.6, ap (λ o. on_some o infix_rank 0) h.0)) h.0) (λ f r2 v. rec f r2 v.1 v.0)
+      (omega (arith, p.6, ap (λ o. on_some o infix_rank 0) h.0)) h.0) (λ f r2 v. rec f r2 v.1 v.0)
 
   climb_loop_sound : (k m : ℕ) (i : List Terminal) (e : Expr) (r : List Terminal) → 10 ≤ k → length r ≤ m → Stands k i e r
       → Says (λ f r2. Stands k i f r2 × (turn_of r2 < k)) (climb_loop self k m e r)
@@ -389,11 +459,26 @@ module _ (next inner : Reads) (low : SoundAt next) (deeper : SoundAt inner) wher
           → Says (Stands k i) (prefixed inner p s)
       one t (Signed l o) s h q =
           let z = signed_facts t l o h.0 in
-          says_then _ _ (deeper l s) (λ e r y. found (l, t ∷ y.0, q ∙ ap (λ z. t ∷ z) y.1, G.unary z.0 y.2, h.1, z.2,
-              omega (arith, y.3, z.1)))
+          says_then _ _ (deeper l s) (λ e r y. found (
+            l,
+            t ∷ y.0,
+            q ∙ ap (λ z. t ∷ z) y.1,
+            G.unary z.0 y.2,
+            h.1,
+            z.2,
+            omega (arith, y.3, z.1),
+          ))
       one t Awaits s h q =
-          says_then _ _ (deeper Primary s) (λ e r y. found (Await, Word Key.Await ∷ y.0, q ∙ ap (λ z. z ∷ s) (awaits_is t h.0)
-              ∙ ap (λ z. Word Key.Await ∷ z) y.1, G.await y.2, h.1, omega arith, omega (arith, turns r)))
+          says_then _ _ (deeper Primary s) (λ e r y. found (
+            Await,
+            Word Key.Await ∷ y.0,
+            q ∙ ap (λ z. z ∷ s) (awaits_is t h.0)
+                ∙ ap (λ z. Word Key.Await ∷ z) y.1,
+            G.await y.2,
+            h.1,
+            omega arith,
+            omega (arith, turns r),
+          ))
 
   pub climb_sound : (l : Level) (i : List Terminal) → 10 ≤ rank l → rank l ≤ 22 → halt l ≡ rank l
       → Says (Reads_as l i) (climb next inner (rank l) i)

@@ -175,48 +175,70 @@ module _ (self : Reads) (all : SoundAt self) where
       says_op Colon r _ _ (λ a s q.
       says_op Star s _ _
       (λ c u v. says_then _ _ (all BitOr u)
-          (λ e r1 p. found (Op Colon ∷ (Op Star ∷ p.0), q ∙ ap (λ z. Op Colon ∷ z) (v ∙ ap (λ z. Op Star ∷ z) p.1),
-          λ x. G.star_annotation p.2)))
-      (λ _. says_then _ _ (all Expression s) (λ e r1 p. found (Op Colon ∷ p.0, q ∙ ap (λ z. Op Colon ∷ z) p.1,
-          λ x. G.star_parameter (G.suffix p.2)))))
+      (λ e r1 p. found (
+        Op Colon ∷ (Op Star ∷ p.0),
+        q ∙ ap (λ z. Op Colon ∷ z) (v ∙ ap (λ z. Op Star ∷ z) p.1),
+        λ x. G.star_annotation p.2,
+      )))
+      (λ _. says_then _ _ (all Expression s) (λ e r1 p. found (
+        Op Colon ∷ p.0,
+        q ∙ ap (λ z. Op Colon ∷ z) p.1,
+        λ x. G.star_parameter (G.suffix p.2),
+      ))))
       (λ _. found ([], refl, λ x. G.star_parameter G.no_suffix))
 
   pair_sound : (r : List Terminal) → Says (PieceAt Pair r) (read_pair self r)
   pair_sound r =
       says_op DoubleStar r _ _
-          (λ a s q. says_then _ _ (all BitOr s)
-          (λ e r1 p. found (Op DoubleStar ∷ p.0, q ∙ ap (λ z. Op DoubleStar ∷ z) p.1, G.pairs_of p.2))) (λ _.
+      (λ a s q. says_then _ _ (all BitOr s)
+      (λ e r1 p. found (Op DoubleStar ∷ p.0, q ∙ ap (λ z. Op DoubleStar ∷ z) p.1, G.pairs_of p.2))) (λ _.
       says_then _ _ (all Expression r)
-          (λ k r1 p. says_op Colon r1 _ _
-          (λ a s q. says_then _ _ (all Expression s)
-          (λ e r2 y. found (p.0 ++ (Op Colon ∷ y.0), p.1 ∙ ap (λ z. p.0 ++ z) (q ∙ ap (λ z. Op Colon ∷ z) y.1) ∙ two p.0 y.0 r2 (Op Colon),
-          G.pair p.2 y.2))) (λ _. no_form)))
+      (λ k r1 p. says_op Colon r1 _ _
+      (λ a s q. says_then _ _ (all Expression s)
+      (λ e r2 y. found (
+        p.0 ++ (Op Colon ∷ y.0),
+        p.1 ∙ ap (λ z. p.0 ++ z) (q ∙ ap (λ z. Op Colon ∷ z) y.1) ∙ two p.0 y.0 r2 (Op Colon),
+        G.pair p.2 y.2,
+      ))) (λ _. no_form)))
 
   argument_sound : (r : List Terminal) → Says (PieceAt Argument r) (read_argument self r)
   argument_sound r =
-      says_op Star r _ _ (λ a s q. says_then _ _ (all Expression s) (λ e r1 p. found (Op Star ∷ p.0, q ∙ ap (λ z. Op Star ∷ z) p.1,
-          G.star_argument p.2))) (λ _.
+      says_op Star r _ _ (λ a s q. says_then _ _ (all Expression s) (λ e r1 p. found (
+        Op Star ∷ p.0,
+        q ∙ ap (λ z. Op Star ∷ z) p.1,
+        G.star_argument p.2,
+      ))) (λ _.
       says_op DoubleStar r _ _
-          (λ a s q. says_then _ _ (all Expression s) (λ e r1 p. found (Op DoubleStar ∷ p.0, q ∙ ap (λ z. Op DoubleStar ∷ z) p.1,
-          G.double_argument p.2))) (λ _.
+      (λ a s q. says_then _ _ (all Expression s) (λ e r1 p. found (
+        Op DoubleStar ∷ p.0,
+        q ∙ ap (λ z. Op DoubleStar ∷ z) p.1,
+        G.double_argument p.2,
+      ))) (λ _.
       says_name_with Equal r _ _
-          (λ x u q. says_then _ _ (all Expression u)
-          (λ e r1 p. found (Ident x ∷ (Op Equal ∷ p.0), q ∙ ap (λ z. Ident x ∷ (Op Equal ∷ z)) p.1, G.keyword_argument p.2))) (λ _.
+      (λ x u q. says_then _ _ (all Expression u)
+      (λ e r1 p. found (Ident x ∷ (Op Equal ∷ p.0), q ∙ ap (λ z. Ident x ∷ (Op Equal ∷ z)) p.1, G.keyword_argument p.2))) (λ _.
       says_then _ _ (all Named r) (λ e r1 p. found (p.0, p.1, G.argument p.2)))))
 
   parameter_sound : (b : Bool) (r : List Terminal) → Says (PieceAt (Parameter b) r) (read_parameter self b r)
   parameter_sound b r =
       says_name r _ _ (λ x s q. says_then _ _ (suffix_sound (cond b (Some Colon) None) s)
-          (λ a r2 p. says_then _ _ (suffix_sound (Some Equal) r2)
-          (λ d r3 y. found (Ident x ∷ (p.0 ++ y.0), q ∙ ap (λ z. Ident x ∷ z) (p.1 ∙ ap (λ z. p.0 ++ z) y.1
-          ∙ sym (append_assoc p.0 y.0 r3)), G.parameter p.2 y.2))))
+      (λ a r2 p. says_then _ _ (suffix_sound (Some Equal) r2)
+      (λ d r3 y. found (
+        Ident x ∷ (p.0 ++ y.0),
+        q ∙ ap (λ z. Ident x ∷ z) (p.1 ∙ ap (λ z. p.0 ++ z) y.1
+            ∙ sym (append_assoc p.0 y.0 r3)),
+        G.parameter p.2 y.2,
+      ))))
       (says_op Star r _ _ (λ a s q. says_name s _ _ (λ x u v. says_then _ _ (star_annotated_sound b u)
-          (λ a r3 p. found (Op Star ∷ (Ident x ∷ p.0), q ∙ ap (λ z. Op Star ∷ z) (v ∙ ap (λ z. Ident x ∷ z) p.1), p.2 x)))
-          (found (Op Star ∷ [], q, G.bare_star))) (λ _.
+      (λ a r3 p. found (Op Star ∷ (Ident x ∷ p.0), q ∙ ap (λ z. Op Star ∷ z) (v ∙ ap (λ z. Ident x ∷ z) p.1), p.2 x)))
+      (found (Op Star ∷ [], q, G.bare_star))) (λ _.
       says_op DoubleStar r _ _
-          (λ a s q. says_name s _ _ (λ x u v. says_then _ _ (suffix_sound (cond b (Some Colon) None) u)
-          (λ a r3 p. found (Op DoubleStar ∷ (Ident x ∷ p.0), q ∙ ap (λ z. Op DoubleStar ∷ z) (v ∙ ap (λ z. Ident x ∷ z) p.1),
-          G.double_parameter p.2))) no_form) (λ _.
+      (λ a s q. says_name s _ _ (λ x u v. says_then _ _ (suffix_sound (cond b (Some Colon) None) u)
+      (λ a r3 p. found (
+        Op DoubleStar ∷ (Ident x ∷ p.0),
+        q ∙ ap (λ z. Op DoubleStar ∷ z) (v ∙ ap (λ z. Ident x ∷ z) p.1),
+        G.double_parameter p.2,
+      ))) no_form) (λ _.
       says_op Slash r _ _ (λ a s q. found (Op Slash ∷ [], q, G.slash)) (λ _. no_form))))
 
   pub piece_sound : (j : Item) (r : List Terminal) → Says (PieceAt j r) (piece self j r)
@@ -231,9 +253,15 @@ listing_sound one j h zero acc r = found ([], [], sym (append-nil acc), refl, G.
 listing_sound one j h (suc m) acc r =
     says_cond (starts j r) _ _
     (says_then _ _ (h r) (λ a r1 p. says_op Comma r1 _ _
-    (λ b s q. says_is _ (listing_sound one j h m (acc ++ (a ∷ [])) s) (λ es r2 y. (p.0 ++ (Op Comma ∷ y.0), a ∷ y.1, y.2
-        ∙ append_assoc acc (a ∷ []) y.1, p.1 ∙ ap (λ z. p.0 ++ z) (q ∙ ap (λ z. Op Comma ∷ z) y.3)
-        ∙ two p.0 y.0 r2 (Op Comma), G.item p.2 y.4)))
+    (λ b s q. says_is _ (listing_sound one j h m (acc ++ (a ∷ [])) s) (λ es r2 y. (
+      p.0 ++ (Op Comma ∷ y.0),
+      a ∷ y.1,
+      y.2
+          ∙ append_assoc acc (a ∷ []) y.1,
+      p.1 ∙ ap (λ z. p.0 ++ z) (q ∙ ap (λ z. Op Comma ∷ z) y.3)
+          ∙ two p.0 y.0 r2 (Op Comma),
+      G.item p.2 y.4,
+    )))
     (λ _. found (p.0, a ∷ [], refl, p.1, G.last_item p.2))))
     (found ([], [], sym (append-nil acc), refl, G.no_item))
 
@@ -244,7 +272,7 @@ module _ (self : Reads) (all : SoundAt self) where
   pub others_sound : (j : Item) (a : Entry) (r : List Terminal) → Says (OthersAt j a r) (others_of self j a r)
   others_sound j a r = says_op Comma r _ _
       (λ b s q. says_is _ (listing_sound (piece self j) j (piece_sound self all j) (length s) (a ∷ []) s)
-          (λ es r2 y. (Op Comma ∷ y.0, y.1, y.2, q ∙ ap (λ z. Op Comma ∷ z) y.3, λ ts p. G.item p y.4)))
+      (λ es r2 y. (Op Comma ∷ y.0, y.1, y.2, q ∙ ap (λ z. Op Comma ∷ z) y.3, λ ts p. G.item p y.4)))
       (λ _. found ([], [], refl, refl, λ ts p. subst (λ z. G.Listing j z (a ∷ [])) (sym (append-nil ts)) (G.last_item p)))
 
   -- targets
@@ -264,9 +292,12 @@ module _ (self : Reads) (all : SoundAt self) where
   pub target_sound : (r : List Terminal) → Says (λ e r1. (ts : List Terminal) × (r ≡ ts ++ r1) × G.Derives Stars ts e) (read_target self r)
   target_sound r = says_then _ _ (target_item_sound r) (λ e r1 p. says_op Comma r1 _ _
       (λ a s q. says_then _ _ (listing_sound (target_piece self) (Of StarItem) target_piece_sound (length s) [] s)
-          (λ es r2 y. found (p.0 ++ (Op Comma ∷ y.0), p.1 ∙ ap (λ z. p.0 ++ z) (q ∙ ap (λ z. Op Comma ∷ z) y.3) ∙ two p.0 y.0 r2 (Op Comma),
-          subst (λ z. G.Derives Stars (p.0 ++ (Op Comma ∷ y.0)) (Trees.Tuple (an_expr e (singles z)) Load)) (sym y.2)
-          (G.star_tuple p.2 y.4))))
+      (λ es r2 y. found (
+        p.0 ++ (Op Comma ∷ y.0),
+        p.1 ∙ ap (λ z. p.0 ++ z) (q ∙ ap (λ z. Op Comma ∷ z) y.3) ∙ two p.0 y.0 r2 (Op Comma),
+        subst (λ z. G.Derives Stars (p.0 ++ (Op Comma ∷ y.0)) (Trees.Tuple (an_expr e (singles z)) Load)) (sym y.2)
+            (G.star_tuple p.2 y.4),
+      )))
       (λ _. found (p.0, p.1, G.next p.2)))
 
   ifs_sound : (m : ℕ) (acc : List Expr) (r : List Terminal)
@@ -274,8 +305,14 @@ module _ (self : Reads) (all : SoundAt self) where
   ifs_sound zero acc r = found ([], [], sym (append-nil acc), refl, G.no_if)
   ifs_sound (suc m) acc r = says_word Key.If r _ _
       (λ a s q. says_then _ _ (all Or s) (λ e r1 p. says_is _ (ifs_sound m (acc ++ (e ∷ [])) r1)
-          (λ es r2 y. (Word Key.If ∷ (p.0 ++ y.0), e ∷ y.1, y.2 ∙ append_assoc acc (e ∷ []) y.1, q
-          ∙ ap (λ z. Word Key.If ∷ z) (p.1 ∙ ap (λ z. p.0 ++ z) y.3 ∙ sym (append_assoc p.0 y.0 r2)), G.if_one p.2 y.4))))
+      (λ es r2 y. (
+        Word Key.If ∷ (p.0 ++ y.0),
+        e ∷ y.1,
+        y.2 ∙ append_assoc acc (e ∷ []) y.1,
+        q
+            ∙ ap (λ z. Word Key.If ∷ z) (p.1 ∙ ap (λ z. p.0 ++ z) y.3 ∙ sym (append_assoc p.0 y.0 r2)),
+        G.if_one p.2 y.4,
+      ))))
       (λ _. found ([], [], sym (append-nil acc), refl, G.no_if))
 
 abbrev made_of : Expr → Expr → List Expr → Bool → Comprehension
@@ -317,32 +354,41 @@ module _ (self : Reads) (all : SoundAt self) where
   for_in_sound b r = says_then _ _ (target_sound self all r)
       (λ t r1 p. says_word Key.In r1 _ _
       (λ a s q. says_then _ _ (all Or s) (λ e r3 y. says_then _ _ (ifs_sound self all (length r3) [] r3) (λ cs r4 w. says_made _ r4 (λ g h.
-      let z = generator_is (stored t) e cs b g h in
-      (p.0 ++ (Word Key.In ∷ (y.0 ++ w.0)), p.1 ∙ ap (λ z. p.0 ++ z) (q ∙ ap (λ z. Word Key.In ∷ z) (y.1 ∙ ap (λ z. y.0 ++ z) w.3))
-          ∙ in_shape p.0 y.0 w.0 r4 (Word Key.In), subst (λ k. G.ForIn b (p.0 ++ (Word Key.In ∷ (y.0 ++ w.0))) k)
-          (ap (λ v. made_of z.0 e v b) (sym w.2) ∙ z.2) (G.target_in p.2 z.1 y.2 w.4)))))) (λ _. no_form))
+      let z = generator_is (stored t) e cs b g h in (
+        p.0 ++ (Word Key.In ∷ (y.0 ++ w.0)),
+        p.1 ∙ ap (λ z. p.0 ++ z) (q ∙ ap (λ z. Word Key.In ∷ z) (y.1 ∙ ap (λ z. y.0 ++ z) w.3))
+            ∙ in_shape p.0 y.0 w.0 r4 (Word Key.In),
+        subst (λ k. G.ForIn b (p.0 ++ (Word Key.In ∷ (y.0 ++ w.0))) k)
+            (ap (λ v. made_of z.0 e v b) (sym w.2) ∙ z.2) (G.target_in p.2 z.1 y.2 w.4),
+      ))))) (λ _. no_form))
 
   one_more_comp : (acc : List Comprehension) (r : List Terminal) (ts : List Terminal) (g : Comprehension) (r1 : List Terminal)
       → r ≡ ts ++ r1 → G.Comp ts g → (gs : List Comprehension) (r2 : List Terminal)
       → CompsAt (acc ++ (g ∷ [])) r1 gs r2 → CompsAt acc r gs r2
   one_more_comp acc r ts g r1 q p gs r2 (inl u) = inr (ts, g ∷ [], u.0, q ∙ ap (λ z. ts ++ z) u.1, G.one_comp p)
-  one_more_comp acc r ts g r1 q p gs r2 (inr u) = inr (ts ++ u.0, g ∷ u.1, u.2 ∙ append_assoc acc (g ∷ []) u.1, q ∙ ap (λ z. ts ++ z) u.3
-      ∙ sym (append_assoc ts u.0 r2), G.comps p u.4)
+  one_more_comp acc r ts g r1 q p gs r2 (inr u) = inr (
+    ts ++ u.0,
+    g ∷ u.1,
+    u.2 ∙ append_assoc acc (g ∷ []) u.1,
+    q ∙ ap (λ z. ts ++ z) u.3
+        ∙ sym (append_assoc ts u.0 r2),
+    G.comps p u.4,
+  )
 
   comps_sound : (m : ℕ) (acc : List Comprehension) (r : List Terminal) → length r ≤ m → Says (CompsAt acc r) (comps_loop self m acc r)
   comps_sound zero acc r le = found (inl (refl, refl, no_comp_left r le))
   comps_sound (suc m) acc r le =
       says_word Key.For r _ _
-          (λ a s q. says_then _ _ (for_in_sound false s)
-          (λ g r1 p. says_is _ (comps_sound m (acc ++ (g ∷ [])) r1 (omega (arith, le, ap length q, ap length p.1, length-append p.0 r1)))
-          (one_more_comp acc r (Word Key.For ∷ p.0) g r1 (q ∙ ap (λ z. Word Key.For ∷ z) p.1) (G.for_in p.2)))) (λ f1.
+      (λ a s q. says_then _ _ (for_in_sound false s)
+      (λ g r1 p. says_is _ (comps_sound m (acc ++ (g ∷ [])) r1 (omega (arith, le, ap length q, ap length p.1, length-append p.0 r1)))
+      (one_more_comp acc r (Word Key.For ∷ p.0) g r1 (q ∙ ap (λ z. Word Key.For ∷ z) p.1) (G.for_in p.2)))) (λ f1.
       says_word Key.Async r _ _
-          (λ a s q. says_word Key.For s _ _
-          (λ b u v. says_then _ _ (for_in_sound true u)
-          (λ g r1 p. says_is _
-          (comps_sound m (acc ++ (g ∷ [])) r1 (omega (arith, le, ap length q, ap length v, ap length p.1, length-append p.0 r1)))
-          (one_more_comp acc r (Word Key.Async ∷ (Word Key.For ∷ p.0)) g r1 (q
-          ∙ ap (λ z. Word Key.Async ∷ z) (v ∙ ap (λ z. Word Key.For ∷ z) p.1)) (G.async_for_in p.2)))) (λ _. no_form)) (λ f2.
+      (λ a s q. says_word Key.For s _ _
+      (λ b u v. says_then _ _ (for_in_sound true u)
+      (λ g r1 p. says_is _
+      (comps_sound m (acc ++ (g ∷ [])) r1 (omega (arith, le, ap length q, ap length v, ap length p.1, length-append p.0 r1)))
+      (one_more_comp acc r (Word Key.Async ∷ (Word Key.For ∷ p.0)) g r1 (q
+      ∙ ap (λ z. Word Key.Async ∷ z) (v ∙ ap (λ z. Word Key.For ∷ z) p.1)) (G.async_for_in p.2)))) (λ _. no_form)) (λ f2.
       found (inl (refl, refl, starts_none r f1 f2))))
 
   pub comps_closed_sound : {Q : Expr → List Terminal → Type 0} (s : Exact) (r : List Terminal) (make : List Comprehension → Expr)

@@ -73,8 +73,11 @@ constant_is (Some w) e h = (w, refl, some_is (Trees.Constant w) e h)
 string_sound : (acc : List Values.Value) (r : List Terminal)
     → Says (λ ws r1. (vs : List Values.Value) × (ws ≡ acc ++ vs) × (r ≡ map Literal vs ++ r1)) (string_run acc r)
 string_sound acc [] = found ([], sym (append-nil acc), refl)
-string_sound acc (Literal v ∷ r) = says_is _ (string_sound (acc ++ (v ∷ [])) r) (λ ws r1 p. (v ∷ p.0, p.1 ∙ append_assoc acc (v ∷ []) p.0,
-    ap (λ z. Literal v ∷ z) p.2))
+string_sound acc (Literal v ∷ r) = says_is _ (string_sound (acc ++ (v ∷ [])) r) (λ ws r1 p. (
+  v ∷ p.0,
+  p.1 ∙ append_assoc acc (v ∷ []) p.0,
+  ap (λ z. Literal v ∷ z) p.2,
+))
 string_sound acc (_ ∷ r) = found ([], sym (append-nil acc), refl)
 
 -- ---- The parts of an f-string.
@@ -109,8 +112,11 @@ field_shape ks us vs = simp append_assoc refl
 spec_sound : (u : Bool) (parts : List Terminal → Answer (List StringPart)) → ((r : List Terminal) → Says (PartsAt u [] r) (parts r))
     → (r : List Terminal) → Says (SpecAt u r) (spec_with parts u r)
 spec_sound u parts h r = says_mark is_spec_begin SpecBegin spec_is r _ _
-    (λ a s q. says_then _ _ (h s) (λ ps r1 p. found (SpecBegin ∷ p.0, q ∙ ap (λ z. SpecBegin ∷ z) p.2,
-        subst (λ z. G.Spec u (SpecBegin ∷ p.0) (present (Trees.JoinedStr (spec_values_of u (merged z))))) (sym p.3) (G.spec p.4))))
+    (λ a s q. says_then _ _ (h s) (λ ps r1 p. found (
+      SpecBegin ∷ p.0,
+      q ∙ ap (λ z. SpecBegin ∷ z) p.2,
+      subst (λ z. G.Spec u (SpecBegin ∷ p.0) (present (Trees.JoinedStr (spec_values_of u (merged z))))) (sym p.3) (G.spec p.4),
+    )))
     (found ([], refl, G.no_spec))
 
 module _ (self : Reads) (all : SoundAt self) where
@@ -118,7 +124,7 @@ module _ (self : Reads) (all : SoundAt self) where
       → ((r : List Terminal) → Says (PartsAt u [] r) (parts r)) → (r : List Terminal) → Says (FieldAt u c r) (field_with self parts u c r)
   field_sound u c parts h r = says_op LPar r _ _ (λ a s q.
       says_then _ _ (all Atom r) (λ e r1 p. says_then _ _ (spec_sound u parts h r1)
-          (λ o r2 y. says_mark is_field_end FieldEnd field_end_is r2 _ _ (λ b r3 v.
+      (λ o r2 y. says_mark is_field_end FieldEnd field_end_is r2 _ _ (λ b r3 v.
       let w = bracketed p.0 r1 s e p.2 (sym p.1 ∙ q) in
       found (
         Op LPar ∷ (w.0 ++ (y.0 ++ (FieldEnd ∷ []))),
@@ -133,15 +139,26 @@ module _ (self : Reads) (all : SoundAt self) where
   parts_sound u zero acc r = found ([], [], refl, sym (append-nil acc), G.no_part)
   parts_sound u (suc m) acc r =
       says_first text_in r _ _ (λ t x s e q. says_is _ (parts_sound u m (acc ++ (Text x ∷ [])) s)
-          (λ ps r1 p. (FormattedText x ∷ p.0, Text x ∷ p.1, q ∙ (ap (λ z. z ∷ s) (text_is t x e) ∙ ap (λ z. FormattedText x ∷ z) p.2), p.3
-          ∙ append_assoc acc (Text x ∷ []) p.1, G.text_part p.4))) (λ _.
+      (λ ps r1 p. (
+        FormattedText x ∷ p.0,
+        Text x ∷ p.1,
+        q ∙ (ap (λ z. z ∷ s) (text_is t x e) ∙ ap (λ z. FormattedText x ∷ z) p.2),
+        p.3
+            ∙ append_assoc acc (Text x ∷ []) p.1,
+        G.text_part p.4,
+      ))) (λ _.
       says_first conversion_in r _ _
-          (λ t c s e q. says_then _ _ (field_sound u c (λ z. parts_loop self u m [] z) (λ z. parts_sound u m [] z) s)
-          (λ f r1 y. says_is _ (parts_sound u m (acc ++ (Field f ∷ [])) r1) (λ ps r2 p.
-      (FieldBegin c ∷ (y.0 ++ p.0), Field f ∷ p.1, q
-          ∙ (ap (λ z. z ∷ s) (field_is t c e)
-          ∙ ap (λ z. FieldBegin c ∷ z) (y.1 ∙ (ap (λ z. y.0 ++ z) p.2 ∙ sym (append_assoc y.0 p.0 r2)))), p.3
-          ∙ append_assoc acc (Field f ∷ []) p.1, y.2 p.0 p.1 p.4)))) (λ _.
+      (λ t c s e q. says_then _ _ (field_sound u c (λ z. parts_loop self u m [] z) (λ z. parts_sound u m [] z) s)
+      (λ f r1 y. says_is _ (parts_sound u m (acc ++ (Field f ∷ [])) r1) (λ ps r2 p. (
+        FieldBegin c ∷ (y.0 ++ p.0),
+        Field f ∷ p.1,
+        q
+            ∙ (ap (λ z. z ∷ s) (field_is t c e)
+            ∙ ap (λ z. FieldBegin c ∷ z) (y.1 ∙ (ap (λ z. y.0 ++ z) p.2 ∙ sym (append_assoc y.0 p.0 r2)))),
+        p.3
+            ∙ append_assoc acc (Field f ∷ []) p.1,
+        y.2 p.0 p.1 p.4,
+      )))) (λ _.
       found ([], [], refl, sym (append-nil acc), G.no_part)))
 
   -- ---- Literals and f-strings.
@@ -158,25 +175,34 @@ module _ (self : Reads) (all : SoundAt self) where
   loop_sound u zero acc r = found ([], [], refl, sym (append-nil acc), G.no_literal)
   loop_sound u (suc m) acc r =
       says_first literal_in r _ _
-          (λ t v s e q. says_some (text_of v) _ _ (λ x h. says_is _ (loop_sound u m (acc ++ (Text x ∷ [])) s) (λ ps r1 p.
-      let w = value_is v x h in
-      (Literal (Values.Str x w.0) ∷ p.0, Text x ∷ p.1, q ∙ (ap (λ z. z ∷ s) (literal_is t v e ∙ ap Literal w.1)
-          ∙ ap (λ z. Literal (Values.Str x w.0) ∷ z) p.2), p.3 ∙ append_assoc acc (Text x ∷ []) p.1, G.text_literal p.4))) no_form) (λ _.
+      (λ t v s e q. says_some (text_of v) _ _ (λ x h. says_is _ (loop_sound u m (acc ++ (Text x ∷ [])) s) (λ ps r1 p.
+      let w = value_is v x h in (
+        Literal (Values.Str x w.0) ∷ p.0,
+        Text x ∷ p.1,
+        q ∙ (ap (λ z. z ∷ s) (literal_is t v e ∙ ap Literal w.1)
+            ∙ ap (λ z. Literal (Values.Str x w.0) ∷ z) p.2),
+        p.3 ∙ append_assoc acc (Text x ∷ []) p.1,
+        G.text_literal p.4,
+      ))) no_form) (λ _.
       says_mark is_formatted_begin FormattedBegin begin_is r _ _
-          (λ a s q. says_then _ _ (formatted_sound u acc s) (λ ps r1 p. says_is _ (loop_sound u m ps r1) (λ qs r2 y.
-      (FormattedBegin ∷ (p.0 ++ (FormattedEnd ∷ y.0)), p.1 ++ y.1, rw (q, p.2, y.2) (simp append_assoc refl),
-          rw (y.3, p.3) (append_assoc acc p.1 y.1), G.formatted_literal p.4 y.4))))
+      (λ a s q. says_then _ _ (formatted_sound u acc s) (λ ps r1 p. says_is _ (loop_sound u m ps r1) (λ qs r2 y. (
+        FormattedBegin ∷ (p.0 ++ (FormattedEnd ∷ y.0)),
+        p.1 ++ y.1,
+        rw (q, p.2, y.2) (simp append_assoc refl),
+        rw (y.3, p.3) (append_assoc acc p.1 y.1),
+        G.formatted_literal p.4 y.4,
+      ))))
       (found ([], [], refl, sym (append-nil acc), G.no_literal)))
 
   behind_sound : (u : Bool) (acc : List StringPart) (r : List Terminal) → Says (JoinedBehind u acc r) (joined_step self u acc r)
   behind_sound u acc r =
       says_then _ _ (formatted_sound u acc r) (λ ps r1 p. says_then _ _ (loop_sound u (length r1) ps r1) (λ qs r2 y. found (
-    p.0 ++ (FormattedEnd ∷ y.0),
-    p.1 ++ y.1,
-    rw (p.2, y.2) (simp append_assoc refl),
-    ap (λ z. Trees.JoinedStr (values_of u (merged z))) (y.3 ∙ (ap (λ z. z ++ y.1) p.3 ∙ append_assoc acc p.1 y.1)),
-    G.formatted_literal p.4 y.4,
-  )))
+        p.0 ++ (FormattedEnd ∷ y.0),
+        p.1 ++ y.1,
+        rw (p.2, y.2) (simp append_assoc refl),
+        ap (λ z. Trees.JoinedStr (values_of u (merged z))) (y.3 ∙ (ap (λ z. z ++ y.1) p.3 ∙ append_assoc acc p.1 y.1)),
+        G.formatted_literal p.4 y.4,
+      )))
 
 -- the texts in front of the first f-string
 prefixed : (u : Bool) (vs : List Values.Value) (ps : List StringPart) → texts_of vs ≡ Some ps → (ts : List Terminal) (qs : List StringPart)
@@ -213,21 +239,29 @@ FitsAt P i e r = (ts : List Terminal) × (i ≡ ts ++ r) × P ts e
 
 module _ (self : Reads) (all : SoundAt self) (P : List Terminal → Expr → Type 0) (formatted : JoinedFits P) where
   pub joined_sound : (r : List Terminal) → Says (FitsAt P (FormattedBegin ∷ r)) (joined_step self false [] r)
-  joined_sound r = says_is _ (behind_sound self all false [] r) (λ e r1 p. (FormattedBegin ∷ p.0, ap (λ z. FormattedBegin ∷ z) p.2,
-      subst (λ z. P (FormattedBegin ∷ p.0) z) (sym p.3) (formatted false (FormattedBegin ∷ p.0) p.1 p.4 refl refl)))
+  joined_sound r = says_is _ (behind_sound self all false [] r) (λ e r1 p. (
+    FormattedBegin ∷ p.0,
+    ap (λ z. FormattedBegin ∷ z) p.2,
+    subst (λ z. P (FormattedBegin ∷ p.0) z) (sym p.3) (formatted false (FormattedBegin ∷ p.0) p.1 p.4 refl refl),
+  ))
 
   pub literals_sound : StringsFit P → (v : Values.Value) (r : List Terminal) → Says (FitsAt P (Literal v ∷ r)) (literals self v r)
   literals_sound plain v r = says_then _ _ (string_sound [] r) (λ ws r1 p.
       says_mark is_formatted_begin FormattedBegin begin_is r1 _ _
-          (λ a s q. says_some (texts_of (v ∷ ws)) _ _ (λ ps h. says_is _ (behind_sound self all (kind_of v) ps s) (λ e r2 y.
-      (Literal v ∷ (map Literal ws ++ (FormattedBegin ∷ y.0)), shape ws p.0 r1 s r2 y.0 p.1 p.2 q y.2,
-          subst (λ z. P (Literal v ∷ (map Literal ws ++ (FormattedBegin ∷ y.0))) z) (sym y.3)
-          (formatted (kind_of v) (Literal v ∷ (map Literal ws ++ (FormattedBegin ∷ y.0))) (ps ++ y.1)
-          (prefixed (kind_of v) (v ∷ ws) ps h (FormattedBegin ∷ y.0) y.1 y.4) refl (formatted_behind ws y.0))))) no_form)
+      (λ a s q. says_some (texts_of (v ∷ ws)) _ _ (λ ps h. says_is _ (behind_sound self all (kind_of v) ps s) (λ e r2 y. (
+        Literal v ∷ (map Literal ws ++ (FormattedBegin ∷ y.0)),
+        shape ws p.0 r1 s r2 y.0 p.1 p.2 q y.2,
+        subst (λ z. P (Literal v ∷ (map Literal ws ++ (FormattedBegin ∷ y.0))) z) (sym y.3)
+            (formatted (kind_of v) (Literal v ∷ (map Literal ws ++ (FormattedBegin ∷ y.0))) (ps ++ y.1)
+            (prefixed (kind_of v) (v ∷ ws) ps h (FormattedBegin ∷ y.0) y.1 y.4) refl (formatted_behind ws y.0)),
+      ))) no_form)
       (says_made _ r1 (λ e h.
-      let z = constant_is (joined v ws) e h in
-      (Literal v ∷ map Literal p.0, ap (λ z. Literal v ∷ z) p.2, subst (λ k. P (Literal v ∷ map Literal p.0) k) z.2
-          (plain v z.0 p.0 (ap (joined v) (sym p.1) ∙ z.1))))))
+      let z = constant_is (joined v ws) e h in (
+        Literal v ∷ map Literal p.0,
+        ap (λ z. Literal v ∷ z) p.2,
+        subst (λ k. P (Literal v ∷ map Literal p.0) k) z.2
+            (plain v z.0 p.0 (ap (joined v) (sym p.1) ∙ z.1)),
+      ))))
     where
       shape : (ws vs : List Values.Value) (r1 s r2 ts : List Terminal) → ws ≡ vs → r ≡ map Literal vs ++ r1 → r1 ≡ FormattedBegin ∷ s
           → s ≡ ts ++ r2 → Literal v ∷ r ≡ (Literal v ∷ (map Literal ws ++ (FormattedBegin ∷ ts))) ++ r2

@@ -37,27 +37,27 @@ under_drops l ds d h = ap (under l) (lasts_of-push ds d)
 pub under_keeps : (l : ℕ) (ds : List Last) (d : Last) → d.level < l → under l (lasts_of (ds ++ d ∷ [])) ≡ lasts_of (ds ++ d ∷ [])
 under_keeps l ds d h =
     ap (under l) (lasts_of-push ds d) ∙ ap (λ b. cond b (last_of d ∷ lasts_of ds) (under l (lasts_of ds))) (lt-ltb d.level l h)
-        ∙ sym (lasts_of-push ds d)
+    ∙ sym (lasts_of-push ds d)
 
 -- dropping the levels above first
 pub under_under : (l m : ℕ) → l ≤ m → (ds : List Depth) → under l (under m ds) ≡ under l ds
 under_under l m h [] = refl
 under_under l m h (d ∷ ds) = elim (nat_lt d.level m) as (λ b. nat_lt d.level m ≡ b
     → under l (cond b (d ∷ ds) (under m ds)) ≡ cond (nat_lt d.level l) (d ∷ ds) (under l ds)) [
-  | true ↦ λ e. refl
-  | false ↦ λ e.
-      let k : m ≤ d.level = ltb-false d.level m e in
-      under_under l m h ds ∙ sym (ap (λ b. cond b (d ∷ ds) (under l ds)) (not_less d.level l (omega (arith, h, k))))
-] refl
+      | true ↦ λ e. refl
+      | false ↦ λ e.
+          let k : m ≤ d.level = ltb-false d.level m e in
+          under_under l m h ds ∙ sym (ap (λ b. cond b (d ∷ ds) (under l ds)) (not_less d.level l (omega (arith, h, k))))
+    ] refl
 
 abbrev made : ℕ → ℕ → ℕ → ℕ → Depth
 made l round arms owned = record { level = l; round = round; arms = arms; own = owned }
 
 pub counts_by : (l : ℕ) (x : Shape) (old middle low new : List Depth) (arms round most_arms most_round owned : ℕ) (deep : Bool) →
     middle ≡ under (suc l) old → arms ≡ arms_top x l middle → low ≡ under l middle → round ≡ round_top low → most_round ≡ min 500 round
-        → most_arms ≡ min 500 arms →
+    → most_arms ≡ min 500 arms →
     owned ≡ own_of (clause_in x) → new ≡ record { level = l; round = most_round; arms = most_arms; own = owned } ∷ low
-        → deep ≡ deep_in x most_round most_arms owned →
+    → deep ≡ deep_in x most_round most_arms owned →
     Counts l x old new deep
 counts_by l x old middle low new arms round most_arms most_round owned deep m a b r mr ma o n d =
     let lower : low ≡ under l old = b ∙ ap (under l) m ∙ under_under l (suc l) (omega arith) old in
@@ -82,17 +82,17 @@ under_capped : (l : ℕ) (ds : List Depth) → under l (map capped ds) ≡ map c
 under_capped l [] = refl
 under_capped l (d ∷ ds) = elim (nat_lt d.level l) as (λ b. cond b (map capped (d ∷ ds)) (under l (map capped ds)) ≡ map capped
     (cond b (d ∷ ds) (under l ds))) [
-  | true ↦ refl
-  | false ↦ under_capped l ds
-]
+      | true ↦ refl
+      | false ↦ under_capped l ds
+    ]
 
 round_is_top : (l : ℕ) (ds : List Depth) → round_at l ds ≡ round_top (under l ds)
 round_is_top l [] = refl
 round_is_top l (d ∷ ds) =
     elim (nat_lt d.level l) as (λ b. cond b (d.round + (d.arms + d.own)) (round_at l ds) ≡ round_top (cond b (d ∷ ds) (under l ds))) [
-  | true ↦ refl
-  | false ↦ round_is_top l ds
-]
+      | true ↦ refl
+      | false ↦ round_is_top l ds
+    ]
 
 round_capped : (ds : List Depth) → min 500 (round_top (map capped ds)) ≡ min 500 (round_top ds)
 round_capped [] = refl
@@ -107,7 +107,7 @@ arms_capped : (x : Shape) (l : ℕ) (ds : List Depth) → min 500 (arms_top x l 
 arms_capped x l [] = refl
 arms_capped x l (d ∷ ds) =
     elim (d.level == l) as (λ b. min 500 (cond b (arms_more (clause_in x) (min 500 d.arms)) 0) ≡ min 500
-        (cond b (arms_more (clause_in x) d.arms) 0)) [
+    (cond b (arms_more (clause_in x) d.arms) 0)) [
       | true ↦ more_capped (clause_in x) d.arms
       | false ↦ refl
     ]
@@ -200,7 +200,7 @@ deep_is (header_form h (Some suite)) round arms = both_deep (min 500 round + (mi
 deep_is (header_form h None) round arms =
     ap (λ b. cond b false (nat_le 500 (min 500 round + min 500 arms))) (later_is h)
     ∙ deep_header (is_clause (header_kind h)) (min 500 round + min 500 arms) (round + arms)
-        (both_deep (min 500 round + min 500 arms) (round + arms) (λ k. omega (arith, k)) (λ k. omega (arith, k)))
+    (both_deep (min 500 round + min 500 arms) (round + arms) (λ k. omega (arith, k)) (λ k. omega (arith, k)))
 
 -- ---- One line more.
 
@@ -210,7 +210,7 @@ last_is l f ds =
     ap (λ z. min 500 (round_top z)) (under_capped l ds) ∙ round_capped (under l ds) ∙ ap (λ z. min 500 z) (sym (round_is_top l ds)) in
     let arms : min 500 (arms_top (shape_of f) l (under (suc l) (map capped ds))) ≡ min 500 (arms_at (kind_of f) l ds) =
     ap (λ z. min 500 (arms_top (shape_of f) l z)) (under_capped (suc l) ds) ∙ arms_capped (shape_of f) l (under (suc l) ds)
-        ∙ ap (λ z. min 500 z) (sym (arms_are_top f l ds)) in
+    ∙ ap (λ z. min 500 z) (sym (arms_are_top f l ds)) in
     ap (λ z. made l z (min 500 (arms_top (shape_of f) l (under (suc l) (map capped ds)))) (own_of (clause_in (shape_of f)))) rounds
     ∙ ap (λ z. made l (min 500 (round_at l ds)) z (own_of (clause_in (shape_of f)))) arms
     ∙ ap (made l (min 500 (round_at l ds)) (min 500 (arms_at (kind_of f) l ds))) (own_in f)

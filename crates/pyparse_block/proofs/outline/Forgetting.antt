@@ -130,34 +130,38 @@ settle_outlined : (l : ℕ) (done : List Stmt) (g : Group) (fresh : Bool) (below
     outlined (reading.settle_in l done g fresh below) ≡ settle_in l (group_of g) fresh (map awaited below)
 settle_outlined l done g fresh [] = refl
 settle_outlined l done g fresh (w ∷ below) =
-    let gone : Answer State = elim (reading.above w done g) [ None ↦ Faulty MisplacedClause
-        | Some p ↦ reading.settle_in l p.done p.group false below ] in
+    let gone : Answer State = elim (reading.above w done g) [
+      | None ↦ Faulty MisplacedClause
+      | Some p ↦ reading.settle_in l p.done p.group false below
+    ] in
     let here : Answer Levels = Fine (levels (group_of g) fresh (map awaited (w ∷ below))) in
     let ends : outlined gone ≡ left l (map awaited below) (above (group_of g) (awaited w)) =
     settled l below (reading.above w done g) (λ d h. settle_outlined l d h false below)
-        ∙ ap (left l (map awaited below)) (above_alike w done g) in
+    ∙ ap (left l (map awaited below)) (above_alike w done g) in
     outlined_cond (nat_lt l (length (w ∷ below))) (cond fresh (Faulty ExpectedIndent) gone) (Fine (state done g fresh (w ∷ below)))
     ∙ ap (λ a. cond (nat_lt l (length (w ∷ below))) a here) (outlined_cond fresh (Faulty ExpectedIndent) gone
-        ∙ ap (λ a. cond fresh (Faulty ExpectedIndent) a) ends)
+    ∙ ap (λ a. cond fresh (Faulty ExpectedIndent) a) ends)
     ∙ ap (λ n. cond (nat_lt l n) (cond fresh (Faulty ExpectedIndent) (left l (map awaited below) (above (group_of g) (awaited w)))) here)
-        (sym (length-map (w ∷ below) awaited))
+    (sym (length-map (w ∷ below) awaited))
 
 -- ---- A line of the deepest level.
 
 -- what a line makes of the levels, by what is then open
 abbrev behind : bare_shape.Shape → Levels → Option bare.GroupKind → Answer Levels
-behind x s o = elim o [ None ↦ Faulty MisplacedClause
-    | Some g ↦ Fine (cond (opens x) (levels (first x) true (g ∷ s.below)) (levels g false s.below)) ]
+behind x s o = elim o [
+  | None ↦ Faulty MisplacedClause
+  | Some g ↦ Fine (cond (opens x) (levels (first x) true (g ∷ s.below)) (levels g false s.below))
+]
 
 simple_outlined : (s : State) (ss : List Stmt) (g : Group) →
     outlined (or_misplaced (closes g) (λ more. state ((s.done ++ more) ++ ss) Idle false s.below)) ≡ behind shape.Simple (outline s)
-        (next shape.Simple (group_of g))
+    (next shape.Simple (group_of g))
 simple_outlined s ss Idle = refl
 simple_outlined s ss _ = refl
 
 decorator_outlined : (s : State) (e : Expr) (g : Group) →
     outlined (or_misplaced (decorated g e) (λ p. state (s.done ++ p.done) p.group false s.below)) ≡ behind shape.Decorator (outline s)
-        (next shape.Decorator (group_of g))
+    (next shape.Decorator (group_of g))
 decorator_outlined s e (Marked es) = refl
 decorator_outlined s e Idle = refl
 decorator_outlined s e _ = refl
@@ -198,7 +202,7 @@ then_outlined (Faulty x) f out g e h = e x
 pub step_outlined : (s : State) (x : Line) → outlined (reading.step s x) ≡ step x.level (shape_of x.form) (outline s)
 step_outlined s x =
     then_outlined (reading.settle x.level s) (reading.placed x.level x.form) outlined (placed x.level (shape_of x.form)) (λ e. refl)
-        (placed_outlined x.level x.form)
+    (placed_outlined x.level x.form)
     ∙ ap (λ a. then a (placed x.level (shape_of x.form))) (settle_outlined x.level s.done s.group s.fresh s.below)
 
 ended_outlined : (d : List Stmt) (o : Option (List Stmt)) → bare_end (elim o [ None ↦ Faulty MisplacedClause | Some ss ↦ Fine (d ++ ss) ]) ≡
@@ -209,7 +213,7 @@ ended_outlined d (Some ss) = refl
 pub finish_outlined : (s : State) → bare_end (reading.finish s) ≡ finish (outline s)
 finish_outlined s =
     then_outlined (reading.settle 0 s) (λ t. elim (closes t.group) [ None ↦ Faulty MisplacedClause | Some ss ↦ Fine (t.done ++ ss) ])
-        bare_end
+    bare_end
     (λ t. cond (is_whole t.group) (Fine tt) (Faulty MisplacedClause)) (λ e. refl)
     (λ t. ended_outlined t.done (closes t.group) ∙ ap (λ b. cond b (Fine tt) (Faulty MisplacedClause)) (sym (whole_is t.group)))
     ∙ ap (λ a. then a (λ t. cond (is_whole t.group) (Fine tt) (Faulty MisplacedClause))) (settle_outlined 0 s.done s.group s.fresh s.below)

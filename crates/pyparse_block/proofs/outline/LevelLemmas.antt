@@ -32,7 +32,7 @@ settle_stays l s h =
       | [] ↦ λ h. refl
       | w ∷ below ↦ λ h.
           ap (λ b. cond b (cond s.fresh (Faulty ExpectedIndent) (left l below (above s.group w)))
-              (Fine (levels s.group s.fresh (w ∷ below)))) (not_less l (length (w ∷ below)) h)
+          (Fine (levels s.group s.fresh (w ∷ below)))) (not_less l (length (w ∷ below)) h)
     ] h
 
 -- the deepest of several levels
@@ -80,7 +80,7 @@ finish_settled : (g : GroupKind) (below : List GroupKind) → finish (levels g f
 finish_settled g [] = refl
 finish_settled g (w ∷ below) =
     ap (λ a. then a (λ t. by_end (is_whole t.group))) (ends 0 (levels g false (w ∷ below)) w below refl (omega arith))
-        ∙ by_above (above g w) (λ h. finish_settled h below)
+    ∙ by_above (above g w) (λ h. finish_settled h below)
   where
     by_above : (o : Option GroupKind) → ((h : GroupKind) → finish (levels h false below) ≡ by_end (may_end h below)) →
         then (left 0 below o) (λ t. by_end (is_whole t.group)) ≡ by_end (elim o [ None ↦ false | Some h ↦ may_end h below ])
@@ -90,15 +90,15 @@ finish_settled g (w ∷ below) =
 finish_is : (s : Levels) → finish s ≡ cond (awaits_block s) (Faulty ExpectedIndent) (by_end (may_end s.group s.below))
 finish_is s =
     elim s.fresh as (λ f. finish (levels s.group f s.below) ≡ cond (awaits_block (levels s.group f s.below)) (Faulty ExpectedIndent)
-        (by_end (may_end s.group s.below))) [
+    (by_end (may_end s.group s.below))) [
       | false ↦ finish_settled s.group s.below ∙ ap (λ b. cond b (Faulty ExpectedIndent) (by_end (may_end s.group s.below)))
           (sym (awaits_none s.group s.below))
       | true ↦ elim s.below as (λ b. finish (levels s.group true b) ≡ cond (awaits_block (levels s.group true b)) (Faulty ExpectedIndent)
           (by_end (may_end s.group b))) [
-        | [] ↦ refl
-        | w ∷ below ↦ ap (λ a. then a (λ t. by_end (is_whole t.group)))
-            (ends 0 (levels s.group true (w ∷ below)) w below refl (omega arith))
-      ]
+            | [] ↦ refl
+            | w ∷ below ↦ ap (λ a. then a (λ t. by_end (is_whole t.group)))
+                (ends 0 (levels s.group true (w ∷ below)) w below refl (omega arith))
+          ]
     ]
   where
     awaits_none : (g : GroupKind) (below : List GroupKind) → awaits_block (levels g false below) ≡ false

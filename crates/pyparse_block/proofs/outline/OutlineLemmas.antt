@@ -63,11 +63,11 @@ counted_by l x y ds es new deep e d c =
 -- a line more
 pub follows_on : (xs : List Line) (old new : Outline) (l : ℕ) (f : Form) (x : Shape) (deep : Bool) → x ≡ shape_of f → Follows xs old →
     step l x (levels_of old.levels) ≡ Fine (levels_of new.levels)
-        → Counts l x (lasts_of old.depths.lasts.items) (lasts_of new.depths.lasts.items) deep → Follows (xs ++ line l f ∷ []) new
+    → Counts l x (lasts_of old.depths.lasts.items) (lasts_of new.depths.lasts.items) deep → Follows (xs ++ line l f ∷ []) new
 follows_on xs old new l f x deep e k s c =
     let r = reads (run xs start) (levels_of old.levels) k.read in
     let t = reads (reading.step r.state (line l f)) (levels_of new.levels) (step_of xs old l f k
-        ∙ ap (λ z. step l z (levels_of old.levels)) (sym e) ∙ s) in
+    ∙ ap (λ z. step l z (levels_of old.levels)) (sym e) ∙ s) in
     record {
       read = ap outlined (step_on xs (line l f) r.state t.state r.is t.is) ∙ ap Fine t.kept;
       counted = line_counted l f (count [] xs) (lasts_of new.depths.lasts.items) deep
@@ -89,7 +89,7 @@ line_blamed xs more o l f stop.Memory k t = tt
 line_blamed xs more o l f (stop.Faulty x) k t =
     let r = reads (run xs start) (levels_of o.levels) k.read in
     fault_found xs (line l f) r.state (fault_of x) r.is (faulty (reading.step r.state (line l f)) (fault_of x) (step_of xs o l f k ∙ t))
-        more
+    more
 
 finish_of : (xs : List Line) (o : Outline) → (k : Follows xs o) →
     bare_end (reading.finish (reads (run xs start) (levels_of o.levels) k.read).state) ≡ finish (levels_of o.levels)

@@ -48,8 +48,12 @@ deep_in _ round arms own = nat_le 500 round
 
 -- a line as the last of its level
 abbrev pub last_in : ℕ → Shape → List Depth → Depth
-last_in l x ds = record { level = l; round = min 500 (round_top (under l ds)); arms = min 500 (arms_top x l (under (suc l) ds));
-    own = own_of (clause_in x) }
+last_in l x ds = record {
+  level = l;
+  round = min 500 (round_top (under l ds));
+  arms = min 500 (arms_top x l (under (suc l) ds));
+  own = own_of (clause_in x);
+}
 
 -- one line more, and whether a statement with 500 round it begins in it
 pub record Counts (l : ℕ) (x : Shape) (old new : List Depth) (deep : Bool) : Type 0 where

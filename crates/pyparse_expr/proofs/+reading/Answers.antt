@@ -44,9 +44,9 @@ use Rattle.pyparse_expr.proofs.+reading.Goals as goal
 pub climbing::climb-returns-in_err-first : goal.climbing::climb-returns-in_err-first
 climbing::climb-returns-in_err-first t c =
     let f = climb_failed c.args.tokens.now c.args.depth c.args.level c.rank-least.result (seen c.args.tokens.now c.args.at)
-        c.in_err-first.field-0.0 c.in_ok-enter.ensures c.requires.level c.rank-least.ensures
-        (climb_front_error c.args.depth c.rank-least.result (seen c.args.tokens.now c.args.at) c.in_err-first.field-0.0
-        c.in_err-first.ensures) in
+    c.in_err-first.field-0.0 c.in_ok-enter.ensures c.requires.level c.rank-least.ensures
+    (climb_front_error c.args.depth c.rank-least.result (seen c.args.tokens.now c.args.at) c.in_err-first.field-0.0
+    c.in_err-first.ensures) in
     search (rules, f)
 
 pub climbing::climb-loop-o-init : goal.climbing::climb-loop-o-init
@@ -58,9 +58,9 @@ climbing::climb-loop-o-init t c = record {
 pub climbing::climb-returns-in_err-left : goal.climbing::climb-returns-in_err-left
 climbing::climb-returns-in_err-left t c =
     let f = climb_failed c.args.tokens.now c.args.depth c.args.level c.rank-least.result (seen c.args.tokens.now c.args.at)
-        c.in_err-left.field-0.0 c.in_ok-enter.ensures c.requires.level c.rank-least.ensures
-        (climb_error c.args.tokens.now c.args.depth c.rank-least.result _ c.loop-o.left _ c.in_err-left.field-0.0 c.loop-o.invariant.is
-        c.in-Some.ensures.within c.in-Some.ensures.is c.in_err-left.ensures) in
+    c.in_err-left.field-0.0 c.in_ok-enter.ensures c.requires.level c.rank-least.ensures
+    (climb_error c.args.tokens.now c.args.depth c.rank-least.result _ c.loop-o.left _ c.in_err-left.field-0.0 c.loop-o.invariant.is
+    c.in-Some.ensures.within c.in-Some.ensures.is c.in_err-left.ensures) in
     search (rules, f)
 
 pub climbing::climb-loop-o-preserved : goal.climbing::climb-loop-o-preserved
@@ -82,8 +82,8 @@ climbing::climb_first-returns-in-Some t c = front_hit c.args.tokens.now c.args.d
 pub primaries::read_primary-returns-in_err-e-2 : goal.primaries::read_primary-returns-in_err-e-2
 primaries::read_primary-returns-in_err-e-2 t c =
     let f = primary_failed c.args.tokens.now c.args.depth (seen c.args.tokens.now c.args.at) c.in_err-e-2.field-0.0 c.in_ok-enter.ensures
-        (dot_error c.args.tokens.now c.args.depth _ c.tails.e c.in_err-e-2.field-0.0 c.tails.invariant.is c.if-is_op.ensures
-        c.in_err-e-2.ensures) in
+    (dot_error c.args.tokens.now c.args.depth _ c.tails.e c.in_err-e-2.field-0.0 c.tails.invariant.is c.if-is_op.ensures
+    c.in_err-e-2.ensures) in
     search (rules, f)
 
 pub primaries::read_primary-tails-preserved-then-is_op : goal.primaries::read_primary-tails-preserved-then-is_op
@@ -95,8 +95,8 @@ primaries::read_primary-tails-preserved-then-is_op t c = record {
 pub primaries::read_primary-returns-in_err-e-3 : goal.primaries::read_primary-returns-in_err-e-3
 primaries::read_primary-returns-in_err-e-3 t c =
     let f = primary_failed c.args.tokens.now c.args.depth (seen c.args.tokens.now c.args.at) c.in_err-e-3.field-0.0 c.in_ok-enter.ensures
-        (call_error c.args.tokens.now c.args.depth _ c.tails.e c.in_err-e-3.field-0.0 c.tails.invariant.is c.if-is_op-2.ensures
-        c.in_err-e-3.ensures) in
+    (call_error c.args.tokens.now c.args.depth _ c.tails.e c.in_err-e-3.field-0.0 c.tails.invariant.is c.if-is_op-2.ensures
+    c.in_err-e-3.ensures) in
     search (rules, f)
 
 pub primaries::read_primary-tails-preserved-then-is_op-2 : goal.primaries::read_primary-tails-preserved-then-is_op-2
@@ -108,8 +108,8 @@ primaries::read_primary-tails-preserved-then-is_op-2 t c = record {
 pub primaries::read_primary-returns-in_err-e-4 : goal.primaries::read_primary-returns-in_err-e-4
 primaries::read_primary-returns-in_err-e-4 t c =
     let f = primary_failed c.args.tokens.now c.args.depth (seen c.args.tokens.now c.args.at) c.in_err-e-4.field-0.0 c.in_ok-enter.ensures
-        (index_error c.args.tokens.now c.args.depth _ c.tails.e c.in_err-e-4.field-0.0 c.tails.invariant.is c.if-is_op-3.ensures
-        c.in_err-e-4.ensures) in
+    (index_error c.args.tokens.now c.args.depth _ c.tails.e c.in_err-e-4.field-0.0 c.tails.invariant.is c.if-is_op-3.ensures
+    c.in_err-e-4.ensures) in
     search (rules, f)
 
 pub primaries::read_primary-tails-preserved : goal.primaries::read_primary-tails-preserved
@@ -207,8 +207,11 @@ atoms::other_atom-returns-in_default-word t c = other_word (terminal c.args.t) c
     c.in_default-word.not-True c.in_default-word.not-False
 
 pub listings::listing-more-init : goal.listings::listing-more-init
-listings::listing-more-init t c = record { ahead = omega arith; is = list_start c.args.tokens.now c.args.depth c.args.item c.args.items
-    c.requires.within c.requires.low }
+listings::listing-more-init t c = record {
+  ahead = omega arith;
+  is = list_start c.args.tokens.now c.args.depth c.args.item c.args.items
+      c.requires.within c.requires.low;
+}
 
 pub listings::listing-returns-then-not-is_op : goal.listings::listing-returns-then-not-is_op
 listings::listing-returns-then-not-is_op t c = list_end c.args.tokens.now c.args.depth c.args.item _ c.more.items c.args.items.next
@@ -217,7 +220,7 @@ listings::listing-returns-then-not-is_op t c = list_end c.args.tokens.now c.args
 pub listings::listing-returns-in_err-e : goal.listings::listing-returns-in_err-e
 listings::listing-returns-in_err-e t c =
     let f = list_error c.args.tokens.now c.args.depth c.args.item _ c.more.items c.in_err-e.field-0.0 c.more.invariant.is
-        c.if-not-is_op.ensures (omega arith) c.in_err-e.ensures in
+    c.if-not-is_op.ensures (omega arith) c.in_err-e.ensures in
     search (rules, f)
 
 pub listings::listing-more-preserved : goal.listings::listing-more-preserved
@@ -231,7 +234,7 @@ listings::listing-more-preserved t c = record {
 pub listings::tupled-returns-in_err-items : goal.listings::tupled-returns-in_err-items
 listings::tupled-returns-in_err-items t c =
     let f = tuple_failed c.args.tokens.now c.args.depth c.args.item c.args.first c.requires.comma c.in_err-items.field-0.0
-        c.in_err-items.ensures in
+    c.in_err-items.ensures in
     search (rules, f)
 
 pub listings::tupled-returns : goal.listings::tupled-returns
@@ -241,7 +244,7 @@ listings::tupled-returns t c = tuple_made c.args.tokens.now c.args.depth c.args.
 pub atoms::group_tuple-returns-in_err-items : goal.atoms::group_tuple-returns-in_err-items
 atoms::group_tuple-returns-in_err-items t c =
     let f = group_failed c.args.tokens.now c.args.depth item.Elem c.args.first c.requires.comma c.in_err-items.field-0.0
-        c.in_err-items.ensures in
+    c.in_err-items.ensures in
     search (rules, f)
 
 pub atoms::group_tuple-returns-then-not-is_op : goal.atoms::group_tuple-returns-then-not-is_op
@@ -266,7 +269,7 @@ atoms::square-returns-else-is_op t c = square_none c.args.tokens.now c.args.dept
 pub atoms::square-returns-in_err-first : goal.atoms::square-returns-in_err-first
 atoms::square-returns-in_err-first t c =
     let f = square_error c.args.tokens.now c.args.depth c.args.at c.in_err-first.field-0.0 (omega arith)
-        (rw (← c.inner.ensures.steps, ← c.inner.ensures.room) c.in_err-first.ensures) in
+    (rw (← c.inner.ensures.steps, ← c.inner.ensures.room) c.in_err-first.ensures) in
     search (rules, f)
 
 pub atoms::square-returns-then-is_op-2 : goal.atoms::square-returns-then-is_op-2
@@ -282,8 +285,8 @@ atoms::square-returns-else-is_op-2 t c = square_comp c.args.tokens.now c.args.de
 pub atoms::square-returns-in_err-items : goal.atoms::square-returns-in_err-items
 atoms::square-returns-in_err-items t c =
     let f = square_failed c.args.tokens.now c.args.depth c.args.at c.in_ok-first.first c.in_err-items.field-0.0 (omega arith)
-        (inner_found c.args.tokens.now _ c.args.depth c.inner.result _ _ c.in_ok-first.first c.inner.ensures.steps c.inner.ensures.room
-        c.in_ok-first.ensures) c.if-starts_comp.ensures.is c.in_err-items.ensures in
+    (inner_found c.args.tokens.now _ c.args.depth c.inner.result _ _ c.in_ok-first.first c.inner.ensures.steps c.inner.ensures.room
+    c.in_ok-first.ensures) c.if-starts_comp.ensures.is c.in_err-items.ensures in
     search (rules, f)
 
 pub atoms::square-returns-then-not-is_op : goal.atoms::square-returns-then-not-is_op
@@ -304,13 +307,18 @@ chains::chain-returns t c = chain_made c.args.tokens.now c.args.depth c.args.o c
 pub chains::chain-returns-in_err-items : goal.chains::chain-returns-in_err-items
 chains::chain-returns-in_err-items t c =
     let f = chain_failed c.args.tokens.now c.args.depth c.args.o c.args.left c.in_ok-first.first c.in_err-items.field-0.0
-        c.in_ok-first.ensures.items c.in_ok-first.ensures.next c.in_err-items.ensures in
+    c.in_ok-first.ensures.items c.in_ok-first.ensures.next c.in_err-items.ensures in
     search (rules, f)
 
 pub chains::chain-links-requires : goal.chains::chain-links-requires
-chains::chain-links-requires t c =
-    (omega arith, (joins_stands c.args.tokens.now c.args.left.next c.in_ok-first.first.next c.args.o c.requires.within c.requires.sign
-    c.in_ok-first.ensures.next, c.requires.open))
+chains::chain-links-requires t c = (
+  omega arith,
+  (
+    joins_stands c.args.tokens.now c.args.left.next c.in_ok-first.first.next c.args.o c.requires.within c.requires.sign
+        c.in_ok-first.ensures.next,
+    c.requires.open,
+  ),
+)
 
 pub chains::links-sides-init : goal.chains::links-sides-init
 chains::links-sides-init t c = record {
@@ -321,8 +329,11 @@ chains::links-sides-init t c = record {
 pub chains::links-returns-in_err-e : goal.chains::links-returns-in_err-e
 chains::links-returns-in_err-e t c =
     let f = links_error c.args.tokens.now c.args.depth c.args.o _ c.sides.items c.in_err-e.field-0.0 c.sides.invariant.is
-        (rw (← c.chain_word.ensures) c.sides-test.ensures) (rw (← c.side_level.ensures.is, ← c.inner.ensures.steps,
-        ← c.inner.ensures.room) c.in_err-e.ensures) in
+    (rw (← c.chain_word.ensures) c.sides-test.ensures) (rw (
+      ← c.side_level.ensures.is,
+      ← c.inner.ensures.steps,
+      ← c.inner.ensures.room,
+    ) c.in_err-e.ensures) in
     search (rules, f)
 
 pub chains::links-sides-preserved : goal.chains::links-sides-preserved
@@ -341,22 +352,22 @@ chains::links-returns t c = links_end c.args.tokens.now c.args.depth c.args.o _ 
 pub chains::compare-returns-in_err-sign : goal.chains::compare-returns-in_err-sign
 chains::compare-returns-in_err-sign t c =
     let f = failed_cap c.in_err-sign.field-0.0 c.args.depth.room _
-        (sides_wrong c.args.tokens.now c.args.depth (tree_of c.args.left.expr.value) _ c.sides.ops.items c.sides.items
-        c.in_err-sign.field-0.0 c.sides.invariant.is c.in_err-sign.ensures) in
+    (sides_wrong c.args.tokens.now c.args.depth (tree_of c.args.left.expr.value) _ c.sides.ops.items c.sides.items
+    c.in_err-sign.field-0.0 c.sides.invariant.is c.in_err-sign.ensures) in
     search (rules, f)
 
 pub chains::compare-returns-in_err-e : goal.chains::compare-returns-in_err-e
 chains::compare-returns-in_err-e t c =
     let h = hit_sign c.args.tokens.now c.sides.items.next c.in_ok-sign.field-0 c.in-Some.sign c.in-Some.is c.in_ok-sign.ensures in
     let f = failed_cap c.in_err-e.field-0.0 c.args.depth.room _ (sides_error c.args.tokens.now c.args.depth (tree_of c.args.left.expr.value)
-        _ c.sides.ops.items c.sides.items c.in-Some.sign c.in_err-e.field-0.0 c.sides.invariant.is h
-        (rw (← c.inner.ensures.steps, ← c.inner.ensures.room) c.in_err-e.ensures)) in
+    _ c.sides.ops.items c.sides.items c.in-Some.sign c.in_err-e.field-0.0 c.sides.invariant.is h
+    (rw (← c.inner.ensures.steps, ← c.inner.ensures.room) c.in_err-e.ensures)) in
     search (rules, f)
 
 pub chains::compare-sides-preserved : goal.chains::compare-sides-preserved
 chains::compare-sides-preserved t c =
     let h : ComparedAt c.args.tokens.now c.sides.items.next c.in-Some.sign =
-        hit_sign c.args.tokens.now c.sides.items.next c.in_ok-sign.field-0 c.in-Some.sign c.in-Some.is c.in_ok-sign.ensures in
+    hit_sign c.args.tokens.now c.sides.items.next c.in_ok-sign.field-0 c.in-Some.sign c.in-Some.is c.in_ok-sign.ensures in
     let o : c.push.new.self.items ≡ c.sides.ops.items ++ (c.in-Some.sign.op ∷ []) = search (rules, c.in_ok-push.ensures.items) in
     record {
       ahead = omega (arith, c.sides.invariant.ahead, h.ahead, c.in_ok-e.ensures.ahead, c.in_ok-items.ensures.next);
@@ -379,7 +390,7 @@ arguments::more_arguments-returns-then-not-begins_argument t c = more_end c.args
 pub arguments::more_arguments-returns-in_err-grown : goal.arguments::more_arguments-returns-in_err-grown
 arguments::more_arguments-returns-in_err-grown t c =
     let f = more_error c.args.tokens.now c.args.depth (state_of c.args.actual) _ c.more.actual c.in_err-grown.field-0.0 c.more.invariant.is
-        c.if-not-begins_argument.ensures.is c.in_err-grown.ensures in
+    c.if-not-begins_argument.ensures.is c.in_err-grown.ensures in
     search (rules, f)
 
 pub arguments::more_arguments-returns-then-not-is_op : goal.arguments::more_arguments-returns-then-not-is_op
@@ -404,7 +415,7 @@ arguments::call_step-returns t c = call_behind c.args.tokens.now c.args.depth (t
 pub signatures::suffixed-returns-in_err-e-in-Some : goal.signatures::suffixed-returns-in_err-e-in-Some
 signatures::suffixed-returns-in_err-e-in-Some t c =
     let f = suffix_failed c.args.tokens.now c.args.depth c.args.at c.in-Some.sign c.in_err-e-in-Some.field-0.0 c.if-is_op.ensures
-        (rw (← c.inner.ensures.steps, ← c.inner.ensures.room) c.in_err-e-in-Some.ensures) in
+    (rw (← c.inner.ensures.steps, ← c.inner.ensures.room) c.in_err-e-in-Some.ensures) in
     search (rules, f)
 
 pub signatures::suffixed-returns-in_ok-e-in-Some : goal.signatures::suffixed-returns-in_ok-e-in-Some
@@ -438,7 +449,7 @@ signatures::parameters-more-init t c = record {
 pub signatures::parameters-returns-in_err-one : goal.signatures::parameters-returns-in_err-one
 signatures::parameters-returns-in_err-one t c =
     let f = parameters_error c.args.tokens.now c.args.depth c.args.annotated _ c.more.before c.more.invariant.is c.in_err-one.field-0.0
-        c.more-test.ensures.is c.in_err-one.ensures in
+    c.more-test.ensures.is c.in_err-one.ensures in
     search (rules, f)
 
 pub signatures::parameters-returns-then-not-is_op : goal.signatures::parameters-returns-then-not-is_op
@@ -472,15 +483,15 @@ signatures::lambda_step-returns-then-not-is_op t c = lambda_unclosed c.args.toke
 pub signatures::lambda_step-returns-in_err-body : goal.signatures::lambda_step-returns-in_err-body
 signatures::lambda_step-returns-in_err-body t c =
     let f = lambda_body_failed c.args.tokens.now c.args.depth c.args.at c.args.at c.in_ok-signature.signature c.in_ok-signature.ensures
-        c.if-not-is_op.ensures c.in_err-body.field-0.0 (rw (← c.inner.ensures.steps, ← c.inner.ensures.room) c.in_err-body.ensures) in
+    c.if-not-is_op.ensures c.in_err-body.field-0.0 (rw (← c.inner.ensures.steps, ← c.inner.ensures.room) c.in_err-body.ensures) in
     search (rules, f)
 
 pub signatures::lambda_step-returns-in_err-args : goal.signatures::lambda_step-returns-in_err-args
 signatures::lambda_step-returns-in_err-args t c =
     let b = inner_found c.args.tokens.now _ c.args.depth c.inner.result _ _ c.in_ok-body.body c.inner.ensures.steps
-        c.inner.ensures.room c.in_ok-body.ensures in
+    c.inner.ensures.room c.in_ok-body.ensures in
     let f = lambda_wrong c.args.tokens.now c.args.depth c.args.at c.args.at c.in_ok-signature.signature c.in_ok-signature.ensures
-        c.if-not-is_op.ensures _ _ c.in_ok-body.body b c.in_err-args.ensures.is in
+    c.if-not-is_op.ensures _ _ c.in_ok-body.body b c.in_err-args.ensures.is in
     search (rules, f, c.in_err-args.ensures.why)
 
 pub signatures::lambda_step-make_lambda-requires : goal.signatures::lambda_step-make_lambda-requires
@@ -490,10 +501,10 @@ signatures::lambda_step-make_lambda-requires t c = signature_height c.args.token
 pub signatures::lambda_step-returns : goal.signatures::lambda_step-returns
 signatures::lambda_step-returns t c =
     let b = inner_found c.args.tokens.now _ c.args.depth c.inner.result _ _ c.in_ok-body.body c.inner.ensures.steps
-        c.inner.ensures.room c.in_ok-body.ensures in
+    c.inner.ensures.room c.in_ok-body.ensures in
     lambda_made c.args.tokens.now c.args.depth c.args.at c.args.at c.in_ok-signature.signature c.in_ok-signature.ensures
-        c.if-not-is_op.ensures _ _ c.in_ok-body.body b _ c.make_lambda.result c.in_ok-args.ensures
-        (omega (arith, c.in_ok-signature.ensures.ahead, c.in_ok-body.ensures.ahead)) c.make_lambda.ensures
+    c.if-not-is_op.ensures _ _ c.in_ok-body.body b _ c.make_lambda.result c.in_ok-args.ensures
+    (omega (arith, c.in_ok-signature.ensures.ahead, c.in_ok-body.ensures.ahead)) c.make_lambda.ensures
 
 pub braces::more_pairs-more-init : goal.braces::more_pairs-more-init
 braces::more_pairs-more-init t c =
@@ -510,7 +521,7 @@ braces::more_pairs-returns-then-not-starts_pair t c = pairs_stop c.args.tokens.n
 pub braces::more_pairs-returns-in_err-pair : goal.braces::more_pairs-returns-in_err-pair
 braces::more_pairs-returns-in_err-pair t c =
     let f = pairs_error c.args.tokens.now c.args.depth _ c.more.pairs c.more.invariant.is c.in_err-pair.field-0.0 c.if-not-is_op.ensures
-        c.if-not-starts_pair.ensures.is c.in_err-pair.ensures in
+    c.if-not-starts_pair.ensures.is c.in_err-pair.ensures in
     search (rules, f)
 
 pub braces::more_pairs-more-preserved : goal.braces::more_pairs-more-preserved
@@ -524,7 +535,7 @@ braces::more_pairs-more-preserved t c = record {
 pub braces::dict_from-returns-in_err-pairs : goal.braces::dict_from-returns-in_err-pairs
 braces::dict_from-returns-in_err-pairs t c =
     let f = dict_failed c.args.tokens.now c.args.depth c.args.first c.in_ok-one.one c.in_ok-one.ensures.entries c.in_ok-one.ensures.next
-        c.in_err-pairs.field-0.0 c.in_err-pairs.ensures in
+    c.in_err-pairs.field-0.0 c.in_err-pairs.ensures in
     search (rules, f)
 
 pub braces::dict_from-returns-then-not-is_op : goal.braces::dict_from-returns-then-not-is_op
@@ -557,9 +568,12 @@ comprehensions::target_tuple-returns-in-Some t c = targets_made c.args.tokens.no
     c.in_ok-items.items c.make_tuple.result (omega arith) c.in_ok-items.ensures c.make_tuple.ensures
 
 pub comprehensions::ifs-tests-init : goal.comprehensions::ifs-tests-init
-comprehensions::ifs-tests-init t c = record { ahead = omega (arith, c.no_items-items.ensures.next); is =
-    tests_start c.args.tokens.now c.args.depth c.args.at c.no_items-items.result c.requires.within c.no_items-items.ensures.items
-    c.no_items-items.ensures.next }
+comprehensions::ifs-tests-init t c = record {
+  ahead = omega (arith, c.no_items-items.ensures.next);
+  is =
+      tests_start c.args.tokens.now c.args.depth c.args.at c.no_items-items.result c.requires.within c.no_items-items.ensures.items
+      c.no_items-items.ensures.next;
+}
 
 pub comprehensions::ifs-returns-then-not-is_word : goal.comprehensions::ifs-returns-then-not-is_word
 comprehensions::ifs-returns-then-not-is_word t c = tests_end c.args.tokens.now c.args.depth _ c.tests.items c.tests.invariant.is c.args.at
@@ -568,13 +582,13 @@ comprehensions::ifs-returns-then-not-is_word t c = tests_end c.args.tokens.now c
 pub comprehensions::ifs-returns-in_err-e : goal.comprehensions::ifs-returns-in_err-e
 comprehensions::ifs-returns-in_err-e t c =
     let f = tests_error c.args.tokens.now c.args.depth _ c.tests.items c.tests.invariant.is c.in_err-e.field-0.0 c.if-not-is_word.ensures
-        (rw (← c.inner.ensures.steps, ← c.inner.ensures.room) c.in_err-e.ensures) in
+    (rw (← c.inner.ensures.steps, ← c.inner.ensures.room) c.in_err-e.ensures) in
     search (rules, f)
 
 pub comprehensions::ifs-tests-preserved : goal.comprehensions::ifs-tests-preserved
 comprehensions::ifs-tests-preserved t c =
     let f = inner_found c.args.tokens.now _ c.args.depth c.inner.result _ _ c.in_ok-e.e c.inner.ensures.steps
-        c.inner.ensures.room c.in_ok-e.ensures in
+    c.inner.ensures.room c.in_ok-e.ensures in
     record {
       ahead = omega (arith, c.tests.invariant.ahead, f.ahead, c.in_ok-items.ensures.next);
       is = tests_more c.args.tokens.now c.args.depth _ c.tests.items c.tests.invariant.is _ c.in_ok-items.items c.in_ok-e.e
@@ -589,7 +603,7 @@ comprehensions::for_in-returns-in_err-target t c =
 pub comprehensions::comps-returns-in_err-clause : goal.comprehensions::comps-returns-in_err-clause
 comprehensions::comps-returns-in_err-clause t c =
     let f = clauses_error c.args.tokens.now c.args.depth _ c.more.clauses c.more.invariant.is false (c.more.clauses.next + 1)
-        (for_begins c.args.tokens.now c.more.clauses.next c.if-is_word.ensures) c.in_err-clause.field-0.0 c.in_err-clause.ensures in
+    (for_begins c.args.tokens.now c.more.clauses.next c.if-is_word.ensures) c.in_err-clause.field-0.0 c.in_err-clause.ensures in
     search (rules, f)
 
 pub comprehensions::comps-more-preserved-then-is_word : goal.comprehensions::comps-more-preserved-then-is_word
@@ -607,8 +621,8 @@ comprehensions::comps-returns-then-not-is_word t c = clauses_cut c.args.tokens.n
 pub comprehensions::comps-returns-in_err-clause-2 : goal.comprehensions::comps-returns-in_err-clause-2
 comprehensions::comps-returns-in_err-clause-2 t c =
     let f = clauses_error c.args.tokens.now c.args.depth _ c.more.clauses c.more.invariant.is true (c.more.clauses.next + 2)
-        (async_begins c.args.tokens.now c.more.clauses.next c.if-is_word-2.ensures c.if-not-is_word.ensures) c.in_err-clause-2.field-0.0
-        c.in_err-clause-2.ensures in
+    (async_begins c.args.tokens.now c.more.clauses.next c.if-is_word-2.ensures c.if-not-is_word.ensures) c.in_err-clause-2.field-0.0
+    c.in_err-clause-2.ensures in
     search (rules, f)
 
 pub comprehensions::comps-more-preserved : goal.comprehensions::comps-more-preserved
@@ -626,7 +640,7 @@ comprehensions::comps-returns-else-is_word-2 t c = clauses_end c.args.tokens.now
 pub strings::more_literals-returns-in_err-text-clause-parts : goal.strings::more_literals-returns-in_err-text-clause-parts
 strings::more_literals-returns-in_err-text-clause-parts t c = λ acc g.
     let f = literal_error c.args.tokens.now c.args.depth c.args.unicode _ c.more.values (c.more.invariant.is acc g) _
-        c.in-Some.ensures.within c.in-Some.ensures.is c.in_err-text.field-0.0 c.in_err-text.ensures in
+    c.in-Some.ensures.within c.in-Some.ensures.is c.in_err-text.field-0.0 c.in_err-text.ensures in
     search (rules, f)
 
 pub strings::more_literals-more-preserved-in-Some : goal.strings::more_literals-more-preserved-in-Some
@@ -640,7 +654,7 @@ strings::more_literals-more-preserved-in-Some t c = record {
 pub strings::more_literals-returns-in_err-values-2-clause-parts : goal.strings::more_literals-returns-in_err-values-2-clause-parts
 strings::more_literals-returns-in_err-values-2-clause-parts t c = λ acc g.
     let f = formatted_error c.args.tokens.now c.args.depth c.args.unicode _ c.more.values (c.more.invariant.is acc g) c.moved.result
-        c.if-is_mark.ensures c.moved.ensures c.in_err-values-2.field-0.0 c.in_err-values-2.ensures.parts in
+    c.if-is_mark.ensures c.moved.ensures c.in_err-values-2.field-0.0 c.in_err-values-2.ensures.parts in
     search (rules, f)
 
 pub strings::more_literals-more-preserved : goal.strings::more_literals-more-preserved
@@ -658,28 +672,28 @@ strings::more_literals-returns-else-is_mark-clause-parts t c = λ acc g. literal
 pub strings::read_field-returns-in_err-spec-clause-is : goal.strings::read_field-returns-in_err-spec-clause-is
 strings::read_field-returns-in_err-spec-clause-is t c = λ most le.
     let v = inner_found c.args.tokens.now _ c.args.depth c.inner.result _ _ c.in_ok-value.value c.inner.ensures.steps c.inner.ensures.room
-        c.in_ok-value.ensures in
+    c.in_ok-value.ensures in
     let f = field_spec_failed c.args.tokens.now c.args.depth c.args.unicode most c.args.conversion c.args.at c.if-not-is_op.ensures _
-        c.in_ok-value.value v c.in_err-spec.field-0.0
-        (c.in_err-spec.ensures.is most (further c.args.tokens.now c.args.at c.in_ok-value.value.next most le
-        (omega (arith, c.in_ok-value.ensures.ahead)))) in
+    c.in_ok-value.value v c.in_err-spec.field-0.0
+    (c.in_err-spec.ensures.is most (further c.args.tokens.now c.args.at c.in_ok-value.value.next most le
+    (omega (arith, c.in_ok-value.ensures.ahead)))) in
     search (rules, f)
 
 pub strings::read_field-returns-then-not-is_mark-clause-is : goal.strings::read_field-returns-then-not-is_mark-clause-is
 strings::read_field-returns-then-not-is_mark-clause-is t c = λ most le.
     let v = inner_found c.args.tokens.now _ c.args.depth c.inner.result _ _ c.in_ok-value.value c.inner.ensures.steps c.inner.ensures.room
-        c.in_ok-value.ensures in
+    c.in_ok-value.ensures in
     field_open c.args.tokens.now c.args.depth c.args.unicode most c.args.conversion c.args.at c.if-not-is_op.ensures _ c.in_ok-value.value v
-        c.in_ok-spec.spec (c.in_ok-spec.ensures.is most (further c.args.tokens.now c.args.at c.in_ok-value.value.next most le
-        (omega (arith, c.in_ok-value.ensures.ahead)))) c.if-not-is_mark.ensures
+    c.in_ok-spec.spec (c.in_ok-spec.ensures.is most (further c.args.tokens.now c.args.at c.in_ok-value.value.next most le
+    (omega (arith, c.in_ok-value.ensures.ahead)))) c.if-not-is_mark.ensures
 
 pub strings::read_field-returns-clause-is : goal.strings::read_field-returns-clause-is
 strings::read_field-returns-clause-is t c = λ most le.
     let v = inner_found c.args.tokens.now _ c.args.depth c.inner.result _ _ c.in_ok-value.value c.inner.ensures.steps c.inner.ensures.room
-        c.in_ok-value.ensures in
+    c.in_ok-value.ensures in
     field_made c.args.tokens.now c.args.depth c.args.unicode most c.args.conversion c.args.at c.if-not-is_op.ensures _ c.in_ok-value.value v
-        c.in_ok-spec.spec (c.in_ok-spec.ensures.is most (further c.args.tokens.now c.args.at c.in_ok-value.value.next most le
-        (omega (arith, c.in_ok-value.ensures.ahead)))) c.make_field.result c.if-not-is_mark.ensures c.make_field.ensures
+    c.in_ok-spec.spec (c.in_ok-spec.ensures.is most (further c.args.tokens.now c.args.at c.in_ok-value.value.next most le
+    (omega (arith, c.in_ok-value.ensures.ahead)))) c.make_field.result c.if-not-is_mark.ensures c.make_field.ensures
 
 pub strings::read_joined-returns : goal.strings::read_joined-returns
 strings::read_joined-returns t c = λ acc g. joined_made c.args.tokens.now c.args.depth c.args.unicode c.args.before.next acc
@@ -689,7 +703,7 @@ strings::read_joined-returns t c = λ acc g. joined_made c.args.tokens.now c.arg
 pub strings::read_literals-returns-in_err-value : goal.strings::read_literals-returns-in_err-value
 strings::read_literals-returns-in_err-value t c =
     let f = literals_failed (inner_reads c.args.depth) _ (seen c.args.tokens.now c.args.at) c.in_err-value.field-0.0
-        c.in_err-value.ensures in
+    c.in_err-value.ensures in
     search (rules, f)
 
 pub strings::read_literals-returns-in-Text : goal.strings::read_literals-returns-in-Text
@@ -704,7 +718,7 @@ strings::read_literals-returns-in-Bytes t c = bytes_wrong c.args.tokens.now (inn
 pub strings::read_parts-returns-in_err-values-clause-parts : goal.strings::read_parts-returns-in_err-values-clause-parts
 strings::read_parts-returns-in_err-values-clause-parts t c = λ most acc le g.
     let f = parts_error c.args.tokens.now c.args.depth c.args.unicode _ c.parts.values (c.parts.invariant.is most acc le g) c.in-Some.part
-        c.in-Some.ensures.within c.in-Some.ensures.text c.in-Some.ensures.field c.in_err-values.field-0.0 c.in_err-values.ensures.part in
+    c.in-Some.ensures.within c.in-Some.ensures.text c.in-Some.ensures.field c.in_err-values.field-0.0 c.in_err-values.ensures.part in
     search (rules, f)
 
 pub strings::read_parts-parts-preserved : goal.strings::read_parts-parts-preserved
@@ -730,7 +744,7 @@ strings::read_spec-returns-clause-is t c = λ most le. spec_made c.args.tokens.n
 pub strings::with_part-returns-in_err-field-in-Field-clause-part : goal.strings::with_part-returns-in_err-field-in-Field-clause-part
 strings::with_part-returns-in_err-field-in-Field-clause-part t c = λ most le.
     let f = field_wrong c.args.tokens.now c.args.depth c.args.unicode most c.args.before c.requires.within c.in-Field.conversion
-        c.in_err-field-in-Field.field-0.0 (c.in_err-field-in-Field.ensures.is most le) in
+    c.in_err-field-in-Field.field-0.0 (c.in_err-field-in-Field.ensures.is most le) in
     search (rules, f)
 
 pub strings::with_part-returns-in_ok-field-in-Field-clause-part : goal.strings::with_part-returns-in_ok-field-in-Field-clause-part

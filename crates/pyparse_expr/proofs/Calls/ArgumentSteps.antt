@@ -184,7 +184,7 @@ module _ (ts : List given.Terminal) (d : Depth) where
       go zero lt e = absurd (omega (arith, lt, some_start (seen ts a.next) (sym n)))
       go (suc m) lt e =
           let i : after m (c.entries ++ (f.entry ∷ [])) g.next ≡ loop d m (c.entries ++ (f.entry ∷ [])) (seen ts (g.next + 1)) =
-              rw k.is refl in
+          rw k.is refl in
           record {
             within = omega (arith, q, k.within);
             low = omega (arith, h, f.low);
@@ -274,11 +274,11 @@ module _ (ts : List given.Terminal) (d : Depth) (f : Expr) (at : ℕ) where
       → Answered ts d.room at (cap d.room (call_step (inner_reads d) f (seen ts at))) z
   call_behind k e a b z n h r c p g q w =
       let i = first_is_read k e n h r
-          ∙ ap (λ v. cond v (generator_call (inner_reads d) f (entry_of k (tree_of e.expr.value)) (seen ts e.next))
-          (behind d f (entry_of k (tree_of e.expr.value)) (seen ts e.next))) (sym c)
-          ∙ behind_is d f (entry_of k (tree_of e.expr.value)) (seen ts e.next) in
+      ∙ ap (λ v. cond v (generator_call (inner_reads d) f (entry_of k (tree_of e.expr.value)) (seen ts e.next))
+      (behind d f (entry_of k (tree_of e.expr.value)) (seen ts e.next))) (sym c)
+      ∙ behind_is d f (entry_of k (tree_of e.expr.value)) (seen ts e.next) in
       let u = subst (λ (y : State). Answered ts d.room b.next (cap d.room (called_from d f y (seen ts b.next))) z) (g
-          ∙ ap (λ y. step y (entry_of k (tree_of e.expr.value))) p) w in
+      ∙ ap (λ y. step y (entry_of k (tree_of e.expr.value))) p) w in
       let v = subst (λ (y : ℕ). Answered ts d.room y
-          (cap d.room (called_from d f (step start (entry_of k (tree_of e.expr.value))) (seen ts y))) z) q u in
+      (cap d.room (called_from d f (step start (entry_of k (tree_of e.expr.value))) (seen ts y))) z) q u in
       rw i (earlier ts d.room d.room at e.next _ z (omega arith) (omega (arith, r.ahead)) v)

@@ -40,11 +40,11 @@ module _ (a b i j new : Expr) (cs : Vec Expr Global) (is_async : Bool) (p : a �
       ap (λ g. Some g) (parts_tree parts)
       ∙ ap (λ e. generator_of (Some (tree_of new)) (tree_of e) (map tree_of cs.items) is_async) q
       ∙ sym (ap (λ e. generator_of (stored (tree_of e)) (tree_of i) (map tree_of cs.items) is_async) (sym p)
-          ∙ ap (λ o. generator_of o (tree_of i) (map tree_of cs.items) is_async) s)
+      ∙ ap (λ o. generator_of o (tree_of i) (map tree_of cs.items) is_async) s)
 
   pub clause_height : (h k l : ℕ) → h ≡ height (tree_of b) → k ≡ height (tree_of i) → l ≡ list_height (map tree_of cs.items)
       → max h (max k l) ≡ comprehension_heights (comprehensions (comprehension_of (given.roll-Comprehension parts) ∷ []))
   clause_height h k l f g m =
       let e : comprehension_heights (comprehensions (comprehension_of (given.roll-Comprehension parts) ∷ [])) ≡ comprehension_heights
-          (comprehensions (valued parts ∷ [])) = ap (λ z. comprehension_heights (comprehensions (z ∷ []))) (parts_tree parts) in
+      (comprehensions (valued parts ∷ [])) = ap (λ z. comprehension_heights (comprehensions (z ∷ []))) (parts_tree parts) in
       omega (arith, f, g, m, e, stored_height (tree_of a) (tree_of new) s, ap (λ y. height (tree_of y)) p, ap (λ y. height (tree_of y)) q)

@@ -21,5 +21,10 @@ pub clause_pushed_height : (xs ys : List given.Comprehension) (g : given.Compreh
     → h ≡ comprehension_heights (comprehensions (map comprehension_of xs))
     → k ≡ comprehension_heights (comprehensions (comprehension_of g ∷ []))
     → max h k ≡ comprehension_heights (comprehensions (map comprehension_of ys))
-clause_pushed_height xs ys g h k q a b = omega (arith, a, b, ap (λ l. comprehension_heights (comprehensions l)) (clause_pushed xs ys g q),
-    higher (map comprehension_of xs) (comprehension_of g))
+clause_pushed_height xs ys g h k q a b = omega (
+  arith,
+  a,
+  b,
+  ap (λ l. comprehension_heights (comprehensions l)) (clause_pushed xs ys g q),
+  higher (map comprehension_of xs) (comprehension_of g),
+)

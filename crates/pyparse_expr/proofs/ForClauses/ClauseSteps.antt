@@ -134,7 +134,7 @@ module _ (ts : List given.Terminal) (d : Depth) (x : Answer (List Comprehension)
         go zero le q = absurd (omega (arith, le, s.within, seen_length ts r.next))
         go (suc m) le q =
             let one : Failed e (and_then (for_in_step (inner_reads d) b (seen ts at))
-                (λ g t. comps_loop (inner_reads d) m (map comprehension_of r.generators.items ++ (g ∷ [])) t)) = failed_then e _ _ f in
+            (λ g t. comps_loop (inner_reads d) m (map comprehension_of r.generators.items ++ (g ∷ [])) t)) = failed_then e _ _ f in
             rw (q, s.is (inner_reads d) m (map comprehension_of r.generators.items)) one
 
     pub clauses_more : (new : ForClauses) (g : ForClause) → ClauseAt ts (at + 1) (for_in_step (inner_reads d) b (seen ts at)) g
@@ -165,6 +165,6 @@ module _ (ts : List given.Terminal) (d : Depth) (x : Answer (List Comprehension)
       go zero le q = absurd (omega (arith, le, s.within, seen_length ts r.next))
       go (suc m) le q =
           let one : comps_loop (inner_reads d) (suc m) (map comprehension_of r.generators.items) (seen ts r.next) ≡ NoForm =
-              rw s.is (first_miss (is_word Key.For) (seen ts (r.next + 1)) (λ _ r2. and_then (for_in_step (inner_reads d) true r2)
-              (λ g r3. comps_loop (inner_reads d) m (map comprehension_of r.generators.items ++ (g ∷ [])) r3)) NoForm n) in
+          rw s.is (first_miss (is_word Key.For) (seen ts (r.next + 1)) (λ _ r2. and_then (for_in_step (inner_reads d) true r2)
+          (λ g r3. comps_loop (inner_reads d) m (map comprehension_of r.generators.items ++ (g ∷ [])) r3)) NoForm n) in
           q ∙ one

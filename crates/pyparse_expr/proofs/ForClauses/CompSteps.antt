@@ -114,7 +114,7 @@ module _ (ts : List given.Terminal) (d : Depth) (x : Answer (List Expr)) (items 
       go zero le q = absurd (omega (arith, le, s.within, seen_length ts items.next))
       go (suc m) le q =
           let one : ifs_loop (inner_reads d) (suc m) (map tree_of items.exprs.items) (seen ts items.next) ≡ ifs_loop (inner_reads d) m
-              (map tree_of items.exprs.items ++ (tree_of t.expr.value ∷ [])) (seen ts t.next) = rw (s.is, f.is) refl in
+          (map tree_of items.exprs.items ++ (tree_of t.expr.value ∷ [])) (seen ts t.next) = rw (s.is, f.is) refl in
           record {
             within = omega (arith, k, f.within);
             most = m;

@@ -39,7 +39,7 @@ keyword_before : (g h : Stage) (b : Bool) (ps qs : List Arg) (v : Option Arg) (k
     (state h b ps qs v (ks ++ (a ∷ [])) (kds ++ (d ∷ [])) k ds) r
 keyword_before g h b ps qs v ks kds k ds a d (arguments ps2 qs2 v2 ks2 kds2 k2 ds2) =
     sym (λ i. arguments (args_before ps ps2) (args_before qs qs2) (arg_or v v2) (args_snoc ks a ks2 i) (optionals_snoc kds d kds2 i)
-        (arg_or k k2) (exprs_before ds ds2))
+    (arg_or k k2) (exprs_before ds ds2))
 
 -- behind a star
 star_steps : (b : Bool) (ps qs : List Arg) (v : Option Arg) (ks : List Arg) (kds : List OptionalExpr) (ds : List Expr) (es : List Entry)
@@ -189,17 +189,17 @@ open_steps b q qs ds (Slashed ∷ es) = plain_steps b (q ∷ qs) [] ds es
 open_steps true q qs ds (Plain a absent ∷ es) = no_choice (has_slash es) ∙ sym (wrong_steps true [] (q ∷ qs) None [] [] None ds es)
 open_steps false q qs ds (Plain a absent ∷ es) =
     let one = ap (λ x. option_map (before (state stage.Open false (q ∷ qs) [] None [] [] None ds)) x) (absent_behind a es)
-        ∙ twice _ _ _ (behind false es) (absent_first false false q qs ds a) in
+    ∙ twice _ _ _ (behind false es) (absent_first false false q qs ds a) in
     let two = twice _ _ _ (plain_ones false es) (absent_before stage.Open false [] (q ∷ qs) ds a) in
     (λ i. cond (has_slash es) (one i) (two i)) ∙ open_steps false q (qs ++ (a ∷ [])) ds es
 open_steps true q qs ds (Plain a (present e) ∷ es) =
     let one = ap (λ x. option_map (before (state stage.Open true (q ∷ qs) [] None [] [] None ds)) x) (present_behind true a e es)
-        ∙ twice _ _ _ (behind true es) (present_first true true q qs ds a e) in
+    ∙ twice _ _ _ (behind true es) (present_first true true q qs ds a e) in
     let two = twice _ _ _ (plain_ones true es) (present_before stage.Open true true [] (q ∷ qs) ds a e) in
     (λ i. cond (has_slash es) (one i) (two i)) ∙ open_steps true q (qs ++ (a ∷ [])) (ds ++ (e ∷ [])) es
 open_steps false q qs ds (Plain a (present e) ∷ es) =
     let one = ap (λ x. option_map (before (state stage.Open false (q ∷ qs) [] None [] [] None ds)) x) (present_behind false a e es)
-        ∙ twice _ _ _ (behind true es) (present_first false true q qs ds a e) in
+    ∙ twice _ _ _ (behind true es) (present_first false true q qs ds a e) in
     let two = twice _ _ _ (plain_ones true es) (present_before stage.Open false true [] (q ∷ qs) ds a e) in
     (λ i. cond (has_slash es) (one i) (two i)) ∙ open_steps true q (qs ++ (a ∷ [])) (ds ++ (e ∷ [])) es
 open_steps true q qs ds (Bare ∷ es) =

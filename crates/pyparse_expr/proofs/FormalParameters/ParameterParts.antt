@@ -80,6 +80,12 @@ module _ (ts : List given.Terminal) (d : Depth) (b : Bool) (at : ℕ) where
   -- what is said of the terminals behind its begin
   pub parameter_earlier : (x y : Answer Entry) (least most : ℕ) (z : Result ReadParameter Stop) → x ≡ y → least ≤ most
       → ParameterAnswered ts d.room most y z → ParameterAnswered ts d.room least x z
-  parameter_earlier x y least most (Ok r) q le h = record { ahead = omega (arith, le, h.ahead); within = h.within; low = h.low; is =
-      q ∙ h.is; tall = h.tall }
+  parameter_earlier x y least most (Ok r) q le h = record {
+    ahead = omega (arith, le, h.ahead);
+    within = h.within;
+    low = h.low;
+    is =
+        q ∙ h.is;
+    tall = h.tall;
+  }
   parameter_earlier x y least most (Err s) q le h = rw q h

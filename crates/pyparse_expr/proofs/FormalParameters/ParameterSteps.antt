@@ -170,7 +170,7 @@ module _ (ts : List given.Terminal) (d : Depth) (b : Bool) (x : Answer (List Ent
       go zero l y = absurd (omega (arith, l, some_left b (seen ts s.next) n))
       go (suc m) l y =
           let w : turned d b m (c.entries ++ (entry_of p.parameter ∷ [])) (seen ts r.next) ≡ loop d b m
-              (c.entries ++ (entry_of p.parameter ∷ [])) (seen ts (r.next + 1)) = rw o.is refl in
+          (c.entries ++ (entry_of p.parameter ∷ [])) (seen ts (r.next + 1)) = rw o.is refl in
           record {
             within = omega (arith, zk, o.within);
             low = omega (arith, zh, h, c.low, f.low);
@@ -204,7 +204,7 @@ module _ (ts : List given.Terminal) (d : Depth) (at : ℕ) where
           (λ e r3. made (lambda_of (arranged f.entries) e) r3)
       bodied =
           let w : behind f.entries (seen ts s.next) ≡ and_then (inner_reads d level.Expression (seen ts (s.next + 1)))
-              (λ e r3. made (lambda_of (arranged f.entries) e) r3) = rw colon.is refl in
+          (λ e r3. made (lambda_of (arranged f.entries) e) r3) = rw colon.is refl in
           lambda_is ∙ w
 
       pub lambda_body_failed : (e : Stop) → Failed e (inner_reads d level.Expression (seen ts (s.next + 1)))

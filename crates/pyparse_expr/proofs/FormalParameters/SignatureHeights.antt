@@ -68,7 +68,7 @@ set_high : (a : Arg) (r : Arguments) → arguments_height (set_vararg a r) ≡ m
 set_high a (arguments ps qs v ks kds k ds) =
     let u = max (arg_heights ks) (max (optional_heights kds) (max (optional_arg_height k) (heights ds))) in
     ap (λ z. max (arg_heights ps) z) (swap (arg_heights qs) (arg_height a) u)
-        ∙ swap (arg_heights ps) (arg_height a) (max (arg_heights qs) u)
+    ∙ swap (arg_heights ps) (arg_height a) (max (arg_heights qs) u)
 
 default_high : (d : OptionalExpr) (ds : Exprs) → heights (with_default d ds) ≡ max (optional_height d) (heights ds)
 default_high absent ds = omega arith
@@ -87,14 +87,14 @@ plain_high : (a : Arg) (d : OptionalExpr) (r : Arguments)
 plain_high a d (arguments ps qs v ks kds k ds) =
     let b = max (optional_arg_height v) (max (arg_heights ks) (max (optional_heights kds) (max (optional_arg_height k) (heights ds)))) in
     ap (λ z. max (arg_heights ps)
-        (max (max (arg_height a) (arg_heights qs))
-        (max (optional_arg_height v) (max (arg_heights ks) (max (optional_heights kds) (max (optional_arg_height k) z))))))
-        (default_high d ds)
+    (max (max (arg_height a) (arg_heights qs))
+    (max (optional_arg_height v) (max (arg_heights ks) (max (optional_heights kds) (max (optional_arg_height k) z))))))
+    (default_high d ds)
     ∙ ap (λ z. max (arg_heights ps) (max (max (arg_height a) (arg_heights qs)) z)) (default_front (optional_arg_height v) (arg_heights ks)
-        (optional_heights kds) (optional_arg_height k) (optional_height d) (heights ds))
+    (optional_heights kds) (optional_arg_height k) (optional_height d) (heights ds))
     ∙ ap (λ z. max (arg_heights ps) z) (regroup (arg_heights qs) (arg_height a) (max (optional_height d) b)
-        ∙ ap (λ z. max (arg_height a) z) (swap (arg_heights qs) (optional_height d) b)
-        ∙ pair (arg_height a) (optional_height d) (max (arg_heights qs) b))
+    ∙ ap (λ z. max (arg_height a) z) (swap (arg_heights qs) (optional_height d) b)
+    ∙ pair (arg_height a) (optional_height d) (max (arg_heights qs) b))
     ∙ swap (arg_heights ps) (max (arg_height a) (optional_height d)) (max (arg_heights qs) b)
 
 before_high : (a : Arg) (d : OptionalExpr) (r : Arguments) → arguments_height (add_before_slash a d r) ≡ max
@@ -102,11 +102,11 @@ before_high : (a : Arg) (d : OptionalExpr) (r : Arguments) → arguments_height 
 before_high a d (arguments ps qs v ks kds k ds) =
     let b = max (optional_arg_height v) (max (arg_heights ks) (max (optional_heights kds) (max (optional_arg_height k) (heights ds)))) in
     ap (λ z. max (max (arg_height a) (arg_heights ps))
-        (max (arg_heights qs)
-        (max (optional_arg_height v) (max (arg_heights ks) (max (optional_heights kds) (max (optional_arg_height k) z))))))
-        (default_high d ds)
+    (max (arg_heights qs)
+    (max (optional_arg_height v) (max (arg_heights ks) (max (optional_heights kds) (max (optional_arg_height k) z))))))
+    (default_high d ds)
     ∙ ap (λ z. max (max (arg_height a) (arg_heights ps)) (max (arg_heights qs) z)) (default_front (optional_arg_height v) (arg_heights ks)
-        (optional_heights kds) (optional_arg_height k) (optional_height d) (heights ds))
+    (optional_heights kds) (optional_arg_height k) (optional_height d) (heights ds))
     ∙ ap (λ z. max (max (arg_height a) (arg_heights ps)) z) (swap (arg_heights qs) (optional_height d) b)
     ∙ regroup (arg_heights ps) (arg_height a) (max (optional_height d) (max (arg_heights qs) b))
     ∙ ap (λ z. max (arg_height a) z) (swap (arg_heights ps) (optional_height d) (max (arg_heights qs) b))

@@ -100,7 +100,7 @@ module _ (ts : List given.Terminal) (d : Depth) (u : Bool) (most : ℕ) where
           → PartAt ts at (spec_with parts u (seen ts at)) (present (tree_of r.expr.value)) r.next
       spec_made j r f k =
           let tree : tree_of r.expr.value ≡ Trees.JoinedStr (spec_values_of u (merged f.parts)) = k.tree
-              ∙ ap (λ s. Trees.JoinedStr (exprs (ended false s))) f.gives ∙ ap (λ es. Trees.JoinedStr es) (spec_values u f.parts) in
+          ∙ ap (λ s. Trees.JoinedStr (exprs (ended false s))) f.gives ∙ ap (λ es. Trees.JoinedStr es) (spec_values u f.parts) in
           record {
             ahead = omega (arith, f.ahead, k.next_is);
             within = omega (arith, f.within, k.next_is);

@@ -38,8 +38,13 @@ text_run : (u k : Bool) (xs : List Expr) (t : List ℕ) (vs : List Value) (w : V
 text_run u k xs t [] w h = record { parts = []; texts = refl; whole = t; is = cc; gives = refl }
 text_run u k xs t (Values.Str s j ∷ vs) w h =
     let r = text_run u k xs (t ++ s) vs w h in
-    record { parts = Text s ∷ r.parts; texts = ap (λ o. option_map (λ ps. Text s ∷ ps) o) r.texts; whole = r.whole;
-        is = r.is; gives = r.gives }
+    record {
+      parts = Text s ∷ r.parts;
+      texts = ap (λ o. option_map (λ ps. Text s ∷ ps) o) r.texts;
+      whole = r.whole;
+      is = r.is;
+      gives = r.gives;
+    }
 text_run u k xs t (_ ∷ vs) w h = absurd (cc)
 
 -- what makes bytes begins with bytes
@@ -80,8 +85,13 @@ one_text (Values.Str s k) vs t u h =
     let r = text_run u k [] s vs (Values.Str t u) h in
     let q : Values.Str t u ≡ Values.Str r.whole k = r.is in
     let e : t ≡ r.whole = cc in
-    record { parts = Text s ∷ r.parts; texts = ap (λ o. option_map (λ ps. Text s ∷ ps) o) r.texts; kind = cc; gives =
-        ap (λ z. state [] z) e ∙ sym r.gives }
+    record {
+      parts = Text s ∷ r.parts;
+      texts = ap (λ o. option_map (λ ps. Text s ∷ ps) o) r.texts;
+      kind = cc;
+      gives =
+          ap (λ z. state [] z) e ∙ sym r.gives;
+    }
 one_text (Values.Bytes b) vs t u h = absurd (bytes_run b vs t u h)
 one_text _ [] t u h = absurd (cc)
 one_text _ (w ∷ vs) t u h = absurd (cc)
@@ -158,15 +168,18 @@ module _ (self : Reads) (v : Value) where
   literals_bytes b r s h =
       let c = ran v (Values.Bytes b) r (FormattedBegin ∷ s) h in
       run_behind (Values.Bytes b) r (FormattedBegin ∷ s) c ∙ ap (λ o. on_some o (λ ps. joined_step self (kind_of v) ps s) NoForm)
-          (bytes_texts v c.values b c.is)
+      (bytes_texts v c.values b c.is)
 
   literals_texts : (t : List ℕ) (u : Bool) (r s : List Terminal) → run v r ≡ Found (Values.Str t u) (FormattedBegin ∷ s)
       → (ps : List StringPart) × (state [] t ≡ gathered u ps) × (literals self v r ≡ joined_step self u ps s)
   literals_texts t u r s h =
       let c = ran v (Values.Str t u) r (FormattedBegin ∷ s) h in
-      let x = one_text v c.values t u c.is in
-      (x.parts, x.gives, run_behind (Values.Str t u) r (FormattedBegin ∷ s) c
-          ∙ ap (λ o. on_some o (λ ps. joined_step self (kind_of v) ps s) NoForm) x.texts ∙ ap (λ k. joined_step self k x.parts s) x.kind)
+      let x = one_text v c.values t u c.is in (
+        x.parts,
+        x.gives,
+        run_behind (Values.Str t u) r (FormattedBegin ∷ s) c
+            ∙ ap (λ o. on_some o (λ ps. joined_step self (kind_of v) ps s) NoForm) x.texts ∙ ap (λ k. joined_step self k x.parts s) x.kind,
+      )
 
 -- at a place
 pub part_by : {A R : Type 0} (ts : List given.Terminal) (least most : ℕ) (x y : Answer A) (value : R → A) (next : R → ℕ) (z : Result R Stop)
@@ -202,7 +215,7 @@ module _ (ts : List given.Terminal) (self : Reads) (v : Value) (at n : ℕ) wher
       (λ r. tree_of r.expr.value) (λ r. r.next) z
   texts_joined w t u b z q g e h m f =
       let x = literals_texts self v t u (seen ts at) (seen ts (n + 1)) (ahead_of w h m
-          ∙ ap (λ y. Found y (FormattedBegin ∷ seen ts (n + 1))) q) in
+      ∙ ap (λ y. Found y (FormattedBegin ∷ seen ts (n + 1))) q) in
       part_by ts at b.next (joined_step self u x.0 (seen ts b.next)) (literals self v (seen ts at)) (λ (r : Read). tree_of r.expr.value)
-          (λ (r : Read). r.next) z (omega (arith, h.ahead, e)) (x.2
-          ∙ ap (λ i. joined_step self u x.0 (seen ts i)) (sym e)) (f x.0 (g ∙ x.1))
+      (λ (r : Read). r.next) z (omega (arith, h.ahead, e)) (x.2
+      ∙ ap (λ i. joined_step self u x.0 (seen ts i)) (sym e)) (f x.0 (g ∙ x.1))

@@ -88,8 +88,15 @@ module _ (ts : List given.Terminal) (d : Depth) (u : Bool) where
 
   pub literals_start : (before : JoinedValues) (acc : List StringPart) → before.next ≤ length ts → state_of before ≡ gathered u acc
       → Literals (literals_loop (inner_reads d) u (length (seen ts before.next)) acc (seen ts before.next)) before
-  literals_start before acc w g = record { within = w; most = length (seen ts before.next); enough = omega arith; parts =
-      acc; is = refl; gives = g }
+  literals_start before acc w g = record {
+    within = w;
+    most = length (seen ts before.next);
+    enough = omega arith;
+    parts =
+        acc;
+    is = refl;
+    gives = g;
+  }
 
   module _ (x : Answer (List StringPart)) (j : JoinedValues) where
     module _ (c : Parts x j) where
@@ -175,7 +182,7 @@ module _ (ts : List given.Terminal) (d : Depth) (u : Bool) where
               parts = c.parts ++ (Text t ∷ []);
               is = q ∙ literal_turn (inner_reads d) u v m c.parts (seen ts j.next) h
                   ∙ ap (λ o. on_some o (λ t. literals_loop (inner_reads d) u m (c.parts ++ (Text t ∷ [])) (drop 1 (seen ts j.next))) NoForm)
-                      n
+                  n
                   ∙ ap (λ r. literals_loop (inner_reads d) u m (c.parts ++ (Text t ∷ [])) r) (seen_next ts j.next)
                   ∙ ap (λ k. literals_loop (inner_reads d) u m (c.parts ++ (Text t ∷ [])) (seen ts k)) (sym g.next_is);
               gives = g.is ∙ ap (λ s. step u s (Text t)) c.gives ∙ sym (grown u c.parts (Text t));
@@ -264,7 +271,7 @@ module _ (ts : List given.Terminal) (d : Depth) (u : Bool) where
       joined_made i (Ok r) h k =
           let a = h f.parts f.gives in
           let tree : tree_of r.expr.value ≡ Trees.JoinedStr (values_of u (merged a.parts)) = k.tree
-              ∙ ap (λ s. Trees.JoinedStr (exprs (ended u s))) a.gives ∙ ap (λ es. Trees.JoinedStr es) (joined_values u a.parts) in
+          ∙ ap (λ s. Trees.JoinedStr (exprs (ended u s))) a.gives ∙ ap (λ es. Trees.JoinedStr es) (joined_values u a.parts) in
           record {
             ahead = omega (arith, f.ahead, a.ahead, k.next_is);
             within = omega (arith, a.within, k.next_is);

@@ -48,9 +48,9 @@ module _ (ts : List given.Terminal) (d : Depth) (b : Read) where
       → Answered ts d.room b.next (cap d.room (set_behind d (tree_of b.expr.value) (seen ts b.next))) z
   set_made r z l s m =
       let k : closed RBrace (seen ts r.next) (Trees.Set (exprs (map tree_of r.exprs.items))) ≡ Found
-          (Trees.Set (exprs (map tree_of r.exprs.items))) (seen ts (r.next + 1)) = rw s.is refl in
+      (Trees.Set (exprs (map tree_of r.exprs.items))) (seen ts (r.next + 1)) = rw s.is refl in
       rw (set_is r l ∙ k) (node ts d.room b.next (Trees.Set (exprs (map tree_of r.exprs.items))) (r.next + 1) z (omega (arith, l.ahead))
-          (omega (arith, s.within)) m)
+      (omega (arith, s.within)) m)
 
 -- a dictionary behind its first pair
 module _ (ts : List given.Terminal) (d : Depth) (p : Pair) (q : Pairs) (one : pairs_of q ≡ pair_of p ∷ []) (place : q.next ≡ p.next) where
@@ -80,7 +80,7 @@ module _ (ts : List given.Terminal) (d : Depth) (p : Pair) (q : Pairs) (one : pa
       → Answered ts d.room p.next (cap d.room (dict_from (inner_reads d) (pair_of p) (seen ts p.next))) z
   dict_made r z f s m =
       let k : closed RBrace (seen ts r.next) (Trees.Dict (optionals (map option_of r.keys.items)) (exprs (map tree_of r.values.items))) ≡
-          Found (Trees.Dict (optionals (map option_of r.keys.items)) (exprs (map tree_of r.values.items))) (seen ts (r.next + 1)) =
-          rw s.is refl in
+      Found (Trees.Dict (optionals (map option_of r.keys.items)) (exprs (map tree_of r.values.items))) (seen ts (r.next + 1)) =
+      rw s.is refl in
       rw (dict_is r f ∙ k) (node ts d.room p.next (Trees.Dict (optionals (map option_of r.keys.items)) (exprs (map tree_of r.values.items)))
-          (r.next + 1) z (omega (arith, place, f.ahead)) (omega (arith, s.within)) m)
+      (r.next + 1) z (omega (arith, place, f.ahead)) (omega (arith, s.within)) m)

@@ -133,12 +133,17 @@ list_error ts d i x items e c s n f = go c.most c.enough c.is
   where
     go : (m : ℕ) → length (seen ts items.next) ≤ m + 1 → x ≡ on_first (is_op Comma) (seen ts items.next)
         (λ _ r. loop d i m (entries_of items) r) (Found (entries_of items) (seen ts items.next)) → Failed e x
-    go zero le q = absurd (omega (arith, le, some_lead i (seen ts (items.next + 1)) n, seen_length ts items.next,
-        seen_length ts (items.next + 1)))
+    go zero le q = absurd (omega (
+      arith,
+      le,
+      some_lead i (seen ts (items.next + 1)) n,
+      seen_length ts items.next,
+      seen_length ts (items.next + 1),
+    ))
     go (suc m) le q =
         let one : Failed e (loop d i (suc m) (entries_of items) (seen ts (items.next + 1))) =
-            rw (loop_turn d i m (entries_of items) (seen ts (items.next + 1)) (do_starts i (seen ts (items.next + 1)) n))
-            (failed_then e _ _ (failed_then e _ (λ e2 t. Found (Single e2) t) f)) in
+        rw (loop_turn d i m (entries_of items) (seen ts (items.next + 1)) (do_starts i (seen ts (items.next + 1)) n))
+        (failed_then e _ _ (failed_then e _ (λ e2 t. Found (Single e2) t) f)) in
         rw (q, s.is) one
 
 abbrev turned : List given.Terminal → Depth → Item → ℕ → List Entry → ℕ → Answer (List Entry)
@@ -156,18 +161,23 @@ list_more ts d i x items r e c s n f p k h = go c.most c.enough c.is
 
     go : (m : ℕ) → length (seen ts items.next) ≤ m + 1 → x ≡ on_first (is_op Comma) (seen ts items.next)
         (λ _ r. loop d i m (entries_of items) r) (Found (entries_of items) (seen ts items.next)) → Lists ts d i x r
-    go zero le q = absurd (omega (arith, le, some_lead i (seen ts (items.next + 1)) n, seen_length ts items.next,
-        seen_length ts (items.next + 1)))
+    go zero le q = absurd (omega (
+      arith,
+      le,
+      some_lead i (seen ts (items.next + 1)) n,
+      seen_length ts items.next,
+      seen_length ts (items.next + 1),
+    ))
     go (suc m) le q =
         let one : loop d i (suc m) (entries_of items) (seen ts (items.next + 1)) ≡ turned ts d i m
-            (entries_of items ++ (Single (tree_of e.expr.value) ∷ [])) e.next =
-            loop_turn d i m (entries_of items) (seen ts (items.next + 1)) (do_starts i (seen ts (items.next + 1)) n)
-            ∙ ap (λ z. and_then (and_then z (λ e2 t. Found (Single e2) t))
-            (λ e2 r1. on_first (is_op Comma) r1 (λ _ r2. loop d i m (entries_of items ++ (e2 ∷ [])) r2)
-            (Found (entries_of items ++ (e2 ∷ [])) r1))) f.is in
+        (entries_of items ++ (Single (tree_of e.expr.value) ∷ [])) e.next =
+        loop_turn d i m (entries_of items) (seen ts (items.next + 1)) (do_starts i (seen ts (items.next + 1)) n)
+        ∙ ap (λ z. and_then (and_then z (λ e2 t. Found (Single e2) t))
+        (λ e2 r1. on_first (is_op Comma) r1 (λ _ r2. loop d i m (entries_of items ++ (e2 ∷ [])) r2)
+        (Found (entries_of items ++ (e2 ∷ [])) r1))) f.is in
         let at : on_first (is_op Comma) (seen ts items.next) (λ _ r. loop d i (suc m) (entries_of items) r)
-            (Found (entries_of items) (seen ts items.next)) ≡ turned ts d i m
-            (entries_of items ++ (Single (tree_of e.expr.value) ∷ [])) e.next = rw s.is one in
+        (Found (entries_of items) (seen ts items.next)) ≡ turned ts d i m
+        (entries_of items ++ (Single (tree_of e.expr.value) ∷ [])) e.next = rw s.is one in
         record {
           within = omega (arith, k, f.within);
           low = omega (arith, h, c.low, f.low);
@@ -287,4 +297,4 @@ module _ (ts : List given.Terminal) (d : Depth) (i : Item) (b : Read) (comma : S
   group_made r z f s m =
       let e = group_is r f in
       rw (e, s.is) (node ts d.room b.next (Trees.Tuple (exprs (map tree_of r.exprs.items)) Load) (r.next + 1) z (omega (arith, f.ahead))
-          (omega (arith, s.within)) m)
+      (omega (arith, s.within)) m)

@@ -76,9 +76,9 @@ module _ (ks ls : List (Option given_expr.Expr)) (vs ws : List given_expr.Expr) 
       (list_height (map tree_of ws))
   put_height h n m e a b =
       let x : optional_heights (optionals (map option_of ls)) ≡ max (optional_heights (optionals (map option_of ks)))
-          (optional_height (optional k)) = ap (λ l. optional_heights (optionals l)) p ∙ key_higher (map option_of ks) k in
+      (optional_height (optional k)) = ap (λ l. optional_heights (optionals l)) p ∙ key_higher (map option_of ks) k in
       let y : list_height (map tree_of ws) ≡ max (list_height (map tree_of vs)) (height (tree_of v)) =
-          ap (λ l. list_height l) (pushed vs ws v q) ∙ value_higher (map tree_of vs) (tree_of v) in
+      ap (λ l. list_height l) (pushed vs ws v q) ∙ value_higher (map tree_of vs) (tree_of v) in
       omega (arith, e, a, b, x, y)
 
 -- what a dictionary is made of
@@ -184,7 +184,7 @@ module _ (ts : List given.Terminal) (d : Depth) (x : Answer (List Entry)) (p : P
       go zero le q = absurd (omega (arith, le, some_pair ts (p.next + 1) b, seen_length ts p.next, seen_length ts (p.next + 1)))
       go (suc m) le q =
           let one : Failed s (pair_loop d (suc m) (pairs_of p) (seen ts (p.next + 1))) =
-              rw (loop_turn d m (pairs_of p) (seen ts (p.next + 1)) b) (failed_then s _ _ f) in
+          rw (loop_turn d m (pairs_of p) (seen ts (p.next + 1)) b) (failed_then s _ _ f) in
           rw (q, o.is) one
 
   pub pairs_more : (r : Pairs) (e : pair.Pair) → Stands (Op Comma) ts p.next → true ≡ starts Pair (seen ts (p.next + 1))
@@ -196,9 +196,9 @@ module _ (ts : List given.Terminal) (d : Depth) (x : Answer (List Entry)) (p : P
       go zero le q = absurd (omega (arith, le, some_pair ts (p.next + 1) b, seen_length ts p.next, seen_length ts (p.next + 1)))
       go (suc m) le q =
           let one : pair_loop d (suc m) (pairs_of p) (seen ts (p.next + 1)) ≡ turned ts d m (pairs_of p ++ (pair_of e ∷ [])) e.next =
-              loop_turn d m (pairs_of p) (seen ts (p.next + 1)) b
-              ∙ ap (λ z. and_then z (λ e2 r1. on_first (is_op Comma) r1 (λ _ r2. pair_loop d m (pairs_of p ++ (e2 ∷ [])) r2)
-              (Found (pairs_of p ++ (e2 ∷ [])) r1))) f.is in
+          loop_turn d m (pairs_of p) (seen ts (p.next + 1)) b
+          ∙ ap (λ z. and_then z (λ e2 r1. on_first (is_op Comma) r1 (λ _ r2. pair_loop d m (pairs_of p ++ (e2 ∷ [])) r2)
+          (Found (pairs_of p ++ (e2 ∷ [])) r1))) f.is in
           let at : turned ts d (suc m) (pairs_of p) p.next ≡ turned ts d m (pairs_of p ++ (pair_of e ∷ [])) e.next = rw o.is one in
           record {
             within = omega (arith, k, f.within);

@@ -52,7 +52,7 @@ module _ (ts : List given.Terminal) (d : Depth) (at : ℕ) where
       let m = subst (λ (l : List Expr). Makes d.room (Trees.ListOf (exprs l) Load) (at + 1) z) q h in
       let e = none_first (inner_reads d) (seen ts at) (not_starts item.Elem (seen ts at) n) in
       let c : closed RSqb (seen ts at) (Trees.ListOf no_exprs Load) ≡ Found (Trees.ListOf no_exprs Load) (seen ts (at + 1)) =
-          rw s.is refl in
+      rw s.is refl in
       rw (e ∙ c) (node ts d.room (at + 1) (Trees.ListOf no_exprs Load) (at + 1) z (omega arith) (omega (arith, s.within)) m)
 
   pub square_none : lead_of (seen ts at) < 7 → None ≡ first_is (is_op RSqb) (seen ts at)
@@ -101,7 +101,7 @@ module _ (ts : List given.Terminal) (d : Depth) (at : ℕ) where
       → Answered ts d.room (at + 1) (cap d.room (square (inner_reads d) (seen ts at))) z
   square_comp e z n f c m h =
       let k = with_comp (d.room - 1) (at + 1) e n f c ∙ first_miss (is_op Star) (seen ts at) (λ _ _. NoForm)
-          (comps_closed (inner_reads d) RSqb (seen ts e.next) (λ gs. Trees.ListComp (tree_of e.expr.value) (comprehensions gs))) m in
+      (comps_closed (inner_reads d) RSqb (seen ts e.next) (λ gs. Trees.ListComp (tree_of e.expr.value) (comprehensions gs))) m in
       rw k (earlier ts d.room d.room (at + 1) e.next _ z (omega arith) f.ahead h)
 
   pub square_failed : (e : Read) (s : Stop) → 7 ≤ lead_of (seen ts at)
@@ -133,6 +133,6 @@ module _ (ts : List given.Terminal) (d : Depth) (at : ℕ) where
       → Answered ts d.room (at + 1) (cap d.room (square (inner_reads d) (seen ts at))) z
   square_made e r z n f c l s m =
       let k : closed RSqb (seen ts r.next) (Trees.ListOf (exprs (map tree_of r.exprs.items)) Load) ≡ Found
-          (Trees.ListOf (exprs (map tree_of r.exprs.items)) Load) (seen ts (r.next + 1)) = rw s.is refl in
+      (Trees.ListOf (exprs (map tree_of r.exprs.items)) Load) (seen ts (r.next + 1)) = rw s.is refl in
       rw (list_is e r n f c l ∙ k) (node ts d.room (at + 1) (Trees.ListOf (exprs (map tree_of r.exprs.items)) Load) (r.next + 1) z
-          (omega (arith, f.ahead, l.ahead)) (omega (arith, s.within)) m)
+      (omega (arith, f.ahead, l.ahead)) (omega (arith, s.within)) m)

@@ -124,9 +124,9 @@ same_answer (suc g) (suc k) [] p q h = absurd (cc)
 same_answer (suc g) (suc k) (t ∷ r) p q h =
     let w = both (atom_with t) (ends r) h in
     let atom : capped (suc g) (suc k) level.Atom (t ∷ r) ≡ cap (suc k) (made (value_of t) r) =
-        ap (λ y. cap (suc k) y) (atom_is (capped g (suc k)) (capped g k) t r w.0 w.1) in
+    ap (λ y. cap (suc k) y) (atom_is (capped g (suc k)) (capped g k) t r w.0 w.1) in
     levels_are g k t r w.0 ∙ ap (λ y. forks (suc k) (capped g k) (climbs (suc k) (capped g k) (trails (suc k) (capped g k) y))) atom
-        ∙ passed (suc k) (capped g k) (value_of t) r w.1 ∙ sym atom
+    ∙ passed (suc k) (capped g k) (value_of t) r w.1 ∙ sym atom
 
 pub expression_atom : (ts : List given.Terminal) (d : Depth) (at : ℕ) (z : Result Read Stop) → IsOpen d → true ≡ alone (seen ts at)
     → Answered ts d.room (at + 1) (reads d level.Atom (seen ts at)) z

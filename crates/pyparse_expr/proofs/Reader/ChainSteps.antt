@@ -148,8 +148,11 @@ module _ (ts : List given.Terminal) (d : Depth) (o : BoolOperator) where
       → Failed e (links_of d o (map tree_of first.exprs.items) (seen ts first.next))
       → Failed e (cap d.room (operation (inner_reads d) (tree_of b.expr.value) (precedence.Joins o) (seen ts b.next)
       (seen ts (b.next + 1))))
-  chain_failed b first e q n f = rw (chain_is (tree_of b.expr.value) (seen ts b.next) (seen ts (b.next + 1)) (map tree_of first.exprs.items)
-      q, ← n) (failed_cap e d.room _ (failed_then e _ (λ es t. Found (Trees.BoolOp o (exprs es)) t) f))
+  chain_failed b first e q n f = rw (
+    chain_is (tree_of b.expr.value) (seen ts b.next) (seen ts (b.next + 1)) (map tree_of first.exprs.items)
+        q,
+    ← n,
+  ) (failed_cap e d.room _ (failed_then e _ (λ es t. Found (Trees.BoolOp o (exprs es)) t) f))
 
   pub chain_made : (b : Read) (first items : Items) (z : Result Read Stop) → map tree_of first.exprs.items ≡ tree_of b.expr.value ∷ []
       → first.next ≡ b.next → LinkedAt ts (first.next + 1) (links_of d o (map tree_of first.exprs.items) (seen ts first.next)) items
@@ -158,12 +161,12 @@ module _ (ts : List given.Terminal) (d : Depth) (o : BoolOperator) where
       (cap d.room (operation (inner_reads d) (tree_of b.expr.value) (precedence.Joins o) (seen ts b.next) (seen ts (b.next + 1)))) z
   chain_made b first items z q n f m =
       let e : operation (inner_reads d) (tree_of b.expr.value) (precedence.Joins o) (seen ts b.next) (seen ts (b.next + 1)) ≡ Found
-          (Trees.BoolOp o (exprs (map tree_of items.exprs.items))) (seen ts items.next) =
-          chain_is (tree_of b.expr.value) (seen ts b.next) (seen ts (b.next + 1)) (map tree_of first.exprs.items) q
-          ∙ ap (λ k. and_then (links_of d o (map tree_of first.exprs.items) (seen ts k)) (λ es t. Found (Trees.BoolOp o (exprs es)) t))
-          (sym n) ∙ ap (λ y. and_then y (λ es t. Found (Trees.BoolOp o (exprs es)) t)) f.is in
+      (Trees.BoolOp o (exprs (map tree_of items.exprs.items))) (seen ts items.next) =
+      chain_is (tree_of b.expr.value) (seen ts b.next) (seen ts (b.next + 1)) (map tree_of first.exprs.items) q
+      ∙ ap (λ k. and_then (links_of d o (map tree_of first.exprs.items) (seen ts k)) (λ es t. Found (Trees.BoolOp o (exprs es)) t))
+      (sym n) ∙ ap (λ y. and_then y (λ es t. Found (Trees.BoolOp o (exprs es)) t)) f.is in
       rw e (node ts d.room (b.next + 1) (Trees.BoolOp o (exprs (map tree_of items.exprs.items))) items.next z
-          (omega (arith, n, f.ahead)) f.within m)
+      (omega (arith, n, f.ahead)) f.within m)
 
 module _ (ts : List given.Terminal) (d : Depth) (e : Expr) where
   abbrev whole : List Comparison → List Expr → List Terminal → Answer Expr
@@ -242,4 +245,4 @@ module _ (ts : List given.Terminal) (d : Depth) (e : Expr) where
   compare_made n x ops items z c h le s m =
       let far = further n items.next (λ q. compares ts n s (subst (λ k. NotComparedAt ts k) q h)) le in
       rw (c.is ∙ ends c.most items.next ops (map tree_of items.exprs.items) h)
-          (node ts d.room (n + 1) (Trees.Compare e ops (exprs (map tree_of items.exprs.items))) items.next z far c.within m)
+      (node ts d.room (n + 1) (Trees.Compare e ops (exprs (map tree_of items.exprs.items))) items.next z far c.within m)

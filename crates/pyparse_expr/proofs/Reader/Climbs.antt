@@ -123,7 +123,7 @@ pub climbed : (ts : List given.Terminal) (least : ℕ) (d : Depth) (l : Level) (
     → Answered ts d.room least (reads d l i) z
 climbed ts least d l k i z o c q h =
     let step = climb_step d.room (reads d) (same_reads d) (inner_reads d) l i c
-        ∙ ap (λ n. capped_climb d.room (reads d) (same_reads d) (inner_reads d) n i) (sym q) in
+    ∙ ap (λ n. capped_climb d.room (reads d) (same_reads d) (inner_reads d) n i) (sym q) in
     by_level ts least d l i z o (rw step (again ts d.room least _ z h))
 
 pub climb_found : (ts : List given.Terminal) (least : ℕ) (d : Depth) (l : Level) (k : ℕ) (i : List Terminal) (left : Read) → IsOpen d
@@ -141,5 +141,5 @@ pub front_hit : (ts : List given.Terminal) (d : Depth) (k at : ℕ) (o : Prefix)
     → Answered ts d.room (at + 1) (fronts d k (seen ts at)) z
 front_hit ts d k at o z h a =
     let step = first_hit (prefix_from k) (seen ts at) o (λ p r. prefixed (inner_reads d) p r) (reads d level.Primary (seen ts at)) h
-        ∙ ap (λ r. prefixed (inner_reads d) o r) (seen_next ts at) in
+    ∙ ap (λ r. prefixed (inner_reads d) o r) (seen_next ts at) in
     rw step (earlier ts d.room d.room (at + 1) (at + 1 + 1) _ z (omega arith) (omega arith) a)

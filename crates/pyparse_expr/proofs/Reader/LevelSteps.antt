@@ -82,7 +82,7 @@ module _ (ts : List given.Terminal) (d : Depth) (at : ℕ) (o : IsOpen d) where
       → Answered ts d.room (at + 1) (reads d level.Slice (seen ts at)) z → Answered ts d.room (at + 1) (reads d level.Part (seen ts at)) z
   part_plain z n h =
       let q : level_at d level.Part (seen ts at) ≡ cap d.room (reads d level.Slice (seen ts at)) =
-          ap (λ y. cap d.room y) (first_miss (is_op Star) (seen ts at) _ _ n) in
+      ap (λ y. cap d.room y) (first_miss (is_op Star) (seen ts at) _ _ n) in
       by_level ts (at + 1) d level.Part (seen ts at) z o (rw q (again ts d.room (at + 1) (reads d level.Slice (seen ts at)) z h))
 
   pub expression_lambda : (z : Result Read Stop) → Stands (Word Key.Lambda) ts at
@@ -114,7 +114,7 @@ module _ (ts : List given.Terminal) (d : Depth) (at : ℕ) (o : IsOpen d) where
       → FoundAt ts d.room (at + 1) (reads d level.Expression (seen ts at)) b
   expression_alone b n f m =
       let e = expression_is b n f
-          ∙ ap (λ z. cap d.room z) (first_miss (is_word Key.If) (seen ts b.next) _ (Found (tree_of b.expr.value) (seen ts b.next)) m) in
+      ∙ ap (λ z. cap d.room z) (first_miss (is_word Key.If) (seen ts b.next) _ (Found (tree_of b.expr.value) (seen ts b.next)) m) in
       by_level ts (at + 1) d level.Expression (seen ts at) (Ok b) o (rw e (ended ts d.room (at + 1) b f.ahead f.within f.low))
 
   pub named_hit : (x : List ℕ) (v t : Read) (n : ℕ) (z : Result Read Stop) → IsNamed ColonEqual x ts at
@@ -124,15 +124,15 @@ module _ (ts : List given.Terminal) (d : Depth) (at : ℕ) (o : IsOpen d) where
   named_hit x v t n z s f g m =
       let w = subst (λ (y : Expr). Makes d.room (Trees.NamedExpr y (tree_of v.expr.value)) v.next z) g.tree m in
       by_level ts (at + 1) d level.Named (seen ts at) z o
-          (rw (s.is, s.form, f.is) (node ts d.room (at + 1) (Trees.NamedExpr (Trees.Name x Store) (tree_of v.expr.value)) v.next z
-          (omega (arith, f.ahead)) f.within w))
+      (rw (s.is, s.form, f.is) (node ts d.room (at + 1) (Trees.NamedExpr (Trees.Name x Store) (tree_of v.expr.value)) v.next z
+      (omega (arith, f.ahead)) f.within w))
 
   pub named_plain : (z : Result Read Stop) → IsNotNamed ColonEqual ts at
       → Answered ts d.room (at + 1) (reads d level.Expression (seen ts at)) z
       → Answered ts d.room (at + 1) (reads d level.Named (seen ts at)) z
   named_plain z s h =
       let e : level_at d level.Named (seen ts at) ≡ cap d.room (reads d level.Expression (seen ts at)) =
-          ap (λ y. cap d.room y) (name_miss ColonEqual ts at _ (reads d level.Expression (seen ts at)) s) in
+      ap (λ y. cap d.room y) (name_miss ColonEqual ts at _ (reads d level.Expression (seen ts at)) s) in
       by_level ts (at + 1) d level.Named (seen ts at) z o (rw e (again ts d.room (at + 1) _ z h))
 
   pub stars_tuple : (b : Read) (z : Result Read Stop) → FoundAt ts d.room (at + 1) (reads d level.StarItem (seen ts at)) b
@@ -163,18 +163,18 @@ module _ (ts : List given.Terminal) (d : Depth) (at : ℕ) (o : IsOpen d) where
       → Answered ts d.room (at + 1) (reads d level.Slice (seen ts at)) z
   slice_from b z n f s m h =
       let k : slice_with (tree_of b.expr.value) (seen ts b.next) ≡ slice_rest (inner_reads d) (present (tree_of b.expr.value))
-          (seen ts (b.next + 1)) =
-          rw s.is (name_miss ColonEqual ts at (λ _ _. NoForm) (slice_rest (inner_reads d) (present (tree_of b.expr.value))
-          (seen ts (b.next + 1))) m) in
+      (seen ts (b.next + 1)) =
+      rw s.is (name_miss ColonEqual ts at (λ _ _. NoForm) (slice_rest (inner_reads d) (present (tree_of b.expr.value))
+      (seen ts (b.next + 1))) m) in
       let e = slice_is b n f ∙ ap (λ z. cap d.room z) k in
       by_level ts (at + 1) d level.Slice (seen ts at) z o
-          (rw e (earlier ts d.room d.room (at + 1) (b.next + 1) _ z (omega arith) (omega (arith, f.ahead)) h))
+      (rw e (earlier ts d.room d.room (at + 1) (b.next + 1) _ z (omega arith) (omega (arith, f.ahead)) h))
 
   pub slice_alone : (b : Read) → None ≡ first_is (is_op Colon) (seen ts at) → FoundAt ts d.room (at + 1) (reads d level.Named (seen ts at))
       b → None ≡ first_is (is_op Colon) (seen ts b.next) → FoundAt ts d.room (at + 1) (reads d level.Slice (seen ts at)) b
   slice_alone b n f m =
       let e = slice_is b n f
-          ∙ ap (λ z. cap d.room z) (first_miss (is_op Colon) (seen ts b.next) _ (Found (tree_of b.expr.value) (seen ts b.next)) m) in
+      ∙ ap (λ z. cap d.room z) (first_miss (is_op Colon) (seen ts b.next) _ (Found (tree_of b.expr.value) (seen ts b.next)) m) in
       by_level ts (at + 1) d level.Slice (seen ts at) (Ok b) o (rw e (ended ts d.room (at + 1) b f.ahead f.within f.low))
 
   abbrev slices_with : Expr → List Terminal → Answer Expr
@@ -201,16 +201,16 @@ module _ (ts : List given.Terminal) (d : Depth) (at : ℕ) (o : IsOpen d) where
   slices_star b es behind z f n s q p m =
       let e = slices_is b f ∙ ap (λ z. cap d.room z) (first_miss (is_op Comma) (seen ts b.next) _ _ n) in
       let w = subst (λ (k : ℕ). Makes d.room (Trees.Tuple (an_expr (tree_of b.expr.value) no_exprs) Load) k z) p
-          (subst (λ (ys : List Expr). Makes d.room (Trees.Tuple (Trees.exprs ys) Load) behind z) q m) in
+      (subst (λ (ys : List Expr). Makes d.room (Trees.Tuple (Trees.exprs ys) Load) behind z) q m) in
       by_level ts (at + 1) d level.Slices (seen ts at) z o
-          (rw (e, s.is) (node ts d.room (at + 1) (Trees.Tuple (an_expr (tree_of b.expr.value) no_exprs) Load) b.next z f.ahead f.within w))
+      (rw (e, s.is) (node ts d.room (at + 1) (Trees.Tuple (an_expr (tree_of b.expr.value) no_exprs) Load) b.next z f.ahead f.within w))
 
   pub slices_alone : (b : Read) → FoundAt ts d.room (at + 1) (reads d level.Part (seen ts at)) b
       → None ≡ first_is (is_op Comma) (seen ts b.next) → None ≡ first_is (is_op Star) (seen ts at)
       → FoundAt ts d.room (at + 1) (reads d level.Slices (seen ts at)) b
   slices_alone b f n m =
       let e = slices_is b f ∙ ap (λ z. cap d.room z) (first_miss (is_op Comma) (seen ts b.next) _ _ n
-          ∙ first_miss (is_op Star) (seen ts at) _ (Found (tree_of b.expr.value) (seen ts b.next)) m) in
+      ∙ first_miss (is_op Star) (seen ts at) _ (Found (tree_of b.expr.value) (seen ts b.next)) m) in
       by_level ts (at + 1) d level.Slices (seen ts at) (Ok b) o (rw e (ended ts d.room (at + 1) b f.ahead f.within f.low))
 
   abbrev subject_with : Expr → List Terminal → Answer Expr
@@ -234,7 +234,7 @@ module _ (ts : List given.Terminal) (d : Depth) (at : ℕ) (o : IsOpen d) where
       → FoundAt ts d.room (at + 1) (reads d level.Subject (seen ts at)) b
   subject_alone b f n m =
       let e = subject_is b f ∙ ap (λ z. cap d.room z) (first_miss (is_op Comma) (seen ts b.next) _ _ n
-          ∙ first_miss (is_op Star) (seen ts at) _ (Found (tree_of b.expr.value) (seen ts b.next)) m) in
+      ∙ first_miss (is_op Star) (seen ts at) _ (Found (tree_of b.expr.value) (seen ts b.next)) m) in
       by_level ts (at + 1) d level.Subject (seen ts at) (Ok b) o (rw e (ended ts d.room (at + 1) b f.ahead f.within f.low))
 
   pub value_yield : (z : Result Read Stop) → Stands (Word Key.Yield) ts at

@@ -96,9 +96,9 @@ module _ (ts : List given.Terminal) (o d : Depth) (at : ℕ) (h : IsOuter o d) w
         (Found (exprs (map tree_of a.args.items), Trees.keywords (map keyword_of a.keywords.items)) (seen ts a.next)) NoForm
     arguments_is =
         let p : positional f.entries ≡ exprs (map tree_of a.args.items) = args_steps f.entries
-            ∙ ap (λ s. exprs (actuals.args_in s)) (sym f.gives) in
+        ∙ ap (λ s. exprs (actuals.args_in s)) (sym f.gives) in
         let k : rule.keywords f.entries ≡ Trees.keywords (map keyword_of a.keywords.items) = keywords_steps f.entries
-            ∙ ap (λ s. Trees.keywords (actuals.keywords_in s)) (sym f.gives) in
+        ∙ ap (λ s. Trees.keywords (actuals.keywords_in s)) (sym f.gives) in
         ap (λ z. and_then z ordered) (sym arguments_outer ∙ f.is)
         ∙ (λ i. cond (order_is i) (Found (p i, k i) (seen ts a.next)) NoForm)
 
@@ -107,8 +107,10 @@ module _ (ts : List given.Terminal) (o d : Depth) (at : ℕ) (h : IsOuter o d) w
         ∙ ap (λ b. cond (not b) (Found (exprs (map tree_of a.args.items), Trees.keywords (map keyword_of a.keywords.items))
         (seen ts a.next)) NoForm) q
 
-    pub arguments_found : a.wrong ≡ false → PartAt ts at (read_arguments d (seen ts at)) (exprs (map tree_of a.args.items),
-        Trees.keywords (map keyword_of a.keywords.items)) a.next
+    pub arguments_found : a.wrong ≡ false → PartAt ts at (read_arguments d (seen ts at)) (
+      exprs (map tree_of a.args.items),
+      Trees.keywords (map keyword_of a.keywords.items),
+    ) a.next
     arguments_found q = record {
       ahead = f.ahead;
       within = f.within;

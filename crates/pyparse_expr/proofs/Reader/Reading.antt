@@ -77,8 +77,13 @@ again ts room least x (Err s) h = failed_cap s room x h
 -- an answer of the same, from an earlier place on
 pub earlier : (ts : List given.Terminal) (room most least next : ℕ) (x : Answer Expr) (z : Result Read Stop) → most ≤ room → least ≤ next
     → Answered ts most next x z → Answered ts room least x z
-earlier ts room most least next x (Ok r) m le h = record { ahead = omega (arith, le, h.ahead); within = h.within; low =
-    omega (arith, m, h.low); is = h.is }
+earlier ts room most least next x (Ok r) m le h = record {
+  ahead = omega (arith, le, h.ahead);
+  within = h.within;
+  low =
+      omega (arith, m, h.low);
+  is = h.is;
+}
 earlier ts room most least next x (Err s) m le h = h
 
 -- an answer that is a node, where the node was made

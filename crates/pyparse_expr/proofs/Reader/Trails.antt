@@ -186,5 +186,5 @@ pub attribute_made : (ts : List given.Terminal) (room n : ℕ) (e : Expr) (x : L
     → Answered ts room n (attribute_at room e (seen ts n)) z
 attribute_made ts room n e x z h w m =
     let step = first_hit name_in (seen ts n) x (λ y r2. Found (Trees.Attribute e y Load) r2) NoForm h
-        ∙ ap (λ r. Found (Trees.Attribute e x Load) r) (seen_next ts n) in
+    ∙ ap (λ r. Found (Trees.Attribute e x Load) r) (seen_next ts n) in
     rw step (node ts room n (Trees.Attribute e x Load) (n + 1) z (omega arith) (omega arith) m)

@@ -36,8 +36,10 @@ header_as : (ts : List given.Terminal) (least low : ℕ) (x y : Answer Header) (
 header_as ts least low x y z q le h = answered_as ts least low x y (λ r. header_of r.header) (λ r. r.next) z q le h
 
 module _ (ts : List given.Terminal) (d : Depth) (x : Identifier) (tps : List TypeParam) where
-  pub class_made : (at m : ℕ) (xs : List Expr) (ks : Keywords) (r : ReadHeader) → PartAt ts at (read_arguments d (seen ts at)) (exprs xs,
-      ks) m → Stands (Op RPar) ts m → header_of r.header ≡ def_header (class_head x tps xs ks) → r.next ≡ m + 1
+  pub class_made : (at m : ℕ) (xs : List Expr) (ks : Keywords) (r : ReadHeader) → PartAt ts at (read_arguments d (seen ts at)) (
+    exprs xs,
+    ks,
+  ) m → Stands (Op RPar) ts m → header_of r.header ≡ def_header (class_head x tps xs ks) → r.next ≡ m + 1
       → PartAt ts at (class_from d x tps (seen ts at)) (header_of r.header) r.next
   class_made at m xs ks r f e h k = record {
     ahead = omega (arith, f.ahead, k);

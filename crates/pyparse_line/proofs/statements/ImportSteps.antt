@@ -257,5 +257,5 @@ module _ (ts : List given.Terminal) (at : ℕ) where
         pub from_named : Stands (Word Import) ts j → import_from (seen ts at) ≡ import_of (Some x) k (seen ts (j + 1))
         from_named s =
             let w : on_first (is_word Import) (seen ts j) (λ _ r2. import_of (Some x) k r2) NoForm ≡ import_of (Some x) k
-                (seen ts (j + 1)) = rw s.is refl in
+            (seen ts (j + 1)) = rw s.is refl in
             named ∙ w

@@ -98,8 +98,13 @@ higher (t ∷ ss) s = omega (arith, higher ss s)
 
 pub statement_height : (xs ys : List given_stmt.Stmt) (s : given_stmt.Stmt) (h k : ℕ) → ys ≡ xs ++ (s ∷ [])
     → h ≡ highest_in_all (stmts (map stmt_of xs)) → k ≡ highest_in (stmt_of s) → max h k ≡ highest_in_all (stmts (map stmt_of ys))
-statement_height xs ys s h k e a b = omega (arith, a, b, ap (λ l. highest_in_all (stmts l)) (statement_pushed xs ys s e),
-    higher (map stmt_of xs) (stmt_of s))
+statement_height xs ys s h k e a b = omega (
+  arith,
+  a,
+  b,
+  ap (λ l. highest_in_all (stmts l)) (statement_pushed xs ys s e),
+  higher (map stmt_of xs) (stmt_of s),
+)
 
 -- how far they were read
 pub record Runs (ts : List given.Terminal) (profile : Profile) (self : Reads) (x : Answer (List Stmt))
@@ -214,8 +219,8 @@ module _ (ts : List given.Terminal) (profile : Profile) (self : Reads) where
               enough = omega (arith, l, e, le, h, semi.within, seen_length ts n, seen_length ts next);
               is = first m q
                   ∙ ap (λ y. and_then y (λ ss i. Found (acc ++ ss) i)) (behind m
-                      ∙ some (seen ts (k + 1)) (Found (s ∷ []) []) (and_then (statements profile self m (seen ts (k + 1)))
-                      (λ ss r2. Found (s ∷ ss) r2)) (omega (arith, h, e, seen_length ts (k + 1))))
+                  ∙ some (seen ts (k + 1)) (Found (s ∷ []) []) (and_then (statements profile self m (seen ts (k + 1)))
+                  (λ ss r2. Found (s ∷ ss) r2)) (omega (arith, h, e, seen_length ts (k + 1))))
                   ∙ grown (statements profile self m (seen ts (k + 1)))
                   ∙ ap (λ l. and_then (statements profile self m (seen ts (k + 1))) (λ ss i. Found (l ++ ss) i)) (sym p)
                   ∙ ap (λ j. and_then (statements profile self m (seen ts j)) (λ ss i. Found (new ++ ss) i)) (sym e);

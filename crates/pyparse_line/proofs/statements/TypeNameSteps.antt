@@ -62,8 +62,10 @@ module _ (ts : List given.Terminal) (at : ℕ) where
       two = omega arith
 
   pub type_other : false ≡ is_some (first_is is_type (seen ts at)) → HasNoTypeName plain_312 ts at
-  type_other b = record { is = λ hit miss. first_miss is_type (seen ts at) (λ _ r. behind hit miss r) miss
-      (none_of (first_is is_type (seen ts at)) b) }
+  type_other b = record {
+    is = λ hit miss. first_miss is_type (seen ts at) (λ _ r. behind hit miss r) miss
+        (none_of (first_is is_type (seen ts at)) b);
+  }
 
   pub type_alone : true ≡ is_some (first_is is_type (seen ts at)) → None ≡ first_is name_in (seen ts (at + 1))
       → HasNoTypeName plain_312 ts at

@@ -44,8 +44,13 @@ higher (q ∷ ps) p = omega (arith, higher ps p)
 pub param_height : (xs ys : List given_param.TypeParam) (p : given_param.TypeParam) (h k : ℕ) → ys ≡ xs ++ (p ∷ [])
     → h ≡ type_param_heights (map type_param_of xs) → k ≡ type_param_height (type_param_of p)
     → max h k ≡ type_param_heights (map type_param_of ys)
-param_height xs ys p h k e a b = omega (arith, a, b, ap type_param_heights (param_pushed xs ys p e),
-    higher (map type_param_of xs) (type_param_of p))
+param_height xs ys p h k e a b = omega (
+  arith,
+  a,
+  b,
+  ap type_param_heights (param_pushed xs ys p e),
+  higher (map type_param_of xs) (type_param_of p),
+)
 
 -- one, by what it begins with
 module _ (ts : List given.Terminal) (self : Reads) (at : ℕ) where
@@ -67,7 +72,7 @@ module _ (ts : List given.Terminal) (self : Reads) (at : ℕ) where
     star_is : Stands (Op Star) ts at → read_type_param self (seen ts at) ≡ starred (seen ts (at + 1))
     star_is s =
         let w : on_first (is_op Star) (seen ts at) (λ _ r. starred r) (on_first (is_op DoubleStar) (seen ts at) (λ _ r. doubled r) NoForm) ≡
-            starred (seen ts (at + 1)) = rw s.is refl in
+        starred (seen ts (at + 1)) = rw s.is refl in
         nameless ∙ w
 
     pub by_star : (x : Identifier) → Stands (Op Star) ts at → Some x ≡ first_is name_in (seen ts (at + 1))

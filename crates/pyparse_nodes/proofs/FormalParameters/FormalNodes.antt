@@ -40,12 +40,12 @@ this_arg (Some a) = refl
 
 pub node_is : (a : layer.Arguments-F Expr Arg Arguments Comprehension Keyword) (g : Stage) (b : Bool) →
     arguments_of (given.roll-Arguments a) ≡ before (state g b (map arg_of a.posonlyargs.items) (map arg_of a.args.items)
-        (arg_option_of a.vararg)
+    (arg_option_of a.vararg)
     (map arg_of a.kwonlyargs.items) (map optional (map option_of a.kw_defaults.items)) (arg_option_of a.kwarg)
-        (map tree_of a.defaults.items)) no_arguments
+    (map tree_of a.defaults.items)) no_arguments
 node_is a g b = arguments_tree (given.roll-Arguments a)
     ∙ ap valued (given.out-roll-Arguments a)
     ∙ (λ i. plain.arguments (all_args (map arg_of a.posonlyargs.items) i) (all_args (map arg_of a.args.items) i)
-        (this_arg (arg_option_of a.vararg) i)
+    (this_arg (arg_option_of a.vararg) i)
     (all_args (map arg_of a.kwonlyargs.items) i) (all_optionals (map option_of a.kw_defaults.items) i) (this_arg (arg_option_of a.kwarg) i)
-        (all_exprs (map tree_of a.defaults.items) i))
+    (all_exprs (map tree_of a.defaults.items) i))

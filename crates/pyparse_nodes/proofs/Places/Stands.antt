@@ -49,8 +49,13 @@ pub named_stands : (ts : List given.Terminal) (at : ℕ) (x : List ℕ) (sign : 
     → Stands (Op sign) ts (at + 1) → IsNamed sign x ts at
 named_stands ts at x sign h s =
     let w = ident (seen ts at) h in
-    record { within = s.within; name = w.0; form = w.1; is = w.2 ∙ ap (λ r. Ident w.0 ∷ r) (drop-drop 1 at (map terminal ts) ∙ s.is
-        ∙ ap (λ n. Op sign ∷ seen ts n) (omega arith)) }
+    record {
+      within = s.within;
+      name = w.0;
+      form = w.1;
+      is = w.2 ∙ ap (λ r. Ident w.0 ∷ r) (drop-drop 1 at (map terminal ts) ∙ s.is
+          ∙ ap (λ n. Op sign ∷ seen ts n) (omega arith));
+    }
   where
     name : (t : Terminal) → Some x ≡ name_in t → (y : Spelled) × (y.form ≡ x) × (t ≡ Ident y)
     name (Ident y) h = (y, cc, refl)

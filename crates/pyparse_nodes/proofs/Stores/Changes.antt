@@ -63,18 +63,18 @@ module _ (change : Expr → Option Expr) (all : Exprs → Option Exprs) (new : C
       → IsChanged b (change (tree_of e)) (tree_of (variant.Tuple w new))
   tuple_changed r i =
       let was : change (tree_of e) ≡ option_map (λ fs. Trees.Tuple fs new) (all (exprs (map tree_of xs))) = ap (λ x. change (tree_of x)) i
-          ∙ ap (λ t. change t) (tuple_tree v c) ∙ r (exprs (map tree_of v.items))
-          ∙ ap (λ l. option_map (λ fs. Trees.Tuple fs new) (all (exprs (map tree_of l)))) (sym p) in
+      ∙ ap (λ t. change t) (tuple_tree v c) ∙ r (exprs (map tree_of v.items))
+      ∙ ap (λ l. option_map (λ fs. Trees.Tuple fs new) (all (exprs (map tree_of l)))) (sym p) in
       let is : tree_of (variant.Tuple w new) ≡ Trees.Tuple (exprs (map tree_of ys)) new = tuple_tree w new
-          ∙ ap (λ l. Trees.Tuple (exprs (map tree_of l)) new) q in
+      ∙ ap (λ l. Trees.Tuple (exprs (map tree_of l)) new) q in
       rw (was, is) (whole_changed (λ fs. Trees.Tuple fs new) b (all (exprs (map tree_of xs))) (exprs (map tree_of ys)) h)
 
   pub list_changed : ((es : Exprs) → change (Trees.ListOf es c) ≡ option_map (λ fs. Trees.ListOf fs new) (all es)) → e ≡ variant.List v c
       → IsChanged b (change (tree_of e)) (tree_of (variant.List w new))
   list_changed r i =
       let was : change (tree_of e) ≡ option_map (λ fs. Trees.ListOf fs new) (all (exprs (map tree_of xs))) = ap (λ x. change (tree_of x)) i
-          ∙ ap (λ t. change t) (list_tree v c) ∙ r (exprs (map tree_of v.items))
-          ∙ ap (λ l. option_map (λ fs. Trees.ListOf fs new) (all (exprs (map tree_of l)))) (sym p) in
+      ∙ ap (λ t. change t) (list_tree v c) ∙ r (exprs (map tree_of v.items))
+      ∙ ap (λ l. option_map (λ fs. Trees.ListOf fs new) (all (exprs (map tree_of l)))) (sym p) in
       let is : tree_of (variant.List w new) ≡ Trees.ListOf (exprs (map tree_of ys)) new = list_tree w new
-          ∙ ap (λ l. Trees.ListOf (exprs (map tree_of l)) new) q in
+      ∙ ap (λ l. Trees.ListOf (exprs (map tree_of l)) new) q in
       rw (was, is) (whole_changed (λ fs. Trees.ListOf fs new) b (all (exprs (map tree_of xs))) (exprs (map tree_of ys)) h)

@@ -32,7 +32,7 @@ pub star_changed : (e x : given.Expr) (v w : Box given.Expr Global) (c : Context
     → IsChanged b (stored (tree_of e)) (tree_of (variant.Starred w Store))
 star_changed e x v w c b i p n h =
     let old : stored (tree_of e) ≡ option_map (λ f. Trees.Starred f Store) (stored (tree_of x)) = ap (λ y. stored (tree_of y)) i
-        ∙ ap (λ t. stored t) (starred_tree v c) ∙ ap (λ y. stored (Trees.Starred (tree_of y) c)) (sym p) ∙ star_once (tree_of x) c n in
+    ∙ ap (λ t. stored t) (starred_tree v c) ∙ ap (λ y. stored (Trees.Starred (tree_of y) c)) (sym p) ∙ star_once (tree_of x) c n in
     let new : tree_of (variant.Starred w Store) ≡ Trees.Starred (tree_of w.value) Store = starred_tree w Store in
     rw (old, new) (whole_changed (λ f. Trees.Starred f Store) b (stored (tree_of x)) (tree_of w.value) h)
 
@@ -40,5 +40,5 @@ pub star_refused : (e x : given.Expr) (v : Box given.Expr Global) (c : Context) 
     → x ≡ v.value → b ≡ is_starred (tree_of x) → b ≡ true → IsChanged (not b) (stored (tree_of e)) new
 star_refused e x v c b new i p n t =
     let old : stored (tree_of e) ≡ None = ap (λ y. stored (tree_of y)) i ∙ ap (λ y. stored y) (starred_tree v c)
-        ∙ ap (λ y. stored (Trees.Starred (tree_of y) c)) (sym p) ∙ star_twice (tree_of x) c (sym n ∙ t) in
+    ∙ ap (λ y. stored (Trees.Starred (tree_of y) c)) (sym p) ∙ star_twice (tree_of x) c (sym n ∙ t) in
     rw t old

@@ -15,8 +15,8 @@ pub closed::name_pattern-returns-else-is_op : goal.closed::name_pattern-returns-
 closed::name_pattern-returns-else-is_op t c =
     let w = ap is_wildcard (sym c.in_ok-name.ensures) ∙ sym c.if-is_wildcard.ensures in
     name_value c.args.tokens.now c.args.depth c.args.at _ c.in_ok-e.e c.make_value.result w c.if-is_unqualified.ensures
-        (inner_dotted c.args.tokens.now c.args.depth c.args.at _ _ c.in_ok-e.e c.inner.ensures.room c.in_ok-e.ensures)
-        c.if-is_op.ensures c.make_value.ensures
+    (inner_dotted c.args.tokens.now c.args.depth c.args.at _ _ c.in_ok-e.e c.inner.ensures.room c.in_ok-e.ensures)
+    c.if-is_op.ensures c.make_value.ensures
 
 pub closed::read_closed-returns-in-Some-Ident : goal.closed::read_closed-returns-in-Some-Ident
 closed::read_closed-returns-in-Some-Ident t c = closed_here c.args.tokens.now c.args.depth c.args.at (c.args.at + 1) _ c.name_pattern.result
@@ -45,7 +45,7 @@ closed::read_closed-returns-in-Some-Op-LBrace t c = closed_here c.args.tokens.no
 pub levels::alternatives-returns-in_err-one : goal.levels::alternatives-returns-in_err-one
 levels::alternatives-returns-in_err-one t c =
     let f = bars_error c.args.tokens.now c.args.depth (pattern_of c.args.first.pattern.value) _ c.bars.patterns c.bars.invariant.is
-        c.bars-test.ensures c.in_err-one.field-0.0 (rw (← c.inner.ensures.steps, ← c.inner.ensures.room) c.in_err-one.ensures) in
+    c.bars-test.ensures c.in_err-one.field-0.0 (rw (← c.inner.ensures.steps, ← c.inner.ensures.room) c.in_err-one.ensures) in
     search (rules, f)
 
 pub levels::alternatives-bars-preserved : goal.levels::alternatives-bars-preserved

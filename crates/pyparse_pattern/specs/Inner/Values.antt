@@ -28,7 +28,7 @@ abbrev pub summed : Bool → Expr → List tokens.Terminal → Answer Expr
 summed b e r =
     cond b (Found e r)
     (on_first (left_operator Sum) r (λ o r1. on_first imaginary_in r1 (λ w r2. Found (Trees.BinOp e o (Trees.Constant w)) r2) NoForm)
-        (Found e r))
+    (Found e r))
 
 -- ["-"] NUMBER, and what may follow
 abbrev pub numbers : List tokens.Terminal → Answer Expr

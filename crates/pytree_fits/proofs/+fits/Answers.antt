@@ -100,7 +100,7 @@ strings::each_value_fits-loop-value-preserved t c =
 pub strings::value_fits-returns-in_default : goal.strings::value_fits-returns-in_default
 strings::value_fits-returns-in_default t c =
     sym (not_value c.args.value.now c.in_default.not-Constant c.in_default.not-FormattedValue
-        (tests_at c.args.asked.extent c.args.asked.fields) c.args.depth)
+    (tests_at c.args.asked.extent c.args.asked.fields) c.args.depth)
 
 pub strings::value_fits-returns-in_ok-spec_fits-in-FormattedValue : goal.strings::value_fits-returns-in_ok-spec_fits-in-FormattedValue
 strings::value_fits-returns-in_ok-spec_fits-in-FormattedValue t c = rw (c.in-FormattedValue.is, formatted_value_tree)
@@ -115,7 +115,7 @@ strings::value_fits-returns-in_ok-spec_fits-in-FormattedValue t c = rw (c.in-For
           w.if-depth-le1.false w.value-is
     ])
     c.if-branch.true (spec_told c.args.asked.extent c.args.asked.fields c.args.depth (optional (boxed_of c.in-FormattedValue.format_spec))
-        c.in_ok-spec_fits-in-FormattedValue.ensures))
+    c.in_ok-spec_fits-in-FormattedValue.ensures))
 
 pub strings::value_fits-returns-else-branch : goal.strings::value_fits-returns-else-branch
 strings::value_fits-returns-else-branch t c = rw (c.in-FormattedValue.is, formatted_value_tree)
@@ -134,16 +134,16 @@ strings::value_fits-returns-else-branch t c = rw (c.in-FormattedValue.is, format
 pub strings::spec_fits-returns-in_ok-each_value_fits-in-JoinedStr : goal.strings::spec_fits-returns-in_ok-each_value_fits-in-JoinedStr
 strings::spec_fits-returns-in_ok-each_value_fits-in-JoinedStr t c = rw c.in-Some.is
     (subst (λ e. c.in_ok-each_value_fits-in-JoinedStr.field-0 ≡ spec_fits (tests_at c.args.asked.extent c.args.asked.fields) c.args.depth
-        (present (tree_of e))) c.deref.ensures
+    (present (tree_of e))) c.deref.ensures
     (then_rest (are_apart false (exprs (map tree_of c.in-JoinedStr.values.items)))
-        (each_value_fits (tests_at c.args.asked.extent c.args.asked.fields) c.args.depth (exprs (map tree_of c.in-JoinedStr.values.items)))
+    (each_value_fits (tests_at c.args.asked.extent c.args.asked.fields) c.args.depth (exprs (map tree_of c.in-JoinedStr.values.items)))
     (sym (c.are_apart.ensures ∙ ap (λ es. are_apart false (exprs (map tree_of es))) c.deref-in-JoinedStr.ensures.value)
-        ∙ c.if-are_apart.true)
+    ∙ c.if-are_apart.true)
     (c.in_ok-each_value_fits-in-JoinedStr.ensures
     ∙ ap (λ es. each_value_fits (tests_at c.args.asked.extent c.args.asked.fields) c.args.depth (exprs (map tree_of es)))
-        c.deref-then-are_apart.ensures.value)
+    c.deref-then-are_apart.ensures.value)
     ∙ joined_spec c.deref.result.now c.in-JoinedStr.values c.in-JoinedStr.is
-        (tests_at c.args.asked.extent c.args.asked.fields) c.args.depth))
+    (tests_at c.args.asked.extent c.args.asked.fields) c.args.depth))
 
 pub strings::spec_fits-returns-in_default : goal.strings::spec_fits-returns-in_default
 strings::spec_fits-returns-in_default t c = rw c.in-Some.is
@@ -153,13 +153,13 @@ strings::spec_fits-returns-in_default t c = rw c.in-Some.is
 pub targets::target_fits-returns-in_default : goal.targets::target_fits-returns-in_default
 targets::target_fits-returns-in_default t c =
     sym (not_target c.args.expr.now c.in_default.not-Attribute c.in_default.not-Subscript c.in_default.not-Name c.in_default.not-Starred
-        c.in_default.not-List c.in_default.not-Tuple (tests_at c.args.asked.extent c.args.asked.fields) c.args.place)
+    c.in_default.not-List c.in_default.not-Tuple (tests_at c.args.asked.extent c.args.asked.fields) c.args.place)
 
 pub expressions::options_fit-returns-then-not-fits : goal.expressions::options_fit-returns-then-not-fits
 expressions::options_fit-returns-then-not-fits t c =
     stops (λ es. each_perhaps_fits (tests_at c.args.asked.extent c.args.asked.fields) (optionals (map option_of es)))
-        (λ e. perhaps_fits (tests_at c.args.asked.extent c.args.asked.fields) Expression (optional (option_of e))) refl (λ _ _. refl) _
-        c.loop-e-test.true c.e-item.is
+    (λ e. perhaps_fits (tests_at c.args.asked.extent c.args.asked.fields) Expression (optional (option_of e))) refl (λ _ _. refl) _
+    c.loop-e-test.true c.e-item.is
     (elim c.match-e.branch [
       | expressions::options_fit-in-None w ↦ w.fits-is
           ∙ sym (ap (λ e. perhaps_fits (tests_at c.args.asked.extent c.args.asked.fields) Expression (optional (option_of e))) w.in-None.is)
@@ -170,8 +170,8 @@ expressions::options_fit-returns-then-not-fits t c =
 pub expressions::options_fit-loop-e-preserved : goal.expressions::options_fit-loop-e-preserved
 expressions::options_fit-loop-e-preserved t c =
     goes_on (λ es. each_perhaps_fits (tests_at c.args.asked.extent c.args.asked.fields) (optionals (map option_of es)))
-        (λ e. perhaps_fits (tests_at c.args.asked.extent c.args.asked.fields) Expression (optional (option_of e))) refl (λ _ _. refl) _
-        c.loop-e-test.true c.e-item.is c.loop-e.invariant
+    (λ e. perhaps_fits (tests_at c.args.asked.extent c.args.asked.fields) Expression (optional (option_of e))) refl (λ _ _. refl) _
+    c.loop-e-test.true c.e-item.is c.loop-e.invariant
     (elim c.match-e.branch [
       | expressions::options_fit-in-None w ↦ w.fits-is
           ∙ sym (ap (λ e. perhaps_fits (tests_at c.args.asked.extent c.args.asked.fields) Expression (optional (option_of e))) w.in-None.is)
@@ -189,44 +189,44 @@ pub expressions::expr_fits-returns-then-not-branch-2 : goal.expressions::expr_fi
 expressions::expr_fits-returns-then-not-branch-2 t c = rw (c.in-DictComp.is, dict_comp_tree) (third_of_four _ _ _ _
     (c.if-not-has_clause.ensures ∙ ap (λ cs. has_some (comprehensions (map comprehension_of cs))) c.deref-in-DictComp.ensures.value)
     (sym c.if-not-branch.false ∙ c.in_ok-expr_fits-in-DictComp.ensures
-        ∙ ap (λ e. fits_at (tests_at c.args.asked.extent c.args.asked.fields) Expression (tree_of e)) c.deref-in-DictComp-2.ensures)
+    ∙ ap (λ e. fits_at (tests_at c.args.asked.extent c.args.asked.fields) Expression (tree_of e)) c.deref-in-DictComp-2.ensures)
     (sym c.if-not-branch-2.true ∙ c.in_ok-expr_fits-in-DictComp-2.ensures
-        ∙ ap (λ e. fits_at (tests_at c.args.asked.extent c.args.asked.fields) Expression (tree_of e)) c.deref-in-DictComp-3.ensures))
+    ∙ ap (λ e. fits_at (tests_at c.args.asked.extent c.args.asked.fields) Expression (tree_of e)) c.deref-in-DictComp-3.ensures))
 
 pub expressions::expr_fits-returns-else-not-branch-2 : goal.expressions::expr_fits-returns-else-not-branch-2
 expressions::expr_fits-returns-else-not-branch-2 t c =
     rw (c.in-DictComp.is, dict_comp_tree) (last_of_four c.clauses_fit-in-DictComp.result _ _ _ _
     (c.if-not-has_clause.ensures ∙ ap (λ cs. has_some (comprehensions (map comprehension_of cs))) c.deref-in-DictComp.ensures.value)
     (sym c.if-not-branch.false ∙ c.in_ok-expr_fits-in-DictComp.ensures
-        ∙ ap (λ e. fits_at (tests_at c.args.asked.extent c.args.asked.fields) Expression (tree_of e)) c.deref-in-DictComp-2.ensures)
+    ∙ ap (λ e. fits_at (tests_at c.args.asked.extent c.args.asked.fields) Expression (tree_of e)) c.deref-in-DictComp-2.ensures)
     (sym c.if-not-branch-2.false ∙ c.in_ok-expr_fits-in-DictComp-2.ensures
-        ∙ ap (λ e. fits_at (tests_at c.args.asked.extent c.args.asked.fields) Expression (tree_of e)) c.deref-in-DictComp-3.ensures)
+    ∙ ap (λ e. fits_at (tests_at c.args.asked.extent c.args.asked.fields) Expression (tree_of e)) c.deref-in-DictComp-3.ensures)
     (subst (λ cs. IfOk c.clauses_fit-in-DictComp.result (λ told. told ≡ each_clause_fits (tests_at c.args.asked.extent c.args.asked.fields)
-        (comprehensions (map comprehension_of cs)))) c.deref-in-DictComp-4.ensures.value c.clauses_fit-in-DictComp.ensures))
+    (comprehensions (map comprehension_of cs)))) c.deref-in-DictComp-4.ensures.value c.clauses_fit-in-DictComp.ensures))
 
 pub expressions::expr_fits-returns-then-not-are_comparisons : goal.expressions::expr_fits-returns-then-not-are_comparisons
 expressions::expr_fits-returns-then-not-are_comparisons t c = rw (c.in-Compare.is, compare_tree) (first_of_three _ _ _
     (c.if-not-are_comparisons.ensures
     ∙ (λ i. leb 1 (length (c.deref-in-Compare.ensures.value i)) && eqb (length (c.deref-in-Compare.ensures.value i))
-        (count (exprs (map tree_of (c.deref-in-Compare-2.ensures.value i)))))))
+    (count (exprs (map tree_of (c.deref-in-Compare-2.ensures.value i)))))))
 
 pub expressions::expr_fits-returns-then-not-branch-3 : goal.expressions::expr_fits-returns-then-not-branch-3
 expressions::expr_fits-returns-then-not-branch-3 t c = rw (c.in-Compare.is, compare_tree) (second_of_three _ _ _
     (c.if-not-are_comparisons.ensures
     ∙ (λ i. leb 1 (length (c.deref-in-Compare.ensures.value i)) && eqb (length (c.deref-in-Compare.ensures.value i))
-        (count (exprs (map tree_of (c.deref-in-Compare-2.ensures.value i))))))
+    (count (exprs (map tree_of (c.deref-in-Compare-2.ensures.value i))))))
     (sym c.if-not-branch-3.true ∙ c.in_ok-expr_fits-in-Compare.ensures
-        ∙ ap (λ e. fits_at (tests_at c.args.asked.extent c.args.asked.fields) Expression (tree_of e)) c.deref-in-Compare-3.ensures))
+    ∙ ap (λ e. fits_at (tests_at c.args.asked.extent c.args.asked.fields) Expression (tree_of e)) c.deref-in-Compare-3.ensures))
 
 pub expressions::expr_fits-returns-else-not-branch-3 : goal.expressions::expr_fits-returns-else-not-branch-3
 expressions::expr_fits-returns-else-not-branch-3 t c = rw (c.in-Compare.is, compare_tree) (last_of_three c.exprs_fit-in-Compare.result _ _ _
     (c.if-not-are_comparisons.ensures
     ∙ (λ i. leb 1 (length (c.deref-in-Compare.ensures.value i)) && eqb (length (c.deref-in-Compare.ensures.value i))
-        (count (exprs (map tree_of (c.deref-in-Compare-2.ensures.value i))))))
+    (count (exprs (map tree_of (c.deref-in-Compare-2.ensures.value i))))))
     (sym c.if-not-branch-3.false ∙ c.in_ok-expr_fits-in-Compare.ensures
-        ∙ ap (λ e. fits_at (tests_at c.args.asked.extent c.args.asked.fields) Expression (tree_of e)) c.deref-in-Compare-3.ensures)
+    ∙ ap (λ e. fits_at (tests_at c.args.asked.extent c.args.asked.fields) Expression (tree_of e)) c.deref-in-Compare-3.ensures)
     (subst (λ es. IfOk c.exprs_fit-in-Compare.result (λ told. told ≡ each_fits (tests_at c.args.asked.extent c.args.asked.fields) Expression
-        (exprs (map tree_of es)))) c.deref-in-Compare-4.ensures.value c.exprs_fit-in-Compare.ensures))
+    (exprs (map tree_of es)))) c.deref-in-Compare-4.ensures.value c.exprs_fit-in-Compare.ensures))
 
 pub expressions::expr_fits-returns-else-not-branch-7 : goal.expressions::expr_fits-returns-else-not-branch-7
 expressions::expr_fits-returns-else-not-branch-7 t c = rw (c.in-Slice.is, slice_tree) (last_of_four c.boxed_fits-in-Slice-3.result _ _ _ _

@@ -77,12 +77,12 @@ module _ (n : Tests) where
         let w = and_parts (is_context Del c) (each_target_fits n Del es) h in
         let u = all_undeleted es w.1 in
         in_context (λ k. (t : Expr) × (deleted t ≡ Some (Trees.Tuple es k)) × (fits_at n Expression t ≡ true)) Del c w.0
-            (Trees.Tuple u.0 Load, ap (option_map (λ fs. Trees.Tuple fs Del)) u.1, u.2)
+        (Trees.Tuple u.0 Load, ap (option_map (λ fs. Trees.Tuple fs Del)) u.1, u.2)
     undeleted (Trees.ListOf es c) h =
         let w = and_parts (is_context Del c) (each_target_fits n Del es) h in
         let u = all_undeleted es w.1 in
         in_context (λ k. (t : Expr) × (deleted t ≡ Some (Trees.ListOf es k)) × (fits_at n Expression t ≡ true)) Del c w.0
-            (Trees.ListOf u.0 Load, ap (option_map (λ fs. Trees.ListOf fs Del)) u.1, u.2)
+        (Trees.ListOf u.0 Load, ap (option_map (λ fs. Trees.ListOf fs Del)) u.1, u.2)
     undeleted _ h = absurd (cc)
 
     all_undeleted : (es : Exprs) → each_target_fits n Del es ≡ true
@@ -91,9 +91,12 @@ module _ (n : Tests) where
     all_undeleted (an_expr e es) h =
         let w = and_parts (fits_target n Del e) (each_target_fits n Del es) h in
         let u = undeleted e w.0 in
-        let v = all_undeleted es w.1 in
-        (an_expr u.0 v.0, both_some (deleted u.0) (all_deleted v.0) e es u.1 v.1, and_from (fits_at n Elem u.0) (each_fits n Elem v.0)
-            (anywhere n Expression Elem u.0 refl u.2) v.2)
+        let v = all_undeleted es w.1 in (
+          an_expr u.0 v.0,
+          both_some (deleted u.0) (all_deleted v.0) e es u.1 v.1,
+          and_from (fits_at n Elem u.0) (each_fits n Elem v.0)
+              (anywhere n Expression Elem u.0 refl u.2) v.2,
+        )
 
   pub del_target_given : (s : Expr) → fits_target n Del s ≡ true → GivenAsSpelled (outside n) G.DelTarget s
   del_target_given s h =
@@ -113,8 +116,11 @@ module _ (n : Tests) where
       let a = aim (outside n) e w.2 in
       let b = a.bare (not_true (is_starred e) w.1) in
       let u = b.0 Expression in
-      in_context (λ k. GivenAsSpelled (outside n) G.ItemTarget (Trees.Starred e k)) Store c w.0 (Op Star ∷ u.0, u.1,
-          G.star_target u.2 (star_up a.tree e b.1 a.is))
+      in_context (λ k. GivenAsSpelled (outside n) G.ItemTarget (Trees.Starred e k)) Store c w.0 (
+        Op Star ∷ u.0,
+        u.1,
+        G.star_target u.2 (star_up a.tree e b.1 a.is),
+      )
   item_target_given (Trees.Name x c) h = item_from (Trees.Name x c) refl h
   item_target_given (Trees.Attribute e x c) h = item_from (Trees.Attribute e x c) refl h
   item_target_given (Trees.Subscript e s c) h = item_from (Trees.Subscript e s c) refl h
@@ -149,7 +155,7 @@ module _ (n : Tests) where
   star_noted b x (Trees.Starred e c) p q h =
       let w = and_parts (is_context Load c) (fits_at n Expression e) h in
       in_context (λ k. StarArgMade (outside n) b (present_arg (arg x (present (Trees.Starred e k))))) Load c w.0
-          (starred p q (made (outside n) Expression e w.1))
+      (starred p q (made (outside n) Expression e w.1))
   star_noted b x (Trees.Slice a c d) p q h = absurd (never h)
   star_noted b x e p q h = unstarred (one_made (noted p q (made (outside n) Expression e (at_expression e refl h))))
 
@@ -162,7 +168,7 @@ module _ (n : Tests) where
   parameters_given b (arguments ps qs v ks ds k es) h =
       let p = fit_parts n b (arguments ps qs v ks ds k es) h in
       let w = arrangement (outside n) b ps qs v ks ds k es (noted_args b ps p.before) (noted_args b qs p.middle) (star_arg b v p.star)
-          (noted_args b ks p.only)
+      (noted_args b ks p.only)
       (keys (outside n) ds p.only_defaults) (noted_optional b k p.double) (each (outside n) Expression es p.defaults) p.even p.few in
       let u = listing (outside n) w.pieces in
       (u.0, u.1, record { entries = w.list; listing = u.2; arranged_as = w.is })
@@ -176,16 +182,24 @@ module _ (n : Tests) where
       subst (λ z. (each_fits n Elem z && each_keyword_fits n ks) ≡ true) a.positional_are
       (subst (λ z. (each_fits n Elem (positional a.entries) && each_keyword_fits n z) ≡ true) a.keywords_are
       (and_from (each_fits n Elem (positional a.entries)) (each_keyword_fits n (keywords a.entries)) (positional_fit n a.entries q)
-          (keywords_fit n a.entries q)))
+      (keywords_fit n a.entries q)))
 
   pub arguments_given : (zs : Exprs) (ks : Keywords) → (each_fits n Elem zs && each_keyword_fits n ks) ≡ true
       → (ts : List Terminal) × Passed (outside n) ts × AreArguments ts (zs, ks)
   arguments_given zs ks h =
       let w = and_parts (each_fits n Elem zs) (each_keyword_fits n ks) h in
       let l = listed (outside n) (Gives.positional (outside n) zs w.0) (labelled (outside n) ks w.1) in
-      let u = listing (outside n) l.pieces in
-      (u.0, u.1, record { entries = l.list; listing = u.2; order = l.order; positional_are = l.positional_are;
-          keywords_are = l.keywords_are })
+      let u = listing (outside n) l.pieces in (
+        u.0,
+        u.1,
+        record {
+          entries = l.list;
+          listing = u.2;
+          order = l.order;
+          positional_are = l.positional_are;
+          keywords_are = l.keywords_are;
+        },
+      )
 
 pub targets_fit_exactly : TargetsFitExactly
 targets_fit_exactly n s = record {
@@ -196,9 +210,15 @@ targets_fit_exactly n s = record {
 }
 
 pub parameters_fit_exactly : ParametersFitExactly
-parameters_fit_exactly n b a = (λ w. arranged_fit n b w.2.entries a (Fits.listing (outside n) w.2.listing w.1) w.2.arranged_as, λ h. let w =
-    parameters_given n b a h in (w.0, all_passing n w.0 w.1, w.2))
+parameters_fit_exactly n b a = (
+  λ w. arranged_fit n b w.2.entries a (Fits.listing (outside n) w.2.listing w.1) w.2.arranged_as,
+  λ h. let w =
+      parameters_given n b a h in (w.0, all_passing n w.0 w.1, w.2),
+)
 
 pub arguments_fit_exactly : ArgumentsFitExactly
-arguments_fit_exactly n zs ks = (λ w. arguments_fit n zs ks w.2 w.1, λ h. let w = arguments_given n zs ks h in
-    (w.0, all_passing n w.0 w.1, w.2))
+arguments_fit_exactly n zs ks = (
+  λ w. arguments_fit n zs ks w.2 w.1,
+  λ h. let w = arguments_given n zs ks h in
+      (w.0, all_passing n w.0 w.1, w.2),
+)

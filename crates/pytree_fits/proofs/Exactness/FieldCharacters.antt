@@ -102,7 +102,7 @@ no_quote_open c q h =
 pub open_body : (t : List ℕ) → list_all is_calm t ≡ true → is_bulky kinds.String t ≡ false → list_all is_open (body_of t) ≡ true
 open_body t h b =
     joined is_calm (λ c. not (is_quote c || (c == 10))) (body_of t) (body_all is_calm t h)
-        (none_all (λ c. is_quote c || (c == 10)) (body_of t) b)
+    (none_all (λ c. is_quote c || (c == 10)) (body_of t) b)
 
 pub no_nuls : (t : List ℕ) → list_any (λ c. c == 0) t ≡ false → list_all (λ c. not (c == 0)) (body_of t) ≡ true
 no_nuls t n = body_all (λ c. not (c == 0)) t (none_all (λ c. c == 0) t n)
@@ -122,7 +122,7 @@ calm_body : (t : List ℕ) → list_all is_calm t ≡ true → list_all is_no_ba
 calm_body t h =
     body_all is_no_backslash (with_line_feeds t)
     (filter_all is_no_backslash (λ c. not (c == 13)) t
-        (weaker is_calm is_no_backslash (λ c k. (and_parts (scalar c) (is_no_backslash c) k).1) t h))
+    (weaker is_calm is_no_backslash (λ c k. (and_parts (scalar c) (is_no_backslash c) k).1) t h))
 
 -- ---- Literals.
 

@@ -112,21 +112,21 @@ inner_text m k raw t rest h w = by k w
     calm : (u : List ℕ) → list_all is_flat u ≡ true → read raw u ≡ with_line_feeds u
     calm u e =
         points_kept raw false (with_line_feeds u)
-            (kept_all is_no_backslash (λ c. not (c == 13)) u (weaker is_flat is_no_backslash flat_calm u e))
+        (kept_all is_no_backslash (λ c. not (c == 13)) u (weaker is_flat is_no_backslash flat_calm u e))
 
     bare : (u : List ℕ) → list_all is_flat u ≡ true → list_all is_bare (read raw u) ≡ true
     bare u e =
         subst (λ z. list_all is_bare z ≡ true) (sym (calm u e))
         (weaker (λ c. is_flat c && not (c == 13)) is_bare flat_bare (with_line_feeds u)
         (joined is_flat (λ c. not (c == 13)) (with_line_feeds u) (kept_all is_flat (λ c. not (c == 13)) u e)
-            (kept_pass (λ c. not (c == 13)) u)))
+        (kept_pass (λ c. not (c == 13)) u)))
 
     unbraced_there : (u : List ℕ) → list_all is_flat u ≡ true → list_all is_literal_char u ≡ true → list_all is_no_brace (read raw u) ≡ true
     unbraced_there u e l = subst (λ z. list_all is_no_brace z ≡ true) (sym (calm u e)) (kept_all is_no_brace (λ c. not (c == 13)) u l)
 
     by : (k : ℕ) → behind_text raw (at_top k) (t ++ rest) ≡ rest
         → Stands (k ∷ (m ∷ []))
-            (FormattedText (flat_map points_in (meanings raw false (with_line_feeds (if at_top k then single raw t else t)))))
+        (FormattedText (flat_map points_in (meanings raw false (with_line_feeds (if at_top k then single raw t else t)))))
     by zero w = bare (single raw t) (single_kept is_flat raw t h)
     by (suc k) w =
         and_from (list_all is_bare (read raw t)) _ (bare t h)

@@ -90,8 +90,12 @@ pub fits_expressed : (extent : Extent) (l : Level) (e : Expr) → IsLow l e → 
 fits_expressed extent l e low h =
     let (ts, passed, derived) = (fits_exactly (tests_in extent) l e).1 h in
     let k = read_tokens (expressions_said extent l ts e (passing_said extent [] ts tt passed) derived low) in
-    record { tokens = k.tokens; sound = k.sound; derived =
-        subst (λ z. Derives l z e) (sym k.terminals) (expressions_are_shortest l ts e derived).gives }
+    record {
+      tokens = k.tokens;
+      sound = k.sound;
+      derived =
+          subst (λ z. Derives l z e) (sym k.terminals) (expressions_are_shortest l ts e derived).gives;
+    }
 
 pub fits_patterned : (extent : Extent) (l : PatternLevel) (p : Pattern) → IsLowPattern l p → pattern_fits_at (tests_in extent) l p ≡ true
     → Patterned extent l p
@@ -111,8 +115,12 @@ record Lined (profile : Profile) (earlier xs : List Line) : Type 0 where
   may_be : All MayBeTokens lines
 
 lined : {profile : Profile} {earlier xs : List Line} → AreGiven profile (tests_in profile.extent) earlier xs → Lined profile earlier xs
-lined {profile} no_line = record { lines = []; formed = Written.no_form; said = All-nil (IsSaid profile.extent);
-    may_be = All-nil MayBeTokens }
+lined {profile} no_line = record {
+  lines = [];
+  formed = Written.no_form;
+  said = All-nil (IsSaid profile.extent);
+  may_be = All-nil MayBeTokens;
+}
 lined {profile} (a_line {x = x} w r) =
     let (ts, passed, form) = w in
     let k = lined r in

@@ -74,7 +74,7 @@ terminals_stay extent o [] h = refl
 terminals_stay extent o (t ∷ ts) h =
     let w = and_parts (passes (tests_in extent) o t) (all_pass (tests_in extent) (open_behind o t) ts) h in
     and_from (passes (tests_in Whole) o t) (all_pass (tests_in Whole) (open_behind o t) ts) (terminal_stays extent o t w.0)
-        (terminals_stay extent (open_behind o t) ts w.1)
+    (terminals_stay extent (open_behind o t) ts w.1)
 
 given_stays : {A : Type 0} (r : List Terminal → A → Type 0) (a : A) (extent : Extent) → Given (tests_in extent) r a
     → Given (tests_in Whole) r a
@@ -112,18 +112,18 @@ module _ (p q : Profile) (n : Tests) (more : has_types p ≡ true → has_types 
     statement_stays : (s : Stmt) → statement_fits p n s ≡ true → statement_fits q n s ≡ true
     statement_stays (Trees.FunctionDef name args body ds r ps) h =
         both (last (n.name name && fits_arguments n true args && each_fits n Expression (exprs ds) && perhaps_fits n Expression
-            (optional r)) (types_stay ps)) (suite_stays body) h
+        (optional r)) (types_stay ps)) (suite_stays body) h
     statement_stays (Trees.AsyncFunctionDef name args body ds r ps) h =
         both (last (n.name name && fits_arguments n true args && each_fits n Expression (exprs ds) && perhaps_fits n Expression
-            (optional r)) (types_stay ps)) (suite_stays body) h
+        (optional r)) (types_stay ps)) (suite_stays body) h
     statement_stays (Trees.ClassDef name bases ks body ds ps) h =
         both (last (n.name name && each_fits n Elem (exprs bases) && each_keyword_fits n ks && each_fits n Expression (exprs ds))
-            (types_stay ps)) (suite_stays body) h
+        (types_stay ps)) (suite_stays body) h
     statement_stays (Trees.TypeAlias name ps value) h =
         let w = parts5 (has_types p) (is_a_name name) (fits_target n Store name) (list_all (type_param_fits n) ps)
-            (fits_at n Expression value) h in
+        (fits_at n Expression value) h in
         from5 (has_types q) (is_a_name name) (fits_target n Store name) (list_all (type_param_fits n) ps) (fits_at n Expression value)
-            (more w.0) w.1 w.2 w.3 w.4
+        (more w.0) w.1 w.2 w.3 w.4
     statement_stays (Trees.For t i body orelse) h = both (last (fits_target n Store t && fits_at n Stars i) (suite_stays body))
         (statements_stay orelse) h
     statement_stays (Trees.AsyncFor t i body orelse) h = both (last (fits_target n Store t && fits_at n Stars i) (suite_stays body))
@@ -137,10 +137,10 @@ module _ (p q : Profile) (n : Tests) (more : has_types p ≡ true → has_types 
         from4 (is_whole q.extent) (has_case cs) (fits_at n Expression e) (cases_fit q n cs) (whole w.0) w.1 w.2 (cases_stay cs w.3)
     statement_stays (Trees.Try body hs orelse final) h =
         both (both (both (last (clauses_fit false hs orelse final) (suite_stays body)) (handlers_stay false hs)) (statements_stay orelse))
-            (statements_stay final) h
+        (statements_stay final) h
     statement_stays (Trees.TryStar body hs orelse final) h =
         both (both (both (last (clauses_fit true hs orelse final) (suite_stays body)) (handlers_stay true hs)) (statements_stay orelse))
-            (statements_stay final) h
+        (statements_stay final) h
     statement_stays (Trees.Return value) h = h
     statement_stays (Trees.Delete ts) h = h
     statement_stays (Trees.Assign ts value) h = h
@@ -181,5 +181,5 @@ pub modules_stay : ModulesStay
 modules_stay profile m h =
     let latest = python Py312 Whole in
     let w = module_given latest profile.extent m (statements_stay profile latest (tests_in profile.extent) (λ t. refl)
-        (λ t. refl) (stmts m.body) h) in
+    (λ t. refl) (stmts m.body) h) in
     module_exactly latest Whole m (w.0, lines_stay latest profile.extent w.1, w.2)

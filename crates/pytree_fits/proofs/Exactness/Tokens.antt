@@ -84,8 +84,8 @@ string_is extent t h s = by (is_bytes (with_line_feeds t)) (λ e. bytes_are_smal
     by : (b : Bool) → ((if b then Bytes (points_of (with_line_feeds t)) else Str (points_of (with_line_feeds t))
         (is_unicode (with_line_feeds t))) ≡ Bytes (points_of (with_line_feeds t)) → All (λ b. b < 0x100) (points_of (with_line_feeds t))) →
         passes (tests_in extent) []
-            (Literal (if b then Bytes (points_of (with_line_feeds t)) else Str (points_of (with_line_feeds t))
-            (is_unicode (with_line_feeds t)))) ≡ true
+        (Literal (if b then Bytes (points_of (with_line_feeds t)) else Str (points_of (with_line_feeds t))
+        (is_unicode (with_line_feeds t)))) ≡ true
     by true f = all_small (points_of (with_line_feeds t)) (f refl)
     by false f = points
 
@@ -156,7 +156,7 @@ all_tokens_pass extent [] h g = refl
 all_tokens_pass extent (t ∷ ts) h g =
     let w : IsOfSource t = All-head IsOfSource t ts h in
     both_pass (outside (tests_in extent)) (terminals_of t.kind t.text) (terminals_close t.kind t.text)
-        (flat_map (λ (t : Token). terminals_of t.kind t.text) ts)
+    (flat_map (λ (t : Token). terminals_of t.kind t.text) ts)
     (token_passes extent t.kind t.text w.0 w.1.of_kind (All-head (IsFaultless extent) t ts g))
     (all_tokens_pass extent ts (All-tail IsOfSource t ts h) (All-tail (IsFaultless extent) t ts g))
 

@@ -35,7 +35,7 @@ module _ (n : Tests) (b : Bool) where
       let even : Bool = eqb (count_optional ds) (count_args ks) in
       let few : Bool = leb (count es) (count_args ps + count_args qs) in
       let h1 = from3 even few (each_arg_fits n b ps) (eq-eqb (count_optional ds) (count_args ks) p.even)
-          (le-leb (count es) (count_args ps + count_args qs) p.few) p.before in
+      (le-leb (count es) (count_args ps + count_args qs) p.few) p.before in
       let t1 : Bool = even && few && each_arg_fits n b ps in
       let h2 = from3 t1 (each_arg_fits n b qs) (perhaps_arg_fits n b StarItem v) h1 p.middle p.star in
       let t2 : Bool = t1 && each_arg_fits n b qs && perhaps_arg_fits n b StarItem v in
@@ -68,22 +68,62 @@ module _ (n : Tests) (b : Bool) where
 
   -- the steps of the arranging
   no_parts : PartsOf n b no_arguments
-  no_parts = record { before = refl; middle = refl; star = refl; only = refl; double = refl; even = refl; only_defaults = refl; few =
-      omega arith; defaults = refl }
+  no_parts = record {
+    before = refl;
+    middle = refl;
+    star = refl;
+    only = refl;
+    double = refl;
+    even = refl;
+    only_defaults = refl;
+    few =
+        omega arith;
+    defaults = refl;
+  }
 
   kwarg_parts : (a : Arg) → arg_fits n b Expression a ≡ true → PartsOf n b (with_kwarg a)
-  kwarg_parts a h = record { before = refl; middle = refl; star = refl; only = refl; double = h; even = refl; only_defaults = refl; few =
-      omega arith; defaults = refl }
+  kwarg_parts a h = record {
+    before = refl;
+    middle = refl;
+    star = refl;
+    only = refl;
+    double = h;
+    even = refl;
+    only_defaults = refl;
+    few =
+        omega arith;
+    defaults = refl;
+  }
 
   keyword_only_parts : (x : Arg) (d : OptionalExpr) (a : Arguments) → arg_fits n b Expression x ≡ true → perhaps_fits n Expression d ≡ true
       → PartsOf n b a → PartsOf n b (add_keyword_only x d a)
-  keyword_only_parts x d (arguments ps qs v ks ds k es) f g p = record { before = p.before; middle = p.middle; star = p.star; only =
-      and_from (arg_fits n b Expression x) (each_arg_fits n b ks) f p.only; double = p.double; even = omega (arith, p.even); only_defaults =
-      and_from (perhaps_fits n Expression d) (each_perhaps_fits n ds) g p.only_defaults; few = p.few; defaults = p.defaults }
+  keyword_only_parts x d (arguments ps qs v ks ds k es) f g p = record {
+    before = p.before;
+    middle = p.middle;
+    star = p.star;
+    only =
+        and_from (arg_fits n b Expression x) (each_arg_fits n b ks) f p.only;
+    double = p.double;
+    even = omega (arith, p.even);
+    only_defaults =
+        and_from (perhaps_fits n Expression d) (each_perhaps_fits n ds) g p.only_defaults;
+    few = p.few;
+    defaults = p.defaults;
+  }
 
   vararg_parts : (x : Arg) (a : Arguments) → arg_fits n b StarItem x ≡ true → PartsOf n b a → PartsOf n b (set_vararg x a)
-  vararg_parts x (arguments ps qs v ks ds k es) f p = record { before = p.before; middle = p.middle; star = f; only = p.only; double =
-      p.double; even = p.even; only_defaults = p.only_defaults; few = p.few; defaults = p.defaults }
+  vararg_parts x (arguments ps qs v ks ds k es) f p = record {
+    before = p.before;
+    middle = p.middle;
+    star = f;
+    only = p.only;
+    double =
+        p.double;
+    even = p.even;
+    only_defaults = p.only_defaults;
+    few = p.few;
+    defaults = p.defaults;
+  }
 
   more_defaults : (d : OptionalExpr) (es : Exprs) → count (with_default d es) ≤ count es + 1
   more_defaults absent es = omega arith
@@ -97,16 +137,36 @@ module _ (n : Tests) (b : Bool) where
   plain_parts : (x : Arg) (d : OptionalExpr) (a : Arguments) → arg_fits n b Expression x ≡ true → perhaps_fits n Expression d ≡ true
       → PartsOf n b a → PartsOf n b (add_plain x d a)
   plain_parts x d (arguments ps qs v ks ds k es) f g p =
-      record { before = p.before; middle = and_from (arg_fits n b Expression x) (each_arg_fits n b qs) f p.middle; star = p.star; only =
-      p.only; double = p.double; even = p.even; only_defaults = p.only_defaults; few = omega (arith, p.few, more_defaults d es); defaults =
-      defaults_fit d es g p.defaults }
+      record {
+        before = p.before;
+        middle = and_from (arg_fits n b Expression x) (each_arg_fits n b qs) f p.middle;
+        star = p.star;
+        only =
+            p.only;
+        double = p.double;
+        even = p.even;
+        only_defaults = p.only_defaults;
+        few = omega (arith, p.few, more_defaults d es);
+        defaults =
+            defaults_fit d es g p.defaults;
+      }
 
   slash_parts : (x : Arg) (d : OptionalExpr) (a : Arguments) → arg_fits n b Expression x ≡ true → perhaps_fits n Expression d ≡ true
       → PartsOf n b a → PartsOf n b (add_before_slash x d a)
   slash_parts x d (arguments ps qs v ks ds k es) f g p =
-      record { before = and_from (arg_fits n b Expression x) (each_arg_fits n b ps) f p.before; middle = p.middle; star = p.star; only =
-      p.only; double = p.double; even = p.even; only_defaults = p.only_defaults; few = omega (arith, p.few, more_defaults d es); defaults =
-      defaults_fit d es g p.defaults }
+      record {
+        before = and_from (arg_fits n b Expression x) (each_arg_fits n b ps) f p.before;
+        middle = p.middle;
+        star = p.star;
+        only =
+            p.only;
+        double = p.double;
+        even = p.even;
+        only_defaults = p.only_defaults;
+        few = omega (arith, p.few, more_defaults d es);
+        defaults =
+            defaults_fit d es g p.defaults;
+      }
 
   after_star_parts : (es : List Entry) (a : Arguments) → all_fit n (Parameter b) es ≡ true → after_star es ≡ Some a → PartsOf n b a
   after_star_parts [] a f h = given (PartsOf n b) h no_parts

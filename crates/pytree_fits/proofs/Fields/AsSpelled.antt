@@ -37,7 +37,7 @@ pub data AreGivenAsSpelled (profile : Profile) (n : Tests) : List Line → List 
   none_spelled : {earlier : List Line} → AreGivenAsSpelled profile n earlier []
   one_spelled : {earlier : List Line} {x : Line} {xs : List Line} →
       GivenAsSpelled (outside n) (FormAt profile (stands_in_match x.level earlier)) x.form → AreGivenAsSpelled profile n (x ∷ earlier) xs
-          → AreGivenAsSpelled profile n earlier (x ∷ xs)
+      → AreGivenAsSpelled profile n earlier (x ∷ xs)
 
 -- a list by its parts
 spelled_append : (n : Tests) (o : Open) (ts us : List Terminal) → all_as_spelled n o ts ≡ true
@@ -71,7 +71,7 @@ module _ (n : Standing) where
   pub pass_past : (o : Open) (ts us : List Terminal) → Passed n ts → Ends n o us → Ends n o (ts ++ us)
   pass_past o ts us p q =
       ends o (ts ++ us) (spelled_append n.tests n.opened ts us (spelled ts p)
-          (ap (λ o. all_as_spelled n.tests o us) (closed ts p) ∙ spelled us q))
+      (ap (λ o. all_as_spelled n.tests o us) (closed ts p) ∙ spelled us q))
       (behind_append n.opened ts us ∙ ap (λ o. open_behind_all o us) (closed ts p) ∙ closed us q)
 
   pub pass_on : (ts us : List Terminal) → Passed n ts → Passed n us → Passed n (ts ++ us)
@@ -84,7 +84,7 @@ module _ (n : Standing) where
   pass_behind t m o ts h q p =
       ends o (t ∷ ts)
       (and_from (passes_as_spelled n.tests n.opened t) (all_as_spelled n.tests (open_behind n.opened t) ts) h
-          (ap (λ x. all_as_spelled n.tests x ts) q ∙ ap (λ x. x.0) p))
+      (ap (λ x. all_as_spelled n.tests x ts) q ∙ ap (λ x. x.0) p))
       (ap (λ x. open_behind_all x ts) q ∙ ap (λ x. x.1) p)
 
   -- behind one that neither opens nor closes an f-string

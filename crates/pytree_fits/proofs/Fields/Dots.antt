@@ -94,4 +94,4 @@ module _ (n : Tests) where
   dotted_fits f (F.dot_name {x = x} {y = y} {ts = ts} d) s =
       let w = and_parts (n.name x.form) (pass_at (outside n) ts) s in
       subst (λ z. list_all n.name z ≡ true) (sym (part_before_dot x.form y (f x.form w.0)))
-          (and_from (n.name x.form) (dotted n.name y) w.0 (dotted_fits f d w.1))
+      (and_from (n.name x.form) (dotted n.name y) w.0 (dotted_fits f d w.1))

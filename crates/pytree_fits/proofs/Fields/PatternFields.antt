@@ -110,7 +110,7 @@ module _ (n : Tests) where
   keys_fit (Keyed k p ∷ es) h =
       let w = and_parts (key_fits n k && pattern_fits_at n AsPattern p) (all_fit n KeyPattern es) h in
       and_from (key_fits n k) (list_all (key_fits n) (pattern_keys es)) (and_parts (key_fits n k) (pattern_fits_at n AsPattern p)
-          w.0).0 (keys_fit es w.1)
+      w.0).0 (keys_fit es w.1)
   keys_fit (Rest x ∷ es) h = keys_fit es (and_parts (target_fits n x) (all_fit n KeyPattern es) h).1
   keys_fit (_ ∷ es) h = absurd (cc)
 
@@ -119,7 +119,7 @@ module _ (n : Tests) where
   key_patterns_fit (Keyed k p ∷ es) h =
       let w = and_parts (key_fits n k && pattern_fits_at n AsPattern p) (all_fit n KeyPattern es) h in
       and_from (pattern_fits_at n AsPattern p) (each_pattern_fits n AsPattern (key_patterns es))
-          (and_parts (key_fits n k) (pattern_fits_at n AsPattern p) w.0).1 (key_patterns_fit es w.1)
+      (and_parts (key_fits n k) (pattern_fits_at n AsPattern p) w.0).1 (key_patterns_fit es w.1)
   key_patterns_fit (Rest x ∷ es) h = key_patterns_fit es (and_parts (target_fits n x) (all_fit n KeyPattern es) h).1
   key_patterns_fit (_ ∷ es) h = absurd (cc)
 
@@ -139,13 +139,13 @@ module _ (n : Tests) where
       → pattern_fits_at n l (Trees.MatchMapping (pattern_keys es) (key_patterns es) o) ≡ true
   mapping_fits l es None h q =
       from3 (eqb (length (pattern_keys es)) (count_patterns (key_patterns es))) (list_all (key_fits n) (pattern_keys es))
-          (each_pattern_fits n AsPattern (key_patterns es))
+      (each_pattern_fits n AsPattern (key_patterns es))
       (eq-eqb (length (pattern_keys es)) (count_patterns (key_patterns es)) (as_many_keys es)) (keys_fit es h) (key_patterns_fit es h)
   mapping_fits l es (Some x) h q =
       from4 (eqb (length (pattern_keys es)) (count_patterns (key_patterns es))) (list_all (key_fits n) (pattern_keys es))
-          (each_pattern_fits n AsPattern (key_patterns es)) (target_fits n x)
+      (each_pattern_fits n AsPattern (key_patterns es)) (target_fits n x)
       (eq-eqb (length (pattern_keys es)) (count_patterns (key_patterns es)) (as_many_keys es)) (keys_fit es h)
-          (key_patterns_fit es h) (rest_target es x h q)
+      (key_patterns_fit es h) (rest_target es x h q)
 
   pub mapped_fits : (l : PatternLevel) (es : List PatternEntry) (p : Pattern) → all_fit n KeyPattern es ≡ true → mapped es ≡ Some p
       → pattern_fits_at n l p ≡ true
@@ -172,7 +172,7 @@ module _ (n : Tests) where
   attributes_fit (Named x p ∷ es) h =
       let w = and_parts (n.name x && pattern_fits_at n AsPattern p) (all_fit n ClassArgument es) h in
       and_from (n.name x) (list_all n.name (named_attributes es)) (and_parts (n.name x) (pattern_fits_at n AsPattern p)
-          w.0).0 (attributes_fit es w.1)
+      w.0).0 (attributes_fit es w.1)
   attributes_fit (_ ∷ es) h = absurd (cc)
 
   named_fit : (es : List PatternEntry) → all_fit n ClassArgument es ≡ true → each_pattern_fits n AsPattern (named_patterns es) ≡ true
@@ -181,7 +181,7 @@ module _ (n : Tests) where
   named_fit (Named x p ∷ es) h =
       let w = and_parts (n.name x && pattern_fits_at n AsPattern p) (all_fit n ClassArgument es) h in
       and_from (pattern_fits_at n AsPattern p) (each_pattern_fits n AsPattern (named_patterns es))
-          (and_parts (n.name x) (pattern_fits_at n AsPattern p) w.0).1 (named_fit es w.1)
+      (and_parts (n.name x) (pattern_fits_at n AsPattern p) w.0).1 (named_fit es w.1)
   named_fit (_ ∷ es) h = absurd (cc)
 
   as_many_named : (es : List PatternEntry) → length (named_attributes es) ≡ count_patterns (named_patterns es)
@@ -217,12 +217,12 @@ module _ (n : Tests) where
           → pattern_fits_at n l p ≡ true
       by true o q =
           let t : Bool = class_fits n e && each_pattern_fits n AsPattern (elements es) && eqb (length (named_attributes es))
-              (count_patterns (named_patterns es)) in
+          (count_patterns (named_patterns es)) in
           given (λ z. pattern_fits_at n l z ≡ true) q
           (from4 t (list_all n.name (named_attributes es)) (each_pattern_fits n AsPattern (named_patterns es))
-              (eqb (count_patterns (elements es)) 0 || not (begins_with_wildcard (named_attributes es)))
+          (eqb (count_patterns (elements es)) 0 || not (begins_with_wildcard (named_attributes es)))
           (from3 (class_fits n e) (each_pattern_fits n AsPattern (elements es))
-              (eqb (length (named_attributes es)) (count_patterns (named_patterns es))) c (alone_fit es h)
+          (eqb (length (named_attributes es)) (count_patterns (named_patterns es))) c (alone_fit es h)
           (eq-eqb (length (named_attributes es)) (count_patterns (named_patterns es)) (as_many_named es))) (attributes_fit es h)
-              (named_fit es h) (first_named es o))
+          (named_fit es h) (first_named es o))
       by false o q = absurd (cc)

@@ -52,7 +52,7 @@ data Valued (n : Tests) (u : Bool) (d : ℕ) : Bool → List StringPart → Type
       → Valued n u d false (Text (c ∷ cs) ∷ ps)
   a_field : {b : Bool} {v : Expr} {c : Conversion} {s : OptionalExpr} {ps : List StringPart} →
       leb d 1 ≡ true → fits_at (in_field n) Expression v ≡ true → spec_fits n (suc d) s ≡ true → spec_has_kind u s ≡ true
-          → Valued n u d false ps →
+      → Valued n u d false ps →
       Valued n u d b (Field (Trees.FormattedValue v c s) ∷ ps)
 
 own_kind : (u : Bool) → is_kind (u && not false) u ≡ true
@@ -137,11 +137,13 @@ module _ (n : Tests) (u : Bool) (d : ℕ) where
 
   pub spec_of_parts : {ps : List StringPart} → PartsFit n u d ps →
       (spec_fits n d (Trees.present (Trees.JoinedStr (spec_values_of u (merged ps)))) ≡ true) ×
-          (spec_has_kind u (Trees.present (Trees.JoinedStr (spec_values_of u (merged ps)))) ≡ true)
+      (spec_has_kind u (Trees.present (Trees.JoinedStr (spec_values_of u (merged ps)))) ≡ true)
   spec_of_parts {ps} r =
-      let w = merged_values r in
-      (and_from (are_apart false (spec_values_of u (merged ps))) (each_value_fits n d (spec_values_of u (merged ps))) (spec_apart w)
-          (spec_each w), spec_kinds w)
+      let w = merged_values r in (
+        and_from (are_apart false (spec_values_of u (merged ps))) (each_value_fits n d (spec_values_of u (merged ps))) (spec_apart w)
+            (spec_each w),
+        spec_kinds w,
+      )
 
 one_kind : (u : Bool) (es : Exprs) → have_kind u false es ≡ true → (have_kind false false es || have_kind true false es) ≡ true
 one_kind true es h = or_right (have_kind false false es) (have_kind true false es) h
@@ -155,5 +157,5 @@ joined_of_parts n u {ps} h r =
     let k = and_parts (is_whole n.extent) (leb n.fields 1) h in
     from3 (may_be_joined n es) (are_apart false es) (each_value_fits n 0 es)
     (from3 (is_whole n.extent) (leb n.fields 1) (have_kind false false es || have_kind true false es) k.0 k.1
-        (one_kind u es (kinds n u 0 w)))
+    (one_kind u es (kinds n u 0 w)))
     (apart n u 0 w) (each n u 0 w)

@@ -28,7 +28,7 @@ module _ (n : Tests) where
         let w = star_stored e c s h in
         let u = and_parts (is_context Load c) (fits_at n Expression e) f in
         subst (λ z. fits_target n Store z ≡ true) w.2 (and_from (not (is_starred w.0)) (fits_target n Store w.0) (single_star e w.0 w.1 u.1)
-            (stored_fits e w.0 w.1 (anywhere n Expression Elem e refl u.1)))
+        (stored_fits e w.0 w.1 (anywhere n Expression Elem e refl u.1)))
     stored_fits _ s h f = absurd (cc)
 
     all_stored_fit : (es fs : Exprs) → all_stored es ≡ Some fs → each_fits n Elem es ≡ true → each_target_fits n Store fs ≡ true
@@ -37,7 +37,7 @@ module _ (n : Tests) where
         let w = both_is (stored e) (all_stored es) fs h in
         let u = and_parts (fits_at n Elem e) (each_fits n Elem es) f in
         subst (λ z. each_target_fits n Store z ≡ true) w.4 (and_from (fits_target n Store w.0) (each_target_fits n Store w.1)
-            (stored_fits e w.0 w.2 u.0) (all_stored_fit es w.1 w.3 u.1))
+        (stored_fits e w.0 w.2 u.0) (all_stored_fit es w.1 w.3 u.1))
 
     single_star : (e f : Expr) → stored e ≡ Some f → fits_at n Expression e ≡ true → not (is_starred f) ≡ true
     single_star (Trees.Name x c) f h g = given (λ z. not (is_starred z) ≡ true) h refl
@@ -78,4 +78,4 @@ module _ (n : Tests) where
         let w = both_is (deleted e) (all_deleted es) fs h in
         let u = and_parts (fits_at n Elem e) (each_fits n Elem es) f in
         subst (λ z. each_target_fits n Del z ≡ true) w.4 (and_from (fits_target n Del w.0) (each_target_fits n Del w.1)
-            (deleted_fits e w.0 w.2 u.0) (all_deleted_fit es w.1 w.3 u.1))
+        (deleted_fits e w.0 w.2 u.0) (all_deleted_fit es w.1 w.3 u.1))

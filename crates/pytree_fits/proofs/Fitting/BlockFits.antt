@@ -99,61 +99,61 @@ module _ (p : Profile) (n : Tests) where
       → statements_fit p n (stmts orelse) ≡ true → statements_fit p n (stmts (loop head body orelse ∷ [])) ≡ true
   loop_fits (while_head test) body orelse h f g =
       one_fits (loop (while_head test) body orelse) (from3 (fits_at n Expression test) (suite_fits p n (stmts body))
-          (statements_fit p n (stmts orelse)) h f.suite g)
+      (statements_fit p n (stmts orelse)) h f.suite g)
   loop_fits (for_head false target iter) body orelse h f g =
       let w = and_parts (fits_target n Store target) (fits_at n Stars iter) h in
       one_fits (loop (for_head false target iter) body orelse)
       (from4 (fits_target n Store target) (fits_at n Stars iter) (suite_fits p n (stmts body))
-          (statements_fit p n (stmts orelse)) w.0 w.1 f.suite g)
+      (statements_fit p n (stmts orelse)) w.0 w.1 f.suite g)
   loop_fits (for_head true target iter) body orelse h f g =
       let w = and_parts (fits_target n Store target) (fits_at n Stars iter) h in
       one_fits (loop (for_head true target iter) body orelse)
       (from4 (fits_target n Store target) (fits_at n Stars iter) (suite_fits p n (stmts body))
-          (statements_fit p n (stmts orelse)) w.0 w.1 f.suite g)
+      (statements_fit p n (stmts orelse)) w.0 w.1 f.suite g)
 
   with_fits : (is_async : Bool) (items : List Item) (body : List Stmt) → header_fits p n (with_header is_async items) ≡ true → Filled body
       → statements_fit p n (stmts (with_of is_async items body ∷ [])) ≡ true
   with_fits false items body h f =
       let w = and_parts (has_one items) (list_all (item_fits n) items) h in
       one_fits (with_of false items body) (from3 (has_one items) (list_all (item_fits n) items)
-          (suite_fits p n (stmts body)) w.0 w.1 f.suite)
+      (suite_fits p n (stmts body)) w.0 w.1 f.suite)
   with_fits true items body h f =
       let w = and_parts (has_one items) (list_all (item_fits n) items) h in
       one_fits (with_of true items body) (from3 (has_one items) (list_all (item_fits n) items)
-          (suite_fits p n (stmts body)) w.0 w.1 f.suite)
+      (suite_fits p n (stmts body)) w.0 w.1 f.suite)
 
   try_fits : (star : Bool) (body : List Stmt) (hs : List Handler) (orelse final : List Stmt)
       → clauses_fit star (handlers hs) (stmts orelse) (stmts final) ≡ true →
       Filled body → handlers_fit p n star (handlers hs) ≡ true → statements_fit p n (stmts orelse) ≡ true
-          → statements_fit p n (stmts final) ≡ true → statements_fit p n (stmts (try_of star body hs orelse final ∷ [])) ≡ true
+      → statements_fit p n (stmts final) ≡ true → statements_fit p n (stmts (try_of star body hs orelse final ∷ [])) ≡ true
   try_fits false body hs orelse final c f h g k =
       one_fits (try_of false body hs orelse final)
       (from5 (clauses_fit false (handlers hs) (stmts orelse) (stmts final)) (suite_fits p n (stmts body))
-          (handlers_fit p n false (handlers hs)) (statements_fit p n (stmts orelse)) (statements_fit p n (stmts final)) c f.suite h g k)
+      (handlers_fit p n false (handlers hs)) (statements_fit p n (stmts orelse)) (statements_fit p n (stmts final)) c f.suite h g k)
   try_fits true body hs orelse final c f h g k =
       one_fits (try_of true body hs orelse final)
       (from5 (clauses_fit true (handlers hs) (stmts orelse) (stmts final)) (suite_fits p n (stmts body))
-          (handlers_fit p n true (handlers hs)) (statements_fit p n (stmts orelse)) (statements_fit p n (stmts final)) c f.suite h g k)
+      (handlers_fit p n true (handlers hs)) (statements_fit p n (stmts orelse)) (statements_fit p n (stmts final)) c f.suite h g k)
 
   definition_fits : (es : List Expr) (head : DefHead) (body : List Stmt) → each_fits n Expression (exprs es) ≡ true
       → header_fits p n (def_header head) ≡ true → Filled body → statements_fit p n (stmts (definition es head body ∷ [])) ≡ true
   definition_fits es (function_head false name parameters args returns) body d h f =
       let w = parts4 (n.name name) (fits_arguments n true args) (perhaps_fits n Expression (optional returns))
-          (types_fit p n parameters) h in
+      (types_fit p n parameters) h in
       one_fits (definition es (function_head false name parameters args returns) body)
       (from6 (n.name name) (fits_arguments n true args) (each_fits n Expression (exprs es)) (perhaps_fits n Expression (optional returns))
-          (types_fit p n parameters) (suite_fits p n (stmts body)) w.0 w.1 d w.2 w.3 f.suite)
+      (types_fit p n parameters) (suite_fits p n (stmts body)) w.0 w.1 d w.2 w.3 f.suite)
   definition_fits es (function_head true name parameters args returns) body d h f =
       let w = parts4 (n.name name) (fits_arguments n true args) (perhaps_fits n Expression (optional returns))
-          (types_fit p n parameters) h in
+      (types_fit p n parameters) h in
       one_fits (definition es (function_head true name parameters args returns) body)
       (from6 (n.name name) (fits_arguments n true args) (each_fits n Expression (exprs es)) (perhaps_fits n Expression (optional returns))
-          (types_fit p n parameters) (suite_fits p n (stmts body)) w.0 w.1 d w.2 w.3 f.suite)
+      (types_fit p n parameters) (suite_fits p n (stmts body)) w.0 w.1 d w.2 w.3 f.suite)
   definition_fits es (class_head name parameters bases keywords) body d h f =
       let w = parts4 (n.name name) (each_fits n Elem (exprs bases)) (each_keyword_fits n keywords) (types_fit p n parameters) h in
       one_fits (definition es (class_head name parameters bases keywords) body)
       (from6 (n.name name) (each_fits n Elem (exprs bases)) (each_keyword_fits n keywords) (each_fits n Expression (exprs es))
-          (types_fit p n parameters) (suite_fits p n (stmts body)) w.0 w.1 w.2 d w.3 f.suite)
+      (types_fit p n parameters) (suite_fits p n (stmts body)) w.0 w.1 w.2 d w.3 f.suite)
 
   decorators_fit : {l : ℕ} {xs : List Line} {es : List Expr} → Decorators l xs es → lines_fit xs ≡ true
       → each_fits n Expression (exprs es) ≡ true
@@ -197,7 +197,7 @@ module _ (p : Profile) (n : Tests) where
         let f = filled b w.inner (lines_left xs ys w.rest) in
         and_from (fits_at n Expression test && suite_fits p n (stmts body) && statements_fit p n (stmts orelse)) true
         (from3 (fits_at n Expression test) (suite_fits p n (stmts body)) (statements_fit p n (stmts orelse)) w.head f.suite
-            (alternative a (lines_right xs ys w.rest))) refl
+        (alternative a (lines_right xs ys w.rest))) refl
     statement {l} (loop_statement {head = head} {suite = suite} {xs = xs} {ys = ys} {body = body} {orelse = orelse} b a) h =
         let w = first l (loop_header head) suite (xs ++ ys) h in
         loop_fits head body orelse w.head (filled b w.inner (lines_left xs ys w.rest)) (otherwise a (lines_right xs ys w.rest))
@@ -209,25 +209,25 @@ module _ (p : Profile) (n : Tests) where
         let u = first l finally_header last ys (lines_right xs (line l (header_form finally_header last) ∷ ys) w.rest) in
         let g = filled c u.inner u.rest in
         try_fits false body [] [] final (some_of final g.suite)
-            (filled b w.inner (lines_left xs (line l (header_form finally_header last) ∷ ys) w.rest)) refl refl g.each
+        (filled b w.inner (lines_left xs (line l (header_form finally_header last) ∷ ys) w.rest)) refl refl g.each
     statement {l} (try_except {star = star} {suite = suite} {xs = xs} {ys = ys} {zs = zs} {ws = ws} {body = body} {orelse = orelse} {final =
         final} {h = k} {hs = ks} b e c d) h =
         let w = first l try_header suite (xs ++ (ys ++ (zs ++ ws))) h in
         let u = lines_right xs (ys ++ (zs ++ ws)) w.rest in
         let v = lines_right ys (zs ++ ws) u in
         try_fits star body (k ∷ ks) orelse final refl (filled b w.inner (lines_left xs (ys ++ (zs ++ ws)) w.rest))
-            (excepts e (lines_left ys (zs ++ ws) u))
+        (excepts e (lines_left ys (zs ++ ws) u))
         (otherwise c (lines_left zs ws v)) (ending d (lines_right zs ws v))
     statement {l} (definition_of head {suite = suite} {ds = ds} {xs = xs} {es = es} {body = body} d b) h =
         let u = first l (def_header head) suite xs (lines_right ds (line l (header_form (def_header head) suite) ∷ xs) h) in
         definition_fits es head body (decorators_fit d (lines_left ds (line l (header_form (def_header head) suite) ∷ xs) h)) u.head
-            (filled b u.inner u.rest)
+        (filled b u.inner u.rest)
     statement {l} (match_statement {subject = subject} {x = x} {xs = xs} {cs = cs} c) h =
         let w = first l (match_header subject) None (x ∷ xs) h in
         let u = and_parts (is_whole p.extent) (fits_at n Expression subject) w.head in
         one_fits (Match subject (cases cs))
         (from4 (is_whole p.extent) (has_case (cases cs)) (fits_at n Expression subject) (cases_fit p n (cases cs)) u.0 (some_case c refl)
-            u.1 (each_case c w.rest))
+        u.1 (each_case c w.rest))
 
     filled : {l : ℕ} {suite : Option (List Stmt)} {xs : List Line} {body : List Stmt} → Body l suite xs body → SuiteFits suite
         → lines_fit xs ≡ true → Filled body
@@ -242,7 +242,7 @@ module _ (p : Profile) (n : Tests) where
         let f = filled b w.inner (lines_left xs ys w.rest) in
         and_from (fits_at n Expression test && suite_fits p n (stmts body) && statements_fit p n (stmts orelse)) true
         (from3 (fits_at n Expression test) (suite_fits p n (stmts body)) (statements_fit p n (stmts orelse)) w.head f.suite
-            (alternative a (lines_right xs ys w.rest))) refl
+        (alternative a (lines_right xs ys w.rest))) refl
 
     otherwise : {l : ℕ} {xs : List Line} {ss : List Stmt} → Otherwise l xs ss → lines_fit xs ≡ true → statements_fit p n (stmts ss) ≡ true
     otherwise no_else h = refl
@@ -255,7 +255,7 @@ module _ (p : Profile) (n : Tests) where
         let w = first l (except_header star matched name) suite (xs ++ ys) h in
         let f = filled b w.inner (lines_left xs ys w.rest) in
         from3 (caught_fits n star matched name) (suite_fits p n (stmts body)) (handlers_fit p n star (handlers hs)) w.head f.suite
-            (excepts e (lines_right xs ys w.rest))
+        (excepts e (lines_right xs ys w.rest))
 
     each_case : {l : ℕ} {xs : List Line} {cs : List Case} → Cases l xs cs → lines_fit xs ≡ true → cases_fit p n (cases cs) ≡ true
     each_case no_case h = refl
@@ -264,7 +264,7 @@ module _ (p : Profile) (n : Tests) where
         let u = parts3 (is_whole p.extent) (pattern_fits_at n AsPattern pattern) (perhaps_fits n Expression (optional guard)) w.head in
         let f = filled b w.inner (lines_left xs ys w.rest) in
         from4 (pattern_fits_at n AsPattern pattern) (perhaps_fits n Expression (optional guard)) (suite_fits p n (stmts body))
-            (cases_fit p n (cases cs)) u.1 u.2 f.suite (each_case c (lines_right xs ys w.rest))
+        (cases_fit p n (cases cs)) u.1 u.2 f.suite (each_case c (lines_right xs ys w.rest))
 
     ending : {l : ℕ} {xs : List Line} {ss : List Stmt} → Ending l xs ss → lines_fit xs ≡ true → statements_fit p n (stmts ss) ≡ true
     ending no_finally h = refl

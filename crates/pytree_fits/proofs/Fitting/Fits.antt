@@ -103,22 +103,22 @@ mutual
   slots n (G.if_else {ts = ts} {us = us} {vs = vs} {a = a} {b = b} {c = c} p q r) s =
       let u = right n ts (expression_closes p) (Word Key.If ∷ (us ++ (Word Key.Else ∷ vs))) s in
       from3 (fits_at (here n) Expression a) (fits_at (here n) Expression b) (fits_at (here n) Expression c)
-          (plain (here n) Or a refl (slots n q (left n us (Word Key.Else ∷ vs) u)))
-          (plain (here n) Or b refl (slots n p (left n ts (Word Key.If ∷ (us ++ (Word Key.Else ∷ vs))) s)))
-          (slots n r (right n us (expression_closes q) (Word Key.Else ∷ vs) u))
+      (plain (here n) Or a refl (slots n q (left n us (Word Key.Else ∷ vs) u)))
+      (plain (here n) Or b refl (slots n p (left n ts (Word Key.If ∷ (us ++ (Word Key.Else ∷ vs))) s)))
+      (slots n r (right n us (expression_closes q) (Word Key.Else ∷ vs) u))
   slots n (G.chain {o = o} {ts = ts} {us = us} {e = e} {es = es} p c) s =
       let w = chain n c (right n ts (expression_closes p) (Word (chain_word o) ∷ us) s) in
       and_from (leb 2 (count (exprs es) + 1)) (fits_at (here n) Expression e && each_fits (here n) Expression (exprs es))
-          (le-leb 2 (count (exprs es) + 1) (omega (arith, w.some)))
-          (and_from (fits_at (here n) Expression e) (each_fits (here n) Expression (exprs es))
-          (plain (here n) (below (chain_level o)) e (chain_inner o) (slots n p (left n ts (Word (chain_word o) ∷ us) s))) w.each)
+      (le-leb 2 (count (exprs es) + 1) (omega (arith, w.some)))
+      (and_from (fits_at (here n) Expression e) (each_fits (here n) Expression (exprs es))
+      (plain (here n) (below (chain_level o)) e (chain_inner o) (slots n p (left n ts (Word (chain_word o) ∷ us) s))) w.each)
   slots n (G.unary {l = l} {t = t} {o = o} {ts = ts} {e = e} h p) s =
       plain (here n) l e (prefix_inner l t o h) (slots n p (behind n t (quiet_prefix l t o h n.opened) ts s))
   slots n (G.compare {ts = ts} {us = us} {e = e} {os = os} {es = es} p c) s =
       let w = compares n c (right n ts (expression_closes p) us s) in
       from4 (leb 1 (length os)) (eqb (length os) (count (exprs es))) (fits_at (here n) Expression e)
-          (each_fits (here n) Expression (exprs es)) (le-leb 1 (length os) w.some) (eq-eqb (length os) (count (exprs es)) w.even)
-          (plain (here n) BitOr e refl (slots n p (left n ts us s))) w.each
+      (each_fits (here n) Expression (exprs es)) (le-leb 1 (length os) w.some) (eq-eqb (length os) (count (exprs es)) w.even)
+      (plain (here n) BitOr e refl (slots n p (left n ts us s))) w.each
   slots n (G.binary {l = l} {ts = ts} {us = us} {a = a} {b = b} {o = o} t h p q) s =
       binary_fits (here n) l t o a b h (slots n p (left n ts (t ∷ us) s))
       (slots n q (behind n t (quiet_left l t o h n.opened) us (right n ts (expression_closes p) (t ∷ us) s)))
@@ -136,10 +136,10 @@ mutual
       let u = right n ts (expression_closes p) (Op LPar ∷ (us ++ (vs ++ (Op RPar ∷ [])))) s in
       let w = comps n c (left n vs (Op RPar ∷ []) (right n us (expression_closes q) (vs ++ (Op RPar ∷ [])) u)) in
       let g = from3 (has_some (comprehensions gs)) (fits_at (here n) Expression e) (each_clause_fits (here n) (comprehensions gs)) w.some
-          (plain (here n) Named e refl (slots n q (left n us (vs ++ (Op RPar ∷ [])) u))) w.each in
+      (plain (here n) Named e refl (slots n q (left n us (vs ++ (Op RPar ∷ [])) u))) w.each in
       from3 (fits_at (here n) Expression f) (fits_at (here n) Elem (Trees.GeneratorExp e (comprehensions gs)) && true) true
-          (plain (here n) Primary f refl (slots n p (left n ts (Op LPar ∷ (us ++ (vs ++ (Op RPar ∷ [])))) s)))
-          (and_from (fits_at (here n) Elem (Trees.GeneratorExp e (comprehensions gs))) true g refl) refl
+      (plain (here n) Primary f refl (slots n p (left n ts (Op LPar ∷ (us ++ (vs ++ (Op RPar ∷ [])))) s)))
+      (and_from (fits_at (here n) Elem (Trees.GeneratorExp e (comprehensions gs))) true g refl) refl
   slots n (G.subscript {ts = ts} {us = us} {e = e} {s = i} p q) s = and_from (fits_at (here n) Expression e) (fits_at (here n) Slices i)
       (plain (here n) Primary e refl (slots n p (left n ts (Op LSqb ∷ (us ++ (Op RSqb ∷ []))) s)))
       (slots n q (left n us (Op RSqb ∷ []) (right n ts (expression_closes p) (Op LSqb ∷ (us ++ (Op RSqb ∷ []))) s)))
@@ -173,8 +173,8 @@ mutual
       let u = right n ts (expression_closes p) (Op Colon ∷ (us ++ (vs ++ (Op RBrace ∷ [])))) s in
       let w = comps n c (left n vs (Op RBrace ∷ []) (right n us (expression_closes q) (vs ++ (Op RBrace ∷ [])) u)) in
       from4 (has_some (comprehensions gs)) (fits_at (here n) Expression k) (fits_at (here n) Expression e)
-          (each_clause_fits (here n) (comprehensions gs)) w.some (slots n p (left n ts (Op Colon ∷ (us ++ (vs ++ (Op RBrace ∷ [])))) s))
-          (slots n q (left n us (vs ++ (Op RBrace ∷ [])) u)) w.each
+      (each_clause_fits (here n) (comprehensions gs)) w.some (slots n p (left n ts (Op Colon ∷ (us ++ (vs ++ (Op RBrace ∷ [])))) s))
+      (slots n q (left n us (vs ++ (Op RBrace ∷ [])) u)) w.each
   slots n (G.set {ts = ts} {e = e} {es = es} c) s = let w = listing n c (left n ts (Op RBrace ∷ []) s) in
       and_from (leb 1 (count (singles (e ∷ es)))) (each_fits (here n) Elem (singles (e ∷ es))) (set_some (here n) e es w)
       (singles_fit (here n) Elem Elem (λ e h. h) (e ∷ es) w)
@@ -197,8 +197,8 @@ mutual
   slots n (G.slice_step {ts = ts} {us = us} {vs = vs} {a = a} {b = b} {c = c} p q r) s =
       let u = right n ts (perhaps_closes p) (Op Colon ∷ (us ++ (Op Colon ∷ vs))) s in
       from3 (perhaps_fits (here n) Expression a) (perhaps_fits (here n) Expression b) (perhaps_fits (here n) Expression c)
-          (perhaps n p (left n ts (Op Colon ∷ (us ++ (Op Colon ∷ vs))) s)) (perhaps n q (left n us (Op Colon ∷ vs) u))
-          (perhaps n r (right n us (perhaps_closes q) (Op Colon ∷ vs) u))
+      (perhaps n p (left n ts (Op Colon ∷ (us ++ (Op Colon ∷ vs))) s)) (perhaps n q (left n us (Op Colon ∷ vs) u))
+      (perhaps n r (right n us (perhaps_closes q) (Op Colon ∷ vs) u))
 
   yields : (n : Standing) {ts : List Terminal} {e : Expr} → G.Yields ts e → pass_at n ts ≡ true → (l : Level) → fits_at (here n) l e ≡ true
   yields n (G.yield_from p) s l = slots n p s
@@ -217,24 +217,38 @@ mutual
   chain : (n : Standing) {o : BoolOperator} {ts : List Terminal} {es : List Expr} → G.Chain o ts es
       → pass_at n ts ≡ true → Links (here n) es
   chain n (G.last_link {o = o} {e = e} p) s =
-      record { each = and_from (fits_at (here n) Expression e) true (plain (here n) (below (chain_level o)) e (chain_inner o) (slots n p s))
-      refl; some = omega arith }
+      record {
+        each = and_from (fits_at (here n) Expression e) true (plain (here n) (below (chain_level o)) e (chain_inner o) (slots n p s))
+            refl;
+        some = omega arith;
+      }
   chain n (G.link {o = o} {ts = ts} {us = us} {e = e} {es = es} p c) s =
       let w = chain n c (right n ts (expression_closes p) (Word (chain_word o) ∷ us) s) in
-      record { each = and_from (fits_at (here n) Expression e) (each_fits (here n) Expression (exprs es))
-          (plain (here n) (below (chain_level o)) e (chain_inner o) (slots n p (left n ts (Word (chain_word o) ∷ us) s)))
-          w.each; some = omega arith }
+      record {
+        each = and_from (fits_at (here n) Expression e) (each_fits (here n) Expression (exprs es))
+            (plain (here n) (below (chain_level o)) e (chain_inner o) (slots n p (left n ts (Word (chain_word o) ∷ us) s)))
+            w.each;
+        some = omega arith;
+      }
 
   compares : (n : Standing) {ts : List Terminal} {os : List Comparison} {es : List Expr} → G.Compares ts os es → pass_at n ts ≡ true
       → Comparisons (here n) os es
   compares n (G.last_compare {ss = ss} {ts = ts} {e = e} k p) s =
-      record { each = and_from (fits_at (here n) Expression e) true
-      (plain (here n) BitOr e refl (slots n p (right n ss (compared_closes k) ts s))) refl; some = omega arith; even = refl }
+      record {
+        each = and_from (fits_at (here n) Expression e) true
+            (plain (here n) BitOr e refl (slots n p (right n ss (compared_closes k) ts s))) refl;
+        some = omega arith;
+        even = refl;
+      }
   compares n (G.compares {ss = ss} {ts = ts} {us = us} {e = e} {os = os} {es = es} k p c) s =
       let u = right n ss (compared_closes k) (ts ++ us) s in
       let w = compares n c (right n ts (expression_closes p) us u) in
-      record { each = and_from (fits_at (here n) Expression e) (each_fits (here n) Expression (exprs es))
-          (plain (here n) BitOr e refl (slots n p (left n ts us u))) w.each; some = omega arith; even = omega (arith, w.even) }
+      record {
+        each = and_from (fits_at (here n) Expression e) (each_fits (here n) Expression (exprs es))
+            (plain (here n) BitOr e refl (slots n p (left n ts us u))) w.each;
+        some = omega arith;
+        even = omega (arith, w.even);
+      }
 
   pub listing : (n : Standing) {i : Item} {ts : List Terminal} {es : List Entry} → G.Listing i ts es → pass_at n ts ≡ true
       → all_fit (here n) i es ≡ true
@@ -256,8 +270,8 @@ mutual
   piece n (G.parameter {b = b} {x = x} {ts = ts} {us = us} {a = a} {d = d} p q) s =
       let w = and_parts (n.tests.name x.form) (pass_at n (ts ++ us)) s in
       and_from (n.tests.name x.form && (is_absent a || b) && perhaps_fits (here n) Expression a) (perhaps_fits (here n) Expression d)
-          (from3 (n.tests.name x.form) (is_absent a || b) (perhaps_fits (here n) Expression a) w.0 (noted b p)
-          (suffix n p (left n ts us w.1))) (suffix n q (right n ts (suffix_closes p) us w.1))
+      (from3 (n.tests.name x.form) (is_absent a || b) (perhaps_fits (here n) Expression a) w.0 (noted b p)
+      (suffix n p (left n ts us w.1))) (suffix n q (right n ts (suffix_closes p) us w.1))
   piece n G.slash s = refl
   piece n G.bare_star s = refl
   piece n (G.star_parameter {b = b} {x = x} {ts = ts} {a = a} p) s = let w = and_parts (n.tests.name x.form) (pass_at n ts) s in
@@ -276,8 +290,11 @@ mutual
   comps : (n : Standing) {ts : List Terminal} {gs : List Comprehension} → G.Comps ts gs → pass_at n ts ≡ true → Clauses (here n) gs
   comps n (G.one_comp {g = g} c) s = record { each = clauses_grown (here n) g [] (comp n c s) refl; some = refl }
   comps n (G.comps {ts = ts} {us = us} {g = g} {gs = gs} c d) s =
-      record { each = clauses_grown (here n) g gs (comp n c (left n ts us s)) (comps n d (right n ts (comp_closes c) us s)).each; some =
-      refl }
+      record {
+        each = clauses_grown (here n) g gs (comp n c (left n ts us s)) (comps n d (right n ts (comp_closes c) us s)).each;
+        some =
+            refl;
+      }
 
   comp : (n : Standing) {ts : List Terminal} {g : Comprehension} → G.Comp ts g → pass_at n ts ≡ true → clause_fits (here n) g ≡ true
   comp n (G.for_in c) s = for_in n c s
@@ -288,8 +305,8 @@ mutual
   for_in n (G.target_in {ts = ts} {us = us} {vs = vs} {t = t} {s = g} {e = e} {cs = cs} p h q c) s =
       let u = right n ts (expression_closes p) (Word Key.In ∷ (us ++ vs)) s in
       from3 (fits_target (here n) Store g) (fits_at (here n) Expression e) (each_fits (here n) Expression (exprs cs))
-          (stored_fits (here n) t g h (stars_elem (here n) t (slots n p (left n ts (Word Key.In ∷ (us ++ vs)) s))))
-          (plain (here n) Or e refl (slots n q (left n us vs u))) (ifs n c (right n us (expression_closes q) vs u))
+      (stored_fits (here n) t g h (stars_elem (here n) t (slots n p (left n ts (Word Key.In ∷ (us ++ vs)) s))))
+      (plain (here n) Or e refl (slots n q (left n us vs u))) (ifs n c (right n us (expression_closes q) vs u))
 
   ifs : (n : Standing) {ts : List Terminal} {es : List Expr} → G.Ifs ts es → pass_at n ts ≡ true
       → each_fits (here n) Expression (exprs es) ≡ true
@@ -308,9 +325,9 @@ mutual
       a_part (text_part (plain_text (here n).fields t w.0)) (literals n p w.1)
   literals n (G.formatted_literal {u = u} {ts = ts} {us = us} p q) s =
       let w = and_parts (is_whole n.tests.extent && leb (here n).fields 1)
-          (all_pass n.tests (0 ∷ n.opened) (ts ++ (FormattedEnd ∷ us))) s in
+      (all_pass n.tests (0 ∷ n.opened) (ts ++ (FormattedEnd ∷ us))) s in
       parts_on (here n) u 0 (formatted n 0 p (left (in_string n 0) ts (FormattedEnd ∷ us) w.1))
-          (literals n q (right (in_string n 0) ts (formatted_closes p) (FormattedEnd ∷ us) w.1))
+      (literals n q (right (in_string n 0) ts (formatted_closes p) (FormattedEnd ∷ us) w.1))
 
   formatted : (n : Standing) (d : ℕ) {u : Bool} {ts : List Terminal} {ps : List StringPart} → G.Formatted u ts ps
       → pass_at (in_string n d) ts ≡ true → PartsFit (here n) u d ps
@@ -324,7 +341,7 @@ mutual
       let x = right m (Op LPar ∷ ts) (expression_closes p) (us ++ (FieldEnd ∷ vs)) w.1 in
       let z = spec n (suc d) q (left m us (FieldEnd ∷ vs) x) in
       a_part (field_part w.0 (anywhere (here m) Atom Expression e refl (slots m p (left m (Op LPar ∷ ts) (us ++ (FieldEnd ∷ vs)) w.1))) z.0
-          z.1)
+      z.1)
       (formatted n d r (subst (λ k. pass_at (in_string n k) vs ≡ true) (one_less d) (right m us (spec_closes q) (FieldEnd ∷ vs) x)))
 
   spec : (n : Standing) (d : ℕ) {u : Bool} {ts : List Terminal} {a : OptionalExpr} → G.Spec u ts a → pass_at (in_string n d) ts ≡ true

@@ -85,7 +85,7 @@ module _ (n : Tests) where
   commas_fit f h g (F.alone {ts = ts} {a = a} p) s = and_from (f a) true (g ts a p s) refl
   commas_fit f h g (F.comma {ts = ts} {us = us} {a = a} {as_ = xs} p c) s =
       and_from (f a) (list_all f xs) (g ts a p (left (outside n) ts (Op Sign.Comma ∷ us) s))
-          (commas_fit f h g c (right (outside n) ts (h ts a p).is (Op Sign.Comma ∷ us) s))
+      (commas_fit f h g c (right (outside n) ts (h ts a p).is (Op Sign.Comma ∷ us) s))
 
   some_commas : {A : Type 0} {X : List Terminal → A → Type 0} {ts : List Terminal} {xs : List A} → F.Commas A X ts xs → has_one xs ≡ true
   some_commas (F.alone p) = refl
@@ -140,7 +140,7 @@ module _ (n : Tests) where
     dotted_alias : {ts : List Terminal} {a : Alias} → F.DottedAlias ts a → pass_at (outside n) ts ≡ true → import_fits n.name a ≡ true
     dotted_alias (F.dotted_as {ts = ts} {us = us} {x = x} {a = a} d q) s =
         and_from (dotted n.name x) (perhaps_name n.name a) (dotted_fits n undotted d (left (outside n) ts us s))
-            (as_fits q (right (outside n) ts (module_closes d).is us s))
+        (as_fits q (right (outside n) ts (module_closes d).is us s))
 
     name_alias : {ts : List Terminal} {a : Alias} → F.NameAlias ts a → pass_at (outside n) ts ≡ true → alias_fits n.name a ≡ true
     name_alias (F.name_as {us = us} {x = x} {a = a} q) s =
@@ -154,7 +154,7 @@ module _ (n : Tests) where
         (commas_fit (alias_fits n.name) name_alias_closes (λ ts a. name_alias) c s))
     names_fit (F.bracketed_names {ts = ts} {as_ = xs} c) s =
         or_right _ _ (and_from (has_one xs) (list_all (alias_fits n.name) xs) (some_ended c)
-            (ended_fit (alias_fits n.name) name_alias_closes (λ ts a. name_alias) c (left (outside n) ts (Op Sign.RPar ∷ []) s)))
+        (ended_fit (alias_fits n.name) name_alias_closes (λ ts a. name_alias) c (left (outside n) ts (Op Sign.RPar ∷ []) s)))
 
     -- ---- Simple statements.
 
@@ -164,8 +164,8 @@ module _ (n : Tests) where
         and_from (fits_target n Store e) true (target_fits n p (left (outside n) ts (Op Sign.Equal ∷ []) s)) refl
     targets_fit (F.more_targets {ts = ts} {us = us} {e = e} {es = es} p c) s =
         and_from (fits_target n Store e) (each_target_fits n Store (exprs es))
-            (target_fits n p (left (outside n) ts (Op Sign.Equal ∷ us) s))
-            (targets_fit c (right (outside n) ts (target_closes p) (Op Sign.Equal ∷ us) s))
+        (target_fits n p (left (outside n) ts (Op Sign.Equal ∷ us) s))
+        (targets_fit c (right (outside n) ts (target_closes p) (Op Sign.Equal ∷ us) s))
 
     some_target : {ts : List Terminal} {es : List Expr} → F.Targets ts es → has_one es ≡ true
     some_target (F.last_target p) = refl
@@ -176,8 +176,8 @@ module _ (n : Tests) where
     deleted (F.alone {a = e} p) s = and_from (fits_target n Del e) true (del_target_fits n p s) refl
     deleted (F.comma {ts = ts} {us = us} {a = e} {as_ = es} p c) s =
         and_from (fits_target n Del e) (each_target_fits n Del (exprs es))
-            (del_target_fits n p (left (outside n) ts (Op Sign.Comma ∷ us) s))
-            (deleted c (right (outside n) ts (del_target_closes p) (Op Sign.Comma ∷ us) s))
+        (del_target_fits n p (left (outside n) ts (Op Sign.Comma ∷ us) s))
+        (deleted c (right (outside n) ts (del_target_closes p) (Op Sign.Comma ∷ us) s))
 
     delete_fits : {ts : List Terminal} {es : List Expr} → F.Commas? Expr G.DelTarget ts es → pass_at (outside n) ts ≡ true
         → (has_one es && each_target_fits n Del (exprs es)) ≡ true
@@ -196,33 +196,33 @@ module _ (n : Tests) where
     simple (F.value p) s = slots (outside n) p s
     simple (F.assign {ts = ts} {us = us} {targets = targets} {e = e} c p) s =
         from3 (has_one targets) (each_target_fits n Store (exprs targets)) (fits_at n Value e) (some_target c)
-            (targets_fit c (left (outside n) ts us s)) (slots (outside n) p (right (outside n) ts (targets_close c).is us s))
+        (targets_fit c (left (outside n) ts us s)) (slots (outside n) p (right (outside n) ts (targets_close c).is us s))
     simple (F.augmented_assign {ts = ts} {us = us} x {t = t} {e = e} p h q) s =
         and_from (is_single t && fits_target n Store t) (fits_at n Value e) (single_target_fits n p (left (outside n) ts (Op x ∷ us) s))
-            (slots (outside n) q (right (outside n) ts (single_target_closes p) (Op x ∷ us) s))
+        (slots (outside n) q (right (outside n) ts (single_target_closes p) (Op x ∷ us) s))
     simple (F.annotated_name {x = x} {ts = ts} {us = us} {a = a} {v = v} p q) s =
         let w = and_parts (n.name x.form) (pass_at (outside n) (ts ++ us)) s in
         from3 (n.name x.form) (fits_at n Expression a) (perhaps_fits n Value (optional v)) w.0
-            (slots (outside n) p (left (outside n) ts us w.1)) (behind_fits refl q (right (outside n) ts (expression_closes p) us w.1))
+        (slots (outside n) p (left (outside n) ts us w.1)) (behind_fits refl q (right (outside n) ts (expression_closes p) us w.1))
     simple (F.annotated_group {ts = ts} {us = us} {vs = vs} {t = t} {a = a} {v = v} p q r) s =
         let w = right (outside n) ts (single_target_closes p) (Op Sign.RPar ∷ (Op Sign.Colon ∷ (us ++ vs))) s in
         let u = and_parts (is_single t) (fits_target n Store t)
-            (single_target_fits n p (left (outside n) ts (Op Sign.RPar ∷ (Op Sign.Colon ∷ (us ++ vs))) s)) in
+        (single_target_fits n p (left (outside n) ts (Op Sign.RPar ∷ (Op Sign.Colon ∷ (us ++ vs))) s)) in
         from5 (is_single t) true (fits_target n Store t) (fits_at n Expression a) (perhaps_fits n Value (optional v)) u.0 refl u.1
-            (slots (outside n) q (left (outside n) us vs w)) (behind_fits refl r (right (outside n) us (expression_closes q) vs w))
+        (slots (outside n) q (left (outside n) us vs w)) (behind_fits refl r (right (outside n) us (expression_closes q) vs w))
     simple (F.annotated_part {ts = ts} {us = us} {vs = vs} {t = t} {a = a} {v = v} p h q r) s =
         let w = right (outside n) ts (single_target_closes p) (Op Sign.Colon ∷ (us ++ vs)) s in
         let u = and_parts (is_single t) (fits_target n Store t)
-            (single_target_fits n p (left (outside n) ts (Op Sign.Colon ∷ (us ++ vs)) s)) in
+        (single_target_fits n p (left (outside n) ts (Op Sign.Colon ∷ (us ++ vs)) s)) in
         from5 (is_single t) true (fits_target n Store t) (fits_at n Expression a) (perhaps_fits n Value (optional v)) u.0 refl u.1
-            (slots (outside n) q (left (outside n) us vs w)) (behind_fits refl r (right (outside n) us (expression_closes q) vs w))
+        (slots (outside n) q (left (outside n) us vs w)) (behind_fits refl r (right (outside n) us (expression_closes q) vs w))
     simple {profile} (F.type_alias {form = f} {x = x} {ts = ts} {us = us} {ps = ps} {e = e} h c p) s =
         let w = and_parts (n.name x.form) (pass_at (outside n) (ts ++ (Op Sign.Equal ∷ us)))
-            (and_parts (n.name f) (pass_at (outside n) (Ident x ∷ (ts ++ (Op Sign.Equal ∷ us)))) s).1 in
+        (and_parts (n.name f) (pass_at (outside n) (Ident x ∷ (ts ++ (Op Sign.Equal ∷ us)))) s).1 in
         from5 (has_types profile) true (n.name x.form) (list_all (type_param_fits n) ps) (fits_at n Expression e) h refl w.0
         (and_parts (no_types ps || has_types profile) (list_all (type_param_fits n) ps)
-            (type_params c (left (outside n) ts (Op Sign.Equal ∷ us) w.1))).1
-            (slots (outside n) p (right (outside n) ts (type_params_close c).is (Op Sign.Equal ∷ us) w.1))
+        (type_params c (left (outside n) ts (Op Sign.Equal ∷ us) w.1))).1
+        (slots (outside n) p (right (outside n) ts (type_params_close c).is (Op Sign.Equal ∷ us) w.1))
     simple (F.return_of p) s = perhaps p s
     simple F.raise_alone s = refl
     simple (F.raise_of {ts = ts} {us = us} {e = e} p q) s = raise_fits e refl q (right (outside n) ts (expression_closes p) us s)
@@ -243,10 +243,10 @@ module _ (n : Tests) where
     simple (F.from_module {ts = ts} {us = us} {vs = vs} {m = m} {as_ = xs} d e c) s =
         let w = right (outside n) ts (dots_close d).is (us ++ (Word Key.Import ∷ vs)) s in
         and_from (dotted n.name m) (imports_fit n.name xs) (dotted_fits n undotted e (left (outside n) us (Word Key.Import ∷ vs) w))
-            (names_fit c (right (outside n) us (module_closes e).is (Word Key.Import ∷ vs) w))
+        (names_fit c (right (outside n) us (module_closes e).is (Word Key.Import ∷ vs) w))
     simple (F.from_dots {ts = ts} {vs = vs} {n = k} {as_ = xs} d h c) s =
         and_from (nat_lt 0 k) (imports_fit n.name xs) (lt-ltb 0 k h)
-            (names_fit c (right (outside n) ts (dots_close d).is (Word Key.Import ∷ vs) s))
+        (names_fit c (right (outside n) ts (dots_close d).is (Word Key.Import ∷ vs) s))
 
     pub simples : {profile : Profile} {ts : List Terminal} {ss : List Stmt} → F.Simples profile ts ss → pass_at (outside n) ts ≡ true
         → inline_fits profile n ss ≡ true
@@ -256,7 +256,7 @@ module _ (n : Tests) where
     simples {profile} (F.more_simples {ts = ts} {us = us} {s = t} {ss = ss} p q) s =
         and_from (statement_fits profile n t) (statements_fit profile n (stmts ss)) (simple p (left (outside n) ts (Op Sign.Semi ∷ us) s))
         (and_parts (has_one ss) (statements_fit profile n (stmts ss))
-            (simples q (right (outside n) ts (simple_closes p) (Op Sign.Semi ∷ us) s))).1
+        (simples q (right (outside n) ts (simple_closes p) (Op Sign.Semi ∷ us) s))).1
 
     -- ---- Headers.
 
@@ -264,7 +264,7 @@ module _ (n : Tests) where
     item_given (F.bare_item {e = e} p) s = and_from (fits_at n Expression e) true (slots (outside n) p s) refl
     item_given (F.item_as {ts = ts} {us = us} {e = e} {t = t} p q) s =
         and_from (fits_at n Expression e) (fits_target n Store t) (slots (outside n) p (left (outside n) ts (Word Key.As ∷ us) s))
-            (item_target_fits n q (right (outside n) ts (expression_closes p) (Word Key.As ∷ us) s))
+        (item_target_fits n q (right (outside n) ts (expression_closes p) (Word Key.As ∷ us) s))
 
     bracketed_fit : {ts : List Terminal} {is : List Item} → F.Bracketed ts is → pass_at (outside n) ts ≡ true
         → (has_one is && list_all (item_fits n) is) ≡ true
@@ -297,7 +297,7 @@ module _ (n : Tests) where
     header (F.for_line {ts = ts} {us = us} {vs = vs} {t = t} {e = e} b p q) s =
         let w = right (outside n) ts (async_closes b).is (Word Key.For ∷ (us ++ (Word Key.In ∷ vs))) s in
         and_from (fits_target n Store t) (fits_at n Stars e) (target_fits n p (left (outside n) us (Word Key.In ∷ vs) w))
-            (slots (outside n) q (right (outside n) us (target_closes p) (Word Key.In ∷ vs) w))
+        (slots (outside n) q (right (outside n) us (target_closes p) (Word Key.In ∷ vs) w))
     header (F.with_line {ts = ts} {us = us} b p) s = items_fit p (right (outside n) ts (async_closes b).is (Word Key.With ∷ us) s)
     header F.try_line s = refl
     header F.finally_line s = refl
@@ -308,18 +308,18 @@ module _ (n : Tests) where
         (slots (outside n) p (left (outside n) ts us s)) (as_fits q (right (outside n) ts (expression_closes p) us s))
     header {profile} (F.def_line {ts = ts} {us = us} {vs = vs} {ws = ws} x {tps = tps} {ps = ps} {a = a} {r = r} b t c h q) s =
         let w = and_parts (n.name x.form) (pass_at (outside n) (us ++ (Op Sign.LPar ∷ (vs ++ (Op Sign.RPar ∷ ws)))))
-            (right (outside n) ts (async_closes b).is (Word Key.Def ∷ (Ident x ∷ (us ++ (Op Sign.LPar ∷ (vs ++ (Op Sign.RPar ∷ ws))))))
-            s) in
+        (right (outside n) ts (async_closes b).is (Word Key.Def ∷ (Ident x ∷ (us ++ (Op Sign.LPar ∷ (vs ++ (Op Sign.RPar ∷ ws))))))
+        s) in
         let u = right (outside n) us (type_params_close t).is (Op Sign.LPar ∷ (vs ++ (Op Sign.RPar ∷ ws))) w.1 in
         from4 (n.name x.form) (fits_arguments n true a) (perhaps_fits n Expression (optional r)) (types_fit profile n tps)
         w.0 (arranged_fit n true ps a (listing (outside n) c (left (outside n) vs (Op Sign.RPar ∷ ws) u)) h)
-            (behind_fits refl q (right (outside n) vs (listing_closes c) (Op Sign.RPar ∷ ws) u))
-            (type_params t (left (outside n) us (Op Sign.LPar ∷ (vs ++ (Op Sign.RPar ∷ ws))) w.1))
+        (behind_fits refl q (right (outside n) vs (listing_closes c) (Op Sign.RPar ∷ ws) u))
+        (type_params t (left (outside n) us (Op Sign.LPar ∷ (vs ++ (Op Sign.RPar ∷ ws))) w.1))
     header {profile} (F.class_line {x = x} {ts = ts} {us = us} {tps = tps} {es = es} {ks = ks} t b) s =
         let w = and_parts (n.name x.form) (pass_at (outside n) (ts ++ us)) s in
         let u = bases_fit b (right (outside n) ts (type_params_close t).is us w.1) in
         from4 (n.name x.form) (each_fits n Elem (exprs es)) (each_keyword_fits n ks) (types_fit profile n tps) w.0 u.0 u.1
-            (type_params t (left (outside n) ts us w.1))
+        (type_params t (left (outside n) ts us w.1))
 
     form : {profile : Profile} {ts : List Terminal} {f : Form} → F.FormOf profile ts f → pass_at (outside n) ts ≡ true
         → form_fits profile n f ≡ true
@@ -328,11 +328,11 @@ module _ (n : Tests) where
     form (F.header_line {ts = ts} p) s = header p (left (outside n) ts (Op Sign.Colon ∷ []) s)
     form {profile} (F.header_suite {ts = ts} {us = us} {h = h} {ss = ss} p q) s =
         and_from (header_fits profile n h) (inline_fits profile n ss) (header p (left (outside n) ts (Op Sign.Colon ∷ us) s))
-            (simples q (right (outside n) ts (header_closes p) (Op Sign.Colon ∷ us) s))
+        (simples q (right (outside n) ts (header_closes p) (Op Sign.Colon ∷ us) s))
     form {profile} (F.match_line {ts = ts} {e = e} f h p) s =
         and_from (is_whole profile.extent) (fits_at n Expression e) h
         (subject_plain n e (slots (outside n) p
-            (left (outside n) ts (Op Sign.Colon ∷ []) (and_parts (n.name f) (pass_at (outside n) (ts ++ (Op Sign.Colon ∷ []))) s).1)))
+        (left (outside n) ts (Op Sign.Colon ∷ []) (and_parts (n.name f) (pass_at (outside n) (ts ++ (Op Sign.Colon ∷ []))) s).1)))
 
     -- ---- Forms at their places.
 
@@ -346,7 +346,7 @@ module _ (n : Tests) where
         let w = (and_parts (n.name f) (pass_at (outside n) (ts ++ us)) s).1 in
         from3 (is_whole profile.extent) (pattern_fits_at n AsPattern p) (perhaps_fits n Expression (optional g)) q
         (fits_anywhere n PatternLevel.Patterns AsPattern p refl (fits n d (left (outside n) ts us w)))
-            (guard g (behind_fits refl b (right (outside n) ts (pattern_closes d) us w)))
+        (guard g (behind_fits refl b (right (outside n) ts (pattern_closes d) us w)))
 
     pub placed : {profile : Profile} {inside : Bool} {ts : List Terminal} {f : Form} → F.FormAt profile inside ts f
         → pass_at (outside n) ts ≡ true → form_fits profile n f ≡ true
@@ -354,4 +354,4 @@ module _ (n : Tests) where
     placed {profile} (F.case_alone {ts = ts} q c) s = case profile q c (left (outside n) ts (Op Sign.Colon ∷ []) s)
     placed {profile} (F.case_suite {ts = ts} {us = us} {h = h} {ss = ss} q c p) s =
         and_from (header_fits profile n h) (inline_fits profile n ss) (case profile q c (left (outside n) ts (Op Sign.Colon ∷ us) s))
-            (simples p (right (outside n) ts (case_closes c) (Op Sign.Colon ∷ us) s))
+        (simples p (right (outside n) ts (case_closes c) (Op Sign.Colon ∷ us) s))

@@ -75,15 +75,15 @@ module _ (n : Tests) where
   literal (G.number p) s = signed_fits p s
   literal (G.complex {w = w} {ts = ts} {a = a} {o = o} t p h q k) s =
       let u = number_passes w (behind (outside n) t (quiet_left Sum t o q []) (Number w ∷ [])
-          (right (outside n) ts (signed_closes p) (t ∷ (Number w ∷ [])) s)) in
+      (right (outside n) ts (signed_closes p) (t ∷ (Number w ∷ [])) s)) in
       from3 (is_sum o) (real_fits n a) (imaginary_fits n (Trees.Constant w)) (sum_operator t o q)
-          (signed_real p h (left (outside n) ts (t ∷ (Number w ∷ [])) s))
+      (signed_real p h (left (outside n) ts (t ∷ (Number w ∷ [])) s))
       (and_from (is_imaginary w) (is_value n w) k u.1)
   literal (G.strings {v = v} {w = w} vs h) s =
       let u = and_parts (passes n [] (Literal v)) (pass_at (outside n) (map Literal vs)) s in
       and_from (is_number w || is_literal w) (is_value n w)
-          (or_right (is_number w) (is_literal w) (joined_literal v w vs (and_parts (is_literal v) (is_value n v) u.0).0 h))
-          (joined_value (outside n) v w vs u.0 u.1 h)
+      (or_right (is_number w) (is_literal w) (joined_literal v w vs (and_parts (is_literal v) (is_value n v) u.0).0 h))
+      (joined_value (outside n) v w vs u.0 u.1 h)
   literal (G.joined_string c h q) s = joined_of (outside n) c q s
 
   record DottedFits (f : Identifier) (e : Expr) : Type 0 where
@@ -94,8 +94,11 @@ module _ (n : Tests) where
   dotted (G.first_name {x = x}) s = record { each = (and_parts (n.name x.form) true s).0; first = refl }
   dotted (G.dot_name {ts = ts} {e = e} x p) s =
       let w = dotted p (left (outside n) ts (Op Dot ∷ (Ident x ∷ [])) s) in
-      record { each = and_from (n.name x.form) (dotted_fits n e)
-          (and_parts (n.name x.form) true (right (outside n) ts (dotted_closes p) (Op Dot ∷ (Ident x ∷ [])) s)).0 w.each; first = w.first }
+      record {
+        each = and_from (n.name x.form) (dotted_fits n e)
+            (and_parts (n.name x.form) true (right (outside n) ts (dotted_closes p) (Op Dot ∷ (Ident x ∷ [])) s)).0 w.each;
+        first = w.first;
+      }
 
   class : {ts : List Terminal} {e : Expr} → G.ClassOf ts e → pass_at (outside n) ts ≡ true → class_fits n e ≡ true
   class (G.class_name {e = e} p h) s = let w = dotted p s in and_from (dotted_fits n e) (not (starts_wild e)) w.each (rw (w.first, h) refl)
@@ -114,8 +117,8 @@ module _ (n : Tests) where
       or_left (literal_fits n e || is_singleton v) false (or_right (literal_fits n e) (is_singleton v) (singleton_is t v h))
   key (G.name_key {ts = ts} {e = e} x p) s =
       and_from (n.name x.form) (dotted_fits n e)
-          (and_parts (n.name x.form) true (right (outside n) ts (dotted_closes p) (Op Dot ∷ (Ident x ∷ [])) s)).0
-          (dotted p (left (outside n) ts (Op Dot ∷ (Ident x ∷ [])) s)).each
+      (and_parts (n.name x.form) true (right (outside n) ts (dotted_closes p) (Op Dot ∷ (Ident x ∷ [])) s)).0
+      (dotted p (left (outside n) ts (Op Dot ∷ (Ident x ∷ [])) s)).each
 
   -- ---- Patterns.
 
@@ -130,7 +133,7 @@ module _ (n : Tests) where
       let w = mapped_is (λ y. Trees.MatchAs (present_pattern p) (Some y)) (captured x) q k in
       subst (λ z. pattern_fits_at n l z ≡ true) w.2
       (and_from (target_fits n w.0) (pattern_fits_at n AsPattern p) (bound_fits n x w.0 w.1 h)
-          (fits_anywhere n OrPattern AsPattern p refl f))
+      (fits_anywhere n OrPattern AsPattern p refl f))
 
   mutual
     pub fits : {l : PatternLevel} {ts : List Terminal} {p : Pattern} → G.DerivesPattern l ts p → pass_at (outside n) ts ≡ true
@@ -138,46 +141,52 @@ module _ (n : Tests) where
     fits (G.next {l = l} {p = p} d) s = fits_below n l p (fits d s)
     fits (G.open_sequence {ts = ts} {us = us} {p = p} {es = es} d c) s =
         and_from (pattern_fits_at n StarPattern p) (each_pattern_fits n StarPattern (elements es))
-            (fits d (left (outside n) ts (Op Comma ∷ us) s))
-            (elements_fit n es (listing c (right (outside n) ts (pattern_closes d) (Op Comma ∷ us) s)))
+        (fits d (left (outside n) ts (Op Comma ∷ us) s))
+        (elements_fit n es (listing c (right (outside n) ts (pattern_closes d) (Op Comma ∷ us) s)))
     fits (G.star {x = x}) s = captured_fits n x.form (and_parts (n.name x.form) true s).0
     fits (G.as_name {ts = ts} {p = p} {q = q} x d h) s =
         as_fits AsPattern p q x.form (fits d (left (outside n) ts (Word Key.As ∷ (Ident x ∷ [])) s))
-            (and_parts (n.name x.form) true (right (outside n) ts (pattern_closes d) (Word Key.As ∷ (Ident x ∷ [])) s)).0 h
+        (and_parts (n.name x.form) true (right (outside n) ts (pattern_closes d) (Word Key.As ∷ (Ident x ∷ [])) s)).0 h
     fits (G.alternatives {ts = ts} {us = us} {p = p} {ps = ps} d c) s =
         let w = choices c (right (outside n) ts (pattern_closes d) (Op VBar ∷ us) s) in
         and_from (leb 2 (count_patterns (patterns ps) + 1)) (pattern_fits_at n AsPattern p && each_pattern_fits n AsPattern (patterns ps))
-            (le-leb 2 (count_patterns (patterns ps) + 1) (omega (arith, w.some)))
+        (le-leb 2 (count_patterns (patterns ps) + 1) (omega (arith, w.some)))
         (and_from (pattern_fits_at n AsPattern p) (each_pattern_fits n AsPattern (patterns ps))
-            (fits_anywhere n ClosedPattern AsPattern p refl (fits d (left (outside n) ts (Op VBar ∷ us) s))) w.each)
+        (fits_anywhere n ClosedPattern AsPattern p refl (fits d (left (outside n) ts (Op VBar ∷ us) s))) w.each)
     fits (G.literal {e = e} p) s = or_left (literal_fits n e) (is_attribute e && class_fits n e) (literal p s)
     fits (G.singleton {t = t} {v = v} h) s = singleton_is t v h
     fits (G.capture {x = x}) s = captured_fits n x.form (and_parts (n.name x.form) true s).0
     fits (G.value {ts = ts} {e = e} x p) s =
         class_dot e x.form (and_parts (n.name x.form) true (right (outside n) ts (class_closes p) (Op Dot ∷ (Ident x ∷ [])) s)).0
-            (class p (left (outside n) ts (Op Dot ∷ (Ident x ∷ [])) s))
+        (class p (left (outside n) ts (Op Dot ∷ (Ident x ∷ [])) s))
     fits (G.group {ts = ts} {p = p} d) s = fits_anywhere n AsPattern ClosedPattern p refl (fits d (left (outside n) ts (Op RPar ∷ []) s))
     fits G.empty_sequence s = refl
     fits (G.round_sequence {ts = ts} {us = us} {p = p} {es = es} d c) s =
         and_from (pattern_fits_at n StarPattern p) (each_pattern_fits n StarPattern (elements es))
-            (fits d (left (outside n) ts (Op Comma ∷ (us ++ (Op RPar ∷ []))) s))
+        (fits d (left (outside n) ts (Op Comma ∷ (us ++ (Op RPar ∷ []))) s))
         (elements_fit n es (listing c
-            (left (outside n) us (Op RPar ∷ []) (right (outside n) ts (pattern_closes d) (Op Comma ∷ (us ++ (Op RPar ∷ []))) s))))
+        (left (outside n) us (Op RPar ∷ []) (right (outside n) ts (pattern_closes d) (Op Comma ∷ (us ++ (Op RPar ∷ []))) s))))
     fits (G.square_sequence {ts = ts} {es = es} c) s = elements_fit n es (listing c (left (outside n) ts (Op RSqb ∷ []) s))
     fits (G.mapping {ts = ts} {es = es} {p = p} c h) s =
         mapped_fits n ClosedPattern es p (listing c (left (outside n) ts (Op RBrace ∷ []) s)) h
     fits (G.class_pattern {ts = ts} {us = us} {e = e} {es = es} {p = p} k c h) s =
         class_of_fits n ClosedPattern e es p (class k (left (outside n) ts (Op LPar ∷ (us ++ (Op RPar ∷ []))) s))
-            (listing c (left (outside n) us (Op RPar ∷ []) (right (outside n) ts (class_closes k) (Op LPar ∷ (us ++ (Op RPar ∷ []))) s))) h
+        (listing c (left (outside n) us (Op RPar ∷ []) (right (outside n) ts (class_closes k) (Op LPar ∷ (us ++ (Op RPar ∷ []))) s))) h
 
     choices : {ts : List Terminal} {ps : List Pattern} → G.Alternatives ts ps → pass_at (outside n) ts ≡ true → Choices ps
     choices (G.last_alternative {p = p} d) s =
-        record { each = and_from (pattern_fits_at n AsPattern p) true (fits_anywhere n ClosedPattern AsPattern p refl (fits d s))
-        refl; some = omega arith }
+        record {
+          each = and_from (pattern_fits_at n AsPattern p) true (fits_anywhere n ClosedPattern AsPattern p refl (fits d s))
+              refl;
+          some = omega arith;
+        }
     choices (G.alternative {ts = ts} {us = us} {p = p} {ps = ps} d c) s =
         let w = choices c (right (outside n) ts (pattern_closes d) (Op VBar ∷ us) s) in
-        record { each = and_from (pattern_fits_at n AsPattern p) (each_pattern_fits n AsPattern (patterns ps))
-            (fits_anywhere n ClosedPattern AsPattern p refl (fits d (left (outside n) ts (Op VBar ∷ us) s))) w.each; some = omega arith }
+        record {
+          each = and_from (pattern_fits_at n AsPattern p) (each_pattern_fits n AsPattern (patterns ps))
+              (fits_anywhere n ClosedPattern AsPattern p refl (fits d (left (outside n) ts (Op VBar ∷ us) s))) w.each;
+          some = omega arith;
+        }
 
     listing : {i : PatternItem} {ts : List Terminal} {es : List PatternEntry} → G.PatternListing i ts es
         → pass_at (outside n) ts ≡ true → all_fit n i es ≡ true
@@ -185,14 +194,14 @@ module _ (n : Tests) where
     listing (G.last_entry {i = i} {e = e} p) s = and_from (entry_fits n i e) true (piece p s) refl
     listing (G.entry {i = i} {ts = ts} {us = us} {e = e} {es = es} p c) s =
         and_from (entry_fits n i e) (all_fit n i es) (piece p (left (outside n) ts (Op Comma ∷ us) s))
-            (listing c (right (outside n) ts (entry_closes p) (Op Comma ∷ us) s))
+        (listing c (right (outside n) ts (entry_closes p) (Op Comma ∷ us) s))
 
     piece : {i : PatternItem} {ts : List Terminal} {e : PatternEntry} → G.PatternPiece i ts e → pass_at (outside n) ts ≡ true
         → entry_fits n i e ≡ true
     piece (G.element d) s = fits d s
     piece (G.key_pattern {ts = ts} {us = us} {k = k} {p = p} q d) s =
         and_from (key_fits n k) (pattern_fits_at n AsPattern p) (key q (left (outside n) ts (Op Colon ∷ us) s))
-            (fits d (right (outside n) ts (key_closes q) (Op Colon ∷ us) s))
+        (fits d (right (outside n) ts (key_closes q) (Op Colon ∷ us) s))
     piece (G.rest {x = x} h) s = other_fits n x.form (and_parts (n.name x.form) true s).0 h
     piece (G.argument d) s = fits d s
     piece (G.named_argument {x = x} {ts = ts} {p = p} d) s =

@@ -118,8 +118,13 @@ module _ (p : Profile) (n : Tests) (words : Words n) where
 
   -- a line of one simple statement
   simply : (l : ℕ) (s : Stmt) → GivenAsSpelled (outside n) (F.Simple p) s → Drawn l s
-  simply l s w = record { lines = line l (simple_form (s ∷ [])) ∷ []; some = refl; given =
-      behind_line p n (w.0, w.1, F.simple_statements (F.last_simple w.2)) (none_placed p n); is = simple_line }
+  simply l s w = record {
+    lines = line l (simple_form (s ∷ [])) ∷ [];
+    some = refl;
+    given =
+        behind_line p n (w.0, w.1, F.simple_statements (F.last_simple w.2)) (none_placed p n);
+    is = simple_line;
+  }
 
   -- what may stand after a block
   record Behind (l : ℕ) (ss : Stmts) : Type 0 where
@@ -129,8 +134,12 @@ module _ (p : Profile) (n : Tests) (words : Words n) where
 
   otherwise : (l : ℕ) (ss : Stmts) → DrawnAll (suc l) ss → Behind l ss
   otherwise l no_stmt d = record { lines = []; given = none_placed p n; is = no_else }
-  otherwise l (a_stmt s ss) d = record { lines = line l (header_form else_header None) ∷ d.lines; given =
-      headed p n l else_header else_given (block_of p n d.given); is = else_clause (body_of refl d) }
+  otherwise l (a_stmt s ss) d = record {
+    lines = line l (header_form else_header None) ∷ d.lines;
+    given =
+        headed p n l else_header else_given (block_of p n d.given);
+    is = else_clause (body_of refl d);
+  }
 
   record Last (l : ℕ) (ss : Stmts) : Type 0 where
     lines : List Line
@@ -139,8 +148,12 @@ module _ (p : Profile) (n : Tests) (words : Words n) where
 
   ending : (l : ℕ) (ss : Stmts) → DrawnAll (suc l) ss → Last l ss
   ending l no_stmt d = record { lines = []; given = none_placed p n; is = no_finally }
-  ending l (a_stmt s ss) d = record { lines = line l (header_form finally_header None) ∷ d.lines; given =
-      headed p n l finally_header finally_given (block_of p n d.given); is = finally_clause (body_of refl d) }
+  ending l (a_stmt s ss) d = record {
+    lines = line l (header_form finally_header None) ∷ d.lines;
+    given =
+        headed p n l finally_header finally_given (block_of p n d.given);
+    is = finally_clause (body_of refl d);
+  }
 
   -- ---- The classes with blocks.
 
@@ -155,7 +168,7 @@ module _ (p : Profile) (n : Tests) (words : Words n) where
         given = headed p n l (if_header test) (if_given n p test h) (led_on p n (block_of p n b.given) o.given);
         is = subst (λ z. Statement l xs (Trees.If test z orelse ∷ [])) (stmts_back body)
             (subst (λ z. Statement l xs (Trees.If test (stmts (of_stmts body)) z ∷ [])) (stmts_back orelse)
-                (if_statement (body_of f b) (an_else o.is)));
+            (if_statement (body_of f b) (an_else o.is)));
       }
 
   -- a head and its blocks
@@ -227,7 +240,7 @@ module _ (p : Profile) (n : Tests) (words : Words n) where
   except_drawn : (l : ℕ) (star : Bool) (body : Stmts) (class : Option Expr) (name : Option Identifier) (inner : Stmts) (hs : Handlers)
       (orelse final : Stmts) → has_stmt body ≡ true → DrawnAll (suc l) body →
       Caught l star (a_handler class name inner hs) → DrawnAll (suc l) orelse → DrawnAll (suc l) final
-          → Drawn l (tried star body (a_handler class name inner hs) orelse final)
+      → Drawn l (tried star body (a_handler class name inner hs) orelse final)
   except_drawn l star body class name inner hs orelse final f b c d e =
       let o = otherwise l orelse d in
       let k = ending l final e in
@@ -263,8 +276,12 @@ module _ (p : Profile) (n : Tests) (words : Words n) where
       let w = and_parts (fits_at n Expression e) (each_fits n Expression (exprs es)) h in
       let d = decorated l es w.1 in
       let u = P.at (outside n) Named (made (outside n) Expression e w.0) in
-      record { lines = line l (decorator_form e) ∷ d.lines; given = behind_line p n (Op Sign.At ∷ u.0, u.1, F.decorator_line u.2)
-          d.given; is = decorator d.is }
+      record {
+        lines = line l (decorator_form e) ∷ d.lines;
+        given = behind_line p n (Op Sign.At ∷ u.0, u.1, F.decorator_line u.2)
+            d.given;
+        is = decorator d.is;
+      }
 
   abbrev defined : List Expr → DefHead → Stmts → Stmt
   defined es (function_head false name parameters args returns) body = Trees.FunctionDef name args body es returns parameters
@@ -331,23 +348,23 @@ module _ (p : Profile) (n : Tests) (words : Words n) where
     drawn : (l : ℕ) (s : Stmt) → statement_fits p n s ≡ true → Drawn l s
     drawn l (Trees.FunctionDef x a body es r ps) h =
         let w = parts6 (n.name x) (fits_arguments n true a) (each_fits n Expression (exprs es)) (perhaps_fits n Expression (optional r))
-            (types_fit p n ps) (suite_fits p n body) h in
+        (types_fit p n ps) (suite_fits p n body) h in
         let u = suite_parts body w.5 in
         definition_drawn l es (function_head false x ps a r) body w.2 (function_given n p false x ps a r w.0 w.4 w.1 w.3) u.0
-            (drawn_all (suc l) body u.1)
+        (drawn_all (suc l) body u.1)
     drawn l (Trees.AsyncFunctionDef x a body es r ps) h =
         let w = parts6 (n.name x) (fits_arguments n true a) (each_fits n Expression (exprs es)) (perhaps_fits n Expression (optional r))
-            (types_fit p n ps) (suite_fits p n body) h in
+        (types_fit p n ps) (suite_fits p n body) h in
         let u = suite_parts body w.5 in
         definition_drawn l es (function_head true x ps a r) body w.2 (function_given n p true x ps a r w.0 w.4 w.1 w.3) u.0
-            (drawn_all (suc l) body u.1)
+        (drawn_all (suc l) body u.1)
     drawn l (Trees.ClassDef x bases ks body es ps) h =
         let w = parts6 (n.name x) (each_fits n Elem (exprs bases)) (each_keyword_fits n ks) (each_fits n Expression (exprs es))
-            (types_fit p n ps) (suite_fits p n body) h in
+        (types_fit p n ps) (suite_fits p n body) h in
         let u = suite_parts body w.5 in
         definition_drawn l es (class_head x ps bases ks) body w.3
-            (class_given n p x ps bases ks w.0 w.4 (and_from (each_fits n Elem (exprs bases)) (each_keyword_fits n ks) w.1 w.2)) u.0
-            (drawn_all (suc l) body u.1)
+        (class_given n p x ps bases ks w.0 w.4 (and_from (each_fits n Elem (exprs bases)) (each_keyword_fits n ks) w.1 w.2)) u.0
+        (drawn_all (suc l) body u.1)
     drawn l (Trees.Return e) h = simply l (Trees.Return e) (return_given n p e h)
     drawn l (Trees.Delete es) h = let w = and_parts (has_one es) (each_target_fits n Del (exprs es)) h in
         simply l (Trees.Delete es) (delete_given n p es w.0 w.1)
@@ -361,19 +378,19 @@ module _ (p : Profile) (n : Tests) (words : Words n) where
         simply l (Trees.AugAssign t o e) (augmented_given n p t o e w.0 w.1)
     drawn l (Trees.AnnAssign t a v simple) h =
         let w = parts5 (is_single t) (not simple || is_a_name t) (fits_target n Store t) (fits_at n Expression a)
-            (perhaps_fits n Value (optional v)) h in
+        (perhaps_fits n Value (optional v)) h in
         simply l (Trees.AnnAssign t a v simple)
-            (annotated_given n p t a v simple (and_from (is_single t) (fits_target n Store t) w.0 w.2) w.1 w.3 w.4)
+        (annotated_given n p t a v simple (and_from (is_single t) (fits_target n Store t) w.0 w.2) w.1 w.3 w.4)
     drawn l (Trees.For t e body orelse) h =
         let w = parts4 (fits_target n Store t) (fits_at n Stars e) (suite_fits p n body) (statements_fit p n orelse) h in
         let u = suite_parts body w.2 in
         loop_drawn l (for_head false t e) body orelse (for_given n p false t e w.0 w.1) u.0 (drawn_all (suc l) body u.1)
-            (drawn_all (suc l) orelse w.3)
+        (drawn_all (suc l) orelse w.3)
     drawn l (Trees.AsyncFor t e body orelse) h =
         let w = parts4 (fits_target n Store t) (fits_at n Stars e) (suite_fits p n body) (statements_fit p n orelse) h in
         let u = suite_parts body w.2 in
         loop_drawn l (for_head true t e) body orelse (for_given n p true t e w.0 w.1) u.0 (drawn_all (suc l) body u.1)
-            (drawn_all (suc l) orelse w.3)
+        (drawn_all (suc l) orelse w.3)
     drawn l (Trees.While e body orelse) h =
         let w = parts3 (fits_at n Expression e) (suite_fits p n body) (statements_fit p n orelse) h in
         let u = suite_parts body w.1 in
@@ -396,16 +413,16 @@ module _ (p : Profile) (n : Tests) (words : Words n) where
     drawn l (Trees.Raise e c) h = simply l (Trees.Raise e c) (raise_given n p e c h)
     drawn l (Trees.Try body hs orelse final) h =
         let w = parts5 (clauses_fit false hs orelse final) (suite_fits p n body) (handlers_fit p n false hs) (statements_fit p n orelse)
-            (statements_fit p n final) h in
+        (statements_fit p n final) h in
         let u = suite_parts body w.1 in
         try_drawn l false body hs orelse final w.0 u.0 (drawn_all (suc l) body u.1) (caught l false hs w.2) (drawn_all (suc l) orelse w.3)
-            (drawn_all (suc l) final w.4)
+        (drawn_all (suc l) final w.4)
     drawn l (Trees.TryStar body hs orelse final) h =
         let w = parts5 (clauses_fit true hs orelse final) (suite_fits p n body) (handlers_fit p n true hs) (statements_fit p n orelse)
-            (statements_fit p n final) h in
+        (statements_fit p n final) h in
         let u = suite_parts body w.1 in
         try_drawn l true body hs orelse final w.0 u.0 (drawn_all (suc l) body u.1) (caught l true hs w.2) (drawn_all (suc l) orelse w.3)
-            (drawn_all (suc l) final w.4)
+        (drawn_all (suc l) final w.4)
     drawn l (Trees.Assert e m) h = let w = and_parts (fits_at n Expression e) (perhaps_fits n Expression (optional m)) h in
         simply l (Trees.Assert e m) (assert_given n p e m w.0 w.1)
     drawn l (Trees.Import as_) h = let w = and_parts (has_one as_) (list_all (import_fits n.name) as_) h in
@@ -427,8 +444,12 @@ module _ (p : Profile) (n : Tests) (words : Words n) where
         let w = and_parts (statement_fits p n s) (statements_fit p n ss) h in
         let d = drawn l s w.0 in
         let r = drawn_all l ss w.1 in
-        record { lines = d.lines ++ r.lines; some = λ q. some_before d.lines r.lines d.some; given = placed_on p n d.given r.given;
-            is = and_then d.is r.is }
+        record {
+          lines = d.lines ++ r.lines;
+          some = λ q. some_before d.lines r.lines d.some;
+          given = placed_on p n d.given r.given;
+          is = and_then d.is r.is;
+        }
 
     caught : (l : ℕ) (star : Bool) (hs : Handlers) → handlers_fit p n star hs ≡ true → Caught l star hs
     caught l star no_handler h = record { lines = []; given = none_placed p n; is = no_except }
@@ -448,7 +469,7 @@ module _ (p : Profile) (n : Tests) (words : Words n) where
     chosen l Trees.no_case q h = record { lines = []; some = λ e. e; given = none_placed p n; is = B.no_case }
     chosen l (Trees.a_case pattern guard body cs) q h =
         let w = parts4 (pattern_fits_at n AsPattern pattern) (perhaps_fits n Expression (optional guard))
-            (suite_fits p n body) (cases_fit p n cs) h in
+        (suite_fits p n body) (cases_fit p n cs) h in
         let u = suite_parts body w.2 in
         let b = drawn_all (suc l) body u.1 in
         let r = chosen l cs q w.3 in

@@ -93,16 +93,33 @@ module _ (n : Standing) where
       by list o false false = o true true
 
   pub listed : {es : Exprs} {ks : Keywords} → Positional n es → Labelled n ks → Listed n es ks
-  listed no_positional s = let w = words s in record { list = w.list; pieces = w.pieces; order = w.order false false; positional_are =
-      w.positional_are; keywords_are = w.keywords_are }
+  listed no_positional s = let w = words s in record {
+    list = w.list;
+    pieces = w.pieces;
+    order = w.order false false;
+    positional_are =
+        w.positional_are;
+    keywords_are = w.keywords_are;
+  }
   listed (a_plain {e = e} f r) s =
       let w = listed r s in
-      record { list = Single e ∷ w.list; pieces = a_piece (f.0, f.1, G.argument f.2) w.pieces; order = w.order; positional_are =
-          ap (an_expr e) w.positional_are; keywords_are = w.keywords_are }
+      record {
+        list = Single e ∷ w.list;
+        pieces = a_piece (f.0, f.1, G.argument f.2) w.pieces;
+        order = w.order;
+        positional_are =
+            ap (an_expr e) w.positional_are;
+        keywords_are = w.keywords_are;
+      }
   listed (a_star {e = e} f r) s =
       let w = listed r s in
-      record { list = Spread e ∷ w.list; pieces = a_piece (Op Star ∷ f.0, f.1, G.star_argument f.2) w.pieces; order = w.order;
-          positional_are = ap (an_expr (Trees.Starred e Load)) w.positional_are; keywords_are = w.keywords_are }
+      record {
+        list = Spread e ∷ w.list;
+        pieces = a_piece (Op Star ∷ f.0, f.1, G.star_argument f.2) w.pieces;
+        order = w.order;
+        positional_are = ap (an_expr (Trees.Starred e Load)) w.positional_are;
+        keywords_are = w.keywords_are;
+      }
 
   pub call_given : (l : Level) (f : Expr) (es : Exprs) (ks : Keywords) → P.At n Expression f → Positional n es → Labelled n ks
       → P.At n l (Trees.Call f es ks)
@@ -111,8 +128,12 @@ module _ (n : Standing) where
       let u = at n Primary p in
       let v = listing n w.pieces in
       let q : called f w.list ≡ Some (Trees.Call f es ks) = rw (w.order, w.positional_are, w.keywords_are) refl in
-      anywhere_at n Primary refl (u.0 ++ (Op LPar ∷ (v.0 ++ (Op RPar ∷ []))), pass_on n u.0 (Op LPar ∷ (v.0 ++ (Op RPar ∷ []))) u.1
-          (pass_on n v.0 (Op RPar ∷ []) v.1 refl), G.call u.2 v.2 q) l
+      anywhere_at n Primary refl (
+        u.0 ++ (Op LPar ∷ (v.0 ++ (Op RPar ∷ []))),
+        pass_on n u.0 (Op LPar ∷ (v.0 ++ (Op RPar ∷ []))) u.1
+            (pass_on n v.0 (Op RPar ∷ []) v.1 refl),
+        G.call u.2 v.2 q,
+      ) l
 
 -- ---- Pairs.
 
@@ -136,12 +157,21 @@ module _ (n : Standing) where
   paired q (no_key s) (one_more {e = e} f r) =
       let w = paired (omega (arith, q)) s r in
       let u = at n BitOr f in
-      record { list = Doubled e ∷ w.list; keys_are = ap (an_optional absent) w.keys_are; values_are = ap (an_expr e) w.values_are; pieces =
-          a_piece (Op DoubleStar ∷ u.0, u.1, G.pairs_of u.2) w.pieces }
+      record {
+        list = Doubled e ∷ w.list;
+        keys_are = ap (an_optional absent) w.keys_are;
+        values_are = ap (an_expr e) w.values_are;
+        pieces =
+            a_piece (Op DoubleStar ∷ u.0, u.1, G.pairs_of u.2) w.pieces;
+      }
   paired q (a_key {k = k} g s) (one_more {e = e} f r) =
       let w = paired (omega (arith, q)) s r in
-      record { list = Paired k e ∷ w.list; keys_are = ap (an_optional (present k)) w.keys_are; values_are = ap (an_expr e) w.values_are;
-          pieces = a_piece (g.0 ++ (Op Colon ∷ f.0), pass_on n g.0 (Op Colon ∷ f.0) g.1 f.1, G.pair g.2 f.2) w.pieces }
+      record {
+        list = Paired k e ∷ w.list;
+        keys_are = ap (an_optional (present k)) w.keys_are;
+        values_are = ap (an_expr e) w.values_are;
+        pieces = a_piece (g.0 ++ (Op Colon ∷ f.0), pass_on n g.0 (Op Colon ∷ f.0) g.1 f.1, G.pair g.2 f.2) w.pieces;
+      }
 
   pub dict_given : (l : Level) (ks : OptionalExprs) (es : Exprs) → count_optional ks ≡ count es → Keys n ks → Each n Expression es
       → P.At n l (Trees.Dict ks es)
@@ -149,7 +179,7 @@ module _ (n : Standing) where
       let w = paired q s r in
       let v = listing n w.pieces in
       lifted n l (subst (λ z. P.At n Atom (Trees.Dict ks z)) w.values_are
-          (subst (λ z. P.At n Atom (Trees.Dict z (values w.list))) w.keys_are
+      (subst (λ z. P.At n Atom (Trees.Dict z (values w.list))) w.keys_are
       (Op LBrace ∷ (v.0 ++ (Op RBrace ∷ [])), pass_on n v.0 (Op RBrace ∷ []) v.1 refl, G.dict v.2)))
 
 -- ---- Targets.
@@ -177,20 +207,39 @@ star_up e f h q = ap (option_map (λ f. Trees.Starred f Store)) q
 module _ (n : Standing) where
   aimed : {es : Exprs} → Aims n es → Aimed n es
   aimed no_aim = record { list = no_exprs; is = refl; each = no_more }
-  aimed (an_aim {e = e} {es = es} a r) = let w = aimed r in record { list = an_expr a.tree w.list; is = rw (a.is, w.is) refl; each =
-      one_more (a.given Elem refl) w.each }
+  aimed (an_aim {e = e} {es = es} a r) = let w = aimed r in record {
+    list = an_expr a.tree w.list;
+    is = rw (a.is, w.is) refl;
+    each =
+        one_more (a.given Elem refl) w.each;
+  }
 
   pub name_aim : (x : Identifier) → n.tests.name x ≡ true → Aim n (Trees.Name x Store)
-  name_aim x h = record { tree = Trees.Name x Load; is = refl; given = λ l q. name_given n l x h; bare =
-      λ q. (λ l. name_given n l x h, refl) }
+  name_aim x h = record {
+    tree = Trees.Name x Load;
+    is = refl;
+    given = λ l q. name_given n l x h;
+    bare =
+        λ q. (λ l. name_given n l x h, refl);
+  }
 
   pub attribute_aim : (e : Expr) (x : Identifier) → n.tests.name x ≡ true → P.At n Expression e → Aim n (Trees.Attribute e x Store)
-  attribute_aim e x h f = record { tree = Trees.Attribute e x Load; is = refl; given = λ l q. attribute_given n l e x h f; bare =
-      λ q. (λ l. attribute_given n l e x h f, refl) }
+  attribute_aim e x h f = record {
+    tree = Trees.Attribute e x Load;
+    is = refl;
+    given = λ l q. attribute_given n l e x h f;
+    bare =
+        λ q. (λ l. attribute_given n l e x h f, refl);
+  }
 
   pub subscript_aim : (e s : Expr) → P.At n Expression e → P.At n Slices s → Aim n (Trees.Subscript e s Store)
-  subscript_aim e s f g = record { tree = Trees.Subscript e s Load; is = refl; given = λ l q. subscript_given n l e s f g; bare =
-      λ q. (λ l. subscript_given n l e s f g, refl) }
+  subscript_aim e s f g = record {
+    tree = Trees.Subscript e s Load;
+    is = refl;
+    given = λ l q. subscript_given n l e s f g;
+    bare =
+        λ q. (λ l. subscript_given n l e s f g, refl);
+  }
 
   pub tuple_aim : (es : Exprs) → Aims n es → Aim n (Trees.Tuple es Store)
   tuple_aim es a =
@@ -201,14 +250,24 @@ module _ (n : Standing) where
   pub list_aim : (es : Exprs) → Aims n es → Aim n (Trees.ListOf es Store)
   list_aim es a =
       let w = aimed a in
-      record { tree = Trees.ListOf w.list Load; is = rw w.is refl; given = λ l q. list_given n l w.list w.each; bare =
-          λ q. (λ l. list_given n l w.list w.each, refl) }
+      record {
+        tree = Trees.ListOf w.list Load;
+        is = rw w.is refl;
+        given = λ l q. list_given n l w.list w.each;
+        bare =
+            λ q. (λ l. list_given n l w.list w.each, refl);
+      }
 
   pub star_aim : (e : Expr) → not (is_starred e) ≡ true → Aim n e → Aim n (Trees.Starred e Store)
   star_aim e h a =
       let w = a.bare (not_true (is_starred e) h) in
-      record { tree = Trees.Starred a.tree Load; is = star_up a.tree e w.1 a.is; given = λ l q. starred_at n l q (w.0 Expression); bare =
-          λ q. absurd (always q) }
+      record {
+        tree = Trees.Starred a.tree Load;
+        is = star_up a.tree e w.1 a.is;
+        given = λ l q. starred_at n l q (w.0 Expression);
+        bare =
+            λ q. absurd (always q);
+      }
     where
       always : ◌≡◌ {A = Bool} true false → ⊥
       always h = absurd (cc)
@@ -239,8 +298,12 @@ module _ (n : Standing) where
   conditions (one_more {e = e} f r) =
       let u = at n Or f in
       let w = conditions r in
-      record { list = e ∷ w.list; is = ap (an_expr e) w.is; ifs =
-          (Word Key.If ∷ (u.0 ++ w.ifs.0), pass_on n u.0 w.ifs.0 u.1 w.ifs.1, G.if_one u.2 w.ifs.2) }
+      record {
+        list = e ∷ w.list;
+        is = ap (an_expr e) w.is;
+        ifs =
+            (Word Key.If ∷ (u.0 ++ w.ifs.0), pass_on n u.0 w.ifs.0 u.1 w.ifs.1, G.if_one u.2 w.ifs.2);
+      }
 
   for_clause : (t e : Expr) {cs : List Expr} (b : Bool) → Aim n t → P.At n Expression e → GivenAsSpelled n G.Ifs cs
       → GivenAsSpelled n G.Comp (clause t e cs b)
@@ -260,8 +323,12 @@ module _ (n : Standing) where
   claused_more t e cs b no_comprehension a f r s =
       let c = conditions r in
       let u = for_clause t e b a f c.ifs in
-      record { list = clause t e c.list b ∷ []; is = ap (λ z. a_comprehension t e z b no_comprehension) c.is; comps =
-          (u.0, u.1, G.one_comp u.2) }
+      record {
+        list = clause t e c.list b ∷ [];
+        is = ap (λ z. a_comprehension t e z b no_comprehension) c.is;
+        comps =
+            (u.0, u.1, G.one_comp u.2);
+      }
   claused_more t e cs b (a_comprehension t' e' cs' b' gs) a f r (a_clause a' f' r' s) =
       let c = conditions r in
       let u = for_clause t e b a f c.ifs in
@@ -281,28 +348,34 @@ module _ (n : Standing) where
   generator_given l e gs h f s =
       let u = at n Named f in
       let w = claused gs h s in
-      lifted n l (subst (λ z. P.At n Atom (Trees.GeneratorExp e z)) w.is
-      (Op LPar ∷ (u.0 ++ (w.comps.0 ++ (Op RPar ∷ []))),
-          pass_on n u.0 (w.comps.0 ++ (Op RPar ∷ [])) u.1 (pass_on n w.comps.0 (Op RPar ∷ []) w.comps.1 refl),
-          G.generator_group u.2 w.comps.2))
+      lifted n l (subst (λ z. P.At n Atom (Trees.GeneratorExp e z)) w.is (
+        Op LPar ∷ (u.0 ++ (w.comps.0 ++ (Op RPar ∷ []))),
+        pass_on n u.0 (w.comps.0 ++ (Op RPar ∷ [])) u.1 (pass_on n w.comps.0 (Op RPar ∷ []) w.comps.1 refl),
+        G.generator_group u.2 w.comps.2,
+      ))
 
   pub list_comp_given : (l : Level) (e : Expr) (gs : Comprehensions) → has_some gs ≡ true → P.At n Expression e → Clauses n gs
       → P.At n l (Trees.ListComp e gs)
   list_comp_given l e gs h f s =
       let u = at n Named f in
       let w = claused gs h s in
-      lifted n l (subst (λ z. P.At n Atom (Trees.ListComp e z)) w.is
-      (Op LSqb ∷ (u.0 ++ (w.comps.0 ++ (Op RSqb ∷ []))),
-          pass_on n u.0 (w.comps.0 ++ (Op RSqb ∷ [])) u.1 (pass_on n w.comps.0 (Op RSqb ∷ []) w.comps.1 refl), G.list_comp u.2 w.comps.2))
+      lifted n l (subst (λ z. P.At n Atom (Trees.ListComp e z)) w.is (
+        Op LSqb ∷ (u.0 ++ (w.comps.0 ++ (Op RSqb ∷ []))),
+        pass_on n u.0 (w.comps.0 ++ (Op RSqb ∷ [])) u.1 (pass_on n w.comps.0 (Op RSqb ∷ []) w.comps.1 refl),
+        G.list_comp u.2 w.comps.2,
+      ))
 
   pub set_comp_given : (l : Level) (e : Expr) (gs : Comprehensions) → has_some gs ≡ true → P.At n Expression e → Clauses n gs
       → P.At n l (Trees.SetComp e gs)
   set_comp_given l e gs h f s =
       let u = at n Named f in
       let w = claused gs h s in
-      lifted n l (subst (λ z. P.At n Atom (Trees.SetComp e z)) w.is
-      (Op LBrace ∷ (u.0 ++ (w.comps.0 ++ (Op RBrace ∷ []))), pass_on n u.0 (w.comps.0 ++ (Op RBrace ∷ [])) u.1
-          (pass_on n w.comps.0 (Op RBrace ∷ []) w.comps.1 refl), G.set_comp u.2 w.comps.2))
+      lifted n l (subst (λ z. P.At n Atom (Trees.SetComp e z)) w.is (
+        Op LBrace ∷ (u.0 ++ (w.comps.0 ++ (Op RBrace ∷ []))),
+        pass_on n u.0 (w.comps.0 ++ (Op RBrace ∷ [])) u.1
+            (pass_on n w.comps.0 (Op RBrace ∷ []) w.comps.1 refl),
+        G.set_comp u.2 w.comps.2,
+      ))
 
   pub dict_comp_given : (l : Level) (k e : Expr) (gs : Comprehensions) → has_some gs ≡ true → P.At n Expression k → P.At n Expression e
       → Clauses n gs → P.At n l (Trees.DictComp k e gs)

@@ -96,9 +96,11 @@ module _ (n : Tests) where
   type_params profile [] h = ([], refl, F.no_type_params)
   type_params profile (p ∷ ps) h =
       let w = and_parts (has_types profile) (list_all (type_param_fits n) (p ∷ ps)) h in
-      let u = commas (type_param_fits n) type_param p ps w.1 in
-      (Op Sign.LSqb ∷ (u.0 ++ (Op Sign.RSqb ∷ [])), pass_on (outside n) u.0 (Op Sign.RSqb ∷ []) u.1 refl,
-          F.type_params w.0 (F.ends_bare u.2))
+      let u = commas (type_param_fits n) type_param p ps w.1 in (
+        Op Sign.LSqb ∷ (u.0 ++ (Op Sign.RSqb ∷ [])),
+        pass_on (outside n) u.0 (Op Sign.RSqb ∷ []) u.1 refl,
+        F.type_params w.0 (F.ends_bare u.2),
+      )
 
   -- ---- Imports.
 
@@ -207,37 +209,42 @@ module _ (n : Tests) where
     pub annotated_given : (t a : Expr) (v : Option Expr) (simple : Bool) → (is_single t && fits_target n Store t) ≡ true
         → (not simple || is_a_name t) ≡ true →
         fits_at n Expression a ≡ true → perhaps_fits n Value (optional v) ≡ true
-            → GivenAsSpelled (outside n) (F.Simple profile) (Trees.AnnAssign t a v simple)
+        → GivenAsSpelled (outside n) (F.Simple profile) (Trees.AnnAssign t a v simple)
     annotated_given t a v false h s p q =
         let u = single_given n t h in
         let w = made (outside n) Expression a p in
-        let z = behind_given (Op Sign.Equal) Value v refl q in
-        (Op Sign.LPar ∷ (u.0 ++ (Op Sign.RPar ∷ (Op Sign.Colon ∷ (w.0 ++ z.0)))),
-            pass_on (outside n) u.0 (Op Sign.RPar ∷ (Op Sign.Colon ∷ (w.0 ++ z.0))) u.1 (pass_on (outside n) w.0 z.0 w.1 z.1),
-            F.annotated_group u.2 w.2 z.2)
+        let z = behind_given (Op Sign.Equal) Value v refl q in (
+          Op Sign.LPar ∷ (u.0 ++ (Op Sign.RPar ∷ (Op Sign.Colon ∷ (w.0 ++ z.0)))),
+          pass_on (outside n) u.0 (Op Sign.RPar ∷ (Op Sign.Colon ∷ (w.0 ++ z.0))) u.1 (pass_on (outside n) w.0 z.0 w.1 z.1),
+          F.annotated_group u.2 w.2 z.2,
+        )
     annotated_given (Trees.Name x c) a v true h s p q =
         let k = and_parts (is_context Store c) (n.name x) h in
         let w = made (outside n) Expression a p in
         let z = behind_given (Op Sign.Equal) Value v refl q in
-        in_context (λ k. GivenAsSpelled (outside n) (F.Simple profile) (Trees.AnnAssign (Trees.Name x k) a v true)) Store c k.0
-        (in_form x ∷ (Op Sign.Colon ∷ (w.0 ++ z.0)), named_pass (outside n) x (Op Sign.Colon ∷ (w.0 ++ z.0)) k.1
-            (pass_on (outside n) w.0 z.0 w.1 z.1), F.annotated_name w.2 z.2)
+        in_context (λ k. GivenAsSpelled (outside n) (F.Simple profile) (Trees.AnnAssign (Trees.Name x k) a v true)) Store c k.0 (
+          in_form x ∷ (Op Sign.Colon ∷ (w.0 ++ z.0)),
+          named_pass (outside n) x (Op Sign.Colon ∷ (w.0 ++ z.0)) k.1
+              (pass_on (outside n) w.0 z.0 w.1 z.1),
+          F.annotated_name w.2 z.2,
+        )
     annotated_given _ a v true h s p q = absurd (never s)
 
     pub alias_assigned : n.name type_name ≡ true → (t : Expr) (ps : List TypeParam) (e : Expr) → has_types profile ≡ true
         → is_a_name t ≡ true → fits_target n Store t ≡ true →
         list_all (type_param_fits n) ps ≡ true → fits_at n Expression e ≡ true
-            → GivenAsSpelled (outside n) (F.Simple profile) (Trees.TypeAlias t ps e)
+        → GivenAsSpelled (outside n) (F.Simple profile) (Trees.TypeAlias t ps e)
     alias_assigned typed (Trees.Name x c) ps e h s f q p =
         let k = and_parts (is_context Store c) (n.name x) f in
         let u = type_params profile ps (and_from (no_types ps || has_types profile) (list_all (type_param_fits n) ps)
-            (either (no_types ps) (has_types profile) h) q) in
+        (either (no_types ps) (has_types profile) h) q) in
         let v = made (outside n) Expression e p in
-        in_context (λ k. GivenAsSpelled (outside n) (F.Simple profile) (Trees.TypeAlias (Trees.Name x k) ps e)) Store c k.0
-        (in_form type_name ∷ (in_form x ∷ (u.0 ++ (Op Sign.Equal ∷ v.0))),
-            named_pass (outside n) type_name (in_form x ∷ (u.0 ++ (Op Sign.Equal ∷ v.0))) typed
-            (named_pass (outside n) x (u.0 ++ (Op Sign.Equal ∷ v.0)) k.1 (pass_on (outside n) u.0 (Op Sign.Equal ∷ v.0) u.1 v.1)),
-            F.type_alias h u.2 v.2)
+        in_context (λ k. GivenAsSpelled (outside n) (F.Simple profile) (Trees.TypeAlias (Trees.Name x k) ps e)) Store c k.0 (
+          in_form type_name ∷ (in_form x ∷ (u.0 ++ (Op Sign.Equal ∷ v.0))),
+          named_pass (outside n) type_name (in_form x ∷ (u.0 ++ (Op Sign.Equal ∷ v.0))) typed
+              (named_pass (outside n) x (u.0 ++ (Op Sign.Equal ∷ v.0)) k.1 (pass_on (outside n) u.0 (Op Sign.Equal ∷ v.0) u.1 v.1)),
+          F.type_alias h u.2 v.2,
+        )
       where
         either : (a b : Bool) → b ≡ true → (a || b) ≡ true
         either true b h = refl
@@ -252,9 +259,11 @@ module _ (n : Tests) where
     raise_given (Some e) (Some c) h =
         let w = and_parts (fits_at n Expression e) (fits_at n Expression c) h in
         let u = made (outside n) Expression e w.0 in
-        let v = made (outside n) Expression c w.1 in
-        (Word Key.Raise ∷ (u.0 ++ (Word Key.From ∷ v.0)), pass_on (outside n) u.0 (Word Key.From ∷ v.0) u.1 v.1,
-            F.raise_of u.2 (F.behind v.2))
+        let v = made (outside n) Expression c w.1 in (
+          Word Key.Raise ∷ (u.0 ++ (Word Key.From ∷ v.0)),
+          pass_on (outside n) u.0 (Word Key.From ∷ v.0) u.1 v.1,
+          F.raise_of u.2 (F.behind v.2),
+        )
 
     pub assert_given : (e : Expr) (m : Option Expr) → fits_at n Expression e ≡ true → perhaps_fits n Expression (optional m) ≡ true
         → GivenAsSpelled (outside n) (F.Simple profile) (Trees.Assert e m)
@@ -286,15 +295,20 @@ module _ (n : Tests) where
         → imports_fit n.name as_ ≡ true → GivenAsSpelled (outside n) (F.Simple profile) (Trees.ImportFrom m as_ k)
     import_from_given None as_ k h q =
         let u = dots_given k in
-        let v = names_given as_ q in
-        (Word Key.From ∷ (u.0 ++ (Word Key.Import ∷ v.0)), pass_on (outside n) u.0 (Word Key.Import ∷ v.0) u.1 v.1,
-            F.from_dots u.2 (ltb-true 0 k h) v.2)
+        let v = names_given as_ q in (
+          Word Key.From ∷ (u.0 ++ (Word Key.Import ∷ v.0)),
+          pass_on (outside n) u.0 (Word Key.Import ∷ v.0) u.1 v.1,
+          F.from_dots u.2 (ltb-true 0 k h) v.2,
+        )
     import_from_given (Some m) as_ k h q =
         let u = dots_given k in
         let w = dotted_given n m h in
-        let v = names_given as_ q in
-        (Word Key.From ∷ (u.0 ++ (w.0 ++ (Word Key.Import ∷ v.0))), pass_on (outside n) u.0 (w.0 ++ (Word Key.Import ∷ v.0)) u.1
-            (pass_on (outside n) w.0 (Word Key.Import ∷ v.0) w.1 v.1), F.from_module u.2 w.2 v.2)
+        let v = names_given as_ q in (
+          Word Key.From ∷ (u.0 ++ (w.0 ++ (Word Key.Import ∷ v.0))),
+          pass_on (outside n) u.0 (w.0 ++ (Word Key.Import ∷ v.0)) u.1
+              (pass_on (outside n) w.0 (Word Key.Import ∷ v.0) w.1 v.1),
+          F.from_module u.2 w.2 v.2,
+        )
 
     -- ---- Headers.
 
@@ -313,9 +327,12 @@ module _ (n : Tests) where
     for_given b t e h q =
         let a = async_given b in
         let u = target_given n t h in
-        let v = made (outside n) Stars e q in
-        (a.0 ++ (Word Key.For ∷ (u.0 ++ (Word Key.In ∷ v.0))), pass_on (outside n) a.0 (Word Key.For ∷ (u.0 ++ (Word Key.In ∷ v.0))) a.1
-            (pass_on (outside n) u.0 (Word Key.In ∷ v.0) u.1 v.1), F.for_line a.2 u.2 v.2)
+        let v = made (outside n) Stars e q in (
+          a.0 ++ (Word Key.For ∷ (u.0 ++ (Word Key.In ∷ v.0))),
+          pass_on (outside n) a.0 (Word Key.For ∷ (u.0 ++ (Word Key.In ∷ v.0))) a.1
+              (pass_on (outside n) u.0 (Word Key.In ∷ v.0) u.1 v.1),
+          F.for_line a.2 u.2 v.2,
+        )
 
     item_given : (i : Item) → item_fits n i ≡ true → GivenAsSpelled (outside n) F.ItemOf i
     item_given i h = let w = and_parts (fits_at n Expression i.context_expr) (perhaps_target_fits n i.optional_vars) h in
@@ -334,10 +351,11 @@ module _ (n : Tests) where
     with_given b is h q =
         let a = async_given b in
         let u = some_commas (item_fits n) item_given is h q in
-        let ts : List Terminal = Op Sign.LPar ∷ (u.0 ++ (Op Sign.RPar ∷ [])) in
-        (a.0 ++ (Word Key.With ∷ ts),
-            pass_on (outside n) a.0 (Word Key.With ∷ ts) a.1 (pass_on (outside n) u.0 (Op Sign.RPar ∷ []) u.1 refl),
-            F.with_line a.2 (F.in_brackets (F.bracketed (F.ends_bare u.2))))
+        let ts : List Terminal = Op Sign.LPar ∷ (u.0 ++ (Op Sign.RPar ∷ [])) in (
+          a.0 ++ (Word Key.With ∷ ts),
+          pass_on (outside n) a.0 (Word Key.With ∷ ts) a.1 (pass_on (outside n) u.0 (Op Sign.RPar ∷ []) u.1 refl),
+          F.with_line a.2 (F.in_brackets (F.bracketed (F.ends_bare u.2))),
+        )
 
     pub except_given : (star : Bool) (class : Option Expr) (name : Option Identifier) → caught_fits n star class name ≡ true
         → GivenAsSpelled (outside n) (F.HeaderOf profile) (except_header star class name)
@@ -353,13 +371,13 @@ module _ (n : Tests) where
         by : (star : Bool) (ts : List Terminal) → Passed (outside n) ts
             → F.HeaderOf profile (Word Key.Except ∷ ts) (except_header false (Some e) name) →
             F.HeaderOf profile (Word Key.Except ∷ (Op Sign.Star ∷ ts)) (except_header true (Some e) name)
-                → GivenAsSpelled (outside n) (F.HeaderOf profile) (except_header star (Some e) name)
+            → GivenAsSpelled (outside n) (F.HeaderOf profile) (except_header star (Some e) name)
         by false ts s p q = (Word Key.Except ∷ ts, s, p)
         by true ts s p q = (Word Key.Except ∷ (Op Sign.Star ∷ ts), s, q)
 
     pub function_given : (b : Bool) (x : Identifier) (tps : List TypeParam) (a : Arguments) (r : Option Expr) →
         n.name x ≡ true → types_fit profile n tps ≡ true → fits_arguments n true a ≡ true → perhaps_fits n Expression (optional r) ≡ true
-            → GivenAsSpelled (outside n) (F.HeaderOf profile) (def_header (function_head b x tps a r))
+        → GivenAsSpelled (outside n) (F.HeaderOf profile) (def_header (function_head b x tps a r))
     function_given b x tps a r h t f q =
         let s = async_given b in
         let u = type_params profile tps t in
@@ -379,27 +397,31 @@ module _ (n : Tests) where
 
     pub class_given : (x : Identifier) (tps : List TypeParam) (bases : List Expr) (ks : Keywords) →
         n.name x ≡ true → types_fit profile n tps ≡ true → (each_fits n Elem (exprs bases) && each_keyword_fits n ks) ≡ true
-            → GivenAsSpelled (outside n) (F.HeaderOf profile) (def_header (class_head x tps bases ks))
+        → GivenAsSpelled (outside n) (F.HeaderOf profile) (def_header (class_head x tps bases ks))
     class_given x tps bases ks h t f =
         let u = type_params profile tps t in
         let v = arguments_given n (exprs bases) ks f in
         let a = v.2 in
         let vs = Op Sign.LPar ∷ (v.0 ++ (Op Sign.RPar ∷ [])) in
         let b : F.Bases vs bases ks =
-            subst (λ z. F.Bases vs z ks) (listed_same bases) (subst (λ z. F.Bases vs (listed z) ks) a.positional_are
-            (subst (λ z. F.Bases vs (listed (positional a.entries)) z) a.keywords_are (F.bases a.listing a.order))) in
-        (Word Key.Class ∷ (in_form x ∷ (u.0 ++ vs)),
-            named_pass (outside n) x (u.0 ++ vs) h (pass_on (outside n) u.0 vs u.1 (pass_on (outside n) v.0 (Op Sign.RPar ∷ []) v.1 refl)),
-            F.class_line u.2 b)
+        subst (λ z. F.Bases vs z ks) (listed_same bases) (subst (λ z. F.Bases vs (listed z) ks) a.positional_are
+        (subst (λ z. F.Bases vs (listed (positional a.entries)) z) a.keywords_are (F.bases a.listing a.order))) in (
+          Word Key.Class ∷ (in_form x ∷ (u.0 ++ vs)),
+          named_pass (outside n) x (u.0 ++ vs) h (pass_on (outside n) u.0 vs u.1 (pass_on (outside n) v.0 (Op Sign.RPar ∷ []) v.1 refl)),
+          F.class_line u.2 b,
+        )
 
     -- ---- `match` and `case`.
 
     pub match_given : (e : Expr) → n.name match_name ≡ true → is_whole profile.extent ≡ true → fits_at n Expression e ≡ true
         → GivenAsSpelled (outside n) (F.FormOf profile) (header_form (match_header e) None)
     match_given e m q h =
-        let u = P.at (outside n) Subject (made (outside n) Expression e h) in
-        (in_form match_name ∷ (u.0 ++ (Op Sign.Colon ∷ [])), named_pass (outside n) match_name (u.0 ++ (Op Sign.Colon ∷ [])) m
-            (pass_on (outside n) u.0 (Op Sign.Colon ∷ []) u.1 refl), F.match_line match_name q u.2)
+        let u = P.at (outside n) Subject (made (outside n) Expression e h) in (
+          in_form match_name ∷ (u.0 ++ (Op Sign.Colon ∷ [])),
+          named_pass (outside n) match_name (u.0 ++ (Op Sign.Colon ∷ [])) m
+              (pass_on (outside n) u.0 (Op Sign.Colon ∷ []) u.1 refl),
+          F.match_line match_name q u.2,
+        )
 
     guard : (g : Option Expr) → perhaps_fits n Expression (optional g) ≡ true → perhaps_fits n Named (optional g) ≡ true
     guard None h = refl
@@ -409,6 +431,8 @@ module _ (n : Tests) where
         → perhaps_fits n Expression (optional g) ≡ true → GivenAsSpelled (outside n) F.CaseOf (case_header p g)
     case_given p g m h q =
         let u = pattern_given n Patterns p (fits_anywhere n AsPattern Patterns p refl h) in
-        let v = behind_given (Word Key.If) Named g refl (guard g q) in
-        (in_form case_name ∷ (u.0 ++ v.0), named_pass (outside n) case_name (u.0 ++ v.0) m (pass_on (outside n) u.0 v.0 u.1 v.1),
-            F.case_line case_name u.2 v.2)
+        let v = behind_given (Word Key.If) Named g refl (guard g q) in (
+          in_form case_name ∷ (u.0 ++ v.0),
+          named_pass (outside n) case_name (u.0 ++ v.0) m (pass_on (outside n) u.0 v.0 u.1 v.1),
+          F.case_line case_name u.2 v.2,
+        )

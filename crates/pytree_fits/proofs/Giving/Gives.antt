@@ -76,9 +76,9 @@ mutual
   made n l (Trees.YieldFrom e) h = yield_from_given n l e (made n Expression e h)
   made n l (Trees.Compare a os es) h =
       let w = parts4 (leb 1 (length os)) (eqb (length os) (count es)) (fits_at (here n) Expression a)
-          (each_fits (here n) Expression es) h in
+      (each_fits (here n) Expression es) h in
       compare_given n l a os es (leb-true 1 (length os) w.0) (eqb-true (length os) (count es) w.1) (made n Expression a w.2)
-          (each n Expression es w.3)
+      (each n Expression es w.3)
   made n l (Trees.Call f es ks) h =
       let w = parts3 (fits_at (here n) Expression f) (each_fits (here n) Elem es) (each_keyword_fits (here n) ks) h in
       call_given n l f es ks (made n Expression f w.0) (positional n es w.1) (labelled n ks w.2)
@@ -93,7 +93,7 @@ mutual
   made n l (Trees.Subscript e s c) h =
       let w = parts3 (is_context Load c) (fits_at (here n) Expression e) (fits_at (here n) Slices s) h in
       in_context (λ k. P.At n l (Trees.Subscript e s k)) Load c w.0
-          (subscript_given n l e s (made n Expression e w.1) (made n Slices s w.2))
+      (subscript_given n l e s (made n Expression e w.1) (made n Slices s w.2))
   made n l (Trees.Starred e c) h =
       let w = parts3 (takes_star l) (is_context Load c) (fits_at (here n) Expression e) h in
       in_context (λ k. P.At n l (Trees.Starred e k)) Load c w.1 (starred_at n l w.0 (made n Expression e w.2))
@@ -106,7 +106,7 @@ mutual
       in_context (λ k. P.At n l (Trees.Tuple es k)) Load c w.0 (tuple_given n l es (each n (member_level l) es w.1))
   made n l (Trees.Slice a b c) h =
       let w = parts4 (takes_slice l) (perhaps_fits (here n) Expression a) (perhaps_fits (here n) Expression b)
-          (perhaps_fits (here n) Expression c) h in
+      (perhaps_fits (here n) Expression c) h in
       slice_given n l a b c w.0 (may_be n Expression a w.1) (may_be n Expression b w.2) (may_be n Expression c w.3)
 
   pub aim : (n : Standing) → (s : Expr) → fits_target (here n) Store s ≡ true → Aim n s
@@ -165,7 +165,7 @@ mutual
   clauses n no_comprehension h = no_clause
   clauses n (a_comprehension t e cs b gs) h =
       let w = parts4 (fits_target (here n) Store t) (fits_at (here n) Expression e) (each_fits (here n) Expression cs)
-          (each_clause_fits (here n) gs) h in
+      (each_clause_fits (here n) gs) h in
       a_clause (aim n t w.0) (made n Expression e w.1) (each n Expression cs w.2) (clauses n gs w.3)
 
   -- the values of an f-string or of a format spec
@@ -179,7 +179,7 @@ mutual
       text_formed n d u s c cs t es w.0 r.0 (values n d u s true es w.1 a r.1)
   values n d u s b (an_expr (Trees.FormattedValue e c o) es) h a k =
       let w = and_parts (leb d 1 && fits_at (in_field (here n)) Expression e && spec_fits (here n) (suc d) o)
-          (each_value_fits (here n) d es) h in
+      (each_value_fits (here n) d es) h in
       let x = parts3 (leb d 1) (fits_at (in_field (here n)) Expression e) (spec_fits (here n) (suc d) o) w.0 in
       let r = and_parts (spec_has_kind u o) (have_kind u s es) k in
       field_formed n d u s b e c o es x.0 (made (in_string n (suc d)) Expression e x.1) (spec n (suc d) u o x.2 r.0)

@@ -141,7 +141,10 @@ module _ (p : Profile) (n : Tests) where
   cased l h {xs} q w r = record {
     deep = first_deep l (header_form h None) xs r.deep;
     given = λ earlier e. one_spelled
-        (subst (λ b. GivenAsSpelled (outside n) (F.FormAt p b) (header_form h None)) (sym e) (w.0 ++ (Op Colon ∷ []),
-            pass_on (outside n) w.0 (Op Colon ∷ []) w.1 refl, F.case_alone q w.2))
+        (subst (λ b. GivenAsSpelled (outside n) (F.FormAt p b) (header_form h None)) (sym e) (
+          w.0 ++ (Op Colon ∷ []),
+          pass_on (outside n) w.0 (Op Colon ∷ []) w.1 refl,
+          F.case_alone q w.2,
+        ))
         (r.given earlier e);
   }

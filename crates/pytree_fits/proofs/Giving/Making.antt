@@ -137,8 +137,12 @@ module _ (n : Standing) where
   linked o {e = e} f (one_more g r) =
       let u = at n (below (chain_level o)) f in
       let w = linked o g r in
-      record { list = e ∷ w.list; is = ap (an_expr e) w.is; links =
-          (u.0 ++ (Word (chain_word o) ∷ w.links.0), pass_on n u.0 (Word (chain_word o) ∷ w.links.0) u.1 w.links.1, G.link u.2 w.links.2) }
+      record {
+        list = e ∷ w.list;
+        is = ap (an_expr e) w.is;
+        links =
+            (u.0 ++ (Word (chain_word o) ∷ w.links.0), pass_on n u.0 (Word (chain_word o) ∷ w.links.0) u.1 w.links.1, G.link u.2 w.links.2);
+      }
 
   level_inner : (o : BoolOperator) → inner (chain_level o) ≡ true
   level_inner Join.And = refl
@@ -183,9 +187,15 @@ module _ (n : Standing) where
       let s = compared o in
       let u = at n BitOr f in
       let w = rightwards p os (omega (arith, h)) g r in
-      record { list = e ∷ w.list; is = ap (an_expr e) w.is; right =
-          (s.0 ++ (u.0 ++ w.right.0), pass_on n s.0 (u.0 ++ w.right.0) s.1 (pass_on n u.0 w.right.0 u.1 w.right.1),
-          G.compares s.2 u.2 w.right.2) }
+      record {
+        list = e ∷ w.list;
+        is = ap (an_expr e) w.is;
+        right = (
+          s.0 ++ (u.0 ++ w.right.0),
+          pass_on n s.0 (u.0 ++ w.right.0) s.1 (pass_on n u.0 w.right.0 u.1 w.right.1),
+          G.compares s.2 u.2 w.right.2,
+        );
+      }
 
   pub compare_given : (l : Level) (a : Expr) (os : List Comparison) (es : Exprs) → 1 ≤ length os → length os ≡ count es
       → P.At n Expression a → Each n Expression es → P.At n l (Trees.Compare a os es)
@@ -194,22 +204,31 @@ module _ (n : Standing) where
   compare_given l a (o ∷ os) (an_expr e es) h q f (one_more g r) =
       let u = at n BitOr f in
       let w = rightwards o os (omega (arith, q)) g r in
-      anywhere_at n Compare refl (subst (λ z. P.At n Compare (Trees.Compare a (o ∷ os) z)) w.is (u.0 ++ w.right.0,
-          pass_on n u.0 w.right.0 u.1 w.right.1, G.compare u.2 w.right.2)) l
+      anywhere_at n Compare refl (subst (λ z. P.At n Compare (Trees.Compare a (o ∷ os) z)) w.is (
+        u.0 ++ w.right.0,
+        pass_on n u.0 w.right.0 u.1 w.right.1,
+        G.compare u.2 w.right.2,
+      )) l
 
   pub if_given : (l : Level) (a b c : Expr) → P.At n Expression a → P.At n Expression b → P.At n Expression c → P.At n l (Trees.IfExp a b c)
   if_given l a b c f g h =
       let u = at n Or g in
       let v = at n Or f in
       let w = at n Expression h in
-      anywhere_at n Expression refl
-      (u.0 ++ (Word Key.If ∷ (v.0 ++ (Word Key.Else ∷ w.0))), pass_on n u.0 (Word Key.If ∷ (v.0 ++ (Word Key.Else ∷ w.0))) u.1
-          (pass_on n v.0 (Word Key.Else ∷ w.0) v.1 w.1), G.if_else u.2 v.2 w.2) l
+      anywhere_at n Expression refl (
+        u.0 ++ (Word Key.If ∷ (v.0 ++ (Word Key.Else ∷ w.0))),
+        pass_on n u.0 (Word Key.If ∷ (v.0 ++ (Word Key.Else ∷ w.0))) u.1
+            (pass_on n v.0 (Word Key.Else ∷ w.0) v.1 w.1),
+        G.if_else u.2 v.2 w.2,
+      ) l
 
   pub named_given : (l : Level) (x : Identifier) (e : Expr) → n.tests.name x ≡ true → P.At n Expression e
       → P.At n l (Trees.NamedExpr (Trees.Name x Store) e)
-  named_given l x e h f = anywhere_at n Named refl (in_form x ∷ (Op ColonEqual ∷ f.0),
-      named_pass n x (Op ColonEqual ∷ f.0) h f.1, G.named f.2) l
+  named_given l x e h f = anywhere_at n Named refl (
+    in_form x ∷ (Op ColonEqual ∷ f.0),
+    named_pass n x (Op ColonEqual ∷ f.0) h f.1,
+    G.named f.2,
+  ) l
 
   -- ---- Yields.
 
@@ -232,9 +251,12 @@ module _ (n : Standing) where
       elems : Each n Elem (an_expr e es) → P.At n Atom (Trees.Tuple (an_expr e es) Load)
       elems (one_more f r) =
           let w = listing (single_pieces r) in
-          subst (λ z. P.At n Atom (Trees.Tuple (an_expr e z) Load)) (singles_are es)
-          (Op LPar ∷ (f.0 ++ (Op Comma ∷ (w.0 ++ (Op RPar ∷ [])))), pass_on n f.0 (Op Comma ∷ (w.0 ++ (Op RPar ∷ []))) f.1
-              (pass_on n w.0 (Op RPar ∷ []) w.1 refl), G.tuple f.2 w.2)
+          subst (λ z. P.At n Atom (Trees.Tuple (an_expr e z) Load)) (singles_are es) (
+            Op LPar ∷ (f.0 ++ (Op Comma ∷ (w.0 ++ (Op RPar ∷ [])))),
+            pass_on n f.0 (Op Comma ∷ (w.0 ++ (Op RPar ∷ []))) f.1
+                (pass_on n w.0 (Op RPar ∷ []) w.1 refl),
+            G.tuple f.2 w.2,
+          )
 
       parts : Each n Part (an_expr e es) → P.At n Slices (Trees.Tuple (an_expr e es) Load)
       parts (one_more f r) =
@@ -249,15 +271,21 @@ module _ (n : Standing) where
   pub list_given : (l : Level) (es : Exprs) → Each n Elem es → P.At n l (Trees.ListOf es Load)
   list_given l es r =
       let w = listing (single_pieces r) in
-      lifted n l (subst (λ z. P.At n Atom (Trees.ListOf z Load)) (singles_are es) (Op LSqb ∷ (w.0 ++ (Op RSqb ∷ [])),
-          pass_on n w.0 (Op RSqb ∷ []) w.1 refl, G.list w.2))
+      lifted n l (subst (λ z. P.At n Atom (Trees.ListOf z Load)) (singles_are es) (
+        Op LSqb ∷ (w.0 ++ (Op RSqb ∷ [])),
+        pass_on n w.0 (Op RSqb ∷ []) w.1 refl,
+        G.list w.2,
+      ))
 
   pub set_given : (l : Level) (es : Exprs) → 1 ≤ count es → Each n Elem es → P.At n l (Trees.Set es)
   set_given l no_exprs h no_more = absurd (omega (arith, h))
   set_given l (an_expr e es) h (one_more f r) =
       let w = listing (single_pieces (one_more f r)) in
-      lifted n l (subst (λ z. P.At n Atom (Trees.Set (an_expr e z))) (singles_are es) (Op LBrace ∷ (w.0 ++ (Op RBrace ∷ [])),
-          pass_on n w.0 (Op RBrace ∷ []) w.1 refl, G.set w.2))
+      lifted n l (subst (λ z. P.At n Atom (Trees.Set (an_expr e z))) (singles_are es) (
+        Op LBrace ∷ (w.0 ++ (Op RBrace ∷ [])),
+        pass_on n w.0 (Op RBrace ∷ []) w.1 refl,
+        G.set w.2,
+      ))
 
   -- ---- Attributes, subscripts, slices.
 
@@ -265,14 +293,21 @@ module _ (n : Standing) where
       → P.At n l (Trees.Attribute e x Load)
   attribute_given l e x h f =
       let u = at n Primary f in
-      anywhere_at n Primary refl (u.0 ++ (Op Dot ∷ (in_form x ∷ [])),
-          pass_on n u.0 (Op Dot ∷ (in_form x ∷ [])) u.1 (named_pass n x [] h refl), G.attribute _ u.2) l
+      anywhere_at n Primary refl (
+        u.0 ++ (Op Dot ∷ (in_form x ∷ [])),
+        pass_on n u.0 (Op Dot ∷ (in_form x ∷ [])) u.1 (named_pass n x [] h refl),
+        G.attribute _ u.2,
+      ) l
 
   pub subscript_given : (l : Level) (e s : Expr) → P.At n Expression e → P.At n Slices s → P.At n l (Trees.Subscript e s Load)
   subscript_given l e s f g =
       let u = at n Primary f in
-      anywhere_at n Primary refl (u.0 ++ (Op LSqb ∷ (g.0 ++ (Op RSqb ∷ []))), pass_on n u.0 (Op LSqb ∷ (g.0 ++ (Op RSqb ∷ []))) u.1
-          (pass_on n g.0 (Op RSqb ∷ []) g.1 refl), G.subscript u.2 g.2) l
+      anywhere_at n Primary refl (
+        u.0 ++ (Op LSqb ∷ (g.0 ++ (Op RSqb ∷ []))),
+        pass_on n u.0 (Op LSqb ∷ (g.0 ++ (Op RSqb ∷ []))) u.1
+            (pass_on n g.0 (Op RSqb ∷ []) g.1 refl),
+        G.subscript u.2 g.2,
+      ) l
 
   may_be : {l : Level} {e : OptionalExpr} → MayBe n l e → GivenAsSpelled n (G.Perhaps l) e
   may_be left_out = ([], refl, G.nothing)
@@ -290,5 +325,9 @@ module _ (n : Standing) where
       let u = may_be f in
       let v = may_be g in
       let w = may_be k in
-      slice_at l h (u.0 ++ (Op Colon ∷ (v.0 ++ (Op Colon ∷ w.0))), pass_on n u.0 (Op Colon ∷ (v.0 ++ (Op Colon ∷ w.0))) u.1
-          (pass_on n v.0 (Op Colon ∷ w.0) v.1 w.1), G.slice_step u.2 v.2 w.2)
+      slice_at l h (
+        u.0 ++ (Op Colon ∷ (v.0 ++ (Op Colon ∷ w.0))),
+        pass_on n u.0 (Op Colon ∷ (v.0 ++ (Op Colon ∷ w.0))) u.1
+            (pass_on n v.0 (Op Colon ∷ w.0) v.1 w.1),
+        G.slice_step u.2 v.2 w.2,
+      )

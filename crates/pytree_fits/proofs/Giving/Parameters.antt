@@ -74,16 +74,24 @@ module _ (n : Standing) (b : Bool) where
 
   plain_none : {a : Arg} → ArgMade n b a → Piece (Plain a absent)
   plain_none (bare {x = x} h) = (in_form x ∷ ([] ++ []), named_pass n x [] h refl, G.parameter G.no_suffix G.no_suffix)
-  plain_none (noted {x = x} {e = e} h q f) = annotated_too (Plain (arg x (present e)) absent) q
-      (in_form x ∷ ((Op Colon ∷ f.0) ++ []), named_pass n x ((Op Colon ∷ f.0) ++ []) h (pass_on n f.0 [] f.1 refl),
-          G.parameter (G.suffix f.2) G.no_suffix)
+  plain_none (noted {x = x} {e = e} h q f) = annotated_too (Plain (arg x (present e)) absent) q (
+    in_form x ∷ ((Op Colon ∷ f.0) ++ []),
+    named_pass n x ((Op Colon ∷ f.0) ++ []) h (pass_on n f.0 [] f.1 refl),
+    G.parameter (G.suffix f.2) G.no_suffix,
+  )
 
   plain_some : {a : Arg} (d : Expr) → ArgMade n b a → P.At n Expression d → Piece (Plain a (present d))
-  plain_some d (bare {x = x} h) g = (in_form x ∷ ([] ++ (Op Equal ∷ g.0)), named_pass n x (Op Equal ∷ g.0) h g.1,
-      G.parameter G.no_suffix (G.suffix g.2))
-  plain_some d (noted {x = x} {e = e} h q f) g = annotated_too (Plain (arg x (present e)) (present d)) q
-      (in_form x ∷ ((Op Colon ∷ f.0) ++ (Op Equal ∷ g.0)), named_pass n x ((Op Colon ∷ f.0) ++ (Op Equal ∷ g.0)) h
-          (pass_on n f.0 (Op Equal ∷ g.0) f.1 g.1), G.parameter (G.suffix f.2) (G.suffix g.2))
+  plain_some d (bare {x = x} h) g = (
+    in_form x ∷ ([] ++ (Op Equal ∷ g.0)),
+    named_pass n x (Op Equal ∷ g.0) h g.1,
+    G.parameter G.no_suffix (G.suffix g.2),
+  )
+  plain_some d (noted {x = x} {e = e} h q f) g = annotated_too (Plain (arg x (present e)) (present d)) q (
+    in_form x ∷ ((Op Colon ∷ f.0) ++ (Op Equal ∷ g.0)),
+    named_pass n x ((Op Colon ∷ f.0) ++ (Op Equal ∷ g.0)) h
+        (pass_on n f.0 (Op Equal ∷ g.0) f.1 g.1),
+    G.parameter (G.suffix f.2) (G.suffix g.2),
+  )
 
   gathered : {a : Arg} → ArgMade n b a → Piece (Gathered a)
   gathered (bare {x = x} h) = (Op Star ∷ (in_form x ∷ []), named_pass n x [] h refl, G.star_parameter G.no_suffix)
@@ -106,19 +114,34 @@ module _ (n : Standing) (b : Bool) where
   after_run : {ks : Args} {ds : OptionalExprs} {k : OptionalArg} → count_optional ds ≡ count_args ks → ArgsMade n b ks → Keys n ds
       → OptionalArgMade n b k → Run n b after_star false (arguments no_arg no_arg absent_arg ks ds k no_exprs)
   after_run q no_args no_keys none_made = record { list = []; is = refl; slash = refl; pieces = no_piece }
-  after_run q no_args no_keys (one_made {a = a} g) = record { list = Collected a ∷ []; is = refl; slash = refl; pieces =
-      a_piece (collected g) no_piece }
+  after_run q no_args no_keys (one_made {a = a} g) = record {
+    list = Collected a ∷ [];
+    is = refl;
+    slash = refl;
+    pieces =
+        a_piece (collected g) no_piece;
+  }
   after_run q no_args (no_key s) g = absurd (omega (arith, q))
   after_run q no_args (a_key f s) g = absurd (omega (arith, q))
   after_run q (more_args h r) no_keys g = absurd (omega (arith, q))
   after_run q (more_args {a = a} h r) (no_key s) g =
       let w = after_run (omega (arith, q)) r s g in
-      record { list = Plain a absent ∷ w.list; is = ap (option_map (add_keyword_only a absent)) w.is; slash = w.slash; pieces =
-          a_piece (plain_none h) w.pieces }
+      record {
+        list = Plain a absent ∷ w.list;
+        is = ap (option_map (add_keyword_only a absent)) w.is;
+        slash = w.slash;
+        pieces =
+            a_piece (plain_none h) w.pieces;
+      }
   after_run q (more_args {a = a} h r) (a_key {k = d} f s) g =
       let w = after_run (omega (arith, q)) r s g in
-      record { list = Plain a (present d) ∷ w.list; is = ap (option_map (add_keyword_only a (present d))) w.is; slash = w.slash; pieces =
-          a_piece (plain_some d h f) w.pieces }
+      record {
+        list = Plain a (present d) ∷ w.list;
+        is = ap (option_map (add_keyword_only a (present d))) w.is;
+        slash = w.slash;
+        pieces =
+            a_piece (plain_some d h f) w.pieces;
+      }
 
   -- from the star on
   star_is : (z : Bool) (a : Arg) (es : List Entry) → plain_ones z (Gathered a ∷ es) ≡ at_star (Gathered a ∷ es)
@@ -141,27 +164,52 @@ module _ (n : Standing) (b : Bool) where
       → count_optional ds ≡ count_args ks → ArgsMade n b ks → Keys n ds → OptionalArgMade n b k
       → Run n b (plain_ones z) false (arguments no_arg no_arg v ks ds k no_exprs)
   star_run z (unstarred (one_made {a = a} p)) q h s g = let w = after_run q h s g in
-      record { list = Gathered a ∷ w.list; is = star_is z a w.list ∙ ap (option_map (set_vararg a)) w.is; slash = w.slash; pieces =
-      a_piece (gathered p) w.pieces }
+      record {
+        list = Gathered a ∷ w.list;
+        is = star_is z a w.list ∙ ap (option_map (set_vararg a)) w.is;
+        slash = w.slash;
+        pieces =
+            a_piece (gathered p) w.pieces;
+      }
   star_run z (starred {x = x} {e = e} r p f) q h s g = let w = after_run q h s g in let a = arg x (present (Trees.Starred e Load)) in
-      record { list = Gathered a ∷ w.list; is = star_is z a w.list ∙ ap (option_map (set_vararg a)) w.is; slash = w.slash; pieces =
-      a_piece (gathered_star x e r p f) w.pieces }
+      record {
+        list = Gathered a ∷ w.list;
+        is = star_is z a w.list ∙ ap (option_map (set_vararg a)) w.is;
+        slash = w.slash;
+        pieces =
+            a_piece (gathered_star x e r p f) w.pieces;
+      }
   star_run z (unstarred none_made) q no_args no_keys none_made = record { list = []; is = none_is z; slash = refl; pieces = no_piece }
-  star_run z (unstarred none_made) q no_args no_keys (one_made {a = a} g) = record { list = Collected a ∷ []; is = double_is z [] a; slash =
-      refl; pieces = a_piece (collected g) no_piece }
+  star_run z (unstarred none_made) q no_args no_keys (one_made {a = a} g) = record {
+    list = Collected a ∷ [];
+    is = double_is z [] a;
+    slash =
+        refl;
+    pieces = a_piece (collected g) no_piece;
+  }
   star_run z (unstarred none_made) q no_args (no_key s) g = absurd (omega (arith, q))
   star_run z (unstarred none_made) q no_args (a_key f s) g = absurd (omega (arith, q))
   star_run z (unstarred none_made) q (more_args h r) no_keys g = absurd (omega (arith, q))
   star_run z (unstarred none_made) q (more_args {a = a} h r) (no_key s) g =
       let w = after_run (omega (arith, q)) r s g in
-      record { list = Bare ∷ (Plain a absent ∷ w.list); is = bare_is z (Plain a absent ∷ w.list)
-          ∙ ap (option_map (add_keyword_only a absent)) w.is; slash = w.slash; pieces =
-          a_piece bare_piece (a_piece (plain_none h) w.pieces) }
+      record {
+        list = Bare ∷ (Plain a absent ∷ w.list);
+        is = bare_is z (Plain a absent ∷ w.list)
+            ∙ ap (option_map (add_keyword_only a absent)) w.is;
+        slash = w.slash;
+        pieces =
+            a_piece bare_piece (a_piece (plain_none h) w.pieces);
+      }
   star_run z (unstarred none_made) q (more_args {a = a} h r) (a_key {k = d} f s) g =
       let w = after_run (omega (arith, q)) r s g in
-      record { list = Bare ∷ (Plain a (present d) ∷ w.list); is = bare_is z (Plain a (present d) ∷ w.list)
-          ∙ ap (option_map (add_keyword_only a (present d))) w.is; slash = w.slash; pieces =
-          a_piece bare_piece (a_piece (plain_some d h f) w.pieces) }
+      record {
+        list = Bare ∷ (Plain a (present d) ∷ w.list);
+        is = bare_is z (Plain a (present d) ∷ w.list)
+            ∙ ap (option_map (add_keyword_only a (present d))) w.is;
+        slash = w.slash;
+        pieces =
+            a_piece bare_piece (a_piece (plain_some d h f) w.pieces);
+      }
 
   -- what stands from the star on
   module _ (v : OptionalArg) (ks : Args) (ds : OptionalExprs) (k : OptionalArg) (rest : (z : Bool)
@@ -179,13 +227,23 @@ module _ (n : Standing) (b : Bool) where
     plain_run z zero q t (more_args h g) no_more = absurd (omega (arith, q))
     plain_run z zero q t (more_args {a = a} h g) (one_more {e = d} f r) =
         let w = plain_run true zero (omega (arith, q)) (λ x. refl) g r in
-        record { list = Plain a (present d) ∷ w.list; is = some_is z a d w.list ∙ ap (option_map (add_plain a (present d))) w.is; slash =
-            w.slash; pieces = a_piece (plain_some d h f) w.pieces }
+        record {
+          list = Plain a (present d) ∷ w.list;
+          is = some_is z a d w.list ∙ ap (option_map (add_plain a (present d))) w.is;
+          slash =
+              w.slash;
+          pieces = a_piece (plain_some d h f) w.pieces;
+        }
     plain_run true (suc m) q t (more_args h g) r = absurd (omega (arith, t refl))
     plain_run false (suc m) q t (more_args {a = a} h g) r =
         let w = plain_run false m (omega (arith, q)) (λ x. absurd (never x)) g r in
-        record { list = Plain a absent ∷ w.list; is = ap (option_map (add_plain a absent)) w.is; slash = w.slash; pieces =
-            a_piece (plain_none h) w.pieces }
+        record {
+          list = Plain a absent ∷ w.list;
+          is = ap (option_map (add_plain a absent)) w.is;
+          slash = w.slash;
+          pieces =
+              a_piece (plain_none h) w.pieces;
+        }
 
     -- those in front of the slash
     record Front (z : Bool) (a : Arguments) : Type 0 where
@@ -221,22 +279,46 @@ module _ (n : Standing) (b : Bool) where
     slash_run z zero q t p h g no_more = absurd (omega (arith, q))
     slash_run z zero {a = a} q t p no_args g (one_more {e = d} f r) =
         let w = plain_run true zero (omega (arith, q)) (λ x. refl) g r in
-        record { list = Plain a (present d) ∷ (Slashed ∷ w.list); is = last_some z a d w.list
-            ∙ ap (option_map (add_before_slash a (present d))) w.is; slash = refl; pieces =
-            a_piece (plain_some d p f) (a_piece slash_piece w.pieces); first = refl }
+        record {
+          list = Plain a (present d) ∷ (Slashed ∷ w.list);
+          is = last_some z a d w.list
+              ∙ ap (option_map (add_before_slash a (present d))) w.is;
+          slash = refl;
+          pieces =
+              a_piece (plain_some d p f) (a_piece slash_piece w.pieces);
+          first = refl;
+        }
     slash_run z zero {a = a} q t p (more_args x h) g (one_more {e = d} f r) =
         let w = slash_run true zero (omega (arith, q)) (λ x. refl) x h g r in
-        record { list = Plain a (present d) ∷ w.list; is = more_some z a d w.list w.first ∙ ap (option_map (add_before_slash a (present d)))
-            w.is; slash = w.slash; pieces = a_piece (plain_some d p f) w.pieces; first = refl }
+        record {
+          list = Plain a (present d) ∷ w.list;
+          is = more_some z a d w.list w.first ∙ ap (option_map (add_before_slash a (present d)))
+              w.is;
+          slash = w.slash;
+          pieces = a_piece (plain_some d p f) w.pieces;
+          first = refl;
+        }
     slash_run true (suc m) q t p h g r = absurd (omega (arith, t refl))
     slash_run false (suc m) {a = a} q t p no_args g r =
         let w = plain_run false m (omega (arith, q)) (λ x. absurd (never x)) g r in
-        record { list = Plain a absent ∷ (Slashed ∷ w.list); is = ap (option_map (add_before_slash a absent)) w.is; slash = refl; pieces =
-            a_piece (plain_none p) (a_piece slash_piece w.pieces); first = refl }
+        record {
+          list = Plain a absent ∷ (Slashed ∷ w.list);
+          is = ap (option_map (add_before_slash a absent)) w.is;
+          slash = refl;
+          pieces =
+              a_piece (plain_none p) (a_piece slash_piece w.pieces);
+          first = refl;
+        }
     slash_run false (suc m) {a = a} q t p (more_args x h) g r =
         let w = slash_run false m (omega (arith, q)) (λ x. absurd (never x)) x h g r in
-        record { list = Plain a absent ∷ w.list; is = more_none a w.list w.first ∙ ap (option_map (add_before_slash a absent)) w.is; slash =
-            w.slash; pieces = a_piece (plain_none p) w.pieces; first = refl }
+        record {
+          list = Plain a absent ∷ w.list;
+          is = more_none a w.list w.first ∙ ap (option_map (add_before_slash a absent)) w.is;
+          slash =
+              w.slash;
+          pieces = a_piece (plain_none p) w.pieces;
+          first = refl;
+        }
 
   pub record Arrangement (a : Arguments) : Type 0 where
     pub list : List Entry
@@ -248,11 +330,11 @@ module _ (n : Standing) (b : Bool) where
       → count_optional ds ≡ count_args ks → count es ≤ count_args ps + count_args qs → Arrangement (arguments ps qs v ks ds k es)
   arrangement no_arg qs v ks ds k es no_args h1 h2 h3 h4 h5 h6 even few =
       let w = plain_run v ks ds k (λ z. star_run z h2 even h3 h4 h5) false (count_args qs - count es) (omega (arith, few))
-          (λ x. absurd (never x)) h1 h6 in
+      (λ x. absurd (never x)) h1 h6 in
       record { list = w.list; is = rw w.slash w.is; pieces = w.pieces }
   arrangement (an_arg a ps) qs v ks ds k es (more_args p h0) h1 h2 h3 h4 h5 h6 even few =
       let w = slash_run v ks ds k (λ z. star_run z h2 even h3 h4 h5) false (suc (count_args ps + count_args qs) - count es)
-          (omega (arith, few)) (λ x. absurd (never x)) p h0 h1 h6 in
+      (omega (arith, few)) (λ x. absurd (never x)) p h0 h1 h6 in
       record { list = w.list; is = rw w.slash w.is; pieces = w.pieces }
 
 -- in a lambda there are no annotations
@@ -275,7 +357,10 @@ module _ (n : Standing) where
       → P.At n l (Trees.Lambda (arguments ps qs v ks ds k es) e)
   lambda_given l ps qs v ks ds k es e p s r f =
       let w = arrangement n false ps qs v ks ds k es (bare_args ps p.before) (bare_args qs p.middle)
-          (unstarred (bare_optional StarItem v p.star)) (bare_args ks p.only) s (bare_optional Expression k p.double) r p.even p.few in
+      (unstarred (bare_optional StarItem v p.star)) (bare_args ks p.only) s (bare_optional Expression k p.double) r p.even p.few in
       let u = listing n w.pieces in
-      anywhere_at n Expression refl (Word Key.Lambda ∷ (u.0 ++ (Op Colon ∷ f.0)), pass_on n u.0 (Op Colon ∷ f.0) u.1 f.1,
-          G.lambda u.2 w.is f.2) l
+      anywhere_at n Expression refl (
+        Word Key.Lambda ∷ (u.0 ++ (Op Colon ∷ f.0)),
+        pass_on n u.0 (Op Colon ∷ f.0) u.1 f.1,
+        G.lambda u.2 w.is f.2,
+      ) l

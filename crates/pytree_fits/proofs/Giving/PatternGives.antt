@@ -96,8 +96,11 @@ module _ (n : Tests) where
   capture_given : (o : Option Identifier) → perhaps_target_fits n o ≡ true → At n ClosedPattern (Trees.MatchAs absent_pattern o)
   capture_given o h =
       let c = capture_of n o h in
-      subst (λ z. At n ClosedPattern (Trees.MatchAs absent_pattern z)) c.2 (in_form c.0 ∷ [],
-          named_pass (outside n) c.0 [] c.1 refl, G.capture)
+      subst (λ z. At n ClosedPattern (Trees.MatchAs absent_pattern z)) c.2 (
+        in_form c.0 ∷ [],
+        named_pass (outside n) c.0 [] c.1 refl,
+        G.capture,
+      )
 
   star_given : (o : Option Identifier) → perhaps_target_fits n o ≡ true → At n StarPattern (Trees.MatchStar o)
   star_given o h =
@@ -109,16 +112,23 @@ module _ (n : Tests) where
   as_given p x h w =
       let u = name_of n x h in
       let e : as_named p x ≡ Some (Trees.MatchAs (present_pattern p) (Some x)) = rw (captured_name x u.1) refl in
-      grouped (w.0 ++ (Word Key.As ∷ (in_form x ∷ [])), pass_on (outside n) w.0 (Word Key.As ∷ (in_form x ∷ [])) w.1
-          (named_pass (outside n) x [] u.0 refl), G.as_name _ (climb OrPattern w.2) e)
+      grouped (
+        w.0 ++ (Word Key.As ∷ (in_form x ∷ [])),
+        pass_on (outside n) w.0 (Word Key.As ∷ (in_form x ∷ [])) w.1
+            (named_pass (outside n) x [] u.0 refl),
+        G.as_name _ (climb OrPattern w.2) e,
+      )
 
   -- ---- Sequences and alternatives.
 
   sequence_given : (ps : Patterns) → Pieces n Element (alone ps) → At n ClosedPattern (Trees.MatchSequence ps)
   sequence_given ps r =
       let w = listing r in
-      subst (λ z. At n ClosedPattern (Trees.MatchSequence z)) (alone_are ps) (Op LSqb ∷ (w.0 ++ (Op RSqb ∷ [])),
-          pass_on (outside n) w.0 (Op RSqb ∷ []) w.1 refl, G.square_sequence w.2)
+      subst (λ z. At n ClosedPattern (Trees.MatchSequence z)) (alone_are ps) (
+        Op LSqb ∷ (w.0 ++ (Op RSqb ∷ [])),
+        pass_on (outside n) w.0 (Op RSqb ∷ []) w.1 refl,
+        G.square_sequence w.2,
+      )
 
   record Choices (ps : Patterns) : Type 0 where
     list : List Pattern
@@ -130,8 +140,12 @@ module _ (n : Tests) where
   choices {p = p} w (one_more v r) =
       let c = choices v r in
       let u = c.given in
-      record { list = p ∷ c.list; are = ap (a_pattern p) c.are; given =
-          (w.0 ++ (Op VBar ∷ u.0), pass_on (outside n) w.0 (Op VBar ∷ u.0) w.1 u.1, G.alternative w.2 u.2) }
+      record {
+        list = p ∷ c.list;
+        are = ap (a_pattern p) c.are;
+        given =
+            (w.0 ++ (Op VBar ∷ u.0), pass_on (outside n) w.0 (Op VBar ∷ u.0) w.1 u.1, G.alternative w.2 u.2);
+      }
 
   or_given : (ps : Patterns) → 2 ≤ count_patterns ps → Each n ps → At n ClosedPattern (Trees.MatchOr ps)
   or_given no_pattern h no_more = absurd (omega (arith, h))
@@ -140,8 +154,11 @@ module _ (n : Tests) where
       let c = choices v r in
       let u = c.given in
       let d : At n OrPattern (Trees.MatchOr (a_pattern p (a_pattern q ps))) =
-      subst (λ z. At n OrPattern (Trees.MatchOr (a_pattern p z))) c.are (w.0 ++ (Op VBar ∷ u.0),
-          pass_on (outside n) w.0 (Op VBar ∷ u.0) w.1 u.1, G.alternatives w.2 u.2) in
+      subst (λ z. At n OrPattern (Trees.MatchOr (a_pattern p z))) c.are (
+        w.0 ++ (Op VBar ∷ u.0),
+        pass_on (outside n) w.0 (Op VBar ∷ u.0) w.1 u.1,
+        G.alternatives w.2 u.2,
+      ) in
       grouped (d.0, d.1, G.next {l = AsPattern} d.2)
 
   -- ---- Mappings.
@@ -169,8 +186,11 @@ module _ (n : Tests) where
       let u = key_given n k v.0 in
       record {
         list = Keyed k p ∷ m.list;
-        pieces = a_piece (u.0 ++ (Op Colon ∷ w.0), pass_on (outside n) u.0 (Op Colon ∷ w.0) u.1 w.1,
-            G.key_pattern u.2 (climb AsPattern w.2)) m.pieces;
+        pieces = a_piece (
+          u.0 ++ (Op Colon ∷ w.0),
+          pass_on (outside n) u.0 (Op Colon ∷ w.0) u.1 w.1,
+          G.key_pattern u.2 (climb AsPattern w.2),
+        ) m.pieces;
         order = m.order;
         keys_are = ap (λ z. k ∷ z) m.keys_are;
         patterns_are = ap (a_pattern p) m.patterns_are;
@@ -204,8 +224,17 @@ module _ (n : Tests) where
 
   by_name : (names : List Identifier) (named : Patterns) → length names ≡ count_patterns named → list_all n.name names ≡ true
       → Each n named → ByName names named
-  by_name [] no_pattern e h no_more = record { list = []; pieces = no_piece; all = refl; first = refl; behind = λ q. refl; none_alone =
-      refl; names_are = refl; patterns_are = refl }
+  by_name [] no_pattern e h no_more = record {
+    list = [];
+    pieces = no_piece;
+    all = refl;
+    first = refl;
+    behind = λ q. refl;
+    none_alone =
+        refl;
+    names_are = refl;
+    patterns_are = refl;
+  }
   by_name [] (a_pattern p ps) e h s = absurd (omega (arith, e))
   by_name (x ∷ xs) no_pattern e h s = absurd (omega (arith, e))
   by_name (x ∷ xs) (a_pattern p ps) e h (one_more w s) =
@@ -213,8 +242,11 @@ module _ (n : Tests) where
       let m = by_name xs ps (omega (arith, e)) v.1 s in
       record {
         list = Named x p ∷ m.list;
-        pieces = a_piece (in_form x ∷ (Op Equal ∷ w.0), named_pass (outside n) x (Op Equal ∷ w.0) v.0 w.1,
-            G.named_argument (climb AsPattern w.2)) m.pieces;
+        pieces = a_piece (
+          in_form x ∷ (Op Equal ∷ w.0),
+          named_pass (outside n) x (Op Equal ∷ w.0) v.0 w.1,
+          G.named_argument (climb AsPattern w.2),
+        ) m.pieces;
         all = m.all;
         first = m.all;
         behind = λ q. and_from (not (is_wildcard x)) (all_named m.list) q m.all;
@@ -234,8 +266,14 @@ module _ (n : Tests) where
   arguments : (inner : Patterns) (names : List Identifier) (named : Patterns) → Each n inner → ByName names named
       → Arguments inner names named
   arguments no_pattern names named no_more b =
-      record { list = b.list; pieces = b.pieces; behind = b.behind; alone_are = b.none_alone; names_are = b.names_are;
-          patterns_are = b.patterns_are }
+      record {
+        list = b.list;
+        pieces = b.pieces;
+        behind = b.behind;
+        alone_are = b.none_alone;
+        names_are = b.names_are;
+        patterns_are = b.patterns_are;
+      }
   arguments (a_pattern p ps) names named (one_more w s) b =
       let m = arguments ps names named s b in
       record {
@@ -253,14 +291,17 @@ module _ (n : Tests) where
   listed_class {inner} {names} {named} cls c a o =
       let u = class_given n cls c in
       let w = listing a.pieces in
-      let q : class_of cls a.list ≡ Some (Trees.MatchClass cls inner names named) = rw (o, a.alone_are, a.names_are, a.patterns_are) refl in
-      (u.0 ++ (Op LPar ∷ (w.0 ++ (Op RPar ∷ []))), pass_on (outside n) u.0 (Op LPar ∷ (w.0 ++ (Op RPar ∷ []))) u.1
-          (pass_on (outside n) w.0 (Op RPar ∷ []) w.1 refl), G.class_pattern u.2 w.2 q)
+      let q : class_of cls a.list ≡ Some (Trees.MatchClass cls inner names named) = rw (o, a.alone_are, a.names_are, a.patterns_are) refl in (
+        u.0 ++ (Op LPar ∷ (w.0 ++ (Op RPar ∷ []))),
+        pass_on (outside n) u.0 (Op LPar ∷ (w.0 ++ (Op RPar ∷ []))) u.1
+            (pass_on (outside n) w.0 (Op RPar ∷ []) w.1 refl),
+        G.class_pattern u.2 w.2 q,
+      )
 
   class_pattern_given : (cls : Expr) (inner : Patterns) (names : List Identifier) (named : Patterns) → class_fits n cls ≡ true
       → Each n inner → ByName names named →
       (eqb (count_patterns inner) 0 || not (begins_with_wildcard names)) ≡ true
-          → At n ClosedPattern (Trees.MatchClass cls inner names named)
+      → At n ClosedPattern (Trees.MatchClass cls inner names named)
   unfolding arguments
   class_pattern_given cls no_pattern names named c s b o = listed_class cls c (arguments no_pattern names named s b) (by s)
     where
@@ -268,7 +309,7 @@ module _ (n : Tests) where
       by no_more = b.first
   class_pattern_given cls (a_pattern p ps) names named c (one_more w s) b o =
       listed_class cls c (arguments (a_pattern p ps) names named (one_more w s) b)
-          ((arguments ps names named s b).behind (elim (or_cases (eqb (count_patterns ps + 1) 0) (not (begins_with_wildcard names)) o) [
+      ((arguments ps names named s b).behind (elim (or_cases (eqb (count_patterns ps + 1) 0) (not (begins_with_wildcard names)) o) [
         | inl z ↦ absurd (omega (arith, eqb-true (count_patterns ps + 1) 0 z))
         | inr z ↦ z
       ]))
@@ -285,15 +326,15 @@ module _ (n : Tests) where
         mapping_given keys inner None (eqb-true (length keys) (count_patterns inner) w.0) w.1 (each_given inner w.2) no_piece
     given_closed (Trees.MatchMapping keys inner (Some x)) h =
         let w = parts4 (eqb (length keys) (count_patterns inner)) (list_all (key_fits n) keys)
-            (each_pattern_fits n AsPattern inner) (target_fits n x) h in
+        (each_pattern_fits n AsPattern inner) (target_fits n x) h in
         mapping_given keys inner (Some x) (eqb-true (length keys) (count_patterns inner) w.0) w.1 (each_given inner w.2) (rest_piece x w.3)
     given_closed (Trees.MatchClass cls inner names named) h =
         let t : Bool = class_fits n cls && each_pattern_fits n AsPattern inner && eqb (length names) (count_patterns named) in
         let w = parts4 t (list_all n.name names) (each_pattern_fits n AsPattern named)
-            (eqb (count_patterns inner) 0 || not (begins_with_wildcard names)) h in
+        (eqb (count_patterns inner) 0 || not (begins_with_wildcard names)) h in
         let v = parts3 (class_fits n cls) (each_pattern_fits n AsPattern inner) (eqb (length names) (count_patterns named)) w.0 in
         class_pattern_given cls inner names named v.0 (each_given inner v.1)
-            (by_name names named (eqb-true (length names) (count_patterns named) v.2) w.1 (each_given named w.2)) w.3
+        (by_name names named (eqb-true (length names) (count_patterns named) v.2) w.1 (each_given named w.2)) w.3
     given_closed (Trees.MatchStar o) h = absurd (never h)
     given_closed (Trees.MatchAs absent_pattern o) h = capture_given o h
     given_closed (Trees.MatchAs (present_pattern p) None) h = absurd (never h)

@@ -48,8 +48,15 @@ module _ (n : Tests) where
       record { value = v; real = not_true (is_imaginary v) w.1; given = (Number v ∷ [], one_number v w.0 w.2, G.unsigned) }
   real_given (Trees.UnaryOp o (Trees.Constant v)) h =
       let w = parts4 (is_minus o) (is_number v) (not (is_imaginary v)) (is_value n v) h in
-      record { value = v; real = not_true (is_imaginary v) w.2; given = minus o (Trees.Constant v) w.0 (Op Minus ∷ (Number v ∷ []),
-          one_number v w.1 w.3, G.negative) }
+      record {
+        value = v;
+        real = not_true (is_imaginary v) w.2;
+        given = minus o (Trees.Constant v) w.0 (
+          Op Minus ∷ (Number v ∷ []),
+          one_number v w.1 w.3,
+          G.negative,
+        );
+      }
     where
       minus : (o : UnaryOperator) (e : Expr) → is_minus o ≡ true → GivenAsSpelled (outside n) (G.SignedNumber v) (Trees.UnaryOp Un.USub e)
           → GivenAsSpelled (outside n) (G.SignedNumber v) (Trees.UnaryOp o e)
@@ -92,10 +99,12 @@ module _ (n : Tests) where
       let s = sign_of o h in
       let r = real_given a p in
       let w = and_parts (is_imaginary v) (is_value n v) q in
-      let u = r.given in
-      (u.0 ++ (s.0 ∷ (Number v ∷ [])), pass_on (outside n) u.0 (s.0 ∷ (Number v ∷ [])) u.1
-          (pass_on (outside n) (s.0 ∷ []) (Number v ∷ []) s.1 (one_number v (imaginary_number v w.0) w.1)),
-          G.complex s.0 u.2 r.real s.2 w.0)
+      let u = r.given in (
+        u.0 ++ (s.0 ∷ (Number v ∷ [])),
+        pass_on (outside n) u.0 (s.0 ∷ (Number v ∷ [])) u.1
+            (pass_on (outside n) (s.0 ∷ []) (Number v ∷ []) s.1 (one_number v (imaginary_number v w.0) w.1)),
+        G.complex s.0 u.2 r.real s.2 w.0,
+      )
   complex_given a o _ h p q = absurd (never q)
 
   literal_given : (e : Expr) → literal_fits n e ≡ true → GivenAsSpelled (outside n) G.LiteralOf e
@@ -105,8 +114,11 @@ module _ (n : Tests) where
   literal_given (Trees.JoinedStr es) h =
       let j = joined_given (outside n) es h in
       let w = j.given in
-      subst (λ z. GivenAsSpelled (outside n) G.LiteralOf (Trees.JoinedStr z)) j.values_are (w.0, w.1,
-          G.joined_string w.2 j.begins j.formatted)
+      subst (λ z. GivenAsSpelled (outside n) G.LiteralOf (Trees.JoinedStr z)) j.values_are (
+        w.0,
+        w.1,
+        G.joined_string w.2 j.begins j.formatted,
+      )
   literal_given _ h = absurd (never h)
 
   -- names with points between them, and the first
@@ -119,15 +131,22 @@ module _ (n : Tests) where
   dotted_given (Trees.Name x c) h =
       let w = and_parts (is_context Load c) (n.name x) h in
       in_context (λ k. Points (Trees.Name x k)) Load c w.0
-          (record { first = x; starts = refl; given = (in_form x ∷ [], named_pass (outside n) x [] w.1 refl, G.first_name) })
+      (record { first = x; starts = refl; given = (in_form x ∷ [], named_pass (outside n) x [] w.1 refl, G.first_name) })
   dotted_given (Trees.Attribute e x c) h =
       let w = parts3 (is_context Load c) (n.name x) (dotted_fits n e) h in
       let r = dotted_given e w.2 in
       let u = r.given in
       in_context (λ k. Points (Trees.Attribute e x k)) Load c w.0
-      (record { first = r.first; starts = r.starts; given =
-          (u.0 ++ (Op Dot ∷ (in_form x ∷ [])), pass_on (outside n) u.0 (Op Dot ∷ (in_form x ∷ [])) u.1
-          (named_pass (outside n) x [] w.1 refl), G.dot_name _ u.2) })
+      (record {
+        first = r.first;
+        starts = r.starts;
+        given = (
+          u.0 ++ (Op Dot ∷ (in_form x ∷ [])),
+          pass_on (outside n) u.0 (Op Dot ∷ (in_form x ∷ [])) u.1
+              (named_pass (outside n) x [] w.1 refl),
+          G.dot_name _ u.2,
+        );
+      })
   dotted_given _ h = absurd (never h)
 
   pub class_given : (e : Expr) → class_fits n e ≡ true → GivenAsSpelled (outside n) G.ClassOf e
@@ -143,9 +162,11 @@ module _ (n : Tests) where
       let w = and_parts (is_context Load c && n.name x && dotted_fits n e) (not (starts_wild e)) q in
       let v = parts3 (is_context Load c) (n.name x) (dotted_fits n e) w.0 in
       let u = class_given e (and_from (dotted_fits n e) (not (starts_wild e)) v.2 w.1) in
-      in_context (λ k. GivenAsSpelled (outside n) (G.DerivesPattern ClosedPattern) (Trees.MatchValue (Trees.Attribute e x k))) Load c v.0
-      (u.0 ++ (Op Dot ∷ (in_form x ∷ [])), pass_on (outside n) u.0 (Op Dot ∷ (in_form x ∷ [])) u.1 (named_pass (outside n) x [] v.1 refl),
-          G.value _ u.2)
+      in_context (λ k. GivenAsSpelled (outside n) (G.DerivesPattern ClosedPattern) (Trees.MatchValue (Trees.Attribute e x k))) Load c v.0 (
+        u.0 ++ (Op Dot ∷ (in_form x ∷ [])),
+        pass_on (outside n) u.0 (Op Dot ∷ (in_form x ∷ [])) u.1 (named_pass (outside n) x [] v.1 refl),
+        G.value _ u.2,
+      )
   attribute_given _ h q = absurd (never h)
 
   pub value_given : (e : Expr) → value_fits n e ≡ true → GivenAsSpelled (outside n) (G.DerivesPattern ClosedPattern) (Trees.MatchValue e)
@@ -179,9 +200,11 @@ module _ (n : Tests) where
   name_key (Trees.Attribute e x c) h q =
       let v = parts3 (is_context Load c) (n.name x) (dotted_fits n e) q in
       let u = (dotted_given e v.2).given in
-      in_context (λ k. GivenAsSpelled (outside n) G.KeyOf (Trees.Attribute e x k)) Load c v.0
-      (u.0 ++ (Op Dot ∷ (in_form x ∷ [])), pass_on (outside n) u.0 (Op Dot ∷ (in_form x ∷ [])) u.1 (named_pass (outside n) x [] v.1 refl),
-          G.name_key _ u.2)
+      in_context (λ k. GivenAsSpelled (outside n) G.KeyOf (Trees.Attribute e x k)) Load c v.0 (
+        u.0 ++ (Op Dot ∷ (in_form x ∷ [])),
+        pass_on (outside n) u.0 (Op Dot ∷ (in_form x ∷ [])) u.1 (named_pass (outside n) x [] v.1 refl),
+        G.name_key _ u.2,
+      )
   name_key _ h q = absurd (never h)
 
   pub key_given : (e : Expr) → key_fits n e ≡ true → GivenAsSpelled (outside n) G.KeyOf e

@@ -71,7 +71,7 @@ text_of true u k t [] h = ap (λ z. an_expr (Trees.Constant (Values.Str t z)) no
 text_of true u k t (p ∷ ps) h =
     ap (λ z. an_expr (Trees.Constant (Values.Str t z)) (spec_values_of u (p ∷ ps)))
     (sym (kind_is (u && not (true && is_last (spec_values_of u (p ∷ ps)))) k h
-        ∙ own_kind u (true && is_last (spec_values_of u (p ∷ ps))) (some_left u p ps)))
+    ∙ own_kind u (true && is_last (spec_values_of u (p ∷ ps))) (some_left u p ps)))
 
 one_less : (n : ℕ) → suc n - 1 ≡ n
 one_less n = omega arith
@@ -101,20 +101,20 @@ module _ (n : Standing) (d : ℕ) (u s : Bool) where
   pub field_formed : (b : Bool) (v : Expr) (c : Conversion) (a : OptionalExpr) (es : Exprs) → leb d 1 ≡ true
       → P.At (in_string n (suc d)) Expression v →
       GivenAsSpelled (in_string n (suc d)) (G.Spec u) a → Formed (in_string n d) u s false es
-          → Formed (in_string n d) u s b (an_expr (Trees.FormattedValue v c a) es)
+      → Formed (in_string n d) u s b (an_expr (Trees.FormattedValue v c a) es)
   field_formed b v c a es h p q f =
       let m : Standing = in_string n (suc d) in
       let w = f.given in
       let ts : List Terminal = p.0 ++ (Op RPar ∷ []) in
       let rest : Ends m (d ∷ n.opened) (FieldEnd ∷ w.0) = pass_behind m FieldEnd (d ∷ n.opened) (d ∷ n.opened) w.0 refl
-          (ap (λ k. k ∷ n.opened) (one_less d)) w.1 in
+      (ap (λ k. k ∷ n.opened) (one_less d)) w.1 in
       record {
         parts = Field (Trees.FormattedValue v c a) ∷ f.parts;
         given = (
           FieldBegin c ∷ (Op LPar ∷ (ts ++ (q.0 ++ (FieldEnd ∷ w.0)))),
           pass_behind (in_string n d) (FieldBegin c) (suc d ∷ n.opened) (d ∷ n.opened) (Op LPar ∷ (ts ++ (q.0 ++ (FieldEnd ∷ w.0)))) h refl
               (pass_past m (d ∷ n.opened) (Op LPar ∷ ts) (q.0 ++ (FieldEnd ∷ w.0)) (pass_on m p.0 (Op RPar ∷ []) p.1 refl)
-                  (pass_past m (d ∷ n.opened) q.0 (FieldEnd ∷ w.0) q.1 rest)),
+              (pass_past m (d ∷ n.opened) q.0 (FieldEnd ∷ w.0) q.1 rest)),
           G.field_part (G.group (G.next {l = Named} p.2)) q.2 w.2,
         );
         merged_are = ap (λ z. Field (Trees.FormattedValue v c a) ∷ z) f.merged_are;
@@ -127,7 +127,7 @@ pub spec_given : (n : Standing) (d : ℕ) (u : Bool) (es : Exprs) → Formed (in
 spec_given n d u es f =
     let w = f.given in
     subst (λ z. GivenAsSpelled (in_string n d) (G.Spec u) (Trees.present (Trees.JoinedStr z)))
-        (ap (spec_values_of u) f.merged_are ∙ f.values_are)
+    (ap (spec_values_of u) f.merged_are ∙ f.values_are)
     (SpecBegin ∷ w.0, w.1, G.spec w.2)
 
 -- ---- A JoinedStr.
@@ -166,8 +166,14 @@ module _ (n : Standing) (es : Exprs) (stands : (is_whole (here n).extent && leb 
 
   pub plain_joined : Formed (in_string n 0) false false false es → Joined n es
   unfolding alone
-  plain_joined f = record { unicode = false; parts = f.parts ++ []; given = alone false f; begins = refl; formatted = refl;
-      values_are = are false f }
+  plain_joined f = record {
+    unicode = false;
+    parts = f.parts ++ [];
+    given = alone false f;
+    begins = refl;
+    formatted = refl;
+    values_are = are false f;
+  }
 
   -- behind an empty text of its kind
   pub unicode_joined : Formed (in_string n 0) true false false es → Joined n es
@@ -177,8 +183,12 @@ module _ (n : Standing) (es : Exprs) (stands : (is_whole (here n).extent && leb 
       record {
         unicode = true;
         parts = Text [] ∷ (f.parts ++ []);
-        given = (Literal (Values.Str [] true) ∷ w.0, pass_in_front n (Literal (Values.Str [] true)) w.0
-            (no_text (here n).fields (and_parts (is_whole (here n).extent) (leb (here n).fields 1) stands).1) refl w.1, G.text_literal w.2);
+        given = (
+          Literal (Values.Str [] true) ∷ w.0,
+          pass_in_front n (Literal (Values.Str [] true)) w.0
+              (no_text (here n).fields (and_parts (is_whole (here n).extent) (leb (here n).fields 1) stands).1) refl w.1,
+          G.text_literal w.2,
+        );
         begins = refl;
         formatted = refl;
         values_are = are true f;

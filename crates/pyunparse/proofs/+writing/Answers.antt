@@ -55,7 +55,7 @@ pub operators::write_chain-returns : goal.operators::write_chain-returns
 operators::write_chain-returns g t c = IfOk-equal _ _ _ _ c.close.ensures
     (chain g.W.Writer.after c.args.out.now c.args.level _ c.args.op (exprs (map tree_of c.args.values.now)) _ _ _ _
     (c.reaches-bare.ensures ∙ ap (reaches c.args.level) c.chain_level.ensures) c.chain_member_level.ensures c.chain_mark.ensures
-        c.in_ok-open.ensures c.in_ok-write_members.ensures)
+    c.in_ok-open.ensures c.in_ok-write_members.ensures)
 
 pub operators::write_named-returns : goal.operators::write_named-returns
 operators::write_named-returns g t c = IfOk-equal _ _ _ _ c.close.ensures
@@ -66,26 +66,26 @@ pub operators::write_binary-returns : goal.operators::write_binary-returns
 operators::write_binary-returns g t c = IfOk-equal _ _ _ _ c.close.ensures
     (binary g.W.Writer.after c.args.out.now c.args.level _ (tree_of c.args.left.now) c.args.op (tree_of c.args.right.now) _ _ _ _ _ _ _
     (c.reaches-bare.ensures ∙ ap (reaches c.args.level) c.operator_level.ensures) c.left_level.ensures c.right_level.ensures
-        c.operator_sign.ensures c.in_ok-open.ensures c.in_ok-write_expr.ensures c.in_ok-put_sign.ensures c.in_ok-write_expr-2.ensures)
+    c.operator_sign.ensures c.in_ok-open.ensures c.in_ok-write_expr.ensures c.in_ok-put_sign.ensures c.in_ok-write_expr-2.ensures)
 
 pub operators::write_unary-returns : goal.operators::write_unary-returns
 operators::write_unary-returns g t c = IfOk-equal _ _ _ _ c.close.ensures
     (prefixed g.W.Writer.after c.args.out.now c.args.level _ c.args.op (tree_of c.args.operand.now) _ _ _ _
     (c.reaches-bare.ensures ∙ ap (reaches c.args.level) c.unary_level.ensures) c.unary_level-2.ensures c.in_ok-open.ensures
-        c.in_ok-put_unary.ensures c.in_ok-write_expr.ensures)
+    c.in_ok-put_unary.ensures c.in_ok-write_expr.ensures)
 
 pub operators::write_lambda-returns : goal.operators::write_lambda-returns
 operators::write_lambda-returns g t c = IfOk-equal _ _ _ _ c.close.ensures
     (lambda g.W.Writer.after c.args.out.now c.args.level _ (arguments_of c.args.args.now) (tree_of c.args.body.now) _ _ _ _ _
     c.reaches-bare.ensures c.in_ok-open.ensures c.in_ok-put_word.ensures c.in_ok-write_parameters.ensures c.in_ok-put_sign.ensures
-        c.in_ok-write_expr.ensures)
+    c.in_ok-write_expr.ensures)
 
 pub operators::write_conditional-returns : goal.operators::write_conditional-returns
 operators::write_conditional-returns g t c = IfOk-equal _ _ _ _ c.close.ensures
     (conditional g.W.Writer.after c.args.out.now c.args.level _ (tree_of c.args.test.now) (tree_of c.args.body.now)
-        (tree_of c.args.orelse.now) _ _ _ _ _ _
+    (tree_of c.args.orelse.now) _ _ _ _ _ _
     c.reaches-bare.ensures c.in_ok-open.ensures c.in_ok-write_expr.ensures c.in_ok-put_word.ensures c.in_ok-write_expr-2.ensures
-        c.in_ok-put_word-2.ensures c.in_ok-write_expr-3.ensures)
+    c.in_ok-put_word-2.ensures c.in_ok-write_expr-3.ensures)
 
 pub operators::write_await-returns : goal.operators::write_await-returns
 operators::write_await-returns g t c = IfOk-equal _ _ _ _ c.close.ensures
@@ -105,7 +105,7 @@ operators::write_yield_from-returns g t c = IfOk-equal _ _ _ _ c.close.ensures
 pub operators::write_compare-returns : goal.operators::write_compare-returns
 operators::write_compare-returns g t c = IfOk-equal _ _ _ _ c.close.ensures
     (comparison g.W.Writer.after c.args.out.now c.args.level _ (tree_of c.args.left.now) c.args.ops.now
-        (exprs (map tree_of c.args.comparators.now)) _ _ _
+    (exprs (map tree_of c.args.comparators.now)) _ _ _
     c.reaches-bare.ensures c.in_ok-open.ensures c.in_ok-write_expr.ensures c.in_ok-write_compared.ensures)
 
 pub calls::write_attribute-returns : goal.calls::write_attribute-returns
@@ -117,27 +117,27 @@ pub calls::write_subscript-returns : goal.calls::write_subscript-returns
 calls::write_subscript-returns g t c = λ k. IfOk-equal _ _ _ _ c.close.ensures
     (subscript g.W.Writer.after c.args.out.now c.args.level _ (tree_of c.args.value.now) (tree_of c.args.slice.now) k _ _ _ _ _
     c.reaches-bare.ensures c.in_ok-open.ensures c.in_ok-write_expr.ensures c.in_ok-put_sign.ensures c.in_ok-write_expr-2.ensures
-        c.in_ok-put_sign-2.ensures)
+    c.in_ok-put_sign-2.ensures)
 
 pub calls::write_call-returns : goal.calls::write_call-returns
 calls::write_call-returns g t c = IfOk-equal _ _ _ _ c.close.ensures
     (call g.W.Writer.after c.args.out.now c.args.level _ (tree_of c.args.func.now) (exprs (map tree_of c.args.args.now))
-        (keywords (map keyword_of c.args.words.now)) _ _ _ _ _
+    (keywords (map keyword_of c.args.words.now)) _ _ _ _ _
     c.reaches-bare.ensures c.in_ok-open.ensures c.in_ok-write_expr.ensures c.in_ok-put_sign.ensures c.in_ok-write_arguments.ensures
-        c.in_ok-put_sign-2.ensures)
+    c.in_ok-put_sign-2.ensures)
 
 pub tuples::write_slice-returns : goal.tuples::write_slice-returns
 tuples::write_slice-returns g t c = IfOk-equal _ _ _ _ c.close.ensures
     (slice g.W.Writer.after c.args.out.now c.args.level _ (optional (boxed_of c.args.lower.now)) (optional (boxed_of c.args.upper.now))
-        (optional (boxed_of c.args.step.now)) _ _ _ _ _
+    (optional (boxed_of c.args.step.now)) _ _ _ _ _
     c.reaches-bare.ensures c.in_ok-open.ensures c.in_ok-write_perhaps.ensures c.in_ok-put_sign.ensures c.in_ok-write_perhaps-2.ensures
-        c.in_ok-write_suffix.ensures)
+    c.in_ok-write_suffix.ensures)
 
 pub tuples::write_tuple-returns : goal.tuples::write_tuple-returns
 tuples::write_tuple-returns g t c = λ k. IfOk-equal _ _ _ _ c.close.ensures
     (tuple g.W.Writer.after c.args.out.now c.args.level (exprs (map tree_of c.args.elts.now)) k _ _ _ _ _ _ _
     (c.tuple_level-place.ensures ∙ ap (tuple_level c.args.level) c.some_named-named.ensures) (c.element_level.ensures
-        ∙ ap (element_level c.args.level) c.some_named-named.ensures)
+    ∙ ap (element_level c.args.level) c.some_named-named.ensures)
     c.are_bare-bare.ensures c.is_alone.ensures c.in_ok-open.ensures c.in_ok-write_members.ensures c.in_ok-put_last.ensures)
 
 pub displays::write_display-returns : goal.displays::write_display-returns
@@ -148,28 +148,28 @@ displays::write_display-returns g t c = IfOk-equal _ _ _ _ c.put_sign-2.ensures
 pub displays::write_dict-returns : goal.displays::write_dict-returns
 displays::write_dict-returns g t c = IfOk-equal _ _ _ _ c.put_sign-2.ensures
     (enclosed_on g.W.Writer.after c.args.out.now (leading piece LBrace) RBrace
-        (listed piece (pairs piece (written_keys piece (optionals (map option_of c.args.keys.now)))
-        (exprs (map tree_of c.args.values.now)))) _ _
+    (listed piece (pairs piece (written_keys piece (optionals (map option_of c.args.keys.now)))
+    (exprs (map tree_of c.args.values.now)))) _ _
     c.in_ok-put_sign.ensures c.in_ok-write_pairs.ensures)
 
 pub clauses::write_comprehension-returns : goal.clauses::write_comprehension-returns
 clauses::write_comprehension-returns g t c = IfOk-equal _ _ _ _ c.put_sign-2.ensures
     (enclosed_on g.W.Writer.after c.args.out.now _ c.args.closer (pieces Named (tree_of c.args.elt.now) ++ clauses piece
-        (comprehensions (map comprehension_of c.args.generators.now))) _ _
+    (comprehensions (map comprehension_of c.args.generators.now))) _ _
     c.in_ok-put_sign.ensures c.in_ok-write_generator.ensures)
 
 pub clauses::write_generator-returns : goal.clauses::write_generator-returns
 clauses::write_generator-returns g t c = IfOk-equal _ _ _ _ c.write_clauses.ensures
     (two g.W.Writer.after c.args.out.now (pieces Named (tree_of c.args.elt.now))
-        (clauses piece (comprehensions (map comprehension_of c.args.generators.now))) _
+    (clauses piece (comprehensions (map comprehension_of c.args.generators.now))) _
     c.in_ok-write_expr.ensures)
 
 pub clauses::write_dict_comprehension-returns : goal.clauses::write_dict_comprehension-returns
 clauses::write_dict_comprehension-returns g t c = IfOk-equal _ _ _ _ c.put_sign-3.ensures
     (dict_comprehension g.W.Writer.after c.args.out.now (tree_of c.args.key.now) (tree_of c.args.value.now)
-        (comprehensions (map comprehension_of c.args.generators.now)) _ _ _ _ _
+    (comprehensions (map comprehension_of c.args.generators.now)) _ _ _ _ _
     c.in_ok-put_sign.ensures c.in_ok-write_expr.ensures c.in_ok-put_sign-2.ensures c.in_ok-write_expr-2.ensures
-        c.in_ok-write_clauses.ensures)
+    c.in_ok-write_clauses.ensures)
 
 pub displays::write_members-loop-e-preserved : goal.displays::write_members-loop-e-preserved
 unfolding written
@@ -239,28 +239,49 @@ pub expressions::write_expr-returns-in-BoolOp : goal.expressions::write_expr-ret
 expressions::write_expr-returns-in-BoolOp g t c = rw (c.in-BoolOp.is, bool_op_tree, sym c.deref.ensures.value) c.write_chain.ensures
 
 pub expressions::write_expr-returns-in-NamedExpr : goal.expressions::write_expr-returns-in-NamedExpr
-expressions::write_expr-returns-in-NamedExpr g t c = rw (c.in-NamedExpr.is, named_expr_tree, sym c.deref-in-NamedExpr.ensures,
-    sym c.deref-in-NamedExpr-2.ensures) c.write_named.ensures
+expressions::write_expr-returns-in-NamedExpr g t c = rw (
+  c.in-NamedExpr.is,
+  named_expr_tree,
+  sym c.deref-in-NamedExpr.ensures,
+  sym c.deref-in-NamedExpr-2.ensures,
+) c.write_named.ensures
 
 pub expressions::write_expr-returns-in-BinOp : goal.expressions::write_expr-returns-in-BinOp
-expressions::write_expr-returns-in-BinOp g t c = rw (c.in-BinOp.is, bin_op_tree, sym c.deref-in-BinOp.ensures,
-    sym c.deref-in-BinOp-2.ensures) c.write_binary.ensures
+expressions::write_expr-returns-in-BinOp g t c = rw (
+  c.in-BinOp.is,
+  bin_op_tree,
+  sym c.deref-in-BinOp.ensures,
+  sym c.deref-in-BinOp-2.ensures,
+) c.write_binary.ensures
 
 pub expressions::write_expr-returns-in-UnaryOp : goal.expressions::write_expr-returns-in-UnaryOp
 expressions::write_expr-returns-in-UnaryOp g t c = rw (c.in-UnaryOp.is, unary_op_tree, sym c.deref-in-UnaryOp.ensures) c.write_unary.ensures
 
 pub expressions::write_expr-returns-in-Lambda : goal.expressions::write_expr-returns-in-Lambda
-expressions::write_expr-returns-in-Lambda g t c = rw (c.in-Lambda.is, lambda_tree, sym c.deref-in-Lambda.ensures,
-    sym c.deref-in-Lambda-2.ensures) c.write_lambda.ensures
+expressions::write_expr-returns-in-Lambda g t c = rw (
+  c.in-Lambda.is,
+  lambda_tree,
+  sym c.deref-in-Lambda.ensures,
+  sym c.deref-in-Lambda-2.ensures,
+) c.write_lambda.ensures
 
 pub expressions::write_expr-returns-in-IfExp : goal.expressions::write_expr-returns-in-IfExp
-expressions::write_expr-returns-in-IfExp g t c = rw (c.in-IfExp.is, if_exp_tree, sym c.deref-in-IfExp.ensures,
-    sym c.deref-in-IfExp-2.ensures, sym c.deref-in-IfExp-3.ensures) c.write_conditional.ensures
+expressions::write_expr-returns-in-IfExp g t c = rw (
+  c.in-IfExp.is,
+  if_exp_tree,
+  sym c.deref-in-IfExp.ensures,
+  sym c.deref-in-IfExp-2.ensures,
+  sym c.deref-in-IfExp-3.ensures,
+) c.write_conditional.ensures
 
 pub expressions::write_expr-returns-in-Dict : goal.expressions::write_expr-returns-in-Dict
 unfolding written
-expressions::write_expr-returns-in-Dict g t c = rw (c.in-Dict.is, dict_tree, sym c.deref-in-Dict.ensures.value,
-    sym c.deref-in-Dict-2.ensures.value) c.write_dict.ensures
+expressions::write_expr-returns-in-Dict g t c = rw (
+  c.in-Dict.is,
+  dict_tree,
+  sym c.deref-in-Dict.ensures.value,
+  sym c.deref-in-Dict-2.ensures.value,
+) c.write_dict.ensures
 
 pub expressions::write_expr-returns-in-Set : goal.expressions::write_expr-returns-in-Set
 unfolding written
@@ -268,23 +289,40 @@ expressions::write_expr-returns-in-Set g t c = rw (c.in-Set.is, set_tree, sym c.
 
 pub expressions::write_expr-returns-in-ListComp : goal.expressions::write_expr-returns-in-ListComp
 unfolding written
-expressions::write_expr-returns-in-ListComp g t c = rw (c.in-ListComp.is, list_comp_tree, sym c.deref-in-ListComp.ensures,
-    sym c.deref-in-ListComp-2.ensures.value) c.write_comprehension.ensures
+expressions::write_expr-returns-in-ListComp g t c = rw (
+  c.in-ListComp.is,
+  list_comp_tree,
+  sym c.deref-in-ListComp.ensures,
+  sym c.deref-in-ListComp-2.ensures.value,
+) c.write_comprehension.ensures
 
 pub expressions::write_expr-returns-in-SetComp : goal.expressions::write_expr-returns-in-SetComp
 unfolding written
-expressions::write_expr-returns-in-SetComp g t c = rw (c.in-SetComp.is, set_comp_tree, sym c.deref-in-SetComp.ensures,
-    sym c.deref-in-SetComp-2.ensures.value) c.write_comprehension-in-SetComp.ensures
+expressions::write_expr-returns-in-SetComp g t c = rw (
+  c.in-SetComp.is,
+  set_comp_tree,
+  sym c.deref-in-SetComp.ensures,
+  sym c.deref-in-SetComp-2.ensures.value,
+) c.write_comprehension-in-SetComp.ensures
 
 pub expressions::write_expr-returns-in-DictComp : goal.expressions::write_expr-returns-in-DictComp
 unfolding written
-expressions::write_expr-returns-in-DictComp g t c = rw (c.in-DictComp.is, dict_comp_tree, sym c.deref-in-DictComp.ensures,
-    sym c.deref-in-DictComp-2.ensures, sym c.deref-in-DictComp-3.ensures.value) c.write_dict_comprehension.ensures
+expressions::write_expr-returns-in-DictComp g t c = rw (
+  c.in-DictComp.is,
+  dict_comp_tree,
+  sym c.deref-in-DictComp.ensures,
+  sym c.deref-in-DictComp-2.ensures,
+  sym c.deref-in-DictComp-3.ensures.value,
+) c.write_dict_comprehension.ensures
 
 pub expressions::write_expr-returns-in-GeneratorExp : goal.expressions::write_expr-returns-in-GeneratorExp
 unfolding written
-expressions::write_expr-returns-in-GeneratorExp g t c = rw (c.in-GeneratorExp.is, generator_exp_tree, sym c.deref-in-GeneratorExp.ensures,
-    sym c.deref-in-GeneratorExp-2.ensures.value) c.write_comprehension-in-GeneratorExp.ensures
+expressions::write_expr-returns-in-GeneratorExp g t c = rw (
+  c.in-GeneratorExp.is,
+  generator_exp_tree,
+  sym c.deref-in-GeneratorExp.ensures,
+  sym c.deref-in-GeneratorExp-2.ensures.value,
+) c.write_comprehension-in-GeneratorExp.ensures
 
 pub expressions::write_expr-returns-in-Await : goal.expressions::write_expr-returns-in-Await
 expressions::write_expr-returns-in-Await g t c = rw (c.in-Await.is, await_tree, sym c.deref-in-Await.ensures) c.write_await.ensures
@@ -297,12 +335,22 @@ expressions::write_expr-returns-in-YieldFrom g t c = rw (c.in-YieldFrom.is, yiel
     c.write_yield_from.ensures
 
 pub expressions::write_expr-returns-in-Compare : goal.expressions::write_expr-returns-in-Compare
-expressions::write_expr-returns-in-Compare g t c = rw (c.in-Compare.is, compare_tree, sym c.deref-in-Compare.ensures,
-    sym c.deref-in-Compare-2.ensures.value, sym c.deref-in-Compare-3.ensures.value) c.write_compare.ensures
+expressions::write_expr-returns-in-Compare g t c = rw (
+  c.in-Compare.is,
+  compare_tree,
+  sym c.deref-in-Compare.ensures,
+  sym c.deref-in-Compare-2.ensures.value,
+  sym c.deref-in-Compare-3.ensures.value,
+) c.write_compare.ensures
 
 pub expressions::write_expr-returns-in-Call : goal.expressions::write_expr-returns-in-Call
-expressions::write_expr-returns-in-Call g t c = rw (c.in-Call.is, call_tree, sym c.deref-in-Call.ensures,
-    sym c.deref-in-Call-2.ensures.value, sym c.deref-in-Call-3.ensures.value) c.write_call.ensures
+expressions::write_expr-returns-in-Call g t c = rw (
+  c.in-Call.is,
+  call_tree,
+  sym c.deref-in-Call.ensures,
+  sym c.deref-in-Call-2.ensures.value,
+  sym c.deref-in-Call-3.ensures.value,
+) c.write_call.ensures
 
 pub expressions::write_expr-returns-in-Constant : goal.expressions::write_expr-returns-in-Constant
 unfolding written
@@ -313,8 +361,12 @@ expressions::write_expr-returns-in-Attribute g t c = rw (c.in-Attribute.is, attr
     (c.write_attribute.ensures c.in-Attribute.ctx)
 
 pub expressions::write_expr-returns-in-Subscript : goal.expressions::write_expr-returns-in-Subscript
-expressions::write_expr-returns-in-Subscript g t c = rw (c.in-Subscript.is, subscript_tree, sym c.deref-in-Subscript.ensures,
-    sym c.deref-in-Subscript-2.ensures) (c.write_subscript.ensures c.in-Subscript.ctx)
+expressions::write_expr-returns-in-Subscript g t c = rw (
+  c.in-Subscript.is,
+  subscript_tree,
+  sym c.deref-in-Subscript.ensures,
+  sym c.deref-in-Subscript-2.ensures,
+) (c.write_subscript.ensures c.in-Subscript.ctx)
 
 pub expressions::write_expr-returns-in-Name : goal.expressions::write_expr-returns-in-Name
 unfolding written
@@ -336,7 +388,7 @@ pub displays::write_pairs-loop-i-preserved : goal.displays::write_pairs-loop-i-p
 displays::write_pairs-loop-i-preserved g t c = both_on g.W.Writer.after _ _ c.loop-i.first (trailing piece Comma) pairs_of
     (λ k e. pair (option_of k) (tree_of e)) pair_more c.args.keys.now c.args.values.now c.loop-i.i _ _ _ _
     (omega arith) c.index-keys-i.is (omega arith) c.index-values-i.is c.loop-i.invariant c.in_ok-put_between.ensures
-        c.in_ok-write_pair.ensures
+    c.in_ok-write_pair.ensures
 
 pub displays::write_pairs-returns : goal.displays::write_pairs-returns
 displays::write_pairs-returns g t c = both_done g.W.Writer.after _ c.loop-i.out c.loop-i.first (trailing piece Comma) pairs_of no_keys
@@ -347,31 +399,31 @@ displays::write_pairs-write_pair-requires g t c =
     let a : c.loop-i.i < length c.args.keys.now = omega arith in
     let b : c.loop-i.i < length c.args.values.now = omega arith in
     let h : _ = no_higher (λ xs. optional_heights (optionals (map option_of xs))) (λ x. optional_height (optional (option_of x)))
-        (λ _ _. refl) _ _ _ a c.index-keys-i.is in
+    (λ _ _. refl) _ _ _ a c.index-keys-i.is in
     let k : _ = no_higher (λ xs. heights (exprs (map tree_of xs))) (λ x. height (tree_of x)) (λ _ _. refl) _ _ _ b c.index-values-i.is in
-        (λ κs l. (omega (arith, h, k), l))
+    (λ κs l. (omega (arith, h, k), l))
 
 pub clauses::write_clause-returns : goal.clauses::write_clause-returns
 clauses::write_clause-returns g t c = rw (comprehension_tree, sym c.deref.ensures.value) (IfOk-equal _ _ _ _ c.write_conditions.ensures
     (clause_on g.W.Writer.after c.args.out.now _ _ _ _ _ _ _ _ c.in_ok-put_for.ensures c.in_ok-write_expr.ensures c.in_ok-put_word.ensures
-        c.in_ok-write_expr-2.ensures))
+    c.in_ok-write_expr-2.ensures))
 
 pub calls::write_keyword-returns : goal.calls::write_keyword-returns
 calls::write_keyword-returns g t c = rw keyword_tree (IfOk-equal _ _ _ _ c.write_expr.ensures
     (two g.W.Writer.after c.args.out.now (argument_name (given_keyword.out-Keyword c.args.word.now).arg)
-        (pieces Expression (tree_of (given_keyword.out-Keyword c.args.word.now).value)) _ c.in_ok-put_argument_name.ensures))
+    (pieces Expression (tree_of (given_keyword.out-Keyword c.args.word.now).value)) _ c.in_ok-put_argument_name.ensures))
 
 pub parameters::write_named_arg-returns : goal.parameters::write_named_arg-returns
 parameters::write_named_arg-returns g t c = rw arg_tree (IfOk-equal _ _ _ _ c.write_suffix.ensures
     (two g.W.Writer.after c.args.out.now (free piece (in_form (given_arg.out-Arg c.args.arg.now).arg) ∷ [])
-        (suffixed piece (trailing piece Colon) (optional (boxed_of (given_arg.out-Arg c.args.arg.now).annotation))) _
-        c.in_ok-put_name.ensures))
+    (suffixed piece (trailing piece Colon) (optional (boxed_of (given_arg.out-Arg c.args.arg.now).annotation))) _
+    c.in_ok-put_name.ensures))
 
 pub parameters::write_plain-loop-i-preserved : goal.parameters::write_plain-loop-i-preserved
 parameters::write_plain-loop-i-preserved g t c = plain_on g.W.Writer.after _ _ c.loop-i.first c.args.params.now c.args.bare c.loop-i.i
     c.args.given.now _ _ _ _
     c.loop-i-test.true c.index-params-i.is c.loop-i.invariant c.in_ok-put_between.ensures c.in_ok-write_named_arg.ensures
-        c.in_ok-write_default.ensures
+    c.in_ok-write_default.ensures
 
 pub parameters::write_plain-loop-i-init : goal.parameters::write_plain-loop-i-init
 parameters::write_plain-loop-i-init g t c = plain_start g.W.Writer.after c.args.out.now c.args.is_first c.args.params.now
@@ -384,7 +436,7 @@ parameters::write_plain-returns g t c = plain_done g.W.Writer.after _ c.loop-i.o
 pub parameters::write_plain-write_named_arg-requires : goal.parameters::write_plain-write_named_arg-requires
 parameters::write_plain-write_named_arg-requires g t c =
     let h : _ = no_higher (λ xs. arg_heights (args (map arg_of xs))) (λ x. arg_height (arg_of x)) (λ _ _. refl) _ _ _ c.loop-i-test.true
-        c.index-params-i.is in (λ κs l. (omega (arith, h), l))
+    c.index-params-i.is in (λ κs l. (omega (arith, h), l))
 
 pub parameters::write_keyword_only-loop-i-preserved : goal.parameters::write_keyword_only-loop-i-preserved
 parameters::write_keyword_only-loop-i-preserved g t c = both_on g.W.Writer.after _ _ false (trailing piece Comma) kwonly
@@ -392,7 +444,7 @@ parameters::write_keyword_only-loop-i-preserved g t c = both_on g.W.Writer.after
     c.args.given.now c.loop-i.i _ _ _ _
     (omega arith) c.index-params-i.is (omega arith) c.index-given-i.is c.loop-i.invariant c.in_ok-put_between.ensures
     (c.in_ok-write_own_default.ensures ∙ two g.W.Writer.after _ (named_arg (arg_of c.index-params-i.result))
-        (suffixed piece (tight piece Equal) (optional (option_of c.index-given-i.result))) _ c.in_ok-write_named_arg.ensures)
+    (suffixed piece (tight piece Equal) (optional (option_of c.index-given-i.result))) _ c.in_ok-write_named_arg.ensures)
 
 pub parameters::write_keyword_only-returns : goal.parameters::write_keyword_only-returns
 parameters::write_keyword_only-returns g t c = both_done g.W.Writer.after _ c.loop-i.out false (trailing piece Comma) kwonly no_params
@@ -402,18 +454,22 @@ pub parameters::write_keyword_only-write_named_arg-requires : goal.parameters::w
 parameters::write_keyword_only-write_named_arg-requires g t c =
     let a : c.loop-i.i < length c.args.params.now = omega arith in
     let h : _ = no_higher (λ xs. arg_heights (args (map arg_of xs))) (λ x. arg_height (arg_of x)) (λ _ _. refl) _ _ _ a
-        c.index-params-i.is in (λ κs l. (omega (arith, h), l))
+    c.index-params-i.is in (λ κs l. (omega (arith, h), l))
 
 pub parameters::write_keyword_only-write_own_default-requires : goal.parameters::write_keyword_only-write_own_default-requires
 parameters::write_keyword_only-write_own_default-requires g t c =
     let a : c.loop-i.i < length c.args.given.now = omega arith in
     let h : _ = no_higher (λ xs. optional_heights (optionals (map option_of xs))) (λ x. optional_height (optional (option_of x)))
-        (λ _ _. refl) _ _ _ a c.index-given-i.is in (λ κs l. (omega (arith, h), l))
+    (λ _ _. refl) _ _ _ a c.index-given-i.is in (λ κs l. (omega (arith, h), l))
 
 pub calls::write_alone-returns-in-GeneratorExp : goal.calls::write_alone-returns-in-GeneratorExp
 unfolding written
-calls::write_alone-returns-in-GeneratorExp g t c = rw (c.in-GeneratorExp.is, generator_exp_tree, sym c.deref.ensures,
-    sym c.deref-in-GeneratorExp.ensures.value) c.write_generator.ensures
+calls::write_alone-returns-in-GeneratorExp g t c = rw (
+  c.in-GeneratorExp.is,
+  generator_exp_tree,
+  sym c.deref.ensures,
+  sym c.deref-in-GeneratorExp.ensures.value,
+) c.write_generator.ensures
 
 pub calls::write_alone-returns-in_default : goal.calls::write_alone-returns-in_default
 calls::write_alone-returns-in_default g t c =
@@ -422,19 +478,19 @@ calls::write_alone-returns-in_default g t c =
 pub calls::write_arguments-returns-then-is_lone : goal.calls::write_arguments-returns-then-is_lone
 calls::write_arguments-returns-then-is_lone g t c = IfOk-equal _ _ _ _ c.write_alone.ensures
     (ap (puts g.W.Writer.after c.args.out.now) (alone_is c.args.args.now (keywords (map keyword_of c.args.words.now)) _ _
-        (sym c.is_lone.ensures ∙ c.if-is_lone.true) c.index-args-0.is))
+    (sym c.is_lone.ensures ∙ c.if-is_lone.true) c.index-args-0.is))
 
 pub calls::write_arguments-returns : goal.calls::write_arguments-returns
 calls::write_arguments-returns g t c = IfOk-equal _ _ _ _ c.write_keywords.ensures
     (args_listed g.W.Writer.after c.args.out.now _ c.args.args.now (keywords (map keyword_of c.args.words.now)) _ c.is_empty.ensures
-        (sym c.is_lone.ensures ∙ c.if-is_lone.false) c.in_ok-write_members.ensures)
+    (sym c.is_lone.ensures ∙ c.if-is_lone.false) c.in_ok-write_members.ensures)
 
 pub calls::write_arguments-write_alone-requires : goal.calls::write_arguments-write_alone-requires
 calls::write_arguments-write_alone-requires g t c =
     let a : 0 < length c.args.args.now = lone_some c.args.args.now (keywords (map keyword_of c.args.words.now))
-        (sym c.is_lone.ensures ∙ c.if-is_lone.true) in
+    (sym c.is_lone.ensures ∙ c.if-is_lone.true) in
     let h : _ = no_higher (λ xs. heights (exprs (map tree_of xs))) (λ x. height (tree_of x)) (λ _ _. refl) _ _ _ a c.index-args-0.is in
-        (λ κs l. (omega (arith, h), l))
+    (λ κs l. (omega (arith, h), l))
 
 pub calls::write_arguments-bounds-args-0 : goal.calls::write_arguments-bounds-args-0
 calls::write_arguments-bounds-args-0 g t c = lone_some c.args.args.now (keywords (map keyword_of c.args.words.now))
@@ -451,23 +507,27 @@ parameters::write_default-returns-then-at-given g t c =
 pub parameters::write_default-returns : goal.parameters::write_default-returns
 parameters::write_default-returns g t c = IfOk-equal _ _ _ _ c.write_expr.ensures
     (two g.W.Writer.after c.args.out.now (tight piece Equal ∷ []) (pieces Expression (tree_of c.index-given-at.result)) _
-        c.in_ok-put_sign.ensures
+    c.in_ok-put_sign.ensures
     ∙ ap (puts g.W.Writer.after c.args.out.now) (default_some c.args.bare c.args.i c.args.given.now _ c.if-i-bare.false
-        c.if-at-given.false c.index-given-at.is))
+    c.if-at-given.false c.index-given-at.is))
 
 pub parameters::write_default-write_expr-requires : goal.parameters::write_default-write_expr-requires
 parameters::write_default-write_expr-requires g t c =
     let h : _ = no_higher (λ xs. heights (exprs (map tree_of xs))) (λ x. height (tree_of x)) (λ _ _. refl) _ _ _ c.if-at-given.false
-        c.index-given-at.is in (λ κs l. (omega (arith, h), l))
+    c.index-given-at.is in (λ κs l. (omega (arith, h), l))
 
 pub displays::write_pair-returns-in_ok-put_sign-in-Some : goal.displays::write_pair-returns-in_ok-put_sign-in-Some
 displays::write_pair-returns-in_ok-put_sign-in-Some g t c = rw c.in-Some.is (IfOk-equal _ _ _ _ c.write_expr-in-Some-2.ensures
     (three g.W.Writer.after c.args.out.now (pieces Expression (tree_of _)) (trailing piece Colon ∷ [])
-        (pieces Expression (tree_of c.args.value.now)) _ _ c.in_ok-write_expr-in-Some.ensures c.in_ok-put_sign-in-Some.ensures))
+    (pieces Expression (tree_of c.args.value.now)) _ _ c.in_ok-write_expr-in-Some.ensures c.in_ok-put_sign-in-Some.ensures))
 
 pub parameters::write_positional-returns : goal.parameters::write_positional-returns
-parameters::write_positional-returns g t c = rw (arguments_tree, sym c.deref.ensures.value, sym c.deref-2.ensures.value,
-    sym c.deref-3.ensures.value) c.write_both.ensures
+parameters::write_positional-returns g t c = rw (
+  arguments_tree,
+  sym c.deref.ensures.value,
+  sym c.deref-2.ensures.value,
+  sym c.deref-3.ensures.value,
+) c.write_both.ensures
 
 pub parameters::write_parameters-returns : goal.parameters::write_parameters-returns
 parameters::write_parameters-returns g t c =
@@ -477,24 +537,24 @@ parameters::write_parameters-returns g t c =
     let k : o.kwonlyargs.len ≡ length o.kwonlyargs.items = omega (arith, o.kwonlyargs.ok.0) in
     rw arguments_tree (IfOk-equal _ _ _ _ c.write_gathered.ensures
     (parameters_told g.W.Writer.after c.args.out.now o.posonlyargs.items o.args.items o.kwonlyargs.items o.vararg o.kwarg
-        (optionals (map option_of o.kw_defaults.items)) o.defaults.items _ _ _ _ _ _ _
+    (optionals (map option_of o.kw_defaults.items)) o.defaults.items _ _ _ _ _ _ _
     (c.is_empty.ensures ∙ ap (λ n. n == 0) p) (c.is_empty-2.ensures ∙ ap (λ n. n == 0) q) c.is_none.ensures
-        (c.is_empty-3.ensures ∙ ap (λ n. n == 0) k)
+    (c.is_empty-3.ensures ∙ ap (λ n. n == 0) k)
     (c.in_ok-write_positional.ensures ∙ ap (λ z. puts g.W.Writer.after c.args.out.now (listed piece (positional z)))
-        (arguments_tree c.args.a.now))
+    (arguments_tree c.args.a.now))
     (c.in_ok-write_star.ensures
-        ∙ ap (λ z. puts g.W.Writer.after c.write_positional.new.out (members (c.is_empty.result && c.is_empty-2.result)
-        (trailing piece Comma) (with_star piece (gathered piece Star (optional_arg (arg_option_of o.vararg)))
-        (names piece (args (map arg_of z)))))) c.deref.ensures.value)
+    ∙ ap (λ z. puts g.W.Writer.after c.write_positional.new.out (members (c.is_empty.result && c.is_empty-2.result)
+    (trailing piece Comma) (with_star piece (gathered piece Star (optional_arg (arg_option_of o.vararg)))
+    (names piece (args (map arg_of z)))))) c.deref.ensures.value)
     (c.in_ok-write_keyword_only.ensures
-        ∙ (λ i. puts g.W.Writer.after c.write_star.new.out
-        (members false (trailing piece Comma) (kwonly (c.deref-2.ensures.value i) (c.deref-3.ensures.value i)))))))
+    ∙ (λ i. puts g.W.Writer.after c.write_star.new.out
+    (members false (trailing piece Comma) (kwonly (c.deref-2.ensures.value i) (c.deref-3.ensures.value i)))))))
 
 pub operators::write_compared-loop-i-preserved : goal.operators::write_compared-loop-i-preserved
 operators::write_compared-loop-i-preserved g t c = compared_on g.W.Writer.after _ c.loop-i.out BitOr c.args.ops.now c.args.comparators.now
     c.loop-i.i _ c.index-comparators-i.result _ _
     (omega arith) (read_again c.args.ops.now c.loop-i.i Is.Eq (omega arith)) (omega arith) c.index-comparators-i.is c.loop-i.invariant
-        c.in_ok-put_comparison.ensures c.in_ok-write_expr.ensures
+    c.in_ok-put_comparison.ensures c.in_ok-write_expr.ensures
 
 pub operators::write_compared-returns : goal.operators::write_compared-returns
 operators::write_compared-returns g t c = compared_done g.W.Writer.after _ c.loop-i.out BitOr c.args.ops.now c.args.comparators.now
@@ -504,43 +564,43 @@ pub operators::write_compared-write_expr-requires : goal.operators::write_compar
 operators::write_compared-write_expr-requires g t c =
     let b : c.loop-i.i < length c.args.comparators.now = omega arith in
     let h : _ = no_higher (λ xs. heights (exprs (map tree_of xs))) (λ x. height (tree_of x)) (λ _ _. refl) _ _ _ b
-        c.index-comparators-i.is in (λ κs l. (omega (arith, h), l))
+    c.index-comparators-i.is in (λ κs l. (omega (arith, h), l))
 
 pub parameters::write_both-returns : goal.parameters::write_both-returns
 parameters::write_both-returns g t c = IfOk-equal _ _ _ _ c.write_plain-2.ensures
     (ap (λ z. puts g.W.Writer.after c.put_slash.new.out (members (nat_eq (length c.args.only.now) 0) (trailing piece Comma)
-        (padded (N c.args.others.now) c.saturating_sub-2.result (D z)))) (take_rest c.saturating_sub.result c.args.given.now)
+    (padded (N c.args.others.now) c.saturating_sub-2.result (D z)))) (take_rest c.saturating_sub.result c.args.given.now)
     ∙ (λ i. puts g.W.Writer.after c.put_slash.new.out (members (nat_eq (length c.args.only.now) 0) (trailing piece Comma)
-        (padded (N c.args.others.now) (c.saturating_sub-2.ensures i) (D (drop (c.saturating_sub.ensures i) c.args.given.now)))))
+    (padded (N c.args.others.now) (c.saturating_sub-2.ensures i) (D (drop (c.saturating_sub.ensures i) c.args.given.now)))))
     ∙ places_on g.W.Writer.after c.args.out.now c.args.only.now c.args.others.now c.args.given.now c.saturating_sub-bare.result _ _
-        c.saturating_sub-bare.ensures c.in_ok-write_plain.ensures c.in_ok-put_slash.ensures)
+    c.saturating_sub-bare.ensures c.in_ok-write_plain.ensures c.in_ok-put_slash.ensures)
 
 pub parameters::write_both-write_plain-requires-2 : goal.parameters::write_both-write_plain-requires-2
 parameters::write_both-write_plain-requires-2 g t c =
     let h : _ = rest_no_higher (λ xs. heights (exprs (map tree_of xs))) (λ x. height (tree_of x)) (λ _ _. refl) c.saturating_sub.result
-        c.args.given.now in (λ κs l. (omega (arith, h), l))
+    c.args.given.now in (λ κs l. (omega (arith, h), l))
 
 -- ---- What stands inside is no higher.
 
 pub calls::write_alone-write_generator-requires : goal.calls::write_alone-write_generator-requires
 calls::write_alone-write_generator-requires g t c =
     let h : _ = generator_height _ _ _ _ _ c.in-GeneratorExp.is c.deref.ensures c.deref-in-GeneratorExp.ensures.value in
-        (λ κs l. (omega (arith, h), l))
+    (λ κs l. (omega (arith, h), l))
 
 pub expressions::write_expr-write_dict_comprehension-requires : goal.expressions::write_expr-write_dict_comprehension-requires
 expressions::write_expr-write_dict_comprehension-requires g t c =
     let h : _ = dict_comp_height _ _ _ _ _ _ _ c.in-DictComp.is c.deref-in-DictComp.ensures c.deref-in-DictComp-2.ensures
-        c.deref-in-DictComp-3.ensures.value in (λ κs l. (omega (arith, h), l))
+    c.deref-in-DictComp-3.ensures.value in (λ κs l. (omega (arith, h), l))
 
 pub expressions::write_expr-write_compare-requires : goal.expressions::write_expr-write_compare-requires
 expressions::write_expr-write_compare-requires g t c =
     let h : _ = compare_height _ _ _ _ _ _ c.in-Compare.is c.deref-in-Compare.ensures c.deref-in-Compare-3.ensures.value in
-        (λ κs l. (omega (arith, h), l))
+    (λ κs l. (omega (arith, h), l))
 
 pub expressions::write_expr-write_call-requires : goal.expressions::write_expr-write_call-requires
 expressions::write_expr-write_call-requires g t c =
     let h : _ = call_height _ _ _ _ _ _ _ c.in-Call.is c.deref-in-Call.ensures c.deref-in-Call-2.ensures.value
-        c.deref-in-Call-3.ensures.value in (λ κs l. (omega (arith, h), l))
+    c.deref-in-Call-3.ensures.value in (λ κs l. (omega (arith, h), l))
 
 pub calls::write_keyword-write_expr-requires : goal.calls::write_keyword-write_expr-requires
 calls::write_keyword-write_expr-requires g t c = let h : _ = keyword_height c.args.word.now in (λ κs l. (omega (arith, h), l))
@@ -561,7 +621,7 @@ clauses::write_clause-write_conditions-requires g t c = let h : _ = parts_height
 pub parameters::write_positional-write_both-requires : goal.parameters::write_positional-write_both-requires
 parameters::write_positional-write_both-requires g t c =
     let h : _ = places_lower c.args.a.now _ _ _ c.deref.ensures.value c.deref-2.ensures.value c.deref-3.ensures.value in
-        (λ κs l. (omega (arith, h), l))
+    (λ κs l. (omega (arith, h), l))
 
 pub parameters::write_parameters-write_star-requires : goal.parameters::write_parameters-write_star-requires
 parameters::write_parameters-write_star-requires g t c = let h : _ = star_lower c.args.a.now in (λ κs l. (omega (arith, h), l))
@@ -580,9 +640,9 @@ unfolding written
 expressions::write_expr-returns-in_ok-put_sign-in-Starred g t c = rw (c.in-Starred.is, starred_tree, sym c.deref-in-Starred.ensures)
     (IfOk-equal _ _ _ _ c.write_expr.ensures
     (two g.W.Writer.after c.args.out.now (leading piece Star ∷ []) (pieces c.star_level.result (tree_of c.deref-in-Starred.result.now)) _
-        c.in_ok-put_sign-in-Starred.ensures
+    c.in_ok-put_sign-in-Starred.ensures
     ∙ ap (λ k. puts g.W.Writer.after c.args.out.now (leading piece Star ∷ pieces k (tree_of c.deref-in-Starred.result.now)))
-        c.star_level.ensures))
+    c.star_level.ensures))
 
 pub optional::write_perhaps-returns-in-None : goal.optional::write_perhaps-returns-in-None
 unfolding written
@@ -601,7 +661,7 @@ unfolding written
 optional::write_suffix-returns-in_ok-put_operator-in-Some g t c =
     rw (c.in-Some.is, sym c.deref.ensures) (IfOk-equal _ _ _ _ c.write_expr.ensures
     (two g.W.Writer.after c.args.out.now (sited (Op c.args.sign) true c.args.behind ∷ []) (pieces Expression (tree_of c.deref.result.now)) _
-        c.in_ok-put_operator-in-Some.ensures))
+    c.in_ok-put_operator-in-Some.ensures))
 
 pub parameters::write_own_default-returns-in-None : goal.parameters::write_own_default-returns-in-None
 unfolding written
@@ -611,7 +671,7 @@ pub parameters::write_own_default-returns-in_ok-put_sign-in-Some : goal.paramete
 unfolding written
 parameters::write_own_default-returns-in_ok-put_sign-in-Some g t c = rw c.in-Some.is (IfOk-equal _ _ _ _ c.write_expr.ensures
     (two g.W.Writer.after c.args.out.now (tight piece Equal ∷ []) (pieces Expression (tree_of c.in-Some.e)) _
-        c.in_ok-put_sign-in-Some.ensures))
+    c.in_ok-put_sign-in-Some.ensures))
 
 pub parameters::write_gathered-returns-in-None : goal.parameters::write_gathered-returns-in-None
 unfolding written
@@ -621,7 +681,7 @@ parameters::write_gathered-returns-in-None g t c =
 pub parameters::write_gathered-returns-in_ok-put_sign-in-Some : goal.parameters::write_gathered-returns-in_ok-put_sign-in-Some
 parameters::write_gathered-returns-in_ok-put_sign-in-Some g t c = rw c.in-Some.is (IfOk-equal _ _ _ _ c.write_named_arg.ensures
     (gathered_on g.W.Writer.after c.args.out.now c.args.is_first c.args.sign (arg_of c.in-Some.arg) _ _ c.in_ok-put_between-in-Some.ensures
-        c.in_ok-put_sign-in-Some.ensures))
+    c.in_ok-put_sign-in-Some.ensures))
 
 pub parameters::write_star-returns-then-is_some-is_empty : goal.parameters::write_star-returns-then-is_some-is_empty
 parameters::write_star-returns-then-is_some-is_empty g t c = IfOk-equal _ _ _ _ c.write_gathered.ensures
@@ -649,7 +709,7 @@ pub strings::write_joined-returns-then-is_unicode : goal.strings::write_joined-r
 strings::write_joined-returns-then-is_unicode g t c = IfOk-equal _ _ _ _ c.write_string.ensures
     (marked g.W.Writer.after c.args.out.now
     (exprs (map tree_of c.args.values.now)) _ _ c.is_unicode.ensures c.first_text-text.ensures _ c.if-is_unicode.true
-        c.in_ok-put_str.ensures)
+    c.in_ok-put_str.ensures)
 
 pub strings::write_joined-returns : goal.strings::write_joined-returns
 strings::write_joined-returns g t c = IfOk-equal _ _ _ _ c.write_string-2.ensures
@@ -732,7 +792,7 @@ strings::write_spec_string-returns-in-JoinedStr g t c = rw (c.in-JoinedStr.is, j
 pub strings::write_spec_string-returns-in_default : goal.strings::write_spec_string-returns-in_default
 strings::write_spec_string-returns-in_default g t c = sym
     (ap (puts_elements g.W.Writer.after g.W.Writer.step c.args.in_field c.args.out.now)
-        (not_spec c.args.spec.now c.in_default.not-JoinedStr))
+    (not_spec c.args.spec.now c.in_default.not-JoinedStr))
 
 pub strings::write_spec_string-write_spec_values-requires : goal.strings::write_spec_string-write_spec_values-requires
 strings::write_spec_string-write_spec_values-requires g t c = let h : _ = joined_height _ _ _ c.in-JoinedStr.is c.deref.ensures.value in
@@ -742,4 +802,4 @@ pub strings::write_spec_values-returns : goal.strings::write_spec_values-returns
 strings::write_spec_values-returns g t c = IfOk-equal _ _ _ _ c.write_values.ensures
     (spec_on g.W.Writer.after g.W.Writer.step c.args.in_field
     (exprs (map tree_of c.args.values.now)) _ c.args.out.now _ _ _ c.first_text.ensures c.in_ok-begin_spec.ensures
-        c.in_ok-put_text.ensures refl)
+    c.in_ok-put_text.ensures refl)

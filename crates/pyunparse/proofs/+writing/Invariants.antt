@@ -27,11 +27,11 @@ invariant-operators::write_compared-loop-i g l =
 abbrev pub invariant-displays::write_pairs-loop-i : goal.invariant-displays::write_pairs-loop-i
 invariant-displays::write_pairs-loop-i g l =
     puts g.W.Writer.after l.out
-        (members l.first (trailing piece Comma) (pairs piece (written_keys piece (optionals (map option_of (drop l.i l.keys))))
-        (exprs (map tree_of (drop l.i l.values)))))
+    (members l.first (trailing piece Comma) (pairs piece (written_keys piece (optionals (map option_of (drop l.i l.keys))))
+    (exprs (map tree_of (drop l.i l.values)))))
     ≡ puts g.W.Writer.after l.initial.out
-        (members true (trailing piece Comma) (pairs piece (written_keys piece (optionals (map option_of l.keys)))
-        (exprs (map tree_of l.values))))
+    (members true (trailing piece Comma) (pairs piece (written_keys piece (optionals (map option_of l.keys)))
+    (exprs (map tree_of l.values))))
 
 abbrev pub invariant-clauses::write_clauses-loop-generator : goal.invariant-clauses::write_clauses-loop-generator
 invariant-clauses::write_clauses-loop-generator g l =
@@ -46,33 +46,33 @@ invariant-clauses::write_conditions-loop-test g l =
 abbrev pub invariant-calls::write_keywords-loop-word : goal.invariant-calls::write_keywords-loop-word
 invariant-calls::write_keywords-loop-word g l =
     puts g.W.Writer.after l.out
-        (members l.first (trailing piece Comma) (by_name piece (keywords (map keyword_of (drop l.word-index l.words)))))
+    (members l.first (trailing piece Comma) (by_name piece (keywords (map keyword_of (drop l.word-index l.words)))))
     ≡ puts g.W.Writer.after l.initial.out (members l.fn.is_first (trailing piece Comma) (by_name piece (keywords (map keyword_of l.words))))
 
 abbrev pub invariant-parameters::write_plain-loop-i : goal.invariant-parameters::write_plain-loop-i
 invariant-parameters::write_plain-loop-i g l =
     puts g.W.Writer.after l.out (members l.first (trailing piece Comma)
     (padded (names piece (args (map arg_of (drop l.i l.params)))) (l.bare - l.i)
-        (map (behind_equal piece) (each piece Expression (exprs (map tree_of (drop (l.i - l.bare) l.given)))))))
+    (map (behind_equal piece) (each piece Expression (exprs (map tree_of (drop (l.i - l.bare) l.given)))))))
     ≡ puts g.W.Writer.after l.initial.out (members l.is_first (trailing piece Comma)
     (padded (names piece (args (map arg_of l.params))) l.bare
-        (map (behind_equal piece) (each piece Expression (exprs (map tree_of l.given))))))
+    (map (behind_equal piece) (each piece Expression (exprs (map tree_of l.given))))))
 
 abbrev pub invariant-parameters::write_keyword_only-loop-i : goal.invariant-parameters::write_keyword_only-loop-i
 invariant-parameters::write_keyword_only-loop-i g l =
     puts g.W.Writer.after l.out
-        (members false (trailing piece Comma) (beside (names piece (args (map arg_of (drop l.i l.params))))
-        (defaults piece (optionals (map option_of (drop l.i l.given))))))
+    (members false (trailing piece Comma) (beside (names piece (args (map arg_of (drop l.i l.params))))
+    (defaults piece (optionals (map option_of (drop l.i l.given))))))
     ≡ puts g.W.Writer.after l.initial.out
-        (members false (trailing piece Comma) (beside (names piece (args (map arg_of l.params)))
-        (defaults piece (optionals (map option_of l.given)))))
+    (members false (trailing piece Comma) (beside (names piece (args (map arg_of l.params)))
+    (defaults piece (optionals (map option_of l.given)))))
 
 abbrev pub invariant-strings::write_values-loop-i : goal.invariant-strings::write_values-loop-i
 invariant-strings::write_values-loop-i g l =
     puts_elements g.W.Writer.after g.W.Writer.step l.in_field l.out
-        (elements_behind piece l.in_spec (exprs (map tree_of (drop l.i l.values))))
+    (elements_behind piece l.in_spec (exprs (map tree_of (drop l.i l.values))))
     ≡ puts_elements g.W.Writer.after g.W.Writer.step l.in_field l.initial.out
-        (elements_behind piece l.in_spec (exprs (map tree_of l.values)))
+    (elements_behind piece l.in_spec (exprs (map tree_of l.values)))
 
 abbrev pub decreases-expressions::write_expr : goal.decreases-expressions::write_expr
 decreases-expressions::write_expr g l = 8 * height (tree_of l.e.now)

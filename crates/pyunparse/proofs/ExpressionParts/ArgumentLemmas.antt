@@ -29,7 +29,7 @@ lone_one (x ∷ (y ∷ es)) ks e h read = absurd (false≢true (sym (not_lone_ge
 pub alone_is : (es : List given.Expr) (ks : Keywords) (e : given.Expr) (ts : List Sited)
     → lone_generator (exprs (map tree_of es)) ks ≡ true → e ≡ get_or es 0 e →
     alone piece (an_expr (tree_of e) no_exprs) ≡ (if lone_generator (exprs (map tree_of es)) ks then alone piece
-        (exprs (map tree_of es)) else ts)
+    (exprs (map tree_of es)) else ts)
 alone_is es ks e ts h read = ap (alone piece) (sym (lone_one es ks e h read))
     ∙ (λ i. if sym h i then alone piece (exprs (map tree_of es)) else ts)
 
@@ -40,10 +40,10 @@ none_each (e ∷ es) = sym (not_zero (length es))
 
 pub args_listed : {S : Type 0} (after : S → Sited → S) (s s1 : S) (es : List given.Expr) (ks : Keywords) (b : Bool) →
     b ≡ (length es == 0) → lone_generator (exprs (map tree_of es)) ks ≡ false
-        → s1 ≡ puts after s (separated (trailing piece Comma) (each piece Named (exprs (map tree_of es)))) →
+    → s1 ≡ puts after s (separated (trailing piece Comma) (each piece Named (exprs (map tree_of es)))) →
     puts after s1 (members b (trailing piece Comma) (by_name piece ks))
     ≡ puts after s (if lone_generator (exprs (map tree_of es)) ks then alone piece (exprs (map tree_of es)) else listed piece
-        (each piece Named (exprs (map tree_of es)) ++ by_name piece ks))
+    (each piece Named (exprs (map tree_of es)) ++ by_name piece ks))
 args_listed after s s1 es ks b hb h e1 =
     let t : Sited = trailing piece Comma in
     let X : List (List Sited) = each piece Named (exprs (map tree_of es)) in

@@ -212,24 +212,24 @@ module _ {S : Type 0} (after : S → Sited → S) (s : S) (l : Level) where
   pub binary : (b : Bool) (a : Expr) (o : Operator) (e : Expr) (j k : Level) (x : Exact) (s1 s2 s3 s4 : S) →
       b ≡ reaches l (operator_level o) → j ≡ left_level o → k ≡ right_level o → Op x ≡ operator_sign o →
       s1 ≡ puts after s (opened b) → s2 ≡ puts after s1 (pieces j a) → s3 ≡ puts after s2 (sited (Op x) false false ∷ [])
-          → s4 ≡ puts after s3 (pieces k e) →
+      → s4 ≡ puts after s3 (pieces k e) →
       puts after s4 (closed b) ≡ puts after s (pieces l (Trees.BinOp a o e))
   binary b a o e j k x s1 s2 s3 s4 hb hj hk hx e1 e2 e3 e4 = binary_of b a o e s1 s2 s3 s4 hb e1
       (e2 ∙ ap (λ z. puts after s1 (pieces z a)) hj) (e3 ∙ ap (λ z. puts after s2 (sited z false false ∷ [])) hx) (e4
-          ∙ ap (λ z. puts after s3 (pieces z e)) hk)
+      ∙ ap (λ z. puts after s3 (pieces z e)) hk)
 
 pub dict_comprehension : {S : Type 0} (after : S → Sited → S) (s : S) (k e : Expr) (gs : Comprehensions) (s1 s2 s3 s4 s5 : S) →
     s1 ≡ puts after s (leading piece LBrace ∷ []) → s2 ≡ puts after s1 (pieces Expression k)
-        → s3 ≡ puts after s2 (trailing piece Colon ∷ []) →
+    → s3 ≡ puts after s2 (trailing piece Colon ∷ []) →
     s4 ≡ puts after s3 (pieces Expression e) → s5 ≡ puts after s4 (clauses piece gs) →
     puts after s5 (trailing piece RBrace ∷ []) ≡ puts after s
-        (enclosed piece (leading piece LBrace) RBrace
-        (pieces Expression k ++ (trailing piece Colon ∷ (pieces Expression e ++ clauses piece gs))))
+    (enclosed piece (leading piece LBrace) RBrace
+    (pieces Expression k ++ (trailing piece Colon ∷ (pieces Expression e ++ clauses piece gs))))
 dict_comprehension after s k e gs s1 s2 s3 s4 s5 e1 e2 e3 e4 e5 =
     six after s (leading piece LBrace ∷ []) (pieces Expression k) (trailing piece Colon ∷ []) (pieces Expression e) (clauses piece gs)
-        (trailing piece RBrace ∷ []) s1 s2 s3 s4 s5 e1 e2 e3 e4 e5
+    (trailing piece RBrace ∷ []) s1 s2 s3 s4 s5 e1 e2 e3 e4 e5
     ∙ ap (λ z. puts after s (leading piece LBrace ∷ z)) (regroup (pieces Expression k) (pieces Expression e) (clauses piece gs)
-        (trailing piece Colon) (trailing piece RBrace ∷ []))
+    (trailing piece Colon) (trailing piece RBrace ∷ []))
   where
     regroup : (a b c : List Sited) (x : Sited) (d : List Sited) → a ++ (x ∷ (b ++ (c ++ d))) ≡ (a ++ (x ∷ (b ++ c))) ++ d
     regroup a b c x d = ap (λ z. a ++ (x ∷ z)) (sym (append_assoc b c d)) ∙ sym (append_assoc a (x ∷ (b ++ c)) d)

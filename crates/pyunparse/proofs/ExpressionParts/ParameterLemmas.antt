@@ -63,7 +63,7 @@ padded_both (ts ∷ xss) yss (suc n) uss =
 padded_both (ts ∷ xss) yss zero [] =
     let a : zero - length xss ≡ zero - suc (length xss) = omega arith in
     ap (λ z. ts ∷ z) (padded_both xss yss zero []
-        ∙ (λ i. padded xss zero [] ++ padded yss (a i) ((drop_none (length xss - zero) ∙ sym (drop_none (suc (length xss) - zero))) i)))
+    ∙ (λ i. padded xss zero [] ++ padded yss (a i) ((drop_none (length xss - zero) ∙ sym (drop_none (suc (length xss) - zero))) i)))
 padded_both (ts ∷ xss) yss zero (us ∷ uss) =
     let a : zero - length xss ≡ zero - suc (length xss) = omega arith in
     let b : suc (length xss - zero) ≡ suc (length xss) - zero = omega arith in
@@ -155,19 +155,19 @@ step_given a rest (d ∷ ds) = ap (λ z. padded z zero (D (d ∷ ds))) (one_more
 
 step : (a : Arg) (rest : Args) (bare i : ℕ) (ds : List given.Expr) →
     padded (names piece (an_arg a rest)) (bare - i) (D (drop (i - bare) ds)) ≡ (named a ++ default_at bare i (map tree_of ds)) ∷ padded
-        (names piece rest) (bare - (i + 1)) (D (drop (i + 1 - bare) ds))
+    (names piece rest) (bare - (i + 1)) (D (drop (i + 1 - bare) ds))
 step a rest bare i ds = by (nat_lt i bare) refl
   where
     by : (b : Bool) → nat_lt i bare ≡ b →
         padded (names piece (an_arg a rest)) (bare - i) (D (drop (i - bare) ds))
         ≡ (named a ++ (if b then [] else head_default (drop (i - bare) (map tree_of ds)))) ∷ padded (names piece rest) (bare - (i + 1))
-            (D (drop (i + 1 - bare) ds))
+        (D (drop (i + 1 - bare) ds))
     by true e =
         let lt : i < bare = grind (arith, nat_tests) in
         let one : bare - i ≡ suc (bare - (i + 1)) = omega (arith, lt) in
         let same : i - bare ≡ i + 1 - bare = omega (arith, lt) in
         (λ k. padded (names piece (an_arg a rest)) (one k) (D (drop (same k) ds)))
-            ∙ step_bare a rest (bare - (i + 1)) (D (drop (i + 1 - bare) ds))
+        ∙ step_bare a rest (bare - (i + 1)) (D (drop (i + 1 - bare) ds))
     by false e =
         let le : bare ≤ i = grind (arith, nat_tests) in
         let none : bare - i ≡ zero = omega (arith, le) in
@@ -176,23 +176,23 @@ step a rest bare i ds = by (nat_lt i bare) refl
         (λ k. padded (names piece (an_arg a rest)) (none k) (D (drop (i - bare) ds)))
         ∙ step_given a rest (drop (i - bare) ds)
         ∙ (λ k. (named a ++ head_default (sym (drop_map tree_of (i - bare) ds) k)) ∷ padded (names piece rest) (next k)
-            (D ((sym (drop_next (i - bare) ds) ∙ ap (λ n. drop n ds) after) k)))
+        (D ((sym (drop_next (i - bare) ds) ∙ ap (λ n. drop n ds) after) k)))
 
 module _ {S : Type 0} (after : S → Sited → S) (base o : S) where
   pub plain_on : (f : Bool) (ps : List given_arg.Arg) (bare i : ℕ) (ds : List given.Expr) (p : given_arg.Arg) (o1 o2 o3 : S)
       → i < length ps → p ≡ get_or ps i p →
       puts after o (members f comma (padded (N (drop i ps)) (bare - i) (D (drop (i - bare) ds)))) ≡ base →
       o1 ≡ puts after o (if f then [] else comma ∷ []) → o2 ≡ puts after o1 (named (arg_of p))
-          → o3 ≡ puts after o2 (default_at bare i (map tree_of ds)) →
+      → o3 ≡ puts after o2 (default_at bare i (map tree_of ds)) →
       puts after o3 (members false comma (padded (N (drop (i + 1) ps)) (bare - (i + 1)) (D (drop (i + 1 - bare) ds)))) ≡ base
   plain_on f ps bare i ds p o1 o2 o3 lt read so_far e1 e2 e3 =
       let rest : List (List Sited) = padded (N (drop (i + 1) ps)) (bare - (i + 1)) (D (drop (i + 1 - bare) ds)) in
       let ts : List Sited = named (arg_of p) ++ default_at bare i (map tree_of ds) in
       ap (λ z. puts after z (members false comma rest)) (e3 ∙ two after o1 (named (arg_of p)) (default_at bare i (map tree_of ds)) o2 e2
-          ∙ ap (λ z. puts after z ts) e1)
+      ∙ ap (λ z. puts after z ts) e1)
       ∙ sym (members_on after o f comma ts rest)
       ∙ ap (λ z. puts after o (members f comma z)) (sym (ap (λ z. padded (N z) (bare - i) (D (drop (i - bare) ds))) (dropped ps i p lt read)
-          ∙ step (arg_of p) (args (map arg_of (drop (i + 1) ps))) bare i ds))
+      ∙ step (arg_of p) (args (map arg_of (drop (i + 1) ps))) bare i ds))
       ∙ so_far
 
   pub plain_done : (f : Bool) (ps : List given_arg.Arg) (bare i : ℕ) (uss : List (List Sited)) → length ps ≤ i →
@@ -200,20 +200,20 @@ module _ {S : Type 0} (after : S → Sited → S) (base o : S) where
   unfolding written
   plain_done f ps bare i uss h so_far =
       sym (ap (λ z. puts after o (members f comma (padded (N z) (bare - i) uss))) (none_left ps i h)
-          ∙ ap (puts after o) (members_none f comma)) ∙ so_far
+      ∙ ap (puts after o) (members_none f comma)) ∙ so_far
 
 -- ---- The parameters by their places.
 
 parts : (ps qs : List given_arg.Arg) (ds : List given.Expr) (bare : ℕ) → bare ≡ (length ps + length qs) - length ds →
     with_slash piece (N ps) (with_defaults (N ps ++ N qs) (D ds)) ≡ padded (N ps) bare (D ds) ++
-        (slash (N ps) ++ padded (N qs) (bare - length ps) (D (drop (length ps - bare) ds)))
+    (slash (N ps) ++ padded (N qs) (bare - length ps) (D (drop (length ps - bare) ds)))
 parts ps qs ds bare e =
     let count : length (N ps ++ N qs) ≡ length ps + length qs = length-append (N ps) (N qs) ∙ (λ k. name_count ps k + name_count qs k) in
     let at : length (N ps ++ N qs) - length (D ds) ≡ bare = (λ k. count k - default_count ds k) ∙ sym e in
     ap (with_slash piece (N ps)) (defaults_padded (N ps ++ N qs) (D ds) ∙ ap (λ n. padded (N ps ++ N qs) n (D ds)) at
-        ∙ padded_both (N ps) (N qs) bare (D ds))
+    ∙ padded_both (N ps) (N qs) bare (D ds))
     ∙ slash_between (N ps) (padded (N ps) bare (D ds)) (padded (N qs) (bare - length (N ps)) (drop (length (N ps) - bare) (D ds)))
-        (sym (padded_length (N ps) bare (D ds)))
+    (sym (padded_length (N ps) bare (D ds)))
     ∙ (λ k. padded (N ps) bare (D ds) ++ (slash (N ps) ++ padded (N qs) (bare - name_count ps k) (drop (name_count ps k - bare) (D ds))))
     ∙ ap (λ z. padded (N ps) bare (D ds) ++ (slash (N ps) ++ padded (N qs) (bare - length ps) z)) (defaults_left (length ps - bare) ds)
 
@@ -256,7 +256,7 @@ no_positional ps qs ds =
     ∙ nil_append X (slash (N ps) ++ Y)
     ∙ ap (λ z. is_nil X && z) (nil_append (slash (N ps)) Y)
     ∙ (λ k. padded_nil (N ps) bare (D ds) k && (is_nil (slash (N ps)) && padded_nil (N qs) (bare - length ps)
-        (D (drop (length ps - bare) ds)) k))
+    (D (drop (length ps - bare) ds)) k))
     ∙ nil_slash (N ps) (is_nil (N qs))
     ∙ (λ k. no_names ps k && no_names qs k)
 
@@ -273,7 +273,7 @@ no_star (present_arg (arg x t)) ks = refl
 -- behind a `*` of their own no keyword-only parameter is the first
 none_first : (first a : Bool) (ks : List given_arg.Arg) (kds : OptionalExprs) →
     members (first && (a && is_nil ks)) comma (beside (N ks) (defaults piece kds)) ≡ members false comma
-        (beside (N ks) (defaults piece kds))
+    (beside (N ks) (defaults piece kds))
 unfolding written
 none_first first a [] kds = members_none (first && (a && true)) comma
 none_first first a (k ∷ ks) kds = ap (λ z. members z comma (beside (N (k ∷ ks)) (defaults piece kds))) (never first a)
@@ -298,12 +298,12 @@ pub parameters_on : {S : Type 0} (after : S → Sited → S) (s : S) (ps qs ks :
     (ds : List given.Expr) (first none : Bool) (s1 s2 s3 : S) →
     first ≡ (is_nil ps && is_nil qs) → none ≡ (first && (is_absent v && is_nil ks)) →
     s1 ≡ puts after s (listed piece (positional (arguments (args (map arg_of ps)) (args (map arg_of qs)) v (args (map arg_of ks)) kds k
-        (exprs (map tree_of ds))))) →
+    (exprs (map tree_of ds))))) →
     s2 ≡ puts after s1 (members first comma (with_star piece (gathered piece Star v) (N ks))) →
     s3 ≡ puts after s2 (members false comma (beside (N ks) (defaults piece kds))) →
     puts after s3 (members none comma (gathered piece DoubleStar k))
     ≡ puts after s (listed piece (parameters piece (arguments (args (map arg_of ps)) (args (map arg_of qs)) v (args (map arg_of ks)) kds k
-        (exprs (map tree_of ds)))))
+    (exprs (map tree_of ds)))))
 unfolding written
 parameters_on after s ps qs ks v k kds ds first none s1 s2 s3 hf hn e1 e2 e3 =
     let P : List (List Sited) = with_slash piece (N ps) (with_defaults (N ps ++ N qs) (D ds)) in
@@ -314,21 +314,21 @@ parameters_on after s ps qs ks v k kds ds first none s1 s2 s3 hf hn e1 e2 e3 =
     let p : is_nil P ≡ first = no_positional ps qs ds ∙ sym hf in
     let q : (is_nil P && is_nil V) ≡ (first && (a && is_nil ks)) = (λ i. p i && no_star v ks i) in
     let r : ((is_nil P && is_nil V) && is_nil B) ≡ none = ap (λ z. z && is_nil B) (q ∙ and_assoc first a (is_nil ks))
-        ∙ nil_beside (first && a) ks (defaults piece kds) ∙ sym (hn ∙ and_assoc first a (is_nil ks)) in
+    ∙ nil_beside (first && a) ks (defaults piece kds) ∙ sym (hn ∙ and_assoc first a (is_nil ks)) in
     let whole : members true comma (P ++ (V ++ (B ++ K))) ≡ members true comma P ++
-        (members first comma V ++ (members false comma B ++ members none comma K)) =
+    (members first comma V ++ (members false comma B ++ members none comma K)) =
     members_both true comma P (V ++ (B ++ K))
     ∙ ap (λ z. members true comma P ++ z) (members_both (is_nil P) comma V (B ++ K)
-        ∙ (λ i. members (p i) comma V ++ members (is_nil P && is_nil V) comma (B ++ K))
+    ∙ (λ i. members (p i) comma V ++ members (is_nil P && is_nil V) comma (B ++ K))
     ∙ ap (λ z. members first comma V ++ z) (members_both (is_nil P && is_nil V) comma B K
-        ∙ (λ i. members (q i) comma B ++ members (r i) comma K)
+    ∙ (λ i. members (q i) comma B ++ members (r i) comma K)
     ∙ ap (λ z. z ++ members none comma K) (none_first first a ks kds))) in
     four after s (members true comma P) (members first comma V) (members false comma B) (members none comma K) s1 s2 s3 e1 e2 e3
     ∙ ap (puts after s) (sym whole)
 
 pub plain_start : {S : Type 0} (after : S → Sited → S) (o : S) (f : Bool) (ps : List given_arg.Arg) (bare : ℕ) (ds : List given.Expr) →
     puts after o (members f comma (padded (N (drop 0 ps)) (bare - 0) (D (drop (0 - bare) ds)))) ≡ puts after o
-        (members f comma (padded (N ps) bare (D ds)))
+    (members f comma (padded (N ps) bare (D ds)))
 plain_start after o f ps bare ds =
     let a : bare - 0 ≡ bare = omega arith in
     let b : 0 - bare ≡ 0 = omega arith in
@@ -371,14 +371,14 @@ pub parameters_told : {S : Type 0} (after : S → Sited → S) (s : S) (ps qs ks
     (kds : OptionalExprs) (ds : List given.Expr) (b1 b2 n b3 : Bool) (s1 s2 s3 : S) →
     b1 ≡ (length ps == 0) → b2 ≡ (length qs == 0) → is_some v ≡ not n → b3 ≡ (length ks == 0) →
     s1 ≡ puts after s (listed piece (positional (arguments (args (map arg_of ps)) (args (map arg_of qs)) (optional_arg (arg_option_of v))
-        (args (map arg_of ks)) kds (optional_arg (arg_option_of k)) (exprs (map tree_of ds))))) →
+    (args (map arg_of ks)) kds (optional_arg (arg_option_of k)) (exprs (map tree_of ds))))) →
     s2 ≡ puts after s1 (members (b1 && b2) comma (with_star piece (gathered piece Star (optional_arg (arg_option_of v))) (N ks))) →
     s3 ≡ puts after s2 (members false comma (beside (N ks) (defaults piece kds))) →
     puts after s3 (members (((b1 && b2) && n) && b3) comma (gathered piece DoubleStar (optional_arg (arg_option_of k))))
     ≡ puts after s (listed piece (parameters piece (arguments (args (map arg_of ps)) (args (map arg_of qs)) (optional_arg (arg_option_of v))
-        (args (map arg_of ks)) kds (optional_arg (arg_option_of k)) (exprs (map tree_of ds)))))
+    (args (map arg_of ks)) kds (optional_arg (arg_option_of k)) (exprs (map tree_of ds)))))
 parameters_told after s ps qs ks v k kds ds b1 b2 n b3 s1 s2 s3 h1 h2 hn h3 e1 e2 e3 =
     parameters_on after s ps qs ks (optional_arg (arg_option_of v)) (optional_arg (arg_option_of k)) kds ds (b1 && b2)
-        (((b1 && b2) && n) && b3) s1 s2 s3
+    (((b1 && b2) && n) && b3) s1 s2 s3
     (λ i. (h1 ∙ sym (nil_length ps)) i && (h2 ∙ sym (nil_length qs)) i)
     (sym (and_assoc (b1 && b2) n b3) ∙ (λ i. (b1 && b2) && (absent_is v n hn i && (h3 ∙ sym (nil_length ks)) i))) e1 e2 e3

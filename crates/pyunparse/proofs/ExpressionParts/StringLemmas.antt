@@ -80,7 +80,7 @@ module _ {S : Type 0} (after : S → Sited → S) (step : S → Step → S) (is_
         ap (λ z. put_all z (elements_behind piece b rest)) (e1 ∙ ap (λ z. put_all o (value_elements b (tree_of x) z)) h)
         ∙ sym (elements_both after step is_in_field o (value_elements b (tree_of x) (first_text rest)) (elements_behind piece b rest))
         ∙ ap (put_all o) (sym (ap (λ z. elements_behind piece b (exprs (map tree_of z))) (dropped xs i x lt read)
-            ∙ values_both b (tree_of x) rest))
+        ∙ values_both b (tree_of x) rest))
         ∙ so_far
 
     pub values_done : (xs : List given.Expr) (i : ℕ) → length xs ≤ i

@@ -27,7 +27,7 @@ single _ b ts = refl
 -- more of them
 more : (k : Level) (b : Bool) (ts us : List Sited) (tss : List (List Sited)) →
     opened (not (is_elem k)) ++ (separated comma (ts ∷ (us ∷ tss)) ++ ([] ++ closed (not (is_elem k)))) ≡ tuple_of
-        piece k b (ts ∷ (us ∷ tss))
+    piece k b (ts ∷ (us ∷ tss))
 more Elem b ts us tss = refl
 more Part true ts us tss = append-nil (separated comma (ts ∷ (us ∷ tss)))
 more Part false ts us tss = append-nil (separated comma (ts ∷ (us ∷ tss)))
@@ -36,7 +36,7 @@ more _ b ts us tss = append-nil (separated comma (ts ∷ (us ∷ tss)))
 -- any number of them, written at one level and joined by another
 whole : (j k : Level) (es : Exprs) →
     opened (are_bare es j) ++ (separated comma (each piece k es) ++ (last (is_alone es j) ++ closed (are_bare es j))) ≡ tuple_of piece j
-        (lone_star es) (each piece k es)
+    (lone_star es) (each piece k es)
 unfolding written
 whole j k no_exprs = refl
 whole j k (an_expr e no_exprs) = single j (lone_star (an_expr e no_exprs)) (pieces k e)

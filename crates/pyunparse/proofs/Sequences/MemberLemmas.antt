@@ -50,7 +50,7 @@ members_both true t [] yss = refl
 members_both false t [] yss = refl
 members_both true t (ts ∷ xss) yss =
     separated_on t ts (xss ++ yss) ∙ ap (λ z. ts ++ z) (following_both t xss yss)
-        ∙ sym (append_assoc ts (following t xss) (following t yss))
+    ∙ sym (append_assoc ts (following t xss) (following t yss))
     ∙ ap (λ z. z ++ following t yss) (sym (separated_on t ts xss))
 members_both false t (ts ∷ xss) yss = following_both t (ts ∷ xss) yss
 
@@ -123,7 +123,7 @@ module _ {S X Y : Type 0} (after : S → Sited → S) (base o : S) where
     pub both_on : (g : X → Y → List Sited) → ((x : X) (y : Y) (xs : List X) (ys : List Y) → F (x ∷ xs) (y ∷ ys) ≡ g x y ∷ F xs ys) →
         (xs : List X) (ys : List Y) (i : ℕ) (x : X) (y : Y) (o1 o2 : S) →
         i < length xs → x ≡ get_or xs i x → i < length ys → y ≡ get_or ys i y
-            → puts after o (members f t (F (drop i xs) (drop i ys))) ≡ base →
+        → puts after o (members f t (F (drop i xs) (drop i ys))) ≡ base →
         o1 ≡ puts after o (if f then [] else t ∷ []) → o2 ≡ puts after o1 (g x y) →
         puts after o2 (members false t (F (drop (i + 1) xs) (drop (i + 1) ys))) ≡ base
     both_on g cons xs ys i x y o1 o2 lx rx ly ry so_far e1 e2 =
@@ -131,7 +131,7 @@ module _ {S X Y : Type 0} (after : S → Sited → S) (base o : S) where
         ap (λ z. puts after z (members false t rest)) (e2 ∙ ap (λ z. puts after z (g x y)) e1)
         ∙ sym (members_on after o f t (g x y) rest)
         ∙ ap (λ z. puts after o (members f t z)) (sym ((λ k. F (dropped xs i x lx rx k) (dropped ys i y ly ry k))
-            ∙ cons x y (drop (i + 1) xs) (drop (i + 1) ys)))
+        ∙ cons x y (drop (i + 1) xs) (drop (i + 1) ys)))
         ∙ so_far
 
     pub both_done : ((ys : List Y) → F [] ys ≡ []) → ((xs : List X) → F xs [] ≡ []) → (xs : List X) (ys : List Y) (i : ℕ)
@@ -154,7 +154,7 @@ compared_on after base o l os es i c e o1 o2 lo ro le re so_far e1 e2 =
     ∙ sym (puts_append after (puts after o (map (free piece) (comparison_signs c))) (pieces l (tree_of e)) rest)
     ∙ sym (puts_append after o (map (free piece) (comparison_signs c)) (pieces l (tree_of e) ++ rest))
     ∙ (λ k. puts after o
-        (compared piece (sym (dropped os i c lo ro) k) (each piece l (exprs (map tree_of (sym (dropped es i e le re) k))))))
+    (compared piece (sym (dropped os i c lo ro) k) (each piece l (exprs (map tree_of (sym (dropped es i e le re) k))))))
     ∙ so_far
 
 no_more : (os : List Comparison) → compared piece os [] ≡ []
@@ -167,7 +167,7 @@ pub compared_done : {S : Type 0} (after : S → Sited → S) (base o : S) (l : L
 unfolding written
 compared_done after base o l os es i h so_far =
     sym (ap (puts after o) (ended (λ xs ys. compared piece xs (each piece l (exprs (map tree_of ys)))) (λ _. refl) no_more os es i h))
-        ∙ so_far
+    ∙ so_far
 
 -- an item that is read is what any other reading gives
 pub read_again : {A : Type 0} (xs : List A) (i : ℕ) (d : A) → i < length xs → get_or xs i d ≡ get_or xs i (get_or xs i d)

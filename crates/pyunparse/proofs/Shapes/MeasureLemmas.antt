@@ -35,11 +35,11 @@ generator_height e x gs elt generators is hx hg =
 pub dict_comp_height : (e k x : Expr) (gs : List Comprehension) (key value : Box Expr Global) (generators : Vec Comprehension Global) →
     e ≡ variant.DictComp key value generators → k ≡ key.value → x ≡ value.value → gs ≡ generators.items →
     height (tree_of e) ≡ max (height (tree_of k))
-        (max (height (tree_of x)) (comprehension_heights (comprehensions (map comprehension_of gs)))) + 1
+    (max (height (tree_of x)) (comprehension_heights (comprehensions (map comprehension_of gs)))) + 1
 dict_comp_height e k x gs key value generators is hk hx hg =
     ap (λ z. height (tree_of z)) is ∙ ap height (dict_comp_tree key value generators)
     ∙ (λ i. max (height (tree_of (sym hk i)))
-        (max (height (tree_of (sym hx i))) (comprehension_heights (comprehensions (map comprehension_of (sym hg i))))) + 1)
+    (max (height (tree_of (sym hx i))) (comprehension_heights (comprehensions (map comprehension_of (sym hg i))))) + 1)
 
 pub compare_height : (e l : Expr) (es : List Expr) (left : Box Expr Global) (ops : Vec Comparison Global) (comparators : Vec Expr Global) →
     e ≡ variant.Compare left ops comparators → l ≡ left.value → es ≡ comparators.items →
@@ -52,11 +52,11 @@ pub call_height : (e f : Expr) (es : List Expr) (ks : List Keyword) (func : Box 
     (words : Vec Keyword Global) →
     e ≡ variant.Call func arguments words → f ≡ func.value → es ≡ arguments.items → ks ≡ words.items →
     height (tree_of e) ≡ max (height (tree_of f)) (max (heights (exprs (map tree_of es))) (keyword_heights (keywords (map keyword_of ks))))
-        + 1
+    + 1
 call_height e f es ks func arguments words is hf he hk =
     ap (λ z. height (tree_of z)) is ∙ ap height (call_tree func arguments words)
     ∙ (λ i. max (height (tree_of (sym hf i)))
-        (max (heights (exprs (map tree_of (sym he i)))) (keyword_heights (keywords (map keyword_of (sym hk i))))) + 1)
+    (max (heights (exprs (map tree_of (sym he i)))) (keyword_heights (keywords (map keyword_of (sym hk i))))) + 1)
 
 pub formatted_height : (e x : Expr) (value : Box Expr Global) (conversion : Conversion) (spec : Option (Box Expr Global)) →
     e ≡ variant.FormattedValue value conversion spec → x ≡ value.value →
@@ -81,11 +81,11 @@ named_arg_height a = ap arg_height (arg_tree a)
 pub parts_height : (c : Comprehension) (es : List Expr) → es ≡ (given_comprehension.out-Comprehension c).ifs.items →
     clause_height (comprehension_of c)
     ≡ max (height (tree_of (given_comprehension.out-Comprehension c).target))
-        (max (height (tree_of (given_comprehension.out-Comprehension c).iter)) (heights (exprs (map tree_of es))))
+    (max (height (tree_of (given_comprehension.out-Comprehension c).iter)) (heights (exprs (map tree_of es))))
 parts_height c es h =
     ap clause_height (comprehension_tree c)
     ∙ (λ i. max (height (tree_of (given_comprehension.out-Comprehension c).target))
-        (max (height (tree_of (given_comprehension.out-Comprehension c).iter)) (heights (exprs (map tree_of (sym h i))))))
+    (max (height (tree_of (given_comprehension.out-Comprehension c).iter)) (heights (exprs (map tree_of (sym h i))))))
 
 -- ---- Parameters.
 
@@ -129,14 +129,14 @@ module _ (a : Arguments) where
 
   pub places_lower : (ps qs : List Arg) (ds : List Expr) →
       ps ≡ (given_arguments.out-Arguments a).posonlyargs.items → qs ≡ (given_arguments.out-Arguments a).args.items
-          → ds ≡ (given_arguments.out-Arguments a).defaults.items →
+      → ds ≡ (given_arguments.out-Arguments a).defaults.items →
       max (arg_heights (args (map arg_of ps))) (max (arg_heights (args (map arg_of qs))) (heights (exprs (map tree_of ds)))) ≤
-          arguments_height (arguments_of a)
+      arguments_height (arguments_of a)
   places_lower ps qs ds hp hq hd =
       let same : max (arg_heights (args (map arg_of ps))) (max (arg_heights (args (map arg_of qs))) (heights (exprs (map tree_of ds)))) ≡
-          max P (max Q D) =
+      max P (max Q D) =
       (λ i. max (arg_heights (args (map arg_of (hp i))))
-          (max (arg_heights (args (map arg_of (hq i)))) (heights (exprs (map tree_of (hd i)))))) in
+      (max (arg_heights (args (map arg_of (hq i)))) (heights (exprs (map tree_of (hd i)))))) in
       rw (same, whole) (seven_places P Q V O E K D)
 
   pub star_lower : V ≤ arguments_height (arguments_of a)

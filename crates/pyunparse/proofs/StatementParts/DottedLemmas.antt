@@ -36,7 +36,7 @@ behind_point (c ∷ cs) = by (c == 46) (names_in cs)
   where
     by : (b : Bool) (xs : List Identifier) →
         dotted_rest piece (if b then [] ∷ xs else lengthen c xs) ≡ tight piece Dot ∷ dotted_names piece false
-            (if b then [] ∷ xs else lengthen c xs)
+        (if b then [] ∷ xs else lengthen c xs)
     by true xs = refl
     by false [] = refl
     by false (x ∷ xs) = refl
@@ -83,7 +83,7 @@ around_point close text part tail u e h =
 pub at_point : (close : Bool) (text : List ℕ) (r : Option (Bor (List ℕ) × Bor (List ℕ))) → IsUtf8 text → IsSplitOnceResult 46 text r →
     MatchOption r (dotted piece close (chars text) ≡ sited (in_form (chars text)) close false ∷ [])
     (λ x. IsUtf8 x.0.now × IsUtf8 x.1.now × (dotted piece close (chars text) ≡ sited (in_form (chars x.0.now)) close false ∷
-        (tight piece Dot ∷ dotted piece false (chars x.1.now))))
+    (tight piece Dot ∷ dotted piece false (chars x.1.now))))
 at_point close text None u h = ap (dotted_names piece close) (one_name (chars text) (pointless text u h))
 at_point close text (Some x) u h =
     let is = (split_parts 46 text (Some x) h (omega arith)).0 in
@@ -101,7 +101,7 @@ module _ {S : Type 0} (after : S → Sited → S) (base o : S) (close : Bool) (t
       puts after o2 (dotted piece false (chars tail)) ≡ base
   name_on part tail o1 o2 is so_far e1 e2 =
       ap (λ z. puts after z (dotted piece false (chars tail))) (e2 ∙ ap (λ z. after z (sited_in_utf8 (tight piece Dot))) e1)
-          ∙ ap (puts after o) (sym is) ∙ so_far
+      ∙ ap (puts after o) (sym is) ∙ so_far
 
   -- the last one
   pub name_ends : dotted piece close (chars text) ≡ sited (in_form (chars text)) close false ∷ []

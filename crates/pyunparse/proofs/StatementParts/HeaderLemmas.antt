@@ -35,7 +35,7 @@ none_each (e ∷ es) = sym (not_zero (length es))
 pub bases_listed : {S : Type 0} (after : S → Sited → S) (s s1 : S) (es : List given.Expr) (ks : Keywords) (b : Bool) →
     b ≡ (length es == 0) → s1 ≡ puts after s (members true (trailing piece Comma) (each piece Named (exprs (map tree_of es)))) →
     puts after s1 (members b (trailing piece Comma) (by_name piece ks)) ≡ puts after s
-        (listed piece (each piece Named (exprs (map tree_of es)) ++ by_name piece ks))
+    (listed piece (each piece Named (exprs (map tree_of es)) ++ by_name piece ks))
 bases_listed after s s1 es ks b h e =
     let t : Sited = trailing piece Comma in
     let X : List (List Sited) = each piece Named (exprs (map tree_of es)) in
@@ -55,7 +55,7 @@ module _ (b c : Bool) where
   pub some_bases : (es : List given.Expr) (ks : List given_keyword.Keyword) → b ≡ (length es == 0)
       → c ≡ (length ks == 0) → (b && c) ≡ false →
       enclosed piece (tight piece LPar) RPar
-          (listed piece (each piece Named (exprs (map tree_of es)) ++ by_name piece (keywords (map keyword_of ks))))
+      (listed piece (each piece Named (exprs (map tree_of es)) ++ by_name piece (keywords (map keyword_of ks))))
       ≡ bases piece (map tree_of es) (keywords (map keyword_of ks))
   some_bases [] [] h k e = absurd (false≢true (sym e ∙ (λ i. h i && k i)))
   some_bases [] (w ∷ ks) h k e = refl
@@ -79,7 +79,7 @@ module _ {S : Type 0} (after : S → Sited → S) (s : S) where
       puts after s2 (trailing piece Colon ∷ []) ≡ puts after s (with_colon (match_header e))
   match_on e s1 s2 e1 e2 =
       three after s (free piece (in_form match_name) ∷ []) (pieces Subject e) (trailing piece Colon ∷ []) s1 s2 (e1
-          ∙ ap (λ z. puts after s (free piece (in_form z) ∷ [])) match_text) e2
+      ∙ ap (λ z. puts after s (free piece (in_form z) ∷ [])) match_text) e2
 
   pub case_on : (p : plain.Pattern) (g : Option plain.Expr) (s1 s2 s3 : S)
       → s1 ≡ puts after s (sited (in_form (chars (99 ∷ 97 ∷ 115 ∷ 101 ∷ []))) false false ∷ []) →
@@ -88,4 +88,4 @@ module _ {S : Type 0} (after : S → Sited → S) (s : S) where
   case_on p g s1 s2 s3 e1 e2 e3 =
       two after s (header_tokens piece (case_header p g)) (trailing piece Colon ∷ []) s3
       (e3 ∙ three after s (free piece (in_form case_name) ∷ []) (written_pattern piece Patterns p)
-          (behind piece (word piece Key.If) Named g) s1 s2 (e1 ∙ ap (λ z. puts after s (free piece (in_form z) ∷ [])) case_text) e2)
+      (behind piece (word piece Key.If) Named g) s1 s2 (e1 ∙ ap (λ z. puts after s (free piece (in_form z) ∷ [])) case_text) e2)

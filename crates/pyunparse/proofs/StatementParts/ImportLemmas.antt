@@ -56,8 +56,8 @@ some_level n = by (nat_lt 0 (suc n)) refl
 
 import_parts : (m : Option (List ℕ)) (names : List plain.Alias) (n : ℕ) →
     word piece Key.From ∷
-        (point_signs piece false (points n) ++ (module_name piece (nat_lt 0 n) m ++ (word piece Key.Import ∷ imported piece names))) ≡
-        simple_tokens piece (plain.ImportFrom m names n)
+    (point_signs piece false (points n) ++ (module_name piece (nat_lt 0 n) m ++ (word piece Key.Import ∷ imported piece names))) ≡
+    simple_tokens piece (plain.ImportFrom m names n)
 import_parts m names zero = refl
 import_parts m names (suc n) =
     ap (λ b. word piece Key.From ∷
@@ -65,10 +65,10 @@ import_parts m names (suc n) =
 
 pub import_on : {S : Type 0} (after : S → Sited → S) (s : S) (m : Option (List ℕ)) (names : List plain.Alias) (n : ℕ) (s1 s2 s3 s4 : S) →
     s1 ≡ puts after s (word piece Key.From ∷ []) → s2 ≡ puts after s1 (point_signs piece false (points n))
-        → s3 ≡ puts after s2 (module_name piece (nat_lt 0 n) m) →
+    → s3 ≡ puts after s2 (module_name piece (nat_lt 0 n) m) →
     s4 ≡ puts after s3 (word piece Key.Import ∷ []) → puts after s4 (imported piece names) ≡ puts after s
-        (simple_tokens piece (plain.ImportFrom m names n))
+    (simple_tokens piece (plain.ImportFrom m names n))
 import_on after s m names n s1 s2 s3 s4 e1 e2 e3 e4 =
     five after s (word piece Key.From ∷ []) (point_signs piece false (points n)) (module_name piece (nat_lt 0 n) m)
-        (word piece Key.Import ∷ []) (imported piece names) s1 s2 s3 s4 e1 e2 e3 e4
+    (word piece Key.Import ∷ []) (imported piece names) s1 s2 s3 s4 e1 e2 e3 e4
     ∙ ap (puts after s) (import_parts m names n)

@@ -36,7 +36,7 @@ type_text = refl
 
 annotated_parts : (t : plain.Expr) (simple : Bool) →
     opened (not (annotated_in_brackets t simple)) ++ (pieces Level.Primary t ++ closed (not (annotated_in_brackets t simple))) ≡
-        annotated piece t simple
+    annotated piece t simple
 unfolding written
 annotated_parts (plain.Name x c) false = refl
 annotated_parts (plain.Name x c) true = append-nil (pieces Level.Primary (plain.Name x c))
@@ -75,7 +75,7 @@ module _ {S : Type 0} (after : S → Sited → S) (s : S) where
 
     pub assign_on : (ts : Vec Expr Global) (e : Expr) (es : List Expr) (s1 : S) → r ≡ statement.Assign ts e → es ≡ ts.items →
         s1 ≡ puts after s (targets piece (map tree_of es)) → puts after s1 (pieces Level.Value (tree_of e)) ≡ puts after s
-            (simple_tokens piece (stmt_of r))
+        (simple_tokens piece (stmt_of r))
     assign_on ts e es s1 is same_targets e1 =
         two after s (targets piece (map tree_of es)) (pieces Level.Value (tree_of e)) s1 e1
         ∙ ap (λ z. puts after s (simple_tokens piece (plain.Assign (map tree_of z) (tree_of e)))) same_targets
@@ -86,30 +86,30 @@ module _ {S : Type 0} (after : S → Sited → S) (s : S) where
         puts after s2 (pieces Level.Value (tree_of e)) ≡ puts after s (simple_tokens piece (stmt_of r))
     augmented_on t o e x s1 s2 is sign e1 e2 =
         three after s (pieces Level.Primary (tree_of t)) (free piece (Op (augmented_sign o)) ∷ []) (pieces Level.Value (tree_of e)) s1 s2 e1
-            (e2 ∙ ap (λ z. puts after s1 (free piece (Op z) ∷ [])) sign)
+        (e2 ∙ ap (λ z. puts after s1 (free piece (Op z) ∷ [])) sign)
         ∙ same (plain.AugAssign (tree_of t) o (tree_of e)) (ap stmt_of is ∙ aug_assign_tree t o e)
 
     pub annotation_on : (t a : Box Expr Global) (v : Option (Box Expr Global)) (simple : Bool) (u b : Expr) (s1 s2 s3 : S)
         → r ≡ statement.AnnAssign t a v simple → u ≡ t.value → b ≡ a.value →
         s1 ≡ puts after s (annotated piece (tree_of u) simple) → s2 ≡ puts after s1 (trailing piece Colon ∷ [])
-            → s3 ≡ puts after s2 (pieces Level.Expression (tree_of b)) →
+        → s3 ≡ puts after s2 (pieces Level.Expression (tree_of b)) →
         puts after s3 (behind piece (free piece (Op Equal)) Level.Value (boxed_of v)) ≡ puts after s (simple_tokens piece (stmt_of r))
     annotation_on t a v simple u b s1 s2 s3 is same_target same_annotation e1 e2 e3 =
         four after s (annotated piece (tree_of u) simple) (trailing piece Colon ∷ []) (pieces Level.Expression (tree_of b))
-            (behind piece (free piece (Op Equal)) Level.Value (boxed_of v)) s1 s2 s3 e1 e2 e3
+        (behind piece (free piece (Op Equal)) Level.Value (boxed_of v)) s1 s2 s3 e1 e2 e3
         ∙ (λ i. puts after s
-            (simple_tokens piece (plain.AnnAssign (tree_of (same_target i)) (tree_of (same_annotation i)) (boxed_of v) simple)))
+        (simple_tokens piece (plain.AnnAssign (tree_of (same_target i)) (tree_of (same_annotation i)) (boxed_of v) simple)))
         ∙ same (plain.AnnAssign (tree_of t.value) (tree_of a.value) (boxed_of v) simple) (ap stmt_of is ∙ ann_assign_tree t a v simple)
 
     pub alias_on : (t : Expr) (ps : Vec TypeParam Global) (e : Expr) (qs : List TypeParam) (s1 s2 s3 s4 : S)
         → r ≡ statement.TypeAlias t ps e → qs ≡ ps.items →
         s1 ≡ puts after s (sited (in_form (chars (116 ∷ 121 ∷ 112 ∷ 101 ∷ []))) false false ∷ [])
-            → s2 ≡ puts after s1 (pieces Level.Primary (tree_of t)) →
+        → s2 ≡ puts after s1 (pieces Level.Primary (tree_of t)) →
         s3 ≡ puts after s2 (type_params piece (map type_param_of qs)) → s4 ≡ puts after s3 (free piece (Op Equal) ∷ []) →
         puts after s4 (pieces Level.Expression (tree_of e)) ≡ puts after s (simple_tokens piece (stmt_of r))
     alias_on t ps e qs s1 s2 s3 s4 is same_parameters e1 e2 e3 e4 =
         five after s (free piece (in_form type_name) ∷ []) (pieces Level.Primary (tree_of t)) (type_params piece (map type_param_of qs))
-            (free piece (Op Equal) ∷ []) (pieces Level.Expression (tree_of e)) s1 s2 s3 s4
+        (free piece (Op Equal) ∷ []) (pieces Level.Expression (tree_of e)) s1 s2 s3 s4
         (e1 ∙ ap (λ z. puts after s (free piece (in_form z) ∷ [])) type_text) e2 e3 e4
         ∙ ap (λ z. puts after s (simple_tokens piece (plain.TypeAlias (tree_of t) (map type_param_of z) (tree_of e)))) same_parameters
         ∙ same (plain.TypeAlias (tree_of t) (map type_param_of ps.items) (tree_of e)) (ap stmt_of is ∙ type_alias_tree t ps e)
@@ -118,7 +118,7 @@ module _ {S : Type 0} (after : S → Sited → S) (s : S) where
         puts after s1 (perhaps_written piece Level.Stars (option_of e)) ≡ puts after s (simple_tokens piece (stmt_of r))
     return_on e s1 is e1 =
         two after s (word piece Key.Return ∷ []) (perhaps_written piece Level.Stars (option_of e)) s1 e1
-            ∙ same (plain.Return (option_of e)) (ap stmt_of is ∙ return_tree e)
+        ∙ same (plain.Return (option_of e)) (ap stmt_of is ∙ return_tree e)
 
     pub raise_is : (e c : Option Expr) → r ≡ statement.Raise e c
         → puts after s (simple_tokens piece (plain.Raise (option_of e) (option_of c))) ≡ puts after s (simple_tokens piece (stmt_of r))
@@ -142,7 +142,7 @@ module _ {S : Type 0} (after : S → Sited → S) (s : S) where
     global_on xs ys s1 is same_names e1 =
         two after s (word piece Key.Global ∷ []) (listed piece (map (one_name piece) ys)) s1 e1
         ∙ ap (λ z. puts after s (simple_tokens piece (plain.Global z))) same_names
-            ∙ same (plain.Global xs.items) (ap stmt_of is ∙ global_tree xs)
+        ∙ same (plain.Global xs.items) (ap stmt_of is ∙ global_tree xs)
 
     pub nonlocal_on : (xs : Vec Identifier Global) (ys : List Identifier) (s1 : S) → r ≡ statement.Nonlocal xs → ys ≡ xs.items
         → s1 ≡ puts after s (word piece Key.Nonlocal ∷ []) →
@@ -150,7 +150,7 @@ module _ {S : Type 0} (after : S → Sited → S) (s : S) where
     nonlocal_on xs ys s1 is same_names e1 =
         two after s (word piece Key.Nonlocal ∷ []) (listed piece (map (one_name piece) ys)) s1 e1
         ∙ ap (λ z. puts after s (simple_tokens piece (plain.Nonlocal z))) same_names
-            ∙ same (plain.Nonlocal xs.items) (ap stmt_of is ∙ nonlocal_tree xs)
+        ∙ same (plain.Nonlocal xs.items) (ap stmt_of is ∙ nonlocal_tree xs)
 
     pub pass_is : r ≡ statement.Pass → puts after s (word piece Key.Pass ∷ []) ≡ puts after s (simple_tokens piece (stmt_of r))
     pass_is is = same plain.Pass (ap stmt_of is ∙ pass_tree)
@@ -167,7 +167,7 @@ module _ {S : Type 0} (after : S → Sited → S) (s : S) where
     import_on names ns s1 is same_names e1 =
         two after s (word piece Key.Import ∷ []) (listed piece (map (dotted_alias piece) (map alias_of ns))) s1 e1
         ∙ ap (λ z. puts after s (simple_tokens piece (plain.Import (map alias_of z)))) same_names
-            ∙ same (plain.Import (map alias_of names.items)) (ap stmt_of is ∙ import_tree names)
+        ∙ same (plain.Import (map alias_of names.items)) (ap stmt_of is ∙ import_tree names)
 
     pub import_from_is : (m : Option Identifier) (names : Vec Alias Global) (n : ℕ) (ns : List Alias)
         → r ≡ statement.ImportFrom m names n → ns ≡ names.items →

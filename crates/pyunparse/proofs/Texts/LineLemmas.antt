@@ -43,7 +43,7 @@ line_bytes l ps =
     encodes-append (replicate (4 * l) 32) (spaced (outside ps) ++ 10 ∷ [])
     ∙ ap (λ z. z ++ encode_utf8_all (spaced (outside ps) ++ 10 ∷ [])) (blanks_kept (4 * l))
     ∙ ap (λ z. replicate (4 * l) 32 ++ z) (encodes-append (spaced (outside ps)) (10 ∷ [])
-        ∙ ap (λ z. token_bytes ps ++ z) (one 10 (omega arith)))
+    ∙ ap (λ z. token_bytes ps ++ z) (one 10 (omega arith)))
 
 first_line : (l : ℕ) (ps : List Sited) (ls : List (WrittenLine Sited)) → in_utf8 (written_line l ps ∷ ls) ≡ replicate (4 * l) 32 ++
     (token_bytes ps ++ 10 ∷ in_utf8 ls)
@@ -142,7 +142,7 @@ module _ {X : Type 0} (base v : Writing) (F : ℕ → List X → List (WrittenLi
   pub line_on : (g : ℕ → X → List (WrittenLine Sited)) → ((l : ℕ) (x : X) (xs : List X) → F l (x ∷ xs) ≡ g l x ++ F l xs)
       → (xs : List X) (i : ℕ) (x : X) (w : Writing) (l : ℕ) →
       i < length xs → x ≡ get_or xs i x → v.level ≡ l → v.text ++ in_utf8 (F l (drop i xs)) ≡ base.text ++ in_utf8 (F l xs)
-          → Wrote v w (g v.level x) →
+      → Wrote v w (g v.level x) →
       w.text ++ in_utf8 (F l (drop (i + 1) xs)) ≡ base.text ++ in_utf8 (F l xs)
   line_on g cons xs i x w l lt read at so_far a =
       let rest : List (WrittenLine Sited) = F l (drop (i + 1) xs) in
@@ -177,7 +177,7 @@ if_lines l e body orelse = refl
 
 pub while_lines : (l : ℕ) (e : Expr) (body orelse : Stmts) →
     header piece l (loop_header (while_head e)) ∷ (lines_of piece (suc l) body ++ clause piece l else_header orelse) ≡ statement_lines piece
-        l (Trees.While e body orelse)
+    l (Trees.While e body orelse)
 unfolding lines_of
 while_lines l e body orelse = refl
 
@@ -189,7 +189,7 @@ function_lines l x a body ds r ps = refl
 pub async_function_lines : (l : ℕ) (x : Identifier) (a : Arguments) (body : Stmts) (ds : List Expr)
     (r : Option Expr) (ps : List TypeParam) →
     decorators piece l ds ++ def_lines l (function_head true x ps a r) body ≡ statement_lines piece l
-        (Trees.AsyncFunctionDef x a body ds r ps)
+    (Trees.AsyncFunctionDef x a body ds r ps)
 unfolding lines_of
 async_function_lines l x a body ds r ps = refl
 

@@ -30,7 +30,7 @@ both : (extent : Extent) (ts : List Tokens.Token) → All IsOfSource ts → All 
 both extent [] a b = All-nil (IsOfSourceIn extent)
 both extent (t ∷ ts) a b =
     All-cons (IsOfSourceIn extent) t ts (All-head IsOfSource t ts a, All-head (Faultless extent) t ts b)
-        (both extent ts (All-tail IsOfSource t ts a) (All-tail (Faultless extent) t ts b))
+    (both extent ts (All-tail IsOfSource t ts a) (All-tail (Faultless extent) t ts b))
 
 abbrev Good : Extent → Tokens.Line → Type 0
 Good extent x = All (IsOfSourceIn extent) x.tokens
@@ -45,7 +45,7 @@ stated_texts : (profile : Profile) (m : Module) → Stated profile m → express
     → TextIsAccepted profile m
 stated_texts profile m s a b =
     module_texts_are_accepted profile (source_lines s.lines) m (record { forms = s.forms; formed = forms_are s.formed; block = s.block })
-        (tokens_are_of_tokens profile.extent s.lines (good s.formed)) a b
+    (tokens_are_of_tokens profile.extent s.lines (good s.formed)) a b
 
 -- bytes that are its text give it back
 pub gives_back : (bytes : List ℕ) (m : Module) → bytes ≡ encode_utf8_all (module_text m) → RoundTrips bytes m

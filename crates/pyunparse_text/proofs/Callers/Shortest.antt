@@ -25,9 +25,10 @@ pub expressions_are_shortest : ExpressionsAreShortest
 expressions_are_shortest l ts e p = record { gives = (fewest p).0; least = λ us q. (fewest q).1 }
 
 pub expressions_come_back : ExpressionsComeBack
-expressions_come_back l e =
-    (λ given. (reader_is_exact l (terminals l e) e).0 (fewest given.1).0,
-        λ read. (terminals l e, (reader_is_exact l (terminals l e) e).1 read))
+expressions_come_back l e = (
+  λ given. (reader_is_exact l (terminals l e) e).0 (fewest given.1).0,
+  λ read. (terminals l e, (reader_is_exact l (terminals l e) e).1 read),
+)
 
 pub targets_are_shortest : TargetsAreShortest
 targets_are_shortest ts s = record {

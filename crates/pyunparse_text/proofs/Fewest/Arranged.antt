@@ -72,7 +72,7 @@ module _ {A : Type 0} (make : Maker A) where
   at_bare (arg n t) d (after q) =
       at
       (ap (λ z. (leading make Star ∷ []) ∷
-          ((free make (in_form n) ∷ (suffixed make (trailing make Colon) t ++ suffixed make (tight make Equal) d)) ∷ z)) q)
+      ((free make (in_form n) ∷ (suffixed make (trailing make Colon) t ++ suffixed make (tight make Equal) d)) ∷ z)) q)
 
   at_last : (a : Arg) → AtStar (with_kwarg a) (Collected a ∷ [])
   unfolding names defaults gathered
@@ -115,7 +115,7 @@ module _ {A : Type 0} (make : Maker A) where
   plains_none (arg n t) (plains {qs = qs} {v = v} {ks = ks} {kds = kds} {k = k} {ds = ds} q s) =
       plains
       (ap (λ z. z ++ behind v ks kds k) (default_none (free make (in_form n) ∷ suffixed make (trailing make Colon) t) (names make qs)
-          (texts ds) s) ∙ ap (λ z. (free make (in_form n) ∷ (suffixed make (trailing make Colon) t ++ [])) ∷ z) q)
+      (texts ds) s) ∙ ap (λ z. (free make (in_form n) ∷ (suffixed make (trailing make Colon) t ++ [])) ∷ z) q)
       (omega (arith, s))
 
   plains_some : {x : Arguments} {es : List Entry} (b : Bool) (a : Arg) (d : Expr) → Plains true x es
@@ -124,9 +124,9 @@ module _ {A : Type 0} (make : Maker A) where
   plains_some b (arg n t) d (plains {qs = qs} {v = v} {ks = ks} {kds = kds} {k = k} {ds = ds} q s) =
       plains
       (ap (λ z. z ++ behind v ks kds k) (default_some (free make (in_form n) ∷ suffixed make (trailing make Colon) t)
-          (tight make Equal ∷ written make Expression d) (names make qs) (texts ds) s)
-          ∙ ap (λ z. (free make (in_form n) ∷ (suffixed make (trailing make Colon) t ++ (tight make Equal ∷ written make Expression d))) ∷
-          z) q)
+      (tight make Equal ∷ written make Expression d) (names make qs) (texts ds) s)
+      ∙ ap (λ z. (free make (in_form n) ∷ (suffixed make (trailing make Colon) t ++ (tight make Equal ∷ written make Expression d))) ∷
+      z) q)
       (full b s)
     where
       full : (b : Bool) → length (texts ds) ≡ length (names make qs) → Full b (suc (length (texts ds))) (suc (length (names make qs)))
@@ -150,9 +150,9 @@ module _ {A : Type 0} (make : Maker A) where
   data Slashes (b : Bool) : Arguments → List Entry → Type 0 where
     slashes : {a : Arg} {ps qs : Args} {v : OptionalArg} {ks : Args} {kds : OptionalExprs} {k : OptionalArg} {ds : Exprs} {es : List Entry}
         → with_slash make (names make (an_arg a ps)) (with_defaults (names make (an_arg a ps) ++ names make qs) (texts ds)) ++
-            behind v ks kds k ≡ entries es
+        behind v ks kds k ≡ entries es
         → Full b (length (texts ds)) (length (names make (an_arg a ps) ++ names make qs))
-            → Slashes b (arguments (an_arg a ps) qs v ks kds k ds) es
+        → Slashes b (arguments (an_arg a ps) qs v ks kds k ds) es
 
   slash_none : {x : Arguments} {es : List Entry} (a : Arg) → Plains false x es
       → Slashes false (add_before_slash a absent x) (Plain a absent ∷ (Slashed ∷ es))
@@ -160,8 +160,8 @@ module _ {A : Type 0} (make : Maker A) where
   slash_none (arg n t) (plains {qs = qs} {v = v} {ks = ks} {kds = kds} {k = k} {ds = ds} q s) =
       slashes
       (ap (λ z. with_slash make ((free make (in_form n) ∷ suffixed make (trailing make Colon) t) ∷ []) z ++ behind v ks kds k)
-          (default_none (free make (in_form n) ∷ suffixed make (trailing make Colon) t) (names make qs) (texts ds) s)
-          ∙ ap (λ z. (free make (in_form n) ∷ (suffixed make (trailing make Colon) t ++ [])) ∷ ((free make (Op Slash) ∷ []) ∷ z)) q)
+      (default_none (free make (in_form n) ∷ suffixed make (trailing make Colon) t) (names make qs) (texts ds) s)
+      ∙ ap (λ z. (free make (in_form n) ∷ (suffixed make (trailing make Colon) t ++ [])) ∷ ((free make (Op Slash) ∷ []) ∷ z)) q)
       (omega (arith, s))
 
   slash_some : {x : Arguments} {es : List Entry} (b : Bool) (a : Arg) (d : Expr) → Plains true x es
@@ -170,10 +170,10 @@ module _ {A : Type 0} (make : Maker A) where
   slash_some b (arg n t) d (plains {qs = qs} {v = v} {ks = ks} {kds = kds} {k = k} {ds = ds} q s) =
       slashes
       (ap (λ z. with_slash make ((free make (in_form n) ∷ suffixed make (trailing make Colon) t) ∷ []) z ++ behind v ks kds k)
-          (default_some (free make (in_form n) ∷ suffixed make (trailing make Colon) t) (tight make Equal ∷ written make Expression d)
-          (names make qs) (texts ds) s)
-          ∙ ap (λ z. (free make (in_form n) ∷ (suffixed make (trailing make Colon) t ++ (tight make Equal ∷ written make Expression d))) ∷
-          ((free make (Op Slash) ∷ []) ∷ z)) q)
+      (default_some (free make (in_form n) ∷ suffixed make (trailing make Colon) t) (tight make Equal ∷ written make Expression d)
+      (names make qs) (texts ds) s)
+      ∙ ap (λ z. (free make (in_form n) ∷ (suffixed make (trailing make Colon) t ++ (tight make Equal ∷ written make Expression d))) ∷
+      ((free make (Op Slash) ∷ []) ∷ z)) q)
       (full b s)
     where
       full : (b : Bool) → length (texts ds) ≡ length (names make qs) → Full b (suc (length (texts ds))) (suc (length (names make qs)))
@@ -186,10 +186,10 @@ module _ {A : Type 0} (make : Maker A) where
   slashes_none (arg n t) (slashes {a = arg m u} {ps = ps} {qs = qs} {v = v} {ks = ks} {kds = kds} {k = k} {ds = ds} q s) =
       slashes
       (ap (λ z. with_slash make ((free make (in_form n) ∷ suffixed make (trailing make Colon) t) ∷
-          ((free make (in_form m) ∷ suffixed make (trailing make Colon) u) ∷ names make ps)) z ++ behind v ks kds k)
-          (default_none (free make (in_form n) ∷ suffixed make (trailing make Colon) t)
-          ((free make (in_form m) ∷ suffixed make (trailing make Colon) u) ∷ (names make ps ++ names make qs)) (texts ds) s)
-          ∙ ap (λ z. (free make (in_form n) ∷ (suffixed make (trailing make Colon) t ++ [])) ∷ z) q)
+      ((free make (in_form m) ∷ suffixed make (trailing make Colon) u) ∷ names make ps)) z ++ behind v ks kds k)
+      (default_none (free make (in_form n) ∷ suffixed make (trailing make Colon) t)
+      ((free make (in_form m) ∷ suffixed make (trailing make Colon) u) ∷ (names make ps ++ names make qs)) (texts ds) s)
+      ∙ ap (λ z. (free make (in_form n) ∷ (suffixed make (trailing make Colon) t ++ [])) ∷ z) q)
       (omega (arith, s))
 
   slashes_some : {x : Arguments} {es : List Entry} (b : Bool) (a : Arg) (d : Expr) → Slashes true x es
@@ -198,11 +198,11 @@ module _ {A : Type 0} (make : Maker A) where
   slashes_some b (arg n t) d (slashes {a = arg m u} {ps = ps} {qs = qs} {v = v} {ks = ks} {kds = kds} {k = k} {ds = ds} q s) =
       slashes
       (ap (λ z. with_slash make ((free make (in_form n) ∷ suffixed make (trailing make Colon) t) ∷
-          ((free make (in_form m) ∷ suffixed make (trailing make Colon) u) ∷ names make ps)) z ++ behind v ks kds k)
-          (default_some (free make (in_form n) ∷ suffixed make (trailing make Colon) t) (tight make Equal ∷ written make Expression d)
-          ((free make (in_form m) ∷ suffixed make (trailing make Colon) u) ∷ (names make ps ++ names make qs)) (texts ds) s)
-          ∙ ap (λ z. (free make (in_form n) ∷ (suffixed make (trailing make Colon) t ++ (tight make Equal ∷ written make Expression d))) ∷
-          z) q)
+      ((free make (in_form m) ∷ suffixed make (trailing make Colon) u) ∷ names make ps)) z ++ behind v ks kds k)
+      (default_some (free make (in_form n) ∷ suffixed make (trailing make Colon) t) (tight make Equal ∷ written make Expression d)
+      ((free make (in_form m) ∷ suffixed make (trailing make Colon) u) ∷ (names make ps ++ names make qs)) (texts ds) s)
+      ∙ ap (λ z. (free make (in_form n) ∷ (suffixed make (trailing make Colon) t ++ (tight make Equal ∷ written make Expression d))) ∷
+      z) q)
       (full b s)
     where
       full : (b : Bool) → length (texts ds) ≡ suc (length (names make ps ++ names make qs))

@@ -203,7 +203,7 @@ argument_marks zs ks = separated tt (each marks Named zs ++ by_name marks ks)
 lone_node : (f e : Expr) (cs : Comprehensions) (ts : List Terminal) → G.Derives Primary (written terminal Primary f) f
     → Inside (Trees.GeneratorExp e cs)
     → AtLeast (written marks Primary f ++ (tt ∷ (argument_marks (an_expr (Trees.GeneratorExp e cs) no_exprs) no_keyword ++ (tt ∷ [])))) ts
-        → Claim Primary ts (Trees.Call f (an_expr (Trees.GeneratorExp e cs) no_exprs) no_keyword)
+    → Claim Primary ts (Trees.Call f (an_expr (Trees.GeneratorExp e cs) no_exprs) no_keyword)
 lone_node f e cs ts p (gs, q, d, c) s =
     let ms : List (Unit {0}) = written marks Named e ++ (clauses marks cs ++ (tt ∷ [])) in
     let xs : List (Unit {0}) = argument_marks (an_expr (Trees.GeneratorExp e cs) no_exprs) no_keyword in
@@ -211,7 +211,7 @@ lone_node f e cs ts p (gs, q, d, c) s =
     (written marks Primary f ++ (tt ∷ ms))
     (lone_text terminal f e cs) (lone_text marks f e cs Primary) refl tt
     (subst (λ z. G.Derives Primary
-        (written terminal Primary f ++ (Op LPar ∷ (written terminal Named e ++ (clauses terminal cs ++ (Op RPar ∷ [])))))
+    (written terminal Primary f ++ (Op LPar ∷ (written terminal Named e ++ (clauses terminal cs ++ (Op RPar ∷ [])))))
     (Trees.Call f (an_expr (Trees.GeneratorExp e z) no_exprs) no_keyword)) (sym q) (G.call_generator p d c)) deep_primary.named
     (fewer (omega (
       arith,
@@ -224,7 +224,7 @@ lone_node f e cs ts p (gs, q, d, c) s =
 
 call_node : (f : Expr) (zs : Exprs) (ks : Keywords) (ts : List Terminal) → G.Derives Primary (written terminal Primary f) f → LoneInside zs
     → G.Derives Primary (written terminal Primary f ++ bracketed terminal
-        (separated (Op Comma) (each terminal Named zs ++ by_name terminal ks))) (Trees.Call f zs ks)
+    (separated (Op Comma) (each terminal Named zs ++ by_name terminal ks))) (Trees.Call f zs ks)
     → AtLeast (written marks Primary f ++ (tt ∷ (argument_marks zs ks ++ (tt ∷ [])))) ts → Claim Primary ts (Trees.Call f zs ks)
 unfolding written
 call_node f (an_expr (Trees.GeneratorExp e cs) no_exprs) no_keyword ts p i r s = lone_node f e cs ts p i s
@@ -246,13 +246,13 @@ pub call_claim : {ts us : List Terminal} {f e : Expr} {es : List Entry} → Clai
     → Claim Primary (ts ++ (Op LPar ∷ (us ++ (Op RPar ∷ [])))) e
 call_claim {ts} {us} {f} {e} {es} p c h =
     let d : G.Derives Primary (written terminal Primary f ++ bracketed terminal (separated (Op Comma) (map (entry Argument) (sorted es))))
-        (Trees.Call f (positional es) (keywords es)) =
-        G.call (here p) (listing_of (appended (firsts_standing c.standing) (lasts_standing c.standing))) (called_sorted f es) in
+    (Trees.Call f (positional es) (keywords es)) =
+    G.call (here p) (listing_of (appended (firsts_standing c.standing) (lasts_standing c.standing))) (called_sorted f es) in
     let d2 : G.Derives Primary (written terminal Primary f ++ bracketed terminal
-        (separated (Op Comma) (each terminal Named (positional es) ++ by_name terminal (keywords es))))
-        (Trees.Call f (positional es) (keywords es)) =
-        subst (λ z. G.Derives Primary (written terminal Primary f ++ bracketed terminal (separated (Op Comma) z))
-        (Trees.Call f (positional es) (keywords es))) (sym (sorted_written terminal es)) d in
+    (separated (Op Comma) (each terminal Named (positional es) ++ by_name terminal (keywords es))))
+    (Trees.Call f (positional es) (keywords es)) =
+    subst (λ z. G.Derives Primary (written terminal Primary f ++ bracketed terminal (separated (Op Comma) z))
+    (Trees.Call f (positional es) (keywords es))) (sym (sorted_written terminal es)) d in
     let s : AtLeast (argument_marks (positional es) (keywords es)) us =
     subst (λ z. AtLeast (separated tt z) us) (sym (sorted_written marks es)) (fewer (sorted_short es) c.short) in
     subst (λ x. Claim Primary (ts ++ (Op LPar ∷ (us ++ (Op RPar ∷ [])))) x) (called_is f e es h)

@@ -68,8 +68,12 @@ next_claim {l} {ts} {e} c = record { ready = c.ready; place = allowed_below l e 
 
 pub group_claim : {ts : List Terminal} {e : Expr} → Claim Named ts e → Claim Atom (Op LPar ∷ (ts ++ (Op RPar ∷ []))) e
 group_claim {ts} {e} c =
-    record { ready = c.ready; place = allowed_all Named Atom e refl c.place; short =
-        fewer (omega (arith, group_more e c.place, length_bracketed (written one Named e))) (in_brackets LPar RPar c.short) }
+    record {
+      ready = c.ready;
+      place = allowed_all Named Atom e refl c.place;
+      short =
+          fewer (omega (arith, group_more e c.place, length_bracketed (written one Named e))) (in_brackets LPar RPar c.short);
+    }
 
 -- a form of the level k, and one of Atom
 pub node : (k : Level) (e : Expr) (us ts : List Terminal) (ms : List (Unit {0}))
@@ -119,14 +123,14 @@ pub subscript_claim : {ts us : List Terminal} {e s : Expr} → Claim Primary ts 
 unfolding written
 subscript_claim p q =
     node Primary _ _ _ _ (λ m. refl) refl refl tt (G.subscript (here p) (here q)) deep_primary.named
-        (both p.short (in_brackets LSqb RSqb q.short))
+    (both p.short (in_brackets LSqb RSqb q.short))
 
 pub power_claim : {ts us : List Terminal} {a b : Expr} → Claim Await ts a → Claim Factor us b
     → Claim Power (ts ++ (Op DoubleStar ∷ us)) (Trees.BinOp a Bin.Pow b)
 unfolding written
 power_claim p q =
     node Power _ _ _ _ (λ m. refl) refl refl tt (G.power (here p) (here q)) (operator_deep Bin.Pow).named
-        (both p.short (token refl q.short))
+    (both p.short (token refl q.short))
 
 -- an operator's row in the table
 pub record Row (l : Level) (t : Terminal) (o : Operator) : Type 0 where
@@ -222,7 +226,7 @@ chain_claim {o} {ts} {us} {e} {es} p c = more es c
     more [] c = absurd (no_chain c.list refl)
     more (f ∷ fs) c =
         node (chain_level o) _ _ _ _ (λ m. refl) refl refl tt (G.chain (here p) c.list) (chain_deep o).named
-            (both p.short (token refl c.short))
+        (both p.short (token refl c.short))
 
 -- comparisons
 abbrev pub signs : Comparison → List Terminal
@@ -376,8 +380,8 @@ slice_node : (a b c : OptionalExpr) (us ts : List Terminal)
 unfolding written
 slice_node a b c us ts e p s =
     let p2 : G.Derives Slice
-        (perhaps terminal Expression a ++ (Op Colon ∷ (perhaps terminal Expression b ++ suffixed terminal (Op Colon) c)))
-        (Trees.Slice a b c) = subst (λ x. G.Derives Slice x (Trees.Slice a b c)) e p in
+    (perhaps terminal Expression a ++ (Op Colon ∷ (perhaps terminal Expression b ++ suffixed terminal (Op Colon) c)))
+    (Trees.Slice a b c) = subst (λ x. G.Derives Slice x (Trees.Slice a b c)) e p in
     record {
       ready = record { all = λ m h. fits_within m Slice _ _ (slice_reach m h) p2; inside = tt };
       place = refl;
@@ -425,8 +429,11 @@ pub record YieldsClaim (ts : List Terminal) (e : Expr) : Type 0 where
 
 yields_ready : {ts : List Terminal} {e : Expr} → YieldsClaim ts e → Ready e
 yields_ready {ts} {e} c =
-    record { all = λ m h. subst (λ x. G.Derives m x e) (sym (c.writes m)) (fits m Value _ e (G.yields c.is) (G.yield_group c.is)); inside =
-        c.inside }
+    record {
+      all = λ m h. subst (λ x. G.Derives m x e) (sym (c.writes m)) (fits m Value _ e (G.yields c.is) (G.yield_group c.is));
+      inside =
+          c.inside;
+    }
 
 pub yields_claim : {ts : List Terminal} {e : Expr} → YieldsClaim ts e → Claim Value (Word Key.Yield ∷ ts) e
 yields_claim {ts} {e} c = record {
@@ -439,8 +446,12 @@ yields_claim {ts} {e} c = record {
 pub yield_group_claim : {ts : List Terminal} {e : Expr} → YieldsClaim ts e
     → Claim Atom (Op LPar ∷ (Word Key.Yield ∷ (ts ++ (Op RPar ∷ [])))) e
 yield_group_claim {ts} {e} c =
-    record { ready = yields_ready c; place = c.free Atom; short =
-        fewer bracketed_most (token refl (token refl (both c.short (token refl none)))) }
+    record {
+      ready = yields_ready c;
+      place = c.free Atom;
+      short =
+          fewer bracketed_most (token refl (token refl (both c.short (token refl none))));
+    }
   where
     bracketed_most : length (written one Atom e) ≤ length (tt ∷ (tt ∷ (c.marks ++ (tt ∷ []))))
     bracketed_most =
@@ -456,11 +467,27 @@ yield_group_claim {ts} {e} c =
 pub yield_from_claim : {ts : List Terminal} {e : Expr} → Claim Expression ts e → YieldsClaim (Word Key.From ∷ ts) (Trees.YieldFrom e)
 unfolding written
 yield_from_claim {ts} {e} c =
-    record { text = Word Key.From ∷ written terminal Expression e; marks = tt ∷ written one Expression e; is = G.yield_from (here c);
-        writes = λ m. refl; counts = λ m. refl; free = λ m. refl; inside = tt; short = token refl c.short }
+    record {
+      text = Word Key.From ∷ written terminal Expression e;
+      marks = tt ∷ written one Expression e;
+      is = G.yield_from (here c);
+      writes = λ m. refl;
+      counts = λ m. refl;
+      free = λ m. refl;
+      inside = tt;
+      short = token refl c.short;
+    }
 
 pub yield_some_claim : {ts : List Terminal} {e : OptionalExpr} → PerhapsClaim Stars ts e → YieldsClaim ts (Trees.Yield e)
 unfolding written
 yield_some_claim {ts} {e} c =
-    record { text = perhaps terminal Stars e; marks = perhaps one Stars e; is = G.yield_some c.is; writes = λ m. refl; counts = λ m. refl;
-        free = λ m. refl; inside = tt; short = c.short }
+    record {
+      text = perhaps terminal Stars e;
+      marks = perhaps one Stars e;
+      is = G.yield_some c.is;
+      writes = λ m. refl;
+      counts = λ m. refl;
+      free = λ m. refl;
+      inside = tt;
+      short = c.short;
+    }

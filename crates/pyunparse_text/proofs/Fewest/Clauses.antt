@@ -209,7 +209,7 @@ pub generator_group_claim : {ts us : List Terminal} {e : Expr} {gs : List Compre
 unfolding written
 generator_group_claim {ts} {us} {e} {gs} p c =
     atom _ _ _ (λ m. two_inside (Op LPar) (Op RPar) (written terminal Named e) (clauses terminal (comprehensions gs))) refl
-        (gs, refl, here p, c.is)
+    (gs, refl, here p, c.is)
     (G.generator_group (here p) c.is) (in_two LPar RPar p.short c.short)
 
 pub list_comp_claim : {ts us : List Terminal} {e : Expr} {gs : List Comprehension} → Claim Named ts e → CompsClaim us gs
@@ -239,7 +239,7 @@ in_three {ms} {ns} {ks} {ts} {us} {vs} x y z p q r =
 
 pub dict_comp_claim : {ts us vs : List Terminal} {k e : Expr} {gs : List Comprehension} → Claim Expression ts k → Claim Expression us e
     → CompsClaim vs gs → Claim Atom (Op LBrace ∷ (ts ++ (Op Colon ∷ (us ++ (vs ++ (Op RBrace ∷ []))))))
-        (Trees.DictComp k e (comprehensions gs))
+    (Trees.DictComp k e (comprehensions gs))
 unfolding written
 dict_comp_claim {ts} {us} {vs} {k} {e} {gs} p q c =
     atom _ _ _
@@ -250,7 +250,7 @@ dict_comp_claim {ts} {us} {vs} {k} {e} {gs} p q c =
 -- a generator in the brackets of its call
 pub lone_text : {A : Type 0} (make : Maker A) (f e : Expr) (cs : Comprehensions) (m : Level)
     → written make m (Trees.Call f (an_expr (Trees.GeneratorExp e cs) no_exprs) no_keyword) ≡ fit make m Primary
-        (written make Primary f ++ (tight make LPar ∷ (written make Named e ++ (clauses make cs ++ (trailing make RPar ∷ [])))))
+    (written make Primary f ++ (tight make LPar ∷ (written make Named e ++ (clauses make cs ++ (trailing make RPar ∷ [])))))
 unfolding written alone
 lone_text make f e cs m =
     ap (λ z. fit make m Primary (written make Primary f ++ z))
@@ -259,14 +259,14 @@ lone_text make f e cs m =
 -- which is one argument
 pub lone_length : (e : Expr) (cs : Comprehensions)
     → length (separated tt (each one Named (an_expr (Trees.GeneratorExp e cs) no_exprs) ++ by_name one no_keyword)) ≡ length
-        (tt ∷ (written one Named e ++ (clauses one cs ++ (tt ∷ []))))
+    (tt ∷ (written one Named e ++ (clauses one cs ++ (tt ∷ []))))
 unfolding written each by_name
 lone_length e cs = ap length (two_inside tt tt (written one Named e) (clauses one cs))
 
 pub call_generator_claim : {ts us vs : List Terminal} {f e : Expr} {gs : List Comprehension} → Claim Primary ts f → Claim Named us e
     → CompsClaim vs gs
     → Claim Primary (ts ++ (Op LPar ∷ (us ++ (vs ++ (Op RPar ∷ [])))))
-        (Trees.Call f (an_expr (Trees.GeneratorExp e (comprehensions gs)) no_exprs) no_keyword)
+    (Trees.Call f (an_expr (Trees.GeneratorExp e (comprehensions gs)) no_exprs) no_keyword)
 call_generator_claim {ts} {us} {vs} {f} {e} {gs} p q c =
     node Primary _
     (written terminal Primary f ++ (Op LPar ∷ (written terminal Named e ++ (clauses terminal (comprehensions gs) ++ (Op RPar ∷ []))))) _

@@ -112,8 +112,12 @@ token p c = record { count = suc c.count; counted = counted_token p c.counted; e
 
 pub both : {ms ns : List (Unit {0})} {ts us : List Terminal} → AtLeast ms ts → AtLeast ns us → AtLeast (ms ++ ns) (ts ++ us)
 both {ms} {ns} c d =
-    record { count = c.count + d.count; counted = counted_both c.counted d.counted; enough =
-        omega (arith, length-append ms ns, c.enough, d.enough) }
+    record {
+      count = c.count + d.count;
+      counted = counted_both c.counted d.counted;
+      enough =
+          omega (arith, length-append ms ns, c.enough, d.enough);
+    }
 
 pub in_brackets : {ms : List (Unit {0})} {ts : List Terminal} (x y : Exact) → AtLeast ms ts
     → AtLeast (tt ∷ (ms ++ (tt ∷ []))) (Op x ∷ (ts ++ (Op y ∷ [])))

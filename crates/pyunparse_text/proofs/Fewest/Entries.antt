@@ -86,8 +86,12 @@ pub item_claim : {i : Item} {ts us : List Terminal} {e : Entry} {es : List Entry
     → ListingClaim i (ts ++ (Op Comma ∷ us)) (e ∷ es)
 item_claim {i} {ts} {us} {e} {es} p c = record {
   standing = one p.standing c.standing;
-  short = fewer (omega (arith, length_separated tt (entry_marks i e ∷ map (entry_marks i) es), length_separated tt (map (entry_marks i) es),
-      length-append (entry_marks i e) (tt ∷ separated tt (map (entry_marks i) es)))) (both p.short (token refl c.short));
+  short = fewer (omega (
+    arith,
+    length_separated tt (entry_marks i e ∷ map (entry_marks i) es),
+    length_separated tt (map (entry_marks i) es),
+    length-append (entry_marks i e) (tt ∷ separated tt (map (entry_marks i) es)),
+  )) (both p.short (token refl c.short));
 }
 
 piece_of : (i : Item) (e : Entry) → Standing i e → G.Piece i (entry i e) e
@@ -205,7 +209,7 @@ unfolding written
 dict_claim {ts} {es} c =
     atom _ (Op LBrace ∷ (separated (Op Comma) (map (entry Pair) es) ++ (Op RBrace ∷ []))) _
     (λ m. ap (λ z. Op LBrace ∷ (separated (Op Comma) z ++ (Op RBrace ∷ []))) (pairs_are c.standing)) refl tt
-        (G.dict (listing_of c.standing))
+    (G.dict (listing_of c.standing))
     (in_brackets LBrace RBrace (subst (λ z. AtLeast (separated tt z) ts) (sym (pair_marks_are c.standing)) c.short))
 
 pub empty_tuple_claim : Claim Atom (Op LPar ∷ (Op RPar ∷ [])) (Trees.Tuple no_exprs Load)
@@ -292,11 +296,11 @@ tail_of (one s r) = r
 
 at_slices : (e : Expr) (es : List Entry) → Ready e → G.Derives Part (written terminal Part e) e → Standings (Of Part) es
     → G.Derives Slices (tuple_of terminal Part (lone_star (an_expr e (singles es)))
-        (written terminal Part e ∷ each terminal Part (singles es))) (Trees.Tuple (an_expr e (singles es)) Load)
+    (written terminal Part e ∷ each terminal Part (singles es))) (Trees.Tuple (an_expr e (singles es)) Load)
 unfolding written each
 at_slices (Trees.Starred v c) [] r p s =
     subst (λ d. G.Derives Slices (Op Star ∷ written terminal Expression v) (Trees.Tuple (an_expr (Trees.Starred v d) no_exprs) Load))
-        (sym r.inside.0)
+    (sym r.inside.0)
     (G.star_slices r.inside.1)
 at_slices (Trees.Starred v c) (Single f ∷ es) r p s = G.parts p (list_of s)
 at_slices (Trees.Starred v c) (_ ∷ es) r p s = absurd (head_of s)
@@ -304,17 +308,17 @@ at_slices _ es r p s = G.parts p (list_of s)
 
 at_stars : (e : Expr) (es : List Entry) → Standings (Of StarItem) (Single e ∷ es)
     → G.Derives Stars (written terminal StarItem e ++ (Op Comma ∷ separated (Op Comma) (each terminal StarItem (singles es))))
-        (Trees.Tuple (an_expr e (singles es)) Load)
+    (Trees.Tuple (an_expr e (singles es)) Load)
 at_stars e es s = let h = head_of s in G.star_tuple (h.0.all StarItem h.1) (list_of (tail_of s))
 
 at_subject : (e : Expr) (es : List Entry) → Standings (Of Elem) (Single e ∷ es)
     → G.Derives Subject (written terminal Elem e ++ (Op Comma ∷ separated (Op Comma) (each terminal Elem (singles es))))
-        (Trees.Tuple (an_expr e (singles es)) Load)
+    (Trees.Tuple (an_expr e (singles es)) Load)
 at_subject e es s = let h = head_of s in G.subject_tuple (h.0.all Elem h.1) (list_of (tail_of s))
 
 at_atom : (e : Expr) (es : List Entry) → Standings (Of Elem) (Single e ∷ es)
     → G.Derives Atom (bracketed terminal (written terminal Elem e ++ (Op Comma ∷ separated (Op Comma) (each terminal Elem (singles es)))))
-        (Trees.Tuple (an_expr e (singles es)) Load)
+    (Trees.Tuple (an_expr e (singles es)) Load)
 at_atom e es s = let h = head_of s in subst (λ z. G.Derives Atom z (Trees.Tuple (an_expr e (singles es)) Load))
     (sym (with_comma_brackets (written terminal Elem e) (separated (Op Comma) (each terminal Elem (singles es)))))
     (G.tuple (h.0.all Elem h.1) (list_of (tail_of s)))
@@ -351,15 +355,21 @@ star_size : (e : Expr) (z : Exprs) (b : Bool) → some_named (an_expr e z) ≡ b
 unfolding each
 star_size e z false q = omega arith
 star_size e no_exprs true q =
-    omega
-    (arith, total_named (an_expr e no_exprs) q, length_bracketed (with_comma marks (written marks Elem e ∷ [])),
-        length_with_comma (written marks Elem e) [], length_with_comma (written marks StarItem e) [])
+    omega (
+      arith,
+      total_named (an_expr e no_exprs) q,
+      length_bracketed (with_comma marks (written marks Elem e ∷ [])),
+      length_with_comma (written marks Elem e) [],
+      length_with_comma (written marks StarItem e) [],
+    )
 star_size e (an_expr f z) true q =
-    omega
-    (arith, total_named (an_expr e (an_expr f z)) q,
-        length_bracketed (with_comma marks (written marks Elem e ∷ (written marks Elem f ∷ each marks Elem z))),
-        length_with_comma (written marks Elem e) (written marks Elem f ∷ each marks Elem z),
-        length_with_comma (written marks StarItem e) (written marks StarItem f ∷ each marks StarItem z))
+    omega (
+      arith,
+      total_named (an_expr e (an_expr f z)) q,
+      length_bracketed (with_comma marks (written marks Elem e ∷ (written marks Elem f ∷ each marks Elem z))),
+      length_with_comma (written marks Elem e) (written marks Elem f ∷ each marks Elem z),
+      length_with_comma (written marks StarItem e) (written marks StarItem f ∷ each marks StarItem z),
+    )
 
 pub star_tuple_claim : {ts us : List Terminal} {e : Expr} {es : List Entry} → Claim StarItem ts e → ListingClaim (Of StarItem) us es
     → Claim Stars (ts ++ (Op Comma ∷ us)) (Trees.Tuple (an_expr e (singles es)) Load)
@@ -410,5 +420,8 @@ parts_claim {ts} {us} {e} {es} p c = record {
 pub star_slices_claim : {ts : List Terminal} {e : Expr} → Claim Part (Op Star ∷ ts) (Trees.Starred e Load)
     → Claim Slices (Op Star ∷ ts) (Trees.Tuple (an_expr (Trees.Starred e Load) no_exprs) Load)
 unfolding written each
-star_slices_claim {ts} {e} p = record { ready = tuple_ready (Trees.Starred e Load) [] (one (p.ready, p.place) none);
-    place = refl; short = p.short }
+star_slices_claim {ts} {e} p = record {
+  ready = tuple_ready (Trees.Starred e Load) [] (one (p.ready, p.place) none);
+  place = refl;
+  short = p.short;
+}

@@ -305,11 +305,11 @@ field_flat {n} c ts es f g =
 value_flat : (n : ℕ) (e : Expr) (c : Conversion) (s : OptionalExpr) (es : List (Element Terminal)) → Flat (height e) (written terminal Or e)
     → Flat (optional_height s) (inner (spec_elements terminal s)) → Flat n (inner es)
     → max (height e) (optional_height s) + 1 ≤ n
-        → Flat n (inner (field terminal c (written terminal Or e) (spec_elements terminal s) ++ es))
+    → Flat n (inner (field terminal c (written terminal Or e) (spec_elements terminal s) ++ es))
 value_flat n e c s es f g r h =
     rw (flat_map-append element_terminals (field terminal c (written terminal Or e) (spec_elements terminal s)) es)
     (both (up (field_flat {n = max (height e) (optional_height s)} c (written terminal Or e) (spec_elements terminal s) (up f (omega arith))
-        (up g (omega arith))) h) r)
+    (up g (omega arith))) h) r)
 
 mutual
   unfolding written elements_behind spec_elements each perhaps suffixed alone by_name written_keys pairs clauses conditions
@@ -331,7 +331,7 @@ mutual
       (plain (λ d. refl) (both (up (flat Or refl x) (omega arith)) (plain (λ d. refl) (up (flat Expression refl z) (omega arith))))))
   flat l a (Trees.BoolOp o es) =
       fit_flat l (chain_level o)
-          (separated_flat (Word (chain_word o)) (λ d. refl) (flat_each (below (chain_level o)) (chain_not_atom o) es))
+      (separated_flat (Word (chain_word o)) (λ d. refl) (flat_each (below (chain_level o)) (chain_not_atom o) es))
   flat l a (Trees.UnaryOp o e) = fit_flat l (unary_level o) (plain (unary_neutral o) (flat (unary_level o) (unary_not_atom o) e))
   flat l a (Trees.Compare e os es) =
       fit_flat l Compare (both (up (flat BitOr refl e) (omega arith)) (compared_flat os (all_up (flat_each BitOr refl es) (omega arith))))
@@ -345,13 +345,13 @@ mutual
   flat l a (Trees.Call f es ks) =
       primary l a
       (both (up (flat Primary refl f) (omega arith)) (pair {n = max (height f) (max (heights es) (keyword_heights ks))} open_round
-          close_round (if_flat (lone_generator es ks) (up (flat_alone es) (omega arith))
-          (separated_flat (Op Comma) neutral (all_append (all_up (flat_each Named refl es) (omega arith))
-          (all_up (flat_by_name ks) (omega arith)))))))
+      close_round (if_flat (lone_generator es ks) (up (flat_alone es) (omega arith))
+      (separated_flat (Op Comma) neutral (all_append (all_up (flat_each Named refl es) (omega arith))
+      (all_up (flat_by_name ks) (omega arith)))))))
   flat l a (Trees.Subscript e s c) =
       primary l a
       (both (up (flat Primary refl e) (omega arith)) (pair {n = max (height e) (height s)} open_square close_square
-          (up (flat Slices refl s) (omega arith))))
+      (up (flat Slices refl s) (omega arith))))
   flat l a (Trees.Name x c) = plain (λ d. refl) (flat_none 1)
   flat l a (Trees.Constant v) = plain (constant_neutral v) (flat_none 1)
   flat l a (Trees.FormattedValue e c s) =
@@ -361,7 +361,7 @@ mutual
       joined_flat (is_unicode es) (first_text es) (elements_behind terminal false es) (up (flat_behind false es) (omega arith))
   flat l a (Trees.Tuple es c) =
       tuple_flat (tuple_level l (some_named es)) (lone_star es)
-          (flat_each (element_level l (some_named es)) (element_not_atom l (some_named es)) es)
+      (flat_each (element_level l (some_named es)) (element_not_atom l (some_named es)) es)
   flat l a (Trees.GeneratorExp e gs) =
       pair open_round close_round (both (up (flat Named refl e) (omega arith)) (up (flat_clauses gs) (omega arith)))
   flat l a (Trees.ListOf es c) = pair open_square close_square (separated_flat (Op Comma) neutral (flat_each Elem refl es))
@@ -450,7 +450,7 @@ mutual
   flat_parameters (arguments ps qs v ks kds k ds) =
       all_append
       (slash_flat (names terminal ps)
-          (beside_flat (all_append (all_up (flat_names ps) (omega arith)) (all_up (flat_names qs) (omega arith)))
+      (beside_flat (all_append (all_up (flat_names ps) (omega arith)) (all_up (flat_names qs) (omega arith)))
       (all_append (replicate_flat _) (equal_flat (all_up (flat_each Expression refl ds) (omega arith))))))
       (all_append (star_flat (names terminal ks) (all_up (flat_gathered Star (λ d. refl) v) (omega arith)))
       (all_append (beside_flat (all_up (flat_names ks) (omega arith)) (all_up (flat_defaults kds) (omega arith)))

@@ -63,15 +63,21 @@ star_parameter_claim {b} p = record { standing = G.star_parameter (p.is Colon (c
 
 pub star_annotation_claim : {x : Spelled} {ts : List Terminal} {e : Expr} → Claim BitOr ts e
     → PieceClaim (Parameter true) (Op Star ∷ (Ident x ∷ (Op Colon ∷ (Op Star ∷ ts))))
-        (Gathered (arg x.form (present (Trees.Starred e Load))))
+    (Gathered (arg x.form (present (Trees.Starred e Load))))
 unfolding suffixed written
-star_annotation_claim p = record { standing = G.star_annotation (here p); short =
-    token refl (token refl (token refl (token refl p.short))) }
+star_annotation_claim p = record {
+  standing = G.star_annotation (here p);
+  short =
+      token refl (token refl (token refl (token refl p.short)));
+}
 
 pub double_parameter_claim : {b : Bool} {x : Spelled} {ts : List Terminal} {a : OptionalExpr} → SuffixClaim (cond b (Some Colon) None) ts a
     → PieceClaim (Parameter b) (Op DoubleStar ∷ (Ident x ∷ ts)) (Collected (arg x.form a))
-double_parameter_claim {b} p = record { standing = G.double_parameter (p.is Colon (colon_signed b)); short =
-    token refl (token refl p.short) }
+double_parameter_claim {b} p = record {
+  standing = G.double_parameter (p.is Colon (colon_signed b));
+  short =
+      token refl (token refl p.short);
+}
 
 pub lambda_claim : {ts us : List Terminal} {ps : List Entry} {a : Arguments} {e : Expr}
     → ListingClaim (Parameter false) ts ps → arranged ps ≡ Some a

@@ -144,9 +144,10 @@ item_target_law {ts} (G.item_target {e = e} {s = s} p h) =
 item_target_law {ts} (G.star_target {ts = us} {e = e} {s = s} p h) =
     let c = claim p in
     let q = stored_same terminal (Trees.Starred e Load) s h Named ∙ target_is terminal (Trees.Starred e Load) s h in
-    let r = stored_same one (Trees.Starred e Load) s h Named ∙ target_is one (Trees.Starred e Load) s h in
-    (subst (λ z. G.ItemTarget z s) q (G.star_target (here c) h),
-        no_more (item_same s) (subst (λ z. AtLeast z (Op Star ∷ us)) r (token refl c.short)))
+    let r = stored_same one (Trees.Starred e Load) s h Named ∙ target_is one (Trees.Starred e Load) s h in (
+      subst (λ z. G.ItemTarget z s) q (G.star_target (here c) h),
+      no_more (item_same s) (subst (λ z. AtLeast z (Op Star ∷ us)) r (token refl c.short)),
+    )
 
 -- parameters, with or without annotations
 same_entries : {A : Type 0} (make : Maker A) (b : Bool) (es : List Entry)
@@ -157,7 +158,7 @@ same_entries make b (e ∷ es) = ap (λ z. entry_in make (Parameter false) e ∷
 pub parameters_law : {b : Bool} {ts : List Terminal} {ps : List Entry} {a : Arguments}
     → G.Listing (Parameter b) ts ps → arranged ps ≡ Some a
     → G.Listing (Parameter b) (separated (Op Comma) (parameters terminal a)) ps ×
-        (token_count (separated (Op Comma) (parameters terminal a)) ≤ token_count ts)
+    (token_count (separated (Op Comma) (parameters terminal a)) ≤ token_count ts)
 parameters_law {b} {ts} {ps} {a} p h =
     let c = listing p in
     let q = ap (separated (Op Comma)) (same_entries terminal b ps ∙ sym (parameters_are terminal ps a h)) in
@@ -172,8 +173,8 @@ parameters_law {b} {ts} {ps} {a} p h =
 pub bases_law : {us : List Terminal} {es : List Entry} → G.Listing Argument us es →
     (fs : List Entry) × G.Listing Argument (separated (Op Comma)
     (each terminal Named (positional es) ++ by_name terminal (keywords es))) fs × (in_order false false fs ≡ true) ×
-        (positional fs ≡ positional es) × (keywords fs ≡ keywords es) ×
-        (token_count (separated (Op Comma) (each terminal Named (positional es) ++ by_name terminal (keywords es))) ≤ token_count us)
+    (positional fs ≡ positional es) × (keywords fs ≡ keywords es) ×
+    (token_count (separated (Op Comma) (each terminal Named (positional es) ++ by_name terminal (keywords es))) ≤ token_count us)
 bases_law {us} {es} p =
     let c = listing p in
     let q = sym (sorted_written terminal es) in

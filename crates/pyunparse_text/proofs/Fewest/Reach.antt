@@ -33,7 +33,7 @@ use Rattle.pyunparse_text.proofs.Fewest.Counted.{one}
 abbrev pub levels : List Level
 levels =
     Subject ∷ Value ∷ Slices ∷ Stars ∷ Part ∷ Slice ∷ StarItem ∷ Elem ∷ Named ∷ Expression ∷ Or ∷ And ∷ Not ∷ Compare ∷ BitOr ∷ BitXor ∷
-        BitAnd ∷ Shift ∷ Sum ∷ Term ∷ Factor ∷ Power ∷ Await ∷ Primary ∷ Atom ∷ []
+    BitAnd ∷ Shift ∷ Sum ∷ Term ∷ Factor ∷ Power ∷ Await ∷ Primary ∷ Atom ∷ []
 
 -- a level's place among them
 record Placed (l : Level) : Type 0 where

@@ -242,7 +242,7 @@ mutual
       (inner_field c (written terminal Or e) (spec_elements terminal s) (silent (same Or e).is) (silent_spec s))
   same l (Trees.JoinedStr es) =
       joined_same (is_unicode es) (first_text es) (elements_behind one false es) (elements_behind terminal false es)
-          (silent_behind false es)
+      (silent_behind false es)
   same l (Trees.Tuple es c) = tuple_same (tuple_level l (some_named es)) (lone_star es) (same_each (element_level l (some_named es)) es)
   same l (Trees.GeneratorExp e gs) = in_brackets LPar RPar (both (same Named e) (same_clauses gs))
   same l (Trees.ListOf es c) = in_brackets LSqb RSqb (listed_same (same_each Elem es))
@@ -315,12 +315,12 @@ mutual
   pub same_parameters : (a : Arguments) → AllSame (parameters one a) (parameters terminal a)
   same_parameters (arguments ps qs v ks kds k ds) =
       let firsts : AllSame (names one ps ++ names one qs) (names terminal ps ++ names terminal qs) =
-          append_same (same_names ps) (same_names qs) in
+      append_same (same_names ps) (same_names qs) in
       let values : AllSame (map (behind_equal one) (each one Expression ds)) (map (behind_equal terminal) (each terminal Expression ds)) =
       equal_same (same_each Expression ds) in
       let gap : length (names one ps ++ names one qs) - length (map (behind_equal one) (each one Expression ds)) ≡ length
-          (names terminal ps ++ names terminal qs) - length (map (behind_equal terminal) (each terminal Expression ds)) =
-          cc (length_same firsts, length_same values) in
+      (names terminal ps ++ names terminal qs) - length (map (behind_equal terminal) (each terminal Expression ds)) =
+      cc (length_same firsts, length_same values) in
       append_same (slash_same (same_names ps) (beside_same firsts (append_same (replicate_same _ _ gap) values)))
       (append_same (star_same (same_gathered Star v) (same_names ks))
       (append_same (beside_same (same_names ks) (same_defaults kds)) (same_gathered DoubleStar k)))

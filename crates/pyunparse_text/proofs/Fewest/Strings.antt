@@ -110,7 +110,7 @@ field_given : {u : Bool} {s : OptionalExpr} {ps : List StringPart} (e : Expr) (c
 field_given {u} {s} {ps} e c es fs r a p q =
     subst
     (λ z. G.Formatted u (FieldBegin c ∷ (Op LPar ∷ ((written terminal Or e ++ (Op RPar ∷ [])) ++ z)))
-        (Parts.Field (Trees.FormattedValue e c s) ∷ ps))
+    (Parts.Field (Trees.FormattedValue e c s) ∷ ps))
     (sym (inner_parts es fs))
     (G.field_part (G.group (climb Named Or named_or (r.all Or a))) p q)
 
@@ -160,7 +160,7 @@ mutual
       text_behind c cs (first_text (values_of k ps)) h (no_first_text k s h) (parts_behind b k s n)
   parts_behind b k (field_of {e = e} {c = c} {s = t} {ps = ps} r a q s) (neat_field n) =
       field_behind b (first_text (values_of k ps)) e c (spec_elements terminal t)
-          (elements_behind terminal b (values_of k ps)) r a (spec_given q)
+      (elements_behind terminal b (values_of k ps)) r a (spec_given q)
       (parts_behind b k s n)
 
   spec_parts_behind : {u : Bool} {ps : List StringPart} (k : Bool) → Stands u ps → Neat ps
@@ -172,7 +172,7 @@ mutual
       text_behind c cs [] h refl (spec_parts_behind k (field_of r a q s) n)
   spec_parts_behind k (field_of {e = e} {c = c} {s = t} {ps = ps} r a q s) (neat_field n) =
       field_behind true (first_text (spec_values_of k ps)) e c (spec_elements terminal t)
-          (elements_behind terminal true (spec_values_of k ps)) r a
+      (elements_behind terminal true (spec_values_of k ps)) r a
       (spec_given q) (spec_parts_behind k s n)
 
   spec_given : {u : Bool} {s : OptionalExpr} → SpecStands u s → G.Spec u (inner (spec_elements terminal s)) s
@@ -240,7 +240,7 @@ mutual
   kindless_in_spec (text (field_of r a q s)) h = absurd (cc)
   kindless_in_spec (field_of {e = e} {c = c} {s = t} {ps = ps} r a q s) h =
       let k : Kindless (λ k. spec_values_of k ps) ps =
-          kindless_in_spec s (second_none (is_unicode_spec t) (is_unicode (spec_values_of true ps)) h) in
+      kindless_in_spec s (second_none (is_unicode_spec t) (is_unicode (spec_values_of true ps)) h) in
       record {
         stands = field_of r a (kindless_spec q (first_none (is_unicode_spec t) (is_unicode (spec_values_of true ps)) h)) k.stands;
         same = ap (an_expr (Trees.FormattedValue e c t)) k.same;
@@ -334,7 +334,7 @@ text_at k es = joined terminal k (first_text es) (elements_behind terminal false
 kind_given : {ps : List StringPart} → Stands true ps → merged ps ≡ ps → Joins (text_at true (values_of true ps)) (values_of true ps)
 kind_given {ps} s m =
     let f : Behind true (first_text (values_of true ps)) (elements_behind terminal false (values_of true ps)) ps =
-        all_behind true s m in record {
+    all_behind true s m in record {
       kind = true;
       parts = Parts.Text (first_text (values_of true ps)) ∷ (Parts.Text [] ∷ f.parts ++ []);
       literals = G.text_literal (G.formatted_literal (G.text_part f.given) G.no_literal);
@@ -367,7 +367,7 @@ joined_given true false {ps} s m h =
 
 enough : {u : Bool} {ts : List Terminal} {ps : List StringPart} (k : Bool) (es : Exprs) → LiteralsClaim u ts ps
     → (k ≡ true → begins_unicode ts ≡ true) → has_formatted ts ≡ true
-        → AtLeast (joined one k (first_text es) (elements_behind one false es)) ts
+    → AtLeast (joined one k (first_text es) (elements_behind one false es)) ts
 enough true es c b h = record { count = c.count; counted = c.counted; enough = omega (arith, c.two (b refl) h) }
 enough false es c b h = record { count = c.count; counted = c.counted; enough = omega (arith, c.some h) }
 

@@ -110,7 +110,7 @@ pass_calm os c cs k n =
 no_equals : (c : ℕ) → is_calm c ≡ true → (c == 61) ≡ false
 no_equals c k =
     let a = and_parts (is_inner c) (not (is_end c)) k in
-        (or_parts_false ((c == 125) || (c == 33) || (c == 58)) (c == 61) (off (is_end c) a.1)).1
+    (or_parts_false ((c == 125) || (c == 33) || (c == 58)) (c == 61) (off (is_end c) a.1)).1
 
 -- whatever follows
 pub plain_passed : (os : List Bracket) (t r : List ℕ) → list_all is_plain t ≡ true → scan expression os 0 (t ++ r) ≡ scan expression os 0 r

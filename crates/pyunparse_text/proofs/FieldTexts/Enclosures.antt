@@ -105,7 +105,7 @@ literal_plain [] t e b = ends_with_quote 34 t refl b
 literal_plain (c ∷ a) t e b =
     let p = and_parts (is_plain c) (list_all is_plain a) e in
     otherwise (c == 34) (ends_plainly 34 (a ++ 34 ∷ (t ++ 34 ∷ [])))
-        (is_plain c && is_plain_literal (a ++ 34 ∷ (t ++ 34 ∷ []))) (plain_quote c p.0)
+    (is_plain c && is_plain_literal (a ++ 34 ∷ (t ++ 34 ∷ []))) (plain_quote c p.0)
     (and_from (is_plain c) (is_plain_literal (a ++ 34 ∷ (t ++ 34 ∷ []))) p.0 (literal_plain a t p.1 b))
   where
     plain_quote : (c : ℕ) → is_plain c ≡ true → (c == 34) ≡ false

@@ -74,7 +74,7 @@ equals_clear t [] c e = refl
 equals_clear t (d ∷ r) c e =
     cases (d == 61)
     (λ h. let n = c.0 1 (omega arith) (omega arith) in let f : d ≡ 61 = eqb-true d 61 h in
-        let g : is_operator (t ++ 61 ∷ []) ≡ false = subst
+    let g : is_operator (t ++ 61 ∷ []) ≡ false = subst
     (λ (x : ℕ). is_operator (t ++ x ∷ []) ≡ false) f n in cc)
 
 follows : (q : Piece) (qs : List Piece) (rest : List ℕ) → IsPiece q → ArePieces qs → all_apart q qs ≡ true → EndsExpression rest
@@ -95,7 +95,7 @@ follows q (s ∷ ss) rest i a p e =
           equals_begins (text_behind q (s ∷ ss) ++ rest)
           (same_first (λ c. c == 61) q s ss (10 ∷ []) rest b
           (equals_clear q.text (text_behind q (s ∷ ss) ++ 10 ∷ [])
-              (subst (λ (x : Kind). Clear x q.text (text_behind q (s ∷ ss) ++ 10 ∷ [])) k c) j));
+          (subst (λ (x : Kind). Clear x q.text (text_behind q (s ∷ ss) ++ 10 ∷ [])) k c) j));
     }
 
 -- ---- The scan.

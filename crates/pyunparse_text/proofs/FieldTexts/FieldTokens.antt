@@ -215,7 +215,7 @@ pub field_tokens_are : (ps : List Piece) → are_readable ps ≡ true → closes
     → field_tokens (expression_text ps) ≡ opening ∷ (map own_token ps ++ closing ∷ [])
 field_tokens_are ps e c h =
     h.all (field_whole ps e c) ∙ ap (λ ts. opening ∷ (ts ++ closing ∷ [])) (ap tokens_of (expression_cut ps e)
-        ∙ (expression_own ps e).tokens)
+    ∙ (expression_own ps e).tokens)
 
 pub field_has_tokens : (ps : List Piece) → are_readable ps ≡ true → closes_all 0 ps ≡ true → HasOwnTokens (expression_text ps)
     → has_no_tokens (expression_text ps) ≡ false

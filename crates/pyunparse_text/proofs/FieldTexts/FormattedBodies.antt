@@ -82,8 +82,12 @@ own_free is_in_field c o =
     record {
       skips =
           own_skips (quote is_in_field) c
-          (record { slash = off (c == 92) p2.0; quote = which is_in_field q.0 q.1; feed = off (c == 10) p4.0;
-              return = off (c == 13) p4.1 });
+          (record {
+            slash = off (c == 92) p2.0;
+            quote = which is_in_field q.0 q.1;
+            feed = off (c == 10) p4.0;
+            return = off (c == 13) p4.1;
+          });
       kept = and_from (not (c == 13)) (not (c == 0)) p4.1 p3.1;
       own = λ e. o;
     }
@@ -252,7 +256,7 @@ text_own true in_spec [] a e = refl
 text_own true in_spec (c ∷ t) a e =
     let p = and_parts (can_stand true in_spec c) (list_all (can_stand true in_spec) t) a in
     both_all is_own (character_text true in_spec c) (text_source true in_spec t) (character_own in_spec c p.0)
-        (text_own true in_spec t p.1 e)
+    (text_own true in_spec t p.1 e)
 
 text_in : (is_in_field in_spec : Bool) (t : List ℕ) → IsText is_in_field in_spec t
     → IsInString is_in_field (text_source is_in_field in_spec t)

@@ -146,14 +146,14 @@ same_conversion conversions.Ascii b = refl
 abbrev IsSpecified : {S : Type 0} → Bool → (List ℕ → S → List ℕ → Type 0) → (List (Element Sited) → Option S → Type 0) → Type 0
 IsSpecified {S} is_in_field IsSpecAt IsSpecOf = (es : List (Element Sited)) (s : Option S) (rest : List ℕ) → IsSpecOf es s
     → (Specifies IsSpecAt (elements_text is_in_field es ++ 125 ∷ rest) s (125 ∷ rest)) ×
-        (IsBehind (elements_text is_in_field es ++ 125 ∷ rest))
+    (IsBehind (elements_text is_in_field es ++ 125 ∷ rest))
 
 -- a field, behind its brace
 abbrev IsCutField : {S : Type 0} → Bool → (List ℕ → FieldParts S → List ℕ → Type 0)
     → (List (Element Sited) → FieldParts S → Type 0) → Type 0
 IsCutField {S} is_in_field IsFieldAt IsFieldOf = (es : List (Element Sited)) (f : FieldParts S) (rest : List ℕ) → IsFieldOf es f
     → (inside : List ℕ) × (elements_text is_in_field es ++ rest ≡ 123 ∷ inside) × (begins_with 123 inside ≡ false) ×
-        (IsFieldAt inside f rest)
+    (IsFieldAt inside f rest)
 
 whole_field : (is_in_field : Bool) (c : Conversion) (ps : List Sited) (ss : List (Element Sited)) (rest : List ℕ)
     → elements_text is_in_field (Field c ps ∷ (ss ++ End ∷ [])) ++ rest
@@ -185,8 +185,12 @@ field_cut is_in_field is_nested IsSpecAt IsSpecOf h es f rest (a_written_field {
         after_conversion = later;
         given = c;
         expression =
-            record { whole = refl; scanned = field_scanned qs behind e (ends_expression c later at.1); some =
-                field_not_blank qs e.readable };
+            record {
+              whole = refl;
+              scanned = field_scanned qs behind e (ends_expression c later at.1);
+              some =
+                  field_not_blank qs e.readable;
+            };
         keeps = unkept (no_equals c later at.1);
         converts = converts c later at.1;
         conversion = same_conversion c (is_some s);
@@ -276,4 +280,4 @@ module _ (is_in_field is_nested : Bool) where
       cut_of_complete (manner is_nested) (elements_text is_in_field es) ps
       (subst (λ (cs : List ℕ). IsCut (manner is_nested) cs ps) (append-nil (elements_text is_in_field es))
       (parts_cut is_in_field false (IsField (IsSpec (manner is_nested)) is_nested) (IsOuterField is_in_field) outer_cut
-          es ps [] nothing refl b))
+      es ps [] nothing refl b))

@@ -54,7 +54,7 @@ module _ (test : List ℕ → Bool) (is_in_field : Bool) where
     bad = no_escape is_bad_escape rs qs x.bad y.bad;
     fields = list_any-append (is_field_of test) rs qs ∙ ap₂ (λ a b. a || b) x.fields y.fields
         ∙ sym (ap (list_any (λ ps. test (expression_text ps))) (flat_map-append field_of es fs)
-            ∙ list_any-append (λ ps. test (expression_text ps))
+        ∙ list_any-append (λ ps. test (expression_text ps))
         (fields_of es) (fields_of fs));
   }
 
@@ -70,14 +70,14 @@ module _ (test : List ℕ → Bool) (is_in_field : Bool) where
     where
       no_more : (f : Meaning → Bool)
           → list_any f (read.text_meanings (record { is_raw = false; has_pairs = not in_spec; source = text_source is_in_field in_spec t }))
-              ≡ false
+          ≡ false
           → list_any f (read.text_meanings (record { is_raw = false; has_pairs = not in_spec; source = text_source is_in_field in_spec t })
-              ++ [])
+          ++ [])
           ≡ false
       no_more f e =
           ap (list_any f)
           (append-nil (read.text_meanings (record { is_raw = false; has_pairs = not in_spec; source = text_source is_in_field in_spec t })))
-              ∙ e
+          ∙ e
 
   -- a text is no field
   without_text : (in_spec : Bool) (t : List ℕ) (es : List (Element Sited)) (rs : List read.Element)
@@ -96,7 +96,7 @@ module _ (test : List ℕ → Bool) (is_in_field : Bool) where
       → FieldsAreRead elements (IsWrittenField is_in_field IsSpecOf)
   field_reads elements IsSpecOf h es f (a_written_field {c = c} {ps = ps} {es = ss} {s = s} e n i) =
       both (Field c ps ∷ []) (ss ++ End ∷ []) (read.Field c (expression_text (in_field ps)) ∷ [])
-          (spec_elements elements s ++ read.End ∷ [])
+      (spec_elements elements s ++ read.End ∷ [])
       (record { named = refl; bad = refl; fields = refl })
       (both ss (End ∷ []) (spec_elements elements s) (read.End ∷ []) (h ss s i) (record { named = refl; bad = refl; fields = refl }))
 
@@ -128,7 +128,7 @@ module _ (test : List ℕ → Bool) (is_in_field : Bool) where
       (without_text true [] [] (inner_elements false []) (text_reads true [] refl))
   inner_reads es s (cut.one {t = t} a) =
       both (Spec ∷ []) (Text true t ∷ []) (read.Spec ∷ []) (inner_elements false (text_source is_in_field true t))
-          spec_begins (text_reads true t a)
+      spec_begins (text_reads true t a)
 
   outer_reads : AreRead (spec_part_elements false) (IsOuter is_in_field)
   outer_reads es s cut.none = nothing

@@ -98,7 +98,7 @@ module _ (own : (t : List ℕ) → all_scalars t ≡ true → HasOwnTokens t) wh
       ≡ FormattedBegin ∷ (padded true (all_terminals (given_by (terminals_by true nested_expression)) es) ++ (FormattedEnd ∷ []))
   string_terminals es ps b =
       formatted_terminals_are (given_by (terminals_by true nested_expression)) expression
-          (λ qs e. expression_is qs e (of_text qs e)) false es ps b
+      (λ qs e. expression_is qs e (of_text qs e)) false es ps b
 
   -- and in one that stands in a field
   pub nested_string_terminals : (es : List (Element Sited)) (ps : List BodyPart) → IsBody true es ps
@@ -113,7 +113,7 @@ module _ (own : (t : List ℕ) → all_scalars t ≡ true → HasOwnTokens t) wh
   unfolding fault_of fault_by
   string_faultless es ps b n =
       let m = none_faulty field_fault is_faulty (λ qs e k. field_faultless qs e (of_text qs e) k) (fields_of es)
-          (body_expressions false es ps b) n in
+      (body_expressions false es ps b) n in
       formatted_faultless is_faulty false es ps b m
 
   pub nested_string_faultless : (es : List (Element Sited)) (ps : List BodyPart) → IsBody true es ps

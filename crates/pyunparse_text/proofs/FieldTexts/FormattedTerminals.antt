@@ -74,19 +74,19 @@ module _ (given : List Piece → List Terminal) where
     abbrev IsPaddedSpec : {S : Type 0} → (S → List read.Element) → (List (Element Sited) → Option S → Type 0) → Type 0
     IsPaddedSpec {S} elements IsSpecOf = (es : List (Element Sited)) (s : Option S) (rest : List (Element Sited)) → IsSpecOf es s
         → padded false (all_terminals (es ++ End ∷ rest)) ≡ read_terminals (spec_elements elements s) ++ padded false
-            (all_terminals (End ∷ rest))
+        (all_terminals (End ∷ rest))
 
     abbrev IsPaddedField : {S : Type 0} → (S → List read.Element) → (List (Element Sited) → FieldParts S → Type 0) → Type 0
     IsPaddedField {S} elements IsFieldOf = (b : Bool) (es : List (Element Sited)) (f : FieldParts S) (rest : List (Element Sited))
         → IsFieldOf es f
         → padded b (all_terminals (es ++ rest)) ≡ wanting b ++ (read_terminals (field_elements elements f) ++ padded
-            true (all_terminals rest))
+        true (all_terminals rest))
 
     both_read : (xs ys : List read.Element) (ts : List Terminal) → read_terminals (xs ++ ys) ++ ts ≡ read_terminals xs ++
         (read_terminals ys ++ ts)
     both_read xs ys ts =
         ap (λ x. x ++ ts) (flat_map-append (tokens.element_terminals expression) xs ys)
-            ∙ append_assoc (read_terminals xs) (read_terminals ys) ts
+        ∙ append_assoc (read_terminals xs) (read_terminals ys) ts
 
     field_padded : {S : Type 0} (elements : S → List read.Element) (IsSpecOf : List (Element Sited) → Option S → Type 0)
         → IsPaddedSpec elements IsSpecOf → IsPaddedField elements (IsWrittenField is_in_field IsSpecOf)
@@ -100,13 +100,13 @@ module _ (given : List Piece → List Terminal) where
         ap (λ (xs : List (Element Sited)). padded false (all_terminals xs)) (append_assoc ss (End ∷ []) rest)
         ∙ h ss s rest i
         ∙ sym (ap (λ x. x ++ p) (flat_map-append (tokens.element_terminals expression) (spec_elements elements s) (read.End ∷ []))
-            ∙ append_assoc n
+        ∙ append_assoc n
         (FieldEnd ∷ []) p) in
         let whole : (expression t ++ m) ++ p ≡ Op LPar ∷ (g ++ (Op RPar ∷ (m ++ p))) =
         ap (λ x. (x ++ m) ++ p) (reads (in_field ps) e)
         ∙ ap (λ x. Op LPar ∷ x) (append_assoc (g ++ Op RPar ∷ []) m p ∙ append_assoc g (Op RPar ∷ []) (m ++ p)) in
         ap (λ x. wanting b ++ (FieldBegin c ∷ (Op LPar ∷ (g ++ (Op RPar ∷ x))))) later
-            ∙ ap (λ x. wanting b ++ (FieldBegin c ∷ x)) (sym whole)
+        ∙ ap (λ x. wanting b ++ (FieldBegin c ∷ x)) (sym whole)
 
     parts_padded : {S : Type 0} (in_spec : Bool) (elements : S → List read.Element) (IsFieldOf : List (Element Sited)
         → FieldParts S → Type 0)
@@ -116,7 +116,7 @@ module _ (given : List Piece → List Terminal) where
         ≡ read_terminals (flat_map (part_elements false (not in_spec) elements) ps) ++ padded false (all_terminals rest)
     parts_padded in_spec elements IsFieldOf h es ps rest k no_parts =
         closes_padded rest k ∙ ap (λ t. FormattedText t ∷ padded false (all_terminals rest))
-            (sym (text_comes_back is_in_field in_spec [] refl))
+        (sym (text_comes_back is_in_field in_spec [] refl))
     parts_padded in_spec elements IsFieldOf h es ps rest k (a_text {t = t} a) =
         ap (λ u. FormattedText u ∷ padded false (all_terminals rest)) (sym (text_comes_back is_in_field in_spec t a))
     parts_padded in_spec elements IsFieldOf h es ps rest k (a_field {es = gs} {fs = fs} {f = f} {ps = qs} g r) =
@@ -142,7 +142,7 @@ module _ (given : List Piece → List Terminal) where
     inner_padded es s rest cut.none = refl
     inner_padded es s rest cut.empty =
         ap (λ u. SpecBegin ∷ (FormattedText u ∷ (FieldEnd ∷ padded true (all_terminals rest))))
-            (sym (text_comes_back is_in_field true [] refl))
+        (sym (text_comes_back is_in_field true [] refl))
     inner_padded es s rest (cut.one {t = t} a) =
         ap (λ u. SpecBegin ∷ (FormattedText u ∷ (FieldEnd ∷ padded true (all_terminals rest)))) (sym (text_comes_back is_in_field true t a))
 

@@ -208,4 +208,4 @@ pub formatted_not_bulky : (es : List (Element Sited)) (ps : List BodyPart) → I
 formatted_not_bulky es ps b =
     let i = body_in_string true es ps b in
     ap (list_any (λ c. is_quote c || (c == 10))) (literal_body true (elements_text true es) i)
-        ∙ own_is_no_bulk (elements_text true es) (i.own refl)
+    ∙ own_is_no_bulk (elements_text true es) (i.own refl)

@@ -58,7 +58,7 @@ at_seam (o ∷ bs) b = at_seam bs b
 last_is : (bs : List Bracket) (b : Bracket) → slice_get (bs ++ b ∷ []) (length (bs ++ b ∷ []) - 1) ≡ Some b
 last_is bs b =
     let e = length-append bs (b ∷ []) in let f : length (bs ++ b ∷ []) - 1 ≡ length bs = omega arith in
-        ap (slice_get (bs ++ b ∷ [])) f ∙ at_seam bs b
+    ap (slice_get (bs ++ b ∷ [])) f ∙ at_seam bs b
 
 -- a character that opens a bracket
 record IsOpener (c : ℕ) : Type 0 where
@@ -208,7 +208,7 @@ unfolding is_operator exact_of operators
 outside_shape t e =
     words_all (λ t. is_bracket t ||
     (ends_text t || (is_comparison t || (list_all is_plain t || (list_all is_calm t && joins_equals t))))) t words
-        refl (sym (by_words t) ∙ e)
+    refl (sym (by_words t) ∙ e)
 
 comparison_scanned : (t r : List ℕ) → is_comparison t ≡ true → scan expression [] 0 (t ++ r) ≡ scan expression [] 0 r
 unfolding step

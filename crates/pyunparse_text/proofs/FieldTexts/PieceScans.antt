@@ -48,7 +48,7 @@ pub record Follows (k : Kind) (t r : List ℕ) : Type 0 where
 -- a token that is no operator
 other_scanned : (bs : List Bracket) (k : Kind) (t r : List ℕ) → is_token k t ≡ true → is_operator_kind k ≡ false
     → (elim k [ kinds.String ↦ is_plain_literal t | _ ↦ true ]) ≡ true → Follows k t r
-        → scan expression bs 0 (t ++ r) ≡ scan expression bs 0 r
+    → scan expression bs 0 (t ++ r) ≡ scan expression bs 0 r
 other_scanned bs kinds.Name t r e n p f = plain_passed bs t r (name_all t e)
 other_scanned bs kinds.Number t r e n p f = plain_passed bs t r (number_plain t (and_parts _ (is_number t) e).1)
 other_scanned bs kinds.String t r e n p f = literal_scanned bs t r p (f.quote refl)

@@ -145,12 +145,20 @@ pair_comes q c w e =
         → Skips q (x ∷ [])
     own q x s f r n (inl h) =
         own_skips q x
-        (record { slash = s; quote = subst (λ (y : ℕ). (x == y) ≡ false) (sym h) (or_parts_false (x == 39) (x == 34) n).0; feed = f;
-            return = r })
+        (record {
+          slash = s;
+          quote = subst (λ (y : ℕ). (x == y) ≡ false) (sym h) (or_parts_false (x == 39) (x == 34) n).0;
+          feed = f;
+          return = r;
+        })
     own q x s f r n (inr h) =
         own_skips q x
-        (record { slash = s; quote = subst (λ (y : ℕ). (x == y) ≡ false) (sym h) (or_parts_false (x == 39) (x == 34) n).1; feed = f;
-            return = r })
+        (record {
+          slash = s;
+          quote = subst (λ (y : ℕ). (x == y) ≡ false) (sym h) (or_parts_false (x == 39) (x == 34) n).1;
+          feed = f;
+          return = r;
+        })
 
     at : (x : ℕ) → (x == 92) ≡ false → is_brace x ≡ true → (x == x) ≡ true → Skips q (x ∷ [])
         → all_scalars (x ∷ []) ≡ true → is_kept x ≡ true

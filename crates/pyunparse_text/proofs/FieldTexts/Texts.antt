@@ -53,8 +53,14 @@ both_kept a b e f = list_all-append is_kept a b ∙ and_from (list_all is_kept a
 all : (is_in_field in_spec : Bool) (t : List ℕ) → IsText is_in_field in_spec t
     → All is_in_field in_spec t (text_source is_in_field in_spec t) (text_single is_in_field in_spec t)
 all is_in_field in_spec [] a =
-    record { units = units_none (not in_spec); read = refl; kept = refl; skips = none_skip (quote is_in_field);
-        scalars = refl; whole = refl }
+    record {
+      units = units_none (not in_spec);
+      read = refl;
+      kept = refl;
+      skips = none_skip (quote is_in_field);
+      scalars = refl;
+      whole = refl;
+    }
 all is_in_field in_spec (c ∷ t) a =
     let p = and_parts (can_stand is_in_field in_spec c) (list_all (can_stand is_in_field in_spec) t) a in
     let i = character_comes is_in_field in_spec c p.0 in

@@ -33,7 +33,7 @@ piece_before : (q : Piece) (qs : List Piece) (more : List ℕ) (ys : List Lexeme
 piece_before q qs more ys left e a h l =
     subst (λ (u : List ℕ). AreLexemes u (lexeme_of q ∷ ys) left) (sym (append_assoc q.text (text_behind q qs) (10 ∷ more)))
     (before (lexeme_of q) q.text (text_behind q qs ++ 10 ∷ more) ys left refl (token_front q.kind q.text (text_behind q qs ++ 10 ∷ more) e
-        (clear_behind q qs more e a h)) l)
+    (clear_behind q qs more e a h)) l)
 
 no_blank_first : (q : Piece) (qs : List Piece) (more : List ℕ) → IsPiece q
     → begins is_blank_char ((q.text ++ text_behind q qs) ++ 10 ∷ more) ≡ false

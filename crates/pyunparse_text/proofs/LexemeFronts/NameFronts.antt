@@ -74,7 +74,7 @@ name_opens (c ∷ d ∷ []) r n e q =
     let s = and_parts (starts_name c) (is_xid_continue d && true) n in
     let d1 = and_parts (is_xid_continue d) true s.1 in
     no_string (c ∷ d ∷ r) (part_no_quote c (start_continues c s.0)) (part_no_quote d d1.0)
-        (and_false (is_prefix (c ∷ d ∷ [])) (begins_quote r) q)
+    (and_false (is_prefix (c ∷ d ∷ [])) (begins_quote r) q)
 name_opens (c ∷ d ∷ b ∷ t) r n e q =
     let s = and_parts (starts_name c) (is_xid_continue d && (is_xid_continue b && list_all is_xid_continue t)) n in
     let d1 = and_parts (is_xid_continue d) (is_xid_continue b && list_all is_xid_continue t) s.1 in

@@ -132,7 +132,7 @@ exponent_front [] r n h = exponent_none r (ends_there is_e r (two_continue 101 6
 exponent_front (c ∷ []) r n h =
     ⊎_elim
     (λ (e : is_e c ≡ true). let j : is_j c ≡ false = either_not is_j 101 69 c e refl refl in let w : 0 + 0 ≡ 1 =
-        simp (e, j) at h in absurd (omega arith))
+    simp (e, j) at h in absurd (omega arith))
     (λ (e : is_e c ≡ false). rw e refl)
     (bool_cases (is_e c))
 exponent_front (c ∷ s ∷ t) r n h =
@@ -147,7 +147,7 @@ tail_front t r n h =
     let a = drop-append-le (point_len t) t r (omega arith) in
     let l = length-drop (point_len t) t in
     let x = exponent_front (drop (point_len t) t) r n
-        (rw (drop-drop (exponent_len (drop (point_len t) t)) (point_len t) t) (omega arith)) in
+    (rw (drop-drop (exponent_len (drop (point_len t) t)) (point_len t) t) (omega arith)) in
     let b = drop-append-le (fraction_len t) t r (omega arith) in
     let j = j_front (drop (fraction_len t) t) r n in
     rw (p, a, x, b, j) refl
@@ -167,7 +167,7 @@ zeros_run (a ∷ []) h =
 zeros_run (a ∷ b ∷ t) h =
     ⊎_elim
     (λ (e : is_zero a ≡ true). let w : suc (joined_len is_zero (b ∷ t)) ≡ suc (length (b ∷ t)) = simp e at h in
-        rw (zero_digit a e) (ap suc (zeros_run (b ∷ t) (omega arith))))
+    rw (zero_digit a e) (ap suc (zeros_run (b ∷ t) (omega arith))))
     (λ (e : is_zero a ≡ false).
     ⊎_elim
     (λ (f : ((a == 95) && is_zero b) ≡ true).

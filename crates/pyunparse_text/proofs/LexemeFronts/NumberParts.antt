@@ -54,7 +54,7 @@ unfolding is_float is_point_after is_raised
 float_begins t e =
     ⊎_elim
     (λ (h : (is_point_after t || is_point_before t) ≡ true). ⊎_elim
-        (split_begins begins_number is_digit_part _ part_begins t) (point_begins t)
+    (split_begins begins_number is_digit_part _ part_begins t) (point_begins t)
     (or_parts (is_point_after t) (is_point_before t) h))
     (split_begins begins_number is_digit_part is_exponent part_begins t)
     (or_parts (is_point_after t || is_point_before t) (is_raised t) e)

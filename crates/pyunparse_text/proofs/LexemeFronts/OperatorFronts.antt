@@ -46,11 +46,11 @@ of_any p c (x ∷ xs) a e =
 abbrev pub is_sign_char : ℕ → Bool
 is_sign_char c =
     (ltb c 128 && not (is_ascii_alphanumeric c || (c == 95))) &&
-        (not (is_ascii_alphabetic c || (c == 95)) &&
-        (not (is_decimal_digit c) &&
-        (not (is_prefix_letter c) &&
-        (not ((c == 39) || (c == 34)) &&
-        (not (is_blank_char c) && (not (c == 35) && (not (c == 10) && (not (c == 13) && not (c == 92)))))))))
+    (not (is_ascii_alphabetic c || (c == 95)) &&
+    (not (is_decimal_digit c) &&
+    (not (is_prefix_letter c) &&
+    (not ((c == 39) || (c == 34)) &&
+    (not (is_blank_char c) && (not (c == 35) && (not (c == 10) && (not (c == 13) && not (c == 92)))))))))
 
 -- What the first character of an operator is not
 pub record Sign (c : ℕ) : Type 0 where
@@ -113,7 +113,7 @@ begins_of t u (o ∷ os) e =
     subst (λ (x : List ℕ). starts_with nat_eq x t ≡ true) ((bytes_eq-Decides (t ++ u) o).0 h) (begins_itself t u) in
     rw s refl)
     (λ (h : list_any (bytes_eq (t ++ u)) os ≡ true). right (starts_with nat_eq o t)
-        (list_any (λ x. starts_with nat_eq x t) os) (begins_of t u os h))
+    (list_any (λ x. starts_with nat_eq x t) os) (begins_of t u os h))
     (or_parts (bytes_eq (t ++ u) o) (list_any (bytes_eq (t ++ u)) os) e)
   where
     right : (x y : Bool) → y ≡ true → (x || y) ≡ true
@@ -174,7 +174,7 @@ operator_front [] r x g e f n = let g = no_operator_none in cc
 operator_front (c ∷ t) r x g e f n =
     let s = operator_head c t e in
     let l : longest is_operator (c ∷ t ++ r) ≡ length (c ∷ t) = longest_is is_operator (c ∷ t ++ r) (length (c ∷ t))
-        (operator_best (c ∷ t) r e f) in
+    (operator_best (c ∷ t) r e f) in
     let o : BeginsOther (c ∷ t ++ r) = record {
       string = opens_off c (t ++ r) s.letter s.quote;
       number = rw s.digit (no_number_begins c t r e n);

@@ -198,12 +198,12 @@ blank_off c e =
     (λ (g : (eqb c 32 || eqb c 9) ≡ true).
     ⊎_elim
     (λ (h : eqb c 32 ≡ true). let f : c ≡ 32 = eqb-true c 32 h in
-        rw f (record { name = rw (is_xid_start-ascii 32 (omega arith)) refl; quote = refl; letter = refl }, refl, refl))
+    rw f (record { name = rw (is_xid_start-ascii 32 (omega arith)) refl; quote = refl; letter = refl }, refl, refl))
     (λ (h : eqb c 9 ≡ true). let f : c ≡ 9 = eqb-true c 9 h in
-        rw f (record { name = rw (is_xid_start-ascii 9 (omega arith)) refl; quote = refl; letter = refl }, refl, refl))
+    rw f (record { name = rw (is_xid_start-ascii 9 (omega arith)) refl; quote = refl; letter = refl }, refl, refl))
     (or_parts (eqb c 32) (eqb c 9) g))
     (λ (h : eqb c 12 ≡ true). let f : c ≡ 12 = eqb-true c 12 h in
-        rw f (record { name = rw (is_xid_start-ascii 12 (omega arith)) refl; quote = refl; letter = refl }, refl, refl))
+    rw f (record { name = rw (is_xid_start-ascii 12 (omega arith)) refl; quote = refl; letter = refl }, refl, refl))
     (or_parts (eqb c 32 || eqb c 9) (eqb c 12) e)
 
 -- a token begins with no blank
@@ -250,7 +250,7 @@ no_number_behind : (t r : List ℕ) (l : Kind) (c : ℕ) (u : List ℕ) → is_t
 no_number_behind t r l c u e n =
     ⊎_elim
     (λ (h : is_number_kind l ≡ true). let f : (bytes_eq t (46 ∷ []) && true) ≡ false =
-        subst (λ (b : Bool). (bytes_eq t (46 ∷ []) && b) ≡ false) h n in first (bytes_eq t (46 ∷ [])) (is_decimal_digit c) f)
+    subst (λ (b : Bool). (bytes_eq t (46 ∷ []) && b) ≡ false) h n in first (bytes_eq t (46 ∷ [])) (is_decimal_digit c) f)
     (λ (h : is_number_kind l ≡ false). no_number t r c (token_no_digit l c u e h))
     (bool_cases (is_number_kind l))
   where
@@ -273,9 +273,10 @@ clear_close kinds.String l t (c ∷ u) r p =
     let s = sign_head l c u p.right q.0 in
     s.quote
 clear_close kinds.Op l t (c ∷ u) r p =
-    let q = and_parts (not (begins_operator (t ++ c ∷ []))) (not (bytes_eq t (46 ∷ []) && is_number_kind l)) p.apart in
-    (none_longer t (u ++ r) c (off (begins_operator (t ++ c ∷ [])) q.0),
-        no_number_behind t (u ++ r) l c u p.right (off (bytes_eq t (46 ∷ []) && is_number_kind l) q.1))
+    let q = and_parts (not (begins_operator (t ++ c ∷ []))) (not (bytes_eq t (46 ∷ []) && is_number_kind l)) p.apart in (
+      none_longer t (u ++ r) c (off (begins_operator (t ++ c ∷ [])) q.0),
+      no_number_behind t (u ++ r) l c u p.right (off (bytes_eq t (46 ∷ []) && is_number_kind l) q.1),
+    )
 clear_close kinds.Encoding l t (c ∷ u) r p = tt
 clear_close kinds.Comment l t (c ∷ u) r p = tt
 clear_close kinds.Nl l t (c ∷ u) r p = tt
@@ -323,7 +324,7 @@ points_of p q [] h =
     record { first = (bytes_eq-Decides p.text (46 ∷ [])).0 b.0; second = (bytes_eq-Decides q.text (46 ∷ [])).0 b.1; third = λ r rs e. cc }
 points_of p q (s ∷ ss) h =
     let a = and_parts (bytes_eq p.text (46 ∷ []) && bytes_eq q.text (46 ∷ []))
-        (not (touches q s && bytes_eq (take 1 s.text) (46 ∷ []))) h in
+    (not (touches q s && bytes_eq (take 1 s.text) (46 ∷ []))) h in
     let b = and_parts (bytes_eq p.text (46 ∷ [])) (bytes_eq q.text (46 ∷ [])) a.0 in
     record {
       first = (bytes_eq-Decides p.text (46 ∷ [])).0 b.0;
@@ -383,9 +384,9 @@ clear_behind p (q ∷ qs) more e a h =
     rw t (subst (λ (u : List ℕ). Clear p.kind p.text u) (sym (append_assoc q.text (text_behind q qs) (10 ∷ more)))
     (⊎_elim
     (λ (c : stay_apart p q ≡ true). clear_close p.kind q.kind p.text q.text (text_behind q qs ++ 10 ∷ more)
-        (record { left = e; right = i.0; apart = c }))
+    (record { left = e; right = i.0; apart = c }))
     (λ (c : are_two_points p q qs ≡ true). let x = points_of p q qs c in clear_third p q (text_behind q qs ++ 10 ∷ more) e x.first x.second
-        (third_off p q qs more i.1 x))
+    (third_off p q qs more i.1 x))
     (or_parts (stay_apart p q) (are_two_points p q qs) s))))
     (λ (t : touches p q ≡ false). rw t (clear_gap p.kind p.text ((q.text ++ text_behind q qs) ++ 10 ∷ more) 32 e blank_gap))
     (bool_cases (touches p q))

@@ -34,15 +34,26 @@ pub record Split (p q : List ℕ → Bool) (t : List ℕ) : Type 0 where
   pub rest_passes : q rest ≡ true
 
 pub split_of : (p q : List ℕ → Bool) (t : List ℕ) → split_any p q t ≡ true → Split p q t
-split_of p q [] e = let h = and_parts (p []) (q []) e in record { front = []; rest = []; whole = refl; front_passes =
-    h.0; rest_passes = h.1 }
+split_of p q [] e = let h = and_parts (p []) (q []) e in record {
+  front = [];
+  rest = [];
+  whole = refl;
+  front_passes =
+      h.0;
+  rest_passes = h.1;
+}
 split_of p q (c ∷ t) e =
     ⊎_elim
     (λ (h : (p [] && q (c ∷ t)) ≡ true). let i = and_parts (p []) (q (c ∷ t)) h in
-        record { front = []; rest = c ∷ t; whole = refl; front_passes = i.0; rest_passes = i.1 })
+    record { front = []; rest = c ∷ t; whole = refl; front_passes = i.0; rest_passes = i.1 })
     (λ (h : split_any (λ u. p (c ∷ u)) q t ≡ true). let s = split_of (λ u. p (c ∷ u)) q t h in
-        record { front = c ∷ s.front; rest = s.rest; whole = ap (λ u. c ∷ u) s.whole; front_passes = s.front_passes;
-        rest_passes = s.rest_passes })
+    record {
+      front = c ∷ s.front;
+      rest = s.rest;
+      whole = ap (λ u. c ∷ u) s.whole;
+      front_passes = s.front_passes;
+      rest_passes = s.rest_passes;
+    })
     (or_parts (p [] && q (c ∷ t)) (split_any (λ u. p (c ∷ u)) q t) e)
 
 -- A prefix has at most two letters.
@@ -53,7 +64,7 @@ among_short n t (o ∷ os) a e =
     let q = and_parts (leb (length o) n) (list_all (λ o. leb (length o) n) os) a in
     ⊎_elim
     (λ (h : bytes_eq t o ≡ true). let f : length t ≡ length o = ap length ((bytes_eq-Decides t o).0 h) in let g =
-        leb-true (length o) n q.0 in omega arith)
+    leb-true (length o) n q.0 in omega arith)
     (λ (h : list_any (bytes_eq t) os ≡ true). among_short n t os q.1 h)
     (or_parts (bytes_eq t o) (list_any (bytes_eq t) os) e)
 
@@ -122,7 +133,7 @@ single_behind q k (c ∷ []) r =
 single_behind q k (c ∷ b ∷ t) r =
     ⊎_elim
     (λ (h : (c == 92) ≡ true). subst (λ (x : ℕ). Behind q r (x ∷ b ∷ t)) (sym (eqb-true c 92 h))
-        (behind_slash q b t r k (single_behind q k t r)))
+    (behind_slash q b t r k (single_behind q k t r)))
     (λ (h : (c == 92) ≡ false). behind_plain q c (b ∷ t) r h (single_behind q k (b ∷ t) r))
     (bool_cases (c == 92))
 
@@ -192,10 +203,10 @@ literal_front q a t r w p c e b =
     let o : Opens (length a) cs =
     record { small = prefix_short a p; «prefix» = ap is_prefix f ∙ p; quote = ap begins_quote d ∙ begins_which q (t ++ r) w } in
     let l : quoted_len q (drop (length a) cs) ≡ suc (length t) = ap (quoted_len q) d
-        ∙ quoted_behind q (quote_of q w) t r c e (no_quote_of q r w b) in
+    ∙ quoted_behind q (quote_of q w) t r c e (no_quote_of q r w b) in
     let m : longest (counts_as_string cs) cs ≡ length a + suc (length t) =
     longest_reads (counts_as_string cs) cs (shift (length a) (quoted_len q (drop (length a) cs)))
-        (string_reads q (length a) cs (t ++ r) w o d)
+    (string_reads q (length a) cs (t ++ r) w o d)
     ∙ ap (shift (length a)) l in
     let k = string_takes cs (drop (longest (counts_as_string cs) cs) cs) (string_opens (length a) cs o) (omega arith) refl in
     let n : longest (counts_as_string cs) cs ≡ length (a ++ q ∷ t) = m ∙ sym (length-append a (q ∷ t)) in

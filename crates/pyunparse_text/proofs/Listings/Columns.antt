@@ -66,7 +66,7 @@ is_column (suc m) n h =
     ⊎_elim
     (λ (i : n < suc m). rw (is_column m n (omega arith)) refl)
     (λ (i : suc m ≤ n). let e : eqb (4 * suc m) (4 * n) ≡ true = grind (arith, nat_tests) in
-        rw e (last (list_any (λ v. eqb v (4 * n)) (columns m))))
+    rw e (last (list_any (λ v. eqb v (4 * n)) (columns m))))
     (cases_lt n (suc m))
   where
     last : (b : Bool) → (b || true) ≡ true
@@ -82,9 +82,9 @@ columns_above (suc m) n =
     count_last (ltb (4 * n)) (columns m) (4 * suc m) ∙
     ⊎_elim
     (λ (i : n < suc m). let e : ltb (4 * n) (4 * suc m) ≡ true = grind (arith, nat_tests) in let c =
-        columns_above m n in rw e (omega arith))
+    columns_above m n in rw e (omega arith))
     (λ (i : suc m ≤ n). let e : ltb (4 * n) (4 * suc m) ≡ false = grind (arith, nat_tests) in let c =
-        columns_above m n in rw e (omega arith))
+    columns_above m n in rw e (omega arith))
     (cases_lt n (suc m))
 
 filter_last : (p : ℕ → Bool) (xs : List ℕ) (x : ℕ) → filter p (xs ++ x ∷ []) ≡ filter p xs ++ cond (p x) (x ∷ []) []
@@ -102,7 +102,7 @@ below_column (suc m) n h =
     filter_last (λ v. ltb v (4 * suc n)) (columns m) (4 * suc m) ∙
     ⊎_elim
     (λ (i : n < suc m). let e : ltb (4 * suc m) (4 * suc n) ≡ false = grind (arith, nat_tests) in
-        rw e (append-nil (filter (λ v. ltb v (4 * suc n)) (columns m)) ∙ below_column m n (omega arith)))
+    rw e (append-nil (filter (λ v. ltb v (4 * suc n)) (columns m)) ∙ below_column m n (omega arith)))
     (λ (i : suc m ≤ n).
     let s : n ≡ suc m = omega arith in
     let e : ltb (4 * suc m) (4 * suc n) ≡ true = grind (arith, nat_tests) in
@@ -123,5 +123,5 @@ columns_pushed m zero h = ap (λ l. l ++ 0 ∷ []) (none m)
     none zero = refl
     none (suc m) =
         filter_last (λ v. ltb v 0) (columns m) (4 * suc m)
-            ∙ (let e : ltb (4 * suc m) 0 ≡ false = grind (arith, nat_tests) in rw (e, none m) refl)
+        ∙ (let e : ltb (4 * suc m) 0 ≡ false = grind (arith, nat_tests) in rw (e, none m) refl)
 columns_pushed m (suc n) h = ap (λ l. l ++ (4 * suc n) ∷ []) (below_column m n (omega arith))

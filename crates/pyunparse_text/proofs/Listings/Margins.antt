@@ -95,8 +95,11 @@ margin_even text a rest o w e v =
     let b : behind_offset text o ≡ rest = behind_is text a rest o w e v.scalars in
     let f : (width_from 0 (blanks_of (behind_offset text o)) == width_by_one 0 (blanks_of (behind_offset text o))) ≡ true = rw b v.widths in
     by (begins_significant (drop (length (blanks_of (behind_offset text o))) (behind_offset text o)))
-    (record { widths = widths_of (behind_offset text o); start =
-        place_at (encode_utf8_all text) (o + length (blanks_of (behind_offset text o))) }) f
+    (record {
+      widths = widths_of (behind_offset text o);
+      start =
+          place_at (encode_utf8_all text) (o + length (blanks_of (behind_offset text o)));
+    }) f
   where
     by : (b : Bool) (m : Margin) → is_even m ≡ true → list_all is_even (cond b (m ∷ []) []) ≡ true
     by true m e = rw e refl
@@ -126,7 +129,7 @@ margins_even text before [] h = refl
 margins_even text before (e ∷ es) h =
     let a = and_parts (ends_evenly text e.kind e.to) (list_all (λ e. ends_evenly text e.kind e.to) es) h in
     both_even (cond (ends_line before e) (margin_at text e.to) []) (margins_from text (e ∷ before) es)
-        (given_even text before e e.kind refl a.0)
+    (given_even text before e e.kind refl a.0)
     (margins_even text (e ∷ before) es a.1)
 
 -- no token but NEWLINE ends a line

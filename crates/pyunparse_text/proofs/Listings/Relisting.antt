@@ -33,7 +33,7 @@ use Rattle.pyunparse_text.proofs.Listings.Runs.{AtLine, steps_on, after_all, run
 -- the end
 tail_at : (text : List ℕ) (s : State) (m : ℕ) → AtLine text s m []
     → tail_of s ≡ (replicate m (mark_at kinds.Dedent s.now.offset (last_place s) (last_place s)) ++ mark_at kinds.EndMarker s.now.offset
-        (last_place s) (last_place s) ∷ []) ++ steps.End ∷ []
+    (last_place s) (last_place s) ∷ []) ++ steps.End ∷ []
 unfolding tail_of last_line_end
 tail_at text s m i =
     let p = last_place s in
@@ -54,8 +54,18 @@ up_to_all (e ∷ es) = ap (λ x. steps.Entry e ∷ x) (up_to_all es)
 
 first_at : (text : List ℕ) → AtLine text first_state 0 text
 first_at text =
-    record { before = []; whole = refl; offset = refl; line = refl; depth = refl; levels = refl; margin = refl; width = refl;
-        logical = refl; joined = refl }
+    record {
+      before = [];
+      whole = refl;
+      offset = refl;
+      line = refl;
+      depth = refl;
+      levels = refl;
+      margin = refl;
+      width = refl;
+      logical = refl;
+      joined = refl;
+    }
 
 readable : (ls : List Line) → list_all is_written ls ≡ true → list_all (λ l. are_readable l.pieces) ls ≡ true
 readable [] w = refl
@@ -74,13 +84,13 @@ encoding_entry = record { kind = kinds.Encoding; exact = None; start = origin; �
 
 stops : (text : List ℕ) (s : State) (m : ℕ) → AtLine text s m []
     → stop_of None s [] ≡ (replicate m (mark_at kinds.Dedent s.now.offset (last_place s) (last_place s)) ++ mark_at kinds.EndMarker
-        s.now.offset (last_place s) (last_place s) ∷ []) ++ steps.End ∷ []
+    s.now.offset (last_place s) (last_place s) ∷ []) ++ steps.End ∷ []
 unfolding stop_of
 stops text s m i = tail_at text s m i
 
 end_told : (text : List ℕ) (s : State) (m : ℕ)
     → Tells text (replicate m (mark_at kinds.Dedent s.now.offset (last_place s) (last_place s)) ++ mark_at kinds.EndMarker s.now.offset
-        (last_place s) (last_place s) ∷ []) (replicate m dedent ++ end_marker ∷ [])
+    (last_place s) (last_place s) ∷ []) (replicate m dedent ++ end_marker ∷ [])
 end_told text s m =
     tells_both text (replicate m (mark_at kinds.Dedent s.now.offset (last_place s) (last_place s)))
     (mark_at kinds.EndMarker s.now.offset (last_place s) (last_place s) ∷ []) (replicate m dedent) (end_marker ∷ [])
@@ -103,7 +113,7 @@ lines_listed s ls e f w =
     let z : State = after_all first_state (lines_lexemes ls) in
     let ends : List Step =
     replicate d.level (mark_at kinds.Dedent z.now.offset (last_place z) (last_place z)) ++ mark_at kinds.EndMarker
-        z.now.offset (last_place z)
+    z.now.offset (last_place z)
     (last_place z) ∷ [] in
     let g : run None [] first_state (lines_lexemes ls) ≡ (steps_on first_state (lines_lexemes ls) ++ ends) ++ steps.End ∷ [] =
     run_is None [] first_state (lines_lexemes ls) ∙ ap (λ x. steps_on first_state (lines_lexemes ls) ++ x)
@@ -114,9 +124,9 @@ lines_listed s ls e f w =
     let c : cut s.text ≡ lines_lexemes ls = ap cut e ∙ lines_cut ls r in
     let l : left_by_cut s.text ≡ [] = ap left_by_cut e ∙ lines_end ls r in
     let u : listing s ≡ mark kinds.Encoding [] origin origin ∷ (map steps.Entry t.entries ++ steps.End ∷ []) = listing_is s
-        ∙ ap (λ x. mark kinds.Encoding [] origin origin ∷ x)
+    ∙ ap (λ x. mark kinds.Encoding [] origin origin ∷ x)
     (ap (λ x. remaining x first_state s.text) f ∙ remaining_is s.text (lines_lexemes ls) c l
-        ∙ ap up_to_end (g ∙ ap (λ x. x ++ steps.End ∷ []) t.are) ∙ up_to_all t.entries) in
+    ∙ ap up_to_end (g ∙ ap (λ x. x ++ steps.End ∷ []) t.are) ∙ up_to_all t.entries) in
     let v : entries_of (listing s) ≡ encoding_entry ∷ t.entries = ap entries_of u ∙ ap (λ x. encoding_entry ∷ x) (entries_all t.entries) in
     let m : list_all is_even (margin_at s.text 0) ≡ true =
     margin_even s.text [] (lines_text ls) 0 e refl (lines_even ls a.0 (lines_scalars ls a.0)) in

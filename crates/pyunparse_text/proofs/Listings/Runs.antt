@@ -124,7 +124,7 @@ piece_gives s kinds.Op t e c = by (exact_of t) refl
     by (Some x) f =
         let d : (is_closer x && (s.depth == 0)) ≡ false = subst (λ (b : Bool). (b && (s.depth == 0)) ≡ false) (closing_is t x f) c in
         let i : gives s (record { «class» = Operator x; text = t }) ≡ layout_of s ++ step_of kinds.Op (Some x) s.now (past s.now t) ∷ [] =
-            rw d refl in
+        rw d refl in
         record { exact = Some x; is = ap (λ k. gives s (record { «class» = k; text = t })) (class_is t x f) ∙ i; same = f }
     by None f = let g : false ≡ true = rw f at e in cc
 piece_gives s kinds.Encoding t e c = cc
@@ -283,7 +283,7 @@ feed_after : (text : List ℕ) (s : State) (n : ℕ) (rest : List ℕ) → InLin
 unfolding after
 feed_after text s n rest i =
     let o : (past s.now (10 ∷ [])).offset ≡ bytes_in (i.before ++ 10 ∷ []) = ap (λ o. o + bytes_in (10 ∷ [])) i.offset
-        ∙ sym (bytes_both i.before (10 ∷ [])) in
+    ∙ sym (bytes_both i.before (10 ∷ [])) in
     record {
       before = i.before ++ 10 ∷ [];
       whole = i.whole ∙ sym (append_assoc i.before (10 ∷ []) rest);
@@ -303,7 +303,7 @@ feed_runs text s n rest v i = record {
   tells = subst (λ (ss : List Step). Tells text ss (newline ∷ [])) (sym (append-nil (gives s feed) ∙ feed_gives s i.logical i.depth))
       (piece_told text i.before (10 ∷ []) rest kinds.Newline None s.now (behind s.now (10 ∷ [])) i.whole refl i.offset refl refl
       (margin_even text (i.before ++ 10 ∷ []) rest (behind s.now (10 ∷ [])).offset (i.whole ∙ sym (append_assoc i.before (10 ∷ []) rest))
-          (ap (λ o. o + bytes_in (10 ∷ [])) i.offset ∙ sym (bytes_both i.before (10 ∷ []))) v));
+      (ap (λ o. o + bytes_in (10 ∷ [])) i.offset ∙ sym (bytes_both i.before (10 ∷ []))) v));
   at = feed_after text s n rest i;
 }
 
@@ -333,17 +333,20 @@ behind_runs text s d n p (q ∷ qs) more f i a u c =
     let j : InLine text s d n ((q.text ++ text_behind q qs) ++ 10 ∷ more) = rw t at i in
     let w = goes text s d n q qs (text_behind q qs ++ 10 ∷ more) (again text s d n q qs more j) e.0 v.0 c in
     rw t (then_runs text s q n qs (text_behind q qs ++ 10 ∷ more) more (lexemes_behind q qs ++ feed ∷ []) (map token_of qs ++ newline ∷ [])
-        w (behind_runs text (after s (lexeme_of q)) w.next n q qs more f w.at e.1 v.1 w.rest_closes)))
+    w (behind_runs text (after s (lexeme_of q)) w.next n q qs more f w.at e.1 v.1 w.rest_closes)))
     (λ (t : touches p q ≡ false).
     let j : InLine text s d n (32 ∷ ((q.text ++ text_behind q qs) ++ 10 ∷ more)) = rw t at i in
     let b = blank_goes text s d n ((q.text ++ text_behind q qs) ++ 10 ∷ more) j in
     let r = after s (blanks (32 ∷ [])) in
     let w = goes text r d n q qs (text_behind q qs ++ 10 ∷ more) (again text r d n q qs more b) e.0 v.0 c in
     let g = then_runs text r q n qs (text_behind q qs ++ 10 ∷ more) more (lexemes_behind q qs ++ feed ∷ [])
-        (map token_of qs ++ newline ∷ []) w (behind_runs text (after r (lexeme_of q)) w.next n q qs more f w.at e.1 v.1 w.rest_closes) in
-    rw t (record { tells = tells_both text (gives s (blanks (32 ∷ []))) (steps_on r (lexeme_of q ∷ (lexemes_behind q qs ++ feed ∷ []))) []
-        (token_of q ∷ (map token_of qs ++ newline ∷ [])) (subst (λ (ss : List Step). Tells text ss []) (sym (blank_gives s (32 ∷ [])))
-        (nothing_told text)) g.tells; at = g.at }))
+    (map token_of qs ++ newline ∷ []) w (behind_runs text (after r (lexeme_of q)) w.next n q qs more f w.at e.1 v.1 w.rest_closes) in
+    rw t (record {
+      tells = tells_both text (gives s (blanks (32 ∷ []))) (steps_on r (lexeme_of q ∷ (lexemes_behind q qs ++ feed ∷ []))) []
+          (token_of q ∷ (map token_of qs ++ newline ∷ [])) (subst (λ (ss : List Step). Tells text ss []) (sym (blank_gives s (32 ∷ [])))
+          (nothing_told text)) g.tells;
+      at = g.at;
+    }))
     (bool_cases (touches p q))
   where
     again : (text : List ℕ) (s : State) (d n : ℕ) (q : Piece) (qs : List Piece) (more : List ℕ)
@@ -369,7 +372,7 @@ blanks_margin : (text : List ℕ) (s : State) (m n : ℕ) (rest : List ℕ) → 
 unfolding after
 blanks_margin text s m n rest i =
     let w : width_from s.width (replicate (4 * n) 32) ≡ 4 * n = ap (λ v. width_from v (replicate (4 * n) 32)) i.width
-        ∙ width_blanks 0 (4 * n) ∙ omega arith in
+    ∙ width_blanks 0 (4 * n) ∙ omega arith in
     record {
       before = i.before;
       whole = i.whole;
@@ -411,7 +414,7 @@ layout_told text s m n rest i =
     let e : ltb m n ≡ true = grind (arith, nat_tests) in
     let d = deeper m n h in
     rw (i.margin, i.width, i.levels, d, e) (piece_told text i.before (replicate (4 * n) 32) rest kinds.Indent None s.line s.now i.whole
-        (blanks_scalar (4 * n)) i.line i.offset refl refl))
+    (blanks_scalar (4 * n)) i.line i.offset refl refl))
     (λ (h : n ≤ m).
     let e : ltb m n ≡ false = grind (arith, nat_tests) in
     let d = not_deeper m n h in
@@ -436,9 +439,9 @@ first_goes text s m n p ps rest i l e u c =
     let b : List ℕ = i.before ++ replicate (4 * n) 32 in
     let w : text ≡ b ++ (p.text ++ rest) = i.whole ∙ sym (append_assoc i.before (replicate (4 * n) 32) (p.text ++ rest)) in
     let o : s.now.offset ≡ bytes_in b = i.offset ∙ ap (λ x. x + bytes_in (replicate (4 * n) 32)) i.line
-        ∙ sym (bytes_both i.before (replicate (4 * n) 32)) in
+    ∙ sym (bytes_both i.before (replicate (4 * n) 32)) in
     let t = piece_told text b p.text rest p.kind g.exact s.now (past s.now p.text) w u o refl g.same
-        (token_even text (past s.now p.text).offset p.kind p.text e) in
+    (token_even text (past s.now p.text).offset p.kind p.text e) in
     record {
       next = h.next;
       tells = subst (λ (ss : List Step). Tells text ss (level_tokens m n ++ token_of p ∷ [])) (sym g.is)
@@ -466,14 +469,14 @@ pieces_run text s m n (p ∷ ps) more even i l r u c =
     let e = and_parts (is_token p.kind p.text) (list_all (λ q. is_token q.kind q.text) ps) a.0 in
     let v = and_parts (all_scalars p.text) (list_all (λ q. all_scalars q.text) ps) u in
     let j : AtMargin text s m n (p.text ++ (text_behind p ps ++ 10 ∷ more)) =
-        subst (AtMargin text s m n) (append_assoc p.text (text_behind p ps) (10 ∷ more)) i in
+    subst (AtMargin text s m n) (append_assoc p.text (text_behind p ps) (10 ∷ more)) i in
     let f = first_goes text s m n p ps (text_behind p ps ++ 10 ∷ more) j l e.0 v.0 c in
     let b = behind_runs text (after s (lexeme_of p)) f.next n p ps more even f.at e.1 v.1 f.rest_closes in
     record {
       tells = subst (λ (ts : List PlainToken). Tells text (steps_on s (lexeme_of p ∷ (lexemes_behind p ps ++ feed ∷ []))) ts)
           (append_assoc (level_tokens m n) (token_of p ∷ []) (map token_of ps ++ newline ∷ []))
           (tells_both text (gives s (lexeme_of p)) (steps_on (after s (lexeme_of p)) (lexemes_behind p ps ++ feed ∷ []))
-              (level_tokens m n ++ token_of p ∷ []) (map token_of ps ++ newline ∷ []) f.tells b.tells);
+          (level_tokens m n ++ token_of p ∷ []) (map token_of ps ++ newline ∷ []) f.tells b.tells);
       at = b.at;
     }
 
@@ -483,8 +486,8 @@ line_runs text s m l more even i w h =
     let a = and_parts (are_readable l.pieces) (closes_all 0 l.pieces && list_all (λ p. all_scalars p.text) l.pieces) w in
     let b = and_parts (closes_all 0 l.pieces) (list_all (λ p. all_scalars p.text) l.pieces) a.1 in
     let t : line_text l ++ more ≡ replicate (4 * l.level) 32 ++ (spaced l.pieces ++ 10 ∷ more) =
-        append_assoc (replicate (4 * l.level) 32) (spaced l.pieces ++ 10 ∷ []) more
-        ∙ ap (λ u. replicate (4 * l.level) 32 ++ u) (append_assoc (spaced l.pieces) (10 ∷ []) more) in
+    append_assoc (replicate (4 * l.level) 32) (spaced l.pieces ++ 10 ∷ []) more
+    ∙ ap (λ u. replicate (4 * l.level) 32 ++ u) (append_assoc (spaced l.pieces) (10 ∷ []) more) in
     let j : AtLine text s m (replicate (4 * l.level) 32 ++ (spaced l.pieces ++ 10 ∷ more)) = subst (AtLine text s m) t i in
     let g = margin_runs text s m l.level (spaced l.pieces ++ 10 ∷ more) j in
     let p = pieces_run text (after_all s (indent_lexemes l.level)) m l.level l.pieces more even g.at h a.0 b.1 b.0 in

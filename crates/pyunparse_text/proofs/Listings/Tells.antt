@@ -68,7 +68,7 @@ sliced text a t b lo hi w u e f =
 pub piece_told : (text a t b : List ℕ) (k : Kind) (e : Option Exact) (p q : Point) → text ≡ a ++ (t ++ b) → all_scalars t ≡ true
     → p.offset ≡ bytes_in a → q.offset ≡ p.offset + bytes_in t
     → exact_in (record { kind = k; text = t }) ≡ e → ends_evenly text k q.offset ≡ true
-        → Tells text (step_of k e p q ∷ []) (record { kind = k; text = t } ∷ [])
+    → Tells text (step_of k e p q ∷ []) (record { kind = k; text = t } ∷ [])
 piece_told text a t b k e p q w u f g x v = record {
   entries = record { kind = k; exact = e; start = p.place; «end» = q.place; «from» = p.offset; to = q.offset } ∷ [];
   are = refl;
@@ -93,27 +93,27 @@ marks_told text n k o p q x v = record {
   where
     none : (n : ℕ)
         → map (λ (e : Entry). e.exact) (replicate n (record { kind = k; exact = None; start = p; «end» = q; «from» = o; to = o })) ≡ map
-            exact_in (replicate n (record { kind = k; text = [] }))
+        exact_in (replicate n (record { kind = k; text = [] }))
     none zero = refl
     none (suc n) = rw (x, none n) refl
 
     all : (n : ℕ)
         → list_all (λ (e : Entry). ends_evenly text e.kind e.to)
-            (replicate n (record { kind = k; exact = None; start = p; «end» = q; «from» = o; to = o })) ≡ true
+        (replicate n (record { kind = k; exact = None; start = p; «end» = q; «from» = o; to = o })) ≡ true
     all zero = refl
     all (suc n) = rw v (all n)
 
     spread : (n : ℕ)
         → replicate n (mark_at k o p q) ≡ map steps.Entry
-            (replicate n (record { kind = k; exact = None; start = p; «end» = q; «from» = o; to = o }))
+        (replicate n (record { kind = k; exact = None; start = p; «end» = q; «from» = o; to = o }))
     spread zero = refl
     spread (suc n) = ap (λ x. mark_at k o p q ∷ x) (spread n)
 
     told : (n : ℕ)
         → map (token_at text) (replicate n (record { kind = k; exact = None; start = p; «end» = q; «from» = o; to = o })) ≡ replicate n
-            (record { kind = k; text = [] })
+        (record { kind = k; text = [] })
     told zero = refl
     told (suc n) =
         ap (λ v. record { kind = k; text = v } ∷ map (token_at text)
-            (replicate n (record { kind = k; exact = None; start = p; «end» = q; «from» = o; to = o }))) (empty_slice text o)
+        (replicate n (record { kind = k; exact = None; start = p; «end» = q; «from» = o; to = o }))) (empty_slice text o)
         ∙ ap (λ x. record { kind = k; text = [] } ∷ x) (told n)

@@ -67,7 +67,7 @@ lines_may_be : {extent : Extent} (ws : List (WrittenLine Terminal)) → All (IsO
 lines_may_be [] h = All-nil MayBeTokens
 lines_may_be {extent} (w ∷ ws) h =
     All-cons MayBeTokens w ws (of_tokens_may_be (All-head (IsOfTokens extent) w ws h))
-        (lines_may_be ws (All-tail (IsOfTokens extent) w ws h))
+    (lines_may_be ws (All-tail (IsOfTokens extent) w ws h))
 
 source_lines_may_be : (xs : List Tokens.Line) → All MayBeTokens (source_lines xs)
 source_lines_may_be [] = All-nil MayBeTokens
@@ -109,7 +109,7 @@ one_more : (most d : ℕ) (ts : List Terminal) (ps : List Piece) → ((n : ℕ) 
     → (o s : Bool)
     → most_open (by_text d o s) ts ≤ most
     → (if o then nat_lt d most && opens_within most (d + 1) ps else (if s then opens_within most (d - 1) ps else opens_within most d ps)) ≡
-        true
+    true
 one_more most d ts ps more true s k =
     let e : suc d ≤ most_open (suc d) ts = start_open (suc d) ts in
     let b : nat_lt d most ≡ true = grind (arith, nat_tests) in
@@ -164,10 +164,10 @@ all_clear : {extent : Extent} {rs : List (WrittenLine Sited)} {qs : List (Writte
 all_clear {extent} no_line s h = All-nil (IsClear extent)
 all_clear {extent} (a_line {l = l} {ps = ps} {ts = ts} {rs = rs} {qs = qs} g c) s h =
     let b : brackets ts ≤ most_brackets = All-head (λ (w : WrittenLine Terminal). brackets w.tokens ≤ most_brackets)
-        (written_line l ts) qs h in
+    (written_line l ts) qs h in
     let w = and_parts (is_written (line_of (written_line l ps))) (list_all is_written (map line_of rs)) s in
     let r = and_parts (are_readable (outside ps)) (closes_all 0 (outside ps) && list_all (λ (p : Piece). all_scalars p.text) (outside ps))
-        w.0 in
+    w.0 in
     let k = and_parts (closes_all 0 (outside ps)) (list_all (λ (p : Piece). all_scalars p.text) (outside ps)) r.1 in
     All-cons (IsClear extent) (line_of (written_line l ps)) (map line_of rs)
     (record { faultless = faultless g; shallow = shallow most_brackets 0 g k.1 b })
@@ -197,7 +197,7 @@ same_terminals (u ∷ us) e (give {p = p} {ps = ps} {ts = ts} g c) =
 formed_by : {extent : Extent} (profile : Profile) {earlier : List Line} (xs : List Tokens.Line) {rs : List (WrittenLine Sited)}
     {qs : List (WrittenLine Terminal)} {fs : List Line}
     → map unplaced_line xs ≡ map token_line (map line_of rs) → GiveLines extent rs qs → HaveForms profile earlier qs fs → AreWithin 500 fs
-        → Formed profile earlier xs fs
+    → Formed profile earlier xs fs
 formed_by profile [] e no_line no_form h = formed_end
 formed_by profile [] e (a_line g c) f h = absurd (cc)
 formed_by profile (x ∷ xs) e no_line no_form h = absurd (cc)
@@ -207,7 +207,7 @@ formed_by profile {earlier} (x ∷ xs) e (a_line {l = l} {ps = ps} {ts = ts} {rs
     let n : x.level ≡ l = ap (λ y. y.level) i in
     let s : terminals x ≡ ts = same_terminals x.tokens (ap (λ y. y.tokens) i) g in
     let a : FormAt profile (stands_in_match x.level earlier) ts f =
-        subst (λ z. FormAt profile (stands_in_match z earlier) ts f) (sym n) p in
+    subst (λ z. FormAt profile (stands_in_match z earlier) ts f) (sym n) p in
     let q : HasForm profile (stands_in_match x.level earlier) x f =
     record { is = subst (λ z. FormAt profile (stands_in_match x.level earlier) z f) (sym s) a; low = h.0 } in
     let b : HaveForms profile (line x.level f ∷ earlier) qs fs = subst (λ z. HaveForms profile (line z f ∷ earlier) qs fs) (sym n) d in

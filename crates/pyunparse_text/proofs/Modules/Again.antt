@@ -120,8 +120,12 @@ module _ (profile : Profile) where
       → Again (λ xs. B.Alternative l xs (s ∷ ss)) (alternative terminal l (stmts (s ∷ ss)))
   as_else l s ss h w =
       subst (Again (λ xs. B.Alternative l xs (s ∷ ss))) (sym (else_lines terminal l s (stmts ss) h))
-      (record { lines = line l (header_form else_header None) ∷ w.lines; formed = header_formed (other_head F.else_line) w.formed; is =
-          B.an_else (B.else_clause w.is) })
+      (record {
+        lines = line l (header_form else_header None) ∷ w.lines;
+        formed = header_formed (other_head F.else_line) w.formed;
+        is =
+            B.an_else (B.else_clause w.is);
+      })
 
   mutual
     unfolding lines_of statement_lines alternative clause case_lines handler_lines
@@ -140,22 +144,32 @@ module _ (profile : Profile) where
         → Again (λ xs. B.Otherwise l xs ss) (clause terminal l else_header (stmts ss))
     otherwise_again none l = record { lines = []; formed = no_own; is = B.no_else }
     otherwise_again (one p c) l = let w = joined (well_again p (suc l)) (wells_again c (suc l)) in
-        record { lines = line l (header_form else_header None) ∷ w.lines; formed = header_formed (other_head F.else_line) w.formed;
-        is = B.else_clause w.is }
+        record {
+          lines = line l (header_form else_header None) ∷ w.lines;
+          formed = header_formed (other_head F.else_line) w.formed;
+          is = B.else_clause w.is;
+        }
 
     ending_again : {ss : List Stmt} → Wells (Simple profile) (Head profile) Test ss → (l : ℕ)
         → Again (λ xs. B.Ending l xs ss) (clause terminal l finally_header (stmts ss))
     ending_again none l = record { lines = []; formed = no_own; is = B.no_finally }
     ending_again (one p c) l = let w = joined (well_again p (suc l)) (wells_again c (suc l)) in
-        record { lines = line l (header_form finally_header None) ∷ w.lines; formed = header_formed (other_head F.finally_line) w.formed;
-        is = B.finally_clause w.is }
+        record {
+          lines = line l (header_form finally_header None) ∷ w.lines;
+          formed = header_formed (other_head F.finally_line) w.formed;
+          is = B.finally_clause w.is;
+        }
 
     alternative_again : {ss : List Stmt} → Wells (Simple profile) (Head profile) Test ss → (l : ℕ)
         → Again (λ xs. B.Alternative l xs ss) (alternative terminal l (stmts ss))
     alternative_again none l = record { lines = []; formed = no_own; is = B.an_else B.no_else }
     alternative_again (one (well_if {test = test} p q b c) none) l = let u = full_again b l in let v = alternative_again c l in
-        record { lines = line l (header_form (elif_header test) None) ∷ (u.lines ++ v.lines); formed =
-        header_formed q (both u.formed v.formed); is = B.an_elif u.is v.is }
+        record {
+          lines = line l (header_form (elif_header test) None) ∷ (u.lines ++ v.lines);
+          formed =
+              header_formed q (both u.formed v.formed);
+          is = B.an_elif u.is v.is;
+        }
     alternative_again (one {s = s} {ss = ss} p c) l =
         as_else l s ss (not_lone p c tt) (joined (well_again p (suc l)) (wells_again c (suc l)))
 
@@ -163,37 +177,65 @@ module _ (profile : Profile) where
         → Again (λ xs. B.Statement l xs (s ∷ [])) (statement_lines terminal l s)
     well_again (well_simple {s = s} p q) l =
         subst (Again (λ xs. B.Statement l xs (s ∷ []))) (sym (simple_lines terminal l s p))
-        (record { lines = line l (simple_form (s ∷ [])) ∷ []; formed =
-            an_own (F.other_line (no_place (simple_tokens terminal s)) (F.simple_statements (F.last_simple q)))
-            no_own; is = B.simple_line })
+        (record {
+          lines = line l (simple_form (s ∷ [])) ∷ [];
+          formed =
+              an_own (F.other_line (no_place (simple_tokens terminal s)) (F.simple_statements (F.last_simple q)))
+              no_own;
+          is = B.simple_line;
+        })
     well_again (well_if {test = test} p q b c) l = let u = full_again b l in let v = alternative_again c l in
-        record { lines = line l (header_form (if_header test) None) ∷ (u.lines ++ v.lines); formed =
-        header_formed p (both u.formed v.formed); is = B.if_statement u.is v.is }
+        record {
+          lines = line l (header_form (if_header test) None) ∷ (u.lines ++ v.lines);
+          formed =
+              header_formed p (both u.formed v.formed);
+          is = B.if_statement u.is v.is;
+        }
     well_again (well_loop head {body = body} {orelse = orelse} p b c) l = let u = full_again b l in let v = otherwise_again c l in
         subst (Again (λ xs. B.Statement l xs (loop head body orelse ∷ []))) (sym (loop_lines terminal l head body orelse))
-        (record { lines = line l (header_form (loop_header head) None) ∷ (u.lines ++ v.lines); formed =
-        header_formed p (both u.formed v.formed); is = B.loop_statement u.is v.is })
+        (record {
+          lines = line l (header_form (loop_header head) None) ∷ (u.lines ++ v.lines);
+          formed =
+              header_formed p (both u.formed v.formed);
+          is = B.loop_statement u.is v.is;
+        })
     well_again (well_with b is {body = body} p c) l = let u = full_again c l in
         subst (Again (λ xs. B.Statement l xs (with_of b is body ∷ []))) (sym (with_lines terminal l b is body))
-        (record { lines = line l (header_form (with_header b is) None) ∷ u.lines; formed = header_formed p u.formed; is =
-        B.with_statement u.is })
+        (record {
+          lines = line l (header_form (with_header b is) None) ∷ u.lines;
+          formed = header_formed p u.formed;
+          is =
+              B.with_statement u.is;
+        })
     well_again (well_finally {body = body} {final = final} b (full p c)) l = let u = full_again b l in let v =
         joined (well_again p (suc l)) (wells_again c (suc l)) in subst (Again (λ xs. B.Statement l xs (try_of false body [] [] final ∷ [])))
         (sym (try_lines terminal l false body [] [] final))
-        (record { lines = line l (header_form try_header None) ∷ (u.lines ++ (line l (header_form finally_header None) ∷ v.lines)); formed =
-        header_formed (other_head F.try_line) (both u.formed (header_formed (other_head F.finally_line) v.formed)); is =
-        B.try_finally u.is v.is })
+        (record {
+          lines = line l (header_form try_header None) ∷ (u.lines ++ (line l (header_form finally_header None) ∷ v.lines));
+          formed =
+              header_formed (other_head F.try_line) (both u.formed (header_formed (other_head F.finally_line) v.formed));
+          is =
+              B.try_finally u.is v.is;
+        })
     well_again (well_except star {body = body} {orelse = orelse} {final = final} {h = h} {hs = hs} b c d e) l =
         let u = full_again b l in let v = handled_again c l in let w = otherwise_again d l in let x = ending_again e l in
         subst (Again (λ xs. B.Statement l xs (try_of star body (h ∷ hs) orelse final ∷ [])))
         (sym (try_lines terminal l star body (h ∷ hs) orelse final))
-        (record { lines = line l (header_form try_header None) ∷ (u.lines ++ (v.lines ++ (w.lines ++ x.lines))); formed =
-            header_formed (other_head F.try_line) (both u.formed (both v.formed (both w.formed x.formed))); is =
-            B.try_except u.is v.is w.is x.is })
+        (record {
+          lines = line l (header_form try_header None) ∷ (u.lines ++ (v.lines ++ (w.lines ++ x.lines)));
+          formed =
+              header_formed (other_head F.try_line) (both u.formed (both v.formed (both w.formed x.formed)));
+          is =
+              B.try_except u.is v.is w.is x.is;
+        })
     well_again (well_definition head {es = es} {body = body} d p b) l = let u = decorated_again d l in let v = full_again b l in
         subst (Again (λ xs. B.Statement l xs (definition es head body ∷ []))) (sym (definition_lines terminal l es head body))
-        (record { lines = u.lines ++ (line l (header_form (def_header head) None) ∷ v.lines); formed =
-        both u.formed (header_formed p v.formed); is = B.definition_of head u.is v.is })
+        (record {
+          lines = u.lines ++ (line l (header_form (def_header head) None) ∷ v.lines);
+          formed =
+              both u.formed (header_formed p v.formed);
+          is = B.definition_of head u.is v.is;
+        })
     well_again (well_match {subject = subject} p c) l = let u = cased_again c (suc l) in
         record { lines = line l (header_form (match_header subject) None) ∷ u.lines; formed = header_formed p u.formed; is = matched u.is }
 
@@ -201,18 +243,29 @@ module _ (profile : Profile) where
         → Again (λ xs. B.Cases l xs cs) (case_lines terminal l (cases cs))
     cased_again none_cased l = record { lines = []; formed = no_own; is = B.no_case }
     cased_again (one_cased {p = p} {g = g} h b c) l = let u = full_again b l in let v = cased_again c l in
-        record { lines = line l (header_form (case_header p g) None) ∷ (u.lines ++ v.lines); formed =
-        header_formed h (both u.formed v.formed); is = B.case_clause u.is v.is }
+        record {
+          lines = line l (header_form (case_header p g) None) ∷ (u.lines ++ v.lines);
+          formed =
+              header_formed h (both u.formed v.formed);
+          is = B.case_clause u.is v.is;
+        }
 
     handled_again : {star : Bool} {hs : List Handler} → Handled (Simple profile) (Head profile) Test star hs → (l : ℕ)
         → Again (λ xs. B.Excepts l star xs hs) (handler_lines terminal l star (handlers hs))
     handled_again none_handled l = record { lines = []; formed = no_own; is = B.no_except }
     handled_again (one_handled {star = star} {e = e} {x = x} p b c) l = let u = full_again b l in let v = handled_again c l in
-        record { lines = line l (header_form (except_header star e x) None) ∷ (u.lines ++ v.lines); formed =
-        header_formed p (both u.formed v.formed); is = B.except_clause u.is v.is }
+        record {
+          lines = line l (header_form (except_header star e x) None) ∷ (u.lines ++ v.lines);
+          formed =
+              header_formed p (both u.formed v.formed);
+          is = B.except_clause u.is v.is;
+        }
 
     decorated_again : {es : List Expr} → Decorated (Simple profile) (Head profile) Test es → (l : ℕ)
         → Again (λ xs. B.Decorators l xs es) (decorators terminal l es)
     decorated_again none_decorated l = record { lines = []; formed = no_own; is = B.no_decorator }
-    decorated_again (one_decorated {e = e} p c) l = let u = decorated_again c l in record { lines = line l (decorator_form e) ∷ u.lines;
-        formed = an_own (F.other_line (no_place (Op At ∷ written terminal Named e)) (F.decorator_line p)) u.formed; is = B.decorator u.is }
+    decorated_again (one_decorated {e = e} p c) l = let u = decorated_again c l in record {
+      lines = line l (decorator_form e) ∷ u.lines;
+      formed = an_own (F.other_line (no_place (Op At ∷ written terminal Named e)) (F.decorator_line p)) u.formed;
+      is = B.decorator u.is;
+    }

@@ -198,7 +198,7 @@ items_flat is = by (S.need_brackets is)
   where
     by : (b : Bool)
         → Flat (item_heights is + 1) (cond b (Op LPar ∷ (listed terminal (map (S.item terminal) is) ++ (Op RPar ∷ [])))
-            (listed terminal (map (S.item terminal) is)))
+        (listed terminal (map (S.item terminal) is)))
     by true = pair open_round close_round (listed_flat (items_each is))
     by false = up (listed_flat (items_each is)) (omega arith)
 
@@ -221,7 +221,7 @@ header_flat else_header = plain (λ d. refl) (flat_none (0 + 1))
 header_flat (loop_header (while_head e)) = plain (λ d. refl) (up (flat Named refl e) (omega arith))
 header_flat (loop_header (for_head b t e)) =
     async_flat b (plain (λ d. refl)
-        (both (up (flat Stars refl t) (omega arith)) (plain (λ d. refl) (up (flat Stars refl e) (omega arith)))))
+    (both (up (flat Stars refl t) (omega arith)) (plain (λ d. refl) (up (flat Stars refl e) (omega arith)))))
 header_flat (with_header b is) = async_flat b (plain (λ d. refl) (items_flat is))
 header_flat try_header = plain (λ d. refl) (flat_none (0 + 1))
 header_flat (except_header b e x) =
@@ -238,7 +238,7 @@ header_flat (match_header e) = plain (λ d. refl) (up (flat Subject refl e) (ome
 header_flat (case_header p g) =
     plain (λ d. refl)
     (both (up (flat_pattern Patterns p) (omega arith))
-        (up (behind_flat (Word Key.If) Named g (λ d. refl) (λ e. flat Named refl e)) (omega arith)))
+    (up (behind_flat (Word Key.If) Named g (λ d. refl) (λ e. flat Named refl e)) (omega arith)))
 
 -- ---- Lines.
 
@@ -255,8 +255,10 @@ head_within n h e = both (up (header_flat h) e) (plain (λ d. refl) (flat_none n
 
 decorators_within : (n l : ℕ) (es : List Expr) → list_height es + 1 ≤ n → AllWithin n (decorators terminal l es)
 decorators_within n l [] h = tt
-decorators_within n l (e ∷ es) h = (plain (λ d. refl) (up (flat Named refl e) (omega (arith, h))),
-    decorators_within n l es (omega (arith, h)))
+decorators_within n l (e ∷ es) h = (
+  plain (λ d. refl) (up (flat Named refl e) (omega (arith, h))),
+  decorators_within n l es (omega (arith, h)),
+)
 
 mutual
   unfolding lines_of statement_lines alternative clause case_lines handler_lines
@@ -319,20 +321,22 @@ mutual
   )
   statement_within n l (Trees.FunctionDef x a body ds r ps) h =
       within_both n (decorators terminal l ds) (header terminal l (def_header (function_head false x ps a r)) ∷
-          lines_of terminal (suc l) body)
+      lines_of terminal (suc l) body)
       (decorators_within n l ds (omega (arith, h)))
       (head_within n (def_header (function_head false x ps a r)) (omega (arith, h)), lines_within n (suc l) body (omega (arith, h)))
   statement_within n l (Trees.AsyncFunctionDef x a body ds r ps) h =
       within_both n (decorators terminal l ds) (header terminal l (def_header (function_head true x ps a r)) ∷
-          lines_of terminal (suc l) body)
+      lines_of terminal (suc l) body)
       (decorators_within n l ds (omega (arith, h)))
       (head_within n (def_header (function_head true x ps a r)) (omega (arith, h)), lines_within n (suc l) body (omega (arith, h)))
   statement_within n l (Trees.ClassDef x es ks body ds ps) h =
       within_both n (decorators terminal l ds) (header terminal l (def_header (class_head x ps es ks)) ∷ lines_of terminal (suc l) body)
       (decorators_within n l ds (omega (arith, h)))
       (head_within n (def_header (class_head x ps es ks)) (omega (arith, h)), lines_within n (suc l) body (omega (arith, h)))
-  statement_within n l (Trees.Match e cs) h = (head_within n (match_header e) (omega (arith, h)),
-      cases_within n (suc l) cs (omega (arith, h)))
+  statement_within n l (Trees.Match e cs) h = (
+    head_within n (match_header e) (omega (arith, h)),
+    cases_within n (suc l) cs (omega (arith, h)),
+  )
   statement_within n l s h = (up (simple_flat s) h, tt)
 
   alternative_within : (n l : ℕ) (ss : Stmts) → highest_in_all ss + 1 ≤ n → AllWithin n (alternative terminal l ss)

@@ -41,14 +41,14 @@ listed_again : {ts : List Terminal} (es : List Entry) → G.Listing Argument ts 
 listed_again es c =
     let (fs, d, order, same_args, same_keywords, short) = bases_law c in
     let text : List Terminal =
-        bracketed terminal (listed terminal (each terminal Named (positional es) ++ by_name terminal (keywords es))) in
+    bracketed terminal (listed terminal (each terminal Named (positional es) ++ by_name terminal (keywords es))) in
     let b : F.Bases text (F.listed (positional fs)) (keywords fs) = F.bases d order in
     let b1 : F.Bases text (F.listed (positional es)) (keywords fs) = subst (λ z. F.Bases text (F.listed z) (keywords fs)) same_args b in
     let b2 : F.Bases text (F.listed (positional es)) (keywords es) =
-        subst (λ z. F.Bases text (F.listed (positional es)) z) same_keywords b1 in
+    subst (λ z. F.Bases text (F.listed (positional es)) z) same_keywords b1 in
     subst
     (λ z. F.Bases (bracketed terminal (listed terminal (each terminal Named z ++ by_name terminal (keywords es))))
-        (F.listed (positional es))
+    (F.listed (positional es))
     (keywords es))
     (sym (exprs_listed (positional es))) b2
 
@@ -80,5 +80,5 @@ module _ (items_again : ItemsAgain) {profile : Profile} where
       (λ z. F.HeaderOf profile (S.async terminal b ++ (Word Key.Def ∷ (in_form x.form ∷ (S.type_params terminal tps ++ (Op LPar ∷ z)))))
       (def_header (function_head b x.form tps a r)))
       (sym (append_assoc ps (Op RPar ∷ []) rest)) (F.def_line _ (async_again y) (type_params_again t)
-          (parameters_law c h).0 h (behind_again q))
+      (parameters_law c h).0 h (behind_again q))
   header_again (F.class_line t b) = F.class_line (type_params_again t) (bases_again b)

@@ -64,10 +64,10 @@ mutual
   statement_high n B.simple_line h = h.0
   statement_high n (B.if_statement {test = test} {xs = xs} {ys = ys} p q) h =
       let w = parted n xs ys h.1 in let u = body_high n (if_header test) p h.0 w.0 in let v = alternative_high n q w.1 in
-          omega (arith, u.0, u.1, v)
+      omega (arith, u.0, u.1, v)
   statement_high n (B.loop_statement {head = head} {xs = xs} {ys = ys} {body = body} {orelse = orelse} p q) h =
       let w = parted n xs ys h.1 in let u = body_high n (loop_header head) p h.0 w.0 in
-          loop_high n head body orelse u.0 u.1 (otherwise_high n q w.1)
+      loop_high n head body orelse u.0 u.1 (otherwise_high n q w.1)
   statement_high n (B.with_statement {is_async = b} {items = is} {body = body} p) h = let u = body_high n (with_header b is) p h.0 h.1 in
       with_high n b is body u.0 u.1
   statement_high n (B.try_finally {xs = xs} {ys = ys} {body = body} {final = final} p q) h =
@@ -80,7 +80,7 @@ mutual
       try_high n star body (x ∷ hs) orelse final u.1 (excepts_high n c v.0) (otherwise_high n q z.0) (ending_high n r z.1)
   statement_high n (B.definition_of head {ds = ds} {es = es} {body = body} d p) h =
       let w = parted n ds _ h in let u = body_high n (def_header head) p w.1.0 w.1.1 in
-          definition_high n es head body (decorators_high n d w.0) u.0 u.1
+      definition_high n es head body (decorators_high n d w.0) u.0 u.1
   statement_high n (B.match_statement c) h = let u = cases_high n c h.1 in omega (arith, h.0, u)
 
   -- a header's form and the lines of its block
@@ -93,7 +93,7 @@ mutual
   alternative_high n (B.an_else p) h = otherwise_high n p h
   alternative_high n (B.an_elif {test = test} {xs = xs} {ys = ys} p q) h =
       let w = parted n xs ys h.1 in let u = body_high n (elif_header test) p h.0 w.0 in let v = alternative_high n q w.1 in
-          omega (arith, u.0, u.1, v)
+      omega (arith, u.0, u.1, v)
 
   otherwise_high : (n : ℕ) {l : ℕ} {xs : List Line} {ss : List Stmt} → B.Otherwise l xs ss → AreWithin n xs → highest ss ≤ n
   otherwise_high n B.no_else h = omega arith
@@ -108,13 +108,13 @@ mutual
   excepts_high n B.no_except h = omega arith
   excepts_high n (B.except_clause {star = star} {matched = e} {name = x} {xs = xs} {ys = ys} p q) h =
       let w = parted n xs ys h.1 in let u = body_high n (except_header star e x) p h.0 w.0 in let v = excepts_high n q w.1 in
-          omega (arith, u.0, u.1, v)
+      omega (arith, u.0, u.1, v)
 
   cases_high : (n : ℕ) {l : ℕ} {xs : List Line} {cs : List Case} → B.Cases l xs cs → AreWithin n xs → highest_in_cases (cases cs) ≤ n
   cases_high n B.no_case h = omega arith
   cases_high n (B.case_clause {pattern = p} {guard = g} {xs = xs} {ys = ys} b q) h =
       let w = parted n xs ys h.1 in let u = body_high n (case_header p g) b h.0 w.0 in let v = cases_high n q w.1 in
-          omega (arith, u.0, u.1, v)
+      omega (arith, u.0, u.1, v)
 
 pub modules_low : ModulesAreLow
 modules_low n xs m p h = block_high n p h

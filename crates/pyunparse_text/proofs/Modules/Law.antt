@@ -64,5 +64,5 @@ formed h (a_form {l = l} {ts = ts} {ws = ws} p c) =
 pub modules_again : ModulesComeBack
 modules_again profile ws m g h =
     let w = wells_again profile (block_wells (Simple profile) (Head profile) Test profile Told (all_again profile) g.block
-        (formed h g.formed)) 0 in
+    (formed h g.formed)) 0 in
     record { forms = w.lines; formed = in_place [] w.formed (blocks_placed w.is); block = w.is }

@@ -275,10 +275,10 @@ module _ (extent : Extent) where
       let f =
       wells_fine
       (block_wells ReadSimple (ReadHeader extent) ReadDecorator profile (Said extent []) (all_read profile) g.block (formed h g.formed))
-          0 in
+      0 in
       let ls : List Line = map line_of (lines_of piece 0 (stmts m.body)) in
       let few = all_low (expression_height m + 1) (lines_of terminal 0 (stmts m.body))
-          (λ f. (let k = low f in omega (arith, k))) (line_brackets m) in
+      (λ f. (let k = low f in omega (arith, k))) (line_brackets m) in
       record { written = and_both (list_all is_written ls) (rise_by_one 0 ls) (f.written few) f.rises; give = f.give few }
 
   of_lines : (ws : List (WrittenLine Terminal)) → All (IsOfTokens extent) ws → All (IsSaid extent) ws

@@ -77,9 +77,11 @@ mutual
   statement_low n (B.try_except {star = star} {xs = xs} {ys = ys} {zs = zs} {body = body} {orelse = orelse} {final = final} {h =
       x} {hs = hs} p c q r) h =
       let w = try_parts n star body (x ∷ hs) orelse final h in
-      let u = body_low n try_header p (omega arith) w.0 in
-      (u.0, within_both n xs _ u.1
-          (within_both n ys _ (excepts_low n c w.1) (within_both n zs _ (otherwise_low n q w.2) (ending_low n r w.3))))
+      let u = body_low n try_header p (omega arith) w.0 in (
+        u.0,
+        within_both n xs _ u.1
+            (within_both n ys _ (excepts_low n c w.1) (within_both n zs _ (otherwise_low n q w.2) (ending_low n r w.3))),
+      )
   statement_low n (B.definition_of head {ds = ds} {es = es} {body = body} d p) h = let w = definition_parts n es head body h in
       within_both n ds _ (decorators_low n d w.0) (body_low n (def_header head) p w.1 w.2)
   statement_low n (B.match_statement c) h = (omega (arith, h), cases_low n c (omega (arith, h)))

@@ -86,7 +86,7 @@ token_texts : (s : Source) → IsLawful s → all_scalars s.text ≡ true → Al
 unfolding tokens
 token_texts s w h =
     all_texts s.text [] (entries_of (listing s)) (covered s.text [] s.text 0 (entries_of (listing s)) w.covered.left refl
-        refl h w.covered.covers)
+    refl h w.covered.covers)
 
 -- ---- Lines of tokens.
 
@@ -109,7 +109,7 @@ module _ (extent : Extent) where
   record Goes (t : Token) : Type 0 where
     at : (before line ts : List Token) → All (IsOfSourceIn extent) line → All (IsOfSourceIn extent) (line ++ t ∷ [])
         → ((line : List Token) → All (IsOfSourceIn extent) line → All Good (lines_from (t ∷ before) line ts))
-            → All Good (lines_from before line (t ∷ ts))
+        → All Good (lines_from before line (t ∷ ts))
 
   goes : (k : Kind) (t : Token) → t.kind ≡ k → Goes t
   goes kinds.Newline t q = record { at = λ before line ts a b more. rw q (All-cons Good _ _ a (more [] (All-nil (IsOfSourceIn extent)))) }

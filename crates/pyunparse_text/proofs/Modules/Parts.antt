@@ -157,7 +157,7 @@ type_param_again _ _ F.param_spec = F.param_spec
 
 some_params : {profile : Profile} (ps : List TypeParam) → has_types profile ≡ true
     → F.Commas TypeParam F.TypeParamOf (listed terminal (map (S.type_param terminal) ps)) ps
-        → F.TypeParams profile (S.type_params terminal ps) ps
+    → F.TypeParams profile (S.type_params terminal ps) ps
 some_params [] h c = F.no_type_params
 some_params (p ∷ ps) h c = F.type_params h (F.ends_bare c)
 

@@ -85,7 +85,7 @@ module _ {A : Type 0} (make : Maker A) where
 
   pub loop_lines : (l : ℕ) (head : LoopHead) (body orelse : List Stmt)
       → statement_lines make l (loop head body orelse) ≡ header make l (loop_header head) ∷
-          (lines_of make (suc l) (stmts body) ++ clause make l else_header (stmts orelse))
+      (lines_of make (suc l) (stmts body) ++ clause make l else_header (stmts orelse))
   unfolding statement_lines
   loop_lines l (while_head test) body orelse = refl
   loop_lines l (for_head false t e) body orelse = refl
@@ -99,16 +99,16 @@ module _ {A : Type 0} (make : Maker A) where
 
   pub try_lines : (l : ℕ) (b : Bool) (body : List Stmt) (hs : List Handler) (orelse final : List Stmt)
       → statement_lines make l (try_of b body hs orelse final) ≡ header make l try_header ∷
-          (lines_of make (suc l) (stmts body) ++
-          (handler_lines make l b (handlers hs) ++ (clause make l else_header (stmts orelse) ++ clause make l
-          finally_header (stmts final))))
+      (lines_of make (suc l) (stmts body) ++
+      (handler_lines make l b (handlers hs) ++ (clause make l else_header (stmts orelse) ++ clause make l
+      finally_header (stmts final))))
   unfolding statement_lines
   try_lines l false body hs orelse final = refl
   try_lines l true body hs orelse final = refl
 
   pub definition_lines : (l : ℕ) (es : List Expr) (head : DefHead) (body : List Stmt)
       → statement_lines make l (definition es head body) ≡ decorators make l es ++
-          (header make l (def_header head) ∷ lines_of make (suc l) (stmts body))
+      (header make l (def_header head) ∷ lines_of make (suc l) (stmts body))
   unfolding statement_lines
   definition_lines l es (function_head false x ps a r) body = refl
   definition_lines l es (function_head true x ps a r) body = refl

@@ -198,7 +198,7 @@ module _ (S : Stmt → Type 0) (H : Header → Type 0) (D : Expr → Type 0) whe
     definition_full : {l : ℕ} (head : DefHead) {suite : Option (List Stmt)} {xs : List Line} {es : List Expr} {body : List Stmt}
         → Decorated es
         → (FullSuite suite → Formed xs → Full body) → Formed (line l (header_form (def_header head) suite) ∷ xs)
-            → Full (definition es head body ∷ [])
+        → Full (definition es head body ∷ [])
     definition_full head d p (one_formed q f a) = full (well_definition head d (head_is q f) (p (suite_full q f) a)) none
 
     clause_full : {l : ℕ} {h : Header} {suite : Option (List Stmt)} {xs : List Line} {body : List Stmt}

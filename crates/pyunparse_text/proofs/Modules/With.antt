@@ -188,7 +188,7 @@ in_tuple : {ts us : List Terminal} {e : Expr} (es : List Expr) → G.Derives Exp
     → G.Derives Atom (Op LPar ∷ ((ts ++ (Op Comma ∷ us)) ++ (Op RPar ∷ []))) (Trees.Tuple (an_expr e (exprs es)) Load)
 in_tuple {ts} {us} {e} es p c =
     subst (λ z. G.Derives Atom (Op LPar ∷ z) (Trees.Tuple (an_expr e (exprs es)) Load))
-        (sym (append_assoc ts (Op Comma ∷ us) (Op RPar ∷ [])))
+    (sym (append_assoc ts (Op Comma ∷ us) (Op RPar ∷ [])))
     (subst (λ z. G.Derives Atom (Op LPar ∷ (ts ++ (Op Comma ∷ (us ++ (Op RPar ∷ []))))) (Trees.Tuple (an_expr e z) Load)) (singles_are es)
     (G.tuple (G.next (G.next p)) c))
 
@@ -233,18 +233,23 @@ not_tuple {us} {e} w p q h =
     let f : e ≡ Trees.Tuple (an_expr w.e (exprs w.es)) Load =
     expressions_are_unique Expression _ _ _ p
     (climb Expression Atom (to_atom Expression)
-        (subst (λ z. G.Derives Atom z (Trees.Tuple (an_expr w.e (exprs w.es)) Load)) (sym q) w.is)) in
+    (subst (λ z. G.Derives Atom z (Trees.Tuple (an_expr w.e (exprs w.es)) Load)) (sym q) w.is)) in
     let g : some_named (an_expr w.e (exprs w.es)) ≡ true = w.named (subst (λ z. reads_as_items z None ≡ false) f h) in
     let t : Expr = Trees.Tuple (an_expr w.e (exprs w.es)) Load in
     let s : Same (written one Expression t) (Op LPar ∷ (us ++ (Op RPar ∷ []))) =
     subst (Same (written one Expression t)) (sym (ap (written terminal Expression) f) ∙ q) (same Expression t) in
     let ms : List (Unit {0}) = with_comma one (each one Expression (an_expr w.e (exprs w.es))) in
     let k : length (tt ∷ (ms ++ (tt ∷ []))) ≤ length (written one Expression t) = at_most s (in_brackets LPar RPar w.size) in
-    omega
-    (arith, k, length-append ms (tt ∷ []), length_bracketed (with_comma one (each one Elem (an_expr w.e (exprs w.es)))),
-        length_with_comma (written one Elem w.e) (each one Elem (exprs w.es)),
-        length_with_comma (written one Expression w.e) (each one Expression (exprs w.es)), w.stars,
-        total_named (an_expr w.e (exprs w.es)) g)
+    omega (
+      arith,
+      k,
+      length-append ms (tt ∷ []),
+      length_bracketed (with_comma one (each one Elem (an_expr w.e (exprs w.es)))),
+      length_with_comma (written one Elem w.e) (each one Elem (exprs w.es)),
+      length_with_comma (written one Expression w.e) (each one Expression (exprs w.es)),
+      w.stars,
+      total_named (an_expr w.e (exprs w.es)) g,
+    )
 
 -- a group
 not_group : {us : List Terminal} {e f : Expr} → G.Derives Expression us f → G.Derives Expression (written terminal Expression e) e
@@ -254,7 +259,7 @@ not_group {us} {e} {f} d p q =
     expressions_are_unique Expression _ _ _ p
     (climb Expression Atom (to_atom Expression) (subst (λ z. G.Derives Atom z f) (sym q) (G.group (G.next d)))) in
     let s : Same (written one Expression e) (Op LPar ∷ (us ++ (Op RPar ∷ []))) =
-        subst (Same (written one Expression e)) q (same Expression e) in
+    subst (Same (written one Expression e)) q (same Expression e) in
     omega (
       arith,
       at_most s (in_brackets LPar RPar (shortest (subst (G.Derives Expression us) (sym g) d))),

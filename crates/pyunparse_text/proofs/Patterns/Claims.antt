@@ -201,7 +201,7 @@ unfolding written_pattern
 capture_claim {x} =
     closed _ _ _ (λ m. refl) refl
     (λ h. subst (λ n. P.DerivesPattern ClosedPattern (in_form (target_name (captured x.form)) ∷ []) (Trees.MatchAs absent_pattern n))
-        (captured_again x.form) (P.capture {x = spelled (target_name (captured x.form))}))
+    (captured_again x.form) (P.capture {x = spelled (target_name (captured x.form))}))
     (token refl none)
 
 pub star_claim : {x : Spelled} → Claim StarPattern (Op Star ∷ (Ident x ∷ [])) (Trees.MatchStar (captured x.form))

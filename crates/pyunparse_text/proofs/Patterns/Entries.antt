@@ -87,8 +87,12 @@ pub entry_claim : {i : PatternItem} {ts us : List Terminal} {e : PatternEntry} {
 entry_claim {i} {ts} {us} {e} {es} p c = record {
   standing = λ h. (p.standing (told_front ts (Op Comma ∷ us) h), c.standing (told_behind ts us (Op Comma) h));
   shaped = (p.shaped, c.shaped);
-  short = fewer (omega (arith, length_separated tt (entry_marks i e ∷ map (entry_marks i) es), length_separated tt (map (entry_marks i) es),
-      length-append (entry_marks i e) (tt ∷ separated tt (map (entry_marks i) es)))) (both p.short (token refl c.short));
+  short = fewer (omega (
+    arith,
+    length_separated tt (entry_marks i e ∷ map (entry_marks i) es),
+    length_separated tt (map (entry_marks i) es),
+    length-append (entry_marks i e) (tt ∷ separated tt (map (entry_marks i) es)),
+  )) (both p.short (token refl c.short));
 }
 
 piece_of : (i : PatternItem) (e : PatternEntry) → Standing i e → P.PatternPiece i (entry i e) e
@@ -161,7 +165,7 @@ sequence_ready es s k m i =
 
 sequence_marks : (es : List PatternEntry) → AllShaped Element es
     → written_pattern marks ClosedPattern (Trees.MatchSequence (elements es)) ≡ tt ∷
-        (separated tt (map (entry_marks Element) es) ++ (tt ∷ []))
+    (separated tt (map (entry_marks Element) es) ++ (tt ∷ []))
 unfolding written_pattern
 sequence_marks es s = ap (sequence_of marks ClosedPattern) (elements_are marks es s)
 
@@ -175,8 +179,12 @@ square_claim {ts} {es} c = record {
 
 pub empty_claim : Claim ClosedPattern (Op LPar ∷ (Op RPar ∷ [])) (Trees.MatchSequence no_pattern)
 empty_claim =
-    record { ready = λ h. sequence_ready [] tt tt; place = refl; short = subst (λ z. AtLeast z (Op LPar ∷ (Op RPar ∷ [])))
-        (sym (sequence_marks [] tt)) (token refl (token refl none)) }
+    record {
+      ready = λ h. sequence_ready [] tt tt;
+      place = refl;
+      short = subst (λ z. AtLeast z (Op LPar ∷ (Op RPar ∷ [])))
+          (sym (sequence_marks [] tt)) (token refl (token refl none));
+    }
 
 -- the first of a list, and the others
 first_claim : {ts us : List Terminal} {p : Pattern} {es : List PatternEntry} → Claim StarPattern ts p → ListingClaim Element us es
@@ -205,8 +213,10 @@ pub open_claim : {ts us : List Terminal} {p : Pattern} {es : List PatternEntry} 
     → Claim Patterns (ts ++ (Op Comma ∷ us)) (Trees.MatchSequence (a_pattern p (elements es)))
 unfolding written_pattern each_pattern
 open_claim {ts} {us} {p} {es} c d = record {
-  ready = λ h. sequence_ready (Alone p ∷ es) (tt, d.shaped) (here c (told_front ts (Op Comma ∷ us) h),
-      d.standing (told_behind ts us (Op Comma) h));
+  ready = λ h. sequence_ready (Alone p ∷ es) (tt, d.shaped) (
+    here c (told_front ts (Op Comma ∷ us) h),
+    d.standing (told_behind ts us (Op Comma) h),
+  );
   place = refl;
   short = subst (λ z. AtLeast (written_pattern marks StarPattern p ++ (tt ∷ separated tt z)) (ts ++ (Op Comma ∷ us)))
       (sym (elements_are marks es d.shaped)) (both c.short (token refl d.short));
@@ -227,7 +237,7 @@ keys_are make (Named x p ∷ es) h = absurd (cc)
 
 mapping_written : {A : Type 0} (make : Maker A) (es : List PatternEntry) → is_mapping es ≡ true → (m : PatternLevel)
     → written_pattern make m (Trees.MatchMapping (pattern_keys es) (Entries.key_patterns es) (rest_of es)) ≡ enclosed make
-        (leading make LBrace) RBrace (listed make (map (entry_in make KeyPattern) es))
+    (leading make LBrace) RBrace (listed make (map (entry_in make KeyPattern) es))
 unfolding written_pattern
 mapping_written make es h m = ap (λ tss. enclosed make (leading make LBrace) RBrace (listed make tss)) (keys_are make es h)
 
@@ -294,7 +304,7 @@ class_tree e es = Trees.MatchClass e (elements es) (named_attributes es) (Entrie
 
 class_written : {A : Type 0} (make : Maker A) (e : Expr) (es : List PatternEntry) → are_class_arguments false es ≡ true → (m : PatternLevel)
     → written_pattern make m (class_tree e es) ≡ written make Primary e ++ enclosed make (tight make LPar) RPar
-        (listed make (map (entry_in make ClassArgument) es))
+    (listed make (map (entry_in make ClassArgument) es))
 unfolding written_pattern
 class_written make e es h m =
     ap (λ tss. written make Primary e ++ enclosed make (tight make LPar) RPar (listed make tss)) (arguments_are make false es h)

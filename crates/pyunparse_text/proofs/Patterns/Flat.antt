@@ -55,14 +55,14 @@ mutual
       (omega arith)) (rest_flat _ rest)))
   flat_pattern l (Trees.MatchClass cls inner names named) =
       both (up (flat Primary refl cls) (omega arith))
-          (pair {n = max (height cls) (max (pattern_heights inner) (pattern_heights named))} open_round close_round
+      (pair {n = max (height cls) (max (pattern_heights inner) (pattern_heights named))} open_round close_round
       (separated_flat (Op Comma) neutral (all_append (all_up (flat_patterns Level.AsPattern inner) (omega arith))
       (all_up (flat_named names named) (omega arith)))))
   flat_pattern l (Trees.MatchStar name) = plain (λ d. refl) (plain (λ d. refl) (flat_none 1))
   flat_pattern l (Trees.MatchAs absent_pattern name) = plain (λ d. refl) (flat_none 1)
   flat_pattern l (Trees.MatchAs (present_pattern p) name) =
       fit_flat l Level.AsPattern
-          (both (flat_pattern Level.OrPattern p) (plain (λ d. refl) (plain (λ d. refl) (flat_none (pattern_height p)))))
+      (both (flat_pattern Level.OrPattern p) (plain (λ d. refl) (plain (λ d. refl) (flat_none (pattern_height p)))))
   flat_pattern l (Trees.MatchOr inner) =
       fit_flat l Level.OrPattern (separated_flat (Op VBar) (λ d. refl) (flat_patterns Level.ClosedPattern inner))
 
@@ -83,7 +83,7 @@ mutual
   flat_named (x ∷ xs) no_pattern = none
   flat_named (x ∷ xs) (a_pattern p ps) =
       one (plain (λ d. refl) (plain (λ d. refl) (up (flat_pattern Level.AsPattern p) (omega arith))))
-          (all_up (flat_named xs ps) (omega arith))
+      (all_up (flat_named xs ps) (omega arith))
 
 pub pattern_brackets : (l : PatternLevel) (p : Pattern) → brackets (written_pattern terminal l p) ≤ pattern_height p
 pattern_brackets l p = omega (arith, (flat_pattern l p).at 0 [], ap brackets (append-nil (written_pattern terminal l p)))

@@ -30,7 +30,7 @@ number_is t = by (is_complex t) (is_real t)
   where
     by : (a b : Bool)
         → is_number (if a then Values.Imaginary (float_value t) else (if b then Values.Float (float_value t) else Values.Int
-            (whole_value t))) ≡ true
+        (whole_value t))) ≡ true
     by true b = refl
     by false true = refl
     by false false = refl
@@ -122,7 +122,7 @@ pub tokens_may_be : (ts : List Token) → list_all may_be_token (flat_map (λ t.
 tokens_may_be [] = refl
 tokens_may_be (t ∷ ts) =
     both_may_be (terminals_of t.kind t.text) (flat_map (λ t. terminals_of t.kind t.text) ts)
-        (terminals_may_be t.kind t.text) (tokens_may_be ts)
+    (terminals_may_be t.kind t.text) (tokens_may_be ts)
 
 pub of_tokens_may_be : {extent : Extent} {ts : List Terminal} → AreOfTokens extent ts → list_all may_be_token ts ≡ true
 of_tokens_may_be no_token = refl

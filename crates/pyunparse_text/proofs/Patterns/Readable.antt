@@ -149,19 +149,19 @@ module _ {extent : Extent} where
 
     elements_are : (ps : Patterns) → SoundPatterns extent true ps
         → Each (open_place extent) starts_item ends_plain (each_pattern piece Level.StarPattern ps)
-            (each_pattern terminal Level.StarPattern ps)
+        (each_pattern terminal Level.StarPattern ps)
     elements_are no_pattern h = none
     elements_are (a_pattern p ps) h = more (pattern_readable true Level.StarPattern p h.0) (elements_are ps h.1)
 
     arguments_are : (ps : Patterns) → SoundPatterns extent false ps
         → Each (open_place extent) starts_plain ends_plain (each_pattern piece Level.AsPattern ps)
-            (each_pattern terminal Level.AsPattern ps)
+        (each_pattern terminal Level.AsPattern ps)
     arguments_are no_pattern h = none
     arguments_are (a_pattern p ps) h = more (pattern_readable false Level.AsPattern p h.0) (arguments_are ps h.1)
 
     closed_are : (ps : Patterns) → SoundPatterns extent false ps
         → Each (open_place extent) starts_plain ends_plain (each_pattern piece Level.ClosedPattern ps)
-            (each_pattern terminal Level.ClosedPattern ps)
+        (each_pattern terminal Level.ClosedPattern ps)
     closed_are no_pattern h = none
     closed_are (a_pattern p ps) h = more (pattern_readable false Level.ClosedPattern p h.0) (closed_are ps h.1)
 

@@ -53,7 +53,7 @@ mutual
       in_brackets LBrace RBrace (listed_same (append_same (same_keys keys inner) (rest_same rest)))
   same_pattern l (Trees.MatchClass cls inner names named) =
       both (same Primary cls)
-          (in_brackets LPar RPar (listed_same (append_same (same_patterns Level.AsPattern inner) (same_named names named))))
+      (in_brackets LPar RPar (listed_same (append_same (same_patterns Level.AsPattern inner) (same_named names named))))
   same_pattern l (Trees.MatchStar name) = token refl (last refl)
   same_pattern l (Trees.MatchAs absent_pattern name) = last refl
   same_pattern l (Trees.MatchAs (present_pattern p) name) =

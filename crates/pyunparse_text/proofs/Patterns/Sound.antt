@@ -144,9 +144,10 @@ module _ (extent : Extent) where
     pub pattern_sound : {l : PatternLevel} {ts : List Terminal} {p : Pattern} → P.DerivesPattern l ts p → Said extent [] ts
         → SoundPattern (takes_star l) p
     pattern_sound (P.next {l = l} {p = p} d) h = wider (takes_star l) p (subst (λ b. SoundPattern b p) (none_below l) (pattern_sound d h))
-    pattern_sound (P.open_sequence {ts = ts} {us = us} {es = es} d c) h =
-        (pattern_sound d (front ts (Op Comma ∷ us) h),
-            elements_sound Element es (listing_fine c (behind ts us (Op Comma) (pattern_closes d) h)))
+    pattern_sound (P.open_sequence {ts = ts} {us = us} {es = es} d c) h = (
+      pattern_sound d (front ts (Op Comma ∷ us) h),
+      elements_sound Element es (listing_fine c (behind ts us (Op Comma) (pattern_closes d) h)),
+    )
     pattern_sound (P.star {x = x}) h = (refl, captured_sound x.form (first (rest h)))
     pattern_sound (P.as_name {ts = ts} {p = p} {q = q} x d n) h =
         subst (SoundPattern false) (named p x.form q n).tree
@@ -174,9 +175,12 @@ module _ (extent : Extent) where
         (keys_sound KeyPattern es fine, keyed_sound KeyPattern es fine, rest_sound KeyPattern es fine)
     pattern_sound (P.class_pattern {ts = ts} {us = us} {e = e} {es = es} {p = p} q c n) h =
         let fine = listing_fine c (front us (Op RPar ∷ []) (behind ts (us ++ (Op RPar ∷ [])) (Op LPar) (class_closes q) h)) in
-        made_sound (are_class_arguments false es) (class_tree e es) p n
-        (class_sound q (front ts (Op LPar ∷ (us ++ (Op RPar ∷ []))) h), elements_sound ClassArgument es fine,
-            names_sound ClassArgument es fine, named_sound ClassArgument es fine)
+        made_sound (are_class_arguments false es) (class_tree e es) p n (
+          class_sound q (front ts (Op LPar ∷ (us ++ (Op RPar ∷ []))) h),
+          elements_sound ClassArgument es fine,
+          names_sound ClassArgument es fine,
+          named_sound ClassArgument es fine,
+        )
 
     alternatives_sound : {ts : List Terminal} {ps : List Pattern} → P.Alternatives ts ps → Said extent [] ts
         → SoundPatterns false (patterns ps)

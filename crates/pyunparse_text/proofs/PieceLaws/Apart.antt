@@ -33,7 +33,7 @@ begins_any t c (o ∷ os) a e =
     let q = and_parts (list_all (is_among sign_chars) o) (list_all (list_all (is_among sign_chars)) os) a in
     ⊎_elim
     (λ (h : starts_with nat_eq o (t ++ c ∷ []) ≡ true). char_of (is_among sign_chars) t (drop (length (t ++ c ∷ [])) o) c
-        (subst (λ (u : List ℕ). list_all (is_among sign_chars) u ≡ true) (front_is o (t ++ c ∷ []) h) q.0))
+    (subst (λ (u : List ℕ). list_all (is_among sign_chars) u ≡ true) (front_is o (t ++ c ∷ []) h) q.0))
     (λ (h : list_any (λ o. starts_with nat_eq o (t ++ c ∷ [])) os ≡ true). begins_any t c os q.1 h)
     (or_cases (starts_with nat_eq o (t ++ c ∷ [])) (list_any (λ o. starts_with nat_eq o (t ++ c ∷ [])) os) e)
 

@@ -78,7 +78,7 @@ atom_low e =
     ⊎_elim
     (λ (q : written terminal Atom e ≡ written terminal Primary e). subst (λ ts. brackets ts ≤ height e + 1) (sym q) (omega (arith, h)))
     (λ (q : written terminal Atom e ≡ bracketed terminal (written terminal Primary e)). let a = around (written terminal Primary e) in
-        subst (λ ts. brackets ts ≤ height e + 1) (sym q) (omega (arith, a, h)))
+    subst (λ ts. brackets ts ≤ height e + 1) (sym q) (omega (arith, a, h)))
     (at_atom e)
 
 pub brackets_low : (l : Level) (e : Expr) → brackets (terminals l e) ≤ height e + 1

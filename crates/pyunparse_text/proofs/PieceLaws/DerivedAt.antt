@@ -330,8 +330,11 @@ module _ (extent : Extent) (o : Open) (inside : SoundInside extent o) where
     formatted_sound n (G.field_part {ts = ts} {us = us} {vs = vs} {e = e} p q r) h =
         let all = rest h in
         let more = back (Op LPar ∷ ts) (us ++ (FieldEnd ∷ vs)) (expression_closes p) all in (
-          (first h, inside (suc n) ts e p (front (Op LPar ∷ ts) (us ++ (FieldEnd ∷ vs)) all),
-              spec_sound n q (front us (FieldEnd ∷ vs) more)),
+          (
+            first h,
+            inside (suc n) ts e p (front (Op LPar ∷ ts) (us ++ (FieldEnd ∷ vs)) all),
+            spec_sound n q (front us (FieldEnd ∷ vs) more),
+          ),
           formatted_sound n r (one_less (rest (back us (FieldEnd ∷ vs) (spec_closes q) more))),
         )
 
@@ -347,7 +350,7 @@ module _ (extent : Extent) (o : Open) (inside : SoundInside extent o) where
   literals_sound (G.formatted_literal {ts = ts} {us = us} {ps = ps} {qs = qs} p q) h =
       let all = rest h in
       parts_both 0 ps qs (formatted_sound 0 p (front ts (FormattedEnd ∷ us) all))
-          (literals_sound q (rest (back ts (FormattedEnd ∷ us) (formatted_closes p) all)))
+      (literals_sound q (rest (back ts (FormattedEnd ∷ us) (formatted_closes p) all)))
 
   string_there : {u : Bool} {ts : List Terminal} {ps : List StringPart} → G.Literals u ts ps → has_formatted ts ≡ true → Said extent o ts
       → HasStrings extent here
@@ -370,22 +373,31 @@ module _ (extent : Extent) (o : Open) (inside : SoundInside extent o) where
         (sound p (front ts (Op Comma ∷ us) h), singles_sound es (listing_fine c (behind ts us (Op Comma) (expression_closes p) h)))
     sound (G.star_item p) h = (refl, sound p (rest h))
     sound (G.named p) h = (first h, sound p (rest (rest h)))
-    sound (G.lambda {ts = ts} {us = us} {ps = ps} {a = a} c q p) h =
-        (arranged_sound ps a q (listing_fine c (front ts (Op Colon ∷ us) (rest h))),
-            sound p (behind ts us (Op Colon) (listing_closes c) (rest h)))
+    sound (G.lambda {ts = ts} {us = us} {ps = ps} {a = a} c q p) h = (
+      arranged_sound ps a q (listing_fine c (front ts (Op Colon ∷ us) (rest h))),
+      sound p (behind ts us (Op Colon) (listing_closes c) (rest h)),
+    )
     sound (G.if_else {ts = ts} {us = us} {vs = vs} p q r) h =
-        let more = behind ts (us ++ (Word Key.Else ∷ vs)) (Word Key.If) (expression_closes p) h in
-        (sound q (front us (Word Key.Else ∷ vs) more), sound p (front ts (Word Key.If ∷ (us ++ (Word Key.Else ∷ vs))) h),
-            sound r (behind us vs (Word Key.Else) (expression_closes q) more))
-    sound (G.chain {o = k} {ts = ts} {us = us} {e = e} p c) h =
-        (tt, (plain (star_place (below (chain_level k))) e (below_plain k) (sound p (front ts (Word (chain_word k) ∷ us) h)),
-            chain_sound c (behind ts us (Word (chain_word k)) (expression_closes p) h)))
+        let more = behind ts (us ++ (Word Key.Else ∷ vs)) (Word Key.If) (expression_closes p) h in (
+          sound q (front us (Word Key.Else ∷ vs) more),
+          sound p (front ts (Word Key.If ∷ (us ++ (Word Key.Else ∷ vs))) h),
+          sound r (behind us vs (Word Key.Else) (expression_closes q) more),
+        )
+    sound (G.chain {o = k} {ts = ts} {us = us} {e = e} p c) h = (
+      tt,
+      (
+        plain (star_place (below (chain_level k))) e (below_plain k) (sound p (front ts (Word (chain_word k) ∷ us) h)),
+        chain_sound c (behind ts us (Word (chain_word k)) (expression_closes p) h),
+      ),
+    )
     sound (G.unary {l = l} {t = t} {o = k} {e = e} q p) h =
         plain (star_place l) e (prefix_is l t k q) (sound p (quiet t (unary_quiet l t k q) (rest h)))
     sound (G.compare {ts = ts} {us = us} p c) h = (sound p (front ts us h), compares_sound c (back ts us (expression_closes p) h))
-    sound (G.binary {l = l} {ts = ts} {us = us} {a = a} {b = b} {o = k} t q p r) h =
-        (plain (star_place l) a (left_is l t k q) (sound p (front ts (t ∷ us) h)), plain (star_place (below l)) b (right_is l t k q)
-            (sound r (quiet t (left_quiet l t k q) (behind ts us t (expression_closes p) h))))
+    sound (G.binary {l = l} {ts = ts} {us = us} {a = a} {b = b} {o = k} t q p r) h = (
+      plain (star_place l) a (left_is l t k q) (sound p (front ts (t ∷ us) h)),
+      plain (star_place (below l)) b (right_is l t k q)
+          (sound r (quiet t (left_quiet l t k q) (behind ts us t (expression_closes p) h))),
+    )
     sound (G.power {ts = ts} {us = us} p q) h =
         (sound p (front ts (Op DoubleStar ∷ us) h), sound q (behind ts us (Op DoubleStar) (expression_closes p) h))
     sound (G.await p) h = sound p (rest h)
@@ -393,15 +405,23 @@ module _ (extent : Extent) (o : Open) (inside : SoundInside extent o) where
         (sound p (front ts (Op Dot ∷ (Ident x ∷ [])) h), first (behind ts (Ident x ∷ []) (Op Dot) (expression_closes p) h))
     sound (G.call {ts = ts} {us = us} {f = f} {e = e} {es = es} p c q) h =
         called_sound false f e es q (sound p (front ts (Op LPar ∷ (us ++ (Op RPar ∷ []))) h))
-            (listing_fine c (front us (Op RPar ∷ []) (behind ts (us ++ (Op RPar ∷ [])) (Op LPar) (expression_closes p) h)))
+        (listing_fine c (front us (Op RPar ∷ []) (behind ts (us ++ (Op RPar ∷ [])) (Op LPar) (expression_closes p) h)))
     sound (G.call_generator {ts = ts} {us = us} {vs = vs} p q c) h =
-        let more = behind ts (us ++ (vs ++ (Op RPar ∷ []))) (Op LPar) (expression_closes p) h in
-        (sound p (front ts (Op LPar ∷ (us ++ (vs ++ (Op RPar ∷ [])))) h),
-            ((sound q (front us (vs ++ (Op RPar ∷ [])) more),
-            comps_sound c (front vs (Op RPar ∷ []) (back us (vs ++ (Op RPar ∷ [])) (expression_closes q) more))), tt), tt)
-    sound (G.subscript {ts = ts} {us = us} p q) h =
-        (sound p (front ts (Op LSqb ∷ (us ++ (Op RSqb ∷ []))) h),
-            sound q (front us (Op RSqb ∷ []) (behind ts (us ++ (Op RSqb ∷ [])) (Op LSqb) (expression_closes p) h)))
+        let more = behind ts (us ++ (vs ++ (Op RPar ∷ []))) (Op LPar) (expression_closes p) h in (
+          sound p (front ts (Op LPar ∷ (us ++ (vs ++ (Op RPar ∷ [])))) h),
+          (
+            (
+              sound q (front us (vs ++ (Op RPar ∷ [])) more),
+              comps_sound c (front vs (Op RPar ∷ []) (back us (vs ++ (Op RPar ∷ [])) (expression_closes q) more)),
+            ),
+            tt,
+          ),
+          tt,
+        )
+    sound (G.subscript {ts = ts} {us = us} p q) h = (
+      sound p (front ts (Op LSqb ∷ (us ++ (Op RSqb ∷ []))) h),
+      sound q (front us (Op RSqb ∷ []) (behind ts (us ++ (Op RSqb ∷ [])) (Op LSqb) (expression_closes p) h)),
+    )
     sound G.name h = first h
     sound (G.constant {t = t} {v = v} q) h = word_sound t v q
     sound G.number h = first h
@@ -411,27 +431,33 @@ module _ (extent : Extent) (o : Open) (inside : SoundInside extent o) where
     sound (G.group {ts = ts} p) h = sound p (front ts (Op RPar ∷ []) (rest h))
     sound (G.yield_group {ts = ts} p) h = yields_sound false p (front ts (Op RPar ∷ []) (rest (rest h)))
     sound G.empty_tuple h = tt
-    sound (G.tuple {ts = ts} {us = us} {es = es} p c) h =
-        (sound p (front ts (Op Comma ∷ (us ++ (Op RPar ∷ []))) (rest h)),
-            singles_sound es (listing_fine c
-            (front us (Op RPar ∷ []) (behind ts (us ++ (Op RPar ∷ [])) (Op Comma) (expression_closes p) (rest h)))))
-    sound (G.generator_group {ts = ts} {us = us} p c) h =
-        (sound p (front ts (us ++ (Op RPar ∷ [])) (rest h)),
-            comps_sound c (front us (Op RPar ∷ []) (back ts (us ++ (Op RPar ∷ [])) (expression_closes p) (rest h))))
+    sound (G.tuple {ts = ts} {us = us} {es = es} p c) h = (
+      sound p (front ts (Op Comma ∷ (us ++ (Op RPar ∷ []))) (rest h)),
+      singles_sound es (listing_fine c
+          (front us (Op RPar ∷ []) (behind ts (us ++ (Op RPar ∷ [])) (Op Comma) (expression_closes p) (rest h)))),
+    )
+    sound (G.generator_group {ts = ts} {us = us} p c) h = (
+      sound p (front ts (us ++ (Op RPar ∷ [])) (rest h)),
+      comps_sound c (front us (Op RPar ∷ []) (back ts (us ++ (Op RPar ∷ [])) (expression_closes p) (rest h))),
+    )
     sound (G.list {ts = ts} {es = es} c) h = singles_sound es (listing_fine c (front ts (Op RSqb ∷ []) (rest h)))
-    sound (G.list_comp {ts = ts} {us = us} p c) h =
-        (sound p (front ts (us ++ (Op RSqb ∷ [])) (rest h)),
-            comps_sound c (front us (Op RSqb ∷ []) (back ts (us ++ (Op RSqb ∷ [])) (expression_closes p) (rest h))))
+    sound (G.list_comp {ts = ts} {us = us} p c) h = (
+      sound p (front ts (us ++ (Op RSqb ∷ [])) (rest h)),
+      comps_sound c (front us (Op RSqb ∷ []) (back ts (us ++ (Op RSqb ∷ [])) (expression_closes p) (rest h))),
+    )
     sound (G.dict {ts = ts} {es = es} c) h = let fine = listing_fine c (front ts (Op RBrace ∷ []) (rest h)) in
         (keys_sound es fine, values_sound es fine)
     sound (G.dict_comp {ts = ts} {us = us} {vs = vs} p q c) h =
-        let more = behind ts (us ++ (vs ++ (Op RBrace ∷ []))) (Op Colon) (expression_closes p) (rest h) in
-        (sound p (front ts (Op Colon ∷ (us ++ (vs ++ (Op RBrace ∷ [])))) (rest h)), sound q (front us (vs ++ (Op RBrace ∷ [])) more),
-            comps_sound c (front vs (Op RBrace ∷ []) (back us (vs ++ (Op RBrace ∷ [])) (expression_closes q) more)))
+        let more = behind ts (us ++ (vs ++ (Op RBrace ∷ []))) (Op Colon) (expression_closes p) (rest h) in (
+          sound p (front ts (Op Colon ∷ (us ++ (vs ++ (Op RBrace ∷ [])))) (rest h)),
+          sound q (front us (vs ++ (Op RBrace ∷ [])) more),
+          comps_sound c (front vs (Op RBrace ∷ []) (back us (vs ++ (Op RBrace ∷ [])) (expression_closes q) more)),
+        )
     sound (G.set {ts = ts} {e = e} {es = es} c) h = singles_sound (e ∷ es) (listing_fine c (front ts (Op RBrace ∷ []) (rest h)))
-    sound (G.set_comp {ts = ts} {us = us} p c) h =
-        (sound p (front ts (us ++ (Op RBrace ∷ [])) (rest h)),
-            comps_sound c (front us (Op RBrace ∷ []) (back ts (us ++ (Op RBrace ∷ [])) (expression_closes p) (rest h))))
+    sound (G.set_comp {ts = ts} {us = us} p c) h = (
+      sound p (front ts (us ++ (Op RBrace ∷ [])) (rest h)),
+      comps_sound c (front us (Op RBrace ∷ []) (back ts (us ++ (Op RBrace ∷ [])) (expression_closes p) (rest h))),
+    )
     sound (G.subject_tuple {ts = ts} {us = us} {es = es} p c) h =
         (sound p (front ts (Op Comma ∷ us) h), singles_sound es (listing_fine c (behind ts us (Op Comma) (expression_closes p) h)))
     sound (G.star_elem p) h = (refl, sound p (rest h))
@@ -442,9 +468,11 @@ module _ (extent : Extent) (o : Open) (inside : SoundInside extent o) where
     sound (G.slice {ts = ts} {us = us} p q) h =
         (perhaps_sound p (front ts (Op Colon ∷ us) h), perhaps_sound q (behind ts us (Op Colon) (perhaps_closes p) h), tt)
     sound (G.slice_step {ts = ts} {us = us} {vs = vs} p q r) h =
-        let more = behind ts (us ++ (Op Colon ∷ vs)) (Op Colon) (perhaps_closes p) h in
-        (perhaps_sound p (front ts (Op Colon ∷ (us ++ (Op Colon ∷ vs))) h), perhaps_sound q (front us (Op Colon ∷ vs) more),
-            perhaps_sound r (behind us vs (Op Colon) (perhaps_closes q) more))
+        let more = behind ts (us ++ (Op Colon ∷ vs)) (Op Colon) (perhaps_closes p) h in (
+          perhaps_sound p (front ts (Op Colon ∷ (us ++ (Op Colon ∷ vs))) h),
+          perhaps_sound q (front us (Op Colon ∷ vs) more),
+          perhaps_sound r (behind us vs (Op Colon) (perhaps_closes q) more),
+        )
 
     yields_sound : {ts : List Terminal} {e : Expr} (b : Bool) → G.Yields ts e → Said extent o ts → Sound extent here b e
     yields_sound b (G.yield_from p) h = sound p (rest h)
@@ -462,9 +490,10 @@ module _ (extent : Extent) (o : Open) (inside : SoundInside extent o) where
 
     chain_sound : {k : BoolOperator} {ts : List Terminal} {es : List Expr} → G.Chain k ts es → Said extent o ts → AllSound es
     chain_sound (G.last_link {o = k} {e = e} p) h = (plain (star_place (below (chain_level k))) e (below_plain k) (sound p h), tt)
-    chain_sound (G.link {o = k} {ts = ts} {us = us} {e = e} p c) h =
-        (plain (star_place (below (chain_level k))) e (below_plain k) (sound p (front ts (Word (chain_word k) ∷ us) h)),
-            chain_sound c (behind ts us (Word (chain_word k)) (expression_closes p) h))
+    chain_sound (G.link {o = k} {ts = ts} {us = us} {e = e} p c) h = (
+      plain (star_place (below (chain_level k))) e (below_plain k) (sound p (front ts (Word (chain_word k) ∷ us) h)),
+      chain_sound c (behind ts us (Word (chain_word k)) (expression_closes p) h),
+    )
 
     compares_sound : {ts : List Terminal} {os : List Comparison} {es : List Expr} → G.Compares ts os es → Said extent o ts → AllSound es
     compares_sound (G.last_compare {ss = ss} {ts = ts} k p) h = (sound p (back ss ts (compared_closes k) h), tt)
@@ -508,9 +537,12 @@ module _ (extent : Extent) (o : Open) (inside : SoundInside extent o) where
     for_sound : {b : Bool} {ts : List Terminal} {g : Comprehension} (gs : List Comprehension) → G.ForIn b ts g → Said extent o ts
         → SoundClauses extent here (comprehensions gs) → SoundClauses extent here (comprehensions (g ∷ gs))
     for_sound gs (G.target_in {ts = ts} {us = us} {vs = vs} {t = t} {s = s} p q r c) h more =
-        let others = behind ts (us ++ vs) (Word Key.In) (expression_closes p) h in
-        (stored_sound true t s q (sound p (front ts (Word Key.In ∷ (us ++ vs)) h)), sound r (front us vs others),
-            ifs_sound c (back us vs (expression_closes r) others), more)
+        let others = behind ts (us ++ vs) (Word Key.In) (expression_closes p) h in (
+          stored_sound true t s q (sound p (front ts (Word Key.In ∷ (us ++ vs)) h)),
+          sound r (front us vs others),
+          ifs_sound c (back us vs (expression_closes r) others),
+          more,
+        )
 
     ifs_sound : {ts : List Terminal} {es : List Expr} → G.Ifs ts es → Said extent o ts → AllSound es
     ifs_sound G.no_if h = tt

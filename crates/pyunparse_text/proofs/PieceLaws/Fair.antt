@@ -86,8 +86,12 @@ fair_sign {place} x =
     let name = exact_of_text x in
     let is : is_operator (exact_text x) ≡ true = ap (λ (o : Option Exact). is_some o) name in
     let g : Gives kinds.Op (exact_text x) (Op x) =
-    record { single = refl; terminal = ap as_terminal name; sound =
-        record { of_kind = is; faultless = sign_faultless Whole (exact_text x) } } in
+    record {
+      single = refl;
+      terminal = ap as_terminal name;
+      sound =
+          record { of_kind = is; faultless = sign_faultless Whole (exact_text x) };
+    } in
     record {
       token = is;
       scalars = exact_scalars x;
@@ -182,7 +186,7 @@ small_faultless t n e h = by (is_complex t) (is_real t) e
   where
     by : (a b : Bool)
         → (if a then Values.Imaginary (float_value t) else (if b then Values.Float (float_value t) else Values.Int (whole_value t))) ≡
-            Values.Int n
+        Values.Int n
         → (if a then Some errors.Complex else (if b then Some errors.Float else too_large (2 ^ 128) t)) ≡ None
     by true b e = absurd (cc)
     by false true e = absurd (cc)
@@ -202,8 +206,13 @@ fair_number : {place : Place} (v : Values.Value) → IsNumeral (number_text v) �
 fair_number {place} v i g f =
     let first = i.first in
     let number = i.number in
-    record { token = rw (first, number) refl; scalars = i.scalars; gives = one_terminal place kinds.Number (number_text v) (Number v) g
-        (λ s. refl) f; stands = number_stands place.depth (number_text v) }
+    record {
+      token = rw (first, number) refl;
+      scalars = i.scalars;
+      gives = one_terminal place kinds.Number (number_text v) (Number v) g
+          (λ s. refl) f;
+      stands = number_stands place.depth (number_text v);
+    }
 
 fair_whole : (place : Place) (n : ℕ) → HasWhole place.extent n → Fair place (Number (Values.Int n))
 fair_whole place n h =

@@ -134,7 +134,7 @@ first_formatted place n (an_expr e es) s h = empty_text place.extent place.depth
 pub joined_form : {place : Place} {es : List (Element Sited)} {fs : List (Element Terminal)} (b : Bool) (t : List ℕ)
     → HasStrings place.extent place.depth → HasFormatted place.depth 0 t
     → Behind (Promised place.depth) place.depth 0 es fs → Closed place starts_plain ends_plain (joined piece b t es)
-        (joined terminal b t fs)
+    (joined terminal b t fs)
 joined_form {es = es} {fs = fs} false t s h x = string (Text false t ∷ es) (Text false t ∷ fs) s (text h x)
 joined_form {place} {es} {fs} true t s h x =
     plain_both (constant (Values.Str t true) (text_constant place.extent place.depth t true h))
@@ -144,7 +144,7 @@ pub shut_joined : {d : Depth} (b : Bool) (t : List ℕ) (es : List (Element Site
 shut_joined false t es = shut_one (sited_string (Text false t ∷ es)) refl refl refl
 shut_joined true t es =
     shut_both (shut_one (free piece (Literal (Values.Str t true))) refl refl refl)
-        (shut_one (sited_string (Text false [] ∷ es)) refl refl refl)
+    (shut_one (sited_string (Text false [] ∷ es)) refl refl refl)
 
 -- ---- What else stands in a field.
 

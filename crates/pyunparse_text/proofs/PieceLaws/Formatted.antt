@@ -107,20 +107,20 @@ module _ {d : Depth} where
         let tail = flat_map element_terminals ((us ++ (End ∷ [])) ++ fs) in
         let inside : most_open (suc k) ((ts ++ (Op RPar ∷ [])) ++ tail) ≤ 599 =
         low_next k (Op LPar) ((ts ++ (Op RPar ∷ [])) ++ tail)
-            (low_next k (FieldBegin c) (Op LPar ∷ ((ts ++ (Op RPar ∷ [])) ++ tail)) low) in
+        (low_next k (FieldBegin c) (Op LPar ∷ ((ts ++ (Op RPar ∷ [])) ++ tail)) low) in
         let own : Few ts =
         few_at (suc k) ts ((Op RPar ∷ []) ++ tail) (subst (λ x. most_open (suc k) x ≤ 599) (append_assoc ts (Op RPar ∷ []) tail) inside) in
         let brackets : Flat (Op LPar ∷ (ts ++ (Op RPar ∷ []))) = flat_within LPar RPar refl refl refl f.flat in
         let later : most_open k tail ≤ 599 =
         low_rest k (Op LPar ∷ (ts ++ (Op RPar ∷ []))) tail brackets
-            (low_next k (FieldBegin c) ((Op LPar ∷ (ts ++ (Op RPar ∷ []))) ++ tail) low) in
+        (low_next k (FieldBegin c) ((Op LPar ∷ (ts ++ (Op RPar ∷ []))) ++ tail) low) in
         let parts : most_open k ((flat_map element_terminals us ++ (FieldEnd ∷ [])) ++ flat_map element_terminals fs) ≤ 599 =
         subst (λ x. most_open k x ≤ 599) (flat_map-append element_terminals (us ++ (End ∷ [])) fs
-            ∙ ap (λ x. x ++ flat_map element_terminals fs)
+        ∙ ap (λ x. x ++ flat_map element_terminals fs)
         (flat_map-append element_terminals us (End ∷ []))) later in
         let spec : most_open k (flat_map element_terminals us ++ ((FieldEnd ∷ []) ++ flat_map element_terminals fs)) ≤ 599 =
         subst (λ x. most_open k x ≤ 599) (append_assoc (flat_map element_terminals us) (FieldEnd ∷ []) (flat_map element_terminals fs))
-            parts in
+        parts in
         let rest : most_open k (flat_map element_terminals fs) ≤ 599 =
         low_next k FieldEnd (flat_map element_terminals fs)
         (low_rest k (flat_map element_terminals us) (FieldEnd ∷ flat_map element_terminals fs) (spec_flat s) spec) in

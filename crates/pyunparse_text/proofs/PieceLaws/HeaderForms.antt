@@ -142,7 +142,7 @@ module _ {extent : Extent} where
 
   def_form : (x : Identifier) {ys zs : List Sited} {us vs : List Terminal} → IsProper x
       → Perhaps (open_place extent) (tight piece LSqb ∷ []) ends_plain ys us
-          → Closed (open_place extent) (tight piece LPar ∷ []) ends_plain zs vs
+      → Closed (open_place extent) (tight piece LPar ∷ []) ends_plain zs vs
       → Plain (open_place extent) (word piece Key.Def ∷ (free piece (in_form x) ∷ (ys ++ zs)))
       (word terminal Key.Def ∷ (free terminal (in_form x) ∷ (us ++ vs)))
   unfolding operators
@@ -157,7 +157,7 @@ module _ {extent : Extent} where
 
   class_form : (x : Identifier) {ys zs : List Sited} {us vs : List Terminal} → IsProper x
       → Perhaps (open_place extent) (tight piece LSqb ∷ []) ends_plain ys us
-          → Perhaps (open_place extent) (tight piece LPar ∷ []) ends_plain zs vs
+      → Perhaps (open_place extent) (tight piece LPar ∷ []) ends_plain zs vs
       → Plain (open_place extent) (word piece Key.Class ∷ (free piece (in_form x) ∷ (ys ++ zs)))
       (word terminal Key.Class ∷ (free terminal (in_form x) ∷ (us ++ vs)))
   unfolding operators
@@ -172,7 +172,7 @@ module _ {extent : Extent} where
   star_handler x =
       join (keyword Key.Except)
       (tail (sign (leading piece Star ∷ []) ends_handler Star false true refl refl refl)
-          (perhaps_widen {c = starts_plain} (λ p e. e) more_star x) refl) refl
+      (perhaps_widen {c = starts_plain} (λ p e. e) more_star x) refl) refl
 
   handler_is : (b : Bool) (e : Option Expr) (x : Option Identifier) → SoundOption (open_place extent) false e → MaybeProper x
       → Closed (open_place extent) starts_plain ends_handler (S.header_tokens piece (except_header b e x))
@@ -225,7 +225,7 @@ module _ {extent : Extent} where
   header_read finally_header h = plain_read (keyword Key.Finally)
   header_read (def_header (function_head b x ps a r)) h =
       plain_read (async_before b
-          (def_form x h.0 (types_are ps h.1) (call_tail (parameters_listed (parameters_are a h.2)) (option_result r h.3))))
+      (def_form x h.0 (types_are ps h.1) (call_tail (parameters_listed (parameters_are a h.2)) (option_result r h.3))))
   header_read (def_header (class_head x ps es ks)) h = plain_read (class_form x h.0 (types_are ps h.1) (bases_are es ks h.2 h.3))
   header_read (match_header e) h = comma_read (name_value match_name match_is_proper (readable false Subject e h))
   header_read (case_header p g) h =

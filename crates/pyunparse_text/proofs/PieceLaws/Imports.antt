@@ -206,8 +206,14 @@ module _ {extent : Extent} where
   later {ps = ps} x = record {
     parts = λ low.
         let g = x.segment low in
-        record { pieces = g.form.pieces; scalars = g.form.scalars; apart = neat_told (outside ps) g.form.neat; begins =
-            g.form.begins; gives = g.gives };
+        record {
+          pieces = g.form.pieces;
+          scalars = g.form.scalars;
+          apart = neat_told (outside ps) g.form.neat;
+          begins =
+              g.form.begins;
+          gives = g.gives;
+        };
     balanced = x.balanced;
   }
 
@@ -412,8 +418,8 @@ module _ {extent : Extent} where
   pub from_points : (n : ℕ) (m : Option Identifier) (names : List Alias) → SoundModule m → SoundUnless (S.are_all names) names
       → Later extent starts_plain
       (word piece Key.From ∷
-          (S.point_signs piece false (S.points (suc n)) ++
-          (S.module_name piece true m ++ (word piece Key.Import ∷ S.imported piece names))))
+      (S.point_signs piece false (S.points (suc n)) ++
+      (S.module_name piece true m ++ (word piece Key.Import ∷ S.imported piece names))))
       (word terminal Key.From ∷ (S.point_signs terminal false (S.points (suc n)) ++
-          (S.module_name terminal true m ++ (word terminal Key.Import ∷ S.imported terminal names))))
+      (S.module_name terminal true m ++ (word terminal Key.Import ∷ S.imported terminal names))))
   from_points n m names h i = join_later (keyword Key.From) (points_before false (suc n) (module_are m names h i)) level_suit

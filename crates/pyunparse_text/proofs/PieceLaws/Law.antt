@@ -37,7 +37,7 @@ module _ {extent : Extent} where
         line = λ n.
             let f = g.form in
             let r : are_readable (outside ps) ≡ true =
-                neat_readable (outside ps) f.neat (there (within a) (outside ps) f.begins) f.pieces in
+            neat_readable (outside ps) f.neat (there (within a) (outside ps) f.begins) f.pieces in
             let c : closes_all 0 (outside ps) ≡ true = balanced_closes (outside ps) x.balanced in
             let s = f.scalars in
             rw (r, c, s) refl;

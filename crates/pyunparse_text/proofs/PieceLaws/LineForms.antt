@@ -102,7 +102,7 @@ module _ {place : Place} where
       let e : bytes_eq (sited (Op s) false false false).text (sited (Op s) false false false).text ≡ true =
       (bytes_eq-Decides (sited (Op s) false false false).text (sited (Op s) false false false).text).1 refl in
       token (free piece (Op s) ∷ []) (free piece (Op s) ∷ []) (Op s) false false (fair_sign s)
-          (opens_none s false false (is_inside place.depth) b)
+      (opens_none s false false (is_inside place.depth) b)
       (closes_none s false false (is_inside place.depth) b) (rw e refl) (rw e refl)
 
   pub loose_between : (s : Exact) → is_bracket s ≡ false → {xs ys : List Sited} {ts us : List Terminal}
@@ -125,7 +125,7 @@ module _ {place : Place} where
 
   pub option_word : (k : Keyword) (e : Option Expr) → SoundOption place false e
       → Perhaps place starts_plain ends_plain (S.behind piece (word piece k) Expression e)
-          (S.behind terminal (word terminal k) Expression e)
+      (S.behind terminal (word terminal k) Expression e)
   option_word k None h = nothing
   option_word k (Some e) h = some (plain_both (keyword k) (readable false Expression e h))
 
@@ -160,7 +160,7 @@ module _ {place : Place} where
   -- a guard
   pub option_test : (e : Option Expr) → SoundOption place false e
       → Perhaps place starts_plain ends_plain (S.behind piece (word piece Key.If) Named e)
-          (S.behind terminal (word terminal Key.If) Named e)
+      (S.behind terminal (word terminal Key.If) Named e)
   option_test None h = nothing
   option_test (Some e) h = some (plain_both (keyword Key.If) (readable false Named e h))
 
@@ -214,7 +214,7 @@ module _ {place : Place} where
       → Closed place starts_plain ends_comma
       (S.annotated piece t b ++ (trailing piece Colon ∷ (written piece Expression a ++ S.behind piece (free piece (Op Equal)) Value e)))
       (S.annotated terminal t b ++
-          (trailing terminal Colon ∷ (written terminal Expression a ++ S.behind terminal (free terminal (Op Equal)) Value e)))
+      (trailing terminal Colon ∷ (written terminal Expression a ++ S.behind terminal (free terminal (Op Equal)) Value e)))
   annotate_are t a e b h i j = annotation_form (annotated_are t b h) (readable false Expression a i) (option_value e j)
 
   assert_form : {xs ys : List Sited} {ts us : List Terminal} → Plain place xs ts
@@ -267,7 +267,7 @@ module _ {place : Place} where
   pub type_alias_are : (t : Expr) (ps : List TypeParam) (e : Expr) → Writable place false t → SoundTypes place ps → Writable place false e
       → Plain place
       (free piece (in_form type_name) ∷
-          (written piece Primary t ++ (S.type_params piece ps ++ (free piece (Op Equal) ∷ written piece Expression e))))
+      (written piece Primary t ++ (S.type_params piece ps ++ (free piece (Op Equal) ∷ written piece Expression e))))
       (free terminal (in_form type_name) ∷
-          (written terminal Primary t ++ (S.type_params terminal ps ++ (free terminal (Op Equal) ∷ written terminal Expression e))))
+      (written terminal Primary t ++ (S.type_params terminal ps ++ (free terminal (Op Equal) ∷ written terminal Expression e))))
   type_alias_are t ps e h i j = alias_form (readable false Primary t h) (types_are ps i) (readable false Expression e j)

@@ -156,16 +156,20 @@ module _ (extent : Extent) where
         → AreWritable (open_place extent) true fs
     all_deleted_sound no_exprs fs q h = given (AreWritable (open_place extent) true) q h
     all_deleted_sound (an_expr e es) fs q h = let w = both_is (deleted e) (all_deleted es) fs q in
-        subst (AreWritable (open_place extent) true) w.4 (starred extent false w.0 (deleted_sound true e w.0 w.2 h.0),
-        all_deleted_sound es w.1 w.3 h.1)
+        subst (AreWritable (open_place extent) true) w.4 (
+          starred extent false w.0 (deleted_sound true e w.0 w.2 h.0),
+          all_deleted_sound es w.1 w.3 h.1,
+        )
 
   del_said : (ts : List Terminal) (s : Expr) → G.DelTarget ts s → Said extent [] ts → Writable (open_place extent) false s
   del_said _ _ (G.del_target {e = e} {s = s} p q) h = deleted_sound false e s q (sound extent p h)
 
   item_target_said : {ts : List Terminal} {s : Expr} → G.ItemTarget ts s → Said extent [] ts → Writable (open_place extent) true s
   item_target_said (G.item_target {e = e} {s = s} p q) h = stored_sound extent true e s q (starred extent false e (sound extent p h))
-  item_target_said (G.star_target {e = e} {s = s} p q) h = stored_sound extent true (Trees.Starred e Load) s q (refl,
-      sound extent p (rest h))
+  item_target_said (G.star_target {e = e} {s = s} p q) h = stored_sound extent true (Trees.Starred e Load) s q (
+    refl,
+    sound extent p (rest h),
+  )
 
   name_said : (ts : List Terminal) (x : Identifier) → F.Name ts x → Said extent [] ts → IsProper x
   name_said _ _ F.name h = first h
@@ -217,7 +221,7 @@ module _ (extent : Extent) where
   imported_said (F.bracketed_names {ts = ts} {as_ = as_} c) h =
       unless (S.are_all as_) as_
       (last_said Alias F.NameAlias SoundName SoundNames tt (λ a as_ p q. (p.0, p.1, q)) name_alias_said name_alias_close c
-          (front ts (Op Sign.RPar ∷ []) (rest h)))
+      (front ts (Op Sign.RPar ∷ []) (rest h)))
 
   from_read : (n : ℕ) (m : Identifier) (as_ : List Alias) → AreProper (names_in m) → SoundUnless (S.are_all as_) as_
       → Reads extent (S.simple_tokens piece (Trees.ImportFrom (Some m) as_ n)) (S.simple_tokens terminal (Trees.ImportFrom (Some m) as_ n))
@@ -244,7 +248,7 @@ module _ (extent : Extent) where
       closed_read (assign_are targets e (targets_said c (front ts us h)) (sound extent p (back ts us (targets_close c) h)))
   simple_read (F.augmented_assign {ts = ts} {us = us} x {o = o} {t = t} {e = e} p q r) h =
       closed_read (augment_are t o e (single_said p (front ts (Op x ∷ us) h))
-          (sound extent r (behind ts us (Op x) (single_target_closes p) h)))
+      (sound extent r (behind ts us (Op x) (single_target_closes p) h)))
   simple_read (F.annotated_name {x = x} {ts = ts} {us = us} {a = a} {v = v} p q) h =
       let w = rest (rest h) in
       closed_read
@@ -254,7 +258,7 @@ module _ (extent : Extent) where
       let w = rest (behind ts (Op Sign.Colon ∷ (us ++ vs)) (Op Sign.RPar) (single_target_closes p) (rest h)) in
       closed_read
       (annotate_are t a v false (single_said p (front ts (Op Sign.RPar ∷ (Op Sign.Colon ∷ (us ++ vs))) (rest h)))
-          (sound extent q (front us vs w))
+      (sound extent q (front us vs w))
       (behind_said (λ o. refl) r (back us vs (expression_closes q) w)))
   simple_read (F.annotated_part {ts = ts} {us = us} {vs = vs} {t = t} {a = a} {v = v} p n q r) h =
       let w = behind ts (us ++ vs) (Op Sign.Colon) (single_target_closes p) h in
@@ -273,7 +277,7 @@ module _ (extent : Extent) where
       (raise_are (Some e) c (sound extent p (front ts us (rest h))) (behind_said (λ o. refl) q (back ts us (expression_closes p) (rest h))))
   simple_read (F.assert_of {ts = ts} {us = us} {e = e} {m = m} p q) h =
       closed_read (assert_are e m (sound extent p (front ts us (rest h)))
-          (behind_said (λ o. refl) q (back ts us (expression_closes p) (rest h))))
+      (behind_said (λ o. refl) q (back ts us (expression_closes p) (rest h))))
   simple_read (F.delete {es = es} c) h =
       closed_read (word_plain Key.Del (plain_listed (each_expression (exprs es) (deleted_said c (rest h)))))
   simple_read (F.global {xs = xs} c) h = closed_read (word_plain Key.Global (plain_listed (names_each xs (names_said c (rest h)))))
@@ -285,7 +289,7 @@ module _ (extent : Extent) where
   simple_read (F.from_module {ts = ts} {us = us} {vs = vs} {n = n} {m = m} {as_ = as_} p q c) h =
       let w = back ts (us ++ (Word Key.Import ∷ vs)) (dots_close p) (rest h) in
       from_read n m as_ (dotted_said q (front us (Word Key.Import ∷ vs) w))
-          (imported_said c (behind us vs (Word Key.Import) (dotted_close q) w))
+      (imported_said c (behind us vs (Word Key.Import) (dotted_close q) w))
   simple_read (F.from_dots {ts = ts} {vs = vs} {n = n} {as_ = as_} p z c) h =
       points_read n as_ z (imported_said c (behind ts vs (Word Key.Import) (dots_close p) (rest h)))
 
@@ -314,9 +318,10 @@ module _ (extent : Extent) where
       → AreWritable (open_place extent) true (exprs es) × WritableKeywords (open_place extent) ks
   bases_said F.no_bases h = (tt, tt)
   bases_said (F.bases {ts = ts} {es = es} c q) h =
-      let f = listing_fine extent c (front ts (Op Sign.RPar ∷ []) (rest h)) in
-      (subst (AreWritable (open_place extent) true) (sym (exprs_listed (positional es))) (positional_sound extent es f),
-          keywords_sound extent es f)
+      let f = listing_fine extent c (front ts (Op Sign.RPar ∷ []) (rest h)) in (
+        subst (AreWritable (open_place extent) true) (sym (exprs_listed (positional es))) (positional_sound extent es f),
+        keywords_sound extent es f,
+      )
 
   other_said : {profile : Profile} {ts : List Terminal} {h : Header} → F.HeaderOf profile ts h → Said extent [] ts → SoundHeader extent h
   other_said (F.if_line p) h = sound extent p (rest h)

@@ -74,7 +74,7 @@ module _ {place : Place} where
 
   pub each_widen : {a b c d : List Sited} {xss : List (List Sited)} {tss : List (List Terminal)}
       → ((p : Piece) → within a p ≡ true → within c p ≡ true) → ((p : Piece) → within b p ≡ true → within d p ≡ true)
-          → Each place a b xss tss
+      → Each place a b xss tss
       → Each place c d xss tss
   each_widen f g none = none
   each_widen f g (more x xs) = more (widen f g x) (each_widen f g xs)
@@ -117,12 +117,12 @@ module _ {place : Place} where
 
   pub with_comma_items : {xs : List Sited} {ts : List Terminal} {xss : List (List Sited)} {tss : List (List Terminal)} → Item place xs ts
       → Each place starts_item ends_plain xss tss → Closed place starts_item ends_comma (with_comma piece (xs ∷ xss))
-          (with_comma terminal (ts ∷ tss))
+      (with_comma terminal (ts ∷ tss))
   unfolding operators
   with_comma_items x xs =
       join x
       (tail comma_items (separated_are (trailing piece Comma) (trailing terminal Comma) comma refl refl
-          (each_widen {c = starts_item} (λ p e. e) more_comma xs)) refl) refl
+      (each_widen {c = starts_item} (λ p e. e) more_comma xs)) refl) refl
 
   with_comma_parts : {xs : List Sited} {ts : List Terminal} {xss : List (List Sited)} {tss : List (List Terminal)}
       → Closed place starts_part ends_part xs ts → Each place starts_part ends_part xss tss
@@ -246,7 +246,7 @@ module _ {place : Place} where
 
   pub with_defaults_are : {xss yss : List (List Sited)} {tss uss : List (List Terminal)} → Each place (a_word ∷ []) ends_plain xss tss
       → Each place (tight piece Equal ∷ []) ends_plain yss uss
-          → Each place (a_word ∷ []) ends_plain (with_defaults xss yss) (with_defaults tss uss)
+      → Each place (a_word ∷ []) ends_plain (with_defaults xss yss) (with_defaults tss uss)
   with_defaults_are {xss} {yss} {tss} {uss} x y = let e = length_same x in let f = length_same y in
       rw (e, f) (beside_are x (before_maybes (length tss - length uss) (maybes y)))
 
@@ -314,7 +314,7 @@ module _ {place : Place} where
   unfolding operators
   star_parameter x =
       widen {c = starts_parameter} (λ p e. e) more_last
-          (join (sign starts_parameter (leading piece Star ∷ []) Star false true refl refl refl) x refl)
+      (join (sign starts_parameter (leading piece Star ∷ []) Star false true refl refl refl) x refl)
 
   pub stars_parameter : {xs : List Sited} {ts : List Terminal} → Closed place (a_word ∷ []) ends_plain xs ts
       → Closed place starts_parameter ends_parameter (leading piece DoubleStar ∷ xs) (leading terminal DoubleStar ∷ ts)

@@ -150,7 +150,7 @@ pub flat_within : {ts : List Terminal} (o s : Exact) → is_opener o ≡ true �
 flat_within {ts} o s i j k f = record {
   is = λ d.
       depth_both (open_after d (Op o)) ts (Op s ∷ []) ∙ (ap (λ n. open_after n (Op s)) (f.is (open_after d (Op o)))
-          ∙ rw (i, j, k) (one_less d));
+      ∙ rw (i, j, k) (one_less d));
 }
   where
     one_less : (d : ℕ) → suc d - 1 ≡ d

@@ -89,7 +89,7 @@ mutual
       fitted s l Primary
       (call_behind (readable false Primary f h.0)
       (called (inside_call (lone_generator es ks) (alone_is es ks h.1)
-          (items_listed (each_both (each_are Named es h.1) (by_name_are ks h.2))))))
+      (items_listed (each_both (each_are Named es h.1) (by_name_are ks h.2))))))
   readable s l (Trees.Subscript e i c) h =
       fitted s l Primary (subscript_behind (readable false Primary e h.0) (indexed (some (readable false Slices i h.1))))
   readable s l (Trees.Name x c) h = plainly s l (plain_name x h)
@@ -106,7 +106,7 @@ mutual
   readable s l (Trees.DictComp k e gs) h =
       plainly s l
       (braces (inside_plain
-          (paired_form (readable false Expression k h.0) (plain_tail (readable false Expression e h.1) (clauses_are gs h.2)))))
+      (paired_form (readable false Expression k h.0) (plain_tail (readable false Expression e h.1) (clauses_are gs h.2)))))
   readable s l (Trees.Set es) h = plainly s l (braces (items_listed (each_are Elem es h)))
   readable s l (Trees.SetComp e gs) h = plainly s l (braces (inside_plain (plain_tail (readable false Named e h.0) (clauses_are gs h.1))))
   readable s l (Trees.Slice a b c) h = fitted_slice s l (slice_form (perhaps_any a h.0) (perhaps_any b h.1) (perhaps_step c h.2))
@@ -162,7 +162,7 @@ mutual
   clauses_are no_comprehension h = nothing
   clauses_are (a_comprehension t e cs b gs) h =
       some (plain_tail (for_form b (target_form (readable true Stars t h.0) (readable false Or e h.1) (conditions_are cs h.2)))
-          (clauses_are gs h.3))
+      (clauses_are gs h.3))
 
   conditions_are : {place : Place} → (es : Exprs) → AreWritable place false es
       → Perhaps place starts_plain ends_plain (conditions piece es) (conditions terminal es)
@@ -201,7 +201,7 @@ mutual
 
   annotation : {place : Place} → (a : OptionalExpr) → WritableOptional place true a
       → Perhaps place (trailing piece Colon ∷ []) ends_plain (suffixed piece (trailing piece Colon) a)
-          (suffixed terminal (trailing terminal Colon) a)
+      (suffixed terminal (trailing terminal Colon) a)
   annotation absent h = nothing
   annotation (present e) h = some (annotation_form (readable true Expression e h))
 
@@ -250,7 +250,7 @@ mutual
       shut_outer l Named o refl (held (named_form (readable {place = place} false Primary t h.0) (readable false Expression e h.1)))
   shut place l o (Trees.Lambda a e) h =
       shut_outer l Expression o refl
-          (held (lambda_form (parameters_listed (parameters_are {place = place} a h.0)) (readable false Expression e h.1)))
+      (held (lambda_form (parameters_listed (parameters_are {place = place} a h.0)) (readable false Expression e h.1)))
   shut place l o (Trees.IfExp a b c) h =
       shut_outer l Expression o refl
       (held (if_form (readable {place = place} false Or b h.1) (readable false Or a h.0) (readable false Expression c h.2)))
@@ -269,12 +269,12 @@ mutual
   shut place l o (Trees.Await e) h = shut_fit l Await (shut_both (shut_word Key.Await) (shut place Primary refl e h))
   shut place l o (Trees.Attribute e x c) h =
       shut_fit l Primary (shut_both (shut place Primary refl e h.0)
-          (shut_both shut_point (shut_one (free piece (in_form x)) refl refl refl)))
+      (shut_both shut_point (shut_one (free piece (in_form x)) refl refl refl)))
   shut place l o (Trees.Call f es ks) h =
       shut_fit l Primary
       (shut_both (shut place Primary refl f h.0)
-          (shut_called (held_perhaps (inside_call {place = place} (lone_generator es ks) (alone_is es ks h.1)
-          (items_listed (each_both (each_are Named es h.1) (by_name_are ks h.2)))))))
+      (shut_called (held_perhaps (inside_call {place = place} (lone_generator es ks) (alone_is es ks h.1)
+      (items_listed (each_both (each_are Named es h.1) (by_name_are ks h.2)))))))
   shut place l o (Trees.Subscript e i c) h =
       shut_fit l Primary (shut_both (shut place Primary refl e h.0) (shut_indexed (held (readable {place = place} false Slices i h.1))))
   shut place l o (Trees.Name x c) h = shut_one (free piece (in_form x)) refl refl refl
@@ -294,7 +294,7 @@ mutual
   shut place l o (Trees.DictComp k e gs) h =
       shut_braces
       (held (paired_form (readable {place = place} false Expression k h.0)
-          (plain_tail (readable false Expression e h.1) (clauses_are gs h.2))))
+      (plain_tail (readable false Expression e h.1) (clauses_are gs h.2))))
   shut place l o (Trees.Set es) h = shut_braces (held_perhaps (items_listed (each_are {place = place} Elem es h)))
   shut place l o (Trees.SetComp e gs) h = shut_braces (held (plain_tail (readable {place = place} false Named e h.0) (clauses_are gs h.1)))
   shut place l o (Trees.Slice a b c) h =

@@ -105,8 +105,12 @@ module _ {place : Place} where
   widen {a} {b} {c} {d} {xs} f g x = record {
     segment = λ low.
         let y = x.segment low in
-        record { form = Form.weaker (within a) (within c) (within b) (within d) f g (at place.depth xs) y.form; gives =
-            y.gives; stand = y.stand };
+        record {
+          form = Form.weaker (within a) (within c) (within b) (within d) f g (at place.depth xs) y.form;
+          gives =
+              y.gives;
+          stand = y.stand;
+        };
     balanced = x.balanced;
     kept = x.kept;
     flat = x.flat;
@@ -115,8 +119,14 @@ module _ {place : Place} where
   pub one : (a e : List Sited) (t : Terminal) (b h : Bool) → Fair place t → is_like a (here place.depth t b h) ≡ true
       → is_like e (here place.depth t b h) ≡ true → Segment place a e (sited t b h ∷ []) (t ∷ [])
   one a e t b h f l r = record {
-    form = record { pieces = (let w = f.token in rw w refl); scalars = (let w = f.scalars in rw w refl); neat = refl; begins =
-        (let w = f.token in rw (w, l) refl); ends = (let w = f.token in rw (w, r) refl) };
+    form = record {
+      pieces = (let w = f.token in rw w refl);
+      scalars = (let w = f.scalars in rw w refl);
+      neat = refl;
+      begins =
+          (let w = f.token in rw (w, l) refl);
+      ends = (let w = f.token in rw (w, r) refl);
+    };
     gives = given f.gives (stands_one t b h (is_inside place.depth)) none_given;
     stand = (let w = f.stands in rw w refl);
   }
@@ -134,7 +144,7 @@ module _ {place : Place} where
   -- an f-string
   pub string : (es : List (Element Sited)) (fs : List (Element Terminal)) → HasStrings place.extent place.depth
       → Elements (Promised place.depth) place.depth 0 es fs → Closed place starts_plain ends_plain (sited_string es ∷ [])
-          (formatted_terminals fs)
+      (formatted_terminals fs)
   string es fs s x = by place.extent s
     where
       by : (extent : Extent) → HasStrings extent place.depth
@@ -144,8 +154,14 @@ module _ {place : Place} where
           let p : Piece = sited_string es (is_inside place.depth) in
           record {
             segment = λ low. let f = strings_read place.depth s es fs (string_kept x low) in record {
-              form = record { pieces = (let w = f.token in rw w refl); scalars = (let w = f.scalars in rw w refl); neat = refl; begins =
-                  (let w = f.token in rw w refl); ends = (let w = f.token in rw w refl) };
+              form = record {
+                pieces = (let w = f.token in rw w refl);
+                scalars = (let w = f.scalars in rw w refl);
+                neat = refl;
+                begins =
+                    (let w = f.token in rw w refl);
+                ends = (let w = f.token in rw w refl);
+              };
               gives = subst (GiveAt (whole place.depth) (p ∷ [])) (append-nil (formatted_terminals fs))
                   (given f.gives (stands_flat p refl refl (string_flat x)) none_given);
               stand = (let w = f.stands in rw w refl);
@@ -178,18 +194,18 @@ module _ {place : Place} where
   pub between : {a b c d e f : List Sited} {xs ys zs : List Sited} {ts us vs : List Terminal} → Closed place a b xs ts
       → Perhaps place c d ys us
       → Closed place e f zs vs → suit b c ≡ true → suit d e ≡ true → suit b e ≡ true
-          → Closed place a f (xs ++ (ys ++ zs)) (ts ++ (us ++ vs))
+      → Closed place a f (xs ++ (ys ++ zs)) (ts ++ (us ++ vs))
   between x nothing z p q r = join x z r
   between x (some y) z p q r = join x (join y z q) p
 
   -- brackets round it
   pub within_brackets : {a b c d e f : List Sited} {xs : List Sited} {ts : List Terminal} (o s : Exact) (h : Bool) → is_opener o ≡ true
       → is_opener s ≡ false → is_closer s ≡ true → opens (here place.depth (Op o) h true) ≡ true
-          → opens (here place.depth (Op s) true false) ≡ false
+      → opens (here place.depth (Op s) true false) ≡ false
       → closes (here place.depth (Op s) true false) ≡ true
       → is_pair (exact_text o) (exact_text s) ≡ true → Segment place a b (sited (Op o) h true ∷ []) (Op o ∷ []) → Perhaps place c d xs ts
-          → Segment place e f (sited (Op s) true false ∷ []) (Op s ∷ []) → suit b c ≡ true → suit d e ≡ true → suit b e ≡ true
-          → Closed place a f (enclosed piece (sited (Op o) h true) s xs) (enclosed terminal (Op o) s ts)
+      → Segment place e f (sited (Op s) true false ∷ []) (Op s ∷ []) → suit b c ≡ true → suit d e ≡ true → suit b e ≡ true
+      → Closed place a f (enclosed piece (sited (Op o) h true) s xs) (enclosed terminal (Op o) s ts)
   within_brackets o s h u v w i j k m x nothing z p q r = record {
     segment = λ low. chain x z r;
     balanced = balanced_within (here place.depth (Op o) h true) (here place.depth (Op s) true false) [] i j k balanced_none;
@@ -213,7 +229,7 @@ module _ {place : Place} where
   -- touch what stands before them
   pub group : {xs : List Sited} {ts : List Terminal} → Perhaps place starts_part ends_part xs ts
       → Closed place starts_plain ends_plain (enclosed piece (leading piece LPar) RPar xs)
-          (enclosed terminal (leading terminal LPar) RPar ts)
+      (enclosed terminal (leading terminal LPar) RPar ts)
   unfolding exact_of operators
   group x =
       within_brackets LPar RPar false refl refl refl refl refl refl refl
@@ -222,7 +238,7 @@ module _ {place : Place} where
 
   pub square : {xs : List Sited} {ts : List Terminal} → Perhaps place starts_part ends_part xs ts
       → Closed place starts_plain ends_plain (enclosed piece (leading piece LSqb) RSqb xs)
-          (enclosed terminal (leading terminal LSqb) RSqb ts)
+      (enclosed terminal (leading terminal LSqb) RSqb ts)
   unfolding exact_of operators
   square x =
       within_brackets LSqb RSqb false refl refl refl refl refl refl refl
@@ -231,7 +247,7 @@ module _ {place : Place} where
 
   pub braces : {xs : List Sited} {ts : List Terminal} → Perhaps place starts_part ends_part xs ts
       → Closed place starts_plain ends_plain (enclosed piece (leading piece LBrace) RBrace xs)
-          (enclosed terminal (leading terminal LBrace) RBrace ts)
+      (enclosed terminal (leading terminal LBrace) RBrace ts)
   unfolding exact_of operators
   braces x =
       within_brackets LBrace RBrace false refl refl refl refl refl refl refl
@@ -240,7 +256,7 @@ module _ {place : Place} where
 
   pub called : {xs : List Sited} {ts : List Terminal} → Perhaps place starts_part ends_part xs ts
       → Closed place (tight piece LPar ∷ []) ends_plain (enclosed piece (tight piece LPar) RPar xs)
-          (enclosed terminal (tight terminal LPar) RPar ts)
+      (enclosed terminal (tight terminal LPar) RPar ts)
   unfolding exact_of operators
   called x =
       within_brackets LPar RPar true refl refl refl refl refl refl refl
@@ -249,7 +265,7 @@ module _ {place : Place} where
 
   pub indexed : {xs : List Sited} {ts : List Terminal} → Perhaps place starts_part ends_part xs ts
       → Closed place (tight piece LSqb ∷ []) ends_plain (enclosed piece (tight piece LSqb) RSqb xs)
-          (enclosed terminal (tight terminal LSqb) RSqb ts)
+      (enclosed terminal (tight terminal LSqb) RSqb ts)
   unfolding exact_of operators
   indexed x =
       within_brackets LSqb RSqb true refl refl refl refl refl refl refl

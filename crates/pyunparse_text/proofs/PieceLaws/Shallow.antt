@@ -26,7 +26,7 @@ one_more : (most d : ℕ) (ts : List Terminal) (ps : List Piece) → ((n : ℕ) 
     → (o s : Bool)
     → most_open (by_text d o s) ts ≤ most
     → (if o then nat_lt d most && opens_within most (d + 1) ps else (if s then opens_within most (d - 1) ps else opens_within most d ps)) ≡
-        true
+    true
 one_more most d ts ps more true s k =
     let f = first_open (suc d) ts in
     let e : nat_lt d most ≡ true = lt-ltb d most (omega (arith, f, k)) in

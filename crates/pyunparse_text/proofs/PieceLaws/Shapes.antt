@@ -53,7 +53,7 @@ ends_parameter = free piece (Op Slash) ∷ leading piece Star ∷ ends_plain
 abbrev pub starts_behind : List Sited
 starts_behind =
     a_word ∷ free piece (Op EqEqual) ∷ free piece (Op NotEqual) ∷ free piece (Op Less) ∷ free piece (Op LessEqual) ∷ free piece (Op Greater)
-        ∷ free piece (Op GreaterEqual) ∷ []
+    ∷ free piece (Op GreaterEqual) ∷ []
 
 module _ {place : Place} where
   pub keyword : (k : Keyword) → Plain place (free piece (Word k) ∷ []) (free terminal (Word k) ∷ [])
@@ -136,7 +136,7 @@ module _ {place : Place} where
   unfolding operators
   named_form x y =
       join x (join (sign (free piece (Op ColonEqual) ∷ []) (free piece (Op ColonEqual) ∷ []) ColonEqual false false refl refl refl) y refl)
-          refl
+      refl
 
   -- a colon that keeps close to what stands before it
   pub colon : Closed place (trailing piece Colon ∷ []) (trailing piece Colon ∷ []) (trailing piece Colon ∷ [])
@@ -192,15 +192,15 @@ module _ {place : Place} where
       join x (join (sign (free piece (Op VBar) ∷ []) (free piece (Op VBar) ∷ []) VBar false false refl refl refl) y refl) refl
   binary_form Bin.BitXor x y =
       join x (join (sign (free piece (Op Circumflex) ∷ []) (free piece (Op Circumflex) ∷ []) Circumflex false false refl refl refl) y refl)
-          refl
+      refl
   binary_form Bin.BitAnd x y =
       join x (join (sign (free piece (Op Amper) ∷ []) (free piece (Op Amper) ∷ []) Amper false false refl refl refl) y refl) refl
   binary_form Bin.LShift x y =
       join x (join (sign (free piece (Op LeftShift) ∷ []) (free piece (Op LeftShift) ∷ []) LeftShift false false refl refl refl) y refl)
-          refl
+      refl
   binary_form Bin.RShift x y =
       join x (join (sign (free piece (Op RightShift) ∷ []) (free piece (Op RightShift) ∷ []) RightShift false false refl refl refl) y refl)
-          refl
+      refl
   binary_form Bin.Add x y =
       join x (join (sign (free piece (Op Plus) ∷ []) (free piece (Op Plus) ∷ []) Plus false false refl refl refl) y refl) refl
   binary_form Bin.Sub x y =
@@ -215,10 +215,10 @@ module _ {place : Place} where
       join x (join (sign (free piece (Op Percent) ∷ []) (free piece (Op Percent) ∷ []) Percent false false refl refl refl) y refl) refl
   binary_form Bin.FloorDiv x y =
       join x (join (sign (free piece (Op DoubleSlash) ∷ []) (free piece (Op DoubleSlash) ∷ []) DoubleSlash false false refl refl refl) y
-          refl) refl
+      refl) refl
   binary_form Bin.Pow x y =
       join x (join (sign (free piece (Op DoubleStar) ∷ []) (free piece (Op DoubleStar) ∷ []) DoubleStar false false refl refl refl) y refl)
-          refl
+      refl
 
   pub signs_form : (o : Comparison)
       → Closed place starts_behind starts_behind (map (free piece) (comparison_signs o)) (map (free terminal) (comparison_signs o))
@@ -262,7 +262,7 @@ module _ {place : Place} where
   -- primaries
   pub attribute_form : (x : Identifier) → IsProper x → {xs : List Sited} {ts : List Terminal} → Plain place xs ts
       → Plain place (xs ++ (tight piece Dot ∷ (free piece (in_form x) ∷ [])))
-          (ts ++ (tight terminal Dot ∷ (free terminal (in_form x) ∷ [])))
+      (ts ++ (tight terminal Dot ∷ (free terminal (in_form x) ∷ [])))
   unfolding operators
   attribute_form x i y =
       join y (join (sign (tight piece Dot ∷ []) (tight piece Dot ∷ []) Dot true true refl refl refl) (name x i) refl) refl

@@ -58,7 +58,7 @@ shut_one {d} p o c e = record { is = enclosed_one (p (is_inside d)) o c e }
 pub shut_within : {d : Depth} {xs : List Sited} (o s : Exact) (h : Bool) → opens (sited (Op o) h true (is_inside d)) ≡ true
     → opens (sited (Op s) true false (is_inside d)) ≡ false
     → closes (sited (Op s) true false (is_inside d)) ≡ true → is_pair (exact_text o) (exact_text s) ≡ true → Held d xs
-        → Shut d (enclosed piece (sited (Op o) h true) s xs)
+    → Shut d (enclosed piece (sited (Op o) h true) s xs)
 shut_within {d} {xs} o s h i j k m x = record {
   is =
       enclosed_at d (sited (Op o) h true) (sited (Op s) true false) xs Enclosed (kept_within (sited (Op o) h true (is_inside d))

@@ -109,7 +109,7 @@ sign_sayable extent {o} s t = by (exact_of t)
 scalar_point : (c : ℕ) → scalar c ≡ true → is_point c ≡ true
 scalar_point c h =
     ⊎_elim (λ (low : c < 55296). le-leb c 1114111 (omega arith)) (λ (high : (57344 ≤ c) × (c < 1114112)). le-leb c 1114111
-        (omega (arith, high.1)))
+    (omega (arith, high.1)))
     (scalar_cases c h)
 
 pub scalars_points : (t : List ℕ) → all_scalars t ≡ true → list_all is_point t ≡ true

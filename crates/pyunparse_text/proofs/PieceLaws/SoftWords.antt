@@ -18,7 +18,7 @@ use Rattle.pyunparse_text.specs.WrittenPatterns.{target_name}
 in_own_form : (x : Identifier) → list_all is_ascii x ≡ true → nfkc x ≡ x
 in_own_form x h =
     normalize-ascii Nfkc x
-        (λ i d within. ltb-true (get_or x i d) 128 (and_at (list_all is_ascii) is_ascii refl (λ c cs. refl) x i d within h))
+    (λ i d within. ltb-true (get_or x i d) 128 (and_at (list_all is_ascii) is_ascii refl (λ c cs. refl) x i d within h))
 
 proper : (x : Identifier) → is_name x ≡ true → keyword_of x ≡ None → list_all is_ascii x ≡ true → IsProper x
 proper x n f a = record { name = n; free = f; form = in_own_form x a }

@@ -33,7 +33,7 @@ abbrev alike_pieces : Piece → Piece → Bool
 alike_pieces x p =
     same (is_operator_kind x.kind) (is_operator_kind p.kind) && (same (is_number_kind x.kind)
     (is_number_kind p.kind) &&
-        (same x.before p.before && (same x.behind p.behind && (not (is_operator_kind x.kind) || bytes_eq p.text x.text))))
+    (same x.before p.before && (same x.behind p.behind && (not (is_operator_kind x.kind) || bytes_eq p.text x.text))))
 
 abbrev is_among : List Piece → Piece → Bool
 is_among xs p = list_any (λ x. alike_pieces x p) xs
@@ -42,7 +42,7 @@ is_among xs p = list_any (λ x. alike_pieces x p) xs
 abbrev pub apart : Piece → Piece → Bool
 apart x y =
     if is_operator_kind x.kind then (if is_operator_kind y.kind then fit x y else not
-        (bytes_eq x.text (codes ".") && is_number_kind y.kind))
+    (bytes_eq x.text (codes ".") && is_number_kind y.kind))
     else is_operator_kind y.kind && (bytes_eq y.text (codes ".") || not (is_number_kind x.kind && bytes_eq (take 1 y.text) (codes ".")))
 
 abbrev pub suits : Piece → Piece → Bool
@@ -119,11 +119,11 @@ suits_fit x y p q a b s t e =
     (λ (ox : is_operator_kind x.kind ≡ false).
     let po : is_operator_kind p.kind ≡ false = rw a.operator ox in
     let f : (is_operator_kind y.kind &&
-        (bytes_eq y.text (codes ".") || not (is_number_kind x.kind && bytes_eq (take 1 y.text) (codes ".")))) ≡ true =
+    (bytes_eq y.text (codes ".") || not (is_number_kind x.kind && bytes_eq (take 1 y.text) (codes ".")))) ≡ true =
     rw ox at h in
     let g =
     and_parts (is_operator_kind y.kind) (bytes_eq y.text (codes ".") || not (is_number_kind x.kind && bytes_eq (take 1 y.text) (codes ".")))
-        f in
+    f in
     let qo : is_operator_kind q.kind ≡ true = rw b.operator g.0 in
     let ty : q.text ≡ y.text = (bytes_eq-Decides q.text y.text).0 (b.text g.0) in
     ⊎_elim
@@ -204,7 +204,7 @@ a_number is_in_field = record { kind = kinds.Number; text = []; before = false; 
 abbrev pub starts_other : List Sited
 starts_other =
     a_number ∷ leading piece LPar ∷ leading piece LSqb ∷ leading piece LBrace ∷ leading piece Plus ∷ leading piece Minus ∷ leading piece
-        Tilde ∷ free piece (Op Ellipsis) ∷ []
+    Tilde ∷ free piece (Op Ellipsis) ∷ []
 
 abbrev pub starts_plain : List Sited
 starts_plain = a_word ∷ starts_other

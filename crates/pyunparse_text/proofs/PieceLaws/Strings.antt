@@ -105,14 +105,21 @@ record Parts {S : Type 0} (d : Depth) (in_spec : Bool) (Is : List (Element Sited
 
 spec_parts : {d : Depth} (o : IsOpen d) {es : List (Element Sited)} {fs : List (Element Terminal)} → Elements (IsField d) d 1 es fs
     → Parts d true (IsInnerField (is_inside d)) es
-spec_parts {d} o (text {t = t} h no_field) = record { parts = text_part (text_source (is_inside d) true t) ∷ []; is =
-    a_text (text_is o 1 t h) }
+spec_parts {d} o (text {t = t} h no_field) = record {
+  parts = text_part (text_source (is_inside d) true t) ∷ [];
+  is =
+      a_text (text_is o 1 t h);
+}
 spec_parts {d} o (text {t = t} h (field {c = c} {ps = ps} n f s e)) =
     let i = inner o s in
     let r = spec_parts o e in
     record {
-      parts = text_part (text_source (is_inside d) true t) ∷ field_part (record { text = expression_text (in_a_field ps); kept = None;
-          conversion = c; spec = i.spec }) ∷ r.parts;
+      parts = text_part (text_source (is_inside d) true t) ∷ field_part (record {
+        text = expression_text (in_a_field ps);
+        kept = None;
+        conversion = c;
+        spec = i.spec;
+      }) ∷ r.parts;
       is = text_and_field (text_is o 1 t h) (written_field o (IsInner (is_inside d)) f i.is) r.is;
     }
 
@@ -126,14 +133,21 @@ outer o (a_spec e) = let r = spec_parts o e in record { spec = Some r.parts; is 
 
 body_parts : {d : Depth} (o : IsOpen d) {es : List (Element Sited)} {fs : List (Element Terminal)} → Elements (IsField d) d 0 es fs
     → Parts d false (IsOuterField (is_inside d)) es
-body_parts {d} o (text {t = t} h no_field) = record { parts = text_part (text_source (is_inside d) false t) ∷ []; is =
-    a_text (text_is o 0 t h) }
+body_parts {d} o (text {t = t} h no_field) = record {
+  parts = text_part (text_source (is_inside d) false t) ∷ [];
+  is =
+      a_text (text_is o 0 t h);
+}
 body_parts {d} o (text {t = t} h (field {c = c} {ps = ps} n f s e)) =
     let i = outer o s in
     let r = body_parts o e in
     record {
-      parts = text_part (text_source (is_inside d) false t) ∷ field_part (record { text = expression_text (in_a_field ps); kept = None;
-          conversion = c; spec = i.spec }) ∷ r.parts;
+      parts = text_part (text_source (is_inside d) false t) ∷ field_part (record {
+        text = expression_text (in_a_field ps);
+        kept = None;
+        conversion = c;
+        spec = i.spec;
+      }) ∷ r.parts;
       is = text_and_field (text_is o 0 t h) (written_field o (IsOuter (is_inside d)) f i.is) r.is;
     }
 
@@ -196,7 +210,7 @@ module _ {d : Depth} where
         ap (padded false) (append_assoc (us ++ (End ∷ [])) fs rest ∙ append_assoc us (End ∷ []) (fs ++ rest))
         ∙ (spec_turn s (End ∷ (fs ++ rest)) ∙ ap (λ x. flat_map element_terminals us ++ (FieldEnd ∷ x)) (elements_turn e rest)) in
         let back : flat_map element_terminals ((us ++ (End ∷ [])) ++ fs) ++ padded false rest ≡ flat_map element_terminals
-            us ++ (FieldEnd ∷ later) =
+        us ++ (FieldEnd ∷ later) =
         ap (λ x. x ++ padded false rest)
         (flat_map-append element_terminals (us ++ (End ∷ [])) fs ∙ ap (λ x. x ++ flat_map element_terminals fs)
         (flat_map-append element_terminals us (End ∷ [])))

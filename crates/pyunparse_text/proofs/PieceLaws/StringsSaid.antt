@@ -253,14 +253,14 @@ value_sayable t h b f = by (is_bytes t) refl
 
     by : (k : Bool) → is_bytes t ≡ k
         → IsConstant (record { extent = Whole; depth = in_field })
-            (cond k (Values.Bytes (points_of t)) (Values.Str (points_of t) (is_unicode t)))
+        (cond k (Values.Bytes (points_of t)) (Values.Str (points_of t) (is_unicode t)))
     by true q =
         let a = (literally t f).ascii in
         let n : list_any (nat_lt 0x7F) t ≡ false = rw q at a in
         subst (λ z. list_all is_field_byte z ≡ true) (sym e)
         (weaker (λ c. is_field_character c && not (nat_lt 0x7F c)) is_field_byte small_byte (body_of t)
         (joined is_field_character (λ c. not (nat_lt 0x7F c)) (body_of t) h
-            (body_all (λ c. not (nat_lt 0x7F c)) t (none_all (nat_lt 0x7F) t n))))
+        (body_all (λ c. not (nat_lt 0x7F c)) t (none_all (nat_lt 0x7F) t n))))
     by false q = subst (λ z. list_all is_field_character z ≡ true) (sym e) h
 
 string_sayable : (t : List ℕ) → list_all is_calm t ≡ true → is_bulky kinds.String t ≡ false → string_fault t ≡ None
@@ -366,13 +366,13 @@ inner_text m k raw t rest h w = by k w
     calm : (u : List ℕ) → list_all is_flat u ≡ true → flat_map points_in (meanings raw false (with_line_feeds u)) ≡ with_line_feeds u
     calm u e =
         points_kept raw false (with_line_feeds u)
-            (kept_all is_no_backslash (λ c. not (c == 13)) u (weaker is_flat is_no_backslash flat_calm u e))
+        (kept_all is_no_backslash (λ c. not (c == 13)) u (weaker is_flat is_no_backslash flat_calm u e))
 
     fielded : (u : List ℕ) → list_all is_flat u ≡ true → list_all is_field_character (with_line_feeds u) ≡ true
     fielded u e =
         weaker (λ c. is_flat c && not (c == 13)) is_field_character flat_field (with_line_feeds u)
         (joined is_flat (λ c. not (c == 13)) (with_line_feeds u) (kept_all is_flat (λ c. not (c == 13)) u e)
-            (kept_pass (λ c. not (c == 13)) u))
+        (kept_pass (λ c. not (c == 13)) u))
 
     in_spec : (b : Bool) (u : List ℕ) → list_all is_flat u ≡ true → list_all (λ c. cond b (is_literal_char c) true) u ≡ true
         → list_all (can_stand true b) (flat_map points_in (meanings raw false (with_line_feeds u))) ≡ true

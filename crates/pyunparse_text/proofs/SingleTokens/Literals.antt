@@ -56,10 +56,18 @@ none_skip q = (refl, λ r. refl)
 -- digits of base 16
 digit_own : (q d : ℕ) → (q ≡ 39) ⊎ (q ≡ 34) → d < 16 → Own q (digit_char d)
 digit_own q d w h = ⊎_elim
-    (λ (e : q ≡ 39). rw e (record { slash = grind (arith, nat_tests); quote = grind (arith, nat_tests); feed = grind (arith, nat_tests);
-        return = grind (arith, nat_tests) }))
-    (λ (e : q ≡ 34). rw e (record { slash = grind (arith, nat_tests); quote = grind (arith, nat_tests); feed = grind (arith, nat_tests);
-        return = grind (arith, nat_tests) }))
+    (λ (e : q ≡ 39). rw e (record {
+      slash = grind (arith, nat_tests);
+      quote = grind (arith, nat_tests);
+      feed = grind (arith, nat_tests);
+      return = grind (arith, nat_tests);
+    }))
+    (λ (e : q ≡ 34). rw e (record {
+      slash = grind (arith, nat_tests);
+      quote = grind (arith, nat_tests);
+      feed = grind (arith, nat_tests);
+      return = grind (arith, nat_tests);
+    }))
     w
 
 hex_skips : (q : ℕ) → (q ≡ 39) ⊎ (q ≡ 34) → (width n : ℕ) → Skips q (hex width n)
@@ -105,7 +113,7 @@ escaped_skips test q c w =
     special c h = ⊎_elim
         (λ (e : (c == 92) ≡ true). let f : c ≡ 92 = eqb-true c 92 e in rw f (refl, refl))
         (λ (e : (c == q) ≡ true). let f : c ≡ q = eqb-true c q e in
-            ⊎_elim (λ (g : q ≡ 39). rw (f, g) (refl, refl)) (λ (g : q ≡ 34). rw (f, g) (refl, refl)) w)
+        ⊎_elim (λ (g : q ≡ 39). rw (f, g) (refl, refl)) (λ (g : q ≡ 34). rw (f, g) (refl, refl)) w)
         (or_parts (c == 92) (c == q) h)
 
 all_skip : (test : ℕ → Bool) (q : ℕ) → (q ≡ 39) ⊎ (q ≡ 34) → (cs : List ℕ) → Skips q (flat_map (escaped test q) cs)
@@ -147,10 +155,10 @@ literal_single test cs =
     let e = literal_ends test cs in
     ⊎_elim
     (λ (w : quote_for cs ≡ 39). let f : ends_by_one 39 (units (flat_map (escaped test (quote_for cs)) cs ++ quote_for cs ∷ [])) ≡ true =
-        subst (λ (q : ℕ). ends_by_one q (units (flat_map (escaped test (quote_for cs)) cs ++ quote_for cs ∷ [])) ≡ true) w e in
+    subst (λ (q : ℕ). ends_by_one q (units (flat_map (escaped test (quote_for cs)) cs ++ quote_for cs ∷ [])) ≡ true) w e in
     first (quote_for cs == 39) (ends_by_one 39 (units (flat_map (escaped test (quote_for cs)) cs ++ quote_for cs ∷ []))) _ (rw w refl) f)
     (λ (w : quote_for cs ≡ 34). let f : ends_by_one 34 (units (flat_map (escaped test (quote_for cs)) cs ++ quote_for cs ∷ [])) ≡ true =
-        subst (λ (q : ℕ). ends_by_one q (units (flat_map (escaped test (quote_for cs)) cs ++ quote_for cs ∷ [])) ≡ true) w e in
+    subst (λ (q : ℕ). ends_by_one q (units (flat_map (escaped test (quote_for cs)) cs ++ quote_for cs ∷ [])) ≡ true) w e in
     second _ (quote_for cs == 34) (ends_by_one 34 (units (flat_map (escaped test (quote_for cs)) cs ++ quote_for cs ∷ []))) (rw w refl) f)
     (which_quote cs)
   where

@@ -63,7 +63,7 @@ escaped_scalar test q c w own =
 
     others : (t n r : Bool)
         → all_scalars (if t then codes "\\t" else
-            (if n then codes "\\n" else (if r then codes "\\r" else (if test c then hex_escape c else c ∷ [])))) ≡ true
+        (if n then codes "\\n" else (if r then codes "\\r" else (if test c then hex_escape c else c ∷ [])))) ≡ true
     others true n r = refl
     others false true r = refl
     others false false true = refl
@@ -77,7 +77,7 @@ quoted_scalar test p f cs a =
     let w = which_quote cs in
     let s : all_scalars (q ∷ []) ≡ true = ⊎_elim (λ (e : q ≡ 39). rw e refl) (λ (e : q ≡ 34). rw e refl) w in
     scalars_both (q ∷ []) (flat_map (escaped test q) cs ++ q ∷ []) s
-        (scalars_both (flat_map (escaped test q) cs) (q ∷ []) (each cs q w a) s)
+    (scalars_both (flat_map (escaped test q) cs) (q ∷ []) (each cs q w a) s)
   where
     each : (cs : List ℕ) (q : ℕ) → (q ≡ 39) ⊎ (q ≡ 34) → list_all p cs ≡ true → all_scalars (flat_map (escaped test q) cs) ≡ true
     each [] q w a = refl

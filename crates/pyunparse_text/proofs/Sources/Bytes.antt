@@ -28,8 +28,8 @@ high c h =
   where
     two : (a b : Bool)
         → list_all (leb 128)
-            (cond a ((192 + c / 64) ∷ next c ∷ []) (cond b ((224 + c / 4096) ∷ next (c / 64) ∷ next c ∷ [])
-            ((240 + c / 262144) ∷ next (c / 4096) ∷ next (c / 64) ∷ next c ∷ []))) ≡ true
+        (cond a ((192 + c / 64) ∷ next c ∷ []) (cond b ((224 + c / 4096) ∷ next (c / 64) ∷ next c ∷ [])
+        ((240 + c / 262144) ∷ next (c / 4096) ∷ next (c / 64) ∷ next c ∷ []))) ≡ true
     two true b = rw (least 192 (c / 64) (omega arith), next_high c) refl
     two false true = rw (least 224 (c / 4096) (omega arith), next_high (c / 64), next_high c) refl
     two false false = rw (least 240 (c / 262144) (omega arith), next_high (c / 4096), next_high (c / 64), next_high c) refl
@@ -65,7 +65,7 @@ first_byte p f (c ∷ cs) e =
     ⊎_elim
     (λ (h : c < 128). rw (encode_ascii c h) e)
     (λ (h : 128 ≤ c). let l = length-encode c in let b = len_utf8_bounds c in
-        begins_all p f (encode c) (encode_utf8_all cs) (high c h) (omega arith))
+    begins_all p f (encode c) (encode_utf8_all cs) (high c h) (omega arith))
     (cases_lt c 128)
 
 pub scalars_both : (a b : List ℕ) → all_scalars a ≡ true → all_scalars b ≡ true → all_scalars (a ++ b) ≡ true

@@ -90,9 +90,10 @@ module _ (extent : Extent) where
 
   pieces_faultless : (ps : List Piece) → All (λ p. fault_of extent p.kind p.text ≡ None) ps → Faultless (map token_of ps)
   pieces_faultless [] h = tt
-  pieces_faultless (p ∷ ps) h =
-      (All-head (λ p. fault_of extent p.kind p.text ≡ None) p ps h,
-          pieces_faultless ps (All-tail (λ p. fault_of extent p.kind p.text ≡ None) p ps h))
+  pieces_faultless (p ∷ ps) h = (
+    All-head (λ p. fault_of extent p.kind p.text ≡ None) p ps h,
+    pieces_faultless ps (All-tail (λ p. fault_of extent p.kind p.text ≡ None) p ps h),
+  )
 
   lines_faultless : (m : ℕ) (ls : List Line) → All (IsClear extent) ls → Faultless (tokens_behind m ls)
   lines_faultless m [] h =
@@ -108,7 +109,7 @@ module _ (extent : Extent) where
   none_refused text [] h = refl
   none_refused text (e ∷ es) h =
       let f : entry_refusal extent text e ≡ None =
-          ap (λ (o : Option TokenError). elim o [ Some x ↦ Some (refusals.Token x e.start) | None ↦ None ]) h.0 in
+      ap (λ (o : Option TokenError). elim o [ Some x ↦ Some (refusals.Token x e.start) | None ↦ None ]) h.0 in
       rw f (none_refused text es h.1)
 
 -- ---- Brackets, by the operators that the tokens are.
@@ -247,14 +248,14 @@ lines_shallow extent m (l ∷ ls) w h =
     let c = and_parts (closes_all 0 l.pieces) _ b.1 in
     let rest : List PlainToken = tokens_behind l.level ls in
     let r : shallow most_brackets 0 (map exact_in (newline ∷ rest)) ≡ true =
-        lines_shallow extent l.level ls a.1 (All-tail (IsClear extent) l ls h) in
+    lines_shallow extent l.level ls a.1 (All-tail (IsClear extent) l ls h) in
     let p : shallow most_brackets 0 (map exact_in (map token_of l.pieces) ++ map exact_in (newline ∷ rest)) ≡ true =
     pieces_shallow most_brackets 0 l.pieces (map exact_in (newline ∷ rest)) c.0 (All-head (IsClear extent) l ls h).shallow r in
     let q =
     plain_shallow most_brackets 0 (level_tokens m l.level) (map exact_in (map token_of l.pieces) ++ map exact_in (newline ∷ rest))
     (level_plain m l.level) p in
     let s : map exact_in (tokens_behind m (l ∷ ls)) ≡ map exact_in (level_tokens m l.level) ++
-        (map exact_in (map token_of l.pieces) ++ map exact_in (newline ∷ rest)) =
+    (map exact_in (map token_of l.pieces) ++ map exact_in (newline ∷ rest)) =
     ap (map exact_in)
     (append_assoc (level_tokens m l.level) (map token_of l.pieces ++ newline ∷ []) rest ∙ ap (λ u. level_tokens m l.level ++ u)
     (append_assoc (map token_of l.pieces) (newline ∷ []) rest))
@@ -275,7 +276,7 @@ alike v w a b =
     let f = agrees (nat_lt v.one w.one) in
     let g = agrees (nat_lt w.one v.one) in
     let h : (same_bool (nat_lt v.one w.one) (nat_lt v.one w.one) && same_bool (nat_lt w.one v.one) (nat_lt w.one v.one)) ≡
-        true = rw (f, g) refl in
+    true = rw (f, g) refl in
     rw (x, y) h
 
 not_mixed : (between earlier : List Margin) (m : Margin) → list_all is_even earlier ≡ true → is_even m ≡ true
@@ -326,7 +327,7 @@ clear extent s ls w h i =
     let a = and_parts (list_all is_written ls) (rise_by_one 0 ls) w in
     let f : listing_fault (listing s) ≡ None = ap listing_fault i.listed ∙ no_fault i.entries in
     let e : entries_of (listing s) ≡ encoding_entry ∷ i.entries = ap entries_of i.listed
-        ∙ ap (λ x. encoding_entry ∷ x) (entries_all i.entries) in
+    ∙ ap (λ x. encoding_entry ∷ x) (entries_all i.entries) in
     let t : first_entry_refusal extent s.text (encoding_entry ∷ i.entries) ≡ None =
     first_none _ _ _ (layout_faultless extent kinds.Encoding _ refl)
     (none_refused extent s.text i.entries (subst (Faultless extent) (sym i.tokens) (lines_faultless extent 0 ls h))) in
@@ -334,7 +335,7 @@ clear extent s ls w h i =
     deep_none most_brackets 0 (encoding_entry ∷ []) i.entries refl
     (subst (λ os. shallow most_brackets 0 os ≡ true) (sym i.exacts) (lines_shallow extent 0 ls a.0 h)) in
     let m : first_mixed [] (margins s.text (entries_of (listing s))) ≡ None =
-        none_mixed [] (margins s.text (entries_of (listing s))) refl i.even in
+    none_mixed [] (margins s.text (entries_of (listing s))) refl i.even in
     none_stands (listing_fault (listing s)) (refusal_of extent most_brackets s.text (entries_of (listing s))) f
     (all_none (first_entry_refusal extent s.text (entries_of (listing s))) (first_too_deep most_brackets [] (entries_of (listing s)))
     (first_mixed [] (margins s.text (entries_of (listing s))))

@@ -48,11 +48,11 @@ part_in_line c e =
     let f : (c == 10) ≡ false =
     cases (c == 10)
     (λ h. let z : is_xid_continue 10 ≡ true = subst (λ (x : ℕ). is_xid_continue x ≡ true) (eqb-true c 10 h) e in let y =
-        is_xid_continue-ascii 10 (omega arith) in cc) in
+    is_xid_continue-ascii 10 (omega arith) in cc) in
     let g : (c == 13) ≡ false =
     cases (c == 13)
     (λ h. let z : is_xid_continue 13 ≡ true = subst (λ (x : ℕ). is_xid_continue x ≡ true) (eqb-true c 13 h) e in let y =
-        is_xid_continue-ascii 13 (omega arith) in cc) in
+    is_xid_continue-ascii 13 (omega arith) in cc) in
     rw (f, g) refl
 
 all_by : (p q : ℕ → Bool) → ((c : ℕ) → p c ≡ true → q c ≡ true) → (t : List ℕ) → list_all p t ≡ true → list_all q t ≡ true
@@ -251,7 +251,7 @@ line_good l p = first_given_none (bad_at Utf8 (bytes_of l)) 0 (length (bytes_of 
     no_returns =
         both_in (λ b. not (b == 13)) (encode_utf8_all (front_of l)) (10 ∷ [])
         (all_by is_comment_part (λ b. not (b == 13)) (λ c e. rw (not_parts c e).1 refl) (encode_utf8_all (front_of l)) (front_bytes l p))
-            refl
+        refl
 
     no_return : (k : ℕ) → k < length (bytes_of l) → (get_or (bytes_of l) k 0 == 13) ≡ false
     no_return k h = off (get_or (bytes_of l) k 0 == 13) (all_at (λ b. not (b == 13)) (bytes_of l) k no_returns h)
@@ -274,7 +274,7 @@ no_cookie n r b h =
     let l : prefix_len is_blank (replicate n 32 ++ r) ≡ length (replicate n 32) =
     run_ends is_blank (replicate n 32) r (blanks_in is_blank n refl) b in
     let d : drop_while is_blank (replicate n 32 ++ r) ≡ r = ap (λ k. drop k (replicate n 32 ++ r)) l
-        ∙ drop-append_seam (replicate n 32) r in
+    ∙ drop-append_seam (replicate n 32) r in
     rw (d, none r h) refl
   where
     none : (r : List ℕ) → begins (λ b. b == 35) r ≡ false → (get_or r 0 0 == 35) ≡ false
@@ -296,7 +296,7 @@ line_quiet l p = record {
       (no_cookie (4 * l.level) (encode_utf8_all (spaced l.pieces ++ 10 ∷ []))
       (first_byte is_blank high_blank (spaced l.pieces ++ 10 ∷ []) (spaced_unblank l.pieces (10 ∷ []) p.readable))
       (first_byte (λ b. b == 35) high_hash (spaced l.pieces ++ 10 ∷ [])
-          (spaced_quiet 35 hash_off refl refl l.pieces (10 ∷ []) p.readable)));
+      (spaced_quiet 35 hash_off refl refl l.pieces (10 ∷ []) p.readable)));
 }
   where
     unmarked : (n : ℕ) (r : List ℕ) → begins (λ d. d == 65279) r ≡ false → begins (λ d. d == 65279) (replicate n 32 ++ r) ≡ false

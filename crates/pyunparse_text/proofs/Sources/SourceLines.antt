@@ -161,7 +161,7 @@ unfolding tokens
 tokens_are s ls w i =
     let a = and_parts (list_all is_written ls) (rise_by_one 0 ls) w in
     let e : entries_of (listing s) ≡ encoding_entry ∷ i.entries = ap entries_of i.listed
-        ∙ ap (λ x. encoding_entry ∷ x) (entries_all i.entries) in
+    ∙ ap (λ x. encoding_entry ∷ x) (entries_all i.entries) in
     let f : flows false (map (token_at s.text) i.entries) ≡ true =
     subst (λ (ts : List PlainToken). flows false ts ≡ true) (sym i.tokens) (lines_flow 0 ls a.0) in
     ap (λ es. map unplaced (tokens_from s.text [] es)) e ∙ all_tokens s.text (encoding_entry ∷ []) i.entries f ∙ i.tokens
@@ -215,8 +215,12 @@ level_is_behind m n us before h c =
     (λ (i : m < n).
     let e : ltb m n ≡ true = grind (arith, nat_tests) in
     let z : n ≡ suc m = omega arith in
-    rw e (record { passed = indent n ∷ before; counted = subst (λ (x : ℕ). Counted x (indent n ∷ before)) (sym z)
-        (counted_indent m n before c); same = refl }))
+    rw e (record {
+      passed = indent n ∷ before;
+      counted = subst (λ (x : ℕ). Counted x (indent n ∷ before)) (sym z)
+          (counted_indent m n before c);
+      same = refl;
+    }))
     (λ (i : n ≤ m).
     let e : ltb m n ≡ false = grind (arith, nat_tests) in
     let z : m ≡ (m - n) + n = omega arith in
@@ -227,7 +231,7 @@ level_is_behind m n us before h c =
 record Joins (k : Kind) (t : List ℕ) : Type 0 where
   pub goes : (before line ts : List PlainToken)
       → lines_from before line (record { kind = k; text = t } ∷ ts) ≡ lines_from (record { kind = k; text = t } ∷ before)
-          (line ++ record { kind = k; text = t } ∷ []) ts
+      (line ++ record { kind = k; text = t } ∷ []) ts
   pub indents : is_indent (record { kind = k; text = t }) ≡ false
   pub dedents : is_dedent (record { kind = k; text = t }) ≡ false
 
@@ -261,7 +265,7 @@ line_ends n (p ∷ ps) ts before line a c =
     let h = and_parts (is_token p.kind p.text) (list_all (λ q. is_token q.kind q.text) ps) a in
     let j = piece_joins p.kind p.text h.0 in
     let r = line_ends n ps ts (token_of p ∷ before) (line ++ token_of p ∷ []) h.1
-        (counted_other n (token_of p) before j.indents j.dedents c) in
+    (counted_other n (token_of p) before j.indents j.dedents c) in
     record {
       passed = r.passed;
       counted = r.counted;
@@ -290,7 +294,7 @@ lines_behind m (l ∷ ls) before w r c =
     let v = level_is_behind m l.level (map token_of l.pieces ++ newline ∷ ts) before (leb-true l.level (m + 1) b.0) c in
     let e = line_ends l.level l.pieces ts v.passed [] (pieces_of l.pieces p.0) v.counted in
     ap (lines_from before []) (shift_line m l ts) ∙ v.same ∙ e.same
-        ∙ ap (λ x. token_line l ∷ x) (lines_behind l.level ls e.passed a.1 b.1 e.counted)
+    ∙ ap (λ x. token_line l ∷ x) (lines_behind l.level ls e.passed a.1 b.1 e.counted)
 
 -- Lines of tokens, and those of the same tokens without their places.
 count_unplaced : (p : PlainToken → Bool) (ts : List source.Token) → count_by (λ t. p (unplaced t)) ts ≡ count_by p (map unplaced ts)
@@ -311,38 +315,54 @@ record Unplaces (before line ts : List source.Token) : Type 0 where
 
 one_unplaced : (k : Kind) (p : Place) (x : List ℕ) (before line ts : List source.Token)
     → Unplaces (record { kind = k; start = p; text = x } ∷ before) [] ts
-        → Unplaces (record { kind = k; start = p; text = x } ∷ before) line ts
+    → Unplaces (record { kind = k; start = p; text = x } ∷ before) line ts
     → Unplaces (record { kind = k; start = p; text = x } ∷ before) (line ++ record { kind = k; start = p; text = x } ∷ []) ts
-        → Unplaces before line (record { kind = k; start = p; text = x } ∷ ts)
+    → Unplaces before line (record { kind = k; start = p; text = x } ∷ ts)
 one_unplaced kinds.Newline p x before line ts new same more =
-    record { is = line_unplaced (source.level_behind before) line
-        (source.lines_from (record { kind = kinds.Newline; start = p; text = x } ∷ before) [] ts)
-        (lines_from (record { kind = kinds.Newline; text = x } ∷ map unplaced before) [] (map unplaced ts))
-        (level_behind (map unplaced before)) (level_unplaced before) new.is }
+    record {
+      is = line_unplaced (source.level_behind before) line
+          (source.lines_from (record { kind = kinds.Newline; start = p; text = x } ∷ before) [] ts)
+          (lines_from (record { kind = kinds.Newline; text = x } ∷ map unplaced before) [] (map unplaced ts))
+          (level_behind (map unplaced before)) (level_unplaced before) new.is;
+    }
 one_unplaced kinds.Indent p x before line ts new same more = record { is = same.is }
 one_unplaced kinds.Dedent p x before line ts new same more = record { is = same.is }
 one_unplaced kinds.EndMarker p x before line ts new same more = record { is = same.is }
 one_unplaced kinds.Name p x before line ts new same more =
-    record { is = more.is ∙ ap (λ l. lines_from (record { kind = kinds.Name; text = x } ∷ map unplaced before) l (map unplaced ts))
-        (map-append unplaced line (record { kind = kinds.Name; start = p; text = x } ∷ [])) }
+    record {
+      is = more.is ∙ ap (λ l. lines_from (record { kind = kinds.Name; text = x } ∷ map unplaced before) l (map unplaced ts))
+          (map-append unplaced line (record { kind = kinds.Name; start = p; text = x } ∷ []));
+    }
 one_unplaced kinds.Number p x before line ts new same more =
-    record { is = more.is ∙ ap (λ l. lines_from (record { kind = kinds.Number; text = x } ∷ map unplaced before) l (map unplaced ts))
-        (map-append unplaced line (record { kind = kinds.Number; start = p; text = x } ∷ [])) }
+    record {
+      is = more.is ∙ ap (λ l. lines_from (record { kind = kinds.Number; text = x } ∷ map unplaced before) l (map unplaced ts))
+          (map-append unplaced line (record { kind = kinds.Number; start = p; text = x } ∷ []));
+    }
 one_unplaced kinds.String p x before line ts new same more =
-    record { is = more.is ∙ ap (λ l. lines_from (record { kind = kinds.String; text = x } ∷ map unplaced before) l (map unplaced ts))
-        (map-append unplaced line (record { kind = kinds.String; start = p; text = x } ∷ [])) }
+    record {
+      is = more.is ∙ ap (λ l. lines_from (record { kind = kinds.String; text = x } ∷ map unplaced before) l (map unplaced ts))
+          (map-append unplaced line (record { kind = kinds.String; start = p; text = x } ∷ []));
+    }
 one_unplaced kinds.Op p x before line ts new same more =
-    record { is = more.is ∙ ap (λ l. lines_from (record { kind = kinds.Op; text = x } ∷ map unplaced before) l (map unplaced ts))
-        (map-append unplaced line (record { kind = kinds.Op; start = p; text = x } ∷ [])) }
+    record {
+      is = more.is ∙ ap (λ l. lines_from (record { kind = kinds.Op; text = x } ∷ map unplaced before) l (map unplaced ts))
+          (map-append unplaced line (record { kind = kinds.Op; start = p; text = x } ∷ []));
+    }
 one_unplaced kinds.Comment p x before line ts new same more =
-    record { is = more.is ∙ ap (λ l. lines_from (record { kind = kinds.Comment; text = x } ∷ map unplaced before) l (map unplaced ts))
-        (map-append unplaced line (record { kind = kinds.Comment; start = p; text = x } ∷ [])) }
+    record {
+      is = more.is ∙ ap (λ l. lines_from (record { kind = kinds.Comment; text = x } ∷ map unplaced before) l (map unplaced ts))
+          (map-append unplaced line (record { kind = kinds.Comment; start = p; text = x } ∷ []));
+    }
 one_unplaced kinds.Nl p x before line ts new same more =
-    record { is = more.is ∙ ap (λ l. lines_from (record { kind = kinds.Nl; text = x } ∷ map unplaced before) l (map unplaced ts))
-        (map-append unplaced line (record { kind = kinds.Nl; start = p; text = x } ∷ [])) }
+    record {
+      is = more.is ∙ ap (λ l. lines_from (record { kind = kinds.Nl; text = x } ∷ map unplaced before) l (map unplaced ts))
+          (map-append unplaced line (record { kind = kinds.Nl; start = p; text = x } ∷ []));
+    }
 one_unplaced kinds.Encoding p x before line ts new same more =
-    record { is = more.is ∙ ap (λ l. lines_from (record { kind = kinds.Encoding; text = x } ∷ map unplaced before) l (map unplaced ts))
-        (map-append unplaced line (record { kind = kinds.Encoding; start = p; text = x } ∷ [])) }
+    record {
+      is = more.is ∙ ap (λ l. lines_from (record { kind = kinds.Encoding; text = x } ∷ map unplaced before) l (map unplaced ts))
+          (map-append unplaced line (record { kind = kinds.Encoding; start = p; text = x } ∷ []));
+    }
 
 lines_unplaced : (before line ts : List source.Token) → Unplaces before line ts
 lines_unplaced before line [] = record { is = refl }

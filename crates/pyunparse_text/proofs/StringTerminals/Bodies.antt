@@ -159,12 +159,12 @@ body_kept p f (c ∷ t) h = elim (cases_Bool (is_quote c)) [
       (three_all p f c quote t (subst (λ z. list_all p z ≡ true) (body_quote c t quote) h))))
   | inr other ↦ (
       let g : list_all p (body_of (with_line_feeds t)) ≡ true =
-          body_kept p f t (subst (λ z. list_all p z ≡ true) (body_next c t other) h) in
+      body_kept p f t (subst (λ z. list_all p z ≡ true) (body_next c t other) h) in
       elim (cases_Bool (not (c == 13))) [
         | inl kept ↦ (
             let e : with_line_feeds (c ∷ t) ≡ c ∷ with_line_feeds t = rw kept refl in
             subst (λ z. list_all p (body_of z) ≡ true) (sym e)
-                (subst (λ z. list_all p z ≡ true) (sym (body_next c (with_line_feeds t) other)) g))
+            (subst (λ z. list_all p z ≡ true) (sym (body_next c (with_line_feeds t) other)) g))
         | inr left_out ↦ (
             let e : with_line_feeds (c ∷ t) ≡ with_line_feeds t = rw left_out refl in
             subst (λ z. list_all p (body_of z) ≡ true) (sym e) g)

@@ -134,7 +134,7 @@ module _ (fault : Kind → List ℕ → Option TokenError) (by : Kind → List �
       → (n d : ℕ) (us : List Terminal)
       → (is_closer_class k ≡ true → 1 ≤ n)
       → most_open ((n + count_if (is_opener_class k) - count_if (is_closer_class k)) + d) us ≤ most_open (n + d)
-          (by (kind_of k true) text ++ us)
+      (by (kind_of k true) text ++ us)
   lexeme_closed (classes.Operator e) text g t s f n d us low =
       let a : open_after (n + d) (Op e) ≡ (n + count_if (is_opener e) - count_if (is_closer e)) + d =
       operator_after (is_opener e) (is_closer e) n d (no_both e) low in
@@ -162,8 +162,13 @@ module _ (fault : Kind → List ℕ → Option TokenError) (by : Kind → List �
       let p = or_parts_false (closes x && (n == 0)) (closes_none (n + count_if (opens x) - count_if (closes x)) xs) c in
       let low : closes x ≡ true → 1 ≤ n = closer_low (closes x) n p.0 in
       let m : ℕ = n + count_if (opens x) - count_if (closes x) in
-      let q : m + count_by opens xs ≡ count_by closes xs = omega (arith, counted opens x xs, counted closes x xs, e,
-          count_low (closes x) n low) in
+      let q : m + count_by opens xs ≡ count_by closes xs = omega (
+        arith,
+        counted opens x xs,
+        counted closes x xs,
+        e,
+        count_low (closes x) n low,
+      ) in
       let r : most_open d us ≤ most_open (m + d) (given by (tokens_of xs) ++ us) = lexemes_closed m h p.1 q d us in
       let vs : List Terminal = given by (tokens_of xs) ++ us in
       let l : most_open (m + d) vs ≤ most_open (n + d) (by (kind_of x.«class» true) x.text ++ vs) =
@@ -187,7 +192,7 @@ module _ (fault : Kind → List ℕ → Option TokenError) (by : Kind → List �
             let s : suc d - 1 ≡ d = omega arith in
             let k : most_open (suc d - 1) us ≤ most_open (suc d) (Op RPar ∷ us) = omega arith in
             let m : most_open d us ≤ most_open (suc d) (Op RPar ∷ us) =
-                subst (λ n. most_open n us ≤ most_open (suc d) (Op RPar ∷ us)) s k in
+            subst (λ n. most_open n us ≤ most_open (suc d) (Op RPar ∷ us)) s k in
             let z : 0 + suc d ≡ suc d = omega arith in
             let q : most_open (suc d) (Op RPar ∷ us) ≤ most_open (suc d) (given by ts ++ (Op RPar ∷ us)) =
             subst (λ n. most_open (suc d) (Op RPar ∷ us) ≤ most_open n (given by ts ++ (Op RPar ∷ us))) z r in

@@ -90,7 +90,7 @@ module _ (t rest : List ℕ)
     | inl b ↦ elim (cases_Bool (nat_lt (length opened) most_open)) [
       | inl l ↦ (let o = b.1 in
           let e : scan expression opened 0 (c ∷ t ++ rest) ≡ scan expression (opened ++ b.0 ∷ []) 0 (t ++ rest) =
-              rw (q, r, m, n, o, l, scan) refl in
+          rw (q, r, m, n, o, l, scan) refl in
           more expression (opened ++ b.0 ∷ []) 0 tt (sym e ∙ h))
       | inr l ↦ (let o = b.1 in
           let e : scan expression opened 0 (c ∷ t ++ rest) ≡ None = rw (q, r, m, n, o, l, scan) refl in

@@ -35,7 +35,7 @@ pub literal_from : (base t a b c : List ℕ) → a ≡ base ++ (98 ∷ (34 ∷ [
 unfolding encode_utf8
 literal_from base t a b c p q r =
     r ∙ ap (λ z. z ++ (34 ∷ [])) (q ∙ ap (λ z. z ++ encode_utf8_all t) p)
-        ∙ append_assoc (base ++ (98 ∷ (34 ∷ []))) (encode_utf8_all t) (34 ∷ [])
+    ∙ append_assoc (base ++ (98 ∷ (34 ∷ []))) (encode_utf8_all t) (34 ∷ [])
     ∙ append_assoc base (98 ∷ (34 ∷ [])) (encode_utf8_all t ++ (34 ∷ [])) ∙ ap (λ z. base ++ z) (sym (quoted_literal t))
 
 -- behind a loop over all of them

@@ -27,7 +27,7 @@ hex_plain : (width n : ℕ) → Plain (hex width n)
 hex_plain zero n = refl
 hex_plain (suc width) n =
     both (hex width (n / 16)) (digit_char (n % 16) ∷ []) (hex_plain width (n / 16))
-        (one (digit_char (n % 16)) (small (n % 16) (omega arith)))
+    (one (digit_char (n % 16)) (small (n % 16) (omega arith)))
   where
     small : (d : ℕ) → d < 16 → digit_char d < 128
     small d h = grind (arith, nat_tests)
@@ -56,7 +56,7 @@ escaped_plain q c w = special (c == 92) (c == q) refl refl
 
     others : (t n r : Bool)
         → Plain (if t then codes "\\t" else
-            (if n then codes "\\n" else (if r then codes "\\r" else (if is_unprintable_byte c then hex_escape c else c ∷ []))))
+        (if n then codes "\\n" else (if r then codes "\\r" else (if is_unprintable_byte c then hex_escape c else c ∷ []))))
     others true n r = pair 116 (omega arith)
     others false true r = pair 110 (omega arith)
     others false false true = pair 114 (omega arith)
@@ -65,8 +65,8 @@ escaped_plain q c w = special (c == 92) (c == q) refl refl
     special : (a b : Bool) → (c == 92) ≡ a → (c == q) ≡ b →
         Plain
         (if a || b then 92 ∷ c ∷ [] else
-            (if c == 9 then codes "\\t" else
-            (if c == 10 then codes "\\n" else (if c == 13 then codes "\\r" else (if is_unprintable_byte c then hex_escape c else c ∷ [])))))
+        (if c == 9 then codes "\\t" else
+        (if c == 10 then codes "\\n" else (if c == 13 then codes "\\r" else (if is_unprintable_byte c then hex_escape c else c ∷ [])))))
     special true b e f = let g : c ≡ 92 = eqb-true c 92 e in pair c (omega arith)
     special false true e f = let g : c ≡ q = eqb-true c q f in pair c (omega arith)
     special false false e f = others (c == 9) (c == 10) (c == 13)

@@ -77,8 +77,13 @@ bytes_sign bytes true = quoted_sign 98 34 (34 ∷ bytes) refl
 
 -- a literal behind a text, where its blank is that of an empty one
 pub literal_on : (old w : Writing) (t out : List ℕ) → IsNoSign t →
-    w ≡ record { text = old.text ++ blank old.last (literal []); last = Some (edge_of (literal [])); level = old.level; in_field =
-        old.in_field } → out ≡ w.text ++ t →
+    w ≡ record {
+      text = old.text ++ blank old.last (literal []);
+      last = Some (edge_of (literal []));
+      level = old.level;
+      in_field =
+          old.in_field;
+    } → out ≡ w.text ++ t →
     record { text = out; last = w.last; level = w.level; in_field = w.in_field } ≡ behind old (literal t)
 literal_on old w t out n h e =
     let a : out ≡ old.text ++ (blank old.last (literal t) ++ t) =

@@ -52,7 +52,7 @@ field_written v (p ∷ ps) =
     let gap = if begins_with left_curly_bracket here.text then 32 ∷ [] else [] in
     behind_text (behind (stepped v BeginField) (in_utf8 here)) here ps refl
     ∙ ap (λ z. ((v.text ++ (123 ∷ [])) ++ (z ++ encode_utf8_all here.text)) ++ encode_utf8_all (text_behind here (at true ps)))
-        (field_blank here)
+    (field_blank here)
     ∙ joined v.text (encode_utf8_all gap) (encode_utf8_all here.text) (encode_utf8_all (text_behind here (at true ps)))
     ∙ ap (λ z. v.text ++ (123 ∷ z))
     (sym (encodes-append gap (here.text ++ text_behind here (at true ps)) ∙ ap (λ z. encode_utf8_all gap ++ z)
@@ -62,7 +62,7 @@ field_written v (p ∷ ps) =
     joined : (a b c d : List ℕ) → ((a ++ (123 ∷ [])) ++ (b ++ c)) ++ d ≡ a ++ (123 ∷ (b ++ (c ++ d)))
     joined a b c d =
         append_assoc (a ++ (123 ∷ [])) (b ++ c) d ∙ append_assoc a (123 ∷ []) ((b ++ c) ++ d)
-            ∙ ap (λ z. a ++ (123 ∷ z)) (append_assoc b c d)
+        ∙ ap (λ z. a ++ (123 ∷ z)) (append_assoc b c d)
 
 -- between the elements of an f-string
 record Between (is_in_field : Bool) (w : Writing) : Type 0 where
@@ -78,9 +78,9 @@ element_put b v End k = refl
 element_put b v (Field c ps) k =
     let level : (puts behind_sited (stepped v BeginField) ps).level ≡ v.level = level_kept (stepped v BeginField) ps in
     let text : (puts behind_sited (stepped v BeginField) ps).text ++ conversion_text c ≡ v.text ++ encode_utf8_all
-        (field_text (at true ps) ++ conversion_text c) =
+    (field_text (at true ps) ++ conversion_text c) =
     ap (λ z. z ++ conversion_text c) (field_written v ps)
-        ∙ append_assoc v.text (encode_utf8_all (field_text (at true ps))) (conversion_text c)
+    ∙ append_assoc v.text (encode_utf8_all (field_text (at true ps))) (conversion_text c)
     ∙ ap (λ z. v.text ++ z) (sym (encodes-append (field_text (at true ps))
     (conversion_text c) ∙ ap (λ z. encode_utf8_all (field_text (at true ps)) ++ z) (conversion_bytes c))) in
     (λ i. record { text = text i; last = sym k.last i; level = level i; in_field = sym k.field i })
@@ -94,9 +94,14 @@ elements_put b v (e ∷ es) k =
     ap (λ z. puts_elements behind_sited stepped b z es) (element_put b v e k)
     ∙ elements_put b (more v t) es (record { last = k.last; field = k.field })
     ∙
-    (λ i. record { text =
-        (append_assoc v.text t u ∙ ap (λ z. v.text ++ z) (sym (encodes-append (element_text b e) (flat_map (element_text b) es)))) i; last =
-        v.last; level = v.level; in_field = v.in_field })
+    (λ i. record {
+      text =
+          (append_assoc v.text t u ∙ ap (λ z. v.text ++ z) (sym (encodes-append (element_text b e) (flat_map (element_text b) es)))) i;
+      last =
+          v.last;
+      level = v.level;
+      in_field = v.in_field;
+    })
 
 -- an f-string's text is no sign
 string_sign : (b : Bool) (es : List (Element Sited)) → IsNoSign (encode_utf8_all (formatted_text b es))
@@ -123,10 +128,10 @@ string_is_token w es =
     ap (λ z. z ++ (quote b ∷ [])) (opening_bytes b inner) ∙ ap (λ z. encode_utf8_all (open_text b es) ++ z)
     (sym (quote_bytes b)) ∙ sym (encodes-append (open_text b es) (quote b ∷ [])) in
     let text : ((w.text ++ (blank w.last a_string ++ (codes "f" ++ (quote b ∷ [])))) ++ encode_utf8_all inner) ++ (quote b ∷ []) ≡ w.text ++
-        (blank w.last (literal whole) ++ whole) =
+    (blank w.last (literal whole) ++ whole) =
     regrouped w.text (blank w.last a_string) (codes "f" ++ (quote b ∷ [])) (encode_utf8_all inner) (quote b ∷ [])
     ∙ ap (λ z. w.text ++ (blank w.last a_string ++ z)) parts
-        ∙ ap (λ z. w.text ++ (z ++ whole)) (sym (same_blank w.last whole (string_sign b es))) in
+    ∙ ap (λ z. w.text ++ (z ++ whole)) (sym (same_blank w.last whole (string_sign b es))) in
     ap (λ z. more z (quote b ∷ [])) (elements_put b (stepped w Begin) es (record { last = refl; field = refl }))
     ∙ (λ i. record { text = text i; last = Some (sym (same_edge whole (string_sign b es)) i); level = w.level; in_field = w.in_field })
   where
@@ -167,7 +172,7 @@ elements_in : (b : Bool) (ts : List PlainToken) (w : Writing) (es : List (Elemen
 elements_in b ts w [] = refl
 elements_in b ts w (e ∷ es) =
     ap (λ z. puts_elements listed_behind listed_stepped b z es) (element_in b ts w e)
-        ∙ elements_in b ts (puts_element behind_sited stepped b w e) es
+    ∙ elements_in b ts (puts_element behind_sited stepped b w e) es
 
 -- the text that an f-string is written into
 abbrev pub around : Listed → Writing
@@ -212,13 +217,13 @@ ends_outside l w es h e = by l.string h e
   where
     at : (v : Writing) (b : Bool) → b ≡ false → w ≡ behind_sited (or_none (if b then Some v else None)) (sited_in_utf8 (sited_string es))
         → listed (l.tokens ++ record { kind = kinds.String; text = w.text } ∷ []) ≡ behind_in l.tokens (if b then Some v else None)
-            (sited_in_utf8 (sited_string es))
+        (sited_in_utf8 (sited_string es))
     at v true h e = absurd (cc)
     at v false h e = ap (λ (z : Writing). listed (l.tokens ++ record { kind = kinds.String; text = z.text } ∷ [])) e
 
     by : (o : Option Writing) → is_field o ≡ false → w ≡ behind_sited (or_none (field_of o)) (sited_in_utf8 (sited_string es))
         → listed (l.tokens ++ record { kind = kinds.String; text = w.text } ∷ []) ≡ behind_in l.tokens (field_of o)
-            (sited_in_utf8 (sited_string es))
+        (sited_in_utf8 (sited_string es))
     by None h e = ap (λ (z : Writing). listed (l.tokens ++ record { kind = kinds.String; text = z.text } ∷ [])) e
     by (Some v) h e = at v v.in_field h e
 
@@ -236,7 +241,7 @@ IsEnded b w x = (v : Writing) (es : List (Element Sited)) → b ≡ v.in_field �
 
 module _ (b : Bool) (l m : Listed) (w x : Writing) (es : List (Element Sited))
     (site : b ≡ is_field l.string) (opened : m ≡ puts_elements listed_behind listed_stepped b (listed_stepped l Begin) es)
-        (is : m.string ≡ Some w)
+    (is : m.string ≡ Some w)
     (ended : IsEnded b w x) where
   text_is : x ≡ behind_sited (around l) (sited_in_utf8 (sited_string es))
   text_is =

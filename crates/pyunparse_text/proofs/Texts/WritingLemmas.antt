@@ -42,10 +42,10 @@ same_brace (c ∷ cs) = by (nat_lt c 128) (nat_lt c 2048) (nat_lt c 65536) refl
 
     by : (x y z : Bool) → nat_lt c 128 ≡ x →
         begins_with left_curly_bracket
-            (cond x (c ∷ []) (cond y ((192 + c / 64) ∷ (128 + c % 64) ∷ [])
-            (cond z ((224 + c / 4096) ∷ (128 + c / 64 % 64) ∷ (128 + c % 64) ∷ [])
-            ((240 + c / 262144) ∷ (128 + c / 4096 % 64) ∷ (128 + c / 64 % 64) ∷ (128 + c % 64) ∷ []))) ++ encode_utf8_all cs) ≡
-            (c == left_curly_bracket)
+        (cond x (c ∷ []) (cond y ((192 + c / 64) ∷ (128 + c % 64) ∷ [])
+        (cond z ((224 + c / 4096) ∷ (128 + c / 64 % 64) ∷ (128 + c % 64) ∷ [])
+        ((240 + c / 262144) ∷ (128 + c / 4096 % 64) ∷ (128 + c / 64 % 64) ∷ (128 + c % 64) ∷ []))) ++ encode_utf8_all cs) ≡
+        (c == left_curly_bracket)
     by true y z e = refl
     by false true z e = other (192 + c / 64) (omega arith) e
     by false false true e = other (224 + c / 4096) (omega arith) e
@@ -89,8 +89,8 @@ behind_text w p (q ∷ qs) e =
     ∙ append_assoc w.text (encode_utf8_all (if touches p here then [] else 32 ∷ []) ++ encode_utf8_all here.text) rest
     ∙ ap (λ z. w.text ++ z) (append_assoc (encode_utf8_all (if touches p here then [] else 32 ∷ [])) (encode_utf8_all here.text) rest
     ∙ sym (encodes-append (if touches p here then [] else 32 ∷ []) (here.text ++ text_behind here (at w.in_field qs))
-        ∙ ap (λ z. encode_utf8_all (if touches p here then [] else 32 ∷ []) ++ z)
-        (encodes-append here.text (text_behind here (at w.in_field qs)))))
+    ∙ ap (λ z. encode_utf8_all (if touches p here then [] else 32 ∷ []) ++ z)
+    (encodes-append here.text (text_behind here (at w.in_field qs)))))
 
 -- a line's tokens
 pub line_written : (w : Writing) (ps : List Sited) → w.last ≡ None

@@ -49,8 +49,14 @@ both b f g e j xs ys x y = record {
 pub weaker : (b c e f : Piece → Bool) → ((p : Piece) → b p ≡ true → c p ≡ true)
     → ((p : Piece) → e p ≡ true → f p ≡ true) → (xs : List Piece)
     → Written b e xs → Written c f xs
-weaker b c e f g h xs x = record { pieces = x.pieces; scalars = x.scalars; neat = x.neat; begins =
-    first xs x.begins; ends = last xs x.ends }
+weaker b c e f g h xs x = record {
+  pieces = x.pieces;
+  scalars = x.scalars;
+  neat = x.neat;
+  begins =
+      first xs x.begins;
+  ends = last xs x.ends;
+}
   where
     first : (xs : List Piece) → begins_by b xs ≡ true → begins_by c xs ≡ true
     first [] s = cc
@@ -96,8 +102,13 @@ Expression ps = Written begins_expression ends_expression ps
 
 pub one_piece : (p : Piece) → is_token p.kind p.text ≡ true → is_operator_kind p.kind ≡ false → p.before ≡ false → p.behind ≡ false
     → all_scalars p.text ≡ true → Expression (p ∷ [])
-one_piece p t o l r s = record { pieces = rw t refl; scalars = rw s refl; neat = refl; begins = rw (t, o, l) refl;
-    ends = rw (t, o, r) refl }
+one_piece p t o l r s = record {
+  pieces = rw t refl;
+  scalars = rw s refl;
+  neat = refl;
+  begins = rw (t, o, l) refl;
+  ends = rw (t, o, r) refl;
+}
 
 -- a sign alone, by what its neighbours are to know of it
 pub one_sign : (f : Piece → Bool) (p : Piece) → is_token p.kind p.text ≡ true → all_scalars p.text ≡ true
@@ -112,9 +123,9 @@ sign l r t = record { kind = kinds.Op; text = t; before = l; behind = r }
 pub in_brackets : (xs : List Piece) → Expression xs → Expression (sign false true (codes "(") ∷ xs ++ sign true false (codes ")") ∷ [])
 in_brackets xs x =
     let l : Written begins_expression (is_sign leading) (sign false true (codes "(") ∷ []) =
-        (let t = by_words (codes "(") in record { pieces = rw t refl; scalars = refl; neat = refl; begins = rw t refl; ends = refl }) in
+    (let t = by_words (codes "(") in record { pieces = rw t refl; scalars = refl; neat = refl; begins = rw t refl; ends = refl }) in
     let r : Written (is_sign trailing) ends_expression (sign true false (codes ")") ∷ []) =
-        (let t = by_words (codes ")") in record { pieces = rw t refl; scalars = refl; neat = refl; begins = refl; ends = rw t refl }) in
+    (let t = by_words (codes ")") in record { pieces = rw t refl; scalars = refl; neat = refl; begins = refl; ends = rw t refl }) in
     both begins_expression (is_sign leading) begins_expression ends_expression leading_fits
     (sign false true (codes "(") ∷ []) (xs ++ sign true false (codes ")") ∷ []) l
     (both begins_expression ends_expression (is_sign trailing) ends_expression trailing_fits xs (sign true false (codes ")") ∷ []) x r)
@@ -147,8 +158,8 @@ attribute xs t x e s =
     let n : Expression (record { kind = kinds.Name; text = t; before = false; behind = false } ∷ []) =
     one_piece (record { kind = kinds.Name; text = t; before = false; behind = false }) e refl refl refl s in
     let d : Written (λ q. is_operator_kind q.kind && bytes_eq q.text (codes ".")) ends_expression
-        (sign true true (codes ".") ∷ record { kind = kinds.Name; text = t; before = false; behind = false } ∷ []) =
-        (let o = by_words (codes ".") in record {
+    (sign true true (codes ".") ∷ record { kind = kinds.Name; text = t; before = false; behind = false } ∷ []) =
+    (let o = by_words (codes ".") in record {
       pieces = rw (o, e) refl;
       scalars = rw s refl;
       neat = (let f = apart_fits (sign true true (codes ".")) (record { kind = kinds.Name; text = t; before = false; behind = false })
@@ -159,7 +170,7 @@ attribute xs t x e s =
     }) in
     both begins_expression ends_expression (λ q. is_operator_kind q.kind && bytes_eq q.text (codes ".")) ends_expression
     (λ p q a b. let h = and_parts (is_operator_kind q.kind) (bytes_eq q.text (codes ".")) b in
-        before_point p q a h.0 ((bytes_eq-Decides q.text (codes ".")).0 h.1)) xs _ x d
+    before_point p q a h.0 ((bytes_eq-Decides q.text (codes ".")).0 h.1)) xs _ x d
 
 -- A line of an expression alone can be read back.
 pub expression_readable : (xs : List Piece) → Expression xs → are_readable xs ≡ true
@@ -191,12 +202,12 @@ opener_fits p q a b =
     (λ (h : ((is_operator_kind q.kind && is_among stars q.text) && not q.before) ≡ true).
     let s =
     and_parts (is_operator_kind q.kind) (is_among stars q.text)
-        (and_parts (is_operator_kind q.kind && is_among stars q.text) (not q.before) h).0 in
+    (and_parts (is_operator_kind q.kind && is_among stars q.text) (not q.before) h).0 in
     let n = off (bytes_eq p.text (codes ".")) (words_all (λ t. not (bytes_eq t (codes "."))) p.text openers refl x.1) in
     let m =
     off (begins_operator (p.text ++ take 1 q.text))
     (words_all (λ u. not (begins_operator (p.text ++ take 1 u))) q.text stars
-        (words_all (λ t. list_all (λ u. not (begins_operator (t ++ take 1 u))) stars) p.text openers openers_stars x.1) s.1) in
+    (words_all (λ t. list_all (λ u. not (begins_operator (t ++ take 1 u))) stars) p.text openers openers_stars x.1) s.1) in
     apart_fits p q (rw (x.0, n, m) refl))
     (or_parts (begins_expression q) ((is_operator_kind q.kind && is_among stars q.text) && not q.before) b)
 
@@ -204,7 +215,7 @@ item_free : (q : Piece) → begins_item q ≡ true → is_free_before q ≡ true
 item_free q b = ⊎_elim
     (λ (h : begins_expression q ≡ true). free_before q h)
     (λ (h : ((is_operator_kind q.kind && is_among stars q.text) && not q.before) ≡ true).
-        (and_parts (is_operator_kind q.kind && is_among stars q.text) (not q.before) h).1)
+    (and_parts (is_operator_kind q.kind && is_among stars q.text) (not q.before) h).1)
     (or_parts (begins_expression q) ((is_operator_kind q.kind && is_among stars q.text) && not q.before) b)
 
 -- `*` xs
@@ -224,7 +235,7 @@ keyword t xs e s x =
     (let o = by_words (codes "=") in record { pieces = rw o refl; scalars = refl; neat = refl; begins = refl; ends = refl }) in
     item (record { kind = kinds.Name; text = t; before = false; behind = false } ∷ sign true true (codes "=") ∷ xs)
     (both begins_expression ends_expression (is_sign trailing) ends_expression trailing_fits
-        (record { kind = kinds.Name; text = t; before = false; behind = false } ∷ []) (sign true true (codes "=") ∷ xs) n
+    (record { kind = kinds.Name; text = t; before = false; behind = false } ∷ []) (sign true true (codes "=") ∷ xs) n
     (both (is_sign trailing) (is_sign leading) begins_expression ends_expression leading_fits (sign true true (codes "=") ∷ []) xs m x))
 
 -- xs `,` ys
@@ -241,9 +252,9 @@ pub called : (xs ys : List Piece) → Expression xs → Item ys
     → Expression (xs ++ (sign true true (codes "(") ∷ ys ++ sign true false (codes ")") ∷ []))
 called xs ys x y =
     let l : Written (is_sign trailing) (is_sign openers) (sign true true (codes "(") ∷ []) =
-        (let o = by_words (codes "(") in record { pieces = rw o refl; scalars = refl; neat = refl; begins = refl; ends = refl }) in
+    (let o = by_words (codes "(") in record { pieces = rw o refl; scalars = refl; neat = refl; begins = refl; ends = refl }) in
     let r : Written (is_sign trailing) ends_expression (sign true false (codes ")") ∷ []) =
-        (let o = by_words (codes ")") in record { pieces = rw o refl; scalars = refl; neat = refl; begins = refl; ends = rw o refl }) in
+    (let o = by_words (codes ")") in record { pieces = rw o refl; scalars = refl; neat = refl; begins = refl; ends = rw o refl }) in
     both begins_expression ends_expression (is_sign trailing) ends_expression trailing_fits xs
     (sign true true (codes "(") ∷ ys ++ sign true false (codes ")") ∷ []) x
     (both (is_sign trailing) (is_sign openers) begins_item ends_expression opener_fits (sign true true (codes "(") ∷ [])

@@ -108,7 +108,7 @@ begins_any t c (o ∷ os) a e =
     let q = and_parts (list_all (λ d. list_any (eqb d) sign_chars) o) (list_all (list_all (λ d. list_any (eqb d) sign_chars)) os) a in
     ⊎_elim
     (λ (h : starts_with nat_eq o (t ++ c ∷ []) ≡ true). char_of (λ d. list_any (eqb d) sign_chars) t (drop (length (t ++ c ∷ [])) o) c
-        (subst (λ (u : List ℕ). list_all (λ d. list_any (eqb d) sign_chars) u ≡ true) (front_is o (t ++ c ∷ []) h) q.0))
+    (subst (λ (u : List ℕ). list_all (λ d. list_any (eqb d) sign_chars) u ≡ true) (front_is o (t ++ c ∷ []) h) q.0))
     (λ (h : list_any (λ o. starts_with nat_eq o (t ++ c ∷ [])) os ≡ true). begins_any t c os q.1 h)
     (or_parts (starts_with nat_eq o (t ++ c ∷ [])) (list_any (λ o. starts_with nat_eq o (t ++ c ∷ [])) os) e)
 
@@ -119,7 +119,7 @@ plain_head k t (c ∷ u) e f = cases (begins_operator (t ++ c ∷ [])) (λ h.
     let s : list_any (eqb c) sign_chars ≡ true = begins_any t c words refl (sym (begins_word (t ++ c ∷ [])) ∙ h) in
     let g = sign_of c (of_any is_sign_char c sign_chars refl s) in
     let l = off (list_any (eqb (lower c)) (heads prefixes))
-        (of_any (λ d. not (list_any (eqb (lower d)) (heads prefixes))) c sign_chars refl s) in
+    (of_any (λ d. not (list_any (eqb (lower d)) (heads prefixes))) c sign_chars refl s) in
     let o : Off c = record { name = g.starts; quote = g.quote; letter = l } in
     let n = no_token k c u o (λ z. g.digit) (λ z. absurd (let y : true ≡ false = sym z ∙ f in cc)) in
     cc)
@@ -151,7 +151,7 @@ behind_leading p q a b =
     off (bytes_eq p.text (codes ".")) (words_all (λ t. not (bytes_eq t (codes "."))) p.text leading refl x.1) in
     let m : begins_operator (p.text ++ take 1 q.text) ≡ false = ⊎_elim
     (λ (h : is_operator_kind q.kind ≡ true). let g : is_among openings q.text ≡ true = rw h at y.1 in
-        off (begins_operator (p.text ++ take 1 q.text)) (pairs_all no_longer leading openings p.text q.text leading_openings x.1 g))
+    off (begins_operator (p.text ++ take 1 q.text)) (pairs_all no_longer leading openings p.text q.text leading_openings x.1 g))
     (λ (h : is_operator_kind q.kind ≡ false). plain_head q.kind p.text q.text y.0 h)
     (bool_cases (is_operator_kind q.kind)) in
     rw (x.0, n, m) refl
@@ -200,14 +200,14 @@ before_point p q a k t =
     let m : begins_operator (p.text ++ take 1 q.text) ≡ false =
     ap (λ u. begins_operator (p.text ++ take 1 u)) t
     ∙ off (begins_operator (p.text ++ 46 ∷ [])) (pairs_all no_longer closings (codes "." ∷ trailing) p.text (codes ".")
-        closings_trailing g refl) in
+    closings_trailing g refl) in
     let s : stay_apart p q ≡ true = rw (h, n, m) refl in
     last (not (touches p q)) (stay_apart p q) s)
     (λ (h : is_operator_kind p.kind ≡ false).
     ⊎_elim
     (λ (i : is_number_kind p.kind ≡ true). let u : touches p q ≡ false = rw (t, i) (blank (p.behind || q.before)) in rw u refl)
     (λ (i : is_number_kind p.kind ≡ false). let s : stay_apart p q ≡ true = rw (h, k, i) refl in
-        last (not (touches p q)) (stay_apart p q) s)
+    last (not (touches p q)) (stay_apart p q) s)
     (bool_cases (is_number_kind p.kind)))
     (bool_cases (is_operator_kind p.kind))
   where

@@ -13,8 +13,8 @@ pub returns-in_err-module-clause-performs :
 returns-in_err-module-clause-performs g c =
     let e = err_from_is_err_and c.from_residual.result c.from_residual.ensures.1 in
     rw (e.1, e.2) (none_written in_pieces c.args.asked.now.style.profile (λ m output. output ≡ dump_output c.args.asked.now.style m)
-        (g.R.ByteIn.seen c.args.reader.now) (g.R.ByteIn.seen c.read_module.new.reader) (g.W.ByteOut.sent c.args.writer.now).taken
-        c.in_err-module.field-0.0 c.in_err-module.ensures.none)
+    (g.R.ByteIn.seen c.args.reader.now) (g.R.ByteIn.seen c.read_module.new.reader) (g.W.ByteOut.sent c.args.writer.now).taken
+    c.in_err-module.field-0.0 c.in_err-module.ensures.none)
 
 pub returns-in_err-pieces-clause-performs :
     goal.returns-in_err-pieces-clause-performs
@@ -27,13 +27,13 @@ pub returns-in_err-write_pieces-clause-performs :
 returns-in_err-write_pieces-clause-performs g c =
     let e = err_from_is_err_and c.from_residual-in_err-write_pieces.result c.from_residual-in_err-write_pieces.ensures.1 in
     rw (e.1, e.2) (pieces_cut c.args.asked.now.style.profile (λ m output. output ≡ dump_output c.args.asked.now.style m) _ _
-        (module_of c.in_ok-module.module)
+    (module_of c.in_ok-module.module)
     (g.W.ByteOut.sent c.args.writer.now).taken (g.W.ByteOut.sent c.write_pieces.new.writer).taken
-        (concat c.in_ok-pieces.pieces ++ codes "\n") c.in_err-write_pieces.field-0.0 c.in_ok-module.ensures.reads
+    (concat c.in_ok-pieces.pieces ++ codes "\n") c.in_err-write_pieces.field-0.0 c.in_ok-module.ensures.reads
     (ap (λ text. text ++ codes "\n") c.in_ok-pieces.ensures.text) c.in_err-write_pieces.ensures.writes)
 
 pub returns-clause-performs : goal.returns-clause-performs
 returns-clause-performs g c =
     all_written in_pieces (g.W.ByteOut.sent c.args.writer.now).taken (g.W.ByteOut.sent c.write_pieces.new.writer).taken
-        (concat c.in_ok-pieces.pieces ++ codes "\n") c.in_ok-module.ensures.reads
+    (concat c.in_ok-pieces.pieces ++ codes "\n") c.in_ok-module.ensures.reads
     (ap (λ text. text ++ codes "\n") c.in_ok-pieces.ensures.text) c.in_ok-write_pieces.ensures.writes.1

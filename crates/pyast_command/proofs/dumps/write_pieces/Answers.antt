@@ -28,7 +28,7 @@ returns-in_err-write_all-clause-writes g c =
     let e = err_from_is_err_and c.from_residual-in_err-write_all.result c.from_residual-in_err-write_all.ensures.1 in
     let came = piece_came _ _ _ (codes "\n") _ _ _ _ c.in_ok-push_next.ensures.text c.pieces.invariant.came in
     let cut : TakesFront (g.W.ByteOut.sent c.pieces.writer).taken (g.W.ByteOut.sent c.write_all.new.writer).taken
-        (string_bytes c.push_next.new.out) =
+    (string_bytes c.push_next.new.out) =
     rw (← c.as_bytes.ensures.value) c.in_err-write_all.ensures.front in
     rw (e.1, e.2) (TakesAllBut-cut _ _ _ _ _ _ came cut)
 
@@ -36,7 +36,7 @@ pub pieces-preserved-then-len-ge-ENOUGH : goal.pieces-preserved-then-len-ge-ENOU
 pieces-preserved-then-len-ge-ENOUGH g c =
     let came = piece_came _ _ _ (codes "\n") _ _ _ _ c.in_ok-push_next.ensures.text c.pieces.invariant.came in
     let wrote : Appends (g.W.ByteOut.sent c.pieces.writer).taken (g.W.ByteOut.sent c.write_all.new.writer).taken
-        (string_bytes c.push_next.new.out) =
+    (string_bytes c.push_next.new.out) =
     rw (← c.as_bytes.ensures.value) c.in_ok-write_all.ensures.ok in
     record {
       came = rw c.clear.ensures.bytes (TakesAllBut-written _ _ _ _ _ _ came wrote);
@@ -59,10 +59,10 @@ returns-in_err-write_all-2-clause-writes g c =
     let e = err_from_is_err_and c.from_residual-in_err-write_all-2.result c.from_residual-in_err-write_all-2.ensures.1 in
     let came = piece_came _ _ _ (codes "\n") _ _ _ _ c.in_ok-push_next.ensures.text c.pieces.invariant.came in
     let ended : string_bytes c.push.new.self ≡ string_bytes c.push_next.new.out ++ codes "\n" =
-        rw (c.in_ok-push.ensures.bytes, c.in_ok-push.ensures.ascii (omega arith)) refl in
+    rw (c.in_ok-push.ensures.bytes, c.in_ok-push.ensures.ascii (omega arith)) refl in
     let all = all_came _ _ _ (codes "\n") _ _ _ (c.in_ok-push_next.ensures.end c.if-branch.false) ended came in
     let cut : TakesFront (g.W.ByteOut.sent c.pieces.writer).taken (g.W.ByteOut.sent c.write_all-2.new.writer).taken
-        (string_bytes c.push.new.self) =
+    (string_bytes c.push.new.self) =
     rw (← c.as_bytes-2.ensures.value) c.in_err-write_all-2.ensures.front in
     rw (e.1, e.2) (TakesAllBut-cut _ _ _ _ _ _ all cut)
 
@@ -70,9 +70,9 @@ pub returns-clause-writes : goal.returns-clause-writes
 returns-clause-writes g c =
     let came = piece_came _ _ _ (codes "\n") _ _ _ _ c.in_ok-push_next.ensures.text c.pieces.invariant.came in
     let ended : string_bytes c.push.new.self ≡ string_bytes c.push_next.new.out ++ codes "\n" =
-        rw (c.in_ok-push.ensures.bytes, c.in_ok-push.ensures.ascii (omega arith)) refl in
+    rw (c.in_ok-push.ensures.bytes, c.in_ok-push.ensures.ascii (omega arith)) refl in
     let all = all_came _ _ _ (codes "\n") _ _ _ (c.in_ok-push_next.ensures.end c.if-branch.false) ended came in
     let wrote : Appends (g.W.ByteOut.sent c.pieces.writer).taken (g.W.ByteOut.sent c.write_all-2.new.writer).taken
-        (string_bytes c.push.new.self) =
+    (string_bytes c.push.new.self) =
     rw (← c.as_bytes-2.ensures.value) c.in_ok-write_all-2.ensures.ok in
     (refl, all_written _ _ _ _ _ all wrote)

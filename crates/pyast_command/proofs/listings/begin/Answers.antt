@@ -21,6 +21,6 @@ pub returns-in_err-resume_checked-in-Some-clause-refused :
     goal.returns-in_err-resume_checked-in-Some-clause-refused
 returns-in_err-resume_checked-in-Some-clause-refused g c =
     let p = err_from_is_err_and c.from_residual-in_err-resume_checked-in-Some.result
-        c.from_residual-in_err-resume_checked-in-Some.ensures.1 in
+    c.from_residual-in_err-resume_checked-in-Some.ensures.1 in
     rw (p.1, p.2, c.in-Some.is) (λ exact count taken. unresumed exact count _ _ _ c.in_err-resume_checked-in-Some.field-0.0 taken
-        c.in_err-resume_checked-in-Some.ensures.misses)
+    c.in_err-resume_checked-in-Some.ensures.misses)

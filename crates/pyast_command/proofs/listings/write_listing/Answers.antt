@@ -10,7 +10,7 @@ pub returns-in_err-lister-clause-performs : goal.returns-in_err-lister-clause-pe
 returns-in_err-lister-clause-performs g c =
     let p = err_from_is_err_and c.from_residual.result c.from_residual.ensures.1 in
     rw (p.1, p.2) (rw c.as_ref.ensures.value at c.in_err-lister.ensures.refused c.args.asked.now.exact c.args.asked.now.count
-        (g.W.ByteOut.sent c.args.writer.now).taken)
+    (g.W.ByteOut.sent c.args.writer.now).taken)
 
 pub returns-in_err-output-clause-performs : goal.returns-in_err-output-clause-performs
 returns-in_err-output-clause-performs g c =
@@ -35,7 +35,7 @@ returns-in_err-write_all-clause-performs g c =
     let p = err_from_is_err_and c.from_residual-in_err-write_all.result c.from_residual-in_err-write_all.ensures.1 in
     let unfailed = c.is_write_failed.ensures.unfailed c.if-is_write_failed.false in
     let cut : TakesFront (g.W.ByteOut.sent c.list-listed.new.writer).taken (g.W.ByteOut.sent c.write_all.new.writer).taken
-        (string_bytes c.list-listed.new.output) =
+    (string_bytes c.list-listed.new.output) =
     rw (← c.as_bytes.ensures.value) c.in_err-write_all.ensures.front in
     rw (p.1, p.2) (listed _ _ _ _ _ _ _ _ _ _ _ (rw c.as_ref.ensures.value at c.in_ok-lister.ensures.starts) c.list-listed.ensures.holds
     (λ output told h. HoldsFor-cut output told _ _ _ _ _ unfailed h cut))
@@ -44,7 +44,7 @@ pub returns-clause-performs : goal.returns-clause-performs
 returns-clause-performs g c =
     let unfailed = c.is_write_failed.ensures.unfailed c.if-is_write_failed.false in
     let wrote : Appends (g.W.ByteOut.sent c.list-listed.new.writer).taken (g.W.ByteOut.sent c.write_all.new.writer).taken
-        (string_bytes c.list-listed.new.output) =
+    (string_bytes c.list-listed.new.output) =
     rw (← c.as_bytes.ensures.value) c.in_ok-write_all.ensures.ok in
     listed _ _ _ _ _ _ _ _ _ _ _ (rw c.as_ref.ensures.value at c.in_ok-lister.ensures.starts) c.list-listed.ensures.holds
     (λ output told h. HoldsFor-written output told _ _ _ _ _ unfailed h wrote)

@@ -19,5 +19,5 @@ pub returns-in_err-from_text-in-Some-clause-refused :
 returns-in_err-from_text-in-Some-clause-refused c =
     let e = err_from_is_err_and c.from_residual.result c.from_residual.ensures.1 in
     rw (e.1, e.2) (misses_cursor (rows_of (found_of c.args.matches.now)) c.in-Some.text.now c.in_err-from_text-in-Some.field-0.0
-        (c.in-Some.ensures ∙ first_value-rows (found_of c.args.matches.now) (codes "resume"))
+    (c.in-Some.ensures ∙ first_value-rows (found_of c.args.matches.now) (codes "resume"))
     c.in_err-from_text-in-Some.ensures.fault c.in_err-from_text-in-Some.ensures.malformed)

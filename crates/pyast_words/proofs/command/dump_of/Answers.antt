@@ -11,8 +11,8 @@ returns-clause-given c = record {
   indent = c.in_ok-indent_of.ensures.given;
   bare = subst (IsFlag (one_of (codes "bare") (rows_of (found_of c.args.matches.now)))) (sym (not_not c.get_flag.result))
       (is_flag _ _ (λ e. c.get_flag.ensures.none (one_text-rows (found_of c.args.matches.now) (codes "bare") ∙ e))
-          (λ e. c.get_flag.ensures.value (one_text-rows (found_of c.args.matches.now) (codes "bare") ∙ e))
-          (λ e. c.get_flag.ensures.other (one_text-rows (found_of c.args.matches.now) (codes "bare") ∙ e)));
+      (λ e. c.get_flag.ensures.value (one_text-rows (found_of c.args.matches.now) (codes "bare") ∙ e))
+      (λ e. c.get_flag.ensures.other (one_text-rows (found_of c.args.matches.now) (codes "bare") ∙ e)));
   profile = c.profile_of.ensures;
   file = c.in_ok-file.ensures;
 }

@@ -21,7 +21,7 @@ loop-progress-init c =
       extent = ap (λ (r : LineReading). r.extent) c.in_ok-lines.ensures.before;
       known =
           subst (λ (k : ℕ). IsProgress c.args.profile s k c.new-progress.result)
-              (sym (ap (λ (r : LineReading). r.given) c.in_ok-lines.ensures.before))
+          (sym (ap (λ (r : LineReading). r.given) c.in_ok-lines.ensures.before))
           (c.new-progress.ensures c.args.profile s);
     }
 
@@ -31,14 +31,14 @@ returns-in_err-next-clause-refused c =
     told_on c.args.profile s c.from_residual-in_err-next.result c.in_err-next.field-0.0
     (subst (λ (p : Parts). Tells (refusal c.args.profile.extent (in_characters p)) c.in_err-next.field-0.0) c.loop-progress.invariant.source
     (subst (λ (x : Extent). Tells (refusal x (in_characters c.loop-progress.lines.source)) c.in_err-next.field-0.0)
-        c.loop-progress.invariant.extent c.in_err-next.ensures.refused))
+    c.loop-progress.invariant.extent c.in_err-next.ensures.refused))
     (err_from_is_err_and c.from_residual-in_err-next.result c.from_residual-in_err-next.ensures.1)
 
 pub loop-progress-smaller : goal.loop-progress-smaller
 loop-progress-smaller c =
     let held = c.in_ok-next.ensures.line c.if-branch.true in
     let given = c.in_ok-next.ensures.given
-        ∙ ap (λ (b : Bool). if b then c.loop-progress.lines.given + 1 else c.loop-progress.lines.given) c.if-branch.true in
+    ∙ ap (λ (b : Bool). if b then c.loop-progress.lines.given + 1 else c.loop-progress.lines.given) c.if-branch.true in
     let within : c.loop-progress.lines.given < length (lines (in_characters c.args.source.now)) =
     subst (λ (p : Parts). c.loop-progress.lines.given < length (lines (in_characters p))) c.loop-progress.invariant.source
     (slice_get_within (lines (in_characters c.loop-progress.lines.source)) c.loop-progress.lines.given held.line held.stands)
@@ -50,15 +50,15 @@ returns-clause-accepted c =
     let s = in_characters c.args.source.now in
     c.finish.ensures.accepted c.args.profile s c.loop-progress.lines.given c.loop-progress.invariant.known
     (closes_at c.args.profile s c.loop-progress.lines.extent c.loop-progress.lines.given c.loop-progress.lines.source
-        c.next.new.self.marker c.end.result
+    c.next.new.self.marker c.end.result
     c.loop-progress.invariant.extent (ap in_characters c.loop-progress.invariant.source) (c.in_ok-next.ensures.all c.if-branch.false)
-        (c.in_ok-next.ensures.sound c.if-branch.false) (c.in_ok-next.ensures.end c.if-branch.false) c.end.ensures)
+    (c.in_ok-next.ensures.sound c.if-branch.false) (c.in_ok-next.ensures.end c.if-branch.false) c.end.ensures)
 
 pub returns-clause-refused : goal.returns-clause-refused
 returns-clause-refused c =
     let s = in_characters c.args.source.now in
     c.finish.ensures.refused c.args.profile s c.loop-progress.lines.given c.loop-progress.invariant.known
     (closes_at c.args.profile s c.loop-progress.lines.extent c.loop-progress.lines.given c.loop-progress.lines.source
-        c.next.new.self.marker c.end.result
+    c.next.new.self.marker c.end.result
     c.loop-progress.invariant.extent (ap in_characters c.loop-progress.invariant.source) (c.in_ok-next.ensures.all c.if-branch.false)
-        (c.in_ok-next.ensures.sound c.if-branch.false) (c.in_ok-next.ensures.end c.if-branch.false) c.end.ensures)
+    (c.in_ok-next.ensures.sound c.if-branch.false) (c.in_ok-next.ensures.end c.if-branch.false) c.end.ensures)

@@ -19,4 +19,4 @@ returns-clause-entries c =
     let p = c.args.pairs in
     let e = c.args.pair in
     put_entries p.keys.items c.put_option.new.items.items p.values.items c.put.new.items.items (boxed_of e.key) e.value.value
-        c.in_ok-put_option.ensures c.in_ok-put.ensures p.same
+    c.in_ok-put_option.ensures c.in_ok-put.ensures p.same

@@ -7,7 +7,7 @@ use Rattle.pyparse_line.proofs.fronts.read_suite.Goals as goal
 pub returns-in_err-read : goal.returns-in_err-read
 returns-in_err-read c =
     let f = suite_failed c.args.profile (reads c.args.depth) c.args.tokens.now c.args.at (omega arith) c.in_err-read.field-0.0
-        c.in_err-read.ensures in
+    c.in_err-read.ensures in
     search (rules, f)
 
 pub returns : goal.returns

@@ -118,8 +118,8 @@ module _ {A : Type 0} (ts : List given.Terminal) (one : List Terminal → Answer
               enough = omega (arith, l, e, le, s.within, seen_length ts n, seen_length ts next);
               is = first m q
                   ∙ ap (λ y. and_then y (λ as_ i. Found (acc ++ as_) i)) (behind m
-                      ∙ ap (λ b. cond b (and_then (commas one more m (seen ts (k + 1))) (λ as_ r2. Found (a ∷ as_) r2))
-                      (Found (a ∷ []) (seen ts (k + 1)))) some_more)
+                  ∙ ap (λ b. cond b (and_then (commas one more m (seen ts (k + 1))) (λ as_ r2. Found (a ∷ as_) r2))
+                  (Found (a ∷ []) (seen ts (k + 1)))) some_more)
                   ∙ grown (commas one more m (seen ts (k + 1)))
                   ∙ ap (λ l. and_then (commas one more m (seen ts (k + 1))) (λ as_ i. Found (l ++ as_) i)) (sym p)
                   ∙ ap (λ j. and_then (commas one more m (seen ts j)) (λ as_ i. Found (new ++ as_) i)) (sym e);

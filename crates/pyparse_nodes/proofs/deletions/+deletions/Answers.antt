@@ -38,7 +38,7 @@ delete-returns-in-List t c = list_changed deleted all_deleted Del c.args.e.now c
     c.deref_mut-in-List.result.now c.delete_all-in-List.new.es
     (c.deref_mut-in-List.ensures.value ∙ ap (λ (v : Vec Expr Global). v.items) c.in-List.elts-is)
     (refilled _ _ c.delete_all-in-List.new.es (c.delete_all-in-List.auto.es ∙ c.deref_mut-in-List.ensures.len)) c.delete_all-in-List.ensures
-        (λ es. refl) c.in-List.is
+    (λ es. refl) c.in-List.is
 
 pub delete-returns-in_default : goal.delete-returns-in_default
 delete-returns-in_default t c = not_deleted c.args.e.now c.in_default.not-Attribute c.in_default.not-Subscript c.in_default.not-Name
@@ -48,7 +48,7 @@ pub delete_all-returns-then-not-delete : goal.delete_all-returns-then-not-delete
 delete_all-returns-then-not-delete t c = one_fails deleted all_deleted refl (λ e es. refl) c.args.es.now c.loop-e.e-index
     c.e-item.result c.loop-e-test.true
     (ap (λ e. deleted (tree_of e)) (sym (c.loop-e.invariant.rest.1 c.loop-e.e-index c.e-item.result (omega arith)))
-        ∙ c.if-not-delete.ensures)
+    ∙ c.if-not-delete.ensures)
 
 pub delete_all-returns : goal.delete_all-returns
 delete_all-returns t c = all_changed deleted all_deleted refl (λ e es. refl) c.args.es.now c.loop-e.e-items (sym c.loop-e.auto.e-items)

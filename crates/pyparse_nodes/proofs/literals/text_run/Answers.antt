@@ -11,6 +11,6 @@ loop-more-preserved c = record {
   within = omega (arith, c.in-Some.ensures.within);
   is = c.loop-more.invariant.is
       ∙ ap (λ r. run (values.Str c.loop-more.points c.args.unicode) r)
-          (literal_front c.args.tokens.now c.loop-more.next _ c.in-Some.ensures.is)
+      (literal_front c.args.tokens.now c.loop-more.next _ c.in-Some.ensures.is)
       ∙ c.in_ok-points.ensures.is (seen c.args.tokens.now (c.loop-more.next + 1));
 }

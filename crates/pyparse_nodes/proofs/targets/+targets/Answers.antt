@@ -41,14 +41,14 @@ store-returns-in-List t c = list_changed stored all_stored Store c.args.e.now c.
     c.deref_mut-in-List.result.now c.store_all-in-List.new.es
     (c.deref_mut-in-List.ensures.value ∙ ap (λ (v : Vec Expr Global). v.items) c.in-List.elts-is)
     (refilled _ _ c.store_all-in-List.new.es (c.store_all-in-List.auto.es ∙ c.deref_mut-in-List.ensures.len)) c.store_all-in-List.ensures
-        (λ es. refl) c.in-List.is
+    (λ es. refl) c.in-List.is
 
 pub store-returns-then-not-is_starred : goal.store-returns-then-not-is_starred
 store-returns-then-not-is_starred t c = star_changed c.args.e.now c.deref_mut-then-not-is_starred.result.now c.in-Starred.value _
     c.in-Starred.ctx c.store.result c.in-Starred.is
     (c.deref_mut-then-not-is_starred.ensures.value ∙ ap (λ (b : Box Expr Global). b.value) c.in-Starred.value-is)
     (sym (c.if-not-is_starred.ensures ∙ ap (λ e. is_starred (tree_of e)) (c.deref.ensures
-        ∙ sym c.deref_mut-then-not-is_starred.ensures.value))) c.store.ensures
+    ∙ sym c.deref_mut-then-not-is_starred.ensures.value))) c.store.ensures
 
 pub store-returns-else-not-is_starred : goal.store-returns-else-not-is_starred
 store-returns-else-not-is_starred t c = star_refused c.args.e.now c.deref.result.now c.in-Starred.value c.in-Starred.ctx

@@ -7,7 +7,7 @@ use Rattle.pyparse_pattern.proofs.keys.read_key.Goals as goal
 pub returns-in_err-key : goal.returns-in_err-key
 returns-in_err-key c =
     let f = lower_failed c.args.depth.room (c.args.depth.room - 1) c.in_err-key.field-0.0
-        (keys c.args.depth (seen c.args.tokens.now c.args.at)) (omega arith) c.in_err-key.ensures in
+    (keys c.args.depth (seen c.args.tokens.now c.args.at)) (omega arith) c.in_err-key.ensures in
     search (rules, f)
 
 pub returns-then-key-depth : goal.returns-then-key-depth

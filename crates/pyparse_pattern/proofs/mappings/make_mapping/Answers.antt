@@ -13,7 +13,7 @@ pub returns-in_err-height : goal.returns-in_err-height
 returns-in_err-height c =
     let es = map entry_of c.args.entries.items.items in
     let f : c.args.room < pattern_height (MatchMapping (pattern_keys es) (key_patterns es) (rest_of es)) =
-        omega (arith, c.in_err-height.ensures.low, mapping_tall es _ c.requires c.args.entries.is_height) in
+    omega (arith, c.in_err-height.ensures.low, mapping_tall es _ c.requires c.args.entries.is_height) in
     search (rules, f)
 
 -- the value of the pattern
@@ -22,14 +22,17 @@ value : (c : After-drop-entry-iterator-2)
     (pattern_keys (map entry_of c.args.entries.items.items)) (key_patterns (map entry_of c.args.entries.items.items))
     (rest_of (map entry_of c.args.entries.items.items))
 value c =
-    let l : length c.loop-entry.entry-iterator.rest.items ≡ 0 = omega (arith, c.loop-entry.entry-iterator.rest.ok.0,
-        c.in-None.ensures.steps.0) in
+    let l : length c.loop-entry.entry-iterator.rest.items ≡ 0 = omega (
+      arith,
+      c.loop-entry.entry-iterator.rest.ok.0,
+      c.in-None.ensures.steps.0,
+    ) in
     mapping_shape c.loop-entry.parts.keys c.loop-entry.parts.patterns c.loop-entry.parts.rest
-        (map entry_of c.args.entries.items.items) c.requires
+    (map entry_of c.args.entries.items.items) c.requires
     (ended (map tree_of c.loop-entry.parts.keys.items) _ pattern_keys c.loop-entry.entry-iterator.rest.items l refl
-        c.loop-entry.invariant.keys)
+    c.loop-entry.invariant.keys)
     (ended (map pattern_of c.loop-entry.parts.patterns.items) _ keyed_in c.loop-entry.entry-iterator.rest.items l refl
-        c.loop-entry.invariant.patterns)
+    c.loop-entry.invariant.patterns)
     (ended_rest c.loop-entry.parts.rest _ c.loop-entry.entry-iterator.rest.items l c.loop-entry.invariant.rest)
 
 pub boxed-requires : goal.boxed-requires

@@ -6,7 +6,7 @@ use Rattle.pyparse_pattern.proofs.numbers.with_imaginary.Goals as goal
 pub returns-in_err-right : goal.returns-in_err-right
 returns-in_err-right c =
     let f = sum_failed c.args.tokens.now (tree_of c.args.number.read.expr.value) c.args.number.read.next c.in-Some.sign c.in-Some.ensures.is
-        c.in_err-right.field-0.0 c.in_err-right.ensures in
+    c.in_err-right.field-0.0 c.in_err-right.ensures in
     rw c.if-imaginary.false (search (rules, f))
 
 pub returns-then-right : goal.returns-then-right

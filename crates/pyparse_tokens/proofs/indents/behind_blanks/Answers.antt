@@ -13,7 +13,7 @@ loop-first-smaller c =
     let cut : c.loop-first.text.now ≡ encode_utf8 c.in-Some.first ++ chars_rest c.next.new.self = sym c.chars-left.ensures.rest
     ∙ c.in-Some.ensures.steps.0 in
     let s : Past c.loop-first.text.now (chars_rest c.next.new.self) c.in-Some.first =
-        past c.loop-first.text.now (chars_rest c.next.new.self)
+    past c.loop-first.text.now (chars_rest c.next.new.self)
     c.in-Some.first c.loop-first.invariant.utf8 cut in
     omega (arith, s.shorter, ap length c.as_str-text.ensures)
 
@@ -21,7 +21,7 @@ pub loop-first-preserved : goal.loop-first-preserved
 loop-first-preserved c =
     let cut : c.loop-first.text.now ≡ encode_utf8 c.in-Some.first ++ c.as_str-text.result.now =
     sym c.chars-left.ensures.rest ∙ c.in-Some.ensures.steps.0 ∙ ap (λ (t : List ℕ). encode_utf8 c.in-Some.first ++ t)
-        (sym c.as_str-text.ensures) in
+    (sym c.as_str-text.ensures) in
     passes_on c.args.text.now c.loop-first.text.now c.as_str-text.result.now c.in-Some.first c.loop-first.invariant cut
     (sym c.if-not-is_blank.ensures)
 

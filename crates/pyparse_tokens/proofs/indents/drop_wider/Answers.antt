@@ -14,7 +14,7 @@ returns-then-last-widths c rising =
     let w = c.args.widths in
     let below : nat_lt v.eight w.eight ≡ true = grind (arith, nat_tests) in
     let split : ws ≡ take (length ws - 1) ws ++ v ∷ [] =
-        last_of ws v (c.in-Some.ensures.value ∙ ap (λ (us : List Widths). slice_get us (length us - 1)) c.deref.ensures.value) in
+    last_of ws v (c.in-Some.ensures.value ∙ ap (λ (us : List Widths). slice_get us (length us - 1)) c.deref.ensures.value) in
     subst (λ (us : List Widths). Drops start us w false) (sym split)
     (stops_narrower start (take (length ws - 1) ws) v w (subst (λ (us : List Widths). Dropped start us w) split c.loop-last.invariant)
     (sym c.if-not-are_alike.ensures) below rising)

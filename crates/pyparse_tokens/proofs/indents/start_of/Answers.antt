@@ -9,7 +9,7 @@ pub place_of-requires : goal.place_of-requires
 place_of-requires c =
     let line = c.range_from.result.now in
     (seam c.text-text.result.now line (blanks_of (chars line)) c.behind_blanks.result.now c.args.offset
-        (omega (arith, c.range_from.ensures.len))
+    (omega (arith, c.range_from.ensures.len))
     c.range_from.ensures.value c.behind_blanks.ensures.cut c.behind_blanks.utf8).boundary
 
 pub returns : goal.returns
@@ -19,7 +19,7 @@ returns c =
     let cut = seam text line (blanks_of (chars line)) c.behind_blanks.result.now c.args.offset (omega (arith, c.range_from.ensures.len))
     c.range_from.ensures.value c.behind_blanks.ensures.cut c.behind_blanks.utf8 in
     let same = ap chars c.range_from.ensures.value ∙ line_of text c.args.source.now.text c.args.offset c.text-text.utf8
-        c.text-text.ensures.value in
+    c.text-text.ensures.value in
     c.place_of.ensures ∙ ap (place_at text) cut.at
     ∙ ap₂ place_at (whole_of text c.args.source.now.text c.text-text.utf8 c.text-text.ensures.value)
     (ap (λ (t : List ℕ). c.args.offset + length (blanks_of t)) same)

@@ -35,7 +35,7 @@ take-requires c =
     let reads = c.in_ok-walk_line.ensures.within c.if-branch.false c.args.lister.now c.entries.invariant.reads in
     let read =
     entry_read c.args.source.now c.walk_line.new.lister c.next.new.self c.walk_line.new.gather c.in_ok-entry.field-0
-        c.in-Entry.entry reads.at
+    c.in-Entry.entry reads.at
     c.in_ok-entry.ensures.steps c.in-Entry.is
     in
     let few = few_brackets c.args.source.now c.walk_line.new.lister c.walk_line.new.gather reads.at in
@@ -47,13 +47,13 @@ returns-then-is_none-clause-line c =
     let reads = c.in_ok-walk_line.ensures.within c.if-branch.false c.args.lister.now c.entries.invariant.reads in
     let read =
     entry_read c.args.source.now c.walk_line.new.lister c.next.new.self c.walk_line.new.gather c.in_ok-entry.field-0
-        c.in-Entry.entry reads.at
+    c.in-Entry.entry reads.at
     c.in_ok-entry.ensures.steps c.in-Entry.is
     in
     let none : kept_refusal c.take.new.self.pass ≡ None = search rules in
     λ _.
     (reads_end c.args.source.now c.args.lister.now c.walk_line.new.lister c.next.new.self c.in-Entry.entry c.walk_line.new.gather
-        c.take.new.self reads read
+    c.take.new.self reads read
     c.next.ensures.given (c.in_ok-entry.ensures.source ∙ reads.at.source) c.in_ok-take-in-Entry.ensures.gathers
     (sym c.in_ok-take-in-Entry.ensures.ends ∙ c.if-branch-2.true)).line none
 
@@ -62,7 +62,7 @@ entries-smaller-then-branch-2 c =
     let reads = c.in_ok-walk_line.ensures.within c.if-branch.false c.args.lister.now c.entries.invariant.reads in
     let read =
     entry_read c.args.source.now c.walk_line.new.lister c.next.new.self c.walk_line.new.gather c.in_ok-entry.field-0
-        c.in-Entry.entry reads.at
+    c.in-Entry.entry reads.at
     c.in_ok-entry.ensures.steps c.in-Entry.is
     in
     omega (arith, read.count, read.within, c.in_ok-walk_line.ensures.given)
@@ -72,7 +72,7 @@ entries-smaller c =
     let reads = c.in_ok-walk_line.ensures.within c.if-branch.false c.args.lister.now c.entries.invariant.reads in
     let read =
     entry_read c.args.source.now c.walk_line.new.lister c.next.new.self c.walk_line.new.gather c.in_ok-entry.field-0
-        c.in-Entry.entry reads.at
+    c.in-Entry.entry reads.at
     c.in_ok-entry.ensures.steps c.in-Entry.is
     in
     omega (arith, read.count, read.within, c.in_ok-walk_line.ensures.given)
@@ -86,12 +86,12 @@ entries-preserved-then-branch-2 c =
     let reads = c.in_ok-walk_line.ensures.within c.if-branch.false c.args.lister.now c.entries.invariant.reads in
     let read =
     entry_read c.args.source.now c.walk_line.new.lister c.next.new.self c.walk_line.new.gather c.in_ok-entry.field-0
-        c.in-Entry.entry reads.at
+    c.in-Entry.entry reads.at
     c.in_ok-entry.ensures.steps c.in-Entry.is
     in
     let ended =
     reads_end c.args.source.now c.args.lister.now c.walk_line.new.lister c.next.new.self c.in-Entry.entry c.walk_line.new.gather
-        c.take.new.self reads read
+    c.take.new.self reads read
     c.next.ensures.given (c.in_ok-entry.ensures.source ∙ reads.at.source) c.in_ok-take-in-Entry.ensures.gathers
     (sym c.in_ok-take-in-Entry.ensures.ends ∙ c.if-branch-2.true)
     in
@@ -102,7 +102,7 @@ entries-preserved-then-branch-2 c =
       reads =
           reads_cleared c.args.source.now c.args.lister.now c.next.new.self c.take.new.self c.clear-then-branch-2.new.self ended.at
           (λ none. is_none_not (kept_refusal c.take.new.self.pass) (ap is_some (sym c.refusal.ensures) ∙ c.is_none.ensures
-              ∙ ap not c.if-is_none.false) none)
+          ∙ ap not c.if-is_none.false) none)
           c.clear-then-branch-2.ensures.rest;
     }
 
@@ -111,14 +111,14 @@ entries-preserved c =
     let reads = c.in_ok-walk_line.ensures.within c.if-branch.false c.args.lister.now c.entries.invariant.reads in
     let read =
     entry_read c.args.source.now c.walk_line.new.lister c.next.new.self c.walk_line.new.gather c.in_ok-entry.field-0
-        c.in-Entry.entry reads.at
+    c.in-Entry.entry reads.at
     c.in_ok-entry.ensures.steps c.in-Entry.is
     in
     record {
       extent = c.take.ensures.extent ∙ c.walk_line.ensures.extent ∙ c.entries.invariant.extent;
       reads =
           reads_on c.args.source.now c.args.lister.now c.walk_line.new.lister c.next.new.self c.in-Entry.entry c.walk_line.new.gather
-              c.take.new.self reads read
+          c.take.new.self reads read
           c.next.ensures.given (c.in_ok-entry.ensures.source ∙ reads.at.source) c.in_ok-take-in-Entry.ensures.gathers
           (sym c.in_ok-take-in-Entry.ensures.ends ∙ c.if-branch-2.false);
     }
@@ -127,26 +127,26 @@ pub returns-in-End-clause-same : goal.returns-in-End-clause-same
 returns-in-End-clause-same c =
     let s = in_characters c.args.source.now in
     let m = moved c.walk_line.new.lister c.next.new.self c.in_ok-entry.field-0 steps.End s c.walk_line.new.lister.shown.given
-        c.in_ok-entry.ensures.steps
+    c.in_ok-entry.ensures.steps
     c.in-End.is (c.in_ok-walk_line.ensures.within c.if-branch.false c.args.lister.now c.entries.invariant.reads).at.stands in
     IfOk-weaker c.end.result _ _
     (λ more ends _.
     ap (λ (n : ℕ). length (lines_within s n)) (omega (arith, m.1.count))
-        ∙ ap length ((c.in_ok-walk_line.ensures.within c.if-branch.false c.args.lister.now c.entries.invariant.reads).same ends.1))
-        c.end.ensures.end
+    ∙ ap length ((c.in_ok-walk_line.ensures.within c.if-branch.false c.args.lister.now c.entries.invariant.reads).same ends.1))
+    c.end.ensures.end
 
 pub returns-in-End-clause-all : goal.returns-in-End-clause-all
 returns-in-End-clause-all c =
     let s = in_characters c.args.source.now in
     let at = (c.in_ok-walk_line.ensures.within c.if-branch.false c.args.lister.now c.entries.invariant.reads).at in
     let m = moved c.walk_line.new.lister c.next.new.self c.in_ok-entry.field-0 steps.End s c.walk_line.new.lister.shown.given
-        c.in_ok-entry.ensures.steps
+    c.in_ok-entry.ensures.steps
     c.in-End.is at.stands in
     let last = at_stop (listing s) c.walk_line.new.lister.shown.given steps.End at.whole at.within tt m.0 in
     IfOk-weaker c.end.result _ _
     (λ more ends _.
     ap (λ (n : ℕ). length (lines_within s n)) (omega (arith, m.1.count))
-        ∙ ap length (all_lines s c.walk_line.new.lister.shown.given last.0)) c.end.ensures.end
+    ∙ ap length (all_lines s c.walk_line.new.lister.shown.given last.0)) c.end.ensures.end
 
 pub returns-in-End-clause-sound : goal.returns-in-End-clause-sound
 returns-in-End-clause-sound c =
@@ -154,10 +154,10 @@ returns-in-End-clause-sound c =
     let at = (c.in_ok-walk_line.ensures.within c.if-branch.false c.args.lister.now c.entries.invariant.reads).at in
     let k = c.walk_line.new.lister.shown.given in
     let m = moved c.walk_line.new.lister c.next.new.self c.in_ok-entry.field-0 steps.End s k c.in_ok-entry.ensures.steps
-        c.in-End.is at.stands in
+    c.in-End.is at.stands in
     let last = at_stop (listing s) k steps.End at.whole at.within tt m.0 in
     let all = all_refusals c.args.gather.now.pass.extent s (take k (entries_of (listing s))) c.walk_line.new.gather.pass
-        (c.walk_line.ensures.extent ∙ c.entries.invariant.extent) at.counts.pass last.0 last.1 in
+    (c.walk_line.ensures.extent ∙ c.entries.invariant.extent) at.counts.pass last.0 last.1 in
     IfOk-weaker c.end.result _ _ (λ more ends _. sym all ∙ ends.1) c.end.ensures.end
 
 pub returns-in-End-clause-marker : goal.returns-in-End-clause-marker
@@ -166,7 +166,7 @@ returns-in-End-clause-marker c =
     let at = (c.in_ok-walk_line.ensures.within c.if-branch.false c.args.lister.now c.entries.invariant.reads).at in
     let k = c.walk_line.new.lister.shown.given in
     let m = moved c.walk_line.new.lister c.next.new.self c.in_ok-entry.field-0 steps.End s k c.in_ok-entry.ensures.steps
-        c.in-End.is at.stands in
+    c.in-End.is at.stands in
     let last = at_stop (listing s) k steps.End at.whole at.within tt m.0 in
     let end = ends_at s at.whole last.1 in
     let start : c.walk_line.new.gather.marker ≡ end.1.start = at.counts.marker end.0 end.1 (last.0 ∙ end.2) end.3 in
@@ -179,10 +179,10 @@ returns-in-End-clause-refused c =
     let at = (c.in_ok-walk_line.ensures.within c.if-branch.false c.args.lister.now c.entries.invariant.reads).at in
     let k = c.walk_line.new.lister.shown.given in
     let m = moved c.walk_line.new.lister c.next.new.self c.in_ok-entry.field-0 steps.End s k c.in_ok-entry.ensures.steps
-        c.in-End.is at.stands in
+    c.in-End.is at.stands in
     let last = at_stop (listing s) k steps.End at.whole at.within tt m.0 in
     let all = all_refusals c.args.gather.now.pass.extent s (take k (entries_of (listing s))) c.walk_line.new.gather.pass
-        (c.walk_line.ensures.extent ∙ c.entries.invariant.extent) at.counts.pass last.0 last.1 in
+    (c.walk_line.ensures.extent ∙ c.entries.invariant.extent) at.counts.pass last.0 last.1 in
     subst (λ (r : Option Refusal). IfErr c.end.result (Tells r)) all c.end.ensures.refused
 
 pub returns-in-Fault-clause-refused : goal.returns-in-Fault-clause-refused
@@ -192,6 +192,6 @@ returns-in-Fault-clause-refused c =
     let k = c.walk_line.new.lister.shown.given in
     let fault = c.in-Fault.fault in
     let m = moved c.walk_line.new.lister c.next.new.self c.in_ok-entry.field-0 (steps.Fault fault) s k c.in_ok-entry.ensures.steps
-        c.in-Fault.is at.stands in
+    c.in-Fault.is at.stands in
     let last = at_stop (listing s) k (steps.Fault fault) at.whole at.within tt m.0 in
     refused_listing c.args.gather.now.pass.extent s fault last.1

@@ -43,7 +43,7 @@ take-requires-clause-lies c =
     let k = c.loop-gather.lister.shown.given in
     let entry = c.in-Entry.entry in
     let m = moved c.loop-gather.lister c.next.new.self c.in_ok-entry.field-0 (steps.Entry entry) s k
-        c.in_ok-entry.ensures.steps c.in-Entry.is
+    c.in_ok-entry.ensures.steps c.in-Entry.is
     c.loop-gather.invariant.stands in
     entry_lies c.args.source.now.text (listing s) k entry c.loop-gather.invariant.lies m.0
 
@@ -67,7 +67,7 @@ loop-gather-smaller c =
     let k = c.loop-gather.lister.shown.given in
     let entry = c.in-Entry.entry in
     let m = moved c.loop-gather.lister c.next.new.self c.in_ok-entry.field-0 (steps.Entry entry) s k
-        c.in_ok-entry.ensures.steps c.in-Entry.is
+    c.in_ok-entry.ensures.steps c.in-Entry.is
     c.loop-gather.invariant.stands in
     let next = at_entry (listing s) k entry c.loop-gather.invariant.whole m.0 in
     omega (arith, m.1.count, next.0)
@@ -80,7 +80,7 @@ loop-gather-preserved c =
     let text = chars c.args.source.now.text in
     let entry = c.in-Entry.entry in
     let m = moved c.loop-gather.lister c.next.new.self c.in_ok-entry.field-0 (steps.Entry entry) s k
-        c.in_ok-entry.ensures.steps c.in-Entry.is
+    c.in_ok-entry.ensures.steps c.in-Entry.is
     c.loop-gather.invariant.stands in
     let next = at_entry (listing s) k entry c.loop-gather.invariant.whole m.0 in
     let grown = ap (λ (n : ℕ). take n es) m.1.count ∙ next.1 in
@@ -95,7 +95,7 @@ loop-gather-preserved c =
       gathered =
           subst (λ (read : List Entry). Gathered text read c.take.new.self) (sym grown)
           (gathers text (take k es) entry c.loop-gather.gather c.take.new.self c.loop-gather.invariant.gathered
-              c.in_ok-take-in-Entry.ensures);
+          c.in_ok-take-in-Entry.ensures);
     }
 
 pub returns-in-End-clause-tokens : goal.returns-in-End-clause-tokens
@@ -116,7 +116,7 @@ returns-in-End-clause-sound c =
     c.loop-gather.invariant.stands in
     let last = at_stop (listing s) k steps.End c.loop-gather.invariant.whole c.loop-gather.invariant.within tt m.0 in
     let all = all_refusals c.args.extent s (take k (entries_of (listing s))) c.loop-gather.gather.pass c.loop-gather.invariant.extent
-        c.loop-gather.invariant.gathered.pass last.0 last.1 in
+    c.loop-gather.invariant.gathered.pass last.0 last.1 in
     subst (λ (r : Option Refusal). OnOk c.finish.result (r ≡ None)) all c.finish.ensures.sound
 
 pub returns-in-End-clause-refused : goal.returns-in-End-clause-refused
@@ -127,7 +127,7 @@ returns-in-End-clause-refused c =
     c.loop-gather.invariant.stands in
     let last = at_stop (listing s) k steps.End c.loop-gather.invariant.whole c.loop-gather.invariant.within tt m.0 in
     let all = all_refusals c.args.extent s (take k (entries_of (listing s))) c.loop-gather.gather.pass c.loop-gather.invariant.extent
-        c.loop-gather.invariant.gathered.pass last.0 last.1 in
+    c.loop-gather.invariant.gathered.pass last.0 last.1 in
     subst (λ (r : Option Refusal). IfErr c.finish.result (Tells r)) all c.finish.ensures.refused
 
 pub returns-in-Fault-clause-refused : goal.returns-in-Fault-clause-refused
@@ -136,7 +136,7 @@ returns-in-Fault-clause-refused c =
     let k = c.loop-gather.lister.shown.given in
     let fault = c.in-Fault.fault in
     let m = moved c.loop-gather.lister c.next.new.self c.in_ok-entry.field-0 (steps.Fault fault) s k
-        c.in_ok-entry.ensures.steps c.in-Fault.is
+    c.in_ok-entry.ensures.steps c.in-Fault.is
     c.loop-gather.invariant.stands in
     let last = at_stop (listing s) k (steps.Fault fault) c.loop-gather.invariant.whole c.loop-gather.invariant.within tt m.0 in
     refused_listing c.args.extent s fault last.1

@@ -13,15 +13,15 @@ range_from-left-requires c = λ _. rw c.text-text.ensures.value (spot_boundary c
 pub lexemes-init : goal.lexemes-init
 lexemes-init c =
     walk_begins c.args.source.now c.args.lister.now.shown.levels c.range_from-left.result.now c.args.from c.args.gather.now
-        c.range_from-left.utf8 c.requires.at
+    c.range_from-left.utf8 c.requires.at
     c.requires.within c.requires.begun c.requires.some (c.range_from-left.ensures.value
-        ∙ ap (drop c.args.from.offset) c.text-text.ensures.value)
+    ∙ ap (drop c.args.from.offset) c.text-text.ensures.value)
 
 pub step-requires : goal.step-requires
 step-requires c =
     let small : length c.args.source.now.text ≤ source_limit = rw c.text-text.ensures.value at c.text-text.ensures.within in
     walk_room c.args.source.now c.args.lister.now.shown.levels c.lexemes.left.now c.args.from c.lexemes.spot
-        c.args.gather.now c.lexemes.gather
+    c.args.gather.now c.lexemes.gather
     (subst IsUtf8 c.text-text.ensures.value c.text-text.utf8) small c.lexemes.invariant
 
 pub take_lexeme-requires : goal.take_lexeme-requires
@@ -33,7 +33,7 @@ take_lexeme-requires c =
     let moved = c.in-Some.ensures.steps in
     let x =
     walk_steps p levels c.lexemes.left.now c.args.from c.lexemes.spot c.in-Some.to c.in-Some.class c.in-Some.front.now c.in-Some.back.now
-        c.args.gather.now c.lexemes.gather
+    c.args.gather.now c.lexemes.gather
     (subst IsUtf8 c.text-text.ensures.value c.text-text.utf8) small c.requires.given w moved in
     let few = few_brackets p (at_spot p c.lexemes.spot levels) c.lexemes.gather w.at in
     record { begun = w.begun; some = w.some; opened = few.0; closed = few.1; boundary = x.boundary; gives = moved.ahead.gives }
@@ -47,10 +47,10 @@ returns-then-not-to-clause-at c =
     let moved = c.in-Some.ensures.steps in
     let x =
     walk_steps p levels c.lexemes.left.now c.args.from c.lexemes.spot c.in-Some.to c.in-Some.class c.in-Some.front.now c.in-Some.back.now
-        c.args.gather.now c.lexemes.gather
+    c.args.gather.now c.lexemes.gather
     (subst IsUtf8 c.text-text.ensures.value c.text-text.utf8) small c.requires.given w moved in
     (walk_ends p levels c.lexemes.left.now c.args.from c.lexemes.spot c.in-Some.to c.in-Some.class c.in-Some.front.now c.in-Some.back.now
-        c.args.gather.now c.lexemes.gather
+    c.args.gather.now c.lexemes.gather
     c.take_lexeme.new.self w x moved (c.in_ok-take_lexeme.ensures.taken c.if-not-branch.false) c.if-not-to.true).at
 
 pub returns-then-not-to-clause-went : goal.returns-then-not-to-clause-went
@@ -62,10 +62,10 @@ returns-then-not-to-clause-went c =
     let moved = c.in-Some.ensures.steps in
     let x =
     walk_steps p levels c.lexemes.left.now c.args.from c.lexemes.spot c.in-Some.to c.in-Some.class c.in-Some.front.now c.in-Some.back.now
-        c.args.gather.now c.lexemes.gather
+    c.args.gather.now c.lexemes.gather
     (subst IsUtf8 c.text-text.ensures.value c.text-text.utf8) small c.requires.given w moved in
     (walk_ends p levels c.lexemes.left.now c.args.from c.lexemes.spot c.in-Some.to c.in-Some.class c.in-Some.front.now c.in-Some.back.now
-        c.args.gather.now c.lexemes.gather
+    c.args.gather.now c.lexemes.gather
     c.take_lexeme.new.self w x moved (c.in_ok-take_lexeme.ensures.taken c.if-not-branch.false) c.if-not-to.true).went
 
 pub lexemes-preserved : goal.lexemes-preserved
@@ -77,9 +77,9 @@ lexemes-preserved c =
     let moved = c.in-Some.ensures.steps in
     let x =
     walk_steps p levels c.lexemes.left.now c.args.from c.lexemes.spot c.in-Some.to c.in-Some.class c.in-Some.front.now c.in-Some.back.now
-        c.args.gather.now c.lexemes.gather
+    c.args.gather.now c.lexemes.gather
     (subst IsUtf8 c.text-text.ensures.value c.text-text.utf8) small c.requires.given w moved in
     walk_on p levels c.lexemes.left.now c.args.from c.lexemes.spot c.in-Some.to c.in-Some.class c.in-Some.front.now c.in-Some.back.now
-        c.args.gather.now c.lexemes.gather
+    c.args.gather.now c.lexemes.gather
     c.take_lexeme.new.self w x moved (c.in_ok-take_lexeme.ensures.taken c.if-not-branch.false)
-        c.in_ok-take_lexeme.ensures.some c.if-not-to.false
+    c.in_ok-take_lexeme.ensures.some c.if-not-to.false

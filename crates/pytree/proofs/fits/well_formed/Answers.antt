@@ -13,11 +13,11 @@ returns-clause-given c =
     told_of_tokens c.statements_fit.result (module_fits c.args.profile (tests_in c.args.profile.extent) (module_of c.args.tree.now))
     (modules_fit_exactly c.args.profile (module_of c.args.tree.now)).0
     (subst (λ ss. IfOk c.statements_fit.result (λ told. told ≡ statements_fit c.args.profile (tests_in c.args.profile.extent)
-        (stmts (map stmt_of ss)))) c.deref.ensures.value c.statements_fit.ensures)
+    (stmts (map stmt_of ss)))) c.deref.ensures.value c.statements_fit.ensures)
 
 pub returns-clause-tokens : goal.returns-clause-tokens
 returns-clause-tokens c =
     tokens_of_told c.statements_fit.result (module_fits c.args.profile (tests_in c.args.profile.extent) (module_of c.args.tree.now))
     (modules_fit_exactly c.args.profile (module_of c.args.tree.now)).1
     (subst (λ ss. IfOk c.statements_fit.result (λ told. told ≡ statements_fit c.args.profile (tests_in c.args.profile.extent)
-        (stmts (map stmt_of ss)))) c.deref.ensures.value c.statements_fit.ensures)
+    (stmts (map stmt_of ss)))) c.deref.ensures.value c.statements_fit.ensures)

@@ -26,5 +26,5 @@ pattern_fits-returns-then-not-branch-2 t c =
     rw (c.in-MatchMapping.is, match_mapping_tree) (mapping_fails (tests_at c.args.asked.extent c.args.asked.fields) c.args.level
     (map tree_of c.in-MatchMapping.keys.items) (patterns (map pattern_of c.in-MatchMapping.patterns.items)) c.in-MatchMapping.rest
     (sym c.if-not-branch-2.true ∙ c.in_ok-patterns_fit-in-MatchMapping.ensures
-        ∙ ap (λ ps. each_pattern_fits (tests_at c.args.asked.extent c.args.asked.fields) AsPattern (patterns (map pattern_of ps)))
-        c.deref-in-MatchMapping-4.ensures.value))
+    ∙ ap (λ ps. each_pattern_fits (tests_at c.args.asked.extent c.args.asked.fields) AsPattern (patterns (map pattern_of ps)))
+    c.deref-in-MatchMapping-4.ensures.value))

@@ -29,33 +29,35 @@ statements_fit-loop-s-preserved t c =
 pub cases_fit-returns-then-not-branch : goal.cases_fit-returns-then-not-branch
 cases_fit-returns-then-not-branch t c = stops (λ cs. cases_fit c.args.profile (tests_in c.args.profile.extent) (cases (map case_of cs)))
     (λ x. pattern_fits_at (tests_in c.args.profile.extent) AsPattern (case_of x).pattern && perhaps_fits (tests_in c.args.profile.extent)
-        Expression (optional (case_of x).guard) && suite_fits c.args.profile (tests_in c.args.profile.extent) (stmts (case_of x).body)) refl
-        (λ _ _. refl) _
+    Expression (optional (case_of x).guard) && suite_fits c.args.profile (tests_in c.args.profile.extent) (stmts (case_of x).body)) refl
+    (λ _ _. refl) _
     c.loop-c-test.true c.c-item.is c.in_ok-case_fits.ensures c.if-not-branch.true
 
 pub cases_fit-loop-c-preserved : goal.cases_fit-loop-c-preserved
 cases_fit-loop-c-preserved t c = goes_on (λ cs. cases_fit c.args.profile (tests_in c.args.profile.extent) (cases (map case_of cs)))
     (λ x. pattern_fits_at (tests_in c.args.profile.extent) AsPattern (case_of x).pattern && perhaps_fits (tests_in c.args.profile.extent)
-        Expression (optional (case_of x).guard) && suite_fits c.args.profile (tests_in c.args.profile.extent) (stmts (case_of x).body)) refl
-        (λ _ _. refl) _
+    Expression (optional (case_of x).guard) && suite_fits c.args.profile (tests_in c.args.profile.extent) (stmts (case_of x).body)) refl
+    (λ _ _. refl) _
     c.loop-c-test.true c.c-item.is c.loop-c.invariant c.in_ok-case_fits.ensures c.if-not-branch.false
 
 pub handlers_fit-returns-then-not-branch : goal.handlers_fit-returns-then-not-branch
 handlers_fit-returns-then-not-branch t c =
     stops (λ hs. handlers_fit c.args.profile (tests_in c.args.profile.extent) c.args.star (handlers (map handler_of hs)))
     (λ h. caught_fits (tests_in c.args.profile.extent) c.args.star (handler_of h).class (handler_of h).name && suite_fits c.args.profile
-        (tests_in c.args.profile.extent) (stmts (handler_of h).body)) refl (λ _ _. refl) _
+    (tests_in c.args.profile.extent) (stmts (handler_of h).body)) refl (λ _ _. refl) _
     c.loop-h-test.true c.h-item.is c.in_ok-handler_fits.ensures c.if-not-branch.true
 
 pub handlers_fit-loop-h-preserved : goal.handlers_fit-loop-h-preserved
 handlers_fit-loop-h-preserved t c =
     goes_on (λ hs. handlers_fit c.args.profile (tests_in c.args.profile.extent) c.args.star (handlers (map handler_of hs)))
     (λ h. caught_fits (tests_in c.args.profile.extent) c.args.star (handler_of h).class (handler_of h).name && suite_fits c.args.profile
-        (tests_in c.args.profile.extent) (stmts (handler_of h).body)) refl (λ _ _. refl) _
+    (tests_in c.args.profile.extent) (stmts (handler_of h).body)) refl (λ _ _. refl) _
     c.loop-h-test.true c.h-item.is c.loop-h.invariant c.in_ok-handler_fits.ensures c.if-not-branch.false
 
 -- the body of a case is smaller than the case
 pub case_fits-suite_fits-requires : goal.case_fits-suite_fits-requires
-case_fits-suite_fits-requires t c =
-    (subst (λ (z : List Stmt). 3 * most size-Stmt z + 2 < t) (sym c.deref.ensures.value)
-        (omega (arith, size_is-Case c.args.c.now, c.decreases)), tt)
+case_fits-suite_fits-requires t c = (
+  subst (λ (z : List Stmt). 3 * most size-Stmt z + 2 < t) (sym c.deref.ensures.value)
+      (omega (arith, size_is-Case c.args.c.now, c.decreases)),
+  tt,
+)

@@ -39,4 +39,4 @@ spec_has_kind-returns-in-JoinedStr t c = rw c.in-Some.is
 pub spec_has_kind-returns-in_default : goal.spec_has_kind-returns-in_default
 spec_has_kind-returns-in_default t c = rw c.in-Some.is
     (subst (λ e. true ≡ spec_has_kind c.args.unicode (present (tree_of e))) c.deref.ensures
-        (sym (any_spec c.deref.result.now c.in_default.not-JoinedStr c.args.unicode)))
+    (sym (any_spec c.deref.result.now c.in_default.not-JoinedStr c.args.unicode)))

@@ -32,7 +32,7 @@ write_stmts-loop-s-preserved t c = record {
   text = line_on c.args.out.now c.loop-s.out (λ n xs. lines_of piece n (stmts (map stmt_of xs)))
       (λ n x. statement_lines piece n (stmt_of x))
       (λ _ _ _. refl) c.args.body.now _ _ _ _ c.loop-s-test.true c.s-item.is c.loop-s.invariant.level c.loop-s.invariant.text
-          c.in_ok-write_stmt.ensures;
+      c.in_ok-write_stmt.ensures;
   level = c.in_ok-write_stmt.ensures.level ∙ c.loop-s.invariant.level;
 }
 
@@ -54,7 +54,7 @@ write_handlers-loop-handler-preserved t c = record {
   text = line_on c.args.out.now c.loop-handler.out (λ n xs. handler_lines piece n c.args.is_star (handlers (map handler_of xs)))
       (λ n x. one_handler n c.args.is_star (handler_of x))
       (λ _ _ _. refl) c.args.caught.now _ _ _ _ c.loop-handler-test.true c.handler-item.is c.loop-handler.invariant.level
-          c.loop-handler.invariant.text c.in_ok-write_handler.ensures;
+      c.loop-handler.invariant.text c.in_ok-write_handler.ensures;
   level = c.in_ok-write_handler.ensures.level ∙ c.loop-handler.invariant.level;
 }
 
@@ -75,7 +75,7 @@ unfolding case_lines
 write_cases-loop-case-preserved t c = record {
   text = line_on c.args.out.now c.loop-case.out (λ n xs. case_lines piece n (cases (map case_of xs))) (λ n x. one_case n (case_of x))
       (λ _ _ _. refl) c.args.clauses.now _ _ _ _ c.loop-case-test.true c.case-item.is c.loop-case.invariant.level c.loop-case.invariant.text
-          c.in_ok-write_case.ensures;
+      c.in_ok-write_case.ensures;
   level = c.in_ok-write_case.ensures.level ∙ c.loop-case.invariant.level;
 }
 
@@ -96,7 +96,7 @@ write_match-returns t c =
     let e = tree_of c.args.subject.now in
     let cs = cases (map case_of c.args.clauses.now) in
     IfOk-weaker _ _ _ (λ _ b. subst (Wrote c.args.out.now _) (match_lines c.args.out.now.level e cs)
-        (header_block c.args.out.now _ _ _ (match_header e) (λ n. case_lines piece (suc n) cs)
+    (header_block c.args.out.now _ _ _ (match_header e) (λ n. case_lines piece (suc n) cs)
     c.in_ok-begin_line.ensures c.in_ok-write_match_header.ensures b)) c.write_case_block.ensures
 
 pub write_case_block-returns : goal.write_case_block-returns
@@ -115,9 +115,9 @@ pub write_case-returns : goal.write_case-returns
 write_case-returns t c =
     let o = given_case.out-Case c.args.case.now in
     rw (case_tree, sym c.deref.ensures.value)
-        (IfOk-weaker _ _ _ (λ _ b. header_block c.args.out.now _ _ _ (case_header (pattern_of o.pattern) (option_of o.guard))
+    (IfOk-weaker _ _ _ (λ _ b. header_block c.args.out.now _ _ _ (case_header (pattern_of o.pattern) (option_of o.guard))
     (λ n. lines_of piece (suc n) (stmts (map stmt_of c.deref.result.now))) c.in_ok-begin_line.ensures c.in_ok-write_case_header.ensures
-        b) c.write_block.ensures)
+    b) c.write_block.ensures)
 
 pub write_if-returns : goal.write_if-returns
 write_if-returns t c =
@@ -126,9 +126,9 @@ write_if-returns t c =
     let body = stmts (map stmt_of c.args.body.now) in
     let orelse = stmts (map stmt_of c.args.orelse.now) in
     IfOk-weaker _ _ _ (λ _ w. subst (Wrote c.args.out.now _) (if_lines n e body orelse)
-        (wrote_then c.args.out.now _ _ _ (λ l. alternative piece l orelse)
+    (wrote_then c.args.out.now _ _ _ (λ l. alternative piece l orelse)
     (header_block c.args.out.now _ _ _ (if_header e) (λ l. lines_of piece (suc l) body) c.in_ok-begin_line.ensures
-        c.in_ok-write_test_header.ensures c.in_ok-write_block.ensures) w)) c.write_alternative.ensures
+    c.in_ok-write_test_header.ensures c.in_ok-write_block.ensures) w)) c.write_alternative.ensures
 
 pub write_while-returns : goal.write_while-returns
 write_while-returns t c =
@@ -137,16 +137,16 @@ write_while-returns t c =
     let body = stmts (map stmt_of c.args.body.now) in
     let orelse = stmts (map stmt_of c.args.orelse.now) in
     IfOk-weaker _ _ _ (λ _ w. subst (Wrote c.args.out.now _) (while_lines n e body orelse)
-        (wrote_then c.args.out.now _ _ _ (λ l. clause piece l else_header orelse)
+    (wrote_then c.args.out.now _ _ _ (λ l. clause piece l else_header orelse)
     (header_block c.args.out.now _ _ _ (loop_header (while_head e)) (λ l. lines_of piece (suc l) body) c.in_ok-begin_line.ensures
-        c.in_ok-write_test_header.ensures c.in_ok-write_block.ensures) w))
+    c.in_ok-write_test_header.ensures c.in_ok-write_block.ensures) w))
     (c.write_clause.ensures else_header refl)
 
 pub write_for-returns : goal.write_for-returns
 write_for-returns t c =
     IfOk-weaker _ _ _ (λ _ w. wrote_then c.args.out.now _ _ _ (λ n. clause piece n else_header (stmts (map stmt_of c.args.orelse.now)))
     (header_block c.args.out.now _ _ _ (loop_header (for_head c.args.is_async (tree_of c.args.target.now) (tree_of c.args.iter.now)))
-        (λ n. lines_of piece (suc n) (stmts (map stmt_of c.args.body.now)))
+    (λ n. lines_of piece (suc n) (stmts (map stmt_of c.args.body.now)))
     c.in_ok-begin_line.ensures c.in_ok-write_for_header.ensures c.in_ok-write_block.ensures) w) (c.write_clause.ensures else_header refl)
 
 pub write_with-returns : goal.write_with-returns
@@ -158,13 +158,13 @@ write_with-returns t c =
 pub write_function-returns : goal.write_function-returns
 write_function-returns t c = IfOk-weaker _ _ _ (λ _ b. header_block c.args.out.now _ _ _
     (def_header (function_head c.args.is_async c.args.name.now (map type_param_of c.args.type_params.now) (arguments_of c.args.args.now)
-        (boxed_of c.args.returns.now))) (λ n. lines_of piece (suc n) (stmts (map stmt_of c.args.body.now)))
+    (boxed_of c.args.returns.now))) (λ n. lines_of piece (suc n) (stmts (map stmt_of c.args.body.now)))
     c.in_ok-begin_line.ensures c.in_ok-write_function_header.ensures b) c.write_block.ensures
 
 pub write_class-returns : goal.write_class-returns
 write_class-returns t c = IfOk-weaker _ _ _ (λ _ b. header_block c.args.out.now _ _ _
     (def_header (class_head c.args.name.now (map type_param_of c.args.type_params.now) (map tree_of c.args.bases.now)
-        (keywords (map keyword_of c.args.words.now)))) (λ n. lines_of piece (suc n) (stmts (map stmt_of c.args.body.now)))
+    (keywords (map keyword_of c.args.words.now)))) (λ n. lines_of piece (suc n) (stmts (map stmt_of c.args.body.now)))
     c.in_ok-begin_line.ensures c.in_ok-write_class_header.ensures b) c.write_block.ensures
 
 pub write_try-returns : goal.write_try-returns
@@ -176,9 +176,9 @@ write_try-returns t c =
     (header_block c.args.out.now _ _ _ try_header (λ n. lines_of piece (suc n) (stmts (map stmt_of c.args.body.now)))
     c.in_ok-begin_line.ensures c.in_ok-write_word_header.ensures c.in_ok-write_block.ensures)
     (wrote_then _ _ _ _ (λ n. clause piece n else_header (stmts (map stmt_of c.args.orelse.now)) ++ clause piece n finally_header
-        (stmts (map stmt_of c.args.finalbody.now))) c.in_ok-write_handlers.ensures
+    (stmts (map stmt_of c.args.finalbody.now))) c.in_ok-write_handlers.ensures
     (wrote_then _ _ _ _ (λ n. clause piece n finally_header (stmts (map stmt_of c.args.finalbody.now)))
-        (c.in_ok-write_clause.ensures else_header refl) w))) (c.write_clause-2.ensures finally_header refl)
+    (c.in_ok-write_clause.ensures else_header refl) w))) (c.write_clause-2.ensures finally_header refl)
 
 pub write_block-returns : goal.write_block-returns
 write_block-returns t c = block_wrote c.args.out.now _ _ _ _ (λ n. lines_of piece n (stmts (map stmt_of c.args.body.now)))
@@ -191,9 +191,9 @@ pub write_elif-returns-in_ok-write_block-in-If : goal.write_elif-returns-in_ok-w
 write_elif-returns-in_ok-write_block-in-If t c = rw (c.in-If.is, if_tree, sym c.deref.ensures.value, sym c.deref-in-If.ensures.value)
     (IfOk-weaker _ _ _ (λ _ w. wrote_then c.args.out.now _ _ _ (λ n. alternative piece n (stmts (map stmt_of c.deref-in-If.result.now)))
     (header_block c.args.out.now _ _ _ (elif_header (tree_of c.in-If.test))
-        (λ n. lines_of piece (suc n) (stmts (map stmt_of c.deref.result.now)))
+    (λ n. lines_of piece (suc n) (stmts (map stmt_of c.deref.result.now)))
     c.in_ok-begin_line-in-If.ensures c.in_ok-write_test_header-in-If.ensures c.in_ok-write_block-in-If.ensures) w)
-        c.write_alternative.ensures)
+    c.write_alternative.ensures)
 
 pub write_elif-returns-in_default : goal.write_elif-returns-in_default
 write_elif-returns-in_default t c =
@@ -204,7 +204,7 @@ pub write_alternative-write_elif-requires : goal.write_alternative-write_elif-re
 write_alternative-write_elif-requires t c =
     let a : 0 < length c.args.body.now = omega arith in
     let h : _ = no_higher (λ xs. stmt_heights (stmts (map stmt_of xs))) (λ x. stmt_height (stmt_of x)) (λ _ _. refl) c.args.body.now 0 _ a
-        c.index-body-0.is in (omega (arith, h), tt)
+    c.index-body-0.is in (omega (arith, h), tt)
 
 pub write_alternative-returns-then-count-ne1 : goal.write_alternative-returns-then-count-ne1
 write_alternative-returns-then-count-ne1 t c =
@@ -214,12 +214,12 @@ write_alternative-returns-then-count-ne1 t c =
 pub write_alternative-returns-then-is_if : goal.write_alternative-returns-then-is_if
 write_alternative-returns-then-is_if t c = IfOk-weaker _ _ _ (λ _ w. subst (Wrote c.args.out.now _)
     (one_if c.args.out.now.level c.args.body.now _ c.if-count-ne1.false c.index-body-0.is (sym c.is_if.ensures ∙ c.if-is_if.true)) w)
-        c.write_elif.ensures
+    c.write_elif.ensures
 
 pub write_alternative-returns : goal.write_alternative-returns
 write_alternative-returns t c = IfOk-weaker _ _ _ (λ _ w. subst (Wrote c.args.out.now _)
     (one_other c.args.out.now.level c.args.body.now _ c.if-count-ne1.false c.index-body-0.is (sym c.is_if.ensures ∙ c.if-is_if.false)) w)
-        (c.write_clause-2.ensures else_header refl)
+    (c.write_clause-2.ensures else_header refl)
 
 pub write_stmt-returns-in-If : goal.write_stmt-returns-in-If
 unfolding lines_of
@@ -227,42 +227,78 @@ write_stmt-returns-in-If t c = rw (c.in-If.is, if_tree, sym c.deref.ensures.valu
 
 pub write_stmt-returns-in-While : goal.write_stmt-returns-in-While
 unfolding lines_of
-write_stmt-returns-in-While t c = rw (c.in-While.is, while_tree, sym c.deref-in-While.ensures.value,
-    sym c.deref-in-While-2.ensures.value) c.write_while.ensures
+write_stmt-returns-in-While t c = rw (
+  c.in-While.is,
+  while_tree,
+  sym c.deref-in-While.ensures.value,
+  sym c.deref-in-While-2.ensures.value,
+) c.write_while.ensures
 
 pub write_stmt-returns-in-For : goal.write_stmt-returns-in-For
 unfolding lines_of
-write_stmt-returns-in-For t c = rw (c.in-For.is, for_tree, sym c.deref-in-For.ensures, sym c.deref-in-For-2.ensures,
-    sym c.deref-in-For-3.ensures.value, sym c.deref-in-For-4.ensures.value) c.write_for.ensures
+write_stmt-returns-in-For t c = rw (
+  c.in-For.is,
+  for_tree,
+  sym c.deref-in-For.ensures,
+  sym c.deref-in-For-2.ensures,
+  sym c.deref-in-For-3.ensures.value,
+  sym c.deref-in-For-4.ensures.value,
+) c.write_for.ensures
 
 pub write_stmt-returns-in-AsyncFor : goal.write_stmt-returns-in-AsyncFor
 unfolding lines_of
-write_stmt-returns-in-AsyncFor t c = rw (c.in-AsyncFor.is, async_for_tree, sym c.deref-in-AsyncFor.ensures,
-    sym c.deref-in-AsyncFor-2.ensures, sym c.deref-in-AsyncFor-3.ensures.value, sym c.deref-in-AsyncFor-4.ensures.value)
+write_stmt-returns-in-AsyncFor t c = rw (
+  c.in-AsyncFor.is,
+  async_for_tree,
+  sym c.deref-in-AsyncFor.ensures,
+  sym c.deref-in-AsyncFor-2.ensures,
+  sym c.deref-in-AsyncFor-3.ensures.value,
+  sym c.deref-in-AsyncFor-4.ensures.value,
+)
     c.write_for-in-AsyncFor.ensures
 
 pub write_stmt-returns-in-With : goal.write_stmt-returns-in-With
 unfolding lines_of
-write_stmt-returns-in-With t c = rw (c.in-With.is, with_tree, sym c.deref-in-With.ensures.value,
-    sym c.deref-in-With-2.ensures.value) c.write_with.ensures
+write_stmt-returns-in-With t c = rw (
+  c.in-With.is,
+  with_tree,
+  sym c.deref-in-With.ensures.value,
+  sym c.deref-in-With-2.ensures.value,
+) c.write_with.ensures
 
 pub write_stmt-returns-in-AsyncWith : goal.write_stmt-returns-in-AsyncWith
 unfolding lines_of
-write_stmt-returns-in-AsyncWith t c = rw (c.in-AsyncWith.is, async_with_tree, sym c.deref-in-AsyncWith.ensures.value,
-    sym c.deref-in-AsyncWith-2.ensures.value) c.write_with-in-AsyncWith.ensures
+write_stmt-returns-in-AsyncWith t c = rw (
+  c.in-AsyncWith.is,
+  async_with_tree,
+  sym c.deref-in-AsyncWith.ensures.value,
+  sym c.deref-in-AsyncWith-2.ensures.value,
+) c.write_with-in-AsyncWith.ensures
 
 pub write_stmt-returns-in-Match : goal.write_stmt-returns-in-Match
 write_stmt-returns-in-Match t c = rw (c.in-Match.is, match_tree, sym c.deref-in-Match.ensures.value) c.write_match.ensures
 
 pub write_stmt-returns-in-Try : goal.write_stmt-returns-in-Try
 unfolding lines_of
-write_stmt-returns-in-Try t c = rw (c.in-Try.is, try_tree, sym c.deref-in-Try.ensures.value, sym c.deref-in-Try-2.ensures.value,
-    sym c.deref-in-Try-3.ensures.value, sym c.deref-in-Try-4.ensures.value) c.write_try.ensures
+write_stmt-returns-in-Try t c = rw (
+  c.in-Try.is,
+  try_tree,
+  sym c.deref-in-Try.ensures.value,
+  sym c.deref-in-Try-2.ensures.value,
+  sym c.deref-in-Try-3.ensures.value,
+  sym c.deref-in-Try-4.ensures.value,
+) c.write_try.ensures
 
 pub write_stmt-returns-in-TryStar : goal.write_stmt-returns-in-TryStar
 unfolding lines_of
-write_stmt-returns-in-TryStar t c = rw (c.in-TryStar.is, try_star_tree, sym c.deref-in-TryStar.ensures.value,
-    sym c.deref-in-TryStar-2.ensures.value, sym c.deref-in-TryStar-3.ensures.value, sym c.deref-in-TryStar-4.ensures.value)
+write_stmt-returns-in-TryStar t c = rw (
+  c.in-TryStar.is,
+  try_star_tree,
+  sym c.deref-in-TryStar.ensures.value,
+  sym c.deref-in-TryStar-2.ensures.value,
+  sym c.deref-in-TryStar-3.ensures.value,
+  sym c.deref-in-TryStar-4.ensures.value,
+)
     c.write_try-in-TryStar.ensures
 
 pub write_stmt-returns-in_ok-write_decorators-in-FunctionDef : goal.write_stmt-returns-in_ok-write_decorators-in-FunctionDef
@@ -274,10 +310,16 @@ write_stmt-returns-in_ok-write_decorators-in-FunctionDef t c =
     let a = arguments_of c.deref-in-FunctionDef-3.result.now in
     let r = boxed_of c.in-FunctionDef.returns in
     let body = stmts (map stmt_of c.deref-in-FunctionDef-4.result.now) in
-    rw (c.in-FunctionDef.is, function_def_tree, sym c.deref-in-FunctionDef.ensures.value, sym c.deref-in-FunctionDef-2.ensures.value,
-        sym c.deref-in-FunctionDef-3.ensures, sym c.deref-in-FunctionDef-4.ensures.value)
+    rw (
+      c.in-FunctionDef.is,
+      function_def_tree,
+      sym c.deref-in-FunctionDef.ensures.value,
+      sym c.deref-in-FunctionDef-2.ensures.value,
+      sym c.deref-in-FunctionDef-3.ensures,
+      sym c.deref-in-FunctionDef-4.ensures.value,
+    )
     (IfOk-weaker _ _ _ (λ _ w. subst (Wrote c.args.out.now _) (function_lines n x a body ds r ps)
-        (wrote_then c.args.out.now _ _ (decorators piece n ds) (λ l. def_lines l (function_head false x ps a r) body)
+    (wrote_then c.args.out.now _ _ (decorators piece n ds) (λ l. def_lines l (function_head false x ps a r) body)
     c.in_ok-write_decorators-in-FunctionDef.ensures w)) c.write_function.ensures)
 
 pub write_stmt-returns-in_ok-write_decorators-in-AsyncFunctionDef : goal.write_stmt-returns-in_ok-write_decorators-in-AsyncFunctionDef
@@ -289,11 +331,16 @@ write_stmt-returns-in_ok-write_decorators-in-AsyncFunctionDef t c =
     let a = arguments_of c.deref-in-AsyncFunctionDef-3.result.now in
     let r = boxed_of c.in-AsyncFunctionDef.returns in
     let body = stmts (map stmt_of c.deref-in-AsyncFunctionDef-4.result.now) in
-    rw (c.in-AsyncFunctionDef.is, async_function_def_tree, sym c.deref-in-AsyncFunctionDef.ensures.value,
-        sym c.deref-in-AsyncFunctionDef-2.ensures.value, sym c.deref-in-AsyncFunctionDef-3.ensures,
-        sym c.deref-in-AsyncFunctionDef-4.ensures.value)
+    rw (
+      c.in-AsyncFunctionDef.is,
+      async_function_def_tree,
+      sym c.deref-in-AsyncFunctionDef.ensures.value,
+      sym c.deref-in-AsyncFunctionDef-2.ensures.value,
+      sym c.deref-in-AsyncFunctionDef-3.ensures,
+      sym c.deref-in-AsyncFunctionDef-4.ensures.value,
+    )
     (IfOk-weaker _ _ _ (λ _ w. subst (Wrote c.args.out.now _) (async_function_lines n x a body ds r ps)
-        (wrote_then c.args.out.now _ _ (decorators piece n ds) (λ l. def_lines l (function_head true x ps a r) body)
+    (wrote_then c.args.out.now _ _ (decorators piece n ds) (λ l. def_lines l (function_head true x ps a r) body)
     c.in_ok-write_decorators-in-AsyncFunctionDef.ensures w)) c.write_function-in-AsyncFunctionDef.ensures)
 
 pub write_stmt-returns-in_ok-write_decorators-in-ClassDef : goal.write_stmt-returns-in_ok-write_decorators-in-ClassDef
@@ -305,10 +352,17 @@ write_stmt-returns-in_ok-write_decorators-in-ClassDef t c =
     let es = map tree_of c.deref-in-ClassDef-3.result.now in
     let ks = keywords (map keyword_of c.deref-in-ClassDef-4.result.now) in
     let body = stmts (map stmt_of c.deref-in-ClassDef-5.result.now) in
-    rw (c.in-ClassDef.is, class_def_tree, sym c.deref-in-ClassDef.ensures.value, sym c.deref-in-ClassDef-2.ensures.value,
-        sym c.deref-in-ClassDef-3.ensures.value, sym c.deref-in-ClassDef-4.ensures.value, sym c.deref-in-ClassDef-5.ensures.value)
+    rw (
+      c.in-ClassDef.is,
+      class_def_tree,
+      sym c.deref-in-ClassDef.ensures.value,
+      sym c.deref-in-ClassDef-2.ensures.value,
+      sym c.deref-in-ClassDef-3.ensures.value,
+      sym c.deref-in-ClassDef-4.ensures.value,
+      sym c.deref-in-ClassDef-5.ensures.value,
+    )
     (IfOk-weaker _ _ _ (λ _ w. subst (Wrote c.args.out.now _) (class_lines n x es ks body ds ps)
-        (wrote_then c.args.out.now _ _ (decorators piece n ds) (λ l. def_lines l (class_head x ps es ks) body)
+    (wrote_then c.args.out.now _ _ (decorators piece n ds) (λ l. def_lines l (class_head x ps es ks) body)
     c.in_ok-write_decorators-in-ClassDef.ensures w)) c.write_class.ensures)
 
 pub write_stmt-returns-in_default : goal.write_stmt-returns-in_default
@@ -326,9 +380,9 @@ pub write_handler-returns : goal.write_handler-returns
 write_handler-returns t c =
     let o = given_handler.out-Handler c.args.handler.now in
     rw (handler_tree, sym c.deref.ensures.value)
-        (IfOk-weaker _ _ _ (λ _ b. header_block c.args.out.now _ _ _ (except_header c.args.is_star (option_of o.class) o.name)
+    (IfOk-weaker _ _ _ (λ _ b. header_block c.args.out.now _ _ _ (except_header c.args.is_star (option_of o.class) o.name)
     (λ n. lines_of piece (suc n) (stmts (map stmt_of c.deref.result.now))) c.in_ok-begin_line.ensures c.in_ok-write_except_header.ensures
-        b) c.write_block.ensures)
+    b) c.write_block.ensures)
 
 pub write_clause-returns : goal.write_clause-returns
 write_clause-returns t c =
@@ -336,7 +390,7 @@ write_clause-returns t c =
     (λ _ b. subst (Wrote c.args.out.now _) (some_clause c.args.out.now.level h c.args.body.now _ c.is_empty.ensures c.if-is_empty.false)
     (header_block c.args.out.now _ _ _ h (λ n. lines_of piece (suc n) (stmts (map stmt_of c.args.body.now)))
     c.in_ok-begin_line.ensures (c.in_ok-write_word_header.ensures
-        ∙ ap (λ z. puts behind_sited c.begin_line.new.self (z ++ trailing piece Colon ∷ [])) (sym e)) b)) c.write_block.ensures
+    ∙ ap (λ z. puts behind_sited c.begin_line.new.self (z ++ trailing piece Colon ∷ [])) (sym e)) b)) c.write_block.ensures
 
 pub write_clause-returns-then-is_empty : goal.write_clause-returns-then-is_empty
 write_clause-returns-then-is_empty t c = λ h e. subst (Wrote c.args.out.now c.args.out.now)

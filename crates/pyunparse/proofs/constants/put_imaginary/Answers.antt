@@ -10,8 +10,8 @@ use Rattle.pyunparse.proofs.constants.put_imaginary.Goals as goal
 pub returns : goal.returns
 returns g c =
     let t : c.as_str.result.now ≡ imaginary_source c.args.float = c.as_str.ensures.value ∙ c.in_ok-push_imaginary_source.ensures.text
-        ∙ ap (λ z. z ++ imaginary_source c.args.float) c.new-text.ensures.bytes in
+    ∙ ap (λ z. z ++ imaginary_source c.args.float) c.new-text.ensures.bytes in
     let numeral = imaginary_numeral c.args.float c.in_ok-push_imaginary_source.ensures.double in
     IfOk-equal _ _ _ _ c.put.ensures
     (ap (λ t. g.W.Writer.after c.args.out.now (anywhere (record { kind = kinds.Number; text = t; before = false; behind = false })))
-        (ascii_bytes _ _ numeral.ascii t))
+    (ascii_bytes _ _ numeral.ascii t))

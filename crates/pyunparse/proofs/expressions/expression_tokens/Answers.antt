@@ -12,7 +12,7 @@ pub returns-clause-tokens : goal.returns-clause-tokens
 returns-clause-tokens c =
     let ps = pieces c.args.level (tree_of c.args.expr.now) in
     c.into_pieces.ensures
-        ∙ ap (λ z. z.tokens) (c.in_ok-write_expr.ensures ∙ ap (λ z. puts listed_behind z ps) c.new-out.ensures ∙ tokens_put [] ps)
+    ∙ ap (λ z. z.tokens) (c.in_ok-write_expr.ensures ∙ ap (λ z. puts listed_behind z ps) c.new-out.ensures ∙ tokens_put [] ps)
 
 pub returns-clause-fewest : goal.returns-clause-fewest
 returns-clause-fewest c ts = expressions_are_shortest c.args.level ts (tree_of c.args.expr.now)

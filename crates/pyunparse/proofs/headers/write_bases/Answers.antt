@@ -20,8 +20,8 @@ returns g c =
     let ks = keywords (map keyword_of c.args.words.now) in
     IfOk-equal _ _ _ _ c.put_sign-2.ensures
     (enclosed_on g.W.Writer.after c.args.out.now (tight piece LPar) RPar
-        (listed piece (each piece Named (exprs (map tree_of c.args.bases.now)) ++ by_name piece ks)) _ _ c.in_ok-put_sign.ensures
+    (listed piece (each piece Named (exprs (map tree_of c.args.bases.now)) ++ by_name piece ks)) _ _ c.in_ok-put_sign.ensures
     (c.in_ok-write_keywords.ensures ∙ bases_listed g.W.Writer.after _ _ c.args.bases.now ks _ c.is_empty-first.ensures
-        c.in_ok-write_members.ensures)
+    c.in_ok-write_members.ensures)
     ∙ ap (puts g.W.Writer.after c.args.out.now) (some_bases _ _ c.args.bases.now c.args.words.now c.is_empty-first.ensures
-        c.is_empty.ensures c.if-none.false))
+    c.is_empty.ensures c.if-none.false))

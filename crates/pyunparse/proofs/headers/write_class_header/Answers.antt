@@ -19,7 +19,7 @@ returns g c =
     let ks = keywords (map keyword_of c.args.words.now) in
     IfOk-equal _ _ _ _ c.put_colon.ensures
     (two g.W.Writer.after c.args.out.now (header_tokens piece (def_header (class_head c.args.name.now ps es ks)))
-        (trailing piece Colon ∷ []) _
+    (trailing piece Colon ∷ []) _
     (c.in_ok-write_bases.ensures ∙ four g.W.Writer.after c.args.out.now (word piece Key.Class ∷ [])
-        (free piece (in_form c.args.name.now) ∷ []) (type_params piece ps) (bases piece es ks) _ _ _
+    (free piece (in_form c.args.name.now) ∷ []) (type_params piece ps) (bases piece es ks) _ _ _
     c.in_ok-put_word.ensures c.in_ok-put_name.ensures c.in_ok-write_type_params.ensures))

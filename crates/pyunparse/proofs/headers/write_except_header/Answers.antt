@@ -14,7 +14,7 @@ use Rattle.pyunparse.proofs.headers.write_except_header.Goals as goal
 pub returns : goal.returns
 returns g c = IfOk-equal _ _ _ _ c.put_colon.ensures
     (two g.W.Writer.after c.args.out.now (header_tokens piece (except_header c.args.is_star (option_of c.args.class.now) c.args.name.now))
-        (trailing piece Colon ∷ []) _
+    (trailing piece Colon ∷ []) _
     (c.in_ok-write_as.ensures ∙ four g.W.Writer.after c.args.out.now (word piece Key.Except ∷ []) (starred piece c.args.is_star)
-        (perhaps_written piece Expression (option_of c.args.class.now))
+    (perhaps_written piece Expression (option_of c.args.class.now))
     (as_name piece c.args.name.now) _ _ _ c.in_ok-put_word.ensures c.in_ok-put_star.ensures c.in_ok-write_option.ensures))

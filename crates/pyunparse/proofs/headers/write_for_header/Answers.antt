@@ -14,9 +14,9 @@ use Rattle.pyunparse.proofs.headers.write_for_header.Goals as goal
 pub returns : goal.returns
 returns g c = IfOk-equal _ _ _ _ c.put_colon.ensures
     (two g.W.Writer.after c.args.out.now
-        (header_tokens piece (loop_header (for_head c.args.is_async (tree_of c.args.target.now) (tree_of c.args.iter.now))))
-        (trailing piece Colon ∷ []) _
+    (header_tokens piece (loop_header (for_head c.args.is_async (tree_of c.args.target.now) (tree_of c.args.iter.now))))
+    (trailing piece Colon ∷ []) _
     (c.in_ok-write_expr-2.ensures ∙ five g.W.Writer.after c.args.out.now (async piece c.args.is_async) (word piece Key.For ∷ [])
-        (pieces Stars (tree_of c.args.target.now)) (word piece Key.In ∷ [])
+    (pieces Stars (tree_of c.args.target.now)) (word piece Key.In ∷ [])
     (pieces Stars (tree_of c.args.iter.now)) _ _ _ _ c.in_ok-put_async.ensures c.in_ok-put_word.ensures c.in_ok-write_expr.ensures
-        c.in_ok-put_word-2.ensures))
+    c.in_ok-put_word-2.ensures))

@@ -19,11 +19,11 @@ returns g c =
     let ps = map type_param_of c.args.type_params.now in
     IfOk-equal _ _ _ _ c.put_colon.ensures
     (two g.W.Writer.after c.args.out.now (header_tokens piece (def_header (function_head c.args.is_async c.args.name.now ps a r)))
-        (trailing piece Colon ∷ []) _
+    (trailing piece Colon ∷ []) _
     (c.in_ok-write_behind.ensures ∙ six g.W.Writer.after c.args.out.now (async piece c.args.is_async) (word piece Key.Def ∷ [])
-        (free piece (in_form c.args.name.now) ∷ []) (type_params piece ps)
+    (free piece (in_form c.args.name.now) ∷ []) (type_params piece ps)
     (enclosed piece (tight piece LPar) RPar (listed piece (parameters piece a)))
-        (behind piece (free piece (Op RArrow)) Expression r) _ _ _ _ _
+    (behind piece (free piece (Op RArrow)) Expression r) _ _ _ _ _
     c.in_ok-put_async.ensures c.in_ok-put_word.ensures c.in_ok-put_name.ensures c.in_ok-write_type_params.ensures
     (c.in_ok-put_sign-2.ensures ∙ enclosed_on g.W.Writer.after _ (tight piece LPar) RPar (listed piece (parameters piece a)) _ _
-        c.in_ok-put_sign.ensures c.in_ok-write_parameters.ensures)))
+    c.in_ok-put_sign.ensures c.in_ok-write_parameters.ensures)))

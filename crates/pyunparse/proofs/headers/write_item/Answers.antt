@@ -10,4 +10,4 @@ pub returns : goal.returns
 returns g c =
     let i = c.args.item.now in
     IfOk-equal _ _ _ _ c.write_target.ensures (two g.W.Writer.after c.args.out.now (pieces Expression (tree_of i.context_expr))
-        (as_target piece (option_of i.optional_vars)) _ c.in_ok-write_expr.ensures)
+    (as_target piece (option_of i.optional_vars)) _ c.in_ok-write_expr.ensures)

@@ -14,7 +14,7 @@ use Rattle.pyunparse.proofs.headers.write_item_target.Goals as goal
 pub returns-in_ok-put_sign-in-Starred : goal.returns-in_ok-put_sign-in-Starred
 returns-in_ok-put_sign-in-Starred g c = rw (c.in-Starred.is, starred_tree, sym c.deref.ensures) (IfOk-equal _ _ _ _ c.write_expr.ensures
     (two g.W.Writer.after c.args.out.now (leading piece Star ∷ []) (pieces Expression (tree_of c.deref.result.now)) _
-        c.in_ok-put_sign-in-Starred.ensures))
+    c.in_ok-put_sign-in-Starred.ensures))
 
 pub returns-in_default : goal.returns-in_default
 returns-in_default g c = IfOk-equal _ _ _ _ c.write_expr-in_default.ensures

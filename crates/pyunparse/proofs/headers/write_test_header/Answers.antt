@@ -11,4 +11,4 @@ use Rattle.pyunparse.proofs.headers.write_test_header.Goals as goal
 pub returns : goal.returns
 returns g c = IfOk-equal _ _ _ _ c.put_colon.ensures
     (three g.W.Writer.after c.args.out.now (word piece c.args.word ∷ []) (pieces Named (tree_of c.args.test.now))
-        (trailing piece Colon ∷ []) _ _ c.in_ok-put_word.ensures c.in_ok-write_expr.ensures)
+    (trailing piece Colon ∷ []) _ _ c.in_ok-put_word.ensures c.in_ok-write_expr.ensures)

@@ -11,5 +11,5 @@ use Rattle.pyunparse.proofs.imports.write_aliases.Given as goal
 abbrev pub invariant-loop-alias : goal.invariant-loop-alias
 invariant-loop-alias g l =
     puts g.W.Writer.after l.out
-        (members l.first (trailing piece Comma) (map (name_alias piece) (map alias_of (drop l.alias-index l.names))))
+    (members l.first (trailing piece Comma) (map (name_alias piece) (map alias_of (drop l.alias-index l.names))))
     ≡ puts g.W.Writer.after l.initial.out (members true (trailing piece Comma) (map (name_alias piece) (map alias_of l.names)))

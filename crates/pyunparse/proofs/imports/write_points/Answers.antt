@@ -10,8 +10,11 @@ pub loop-left-2-init : goal.loop-left-2-init
 loop-left-2-init g c = (c.loop-left.invariant, omega arith)
 
 pub loop-left-2-preserved : goal.loop-left-2-preserved
-loop-left-2-preserved g c = (one_on g.W.Writer.after _ c.loop-left-2.out _ c.loop-left-2.close c.loop-left-2.left (omega arith)
-    c.loop-left-2.invariant.1 c.loop-left-2.invariant.0 c.in_ok-put_operator-2.ensures, omega arith)
+loop-left-2-preserved g c = (
+  one_on g.W.Writer.after _ c.loop-left-2.out _ c.loop-left-2.close c.loop-left-2.left (omega arith)
+      c.loop-left-2.invariant.1 c.loop-left-2.invariant.0 c.in_ok-put_operator-2.ensures,
+  omega arith,
+)
 
 pub returns : goal.returns
 returns g c = points_done g.W.Writer.after _ c.loop-left-2.out c.loop-left-2.close c.loop-left-2.left (omega arith)

@@ -14,4 +14,4 @@ pub returns : goal.returns
 returns c = IfOk-weaker _ _ _ (λ _ e. whole_line c.args.out.now _ _ _ (leading piece At ∷ pieces Named (tree_of c.args.e.now))
     c.in_ok-begin_line.ensures
     (c.in_ok-write_expr.ensures ∙ two behind_sited _ (leading piece At ∷ []) (pieces Named (tree_of c.args.e.now)) _
-        c.in_ok-put_sign.ensures) e) c.end_line.ensures
+    c.in_ok-put_sign.ensures) e) c.end_line.ensures

@@ -13,7 +13,7 @@ loop-e-preserved c = record {
   text = line_on c.args.out.now c.loop-e.out (λ n xs. decorators piece n (map tree_of xs))
       (λ n x. written_line n (leading piece At ∷ pieces Named (tree_of x)) ∷ [])
       (λ _ _ _. refl) c.args.decorators.now _ _ _ _ c.loop-e-test.true c.e-item.is c.loop-e.invariant.level c.loop-e.invariant.text
-          c.in_ok-write_decorator.ensures;
+      c.in_ok-write_decorator.ensures;
   level = c.in_ok-write_decorator.ensures.level ∙ c.loop-e.invariant.level;
 }
 

@@ -52,7 +52,7 @@ pub write_key_patterns-loop-i-preserved : goal.write_key_patterns-loop-i-preserv
 write_key_patterns-loop-i-preserved g t c = both_on g.W.Writer.after _ _ c.loop-i.first (trailing piece Comma) keyed
     (λ k p. key_pattern (tree_of k) (pattern_of p)) keyed_more c.args.keys.now c.args.inner.now c.loop-i.i _ _ _ _
     (omega arith) c.index-keys-i.is (omega arith) c.index-inner-i.is c.loop-i.invariant c.in_ok-put_between.ensures
-        c.in_ok-write_key_pattern.ensures
+    c.in_ok-write_key_pattern.ensures
 
 pub write_key_patterns-returns : goal.write_key_patterns-returns
 write_key_patterns-returns g t c = both_done g.W.Writer.after _ c.loop-i.out c.loop-i.first (trailing piece Comma) keyed no_keys no_values
@@ -62,13 +62,13 @@ pub write_key_patterns-write_key_pattern-requires : goal.write_key_patterns-writ
 write_key_patterns-write_key_pattern-requires g t c =
     let b : c.loop-i.i < length c.args.inner.now = omega arith in
     let h : _ = no_higher (λ xs. pattern_heights (patterns (map pattern_of xs))) (λ x. pattern_height (pattern_of x)) (λ _ _. refl) _ _ _ b
-        c.index-inner-i.is in (λ κs l. (omega (arith, h), l))
+    c.index-inner-i.is in (λ κs l. (omega (arith, h), l))
 
 pub write_named_patterns-loop-i-preserved : goal.write_named_patterns-loop-i-preserved
 write_named_patterns-loop-i-preserved g t c = both_on g.W.Writer.after _ _ c.loop-i.first (trailing piece Comma) by_names
     (λ x p. named_pattern x (pattern_of p)) by_names_more c.args.names.now c.args.named.now c.loop-i.i _ _ _ _
     (omega arith) c.index-names-i.is (omega arith) c.index-named-i.is c.loop-i.invariant c.in_ok-put_between.ensures
-        c.in_ok-write_named_pattern.ensures
+    c.in_ok-write_named_pattern.ensures
 
 pub write_named_patterns-returns : goal.write_named_patterns-returns
 write_named_patterns-returns g t c = both_done g.W.Writer.after _ c.loop-i.out c.loop-i.first (trailing piece Comma) by_names no_names
@@ -78,7 +78,7 @@ pub write_named_patterns-write_named_pattern-requires : goal.write_named_pattern
 write_named_patterns-write_named_pattern-requires g t c =
     let b : c.loop-i.i < length c.args.named.now = omega arith in
     let h : _ = no_higher (λ xs. pattern_heights (patterns (map pattern_of xs))) (λ x. pattern_height (pattern_of x)) (λ _ _. refl) _ _ _ b
-        c.index-named-i.is in (λ κs l. (omega (arith, h), l))
+    c.index-named-i.is in (λ κs l. (omega (arith, h), l))
 
 pub write_key_pattern-returns : goal.write_key_pattern-returns
 write_key_pattern-returns g t c =
@@ -92,12 +92,12 @@ write_named_pattern-returns g t c = IfOk-equal _ _ _ _ c.write_pattern.ensures (
 pub write_sequence-returns-then-is_bare : goal.write_sequence-returns-then-is_bare
 write_sequence-returns-then-is_bare g t c = IfOk-equal _ _ _ _ c.put_last.ensures
     (bare_on g.W.Writer.after c.args.out.now c.args.level c.args.inner.now _ _ (sym c.is_bare.ensures ∙ c.if-is_bare.true) refl
-        c.in_ok-write_patterns.ensures)
+    c.in_ok-write_patterns.ensures)
 
 pub write_sequence-returns : goal.write_sequence-returns
 write_sequence-returns g t c = IfOk-equal _ _ _ _ c.put_sign-2.ensures
     (sequence_on g.W.Writer.after c.args.out.now c.args.level c.args.inner.now _ _ (sym c.is_bare.ensures ∙ c.if-is_bare.false)
-        c.in_ok-put_sign.ensures c.in_ok-write_patterns-2.ensures)
+    c.in_ok-put_sign.ensures c.in_ok-write_patterns-2.ensures)
 
 pub write_mapping-returns : goal.write_mapping-returns
 write_mapping-returns g t c = IfOk-equal _ _ _ _ c.put_sign-2.ensures
@@ -107,9 +107,9 @@ write_mapping-returns g t c = IfOk-equal _ _ _ _ c.put_sign-2.ensures
 pub write_class_pattern-returns : goal.write_class_pattern-returns
 write_class_pattern-returns g t c = IfOk-equal _ _ _ _ c.put_sign-2.ensures
     (class_on g.W.Writer.after c.args.out.now c.args.level (tree_of c.args.class.now) c.args.inner.now c.args.names.now
-        c.args.named.now _ _ _ _ _
+    c.args.named.now _ _ _ _ _
     c.is_empty.ensures c.in_ok-write_expr.ensures c.in_ok-put_sign.ensures c.in_ok-write_patterns.ensures
-        c.in_ok-write_named_patterns.ensures)
+    c.in_ok-write_named_patterns.ensures)
 
 pub write_as_pattern-returns-in-None : goal.write_as_pattern-returns-in-None
 unfolding written_pattern
@@ -119,12 +119,12 @@ pub write_as_pattern-returns-in_ok-put_target-in-Some : goal.write_as_pattern-re
 write_as_pattern-returns-in_ok-put_target-in-Some g t c = rw (c.in-Some.is, sym c.deref.ensures) (IfOk-equal _ _ _ _ c.close.ensures
     (as_on g.W.Writer.after c.args.out.now c.args.level _ (pattern_of c.deref.result.now) c.args.name.now _ _ _ _
     c.pattern_reaches-bare.ensures c.in_ok-open-in-Some.ensures c.in_ok-write_pattern-in-Some.ensures c.in_ok-put_word-in-Some.ensures
-        c.in_ok-put_target-in-Some.ensures))
+    c.in_ok-put_target-in-Some.ensures))
 
 pub write_or_pattern-returns : goal.write_or_pattern-returns
 write_or_pattern-returns g t c = IfOk-equal _ _ _ _ c.close.ensures
     (or_on g.W.Writer.after c.args.out.now c.args.level _ (patterns (map pattern_of c.args.inner.now)) _ _ c.pattern_reaches-bare.ensures
-        c.in_ok-open.ensures c.in_ok-write_alternatives.ensures)
+    c.in_ok-open.ensures c.in_ok-write_alternatives.ensures)
 
 pub write_pattern-returns-in-MatchValue : goal.write_pattern-returns-in-MatchValue
 unfolding written_pattern

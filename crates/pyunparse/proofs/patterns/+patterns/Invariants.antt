@@ -15,31 +15,31 @@ use Rattle.pyunparse.proofs.patterns.+patterns.Given as goal
 abbrev pub invariant-write_patterns-loop-p : goal.invariant-write_patterns-loop-p
 invariant-write_patterns-loop-p g l =
     puts g.W.Writer.after l.out
-        (members l.first (trailing piece Comma) (each_pattern piece l.level (patterns (map pattern_of (drop l.p-index l.inner)))))
+    (members l.first (trailing piece Comma) (each_pattern piece l.level (patterns (map pattern_of (drop l.p-index l.inner)))))
     ≡ puts g.W.Writer.after l.initial.out
-        (members true (trailing piece Comma) (each_pattern piece l.level (patterns (map pattern_of l.inner))))
+    (members true (trailing piece Comma) (each_pattern piece l.level (patterns (map pattern_of l.inner))))
 
 abbrev pub invariant-write_alternatives-loop-p : goal.invariant-write_alternatives-loop-p
 invariant-write_alternatives-loop-p g l =
     puts g.W.Writer.after l.out
-        (members l.first (free piece (Op VBar)) (each_pattern piece ClosedPattern (patterns (map pattern_of (drop l.p-index l.inner)))))
+    (members l.first (free piece (Op VBar)) (each_pattern piece ClosedPattern (patterns (map pattern_of (drop l.p-index l.inner)))))
     ≡ puts g.W.Writer.after l.initial.out
-        (members true (free piece (Op VBar)) (each_pattern piece ClosedPattern (patterns (map pattern_of l.inner))))
+    (members true (free piece (Op VBar)) (each_pattern piece ClosedPattern (patterns (map pattern_of l.inner))))
 
 abbrev pub invariant-write_key_patterns-loop-i : goal.invariant-write_key_patterns-loop-i
 invariant-write_key_patterns-loop-i g l =
     puts g.W.Writer.after l.out
-        (members l.first (trailing piece Comma) (key_patterns piece (map tree_of (drop l.i l.keys))
-        (patterns (map pattern_of (drop l.i l.inner)))))
+    (members l.first (trailing piece Comma) (key_patterns piece (map tree_of (drop l.i l.keys))
+    (patterns (map pattern_of (drop l.i l.inner)))))
     ≡ puts g.W.Writer.after l.initial.out
-        (members true (trailing piece Comma) (key_patterns piece (map tree_of l.keys) (patterns (map pattern_of l.inner))))
+    (members true (trailing piece Comma) (key_patterns piece (map tree_of l.keys) (patterns (map pattern_of l.inner))))
 
 abbrev pub invariant-write_named_patterns-loop-i : goal.invariant-write_named_patterns-loop-i
 invariant-write_named_patterns-loop-i g l =
     puts g.W.Writer.after l.out
-        (members l.first (trailing piece Comma) (named_patterns piece (drop l.i l.names) (patterns (map pattern_of (drop l.i l.named)))))
+    (members l.first (trailing piece Comma) (named_patterns piece (drop l.i l.names) (patterns (map pattern_of (drop l.i l.named)))))
     ≡ puts g.W.Writer.after l.initial.out
-        (members l.fn.is_first (trailing piece Comma) (named_patterns piece l.names (patterns (map pattern_of l.named))))
+    (members l.fn.is_first (trailing piece Comma) (named_patterns piece l.names (patterns (map pattern_of l.named))))
 
 abbrev pub decreases-write_pattern : goal.decreases-write_pattern
 decreases-write_pattern g l = 4 * pattern_height (pattern_of l.p.now)

@@ -12,7 +12,7 @@ pub returns-clause-tokens : goal.returns-clause-tokens
 returns-clause-tokens c =
     let ps = written_pattern piece c.args.level (pattern_of c.args.pattern.now) in
     c.into_pieces.ensures ∙ ap (λ z. z.tokens) (c.in_ok-write_pattern.ensures
-        ∙ ap (λ z. puts listed_behind z ps) c.new-out.ensures ∙ tokens_put [] ps)
+    ∙ ap (λ z. puts listed_behind z ps) c.new-out.ensures ∙ tokens_put [] ps)
 
 pub returns-clause-fewest : goal.returns-clause-fewest
 returns-clause-fewest c ts told = patterns_are_shortest c.args.level ts (pattern_of c.args.pattern.now) told

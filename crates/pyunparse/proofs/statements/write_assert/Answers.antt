@@ -6,4 +6,4 @@ use Rattle.pyunparse.proofs.statements.write_assert.Goals as goal
 pub returns : goal.returns
 returns g c = IfOk-equal _ _ _ _ c.write_message.ensures
     (assert_on g.W.Writer.after c.args.out.now (tree_of c.args.test.now) (option_of c.args.msg.now) _ _ c.in_ok-put_word.ensures
-        c.in_ok-write_expr.ensures)
+    c.in_ok-write_expr.ensures)

@@ -6,4 +6,4 @@ use Rattle.pyunparse.proofs.statements.write_raise.Goals as goal
 pub returns : goal.returns
 returns g c = IfOk-equal _ _ _ _ c.write_cause.ensures
     (raise_on g.W.Writer.after c.args.out.now (option_of c.args.exc.now) (option_of c.args.cause.now) _ _ c.in_ok-put_word.ensures
-        c.in_ok-write_option.ensures)
+    c.in_ok-write_option.ensures)

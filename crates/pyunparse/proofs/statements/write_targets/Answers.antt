@@ -13,7 +13,7 @@ use Rattle.pyunparse.proofs.statements.write_targets.Goals as goal
 pub loop-target-preserved : goal.loop-target-preserved
 loop-target-preserved g c = part_on g.W.Writer.after _ _ (λ xs. targets piece (map tree_of xs)) (λ x. assigned (tree_of x))
     (λ x xs. sym (append_assoc (pieces Stars (tree_of x)) (free piece (Op Equal) ∷ []) (targets piece (map tree_of xs))))
-        c.args.targets.now _ _ _
+    c.args.targets.now _ _ _
     c.loop-target-test.true c.target-item.is c.loop-target.invariant c.in_ok-write_assigned.ensures
 
 pub returns : goal.returns

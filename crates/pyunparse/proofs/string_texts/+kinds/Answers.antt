@@ -12,7 +12,7 @@ use Rattle.pyunparse.proofs.string_texts.+kinds.Goals as goal
 pub is_unicode-is_unicode_value-requires : goal.is_unicode-is_unicode_value-requires
 is_unicode-is_unicode_value-requires t c =
     let h : _ = no_higher (λ xs. heights (exprs (map tree_of xs))) (λ x. height (tree_of x)) (λ _ _. refl) _ _ _ c.loop-value-test.true
-        c.value-item.is in (omega (arith, h), tt)
+    c.value-item.is in (omega (arith, h), tt)
 
 pub is_unicode_string-is_unicode-requires : goal.is_unicode_string-is_unicode-requires
 is_unicode_string-is_unicode-requires t c = let h : _ =

@@ -11,5 +11,5 @@ use Rattle.pyunparse.proofs.types.write_listed_params.Given as goal
 abbrev pub invariant-loop-param : goal.invariant-loop-param
 invariant-loop-param g l =
     puts g.W.Writer.after l.out
-        (members l.first (trailing piece Comma) (map (type_param piece) (map type_param_of (drop l.param-index l.params))))
+    (members l.first (trailing piece Comma) (map (type_param piece) (map type_param_of (drop l.param-index l.params))))
     ≡ puts g.W.Writer.after l.initial.out (members true (trailing piece Comma) (map (type_param piece) (map type_param_of l.params)))

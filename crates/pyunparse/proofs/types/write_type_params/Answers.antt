@@ -9,4 +9,4 @@ returns-then-is_empty g c = no_params g.W.Writer.after c.args.out.now c.args.par
 pub returns : goal.returns
 returns g c = IfOk-equal _ _ _ _ c.put_sign-2.ensures
     (params_on g.W.Writer.after c.args.out.now c.args.params.now _ _ (sym c.if-is_empty.false ∙ c.is_empty.ensures) c.in_ok-put_sign.ensures
-        c.in_ok-write_listed_params.ensures)
+    c.in_ok-write_listed_params.ensures)

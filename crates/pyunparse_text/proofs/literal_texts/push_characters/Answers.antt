@@ -6,4 +6,4 @@ use Rattle.pyunparse_text.proofs.literal_texts.push_characters.Goals as goal
 pub returns : goal.returns
 returns c =
     pushed_all (character_text c.args.in_field c.args.in_spec) c.args.points.now c.loop-point.point-index _ _
-        (omega arith) c.loop-point.invariant
+    (omega arith) c.loop-point.invariant

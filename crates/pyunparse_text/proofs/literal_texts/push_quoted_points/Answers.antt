@@ -7,4 +7,4 @@ pub returns : goal.returns
 returns c =
     quoted_from _
     (flat_map field_character c.args.points.now) _ _ _ c.in_ok-push.ensures.bytes c.in_ok-push_field_points.ensures
-        c.in_ok-push-2.ensures.bytes
+    c.in_ok-push-2.ensures.bytes

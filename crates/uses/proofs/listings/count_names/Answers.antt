@@ -8,7 +8,7 @@ use Rattle.uses.proofs.listings.count_names.Goals as goal
 pub loop-lister-smaller-then-is_name : goal.loop-lister-smaller-then-is_name
 loop-lister-smaller-then-is_name c =
     let m = moved c.loop-lister.lister c.next.new.self c.in_ok-entry.field-0 (steps.Entry c.in-Entry.entry) _ _ c.in_ok-entry.ensures.steps
-        c.in-Entry.is c.loop-lister.invariant.stands in
+    c.in-Entry.is c.loop-lister.invariant.stands in
     omega (arith, m.1.count, c.next.ensures.given)
 
 pub loop-lister-preserved-then-is_name : goal.loop-lister-preserved-then-is_name
@@ -17,7 +17,7 @@ loop-lister-preserved-then-is_name c =
     let s = in_characters c.args.source.now in
     let k = c.loop-lister.lister.shown.given in
     let m = moved c.loop-lister.lister c.next.new.self c.in_ok-entry.field-0 (steps.Entry c.in-Entry.entry) s k c.in_ok-entry.ensures.steps
-        c.in-Entry.is i.stands in
+    c.in-Entry.is i.stands in
     let left = behind_name s k c.in-Entry.entry m.0 (sym c.is_name.ensures ∙ c.if-is_name.true) in
     record {
       stands = subst (λ (n : ℕ). StandsIn c.next.new.self s n) (sym m.1.count) m.1;
@@ -29,7 +29,7 @@ loop-lister-preserved-then-is_name c =
 pub loop-lister-smaller : goal.loop-lister-smaller
 loop-lister-smaller c =
     let m = moved c.loop-lister.lister c.next.new.self c.in_ok-entry.field-0 (steps.Entry c.in-Entry.entry) _ _ c.in_ok-entry.ensures.steps
-        c.in-Entry.is c.loop-lister.invariant.stands in
+    c.in-Entry.is c.loop-lister.invariant.stands in
     omega (arith, m.1.count, c.next.ensures.given)
 
 pub loop-lister-preserved : goal.loop-lister-preserved
@@ -38,7 +38,7 @@ loop-lister-preserved c =
     let s = in_characters c.args.source.now in
     let k = c.loop-lister.lister.shown.given in
     let m = moved c.loop-lister.lister c.next.new.self c.in_ok-entry.field-0 (steps.Entry c.in-Entry.entry) s k c.in_ok-entry.ensures.steps
-        c.in-Entry.is i.stands in
+    c.in-Entry.is i.stands in
     let left = behind_other s k c.in-Entry.entry m.0 (sym c.is_name.ensures ∙ c.if-is_name.false) in
     record {
       stands = subst (λ (n : ℕ). StandsIn c.next.new.self s n) (sym m.1.count) m.1;

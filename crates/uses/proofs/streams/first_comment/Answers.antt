@@ -26,5 +26,5 @@ pub returns-then-eq-clause-found : goal.returns-then-eq-clause-found
 returns-then-eq-clause-found g c =
     let same : c.in-Entry.entry.kind ≡ kinds.Comment = same_true the_type (search rules) _ _ (sym c.eq.ensures ∙ c.if-eq.true) in
     finds c.in-Ok.ensures.steps c.loop-step.invariant c.in-Entry.entry c.in-Ok-from_str.comment c.in-Entry.is
-        (comment_is c.in-Entry.entry same)
+    (comment_is c.in-Entry.entry same)
     (λ p k more broken s. c.in-Ok-from_str.ensures.ok ∙ c.text.ensures p k more broken s)

@@ -25,7 +25,7 @@ returns-in_ok-place-in-Ok c k held was =
       known =
           c.in_ok-place-in-Ok.ensures c.args.profile s k was.forms was.known
           (comes_held earlier c.inside.result (map terminal c.terminals.result.now) c.level-level.result (form_of c.in-Ok.form)
-              c.start.result held inside c.terminals.ensures
+          c.start.result held inside c.terminals.ensures
           c.level-level.ensures c.start.ensures c.in-Ok.ensures.form);
       places =
           subst (λ (xs : List Line). HoldsPlaces xs c.step.new.self) (sym (behind_more [] was.forms next))
@@ -40,7 +40,7 @@ returns-in_ok-error-in-Err c k held was =
     let unread =
     c.in_ok-error-in-Err.ensures c.args.profile c.inside.result held.line
     (subst (λ (ts : List Terminal). Refused c.in-Err.stop c.args.profile c.inside.result ts) (c.terminals.ensures
-        ∙ held.holds.terminals) c.in-Err.ensures.form)
+    ∙ held.holds.terminals) c.in-Err.ensures.form)
     (c.is_left_out.ensures ∙ ap (λ (b : Bool). not (is_whole c.args.profile.extent) && b) (c.is_match-in-Err.ensures ∙ held.holds.is_match))
     in
     record {
@@ -48,7 +48,7 @@ returns-in_ok-error-in-Err c k held was =
       known =
           subst (IsKnown c.args.profile s (k + 1) was.forms) (sym c.refuse.ensures)
           (unread_first was.forms c.args.self.now.known held.line c.in_ok-error-in-Err.error c.start-in-Err.result
-              c.requires was.known held.stands
+          c.requires was.known held.stands
           (subst (λ (b : Bool). Unread c.args.profile b held.line (code_of c.in_ok-error-in-Err.error)) inside unread)
           (subst (StartsAt s k) (sym c.start-in-Err.ensures) (starts_held s k c.args.lines.now held)));
       places = was.places;

@@ -8,6 +8,6 @@ returns-then-is_unread c k held was = record {
   forms = was.forms;
   known =
       unread_stays c.args.profile (in_characters c.args.lines.now.source) k was.forms c.args.self.now.known c.args.lines.now
-          (sym c.is_unread.ensures ∙ c.if-is_unread.true) held was.known;
+      (sym c.is_unread.ensures ∙ c.if-is_unread.true) held was.known;
   places = was.places;
 }

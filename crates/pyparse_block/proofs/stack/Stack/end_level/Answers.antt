@@ -14,10 +14,10 @@ pub returns-clause-ended : goal.returns-clause-ended
 returns-clause-ended c =
     let w = c.unwrap-part.result in
     let popped : c.args.self.now.below.items ≡ c.pop.new.self.items ++ w ∷ [] = c.pop.ensures.items
-        ∙ ap (λ (o : Option Waiting). c.pop.new.self.items ++ option_to_list o) c.unwrap-part.ensures in
+    ∙ ap (λ (o : Option Waiting). c.pop.new.self.items ++ option_to_list o) c.unwrap-part.ensures in
     let put = λ (p q : Part). joined (map stmt_of p.done.items) (group_of p.group) (header_of w.header) (map stmt_of q.done.items) in
     let puts = ap (λ (p : Part). put p c.replace-done.result) c.replace-done.ensures.after ∙ ap (put w.part) c.replace-done.ensures.value in
     level_ended (state_of c.args.self.now) c.args.self.now.below.items c.pop.new.self.items w (map stmt_of c.close.new.part.done.items) _ _
     refl popped c.if-self.false (sym c.if-is_matching.ensures) c.in_ok-close.ensures.closed
     (c.in_ok-grow.ensures.done ∙ ap (λ (p : reading.Part). p.done) puts) (c.in_ok-grow.ensures.group
-        ∙ ap (λ (p : reading.Part). p.group) puts)
+    ∙ ap (λ (p : reading.Part). p.group) puts)

@@ -11,14 +11,14 @@ use Rattle.pyparse_line.proofs.headers.definitions.def_rest.Goals as goal
 pub returns-in_err-types : goal.returns-in_err-types
 returns-in_err-types c =
     let f = types_failed c.args.tokens.now c.args.profile c.args.depth c.args.at _ c.in-Some.ensures.is
-        (λ x tps r. function_rest (reads c.args.depth) c.args.is_async x tps r) c.in_err-types.field-0.0 c.in_err-types.ensures in
+    (λ x tps r. function_rest (reads c.args.depth) c.args.is_async x tps r) c.in_err-types.field-0.0 c.in_err-types.ensures in
     search (rules, f)
 
 pub returns : goal.returns
 returns c =
     let g = subst (λ (x : Identifier). HeaderAnswered c.args.tokens.now c.in_ok-types.types.next
-        (function_rest (reads c.args.depth) c.args.is_async x (map type_param_of c.in_ok-types.types.params.items)
-        (seen c.args.tokens.now c.in_ok-types.types.next)) c.function_rest.result) c.in_ok-name.ensures c.function_rest.ensures in
+    (function_rest (reads c.args.depth) c.args.is_async x (map type_param_of c.in_ok-types.types.params.items)
+    (seen c.args.tokens.now c.in_ok-types.types.next)) c.function_rest.result) c.in_ok-name.ensures c.function_rest.ensures in
     types_found c.args.tokens.now c.args.profile c.args.depth c.args.at _ c.in-Some.ensures.is
-        (λ x tps r. function_rest (reads c.args.depth) c.args.is_async x tps r) (map type_param_of c.in_ok-types.types.params.items)
-        c.in_ok-types.types.next c.function_rest.result c.in_ok-types.ensures g
+    (λ x tps r. function_rest (reads c.args.depth) c.args.is_async x tps r) (map type_param_of c.in_ok-types.types.params.items)
+    c.in_ok-types.types.next c.function_rest.result c.in_ok-types.ensures g

@@ -19,7 +19,7 @@ more-init c = record {
 pub returns-in_err-item : goal.returns-in_err-item
 returns-in_err-item c =
     let f = list_failed c.args.tokens.now (read_item (reads c.args.depth)) (more_items c.args.in_brackets) _
-        (map item_of c.more.items.items.items) c.more.items.next c.more.invariant.is c.in_err-item.field-0.0 c.in_err-item.ensures in
+    (map item_of c.more.items.items.items) c.more.items.next c.more.invariant.is c.in_err-item.field-0.0 c.in_err-item.ensures in
     search (rules, f)
 
 pub returns-then-not-is_op : goal.returns-then-not-is_op

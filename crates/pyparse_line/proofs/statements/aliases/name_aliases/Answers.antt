@@ -14,15 +14,15 @@ more-init c = record {
 pub returns-in_err-one : goal.returns-in_err-one
 returns-in_err-one c =
     let f = list_failed c.args.tokens.now name_alias (more_names c.args.bracketed) _ _ c.more.next c.more.invariant.is
-        c.in_err-one.field-0.0 c.in_err-one.ensures in
+    c.in_err-one.field-0.0 c.in_err-one.ensures in
     search (rules, f)
 
 pub returns-then-not-is_op : goal.returns-then-not-is_op
 returns-then-not-is_op c =
     let p : c.push.new.self.items ≡ c.more.aliases.items ++ (c.in_ok-one.one.alias ∷ []) = search rules in
     list_last c.args.tokens.now name_alias (more_names c.args.bracketed) _ _ c.more.next c.more.invariant.is _ _ _ c.in_ok-one.ensures _
-        (alias_pushed c.more.aliases.items c.push.new.self.items c.in_ok-one.one.alias p) c.args.at _ refl
-        (omega (arith, c.more.invariant.ahead, c.in_ok-one.ensures.ahead)) c.if-not-is_op.ensures
+    (alias_pushed c.more.aliases.items c.push.new.self.items c.in_ok-one.one.alias p) c.args.at _ refl
+    (omega (arith, c.more.invariant.ahead, c.in_ok-one.ensures.ahead)) c.if-not-is_op.ensures
 
 pub more-preserved : goal.more-preserved
 more-preserved c =
@@ -38,5 +38,5 @@ pub returns-then-not-more_names : goal.returns-then-not-more_names
 returns-then-not-more_names c =
     let p : c.push.new.self.items ≡ c.more.aliases.items ++ (c.in_ok-one.one.alias ∷ []) = search rules in
     list_end c.args.tokens.now name_alias (more_names c.args.bracketed) _ _ c.more.next c.more.invariant.is _ _ _ c.in_ok-one.ensures _
-        (alias_pushed c.more.aliases.items c.push.new.self.items c.in_ok-one.one.alias p) c.if-not-is_op.ensures _ refl c.args.at
-        (omega (arith, c.more.invariant.ahead, c.in_ok-one.ensures.ahead)) (sym c.if-not-more_names.ensures)
+    (alias_pushed c.more.aliases.items c.push.new.self.items c.in_ok-one.one.alias p) c.if-not-is_op.ensures _ refl c.args.at
+    (omega (arith, c.more.invariant.ahead, c.in_ok-one.ensures.ahead)) (sym c.if-not-more_names.ensures)

@@ -15,11 +15,11 @@ returns-in_default c = dotted_missing c.args.tokens.now _ _ c.more.next c.more.i
 pub returns-then-not-is_op : goal.returns-then-not-is_op
 returns-then-not-is_op c =
     let t = dotted_text c.args.tokens.now _ _ c.more.next c.more.invariant.is (nfkc (chars c.in-Some.name.now)) c.in-Some.ensures.is
-        (string_bytes c.put_name.new.text) c.in_ok-put_name.ensures in
+    (string_bytes c.put_name.new.text) c.in_ok-put_name.ensures in
     let n = chars_from_encodes (c.more.invariant.is.text ++ nfkc (chars c.in-Some.name.now)) c.as_str.result.now c.as_str.utf8
-        (sym (c.as_str.ensures.value ∙ t)) in
+    (sym (c.as_str.ensures.value ∙ t)) in
     dotted_last c.args.tokens.now _ _ c.more.next c.more.invariant.is _ c.in-Some.ensures.is _ c.in_ok-put_name.ensures _ c.args.at _
-        (c.in_ok-name.ensures.value ∙ sym n) refl c.more.invariant.ahead c.in-Some.ensures.within c.if-not-is_op.ensures
+    (c.in_ok-name.ensures.value ∙ sym n) refl c.more.invariant.ahead c.in-Some.ensures.within c.if-not-is_op.ensures
 
 pub more-preserved : goal.more-preserved
 more-preserved c =

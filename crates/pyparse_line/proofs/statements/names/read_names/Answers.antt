@@ -12,14 +12,14 @@ more-init c = record {
 pub returns-in_err-one : goal.returns-in_err-one
 returns-in_err-one c =
     let f = list_failed c.args.tokens.now read_name always _ _ c.more.next c.more.invariant.is
-        c.in_err-one.field-0.0 c.in_err-one.ensures in
+    c.in_err-one.field-0.0 c.in_err-one.ensures in
     search (rules, f)
 
 pub returns-then-not-is_op : goal.returns-then-not-is_op
 returns-then-not-is_op c =
     let p : c.push.new.self.items ≡ c.more.names.items ++ (c.in_ok-one.one.name ∷ []) = search rules in
     list_last c.args.tokens.now read_name always _ _ c.more.next c.more.invariant.is _ _ _ c.in_ok-one.ensures _ (p) c.args.at _ refl
-        (omega (arith, c.more.invariant.ahead, c.in_ok-one.ensures.ahead)) c.if-not-is_op.ensures
+    (omega (arith, c.more.invariant.ahead, c.in_ok-one.ensures.ahead)) c.if-not-is_op.ensures
 
 pub more-preserved : goal.more-preserved
 more-preserved c =

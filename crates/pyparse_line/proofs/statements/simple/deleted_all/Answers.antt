@@ -18,33 +18,33 @@ more-init c = record {
 pub returns-in_err-one : goal.returns-in_err-one
 returns-in_err-one c =
     let f = list_failed c.args.tokens.now (deleted_one (reads c.args.depth)) (starts (Of Expression)) _ _ c.more.targets.next
-        c.more.invariant.is c.in_err-one.field-0.0 c.in_err-one.ensures in
+    c.more.invariant.is c.in_err-one.field-0.0 c.in_err-one.ensures in
     search (rules, f)
 
 pub returns-then-not-is_op : goal.returns-then-not-is_op
 returns-then-not-is_op c =
     list_last c.args.tokens.now (deleted_one (reads c.args.depth)) (starts (Of Expression)) _ _ c.more.targets.next c.more.invariant.is _ _
-        _ c.in_ok-one.ensures _ c.in_ok-grown.ensures.items c.args.at _ c.in_ok-grown.ensures.next
-        (omega (arith, c.more.invariant.ahead, c.in_ok-one.ensures.ahead))
+    _ c.in_ok-one.ensures _ c.in_ok-grown.ensures.items c.args.at _ c.in_ok-grown.ensures.next
+    (omega (arith, c.more.invariant.ahead, c.in_ok-one.ensures.ahead))
     (rw c.in_ok-grown.ensures.next at c.if-not-is_op.ensures)
 
 pub returns-then-not-starts_expression : goal.returns-then-not-starts_expression
 returns-then-not-starts_expression c =
     list_end c.args.tokens.now (deleted_one (reads c.args.depth)) (starts (Of Expression)) _ _ c.more.targets.next c.more.invariant.is _ _ _
-        c.in_ok-one.ensures _ (c.placed-targets.ensures.items ∙ c.in_ok-grown.ensures.items)
+    c.in_ok-one.ensures _ (c.placed-targets.ensures.items ∙ c.in_ok-grown.ensures.items)
     (rw c.in_ok-grown.ensures.next at c.if-not-is_op.ensures) _ (c.placed-targets.ensures.next ∙ ap (λ n. n + 1) c.in_ok-grown.ensures.next)
-        c.args.at (omega (arith, c.more.invariant.ahead, c.in_ok-one.ensures.ahead))
+    c.args.at (omega (arith, c.more.invariant.ahead, c.in_ok-one.ensures.ahead))
     (ap (λ n. (starts (Of Expression)) (seen c.args.tokens.now n)) c.placed-targets.ensures.next
-        ∙ sym c.if-not-starts_expression.ensures.is)
+    ∙ sym c.if-not-starts_expression.ensures.is)
 
 pub more-preserved : goal.more-preserved
 more-preserved c = record {
   ahead = omega (arith, c.more.invariant.ahead, c.in_ok-one.ensures.ahead, c.in_ok-grown.ensures.next, c.placed-targets.ensures.next);
   is =
       list_more c.args.tokens.now (deleted_one (reads c.args.depth)) (starts (Of Expression)) _ _ c.more.targets.next c.more.invariant.is _
-          _ _ c.in_ok-one.ensures _ (c.placed-targets.ensures.items ∙ c.in_ok-grown.ensures.items)
+      _ _ c.in_ok-one.ensures _ (c.placed-targets.ensures.items ∙ c.in_ok-grown.ensures.items)
       (rw c.in_ok-grown.ensures.next at c.if-not-is_op.ensures) _ (c.placed-targets.ensures.next
-          ∙ ap (λ n. n + 1) c.in_ok-grown.ensures.next) (omega (arith, c.in_ok-one.ensures.ahead))
+      ∙ ap (λ n. n + 1) c.in_ok-grown.ensures.next) (omega (arith, c.in_ok-one.ensures.ahead))
       (ap (λ n. (starts (Of Expression)) (seen c.args.tokens.now n)) c.placed-targets.ensures.next
-          ∙ sym c.if-not-starts_expression.ensures.is);
+      ∙ sym c.if-not-starts_expression.ensures.is);
 }

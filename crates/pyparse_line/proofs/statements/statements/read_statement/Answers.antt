@@ -14,5 +14,5 @@ pub returns-in_default : goal.returns-in_default
 returns-in_default c =
     answered_as c.args.tokens.now (c.args.at + 1) (c.args.at + 1) _ _ (λ r. stmt_of r.statement) (λ r. r.next) c.plain_statement.result
     (by_value c.args.tokens.now c.args.profile (reads c.args.depth) c.args.at _ c.in-Some.ensures.is
-        (no_word c.in-Some.t c.in_default.not-Word))
+    (no_word c.in-Some.t c.in_default.not-Word))
     (omega arith) c.plain_statement.ensures

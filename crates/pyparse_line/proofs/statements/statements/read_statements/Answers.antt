@@ -13,22 +13,22 @@ more-init c = record {
 pub returns-in_err-one : goal.returns-in_err-one
 returns-in_err-one c =
     let f = run_failed c.args.tokens.now c.args.profile (reads c.args.depth) _ _ c.more.statements.next c.more.invariant.is
-        c.in_err-one.field-0.0 c.in_err-one.ensures in
+    c.in_err-one.field-0.0 c.in_err-one.ensures in
     search (rules, f)
 
 pub returns-then-not-is_op : goal.returns-then-not-is_op
 returns-then-not-is_op c =
     run_last c.args.tokens.now c.args.profile (reads c.args.depth) _ _ c.more.statements.next c.more.invariant.is _ _ _ c.in_ok-one.ensures
-        _ c.in_ok-grown.ensures.statements (c.args.at + 1) _
+    _ c.in_ok-grown.ensures.statements (c.args.at + 1) _
     c.in_ok-grown.ensures.next (omega (arith, c.more.invariant.ahead, c.in_ok-one.ensures.ahead))
-        (rw c.in_ok-grown.ensures.next at c.if-not-is_op.ensures)
+    (rw c.in_ok-grown.ensures.next at c.if-not-is_op.ensures)
 
 pub returns-then-next-tokens : goal.returns-then-next-tokens
 returns-then-next-tokens c =
     run_end c.args.tokens.now c.args.profile (reads c.args.depth) _ _ c.more.statements.next c.more.invariant.is _ _ _ c.in_ok-one.ensures _
-        (c.placed-statements.ensures.statements ∙ c.in_ok-grown.ensures.statements)
+    (c.placed-statements.ensures.statements ∙ c.in_ok-grown.ensures.statements)
     (rw c.in_ok-grown.ensures.next at c.if-not-is_op.ensures) _ (c.placed-statements.ensures.next
-        ∙ ap (λ n. n + 1) c.in_ok-grown.ensures.next)
+    ∙ ap (λ n. n + 1) c.in_ok-grown.ensures.next)
     (c.args.at + 1) (omega (arith, c.more.invariant.ahead, c.in_ok-one.ensures.ahead)) (omega (arith, c.placed-statements.ensures.next))
 
 pub more-preserved : goal.more-preserved
@@ -36,8 +36,8 @@ more-preserved c = record {
   ahead = omega (arith, c.more.invariant.ahead, c.in_ok-one.ensures.ahead, c.in_ok-grown.ensures.next, c.placed-statements.ensures.next);
   is =
       run_more c.args.tokens.now c.args.profile (reads c.args.depth) _ _ c.more.statements.next c.more.invariant.is _ _ _
-          c.in_ok-one.ensures _ (c.placed-statements.ensures.statements ∙ c.in_ok-grown.ensures.statements)
+      c.in_ok-one.ensures _ (c.placed-statements.ensures.statements ∙ c.in_ok-grown.ensures.statements)
       (rw c.in_ok-grown.ensures.next at c.if-not-is_op.ensures) _ (c.placed-statements.ensures.next
-          ∙ ap (λ n. n + 1) c.in_ok-grown.ensures.next)
+      ∙ ap (λ n. n + 1) c.in_ok-grown.ensures.next)
       (omega (arith, c.in_ok-one.ensures.ahead)) (omega (arith, c.placed-statements.ensures.next, c.if-not-is_op.ensures.within));
 }

@@ -11,5 +11,5 @@ returns-in_default c =
     answered_as c.args.tokens.now (c.args.at + 1) (c.args.at + 1) _ _ (λ r. stmt_of r.statement) (λ r. r.next) c.plain_statement.result
     (by_other_word c.args.tokens.now c.args.profile (reads c.args.depth) c.args.at c.args.word c.requires
     (other_word c.args.word d.not-Return d.not-Raise d.not-Assert d.not-Del d.not-Global d.not-Nonlocal d.not-Pass d.not-Break
-        d.not-Continue d.not-Import d.not-From))
+    d.not-Continue d.not-Import d.not-From))
     (omega arith) c.plain_statement.ensures

@@ -15,22 +15,22 @@ more-init c = record {
 pub returns-in_err-one : goal.returns-in_err-one
 returns-in_err-one c =
     let f = list_failed c.args.tokens.now (read_type_param (reads c.args.depth)) starts_type_param _ _ c.more.params.next
-        c.more.invariant.is c.in_err-one.field-0.0 c.in_err-one.ensures in
+    c.more.invariant.is c.in_err-one.field-0.0 c.in_err-one.ensures in
     search (rules, f)
 
 pub returns-then-not-is_op : goal.returns-then-not-is_op
 returns-then-not-is_op c =
     list_last c.args.tokens.now (read_type_param (reads c.args.depth)) starts_type_param _ _ c.more.params.next c.more.invariant.is _ _ _
-        c.in_ok-one.ensures _ c.in_ok-grown.ensures.params c.args.at _ c.in_ok-grown.ensures.next
-        (omega (arith, c.more.invariant.ahead, c.in_ok-one.ensures.ahead))
+    c.in_ok-one.ensures _ c.in_ok-grown.ensures.params c.args.at _ c.in_ok-grown.ensures.next
+    (omega (arith, c.more.invariant.ahead, c.in_ok-one.ensures.ahead))
     (rw c.in_ok-grown.ensures.next at c.if-not-is_op.ensures)
 
 pub returns-then-not-starts_type_param : goal.returns-then-not-starts_type_param
 returns-then-not-starts_type_param c =
     list_end c.args.tokens.now (read_type_param (reads c.args.depth)) starts_type_param _ _ c.more.params.next c.more.invariant.is _ _ _
-        c.in_ok-one.ensures _ (c.placed-params.ensures.params ∙ c.in_ok-grown.ensures.params)
+    c.in_ok-one.ensures _ (c.placed-params.ensures.params ∙ c.in_ok-grown.ensures.params)
     (rw c.in_ok-grown.ensures.next at c.if-not-is_op.ensures) _ (c.placed-params.ensures.next ∙ ap (λ n. n + 1) c.in_ok-grown.ensures.next)
-        c.args.at (omega (arith, c.more.invariant.ahead, c.in_ok-one.ensures.ahead))
+    c.args.at (omega (arith, c.more.invariant.ahead, c.in_ok-one.ensures.ahead))
     (ap (λ n. starts_type_param (seen c.args.tokens.now n)) c.placed-params.ensures.next ∙ sym c.if-not-starts_type_param.ensures)
 
 pub more-preserved : goal.more-preserved
@@ -38,8 +38,8 @@ more-preserved c = record {
   ahead = omega (arith, c.more.invariant.ahead, c.in_ok-one.ensures.ahead, c.in_ok-grown.ensures.next, c.placed-params.ensures.next);
   is =
       list_more c.args.tokens.now (read_type_param (reads c.args.depth)) starts_type_param _ _ c.more.params.next c.more.invariant.is _ _ _
-          c.in_ok-one.ensures _ (c.placed-params.ensures.params ∙ c.in_ok-grown.ensures.params)
+      c.in_ok-one.ensures _ (c.placed-params.ensures.params ∙ c.in_ok-grown.ensures.params)
       (rw c.in_ok-grown.ensures.next at c.if-not-is_op.ensures) _ (c.placed-params.ensures.next
-          ∙ ap (λ n. n + 1) c.in_ok-grown.ensures.next) (omega (arith, c.in_ok-one.ensures.ahead))
+      ∙ ap (λ n. n + 1) c.in_ok-grown.ensures.next) (omega (arith, c.in_ok-one.ensures.ahead))
       (ap (λ n. starts_type_param (seen c.args.tokens.now n)) c.placed-params.ensures.next ∙ sym c.if-not-starts_type_param.ensures);
 }

@@ -8,7 +8,7 @@ use Rattle.pyparse_tokens.proofs.line_gather.LineGather.push.Goals as goal
 pub returns-in-Some-clause-fault : goal.returns-in-Some-clause-fault
 returns-in-Some-clause-fault c =
     sym (operator_faultless c.args.self.now.pass.extent (chars c.args.source.now.text) c.args.entry.now c.in-Some.exact
-        c.requires.exact c.in-Some.is)
+    c.requires.exact c.in-Some.is)
 
 pub returns-in-Some-clause-line : goal.returns-in-Some-clause-line
 returns-in-Some-clause-line c =

@@ -8,4 +8,4 @@ returns-in_ok-take_line_end-in_default-clause-taken c =
     λ _.
     end_takes (chars c.args.source.now.text) (chars c.args.text.now) c.args.class c.args.to c.args.self.now c.take_line_end.new.self
     other.not-Name other.not-Number other.not-String other.not-Operator other.not-Comment c.requires.gives
-        c.in_ok-take_line_end-in_default.ensures.taken
+    c.in_ok-take_line_end-in_default.ensures.taken

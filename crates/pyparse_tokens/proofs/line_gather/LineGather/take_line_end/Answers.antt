@@ -23,4 +23,4 @@ returns-clause-taken c =
       | else-ends w ↦ w.self-is ∙ ap (λ (n : ℕ). record old { level = n }) (sym (ap (λ (g : LineGather). g.level) w.self-is))
     ] in
     line_end_kept c.take_line_end.result (chars c.args.source.now.text) c.args.ends c.args.to old mid c.take_line_end.new.self level rest
-        c.take_line_end.ensures.passes
+    c.take_line_end.ensures.passes

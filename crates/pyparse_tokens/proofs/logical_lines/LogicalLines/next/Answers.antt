@@ -50,7 +50,7 @@ ended : (c : goal.In-Some) → Ends c.args.self.now.extent (in_characters c.args
     c.args.self.now.marker c.in-Some.outcome
 ended c =
     subst (λ (r : LineReading). Ends r.extent (in_characters r.source) r.given r.marker c.in-Some.outcome) c.self.view_is
-        (c.self.invariant.ended c.in-Some.outcome c.in-Some.is)
+    (c.self.invariant.ended c.in-Some.outcome c.in-Some.is)
 
 pub returns-in-Some-clause-line : goal.returns-in-Some-clause-line
 returns-in-Some-clause-line c = no_line c.args.self.now.extent (in_characters c.args.self.now.source) c.args.self.now c.args.self.now.given
@@ -80,4 +80,4 @@ pub returns-in-Some-clause-outcome : goal.returns-in-Some-clause-outcome
 returns-in-Some-clause-outcome c =
     sym (ap (λ (r : LineReading). r.outcome) c.self.view_is) ∙ c.in-Some.is
     ∙ stays c.args.self.now.extent (in_characters c.args.self.now.source) c.args.self.now.given c.args.self.now.marker
-        c.in-Some.outcome (ended c)
+    c.in-Some.outcome (ended c)

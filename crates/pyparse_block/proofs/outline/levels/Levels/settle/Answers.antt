@@ -7,9 +7,9 @@ use Rattle.pyparse_block.proofs.outline.levels.Levels.settle.Goals as goal
 pub returns-then-self-clause-refused : goal.returns-then-self-clause-refused
 returns-then-self-clause-refused c =
     sym c.loop-level.invariant ∙ settle_fresh c.args.level (levels_of c.loop-level.self)
-        (omega (arith, length-reverse c.loop-level.self.below.items)) c.if-self.true
+    (omega (arith, length-reverse c.loop-level.self.below.items)) c.if-self.true
 
 pub returns-clause-ok : goal.returns-clause-ok
 returns-clause-ok c =
     sym c.loop-level.invariant ∙ settle_stays c.args.level (levels_of c.loop-level.self)
-        (omega (arith, length-reverse c.loop-level.self.below.items))
+    (omega (arith, length-reverse c.loop-level.self.below.items))
