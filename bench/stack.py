@@ -31,9 +31,10 @@ def case(pattern):
     return f"match x:\n case {pattern}: pass\n"
 
 
-def in_fields(within):
-    """600 brackets, 599 in a field within them, and 599 in a field of that, with something within."""
-    return "(" * 600 + "f'{" + "(" * 599 + 'f"{' + "(" * 599 + within + ")" * 599 + '}"' + ")" * 599 + "}'" + ")" * 600
+def in_fields(within, brackets=0):
+    """600 brackets, 599 in a field within them, and 599 in a field of that, with something within that has some of these."""
+    last = 599 - brackets
+    return "(" * 600 + "f'{" + "(" * 599 + 'f"{' + "(" * last + within + ")" * last + '}"' + ")" * 599 + "}'" + ")" * 600
 
 
 def sources():
@@ -41,11 +42,15 @@ def sources():
     yield "600 brackets", "(" * 600 + "x" + ")" * 600 + "\n"
     yield "249 `[(yield`", "[(yield " * 249 + "x" + ")]" * 249 + "\n"
     yield "499 `lambda`", "lambda: " * 499 + "x\n"
+    yield "499 `lambda a=`", "lambda a=" * 499 + "x" + ": x" * 499 + "\n"
+    yield "499 `[x for x in`", "[x for x in " * 499 + "x" + "]" * 499 + "\n"
     yield "499 nested `if`", within(499, "pass")
     yield "499 `lambda` in 499 `if`", within(499, "lambda: " * 499 + "x")
     yield "249 `[(yield` in 499 `if`", within(499, "[(yield " * 249 + "x" + ")]" * 249)
     yield "600 brackets, 599 in a field, 599 in a field of that", in_fields("x") + "\n"
     yield "the same, 495 `lambda` within, in 499 `if`", within(499, in_fields("lambda: " * 495 + "x"))
+    yield "the same, 495 `lambda a=`", within(499, in_fields("lambda a=" * 495 + "x" + ": x" * 495))
+    yield "the same, 495 `[x for x in`", within(499, in_fields("[x for x in " * 495 + "x" + "]" * 495, 495))
     yield "600 brackets of a pattern", case("(" * 600 + "_" + ")" * 600)
     yield "499 `[` of a pattern", case("[" * 499 + "_" + "]" * 499)
     yield "498 `A(` of a pattern", case("A(" * 498 + "_" + ")" * 498)

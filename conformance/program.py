@@ -1,6 +1,6 @@
 #!/usr/bin/env python3
 """Runs the built program where no contract can say what has to hold: its words, files, statuses and lines of faults, as a shell sees them; how
-it reads and writes; that memory, and 4 MB of stack (6 for f-strings), suffice past every round number.
+it reads and writes; that memory, and 4 MB of stack (5 for f-strings), suffice past every round number.
 
     conformance/program.py [--program PATH]
 
@@ -212,19 +212,22 @@ def within(levels, line):
     return "".join(" " * level + "if x:\n" for level in range(levels)) + " " * levels + line + "\n"
 
 
-def in_fields(most, within):
-    """600 brackets, 599 in a field within them, and so many in a field of that, with something within."""
-    return "(" * 600 + "f'{" + "(" * 599 + 'f"{' + "(" * most + within + ")" * most + '}"' + ")" * 599 + "}'" + ")" * 600
+def in_fields(most, within, brackets=0):
+    """600 brackets, 599 in a field within them, and so many in a field of that, with something within that has some of these."""
+    last = most - brackets
+    return "(" * 600 + "f'{" + "(" * 599 + 'f"{' + "(" * last + within + ")" * last + '}"' + ")" * 599 + "}'" + ")" * 600
 
 
 def check_stack(checks):
-    """4 MB of stack suffice for the deepest sources, 6 with fields of f-strings, and for those that are too deep by one."""
+    """4 MB of stack suffice for the deepest sources, 5 with fields of f-strings, and for those that are too deep by one."""
     deepest = {
         "brackets": ("(" * 600 + "x" + ")" * 600 + "\n", "(" * 601 + "x" + ")" * 601 + "\n"),
         "yields": ("[(yield " * 249 + "x" + ")]" * 249 + "\n", "[(yield " * 251 + "x" + ")]" * 251 + "\n"),
         "calls": ("f(" * 499 + "x" + ")" * 499 + "\n", "f(" * 500 + "x" + ")" * 500 + "\n"),
         "lambdas": ("lambda: " * 499 + "x\n", "lambda: " * 500 + "x\n"),
         "signs": ("-" * 499 + "x\n", "-" * 500 + "x\n"),
+        "defaults": ("lambda a=" * 499 + "x" + ": x" * 499 + "\n", "lambda a=" * 500 + "x" + ": x" * 500 + "\n"),
+        "comprehensions": ("[x for x in " * 499 + "x" + "]" * 499 + "\n", "[x for x in " * 500 + "x" + "]" * 500 + "\n"),
         "lists": ("[" * 499 + "x" + "]" * 499 + "\n", "[" * 500 + "x" + "]" * 500 + "\n"),
         "statements": (within(499, "pass"), within(500, "pass")),
         "lambdas in statements": (within(499, "lambda: " * 498 + "x"), within(499, "lambda: " * 500 + "x")),
@@ -232,9 +235,11 @@ def check_stack(checks):
     in_field = {
         "brackets in fields": (in_fields(599, "x") + "\n", in_fields(600, "x") + "\n"),
         "lambdas in fields": (within(499, in_fields(599, "lambda: " * 495 + "x")), within(499, in_fields(599, "lambda: " * 496 + "x"))),
+        "defaults in fields": tuple(within(499, in_fields(599, "lambda a=" * count + "x" + ": x" * count)) for count in (495, 496)),
+        "comprehensions in fields": tuple(within(499, in_fields(599, "[x for x in " * count + "x" + "]" * count, count)) for count in (495, 496)),
     }
     check_stack_of(checks, deepest, 4, [])
-    check_stack_of(checks, in_field, 6, ["--whole"])
+    check_stack_of(checks, in_field, 5, ["--whole"])
 
 
 def check_stack_of(checks, sources, megabytes, words):
