@@ -21,6 +21,7 @@ from common import PROGRAM, run
 
 # The memory within which a source of any length is listed, in bytes, the program and the C library with it.
 MEMORY = 12 << 20
+DUMP_MEMORY = 68 << 20
 # The seconds within which an answer has to come that waits for nothing.
 SOON = 20
 LISTING = """\
@@ -158,6 +159,13 @@ def check_streams(checks):
         little = lambda: resource.setrlimit(resource.RLIMIT_AS, (MEMORY, MEMORY))
         done = subprocess.run([checks.program, "tokens", file.name], stdout=subprocess.DEVNULL, preexec_fn=little, check=False)
         checks.is_due("tokens of 42 MB, in 12 MB of memory", done.returncode, 0)
+    with tempfile.NamedTemporaryFile() as file:
+        file.write(b"x = f(a, b=1)\n" * 100_000)
+        file.flush()
+        # The tree takes 56 MB of it, and the text is 17 MB long.
+        some = lambda: resource.setrlimit(resource.RLIMIT_AS, (DUMP_MEMORY, DUMP_MEMORY))
+        done = subprocess.run([checks.program, "dump", file.name], stdout=subprocess.DEVNULL, preexec_fn=some, check=False)
+        checks.is_due("a dump isn't held whole", done.returncode, 0)
 
 
 # --- large sources ------------------------------------------------------------------------------------------------------
