@@ -1,8 +1,10 @@
 //! Worked rows of floats and imaginary numbers: a literal, and the `repr` of its value. What
 //! `unparse` writes is the same but for infinity.
 
-use crate::expected::{are_shown, is_shown_imaginary};
+use crate::expected::{are_shown, holds, is_shown_imaginary, same_text};
 use pyfloat::Double;
+use std::alloc::{AllocError, Global};
+use std::process::Abort;
 use std::test::Fail;
 
 #[test]
@@ -62,14 +64,35 @@ fn imaginary_numbers(rt: HostRuntime) -> Result<(), Fail> {
     Ok(())
 }
 
+/// Asserts what is shown of a double.
+fn has_debug(
+    rt: &impl Abort,
+    alloc: Global,
+    double: &Double,
+    shown: &str,
+) -> Result<(), AllocError> {
+    let debug = format!(in alloc; "{double:?}")?;
+    same_text(rt, debug.as_str(), shown, "what is shown");
+    Ok(())
+}
+
+/// Whether two literals have the same double.
+fn is_same(alloc: Global, literal: &str, other: &str) -> Result<bool, AllocError> {
+    let double = Double::read(alloc, literal.as_bytes())?;
+    let others = Double::read(alloc, other.as_bytes())?;
+    Ok(double == others)
+}
+
 #[test]
 fn tells_doubles_apart(rt: HostRuntime) -> Result<(), Fail> {
     let one = Double::read(rt.alloc(), b"1.0")?;
-    let next = Double::read(rt.alloc(), b"1.0000000000000002")?;
-    assert!(rt; one != next);
-    assert!(rt; one == Double::read(rt.alloc(), b"1_0e-1j")?);
-    assert!(rt; one.clone()? == one);
-    let debug = format!(in rt.alloc(); "{one:?}")?;
-    assert_eq!(rt; debug.as_str(), "1.0");
+    holds(&rt, one.clone()? == one, "a copy");
+    has_debug(&rt, rt.alloc(), &one, "1.0")?;
+    holds(
+        &rt,
+        !is_same(rt.alloc(), "1.0", "1.0000000000000002")?,
+        "the next double",
+    );
+    holds(&rt, is_same(rt.alloc(), "1.0", "1_0e-1j")?, "another text");
     Ok(())
 }

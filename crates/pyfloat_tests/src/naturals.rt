@@ -2,10 +2,88 @@
 
 ghost use Rattle.std.specs.Prelude.{◌<◌, ◌≤◌};
 
+use crate::expected::{holds, same_text};
 use pynatural::Natural;
-use std::alloc::Global;
+use std::alloc::{AllocError, Global};
 use std::process::Abort;
 use std::test::Fail;
+
+/// The number that the digits of a base write, if there is one.
+fn read(alloc: Global, radix: u64, digits: &str) -> Result<Option<Natural>, AllocError>
+    requires { (0 < radix) × (radix ≤ 36) }
+{
+    Natural::read(alloc, radix, digits.as_bytes())
+}
+
+/// The number that the digits of a base write.
+fn number_of(
+    rt: &impl Abort,
+    alloc: Global,
+    radix: u64,
+    digits: &str,
+) -> Result<Natural, AllocError>
+    requires { (0 < radix) × (radix ≤ 36) }
+{
+    let number = read(alloc, radix, digits)?;
+    Ok(number.expect(rt, "a number"))
+}
+
+/// Asserts the decimal that is written of a number.
+fn has_decimal(
+    rt: &impl Abort,
+    alloc: Global,
+    number: &Natural,
+    decimal: &str,
+) -> Result<(), AllocError> {
+    let mut text = String::new(alloc);
+    number.push_decimal(&mut text)?;
+    same_text(rt, text.as_str(), decimal, "a decimal");
+    Ok(())
+}
+
+/// Asserts what is shown of a number.
+fn has_debug(
+    rt: &impl Abort,
+    alloc: Global,
+    number: &Natural,
+    decimal: &str,
+) -> Result<(), AllocError> {
+    let debug = format!(in alloc; "{number:?}")?;
+    same_text(rt, debug.as_str(), decimal, "what is shown");
+    Ok(())
+}
+
+/// Asserts that a decimal is read as a number.
+fn reads_as(
+    rt: &impl Abort,
+    alloc: Global,
+    decimal: &str,
+    number: &Natural,
+) -> Result<(), AllocError> {
+    let read = number_of(rt, alloc, 10, decimal)?;
+    holds(rt, read == *number, decimal);
+    Ok(())
+}
+
+/// Asserts that a copy of a number is the same.
+fn is_copied(rt: &impl Abort, number: &Natural, decimal: &str) -> Result<(), AllocError> {
+    let copy = number.clone()?;
+    holds(rt, copy == *number, decimal);
+    Ok(())
+}
+
+/// Asserts that a number has this decimal.
+fn is_number(
+    rt: &impl Abort,
+    alloc: Global,
+    number: &Natural,
+    decimal: &str,
+) -> Result<(), AllocError> {
+    has_decimal(rt, alloc, number, decimal)?;
+    reads_as(rt, alloc, decimal, number)?;
+    is_copied(rt, number, decimal)?;
+    has_debug(rt, alloc, number, decimal)
+}
 
 /// Asserts which number the digits of a base write.
 fn writes(
@@ -14,19 +92,11 @@ fn writes(
     radix: u64,
     digits: &str,
     decimal: &str,
-) -> Result<(), Fail>
+) -> Result<(), AllocError>
     requires { (0 < radix) × (radix ≤ 36) }
 {
-    let number = Natural::read(alloc, radix, digits.as_bytes())?.expect(rt, "a number");
-    let mut text = String::new(alloc);
-    number.push_decimal(&mut text)?;
-    assert_eq!(rt; text.as_str(), decimal, "{digits}");
-    let same = Natural::read(alloc, 10, decimal.as_bytes())?.expect(rt, "a number");
-    assert!(rt; same == number, "{digits}");
-    assert!(rt; number.clone()? == number, "{digits}");
-    let debug = format!(in alloc; "{number:?}")?;
-    assert_eq!(rt; debug.as_str(), decimal);
-    Ok(())
+    let number = number_of(rt, alloc, radix, digits)?;
+    is_number(rt, alloc, &number, decimal)
 }
 
 #[test]
@@ -50,27 +120,29 @@ fn decimal(rt: HostRuntime) -> Result<(), Fail> {
 
 #[test]
 fn other_bases(rt: HostRuntime) -> Result<(), Fail> {
-    writes(&rt, rt.alloc(), 8, "777", "511")?;
-    writes(&rt, rt.alloc(), 2, "1_0", "2")?;
-    for (digits, decimal) in &[
-        ("ff", "255"),
-        ("DEAD_beef", "3735928559"),
+    for (radix, digits, decimal) in &[
+        (8, "777", "511"),
+        (2, "1_0", "2"),
+        (16, "ff", "255"),
+        (16, "DEAD_beef", "3735928559"),
         (
+            16,
             "1_0000_0000_0000_0000_0000_0000_0000_0000",
             "340282366920938463463374607431768211456",
         ),
         (
+            16,
             "ffffffffffffffffffffffffffffffffffffffffffffffffffffffff",
             "26959946667150639794667015087019630673637144422540572481103610249215",
         ),
     ] {
-        writes(&rt, rt.alloc(), 16, digits, decimal)?;
+        writes(&rt, rt.alloc(), *radix, digits, decimal)?;
     }
     Ok(())
 }
 
 /// The digit 1, and so many zeros.
-fn one_and_zeros(alloc: Global, zeros: usize) -> Result<String, Fail> {
+fn one_and_zeros(alloc: Global, zeros: usize) -> Result<String, AllocError> {
     let mut digits = String::from_str(alloc, "1")?;
     for _ in 0..zeros {
         digits.push('0')?;
@@ -78,22 +150,52 @@ fn one_and_zeros(alloc: Global, zeros: usize) -> Result<String, Fail> {
     Ok(digits)
 }
 
+/// Whether the digit 1 and so many zeros are digits of a base that write a number.
+fn is_read(alloc: Global, radix: u64, zeros: usize) -> Result<bool, AllocError>
+    requires { (0 < radix) × (radix ≤ 36) }
+{
+    let digits = one_and_zeros(alloc, zeros)?;
+    let number = read(alloc, radix, digits.as_str())?;
+    Ok(number.is_some())
+}
+
+/// Asserts that the digit 1 and so many zeros are the number that they write.
+fn writes_one_and_zeros(rt: &impl Abort, alloc: Global, zeros: usize) -> Result<(), AllocError> {
+    let digits = one_and_zeros(alloc, zeros)?;
+    writes(rt, alloc, 10, digits.as_str(), digits.as_str())
+}
+
 #[test]
 fn refuses_many_digits(rt: HostRuntime) -> Result<(), Fail> {
-    let most = one_and_zeros(rt.alloc(), 4299)?;
-    writes(&rt, rt.alloc(), 10, most.as_str(), most.as_str())?;
-    let more = one_and_zeros(rt.alloc(), 4300)?;
-    assert!(rt; Natural::read(rt.alloc(), 10, more.as_bytes())?.is_none());
-    let hex = one_and_zeros(rt.alloc(), 3572)?;
-    assert!(rt; Natural::read(rt.alloc(), 16, hex.as_bytes())?.is_none());
+    writes_one_and_zeros(&rt, rt.alloc(), 4299)?;
+    holds(&rt, !is_read(rt.alloc(), 10, 4300)?, "4301 digits");
+    holds(
+        &rt,
+        !is_read(rt.alloc(), 16, 3572)?,
+        "3573 digits of base 16",
+    );
     Ok(())
 }
 
 #[test]
 fn measures_and_compares(rt: HostRuntime) -> Result<(), Fail> {
-    let number = Natural::read(rt.alloc(), 10, b"1500")?.expect(&rt, "a number");
-    assert_eq!(rt; number.len(), 4);
-    assert!(rt; number != Natural::new(rt.alloc()));
+    let number = number_of(&rt, rt.alloc(), 10, "1500")?;
+    holds(&rt, number.len() == 4, "a length");
+    holds(&rt, number != Natural::new(rt.alloc()), "zero");
+    Ok(())
+}
+
+/// Asserts that a number of at most 128 bits has this decimal.
+fn is_made(rt: &impl Abort, alloc: Global, number: u128, decimal: &str) -> Result<(), AllocError> {
+    let made = Natural::from_u128(alloc, number)?;
+    holds(rt, made.to_u128() == Some(number), decimal);
+    reads_as(rt, alloc, decimal, &made)
+}
+
+/// Asserts that the number of a decimal has more than 128 bits.
+fn is_large(rt: &impl Abort, alloc: Global, decimal: &str) -> Result<(), AllocError> {
+    let number = number_of(rt, alloc, 10, decimal)?;
+    holds(rt, number.to_u128().is_none(), decimal);
     Ok(())
 }
 
@@ -114,17 +216,13 @@ fn numbers_of_128_bits(rt: HostRuntime) -> Result<(), Fail> {
             "340282366920938463463374607431768211455",
         ),
     ] {
-        let made = Natural::from_u128(rt.alloc(), *number)?;
-        assert!(rt; made.to_u128() == Some(*number), "{decimal}");
-        let read = Natural::read(rt.alloc(), 10, decimal.as_bytes())?.expect(&rt, "a number");
-        assert!(rt; made == read, "{decimal}");
+        is_made(&rt, rt.alloc(), *number, decimal)?;
     }
     for decimal in &[
         "340282366920938463463374607431768211456",
         "10000000000000000000000000000000000000000",
     ] {
-        let read = Natural::read(rt.alloc(), 10, decimal.as_bytes())?.expect(&rt, "a number");
-        assert!(rt; read.to_u128().is_none(), "{decimal}");
+        is_large(&rt, rt.alloc(), decimal)?;
     }
     Ok(())
 }
