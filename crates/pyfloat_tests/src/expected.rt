@@ -7,12 +7,16 @@ use std::process::Abort;
 
 /// Asserts that a text is the expected one, in the row of `at`.
 pub fn same_text(rt: &impl Abort, told: &str, expected: &str, at: &str) {
-    assert_eq!(rt; told, expected, "at {at}");
+    if told != expected {
+        panic!(rt; "at {at}: {told}, not {expected}");
+    }
 }
 
 /// Asserts what is to hold in the row of `at`.
 pub fn holds(rt: &impl Abort, told: bool, at: &str) {
-    assert!(rt; told, "at {at}");
+    if !told {
+        panic!(rt; "at {at}");
+    }
 }
 
 /// Asserts that a text is read as this double.

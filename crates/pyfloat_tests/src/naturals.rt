@@ -11,15 +11,14 @@ use std::process::Abort;
 fn read(rt: &impl Abort, alloc: Global, radix: u64, digits: &str) -> Option<Natural>
     requires { (0 < radix) × (radix ≤ 36) }
 {
-    Natural::read(alloc, radix, digits.as_bytes())
+    Natural::read(alloc, radix, digits.as_bytes()).expect(rt, "memory")
 }
 
 /// The number that the digits of a base write.
 fn number_of(rt: &impl Abort, alloc: Global, radix: u64, digits: &str) -> Natural
     requires { (0 < radix) × (radix ≤ 36) }
 {
-    let number = read(rt, alloc, radix, digits);
-    number.expect(rt, "a number")
+    read(rt, alloc, radix, digits).expect(rt, "a number")
 }
 
 /// Asserts the decimal that is written of a number.
