@@ -53,7 +53,7 @@ fn goes_one_on_as<R: ByteIn + Drop>(
     lines: &mut StreamLister<R>,
 ) -> bool {
     let expected = whole.next().expect(rt, "memory");
-    let step = next(rt, lines);
+    let step = lines.next().expect(rt, "memory");
     same_step(rt, &step, &expected, source.text());
     match step {
         Step::Entry(entry) => {
@@ -215,7 +215,9 @@ fn next_entry(rt: &impl Abort, lines: &mut StreamLister<FakeReader<'_>>) -> Entr
 
 /// The next step is an entry of this kind and text.
 fn gives_entry(rt: &impl Abort, lines: &mut StreamLister<FakeReader<'_>>, kind: Kind, text: &str) {
-    let entry = next_entry(rt, lines);
+    let Step::Entry(entry) = lines.next().expect(rt, "memory") else {
+        panic!(rt; "no entry");
+    };
     same_kind(rt, entry.kind, kind);
     same_text(rt, lines.text(&entry), text, text);
 }
@@ -345,7 +347,9 @@ fn gives_kind(rt: &impl Abort, lines: &mut StreamLister<FakeReader<'_>>, kind: K
 
 /// The next step is the name of a row, which is all that is held.
 fn gives_name(rt: &impl Abort, lines: &mut StreamLister<FakeReader<'_>>, row: usize) {
-    let entry = next_entry(rt, lines);
+    let Step::Entry(entry) = lines.next().expect(rt, "memory") else {
+        panic!(rt; "no entry");
+    };
     same_kind(rt, entry.kind, Kind::Name);
     same_number(rt, entry.start.row, row, "a row");
     same_text(rt, lines.text(&entry), "x", "a name");

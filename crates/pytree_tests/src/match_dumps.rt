@@ -1,6 +1,7 @@
 //! Dumps of `match` statements, as Python 3.11 gives them.
 
 use crate::module_dumps::is_dumped;
+use crate::sources::whole_module;
 use pytree::{Profile, Style};
 use std::alloc::Global;
 use std::process::Abort;
@@ -29,7 +30,8 @@ const TWO: Style = Style {
 /// Asserts the dump of `match x` with one case, whose block is `pass`.
 fn is_case(rt: &impl Abort, alloc: Global, case: &str, style: Style, expected: &str) {
     let text = format!(in alloc; "match x:\n case {case}: pass\n").expect(rt, "memory");
-    is_dumped(rt, alloc, text.as_str(), style, expected);
+    let tree = whole_module(rt, alloc, text.as_str());
+    is_dumped(rt, alloc, &tree, style, expected);
 }
 
 #[test]

@@ -54,11 +54,16 @@ fn same_in_one(rt: &impl Abort, alloc: Global, tree: &Module, style: Style, expe
     same_text(rt, dumped.as_str(), expected, "a dump");
 }
 
-/// Asserts the dump of the module that a text is, in one and in pieces.
-pub(crate) fn is_dumped(rt: &impl Abort, alloc: Global, text: &str, style: Style, expected: &str) {
-    let tree = module(rt, alloc, text);
-    same_in_one(rt, alloc, &tree, style, expected);
-    same_in_pieces(rt, alloc, &tree, style, expected);
+/// Asserts the dump of a tree, in one and in pieces.
+pub(crate) fn is_dumped(
+    rt: &impl Abort,
+    alloc: Global,
+    tree: &Module,
+    style: Style,
+    expected: &str,
+) {
+    same_in_one(rt, alloc, tree, style, expected);
+    same_in_pieces(rt, alloc, tree, style, expected);
 }
 
 #[test]
@@ -99,6 +104,7 @@ fn dumps_modules(rt: HostRuntime) {
             "Module([FunctionDef('f', arguments([], [], kwonlyargs=[], kw_defaults=[], defaults=[]), [Pass()], [], type_params=[])], [])",
         ),
     ] {
-        is_dumped(&rt, rt.alloc(), text, *style, expected);
+        let tree = module(&rt, rt.alloc(), text);
+        is_dumped(&rt, rt.alloc(), &tree, *style, expected);
     }
 }
