@@ -1,42 +1,36 @@
 //! Listings that stop after a count of entries, and that go on after a cursor.
 
-use crate::expected::{Left, leaves, push_lines, reader};
+use crate::expected::{Left, leaves, line, lines_of, push, reader};
 use pyast_command::{Command, Tokens};
 use pylex::Cursor;
-use std::alloc::{AllocError, Global};
+use std::alloc::Global;
 use std::process::Abort;
-use std::test::Fail;
 
-/// Appends a line, if there is one.
-fn push_told(out: &mut String, line: &str) -> Result<(), AllocError> {
-    if line.is_empty() {
-        return Ok(());
+/// The cursor of a text, or none where it is empty.
+fn cursor_of(rt: &impl Abort, alloc: Global, text: &str) -> Option<Cursor> {
+    if text.is_empty() {
+        return None;
     }
-    out.push_str(line)?;
-    out.push('\n')
+    Some(Cursor::from_text(alloc, text).expect(rt, "a cursor"))
 }
 
 /// `tokens` with this count, after this cursor (at the start where it is empty).
-fn asked(alloc: Global, count: Option<u64>, resume: &str) -> Result<Command, Fail> {
-    let resume = if resume.is_empty() {
-        None
-    } else {
-        Some(Cursor::from_text(alloc, resume)?)
-    };
-    Ok(Command::Tokens(Tokens {
+fn asked(rt: &impl Abort, alloc: Global, count: Option<u64>, resume: &str) -> Command {
+    let resume = cursor_of(rt, alloc, resume);
+    Command::Tokens(Tokens {
         exact: false,
         count,
         resume,
         file: None,
-    }))
+    })
 }
 
 /// The lines of these entries, and after them that of a cursor, if one is given.
-fn written(alloc: Global, entries: &str, line: &str) -> Result<String, AllocError> {
-    let mut wanted = String::new(alloc);
-    push_lines(&mut wanted, entries)?;
-    push_told(&mut wanted, line)?;
-    Ok(wanted)
+fn written(rt: &impl Abort, alloc: Global, entries: &str, cursor: &str) -> String {
+    let mut wanted = lines_of(rt, alloc, entries);
+    let last = line(rt, alloc, cursor);
+    push(rt, &mut wanted, last.as_str());
+    wanted
 }
 
 /// Asserts that a command writes this of a text, tells this fault, and ends with this status.
@@ -48,9 +42,8 @@ fn writes(
     written: &str,
     fault: &str,
     status: u8,
-) -> Result<(), Fail> {
-    let mut told = String::new(alloc);
-    push_told(&mut told, fault)?;
+) {
+    let told = line(rt, alloc, fault);
     let mut reader = reader(source.as_bytes());
     let left = Left {
         written: written.as_bytes(),
@@ -58,7 +51,6 @@ fn writes(
         status,
     };
     leaves(rt, alloc, command, &mut reader, &left, source);
-    Ok(())
 }
 
 /// A source, a count, a cursor to go on from (none where it is empty), the entries that are listed,
@@ -67,10 +59,10 @@ fn writes(
 type Row<'a> = (&'a str, Option<u64>, &'a str, &'a str, &'a str, &'a str, u8);
 
 /// Asserts that `tokens` does what a row says.
-fn writes_row(rt: &impl Abort, alloc: Global, row: &Row<'_>) -> Result<(), Fail> {
+fn writes_row(rt: &impl Abort, alloc: Global, row: &Row<'_>) {
     let (source, count, resume, entries, line, fault, status) = row;
-    let command = asked(alloc, *count, resume)?;
-    let written = written(alloc, entries, line)?;
+    let command = asked(rt, alloc, *count, resume);
+    let written = written(rt, alloc, entries, line);
     writes(
         rt,
         alloc,
@@ -79,19 +71,18 @@ fn writes_row(rt: &impl Abort, alloc: Global, row: &Row<'_>) -> Result<(), Fail>
         written.as_str(),
         fault,
         *status,
-    )
+    );
 }
 
 /// Asserts that of each row.
-fn writes_all(rt: &impl Abort, alloc: Global, rows: &[Row<'_>]) -> Result<(), Fail> {
+fn writes_all(rt: &impl Abort, alloc: Global, rows: &[Row<'_>]) {
     for row in rows {
-        writes_row(rt, alloc, row)?;
+        writes_row(rt, alloc, row);
     }
-    Ok(())
 }
 
 #[test]
-fn stops_and_goes_on(rt: HostRuntime) -> Result<(), Fail> {
+fn stops_and_goes_on(rt: HostRuntime) {
     let rows = &[
         ("", Some(0u64), "", "", "cursor pytok1 0 0 1 0 0 0 0", "", 0),
         (
@@ -407,5 +398,5 @@ fn stops_and_goes_on(rt: HostRuntime) -> Result<(), Fail> {
             0,
         ),
     ];
-    writes_all(&rt, rt.alloc(), rows)
+    writes_all(&rt, rt.alloc(), rows);
 }

@@ -1,5 +1,6 @@
 //! What `dump` does where reading or writing fails.
 
+use crate::dump_limits::joined;
 use crate::dumps::command;
 use crate::expected::{
     Left, failing_reader, leaves, reader, same_bytes, same_status, stops_anywhere, stops_at, writer,
@@ -8,7 +9,6 @@ use fakes::FakeWriter;
 use pyast_command::{Command, run};
 use std::alloc::Global;
 use std::process::Abort;
-use std::test::Fail;
 
 /// Asserts that a failed read after these bytes is reported alone.
 fn tells_a_failed_read(rt: &impl Abort, alloc: Global, command: &Command, source: &[u8]) {
@@ -29,8 +29,8 @@ fn tells_a_failed_read(rt: &impl Abort, alloc: Global, command: &Command, source
 
 /// Asserts that of some bytes, a fault of their encoding or of their tokens among them, and of each
 /// front of a source.
-pub(crate) fn tells_failed_reads(rt: &impl Abort, alloc: Global, words: &str) -> Result<(), Fail> {
-    let command = command(alloc, words)?;
+pub(crate) fn tells_failed_reads(rt: &impl Abort, alloc: Global, words: &str) {
+    let command = command(rt, alloc, words);
     let rows: &[&[u8]] = &[
         b"",
         b"x\n",
@@ -46,49 +46,48 @@ pub(crate) fn tells_failed_reads(rt: &impl Abort, alloc: Global, words: &str) ->
     for given in 0..=source.len() {
         tells_a_failed_read(rt, alloc, &command, &source[..given]);
     }
-    Ok(())
 }
 
 /// A failed read is reported alone, before a fault of the encoding too; nothing is written.
 #[test]
-fn tells_a_failed_read_alone(rt: HostRuntime) -> Result<(), Fail> {
-    tells_failed_reads(&rt, rt.alloc(), "dump")
+fn tells_a_failed_read_alone(rt: HostRuntime) {
+    tells_failed_reads(&rt, rt.alloc(), "dump");
 }
 
 /// What the writer took is a front of the dump.
 #[test]
-fn stops_where_the_writer_fails(rt: HostRuntime) -> Result<(), Fail> {
-    let command = command(rt.alloc(), "dump --bare")?;
+fn stops_where_the_writer_fails(rt: HostRuntime) {
+    let command = command(&rt, rt.alloc(), "dump --bare");
     let whole = b"Module([Expr(Name('x', Load()))], [])\n".as_slice();
     stops_anywhere(&rt, rt.alloc(), &command, b"x\n", whole);
-    Ok(())
 }
 
 /// A long dump is written in pieces, here of 65,556 and 9,457 bytes. What the writer took is a
 /// front of it, whichever fails.
 #[test]
-fn stops_where_a_piece_fails(rt: HostRuntime) -> Result<(), Fail> {
-    let command = command(rt.alloc(), "dump --bare")?;
-    let mut source = String::new(rt.alloc());
-    let mut whole = String::from_str(rt.alloc(), "Module([Expr(Name('x', Load()))")?;
-    source.push_str("x\n")?;
-    for _ in 1..3_000 {
-        source.push_str("x\n")?;
-        whole.push_str(", Expr(Name('x', Load()))")?;
-    }
-    whole.push_str("], [])\n")?;
-    for room in [0usize, 65_555, 65_556, 65_557, 75_012, 75_013] {
+fn stops_where_a_piece_fails(rt: HostRuntime) {
+    let command = command(&rt, rt.alloc(), "dump --bare");
+    let source = joined(&rt, rt.alloc(), &[("x\n", 3_000)]);
+    let whole = joined(
+        &rt,
+        rt.alloc(),
+        &[
+            ("Module([Expr(Name('x', Load()))", 1),
+            (", Expr(Name('x', Load()))", 2_999),
+            ("], [])\n", 1),
+        ],
+    );
+    for room in &[0usize, 65_555, 65_556, 65_557, 75_012, 75_013] {
         stops_at(
             &rt,
             rt.alloc(),
             &command,
             source.as_bytes(),
             whole.as_bytes(),
-            room,
+            *room,
             false,
         );
     }
-    Ok(())
 }
 
 /// Asserts that the line of a fault is written up to so many bytes, and the status is that of the
@@ -105,21 +104,16 @@ fn keeps_its_status(rt: &impl Abort, alloc: Global, command: &Command, line: &[u
 }
 
 /// Asserts that of each number of bytes, up to the whole line.
-pub(crate) fn keeps_its_status_anywhere(
-    rt: &impl Abort,
-    alloc: Global,
-    words: &str,
-) -> Result<(), Fail> {
-    let command = command(alloc, words)?;
+pub(crate) fn keeps_its_status_anywhere(rt: &impl Abort, alloc: Global, words: &str) {
+    let command = command(rt, alloc, words);
     let line = b"<stdin>:1:4: error: float literal\n".as_slice();
     for room in 0..=line.len() {
         keeps_its_status(rt, alloc, &command, line, room);
     }
-    Ok(())
 }
 
 /// The status stays where the line of the fault can't be written.
 #[test]
-fn keeps_its_status_where_the_fault_line_fails(rt: HostRuntime) -> Result<(), Fail> {
-    keeps_its_status_anywhere(&rt, rt.alloc(), "dump")
+fn keeps_its_status_where_the_fault_line_fails(rt: HostRuntime) {
+    keeps_its_status_anywhere(&rt, rt.alloc(), "dump");
 }

@@ -1,10 +1,9 @@
 //! What `dump` tells of a source that it refuses, of which it writes nothing.
 
 use crate::dumps::does_all;
-use std::test::Fail;
 
 #[test]
-fn tells_why_a_source_is_refused(rt: HostRuntime) -> Result<(), Fail> {
+fn tells_why_a_source_is_refused(rt: HostRuntime) {
     let rows = &[
         ("dump", "012\n", "", 1, "<stdin>:1:0: error: invalid syntax"),
         (
@@ -277,5 +276,5 @@ fn tells_why_a_source_is_refused(rt: HostRuntime) -> Result<(), Fail> {
             "<stdin>:1:2: error: unexpected character",
         ),
     ];
-    does_all(&rt, rt.alloc(), rows)
+    does_all(&rt, rt.alloc(), rows);
 }

@@ -1,55 +1,41 @@
 //! Sources at the limits of `dump`: brackets, heights, numbers.
 
 use crate::dumps::command;
-use crate::expected::{reader, same_answer, same_bytes, same_status, writer};
+use crate::expected::{
+    fault_line, holds, push, push_times, reader, same_answer, same_bytes, same_status, writer,
+};
 use fakes::FakeReader;
 use pyast_command::{Command, run};
-use std::alloc::{AllocError, Global};
+use std::alloc::Global;
 use std::process::Abort;
-use std::test::Fail;
 
 /// A text that comes so many times.
 pub(crate) type Piece<'a> = (&'a str, usize);
 
 /// Pieces one after the other.
-pub(crate) fn joined(alloc: Global, pieces: &[Piece<'_>]) -> Result<String, AllocError> {
+pub(crate) fn joined(rt: &impl Abort, alloc: Global, pieces: &[Piece<'_>]) -> String {
     let mut text = String::new(alloc);
     for (piece, count) in pieces {
-        for _ in 0..*count {
-            text.push_str(piece)?;
-        }
+        push_times(rt, &mut text, piece, *count);
     }
-    Ok(text)
+    text
 }
 
 /// Lines `if x:`, so many, each a blank deeper than the one before, and a last line.
-fn nested(alloc: Global, count: usize, last: &str) -> Result<String, AllocError> {
+fn nested(rt: &impl Abort, alloc: Global, count: usize, last: &str) -> String {
     let mut text = String::new(alloc);
     for row in 0..=count {
-        for _ in 0..row {
-            text.push(' ')?;
-        }
-        text.push_str(if row < count { "if x:\n" } else { last })?;
+        push_times(rt, &mut text, " ", row);
+        push(rt, &mut text, if row < count { "if x:\n" } else { last });
     }
-    Ok(text)
+    text
 }
 
 /// Asserts that words accept a source, or, where a fault is given, that they write nothing and
 /// report that.
-pub(crate) fn meets(
-    rt: &impl Abort,
-    alloc: Global,
-    words: &str,
-    source: &str,
-    fault: &str,
-) -> Result<(), Fail> {
-    let command = command(alloc, words)?;
-    let mut told = String::new(alloc);
-    if !fault.is_empty() {
-        told.push_str("<stdin>:")?;
-        told.push_str(fault)?;
-        told.push('\n')?;
-    }
+pub(crate) fn meets(rt: &impl Abort, alloc: Global, words: &str, source: &str, fault: &str) {
+    let command = command(rt, alloc, words);
+    let told = fault_line(rt, alloc, fault);
     let mut reader = reader(source.as_bytes());
     let mut output = writer(alloc);
     let mut faults = writer(alloc);
@@ -57,7 +43,6 @@ pub(crate) fn meets(
     same_bytes(rt, faults.taken(), told.as_bytes(), fault);
     same_status(rt, status, if fault.is_empty() { 0 } else { 1 }, fault);
     same_answer(rt, output.taken().is_empty(), !fault.is_empty(), fault);
-    Ok(())
 }
 
 /// Asserts that of the source of each row.
@@ -66,16 +51,15 @@ pub(crate) fn meets_all(
     alloc: Global,
     words: &str,
     rows: &[(&[Piece<'_>], &str)],
-) -> Result<(), Fail> {
+) {
     for (pieces, fault) in rows {
-        let source = joined(alloc, pieces)?;
-        meets(rt, alloc, words, source.as_str(), fault)?;
+        let source = joined(rt, alloc, pieces);
+        meets(rt, alloc, words, source.as_str(), fault);
     }
-    Ok(())
 }
 
 #[test]
-fn stops_at_heights_and_brackets(rt: HostRuntime) -> Result<(), Fail> {
+fn stops_at_heights_and_brackets(rt: HostRuntime) {
     let rows: &[(&[Piece<'_>], &str)] = &[
         (&[("(", 600), ("x", 1), (")", 600)], ""),
         (
@@ -120,13 +104,13 @@ fn stops_at_heights_and_brackets(rt: HostRuntime) -> Result<(), Fail> {
         (&[("0x1", 1), ("0", 32)], "1:0: error: integer too large"),
         (&[("if x:\n x\n", 2000)], ""),
     ];
-    meets_all(&rt, rt.alloc(), "dump", rows)
+    meets_all(&rt, rt.alloc(), "dump", rows);
 }
 
 /// A bracket is reported where it would be the 601st open one, whatever kinds the others are; a
 /// tree that is too high, where its statement starts.
 #[test]
-fn stops_at_brackets_of_each_kind(rt: HostRuntime) -> Result<(), Fail> {
+fn stops_at_brackets_of_each_kind(rt: HostRuntime) {
     let rows: &[(&[Piece<'_>], &str)] = &[
         (&[("[", 600), ("]", 600)], "1:0: error: too deep"),
         (&[("[", 601), ("]", 601)], "1:600: error: too deep"),
@@ -158,26 +142,25 @@ fn stops_at_brackets_of_each_kind(rt: HostRuntime) -> Result<(), Fail> {
             "1:607: error: too deep",
         ),
     ];
-    meets_all(&rt, rt.alloc(), "dump", rows)
+    meets_all(&rt, rt.alloc(), "dump", rows);
 }
 
 #[test]
-fn stops_at_long_chains(rt: HostRuntime) -> Result<(), Fail> {
+fn stops_at_long_chains(rt: HostRuntime) {
     for piece in &["+x", ".a", "()", "[0]"] {
-        let source = joined(rt.alloc(), &[("x", 1), (*piece, 100_000)])?;
+        let source = joined(&rt, rt.alloc(), &[("x", 1), (*piece, 100_000)]);
         meets(
             &rt,
             rt.alloc(),
             "dump",
             source.as_str(),
             "1:0: error: too deep",
-        )?;
+        );
     }
-    Ok(())
 }
 
 #[test]
-fn stops_at_statements(rt: HostRuntime) -> Result<(), Fail> {
+fn stops_at_statements(rt: HostRuntime) {
     for (count, last, fault) in &[
         (499, "pass\n", ""),
         (500, "pass\n", "501:500: error: too deep"),
@@ -187,10 +170,16 @@ fn stops_at_statements(rt: HostRuntime) -> Result<(), Fail> {
         (501, "if x: pass\n", "501:500: error: too deep"),
         (498, "if x: pass\n", ""),
     ] {
-        let source = nested(rt.alloc(), *count, last)?;
-        meets(&rt, rt.alloc(), "dump", source.as_str(), fault)?;
+        let source = nested(&rt, rt.alloc(), *count, last);
+        meets(&rt, rt.alloc(), "dump", source.as_str(), fault);
     }
-    Ok(())
+}
+
+/// Whether this is told of a first line that is bad syntax, or too deep.
+fn is_syntax_or_deep(told: &[u8]) -> bool {
+    let syntax = b"<stdin>:1:0: error: invalid syntax\n".as_slice();
+    let deep = b"<stdin>:1:0: error: too deep\n".as_slice();
+    told == syntax || told == deep
 }
 
 /// Asserts that a line without a form is refused.
@@ -200,21 +189,17 @@ fn refuses(rt: &impl Abort, alloc: Global, command: &Command, source: &str) {
     let mut faults = writer(alloc);
     let status = run(alloc, command, &mut reader, &mut output, &mut faults);
     same_bytes(rt, output.taken(), b"", "a long line");
-    let told = faults.taken();
-    let syntax = b"<stdin>:1:0: error: invalid syntax\n".as_slice();
-    let deep = b"<stdin>:1:0: error: too deep\n".as_slice();
-    same_answer(rt, told == syntax || told == deep, true, "a long line");
+    holds(rt, is_syntax_or_deep(faults.taken()), "a long line");
     same_status(rt, status, 1, "a long line");
 }
 
 /// Many tokens without a form are bad syntax, or too deep where the reader stopped before it saw
 /// that; and the tree of a long chain is never made, so that it isn't dropped either.
 #[test]
-fn refuses_a_long_line_without_a_form(rt: HostRuntime) -> Result<(), Fail> {
-    for count in [600, 100_000] {
-        let source = joined(rt.alloc(), &[("x", 1), (" +", count), ("\n", 1)])?;
-        let command = command(rt.alloc(), "dump")?;
+fn refuses_a_long_line_without_a_form(rt: HostRuntime) {
+    let command = command(&rt, rt.alloc(), "dump");
+    for count in &[600, 100_000] {
+        let source = joined(&rt, rt.alloc(), &[("x", 1), (" +", *count), ("\n", 1)]);
         refuses(&rt, rt.alloc(), &command, source.as_str());
     }
-    Ok(())
 }

@@ -4,10 +4,9 @@ use crate::dump_limits::joined;
 use crate::dumps::{does, does_all};
 use std::alloc::Global;
 use std::process::Abort;
-use std::test::Fail;
 
 #[test]
-fn dumps_in_styles(rt: HostRuntime) -> Result<(), Fail> {
+fn dumps_in_styles(rt: HostRuntime) {
     let rows = &[
         (
             "dump --indent 2",
@@ -141,14 +140,15 @@ fn dumps_in_styles(rt: HostRuntime) -> Result<(), Fail> {
             "",
         ),
     ];
-    does_all(&rt, rt.alloc(), rows)
+    does_all(&rt, rt.alloc(), rows);
 }
 
 /// Asserts how many blanks stand before the lines of a dump with this indent.
-fn indents(rt: &impl Abort, alloc: Global, indent: u8) -> Result<(), Fail> {
-    let words = format!(in alloc; "dump --indent {indent}")?;
+fn indents(rt: &impl Abort, alloc: Global, indent: u8) {
+    let words = format!(in alloc; "dump --indent {indent}").expect(rt, "memory");
     let level = usize::from(indent);
     let text = joined(
+        rt,
         alloc,
         &[
             ("Module(\n", 1),
@@ -159,14 +159,13 @@ fn indents(rt: &impl Abort, alloc: Global, indent: u8) -> Result<(), Fail> {
             (" ", level),
             ("type_ignores=[])", 1),
         ],
-    )?;
-    does(rt, alloc, &(words.as_str(), "pass\n", text.as_str(), 0, ""))
+    );
+    does(rt, alloc, &(words.as_str(), "pass\n", text.as_str(), 0, ""));
 }
 
 #[test]
-fn dumps_with_each_indent(rt: HostRuntime) -> Result<(), Fail> {
+fn dumps_with_each_indent(rt: HostRuntime) {
     for indent in 0u8..=16 {
-        indents(&rt, rt.alloc(), indent)?;
+        indents(&rt, rt.alloc(), indent);
     }
-    Ok(())
 }

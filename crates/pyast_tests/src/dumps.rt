@@ -1,42 +1,46 @@
 //! What `dump` writes of a source. The trees are those of Python 3.11.
 
-use crate::expected::{Left, leaves, reader};
+use crate::expected::{Left, leaves, line, reader};
 use pyast_command::Command;
 use std::alloc::Global;
 use std::process::Abort;
-use std::test::Fail;
+
+/// Appends a word.
+pub(crate) fn push_word(rt: &impl Abort, alloc: Global, words: &mut Vec<String>, word: &str) {
+    let word = String::from_str(alloc, word).expect(rt, "memory");
+    words.push(word).expect(rt, "memory");
+}
+
+/// Appends the words that stand in a text with blanks between them.
+pub(crate) fn push_words(rt: &impl Abort, alloc: Global, words: &mut Vec<String>, text: &str) {
+    for word in text.split_whitespace() {
+        push_word(rt, alloc, words, word);
+    }
+}
+
+/// The words that stand in a text with blanks between them.
+pub(crate) fn split(rt: &impl Abort, alloc: Global, text: &str) -> Vec<String> {
+    let mut words = Vec::new(alloc);
+    push_words(rt, alloc, &mut words, text);
+    words
+}
 
 /// The command that words give. They stand in a text with blanks between them.
-pub(crate) fn command(alloc: Global, text: &str) -> Result<Command, Fail> {
-    let mut words = Vec::new(alloc);
-    for word in text.split_whitespace() {
-        words.push(String::from_str(alloc, word)?)?;
-    }
-    match Command::read(alloc, words.as_slice()) {
-        Ok(command) => Ok(command),
-        Err(_) => Err(Fail::from("no command")),
-    }
+pub(crate) fn command(rt: &impl Abort, alloc: Global, text: &str) -> Command {
+    let words = split(rt, alloc, text);
+    Command::read(alloc, words.as_slice()).expect(rt, "a command")
 }
 
 /// Words, a source, what is written of it less the last line feed, the status, and the line of the
 /// fault that is reported; both texts are empty where there is none.
 pub(crate) type Row<'a> = (&'a str, &'a str, &'a str, u8, &'a str);
 
-/// A text and a line feed, or nothing where it is empty.
-pub(crate) fn line(alloc: Global, text: &str) -> Result<String, Fail> {
-    let mut line = String::from_str(alloc, text)?;
-    if !text.is_empty() {
-        line.push('\n')?;
-    }
-    Ok(line)
-}
-
 /// Asserts that the words of a row do with its source what it says.
-pub(crate) fn does(rt: &impl Abort, alloc: Global, row: &Row<'_>) -> Result<(), Fail> {
+pub(crate) fn does(rt: &impl Abort, alloc: Global, row: &Row<'_>) {
     let (words, source, text, status, fault) = row;
-    let command = command(alloc, words)?;
-    let written = line(alloc, text)?;
-    let told = line(alloc, fault)?;
+    let command = command(rt, alloc, words);
+    let written = line(rt, alloc, text);
+    let told = line(rt, alloc, fault);
     let left = Left {
         written: written.as_bytes(),
         told: told.as_bytes(),
@@ -50,19 +54,17 @@ pub(crate) fn does(rt: &impl Abort, alloc: Global, row: &Row<'_>) -> Result<(), 
         &left,
         source,
     );
-    Ok(())
 }
 
 /// Asserts that of each row.
-pub(crate) fn does_all(rt: &impl Abort, alloc: Global, rows: &[Row<'_>]) -> Result<(), Fail> {
+pub(crate) fn does_all(rt: &impl Abort, alloc: Global, rows: &[Row<'_>]) {
     for row in rows {
-        does(rt, alloc, row)?;
+        does(rt, alloc, row);
     }
-    Ok(())
 }
 
 #[test]
-fn dumps_trees(rt: HostRuntime) -> Result<(), Fail> {
+fn dumps_trees(rt: HostRuntime) {
     let rows = &[
         ("dump", "", "Module(body=[], type_ignores=[])", 0, ""),
         (
@@ -321,5 +323,5 @@ fn dumps_trees(rt: HostRuntime) -> Result<(), Fail> {
             "",
         ),
     ];
-    does_all(&rt, rt.alloc(), rows)
+    does_all(&rt, rt.alloc(), rows);
 }

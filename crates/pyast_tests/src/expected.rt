@@ -4,9 +4,9 @@ ghost use Rattle.std.specs.Prelude.{◌≡◌, ◌<◌, ◌-◌, ◌^◌};
 use fakes::{FakeReader, FakeWriter};
 use pyast_command::{Command, Tokens, run};
 use pysource::{ByteIn, Counted};
-use std::alloc::{AllocError, Global};
+use std::alloc::Global;
+use std::fmt::Debug;
 use std::process::Abort;
-use std::test::Fail;
 
 /// A reader that gives these bytes, one at a read, and then ends.
 pub(crate) fn reader(bytes: &[u8]) -> FakeReader<'_>
@@ -29,24 +29,50 @@ pub(crate) fn writer(alloc: Global) -> FakeWriter
     FakeWriter::new(alloc, usize::MAX, usize::MAX, false)
 }
 
+/// Asserts that a value is the expected one, in the row of `at`.
+pub(crate) fn same<T: Debug + PartialEq>(rt: &impl Abort, told: &T, expected: &T, at: &str) {
+    if *told != *expected {
+        panic!(rt; "at {at:?}: {told:?}, not {expected:?}");
+    }
+}
+
+/// Asserts what is to hold in the row of `at`.
+pub(crate) fn holds(rt: &impl Abort, told: bool, at: &str) {
+    if !told {
+        panic!(rt; "at {at:?}");
+    }
+}
+
 /// Asserts that these are the expected bytes, in the row of `at`.
 pub(crate) fn same_bytes(rt: &impl Abort, told: &[u8], expected: &[u8], at: &str) {
-    assert_eq!(rt; told, expected, "at {at:?}");
+    same(rt, &told, &expected, at);
 }
 
 /// Asserts that a text is the expected one, in the row of `at`.
 pub(crate) fn same_text(rt: &impl Abort, told: &str, expected: &str, at: &str) {
-    assert_eq!(rt; told, expected, "at {at:?}");
+    same(rt, &told, &expected, at);
 }
 
 /// Asserts that a status is the expected one, in the row of `at`.
 pub(crate) fn same_status(rt: &impl Abort, told: u8, expected: u8, at: &str) {
-    assert_eq!(rt; told, expected, "at {at:?}");
+    same(rt, &told, &expected, at);
 }
 
 /// Asserts that an answer is the expected one, in the row of `at`.
 pub(crate) fn same_answer(rt: &impl Abort, told: bool, expected: bool, at: &str) {
-    assert_eq!(rt; told, expected, "at {at:?}");
+    holds(rt, told == expected, at);
+}
+
+/// Appends a text.
+pub(crate) fn push(rt: &impl Abort, out: &mut String, text: &str) {
+    out.push_str(text).expect(rt, "memory");
+}
+
+/// Appends a text so many times.
+pub(crate) fn push_times(rt: &impl Abort, out: &mut String, text: &str, count: usize) {
+    for _ in 0..count {
+        push(rt, out, text);
+    }
 }
 
 /// What a run is to leave: what is written, what is reported, and its status.
@@ -111,38 +137,64 @@ pub(crate) fn stops_anywhere(
     whole: &[u8],
 ) {
     for room in 0..=whole.len() {
-        for takes_none in [false, true] {
-            stops_at(rt, alloc, command, source, whole, room, takes_none);
-        }
+        stops_at(rt, alloc, command, source, whole, room, false);
+        stops_at(rt, alloc, command, source, whole, room, true);
     }
 }
 
-fn push_filled(out: &mut String, field: &str, width: usize) -> Result<(), AllocError> {
-    out.push_str(field)?;
-    for _ in field.chars().count()..width {
-        out.push(' ')?;
-    }
-    Ok(())
+/// Appends a field, and blanks up to a width.
+fn push_filled(rt: &impl Abort, out: &mut String, field: &str, width: usize) {
+    push(rt, out, field);
+    push_times(rt, out, " ", width.saturating_sub(field.chars().count()));
 }
 
-/// Appends the lines of entries. Each is given on a line of its own, as its places, its type and
-/// its text, with a blank between them.
-pub(crate) fn push_lines(out: &mut String, entries: &str) -> Result<(), AllocError> {
+/// Appends the places of an entry, a colon, and blanks up to a width.
+fn push_places(rt: &impl Abort, out: &mut String, places: &str) {
+    push(rt, out, places);
+    push_filled(rt, out, ":", 20usize.saturating_sub(places.len()));
+}
+
+/// Appends the line of an entry, which is given as its places, its type and its text, with a blank
+/// between them.
+fn push_line(rt: &impl Abort, out: &mut String, entry: &str) {
+    let (places, rest) = entry.split_once(' ').unwrap_or((entry, ""));
+    let (name, text) = rest.split_once(' ').unwrap_or((rest, ""));
+    push_places(rt, out, places);
+    push_filled(rt, out, name, 15);
+    push_filled(rt, out, text, 15);
+    push(rt, out, "\n");
+}
+
+/// Appends the lines of entries, each of which is given on a line of its own.
+pub(crate) fn push_lines(rt: &impl Abort, out: &mut String, entries: &str) {
     for entry in entries.lines() {
-        let (places, rest) = entry.split_once(' ').unwrap_or((entry, ""));
-        let (name, text) = rest.split_once(' ').unwrap_or((rest, ""));
-        let start = out.len();
-        out.push_str(places)?;
-        push_filled(
-            out,
-            ":",
-            20usize.saturating_sub(out.len().saturating_sub(start)),
-        )?;
-        push_filled(out, name, 15)?;
-        push_filled(out, text, 15)?;
-        out.push('\n')?;
+        push_line(rt, out, entry);
     }
-    Ok(())
+}
+
+/// The lines of entries.
+pub(crate) fn lines_of(rt: &impl Abort, alloc: Global, entries: &str) -> String {
+    let mut lines = String::new(alloc);
+    push_lines(rt, &mut lines, entries);
+    lines
+}
+
+/// A text and a line feed, or nothing where it is empty.
+pub(crate) fn line(rt: &impl Abort, alloc: Global, text: &str) -> String {
+    let mut line = String::from_str(alloc, text).expect(rt, "memory");
+    push(rt, &mut line, if text.is_empty() { "" } else { "\n" });
+    line
+}
+
+/// The line of a fault of the standard input, or nothing where there is none.
+pub(crate) fn fault_line(rt: &impl Abort, alloc: Global, fault: &str) -> String {
+    let mut line = String::new(alloc);
+    if !fault.is_empty() {
+        push(rt, &mut line, "<stdin>:");
+        push(rt, &mut line, fault);
+        push(rt, &mut line, "\n");
+    }
+    line
 }
 
 /// Asserts that `tokens` writes the entry of the encoding as it is shown (nothing where that is
@@ -155,20 +207,15 @@ pub(crate) fn lists_as(
     encoding: &str,
     entries: &str,
     fault: &str,
-) -> Result<(), Fail> {
-    lists_bytes_as(rt, alloc, source.as_bytes(), encoding, entries, fault)
+) {
+    lists_bytes_as(rt, alloc, source.as_bytes(), encoding, entries, fault);
 }
 
 /// Asserts the same of each row.
-pub(crate) fn lists_all(
-    rt: &impl Abort,
-    alloc: Global,
-    rows: &[(&str, &str, &str, &str)],
-) -> Result<(), Fail> {
+pub(crate) fn lists_all(rt: &impl Abort, alloc: Global, rows: &[(&str, &str, &str, &str)]) {
     for (source, encoding, entries, fault) in rows {
-        lists_as(rt, alloc, source, encoding, entries, fault)?;
+        lists_as(rt, alloc, source, encoding, entries, fault);
     }
-    Ok(())
 }
 
 /// The same of bytes.
@@ -179,26 +226,28 @@ pub(crate) fn lists_bytes_as(
     encoding: &str,
     entries: &str,
     fault: &str,
-) -> Result<(), Fail> {
-    let mut wanted = String::new(alloc);
-    if !encoding.is_empty() {
-        let first = format!(in alloc; "0,0-0,0 ENCODING {encoding}")?;
-        push_lines(&mut wanted, first.as_str())?;
-    }
-    push_lines(&mut wanted, entries)?;
-    let mut told = String::new(alloc);
-    if !fault.is_empty() {
-        told.push_str("<stdin>:")?;
-        told.push_str(fault)?;
-        told.push('\n')?;
-    }
+) {
+    let wanted = listing(rt, alloc, encoding, entries);
+    let told = fault_line(rt, alloc, fault);
     // A byte a read, and as many as there is room for.
     let mut slow = reader(source);
     let mut fast = Counted::new(source);
     let (written, told) = (wanted.as_bytes(), told.as_bytes());
     writes_and_tells(rt, alloc, &mut slow, written, told, "a byte a read");
     writes_and_tells(rt, alloc, &mut fast, written, told, "many bytes a read");
-    Ok(())
+}
+
+/// The listing of the entry of an encoding, if one is given, and of other entries.
+fn listing(rt: &impl Abort, alloc: Global, encoding: &str, entries: &str) -> String {
+    let mut wanted = String::new(alloc);
+    if !encoding.is_empty() {
+        push_places(rt, &mut wanted, "0,0-0,0");
+        push_filled(rt, &mut wanted, "ENCODING", 15);
+        push_filled(rt, &mut wanted, encoding, 15);
+        push(rt, &mut wanted, "\n");
+    }
+    push_lines(rt, &mut wanted, entries);
+    wanted
 }
 
 /// Asserts that `tokens` writes and tells this of what a reader gives.

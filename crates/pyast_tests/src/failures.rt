@@ -1,8 +1,8 @@
 //! What is reported where reading, writing or opening fails.
 
 use crate::expected::{
-    Left, failing_reader, leaves, push_lines, reader, same_bytes, same_status, stops_anywhere,
-    writer,
+    Left, failing_reader, holds, leaves, lines_of, push, push_lines, reader, same_bytes,
+    same_status, stops_anywhere, writer,
 };
 use fakes::{FakeReader, FakeWriter};
 use pyast_command::{Command, Fault, RunFaultCode, Tokens, open_source, run};
@@ -10,7 +10,6 @@ use pylex::Cursor;
 use pysource::Counted;
 use std::alloc::Global;
 use std::process::Abort;
-use std::test::Fail;
 
 const TOKENS: Command = Command::Tokens(Tokens {
     exact: false,
@@ -20,23 +19,21 @@ const TOKENS: Command = Command::Tokens(Tokens {
 });
 
 #[test]
-fn stops_where_the_writer_fails(rt: HostRuntime) -> Result<(), Fail> {
-    let mut wanted = String::new(rt.alloc());
-    push_lines(
-        &mut wanted,
+fn stops_where_the_writer_fails(rt: HostRuntime) {
+    let mut wanted = lines_of(
+        &rt,
+        rt.alloc(),
         "0,0-0,0 ENCODING 'utf-8'\n1,0-1,1 NAME 'x'\n1,1-1,2 NEWLINE '\\n'\n2,0-2,0 ENDMARKER ''",
-    )?;
+    );
     let whole = wanted.as_bytes();
     stops_anywhere(&rt, rt.alloc(), &TOKENS, b"x\n", whole);
-    Ok(())
 }
 
 /// The line of the cursor after a count is written as the entries' lines are.
 #[test]
-fn stops_where_the_writer_fails_in_the_line_of_a_cursor(rt: HostRuntime) -> Result<(), Fail> {
-    let mut wanted = String::new(rt.alloc());
-    push_lines(&mut wanted, "0,0-0,0 ENCODING 'utf-8'")?;
-    wanted.push_str("cursor pytok1 1 0 1 0 0 0 0\n")?;
+fn stops_where_the_writer_fails_in_the_line_of_a_cursor(rt: HostRuntime) {
+    let mut wanted = lines_of(&rt, rt.alloc(), "0,0-0,0 ENCODING 'utf-8'");
+    push(&rt, &mut wanted, "cursor pytok1 1 0 1 0 0 0 0\n");
     let whole = wanted.as_bytes();
     let command = Command::Tokens(Tokens {
         exact: false,
@@ -45,7 +42,6 @@ fn stops_where_the_writer_fails_in_the_line_of_a_cursor(rt: HostRuntime) -> Resu
         file: None,
     });
     stops_anywhere(&rt, rt.alloc(), &command, b"x $\n", whole);
-    Ok(())
 }
 
 /// Asserts that a writer that takes so many bytes stops a long listing there.
@@ -55,31 +51,32 @@ fn stops_within(rt: &impl Abort, alloc: Global, source: &[u8], whole: &[u8], roo
     let mut output = FakeWriter::new(alloc, 5000, room, false);
     let mut faults = writer(alloc);
     let status = run(alloc, &TOKENS, &mut reader, &mut output, &mut faults);
-    assert!(rt; output.taken() == &whole[..room], "at {room}");
+    holds(rt, output.taken() == &whole[..room], "a room");
     same_status(rt, status, if room < whole.len() { 3 } else { 0 }, "a room");
 }
 
 /// Appends the lines of a row of a name.
-fn push_row(alloc: Global, wanted: &mut String, row: i32) -> Result<(), Fail> {
-    let entries = format!(in alloc; "{row},0-{row},1 NAME 'x'\n{row},1-{row},2 NEWLINE '\\n'")?;
-    push_lines(wanted, entries.as_str())?;
-    Ok(())
+fn push_row(rt: &impl Abort, alloc: Global, wanted: &mut String, row: i32) {
+    let entries = format!(in alloc;
+        "{row},0-{row},1 NAME 'x'\n{row},1-{row},2 NEWLINE '\\n'"
+    ).expect(rt, "memory");
+    push_lines(rt, wanted, entries.as_str());
 }
 
 /// What is held is written more than once here, so the writer also fails in the middle of the
 /// listing.
 #[test]
-fn stops_within_a_long_listing(rt: HostRuntime) -> Result<(), Fail> {
+fn stops_within_a_long_listing(rt: HostRuntime) {
     let mut source = String::new(rt.alloc());
     let mut wanted = String::new(rt.alloc());
-    push_lines(&mut wanted, "0,0-0,0 ENCODING 'utf-8'")?;
+    push_lines(&rt, &mut wanted, "0,0-0,0 ENCODING 'utf-8'");
     for row in 1..=1000 {
-        source.push_str("x\n")?;
-        push_row(rt.alloc(), &mut wanted, row)?;
+        push(&rt, &mut source, "x\n");
+        push_row(&rt, rt.alloc(), &mut wanted, row);
     }
-    push_lines(&mut wanted, "1001,0-1001,0 ENDMARKER ''")?;
+    push_lines(&rt, &mut wanted, "1001,0-1001,0 ENDMARKER ''");
     let whole = wanted.as_bytes();
-    for room in [
+    for room in &[
         0usize,
         1,
         32_767,
@@ -89,34 +86,26 @@ fn stops_within_a_long_listing(rt: HostRuntime) -> Result<(), Fail> {
         100_000,
         usize::MAX,
     ] {
-        stops_within(&rt, rt.alloc(), source.as_bytes(), whole, room);
+        stops_within(&rt, rt.alloc(), source.as_bytes(), whole, *room);
     }
-    Ok(())
 }
 
 /// The lines before a fault of the source are written before it is reported, so a failed write of
 /// them is met first.
 #[test]
-fn tells_a_failed_write_before_a_fault_of_the_source(rt: HostRuntime) -> Result<(), Fail> {
+fn tells_a_failed_write_before_a_fault_of_the_source(rt: HostRuntime) {
     let mut reader = reader(b"x $\n");
     let mut output = FakeWriter::new(rt.alloc(), 1, 60, false);
     let mut faults = writer(rt.alloc());
     let status = run(rt.alloc(), &TOKENS, &mut reader, &mut output, &mut faults);
     same_bytes(&rt, faults.taken(), b"pyast: write failed\n", "x $");
     same_status(&rt, status, 3, "x $");
-    Ok(())
 }
 
 /// Asserts that `tokens` writes these lines where the reader fails after these bytes, and then
 /// tells the failed read.
-fn lists_read_lines(
-    rt: &impl Abort,
-    alloc: Global,
-    source: &[u8],
-    entries: &str,
-) -> Result<(), Fail> {
-    let mut wanted = String::new(alloc);
-    push_lines(&mut wanted, entries)?;
+fn lists_read_lines(rt: &impl Abort, alloc: Global, source: &[u8], entries: &str) {
+    let wanted = lines_of(rt, alloc, entries);
     let left = Left {
         written: wanted.as_bytes(),
         told: b"pyast: read failed\n",
@@ -130,12 +119,11 @@ fn lists_read_lines(
         &left,
         entries,
     );
-    Ok(())
 }
 
 /// Each is what was read before a read failed, and the lines that are written.
 #[test]
-fn writes_the_lines_that_were_read_whole(rt: HostRuntime) -> Result<(), Fail> {
+fn writes_the_lines_that_were_read_whole(rt: HostRuntime) {
     let rows: &[(&[u8], &str)] = &[
         // The second line isn't whole.
         (
@@ -176,42 +164,41 @@ fn writes_the_lines_that_were_read_whole(rt: HostRuntime) -> Result<(), Fail> {
         (b"\n# c", ""),
     ];
     for (source, entries) in rows {
-        lists_read_lines(&rt, rt.alloc(), source, entries)?;
+        lists_read_lines(&rt, rt.alloc(), source, entries);
     }
-    Ok(())
 }
 
 /// The same after each number of bytes of a source. No block ends there.
 #[test]
-fn writes_the_lines_that_were_read_whole_wherever_a_read_fails(
-    rt: HostRuntime,
-) -> Result<(), Fail> {
+fn writes_the_lines_that_were_read_whole_wherever_a_read_fails(rt: HostRuntime) {
     let source = b"if x:\n\ty\n".as_slice();
     let first = "0,0-0,0 ENCODING 'utf-8'\n\
                  1,0-1,2 NAME 'if'\n\
                  1,3-1,4 NAME 'x'\n\
                  1,4-1,5 OP ':'\n\
                  1,5-1,6 NEWLINE '\\n'";
-    let mut both = String::from_str(rt.alloc(), first)?;
-    both.push_str("\n2,0-2,1 INDENT '\\t'\n2,1-2,2 NAME 'y'\n2,2-2,3 NEWLINE '\\n'")?;
+    let mut both = String::from_str(rt.alloc(), first).expect(&rt, "memory");
+    push(
+        &rt,
+        &mut both,
+        "\n2,0-2,1 INDENT '\\t'\n2,1-2,2 NAME 'y'\n2,2-2,3 NEWLINE '\\n'",
+    );
     for given in 0..=source.len() {
         let entries = match given {
             0..=5 => "",
             6..=8 => first,
             _ => both.as_str(),
         };
-        lists_read_lines(&rt, rt.alloc(), &source[..given], entries)?;
+        lists_read_lines(&rt, rt.alloc(), &source[..given], entries);
     }
-    Ok(())
 }
 
 #[test]
-fn writes_nothing_where_the_reader_fails_before_the_encoding(rt: HostRuntime) -> Result<(), Fail> {
+fn writes_nothing_where_the_reader_fails_before_the_encoding(rt: HostRuntime) {
     let source = b"# x\n# coding: latin-1\n";
     for given in 0..source.len() {
-        lists_read_lines(&rt, rt.alloc(), &source[..given], "")?;
+        lists_read_lines(&rt, rt.alloc(), &source[..given], "");
     }
-    Ok(())
 }
 
 /// Asserts that this line is reported of bytes after which a read fails.
@@ -226,7 +213,7 @@ fn tells(rt: &impl Abort, alloc: Global, source: &[u8], line: &[u8]) {
 
 /// A fault of the lines that were read whole stands before the failed read.
 #[test]
-fn tells_a_fault_before_a_failed_read(rt: HostRuntime) -> Result<(), Fail> {
+fn tells_a_fault_before_a_failed_read(rt: HostRuntime) {
     let rows: &[(&[u8], &[u8])] = &[
         (
             b"# x\n# coding: latin-1\n",
@@ -238,18 +225,17 @@ fn tells_a_fault_before_a_failed_read(rt: HostRuntime) -> Result<(), Fail> {
     for (source, line) in rows {
         tells(&rt, rt.alloc(), source, line);
     }
-    Ok(())
 }
 
 /// A count stops the listing before the line that can't be read.
 #[test]
-fn stops_at_a_count_before_a_failed_read(rt: HostRuntime) -> Result<(), Fail> {
-    let mut wanted = String::new(rt.alloc());
-    push_lines(
-        &mut wanted,
+fn stops_at_a_count_before_a_failed_read(rt: HostRuntime) {
+    let mut wanted = lines_of(
+        &rt,
+        rt.alloc(),
         "0,0-0,0 ENCODING 'utf-8'\n1,0-1,1 NAME 'x'\n1,1-1,2 NEWLINE '\\n'",
-    )?;
-    wanted.push_str("cursor pytok1 3 2 2 0 0 0 0\n")?;
+    );
+    push(&rt, &mut wanted, "cursor pytok1 3 2 2 0 0 0 0\n");
     let command = Command::Tokens(Tokens {
         exact: false,
         count: Some(3),
@@ -269,21 +255,14 @@ fn stops_at_a_count_before_a_failed_read(rt: HostRuntime) -> Result<(), Fail> {
         &left,
         "a count",
     );
-    Ok(())
 }
 
 /// Asserts what is reported of a cursor, where a read fails.
-fn tells_of_a_cursor(
-    rt: &impl Abort,
-    alloc: Global,
-    resume: &str,
-    line: &[u8],
-    status: u8,
-) -> Result<(), Fail> {
+fn tells_of_a_cursor(rt: &impl Abort, alloc: Global, resume: &str, line: &[u8], status: u8) {
     let command = Command::Tokens(Tokens {
         exact: false,
         count: None,
-        resume: Some(Cursor::from_text(alloc, resume)?),
+        resume: Some(Cursor::from_text(alloc, resume).expect(rt, "a cursor")),
         file: None,
     });
     let left = Left {
@@ -299,13 +278,12 @@ fn tells_of_a_cursor(
         &left,
         resume,
     );
-    Ok(())
 }
 
 /// Whether a cursor after more entries than were read is one of the source isn't known, so the
 /// failed read is reported.
 #[test]
-fn tells_a_failed_read_before_a_cursor(rt: HostRuntime) -> Result<(), Fail> {
+fn tells_a_failed_read_before_a_cursor(rt: HostRuntime) {
     let rows: &[(&str, &[u8], u8)] = &[
         ("pytok1 3 2 2 0 0 0 0", b"pyast: read failed\n", 3),
         ("pytok1 5 4 3 0 0 0 0", b"pyast: read failed\n", 3),
@@ -316,9 +294,8 @@ fn tells_a_failed_read_before_a_cursor(rt: HostRuntime) -> Result<(), Fail> {
         ),
     ];
     for (resume, line, wanted_status) in rows {
-        tells_of_a_cursor(&rt, rt.alloc(), resume, line, *wanted_status)?;
+        tells_of_a_cursor(&rt, rt.alloc(), resume, line, *wanted_status);
     }
-    Ok(())
 }
 
 /// Asserts that the line of a fault is written up to so many bytes, and the status is that of the
@@ -341,7 +318,7 @@ fn keeps_its_status(
 }
 
 #[test]
-fn keeps_its_status_where_the_fault_line_fails(rt: HostRuntime) -> Result<(), Fail> {
+fn keeps_its_status_where_the_fault_line_fails(rt: HostRuntime) {
     let rows: &[(&[u8], bool, &[u8], u8)] = &[
         (
             b")\n",
@@ -364,19 +341,16 @@ fn keeps_its_status_where_the_fault_line_fails(rt: HostRuntime) -> Result<(), Fa
             );
         }
     }
-    Ok(())
 }
 
 #[test]
-fn opens_a_file_or_tells_that_it_cannot(rt: HostRuntime) -> Result<(), Fail> {
+fn opens_a_file_or_tells_that_it_cannot(rt: HostRuntime) {
     let missing = open_source(&rt, "no such folder/no such file");
-    assert!(rt; matches!(missing, Err(Fault::Plain(RunFaultCode::Open))));
+    let is_open = matches!(missing, Err(Fault::Plain(RunFaultCode::Open)));
+    holds(&rt, is_open, "a file");
 
     // A folder opens, and its first read fails.
-    let Ok(folder) = open_source(&rt, ".") else {
-        assert!(rt; false);
-        return Ok(());
-    };
+    let folder = open_source(&rt, ".").expect(&rt, "a folder");
     let mut reader = Counted::new(folder);
     let left = Left {
         written: b"",
@@ -384,5 +358,4 @@ fn opens_a_file_or_tells_that_it_cannot(rt: HostRuntime) -> Result<(), Fail> {
         status: 3,
     };
     leaves(&rt, rt.alloc(), &TOKENS, &mut reader, &left, "a folder");
-    Ok(())
 }

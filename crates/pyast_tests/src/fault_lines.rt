@@ -1,6 +1,7 @@
 //! The line that is reported of each fault, and the status that it gives.
 
-use crate::expected::{same_bytes, same_status, same_text, writer};
+use crate::dump_limits::joined;
+use crate::expected::{same, same_bytes, same_status, same_text, writer};
 use pyast_command::{Fault, FaultCode, RunFaultCode, SourceFaultCode, fault_text, tell};
 use pyparse::{GrammarError, ParseFault, tokens_of};
 use pysource::{InputFault, Place, SOURCE_LIMIT, SourceFault, decode};
@@ -8,61 +9,42 @@ use pytoken::TokenError;
 use pytree_node::Extent;
 use std::alloc::Global;
 use std::process::Abort;
-use std::test::Fail;
-
-/// Asserts that a fault is the expected one.
-fn same_fault(rt: &impl Abort, told: &Fault, expected: &Fault, line: &str) {
-    assert_eq!(rt; told, expected, "at {line}");
-}
 
 /// Asserts that this line, and an LF after it, is reported of a fault of `a.py`, and that the
 /// status is this.
-fn tells(rt: &impl Abort, alloc: Global, fault: Fault, line: &str, status: u8) -> Result<(), Fail> {
-    let wanted = format!(in alloc; "{line}\n")?;
+fn tells(rt: &impl Abort, alloc: Global, fault: Fault, line: &str, status: u8) {
+    let wanted = format!(in alloc; "{line}\n").expect(rt, "memory");
     let mut faults = writer(alloc);
     let told = tell(alloc, "a.py", fault, &mut faults);
     same_bytes(rt, faults.taken(), wanted.as_bytes(), line);
-    same_fault(rt, &told, &fault, line);
+    same(rt, &told, &fault, line);
     same_status(rt, told.status(), status, line);
-    Ok(())
 }
 
 /// Asserts the text of a fault of a source, its line at a place, and the status.
-fn tells_in_source(
-    rt: &impl Abort,
-    alloc: Global,
-    code: SourceFaultCode,
-    text: &str,
-) -> Result<(), Fail> {
+fn tells_in_source(rt: &impl Abort, alloc: Global, code: SourceFaultCode, text: &str) {
     let place = Place { row: 3, column: 7 };
     same_text(rt, fault_text(FaultCode::Source(code)), text, text);
-    let line = format!(in alloc; "a.py:3:7: error: {text}")?;
-    tells(rt, alloc, Fault::InSource(code, place), line.as_str(), 1)
+    let line = format!(in alloc; "a.py:3:7: error: {text}").expect(rt, "memory");
+    tells(rt, alloc, Fault::InSource(code, place), line.as_str(), 1);
 }
 
 /// Asserts that of each row.
-fn tells_all(rt: &impl Abort, alloc: Global, rows: &[(SourceFaultCode, &str)]) -> Result<(), Fail> {
+fn tells_all(rt: &impl Abort, alloc: Global, rows: &[(SourceFaultCode, &str)]) {
     for (code, text) in rows {
-        tells_in_source(rt, alloc, *code, text)?;
+        tells_in_source(rt, alloc, *code, text);
     }
-    Ok(())
 }
 
 /// Asserts the text of a fault that is in no source, its line, and the status.
-fn tells_plainly(
-    rt: &impl Abort,
-    alloc: Global,
-    code: RunFaultCode,
-    text: &str,
-    status: u8,
-) -> Result<(), Fail> {
+fn tells_plainly(rt: &impl Abort, alloc: Global, code: RunFaultCode, text: &str, status: u8) {
     same_text(rt, fault_text(FaultCode::Run(code)), text, text);
-    let line = format!(in alloc; "pyast: {text}")?;
-    tells(rt, alloc, Fault::Plain(code), line.as_str(), status)
+    let line = format!(in alloc; "pyast: {text}").expect(rt, "memory");
+    tells(rt, alloc, Fault::Plain(code), line.as_str(), status);
 }
 
 #[test]
-fn tells_what_is_wrong_with_a_source(rt: HostRuntime) -> Result<(), Fail> {
+fn tells_what_is_wrong_with_a_source(rt: HostRuntime) {
     let rows = &[
         (SourceFaultCode::UnsupportedEncoding, "unsupported encoding"),
         (
@@ -128,11 +110,11 @@ fn tells_what_is_wrong_with_a_source(rt: HostRuntime) -> Result<(), Fail> {
             "inconsistent tabs and spaces",
         ),
     ];
-    tells_all(&rt, rt.alloc(), rows)
+    tells_all(&rt, rt.alloc(), rows);
 }
 
 #[test]
-fn tells_what_else_ends_a_run(rt: HostRuntime) -> Result<(), Fail> {
+fn tells_what_else_ends_a_run(rt: HostRuntime) {
     for (code, text, status) in &[
         (RunFaultCode::Read, "read failed", 3),
         (
@@ -146,27 +128,25 @@ fn tells_what_else_ends_a_run(rt: HostRuntime) -> Result<(), Fail> {
         (RunFaultCode::Write, "write failed", 3),
         (RunFaultCode::Memory, "out of memory", 4),
     ] {
-        tells_plainly(&rt, rt.alloc(), *code, text, *status)?;
+        tells_plainly(&rt, rt.alloc(), *code, text, *status);
     }
-    Ok(())
 }
 
 /// Asserts that this line is reported of a source that has no tokens.
-fn refuses(rt: &impl Abort, alloc: Global, text: &str, line: &str) -> Result<(), Fail> {
+fn refuses(rt: &impl Abort, alloc: Global, text: &str, line: &str) {
     let bytes = text.as_bytes();
     if bytes.len() > SOURCE_LIMIT {
-        return Err(Fail::from("too long"));
+        panic!(rt; "too long");
     }
-    let source = decode(alloc, bytes)?;
-    match tokens_of(alloc, &source, Extent::Plain) {
-        Ok(_) => Err(Fail::from("tokens")),
-        Err(fault) => tells(rt, alloc, Fault::from(fault), line, 1),
-    }
+    let source = decode(alloc, bytes).expect(rt, "a source");
+    let fault = tokens_of(alloc, &source, Extent::Plain).err();
+    let fault = Fault::from(fault.expect(rt, "no tokens"));
+    tells(rt, alloc, fault, line, 1);
 }
 
 /// Rows count from 1, and columns from 0 in characters.
 #[test]
-fn tells_why_a_source_has_no_tokens(rt: HostRuntime) -> Result<(), Fail> {
+fn tells_why_a_source_has_no_tokens(rt: HostRuntime) {
     for (text, line) in &[
         ("x = 1.5\n", "a.py:1:4: error: float literal"),
         ("'é' + 1j\n", "a.py:1:6: error: complex literal"),
@@ -190,32 +170,24 @@ fn tells_why_a_source_has_no_tokens(rt: HostRuntime) -> Result<(), Fail> {
             "a.py:1:1: error: carriage return without line feed",
         ),
     ] {
-        refuses(&rt, rt.alloc(), text, line)?;
+        refuses(&rt, rt.alloc(), text, line);
     }
-    Ok(())
 }
 
 #[test]
-fn tells_brackets_that_are_too_deep(rt: HostRuntime) -> Result<(), Fail> {
-    let mut text = String::new(rt.alloc());
-    for _ in 0..601 {
-        text.push('(')?;
-    }
-    text.push('x')?;
-    for _ in 0..601 {
-        text.push(')')?;
-    }
+fn tells_brackets_that_are_too_deep(rt: HostRuntime) {
+    let text = joined(&rt, rt.alloc(), &[("(", 601), ("x", 1), (")", 601)]);
     refuses(
         &rt,
         rt.alloc(),
         text.as_str(),
         "a.py:1:600: error: too deep",
-    )
+    );
 }
 
 /// What the grammar says against a line is reported at its place.
 #[test]
-fn tells_what_the_grammar_says(rt: HostRuntime) -> Result<(), Fail> {
+fn tells_what_the_grammar_says(rt: HostRuntime) {
     let place = Place { row: 3, column: 7 };
     for (error, line) in &[
         (GrammarError::Syntax, "a.py:3:7: error: invalid syntax"),
@@ -238,21 +210,19 @@ fn tells_what_the_grammar_says(rt: HostRuntime) -> Result<(), Fail> {
         (GrammarError::TooDeep, "a.py:3:7: error: too deep"),
     ] {
         let fault = Fault::from(ParseFault::Grammar(*error, place));
-        tells(&rt, rt.alloc(), fault, line, 1)?;
+        tells(&rt, rt.alloc(), fault, line, 1);
     }
-    Ok(())
 }
 
 /// A failed read has no place, and out of memory is reported as such.
 #[test]
-fn tells_what_is_no_fault_of_a_source(rt: HostRuntime) -> Result<(), Fail> {
+fn tells_what_is_no_fault_of_a_source(rt: HostRuntime) {
     for (fault, line, status) in [
         (Fault::from(ParseFault::Memory), "pyast: out of memory", 4),
         (Fault::from(SourceFault::Memory), "pyast: out of memory", 4),
         (Fault::from(InputFault::Memory), "pyast: out of memory", 4),
         (Fault::from(InputFault::Read), "pyast: read failed", 3),
     ] {
-        tells(&rt, rt.alloc(), fault, line, status)?;
+        tells(&rt, rt.alloc(), fault, line, status);
     }
-    Ok(())
 }

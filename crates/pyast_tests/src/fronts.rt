@@ -1,12 +1,11 @@
 //! What the commands do with a source that is cut off anywhere.
 
 use crate::dumps::command;
-use crate::expected::{reader, same_answer, same_status, same_text, writer};
+use crate::expected::{push, reader, same, same_answer, same_status, same_text, writer};
 use pyast_command::{Command, Tokens, run};
 use pylex::Cursor;
 use std::alloc::Global;
 use std::process::Abort;
-use std::test::Fail;
 
 /// The sources that are cut off: one with a mark and characters of several bytes, one whose blanks
 /// `dump` refuses, and one of many forms.
@@ -28,24 +27,22 @@ struct Outcome {
 }
 
 /// The text that bytes are.
-fn text(alloc: Global, bytes: &[u8]) -> Result<String, Fail> {
-    let Ok(text) = std::str::from_utf8(bytes) else {
-        return Err(Fail::from("no text"));
-    };
-    Ok(String::from_str(alloc, text)?)
+fn text(rt: &impl Abort, alloc: Global, bytes: &[u8]) -> String {
+    let text = std::str::from_utf8(bytes).expect(rt, "a text");
+    String::from_str(alloc, text).expect(rt, "memory")
 }
 
 /// What a command does with a source.
-fn outcome_of(alloc: Global, command: &Command, source: &[u8]) -> Result<Outcome, Fail> {
+fn outcome_of(rt: &impl Abort, alloc: Global, command: &Command, source: &[u8]) -> Outcome {
     let mut reader = reader(source);
     let mut output = writer(alloc);
     let mut faults = writer(alloc);
     let status = run(alloc, command, &mut reader, &mut output, &mut faults);
-    Ok(Outcome {
-        written: text(alloc, output.taken())?,
-        told: text(alloc, faults.taken())?,
+    Outcome {
+        written: text(rt, alloc, output.taken()),
+        told: text(rt, alloc, faults.taken()),
         status,
-    })
+    }
 }
 
 /// Asserts that a source is accepted or refused. Something is written where it is accepted, unless
@@ -57,13 +54,12 @@ fn answers(
     without_text: &[&[u8]],
     source: &[u8],
     at: &str,
-) -> Result<(), Fail> {
-    let outcome = outcome_of(alloc, command, source)?;
+) {
+    let outcome = outcome_of(rt, alloc, command, source);
     let silent = outcome.status == 1 || without_text.contains(&source);
     same_answer(rt, outcome.status <= 1, true, at);
     same_answer(rt, outcome.written.is_empty(), silent, at);
     same_answer(rt, outcome.told.is_empty(), outcome.status == 0, at);
-    Ok(())
 }
 
 /// Asserts that of each front of a source.
@@ -73,37 +69,30 @@ fn answers_each_front(
     command: &Command,
     without_text: &[&[u8]],
     source: &str,
-) -> Result<(), Fail> {
+) {
     let bytes = source.as_bytes();
     for count in 0..=bytes.len() {
-        answers(rt, alloc, command, without_text, &bytes[..count], source)?;
+        answers(rt, alloc, command, without_text, &bytes[..count], source);
     }
-    Ok(())
 }
 
 /// Asserts that of each source that is cut off.
-fn answers_each_front_of_all(
-    rt: &impl Abort,
-    alloc: Global,
-    words: &str,
-    without_text: &[&[u8]],
-) -> Result<(), Fail> {
-    let command = command(alloc, words)?;
+fn answers_each_front_of_all(rt: &impl Abort, alloc: Global, words: &str, without_text: &[&[u8]]) {
+    let command = command(rt, alloc, words);
     for source in SOURCES {
-        answers_each_front(rt, alloc, &command, without_text, source)?;
+        answers_each_front(rt, alloc, &command, without_text, source);
     }
-    Ok(())
 }
 
 #[test]
-fn dumps_or_refuses_each_front(rt: HostRuntime) -> Result<(), Fail> {
-    answers_each_front_of_all(&rt, rt.alloc(), "dump", &[])
+fn dumps_or_refuses_each_front(rt: HostRuntime) {
+    answers_each_front_of_all(&rt, rt.alloc(), "dump", &[]);
 }
 
 /// An empty module, which a mark alone is too, has no bytes.
 #[test]
-fn unparses_or_refuses_each_front(rt: HostRuntime) -> Result<(), Fail> {
-    answers_each_front_of_all(&rt, rt.alloc(), "unparse", &[b"", b"\xEF\xBB\xBF"])
+fn unparses_or_refuses_each_front(rt: HostRuntime) {
+    answers_each_front_of_all(&rt, rt.alloc(), "unparse", &[b"", b"\xEF\xBB\xBF"]);
 }
 
 /// `tokens` with this count, after this cursor.
@@ -117,17 +106,36 @@ fn asked(count: Option<u64>, resume: Option<Cursor>) -> Command {
 }
 
 /// The cursor whose line a listing has after these lines.
-fn cursor_behind(alloc: Global, written: &str, lines: &str) -> Result<Cursor, Fail> {
-    let Some(last) = written.strip_prefix(lines) else {
-        return Err(Fail::from("other lines"));
-    };
-    let Some(shown) = last.strip_prefix("cursor ") else {
-        return Err(Fail::from("no cursor"));
-    };
-    let Some(shown) = shown.strip_suffix("\n") else {
-        return Err(Fail::from("no end of a line"));
-    };
-    Ok(Cursor::from_text(alloc, shown)?)
+fn cursor_behind(rt: &impl Abort, alloc: Global, written: &str, lines: &str) -> Cursor {
+    let last = written.strip_prefix(lines).expect(rt, "the same lines");
+    let shown = last.strip_prefix("cursor ").expect(rt, "a cursor");
+    let shown = shown.strip_suffix("\n").expect(rt, "the end of a line");
+    Cursor::from_text(alloc, shown).expect(rt, "a cursor")
+}
+
+/// The cursor where `tokens` stops after so many lines of a source, which are given.
+fn cursor_after(rt: &impl Abort, alloc: Global, source: &[u8], lines: &str, count: u64) -> Cursor {
+    let stopped = outcome_of(rt, alloc, &asked(Some(count), None), source);
+    same_text(rt, stopped.told.as_str(), "", lines);
+    same_status(rt, stopped.status, 0, lines);
+    cursor_behind(rt, alloc, stopped.written.as_str(), lines)
+}
+
+/// Asserts that `tokens` goes on after a cursor with the lines of the whole listing that come after
+/// these, and the same fault.
+fn goes_on(
+    rt: &impl Abort,
+    alloc: Global,
+    source: &[u8],
+    whole: &Outcome,
+    lines: &str,
+    cursor: Cursor,
+) {
+    let rest = outcome_of(rt, alloc, &asked(None, Some(cursor)), source);
+    let expected = whole.written.as_str().strip_prefix(lines);
+    same(rt, &Some(rest.written.as_str()), &expected, lines);
+    same_text(rt, rest.told.as_str(), whole.told.as_str(), lines);
+    same_status(rt, rest.status, whole.status, lines);
 }
 
 /// Asserts that `tokens` stops after so many lines of the whole listing of a source, which are
@@ -139,24 +147,15 @@ fn stops_and_goes_on(
     whole: &Outcome,
     lines: &str,
     count: u64,
-) -> Result<(), Fail> {
-    let stopped = outcome_of(alloc, &asked(Some(count), None), source)?;
-    same_text(rt, stopped.told.as_str(), "", lines);
-    same_status(rt, stopped.status, 0, lines);
-    let cursor = cursor_behind(alloc, stopped.written.as_str(), lines)?;
-    let rest = outcome_of(alloc, &asked(None, Some(cursor)), source)?;
-    let mut joined = String::from_str(alloc, lines)?;
-    joined.push_str(rest.written.as_str())?;
-    same_text(rt, joined.as_str(), whole.written.as_str(), lines);
-    same_text(rt, rest.told.as_str(), whole.told.as_str(), lines);
-    same_status(rt, rest.status, whole.status, lines);
-    Ok(())
+) {
+    let cursor = cursor_after(rt, alloc, source, lines, count);
+    goes_on(rt, alloc, source, whole, lines, cursor);
 }
 
 /// Asserts that of each number of lines below that of the whole listing, which has none where the
 /// encoding is refused.
-fn stops_and_goes_on_anywhere(rt: &impl Abort, alloc: Global, source: &[u8]) -> Result<(), Fail> {
-    let whole = outcome_of(alloc, &asked(None, None), source)?;
+fn stops_and_goes_on_anywhere(rt: &impl Abort, alloc: Global, source: &[u8]) {
+    let whole = outcome_of(rt, alloc, &asked(None, None), source);
     same_answer(rt, whole.status <= 1, true, whole.written.as_str());
     same_answer(
         rt,
@@ -166,31 +165,24 @@ fn stops_and_goes_on_anywhere(rt: &impl Abort, alloc: Global, source: &[u8]) -> 
     );
     let mut lines = String::new(alloc);
     for (count, line) in (0u64..).zip(whole.written.lines()) {
-        stops_and_goes_on(rt, alloc, source, &whole, lines.as_str(), count)?;
-        lines.push_str(line)?;
-        lines.push('\n')?;
+        stops_and_goes_on(rt, alloc, source, &whole, lines.as_str(), count);
+        push(rt, &mut lines, line);
+        push(rt, &mut lines, "\n");
     }
-    Ok(())
 }
 
 /// Asserts that of each front of a source.
-fn stops_and_goes_on_in_each_front(
-    rt: &impl Abort,
-    alloc: Global,
-    source: &str,
-) -> Result<(), Fail> {
+fn stops_and_goes_on_in_each_front(rt: &impl Abort, alloc: Global, source: &str) {
     let bytes = source.as_bytes();
     for count in 0..=bytes.len() {
-        stops_and_goes_on_anywhere(rt, alloc, &bytes[..count])?;
+        stops_and_goes_on_anywhere(rt, alloc, &bytes[..count]);
     }
-    Ok(())
 }
 
 /// A listing that stops after any of its lines and goes on there is the whole listing.
 #[test]
-fn lists_each_front_in_two_parts(rt: HostRuntime) -> Result<(), Fail> {
+fn lists_each_front_in_two_parts(rt: HostRuntime) {
     for source in SOURCES {
-        stops_and_goes_on_in_each_front(&rt, rt.alloc(), source)?;
+        stops_and_goes_on_in_each_front(&rt, rt.alloc(), source);
     }
-    Ok(())
 }

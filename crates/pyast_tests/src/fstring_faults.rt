@@ -6,18 +6,17 @@ use crate::dumps::does_all;
 use crate::numbers::{FORMATTED, refuses};
 use std::alloc::Global;
 use std::process::Abort;
-use std::test::Fail;
 
 /// Asserts that both commands refuse a source by `--whole`, in both versions of Python.
-fn refuses_whole(rt: &impl Abort, alloc: Global, source: &str, fault: &str) -> Result<(), Fail> {
-    refuses(rt, alloc, "--whole", source, fault)?;
-    refuses(rt, alloc, "--py312 --whole", source, fault)
+fn refuses_whole(rt: &impl Abort, alloc: Global, source: &str, fault: &str) {
+    refuses(rt, alloc, "--whole", source, fault);
+    refuses(rt, alloc, "--py312 --whole", source, fault);
 }
 
 /// A single brace, a field without an expression or without an end, a wrong conversion, a field in
 /// the format spec of a format spec; a backslash, a comment or a wrong bracket in a field.
 #[test]
-fn malformed(rt: HostRuntime) -> Result<(), Fail> {
+fn malformed(rt: HostRuntime) {
     for source in &[
         "f'}'",
         "f'{'",
@@ -49,14 +48,14 @@ fn malformed(rt: HostRuntime) -> Result<(), Fail> {
         "f'{x.ｉｆ}'",
         "f'{b\"é\"}'",
     ] {
-        refuses_whole(&rt, rt.alloc(), *source, FORMATTED)?;
+        refuses_whole(&rt, rt.alloc(), *source, FORMATTED);
     }
-    refuses_whole(&rt, rt.alloc(), "x = f'{a#}'", "1:4: error: f-string")
+    refuses_whole(&rt, rt.alloc(), "x = f'{a#}'", "1:4: error: f-string");
 }
 
 /// What Python reads: strings with a quote or a line feed in a field, and `=` in a nested f-string.
 #[test]
-fn left_out(rt: HostRuntime) -> Result<(), Fail> {
+fn left_out(rt: HostRuntime) {
     for source in &[
         "f'''{f\"\"\"{f'{f\"{x}\"}'}\"\"\"}'''",
         "f'{f\"{x=}\"}'",
@@ -68,14 +67,13 @@ fn left_out(rt: HostRuntime) -> Result<(), Fail> {
         "f\"\"\"{f\"{x:'''}\"}\"\"\" f'''{f'{x:\"\"\"}'}'''",
         "f'''{f\"\"\"{\nx}\"\"\"}'''",
     ] {
-        refuses_whole(&rt, rt.alloc(), *source, FORMATTED)?;
+        refuses_whole(&rt, rt.alloc(), *source, FORMATTED);
     }
-    Ok(())
 }
 
 /// The least fault of a token is told, and a malformed f-string before its texts.
 #[test]
-fn faults_of_texts(rt: HostRuntime) -> Result<(), Fail> {
+fn faults_of_texts(rt: HostRuntime) {
     for (source, fault) in &[
         ("f'\\N{DIGIT ONE}'", "1:0: error: named escape"),
         ("f'\\N'", "1:0: error: named escape"),
@@ -88,14 +86,13 @@ fn faults_of_texts(rt: HostRuntime) -> Result<(), Fail> {
         ("f'\0\\x4'", "1:0: error: bad escape"),
         ("f'{x}' + '\\x4'", "1:9: error: bad escape"),
     ] {
-        refuses_whole(&rt, rt.alloc(), *source, *fault)?;
+        refuses_whole(&rt, rt.alloc(), *source, *fault);
     }
-    Ok(())
 }
 
 /// A field that holds no expression, bytes beside an f-string, and an f-string as a target.
 #[test]
-fn without_a_form(rt: HostRuntime) -> Result<(), Fail> {
+fn without_a_form(rt: HostRuntime) {
     for source in &[
         "f'{lambda: 1}'",
         "f'{*a}'",
@@ -120,16 +117,15 @@ fn without_a_form(rt: HostRuntime) -> Result<(), Fail> {
         "x.f''",
         "f(f''=1)",
     ] {
-        refuses_whole(&rt, rt.alloc(), *source, "1:0: error: invalid syntax")?;
+        refuses_whole(&rt, rt.alloc(), *source, "1:0: error: invalid syntax");
     }
-    Ok(())
 }
 
 /// Without the option any f-string is a fault.
 #[test]
-fn refused_without_the_option(rt: HostRuntime) -> Result<(), Fail> {
+fn refused_without_the_option(rt: HostRuntime) {
     for source in &["f''", "f'}'", "f'\\x4'", "F'{x}'", "rf'{a b}'"] {
-        refuses(&rt, rt.alloc(), "", *source, FORMATTED)?;
+        refuses(&rt, rt.alloc(), "", *source, FORMATTED);
     }
     refuses(
         &rt,
@@ -137,11 +133,11 @@ fn refused_without_the_option(rt: HostRuntime) -> Result<(), Fail> {
         "",
         "1j + f''",
         "1:0: error: complex literal",
-    )
+    );
 }
 
 #[test]
-fn trees_in_other_styles(rt: HostRuntime) -> Result<(), Fail> {
+fn trees_in_other_styles(rt: HostRuntime) {
     let rows = &[
         (
             "dump --whole --bare",
@@ -171,7 +167,7 @@ fn trees_in_other_styles(rt: HostRuntime) -> Result<(), Fail> {
             "",
         ),
     ];
-    does_all(&rt, rt.alloc(), rows)
+    does_all(&rt, rt.alloc(), rows);
 }
 
 /// What ends a field, its f-string and the line.
@@ -183,7 +179,7 @@ const DEEP: &str = "1:0: error: too deep";
 /// The nodes of an f-string and the fields in one another are counted as expressions, and the
 /// brackets of a field for themselves.
 #[test]
-fn limits(rt: HostRuntime) -> Result<(), Fail> {
+fn limits(rt: HostRuntime) {
     let rows: &[(&[Piece<'_>], &str)] = &[
         (&[("f'{", 1), ("-", 497), ("x", 1), END], ""),
         (&[("f'{", 1), ("-", 498), ("x", 1), END], DEEP),
@@ -218,6 +214,6 @@ fn limits(rt: HostRuntime) -> Result<(), Fail> {
         ),
         (&[("(", 1), ("f'{x}' ", 1000), (")\n", 1)], ""),
     ];
-    meets_all(&rt, rt.alloc(), "dump --whole", rows)?;
-    meets_all(&rt, rt.alloc(), "unparse --whole", rows)
+    meets_all(&rt, rt.alloc(), "dump --whole", rows);
+    meets_all(&rt, rt.alloc(), "unparse --whole", rows);
 }

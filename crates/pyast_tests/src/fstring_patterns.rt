@@ -3,10 +3,9 @@
 use crate::dump_limits::{Piece, meets_all};
 use crate::matches::{CASE, gives, refuses};
 use crate::unparses::writes;
-use std::test::Fail;
 
 #[test]
-fn trees(rt: HostRuntime) -> Result<(), Fail> {
+fn trees(rt: HostRuntime) {
     let rows = &[
         (
             "match x:\n case f'{y}' | {f'a': z}: pass\n",
@@ -35,13 +34,12 @@ fn trees(rt: HostRuntime) -> Result<(), Fail> {
         ),
     ];
     for (source, tree) in rows {
-        gives(&rt, rt.alloc(), source, tree)?;
+        gives(&rt, rt.alloc(), source, tree);
     }
-    Ok(())
 }
 
 #[test]
-fn texts(rt: HostRuntime) -> Result<(), Fail> {
+fn texts(rt: HostRuntime) {
     let rows = &[
         (
             "match x:\n case f'{y}' | {f'a': z}: pass\n",
@@ -65,8 +63,8 @@ fn texts(rt: HostRuntime) -> Result<(), Fail> {
         ),
     ];
     for (source, text) in rows {
-        writes(&rt, rt.alloc(), "unparse --whole", source, text)?;
-        writes(&rt, rt.alloc(), "unparse --whole --py312", source, text)?;
+        writes(&rt, rt.alloc(), "unparse --whole", source, text);
+        writes(&rt, rt.alloc(), "unparse --whole --py312", source, text);
     }
     writes(
         &rt,
@@ -74,12 +72,12 @@ fn texts(rt: HostRuntime) -> Result<(), Fail> {
         "unparse --whole --py312",
         "match type:\n case type: type X = f'{type}'\n",
         "match type:\n    case type:\n        type X = f'{type}'",
-    )
+    );
 }
 
 /// An f-string is no number, has no parts, and stands in no brackets as a key.
 #[test]
-fn patterns_without_a_form(rt: HostRuntime) -> Result<(), Fail> {
+fn patterns_without_a_form(rt: HostRuntime) {
     for pattern in &[
         "{(f''): a}",
         "f'' b''",
@@ -92,15 +90,16 @@ fn patterns_without_a_form(rt: HostRuntime) -> Result<(), Fail> {
         "*f''",
         "A(f''=1)",
     ] {
-        let source = format!(in rt.alloc(); "match x:\n case {pattern}: pass\n")?;
+        let source = format!(in rt.alloc(); "match x:\n case {pattern}: pass\n").expect(
+            &rt, "memory",
+        );
         refuses(
             &rt,
             rt.alloc(),
             source.as_str(),
             "2:1: error: invalid syntax",
-        )?;
+        );
     }
-    Ok(())
 }
 
 /// What begins an f-string and its field.
@@ -113,7 +112,7 @@ const END: Piece<'_> = ("}': pass\n", 1);
 const MALFORMED: &str = "2:6: error: f-string";
 
 #[test]
-fn limits_of_patterns(rt: HostRuntime) -> Result<(), Fail> {
+fn limits_of_patterns(rt: HostRuntime) {
     let rows: &[(&[Piece<'_>], &str)] = &[
         (&[CASE, START, ("-", 496), ("y", 1), END], ""),
         (
@@ -128,5 +127,5 @@ fn limits_of_patterns(rt: HostRuntime) -> Result<(), Fail> {
         (&[CASE, ("f'", 1), END], MALFORMED),
         (&[CASE, ("f'''{\"it's\"}''': pass\n", 1)], MALFORMED),
     ];
-    meets_all(&rt, rt.alloc(), "dump --whole", rows)
+    meets_all(&rt, rt.alloc(), "dump --whole", rows);
 }

@@ -2,11 +2,10 @@
 //! nested f-strings, and literals side by side. The trees are those of Python 3.11.
 
 use crate::numbers::{FORMATTED, reads_all};
-use std::test::Fail;
 
 /// In a field stands what may stand in brackets.
 #[test]
-fn expressions(rt: HostRuntime) -> Result<(), Fail> {
+fn expressions(rt: HostRuntime) {
     let rows = &[
         (
             "f'{(x:=5)}'",
@@ -82,12 +81,12 @@ fn expressions(rt: HostRuntime) -> Result<(), Fail> {
             FORMATTED,
         ),
     ];
-    reads_all(&rt, rt.alloc(), rows)
+    reads_all(&rt, rt.alloc(), rows);
 }
 
 /// Within a field all literals are written in the other quotes.
 #[test]
-fn strings_within(rt: HostRuntime) -> Result<(), Fail> {
+fn strings_within(rt: HostRuntime) {
     let rows = &[
         (
             "f'{x[\"a\"]}'",
@@ -135,11 +134,11 @@ fn strings_within(rt: HostRuntime) -> Result<(), Fail> {
             FORMATTED,
         ),
     ];
-    reads_all(&rt, rt.alloc(), rows)
+    reads_all(&rt, rt.alloc(), rows);
 }
 
 #[test]
-fn nested(rt: HostRuntime) -> Result<(), Fail> {
+fn nested(rt: HostRuntime) {
     let rows = &[
         (
             "f'{f\"{x}\"}'",
@@ -172,12 +171,12 @@ fn nested(rt: HostRuntime) -> Result<(), Fail> {
             FORMATTED,
         ),
     ];
-    reads_all(&rt, rt.alloc(), rows)
+    reads_all(&rt, rt.alloc(), rows);
 }
 
 /// Texts are joined; the kind is that of the first literal.
 #[test]
-fn side_by_side(rt: HostRuntime) -> Result<(), Fail> {
+fn side_by_side(rt: HostRuntime) {
     let rows = &[
         (
             "u'a' f'{x}b'",
@@ -245,5 +244,5 @@ fn side_by_side(rt: HostRuntime) -> Result<(), Fail> {
             "1:6: error: f-string",
         ),
     ];
-    reads_all(&rt, rt.alloc(), rows)
+    reads_all(&rt, rt.alloc(), rows);
 }

@@ -2,11 +2,10 @@
 //! The trees are those of Python 3.11.
 
 use crate::numbers::{FORMATTED, reads_all};
-use std::test::Fail;
 
 /// A pair of braces stands for one; a backslash before a brace stands for itself.
 #[test]
-fn texts(rt: HostRuntime) -> Result<(), Fail> {
+fn texts(rt: HostRuntime) {
     let rows = &[
         ("f''", "JoinedStr(values=[])", "f''", FORMATTED),
         (
@@ -81,11 +80,11 @@ fn texts(rt: HostRuntime) -> Result<(), Fail> {
             FORMATTED,
         ),
     ];
-    reads_all(&rt, rt.alloc(), rows)
+    reads_all(&rt, rt.alloc(), rows);
 }
 
 #[test]
-fn fields(rt: HostRuntime) -> Result<(), Fail> {
+fn fields(rt: HostRuntime) {
     let rows = &[
         (
             "f'{x}'",
@@ -123,12 +122,12 @@ fn fields(rt: HostRuntime) -> Result<(), Fail> {
             FORMATTED,
         ),
     ];
-    reads_all(&rt, rt.alloc(), rows)
+    reads_all(&rt, rt.alloc(), rows);
 }
 
 /// A format spec has fields, and they have specs of texts.
 #[test]
-fn format_specs(rt: HostRuntime) -> Result<(), Fail> {
+fn format_specs(rt: HostRuntime) {
     let rows = &[
         (
             "f'{x:}'",
@@ -177,12 +176,12 @@ fn format_specs(rt: HostRuntime) -> Result<(), Fail> {
             FORMATTED,
         ),
     ];
-    reads_all(&rt, rt.alloc(), rows)
+    reads_all(&rt, rt.alloc(), rows);
 }
 
 /// `=` keeps the text before it, with all blanks, and shows the value by its repr where nothing else is said.
 #[test]
-fn text_that_is_kept(rt: HostRuntime) -> Result<(), Fail> {
+fn text_that_is_kept(rt: HostRuntime) {
     let rows = &[
         (
             "f'{x=}'",
@@ -231,12 +230,12 @@ fn text_that_is_kept(rt: HostRuntime) -> Result<(), Fail> {
             FORMATTED,
         ),
     ];
-    reads_all(&rt, rt.alloc(), rows)
+    reads_all(&rt, rt.alloc(), rows);
 }
 
 /// `!=` and the like end no expression.
 #[test]
-fn comparisons(rt: HostRuntime) -> Result<(), Fail> {
+fn comparisons(rt: HostRuntime) {
     let rows = &[
         (
             "f'{x==y}'",
@@ -260,5 +259,5 @@ fn comparisons(rt: HostRuntime) -> Result<(), Fail> {
             FORMATTED,
         ),
     ];
-    reads_all(&rt, rt.alloc(), rows)
+    reads_all(&rt, rt.alloc(), rows);
 }

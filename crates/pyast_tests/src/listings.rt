@@ -1,16 +1,17 @@
 //! Worked listings: what `tokens` writes of a source, and the fault that it tells.
 
 use crate::expected::{
-    Left, leaves, lists_all, lists_as, lists_bytes_as, reader, same_bytes, same_status, writer,
+    Left, leaves, lists_all, lists_as, lists_bytes_as, push, reader, same_bytes, same_status,
+    writer,
 };
 use pyast_command::{Command, Tokens, run};
 use std::alloc::Global;
-use std::test::Fail;
+use std::process::Abort;
 
 /// Each is a source, its encoding as it is shown (empty where nothing is written), its entries but
 /// for that of the encoding, and the fault reported after them, if one is.
 #[test]
-fn lists(rt: HostRuntime) -> Result<(), Fail> {
+fn lists(rt: HostRuntime) {
     let rows = &[
         ("", "'utf-8'", "1,0-1,0 ENDMARKER ''", ""),
         (
@@ -294,28 +295,27 @@ fn lists(rt: HostRuntime) -> Result<(), Fail> {
             "1:0: error: byte order mark with another encoding",
         ),
     ];
-    lists_all(&rt, rt.alloc(), rows)
+    lists_all(&rt, rt.alloc(), rows);
 }
 
 /// Appends the entry of a bracket in the first row, and an LF.
-fn push_bracket(alloc: Global, entries: &mut String, column: u16) -> Result<(), Fail> {
+fn push_bracket(rt: &impl Abort, alloc: Global, entries: &mut String, column: u16) {
     let end = u32::from(column) + 1;
-    let entry = format!(in alloc; "1,{column}-1,{end} OP '('\n")?;
-    entries.push_str(entry.as_str())?;
-    Ok(())
+    let entry = format!(in alloc; "1,{column}-1,{end} OP '('\n").expect(rt, "memory");
+    push(rt, entries, entry.as_str());
 }
 
 /// A listing has no limit on brackets.
 #[test]
-fn lists_many_brackets(rt: HostRuntime) -> Result<(), Fail> {
+fn lists_many_brackets(rt: HostRuntime) {
     let mut source = String::new(rt.alloc());
     let mut entries = String::new(rt.alloc());
     for column in 0u16..5000 {
-        source.push('(')?;
-        push_bracket(rt.alloc(), &mut entries, column)?;
+        push(&rt, &mut source, "(");
+        push_bracket(&rt, rt.alloc(), &mut entries, column);
     }
-    source.push('\n')?;
-    entries.push_str("1,5000-1,5001 NL '\\n'")?;
+    push(&rt, &mut source, "\n");
+    push(&rt, &mut entries, "1,5000-1,5001 NL '\\n'");
     lists_as(
         &rt,
         rt.alloc(),
@@ -323,11 +323,11 @@ fn lists_many_brackets(rt: HostRuntime) -> Result<(), Fail> {
         "'utf-8'",
         entries.as_str(),
         "2:0: error: EOF in multi-line statement",
-    )
+    );
 }
 
 #[test]
-fn lists_the_lines_before_a_bad_byte(rt: HostRuntime) -> Result<(), Fail> {
+fn lists_the_lines_before_a_bad_byte(rt: HostRuntime) {
     lists_bytes_as(
         &rt,
         rt.alloc(),
@@ -336,11 +336,11 @@ fn lists_the_lines_before_a_bad_byte(rt: HostRuntime) -> Result<(), Fail> {
         "1,0-1,1 NAME 'a'\n\
          1,1-1,2 NEWLINE '\\n'",
         "2:1: error: invalid UTF-8",
-    )
+    );
 }
 
 #[test]
-fn shows_exact_names(rt: HostRuntime) -> Result<(), Fail> {
+fn shows_exact_names(rt: HostRuntime) {
     let command = Command::Tokens(Tokens {
         exact: true,
         count: None,
@@ -366,11 +366,10 @@ fn shows_exact_names(rt: HostRuntime) -> Result<(), Fail> {
         &left,
         "//=",
     );
-    Ok(())
 }
 
 #[test]
-fn names_the_file_in_a_fault(rt: HostRuntime) -> Result<(), Fail> {
+fn names_the_file_in_a_fault(rt: HostRuntime) {
     let mut reader = reader(b"if (\n  $\n");
     let mut output = writer(rt.alloc());
     let mut faults = writer(rt.alloc());
@@ -378,11 +377,10 @@ fn names_the_file_in_a_fault(rt: HostRuntime) -> Result<(), Fail> {
         exact: false,
         count: None,
         resume: None,
-        file: Some(String::from_str(rt.alloc(), "dir/a b.py")?),
+        file: Some(String::from_str(rt.alloc(), "dir/a b.py").expect(&rt, "memory")),
     });
     let status = run(rt.alloc(), &command, &mut reader, &mut output, &mut faults);
     let wanted = "dir/a b.py:2:2: error: unexpected character\n";
     same_bytes(&rt, faults.taken(), wanted.as_bytes(), "a file");
     same_status(&rt, status, 1, "a file");
-    Ok(())
 }

@@ -4,35 +4,27 @@
 
 use crate::dump_limits::{Piece, meets, meets_all};
 use crate::dumps::{does, does_all};
+use crate::expected::{push, push_times};
 use crate::unparses::writes;
 use std::alloc::Global;
 use std::process::Abort;
-use std::test::Fail;
 
 /// Asserts what `dump` reports of a source with `--whole`, in both versions of Python.
-pub(crate) fn refuses(
-    rt: &impl Abort,
-    alloc: Global,
-    source: &str,
-    fault: &str,
-) -> Result<(), Fail> {
-    let told = format!(in alloc; "<stdin>:{fault}")?;
-    for words in ["dump --whole", "dump --whole --py312"] {
-        does(rt, alloc, &(words, source, "", 1, told.as_str()))?;
-    }
-    Ok(())
+pub(crate) fn refuses(rt: &impl Abort, alloc: Global, source: &str, fault: &str) {
+    let told = format!(in alloc; "<stdin>:{fault}").expect(rt, "memory");
+    let told = told.as_str();
+    does(rt, alloc, &("dump --whole", source, "", 1, told));
+    does(rt, alloc, &("dump --whole --py312", source, "", 1, told));
 }
 
 /// Asserts that `dump` writes a tree of a source with `--whole`, in both versions of Python.
-pub(crate) fn gives(rt: &impl Abort, alloc: Global, source: &str, tree: &str) -> Result<(), Fail> {
-    for words in ["dump --whole", "dump --whole --py312"] {
-        does(rt, alloc, &(words, source, tree, 0, ""))?;
-    }
-    Ok(())
+pub(crate) fn gives(rt: &impl Abort, alloc: Global, source: &str, tree: &str) {
+    does(rt, alloc, &("dump --whole", source, tree, 0, ""));
+    does(rt, alloc, &("dump --whole --py312", source, tree, 0, ""));
 }
 
 #[test]
-fn patterns_without_a_form(rt: HostRuntime) -> Result<(), Fail> {
+fn patterns_without_a_form(rt: HostRuntime) {
     let patterns = [
         "*a",
         "(*a)",
@@ -67,19 +59,20 @@ fn patterns_without_a_form(rt: HostRuntime) -> Result<(), Fail> {
         "1 | 2j - 1",
     ];
     for pattern in &patterns {
-        let source = format!(in rt.alloc(); "match x:\n case {pattern}: pass\n")?;
+        let source = format!(in rt.alloc(); "match x:\n case {pattern}: pass\n").expect(
+            &rt, "memory",
+        );
         refuses(
             &rt,
             rt.alloc(),
             source.as_str(),
             "2:1: error: invalid syntax",
-        )?;
+        );
     }
-    Ok(())
 }
 
 #[test]
-fn lines_at_their_places(rt: HostRuntime) -> Result<(), Fail> {
+fn lines_at_their_places(rt: HostRuntime) {
     let rows = &[
         ("match:\n case 1: pass\n", "1:0: error: invalid syntax"),
         ("match * a:\n case 1: pass\n", "1:0: error: invalid syntax"),
@@ -141,13 +134,12 @@ fn lines_at_their_places(rt: HostRuntime) -> Result<(), Fail> {
         ),
     ];
     for (source, fault) in rows {
-        refuses(&rt, rt.alloc(), source, fault)?;
+        refuses(&rt, rt.alloc(), source, fault);
     }
-    Ok(())
 }
 
 #[test]
-fn refused_without_the_option(rt: HostRuntime) -> Result<(), Fail> {
+fn refused_without_the_option(rt: HostRuntime) {
     let rows = &[
         (
             "dump",
@@ -185,11 +177,11 @@ fn refused_without_the_option(rt: HostRuntime) -> Result<(), Fail> {
             "<stdin>:2:6: error: f-string",
         ),
     ];
-    does_all(&rt, rt.alloc(), rows)
+    does_all(&rt, rt.alloc(), rows);
 }
 
 #[test]
-fn trees(rt: HostRuntime) -> Result<(), Fail> {
+fn trees(rt: HostRuntime) {
     let rows = &[
         (
             "match x:\n case 1: pass\n",
@@ -294,13 +286,12 @@ fn trees(rt: HostRuntime) -> Result<(), Fail> {
         ),
     ];
     for (source, tree) in rows {
-        gives(&rt, rt.alloc(), source, tree)?;
+        gives(&rt, rt.alloc(), source, tree);
     }
-    Ok(())
 }
 
 #[test]
-fn trees_in_other_styles(rt: HostRuntime) -> Result<(), Fail> {
+fn trees_in_other_styles(rt: HostRuntime) {
     let rows = &[
         (
             "dump --whole --bare",
@@ -331,11 +322,11 @@ fn trees_in_other_styles(rt: HostRuntime) -> Result<(), Fail> {
             "",
         ),
     ];
-    does_all(&rt, rt.alloc(), rows)
+    does_all(&rt, rt.alloc(), rows);
 }
 
 #[test]
-fn texts(rt: HostRuntime) -> Result<(), Fail> {
+fn texts(rt: HostRuntime) {
     let rows = &[
         (
             "match ((a := 1), b):\n case (): pass\n",
@@ -396,8 +387,8 @@ fn texts(rt: HostRuntime) -> Result<(), Fail> {
         ),
     ];
     for (source, text) in rows {
-        writes(&rt, rt.alloc(), "unparse --whole", source, text)?;
-        writes(&rt, rt.alloc(), "unparse --whole --py312", source, text)?;
+        writes(&rt, rt.alloc(), "unparse --whole", source, text);
+        writes(&rt, rt.alloc(), "unparse --whole --py312", source, text);
     }
     writes(
         &rt,
@@ -405,14 +396,14 @@ fn texts(rt: HostRuntime) -> Result<(), Fail> {
         "unparse --whole --py312",
         "match type:\n case type: type X = type\n",
         "match type:\n    case type:\n        type X = type",
-    )
+    );
 }
 
 /// `match x:`, and a line that begins as a case does.
 pub(crate) const CASE: Piece<'_> = ("match x:\n case ", 1);
 
 #[test]
-fn limits_of_patterns(rt: HostRuntime) -> Result<(), Fail> {
+fn limits_of_patterns(rt: HostRuntime) {
     let end = (": pass\n", 1);
     let rows: &[(&[Piece<'_>], &str)] = &[
         (&[CASE, ("[", 499), ("_", 1), ("]", 499), end], ""),
@@ -433,45 +424,37 @@ fn limits_of_patterns(rt: HostRuntime) -> Result<(), Fail> {
             "2:1: error: too deep",
         ),
     ];
-    meets_all(&rt, rt.alloc(), "dump --whole", rows)
-}
-
-/// Appends so many blanks.
-fn push_blanks(text: &mut String, count: usize) -> Result<(), Fail> {
-    for _ in 0..count {
-        text.push(' ')?;
-    }
-    Ok(())
+    meets_all(&rt, rt.alloc(), "dump --whole", rows);
 }
 
 /// So many lines, `match a:` and `case _:` in turn, each a blank deeper, and a last line after them.
-fn nested(alloc: Global, lines: usize, last: &str) -> Result<String, Fail> {
+fn nested(rt: &impl Abort, alloc: Global, lines: usize, last: &str) -> String {
     let mut text = String::new(alloc);
     for line in 0..lines {
-        push_blanks(&mut text, line)?;
+        push_times(rt, &mut text, " ", line);
         let header = if line % 2 == 0 {
             "match a:\n"
         } else {
             "case _:\n"
         };
-        text.push_str(header)?;
+        push(rt, &mut text, header);
     }
-    push_blanks(&mut text, lines)?;
-    text.push_str(last)?;
-    Ok(text)
+    push_times(rt, &mut text, " ", lines);
+    push(rt, &mut text, last);
+    text
 }
 
 #[test]
-fn limits_of_statements(rt: HostRuntime) -> Result<(), Fail> {
+fn limits_of_statements(rt: HostRuntime) {
     let words = "dump --whole";
-    let nested_499 = nested(rt.alloc(), 998, "pass\n")?;
-    meets(&rt, rt.alloc(), words, nested_499.as_str(), "")?;
-    let nested_500 = nested(rt.alloc(), 1000, "pass\n")?;
+    let nested_499 = nested(&rt, rt.alloc(), 998, "pass\n");
+    meets(&rt, rt.alloc(), words, nested_499.as_str(), "");
+    let nested_500 = nested(&rt, rt.alloc(), 1000, "pass\n");
     let fault = "1001:1000: error: too deep";
-    meets(&rt, rt.alloc(), words, nested_500.as_str(), fault)?;
-    let mut inline = nested(rt.alloc(), 998, "match a:\n")?;
-    push_blanks(&mut inline, 999)?;
-    inline.push_str("case _: pass\n")?;
+    meets(&rt, rt.alloc(), words, nested_500.as_str(), fault);
+    let mut inline = nested(&rt, rt.alloc(), 998, "match a:\n");
+    push_times(&rt, &mut inline, " ", 999);
+    push(&rt, &mut inline, "case _: pass\n");
     let fault = "1000:999: error: too deep";
-    meets(&rt, rt.alloc(), words, inline.as_str(), fault)
+    meets(&rt, rt.alloc(), words, inline.as_str(), fault);
 }

@@ -6,7 +6,6 @@ use crate::dumps::{does, does_all};
 use crate::unparses::writes;
 use std::alloc::Global;
 use std::process::Abort;
-use std::test::Fail;
 
 /// A source of one expression, less its line end; the expression in a dump; the text of the source;
 /// and the fault that is reported of it without `--whole`, empty where there is none.
@@ -22,77 +21,72 @@ const COMPLEX: &str = "1:0: error: complex literal";
 pub(crate) const FORMATTED: &str = "1:0: error: f-string";
 
 /// The dump of a module that is one expression.
-fn module_of(alloc: Global, expression: &str) -> Result<String, Fail> {
-    Ok(format!(in alloc; "Module(body=[Expr(value={expression})], type_ignores=[])")?)
+fn module_of(rt: &impl Abort, alloc: Global, expression: &str) -> String {
+    format!(in alloc; "Module(body=[Expr(value={expression})], type_ignores=[])").expect(
+        rt, "memory",
+    )
 }
 
 /// The line of a fault of the standard input.
-fn fault_of(alloc: Global, fault: &str) -> Result<String, Fail> {
-    Ok(format!(in alloc; "<stdin>:{fault}")?)
+fn fault_of(rt: &impl Abort, alloc: Global, fault: &str) -> String {
+    format!(in alloc; "<stdin>:{fault}").expect(rt, "memory")
 }
 
 /// Asserts that both commands accept the source of a row by these options, and what they write.
-fn accepts(rt: &impl Abort, alloc: Global, options: &str, row: &Row<'_>) -> Result<(), Fail> {
+fn accepts(rt: &impl Abort, alloc: Global, options: &str, row: &Row<'_>) {
     let (source, expression, text, _) = row;
-    let line = format!(in alloc; "{source}\n")?;
-    let dump = module_of(alloc, expression)?;
-    let dumps = format!(in alloc; "dump {options}")?;
+    let line = format!(in alloc; "{source}\n").expect(rt, "memory");
+    let dump = module_of(rt, alloc, expression);
+    let dumps = format!(in alloc; "dump {options}").expect(rt, "memory");
     does(
         rt,
         alloc,
         &(dumps.as_str(), line.as_str(), dump.as_str(), 0, ""),
-    )?;
-    let unparses = format!(in alloc; "unparse {options}")?;
-    writes(rt, alloc, unparses.as_str(), line.as_str(), text)
+    );
+    let unparses = format!(in alloc; "unparse {options}").expect(rt, "memory");
+    writes(rt, alloc, unparses.as_str(), line.as_str(), text);
 }
 
 /// Asserts that both commands refuse a source by these options, and what they tell.
-pub(crate) fn refuses(
-    rt: &impl Abort,
-    alloc: Global,
-    options: &str,
-    source: &str,
-    fault: &str,
-) -> Result<(), Fail> {
-    let line = format!(in alloc; "{source}\n")?;
-    let told = fault_of(alloc, fault)?;
-    let dumps = format!(in alloc; "dump {options}")?;
+pub(crate) fn refuses(rt: &impl Abort, alloc: Global, options: &str, source: &str, fault: &str) {
+    let line = format!(in alloc; "{source}\n").expect(rt, "memory");
+    let told = fault_of(rt, alloc, fault);
+    let dumps = format!(in alloc; "dump {options}").expect(rt, "memory");
     does(
         rt,
         alloc,
         &(dumps.as_str(), line.as_str(), "", 1, told.as_str()),
-    )?;
-    let unparses = format!(in alloc; "unparse {options}")?;
+    );
+    let unparses = format!(in alloc; "unparse {options}").expect(rt, "memory");
     does(
         rt,
         alloc,
         &(unparses.as_str(), line.as_str(), "", 1, told.as_str()),
-    )
+    );
 }
 
 /// Asserts a row: by `--whole`, in both versions of Python, its tree and its text; without it the
 /// fault, or the same where there is none.
-fn reads(rt: &impl Abort, alloc: Global, row: &Row<'_>) -> Result<(), Fail> {
+fn reads(rt: &impl Abort, alloc: Global, row: &Row<'_>) {
     let (source, _, _, fault) = row;
-    accepts(rt, alloc, "--whole", row)?;
-    accepts(rt, alloc, "--py312 --whole", row)?;
+    accepts(rt, alloc, "--whole", row);
+    accepts(rt, alloc, "--py312 --whole", row);
     if fault.is_empty() {
         return accepts(rt, alloc, "", row);
     }
-    refuses(rt, alloc, "", source, fault)?;
-    refuses(rt, alloc, "--py312", source, fault)
+    refuses(rt, alloc, "", source, fault);
+    refuses(rt, alloc, "--py312", source, fault);
 }
 
 /// Asserts that of each row.
-pub(crate) fn reads_all(rt: &impl Abort, alloc: Global, rows: &[Row<'_>]) -> Result<(), Fail> {
+pub(crate) fn reads_all(rt: &impl Abort, alloc: Global, rows: &[Row<'_>]) {
     for row in rows {
-        reads(rt, alloc, row)?;
+        reads(rt, alloc, row);
     }
-    Ok(())
 }
 
 #[test]
-fn floats(rt: HostRuntime) -> Result<(), Fail> {
+fn floats(rt: HostRuntime) {
     let rows = &[
         ("1.5", "Constant(value=1.5)", "1.5", FLOAT),
         ("1.", "Constant(value=1.0)", "1.0", FLOAT),
@@ -146,11 +140,11 @@ fn floats(rt: HostRuntime) -> Result<(), Fail> {
             FLOAT,
         ),
     ];
-    reads_all(&rt, rt.alloc(), rows)
+    reads_all(&rt, rt.alloc(), rows);
 }
 
 #[test]
-fn imaginary_numbers(rt: HostRuntime) -> Result<(), Fail> {
+fn imaginary_numbers(rt: HostRuntime) {
     let rows = &[
         ("2j", "Constant(value=2j)", "2j", COMPLEX),
         ("2.50J", "Constant(value=2.5j)", "2.5j", COMPLEX),
@@ -158,12 +152,12 @@ fn imaginary_numbers(rt: HostRuntime) -> Result<(), Fail> {
         ("0j", "Constant(value=0j)", "0j", COMPLEX),
         ("1e16j", "Constant(value=1e+16j)", "1e+16j", COMPLEX),
     ];
-    reads_all(&rt, rt.alloc(), rows)
+    reads_all(&rt, rt.alloc(), rows);
 }
 
 /// A sign is an operator, and a number has a blank before the point of an attribute.
 #[test]
-fn numbers_in_expressions(rt: HostRuntime) -> Result<(), Fail> {
+fn numbers_in_expressions(rt: HostRuntime) {
     let rows = &[
         (
             "-1.5",
@@ -197,26 +191,26 @@ fn numbers_in_expressions(rt: HostRuntime) -> Result<(), Fail> {
         ),
         ("000", "Constant(value=0)", "0", ""),
     ];
-    reads_all(&rt, rt.alloc(), rows)
+    reads_all(&rt, rt.alloc(), rows);
 }
 
 /// A whole number has at most 4,300 digits.
 #[test]
-fn large_numbers(rt: HostRuntime) -> Result<(), Fail> {
+fn large_numbers(rt: HostRuntime) {
     let alloc = rt.alloc();
     let fault = "1:0: error: integer too large";
-    let largest = joined(alloc, &[("1", 1), ("0", 4299)])?;
-    let constant = format!(in alloc; "Constant(value={largest})")?;
+    let largest = joined(&rt, alloc, &[("1", 1), ("0", 4299)]);
+    let constant = format!(in alloc; "Constant(value={largest})").expect(&rt, "memory");
     let row = (largest.as_str(), constant.as_str(), largest.as_str(), fault);
-    reads(&rt, alloc, &row)?;
-    let past = joined(alloc, &[("1", 1), ("0", 4300)])?;
-    refuses(&rt, alloc, "", past.as_str(), fault)?;
-    refuses(&rt, alloc, "--whole", past.as_str(), fault)
+    reads(&rt, alloc, &row);
+    let past = joined(&rt, alloc, &[("1", 1), ("0", 4300)]);
+    refuses(&rt, alloc, "", past.as_str(), fault);
+    refuses(&rt, alloc, "--whole", past.as_str(), fault);
 }
 
 /// The versions of Python are free of the extent.
 #[test]
-fn numbers_of_types(rt: HostRuntime) -> Result<(), Fail> {
+fn numbers_of_types(rt: HostRuntime) {
     let source = "type X = 1.5\n";
     let rows = &[
         (
@@ -243,19 +237,18 @@ fn numbers_of_types(rt: HostRuntime) -> Result<(), Fail> {
             "<stdin>:1:9: error: float literal",
         ),
     ];
-    does_all(&rt, rt.alloc(), rows)
+    does_all(&rt, rt.alloc(), rows);
 }
 
 /// What is refused with `--whole` too.
 #[test]
-fn what_is_left_out(rt: HostRuntime) -> Result<(), Fail> {
+fn what_is_left_out(rt: HostRuntime) {
     for (source, fault) in &[
         ("x = f'}'", "1:4: error: f-string"),
         ("'\\N{DASH}'", "1:0: error: named escape"),
         ("1.5 + '\\x4'", "1:6: error: bad escape"),
         ("if 1.5: 2j\n  x", "2:2: error: unexpected indent"),
     ] {
-        refuses(&rt, rt.alloc(), "--whole", source, fault)?;
+        refuses(&rt, rt.alloc(), "--whole", source, fault);
     }
-    Ok(())
 }

@@ -2,41 +2,28 @@
 
 use crate::dump_failures::{keeps_its_status_anywhere, tells_failed_reads};
 use crate::dump_limits::joined;
-use crate::dumps::{command, does, does_all, line};
-use crate::expected::stops_anywhere;
+use crate::dumps::{command, does, does_all};
+use crate::expected::{line, stops_anywhere};
 use std::alloc::Global;
 use std::process::Abort;
-use std::test::Fail;
 
 /// Asserts that words write for a source a text, given less its last line feed, and the same
 /// for that text itself.
-pub(crate) fn writes(
-    rt: &impl Abort,
-    alloc: Global,
-    words: &str,
-    source: &str,
-    text: &str,
-) -> Result<(), Fail> {
-    let own = line(alloc, text)?;
-    does(rt, alloc, &(words, source, text, 0, ""))?;
-    does(rt, alloc, &(words, own.as_str(), text, 0, ""))
+pub(crate) fn writes(rt: &impl Abort, alloc: Global, words: &str, source: &str, text: &str) {
+    let own = line(rt, alloc, text);
+    does(rt, alloc, &(words, source, text, 0, ""));
+    does(rt, alloc, &(words, own.as_str(), text, 0, ""));
 }
 
 /// Asserts that of the source and the text of each row.
-fn writes_all(
-    rt: &impl Abort,
-    alloc: Global,
-    words: &str,
-    rows: &[(&str, &str)],
-) -> Result<(), Fail> {
+fn writes_all(rt: &impl Abort, alloc: Global, words: &str, rows: &[(&str, &str)]) {
     for (source, text) in rows {
-        writes(rt, alloc, words, source, text)?;
+        writes(rt, alloc, words, source, text);
     }
-    Ok(())
 }
 
 #[test]
-fn writes_source_text(rt: HostRuntime) -> Result<(), Fail> {
+fn writes_source_text(rt: HostRuntime) {
     let rows = &[
         ("", ""),
         ("x = (a := 1), b\n", "x = (a := 1, b)"),
@@ -73,11 +60,11 @@ fn writes_source_text(rt: HostRuntime) -> Result<(), Fail> {
             "if a:\n    b\nelif c:\n    d",
         ),
     ];
-    writes_all(&rt, rt.alloc(), "unparse", rows)
+    writes_all(&rt, rt.alloc(), "unparse", rows);
 }
 
 #[test]
-fn writes_source_text_of_python_3_12(rt: HostRuntime) -> Result<(), Fail> {
+fn writes_source_text_of_python_3_12(rt: HostRuntime) {
     let rows = &[
         (
             "type X[T: int, *Ts, **P] = list[T]\n",
@@ -85,19 +72,19 @@ fn writes_source_text_of_python_3_12(rt: HostRuntime) -> Result<(), Fail> {
         ),
         ("def f[T,](a): return a\n", "def f[T](a):\n    return a"),
     ];
-    writes_all(&rt, rt.alloc(), "unparse --py312", rows)
+    writes_all(&rt, rt.alloc(), "unparse --py312", rows);
 }
 
 /// Brackets that the tree doesn't have are left out.
 #[test]
-fn writes_what_stands_in_many_brackets(rt: HostRuntime) -> Result<(), Fail> {
-    let source = joined(rt.alloc(), &[("(", 600), ("x", 1), (")", 600)])?;
-    writes(&rt, rt.alloc(), "unparse", source.as_str(), "x")
+fn writes_what_stands_in_many_brackets(rt: HostRuntime) {
+    let source = joined(&rt, rt.alloc(), &[("(", 600), ("x", 1), (")", 600)]);
+    writes(&rt, rt.alloc(), "unparse", source.as_str(), "x");
 }
 
 /// Nothing is written of a source that is refused.
 #[test]
-fn tells_why_a_source_has_no_text(rt: HostRuntime) -> Result<(), Fail> {
+fn tells_why_a_source_has_no_text(rt: HostRuntime) {
     let rows = &[
         (
             "unparse",
@@ -135,25 +122,24 @@ fn tells_why_a_source_has_no_text(rt: HostRuntime) -> Result<(), Fail> {
             "<stdin>:1:0: error: invalid syntax",
         ),
     ];
-    does_all(&rt, rt.alloc(), rows)
+    does_all(&rt, rt.alloc(), rows);
 }
 
 /// A failed read is reported alone, before a fault of the encoding too; nothing is written.
 #[test]
-fn tells_a_failed_read_in_place_of_a_text(rt: HostRuntime) -> Result<(), Fail> {
-    tells_failed_reads(&rt, rt.alloc(), "unparse")
+fn tells_a_failed_read_in_place_of_a_text(rt: HostRuntime) {
+    tells_failed_reads(&rt, rt.alloc(), "unparse");
 }
 
 /// What the writer took is a front of the text.
 #[test]
-fn stops_within_a_text_where_the_writer_fails(rt: HostRuntime) -> Result<(), Fail> {
-    let command = command(rt.alloc(), "unparse")?;
+fn stops_within_a_text_where_the_writer_fails(rt: HostRuntime) {
+    let command = command(&rt, rt.alloc(), "unparse");
     stops_anywhere(&rt, rt.alloc(), &command, b"if a: b\n", b"if a:\n    b\n");
-    Ok(())
 }
 
 /// The status stays where the line of the fault of a source without a text can't be written.
 #[test]
-fn keeps_its_status_where_the_line_of_a_fault_fails(rt: HostRuntime) -> Result<(), Fail> {
-    keeps_its_status_anywhere(&rt, rt.alloc(), "unparse")
+fn keeps_its_status_where_the_line_of_a_fault_fails(rt: HostRuntime) {
+    keeps_its_status_anywhere(&rt, rt.alloc(), "unparse");
 }

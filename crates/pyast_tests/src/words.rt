@@ -1,120 +1,121 @@
 //! Which words give which command.
 
-use crate::expected::same_text;
+use crate::dumps::{push_word, push_words, split};
+use crate::expected::{holds, push, same_text};
 use pyast_command::{Command, Dump, Tokens, Unparse, UsageFault};
 use pytree_node::{Extent, Profile, Version};
-use std::alloc::{AllocError, Global};
+use std::alloc::Global;
 use std::process::Abort;
-use std::test::Fail;
 
 /// Appends what `tokens` is asked for.
-fn push_tokens(alloc: Global, given: &mut String, asked: &Tokens) -> Result<(), Fail> {
-    given.push_str("tokens")?;
+fn push_tokens(rt: &impl Abort, alloc: Global, given: &mut String, asked: &Tokens) {
+    push(rt, given, "tokens");
     if asked.exact {
-        given.push_str(" exact")?;
+        push(rt, given, " exact");
     }
     if let Some(count) = asked.count {
-        let shown = format!(in alloc; " count {count}")?;
-        given.push_str(shown.as_str())?;
+        let shown = format!(in alloc; " count {count}").expect(rt, "memory");
+        push(rt, given, shown.as_str());
     }
     if let Some(cursor) = &asked.resume {
-        let text = cursor.to_text()?;
-        given.push_str(" behind ")?;
-        given.push_str(text.as_str())?;
+        let text = cursor.to_text().expect(rt, "memory");
+        push(rt, given, " behind ");
+        push(rt, given, text.as_str());
     }
-    push_file(given, &asked.file)
+    push_file(rt, given, &asked.file);
 }
 
 /// Appends what `dump` is asked for.
-fn push_dump(alloc: Global, given: &mut String, asked: &Dump) -> Result<(), Fail> {
-    given.push_str("dump")?;
+fn push_dump(rt: &impl Abort, alloc: Global, given: &mut String, asked: &Dump) {
+    push(rt, given, "dump");
     if let Some(blanks) = asked.style.indent {
-        let shown = format!(in alloc; " indent {blanks}")?;
-        given.push_str(shown.as_str())?;
+        let shown = format!(in alloc; " indent {blanks}").expect(rt, "memory");
+        push(rt, given, shown.as_str());
     }
     if !asked.style.names {
-        given.push_str(" bare")?;
+        push(rt, given, " bare");
     }
-    push_profile(given, asked.style.profile)?;
-    push_file(given, &asked.file)
+    push_profile(rt, given, asked.style.profile);
+    push_file(rt, given, &asked.file);
 }
 
 /// Appends what `unparse` is asked for.
-fn push_unparse(given: &mut String, asked: &Unparse) -> Result<(), Fail> {
-    given.push_str("unparse")?;
-    push_profile(given, asked.profile)?;
-    push_file(given, &asked.file)
+fn push_unparse(rt: &impl Abort, given: &mut String, asked: &Unparse) {
+    push(rt, given, "unparse");
+    push_profile(rt, given, asked.profile);
+    push_file(rt, given, &asked.file);
 }
 
 /// Appends the version of Python, unless it is 3.11, and the extent, unless it is plain.
-fn push_profile(given: &mut String, profile: Profile) -> Result<(), Fail> {
+fn push_profile(rt: &impl Abort, given: &mut String, profile: Profile) {
     if profile.version == Version::Py312 {
-        given.push_str(" py312")?;
+        push(rt, given, " py312");
     }
     if profile.extent == Extent::Whole {
-        given.push_str(" whole")?;
+        push(rt, given, " whole");
     }
-    Ok(())
 }
 
 /// Appends the file that is named, if one is.
-fn push_file(given: &mut String, file: &Option<String>) -> Result<(), Fail> {
+fn push_file(rt: &impl Abort, given: &mut String, file: &Option<String>) {
     if let Some(file) = file {
-        given.push_str(" of ")?;
-        given.push_str(file.as_str())?;
+        push(rt, given, " of ");
+        push(rt, given, file.as_str());
     }
-    Ok(())
+}
+
+/// Appends what a command is asked for.
+fn push_command(rt: &impl Abort, alloc: Global, given: &mut String, command: &Command) {
+    match command {
+        Command::Tokens(asked) => push_tokens(rt, alloc, given, asked),
+        Command::Dump(asked) => push_dump(rt, alloc, given, asked),
+        Command::Unparse(asked) => push_unparse(rt, given, asked),
+    }
+}
+
+/// What a fault of words is called. Where help or the version is asked for, its text is checked.
+fn name(rt: &impl Abort, fault: &UsageFault) -> &'static str {
+    match fault {
+        UsageFault::BadArguments => "bad",
+        UsageFault::MalformedCursor => "malformed",
+        UsageFault::HelpAsked(text) => {
+            holds(rt, text.as_str().contains("pyast"), "help");
+            "help"
+        }
+        UsageFault::VersionAsked(text) => {
+            same_text(rt, text.as_str(), "pyast 1.0.0\n", "the version");
+            "version"
+        }
+        UsageFault::Memory => "memory",
+    }
 }
 
 /// What words give: `bad`, `malformed`, `help`, `version`, or the command and what it has.
-fn answer(rt: &impl Abort, alloc: Global, words: &[String]) -> Result<String, Fail> {
+fn answer(rt: &impl Abort, alloc: Global, words: &[String]) -> String {
     let mut given = String::new(alloc);
     match Command::read(alloc, words) {
-        Ok(Command::Tokens(asked)) => push_tokens(alloc, &mut given, &asked)?,
-        Ok(Command::Dump(asked)) => push_dump(alloc, &mut given, &asked)?,
-        Ok(Command::Unparse(asked)) => push_unparse(&mut given, &asked)?,
-        Err(UsageFault::BadArguments) => given.push_str("bad")?,
-        Err(UsageFault::MalformedCursor) => given.push_str("malformed")?,
-        Err(UsageFault::HelpAsked(text)) => {
-            assert!(rt; text.as_str().contains("pyast"));
-            given.push_str("help")?;
-        }
-        Err(UsageFault::VersionAsked(text)) => {
-            assert!(rt; text.as_str() == "pyast 1.0.0\n", "is {text}");
-            given.push_str("version")?;
-        }
-        Err(UsageFault::Memory) => given.push_str("memory")?,
+        Ok(command) => push_command(rt, alloc, &mut given, &command),
+        Err(fault) => push(rt, &mut given, name(rt, &fault)),
     }
-    Ok(given)
-}
-
-/// The words that stand in a text with blanks between them.
-fn split(alloc: Global, text: &str) -> Result<Vec<String>, AllocError> {
-    let mut words = Vec::new(alloc);
-    for word in text.split_whitespace() {
-        words.push(String::from_str(alloc, word)?)?;
-    }
-    Ok(words)
+    given
 }
 
 /// Asserts what words give.
-fn gives(rt: &impl Abort, alloc: Global, words: &str, wanted: &str) -> Result<(), Fail> {
-    let owned = split(alloc, words)?;
-    let given = answer(rt, alloc, owned.as_slice())?;
+fn gives(rt: &impl Abort, alloc: Global, words: &str, wanted: &str) {
+    let owned = split(rt, alloc, words);
+    let given = answer(rt, alloc, owned.as_slice());
     same_text(rt, given.as_str(), wanted, words);
-    Ok(())
 }
 
 /// Asserts what the words of each row give.
-fn gives_all(rt: &impl Abort, alloc: Global, rows: &[(&str, &str)]) -> Result<(), Fail> {
+fn gives_all(rt: &impl Abort, alloc: Global, rows: &[(&str, &str)]) {
     for (words, wanted) in rows {
-        gives(rt, alloc, words, wanted)?;
+        gives(rt, alloc, words, wanted);
     }
-    Ok(())
 }
 
 #[test]
-fn reads_words(rt: HostRuntime) -> Result<(), Fail> {
+fn reads_words(rt: HostRuntime) {
     let rows = &[
         ("tokens", "tokens"),
         ("tokens -e", "tokens exact"),
@@ -171,11 +172,11 @@ fn reads_words(rt: HostRuntime) -> Result<(), Fail> {
         ("tokens -h", "help"),
         ("tokens --help", "help"),
     ];
-    gives_all(&rt, rt.alloc(), rows)
+    gives_all(&rt, rt.alloc(), rows);
 }
 
 #[test]
-fn reads_words_of_dump(rt: HostRuntime) -> Result<(), Fail> {
+fn reads_words_of_dump(rt: HostRuntime) {
     let rows = &[
         ("dump", "dump"),
         ("dump a.py", "dump of a.py"),
@@ -218,31 +219,27 @@ fn reads_words_of_dump(rt: HostRuntime) -> Result<(), Fail> {
         ("dump -h", "help"),
         ("dump --help", "help"),
     ];
-    gives_all(&rt, rt.alloc(), rows)
+    gives_all(&rt, rt.alloc(), rows);
 }
 
 /// Asserts that `dump` is taken with this indent, or that these are bad arguments.
-fn reads_indent(rt: &impl Abort, alloc: Global, indent: u8, taken: bool) -> Result<(), Fail> {
-    let words = format!(in alloc; "dump --indent {indent}")?;
-    let wanted = if taken {
-        format!(in alloc; "dump indent {indent}")?
-    } else {
-        String::from_str(alloc, "bad")?
-    };
-    gives(rt, alloc, words.as_str(), wanted.as_str())
+fn reads_indent(rt: &impl Abort, alloc: Global, indent: u8, taken: bool) {
+    let words = format!(in alloc; "dump --indent {indent}").expect(rt, "memory");
+    let read = format!(in alloc; "dump indent {indent}").expect(rt, "memory");
+    let wanted = if taken { read.as_str() } else { "bad" };
+    gives(rt, alloc, words.as_str(), wanted);
 }
 
 /// The indents are the whole numbers to 16.
 #[test]
-fn reads_each_indent(rt: HostRuntime) -> Result<(), Fail> {
+fn reads_each_indent(rt: HostRuntime) {
     for indent in 0u8..=17 {
-        reads_indent(&rt, rt.alloc(), indent, indent <= 16)?;
+        reads_indent(&rt, rt.alloc(), indent, indent <= 16);
     }
-    Ok(())
 }
 
 #[test]
-fn reads_words_of_unparse(rt: HostRuntime) -> Result<(), Fail> {
+fn reads_words_of_unparse(rt: HostRuntime) {
     let rows = &[
         ("unparse", "unparse"),
         ("unparse a.py", "unparse of a.py"),
@@ -267,41 +264,37 @@ fn reads_words_of_unparse(rt: HostRuntime) -> Result<(), Fail> {
         ("unparse -h", "help"),
         ("unparse --help", "help"),
     ];
-    gives_all(&rt, rt.alloc(), rows)
+    gives_all(&rt, rt.alloc(), rows);
 }
 
 /// The words of `tokens` with a cursor between other words.
 fn with_cursor(
+    rt: &impl Abort,
     alloc: Global,
     before: &str,
     cursor: &str,
     behind: &str,
-) -> Result<Vec<String>, AllocError> {
-    let mut words = split(alloc, "tokens")?;
-    words.append(&mut split(alloc, before)?)?;
-    words.push(String::from_str(alloc, "--resume")?)?;
-    words.push(String::from_str(alloc, cursor)?)?;
-    words.append(&mut split(alloc, behind)?)?;
-    Ok(words)
+) -> Vec<String> {
+    let mut words = split(rt, alloc, "tokens");
+    push_words(rt, alloc, &mut words, before);
+    push_word(rt, alloc, &mut words, "--resume");
+    push_word(rt, alloc, &mut words, cursor);
+    push_words(rt, alloc, &mut words, behind);
+    words
 }
 
 /// Asserts what `tokens` with a cursor between other words gives, in each row. A cursor is one
 /// word, though its text has blanks.
-fn gives_all_with_cursors(
-    rt: &impl Abort,
-    alloc: Global,
-    rows: &[(&str, &str, &str, &str)],
-) -> Result<(), Fail> {
+fn gives_all_with_cursors(rt: &impl Abort, alloc: Global, rows: &[(&str, &str, &str, &str)]) {
     for (before, cursor, behind, wanted) in rows {
-        let words = with_cursor(alloc, before, cursor, behind)?;
-        let given = answer(rt, alloc, words.as_slice())?;
+        let words = with_cursor(rt, alloc, before, cursor, behind);
+        let given = answer(rt, alloc, words.as_slice());
         same_text(rt, given.as_str(), wanted, cursor);
     }
-    Ok(())
 }
 
 #[test]
-fn reads_cursors(rt: HostRuntime) -> Result<(), Fail> {
+fn reads_cursors(rt: HostRuntime) {
     let rows = &[
         (
             "",
@@ -338,23 +331,26 @@ fn reads_cursors(rt: HostRuntime) -> Result<(), Fail> {
             "malformed",
         ),
     ];
-    gives_all_with_cursors(&rt, rt.alloc(), rows)
+    gives_all_with_cursors(&rt, rt.alloc(), rows);
+}
+
+/// Asserts that the help that words ask for shows this.
+fn helps(rt: &impl Abort, alloc: Global, words: &[String], usage: &str) {
+    match Command::read(alloc, words) {
+        Err(UsageFault::HelpAsked(text)) => holds(rt, text.as_str().contains(usage), usage),
+        _ => panic!(rt; "no help"),
+    }
 }
 
 /// The help of a command shows how it is called.
 #[test]
-fn helps_with_the_whole_call(rt: HostRuntime) -> Result<(), Fail> {
+fn helps_with_the_whole_call(rt: HostRuntime) {
     for (command, usage) in &[
         ("tokens -h", "\nUsage: pyast tokens [OPTIONS] [FILE]\n"),
         ("dump -h", "\nUsage: pyast dump [OPTIONS] [FILE]\n"),
         ("unparse -h", "\nUsage: pyast unparse [OPTIONS] [FILE]\n"),
     ] {
-        let words = split(rt.alloc(), command)?;
-        let Err(UsageFault::HelpAsked(text)) = Command::read(rt.alloc(), words.as_slice()) else {
-            assert!(rt; false);
-            return Ok(());
-        };
-        assert!(rt; text.as_str().contains(usage), "in {text}");
+        let words = split(&rt, rt.alloc(), command);
+        helps(&rt, rt.alloc(), words.as_slice(), usage);
     }
-    Ok(())
 }

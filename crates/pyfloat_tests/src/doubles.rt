@@ -1,12 +1,13 @@
 //! Worked rows of floats and imaginary numbers: a literal, and the `repr` of its value. What
 //! `unparse` writes is the same but for infinity.
 
-use crate::expected::{are_shown, is_shown_imaginary};
+use crate::expected::{are_shown, holds, is_shown_imaginary, same_text};
 use pyfloat::Double;
-use std::test::Fail;
+use std::alloc::Global;
+use std::process::Abort;
 
 #[test]
-fn floats(rt: HostRuntime) -> Result<(), Fail> {
+fn floats(rt: HostRuntime) {
     are_shown(
         &rt,
         rt.alloc(),
@@ -44,11 +45,11 @@ fn floats(rt: HostRuntime) -> Result<(), Fail> {
                 "9007199254740992j",
             ),
         ],
-    )
+    );
 }
 
 #[test]
-fn imaginary_numbers(rt: HostRuntime) -> Result<(), Fail> {
+fn imaginary_numbers(rt: HostRuntime) {
     for (literal, imaginary) in &[
         ("2j", "2j"),
         ("2.50J", "2.5j"),
@@ -57,19 +58,36 @@ fn imaginary_numbers(rt: HostRuntime) -> Result<(), Fail> {
         ("1e16j", "1e+16j"),
         ("1_0.5_0e-0_3J", "0.0105j"),
     ] {
-        is_shown_imaginary(&rt, rt.alloc(), literal, imaginary)?;
+        is_shown_imaginary(&rt, rt.alloc(), literal, imaginary);
     }
-    Ok(())
+}
+
+/// Asserts what is shown of a double.
+fn has_debug(rt: &impl Abort, alloc: Global, double: &Double, shown: &str) {
+    let debug = format!(in alloc; "{double:?}").expect(rt, "memory");
+    same_text(rt, debug.as_str(), shown, "what is shown");
+}
+
+/// Whether two literals have the same double.
+fn is_same(rt: &impl Abort, alloc: Global, literal: &str, other: &str) -> bool {
+    let double = Double::read(alloc, literal.as_bytes()).expect(rt, "memory");
+    let others = Double::read(alloc, other.as_bytes()).expect(rt, "memory");
+    double == others
 }
 
 #[test]
-fn tells_doubles_apart(rt: HostRuntime) -> Result<(), Fail> {
-    let one = Double::read(rt.alloc(), b"1.0")?;
-    let next = Double::read(rt.alloc(), b"1.0000000000000002")?;
-    assert!(rt; one != next);
-    assert!(rt; one == Double::read(rt.alloc(), b"1_0e-1j")?);
-    assert!(rt; one.clone()? == one);
-    let debug = format!(in rt.alloc(); "{one:?}")?;
-    assert_eq!(rt; debug.as_str(), "1.0");
-    Ok(())
+fn tells_doubles_apart(rt: HostRuntime) {
+    let one = Double::read(rt.alloc(), b"1.0").expect(&rt, "memory");
+    holds(&rt, one.clone().expect(&rt, "memory") == one, "a copy");
+    has_debug(&rt, rt.alloc(), &one, "1.0");
+    holds(
+        &rt,
+        !is_same(&rt, rt.alloc(), "1.0", "1.0000000000000002"),
+        "the next double",
+    );
+    holds(
+        &rt,
+        is_same(&rt, rt.alloc(), "1.0", "1_0e-1j"),
+        "another text",
+    );
 }

@@ -2,10 +2,9 @@
 //! that is infinity. Expected texts were taken from Python 3.11.
 
 use crate::expected::are_shown;
-use std::test::Fail;
 
 #[test]
-fn halfway_1(rt: HostRuntime) -> Result<(), Fail> {
+fn halfway_1(rt: HostRuntime) {
     are_shown(
         &rt,
         rt.alloc(),
@@ -56,11 +55,11 @@ fn halfway_1(rt: HostRuntime) -> Result<(), Fail> {
                 "156546954.31440663j",
             ),
         ],
-    )
+    );
 }
 
 #[test]
-fn halfway_2(rt: HostRuntime) -> Result<(), Fail> {
+fn halfway_2(rt: HostRuntime) {
     are_shown(
         &rt,
         rt.alloc(),
@@ -111,11 +110,11 @@ fn halfway_2(rt: HostRuntime) -> Result<(), Fail> {
                 "46376.42832489727j",
             ),
         ],
-    )
+    );
 }
 
 #[test]
-fn halfway_3(rt: HostRuntime) -> Result<(), Fail> {
+fn halfway_3(rt: HostRuntime) {
     are_shown(
         &rt,
         rt.alloc(),
@@ -166,5 +165,5 @@ fn halfway_3(rt: HostRuntime) -> Result<(), Fail> {
                 "0.0005743247843276225j",
             ),
         ],
-    )
+    );
 }

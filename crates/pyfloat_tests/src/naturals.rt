@@ -2,35 +2,68 @@
 
 ghost use Rattle.std.specs.Prelude.{◌<◌, ◌≤◌};
 
+use crate::expected::{holds, same_text};
 use pynatural::Natural;
 use std::alloc::Global;
 use std::process::Abort;
-use std::test::Fail;
 
-/// Asserts which number the digits of a base write.
-fn writes(
-    rt: &impl Abort,
-    alloc: Global,
-    radix: u64,
-    digits: &str,
-    decimal: &str,
-) -> Result<(), Fail>
+/// The number that the digits of a base write, if there is one.
+fn read(rt: &impl Abort, alloc: Global, radix: u64, digits: &str) -> Option<Natural>
     requires { (0 < radix) × (radix ≤ 36) }
 {
-    let number = Natural::read(alloc, radix, digits.as_bytes())?.expect(rt, "a number");
+    Natural::read(alloc, radix, digits.as_bytes()).expect(rt, "memory")
+}
+
+/// The number that the digits of a base write.
+fn number_of(rt: &impl Abort, alloc: Global, radix: u64, digits: &str) -> Natural
+    requires { (0 < radix) × (radix ≤ 36) }
+{
+    read(rt, alloc, radix, digits).expect(rt, "a number")
+}
+
+/// Asserts the decimal that is written of a number.
+fn has_decimal(rt: &impl Abort, alloc: Global, number: &Natural, decimal: &str) {
     let mut text = String::new(alloc);
-    number.push_decimal(&mut text)?;
-    assert_eq!(rt; text.as_str(), decimal, "{digits}");
-    let same = Natural::read(alloc, 10, decimal.as_bytes())?.expect(rt, "a number");
-    assert!(rt; same == number, "{digits}");
-    assert!(rt; number.clone()? == number, "{digits}");
-    let debug = format!(in alloc; "{number:?}")?;
-    assert_eq!(rt; debug.as_str(), decimal);
-    Ok(())
+    number.push_decimal(&mut text).expect(rt, "memory");
+    same_text(rt, text.as_str(), decimal, "a decimal");
+}
+
+/// Asserts what is shown of a number.
+fn has_debug(rt: &impl Abort, alloc: Global, number: &Natural, decimal: &str) {
+    let debug = format!(in alloc; "{number:?}").expect(rt, "memory");
+    same_text(rt, debug.as_str(), decimal, "what is shown");
+}
+
+/// Asserts that a decimal is read as a number.
+fn reads_as(rt: &impl Abort, alloc: Global, decimal: &str, number: &Natural) {
+    let read = number_of(rt, alloc, 10, decimal);
+    holds(rt, read == *number, decimal);
+}
+
+/// Asserts that a copy of a number is the same.
+fn is_copied(rt: &impl Abort, number: &Natural, decimal: &str) {
+    let copy = number.clone().expect(rt, "memory");
+    holds(rt, copy == *number, decimal);
+}
+
+/// Asserts that a number has this decimal.
+fn is_number(rt: &impl Abort, alloc: Global, number: &Natural, decimal: &str) {
+    has_decimal(rt, alloc, number, decimal);
+    reads_as(rt, alloc, decimal, number);
+    is_copied(rt, number, decimal);
+    has_debug(rt, alloc, number, decimal);
+}
+
+/// Asserts which number the digits of a base write.
+fn writes(rt: &impl Abort, alloc: Global, radix: u64, digits: &str, decimal: &str)
+    requires { (0 < radix) × (radix ≤ 36) }
+{
+    let number = number_of(rt, alloc, radix, digits);
+    is_number(rt, alloc, &number, decimal);
 }
 
 #[test]
-fn decimal(rt: HostRuntime) -> Result<(), Fail> {
+fn decimal(rt: HostRuntime) {
     for (digits, decimal) in &[
         ("0", "0"),
         ("000", "0"),
@@ -43,62 +76,89 @@ fn decimal(rt: HostRuntime) -> Result<(), Fail> {
         ("99999999999999999_9", "999999999999999999"),
         ("00000000000000000000000000000000000000007", "7"),
     ] {
-        writes(&rt, rt.alloc(), 10, digits, decimal)?;
+        writes(&rt, rt.alloc(), 10, digits, decimal);
     }
-    Ok(())
 }
 
 #[test]
-fn other_bases(rt: HostRuntime) -> Result<(), Fail> {
-    writes(&rt, rt.alloc(), 8, "777", "511")?;
-    writes(&rt, rt.alloc(), 2, "1_0", "2")?;
-    for (digits, decimal) in &[
-        ("ff", "255"),
-        ("DEAD_beef", "3735928559"),
+fn other_bases(rt: HostRuntime) {
+    for (radix, digits, decimal) in &[
+        (8, "777", "511"),
+        (2, "1_0", "2"),
+        (16, "ff", "255"),
+        (16, "DEAD_beef", "3735928559"),
         (
+            16,
             "1_0000_0000_0000_0000_0000_0000_0000_0000",
             "340282366920938463463374607431768211456",
         ),
         (
+            16,
             "ffffffffffffffffffffffffffffffffffffffffffffffffffffffff",
             "26959946667150639794667015087019630673637144422540572481103610249215",
         ),
     ] {
-        writes(&rt, rt.alloc(), 16, digits, decimal)?;
+        writes(&rt, rt.alloc(), *radix, digits, decimal);
     }
-    Ok(())
 }
 
 /// The digit 1, and so many zeros.
-fn one_and_zeros(alloc: Global, zeros: usize) -> Result<String, Fail> {
-    let mut digits = String::from_str(alloc, "1")?;
+fn one_and_zeros(rt: &impl Abort, alloc: Global, zeros: usize) -> String {
+    let mut digits = String::from_str(alloc, "1").expect(rt, "memory");
     for _ in 0..zeros {
-        digits.push('0')?;
+        digits.push('0').expect(rt, "memory");
     }
-    Ok(digits)
+    digits
+}
+
+/// Whether the digit 1 and so many zeros are digits of a base that write a number.
+fn is_read(rt: &impl Abort, alloc: Global, radix: u64, zeros: usize) -> bool
+    requires { (0 < radix) × (radix ≤ 36) }
+{
+    let digits = one_and_zeros(rt, alloc, zeros);
+    let number = read(rt, alloc, radix, digits.as_str());
+    number.is_some()
+}
+
+/// Asserts that the digit 1 and so many zeros are the number that they write.
+fn writes_one_and_zeros(rt: &impl Abort, alloc: Global, zeros: usize) {
+    let digits = one_and_zeros(rt, alloc, zeros);
+    writes(rt, alloc, 10, digits.as_str(), digits.as_str());
 }
 
 #[test]
-fn refuses_many_digits(rt: HostRuntime) -> Result<(), Fail> {
-    let most = one_and_zeros(rt.alloc(), 4299)?;
-    writes(&rt, rt.alloc(), 10, most.as_str(), most.as_str())?;
-    let more = one_and_zeros(rt.alloc(), 4300)?;
-    assert!(rt; Natural::read(rt.alloc(), 10, more.as_bytes())?.is_none());
-    let hex = one_and_zeros(rt.alloc(), 3572)?;
-    assert!(rt; Natural::read(rt.alloc(), 16, hex.as_bytes())?.is_none());
-    Ok(())
+fn refuses_many_digits(rt: HostRuntime) {
+    writes_one_and_zeros(&rt, rt.alloc(), 4299);
+    holds(&rt, !is_read(&rt, rt.alloc(), 10, 4300), "4301 digits");
+    holds(
+        &rt,
+        !is_read(&rt, rt.alloc(), 16, 3572),
+        "3573 digits of base 16",
+    );
 }
 
 #[test]
-fn measures_and_compares(rt: HostRuntime) -> Result<(), Fail> {
-    let number = Natural::read(rt.alloc(), 10, b"1500")?.expect(&rt, "a number");
-    assert_eq!(rt; number.len(), 4);
-    assert!(rt; number != Natural::new(rt.alloc()));
-    Ok(())
+fn measures_and_compares(rt: HostRuntime) {
+    let number = number_of(&rt, rt.alloc(), 10, "1500");
+    holds(&rt, number.len() == 4, "a length");
+    holds(&rt, number != Natural::new(rt.alloc()), "zero");
+}
+
+/// Asserts that a number of at most 128 bits has this decimal.
+fn is_made(rt: &impl Abort, alloc: Global, number: u128, decimal: &str) {
+    let made = Natural::from_u128(alloc, number).expect(rt, "memory");
+    holds(rt, made.to_u128() == Some(number), decimal);
+    reads_as(rt, alloc, decimal, &made);
+}
+
+/// Asserts that the number of a decimal has more than 128 bits.
+fn is_large(rt: &impl Abort, alloc: Global, decimal: &str) {
+    let number = number_of(rt, alloc, 10, decimal);
+    holds(rt, number.to_u128().is_none(), decimal);
 }
 
 #[test]
-fn numbers_of_128_bits(rt: HostRuntime) -> Result<(), Fail> {
+fn numbers_of_128_bits(rt: HostRuntime) {
     for (number, decimal) in &[
         (0, "0"),
         (7, "7"),
@@ -114,17 +174,12 @@ fn numbers_of_128_bits(rt: HostRuntime) -> Result<(), Fail> {
             "340282366920938463463374607431768211455",
         ),
     ] {
-        let made = Natural::from_u128(rt.alloc(), *number)?;
-        assert!(rt; made.to_u128() == Some(*number), "{decimal}");
-        let read = Natural::read(rt.alloc(), 10, decimal.as_bytes())?.expect(&rt, "a number");
-        assert!(rt; made == read, "{decimal}");
+        is_made(&rt, rt.alloc(), *number, decimal);
     }
     for decimal in &[
         "340282366920938463463374607431768211456",
         "10000000000000000000000000000000000000000",
     ] {
-        let read = Natural::read(rt.alloc(), 10, decimal.as_bytes())?.expect(&rt, "a number");
-        assert!(rt; read.to_u128().is_none(), "{decimal}");
+        is_large(&rt, rt.alloc(), decimal);
     }
-    Ok(())
 }

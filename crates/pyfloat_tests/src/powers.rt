@@ -2,10 +2,9 @@
 //! taken from Python 3.11.
 
 use crate::expected::are_shown;
-use std::test::Fail;
 
 #[test]
-fn powers_1(rt: HostRuntime) -> Result<(), Fail> {
+fn powers_1(rt: HostRuntime) {
     are_shown(
         &rt,
         rt.alloc(),
@@ -107,11 +106,11 @@ fn powers_1(rt: HostRuntime) -> Result<(), Fail> {
                 "1.1079139325602226e+276j",
             ),
         ],
-    )
+    );
 }
 
 #[test]
-fn powers_2(rt: HostRuntime) -> Result<(), Fail> {
+fn powers_2(rt: HostRuntime) {
     are_shown(
         &rt,
         rt.alloc(),
@@ -202,5 +201,5 @@ fn powers_2(rt: HostRuntime) -> Result<(), Fail> {
                 "1.1896135267822263e+285j",
             ),
         ],
-    )
+    );
 }

@@ -1,10 +1,9 @@
 //! Doubles of random bits, and decimals of random digits. Expected texts were taken from Python 3.11.
 
 use crate::expected::are_shown;
-use std::test::Fail;
 
 #[test]
-fn samples_1(rt: HostRuntime) -> Result<(), Fail> {
+fn samples_1(rt: HostRuntime) {
     are_shown(
         &rt,
         rt.alloc(),
@@ -110,11 +109,11 @@ fn samples_1(rt: HostRuntime) -> Result<(), Fail> {
                 "4.397094309717868e-278j",
             ),
         ],
-    )
+    );
 }
 
 #[test]
-fn samples_2(rt: HostRuntime) -> Result<(), Fail> {
+fn samples_2(rt: HostRuntime) {
     are_shown(
         &rt,
         rt.alloc(),
@@ -220,11 +219,11 @@ fn samples_2(rt: HostRuntime) -> Result<(), Fail> {
                 "2.3773069786084834e+261j",
             ),
         ],
-    )
+    );
 }
 
 #[test]
-fn samples_3(rt: HostRuntime) -> Result<(), Fail> {
+fn samples_3(rt: HostRuntime) {
     are_shown(
         &rt,
         rt.alloc(),
@@ -326,11 +325,11 @@ fn samples_3(rt: HostRuntime) -> Result<(), Fail> {
                 "3.452088025474884e+178j",
             ),
         ],
-    )
+    );
 }
 
 #[test]
-fn samples_4(rt: HostRuntime) -> Result<(), Fail> {
+fn samples_4(rt: HostRuntime) {
     are_shown(
         &rt,
         rt.alloc(),
@@ -356,5 +355,5 @@ fn samples_4(rt: HostRuntime) -> Result<(), Fail> {
             ("986341.484122", "986341.484122", "986341.484122j"),
             ("372731.176211", "372731.176211", "372731.176211j"),
         ],
-    )
+    );
 }

@@ -2,10 +2,9 @@
 //! were taken from Python 3.11.
 
 use crate::expected::are_shown;
-use std::test::Fail;
 
 #[test]
-fn spellings_1(rt: HostRuntime) -> Result<(), Fail> {
+fn spellings_1(rt: HostRuntime) {
     are_shown(
         &rt,
         rt.alloc(),
@@ -59,11 +58,11 @@ fn spellings_1(rt: HostRuntime) -> Result<(), Fail> {
                 "9007199254740992j",
             ),
         ],
-    )
+    );
 }
 
 #[test]
-fn spellings_2(rt: HostRuntime) -> Result<(), Fail> {
+fn spellings_2(rt: HostRuntime) {
     are_shown(
         &rt,
         rt.alloc(),
@@ -109,11 +108,11 @@ fn spellings_2(rt: HostRuntime) -> Result<(), Fail> {
             ("0e999", "0.0", "0j"),
             ("1E5", "100000.0", "100000j"),
         ],
-    )
+    );
 }
 
 #[test]
-fn spellings_3(rt: HostRuntime) -> Result<(), Fail> {
+fn spellings_3(rt: HostRuntime) {
     are_shown(
         &rt,
         rt.alloc(),
@@ -163,11 +162,11 @@ fn spellings_3(rt: HostRuntime) -> Result<(), Fail> {
             ("2.0", "2.0", "2j"),
             ("10.0", "10.0", "10j"),
         ],
-    )
+    );
 }
 
 #[test]
-fn spellings_4(rt: HostRuntime) -> Result<(), Fail> {
+fn spellings_4(rt: HostRuntime) {
     are_shown(
         &rt,
         rt.alloc(),
@@ -225,11 +224,11 @@ fn spellings_4(rt: HostRuntime) -> Result<(), Fail> {
                 "1j",
             ),
         ],
-    )
+    );
 }
 
 #[test]
-fn spellings_5(rt: HostRuntime) -> Result<(), Fail> {
+fn spellings_5(rt: HostRuntime) {
     are_shown(
         &rt,
         rt.alloc(),
@@ -245,5 +244,5 @@ fn spellings_5(rt: HostRuntime) -> Result<(), Fail> {
                 "1.0000000000000002j",
             ),
         ],
-    )
+    );
 }

@@ -1,10 +1,9 @@
 //! Where an expression ends. Expected cuts were taken from a plain Python model that agrees with Python 3.11.
 
 use crate::expected::{PLAIN, are_cut};
-use std::test::Fail;
 
 #[test]
-fn comparisons(rt: HostRuntime) -> Result<(), Fail> {
+fn comparisons(rt: HostRuntime) {
     are_cut(
         &rt,
         rt.alloc(),
@@ -23,11 +22,11 @@ fn comparisons(rt: HostRuntime) -> Result<(), Fail> {
             (PLAIN, "{(x=y)}", "<>[(x=y)|-|-1|-]<>"),
             (PLAIN, "{x[a:b]!r}", "<>[x[a:b]|-|114|-]<>"),
         ],
-    )
+    );
 }
 
 #[test]
-fn brackets(rt: HostRuntime) -> Result<(), Fail> {
+fn brackets(rt: HostRuntime) {
     are_cut(
         &rt,
         rt.alloc(),
@@ -46,11 +45,11 @@ fn brackets(rt: HostRuntime) -> Result<(), Fail> {
             (PLAIN, "{({[x]})}", "<>[({[x]})|-|-1|-]<>"),
             (PLAIN, "{*a, b}", "<>[*a, b|-|-1|-]<>"),
         ],
-    )
+    );
 }
 
 #[test]
-fn literals(rt: HostRuntime) -> Result<(), Fail> {
+fn literals(rt: HostRuntime) {
     are_cut(
         &rt,
         rt.alloc(),
@@ -82,5 +81,5 @@ fn literals(rt: HostRuntime) -> Result<(), Fail> {
             ),
             (PLAIN, "{\"a\" \"b\"}", "<>[\"a\" \"b\"|-|-1|-]<>"),
         ],
-    )
+    );
 }

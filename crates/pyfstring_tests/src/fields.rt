@@ -1,10 +1,9 @@
 //! Fields: blanks, conversions, what `=` keeps. Expected cuts were taken from a plain Python model that agrees with Python 3.11.
 
 use crate::expected::{NESTED, PLAIN, RAW_NESTED, are_cut};
-use std::test::Fail;
 
 #[test]
-fn conversions(rt: HostRuntime) -> Result<(), Fail> {
+fn conversions(rt: HostRuntime) {
     are_cut(
         &rt,
         rt.alloc(),
@@ -22,11 +21,11 @@ fn conversions(rt: HostRuntime) -> Result<(), Fail> {
             (PLAIN, "{x!r:>5}={y}", "<>[x|-|114|<>5>]<=>[y|-|-1|-]<>"),
             (PLAIN, "{x!", "malformed"),
         ],
-    )
+    );
 }
 
 #[test]
-fn blanks(rt: HostRuntime) -> Result<(), Fail> {
+fn blanks(rt: HostRuntime) {
     are_cut(
         &rt,
         rt.alloc(),
@@ -40,11 +39,11 @@ fn blanks(rt: HostRuntime) -> Result<(), Fail> {
             (PLAIN, "{:5}", "malformed"),
             (PLAIN, "{=}", "malformed"),
         ],
-    )
+    );
 }
 
 #[test]
-fn ends(rt: HostRuntime) -> Result<(), Fail> {
+fn ends(rt: HostRuntime) {
     are_cut(
         &rt,
         rt.alloc(),
@@ -57,11 +56,11 @@ fn ends(rt: HostRuntime) -> Result<(), Fail> {
             (PLAIN, "{x}{", "malformed"),
             (PLAIN, "{x}{y}", "<>[x|-|-1|-]<>[y|-|-1|-]<>"),
         ],
-    )
+    );
 }
 
 #[test]
-fn equals(rt: HostRuntime) -> Result<(), Fail> {
+fn equals(rt: HostRuntime) {
     are_cut(
         &rt,
         rt.alloc(),
@@ -79,5 +78,5 @@ fn equals(rt: HostRuntime) -> Result<(), Fail> {
             (NESTED, "{y:{x=}}", "malformed"),
             (RAW_NESTED, "{x!r}", "<>[x|-|114|-]<>"),
         ],
-    )
+    );
 }

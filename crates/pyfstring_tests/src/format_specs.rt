@@ -1,10 +1,9 @@
 //! Format specs. Expected cuts were taken from a plain Python model that agrees with Python 3.11.
 
 use crate::expected::{PLAIN, RAW, are_cut};
-use std::test::Fail;
 
 #[test]
-fn specs(rt: HostRuntime) -> Result<(), Fail> {
+fn specs(rt: HostRuntime) {
     are_cut(
         &rt,
         rt.alloc(),
@@ -39,5 +38,5 @@ fn specs(rt: HostRuntime) -> Result<(), Fail> {
             ),
             (PLAIN, "{x:'''}", "<>[x|-|-1|<'''>]<>"),
         ],
-    )
+    );
 }

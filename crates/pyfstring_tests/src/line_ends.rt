@@ -1,10 +1,9 @@
 //! Bodies with CR before LF: they are cut as they are without their CRs, and keep them.
 
 use crate::expected::{PLAIN, RAW, are_cut};
-use std::test::Fail;
 
 #[test]
-fn line_ends(rt: HostRuntime) -> Result<(), Fail> {
+fn line_ends(rt: HostRuntime) {
     are_cut(
         &rt,
         rt.alloc(),
@@ -20,5 +19,5 @@ fn line_ends(rt: HostRuntime) -> Result<(), Fail> {
             (PLAIN, "{'''\r\n'''}", "<>['''\r\n'''|-|-1|-]<>"),
             (RAW, "{x:\r\n}", "<>[x|-|-1|<\r\n>]<>"),
         ],
-    )
+    );
 }

@@ -2,10 +2,9 @@
 //! Python 3.11.
 
 use crate::expected::{NESTED, PLAIN, RAW, RAW_NESTED, are_cut};
-use std::test::Fail;
 
 #[test]
-fn samples_1(rt: HostRuntime) -> Result<(), Fail> {
+fn samples_1(rt: HostRuntime) {
     are_cut(
         &rt,
         rt.alloc(),
@@ -61,11 +60,11 @@ fn samples_1(rt: HostRuntime) -> Result<(), Fail> {
             (RAW_NESTED, "==\\N", "<==\\N>"),
             (PLAIN, "é\"é<'", "<é\"é<'>"),
         ],
-    )
+    );
 }
 
 #[test]
-fn samples_2(rt: HostRuntime) -> Result<(), Fail> {
+fn samples_2(rt: HostRuntime) {
     are_cut(
         &rt,
         rt.alloc(),
@@ -121,11 +120,11 @@ fn samples_2(rt: HostRuntime) -> Result<(), Fail> {
             (RAW, "\"\"\"\n==x{}}", "malformed"),
             (PLAIN, "{x<", "malformed"),
         ],
-    )
+    );
 }
 
 #[test]
-fn samples_3(rt: HostRuntime) -> Result<(), Fail> {
+fn samples_3(rt: HostRuntime) {
     are_cut(
         &rt,
         rt.alloc(),
@@ -181,5 +180,5 @@ fn samples_3(rt: HostRuntime) -> Result<(), Fail> {
             (PLAIN, "\\N}(\\N'})", "malformed"),
             (PLAIN, "!r'{x=}#} éx", "malformed"),
         ],
-    )
+    );
 }

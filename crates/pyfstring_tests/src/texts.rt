@@ -1,10 +1,9 @@
 //! Texts, braces and escapes. Expected cuts were taken from a plain Python model that agrees with Python 3.11.
 
 use crate::expected::{PLAIN, RAW, are_cut};
-use std::test::Fail;
 
 #[test]
-fn braces(rt: HostRuntime) -> Result<(), Fail> {
+fn braces(rt: HostRuntime) {
     are_cut(
         &rt,
         rt.alloc(),
@@ -22,11 +21,11 @@ fn braces(rt: HostRuntime) -> Result<(), Fail> {
             (PLAIN, "a}b", "malformed"),
             (RAW, "{{a}}", "<{{a}}>"),
         ],
-    )
+    );
 }
 
 #[test]
-fn escapes(rt: HostRuntime) -> Result<(), Fail> {
+fn escapes(rt: HostRuntime) {
     are_cut(
         &rt,
         rt.alloc(),
@@ -53,5 +52,5 @@ fn escapes(rt: HostRuntime) -> Result<(), Fail> {
             (RAW, "\\", "<\\>"),
             (PLAIN, "é\\é{x}𝒳", "<é\\é>[x|-|-1|-]<𝒳>"),
         ],
-    )
+    );
 }

@@ -1,10 +1,10 @@
 //! What a field's text gives.
 
 use crate::collect::collect;
+use crate::expected::{push, same_text};
 use pyfstring_tokens::{Class, FieldFault};
-use std::alloc::{AllocError, Global};
+use std::alloc::Global;
 use std::process::Abort;
-use std::test::Fail;
 
 /// The type of a token, as the module `token` names it.
 fn kind(class: Class) -> &'static str {
@@ -27,33 +27,40 @@ fn fault_name(fault: FieldFault) -> &'static str {
     }
 }
 
-/// The tokens of a field's text, a line for each, and what stopped the reader.
-fn told(alloc: Global, text: &str) -> Result<String, AllocError> {
-    let mut tokens = Vec::new(alloc);
-    let fault = collect(text, &mut tokens)?;
+/// Some tokens, a line for each, and what stopped the reader.
+fn told(
+    rt: &impl Abort,
+    alloc: Global,
+    tokens: &[(Class, &str)],
+    fault: Option<FieldFault>,
+) -> String {
     let mut told = String::new(alloc);
-    for (class, text) in &tokens {
-        told.push_str(kind(*class))?;
-        told.push_str(text)?;
-        told.push_str("\n")?;
+    for (class, text) in tokens {
+        push(rt, &mut told, kind(*class));
+        push(rt, &mut told, text);
+        push(rt, &mut told, "\n");
     }
-    if let Some(fault) = fault {
-        told.push_str(fault_name(fault))?;
-    }
-    Ok(told)
+    push(rt, &mut told, fault.map_or("", fault_name));
+    told
+}
+
+/// Asserts what a text gives.
+fn is_told(rt: &impl Abort, alloc: Global, text: &str, expected: &str) {
+    let mut tokens = Vec::new(alloc);
+    let fault = collect(text, &mut tokens).expect(rt, "memory");
+    let found = told(rt, alloc, tokens.as_slice(), fault);
+    same_text(rt, found.as_str(), expected, text);
 }
 
 /// Asserts what the texts of some rows give.
-fn are_told(rt: &impl Abort, alloc: Global, rows: &[(&str, &str)]) -> Result<(), Fail> {
+fn are_told(rt: &impl Abort, alloc: Global, rows: &[(&str, &str)]) {
     for (text, expected) in rows {
-        let found = told(alloc, text)?;
-        assert_eq!(rt; found.as_str(), *expected, "at {text:?}");
+        is_told(rt, alloc, text, expected);
     }
-    Ok(())
 }
 
 #[test]
-fn gives_tokens(rt: HostRuntime) -> Result<(), Fail> {
+fn gives_tokens(rt: HostRuntime) {
     are_told(
         &rt,
         rt.alloc(),
@@ -72,12 +79,12 @@ fn gives_tokens(rt: HostRuntime) -> Result<(), Fail> {
                 "OP {\nNUMBER 1\nOP :\nOP (\nNAME a\nOP ]\nOP }\n",
             ),
         ],
-    )
+    );
 }
 
 /// Within parentheses no line ends, and brackets in strings are none.
 #[test]
-fn gives_tokens_over_lines(rt: HostRuntime) -> Result<(), Fail> {
+fn gives_tokens_over_lines(rt: HostRuntime) {
     are_told(
         &rt,
         rt.alloc(),
@@ -89,11 +96,11 @@ fn gives_tokens_over_lines(rt: HostRuntime) -> Result<(), Fail> {
             ("'a)' \"(\"", "STRING 'a)'\nSTRING \"(\"\n"),
             ("'''a\n)'''", "STRING '''a\n)'''\n"),
         ],
-    )
+    );
 }
 
 #[test]
-fn tells_faults(rt: HostRuntime) -> Result<(), Fail> {
+fn tells_faults(rt: HostRuntime) {
     are_told(
         &rt,
         rt.alloc(),
@@ -105,12 +112,12 @@ fn tells_faults(rt: HostRuntime) -> Result<(), Fail> {
             ("(a", "OP (\nNAME a\nunclosed"),
             ("{(}", "OP {\nOP (\nOP }\nunclosed"),
         ],
-    )
+    );
 }
 
 /// `a)(b` in parentheses has tokens, but its own brackets don't match.
 #[test]
-fn tells_what_no_field_has(rt: HostRuntime) -> Result<(), Fail> {
+fn tells_what_no_field_has(rt: HostRuntime) {
     are_told(
         &rt,
         rt.alloc(),
@@ -120,5 +127,5 @@ fn tells_what_no_field_has(rt: HostRuntime) -> Result<(), Fail> {
             ("# c", "comment"),
             ("a # b\n + c", "NAME a\ncomment"),
         ],
-    )
+    );
 }

@@ -1,46 +1,50 @@
 //! Reading and writing all bytes, also where a read or a write fails.
 
-use crate::expected_source::{same_answer, same_bytes, same_count, same_number};
+use crate::expected::same_answer;
+use crate::expected_source::{same_bytes, same_count, same_number};
 use fakes::{FakeReader, FakeWriter};
 use pysource::{ByteIn, ByteOut, Counted, InputFault, read_all, write_all};
 use std::alloc::Global;
 use std::process::Abort;
-use std::test::Fail;
+
+/// These bytes were read, or the read failed.
+fn is_read(rt: &impl Abort, read: &Result<Vec<u8>, InputFault>, bytes: &[u8], fails: bool) {
+    match read {
+        Ok(all) => {
+            same_bytes(rt, all.as_slice(), bytes, "the end");
+            same_answer(rt, fails, false, "the end");
+        }
+        Err(fault) => {
+            same_answer(rt, matches!(fault, InputFault::Read), true, "a fault");
+            same_answer(rt, fails, true, "a fault");
+        }
+    }
+}
 
 /// All of these bytes are read one at a time, or the read at their end fails.
 fn reads(rt: &impl Abort, alloc: Global, bytes: &[u8], fails: bool) {
     let mut reader = FakeReader::new(bytes, 1, fails);
     let read = read_all(alloc, &mut reader);
     same_count(rt, reader.failures(), u64::from(fails));
-    match read {
-        Ok(all) => {
-            assert!(rt; !fails);
-            same_bytes(rt, all.as_slice(), bytes, "the end");
-        }
-        Err(InputFault::Read) => assert!(rt; fails, "at {bytes:?}"),
-        Err(InputFault::Memory) => assert!(rt; false),
-    }
+    is_read(rt, &read, bytes, fails);
 }
 
 /// All of these bytes are read many at a time.
 fn reads_many(rt: &impl Abort, alloc: Global, bytes: &[u8]) {
     let mut reader = Counted::new(bytes);
-    match read_all(alloc, &mut reader) {
-        Ok(all) => same_bytes(rt, all.as_slice(), bytes, "the end"),
-        Err(_) => assert!(rt; false),
-    }
+    let all = read_all(alloc, &mut reader).expect(rt, "all bytes");
+    same_bytes(rt, all.as_slice(), bytes, "the end");
     same_count(rt, reader.failures(), 0);
 }
 
 #[test]
-fn reads_all(rt: HostRuntime) -> Result<(), Fail> {
-    for bytes in [b"".as_slice(), b"a".as_slice(), b"abc\xFF".as_slice()] {
-        for fails in [false, true] {
-            reads(&rt, rt.alloc(), bytes, fails);
-        }
+fn reads_all(rt: HostRuntime) {
+    let rows: &[&[u8]] = &[b"", b"a", b"abc\xFF"];
+    for bytes in rows {
+        reads(&rt, rt.alloc(), bytes, false);
+        reads(&rt, rt.alloc(), bytes, true);
     }
     reads_many(&rt, rt.alloc(), b"abc");
-    Ok(())
 }
 
 /// Bytes are written up to the room that there is, of which too little is a failure.
@@ -57,7 +61,7 @@ fn writes(
     same_answer(rt, wrote.is_ok(), room == 4, "the end");
     same_count(rt, writer.failures(), u64::from(room < 4));
     same_number(rt, writer.taken().len(), room, bytes);
-    assert!(rt; bytes.starts_with(writer.taken()), "at {room}");
+    same_answer(rt, bytes.starts_with(writer.taken()), true, "the front");
 }
 
 /// Bytes are written to a writer that takes all.
@@ -68,15 +72,12 @@ fn writes_many(rt: &impl Abort, alloc: Global, bytes: &[u8]) {
 }
 
 #[test]
-fn writes_all(rt: HostRuntime) -> Result<(), Fail> {
-    let bytes = b"abcd".as_slice();
-    for step in [1, 3, 8] {
+fn writes_all(rt: HostRuntime) {
+    for step in &[1, 3, 8] {
         for room in 0..5usize {
-            for takes_none in [false, true] {
-                writes(&rt, rt.alloc(), bytes, step, room, takes_none);
-            }
+            writes(&rt, rt.alloc(), b"abcd", *step, room, false);
+            writes(&rt, rt.alloc(), b"abcd", *step, room, true);
         }
     }
-    writes_many(&rt, rt.alloc(), bytes);
-    Ok(())
+    writes_many(&rt, rt.alloc(), b"abcd");
 }

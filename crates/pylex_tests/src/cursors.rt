@@ -2,27 +2,25 @@
 
 use crate::expected::same_text;
 use pylex::{Cursor, CursorFault};
-use std::alloc::{AllocError, Global};
+use std::alloc::Global;
 use std::process::Abort;
-use std::test::Fail;
 
 /// What the cursor of a text writes, or why there is none.
-fn answer(alloc: Global, text: &str) -> Result<String, AllocError> {
+fn answer(rt: &impl Abort, alloc: Global, text: &str) -> String {
     match Cursor::from_text(alloc, text) {
-        Ok(cursor) => cursor.to_text(),
-        Err(fault) => format!(in alloc; "{fault}"),
+        Ok(cursor) => cursor.to_text().expect(rt, "memory"),
+        Err(fault) => format!(in alloc; "{fault}").expect(rt, "memory"),
     }
 }
 
 /// Asserts what the cursor of a text writes, or why there is none.
-fn answers(rt: &impl Abort, alloc: Global, text: &str, expected: &str) -> Result<(), Fail> {
-    let told = answer(alloc, text)?;
+fn answers(rt: &impl Abort, alloc: Global, text: &str, expected: &str) {
+    let told = answer(rt, alloc, text);
     same_text(rt, told.as_str(), expected, text);
-    Ok(())
 }
 
 #[test]
-fn reads_cursors(rt: HostRuntime) -> Result<(), Fail> {
+fn reads_cursors(rt: HostRuntime) {
     let rows = &[
         "pytok1 0 0 1 0 0 0 0",
         "pytok1 3 1 1 0 1 1 0",
@@ -32,13 +30,12 @@ fn reads_cursors(rt: HostRuntime) -> Result<(), Fail> {
         "pytok1 1 2 3 4 1 5 0,1,18446744073709551615",
     ];
     for row in rows {
-        answers(&rt, rt.alloc(), row, row)?;
+        answers(&rt, rt.alloc(), row, row);
     }
-    Ok(())
 }
 
 #[test]
-fn refuses_other_texts(rt: HostRuntime) -> Result<(), Fail> {
+fn refuses_other_texts(rt: HostRuntime) {
     let rows = &[
         "",
         "pytok1",
@@ -70,27 +67,24 @@ fn refuses_other_texts(rt: HostRuntime) -> Result<(), Fail> {
         "pytok1 0 0 1 0 0 0 0, 1",
     ];
     for row in rows {
-        answers(&rt, rt.alloc(), row, "malformed cursor")?;
+        answers(&rt, rt.alloc(), row, "malformed cursor");
     }
-    Ok(())
 }
 
 /// Asserts how a fault is reported.
-fn tells(rt: &impl Abort, alloc: Global, fault: CursorFault, told: &str) -> Result<(), Fail> {
-    let text = format!(in alloc; "{fault}")?;
+fn tells(rt: &impl Abort, alloc: Global, fault: &CursorFault, told: &str) {
+    let text = format!(in alloc; "{fault}").expect(rt, "memory");
     same_text(rt, text.as_str(), told, told);
-    Ok(())
 }
 
 #[test]
-fn tells_faults(rt: HostRuntime) -> Result<(), Fail> {
-    let rows = [
+fn tells_faults(rt: HostRuntime) {
+    let rows = &[
         (CursorFault::AnotherSource, "cursor of another source"),
         (CursorFault::Text, "malformed cursor"),
         (CursorFault::Memory, "out of memory"),
     ];
     for (fault, told) in rows {
-        tells(&rt, rt.alloc(), fault, told)?;
+        tells(&rt, rt.alloc(), fault, told);
     }
-    Ok(())
 }

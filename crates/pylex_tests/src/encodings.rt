@@ -1,10 +1,10 @@
 //! The encoding that the first two lines declare, as Python 3.11 finds it.
 
+use crate::expected::same;
 use crate::expected_source::{same_number, same_text};
 use pysource::{Charset, Encoding, SourceFault, encoding_of, place_of};
 use std::alloc::Global;
 use std::process::Abort;
-use std::test::Fail;
 
 /// What was found: the name, or the fault with its row and column.
 fn told(found: &Result<Encoding, SourceFault>) -> (&str, usize, usize) {
@@ -26,7 +26,7 @@ fn finds(rt: &impl Abort, first: &[u8], second: &[u8], expected: (&str, usize, u
 }
 
 #[test]
-fn finds_encodings(rt: HostRuntime) -> Result<(), Fail> {
+fn finds_encodings(rt: HostRuntime) {
     let rows: &[(&[u8], &[u8], &str, usize, usize)] = &[
         (b"", b"", "utf-8", 0, 0),
         (b"# coding: US_ASCII\n", b"", "US_ASCII", 0, 0),
@@ -62,19 +62,16 @@ fn finds_encodings(rt: HostRuntime) -> Result<(), Fail> {
     for (first, second, name, row, column) in rows {
         finds(&rt, first, second, (name, *row, *column));
     }
-    Ok(())
 }
 
 /// Asserts the charset that a line declares.
 fn has_charset(rt: &impl Abort, first: &[u8], charset: Charset) {
-    match encoding_of(first, b"") {
-        Ok(encoding) => assert_eq!(rt; encoding.charset(), charset, "at {first:?}"),
-        Err(_) => assert!(rt; false, "at {first:?}"),
-    }
+    let encoding = encoding_of(first, b"").expect(rt, "an encoding");
+    same(rt, &encoding.charset(), &charset, &first);
 }
 
 #[test]
-fn tells_charsets(rt: HostRuntime) -> Result<(), Fail> {
+fn tells_charsets(rt: HostRuntime) {
     let rows: &[(&[u8], Charset)] = &[
         (b"", Charset::Utf8),
         (b"# coding: utf8\n", Charset::Utf8),
@@ -83,20 +80,18 @@ fn tells_charsets(rt: HostRuntime) -> Result<(), Fail> {
     for (first, charset) in rows {
         has_charset(&rt, first, *charset);
     }
-    Ok(())
 }
 
 /// Asserts how a fault is told.
-fn tells(rt: &impl Abort, alloc: Global, fault: SourceFault, text: &str) -> Result<(), Fail> {
-    let shown = format!(in alloc; "{fault}")?;
+fn tells(rt: &impl Abort, alloc: Global, fault: &SourceFault, text: &str) {
+    let shown = format!(in alloc; "{fault}").expect(rt, "memory");
     same_text(rt, shown.as_str(), text, b"");
-    Ok(())
 }
 
 #[test]
-fn names_faults(rt: HostRuntime) -> Result<(), Fail> {
+fn names_faults(rt: HostRuntime) {
     let place = place_of("", 0);
-    for (fault, text) in [
+    for (fault, text) in &[
         (
             SourceFault::UnsupportedEncoding(place),
             "unsupported encoding",
@@ -107,7 +102,6 @@ fn names_faults(rt: HostRuntime) -> Result<(), Fail> {
         ),
         (SourceFault::Memory, "out of memory"),
     ] {
-        tells(&rt, rt.alloc(), fault, text)?;
+        tells(&rt, rt.alloc(), fault, text);
     }
-    Ok(())
 }

@@ -3,7 +3,6 @@
 use crate::expected::{same_answer, same_text};
 use pylex::{Class, begins_significant, cut};
 use std::process::Abort;
-use std::test::Fail;
 
 /// What the class of a lexeme is called.
 fn name(class: Class) -> &'static str {
@@ -19,22 +18,24 @@ fn name(class: Class) -> &'static str {
     }
 }
 
-/// Asserts what stands at the front of a text, and after that.
-fn cuts(rt: &impl Abort, text: &str, class: &str, lexeme: &str, rest: &str) -> Result<(), Fail> {
-    let Some((found, front, behind)) = cut(text) else {
-        return Err(Fail::from("no lexeme"));
-    };
+/// Asserts what the class of a lexeme is called, and what it says of itself.
+fn is_class(rt: &impl Abort, found: Class, class: &str, text: &str) {
     same_text(rt, name(found), class, text);
-    same_text(rt, front, lexeme, text);
-    same_text(rt, behind, rest, text);
     same_answer(rt, found.is_blanks(), class == "blanks", text);
     same_answer(rt, found.is_line_end(), class == "line end", text);
     same_answer(rt, found.is_join(), class == "join", text);
-    Ok(())
+}
+
+/// Asserts what stands at the front of a text, and after that.
+fn cuts(rt: &impl Abort, text: &str, class: &str, lexeme: &str, rest: &str) {
+    let (found, front, behind) = cut(text).expect(rt, "a lexeme");
+    is_class(rt, found, class, text);
+    same_text(rt, front, lexeme, text);
+    same_text(rt, behind, rest, text);
 }
 
 #[test]
-fn cuts_lexemes(rt: HostRuntime) -> Result<(), Fail> {
+fn cuts_lexemes(rt: HostRuntime) {
     for (text, class, lexeme, rest) in &[
         ("rb'x' + .5", "string", "rb'x'", " + .5"),
         ("été**=1", "name", "été", "**=1"),
@@ -45,9 +46,8 @@ fn cuts_lexemes(rt: HostRuntime) -> Result<(), Fail> {
         ("\r\n\n", "line end", "\r\n", "\n"),
         ("\\\n x", "join", "\\\n", " x"),
     ] {
-        cuts(&rt, text, class, lexeme, rest)?;
+        cuts(&rt, text, class, lexeme, rest);
     }
-    Ok(())
 }
 
 #[test]
@@ -58,18 +58,15 @@ fn cuts_no_other_text(rt: HostRuntime) {
 }
 
 /// Asserts whether the lexeme at the front of a text makes its line logical.
-fn is_significant(rt: &impl Abort, text: &str, significant: bool) -> Result<(), Fail> {
-    let Some((class, _, _)) = cut(text) else {
-        return Err(Fail::from("no lexeme"));
-    };
+fn is_significant(rt: &impl Abort, text: &str, significant: bool) {
+    let (class, _, _) = cut(text).expect(rt, "a lexeme");
     same_answer(rt, class.is_significant(), significant, text);
     same_answer(rt, begins_significant(text), significant, text);
-    Ok(())
 }
 
 /// Blanks, comments and line ends alone make no line logical.
 #[test]
-fn tells_what_is_significant(rt: HostRuntime) -> Result<(), Fail> {
+fn tells_what_is_significant(rt: HostRuntime) {
     for (text, significant) in &[
         ("x # y", true),
         ("+", true),
@@ -78,8 +75,7 @@ fn tells_what_is_significant(rt: HostRuntime) -> Result<(), Fail> {
         ("\n", false),
         (" x", false),
     ] {
-        is_significant(&rt, text, *significant)?;
+        is_significant(&rt, text, *significant);
     }
     same_answer(&rt, begins_significant(""), false, "");
-    Ok(())
 }

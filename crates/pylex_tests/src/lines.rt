@@ -7,7 +7,6 @@ use pylex::{Entry, Exact, Kind, line_text, push_line, text};
 use pysource::{Place, Source, decode};
 use std::alloc::Global;
 use std::process::Abort;
-use std::test::Fail;
 
 /// An entry whose offsets play no part.
 fn entry_at(kind: Kind, exact: Option<Exact>, start: (usize, usize), end: (usize, usize)) -> Entry
@@ -30,38 +29,22 @@ fn entry_at(kind: Kind, exact: Option<Exact>, start: (usize, usize), end: (usize
 }
 
 /// Asserts the line of an entry, also where it is pushed after the lines of others.
-fn lists(
-    rt: &impl Abort,
-    whole: &mut String,
-    entry: &Entry,
-    text: &str,
-    exact: bool,
-    line: &str,
-) -> Result<(), Fail> {
+fn lists(rt: &impl Abort, whole: &mut String, entry: &Entry, text: &str, exact: bool, line: &str) {
     let start = whole.len();
-    push_line(whole, entry, text, exact)?;
+    push_line(whole, entry, text, exact).expect(rt, "memory");
     same_number(rt, whole.len() - start, line.len(), line);
-    Ok(())
 }
 
 /// Asserts the line of an entry.
-fn writes(
-    rt: &impl Abort,
-    alloc: Global,
-    entry: &Entry,
-    text: &str,
-    exact: bool,
-    line: &str,
-) -> Result<(), Fail> {
-    let told = line_text(alloc, entry, text, exact)?;
+fn writes(rt: &impl Abort, alloc: Global, entry: &Entry, text: &str, exact: bool, line: &str) {
+    let told = line_text(alloc, entry, text, exact).expect(rt, "memory");
     same_text(rt, told.as_str(), line, text);
-    Ok(())
 }
 
 /// The lines are those of Python 3.11's `python -m tokenize`, but for the widest, whose places no
 /// small source has.
 #[test]
-fn lists_entries(rt: HostRuntime) -> Result<(), Fail> {
+fn lists_entries(rt: HostRuntime) {
     let name = entry_at(Kind::Name, None, (1, 0), (1, 1));
     let halving = entry_at(Kind::Op, Some(Exact::DoubleSlashEqual), (1, 2), (1, 5));
     let newline = entry_at(Kind::Newline, None, (1, 7), (1, 8));
@@ -73,7 +56,7 @@ fn lists_entries(rt: HostRuntime) -> Result<(), Fail> {
         (1_000_000, 100_001),
     );
     let string = entry_at(Kind::String, None, (1, 0), (1, 13));
-    let rows = [
+    let rows = &[
         (
             name,
             "a",
@@ -131,30 +114,24 @@ fn lists_entries(rt: HostRuntime) -> Result<(), Fail> {
     ];
     let mut whole = String::new(rt.alloc());
     for (entry, text, exact, line) in rows {
-        writes(&rt, rt.alloc(), &entry, text, exact, line)?;
-        lists(&rt, &mut whole, &entry, text, exact, line)?;
+        writes(&rt, rt.alloc(), entry, text, *exact, line);
+        lists(&rt, &mut whole, entry, text, *exact, line);
     }
     let ends = whole.as_str().ends_with("\"'a longer one'\"\n");
     same_answer(&rt, ends, true, "the end");
-    Ok(())
 }
 
 /// Asserts the line of a source's encoding.
-fn writes_encoding(
-    rt: &impl Abort,
-    alloc: Global,
-    source: &Source,
-    line: &str,
-) -> Result<(), Fail> {
+fn writes_encoding(rt: &impl Abort, alloc: Global, source: &Source, line: &str) {
     let encoding = entry_at(Kind::Encoding, None, (0, 0), (0, 0));
-    writes(rt, alloc, &encoding, text(source, &encoding), false, line)
+    writes(rt, alloc, &encoding, text(source, &encoding), false, line);
 }
 
 #[test]
-fn lists_the_encoding(rt: HostRuntime) -> Result<(), Fail> {
+fn lists_the_encoding(rt: HostRuntime) {
     let line = "0,0-0,0:            ENCODING       'utf-8'        \n";
-    let source = decode(rt.alloc(), b"")?;
-    writes_encoding(&rt, rt.alloc(), &source, line)
+    let source = decode(rt.alloc(), b"").expect(&rt, "a source");
+    writes_encoding(&rt, rt.alloc(), &source, line);
 }
 
 /// Asserts the text of a number in a source.
@@ -172,8 +149,7 @@ fn cuts_number(rt: &impl Abort, source: &Source, from: usize, to: usize, expecte
 }
 
 #[test]
-fn cuts_texts(rt: HostRuntime) -> Result<(), Fail> {
-    let source = decode(rt.alloc(), "é = 1\n".as_bytes())?;
+fn cuts_texts(rt: HostRuntime) {
+    let source = decode(rt.alloc(), "é = 1\n".as_bytes()).expect(&rt, "a source");
     cuts_number(&rt, &source, 5, 6, "1");
-    Ok(())
 }

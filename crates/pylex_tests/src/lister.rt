@@ -1,16 +1,20 @@
 //! Listings of sources that are held whole.
 
-use crate::expected::{same_answer, same_kind, same_number, same_text};
+use crate::expected::{holds, same_kind, same_number, same_text};
 use pylex::{Cursor, CursorFault, Kind, Lister, Step};
 use pysource::{Place, Source, decode};
 use std::alloc::Global;
 use std::process::Abort;
-use std::test::Fail;
 
 /// Asserts a row and a column.
 fn stands_at(rt: &impl Abort, place: Place, expected: (usize, usize)) {
     same_number(rt, place.row, expected.0, "a row");
     same_number(rt, place.column, expected.1, "a column");
+}
+
+/// The next step of a listing.
+fn next(rt: &impl Abort, lister: &mut Lister) -> Step {
+    lister.next().expect(rt, "memory")
 }
 
 /// The next step of a listing is an entry of this kind, which begins and ends at these rows and
@@ -21,28 +25,21 @@ fn gives_entry(
     kind: Kind,
     start: (usize, usize),
     end: (usize, usize),
-) -> Result<(), Fail> {
-    let Step::Entry(entry) = lister.next()? else {
-        return Err(Fail::from("no entry"));
+) {
+    let Step::Entry(entry) = next(rt, lister) else {
+        panic!(rt; "no entry");
     };
     same_kind(rt, entry.kind, kind);
     stands_at(rt, entry.start, start);
     stands_at(rt, entry.end, end);
-    Ok(())
 }
 
 /// The rest of a listing has these kinds, and begins and ends at these rows and columns.
-fn gives(
-    rt: &impl Abort,
-    lister: &mut Lister,
-    rows: &[(Kind, (usize, usize), (usize, usize))],
-) -> Result<(), Fail> {
+fn gives(rt: &impl Abort, lister: &mut Lister, rows: &[(Kind, (usize, usize), (usize, usize))]) {
     for (kind, start, end) in rows {
-        gives_entry(rt, lister, *kind, *start, *end)?;
+        gives_entry(rt, lister, *kind, *start, *end);
     }
-    let ends = matches!(lister.next()?, Step::End);
-    same_answer(rt, ends, true, "the end");
-    Ok(())
+    holds(rt, matches!(next(rt, lister), Step::End), "the end");
 }
 
 /// After a cursor these are the rest of a listing, whether the cursor is checked or not.
@@ -52,72 +49,86 @@ fn goes_on(
     source: &Source,
     cursor: &Cursor,
     rows: &[(Kind, (usize, usize), (usize, usize))],
-) -> Result<(), Fail> {
-    let mut checked = Lister::resume_checked(alloc, source, cursor)?;
-    gives(rt, &mut checked, rows)?;
-    let mut resumed = Lister::resume(alloc, source, cursor)?;
-    gives(rt, &mut resumed, rows)
+) {
+    let mut checked = Lister::resume_checked(alloc, source, cursor).expect(rt, "a lister");
+    gives(rt, &mut checked, rows);
+    let mut resumed = Lister::resume(alloc, source, cursor).expect(rt, "a lister");
+    gives(rt, &mut resumed, rows);
 }
 
 /// Asserts the text of a cursor.
-fn writes(rt: &impl Abort, cursor: &Cursor, expected: &str) -> Result<(), Fail> {
-    let told = cursor.to_text()?;
+fn writes(rt: &impl Abort, cursor: &Cursor, expected: &str) {
+    let told = cursor.to_text().expect(rt, "memory");
     same_text(rt, told.as_str(), expected, expected);
-    Ok(())
+}
+
+/// A listing after so many steps.
+fn lister_after<'a>(
+    rt: &impl Abort,
+    alloc: Global,
+    source: &'a Source,
+    steps: usize,
+) -> Lister<'a> {
+    let mut lister = Lister::new(alloc, source);
+    for _ in 0..steps {
+        let _ = next(rt, &mut lister);
+    }
+    lister
 }
 
 #[test]
-fn goes_on_behind_an_indent(rt: HostRuntime) -> Result<(), Fail> {
-    let rows = [
+fn goes_on_behind_an_indent(rt: HostRuntime) {
+    let rows = &[
         (Kind::Newline, (2, 2), (2, 3)),
         (Kind::Dedent, (3, 0), (3, 0)),
         (Kind::EndMarker, (3, 0), (3, 0)),
     ];
-    let source = decode(rt.alloc(), b"if x:\n\ty\n")?;
-    let mut lister = Lister::new(rt.alloc(), &source);
-    for _ in 0..7 {
-        let _ = lister.next()?;
-    }
-    let cursor = lister.cursor()?;
-    writes(&rt, &cursor, "pytok1 7 8 2 0 1 0 0,8")?;
-    gives(&rt, &mut lister, &rows)?;
-    goes_on(&rt, rt.alloc(), &source, &cursor, &rows)
+    let source = decode(rt.alloc(), b"if x:\n\ty\n").expect(&rt, "a source");
+    let mut lister = lister_after(&rt, rt.alloc(), &source, 7);
+    let cursor = lister.cursor().expect(&rt, "memory");
+    writes(&rt, &cursor, "pytok1 7 8 2 0 1 0 0,8");
+    gives(&rt, &mut lister, rows);
+    goes_on(&rt, rt.alloc(), &source, &cursor, rows);
 }
 
 #[test]
-fn goes_on_among_dedents(rt: HostRuntime) -> Result<(), Fail> {
-    let rows = [
+fn goes_on_among_dedents(rt: HostRuntime) {
+    let rows = &[
         (Kind::Dedent, (4, 0), (4, 0)),
         (Kind::Name, (4, 0), (4, 1)),
         (Kind::Newline, (4, 1), (4, 2)),
         (Kind::EndMarker, (5, 0), (5, 0)),
     ];
-    let source = decode(rt.alloc(), b"if a:\n if b:\n  c\nd\n")?;
-    let cursor = Cursor::from_text(rt.alloc(), "pytok1 14 17 4 0 0 1 0,1,2")?;
-    goes_on(&rt, rt.alloc(), &source, &cursor, &rows)
+    let source = decode(rt.alloc(), b"if a:\n if b:\n  c\nd\n").expect(&rt, "a source");
+    let cursor = Cursor::from_text(rt.alloc(), "pytok1 14 17 4 0 0 1 0,1,2").expect(
+        &rt, "a cursor",
+    );
+    goes_on(&rt, rt.alloc(), &source, &cursor, rows);
+}
+
+/// Whether a cursor is refused as one of another source.
+fn is_refused(alloc: Global, source: &Source, cursor: &Cursor) -> bool {
+    matches!(
+        Lister::resume_checked(alloc, source, cursor),
+        Err(CursorFault::AnotherSource)
+    )
 }
 
 /// Asserts that the cursor of a text is refused as one of another source.
-fn refuses(rt: &impl Abort, alloc: Global, source: &Source, text: &str) -> Result<(), Fail> {
-    let cursor = Cursor::from_text(alloc, text)?;
-    let refused = matches!(
-        Lister::resume_checked(alloc, source, &cursor),
-        Err(CursorFault::AnotherSource)
-    );
-    same_answer(rt, refused, true, text);
-    Ok(())
+fn refuses(rt: &impl Abort, alloc: Global, source: &Source, text: &str) {
+    let cursor = Cursor::from_text(alloc, text).expect(rt, "a cursor");
+    holds(rt, is_refused(alloc, source, &cursor), text);
 }
 
 #[test]
-fn refuses_cursors_of_other_sources(rt: HostRuntime) -> Result<(), Fail> {
-    let source = decode(rt.alloc(), b"x\n")?;
-    let texts = [
+fn refuses_cursors_of_other_sources(rt: HostRuntime) {
+    let source = decode(rt.alloc(), b"x\n").expect(&rt, "a source");
+    let texts = &[
         "pytok1 7 8 2 0 1 0 0,8",
         "pytok1 2 1 1 0 0 0 0",
         "pytok1 5 2 2 0 0 1 0",
     ];
     for text in texts {
-        refuses(&rt, rt.alloc(), &source, text)?;
+        refuses(&rt, rt.alloc(), &source, text);
     }
-    Ok(())
 }

@@ -1,23 +1,19 @@
 //! How far a number goes at the front of a text, as Python 3.11 cuts it.
 
-use crate::expected::same_text;
+use crate::expected::{same, same_text};
 use pylex::{Class, cut};
 use std::process::Abort;
-use std::test::Fail;
 
 /// Asserts that a number stands at the front of a text, and what is after it.
-fn cuts_number(rt: &impl Abort, text: &str, number: &str, rest: &str) -> Result<(), Fail> {
-    let Some((class, lexeme, behind)) = cut(text) else {
-        return Err(Fail::from("no lexeme"));
-    };
-    assert_eq!(rt; class, Class::Number, "{text}");
+fn cuts_number(rt: &impl Abort, text: &str, number: &str, rest: &str) {
+    let (class, lexeme, behind) = cut(text).expect(rt, "a lexeme");
+    same(rt, &class, &Class::Number, &text);
     same_text(rt, lexeme, number, text);
     same_text(rt, behind, rest, text);
-    Ok(())
 }
 
 #[test]
-fn cuts_numbers(rt: HostRuntime) -> Result<(), Fail> {
+fn cuts_numbers(rt: HostRuntime) {
     for (text, number, rest) in &[
         ("1if", "1", "if"),
         ("012", "0", "12"),
@@ -36,7 +32,6 @@ fn cuts_numbers(rt: HostRuntime) -> Result<(), Fail> {
         ("1e", "1", "e"),
         ("1e+", "1", "e+"),
     ] {
-        cuts_number(&rt, text, number, rest)?;
+        cuts_number(&rt, text, number, rest);
     }
-    Ok(())
 }

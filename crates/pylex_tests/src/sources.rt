@@ -1,21 +1,15 @@
 //! The text of a source, and the fault that ends it.
 
+use crate::expected::same;
 use crate::expected_source::{same_number, same_text};
 use pysource::{LineError, Source, SourceFault, decode};
 use std::alloc::Global;
 use std::process::Abort;
-use std::test::Fail;
 
-/// Asserts the fault that ends the text of a source.
-fn ends_with(
-    rt: &impl Abort,
-    source: &Source,
-    fault: Option<(LineError, usize, usize)>,
-    bytes: &[u8],
-) {
-    let found = source.line_fault();
-    let found = found.map(|fault| (fault.code, fault.place.row, fault.place.column));
-    assert_eq!(rt; found, fault, "at {bytes:?}");
+/// The fault that ends the text of a source: its code, row and column.
+fn fault_of(source: &Source) -> Option<(LineError, usize, usize)> {
+    let fault = source.line_fault()?;
+    Some((fault.code, fault.place.row, fault.place.column))
 }
 
 /// Asserts the encoding and the text of a source, and the fault that ends it.
@@ -28,18 +22,14 @@ fn decodes_as(
     fault: Option<(LineError, usize, usize)>,
 ) {
     assert!(rt; bytes.len() < 100);
-    match decode(alloc, bytes) {
-        Ok(source) => {
-            same_text(rt, source.encoding().text(), name, bytes);
-            same_text(rt, source.text(), text, bytes);
-            ends_with(rt, &source, fault, bytes);
-        }
-        Err(_) => assert!(rt; false, "at {bytes:?}"),
-    }
+    let source = decode(alloc, bytes).expect(rt, "a source");
+    same_text(rt, source.encoding().text(), name, bytes);
+    same_text(rt, source.text(), text, bytes);
+    same(rt, &fault_of(&source), &fault, &bytes);
 }
 
 #[test]
-fn decodes(rt: HostRuntime) -> Result<(), Fail> {
+fn decodes(rt: HostRuntime) {
     let rows: &[(&[u8], &str, &str, Option<(LineError, usize, usize)>)] = &[
         (b"", "utf-8", "", None),
         (b"\xEF\xBB\xBFx\r\ny", "utf-8", "x\r\ny", None),
@@ -96,7 +86,6 @@ fn decodes(rt: HostRuntime) -> Result<(), Fail> {
     for (bytes, name, text, fault) in rows {
         decodes_as(&rt, rt.alloc(), bytes, name, text, *fault);
     }
-    Ok(())
 }
 
 /// Asserts that the encoding that a row declares is refused.
@@ -107,18 +96,18 @@ fn refuses(rt: &impl Abort, alloc: Global, bytes: &[u8], row: usize) {
             same_number(rt, place.row, row, bytes);
             same_number(rt, place.column, 0, bytes);
         }
-        _ => assert!(rt; false, "at {bytes:?}"),
+        _ => panic!(rt; "at {bytes:?}"),
     }
 }
 
 #[test]
-fn refuses_sources(rt: HostRuntime) -> Result<(), Fail> {
-    for (bytes, row) in [
-        (b"# x\n# coding: latin-1\n".as_slice(), 2),
-        (b"# \xFF\n# coding: latin-1\n".as_slice(), 2),
-        (b"# coding: latin-1\r\n".as_slice(), 1),
-    ] {
-        refuses(&rt, rt.alloc(), bytes, row);
+fn refuses_sources(rt: HostRuntime) {
+    let rows: &[(&[u8], usize)] = &[
+        (b"# x\n# coding: latin-1\n", 2),
+        (b"# \xFF\n# coding: latin-1\n", 2),
+        (b"# coding: latin-1\r\n", 1),
+    ];
+    for (bytes, row) in rows {
+        refuses(&rt, rt.alloc(), bytes, *row);
     }
-    Ok(())
 }

@@ -1,6 +1,6 @@
 //! Listings of sources that are read line by line.
 
-use crate::expected::{same_answer, same_kind, same_known_text, same_number, same_step, same_text};
+use crate::expected::{holds, same, same_kind, same_known_text, same_number, same_step, same_text};
 use fakes::FakeReader;
 use pylex::{
     Cursor, Entry, Kind, Lister, ListingError, ListingFault, ResumeFault, Step, StreamLister,
@@ -8,31 +8,28 @@ use pylex::{
 use pysource::{ByteIn, Counted, LineError, Place, Source, StreamFault, decode};
 use std::alloc::Global;
 use std::process::Abort;
-use std::test::Fail;
 
 /// Sources of every kind: whole, faulty, and cut off in a literal or brackets.
-fn sources() -> [&'static [u8]; 18] {
-    [
-        b"x = 1\n",
-        b"",
-        b"if x:\n\ty\n",
-        b"if a:\n if b:\n  c\nd\n",
-        b"x = (1,\n # c\n 2)\n",
-        b"'''a\nb\nc''' \\\n + 'c'\n",
-        b"'''a\nb''' '''c\nd\n'''\ny",
-        b"x = '''a\nb\n",
-        b"x = '\\\n'\ny",
-        b"x = 'a\n",
-        b"x $ y\n",
-        b"x\n\xff\ny\n",
-        b"'''\n\xff\n'''\n",
-        b"(\n",
-        b"x \\\n",
-        b"  # c\n\n   x\n y\n",
-        b"x = 1",
-        b"# c",
-    ]
-}
+const SOURCES: &[&[u8]] = &[
+    b"x = 1\n",
+    b"",
+    b"if x:\n\ty\n",
+    b"if a:\n if b:\n  c\nd\n",
+    b"x = (1,\n # c\n 2)\n",
+    b"'''a\nb\nc''' \\\n + 'c'\n",
+    b"'''a\nb''' '''c\nd\n'''\ny",
+    b"x = '''a\nb\n",
+    b"x = '\\\n'\ny",
+    b"x = 'a\n",
+    b"x $ y\n",
+    b"x\n\xff\ny\n",
+    b"'''\n\xff\n'''\n",
+    b"(\n",
+    b"x \\\n",
+    b"  # c\n\n   x\n y\n",
+    b"x = 1",
+    b"# c",
+];
 
 /// The text of an entry, by its offsets.
 fn text_at<'a>(source: &'a Source, entry: &Entry) -> Option<&'a str> {
@@ -42,6 +39,11 @@ fn text_at<'a>(source: &'a Source, entry: &Entry) -> Option<&'a str> {
     }
 }
 
+/// The next step of a listing that is read line by line.
+fn next<R: ByteIn + Drop>(rt: &impl Abort, lines: &mut StreamLister<R>) -> Step {
+    lines.next().expect(rt, "memory")
+}
+
 /// The next step of both listers is the same, and tells whether it is an entry. A last step is
 /// given again.
 fn goes_one_on_as<R: ByteIn + Drop>(
@@ -49,17 +51,26 @@ fn goes_one_on_as<R: ByteIn + Drop>(
     source: &Source,
     whole: &mut Lister,
     lines: &mut StreamLister<R>,
-) -> Result<bool, Fail> {
-    let all = source.text();
-    let expected = whole.next()?;
-    let step = lines.next()?;
-    same_step(rt, &step, &expected, all);
-    let Step::Entry(entry) = step else {
-        same_step(rt, &lines.next()?, &expected, all);
-        return Ok(false);
-    };
-    same_known_text(rt, lines.text(&entry), text_at(source, &entry), all);
-    Ok(true)
+) -> bool {
+    let expected = whole.next().expect(rt, "memory");
+    let step = lines.next().expect(rt, "memory");
+    same_step(rt, &step, &expected, source.text());
+    match step {
+        Step::Entry(entry) => {
+            let expected = text_at(source, &entry);
+            same_known_text(rt, lines.text(&entry), expected, source.text());
+            true
+        }
+        _ => {
+            same_step(rt, &next(rt, lines), &expected, source.text());
+            false
+        }
+    }
+}
+
+/// The text of a cursor.
+fn text_of(rt: &impl Abort, cursor: &Cursor) -> String {
+    cursor.to_text().expect(rt, "memory")
 }
 
 /// The cursors of both listers have the same text.
@@ -68,123 +79,113 @@ fn stands_as<R: ByteIn + Drop>(
     source: &Source,
     whole: &Lister,
     lines: &StreamLister<R>,
-) -> Result<(), Fail> {
-    let expected = whole.cursor()?.to_text()?;
-    let told = lines.cursor()?.to_text()?;
-    same_text(rt, told.as_str(), expected.as_str(), source.text());
-    Ok(())
+) {
+    let expected = whole.cursor().expect(rt, "memory");
+    let told = lines.cursor().expect(rt, "memory");
+    same_cursor(rt, &told, &expected, source.text());
+}
+
+/// Asserts that a cursor has the text of the expected one.
+fn same_cursor(rt: &impl Abort, told: &Cursor, expected: &Cursor, at: &str) {
+    let told = text_of(rt, told);
+    let expected = text_of(rt, expected);
+    same_text(rt, told.as_str(), expected.as_str(), at);
 }
 
 /// Both listers give the same from here on, up to the end or the fault, and that again.
 fn goes_on_as<R: ByteIn + Drop>(
     rt: &impl Abort,
     source: &Source,
-    mut whole: Lister,
-    mut lines: StreamLister<R>,
-) -> Result<(), Fail> {
+    whole: &mut Lister,
+    lines: &mut StreamLister<R>,
+) {
     for _ in 0..100 {
-        if !goes_one_on_as(rt, source, &mut whole, &mut lines)? {
-            return Ok(());
+        if !goes_one_on_as(rt, source, whole, lines) {
+            return;
         }
-        stands_as(rt, source, &whole, &lines)?;
+        stands_as(rt, source, whole, lines);
     }
-    Err(Fail::from("no end"))
+    panic!(rt; "no end");
 }
 
 /// Both listers give the same of a source whose bytes are read many at a time.
-fn lists_many_alike(
-    rt: &impl Abort,
-    alloc: Global,
-    source: &Source,
-    bytes: &[u8],
-) -> Result<(), Fail> {
-    let whole = Lister::new(alloc, source);
-    let lines = StreamLister::new(alloc, Counted::new(bytes))?;
-    goes_on_as(rt, source, whole, lines)
+fn lists_many_alike(rt: &impl Abort, alloc: Global, source: &Source, bytes: &[u8]) {
+    let mut whole = Lister::new(alloc, source);
+    let mut lines = StreamLister::new(alloc, Counted::new(bytes)).expect(rt, "a lister");
+    goes_on_as(rt, source, &mut whole, &mut lines);
 }
 
 /// The same of a source whose bytes are read one at a time.
-fn lists_each_alike(
-    rt: &impl Abort,
-    alloc: Global,
-    source: &Source,
-    bytes: &[u8],
-) -> Result<(), Fail> {
-    let whole = Lister::new(alloc, source);
-    let lines = StreamLister::new(alloc, FakeReader::new(bytes, 1, false))?;
-    goes_on_as(rt, source, whole, lines)
+fn lists_each_alike(rt: &impl Abort, alloc: Global, source: &Source, bytes: &[u8]) {
+    let mut whole = Lister::new(alloc, source);
+    let mut lines = StreamLister::new(alloc, FakeReader::new(bytes, 1, false)).expect(
+        rt, "a lister",
+    );
+    goes_on_as(rt, source, &mut whole, &mut lines);
 }
 
 /// The source of a few bytes.
-pub(crate) fn source_of(rt: &impl Abort, alloc: Global, bytes: &[u8]) -> Result<Source, Fail> {
+pub(crate) fn source_of(rt: &impl Abort, alloc: Global, bytes: &[u8]) -> Source {
     assert!(rt; bytes.len() < 100);
-    let source = decode(alloc, bytes)?;
-    Ok(source)
+    decode(alloc, bytes).expect(rt, "a source")
 }
 
 #[test]
-fn lists_as_a_lister_does(rt: HostRuntime) -> Result<(), Fail> {
-    for bytes in sources() {
-        let source = source_of(&rt, rt.alloc(), bytes)?;
-        lists_many_alike(&rt, rt.alloc(), &source, bytes)?;
-        lists_each_alike(&rt, rt.alloc(), &source, bytes)?;
+fn lists_as_a_lister_does(rt: HostRuntime) {
+    for bytes in SOURCES {
+        let source = source_of(&rt, rt.alloc(), bytes);
+        lists_many_alike(&rt, rt.alloc(), &source, bytes);
+        lists_each_alike(&rt, rt.alloc(), &source, bytes);
     }
-    Ok(())
 }
 
 /// Both listers give the same after the cursor of one.
-fn goes_on_alike(
-    rt: &impl Abort,
-    alloc: Global,
-    source: &Source,
-    bytes: &[u8],
-    lister: &Lister,
-) -> Result<(), Fail> {
-    let cursor = lister.cursor()?;
-    let goes_on = Lister::resume_checked(alloc, source, &cursor)?;
-    let lines = StreamLister::resume_checked(alloc, FakeReader::new(bytes, 3, false), &cursor)?;
-    goes_on_as(rt, source, goes_on, lines)
+fn goes_on_alike(rt: &impl Abort, alloc: Global, source: &Source, bytes: &[u8], lister: &Lister) {
+    let cursor = lister.cursor().expect(rt, "memory");
+    let mut whole = Lister::resume_checked(alloc, source, &cursor).expect(rt, "a lister");
+    let mut lines = StreamLister::resume_checked(
+        alloc,
+        FakeReader::new(bytes, 3, false),
+        &cursor,
+    ).expect(rt, "a lister");
+    goes_on_as(rt, source, &mut whole, &mut lines);
 }
 
 /// Both listers give the same after each cursor of a source.
-fn goes_on_anywhere(
-    rt: &impl Abort,
-    alloc: Global,
-    source: &Source,
-    bytes: &[u8],
-) -> Result<(), Fail> {
+fn goes_on_anywhere(rt: &impl Abort, alloc: Global, source: &Source, bytes: &[u8]) {
     let mut whole = Lister::new(alloc, source);
     for _ in 0..100 {
-        let Step::Entry(_) = whole.next()? else {
+        if !matches!(whole.next().expect(rt, "memory"), Step::Entry(_)) {
             break;
-        };
-        goes_on_alike(rt, alloc, source, bytes, &whole)?;
+        }
+        goes_on_alike(rt, alloc, source, bytes, &whole);
     }
-    Ok(())
 }
 
 #[test]
-fn goes_on_behind_cursors(rt: HostRuntime) -> Result<(), Fail> {
-    for bytes in sources() {
-        let source = source_of(&rt, rt.alloc(), bytes)?;
-        goes_on_anywhere(&rt, rt.alloc(), &source, bytes)?;
+fn goes_on_behind_cursors(rt: HostRuntime) {
+    for bytes in SOURCES {
+        let source = source_of(&rt, rt.alloc(), bytes);
+        goes_on_anywhere(&rt, rt.alloc(), &source, bytes);
     }
-    Ok(())
+}
+
+/// Whether a cursor is refused as one of another source.
+fn is_refused(alloc: Global, bytes: &[u8], cursor: &Cursor) -> bool {
+    matches!(
+        StreamLister::resume_checked(alloc, FakeReader::new(bytes, 1, false), cursor),
+        Err(ResumeFault::AnotherSource)
+    )
 }
 
 /// Asserts that the cursor of a text is refused as one of another source.
-fn refuses(rt: &impl Abort, alloc: Global, bytes: &[u8], text: &str) -> Result<(), Fail> {
-    let cursor = Cursor::from_text(alloc, text)?;
-    let refused = matches!(
-        StreamLister::resume_checked(alloc, FakeReader::new(bytes, 1, false), &cursor),
-        Err(ResumeFault::AnotherSource)
-    );
-    same_answer(rt, refused, true, text);
-    Ok(())
+fn refuses(rt: &impl Abort, alloc: Global, bytes: &[u8], text: &str) {
+    let cursor = Cursor::from_text(alloc, text).expect(rt, "a cursor");
+    holds(rt, is_refused(alloc, bytes, &cursor), text);
 }
 
 #[test]
-fn refuses_cursors_of_other_sources(rt: HostRuntime) -> Result<(), Fail> {
+fn refuses_cursors_of_other_sources(rt: HostRuntime) {
     let rows: &[(&[u8], &str)] = &[
         (b"x\n", "pytok1 7 8 2 0 1 0 0,8"),
         (b"x\n", "pytok1 2 1 1 0 0 0 0"),
@@ -192,9 +193,8 @@ fn refuses_cursors_of_other_sources(rt: HostRuntime) -> Result<(), Fail> {
         (b"x\n\xff\n", "pytok1 5 2 2 0 0 1 0"),
     ];
     for (bytes, text) in rows {
-        refuses(&rt, rt.alloc(), bytes, text)?;
+        refuses(&rt, rt.alloc(), bytes, text);
     }
-    Ok(())
 }
 
 /// The fault of a line that could not be read whole.
@@ -205,120 +205,125 @@ fn unread(row: usize) -> Step {
     })
 }
 
+/// The next step is an entry.
+fn next_entry(rt: &impl Abort, lines: &mut StreamLister<FakeReader<'_>>) -> Entry {
+    match next(rt, lines) {
+        Step::Entry(entry) => entry,
+        _ => panic!(rt; "no entry"),
+    }
+}
+
 /// The next step is an entry of this kind and text.
-fn gives_entry(
-    rt: &impl Abort,
-    lines: &mut StreamLister<FakeReader<'_>>,
-    kind: Kind,
-    text: &str,
-) -> Result<(), Fail> {
-    let Step::Entry(entry) = lines.next()? else {
-        return Err(Fail::from("no entry"));
+fn gives_entry(rt: &impl Abort, lines: &mut StreamLister<FakeReader<'_>>, kind: Kind, text: &str) {
+    let Step::Entry(entry) = lines.next().expect(rt, "memory") else {
+        panic!(rt; "no entry");
     };
     same_kind(rt, entry.kind, kind);
     same_text(rt, lines.text(&entry), text, text);
-    Ok(())
 }
 
-/// The next step is the failed read of row 2, whose failure was counted once.
-fn fails_once(rt: &impl Abort, lines: &mut StreamLister<FakeReader<'_>>) -> Result<(), Fail> {
-    same_step(rt, &lines.next()?, &unread(2), "a failed read");
-    assert!(rt; lines.reader().failures() == 1);
-    Ok(())
+/// The next step is the failed read of row 2.
+fn fails(rt: &impl Abort, lines: &mut StreamLister<FakeReader<'_>>) {
+    same_step(rt, &next(rt, lines), &unread(2), "a failed read");
+}
+
+/// The same, whose failure was counted once.
+fn fails_once(rt: &impl Abort, lines: &mut StreamLister<FakeReader<'_>>) {
+    fails(rt, lines);
+    holds(rt, lines.reader().failures() == 1, "a failed read");
 }
 
 /// These entries come before the failed read.
-fn gives_before_failing(
-    rt: &impl Abort,
-    alloc: Global,
-    bytes: &[u8],
-    entries: &[(Kind, &str)],
-) -> Result<(), Fail> {
-    let mut lines = StreamLister::new(alloc, FakeReader::new(bytes, 1, true))?;
+fn gives_before_failing(rt: &impl Abort, alloc: Global, bytes: &[u8], entries: &[(Kind, &str)]) {
+    let reader = FakeReader::new(bytes, 1, true);
+    let mut lines = StreamLister::new(alloc, reader).expect(rt, "a lister");
     for (kind, text) in entries {
-        gives_entry(rt, &mut lines, *kind, text)?;
+        gives_entry(rt, &mut lines, *kind, text);
     }
     for _ in 0..3 {
-        fails_once(rt, &mut lines)?;
+        fails_once(rt, &mut lines);
     }
-    Ok(())
 }
 
+/// Whether the read fails that a listing begins with.
+fn fails_first(alloc: Global, bytes: &[u8]) -> bool {
+    matches!(
+        StreamLister::new(alloc, FakeReader::new(bytes, 1, true)),
+        Err(StreamFault::Read)
+    )
+}
+
+const START: (Kind, &str) = (Kind::Encoding, "utf-8");
+
+const NAME: (Kind, &str) = (Kind::Name, "x");
+
 #[test]
-fn tells_failed_reads(rt: HostRuntime) -> Result<(), Fail> {
-    let start = (Kind::Encoding, "utf-8");
-    let name = (Kind::Name, "x");
-    let rows: [(&[u8], [(Kind, &str); 3]); 2] = [
-        (b"x\ny", [start, name, (Kind::Newline, "\n")]),
-        (b"x = '''a\n", [start, name, (Kind::Op, "=")]),
+fn tells_failed_reads(rt: HostRuntime) {
+    let rows: &[(&[u8], &[(Kind, &str)])] = &[
+        (b"x\ny", &[START, NAME, (Kind::Newline, "\n")]),
+        (b"x = '''a\n", &[START, NAME, (Kind::Op, "=")]),
     ];
     for (bytes, entries) in rows {
-        gives_before_failing(&rt, rt.alloc(), bytes, &entries)?;
+        gives_before_failing(&rt, rt.alloc(), bytes, entries);
     }
-    let failed = matches!(
-        StreamLister::new(rt.alloc(), FakeReader::new(b"# c\n", 1, true)),
-        Err(StreamFault::Read)
-    );
-    same_answer(&rt, failed, true, "# c\n");
-    Ok(())
+    holds(&rt, fails_first(rt.alloc(), b"# c\n"), "# c\n");
+}
+
+/// So many entries come before the failed read.
+fn gives_some_before_failing(
+    rt: &impl Abort,
+    mut lines: StreamLister<FakeReader<'_>>,
+    count: usize,
+) {
+    for _ in 0..count {
+        let _ = next_entry(rt, &mut lines);
+    }
+    fails(rt, &mut lines);
 }
 
 /// Up to the row whose read fails a cursor is gone on after, and then no longer.
-fn goes_on_or_fails(
-    rt: &impl Abort,
-    alloc: Global,
-    cursor: &Cursor,
-    given: i32,
-) -> Result<(), Fail> {
+fn goes_on_or_fails(rt: &impl Abort, alloc: Global, cursor: &Cursor, given: usize) {
     let reader = FakeReader::new(b"x\ny", 1, true);
     match StreamLister::resume_checked(alloc, reader, cursor) {
-        Ok(mut lines) => {
+        Ok(lines) => {
             assert!(rt; given <= 3);
-            for _ in given..3 {
-                let goes_on = matches!(lines.next()?, Step::Entry(_));
-                same_answer(rt, goes_on, true, "an entry");
-            }
-            same_step(rt, &lines.next()?, &unread(2), "a failed read");
+            gives_some_before_failing(rt, lines, 3 - given);
         }
         Err(fault) => {
-            assert!(rt; given > 3);
-            assert!(rt; matches!(fault, ResumeFault::Stream(StreamFault::Read)));
+            let is_read = matches!(fault, ResumeFault::Stream(StreamFault::Read));
+            holds(rt, given > 3 && is_read, "a failed read");
         }
     }
-    Ok(())
+}
+
+/// The cursor of a listing after one more step.
+fn next_cursor(rt: &impl Abort, lister: &mut Lister) -> Cursor {
+    let _ = lister.next().expect(rt, "memory");
+    lister.cursor().expect(rt, "memory")
 }
 
 #[test]
-fn goes_on_up_to_a_failed_read(rt: HostRuntime) -> Result<(), Fail> {
-    let source = decode(rt.alloc(), b"x\ny\n")?;
+fn goes_on_up_to_a_failed_read(rt: HostRuntime) {
+    let source = decode(rt.alloc(), b"x\ny\n").expect(&rt, "a source");
     let mut whole = Lister::new(rt.alloc(), &source);
     for given in 1..6 {
-        let _ = whole.next()?;
-        let cursor = whole.cursor()?;
-        goes_on_or_fails(&rt, rt.alloc(), &cursor, given)?;
+        let cursor = next_cursor(&rt, &mut whole);
+        goes_on_or_fails(&rt, rt.alloc(), &cursor, given);
     }
-    Ok(())
 }
 
 /// Asserts what is held after so many entries.
-fn holds(
-    rt: &impl Abort,
-    alloc: Global,
-    bytes: &[u8],
-    entries: usize,
-    held: &str,
-) -> Result<(), Fail> {
-    let mut lines = StreamLister::new(alloc, FakeReader::new(bytes, 1, false))?;
+fn holds_after(rt: &impl Abort, alloc: Global, bytes: &[u8], entries: usize, held: &str) {
+    let reader = FakeReader::new(bytes, 1, false);
+    let mut lines = StreamLister::new(alloc, reader).expect(rt, "a lister");
     for _ in 0..entries {
-        let goes_on = matches!(lines.next()?, Step::Entry(_));
-        same_answer(rt, goes_on, true, held);
+        let _ = next_entry(rt, &mut lines);
     }
-    assert_eq!(rt; lines.held(), held, "after {entries} of {bytes:?}");
-    Ok(())
+    same(rt, &lines.held(), &held, &(entries, bytes));
 }
 
 #[test]
-fn holds_the_lines_of_an_entry(rt: HostRuntime) -> Result<(), Fail> {
+fn holds_the_lines_of_an_entry(rt: HostRuntime) {
     let rows: &[(&[u8], usize, &str)] = &[
         (b"x\ny\n", 1, ""),
         (b"x\ny\n", 2, "x\n"),
@@ -331,38 +336,24 @@ fn holds_the_lines_of_an_entry(rt: HostRuntime) -> Result<(), Fail> {
         (b"(1,\n # c\n 2)\n", 6, " # c\n"),
     ];
     for (bytes, entries, held) in rows {
-        holds(&rt, rt.alloc(), bytes, *entries, held)?;
+        holds_after(&rt, rt.alloc(), bytes, *entries, held);
     }
-    Ok(())
 }
 
 /// The next step is an entry of this kind.
-fn gives_kind(
-    rt: &impl Abort,
-    lines: &mut StreamLister<FakeReader<'_>>,
-    kind: Kind,
-) -> Result<(), Fail> {
-    let Step::Entry(entry) = lines.next()? else {
-        return Err(Fail::from("no entry"));
-    };
-    same_kind(rt, entry.kind, kind);
-    Ok(())
+fn gives_kind(rt: &impl Abort, lines: &mut StreamLister<FakeReader<'_>>, kind: Kind) {
+    same_kind(rt, next_entry(rt, lines).kind, kind);
 }
 
 /// The next step is the name of a row, which is all that is held.
-fn gives_name(
-    rt: &impl Abort,
-    lines: &mut StreamLister<FakeReader<'_>>,
-    row: usize,
-) -> Result<(), Fail> {
-    let Step::Entry(entry) = lines.next()? else {
-        return Err(Fail::from("no entry"));
+fn gives_name(rt: &impl Abort, lines: &mut StreamLister<FakeReader<'_>>, row: usize) {
+    let Step::Entry(entry) = lines.next().expect(rt, "memory") else {
+        panic!(rt; "no entry");
     };
     same_kind(rt, entry.kind, Kind::Name);
     same_number(rt, entry.start.row, row, "a row");
     same_text(rt, lines.text(&entry), "x", "a name");
     same_text(rt, lines.held(), "x\n", "a line");
-    Ok(())
 }
 
 /// So much is left of the bytes that no more than 8 KiB were read ahead of a row.
@@ -372,35 +363,39 @@ fn reads_little(rt: &impl Abort, left: usize, row: usize) {
 }
 
 /// The next steps are the lines of these rows.
-fn gives_rows(
-    rt: &impl Abort,
-    lines: &mut StreamLister<FakeReader<'_>>,
-    rows: usize,
-) -> Result<(), Fail> {
+fn gives_rows(rt: &impl Abort, lines: &mut StreamLister<FakeReader<'_>>, rows: usize) {
     for row in 0..rows {
-        gives_name(rt, lines, row + 1)?;
+        gives_name(rt, lines, row + 1);
         reads_little(rt, lines.reader().left().len(), row + 1);
-        gives_kind(rt, lines, Kind::Newline)?;
+        gives_kind(rt, lines, Kind::Newline);
     }
-    Ok(())
+}
+
+/// A listing has so many lines of two bytes, of which one is held at a time.
+fn gives_all_rows(rt: &impl Abort, lines: &mut StreamLister<FakeReader<'_>>, rows: usize) {
+    gives_kind(rt, lines, Kind::Encoding);
+    holds(
+        rt,
+        lines.reader().left().len() >= 100_000 - 8_194,
+        "the first read",
+    );
+    gives_rows(rt, lines, rows);
+    gives_kind(rt, lines, Kind::EndMarker);
+    same_step(rt, &next(rt, lines), &Step::End, "the end");
 }
 
 /// A source of so many lines of two bytes is listed, and one line of it held at a time.
-fn holds_one_line(rt: &impl Abort, alloc: Global, bytes: &[u8], rows: usize) -> Result<(), Fail> {
-    let mut lines = StreamLister::new(alloc, FakeReader::new(bytes, 9_000, false))?;
-    gives_kind(rt, &mut lines, Kind::Encoding)?;
-    assert!(rt; lines.reader().left().len() >= 100_000 - 8_194);
-    gives_rows(rt, &mut lines, rows)?;
-    gives_kind(rt, &mut lines, Kind::EndMarker)?;
-    same_step(rt, &lines.next()?, &Step::End, "the end");
-    Ok(())
+fn holds_one_line(rt: &impl Abort, alloc: Global, bytes: &[u8], rows: usize) {
+    let reader = FakeReader::new(bytes, 9_000, false);
+    let mut lines = StreamLister::new(alloc, reader).expect(rt, "a lister");
+    gives_all_rows(rt, &mut lines, rows);
 }
 
 #[test]
-fn holds_one_line_of_many(rt: HostRuntime) -> Result<(), Fail> {
+fn holds_one_line_of_many(rt: HostRuntime) {
     let mut bytes = Vec::new(rt.alloc());
     for _ in 0..50_000 {
-        bytes.extend_from_slice(b"x\n")?;
+        bytes.extend_from_slice(b"x\n").expect(&rt, "memory");
     }
-    holds_one_line(&rt, rt.alloc(), bytes.as_slice(), 50_000)
+    holds_one_line(&rt, rt.alloc(), bytes.as_slice(), 50_000);
 }

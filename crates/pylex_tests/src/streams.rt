@@ -2,10 +2,9 @@
 
 use crate::expected_source::{same_count, same_line, same_number, same_text};
 use fakes::FakeReader;
-use pysource::{ByteIn, Chunks, Counted, LineError, LineRead, LineReader, StreamFault};
+use pysource::{ByteIn, Chunks, Counted, LineError, LineRead, LineReader, Place, StreamFault};
 use std::alloc::Global;
 use std::process::Abort;
-use std::test::Fail;
 
 /// What an answer is called.
 fn name(line: &LineRead) -> &'static str {
@@ -31,55 +30,66 @@ fn refusal(fault: &StreamFault) -> &'static str {
     }
 }
 
+/// Appends a text.
+fn push(rt: &impl Abort, out: &mut String, text: &str) {
+    out.push_str(text).expect(rt, "memory");
+}
+
+/// Appends where a fault stands.
+fn push_place(rt: &impl Abort, alloc: Global, told: &mut String, place: Place) {
+    let place = format!(in alloc; " {} {}", place.row, place.column).expect(rt, "memory");
+    push(rt, told, place.as_str());
+}
+
 /// Appends what an answer is called, and where a fault stands.
-fn push_answer(alloc: Global, told: &mut String, line: LineRead) -> Result<(), Fail> {
-    told.push_str(" | ")?;
-    told.push_str(name(&line))?;
+fn push_answer(rt: &impl Abort, alloc: Global, told: &mut String, line: LineRead) {
+    push(rt, told, " | ");
+    push(rt, told, name(&line));
     if let LineRead::Fault(fault) = line {
-        let place = format!(in alloc; " {} {}", fault.place.row, fault.place.column)?;
-        told.push_str(place.as_str())?;
+        push_place(rt, alloc, told, fault.place);
     }
-    Ok(())
 }
 
 /// The encoding, and each of `calls` answers with the text so far behind it.
-fn told(alloc: Global, bytes: &[u8], fails: bool, calls: usize) -> Result<String, Fail> {
-    let mut reader = FakeReader::new(bytes, 1, fails);
-    let mut lines = match LineReader::new(alloc, &mut reader) {
-        Ok(lines) => lines,
-        Err(fault) => return Ok(String::from_str(alloc, refusal(&fault))?),
-    };
-    let mut told = String::from_str(alloc, lines.encoding().text())?;
+fn answers_of(
+    rt: &impl Abort,
+    alloc: Global,
+    reader: &mut FakeReader<'_>,
+    lines: &mut LineReader,
+    calls: usize,
+) -> String {
+    let mut told = String::from_str(alloc, lines.encoding().text()).expect(rt, "memory");
     let mut chunk = String::new(alloc);
     for _ in 0..calls {
         // At most one failure is counted.
         if reader.failures() > 1 {
             break;
         }
-        let line = lines.next_line(&mut reader, &mut chunk)?;
-        push_answer(alloc, &mut told, line)?;
+        let line = lines.next_line(reader, &mut chunk).expect(rt, "memory");
+        push_answer(rt, alloc, &mut told, line);
     }
-    told.push_str(" | ")?;
-    told.push_str(chunk.as_str())?;
-    Ok(told)
+    push(rt, &mut told, " | ");
+    push(rt, &mut told, chunk.as_str());
+    told
+}
+
+/// The same of some bytes, or why they are refused.
+fn told(rt: &impl Abort, alloc: Global, bytes: &[u8], fails: bool, calls: usize) -> String {
+    let mut reader = FakeReader::new(bytes, 1, fails);
+    match LineReader::new(alloc, &mut reader) {
+        Ok(mut lines) => answers_of(rt, alloc, &mut reader, &mut lines, calls),
+        Err(fault) => String::from_str(alloc, refusal(&fault)).expect(rt, "memory"),
+    }
 }
 
 /// Asserts the answers of a source.
-fn gives(
-    rt: &impl Abort,
-    alloc: Global,
-    bytes: &[u8],
-    fails: bool,
-    calls: usize,
-    expected: &str,
-) -> Result<(), Fail> {
-    let told = told(alloc, bytes, fails, calls)?;
+fn gives(rt: &impl Abort, alloc: Global, bytes: &[u8], fails: bool, calls: usize, expected: &str) {
+    let told = told(rt, alloc, bytes, fails, calls);
     same_text(rt, told.as_str(), expected, bytes);
-    Ok(())
 }
 
 #[test]
-fn gives_lines(rt: HostRuntime) -> Result<(), Fail> {
+fn gives_lines(rt: HostRuntime) {
     let rows: &[(&[u8], bool, usize, &str)] = &[
         (b"", false, 2, "utf-8 | end | end | "),
         (b"a\nb", false, 1, "utf-8 | text | a\n"),
@@ -140,85 +150,71 @@ fn gives_lines(rt: HostRuntime) -> Result<(), Fail> {
         ),
     ];
     for (bytes, fails, calls, expected) in rows {
-        gives(&rt, rt.alloc(), bytes, *fails, *calls, expected)?;
+        gives(&rt, rt.alloc(), bytes, *fails, *calls, expected);
     }
-    Ok(())
-}
-
-/// The next line is a text of so many bytes.
-fn gives_text(
-    rt: &impl Abort,
-    alloc: Global,
-    lines: &mut Chunks<Counted<&[u8]>>,
-    expected: usize,
-) -> Result<(), Fail> {
-    let mut chunk = String::new(alloc);
-    let line = lines.next_line(&mut chunk)?;
-    same_line(rt, &line, &LineRead::Text);
-    same_number(rt, chunk.len(), expected, b"a line");
-    Ok(())
-}
-
-/// Asserts the lengths of the lines of a source.
-fn reads_lines(
-    rt: &impl Abort,
-    alloc: Global,
-    bytes: &[u8],
-    lengths: &[usize],
-) -> Result<(), Fail> {
-    let mut lines = Chunks::new(alloc, Counted::new(bytes))?;
-    same_text(rt, lines.encoding().text(), "utf-8", b"");
-    for expected in lengths {
-        gives_text(rt, alloc, &mut lines, *expected)?;
-    }
-    let mut chunk = String::new(alloc);
-    let line = lines.next_line(&mut chunk)?;
-    same_line(rt, &line, &LineRead::End);
-    same_count(rt, lines.reader().failures(), 0);
-    Ok(())
-}
-
-#[test]
-fn reads_long_lines(rt: HostRuntime) -> Result<(), Fail> {
-    let mut bytes = Vec::new(rt.alloc());
-    bytes.extend_from_slice(b"x\n")?;
-    bytes.resize(20_002, b'y')?;
-    bytes.extend_from_slice(b"\nz\n")?;
-    reads_lines(&rt, rt.alloc(), bytes.as_slice(), &[2, 20_001, 2])
 }
 
 /// Asserts the next answer.
-fn answers(
+fn answers<R: ByteIn + Drop>(
     rt: &impl Abort,
-    lines: &mut Chunks<FakeReader<'_>>,
+    lines: &mut Chunks<R>,
     chunk: &mut String,
     expected: &LineRead,
-) -> Result<(), Fail> {
-    let line = lines.next_line(chunk)?;
+) {
+    let line = lines.next_line(chunk).expect(rt, "memory");
     same_line(rt, &line, expected);
-    Ok(())
+}
+
+/// The next line is a text of so many bytes.
+fn gives_text(rt: &impl Abort, alloc: Global, lines: &mut Chunks<Counted<&[u8]>>, expected: usize) {
+    let mut chunk = String::new(alloc);
+    answers(rt, lines, &mut chunk, &LineRead::Text);
+    same_number(rt, chunk.len(), expected, b"a line");
+}
+
+/// Asserts the lengths of the lines of a source.
+fn reads_lines(rt: &impl Abort, alloc: Global, bytes: &[u8], lengths: &[usize]) {
+    let mut lines = Chunks::new(alloc, Counted::new(bytes)).expect(rt, "a reader");
+    same_text(rt, lines.encoding().text(), "utf-8", b"");
+    for expected in lengths {
+        gives_text(rt, alloc, &mut lines, *expected);
+    }
+    let mut chunk = String::new(alloc);
+    answers(rt, &mut lines, &mut chunk, &LineRead::End);
+    same_count(rt, lines.reader().failures(), 0);
 }
 
 #[test]
-fn counts_failures(rt: HostRuntime) -> Result<(), Fail> {
-    let mut lines = Chunks::new(rt.alloc(), FakeReader::new(b"a\nb", 1, true))?;
+fn reads_long_lines(rt: HostRuntime) {
+    let mut bytes = Vec::new(rt.alloc());
+    bytes.extend_from_slice(b"x\n").expect(&rt, "memory");
+    bytes.resize(20_002, b'y').expect(&rt, "memory");
+    bytes.extend_from_slice(b"\nz\n").expect(&rt, "memory");
+    reads_lines(&rt, rt.alloc(), bytes.as_slice(), &[2, 20_001, 2]);
+}
+
+#[test]
+fn counts_failures(rt: HostRuntime) {
+    let mut lines = Chunks::new(rt.alloc(), FakeReader::new(b"a\nb", 1, true)).expect(
+        &rt, "a reader",
+    );
     let mut chunk = String::new(rt.alloc());
-    answers(&rt, &mut lines, &mut chunk, &LineRead::Text)?;
-    answers(&rt, &mut lines, &mut chunk, &LineRead::Read)?;
-    answers(&rt, &mut lines, &mut chunk, &LineRead::Read)?;
+    answers(&rt, &mut lines, &mut chunk, &LineRead::Text);
+    answers(&rt, &mut lines, &mut chunk, &LineRead::Read);
+    answers(&rt, &mut lines, &mut chunk, &LineRead::Read);
     same_text(&rt, chunk.as_str(), "a\n", b"a\nb");
     same_count(&rt, lines.reader().failures(), 1);
-    Ok(())
 }
 
 #[test]
-fn counts_rows(rt: HostRuntime) -> Result<(), Fail> {
+fn counts_rows(rt: HostRuntime) {
     let mut reader = FakeReader::new(b"a\nb", 2, false);
-    let mut lines = LineReader::new(rt.alloc(), &mut reader)?;
+    let mut lines = LineReader::new(rt.alloc(), &mut reader).expect(&rt, "a reader");
     let mut chunk = String::new(rt.alloc());
     same_number(&rt, lines.row(), 1, b"before a line");
-    let line = lines.next_line(&mut reader, &mut chunk)?;
+    let line = lines
+        .next_line(&mut reader, &mut chunk)
+        .expect(&rt, "memory");
     same_line(&rt, &line, &LineRead::Text);
     same_number(&rt, lines.row(), 2, b"behind a line");
-    Ok(())
 }

@@ -14,27 +14,28 @@ fn tells_what_opens_a_string(rt: HostRuntime) {
     }
 }
 
+/// Asserts whether more text could end a string.
+fn is_open(rt: &impl Abort, text: &str, expected: bool) {
+    same_answer(rt, is_open_string(text), expected, text);
+    same_answer(rt, open_literal(text).is_some(), expected, text);
+}
+
 #[test]
 fn tells_what_more_text_could_end(rt: HostRuntime) {
     for text in &["'''", "rb\"\"\"a\n", "'a\\\n", "'\\\na\\\r\n"] {
-        same_answer(&rt, is_open_string(text), true, text);
-        same_answer(&rt, open_literal(text).is_some(), true, text);
+        is_open(&rt, text, true);
     }
     for text in &[
         "'", "'a\n", "'a\\", "'a\\\nb", "'a\\\n\n", "a\\\n", "''\\\n",
     ] {
-        same_answer(&rt, is_open_string(text), false, text);
-        same_answer(&rt, open_literal(text).is_none(), true, text);
+        is_open(&rt, text, false);
     }
 }
 
 /// Asserts whether a literal that is open after a text goes on after a line.
 fn goes(rt: &impl Abort, text: &str, line: &str, expected: bool) {
-    assert_eq!(rt;
-        open_literal(text).map(|o| o.goes_on(line)),
-        Some(expected),
-        "{text}{line}"
-    );
+    let literal = open_literal(text).expect(rt, "an open literal");
+    same_answer(rt, literal.goes_on(line), expected, line);
 }
 
 #[test]

@@ -3,16 +3,15 @@
 
 ghost use Rattle.std.specs.Prelude.{◌≡◌, IfOk};
 
-use crate::expected::{same_answer, same_text};
+use crate::expected::{holds, same_text};
 use pyfloat::Double;
 use pynatural::Natural;
 use pytree::{
     Constant, Expr, Extent, Integer, Level, Module, Profile, Stmt, Style, copy, dump_expr, same,
     well_formed_at,
 };
-use std::alloc::{AllocError, Global};
+use std::alloc::Global;
 use std::process::Abort;
-use std::test::Fail;
 
 /// On one line, with all names.
 const PLAIN: Style = Style {
@@ -21,47 +20,63 @@ const PLAIN: Style = Style {
     profile: Profile::PLAIN_311,
 };
 
-/// A float's constant.
-fn float(alloc: Global, literal: &str) -> Result<Constant, AllocError> {
-    Ok(Constant::Float(Double::read(alloc, literal.as_bytes())?))
+/// The expression of a float.
+fn float(rt: &impl Abort, alloc: Global, literal: &str) -> Expr {
+    let double = Double::read(alloc, literal.as_bytes()).expect(rt, "memory");
+    Expr::Constant {
+        value: Constant::Float(double),
+    }
 }
 
-/// An imaginary number's constant.
-fn imaginary(alloc: Global, literal: &str) -> Result<Constant, AllocError> {
-    Ok(Constant::Imaginary(Double::read(alloc, literal.as_bytes())?))
+/// The expression of an imaginary number.
+fn imaginary(rt: &impl Abort, alloc: Global, literal: &str) -> Expr {
+    let double = Double::read(alloc, literal.as_bytes()).expect(rt, "memory");
+    Expr::Constant {
+        value: Constant::Imaginary(double),
+    }
 }
 
 /// The whole number of decimal digits.
-fn integer(rt: &impl Abort, alloc: Global, digits: &str) -> Result<Integer, Fail> {
-    let number = Natural::read(alloc, 10, digits.as_bytes())?.expect(rt, "a number");
-    let made = Integer::of_natural(alloc, number)?;
-    Ok(made)
+fn integer(rt: &impl Abort, alloc: Global, digits: &str) -> Integer {
+    let number = Natural::read(alloc, 10, digits.as_bytes()).expect(rt, "memory");
+    Integer::of_natural(alloc, number.expect(rt, "a number")).expect(rt, "memory")
+}
+
+/// The expression of a whole number.
+fn whole(rt: &impl Abort, alloc: Global, digits: &str) -> Expr {
+    Expr::Constant {
+        value: Constant::Int(integer(rt, alloc, digits)),
+    }
+}
+
+/// Asserts the dump of a constant.
+fn has_dump(rt: &impl Abort, alloc: Global, tree: &Expr, expected: &str) {
+    let text = dump_expr(alloc, tree, PLAIN).expect(rt, "memory");
+    let value = text.as_str().strip_prefix("Constant(value=").unwrap_or("");
+    same_text(
+        rt,
+        value.strip_suffix(")").unwrap_or(""),
+        expected,
+        expected,
+    );
+}
+
+/// Asserts whether an expression may be a constant.
+fn fits(rt: &impl Abort, alloc: Global, tree: &Expr, extent: Extent, expected: bool, at: &str) {
+    let told = well_formed_at(alloc, tree, Level::Expression, extent).expect(rt, "memory");
+    holds(rt, told == expected, at);
 }
 
 /// Asserts what is shown of a constant, that an expression of the whole language may be it, and
 /// whether one of the plain language may.
-fn is_shown(
-    rt: &impl Abort,
-    alloc: Global,
-    value: Constant,
-    expected: &str,
-    fits: bool,
-) -> Result<(), Fail> {
-    let tree = Expr::Constant { value };
-    let text = dump_expr(alloc, &tree, PLAIN);
-    let plain = well_formed_at(alloc, &tree, Level::Expression, Extent::Plain);
-    let in_whole = well_formed_at(alloc, &tree, Level::Expression, Extent::Whole);
-    drop(tree);
-    let whole = format!(in alloc; "Constant(value={expected})")?;
-    same_text(rt, text?.as_str(), whole.as_str(), expected);
-    same_answer(rt, plain?, fits, expected);
-    same_answer(rt, in_whole?, true, expected);
-    Ok(())
+fn is_shown(rt: &impl Abort, alloc: Global, tree: Expr, expected: &str, is_plain: bool) {
+    has_dump(rt, alloc, &tree, expected);
+    fits(rt, alloc, &tree, Extent::Plain, is_plain, expected);
+    fits(rt, alloc, &tree, Extent::Whole, true, expected);
 }
 
 #[test]
-fn shows_floats(rt: HostRuntime) -> Result<(), Fail> {
-    let alloc = rt.alloc();
+fn shows_floats(rt: HostRuntime) {
     for (literal, expected) in &[
         ("1e16", "1e+16"),
         ("1e-5", "1e-05"),
@@ -70,28 +85,26 @@ fn shows_floats(rt: HostRuntime) -> Result<(), Fail> {
         ("1_0.", "10.0"),
         ("12345678901234567.0", "1.2345678901234568e+16"),
     ] {
-        is_shown(&rt, alloc, float(alloc, *literal)?, *expected, false)?;
+        let tree = float(&rt, rt.alloc(), literal);
+        is_shown(&rt, rt.alloc(), tree, expected, false);
     }
-    Ok(())
 }
 
 #[test]
-fn shows_imaginary_numbers(rt: HostRuntime) -> Result<(), Fail> {
-    let alloc = rt.alloc();
+fn shows_imaginary_numbers(rt: HostRuntime) {
     for (literal, expected) in &[
         ("2.5j", "2.5j"),
         ("0j", "0j"),
         ("1e16j", "1e+16j"),
         ("1e400j", "infj"),
     ] {
-        is_shown(&rt, alloc, imaginary(alloc, *literal)?, *expected, false)?;
+        let tree = imaginary(&rt, rt.alloc(), literal);
+        is_shown(&rt, rt.alloc(), tree, expected, false);
     }
-    Ok(())
 }
 
 #[test]
-fn shows_whole_numbers(rt: HostRuntime) -> Result<(), Fail> {
-    let alloc = rt.alloc();
+fn shows_whole_numbers(rt: HostRuntime) {
     for (digits, fits) in &[
         ("0", true),
         ("18446744073709551615", true),
@@ -100,59 +113,74 @@ fn shows_whole_numbers(rt: HostRuntime) -> Result<(), Fail> {
         ("340282366920938463463374607431768211456", false),
         ("10000000000000000000000000000000000000000", false),
     ] {
-        let number = integer(&rt, alloc, *digits)?;
-        same_answer(&rt, number.to_u128().is_some(), *fits, *digits);
-        is_shown(&rt, alloc, Constant::Int(number), *digits, *fits)?;
+        let number = integer(&rt, rt.alloc(), digits);
+        holds(&rt, number.to_u128().is_some() == *fits, digits);
+        is_shown(
+            &rt,
+            rt.alloc(),
+            whole(&rt, rt.alloc(), digits),
+            digits,
+            *fits,
+        );
     }
-    Ok(())
+}
+
+/// Asserts which whole number digits are, and how it is shown.
+fn is_made(rt: &impl Abort, alloc: Global, digits: &str, value: u128) {
+    let number = integer(rt, alloc, digits);
+    let made = Integer::new(alloc, value).expect(rt, "memory");
+    holds(rt, number == made, digits);
+    holds(rt, number.to_u128() == Some(value), digits);
+    let debug = format!(in alloc; "{number:?}").expect(rt, "memory");
+    same_text(rt, debug.as_str(), digits, digits);
 }
 
 /// A number of one size has one form, whichever call made it.
 #[test]
-fn makes_whole_numbers(rt: HostRuntime) -> Result<(), Fail> {
-    let alloc = rt.alloc();
+fn makes_whole_numbers(rt: HostRuntime) {
     for (digits, value) in &[
         ("0", 0),
         ("18446744073709551615", 18_446_744_073_709_551_615),
         ("18446744073709551616", 18_446_744_073_709_551_616_u128),
     ] {
-        let number = integer(&rt, alloc, *digits)?;
-        let is_made = number == Integer::new(alloc, *value)?;
-        same_answer(&rt, is_made, true, *digits);
-        same_answer(&rt, number.to_u128() == Some(*value), true, *digits);
-        let debug = format!(in alloc; "{number:?}")?;
-        same_text(&rt, debug.as_str(), *digits, *digits);
+        is_made(&rt, rt.alloc(), digits, *value);
     }
-    let large = integer(&rt, alloc, "340282366920938463463374607431768211456")?;
-    assert!(rt; large != integer(&rt, alloc, "0")?);
-    assert!(rt; large.clone()? == large);
-    Ok(())
+    let large = integer(&rt, rt.alloc(), "340282366920938463463374607431768211456");
+    let zero = integer(&rt, rt.alloc(), "0");
+    holds(&rt, large != zero, "zero");
+    let copy = large.clone().expect(&rt, "memory");
+    holds(&rt, copy == large, "a copy");
 }
 
-/// The module that a constant is.
-fn module_of(alloc: Global, value: Constant) -> Result<Module, AllocError> {
-    let statement = Stmt::Expr {
-        value: Expr::Constant { value },
-    };
+/// The module that an expression is.
+fn module_of(rt: &impl Abort, alloc: Global, value: Expr) -> Module {
     let mut body = Vec::new(alloc);
-    body.push(statement)?;
-    Ok(Module { body })
+    body.push(Stmt::Expr { value }).expect(rt, "memory");
+    Module { body }
+}
+
+/// Asserts that a copy of a module is the same.
+fn is_copied(rt: &impl Abort, alloc: Global, module: &Module) {
+    let copied = copy(alloc, module).expect(rt, "memory");
+    holds(rt, same(module, &copied), "a copy");
+}
+
+/// Asserts that copies of two modules are the same as they are, and these are not.
+fn are_apart(rt: &impl Abort, alloc: Global, module: Module, other: Module) {
+    is_copied(rt, alloc, &module);
+    is_copied(rt, alloc, &other);
+    holds(rt, !same(&module, &other), "two constants");
 }
 
 #[test]
-fn copies_and_compares(rt: HostRuntime) -> Result<(), Fail> {
+fn copies_and_compares(rt: HostRuntime) {
     let alloc = rt.alloc();
-    let float_module = module_of(alloc, float(alloc, "1e16")?)?;
-    let other_float = module_of(alloc, float(alloc, "1e22")?)?;
-    let imaginary_module = module_of(alloc, imaginary(alloc, "1e16j")?)?;
-    let large = integer(&rt, alloc, "10000000000000000000000000000000000000000")?;
-    let large_module = module_of(alloc, Constant::Int(large))?;
-    for module in &[&float_module, &imaginary_module, &large_module] {
-        let copied = copy(alloc, *module)?;
-        assert!(rt; same(*module, &copied));
+    for other in [
+        float(&rt, alloc, "1e22"),
+        imaginary(&rt, alloc, "1e16j"),
+        whole(&rt, alloc, "10000000000000000000000000000000000000000"),
+    ] {
+        let float = module_of(&rt, alloc, float(&rt, alloc, "1e16"));
+        are_apart(&rt, alloc, float, module_of(&rt, alloc, other));
     }
-    assert!(rt; !same(&float_module, &other_float));
-    assert!(rt; !same(&float_module, &imaginary_module));
-    assert!(rt; !same(&large_module, &float_module));
-    Ok(())
 }

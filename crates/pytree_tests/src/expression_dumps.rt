@@ -2,8 +2,9 @@
 
 use crate::expected::same_text;
 use crate::sources::{expression, module};
-use pytree::{Profile, Style, dump_expr};
-use std::test::Fail;
+use pytree::{Module, Profile, Style, dump_expr};
+use std::alloc::Global;
+use std::process::Abort;
 
 /// On one line, with all names.
 const PLAIN: Style = Style {
@@ -32,9 +33,26 @@ const SPREAD: &str = "{**d}";
 
 const LAMBDA: &str = "lambda a, /, b=1, *c, d, e=2, **f: a";
 
+/// Asserts the dump of the expression that a module is.
+pub(crate) fn is_dumped(
+    rt: &impl Abort,
+    alloc: Global,
+    tree: &Module,
+    style: Style,
+    expected: &str,
+) {
+    let dumped = dump_expr(alloc, expression(rt, tree), style).expect(rt, "memory");
+    same_text(rt, dumped.as_str(), expected, "an expression");
+}
+
+/// Asserts the dump of the expression that a text is.
+fn dumps(rt: &impl Abort, alloc: Global, text: &str, style: Style, expected: &str) {
+    let tree = module(rt, alloc, text);
+    is_dumped(rt, alloc, &tree, style, expected);
+}
+
 #[test]
-fn dumps_expressions(rt: HostRuntime) -> Result<(), Fail> {
-    let alloc = rt.alloc();
+fn dumps_expressions(rt: HostRuntime) {
     for (text, style, expected) in &[
         (
             CALL,
@@ -68,9 +86,6 @@ fn dumps_expressions(rt: HostRuntime) -> Result<(), Fail> {
             "Lambda(\n  args=arguments(\n    posonlyargs=[\n      arg(arg='a')],\n    args=[\n      arg(arg='b')],\n    vararg=arg(arg='c'),\n    kwonlyargs=[\n      arg(arg='d'),\n      arg(arg='e')],\n    kw_defaults=[\n      None,\n      Constant(value=2)],\n    kwarg=arg(arg='f'),\n    defaults=[\n      Constant(value=1)]),\n  body=Name(id='a', ctx=Load()))",
         ),
     ] {
-        let tree = module(alloc, *text)?;
-        let dumped = dump_expr(alloc, expression(&rt, &tree), *style)?;
-        same_text(&rt, dumped.as_str(), *expected, *text);
+        dumps(&rt, rt.alloc(), text, *style, expected);
     }
-    Ok(())
 }

@@ -2,15 +2,14 @@
 //! none.
 
 use crate::expected::{same_error, same_text};
-use crate::sources::{nested, source_of};
+use crate::sources::{nested, source_of, tokens_of_line};
 use pygrammar::Level;
-use pyparse::{GrammarError, ParseFault, Token, parse_expression, tokens_of};
+use pyparse::{GrammarError, ParseFault, Token, parse_expression};
 use pysource::Place;
 use pytree_dump::{Style, dump_expr};
-use pytree_node::{Extent, Profile};
+use pytree_node::Profile;
 use std::alloc::Global;
 use std::process::Abort;
-use std::test::Fail;
 
 /// As Python's `ast.dump` writes it, without the names of fields.
 const STYLE: Style = Style {
@@ -21,55 +20,50 @@ const STYLE: Style = Style {
 
 /// The dump of the expression that tokens are, or what the grammar says against them and where.
 fn dumped(
+    rt: &impl Abort,
     alloc: Global,
     tokens: &[Token<'_>],
     level: Level,
-) -> Result<Result<String, (GrammarError, Place)>, Fail> {
+) -> Result<String, (GrammarError, Place)> {
     match parse_expression(alloc, tokens, level) {
-        Ok(expr) => Ok(Ok(dump_expr(alloc, &expr, STYLE)?)),
-        Err(ParseFault::Grammar(error, place)) => Ok(Err((error, place))),
-        Err(_) => Err(Fail::from("no answer of the grammar")),
+        Ok(expr) => Ok(dump_expr(alloc, &expr, STYLE).expect(rt, "memory")),
+        Err(ParseFault::Grammar(error, place)) => Err((error, place)),
+        Err(_) => panic!(rt; "no answer of the grammar"),
     }
 }
 
 /// The same of a line, without its NEWLINE and ENDMARKER.
 fn read(
+    rt: &impl Abort,
     alloc: Global,
     text: &str,
     level: Level,
-) -> Result<Result<String, (GrammarError, Place)>, Fail> {
-    let source = source_of(alloc, text)?;
-    let Ok(mut tokens) = tokens_of(alloc, &source, Extent::Whole) else {
-        return Err(Fail::from("no tokens"));
-    };
-    tokens.pop();
-    tokens.pop();
-    dumped(alloc, tokens.as_slice(), level)
+) -> Result<String, (GrammarError, Place)> {
+    let source = source_of(rt, alloc, text);
+    let tokens = tokens_of_line(rt, alloc, &source);
+    dumped(rt, alloc, tokens.as_slice(), level)
 }
 
 /// A line is an expression with this dump.
-pub(crate) fn reads(rt: &impl Abort, alloc: Global, text: &str, dump: &str) -> Result<(), Fail> {
-    match read(alloc, text, Level::Value)? {
-        Ok(found) => same_text(rt, found.as_str(), dump, text),
-        Err(_) => return Err(Fail::from("no expression")),
-    }
-    Ok(())
+pub(crate) fn reads(rt: &impl Abort, alloc: Global, text: &str, dump: &str) {
+    let found = read(rt, alloc, text, Level::Value).expect(rt, "an expression");
+    same_text(rt, found.as_str(), dump, text);
 }
 
-/// What the grammar says against a line at a level.
-pub(crate) fn refusal(
+/// Asserts what the grammar says against a line at a level.
+pub(crate) fn is_refused(
+    rt: &impl Abort,
     alloc: Global,
     text: &str,
     level: Level,
-) -> Result<Option<(GrammarError, Place)>, Fail> {
-    match read(alloc, text, level)? {
-        Ok(_) => Ok(None),
-        Err(refusal) => Ok(Some(refusal)),
-    }
+    refused: Option<(GrammarError, Place)>,
+) {
+    let found = read(rt, alloc, text, level).err();
+    same_error(rt, found, refused, text);
 }
 
 #[test]
-fn operators(rt: HostRuntime) -> Result<(), Fail> {
+fn operators(rt: HostRuntime) {
     for (text, dump) in &[
         (
             "-x ** -y",
@@ -131,13 +125,12 @@ fn operators(rt: HostRuntime) -> Result<(), Fail> {
             "Tuple([Name('a', Load()), Name('b', Load())], Load())",
         ),
     ] {
-        reads(&rt, rt.alloc(), text, dump)?;
+        reads(&rt, rt.alloc(), text, dump);
     }
-    Ok(())
 }
 
 #[test]
-fn literals(rt: HostRuntime) -> Result<(), Fail> {
+fn literals(rt: HostRuntime) {
     for (text, dump) in &[
         (
             "1if x else 2",
@@ -170,13 +163,12 @@ fn literals(rt: HostRuntime) -> Result<(), Fail> {
             "Constant(340282366920938463463374607431768211456)",
         ),
     ] {
-        reads(&rt, rt.alloc(), text, dump)?;
+        reads(&rt, rt.alloc(), text, dump);
     }
-    Ok(())
 }
 
 #[test]
-fn calls(rt: HostRuntime) -> Result<(), Fail> {
+fn calls(rt: HostRuntime) {
     for (text, dump) in &[
         (
             "f(a, b=1)",
@@ -188,13 +180,12 @@ fn calls(rt: HostRuntime) -> Result<(), Fail> {
         ),
         ("f((yield))", "Call(Name('f', Load()), [Yield()], [])"),
     ] {
-        reads(&rt, rt.alloc(), text, dump)?;
+        reads(&rt, rt.alloc(), text, dump);
     }
-    Ok(())
 }
 
 #[test]
-fn in_brackets(rt: HostRuntime) -> Result<(), Fail> {
+fn in_brackets(rt: HostRuntime) {
     for (text, dump) in &[
         (
             "(-x) ** y",
@@ -267,13 +258,12 @@ fn in_brackets(rt: HostRuntime) -> Result<(), Fail> {
             "Subscript(Name('a', Load()), Tuple([Name('b', Load()), Name('c', Load())], Load()), Load())",
         ),
     ] {
-        reads(&rt, rt.alloc(), text, dump)?;
+        reads(&rt, rt.alloc(), text, dump);
     }
-    Ok(())
 }
 
 #[test]
-fn comprehensions(rt: HostRuntime) -> Result<(), Fail> {
+fn comprehensions(rt: HostRuntime) {
     for (text, dump) in &[
         (
             "f(a for b in c)",
@@ -304,13 +294,12 @@ fn comprehensions(rt: HostRuntime) -> Result<(), Fail> {
             "GeneratorExp(Name('a', Load()), [comprehension(Name('b', Store()), Name('c', Load()), [], 0)])",
         ),
     ] {
-        reads(&rt, rt.alloc(), text, dump)?;
+        reads(&rt, rt.alloc(), text, dump);
     }
-    Ok(())
 }
 
 #[test]
-fn lambdas(rt: HostRuntime) -> Result<(), Fail> {
+fn lambdas(rt: HostRuntime) {
     for (text, dump) in &[
         (
             "lambda: 0",
@@ -337,9 +326,8 @@ fn lambdas(rt: HostRuntime) -> Result<(), Fail> {
             "IfExp(Name('b', Load()), Name('a', Load()), Lambda(arguments([], [], kwonlyargs=[], kw_defaults=[], defaults=[]), Name('c', Load())))",
         ),
     ] {
-        reads(&rt, rt.alloc(), text, dump)?;
+        reads(&rt, rt.alloc(), text, dump);
     }
-    Ok(())
 }
 
 /// What is said against the first token.
@@ -349,7 +337,7 @@ const SYNTAX: Option<(GrammarError, Place)> = Some((
 ));
 
 #[test]
-fn of_a_level(rt: HostRuntime) -> Result<(), Fail> {
+fn of_a_level(rt: HostRuntime) {
     for (text, level, refused) in &[
         ("a, b", Level::Stars, None),
         ("a, b", Level::Expression, SYNTAX),
@@ -369,13 +357,12 @@ fn of_a_level(rt: HostRuntime) -> Result<(), Fail> {
         ("a:b", Level::Slice, None),
         ("a:b", Level::Elem, SYNTAX),
     ] {
-        same_error(&rt, refusal(rt.alloc(), text, *level)?, *refused, text);
+        is_refused(&rt, rt.alloc(), text, *level, *refused);
     }
-    Ok(())
 }
 
 #[test]
-fn none_at_all(rt: HostRuntime) -> Result<(), Fail> {
+fn none_at_all(rt: HostRuntime) {
     for text in &[
         "",
         "a b",
@@ -407,23 +394,16 @@ fn none_at_all(rt: HostRuntime) -> Result<(), Fail> {
         "a = b",
         "012",
     ] {
-        same_error(&rt, refusal(rt.alloc(), text, Level::Value)?, SYNTAX, text);
+        is_refused(&rt, rt.alloc(), text, Level::Value, SYNTAX);
     }
-    Ok(())
 }
 
 #[test]
-fn at_the_first_token(rt: HostRuntime) -> Result<(), Fail> {
+fn at_the_first_token(rt: HostRuntime) {
     let place = Place { row: 3, column: 0 };
     let text = "# a\n\nx y";
     let expected = Some((GrammarError::Syntax, place));
-    same_error(
-        &rt,
-        refusal(rt.alloc(), text, Level::Value)?,
-        expected,
-        text,
-    );
-    Ok(())
+    is_refused(&rt, rt.alloc(), text, Level::Value, expected);
 }
 
 /// What is said against too many nodes nested.
@@ -434,7 +414,7 @@ const DEEP: Option<(GrammarError, Place)> = Some((
 
 /// At most 500 nodes are nested, and 600 brackets.
 #[test]
-fn high(rt: HostRuntime) -> Result<(), Fail> {
+fn high(rt: HostRuntime) {
     for (count, before, middle, behind, refused) in &[
         (600, "(", "x", ")", None),
         (499, "-", "x", "", None),
@@ -458,9 +438,7 @@ fn high(rt: HostRuntime) -> Result<(), Fail> {
         (30_000, "", "x", " + x", DEEP),
         (600, "x + ", "x", "", DEEP),
     ] {
-        let text = nested(rt.alloc(), *count, before, middle, behind)?;
-        let found = refusal(rt.alloc(), text.as_str(), Level::Value)?;
-        same_error(&rt, found, *refused, text.as_str());
+        let text = nested(&rt, rt.alloc(), *count, before, middle, behind);
+        is_refused(&rt, rt.alloc(), text.as_str(), Level::Value, *refused);
     }
-    Ok(())
 }

@@ -1,93 +1,100 @@
 //! Which modules are well formed in a version of Python, and which expressions at a level.
 
 use crate::changes::{catch_all, put, put_name, set_dots, shorten};
-use crate::expected::same_answer;
+use crate::expected::holds;
 use crate::sources::{expression, module};
 use pytree::{
     Context, Expr, Extent, Identifier, Level, Module, Profile, well_formed, well_formed_at,
 };
-use std::alloc::{AllocError, Global};
-use std::test::Fail;
+use std::alloc::Global;
+use std::process::Abort;
 
-/// What is reported of a module in Python 3.11.
-fn told(alloc: Global, tree: &Module) -> Result<bool, AllocError> {
-    well_formed(alloc, tree, Profile::PLAIN_311)
+/// Asserts whether a module is well formed in Python 3.11.
+fn fits(rt: &impl Abort, alloc: Global, tree: &Module, expected: bool, at: &str) {
+    let told = well_formed(alloc, tree, Profile::PLAIN_311).expect(rt, "memory");
+    holds(rt, told == expected, at);
+}
+
+/// Asserts whether an expression is well formed at a level.
+fn fits_at(rt: &impl Abort, alloc: Global, tree: &Expr, level: Level, expected: bool, at: &str) {
+    let told = well_formed_at(alloc, tree, level, Extent::Plain).expect(rt, "memory");
+    holds(rt, told == expected, at);
+}
+
+/// A name.
+fn name(rt: &impl Abort, alloc: Global, text: &str, ctx: Context) -> Expr {
+    let id = Identifier::new(alloc, text).expect(rt, "memory");
+    Expr::Name { id, ctx }
 }
 
 /// Names: keywords are none, nor is `ﬁ`, which Python reads as `fi`; a target isn't read.
 #[test]
-fn names(rt: HostRuntime) -> Result<(), Fail> {
-    let alloc = rt.alloc();
+fn names(rt: HostRuntime) {
     for (text, ctx, expected) in &[
         ("fi", Context::Load, true),
         ("fi", Context::Store, false),
         ("if", Context::Load, false),
         ("ﬁ", Context::Load, false),
     ] {
-        let tree = Expr::Name {
-            id: Identifier::new(alloc, *text)?,
-            ctx: *ctx,
-        };
-        let fits = well_formed_at(alloc, &tree, Level::Expression, Extent::Plain);
-        drop(tree);
-        same_answer(&rt, fits?, *expected, *text);
+        let tree = name(&rt, rt.alloc(), text, *ctx);
+        fits_at(&rt, rt.alloc(), &tree, Level::Expression, *expected, text);
     }
-    Ok(())
 }
 
 /// `*a` is written in lists alone.
 #[test]
-fn levels(rt: HostRuntime) -> Result<(), Fail> {
-    let alloc = rt.alloc();
-    let tree = module(alloc, "*a")?;
-    for (level, expected) in &[(Level::Stars, true), (Level::Expression, false)] {
-        let fits = well_formed_at(alloc, expression(&rt, &tree), *level, Extent::Plain)?;
-        same_answer(&rt, fits, *expected, "*a");
-    }
-    Ok(())
+fn levels(rt: HostRuntime) {
+    let tree = module(&rt, rt.alloc(), "*a");
+    let star = expression(&rt, &tree);
+    fits_at(&rt, rt.alloc(), star, Level::Stars, true, "*a");
+    fits_at(&rt, rt.alloc(), star, Level::Expression, false, "*a");
+}
+
+/// Asserts whether the expression that a module is is well formed.
+fn fits_as_expression(rt: &impl Abort, alloc: Global, tree: &Module, expected: bool, at: &str) {
+    fits_at(
+        rt,
+        alloc,
+        expression(rt, tree),
+        Level::Expression,
+        expected,
+        at,
+    );
 }
 
 /// `and` is between two values at least; each parameter after `*` has a default, or none.
 #[test]
-fn members(rt: HostRuntime) -> Result<(), Fail> {
-    let alloc = rt.alloc();
+fn members(rt: HostRuntime) {
     for text in &["a and a", "lambda *, b: a"] {
-        let mut tree = module(alloc, *text)?;
-        let fits = well_formed_at(
-            alloc,
-            expression(&rt, &tree),
-            Level::Expression,
-            Extent::Plain,
-        )?;
-        same_answer(&rt, fits, true, *text);
-        assert!(rt; shorten(&mut tree));
-        let fits = well_formed_at(
-            alloc,
-            expression(&rt, &tree),
-            Level::Expression,
-            Extent::Plain,
-        )?;
-        same_answer(&rt, fits, false, *text);
+        let mut tree = module(&rt, rt.alloc(), text);
+        fits_as_expression(&rt, rt.alloc(), &tree, true, text);
+        holds(&rt, shorten(&mut tree), text);
+        fits_as_expression(&rt, rt.alloc(), &tree, false, text);
     }
-    Ok(())
 }
 
 /// `b = a`, and `a() = a`.
 #[test]
-fn targets(rt: HostRuntime) -> Result<(), Fail> {
-    let alloc = rt.alloc();
-    let mut tree = module(alloc, "b = a")?;
-    assert!(rt; told(alloc, &tree)?);
-    let mut call = module(alloc, "a()")?;
-    assert!(rt; put(&mut tree, &mut call).is_some());
-    assert!(rt; !told(alloc, &tree)?);
-    Ok(())
+fn targets(rt: HostRuntime) {
+    let mut tree = module(&rt, rt.alloc(), "b = a");
+    fits(&rt, rt.alloc(), &tree, true, "b = a");
+    let mut call = module(&rt, rt.alloc(), "a()");
+    holds(&rt, put(&mut tree, &mut call).is_some(), "a()");
+    fits(&rt, rt.alloc(), &tree, false, "a() = a");
+}
+
+/// A `from .. import` with so many dots, and with the name of another import.
+fn changed(rt: &impl Abort, alloc: Global, text: &str, dots: u64, other: &str) -> Module {
+    let mut tree = module(rt, alloc, text);
+    let mut name = module(rt, alloc, other);
+    holds(rt, set_dots(&mut tree, dots), text);
+    holds(rt, put_name(&mut tree, &mut name).is_some(), other);
+    tree
 }
 
 /// `from . import b` and the like.
 #[test]
-fn imports(rt: HostRuntime) -> Result<(), Fail> {
-    let alloc = rt.alloc();
+fn imports(rt: HostRuntime) {
     for (text, dots, other, expected) in &[
         ("from . import b as c", 1, "import b", true),
         ("from . import b", 0, "import b", false),
@@ -95,36 +102,29 @@ fn imports(rt: HostRuntime) -> Result<(), Fail> {
         ("from . import b", 1, "from a import *", true),
         ("from . import b as c", 1, "from a import *", false),
     ] {
-        let mut tree = module(alloc, *text)?;
-        let mut name = module(alloc, *other)?;
-        assert!(rt; set_dots(&mut tree, *dots));
-        assert!(rt; put_name(&mut tree, &mut name).is_some());
-        same_answer(&rt, told(alloc, &tree)?, *expected, *other);
+        let tree = changed(&rt, rt.alloc(), text, *dots, other);
+        fits(&rt, rt.alloc(), &tree, *expected, other);
     }
-    Ok(())
 }
 
 /// `except: pass`, and one that catches all by a name.
 #[test]
-fn handlers(rt: HostRuntime) -> Result<(), Fail> {
-    let alloc = rt.alloc();
+fn handlers(rt: HostRuntime) {
     for (text, expected) in &[
         ("try: pass\nexcept a: pass\n", true),
         ("try: pass\nexcept a as b: pass\n", false),
     ] {
-        let mut tree = module(alloc, *text)?;
-        assert!(rt; catch_all(&mut tree));
-        same_answer(&rt, told(alloc, &tree)?, *expected, *text);
+        let mut tree = module(&rt, rt.alloc(), text);
+        holds(&rt, catch_all(&mut tree), text);
+        fits(&rt, rt.alloc(), &tree, *expected, text);
     }
-    Ok(())
 }
 
 /// `type b = a` is of Python 3.12.
 #[test]
-fn versions(rt: HostRuntime) -> Result<(), Fail> {
-    let alloc = rt.alloc();
-    let tree = module(alloc, "type b = a")?;
-    assert!(rt; well_formed(alloc, &tree, Profile::PLAIN_312)?);
-    assert!(rt; !well_formed(alloc, &tree, Profile::PLAIN_311)?);
-    Ok(())
+fn versions(rt: HostRuntime) {
+    let tree = module(&rt, rt.alloc(), "type b = a");
+    let told = well_formed(rt.alloc(), &tree, Profile::PLAIN_312).expect(&rt, "memory");
+    holds(&rt, told, "Python 3.12");
+    fits(&rt, rt.alloc(), &tree, false, "Python 3.11");
 }

@@ -1,6 +1,6 @@
 //! Which trees of f-strings are well formed. They are made by hand.
 
-use crate::expected::same_answer;
+use crate::expected::{holds, same_answer};
 use crate::fstring_shapes::{
     DEEPEST, FIELD, FIELD_WITH_SPEC, NAME, ONE_FIELD, SPEC, Shape, around, expression, joined,
     with_spec,
@@ -9,21 +9,19 @@ use pytree::{Expr, Extent, Level, Pattern, PatternLevel, well_formed_at, well_fo
 use pytree_node::Conversion;
 use std::alloc::Global;
 use std::process::Abort;
-use std::test::Fail;
 
 /// Asserts whether an f-string is well formed in the whole language; in the plain one none is.
-fn fits(rt: &impl Abort, alloc: Global, tree: Expr, expected: bool, at: &str) -> Result<(), Fail> {
+fn fits(rt: &impl Abort, alloc: Global, tree: Expr, expected: bool, at: &str) {
     let whole = well_formed_at(alloc, &tree, Level::Atom, Extent::Whole);
     let plain = well_formed_at(alloc, &tree, Level::Atom, Extent::Plain);
     drop(tree);
-    same_answer(rt, whole?, expected, at);
-    same_answer(rt, plain?, false, at);
-    Ok(())
+    same_answer(rt, whole.expect(rt, "memory"), expected, at);
+    holds(rt, !plain.expect(rt, "memory"), at);
 }
 
 /// Texts that aren't empty, no two side by side, and fields.
 #[test]
-fn values(rt: HostRuntime) -> Result<(), Fail> {
+fn values(rt: HostRuntime) {
     let rows: &[(&[Shape], bool)] = &[
         (&[], true),
         (&[Shape::Text("a")], true),
@@ -52,10 +50,9 @@ fn values(rt: HostRuntime) -> Result<(), Fail> {
         (&[Shape::Star("x")], false),
     ];
     for (shapes, expected) in rows {
-        let tree = joined(rt.alloc(), *shapes)?;
-        fits(&rt, rt.alloc(), tree, *expected, "values")?;
+        let tree = joined(&rt, rt.alloc(), *shapes);
+        fits(&rt, rt.alloc(), tree, *expected, "values");
     }
-    Ok(())
 }
 
 const BRACE: &[Shape] = &[Shape::Text("{")];
@@ -68,7 +65,7 @@ const ESCAPED: &[Shape] = &[Shape::Text("'\\\n")];
 
 /// A format spec is an f-string, and the specs in it have no fields.
 #[test]
-fn format_specs(rt: HostRuntime) -> Result<(), Fail> {
+fn format_specs(rt: HostRuntime) {
     for (shape, expected) in &[
         (Shape::Joined(&[]), true),
         (Shape::Joined(BRACE), true),
@@ -82,10 +79,9 @@ fn format_specs(rt: HostRuntime) -> Result<(), Fail> {
         (Shape::Text("5"), false),
         (Shape::Field(NAME, Conversion::None), false),
     ] {
-        let tree = with_spec(rt.alloc(), shape)?;
-        fits(&rt, rt.alloc(), tree, *expected, "a format spec")?;
+        let tree = with_spec(&rt, rt.alloc(), shape);
+        fits(&rt, rt.alloc(), tree, *expected, "a format spec");
     }
-    Ok(())
 }
 
 const SPEC_OF_KIND: &Shape = &Shape::Joined(&[Shape::Unicode("a")]);
@@ -100,7 +96,7 @@ const KIND_AND_FIELD: &[Shape] = &[
 
 /// All texts have the same kind, but for the last one of a format spec, which has none.
 #[test]
-fn kinds(rt: HostRuntime) -> Result<(), Fail> {
+fn kinds(rt: HostRuntime) {
     let rows: &[(&[Shape], bool)] = &[
         (&[Shape::Unicode("a")], true),
         (
@@ -144,10 +140,9 @@ fn kinds(rt: HostRuntime) -> Result<(), Fail> {
         ),
     ];
     for (shapes, expected) in rows {
-        let tree = joined(rt.alloc(), *shapes)?;
-        fits(&rt, rt.alloc(), tree, *expected, "kinds")?;
+        let tree = joined(&rt, rt.alloc(), *shapes);
+        fits(&rt, rt.alloc(), tree, *expected, "kinds");
     }
-    Ok(())
 }
 
 const SPEC_OF_BRACE: &Shape = &Shape::Joined(BRACE);
@@ -165,7 +160,7 @@ const NO_VALUES: &Shape = &Shape::Joined(&[]);
 /// The value of a field is an expression that may stand anywhere. Within it stand characters that
 /// need no escape; in two fields there is no literal.
 #[test]
-fn fields(rt: HostRuntime) -> Result<(), Fail> {
+fn fields(rt: HostRuntime) {
     for (shape, expected) in &[
         (Shape::Name("x"), true),
         (Shape::Nothing, true),
@@ -198,28 +193,38 @@ fn fields(rt: HostRuntime) -> Result<(), Fail> {
         (Shape::Joined(TEXT_IN_FIELD), false),
         (Shape::Joined(NONE_IN_FIELD), false),
     ] {
-        let tree = around(rt.alloc(), shape)?;
-        fits(&rt, rt.alloc(), tree, *expected, "a field")?;
+        let tree = around(&rt, rt.alloc(), shape);
+        fits(&rt, rt.alloc(), tree, *expected, "a field");
     }
-    Ok(())
+}
+
+/// Asserts that a field is nothing by itself at a level.
+fn is_no_field(rt: &impl Abort, alloc: Global, tree: Expr, level: Level) {
+    let told = well_formed_at(alloc, &tree, level, Extent::Whole);
+    drop(tree);
+    holds(rt, !told.expect(rt, "memory"), "a field");
 }
 
 /// A field stands in an f-string alone.
 #[test]
-fn no_field_by_itself(rt: HostRuntime) -> Result<(), Fail> {
-    let alloc = rt.alloc();
-    let tree = expression(alloc, FIELD)?;
+fn no_field_by_itself(rt: HostRuntime) {
     for level in &[Level::Stars, Level::Expression, Level::Atom] {
-        let told = well_formed_at(alloc, &tree, *level, Extent::Whole)?;
-        same_answer(&rt, told, false, "a field");
+        let tree = expression(&rt, rt.alloc(), FIELD);
+        is_no_field(&rt, rt.alloc(), tree, *level);
     }
-    Ok(())
+}
+
+/// Asserts whether a pattern may have this value.
+fn fits_pattern(rt: &impl Abort, alloc: Global, value: Expr, expected: bool) {
+    let pattern = Pattern::MatchValue { value };
+    let told = well_formed_pattern_at(alloc, &pattern, PatternLevel::ClosedPattern);
+    drop(pattern);
+    same_answer(rt, told.expect(rt, "memory"), expected, "a value");
 }
 
 /// The value of a pattern may be an f-string that is well formed, and no field.
 #[test]
-fn values_of_patterns(rt: HostRuntime) -> Result<(), Fail> {
-    let alloc = rt.alloc();
+fn values_of_patterns(rt: HostRuntime) {
     for (shape, expected) in &[
         (Shape::Joined(&[]), true),
         (Shape::Joined(ONE_FIELD), true),
@@ -227,11 +232,7 @@ fn values_of_patterns(rt: HostRuntime) -> Result<(), Fail> {
         (Shape::Joined(EMPTY_TEXT), false),
         (Shape::Field(NAME, Conversion::None), false),
     ] {
-        let value = expression(alloc, shape)?;
-        let pattern = Pattern::MatchValue { value };
-        let told = well_formed_pattern_at(alloc, &pattern, PatternLevel::ClosedPattern);
-        drop(pattern);
-        same_answer(&rt, told?, *expected, "a value");
+        let value = expression(&rt, rt.alloc(), shape);
+        fits_pattern(&rt, rt.alloc(), value, *expected);
     }
-    Ok(())
 }

@@ -1,8 +1,9 @@
 //! Expressions with f-strings, as rows of tables have them.
 
-use pytree::{Constant, Context, Expr, Identifier, Module, Points, Stmt};
+use pytree::{Constant, Context, Expr, Identifier, Points};
 use pytree_node::Conversion;
-use std::alloc::{AllocError, Global};
+use std::alloc::Global;
+use std::process::Abort;
 
 /// An expression, as a row of a table has it.
 pub(crate) enum Shape {
@@ -37,9 +38,6 @@ pub(crate) const FIELD: &Shape = &Shape::Field(NAME, Conversion::None);
 /// What stands in `f'{x}'`.
 pub(crate) const ONE_FIELD: &[Shape] = &[Shape::Field(NAME, Conversion::None)];
 
-/// The format spec of `{x:}`.
-pub(crate) const NO_SPEC: &Shape = &Shape::Joined(&[]);
-
 const FIVE: &[Shape] = &[Shape::Text("5")];
 
 /// The format spec of `{x:5}`.
@@ -56,122 +54,142 @@ pub(crate) const DEEPEST: &[Shape] = &[Shape::FieldWithSpec(NAME, Conversion::No
 
 /// Some values.
 #[cycle(made)]
-fn values(alloc: Global, shapes: &[Shape]) -> Result<Vec<Expr>, AllocError> {
+fn values(rt: &impl Abort, alloc: Global, shapes: &[Shape]) -> Vec<Expr> {
     let mut made = Vec::new(alloc);
     for shape in shapes {
-        made.push(expression(alloc, shape)?)?;
+        made.push(expression(rt, alloc, shape)).expect(rt, "memory");
     }
-    Ok(made)
+    made
 }
 
-/// The constant of a text, all ASCII.
-fn text_of(alloc: Global, text: &str, unicode: bool) -> Result<Expr, AllocError> {
-    let mut points = Points::new(alloc);
-    points.push_bytes(text.as_bytes())?;
-    Ok(Expr::Constant {
+/// The constant of a text.
+fn constant(points: Points, unicode: bool) -> Expr {
+    Expr::Constant {
         value: Constant::Str { points, unicode },
-    })
+    }
 }
 
-/// The constant of a text of one code point; of none where the number is no point.
-fn point_of(alloc: Global, point: u32) -> Result<Expr, AllocError> {
-    let points = match Points::from_vec(vec![in alloc; point]?) {
-        Some(points) => points,
-        None => Points::new(alloc),
-    };
-    Ok(Expr::Constant {
-        value: Constant::Str {
-            points,
-            unicode: false,
-        },
-    })
+/// The code points of a text, all ASCII.
+fn points_of(rt: &impl Abort, alloc: Global, text: &str) -> Points {
+    let mut points = Points::new(alloc);
+    points.push_bytes(text.as_bytes()).expect(rt, "memory");
+    points
+}
+
+/// The text of one code point.
+fn point(rt: &impl Abort, alloc: Global, point: u32) -> Points {
+    let points = vec![in alloc; point].expect(rt, "memory");
+    Points::from_vec(points).expect(rt, "a code point")
 }
 
 /// The constant of bytes.
-fn bytes_of(alloc: Global, bytes: &[u8]) -> Result<Expr, AllocError> {
+fn bytes_of(rt: &impl Abort, alloc: Global, bytes: &[u8]) -> Expr {
     let mut made = Vec::new(alloc);
-    for byte in bytes {
-        made.push(*byte)?;
-    }
-    Ok(Expr::Constant {
+    made.extend_from_slice(bytes).expect(rt, "memory");
+    Expr::Constant {
         value: Constant::Bytes(made),
-    })
+    }
 }
 
 /// A name that is read.
-fn name(alloc: Global, text: &str) -> Result<Expr, AllocError> {
-    let id = Identifier::new(alloc, text)?;
-    Ok(Expr::Name {
+fn name(rt: &impl Abort, alloc: Global, text: &str) -> Expr {
+    let id = Identifier::new(alloc, text).expect(rt, "memory");
+    Expr::Name {
         id,
         ctx: Context::Load,
-    })
+    }
+}
+
+/// An expression in a box.
+fn boxed(rt: &impl Abort, alloc: Global, expr: Expr) -> Box<Expr> {
+    Box::new(alloc, expr).expect(rt, "memory")
+}
+
+/// `*` before an expression.
+fn starred(rt: &impl Abort, alloc: Global, value: Expr) -> Expr {
+    Expr::Starred {
+        value: boxed(rt, alloc, value),
+        ctx: Context::Load,
+    }
+}
+
+/// A field without a format spec.
+fn field(rt: &impl Abort, alloc: Global, value: Expr, conversion: Conversion) -> Expr {
+    Expr::FormattedValue {
+        value: boxed(rt, alloc, value),
+        conversion,
+        format_spec: None,
+    }
+}
+
+/// A field with a format spec.
+fn field_with(
+    rt: &impl Abort,
+    alloc: Global,
+    value: Expr,
+    conversion: Conversion,
+    spec: Expr,
+) -> Expr {
+    Expr::FormattedValue {
+        value: boxed(rt, alloc, value),
+        conversion,
+        format_spec: Some(boxed(rt, alloc, spec)),
+    }
 }
 
 /// An expression.
 #[cycle(made)]
-pub(crate) fn expression(alloc: Global, shape: &Shape) -> Result<Expr, AllocError> {
-    Ok(match shape {
-        Shape::Name(text) => name(alloc, *text)?,
-        Shape::Text(text) => text_of(alloc, *text, false)?,
-        Shape::Unicode(text) => text_of(alloc, *text, true)?,
-        Shape::Point(point) => point_of(alloc, *point)?,
-        Shape::Bytes(bytes) => bytes_of(alloc, *bytes)?,
+pub(crate) fn expression(rt: &impl Abort, alloc: Global, shape: &Shape) -> Expr {
+    match shape {
+        Shape::Name(text) => name(rt, alloc, *text),
+        Shape::Text(text) => constant(points_of(rt, alloc, *text), false),
+        Shape::Unicode(text) => constant(points_of(rt, alloc, *text), true),
+        Shape::Point(number) => constant(point(rt, alloc, *number), false),
+        Shape::Bytes(bytes) => bytes_of(rt, alloc, *bytes),
         Shape::Nothing => Expr::Constant {
             value: Constant::None,
         },
-        Shape::Star(text) => Expr::Starred {
-            value: Box::new(alloc, name(alloc, *text)?)?,
-            ctx: Context::Load,
-        },
+        Shape::Star(text) => starred(rt, alloc, name(rt, alloc, *text)),
         Shape::Joined(shapes) => Expr::JoinedStr {
-            values: values(alloc, *shapes)?,
+            values: values(rt, alloc, *shapes),
         },
-        Shape::Field(value, conversion) => Expr::FormattedValue {
-            value: Box::new(alloc, expression(alloc, *value)?)?,
-            conversion: *conversion,
-            format_spec: None,
-        },
-        Shape::FieldWithSpec(value, conversion, spec) => Expr::FormattedValue {
-            value: Box::new(alloc, expression(alloc, *value)?)?,
-            conversion: *conversion,
-            format_spec: Some(Box::new(alloc, expression(alloc, *spec)?)?),
-        },
-    })
-}
-
-/// The module that an f-string is.
-pub(crate) fn module_of(alloc: Global, values: &[Shape]) -> Result<Module, AllocError> {
-    let value = joined(alloc, values)?;
-    let mut body = Vec::new(alloc);
-    body.push(Stmt::Expr { value })?;
-    Ok(Module { body })
+        Shape::Field(value, conversion) => {
+            field(rt, alloc, expression(rt, alloc, *value), *conversion)
+        }
+        Shape::FieldWithSpec(value, conversion, spec) => field_with(
+            rt,
+            alloc,
+            expression(rt, alloc, *value),
+            *conversion,
+            expression(rt, alloc, *spec),
+        ),
+    }
 }
 
 /// The f-string of some values.
-pub(crate) fn joined(alloc: Global, shapes: &[Shape]) -> Result<Expr, AllocError> {
-    Ok(Expr::JoinedStr {
-        values: values(alloc, shapes)?,
-    })
+pub(crate) fn joined(rt: &impl Abort, alloc: Global, shapes: &[Shape]) -> Expr {
+    Expr::JoinedStr {
+        values: values(rt, alloc, shapes),
+    }
+}
+
+/// The f-string of one field.
+fn joined_field(rt: &impl Abort, alloc: Global, field: Expr) -> Expr {
+    let mut values = Vec::new(alloc);
+    values.push(field).expect(rt, "memory");
+    Expr::JoinedStr { values }
 }
 
 /// `f'{x}'` with this in place of `x`.
-pub(crate) fn around(alloc: Global, shape: &Shape) -> Result<Expr, AllocError> {
-    let mut values = Vec::new(alloc);
-    values.push(Expr::FormattedValue {
-        value: Box::new(alloc, expression(alloc, shape)?)?,
-        conversion: Conversion::None,
-        format_spec: None,
-    })?;
-    Ok(Expr::JoinedStr { values })
+pub(crate) fn around(rt: &impl Abort, alloc: Global, shape: &Shape) -> Expr {
+    let value = expression(rt, alloc, shape);
+    joined_field(rt, alloc, field(rt, alloc, value, Conversion::None))
 }
 
 /// `f'{x:5}'` with this in place of its format spec.
-pub(crate) fn with_spec(alloc: Global, shape: &Shape) -> Result<Expr, AllocError> {
-    let mut values = Vec::new(alloc);
-    values.push(Expr::FormattedValue {
-        value: Box::new(alloc, name(alloc, "x")?)?,
-        conversion: Conversion::None,
-        format_spec: Some(Box::new(alloc, expression(alloc, shape)?)?),
-    })?;
-    Ok(Expr::JoinedStr { values })
+pub(crate) fn with_spec(rt: &impl Abort, alloc: Global, shape: &Shape) -> Expr {
+    let value = name(rt, alloc, "x");
+    let spec = expression(rt, alloc, shape);
+    let field = field_with(rt, alloc, value, Conversion::None, spec);
+    joined_field(rt, alloc, field)
 }

@@ -1,60 +1,75 @@
 //! What f-strings are to the grammar: terminals one behind the other.
 
 use crate::expected::same_text;
+use crate::sources::push;
 use pylex::{Exact, Kind};
 use pyparse::Terminal;
 use pysource::push_repr_points;
-use pytoken::push_terminals;
+use pytoken::{TextPiece, push_terminals};
 use pytree_node::{Conversion, Extent};
-use std::alloc::{AllocError, Global};
-use std::test::Fail;
+use std::alloc::Global;
+use std::process::Abort;
 
-/// What a conversion is shown as.
-fn letter(conversion: Conversion) -> &'static str {
+/// What the front of a field is shown as.
+fn front(conversion: Conversion) -> &'static str {
     match conversion {
-        Conversion::None => "",
-        Conversion::Str => "!s ",
-        Conversion::Repr => "!r ",
-        Conversion::Ascii => "!a ",
+        Conversion::None => "{",
+        Conversion::Str => "{!s ",
+        Conversion::Repr => "{!r ",
+        Conversion::Ascii => "{!a ",
     }
 }
 
-/// Appends what a terminal is shown as; a text as its repr.
-fn push_shown(out: &mut String, alloc: Global, terminal: Terminal<'_>) -> Result<(), AllocError> {
+/// Appends what a text of an f-string is shown as: its repr.
+fn push_text(rt: &impl Abort, out: &mut String, alloc: Global, piece: &TextPiece<'_>) {
+    let points = piece.value(alloc).expect(rt, "memory");
+    push_repr_points(out, points.as_slice()).expect(rt, "memory");
+}
+
+/// What another terminal is shown as.
+fn sign(terminal: Terminal<'_>) -> &str {
     match terminal {
-        Terminal::FormattedBegin => out.push('<'),
-        Terminal::FormattedEnd => out.push('>'),
-        Terminal::FormattedText(piece) => push_repr_points(out, piece.value(alloc)?.as_slice()),
-        Terminal::FieldBegin(conversion) => {
-            out.push('{')?;
-            out.push_str(letter(conversion))
-        }
-        Terminal::SpecBegin => out.push(':'),
-        Terminal::FieldEnd => out.push('}'),
-        Terminal::Op(Exact::LPar) => out.push('('),
-        Terminal::Op(Exact::RPar) => out.push(')'),
-        Terminal::Ident(text) => out.push_str(text),
-        _ => out.push('?'),
+        Terminal::FormattedBegin => "<",
+        Terminal::FormattedEnd => ">",
+        Terminal::FieldBegin(conversion) => front(conversion),
+        Terminal::SpecBegin => ":",
+        Terminal::FieldEnd => "}",
+        Terminal::Op(Exact::LPar) => "(",
+        Terminal::Op(Exact::RPar) => ")",
+        Terminal::Ident(text) => text,
+        _ => "?",
     }
 }
 
-/// The terminals that an f-string is, as they are shown.
-fn shown(alloc: Global, text: &str) -> Result<String, Fail> {
+/// Appends what a terminal is shown as.
+fn push_shown(rt: &impl Abort, out: &mut String, alloc: Global, terminal: Terminal<'_>) {
+    match terminal {
+        Terminal::FormattedText(piece) => push_text(rt, out, alloc, &piece),
+        _ => push(rt, out, sign(terminal)),
+    }
+}
+
+/// The terminals that an f-string is.
+fn terminals_of<'a>(rt: &impl Abort, alloc: Global, text: &'a str) -> Vec<Terminal<'a>> {
     let mut terminals = Vec::new(alloc);
-    if push_terminals(alloc, Extent::Whole, Kind::String, text, &mut terminals).is_err() {
-        return Err(Fail::from("no terminals"));
-    }
+    let told = push_terminals(alloc, Extent::Whole, Kind::String, text, &mut terminals);
+    told.expect(rt, "terminals");
+    terminals
+}
+
+/// Asserts how the terminals that an f-string is are shown.
+fn is_shown(rt: &impl Abort, alloc: Global, text: &str, expected: &str) {
     let mut told = String::new(alloc);
-    for terminal in &terminals {
-        push_shown(&mut told, alloc, *terminal)?;
+    for terminal in &terminals_of(rt, alloc, text) {
+        push_shown(rt, &mut told, alloc, *terminal);
     }
-    Ok(told)
+    same_text(rt, told.as_str(), expected, text);
 }
 
 /// A text stands before, between and behind the fields, empty or not; what a field has in it stands
 /// in parentheses.
 #[test]
-fn terminals(rt: HostRuntime) -> Result<(), Fail> {
+fn terminals(rt: HostRuntime) {
     for (text, expected) in &[
         ("f''", "<''>"),
         ("f'a'", "<'a'>"),
@@ -71,7 +86,6 @@ fn terminals(rt: HostRuntime) -> Result<(), Fail> {
         ("f'{f\"a{b}\"}'", "<''{(<'a'{(b)}''>)}''>"),
         ("f'{a+1}'", "<''{(a??)}''>"),
     ] {
-        same_text(&rt, shown(rt.alloc(), *text)?.as_str(), *expected, *text);
+        is_shown(&rt, rt.alloc(), text, expected);
     }
-    Ok(())
 }

@@ -1,13 +1,10 @@
-//! Trees of f-strings that are made by hand: their dumps as Python 3.11 gives them, their heights, and
-//! copies of them.
+//! Trees of f-strings: their dumps as Python 3.11 gives them, their heights, and copies of them.
 
-use crate::expected::{same_answer, same_text};
-use crate::fstring_shapes::{
-    DEEPEST, FIELD_WITH_SPEC, NAME, NO_SPEC, ONE_FIELD, SPEC_OF_FIELD, Shape, joined, module_of,
-};
-use pytree::{Heights, Profile, Style, copy, dump_expr, height, same};
-use pytree_node::Conversion;
-use std::test::Fail;
+use crate::expected::holds;
+use crate::expression_dumps::is_dumped;
+use crate::sources::whole_module;
+use crate::trees::copy_of;
+use pytree::{Profile, Style, height, same};
 
 /// On one line, with all names.
 const PLAIN: Style = Style {
@@ -30,152 +27,109 @@ const TWO: Style = Style {
     profile: Profile::PLAIN_311,
 };
 
-/// `f"{x}"`.
-const INNER: &Shape = &Shape::Joined(ONE_FIELD);
-
-/// What stands in `f'{f"{x}"}'`.
-const NESTED: &[Shape] = &[Shape::Field(INNER, Conversion::None)];
-
-/// `y`.
-const OTHER: &Shape = &Shape::Name("y");
-
 #[test]
-fn dumps(rt: HostRuntime) -> Result<(), Fail> {
-    let alloc = rt.alloc();
-    let rows: &[(&[Shape], Style, &str)] = &[
-        (&[], PLAIN, "JoinedStr(values=[])"),
-        (&[], TWO, "JoinedStr(values=[])"),
-        (&[Shape::Text("a")], BARE, "JoinedStr([Constant('a')])"),
+fn dumps(rt: HostRuntime) {
+    for (text, style, expected) in &[
+        ("f''", PLAIN, "JoinedStr(values=[])"),
+        ("f''", TWO, "JoinedStr(values=[])"),
+        ("f'a'", BARE, "JoinedStr([Constant('a')])"),
         (
-            &[Shape::Unicode("a"), Shape::Field(NAME, Conversion::None)],
+            "u'a' f'{x}'",
             PLAIN,
             "JoinedStr(values=[Constant(value='a', kind='u'), FormattedValue(value=Name(id='x', ctx=Load()), conversion=-1)])",
         ),
         (
-            &[Shape::Unicode("a"), Shape::Field(NAME, Conversion::None)],
+            "u'a' f'{x}'",
             TWO,
             "JoinedStr(\n  values=[\n    Constant(value='a', kind='u'),\n    FormattedValue(\n      value=Name(id='x', ctx=Load()),\n      conversion=-1)])",
         ),
         (
-            ONE_FIELD,
+            "f'{x}'",
             BARE,
             "JoinedStr([FormattedValue(Name('x', Load()), -1)])",
         ),
         (
-            &[Shape::Field(NAME, Conversion::Str)],
+            "f'{x!s}'",
             BARE,
             "JoinedStr([FormattedValue(Name('x', Load()), 115)])",
         ),
         (
-            &[Shape::Field(NAME, Conversion::Repr)],
+            "f'{x!r}'",
             PLAIN,
             "JoinedStr(values=[FormattedValue(value=Name(id='x', ctx=Load()), conversion=114)])",
         ),
         (
-            &[Shape::Field(NAME, Conversion::Ascii)],
+            "f'{x!a}'",
             TWO,
             "JoinedStr(\n  values=[\n    FormattedValue(\n      value=Name(id='x', ctx=Load()),\n      conversion=97)])",
         ),
         (
-            &[Shape::FieldWithSpec(NAME, Conversion::None, NO_SPEC)],
+            "f'{x:}'",
             PLAIN,
             "JoinedStr(values=[FormattedValue(value=Name(id='x', ctx=Load()), conversion=-1, format_spec=JoinedStr(values=[]))])",
         ),
         (
-            &[Shape::FieldWithSpec(NAME, Conversion::None, NO_SPEC)],
+            "f'{x:}'",
             TWO,
             "JoinedStr(\n  values=[\n    FormattedValue(\n      value=Name(id='x', ctx=Load()),\n      conversion=-1,\n      format_spec=JoinedStr(values=[]))])",
         ),
         (
-            &[Shape::FieldWithSpec(NAME, Conversion::Repr, SPEC_OF_FIELD)],
+            "f'{x!r:{x:5}}'",
             BARE,
             "JoinedStr([FormattedValue(Name('x', Load()), 114, JoinedStr([FormattedValue(Name('x', Load()), -1, JoinedStr([Constant('5')]))]))])",
         ),
         (
-            &[Shape::FieldWithSpec(NAME, Conversion::Repr, SPEC_OF_FIELD)],
+            "f'{x!r:{x:5}}'",
             TWO,
             "JoinedStr(\n  values=[\n    FormattedValue(\n      value=Name(id='x', ctx=Load()),\n      conversion=114,\n      format_spec=JoinedStr(\n        values=[\n          FormattedValue(\n            value=Name(id='x', ctx=Load()),\n            conversion=-1,\n            format_spec=JoinedStr(\n              values=[\n                Constant(value='5')]))]))])",
         ),
-    ];
-    for (shapes, style, expected) in rows {
-        let tree = joined(alloc, *shapes)?;
-        let dumped = dump_expr(alloc, &tree, *style);
-        drop(tree);
-        same_text(&rt, dumped?.as_str(), *expected, "an f-string");
+    ] {
+        let tree = whole_module(&rt, rt.alloc(), text);
+        is_dumped(&rt, rt.alloc(), &tree, *style, expected);
     }
-    Ok(())
 }
 
 /// An f-string and a field count one each, and so does a format spec.
 #[test]
-fn heights(rt: HostRuntime) -> Result<(), Fail> {
-    let alloc = rt.alloc();
-    let rows: &[(&[Shape], u64)] = &[
-        (&[], 1),
-        (&[Shape::Text("a")], 2),
-        (ONE_FIELD, 3),
-        (
-            &[
-                Shape::Text("a"),
-                Shape::Field(NAME, Conversion::None),
-                Shape::Text("b"),
-            ],
-            3,
-        ),
-        (&[Shape::FieldWithSpec(NAME, Conversion::None, NO_SPEC)], 3),
-        (FIELD_WITH_SPEC, 4),
-        (
-            &[Shape::FieldWithSpec(NAME, Conversion::Repr, SPEC_OF_FIELD)],
-            6,
-        ),
-        (DEEPEST, 6),
-        (NESTED, 5),
-    ];
-    for (shapes, expression) in rows {
-        let tree = module_of(alloc, *shapes)?;
-        let expected = Heights {
-            expression: *expression,
-            statement: 1,
-        };
-        same_answer(&rt, height(&tree) == expected, true, "an f-string");
+fn heights(rt: HostRuntime) {
+    for (text, expression) in &[
+        ("f''", 1),
+        ("f'a'", 2),
+        ("f'{x}'", 3),
+        ("f'a{x}b'", 3),
+        ("f'{x:}'", 3),
+        ("f'{x:5}'", 4),
+        ("f'{x!r:{x:5}}'", 6),
+        ("f'{x:{x:5}}'", 6),
+        ("f'{f\"{x}\"}'", 5),
+    ] {
+        let tree = whole_module(&rt, rt.alloc(), text);
+        let found = height(&tree);
+        holds(
+            &rt,
+            found.expression == *expression && found.statement == 1,
+            text,
+        );
     }
-    Ok(())
 }
 
 #[test]
-fn copies(rt: HostRuntime) -> Result<(), Fail> {
-    let alloc = rt.alloc();
-    let rows: &[(&[Shape], &[Shape])] = &[
-        (&[], ONE_FIELD),
-        (&[Shape::Text("a")], &[Shape::Text("b")]),
-        (&[Shape::Text("a")], &[Shape::Unicode("a")]),
-        (
-            ONE_FIELD,
-            &[
-                Shape::Field(NAME, Conversion::None),
-                Shape::Field(NAME, Conversion::None),
-            ],
-        ),
-        (ONE_FIELD, &[Shape::Field(OTHER, Conversion::None)]),
-        (ONE_FIELD, &[Shape::Field(NAME, Conversion::Str)]),
-        (
-            ONE_FIELD,
-            &[Shape::FieldWithSpec(NAME, Conversion::None, NO_SPEC)],
-        ),
-        (
-            &[Shape::FieldWithSpec(NAME, Conversion::None, NO_SPEC)],
-            FIELD_WITH_SPEC,
-        ),
-    ];
-    for (shapes, others) in rows {
-        let tree = module_of(alloc, *shapes)?;
-        let other = module_of(alloc, *others)?;
-        let copied = copy(alloc, &tree)?;
-        drop(tree);
-        let again = module_of(alloc, *shapes)?;
-        same_answer(&rt, same(&copied, &again), true, "a copy");
-        same_answer(&rt, same(&copied, &other), false, "another");
-        same_answer(&rt, same(&other, &copied), false, "another");
+fn copies(rt: HostRuntime) {
+    for (text, other) in &[
+        ("f''", "f'{x}'"),
+        ("f'a'", "f'b'"),
+        ("f'a'", "u'a' f''"),
+        ("f'{x}'", "f'{x}{x}'"),
+        ("f'{x}'", "f'{y}'"),
+        ("f'{x}'", "f'{x!s}'"),
+        ("f'{x}'", "f'{x:}'"),
+        ("f'{x:}'", "f'{x:5}'"),
+    ] {
+        let copied = copy_of(&rt, rt.alloc(), whole_module(&rt, rt.alloc(), text));
+        let again = whole_module(&rt, rt.alloc(), text);
+        holds(&rt, same(&copied, &again), text);
+        let other = whole_module(&rt, rt.alloc(), other);
+        holds(&rt, !same(&copied, &other), text);
+        holds(&rt, !same(&other, &copied), text);
     }
-    Ok(())
 }

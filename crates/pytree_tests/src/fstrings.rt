@@ -1,16 +1,16 @@
 //! f-strings as expressions: their trees as Python 3.11 dumps them without the names of fields, and
 //! fields that hold none.
 
-use crate::expected::same_error;
-use crate::expressions::{reads, refusal};
+use crate::expressions::{is_refused, reads};
 use crate::sources::nested;
 use pygrammar::Level;
 use pyparse::GrammarError;
 use pysource::Place;
-use std::test::Fail;
+use std::alloc::Global;
+use std::process::Abort;
 
 #[test]
-fn trees(rt: HostRuntime) -> Result<(), Fail> {
+fn trees(rt: HostRuntime) {
     for (text, dump) in &[
         ("f''", "JoinedStr([])"),
         ("f'a{{b}}'", "JoinedStr([Constant('a{b}')])"),
@@ -96,9 +96,8 @@ fn trees(rt: HostRuntime) -> Result<(), Fail> {
             "Compare(JoinedStr([Constant('a')]), [In()], [Name('b', Load())])",
         ),
     ] {
-        reads(&rt, rt.alloc(), text, dump)?;
+        reads(&rt, rt.alloc(), text, dump);
     }
-    Ok(())
 }
 
 /// What is said against the first token.
@@ -108,7 +107,7 @@ const SYNTAX: Option<(GrammarError, Place)> = Some((
 ));
 
 #[test]
-fn no_expressions(rt: HostRuntime) -> Result<(), Fail> {
+fn no_expressions(rt: HostRuntime) {
     for text in &[
         "f'{a b}'",
         "f'{*a}'",
@@ -121,10 +120,8 @@ fn no_expressions(rt: HostRuntime) -> Result<(), Fail> {
         "f'' x",
         "1 f''",
     ] {
-        let found = refusal(rt.alloc(), text, Level::Value)?;
-        same_error(&rt, found, SYNTAX, text);
+        is_refused(&rt, rt.alloc(), text, Level::Value, SYNTAX);
     }
-    Ok(())
 }
 
 /// What is said against too many nodes nested.
@@ -133,9 +130,20 @@ const DEEP: Option<(GrammarError, Place)> = Some((
     Place { row: 1, column: 0 },
 ));
 
+/// Asserts what the grammar says against a field.
+fn is_refused_in_field(
+    rt: &impl Abort,
+    alloc: Global,
+    inner: &str,
+    refused: Option<(GrammarError, Place)>,
+) {
+    let text = format!(in alloc; "f'{{{inner}}}'").expect(rt, "memory");
+    is_refused(rt, alloc, text.as_str(), Level::Value, refused);
+}
+
 /// At most 500 nodes are nested, those within fields among them, and 600 brackets in a field.
 #[test]
-fn high(rt: HostRuntime) -> Result<(), Fail> {
+fn high(rt: HostRuntime) {
     for (count, before, middle, behind, refused) in &[
         (497, "-", "x", "", None),
         (498, "-", "x", "", DEEP),
@@ -145,13 +153,7 @@ fn high(rt: HostRuntime) -> Result<(), Fail> {
         (495, "-", "f\"{x}\"", "", None),
         (496, "-", "f\"{x}\"", "", DEEP),
     ] {
-        let inner = nested(rt.alloc(), *count, before, middle, behind)?;
-        let mut text = String::new(rt.alloc());
-        text.push_str("f'{")?;
-        text.push_str(inner.as_str())?;
-        text.push_str("}'")?;
-        let found = refusal(rt.alloc(), text.as_str(), Level::Value)?;
-        same_error(&rt, found, *refused, text.as_str());
+        let inner = nested(&rt, rt.alloc(), *count, before, middle, behind);
+        is_refused_in_field(&rt, rt.alloc(), inner.as_str(), *refused);
     }
-    Ok(())
 }

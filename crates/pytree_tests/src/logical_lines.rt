@@ -1,6 +1,6 @@
 //! The logical lines of sources.
 
-use crate::expected::same_number;
+use crate::expected::{same, same_number};
 use crate::refusals::bracketed;
 use crate::sources::source_of;
 use pylex::{Exact, ListingError, ListingFault};
@@ -10,20 +10,16 @@ use pytoken::{Keyword, Refusal, TokenError};
 use pytree_node::Extent;
 use std::alloc::Global;
 use std::process::Abort;
-use std::test::Fail;
 
 /// There is a next line, or there is none.
 fn comes(rt: &impl Abort, lines: &mut LogicalLines, expected: bool, text: &str) {
-    assert_eq!(rt; lines.next(), Ok(expected), "at {text:?}");
+    same(rt, &lines.next(), &Ok(expected), text);
 }
 
 /// In place of a next line the refusal of the source is reported.
 fn stops(rt: &impl Abort, lines: &mut LogicalLines, refusal: Refusal, text: &str) {
-    assert_eq!(rt;
-        lines.next(),
-        Err(ParseFault::Refused(refusal)),
-        "at {text:?}"
-    );
+    let expected = Err(ParseFault::Refused(refusal));
+    same(rt, &lines.next(), &expected, text);
 }
 
 /// The next line is this one: its level, row and column of its start, terminals.
@@ -36,9 +32,9 @@ fn holds(
     let (level, start, terminals) = line;
     comes(rt, lines, true, text);
     same_number(rt, lines.level(), *level, text);
-    same_number(rt, lines.start().row, start.0, text);
-    same_number(rt, lines.start().column, start.1, text);
-    assert_eq!(rt; lines.terminals(), *terminals, "at {text:?}");
+    let found = (lines.start().row, lines.start().column);
+    same(rt, &found, start, text);
+    same(rt, &lines.terminals(), terminals, text);
 }
 
 /// The lines of a source are these, and no more, however often it is asked.
@@ -47,29 +43,27 @@ fn gives(
     alloc: Global,
     text: &str,
     rows: &[(usize, (usize, usize), &[Terminal])],
-) -> Result<(), Fail> {
-    let source = source_of(alloc, text)?;
-    let mut lines = LogicalLines::new(alloc, &source, Extent::Plain)?;
+) {
+    let source = source_of(rt, alloc, text);
+    let mut lines = LogicalLines::new(alloc, &source, Extent::Plain).expect(rt, "memory");
     for row in rows {
         holds(rt, &mut lines, text, row);
     }
     comes(rt, &mut lines, false, text);
     comes(rt, &mut lines, false, text);
-    Ok(())
 }
 
 const COLON: Terminal = Terminal::Op(Exact::Colon);
 
 #[test]
-fn no_line(rt: HostRuntime) -> Result<(), Fail> {
+fn no_line(rt: HostRuntime) {
     for text in &["", "\n# c\n  # d\n", "\\\n\n"] {
-        gives(&rt, rt.alloc(), text, &[])?;
+        gives(&rt, rt.alloc(), text, &[]);
     }
-    Ok(())
 }
 
 #[test]
-fn levels(rt: HostRuntime) -> Result<(), Fail> {
+fn levels(rt: HostRuntime) {
     gives(
         &rt,
         rt.alloc(),
@@ -89,11 +83,11 @@ fn levels(rt: HostRuntime) -> Result<(), Fail> {
             (1, (6, 2), &[Terminal::Ident("d")]),
             (0, (7, 0), &[Terminal::Ident("e")]),
         ],
-    )
+    );
 }
 
 #[test]
-fn lines_of_several_rows(rt: HostRuntime) -> Result<(), Fail> {
+fn lines_of_several_rows(rt: HostRuntime) {
     gives(
         &rt,
         rt.alloc(),
@@ -118,15 +112,15 @@ fn lines_of_several_rows(rt: HostRuntime) -> Result<(), Fail> {
                 &[
                     Terminal::Ident("a"),
                     Terminal::Op(Exact::Plus),
-                    Terminal::Literal(LiteralText::new("b'c'")?),
+                    Terminal::Literal(LiteralText::new("b'c'").expect(&rt, "a literal")),
                 ],
             ),
         ],
-    )
+    );
 }
 
 #[test]
-fn a_last_line_without_its_end(rt: HostRuntime) -> Result<(), Fail> {
+fn a_last_line_without_its_end(rt: HostRuntime) {
     gives(
         &rt,
         rt.alloc(),
@@ -139,29 +133,22 @@ fn a_last_line_without_its_end(rt: HostRuntime) -> Result<(), Fail> {
             ),
             (1, (2, 2), &[Terminal::Word(Keyword::Pass)]),
         ],
-    )
+    );
 }
 
 /// So many lines are given before the refusal, which is reported again.
-fn refuses(
-    rt: &impl Abort,
-    alloc: Global,
-    text: &str,
-    given: usize,
-    refusal: Refusal,
-) -> Result<(), Fail> {
-    let source = source_of(alloc, text)?;
-    let mut lines = LogicalLines::new(alloc, &source, Extent::Plain)?;
+fn refuses(rt: &impl Abort, alloc: Global, text: &str, given: usize, refusal: Refusal) {
+    let source = source_of(rt, alloc, text);
+    let mut lines = LogicalLines::new(alloc, &source, Extent::Plain).expect(rt, "memory");
     for _line in 0..given {
         comes(rt, &mut lines, true, text);
     }
     stops(rt, &mut lines, refusal, text);
     stops(rt, &mut lines, refusal, text);
-    Ok(())
 }
 
 #[test]
-fn the_first_reason_behind_lines(rt: HostRuntime) -> Result<(), Fail> {
+fn the_first_reason_behind_lines(rt: HostRuntime) {
     for (text, given, refusal) in &[
         (
             "x\ny = 1.5\nz\n",
@@ -189,65 +176,58 @@ fn the_first_reason_behind_lines(rt: HostRuntime) -> Result<(), Fail> {
             Refusal::Token(TokenError::Nul, Place { row: 2, column: 0 }),
         ),
     ] {
-        refuses(&rt, rt.alloc(), text, *given, *refusal)?;
+        refuses(&rt, rt.alloc(), text, *given, *refusal);
     }
-    Ok(())
+}
+
+/// The text of a number.
+fn number<'a>(rt: &impl Abort, alloc: Global, text: &'a str) -> Terminal<'a> {
+    let number = NumberText::new(alloc, Extent::Whole, text).expect(rt, "memory");
+    Terminal::Number(number)
 }
 
 /// In the whole language a line has numbers that are refused in the plain one.
 #[test]
-fn lines_of_the_whole_language(rt: HostRuntime) -> Result<(), Fail> {
-    let alloc = rt.alloc();
-    let source = source_of(alloc, "x\ny + 1.5 - 2j\n")?;
-    let mut lines = LogicalLines::new(alloc, &source, Extent::Whole)?;
+fn lines_of_the_whole_language(rt: HostRuntime) {
+    let terminals: &[Terminal] = &[
+        Terminal::Ident("y"),
+        Terminal::Op(Exact::Plus),
+        number(&rt, rt.alloc(), "1.5"),
+        Terminal::Op(Exact::Minus),
+        number(&rt, rt.alloc(), "2j"),
+    ];
+    let source = source_of(&rt, rt.alloc(), "x\ny + 1.5 - 2j\n");
+    let mut lines = LogicalLines::new(rt.alloc(), &source, Extent::Whole).expect(&rt, "memory");
     comes(&rt, &mut lines, true, "numbers");
-    let float = NumberText::new(alloc, Extent::Whole, "1.5")?;
-    let imaginary = NumberText::new(alloc, Extent::Whole, "2j")?;
-    holds(
-        &rt,
-        &mut lines,
-        "numbers",
-        &(
-            0,
-            (2, 0),
-            &[
-                Terminal::Ident("y"),
-                Terminal::Op(Exact::Plus),
-                Terminal::Number(float),
-                Terminal::Op(Exact::Minus),
-                Terminal::Number(imaginary),
-            ],
-        ),
-    );
+    holds(&rt, &mut lines, "numbers", &(0, (2, 0), terminals));
     comes(&rt, &mut lines, false, "numbers");
-    Ok(())
 }
 
 /// A line has at most 600 brackets nested.
 #[test]
-fn brackets(rt: HostRuntime) -> Result<(), Fail> {
+fn brackets(rt: HostRuntime) {
     let alloc = rt.alloc();
-    let text = bracketed(alloc, 600, "x")?;
-    let source = source_of(alloc, text.as_str())?;
-    let mut lines = LogicalLines::new(alloc, &source, Extent::Plain)?;
+    let text = bracketed(&rt, alloc, 600, "x");
+    let source = source_of(&rt, alloc, text.as_str());
+    let mut lines = LogicalLines::new(alloc, &source, Extent::Plain).expect(&rt, "memory");
     comes(&rt, &mut lines, true, "600 brackets");
     same_number(&rt, lines.terminals().len(), 1201, "600 brackets");
     comes(&rt, &mut lines, false, "600 brackets");
-    let text = bracketed(alloc, 601, "x")?;
     let place = Place {
         row: 1,
         column: 600,
     };
-    refuses(&rt, alloc, text.as_str(), 0, Refusal::TooDeep(place))
+    let text = bracketed(&rt, alloc, 601, "x");
+    refuses(&rt, alloc, text.as_str(), 0, Refusal::TooDeep(place));
 }
 
 #[test]
-fn two_sources_at_once(rt: HostRuntime) -> Result<(), Fail> {
+fn two_sources_at_once(rt: HostRuntime) {
     let alloc = rt.alloc();
-    let one = source_of(alloc, "a\nb c\n")?;
-    let other = source_of(alloc, "if x:\n  d\n")?;
-    let mut ones = LogicalLines::new(alloc, &one, Extent::Plain)?;
-    let mut others = LogicalLines::new(alloc, &other, Extent::Whole)?;
+    let one = source_of(&rt, alloc, "a\nb c\n");
+    let other = source_of(&rt, alloc, "if x:\n  d\n");
+    let mut ones = LogicalLines::new(alloc, &one, Extent::Plain).expect(&rt, "memory");
+    let mut others = LogicalLines::new(alloc, &other, Extent::Whole).expect(&rt, "memory");
     holds(&rt, &mut ones, "one", &(0, (1, 0), &[Terminal::Ident("a")]));
     comes(&rt, &mut others, true, "other");
     holds(
@@ -264,5 +244,4 @@ fn two_sources_at_once(rt: HostRuntime) -> Result<(), Fail> {
         &(0, (2, 0), &[Terminal::Ident("b"), Terminal::Ident("c")]),
     );
     comes(&rt, &mut ones, false, "one");
-    Ok(())
 }

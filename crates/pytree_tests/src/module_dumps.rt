@@ -1,11 +1,10 @@
 //! Dumps of modules, as Python gives them.
 
-use crate::expected::same_text;
+use crate::expected::{holds, same_text};
 use crate::sources::module;
 use pytree::{Module, Pieces, Profile, Style, dump};
 use std::alloc::Global;
 use std::process::Abort;
-use std::test::Fail;
 
 /// On one line, with all names, of Python 3.11.
 const PLAIN: Style = Style {
@@ -37,27 +36,38 @@ const FLUSH: Style = Style {
 
 /// Asserts that the pieces of a dump put together are this text. After the last of them there is
 /// nothing.
-pub(crate) fn same_in_pieces(
+fn same_in_pieces(rt: &impl Abort, alloc: Global, tree: &Module, style: Style, expected: &str) {
+    let mut text = String::new(alloc);
+    let mut pieces = Pieces::new(alloc, tree, style).expect(rt, "memory");
+    for _ in 0..=expected.len() {
+        pieces.push_next(&mut text).expect(rt, "memory");
+    }
+    same_text(rt, text.as_str(), expected, "pieces");
+    let goes_on = pieces.push_next(&mut text).expect(rt, "memory");
+    holds(rt, !goes_on, "pieces");
+    same_text(rt, text.as_str(), expected, "pieces");
+}
+
+/// Asserts that a dump in one is this text.
+fn same_in_one(rt: &impl Abort, alloc: Global, tree: &Module, style: Style, expected: &str) {
+    let dumped = dump(alloc, tree, style).expect(rt, "memory");
+    same_text(rt, dumped.as_str(), expected, "a dump");
+}
+
+/// Asserts the dump of a tree, in one and in pieces.
+pub(crate) fn is_dumped(
     rt: &impl Abort,
     alloc: Global,
     tree: &Module,
     style: Style,
     expected: &str,
-) -> Result<(), Fail> {
-    let mut text = String::new(alloc);
-    let mut pieces = Pieces::new(alloc, tree, style)?;
-    for _ in 0..=expected.len() {
-        pieces.push_next(&mut text)?;
-    }
-    same_text(rt, text.as_str(), expected, "pieces");
-    assert!(rt; !pieces.push_next(&mut text)?);
-    same_text(rt, text.as_str(), expected, "pieces");
-    Ok(())
+) {
+    same_in_one(rt, alloc, tree, style, expected);
+    same_in_pieces(rt, alloc, tree, style, expected);
 }
 
 #[test]
-fn dumps_modules(rt: HostRuntime) -> Result<(), Fail> {
-    let alloc = rt.alloc();
+fn dumps_modules(rt: HostRuntime) {
     for (text, style, expected) in &[
         ("", PLAIN, "Module(body=[], type_ignores=[])"),
         ("", FLUSH, "Module(body=[], type_ignores=[])"),
@@ -94,10 +104,7 @@ fn dumps_modules(rt: HostRuntime) -> Result<(), Fail> {
             "Module([FunctionDef('f', arguments([], [], kwonlyargs=[], kw_defaults=[], defaults=[]), [Pass()], [], type_params=[])], [])",
         ),
     ] {
-        let tree = module(alloc, *text)?;
-        let dumped = dump(alloc, &tree, *style)?;
-        same_text(&rt, dumped.as_str(), *expected, *text);
-        same_in_pieces(&rt, alloc, &tree, *style, *expected)?;
+        let tree = module(&rt, rt.alloc(), text);
+        is_dumped(&rt, rt.alloc(), &tree, *style, expected);
     }
-    Ok(())
 }

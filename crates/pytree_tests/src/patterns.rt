@@ -1,15 +1,14 @@
 //! Patterns: their trees as Python 3.11 dumps them without the names of fields, and what is none.
 
 use crate::expected::{same_error, same_text};
-use crate::sources::{nested, source_of};
+use crate::sources::{nested, source_of, tokens_of_line};
 use pygrammar::PatternLevel;
-use pyparse::{GrammarError, ParseFault, parse_pattern, tokens_of};
+use pyparse::{GrammarError, ParseFault, parse_pattern};
 use pysource::Place;
 use pytree_dump::{Style, dump};
-use pytree_node::{Case, Context, Expr, Extent, Identifier, Module, Pattern, Profile, Stmt};
-use std::alloc::{AllocError, Global};
+use pytree_node::{Case, Context, Expr, Identifier, Module, Pattern, Profile, Stmt};
+use std::alloc::Global;
 use std::process::Abort;
-use std::test::Fail;
 
 /// As Python's `ast.dump` writes it, without the names of fields.
 const STYLE: Style = Style {
@@ -20,77 +19,88 @@ const STYLE: Style = Style {
 
 /// The pattern of a level that a line is, without its NEWLINE and ENDMARKER.
 fn read(
+    rt: &impl Abort,
     alloc: Global,
     text: &str,
     level: PatternLevel,
-) -> Result<Result<Pattern, ParseFault>, Fail> {
-    let source = source_of(alloc, text)?;
-    let Ok(mut tokens) = tokens_of(alloc, &source, Extent::Whole) else {
-        return Err(Fail::from("no tokens"));
-    };
-    tokens.pop();
-    tokens.pop();
-    Ok(parse_pattern(alloc, tokens.as_slice(), level))
+) -> Result<Pattern, ParseFault> {
+    let source = source_of(rt, alloc, text);
+    let tokens = tokens_of_line(rt, alloc, &source);
+    parse_pattern(alloc, tokens.as_slice(), level)
 }
 
 /// The case of a pattern, whose block is `pass`.
-fn case(alloc: Global, pattern: Pattern) -> Result<Case, AllocError> {
+fn case(rt: &impl Abort, alloc: Global, pattern: Pattern) -> Case {
     let mut body = Vec::new(alloc);
-    body.push(Stmt::Pass)?;
-    Ok(Case {
+    body.push(Stmt::Pass).expect(rt, "memory");
+    Case {
         pattern,
         guard: None,
         body,
-    })
+    }
+}
+
+/// `match x` with one case.
+fn statement(rt: &impl Abort, alloc: Global, case: Case) -> Stmt {
+    let mut cases = Vec::new(alloc);
+    cases.push(case).expect(rt, "memory");
+    let id = Identifier::new(alloc, "x").expect(rt, "memory");
+    let subject = Expr::Name {
+        id,
+        ctx: Context::Load,
+    };
+    Stmt::Match { subject, cases }
 }
 
 /// The dump of the module that is `match x` with one case.
-fn dumped(alloc: Global, pattern: Pattern) -> Result<String, AllocError> {
-    let mut cases = Vec::new(alloc);
-    cases.push(case(alloc, pattern)?)?;
-    let subject = Expr::Name {
-        id: Identifier::new(alloc, "x")?,
-        ctx: Context::Load,
-    };
+fn dumped(rt: &impl Abort, alloc: Global, case: Case) -> String {
     let mut body = Vec::new(alloc);
-    body.push(Stmt::Match { subject, cases })?;
-    dump(alloc, &Module { body }, STYLE)
+    body.push(statement(rt, alloc, case)).expect(rt, "memory");
+    dump(alloc, &Module { body }, STYLE).expect(rt, "memory")
 }
 
 /// A line is a pattern with this dump.
-fn reads(rt: &impl Abort, alloc: Global, text: &str, expected: &str) -> Result<(), Fail> {
-    match read(alloc, text, PatternLevel::Patterns)? {
-        Ok(pattern) => {
-            let expected = format!(in alloc;
-                "Module([Match(Name('x', Load()), [match_case({expected}, body=[Pass()])])], [])"
-            )?;
-            same_text(
-                rt,
-                dumped(alloc, pattern)?.as_str(),
-                expected.as_str(),
-                text,
-            );
-        }
-        Err(_) => return Err(Fail::from("no pattern")),
-    }
-    Ok(())
+fn reads(rt: &impl Abort, alloc: Global, text: &str, expected: &str) {
+    let pattern = read(rt, alloc, text, PatternLevel::Patterns).expect(rt, "a pattern");
+    let found = dumped(rt, alloc, case(rt, alloc, pattern));
+    let expected = format!(in alloc;
+        "Module([Match(Name('x', Load()), [match_case({expected}, body=[Pass()])])], [])"
+    );
+    same_text(
+        rt,
+        found.as_str(),
+        expected.expect(rt, "memory").as_str(),
+        text,
+    );
 }
 
 /// What the grammar says against a line at a level.
 fn refusal(
+    rt: &impl Abort,
     alloc: Global,
     text: &str,
     level: PatternLevel,
-) -> Result<Option<(GrammarError, Place)>, Fail> {
-    match read(alloc, text, level)? {
-        Ok(_) => Ok(None),
-        Err(ParseFault::Grammar(error, place)) => Ok(Some((error, place))),
-        Err(_) => Err(Fail::from("no answer of the grammar")),
+) -> Option<(GrammarError, Place)> {
+    match read(rt, alloc, text, level) {
+        Ok(_) => None,
+        Err(ParseFault::Grammar(error, place)) => Some((error, place)),
+        Err(_) => panic!(rt; "no answer of the grammar"),
     }
 }
 
+/// Asserts what the grammar says against a line at a level.
+fn is_refused(
+    rt: &impl Abort,
+    alloc: Global,
+    text: &str,
+    level: PatternLevel,
+    refused: Option<(GrammarError, Place)>,
+) {
+    same_error(rt, refusal(rt, alloc, text, level), refused, text);
+}
+
 #[test]
-fn trees(rt: HostRuntime) -> Result<(), Fail> {
+fn trees(rt: HostRuntime) {
     for (text, expected) in &[
         ("_", "MatchAs()"),
         ("a", "MatchAs(name='a')"),
@@ -135,9 +145,8 @@ fn trees(rt: HostRuntime) -> Result<(), Fail> {
             "MatchAs(MatchOr([MatchAs(name='a'), MatchValue(Constant(1))]), 'b')",
         ),
     ] {
-        reads(&rt, rt.alloc(), text, expected)?;
+        reads(&rt, rt.alloc(), text, expected);
     }
-    Ok(())
 }
 
 /// What is said against the first token.
@@ -147,7 +156,7 @@ const SYNTAX: Option<(GrammarError, Place)> = Some((
 ));
 
 #[test]
-fn of_a_level(rt: HostRuntime) -> Result<(), Fail> {
+fn of_a_level(rt: HostRuntime) {
     for (text, level, refused) in &[
         ("a, b", PatternLevel::Patterns, None),
         ("a, b", PatternLevel::StarPattern, SYNTAX),
@@ -160,13 +169,12 @@ fn of_a_level(rt: HostRuntime) -> Result<(), Fail> {
         ("a | b", PatternLevel::ClosedPattern, SYNTAX),
         ("a", PatternLevel::ClosedPattern, None),
     ] {
-        same_error(&rt, refusal(rt.alloc(), text, *level)?, *refused, text);
+        is_refused(&rt, rt.alloc(), text, *level, *refused);
     }
-    Ok(())
 }
 
 #[test]
-fn none_at_all(rt: HostRuntime) -> Result<(), Fail> {
+fn none_at_all(rt: HostRuntime) {
     for text in &[
         "",
         "a b",
@@ -186,10 +194,8 @@ fn none_at_all(rt: HostRuntime) -> Result<(), Fail> {
         "{(f''): a}",
         "f'{a b}'",
     ] {
-        let found = refusal(rt.alloc(), text, PatternLevel::Patterns)?;
-        same_error(&rt, found, SYNTAX, text);
+        is_refused(&rt, rt.alloc(), text, PatternLevel::Patterns, SYNTAX);
     }
-    Ok(())
 }
 
 /// What is said against too many nodes nested.
@@ -200,7 +206,7 @@ const DEEP: Option<(GrammarError, Place)> = Some((
 
 /// At most 500 nodes are nested, and 600 brackets.
 #[test]
-fn high(rt: HostRuntime) -> Result<(), Fail> {
+fn high(rt: HostRuntime) {
     for (count, before, middle, behind, refused) in &[
         (600, "(", "x", ")", None),
         (499, "[", "x", "]", None),
@@ -208,9 +214,13 @@ fn high(rt: HostRuntime) -> Result<(), Fail> {
         (498, "", "x", ".a", None),
         (499, "", "x", ".a", DEEP),
     ] {
-        let text = nested(rt.alloc(), *count, before, middle, behind)?;
-        let found = refusal(rt.alloc(), text.as_str(), PatternLevel::Patterns)?;
-        same_error(&rt, found, *refused, text.as_str());
+        let text = nested(&rt, rt.alloc(), *count, before, middle, behind);
+        is_refused(
+            &rt,
+            rt.alloc(),
+            text.as_str(),
+            PatternLevel::Patterns,
+            *refused,
+        );
     }
-    Ok(())
 }

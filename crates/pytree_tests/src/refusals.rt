@@ -1,33 +1,49 @@
 //! Why sources have no tokens, and which reason is reported.
 
 use crate::expected::same_refusal;
-use crate::sources::source_of;
+use crate::sources::{nested, push, source_of};
 use pylex::{ListingError, ListingFault};
 use pyparse::{ParseFault, tokens_of};
 use pysource::Place;
 use pytoken::{Refusal, TokenError};
 use pytree_node::Extent;
 use std::alloc::Global;
-use std::test::Fail;
+use std::process::Abort;
 
 /// Why a source has no tokens in an extent of the language, or that it has some.
-fn refusal_in(alloc: Global, extent: Extent, text: &str) -> Result<Option<Refusal>, Fail> {
-    let source = source_of(alloc, text)?;
+fn refusal_in(rt: &impl Abort, alloc: Global, extent: Extent, text: &str) -> Option<Refusal> {
+    let source = source_of(rt, alloc, text);
     match tokens_of(alloc, &source, extent) {
-        Ok(_) => Ok(None),
-        Err(ParseFault::Refused(refusal)) => Ok(Some(refusal)),
-        Err(ParseFault::Grammar(_, _)) => Err(Fail::from("no fault of tokens")),
-        Err(ParseFault::Memory) => Err(Fail::from("no memory")),
+        Ok(_) => None,
+        Err(ParseFault::Refused(refusal)) => Some(refusal),
+        Err(ParseFault::Grammar(_, _)) => panic!(rt; "no fault of tokens"),
+        Err(ParseFault::Memory) => panic!(rt; "no memory"),
     }
 }
 
+/// Asserts why a source has no tokens in an extent of the language, or that it has some.
+fn is_refused_in(
+    rt: &impl Abort,
+    alloc: Global,
+    extent: Extent,
+    text: &str,
+    expected: Option<Refusal>,
+) {
+    same_refusal(rt, refusal_in(rt, alloc, extent, text), expected, text);
+}
+
 /// The same in the plain language.
-fn refusal_of(alloc: Global, text: &str) -> Result<Option<Refusal>, Fail> {
-    refusal_in(alloc, Extent::Plain, text)
+fn is_refused(rt: &impl Abort, alloc: Global, text: &str, expected: Option<Refusal>) {
+    is_refused_in(rt, alloc, Extent::Plain, text, expected);
+}
+
+/// The fault of a token at a place.
+fn fault_at(fault: TokenError, row: usize, column: usize) -> Option<Refusal> {
+    Some(Refusal::Token(fault, Place { row, column }))
 }
 
 #[test]
-fn tokens_with_a_fault_of_their_own(rt: HostRuntime) -> Result<(), Fail> {
+fn tokens_with_a_fault_of_their_own(rt: HostRuntime) {
     for (text, fault, row, column) in &[
         ("x = 1.5\n", TokenError::Float, 1, 4),
         ("match 1.5:\n", TokenError::Float, 1, 6),
@@ -50,22 +66,14 @@ fn tokens_with_a_fault_of_their_own(rt: HostRuntime) -> Result<(), Fail> {
         // Before tabs and spaces, and before brackets.
         ("if x:\n        y\n\tz = 1.5\n", TokenError::Float, 3, 5),
     ] {
-        let expected = Refusal::Token(
-            *fault,
-            Place {
-                row: *row,
-                column: *column,
-            },
-        );
-        same_refusal(&rt, refusal_of(rt.alloc(), text)?, Some(expected), text);
+        is_refused(&rt, rt.alloc(), text, fault_at(*fault, *row, *column));
     }
-    Ok(())
 }
 
 /// Floats, imaginary numbers, whole numbers from 2^128 on and f-strings have no fault in the whole
 /// language.
 #[test]
-fn tokens_of_the_whole_language(rt: HostRuntime) -> Result<(), Fail> {
+fn tokens_of_the_whole_language(rt: HostRuntime) {
     for text in &[
         "x = 1.5\n",
         "a + 1j\n",
@@ -75,12 +83,7 @@ fn tokens_of_the_whole_language(rt: HostRuntime) -> Result<(), Fail> {
         "f'{a b}'\n",
         "f'{x:{y}}' b''\n",
     ] {
-        same_refusal(
-            &rt,
-            refusal_in(rt.alloc(), Extent::Whole, text)?,
-            None,
-            text,
-        );
+        is_refused_in(&rt, rt.alloc(), Extent::Whole, text, None);
     }
     for (text, fault, column) in &[
         ("f'}' + 1j\n", TokenError::FString, 0),
@@ -91,35 +94,24 @@ fn tokens_of_the_whole_language(rt: HostRuntime) -> Result<(), Fail> {
         ("1.5 '\\N{DASH}'\n", TokenError::NamedEscape, 4),
         ("1.5 # \0\n", TokenError::Nul, 4),
     ] {
-        let place = Place {
-            row: 1,
-            column: *column,
-        };
-        let expected = Some(Refusal::Token(*fault, place));
-        same_refusal(
-            &rt,
-            refusal_in(rt.alloc(), Extent::Whole, text)?,
-            expected,
-            text,
-        );
+        let expected = fault_at(*fault, 1, *column);
+        is_refused_in(&rt, rt.alloc(), Extent::Whole, text, expected);
     }
-    Ok(())
 }
 
 #[test]
-fn the_fault_of_the_listing_before_all(rt: HostRuntime) -> Result<(), Fail> {
+fn the_fault_of_the_listing_before_all(rt: HostRuntime) {
     let fault = ListingFault {
         code: ListingError::UnmatchedCloser,
         place: Place { row: 2, column: 0 },
     };
     let text = "x = 1.5\n)\n";
     let expected = Some(Refusal::Listing(fault));
-    same_refusal(&rt, refusal_of(rt.alloc(), text)?, expected, text);
-    Ok(())
+    is_refused(&rt, rt.alloc(), text, expected);
 }
 
 #[test]
-fn tabs_and_spaces(rt: HostRuntime) -> Result<(), Fail> {
+fn tabs_and_spaces(rt: HostRuntime) {
     for (text, row, column) in &[
         ("if x:\n        y\n\tz\n", 3, 1),
         ("if x:\n\ty\n        z\n", 3, 8),
@@ -131,30 +123,22 @@ fn tabs_and_spaces(rt: HostRuntime) -> Result<(), Fail> {
             row: *row,
             column: *column,
         });
-        same_refusal(&rt, refusal_of(rt.alloc(), text)?, Some(expected), text);
+        is_refused(&rt, rt.alloc(), text, Some(expected));
     }
     for text in &["if x:\n\ty\n\tz\n", "if x:\n    y\n\t# c\n    z\n"] {
-        same_refusal(&rt, refusal_of(rt.alloc(), text)?, None, text);
+        is_refused(&rt, rt.alloc(), text, None);
     }
-    Ok(())
 }
 
 /// A source of `count` brackets round a text.
-pub(crate) fn bracketed(alloc: Global, count: usize, text: &str) -> Result<String, Fail> {
-    let mut source = String::new(alloc);
-    for _ in 0..count {
-        source.push_str("(")?;
-    }
-    source.push_str(text)?;
-    for _ in 0..count {
-        source.push_str(")")?;
-    }
-    source.push_str("\n")?;
-    Ok(source)
+pub(crate) fn bracketed(rt: &impl Abort, alloc: Global, count: usize, text: &str) -> String {
+    let mut source = nested(rt, alloc, count, "(", text, ")");
+    push(rt, &mut source, "\n");
+    source
 }
 
 #[test]
-fn brackets(rt: HostRuntime) -> Result<(), Fail> {
+fn brackets(rt: HostRuntime) {
     let deep = Refusal::TooDeep(Place {
         row: 1,
         column: 600,
@@ -169,9 +153,7 @@ fn brackets(rt: HostRuntime) -> Result<(), Fail> {
         (601, "x", Some(deep)),
         (601, "1.5", Some(float)),
     ] {
-        let source = bracketed(rt.alloc(), *count, middle)?;
-        let found = refusal_of(rt.alloc(), source.as_str())?;
-        same_refusal(&rt, found, *expected, source.as_str());
+        let source = bracketed(&rt, rt.alloc(), *count, middle);
+        is_refused(&rt, rt.alloc(), source.as_str(), *expected);
     }
-    Ok(())
 }

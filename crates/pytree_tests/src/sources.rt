@@ -1,48 +1,81 @@
 //! Texts, and the sources and trees that they are.
 
-use pyparse::parse;
+use pyparse::{Token, parse, tokens_of};
 use pysource::{SOURCE_LIMIT, Source, decode};
 use pytree::{Expr, Module, Profile, Stmt};
+use pytree_node::{Extent, Version};
 use std::alloc::Global;
 use std::process::Abort;
-use std::test::Fail;
 
-/// The source that a text is.
-pub(crate) fn source_of(alloc: Global, text: &str) -> Result<Source, Fail> {
-    let bytes = text.as_bytes();
-    if bytes.len() > SOURCE_LIMIT {
-        return Err(Fail::from("too long"));
+/// Appends a text.
+pub(crate) fn push(rt: &impl Abort, out: &mut String, text: &str) {
+    out.push_str(text).expect(rt, "memory");
+}
+
+/// Appends a text so many times.
+pub(crate) fn push_times(rt: &impl Abort, out: &mut String, text: &str, count: usize) {
+    for _ in 0..count {
+        push(rt, out, text);
     }
-    let source = decode(alloc, bytes)?;
-    Ok(source)
 }
 
 /// A text, so many times, another one, and a third so many times.
 pub(crate) fn nested(
+    rt: &impl Abort,
     alloc: Global,
     count: usize,
     before: &str,
     middle: &str,
     behind: &str,
-) -> Result<String, Fail> {
+) -> String {
     let mut text = String::new(alloc);
-    for _ in 0..count {
-        text.push_str(before)?;
+    push_times(rt, &mut text, before, count);
+    push(rt, &mut text, middle);
+    push_times(rt, &mut text, behind, count);
+    text
+}
+
+/// The source that a text is.
+pub(crate) fn source_of(rt: &impl Abort, alloc: Global, text: &str) -> Source {
+    let bytes = text.as_bytes();
+    if bytes.len() > SOURCE_LIMIT {
+        panic!(rt; "too long");
     }
-    text.push_str(middle)?;
-    for _ in 0..count {
-        text.push_str(behind)?;
-    }
-    Ok(text)
+    decode(alloc, bytes).expect(rt, "a source")
+}
+
+/// The tokens of a line, without its NEWLINE and ENDMARKER.
+pub(crate) fn tokens_of_line<'a>(
+    rt: &impl Abort,
+    alloc: Global,
+    source: &'a Source,
+) -> Vec<Token<'a>> {
+    let mut tokens = tokens_of(alloc, source, Extent::Whole).expect(rt, "tokens");
+    let _ = tokens.pop();
+    let _ = tokens.pop();
+    tokens
+}
+
+/// The module that a text is.
+fn module_in(rt: &impl Abort, alloc: Global, text: &str, profile: Profile) -> Module {
+    let source = source_of(rt, alloc, text);
+    parse(alloc, &source, profile).expect(rt, "a module")
 }
 
 /// The module that a text is in Python 3.12.
-pub(crate) fn module(alloc: Global, text: &str) -> Result<Module, Fail> {
-    let source = source_of(alloc, text)?;
-    match parse(alloc, &source, Profile::PLAIN_312) {
-        Ok(module) => Ok(module),
-        Err(_) => Err(Fail::from("no module")),
-    }
+pub(crate) fn module(rt: &impl Abort, alloc: Global, text: &str) -> Module {
+    module_in(rt, alloc, text, Profile::PLAIN_312)
+}
+
+/// Python 3.11 in the whole extent.
+const WHOLE_311: Profile = Profile {
+    version: Version::Py311,
+    extent: Extent::Whole,
+};
+
+/// The module that a text is in Python 3.11, in the whole language.
+pub(crate) fn whole_module(rt: &impl Abort, alloc: Global, text: &str) -> Module {
+    module_in(rt, alloc, text, WHOLE_311)
 }
 
 /// The expression that a module is.

@@ -1,6 +1,6 @@
 //! What tokens are to the grammar.
 
-use crate::expected::{same_answer, same_text};
+use crate::expected::{holds, same, same_text};
 use pylex::{Exact, Kind};
 use pyparse::{
     Literal, LiteralText, NumberText, Terminal, TerminalFault, terminal_of, token_fault,
@@ -9,7 +9,6 @@ use pytoken::{Keyword, TokenError};
 use pytree_node::{Constant, Extent};
 use std::alloc::Global;
 use std::process::Abort;
-use std::test::Fail;
 
 /// Asserts what a token is to the grammar, or its fault.
 fn is_terminal(
@@ -20,11 +19,7 @@ fn is_terminal(
     expected: Result<Terminal, TerminalFault>,
 ) {
     let (kind, text) = token;
-    assert_eq!(rt;
-        terminal_of(alloc, extent, kind, text),
-        expected,
-        "at {text:?}"
-    );
+    same(rt, &terminal_of(alloc, extent, kind, text), &expected, text);
 }
 
 /// Asserts the fault that a token has by itself, or that it has none.
@@ -36,17 +31,18 @@ fn has_fault(
     expected: Option<TokenError>,
 ) {
     let (kind, text) = token;
-    assert_eq!(rt;
-        token_fault(alloc, extent, kind, text),
-        Ok(expected),
-        "at {text:?}"
+    same(
+        rt,
+        &token_fault(alloc, extent, kind, text),
+        &Ok(expected),
+        text,
     );
 }
 
 #[test]
-fn terminals(rt: HostRuntime) -> Result<(), Fail> {
+fn terminals(rt: HostRuntime) {
     let alloc = rt.alloc();
-    let radix = NumberText::new(alloc, Extent::Plain, "0x_1f")?;
+    let radix = NumberText::new(alloc, Extent::Plain, "0x_1f").expect(&rt, "memory");
     for (kind, text, terminal) in &[
         (Kind::Name, "if", Terminal::Word(Keyword::If)),
         (Kind::Name, "match", Terminal::Ident("match")),
@@ -57,30 +53,40 @@ fn terminals(rt: HostRuntime) -> Result<(), Fail> {
         (Kind::Newline, "\n", Terminal::Layout),
         (Kind::Comment, "# c", Terminal::Layout),
     ] {
-        for extent in [Extent::Plain, Extent::Whole] {
-            is_terminal(&rt, alloc, extent, (*kind, text), Ok(*terminal));
-        }
+        let token = (*kind, *text);
+        is_terminal(&rt, alloc, Extent::Plain, token, Ok(*terminal));
+        is_terminal(&rt, alloc, Extent::Whole, token, Ok(*terminal));
     }
-    Ok(())
+}
+
+/// Asserts that a number is a terminal of the whole language, without a fault.
+fn is_number(rt: &impl Abort, alloc: Global, text: &str) {
+    let number = NumberText::new(alloc, Extent::Whole, text).expect(rt, "memory");
+    same_text(rt, number.as_str(), text, text);
+    let token = (Kind::Number, text);
+    is_terminal(
+        rt,
+        alloc,
+        Extent::Whole,
+        token,
+        Ok(Terminal::Number(number)),
+    );
+    has_fault(rt, alloc, Extent::Whole, token, None);
 }
 
 /// Numbers that have a fault in the plain language are terminals of the whole one.
 #[test]
-fn numbers_of_the_whole_language(rt: HostRuntime) -> Result<(), Fail> {
-    let alloc = rt.alloc();
+fn numbers_of_the_whole_language(rt: HostRuntime) {
     for text in &["1.5", "1j", "340282366920938463463374607431768211456"] {
-        let number = NumberText::new(alloc, Extent::Whole, text)?;
-        same_text(&rt, number.as_str(), text, text);
-        let token = (Kind::Number, *text);
-        let terminal = Ok(Terminal::Number(number));
-        is_terminal(&rt, alloc, Extent::Whole, token, terminal);
-        has_fault(&rt, alloc, Extent::Whole, token, None);
+        is_number(&rt, rt.alloc(), text);
     }
-    let number = NumberText::new(alloc, Extent::Whole, "2j")?;
-    let Constant::Imaginary(_) = number.value(alloc)? else {
-        panic!(rt; "an imaginary number");
-    };
-    Ok(())
+    let number = NumberText::new(rt.alloc(), Extent::Whole, "2j").expect(&rt, "memory");
+    let value = number.value(rt.alloc()).expect(&rt, "memory");
+    holds(
+        &rt,
+        matches!(value, Constant::Imaginary(_)),
+        "an imaginary number",
+    );
 }
 
 #[test]
@@ -130,15 +136,19 @@ fn faults_of_fstrings(rt: HostRuntime) {
     }
 }
 
+/// Asserts that a literal stands for these bytes.
+fn is_bytes(rt: &impl Abort, literal: &Literal, expected: &[u8]) {
+    match literal {
+        Literal::Bytes(bytes) => same(rt, &bytes.as_slice(), &expected, "bytes"),
+        _ => panic!(rt; "bytes are no text"),
+    }
+}
+
 #[test]
-fn literals(rt: HostRuntime) -> Result<(), Fail> {
-    let alloc = rt.alloc();
-    let literal = LiteralText::new("Rb'\\x'")?;
-    same_answer(&rt, literal.is_bytes(), true, "bytes");
+fn literals(rt: HostRuntime) {
+    let literal = LiteralText::new("Rb'\\x'").expect(&rt, "a literal");
+    holds(&rt, literal.is_bytes(), "bytes");
     same_text(&rt, literal.as_str(), "Rb'\\x'", "bytes");
-    let Literal::Bytes(bytes) = literal.value(alloc)? else {
-        panic!(rt; "bytes are no text");
-    };
-    assert!(rt; bytes.as_slice() == b"\\x".as_slice());
-    Ok(())
+    let value = literal.value(rt.alloc()).expect(&rt, "memory");
+    is_bytes(&rt, &value, b"\\x");
 }

@@ -1,13 +1,12 @@
 //! The tokens of sources.
 
-use crate::expected::{same_answer, same_number};
+use crate::expected::{holds, same_number};
 use crate::sources::source_of;
 use pylex::Kind;
 use pyparse::{Token, tokens_of};
 use pytree_node::Extent;
 use std::alloc::Global;
 use std::process::Abort;
-use std::test::Fail;
 
 /// Whether a token has this kind, row and column of the start, and text.
 fn is_row(token: &Token<'_>, row: &(Kind, (usize, usize), &str)) -> bool {
@@ -17,25 +16,17 @@ fn is_row(token: &Token<'_>, row: &(Kind, (usize, usize), &str)) -> bool {
 }
 
 /// The tokens of a source are these: kind, row and column of the start, text.
-fn gives(
-    rt: &impl Abort,
-    alloc: Global,
-    text: &str,
-    rows: &[(Kind, (usize, usize), &str)],
-) -> Result<(), Fail> {
-    let source = source_of(alloc, text)?;
-    let Ok(tokens) = tokens_of(alloc, &source, Extent::Plain) else {
-        return Err(Fail::from("no tokens"));
-    };
+fn gives(rt: &impl Abort, alloc: Global, text: &str, rows: &[(Kind, (usize, usize), &str)]) {
+    let source = source_of(rt, alloc, text);
+    let tokens = tokens_of(alloc, &source, Extent::Plain).expect(rt, "tokens");
     same_number(rt, tokens.len(), rows.len(), text);
     for (token, row) in tokens.iter().zip(rows) {
-        same_answer(rt, is_row(token, row), true, text);
+        holds(rt, is_row(token, row), text);
     }
-    Ok(())
 }
 
 #[test]
-fn leaves_out_comments_and_empty_lines(rt: HostRuntime) -> Result<(), Fail> {
+fn leaves_out_comments_and_empty_lines(rt: HostRuntime) {
     gives(
         &rt,
         rt.alloc(),
@@ -45,11 +36,11 @@ fn leaves_out_comments_and_empty_lines(rt: HostRuntime) -> Result<(), Fail> {
             (Kind::Newline, (3, 5), "\n"),
             (Kind::EndMarker, (4, 0), ""),
         ],
-    )
+    );
 }
 
 #[test]
-fn drops_the_line_end_of_a_line_without_tokens(rt: HostRuntime) -> Result<(), Fail> {
+fn drops_the_line_end_of_a_line_without_tokens(rt: HostRuntime) {
     gives(
         &rt,
         rt.alloc(),
@@ -59,11 +50,11 @@ fn drops_the_line_end_of_a_line_without_tokens(rt: HostRuntime) -> Result<(), Fa
             (Kind::Newline, (3, 1), "\n"),
             (Kind::EndMarker, (4, 0), ""),
         ],
-    )
+    );
 }
 
 #[test]
-fn supplies_the_last_line_end(rt: HostRuntime) -> Result<(), Fail> {
+fn supplies_the_last_line_end(rt: HostRuntime) {
     gives(
         &rt,
         rt.alloc(),
@@ -79,11 +70,11 @@ fn supplies_the_last_line_end(rt: HostRuntime) -> Result<(), Fail> {
             (Kind::Dedent, (4, 0), ""),
             (Kind::EndMarker, (4, 0), ""),
         ],
-    )
+    );
 }
 
 #[test]
-fn keeps_names_as_they_are_spelled(rt: HostRuntime) -> Result<(), Fail> {
+fn keeps_names_as_they_are_spelled(rt: HostRuntime) {
     gives(
         &rt,
         rt.alloc(),
@@ -95,5 +86,5 @@ fn keeps_names_as_they_are_spelled(rt: HostRuntime) -> Result<(), Fail> {
             (Kind::Newline, (1, 5), "\r\n"),
             (Kind::EndMarker, (2, 0), ""),
         ],
-    )
+    );
 }

@@ -1,10 +1,11 @@
 //! Trees: their heights by definition, copies of them, and whether they are equal.
 
 use crate::changes::put;
-use crate::expected::same_answer;
-use crate::sources::module;
-use pytree::{Heights, copy, height, same};
-use std::test::Fail;
+use crate::expected::holds;
+use crate::sources::{module, nested};
+use pytree::{Heights, Module, copy, height, same};
+use std::alloc::Global;
+use std::process::Abort;
 
 /// An assignment with an annotation.
 const ANNOTATED: &str = "x[not y]: z = u'a'";
@@ -12,8 +13,17 @@ const ANNOTATED: &str = "x[not y]: z = u'a'";
 /// The same, but with another kind of text.
 const PLAIN: &str = "x[not y]: z = 'a'";
 
+/// Asserts the heights of a tree.
+fn has_heights(rt: &impl Abort, tree: &Module, expression: u64, statement: u64, at: &str) {
+    let expected = Heights {
+        expression,
+        statement,
+    };
+    holds(rt, height(tree) == expected, at);
+}
+
 #[test]
-fn heights(rt: HostRuntime) -> Result<(), Fail> {
+fn heights(rt: HostRuntime) {
     for (text, expression, statement) in &[
         ("", 0, 0),
         ("pass", 0, 1),
@@ -23,52 +33,45 @@ fn heights(rt: HostRuntime) -> Result<(), Fail> {
         ("f(a=not not x)", 4, 1),
         ("class C[T: not x]: pass", 2, 2),
     ] {
-        let expected = Heights {
-            expression: *expression,
-            statement: *statement,
-        };
-        let tree = module(rt.alloc(), *text)?;
-        same_answer(&rt, height(&tree) == expected, true, *text);
+        let tree = module(&rt, rt.alloc(), text);
+        has_heights(&rt, &tree, *expression, *statement, text);
     }
-    Ok(())
 }
 
 /// `x[...]`, and 499 `not` before it: one more than a source may have.
 #[test]
-fn height_of_many(rt: HostRuntime) -> Result<(), Fail> {
-    let alloc = rt.alloc();
-    let mut text = String::new(alloc);
-    for _ in 0..498 {
-        text.push_str("not ")?;
-    }
-    text.push_str("x[...]")?;
-    let mut inner = module(alloc, text.as_str())?;
-    let mut tree = module(alloc, "not y")?;
-    assert!(rt; put(&mut tree, &mut inner).is_some());
-    let expected = Heights {
-        expression: 501,
-        statement: 1,
-    };
-    assert!(rt; height(&tree) == expected);
-    Ok(())
+fn height_of_many(rt: HostRuntime) {
+    let text = nested(&rt, rt.alloc(), 498, "not ", "x[...]", "");
+    let mut inner = module(&rt, rt.alloc(), text.as_str());
+    let mut tree = module(&rt, rt.alloc(), "not y");
+    holds(&rt, put(&mut tree, &mut inner).is_some(), "an operand");
+    has_heights(&rt, &tree, 501, 1, "a tree");
+}
+
+/// A copy of a tree, which is dropped.
+pub(crate) fn copy_of(rt: &impl Abort, alloc: Global, tree: Module) -> Module {
+    let made = copy(alloc, &tree).expect(rt, "memory");
+    holds(rt, same(&tree, &made), "a copy");
+    made
 }
 
 /// A copy stands by itself: it is whole once the tree that it was made of is dropped.
 #[test]
-fn copies(rt: HostRuntime) -> Result<(), Fail> {
-    let alloc = rt.alloc();
-    let tree = module(alloc, ANNOTATED)?;
-    let made = copy(alloc, &tree)?;
-    assert!(rt; same(&tree, &made));
-    drop(tree);
-    let again = module(alloc, ANNOTATED)?;
-    assert!(rt; same(&made, &again));
-    Ok(())
+fn copies(rt: HostRuntime) {
+    let made = copy_of(&rt, rt.alloc(), module(&rt, rt.alloc(), ANNOTATED));
+    let again = module(&rt, rt.alloc(), ANNOTATED);
+    holds(&rt, same(&made, &again), "a copy");
+}
+
+/// Asserts whether two texts are the same tree.
+fn is_same(rt: &impl Abort, alloc: Global, text: &str, other: &str, expected: bool) {
+    let tree = module(rt, alloc, text);
+    let others = module(rt, alloc, other);
+    holds(rt, same(&tree, &others) == expected, other);
 }
 
 #[test]
-fn equality(rt: HostRuntime) -> Result<(), Fail> {
-    let alloc = rt.alloc();
+fn equality(rt: HostRuntime) {
     for (text, other, expected) in &[
         // Another kind of text.
         (PLAIN, ANNOTATED, false),
@@ -80,22 +83,17 @@ fn equality(rt: HostRuntime) -> Result<(), Fail> {
         // Another class.
         ("pass; global x", "pass; nonlocal x", false),
     ] {
-        let tree = module(alloc, *text)?;
-        let others = module(alloc, *other)?;
-        same_answer(&rt, same(&tree, &others), *expected, *other);
+        is_same(&rt, rt.alloc(), text, other, *expected);
     }
-    Ok(())
 }
 
 /// Another context: as if the target were read.
 #[test]
-fn equality_of_contexts(rt: HostRuntime) -> Result<(), Fail> {
-    let alloc = rt.alloc();
-    let tree = module(alloc, PLAIN)?;
-    let mut other = module(alloc, PLAIN)?;
-    assert!(rt; same(&tree, &other));
-    let mut read = module(alloc, "x[not y]")?;
-    assert!(rt; put(&mut other, &mut read).is_some());
-    assert!(rt; !same(&tree, &other));
-    Ok(())
+fn equality_of_contexts(rt: HostRuntime) {
+    let tree = module(&rt, rt.alloc(), PLAIN);
+    let mut other = module(&rt, rt.alloc(), PLAIN);
+    holds(&rt, same(&tree, &other), "a target");
+    let mut read = module(&rt, rt.alloc(), "x[not y]");
+    holds(&rt, put(&mut other, &mut read).is_some(), "a target");
+    holds(&rt, !same(&tree, &other), "a target that is read");
 }

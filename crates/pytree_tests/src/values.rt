@@ -1,6 +1,7 @@
 //! What numbers, strings and names stand for.
 
-use crate::expected::{same_fault, same_text};
+use crate::expected::{same, same_fault, same_text};
+use crate::sources::{nested, push};
 use pyparse::{
     Literal, TerminalFault, identifier_value, name_fault, name_value, number_value, string_fault,
     string_value,
@@ -10,61 +11,35 @@ use pytoken::TokenError;
 use pytree_node::{Constant, Extent};
 use std::alloc::Global;
 use std::process::Abort;
-use std::test::Fail;
 
 /// A number as Python shows it.
-fn shown(alloc: Global, number: &Constant) -> Result<String, Fail> {
+fn shown(rt: &impl Abort, alloc: Global, number: &Constant) -> String {
     let mut out = String::new(alloc);
-    match number {
-        Constant::Int(value) => value.push_decimal(&mut out)?,
-        Constant::Float(value) => value.push_repr(&mut out, alloc)?,
-        Constant::Imaginary(value) => value.push_imaginary_repr(&mut out, alloc)?,
-        _ => return Err(Fail::from("no number")),
-    }
-    Ok(out)
+    let told = match number {
+        Constant::Int(value) => value.push_decimal(&mut out),
+        Constant::Float(value) => value.push_repr(&mut out, alloc),
+        Constant::Imaginary(value) => value.push_imaginary_repr(&mut out, alloc),
+        _ => panic!(rt; "no number"),
+    };
+    told.expect(rt, "memory");
+    out
 }
 
-/// The value of a number in an extent of the language, as Python shows it, or the number's fault.
-fn number(alloc: Global, extent: Extent, text: &str) -> Result<Result<String, TokenError>, Fail> {
-    match number_value(alloc, extent, text) {
-        Ok(value) => Ok(Ok(shown(alloc, &value)?)),
-        Err(TerminalFault::Token(error)) => Ok(Err(error)),
-        Err(TerminalFault::Memory) => Err(Fail::from("no memory")),
-    }
+/// Asserts that a number stands for this value in an extent of the language.
+fn counts(rt: &impl Abort, alloc: Global, extent: Extent, text: &str, expected: &str) {
+    let value = number_value(alloc, extent, text).expect(rt, "a number");
+    let found = shown(rt, alloc, &value);
+    same_text(rt, found.as_str(), expected, text);
 }
 
-/// A number stands for this value in an extent of the language.
-fn counts(
-    rt: &impl Abort,
-    alloc: Global,
-    extent: Extent,
-    text: &str,
-    value: &str,
-) -> Result<(), Fail> {
-    match number(alloc, extent, text)? {
-        Ok(shown) => same_text(rt, shown.as_str(), value, text),
-        Err(_) => return Err(Fail::from("no value")),
-    }
-    Ok(())
-}
-
-/// A number has this fault in an extent of the language.
-fn fails(
-    rt: &impl Abort,
-    alloc: Global,
-    extent: Extent,
-    text: &str,
-    fault: TokenError,
-) -> Result<(), Fail> {
-    match number(alloc, extent, text)? {
-        Ok(_) => return Err(Fail::from("a value")),
-        Err(error) => same_fault(rt, Some(error), Some(fault), text),
-    }
-    Ok(())
+/// Asserts that a number has this fault in an extent of the language.
+fn fails(rt: &impl Abort, alloc: Global, extent: Extent, text: &str, fault: TokenError) {
+    let found = number_value(alloc, extent, text).err();
+    same(rt, &found, &Some(TerminalFault::Token(fault)), text);
 }
 
 #[test]
-fn numbers(rt: HostRuntime) -> Result<(), Fail> {
+fn numbers(rt: HostRuntime) {
     for (text, value) in &[
         ("0", "0"),
         ("00_0", "0"),
@@ -86,16 +61,14 @@ fn numbers(rt: HostRuntime) -> Result<(), Fail> {
             "340282366920938463463374607431768211455",
         ),
     ] {
-        for extent in [Extent::Plain, Extent::Whole] {
-            counts(&rt, rt.alloc(), extent, text, value)?;
-        }
+        counts(&rt, rt.alloc(), Extent::Plain, text, value);
+        counts(&rt, rt.alloc(), Extent::Whole, text, value);
     }
-    Ok(())
 }
 
 /// What is a fault in the plain language has a value in the whole one.
 #[test]
-fn numbers_of_other_kinds(rt: HostRuntime) -> Result<(), Fail> {
+fn numbers_of_other_kinds(rt: HostRuntime) {
     for (text, fault, value) in &[
         ("1.5", TokenError::Float, "1.5"),
         ("1e5", TokenError::Float, "100000.0"),
@@ -117,57 +90,59 @@ fn numbers_of_other_kinds(rt: HostRuntime) -> Result<(), Fail> {
             "340282366920938463463374607431768211456",
         ),
     ] {
-        fails(&rt, rt.alloc(), Extent::Plain, text, *fault)?;
-        counts(&rt, rt.alloc(), Extent::Whole, text, value)?;
+        fails(&rt, rt.alloc(), Extent::Plain, text, *fault);
+        counts(&rt, rt.alloc(), Extent::Whole, text, value);
     }
-    Ok(())
 }
 
 /// A digit 1 and zeros.
-fn power(alloc: Global, zeros: usize) -> Result<String, Fail> {
-    let mut text = String::from_str(alloc, "1")?;
-    for _ in 0..zeros {
-        text.push('0')?;
-    }
-    Ok(text)
+fn power(rt: &impl Abort, alloc: Global, zeros: usize) -> String {
+    nested(rt, alloc, zeros, "", "1", "0")
 }
 
 /// The largest whole number has 4,300 digits.
 #[test]
-fn large_numbers(rt: HostRuntime) -> Result<(), Fail> {
+fn large_numbers(rt: HostRuntime) {
     let alloc = rt.alloc();
     let fault = TokenError::IntegerTooLarge;
-    let largest = power(alloc, 4299)?;
-    fails(&rt, alloc, Extent::Plain, largest.as_str(), fault)?;
+    let largest = power(&rt, alloc, 4299);
+    fails(&rt, alloc, Extent::Plain, largest.as_str(), fault);
     counts(
         &rt,
         alloc,
         Extent::Whole,
         largest.as_str(),
         largest.as_str(),
-    )?;
-    let past = power(alloc, 4300)?;
-    fails(&rt, alloc, Extent::Plain, past.as_str(), fault)?;
-    fails(&rt, alloc, Extent::Whole, past.as_str(), fault)
+    );
+    let past = power(&rt, alloc, 4300);
+    fails(&rt, alloc, Extent::Plain, past.as_str(), fault);
+    fails(&rt, alloc, Extent::Whole, past.as_str(), fault);
 }
 
-/// A literal stands for the value of this repr, after `u` where its kind is `u`.
-fn stands_for(rt: &impl Abort, alloc: Global, text: &str, expected: &str) -> Result<(), Fail> {
+/// The repr of what a literal stands for, after `u` where its kind is `u`.
+fn shown_literal(rt: &impl Abort, alloc: Global, literal: &Literal) -> String {
     let mut shown = String::new(alloc);
-    match string_value(alloc, text)? {
+    let told = match literal {
         Literal::Text { points, unicode } => {
-            shown.push_str(if unicode { "u" } else { "" })?;
-            push_repr_points(&mut shown, points.as_slice())?;
+            push(rt, &mut shown, if *unicode { "u" } else { "" });
+            push_repr_points(&mut shown, points.as_slice())
         }
-        Literal::Bytes(bytes) => push_repr_bytes(&mut shown, bytes.as_slice())?,
-    }
+        Literal::Bytes(bytes) => push_repr_bytes(&mut shown, bytes.as_slice()),
+    };
+    told.expect(rt, "memory");
+    shown
+}
+
+/// Asserts what a literal stands for, and that it has no fault.
+fn stands_for(rt: &impl Abort, alloc: Global, text: &str, expected: &str) {
+    let literal = string_value(alloc, text).expect(rt, "memory");
+    let shown = shown_literal(rt, alloc, &literal);
     same_text(rt, shown.as_str(), expected, text);
     same_fault(rt, string_fault(text), None, text);
-    Ok(())
 }
 
 #[test]
-fn strings(rt: HostRuntime) -> Result<(), Fail> {
+fn strings(rt: HostRuntime) {
     for (text, expected) in &[
         ("''", "''"),
         ("'\\777'", "'ǿ'"),
@@ -185,9 +160,8 @@ fn strings(rt: HostRuntime) -> Result<(), Fail> {
             "'\\x07\\x08\\x0c\\n\\r\\t\\x0b\\\\'",
         ),
     ] {
-        stands_for(&rt, rt.alloc(), text, expected)?;
+        stands_for(&rt, rt.alloc(), text, expected);
     }
-    Ok(())
 }
 
 #[test]
@@ -208,12 +182,18 @@ fn strings_with_a_fault(rt: HostRuntime) {
     }
 }
 
+/// Asserts the form that a name is read in.
+fn is_read(rt: &impl Abort, alloc: Global, text: &str, form: &str) {
+    let name = name_value(alloc, text).expect(rt, "memory");
+    same_text(rt, name.as_str(), form, text);
+    let identifier = identifier_value(alloc, text).expect(rt, "memory");
+    same_text(rt, identifier.as_str(), form, text);
+}
+
 #[test]
-fn names(rt: HostRuntime) -> Result<(), Fail> {
-    let alloc = rt.alloc();
+fn names(rt: HostRuntime) {
     for (text, form) in &[("ﬁ", "fi"), ("plain", "plain")] {
-        same_text(&rt, name_value(alloc, text)?.as_str(), form, text);
-        same_text(&rt, identifier_value(alloc, text)?.as_str(), form, text);
+        is_read(&rt, rt.alloc(), text, form);
     }
     for (text, fault) in &[
         ("ﬁ", None),
@@ -222,7 +202,7 @@ fn names(rt: HostRuntime) -> Result<(), Fail> {
         ("match", None),
         ("ｉｆ", Some(TokenError::NameForm)),
     ] {
-        same_fault(&rt, name_fault(alloc, text)?, *fault, text);
+        let found = name_fault(rt.alloc(), text).expect(&rt, "memory");
+        same_fault(&rt, found, *fault, text);
     }
-    Ok(())
 }

@@ -1,59 +1,46 @@
 //! Tokens of expressions, with a blank between each two.
 
 use crate::expected::same_text;
-use crate::sources::source_of;
+use crate::sources::{push, source_of, tokens_of_line};
 use pygrammar::Level;
-use pyparse::{parse_expression, tokens_of};
-use pytree::{Expr, Extent};
-use pyunparse::expression_tokens;
+use pyparse::parse_expression;
+use pytree::Expr;
+use pyunparse::{Piece, expression_tokens};
 use std::alloc::Global;
 use std::process::Abort;
-use std::test::Fail;
 
 /// The expression that a line is.
-fn read(alloc: Global, text: &str) -> Result<Expr, Fail> {
-    let source = source_of(alloc, text)?;
-    let Ok(mut tokens) = tokens_of(alloc, &source, Extent::Whole) else {
-        return Err(Fail::from("no tokens"));
-    };
-    tokens.pop();
-    tokens.pop();
-    match parse_expression(alloc, tokens.as_slice(), Level::Value) {
-        Ok(expr) => Ok(expr),
-        Err(_) => Err(Fail::from("no expression")),
-    }
+fn read(rt: &impl Abort, alloc: Global, text: &str) -> Expr {
+    let source = source_of(rt, alloc, text);
+    let tokens = tokens_of_line(rt, alloc, &source);
+    parse_expression(alloc, tokens.as_slice(), Level::Value).expect(rt, "an expression")
+}
+
+/// The tokens of an expression at a level.
+fn pieces(rt: &impl Abort, alloc: Global, expr: Expr, level: Level) -> Vec<Piece> {
+    expression_tokens(alloc, &expr, level).expect(rt, "memory")
 }
 
 /// The tokens of the expression that a line is, at a level.
-fn written(alloc: Global, text: &str, level: Level) -> Result<String, Fail> {
-    let expr = read(alloc, text)?;
+fn written(rt: &impl Abort, alloc: Global, text: &str, level: Level) -> String {
     let mut joined = String::new(alloc);
-    for piece in &expression_tokens(alloc, &expr, level)? {
-        if !joined.is_empty() {
-            joined.push(' ')?;
-        }
-        joined.push_str(piece.text.as_str())?;
+    for piece in &pieces(rt, alloc, read(rt, alloc, text), level) {
+        let is_first = joined.is_empty();
+        push(rt, &mut joined, if is_first { "" } else { " " });
+        push(rt, &mut joined, piece.text.as_str());
     }
-    Ok(joined)
+    joined
 }
 
 /// A line is written so at a level.
-fn writes(
-    rt: &impl Abort,
-    alloc: Global,
-    text: &str,
-    level: Level,
-    tokens: &str,
-) -> Result<(), Fail> {
-    let found = written(alloc, text, level)?;
+fn writes(rt: &impl Abort, alloc: Global, text: &str, level: Level, tokens: &str) {
+    let found = written(rt, alloc, text, level);
     same_text(rt, found.as_str(), tokens, text);
-    Ok(())
 }
 
 /// Brackets stand where the place needs them.
 #[test]
-fn places(rt: HostRuntime) -> Result<(), Fail> {
-    let alloc = rt.alloc();
+fn places(rt: HostRuntime) {
     for (text, level, tokens) in &[
         ("a, b", Level::Stars, "a , b"),
         ("a, b", Level::Expression, "( a , b )"),
@@ -67,16 +54,14 @@ fn places(rt: HostRuntime) -> Result<(), Fail> {
         ("a if b else c", Level::Expression, "a if b else c"),
         ("a ** b", Level::Await, "( a ** b )"),
     ] {
-        writes(&rt, alloc, *text, *level, *tokens)?;
+        writes(&rt, rt.alloc(), text, *level, tokens);
     }
-    Ok(())
 }
 
 /// An f-string is one token, behind one of a text where its kind is `u`; a field is written as
 /// an operand of `or` is.
 #[test]
-fn fstrings(rt: HostRuntime) -> Result<(), Fail> {
-    let alloc = rt.alloc();
+fn fstrings(rt: HostRuntime) {
     for (text, tokens) in &[
         ("f''", "f''"),
         ("f'a' \"b\" + f\"{'c'}\"", "f'ab' + f'{\"c\"}'"),
@@ -94,15 +79,13 @@ fn fstrings(rt: HostRuntime) -> Result<(), Fail> {
         ("u'a' f'{b}'", "u'a' f'{b}'"),
         ("(f'{a}').b", "f'{a}' . b"),
     ] {
-        writes(&rt, alloc, *text, Level::Value, *tokens)?;
+        writes(&rt, rt.alloc(), text, Level::Value, tokens);
     }
-    Ok(())
 }
 
 /// As few brackets as each operand allows.
 #[test]
-fn operands(rt: HostRuntime) -> Result<(), Fail> {
-    let alloc = rt.alloc();
+fn operands(rt: HostRuntime) {
     for (text, tokens) in &[
         ("((a and b) and c)", "( a and b ) and c"),
         ("-(x ** (-y))", "- x ** - y"),
@@ -119,7 +102,6 @@ fn operands(rt: HostRuntime) -> Result<(), Fail> {
         ("(1).real", "1 . real"),
         ("0x10", "16"),
     ] {
-        writes(&rt, alloc, *text, Level::Value, *tokens)?;
+        writes(&rt, rt.alloc(), text, Level::Value, tokens);
     }
-    Ok(())
 }

@@ -1,37 +1,34 @@
 //! Modules that come back from their text.
 
-use crate::expected::{same_answer, same_text};
+use crate::expected::{holds, same_text};
 use crate::sources::module;
-use pytree::same;
+use pytree::{Module, same};
 use pyunparse::unparse;
 use std::alloc::Global;
 use std::process::Abort;
-use std::test::Fail;
+
+/// Asserts that a text is that of a tree.
+fn is_text_of(rt: &impl Abort, alloc: Global, text: &str, tree: &Module) {
+    let again = module(rt, alloc, text);
+    holds(rt, same(tree, &again), text);
+}
 
 /// The text of the module that a text is, once it was seen to come back from it.
-pub(crate) fn text_of(rt: &impl Abort, alloc: Global, text: &str) -> Result<String, Fail> {
-    let tree = module(alloc, text)?;
-    let written = unparse(alloc, &tree)?;
-    let again = module(alloc, written.as_str())?;
-    same_answer(rt, same(&tree, &again), true, text);
-    Ok(written)
+pub(crate) fn text_of(rt: &impl Abort, alloc: Global, text: &str) -> String {
+    let tree = module(rt, alloc, text);
+    let written = unparse(alloc, &tree).expect(rt, "a text");
+    is_text_of(rt, alloc, written.as_str(), &tree);
+    written
 }
 
 /// A text is written so.
-pub(crate) fn writes(
-    rt: &impl Abort,
-    alloc: Global,
-    text: &str,
-    expected: &str,
-) -> Result<(), Fail> {
-    let written = text_of(rt, alloc, text)?;
+pub(crate) fn writes(rt: &impl Abort, alloc: Global, text: &str, expected: &str) {
+    let written = text_of(rt, alloc, text);
     same_text(rt, written.as_str(), expected, text);
-    Ok(())
 }
 
 #[test]
-fn statements(rt: HostRuntime) -> Result<(), Fail> {
-    let alloc = rt.alloc();
+fn statements(rt: HostRuntime) {
     for (text, expected) in &[
         ("", ""),
         ("x = (a := 1), b", "x = (a := 1, b)\n"),
@@ -47,14 +44,12 @@ fn statements(rt: HostRuntime) -> Result<(), Fail> {
             "type X[T: int, *Ts, **P] = list[T]\n",
         ),
     ] {
-        writes(&rt, alloc, *text, *expected)?;
+        writes(&rt, rt.alloc(), text, expected);
     }
-    Ok(())
 }
 
 #[test]
-fn blocks(rt: HostRuntime) -> Result<(), Fail> {
-    let alloc = rt.alloc();
+fn blocks(rt: HostRuntime) {
     for (text, expected) in &[
         (
             "def f(a, /, b: int = 1, *, c=2, **d) -> g: return a",
@@ -73,7 +68,6 @@ fn blocks(rt: HostRuntime) -> Result<(), Fail> {
         ),
         ("@(d)\nclass A(): pass", "@d\nclass A:\n    pass\n"),
     ] {
-        writes(&rt, alloc, *text, *expected)?;
+        writes(&rt, rt.alloc(), text, expected);
     }
-    Ok(())
 }
