@@ -170,6 +170,7 @@ fn are_apart(rt: &impl Abort, alloc: Global, module: Module, other: Module) {
     is_copied(rt, alloc, &module);
     is_copied(rt, alloc, &other);
     holds(rt, !same(&module, &other), "two constants");
+    holds(rt, !same(&other, &module), "two constants");
 }
 
 #[test]
