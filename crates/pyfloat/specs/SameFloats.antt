@@ -16,7 +16,8 @@ float_same _ _ = false
 itself : (x : Float) → float_same x x ≡ true
 itself nan = refl
 itself (inf s) = (booleans_Decides s s).1 refl
-itself (fin s m e) = and_from (beq s s && (m == m)) (int_eq e e) (and_from (beq s s) (m == m) ((booleans_Decides s s).1 refl) ((unsigned_Decides m m).1 refl)) ((signed_Decides e e).1 refl)
+itself (fin s m e) = and_from (beq s s && (m == m)) (int_eq e e) (and_from (beq s s) (m == m) ((booleans_Decides s s).1 refl)
+    ((unsigned_Decides m m).1 refl)) ((signed_Decides e e).1 refl)
 
 told : (x y : Float) → float_same x y ≡ true → x ≡ y
 told nan nan h = refl

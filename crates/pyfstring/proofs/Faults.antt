@@ -17,6 +17,7 @@ pub says_more : {P Q : Type 0} (e : CutError) → (P → Q) → IfMalformed e P 
 says_more Malformed f p = f p
 says_more Memory f p = tt
 
-pub passed_on : {X P Q : Type 0} (r : Result X CutError) (e : CutError) → IsErrAnd r (λ d. d ≡ e) → (P → Q) → IfMalformed e P → IfErr r (λ d. IfMalformed d Q)
+pub passed_on : {X P Q : Type 0} (r : Result X CutError) (e : CutError) → IsErrAnd r (λ d. d ≡ e) → (P → Q) → IfMalformed e P
+    → IfErr r (λ d. IfMalformed d Q)
 passed_on (Ok x) e h f p = absurd h
 passed_on {P = P} (Err d) e h f p = says_more d f (let I : CutError → Type 0 = λ x. IfMalformed x P in subst I (sym h) p)

@@ -44,32 +44,40 @@ pub conversion_ends : (cs : List ℕ) → begins_with exclamation_mark cs ≡ tr
 unfolding conversion_at
 conversion_ends cs e n = let z : slice_get cs 1 ≡ None = sym (at_one cs) ∙ n in rw (e, z, conversion_at) refl
 
-pub conversion_fails : (cs : List ℕ) (l : ℕ) → begins_with exclamation_mark cs ≡ true → slice_get (drop 1 cs) 0 ≡ Some l → conversion_by l ≡ None → conversion_at cs ≡ None
+pub conversion_fails : (cs : List ℕ) (l : ℕ) → begins_with exclamation_mark cs ≡ true → slice_get (drop 1 cs) 0 ≡ Some l
+    → conversion_by l ≡ None → conversion_at cs ≡ None
 unfolding conversion_at
-conversion_fails cs l e n k = let z : slice_get cs 1 ≡ Some l = sym (at_one cs) ∙ n in let P : Option Conversion → Type 0 = λ o. ◌≡◌ {A = Read Conversion} (option_map (λ (x : Conversion). (x, drop 2 cs)) o) None in rw (e, z, conversion_at) (subst P (sym k) refl)
+conversion_fails cs l e n k = let z : slice_get cs 1 ≡ Some l = sym (at_one cs) ∙ n in let P : Option Conversion → Type 0 =
+    λ o. ◌≡◌ {A = Read Conversion} (option_map (λ (x : Conversion). (x, drop 2 cs)) o) None in
+    rw (e, z, conversion_at) (subst P (sym k) refl)
 
 drop_two : (cs : List ℕ) → drop 1 (drop 1 cs) ≡ drop 2 cs
 drop_two [] = refl
 drop_two (c ∷ cs) = refl
 
-pub conversion_given : (cs : List ℕ) (l : ℕ) (g : Conversion) → begins_with exclamation_mark cs ≡ true → slice_get (drop 1 cs) 0 ≡ Some l → conversion_by l ≡ Some g → conversion_at cs ≡ Some (g, drop 1 (drop 1 cs))
+pub conversion_given : (cs : List ℕ) (l : ℕ) (g : Conversion) → begins_with exclamation_mark cs ≡ true → slice_get (drop 1 cs) 0 ≡ Some l
+    → conversion_by l ≡ Some g → conversion_at cs ≡ Some (g, drop 1 (drop 1 cs))
 unfolding conversion_at
 conversion_given cs l g e n k =
     let z : slice_get cs 1 ≡ Some l = sym (at_one cs) ∙ n in
-    let P : Option Conversion → Type 0 = λ o. ◌≡◌ {A = Read Conversion} (option_map (λ (x : Conversion). (x, drop 2 cs)) o) (Some (g, drop 2 cs)) in
+    let P : Option Conversion → Type 0 = λ o. ◌≡◌ {A = Read Conversion} (option_map (λ (x : Conversion). (x, drop 2 cs)) o)
+    (Some (g, drop 2 cs)) in
     rw (drop_two cs, e, z, conversion_at) (subst P (sym k) refl)
 
 -- ---- What `=` keeps.
 
-pub kept_absent : (is_nested : Bool) (cs here : List ℕ) → begins_with equals_sign here ≡ false → kept_at is_nested cs here ≡ Some (None, here)
+pub kept_absent : (is_nested : Bool) (cs here : List ℕ) → begins_with equals_sign here ≡ false
+    → kept_at is_nested cs here ≡ Some (None, here)
 unfolding kept_at
 kept_absent is_nested cs here e = rw (e, kept_at) refl
 
-pub kept_fails : (is_nested : Bool) (cs here : List ℕ) → begins_with equals_sign here ≡ true → is_nested ≡ true → kept_at is_nested cs here ≡ None
+pub kept_fails : (is_nested : Bool) (cs here : List ℕ) → begins_with equals_sign here ≡ true → is_nested ≡ true
+    → kept_at is_nested cs here ≡ None
 unfolding kept_at
 kept_fails is_nested cs here e n = rw (e, n, kept_at) refl
 
-pub kept_given : (is_nested : Bool) (cs here : List ℕ) → begins_with equals_sign here ≡ true → is_nested ≡ false → kept_at is_nested cs here ≡ Some (Some (before cs (behind_blanks (drop 1 here))), behind_blanks (drop 1 here))
+pub kept_given : (is_nested : Bool) (cs here : List ℕ) → begins_with equals_sign here ≡ true → is_nested ≡ false
+    → kept_at is_nested cs here ≡ Some (Some (before cs (behind_blanks (drop 1 here))), behind_blanks (drop 1 here))
 unfolding kept_at
 kept_given is_nested cs here e n = rw (e, n, kept_at) refl
 
@@ -81,11 +89,16 @@ expression_fails cs e = rw e refl
 
 pub expression_blank : (cs r : List ℕ) → behind_expression cs ≡ Some r → list_all is_blank (before cs r) ≡ true → expression_at cs ≡ None
 unfolding expression_at
-expression_blank cs r e b = rw e (let P : Bool → Type 0 = λ t. ◌≡◌ {A = Read (List ℕ)} (elim t [ true ↦ None | false ↦ Some (before cs r, r) ]) None in subst P (sym b) refl)
+expression_blank cs r e b =
+    rw e (let P : Bool → Type 0 = λ t. ◌≡◌ {A = Read (List ℕ)} (elim t [ true ↦ None | false ↦ Some (before cs r, r) ])
+    None in subst P (sym b) refl)
 
-pub expression_given : (cs r : List ℕ) → behind_expression cs ≡ Some r → list_all is_blank (before cs r) ≡ false → expression_at cs ≡ Some (before cs r, r)
+pub expression_given : (cs r : List ℕ) → behind_expression cs ≡ Some r → list_all is_blank (before cs r) ≡ false
+    → expression_at cs ≡ Some (before cs r, r)
 unfolding expression_at
-expression_given cs r e b = rw e (let P : Bool → Type 0 = λ t. ◌≡◌ {A = Read (List ℕ)} (elim t [ true ↦ None | false ↦ Some (before cs r, r) ]) (Some (before cs r, r)) in subst P (sym b) refl)
+expression_given cs r e b =
+    rw e (let P : Bool → Type 0 = λ t. ◌≡◌ {A = Read (List ℕ)} (elim t [ true ↦ None | false ↦ Some (before cs r, r) ])
+    (Some (before cs r, r)) in subst P (sym b) refl)
 
 -- ---- A field up to its spec.
 
@@ -98,10 +111,13 @@ module _ (is_nested : Bool) (cs : List ℕ) where
   unfolding front_at
   front_no_kept t r e f = rw (e, f) refl
 
-  pub front_no_conversion : (t r : List ℕ) (k : Option (List ℕ)) (s : List ℕ) → expression_at cs ≡ Some (t, r) → kept_at is_nested cs r ≡ Some (k, s) → conversion_at s ≡ None → front_at is_nested cs ≡ None
+  pub front_no_conversion : (t r : List ℕ) (k : Option (List ℕ)) (s : List ℕ) → expression_at cs ≡ Some (t, r)
+      → kept_at is_nested cs r ≡ Some (k, s) → conversion_at s ≡ None → front_at is_nested cs ≡ None
   unfolding front_at
   front_no_conversion t r k s e f g = rw (e, f, g) refl
 
-  pub front_given : (t r : List ℕ) (k : Option (List ℕ)) (s : List ℕ) (g : Conversion) (u : List ℕ) → expression_at cs ≡ Some (t, r) → kept_at is_nested cs r ≡ Some (k, s) → conversion_at s ≡ Some (g, u) → front_at is_nested cs ≡ Some (record { text = t; kept = k; given = g }, u)
+  pub front_given : (t r : List ℕ) (k : Option (List ℕ)) (s : List ℕ) (g : Conversion) (u : List ℕ) → expression_at cs ≡ Some (t, r)
+      → kept_at is_nested cs r ≡ Some (k, s) → conversion_at s ≡ Some (g, u)
+      → front_at is_nested cs ≡ Some (record { text = t; kept = k; given = g }, u)
   unfolding front_at
   front_given t r k s g u e f h = rw (e, f, h) refl

@@ -19,17 +19,21 @@ malformed m body e parts c = let f : Some parts ≡ None = sym (cut_of_complete 
 
 pub cuts_are_lawful : CutsAreLawful
 cuts_are_lawful = record {
-  unique = λ m body parts others c d. let e : Some parts ≡ Some others = sym (cut_of_complete m body parts c) ∙ cut_of_complete m body others d in cc;
+  unique = λ m body parts others c d. let e : Some parts ≡ Some others = sym (cut_of_complete m body parts c)
+      ∙ cut_of_complete m body others d in cc;
   decided = λ m body. decided m body (cut_of m body) refl;
-  plain = λ m body parts i c. cut_of_sound m (without_returns body) (plain_parts parts) (cut_of_same m body i ∙ ap (option_map plain_parts) (cut_of_complete m body parts c));
-  malformed = λ m body i none. malformed m (without_returns body) (cut_of_same m body i ∙ ap (option_map plain_parts) (no_cut m body none (cut_of m body) refl));
+  plain = λ m body parts i c. cut_of_sound m (without_returns body) (plain_parts parts) (cut_of_same m body i
+      ∙ ap (option_map plain_parts) (cut_of_complete m body parts c));
+  malformed = λ m body i none. malformed m (without_returns body) (cut_of_same m body i
+      ∙ ap (option_map plain_parts) (no_cut m body none (cut_of m body) refl));
 }
   where
     no_cut : (m : Manner) (body : List ℕ) → IsMalformed m body → (o : Option (List BodyPart)) → cut_of m body ≡ o → cut_of m body ≡ None
     no_cut m body none (Some parts) e = absurd (none parts (cut_of_sound m body parts e))
     no_cut m body none None e = e
 
-    decided : (m : Manner) (body : List ℕ) (o : Option (List BodyPart)) → cut_of m body ≡ o → ((parts : List BodyPart) × IsCut m body parts) ⊎ IsMalformed m body
+    decided : (m : Manner) (body : List ℕ) (o : Option (List BodyPart)) → cut_of m body ≡ o
+        → ((parts : List BodyPart) × IsCut m body parts) ⊎ IsMalformed m body
     decided m body (Some parts) e = inl (parts, cut_of_sound m body parts e)
     decided m body None e = inr (malformed m body e)
 
@@ -37,6 +41,7 @@ tells : {P : Type 0} (m : Manner) (body : List ℕ) (e : CutError) → (P → Is
 tells m body Malformed f p = f p
 tells m body Memory f p = tt
 
-pub tells_on : {X P : Type 0} (m : Manner) (body : List ℕ) (r : Result X CutError) (e : CutError) → IsErrAnd r (λ d. d ≡ e) → (P → IsMalformed m body) → IfMalformed e P → IfErr r (λ d. Tells m body d)
+pub tells_on : {X P : Type 0} (m : Manner) (body : List ℕ) (r : Result X CutError) (e : CutError) → IsErrAnd r (λ d. d ≡ e)
+    → (P → IsMalformed m body) → IfMalformed e P → IfErr r (λ d. Tells m body d)
 tells_on m body (Ok x) e h f p = absurd h
 tells_on {P = P} m body (Err d) e h f p = tells m body d f (let I : CutError → Type 0 = λ x. IfMalformed x P in subst I (sym h) p)

@@ -1,6 +1,7 @@
 -- An expression without its CRs.
 -- Carries: pieces. On: ReturnTexts.
-use Rattle.std.proofs.Common.{◌≡◌, ℕ, zero, suc, ◌-◌, ◌<◌, Bool, true, false, List, [], ◌∷◌, ◌++◌, length, take, drop, refl, sym, ap, ◌∙◌, subst, arith, ◌⊎◌, inl, inr, length-drop, Option, Some, None}
+use Rattle.std.proofs.Common.{◌≡◌, ℕ, zero, suc, ◌-◌, ◌<◌, Bool, true, false, List, [], ◌∷◌, ◌++◌, length, take, drop, refl, sym, ap, ◌∙◌}
+use Rattle.std.proofs.Common.{subst, arith, ◌⊎◌, inl, inr, length-drop, Option, Some, None}
 use Rattle.std.specs.Prelude.{◌==◌, ◌&&◌, ◌||◌, option_map, if◌then◌else◌}
 use Rattle.std.proofs.lemmas.Bool.{cases_Bool, and_parts, or_cases, eqb-true}
 use Rattle.pyfstring.specs.declared.expressions.Bracket.{Bracket}
@@ -8,21 +9,25 @@ use Rattle.pyfstring.specs.declared.expressions.Step.{Step}
 use Rattle.pyfstring.specs.declared.expressions.Step.TheVariants.{Ends, Fails, Literal, Compares, Opens, Closes, Passes}
 use Rattle.pyfstring.specs.Characters.{backslash, carriage_return, equals_sign}
 use Rattle.pyfstring.specs.Texts.{begins_with}
-use Rattle.pyfstring.specs.Expressions.{Inside, expression, shortstring, longstring, step, scan, begins_three, begins_comparison, bracket_step, is_quote, is_refused, is_end, opened_by, closed_by, is_empty, behind_expression}
+use Rattle.pyfstring.specs.Expressions.{Inside, expression, shortstring, longstring, step, scan, begins_three, begins_comparison}
+use Rattle.pyfstring.specs.Expressions.{bracket_step, is_quote, is_refused, is_end, opened_by, closed_by, is_empty, behind_expression}
 use Rattle.pyfstring.specs.Returns.{IsLined, nothing, character, line_end, without_returns}
 use Rattle.pyfstring.proofs.Scanning.{scan_skip}
-use Rattle.pyfstring.proofs.Stepping.{literal_begins, literal_long, literal_short, scan_fails, scan_stops, scan_compares, scan_opens, scan_closes, scan_passes, step_is}
+use Rattle.pyfstring.proofs.Stepping.{literal_begins, literal_long, literal_short, scan_fails, scan_stops, scan_compares, scan_opens}
+use Rattle.pyfstring.proofs.Stepping.{scan_closes, scan_passes, step_is}
 use Rattle.pyfstring.proofs.ReturnTexts.{plain_one, lined_rest, begins_same}
 
 -- ---- Steps.
 
 feed_step : (bs : List Bracket) (cs : List ℕ) → step bs (10 ∷ cs) ≡ Passes
 unfolding step
-feed_step bs cs = elim (is_empty bs) as (λ e. (if e && false then Compares else (if e && false then Ends else Passes)) ≡ Passes) [ true ↦ refl | false ↦ refl ]
+feed_step bs cs = elim (is_empty bs) as (λ e. (if e && false then Compares else (if e && false then Ends else Passes)) ≡ Passes)
+    [ true ↦ refl | false ↦ refl ]
 
 return_step : (bs : List Bracket) (cs : List ℕ) → step bs (13 ∷ cs) ≡ Passes
 unfolding step
-return_step bs cs = elim (is_empty bs) as (λ e. (if e && false then Compares else (if e && false then Ends else Passes)) ≡ Passes) [ true ↦ refl | false ↦ refl ]
+return_step bs cs = elim (is_empty bs) as (λ e. (if e && false then Compares else (if e && false then Ends else Passes)) ≡ Passes)
+    [ true ↦ refl | false ↦ refl ]
 
 step_by : List Bracket → ℕ → Bool → Step
 step_by bs c b =
@@ -35,7 +40,8 @@ step_by bs c b =
 step_same : (bs : List Bracket) (a : ℕ) (cs : List ℕ) → IsLined cs → step bs (a ∷ without_returns cs) ≡ step bs (a ∷ cs)
 unfolding step_by
 step_same bs a cs i =
-    let same : begins_comparison (a ∷ without_returns cs) ≡ begins_comparison (a ∷ cs) = ap (λ (b : Bool). ((a == 33) || (a == 61) || (a == 60) || (a == 62)) && b) (begins_same (λ d. d == equals_sign) refl i) in
+    let same : begins_comparison (a ∷ without_returns cs) ≡ begins_comparison (a ∷ cs) =
+    ap (λ (b : Bool). ((a == 33) || (a == 61) || (a == 60) || (a == 62)) && b) (begins_same (λ d. d == equals_sign) refl i) in
     step_is bs (a ∷ without_returns cs) a refl ∙ ap (step_by bs a) same ∙ sym (step_is bs (a ∷ cs) a refl)
 
 -- ---- Quotes.
@@ -104,35 +110,46 @@ Quoted (longstring q) = is_quote q ≡ true
 
 -- the claim, of texts of less than k characters
 Below : ℕ → Type 0
-Below k = (i : Inside) → Quoted i → (bs : List Bracket) (cs : List ℕ) → length cs < k → IsLined cs → scan i bs 0 (without_returns cs) ≡ option_map without_returns (scan i bs 0 cs)
+Below k = (i : Inside) → Quoted i → (bs : List Bracket) (cs : List ℕ) → length cs < k → IsLined cs
+    → scan i bs 0 (without_returns cs) ≡ option_map without_returns (scan i bs 0 cs)
 
 -- a CR and an LF are passed anywhere
 feed_goes : (i : Inside) → Quoted i → (bs : List Bracket) (cs : List ℕ) → scan i bs 0 (10 ∷ cs) ≡ scan i bs 0 cs
 feed_goes expression o bs cs = scan_passes bs (10 ∷ cs) (feed_step bs cs)
 feed_goes (shortstring q) o bs cs = let z = (quote_no_end q o).no_feed in rw (z, scan) refl
-feed_goes (longstring q) o bs cs = let z = (quote_no_end q o).no_feed in let y : begins_three q (10 ∷ cs) ≡ false = rw z refl in rw (y, scan) refl
+feed_goes (longstring q) o bs cs = let z = (quote_no_end q o).no_feed in let y : begins_three q (10 ∷ cs) ≡ false =
+    rw z refl in rw (y, scan) refl
 
 return_goes : (i : Inside) → Quoted i → (bs : List Bracket) (cs : List ℕ) → scan i bs 0 (13 ∷ cs) ≡ scan i bs 0 cs
 return_goes expression o bs cs = scan_passes bs (13 ∷ cs) (return_step bs cs)
 return_goes (shortstring q) o bs cs = let z = (quote_no_end q o).no_return in rw (z, scan) refl
-return_goes (longstring q) o bs cs = let z = (quote_no_end q o).no_return in let y : begins_three q (13 ∷ cs) ≡ false = rw z refl in rw (y, scan) refl
+return_goes (longstring q) o bs cs = let z = (quote_no_end q o).no_return in let y : begins_three q (13 ∷ cs) ≡ false =
+    rw z refl in rw (y, scan) refl
 
 -- behind one more character, which may be a CR or an LF
-after_one : (k : ℕ) → Below k → (bs : List Bracket) (cs : List ℕ) → length cs < suc k → IsLined cs → scan expression bs 0 (drop 1 (without_returns cs)) ≡ option_map without_returns (scan expression bs 0 (drop 1 cs))
+after_one : (k : ℕ) → Below k → (bs : List Bracket) (cs : List ℕ) → length cs < suc k → IsLined cs
+    → scan expression bs 0 (drop 1 (without_returns cs)) ≡ option_map without_returns (scan expression bs 0 (drop 1 cs))
 unfolding Below
 after_one k ih bs [] l nothing = refl
-after_one k ih bs (c ∷ cs) l (character e i) = ap (λ (x : List ℕ). scan expression bs 0 (drop 1 x)) (plain_one c cs e) ∙ ih expression tt bs cs (omega arith) i
-after_one k ih bs (_ ∷ _ ∷ cs) l (line_end i) = ih expression tt bs cs (omega arith) i ∙ ap (option_map without_returns) (sym (feed_goes expression tt bs cs))
+after_one k ih bs (c ∷ cs) l (character e i) = ap (λ (x : List ℕ). scan expression bs 0 (drop 1 x)) (plain_one c cs e)
+    ∙ ih expression tt bs cs (omega arith) i
+after_one k ih bs (_ ∷ _ ∷ cs) l (line_end i) = ih expression tt bs cs (omega arith) i
+    ∙ ap (option_map without_returns) (sym (feed_goes expression tt bs cs))
 
 -- at a character that is no CR
-at_expression : (k : ℕ) → Below k → (bs : List Bracket) (a : ℕ) (cs : List ℕ) → (a == carriage_return) ≡ false → length cs < k → IsLined cs → (s : Step) → step bs (a ∷ cs) ≡ s → scan expression bs 0 (a ∷ without_returns cs) ≡ option_map without_returns (scan expression bs 0 (a ∷ cs))
+at_expression : (k : ℕ) → Below k → (bs : List Bracket) (a : ℕ) (cs : List ℕ) → (a == carriage_return) ≡ false → length cs < k → IsLined cs
+    → (s : Step) → step bs (a ∷ cs) ≡ s → scan expression bs 0 (a ∷ without_returns cs) ≡ option_map without_returns
+    (scan expression bs 0 (a ∷ cs))
 unfolding Below
 at_expression k ih bs a cs n l i Ends e =
-    scan_stops bs (a ∷ without_returns cs) (step_same bs a cs i ∙ e) ∙ ap (λ (x : List ℕ). Some x) (sym (plain_one a cs n)) ∙ sym (ap (option_map without_returns) (scan_stops bs (a ∷ cs) e))
-at_expression k ih bs a cs n l i Fails e = scan_fails bs (a ∷ without_returns cs) (step_same bs a cs i ∙ e) ∙ sym (ap (option_map without_returns) (scan_fails bs (a ∷ cs) e))
+    scan_stops bs (a ∷ without_returns cs) (step_same bs a cs i ∙ e) ∙ ap (λ (x : List ℕ). Some x) (sym (plain_one a cs n))
+    ∙ sym (ap (option_map without_returns) (scan_stops bs (a ∷ cs) e))
+at_expression k ih bs a cs n l i Fails e = scan_fails bs (a ∷ without_returns cs) (step_same bs a cs i ∙ e)
+    ∙ sym (ap (option_map without_returns) (scan_fails bs (a ∷ cs) e))
 at_expression k ih bs a cs n l i Literal e = by_three (cases_Bool (begins_three a (a ∷ cs)))
   where
-    by_three : (begins_three a (a ∷ cs) ≡ true) ⊎ (begins_three a (a ∷ cs) ≡ false) → scan expression bs 0 (a ∷ without_returns cs) ≡ option_map without_returns (scan expression bs 0 (a ∷ cs))
+    by_three : (begins_three a (a ∷ cs) ≡ true) ⊎ (begins_three a (a ∷ cs) ≡ false) → scan expression bs 0 (a ∷ without_returns cs) ≡
+        option_map without_returns (scan expression bs 0 (a ∷ cs))
     by_three (inl t) =
         let w = quote_no_end a (literal_begins bs (a ∷ cs) e) in
         let d = drop_three a w a cs i t in
@@ -146,19 +163,24 @@ at_expression k ih bs a cs n l i Literal e = by_three (cases_Bool (begins_three 
         ∙ ih (shortstring a) (literal_begins bs (a ∷ cs) e) bs cs l i
         ∙ sym (ap (option_map without_returns) (literal_short (a ∷ cs) a refl (literal_begins bs (a ∷ cs) e) t bs))
 at_expression k ih bs a cs n l i Compares e =
-    scan_compares bs (a ∷ without_returns cs) (step_same bs a cs i ∙ e) ∙ after_one k ih bs cs (omega arith) i ∙ sym (ap (option_map without_returns) (scan_compares bs (a ∷ cs) e))
+    scan_compares bs (a ∷ without_returns cs) (step_same bs a cs i ∙ e) ∙ after_one k ih bs cs (omega arith) i
+    ∙ sym (ap (option_map without_returns) (scan_compares bs (a ∷ cs) e))
 at_expression k ih bs a cs n l i (Opens b) e =
-    scan_opens bs b (a ∷ without_returns cs) (step_same bs a cs i ∙ e) ∙ ih expression tt (bs ++ b ∷ []) cs l i ∙ sym (ap (option_map without_returns) (scan_opens bs b (a ∷ cs) e))
+    scan_opens bs b (a ∷ without_returns cs) (step_same bs a cs i ∙ e) ∙ ih expression tt (bs ++ b ∷ []) cs l i
+    ∙ sym (ap (option_map without_returns) (scan_opens bs b (a ∷ cs) e))
 at_expression k ih bs a cs n l i Closes e =
-    scan_closes bs (a ∷ without_returns cs) (step_same bs a cs i ∙ e) ∙ ih expression tt (take (length bs - 1) bs) cs l i ∙ sym (ap (option_map without_returns) (scan_closes bs (a ∷ cs) e))
+    scan_closes bs (a ∷ without_returns cs) (step_same bs a cs i ∙ e) ∙ ih expression tt (take (length bs - 1) bs) cs l i
+    ∙ sym (ap (option_map without_returns) (scan_closes bs (a ∷ cs) e))
 at_expression k ih bs a cs n l i Passes e =
-    scan_passes bs (a ∷ without_returns cs) (step_same bs a cs i ∙ e) ∙ ih expression tt bs cs l i ∙ sym (ap (option_map without_returns) (scan_passes bs (a ∷ cs) e))
+    scan_passes bs (a ∷ without_returns cs) (step_same bs a cs i ∙ e) ∙ ih expression tt bs cs l i
+    ∙ sym (ap (option_map without_returns) (scan_passes bs (a ∷ cs) e))
 
 -- in a literal, by the tests of a character
 short_by : Bool → Bool → Option (List ℕ) → Option (List ℕ) → Option (List ℕ)
 short_by s t o p = elim s [ true ↦ None | false ↦ elim t [ true ↦ o | false ↦ p ] ]
 
-map_short : (s t : Bool) (o p o' p' : Option (List ℕ)) → o' ≡ option_map without_returns o → p' ≡ option_map without_returns p → short_by s t o' p' ≡ option_map without_returns (short_by s t o p)
+map_short : (s t : Bool) (o p o' p' : Option (List ℕ)) → o' ≡ option_map without_returns o → p' ≡ option_map without_returns p
+    → short_by s t o' p' ≡ option_map without_returns (short_by s t o p)
 unfolding short_by
 map_short true t o p o' p' e f = refl
 map_short false true o p o' p' e f = e
@@ -169,28 +191,40 @@ unfolding short_by
 unclosed true o p = refl
 unclosed false o p = refl
 
-at_short : (k : ℕ) → Below k → (q : ℕ) → is_quote q ≡ true → (bs : List Bracket) (a : ℕ) (cs : List ℕ) → length cs < k → IsLined cs → scan (shortstring q) bs 0 (a ∷ without_returns cs) ≡ option_map without_returns (scan (shortstring q) bs 0 (a ∷ cs))
+at_short : (k : ℕ) → Below k → (q : ℕ) → is_quote q ≡ true → (bs : List Bracket) (a : ℕ) (cs : List ℕ) → length cs < k → IsLined cs
+    → scan (shortstring q) bs 0 (a ∷ without_returns cs) ≡ option_map without_returns (scan (shortstring q) bs 0 (a ∷ cs))
 unfolding Below short_by
 at_short k ih q o bs a cs l i = map_short (a == backslash) (a == q) _ _ _ _ (ih expression tt bs cs l i) (ih (shortstring q) o bs cs l i)
 
-at_long : (k : ℕ) → Below k → (q : ℕ) → is_quote q ≡ true → (bs : List Bracket) (a : ℕ) (cs : List ℕ) → length cs < k → IsLined cs → scan (longstring q) bs 0 (a ∷ without_returns cs) ≡ option_map without_returns (scan (longstring q) bs 0 (a ∷ cs))
+at_long : (k : ℕ) → Below k → (q : ℕ) → is_quote q ≡ true → (bs : List Bracket) (a : ℕ) (cs : List ℕ) → length cs < k → IsLined cs
+    → scan (longstring q) bs 0 (a ∷ without_returns cs) ≡ option_map without_returns (scan (longstring q) bs 0 (a ∷ cs))
 unfolding Below short_by
 at_long k ih q o bs a cs l i = by_three (cases_Bool (begins_three q (a ∷ cs)))
   where
-    by_three : (begins_three q (a ∷ cs) ≡ true) ⊎ (begins_three q (a ∷ cs) ≡ false) → scan (longstring q) bs 0 (a ∷ without_returns cs) ≡ option_map without_returns (scan (longstring q) bs 0 (a ∷ cs))
+    by_three : (begins_three q (a ∷ cs) ≡ true) ⊎ (begins_three q (a ∷ cs) ≡ false) → scan (longstring q) bs 0 (a ∷ without_returns cs) ≡
+        option_map without_returns (scan (longstring q) bs 0 (a ∷ cs))
     by_three (inl t) =
         let w = quote_no_end q o in
         let d = drop_three q w a cs i t in
         let closed : scan expression bs 2 (without_returns cs) ≡ option_map without_returns (scan expression bs 2 cs) =
-        scan_skip expression bs 2 (without_returns cs) ∙ ap (scan expression bs 0) d.same ∙ ih expression tt bs (drop 2 cs) (omega (arith, length-drop 2 cs)) d.lined ∙ sym (ap (option_map without_returns) (scan_skip expression bs 2 cs)) in
-        ap (λ (b : Bool). short_by (a == backslash) b (scan expression bs 2 (without_returns cs)) (scan (longstring q) bs 0 (without_returns cs))) (same_three_behind q w a cs i)
-        ∙ map_short (a == backslash) (begins_three q (a ∷ cs)) (scan expression bs 2 cs) (scan (longstring q) bs 0 cs) (scan expression bs 2 (without_returns cs)) (scan (longstring q) bs 0 (without_returns cs)) closed (ih (longstring q) o bs cs l i)
+        scan_skip expression bs 2 (without_returns cs) ∙ ap (scan expression bs 0) d.same
+        ∙ ih expression tt bs (drop 2 cs) (omega (arith, length-drop 2 cs)) d.lined
+        ∙ sym (ap (option_map without_returns) (scan_skip expression bs 2 cs)) in
+        ap (λ (b : Bool). short_by (a == backslash) b (scan expression bs 2 (without_returns cs))
+        (scan (longstring q) bs 0 (without_returns cs))) (same_three_behind q w a cs i)
+        ∙ map_short (a == backslash) (begins_three q (a ∷ cs)) (scan expression bs 2 cs) (scan (longstring q) bs 0 cs)
+        (scan expression bs 2 (without_returns cs)) (scan (longstring q) bs 0 (without_returns cs)) closed
+        (ih (longstring q) o bs cs l i)
     by_three (inr t) =
         let w = quote_no_end q o in
-        let here : scan (longstring q) bs 0 (a ∷ cs) ≡ short_by (a == backslash) false None (scan (longstring q) bs 0 cs) = ap (λ (b : Bool). short_by (a == backslash) b (scan expression bs 2 cs) (scan (longstring q) bs 0 cs)) t ∙ unclosed (a == backslash) (scan expression bs 2 cs) (scan (longstring q) bs 0 cs) in
-        ap (λ (b : Bool). short_by (a == backslash) b (scan expression bs 2 (without_returns cs)) (scan (longstring q) bs 0 (without_returns cs))) (same_three_behind q w a cs i ∙ t)
+        let here : scan (longstring q) bs 0 (a ∷ cs) ≡ short_by (a == backslash) false None (scan (longstring q) bs 0 cs) =
+        ap (λ (b : Bool). short_by (a == backslash) b (scan expression bs 2 cs) (scan (longstring q) bs 0 cs)) t
+        ∙ unclosed (a == backslash) (scan expression bs 2 cs) (scan (longstring q) bs 0 cs) in
+        ap (λ (b : Bool). short_by (a == backslash) b (scan expression bs 2 (without_returns cs))
+        (scan (longstring q) bs 0 (without_returns cs))) (same_three_behind q w a cs i ∙ t)
         ∙ unclosed (a == backslash) (scan expression bs 2 (without_returns cs)) (scan (longstring q) bs 0 (without_returns cs))
-        ∙ map_short (a == backslash) false None (scan (longstring q) bs 0 cs) None (scan (longstring q) bs 0 (without_returns cs)) refl (ih (longstring q) o bs cs l i)
+        ∙ map_short (a == backslash) false None (scan (longstring q) bs 0 cs) None (scan (longstring q) bs 0 (without_returns cs)) refl
+        (ih (longstring q) o bs cs l i)
         ∙ sym (ap (option_map without_returns) here)
 
 below_all : (k : ℕ) → Below k
@@ -198,11 +232,16 @@ unfolding Below
 below_all zero i o bs cs l j = absurd (omega arith)
 below_all (suc k) i o bs [] l nothing = refl
 below_all (suc k) i o bs (_ ∷ _ ∷ cs) l (line_end j) =
-    feed_goes i o bs (without_returns cs) ∙ below_all k i o bs cs (omega arith) j ∙ ap (option_map without_returns) (sym (return_goes i o bs (10 ∷ cs) ∙ feed_goes i o bs cs))
-below_all (suc k) expression o bs (a ∷ cs) l (character e j) = ap (scan expression bs 0) (plain_one a cs e) ∙ at_expression k (below_all k) bs a cs e (omega arith) j (step bs (a ∷ cs)) refl
-below_all (suc k) (shortstring q) o bs (a ∷ cs) l (character e j) = ap (scan (shortstring q) bs 0) (plain_one a cs e) ∙ at_short k (below_all k) q o bs a cs (omega arith) j
-below_all (suc k) (longstring q) o bs (a ∷ cs) l (character e j) = ap (scan (longstring q) bs 0) (plain_one a cs e) ∙ at_long k (below_all k) q o bs a cs (omega arith) j
+    feed_goes i o bs (without_returns cs) ∙ below_all k i o bs cs (omega arith) j
+    ∙ ap (option_map without_returns) (sym (return_goes i o bs (10 ∷ cs) ∙ feed_goes i o bs cs))
+below_all (suc k) expression o bs (a ∷ cs) l (character e j) = ap (scan expression bs 0) (plain_one a cs e)
+    ∙ at_expression k (below_all k) bs a cs e (omega arith) j (step bs (a ∷ cs)) refl
+below_all (suc k) (shortstring q) o bs (a ∷ cs) l (character e j) = ap (scan (shortstring q) bs 0) (plain_one a cs e)
+    ∙ at_short k (below_all k) q o bs a cs (omega arith) j
+below_all (suc k) (longstring q) o bs (a ∷ cs) l (character e j) = ap (scan (longstring q) bs 0) (plain_one a cs e)
+    ∙ at_long k (below_all k) q o bs a cs (omega arith) j
 
-pub expression_same : (cs : List ℕ) → IsLined cs → behind_expression (without_returns cs) ≡ option_map without_returns (behind_expression cs)
+pub expression_same : (cs : List ℕ) → IsLined cs → behind_expression (without_returns cs) ≡ option_map
+    without_returns (behind_expression cs)
 unfolding Below behind_expression
 expression_same cs j = below_all (suc (length cs)) expression tt [] cs (omega arith) j

@@ -1,13 +1,15 @@
 -- What one step of a loop leaves.
 -- Carries: pass_closing, pass_blanks, are_blanks, pass_short, pass_long.
-use Rattle.std.proofs.Common.{◌≡◌, ℕ, suc, ◌<◌, Bool, true, false, List, [], ◌∷◌, length, drop, refl, sym, ◌∙◌, ap, subst, Option, Some, None, arith, slice_get, add_comm, add-one, ◌-◌, ◌++◌, take, length-drop, ◌⊎◌, inl, inr}
+use Rattle.std.proofs.Common.{◌≡◌, ℕ, suc, ◌<◌, Bool, true, false, List, [], ◌∷◌, length, drop, refl, sym, ◌∙◌, ap, subst, Option, Some}
+use Rattle.std.proofs.Common.{None, arith, slice_get, add_comm, add-one, ◌-◌, ◌++◌, take, length-drop, ◌⊎◌, inl, inr}
 use Rattle.std.specs.Prelude.{◌==◌, ◌&&◌, nat_lt, if◌then◌else◌}
 use Rattle.std.specs.List.{prefix_len, list_all}
 use Rattle.pyfstring.specs.declared.expressions.Bracket.{Bracket}
 use Rattle.pyfstring.specs.declared.expressions.Step.{Step}
 use Rattle.pyfstring.specs.declared.expressions.Step.TheVariants.{Ends, Fails, Literal, Compares, Opens, Closes, Passes}
 use Rattle.pyfstring.specs.Characters.{backslash}
-use Rattle.pyfstring.specs.Expressions.{Inside, expression, shortstring, longstring, step, scan, begins_three, is_quote, is_refused, is_empty, is_end, is_last, most_open, begins_comparison, bracket_step, opened_by, closed_by}
+use Rattle.pyfstring.specs.Expressions.{Inside, expression, shortstring, longstring, step, scan, begins_three, is_quote, is_refused}
+use Rattle.pyfstring.specs.Expressions.{is_empty, is_end, is_last, most_open, begins_comparison, bracket_step, opened_by, closed_by}
 use Rattle.pyfstring.specs.Texts.{begins}
 use Rattle.std.proofs.lemmas.Bool.{cond-true, cond-false, cases_Bool}
 use Rattle.pyfstring.specs.Inner.Passing.{GoesOn, Stops}
@@ -62,13 +64,17 @@ module _ (q : ℕ) where
   short_fails [] c e h = cc
   short_fails (d ∷ cs) c e h = let f : d ≡ c = cc in let g : (d == backslash) ≡ true = rw f h in record { none = λ bs. rw (g, scan) refl }
 
-  pub short_closes : (cs : List ℕ) (c : ℕ) → slice_get cs 0 ≡ Some c → (c == backslash) ≡ false → (c == q) ≡ true → GoesOn (shortstring q) cs (drop 1 cs)
+  pub short_closes : (cs : List ℕ) (c : ℕ) → slice_get cs 0 ≡ Some c → (c == backslash) ≡ false → (c == q) ≡ true
+      → GoesOn (shortstring q) cs (drop 1 cs)
   short_closes [] c e h k = cc
-  short_closes (d ∷ cs) c e h k = let f : d ≡ c = cc in let g : (d == backslash) ≡ false = rw f h in let j : (d == q) ≡ true = rw f k in record { same = λ bs. rw (g, j, scan) refl }
+  short_closes (d ∷ cs) c e h k = let f : d ≡ c = cc in let g : (d == backslash) ≡ false = rw f h in let j : (d == q) ≡ true = rw f k in
+      record { same = λ bs. rw (g, j, scan) refl }
 
-  pub short_goes : (cs : List ℕ) (c : ℕ) → slice_get cs 0 ≡ Some c → (c == backslash) ≡ false → (c == q) ≡ false → (bs : List Bracket) → scan (shortstring q) bs 0 cs ≡ scan (shortstring q) bs 0 (drop 1 cs)
+  pub short_goes : (cs : List ℕ) (c : ℕ) → slice_get cs 0 ≡ Some c → (c == backslash) ≡ false → (c == q) ≡ false → (bs : List Bracket)
+      → scan (shortstring q) bs 0 cs ≡ scan (shortstring q) bs 0 (drop 1 cs)
   short_goes [] c e h k bs = cc
-  short_goes (d ∷ cs) c e h k bs = let f : d ≡ c = cc in let g : (d == backslash) ≡ false = rw f h in let j : (d == q) ≡ false = rw f k in rw (g, j, scan) refl
+  short_goes (d ∷ cs) c e h k bs = let f : d ≡ c = cc in let g : (d == backslash) ≡ false = rw f h in let j : (d == q) ≡ false =
+      rw f k in rw (g, j, scan) refl
 
   pub long_fails : (cs : List ℕ) (c : ℕ) → slice_get cs 0 ≡ Some c → (c == backslash) ≡ true → Stops (longstring q) cs
   long_fails [] c e h = cc
@@ -114,20 +120,27 @@ no_literal bs None None e = cc
 pub literal_begins : (bs : List Bracket) (cs : List ℕ) → step bs cs ≡ Literal → begins is_quote cs ≡ true
 unfolding step
 literal_begins bs [] e = cc
-literal_begins bs (c ∷ cs) e = of (cases_Bool (is_quote c)) (cases_Bool (is_refused c)) (cases_Bool (is_empty bs && begins_comparison (c ∷ cs))) (cases_Bool (is_empty bs && is_end c))
+literal_begins bs (c ∷ cs) e = of (cases_Bool (is_quote c)) (cases_Bool (is_refused c))
+    (cases_Bool (is_empty bs && begins_comparison (c ∷ cs))) (cases_Bool (is_empty bs && is_end c))
   where
-    of : (is_quote c ≡ true) ⊎ (is_quote c ≡ false) → (is_refused c ≡ true) ⊎ (is_refused c ≡ false) → ((is_empty bs && begins_comparison (c ∷ cs)) ≡ true) ⊎ ((is_empty bs && begins_comparison (c ∷ cs)) ≡ false) → ((is_empty bs && is_end c) ≡ true) ⊎ ((is_empty bs && is_end c) ≡ false) → is_quote c ≡ true
+    of : (is_quote c ≡ true) ⊎ (is_quote c ≡ false) → (is_refused c ≡ true) ⊎ (is_refused c ≡ false)
+        → ((is_empty bs && begins_comparison (c ∷ cs)) ≡ true) ⊎ ((is_empty bs && begins_comparison (c ∷ cs)) ≡ false)
+        → ((is_empty bs && is_end c) ≡ true) ⊎ ((is_empty bs && is_end c) ≡ false) → is_quote c ≡ true
     of (inl q) _ _ _ = q
     of (inr q) (inl r) _ _ = let z : Fails ≡ Literal = sym (cond-false _ _ _ q ∙ cond-true _ _ _ r) ∙ e in cc
     of (inr q) (inr r) (inl k) _ = let z : Compares ≡ Literal = sym (cond-false _ _ _ q ∙ cond-false _ _ _ r ∙ cond-true _ _ _ k) ∙ e in cc
-    of (inr q) (inr r) (inr k) (inl n) = let z : Ends ≡ Literal = sym (cond-false _ _ _ q ∙ cond-false _ _ _ r ∙ cond-false _ _ _ k ∙ cond-true _ _ _ n) ∙ e in cc
-    of (inr q) (inr r) (inr k) (inr n) = absurd (no_literal bs (opened_by c) (closed_by c) (sym (cond-false _ _ _ q ∙ cond-false _ _ _ r ∙ cond-false _ _ _ k ∙ cond-false _ _ _ n) ∙ e))
+    of (inr q) (inr r) (inr k) (inl n) = let z : Ends ≡ Literal = sym (cond-false _ _ _ q ∙ cond-false _ _ _ r ∙ cond-false _ _ _ k
+        ∙ cond-true _ _ _ n) ∙ e in cc
+    of (inr q) (inr r) (inr k) (inr n) =
+        absurd (no_literal bs (opened_by c) (closed_by c) (sym (cond-false _ _ _ q ∙ cond-false _ _ _ r ∙ cond-false _ _ _ k
+        ∙ cond-false _ _ _ n) ∙ e))
 
 quote_step : (bs : List Bracket) (c : ℕ) (cs : List ℕ) → is_quote c ≡ true → step bs (c ∷ cs) ≡ Literal
 unfolding step
 quote_step bs c cs e = cond-true _ _ _ e
 
-pub literal_long : (cs : List ℕ) (c : ℕ) → slice_get cs 0 ≡ Some c → begins is_quote cs ≡ true → begins_three c cs ≡ true → (bs : List Bracket) → scan expression bs 0 cs ≡ scan (longstring c) bs 0 (drop 3 cs)
+pub literal_long : (cs : List ℕ) (c : ℕ) → slice_get cs 0 ≡ Some c → begins is_quote cs ≡ true → begins_three c cs ≡ true
+    → (bs : List Bracket) → scan expression bs 0 cs ≡ scan (longstring c) bs 0 (drop 3 cs)
 literal_long [] c e q t bs = cc
 literal_long (d ∷ cs) c e q t bs =
     let f : d ≡ c = cc in
@@ -135,7 +148,8 @@ literal_long (d ∷ cs) c e q t bs =
     let s = quote_step bs d cs q in
     rw (s, g, scan) (scan_skip (longstring d) bs 2 cs ∙ ap (λ (x : ℕ). scan (longstring x) bs 0 (drop 2 cs)) f)
 
-pub literal_short : (cs : List ℕ) (c : ℕ) → slice_get cs 0 ≡ Some c → begins is_quote cs ≡ true → begins_three c cs ≡ false → (bs : List Bracket) → scan expression bs 0 cs ≡ scan (shortstring c) bs 0 (drop 1 cs)
+pub literal_short : (cs : List ℕ) (c : ℕ) → slice_get cs 0 ≡ Some c → begins is_quote cs ≡ true → begins_three c cs ≡ false
+    → (bs : List Bracket) → scan expression bs 0 cs ≡ scan (shortstring c) bs 0 (drop 1 cs)
 literal_short [] c e q t bs = cc
 literal_short (d ∷ cs) c e q t bs =
     let f : d ≡ c = cc in
@@ -160,7 +174,8 @@ module _ (bs : List Bracket) where
   scan_compares [] e = refl
   scan_compares (c ∷ cs) e = rw (e, scan) (scan_skip expression bs 1 cs)
 
-  pub scan_opens : (b : Bracket) (cs : List ℕ) → step bs cs ≡ Opens b → scan expression bs 0 cs ≡ scan expression (bs ++ b ∷ []) 0 (drop 1 cs)
+  pub scan_opens : (b : Bracket) (cs : List ℕ) → step bs cs ≡ Opens b
+      → scan expression bs 0 cs ≡ scan expression (bs ++ b ∷ []) 0 (drop 1 cs)
   scan_opens b [] e = refl
   scan_opens b (c ∷ cs) e = rw (e, scan) refl
 

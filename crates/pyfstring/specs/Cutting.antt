@@ -1,10 +1,12 @@
 -- The cut of a body as functions of what is left of it; each also gives what stands behind what it reads.
-use Rattle.std.specs.Prelude.{◌≡◌, ℕ, zero, suc, ◌-◌, Bool, true, false, ◌==◌, ◌++◌, if◌then◌else◌, List, [], ◌∷◌, length, take, drop, slice_get, Option, Some, None, is_some, option_map, option_and_then}
+use Rattle.std.specs.Prelude.{◌≡◌, ℕ, zero, suc, ◌-◌, Bool, true, false, ◌==◌, ◌++◌, if◌then◌else◌, List, [], ◌∷◌, length, take, drop}
+use Rattle.std.specs.Prelude.{slice_get, Option, Some, None, is_some, option_map, option_and_then}
 use Rattle.std.specs.List.{list_all}
 use Rattle.pyfstring.specs.declared.parts.Conversion.{Conversion}
 use Rattle.pyfstring.specs.declared.parts.Conversion.TheVariants.{None as Unconverted, Str, Repr, Ascii}
 use Rattle.pyfstring.specs.declared.parts.Manner.{Manner}
-use Rattle.pyfstring.specs.Characters.{exclamation_mark, colon, equals_sign, small_a, small_r, small_s, left_curly_bracket, right_curly_bracket}
+use Rattle.pyfstring.specs.Characters.{exclamation_mark, colon, equals_sign, small_a, small_r, small_s, left_curly_bracket}
+use Rattle.pyfstring.specs.Characters.{right_curly_bracket}
 use Rattle.pyfstring.specs.Texts.{begins_with, behind_text}
 use Rattle.pyfstring.specs.Expressions.{behind_expression}
 use Rattle.pyfstring.specs.Parts.{FieldParts, Part, text, field, SpecPart, BodyPart}
@@ -22,7 +24,8 @@ unfoldable pub text_at : Bool → Bool → List ℕ → Option (List ℕ × List
 text_at is_raw has_pairs cs = Some (before cs (behind_text is_raw has_pairs cs), behind_text is_raw has_pairs cs)
 
 unfoldable pub expression_at : List ℕ → Option (List ℕ × List ℕ)
-expression_at cs = option_and_then (λ rest. elim (list_all is_blank (before cs rest)) [ true ↦ None | false ↦ Some (before cs rest, rest) ]) (behind_expression cs)
+expression_at cs = option_and_then (λ rest. elim (list_all is_blank (before cs rest)) [ true ↦ None | false ↦ Some (before cs rest, rest) ])
+    (behind_expression cs)
 
 unfoldable pub kept_at : Bool → List ℕ → List ℕ → Option (Option (List ℕ) × List ℕ)
 kept_at is_nested cs here =
@@ -52,7 +55,9 @@ Read X = Option (X × List ℕ)
 
 unfoldable pub front_at : Bool → List ℕ → Read FrontParts
 front_at is_nested cs =
-    option_and_then (λ (t : List ℕ × List ℕ). option_and_then (λ (k : Option (List ℕ) × List ℕ). option_map (λ (g : Conversion × List ℕ). (record { text = t.0; kept = k.0; given = g.0 }, g.1)) (conversion_at k.1)) (kept_at is_nested cs t.1)) (expression_at cs)
+    option_and_then (λ (t : List ℕ × List ℕ). option_and_then
+    (λ (k : Option (List ℕ) × List ℕ). option_map (λ (g : Conversion × List ℕ). (record { text = t.0; kept = k.0; given = g.0 }, g.1))
+    (conversion_at k.1)) (kept_at is_nested cs t.1)) (expression_at cs)
 
 abbrev pub with_spec : {S : Type 0} → FrontParts → Option S → FieldParts S
 with_spec f s = record { text = f.text; kept = f.kept; conversion = conversion_of f.given (is_some f.kept) (is_some s); spec = s }
@@ -65,7 +70,8 @@ behind_closing cs = elim (begins_with right_curly_bracket cs) [ true ↦ Some (d
 
 unfoldable pub field_at : {S : Type 0} → (List ℕ → Read S) → Bool → List ℕ → Read (FieldParts S)
 field_at {S} spec is_nested cs =
-    option_and_then (λ (f : FrontParts × List ℕ). option_and_then (λ (s : Option S × List ℕ). option_map (λ rest. (with_spec f.0 s.0, rest)) (behind_closing s.1)) (spec_at spec f.1)) (front_at is_nested cs)
+    option_and_then (λ (f : FrontParts × List ℕ). option_and_then (λ (s : Option S × List ℕ). option_map (λ rest. (with_spec f.0 s.0, rest))
+    (behind_closing s.1)) (spec_at spec f.1)) (front_at is_nested cs)
 
 -- of a cut whose first text and field are known
 abbrev pub put_first : {S : Type 0} → List ℕ → FieldParts S → Read (List (Part S)) → Read (List (Part S))

@@ -1,10 +1,13 @@
 -- Where the expression of a field ends (reference 2.4.3).
-use Rattle.std.specs.Prelude.{ℕ, zero, suc, ◌-◌, Bool, true, false, ◌&&◌, ◌||◌, ◌==◌, nat_lt, if◌then◌else◌, List, [], ◌∷◌, ◌++◌, length, take, drop, slice_get, Option, Some, None}
+use Rattle.std.specs.Prelude.{ℕ, zero, suc, ◌-◌, Bool, true, false, ◌&&◌, ◌||◌, ◌==◌, nat_lt, if◌then◌else◌, List, [], ◌∷◌, ◌++◌, length}
+use Rattle.std.specs.Prelude.{take, drop, slice_get, Option, Some, None}
 use Rattle.pyfstring.specs.declared.expressions.Bracket.{Bracket}
 use Rattle.pyfstring.specs.declared.expressions.Bracket.TheVariants.{Round, Square, Curly}
 use Rattle.pyfstring.specs.declared.expressions.Step.{Step}
 use Rattle.pyfstring.specs.declared.expressions.Step.TheVariants.{Ends, Fails, Literal, Compares, Opens, Closes, Passes}
-use Rattle.pyfstring.specs.Characters.{exclamation_mark, double_quote, hash, single_quote, left_parenthesis, right_parenthesis, colon, less_than_sign, equals_sign, greater_than_sign, left_square_bracket, backslash, right_square_bracket, left_curly_bracket, right_curly_bracket}
+use Rattle.pyfstring.specs.Characters.{exclamation_mark, double_quote, hash, single_quote, left_parenthesis, right_parenthesis, colon}
+use Rattle.pyfstring.specs.Characters.{less_than_sign, equals_sign, greater_than_sign, left_square_bracket, backslash, right_square_bracket}
+use Rattle.pyfstring.specs.Characters.{left_curly_bracket, right_curly_bracket}
 use Rattle.pyfstring.specs.Texts.{begins_with}
 
 abbrev pub is_quote : ℕ → Bool
@@ -19,10 +22,12 @@ abbrev pub is_end : ℕ → Bool
 is_end c = (c == right_curly_bracket) || (c == exclamation_mark) || (c == colon) || (c == equals_sign)
 
 abbrev pub opened_by : ℕ → Option Bracket
-opened_by c = if c == left_parenthesis then Some Round else (if c == left_square_bracket then Some Square else (if c == left_curly_bracket then Some Curly else None))
+opened_by c = if c == left_parenthesis then Some Round else (if c == left_square_bracket then Some Square else
+    (if c == left_curly_bracket then Some Curly else None))
 
 abbrev pub closed_by : ℕ → Option Bracket
-closed_by c = if c == right_parenthesis then Some Round else (if c == right_square_bracket then Some Square else (if c == right_curly_bracket then Some Curly else None))
+closed_by c = if c == right_parenthesis then Some Round else (if c == right_square_bracket then Some Square else
+    (if c == right_curly_bracket then Some Curly else None))
 
 abbrev pub same_bracket : Bracket → Bracket → Bool
 same_bracket Round Round = true
@@ -33,7 +38,8 @@ same_bracket _ _ = false
 -- "!=", "==", "<=" or ">="
 abbrev pub begins_comparison : List ℕ → Bool
 begins_comparison [] = false
-begins_comparison (c ∷ cs) = ((c == exclamation_mark) || (c == equals_sign) || (c == less_than_sign) || (c == greater_than_sign)) && begins_with equals_sign cs
+begins_comparison (c ∷ cs) = ((c == exclamation_mark) || (c == equals_sign) || (c == less_than_sign) || (c == greater_than_sign)) &&
+    begins_with equals_sign cs
 
 -- the same character three times
 abbrev pub begins_three : ℕ → List ℕ → Bool
@@ -72,7 +78,8 @@ pub data Inside : Type 0 where
   shortstring : ℕ → Inside
   longstring : ℕ → Inside
 
--- What stands behind an expression, read from here on; none where it has no end, or has what no expression has. The first n characters were read
+-- What stands behind an expression, read from here on; none where it has no end, or has what no expression has. The first n characters were
+-- read
 -- already.
 abbrev pub scan : Inside → List Bracket → ℕ → List ℕ → Option (List ℕ)
 scan inside opened n [] = None

@@ -16,10 +16,12 @@ abbrev pub Tells : Manner → List ℕ → CutError → Type 0
 Tells m body Malformed = IsMalformed m body
 Tells m body Memory = Unit {0}
 
--- A body has one cut at most, and is cut or malformed, never both. CRs that stand before LFs count for nothing: without them a body has the same
+-- A body has one cut at most, and is cut or malformed, never both. CRs that stand before LFs count for nothing: without them a body has the
+-- same
 -- cut, without them.
 pub record CutsAreLawful : Type 0 where
   pub unique : (m : Manner) (body : List ℕ) (parts others : List BodyPart) → IsCut m body parts → IsCut m body others → parts ≡ others
   pub decided : (m : Manner) (body : List ℕ) → ((parts : List BodyPart) × IsCut m body parts) ⊎ IsMalformed m body
-  pub plain : (m : Manner) (body : List ℕ) (parts : List BodyPart) → IsLined body → IsCut m body parts → IsCut m (without_returns body) (plain_parts parts)
+  pub plain : (m : Manner) (body : List ℕ) (parts : List BodyPart) → IsLined body → IsCut m body parts
+      → IsCut m (without_returns body) (plain_parts parts)
   pub malformed : (m : Manner) (body : List ℕ) → IsLined body → IsMalformed m body → IsMalformed m (without_returns body)

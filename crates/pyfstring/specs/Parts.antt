@@ -32,7 +32,13 @@ abbrev pub text_of : Bor (List ℕ) → List ℕ
 text_of t = chars t.now
 
 abbrev pub field_of : {S T : Type 0} → (S → T) → Field S → FieldParts T
-field_of spec_of f = record { text = chars f.text.now; kept = option_map text_of f.kept; conversion = f.conversion; spec = option_map spec_of f.spec }
+field_of spec_of f = record {
+  text = chars f.text.now;
+  kept = option_map text_of f.kept;
+  conversion = f.conversion;
+  spec =
+      option_map spec_of f.spec;
+}
 
 abbrev pub part_of : {S T : Type 0} → (S → T) → Piece S → Part T
 part_of spec_of (Text t) = text (chars t.now)

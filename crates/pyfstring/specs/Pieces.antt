@@ -4,7 +4,8 @@ use Rattle.std.specs.List.{list_all, prefix_len}
 use Rattle.pyfstring.specs.declared.parts.Conversion.{Conversion}
 use Rattle.pyfstring.specs.declared.parts.Conversion.TheVariants.{None as Unconverted, Str, Repr, Ascii}
 use Rattle.pyfstring.specs.declared.parts.Manner.{Manner}
-use Rattle.pyfstring.specs.Characters.{tab, line_feed, line_tabulation, form_feed, carriage_return, space, exclamation_mark, colon, equals_sign, small_a, small_r, small_s, left_curly_bracket, right_curly_bracket}
+use Rattle.pyfstring.specs.Characters.{tab, line_feed, line_tabulation, form_feed, carriage_return, space, exclamation_mark, colon}
+use Rattle.pyfstring.specs.Characters.{equals_sign, small_a, small_r, small_s, left_curly_bracket, right_curly_bracket}
 use Rattle.pyfstring.specs.Texts.{begins_with, behind_text}
 use Rattle.pyfstring.specs.Expressions.{behind_expression}
 use Rattle.pyfstring.specs.Parts.{FieldParts, Part, text, field, SpecPart, BodyPart}
@@ -35,11 +36,13 @@ is_blank_or_tabulation c = is_blank c || (c == line_tabulation)
 abbrev pub behind_blanks : List ℕ → List ℕ
 behind_blanks cs = drop (prefix_len is_blank_or_tabulation cs) cs
 
--- ["="]: with it a field keeps its source so far, and the blanks behind it too; a field has none in a literal that stands in a field itself.
+-- ["="]: with it a field keeps its source so far, and the blanks behind it too; a field has none in a literal that stands in a field
+-- itself.
 -- `cs` is the source of the field behind its brace, and `here` what is left of it.
 pub data Keeps (is_nested : Bool) (cs : List ℕ) : List ℕ → Option (List ℕ) → List ℕ → Type 0 where
   unkept : {here : List ℕ} → begins_with equals_sign here ≡ false → Keeps is_nested cs here None here
-  kept : {here k : List ℕ} → is_nested ≡ false → cs ≡ k ++ behind_blanks here → Keeps is_nested cs (equals_sign ∷ here) (Some k) (behind_blanks here)
+  kept : {here k : List ℕ} → is_nested ≡ false → cs ≡ k ++ behind_blanks here
+      → Keeps is_nested cs (equals_sign ∷ here) (Some k) (behind_blanks here)
 
 -- ["!" conversion]
 -- conversion ::= "s" | "r" | "a"
@@ -63,7 +66,8 @@ pub data Specifies {S : Type 0} (IsSpec : List ℕ → S → List ℕ → Type 0
 
 -- replacement_field ::= "{" f_expression ["="] ["!" conversion] [":" format_spec] "}"
 -- Here the field stands behind its "{".
-pub record IsField {S : Type 0} (IsSpec : List ℕ → S → List ℕ → Type 0) (is_nested : Bool) (cs : List ℕ) (f : FieldParts S) (rest : List ℕ) : Type 0 where
+pub record IsField {S : Type 0} (IsSpec : List ℕ → S → List ℕ → Type 0) (is_nested : Bool) (cs : List ℕ) (f : FieldParts S)
+    (rest : List ℕ) : Type 0 where
   pub after_expression : List ℕ
   pub after_kept : List ℕ
   pub after_conversion : List ℕ
@@ -77,10 +81,13 @@ pub record IsField {S : Type 0} (IsSpec : List ℕ → S → List ℕ → Type 0
 -- texts and fields in turn, a text first and last
 -- f_string    ::= (literal_char | "{{" | "}}" | replacement_field)*
 -- format_spec ::= (literal_char | replacement_field)*
-pub data Cuts {S : Type 0} (is_raw has_pairs : Bool) (IsField : List ℕ → FieldParts S → List ℕ → Type 0) : List ℕ → List (Part S) → List ℕ → Type 0 where
-  last_text : {cs t rest : List ℕ} → IsText is_raw has_pairs cs t rest → begins_with left_curly_bracket rest ≡ false → Cuts is_raw has_pairs IsField cs (text t ∷ []) rest
+pub data Cuts {S : Type 0} (is_raw has_pairs : Bool) (IsField : List ℕ → FieldParts S → List ℕ → Type 0) : List ℕ
+    → List (Part S) → List ℕ → Type 0 where
+  last_text : {cs t rest : List ℕ} → IsText is_raw has_pairs cs t rest → begins_with left_curly_bracket rest ≡ false
+      → Cuts is_raw has_pairs IsField cs (text t ∷ []) rest
   and_field : {cs t inside behind rest : List ℕ} {f : FieldParts S} {parts : List (Part S)} →
-      IsText is_raw has_pairs cs t (left_curly_bracket ∷ inside) → IsField inside f behind → Cuts is_raw has_pairs IsField behind parts rest →
+      IsText is_raw has_pairs cs t (left_curly_bracket ∷ inside) → IsField inside f behind
+      → Cuts is_raw has_pairs IsField behind parts rest →
       Cuts is_raw has_pairs IsField cs (text t ∷ field f ∷ parts) rest
 
 -- Specs nest at most once: in a spec stand fields, whose specs are texts. Of a spec two braces are no pair.

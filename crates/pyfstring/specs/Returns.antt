@@ -15,7 +15,13 @@ without_returns [] = []
 without_returns (c ∷ cs) = elim (c == carriage_return) [ true ↦ without_returns cs | false ↦ c ∷ without_returns cs ]
 
 abbrev pub plain_field : {S : Type 0} → (S → S) → FieldParts S → FieldParts S
-plain_field plain f = record { text = without_returns f.text; kept = option_map without_returns f.kept; conversion = f.conversion; spec = option_map plain f.spec }
+plain_field plain f = record {
+  text = without_returns f.text;
+  kept = option_map without_returns f.kept;
+  conversion = f.conversion;
+  spec =
+      option_map plain f.spec;
+}
 
 abbrev pub plain_part : {S : Type 0} → (S → S) → Part S → Part S
 plain_part plain (text t) = text (without_returns t)

@@ -11,7 +11,8 @@ single_after is_raw zero (c ∷ cs) = elim (unit_len is_raw true (c ∷ cs)) [
   | suc n ↦ elim (is_brace c) [ true ↦ single_after is_raw n cs | false ↦ c ∷ single_after is_raw n cs ]
 ]
 
--- "The parts of the string outside curly braces are treated literally, except that any doubled curly braces '{{' or '}}' are replaced with the
+-- "The parts of the string outside curly braces are treated literally, except that any doubled curly braces '{{' or '}}' are replaced with
+-- the
 -- corresponding single curly brace."
 unfoldable pub single : Bool → List ℕ → List ℕ
 single is_raw t = single_after is_raw 0 t

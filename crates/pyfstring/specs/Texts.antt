@@ -38,7 +38,8 @@ abbrev pub begins_pair : List ℕ → Bool
 begins_pair [] = false
 begins_pair (c ∷ cs) = is_brace c && begins_with c cs
 
--- How many characters the unit of a text has that stands at the front, 0 where none does. In a raw literal there are no escapes; in a spec there
+-- How many characters the unit of a text has that stands at the front, 0 where none does. In a raw literal there are no escapes; in a spec
+-- there
 -- are no pairs.
 -- f_string    ::= (literal_char | "{{" | "}}" | replacement_field)*
 -- format_spec ::= (literal_char | replacement_field)*
@@ -52,7 +53,10 @@ unit_len is_raw has_pairs cs =
 abbrev pub units_after : Bool → Bool → ℕ → List ℕ → List ℕ
 units_after is_raw has_pairs n [] = []
 units_after is_raw has_pairs (suc n) (c ∷ cs) = units_after is_raw has_pairs n cs
-units_after is_raw has_pairs zero (c ∷ cs) = elim (unit_len is_raw has_pairs (c ∷ cs)) [ zero ↦ c ∷ cs | suc n ↦ units_after is_raw has_pairs n cs ]
+units_after is_raw has_pairs zero (c ∷ cs) = elim (unit_len is_raw has_pairs (c ∷ cs)) [
+  | zero ↦ c ∷ cs
+  | suc n ↦ units_after is_raw has_pairs n cs
+]
 
 -- what stands behind the text at the front: the longest run of units
 unfoldable pub behind_text : Bool → Bool → List ℕ → List ℕ

@@ -2,7 +2,8 @@
 -- comment.
 --
 -- Carries: new, next, by Places. On: LastChars, PlainEnds.
-use Rattle.std.proofs.Common.{◌≡◌, ℕ, ◌≤◌, ◌<◌, zero, suc, Bool, true, false, ◌&&◌, ◌||◌, ◌==◌, List, [], ◌∷◌, ◌++◌, length, take, refl, sym, ap, ◌∙◌, arith, ⊎_elim, Some, None, is_some, length-append, if◌then◌else◌}
+use Rattle.std.proofs.Common.{◌≡◌, ℕ, ◌≤◌, ◌<◌, zero, suc, Bool, true, false, ◌&&◌, ◌||◌, ◌==◌, List, [], ◌∷◌, ◌++◌, length, take, refl}
+use Rattle.std.proofs.Common.{sym, ap, ◌∙◌, arith, ⊎_elim, Some, None, is_some, length-append, if◌then◌else◌}
 use Rattle.std.specs.Prelude.{option_map}
 use Rattle.std.proofs.Math.Seq.{take-length}
 use Rattle.std.proofs.lemmas.List.{take-append-le}
@@ -22,9 +23,11 @@ nothing : (b : Bool) → (b && false) ≡ false
 nothing true = refl
 nothing false = refl
 
-after_kept : (p : List ℕ → Bool) → ((r : List ℕ) → p (r ++ 41 ∷ []) ≡ p r) → p [] ≡ false → (cs : List ℕ) → after_prefix p (cs ++ 41 ∷ []) ≡ after_prefix p cs
+after_kept : (p : List ℕ → Bool) → ((r : List ℕ) → p (r ++ 41 ∷ []) ≡ p r) → p [] ≡ false → (cs : List ℕ)
+    → after_prefix p (cs ++ 41 ∷ []) ≡ after_prefix p cs
 after_kept p k z [] = let e : p (41 ∷ []) ≡ false = k [] ∙ z in simp (e, z, nothing)
-after_kept p k z (a ∷ []) = let e : p (41 ∷ []) ≡ false = k [] ∙ z in let f : p (a ∷ 41 ∷ []) ≡ p (a ∷ []) = k (a ∷ []) in simp (e, z, f, nothing)
+after_kept p k z (a ∷ []) = let e : p (41 ∷ []) ≡ false = k [] ∙ z in let f : p (a ∷ 41 ∷ []) ≡ p (a ∷ []) =
+    k (a ∷ []) in simp (e, z, f, nothing)
 after_kept p k z (a ∷ b ∷ []) =
     let e : p (41 ∷ []) ≡ false = k [] ∙ z in
     let f : p (a ∷ b ∷ 41 ∷ []) ≡ p (a ∷ b ∷ []) = k (a ∷ b ∷ []) in
@@ -64,12 +67,14 @@ whole_none : (a : ℕ) (cs : List ℕ) → (a == 35) ≡ false → class_in (a �
 unfolding class_in
 whole_none a cs e = by (opens_string (a ∷ (cs ++ 41 ∷ [])))
   where
-    by : (b : Bool) → (if b then (if counts_as_string (a ∷ (cs ++ 41 ∷ [])) (a ∷ (cs ++ 41 ∷ [])) then Some String else None) else plain_class (a ∷ (cs ++ 41 ∷ []))) ≡ None
+    by : (b : Bool) → (if b then (if counts_as_string (a ∷ (cs ++ 41 ∷ [])) (a ∷ (cs ++ 41 ∷ [])) then Some String else None) else
+        plain_class (a ∷ (cs ++ 41 ∷ []))) ≡ None
     by true = rw (no_string (a ∷ (cs ++ 41 ∷ [])) (a ∷ cs)) refl
     by false = plain_end a cs e
 
 -- The longest front
-same_within : (p q : List ℕ → Bool) (cs es : List ℕ) (m : ℕ) → m ≤ length cs → ((t : List ℕ) → p t ≡ q t) → longest_within p (cs ++ es) m ≡ longest_within q cs m
+same_within : (p q : List ℕ → Bool) (cs es : List ℕ) (m : ℕ) → m ≤ length cs → ((t : List ℕ) → p t ≡ q t)
+    → longest_within p (cs ++ es) m ≡ longest_within q cs m
 same_within p q cs es zero h f = refl
 same_within p q cs es (suc m) h f =
     let e : p (take (suc m) (cs ++ es)) ≡ q (take (suc m) cs) = ap p (take-append-le (suc m) cs es h) ∙ f (take (suc m) cs) in
@@ -86,7 +91,8 @@ len_within : (cs : List ℕ) → lexeme_len cs ≤ length cs
 unfolding lexeme_len
 len_within cs = within (λ t. is_some (class_in cs t)) cs (length cs)
 
-not_whole : (p : List ℕ → Bool) (cs : List ℕ) → p cs ≡ false → (n : ℕ) → length cs ≡ suc n → longest_within p cs (length cs) ≡ longest_within p cs n
+not_whole : (p : List ℕ → Bool) (cs : List ℕ) → p cs ≡ false → (n : ℕ) → length cs ≡ suc n
+    → longest_within p cs (length cs) ≡ longest_within p cs n
 not_whole p cs e n s =
     let w : p (take (suc n) cs) ≡ false = ap (λ m. p (take m cs)) (sym s) ∙ ap p (take-length cs) ∙ e in
     rw s (rw w refl)
@@ -97,26 +103,31 @@ len_kept a cs e =
     let w : List ℕ = a ∷ (cs ++ 41 ∷ []) in
     let n : length w ≡ suc (length (a ∷ cs)) = omega (arith, length-append cs (41 ∷ [])) in
     not_whole (λ t. is_some (class_in w t)) w (ap is_some (whole_none a cs e)) (length (a ∷ cs)) n
-    ∙ same_within (λ t. is_some (class_in w t)) (λ t. is_some (class_in (a ∷ cs) t)) (a ∷ cs) (41 ∷ []) (length (a ∷ cs)) (omega arith) (λ t. ap is_some (class_kept (a ∷ cs) t))
+    ∙ same_within (λ t. is_some (class_in w t)) (λ t. is_some (class_in (a ∷ cs) t)) (a ∷ cs) (41 ∷ []) (length (a ∷ cs)) (omega arith)
+    (λ t. ap is_some (class_kept (a ∷ cs) t))
 
 same_lexeme : (a : ℕ) (cs : List ℕ) → (a == 35) ≡ false → lexeme_at (a ∷ (cs ++ 41 ∷ [])) ≡ lexeme_at (a ∷ cs)
 unfolding lexeme_at
 same_lexeme a cs e =
     let w : List ℕ = a ∷ (cs ++ 41 ∷ []) in
-    let t : take (lexeme_len w) w ≡ take (lexeme_len (a ∷ cs)) (a ∷ cs) = ap (λ n. take n w) (len_kept a cs e) ∙ take-append-le (lexeme_len (a ∷ cs)) (a ∷ cs) (41 ∷ []) (len_within (a ∷ cs)) in
+    let t : take (lexeme_len w) w ≡ take (lexeme_len (a ∷ cs)) (a ∷ cs) = ap (λ n. take n w) (len_kept a cs e)
+    ∙ take-append-le (lexeme_len (a ∷ cs)) (a ∷ cs) (41 ∷ []) (len_within (a ∷ cs)) in
     ap (λ u. option_map {U = Lexeme} (λ k. record { «class» = k; text = u }) (class_in w u)) t
-    ∙ ap (option_map {U = Lexeme} (λ k. record { «class» = k; text = take (lexeme_len (a ∷ cs)) (a ∷ cs) })) (class_kept (a ∷ cs) (take (lexeme_len (a ∷ cs)) (a ∷ cs)))
+    ∙ ap (option_map {U = Lexeme} (λ k. record { «class» = k; text = take (lexeme_len (a ∷ cs)) (a ∷ cs) }))
+    (class_kept (a ∷ cs) (take (lexeme_len (a ∷ cs)) (a ∷ cs)))
 
 -- a lexeme that begins with a hash is a comment
 hash_comment : (a : ℕ) (cs : List ℕ) → (a == 35) ≡ true → option_map (λ (x : Lexeme). x.«class») (lexeme_at (a ∷ cs)) ≡ Some Comment
 hash_comment a cs e = sym (comment_takes (a ∷ cs) e).«class»
 
-pub lexeme_kept : (cs : List ℕ) (x : Lexeme) → 0 < length cs → is_comment_class x.«class» ≡ false → lexeme_at cs ≡ Some x → lexeme_at (closed cs) ≡ Some x
+pub lexeme_kept : (cs : List ℕ) (x : Lexeme) → 0 < length cs → is_comment_class x.«class» ≡ false → lexeme_at cs ≡ Some x
+    → lexeme_at (closed cs) ≡ Some x
 lexeme_kept [] x s n e = absurd (omega arith)
 lexeme_kept (a ∷ cs) x s n e = same_lexeme a cs (by (a == 35) refl) ∙ e
   where
     by : (b : Bool) → (a == 35) ≡ b → b ≡ false
-    by true h = let c : Some x.«class» ≡ Some Comment = ap (option_map (λ (x : Lexeme). x.«class»)) (sym e) ∙ hash_comment a cs h in let d : x.«class» ≡ Comment = cc in let z : true ≡ false = sym (ap is_comment_class d) ∙ n in cc
+    by true h = let c : Some x.«class» ≡ Some Comment = ap (option_map (λ (x : Lexeme). x.«class»)) (sym e) ∙ hash_comment a cs h in
+        let d : x.«class» ≡ Comment = cc in let z : true ≡ false = sym (ap is_comment_class d) ∙ n in cc
     by false h = refl
 
 pub none_kept : (cs : List ℕ) → 0 < length cs → lexeme_at cs ≡ None → lexeme_at (closed cs) ≡ None

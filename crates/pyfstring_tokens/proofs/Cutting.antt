@@ -28,8 +28,10 @@ same_lexemes (x ∷ xs) (y ∷ ys) text left right a b =
     cons x y xs ys e f = ap (λ z. z ∷ xs) e ∙ ap (λ zs. y ∷ zs) f
 
 -- where a lexeme stands at the front
-pub cut_some : (cs back : List ℕ) (x : Lexeme) → lexeme_at cs ≡ Some x → cs ≡ x.text ++ back → Same (cut cs) (x ∷ cut back) (left_by_cut cs) (left_by_cut back)
-cut_some cs back x e w = same_lexemes (cut cs) (x ∷ cut back) cs (left_by_cut cs) (left_by_cut back) (cut_lexed cs) (back, e, w, cut_lexed back)
+pub cut_some : (cs back : List ℕ) (x : Lexeme) → lexeme_at cs ≡ Some x → cs ≡ x.text ++ back
+    → Same (cut cs) (x ∷ cut back) (left_by_cut cs) (left_by_cut back)
+cut_some cs back x e w = same_lexemes (cut cs) (x ∷ cut back) cs (left_by_cut cs) (left_by_cut back) (cut_lexed cs)
+    (back, e, w, cut_lexed back)
 
 -- and where none does
 pub cut_none : (cs : List ℕ) → lexeme_at cs ≡ None → Same (cut cs) [] (left_by_cut cs) cs

@@ -1,10 +1,12 @@
 -- The last character of a string is a quote.
 --
 -- Carries: new, next, by Behind. On: no other file.
-use Rattle.std.proofs.Common.{◌≡◌, ℕ, Bool, true, false, not, ◌&&◌, ◌||◌, ◌==◌, List, [], ◌∷◌, ◌++◌, refl, sym, ap, ◌∙◌, arith, ⊎_elim, if◌then◌else◌}
+use Rattle.std.proofs.Common.{◌≡◌, ℕ, Bool, true, false, not, ◌&&◌, ◌||◌, ◌==◌, List, [], ◌∷◌, ◌++◌, refl, sym, ap, ◌∙◌, arith, ⊎_elim}
+use Rattle.std.proofs.Common.{if◌then◌else◌}
 use Rattle.std.proofs.lemmas.Slice.Eq.{bytes_eq-Decides}
 use Rattle.pylex_lexeme.specs.Numbers.{split_any}
-use Rattle.pylex_lexeme.specs.Strings.{is_prefix, units, is_unit, no_units, ends_by_one, ends_by_three, is_single, is_triple, is_triple_string, is_single_string, counts_as_string, opens_triple}
+use Rattle.pylex_lexeme.specs.Strings.{is_prefix, units, is_unit, no_units, ends_by_one, ends_by_three, is_single, is_triple}
+use Rattle.pylex_lexeme.specs.Strings.{is_triple_string, is_single_string, counts_as_string, opens_triple}
 use Rattle.pylex_lexeme.proofs.Callers.Booleans.{and_parts, or_parts, bool_cases}
 
 -- the last character, or this one where there is none
@@ -62,19 +64,22 @@ three_last q d (u ∷ v ∷ w ∷ us) e = ⊎_elim
     let n : no_units us ≡ true = rw h at e in
     let i = unit_is q w (and_parts (is_unit q u && is_unit q v) (is_unit q w) h).1 in
     last_join d u (v ++ (w ++ flat us)) ∙ last_join (last_of d u) v (w ++ flat us) ∙ rw (i, none_left us n) refl)
-    (λ (h : (is_unit q u && is_unit q v && is_unit q w) ≡ false). last_join d u (v ++ (w ++ flat us)) ∙ three_last q (last_of d u) (v ∷ w ∷ us) (rw h at e))
+    (λ (h : (is_unit q u && is_unit q v && is_unit q w) ≡ false). last_join d u (v ++ (w ++ flat us))
+    ∙ three_last q (last_of d u) (v ∷ w ∷ us) (rw h at e))
     (bool_cases (is_unit q u && is_unit q v && is_unit q w))
 
 single_last : (q d : ℕ) (t : List ℕ) → is_single q t ≡ true → last_of d t ≡ q
 unfolding is_single
 single_last q d [] e = cc
-single_last q d (a ∷ u) e = let p = and_parts (a == q) (ends_by_one q (units u)) e in ap (last_of a) (sym (flat_units u)) ∙ one_last q a (units u) p.1
+single_last q d (a ∷ u) e = let p = and_parts (a == q) (ends_by_one q (units u)) e in ap (last_of a) (sym (flat_units u))
+    ∙ one_last q a (units u) p.1
 
 triple_last : (q d : ℕ) (t : List ℕ) → is_triple q t ≡ true → last_of d t ≡ q
 unfolding is_triple
 triple_last q d [] e = cc
 triple_last q d (a ∷ []) e = absurd (let p = and_parts (a == q) false e in let z : false ≡ true = p.1 in cc)
-triple_last q d (a ∷ b ∷ []) e = absurd (let p = and_parts (a == q) ((b == q) && false) e in let r = and_parts (b == q) false p.1 in let z : false ≡ true = r.1 in cc)
+triple_last q d (a ∷ b ∷ []) e = absurd (let p = and_parts (a == q) ((b == q) && false) e in let r = and_parts (b == q) false p.1 in
+    let z : false ≡ true = r.1 in cc)
 triple_last q d (a ∷ b ∷ c ∷ u) e =
     let p = and_parts (a == q) ((b == q) && ((c == q) && ends_by_three q (units u))) e in
     let r = and_parts (b == q) ((c == q) && ends_by_three q (units u)) p.1 in
@@ -92,7 +97,8 @@ split_of : (p q : List ℕ → Bool) (t : List ℕ) → split_any p q t ≡ true
 split_of p q [] e = record { front = []; rest = []; whole = refl; passes = (and_parts (p []) (q []) e).1 }
 split_of p q (c ∷ t) e = ⊎_elim
     (λ (h : (p [] && q (c ∷ t)) ≡ true). record { front = []; rest = c ∷ t; whole = refl; passes = (and_parts (p []) (q (c ∷ t)) h).1 })
-    (λ (h : split_any (λ u. p (c ∷ u)) q t ≡ true). let s = split_of (λ u. p (c ∷ u)) q t h in record { front = c ∷ s.front; rest = s.rest; whole = ap (λ u. c ∷ u) s.whole; passes = s.passes })
+    (λ (h : split_any (λ u. p (c ∷ u)) q t ≡ true). let s = split_of (λ u. p (c ∷ u)) q t h in
+    record { front = c ∷ s.front; rest = s.rest; whole = ap (λ u. c ∷ u) s.whole; passes = s.passes })
     (or_parts (p [] && q (c ∷ t)) (split_any (λ u. p (c ∷ u)) q t) e)
 
 -- no text that passes ends with a right parenthesis
@@ -106,7 +112,8 @@ either_off p f d t e l = ⊎_elim
     (or_parts (p 39 t) (p 34 t) e)
 
 behind_off : (p : List ℕ → Bool) → EndsOff p → (t : List ℕ) → split_any is_prefix p t ≡ true → last_of 0 t ≡ 41 → ⊥
-behind_off p f t e l = let s = split_of is_prefix p t e in f (last_of 0 s.front) s.rest s.passes (sym (ap (last_of 0) s.whole ∙ last_join 0 s.front s.rest) ∙ l)
+behind_off p f t e l = let s = split_of is_prefix p t e in
+    f (last_of 0 s.front) s.rest s.passes (sym (ap (last_of 0) s.whole ∙ last_join 0 s.front s.rest) ∙ l)
 
 triples_off : (t : List ℕ) → is_triple_string t ≡ true → last_of 0 t ≡ 41 → ⊥
 unfolding is_triple_string

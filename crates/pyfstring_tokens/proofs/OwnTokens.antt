@@ -1,7 +1,8 @@
 -- The tokens of a text in parentheses are those of the text's own lexemes.
 --
 -- Carries: new. On: Places.
-use Rattle.std.proofs.Common.{◌≡◌, ℕ, ◌+◌, ◌-◌, ◌<◌, zero, suc, Bool, true, false, ◌&&◌, ◌==◌, List, [], ◌∷◌, ◌++◌, length, count_by, refl, sym, ap, ◌∙◌, subst, arith, append_assoc, Some, None}
+use Rattle.std.proofs.Common.{◌≡◌, ℕ, ◌+◌, ◌-◌, ◌<◌, zero, suc, Bool, true, false, ◌&&◌, ◌==◌, List, [], ◌∷◌, ◌++◌, length, count_by, refl}
+use Rattle.std.proofs.Common.{sym, ap, ◌∙◌, subst, arith, append_assoc, Some, None}
 use Rattle.std.specs.List.{list_any}
 use Rattle.std.proofs.lemmas.Bool.Decides.{nat_tests}
 use Rattle.std.proofs.lemmas.List.Sums.{sum_by-cons}
@@ -11,7 +12,8 @@ use Rattle.pylex_lexeme.proofs.Callers.Lexemes.{none_is, nothing_takes}
 use Rattle.pylex.specs.Laws.{AreLexemes}
 use Rattle.pylex.specs.Lines.{opens, closes, count_if}
 use Rattle.pylex.proofs.Callers.{cut_lexed}
-use Rattle.pyfstring_tokens.specs.FieldTokens.{is_gap, is_comment_class, is_of_comment, tokens_ahead, opening, closing, has_fault, closes_none, closes_outer, has_comment}
+use Rattle.pyfstring_tokens.specs.FieldTokens.{is_gap, is_comment_class, is_of_comment, tokens_ahead, opening, closing, has_fault}
+use Rattle.pyfstring_tokens.specs.FieldTokens.{closes_none, closes_outer, has_comment}
 use Rattle.pyfstring_tokens.specs.Standing.{StandsAt}
 use Rattle.pyfstring_tokens.specs.Laws.{tokens_of, IsWhole, HasOwnTokens}
 use Rattle.pyfstring_tokens.proofs.Places.{past_gap, past_token, gap_size, none_refused, unclosed_refused, ends, First}
@@ -24,13 +26,15 @@ some_rest (c ∷ rest) x e = omega arith
 counted : (p : Lexeme → Bool) (x : Lexeme) (xs : List Lexeme) → count_by p (x ∷ xs) ≡ count_if (p x) + count_by p xs
 counted p x xs = sum_by-cons (λ y. count_if (p y)) x xs
 
-depth_on : (d m n : ℕ) (o c : Bool) → (c && (d == 0)) ≡ false → d + (count_if o + m) ≡ count_if c + n → (d + count_if o - count_if c) + m ≡ n
+depth_on : (d m n : ℕ) (o c : Bool) → (c && (d == 0)) ≡ false → d + (count_if o + m) ≡ count_if c + n
+    → (d + count_if o - count_if c) + m ≡ n
 depth_on d m n true true e h = omega arith
 depth_on d m n true false e h = omega arith
 depth_on d m n false false e h = omega arith
 depth_on d m n false true e h = grind (arith, nat_tests)
 
-depth_back : (d m n : ℕ) (o c : Bool) → (c && (d == 0)) ≡ false → (d + count_if o - count_if c) + m ≡ n → d + (count_if o + m) ≡ count_if c + n
+depth_back : (d m n : ℕ) (o c : Bool) → (c && (d == 0)) ≡ false → (d + count_if o - count_if c) + m ≡ n
+    → d + (count_if o + m) ≡ count_if c + n
 depth_back d m n true true e h = omega arith
 depth_back d m n true false e h = omega arith
 depth_back d m n false false e h = omega arith
@@ -63,13 +67,15 @@ record Along (text : List ℕ) (n : ℕ) (back : List ℕ) (x : Lexeme) (d : ℕ
   pub stands : StandsAt text given back (d + count_if (opens x) - count_if (closes x))
   pub tokens : tokens_ahead text n ≡ tokens_of (x ∷ []) ++ tokens_ahead text given
 
-along : (text : List ℕ) (n d : ℕ) (rest back : List ℕ) (x : Lexeme) (xs : List Lexeme) → lexeme_at rest ≡ Some x → rest ≡ x.text ++ back → Allowed x xs d → StandsAt text n rest d → Along text n back x d
+along : (text : List ℕ) (n d : ℕ) (rest back : List ℕ) (x : Lexeme) (xs : List Lexeme) → lexeme_at rest ≡ Some x → rest ≡ x.text ++ back
+    → Allowed x xs d → StandsAt text n rest d → Along text n back x d
 along text n d rest back x xs e w s i = by (is_gap x.«class») refl
   where
     by : (b : Bool) → is_gap x.«class» ≡ b → Along text n back x d
     by true g = record {
       given = n;
-      stands = subst (λ (m : ℕ). StandsAt text n back m) (sym (gap_size x d g)) (past_gap text n rest back d x (some_rest rest x e) e w g i);
+      stands = subst (λ (m : ℕ). StandsAt text n back m) (sym (gap_size x d g))
+          (past_gap text n rest back d x (some_rest rest x e) e w g i);
       tokens = rw g refl;
     }
     by false g =
@@ -88,7 +94,8 @@ record Own (text : List ℕ) (n : ℕ) (xs : List Lexeme) : Type 0 where
   pub tokens : tokens_ahead text n ≡ tokens_of xs ++ closing ∷ []
   pub fault : has_fault text ≡ false
 
-own : (text : List ℕ) (n d : ℕ) (rest : List ℕ) (xs : List Lexeme) (left : List ℕ) → AreLexemes rest xs left → StandsAt text n rest d → Clear xs d → Rest xs left d → Own text n xs
+own : (text : List ℕ) (n d : ℕ) (rest : List ℕ) (xs : List Lexeme) (left : List ℕ) → AreLexemes rest xs left → StandsAt text n rest d
+    → Clear xs d → Rest xs left d → Own text n xs
 own text n d rest [] left h i c r =
     let z : d ≡ 0 = omega (arith, r.closed) in
     let e = ends text n d z (subst (λ (u : List ℕ). StandsAt text n u d) (sym h.0 ∙ r.end) i) in
@@ -96,11 +103,14 @@ own text n d rest [] left h i c r =
 own text n d rest (x ∷ xs) left h i c r =
     let s = allowed x xs d c in
     let a = along text n d rest h.0 x xs h.1 h.2 s i in
-    let q : d + (count_if (opens x) + count_by opens xs) ≡ count_if (closes x) + count_by closes xs = ap (λ m. d + m) (sym (counted opens x xs)) ∙ r.closed ∙ counted closes x xs in
+    let q : d + (count_if (opens x) + count_by opens xs) ≡ count_if (closes x) + count_by closes xs =
+    ap (λ m. d + m) (sym (counted opens x xs)) ∙ r.closed ∙ counted closes x xs in
     let k = depth_on d (count_by opens xs) (count_by closes xs) (opens x) (closes x) s.matched q in
-    let o = own text a.given (d + count_if (opens x) - count_if (closes x)) h.0 xs left h.3 a.stands s.clear (record { end = r.end; closed = k }) in
+    let o = own text a.given (d + count_if (opens x) - count_if (closes x)) h.0 xs left h.3 a.stands s.clear
+    (record { end = r.end; closed = k }) in
     record {
-      tokens = a.tokens ∙ ap (λ ts. tokens_of (x ∷ []) ++ ts) o.tokens ∙ sym (append_assoc (tokens_of (x ∷ [])) (tokens_of xs) (closing ∷ [])) ∙ ap (λ ts. ts ++ closing ∷ []) (sym (tokens_more x xs));
+      tokens = a.tokens ∙ ap (λ ts. tokens_of (x ∷ []) ++ ts) o.tokens
+          ∙ sym (append_assoc (tokens_of (x ∷ [])) (tokens_of xs) (closing ∷ [])) ∙ ap (λ ts. ts ++ closing ∷ []) (sym (tokens_more x xs));
       fault = o.fault;
     }
 
@@ -113,7 +123,8 @@ all_closed : (text : List ℕ) (n d : ℕ) → StandsAt text n [] d → has_faul
 all_closed text n zero i f = refl
 all_closed text n (suc d) i f = absurd (let z : true ≡ false = sym (unclosed_refused text n (suc d) (omega arith) i) ∙ f in cc)
 
-whole : (text : List ℕ) (n d : ℕ) (rest : List ℕ) (xs : List Lexeme) (left : List ℕ) → AreLexemes rest xs left → StandsAt text n rest d → Clear xs d → has_fault text ≡ false → Rest xs left d
+whole : (text : List ℕ) (n d : ℕ) (rest : List ℕ) (xs : List Lexeme) (left : List ℕ) → AreLexemes rest xs left → StandsAt text n rest d
+    → Clear xs d → has_fault text ≡ false → Rest xs left d
 whole text n d rest [] left h i c f =
     let e = ended text n d rest h.1 i f in
     let z = all_closed text n d (subst (λ (u : List ℕ). StandsAt text n u d) e i) f in
@@ -140,4 +151,5 @@ own_tokens text f = record {
 }
   where
     by : IsWhole text → Own text 0 (cut text)
-    by w = own text 0 0 text (cut text) (left_by_cut text) (cut_lexed text) f.stands (clear text w.balanced w.uncommented) (record { end = w.end; closed = omega (arith, w.closed) })
+    by w = own text 0 0 text (cut text) (left_by_cut text) (cut_lexed text) f.stands (clear text w.balanced w.uncommented)
+        (record { end = w.end; closed = omega (arith, w.closed) })

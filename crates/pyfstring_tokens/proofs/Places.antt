@@ -1,7 +1,8 @@
 -- Where a reader of a field's tokens stands, from one lexeme to the next and at the end.
 --
 -- Carries: new, next. On: Behind, Cutting, Parentheses, Steps, Texts.
-use Rattle.std.proofs.Common.{◌≡◌, ℕ, ◌+◌, ◌-◌, ◌<◌, zero, suc, Bool, true, false, ◌&&◌, ◌==◌, List, [], ◌∷◌, ◌++◌, length, drop, refl, sym, ap, ◌∙◌, arith, Some, None, is_some, append_assoc}
+use Rattle.std.proofs.Common.{◌≡◌, ℕ, ◌+◌, ◌-◌, ◌<◌, zero, suc, Bool, true, false, ◌&&◌, ◌==◌, List, [], ◌∷◌, ◌++◌, length, drop, refl, sym}
+use Rattle.std.proofs.Common.{ap, ◌∙◌, arith, Some, None, is_some, append_assoc}
 use Rattle.std.specs.List.{list_any}
 use Rattle.std.specs.Str.{all_scalars}
 use Rattle.std.proofs.lemmas.Bool.Decides.{nat_tests}
@@ -20,13 +21,16 @@ use Rattle.pylex.specs.Steps.{entries_of, fault_of, mark}
 use Rattle.pylex.specs.Listing.{listing, up_to_end, origin}
 use Rattle.pylex.specs.Machine.{State, after, gives, layout_of, entry_by, first_state, remaining}
 use Rattle.pylex.proofs.Callers.{listing_is}
-use Rattle.pyfstring_tokens.specs.FieldTokens.{is_gap, FieldToken, parenthesized, field_source, token_of, tokens_among, field_tokens, tokens_ahead, has_fault, opening, closing, closes_none, closes_outer, is_comment_class, is_of_comment, has_comment}
+use Rattle.pyfstring_tokens.specs.FieldTokens.{is_gap, FieldToken, parenthesized, field_source, token_of, tokens_among, field_tokens}
+use Rattle.pyfstring_tokens.specs.FieldTokens.{tokens_ahead, has_fault, opening, closing, closes_none, closes_outer, is_comment_class}
+use Rattle.pyfstring_tokens.specs.FieldTokens.{is_of_comment, has_comment}
 use Rattle.pyfstring_tokens.specs.Answers.{field_token, Gives, Ends}
 use Rattle.pyfstring_tokens.specs.Standing.{closed, StandsAt}
 use Rattle.pyfstring_tokens.proofs.Behind.{lexeme_kept, none_kept}
 use Rattle.pyfstring_tokens.proofs.Cutting.{cut_some, cut_nil}
 use Rattle.pyfstring_tokens.proofs.Parentheses.{left_front, right_front}
-use Rattle.pyfstring_tokens.proofs.Steps.{ahead, remaining_is, lexed, after_margin, none_fault, token_told, gap_told, entry_for, end_unclosed, end_closed}
+use Rattle.pyfstring_tokens.proofs.Steps.{ahead, remaining_is, lexed, after_margin, none_fault, token_told, gap_told, entry_for}
+use Rattle.pyfstring_tokens.proofs.Steps.{end_unclosed, end_closed}
 use Rattle.pyfstring_tokens.proofs.Texts.{bytes_both, sliced, part_scalars}
 
 -- The state after a lexeme
@@ -53,7 +57,8 @@ parts text before rest back t e w u =
     let i : text ≡ before ++ (t ++ back) = e ∙ ap (λ r. before ++ r) w in
     record {
       inside = i ∙ sym (append_assoc before t back);
-      whole = ap (λ v. 40 ∷ (v ++ 41 ∷ [])) i ∙ ap (λ v. 40 ∷ v) (append_assoc before (t ++ back) (41 ∷ []) ∙ ap (λ v. before ++ v) (append_assoc t back (41 ∷ [])));
+      whole = ap (λ v. 40 ∷ (v ++ 41 ∷ [])) i ∙ ap (λ v. 40 ∷ v) (append_assoc before (t ++ back) (41 ∷ [])
+          ∙ ap (λ v. before ++ v) (append_assoc t back (41 ∷ [])));
       bytes = bytes_both (40 ∷ before) t;
       scalars = part_scalars before t back (sym (ap all_scalars i) ∙ u);
     }
@@ -83,16 +88,19 @@ same_depth d = omega arith
 pub gap_size : (x : Lexeme) (d : ℕ) → is_gap x.«class» ≡ true → d + count_if (opens x) - count_if (closes x) ≡ d
 gap_size x d g = let k = gap_is x.«class» g in rw (k.opener, k.closer) (same_depth d)
 
-none_closed : (d : ℕ) (x : Lexeme) (xs : List Lexeme) → (closes x && (d == 0)) ≡ false → closes_none d (x ∷ xs) ≡ closes_none (d + count_if (opens x) - count_if (closes x)) xs
+none_closed : (d : ℕ) (x : Lexeme) (xs : List Lexeme) → (closes x && (d == 0)) ≡ false
+    → closes_none d (x ∷ xs) ≡ closes_none (d + count_if (opens x) - count_if (closes x)) xs
 none_closed d x xs m = rw m refl
 
-pub past_gap : (text : List ℕ) (n : ℕ) (rest back : List ℕ) (d : ℕ) (x : Lexeme) → 0 < length rest → lexeme_at rest ≡ Some x → rest ≡ x.text ++ back → is_gap x.«class» ≡ true → StandsAt text n rest d → StandsAt text n back d
+pub past_gap : (text : List ℕ) (n : ℕ) (rest back : List ℕ) (d : ℕ) (x : Lexeme) → 0 < length rest → lexeme_at rest ≡ Some x
+    → rest ≡ x.text ++ back → is_gap x.«class» ≡ true → StandsAt text n rest d → StandsAt text n back d
 past_gap text n rest back d x some e w g i =
     let s = i.state in
     let k = gap_is x.«class» g in
     let p = parts text i.before rest back x.text i.whole w i.scalars in
     let c = (cut_some rest back x e w).lexemes in
-    let told = gap_told (parenthesized text) s (closed rest) (closed back) x i.margin (lexeme_kept rest x some k.comment e) (closed_parts rest x.text back w) g in
+    let told = gap_told (parenthesized text) s (closed rest) (closed back) x i.margin (lexeme_kept rest x some k.comment e)
+    (closed_parts rest x.text back w) g in
     let off : (closes x && (d == 0)) ≡ false = rw k.closer refl in
     record {
       before = i.before ++ x.text;
@@ -125,7 +133,8 @@ pub record Past (text : List ℕ) (n : ℕ) (back : List ℕ) (d : ℕ) (x : Lex
   pub gives : Gives text n x.«class» x.text
   pub stands : StandsAt text (n + 1) back (d + count_if (opens x) - count_if (closes x))
 
-pub past_token : (text : List ℕ) (n : ℕ) (rest back : List ℕ) (d : ℕ) (x : Lexeme) → 0 < length rest → lexeme_at rest ≡ Some x → rest ≡ x.text ++ back → is_gap x.«class» ≡ false → is_comment_class x.«class» ≡ false
+pub past_token : (text : List ℕ) (n : ℕ) (rest back : List ℕ) (d : ℕ) (x : Lexeme) → 0 < length rest → lexeme_at rest ≡ Some x
+    → rest ≡ x.text ++ back → is_gap x.«class» ≡ false → is_comment_class x.«class» ≡ false
     → (closes x && (d == 0)) ≡ false → StandsAt text n rest d → Past text n back d x
 past_token text n rest back d x some e w g k m i =
     let s = i.state in
@@ -134,8 +143,10 @@ past_token text n rest back d x some e w g k m i =
     let c = (cut_some rest back x e w).lexemes in
     let inner = within s d i.depth in
     let off : (is_closer_class x.«class» && (s.depth == 0)) ≡ false = and_false (is_closer_class x.«class») (s.depth == 0) inner in
-    let told = token_told src s (closed rest) (closed back) x i.margin (lexeme_kept rest x some k e) (closed_parts rest x.text back w) g k off in
-    let own = sliced src (40 ∷ i.before) x.text (closed back) s.now.offset (s.now.offset + bytes_in x.text) p.whole p.scalars i.offset refl in
+    let told = token_told src s (closed rest) (closed back) x i.margin (lexeme_kept rest x some k e)
+    (closed_parts rest x.text back w) g k off in
+    let own = sliced src (40 ∷ i.before) x.text (closed back) s.now.offset (s.now.offset + bytes_in x.text) p.whole
+    p.scalars i.offset refl in
     let token : token_of src (entry_for s x) ≡ field_token x.«class» x.text = ap (field_token x.«class») own in
     let later = tokens_among src (entries_of (remaining None (after s x) (closed back))) in
     let here : tokens_ahead text n ≡ field_token x.«class» x.text ∷ later = i.tokens ∙ told.tokens ∙ ap (λ t. t ∷ later) token in
@@ -158,22 +169,27 @@ past_token text n rest back d x some e w g k m i =
     }
 
 -- Where no token can be taken
-fault_here : (text : List ℕ) (ss : List Step) → fault_of (listing (field_source text)) ≡ fault_of ss → has_fault text ≡ is_some (fault_of ss)
+fault_here : (text : List ℕ) (ss : List Step) → fault_of (listing (field_source text)) ≡ fault_of ss
+    → has_fault text ≡ is_some (fault_of ss)
 unfolding has_fault
 fault_here text ss e = ap is_some e
 
-pub none_refused : (text : List ℕ) (n : ℕ) (rest : List ℕ) (d : ℕ) → 0 < length rest → lexeme_at rest ≡ None → StandsAt text n rest d → has_fault text ≡ true
+pub none_refused : (text : List ℕ) (n : ℕ) (rest : List ℕ) (d : ℕ) → 0 < length rest → lexeme_at rest ≡ None
+    → StandsAt text n rest d → has_fault text ≡ true
 none_refused text n rest d some e i =
-    fault_here text (remaining None i.state (closed rest)) i.fault ∙ none_fault i.state (closed rest) i.margin (more rest) (none_kept rest some e)
+    fault_here text (remaining None i.state (closed rest)) i.fault
+    ∙ none_fault i.state (closed rest) i.margin (more rest) (none_kept rest some e)
   where
     more : (r : List ℕ) → 0 < length (r ++ 41 ∷ [])
     more [] = omega arith
     more (c ∷ r) = omega arith
 
-pub comment_refused : (text : List ℕ) (n : ℕ) (rest back : List ℕ) (d : ℕ) (x : Lexeme) → lexeme_at rest ≡ Some x → rest ≡ x.text ++ back → is_comment_class x.«class» ≡ true → StandsAt text n rest d → has_comment text ≡ true
+pub comment_refused : (text : List ℕ) (n : ℕ) (rest back : List ℕ) (d : ℕ) (x : Lexeme) → lexeme_at rest ≡ Some x → rest ≡ x.text ++ back
+    → is_comment_class x.«class» ≡ true → StandsAt text n rest d → has_comment text ≡ true
 comment_refused text n rest back d x e w k i = i.comments ∙ ap (list_any is_of_comment) (cut_some rest back x e w).lexemes ∙ rw k refl
 
-pub closer_refused : (text : List ℕ) (n : ℕ) (rest back : List ℕ) (d : ℕ) (x : Lexeme) → lexeme_at rest ≡ Some x → rest ≡ x.text ++ back → (closes x && (d == 0)) ≡ true → StandsAt text n rest d → closes_outer text ≡ true
+pub closer_refused : (text : List ℕ) (n : ℕ) (rest back : List ℕ) (d : ℕ) (x : Lexeme) → lexeme_at rest ≡ Some x → rest ≡ x.text ++ back
+    → (closes x && (d == 0)) ≡ true → StandsAt text n rest d → closes_outer text ≡ true
 closer_refused text n rest back d x e w m i = i.closers ∙ ap (closes_none d) (cut_some rest back x e w).lexemes ∙ rw m refl
 
 -- At the text's end
@@ -252,7 +268,8 @@ unfolding field_tokens closes_outer has_comment
 begins text u =
     let src = parenthesized text in
     let t = after first_state left in
-    let l : listing (field_source text) ≡ mark kinds.Encoding [] origin origin ∷ (steps.Entry (entry_for first_state left) ∷ remaining None t (closed text)) =
+    let l : listing (field_source text) ≡ mark kinds.Encoding [] origin origin ∷
+    (steps.Entry (entry_for first_state left) ∷ remaining None t (closed text)) =
     listing_is (field_source text)
     ∙ ap (λ ss. mark kinds.Encoding [] origin origin ∷ ss) (lexed first_state src (closed text) left (left_front (closed text)) refl
     ∙ ap (λ ss. up_to_end (ss ++ ahead t (closed text))) first_gives

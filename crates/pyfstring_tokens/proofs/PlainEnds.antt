@@ -2,7 +2,8 @@
 -- parenthesis.
 --
 -- Carries: new, next, by Behind. On: LastChars.
-use Rattle.std.proofs.Common.{◌≡◌, ℕ, Bool, true, false, not, ◌&&◌, ◌||◌, ◌==◌, List, [], ◌∷◌, ◌++◌, refl, sym, ap, ◌∙◌, arith, ⊎_elim, None, leb}
+use Rattle.std.proofs.Common.{◌≡◌, ℕ, Bool, true, false, not, ◌&&◌, ◌||◌, ◌==◌, List, [], ◌∷◌, ◌++◌, refl, sym, ap, ◌∙◌, arith, ⊎_elim}
+use Rattle.std.proofs.Common.{None, leb}
 use Rattle.std.specs.List.{list_all, list_any}
 use Rattle.std.specs.Str.{bytes_eq}
 use Rattle.std.proofs.lemmas.Bool.Decides.{nat_tests}
@@ -10,7 +11,9 @@ use Rattle.std.proofs.lemmas.Slice.Eq.{bytes_eq-Decides}
 use Rattle.unicode_ident.specs.Ident.{is_xid_continue}
 use Rattle.unicode_ident.proofs.IdentLemmas.{is_xid_continue-ascii}
 use Rattle.pylex_lexeme.specs.Chars.{is_blank_char}
-use Rattle.pylex_lexeme.specs.Numbers.{headed, optional, split_any, are_some, is_digit_part, is_exponent, is_decimal_digit, is_zero, is_hex_digit, is_octal_digit, is_point, is_e, is_radix, is_point_after, is_point_before, is_raised, is_float, is_imaginary, is_number, is_nil}
+use Rattle.pylex_lexeme.specs.Numbers.{headed, optional, split_any, are_some, is_digit_part, is_exponent, is_decimal_digit, is_zero}
+use Rattle.pylex_lexeme.specs.Numbers.{is_hex_digit, is_octal_digit, is_point, is_e, is_radix, is_point_after, is_point_before, is_raised}
+use Rattle.pylex_lexeme.specs.Numbers.{is_float, is_imaginary, is_number, is_nil}
 use Rattle.pylex_lexeme.specs.Operators.{is_operator}
 use Rattle.pylex_lexeme.specs.Lexemes.{is_name, is_comment, are_blanks, is_line_end, is_join, plain_class}
 use Rattle.pylex_lexeme.proofs.Callers.Booleans.{and_parts, and_false, or_parts}
@@ -114,7 +117,8 @@ unfolding is_name
 name_end a cs = and_false _ (list_all is_xid_continue (cs ++ 41 ∷ [])) (all_end is_xid_continue cs (is_xid_continue-ascii 41 (omega arith)))
 
 number_end : (cs : List ℕ) → is_number (cs ++ 41 ∷ []) ≡ false
-number_end cs = off (is_number (cs ++ 41 ∷ [])) (λ e. let h = number_plain (cs ++ 41 ∷ []) e in let f = all_end plain cs refl in let z : false ≡ true = sym f ∙ h in cc)
+number_end cs = off (is_number (cs ++ 41 ∷ [])) (λ e. let h = number_plain (cs ++ 41 ∷ []) e in let f = all_end plain cs refl in
+    let z : false ≡ true = sym f ∙ h in cc)
 
 blanks_end : (a : ℕ) (cs : List ℕ) → are_blanks (a ∷ (cs ++ 41 ∷ [])) ≡ false
 unfolding are_blanks
@@ -154,7 +158,8 @@ feed_last d t e = ⊎_elim
     (or_parts (bytes_eq t (10 ∷ [])) (bytes_eq t (13 ∷ 10 ∷ [])) e)
 
 line_end_end : (cs : List ℕ) → is_line_end (cs ++ 41 ∷ []) ≡ false
-line_end_end cs = off (is_line_end (cs ++ 41 ∷ [])) (λ e. let z : 41 ≡ 10 = sym (last_end 0 cs 41) ∙ feed_last 0 (cs ++ 41 ∷ []) e in omega arith)
+line_end_end cs = off (is_line_end (cs ++ 41 ∷ [])) (λ e. let z : 41 ≡ 10 = sym (last_end 0 cs 41)
+    ∙ feed_last 0 (cs ++ 41 ∷ []) e in omega arith)
 
 join_end : (a : ℕ) (cs : List ℕ) → is_join (a ∷ (cs ++ 41 ∷ [])) ≡ false
 unfolding is_join

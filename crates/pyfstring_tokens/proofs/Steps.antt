@@ -1,7 +1,8 @@
 -- What a lister gives within parentheses for a lexeme, where no lexeme stands, and at the end.
 --
 -- Carries: new, next, by Places. On: Cutting.
-use Rattle.std.proofs.Common.{◌≡◌, ℕ, ◌+◌, ◌<◌, zero, suc, Bool, true, false, not, ◌&&◌, ◌||◌, ◌==◌, List, [], ◌∷◌, ◌++◌, length, refl, ap, ◌∙◌, arith, Some, None, is_some, replicate, count_by, nat_lt, if◌then◌else◌}
+use Rattle.std.proofs.Common.{◌≡◌, ℕ, ◌+◌, ◌<◌, zero, suc, Bool, true, false, not, ◌&&◌, ◌||◌, ◌==◌, List, [], ◌∷◌, ◌++◌, length, refl, ap}
+use Rattle.std.proofs.Common.{◌∙◌, arith, Some, None, is_some, replicate, count_by, nat_lt, if◌then◌else◌}
 use Rattle.std.specs.List.{list_all}
 use Rattle.std.proofs.lemmas.Bool.Decides.{nat_tests}
 use Rattle.std.proofs.lemmas.List.Folds.{list_all-append}
@@ -20,7 +21,8 @@ use Rattle.pylex.specs.declared.entries.Step.TheVariants as steps
 use Rattle.pylex.specs.Lines.{is_significant, is_of_line_end, is_of_blanks}
 use Rattle.pylex.specs.Steps.{entries_of, fault_of, fault_at}
 use Rattle.pylex.specs.Listing.{stop_fault, up_to_end, further}
-use Rattle.pylex.specs.Machine.{State, past, after, layout_of, entry_by, gives, last_line_end, is_hash, dedents_at, mark_at, last_place, tail_of, stop_of, run, remaining}
+use Rattle.pylex.specs.Machine.{State, past, after, layout_of, entry_by, gives, last_line_end, is_hash, dedents_at, mark_at, last_place}
+use Rattle.pylex.specs.Machine.{tail_of, stop_of, run, remaining}
 use Rattle.pylex.specs.Spots.{kind_of, operator_of}
 use Rattle.pyfstring_tokens.specs.FieldTokens.{is_gap, is_token_kind, token_of, tokens_among, is_comment_class}
 use Rattle.pyfstring_tokens.proofs.Cutting.{cut_some, cut_none, cut_nil}
@@ -47,14 +49,16 @@ unfolding remaining
 remaining_is s text = refl
 
 -- the steps of the first lexeme, and what is behind it
-pub lexed : (s : State) (cs back : List ℕ) (x : Lexeme) → lexeme_at cs ≡ Some x → cs ≡ x.text ++ back → remaining None s cs ≡ up_to_end (gives s x ++ ahead (after s x) back)
+pub lexed : (s : State) (cs back : List ℕ) (x : Lexeme) → lexeme_at cs ≡ Some x → cs ≡ x.text ++ back
+    → remaining None s cs ≡ up_to_end (gives s x ++ ahead (after s x) back)
 unfolding remaining
 lexed s cs back x e w =
     let c = cut_some cs back x e w in
     ap (λ xs. up_to_end (run None (left_by_cut cs) s xs)) c.lexemes
     ∙ ap (λ l. up_to_end (gives s x ++ run None l (after s x) (cut back))) c.stop
 
-pub lexed_within : (s : State) (cs back : List ℕ) (x : Lexeme) → s.margin ≡ false → lexeme_at cs ≡ Some x → cs ≡ x.text ++ back → remaining None s cs ≡ up_to_end (entry_by s x ++ ahead (after s x) back)
+pub lexed_within : (s : State) (cs back : List ℕ) (x : Lexeme) → s.margin ≡ false → lexeme_at cs ≡ Some x → cs ≡ x.text ++ back
+    → remaining None s cs ≡ up_to_end (entry_by s x ++ ahead (after s x) back)
 lexed_within s cs back x m e w = lexed s cs back x e w ∙ ap (λ ss. up_to_end (ss ++ ahead (after s x) back)) (gives_own s x m)
 
 pub after_margin : (s : State) (x : Lexeme) → s.margin ≡ false → (s.depth == 0) ≡ false → (after s x).margin ≡ false
@@ -72,12 +76,16 @@ stop_some : (p : Place) (left : List ℕ) → is_some (fault_of (up_to_end (stop
 unfolding stop_fault
 stop_some p left = by (opens_string left) (is_open_string left)
   where
-    by : (a b : Bool) → is_some (fault_of (up_to_end ((if not a then fault_at errors.BadCharacter p else (if not b then fault_at errors.UnterminatedString p else fault_at errors.EofInString p)) ∷ []))) ≡ true
+    by : (a b : Bool) → is_some
+        (fault_of (up_to_end
+        ((if not a then fault_at errors.BadCharacter p else (if not b then fault_at errors.UnterminatedString p else fault_at
+        errors.EofInString p)) ∷ []))) ≡ true
     by true true = refl
     by true false = refl
     by false b = refl
 
-pub none_fault : (s : State) (cs : List ℕ) → s.margin ≡ false → 0 < length cs → lexeme_at cs ≡ None → is_some (fault_of (remaining None s cs)) ≡ true
+pub none_fault : (s : State) (cs : List ℕ) → s.margin ≡ false → 0 < length cs → lexeme_at cs ≡ None
+    → is_some (fault_of (remaining None s cs)) ≡ true
 unfolding remaining stop_of
 none_fault s cs m n e =
     let c = cut_none cs e in
@@ -128,13 +136,23 @@ gap_quiet s x g = by x.«class» x.text g
 
 -- The entry of a token
 abbrev pub entry_for : State → Lexeme → Entry
-entry_for s x = record { kind = kind_of x.«class» true; exact = operator_of x.«class»; start = s.now.place; «end» = (past s.now x.text).place; «from» = s.now.offset; to = s.now.offset + bytes_in x.text }
+entry_for s x = record {
+  kind = kind_of x.«class» true;
+  exact = operator_of x.«class»;
+  start = s.now.place;
+  «end» =
+      (past s.now x.text).place;
+  «from» = s.now.offset;
+  to = s.now.offset + bytes_in x.text;
+}
 
-pub token_entry : (s : State) (x : Lexeme) → is_gap x.«class» ≡ false → is_comment_class x.«class» ≡ false → (is_closer_class x.«class» && (s.depth == 0)) ≡ false → entry_by s x ≡ steps.Entry (entry_for s x) ∷ []
+pub token_entry : (s : State) (x : Lexeme) → is_gap x.«class» ≡ false → is_comment_class x.«class» ≡ false
+    → (is_closer_class x.«class» && (s.depth == 0)) ≡ false → entry_by s x ≡ steps.Entry (entry_for s x) ∷ []
 unfolding entry_by
 token_entry s x g c m = by x.«class» x.text g c m
   where
-    by : (k : Class) (t : List ℕ) → is_gap k ≡ false → is_comment_class k ≡ false → (is_closer_class k && (s.depth == 0)) ≡ false → entry_by s (record { «class» = k; text = t }) ≡ steps.Entry (entry_for s (record { «class» = k; text = t })) ∷ []
+    by : (k : Class) (t : List ℕ) → is_gap k ≡ false → is_comment_class k ≡ false → (is_closer_class k && (s.depth == 0)) ≡ false
+        → entry_by s (record { «class» = k; text = t }) ≡ steps.Entry (entry_for s (record { «class» = k; text = t })) ∷ []
     by Name t g c m = refl
     by Number t g c m = refl
     by String t g c m = refl
@@ -159,10 +177,12 @@ pub record Tells (text : List ℕ) (s : State) (x : Lexeme) (ss rs : List Step) 
   pub tokens : tokens_among text (entries_of ss) ≡ token_of text (entry_for s x) ∷ tokens_among text (entries_of rs)
   pub fault : fault_of ss ≡ fault_of rs
 
-pub token_told : (text : List ℕ) (s : State) (cs back : List ℕ) (x : Lexeme) → s.margin ≡ false → lexeme_at cs ≡ Some x → cs ≡ x.text ++ back → is_gap x.«class» ≡ false → is_comment_class x.«class» ≡ false
+pub token_told : (text : List ℕ) (s : State) (cs back : List ℕ) (x : Lexeme) → s.margin ≡ false → lexeme_at cs ≡ Some x
+    → cs ≡ x.text ++ back → is_gap x.«class» ≡ false → is_comment_class x.«class» ≡ false
     → (is_closer_class x.«class» && (s.depth == 0)) ≡ false → Tells text s x (remaining None s cs) (remaining None (after s x) back)
 token_told text s cs back x m e w g c u =
-    let l : remaining None s cs ≡ steps.Entry (entry_for s x) ∷ up_to_end (ahead (after s x) back) = lexed_within s cs back x m e w ∙ ap (λ ss. up_to_end (ss ++ ahead (after s x) back)) (token_entry s x g c u) in
+    let l : remaining None s cs ≡ steps.Entry (entry_for s x) ∷ up_to_end (ahead (after s x) back) = lexed_within s cs back x m e w
+    ∙ ap (λ ss. up_to_end (ss ++ ahead (after s x) back)) (token_entry s x g c u) in
     let r = remaining_is (after s x) back in
     let k = token_kind x.«class» g c in
     rw (l, r) (told (up_to_end (ahead (after s x) back)) k)
@@ -170,15 +190,19 @@ token_told text s cs back x m e w g c u =
     told : (rs : List Step) → is_token_kind (kind_of x.«class» true) ≡ true → Tells text s x (steps.Entry (entry_for s x) ∷ rs) rs
     told rs k = record { tokens = rw k refl; fault = refl }
 
-pub gap_told : (text : List ℕ) (s : State) (cs back : List ℕ) (x : Lexeme) → s.margin ≡ false → lexeme_at cs ≡ Some x → cs ≡ x.text ++ back → is_gap x.«class» ≡ true → Alike text (remaining None s cs) (remaining None (after s x) back)
-gap_told text s cs back x m e w g = rw (lexed_within s cs back x m e w, remaining_is (after s x) back) (past_quiet text (entry_by s x) (ahead (after s x) back) (gap_quiet s x g))
+pub gap_told : (text : List ℕ) (s : State) (cs back : List ℕ) (x : Lexeme) → s.margin ≡ false → lexeme_at cs ≡ Some x → cs ≡ x.text ++ back
+    → is_gap x.«class» ≡ true → Alike text (remaining None s cs) (remaining None (after s x) back)
+gap_told text s cs back x m e w g = rw (lexed_within s cs back x m e w, remaining_is (after s x) back)
+    (past_quiet text (entry_by s x) (ahead (after s x) back) (gap_quiet s x g))
 
 -- At the end
 end_quiet : (s : State) → list_all is_quiet (last_line_end s) ≡ true
 unfolding last_line_end
 end_quiet s = by s.logical (is_hash s.lead) s.margin
   where
-    by : (l h m : Bool) → list_all is_quiet (if l then (if h then [] else mark_at kinds.Newline s.now.offset s.now.place (further s.now.place 1) ∷ []) else (if m then [] else mark_at kinds.Nl s.now.offset s.now.place s.now.place ∷ [])) ≡ true
+    by : (l h m : Bool) → list_all is_quiet
+        (if l then (if h then [] else mark_at kinds.Newline s.now.offset s.now.place (further s.now.place 1) ∷ []) else
+        (if m then [] else mark_at kinds.Nl s.now.offset s.now.place s.now.place ∷ [])) ≡ true
     by true true m = refl
     by true false m = refl
     by false h true = refl
@@ -204,7 +228,8 @@ end_closed text s d j =
     let ds : List Step = dedents_at 0 s.levels o p in
     let last : List Step = mark_at kinds.EndMarker o p p ∷ steps.End ∷ [] in
     let t : tail_of s ≡ (last_line_end s ++ ds) ++ last = rw (d, j) refl in
-    let q : list_all is_quiet (last_line_end s ++ ds) ≡ true = list_all-append is_quiet (last_line_end s) ds ∙ both (end_quiet s) (dedents_quiet (count_by (nat_lt 0) s.levels) o p) in
+    let q : list_all is_quiet (last_line_end s ++ ds) ≡ true = list_all-append is_quiet (last_line_end s) ds
+    ∙ both (end_quiet s) (dedents_quiet (count_by (nat_lt 0) s.levels) o p) in
     let i = past_quiet text (last_line_end s ++ ds) last q in
     rw (at_end s, t) (record { tokens = i.tokens; fault = i.fault })
   where

@@ -1,7 +1,8 @@
 -- The tokens of the expression in a replacement field: those of its text in parentheses.
 --
 -- Reference 2.4.3: "Expressions in formatted string literals are treated like regular Python expressions surrounded by parentheses".
-use Rattle.std.specs.Prelude.{ℕ, ◌+◌, ◌-◌, Bool, true, false, ◌&&◌, ◌||◌, ◌==◌, List, [], ◌∷◌, ◌++◌, drop, slice_range, if◌then◌else◌, codes, Option, Some, None, is_some}
+use Rattle.std.specs.Prelude.{ℕ, ◌+◌, ◌-◌, Bool, true, false, ◌&&◌, ◌||◌, ◌==◌, List, [], ◌∷◌, ◌++◌, drop, slice_range, if◌then◌else◌}
+use Rattle.std.specs.Prelude.{codes, Option, Some, None, is_some}
 use Rattle.std.specs.List.{list_any}
 use Rattle.std.specs.Str.{chars, encode_utf8_all}
 use Rattle.pylex_lexeme.specs.declared.kinds.Exact.{Exact}

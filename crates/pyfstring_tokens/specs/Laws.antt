@@ -18,7 +18,8 @@ pub record IsWhole (text : List ℕ) : Type 0 where
   pub balanced : closes_outer text ≡ false
   pub uncommented : has_comment text ≡ false
 
--- Such a text in parentheses has its tokens between these, and no fault; and no other text has none, unless it closes what it didn't open or has a
+-- Such a text in parentheses has its tokens between these, and no fault; and no other text has none, unless it closes what it didn't open
+-- or has a
 -- comment.
 pub record HasOwnTokens (text : List ℕ) : Type 0 where
   pub all : IsWhole text → AreAll text (tokens_of (cut text))

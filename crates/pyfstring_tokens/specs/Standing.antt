@@ -9,12 +9,14 @@ use Rattle.pylex.specs.Listing.{listing}
 use Rattle.pylex.specs.Machine.{State, remaining}
 use Rattle.pylex.specs.Steps.{entries_of, fault_of}
 use Rattle.pyfstring_tokens.specs.declared.field_tokens.FieldTokens.{FieldTokens}
-use Rattle.pyfstring_tokens.specs.FieldTokens.{parenthesized, field_source, field_tokens, tokens_among, tokens_ahead, opening, closes_none, closes_outer, is_of_comment, has_comment}
+use Rattle.pyfstring_tokens.specs.FieldTokens.{parenthesized, field_source, field_tokens, tokens_among, tokens_ahead, opening, closes_none}
+use Rattle.pyfstring_tokens.specs.FieldTokens.{closes_outer, is_of_comment, has_comment}
 
 abbrev pub closed : List ℕ → List ℕ
 closed rest = rest ++ right_parenthesis ∷ []
 
--- Behind n tokens of a text, with so many of its brackets open, this rest is left. A lister of the text in parentheses would stand there within
+-- Behind n tokens of a text, with so many of its brackets open, this rest is left. A lister of the text in parentheses would stand there
+-- within
 -- these, and have the same tokens and the same fault ahead.
 pub record StandsAt (text : List ℕ) (n : ℕ) (rest : List ℕ) (within : ℕ) : Type 0 where
   pub before : List ℕ

@@ -2,7 +2,8 @@
 -- first ones, the lexemes of a text, and the machine's run over these.
 --
 -- Carries: what pyast_command, pyparse_tokens, pyunparse_text, pytoken cite. On: Lexed, Finding, Run.
-use Rattle.std.proofs.Common.{◌≡◌, ℕ, zero, suc, ◌+◌, ◌≤◌, Bool, true, false, ◌&&◌, ◌==◌, List, [], ◌∷◌, drop, length, refl, sym, ap, ◌∙◌, subst, Some, None, slice_get, nat_le, arith}
+use Rattle.std.proofs.Common.{◌≡◌, ℕ, zero, suc, ◌+◌, ◌≤◌, Bool, true, false, ◌&&◌, ◌==◌, List, [], ◌∷◌, drop, length, refl, sym, ap, ◌∙◌}
+use Rattle.std.proofs.Common.{subst, Some, None, slice_get, nat_le, arith}
 use Rattle.std.proofs.lemmas.Bool.Decides.{nat_tests}
 use lib.Pointwise.{bytes_decides}
 use Rattle.pylex.specs.declared.entries.Entry.{Entry}
@@ -39,11 +40,15 @@ same_flag true false h = absurd (omega arith)
 same_flag false true h = absurd (omega arith)
 same_flag false false h = refl
 
-pub same_cursor : (c d : CursorParts) → c.given ≡ d.given → c.offset ≡ d.offset → c.row ≡ d.row → c.depth ≡ d.depth → c.begun ≡ d.begun → c.skip ≡ d.skip → c.levels ≡ d.levels → c ≡ d
-same_cursor c d given offset row depth begun skip levels = built c.given d.given c.offset d.offset c.row d.row c.depth d.depth c.begun d.begun c.skip d.skip c.levels d.levels given offset row depth begun skip levels
+pub same_cursor : (c d : CursorParts) → c.given ≡ d.given → c.offset ≡ d.offset → c.row ≡ d.row → c.depth ≡ d.depth → c.begun ≡ d.begun
+    → c.skip ≡ d.skip → c.levels ≡ d.levels → c ≡ d
+same_cursor c d given offset row depth begun skip levels = built c.given d.given c.offset d.offset c.row d.row c.depth d.depth c.begun
+    d.begun c.skip d.skip c.levels d.levels given offset row depth begun skip levels
   where
-    built : (g g' o o' r r' e e' : ℕ) (b b' : Bool) (k k' : ℕ) (l l' : List ℕ) → g ≡ g' → o ≡ o' → r ≡ r' → e ≡ e' → b ≡ b' → k ≡ k' → l ≡ l'
-        → record { given = g; offset = o; row = r; depth = e; begun = b; skip = k; levels = l } ≡ (let d : CursorParts = record { given = g'; offset = o'; row = r'; depth = e'; begun = b'; skip = k'; levels = l' } in d)
+    built : (g g' o o' r r' e e' : ℕ) (b b' : Bool) (k k' : ℕ) (l l' : List ℕ) → g ≡ g' → o ≡ o' → r ≡ r' → e ≡ e'
+        → b ≡ b' → k ≡ k' → l ≡ l'
+        → record { given = g; offset = o; row = r; depth = e; begun = b; skip = k; levels = l } ≡ (let d : CursorParts =
+        record { given = g'; offset = o'; row = r'; depth = e'; begun = b'; skip = k'; levels = l' } in d)
     built g g' o o' r r' e e' b b' k k' l l' p1 p2 p3 p4 p5 p6 p7 = rw (p1, p2, p3, p4, p5, p6, p7) refl
 
 -- two cursors of the same parts are one
@@ -55,10 +60,18 @@ same_is c d h =
     let f = both (c.depth == d.depth) _ e.1 in
     let i = both (count_if c.begun == count_if d.begun) _ f.1 in
     let j = both (c.skip == d.skip) _ i.1 in
-    same_cursor c d (equal _ _ a.0) (equal _ _ b.0) (equal _ _ e.0) (equal _ _ f.0) (same_flag _ _ (equal _ _ i.0)) (equal _ _ j.0) ((bytes_decides c.levels d.levels).0 j.1)
+    same_cursor c d (equal _ _ a.0) (equal _ _ b.0) (equal _ _ e.0) (equal _ _ f.0) (same_flag _ _ (equal _ _ i.0)) (equal _ _ j.0)
+    ((bytes_decides c.levels d.levels).0 j.1)
 
 pub same_itself : (c : CursorParts) → same_parts c c ≡ true
-same_itself c = rw (equals_itself c.given, equals_itself c.offset, equals_itself c.row, equals_itself c.depth, equals_itself (count_if c.begun), equals_itself c.skip) ((bytes_decides c.levels c.levels).1 refl)
+same_itself c = rw (
+  equals_itself c.given,
+  equals_itself c.offset,
+  equals_itself c.row,
+  equals_itself c.depth,
+  equals_itself (count_if c.begun),
+  equals_itself c.skip,
+) ((bytes_decides c.levels c.levels).1 refl)
 
 -- a cursor of a source, by the entries of that
 pub record IsBehind (c : CursorParts) (s : Source) : Type 0 where
@@ -68,7 +81,8 @@ pub record IsBehind (c : CursorParts) (s : Source) : Type 0 where
 -- to be a cursor of a source is to be that behind so many of its entries
 pub is_behind : {c : CursorParts} {s : Source} → IsCursorOf c s → IsBehind c s
 unfolding is_cursor_of
-is_behind {c} {s} h = let t = both (nat_le c.given (length (entries_of (listing s)))) _ h in let w = t.0 in record { within = grind (arith, nat_tests); is = same_is c (cursor s c.given) t.1 }
+is_behind {c} {s} h = let t = both (nat_le c.given (length (entries_of (listing s)))) _ h in let w = t.0 in
+    record { within = grind (arith, nat_tests); is = same_is c (cursor s c.given) t.1 }
 
 is_within : (m n : ℕ) → m ≤ n → nat_le m n ≡ true
 is_within m n h = grind (arith, nat_tests)
@@ -116,21 +130,26 @@ pub next_is : (s : Source) (k : ℕ) (step : Step) → slice_get (listing s) k �
 next_is s k step h = drop_at (listing s) k step h
 
 last_end : (ss left : List Step) → up_to_end ss ≡ ss → ss ≡ steps.End ∷ left → (entries_of ss ≡ []) × (fault_of ss ≡ None)
-last_end ss left u h = let w : up_to_end (steps.End ∷ left) ≡ steps.End ∷ left = rw h at u in let n : [] ≡ left = cc in rw (h, ← n) (refl, refl)
+last_end ss left u h = let w : up_to_end (steps.End ∷ left) ≡ steps.End ∷ left = rw h at u in let n : [] ≡ left = cc in
+    rw (h, ← n) (refl, refl)
 
-last_fault : (ss left : List Step) (f : ListingFault) → up_to_end ss ≡ ss → ss ≡ steps.Fault f ∷ left → (entries_of ss ≡ []) × (fault_of ss ≡ Some f)
-last_fault ss left f u h = let w : up_to_end (steps.Fault f ∷ left) ≡ steps.Fault f ∷ left = rw h at u in let n : [] ≡ left = cc in rw (h, ← n) (refl, refl)
+last_fault : (ss left : List Step) (f : ListingFault) → up_to_end ss ≡ ss → ss ≡ steps.Fault f ∷ left
+    → (entries_of ss ≡ []) × (fault_of ss ≡ Some f)
+last_fault ss left f u h = let w : up_to_end (steps.Fault f ∷ left) ≡ steps.Fault f ∷ left = rw h at u in let n : [] ≡ left = cc in
+    rw (h, ← n) (refl, refl)
 
 -- the next step is the end
 pub end_last : (s : Source) (k : ℕ) → slice_get (listing s) k ≡ Some steps.End → (entries_of (rest s k) ≡ []) × (fault_of (rest s k) ≡ None)
 end_last s k h = last_end (rest s k) _ (ends_behind (listing s) k (listing_ends s)) (next_is s k steps.End h)
 
 -- the next step is a fault
-pub fault_last : (s : Source) (k : ℕ) (f : ListingFault) → slice_get (listing s) k ≡ Some (steps.Fault f) → (entries_of (rest s k) ≡ []) × (fault_of (rest s k) ≡ Some f)
+pub fault_last : (s : Source) (k : ℕ) (f : ListingFault) → slice_get (listing s) k ≡ Some (steps.Fault f)
+    → (entries_of (rest s k) ≡ []) × (fault_of (rest s k) ≡ Some f)
 fault_last s k f h = last_fault (rest s k) _ f (ends_behind (listing s) k (listing_ends s)) (next_is s k (steps.Fault f) h)
 
 -- each entry lies in the text that all lie in
-pub entry_lies : (text : List ℕ) (ss : List Step) (k : ℕ) (e : Entry) → AllLie text ss → slice_get ss k ≡ Some (steps.Entry e) → LiesIn text e
+pub entry_lies : (text : List ℕ) (ss : List Step) (k : ℕ) (e : Entry) → AllLie text ss
+    → slice_get ss k ≡ Some (steps.Entry e) → LiesIn text e
 entry_lies text [] k e l h = cc
 entry_lies text (steps.Entry d ∷ ss) zero e l h = let is : d ≡ e = cc in subst (LiesIn text) is l.0
 entry_lies text (steps.End ∷ ss) zero e l h = cc

@@ -1,5 +1,6 @@
 -- Cursors: what is kept of a listing after some of its entries.
-use Rattle.std.specs.Prelude.{ℕ, nat_le, Bool, true, false, not, ◌&&◌, ◌||◌, ◌==◌, eqb, List, [], ◌∷◌, ◌++◌, take, drop, reverse, count_by, if◌then◌else◌, decimal, codes}
+use Rattle.std.specs.Prelude.{ℕ, nat_le, Bool, true, false, not, ◌&&◌, ◌||◌, ◌==◌, eqb, List, [], ◌∷◌, ◌++◌, take, drop, reverse, count_by}
+use Rattle.std.specs.Prelude.{if◌then◌else◌, decimal, codes}
 use lib.Pointwise.{pointwise}
 use Rattle.std.specs.List.{prefix_len}
 use Rattle.pysource.specs.Places.{place_after}
@@ -69,7 +70,8 @@ unfoldable pub cursor : Source → ℕ → CursorParts
 cursor s k =
     let es = given_last_first s k in
     let empty = take (prefix_len has_no_text es) es in
-    cursor_at k (count_by (λ e. not (is_encoding e)) empty) (ends_in_indent (with_text es)) (lexemes_to (point (with_text es)) [] (cut s.text))
+    cursor_at k (count_by (λ e. not (is_encoding e)) empty) (ends_in_indent (with_text es))
+    (lexemes_to (point (with_text es)) [] (cut s.text))
 
 abbrev pub with_commas : List ℕ → List ℕ
 with_commas [] = []
@@ -78,7 +80,10 @@ with_commas (n ∷ m ∷ ns) = decimal n ++ codes "," ++ with_commas (m ∷ ns)
 
 -- the same number is in each part of two cursors
 abbrev pub same_parts : CursorParts → CursorParts → Bool
-same_parts c d = (c.given == d.given) && ((c.offset == d.offset) && ((c.row == d.row) && ((c.depth == d.depth) && ((count_if c.begun == count_if d.begun) && ((c.skip == d.skip) && pointwise eqb c.levels d.levels)))))
+same_parts c d = (c.given == d.given) &&
+    ((c.offset == d.offset) &&
+    ((c.row == d.row) &&
+    ((c.depth == d.depth) && ((count_if c.begun == count_if d.begun) && ((c.skip == d.skip) && pointwise eqb c.levels d.levels)))))
 
 -- a part, and a blank before it
 abbrev pub part : ℕ → List ℕ
@@ -86,4 +91,5 @@ part n = codes " " ++ decimal n
 
 -- a cursor's text
 unfoldable pub cursor_text : CursorParts → List ℕ
-cursor_text c = codes "pytok1" ++ part c.given ++ part c.offset ++ part c.row ++ part c.depth ++ part (count_if c.begun) ++ part c.skip ++ codes " " ++ with_commas c.levels
+cursor_text c = codes "pytok1" ++ part c.given ++ part c.offset ++ part c.row ++ part c.depth ++ part (count_if c.begun) ++ part c.skip ++
+    codes " " ++ with_commas c.levels

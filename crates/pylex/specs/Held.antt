@@ -16,7 +16,8 @@ AheadBut old new = ((new.count ≡ old.count) × (length new.pending ≤ length 
 
 -- After some characters, a literal is open at each line end within a text but its last.
 abbrev pub IsJoined : List ℕ → List ℕ → Type 0
-IsJoined before text = (front back : List ℕ) → text ≡ front ++ back → ends_line front ≡ true → 0 < length back → is_open_string (left_by_cut (chars (before ++ front))) ≡ true
+IsJoined before text = (front back : List ℕ) → text ≡ front ++ back → ends_line front ≡ true → 0 < length back
+    → is_open_string (left_by_cut (chars (before ++ front))) ≡ true
 
 -- From a text past lexemes, one after another, to what is left after them.
 pub data LexedTo (left : List ℕ) : List ℕ → Type 0 where
@@ -38,7 +39,8 @@ pub record IsAtStop (text : List ℕ) (from : ℕ) : Type 0 where
   pub none : lexeme_at (chars (drop from text)) ≡ None
   pub opened : 0 < length (drop from text) → is_open_string (chars (drop from text)) ≡ true
 
--- What is held where more lines were read after such, of which this rest was left. If the last try for a line met none, the literal is open still.
+-- What is held where more lines were read after such, of which this rest was left. If the last try for a line met none, the literal is open
+-- still.
 pub record Holds (old new : Buffered) (rest text left : List ℕ) : Type 0 where
   pub joined : IsJoined [] text
   pub lexed : LexedTo (chars left) (chars text)

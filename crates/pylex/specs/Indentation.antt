@@ -3,7 +3,8 @@
 --
 -- The open levels are a set, which knows no order of events. That they behave as the stack of the reference is a law (`LevelsAreAStack` in
 -- `Laws`): after a line of width w those below w are left, and w is the last.
-use Rattle.std.specs.Prelude.{ℕ, ◌+◌, ◌*◌, ◌/◌, zero, suc, nat_lt, nat_le, Bool, ◌&&◌, ◌||◌, ◌==◌, List, [], ◌∷◌, ◌++◌, sum, filter, count_by, replicate, if◌then◌else◌, None}
+use Rattle.std.specs.Prelude.{ℕ, ◌+◌, ◌*◌, ◌/◌, zero, suc, nat_lt, nat_le, Bool, ◌&&◌, ◌||◌, ◌==◌, List, [], ◌∷◌, ◌++◌, sum, filter}
+use Rattle.std.specs.Prelude.{count_by, replicate, if◌then◌else◌, None}
 use Rattle.std.specs.List.{list_all, list_any, take_while}
 use Rattle.pysource.specs.Places.{place_after}
 use Rattle.pysource.specs.declared.places.Place.{Place}
@@ -53,7 +54,8 @@ dedents width levels earlier p = replicate (count_by (nat_lt width) levels) (mar
 -- what stands before the first significant token of a logical line (reference 2.1.8)
 unfoldable pub layout_by : ℕ → List ℕ → List Lexeme → List Step
 layout_by width levels before =
-    if list_all (λ v. nat_lt v width) levels then piece kinds.Indent None (text_before (before_line before)) (text_before (line_so_far before)) (place_after (text_before before)) ∷ []
+    if list_all (λ v. nat_lt v width) levels then piece kinds.Indent None (text_before (before_line before))
+    (text_before (line_so_far before)) (place_after (text_before before)) ∷ []
     else (if list_any (λ v. v == width) levels then dedents width levels (text_before before) (place_after (text_before before))
     else fault_at errors.UnindentMismatch (place_after (text_before before)) ∷ [])
 

@@ -1,5 +1,6 @@
 -- Laws of lexemes and listings, in words that name no step of a lister (reference 2.1 to 2.6).
-use Rattle.std.specs.Prelude.{◌≡◌, ℕ, ◌+◌, ◌≤◌, ◌<◌, nat_lt, Bool, true, false, List, [], ◌∷◌, ◌++◌, length, take, filter, map, count_by, slice_range, Some, None, All, AllPairs, IsTrue, ◌||◌}
+use Rattle.std.specs.Prelude.{◌≡◌, ℕ, ◌+◌, ◌≤◌, ◌<◌, nat_lt, Bool, true, false, List, [], ◌∷◌, ◌++◌, length, take, filter, map, count_by}
+use Rattle.std.specs.Prelude.{slice_range, Some, None, All, AllPairs, IsTrue, ◌||◌}
 use Rattle.std.specs.List.{flat_map}
 use Rattle.std.specs.Str.{chars, encode_utf8_all, IsCharBoundary}
 use Rattle.pylex.specs.declared.kind.Kind.TheVariants as kinds
@@ -137,8 +138,10 @@ pub record ClosesBlocks (s : Source) : Type 0 where
 abbrev pub LevelsAreAStack : Type 0
 LevelsAreAStack = (w : ℕ) (widths : List ℕ) → open_levels (w ∷ widths) ≡ filter (λ v. nat_lt v w) (open_levels widths) ++ w ∷ []
 
--- The laws of a listing, in words that its definition doesn't use: its lexemes are each the longest of its place, and joined are the text up to the stop;
--- its entries stand in order and don't overlap, with nothing but blanks and joins between them; it has one end; its blocks are closed; the levels
+-- The laws of a listing, in words that its definition doesn't use: its lexemes are each the longest of its place, and joined are the text
+-- up to the stop;
+-- its entries stand in order and don't overlap, with nothing but blanks and joins between them; it has one end; its blocks are closed; the
+-- levels
 -- that are open are a stack.
 pub record IsLawful (s : Source) : Type 0 where
   pub longest : (text : List ℕ) → LongestWins text

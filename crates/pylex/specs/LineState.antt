@@ -1,5 +1,6 @@
 -- How far a lister looks: the state of its line, its open levels, and what it meets next.
-use Rattle.std.specs.Prelude.{◌≡◌, ℕ, ◌+◌, ◌*◌, ◌^◌, ◌<◌, ◌≤◌, suc, Bool, true, false, not, ◌&&◌, ◌==◌, nat_lt, List, [], ◌∷◌, ◌++◌, length, drop, count_by, Some, None}
+use Rattle.std.specs.Prelude.{◌≡◌, ℕ, ◌+◌, ◌*◌, ◌^◌, ◌<◌, ◌≤◌, suc, Bool, true, false, not, ◌&&◌, ◌==◌, nat_lt, List, [], ◌∷◌, ◌++◌, length}
+use Rattle.std.specs.Prelude.{drop, count_by, Some, None}
 use Rattle.std.specs.List.{list_all, list_any}
 use Rattle.std.specs.Str.{chars, IsUtf8}
 use Rattle.pylex.specs.declared.entries.Emitted.{Emitted}
@@ -49,7 +50,17 @@ measured s = record {
 
 -- the state directly after an entry: a line is yet to be measured only at its start
 abbrev pub begun_anew : State → State
-begun_anew s = record { now = s.now; line = s.now; depth = s.depth; levels = s.levels; margin = not s.logical && (s.now.place.column == 0); width = 0; logical = s.logical; joined = false; lead = s.lead }
+begun_anew s = record {
+  now = s.now;
+  line = s.now;
+  depth = s.depth;
+  levels = s.levels;
+  margin = not s.logical && (s.now.place.column == 0);
+  width = 0;
+  logical = s.logical;
+  joined = false;
+  lead = s.lead;
+}
 
 -- the counts of a lister that has n more bytes to go stay small
 pub record HasRoom (p : LineState) (n : ℕ) : Type 0 where
@@ -99,7 +110,8 @@ GivesAt o (gives.Fault f) = Unit {0}
 
 -- the DEDENTs of the end and ENDMARKER
 abbrev pub closing : State → List Step
-closing s = dedents_at 0 s.levels s.now.offset (last_place s) ++ mark_at kinds.EndMarker s.now.offset (last_place s) (last_place s) ∷ steps.End ∷ []
+closing s = dedents_at 0 s.levels s.now.offset (last_place s) ++ mark_at kinds.EndMarker s.now.offset (last_place s)
+    (last_place s) ∷ steps.End ∷ []
 
 -- the width is that of an open level, of none but larger than all, or of none
 abbrev pub is_above : ℕ → List ℕ → Bool
@@ -111,11 +123,15 @@ is_level w levels = list_any (λ v. v == w) levels
 -- From a state before some characters, past lexemes that give nothing and past n DEDENTs, one after another, to a state before others.
 pub data Walks (t : State) (ds : List ℕ) : ℕ → State → List ℕ → Type 0 where
   stays : Walks t ds 0 t ds
-  silent : (n : ℕ) (s : State) (cs : List ℕ) (x : Lexeme) → (s.margin && begins_significant cs) ≡ false → lexeme_at cs ≡ Some x → entry_by s x ≡ [] → Walks t ds n (after s x) (drop (lexeme_len cs) cs) → Walks t ds n s cs
-  level : (n : ℕ) (s : State) (cs : List ℕ) → s.margin ≡ true → begins_significant cs ≡ true → is_level s.width s.levels ≡ true → count_by (nat_lt s.width) s.levels ≡ 0 → Walks t ds n (measured s) cs → Walks t ds n s cs
-  dedent : (n : ℕ) (s : State) (cs ls : List ℕ) (v : ℕ) → s.margin ≡ true → begins_significant cs ≡ true → s.levels ≡ ls ++ v ∷ [] → s.width < v → is_level s.width ls ≡ true → Walks t ds n (record s { levels = ls }) cs → Walks t ds (suc n) s cs
+  silent : (n : ℕ) (s : State) (cs : List ℕ) (x : Lexeme) → (s.margin && begins_significant cs) ≡ false → lexeme_at cs ≡ Some x
+      → entry_by s x ≡ [] → Walks t ds n (after s x) (drop (lexeme_len cs) cs) → Walks t ds n s cs
+  level : (n : ℕ) (s : State) (cs : List ℕ) → s.margin ≡ true → begins_significant cs ≡ true → is_level s.width s.levels ≡ true
+      → count_by (nat_lt s.width) s.levels ≡ 0 → Walks t ds n (measured s) cs → Walks t ds n s cs
+  dedent : (n : ℕ) (s : State) (cs ls : List ℕ) (v : ℕ) → s.margin ≡ true → begins_significant cs ≡ true → s.levels ≡ ls ++ v ∷ []
+      → s.width < v → is_level s.width ls ≡ true → Walks t ds n (record s { levels = ls }) cs → Walks t ds (suc n) s cs
 
--- What is met next: a lister that stands at p, before these characters, comes to q, before those, past what gives nothing, and there is what it meets.
+-- What is met next: a lister that stands at p, before these characters, comes to q, before those, past what gives nothing, and there is
+-- what it meets.
 pub record Comes (levels : List ℕ) (p : LineState) (cs : List ℕ) (q : LineState) (ds : List ℕ) : Type 0 where
   pub walks : Walks (with_levels q (0 ∷ levels)) ds 0 (with_levels p (0 ∷ levels)) cs
 
@@ -133,8 +149,10 @@ pub record EntryAhead (levels : List ℕ) (p : LineState) (cs : List ℕ) (e : E
 
 -- what gives a fault where a lister stands: a line whose width is that of no level, or a lexeme
 pub data GivesFault (levels : List ℕ) (q : LineState) (ds : List ℕ) (f : ListingFault) : Type 0 where
-  mismatch : q.margin ≡ true → begins_significant ds ≡ true → is_above q.width (0 ∷ levels) ≡ false → is_level q.width (0 ∷ levels) ≡ false → f ≡ record { code = errors.UnindentMismatch; place = q.now.place } → GivesFault levels q ds f
-  faulty : (x : Lexeme) → (q.margin && begins_significant ds) ≡ false → lexeme_at ds ≡ Some x → entry_by (with_levels q (0 ∷ levels)) x ≡ steps.Fault f ∷ [] → GivesFault levels q ds f
+  mismatch : q.margin ≡ true → begins_significant ds ≡ true → is_above q.width (0 ∷ levels) ≡ false → is_level q.width (0 ∷ levels) ≡ false
+      → f ≡ record { code = errors.UnindentMismatch; place = q.now.place } → GivesFault levels q ds f
+  faulty : (x : Lexeme) → (q.margin && begins_significant ds) ≡ false → lexeme_at ds ≡ Some x
+      → entry_by (with_levels q (0 ∷ levels)) x ≡ steps.Fault f ∷ [] → GivesFault levels q ds f
 
 -- a fault, where the lister comes to what gives it
 pub record FaultAhead (levels : List ℕ) (p : LineState) (cs : List ℕ) (f : ListingFault) : Type 0 where
@@ -176,9 +194,11 @@ pub record IsTop (levels : List ℕ) (top : ℕ) : Type 0 where
 
 -- the layout of a line by its width and the open levels above 0
 abbrev pub IsIndentation : ℕ → List ℕ → Indentation → Type 0
-IsIndentation w levels indentations.Level = (is_above w (0 ∷ levels) ≡ false) × (is_level w (0 ∷ levels) ≡ true) × (count_by (nat_lt w) (0 ∷ levels) ≡ 0) × (pushed w (0 ∷ levels) ≡ 0 ∷ levels)
+IsIndentation w levels indentations.Level = (is_above w (0 ∷ levels) ≡ false) × (is_level w (0 ∷ levels) ≡ true) ×
+    (count_by (nat_lt w) (0 ∷ levels) ≡ 0) × (pushed w (0 ∷ levels) ≡ 0 ∷ levels)
 IsIndentation w levels indentations.Indent = is_above w (0 ∷ levels) ≡ true
-IsIndentation w levels indentations.Dedent = (is_level w (0 ∷ levels) ≡ true) × (0 < length levels) × ((front : List ℕ) (v : ℕ) → levels ≡ front ++ v ∷ [] → w < v)
+IsIndentation w levels indentations.Dedent = (is_level w (0 ∷ levels) ≡ true) × (0 < length levels) × ((front : List ℕ) (v : ℕ)
+    → levels ≡ front ++ v ∷ [] → w < v)
 IsIndentation w levels indentations.Mismatch = (is_above w (0 ∷ levels) ≡ false) × (is_level w (0 ∷ levels) ≡ false)
 
 -- a lister that stands at p, before these characters, may as well stand at q, where no layout is due

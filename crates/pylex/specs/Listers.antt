@@ -22,7 +22,8 @@ pub record Listed : Type 0 where
   pub source : Parts
   pub shown : CursorParts
 
--- The lister stands in a source of which k entries have been given: it shows that source's cursor after them, and its own agrees with it from there on.
+-- The lister stands in a source of which k entries have been given: it shows that source's cursor after them, and its own agrees with it
+-- from there on.
 pub record StandsIn (l : Listed) (a : Source) (k : ℕ) : Type 0 where
   pub cursor : IsCursorOf l.shown a
   pub count : l.shown.given ≡ k
@@ -34,17 +35,30 @@ LeadsInto c p = (a : Source) × (IsCursorOf c a × Agrees a (in_characters p) c.
 
 -- the cursor that is shown at a state, directly after the last of k entries, which has text
 abbrev pub shown_at : ℕ → State → CursorParts
-shown_at k s = record { given = k; offset = s.now.offset; row = s.now.place.row; depth = s.depth; begun = s.logical; skip = 0; levels = s.levels }
+shown_at k s = record {
+  given = k;
+  offset = s.now.offset;
+  row = s.now.place.row;
+  depth = s.depth;
+  begun = s.logical;
+  skip = 0;
+  levels = s.levels;
+}
 
 -- From a state before some characters, past lexemes that give nothing and past n DEDENTs, to a state before others.
 pub data Passes (t : State) (ds : List ℕ) : ℕ → State → List ℕ → Type 0 where
   here : Passes t ds 0 t ds
-  lexeme : (n : ℕ) (s : State) (cs : List ℕ) (x : Lexeme) → lexeme_at cs ≡ Some x → gives s x ≡ [] → Passes t ds n (after s x) (drop (lexeme_len cs) cs) → Passes t ds n s cs
-  layout : (n : ℕ) (s : State) (cs : List ℕ) → s.margin ≡ true → begins_significant cs ≡ true → layout_of s ≡ dedents_at s.width s.levels s.now.offset s.now.place → Passes t ds n (measured s) cs → Passes t ds (count_by (nat_lt s.width) s.levels + n) s cs
+  lexeme : (n : ℕ) (s : State) (cs : List ℕ) (x : Lexeme) → lexeme_at cs ≡ Some x → gives s x ≡ []
+      → Passes t ds n (after s x) (drop (lexeme_len cs) cs) → Passes t ds n s cs
+  layout : (n : ℕ) (s : State) (cs : List ℕ) → s.margin ≡ true → begins_significant cs ≡ true
+      → layout_of s ≡ dedents_at s.width s.levels s.now.offset s.now.place → Passes t ds n (measured s) cs
+      → Passes t ds (count_by (nat_lt s.width) s.levels + n) s cs
 
--- From a lister to another by a step: in each source in which the first stands after k entries that step comes next, and the other stands after it.
+-- From a lister to another by a step: in each source in which the first stands after k entries that step comes next, and the other stands
+-- after it.
 abbrev pub NextStep : Listed → Step → Listed → Type 0
-NextStep old step new = (a : Source) (k : ℕ) → StandsIn old a k → (slice_get (listing a) k ≡ Some step) × StandsIn new a (k + entries_in step)
+NextStep old step new = (a : Source) (k : ℕ) → StandsIn old a k → (slice_get (listing a) k ≡ Some step) × StandsIn
+    new a (k + entries_in step)
 
 -- in each source in which the lister stands an INDENT comes next
 abbrev pub AwaitsIndent : Listed → Type 0
@@ -52,7 +66,16 @@ AwaitsIndent l = (a : Source) (k : ℕ) → StandsIn l a k → IsIndent (first_s
 
 -- a cursor, by its point, the levels above 0 that are open there, and the entries without text given after it
 abbrev pub shown_by : ℕ → Shown → List ℕ → ℕ → CursorParts
-shown_by k p levels skip = record { given = k; offset = p.offset; row = p.row; depth = p.depth; begun = p.begun; skip = skip; levels = 0 ∷ levels }
+shown_by k p levels skip = record {
+  given = k;
+  offset = p.offset;
+  row = p.row;
+  depth = p.depth;
+  begun = p.begun;
+  skip =
+      skip;
+  levels = 0 ∷ levels;
+}
 
 -- a state stands in a text before these characters
 pub record IsIn (text : List ℕ) (s : State) (ds : List ℕ) : Type 0 where
@@ -62,7 +85,8 @@ pub record IsIn (text : List ℕ) (s : State) (ds : List ℕ) : Type 0 where
   pub column : s.now.place.column ≡ length (last_line before)
   pub lead : s.lead ≡ lead_after Nothing (last_line before)
 
--- What a lister keeps beside its cursor: how far it has looked from the cursor's point on, and how many of the levels above 0 that are open there it has not closed.
+-- What a lister keeps beside its cursor: how far it has looked from the cursor's point on, and how many of the levels above 0 that are open
+-- there it has not closed.
 pub record Keeps (l : Listed) (p : LineState) (left levels : List ℕ) (nested tail : ℕ) : Type 0 where
   pub utf8 : IsUtf8 l.source.text
   pub small : length l.source.text ≤ source_limit
@@ -71,5 +95,6 @@ pub record Keeps (l : Listed) (p : LineState) (left levels : List ℕ) (nested t
   pub ascending : IsAscending 0 levels
   pub within : nested ≤ length levels
   pub placed : IsIn (chars l.source.text) (with_levels p (0 ∷ take nested levels)) (chars left)
-  pub came : Walks (with_levels p (0 ∷ take nested levels)) (chars left) (length levels - nested) (resumed l.shown (standing_by (in_characters l.source) l.shown).line) (standing_by (in_characters l.source) l.shown).left
+  pub came : Walks (with_levels p (0 ∷ take nested levels)) (chars left) (length levels - nested)
+      (resumed l.shown (standing_by (in_characters l.source) l.shown).line) (standing_by (in_characters l.source) l.shown).left
   pub stop : 0 < tail → StopAhead p (chars left)

@@ -1,5 +1,6 @@
 -- What a source is listed as. Each part speaks of all that stands before it.
-use Rattle.std.specs.Prelude.{ℕ, ◌+◌, Bool, true, false, not, ◌&&◌, ◌||◌, ◌==◌, List, [], ◌∷◌, ◌++◌, length, drop, reverse, if◌then◌else◌, Option, Some, None, option_map}
+use Rattle.std.specs.Prelude.{ℕ, ◌+◌, Bool, true, false, not, ◌&&◌, ◌||◌, ◌==◌, List, [], ◌∷◌, ◌++◌, length, drop, reverse, if◌then◌else◌}
+use Rattle.std.specs.Prelude.{Option, Some, None, option_map}
 use Rattle.std.specs.List.{take_while}
 use Rattle.std.specs.Str.{chars}
 use Rattle.pysource.specs.Places.{place_after}
@@ -54,10 +55,12 @@ entry_of before x = elim x.«class» [
   | Name ↦ lexeme_piece kinds.Name None before x.text
   | Number ↦ lexeme_piece kinds.Number None before x.text
   | String ↦ lexeme_piece kinds.String None before x.text
-  | Operator o ↦ if is_closer o && (depth before == 0) then fault_at errors.UnmatchedCloser (place_after (text_before before)) ∷ [] else lexeme_piece kinds.Op (Some o) before x.text
+  | Operator o ↦ if is_closer o && (depth before == 0) then fault_at errors.UnmatchedCloser (place_after (text_before before)) ∷ [] else
+      lexeme_piece kinds.Op (Some o) before x.text
   | Comment ↦ lexeme_piece kinds.Comment None before x.text
   | Blanks ↦ []
-  | LineEnd ↦ piece (line_end_kind before) None (text_before before) x.text (further (place_after (text_before before)) (length x.text)) ∷ []
+  | LineEnd ↦ piece (line_end_kind before) None (text_before before) x.text
+      (further (place_after (text_before before)) (length x.text)) ∷ []
   | Join ↦ []
 ]
 
@@ -88,7 +91,8 @@ begins_comment (c ∷ cs) = if is_blank_char c then begins_comment cs else c == 
 -- what the text's end gives to a line without LF: an empty NL after a comment line, nothing after a line of blanks, else an empty NEWLINE
 unfoldable pub line_end_of_last : List Lexeme → Place → List Step
 line_end_of_last before end =
-    if is_logical before then (if begins_comment (last_line (text_before before)) then [] else mark kinds.Newline (text_before before) end (further end 1) ∷ [])
+    if is_logical before then (if begins_comment (last_line (text_before before)) then [] else mark kinds.Newline (text_before before)
+    end (further end 1) ∷ [])
     else (if is_at_margin before then [] else mark kinds.Nl (text_before before) end end ∷ [])
 
 -- where the DEDENTs and ENDMARKER stand: on the row after the last line, or on that line if it holds blanks alone
@@ -103,7 +107,8 @@ ends_in_join (x ∷ before) = elim x.«class» [ Join ↦ true | _ ↦ false ]
 unfoldable pub tail : List Lexeme → Place → List Step
 tail before end =
     if not (depth before == 0) || ends_in_join before then fault_at errors.EofInStatement (record { row = row_after end; column = 0 }) ∷ []
-    else line_end_of_last before end ++ dedents 0 (open_levels (widths before)) (text_before before) (end_place before end) ++ mark kinds.EndMarker (text_before before) (end_place before end) (end_place before end) ∷ steps.End ∷ []
+    else line_end_of_last before end ++ dedents 0 (open_levels (widths before)) (text_before before) (end_place before end) ++ mark
+    kinds.EndMarker (text_before before) (end_place before end) (end_place before end) ∷ steps.End ∷ []
 
 -- what follows the lexemes of a text: what is left of it where the cut stops, and the fault of the line after it
 unfoldable pub stop : Option ListingFault → List Lexeme → List ℕ → List Step

@@ -1,5 +1,6 @@
 -- The listing as a lister makes it: by a state, which one lexeme after another changes.
-use Rattle.std.specs.Prelude.{ℕ, ◌+◌, ◌-◌, nat_lt, Bool, true, false, not, ◌&&◌, ◌||◌, ◌==◌, List, [], ◌∷◌, ◌++◌, length, filter, replicate, count_by, if◌then◌else◌, Option, Some, None}
+use Rattle.std.specs.Prelude.{ℕ, ◌+◌, ◌-◌, nat_lt, Bool, true, false, not, ◌&&◌, ◌||◌, ◌==◌, List, [], ◌∷◌, ◌++◌, length, filter, replicate}
+use Rattle.std.specs.Prelude.{count_by, if◌then◌else◌, Option, Some, None}
 use Rattle.std.specs.List.{list_all, list_any}
 use Rattle.pylex_lexeme.specs.declared.lexeme.Class.{Class}
 use Rattle.pylex_lexeme.specs.declared.lexeme.Class.TheVariants.{Name, Number, String, Operator, Comment, Blanks, LineEnd, Join}
@@ -38,10 +39,18 @@ pub record State : Type 0 where
 -- the place after a text that begins at a place
 abbrev pub place_past : Place → List ℕ → Place
 place_past p [] = p
-place_past p (c ∷ cs) = place_past (if c == line_feed then record { row = p.row + 1; column = 0 } else record { row = p.row; column = p.column + 1 }) cs
+place_past p (c ∷ cs) = place_past (if c == line_feed then record { row = p.row + 1; column = 0 } else record {
+  row = p.row;
+  column = p.column + 1;
+}) cs
 
 abbrev pub lead_after_char : LeadingChar → ℕ → LeadingChar
-lead_after_char f c = if c == line_feed then Nothing else elim f [ Nothing ↦ if is_blank_char c then Nothing else (if c == hash then Hash else Other) | Hash ↦ Hash | Other ↦ Other ]
+lead_after_char f c =
+    if c == line_feed then Nothing else elim f [
+      | Nothing ↦ if is_blank_char c then Nothing else (if c == hash then Hash else Other)
+      | Hash ↦ Hash
+      | Other ↦ Other
+    ]
 
 abbrev pub lead_after : LeadingChar → List ℕ → LeadingChar
 lead_after f [] = f
@@ -111,7 +120,8 @@ entry_by s x = elim x.«class» [
   | Name ↦ step_of kinds.Name None s.now (past s.now x.text) ∷ []
   | Number ↦ step_of kinds.Number None s.now (past s.now x.text) ∷ []
   | String ↦ step_of kinds.String None s.now (past s.now x.text) ∷ []
-  | Operator o ↦ if is_closer o && (s.depth == 0) then fault_at errors.UnmatchedCloser s.now.place ∷ [] else step_of kinds.Op (Some o) s.now (past s.now x.text) ∷ []
+  | Operator o ↦ if is_closer o && (s.depth == 0) then fault_at errors.UnmatchedCloser s.now.place ∷ [] else step_of kinds.Op (Some o) s.now
+      (past s.now x.text) ∷ []
   | Comment ↦ step_of kinds.Comment None s.now (past s.now x.text) ∷ []
   | Blanks ↦ []
   | LineEnd ↦ step_of (line_end_kind_of s) None s.now (behind s.now x.text) ∷ []
@@ -136,7 +146,8 @@ last_place s = record { row = if s.margin then s.now.place.row else row_after s.
 unfoldable pub tail_of : State → List Step
 tail_of s =
     if not (s.depth == 0) || s.joined then fault_at errors.EofInStatement (record { row = row_after s.now.place; column = 0 }) ∷ []
-    else last_line_end s ++ dedents_at 0 s.levels s.now.offset (last_place s) ++ mark_at kinds.EndMarker s.now.offset (last_place s) (last_place s) ∷ steps.End ∷ []
+    else last_line_end s ++ dedents_at 0 s.levels s.now.offset (last_place s) ++ mark_at kinds.EndMarker s.now.offset (last_place s)
+    (last_place s) ∷ steps.End ∷ []
 
 unfoldable pub stop_of : Option ListingFault → State → List ℕ → List Step
 stop_of fault s left =
@@ -155,7 +166,17 @@ abbrev pub first_point : Point
 first_point = record { place = record { row = 1; column = 0 }; offset = 0 }
 
 abbrev pub first_state : State
-first_state = record { now = first_point; line = first_point; depth = 0; levels = 0 ∷ []; margin = true; width = 0; logical = false; joined = false; lead = Nothing }
+first_state = record {
+  now = first_point;
+  line = first_point;
+  depth = 0;
+  levels = 0 ∷ [];
+  margin = true;
+  width = 0;
+  logical = false;
+  joined = false;
+  lead = Nothing;
+}
 
 -- steps, and what follows them unless they end
 abbrev pub behind_steps : List Step → List Step → List Step

@@ -1,5 +1,6 @@
 -- Spots: directly after an entry with text, where a lister's cursor says all of how it stands; and the lexemes from one to the next.
-use Rattle.std.specs.Prelude.{◌≡◌, ℕ, ◌+◌, ◌-◌, ◌^◌, ◌<◌, Bool, true, false, not, ◌&&◌, ◌==◌, if◌then◌else◌, List, length, count_by, Option, Some, None}
+use Rattle.std.specs.Prelude.{◌≡◌, ℕ, ◌+◌, ◌-◌, ◌^◌, ◌<◌, Bool, true, false, not, ◌&&◌, ◌==◌, if◌then◌else◌, List, length, count_by, Option}
+use Rattle.std.specs.Prelude.{Some, None}
 use Rattle.pysource.specs.Parts.{Parts}
 use Rattle.pysource.specs.Places.{is_lf}
 use Rattle.pylex_lexeme.specs.declared.kinds.Exact.{Exact}
@@ -16,7 +17,15 @@ use Rattle.pylex.specs.Listers.{Listed}
 
 -- the cursor at a spot, where these levels are open
 abbrev pub spot_cursor : Spot → List ℕ → CursorParts
-spot_cursor s levels = record { given = s.given; offset = s.offset; row = s.row; depth = s.depth; begun = s.begun; skip = 0; levels = levels }
+spot_cursor s levels = record {
+  given = s.given;
+  offset = s.offset;
+  row = s.row;
+  depth = s.depth;
+  begun = s.begun;
+  skip = 0;
+  levels = levels;
+}
 
 -- a lister that stands at a spot of a source
 abbrev pub at_spot : Parts → Spot → List ℕ → Listed

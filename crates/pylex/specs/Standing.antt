@@ -1,5 +1,6 @@
 -- How a lister stands, and what a cursor says of it.
-use Rattle.std.specs.Prelude.{◌≡◌, ℕ, ◌-◌, ◌≤◌, nat_le, Bool, true, false, not, ◌&&◌, ◌==◌, List, [], ◌∷◌, length, drop, if◌then◌else◌, Option}
+use Rattle.std.specs.Prelude.{◌≡◌, ℕ, ◌-◌, ◌≤◌, nat_le, Bool, true, false, not, ◌&&◌, ◌==◌, List, [], ◌∷◌, length, drop, if◌then◌else◌}
+use Rattle.std.specs.Prelude.{Option}
 use Rattle.pylex.specs.declared.entries.ListingFault.{ListingFault}
 use Rattle.pylex.specs.declared.entries.Step.{Step}
 use Rattle.pylex.specs.declared.kind.Kind.TheVariants as kinds
@@ -38,7 +39,18 @@ standing s k = standing_by s (cursor s k)
 unfoldable pub resumed : CursorParts → List ℕ → State
 resumed c line =
     let p : Point = record { place = record { row = c.row; column = length line }; offset = c.offset } in
-    record { now = p; line = p; depth = c.depth; levels = c.levels; margin = not c.begun && (length line == 0); width = 0; logical = c.begun; joined = false; lead = lead_after Nothing line }
+    record {
+      now = p;
+      line = p;
+      depth = c.depth;
+      levels = c.levels;
+      margin = not c.begun && (length line == 0);
+      width = 0;
+      logical =
+          c.begun;
+      joined = false;
+      lead = lead_after Nothing line;
+    }
 
 -- what a lister still gives
 unfoldable pub to_give : Standing → List Step

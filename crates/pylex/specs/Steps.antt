@@ -15,11 +15,25 @@ use Rattle.pylex.specs.declared.entries.Step.TheVariants as steps
 
 -- the entry of a piece of the text, by the text before it and its end
 abbrev pub piece : Kind → Option Exact → List ℕ → List ℕ → Place → Step
-piece k e earlier t end = steps.Entry (record { kind = k; exact = e; start = place_after earlier; «end» = end; «from» = bytes_in earlier; to = bytes_in earlier + bytes_in t })
+piece k e earlier t end = steps.Entry (record {
+  kind = k;
+  exact = e;
+  start = place_after earlier;
+  «end» = end;
+  «from» = bytes_in earlier;
+  to = bytes_in earlier + bytes_in t;
+})
 
 -- an entry of empty text that stands after a text, with its places
 abbrev pub mark : Kind → List ℕ → Place → Place → Step
-mark k earlier start end = steps.Entry (record { kind = k; exact = None; start = start; «end» = end; «from» = bytes_in earlier; to = bytes_in earlier })
+mark k earlier start end = steps.Entry (record {
+  kind = k;
+  exact = None;
+  start = start;
+  «end» = end;
+  «from» = bytes_in earlier;
+  to = bytes_in earlier;
+})
 
 abbrev pub fault_at : ListingError → Place → Step
 fault_at c p = steps.Fault (record { code = c; place = p })

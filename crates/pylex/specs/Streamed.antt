@@ -1,5 +1,6 @@
 -- How a lister stands that reads its source line by line.
-use Rattle.std.specs.Prelude.{◌≡◌, ◌≢◌, ◌⊎◌, ℕ, ◌+◌, ◌<◌, ◌≤◌, Bool, true, List, [], ◌++◌, length, take, suc, false, slice_get, Option, Some, None, Result, Ok, IfOk, OnErr}
+use Rattle.std.specs.Prelude.{◌≡◌, ◌≢◌, ◌⊎◌, ℕ, ◌+◌, ◌<◌, ◌≤◌, Bool, true, List, [], ◌++◌, length, take, suc, false, slice_get, Option}
+use Rattle.std.specs.Prelude.{Some, None, Result, Ok, IfOk, OnErr}
 use Rattle.std.specs.declared.alloc.AllocError.{AllocError}
 use Rattle.std.specs.Str.{chars}
 use Rattle.pysource.specs.Bytes.{Seen}
@@ -33,7 +34,8 @@ use Rattle.pylex.specs.Laws.{LiesIn}
 use Rattle.pylex.specs.Standing.{IsCursorOf}
 use Rattle.pylex.specs.Listers.{StandsIn, Keeps}
 
--- A lister over lines: the lines that are to come, the cursor that it shows, the text that it holds and where that begins, how far it has looked, and the entry that it gave last.
+-- A lister over lines: the lines that are to come, the cursor that it shows, the text that it holds and where that begins, how far it has
+-- looked, and the entry that it gave last.
 pub record Streamed : Type 0 where
   pub lines : Buffered
   pub shown : CursorParts
@@ -62,9 +64,11 @@ pub record IsHeld (base : ℕ) (held : List ℕ) (e : Entry) : Type 0 where
 -- if an entry was given last, its text is held, and for the encoding, which has none in the source, nothing
 abbrev pub HoldsLast : ℕ → List ℕ → List ℕ → Option Entry → Type 0
 HoldsLast base held text None = Unit {0}
-HoldsLast base held text (Some e) = ((e.kind ≡ kinds.Encoding) × (held ≡ [])) ⊎ ((e.kind ≢ kinds.Encoding) × IsHeld base held e × LiesIn text e)
+HoldsLast base held text (Some e) =
+    ((e.kind ≡ kinds.Encoding) × (held ≡ [])) ⊎ ((e.kind ≢ kinds.Encoding) × IsHeld base held e × LiesIn text e)
 
--- Where these bytes follow, and perhaps a failed read, the lister stands in a source of which k entries have been given: the text that it holds is whole lines of that, and after them comes what is to come.
+-- Where these bytes follow, and perhaps a failed read, the lister stands in a source of which k entries have been given: the text that it
+-- holds is whole lines of that, and after them comes what is to come.
 pub record StreamsIn (v : Streamed) (p : Parts) (k : ℕ) (more : List ℕ) (broken : Bool) : Type 0 where
   pub before : List ℕ
   pub whole : p.text ≡ before ++ (v.held ++ (ahead v more broken).text)
@@ -87,9 +91,11 @@ pub record Begins (seen_old seen_new : Seen) (v : Streamed) (k : ℕ) : Type 0 w
   pub reads : ReadsBytes seen_old seen_new reach.Reading v.lines.reach 0 v.lines.count taken
   -- no more is taken past the lines that are held, and those that decide the encoding, than one read gives
   pub ahead : (length v.lines.pending ≤ 8_192) ⊎ (v.lines.count ≤ 8_192 + head_len taken)
-  pub stands : (more : List ℕ) (broken : Bool) → Continues v.lines more broken → (p : Parts) × (stream_of broken (taken ++ more) ≡ Ok p) × StreamsIn v p k more broken
+  pub stands : (more : List ℕ) (broken : Bool) → Continues v.lines more broken → (p : Parts) × (stream_of broken (taken ++ more) ≡ Ok p) ×
+      StreamsIn v p k more broken
 
--- A lister that has begun at a source's start: nothing is held, and no more is taken past the lines that decide the encoding than one read gives.
+-- A lister that has begun at a source's start: nothing is held, and no more is taken past the lines that decide the encoding than one read
+-- gives.
 pub record BeginsAnew (seen_old seen_new : Seen) (v : Streamed) : Type 0 where
   pub begins : Begins seen_old seen_new v 0
   pub ahead : v.lines.count ≤ 8_192 + head_len begins.taken
@@ -107,7 +113,8 @@ IsAhead old new (steps.Entry e) = Ahead old new
 IsAhead old new steps.End = Unit {0}
 IsAhead old new (steps.Fault f) = Unit {0}
 
--- A line has to be read: past what gives nothing, nothing is left of the lines held, or a literal that is open, and it isn't so that nothing comes but the end, or one fault.
+-- A line has to be read: past what gives nothing, nothing is left of the lines held, or a literal that is open, and it isn't so that
+-- nothing comes but the end, or one fault.
 pub record AwaitsLine (v : Streamed) : Type 0 where
   pub begun : 0 < v.shown.given
   pub there : LineState
@@ -117,18 +124,22 @@ pub record AwaitsLine (v : Streamed) : Type 0 where
   pub lacks : (behind ≡ []) ⊎ (is_open_string behind ≡ true)
   pub line : MayCome v.lines
 
--- A step: in each source in which the lister stood it comes next, and the lister stands after it. If memory runs out, it stands where it stood.
+-- A step: in each source in which the lister stood it comes next, and the lister stands after it. If memory runs out, it stands where it
+-- stood.
 -- Memory runs out only where a line has to be read, or an INDENT comes next. After the end, a fault and a failed read that is never so.
 pub record Next (seen_old seen_new : Seen) (old new : Streamed) (result : Result Step AllocError) : Type 0 where
   pub taken : List ℕ
   pub reads : Reads seen_old seen_new old.lines new.lines taken
   pub follows : (more : List ℕ) (broken : Bool) → Continues new.lines more broken → Continues old.lines (taken ++ more) broken
-  pub steps : IfOk result (λ step. (p : Parts) (k : ℕ) (more : List ℕ) (broken : Bool) → Continues new.lines more broken → StreamsIn old p k (taken ++ more) broken
+  pub steps : IfOk result (λ step. (p : Parts) (k : ℕ) (more : List ℕ) (broken : Bool) → Continues new.lines more broken
+      → StreamsIn old p k (taken ++ more) broken
       → (slice_get (listing (in_characters p)) k ≡ Some step) × StreamsIn new p (k + entries_in step) more broken)
   pub last : IfOk result (IsLast new)
   pub ahead : IfOk result (IsAhead old.lines new.lines)
-  pub same : OnErr result ((p : Parts) (k : ℕ) (more : List ℕ) (broken : Bool) → Continues new.lines more broken → StreamsIn old p k (taken ++ more) broken → StreamsIn new p k more broken)
-  pub refused : OnErr result (AwaitsLine old ⊎ ((p : Parts) (k : ℕ) (more : List ℕ) (broken : Bool) → Continues new.lines more broken → StreamsIn old p k (taken ++ more) broken → IsIndent (first_step (rest (in_characters p) k))))
+  pub same : OnErr result ((p : Parts) (k : ℕ) (more : List ℕ) (broken : Bool) → Continues new.lines more broken
+      → StreamsIn old p k (taken ++ more) broken → StreamsIn new p k more broken)
+  pub refused : OnErr result (AwaitsLine old ⊎ ((p : Parts) (k : ℕ) (more : List ℕ) (broken : Bool) → Continues new.lines more broken
+      → StreamsIn old p k (taken ++ more) broken → IsIndent (first_step (rest (in_characters p) k))))
   pub ended : IfOk result (λ step. IsNoEntry step → AwaitsLine new → ⊥)
 
 -- a source's listing ends by a line that could not be read whole, before this many entries
@@ -141,7 +152,9 @@ pub record Misses (seen_old seen_new : Seen) (cursor : CursorParts) (unread : Bo
   pub taken : List ℕ
   pub lines : Buffered
   pub reads : ReadsBytes seen_old seen_new reach.Reading lines.reach 0 lines.count taken
-  pub misses : (more : List ℕ) (broken : Bool) → Continues lines more broken → (p : Parts) × (stream_of broken (taken ++ more) ≡ Ok p) × (IsCursorOf cursor (in_characters p) → ⊥) × (unread ≡ true → EndsUnread p cursor.given) × (unread ≡ false → EndsUnread p cursor.given → ⊥)
+  pub misses : (more : List ℕ) (broken : Bool) → Continues lines more broken → (p : Parts) × (stream_of broken (taken ++ more) ≡ Ok p) ×
+      (IsCursorOf cursor (in_characters p) → ⊥) × (unread ≡ true → EndsUnread p cursor.given) × (unread ≡ false
+      → EndsUnread p cursor.given → ⊥)
 
 -- a call took bytes from a reader
 pub record Took (seen_old seen_new : Seen) : Type 0 where
@@ -151,7 +164,9 @@ pub record Took (seen_old seen_new : Seen) : Type 0 where
 
 -- why a lister could not resume after a cursor
 abbrev pub ResumeRefusal : Seen → Seen → CursorParts → ResumeFault → Type 0
-ResumeRefusal seen_old seen_new cursor (resumes.Stream fault) = Refuses seen_old seen_new fault ⊎ (((fault ≡ faults.Read) × Misses seen_old seen_new cursor true) ⊎ ((fault ≡ faults.Memory) × Took seen_old seen_new))
+ResumeRefusal seen_old seen_new cursor (resumes.Stream fault) =
+    Refuses seen_old seen_new fault ⊎ (((fault ≡ faults.Read) × Misses seen_old seen_new cursor true) ⊎
+    ((fault ≡ faults.Memory) × Took seen_old seen_new))
 ResumeRefusal seen_old seen_new cursor resumes.AnotherSource = Misses seen_old seen_new cursor false
 
 -- a step reports a line that could not be read whole

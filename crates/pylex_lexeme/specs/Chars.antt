@@ -6,8 +6,11 @@ use Rattle.std.specs.Prelude.{ℕ, Bool, true, false, ◌&&◌, ◌||◌, ◌==�
 use Rattle.std.specs.Str.{encode_utf8_all}
 use Rattle.unicode_ident.specs.Ident.{is_xid_start, is_xid_continue}
 use Rattle.pylex_lexeme.specs.declared.scanner.CharSet.{CharSet}
-use Rattle.pylex_lexeme.specs.declared.scanner.CharSet.TheVariants.{NamePart, Digit, CommentPart, Blank, One, HexDigit, OctalDigit, BinaryDigit, LetterX, LetterO, LetterB, LetterE, LetterJ, Sign, Quote, Any, LetterR, LetterBorF, PrefixLetter}
-use Rattle.pylex_lexeme.specs.Numbers.{is_decimal_digit, is_hex_digit, is_octal_digit, is_binary_digit, is_x, is_o, is_b, is_e, is_j, is_sign}
+use Rattle.pylex_lexeme.specs.declared.scanner.CharSet.TheVariants.{NamePart, Digit, CommentPart, Blank, One, HexDigit, OctalDigit}
+use Rattle.pylex_lexeme.specs.declared.scanner.CharSet.TheVariants.{BinaryDigit, LetterX, LetterO, LetterB, LetterE, LetterJ, Sign, Quote}
+use Rattle.pylex_lexeme.specs.declared.scanner.CharSet.TheVariants.{Any, LetterR, LetterBorF, PrefixLetter}
+use Rattle.pylex_lexeme.specs.Numbers.{is_decimal_digit, is_hex_digit, is_octal_digit, is_binary_digit, is_x, is_o, is_b, is_e, is_j}
+use Rattle.pylex_lexeme.specs.Numbers.{is_sign}
 use Rattle.pylex_lexeme.specs.Characters.{tab, line_feed, form_feed, carriage_return, space, double_quote, single_quote, low_line}
 
 -- what a name may begin with: XID_Start, or the low line

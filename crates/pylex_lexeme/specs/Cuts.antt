@@ -1,5 +1,6 @@
 -- One lexeme off the front of a text.
-use Rattle.std.specs.Prelude.{◌≡◌, ℕ, ◌+◌, ◌<◌, Bool, true, false, not, if◌then◌else◌, ◌&&◌, ◌==◌, List, [], ◌∷◌, ◌++◌, length, drop, Option, Some, option_map}
+use Rattle.std.specs.Prelude.{◌≡◌, ℕ, ◌+◌, ◌<◌, Bool, true, false, not, if◌then◌else◌, ◌&&◌, ◌==◌, List, [], ◌∷◌, ◌++◌, length, drop}
+use Rattle.std.specs.Prelude.{Option, Some, option_map}
 use Rattle.std.specs.Str.{chars, IsUtf8}
 use Rattle.pylex_lexeme.specs.declared.kinds.Exact.{Exact}
 use Rattle.pylex_lexeme.specs.declared.kinds.Exact.TheVariants.{LPar, RPar, LSqb, RSqb, LBrace, RBrace, Comma}
@@ -9,7 +10,8 @@ use Rattle.pylex_lexeme.specs.Strings.{opens_string}
 use Rattle.pylex_lexeme.specs.Lengths.{begins_number}
 use Rattle.pylex_lexeme.specs.Lexemes.{lexeme_at, lexeme_len}
 use Rattle.pylex_lexeme.specs.Chars.{bytes_in}
-use Rattle.pylex_lexeme.specs.Characters.{line_feed, carriage_return, hash, backslash, left_parenthesis, right_parenthesis, left_square_bracket, right_square_bracket, left_curly_bracket, right_curly_bracket, comma}
+use Rattle.pylex_lexeme.specs.Characters.{line_feed, carriage_return, hash, backslash, left_parenthesis, right_parenthesis}
+use Rattle.pylex_lexeme.specs.Characters.{left_square_bracket, right_square_bracket, left_curly_bracket, right_curly_bracket, comma}
 
 -- the longest lexeme at the front of old is taken, and its class is said; new is what is left, all of old where there is none
 pub record TakesLexeme (old : List ℕ) (k : Option Class) (new : List ℕ) : Type 0 where
@@ -18,7 +20,8 @@ pub record TakesLexeme (old : List ℕ) (k : Option Class) (new : List ℕ) : Ty
 
 -- what begins no name, comment, blanks, line end or join
 abbrev pub starts_other : ℕ → Bool
-starts_other c = not (starts_name c) && not (c == hash) && not (is_blank_char c) && not (c == line_feed) && not (c == carriage_return) && not (c == backslash)
+starts_other c = not (starts_name c) && not (c == hash) && not (is_blank_char c) && not (c == line_feed) && not
+    (c == carriage_return) && not (c == backslash)
 
 -- no lexeme but an operator begins here
 pub record BeginsOther (cs : List ℕ) : Type 0 where

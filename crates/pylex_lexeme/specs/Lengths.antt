@@ -2,13 +2,15 @@
 --
 -- Internal: they say what each reader of numbers and strings does. What a number and a string are, is said in Numbers
 -- and Strings.
-use Rattle.std.specs.Prelude.{◌≡◌, ℕ, ◌+◌, zero, suc, Bool, true, ◌&&◌, ◌||◌, ◌==◌, not, nat_lt, List, [], ◌∷◌, drop, take, ◌≤◌, length, if◌then◌else◌, Option, Some, None, option_map}
+use Rattle.std.specs.Prelude.{◌≡◌, ℕ, ◌+◌, zero, suc, Bool, true, ◌&&◌, ◌||◌, ◌==◌, not, nat_lt, List, [], ◌∷◌, drop, take, ◌≤◌, length}
+use Rattle.std.specs.Prelude.{if◌then◌else◌, Option, Some, None, option_map}
 use Rattle.pylex_lexeme.specs.Chars.{begins, is_r, is_b_or_f}
 use Rattle.pylex_lexeme.specs.declared.kinds.Exact.{Exact}
 use Rattle.pylex_lexeme.specs.Operators.{is_operator, exact_of}
 use Rattle.pylex_lexeme.specs.Lexemes.{longest_within}
 use Rattle.pylex_lexeme.specs.Strings.{units, is_unit, begins_quote, is_prefix}
-use Rattle.pylex_lexeme.specs.Numbers.{is_decimal_digit, is_zero, is_hex_digit, is_octal_digit, is_binary_digit, is_point, is_e, is_j, is_x, is_o, is_b, is_sign}
+use Rattle.pylex_lexeme.specs.Numbers.{is_decimal_digit, is_zero, is_hex_digit, is_octal_digit, is_binary_digit, is_point, is_e, is_j, is_x}
+use Rattle.pylex_lexeme.specs.Numbers.{is_o, is_b, is_sign}
 use Rattle.pylex_lexeme.specs.Characters.{line_feed, carriage_return, backslash, low_line}
 
 -- the length of the longest front that passes; 0 where there is none
@@ -91,7 +93,8 @@ begins_number cs = begins is_decimal_digit cs || (begins is_point cs && begins i
 -- how long a unit is
 unfoldable pub unit_len : List ℕ → ℕ
 unit_len cs =
-    if begins (λ c. c == backslash) cs then (if begins (λ c. c == carriage_return) (drop 1 cs) && begins (λ c. c == line_feed) (drop 2 cs) then 3 else 2)
+    if begins (λ c. c == backslash) cs then (if begins (λ c. c == carriage_return) (drop 1 cs) && begins (λ c. c == line_feed)
+    (drop 2 cs) then 3 else 2)
     else 1
 
 -- u more, but nothing stays nothing
@@ -102,7 +105,8 @@ shift u (suc n) = u + suc n
 -- the length of the units up to the first that is the quote, or 0
 abbrev pub single_of : ℕ → List (List ℕ) → ℕ
 single_of q [] = 0
-single_of q (u ∷ us) = if is_unit q u then 1 else (if is_unit carriage_return u || is_unit line_feed u then 0 else shift (length u) (single_of q us))
+single_of q (u ∷ us) =
+    if is_unit q u then 1 else (if is_unit carriage_return u || is_unit line_feed u then 0 else shift (length u) (single_of q us))
 
 -- the length of the units up to the first three that are the quote, or 0
 abbrev pub triple_of : ℕ → List (List ℕ) → ℕ
@@ -142,4 +146,6 @@ begins_pair cs = (begins is_r cs && begins is_b_or_f (drop 1 cs)) || (begins is_
 
 -- a backslash and a line end
 abbrev pub begins_join : List ℕ → Bool
-begins_join cs = begins (λ c. c == backslash) cs && (begins (λ c. c == line_feed) (drop 1 cs) || (begins (λ c. c == carriage_return) (drop 1 cs) && begins (λ c. c == line_feed) (drop 1 (drop 1 cs))))
+begins_join cs = begins (λ c. c == backslash) cs &&
+    (begins (λ c. c == line_feed) (drop 1 cs) || (begins (λ c. c == carriage_return) (drop 1 cs) && begins
+    (λ c. c == line_feed) (drop 1 (drop 1 cs))))

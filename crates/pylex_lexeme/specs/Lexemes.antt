@@ -1,5 +1,6 @@
 -- The classes of lexemes, as sets of texts, and the cut of a text (reference 2.1 and 2.3 to 2.6).
-use Rattle.std.specs.Prelude.{ℕ, ◌-◌, Bool, true, false, ◌&&◌, ◌||◌, ◌==◌, not, List, [], ◌∷◌, length, take, drop, if◌then◌else◌, Option, Some, None, is_some, option_map, zero, suc}
+use Rattle.std.specs.Prelude.{ℕ, ◌-◌, Bool, true, false, ◌&&◌, ◌||◌, ◌==◌, not, List, [], ◌∷◌, length, take, drop, if◌then◌else◌, Option}
+use Rattle.std.specs.Prelude.{Some, None, is_some, option_map, zero, suc}
 use Rattle.std.specs.List.{list_all, flat_map}
 use Rattle.std.specs.Str.{bytes_eq}
 use Rattle.unicode_ident.specs.Ident.{is_xid_continue}
@@ -91,7 +92,8 @@ left_by_cut cs = drop (length (flat_map (λ x. x.text) (cut cs))) cs
 -- no unit is the quote, a CR or an LF, and the last one is a backslash and a line end
 abbrev pub ends_by_join : ℕ → List (List ℕ) → Bool
 ends_by_join q [] = false
-ends_by_join q (u ∷ us) = not (is_unit q u || is_unit carriage_return u || is_unit line_feed u) && (if no_units us then is_join u else ends_by_join q us)
+ends_by_join q (u ∷ us) = not (is_unit q u || is_unit carriage_return u || is_unit line_feed u) &&
+    (if no_units us then is_join u else ends_by_join q us)
 
 -- a quote, and units up to a join
 abbrev pub is_joined : List ℕ → Bool

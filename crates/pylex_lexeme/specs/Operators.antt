@@ -3,7 +3,13 @@ use Rattle.std.specs.Prelude.{ℕ, Bool, true, false, List, [], ◌∷◌, codes
 use Rattle.std.specs.List.{find}
 use Rattle.std.specs.Str.{bytes_eq}
 use Rattle.pylex_lexeme.specs.declared.kinds.Exact.{Exact}
-use Rattle.pylex_lexeme.specs.declared.kinds.Exact.TheVariants.{LPar, RPar, LSqb, RSqb, LBrace, RBrace, Colon, Comma, Semi, Plus, Minus, Star, Slash, VBar, Amper, Less, Greater, Equal, Dot, Percent, EqEqual, NotEqual, LessEqual, GreaterEqual, Tilde, Circumflex, LeftShift, RightShift, DoubleStar, PlusEqual, MinEqual, StarEqual, SlashEqual, PercentEqual, AmperEqual, VBarEqual, CircumflexEqual, LeftShiftEqual, RightShiftEqual, DoubleStarEqual, DoubleSlash, DoubleSlashEqual, At, AtEqual, RArrow, Ellipsis, ColonEqual}
+use Rattle.pylex_lexeme.specs.declared.kinds.Exact.TheVariants.{LPar, RPar, LSqb, RSqb, LBrace, RBrace, Colon, Comma, Semi, Plus, Minus}
+use Rattle.pylex_lexeme.specs.declared.kinds.Exact.TheVariants.{Star, Slash, VBar, Amper, Less, Greater, Equal, Dot, Percent, EqEqual}
+use Rattle.pylex_lexeme.specs.declared.kinds.Exact.TheVariants.{NotEqual, LessEqual, GreaterEqual, Tilde, Circumflex, LeftShift, RightShift}
+use Rattle.pylex_lexeme.specs.declared.kinds.Exact.TheVariants.{DoubleStar, PlusEqual, MinEqual, StarEqual, SlashEqual, PercentEqual}
+use Rattle.pylex_lexeme.specs.declared.kinds.Exact.TheVariants.{AmperEqual, VBarEqual, CircumflexEqual, LeftShiftEqual, RightShiftEqual}
+use Rattle.pylex_lexeme.specs.declared.kinds.Exact.TheVariants.{DoubleStarEqual, DoubleSlash, DoubleSlashEqual, At, AtEqual, RArrow}
+use Rattle.pylex_lexeme.specs.declared.kinds.Exact.TheVariants.{Ellipsis, ColonEqual}
 
 pub record Operator : Type 0 where
   pub spelling : List ℕ
@@ -23,7 +29,8 @@ operators =
     op (codes "~") Tilde ∷ op (codes "^") Circumflex ∷ op (codes "<<") LeftShift ∷ op (codes ">>") RightShift ∷
     op (codes "**") DoubleStar ∷ op (codes "+=") PlusEqual ∷ op (codes "-=") MinEqual ∷ op (codes "*=") StarEqual ∷
     op (codes "/=") SlashEqual ∷ op (codes "%=") PercentEqual ∷ op (codes "&=") AmperEqual ∷ op (codes "|=") VBarEqual ∷
-    op (codes "^=") CircumflexEqual ∷ op (codes "<<=") LeftShiftEqual ∷ op (codes ">>=") RightShiftEqual ∷ op (codes "**=") DoubleStarEqual ∷
+    op (codes "^=") CircumflexEqual ∷ op (codes "<<=") LeftShiftEqual ∷ op (codes ">>=") RightShiftEqual ∷ op
+    (codes "**=") DoubleStarEqual ∷
     op (codes "//") DoubleSlash ∷ op (codes "//=") DoubleSlashEqual ∷ op (codes "@") At ∷ op (codes "@=") AtEqual ∷
     op (codes "->") RArrow ∷ op (codes "...") Ellipsis ∷ op (codes ":=") ColonEqual ∷
     []

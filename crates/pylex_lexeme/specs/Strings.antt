@@ -1,5 +1,6 @@
 -- What a string is, as tests on whole texts (lists of code points).
-use Rattle.std.specs.Prelude.{ℕ, ◌+◌, Bool, true, false, not, ◌&&◌, ◌||◌, ◌==◌, nat_le, List, [], ◌∷◌, map, take, drop, codes, if◌then◌else◌}
+use Rattle.std.specs.Prelude.{ℕ, ◌+◌, Bool, true, false, not, ◌&&◌, ◌||◌, ◌==◌, nat_le, List, [], ◌∷◌, map, take, drop, codes}
+use Rattle.std.specs.Prelude.{if◌then◌else◌}
 use Rattle.std.specs.List.{list_any}
 use Rattle.std.specs.Str.{bytes_eq}
 use Rattle.pylex_lexeme.specs.declared.string.Quote.{Quote}
@@ -45,7 +46,8 @@ no_units (u ∷ us) = false
 -- shortstringchar ::= <any source character except "\" or newline or the quote>
 abbrev pub ends_by_one : ℕ → List (List ℕ) → Bool
 ends_by_one q [] = false
-ends_by_one q (u ∷ us) = if is_unit q u then no_units us else not (is_unit carriage_return u) && not (is_unit line_feed u) && ends_by_one q us
+ends_by_one q (u ∷ us) = if is_unit q u then no_units us else not (is_unit carriage_return u) && not
+    (is_unit line_feed u) && ends_by_one q us
 
 -- the first three units in a row that are the quote are the last ones
 -- longstringchar ::= <any source character except "\">

@@ -122,6 +122,7 @@ fn other_atom(
 }
 
 /// The sign that has to stand after an expression.
+#[inline(never)]
 pub(crate) fn closed(tokens: &[Terminal], sign: Exact, e: Read) -> Result<Read, Stop>
     requires { e.next ≤ length tokens.now }
     ensures { Answered tokens.now e.height (e.next + 1)

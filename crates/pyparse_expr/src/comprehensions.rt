@@ -144,6 +144,7 @@ fn for_in(
 }
 
 /// A clause of these parts, if the first has target shape.
+#[inline(never)]
 fn clause_of(target: Read, iter: Read, ifs: Items, is_async: bool) -> Option<ForClause>
     ensures next { IfSome result (λ c. c.next ≡ ifs.next) }
     ensures is { option_map (λ c. comprehension_of c.generator) result
@@ -181,6 +182,7 @@ fn no_clauses(alloc: Global, at: usize) -> ForClauses
 
 /// Clauses with one more.
 #[tactic(auto, using(crate::proofs::ForClauses::ClausePushes::clause_pushed, crate::proofs::ForClauses::ClausePushes::clause_pushed_height))]
+#[inline(never)]
 fn push_clause(clauses: ForClauses, clause: ForClause) -> Result<ForClauses, Stop>
     ensures generators { MatchResult result
         (λ r. map comprehension_of r.generators.items

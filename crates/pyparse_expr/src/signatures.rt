@@ -1,6 +1,6 @@
 //! The parameters of a function, and `lambda`.
 
-ghost use Rattle.std.specs.Prelude.{◌≡◌, ◌+◌, ◌≤◌, ◌<◌, MatchResult, [], cond, length, max, true};
+ghost use Rattle.std.specs.Prelude.{◌≡◌, ◌+◌, ◌≤◌, ◌<◌, MatchResult, OnOk, [], cond, length, max, true};
 ghost use Rattle.std.specs.Str.{chars};
 ghost use Rattle.unicode_normalization.specs.Forms.{nfkc};
 ghost use Rattle.pytree_node.specs.TreeOf.{arg_of, boxed_of, tree_of};
@@ -26,8 +26,8 @@ use crate::levels::read_expression;
 use pygrammar::Level;
 use pylex::Exact;
 use pyparse_nodes::{
-    Formal, Optional, Parameter, Read, Stop, add_parameter, arranged, identifier_of, is_op,
-    make_lambda, make_starred, name_at, no_formal, terminal_at,
+    Formal, Optional, Parameter, Read, Stop, arranged, identifier_of, is_op, make_lambda,
+    make_starred, name_at, terminal_at,
 };
 use pytoken::Terminal;
 use pytree_node::{Arg, Expr};
@@ -94,41 +94,26 @@ fn no_parameters(alloc: Global, at: usize) -> Signature
     ensures next { result.next ≡ at }
 {
     Signature {
-        formal: no_formal(alloc),
+        formal: Formal::new(alloc),
         height: 0,
         next: at,
     }
 }
 
 /// One parameter more.
-fn with_parameter(before: Signature, one: ReadParameter) -> Result<Signature, Stop>
+#[inline(never)]
+fn put_parameter(signature: &mut Signature, one: ReadParameter) -> Result<(), Stop>
     ensures formal { MatchResult result
-        (λ r. state_of r.formal ≡ formals.step (state_of before.formal) (entry_of one.parameter))
+        (λ _. state_of signature.new.formal
+        ≡ formals.step (state_of signature.old.formal) (entry_of one.parameter))
         (λ s. s ≡ Stop.Memory) }
-    ensures height { MatchResult result (λ r. r.height ≡ max before.height one.height)
-        (λ s. s ≡ Stop.Memory) }
-    ensures next { MatchResult result (λ r. r.next ≡ one.next) (λ s. s ≡ Stop.Memory) }
+    ensures height { OnOk result (signature.new.height ≡ max signature.old.height one.height) }
+    ensures next { OnOk result (signature.new.next ≡ one.next) }
 {
-    let height = before.height.max(one.height);
-    let formal = add_parameter(before.formal, one.parameter)?;
-    Ok(Signature {
-        formal,
-        height,
-        next: one.next,
-    })
-}
-
-/// The same parameters, with another place after them.
-fn placed(signature: Signature, next: usize) -> Signature
-    ensures formal { state_of result.formal ≡ state_of signature.formal }
-    ensures height { result.height ≡ signature.height }
-    ensures next { result.next ≡ next }
-{
-    Signature {
-        formal: signature.formal,
-        height: signature.height,
-        next,
-    }
+    signature.formal.add(one.parameter)?;
+    signature.height = signature.height.max(one.height);
+    signature.next = one.next;
+    Ok(())
 }
 
 /// The sign in front of an annotation, where there may be one.
@@ -297,6 +282,7 @@ fn collected_parameter(
 
 /// A parameter, or a sign between parameters.
 #[cycle(reading)]
+#[inline(never)]
 fn read_parameter(
     alloc: Global,
     tokens: &[Terminal],
@@ -358,17 +344,16 @@ pub(crate) fn parameters(
         (reader.listing_of (inner_reads depth) (entries.Parameter annotated) []
         (seen tokens.now at))) }
 {
-    let mut before = no_parameters(alloc, at);
-    'more: while starts_parameter(tokens, before.next) {
-        let one = read_parameter(alloc, tokens, annotated, before.next, depth)?;
-        let signature = with_parameter(before, one)?;
+    let mut signature = no_parameters(alloc, at);
+    'more: while starts_parameter(tokens, signature.next) {
+        let one = read_parameter(alloc, tokens, annotated, signature.next, depth)?;
+        put_parameter(&mut signature, one)?;
         if !is_op(tokens, signature.next, Exact::Comma) {
             return Ok(signature);
         }
-        let next = signature.next + 1;
-        before = placed(signature, next);
+        signature.next += 1;
     }
-    Ok(before)
+    Ok(signature)
 }
 
 /// After a `lambda`.

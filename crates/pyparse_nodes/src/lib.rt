@@ -45,7 +45,7 @@ pub use makers::{
 };
 pub use marks::{Mark, Part, is_mark, part_at};
 pub use operators::{Infix, Prefix, comparison_at, infix_at, prefix_at};
-pub use parameters::{Formal, Parameter, Stage, add_parameter, arranged, no_formal};
+pub use parameters::{Formal, Parameter, Stage, arranged};
 pub use room::{append, put, put_keyword, put_option};
 pub use stop::Stop;
 pub use targets::store;

@@ -12,6 +12,7 @@ use crate::room::{append, put, put_option};
 use crate::stop::Stop;
 use pytree_node::{Arg, Arguments, Expr};
 use std::alloc::Global;
+use std::mem;
 
 /// How far the parameters have come.
 #[derive(Clone, Copy)]
@@ -55,165 +56,6 @@ fn put_arg(args: &mut Vec<Arg>, arg: Arg) -> Result<(), Stop>
     append(args, arg)
 }
 
-/// The same at another stage.
-fn staged(formal: Formal, stage: Stage) -> Formal
-    ensures { state_of result ≡ formals.staged stage (state_of formal) }
-{
-    let mut formal = formal;
-    formal.stage = stage;
-    formal
-}
-
-/// A `/`: what stood before it is positional only.
-fn add_slash(formal: Formal) -> Formal
-    ensures { state_of result ≡ formals.step (state_of formal) entries.Slashed }
-{
-    match formal.stage {
-        Stage::Open => if formal.args.is_empty() {
-            staged(formal, Stage::Wrong)
-        } else {
-            swapped(formal)
-        },
-        _ => staged(formal, Stage::Wrong),
-    }
-}
-
-/// What stood so far, as positional only.
-fn swapped(formal: Formal) -> Formal
-    ensures { state_of result ≡ formals.swapped (state_of formal) }
-{
-    let Formal {
-        posonlyargs,
-        args,
-        vararg,
-        kwonlyargs,
-        kw_defaults,
-        kwarg,
-        defaults,
-        stage: _,
-        defaulted,
-    } = formal;
-    Formal {
-        posonlyargs: args,
-        args: posonlyargs,
-        vararg,
-        kwonlyargs,
-        kw_defaults,
-        kwarg,
-        defaults,
-        stage: Stage::Closed,
-        defaulted,
-    }
-}
-
-/// A lone `*`.
-fn add_star(formal: Formal) -> Formal
-    ensures { state_of result ≡ formals.step (state_of formal) entries.Bare }
-{
-    match formal.stage {
-        Stage::Open => staged(formal, Stage::Lone),
-        Stage::Closed => staged(formal, Stage::Lone),
-        _ => staged(formal, Stage::Wrong),
-    }
-}
-
-/// A `*` and a parameter.
-fn add_gathered(formal: Formal, arg: Arg) -> Formal
-    ensures { state_of result ≡ formals.step (state_of formal) (entries.Gathered (arg_of arg)) }
-{
-    let mut formal = formal;
-    match formal.stage {
-        Stage::Open => {
-            formal.vararg = Some(arg);
-            staged(formal, Stage::Starred)
-        }
-        Stage::Closed => {
-            formal.vararg = Some(arg);
-            staged(formal, Stage::Starred)
-        }
-        _ => staged(formal, Stage::Wrong),
-    }
-}
-
-/// A `**` and a parameter.
-fn add_collected(formal: Formal, arg: Arg) -> Formal
-    ensures { state_of result ≡ formals.step (state_of formal) (entries.Collected (arg_of arg)) }
-{
-    let mut formal = formal;
-    match formal.stage {
-        Stage::Open => {
-            formal.kwarg = Some(arg);
-            staged(formal, Stage::Ended)
-        }
-        Stage::Closed => {
-            formal.kwarg = Some(arg);
-            staged(formal, Stage::Ended)
-        }
-        Stage::Starred => {
-            formal.kwarg = Some(arg);
-            staged(formal, Stage::Ended)
-        }
-        _ => staged(formal, Stage::Wrong),
-    }
-}
-
-/// A keyword-only parameter, with its default.
-#[tactic(auto, using(crate::proofs::FormalParameters::FormalSteps::pushed_optional))]
-fn put_keyword_only(formal: Formal, arg: Arg, default: Option<Box<Expr>>) -> Result<Formal, Stop>
-    ensures { MatchResult result
-        (λ r. state_of r ≡ formals.keyworded (state_of formal) (arg_of arg)
-        (optional (boxed_of default)))
-        (λ s. s ≡ Stop.Memory) }
-{
-    let mut formal = formal;
-    put_arg(&mut formal.kwonlyargs, arg)?;
-    put_option(&mut formal.kw_defaults, default)?;
-    Ok(staged(formal, Stage::Starred))
-}
-
-/// A parameter in front of the star, with its default.
-#[tactic(auto, using(crate::proofs::Callers::Pushes::pushed))]
-fn put_plain(formal: Formal, arg: Arg, default: Option<Box<Expr>>) -> Result<Formal, Stop>
-    ensures { MatchResult result
-        (λ r. state_of r ≡ formals.plainly (state_of formal) (arg_of arg)
-        (optional (boxed_of default)))
-        (λ s. s ≡ Stop.Memory) }
-{
-    let mut formal = formal;
-    match default {
-        Some(e) => {
-            put_arg(&mut formal.args, arg)?;
-            put(&mut formal.defaults, e)?;
-            formal.defaulted = true;
-            Ok(formal)
-        }
-        None => {
-            if formal.defaulted {
-                return Ok(staged(formal, Stage::Wrong));
-            }
-            put_arg(&mut formal.args, arg)?;
-            Ok(formal)
-        }
-    }
-}
-
-/// A parameter with no star, with its default.
-fn add_plain(formal: Formal, arg: Arg, default: Option<Box<Expr>>) -> Result<Formal, Stop>
-    ensures { MatchResult result
-        (λ r. state_of r ≡ formals.step (state_of formal)
-        (entries.Plain (arg_of arg) (optional (boxed_of default))))
-        (λ s. s ≡ Stop.Memory) }
-{
-    match formal.stage {
-        Stage::Open => put_plain(formal, arg, default),
-        Stage::Closed => put_plain(formal, arg, default),
-        Stage::Lone => put_keyword_only(formal, arg, default),
-        Stage::Starred => put_keyword_only(formal, arg, default),
-        Stage::Ended => Ok(staged(formal, Stage::Wrong)),
-        Stage::Wrong => Ok(staged(formal, Stage::Wrong)),
-    }
-}
-
 /// A parameter, as it stands in the source.
 #[derive(Drop)]
 pub enum Parameter {
@@ -229,35 +71,152 @@ pub enum Parameter {
     Collected(Arg),
 }
 
-/// No parameters.
-pub fn no_formal(alloc: Global) -> Formal
-    ensures { state_of result ≡ formals.start }
-{
-    Formal {
-        posonlyargs: Vec::new(alloc),
-        args: Vec::new(alloc),
-        vararg: None,
-        kwonlyargs: Vec::new(alloc),
-        kw_defaults: Vec::new(alloc),
-        kwarg: None,
-        defaults: Vec::new(alloc),
-        stage: Stage::Open,
-        defaulted: false,
+impl Formal {
+    /// No parameters.
+    pub fn new(alloc: Global) -> Formal
+        ensures { state_of result ≡ formals.start }
+    {
+        Formal {
+            posonlyargs: Vec::new(alloc),
+            args: Vec::new(alloc),
+            vararg: None,
+            kwonlyargs: Vec::new(alloc),
+            kw_defaults: Vec::new(alloc),
+            kwarg: None,
+            defaults: Vec::new(alloc),
+            stage: Stage::Open,
+            defaulted: false,
+        }
     }
-}
 
-/// One parameter more.
-pub fn add_parameter(formal: Formal, parameter: Parameter) -> Result<Formal, Stop>
-    ensures { MatchResult result
-        (λ r. state_of r ≡ formals.step (state_of formal) (entry_of parameter))
-        (λ s. s ≡ Stop.Memory) }
-{
-    match parameter {
-        Parameter::Plain(arg, default) => add_plain(formal, arg, default),
-        Parameter::Slashed => Ok(add_slash(formal)),
-        Parameter::Bare => Ok(add_star(formal)),
-        Parameter::Gathered(arg) => Ok(add_gathered(formal, arg)),
-        Parameter::Collected(arg) => Ok(add_collected(formal, arg)),
+    /// A `/`: what stood before it is positional only.
+    fn add_slash(&mut self)
+        ensures { state_of self.new ≡ formals.step (state_of self.old) entries.Slashed }
+    {
+        match self.stage {
+            Stage::Open => if self.args.is_empty() {
+                self.stage = Stage::Wrong;
+            } else {
+                mem::swap(&mut self.posonlyargs, &mut self.args);
+                self.stage = Stage::Closed;
+            },
+            _ => self.stage = Stage::Wrong,
+        }
+    }
+
+    /// A lone `*`.
+    fn add_star(&mut self)
+        ensures { state_of self.new ≡ formals.step (state_of self.old) entries.Bare }
+    {
+        self.stage = match self.stage {
+            Stage::Open => Stage::Lone,
+            Stage::Closed => Stage::Lone,
+            _ => Stage::Wrong,
+        };
+    }
+
+    /// A `*` and a parameter.
+    fn add_gathered(&mut self, arg: Arg)
+        ensures { state_of self.new
+            ≡ formals.step (state_of self.old) (entries.Gathered (arg_of arg)) }
+    {
+        match self.stage {
+            Stage::Open | Stage::Closed => {
+                self.vararg = Some(arg);
+                self.stage = Stage::Starred;
+            }
+            _ => self.stage = Stage::Wrong,
+        }
+    }
+
+    /// A `**` and a parameter.
+    fn add_collected(&mut self, arg: Arg)
+        ensures { state_of self.new
+            ≡ formals.step (state_of self.old) (entries.Collected (arg_of arg)) }
+    {
+        match self.stage {
+            Stage::Open | Stage::Closed | Stage::Starred => {
+                self.kwarg = Some(arg);
+                self.stage = Stage::Ended;
+            }
+            _ => self.stage = Stage::Wrong,
+        }
+    }
+
+    /// A keyword-only parameter, with its default.
+    #[tactic(auto, using(crate::proofs::FormalParameters::FormalSteps::pushed_optional))]
+    fn put_keyword_only(&mut self, arg: Arg, default: Option<Box<Expr>>) -> Result<(), Stop>
+        ensures { MatchResult result
+            (λ _. state_of self.new ≡ formals.keyworded (state_of self.old) (arg_of arg)
+            (optional (boxed_of default)))
+            (λ s. s ≡ Stop.Memory) }
+    {
+        put_arg(&mut self.kwonlyargs, arg)?;
+        put_option(&mut self.kw_defaults, default)?;
+        self.stage = Stage::Starred;
+        Ok(())
+    }
+
+    /// A parameter in front of the star, with its default.
+    #[tactic(auto, using(crate::proofs::Callers::Pushes::pushed))]
+    fn put_plain(&mut self, arg: Arg, default: Option<Box<Expr>>) -> Result<(), Stop>
+        ensures { MatchResult result
+            (λ _. state_of self.new ≡ formals.plainly (state_of self.old) (arg_of arg)
+            (optional (boxed_of default)))
+            (λ s. s ≡ Stop.Memory) }
+    {
+        match default {
+            Some(e) => {
+                put_arg(&mut self.args, arg)?;
+                put(&mut self.defaults, e)?;
+                self.defaulted = true;
+                Ok(())
+            }
+            None => {
+                if self.defaulted {
+                    self.stage = Stage::Wrong;
+                    return Ok(());
+                }
+                put_arg(&mut self.args, arg)
+            }
+        }
+    }
+
+    /// A parameter with no star, with its default.
+    fn add_plain(&mut self, arg: Arg, default: Option<Box<Expr>>) -> Result<(), Stop>
+        ensures { MatchResult result
+            (λ _. state_of self.new ≡ formals.step (state_of self.old)
+            (entries.Plain (arg_of arg) (optional (boxed_of default))))
+            (λ s. s ≡ Stop.Memory) }
+    {
+        match self.stage {
+            Stage::Open => self.put_plain(arg, default),
+            Stage::Closed => self.put_plain(arg, default),
+            Stage::Lone => self.put_keyword_only(arg, default),
+            Stage::Starred => self.put_keyword_only(arg, default),
+            Stage::Ended => {
+                self.stage = Stage::Wrong;
+                Ok(())
+            }
+            Stage::Wrong => Ok(()),
+        }
+    }
+
+    /// One parameter more.
+    #[inline(never)]
+    pub fn add(&mut self, parameter: Parameter) -> Result<(), Stop>
+        ensures { MatchResult result
+            (λ _. state_of self.new ≡ formals.step (state_of self.old) (entry_of parameter))
+            (λ s. s ≡ Stop.Memory) }
+    {
+        match parameter {
+            Parameter::Plain(arg, default) => return self.add_plain(arg, default),
+            Parameter::Slashed => self.add_slash(),
+            Parameter::Bare => self.add_star(),
+            Parameter::Gathered(arg) => self.add_gathered(arg),
+            Parameter::Collected(arg) => self.add_collected(arg),
+        }
+        Ok(())
     }
 }
 

@@ -54,16 +54,28 @@ unfolding declared_first
 conflict = refl
 
 -- `x\ry\n` has a carriage return alone at 1:1
-lone : source_of (codes "x\ry\n") ≡ Ok (record { encoding = plain; text = []; fault = Some (record { code = LoneReturn; place = record { row = 1; column = 1 } }) })
+lone : source_of (codes "x\ry\n") ≡ Ok
+    (record { encoding = plain; text = []; fault = Some (record { code = LoneReturn; place = record { row = 1; column = 1 } }) })
 unfolding declared_first lines_of good_text line_fault utf8_valid_len is_utf8 chars encode_utf8
 lone = refl
 
 -- `a\n`, then `b`, byte FF, LF
-bad : source_of (codes "a\nb" ++ 0xFF ∷ 10 ∷ []) ≡ Ok (record { encoding = plain; text = codes "a\n"; fault = Some (record { code = NotUtf8; place = record { row = 2; column = 1 } }) })
+bad : source_of (codes "a\nb" ++ 0xFF ∷ 10 ∷ []) ≡ Ok (record {
+  encoding = plain;
+  text = codes "a\n";
+  fault =
+      Some (record { code = NotUtf8; place = record { row = 2; column = 1 } });
+})
 unfolding declared_first lines_of good_text line_fault utf8_valid_len is_utf8 chars encode_utf8
 bad = refl
 
 -- `# coding: ascii\n# é\n`
-ascii : source_of (codes "# coding: ascii\n# " ++ 0xC3 ∷ 0xA9 ∷ 10 ∷ []) ≡ Ok (record { encoding = record { charset = Ascii; name = codes "ascii" }; text = codes "# coding: ascii\n"; fault = Some (record { code = NotAscii; place = record { row = 2; column = 2 } }) })
+ascii : source_of (codes "# coding: ascii\n# " ++ 0xC3 ∷ 0xA9 ∷ 10 ∷ []) ≡ Ok
+    (record {
+      encoding = record { charset = Ascii; name = codes "ascii" };
+      text = codes "# coding: ascii\n";
+      fault =
+          Some (record { code = NotAscii; place = record { row = 2; column = 2 } });
+    })
 unfolding declared_first lines_of good_text line_fault utf8_valid_len is_utf8 chars encode_utf8
 ascii = refl

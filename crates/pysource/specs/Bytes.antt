@@ -7,13 +7,15 @@ abbrev pub read_failures : {E : Type 0} → Result ℕ E → ℕ
 read_failures (Ok n) = 0
 read_failures (Err e) = 1
 
--- What a contract sees of a reader: the bytes that reads will give from here on, where they are known, how many reads failed, and whether one may fail, now or later.
+-- What a contract sees of a reader: the bytes that reads will give from here on, where they are known, how many reads failed, and whether
+-- one may fail, now or later.
 pub record Seen : Type 0 where
   pub to_come : Option (List ℕ)
   pub failures : ℕ
   pub may_fail : Bool
 
--- What a contract sees of a writer: the bytes that it took so far, where they are known, and how many writes failed, or took none of some bytes.
+-- What a contract sees of a writer: the bytes that it took so far, where they are known, and how many writes failed, or took none of some
+-- bytes.
 pub record Sent : Type 0 where
   pub taken : Option (List ℕ)
   pub failures : ℕ

@@ -4,12 +4,14 @@
 --     cookie_re = ^[ \t\f]*#.*?coding[:=][ \t]*([-\w.]+), where \w is of ASCII; in PEP 263: ^[ \t\f]*#.*?coding[:=][ \t]*([-_.a-zA-Z0-9]+)
 --     blank_re  = ^[ \t\f]*(?:[#\r\n]|$)
 -- A comment alone can, and in the second line only where the first is blank or another comment.
-use Rattle.std.specs.Prelude.{ℕ, Bool, ◌&&◌, ◌||◌, List, [], ◌∷◌, codes, length, take, drop, map, nat_lt, nat_eq, ◌==◌, Result, Ok, Err, slice_index, if◌then◌else◌}
+use Rattle.std.specs.Prelude.{ℕ, Bool, ◌&&◌, ◌||◌, List, [], ◌∷◌, codes, length, take, drop, map, nat_lt, nat_eq, ◌==◌, Result, Ok, Err}
+use Rattle.std.specs.Prelude.{slice_index, if◌then◌else◌}
 use Rattle.std.specs.List.{starts_with, prefix_len, take_while}
 use Rattle.std.specs.Str.{bytes_eq}
 use Rattle.std.specs.Int.{is_in_range}
 use Rattle.std.specs.Char.{to_ascii_lowercase}
-use Rattle.pysource.specs.Characters.{tab, line_feed, form_feed, carriage_return, space, hash, hyphen, full_stop, colon, equals_sign, low_line}
+use Rattle.pysource.specs.Characters.{tab, line_feed, form_feed, carriage_return, space, hash, hyphen, full_stop, colon, equals_sign}
+use Rattle.pysource.specs.Characters.{low_line}
 use Rattle.pysource.specs.Names.{Named}
 use Rattle.pysource.specs.declared.encodings.Charset.TheVariants.{Utf8, Ascii}
 use Rattle.pysource.specs.declared.places.Place.{Place}
@@ -26,7 +28,8 @@ is_blank b = is_space_or_tab b || b == form_feed
 
 -- a byte of a cookie, an ASCII digit or letter, `_`, `-` or `.`: [-_.a-zA-Z0-9]
 abbrev pub is_cookie_byte : ℕ → Bool
-is_cookie_byte b = (is_in_range 48 57 b || (is_in_range 65 90 b || is_in_range 97 122 b)) || (b == low_line || (b == hyphen || b == full_stop))
+is_cookie_byte b = (is_in_range 48 57 b || (is_in_range 65 90 b || is_in_range 97 122 b)) ||
+    (b == low_line || (b == hyphen || b == full_stop))
 
 -- the list after its longest front that passes
 abbrev pub drop_while : (ℕ → Bool) → List ℕ → List ℕ
@@ -78,12 +81,14 @@ abbrev pub is_ascii_name : List ℕ → Bool
 is_ascii_name cookie = is_spelled cookie (codes "ascii") || is_spelled cookie (codes "us-ascii")
 
 -- Which encoding a cookie in this row names, where a byte order mark stands in front or not.
--- After the mark it has to be UTF-8, and its name is always `utf-8`. Elsewhere the name is the cookie as it is written, but for `utf-8` itself.
+-- After the mark it has to be UTF-8, and its name is always `utf-8`. Elsewhere the name is the cookie as it is written, but for `utf-8`
+-- itself.
 abbrev pub named_by : Bool → ℕ → List ℕ → Result Named SourceFault
 named_by marked row cookie =
     if is_utf_8 cookie then Ok plain
     else (if is_spelled cookie (codes "utf8") then Ok (if marked then plain else record { charset = Utf8; name = cookie })
-    else (if is_ascii_name cookie then (if marked then Err (BomConflict (row_start row)) else Ok (record { charset = Ascii; name = cookie }))
+    else (if is_ascii_name cookie then (if marked then Err (BomConflict (row_start row)) else Ok
+    (record { charset = Ascii; name = cookie }))
     else Err (UnsupportedEncoding (row_start row))))
 
 -- the byte order mark of UTF-8

@@ -1,6 +1,7 @@
 -- The lines of bytes, and the first bad byte of a line. Python language reference, 2.1.2 "Physical lines":
 -- here a line ends at its line feed, and a carriage return directly before that belongs to the line end.
-use Rattle.std.specs.Prelude.{ℕ, zero, suc, ◌+◌, not, ◌&&◌, List, [], ◌∷◌, ◌++◌, length, take, nat_le, ◌==◌, slice_index, Option, None, Some, if◌then◌else◌}
+use Rattle.std.specs.Prelude.{ℕ, zero, suc, ◌+◌, not, ◌&&◌, List, [], ◌∷◌, ◌++◌, length, take, nat_le, ◌==◌, slice_index, Option, None}
+use Rattle.std.specs.Prelude.{Some, if◌then◌else◌}
 use Rattle.std.specs.List.{onto_first}
 use Rattle.std.specs.Option.{option_map_or}
 use Rattle.std.specs.Str.{chars}
@@ -50,5 +51,6 @@ good_text charset (line ∷ lines) = option_map_or (λ _. []) (first_bad charset
 unfoldable pub line_fault : Charset → ℕ → List (List ℕ) → Option LineFault
 line_fault charset row [] = None
 line_fault charset row (line ∷ lines) =
-    option_map_or (λ bad. Some (record { code = bad.1; place = record { row = row; column = length (chars (take bad.0 line)) } })) (first_bad charset line)
+    option_map_or (λ bad. Some (record { code = bad.1; place = record { row = row; column = length (chars (take bad.0 line)) } }))
+    (first_bad charset line)
     (line_fault charset (row + 1) lines)

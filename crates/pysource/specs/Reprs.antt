@@ -1,6 +1,7 @@
 -- The `repr` of a text, given as its code points, and of bytes. Python library reference, `repr` of the built-in functions,
 -- `str.isprintable` (which characters are escaped), and "Bytes Objects" of the built-in types.
-use Rattle.std.specs.Prelude.{ℕ, zero, suc, ◌/◌, ◌%◌, Bool, not, ◌&&◌, ◌||◌, List, [], ◌∷◌, ◌++◌, codes, nat_lt, nat_le, ◌==◌, if◌then◌else◌}
+use Rattle.std.specs.Prelude.{ℕ, zero, suc, ◌/◌, ◌%◌, Bool, not, ◌&&◌, ◌||◌, List, [], ◌∷◌, ◌++◌, codes, nat_lt, nat_le, ◌==◌}
+use Rattle.std.specs.Prelude.{if◌then◌else◌}
 use Rattle.std.specs.List.{list_any, flat_map}
 use Rattle.std.specs.Char.{digit_char}
 use Rattle.std.specs.Str.{encode_utf8_all}

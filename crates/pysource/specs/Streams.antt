@@ -1,5 +1,6 @@
 -- The lines of a source that a reader gives. Python language reference, 2.1.2 "Physical lines" and 2.1.4 "Encoding declarations".
-use Rattle.std.specs.Prelude.{◌≡◌, ◌⊎◌, ℕ, ◌+◌, ◌-◌, ◌≤◌, max, Bool, true, false, not, ◌&&◌, ◌||◌, ◌==◌, List, [], ◌∷◌, ◌++◌, length, take, Option, None, Some, Result, Ok, Err, slice_index, if◌then◌else◌, IsUtf8}
+use Rattle.std.specs.Prelude.{◌≡◌, ◌⊎◌, ℕ, ◌+◌, ◌-◌, ◌≤◌, max, Bool, true, false, not, ◌&&◌, ◌||◌, ◌==◌, List, [], ◌∷◌, ◌++◌, length, take}
+use Rattle.std.specs.Prelude.{Option, None, Some, Result, Ok, Err, slice_index, if◌then◌else◌, IsUtf8}
 use Rattle.std.specs.List.{filter}
 use Rattle.std.specs.Option.{option_or}
 use Rattle.std.specs.Str.{chars}
@@ -47,7 +48,11 @@ pub record Coming : Type 0 where
 -- A failed read is the fault of the line that it cut off, unless a line before that is faulty.
 unfoldable pub coming : Charset → ℕ → Bool → List ℕ → Coming
 coming charset row broken bytes = let lines = lines_read broken bytes in
-    record { text = good_text charset lines; fault = option_or (line_fault charset row lines) (if broken then Some (unread (row + length lines)) else None) }
+    record {
+      text = good_text charset lines;
+      fault =
+          option_or (line_fault charset row lines) (if broken then Some (unread (row + length lines)) else None);
+    }
 
 -- the second line is searched for a cookie
 abbrev pub searches_second : List ℕ → Bool
@@ -55,7 +60,8 @@ searches_second first = (length (cookie_of (without_mark first)) == 0) && leads_
 
 -- the lines that decide the encoding were read whole
 abbrev pub decides : Bool → List ℕ → Bool
-decides broken bytes = not broken || (ends_line (nth_line bytes 0) && (not (searches_second (nth_line bytes 0)) || ends_line (nth_line bytes 1)))
+decides broken bytes =
+    not broken || (ends_line (nth_line bytes 0) && (not (searches_second (nth_line bytes 0)) || ends_line (nth_line bytes 1)))
 
 -- why bytes are no source, as it is reported of a stream
 abbrev pub of_source : SourceFault → StreamFault
@@ -65,19 +71,22 @@ of_source cookies.Memory = Memory
 
 -- the source under an encoding, or why it is none
 unfoldable pub stream_under : Result Named SourceFault → Bool → List ℕ → Result Parts StreamFault
-stream_under (Ok named) broken bytes = let c = coming named.charset 1 broken (without_mark bytes) in Ok (record { encoding = named; text = c.text; fault = c.fault })
+stream_under (Ok named) broken bytes = let c = coming named.charset 1 broken (without_mark bytes) in
+    Ok (record { encoding = named; text = c.text; fault = c.fault })
 stream_under (Err fault) broken bytes = Err (of_source fault)
 
 -- the source that a reader gives: its bytes, and whether a read failed after them
 unfoldable pub stream_of : Bool → List ℕ → Result Parts StreamFault
-stream_of broken bytes = if decides broken bytes then stream_under (encoding_of (nth_line bytes 0) (nth_line bytes 1)) broken bytes else Err Read
+stream_of broken bytes = if decides broken bytes then stream_under (encoding_of (nth_line bytes 0) (nth_line bytes 1))
+    broken bytes else Err Read
 
 -- an answer on bytes that are there as a whole, as a reader's
 abbrev pub as_stream : Result Parts SourceFault → Result Parts StreamFault
 as_stream (Ok parts) = Ok parts
 as_stream (Err fault) = Err (of_source fault)
 
--- A line reader: the encoding, the row of the line that is due, the bytes taken and not yet given, how far reading has come, how many bytes it took in all,
+-- A line reader: the encoding, the row of the line that is due, the bytes taken and not yet given, how far reading has come, how many bytes
+-- it took in all,
 -- and the fault of the line that ended it.
 pub record Buffered : Type 0 where
   pub encoding : Named
@@ -130,7 +139,8 @@ ComesOnly b fault = (more : List ℕ) (broken : Bool) → Follows b more broken 
 abbrev pub MayCome : Buffered → Type 0
 MayCome b = (fault : Option LineFault) → ComesOnly b fault → ⊥
 
--- What an answer says of the line that was given with it. After a last line without line feed nothing comes, and at the end nothing is pending.
+-- What an answer says of the line that was given with it. After a last line without line feed nothing comes, and at the end nothing is
+-- pending.
 -- Memory runs out only where a line may still come: never after the end, a faulty line or a failed read.
 abbrev pub Tells : Result LineRead AllocError → List ℕ → Buffered → Type 0
 Tells (Ok lines.Text) line new = IsLine line × ((ends_line line ≡ true) ⊎ ComesOnly new None)
@@ -146,7 +156,8 @@ fault_at row line bad = record { code = bad.1; place = record { row = row; colum
 -- a good line is appended to a text; memory is wanted only for such
 abbrev pub PushesLine : Charset → ℕ → List ℕ → List ℕ → List ℕ → Result (Option LineFault) AllocError → Type 0
 PushesLine charset row line old new (Ok None) = (first_bad charset line ≡ None) × IsUtf8 line × (new ≡ old ++ line)
-PushesLine charset row line old new (Ok (Some fault)) = (bad : ℕ × LineError) × (first_bad charset line ≡ Some bad) × (fault ≡ fault_at row line bad) × (new ≡ old)
+PushesLine charset row line old new (Ok (Some fault)) = (bad : ℕ × LineError) × (first_bad charset line ≡ Some bad) ×
+    (fault ≡ fault_at row line bad) × (new ≡ old)
 PushesLine charset row line old new (Err e) = (first_bad charset line ≡ None) × (new ≡ old)
 
 -- how many bytes stand after the first line of some
@@ -158,7 +169,8 @@ abbrev pub IsText : Result LineRead AllocError → Type 0
 IsText result = result ≡ Ok lines.Text
 
 -- a call of `next_line`
-pub record NextLine (seen_old seen_new : Seen) (old new : Buffered) (chunk_old chunk_new : List ℕ) (result : Result LineRead AllocError) : Type 0 where
+pub record NextLine (seen_old seen_new : Seen) (old new : Buffered) (chunk_old chunk_new : List ℕ)
+    (result : Result LineRead AllocError) : Type 0 where
   pub taken : List ℕ
   pub line : List ℕ
   pub reads : Reads seen_old seen_new old new taken
@@ -182,7 +194,12 @@ pub record Opens (seen_old seen_new : Seen) (b : Buffered) : Type 0 where
   pub taken : List ℕ
   pub reads : ReadsBytes seen_old seen_new Reading b.reach 0 b.count taken
   pub source : (more : List ℕ) (broken : Bool) → Follows b more broken →
-      stream_of broken (taken ++ more) ≡ Ok (record { encoding = b.encoding; text = (comes b more broken).text; fault = (comes b more broken).fault })
+      stream_of broken (taken ++ more) ≡ Ok (record {
+        encoding = b.encoding;
+        text = (comes b more broken).text;
+        fault =
+            (comes b more broken).fault;
+      })
   pub row : b.row ≡ 1
   pub fault : b.fault ≡ None
   pub within : b.count ≤ source_limit
@@ -193,11 +210,14 @@ pub record Opens (seen_old seen_new : Seen) (b : Buffered) : Type 0 where
 -- why a reader of lines could not be opened: how far reading had come, and what the source is then
 abbrev pub Explains : StreamFault → Reach → (List ℕ → Bool → Result Parts StreamFault) → Type 0
 Explains Memory reach source = reach ≡ Reading
-Explains Read reach source = ((reach ≡ Broken) ⊎ (reach ≡ Passed)) × ((more : List ℕ) (broken : Bool) → FollowsAt reach more broken → source more broken ≡ Err Read)
+Explains Read reach source = ((reach ≡ Broken) ⊎ (reach ≡ Passed)) × ((more : List ℕ) (broken : Bool) → FollowsAt reach more broken
+    → source more broken ≡ Err Read)
 Explains (UnsupportedEncoding place) reach source =
-    ((reach ≡ Reading) ⊎ (reach ≡ End)) × ((more : List ℕ) (broken : Bool) → FollowsAt reach more broken → source more broken ≡ Err (UnsupportedEncoding place))
+    ((reach ≡ Reading) ⊎ (reach ≡ End)) × ((more : List ℕ) (broken : Bool) → FollowsAt reach more broken
+    → source more broken ≡ Err (UnsupportedEncoding place))
 Explains (BomConflict place) reach source =
-    ((reach ≡ Reading) ⊎ (reach ≡ End)) × ((more : List ℕ) (broken : Bool) → FollowsAt reach more broken → source more broken ≡ Err (BomConflict place))
+    ((reach ≡ Reading) ⊎ (reach ≡ End)) × ((more : List ℕ) (broken : Bool) → FollowsAt reach more broken
+    → source more broken ≡ Err (BomConflict place))
 
 pub record Refuses (seen_old seen_new : Seen) (fault : StreamFault) : Type 0 where
   pub taken : List ℕ

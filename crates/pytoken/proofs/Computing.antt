@@ -19,7 +19,8 @@ use Rattle.pylex.specs.Listing.{entry_of, steps_of, stop_fault, last_line, line_
 use Rattle.pyfstring.specs.Texts.{unit_len, behind_text}
 use Rattle.pyfstring.specs.Expressions.{step, behind_expression}
 use Rattle.pyfstring.specs.Singles.{single}
-use Rattle.pyfstring.specs.Cutting.{before, text_at, expression_at, kept_at, conversion_at, front_at, spec_at, behind_closing, field_at, cut_at, inner_field_at, spec_pieces_at, body_field_at, body_pieces_at, cut_of}
+use Rattle.pyfstring.specs.Cutting.{before, text_at, expression_at, kept_at, conversion_at, front_at, spec_at, behind_closing, field_at}
+use Rattle.pyfstring.specs.Cutting.{cut_at, inner_field_at, spec_pieces_at, body_field_at, body_pieces_at, cut_of}
 use Rattle.pyfstring_tokens.specs.FieldTokens.{field_tokens, has_fault, closes_outer, has_comment}
 use Rattle.pytoken.specs.Keywords.{keywords, keyword_of}
 use Rattle.pytoken.specs.FormattedStrings.{text_meanings, text_points, elements_of, elements_fault, is_faulty_by}
@@ -32,7 +33,8 @@ use Rattle.pytoken.specs.Tokens.{tokens, lines}
 
 -- the listing of a source, as pylex has it for itself
 unfoldable listings : Unit {0}
-unfolding lexemes encode place_after depth line_so_far is_at_margin is_logical width_from width_at widths open_levels layout_by layout entry_of
+unfolding lexemes encode place_after depth line_so_far is_at_margin is_logical width_from width_at widths open_levels
+    layout_by layout entry_of
     steps_of stop_fault last_line line_end_of_last end_place tail stop listing
 listings = tt
 
@@ -42,13 +44,15 @@ unfolding written most_digits round scan_numeral float_value
 number_words = tt
 
 unfoldable pub values : Unit {0}
-unfolding lexemes encode unicode_normalization keywords keyword_of whole_value number_value number_fault number_words escaped_by meanings points_of value_of string_value nul_fault
+unfolding lexemes encode unicode_normalization keywords keyword_of whole_value number_value number_fault number_words escaped_by meanings
+    points_of value_of string_value nul_fault
     escape_fault literal_fault string_fault form_fault name_fault terminal_of single_fault terminals_by fault_by fault_of
 values = tt
 
 -- what an f-string is cut into
 unfoldable cuts : Unit {0}
-unfolding unit_len behind_text step behind_expression before text_at expression_at kept_at conversion_at front_at spec_at behind_closing field_at cut_at
+unfolding unit_len behind_text step behind_expression before text_at expression_at kept_at conversion_at front_at spec_at
+    behind_closing field_at cut_at
     inner_field_at spec_pieces_at body_field_at body_pieces_at cut_of single
 cuts = tt
 
@@ -58,7 +62,8 @@ unfolding field_tokens has_fault closes_outer has_comment
 field_words = tt
 
 unfoldable pub formatted : Unit {0}
-unfolding values listings chars cuts field_words text_meanings text_points elements_of elements_fault is_faulty_by nested_expression expression
+unfolding values listings chars cuts field_words text_meanings text_points elements_of elements_fault is_faulty_by
+    nested_expression expression
 formatted = tt
 
 unfoldable pub sources : Unit {0}

@@ -84,11 +84,13 @@ body_back test bytes u q t cs mark o = ap inside o.literal ∙ inside_back test 
 abbrev all_points : List ℕ → List Meaning
 all_points cs = map (λ c. Point c) cs
 
-meanings_back : (test : ℕ → Bool) (bytes u : Bool) (q : ℕ) (t cs : List ℕ) → IsMark q → All (Fits bytes) cs → Opened bytes u t (between test q cs) →
+meanings_back : (test : ℕ → Bool) (bytes u : Bool) (q : ℕ) (t cs : List ℕ) → IsMark q → All (Fits bytes) cs
+    → Opened bytes u t (between test q cs) →
     meanings (is_raw t) (is_bytes t) (body_of t) ≡ all_points cs
 unfolding meanings
 meanings_back test bytes u q t cs mark fit o =
-    rw (o.raw, o.of_bytes) (ap (meanings_after false bytes 0) (body_back test bytes u q t cs mark o) ∙ all_read_back test bytes q cs mark fit)
+    rw (o.raw, o.of_bytes) (ap (meanings_after false bytes 0) (body_back test bytes u q t cs mark o)
+    ∙ all_read_back test bytes q cs mark fit)
 
 points_read : (cs : List ℕ) → flat_map points_in (all_points cs) ≡ cs
 points_read [] = refl
@@ -102,7 +104,8 @@ no_bad : (cs : List ℕ) → list_any is_bad_escape (all_points cs) ≡ false
 no_bad [] = refl
 no_bad (c ∷ cs) = no_bad cs
 
-points_back : (test : ℕ → Bool) (bytes u : Bool) (q : ℕ) (t cs : List ℕ) → IsMark q → All (Fits bytes) cs → Opened bytes u t (between test q cs) →
+points_back : (test : ℕ → Bool) (bytes u : Bool) (q : ℕ) (t cs : List ℕ) → IsMark q → All (Fits bytes) cs
+    → Opened bytes u t (between test q cs) →
     points_of t ≡ cs
 unfolding points_of
 points_back test bytes u q t cs mark fit o = ap (flat_map points_in) (meanings_back test bytes u q t cs mark fit o) ∙ points_read cs
@@ -167,19 +170,22 @@ kept_whole (c ∷ t) none =
     let parts = or_parts (c == 13) (list_any (λ c. c == 13) t) none in
     rw parts.0 (ap (λ (u : List ℕ). c ∷ u) (kept_whole t parts.1))
 
-value_back : (test : ℕ → Bool) (bytes u : Bool) (q : ℕ) (t cs : List ℕ) → IsMark q → All (Fits bytes) cs → Opened bytes u t (between test q cs)
+value_back : (test : ℕ → Bool) (bytes u : Bool) (q : ℕ) (t cs : List ℕ) → IsMark q → All (Fits bytes) cs
+    → Opened bytes u t (between test q cs)
     → value_of t ≡ (if bytes then Bytes cs else Str cs u)
 unfolding value_of
 value_back test bytes u q t cs mark fit o =
     let points = points_back test bytes u q t cs mark fit o in
     rw (o.of_bytes, o.of_u, points) refl
 
-string_back : (test : ℕ → Bool) (bytes u : Bool) (q : ℕ) (t cs : List ℕ) → IsMark q → All (Fits bytes) cs → Opened bytes u t (between test q cs)
+string_back : (test : ℕ → Bool) (bytes u : Bool) (q : ℕ) (t cs : List ℕ) → IsMark q → All (Fits bytes) cs
+    → Opened bytes u t (between test q cs)
     → list_any (λ c. c == 13) t ≡ false → terminal_of kinds.String t ≡ Literal (if bytes then Bytes cs else Str cs u)
 unfolding terminal_of string_value
 string_back test bytes u q t cs mark fit o whole = ap Literal (ap value_of (kept_whole t whole) ∙ value_back test bytes u q t cs mark fit o)
 
-literal_sound : (test : ℕ → Bool) (bytes u : Bool) (q : ℕ) (t cs : List ℕ) → IsMark q → All (Fits bytes) cs → Opened bytes u t (between test q cs)
+literal_sound : (test : ℕ → Bool) (bytes u : Bool) (q : ℕ) (t cs : List ℕ) → IsMark q → All (Fits bytes) cs
+    → Opened bytes u t (between test q cs)
     → (bytes && list_any (nat_lt 0x7F) t) ≡ false → list_any (λ c. c == 0) t ≡ false → literal_fault t ≡ None
 unfolding literal_fault nul_fault
 literal_sound test bytes u q t cs mark fit o low none =
@@ -187,7 +193,8 @@ literal_sound test bytes u q t cs mark fit o low none =
     let sound = no_escape_fault cs in
     rw (o.formatted, read, sound, o.of_bytes, low, none) refl
 
-sound_back : (test : ℕ → Bool) (bytes u : Bool) (q : ℕ) (t cs : List ℕ) → IsMark q → All (Fits bytes) cs → Opened bytes u t (between test q cs)
+sound_back : (test : ℕ → Bool) (bytes u : Bool) (q : ℕ) (t cs : List ℕ) → IsMark q → All (Fits bytes) cs
+    → Opened bytes u t (between test q cs)
     → list_any (λ c. c == 13) t ≡ false → (bytes && list_any (nat_lt 0x7F) t) ≡ false → list_any (λ c. c == 0) t ≡ false →
     single_fault Whole kinds.String t ≡ None
 unfolding single_fault string_fault
@@ -208,7 +215,8 @@ pub record Stands (k : Kind) (t : List ℕ) (x : Terminal) : Type 0 where
   pub single : is_fstring k t ≡ false
   pub faultless : single_fault Whole k t ≡ None
 
-unformatted : (test : ℕ → Bool) (bytes u : Bool) (q : ℕ) (t cs : List ℕ) → Opened bytes u t (between test q cs) → list_any (λ c. c == 13) t ≡ false →
+unformatted : (test : ℕ → Bool) (bytes u : Bool) (q : ℕ) (t cs : List ℕ) → Opened bytes u t (between test q cs)
+    → list_any (λ c. c == 13) t ≡ false →
     is_fstring kinds.String t ≡ false
 unformatted test bytes u q t cs o whole = ap is_formatted (kept_whole t whole) ∙ o.formatted
 
@@ -221,7 +229,8 @@ text_stands points most =
     record {
       terminal = string_back is_unprintable false false q (repr_chars points) points mark fit o (no_return is_unprintable q points mark);
       single = unformatted is_unprintable false false q (repr_chars points) points o (no_return is_unprintable q points mark);
-      faultless = sound_back is_unprintable false false q (repr_chars points) points mark fit o (no_return is_unprintable q points mark) refl
+      faultless = sound_back is_unprintable false false q (repr_chars points) points mark fit o
+          (no_return is_unprintable q points mark) refl
           (no_nul is_unprintable q points mark nul_shown);
     }
 
@@ -232,9 +241,11 @@ unicode_stands points most =
     let fit = text_fits points most in
     let o = u_opened q (flat_map (escaped is_unprintable q) points ++ q ∷ []) mark in
     record {
-      terminal = string_back is_unprintable false true q (117 ∷ repr_chars points) points mark fit o (no_return is_unprintable q points mark);
+      terminal = string_back is_unprintable false true q (117 ∷ repr_chars points) points mark fit o
+          (no_return is_unprintable q points mark);
       single = unformatted is_unprintable false true q (117 ∷ repr_chars points) points o (no_return is_unprintable q points mark);
-      faultless = sound_back is_unprintable false true q (117 ∷ repr_chars points) points mark fit o (no_return is_unprintable q points mark) refl
+      faultless = sound_back is_unprintable false true q (117 ∷ repr_chars points) points mark fit o
+          (no_return is_unprintable q points mark) refl
           (no_nul is_unprintable q points mark nul_shown);
     }
 

@@ -84,7 +84,8 @@ literal_token : (text : List ℕ) (b : Bool) (e : Entry) → All Faultless (toke
     → IsPlain e.kind (text_of text e)
 literal_token text b e all is = by_kind e.kind e.exact e.start e.«end» e.«from» e.to all is
   where
-    by_kind : (k : Kind) (x : Option Exact) (p q : Place) (f t : ℕ) → All Faultless (tokens_of_entry text b (entry k x p q f t)) → IsLiteral k
+    by_kind : (k : Kind) (x : Option Exact) (p q : Place) (f t : ℕ)
+        → All Faultless (tokens_of_entry text b (entry k x p q f t)) → IsLiteral k
         → IsPlain k (text_of text (entry k x p q f t))
     by_kind kinds.Number x p q f t all is = All-head Faultless _ [] all
     by_kind kinds.Name x p q f t all (inl is) = absurd cc
@@ -118,9 +119,11 @@ All_behind : (xs ys : List Token) → All Faultless (xs ++ ys) → All Faultless
 All_behind [] ys all = all
 All_behind (x ∷ xs) ys all = All_behind xs ys (All-tail Faultless x (xs ++ ys) all)
 
-entry_faultless : (text : List ℕ) (e : Entry) (es : List Entry) → first_entry_refusal Plain text (e ∷ es) ≡ None → IsPlain e.kind (text_of text e)
+entry_faultless : (text : List ℕ) (e : Entry) (es : List Entry) → first_entry_refusal Plain text (e ∷ es) ≡ None
+    → IsPlain e.kind (text_of text e)
 entry_faultless text e es none =
-    no_fault (fault_of Plain e.kind (text_of text e)) e.start (none_parts (entry_refusal Plain text e) (first_entry_refusal Plain text es) none).0
+    no_fault (fault_of Plain e.kind (text_of text e)) e.start
+    (none_parts (entry_refusal Plain text e) (first_entry_refusal Plain text es) none).0
 
 others_faultless : (text : List ℕ) (e : Entry) (es : List Entry) → first_entry_refusal Plain text (e ∷ es) ≡ None
     → first_entry_refusal Plain text es ≡ None
@@ -133,14 +136,16 @@ also_whole text (e ∷ es) none =
     (not_faulty (fault_of Whole e.kind (text_of text e)) e.start (plain_is_whole e.kind (text_of text e) (entry_faultless text e es none)))
     (also_whole text es (others_faultless text e es none))
 
-tokens_faultless : (text : List ℕ) (before es : List Entry) → first_entry_refusal Plain text es ≡ None → All Faultless (tokens_from text before es)
+tokens_faultless : (text : List ℕ) (before es : List Entry) → first_entry_refusal Plain text es ≡ None
+    → All Faultless (tokens_from text before es)
 tokens_faultless text before [] none = All-nil Faultless
 tokens_faultless text before (e ∷ es) none =
     All-append Faultless (tokens_of_entry text (is_open before) e) (tokens_from text (e ∷ before) es)
     (of_entry IsPlain supplied_faultless text (is_open before) e (entry_faultless text e es none))
     (tokens_faultless text (e ∷ before) es (others_faultless text e es none))
 
-also_plain : (text : List ℕ) (before es : List Entry) → first_entry_refusal Whole text es ≡ None → All Faultless (tokens_from text before es)
+also_plain : (text : List ℕ) (before es : List Entry) → first_entry_refusal Whole text es ≡ None
+    → All Faultless (tokens_from text before es)
     → first_entry_refusal Plain text es ≡ None
 also_plain text before [] none all = refl
 also_plain text before (e ∷ es) none all =
@@ -150,7 +155,8 @@ also_plain text before (e ∷ es) none all =
     let whole = no_fault (fault_of Whole e.kind (text_of text e)) e.start parts.0 in
     let plain = whole_is_plain e.kind (text_of text e) (literal_token text (is_open before) e (All_front own others all)) whole in
     none_from (entry_refusal Plain text e) (first_entry_refusal Plain text es)
-    (not_faulty (fault_of Plain e.kind (text_of text e)) e.start plain) (also_plain text (e ∷ before) es parts.1 (All_behind own others all))
+    (not_faulty (fault_of Plain e.kind (text_of text e)) e.start plain)
+    (also_plain text (e ∷ before) es parts.1 (All_behind own others all))
 
 pub extents_differ_in_numbers : (s : Source) → ExtentsDifferInNumbers s
 unfolding tokens refusal_at

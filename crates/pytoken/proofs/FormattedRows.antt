@@ -9,7 +9,8 @@ use Rattle.pyfstring.specs.declared.parts.Conversion.TheVariants.{None as Unconv
 use Rattle.pytree_node.specs.declared.profiles.Extent.TheVariants.{Plain, Whole}
 use Rattle.pytoken.specs.declared.faults.TokenError.{TokenError}
 use Rattle.pytoken.specs.declared.faults.TokenError.TheVariants as errors
-use Rattle.pytoken.specs.Terminals.{Terminal, Op, in_form, FormattedBegin, FormattedEnd, FormattedText, FieldBegin, SpecBegin, FieldEnd, terminals_of, fault_of}
+use Rattle.pytoken.specs.Terminals.{Terminal, Op, in_form, FormattedBegin, FormattedEnd, FormattedText, FieldBegin, SpecBegin, FieldEnd}
+use Rattle.pytoken.specs.Terminals.{terminals_of, fault_of}
 use Rattle.pytoken.proofs.Computing.{formatted}
 
 -- f''
@@ -24,27 +25,31 @@ doubled = refl
 
 -- f'{x!s}'
 converted : terminals_of kinds.String (codes "f'{x!s}'")
-    ≡ FormattedBegin ∷ FormattedText [] ∷ FieldBegin Str ∷ Op LPar ∷ in_form (codes "x") ∷ Op RPar ∷ FieldEnd ∷ FormattedText [] ∷ FormattedEnd ∷ []
+    ≡ FormattedBegin ∷ FormattedText [] ∷ FieldBegin Str ∷ Op LPar ∷ in_form (codes "x") ∷ Op RPar ∷ FieldEnd ∷
+    FormattedText [] ∷ FormattedEnd ∷ []
 unfolding formatted
 converted = refl
 
 -- f'{x=}'
 kept : terminals_of kinds.String (codes "f'{x=}'")
-    ≡ FormattedBegin ∷ FormattedText [] ∷ FormattedText (codes "x=") ∷ FieldBegin Repr ∷ Op LPar ∷ in_form (codes "x") ∷ Op RPar ∷ FieldEnd ∷ FormattedText [] ∷
+    ≡ FormattedBegin ∷ FormattedText [] ∷ FormattedText (codes "x=") ∷ FieldBegin Repr ∷ Op LPar ∷ in_form (codes "x") ∷ Op RPar ∷
+    FieldEnd ∷ FormattedText [] ∷
     FormattedEnd ∷ []
 unfolding formatted
 kept = refl
 
 -- f'{x:>}'
 specified : terminals_of kinds.String (codes "f'{x:>}'")
-    ≡ FormattedBegin ∷ FormattedText [] ∷ FieldBegin Unconverted ∷ Op LPar ∷ in_form (codes "x") ∷ Op RPar ∷ SpecBegin ∷ FormattedText (codes ">") ∷ FieldEnd ∷
+    ≡ FormattedBegin ∷ FormattedText [] ∷ FieldBegin Unconverted ∷ Op LPar ∷ in_form (codes "x") ∷ Op RPar ∷ SpecBegin ∷ FormattedText
+    (codes ">") ∷ FieldEnd ∷
     FormattedText [] ∷ FormattedEnd ∷ []
 unfolding formatted
 specified = refl
 
 -- f'{f"{x}"}': an f-string in a field
 nested : terminals_of kinds.String (codes "f'{f\"{x}\"}'")
-    ≡ FormattedBegin ∷ FormattedText [] ∷ FieldBegin Unconverted ∷ Op LPar ∷ FormattedBegin ∷ FormattedText [] ∷ FieldBegin Unconverted ∷ Op LPar ∷
+    ≡ FormattedBegin ∷ FormattedText [] ∷ FieldBegin Unconverted ∷ Op LPar ∷ FormattedBegin ∷ FormattedText [] ∷
+    FieldBegin Unconverted ∷ Op LPar ∷
     in_form (codes "x") ∷ Op RPar ∷ FieldEnd ∷ FormattedText [] ∷ FormattedEnd ∷ Op RPar ∷ FieldEnd ∷ FormattedText [] ∷ FormattedEnd ∷ []
 unfolding formatted
 nested = refl

@@ -24,9 +24,12 @@ plain_unit q a b [] p = rw (p.slash, p.quote, p.return, p.feed) refl
 plain_unit q a b (c ∷ t) p = rw (p.slash, p.quote, p.return, p.feed) refl
 
 -- a backslash and a character that is no CR
-slash_unit : (q a b : ℕ) (t : List ℕ) → IsMark q → (a == 13) ≡ false → ends_by_one q (units (92 ∷ a ∷ b ∷ t)) ≡ ends_by_one q (units (b ∷ t))
-slash_unit q a b t (inl is) other = subst (λ (k : ℕ). ends_by_one k (units (92 ∷ a ∷ b ∷ t)) ≡ ends_by_one k (units (b ∷ t))) (sym is) (rw other refl)
-slash_unit q a b t (inr is) other = subst (λ (k : ℕ). ends_by_one k (units (92 ∷ a ∷ b ∷ t)) ≡ ends_by_one k (units (b ∷ t))) (sym is) (rw other refl)
+slash_unit : (q a b : ℕ) (t : List ℕ) → IsMark q → (a == 13) ≡ false
+    → ends_by_one q (units (92 ∷ a ∷ b ∷ t)) ≡ ends_by_one q (units (b ∷ t))
+slash_unit q a b t (inl is) other = subst (λ (k : ℕ). ends_by_one k (units (92 ∷ a ∷ b ∷ t)) ≡ ends_by_one k (units (b ∷ t)))
+    (sym is) (rw other refl)
+slash_unit q a b t (inr is) other = subst (λ (k : ℕ). ends_by_one k (units (92 ∷ a ∷ b ∷ t)) ≡ ends_by_one k (units (b ∷ t)))
+    (sym is) (rw other refl)
 
 digit_plain : (q d : ℕ) → IsMark q → d < 16 → IsPlain q (digit_char d)
 digit_plain q d mark small =
@@ -35,7 +38,10 @@ digit_plain q d mark small =
     let no_slash : digit_char d ≡ 92 → ⊥ = grind (arith, nat_tests) in
     record {
       slash = ne_eqb (digit_char d) 92 no_slash;
-      quote = ne_eqb (digit_char d) q (λ e. elim mark [ inl is ↦ absurd (omega (arith, e, is, low)) | inr is ↦ absurd (omega (arith, e, is, low)) ]);
+      quote = ne_eqb (digit_char d) q (λ e. elim mark [
+        | inl is ↦ absurd (omega (arith, e, is, low))
+        | inr is ↦ absurd (omega (arith, e, is, low))
+      ]);
       return = ne_eqb (digit_char d) 13 (λ e. absurd (omega (arith, e, low)));
       feed = ne_eqb (digit_char d) 10 (λ e. absurd (omega (arith, e, low)));
     }
@@ -100,9 +106,11 @@ all_units test q (c ∷ cs) mark =
     starts [] = (q, [], refl)
     starts (x ∷ xs) = (x, xs ++ q ∷ [], refl)
 
-    on : (rest : List ℕ) → (b : ℕ) × (t : List ℕ) × (rest ≡ b ∷ t) → ends_by_one q (units (escaped test q c ++ rest)) ≡ ends_by_one q (units rest)
+    on : (rest : List ℕ) → (b : ℕ) × (t : List ℕ) × (rest ≡ b ∷ t) → ends_by_one q (units (escaped test q c ++ rest)) ≡
+        ends_by_one q (units rest)
     on rest (b, t, e) =
-        ap (λ (v : List ℕ). ends_by_one q (units (escaped test q c ++ v))) e ∙ written_units test q c b t (escaped test q c) mark (written test q c)
+        ap (λ (v : List ℕ). ends_by_one q (units (escaped test q c ++ v))) e
+        ∙ written_units test q c b t (escaped test q c) mark (written test q c)
         ∙ sym (ap (λ (v : List ℕ). ends_by_one q (units v)) e)
 
 -- a quote, what is written for the points, and the quote again
@@ -117,12 +125,15 @@ either_single : (test : ℕ → Bool) (q : ℕ) (cs : List ℕ) → IsMark q →
     (is_single 39 (q ∷ flat_map (escaped test q) cs ++ q ∷ []) || is_single 34 (q ∷ flat_map (escaped test q) cs ++ q ∷ [])) ≡ true
 either_single test q cs mark = by_mark mark
   where
-    by_mark : IsMark q → (is_single 39 (q ∷ flat_map (escaped test q) cs ++ q ∷ []) || is_single 34 (q ∷ flat_map (escaped test q) cs ++ q ∷ []))
+    by_mark : IsMark q → (is_single 39 (q ∷ flat_map (escaped test q) cs ++ q ∷ []) || is_single 34
+        (q ∷ flat_map (escaped test q) cs ++ q ∷ []))
         ≡ true
-    by_mark (inl is) = or_left (is_single 39 (q ∷ flat_map (escaped test q) cs ++ q ∷ [])) (is_single 34 (q ∷ flat_map (escaped test q) cs ++ q ∷ []))
+    by_mark (inl is) = or_left (is_single 39 (q ∷ flat_map (escaped test q) cs ++ q ∷ []))
+        (is_single 34 (q ∷ flat_map (escaped test q) cs ++ q ∷ []))
         (ap (λ (k : ℕ). is_single k (q ∷ flat_map (escaped test q) cs ++ q ∷ [])) (sym is) ∙ single test q cs mark)
     by_mark (inr is) = or_right (is_single 39 (q ∷ flat_map (escaped test q) cs ++ q ∷ []))
-        (is_single 34 (q ∷ flat_map (escaped test q) cs ++ q ∷ [])) (ap (λ (k : ℕ). is_single k (q ∷ flat_map (escaped test q) cs ++ q ∷ [])) (sym is)
+        (is_single 34 (q ∷ flat_map (escaped test q) cs ++ q ∷ []))
+        (ap (λ (k : ℕ). is_single k (q ∷ flat_map (escaped test q) cs ++ q ∷ [])) (sym is)
         ∙ single test q cs mark)
 
 abbrev in_quotes : List ℕ → Bool

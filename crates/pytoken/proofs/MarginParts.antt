@@ -71,7 +71,8 @@ nothing_pends true w = refl
 nothing_pends false w = refl
 
 -- a text that begins with no blank
-pub pending_by : (m significant : Bool) (w : ℕ) (t : List ℕ) → blanks_of t ≡ [] → begins_significant t ≡ significant → pending m w t ≡ cond (m && significant) (w ∷ []) []
+pub pending_by : (m significant : Bool) (w : ℕ) (t : List ℕ) → blanks_of t ≡ [] → begins_significant t ≡ significant
+    → pending m w t ≡ cond (m && significant) (w ∷ []) []
 unfolding width_from
 pending_by m significant w t none is = rw (none, is) (by m significant)
   where
@@ -99,7 +100,8 @@ pub pending_on : (m : Bool) (w : ℕ) (a t : List ℕ) → list_all is_blank_cha
 pending_on m w a t all =
     let front = blanks_on a t all in
     ap (λ (b : List ℕ). cond m (cond (begins_significant (drop (length b) (a ++ t))) (width_from w b ∷ []) []) []) front
-    ∙ ap₂ (λ (d : List ℕ) (n : ℕ). cond m (cond (begins_significant d) (n ∷ []) []) []) (drop_on a (blanks_of t) t) (width_on w a (blanks_of t))
+    ∙ ap₂ (λ (d : List ℕ) (n : ℕ). cond m (cond (begins_significant d) (n ∷ []) []) []) (drop_on a (blanks_of t) t)
+    (width_on w a (blanks_of t))
 
 -- What a class says of the first character
 
@@ -125,7 +127,8 @@ fronts false false false false false false false e k h = absurd cc
 
 plain_fronts : (t : List ℕ) (k : Class) → plain_class t ≡ Some k → Fronts k (is_comment t) (are_blanks t) (is_line_end t)
 unfolding plain_class
-plain_fronts t k e = fronts (is_name t) (is_number t) (is_operator t) (is_comment t) (are_blanks t) (is_line_end t) (is_join t) (exact_of t) k e
+plain_fronts t k e = fronts (is_name t) (is_number t) (is_operator t) (is_comment t) (are_blanks t) (is_line_end t)
+    (is_join t) (exact_of t) k e
 
 pub class_fronts : (cs t : List ℕ) (k : Class) → class_in cs t ≡ Some k → Fronts k (is_comment t) (are_blanks t) (is_line_end t)
 unfolding class_in

@@ -1,7 +1,8 @@
 -- On: the margins of a listing's lines are as wide as the lines that open and close its levels.
 --
 -- Carries: margins_are_widths, for Said.
-use Rattle.std.proofs.Common.{◌≡◌, ℕ, zero, suc, ◌+◌, ◌-◌, Bool, true, false, not, ◌&&◌, ◌||◌, ◌==◌, cond, List, [], ◌∷◌, ◌++◌, length, drop}
+use Rattle.std.proofs.Common.{◌≡◌, ℕ, zero, suc, ◌+◌, ◌-◌, Bool, true, false, not, ◌&&◌, ◌||◌, ◌==◌, cond, List, [], ◌∷◌, ◌++◌, length}
+use Rattle.std.proofs.Common.{drop}
 use Rattle.std.proofs.Common.{replicate, reverse, refl, sym, ap, ap₂, subst, ◌∙◌, arith, append_assoc, append-nil, Option, Some, None}
 use Rattle.std.specs.Prelude.{nat_lt, count_by}
 use Rattle.std.specs.List.{list_all, list_any}
@@ -25,11 +26,13 @@ use Rattle.pylex.specs.declared.entries.ListingFault.{ListingFault}
 use Rattle.pylex.specs.declared.entries.ListingError.TheVariants as errors
 use Rattle.pylex.specs.declared.entries.Step.{Step}
 use Rattle.pylex.specs.declared.entries.Step.TheVariants as steps
-use Rattle.pylex.specs.Lines.{text_before, opens, closes, depth, is_of_blanks, is_of_line_end, is_significant, line_so_far, is_at_margin, is_logical}
+use Rattle.pylex.specs.Lines.{text_before, opens, closes, depth, is_of_blanks, is_of_line_end, is_significant, line_so_far, is_at_margin}
+use Rattle.pylex.specs.Lines.{is_logical}
 use Rattle.pylex.specs.Indentation.{width_from, width_at, widths, open_levels, dedents, layout_by, layout}
 use Rattle.pylex.specs.Margins.{blanks_of}
 use Rattle.pylex.specs.Listing.{listing, origin, line_end_kind, entry_of, steps_of, stop_fault}
-use Rattle.pylex.specs.Listing.{last_line, begins_comment, line_end_of_last, end_place, ends_in_join, tail, stop, steps_from, up_to_end, further}
+use Rattle.pylex.specs.Listing.{last_line, begins_comment, line_end_of_last, end_place, ends_in_join, tail, stop, steps_from, up_to_end}
+use Rattle.pylex.specs.Listing.{further}
 use Rattle.pylex.specs.Steps.{entries_of, fault_of, fault_at}
 use Rattle.pylex.specs.Laws.{AreLexemes}
 use Rattle.pylex.proofs.Callers.{is_cut, longest_wins, significant_is}
@@ -37,7 +40,8 @@ use Rattle.pytoken.specs.Brackets
 use Rattle.pytoken.specs.Brackets.{open_brackets}
 use Rattle.pytoken.specs.Indentation.{Margin, behind_offset, margin_at, ends_line, margins_from}
 use Rattle.pytoken.specs.Laws.{MarginsAreWidths}
-use Rattle.pytoken.proofs.MarginParts.{pending, eights, Fronts, text_behind, bytes_on, margin_pends, nothing_pends, pending_by, width_on, pending_on, class_fronts, comment_front, line_end_front, blanks_all, significant_front}
+use Rattle.pytoken.proofs.MarginParts.{pending, eights, Fronts, text_behind, bytes_on, margin_pends, nothing_pends, pending_by, width_on}
+use Rattle.pytoken.proofs.MarginParts.{pending_on, class_fronts, comment_front, line_end_front, blanks_all, significant_front}
 
 -- The brackets that are open, by entries and by lexemes
 
@@ -68,7 +72,8 @@ same_on e x es before o c had = record {
 }
 
 -- a lexeme without an entry
-same_over : (x : Lexeme) (es : List Entry) (before : List Lexeme) → opens x ≡ false → closes x ≡ false → Same es before → Same es (x ∷ before)
+same_over : (x : Lexeme) (es : List Entry) (before : List Lexeme) → opens x ≡ false → closes x ≡ false
+    → Same es before → Same es (x ∷ before)
 same_over x es before o c had = record {
   opened = had.opened ∙ sym (none_more opens x before o);
   closed = had.closed ∙ sym (none_more closes x before c);
@@ -171,12 +176,15 @@ given_line text es e ss b is = rw is (by b)
     later : List Margin
     later = margins_from text (e ∷ es) (entries_of (up_to_end ss))
 
-    by : (b : Bool) → eights (cond b (margin_at text e.to) [] ++ later) ≡ cond b (pending true 0 (behind_offset text e.to)) [] ++ eights later
-    by true = map-append (λ m. m.widths.eight) (margin_at text e.to) later ∙ ap (λ (ws : List ℕ). ws ++ eights later) (margin_pends text e.to)
+    by : (b : Bool) → eights (cond b (margin_at text e.to) [] ++ later) ≡ cond b
+        (pending true 0 (behind_offset text e.to)) [] ++ eights later
+    by true = map-append (λ m. m.widths.eight) (margin_at text e.to) later
+        ∙ ap (λ (ws : List ℕ). ws ++ eights later) (margin_pends text e.to)
     by false = refl
 
 module _ (text : List ℕ) (before : List Lexeme) (es : List Entry) (left : List ℕ) (rest : List Step) where
-  unless_closer : (b : Bool) (e : Entry) → ends_line es e ≡ false → (f : ListingFault) → Comes (cond b (steps.Fault f ∷ []) (steps.Entry e ∷ []) ++ rest)
+  unless_closer : (b : Bool) (e : Entry) → ends_line es e ≡ false → (f : ListingFault)
+      → Comes (cond b (steps.Fault f ∷ []) (steps.Entry e ∷ []) ++ rest)
       → Comes rest × (given text es (cond b (steps.Fault f ∷ []) (steps.Entry e ∷ []) ++ rest) ≡ given text (e ∷ es) rest)
   unless_closer true e inner f comes = absurd cc
   unless_closer false e inner f comes = (comes, given_quiet text es e rest inner)
@@ -186,31 +194,52 @@ module _ (text : List ℕ) (before : List Lexeme) (es : List Entry) (left : List
   unfolding entry_of
   entry_led x same behind comes = by_class x.«class» x.text behind comes
     where
-      of_line_end : (b : Bool) (t : List ℕ) (e : Entry) → e.kind ≡ cond b kinds.Newline kinds.Nl → e.exact ≡ None → e.to ≡ bytes_in (text_before before) + bytes_in t
+      of_line_end : (b : Bool) (t : List ℕ) (e : Entry) → e.kind ≡ cond b kinds.Newline kinds.Nl → e.exact ≡ None
+          → e.to ≡ bytes_in (text_before before) + bytes_in t
           → behind_offset text (bytes_in (text_before before) + bytes_in t) ≡ left
           → given text es (steps.Entry e ∷ rest) ≡ cond (depth before == 0) (pending true 0 left) [] ++ given text (e ∷ es) rest
       of_line_end b t e kind exact at behind =
           given_line text es e rest (depth before == 0) (ends b kind ∙ ap (λ (n : ℕ). n == 0) (same_depth es before same))
-          ∙ ap (λ (l : List ℕ). cond (depth before == 0) (pending true 0 l) [] ++ given text (e ∷ es) rest) (ap (behind_offset text) at ∙ behind)
+          ∙ ap (λ (l : List ℕ). cond (depth before == 0) (pending true 0 l) [] ++ given text (e ∷ es) rest)
+          (ap (behind_offset text) at ∙ behind)
         where
           ends : (b : Bool) → e.kind ≡ cond b kinds.Newline kinds.Nl → ends_line es e ≡ (open_brackets es == 0)
           ends true k = rw k refl
           ends false k = rw k refl
 
       by_class : (k : Class) (t : List ℕ) → behind_offset text (bytes_in (text_before before) + bytes_in t) ≡ left
-          → Comes (entry_of before (record { «class» = k; text = t }) ++ rest) → Entered text before (record { «class» = k; text = t }) es left rest
+          → Comes (entry_of before (record { «class» = k; text = t }) ++ rest)
+          → Entered text before (record { «class» = k; text = t }) es left rest
       by_class Name t behind comes = record { now = _; same = same_on _ _ es before refl refl same; comes = comes; is = refl }
       by_class Number t behind comes = record { now = _; same = same_on _ _ es before refl refl same; comes = comes; is = refl }
       by_class String t behind comes = record { now = _; same = same_on _ _ es before refl refl same; comes = comes; is = refl }
       by_class (Operator o) t behind comes =
-          let e : Entry = record { kind = kinds.Op; exact = Some o; start = place_after (text_before before); «end» = place_after (text_before before ++ t); «from» = bytes_in (text_before before); to = bytes_in (text_before before) + bytes_in t } in
+          let e : Entry = record {
+            kind = kinds.Op;
+            exact = Some o;
+            start = place_after (text_before before);
+            «end» =
+                place_after (text_before before ++ t);
+            «from» = bytes_in (text_before before);
+            to =
+                bytes_in (text_before before) + bytes_in t;
+          } in
           let parts = unless_closer (is_closer o && (depth before == 0)) e refl _ comes in
           record { now = e ∷ es; same = same_on e _ es before refl refl same; comes = parts.0; is = parts.1 }
       by_class Comment t behind comes = record { now = _; same = same_on _ _ es before refl refl same; comes = comes; is = refl }
       by_class Blanks t behind comes = record { now = es; same = same_over _ es before refl refl same; comes = comes; is = refl }
       by_class Join t behind comes = record { now = es; same = same_over _ es before refl refl same; comes = comes; is = refl }
       by_class LineEnd t behind comes =
-          let e : Entry = record { kind = line_end_kind before; exact = None; start = place_after (text_before before); «end» = further (place_after (text_before before)) (length t); «from» = bytes_in (text_before before); to = bytes_in (text_before before) + bytes_in t } in
+          let e : Entry = record {
+            kind = line_end_kind before;
+            exact = None;
+            start = place_after (text_before before);
+            «end» =
+                further (place_after (text_before before)) (length t);
+            «from» = bytes_in (text_before before);
+            to =
+                bytes_in (text_before before) + bytes_in t;
+          } in
           record {
             now = e ∷ es;
             same = same_on e _ es before refl refl same;
@@ -234,7 +263,8 @@ module _ (before : List Lexeme) (x : Lexeme) where
   unfolding is_at_margin line_so_far
   at_margin_on = by (ends_at before x)
     where
-      by : (b : Bool) → list_all is_of_blanks (cond b [] (x ∷ line_so_far before)) ≡ cond b true (is_of_blanks x && list_all is_of_blanks (line_so_far before))
+      by : (b : Bool) → list_all is_of_blanks (cond b [] (x ∷ line_so_far before)) ≡ cond b true
+          (is_of_blanks x && list_all is_of_blanks (line_so_far before))
       by true = refl
       by false = refl
 
@@ -242,14 +272,16 @@ module _ (before : List Lexeme) (x : Lexeme) where
   unfolding width_at line_so_far
   width_at_on = by (ends_at before x)
     where
-      by : (b : Bool) → width_from 0 (text_before (cond b [] (x ∷ line_so_far before))) ≡ cond b 0 (width_from (width_from 0 (text_before (line_so_far before))) x.text)
+      by : (b : Bool) → width_from 0 (text_before (cond b [] (x ∷ line_so_far before))) ≡ cond b 0
+          (width_from (width_from 0 (text_before (line_so_far before))) x.text)
       by true = zero_width
       by false = width_on 0 (text_before (line_so_far before)) x.text
 
 -- the margin that was pending, and the line that begins with the lexeme
 module _ (m : Bool) (w : ℕ) (t ws ns : List ℕ) where
   -- a lexeme within a line
-  inside : (significant : Bool) → pending m w t ≡ cond (m && significant) (w ∷ []) [] → ws ≡ ns → pending m w t ++ ws ≡ cond (m && significant) (w ∷ ns) ns
+  inside : (significant : Bool) → pending m w t ≡ cond (m && significant) (w ∷ []) [] → ws ≡ ns
+      → pending m w t ++ ws ≡ cond (m && significant) (w ∷ ns) ns
   inside significant pends rest = ap (λ (us : List ℕ). us ++ ws) pends ∙ by (m && significant) rest
     where
       by : (b : Bool) → ws ≡ ns → cond b (w ∷ []) [] ++ ws ≡ cond b (w ∷ ns) ns
@@ -261,14 +293,21 @@ no_significant true w ns = refl
 no_significant false w ns = refl
 
 module _ (t left ws ns : List ℕ) (m d : Bool) (w : ℕ) where
-  met_by : (k : Class) (u : List ℕ) → begins_significant t ≡ is_significant_class k → Fronts k (is_comment u) (are_blanks u) (is_line_end u) → t ≡ u ++ left
-      → pending (cond (is_line_end_class k && d) true (is_blanks_class k && m)) (cond (is_line_end_class k && d) 0 (width_from w u)) left ++ ws ≡ ns
+  met_by : (k : Class) (u : List ℕ) → begins_significant t ≡ is_significant_class k
+      → Fronts k (is_comment u) (are_blanks u) (is_line_end u) → t ≡ u ++ left
+      → pending (cond (is_line_end_class k && d) true (is_blanks_class k && m))
+      (cond (is_line_end_class k && d) 0 (width_from w u)) left ++ ws ≡ ns
       → pending m w t ++ (cond (is_line_end_class k && d) (pending true 0 left) [] ++ ws) ≡ cond (m && is_significant_class k) (w ∷ ns) ns
-  met_by Name u significant front cut more = inside m w t ws ns true (pending_by m true w t (significant_front t significant) significant) more
-  met_by Number u significant front cut more = inside m w t ws ns true (pending_by m true w t (significant_front t significant) significant) more
-  met_by String u significant front cut more = inside m w t ws ns true (pending_by m true w t (significant_front t significant) significant) more
-  met_by (Operator o) u significant front cut more = inside m w t ws ns true (pending_by m true w t (significant_front t significant) significant) more
-  met_by Join u significant front cut more = inside m w t ws ns true (pending_by m true w t (significant_front t significant) significant) more
+  met_by Name u significant front cut more =
+      inside m w t ws ns true (pending_by m true w t (significant_front t significant) significant) more
+  met_by Number u significant front cut more =
+      inside m w t ws ns true (pending_by m true w t (significant_front t significant) significant) more
+  met_by String u significant front cut more =
+      inside m w t ws ns true (pending_by m true w t (significant_front t significant) significant) more
+  met_by (Operator o) u significant front cut more =
+      inside m w t ws ns true (pending_by m true w t (significant_front t significant) significant) more
+  met_by Join u significant front cut more =
+      inside m w t ws ns true (pending_by m true w t (significant_front t significant) significant) more
   met_by Comment u significant front cut more =
       inside m w t ws ns false (pending_by m false w t (ap blanks_of cut ∙ comment_front u left front) significant) more
   met_by LineEnd u significant front cut more = by_depth d more
@@ -282,7 +321,8 @@ module _ (t left ws ns : List ℕ) (m d : Bool) (w : ℕ) where
           ap (λ (us : List ℕ). us ++ (pending true 0 left ++ ws)) (pends ∙ no_significant m w []) ∙ more ∙ sym (no_significant m w ns)
       by_depth false more = inside m w t ws ns false pends more
   met_by Blanks u significant front cut more =
-      ap (λ (us : List ℕ). us ++ ws) (ap (pending m w) cut ∙ pending_on m w u left (blanks_all u front)) ∙ more ∙ sym (no_significant m w ns)
+      ap (λ (us : List ℕ). us ++ ws) (ap (pending m w) cut ∙ pending_on m w u left (blanks_all u front)) ∙ more
+      ∙ sym (no_significant m w ns)
 
 met : (before : List Lexeme) (x : Lexeme) (t left ws ns : List ℕ) → lexeme_at t ≡ Some x → t ≡ x.text ++ left
     → pending (is_at_margin (x ∷ before)) (width_at (x ∷ before)) left ++ ws ≡ ns
@@ -366,7 +406,8 @@ module _ (text : List ℕ) (before : List Lexeme) (at_end : margin_at text (byte
   tail_still p =
       still_if text (not (depth before == 0) || ends_in_join before) _ _ tt
       (still_append text (line_end_of_last before p ++ dedents 0 (open_levels (widths before)) (text_before before) (end_place before p)) _
-      (still_append text (line_end_of_last before p) _ (last_still p) (still_marks text (count_by (nat_lt 0) (open_levels (widths before))) _ at_end))
+      (still_append text (line_end_of_last before p) _ (last_still p)
+      (still_marks text (count_by (nat_lt 0) (open_levels (widths before))) _ at_end))
       (at_end, tt))
 
 no_length : (t : List ℕ) → (length t == 0) ≡ true → t ≡ []
@@ -383,7 +424,8 @@ module _ (text : List ℕ) (good : all_scalars text ≡ true) (fault : Option Li
       p = place_after (text_before before)
 
       by_fault : left ≡ [] → (o : Option ListingFault) → Comes (elim o [ Some f ↦ steps.Fault f ∷ [] | None ↦ tail before p ])
-          → pending (is_at_margin before) (width_at before) left ++ given text es (elim o [ Some f ↦ steps.Fault f ∷ [] | None ↦ tail before p ]) ≡ []
+          → pending (is_at_margin before) (width_at before) left ++ given text es
+          (elim o [ Some f ↦ steps.Fault f ∷ [] | None ↦ tail before p ]) ≡ []
       by_fault nil (Some f) comes = absurd cc
       by_fault nil None comes =
           let at_end = no_margin text (bytes_in (text_before before))
@@ -393,8 +435,11 @@ module _ (text : List ℕ) (good : all_scalars text ≡ true) (fault : Option Li
           ∙ still_given text (tail before p) es (tail_still text before at_end p)
 
       by : (b : Bool) → (b ≡ true → left ≡ [])
-          → Comes (cond (not b) (layout before ++ stop_fault fault p left ∷ []) (elim fault [ Some f ↦ steps.Fault f ∷ [] | None ↦ tail before p ]))
-          → pending (is_at_margin before) (width_at before) left ++ given text es (cond (not b) (layout before ++ stop_fault fault p left ∷ []) (elim fault [ Some f ↦ steps.Fault f ∷ [] | None ↦ tail before p ])) ≡ []
+          → Comes (cond (not b) (layout before ++ stop_fault fault p left ∷ [])
+          (elim fault [ Some f ↦ steps.Fault f ∷ [] | None ↦ tail before p ]))
+          → pending (is_at_margin before) (width_at before) left ++ given text es
+          (cond (not b) (layout before ++ stop_fault fault p left ∷ [])
+          (elim fault [ Some f ↦ steps.Fault f ∷ [] | None ↦ tail before p ])) ≡ []
       by false nil comes =
           absurd (never_comes (stop_fault fault p left) (stop_faults fault p left)
           (layout_led text before (stop_fault fault p left ∷ []) es same comes).comes)
@@ -413,7 +458,8 @@ module _ (text : List ℕ) (good : all_scalars text ≡ true) (fault : Option Li
       let first = cond (is_significant x) (layout before) [] in
       let on : text ≡ text_before before ++ (x.text ++ behind) = whole ∙ ap (λ (u : List ℕ). text_before before ++ u) lexed.2 in
       let whole' : text ≡ (text_before before ++ x.text) ++ behind = on ∙ sym (append_assoc (text_before before) x.text behind) in
-      let split : (first ++ entry_of before x) ++ rest ≡ first ++ (entry_of before x ++ rest) = append_assoc first (entry_of before x) rest in
+      let split : (first ++ entry_of before x) ++ rest ≡ first ++ (entry_of before x ++ rest) =
+      append_assoc first (entry_of before x) rest in
       let led = led_cond text before (entry_of before x ++ rest) (is_significant x) es (layout before) []
       (layout_led text before (entry_of before x ++ rest) es same) (led_none text before (entry_of before x ++ rest) es same)
       (subst Comes split comes) in
@@ -443,10 +489,20 @@ unfolding listing is_at_margin line_so_far width_at width_from widths
 margins_are_widths s good comes =
     let text = s.text in
     let ss = steps_from s.fault (left_by_cut text) [] (cut text) in
-    let e : Entry = record { kind = kinds.Encoding; exact = None; start = origin; «end» = origin; «from» = bytes_in []; to = bytes_in [] } in
+    let e : Entry = record {
+      kind = kinds.Encoding;
+      exact = None;
+      start = origin;
+      «end» = origin;
+      «from» =
+          bytes_in [];
+      to = bytes_in [];
+    } in
     let none : Same [] [] = record { opened = refl; closed = refl } in
     map-append (λ m. m.widths.eight) (margin_at text 0) (margins_from text (e ∷ []) (entries_of (up_to_end ss)))
-    ∙ ap (λ (us : List ℕ). us ++ given text (e ∷ []) ss) (margin_pends text 0 ∙ ap (pending true 0) (text_behind text [] text 0 good refl refl))
-    ∙ along text good s.fault (left_by_cut text) (cut text) [] text (e ∷ []) refl (is_cut text).lexemes (same_under e [] [] refl refl none) comes
+    ∙ ap (λ (us : List ℕ). us ++ given text (e ∷ []) ss) (margin_pends text 0
+    ∙ ap (pending true 0) (text_behind text [] text 0 good refl refl))
+    ∙ along text good s.fault (left_by_cut text) (cut text) [] text (e ∷ []) refl (is_cut text).lexemes
+    (same_under e [] [] refl refl none) comes
     ∙ sym (in_order (cut text) [])
     ∙ ap (λ (ys : List Lexeme). reverse (widths ys)) (append-nil (reverse (cut text)))

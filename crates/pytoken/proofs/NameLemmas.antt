@@ -7,7 +7,8 @@ use Rattle.unicode_ident.specs.Ident.{is_xid_continue}
 use Rattle.pylex_lexeme.specs.Chars.{starts_name}
 use Rattle.pylex_lexeme.specs.Lexemes.{is_name}
 
-pub spelled : (bs rest : List ℕ) (c : ℕ) → chars bs ≡ c ∷ chars rest → (starts_name c && list_all is_xid_continue (chars rest)) ≡ is_name (chars bs)
+pub spelled : (bs rest : List ℕ) (c : ℕ) → chars bs ≡ c ∷ chars rest
+    → (starts_name c && list_all is_xid_continue (chars rest)) ≡ is_name (chars bs)
 unfolding is_name
 spelled bs rest c e = sym (ap is_name e)
 

@@ -4,8 +4,10 @@ use Rattle.std.specs.Prelude.{◌==◌, ◌||◌, ◌&&◌, not}
 use Rattle.std.specs.List.{list_any, list_all}
 use Rattle.std.proofs.lemmas.Bool.{and_from, and_left, and_right, or_from, or_left, or_right, cases_Bool, not-true}
 use Rattle.std.proofs.lemmas.Bool.Decides.{nat_tests}
-use Rattle.pylex_lexeme.specs.Numbers.{is_nil, split_any, optional, headed, is_decimal_digit, is_zero, is_hex_digit, is_octal_digit, is_binary_digit}
-use Rattle.pylex_lexeme.specs.Numbers.{is_point, is_e, is_j, is_x, is_o, is_b, is_sign, are_some, is_decimal, is_radix, is_digit_part, is_exponent}
+use Rattle.pylex_lexeme.specs.Numbers.{is_nil, split_any, optional, headed, is_decimal_digit, is_zero, is_hex_digit, is_octal_digit}
+use Rattle.pylex_lexeme.specs.Numbers.{is_binary_digit}
+use Rattle.pylex_lexeme.specs.Numbers.{is_point, is_e, is_j, is_x, is_o, is_b, is_sign, are_some, is_decimal, is_radix, is_digit_part}
+use Rattle.pylex_lexeme.specs.Numbers.{is_exponent}
 use Rattle.pylex_lexeme.specs.Numbers.{is_point_after, is_point_before, is_raised, is_float, is_imaginary}
 use Rattle.pylex_lexeme.proofs.Callers.Booleans.{and_parts, or_parts}
 use Rattle.pylex_lexeme.proofs.Callers.Fronts.{split_all, joined_all}
@@ -84,7 +86,8 @@ unfolding is_exponent
 exponent_plain t h = elim (or_parts (headed is_e is_digit_part t) (headed is_e (headed is_sign is_digit_part) t) h) [
   | inl bare ↦ headed_all is_plain is_e is_digit_part e_plain part_plain t bare
   | inr signed ↦
-      headed_all is_plain is_e (headed is_sign is_digit_part) e_plain (headed_all is_plain is_sign is_digit_part sign_plain part_plain) t signed
+      headed_all is_plain is_e (headed is_sign is_digit_part) e_plain (headed_all is_plain is_sign is_digit_part sign_plain part_plain) t
+      signed
 ]
 
 then_plain : (p q : List ℕ → Bool) → ((t : List ℕ) → p t ≡ true → list_all is_plain t ≡ true) →
@@ -218,9 +221,11 @@ based t h =
     ]
 
 radix_not_complex : (t : List ℕ) → Based t → is_complex t ≡ false
-radix_not_complex t (hexadecimal is) = none_of is_j t (based_no_j is_x is_hex_digit (no_j is_x refl refl) (no_j is_hex_digit refl refl) t is)
+radix_not_complex t (hexadecimal is) =
+    none_of is_j t (based_no_j is_x is_hex_digit (no_j is_x refl refl) (no_j is_hex_digit refl refl) t is)
 radix_not_complex t (octal is) = none_of is_j t (based_no_j is_o is_octal_digit (no_j is_o refl refl) (no_j is_octal_digit refl refl) t is)
-radix_not_complex t (binary is) = none_of is_j t (based_no_j is_b is_binary_digit (no_j is_b refl refl) (no_j is_binary_digit refl refl) t is)
+radix_not_complex t (binary is) =
+    none_of is_j t (based_no_j is_b is_binary_digit (no_j is_b refl refl) (no_j is_binary_digit refl refl) t is)
 
 other_radix : (t : List ℕ) → Based t → (radix_of t == 10) ≡ false
 other_radix [] (hexadecimal is) = cc
@@ -244,7 +249,8 @@ other_radix (a ∷ b ∷ t) (binary is) =
 
 pub imaginary_complex : (t : List ℕ) → is_imaginary t ≡ true → is_complex t ≡ true
 unfolding is_imaginary
-imaginary_complex t h = split_has (λ u. is_digit_part u || is_float u) (headed is_j is_nil) is_j (headed_has is_j is_nil is_j (λ c j. j)) t h
+imaginary_complex t h = split_has (λ u. is_digit_part u || is_float u) (headed is_j is_nil) is_j
+    (headed_has is_j is_nil is_j (λ c j. j)) t h
 
 pub float_not_complex : (t : List ℕ) → is_float t ≡ true → is_complex t ≡ false
 float_not_complex t h = not_complex t (float_plain t h)
@@ -261,7 +267,8 @@ decimal_not_real t h = and_right (radix_of t == 10) (list_any is_mark t) (decima
 
 -- The values, and the faults in the plain language
 
-imaginary_is : (t : List ℕ) → is_imaginary t ≡ true → (number_fault Plain t ≡ Some errors.Complex) × (number_value t ≡ Imaginary (float_value t))
+imaginary_is : (t : List ℕ) → is_imaginary t ≡ true
+    → (number_fault Plain t ≡ Some errors.Complex) × (number_value t ≡ Imaginary (float_value t))
 imaginary_is t h = let complex = imaginary_complex t h in (fault_complex Plain t complex, value_complex t complex)
 
 float_is : (t : List ℕ) → is_float t ≡ true → (number_fault Plain t ≡ Some errors.Float) × (number_value t ≡ Float (float_value t))
@@ -282,7 +289,8 @@ whole_is : (t : List ℕ) → (is_decimal t || is_radix t) ≡ true
     → (number_fault Plain t ≡ too_large (2 ^ 128) t) × (number_value t ≡ Int (whole_value t))
 whole_is t h = elim (or_parts (is_decimal t) (is_radix t) h) [
   | inl decimal ↦ whole_by t (decimal_not_complex t decimal) (decimal_not_real t decimal)
-  | inr radix ↦ whole_by t (radix_not_complex t (based t radix)) (and_left (radix_of t == 10) (list_any is_mark t) (other_radix t (based t radix)))
+  | inr radix ↦ whole_by t (radix_not_complex t (based t radix))
+      (and_left (radix_of t == 10) (list_any is_mark t) (other_radix t (based t radix)))
 ]
 
 pub faults_are_by_class : FaultsAreByClass

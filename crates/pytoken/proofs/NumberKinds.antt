@@ -38,18 +38,21 @@ unfolding number_fault
 fault_complex Plain t complex = rw complex refl
 fault_complex Whole t complex = rw complex refl
 
-pub fault_real : (extent : Extent) (t : List ℕ) → is_complex t ≡ false → is_real t ≡ true → number_fault extent t ≡ in_plain extent errors.Float
+pub fault_real : (extent : Extent) (t : List ℕ) → is_complex t ≡ false → is_real t ≡ true
+    → number_fault extent t ≡ in_plain extent errors.Float
 unfolding number_fault
 fault_real Plain t complex real = rw (complex, real) refl
 fault_real Whole t complex real = rw (complex, real) refl
 
-pub fault_large : (extent : Extent) (t : List ℕ) → is_complex t ≡ false → is_real t ≡ false → nat_le (limit_of extent) (whole_value t) ≡ true
+pub fault_large : (extent : Extent) (t : List ℕ) → is_complex t ≡ false → is_real t ≡ false
+    → nat_le (limit_of extent) (whole_value t) ≡ true
     → number_fault extent t ≡ Some errors.IntegerTooLarge
 unfolding number_fault
 fault_large Plain t complex real large = rw (complex, real, large) refl
 fault_large Whole t complex real large = rw (complex, real, large) refl
 
-pub fault_none : (extent : Extent) (t : List ℕ) → is_complex t ≡ false → is_real t ≡ false → nat_le (limit_of extent) (whole_value t) ≡ false
+pub fault_none : (extent : Extent) (t : List ℕ) → is_complex t ≡ false → is_real t ≡ false
+    → nat_le (limit_of extent) (whole_value t) ≡ false
     → number_fault extent t ≡ None
 unfolding number_fault
 fault_none Plain t complex real small = rw (complex, real, small) refl

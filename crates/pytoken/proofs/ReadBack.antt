@@ -1,5 +1,6 @@
 -- Carries: come_back. On: what a repr writes for a point is read as that point.
-use Rattle.std.proofs.Common.{◌≡◌, ℕ, zero, suc, ◌+◌, ◌/◌, ◌%◌, ◌^◌, ◌<◌, ◌≤◌, Bool, true, false, ◌⊎◌, List, [], ◌∷◌, ◌++◌, length, take, map, refl}
+use Rattle.std.proofs.Common.{◌≡◌, ℕ, zero, suc, ◌+◌, ◌/◌, ◌%◌, ◌^◌, ◌<◌, ◌≤◌, Bool, true, false, ◌⊎◌, List, [], ◌∷◌, ◌++◌, length, take}
+use Rattle.std.proofs.Common.{map, refl}
 use Rattle.std.proofs.Common.{sym, subst, ap, ap₂, ◌∙◌, inl, inr, arith, length-append}
 use Rattle.std.specs.Prelude.{◌==◌, ◌||◌, nat_lt, nat_le, All}
 use Rattle.std.specs.List.{flat_map, list_all, take_while}
@@ -56,7 +57,8 @@ written test q c = elim (cases_Bool ((c == 92) || (c == q))) [
           | inl unprintable ↦ rw (other, no_tab, no_feed, no_return, unprintable) (written_hex test q c)
           | inr shown ↦
               let parts = or_parts (c == 92) (c == q) other in
-              rw (other, no_tab, no_feed, no_return, shown) (itself (eqb-false c 92 parts.0) (eqb-false c q parts.1) (eqb-false c 13 no_return)
+              rw (other, no_tab, no_feed, no_return, shown) (itself (eqb-false c 92 parts.0) (eqb-false c q parts.1)
+              (eqb-false c 13 no_return)
               (eqb-false c 10 no_feed) shown)
         ]
       ]
@@ -86,7 +88,8 @@ hex_digits : (n c : ℕ) → list_all (λ c. is_digit c 16) (hex n c) ≡ true
 hex_digits zero c = refl
 hex_digits (suc n) c =
     list_all-append (λ c. is_digit c 16) (hex n (c / 16)) (digit_char (c % 16) ∷ [])
-    ∙ and_from (list_all (λ c. is_digit c 16) (hex n (c / 16))) (list_all (λ c. is_digit c 16) (digit_char (c % 16) ∷ [])) (hex_digits n (c / 16))
+    ∙ and_from (list_all (λ c. is_digit c 16) (hex n (c / 16)))
+    (list_all (λ c. is_digit c 16) (digit_char (c % 16) ∷ [])) (hex_digits n (c / 16))
     (and_from (is_digit (digit_char (c % 16)) 16) true (digit_is_hex (c % 16) (omega arith)) refl)
 
 hex_value : (n c : ℕ) → c < 16 ^ n → digits_value 16 (hex n c) ≡ c
@@ -113,7 +116,8 @@ accepted n c ds size value most =
     let v : nat_le (digits_value 16 ds) 0x10_FFFF ≡ true = le-leb (digits_value 16 ds) 0x10_FFFF (omega (arith, value)) in
     rw (l, v) (ap₂ (λ (d k : ℕ). reads (Point d) (1 + k)) value size)
 
-hex_read : (n c : ℕ) (rest : List ℕ) → c < 16 ^ n → c ≤ 0x10_FFFF → hexadecimal n (digits_at_front 16 n (hex n c ++ rest)) ≡ reads (Point c) (1 + n)
+hex_read : (n c : ℕ) (rest : List ℕ) → c < 16 ^ n → c ≤ 0x10_FFFF
+    → hexadecimal n (digits_at_front 16 n (hex n c ++ rest)) ≡ reads (Point c) (1 + n)
 hex_read n c rest fits most =
     ap (hexadecimal n) (at_front (λ c. is_digit c 16) n (hex n c) rest (hex_length n c) (hex_digits n c))
     ∙ accepted n c (hex n c) (hex_length n c) (hex_value n c fits) most
@@ -256,7 +260,8 @@ written_pass test p q c text mark ascii itself_passes (middle high below) =
     two p 92 (117 ∷ hex 4 c) (ascii 92 (omega arith) (omega arith)) (two p 117 (hex 4 c) (ascii 117 (omega arith) (omega arith))
     (hex_pass p ascii 4 c))
 written_pass test p q c text mark ascii itself_passes (long above) =
-    two p 92 (85 ∷ hex 8 c) (ascii 92 (omega arith) (omega arith)) (two p 85 (hex 8 c) (ascii 85 (omega arith) (omega arith)) (hex_pass p ascii 8 c))
+    two p 92 (85 ∷ hex 8 c) (ascii 92 (omega arith) (omega arith))
+    (two p 85 (hex 8 c) (ascii 85 (omega arith) (omega arith)) (hex_pass p ascii 8 c))
 written_pass test p q c text mark ascii itself_passes (itself no_slash no_quote no_return no_feed shown) =
     two p c [] (itself_passes no_return shown) refl
 

@@ -79,7 +79,8 @@ unfolding sources values refusal_at
 token_before_deep = refl
 
 -- 1.5 = )
-listing_first : refusal_at Plain 2 (source (codes "1.5 = )")) ≡ Some (refusals.Listing (record { code = listings.UnmatchedCloser; place = at 1 6 }))
+listing_first : refusal_at Plain 2 (source (codes "1.5 = )")) ≡ Some
+    (refusals.Listing (record { code = listings.UnmatchedCloser; place = at 1 6 }))
 unfolding sources values refusal_at
 listing_first = refl
 
@@ -104,18 +105,21 @@ unfolding sources values refusal_at
 tab_behind_two_blanks = refl
 
 -- if x:\n \ty\n\t z\n
-blank_and_tab_turned : refusal_at Plain 2 (source (codes "if x:\n " ++ (9 ∷ (codes "y\n" ++ (9 ∷ codes " z\n"))))) ≡ Some (refusals.MixedTabs (at 3 2))
+blank_and_tab_turned : refusal_at Plain 2 (source (codes "if x:\n " ++ (9 ∷ (codes "y\n" ++ (9 ∷ codes " z\n"))))) ≡ Some
+    (refusals.MixedTabs (at 3 2))
 unfolding sources values refusal_at
 blank_and_tab_turned = refl
 
 -- if a:\n\tif b:\n\t        c\n        d\n
-mixed_with_a_line_before_the_last : refusal_at Plain 2 (source (codes "if a:\n" ++ (9 ∷ (codes "if b:\n" ++ (9 ∷ codes "        c\n        d\n")))))
+mixed_with_a_line_before_the_last : refusal_at Plain 2
+    (source (codes "if a:\n" ++ (9 ∷ (codes "if b:\n" ++ (9 ∷ codes "        c\n        d\n")))))
     ≡ Some (refusals.MixedTabs (at 4 8))
 unfolding sources values refusal_at
 mixed_with_a_line_before_the_last = refl
 
 -- if x:\n        y\n\tz = 1.5\n
-token_before_mixed : refusal_at Plain 2 (source (codes "if x:\n        y\n" ++ (9 ∷ codes "z = 1.5\n"))) ≡ Some (refusals.Token errors.Float (at 3 5))
+token_before_mixed : refusal_at Plain 2 (source (codes "if x:\n        y\n" ++ (9 ∷ codes "z = 1.5\n"))) ≡ Some
+    (refusals.Token errors.Float (at 3 5))
 unfolding sources values refusal_at
 token_before_mixed = refl
 

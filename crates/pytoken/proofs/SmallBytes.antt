@@ -1,5 +1,6 @@
 -- Carries: bytes_are_small. On: the points of faultless bytes.
-use Rattle.std.proofs.Common.{◌≡◌, ℕ, zero, suc, Bool, true, false, List, [], ◌∷◌, length, take, get_or, refl, sym, ap, subst, ◌∙◌, inl, inr, arith}
+use Rattle.std.proofs.Common.{◌≡◌, ℕ, zero, suc, Bool, true, false, List, [], ◌∷◌, length, take, get_or, refl, sym, ap, subst, ◌∙◌, inl}
+use Rattle.std.proofs.Common.{inr, arith}
 use Rattle.std.proofs.Common.{Option, Some, None}
 use Rattle.std.specs.Prelude.{◌==◌, ◌&&◌, not, nat_lt, nat_le, option_map, if◌then◌else◌}
 use Rattle.std.specs.Char.{digit_value, is_digit}
@@ -14,9 +15,11 @@ use Rattle.pytoken.specs.declared.faults.TokenError.{TokenError}
 use Rattle.pytoken.specs.declared.faults.TokenError.TheVariants as errors
 use Rattle.pytoken.specs.declared.meanings.Meaning.{Meaning}
 use Rattle.pytoken.specs.declared.meanings.Meaning.TheVariants.{Point, Wrong}
-use Rattle.pytoken.specs.Escapes.{Reading, Escape, escapes, escape_point, digits_at_front, octal, hexadecimal, escaped_by, reading, meanings_after}
+use Rattle.pytoken.specs.Escapes.{Reading, Escape, escapes, escape_point, digits_at_front, octal, hexadecimal, escaped_by, reading}
+use Rattle.pytoken.specs.Escapes.{meanings_after}
 use Rattle.pytoken.specs.Escapes.{meanings, points_in, is_named_escape, is_bad_escape, escape_fault}
-use Rattle.pytoken.specs.StringValues.{with_line_feeds, is_raw, is_bytes, is_formatted, is_unicode, body_of, points_of, value_of, string_value}
+use Rattle.pytoken.specs.StringValues.{with_line_feeds, is_raw, is_bytes, is_formatted, is_unicode, body_of, points_of, value_of}
+use Rattle.pytoken.specs.StringValues.{string_value}
 use Rattle.pytoken.specs.StringValues.{nul_fault, literal_fault, string_fault}
 use Rattle.pytoken.proofs.Callers.Bodies.{body_all}
 use Rattle.pytoken.specs.Laws.{is_byte, BytesAreSmall}
@@ -108,7 +111,8 @@ unfolding escaped_by
 escaped_other c cs (Some p) no_feed no_digit no_x e = rw (no_feed, no_digit, no_x, e) (point_small p (escape_small c p e))
 escaped_other c cs None no_feed no_digit no_x e = rw (no_feed, no_digit, no_x, e) (point_small 92 refl)
 
-escaped_octal : (c : ℕ) (cs : List ℕ) → (c == 10) ≡ false → is_digit c 8 ≡ true → escaped_by true (c ∷ cs) ≡ octal true (digits_at_front 8 3 (c ∷ cs))
+escaped_octal : (c : ℕ) (cs : List ℕ) → (c == 10) ≡ false → is_digit c 8 ≡ true
+    → escaped_by true (c ∷ cs) ≡ octal true (digits_at_front 8 3 (c ∷ cs))
 unfolding escaped_by
 escaped_octal c cs no_feed digit = rw (no_feed, digit) refl
 
@@ -123,7 +127,8 @@ escaped_small [] = point_small 92 refl
 escaped_small (c ∷ cs) = elim (cases_Bool (c == 10)) [
   | inl feed ↦ rw feed (λ good. refl)
   | inr no_feed ↦ elim (cases_Bool (is_digit c 8)) [
-    | inl digit ↦ subst (λ (r : Reading). IsSmall r.meaning) (sym (escaped_octal c cs no_feed digit)) (octal_small (digits_at_front 8 3 (c ∷ cs)))
+    | inl digit ↦ subst (λ (r : Reading). IsSmall r.meaning) (sym (escaped_octal c cs no_feed digit))
+        (octal_small (digits_at_front 8 3 (c ∷ cs)))
     | inr no_digit ↦ elim (cases_Bool (c == 120)) [
       | inl x ↦ subst (λ (r : Reading). IsSmall r.meaning) (sym (escaped_hexadecimal c cs no_feed no_digit x)) (hexadecimal_small cs)
       | inr no_x ↦ escaped_other c cs (escape_point c) no_feed no_digit no_x refl
@@ -139,7 +144,8 @@ reading_small raw c cs low = elim (cases_Bool (not raw && (c == 92))) [
   | inr plain ↦ rw plain (point_small c (low_small c low))
 ]
 
-meanings_small : (raw : Bool) (n : ℕ) (cs : List ℕ) → list_all is_low cs ≡ true → list_any is_bad_escape (meanings_after raw true n cs) ≡ false
+meanings_small : (raw : Bool) (n : ℕ) (cs : List ℕ) → list_all is_low cs ≡ true
+    → list_any is_bad_escape (meanings_after raw true n cs) ≡ false
     → list_all is_byte (flat_map points_in (meanings_after raw true n cs)) ≡ true
 meanings_small raw n [] low good = refl
 meanings_small raw (suc n) (c ∷ cs) low good = meanings_small raw n cs (and_parts (is_low c) (list_all is_low cs) low).1 good
@@ -149,7 +155,8 @@ meanings_small raw zero (c ∷ cs) low good =
     let parts = or_parts (is_bad_escape here.meaning) (list_any is_bad_escape rest) good in
     let lows = and_parts (is_low c) (list_all is_low cs) low in
     list_all-append is_byte (points_in here.meaning) (flat_map points_in rest)
-    ∙ and_from (list_all is_byte (points_in here.meaning)) (list_all is_byte (flat_map points_in rest)) (reading_small raw c cs lows.0 parts.0)
+    ∙ and_from (list_all is_byte (points_in here.meaning)) (list_all is_byte (flat_map points_in rest))
+    (reading_small raw c cs lows.0 parts.0)
     (meanings_small raw here.more cs lows.1 parts.1)
 
 none_high : (t : List ℕ) → list_any (nat_lt 0x7F) t ≡ false → list_all is_low t ≡ true
@@ -208,7 +215,8 @@ bytes_are_small t bs value sound = elim (cases_Bool (is_bytes (with_line_feeds t
   | inl bytes ↦
       let same : Bytes (points_of (with_line_feeds t)) ≡ Bytes bs = rw bytes at value in
       let is : points_of (with_line_feeds t) ≡ bs = cc in
-      let all : list_all is_byte bs ≡ true = subst (λ (xs : List ℕ). list_all is_byte xs ≡ true) is (points_small (with_line_feeds t) bytes sound) in
+      let all : list_all is_byte bs ≡ true = subst (λ (xs : List ℕ). list_all is_byte xs ≡ true) is
+      (points_small (with_line_feeds t) bytes sound) in
       λ k d within. ltb-true (get_or bs k d) 0x100 (and_at (list_all is_byte) is_byte refl (λ x xs. refl) bs k d within all)
   | inr text ↦ absurd (let same : Str (points_of (with_line_feeds t)) (is_unicode (with_line_feeds t)) ≡ Bytes bs = rw text at value in cc)
 ]

@@ -1,7 +1,8 @@
 -- On: the tokens of a source that isn't refused are what their types say, and have no fault.
 --
 -- Carries: tokens_are_sound, for Said.
-use Rattle.std.proofs.Common.{◌≡◌, ℕ, zero, suc, ◌+◌, ◌-◌, Bool, true, false, not, ◌&&◌, ◌||◌, ◌==◌, cond, List, [], ◌∷◌, ◌++◌, length, take, drop}
+use Rattle.std.proofs.Common.{◌≡◌, ℕ, zero, suc, ◌+◌, ◌-◌, Bool, true, false, not, ◌&&◌, ◌||◌, ◌==◌, cond, List, [], ◌∷◌, ◌++◌, length}
+use Rattle.std.proofs.Common.{take, drop}
 use Rattle.std.proofs.Common.{replicate, refl, sym, ap, subst, ◌∙◌, arith, append_assoc, Option, Some, None}
 use Rattle.std.specs.Prelude.{option_map, nat_lt, All}
 use Rattle.std.specs.List.{list_all, list_any}
@@ -19,7 +20,8 @@ use Rattle.pylex_lexeme.specs.Chars.{bytes_in}
 use Rattle.pylex_lexeme.specs.Numbers.{is_number}
 use Rattle.pylex_lexeme.specs.Strings.{opens_string, opens_triple, counts_as_string, is_string, is_triple_string, is_single_string}
 use Rattle.pylex_lexeme.specs.Operators.{is_closer, is_operator, exact_of}
-use Rattle.pylex_lexeme.specs.Lexemes.{Lexeme, is_name, is_comment, are_blanks, is_line_end, is_join, plain_class, class_in, cut, left_by_cut}
+use Rattle.pylex_lexeme.specs.Lexemes.{Lexeme, is_name, is_comment, are_blanks, is_line_end, is_join, plain_class, class_in, cut}
+use Rattle.pylex_lexeme.specs.Lexemes.{left_by_cut}
 use Rattle.pylex_lexeme.specs.Lexemes.{is_open_string}
 use Rattle.pylex.specs.declared.kind.Kind.{Kind}
 use Rattle.pylex.specs.declared.kind.Kind.TheVariants as kinds
@@ -232,7 +234,8 @@ module _ (cs : List ℕ) (before : List Lexeme) where
       → AllAre cs (steps_of before x)
   unfolding steps_of
   steps_are x rest good h said =
-      AllAre-append cs _ (entry_of before x) (cond_are cs (is_significant x) (layout before) [] layout_are tt) (entry_are x rest good h said)
+      AllAre-append cs _ (entry_of before x) (cond_are cs (is_significant x) (layout before) [] layout_are tt)
+      (entry_are x rest good h said)
 
   last_are : (p : Place) → AllAre cs (line_end_of_last before p)
   unfolding line_end_of_last

@@ -1,5 +1,6 @@
 -- Carries: points_are_in_range. On: the points of a literal whose characters are code points.
-use Rattle.std.proofs.Common.{◌≡◌, ℕ, zero, suc, ◌≤◌, Bool, true, false, List, [], ◌∷◌, length, take, refl, sym, subst, ◌∙◌, inl, inr, arith, Option}
+use Rattle.std.proofs.Common.{◌≡◌, ℕ, zero, suc, ◌≤◌, Bool, true, false, List, [], ◌∷◌, length, take, refl, sym, subst, ◌∙◌, inl, inr}
+use Rattle.std.proofs.Common.{arith, Option}
 use Rattle.std.proofs.Common.{Some, None}
 use Rattle.std.specs.Prelude.{◌==◌, ◌&&◌, not, nat_lt, nat_le, if◌then◌else◌}
 use Rattle.std.specs.Char.{is_digit, digit_value}
@@ -13,7 +14,8 @@ use Rattle.std.proofs.lemmas.List.Sums.{take_while-cons}
 use Rattle.pytoken.specs.declared.faults.TokenError.TheVariants as errors
 use Rattle.pytoken.specs.declared.meanings.Meaning.{Meaning}
 use Rattle.pytoken.specs.declared.meanings.Meaning.TheVariants.{Point, Wrong}
-use Rattle.pytoken.specs.Escapes.{Reading, escape_point, digits_at_front, octal, hexadecimal, hexadecimal_len, names_character, escaped_by, reading}
+use Rattle.pytoken.specs.Escapes.{Reading, escape_point, digits_at_front, octal, hexadecimal, hexadecimal_len, names_character, escaped_by}
+use Rattle.pytoken.specs.Escapes.{reading}
 use Rattle.pytoken.specs.Escapes.{meanings_after, meanings, points_in}
 use Rattle.pytoken.specs.Laws.{is_point, PointsAreInRange}
 use Rattle.pytoken.proofs.SmallBytes.{escape_small}
@@ -26,7 +28,8 @@ point_meant c within = and_from (is_point c) true within refl
 
 -- digits at the front of a text
 
-one_front : (radix n c : ℕ) (cs : List ℕ) → is_digit c radix ≡ true → digits_at_front radix (suc n) (c ∷ cs) ≡ c ∷ digits_at_front radix n cs
+one_front : (radix n c : ℕ) (cs : List ℕ) → is_digit c radix ≡ true
+    → digits_at_front radix (suc n) (c ∷ cs) ≡ c ∷ digits_at_front radix n cs
 one_front radix n c cs digit = take_while-cons (λ x. is_digit x radix) c (take n cs) ∙ (rw digit refl)
 
 no_front : (radix n c : ℕ) (cs : List ℕ) → is_digit c radix ≡ false → digits_at_front radix (suc n) (c ∷ cs) ≡ []
@@ -62,7 +65,8 @@ octal_meant bytes cs = by (bytes && nat_lt 0xFF (digits_value 8 (digits_at_front
 hexadecimal_meant : (n : ℕ) (ds : List ℕ) → IsMeant (hexadecimal n ds).meaning
 hexadecimal_meant n ds = by (length ds == n) (nat_le (digits_value 16 ds) 0x10_FFFF) refl
   where
-    by : (b d : Bool) → nat_le (digits_value 16 ds) 0x10_FFFF ≡ d → IsMeant (if b && d then Point (digits_value 16 ds) else Wrong errors.BadEscape)
+    by : (b d : Bool) → nat_le (digits_value 16 ds) 0x10_FFFF ≡ d
+        → IsMeant (if b && d then Point (digits_value 16 ds) else Wrong errors.BadEscape)
     by true true within = point_meant (digits_value 16 ds) within
     by true false within = refl
     by false d within = refl
@@ -74,7 +78,8 @@ escaped_octal : (bytes : Bool) (c : ℕ) (cs : List ℕ) → (c == 10) ≡ false
 unfolding escaped_by
 escaped_octal bytes c cs no_feed digit = rw (no_feed, digit) refl
 
-escaped_hexadecimal : (bytes : Bool) (c : ℕ) (cs : List ℕ) → (c == 10) ≡ false → is_digit c 8 ≡ false → nat_lt 0 (hexadecimal_len bytes c) ≡ true
+escaped_hexadecimal : (bytes : Bool) (c : ℕ) (cs : List ℕ) → (c == 10) ≡ false → is_digit c 8 ≡ false
+    → nat_lt 0 (hexadecimal_len bytes c) ≡ true
     → escaped_by bytes (c ∷ cs) ≡ hexadecimal (hexadecimal_len bytes c) (digits_at_front 16 (hexadecimal_len bytes c) cs)
 unfolding escaped_by
 escaped_hexadecimal bytes c cs no_feed no_digit asks = rw (no_feed, no_digit, asks) refl

@@ -177,7 +177,8 @@ unfolding sources
 brackets = refl
 
 brackets_lines : lines (source (codes "f(1,\n # c\n)\n")) ≡
-    line 0 (token kinds.Name 1 0 (codes "f") ∷ token kinds.Op 1 1 (codes "(") ∷ token kinds.Number 1 2 (codes "1") ∷ token kinds.Op 1 3 (codes ",") ∷
+    line 0 (token kinds.Name 1 0 (codes "f") ∷ token kinds.Op 1 1 (codes "(") ∷ token kinds.Number 1 2 (codes "1") ∷ token
+    kinds.Op 1 3 (codes ",") ∷
     token kinds.Op 3 0 (codes ")") ∷ []) ∷
     []
 unfolding sources

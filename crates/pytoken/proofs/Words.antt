@@ -1,6 +1,7 @@
 -- Carries: come_back, Keyword::of. On: keywords by their characters and by their bytes, the names
 -- that a tree may hold, and the characters of a repr.
-use Rattle.std.proofs.Common.{◌≡◌, ℕ, ◌≤◌, Bool, true, false, List, [], ◌∷◌, ◌++◌, get_or, refl, ap, ap₂, sym, subst, ◌∙◌, inl, inr, arith, Option}
+use Rattle.std.proofs.Common.{◌≡◌, ℕ, ◌≤◌, Bool, true, false, List, [], ◌∷◌, ◌++◌, get_or, refl, ap, ap₂, sym, subst, ◌∙◌, inl, inr, arith}
+use Rattle.std.proofs.Common.{Option}
 use Rattle.std.proofs.Common.{Some, None, is_some}
 use Rattle.std.specs.Prelude.{◌&&◌, ◌||◌, not, cond, nat_lt, nat_le, All}
 use Rattle.std.specs.List.{find, flat_map, list_all}
@@ -188,7 +189,8 @@ word_is k = let found = word_found k in rw (found, terminal_of) refl
 word_form : (k : Keyword) → nfkc (spelling_of k) ≡ spelling_of k
 word_form k =
     normalize-ascii Nfkc (spelling_of k)
-    (λ i d within. ltb-true (get_or (spelling_of k) i d) 128 (and_at (list_all is_ascii) is_ascii refl (λ x xs. refl) (spelling_of k) i d within
+    (λ i d within. ltb-true (get_or (spelling_of k) i d) 128 (and_at (list_all is_ascii) is_ascii refl (λ x xs. refl)
+    (spelling_of k) i d within
     (word_ascii k)))
 
 -- Names
@@ -254,7 +256,8 @@ shown_scalar c most shown = elim (cases_lt c 0xD800) [
   ]
 ]
 
-scalars_from : (cs : List ℕ) → list_all (λ c. cond (nat_lt c 55296) true (nat_le 57344 c && nat_lt c 1114112)) cs ≡ true → all_scalars cs ≡ true
+scalars_from : (cs : List ℕ) → list_all (λ c. cond (nat_lt c 55296) true (nat_le 57344 c && nat_lt c 1114112)) cs ≡
+    true → all_scalars cs ≡ true
 scalars_from [] h = refl
 scalars_from (c ∷ cs) h =
     let p : ℕ → Bool = λ x. cond (nat_lt x 55296) true (nat_le 57344 x && nat_lt x 1114112) in
@@ -282,7 +285,12 @@ characters_back points most = chars-encodes (repr_chars points) (repr_scalars po
 
 gives : (k : Kind) (t : List ℕ) (x : Terminal) → Stands k t x → is_of k t ≡ true → Gives k t x
 gives k t x stands own =
-    record { single = stands.single; terminal = stands.terminal; sound = record { of_kind = own; faultless = of_single Whole k t stands.single ∙ stands.faultless } }
+    record {
+      single = stands.single;
+      terminal = stands.terminal;
+      sound =
+          record { of_kind = own; faultless = of_single Whole k t stands.single ∙ stands.faultless };
+    }
 
 -- all that the text of a tree writes for names and constants comes back
 pub come_back : ComeBack
@@ -293,7 +301,9 @@ come_back = record {
   text = λ points most. gives kinds.String _ _ (text_stands points most) (text_is_string points);
   unicode = λ points most. gives kinds.String _ _ (unicode_stands points most) (u_text_is_string points);
   bytes = λ bs small. gives kinds.String _ _ (bytes_stand bs small) (bytes_are_string bs);
-  name = λ t own. gives kinds.Name _ _ (record { terminal = name_is t own.form own.free; single = refl; faultless = name_sound t own.form }) own.name;
-  keyword = λ k. gives kinds.Name _ _ (record { terminal = word_is k; single = refl; faultless = name_sound (spelling_of k) (word_form k) }) (word_named k);
+  name = λ t own. gives kinds.Name _ _ (record { terminal = name_is t own.form own.free; single = refl; faultless = name_sound t own.form })
+      own.name;
+  keyword = λ k. gives kinds.Name _ _ (record { terminal = word_is k; single = refl; faultless = name_sound (spelling_of k) (word_form k) })
+      (word_named k);
   characters = characters_back;
 }

@@ -1,5 +1,6 @@
 -- What stands between the quotes of a literal, character by character: escapes and what they stand for (reference 2.4.1).
-use Rattle.std.specs.Prelude.{ℕ, zero, suc, ◌+◌, Bool, true, false, not, ◌&&◌, ◌==◌, nat_lt, nat_le, List, [], ◌∷◌, length, take, Option, Some, None}
+use Rattle.std.specs.Prelude.{ℕ, zero, suc, ◌+◌, Bool, true, false, not, ◌&&◌, ◌==◌, nat_lt, nat_le, List, [], ◌∷◌, length, take, Option}
+use Rattle.std.specs.Prelude.{Some, None}
 use Rattle.std.specs.Prelude.{option_map, if◌then◌else◌}
 use Rattle.std.specs.Char.{is_digit}
 use Rattle.std.specs.List.{list_any, find, take_while}
@@ -55,7 +56,8 @@ octal bytes ds = reads (if bytes && nat_lt 0xFF (digits_value 8 ds) then Wrong B
 -- \xhh, \uxxxx, \Uxxxxxxxx: a letter and exactly n hexadecimal digits, of at most 10FFFF
 abbrev pub hexadecimal : ℕ → List ℕ → Reading
 hexadecimal n ds =
-    reads (if (length ds == n) && nat_le (digits_value 16 ds) 0x10_FFFF then Point (digits_value 16 ds) else Wrong BadEscape) (1 + length ds)
+    reads (if (length ds == n) && nat_le (digits_value 16 ds) 0x10_FFFF then Point (digits_value 16 ds) else Wrong
+    BadEscape) (1 + length ds)
 
 -- how many hexadecimal digits a letter after a backslash asks for: x, and in texts u and U
 abbrev pub hexadecimal_len : Bool → ℕ → ℕ

@@ -53,7 +53,8 @@ pub data Element : Type 0 where
 abbrev pub text_element : Bool → Bool → List ℕ → Element
 text_element is_raw has_pairs t = Text (record { is_raw = is_raw; has_pairs = has_pairs; source = t })
 
--- "Expressions with equal signs '=' have the text of the expression, the '=' and the evaluated value in the output": the text stands in front of its field
+-- "Expressions with equal signs '=' have the text of the expression, the '=' and the evaluated value in the output": the text stands in
+-- front of its field
 abbrev pub kept_elements : Option (List ℕ) → List Element
 kept_elements None = []
 kept_elements (Some t) = text_element true false t ∷ []
@@ -79,7 +80,8 @@ spec_part_elements is_raw ps = flat_map (part_elements is_raw false (inner_eleme
 abbrev pub body_part_elements : Bool → List BodyPart → List Element
 body_part_elements is_raw ps = flat_map (part_elements is_raw true (spec_part_elements is_raw)) ps
 
--- Those of an f-string, by whether it stands in a field itself; none where its body has no cut. The body is cut with its CRs, each of which stands
+-- Those of an f-string, by whether it stands in a field itself; none where its body has no cut. The body is cut with its CRs, each of which
+-- stands
 -- before an LF, where it counts for nothing.
 unfoldable pub elements_of : Bool → List ℕ → Option (List Element)
 elements_of is_nested t =
@@ -97,14 +99,16 @@ abbrev pub is_field_of : (List ℕ → Bool) → Element → Bool
 is_field_of test (Field c t) = test t
 is_field_of test _ = false
 
--- The fault of an f-string with these elements, where a test says which expressions are faulty: it is malformed, or the escapes of its texts have a
+-- The fault of an f-string with these elements, where a test says which expressions are faulty: it is malformed, or the escapes of its
+-- texts have a
 -- fault, or U+0000 stands in it.
 unfoldable pub elements_fault : (List ℕ → Bool) → List ℕ → Option (List Element) → Option TokenError
 elements_fault is_faulty t None = Some FString
 elements_fault is_faulty t (Some es) =
     if list_any (is_field_of is_faulty) es then Some FString else option_or (escape_fault (flat_map element_meanings es)) (nul_fault t)
 
--- A field's expression has no tokens: its text in parentheses has a fault. (The text of a field closes no bracket that it doesn't open, and has no
+-- A field's expression has no tokens: its text in parentheses has a fault. (The text of a field closes no bracket that it doesn't open, and
+-- has no
 -- comment.)
 abbrev pub has_no_tokens : List ℕ → Bool
 has_no_tokens t = has_fault t || closes_outer t || has_comment t

@@ -1,6 +1,8 @@
--- Lines whose indentation depends on how wide a tab is (reference 2.1.8): tabs and spaces are mixed in a way that makes the meaning depend on
+-- Lines whose indentation depends on how wide a tab is (reference 2.1.8): tabs and spaces are mixed in a way that makes the meaning depend
+-- on
 -- the worth of a tab in spaces.
-use Rattle.std.specs.Prelude.{ℕ, ◌+◌, Bool, true, false, not, ◌&&◌, ◌||◌, ◌==◌, nat_lt, nat_le, List, [], ◌∷◌, ◌++◌, length, drop, if◌then◌else◌}
+use Rattle.std.specs.Prelude.{ℕ, ◌+◌, Bool, true, false, not, ◌&&◌, ◌||◌, ◌==◌, nat_lt, nat_le, List, [], ◌∷◌, ◌++◌, length, drop}
+use Rattle.std.specs.Prelude.{if◌then◌else◌}
 use Rattle.std.specs.List.{list_all}
 use Rattle.std.specs.Str.{chars, encode_utf8_all}
 use Rattle.pysource.specs.declared.places.Place.{Place}
@@ -26,7 +28,11 @@ abbrev pub margin_at : List ℕ → ℕ → List Margin
 margin_at text o =
     let line = behind_offset text o in
     let indent = length (blanks_of line) in
-    if begins_significant (drop indent line) then record { widths = widths_of line; start = place_at (encode_utf8_all text) (o + indent) } ∷ [] else []
+    if begins_significant (drop indent line) then record {
+      widths = widths_of line;
+      start =
+          place_at (encode_utf8_all text) (o + indent);
+    } ∷ [] else []
 
 -- an entry ends a line: a NEWLINE or an NL that stands within no brackets
 abbrev pub ends_line : List Entry → Entry → Bool
@@ -54,7 +60,8 @@ are_alike v w = same_bool (nat_lt v.eight w.eight) (nat_lt v.one w.one) && same_
 abbrev pub is_mixed_past : List Margin → List Margin → Margin → Bool
 is_mixed_past between [] m = false
 is_mixed_past between (v ∷ earlier) m =
-    (list_all (λ u. nat_le v.widths.eight u.widths.eight) between && not (are_alike v.widths m.widths)) || is_mixed_past (v ∷ between) earlier m
+    (list_all (λ u. nat_le v.widths.eight u.widths.eight) between && not (are_alike v.widths m.widths)) ||
+    is_mixed_past (v ∷ between) earlier m
 
 -- the indentation of a line after others, which stand last first, depends on how wide a tab is
 abbrev pub is_mixed : List Margin → Margin → Bool

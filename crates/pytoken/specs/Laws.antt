@@ -39,7 +39,8 @@ pub record IsProper (t : List ℕ) : Type 0 where
   pub free : keyword_of t ≡ None
   pub form : nfkc t ≡ t
 
--- Each constant and each name of a tree comes back from its text. A whole number is written in decimal, a double as its shortest decimal, a text and bytes by their repr.
+-- Each constant and each name of a tree comes back from its text. A whole number is written in decimal, a double as its shortest decimal, a
+-- text and bytes by their repr.
 pub record ComeBack : Type 0 where
   pub whole : (n : ℕ) → n < 10 ^ most_digits → Gives kinds.Number (decimal_text n) (Number (value.Int n))
   pub float : (x : ieee.Float) → IsDouble x → Gives kinds.Number (float_source x) (Number (value.Float x))
@@ -56,12 +57,14 @@ pub record ComeBack : Type 0 where
 abbrev pub NamesAreProper : Type 0
 NamesAreProper = (t : List ℕ) → is_name t ≡ true → keyword_of t ≡ None → name_fault t ≡ None → IsProper (nfkc t)
 
--- A number's value, and its fault in the plain language, by its class (reference 2.4.5 to 2.4.7): an imaginary number is a complex literal, a floating
+-- A number's value, and its fault in the plain language, by its class (reference 2.4.5 to 2.4.7): an imaginary number is a complex literal,
+-- a floating
 -- point number is a float literal, and a whole number has a fault only where it is too large.
 pub record IsByClass (t : List ℕ) : Type 0 where
   pub imaginary : is_imaginary t ≡ true → (number_fault Plain t ≡ Some errors.Complex) × (number_value t ≡ value.Imaginary (float_value t))
   pub float : is_float t ≡ true → (number_fault Plain t ≡ Some errors.Float) × (number_value t ≡ value.Float (float_value t))
-  pub whole : (is_decimal t || is_radix t) ≡ true → (number_fault Plain t ≡ too_large (2 ^ 128) t) × (number_value t ≡ value.Int (whole_value t))
+  pub whole : (is_decimal t || is_radix t) ≡ true → (number_fault Plain t ≡ too_large (2 ^ 128) t) ×
+      (number_value t ≡ value.Int (whole_value t))
 
 abbrev pub FaultsAreByClass : Type 0
 FaultsAreByClass = (t : List ℕ) → IsByClass t
@@ -83,7 +86,8 @@ abbrev pub PointsAreInRange : Type 0
 PointsAreInRange = (raw bytes : Bool) (cs : List ℕ) → list_all is_point cs ≡ true
     → list_all is_point (flat_map points_in (meanings raw bytes cs)) ≡ true
 
--- The margins of a listing that comes to its end are of the lines that open and close its levels, one after another, and each is as wide, a tab
+-- The margins of a listing that comes to its end are of the lines that open and close its levels, one after another, and each is as wide, a
+-- tab
 -- going to the next multiple of 8, as the line is where an INDENT or DEDENT is decided (reference 2.1.8).
 abbrev pub MarginsAreWidths : Type 0
 MarginsAreWidths = (s : Source) → all_scalars s.text ≡ true → listing_fault (listing s) ≡ None
@@ -102,7 +106,9 @@ pub record AreLawful : Type 0 where
 abbrev pub TokensAreSound : Source → Type 0
 TokensAreSound s = all_scalars s.text ≡ true → refusal Whole s ≡ None → All (λ (t : Token). IsSound t.kind t.text) (tokens s)
 
--- A source is refused in the plain language for its tokens exactly where it is in the whole one, or where a literal is none in the plain language: a
+-- A source is refused in the plain language for its tokens exactly where it is in the whole one, or where a literal is none in the plain
+-- language: a
 -- number, or an f-string.
 abbrev pub ExtentsDifferInNumbers : Source → Type 0
-ExtentsDifferInNumbers s = (refusal Plain s ≡ None) ↔ ((refusal Whole s ≡ None) × All (λ (t : Token). fault_of Plain t.kind t.text ≡ None) (tokens s))
+ExtentsDifferInNumbers s =
+    (refusal Plain s ≡ None) ↔ ((refusal Whole s ≡ None) × All (λ (t : Token). fault_of Plain t.kind t.text ≡ None) (tokens s))

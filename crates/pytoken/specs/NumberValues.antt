@@ -1,4 +1,5 @@
--- The number that the text of a NUMBER stands for, and what may be wrong with it by itself (reference 2.4.4 to 2.4.7). A number is ASCII, so its
+-- The number that the text of a NUMBER stands for, and what may be wrong with it by itself (reference 2.4.4 to 2.4.7). A number is ASCII,
+-- so its
 -- characters are its bytes.
 use Rattle.std.specs.Prelude.{ℕ, ◌^◌, Bool, ◌&&◌, ◌||◌, ◌==◌, nat_le, List, [], ◌∷◌, drop, Option, Some, None}
 use Rattle.std.specs.Prelude.{if◌then◌else◌}
@@ -48,7 +49,8 @@ number_value t = if is_complex t then Imaginary (float_value t) else (if is_real
 abbrev pub too_large : ℕ → List ℕ → Option TokenError
 too_large limit t = if nat_le limit (whole_value t) then Some errors.IntegerTooLarge else None
 
--- What is wrong with a number that has no value in an extent of the language. In the plain one floats, imaginary numbers and whole numbers of more than 128
+-- What is wrong with a number that has no value in an extent of the language. In the plain one floats, imaginary numbers and whole numbers
+-- of more than 128
 -- bits have none; in the whole one those whole numbers have none that Python doesn't write.
 unfoldable pub number_fault : Extent → List ℕ → Option TokenError
 number_fault Plain t = if is_complex t then Some errors.Complex else (if is_real t then Some errors.Float else too_large (2 ^ 128) t)

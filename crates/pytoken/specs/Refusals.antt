@@ -50,11 +50,15 @@ first_mixed earlier (m ∷ ms) = option_or (margin_refusal earlier m) (first_mix
 -- The refusal of a source whose listing comes to its end: by the first entry with a fault of its own; else by the first bracket too many;
 -- else by the first line of mixed tabs and spaces.
 abbrev pub refusal_of : Extent → ℕ → List ℕ → List Entry → Option Refusal
-refusal_of extent most text es = option_or (first_entry_refusal extent text es) (option_or (first_too_deep most [] es) (first_mixed [] (margins text es)))
+refusal_of extent most text es =
+    option_or (first_entry_refusal extent text es) (option_or (first_too_deep most [] es) (first_mixed [] (margins text es)))
 
 -- the listing's fault, or else one of these
 unfoldable pub refusal_at : Extent → ℕ → Source → Option Refusal
-refusal_at extent most s = elim (listing_fault (listing s)) [ Some f ↦ Some (refusals.Listing f) | None ↦ refusal_of extent most s.text (entries_of (listing s)) ]
+refusal_at extent most s = elim (listing_fault (listing s)) [
+  | Some f ↦ Some (refusals.Listing f)
+  | None ↦ refusal_of extent most s.text (entries_of (listing s))
+]
 
 abbrev pub refusal : Extent → Source → Option Refusal
 refusal extent = refusal_at extent most_brackets

@@ -1,6 +1,7 @@
 -- What the text of a STRING stands for, and what may be wrong with it by itself (reference 2.4.1): a prefix, one quote or three, and what
 -- stands between the quotes.
-use Rattle.std.specs.Prelude.{ℕ, ◌-◌, Bool, not, ◌&&◌, ◌||◌, ◌==◌, nat_lt, List, length, take, drop, filter, Option, Some, None, if◌then◌else◌}
+use Rattle.std.specs.Prelude.{ℕ, ◌-◌, Bool, not, ◌&&◌, ◌||◌, ◌==◌, nat_lt, List, length, take, drop, filter, Option, Some, None}
+use Rattle.std.specs.Prelude.{if◌then◌else◌}
 use Rattle.std.specs.List.{list_any, flat_map, prefix_len}
 use Rattle.pylex_lexeme.specs.Strings.{begins_three}
 use Rattle.pytree_node.specs.Values.{Value, Str, Bytes}
@@ -78,7 +79,8 @@ nul_fault t = if list_any (λ c. c == 0) t then Some Nul else None
 
 -- shortbyteschar ::= <any ASCII character except "\" or newline or the quote>
 -- longbyteschar  ::= <any ASCII character except "\">
--- The fault of a literal without CRs: it is an f-string, or its escapes have one, or bytes have a character above 7F, or U+0000 stands in it
+-- The fault of a literal without CRs: it is an f-string, or its escapes have one, or bytes have a character above 7F, or U+0000 stands in
+-- it
 unfoldable pub literal_fault : List ℕ → Option TokenError
 literal_fault t =
     if is_formatted t then Some FString

@@ -12,7 +12,9 @@ use Rattle.pytoken.specs.declared.values.literal_text.LiteralText.{LiteralText}
 use Rattle.pytoken.specs.declared.values.number_text.NumberText.{NumberText}
 use Rattle.pytoken.specs.declared.values.text_pieces.TextPiece.{TextPiece}
 use Rattle.pytoken.specs.declared.values.terminals.Terminal.{Terminal}
-use Rattle.pytoken.specs.declared.values.terminals.Terminal.TheVariants.{Op, Word, Ident, Whole, Number, Literal, FormattedBegin, FormattedEnd, FormattedText, FieldBegin, SpecBegin, FieldEnd, Layout}
+use Rattle.pytoken.specs.declared.values.terminals.Terminal.TheVariants.{Op, Word, Ident, Whole, Number, Literal, FormattedBegin}
+use Rattle.pytoken.specs.declared.values.terminals.Terminal.TheVariants.{FormattedEnd, FormattedText, FieldBegin, SpecBegin, FieldEnd}
+use Rattle.pytoken.specs.declared.values.terminals.Terminal.TheVariants.{Layout}
 use Rattle.pytoken.specs.declared.values.terminals.TerminalFault.{TerminalFault}
 use Rattle.pytoken.specs.declared.values.terminals.TerminalFault.TheVariants.{Token, Memory}
 

@@ -22,7 +22,8 @@ use Rattle.pytoken.specs.Keywords.{keyword_of}
 use Rattle.pytoken.specs.NumberValues.{number_value, number_fault}
 use Rattle.pytoken.specs.StringValues.{string_value, string_fault, nul_fault}
 use Rattle.pytoken.specs.NameValues.{name_fault}
-use Rattle.pytoken.specs.FormattedStrings.{Element, Text, Field, Spec, End, text_points, is_fstring, is_bulky, elements_of, elements_fault, is_faulty_by}
+use Rattle.pytoken.specs.FormattedStrings.{Element, Text, Field, Spec, End, text_points, is_fstring, is_bulky, elements_of, elements_fault}
+use Rattle.pytoken.specs.FormattedStrings.{is_faulty_by}
 
 -- a name as it stands in a source: its characters, and its form NFKC, which is the name that it stands for
 pub record Spelled : Type 0 where
@@ -35,7 +36,8 @@ pub data Terminal : Type 0 where
   Ident : Spelled → Terminal  -- a NAME that is no keyword
   Number : Value → Terminal  -- the value of a NUMBER: Int, Float or Imaginary
   Literal : Value → Terminal  -- the value of one STRING that is no f-string: Str with its kind, or Bytes
-  -- an f-string is several terminals, as in the grammar of Python 3.12: its ends; texts; fields, each with the terminals of its expression in
+  -- an f-string is several terminals, as in the grammar of Python 3.12: its ends; texts; fields, each with the terminals of its expression
+  -- in
   -- round brackets, and perhaps with the texts and fields of its format spec
   FormattedBegin : Terminal
   FormattedEnd : Terminal
@@ -63,7 +65,8 @@ whole n = Number (Int n)
 abbrev pub in_form : List ℕ → Terminal
 in_form x = Ident (record { spelling = x; form = x })
 
--- why an entry of this type and text is no single terminal in an extent of the language, an f-string being none; a number is ASCII, so its characters are
+-- why an entry of this type and text is no single terminal in an extent of the language, an f-string being none; a number is ASCII, so its
+-- characters are
 -- its bytes
 unfoldable pub single_fault : Extent → Kind → List ℕ → Option TokenError
 single_fault extent k t = elim k [
@@ -74,7 +77,8 @@ single_fault extent k t = elim k [
   | _ ↦ None
 ]
 
--- ---- F-strings. Fields stand two deep at most: in a field, f-strings stand without quotes in their bodies, and so without STRINGs in their fields.
+-- ---- F-strings. Fields stand two deep at most: in a field, f-strings stand without quotes in their bodies, and so without STRINGs in
+-- their fields.
 
 -- an element, where the expression of a field is these terminals
 abbrev pub element_terminals : (List ℕ → List Terminal) → Element → List Terminal
@@ -87,9 +91,11 @@ abbrev pub elements_terminals : (List ℕ → List Terminal) → Option (List El
 elements_terminals expression None = []
 elements_terminals expression (Some es) = FormattedBegin ∷ (flat_map (element_terminals expression) es ++ FormattedEnd ∷ [])
 
--- what a token is, and its fault in the whole language, where the expressions of an f-string are these, and a test says which of them are faulty
+-- what a token is, and its fault in the whole language, where the expressions of an f-string are these, and a test says which of them are
+-- faulty
 unfoldable pub terminals_by : Bool → (List ℕ → List Terminal) → Kind → List ℕ → List Terminal
-terminals_by is_nested expression k t = if is_fstring k t then elements_terminals expression (elements_of is_nested t) else terminal_of k t ∷ []
+terminals_by is_nested expression k t = if is_fstring k t then elements_terminals expression (elements_of is_nested t)
+    else terminal_of k t ∷ []
 
 unfoldable pub fault_by : Bool → (List ℕ → Bool) → Kind → List ℕ → Option TokenError
 fault_by is_nested is_faulty k t = if is_fstring k t then elements_fault is_faulty t (elements_of is_nested t) else single_fault Whole k t
@@ -130,7 +136,8 @@ is_of k t = elim k [
   | _ ↦ true
 ]
 
--- A token that is what its type says, and has no fault in the whole language: what laws about lists of tokens speak of. Without that `1 2` could be a name.
+-- A token that is what its type says, and has no fault in the whole language: what laws about lists of tokens speak of. Without that `1 2`
+-- could be a name.
 pub record IsSound (k : Kind) (t : List ℕ) : Type 0 where
   pub of_kind : is_of k t ≡ true
   pub faultless : fault_of Whole k t ≡ None

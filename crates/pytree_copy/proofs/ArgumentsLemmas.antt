@@ -31,5 +31,6 @@ pub same_arguments : (a : layer.Arguments-F Expr Arg Arguments Comprehension Key
     arguments_of (given.roll-Arguments a) ≡ arguments_of b
 same_arguments a b p q r s t u v = arguments_tree (given.roll-Arguments a)
     ∙ ap valued (given.out-roll-Arguments a)
-    ∙ (λ i. plain.arguments (args (p i)) (args (q i)) (optional_arg (r i)) (args (s i)) (optionals (t i)) (optional_arg (u i)) (exprs (v i)))
+    ∙ (λ i. plain.arguments (args (p i)) (args (q i)) (optional_arg (r i)) (args (s i)) (optionals (t i))
+    (optional_arg (u i)) (exprs (v i)))
     ∙ sym (arguments_tree b)

@@ -12,7 +12,8 @@ use Rattle.pytree_node.specs.declared.expressions.Arguments.{Arguments}
 use Rattle.pytree_node.specs.Trees.{optional, optional_arg, args, optionals, exprs}
 use Rattle.pytree_node.specs.TreeOf.{tree_of, option_of, arg_of, arg_option_of, arguments_of}
 use Rattle.pytree_node.proofs.Callers.ExprShapes.{arguments_tree}
-use Rattle.pytree_dump_text.specs.Shows.{Shown, Fields, Node, Row, no_field, a_field, arg_field, shown, shown_arg, shown_args, shown_arguments, shown_exprs, shown_optional, shown_optionals, showns}
+use Rattle.pytree_dump_text.specs.Shows.{Shown, Fields, Node, Row, no_field, a_field, arg_field, shown, shown_arg, shown_args}
+use Rattle.pytree_dump_text.specs.Shows.{shown_arguments, shown_exprs, shown_optional, shown_optionals, showns}
 use Rattle.pytree_dump_text.specs.Layout.{is_short}
 use Rattle.pytree_dump_text.specs.Slots.{Slot, missing, field, with_slot}
 use Rattle.pytree_dump.specs.Inner.Weights.{field_weights, slot_weight}
@@ -66,7 +67,8 @@ arguments_shown a p q k kd d v w hp hq hv hk hkd hw hd =
     args_row o.args.items ∙ ap (λ z. showns (map (λ a. shown_arg (arg_of a)) z)) (sym hq) in
     let ek : shown_args (args (map arg_of o.kwonlyargs.items)) ≡ showns (map (λ a. shown_arg (arg_of a)) k) =
     args_row o.kwonlyargs.items ∙ ap (λ z. showns (map (λ a. shown_arg (arg_of a)) z)) (sym hk) in
-    let ekd : shown_optionals (optionals (map option_of o.kw_defaults.items)) ≡ showns (map (λ e. shown_optional (optional (option_of e))) kd) =
+    let ekd : shown_optionals (optionals (map option_of o.kw_defaults.items)) ≡ showns
+    (map (λ e. shown_optional (optional (option_of e))) kd) =
     optionals_row o.kw_defaults.items ∙ ap (λ z. showns (map (λ e. shown_optional (optional (option_of e))) z)) (sym hkd) in
     let ed : shown_exprs (exprs (map tree_of o.defaults.items)) ≡ showns (map (λ e. shown (tree_of e)) d) =
     exprs_row o.defaults.items ∙ ap (λ z. showns (map (λ e. shown (tree_of e)) z)) (sym hd) in

@@ -1,7 +1,8 @@
 -- The text of attributes and calls on one line, with the names of fields.
 --
 -- Carries: show_joined_attribute, show_joined_keywords, show_joined_call, and the lists that are empty.
-use Rattle.std.proofs.Common.{◌≡◌, ◌∙◌, ap, sym, refl, ◌++◌, ◌∷◌, ◌||◌, ◌&&◌, ℕ, List, [], Bool, true, false, codes, Option, Some, None, map, length, nat_eq, arith}
+use Rattle.std.proofs.Common.{◌≡◌, ◌∙◌, ap, sym, refl, ◌++◌, ◌∷◌, ◌||◌, ◌&&◌, ℕ, List, [], Bool, true, false, codes, Option, Some, None}
+use Rattle.std.proofs.Common.{map, length, nat_eq, arith}
 use Rattle.std.proofs.lemmas.Bool.{both_ways, eqb-true}
 use Rattle.std.proofs.lemmas.List.{append-nil, append_assoc}
 use Rattle.pytree_node.specs.declared.operators.Context.{Context}
@@ -28,7 +29,8 @@ one_line : (s : Style) (f start : List ℕ) (fs : Fields) → (is_flat s.indent 
     node_text s f start fs ≡ start ++ fields s f true true true fs ++ codes ")"
 one_line s f start fs e =
     let flat = first_of (is_flat s.indent) s.names e in
-    λ i. start ++ fields s (flat_front s.indent f flat i) (flat i || is_short fs) (second_of (is_flat s.indent) s.names e i) true fs ++ codes ")"
+    λ i. start ++ fields s (flat_front s.indent f flat i) (flat i || is_short fs)
+    (second_of (is_flat s.indent) s.names e i) true fs ++ codes ")"
 
 -- an attribute's value, its name and its context
 attribute_parts : (o p l v c m r d n w a b : List ℕ) →
@@ -36,14 +38,20 @@ attribute_parts : (o p l v c m r d n w a b : List ℕ) →
     ≡ ((o ++ (p ++ l)) ++ v) ++ ((c ++ m) ++ r ++ ((d ++ n) ++ w ++ (a ++ b ++ b)))
 attribute_parts o p l v c m r d n w a b = simp (append_assoc, append-nil) refl
 
-pub attribute_text : (s : Style) (f x y : List ℕ) (v : Shown) (c : Context) (o0 o1 o2 o3 : List ℕ) → (is_flat s.indent && s.names) ≡ true → y ≡ x →
+pub attribute_text : (s : Style) (f x y : List ℕ) (v : Shown) (c : Context) (o0 o1 o2 o3 : List ℕ)
+    → (is_flat s.indent && s.names) ≡ true → y ≡ x →
     o1 ≡ o0 ++ codes "Attribute(value=" → o2 ≡ o1 ++ text s f v →
     o3 ≡ o2 ++ (codes ", attr=" ++ repr_text y ++ (codes ", ctx=" ++ context_name c ++ codes "())")) →
-    o3 ≡ o0 ++ node_text s f (codes "Attribute(") (a_field (codes "value") v (a_field (codes "attr") (shown_name x) (a_field (codes "ctx") (word (context_name c)) no_field)))
+    o3 ≡ o0 ++ node_text s f (codes "Attribute(")
+    (a_field (codes "value") v (a_field (codes "attr") (shown_name x) (a_field (codes "ctx") (word (context_name c)) no_field)))
 attribute_text s f x y v c o0 o1 o2 o3 is same e1 e2 e3 =
-    e3 ∙ (λ i. (e2 ∙ (λ j. e1 j ++ text s f v)) i ++ (codes ", attr=" ++ repr_text (same i) ++ (codes ", ctx=" ++ context_name c ++ codes "())")))
-    ∙ sym (attribute_parts o0 (codes "Attribute(") (codes "value=") (text s f v) (codes ", ") (codes "attr=") (repr_text x) (codes ", ") (codes "ctx=") (context_name c) (codes "(") (codes ")"))
-    ∙ ap (λ z. o0 ++ z) (sym (one_line s f (codes "Attribute(") (a_field (codes "value") v (a_field (codes "attr") (shown_name x) (a_field (codes "ctx") (word (context_name c)) no_field))) is))
+    e3 ∙ (λ i. (e2 ∙ (λ j. e1 j ++ text s f v)) i ++
+    (codes ", attr=" ++ repr_text (same i) ++ (codes ", ctx=" ++ context_name c ++ codes "())")))
+    ∙ sym (attribute_parts o0 (codes "Attribute(") (codes "value=") (text s f v) (codes ", ") (codes "attr=") (repr_text x) (codes ", ")
+    (codes "ctx=") (context_name c) (codes "(") (codes ")"))
+    ∙ ap (λ z. o0 ++ z) (sym
+    (one_line s f (codes "Attribute(")
+    (a_field (codes "value") v (a_field (codes "attr") (shown_name x) (a_field (codes "ctx") (word (context_name c)) no_field))) is))
 
 -- a call's function, its arguments and its keywords
 call_parts : (o p l v c m es d n ks b : List ℕ) →
@@ -56,14 +64,18 @@ pub call_text : (s : Style) (f : List ℕ) (v es ks : Shown) (o0 o1 o2 o3 o4 o5 
     o5 ≡ o4 ++ (codes ", keywords=" ++ text s f ks ++ codes ")") →
     o5 ≡ o0 ++ node_text s f (codes "Call(") (a_field (codes "func") v (a_field (codes "args") es (a_field (codes "keywords") ks no_field)))
 call_text s f v es ks o0 o1 o2 o3 o4 o5 is e1 e2 e3 e4 e5 =
-    e5 ∙ (λ i. (e4 ∙ (λ j. (e3 ∙ (λ k. (e2 ∙ (λ l. e1 l ++ text s f v)) k ++ codes ", args=")) j ++ text s f es)) i ++ (codes ", keywords=" ++ text s f ks ++ codes ")"))
-    ∙ sym (call_parts o0 (codes "Call(") (codes "func=") (text s f v) (codes ", ") (codes "args=") (text s f es) (codes ", ") (codes "keywords=") (text s f ks) (codes ")"))
-    ∙ ap (λ z. o0 ++ z) (sym (one_line s f (codes "Call(") (a_field (codes "func") v (a_field (codes "args") es (a_field (codes "keywords") ks no_field))) is))
+    e5 ∙ (λ i. (e4 ∙ (λ j. (e3 ∙ (λ k. (e2 ∙ (λ l. e1 l ++ text s f v)) k ++ codes ", args=")) j ++ text s f es)) i ++
+    (codes ", keywords=" ++ text s f ks ++ codes ")"))
+    ∙ sym (call_parts o0 (codes "Call(") (codes "func=") (text s f v) (codes ", ") (codes "args=") (text s f es) (codes ", ")
+    (codes "keywords=") (text s f ks) (codes ")"))
+    ∙ ap (λ z. o0 ++ z) (sym
+    (one_line s f (codes "Call(") (a_field (codes "func") v (a_field (codes "args") es (a_field (codes "keywords") ks no_field))) is))
 
 -- the keywords of a call, and what ends it
 pub keywords_text : (o0 o1 o2 o3 ks : List ℕ) → o1 ≡ o0 ++ codes ", keywords=" → o2 ≡ o1 ++ ks → o3 ≡ o2 ++ codes ")" →
     o3 ≡ o0 ++ (codes ", keywords=" ++ ks ++ codes ")")
-keywords_text o0 o1 o2 o3 ks e1 e2 e3 = e3 ∙ (λ i. (e2 ∙ (λ j. e1 j ++ ks)) i ++ codes ")") ∙ joined_parts o0 (codes ", keywords=") ks (codes ")")
+keywords_text o0 o1 o2 o3 ks e1 e2 e3 = e3 ∙ (λ i. (e2 ∙ (λ j. e1 j ++ ks)) i ++ codes ")")
+    ∙ joined_parts o0 (codes ", keywords=") ks (codes ")")
   where
     joined_parts : (o p x b : List ℕ) → ((o ++ p) ++ x) ++ b ≡ o ++ (p ++ x ++ b)
     joined_parts o p x b = simp append_assoc refl

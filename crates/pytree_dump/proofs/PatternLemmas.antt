@@ -8,7 +8,8 @@ use Rattle.pytree_node.specs.TreeOf.{pattern_of}
 use Rattle.pytree_dump_text.specs.Shows.{a_shown, shown_pattern, shown_patterns, showns}
 use Rattle.pytree_dump.proofs.RowLemmas.{exprs_row, names_row}
 
-pub patterns_row : (ps : List given_pattern.Pattern) → shown_patterns (patterns (map pattern_of ps)) ≡ showns (map (λ p. shown_pattern (pattern_of p)) ps)
+pub patterns_row : (ps : List given_pattern.Pattern) → shown_patterns (patterns (map pattern_of ps)) ≡ showns
+    (map (λ p. shown_pattern (pattern_of p)) ps)
 patterns_row [] = refl
 patterns_row (p ∷ ps) = ap (λ z. a_shown (shown_pattern (pattern_of p)) z) (patterns_row ps)
 

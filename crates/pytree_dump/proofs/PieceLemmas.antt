@@ -18,7 +18,8 @@ pub piece_given : (o o1 piece : List ℕ) (rest : List (List ℕ)) → o1 ≡ o 
 piece_given o o1 piece rest e = ap (λ z. z ++ concat rest) e ∙ append_assoc o piece (concat rest)
 
 -- the next of the statements
-pub statement_given : (s : Style) (f f1 f2 : List ℕ) (first : Bool) (end o o1 o2 : List ℕ) (x : Stmt) (body xs : List Stmt) → body ≡ x ∷ xs → f1 ≡ f → f2 ≡ f →
+pub statement_given : (s : Style) (f f1 f2 : List ℕ) (first : Bool) (end o o1 o2 : List ℕ) (x : Stmt) (body xs : List Stmt)
+    → body ≡ x ∷ xs → f1 ≡ f → f2 ≡ f →
     o1 ≡ o ++ before (is_flat s.indent) f1 first → o2 ≡ o1 ++ text s f1 (shown_stmt s.profile (stmt_of x)) →
     o2 ++ concat (statement_pieces s f2 false end xs) ≡ o ++ concat (statement_pieces s f first end body)
 statement_given s f f1 f2 first end o o1 o2 x body xs is same same2 e1 e2 =
@@ -41,28 +42,35 @@ statements_whole s f first end (x ∷ xs) =
 -- the pieces of a module are its dump text
 pub module_pieces : (s : Style) (f0 f1 g1 f2 f3 b0 b1 b2 b3 e0 e1 e2 e3 : List ℕ) (line : Bool) (body items : List Stmt) →
     body ≡ items → b0 ≡ [] → e0 ≡ [] → f0 ≡ codes "\n" →
-    line ≡ (is_flat s.indent || is_short (a_field (codes "body") (shown_block s.profile body) (a_field (codes "type_ignores") (Row no_shown) no_field))) →
+    line ≡ (is_flat s.indent || is_short (a_field (codes "body") (shown_block s.profile body)
+    (a_field (codes "type_ignores") (Row no_shown) no_field))) →
     b1 ≡ b0 ++ codes "Module(" → f1 ≡ deeper s.indent f0 → g1 ≡ f1 → b2 ≡ b1 ++ before line g1 true ++ label s.names (codes "body") →
-    e1 ≡ e0 ++ codes "]" → e2 ++ [] ≡ e1 ++ fields s f1 line s.names false (a_field (codes "type_ignores") (Row no_shown) no_field) → f2 ≡ f1 →
+    e1 ≡ e0 ++ codes "]" → e2 ++ [] ≡ e1 ++ fields s f1 line s.names false (a_field (codes "type_ignores") (Row no_shown) no_field)
+    → f2 ≡ f1 →
     e3 ≡ e2 ++ codes ")" → b3 ≡ b2 ++ codes "[" → f3 ≡ deeper s.indent f2 →
     concat (b3 ∷ statement_pieces s f3 true e3 body) ≡ dump_text s (shown_module s.profile (record { body = map stmt_of items }))
-module_pieces s f0 f1 g1 f2 f3 b0 b1 b2 b3 e0 e1 e2 e3 line body items same none_begun none_ended top is_line hb1 hf1 hg1 hb2 he1 he2 hf2 he3 hb3 hf3 =
+module_pieces s f0 f1 g1 f2 f3 b0 b1 b2 b3 e0 e1 e2 e3 line body items same none_begun none_ended top is_line hb1 hf1 hg1 hb2
+    he1 he2 hf2 he3 hb3 hf3 =
     let behind : Fields = a_field (codes "type_ignores") (Row no_shown) no_field in
     let all : Fields = a_field (codes "body") (shown_block s.profile body) behind in
     let begun : b3 ≡ (b1 ++ before line f1 true ++ label s.names (codes "body")) ++ codes "[" =
     hb3 ∙ ap (λ z. z ++ codes "[") (hb2 ∙ (λ i. b1 ++ before line (hg1 i) true ++ label s.names (codes "body"))) in
     let ended : e3 ≡ (codes "]" ++ fields s f1 line s.names false behind) ++ codes ")" =
-    he3 ∙ ap (λ z. z ++ codes ")") (sym (append-nil e2) ∙ he2 ∙ ap (λ z. z ++ fields s f1 line s.names false behind) (he1 ∙ ap (λ z. z ++ codes "]") none_ended)) in
+    he3 ∙ ap (λ z. z ++ codes ")") (sym (append-nil e2) ∙ he2 ∙ ap (λ z. z ++ fields s f1 line s.names false behind) (he1
+    ∙ ap (λ z. z ++ codes "]") none_ended)) in
     let deep : f3 ≡ deeper s.indent f1 = hf3 ∙ ap (deeper s.indent) hf2 in
     let xs : List ℕ = members s (deeper s.indent f1) true (showns (map (λ x. shown_stmt s.profile (stmt_of x)) body)) in
-    let put : concat (b3 ∷ statement_pieces s f3 true e3 body) ≡ ((b1 ++ before line f1 true ++ label s.names (codes "body")) ++ codes "[") ++ (xs ++ ((codes "]" ++ fields s f1 line s.names false behind) ++ codes ")")) =
+    let put : concat (b3 ∷ statement_pieces s f3 true e3 body) ≡ ((b1 ++ before line f1 true ++ label s.names (codes "body")) ++ codes "[")
+    ++ (xs ++ ((codes "]" ++ fields s f1 line s.names false behind) ++ codes ")")) =
     ap (λ z. b3 ++ z) (statements_whole s f3 true e3 body)
     ∙ (λ i. begun i ++ (members s (deep i) true (showns (map (λ x. shown_stmt s.profile (stmt_of x)) body)) ++ ended i)) in
-    let whole : concat (b3 ∷ statement_pieces s f3 true e3 body) ≡ (b1 ++ fields s f1 line s.names true all) ++ codes ")" = put ∙ simp append_assoc refl in
+    let whole : concat (b3 ∷ statement_pieces s f3 true e3 body) ≡ (b1 ++ fields s f1 line s.names true all) ++ codes ")" = put
+    ∙ simp append_assoc refl in
     module_text s f0 b0 _ body items same none_begun top
     (node_shown s f0 f1 (codes "Module(") all b0 b1 (b1 ++ fields s f1 line s.names true all) _ line hf1 is_line hb1 refl whole)
 
 -- a piece for each statement, and one behind them
-pub statement_count : (s : Style) (f : List ℕ) (first : Bool) (end : List ℕ) (body : List Stmt) → length (statement_pieces s f first end body) ≡ length body + 1
+pub statement_count : (s : Style) (f : List ℕ) (first : Bool) (end : List ℕ) (body : List Stmt)
+    → length (statement_pieces s f first end body) ≡ length body + 1
 statement_count s f first end [] = refl
 statement_count s f first end (x ∷ xs) = grind (arith, statement_count s f false end xs)

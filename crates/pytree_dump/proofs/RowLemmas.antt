@@ -14,7 +14,10 @@ use Rattle.pytree_node.specs.declared.statements.TypeParam.{TypeParam}
 use Rattle.pytree_node.specs.Trees
 use Rattle.pytree_node.specs.Trees.{exprs, optional, optionals, comprehensions, keywords, args}
 use Rattle.pytree_node.specs.TreeOf.{tree_of, option_of, comprehension_of, keyword_of, arg_of, alias_of, item_of, type_param_of}
-use Rattle.pytree_dump_text.specs.Shows.{Shown, Fields, Row, shown_optional, shown_optionals, shown_comprehension, shown_comprehensions, shown_keyword, shown_keywords, shown_arg, shown_args, shown_comparisons, word, comparison_name, shown, shown_exprs, showns, a_shown, optional_field, expr_field, shown_name, shown_names, shown_alias, shown_aliases, shown_item, shown_items, shown_type_param, shown_type_params}
+use Rattle.pytree_dump_text.specs.Shows.{Shown, Fields, Row, shown_optional, shown_optionals, shown_comprehension, shown_comprehensions}
+use Rattle.pytree_dump_text.specs.Shows.{shown_keyword, shown_keywords, shown_arg, shown_args, shown_comparisons, word, comparison_name}
+use Rattle.pytree_dump_text.specs.Shows.{shown, shown_exprs, showns, a_shown, optional_field, expr_field, shown_name, shown_names}
+use Rattle.pytree_dump_text.specs.Shows.{shown_alias, shown_aliases, shown_item, shown_items, shown_type_param, shown_type_params}
 use Rattle.pytree_dump_text.specs.Slots.{Slot, missing, field, with_slot}
 use Rattle.pytree_dump.specs.Inner.Weights.{weight, field_weights, slot_weight}
 
@@ -22,11 +25,13 @@ pub exprs_row : (es : List Expr) → shown_exprs (exprs (map tree_of es)) ≡ sh
 exprs_row [] = refl
 exprs_row (e ∷ es) = ap (λ z. a_shown (shown (tree_of e)) z) (exprs_row es)
 
-pub optionals_row : (es : List (Option Expr)) → shown_optionals (optionals (map option_of es)) ≡ showns (map (λ e. shown_optional (optional (option_of e))) es)
+pub optionals_row : (es : List (Option Expr)) → shown_optionals (optionals (map option_of es)) ≡ showns
+    (map (λ e. shown_optional (optional (option_of e))) es)
 optionals_row [] = refl
 optionals_row (e ∷ es) = ap (λ z. a_shown (shown_optional (optional (option_of e))) z) (optionals_row es)
 
-pub comprehensions_row : (cs : List Comprehension) → shown_comprehensions (comprehensions (map comprehension_of cs)) ≡ showns (map (λ c. shown_comprehension (comprehension_of c)) cs)
+pub comprehensions_row : (cs : List Comprehension) → shown_comprehensions (comprehensions (map comprehension_of cs)) ≡ showns
+    (map (λ c. shown_comprehension (comprehension_of c)) cs)
 comprehensions_row [] = refl
 comprehensions_row (c ∷ cs) = ap (λ z. a_shown (shown_comprehension (comprehension_of c)) z) (comprehensions_row cs)
 
@@ -54,7 +59,8 @@ pub items_row : (items : List Item) → shown_items (map item_of items) ≡ show
 items_row [] = refl
 items_row (item ∷ items) = ap (λ z. a_shown (shown_item (item_of item)) z) (items_row items)
 
-pub type_params_row : (all : List TypeParam) → shown_type_params (map type_param_of all) ≡ showns (map (λ p. shown_type_param (type_param_of p)) all)
+pub type_params_row : (all : List TypeParam) → shown_type_params (map type_param_of all) ≡ showns
+    (map (λ p. shown_type_param (type_param_of p)) all)
 type_params_row [] = refl
 type_params_row (p ∷ all) = ap (λ z. a_shown (shown_type_param (type_param_of p)) z) (type_params_row all)
 

@@ -1,7 +1,8 @@
 -- The text of nodes and lists, as it is appended.
 --
 -- Carries: show_field, show_one, show_two, show_three, show_four, show_arguments, and the lists.
-use Rattle.std.proofs.Common.{◌≡◌, ℕ, zero, suc, ◌+◌, ◌<◌, ◌++◌, List, [], ◌∷◌, Bool, true, false, codes, refl, ap, sym, ◌∙◌, ◌||◌, length, take, drop, map, get_or, replicate, Option, Some, None, arith}
+use Rattle.std.proofs.Common.{◌≡◌, ℕ, zero, suc, ◌+◌, ◌<◌, ◌++◌, List, [], ◌∷◌, Bool, true, false, codes, refl, ap, sym, ◌∙◌, ◌||◌, length}
+use Rattle.std.proofs.Common.{take, drop, map, get_or, replicate, Option, Some, None, arith}
 use Rattle.std.proofs.lemmas.Bool.{both_ways}
 use Rattle.std.proofs.lemmas.List.{append-nil, append_assoc, take_all, take_at}
 use Rattle.pytree_dump_text.specs.declared.styles.Style.{Style}
@@ -30,7 +31,8 @@ node_closed s f inner start fs o0 o1 o2 o3 told ei el en ef e1 e2 e3 =
     whole ∙ simp append_assoc refl
 
 -- a field that is not left out: what stands before it, its name and its value
-pub field_shown : (s : Style) (f f1 : List ℕ) (o o1 o2 : List ℕ) (t : Told) (a : Slot) (name : List ℕ) → is_missing a ≡ false → name ≡ slot_name a → f1 ≡ f →
+pub field_shown : (s : Style) (f f1 : List ℕ) (o o1 o2 : List ℕ) (t : Told) (a : Slot) (name : List ℕ) → is_missing a ≡ false
+    → name ≡ slot_name a → f1 ≡ f →
     o1 ≡ o ++ before t.one_line f1 t.first ++ label t.named name → o2 ≡ o1 ++ text s f (slot_shown a) →
     (rest : Fields) → o2 ++ fields s f t.one_line t.named false rest ≡ o ++ coming s f t (with_slot a rest)
 field_shown s f f1 o o1 o2 t missing name there named same e1 e2 rest = absurd (both_ways true there refl)
@@ -66,7 +68,8 @@ pub three_fields : (s : Style) (f f1 f2 : List ℕ) (o o1 o2 o3 : List ℕ) (t t
 three_fields s f f1 f2 o o1 o2 o3 t t1 t2 t3 a b c same same2 h1 h2 h3 =
     two_fields s f f2 o1 o2 o3 t1 t2 t3 b c (same2 ∙ same) (step s f f1 o1 o2 t1 t2 b same h2) h3 ∙ h1 (with_slot b (with_slot c no_field))
 
-pub four_fields : (s : Style) (f f1 f2 f3 : List ℕ) (o o1 o2 o3 o4 : List ℕ) (t t1 t2 t3 t4 : Told) (a b c d : Slot) → f1 ≡ f → f2 ≡ f1 → f3 ≡ f2 →
+pub four_fields : (s : Style) (f f1 f2 f3 : List ℕ) (o o1 o2 o3 o4 : List ℕ) (t t1 t2 t3 t4 : Told) (a b c d : Slot)
+    → f1 ≡ f → f2 ≡ f1 → f3 ≡ f2 →
     ((rest : Fields) → o1 ++ coming s f t1 rest ≡ o ++ coming s f t (with_slot a rest)) →
     ((rest : Fields) → o2 ++ coming s f1 t2 rest ≡ o1 ++ coming s f1 t1 (with_slot b rest)) →
     ((rest : Fields) → o3 ++ coming s f2 t3 rest ≡ o2 ++ coming s f2 t2 (with_slot c rest)) →
@@ -99,5 +102,7 @@ pub member_shown : {A : Type 0} (g : A → Shown) (xs : List A) (i : ℕ) (x : A
     o2 ++ members s f false (showns (map g (drop (i + 1) xs))) ≡ base
 member_shown g xs i x s f f1 base o o1 o2 first lt read same so_far e1 e2 =
     let rest : List ℕ = members s f false (showns (map g (drop (i + 1) xs))) in
-    let grown : o2 ≡ o ++ before (is_flat s.indent) f first ++ text s f (g x) = e2 ∙ (λ i. (e1 ∙ (λ j. o ++ before (is_flat s.indent) (same j) first)) i ++ text s (same i) (g x)) in
-    ap (λ z. z ++ rest) grown ∙ simp append_assoc refl ∙ ap (λ z. o ++ members s f first (showns (map g z))) (sym (dropped xs i x lt read)) ∙ so_far
+    let grown : o2 ≡ o ++ before (is_flat s.indent) f first ++ text s f (g x) = e2
+    ∙ (λ i. (e1 ∙ (λ j. o ++ before (is_flat s.indent) (same j) first)) i ++ text s (same i) (g x)) in
+    ap (λ z. z ++ rest) grown ∙ simp append_assoc refl ∙ ap (λ z. o ++ members s f first (showns (map g z))) (sym (dropped xs i x lt read))
+    ∙ so_far

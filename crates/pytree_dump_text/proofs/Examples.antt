@@ -35,11 +35,13 @@ empty_module : dump_text plain (shown_module plain_311 (record { body = [] })) �
 empty_module = refl
 
 -- `pass`
-flush_pass : dump_text flush (shown_module plain_311 (record { body = Trees.Pass ∷ [] })) ≡ codes "Module(\nbody=[\nPass()],\ntype_ignores=[])"
+flush_pass : dump_text flush (shown_module plain_311 (record { body = Trees.Pass ∷ [] })) ≡ codes
+    "Module(\nbody=[\nPass()],\ntype_ignores=[])"
 flush_pass = refl
 
 -- `x: int`
-bare_annotation : dump_text bare (shown_module plain_311 (record { body = Trees.AnnAssign (Trees.Name (codes "x") context.Store) (name (codes "int")) None true ∷ [] }))
+bare_annotation : dump_text bare
+    (shown_module plain_311 (record { body = Trees.AnnAssign (Trees.Name (codes "x") context.Store) (name (codes "int")) None true ∷ [] }))
     ≡ codes "Module([AnnAssign(Name('x', Store()), Name('int', Load()), simple=1)], [])"
 unfolding ucd_category encode_utf8 digits
 bare_annotation = refl
@@ -54,12 +56,14 @@ unfolding ucd_category encode_utf8 digits decimal_text
 indented_call = refl
 
 -- `{**d}`
-spread : dump_text plain (shown (Trees.Dict (Trees.an_optional Trees.absent Trees.no_optional) (Trees.an_expr (name (codes "d")) Trees.no_exprs)))
+spread : dump_text plain
+    (shown (Trees.Dict (Trees.an_optional Trees.absent Trees.no_optional) (Trees.an_expr (name (codes "d")) Trees.no_exprs)))
     ≡ codes "Dict(keys=[None], values=[Name(id='d', ctx=Load())])"
 unfolding ucd_category encode_utf8 digits
 spread = refl
 
-bare_spread : dump_text bare (shown (Trees.Dict (Trees.an_optional Trees.absent Trees.no_optional) (Trees.an_expr (name (codes "d")) Trees.no_exprs)))
+bare_spread : dump_text bare
+    (shown (Trees.Dict (Trees.an_optional Trees.absent Trees.no_optional) (Trees.an_expr (name (codes "d")) Trees.no_exprs)))
     ≡ codes "Dict([None], [Name('d', Load())])"
 unfolding ucd_category encode_utf8 digits
 bare_spread = refl
@@ -91,7 +95,8 @@ indented_formatted = refl
 indented_empty : dump_text two (shown (Trees.JoinedStr Trees.no_exprs)) ≡ codes "JoinedStr(values=[])"
 indented_empty = refl
 
-indented_yield : dump_text two (shown (Trees.FormattedValue (Trees.Yield Trees.absent) conversion.Str Trees.absent)) ≡ codes "FormattedValue(value=Yield(), conversion=115)"
+indented_yield : dump_text two (shown (Trees.FormattedValue (Trees.Yield Trees.absent) conversion.Str Trees.absent)) ≡ codes
+    "FormattedValue(value=Yield(), conversion=115)"
 indented_yield = refl
 
 -- `a, /, b: int = 1, *, c=2, **d`
@@ -107,17 +112,20 @@ parameters = refl
 -- `class C[T]: pass`
 abbrev generic_class : Module
 generic_class = record {
-  body = Trees.ClassDef (codes "C") [] Trees.no_keyword (Trees.a_stmt Trees.Pass Trees.no_stmt) [] (Trees.TypeVar (codes "T") None ∷ []) ∷ [];
+  body = Trees.ClassDef (codes "C") [] Trees.no_keyword (Trees.a_stmt Trees.Pass Trees.no_stmt) []
+      (Trees.TypeVar (codes "T") None ∷ []) ∷ [];
 }
 
-bare_class : dump_text bare (shown_module plain_312 generic_class) ≡ codes "Module([ClassDef('C', [], [], [Pass()], [], [TypeVar('T')])], [])"
+bare_class : dump_text bare (shown_module plain_312 generic_class) ≡ codes
+    "Module([ClassDef('C', [], [], [Pass()], [], [TypeVar('T')])], [])"
 unfolding ucd_category encode_utf8 digits
 bare_class = refl
 
 -- `def f(): pass`
 abbrev definition : Module
 definition = record {
-  body = Trees.FunctionDef (codes "f") (Trees.arguments Trees.no_arg Trees.no_arg Trees.absent_arg Trees.no_arg Trees.no_optional Trees.absent_arg Trees.no_exprs)
+  body = Trees.FunctionDef (codes "f") (Trees.arguments Trees.no_arg Trees.no_arg Trees.absent_arg Trees.no_arg Trees.no_optional
+      Trees.absent_arg Trees.no_exprs)
       (Trees.a_stmt Trees.Pass Trees.no_stmt) [] None [] ∷ [];
 }
 
@@ -151,8 +159,10 @@ matching = record {
   body = Trees.Match (name (codes "x"))
       (Trees.a_case (Trees.MatchSingleton value.None) None pass
       (Trees.a_case (Trees.MatchOr (Trees.a_pattern (Trees.MatchValue (Trees.Constant (value.Int 1)))
-      (Trees.a_pattern (Trees.MatchSequence (Trees.a_pattern (capture (codes "a")) (Trees.a_pattern (Trees.MatchStar None) Trees.no_pattern))) Trees.no_pattern))) None pass
-      (Trees.a_case (Trees.MatchMapping (Trees.Constant (value.Str (codes "k") false) ∷ []) (Trees.a_pattern wildcard Trees.no_pattern) (Some (codes "r")))
+      (Trees.a_pattern (Trees.MatchSequence
+      (Trees.a_pattern (capture (codes "a")) (Trees.a_pattern (Trees.MatchStar None) Trees.no_pattern))) Trees.no_pattern))) None pass
+      (Trees.a_case (Trees.MatchMapping (Trees.Constant (value.Str (codes "k") false) ∷ [])
+      (Trees.a_pattern wildcard Trees.no_pattern) (Some (codes "r")))
       (Some (name (codes "b"))) pass
       (Trees.a_case (Trees.MatchClass (name (codes "A")) (Trees.a_pattern (capture (codes "c")) Trees.no_pattern) (codes "d" ∷ [])
       (Trees.a_pattern (Trees.MatchAs (Trees.present_pattern wildcard) (Some (codes "e"))) Trees.no_pattern)) None pass

@@ -34,15 +34,18 @@ one_part : (o p q l v b : List ℕ) → o ++ (p ++ q ++ (l ++ v ++ []) ++ b) ≡
 one_part o p q l v b = simp (append_assoc, append-nil) refl
 
 -- of two fields, the second as it is
-kind_parts : (o p q l v c m u b : List ℕ) → o ++ (p ++ q ++ (l ++ v ++ (c ++ m ++ u ++ [])) ++ b) ≡ o ++ (p ++ q ++ l) ++ v ++ (c ++ m ++ u ++ b)
+kind_parts : (o p q l v c m u b : List ℕ) → o ++ (p ++ q ++ (l ++ v ++ (c ++ m ++ u ++ [])) ++ b) ≡ o ++ (p ++ q ++ l)
+    ++ v ++ (c ++ m ++ u ++ b)
 kind_parts o p q l v c m u b = simp (append_assoc, append-nil) refl
 
 abbrev name_fields : List ℕ → Context → Fields
 name_fields x c = a_field (codes "id") (shown_name x) (a_field (codes "ctx") (word (context_name c)) no_field)
 
 name_parts : (s : Style) (f x : List ℕ) (c : Context) (o : List ℕ) → o ++ node s f true (codes "Name") (name_fields x c)
-    ≡ ((o ++ (codes "Name(" ++ label s.names (codes "id"))) ++ repr_text x) ++ (codes ", " ++ label s.names (codes "ctx") ++ context_name c ++ codes "())")
-name_parts s f x c o = two_parts o (codes "Name") (codes "(") (label s.names (codes "id")) (repr_text x) (codes ", ") (label s.names (codes "ctx")) (context_name c) (codes "(") (codes ")")
+    ≡ ((o ++ (codes "Name(" ++ label s.names (codes "id"))) ++ repr_text x) ++
+    (codes ", " ++ label s.names (codes "ctx") ++ context_name c ++ codes "())")
+name_parts s f x c o = two_parts o (codes "Name") (codes "(") (label s.names (codes "id")) (repr_text x) (codes ", ")
+    (label s.names (codes "ctx")) (context_name c) (codes "(") (codes ")")
 
 pub name_text : (s : Style) (f x : List ℕ) (c : Context) (o0 o1 o2 o3 start end : List ℕ) →
     start ≡ codes "Name(" ++ label s.names (codes "id") → end ≡ codes ", " ++ label s.names (codes "ctx") ++ context_name c ++ codes "())" →
@@ -96,15 +99,24 @@ short (value.Bytes bytes) = refl
 
 constant_parts : (s : Style) (f o : List ℕ) (v : Value) → o ++ node s f true (codes "Constant") (constant_fields v)
     ≡ ((o ++ (codes "Constant(" ++ label s.names (codes "value"))) ++ value_text v) ++ (kind_shown s.names v ++ codes ")")
-constant_parts s f o value.None = one_part o (codes "Constant") (codes "(") (label s.names (codes "value")) (value_text value.None) (codes ")")
-constant_parts s f o value.Ellipsis = one_part o (codes "Constant") (codes "(") (label s.names (codes "value")) (value_text value.Ellipsis) (codes ")")
-constant_parts s f o (value.Bool b) = one_part o (codes "Constant") (codes "(") (label s.names (codes "value")) (value_text (value.Bool b)) (codes ")")
-constant_parts s f o (value.Int n) = one_part o (codes "Constant") (codes "(") (label s.names (codes "value")) (value_text (value.Int n)) (codes ")")
-constant_parts s f o (value.Float x) = one_part o (codes "Constant") (codes "(") (label s.names (codes "value")) (value_text (value.Float x)) (codes ")")
-constant_parts s f o (value.Imaginary x) = one_part o (codes "Constant") (codes "(") (label s.names (codes "value")) (value_text (value.Imaginary x)) (codes ")")
-constant_parts s f o (value.Str points false) = one_part o (codes "Constant") (codes "(") (label s.names (codes "value")) (value_text (value.Str points false)) (codes ")")
-constant_parts s f o (value.Str points true) = kind_parts o (codes "Constant") (codes "(") (label s.names (codes "value")) (value_text (value.Str points true)) (codes ", ") (label s.names (codes "kind")) (codes "'u'") (codes ")")
-constant_parts s f o (value.Bytes bytes) = one_part o (codes "Constant") (codes "(") (label s.names (codes "value")) (value_text (value.Bytes bytes)) (codes ")")
+constant_parts s f o value.None = one_part o (codes "Constant") (codes "(") (label s.names (codes "value"))
+    (value_text value.None) (codes ")")
+constant_parts s f o value.Ellipsis = one_part o (codes "Constant") (codes "(") (label s.names (codes "value"))
+    (value_text value.Ellipsis) (codes ")")
+constant_parts s f o (value.Bool b) = one_part o (codes "Constant") (codes "(") (label s.names (codes "value"))
+    (value_text (value.Bool b)) (codes ")")
+constant_parts s f o (value.Int n) = one_part o (codes "Constant") (codes "(") (label s.names (codes "value"))
+    (value_text (value.Int n)) (codes ")")
+constant_parts s f o (value.Float x) = one_part o (codes "Constant") (codes "(") (label s.names (codes "value"))
+    (value_text (value.Float x)) (codes ")")
+constant_parts s f o (value.Imaginary x) = one_part o (codes "Constant") (codes "(") (label s.names (codes "value"))
+    (value_text (value.Imaginary x)) (codes ")")
+constant_parts s f o (value.Str points false) = one_part o (codes "Constant") (codes "(") (label s.names (codes "value"))
+    (value_text (value.Str points false)) (codes ")")
+constant_parts s f o (value.Str points true) = kind_parts o (codes "Constant") (codes "(") (label s.names (codes "value"))
+    (value_text (value.Str points true)) (codes ", ") (label s.names (codes "kind")) (codes "'u'") (codes ")")
+constant_parts s f o (value.Bytes bytes) = one_part o (codes "Constant") (codes "(") (label s.names (codes "value"))
+    (value_text (value.Bytes bytes)) (codes ")")
 
 pub constant_text : (s : Style) (f : List ℕ) (v : Value) (o0 o1 o2 o3 start end : List ℕ) →
     start ≡ codes "Constant(" ++ label s.names (codes "value") → end ≡ kind_shown s.names v ++ codes ")" →
@@ -112,4 +124,5 @@ pub constant_text : (s : Style) (f : List ℕ) (v : Value) (o0 o1 o2 o3 start en
 constant_text s f v o0 o1 o2 o3 start end es ee e1 e2 e3 =
     e3 ∙ (λ i. (e2 ∙ (λ j. (e1 ∙ (λ k. o0 ++ es k)) j ++ value_text v)) i ++ ee i)
     ∙ sym (constant_parts s f o0 v)
-    ∙ sym (ap (λ b. o0 ++ node s f b (codes "Constant") (constant_fields v)) (ap (λ b. is_flat s.indent || b) (short v) ∙ or_true (is_flat s.indent)))
+    ∙ sym (ap (λ b. o0 ++ node s f b (codes "Constant") (constant_fields v)) (ap (λ b. is_flat s.indent || b) (short v)
+    ∙ or_true (is_flat s.indent)))

@@ -12,9 +12,11 @@ use Rattle.pytree_node.specs.declared.statements.Stmt as given_stmt
 use Rattle.pytree_node.specs.Trees
 use Rattle.pytree_node.specs.Trees.{Identifier, optional_pattern}
 use Rattle.pytree_node.specs.TreeOf.{case_of, item_of, pattern_of, stmt_of, tree_of}
-use Rattle.pytree_dump_text.specs.Shows.{Shown, Row, a_field, left_out, no_field, no_shown, expr_field, name_field, pattern_field, shown, shown_item, shown_pattern, shown_stmt}
+use Rattle.pytree_dump_text.specs.Shows.{Shown, Row, a_field, left_out, no_field, no_shown, expr_field, name_field, pattern_field, shown}
+use Rattle.pytree_dump_text.specs.Shows.{shown_item, shown_pattern, shown_stmt}
 use Rattle.pytree_dump_text.specs.Layout.{is_short, is_simple}
-use Rattle.pytree_dump_text.specs.Blocks.{bare_option, bare_pattern_option, listed, shown_block, shown_case, shown_matched, shown_pattern_row}
+use Rattle.pytree_dump_text.specs.Blocks.{bare_option, bare_pattern_option, listed, shown_block, shown_case, shown_matched}
+use Rattle.pytree_dump_text.specs.Blocks.{shown_pattern_row}
 use Rattle.pytree_dump_text.specs.Slots.{field, missing}
 use Rattle.pytree_dump_text.proofs.SlotLemmas.{empty_is_simple, one_slot, two_slots, three_slots}
 
@@ -22,16 +24,20 @@ use Rattle.pytree_dump_text.proofs.SlotLemmas.{empty_is_simple, one_slot, two_sl
 pub short_test : (p : Profile) (x : Shown) (ys zs : List given_stmt.Stmt) →
     is_short (a_field (codes "test") x (a_field (codes "body") (shown_block p ys) (a_field (codes "orelse") (shown_block p zs) no_field)))
     ≡ is_simple x && nat_eq (length ys) 0 && nat_eq (length zs) 0
-short_test p x ys zs = three_slots (field (codes "test") x) (field (codes "body") (shown_block p ys)) (field (codes "orelse") (shown_block p zs))
+short_test p x ys zs = three_slots (field (codes "test") x) (field (codes "body") (shown_block p ys))
+    (field (codes "orelse") (shown_block p zs))
     ∙ (λ i. is_simple x && empty_is_simple (λ s. shown_stmt p (stmt_of s)) ys i && empty_is_simple (λ s. shown_stmt p (stmt_of s)) zs i)
 
 pub short_with : (p : Profile) (items : List given_item.Item) (ys : List given_stmt.Stmt) →
-    is_short (a_field (codes "items") (listed (λ item. shown_item (item_of item)) items) (a_field (codes "body") (shown_block p ys) (left_out no_field)))
+    is_short (a_field (codes "items") (listed (λ item. shown_item (item_of item)) items)
+    (a_field (codes "body") (shown_block p ys) (left_out no_field)))
     ≡ nat_eq (length items) 0 && nat_eq (length ys) 0
-short_with p items ys = two_slots (field (codes "items") (listed (λ item. shown_item (item_of item)) items)) (field (codes "body") (shown_block p ys))
+short_with p items ys = two_slots (field (codes "items") (listed (λ item. shown_item (item_of item)) items))
+    (field (codes "body") (shown_block p ys))
     ∙ (λ i. empty_is_simple (λ item. shown_item (item_of item)) items i && empty_is_simple (λ s. shown_stmt p (stmt_of s)) ys i)
 
-short_body : (p : Profile) (ys : List given_stmt.Stmt) → is_short (a_field (codes "body") (shown_block p ys) no_field) ≡ nat_eq (length ys) 0
+short_body : (p : Profile) (ys : List given_stmt.Stmt)
+    → is_short (a_field (codes "body") (shown_block p ys) no_field) ≡ nat_eq (length ys) 0
 short_body p ys = one_slot (field (codes "body") (shown_block p ys)) ∙ empty_is_simple (λ s. shown_stmt p (stmt_of s)) ys
 
 pub short_module : (p : Profile) (ys : List given_stmt.Stmt) →
@@ -39,7 +45,8 @@ pub short_module : (p : Profile) (ys : List given_stmt.Stmt) →
 short_module p ys = short_body p ys
 
 short_typed : (p : Profile) (e : Trees.Expr) (ys : List given_stmt.Stmt) →
-    is_short (a_field (codes "type") (shown e) (a_field (codes "body") (shown_block p ys) no_field)) ≡ is_simple (shown e) && nat_eq (length ys) 0
+    is_short (a_field (codes "type") (shown e) (a_field (codes "body") (shown_block p ys) no_field)) ≡ is_simple
+    (shown e) && nat_eq (length ys) 0
 short_typed p e ys = two_slots (field (codes "type") (shown e)) (field (codes "body") (shown_block p ys))
     ∙ (λ i. is_simple (shown e) && empty_is_simple (λ s. shown_stmt p (stmt_of s)) ys i)
 
@@ -61,11 +68,13 @@ pub short_case : (p : Profile) (x : Shown) (guard : Option Trees.Expr) (ys : Lis
     ≡ is_simple x && bare_option guard && nat_eq (length ys) 0
 short_case p x None ys = three_slots (field (codes "pattern") x) missing (field (codes "body") (shown_block p ys))
     ∙ (λ i. is_simple x && true && empty_is_simple (λ s. shown_stmt p (stmt_of s)) ys i)
-short_case p x (Some e) ys = three_slots (field (codes "pattern") x) (field (codes "guard") (shown e)) (field (codes "body") (shown_block p ys))
+short_case p x (Some e) ys = three_slots (field (codes "pattern") x) (field (codes "guard") (shown e))
+    (field (codes "body") (shown_block p ys))
     ∙ (λ i. is_simple x && is_simple (shown e) && empty_is_simple (λ s. shown_stmt p (stmt_of s)) ys i)
 
 -- which patterns are short
-pub short_patterns : (ps : List given_pattern.Pattern) → is_short (a_field (codes "patterns") (shown_pattern_row ps) no_field) ≡ nat_eq (length ps) 0
+pub short_patterns : (ps : List given_pattern.Pattern)
+    → is_short (a_field (codes "patterns") (shown_pattern_row ps) no_field) ≡ nat_eq (length ps) 0
 short_patterns ps = one_slot (field (codes "patterns") (shown_pattern_row ps)) ∙ empty_is_simple (λ p. shown_pattern (pattern_of p)) ps
 
 short_keyed : (es : List given_expr.Expr) (ps : List given_pattern.Pattern) →
@@ -82,7 +91,8 @@ short_mapping es ps None = short_keyed es ps
 short_mapping es ps (Some n) = short_keyed es ps
 
 pub short_as : (pattern : Option Trees.Pattern) (name : Option Identifier) →
-    is_short (pattern_field (codes "pattern") (optional_pattern pattern) (name_field (codes "name") name no_field)) ≡ bare_pattern_option pattern
+    is_short (pattern_field (codes "pattern") (optional_pattern pattern) (name_field (codes "name") name no_field)) ≡
+    bare_pattern_option pattern
 short_as None None = refl
 short_as None (Some n) = refl
 short_as (Some p) None = one_slot (field (codes "pattern") (shown_pattern p))

@@ -25,7 +25,8 @@ arguments_show (Trees.arguments p a (Trees.present_arg v) k d Trees.absent_arg f
 arguments_show (Trees.arguments p a (Trees.present_arg v) k d (Trees.present_arg w) f) = refl
 
 -- a field of an f-string shows fields
-pub formatted_shows : (e : Trees.Expr) (c : Conversion) (spec : Trees.OptionalExpr) → is_simple (shown (Trees.FormattedValue e c spec)) ≡ false
+pub formatted_shows : (e : Trees.Expr) (c : Conversion) (spec : Trees.OptionalExpr)
+    → is_simple (shown (Trees.FormattedValue e c spec)) ≡ false
 formatted_shows e c Trees.absent = refl
 formatted_shows e c (Trees.present s) = refl
 
@@ -85,10 +86,14 @@ plain_slot : (a : Slot) (rest : Fields) → all_simple (with_slot a rest) ≡ is
 plain_slot missing rest = refl
 plain_slot (field n x) rest = refl
 
-plain_slots : (a b c d : Slot) → all_simple (with_slot a (with_slot b (with_slot c (with_slot d no_field)))) ≡ is_plain a && (is_plain b && (is_plain c && (is_plain d && true)))
-plain_slots a b c d = plain_slot a _ ∙ ap (λ z. is_plain a && z) (plain_slot b _ ∙ ap (λ z. is_plain b && z) (plain_slot c _ ∙ ap (λ z. is_plain c && z) (plain_slot d no_field)))
+plain_slots : (a b c d : Slot) → all_simple (with_slot a (with_slot b (with_slot c (with_slot d no_field)))) ≡ is_plain a &&
+    (is_plain b && (is_plain c && (is_plain d && true)))
+plain_slots a b c d = plain_slot a _
+    ∙ ap (λ z. is_plain a && z) (plain_slot b _
+    ∙ ap (λ z. is_plain b && z) (plain_slot c _ ∙ ap (λ z. is_plain c && z) (plain_slot d no_field)))
 
-at_most_three : (a b c d : Slot) → nat_le (shown_count (with_slot a (with_slot b (with_slot c (with_slot d no_field))))) 3 ≡ (is_missing a || is_missing b || is_missing c || is_missing d)
+at_most_three : (a b c d : Slot) → nat_le (shown_count (with_slot a (with_slot b (with_slot c (with_slot d no_field))))) 3 ≡
+    (is_missing a || is_missing b || is_missing c || is_missing d)
 at_most_three missing missing missing missing = refl
 at_most_three missing missing missing (field j w) = refl
 at_most_three missing missing (field k z) missing = refl

@@ -8,7 +8,8 @@ use Rattle.pytree_node.specs.declared.statements.Stmt as given_stmt
 use Rattle.pytree_node.specs.Trees
 use Rattle.pytree_node.specs.Trees.{stmts}
 use Rattle.pytree_node.specs.TreeOf.{case_of, handler_of, pattern_of, stmt_of}
-use Rattle.pytree_dump_text.specs.Shows.{Shown, Row, Node, a_field, no_field, expr_field, name_field, shown, showns, shown_pattern, shown_stmt, shown_stmts}
+use Rattle.pytree_dump_text.specs.Shows.{Shown, Row, Node, a_field, no_field, expr_field, name_field, shown, showns, shown_pattern}
+use Rattle.pytree_dump_text.specs.Shows.{shown_stmt, shown_stmts}
 use Rattle.pytree_dump_text.specs.Layout.{is_simple}
 
 -- a list of what can be shown
@@ -22,7 +23,8 @@ shown_block p body = Row (showns (map (λ s. shown_stmt p (stmt_of s)) body))
 -- a handler alone
 abbrev pub shown_handler : Profile → Trees.Handler → Shown
 shown_handler p h = Node (codes "ExceptHandler")
-    (expr_field (codes "type") h.class (name_field (codes "name") h.name (a_field (codes "body") (Row (shown_stmts p (stmts h.body))) no_field)))
+    (expr_field (codes "type") h.class
+    (name_field (codes "name") h.name (a_field (codes "body") (Row (shown_stmts p (stmts h.body))) no_field)))
 
 -- the handlers of a `try`, as a list
 abbrev pub shown_caught : Profile → List given_handler.Handler → Shown
@@ -35,7 +37,8 @@ shown_pattern_row ps = Row (showns (map (λ p. shown_pattern (pattern_of p)) ps)
 -- a case alone
 abbrev pub shown_case : Profile → Trees.Case → Shown
 shown_case p c = Node (codes "match_case")
-    (a_field (codes "pattern") (shown_pattern c.pattern) (expr_field (codes "guard") c.guard (a_field (codes "body") (Row (shown_stmts p (stmts c.body))) no_field)))
+    (a_field (codes "pattern") (shown_pattern c.pattern)
+    (expr_field (codes "guard") c.guard (a_field (codes "body") (Row (shown_stmts p (stmts c.body))) no_field)))
 
 -- the cases of a `match`, as a list
 abbrev pub shown_matched : Profile → List given_case.Case → Shown

@@ -2,7 +2,8 @@
 --
 -- On one line, members are parted by a comma and a blank. Else each begins a line of its own, after a comma but for the first; the
 -- closing bracket follows the last. The indentation of a line is a newline and as many blanks as its level has.
-use Rattle.std.specs.Prelude.{ℕ, ◌+◌, nat_le, Bool, true, false, ◌&&◌, ◌||◌, List, [], ◌++◌, Option, Some, None, codes, replicate, if◌then◌else◌}
+use Rattle.std.specs.Prelude.{ℕ, ◌+◌, nat_le, Bool, true, false, ◌&&◌, ◌||◌, List, [], ◌++◌, Option, Some, None, codes, replicate}
+use Rattle.std.specs.Prelude.{if◌then◌else◌}
 use Rattle.pysource.specs.Characters.{space}
 use Rattle.pytree_dump_text.specs.declared.styles.Style.{Style}
 use Rattle.pytree_dump_text.specs.Shows.{Shown, Showns, Fields, Scalar, Row, Node, no_shown, a_shown, no_field, a_field, left_out}
@@ -57,7 +58,8 @@ abbrev mutual
 
   pub members : Style → List ℕ → Bool → Showns → List ℕ
   members s indentation first no_shown = []
-  members s indentation first (a_shown x xs) = before (is_flat s.indent) indentation first ++ text s indentation x ++ members s indentation false xs
+  members s indentation first (a_shown x xs) = before (is_flat s.indent) indentation first ++ text s indentation x ++
+      members s indentation false xs
 
   -- once a field is left out, those behind it are named
   pub fields : Style → List ℕ → Bool → Bool → Bool → Fields → List ℕ

@@ -132,40 +132,63 @@ name_field field (Some name) rest = a_field field (shown_name name) rest
 
 abbrev mutual
   pub shown : Trees.Expr → Shown
-  shown (Trees.BoolOp op values) = Node (codes "BoolOp") (a_field (codes "op") (word (bool_name op)) (a_field (codes "values") (Row (shown_exprs values)) no_field))
-  shown (Trees.NamedExpr target value) = Node (codes "NamedExpr") (a_field (codes "target") (shown target) (a_field (codes "value") (shown value) no_field))
+  shown (Trees.BoolOp op values) =
+      Node (codes "BoolOp") (a_field (codes "op") (word (bool_name op)) (a_field (codes "values") (Row (shown_exprs values)) no_field))
+  shown (Trees.NamedExpr target value) =
+      Node (codes "NamedExpr") (a_field (codes "target") (shown target) (a_field (codes "value") (shown value) no_field))
   shown (Trees.BinOp left op right) = Node (codes "BinOp")
-      (a_field (codes "left") (shown left) (a_field (codes "op") (word (operator_name op)) (a_field (codes "right") (shown right) no_field)))
-  shown (Trees.UnaryOp op operand) = Node (codes "UnaryOp") (a_field (codes "op") (word (unary_name op)) (a_field (codes "operand") (shown operand) no_field))
-  shown (Trees.Lambda args body) = Node (codes "Lambda") (a_field (codes "args") (shown_arguments args) (a_field (codes "body") (shown body) no_field))
+      (a_field (codes "left") (shown left)
+      (a_field (codes "op") (word (operator_name op)) (a_field (codes "right") (shown right) no_field)))
+  shown (Trees.UnaryOp op operand) =
+      Node (codes "UnaryOp") (a_field (codes "op") (word (unary_name op)) (a_field (codes "operand") (shown operand) no_field))
+  shown (Trees.Lambda args body) =
+      Node (codes "Lambda") (a_field (codes "args") (shown_arguments args) (a_field (codes "body") (shown body) no_field))
   shown (Trees.IfExp test body orelse) = Node (codes "IfExp")
       (a_field (codes "test") (shown test) (a_field (codes "body") (shown body) (a_field (codes "orelse") (shown orelse) no_field)))
-  shown (Trees.Dict keys values) = Node (codes "Dict") (a_field (codes "keys") (Row (shown_optionals keys)) (a_field (codes "values") (Row (shown_exprs values)) no_field))
+  shown (Trees.Dict keys values) =
+      Node (codes "Dict") (a_field (codes "keys") (Row (shown_optionals keys))
+      (a_field (codes "values") (Row (shown_exprs values)) no_field))
   shown (Trees.Set elts) = Node (codes "Set") (a_field (codes "elts") (Row (shown_exprs elts)) no_field)
-  shown (Trees.ListComp elt generators) = Node (codes "ListComp") (a_field (codes "elt") (shown elt) (a_field (codes "generators") (Row (shown_comprehensions generators)) no_field))
-  shown (Trees.SetComp elt generators) = Node (codes "SetComp") (a_field (codes "elt") (shown elt) (a_field (codes "generators") (Row (shown_comprehensions generators)) no_field))
+  shown (Trees.ListComp elt generators) =
+      Node (codes "ListComp")
+      (a_field (codes "elt") (shown elt) (a_field (codes "generators") (Row (shown_comprehensions generators)) no_field))
+  shown (Trees.SetComp elt generators) =
+      Node (codes "SetComp")
+      (a_field (codes "elt") (shown elt) (a_field (codes "generators") (Row (shown_comprehensions generators)) no_field))
   shown (Trees.DictComp key value generators) = Node (codes "DictComp")
-      (a_field (codes "key") (shown key) (a_field (codes "value") (shown value) (a_field (codes "generators") (Row (shown_comprehensions generators)) no_field)))
-  shown (Trees.GeneratorExp elt generators) = Node (codes "GeneratorExp") (a_field (codes "elt") (shown elt) (a_field (codes "generators") (Row (shown_comprehensions generators)) no_field))
+      (a_field (codes "key") (shown key)
+      (a_field (codes "value") (shown value) (a_field (codes "generators") (Row (shown_comprehensions generators)) no_field)))
+  shown (Trees.GeneratorExp elt generators) =
+      Node (codes "GeneratorExp")
+      (a_field (codes "elt") (shown elt) (a_field (codes "generators") (Row (shown_comprehensions generators)) no_field))
   shown (Trees.Await value) = Node (codes "Await") (a_field (codes "value") (shown value) no_field)
   shown (Trees.Yield value) = Node (codes "Yield") (optional_field (codes "value") value no_field)
   shown (Trees.YieldFrom value) = Node (codes "YieldFrom") (a_field (codes "value") (shown value) no_field)
   shown (Trees.Compare left ops comparators) = Node (codes "Compare")
-      (a_field (codes "left") (shown left) (a_field (codes "ops") (Row (shown_comparisons ops)) (a_field (codes "comparators") (Row (shown_exprs comparators)) no_field)))
+      (a_field (codes "left") (shown left) (a_field (codes "ops") (Row (shown_comparisons ops))
+      (a_field (codes "comparators") (Row (shown_exprs comparators)) no_field)))
   shown (Trees.Call func args keywords) = Node (codes "Call")
-      (a_field (codes "func") (shown func) (a_field (codes "args") (Row (shown_exprs args)) (a_field (codes "keywords") (Row (shown_keywords keywords)) no_field)))
+      (a_field (codes "func") (shown func)
+      (a_field (codes "args") (Row (shown_exprs args)) (a_field (codes "keywords") (Row (shown_keywords keywords)) no_field)))
   shown (Trees.FormattedValue value conversion spec) = Node (codes "FormattedValue")
-      (a_field (codes "value") (shown value) (a_field (codes "conversion") (Scalar (conversion_number conversion)) (optional_field (codes "format_spec") spec no_field)))
+      (a_field (codes "value") (shown value) (a_field (codes "conversion") (Scalar (conversion_number conversion))
+      (optional_field (codes "format_spec") spec no_field)))
   shown (Trees.JoinedStr values) = Node (codes "JoinedStr") (a_field (codes "values") (Row (shown_exprs values)) no_field)
   shown (Trees.Constant value) = Node (codes "Constant") (a_field (codes "value") (Scalar (value_text value)) (kind_field value no_field))
   shown (Trees.Attribute value attr ctx) = Node (codes "Attribute")
-      (a_field (codes "value") (shown value) (a_field (codes "attr") (shown_name attr) (a_field (codes "ctx") (word (context_name ctx)) no_field)))
+      (a_field (codes "value") (shown value)
+      (a_field (codes "attr") (shown_name attr) (a_field (codes "ctx") (word (context_name ctx)) no_field)))
   shown (Trees.Subscript value slice ctx) = Node (codes "Subscript")
-      (a_field (codes "value") (shown value) (a_field (codes "slice") (shown slice) (a_field (codes "ctx") (word (context_name ctx)) no_field)))
-  shown (Trees.Starred value ctx) = Node (codes "Starred") (a_field (codes "value") (shown value) (a_field (codes "ctx") (word (context_name ctx)) no_field))
-  shown (Trees.Name id ctx) = Node (codes "Name") (a_field (codes "id") (shown_name id) (a_field (codes "ctx") (word (context_name ctx)) no_field))
-  shown (Trees.ListOf elts ctx) = Node (codes "List") (a_field (codes "elts") (Row (shown_exprs elts)) (a_field (codes "ctx") (word (context_name ctx)) no_field))
-  shown (Trees.Tuple elts ctx) = Node (codes "Tuple") (a_field (codes "elts") (Row (shown_exprs elts)) (a_field (codes "ctx") (word (context_name ctx)) no_field))
+      (a_field (codes "value") (shown value)
+      (a_field (codes "slice") (shown slice) (a_field (codes "ctx") (word (context_name ctx)) no_field)))
+  shown (Trees.Starred value ctx) =
+      Node (codes "Starred") (a_field (codes "value") (shown value) (a_field (codes "ctx") (word (context_name ctx)) no_field))
+  shown (Trees.Name id ctx) =
+      Node (codes "Name") (a_field (codes "id") (shown_name id) (a_field (codes "ctx") (word (context_name ctx)) no_field))
+  shown (Trees.ListOf elts ctx) =
+      Node (codes "List") (a_field (codes "elts") (Row (shown_exprs elts)) (a_field (codes "ctx") (word (context_name ctx)) no_field))
+  shown (Trees.Tuple elts ctx) =
+      Node (codes "Tuple") (a_field (codes "elts") (Row (shown_exprs elts)) (a_field (codes "ctx") (word (context_name ctx)) no_field))
   shown (Trees.Slice lower upper step) = Node (codes "Slice")
       (optional_field (codes "lower") lower (optional_field (codes "upper") upper (optional_field (codes "step") step no_field)))
 
@@ -194,11 +217,13 @@ abbrev mutual
 
   pub shown_keywords : Trees.Keywords → Showns
   shown_keywords Trees.no_keyword = no_shown
-  shown_keywords (Trees.a_keyword arg value ks) = a_shown (Node (codes "keyword") (name_field (codes "arg") arg (a_field (codes "value") (shown value) no_field))) (shown_keywords ks)
+  shown_keywords (Trees.a_keyword arg value ks) =
+      a_shown (Node (codes "keyword") (name_field (codes "arg") arg (a_field (codes "value") (shown value) no_field))) (shown_keywords ks)
 
   -- a parameter has no type comment
   pub shown_arg : Trees.Arg → Shown
-  shown_arg (Trees.arg name annotation) = Node (codes "arg") (a_field (codes "arg") (shown_name name) (optional_field (codes "annotation") annotation (left_out no_field)))
+  shown_arg (Trees.arg name annotation) =
+      Node (codes "arg") (a_field (codes "arg") (shown_name name) (optional_field (codes "annotation") annotation (left_out no_field)))
 
   pub shown_args : Trees.Args → Showns
   shown_args Trees.no_arg = no_shown
@@ -210,7 +235,8 @@ abbrev mutual
 
   pub shown_arguments : Trees.Arguments → Shown
   shown_arguments (Trees.arguments posonlyargs args vararg kwonlyargs kw_defaults kwarg defaults) = Node (codes "arguments")
-      (a_field (codes "posonlyargs") (Row (shown_args posonlyargs)) (a_field (codes "args") (Row (shown_args args)) (arg_field (codes "vararg") vararg
+      (a_field (codes "posonlyargs") (Row (shown_args posonlyargs))
+      (a_field (codes "args") (Row (shown_args args)) (arg_field (codes "vararg") vararg
       (a_field (codes "kwonlyargs") (Row (shown_args kwonlyargs)) (a_field (codes "kw_defaults") (Row (shown_optionals kw_defaults))
       (arg_field (codes "kwarg") kwarg (a_field (codes "defaults") (Row (shown_exprs defaults)) no_field)))))))
 
@@ -242,7 +268,8 @@ shown_aliases [] = no_shown
 shown_aliases (a ∷ rest) = a_shown (shown_alias a) (shown_aliases rest)
 
 abbrev pub shown_item : Trees.Item → Shown
-shown_item i = Node (codes "withitem") (a_field (codes "context_expr") (shown i.context_expr) (expr_field (codes "optional_vars") i.optional_vars no_field))
+shown_item i = Node (codes "withitem") (a_field (codes "context_expr") (shown i.context_expr)
+    (expr_field (codes "optional_vars") i.optional_vars no_field))
 
 abbrev pub shown_items : List Trees.Item → Showns
 shown_items [] = no_shown
@@ -250,7 +277,8 @@ shown_items (i ∷ rest) = a_shown (shown_item i) (shown_items rest)
 
 -- a parameter of a type
 abbrev pub shown_type_param : Trees.TypeParam → Shown
-shown_type_param (Trees.TypeVar name bound) = Node (codes "TypeVar") (a_field (codes "name") (shown_name name) (expr_field (codes "bound") bound no_field))
+shown_type_param (Trees.TypeVar name bound) =
+    Node (codes "TypeVar") (a_field (codes "name") (shown_name name) (expr_field (codes "bound") bound no_field))
 shown_type_param (Trees.ParamSpec name) = Node (codes "ParamSpec") (a_field (codes "name") (shown_name name) no_field)
 shown_type_param (Trees.TypeVarTuple name) = Node (codes "TypeVarTuple") (a_field (codes "name") (shown_name name) no_field)
 
@@ -263,14 +291,18 @@ abbrev mutual
   pub shown_pattern : Trees.Pattern → Shown
   shown_pattern (Trees.MatchValue value) = Node (codes "MatchValue") (a_field (codes "value") (shown value) no_field)
   shown_pattern (Trees.MatchSingleton value) = Node (codes "MatchSingleton") (a_field (codes "value") (Scalar (value_text value)) no_field)
-  shown_pattern (Trees.MatchSequence inner) = Node (codes "MatchSequence") (a_field (codes "patterns") (Row (shown_patterns inner)) no_field)
+  shown_pattern (Trees.MatchSequence inner) =
+      Node (codes "MatchSequence") (a_field (codes "patterns") (Row (shown_patterns inner)) no_field)
   shown_pattern (Trees.MatchMapping keys inner rest) = Node (codes "MatchMapping")
-      (a_field (codes "keys") (shown_row keys) (a_field (codes "patterns") (Row (shown_patterns inner)) (name_field (codes "rest") rest no_field)))
+      (a_field (codes "keys") (shown_row keys) (a_field (codes "patterns") (Row (shown_patterns inner))
+      (name_field (codes "rest") rest no_field)))
   shown_pattern (Trees.MatchClass cls inner names named) = Node (codes "MatchClass")
-      (a_field (codes "cls") (shown cls) (a_field (codes "patterns") (Row (shown_patterns inner)) (a_field (codes "kwd_attrs") (Row (shown_names names))
+      (a_field (codes "cls") (shown cls) (a_field (codes "patterns") (Row (shown_patterns inner))
+      (a_field (codes "kwd_attrs") (Row (shown_names names))
       (a_field (codes "kwd_patterns") (Row (shown_patterns named)) no_field))))
   shown_pattern (Trees.MatchStar name) = Node (codes "MatchStar") (name_field (codes "name") name no_field)
-  shown_pattern (Trees.MatchAs inner name) = Node (codes "MatchAs") (pattern_field (codes "pattern") inner (name_field (codes "name") name no_field))
+  shown_pattern (Trees.MatchAs inner name) =
+      Node (codes "MatchAs") (pattern_field (codes "pattern") inner (name_field (codes "name") name no_field))
   shown_pattern (Trees.MatchOr inner) = Node (codes "MatchOr") (a_field (codes "patterns") (Row (shown_patterns inner)) no_field)
 
   pub shown_patterns : Trees.Patterns → Showns
@@ -288,23 +320,34 @@ type_params_field p ps = if has_types p then a_field (codes "type_params") (Row 
 abbrev mutual
   pub shown_stmt : Profile → Trees.Stmt → Shown
   shown_stmt p (Trees.FunctionDef name args body decorators returns parameters) = Node (codes "FunctionDef")
-      (a_field (codes "name") (shown_name name) (a_field (codes "args") (shown_arguments args) (a_field (codes "body") (Row (shown_stmts p body))
-      (a_field (codes "decorator_list") (shown_row decorators) (expr_field (codes "returns") returns (left_out (type_params_field p parameters)))))))
+      (a_field (codes "name") (shown_name name)
+      (a_field (codes "args") (shown_arguments args) (a_field (codes "body") (Row (shown_stmts p body))
+      (a_field (codes "decorator_list") (shown_row decorators)
+      (expr_field (codes "returns") returns (left_out (type_params_field p parameters)))))))
   shown_stmt p (Trees.AsyncFunctionDef name args body decorators returns parameters) = Node (codes "AsyncFunctionDef")
-      (a_field (codes "name") (shown_name name) (a_field (codes "args") (shown_arguments args) (a_field (codes "body") (Row (shown_stmts p body))
-      (a_field (codes "decorator_list") (shown_row decorators) (expr_field (codes "returns") returns (left_out (type_params_field p parameters)))))))
+      (a_field (codes "name") (shown_name name)
+      (a_field (codes "args") (shown_arguments args) (a_field (codes "body") (Row (shown_stmts p body))
+      (a_field (codes "decorator_list") (shown_row decorators)
+      (expr_field (codes "returns") returns (left_out (type_params_field p parameters)))))))
   shown_stmt p (Trees.ClassDef name bases keywords body decorators parameters) = Node (codes "ClassDef")
-      (a_field (codes "name") (shown_name name) (a_field (codes "bases") (shown_row bases) (a_field (codes "keywords") (Row (shown_keywords keywords))
-      (a_field (codes "body") (Row (shown_stmts p body)) (a_field (codes "decorator_list") (shown_row decorators) (type_params_field p parameters))))))
+      (a_field (codes "name") (shown_name name)
+      (a_field (codes "bases") (shown_row bases) (a_field (codes "keywords") (Row (shown_keywords keywords))
+      (a_field (codes "body") (Row (shown_stmts p body)) (a_field (codes "decorator_list") (shown_row decorators)
+      (type_params_field p parameters))))))
   shown_stmt p (Trees.Return value) = Node (codes "Return") (expr_field (codes "value") value no_field)
   shown_stmt p (Trees.Delete targets) = Node (codes "Delete") (a_field (codes "targets") (shown_row targets) no_field)
-  shown_stmt p (Trees.Assign targets value) = Node (codes "Assign") (a_field (codes "targets") (shown_row targets) (a_field (codes "value") (shown value) (left_out no_field)))
+  shown_stmt p (Trees.Assign targets value) =
+      Node (codes "Assign") (a_field (codes "targets") (shown_row targets) (a_field (codes "value") (shown value) (left_out no_field)))
   shown_stmt p (Trees.TypeAlias name parameters value) = Node (codes "TypeAlias")
-      (a_field (codes "name") (shown name) (a_field (codes "type_params") (Row (shown_type_params parameters)) (a_field (codes "value") (shown value) no_field)))
+      (a_field (codes "name") (shown name) (a_field (codes "type_params") (Row (shown_type_params parameters))
+      (a_field (codes "value") (shown value) no_field)))
   shown_stmt p (Trees.AugAssign target op value) = Node (codes "AugAssign")
-      (a_field (codes "target") (shown target) (a_field (codes "op") (word (operator_name op)) (a_field (codes "value") (shown value) no_field)))
+      (a_field (codes "target") (shown target)
+      (a_field (codes "op") (word (operator_name op)) (a_field (codes "value") (shown value) no_field)))
   shown_stmt p (Trees.AnnAssign target annotation value simple) = Node (codes "AnnAssign")
-      (a_field (codes "target") (shown target) (a_field (codes "annotation") (shown annotation) (expr_field (codes "value") value (a_field (codes "simple") (shown_flag simple) no_field))))
+      (a_field (codes "target") (shown target)
+      (a_field (codes "annotation") (shown annotation)
+      (expr_field (codes "value") value (a_field (codes "simple") (shown_flag simple) no_field))))
   shown_stmt p (Trees.For target iter body orelse) = Node (codes "For")
       (a_field (codes "target") (shown target) (a_field (codes "iter") (shown iter) (a_field (codes "body") (Row (shown_stmts p body))
       (a_field (codes "orelse") (Row (shown_stmts p orelse)) (left_out no_field)))))
@@ -312,14 +355,17 @@ abbrev mutual
       (a_field (codes "target") (shown target) (a_field (codes "iter") (shown iter) (a_field (codes "body") (Row (shown_stmts p body))
       (a_field (codes "orelse") (Row (shown_stmts p orelse)) (left_out no_field)))))
   shown_stmt p (Trees.While test body orelse) = Node (codes "While")
-      (a_field (codes "test") (shown test) (a_field (codes "body") (Row (shown_stmts p body)) (a_field (codes "orelse") (Row (shown_stmts p orelse)) no_field)))
+      (a_field (codes "test") (shown test) (a_field (codes "body") (Row (shown_stmts p body))
+      (a_field (codes "orelse") (Row (shown_stmts p orelse)) no_field)))
   shown_stmt p (Trees.If test body orelse) = Node (codes "If")
-      (a_field (codes "test") (shown test) (a_field (codes "body") (Row (shown_stmts p body)) (a_field (codes "orelse") (Row (shown_stmts p orelse)) no_field)))
+      (a_field (codes "test") (shown test) (a_field (codes "body") (Row (shown_stmts p body))
+      (a_field (codes "orelse") (Row (shown_stmts p orelse)) no_field)))
   shown_stmt p (Trees.With items body) = Node (codes "With")
       (a_field (codes "items") (Row (shown_items items)) (a_field (codes "body") (Row (shown_stmts p body)) (left_out no_field)))
   shown_stmt p (Trees.AsyncWith items body) = Node (codes "AsyncWith")
       (a_field (codes "items") (Row (shown_items items)) (a_field (codes "body") (Row (shown_stmts p body)) (left_out no_field)))
-  shown_stmt p (Trees.Match subject cases) = Node (codes "Match") (a_field (codes "subject") (shown subject) (a_field (codes "cases") (Row (shown_cases p cases)) no_field))
+  shown_stmt p (Trees.Match subject cases) =
+      Node (codes "Match") (a_field (codes "subject") (shown subject) (a_field (codes "cases") (Row (shown_cases p cases)) no_field))
   shown_stmt p (Trees.Raise exc cause) = Node (codes "Raise") (expr_field (codes "exc") exc (expr_field (codes "cause") cause no_field))
   shown_stmt p (Trees.Assert test msg) = Node (codes "Assert") (a_field (codes "test") (shown test) (expr_field (codes "msg") msg no_field))
   shown_stmt p (Trees.Try body handlers orelse finalbody) = Node (codes "Try")
@@ -330,7 +376,8 @@ abbrev mutual
       (a_field (codes "orelse") (Row (shown_stmts p orelse)) (a_field (codes "finalbody") (Row (shown_stmts p finalbody)) no_field))))
   shown_stmt p (Trees.Import names) = Node (codes "Import") (a_field (codes "names") (Row (shown_aliases names)) no_field)
   shown_stmt p (Trees.ImportFrom source names level) = Node (codes "ImportFrom")
-      (name_field (codes "module") source (a_field (codes "names") (Row (shown_aliases names)) (a_field (codes "level") (Scalar (decimal level)) no_field)))
+      (name_field (codes "module") source (a_field (codes "names") (Row (shown_aliases names))
+      (a_field (codes "level") (Scalar (decimal level)) no_field)))
   shown_stmt p (Trees.Global names) = Node (codes "Global") (a_field (codes "names") (Row (shown_names names)) no_field)
   shown_stmt p (Trees.Nonlocal names) = Node (codes "Nonlocal") (a_field (codes "names") (Row (shown_names names)) no_field)
   shown_stmt p (Trees.ExprOf value) = Node (codes "Expr") (a_field (codes "value") (shown value) no_field)
@@ -345,12 +392,15 @@ abbrev mutual
   pub shown_cases : Profile → Trees.Cases → Showns
   shown_cases p Trees.no_case = no_shown
   shown_cases p (Trees.a_case pattern guard body cs) = a_shown (Node (codes "match_case")
-      (a_field (codes "pattern") (shown_pattern pattern) (expr_field (codes "guard") guard (a_field (codes "body") (Row (shown_stmts p body)) no_field)))) (shown_cases p cs)
+      (a_field (codes "pattern") (shown_pattern pattern)
+      (expr_field (codes "guard") guard (a_field (codes "body") (Row (shown_stmts p body)) no_field)))) (shown_cases p cs)
 
   pub shown_handlers : Profile → Trees.Handlers → Showns
   shown_handlers p Trees.no_handler = no_shown
   shown_handlers p (Trees.a_handler class name body hs) = a_shown (Node (codes "ExceptHandler")
-      (expr_field (codes "type") class (name_field (codes "name") name (a_field (codes "body") (Row (shown_stmts p body)) no_field)))) (shown_handlers p hs)
+      (expr_field (codes "type") class (name_field (codes "name") name (a_field (codes "body") (Row (shown_stmts p body)) no_field))))
+      (shown_handlers p hs)
 
 abbrev pub shown_module : Profile → Trees.Module → Shown
-shown_module p m = Node (codes "Module") (a_field (codes "body") (Row (shown_stmts p (stmts m.body))) (a_field (codes "type_ignores") (Row no_shown) no_field))
+shown_module p m = Node (codes "Module") (a_field (codes "body") (Row (shown_stmts p (stmts m.body)))
+    (a_field (codes "type_ignores") (Row no_shown) no_field))

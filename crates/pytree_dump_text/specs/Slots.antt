@@ -5,12 +5,16 @@ use Rattle.pytree_dump_text.specs.declared.lines.Told.{Told}
 use Rattle.pytree_dump_text.specs.declared.parts.Part.{Part}
 use Rattle.pytree_dump_text.specs.declared.parts.Part.TheVariants as part
 use Rattle.pytree_dump_text.specs.Names.{field_name}
-use Rattle.pytree_dump_text.specs.Shows.{Shown, Fields, Scalar, Row, a_field, left_out, showns, word, shown, shown_name, shown_optional, shown_arg, shown_arguments, shown_flag, bool_name, comparison_name, context_name, conversion_number, operator_name, unary_name, shown_comprehension, shown_keyword, value_text, shown_alias, shown_item, shown_type_param}
+use Rattle.pytree_dump_text.specs.Shows.{Shown, Fields, Scalar, Row, a_field, left_out, showns, word, shown, shown_name, shown_optional}
+use Rattle.pytree_dump_text.specs.Shows.{shown_arg, shown_arguments, shown_flag, bool_name, comparison_name, context_name}
+use Rattle.pytree_dump_text.specs.Shows.{conversion_number, operator_name, unary_name, shown_comprehension, shown_keyword, value_text}
+use Rattle.pytree_dump_text.specs.Shows.{shown_alias, shown_item, shown_type_param}
 use Rattle.pytree_dump_text.specs.Layout.{deeper, fields, is_flat, is_short, is_simple, label}
 use Rattle.pytree_node.specs.Values as value
 use Rattle.pytree_node.specs.Values.{Value}
 use Rattle.pytree_node.specs.Trees.{optional}
-use Rattle.pytree_node.specs.TreeOf.{tree_of, option_of, comprehension_of, keyword_of, arg_of, arguments_of, constant_of, alias_of, item_of, type_param_of}
+use Rattle.pytree_node.specs.TreeOf.{tree_of, option_of, comprehension_of, keyword_of, arg_of, arguments_of, constant_of, alias_of, item_of}
+use Rattle.pytree_node.specs.TreeOf.{type_param_of}
 
 -- a field with its name, or one that is left out
 pub data Slot : Type 0 where
@@ -45,7 +49,8 @@ coming s indentation told rest = fields s indentation told.one_line told.named t
 
 -- a node, of what begins it, its class and the bracket, and of its fields
 abbrev pub node_text : Style → List ℕ → List ℕ → Fields → List ℕ
-node_text s indentation start fs = start ++ fields s (deeper s.indent indentation) (is_flat s.indent || is_short fs) s.names true fs ++ codes ")"
+node_text s indentation start fs = start ++ fields s (deeper s.indent indentation) (is_flat s.indent || is_short fs)
+    s.names true fs ++ codes ")"
 
 -- what a part of an expression shows
 abbrev pub slot_of : Part → Slot

@@ -154,19 +154,24 @@ abbrev mutual
 abbrev mutual
   pub highest_in : Trees.Stmt → ℕ
   highest_in (Trees.FunctionDef name args body decorators returns parameters) =
-      max (arguments_height args) (max (highest_in_all body) (max (list_height decorators) (max (option_height returns) (type_param_heights parameters))))
+      max (arguments_height args)
+      (max (highest_in_all body) (max (list_height decorators) (max (option_height returns) (type_param_heights parameters))))
   highest_in (Trees.AsyncFunctionDef name args body decorators returns parameters) =
-      max (arguments_height args) (max (highest_in_all body) (max (list_height decorators) (max (option_height returns) (type_param_heights parameters))))
+      max (arguments_height args)
+      (max (highest_in_all body) (max (list_height decorators) (max (option_height returns) (type_param_heights parameters))))
   highest_in (Trees.ClassDef name bases keywords body decorators parameters) =
-      max (list_height bases) (max (keyword_heights keywords) (max (highest_in_all body) (max (list_height decorators) (type_param_heights parameters))))
+      max (list_height bases)
+      (max (keyword_heights keywords) (max (highest_in_all body) (max (list_height decorators) (type_param_heights parameters))))
   highest_in (Trees.Return value) = option_height value
   highest_in (Trees.Delete targets) = list_height targets
   highest_in (Trees.Assign targets value) = max (list_height targets) (height value)
   highest_in (Trees.TypeAlias name parameters value) = max (height name) (max (type_param_heights parameters) (height value))
   highest_in (Trees.AugAssign target op value) = max (height target) (height value)
   highest_in (Trees.AnnAssign target annotation value simple) = max (height target) (max (height annotation) (option_height value))
-  highest_in (Trees.For target iter body orelse) = max (height target) (max (height iter) (max (highest_in_all body) (highest_in_all orelse)))
-  highest_in (Trees.AsyncFor target iter body orelse) = max (height target) (max (height iter) (max (highest_in_all body) (highest_in_all orelse)))
+  highest_in (Trees.For target iter body orelse) =
+      max (height target) (max (height iter) (max (highest_in_all body) (highest_in_all orelse)))
+  highest_in (Trees.AsyncFor target iter body orelse) =
+      max (height target) (max (height iter) (max (highest_in_all body) (highest_in_all orelse)))
   highest_in (Trees.While test body orelse) = max (height test) (max (highest_in_all body) (highest_in_all orelse))
   highest_in (Trees.If test body orelse) = max (height test) (max (highest_in_all body) (highest_in_all orelse))
   highest_in (Trees.With items body) = max (item_heights items) (highest_in_all body)

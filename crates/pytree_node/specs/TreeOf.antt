@@ -25,7 +25,8 @@ use Rattle.pytree_node.specs.declared.modules.Module as given_module
 use Rattle.pytree_node.specs.Trees as plain
 use Rattle.pytree_node.specs.Values as value
 use Rattle.pytree_node.specs.Values.{Value}
-use Rattle.pytree_node.specs.Trees.{exprs, optional, optionals, comprehensions, keywords, args, optional_arg, patterns, optional_pattern, stmts, cases, handlers}
+use Rattle.pytree_node.specs.Trees.{exprs, optional, optionals, comprehensions, keywords, args, optional_arg, patterns, optional_pattern}
+use Rattle.pytree_node.specs.Trees.{stmts, cases, handlers}
 
 -- the value of a constant
 abbrev pub constant_of : given_constant.Constant → Value
@@ -80,7 +81,8 @@ abbrev pub arguments_step : layer.Arguments-F plain.Expr plain.Arg plain.Argumen
 arguments_step a = plain.arguments (args a.posonlyargs.items) (args a.args.items) (optional_arg a.vararg)
     (args a.kwonlyargs.items) (optionals a.kw_defaults.items) (optional_arg a.kwarg) (exprs a.defaults.items)
 
-abbrev pub comprehension_step : layer.Comprehension-F plain.Expr plain.Arg plain.Arguments plain.Comprehension plain.Keyword → plain.Comprehension
+abbrev pub comprehension_step : layer.Comprehension-F plain.Expr plain.Arg plain.Arguments plain.Comprehension
+    plain.Keyword → plain.Comprehension
 comprehension_step c = record { target = c.target; iter = c.iter; ifs = c.ifs.items; is_async = c.is_async }
 
 abbrev pub keyword_step : layer.Keyword-F plain.Expr plain.Arg plain.Arguments plain.Comprehension plain.Keyword → plain.Keyword
@@ -170,17 +172,22 @@ stmt_step (stmt_layer.Delete targets) = plain.Delete (map tree_of targets.items)
 stmt_step (stmt_layer.Assign targets value) = plain.Assign (map tree_of targets.items) (tree_of value)
 stmt_step (stmt_layer.TypeAlias name parameters value) = plain.TypeAlias (tree_of name) (map type_param_of parameters.items) (tree_of value)
 stmt_step (stmt_layer.AugAssign target op value) = plain.AugAssign (tree_of target) op (tree_of value)
-stmt_step (stmt_layer.AnnAssign target annotation value simple) = plain.AnnAssign (tree_of target.value) (tree_of annotation.value) (boxed_of value) simple
-stmt_step (stmt_layer.For target iter body orelse) = plain.For (tree_of target.value) (tree_of iter.value) (stmts body.items) (stmts orelse.items)
-stmt_step (stmt_layer.AsyncFor target iter body orelse) = plain.AsyncFor (tree_of target.value) (tree_of iter.value) (stmts body.items) (stmts orelse.items)
+stmt_step (stmt_layer.AnnAssign target annotation value simple) =
+    plain.AnnAssign (tree_of target.value) (tree_of annotation.value) (boxed_of value) simple
+stmt_step (stmt_layer.For target iter body orelse) = plain.For (tree_of target.value) (tree_of iter.value)
+    (stmts body.items) (stmts orelse.items)
+stmt_step (stmt_layer.AsyncFor target iter body orelse) = plain.AsyncFor (tree_of target.value) (tree_of iter.value)
+    (stmts body.items) (stmts orelse.items)
 stmt_step (stmt_layer.While test body orelse) = plain.While (tree_of test) (stmts body.items) (stmts orelse.items)
 stmt_step (stmt_layer.If test body orelse) = plain.If (tree_of test) (stmts body.items) (stmts orelse.items)
 stmt_step (stmt_layer.With items body) = plain.With (map item_of items.items) (stmts body.items)
 stmt_step (stmt_layer.AsyncWith items body) = plain.AsyncWith (map item_of items.items) (stmts body.items)
 stmt_step (stmt_layer.Match subject clauses) = plain.Match (tree_of subject) (cases clauses.items)
 stmt_step (stmt_layer.Raise exc cause) = plain.Raise (option_of exc) (option_of cause)
-stmt_step (stmt_layer.Try body caught orelse finalbody) = plain.Try (stmts body.items) (handlers caught.items) (stmts orelse.items) (stmts finalbody.items)
-stmt_step (stmt_layer.TryStar body caught orelse finalbody) = plain.TryStar (stmts body.items) (handlers caught.items) (stmts orelse.items) (stmts finalbody.items)
+stmt_step (stmt_layer.Try body caught orelse finalbody) = plain.Try (stmts body.items) (handlers caught.items)
+    (stmts orelse.items) (stmts finalbody.items)
+stmt_step (stmt_layer.TryStar body caught orelse finalbody) = plain.TryStar (stmts body.items) (handlers caught.items)
+    (stmts orelse.items) (stmts finalbody.items)
 stmt_step (stmt_layer.Assert test msg) = plain.Assert (tree_of test) (option_of msg)
 stmt_step (stmt_layer.Import names) = plain.Import (map alias_of names.items)
 stmt_step (stmt_layer.ImportFrom source names level) = plain.ImportFrom source (map alias_of names.items) level

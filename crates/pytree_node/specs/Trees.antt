@@ -1,7 +1,9 @@
 -- Trees as values, with no addresses: the classes of Python's module `ast`, in its own names and order of fields.
 --
--- Above each class stands its line of the abstract grammar of Python 3.11: `*` is a list, `?` what may be None. `type_params`, and the classes
--- TypeAlias, TypeVar, ParamSpec and TypeVarTuple, are of Python 3.12. Left out are `type_comment`, which is None without comments on types, and
+-- Above each class stands its line of the abstract grammar of Python 3.11: `*` is a list, `?` what may be None. `type_params`, and the
+-- classes
+-- TypeAlias, TypeVar, ParamSpec and TypeVarTuple, are of Python 3.12. Left out are `type_comment`, which is None without comments on types,
+-- and
 -- `type_ignores`, which is empty. `int simple` and `int is_async` are 0 or 1, so truth values here.
 --
 -- The classes List and Expr (of a statement) are ListOf and ExprOf here. The lists and the options of nodes within a node are data of
@@ -213,9 +215,11 @@ optional_pattern (Some p) = present_pattern p
 
 mutual
   pub data Stmt : Type 0 where
-    -- FunctionDef(identifier name, arguments args, stmt* body, expr* decorator_list, expr? returns, string? type_comment, type_param* type_params)
+    -- FunctionDef(identifier name, arguments args, stmt* body, expr* decorator_list, expr? returns, string? type_comment, type_param*
+    -- type_params)
     FunctionDef : Identifier → Arguments → Stmts → List Expr → Option Expr → List TypeParam → Stmt
-    -- AsyncFunctionDef(identifier name, arguments args, stmt* body, expr* decorator_list, expr? returns, string? type_comment, type_param* type_params)
+    -- AsyncFunctionDef(identifier name, arguments args, stmt* body, expr* decorator_list, expr? returns, string? type_comment, type_param*
+    -- type_params)
     AsyncFunctionDef : Identifier → Arguments → Stmts → List Expr → Option Expr → List TypeParam → Stmt
     -- ClassDef(identifier name, expr* bases, keyword* keywords, stmt* body, expr* decorator_list, type_param* type_params)
     ClassDef : Identifier → List Expr → Keywords → Stmts → List Expr → List TypeParam → Stmt

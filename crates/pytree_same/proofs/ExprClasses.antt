@@ -22,7 +22,8 @@ use Rattle.pytree_node.specs.declared.expressions.Keyword.{Keyword}
 use Rattle.pytree_same.proofs.Refuted.{refuted}
 use Rattle.pytree_node.specs.Trees as plain
 use Rattle.pytree_node.specs.Trees.{Identifier}
-use Rattle.pytree_node.specs.TreeOf.{tree_of, arg_of, arguments_of, comprehension_of, keyword_of, expr_step, arg_step, arguments_step, comprehension_step, keyword_step}
+use Rattle.pytree_node.specs.TreeOf.{tree_of, arg_of, arguments_of, comprehension_of, keyword_of, expr_step, arg_step, arguments_step}
+use Rattle.pytree_node.specs.TreeOf.{comprehension_step, keyword_step}
 
 -- one node, whose children are nodes of the program
 abbrev Layer : Type 0
@@ -42,31 +43,43 @@ opened = given.fold_out-Expr plain.Expr plain.Arg plain.Arguments plain.Comprehe
 abbrev pub HasClass : plain.Expr → Expr → Type 0
 HasClass (plain.BoolOp _ _) given = (op : BoolOperator) × (values : Vec Expr Global) × (given ≡ variant.BoolOp op values)
 HasClass (plain.NamedExpr _ _) given = (target : Box Expr Global) × (value : Box Expr Global) × (given ≡ variant.NamedExpr target value)
-HasClass (plain.BinOp _ _ _) given = (left : Box Expr Global) × (op : Operator) × (right : Box Expr Global) × (given ≡ variant.BinOp left op right)
+HasClass (plain.BinOp _ _ _) given = (left : Box Expr Global) × (op : Operator) × (right : Box Expr Global) ×
+    (given ≡ variant.BinOp left op right)
 HasClass (plain.UnaryOp _ _) given = (op : UnaryOperator) × (operand : Box Expr Global) × (given ≡ variant.UnaryOp op operand)
 HasClass (plain.Lambda _ _) given = (args : Box Arguments Global) × (body : Box Expr Global) × (given ≡ variant.Lambda args body)
-HasClass (plain.IfExp _ _ _) given = (test : Box Expr Global) × (body : Box Expr Global) × (orelse : Box Expr Global) × (given ≡ variant.IfExp test body orelse)
+HasClass (plain.IfExp _ _ _) given = (test : Box Expr Global) × (body : Box Expr Global) × (orelse : Box Expr Global) ×
+    (given ≡ variant.IfExp test body orelse)
 HasClass (plain.Dict _ _) given = (keys : Vec (Option Expr) Global) × (values : Vec Expr Global) × (given ≡ variant.Dict keys values)
 HasClass (plain.Set _) given = (elts : Vec Expr Global) × (given ≡ variant.Set elts)
-HasClass (plain.ListComp _ _) given = (elt : Box Expr Global) × (generators : Vec Comprehension Global) × (given ≡ variant.ListComp elt generators)
-HasClass (plain.SetComp _ _) given = (elt : Box Expr Global) × (generators : Vec Comprehension Global) × (given ≡ variant.SetComp elt generators)
-HasClass (plain.DictComp _ _ _) given = (key : Box Expr Global) × (value : Box Expr Global) × (generators : Vec Comprehension Global) × (given ≡ variant.DictComp key value generators)
-HasClass (plain.GeneratorExp _ _) given = (elt : Box Expr Global) × (generators : Vec Comprehension Global) × (given ≡ variant.GeneratorExp elt generators)
+HasClass (plain.ListComp _ _) given = (elt : Box Expr Global) × (generators : Vec Comprehension Global) ×
+    (given ≡ variant.ListComp elt generators)
+HasClass (plain.SetComp _ _) given = (elt : Box Expr Global) × (generators : Vec Comprehension Global) ×
+    (given ≡ variant.SetComp elt generators)
+HasClass (plain.DictComp _ _ _) given = (key : Box Expr Global) × (value : Box Expr Global) × (generators : Vec Comprehension Global) ×
+    (given ≡ variant.DictComp key value generators)
+HasClass (plain.GeneratorExp _ _) given = (elt : Box Expr Global) × (generators : Vec Comprehension Global) ×
+    (given ≡ variant.GeneratorExp elt generators)
 HasClass (plain.Await _) given = (value : Box Expr Global) × (given ≡ variant.Await value)
 HasClass (plain.Yield _) given = (value : Option (Box Expr Global)) × (given ≡ variant.Yield value)
 HasClass (plain.YieldFrom _) given = (value : Box Expr Global) × (given ≡ variant.YieldFrom value)
-HasClass (plain.Compare _ _ _) given = (left : Box Expr Global) × (ops : Vec Comparison Global) × (comparators : Vec Expr Global) × (given ≡ variant.Compare left ops comparators)
-HasClass (plain.Call _ _ _) given = (func : Box Expr Global) × (args : Vec Expr Global) × (words : Vec Keyword Global) × (given ≡ variant.Call func args words)
-HasClass (plain.FormattedValue _ _ _) given = (value : Box Expr Global) × (conversion : Conversion) × (spec : Option (Box Expr Global)) × (given ≡ variant.FormattedValue value conversion spec)
+HasClass (plain.Compare _ _ _) given = (left : Box Expr Global) × (ops : Vec Comparison Global) × (comparators : Vec Expr Global) ×
+    (given ≡ variant.Compare left ops comparators)
+HasClass (plain.Call _ _ _) given = (func : Box Expr Global) × (args : Vec Expr Global) × (words : Vec Keyword Global) ×
+    (given ≡ variant.Call func args words)
+HasClass (plain.FormattedValue _ _ _) given = (value : Box Expr Global) × (conversion : Conversion) × (spec : Option (Box Expr Global)) ×
+    (given ≡ variant.FormattedValue value conversion spec)
 HasClass (plain.JoinedStr _) given = (values : Vec Expr Global) × (given ≡ variant.JoinedStr values)
 HasClass (plain.Constant _) given = (value : Constant) × (given ≡ variant.Constant value)
-HasClass (plain.Attribute _ _ _) given = (value : Box Expr Global) × (attr : Identifier) × (ctx : Context) × (given ≡ variant.Attribute value attr ctx)
-HasClass (plain.Subscript _ _ _) given = (value : Box Expr Global) × (slice : Box Expr Global) × (ctx : Context) × (given ≡ variant.Subscript value slice ctx)
+HasClass (plain.Attribute _ _ _) given = (value : Box Expr Global) × (attr : Identifier) × (ctx : Context) ×
+    (given ≡ variant.Attribute value attr ctx)
+HasClass (plain.Subscript _ _ _) given = (value : Box Expr Global) × (slice : Box Expr Global) × (ctx : Context) ×
+    (given ≡ variant.Subscript value slice ctx)
 HasClass (plain.Starred _ _) given = (value : Box Expr Global) × (ctx : Context) × (given ≡ variant.Starred value ctx)
 HasClass (plain.Name _ _) given = (id : Identifier) × (ctx : Context) × (given ≡ variant.Name id ctx)
 HasClass (plain.ListOf _ _) given = (elts : Vec Expr Global) × (ctx : Context) × (given ≡ variant.List elts ctx)
 HasClass (plain.Tuple _ _) given = (elts : Vec Expr Global) × (ctx : Context) × (given ≡ variant.Tuple elts ctx)
-HasClass (plain.Slice _ _ _) given = (lower : Option (Box Expr Global)) × (upper : Option (Box Expr Global)) × (step : Option (Box Expr Global)) × (given ≡ variant.Slice lower upper step)
+HasClass (plain.Slice _ _ _) given = (lower : Option (Box Expr Global)) × (upper : Option (Box Expr Global)) ×
+    (step : Option (Box Expr Global)) × (given ≡ variant.Slice lower upper step)
 
 layer_has_class : (node : Layer) → HasClass (expr_step (valued node)) (given.roll-Expr node)
 unfolding given.roll-Expr denote.Hole.Carrier.roll
@@ -103,5 +116,6 @@ has_class e = subst (λ given. HasClass (tree_of e) given) (given.roll-out-Expr 
     (subst (λ t. HasClass t (given.roll-Expr (given.out-Expr e))) (sym (opened e)) (layer_has_class (given.out-Expr e)))
 
 -- an expression of another class has another value
-pub other_class : (a b : Expr) {t : plain.Expr} → tree_of a ≡ t → (HasClass t b → ⊥) → (IsTrue false → tree_of a ≡ tree_of b) × (tree_of a ≡ tree_of b → IsTrue false)
+pub other_class : (a b : Expr) {t : plain.Expr} → tree_of a ≡ t → (HasClass t b → ⊥)
+    → (IsTrue false → tree_of a ≡ tree_of b) × (tree_of a ≡ tree_of b → IsTrue false)
 other_class a b valued never = refuted (λ e. never (subst (λ t. HasClass t b) (sym e ∙ valued) (has_class b)))

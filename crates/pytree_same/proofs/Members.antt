@@ -3,7 +3,8 @@
 -- Carries: same_expr, same_pattern, same_stmt and what they compare.
 use Rattle.std.proofs.Common.{◌≡◌, List, [], ◌∷◌, Option, None, Some, refl, ap, sym, ◌∙◌}
 use Rattle.pytree_node.specs.Trees as plain
-use Rattle.pytree_node.specs.Trees.{exprs, optional, optionals, comprehensions, keywords, args, patterns, optional_pattern, stmts, cases, handlers}
+use Rattle.pytree_node.specs.Trees.{exprs, optional, optionals, comprehensions, keywords, args, patterns, optional_pattern, stmts, cases}
+use Rattle.pytree_node.specs.Trees.{handlers}
 
 -- what makes the list, or the option, of which the first is made
 abbrev of_exprs : plain.Exprs → List plain.Expr

@@ -32,10 +32,13 @@ abbrev pub HasClass : plain.Pattern → Pattern → Type 0
 HasClass (plain.MatchValue _) given = (value : Expr) × (given ≡ variant.MatchValue value)
 HasClass (plain.MatchSingleton _) given = (value : Constant) × (given ≡ variant.MatchSingleton value)
 HasClass (plain.MatchSequence _) given = (inner : Vec Pattern Global) × (given ≡ variant.MatchSequence inner)
-HasClass (plain.MatchMapping _ _ _) given = (keys : Vec Expr Global) × (inner : Vec Pattern Global) × (rest : Option Identifier) × (given ≡ variant.MatchMapping keys inner rest)
-HasClass (plain.MatchClass _ _ _ _) given = (cls : Box Expr Global) × (inner : Vec Pattern Global) × (names : Vec Identifier Global) × (named : Vec Pattern Global) × (given ≡ variant.MatchClass cls inner names named)
+HasClass (plain.MatchMapping _ _ _) given = (keys : Vec Expr Global) × (inner : Vec Pattern Global) × (rest : Option Identifier) ×
+    (given ≡ variant.MatchMapping keys inner rest)
+HasClass (plain.MatchClass _ _ _ _) given = (cls : Box Expr Global) × (inner : Vec Pattern Global) × (names : Vec Identifier Global) ×
+    (named : Vec Pattern Global) × (given ≡ variant.MatchClass cls inner names named)
 HasClass (plain.MatchStar _) given = (name : Option Identifier) × (given ≡ variant.MatchStar name)
-HasClass (plain.MatchAs _ _) given = (inner : Option (Box Pattern Global)) × (name : Option Identifier) × (given ≡ variant.MatchAs inner name)
+HasClass (plain.MatchAs _ _) given = (inner : Option (Box Pattern Global)) × (name : Option Identifier) ×
+    (given ≡ variant.MatchAs inner name)
 HasClass (plain.MatchOr _) given = (inner : Vec Pattern Global) × (given ≡ variant.MatchOr inner)
 
 layer_has_class : (node : Layer) → HasClass (pattern_step (valued node)) (given.roll-Pattern node)
@@ -54,5 +57,6 @@ has_class p = subst (λ given. HasClass (pattern_of p) given) (given.roll-out-Pa
     (subst (λ t. HasClass t (given.roll-Pattern (given.out-Pattern p))) (sym (opened p)) (layer_has_class (given.out-Pattern p)))
 
 -- a pattern of another class has another value
-pub other_class : (a b : Pattern) {t : plain.Pattern} → pattern_of a ≡ t → (HasClass t b → ⊥) → (IsTrue false → pattern_of a ≡ pattern_of b) × (pattern_of a ≡ pattern_of b → IsTrue false)
+pub other_class : (a b : Pattern) {t : plain.Pattern} → pattern_of a ≡ t → (HasClass t b → ⊥)
+    → (IsTrue false → pattern_of a ≡ pattern_of b) × (pattern_of a ≡ pattern_of b → IsTrue false)
 other_class a b valued never = refuted (λ e. never (subst (λ t. HasClass t b) (sym e ∙ valued) (has_class b)))

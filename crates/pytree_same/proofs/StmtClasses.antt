@@ -36,28 +36,43 @@ opened = given.fold_out-Stmt plain.Stmt plain.Case plain.Handler stmt_step case_
 
 -- it is of the class of this value
 abbrev pub HasClass : plain.Stmt → Stmt → Type 0
-HasClass (plain.FunctionDef _ _ _ _ _ _) given = (name : Identifier) × (args : Box Arguments Global) × (body : Vec Stmt Global) × (decorators : Vec Expr Global) × (returns : Option (Box Expr Global)) × (parameters : Vec TypeParam Global) × (given ≡ variant.FunctionDef name args body decorators returns parameters)
-HasClass (plain.AsyncFunctionDef _ _ _ _ _ _) given = (name : Identifier) × (args : Box Arguments Global) × (body : Vec Stmt Global) × (decorators : Vec Expr Global) × (returns : Option (Box Expr Global)) × (parameters : Vec TypeParam Global) × (given ≡ variant.AsyncFunctionDef name args body decorators returns parameters)
-HasClass (plain.ClassDef _ _ _ _ _ _) given = (name : Identifier) × (bases : Vec Expr Global) × (words : Vec Keyword Global) × (body : Vec Stmt Global) × (decorators : Vec Expr Global) × (parameters : Vec TypeParam Global) × (given ≡ variant.ClassDef name bases words body decorators parameters)
+HasClass (plain.FunctionDef _ _ _ _ _ _) given = (name : Identifier) × (args : Box Arguments Global) × (body : Vec Stmt Global) ×
+    (decorators : Vec Expr Global) × (returns : Option (Box Expr Global)) × (parameters : Vec TypeParam Global) ×
+    (given ≡ variant.FunctionDef name args body decorators returns parameters)
+HasClass (plain.AsyncFunctionDef _ _ _ _ _ _) given = (name : Identifier) × (args : Box Arguments Global) × (body : Vec Stmt Global) ×
+    (decorators : Vec Expr Global) × (returns : Option (Box Expr Global)) × (parameters : Vec TypeParam Global) ×
+    (given ≡ variant.AsyncFunctionDef name args body decorators returns parameters)
+HasClass (plain.ClassDef _ _ _ _ _ _) given = (name : Identifier) × (bases : Vec Expr Global) × (words : Vec Keyword Global) ×
+    (body : Vec Stmt Global) × (decorators : Vec Expr Global) × (parameters : Vec TypeParam Global) ×
+    (given ≡ variant.ClassDef name bases words body decorators parameters)
 HasClass (plain.Return _) given = (value : Option Expr) × (given ≡ variant.Return value)
 HasClass (plain.Delete _) given = (targets : Vec Expr Global) × (given ≡ variant.Delete targets)
 HasClass (plain.Assign _ _) given = (targets : Vec Expr Global) × (value : Expr) × (given ≡ variant.Assign targets value)
-HasClass (plain.TypeAlias _ _ _) given = (name : Expr) × (parameters : Vec TypeParam Global) × (value : Expr) × (given ≡ variant.TypeAlias name parameters value)
+HasClass (plain.TypeAlias _ _ _) given = (name : Expr) × (parameters : Vec TypeParam Global) × (value : Expr) ×
+    (given ≡ variant.TypeAlias name parameters value)
 HasClass (plain.AugAssign _ _ _) given = (target : Expr) × (op : Operator) × (value : Expr) × (given ≡ variant.AugAssign target op value)
-HasClass (plain.AnnAssign _ _ _ _) given = (target : Box Expr Global) × (annotation : Box Expr Global) × (value : Option (Box Expr Global)) × (simple : Bool) × (given ≡ variant.AnnAssign target annotation value simple)
-HasClass (plain.For _ _ _ _) given = (target : Box Expr Global) × (iter : Box Expr Global) × (body : Vec Stmt Global) × (orelse : Vec Stmt Global) × (given ≡ variant.For target iter body orelse)
-HasClass (plain.AsyncFor _ _ _ _) given = (target : Box Expr Global) × (iter : Box Expr Global) × (body : Vec Stmt Global) × (orelse : Vec Stmt Global) × (given ≡ variant.AsyncFor target iter body orelse)
-HasClass (plain.While _ _ _) given = (test : Expr) × (body : Vec Stmt Global) × (orelse : Vec Stmt Global) × (given ≡ variant.While test body orelse)
-HasClass (plain.If _ _ _) given = (test : Expr) × (body : Vec Stmt Global) × (orelse : Vec Stmt Global) × (given ≡ variant.If test body orelse)
+HasClass (plain.AnnAssign _ _ _ _) given = (target : Box Expr Global) × (annotation : Box Expr Global) × (value : Option (Box Expr Global))
+    × (simple : Bool) × (given ≡ variant.AnnAssign target annotation value simple)
+HasClass (plain.For _ _ _ _) given = (target : Box Expr Global) × (iter : Box Expr Global) × (body : Vec Stmt Global) ×
+    (orelse : Vec Stmt Global) × (given ≡ variant.For target iter body orelse)
+HasClass (plain.AsyncFor _ _ _ _) given = (target : Box Expr Global) × (iter : Box Expr Global) × (body : Vec Stmt Global) ×
+    (orelse : Vec Stmt Global) × (given ≡ variant.AsyncFor target iter body orelse)
+HasClass (plain.While _ _ _) given = (test : Expr) × (body : Vec Stmt Global) × (orelse : Vec Stmt Global) ×
+    (given ≡ variant.While test body orelse)
+HasClass (plain.If _ _ _) given = (test : Expr) × (body : Vec Stmt Global) × (orelse : Vec Stmt Global) ×
+    (given ≡ variant.If test body orelse)
 HasClass (plain.With _ _) given = (items : Vec Item Global) × (body : Vec Stmt Global) × (given ≡ variant.With items body)
 HasClass (plain.AsyncWith _ _) given = (items : Vec Item Global) × (body : Vec Stmt Global) × (given ≡ variant.AsyncWith items body)
 HasClass (plain.Match _ _) given = (subject : Expr) × (clauses : Vec Case Global) × (given ≡ variant.Match subject clauses)
 HasClass (plain.Raise _ _) given = (exc : Option Expr) × (cause : Option Expr) × (given ≡ variant.Raise exc cause)
-HasClass (plain.Try _ _ _ _) given = (body : Vec Stmt Global) × (caught : Vec Handler Global) × (orelse : Vec Stmt Global) × (finalbody : Vec Stmt Global) × (given ≡ variant.Try body caught orelse finalbody)
-HasClass (plain.TryStar _ _ _ _) given = (body : Vec Stmt Global) × (caught : Vec Handler Global) × (orelse : Vec Stmt Global) × (finalbody : Vec Stmt Global) × (given ≡ variant.TryStar body caught orelse finalbody)
+HasClass (plain.Try _ _ _ _) given = (body : Vec Stmt Global) × (caught : Vec Handler Global) × (orelse : Vec Stmt Global) ×
+    (finalbody : Vec Stmt Global) × (given ≡ variant.Try body caught orelse finalbody)
+HasClass (plain.TryStar _ _ _ _) given = (body : Vec Stmt Global) × (caught : Vec Handler Global) × (orelse : Vec Stmt Global) ×
+    (finalbody : Vec Stmt Global) × (given ≡ variant.TryStar body caught orelse finalbody)
 HasClass (plain.Assert _ _) given = (test : Expr) × (msg : Option Expr) × (given ≡ variant.Assert test msg)
 HasClass (plain.Import _) given = (names : Vec Alias Global) × (given ≡ variant.Import names)
-HasClass (plain.ImportFrom _ _ _) given = (source : Option Identifier) × (names : Vec Alias Global) × (level : ℕ) × (given ≡ variant.ImportFrom source names level)
+HasClass (plain.ImportFrom _ _ _) given = (source : Option Identifier) × (names : Vec Alias Global) × (level : ℕ) ×
+    (given ≡ variant.ImportFrom source names level)
 HasClass (plain.Global _) given = (names : Vec Identifier Global) × (given ≡ variant.Global names)
 HasClass (plain.Nonlocal _) given = (names : Vec Identifier Global) × (given ≡ variant.Nonlocal names)
 HasClass (plain.ExprOf _) given = (value : Expr) × (given ≡ variant.Expr value)
@@ -68,7 +83,8 @@ HasClass plain.Continue given = (given ≡ variant.Continue)
 layer_has_class : (node : Layer) → HasClass (stmt_step (valued node)) (given.roll-Stmt node)
 unfolding given.roll-Stmt denote.Hole.Carrier.roll
 layer_has_class (layer.FunctionDef name args body decorators returns parameters) = (name, args, body, decorators, returns, parameters, refl)
-layer_has_class (layer.AsyncFunctionDef name args body decorators returns parameters) = (name, args, body, decorators, returns, parameters, refl)
+layer_has_class (layer.AsyncFunctionDef name args body decorators returns parameters) =
+    (name, args, body, decorators, returns, parameters, refl)
 layer_has_class (layer.ClassDef name bases words body decorators parameters) = (name, bases, words, body, decorators, parameters, refl)
 layer_has_class (layer.Return value) = (value, refl)
 layer_has_class (layer.Delete targets) = (targets, refl)
@@ -101,5 +117,6 @@ has_class s = subst (λ given. HasClass (stmt_of s) given) (given.roll-out-Stmt 
     (subst (λ t. HasClass t (given.roll-Stmt (given.out-Stmt s))) (sym (opened s)) (layer_has_class (given.out-Stmt s)))
 
 -- a statement of another class has another value
-pub other_class : (a b : Stmt) {t : plain.Stmt} → stmt_of a ≡ t → (HasClass t b → ⊥) → (IsTrue false → stmt_of a ≡ stmt_of b) × (stmt_of a ≡ stmt_of b → IsTrue false)
+pub other_class : (a b : Stmt) {t : plain.Stmt} → stmt_of a ≡ t → (HasClass t b → ⊥)
+    → (IsTrue false → stmt_of a ≡ stmt_of b) × (stmt_of a ≡ stmt_of b → IsTrue false)
 other_class a b valued never = refuted (λ e. never (subst (λ t. HasClass t b) (sym e ∙ valued) (has_class b)))

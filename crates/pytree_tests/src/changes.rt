@@ -32,6 +32,28 @@ pub(crate) fn put(tree: &mut Module, other: &mut Module) -> Option<()> {
     Some(())
 }
 
+/// Takes the last element off a list, and says whether there was one.
+fn drop_last<T>(list: &mut Vec<T>) -> bool {
+    match list.pop() {
+        Some(last) => {
+            drop(last);
+            true
+        }
+        None => false,
+    }
+}
+
+/// Empties an option, and says whether something was there.
+fn clear<T>(option: &mut Option<T>) -> bool {
+    match option.take() {
+        Some(value) => {
+            drop(value);
+            true
+        }
+        None => false,
+    }
+}
+
 /// Takes the last value off `and`, and the last default off the parameters by name of `lambda`.
 pub(crate) fn shorten(tree: &mut Module) -> bool {
     match tree.body.first_mut() {
@@ -39,12 +61,12 @@ pub(crate) fn shorten(tree: &mut Module) -> bool {
             Stmt::Expr {
                 value: Expr::BoolOp { values, .. },
             },
-        ) => values.pop().is_some(),
+        ) => drop_last(values),
         Some(
             Stmt::Expr {
                 value: Expr::Lambda { args, .. },
             },
-        ) => args.kw_defaults.pop().is_some(),
+        ) => drop_last(&mut args.kw_defaults),
         _ => false,
     }
 }
@@ -53,7 +75,7 @@ pub(crate) fn shorten(tree: &mut Module) -> bool {
 pub(crate) fn catch_all(tree: &mut Module) -> bool {
     match tree.body.first_mut() {
         Some(Stmt::Try { handlers, .. }) => match handlers.first_mut() {
-            Some(handler) => handler.class.take().is_some(),
+            Some(handler) => clear(&mut handler.class),
             None => false,
         },
         _ => false,

@@ -26,7 +26,11 @@ fn dumped(
     level: Level,
 ) -> Result<String, (GrammarError, Place)> {
     match parse_expression(alloc, tokens, level) {
-        Ok(expr) => Ok(dump_expr(alloc, &expr, STYLE).expect(rt, "memory")),
+        Ok(expr) => {
+            let text = dump_expr(alloc, &expr, STYLE).expect(rt, "memory");
+            drop(expr);
+            Ok(text)
+        }
         Err(ParseFault::Grammar(error, place)) => Err((error, place)),
         Err(_) => panic!(rt; "no answer of the grammar"),
     }

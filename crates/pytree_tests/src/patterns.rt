@@ -82,7 +82,10 @@ fn refusal(
     level: PatternLevel,
 ) -> Option<(GrammarError, Place)> {
     match read(rt, alloc, text, level) {
-        Ok(_) => None,
+        Ok(pattern) => {
+            drop(pattern);
+            None
+        }
         Err(ParseFault::Grammar(error, place)) => Some((error, place)),
         Err(_) => panic!(rt; "no answer of the grammar"),
     }

@@ -17,4 +17,5 @@ small_levels ms f zero h = omega arith
 small_levels ms f (suc i) h = let g = f i in omega arith
 
 pub ground_levels : (ms : List ℕ) → IsAscending 0 ms → ((i : ℕ) → Fits w64 (get_or ms i 0)) → AreLevels (0 ∷ ms)
-ground_levels ms h f = are_levels (0 ∷ ms) (omega arith) (λ _. refl) (λ k. each_larger 0 ms k h) (All-from_get_or (λ n. n < 2 ^ 64) (0 ∷ ms) 0 (small_levels ms f))
+ground_levels ms h f = are_levels (0 ∷ ms) (omega arith) (λ _. refl) (λ k. each_larger 0 ms k h)
+    (All-from_get_or (λ n. n < 2 ^ 64) (0 ∷ ms) 0 (small_levels ms f))

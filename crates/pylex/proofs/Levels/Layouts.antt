@@ -2,7 +2,8 @@
 --
 -- Carries: level-push, layout_dedents, layout_mismatch, layout_indent and 11 more, for Tops,
 -- Finding, Looking, Moving and 4 more.
-use Rattle.std.proofs.Common.{◌≡◌, ℕ, suc, ◌+◌, ◌<◌, true, false, ◌&&◌, ◌||◌, ◌==◌, List, [], ◌∷◌, ◌++◌, refl, ap, ◌∙◌, arith, cond, None, filter, ⊎_elim}
+use Rattle.std.proofs.Common.{◌≡◌, ℕ, suc, ◌+◌, ◌<◌, true, false, ◌&&◌, ◌||◌, ◌==◌, List, [], ◌∷◌, ◌++◌, refl, ap, ◌∙◌, arith, cond, None}
+use Rattle.std.proofs.Common.{filter, ⊎_elim}
 use Rattle.std.specs.Prelude.{nat_lt, count_by}
 use Rattle.std.proofs.lemmas.Bool.Decides.{nat_tests}
 use Rattle.std.proofs.lemmas.Grind.{common_steps}
@@ -97,20 +98,24 @@ count_none w (v ∷ ls) h =
     grind (arith, common_steps)
 
 -- The layout of a state at the margin.
-pub layout_indent : (s : State) → s.margin ≡ true → is_above s.width s.levels ≡ true → layout_of s ≡ step_of kinds.Indent None s.line s.now ∷ []
+pub layout_indent : (s : State) → s.margin ≡ true → is_above s.width s.levels ≡ true
+    → layout_of s ≡ step_of kinds.Indent None s.line s.now ∷ []
 unfolding layout_of
 layout_indent s m a = rw (m, a) refl
 
-pub layout_dedents : (s : State) → s.margin ≡ true → is_above s.width s.levels ≡ false → is_level s.width s.levels ≡ true → layout_of s ≡ dedents_at s.width s.levels s.now.offset s.now.place
+pub layout_dedents : (s : State) → s.margin ≡ true → is_above s.width s.levels ≡ false → is_level s.width s.levels ≡ true
+    → layout_of s ≡ dedents_at s.width s.levels s.now.offset s.now.place
 unfolding layout_of
 layout_dedents s m a l = rw (m, a, l) refl
 
-pub layout_mismatch : (s : State) → s.margin ≡ true → is_above s.width s.levels ≡ false → is_level s.width s.levels ≡ false → layout_of s ≡ fault_at errors.UnindentMismatch s.now.place ∷ []
+pub layout_mismatch : (s : State) → s.margin ≡ true → is_above s.width s.levels ≡ false → is_level s.width s.levels ≡ false
+    → layout_of s ≡ fault_at errors.UnindentMismatch s.now.place ∷ []
 unfolding layout_of
 layout_mismatch s m a l = rw (m, a, l) refl
 
 -- a DEDENT for the last level, where the width is that of one before it
-pub dedents-push : (w v : ℕ) (ls : List ℕ) (o : ℕ) (p : Place) → w < v → dedents_at w (ls ++ v ∷ []) o p ≡ mark_at kinds.Dedent o p p ∷ dedents_at w ls o p
+pub dedents-push : (w v : ℕ) (ls : List ℕ) (o : ℕ) (p : Place) → w < v → dedents_at w (ls ++ v ∷ []) o p ≡ mark_at kinds.Dedent o
+    p p ∷ dedents_at w ls o p
 dedents-push w v ls o p h =
     let less : nat_lt w v ≡ true = grind (arith, nat_tests) in
     let count : count_by (nat_lt w) (ls ++ v ∷ []) ≡ suc (count_by (nat_lt w) ls) = count-push w v ls ∙ rw less (omega arith) in

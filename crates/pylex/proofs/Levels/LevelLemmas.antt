@@ -2,7 +2,8 @@
 --
 -- Carries: read_levels.
 use denote.Ref.{Bor}
-use Rattle.std.proofs.Common.{◌≡◌, ℕ, ◌+◌, ◌-◌, ◌<◌, ◌^◌, List, [], ◌∷◌, ◌++◌, length, get_or, refl, sym, ap, subst, ◌∙◌, arith, append_assoc, append-nil, length-append, Bool, true, false, Option, Some, None, All, inl, inr}
+use Rattle.std.proofs.Common.{◌≡◌, ℕ, ◌+◌, ◌-◌, ◌<◌, ◌^◌, List, [], ◌∷◌, ◌++◌, length, get_or, refl, sym, ap, subst, ◌∙◌, arith}
+use Rattle.std.proofs.Common.{append_assoc, append-nil, length-append, Bool, true, false, Option, Some, None, All, inl, inr}
 use Rattle.std.specs.Prelude.{IsUtf8, slice_get, MatchOption, IfSome, IsTrue, ◌↔◌}
 use Rattle.std.proofs.lemmas.Bool.{cases_lt}
 use Rattle.std.proofs.lemmas.List.{get_or_append_left, get_or-append_right}
@@ -70,7 +71,15 @@ next_of t sofar ns (n ∷ rest) are whole some text =
     let size : length ns ≡ length sofar + (1 + length rest) = ap length whole ∙ length-append sofar (n ∷ rest) ∙ omega arith in
     let here : get_or ns (length sofar) 0 ≡ n = ap (λ l. get_or l (length sofar) 0) whole ∙ at_seam sofar rest n in
     let small = are.words (length sofar) 0 (omega (arith, size)) in
-    record { level = n; rest = rest; whole = whole; fits = omega (arith, small, here); text = sym text; follows = follows_there sofar ns rest n are whole }
+    record {
+      level = n;
+      rest = rest;
+      whole = whole;
+      fits = omega (arith, small, here);
+      text = sym text;
+      follows =
+          follows_there sofar ns rest n are whole;
+    }
 
 pub next_level : (o : Option (Bor (List ℕ))) (t : Bor (List ℕ)) (sofar ns : List ℕ) → o ≡ Some t → AreLevels ns
     → (more : List ℕ) × (ns ≡ sofar ++ more) × IsJoined o more → Next t.now sofar ns
@@ -80,7 +89,8 @@ next_level o t sofar ns is are found =
     next_of t.now sofar ns found.0 are found.1 joined.0 joined.1
 
 -- what is read behind the next level
-pub joined_behind : (back : Option (Bor (List ℕ))) (rest : List ℕ) → MatchOption back (rest ≡ []) (λ b. (0 < length rest) × (b.now ≡ with_commas rest)) → IsJoined back rest
+pub joined_behind : (back : Option (Bor (List ℕ))) (rest : List ℕ)
+    → MatchOption back (rest ≡ []) (λ b. (0 < length rest) × (b.now ≡ with_commas rest)) → IsJoined back rest
 joined_behind None rest h = h
 joined_behind (Some b) rest h = (h.0, sym h.1)
 
@@ -91,12 +101,14 @@ pub has_read : (o : Option (Bor (List ℕ))) (sofar : List ℕ) (n : ℕ) → Ha
 has_read None sofar n = omega (arith, length-append sofar (n ∷ []))
 has_read (Some b) sofar n = tt
 
-pub first_kept : (sofar : List ℕ) (n : ℕ) → (0 < length sofar → get_or sofar 0 1 ≡ 0) → (length sofar ≡ 0 → n ≡ 0) → get_or (sofar ++ n ∷ []) 0 1 ≡ 0
+pub first_kept : (sofar : List ℕ) (n : ℕ) → (0 < length sofar → get_or sofar 0 1 ≡ 0) → (length sofar ≡ 0 → n ≡ 0)
+    → get_or (sofar ++ n ∷ []) 0 1 ≡ 0
 first_kept [] n first zeroth = zeroth refl
 first_kept (x ∷ xs) n first zeroth = first (omega arith)
 
 -- levels with one more that follows them
-pub ascending_kept : (sofar : List ℕ) (n : ℕ) → ((k : ℕ) → k + 1 < length sofar → get_or sofar k 0 < get_or sofar (k + 1) 0) → (0 < length sofar → get_or sofar (length sofar - 1) 0 < n)
+pub ascending_kept : (sofar : List ℕ) (n : ℕ) → ((k : ℕ) → k + 1 < length sofar → get_or sofar k 0 < get_or sofar (k + 1) 0)
+    → (0 < length sofar → get_or sofar (length sofar - 1) 0 < n)
     → (k : ℕ) → k + 1 < length (sofar ++ n ∷ []) → get_or (sofar ++ n ∷ []) k 0 < get_or (sofar ++ n ∷ []) (k + 1) 0
 ascending_kept sofar n ascending above k inside =
     let within : k < length sofar = omega (arith, inside, length-append sofar (n ∷ [])) in
@@ -110,7 +122,8 @@ ascending_kept sofar n ascending above k inside =
           let ends : k + 1 ≡ length sofar = omega (arith, last, within) in
           let next : get_or (sofar ++ n ∷ []) (k + 1) 0 ≡ n = ap (λ i. get_or (sofar ++ n ∷ []) i 0) ends ∙ at_seam sofar [] n in
           let less = above (omega (arith, within)) in
-          let place : get_or sofar (length sofar - 1) 0 ≡ get_or sofar k 0 = (let same : length sofar - 1 ≡ k = omega (arith, ends) in ap (λ i. get_or sofar i 0) same) in
+          let place : get_or sofar (length sofar - 1) 0 ≡ get_or sofar k 0 = (let same : length sofar - 1 ≡ k = omega (arith, ends) in
+          ap (λ i. get_or sofar i 0) same) in
           omega (arith, here, next, less, place)
     ]
 
@@ -119,10 +132,12 @@ first_of_some [] some e = absurd (omega (arith, some))
 first_of_some (n ∷ ns) some e = ap (λ k. Some k) e
 
 -- levels that have been read to the end
-pub are_levels : (ns : List ℕ) → 0 < length ns → (0 < length ns → get_or ns 0 1 ≡ 0) → ((k : ℕ) → k + 1 < length ns → get_or ns k 0 < get_or ns (k + 1) 0) → All (λ n. n < 2 ^ 64) ns → AreLevels ns
+pub are_levels : (ns : List ℕ) → 0 < length ns → (0 < length ns → get_or ns 0 1 ≡ 0)
+    → ((k : ℕ) → k + 1 < length ns → get_or ns k 0 < get_or ns (k + 1) 0) → All (λ n. n < 2 ^ 64) ns → AreLevels ns
 are_levels ns some first ascending words = record { first = first_of_some ns some (first some); ascending = ascending; words = words }
 
-pub at_end : (o : Option (Bor (List ℕ))) (sofar ns : List ℕ) → o ≡ None → (more : List ℕ) × (ns ≡ sofar ++ more) × IsJoined o more → sofar ≡ ns
+pub at_end : (o : Option (Bor (List ℕ))) (sofar ns : List ℕ) → o ≡ None
+    → (more : List ℕ) × (ns ≡ sofar ++ more) × IsJoined o more → sofar ≡ ns
 at_end o sofar ns is found =
     let J : Option (Bor (List ℕ)) → Type 0 = λ p. IsJoined p found.0 in
     let none : found.0 ≡ [] = subst J is found.2 in
@@ -144,7 +159,8 @@ cannot_follow b xs sofar level n refused same is follows first above =
     ]
 
 pub can_follow_is : (b : Bool) (xs sofar : List ℕ) (level : ℕ) → b ≡ true → xs ≡ sofar
-    → (length xs ≡ 0 → (IsTrue b ↔ (level ≡ 0))) → (0 < length xs → (IsTrue b ↔ (get_or xs (length xs - 1) 0 < level))) → Follows sofar level
+    → (length xs ≡ 0 → (IsTrue b ↔ (level ≡ 0))) → (0 < length xs → (IsTrue b ↔ (get_or xs (length xs - 1) 0 < level)))
+    → Follows sofar level
 can_follow_is b xs sofar level taken same first above =
     let size : length xs ≡ length sofar = ap length same in
     let last : get_or xs (length xs - 1) 0 ≡ get_or sofar (length sofar - 1) 0 = ap (λ l. get_or l (length l - 1) 0) same in

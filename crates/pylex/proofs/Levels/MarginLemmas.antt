@@ -8,7 +8,8 @@ use Rattle.pylex.specs.declared.margins.Widths.{Widths}
 use Rattle.pylex.specs.Margins.{column_by_one, width_by_one, blanks_of, widths_of}
 use Rattle.pylex.proofs.MachineLaws.Walking.{width_more, width_none}
 
-blank_more : (bs rest : List ℕ) (c : ℕ) → chars bs ≡ c ∷ chars rest → is_blank_char c ≡ true → blanks_of (chars bs) ≡ c ∷ blanks_of (chars rest)
+blank_more : (bs rest : List ℕ) (c : ℕ) → chars bs ≡ c ∷ chars rest → is_blank_char c ≡ true
+    → blanks_of (chars bs) ≡ c ∷ blanks_of (chars rest)
 blank_more bs rest c cut blank = ap blanks_of cut ∙ take_while-cons is_blank_char c (chars rest) ∙ (rw blank refl)
 
 blank_stop : (bs rest : List ℕ) (c : ℕ) → chars bs ≡ c ∷ chars rest → is_blank_char c ≡ false → blanks_of (chars bs) ≡ []
@@ -36,10 +37,12 @@ wider_by_one n m c bs rest cut blank on =
     ∙ sym (ap (width_by_one n) (blank_more bs rest c cut blank))
 
 -- no blank stands here any more
-pub wide : (n : ℕ) (bs rest : List ℕ) (c : ℕ) → chars bs ≡ c ∷ chars rest → is_blank_char c ≡ false → n ≡ width_from n (blanks_of (chars bs))
+pub wide : (n : ℕ) (bs rest : List ℕ) (c : ℕ) → chars bs ≡ c ∷ chars rest → is_blank_char c ≡ false
+    → n ≡ width_from n (blanks_of (chars bs))
 wide n bs rest c cut other = sym (ap (width_from n) (blank_stop bs rest c cut other) ∙ width_none n)
 
-pub wide_by_one : (n : ℕ) (bs rest : List ℕ) (c : ℕ) → chars bs ≡ c ∷ chars rest → is_blank_char c ≡ false → n ≡ width_by_one n (blanks_of (chars bs))
+pub wide_by_one : (n : ℕ) (bs rest : List ℕ) (c : ℕ) → chars bs ≡ c ∷ chars rest → is_blank_char c ≡ false
+    → n ≡ width_by_one n (blanks_of (chars bs))
 wide_by_one n bs rest c cut other = sym (ap (width_by_one n) (blank_stop bs rest c cut other) ∙ by_one_none n)
 
 pub wide_at_end : (n : ℕ) (bs : List ℕ) → chars bs ≡ [] → n ≡ width_from n (blanks_of (chars bs))
@@ -52,5 +55,6 @@ abbrev pub widths_by : ℕ → ℕ → Widths
 widths_by eight one = record { eight = eight; one = one }
 
 -- two widths that are those of a text
-pub both : (t : List ℕ) (eight one : ℕ) → eight ≡ width_from 0 (blanks_of t) → one ≡ width_by_one 0 (blanks_of t) → widths_by eight one ≡ widths_of t
+pub both : (t : List ℕ) (eight one : ℕ) → eight ≡ width_from 0 (blanks_of t) → one ≡ width_by_one 0 (blanks_of t)
+    → widths_by eight one ≡ widths_of t
 both t eight one e o = ap₂ widths_by e o

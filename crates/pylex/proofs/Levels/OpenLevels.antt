@@ -1,7 +1,8 @@
 -- The open levels begin with 0, and ascend.
 --
 -- Carries: Grounded, grounded, above_ground, for CursorBounds, Cursoring, Skips. On: Layouts, Tops.
-use Rattle.std.proofs.Common.{◌≡◌, ℕ, zero, suc, ◌+◌, ◌<◌, Bool, true, false, List, [], ◌∷◌, ◌++◌, refl, ap, ◌∙◌, sym, arith, filter, sum, ⊎_elim}
+use Rattle.std.proofs.Common.{◌≡◌, ℕ, zero, suc, ◌+◌, ◌<◌, Bool, true, false, List, [], ◌∷◌, ◌++◌, refl, ap, ◌∙◌, sym, arith, filter, sum}
+use Rattle.std.proofs.Common.{⊎_elim}
 use Rattle.std.specs.Prelude.{nat_lt}
 use Rattle.std.proofs.lemmas.Bool.Decides.{nat_tests}
 use Rattle.std.proofs.lemmas.List.{append-nil}
@@ -29,13 +30,15 @@ kept_first p h = record { above = []; is = rw h refl; ascending = tt; within = r
 
 one_more : (p : ℕ → Bool) (n : ℕ) → Kept p n → Kept p (suc n)
 one_more p n k =
-    let split : filter p (below (suc (suc n))) ≡ filter p (below (suc n)) ++ filter p (suc n ∷ []) = filter-append p (below (suc n)) (suc n ∷ []) in
+    let split : filter p (below (suc (suc n))) ≡ filter p (below (suc n)) ++ filter p (suc n ∷ []) =
+    filter-append p (below (suc n)) (suc n ∷ []) in
     let more : is_above (suc (suc n)) (0 ∷ k.above) ≡ true = above_more (suc n) (suc (suc n)) (0 ∷ k.above) (omega arith) k.within in
     ⊎_elim
     (λ (e : p (suc n) ≡ true).
     let last : filter p (suc n ∷ []) ≡ suc n ∷ [] = rw e refl in
     let less : nat_lt (suc n) (suc (suc n)) ≡ true = grind (arith, nat_tests) in
-    let all : is_above (suc (suc n)) ((0 ∷ k.above) ++ suc n ∷ []) ≡ true = above-push (suc (suc n)) (suc n) (0 ∷ k.above) ∙ rw (more, less) refl in
+    let all : is_above (suc (suc n)) ((0 ∷ k.above) ++ suc n ∷ []) ≡ true = above-push (suc (suc n)) (suc n) (0 ∷ k.above)
+    ∙ rw (more, less) refl in
     record {
       above = k.above ++ suc n ∷ [];
       is = split ∙ ap (λ t. t ++ filter p (suc n ∷ [])) k.is ∙ ap (λ t. (0 ∷ k.above) ++ t) last;

@@ -1,7 +1,8 @@
 -- The open columns are a stack.
 --
 -- Carries: push, for Law, Ahead, Cursoring.
-use Rattle.std.proofs.Common.{◌≡◌, ℕ, ◌+◌, ◌≤◌, ◌<◌, Bool, true, false, ◌&&◌, ◌||◌, ◌==◌, List, [], ◌∷◌, ◌++◌, refl, sym, ◌∙◌, ap, arith, cond, ⊎_elim, ltb, leb, suc, zero, sum, filter, zero-add}
+use Rattle.std.proofs.Common.{◌≡◌, ℕ, ◌+◌, ◌≤◌, ◌<◌, Bool, true, false, ◌&&◌, ◌||◌, ◌==◌, List, [], ◌∷◌, ◌++◌, refl, sym, ◌∙◌, ap, arith}
+use Rattle.std.proofs.Common.{cond, ⊎_elim, ltb, leb, suc, zero, sum, filter, zero-add}
 use Rattle.std.proofs.lemmas.Bool.Decides.{nat_tests}
 use Rattle.std.proofs.lemmas.Bool.{cases_lt}
 use Rattle.std.proofs.lemmas.List.Sums.{take_while-cons}
@@ -38,7 +39,8 @@ data Order (n w : ℕ) : Type 0 where
   more : w < n → Order n w
 
 order : (n w : ℕ) → Order n w
-order n w = ⊎_elim (λ (h : n < w). less h) (λ (h : w ≤ n). ⊎_elim (λ (i : w < n). more i) (λ (i : n ≤ w). same (omega arith)) (cases_lt w n)) (cases_lt n w)
+order n w = ⊎_elim (λ (h : n < w). less h) (λ (h : w ≤ n). ⊎_elim (λ (i : w < n). more i) (λ (i : n ≤ w). same (omega arith))
+    (cases_lt w n)) (cases_lt n w)
 
 open_less : (w n : ℕ) (ws : List ℕ) → n < w → is_open (w ∷ ws) n ≡ is_open ws n
 open_less w n ws i =
@@ -59,15 +61,19 @@ open_more w n ws i =
     let z : (n == 0) ≡ false = grind (arith, nat_tests) in
     open_push w n ws ∙ rw (z, l) refl
 
-keeps : (p : ℕ → Bool) (rest : List ℕ) (b : Bool) (n : ℕ) → p n ≡ true → filter p rest ++ [] ++ cond b (n ∷ []) [] ≡ filter p (rest ++ cond b (n ∷ []) []) ++ []
-keeps p rest true n e = sym (append-nil (filter p (rest ++ n ∷ [])) ∙ filter-append p rest (n ∷ []) ∙ rw e (ap (λ xs. xs ++ n ∷ []) (sym (append-nil (filter p rest)))))
-keeps p rest false n e = append-nil (filter p rest ++ []) ∙ append-nil (filter p rest) ∙ sym (append-nil (filter p (rest ++ [])) ∙ ap (filter p) (append-nil rest))
+keeps : (p : ℕ → Bool) (rest : List ℕ) (b : Bool) (n : ℕ) → p n ≡ true → filter p rest ++ [] ++ cond b (n ∷ []) [] ≡ filter p
+    (rest ++ cond b (n ∷ []) []) ++ []
+keeps p rest true n e = sym (append-nil (filter p (rest ++ n ∷ [])) ∙ filter-append p rest (n ∷ [])
+    ∙ rw e (ap (λ xs. xs ++ n ∷ []) (sym (append-nil (filter p rest)))))
+keeps p rest false n e = append-nil (filter p rest ++ []) ∙ append-nil (filter p rest)
+    ∙ sym (append-nil (filter p (rest ++ [])) ∙ ap (filter p) (append-nil rest))
 
 drops : (p : ℕ → Bool) (rest : List ℕ) (b : Bool) (n : ℕ) → p n ≡ false → filter p (rest ++ cond b (n ∷ []) []) ≡ filter p rest
 drops p rest true n e = filter-append p rest (n ∷ []) ∙ rw e (append-nil (filter p rest))
 drops p rest false n e = ap (filter p) (append-nil rest)
 
-push_one : (w n : ℕ) (ws rest : List ℕ) → 0 < w → Order n w → filter (λ v. ltb v w) rest ++ part w n ++ filter (is_open (w ∷ ws)) (n ∷ []) ≡ filter (λ v. ltb v w) (rest ++ filter (is_open ws) (n ∷ [])) ++ part w (suc n)
+push_one : (w n : ℕ) (ws rest : List ℕ) → 0 < w → Order n w → filter (λ v. ltb v w) rest ++ part w n ++ filter (is_open (w ∷ ws)) (n ∷ []) ≡
+    filter (λ v. ltb v w) (rest ++ filter (is_open ws) (n ∷ [])) ++ part w (suc n)
 push_one w n ws rest h (less i) =
     let a : ltb w n ≡ false = grind (arith, nat_tests) in
     let b : ltb w (suc n) ≡ false = grind (arith, nat_tests) in
@@ -80,7 +86,8 @@ push_one w n ws rest h (same i) =
     let t : ltb n w ≡ false = grind (arith, nat_tests) in
     let o = open_same w n ws h i in
     let d = drops (λ v. ltb v w) rest (is_open ws n) n t in
-    rw (o, a, b) (ap (λ xs. xs ++ n ∷ []) (append-nil (filter (λ v. ltb v w) rest) ∙ sym d) ∙ ap (λ (x : ℕ). filter (λ v. ltb v w) (rest ++ cond (is_open ws n) (n ∷ []) []) ++ x ∷ []) i)
+    rw (o, a, b) (ap (λ xs. xs ++ n ∷ []) (append-nil (filter (λ v. ltb v w) rest) ∙ sym d)
+    ∙ ap (λ (x : ℕ). filter (λ v. ltb v w) (rest ++ cond (is_open ws n) (n ∷ []) []) ++ x ∷ []) i)
 push_one w n ws rest h (more i) =
     let a : ltb w n ≡ true = grind (arith, nat_tests) in
     let b : ltb w (suc n) ≡ true = grind (arith, nat_tests) in
@@ -89,7 +96,8 @@ push_one w n ws rest h (more i) =
     let d = drops (λ v. ltb v w) rest (is_open ws n) n t in
     rw (o, a, b) (append-nil (filter (λ v. ltb v w) rest ++ w ∷ []) ∙ ap (λ xs. xs ++ w ∷ []) (sym d))
 
-push_below : (w n : ℕ) (ws : List ℕ) → 0 < w → filter (is_open (w ∷ ws)) (below n) ≡ filter (λ v. ltb v w) (filter (is_open ws) (below n)) ++ part w n
+push_below : (w n : ℕ) (ws : List ℕ) → 0 < w → filter (is_open (w ∷ ws)) (below n) ≡ filter (λ v. ltb v w)
+    (filter (is_open ws) (below n)) ++ part w n
 push_below w zero ws h = let a : ltb w 0 ≡ false = grind (arith, nat_tests) in rw a refl
 push_below w (suc n) ws h =
     filter-append (is_open (w ∷ ws)) (below n) (n ∷ [])
@@ -114,7 +122,8 @@ beyond ws zero = rw zero-add refl
 beyond ws (suc k) =
     let e : suc k + (1 + sum ws) ≡ suc (k + (1 + sum ws)) = omega arith in
     let c : is_open ws (k + (1 + sum ws)) ≡ false = closed_above ws (k + (1 + sum ws)) (omega arith) in
-    rw e (filter-append (is_open ws) (below (k + (1 + sum ws))) ((k + (1 + sum ws)) ∷ []) ∙ rw c (append-nil (filter (is_open ws) (below (k + (1 + sum ws)))) ∙ beyond ws k))
+    rw e (filter-append (is_open ws) (below (k + (1 + sum ws))) ((k + (1 + sum ws)) ∷ [])
+    ∙ rw c (append-nil (filter (is_open ws) (below (k + (1 + sum ws)))) ∙ beyond ws k))
 
 push_above : (w : ℕ) (ws : List ℕ) → 0 < w → open_levels (w ∷ ws) ≡ stack_after w (open_levels ws)
 unfolding open_levels
@@ -136,7 +145,8 @@ only_zero (suc n) ws =
     let z : (suc n == 0) ≡ false = grind (arith, nat_tests) in
     let l : leb (suc n) 0 ≡ false = grind (arith, nat_tests) in
     let c : is_open (0 ∷ ws) (suc n) ≡ false = open_push 0 (suc n) ws ∙ rw (z, l) refl in
-    filter-append (is_open (0 ∷ ws)) (below (suc n)) (suc n ∷ []) ∙ rw c (append-nil (filter (is_open (0 ∷ ws)) (below (suc n))) ∙ only_zero n ws)
+    filter-append (is_open (0 ∷ ws)) (below (suc n)) (suc n ∷ [])
+    ∙ rw c (append-nil (filter (is_open (0 ∷ ws)) (below (suc n))) ∙ only_zero n ws)
 
 push_zero : (ws : List ℕ) → open_levels (0 ∷ ws) ≡ stack_after 0 (open_levels ws)
 unfolding open_levels

@@ -1,7 +1,8 @@
 -- The layout of a line by the last open level.
 --
 -- Carries: indentation_for. On: Layouts.
-use Rattle.std.proofs.Common.{◌≡◌, ℕ, ◌<◌, ◌≤◌, Bool, true, false, ◌&&◌, ◌||◌, ◌==◌, List, [], ◌∷◌, ◌++◌, length, refl, ap, ◌∙◌, sym, subst, arith, length-append}
+use Rattle.std.proofs.Common.{◌≡◌, ℕ, ◌<◌, ◌≤◌, Bool, true, false, ◌&&◌, ◌||◌, ◌==◌, List, [], ◌∷◌, ◌++◌, length, refl, ap, ◌∙◌, sym, subst}
+use Rattle.std.proofs.Common.{arith, length-append}
 use Rattle.std.specs.Prelude.{nat_lt}
 use Rattle.std.proofs.lemmas.Bool.Decides.{nat_tests}
 use Rattle.pylex.specs.declared.machine.Indentation.TheVariants as indentations
@@ -79,7 +80,8 @@ level_by w t ls (empty e) a top h =
 level_by w t ls (last front v e) a top h =
     let same : w ≡ v = h ∙ sym (top.last front v e) in
     let below : is_above v (0 ∷ front) ≡ true = ascending_above 0 v front (subst (IsAscending 0) e a) in
-    subst (λ (xs : List ℕ). IsIndentation w xs indentations.Level) (sym e) (subst (λ (u : ℕ). IsIndentation u (front ++ v ∷ []) indentations.Level) (sym same) (level_last v front below))
+    subst (λ (xs : List ℕ). IsIndentation w xs indentations.Level) (sym e)
+    (subst (λ (u : ℕ). IsIndentation u (front ++ v ∷ []) indentations.Level) (sym same) (level_last v front below))
 
 pub top_level : (w t : ℕ) (ls : List ℕ) → IsAscending 0 ls → IsTop ls t → w ≡ t → IsIndentation w ls indentations.Level
 top_level w t ls a top h = level_by w t ls (snoc ls) a top h
@@ -93,7 +95,8 @@ top_dedent w t ls top h level = (level, some_by w t ls (snoc ls) top h, λ front
 
 mismatch_by : (w t : ℕ) (ls : List ℕ) → Snoc ls → IsTop ls t → w < t → is_above w (0 ∷ ls) ≡ false
 mismatch_by w t ls (empty e) top h = let z : t ≡ 0 = top.none (ap length e) in absurd (omega arith)
-mismatch_by w t ls (last front v e) top h = let same : v ≡ t = top.last front v e in ap (λ xs. is_above w (0 ∷ xs)) e ∙ last_above w v (0 ∷ front) (omega arith)
+mismatch_by w t ls (last front v e) top h = let same : v ≡ t = top.last front v e in ap (λ xs. is_above w (0 ∷ xs)) e
+    ∙ last_above w v (0 ∷ front) (omega arith)
 
 pub top_mismatch : (w t : ℕ) (ls : List ℕ) → IsTop ls t → w < t → is_level w (0 ∷ ls) ≡ false → IsIndentation w ls indentations.Mismatch
 top_mismatch w t ls top h level = (mismatch_by w t ls (snoc ls) top h, level)

@@ -33,12 +33,16 @@ module _ (x y : Seen) (a b c : Buffered) (text_b text_c : List ℕ) where
   ahead_line (inl s) r = by (r.taken) refl
     where
       by : (t : List ℕ) → r.taken ≡ t → Ahead a c
-      by [] e = inl (let n = r.reads.count in let z : length r.taken ≡ 0 = ap length e in omega (arith, n, z, s.0), omega (arith, r.sizes, ap length e, s.1))
+      by [] e = inl (
+        let n = r.reads.count in let z : length r.taken ≡ 0 = ap length e in omega (arith, n, z, s.0),
+        omega (arith, r.sizes, ap length e, s.1),
+      )
       by (u ∷ t) e = inr (omega (arith, r.ahead refl, r.sizes, ap length e))
   ahead_line (inr few) r = inr (omega (arith, few, r.ahead refl, r.first refl))
 
   -- or none
-  pub ahead_kept : (q : Result LineRead AllocError) → (r : NextLine x y b c text_b text_c q) → r.line ≡ [] → (IsText q → ⊥) → AheadBut a b → AheadBut a c
+  pub ahead_kept : (q : Result LineRead AllocError) → (r : NextLine x y b c text_b text_c q) → r.line ≡ [] → (IsText q → ⊥)
+      → AheadBut a b → AheadBut a c
   ahead_kept q r none not p = ⊎_elim (λ same. stays same p) (λ few. inr few) (r.kept not)
     where
       stays : c.pending ≡ b.pending → AheadBut a b → AheadBut a c

@@ -1,7 +1,8 @@
 -- A lister that begins over a reader, and the text of what it gave last.
 --
 -- Carries: LineLister::new, LineLister::text. On: Moving, LexedOn, Searching, Ranges.
-use Rattle.std.proofs.Common.{◌≡◌, ◌≢◌, inl, ⊎_elim, ℕ, ◌+◌, ◌-◌, ◌≤◌, Bool, true, false, List, [], ◌∷◌, ◌++◌, length, take, drop, refl, ap, sym, ◌∙◌, subst, length-append, length-drop, arith, Option, Some, None, string_bytes}
+use Rattle.std.proofs.Common.{◌≡◌, ◌≢◌, inl, ⊎_elim, ℕ, ◌+◌, ◌-◌, ◌≤◌, Bool, true, false, List, [], ◌∷◌, ◌++◌, length, take, drop, refl, ap}
+use Rattle.std.proofs.Common.{sym, ◌∙◌, subst, length-append, length-drop, arith, Option, Some, None, string_bytes}
 use Rattle.std.specs.Prelude.{slice_range, slice_index}
 use Rattle.std.specs.Str.{IsCharBoundary}
 use Rattle.std.proofs.Math.Seq.{drop-append-add}
@@ -38,15 +39,24 @@ joined_none text before none front back e feed some = absurd (no_front front bac
     no_front [] back e feed = let f : false ≡ true = feed in cc
     no_front (c ∷ front) back e feed = cc
 
-module _ (p : Machine) (c : HeldLines) (given : p.given ≡ 0) (point : (k : ℕ) (ls : List ℕ) → shown_by k p.point ls 0 ≡ shown_at k (with_levels p.now (0 ∷ ls))) (levels : p.levels.items ≡ []) (now : with_levels p.now (0 ∷ []) ≡ first_state) (nested : p.nested ≡ 0) (tail : p.tail ≡ 0) (text : string_bytes c.text ≡ []) (base : c.base ≡ 0) (at : c.at ≡ 0) (within : c.lines.count ≤ source_limit) (pending : length c.lines.pending ≤ c.lines.count) where
+module _ (p : Machine) (c : HeldLines) (given : p.given ≡ 0) (point : (k : ℕ) (ls : List ℕ)
+    → shown_by k p.point ls 0 ≡ shown_at k (with_levels p.now (0 ∷ ls))) (levels : p.levels.items ≡ [])
+    (now : with_levels p.now (0 ∷ []) ≡ first_state) (nested : p.nested ≡ 0) (tail : p.tail ≡ 0) (text : string_bytes c.text ≡ [])
+    (base : c.base ≡ 0) (at : c.at ≡ 0) (within : c.lines.count ≤ source_limit) (pending : length c.lines.pending ≤ c.lines.count) where
   -- the source that comes
   abbrev pub source_by : List ℕ → Bool → Parts
-  source_by more broken = record { encoding = c.lines.encoding; text = (comes c.lines more broken).text; fault = (comes c.lines more broken).fault }
+  source_by more broken = record {
+    encoding = c.lines.encoding;
+    text = (comes c.lines more broken).text;
+    fault =
+        (comes c.lines more broken).fault;
+  }
 
   no_left : drop c.at (string_bytes c.text) ≡ []
   no_left = rw (text, at) refl
 
-  pub streams_begin : (more : List ℕ) (broken : Bool) → Continues c.lines more broken → StreamsIn (streamed p c None) (source_by more broken) 0 more broken
+  pub streams_begin : (more : List ℕ) (broken : Bool) → Continues c.lines more broken
+      → StreamsIn (streamed p c None) (source_by more broken) 0 more broken
   streams_begin more broken g =
       let s = source_by more broken in
       let utf8 = comes_utf8 c.lines more broken in
@@ -76,23 +86,30 @@ module _ (p : Machine) (c : HeldLines) (given : p.given ≡ 0) (point : (k : ℕ
     lexed = rw (text, at) at_left;
     joined = joined_none (string_bytes c.text) [] text;
     fresh = λ _. text;
-    stands = λ more broken g. (source_by more broken, subst (λ n. StreamsIn (streamed p c None) (source_by more broken) n more broken) (sym given) (streams_begin more broken g));
+    stands = λ more broken g. (
+      source_by more broken,
+      subst (λ n. StreamsIn (streamed p c None) (source_by more broken) n more broken)
+          (sym given) (streams_begin more broken g),
+    );
   }
 
 -- A part of a text that stands in another.
-boundary_in : (before held coming : List ℕ) (i : ℕ) → IsCharBoundary (before ++ (held ++ coming)) i → length before ≤ i → i ≤ length before + length held → IsCharBoundary held (i - length before)
+boundary_in : (before held coming : List ℕ) (i : ℕ) → IsCharBoundary (before ++ (held ++ coming)) i → length before ≤ i
+    → i ≤ length before + length held → IsCharBoundary held (i - length before)
 boundary_in before held coming i h low high =
     let j = i - length before in
     let e : i ≡ length before + j = omega arith in (
       omega arith,
       λ less first.
-          let same : slice_index (before ++ (held ++ coming)) i ≡ slice_index held j = ap (slice_index (before ++ (held ++ coming))) e ∙ get_or-append-add before (held ++ coming) j 0 ∙ get_or_append_left held coming 0 j less in
+          let same : slice_index (before ++ (held ++ coming)) i ≡ slice_index held j = ap (slice_index (before ++ (held ++ coming))) e
+          ∙ get_or-append-add before (held ++ coming) j 0 ∙ get_or_append_left held coming 0 j less in
           let n = length-append before (held ++ coming) in
           let m = length-append held coming in
           subst (λ b. 192 ≤ b) same (h.1 (omega arith) (subst (λ b. 128 ≤ b) (sym same) first)),
     )
 
-slice_in : (before held coming : List ℕ) (i j : ℕ) → length before ≤ i → i ≤ j → j ≤ length before + length held → slice_range held (i - length before) (j - length before) ≡ slice_range (before ++ (held ++ coming)) i j
+slice_in : (before held coming : List ℕ) (i j : ℕ) → length before ≤ i → i ≤ j → j ≤ length before + length held
+    → slice_range held (i - length before) (j - length before) ≡ slice_range (before ++ (held ++ coming)) i j
 slice_in before held coming i j low order high =
     let k = i - length before in
     let e : i ≡ length before + k = omega arith in
@@ -130,8 +147,10 @@ plain_text p e h = by e.kind refl
     by kinds.EndMarker is = rw is refl
 
 module _ (p : Machine) (c : HeldLines) (last : Option Entry) (e : Entry) (is : last ≡ Some e) (kind : e.kind ≢ kinds.Encoding) where
-  here_in : (s : Parts) (k : ℕ) (more : List ℕ) (broken : Bool) → StreamsIn (streamed p c last) s k more broken → IsHeld c.base (string_bytes c.text) e × LiesIn s.text e
-  here_in s k more broken x = ⊎_elim (λ h. absurd (kind h.0)) (λ h. (h.1, h.2)) (subst (HoldsLast c.base (string_bytes c.text) s.text) is x.last)
+  here_in : (s : Parts) (k : ℕ) (more : List ℕ) (broken : Bool) → StreamsIn (streamed p c last) s k more broken
+      → IsHeld c.base (string_bytes c.text) e × LiesIn s.text e
+  here_in s k more broken x = ⊎_elim (λ h. absurd (kind h.0)) (λ h. (h.1, h.2))
+      (subst (HoldsLast c.base (string_bytes c.text) s.text) is x.last)
 
   pub held_here : IsStreaming p c last → HeldHere c e
   held_here h =
@@ -147,11 +166,14 @@ module _ (p : Machine) (c : HeldLines) (last : Option Entry) (e : Entry) (is : l
         low = low;
         order = order;
         high = high;
-        first = subst (λ b. IsCharBoundary (string_bytes c.text) (e.«from» - b)) base (boundary_in x.before (string_bytes c.text) coming e.«from» (subst (λ t. IsCharBoundary t e.«from») x.whole l.1.first) (omega arith) (omega arith));
-        last = subst (λ b. IsCharBoundary (string_bytes c.text) (e.to - b)) base (boundary_in x.before (string_bytes c.text) coming e.to (subst (λ t. IsCharBoundary t e.to) x.whole l.1.last) (omega arith) (omega arith));
+        first = subst (λ b. IsCharBoundary (string_bytes c.text) (e.«from» - b)) base (boundary_in x.before (string_bytes c.text) coming
+            e.«from» (subst (λ t. IsCharBoundary t e.«from») x.whole l.1.first) (omega arith) (omega arith));
+        last = subst (λ b. IsCharBoundary (string_bytes c.text) (e.to - b)) base (boundary_in x.before (string_bytes c.text) coming e.to
+            (subst (λ t. IsCharBoundary t e.to) x.whole l.1.last) (omega arith) (omega arith));
       }
 
-  pub text_here : (s : Parts) (k : ℕ) (more : List ℕ) (broken : Bool) → StreamsIn (streamed p c last) s k more broken → slice_range (string_bytes c.text) (e.«from» - c.base) (e.to - c.base) ≡ text_of s e
+  pub text_here : (s : Parts) (k : ℕ) (more : List ℕ) (broken : Bool) → StreamsIn (streamed p c last) s k more broken
+      → slice_range (string_bytes c.text) (e.«from» - c.base) (e.to - c.base) ≡ text_of s e
   text_here s k more broken x =
       let l = here_in s k more broken x in
       let coming = (comes c.lines more broken).text in

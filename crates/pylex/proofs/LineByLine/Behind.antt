@@ -1,7 +1,8 @@
 -- A lister over lines that goes on behind a cursor.
 --
 -- Carries: LineLister::resume_checked. On: Ends, Moving, Callers.
-use Rattle.std.proofs.Common.{◌≡◌, ◌⊎◌, inl, inr, ⊎_elim, ℕ, zero, suc, ◌+◌, ◌≤◌, ◌<◌, Bool, true, false, List, [], ◌∷◌, ◌++◌, length, length-append, map, refl, ap, sym, ◌∙◌, subst, append-nil, append_assoc, arith, Some, None}
+use Rattle.std.proofs.Common.{◌≡◌, ◌⊎◌, inl, inr, ⊎_elim, ℕ, zero, suc, ◌+◌, ◌≤◌, ◌<◌, Bool, true, false, List, [], ◌∷◌, ◌++◌, length}
+use Rattle.std.proofs.Common.{length-append, map, refl, ap, sym, ◌∙◌, subst, append-nil, append_assoc, arith, Some, None}
 use Rattle.std.specs.Prelude.{slice_get, Ok, Err}
 use Rattle.std.specs.declared.alloc.AllocError.{AllocError}
 use Rattle.pysource.specs.Bytes.{Seen}
@@ -33,9 +34,12 @@ module _ (seen_0 seen_1 seen_2 : Seen) (v w : Streamed) (k : ℕ) (b : Begins se
     all = b.taken ++ t.taken
 
     reads_all : ReadsBytes seen_0 seen_2 Reading w.lines.reach 0 w.lines.count (b.taken ++ t.taken)
-    reads_all = ReadsBytes-on seen_0 seen_1 seen_2 0 v.lines.count w.lines.count Reading v.lines.reach w.lines.reach b.taken t.taken b.reads t.reads
+    reads_all = ReadsBytes-on seen_0 seen_1 seen_2 0 v.lines.count w.lines.count Reading v.lines.reach w.lines.reach
+        b.taken t.taken b.reads t.reads
 
-    stands_all : (more : List ℕ) (broken : Bool) → Continues w.lines more broken → (p : Parts) × (stream_of broken ((b.taken ++ t.taken) ++ more) ≡ Ok p) × (slice_get (listing (in_characters p)) k ≡ Some step) × StreamsIn w p (k + entries_in step) more broken
+    stands_all : (more : List ℕ) (broken : Bool) → Continues w.lines more broken
+        → (p : Parts) × (stream_of broken ((b.taken ++ t.taken) ++ more) ≡ Ok p) × (slice_get (listing (in_characters p)) k ≡ Some step) ×
+        StreamsIn w p (k + entries_in step) more broken
     stands_all more broken g =
         let s = b.stands (t.taken ++ more) broken (t.follows more broken g) in
         let m = t.steps s.0 k more broken g s.2 in
@@ -44,7 +48,8 @@ module _ (seen_0 seen_1 seen_2 : Seen) (v w : Streamed) (k : ℕ) (b : Begins se
     -- where nothing was taken it stands as it stood
     ahead_all : Ahead v.lines w.lines → (length w.lines.pending ≤ 8_192) ⊎ (w.lines.count ≤ 8_192 + head_len (b.taken ++ t.taken))
     ahead_all (inr few) = inl few
-    ahead_all (inl s) = ⊎_elim (λ few. inl (omega (arith, s.1, few))) (λ h. inr (subst (λ l. w.lines.count ≤ 8_192 + head_len l) same (omega (arith, s.0, h)))) b.ahead
+    ahead_all (inl s) = ⊎_elim (λ few. inl (omega (arith, s.1, few)))
+        (λ h. inr (subst (λ l. w.lines.count ≤ 8_192 + head_len l) same (omega (arith, s.0, h)))) b.ahead
       where
         nothing : (l : List ℕ) → length l ≡ 0 → l ≡ []
         nothing [] e = refl
@@ -59,15 +64,19 @@ module _ (seen_0 seen_1 seen_2 : Seen) (v w : Streamed) (k : ℕ) (b : Begins se
       taken = b.taken ++ t.taken;
       reads = reads_all;
       ahead = ahead_all (subst (IsAhead v.lines w.lines) is t.ahead);
-      stands = λ more broken g. let s = stands_all more broken g in (s.0, s.1, subst (λ n. StreamsIn w s.0 (k + n) more broken) (ap entries_in is) s.3);
+      stands = λ more broken g. let s = stands_all more broken g in
+          (s.0, s.1, subst (λ n. StreamsIn w s.0 (k + n) more broken) (ap entries_in is) s.3);
     }
 
     module _ (no_entry : (e : Entry) → step ≡ steps.Entry e → ⊥) where
       -- The listing ends before a cursor behind more entries.
-      never_there : (p : Parts) (c : CursorParts) → k < c.given → slice_get (listing (in_characters p)) k ≡ Some step → IsCursorOf c (in_characters p) → ⊥
-      never_there p c less at is = let within = (is_behind is).within in let due = entry_due (in_characters p) k step (omega arith) at in no_entry due.0 due.1
+      never_there : (p : Parts) (c : CursorParts) → k < c.given → slice_get (listing (in_characters p)) k ≡ Some step
+          → IsCursorOf c (in_characters p) → ⊥
+      never_there p c less at is = let within = (is_behind is).within in let due =
+          entry_due (in_characters p) k step (omega arith) at in no_entry due.0 due.1
 
-      fault_at : (es : List Entry) (last : Step) (n : ℕ) → slice_get (map steps.Entry es ++ last ∷ []) n ≡ Some step → (last ≡ step) × (length es ≡ n)
+      fault_at : (es : List Entry) (last : Step) (n : ℕ) → slice_get (map steps.Entry es ++ last ∷ []) n ≡ Some step
+          → (last ≡ step) × (length es ≡ n)
       fault_at [] last zero h = (let f : last ≡ step = cc in f, refl)
       fault_at [] last (suc n) h = absurd cc
       fault_at (e ∷ es) last zero h = absurd (no_entry e (let f : step ≡ steps.Entry e = cc in f))
@@ -105,7 +114,12 @@ module _ (seen_0 seen_1 seen_2 : Seen) (v w : Streamed) (k : ℕ) (b : Begins se
             by : (s : Step) → step ≡ s → is_unread step ≡ true → EndsUnread p c.given
             by (steps.Entry e) is h = absurd (no_entry e is)
             by steps.End is h = absurd (let f : false ≡ true = sym (ap is_unread is) ∙ h in cc)
-            by (steps.Fault f) is h = record { fault = (f, last_is.0 ∙ ap (λ s. fault_of (s ∷ [])) is, coded f.code (sym (ap is_unread is) ∙ h)); before = omega (arith, last_is.1, less) }
+            by (steps.Fault f) is h =
+                record {
+                  fault = (f, last_is.0 ∙ ap (λ s. fault_of (s ∷ [])) is, coded f.code (sym (ap is_unread is) ∙ h));
+                  before =
+                      omega (arith, last_is.1, less);
+                }
 
         not_unread : (c : CursorParts) → is_unread step ≡ false → EndsUnread p c.given → ⊥
         not_unread c u ends = by step refl u
@@ -136,14 +150,16 @@ module _ (seen_0 seen_1 seen_2 : Seen) (v w : Streamed) (k : ℕ) (b : Begins se
     taken = b.taken ++ t.taken;
     at = w.lines.reach;
     reads = subst (λ n. ReadsBytes seen_0 seen_2 Reading w.lines.reach 0 n (b.taken ++ t.taken)) counted
-        (ReadsBytes-on seen_0 seen_1 seen_2 0 v.lines.count w.lines.count Reading v.lines.reach w.lines.reach b.taken t.taken b.reads t.reads);
+        (ReadsBytes-on seen_0 seen_1 seen_2 0 v.lines.count w.lines.count Reading v.lines.reach w.lines.reach b.taken
+        t.taken b.reads t.reads);
   }
     where
       counted : w.lines.count ≡ length (b.taken ++ t.taken)
       counted = let n = t.reads.count in let m = b.reads.count in let l = length-append b.taken t.taken in omega arith
 
 -- The lister shows another cursor.
-pub misses_shown : (seen_0 seen_1 : Seen) (v : Streamed) (c : CursorParts) → Begins seen_0 seen_1 v c.given → (c ≡ v.shown → ⊥) → Misses seen_0 seen_1 c false
+pub misses_shown : (seen_0 seen_1 : Seen) (v : Streamed) (c : CursorParts) → Begins seen_0 seen_1 v c.given → (c ≡ v.shown → ⊥)
+    → Misses seen_0 seen_1 c false
 misses_shown seen_0 seen_1 v c b other = record {
   taken = b.taken;
   lines = v.lines;

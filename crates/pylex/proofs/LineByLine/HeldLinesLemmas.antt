@@ -36,7 +36,8 @@ no_line met.End line new h t = t.0
 no_line (met.Fault f) line new h t = t.0
 no_line met.Read line new h t = t.0
 
-pub holding_other : (old new : HeldLines) (from : ℕ) (line : List ℕ) (r : LineRead) → (r ≡ met.Text → ⊥) → Stays old new → Holding old new from line (Ok r)
+pub holding_other : (old new : HeldLines) (from : ℕ) (line : List ℕ) (r : LineRead) → (r ≡ met.Text → ⊥) → Stays old new
+    → Holding old new from line (Ok r)
 holding_other old new from line met.Text h s = absurd (h refl)
 holding_other old new from line met.End h s = s
 holding_other old new from line (met.Fault f) h s = s
@@ -51,7 +52,9 @@ pub left_longer : (at : ℕ) (old new line : List ℕ) → at ≤ length old →
 left_longer at old new line h e = ap (drop at) e ∙ drop-append-le at old line h
 
 -- a call for a line, with what it did to the lines held
-pub reads_on : (seen_old seen_new : Seen) (old new : HeldLines) (chunk_old chunk_new : List ℕ) (from : ℕ) (r : Result LineRead AllocError) → (m : NextLine seen_old seen_new old.lines new.lines chunk_old chunk_new r) → new.lines.count ≤ source_limit → IsHeldLines new → Holding old new from m.line r → ReadsOn seen_old seen_new old new from r
+pub reads_on : (seen_old seen_new : Seen) (old new : HeldLines) (chunk_old chunk_new : List ℕ) (from : ℕ) (r : Result LineRead AllocError)
+    → (m : NextLine seen_old seen_new old.lines new.lines chunk_old chunk_new r) → new.lines.count ≤ source_limit → IsHeldLines new
+    → Holding old new from m.line r → ReadsOn seen_old seen_new old new from r
 reads_on seen_old seen_new old new chunk_old chunk_new from r m within chunk holding = record {
   taken = m.taken;
   line = m.line;
@@ -70,7 +73,8 @@ pub drop_all : (xs : List ℕ) → drop (length xs) xs ≡ []
 drop_all [] = refl
 drop_all (x ∷ xs) = drop_all xs
 
-pub stays_other : (old new : HeldLines) (from : ℕ) (line : List ℕ) (r : LineRead) → (r ≡ met.Text → ⊥) → Holding old new from line (Ok r) → Stays old new
+pub stays_other : (old new : HeldLines) (from : ℕ) (line : List ℕ) (r : LineRead) → (r ≡ met.Text → ⊥)
+    → Holding old new from line (Ok r) → Stays old new
 stays_other old new from line met.Text h s = absurd (h refl)
 stays_other old new from line met.End h s = s
 stays_other old new from line (met.Fault f) h s = s

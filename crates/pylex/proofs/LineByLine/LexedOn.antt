@@ -2,7 +2,8 @@
 --
 -- Carries: left_all, lexed_both, lexed_on, left_lexed and 6 more, for JoinedOn, Reading, Searching,
 -- Steppings and 1 more. On: Lexed, Lined, Carried, Steps and 1 more.
-use Rattle.std.proofs.Common.{◌≡◌, ◌⊎◌, inl, inr, ⊎_elim, ℕ, ◌<◌, Bool, true, false, ◌&&◌, List, [], ◌∷◌, ◌++◌, length, drop, refl, ap, sym, ◌∙◌, subst, append-nil, arith, Option, Some, None}
+use Rattle.std.proofs.Common.{◌≡◌, ◌⊎◌, inl, inr, ⊎_elim, ℕ, ◌<◌, Bool, true, false, ◌&&◌, List, [], ◌∷◌, ◌++◌, length, drop, refl, ap, sym}
+use Rattle.std.proofs.Common.{◌∙◌, subst, append-nil, arith, Option, Some, None}
 use Rattle.std.specs.Str.{chars, IsUtf8}
 use Rattle.std.proofs.lemmas.Str.{chars-append, chars-nil}
 use Rattle.std.proofs.lemmas.List.{take-append-drop}
@@ -44,7 +45,8 @@ lexed_on ds es cs h at_left = at_left
 lexed_on ds es cs h (past_lexeme bs x e p) =
     let l = lines_here cs x e h in
     past_lexeme (cs ++ es) x (lexeme_kept cs es x l e)
-    (subst (LexedTo (ds ++ es)) (sym (drop_carried cs es x l e)) (lexed_on ds es (drop (lexeme_len cs) cs) (⊎_elim (λ z. inr z) (λ m. inl m) (drop_ends cs x l e)) p))
+    (subst (LexedTo (ds ++ es)) (sym (drop_carried cs es x l e))
+    (lexed_on ds es (drop (lexeme_len cs) cs) (⊎_elim (λ z. inr z) (λ m. inl m) (drop_ends cs x l e)) p))
 
 -- The cut leaves what it leaves behind them.
 len_is : (cs : List ℕ) (x : Lexeme) → lexeme_at cs ≡ Some x → drop (length x.text) cs ≡ drop (lexeme_len cs) cs
@@ -62,7 +64,8 @@ pub left_lexed : (ds cs : List ℕ) → LexedTo ds cs → left_by_cut cs ≡ lef
 left_lexed ds cs at_left = refl
 left_lexed ds cs (past_lexeme bs x e p) =
     let parts = lexeme_parts cs x e in
-    ap left_by_cut parts ∙ left_step x.text (drop (length x.text) cs) x (ap lexeme_at (sym parts) ∙ e) refl (lexeme_some cs x e) ∙ ap left_by_cut (len_is cs x e) ∙ left_lexed ds (drop (lexeme_len cs) cs) p
+    ap left_by_cut parts ∙ left_step x.text (drop (length x.text) cs) x (ap lexeme_at (sym parts) ∙ e) refl (lexeme_some cs x e)
+    ∙ ap left_by_cut (len_is cs x e) ∙ left_lexed ds (drop (lexeme_len cs) cs) p
 
 pub lexed_cut : (cs : List ℕ) → LexedTo (left_by_cut cs) cs
 lexed_cut cs = by (cut cs) cs (left_by_cut cs) (cut_lexed cs)
@@ -74,7 +77,8 @@ lexed_cut cs = by (cut cs) cs (left_by_cut cs) (cut_lexed cs)
     by : (xs : List Lexeme) (text left : List ℕ) → AreLexemes text xs left → LexedTo left text
     by [] text left h = subst (λ l. LexedTo l text) (sym h.0) at_left
     by (x ∷ xs) text left h =
-        let here : h.0 ≡ drop (lexeme_len text) text = same x.text h.0 (drop (length x.text) text) (sym h.2 ∙ lexeme_parts text x h.1) ∙ len_is text x h.1 in
+        let here : h.0 ≡ drop (lexeme_len text) text = same x.text h.0 (drop (length x.text) text) (sym h.2 ∙ lexeme_parts text x h.1)
+        ∙ len_is text x h.1 in
         past_lexeme text x h.1 (subst (LexedTo left) here (by xs h.0 left h.3))
 
 -- The way of a lister leads past lexemes.
@@ -87,9 +91,11 @@ lexed_walks t ds n s cs (dedent m r bs ls v a b e i k w) = lexed_walks t ds m _ 
 pub lexed_comes : (levels : List ℕ) (p : LineState) (cs : List ℕ) (q : LineState) (ds : List ℕ) → Comes levels p cs q ds → LexedTo ds cs
 lexed_comes levels p cs q ds c = lexed_walks _ ds 0 _ cs c.walks
 
-pub lexed_finds : (levels : List ℕ) (p : LineState) (cs : List ℕ) (m : Peeked) (q : LineState) (ds : List ℕ) → ((f : ListingFault) → m ≡ peeked.Fault f → ⊥) → Peek levels p cs m q ds → LexedTo ds cs
+pub lexed_finds : (levels : List ℕ) (p : LineState) (cs : List ℕ) (m : Peeked) (q : LineState) (ds : List ℕ)
+    → ((f : ListingFault) → m ≡ peeked.Fault f → ⊥) → Peek levels p cs m q ds → LexedTo ds cs
 lexed_finds levels p cs (peeked.Entry e) q ds h f =
-    lexed_both f.before ds cs (lexed_comes levels p cs f.there f.before f.comes) (past_lexeme f.before f.lexeme f.stands (subst (λ t. LexedTo ds t) f.behind at_left))
+    lexed_both f.before ds cs (lexed_comes levels p cs f.there f.before f.comes)
+    (past_lexeme f.before f.lexeme f.stands (subst (λ t. LexedTo ds t) f.behind at_left))
 lexed_finds levels p cs (peeked.Fault g) q ds h f = absurd (h g refl)
 lexed_finds levels p cs peeked.Indent q ds h f = lexed_comes levels p cs q ds f.0
 lexed_finds levels p cs peeked.Dedent q ds h f = lexed_comes levels p cs q ds f.0
@@ -101,20 +107,24 @@ not_both true true h d e = cc
 not_both true false h d e = cc
 not_both false b h d e = cc
 
-pub stuck_walks : (t : State) (ds : List ℕ) (n : ℕ) (s : State) (cs : List ℕ) → lexeme_at cs ≡ None → (s.margin && begins_significant cs) ≡ false → Walks t ds n s cs → (ds ≡ cs) × (t.margin ≡ s.margin)
+pub stuck_walks : (t : State) (ds : List ℕ) (n : ℕ) (s : State) (cs : List ℕ) → lexeme_at cs ≡ None
+    → (s.margin && begins_significant cs) ≡ false → Walks t ds n s cs → (ds ≡ cs) × (t.margin ≡ s.margin)
 stuck_walks t ds n s cs h d stays = (refl, refl)
 stuck_walks t ds n s cs h d (silent m r bs x z e g w) = absurd (let f : None ≡ Some x = sym h ∙ e in cc)
 stuck_walks t ds n s cs h d (level m r bs a b i c w) = absurd (not_both s.margin (begins_significant cs) d a b)
 stuck_walks t ds n s cs h d (dedent m r bs ls v a b e i k w) = absurd (not_both s.margin (begins_significant cs) d a b)
 
-stuck_comes : (levels : List ℕ) (p : LineState) (cs : List ℕ) (q : LineState) (ds : List ℕ) → StopAhead p cs → Comes levels p cs q ds → (ds ≡ cs) × (q.margin ≡ p.margin)
+stuck_comes : (levels : List ℕ) (p : LineState) (cs : List ℕ) (q : LineState) (ds : List ℕ) → StopAhead p cs → Comes levels p cs q ds
+    → (ds ≡ cs) × (q.margin ≡ p.margin)
 stuck_comes levels p cs q ds s c = stuck_walks _ ds 0 _ cs s.none s.settled c.walks
 
-pub stuck_finds : (levels : List ℕ) (p : LineState) (cs : List ℕ) (m : Peeked) (q : LineState) (ds : List ℕ) → StopAhead p cs → Peek levels p cs m q ds → (m ≡ peeked.Stop) × (ds ≡ cs)
+pub stuck_finds : (levels : List ℕ) (p : LineState) (cs : List ℕ) (m : Peeked) (q : LineState) (ds : List ℕ) → StopAhead p cs
+    → Peek levels p cs m q ds → (m ≡ peeked.Stop) × (ds ≡ cs)
 stuck_finds levels p cs (peeked.Entry e) q ds s f =
     let c = stuck_comes levels p cs f.there f.before s f.comes in
     absurd (let g : None ≡ Some f.lexeme = sym s.none ∙ ap lexeme_at (sym c.0) ∙ f.stands in cc)
-stuck_finds levels p cs (peeked.Fault g) q ds s f = absurd (by f.there f.before (stuck_comes levels p cs f.there f.before s f.comes) f.cause)
+stuck_finds levels p cs (peeked.Fault g) q ds s f =
+    absurd (by f.there f.before (stuck_comes levels p cs f.there f.before s f.comes) f.cause)
   where
     by : (r : LineState) (bs : List ℕ) → (bs ≡ cs) × (r.margin ≡ p.margin) → GivesFault levels r bs g → ⊥
     by r bs c (mismatch m t a i e) = not_both p.margin (begins_significant cs) s.settled (sym c.1 ∙ m) (ap begins_significant (sym c.0) ∙ t)
@@ -140,7 +150,8 @@ feed_last (b ∷ c ∷ front) back h e some = ⊎_elim
     (λ (is : is_lf b ≡ true). let f : (b ∷ []) ∷ lines_of (c ∷ front ++ back) ≡ (b ∷ c ∷ front ++ back) ∷ [] = rw is at h in cc)
     (λ (is : is_lf b ≡ false).
     let f : onto_first b (lines_of (c ∷ front ++ back)) ≡ (b ∷ c ∷ front ++ back) ∷ [] = rw is at h in
-    feed_last (c ∷ front) back (first_of b (c ∷ front ++ back) (lines_of (c ∷ front ++ back)) (λ z. cc) f) (sym (ends_on b c front) ∙ e) some)
+    feed_last (c ∷ front) back (first_of b (c ∷ front ++ back) (lines_of (c ∷ front ++ back)) (λ z. cc) f)
+    (sym (ends_on b c front) ∙ e) some)
     (bool_cases (is_lf b))
   where
     first_of : (b : ℕ) (t : List ℕ) (ls : List (List ℕ)) → (t ≡ [] → ⊥) → onto_first b ls ≡ (b ∷ t) ∷ [] → ls ≡ t ∷ []
@@ -148,10 +159,12 @@ feed_last (b ∷ c ∷ front) back h e some = ⊎_elim
     first_of b t (l ∷ ls) n e = let f : (b ∷ l) ∷ ls ≡ (b ∷ t) ∷ [] = e in cc
 
 -- A text that goes on by one line, behind an open literal.
-pub joined_more : (text line : List ℕ) → IsJoined [] text → (0 < length text → is_open_string (left_by_cut (chars text)) ≡ true) → lines_of line ≡ line ∷ [] → IsJoined [] (text ++ line)
+pub joined_more : (text line : List ℕ) → IsJoined [] text → (0 < length text → is_open_string (left_by_cut (chars text)) ≡ true)
+    → lines_of line ≡ line ∷ [] → IsJoined [] (text ++ line)
 joined_more text line h opened one front back e feed some = ⊎_elim within past (split text line front back e)
   where
-    split : (text line front back : List ℕ) → text ++ line ≡ front ++ back → ((m : List ℕ) × (text ≡ front ++ m) × (back ≡ m ++ line)) ⊎ ((m : List ℕ) × (front ≡ text ++ m) × (line ≡ m ++ back))
+    split : (text line front back : List ℕ) → text ++ line ≡ front ++ back → ((m : List ℕ) × (text ≡ front ++ m) × (back ≡ m ++ line)) ⊎
+        ((m : List ℕ) × (front ≡ text ++ m) × (line ≡ m ++ back))
     split [] line front back e = inr (front, refl, e)
     split (c ∷ text) line [] back e = inl (c ∷ text, refl, sym e)
     split (c ∷ text) line (d ∷ front) back e =
@@ -175,7 +188,9 @@ joined_more text line h opened one front back e feed some = ⊎_elim within past
 
     past : (m : List ℕ) × (front ≡ text ++ m) × (line ≡ m ++ back) → is_open_string (left_by_cut (chars front)) ≡ true
     past ([], is, b) = all (sym (is ∙ append-nil text))
-    past (x ∷ m, is, b) = absurd (feed_last (x ∷ m) back (ap lines_of (sym b) ∙ one ∙ ap (λ t. t ∷ []) b) (feed_behind text x m (ap ends_line (sym is) ∙ feed)) some)
+    past (x ∷ m, is, b) =
+        absurd (feed_last (x ∷ m) back (ap lines_of (sym b) ∙ one ∙ ap (λ t. t ∷ []) b)
+        (feed_behind text x m (ap ends_line (sym is) ∙ feed)) some)
 
 -- nothing is left of nothing
 left_none : left_by_cut [] ≡ []
@@ -189,11 +204,16 @@ pub left_all : (cs : List ℕ) → LexedTo [] cs → left_by_cut cs ≡ []
 left_all cs l = left_lexed [] cs l ∙ left_none
 
 -- Lines that stand behind others that are lexed whole.
-pub left_behind : (before text : List ℕ) → IsUtf8 before → (before ≡ []) ⊎ (ends_line before ≡ true) → left_by_cut (chars before) ≡ [] → left_by_cut (chars (before ++ text)) ≡ left_by_cut (chars text)
+pub left_behind : (before text : List ℕ) → IsUtf8 before → (before ≡ []) ⊎ (ends_line before ≡ true) → left_by_cut (chars before) ≡ []
+    → left_by_cut (chars (before ++ text)) ≡ left_by_cut (chars text)
 left_behind before text u ends closed =
-    let lined : EndsLine (chars before) ⊎ (chars before ≡ []) = ⊎_elim (λ z. inr (ap chars z ∙ chars-nil)) (λ l. inl (lined_chars before u l)) ends in
-    let lexed : LexedTo (chars text) (chars before ++ chars text) = lexed_on [] (chars text) (chars before) lined (subst (λ l. LexedTo l (chars before)) closed (lexed_cut (chars before))) in
+    let lined : EndsLine (chars before) ⊎ (chars before ≡ []) =
+    ⊎_elim (λ z. inr (ap chars z ∙ chars-nil)) (λ l. inl (lined_chars before u l)) ends in
+    let lexed : LexedTo (chars text) (chars before ++ chars text) =
+    lexed_on [] (chars text) (chars before) lined (subst (λ l. LexedTo l (chars before)) closed (lexed_cut (chars before))) in
     ap left_by_cut (chars-append before text u) ∙ left_lexed (chars text) (chars before ++ chars text) lexed
 
-pub joined_behind : (before text : List ℕ) → IsUtf8 before → (before ≡ []) ⊎ (ends_line before ≡ true) → left_by_cut (chars before) ≡ [] → IsJoined [] text → IsJoined before text
-joined_behind before text u ends closed h front back e feed some = ap is_open_string (left_behind before front u ends closed) ∙ h front back e feed some
+pub joined_behind : (before text : List ℕ) → IsUtf8 before → (before ≡ []) ⊎ (ends_line before ≡ true) → left_by_cut (chars before) ≡ []
+    → IsJoined [] text → IsJoined before text
+joined_behind before text u ends closed h front back e feed some = ap is_open_string (left_behind before front u ends closed)
+    ∙ h front back e feed some

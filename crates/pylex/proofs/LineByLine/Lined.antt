@@ -1,7 +1,8 @@
 -- A lister whose text is whole lines: where it stands in a part of it, and how it goes on.
 --
 -- Carries: look. On: Steps, Measured, Significant, Finding and 2 more.
-use Rattle.std.proofs.Common.{suc, ◌≡◌, ◌≢◌, ℕ, ◌+◌, ◌-◌, ◌<◌, Bool, true, false, ◌&&◌, List, [], ◌∷◌, ◌++◌, length, take, refl, ap, ◌∙◌, sym, subst, arith, inl, inr, ◌⊎◌, Option, Some, None, length-append}
+use Rattle.std.proofs.Common.{suc, ◌≡◌, ◌≢◌, ℕ, ◌+◌, ◌-◌, ◌<◌, Bool, true, false, ◌&&◌, List, [], ◌∷◌, ◌++◌, length, take, refl, ap, ◌∙◌}
+use Rattle.std.proofs.Common.{sym, subst, arith, inl, inr, ◌⊎◌, Option, Some, None, length-append}
 use Rattle.std.specs.Str.{chars, IsUtf8}
 use Rattle.std.proofs.lemmas.Bool.{eqb-true}
 use Rattle.std.proofs.lemmas.Str.{chars-nil}
@@ -28,7 +29,16 @@ pub stands_front : (p : LineState) (a b : List ℕ) → Stands p (a ++ b) → Is
 stands_front p a b s u =
     let n : length (a ++ b) ≡ length a + length b = length-append a b in
     let r = s.room in
-    record { utf8 = u; room = record { row = omega (arith, r.row); column = omega (arith, r.column); offset = omega (arith, r.offset); depth = omega (arith, r.depth); width = omega (arith, r.width) } }
+    record {
+      utf8 = u;
+      room = record {
+        row = omega (arith, r.row);
+        column = omega (arith, r.column);
+        offset = omega (arith, r.offset);
+        depth = omega (arith, r.depth);
+        width = omega (arith, r.width);
+      };
+    }
 
 -- Where no lexeme stands in a text, none stands in its whole lines.
 none_in : (cs es : List ℕ) → EndsLine cs → lexeme_at (cs ++ es) ≡ None → (o : Option Lexeme) → lexeme_at cs ≡ o → o ≡ None
@@ -58,11 +68,13 @@ stop_back q [] es (inr e) s = record { none = nothing_at (lexeme_at []) refl; se
 stop_back q (c ∷ cs) es (inr e) s = absurd (let f : c ∷ cs ≡ [] = e in cc)
 
 -- Where no literal is open, the fault behind the text is not what ends its listing.
-fault_any : (f g : Option ListingFault) (s : State) (ds : List ℕ) → is_open_string ds ≡ false → stop_fault f s.now.place ds ≡ stop_fault g s.now.place ds
+fault_any : (f g : Option ListingFault) (s : State) (ds : List ℕ) → is_open_string ds ≡ false
+    → stop_fault f s.now.place ds ≡ stop_fault g s.now.place ds
 unfolding stop_fault
 fault_any f g s ds o = rw o refl
 
-pub remaining_any : (f g : Option ListingFault) (s : State) (ds : List ℕ) → lexeme_at ds ≡ None → ds ≢ [] → is_open_string ds ≡ false → remaining f s ds ≡ remaining g s ds
+pub remaining_any : (f g : Option ListingFault) (s : State) (ds : List ℕ) → lexeme_at ds ≡ None → ds ≢ [] → is_open_string ds ≡ false
+    → remaining f s ds ≡ remaining g s ds
 remaining_any f g s [] n some o = absurd (some refl)
 remaining_any f g s (d ∷ ds) n some o =
     remaining_stop f s (d ∷ ds) n
@@ -70,7 +82,9 @@ remaining_any f g s (d ∷ ds) n some o =
     ∙ sym (remaining_stop g s (d ∷ ds) n)
 
 -- A lister that has looked on keeps what it kept.
-pub keeps_on : (l : Listed) (p q : LineState) (left ds levels : List ℕ) (nested tail : ℕ) → Keeps l p left levels nested tail → Comes (take nested levels) p (chars left) q (chars ds) → Stands q ds → (0 < tail → StopAhead q (chars ds)) → Keeps l q ds levels nested tail
+pub keeps_on : (l : Listed) (p q : LineState) (left ds levels : List ℕ) (nested tail : ℕ) → Keeps l p left levels nested tail
+    → Comes (take nested levels) p (chars left) q (chars ds) → Stands q ds → (0 < tail → StopAhead q (chars ds))
+    → Keeps l q ds levels nested tail
 keeps_on l p q left ds levels nested tail k c s stop = record {
   utf8 = k.utf8;
   small = k.small;
@@ -79,7 +93,8 @@ keeps_on l p q left ds levels nested tail k c s stop = record {
   ascending = k.ascending;
   within = k.within;
   placed = walks_in _ _ _ 0 _ _ c.walks k.placed;
-  came = let z : length levels - nested + 0 ≡ length levels - nested = omega arith in rw z at (walks_on _ _ _ _ (length levels - nested) 0 _ _ k.came c.walks);
+  came = let z : length levels - nested + 0 ≡ length levels - nested = omega arith in
+      rw z at (walks_on _ _ _ _ (length levels - nested) 0 _ _ k.came c.walks);
   stop = stop;
 }
 
@@ -105,6 +120,7 @@ feed_behind [] b bs e = e
 feed_behind (c ∷ []) b bs e = sym (ends_on c b bs) ∙ e
 feed_behind (c ∷ d ∷ a) b bs e = feed_behind (d ∷ a) b bs (sym (ends_on c d (a ++ b ∷ bs)) ∙ e)
 
-pub lined_or_last : (held a left : List ℕ) → held ≡ a ++ left → IsUtf8 left → ends_line held ≡ true → EndsLine (chars left) ⊎ (chars left ≡ [])
+pub lined_or_last : (held a left : List ℕ) → held ≡ a ++ left → IsUtf8 left → ends_line held ≡ true
+    → EndsLine (chars left) ⊎ (chars left ≡ [])
 lined_or_last held a [] h u e = inr chars-nil
 lined_or_last held a (b ∷ bs) h u e = inl (lined_chars (b ∷ bs) u (feed_behind a b bs (ap ends_line (sym h) ∙ e)))

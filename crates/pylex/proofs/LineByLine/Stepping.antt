@@ -2,7 +2,8 @@
 --
 -- Carries: step_is, stands_then, streams_entry, streams_other, for Steppings. On: Streaming, Lined,
 -- Lying, Ranges and 2 more.
-use Rattle.std.proofs.Common.{◌≡◌, ◌⊎◌, inl, inr, ⊎_elim, ℕ, ◌+◌, ◌<◌, Bool, List, [], ◌∷◌, ◌++◌, length, take, drop, refl, ap, sym, ◌∙◌, subst, length-append, length-drop, arith, Some, None, string_bytes, zero, suc}
+use Rattle.std.proofs.Common.{◌≡◌, ◌⊎◌, inl, inr, ⊎_elim, ℕ, ◌+◌, ◌<◌, Bool, List, [], ◌∷◌, ◌++◌, length, take, drop, refl, ap, sym, ◌∙◌}
+use Rattle.std.proofs.Common.{subst, length-append, length-drop, arith, Some, None, string_bytes, zero, suc}
 use Rattle.std.specs.Prelude.{slice_get}
 use Rattle.std.specs.Str.{chars, IsUtf8}
 use Rattle.std.proofs.lemmas.Str.{chars-append, chars-nil, IsUtf8-append, IsUtf8-take, IsCharBoundary-at_seam}
@@ -43,7 +44,9 @@ lies_at text (r ∷ ss) zero s l e = let f : r ≡ s = cc in subst (StepLies tex
 lies_at text (r ∷ ss) (suc k) s l e = lies_at text ss k s l.1 e
 
 utf8_before : (front back : List ℕ) → IsUtf8 (front ++ back) → IsUtf8 back → IsUtf8 front
-utf8_before front back u v = subst IsUtf8 (take-append_seam front back) (IsUtf8-take (front ++ back) (length front) u (IsCharBoundary-at_seam (front ++ back) front back refl v))
+utf8_before front back u v =
+    subst IsUtf8 (take-append_seam front back)
+    (IsUtf8-take (front ++ back) (length front) u (IsCharBoundary-at_seam (front ++ back) front back refl v))
 
 -- nothing is left behind a step without entry but what was left
 left_same : (s : Step) (from to : List ℕ) → ((e : Entry) → s ≡ steps.Entry e → ⊥) → left_by s from to ≡ from
@@ -52,20 +55,27 @@ left_same steps.End from to h = refl
 left_same (steps.Fault f) from to h = refl
 
 -- Where an INDENT is met it comes next in each source.
-pub indent_is : (q : Machine) (d : HeldLines) (f : Found) → IsStreaming q d None → PeekedIn q d f → f.peeked ≡ peeked.Indent → 0 < q.given → (s : Parts) (k : ℕ) (more : List ℕ) (broken : Bool) → Continues d.lines more broken → StreamsIn (streamed q d None) s k more broken → IsIndent (first_step (rest_of_listing (in_characters s) k))
+pub indent_is : (q : Machine) (d : HeldLines) (f : Found) → IsStreaming q d None → PeekedIn q d f → f.peeked ≡ peeked.Indent → 0 < q.given
+    → (s : Parts) (k : ℕ) (more : List ℕ) (broken : Bool) → Continues d.lines more broken → StreamsIn (streamed q d None) s k more broken
+    → IsIndent (first_step (rest_of_listing (in_characters s) k))
 indent_is q d f h m is some s k more broken g x =
     let coming = (comes d.lines more broken).text in
     let left = drop d.at (string_bytes d.text) in
     let behind = drop f.at (string_bytes d.text) in
-    let found = finds_whole (take q.nested q.levels.items) q.now left f.peeked f.now behind coming s.fault f.fault h.left m.looks.left (lined_left (string_bytes d.text) d.at coming h.left x.ends) (m.stops s k more broken g x) m.looks.finds in
+    let found = finds_whole (take q.nested q.levels.items) q.now left f.peeked f.now behind coming s.fault f.fault h.left m.looks.left
+    (lined_left (string_bytes d.text) d.at coming h.left x.ends) (m.stops s k more broken g x) m.looks.finds in
     let i = rw is at found in
-    awaits_indent (record { source = s; shown = shown_from q }) q.now (left ++ coming) q.levels.items q.nested q.tail x.keeps refl some (no_tail q.tail m.looks.tail) f.now (chars (behind ++ coming)) i.0 i.1 (in_characters s) k x.stands
+    awaits_indent (record { source = s; shown = shown_from q }) q.now (left ++ coming) q.levels.items q.nested q.tail x.keeps refl some
+    (no_tail q.tail m.looks.tail) f.now (chars (behind ++ coming)) i.0 i.1 (in_characters s) k x.stands
   where
-    no_tail : (n : ℕ) → (0 < n → (f.peeked ≡ peeked.Stop) × (f.now ≡ q.now) × (drop f.at (string_bytes d.text) ≡ drop d.at (string_bytes d.text))) → n ≡ 0
+    no_tail : (n : ℕ) → (0 < n
+        → (f.peeked ≡ peeked.Stop) × (f.now ≡ q.now) × (drop f.at (string_bytes d.text) ≡ drop d.at (string_bytes d.text))) → n ≡ 0
     no_tail zero t = refl
     no_tail (suc n) t = absurd (let z : peeked.Indent ≡ peeked.Stop = sym is ∙ (t (omega arith)).0 in cc)
 
-module _ (q r : Machine) (d : HeldLines) (f : Found) (step : Step) (h : IsStreaming q d None) (m : PeekedIn q d f) (w : Advance q f.peeked f.now (drop f.at (string_bytes d.text)) f.fault step r) (s : Parts) (k : ℕ) (more : List ℕ) (broken : Bool) (g : Continues d.lines more broken) (x : StreamsIn (streamed q d None) s k more broken) where
+module _ (q r : Machine) (d : HeldLines) (f : Found) (step : Step) (h : IsStreaming q d None) (m : PeekedIn q d f)
+    (w : Advance q f.peeked f.now (drop f.at (string_bytes d.text)) f.fault step r) (s : Parts) (k : ℕ) (more : List ℕ) (broken : Bool)
+    (g : Continues d.lines more broken) (x : StreamsIn (streamed q d None) s k more broken) where
   abbrev held : List ℕ
   held = string_bytes d.text
 
@@ -82,12 +92,15 @@ module _ (q r : Machine) (d : HeldLines) (f : Found) (step : Step) (h : IsStream
   lined = lined_left held d.at coming h.left x.ends
 
   found : Peek (take q.nested q.levels.items) q.now (chars (left ++ coming)) f.peeked f.now (chars (rest ++ coming))
-  found = finds_whole (take q.nested q.levels.items) q.now left f.peeked f.now rest coming s.fault f.fault h.left m.looks.left lined (m.stops s k more broken g x) m.looks.finds
+  found = finds_whole (take q.nested q.levels.items) q.now left f.peeked f.now rest coming s.fault f.fault h.left m.looks.left lined
+      (m.stops s k more broken g x) m.looks.finds
 
-  gone : NextStep (record { source = s; shown = shown_from q }) step (record { source = s; shown = shown_from r }) × Holds s r (left_by step (left ++ coming) (rest ++ coming))
+  gone : NextStep (record { source = s; shown = shown_from q }) step (record { source = s; shown = shown_from r }) × Holds s r
+      (left_by step (left ++ coming) (rest ++ coming))
   gone = w.goes s (left ++ coming) (rest ++ coming) x.keeps found
       (stands_whole q.now f.now left rest coming x.keeps.stands h.left m.looks.left m.looks.room)
-      (λ is levels. end_whole levels (take q.nested q.levels.items) q.now left f.peeked f.now rest coming s.fault f.fault h.left m.looks.left lined (m.stops s k more broken g x) m.looks.finds is)
+      (λ is levels. end_whole levels (take q.nested q.levels.items) q.now left f.peeked f.now rest coming s.fault f.fault h.left
+      m.looks.left lined (m.stops s k more broken g x) m.looks.finds is)
 
   pub step_is : slice_get (listing (in_characters s)) k ≡ Some step
   step_is = (gone.0 (in_characters s) k x.stands).0
@@ -108,7 +121,8 @@ module _ (q r : Machine) (d : HeldLines) (f : Found) (step : Step) (h : IsStream
   utf8_begin = utf8_before x.before (held ++ coming) (subst IsUtf8 x.whole x.keeps.utf8) utf8_held
 
   size_text : bytes_in (chars s.text) ≡ length x.before + (length held + length coming)
-  size_text = sym (length-text s.text x.keeps.utf8) ∙ ap length x.whole ∙ length-append x.before (held ++ coming) ∙ ap (λ n. length x.before + n) (length-append held coming)
+  size_text = sym (length-text s.text x.keeps.utf8) ∙ ap length x.whole ∙ length-append x.before (held ++ coming)
+      ∙ ap (λ n. length x.before + n) (length-append held coming)
 
   size_left : bytes_in (chars (left ++ coming)) ≡ length left + length coming
   size_left = sym (length-text (left ++ coming) x.keeps.stands.utf8) ∙ length-append left coming
@@ -130,7 +144,8 @@ module _ (q r : Machine) (d : HeldLines) (f : Found) (step : Step) (h : IsStream
       let less = length-drop f.at held in
       let less_left = length-drop d.at held in
       let placed = in_offset (chars s.text) _ (chars (left ++ coming)) x.keeps.placed in
-      w.ranges s (left ++ coming) (rest ++ coming) (chars x.before) (chars (held ++ coming)) x.keeps found (ap chars x.whole ∙ chars-append x.before (held ++ coming) utf8_begin) begin_lines
+      w.ranges s (left ++ coming) (rest ++ coming) (chars x.before) (chars (held ++ coming)) x.keeps found (ap chars x.whole
+      ∙ chars-append x.before (held ++ coming) utf8_begin) begin_lines
       (omega (arith, size_rest, size_held, less)) (omega (arith, placed, size_text, size_left, size_begin, less_left)) x.measuring
 
   module _ (e : Entry) (is : step ≡ steps.Entry e) where
@@ -162,7 +177,11 @@ module _ (q r : Machine) (d : HeldLines) (f : Found) (step : Step) (h : IsStream
       stands = stands_then;
       keeps = keeps_entry;
       measuring = w.measuring (chars left) (chars rest) m.looks.finds x.measuring;
-      last = inr (not_encoding (in_characters s) k e some (step_is ∙ ap Some is), held_entry, lies_at s.text (listing (in_characters s)) k (steps.Entry e) (entries_lie s x.keeps.utf8) (step_is ∙ ap Some is));
+      last = inr (
+        not_encoding (in_characters s) k e some (step_is ∙ ap Some is),
+        held_entry,
+        lies_at s.text (listing (in_characters s)) k (steps.Entry e) (entries_lie s x.keeps.utf8) (step_is ∙ ap Some is),
+      );
     }
 
   -- Where no entry comes.

@@ -2,7 +2,8 @@
 --
 -- Carries: LineLister::cursor, LineLister::next, next_behind, LineLister::shows, line_lister::pass,
 -- pass_on. On: Stepping, LexedOn, Moving, AheadOn and 2 more.
-use Rattle.std.proofs.Common.{◌≡◌, ◌⊎◌, inl, inr, ⊎_elim, ℕ, ◌+◌, ◌<◌, ◌-◌, Bool, List, [], ◌++◌, length, take, drop, refl, ap, sym, ◌∙◌, subst, arith, Option, Some, None, string_bytes}
+use Rattle.std.proofs.Common.{◌≡◌, ◌⊎◌, inl, inr, ⊎_elim, ℕ, ◌+◌, ◌<◌, ◌-◌, Bool, List, [], ◌++◌, length, take, drop, refl, ap, sym, ◌∙◌}
+use Rattle.std.proofs.Common.{subst, arith, Option, Some, None, string_bytes}
 use Rattle.std.specs.Prelude.{slice_get, Result, Ok, Err}
 use Rattle.std.specs.declared.alloc.AllocError.{AllocError}
 use Rattle.std.specs.Str.{chars}
@@ -38,7 +39,8 @@ use Rattle.pylex.proofs.LineByLine.Searching.{witness}
 use Rattle.pylex.proofs.LineByLine.Stepping.{indent_is, step_is, stands_then, streams_entry, streams_other}
 
 -- The entry given last plays no part in what follows.
-pub none_last : (p : Machine) (c : HeldLines) (last : Option Entry) (s : Parts) (k : ℕ) (more : List ℕ) (broken : Bool) → StreamsIn (streamed p c last) s k more broken → StreamsIn (streamed p c None) s k more broken
+pub none_last : (p : Machine) (c : HeldLines) (last : Option Entry) (s : Parts) (k : ℕ) (more : List ℕ) (broken : Bool)
+    → StreamsIn (streamed p c last) s k more broken → StreamsIn (streamed p c None) s k more broken
 none_last p c last s k more broken x = record {
   before = x.before;
   whole = x.whole;
@@ -68,7 +70,8 @@ drop_last p c last h = record {
 }
 
 -- nor in a step
-pub steps_last : (seen_old seen_new : Seen) (p : Machine) (c : HeldLines) (last : Option Entry) (v : Streamed) (r : Result Step AllocError) → Next seen_old seen_new (streamed p c None) v r → Next seen_old seen_new (streamed p c last) v r
+pub steps_last : (seen_old seen_new : Seen) (p : Machine) (c : HeldLines) (last : Option Entry) (v : Streamed) (r : Result Step AllocError)
+    → Next seen_old seen_new (streamed p c None) v r → Next seen_old seen_new (streamed p c last) v r
 steps_last seen_old seen_new p c last v (Ok step) h = record {
   taken = h.taken;
   reads = h.reads;
@@ -88,7 +91,8 @@ steps_last seen_old seen_new p c last v (Err e) h = record {
   last = tt;
   ahead = tt;
   same = λ s k more broken g x. h.same s k more broken g (none_last p c last s k (h.taken ++ more) broken x);
-  refused = ⊎_elim (λ a. inl (awaits_last p c last a)) (λ i. inr (λ s k more broken g x. i s k more broken g (none_last p c last s k (h.taken ++ more) broken x))) h.refused;
+  refused = ⊎_elim (λ a. inl (awaits_last p c last a))
+      (λ i. inr (λ s k more broken g x. i s k more broken g (none_last p c last s k (h.taken ++ more) broken x))) h.refused;
   ended = tt;
 }
 
@@ -96,14 +100,16 @@ pub place_held : (p : Machine) (c : HeldLines) (last : Option Entry) → IsStrea
 place_held p c last h = let w = witness p c last h in has_place w.source p _ w.streams.keeps
 
 -- The first step.
-module _ (p : Machine) (c : HeldLines) (last : Option Entry) (e : Entry) (z : p.given ≡ 0) (is : mark_at kinds.Encoding 0 origin origin ≡ steps.Entry e) where
+module _ (p : Machine) (c : HeldLines) (last : Option Entry) (e : Entry) (z : p.given ≡ 0)
+    (is : mark_at kinds.Encoding 0 origin origin ≡ steps.Entry e) where
   kind_is : (d : Entry) → d.kind ≡ kinds.Encoding → steps.Entry d ≡ steps.Entry e → e.kind ≡ kinds.Encoding
   kind_is d k h = let same : d ≡ e = cc in subst (λ (y : Entry). y.kind ≡ kinds.Encoding) same k
 
   abbrev begun : Machine
   begun = record p { given = 1 }
 
-  first_in : (s : Parts) (k : ℕ) (more : List ℕ) (broken : Bool) → string_bytes c.text ≡ [] → StreamsIn (streamed p c last) s k more broken → (slice_get (listing (in_characters s)) k ≡ Some (steps.Entry e)) × StreamsIn (streamed begun c (Some e)) s (k + 1) more broken
+  first_in : (s : Parts) (k : ℕ) (more : List ℕ) (broken : Bool) → string_bytes c.text ≡ [] → StreamsIn (streamed p c last) s k more broken
+      → (slice_get (listing (in_characters s)) k ≡ Some (steps.Entry e)) × StreamsIn (streamed begun c (Some e)) s (k + 1) more broken
   first_in s k more broken none x =
       let l : Listed = record { source = s; shown = shown_from p } in
       let left = drop c.at (string_bytes c.text) ++ (comes c.lines more broken).text in
@@ -138,11 +144,15 @@ module _ (p : Machine) (c : HeldLines) (last : Option Entry) (e : Entry) (z : p.
     fresh = λ z. absurd (omega arith);
     stands = λ more broken g.
         let s = h.stands more broken g in
-        let one : p.given + 1 ≡ 1 = omega arith in
-        (s.0, subst (λ n. StreamsIn (streamed begun c (Some e)) s.0 n more broken) one (first_in s.0 p.given more broken (h.fresh z) s.1).1);
+        let one : p.given + 1 ≡ 1 = omega arith in (
+          s.0,
+          subst (λ n. StreamsIn (streamed begun c (Some e)) s.0 n more broken) one
+              (first_in s.0 p.given more broken (h.fresh z) s.1).1,
+        );
   }
 
-  pub steps_first : IsStreaming p c last → (seen : Seen) → Next seen seen (streamed p c last) (streamed begun c (Some e)) (Ok (steps.Entry e))
+  pub steps_first : IsStreaming p c last → (seen : Seen)
+      → Next seen seen (streamed p c last) (streamed begun c (Some e)) (Ok (steps.Entry e))
   steps_first h seen = record {
     taken = [];
     reads = ReadsBytes-none seen c.lines.count c.lines.reach;
@@ -164,18 +174,31 @@ no_fault peeked.Dedent o e h g k = cc
 no_fault peeked.Stop o e h g k = cc
 
 -- where it was looked for, no more was read ahead than one read gives
-pub entry_ahead : (f : Found) (step : Step) (e : Entry) (a b : Buffered) → step ≡ steps.Entry e → FaultsFirst f.peeked f.fault step → LooksAhead f a b → Ahead a b
+pub entry_ahead : (f : Found) (step : Step) (e : Entry) (a b : Buffered) → step ≡ steps.Entry e → FaultsFirst f.peeked f.fault step
+    → LooksAhead f a b → Ahead a b
 entry_ahead f step e a b is first (inr l) = l
 entry_ahead f step e a b is first (inl (stop, fault, some)) = absurd (rw (is, stop, some) at first)
 
 -- A step behind a search.
 module _ (seen_old seen_new : Seen) (p q : Machine) (c d : HeldLines) (last : Option Entry) (so : Searches seen_old seen_new p q c d) where
-  stood : (s : Parts) (k : ℕ) (more : List ℕ) (broken : Bool) → Continues d.lines more broken → StreamsIn (streamed p c last) s k (so.taken ++ more) broken → StreamsIn (streamed q d None) s k more broken
+  stood : (s : Parts) (k : ℕ) (more : List ℕ) (broken : Bool) → Continues d.lines more broken
+      → StreamsIn (streamed p c last) s k (so.taken ++ more) broken → StreamsIn (streamed q d None) s k more broken
   stood s k more broken g x = so.stands s k more broken g (none_last p c last s k (so.taken ++ more) broken x)
 
   -- memory was refused where a line was read
-  pub steps_unread : (e : AllocError) → AwaitsLine (streamed p c last) → Next seen_old seen_new (streamed p c last) (streamed q d None) (Err e)
-  steps_unread e a = record { taken = so.taken; reads = so.reads; follows = so.follows; steps = tt; last = tt; ahead = tt; same = stood; refused = inl a; ended = tt }
+  pub steps_unread : (e : AllocError) → AwaitsLine (streamed p c last)
+      → Next seen_old seen_new (streamed p c last) (streamed q d None) (Err e)
+  steps_unread e a = record {
+    taken = so.taken;
+    reads = so.reads;
+    follows = so.follows;
+    steps = tt;
+    last = tt;
+    ahead = tt;
+    same = stood;
+    refused = inl a;
+    ended = tt;
+  }
 
   some_given : 0 < p.given → 0 < q.given
   some_given h = let same : q.given ≡ p.given = ap (λ (y : Machine). y.given) so.machine in omega (arith, same, h)
@@ -184,10 +207,24 @@ module _ (seen_old seen_new : Seen) (p q : Machine) (c d : HeldLines) (last : Op
     same_view : streamed r d None ≡ streamed q d None
     same_view =
         ap (λ (y : Machine). streamed y d None) same.0
-        ∙ ap (λ ls. record { lines = d.lines; shown = shown_by q.given q.point ls ((length ls - q.nested) + q.tail); base = d.base; held = string_bytes d.text; left = drop d.at (string_bytes d.text); now = q.now; levels = ls; nested = q.nested; tail = q.tail; last = None }) same.1
+        ∙ ap (λ ls. record {
+          lines = d.lines;
+          shown = shown_by q.given q.point ls ((length ls - q.nested) + q.tail);
+          base = d.base;
+          held =
+              string_bytes d.text;
+          left = drop d.at (string_bytes d.text);
+          now = q.now;
+          levels = ls;
+          nested = q.nested;
+          tail =
+              q.tail;
+          last = None;
+        }) same.1
 
     -- or where an INDENT came
-    pub steps_unopened : (e : AllocError) (f : Found) → PeekedIn q d f → f.peeked ≡ peeked.Indent → 0 < p.given → Next seen_old seen_new (streamed p c last) (streamed r d None) (Err e)
+    pub steps_unopened : (e : AllocError) (f : Found) → PeekedIn q d f → f.peeked ≡ peeked.Indent → 0 < p.given
+        → Next seen_old seen_new (streamed p c last) (streamed r d None) (Err e)
     steps_unopened e f m is some = record {
       taken = so.taken;
       reads = so.reads;
@@ -196,7 +233,8 @@ module _ (seen_old seen_new : Seen) (p q : Machine) (c d : HeldLines) (last : Op
       last = tt;
       ahead = tt;
       same = λ s k more broken g x. subst (λ v. StreamsIn v s k more broken) (sym same_view) (stood s k more broken g x);
-      refused = inr (λ s k more broken g x. indent_is q d f so.streaming m is (some_given some) s k more broken g (stood s k more broken g x));
+      refused = inr (λ s k more broken g x. indent_is q d f so.streaming m is (some_given some) s k more broken g
+          (stood s k more broken g x));
       ended = tt;
     }
 
@@ -212,12 +250,17 @@ module _ (seen_old seen_new : Seen) (p q : Machine) (c d : HeldLines) (last : Op
           joined = so.streaming.joined;
           fresh = λ z. so.streaming.fresh (sym given ∙ z);
           stands = λ more broken g.
-              let s = so.streaming.stands more broken g in
-              (s.0, subst (λ n. StreamsIn (streamed r d None) s.0 n more broken) (sym given) (subst (λ v. StreamsIn v s.0 q.given more broken) (sym same_view) s.1));
+              let s = so.streaming.stands more broken g in (
+                s.0,
+                subst (λ n. StreamsIn (streamed r d None) s.0 n more broken) (sym given)
+                    (subst (λ v. StreamsIn v s.0 q.given more broken) (sym same_view) s.1),
+              );
         }
 
-  module _ (r : Machine) (f : Found) (step : Step) (m : PeekedIn q d f) (w : Advance q f.peeked f.now (drop f.at (string_bytes d.text)) f.fault step r) where
-    count_then : (s : Parts) (more : List ℕ) (broken : Bool) (g : Continues d.lines more broken) (x : StreamsIn (streamed q d None) s q.given more broken) → q.given + entries_in step ≡ r.given
+  module _ (r : Machine) (f : Found) (step : Step) (m : PeekedIn q d f)
+      (w : Advance q f.peeked f.now (drop f.at (string_bytes d.text)) f.fault step r) where
+    count_then : (s : Parts) (more : List ℕ) (broken : Bool) (g : Continues d.lines more broken)
+        (x : StreamsIn (streamed q d None) s q.given more broken) → q.given + entries_in step ≡ r.given
     count_then s more broken g x = sym (stands_then q r d f step so.streaming m w s q.given more broken g x).count
 
     module _ (e : Entry) (is : step ≡ steps.Entry e) where
@@ -228,12 +271,17 @@ module _ (seen_old seen_new : Seen) (p q : Machine) (c d : HeldLines) (last : Op
           let one : entries_in step ≡ 1 = ap entries_in is in
           omega (arith, n, one, z)
 
-      pub steps_entry : 0 < p.given → Ahead c.lines d.lines → Next seen_old seen_new (streamed p c last) (streamed r (record d { at = f.at }) (Some e)) (Ok step)
+      pub steps_entry : 0 < p.given → Ahead c.lines d.lines
+          → Next seen_old seen_new (streamed p c last) (streamed r (record d { at = f.at }) (Some e)) (Ok step)
       steps_entry some a = record {
         taken = so.taken;
         reads = so.reads;
         follows = so.follows;
-        steps = λ s k more broken g x. let y = stood s k more broken g x in (step_is q r d f step so.streaming m w s k more broken g y, streams_entry q r d f step so.streaming m w s k more broken g y e is (let n = y.stands.count in omega (arith, n, some_given some)));
+        steps = λ s k more broken g x. let y = stood s k more broken g x in (
+          step_is q r d f step so.streaming m w s k more broken g y,
+          streams_entry q r d f step so.streaming m w s k more broken g y e is (let n = y.stands.count in
+              omega (arith, n, some_given some)),
+        );
         last = subst (IsLast (streamed r (record d { at = f.at }) (Some e))) (sym is) refl;
         ahead = subst (IsAhead c.lines d.lines) (sym is) a;
         same = tt;
@@ -247,13 +295,19 @@ module _ (seen_old seen_new : Seen) (p q : Machine) (c d : HeldLines) (last : Op
         text = so.streaming.text;
         within = so.streaming.within;
         left = m.looks.left;
-        lexed = lexed_both (chars (drop d.at (string_bytes d.text))) (chars (drop f.at (string_bytes d.text))) (chars (string_bytes d.text)) so.streaming.lexed
-            (lexed_finds (take q.nested q.levels.items) q.now (chars (drop d.at (string_bytes d.text))) f.peeked f.now (chars (drop f.at (string_bytes d.text))) (no_fault f.peeked f.fault e (subst (FaultsFirst f.peeked f.fault) is first)) m.looks.finds);
+        lexed = lexed_both (chars (drop d.at (string_bytes d.text))) (chars (drop f.at (string_bytes d.text)))
+            (chars (string_bytes d.text)) so.streaming.lexed
+            (lexed_finds (take q.nested q.levels.items) q.now (chars (drop d.at (string_bytes d.text))) f.peeked f.now
+            (chars (drop f.at (string_bytes d.text))) (no_fault f.peeked f.fault e (subst (FaultsFirst f.peeked f.fault) is first))
+            m.looks.finds);
         joined = so.streaming.joined;
         fresh = λ z. absurd (given_more z);
         stands = λ more broken g.
-            let s = so.streaming.stands more broken g in
-            (s.0, subst (λ n. StreamsIn (streamed r (record d { at = f.at }) (Some e)) s.0 n more broken) (count_then s.0 more broken g s.1) (streams_entry q r d f step so.streaming m w s.0 q.given more broken g s.1 e is (some_given some)));
+            let s = so.streaming.stands more broken g in (
+              s.0,
+              subst (λ n. StreamsIn (streamed r (record d { at = f.at }) (Some e)) s.0 n more broken) (count_then s.0 more broken g s.1)
+                  (streams_entry q r d f step so.streaming m w s.0 q.given more broken g s.1 e is (some_given some)),
+            );
       }
 
     module _ (no_entry : (e : Entry) → step ≡ steps.Entry e → ⊥) where
@@ -292,7 +346,10 @@ module _ (seen_old seen_new : Seen) (p q : Machine) (c d : HeldLines) (last : Op
         taken = so.taken;
         reads = so.reads;
         follows = so.follows;
-        steps = λ s k more broken g x. let y = stood s k more broken g x in (step_is q r d f step so.streaming m w s k more broken g y, streams_other q r d f step so.streaming m w s k more broken g y no_entry);
+        steps = λ s k more broken g x. let y = stood s k more broken g x in (
+          step_is q r d f step so.streaming m w s k more broken g y,
+          streams_other q r d f step so.streaming m w s k more broken g y no_entry,
+        );
         last = last_other step no_entry;
         ahead = ahead_other step no_entry;
         same = tt;
@@ -310,6 +367,9 @@ module _ (seen_old seen_new : Seen) (p q : Machine) (c d : HeldLines) (last : Op
         joined = so.streaming.joined;
         fresh = λ z. so.streaming.fresh (given_none z);
         stands = λ more broken g.
-            let s = so.streaming.stands more broken g in
-            (s.0, subst (λ n. StreamsIn (streamed r d None) s.0 n more broken) (count_then s.0 more broken g s.1) (streams_other q r d f step so.streaming m w s.0 q.given more broken g s.1 no_entry));
+            let s = so.streaming.stands more broken g in (
+              s.0,
+              subst (λ n. StreamsIn (streamed r d None) s.0 n more broken) (count_then s.0 more broken g s.1)
+                  (streams_other q r d f step so.streaming m w s.0 q.given more broken g s.1 no_entry),
+            );
       }

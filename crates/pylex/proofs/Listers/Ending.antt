@@ -1,7 +1,8 @@
 -- What a lister meets where the lexemes end.
 --
 -- Carries: closing_step, stop. On: Measured, Run, Steps, Significant and 1 more.
-use Rattle.std.proofs.Common.{◌≡◌, ℕ, suc, ◌-◌, ◌<◌, ◌≤◌, drop, Bool, true, false, not, ◌&&◌, ◌||◌, ◌==◌, List, [], ◌∷◌, ◌++◌, length, refl, ap, ◌∙◌, sym, subst, arith, cond, replicate, zero, Option, Some, None, ⊎_elim}
+use Rattle.std.proofs.Common.{◌≡◌, ℕ, suc, ◌-◌, ◌<◌, ◌≤◌, drop, Bool, true, false, not, ◌&&◌, ◌||◌, ◌==◌, List, [], ◌∷◌, ◌++◌, length, refl}
+use Rattle.std.proofs.Common.{ap, ◌∙◌, sym, subst, arith, cond, replicate, zero, Option, Some, None, ⊎_elim}
 use Rattle.std.specs.Prelude.{count_by, nat_lt}
 use Rattle.std.specs.Str.{chars, encode_utf8_all, IsUtf8}
 use Rattle.std.proofs.lemmas.Str.{chars-nil, encodes-chars}
@@ -45,7 +46,8 @@ and_true : (b : Bool) → (b && true) ≡ b
 and_true true = refl
 and_true false = refl
 
-pub stop_found : (fault : Option ListingFault) (p : LineState) (ls : List ℕ) (c : ℕ) (cs : List ℕ) → StopAhead p (c ∷ cs) → remaining fault (with_levels p ls) (c ∷ cs) ≡ stop_fault fault p.now.place (c ∷ cs) ∷ []
+pub stop_found : (fault : Option ListingFault) (p : LineState) (ls : List ℕ) (c : ℕ) (cs : List ℕ) → StopAhead p (c ∷ cs)
+    → remaining fault (with_levels p ls) (c ∷ cs) ≡ stop_fault fault p.now.place (c ∷ cs) ∷ []
 stop_found fault p ls c cs stop =
     let s : State = with_levels p ls in
     let last = stop_fault fault p.now.place (c ∷ cs) in
@@ -60,7 +62,8 @@ stop_found fault p ls c cs stop =
     one_by steps.End = refl
     one_by (steps.Fault f) = refl
 
-    one_step : (fault : Option ListingFault) (q : Place) (left : List ℕ) → up_to_end ([] ++ stop_fault fault q left ∷ []) ≡ stop_fault fault q left ∷ []
+    one_step : (fault : Option ListingFault) (q : Place) (left : List ℕ) → up_to_end ([] ++ stop_fault fault q left ∷ []) ≡
+        stop_fault fault q left ∷ []
     one_step fault q left = one_by (stop_fault fault q left)
 
 -- the text's end, with a faulty line behind it
@@ -72,11 +75,13 @@ pub line_found : (f : ListingFault) (s : State) → lexeme_at [] ≡ None → re
 line_found f s e = remaining_stop (Some f) s [] e ∙ ap up_to_end (stop_line f s)
 
 -- within brackets, or after a join
-stop_open : (s : State) → (not (s.depth == 0) || s.joined) ≡ true → stop_of None s [] ≡ fault_at errors.EofInStatement (record { row = row_after s.now.place; column = 0 }) ∷ []
+stop_open : (s : State) → (not (s.depth == 0) || s.joined) ≡ true → stop_of None s [] ≡ fault_at errors.EofInStatement
+    (record { row = row_after s.now.place; column = 0 }) ∷ []
 unfolding stop_of tail_of
 stop_open s h = rw h refl
 
-pub open_found : (s : State) → lexeme_at [] ≡ None → (not (s.depth == 0) || s.joined) ≡ true → remaining None s [] ≡ fault_at errors.EofInStatement (record { row = row_after s.now.place; column = 0 }) ∷ []
+pub open_found : (s : State) → lexeme_at [] ≡ None → (not (s.depth == 0) || s.joined) ≡ true
+    → remaining None s [] ≡ fault_at errors.EofInStatement (record { row = row_after s.now.place; column = 0 }) ∷ []
 open_found s e h = remaining_stop None s [] e ∙ ap up_to_end (stop_open s h)
 
 -- the end itself
@@ -95,7 +100,8 @@ entries_behind zero e r = refl
 entries_behind (suc n) e r = ap (λ ss. steps.Entry e ∷ ss) (entries_behind n e r)
 
 -- the steps of the end are entries and the end
-pub tail_found : (s : State) → lexeme_at [] ≡ None → (not (s.depth == 0) || s.joined) ≡ false → remaining None s [] ≡ behind_steps (last_line_end s) (closing s)
+pub tail_found : (s : State) → lexeme_at [] ≡ None → (not (s.depth == 0) || s.joined) ≡ false
+    → remaining None s [] ≡ behind_steps (last_line_end s) (closing s)
 tail_found s e h =
     remaining_stop None s [] e
     ∙ ap up_to_end (stop_tail s h)
@@ -104,26 +110,36 @@ tail_found s e h =
     ∙ ap (behind_steps (last_line_end s)) (entries_behind (count_by (nat_lt 0) s.levels) _ (end_of s))
 
 -- The same over bytes.
-pub stop_in : (fault : Option ListingFault) (p : LineState) (ls bytes : List ℕ) (f : ListingFault) → IsUtf8 bytes → (length bytes == 0) ≡ false → StopAhead p (chars bytes) → stop_fault fault p.now.place (chars bytes) ≡ steps.Fault f → remaining fault (with_levels p ls) (chars bytes) ≡ steps.Fault f ∷ []
+pub stop_in : (fault : Option ListingFault) (p : LineState) (ls bytes : List ℕ) (f : ListingFault) → IsUtf8 bytes
+    → (length bytes == 0) ≡ false → StopAhead p (chars bytes) → stop_fault fault p.now.place (chars bytes) ≡ steps.Fault f
+    → remaining fault (with_levels p ls) (chars bytes) ≡ steps.Fault f ∷ []
 stop_in fault p ls bytes f u some stop is = by_chars (chars bytes) refl stop is
   where
-    by_chars : (cs : List ℕ) → chars bytes ≡ cs → StopAhead p cs → stop_fault fault p.now.place cs ≡ steps.Fault f → remaining fault (with_levels p ls) cs ≡ steps.Fault f ∷ []
-    by_chars [] e stop is = let none = ap length (some_chars bytes u e) in let zero : (length bytes == 0) ≡ true = grind (arith, nat_tests) in let bad : false ≡ true = sym some ∙ zero in cc
+    by_chars : (cs : List ℕ) → chars bytes ≡ cs → StopAhead p cs → stop_fault fault p.now.place cs ≡ steps.Fault f
+        → remaining fault (with_levels p ls) cs ≡ steps.Fault f ∷ []
+    by_chars [] e stop is = let none = ap length (some_chars bytes u e) in let zero : (length bytes == 0) ≡ true =
+        grind (arith, nat_tests) in let bad : false ≡ true = sym some ∙ zero in cc
     by_chars (c ∷ cs) e stop is = stop_found fault p ls c cs stop ∙ ap (λ s. s ∷ []) is
 
 -- no bytes, no characters
 pub no_chars_left : (bytes : List ℕ) → (length bytes == 0) ≡ true → chars bytes ≡ []
 no_chars_left [] e = chars-nil
-no_chars_left (b ∷ bytes) e = let more : (length (b ∷ bytes) == 0) ≡ false = grind (arith, nat_tests) in let bad : true ≡ false = sym e ∙ more in cc
+no_chars_left (b ∷ bytes) e = let more : (length (b ∷ bytes) == 0) ≡ false = grind (arith, nat_tests) in
+    let bad : true ≡ false = sym e ∙ more in cc
 
-pub line_in : (f g : ListingFault) (s : State) (bytes : List ℕ) → (length bytes == 0) ≡ true → lexeme_at (chars bytes) ≡ None → f ≡ g → remaining (Some g) s (chars bytes) ≡ steps.Fault f ∷ []
+pub line_in : (f g : ListingFault) (s : State) (bytes : List ℕ) → (length bytes == 0) ≡ true → lexeme_at (chars bytes) ≡ None → f ≡ g
+    → remaining (Some g) s (chars bytes) ≡ steps.Fault f ∷ []
 line_in f g s bytes none at same = let e = no_chars_left bytes none in rw (e, same) (line_found g s (ap lexeme_at (sym e) ∙ at))
 
-pub open_in : (s : State) (bytes : List ℕ) (q : Place) → (length bytes == 0) ≡ true → lexeme_at (chars bytes) ≡ None → (not (s.depth == 0) || s.joined) ≡ true → q ≡ record { row = row_after s.now.place; column = 0 } → remaining None s (chars bytes) ≡ fault_at errors.EofInStatement q ∷ []
+pub open_in : (s : State) (bytes : List ℕ) (q : Place) → (length bytes == 0) ≡ true → lexeme_at (chars bytes) ≡ None
+    → (not (s.depth == 0) || s.joined) ≡ true → q ≡ record { row = row_after s.now.place; column = 0 }
+    → remaining None s (chars bytes) ≡ fault_at errors.EofInStatement q ∷ []
 open_in s bytes q none at open_now is = let e = no_chars_left bytes none in rw (e, is) (open_found s (ap lexeme_at (sym e) ∙ at) open_now)
 
-pub tail_in : (s : State) (bytes : List ℕ) (lasts : List Step) → (length bytes == 0) ≡ true → lexeme_at (chars bytes) ≡ None → (not (s.depth == 0) || s.joined) ≡ false → last_line_end s ≡ lasts → remaining None s (chars bytes) ≡ behind_steps lasts (closing s)
-tail_in s bytes lasts none at open_now is = let e = no_chars_left bytes none in rw (e, ← is) (tail_found s (ap lexeme_at (sym e) ∙ at) open_now)
+pub tail_in : (s : State) (bytes : List ℕ) (lasts : List Step) → (length bytes == 0) ≡ true → lexeme_at (chars bytes) ≡ None
+    → (not (s.depth == 0) || s.joined) ≡ false → last_line_end s ≡ lasts → remaining None s (chars bytes) ≡ behind_steps lasts (closing s)
+tail_in s bytes lasts none at open_now is = let e = no_chars_left bytes none in
+    rw (e, ← is) (tail_found s (ap lexeme_at (sym e) ∙ at) open_now)
 
 -- The steps of the end, one by one.
 above_ground : (n : ℕ) (levels : List ℕ) → IsAscending n levels → count_by (nat_lt 0) levels ≡ length levels
@@ -134,11 +150,15 @@ above_ground n (m ∷ levels) h =
     grind (arith, common_steps)
 
 -- a DEDENT for each level above 0, ENDMARKER and the end
-closing_steps : (p : LineState) (levels : List ℕ) (n : ℕ) → IsAscending 0 levels → length levels ≡ n → closing (with_levels p (0 ∷ levels)) ≡ replicate n (mark_at kinds.Dedent p.now.offset (last_place (with_levels p [])) (last_place (with_levels p []))) ++ mark_at kinds.EndMarker p.now.offset (last_place (with_levels p [])) (last_place (with_levels p [])) ∷ steps.End ∷ []
+closing_steps : (p : LineState) (levels : List ℕ) (n : ℕ) → IsAscending 0 levels → length levels ≡ n
+    → closing (with_levels p (0 ∷ levels)) ≡ replicate n (mark_at kinds.Dedent p.now.offset (last_place (with_levels p []))
+    (last_place (with_levels p []))) ++ mark_at kinds.EndMarker p.now.offset (last_place (with_levels p []))
+    (last_place (with_levels p [])) ∷ steps.End ∷ []
 closing_steps p levels n h e =
     let place = last_place (with_levels p []) in
     let counted : count_by (nat_lt 0) (0 ∷ levels) ≡ n = above_ground 0 levels h ∙ e in
-    ap (λ k. replicate k (mark_at kinds.Dedent p.now.offset place place) ++ mark_at kinds.EndMarker p.now.offset place place ∷ steps.End ∷ []) counted
+    ap (λ k. replicate k (mark_at kinds.Dedent p.now.offset place place) ++ mark_at kinds.EndMarker p.now.offset place place
+    ∷ steps.End ∷ []) counted
 
 behind_end : (k : ℕ) → first_step (drop k (steps.End ∷ [])) ≡ steps.End
 behind_end zero = refl
@@ -158,28 +178,42 @@ behind_repeated zero k d ss h = let z : k - 0 ≡ k = omega arith in rw z refl
 behind_repeated (suc n) zero d ss h = absurd (omega arith)
 behind_repeated (suc n) (suc k) d ss h = let z : suc k - suc n ≡ k - n = omega arith in rw z (behind_repeated n k d ss (omega arith))
 
-pub closing_dedent : (p : LineState) (levels : List ℕ) (n k : ℕ) (e : Entry) → IsAscending 0 levels → length levels ≡ n → k < n → mark_at kinds.Dedent p.now.offset (last_place (with_levels p [])) (last_place (with_levels p [])) ≡ steps.Entry e → steps.Entry e ≡ first_step (drop k (closing (with_levels p (0 ∷ levels))))
-closing_dedent p levels n k e h c less is = sym (ap (λ ss. first_step (drop k ss)) (closing_steps p levels n h c) ∙ first_repeated n k _ _ less ∙ is)
+pub closing_dedent : (p : LineState) (levels : List ℕ) (n k : ℕ) (e : Entry) → IsAscending 0 levels → length levels ≡ n → k < n
+    → mark_at kinds.Dedent p.now.offset (last_place (with_levels p [])) (last_place (with_levels p [])) ≡ steps.Entry e
+    → steps.Entry e ≡ first_step (drop k (closing (with_levels p (0 ∷ levels))))
+closing_dedent p levels n k e h c less is = sym (ap (λ ss. first_step (drop k ss)) (closing_steps p levels n h c)
+    ∙ first_repeated n k _ _ less ∙ is)
 
-pub closing_marker : (p : LineState) (levels : List ℕ) (n k : ℕ) (e : Entry) → IsAscending 0 levels → length levels ≡ n → k ≡ n → mark_at kinds.EndMarker p.now.offset (last_place (with_levels p [])) (last_place (with_levels p [])) ≡ steps.Entry e → steps.Entry e ≡ first_step (drop k (closing (with_levels p (0 ∷ levels))))
+pub closing_marker : (p : LineState) (levels : List ℕ) (n k : ℕ) (e : Entry) → IsAscending 0 levels → length levels ≡ n → k ≡ n
+    → mark_at kinds.EndMarker p.now.offset (last_place (with_levels p [])) (last_place (with_levels p [])) ≡ steps.Entry e
+    → steps.Entry e ≡ first_step (drop k (closing (with_levels p (0 ∷ levels))))
 closing_marker p levels n k e h c same is =
     let z : k - n ≡ 0 = omega arith in
-    sym (ap (λ ss. first_step (drop k ss)) (closing_steps p levels n h c) ∙ ap first_step (behind_repeated n k _ _ (omega arith)) ∙ ap (λ j. first_step (drop j (mark_at kinds.EndMarker p.now.offset (last_place (with_levels p [])) (last_place (with_levels p [])) ∷ steps.End ∷ []))) z ∙ is)
+    sym (ap (λ ss. first_step (drop k ss)) (closing_steps p levels n h c) ∙ ap first_step (behind_repeated n k _ _ (omega arith))
+    ∙ ap (λ j. first_step (drop j (mark_at kinds.EndMarker p.now.offset (last_place (with_levels p [])) (last_place (with_levels p []))
+    ∷ steps.End ∷ []))) z ∙ is)
 
-pub closing_end : (p : LineState) (levels : List ℕ) (n k : ℕ) → IsAscending 0 levels → length levels ≡ n → n < k → steps.End ≡ first_step (drop k (closing (with_levels p (0 ∷ levels))))
+pub closing_end : (p : LineState) (levels : List ℕ) (n k : ℕ) → IsAscending 0 levels → length levels ≡ n → n < k
+    → steps.End ≡ first_step (drop k (closing (with_levels p (0 ∷ levels))))
 closing_end p levels n k h c more =
     let z : k - n ≡ suc (k - suc n) = omega arith in
-    sym (ap (λ ss. first_step (drop k ss)) (closing_steps p levels n h c) ∙ ap first_step (behind_repeated n k _ _ (omega arith)) ∙ ap (λ j. first_step (drop j (mark_at kinds.EndMarker p.now.offset (last_place (with_levels p [])) (last_place (with_levels p [])) ∷ steps.End ∷ []))) z ∙ behind_end (k - suc n))
+    sym (ap (λ ss. first_step (drop k ss)) (closing_steps p levels n h c) ∙ ap first_step (behind_repeated n k _ _ (omega arith))
+    ∙ ap (λ j. first_step (drop j (mark_at kinds.EndMarker p.now.offset (last_place (with_levels p [])) (last_place (with_levels p []))
+    ∷ steps.End ∷ []))) z ∙ behind_end (k - suc n))
 
 -- Where they begin with a fault, or with a line end.
-pub end_fault : (ss : List Step) (f : ListingFault) (c : List Step) (k : ℕ) → ss ≡ behind_steps (steps.Fault f ∷ []) c → k < length ss → steps.Fault f ≡ first_step (drop k ss)
+pub end_fault : (ss : List Step) (f : ListingFault) (c : List Step) (k : ℕ) → ss ≡ behind_steps (steps.Fault f ∷ []) c → k < length ss
+    → steps.Fault f ≡ first_step (drop k ss)
 end_fault ss f c k is h = let one : length ss ≡ 1 = ap length is in let z : k ≡ 0 = omega arith in rw (z, is) refl
 
-pub end_first : (ss : List Step) (e : Entry) (c : List Step) (k : ℕ) → ss ≡ behind_steps (steps.Entry e ∷ []) c → k ≡ 0 → steps.Entry e ≡ first_step (drop k ss)
+pub end_first : (ss : List Step) (e : Entry) (c : List Step) (k : ℕ) → ss ≡ behind_steps (steps.Entry e ∷ []) c → k ≡ 0
+    → steps.Entry e ≡ first_step (drop k ss)
 end_first ss e c k is z = rw (z, is) refl
 
-pub end_later : (ss : List Step) (e : Entry) (c : List Step) (k : ℕ) (r : Step) → ss ≡ behind_steps (steps.Entry e ∷ []) c → 0 < k → r ≡ first_step (drop (k - 1) c) → r ≡ first_step (drop k ss)
-end_later ss e c k r is h by = let z : k ≡ suc (k - 1) = omega arith in by ∙ sym (ap (λ ts. first_step (drop k ts)) is ∙ ap (λ j. first_step (drop j (steps.Entry e ∷ c))) z)
+pub end_later : (ss : List Step) (e : Entry) (c : List Step) (k : ℕ) (r : Step) → ss ≡ behind_steps (steps.Entry e ∷ []) c → 0 < k
+    → r ≡ first_step (drop (k - 1) c) → r ≡ first_step (drop k ss)
+end_later ss e c k r is h by = let z : k ≡ suc (k - 1) = omega arith in by
+    ∙ sym (ap (λ ts. first_step (drop k ts)) is ∙ ap (λ j. first_step (drop j (steps.Entry e ∷ c))) z)
 
 -- the line end that the text's end gives has no text
 last_line_end_empty : (s : State) (e : Entry) → last_line_end s ≡ steps.Entry e ∷ [] → e.«from» ≡ e.to
@@ -189,7 +223,8 @@ last_line_end_empty s e is = by s.logical (is_hash s.lead) s.margin is
     same_entry : (d e : Entry) → d.«from» ≡ d.to → steps.Entry d ∷ [] ≡ steps.Entry e ∷ [] → e.«from» ≡ e.to
     same_entry d e h q = let x : d ≡ e = cc in subst (λ (y : Entry). y.«from» ≡ y.to) x h
 
-    by : (l h m : Bool) → cond l (cond h [] (mark_at kinds.Newline s.now.offset s.now.place (further s.now.place 1) ∷ [])) (cond m [] (mark_at kinds.Nl s.now.offset s.now.place s.now.place ∷ [])) ≡ steps.Entry e ∷ [] → e.«from» ≡ e.to
+    by : (l h m : Bool) → cond l (cond h [] (mark_at kinds.Newline s.now.offset s.now.place (further s.now.place 1) ∷ []))
+        (cond m [] (mark_at kinds.Nl s.now.offset s.now.place s.now.place ∷ [])) ≡ steps.Entry e ∷ [] → e.«from» ≡ e.to
     by true true m q = absurd cc
     by true false m q = same_entry _ e refl q
     by false h true q = absurd cc

@@ -2,7 +2,8 @@
 --
 -- Carries: walks_in, line_in, left_in, in_after and 4 more, for Moving, Returning, Lined. On:
 -- Layouts, Law, Resumed, Finding and 2 more.
-use Rattle.std.proofs.Common.{◌≡◌, ℕ, suc, ◌+◌, ◌<◌, Bool, true, false, ◌&&◌, ◌||◌, ◌==◌, cond, List, [], ◌∷◌, ◌++◌, length, drop, refl, ap, ◌∙◌, sym, subst, arith, Some, append_assoc}
+use Rattle.std.proofs.Common.{◌≡◌, ℕ, suc, ◌+◌, ◌<◌, Bool, true, false, ◌&&◌, ◌||◌, ◌==◌, cond, List, [], ◌∷◌, ◌++◌, length, drop, refl, ap}
+use Rattle.std.proofs.Common.{◌∙◌, sym, subst, arith, Some, append_assoc}
 use Rattle.std.specs.Prelude.{count_by, nat_lt}
 use Rattle.std.proofs.lemmas.Bool.Decides.{nat_tests}
 use Rattle.std.proofs.lemmas.List.{take-append-drop}
@@ -29,9 +30,12 @@ use Rattle.pylex.proofs.Resumption.Ahead.{front_is, drop_front}
 -- Columns don't depend on the row.
 advance_column : (p q : Place) (t : List ℕ) → p.column ≡ q.column → (place_past p t).column ≡ (place_past q t).column
 advance_column p q [] e = e
-advance_column p q (c ∷ t) e = advance_column (cond (c == 10) (record { row = p.row + 1; column = 0 }) (record { row = p.row; column = p.column + 1 })) (cond (c == 10) (record { row = q.row + 1; column = 0 }) (record { row = q.row; column = q.column + 1 })) t (one (c == 10))
+advance_column p q (c ∷ t) e =
+    advance_column (cond (c == 10) (record { row = p.row + 1; column = 0 }) (record { row = p.row; column = p.column + 1 }))
+    (cond (c == 10) (record { row = q.row + 1; column = 0 }) (record { row = q.row; column = q.column + 1 })) t (one (c == 10))
   where
-    one : (b : Bool) → (cond {A = Place} b (record { row = p.row + 1; column = 0 }) (record { row = p.row; column = p.column + 1 })).column ≡ (cond {A = Place} b (record { row = q.row + 1; column = 0 }) (record { row = q.row; column = q.column + 1 })).column
+    one : (b : Bool) → (cond {A = Place} b (record { row = p.row + 1; column = 0 }) (record { row = p.row; column = p.column + 1 })).column
+        ≡ (cond {A = Place} b (record { row = q.row + 1; column = 0 }) (record { row = q.row; column = q.column + 1 })).column
     one true = refl
     one false = ap (λ n. n + 1) e
 
@@ -44,7 +48,8 @@ unfolding after
 lead_past s x = refl
 
 -- A state goes on in its text by a lexeme.
-pub in_after : (text : List ℕ) (s : State) (cs : List ℕ) (x : Lexeme) → lexeme_at cs ≡ Some x → IsIn text s cs → IsIn text (after s x) (drop (lexeme_len cs) cs)
+pub in_after : (text : List ℕ) (s : State) (cs : List ℕ) (x : Lexeme) → lexeme_at cs ≡ Some x → IsIn text s cs
+    → IsIn text (after s x) (drop (lexeme_len cs) cs)
 in_after text s cs x e i =
     let back = drop (lexeme_len cs) cs in
     let parts : cs ≡ x.text ++ back = sym (ap (λ t. t ++ back) (lexeme_front cs x e) ∙ take-append-drop (lexeme_len cs) cs) in
@@ -64,22 +69,38 @@ in_after text s cs x e i =
     }
 
 -- and by a walk
-pub walks_in : (text : List ℕ) (t : State) (ds : List ℕ) (n : ℕ) (s : State) (cs : List ℕ) → Walks t ds n s cs → IsIn text s cs → IsIn text t ds
+pub walks_in : (text : List ℕ) (t : State) (ds : List ℕ) (n : ℕ) (s : State) (cs : List ℕ) → Walks t ds n s cs
+    → IsIn text s cs → IsIn text t ds
 walks_in text t ds n s cs stays i = i
-walks_in text t ds n s cs (silent m r bs x d e g w) i = walks_in text t ds n (after s x) (drop (lexeme_len cs) cs) w (in_after text s cs x e i)
-walks_in text t ds n s cs (level m r bs a b l c w) i = walks_in text t ds n (measured s) cs w (record { before = i.before; whole = i.whole; offset = i.offset; column = i.column; lead = i.lead })
-walks_in text t ds n s cs (dedent m r bs ls v a b e l k w) i = walks_in text t ds m (record s { levels = ls }) cs w (record { before = i.before; whole = i.whole; offset = i.offset; column = i.column; lead = i.lead })
+walks_in text t ds n s cs (silent m r bs x d e g w) i = walks_in text t ds n (after s x) (drop (lexeme_len cs) cs) w
+    (in_after text s cs x e i)
+walks_in text t ds n s cs (level m r bs a b l c w) i =
+    walks_in text t ds n (measured s) cs w (record {
+      before = i.before;
+      whole = i.whole;
+      offset = i.offset;
+      column =
+          i.column;
+      lead = i.lead;
+    })
+walks_in text t ds n s cs (dedent m r bs ls v a b e l k w) i = walks_in text t ds m (record s { levels = ls }) cs w
+    (record { before = i.before; whole = i.whole; offset = i.offset; column = i.column; lead = i.lead })
 
 -- A cursor at a state's point leads back to it.
-pub line_in : (a : Source) (c : CursorParts) (s : State) (ds : List ℕ) → c.offset ≡ s.now.offset → (i : IsIn a.text s ds) → (standing_by a c).line ≡ last_line i.before
+pub line_in : (a : Source) (c : CursorParts) (s : State) (ds : List ℕ) → c.offset ≡ s.now.offset → (i : IsIn a.text s ds)
+    → (standing_by a c).line ≡ last_line i.before
 unfolding standing_by
-line_in a c s ds o i = ap last_line (ap (λ n. front_to n a.text) (o ∙ i.offset) ∙ ap (front_to (bytes_in i.before)) i.whole ∙ front_is i.before ds)
+line_in a c s ds o i = ap last_line (ap (λ n. front_to n a.text) (o ∙ i.offset)
+    ∙ ap (front_to (bytes_in i.before)) i.whole ∙ front_is i.before ds)
 
-pub left_in : (a : Source) (c : CursorParts) (s : State) (ds : List ℕ) → c.offset ≡ s.now.offset → IsIn a.text s ds → (standing_by a c).left ≡ ds
+pub left_in : (a : Source) (c : CursorParts) (s : State) (ds : List ℕ) → c.offset ≡ s.now.offset → IsIn a.text s ds
+    → (standing_by a c).left ≡ ds
 unfolding standing_by
-left_in a c s ds o i = ap (λ t. drop (length t) a.text) (ap (λ n. front_to n a.text) (o ∙ i.offset) ∙ ap (front_to (bytes_in i.before)) i.whole ∙ front_is i.before ds) ∙ ap (drop (length i.before)) i.whole ∙ drop_front i.before ds
+left_in a c s ds o i = ap (λ t. drop (length t) a.text) (ap (λ n. front_to n a.text) (o ∙ i.offset)
+    ∙ ap (front_to (bytes_in i.before)) i.whole ∙ front_is i.before ds) ∙ ap (drop (length i.before)) i.whole ∙ drop_front i.before ds
 
-pub resumed_anew : (k : ℕ) (s : State) (line : List ℕ) → s.now.place.column ≡ length line → s.lead ≡ lead_after Nothing line → resumed (shown_at k s) line ≡ begun_anew s
+pub resumed_anew : (k : ℕ) (s : State) (line : List ℕ) → s.now.place.column ≡ length line → s.lead ≡ lead_after Nothing line
+    → resumed (shown_at k s) line ≡ begun_anew s
 unfolding resumed
 resumed_anew k s line c f = rw (← c, ← f) refl
 
@@ -114,15 +135,20 @@ record Both (t : State) (ds : List ℕ) (n : ℕ) (s : State) (cs : List ℕ) : 
   passes : Passes t ds n s cs
   laid : s.margin ≡ true → begins_significant cs ≡ true → is_level s.width s.levels ≡ true → Laid t ds n s cs
 
-by_layout : (t : State) (ds : List ℕ) (n : ℕ) (s : State) (cs : List ℕ) → s.margin ≡ true → begins_significant cs ≡ true → Laid t ds n s cs → Both t ds n s cs
-by_layout t ds n s cs m b l = record { passes = subst (λ (k : ℕ). Passes t ds k s cs) l.count (layout l.more s cs m b l.gives l.passes); laid = λ _ _ _. l }
+by_layout : (t : State) (ds : List ℕ) (n : ℕ) (s : State) (cs : List ℕ) → s.margin ≡ true → begins_significant cs ≡ true
+    → Laid t ds n s cs → Both t ds n s cs
+by_layout t ds n s cs m b l =
+    record { passes = subst (λ (k : ℕ). Passes t ds k s cs) l.count (layout l.more s cs m b l.gives l.passes); laid = λ _ _ _. l }
 
-one_less : (t : State) (ds : List ℕ) (n : ℕ) (s : State) (cs ls : List ℕ) (v : ℕ) → s.margin ≡ true → s.levels ≡ ls ++ v ∷ [] → s.width < v → is_level s.width ls ≡ true → Laid t ds n (record s { levels = ls }) cs → Laid t ds (suc n) s cs
+one_less : (t : State) (ds : List ℕ) (n : ℕ) (s : State) (cs ls : List ℕ) (v : ℕ) → s.margin ≡ true → s.levels ≡ ls ++ v ∷ [] → s.width < v
+    → is_level s.width ls ≡ true → Laid t ds n (record s { levels = ls }) cs → Laid t ds (suc n) s cs
 one_less t ds n s cs ls v m e less i l =
     let whole : is_level s.width s.levels ≡ true = ap (is_level s.width) e ∙ level-push s.width v ls ∙ ap (λ b. b || (v == s.width)) i in
-    let state : measured (record s { levels = ls }) ≡ measured s = ap (λ ns. record (measured s) { levels = ns }) (sym (ap (pushed s.width) e ∙ pushed_less s.width v ls less)) in
+    let state : measured (record s { levels = ls }) ≡ measured s =
+    ap (λ ns. record (measured s) { levels = ns }) (sym (ap (pushed s.width) e ∙ pushed_less s.width v ls less)) in
     let yes : nat_lt s.width v ≡ true = grind (arith, nat_tests) in
-    let counted : count_by (nat_lt s.width) s.levels ≡ count_by (nat_lt s.width) ls + 1 = ap (count_by (nat_lt s.width)) e ∙ count-push s.width v ls ∙ ap (λ b. count_by (nat_lt s.width) ls + cond b 1 0) yes in
+    let counted : count_by (nat_lt s.width) s.levels ≡ count_by (nat_lt s.width) ls + 1 = ap (count_by (nat_lt s.width)) e
+    ∙ count-push s.width v ls ∙ ap (λ b. count_by (nat_lt s.width) ls + cond b 1 0) yes in
     let c = l.count in
     record {
       more = l.more;
@@ -146,12 +172,19 @@ walks_both t ds r n s cs (silent k u bs x d e g w) =
     never : false ≡ true → ⊥
     never e = cc
 walks_both t ds r n s cs (level k u bs a b l c w) =
-    by_layout t ds n s cs a b (record { more = n; count = ap (λ j. j + n) c ∙ nothing n; gives = layout_dedents s a (level_not_above s.width s.levels l) l; passes = (walks_both t ds r n (measured s) cs w).passes })
+    by_layout t ds n s cs a b (record {
+      more = n;
+      count = ap (λ j. j + n) c ∙ nothing n;
+      gives =
+          layout_dedents s a (level_not_above s.width s.levels l) l;
+      passes = (walks_both t ds r n (measured s) cs w).passes;
+    })
   where
     nothing : (n : ℕ) → 0 + n ≡ n
     nothing n = omega arith
 walks_both t ds r n s cs (dedent k u bs ls v a b e less i w) =
-    by_layout t ds (suc k) s cs a b (one_less t ds k s cs ls v a e less i ((walks_both t ds r k (record s { levels = ls }) cs w).laid a b i))
+    by_layout t ds (suc k) s cs a b
+    (one_less t ds k s cs ls v a e less i ((walks_both t ds r k (record s { levels = ls }) cs w).laid a b i))
 
 -- A walk to there passes what is passed.
 pub walks_pass : (t : State) (ds : List ℕ) → Ready t ds → (n : ℕ) (s : State) (cs : List ℕ) → Walks t ds n s cs → Passes t ds n s cs

@@ -2,7 +2,8 @@
 --
 -- Carries: stop_within, remaining_lexeme, lexeme_front, behind_steps-append and 3 more, for
 -- Finding, Ending, Passing, Carried and 3 more. On: Steps, Run, Full.
-use Rattle.std.proofs.Common.{◌≡◌, ℕ, ◌<◌, true, false, ◌==◌, List, [], ◌∷◌, ◌++◌, length, take, drop, refl, ap, ◌∙◌, sym, subst, arith, Option, Some, None}
+use Rattle.std.proofs.Common.{◌≡◌, ℕ, ◌<◌, true, false, ◌==◌, List, [], ◌∷◌, ◌++◌, length, take, drop, refl, ap, ◌∙◌, sym, subst, arith}
+use Rattle.std.proofs.Common.{Option, Some, None}
 use Rattle.std.specs.Prelude.{option_map}
 use Rattle.std.proofs.lemmas.Bool.Decides.{nat_tests}
 use Rattle.std.proofs.lemmas.List.{take-append-drop}
@@ -22,7 +23,8 @@ use Rattle.pylex.proofs.MachineLaws.Steps.{remaining_step, remaining_stop}
 use Rattle.pylex.proofs.MachineLaws.Full.{lexeme_full}
 
 -- the state after a significant token is the same, measured before or with it
-pub after_measured : (s : State) (k : Class) (t : List ℕ) → s.margin ≡ true → is_significant (record { «class» = k; text = t }) ≡ true → after (measured s) (record { «class» = k; text = t }) ≡ after s (record { «class» = k; text = t })
+pub after_measured : (s : State) (k : Class) (t : List ℕ) → s.margin ≡ true → is_significant (record { «class» = k; text = t }) ≡ true
+    → after (measured s) (record { «class» = k; text = t }) ≡ after s (record { «class» = k; text = t })
 unfolding after
 after_measured s Name t m e = rw m refl
 after_measured s Number t m e = rw m refl
@@ -34,7 +36,8 @@ after_measured s Comment t m e = cc
 after_measured s LineEnd t m e = cc
 
 -- and what it gives comes behind the layout
-pub gives_measured : (s : State) (k : Class) (t : List ℕ) → s.margin ≡ true → is_significant (record { «class» = k; text = t }) ≡ true → gives s (record { «class» = k; text = t }) ≡ layout_of s ++ gives (measured s) (record { «class» = k; text = t })
+pub gives_measured : (s : State) (k : Class) (t : List ℕ) → s.margin ≡ true → is_significant (record { «class» = k; text = t }) ≡ true
+    → gives s (record { «class» = k; text = t }) ≡ layout_of s ++ gives (measured s) (record { «class» = k; text = t })
 unfolding gives entry_by layout_of
 gives_measured s Name t m e = refl
 gives_measured s Number t m e = refl
@@ -68,7 +71,8 @@ full_length [] h = absurd (omega (arith, no_bytes))
 full_length (c ∷ t) h = omega arith
 
 -- one lexeme off the front of what is left to list
-pub remaining_lexeme : (fault : Option ListingFault) (s : State) (cs : List ℕ) (x : Lexeme) → lexeme_at cs ≡ Some x → remaining fault s cs ≡ behind_steps (gives s x) (remaining fault (after s x) (drop (lexeme_len cs) cs))
+pub remaining_lexeme : (fault : Option ListingFault) (s : State) (cs : List ℕ) (x : Lexeme) → lexeme_at cs ≡ Some x
+    → remaining fault s cs ≡ behind_steps (gives s x) (remaining fault (after s x) (drop (lexeme_len cs) cs))
 remaining_lexeme fault s cs x e =
     let front = take (lexeme_len cs) cs in
     let back = drop (lexeme_len cs) cs in
@@ -79,7 +83,9 @@ remaining_lexeme fault s cs x e =
     ap (remaining fault s) (sym whole) ∙ remaining_step fault s front back x at text some
 
 -- a lexeme, its class and text apart
-measured_at : (fault : Option ListingFault) (s : State) (cs : List ℕ) (k : Class) (t : List ℕ) → s.margin ≡ true → lexeme_at cs ≡ Some (record { «class» = k; text = t }) → is_significant (record { «class» = k; text = t }) ≡ true → remaining fault s cs ≡ behind_steps (layout_of s) (remaining fault (measured s) cs)
+measured_at : (fault : Option ListingFault) (s : State) (cs : List ℕ) (k : Class) (t : List ℕ) → s.margin ≡ true
+    → lexeme_at cs ≡ Some (record { «class» = k; text = t }) → is_significant (record { «class» = k; text = t }) ≡ true
+    → remaining fault s cs ≡ behind_steps (layout_of s) (remaining fault (measured s) cs)
 measured_at fault s cs k t m e h =
     let x : Lexeme = record { «class» = k; text = t } in
     let back = drop (lexeme_len cs) cs in
@@ -90,11 +96,13 @@ measured_at fault s cs k t m e h =
     ∙ ap (behind_steps (layout_of s)) (sym (remaining_lexeme fault (measured s) cs x e))
 
 -- before a significant token that is a lexeme
-pub measured_lexeme : (fault : Option ListingFault) (s : State) (cs : List ℕ) (x : Lexeme) → s.margin ≡ true → lexeme_at cs ≡ Some x → is_significant x ≡ true → remaining fault s cs ≡ behind_steps (layout_of s) (remaining fault (measured s) cs)
+pub measured_lexeme : (fault : Option ListingFault) (s : State) (cs : List ℕ) (x : Lexeme) → s.margin ≡ true → lexeme_at cs ≡ Some x
+    → is_significant x ≡ true → remaining fault s cs ≡ behind_steps (layout_of s) (remaining fault (measured s) cs)
 measured_lexeme fault s cs x m e h = measured_at fault s cs x.«class» x.text m e h
 
 -- where the cut stops within the text
-pub stop_within : (fault : Option ListingFault) (s : State) (c : ℕ) (cs : List ℕ) → stop_of fault s (c ∷ cs) ≡ layout_of s ++ stop_fault fault s.now.place (c ∷ cs) ∷ []
+pub stop_within : (fault : Option ListingFault) (s : State) (c : ℕ) (cs : List ℕ) → stop_of fault s (c ∷ cs) ≡ layout_of s ++ stop_fault
+    fault s.now.place (c ∷ cs) ∷ []
 unfolding stop_of
 stop_within fault s c cs =
     let more : (length (c ∷ cs) == 0) ≡ false = grind (arith, nat_tests) in
@@ -106,13 +114,15 @@ unfolding layout_of
 layout_measured s = refl
 
 -- before a stop within the text
-pub measured_stop : (fault : Option ListingFault) (s : State) (c : ℕ) (cs : List ℕ) → lexeme_at (c ∷ cs) ≡ None → remaining fault s (c ∷ cs) ≡ behind_steps (layout_of s) (remaining fault (measured s) (c ∷ cs))
+pub measured_stop : (fault : Option ListingFault) (s : State) (c : ℕ) (cs : List ℕ) → lexeme_at (c ∷ cs) ≡ None
+    → remaining fault s (c ∷ cs) ≡ behind_steps (layout_of s) (remaining fault (measured s) (c ∷ cs))
 measured_stop fault s c cs e =
     let last = stop_fault fault s.now.place (c ∷ cs) ∷ [] in
     remaining_stop fault s (c ∷ cs) e
     ∙ ap up_to_end (stop_within fault s c cs)
     ∙ up_to_end-append (layout_of s) last
-    ∙ ap (λ ss. behind_steps (layout_of s) (up_to_end ss)) (sym (stop_within fault (measured s) c cs ∙ ap (λ ss. ss ++ last) (layout_measured s) ∙ nil_append last))
+    ∙ ap (λ ss. behind_steps (layout_of s) (up_to_end ss))
+    (sym (stop_within fault (measured s) c cs ∙ ap (λ ss. ss ++ last) (layout_measured s) ∙ nil_append last))
     ∙ ap (behind_steps (layout_of s)) (sym (remaining_stop fault (measured s) (c ∷ cs) e))
   where
     nil_append : (ss : List Step) → [] ++ ss ≡ ss

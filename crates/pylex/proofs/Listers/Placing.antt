@@ -21,4 +21,5 @@ has_place source p left keeps =
     }
 
 pub has_row : (source : Parts) (p : Machine) (left : List ℕ) → Holds source p left → 1 ≤ p.point.row
-has_row source p left keeps = row_from_one (record { source = source; shown = shown_from p }) p.now left p.levels.items p.nested p.tail keeps
+has_row source p left keeps = row_from_one (record { source = source; shown = shown_from p }) p.now left
+    p.levels.items p.nested p.tail keeps

@@ -1,7 +1,9 @@
 -- Each INDENT of a listing that comes to its end has its DEDENT.
 --
 -- Carries: Lister::new. On: Run, Ends.
-use Rattle.std.proofs.Common.{◌≡◌, ℕ, ◌+◌, ◌-◌, ◌≤◌, ◌<◌, zero, suc, Bool, true, false, not, ◌&&◌, ◌||◌, ◌==◌, cond, List, [], ◌∷◌, ◌++◌, length, take, replicate, refl, ap, ◌∙◌, sym, subst, arith, Option, Some, None, append_assoc, length-append, ⊎_elim}
+use Rattle.std.proofs.Common.{◌≡◌, ℕ, ◌+◌, ◌-◌, ◌≤◌, ◌<◌, zero, suc, Bool, true, false, not, ◌&&◌, ◌||◌, ◌==◌, cond, List, [], ◌∷◌, ◌++◌}
+use Rattle.std.proofs.Common.{length, take, replicate, refl, ap, ◌∙◌, sym, subst, arith, Option, Some, None, append_assoc, length-append}
+use Rattle.std.proofs.Common.{⊎_elim}
 use Rattle.std.specs.List.{list_all, list_any, count_by, filter}
 use Rattle.std.specs.Prelude.{nat_lt}
 use Rattle.std.proofs.lemmas.Grind.{common_steps}
@@ -22,7 +24,8 @@ use Rattle.pylex.specs.Lines.{is_significant}
 use Rattle.pylex.specs.Listing.{Source, origin, up_to_end, stop_fault}
 use Rattle.pylex.specs.Steps.{entries_of, fault_of, mark}
 use Rattle.pylex.specs.Cursors.{is_indent}
-use Rattle.pylex.specs.Machine.{State, behind, pushed, after, dedents_at, mark_at, line_end_kind_of, layout_of, entry_by, gives, is_hash, last_line_end, last_place, tail_of, stop_of, run, remaining, first_state}
+use Rattle.pylex.specs.Machine.{State, behind, pushed, after, dedents_at, mark_at, line_end_kind_of, layout_of, entry_by, gives, is_hash}
+use Rattle.pylex.specs.Machine.{last_line_end, last_place, tail_of, stop_of, run, remaining, first_state}
 use Rattle.pylex.specs.Laws.{is_dedent, ClosesBlocks}
 use Rattle.pylex_lexeme.proofs.Callers.Booleans.{bool_cases}
 use Rattle.pylex.proofs.MachineLaws.Run.{listing_is}
@@ -37,7 +40,8 @@ count_append p [] ys = omega arith
 count_append p (x ∷ xs) ys = let a = count_step p x (xs ++ ys) in let b = count_step p x xs in let h = count_append p xs ys in omega arith
 
 -- each level is below, at or above a width
-pub three_ways : (w : ℕ) (levels : List ℕ) → count_by (λ v. nat_lt v w) levels + count_by (λ v. v == w) levels + count_by (nat_lt w) levels ≡ length levels
+pub three_ways : (w : ℕ) (levels : List ℕ) → count_by (λ v. nat_lt v w) levels + count_by (λ v. v == w) levels + count_by
+    (nat_lt w) levels ≡ length levels
 three_ways w [] = omega arith
 three_ways w (v ∷ levels) =
     let a = count_step (λ v. nat_lt v w) v levels in
@@ -85,7 +89,8 @@ kept_count u v w n e = grind (arith, nat_tests)
 left_count : (u v w n : ℕ) → nat_lt u w ≡ false → cond (nat_lt v w) n 0 ≡ cond (nat_lt v w) (cond (u == v) 1 0 + n) 0
 left_count u v w n e = grind (arith, nat_tests)
 
-below_count : (v w : ℕ) (levels : List ℕ) → count_by (λ u. u == v) (filter (λ u. nat_lt u w) levels) ≡ cond (nat_lt v w) (count_by (λ u. u == v) levels) 0
+below_count : (v w : ℕ) (levels : List ℕ) → count_by (λ u. u == v) (filter (λ u. nat_lt u w) levels) ≡ cond (nat_lt v w)
+    (count_by (λ u. u == v) levels) 0
 below_count v w [] = nothing (nat_lt v w)
   where
     nothing : (b : Bool) → ◌≡◌ {A = ℕ} 0 (cond b 0 0)
@@ -96,11 +101,13 @@ below_count v w (u ∷ levels) =
     let a = count_step (λ u. u == v) u levels in
     ⊎_elim
     (λ (e : nat_lt u w ≡ true).
-    rw e (count_step (λ u. u == v) u (filter (λ u. nat_lt u w) levels) ∙ ap (λ n. cond (u == v) 1 0 + n) h ∙ kept_count u v w (count_by (λ u. u == v) levels) e ∙ ap (λ n. cond (nat_lt v w) n 0) (sym a)))
+    rw e (count_step (λ u. u == v) u (filter (λ u. nat_lt u w) levels) ∙ ap (λ n. cond (u == v) 1 0 + n) h
+    ∙ kept_count u v w (count_by (λ u. u == v) levels) e ∙ ap (λ n. cond (nat_lt v w) n 0) (sym a)))
     (λ (e : nat_lt u w ≡ false). rw e (h ∙ left_count u v w (count_by (λ u. u == v) levels) e ∙ ap (λ n. cond (nat_lt v w) n 0) (sym a)))
     (bool_cases (nat_lt u w))
 
-pushed_count : (v w : ℕ) (levels : List ℕ) → count_by (λ u. u == v) (pushed w levels) ≡ cond (nat_lt v w) (count_by (λ u. u == v) levels) 0 + cond (w == v) 1 0
+pushed_count : (v w : ℕ) (levels : List ℕ) → count_by (λ u. u == v) (pushed w levels) ≡ cond (nat_lt v w)
+    (count_by (λ u. u == v) levels) 0 + cond (w == v) 1 0
 pushed_count v w levels =
     let a = count_append (λ u. u == v) (filter (λ u. nat_lt u w) levels) (w ∷ []) in
     let b = below_count v w levels in
@@ -108,7 +115,8 @@ pushed_count v w levels =
     omega arith
 
 pub pushed_length : (w : ℕ) (levels : List ℕ) → length (pushed w levels) ≡ count_by (λ v. nat_lt v w) levels + 1
-pushed_length w levels = let f = length-filter (λ v. nat_lt v w) levels in let a = length-append (filter (λ v. nat_lt v w) levels) (w ∷ []) in omega arith
+pushed_length w levels = let f = length-filter (λ v. nat_lt v w) levels in let a =
+    length-append (filter (λ v. nat_lt v w) levels) (w ∷ []) in omega arith
 
 pub pushed_apart : (w : ℕ) (levels : List ℕ) → AreApart levels → AreApart (pushed w levels)
 pushed_apart w levels a = record {
@@ -135,15 +143,19 @@ Nested n (steps.Entry e ∷ ss) = Behind (λ m. Nested m ss) n e.kind
 Nested n (steps.End ∷ ss) = n ≡ 0
 Nested n (steps.Fault f ∷ ss) = Unit {0}
 
-cond_nested : (b : Bool) (n : ℕ) (a c ss : List Step) → (b ≡ true → Nested n (a ++ ss)) → (b ≡ false → Nested n (c ++ ss)) → Nested n (cond b a c ++ ss)
+cond_nested : (b : Bool) (n : ℕ) (a c ss : List Step) → (b ≡ true → Nested n (a ++ ss)) → (b ≡ false → Nested n (c ++ ss))
+    → Nested n (cond b a c ++ ss)
 cond_nested true n a c ss h k = h refl
 cond_nested false n a c ss h k = k refl
 
-marks_nested : (m n o : ℕ) (p : Place) (ss : List Step) → m ≤ n → Nested (n - m) ss → Nested n (replicate m (mark_at kinds.Dedent o p p) ++ ss)
+marks_nested : (m n o : ℕ) (p : Place) (ss : List Step) → m ≤ n → Nested (n - m) ss
+    → Nested n (replicate m (mark_at kinds.Dedent o p p) ++ ss)
 marks_nested zero n o p ss l h = let e : n - 0 ≡ n = omega arith in rw e at h
-marks_nested (suc m) n o p ss l h = (omega arith, marks_nested m (n - 1) o p ss (omega arith) (let e : n - suc m ≡ (n - 1) - m = omega arith in rw e at h))
+marks_nested (suc m) n o p ss l h =
+    (omega arith, marks_nested m (n - 1) o p ss (omega arith) (let e : n - suc m ≡ (n - 1) - m = omega arith in rw e at h))
 
-dedents_nested : (w : ℕ) (levels : List ℕ) (n o : ℕ) (p : Place) (ss : List Step) → count_by (nat_lt w) levels ≤ n → Nested (n - count_by (nat_lt w) levels) ss → Nested n (dedents_at w levels o p ++ ss)
+dedents_nested : (w : ℕ) (levels : List ℕ) (n o : ℕ) (p : Place) (ss : List Step) → count_by (nat_lt w) levels ≤ n
+    → Nested (n - count_by (nat_lt w) levels) ss → Nested n (dedents_at w levels o p ++ ss)
 dedents_nested w levels n o p ss l h = marks_nested (count_by (nat_lt w) levels) n o p ss l h
 
 -- so many blocks are open as there are levels above 0
@@ -154,7 +166,8 @@ record Open (levels : List ℕ) (n : ℕ) : Type 0 where
 abbrev NestedFrom : List ℕ → List Step → Type 0
 NestedFrom levels ss = (n : ℕ) → Open levels n → Nested n ss
 
-layout_nested : (s : State) (ss : List Step) → NestedFrom (cond s.margin (pushed s.width s.levels) s.levels) ss → NestedFrom s.levels (layout_of s ++ ss)
+layout_nested : (s : State) (ss : List Step) → NestedFrom (cond s.margin (pushed s.width s.levels) s.levels) ss
+    → NestedFrom s.levels (layout_of s ++ ss)
 unfolding layout_of
 layout_nested s ss k n o = ⊎_elim
     (λ (m : s.margin ≡ true).
@@ -169,7 +182,8 @@ layout_nested s ss k n o = ⊎_elim
     (λ e.
     let b = some_at s.width s.levels e in
     let c = o.apart.once s.width in
-    dedents_nested s.width s.levels n s.now.offset s.now.place ss (omega arith) (above (n - count_by (nat_lt s.width) s.levels) (record { apart = g; many = omega arith })))
+    dedents_nested s.width s.levels n s.now.offset s.now.place ss (omega arith)
+    (above (n - count_by (nat_lt s.width) s.levels) (record { apart = g; many = omega arith })))
     (λ _. tt))))
     (λ (m : s.margin ≡ false). let same : NestedFrom s.levels ss = rw m at k in rw m (same n o))
     (bool_cases s.margin)
@@ -189,7 +203,14 @@ entry_nested s x n ss h = by_class x.«class» x.text
     by_class (Operator o) t = cond_nested (is_closer o && (s.depth == 0)) n _ _ ss (λ _. tt) (λ _. h)
     by_class Comment t = h
     by_class Blanks t = h
-    by_class LineEnd t = by_end (s.logical && (s.depth == 0)) (record { kind = line_end_kind_of s; exact = None; start = s.now.place; «end» = (behind s.now t).place; «from» = s.now.offset; to = (behind s.now t).offset }) refl
+    by_class LineEnd t = by_end (s.logical && (s.depth == 0)) (record {
+      kind = line_end_kind_of s;
+      exact = None;
+      start = s.now.place;
+      «end» = (behind s.now t).place;
+      «from» = s.now.offset;
+      to = (behind s.now t).offset;
+    }) refl
     by_class Join t = h
 
 lexeme_nested : (s : State) (x : Lexeme) (ss : List Step) → NestedFrom (after s x).levels ss → NestedFrom s.levels (gives s x ++ ss)
@@ -200,7 +221,8 @@ lexeme_nested s x ss k n o =
     (λ e. layout_nested s (entry_by s x ++ ss) (λ m p. entry_nested s x m ss (k m (moved s.margin (is_significant x) m e p))) n o)
     (λ e. entry_nested s x n ss (k n (stayed s.margin (is_significant x) n e o))))
   where
-    moved : (b t : Bool) (m : ℕ) → t ≡ true → Open (cond b (pushed s.width s.levels) s.levels) m → Open (cond (b && t) (pushed s.width s.levels) s.levels) m
+    moved : (b t : Bool) (m : ℕ) → t ≡ true → Open (cond b (pushed s.width s.levels) s.levels) m
+        → Open (cond (b && t) (pushed s.width s.levels) s.levels) m
     moved true t m e p = rw e p
     moved false t m e p = p
 
@@ -219,7 +241,8 @@ tail_nested s n o =
     let closes : Nested n (dedents_at 0 s.levels s.now.offset (last_place s) ++ marker) =
     dedents_nested 0 s.levels n s.now.offset (last_place s) marker (omega arith) (omega arith) in
     pick (not (s.depth == 0) || s.joined) _ _ tt
-    (subst (λ (us : List Step). Nested n us) (sym (append_assoc (last_line_end s) (dedents_at 0 s.levels s.now.offset (last_place s)) marker))
+    (subst (λ (us : List Step). Nested n us)
+    (sym (append_assoc (last_line_end s) (dedents_at 0 s.levels s.now.offset (last_place s)) marker))
     (cond_nested s.logical n _ _ (dedents_at 0 s.levels s.now.offset (last_place s) ++ marker)
     (λ _. cond_nested (is_hash s.lead) n [] _ (dedents_at 0 s.levels s.now.offset (last_place s) ++ marker) (λ _. closes) (λ _. closes))
     (λ _. cond_nested s.margin n [] _ (dedents_at 0 s.levels s.now.offset (last_place s) ++ marker) (λ _. closes) (λ _. closes))))
@@ -239,7 +262,8 @@ stop_nested : (fault : Option ListingFault) (left : List ℕ) (s : State) → Ne
 unfolding stop_of
 stop_nested fault left s n o =
     pick (not (length left == 0)) _ _
-    (layout_nested s (stop_fault fault s.now.place left ∷ []) (λ m p. let f = stop_is_fault fault s.now.place left in subst (λ (t : Step). Nested m (t ∷ [])) (sym f.1) tt) n o)
+    (layout_nested s (stop_fault fault s.now.place left ∷ []) (λ m p. let f = stop_is_fault fault s.now.place left in
+    subst (λ (t : Step). Nested m (t ∷ [])) (sym f.1) tt) n o)
     (by_fault fault)
   where
     pick : (b : Bool) (a c : List Step) → Nested n a → Nested n c → Nested n (cond b a c)
@@ -258,14 +282,21 @@ record Closing (n : ℕ) (ss : List Step) : Type 0 where
   within : (k : ℕ) → count_by is_dedent (take k (entries_of ss)) ≤ n + count_by is_indent (take k (entries_of ss))
   at_end : fault_of ss ≡ None → count_by is_dedent (entries_of ss) ≡ n + count_by is_indent (entries_of ss)
 
-one_closing : (e : Entry) (ss : List Step) (n m : ℕ) → Closing m ss → cond (is_dedent e) 1 0 + m ≡ n + cond (is_indent e) 1 0 → Closing n (steps.Entry e ∷ ss)
-one_closing e ss n m c h = record { within = within; at_end = λ f. let a = count_step is_dedent e (entries_of ss) in let b = count_step is_indent e (entries_of ss) in let g = c.at_end f in omega arith }
+one_closing : (e : Entry) (ss : List Step) (n m : ℕ) → Closing m ss → cond (is_dedent e) 1 0 + m ≡ n + cond (is_indent e) 1 0
+    → Closing n (steps.Entry e ∷ ss)
+one_closing e ss n m c h = record {
+  within = within;
+  at_end = λ f. let a = count_step is_dedent e (entries_of ss) in let b =
+      count_step is_indent e (entries_of ss) in let g = c.at_end f in omega arith;
+}
   where
     within : (k : ℕ) → count_by is_dedent (take k (e ∷ entries_of ss)) ≤ n + count_by is_indent (take k (e ∷ entries_of ss))
     within zero = omega arith
-    within (suc k) = let a = count_step is_dedent e (take k (entries_of ss)) in let b = count_step is_indent e (take k (entries_of ss)) in let g = c.within k in omega arith
+    within (suc k) = let a = count_step is_dedent e (take k (entries_of ss)) in let b = count_step is_indent e (take k (entries_of ss)) in
+        let g = c.within k in omega arith
 
-by_kind : (e : Entry) (ss : List Step) (n : ℕ) (k : Kind) → e.kind ≡ k → ((m : ℕ) → Nested m ss → Closing m (up_to_end ss)) → Behind (λ m. Nested m ss) n k → Closing n (steps.Entry e ∷ up_to_end ss)
+by_kind : (e : Entry) (ss : List Step) (n : ℕ) (k : Kind) → e.kind ≡ k → ((m : ℕ) → Nested m ss → Closing m (up_to_end ss))
+    → Behind (λ m. Nested m ss) n k → Closing n (steps.Entry e ∷ up_to_end ss)
 by_kind e ss n kinds.Indent k f h = one_closing e (up_to_end ss) n (n + 1) (f (n + 1) h) (rw k (omega arith))
 by_kind e ss n kinds.Dedent k f h = let p : 0 < n = h.0 in one_closing e (up_to_end ss) n (n - 1) (f (n - 1) h.1) (rw k (omega arith))
 by_kind e ss n kinds.Encoding k f h = one_closing e (up_to_end ss) n n (f n h) (rw k (omega arith))
@@ -305,6 +336,12 @@ first_open = record { apart = record { once = at_most; ground = refl }; many = o
 pub closes_blocks : (s : Source) → ClosesBlocks s
 unfolding remaining
 closes_blocks s =
-    let c = closing (mark kinds.Encoding [] origin origin ∷ run s.fault (left_by_cut s.text) first_state (cut s.text)) 0 (run_nested s.fault (left_by_cut s.text) (cut s.text) first_state 0 first_open) in
+    let c = closing (mark kinds.Encoding [] origin origin ∷ run s.fault (left_by_cut s.text) first_state (cut s.text)) 0
+    (run_nested s.fault (left_by_cut s.text) (cut s.text) first_state 0 first_open) in
     let e = listing_is s in
-    record { within = λ k. let w = c.within k in rw e (omega arith); at_end = λ f. let g : fault_of (mark kinds.Encoding [] origin origin ∷ remaining s.fault first_state s.text) ≡ None = rw e at f in let w = c.at_end g in rw e (omega arith) }
+    record {
+      within = λ k. let w = c.within k in rw e (omega arith);
+      at_end =
+          λ f. let g : fault_of (mark kinds.Encoding [] origin origin ∷ remaining s.fault first_state s.text) ≡ None = rw e at f in let w =
+          c.at_end g in rw e (omega arith);
+    }

@@ -1,7 +1,8 @@
 -- How many entries a listing has, at most.
 --
 -- Carries: given_within, for Moving. On: Layouts, Blocks, Finding, Law and 6 more.
-use Rattle.std.proofs.Common.{◌≡◌, ℕ, zero, suc, ◌+◌, ◌*◌, ◌≤◌, Bool, true, false, not, ◌&&◌, ◌||◌, ◌==◌, cond, List, [], ◌∷◌, ◌++◌, length, replicate, refl, ap, ◌∙◌, arith, Option, Some, None, IsUtf8, ⊎_elim}
+use Rattle.std.proofs.Common.{◌≡◌, ℕ, zero, suc, ◌+◌, ◌*◌, ◌≤◌, Bool, true, false, not, ◌&&◌, ◌||◌, ◌==◌, cond, List, [], ◌∷◌, ◌++◌, length}
+use Rattle.std.proofs.Common.{replicate, refl, ap, ◌∙◌, arith, Option, Some, None, IsUtf8, ⊎_elim}
 use Rattle.std.specs.List.{count_by}
 use Rattle.std.specs.Prelude.{nat_lt}
 use Rattle.std.proofs.lemmas.List.Sums.{count_by-le-length}
@@ -18,7 +19,8 @@ use Rattle.pylex.specs.Lines.{is_significant}
 use Rattle.pylex_lexeme.specs.Chars.{bytes_in}
 use Rattle.pylex.specs.Listing.{Source, listing, stop_fault, up_to_end}
 use Rattle.pylex.specs.Steps.{entries_of}
-use Rattle.pylex.specs.Machine.{State, pushed, after, dedents_at, mark_at, last_place, layout_of, entry_by, gives, is_hash, last_line_end, tail_of, stop_of, run, remaining, first_state}
+use Rattle.pylex.specs.Machine.{State, pushed, after, dedents_at, mark_at, last_place, layout_of, entry_by, gives, is_hash, last_line_end}
+use Rattle.pylex.specs.Machine.{tail_of, stop_of, run, remaining, first_state}
 use Rattle.pylex.specs.Laws.{AreLexemes}
 use Rattle.pylex.specs.Listers.{Listed, StandsIn}
 use Rattle.pylex.specs.LineState.{is_above, is_level}
@@ -62,8 +64,10 @@ many_marks (suc n) e = let h = many_marks n e in omega arith
 abbrev levels_behind : State → List ℕ
 levels_behind s = cond s.margin (pushed s.width s.levels) s.levels
 
-laid_many : (s : State) (ss : List Step) → s.margin ≡ true → layout_of s ≡ ss → many ss + length (pushed s.width s.levels) ≤ length s.levels + 2 → many (layout_of s) + length (levels_behind s) ≤ length s.levels + 2
-laid_many s ss m e h = let l : length (levels_behind s) ≡ length (pushed s.width s.levels) = ap (λ b. length (cond b (pushed s.width s.levels) s.levels)) m in let n : many (layout_of s) ≡ many ss = ap many e in omega arith
+laid_many : (s : State) (ss : List Step) → s.margin ≡ true → layout_of s ≡ ss → many ss + length (pushed s.width s.levels) ≤ length s.levels
+    + 2 → many (layout_of s) + length (levels_behind s) ≤ length s.levels + 2
+laid_many s ss m e h = let l : length (levels_behind s) ≡ length (pushed s.width s.levels) =
+    ap (λ b. length (cond b (pushed s.width s.levels) s.levels)) m in let n : many (layout_of s) ≡ many ss = ap many e in omega arith
 
 layout_many : (s : State) → many (layout_of s) + length (levels_behind s) ≤ length s.levels + 2
 layout_many s = ⊎_elim
@@ -74,7 +78,8 @@ layout_many s = ⊎_elim
     (λ (b : is_above s.width s.levels ≡ true). laid_many s _ m (layout_indent s m b) (omega arith))
     (λ (b : is_above s.width s.levels ≡ false). ⊎_elim
     (λ (v : is_level s.width s.levels ≡ true).
-    let n : many (dedents_at s.width s.levels s.now.offset s.now.place) ≡ count_by (nat_lt s.width) s.levels = many_marks (count_by (nat_lt s.width) s.levels) _ in
+    let n : many (dedents_at s.width s.levels s.now.offset s.now.place) ≡ count_by (nat_lt s.width) s.levels =
+    many_marks (count_by (nat_lt s.width) s.levels) _ in
     let w = some_at s.width s.levels v in
     laid_many s _ m (layout_dedents s m b v) (omega arith))
     (λ (v : is_level s.width s.levels ≡ false). laid_many s _ m (layout_mismatch s m b v) (omega arith))
@@ -105,16 +110,19 @@ gives_many : (s : State) (x : Lexeme) → many (gives s x) + length (after s x).
 unfolding gives after
 gives_many s x = by_significant (is_significant x)
   where
-    by_significant : (b : Bool) → many (cond b (layout_of s) [] ++ entry_by s x) + length (cond (s.margin && b) (pushed s.width s.levels) s.levels) ≤ length s.levels + 3
+    by_significant : (b : Bool) → many (cond b (layout_of s) [] ++ entry_by s x) + length
+        (cond (s.margin && b) (pushed s.width s.levels) s.levels) ≤ length s.levels + 3
     by_significant true =
         let a = many-append (layout_of s) (entry_by s x) in
         let l = layout_many s in
         let e = entry_many s x in
-        let m : length (cond (s.margin && true) (pushed s.width s.levels) s.levels) ≡ length (levels_behind s) = ap (λ b. length (cond b (pushed s.width s.levels) s.levels)) (and-true s.margin) in
+        let m : length (cond (s.margin && true) (pushed s.width s.levels) s.levels) ≡ length (levels_behind s) =
+        ap (λ b. length (cond b (pushed s.width s.levels) s.levels)) (and-true s.margin) in
         omega arith
     by_significant false =
         let e = entry_many s x in
-        let m : length (cond (s.margin && false) (pushed s.width s.levels) s.levels) ≡ length s.levels = ap (λ b. length (cond b (pushed s.width s.levels) s.levels)) (and-false s.margin) in
+        let m : length (cond (s.margin && false) (pushed s.width s.levels) s.levels) ≡ length s.levels =
+        ap (λ b. length (cond b (pushed s.width s.levels) s.levels)) (and-false s.margin) in
         omega arith
 
 last_many : (s : State) → many (last_line_end s) ≤ 1
@@ -148,7 +156,8 @@ stop_many fault left s =
     by_fault (Some f) = omega arith
     by_fault None = tail_many s
 
-run_many : (fault : Option ListingFault) (left : List ℕ) (xs : List Lexeme) (s : State) → many (run fault left s xs) ≤ 3 * length xs + length s.levels + 2
+run_many : (fault : Option ListingFault) (left : List ℕ) (xs : List Lexeme) (s : State)
+    → many (run fault left s xs) ≤ 3 * length xs + length s.levels + 2
 run_many fault left [] s = let h = stop_many fault left s in omega arith
 run_many fault left (x ∷ xs) s =
     let a = many-append (gives s x) (run fault left (after s x) xs) in
@@ -168,7 +177,8 @@ lexemes_within (x ∷ xs) text left l =
 pub entries_within : (s : Source) → length (entries_of (listing s)) ≤ 3 * bytes_in s.text + 4
 unfolding remaining
 entries_within s =
-    let l : length (entries_of (listing s)) ≡ suc (many (remaining s.fault first_state s.text)) = ap (λ ss. length (entries_of ss)) (listing_is s) in
+    let l : length (entries_of (listing s)) ≡ suc (many (remaining s.fault first_state s.text)) =
+    ap (λ ss. length (entries_of ss)) (listing_is s) in
     let u = many_up_to_end (run s.fault (left_by_cut s.text) first_state (cut s.text)) in
     let r = run_many s.fault (left_by_cut s.text) (cut s.text) first_state in
     let x = lexemes_within (cut s.text) s.text (left_by_cut s.text) (cut_lexed s.text) in

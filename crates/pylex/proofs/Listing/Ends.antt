@@ -1,7 +1,8 @@
 -- A listing is entries, and then one end or one fault.
 --
 -- Carries: Lister::new. On: Run.
-use Rattle.std.proofs.Common.{◌≡◌, ℕ, Bool, true, false, not, ◌&&◌, ◌||◌, ◌==◌, cond, List, [], ◌∷◌, ◌++◌, length, map, zero, suc, replicate, refl, ap, sym, subst, Option, Some, None}
+use Rattle.std.proofs.Common.{◌≡◌, ℕ, Bool, true, false, not, ◌&&◌, ◌||◌, ◌==◌, cond, List, [], ◌∷◌, ◌++◌, length, map, zero, suc}
+use Rattle.std.proofs.Common.{replicate, refl, ap, sym, subst, Option, Some, None}
 use Rattle.std.specs.List.{list_all, list_any, count_by}
 use Rattle.std.specs.Prelude.{nat_lt}
 use Rattle.pysource.specs.declared.places.Place.{Place}
@@ -19,20 +20,24 @@ use Rattle.pylex.specs.Lines.{is_significant}
 use Rattle.pylex_lexeme.specs.Lexemes.{Lexeme, cut, left_by_cut, is_open_string}
 use Rattle.pylex.specs.Listing.{Source, origin, stop_fault, up_to_end}
 use Rattle.pylex.specs.Steps.{entries_of, mark, fault_at, IsNoEntry}
-use Rattle.pylex.specs.Machine.{State, layout_of, entry_by, gives, is_hash, dedents_at, last_place, last_line_end, tail_of, stop_of, after, run, remaining, first_state}
+use Rattle.pylex.specs.Machine.{State, layout_of, entry_by, gives, is_hash, dedents_at, last_place, last_line_end, tail_of, stop_of, after}
+use Rattle.pylex.specs.Machine.{run, remaining, first_state}
 use Rattle.pylex.specs.Laws.{EndsWithMarker, AreWhole, IsWhole}
 use Rattle.pylex.proofs.MachineLaws.Run.{listing_is}
 
 -- the step at a stop before the text's end is a fault
-pub stop_is_fault : (fault : Option ListingFault) (p : Place) (left : List ℕ) → (f : ListingFault) × (stop_fault fault p left ≡ steps.Fault f)
+pub stop_is_fault : (fault : Option ListingFault) (p : Place) (left : List ℕ)
+    → (f : ListingFault) × (stop_fault fault p left ≡ steps.Fault f)
 unfolding stop_fault
 stop_is_fault fault p left = either (not (opens_string left)) _ _ (either (not (is_open_string left)) _ _ (by_fault fault))
   where
-    either : (b : Bool) (g : ListingFault) (s : Step) → (f : ListingFault) × (s ≡ steps.Fault f) → (f : ListingFault) × (cond b (steps.Fault g) s ≡ steps.Fault f)
+    either : (b : Bool) (g : ListingFault) (s : Step) → (f : ListingFault) × (s ≡ steps.Fault f)
+        → (f : ListingFault) × (cond b (steps.Fault g) s ≡ steps.Fault f)
     either true g s h = (g, refl)
     either false g s h = h
 
-    by_fault : (o : Option ListingFault) → (f : ListingFault) × (elim o [ Some g ↦ steps.Fault g | None ↦ fault_at errors.EofInString p ] ≡ steps.Fault f)
+    by_fault : (o : Option ListingFault)
+        → (f : ListingFault) × (elim o [ Some g ↦ steps.Fault g | None ↦ fault_at errors.EofInString p ] ≡ steps.Fault f)
     by_fault (Some g) = (g, refl)
     by_fault None = (record { code = errors.EofInString; place = p }, refl)
 
@@ -75,11 +80,20 @@ marks_no_end zero e = tt
 marks_no_end (suc n) e = marks_no_end n e
 
 dedents_no_end : (w : ℕ) (levels : List ℕ) (o : ℕ) (p : Place) → NoEnd (dedents_at w levels o p)
-dedents_no_end w levels o p = marks_no_end (count_by (nat_lt w) levels) (record { kind = kinds.Dedent; exact = None; start = p; «end» = p; «from» = o; to = o })
+dedents_no_end w levels o p = marks_no_end (count_by (nat_lt w) levels) (record {
+  kind = kinds.Dedent;
+  exact = None;
+  start = p;
+  «end» =
+      p;
+  «from» = o;
+  to = o;
+})
 
 layout_no_end : (s : State) → NoEnd (layout_of s)
 unfolding layout_of
-layout_no_end s = cond_no_end s.margin _ [] (cond_no_end (list_all (λ v. nat_lt v s.width) s.levels) _ _ tt (cond_no_end (list_any (λ v. v == s.width) s.levels) _ _ (dedents_no_end s.width s.levels s.now.offset s.now.place) tt)) tt
+layout_no_end s = cond_no_end s.margin _ [] (cond_no_end (list_all (λ v. nat_lt v s.width) s.levels) _ _ tt
+    (cond_no_end (list_any (λ v. v == s.width) s.levels) _ _ (dedents_no_end s.width s.levels s.now.offset s.now.place) tt)) tt
 
 entry_no_end : (s : State) (x : Lexeme) → NoEnd (entry_by s x)
 unfolding entry_by
@@ -97,7 +111,8 @@ entry_no_end s x = by_class x.«class» x.text
 
 gives_no_end : (s : State) (x : Lexeme) → NoEnd (gives s x)
 unfolding gives
-gives_no_end s x = NoEnd-append (cond (is_significant x) (layout_of s) []) (entry_by s x) (cond_no_end (is_significant x) (layout_of s) [] (layout_no_end s) tt) (entry_no_end s x)
+gives_no_end s x = NoEnd-append (cond (is_significant x) (layout_of s) []) (entry_by s x)
+    (cond_no_end (is_significant x) (layout_of s) [] (layout_no_end s) tt) (entry_no_end s x)
 
 tail_stops : (s : State) → Stops (tail_of s)
 unfolding tail_of last_line_end
@@ -113,7 +128,8 @@ stop_stops : (o : Option ListingFault) (left : List ℕ) (s : State) → Stops (
 unfolding stop_of
 stop_stops o left s =
     cond_stops (not (length left == 0)) _ _
-    (behind (layout_of s) _ (layout_no_end s) (let f = stop_is_fault o s.now.place left in subst (λ (g : Step). Stops (g ∷ [])) (sym f.1) fault))
+    (behind (layout_of s) _ (layout_no_end s) (let f = stop_is_fault o s.now.place left in
+    subst (λ (g : Step). Stops (g ∷ [])) (sym f.1) fault))
     (by_fault o)
   where
     by_fault : (o : Option ListingFault) → Stops (elim o [ Some f ↦ steps.Fault f ∷ [] | None ↦ tail_of s ])
@@ -151,4 +167,5 @@ encoded s ss c =
 
 pub is_whole : (s : Source) → IsWhole s
 unfolding remaining
-is_whole s = subst AreWhole (sym (listing_is s)) (encoded s (remaining s.fault first_state s.text) (closed (run_stops s.fault (left_by_cut s.text) (cut s.text) first_state)))
+is_whole s = subst AreWhole (sym (listing_is s)) (encoded s (remaining s.fault first_state s.text)
+    (closed (run_stops s.fault (left_by_cut s.text) (cut s.text) first_state)))

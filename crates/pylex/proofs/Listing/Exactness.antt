@@ -1,7 +1,8 @@
 -- The exact type of an operator is that of its text, and no other entry has one.
 --
 -- Carries: Lister::new. On: Lexed, Lying.
-use Rattle.std.proofs.Common.{◌≡◌, ℕ, ◌+◌, ◌-◌, Bool, true, false, not, ◌&&◌, ◌||◌, ◌==◌, zero, suc, List, [], ◌∷◌, ◌++◌, length, take, drop, refl, ap, ◌∙◌, sym}
+use Rattle.std.proofs.Common.{◌≡◌, ℕ, ◌+◌, ◌-◌, Bool, true, false, not, ◌&&◌, ◌||◌, ◌==◌, zero, suc, List, [], ◌∷◌, ◌++◌, length, take}
+use Rattle.std.proofs.Common.{drop, refl, ap, ◌∙◌, sym}
 use Rattle.std.proofs.Common.{subst, arith, cond, replicate, Option, Some, None, append_assoc, IsUtf8}
 use Rattle.std.specs.Str.{chars, encode_utf8_all, all_scalars}
 use Rattle.std.proofs.Math.Utf8.{scalar}
@@ -20,7 +21,8 @@ use Rattle.pylex_lexeme.specs.Chars.{bytes_in}
 use Rattle.pylex_lexeme.specs.Numbers.{is_number}
 use Rattle.pylex_lexeme.specs.Strings.{opens_string, counts_as_string}
 use Rattle.pylex_lexeme.specs.Operators.{is_closer, is_operator, exact_of}
-use Rattle.pylex_lexeme.specs.Lexemes.{Lexeme, cut, left_by_cut, is_open_string, is_name, is_comment, are_blanks, is_line_end, is_join, plain_class, class_in}
+use Rattle.pylex_lexeme.specs.Lexemes.{Lexeme, cut, left_by_cut, is_open_string, is_name, is_comment, are_blanks, is_line_end, is_join}
+use Rattle.pylex_lexeme.specs.Lexemes.{plain_class, class_in}
 use Rattle.pylex.specs.declared.entries.ListingFault.{ListingFault}
 use Rattle.pylex.specs.declared.entries.ListingError.TheVariants as errors
 use Rattle.pylex.specs.declared.entries.Step.{Step}
@@ -40,7 +42,8 @@ use Rattle.pylex.proofs.Listing.Lying.{scalars_behind}
 
 scalars_of : (t b : List ℕ) → all_scalars (t ++ b) ≡ true → all_scalars t ≡ true
 scalars_of [] b h = refl
-scalars_of (c ∷ t) b h = let parts = and_parts (scalar c) (all_scalars (t ++ b)) h in and_from (scalar c) (all_scalars t) parts.0 (scalars_of t b parts.1)
+scalars_of (c ∷ t) b h = let parts = and_parts (scalar c) (all_scalars (t ++ b)) h in
+    and_from (scalar c) (all_scalars t) parts.0 (scalars_of t b parts.1)
 
 drop_whole : (a b : List ℕ) → drop (length a) (a ++ b) ≡ b
 drop_whole [] b = refl
@@ -89,7 +92,8 @@ typed false false false false false false false e k h = absurd cc
 
 plain_typed : (t : List ℕ) (k : Class) → plain_class t ≡ Some k → Typed k (exact_of t)
 unfolding plain_class
-plain_typed t k e = typed (is_name t) (is_number t) (is_operator t) (is_comment t) (are_blanks t) (is_line_end t) (is_join t) (exact_of t) k e
+plain_typed t k e = typed (is_name t) (is_number t) (is_operator t) (is_comment t) (are_blanks t) (is_line_end t)
+    (is_join t) (exact_of t) k e
 
 class_typed : (cs t : List ℕ) (k : Class) → class_in cs t ≡ Some k → Typed k (exact_of t)
 unfolding class_in
@@ -152,7 +156,8 @@ module _ (cs : List ℕ) (before : List Lexeme) where
       (tt, tt)))
       tt
 
-  entry_has : (x : Lexeme) (rest : List ℕ) → all_scalars cs ≡ true → cs ≡ text_before before ++ (x.text ++ rest) → Typed x.«class» (exact_of x.text)
+  entry_has : (x : Lexeme) (rest : List ℕ) → all_scalars cs ≡ true → cs ≡ text_before before ++ (x.text ++ rest)
+      → Typed x.«class» (exact_of x.text)
       → AllHave cs (entry_of before x)
   unfolding entry_of
   entry_has x rest good h typed = by_class x.«class» x.text h typed
@@ -174,11 +179,13 @@ module _ (cs : List ℕ) (before : List Lexeme) where
       by_class LineEnd t h typed = (line_end_has (is_logical before && (depth before == 0)) _, tt)
       by_class Join t h typed = tt
 
-  steps_have : (x : Lexeme) (rest : List ℕ) → all_scalars cs ≡ true → cs ≡ text_before before ++ (x.text ++ rest) → Typed x.«class» (exact_of x.text)
+  steps_have : (x : Lexeme) (rest : List ℕ) → all_scalars cs ≡ true → cs ≡ text_before before ++ (x.text ++ rest)
+      → Typed x.«class» (exact_of x.text)
       → AllHave cs (steps_of before x)
   unfolding steps_of
   steps_have x rest good h typed =
-      AllHave-append cs _ (entry_of before x) (cond_have cs (is_significant x) (layout before) [] layout_have tt) (entry_has x rest good h typed)
+      AllHave-append cs _ (entry_of before x) (cond_have cs (is_significant x) (layout before) [] layout_have tt)
+      (entry_has x rest good h typed)
 
   last_has : (p : Place) → AllHave cs (line_end_of_last before p)
   unfolding line_end_of_last
@@ -202,14 +209,17 @@ module _ (cs : List ℕ) (before : List Lexeme) where
       (AllHave-append cs (layout before) _ layout_have (fault_has fault (place_after (text_before before)), tt))
       (by_fault fault)
     where
-      in_string : (fault : Option ListingFault) (p : Place) → StepHas cs (elim fault [ Some f ↦ steps.Fault f | None ↦ fault_at errors.EofInString p ])
+      in_string : (fault : Option ListingFault) (p : Place)
+          → StepHas cs (elim fault [ Some f ↦ steps.Fault f | None ↦ fault_at errors.EofInString p ])
       in_string (Some f) p = tt
       in_string None p = tt
 
       fault_has : (fault : Option ListingFault) (p : Place) → StepHas cs (stop_fault fault p left)
-      fault_has fault p = cond_step cs (not (opens_string left)) _ _ tt (cond_step cs (not (is_open_string left)) _ _ tt (in_string fault p))
+      fault_has fault p = cond_step cs (not (opens_string left)) _ _ tt
+          (cond_step cs (not (is_open_string left)) _ _ tt (in_string fault p))
 
-      by_fault : (fault : Option ListingFault) → AllHave cs (elim fault [ Some f ↦ steps.Fault f ∷ [] | None ↦ tail before (place_after (text_before before)) ])
+      by_fault : (fault : Option ListingFault)
+          → AllHave cs (elim fault [ Some f ↦ steps.Fault f ∷ [] | None ↦ tail before (place_after (text_before before)) ])
       by_fault (Some f) = (tt, tt)
       by_fault None = tail_has (place_after (text_before before))
 

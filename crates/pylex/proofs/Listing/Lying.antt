@@ -1,7 +1,8 @@
 -- Each entry of a listing lies in the text.
 --
 -- Carries: Lister::new. On: Law, Run, Lexed.
-use Rattle.std.proofs.Common.{◌≡◌, ℕ, ◌+◌, Bool, true, false, not, ◌&&◌, ◌||◌, ◌==◌, zero, suc, List, [], ◌∷◌, ◌++◌, length, refl, ap, ◌∙◌, sym, subst, arith, cond, replicate, Option, Some, None, append_assoc, IsUtf8, slice_get}
+use Rattle.std.proofs.Common.{◌≡◌, ℕ, ◌+◌, Bool, true, false, not, ◌&&◌, ◌||◌, ◌==◌, zero, suc, List, [], ◌∷◌, ◌++◌, length, refl, ap, ◌∙◌}
+use Rattle.std.proofs.Common.{sym, subst, arith, cond, replicate, Option, Some, None, append_assoc, IsUtf8, slice_get}
 use Rattle.std.specs.Str.{encode_utf8_all, all_scalars, IsCharBoundary}
 use Rattle.std.proofs.Math.Utf8.{scalar}
 use Rattle.std.specs.List.{list_all, list_any}
@@ -24,7 +25,8 @@ use Rattle.pylex_lexeme.specs.Lexemes.{Lexeme, cut, left_by_cut, is_open_string}
 use Rattle.pylex.specs.Lines.{text_before, depth, is_significant, line_so_far, before_line, is_at_margin, is_logical}
 use Rattle.pylex_lexeme.specs.Chars.{bytes_in}
 use Rattle.pylex.specs.Indentation.{width_at, widths, open_levels, dedents, layout_by, layout}
-use Rattle.pylex.specs.Listing.{Source, listing, in_characters, origin, entry_of, steps_of, stop_fault, last_line, begins_comment, line_end_of_last, end_place, ends_in_join, tail, stop, steps_from, up_to_end}
+use Rattle.pylex.specs.Listing.{Source, listing, in_characters, origin, entry_of, steps_of, stop_fault, last_line, begins_comment}
+use Rattle.pylex.specs.Listing.{line_end_of_last, end_place, ends_in_join, tail, stop, steps_from, up_to_end}
 use Rattle.pylex.specs.Steps.{first_step, rest_of, mark, fault_at}
 use Rattle.pylex.specs.Laws.{LiesIn, StepLies, AllLie, AreLexemes}
 use Rattle.pylex.proofs.MachineLaws.Law.{bytes_in-append}
@@ -41,7 +43,8 @@ scalars_behind (c ∷ a) b h = scalars_behind a b (later (scalar c) (all_scalars
     later false t e = cc
 
 -- an entry whose text stands between others
-piece_lies : (cs a t b : List ℕ) (e : Entry) → all_scalars cs ≡ true → cs ≡ a ++ (t ++ b) → e.«from» ≡ bytes_in a → e.to ≡ bytes_in a + bytes_in t → LiesIn (encode_utf8_all cs) e
+piece_lies : (cs a t b : List ℕ) (e : Entry) → all_scalars cs ≡ true → cs ≡ a ++ (t ++ b) → e.«from» ≡ bytes_in a
+    → e.to ≡ bytes_in a + bytes_in t → LiesIn (encode_utf8_all cs) e
 piece_lies cs a t b e u h f l =
     let u0 : all_scalars (a ++ (t ++ b)) ≡ true = sym (ap all_scalars h) ∙ u in
     let u1 : all_scalars (t ++ b) ≡ true = scalars_behind a (t ++ b) u0 in
@@ -80,16 +83,20 @@ cond_step text false s t h k = k
 
 -- the steps before a place, where a text goes on behind it
 module _ (cs : List ℕ) (good : all_scalars cs ≡ true) (before : List Lexeme) where
-  mark_lies : (rest : List ℕ) (e : Entry) → cs ≡ text_before before ++ rest → e.«from» ≡ bytes_in (text_before before) → e.to ≡ bytes_in (text_before before) → LiesIn (encode_utf8_all cs) e
+  mark_lies : (rest : List ℕ) (e : Entry) → cs ≡ text_before before ++ rest → e.«from» ≡ bytes_in (text_before before)
+      → e.to ≡ bytes_in (text_before before) → LiesIn (encode_utf8_all cs) e
   mark_lies rest e h f l = piece_lies cs (text_before before) [] rest e good h f (l ∙ omega arith)
 
-  dedents_lie : (rest : List ℕ) (w : ℕ) (levels : List ℕ) (p : Place) → cs ≡ text_before before ++ rest → AllLie (encode_utf8_all cs) (dedents w levels (text_before before) p)
+  dedents_lie : (rest : List ℕ) (w : ℕ) (levels : List ℕ) (p : Place) → cs ≡ text_before before ++ rest
+      → AllLie (encode_utf8_all cs) (dedents w levels (text_before before) p)
   dedents_lie rest w levels p h = replicate_lies (encode_utf8_all cs) _ _ (mark_lies rest _ h refl refl)
 
   layout_lies : (rest : List ℕ) → cs ≡ text_before before ++ rest → AllLie (encode_utf8_all cs) (layout before)
   unfolding layout layout_by
   layout_lies rest h =
-      let s : cs ≡ text_before (before_line before) ++ (text_before (line_so_far before) ++ rest) = h ∙ ap (λ t. t ++ rest) (sym (line_split before)) ∙ append_assoc (text_before (before_line before)) (text_before (line_so_far before)) rest in
+      let s : cs ≡ text_before (before_line before) ++ (text_before (line_so_far before) ++ rest) = h
+      ∙ ap (λ t. t ++ rest) (sym (line_split before)) ∙ append_assoc (text_before (before_line before))
+      (text_before (line_so_far before)) rest in
       cond_lies (encode_utf8_all cs) (is_at_margin before) _ []
       (cond_lies (encode_utf8_all cs) (list_all (λ v. nat_lt v (width_at before)) (open_levels (widths before))) _ _
       (piece_lies cs (text_before (before_line before)) (text_before (line_so_far before)) rest _ good s refl refl, tt)
@@ -102,11 +109,13 @@ module _ (cs : List ℕ) (good : all_scalars cs ≡ true) (before : List Lexeme)
   unfolding entry_of
   entry_lies x rest h = by_class x.«class» x.text h
     where
-      by_class : (k : Class) (t : List ℕ) → cs ≡ text_before before ++ (t ++ rest) → AllLie (encode_utf8_all cs) (entry_of before (record { «class» = k; text = t }))
+      by_class : (k : Class) (t : List ℕ) → cs ≡ text_before before ++ (t ++ rest)
+          → AllLie (encode_utf8_all cs) (entry_of before (record { «class» = k; text = t }))
       by_class Name t h = (piece_lies cs (text_before before) t rest _ good h refl refl, tt)
       by_class Number t h = (piece_lies cs (text_before before) t rest _ good h refl refl, tt)
       by_class String t h = (piece_lies cs (text_before before) t rest _ good h refl refl, tt)
-      by_class (Operator o) t h = cond_lies (encode_utf8_all cs) (is_closer o && (depth before == 0)) _ _ (tt, tt) (piece_lies cs (text_before before) t rest _ good h refl refl, tt)
+      by_class (Operator o) t h = cond_lies (encode_utf8_all cs) (is_closer o && (depth before == 0)) _ _ (tt, tt)
+          (piece_lies cs (text_before before) t rest _ good h refl refl, tt)
       by_class Comment t h = (piece_lies cs (text_before before) t rest _ good h refl refl, tt)
       by_class Blanks t h = tt
       by_class LineEnd t h = (piece_lies cs (text_before before) t rest _ good h refl refl, tt)
@@ -114,7 +123,8 @@ module _ (cs : List ℕ) (good : all_scalars cs ≡ true) (before : List Lexeme)
 
   steps_lie : (x : Lexeme) (rest : List ℕ) → cs ≡ text_before before ++ (x.text ++ rest) → AllLie (encode_utf8_all cs) (steps_of before x)
   unfolding steps_of
-  steps_lie x rest h = AllLie-append (encode_utf8_all cs) _ (entry_of before x) (cond_lies (encode_utf8_all cs) (is_significant x) (layout before) [] (layout_lies (x.text ++ rest) h) tt) (entry_lies x rest h)
+  steps_lie x rest h = AllLie-append (encode_utf8_all cs) _ (entry_of before x) (cond_lies (encode_utf8_all cs) (is_significant x)
+      (layout before) [] (layout_lies (x.text ++ rest) h) tt) (entry_lies x rest h)
 
   last_lies : (rest : List ℕ) (p : Place) → cs ≡ text_before before ++ rest → AllLie (encode_utf8_all cs) (line_end_of_last before p)
   unfolding line_end_of_last
@@ -127,29 +137,36 @@ module _ (cs : List ℕ) (good : all_scalars cs ≡ true) (before : List Lexeme)
   unfolding tail
   tail_lies rest p h =
       cond_lies (encode_utf8_all cs) (not (depth before == 0) || ends_in_join before) _ _ (tt, tt)
-      (AllLie-append (encode_utf8_all cs) (line_end_of_last before p ++ dedents 0 (open_levels (widths before)) (text_before before) (end_place before p)) _
-      (AllLie-append (encode_utf8_all cs) (line_end_of_last before p) _ (last_lies rest p h) (dedents_lie rest 0 (open_levels (widths before)) (end_place before p) h))
+      (AllLie-append (encode_utf8_all cs) (line_end_of_last before p ++ dedents 0 (open_levels (widths before))
+      (text_before before) (end_place before p)) _
+      (AllLie-append (encode_utf8_all cs) (line_end_of_last before p) _ (last_lies rest p h)
+      (dedents_lie rest 0 (open_levels (widths before)) (end_place before p) h))
       (mark_lies rest _ h refl refl, (tt, tt)))
 
-  stop_lies : (fault : Option ListingFault) (left : List ℕ) → cs ≡ text_before before ++ left → AllLie (encode_utf8_all cs) (stop fault before left)
+  stop_lies : (fault : Option ListingFault) (left : List ℕ) → cs ≡ text_before before ++ left
+      → AllLie (encode_utf8_all cs) (stop fault before left)
   unfolding stop stop_fault
   stop_lies fault left h =
       cond_lies (encode_utf8_all cs) (not (length left == 0)) _ _
       (AllLie-append (encode_utf8_all cs) (layout before) _ (layout_lies left h) (fault_lies fault (place_after (text_before before)), tt))
       (by_fault fault)
     where
-      in_string : (fault : Option ListingFault) (p : Place) → StepLies (encode_utf8_all cs) (elim fault [ Some f ↦ steps.Fault f | None ↦ fault_at errors.EofInString p ])
+      in_string : (fault : Option ListingFault) (p : Place)
+          → StepLies (encode_utf8_all cs) (elim fault [ Some f ↦ steps.Fault f | None ↦ fault_at errors.EofInString p ])
       in_string (Some f) p = tt
       in_string None p = tt
 
       fault_lies : (fault : Option ListingFault) (p : Place) → StepLies (encode_utf8_all cs) (stop_fault fault p left)
-      fault_lies fault p = cond_step (encode_utf8_all cs) (not (opens_string left)) _ _ tt (cond_step (encode_utf8_all cs) (not (is_open_string left)) _ _ tt (in_string fault p))
+      fault_lies fault p = cond_step (encode_utf8_all cs) (not (opens_string left)) _ _ tt
+          (cond_step (encode_utf8_all cs) (not (is_open_string left)) _ _ tt (in_string fault p))
 
-      by_fault : (fault : Option ListingFault) → AllLie (encode_utf8_all cs) (elim fault [ Some f ↦ steps.Fault f ∷ [] | None ↦ tail before (place_after (text_before before)) ])
+      by_fault : (fault : Option ListingFault)
+          → AllLie (encode_utf8_all cs) (elim fault [ Some f ↦ steps.Fault f ∷ [] | None ↦ tail before (place_after (text_before before)) ])
       by_fault (Some f) = (tt, tt)
       by_fault None = tail_lies left (place_after (text_before before)) h
 
-all_lie : (cs : List ℕ) (fault : Option ListingFault) (left : List ℕ) → all_scalars cs ≡ true → (xs before : List Lexeme) (text : List ℕ) → cs ≡ text_before before ++ text → AreLexemes text xs left → AllLie (encode_utf8_all cs) (steps_from fault left before xs)
+all_lie : (cs : List ℕ) (fault : Option ListingFault) (left : List ℕ) → all_scalars cs ≡ true → (xs before : List Lexeme) (text : List ℕ)
+    → cs ≡ text_before before ++ text → AreLexemes text xs left → AllLie (encode_utf8_all cs) (steps_from fault left before xs)
 all_lie cs fault left good [] before text h l = stop_lies cs good before fault left (h ∙ ap (λ t. text_before before ++ t) (sym l.0))
 all_lie cs fault left good (x ∷ xs) before text h l =
     let g : cs ≡ text_before before ++ (x.text ++ l.0) = h ∙ ap (λ t. text_before before ++ t) l.2 in
@@ -158,12 +175,17 @@ all_lie cs fault left good (x ∷ xs) before text h l =
 
 listing_lies : (s : Source) → all_scalars s.text ≡ true → AllLie (encode_utf8_all s.text) (listing s)
 unfolding listing
-listing_lies s good = up_to_end_lies (encode_utf8_all s.text) (mark kinds.Encoding [] origin origin ∷ steps_from s.fault (left_by_cut s.text) [] (cut s.text))
-    (mark_lies s.text good [] s.text _ refl refl refl, all_lie s.text s.fault (left_by_cut s.text) good (cut s.text) [] s.text refl (cut_lexed s.text))
+listing_lies s good =
+    up_to_end_lies (encode_utf8_all s.text) (mark kinds.Encoding [] origin origin ∷ steps_from s.fault (left_by_cut s.text) [] (cut s.text)) (
+      mark_lies s.text good [] s.text _ refl refl refl,
+      all_lie s.text s.fault (left_by_cut s.text) good (cut s.text) [] s.text
+          refl (cut_lexed s.text),
+    )
 
 -- each entry of a listing lies in its source's text
 pub entries_lie : (p : Parts) → IsUtf8 p.text → AllLie p.text (listing (in_characters p))
-entries_lie p u = subst (λ (t : List ℕ). AllLie t (listing (in_characters p))) (encodes-chars p.text u) (listing_lies (in_characters p) (scalars-chars p.text u))
+entries_lie p u = subst (λ (t : List ℕ). AllLie t (listing (in_characters p))) (encodes-chars p.text u)
+    (listing_lies (in_characters p) (scalars-chars p.text u))
 
 -- so does the next one, and those after it
 pub first_lies : (text : List ℕ) (ss : List Step) → AllLie text ss → StepLies text (first_step ss)

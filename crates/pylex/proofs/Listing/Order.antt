@@ -1,7 +1,8 @@
 -- The entries of a listing stand in the order of the text.
 --
 -- Carries: Lister::new. On: Run, Ends.
-use Rattle.std.proofs.Common.{◌≡◌, ℕ, ◌+◌, ◌≤◌, ◌<◌, zero, suc, Bool, true, false, not, ◌&&◌, ◌||◌, ◌==◌, cond, List, [], ◌∷◌, ◌++◌, length, get_or, replicate, refl, sym, subst, arith, Option, Some, None, ⊎_elim}
+use Rattle.std.proofs.Common.{◌≡◌, ℕ, ◌+◌, ◌≤◌, ◌<◌, zero, suc, Bool, true, false, not, ◌&&◌, ◌||◌, ◌==◌, cond, List, [], ◌∷◌, ◌++◌, length}
+use Rattle.std.proofs.Common.{get_or, replicate, refl, sym, subst, arith, Option, Some, None, ⊎_elim}
 use Rattle.std.specs.List.{list_all, list_any}
 use Rattle.std.specs.Prelude.{nat_lt}
 use Rattle.pysource.specs.declared.places.Place.{Place}
@@ -20,7 +21,8 @@ use Rattle.pylex_lexeme.specs.Lexemes.{Lexeme, cut, left_by_cut}
 use Rattle.pylex.specs.Lines.{is_of_blanks, is_significant}
 use Rattle.pylex.specs.Listing.{Source, origin, up_to_end}
 use Rattle.pylex.specs.Steps.{entries_of}
-use Rattle.pylex.specs.Machine.{State, place_past, past, after, ends_line, dedents_at, mark_at, step_of, layout_of, entry_by, gives, is_hash, last_line_end, last_place, tail_of, stop_of, run, remaining, first_state, first_point}
+use Rattle.pylex.specs.Machine.{State, place_past, past, after, ends_line, dedents_at, mark_at, step_of, layout_of, entry_by, gives}
+use Rattle.pylex.specs.Machine.{is_hash, last_line_end, last_place, tail_of, stop_of, run, remaining, first_state, first_point}
 use Rattle.pylex.specs.Laws.{RunsForward, EndsBefore, AreOrdered, IsOrdered}
 use Rattle.pylex_lexeme.proofs.Callers.Booleans.{bool_cases}
 use Rattle.pylex.proofs.MachineLaws.Run.{listing_is}
@@ -76,7 +78,8 @@ advance_row p (c ∷ t) =
     let n = by_char (c == 10) in
     omega arith
   where
-    by_char : (b : Bool) → p.row ≤ (cond {A = Place} b (record { row = p.row + 1; column = 0 }) (record { row = p.row; column = p.column + 1 })).row
+    by_char : (b : Bool)
+        → p.row ≤ (cond {A = Place} b (record { row = p.row + 1; column = 0 }) (record { row = p.row; column = p.column + 1 })).row
     by_char true = omega arith
     by_char false = omega arith
 
@@ -95,7 +98,8 @@ cond_reaches : (b : Bool) (ss ts : List Step) (p q : Point) → Reaches p ss q �
 cond_reaches true ss ts p q h k = h
 cond_reaches false ss ts p q h k = k
 
-marks_reach : (n o : ℕ) (p : Place) → Reaches (record { place = p; offset = o }) (replicate n (mark_at kinds.Dedent o p p)) (record { place = p; offset = o })
+marks_reach : (n o : ℕ) (p : Place) → Reaches (record { place = p; offset = o }) (replicate n (mark_at kinds.Dedent o p p))
+    (record { place = p; offset = o })
 marks_reach zero o p = same_point (record { place = p; offset = o })
 marks_reach (suc n) o p = (same_point (record { place = p; offset = o }), same_point (record { place = p; offset = o }), marks_reach n o p)
 
@@ -120,14 +124,19 @@ entry_reaches s x n = by_class x.«class» x.text n
     one : (k : Kind) (e : Option Exact) (t : List ℕ) → Reaches s.now (step_of k e s.now (past s.now t) ∷ []) (past s.now t)
     one k e t = step_reaches k e s.now (past s.now t) (past_not_behind s.now t)
 
-    by_class : (k : Class) (t : List ℕ) → is_of_blanks (record { «class» = k; text = t }) ≡ false → Reaches s.now (entry_by s (record { «class» = k; text = t })) (past s.now t)
+    by_class : (k : Class) (t : List ℕ) → is_of_blanks (record { «class» = k; text = t }) ≡ false
+        → Reaches s.now (entry_by s (record { «class» = k; text = t })) (past s.now t)
     by_class Name t n = one kinds.Name None t
     by_class Number t n = one kinds.Number None t
     by_class String t n = one kinds.String None t
     by_class (Operator o) t n = cond_reaches (is_closer o && (s.depth == 0)) _ _ s.now (past s.now t) tt (one kinds.Op (Some o) t)
     by_class Comment t n = one kinds.Comment None t
     by_class Blanks t n = cc
-    by_class LineEnd t n = let h = past_not_behind s.now t in (same_point s.now, record { offset = omega arith; row = omega arith }, record { offset = omega arith; row = omega arith })
+    by_class LineEnd t n = let h = past_not_behind s.now t in (
+      same_point s.now,
+      record { offset = omega arith; row = omega arith },
+      record { offset = omega arith; row = omega arith },
+    )
     by_class Join t n = past_not_behind s.now t
 
 -- where a lexeme leads to, its line's begin isn't behind the place
@@ -143,7 +152,8 @@ blanks_reach : (s : State) (x : Lexeme) → is_of_blanks x ≡ true → NotBehin
 unfolding gives entry_by after
 blanks_reach s x b h = by_class x.«class» x.text b
   where
-    by_class : (k : Class) (t : List ℕ) → is_of_blanks (record { «class» = k; text = t }) ≡ true → Reaches (floor s) (gives s (record { «class» = k; text = t })) (floor (after s (record { «class» = k; text = t })))
+    by_class : (k : Class) (t : List ℕ) → is_of_blanks (record { «class» = k; text = t }) ≡ true
+        → Reaches (floor s) (gives s (record { «class» = k; text = t })) (floor (after s (record { «class» = k; text = t })))
     by_class Blanks t e = by_margin s.margin
       where
         by_margin : (m : Bool) → NotBehind (cond m s.line s.now) (cond m s.line (past s.now t))
@@ -166,7 +176,8 @@ floor_after s x n = rw n (by_end (ends_line s x))
     by_end true = refl
     by_end false = refl
 
-others_reach : (s : State) (x : Lexeme) → is_of_blanks x ≡ false → NotBehind s.line s.now → Reaches (floor s) (gives s x) (floor (after s x))
+others_reach : (s : State) (x : Lexeme) → is_of_blanks x ≡ false → NotBehind s.line s.now
+    → Reaches (floor s) (gives s x) (floor (after s x))
 unfolding gives
 others_reach s x n h = subst (λ (q : Point). Reaches (floor s) (gives s x) q) (sym (floor_after s x n))
     (joined (cond (is_significant x) (layout_of s) []) (entry_by s x) (floor s) s.now (past s.now x.text)
@@ -174,7 +185,8 @@ others_reach s x n h = subst (λ (q : Point). Reaches (floor s) (gives s x) q) (
     (entry_reaches s x n))
 
 lexeme_reaches : (s : State) (x : Lexeme) → NotBehind s.line s.now → Reaches (floor s) (gives s x) (floor (after s x))
-lexeme_reaches s x h = ⊎_elim (λ (e : is_of_blanks x ≡ true). blanks_reach s x e h) (λ (e : is_of_blanks x ≡ false). others_reach s x e h) (bool_cases (is_of_blanks x))
+lexeme_reaches s x h = ⊎_elim (λ (e : is_of_blanks x ≡ true). blanks_reach s x e h) (λ (e : is_of_blanks x ≡ false). others_reach s x e h)
+    (bool_cases (is_of_blanks x))
 
 abbrev last_point : State → Point
 last_point s = record { place = last_place s; offset = s.now.offset }
@@ -196,25 +208,34 @@ tail_reaches s =
     (joined (last_line_end s ++ dedents_at 0 s.levels s.now.offset (last_place s)) _ s.now (last_point s) (last_point s)
     (joined (last_line_end s) (dedents_at 0 s.levels s.now.offset (last_place s)) s.now (last_point s) (last_point s)
     (cond_reaches s.logical _ _ s.now (last_point s)
-    (cond_reaches (is_hash s.lead) [] _ s.now (last_point s) n (same_point s.now, record { offset = omega arith; row = omega arith }, record { offset = omega arith; row = omega arith }))
+    (cond_reaches (is_hash s.lead) [] _ s.now (last_point s) n (
+      same_point s.now,
+      record { offset = omega arith; row = omega arith },
+      record { offset = omega arith; row = omega arith },
+    ))
     (cond_reaches s.margin [] _ s.now (last_point s) n (same_point s.now, same_point s.now, n)))
     (marks_reach _ s.now.offset (last_place s)))
     (same_point (last_point s), same_point (last_point s), tt))
 
-stop_reaches : (fault : Option ListingFault) (left : List ℕ) (s : State) → NotBehind s.line s.now → Reaches (floor s) (stop_of fault s left) (last_point s)
+stop_reaches : (fault : Option ListingFault) (left : List ℕ) (s : State) → NotBehind s.line s.now
+    → Reaches (floor s) (stop_of fault s left) (last_point s)
 unfolding stop_of
 stop_reaches fault left s h =
     cond_reaches (not (length left == 0)) _ _ (floor s) (last_point s)
-    (joined (layout_of s) _ (floor s) s.now (last_point s) (layout_reaches s h) (let f = stop_is_fault fault s.now.place left in subst (λ (g : Step). Reaches s.now (g ∷ []) (last_point s)) (sym f.1) tt))
+    (joined (layout_of s) _ (floor s) s.now (last_point s) (layout_reaches s h) (let f = stop_is_fault fault s.now.place left in
+    subst (λ (g : Step). Reaches s.now (g ∷ []) (last_point s)) (sym f.1) tt))
     (by_fault fault)
   where
-    by_fault : (fault : Option ListingFault) → Reaches (floor s) (elim fault [ Some f ↦ steps.Fault f ∷ [] | None ↦ tail_of s ]) (last_point s)
+    by_fault : (fault : Option ListingFault)
+        → Reaches (floor s) (elim fault [ Some f ↦ steps.Fault f ∷ [] | None ↦ tail_of s ]) (last_point s)
     by_fault (Some f) = tt
     by_fault None = earlier (tail_of s) (floor s) s.now (last_point s) (floor_now s.margin s.line s.now h) (tail_reaches s)
 
-run_reaches : (fault : Option ListingFault) (left : List ℕ) (xs : List Lexeme) (s : State) → NotBehind s.line s.now → (q : Point) × Reaches (floor s) (run fault left s xs) q
+run_reaches : (fault : Option ListingFault) (left : List ℕ) (xs : List Lexeme) (s : State) → NotBehind s.line s.now
+    → (q : Point) × Reaches (floor s) (run fault left s xs) q
 run_reaches fault left [] s h = (last_point s, stop_reaches fault left s h)
-run_reaches fault left (x ∷ xs) s h = let r = run_reaches fault left xs (after s x) (line_stays s x h) in (r.0, joined (gives s x) _ (floor s) (floor (after s x)) r.0 (lexeme_reaches s x h) r.1)
+run_reaches fault left (x ∷ xs) s h = let r = run_reaches fault left xs (after s x) (line_stays s x h) in
+    (r.0, joined (gives s x) _ (floor s) (floor (after s x)) r.0 (lexeme_reaches s x h) r.1)
 
 -- entries in order from a point on
 abbrev Chained : Point → List Entry → Type 0
@@ -230,17 +251,20 @@ chained (steps.Fault f ∷ ss) p q h = tt
 begins_later : (es : List Entry) (p : Point) → Chained p es → (k : ℕ) (d : Entry) → k < length es → NotBehind p (begin_of (get_or es k d))
 begins_later [] p h k d l = absurd (omega arith)
 begins_later (e ∷ es) p h zero d l = h.0
-begins_later (e ∷ es) p h (suc k) d l = through p (end_of e) _ (through p (begin_of e) (end_of e) h.0 h.1) (begins_later es (end_of e) h.2 k d (omega arith))
+begins_later (e ∷ es) p h (suc k) d l = through p (end_of e) _ (through p (begin_of e) (end_of e) h.0 h.1)
+    (begins_later es (end_of e) h.2 k d (omega arith))
 
 run_forward : (es : List Entry) (p : Point) → Chained p es → (k : ℕ) (d : Entry) → k < length es → RunsForward (get_or es k d)
 run_forward [] p h k d l = absurd (omega arith)
 run_forward (e ∷ es) p h zero d l = record { offsets = h.1.offset; rows = h.1.row }
 run_forward (e ∷ es) p h (suc k) d l = run_forward es (end_of e) h.2 k d (omega arith)
 
-end_before : (es : List Entry) (p : Point) → Chained p es → (i j : ℕ) (d : Entry) → i < j → j < length es → EndsBefore (get_or es i d) (get_or es j d)
+end_before : (es : List Entry) (p : Point) → Chained p es → (i j : ℕ) (d : Entry) → i < j → j < length es
+    → EndsBefore (get_or es i d) (get_or es j d)
 end_before [] p h i j d lt l = absurd (omega arith)
 end_before (e ∷ es) p h i zero d lt l = absurd (omega arith)
-end_before (e ∷ es) p h zero (suc j) d lt l = let n = begins_later es (end_of e) h.2 j d (omega arith) in record { offsets = n.offset; rows = n.row }
+end_before (e ∷ es) p h zero (suc j) d lt l = let n = begins_later es (end_of e) h.2 j d (omega arith) in
+    record { offsets = n.offset; rows = n.row }
 end_before (e ∷ es) p h (suc i) (suc j) d lt l = end_before es (end_of e) h.2 i j d (omega arith) (omega arith)
 
 ordered : (es : List Entry) (p : Point) → Chained p es → AreOrdered es
@@ -253,7 +277,8 @@ is_ordered s =
     let c = chained _ first_point r.0 r.1 in
     let z : Point = record { place = origin; offset = 0 } in
     let f : NotBehind z first_point = record { offset = omega arith; row = omega arith } in
-    subst (λ (ss : List Step). AreOrdered (entries_of ss)) (sym (listing_is s)) (ordered _ z (same_point z, same_point z, weaken z first_point f _ c))
+    subst (λ (ss : List Step). AreOrdered (entries_of ss)) (sym (listing_is s))
+    (ordered _ z (same_point z, same_point z, weaken z first_point f _ c))
   where
     weaken : (p q : Point) → NotBehind p q → (es : List Entry) → Chained q es → Chained p es
     weaken p q n [] h = tt

@@ -1,7 +1,8 @@
 -- No entry of a listing but the first is that of the encoding.
 --
 -- Carries: not_encoding, for Stepping.
-use Rattle.std.proofs.Common.{◌≡◌, ◌≢◌, ℕ, ◌<◌, Bool, true, false, not, ◌&&◌, ◌||◌, ◌==◌, zero, suc, List, [], ◌∷◌, ◌++◌, length, subst, arith, cond, replicate, Option, Some, None, slice_get}
+use Rattle.std.proofs.Common.{◌≡◌, ◌≢◌, ℕ, ◌<◌, Bool, true, false, not, ◌&&◌, ◌||◌, ◌==◌, zero, suc, List, [], ◌∷◌, ◌++◌, length, subst}
+use Rattle.std.proofs.Common.{arith, cond, replicate, Option, Some, None, slice_get}
 use Rattle.std.specs.List.{list_all, list_any}
 use Rattle.std.specs.Prelude.{nat_lt}
 use Rattle.pysource.specs.Places.{place_after}
@@ -20,7 +21,8 @@ use Rattle.pylex.specs.Indentation.{open_levels, width_at, widths, layout_by, la
 use Rattle.pylex.specs.Steps.{fault_at}
 use Rattle.pylex_lexeme.specs.Lexemes.{Lexeme, cut, left_by_cut, is_open_string}
 use Rattle.pylex.specs.Lines.{text_before, depth, is_significant, is_at_margin, is_logical}
-use Rattle.pylex.specs.Listing.{Source, listing, line_end_kind, entry_of, steps_of, stop_fault, last_line, begins_comment, line_end_of_last, ends_in_join, tail, stop, steps_from, up_to_end}
+use Rattle.pylex.specs.Listing.{Source, listing, line_end_kind, entry_of, steps_of, stop_fault, last_line, begins_comment, line_end_of_last}
+use Rattle.pylex.specs.Listing.{ends_in_join, tail, stop, steps_from, up_to_end}
 
 -- if a step gives an entry, that is none of the encoding
 abbrev pub GivesText : Step → Type 0
@@ -104,16 +106,20 @@ module _ (before : List Lexeme) where
 
   give_stop : (fault : Option ListingFault) (left : List ℕ) → AllGive (stop fault before left)
   unfolding stop stop_fault
-  give_stop fault left = give_cond (not (length left == 0)) _ _ (give_append (layout before) _ give_layout (by_place fault (place_after (text_before before)), tt)) (by_fault fault)
+  give_stop fault left =
+      give_cond (not (length left == 0)) _ _
+      (give_append (layout before) _ give_layout (by_place fault (place_after (text_before before)), tt)) (by_fault fault)
     where
-      in_string : (fault : Option ListingFault) (p : Place) → GivesText (elim fault [ Some f ↦ steps.Fault f | None ↦ fault_at errors.EofInString p ])
+      in_string : (fault : Option ListingFault) (p : Place)
+          → GivesText (elim fault [ Some f ↦ steps.Fault f | None ↦ fault_at errors.EofInString p ])
       in_string (Some f) p = tt
       in_string None p = tt
 
       by_place : (fault : Option ListingFault) (p : Place) → GivesText (stop_fault fault p left)
       by_place fault p = give_step (not (opens_string left)) _ _ tt (give_step (not (is_open_string left)) _ _ tt (in_string fault p))
 
-      by_fault : (fault : Option ListingFault) → AllGive (elim fault [ Some f ↦ steps.Fault f ∷ [] | None ↦ tail before (place_after (text_before before)) ])
+      by_fault : (fault : Option ListingFault)
+          → AllGive (elim fault [ Some f ↦ steps.Fault f ∷ [] | None ↦ tail before (place_after (text_before before)) ])
       by_fault (Some f) = (tt, tt)
       by_fault None = give_tail (place_after (text_before before))
 
@@ -129,4 +135,5 @@ among (r ∷ ss) (suc k) s h e = among ss k s h.1 e
 pub not_encoding : (s : Source) (k : ℕ) (e : Entry) → 0 < k → slice_get (listing s) k ≡ Some (steps.Entry e) → e.kind ≢ kinds.Encoding
 unfolding listing
 not_encoding s zero e some h = absurd (omega arith)
-not_encoding s (suc k) e some h = among (up_to_end (steps_from s.fault (left_by_cut s.text) [] (cut s.text))) k (steps.Entry e) (give_up_to_end _ (give_all s.fault (left_by_cut s.text) (cut s.text) [])) h
+not_encoding s (suc k) e some h = among (up_to_end (steps_from s.fault (left_by_cut s.text) [] (cut s.text))) k (steps.Entry e)
+    (give_up_to_end _ (give_all s.fault (left_by_cut s.text) (cut s.text) [])) h

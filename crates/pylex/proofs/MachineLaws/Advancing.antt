@@ -1,7 +1,8 @@
 -- The state after a lexeme, part by part.
 --
 -- Carries: LineState::after, pass_blanks, pass_join, pass_line_end, pass_operator, pass_text.
-use Rattle.std.proofs.Common.{◌≡◌, ℕ, ◌+◌, ◌-◌, ◌*◌, ◌<◌, ◌≤◌, Bool, true, false, not, ◌&&◌, ◌||◌, ◌==◌, List, [], ◌∷◌, length, refl, ap, ◌∙◌, arith, cond, ⊎_elim}
+use Rattle.std.proofs.Common.{◌≡◌, ℕ, ◌+◌, ◌-◌, ◌*◌, ◌<◌, ◌≤◌, Bool, true, false, not, ◌&&◌, ◌||◌, ◌==◌, List, [], ◌∷◌, length, refl, ap}
+use Rattle.std.proofs.Common.{◌∙◌, arith, cond, ⊎_elim}
 use Rattle.pylex_lexeme.specs.declared.lexeme.Class.{Class}
 use Rattle.pylex_lexeme.specs.declared.lexeme.Class.TheVariants.{Name, Number, String, Operator, Comment, Blanks, LineEnd, Join}
 use Rattle.pysource.specs.declared.places.Place.{Place}
@@ -30,7 +31,8 @@ pub record IsAfter (p : LineState) (x : Lexeme) (q : LineState) : Type 0 where
   pub lead : q.lead ≡ lead_after p.lead x.text
 
 -- a line end is no blanks
-no_width : (k : Class) (t : List ℕ) (d m : Bool) (n : ℕ) → still (is_of_blanks (record { «class» = k; text = t }) && m) n ≡ cond (is_of_line_end (record { «class» = k; text = t }) && d) 0 (still (is_of_blanks (record { «class» = k; text = t }) && m) n)
+no_width : (k : Class) (t : List ℕ) (d m : Bool) (n : ℕ) → still (is_of_blanks (record { «class» = k; text = t }) && m) n ≡ cond
+    (is_of_line_end (record { «class» = k; text = t }) && d) 0 (still (is_of_blanks (record { «class» = k; text = t }) && m) n)
 no_width LineEnd t true m n = refl
 no_width LineEnd t false m n = refl
 no_width Name t d m n = refl
@@ -41,7 +43,8 @@ no_width Comment t d m n = refl
 no_width Blanks t d m n = refl
 no_width Join t d m n = refl
 
-pub is_after : (p : LineState) (x : Lexeme) (q : LineState) → (p.margin && is_significant x) ≡ false → IsAfter p x q → (levels : List ℕ) → with_levels q levels ≡ after (with_levels p levels) x
+pub is_after : (p : LineState) (x : Lexeme) (q : LineState) → (p.margin && is_significant x) ≡ false → IsAfter p x q → (levels : List ℕ)
+    → with_levels q levels ≡ after (with_levels p levels) x
 unfolding after
 is_after p x q s h levels =
     let now = h.now in
@@ -67,15 +70,19 @@ advance_column r [] = omega arith
 advance_column r (c ∷ cs) =
     ⊎_elim
     (λ (e : (c == 10) ≡ true). let h = advance_column (record { row = r.row + 1; column = 0 }) cs in rw (e, place_past) (omega arith))
-    (λ (e : (c == 10) ≡ false). let h = advance_column (record { row = r.row; column = r.column + 1 }) cs in rw (e, place_past) (omega arith))
+    (λ (e : (c == 10) ≡ false). let h = advance_column (record { row = r.row; column = r.column + 1 }) cs in
+    rw (e, place_past) (omega arith))
     (bool_cases (c == 10))
 
 -- a point by its place and its offset
-pub place_offset : (p : Point) (t : List ℕ) (q : Place) (m : ℕ) → q ≡ place_past p.place t → bytes_in t ≡ m → (let r : Point = record { place = q; offset = p.offset + m } in r) ≡ past p t
+pub place_offset : (p : Point) (t : List ℕ) (q : Place) (m : ℕ) → q ≡ place_past p.place t → bytes_in t ≡ m
+    → (let r : Point = record { place = q; offset = p.offset + m } in r) ≡ past p t
 place_offset p t q m e f = rw (e, ← f) refl
 
 -- one character at most for each byte
-pub room_on : (p : LineState) (x : Lexeme) (q : LineState) (m n : ℕ) → q.now ≡ past p.now x.text → q.depth ≡ p.depth + count_if (opens x) - count_if (closes x) → q.now.offset ≡ p.now.offset + m → length x.text ≤ m → q.width ≤ p.width + 8 * m → 0 < m → HasRoom p (m + n) → HasRoom q n
+pub room_on : (p : LineState) (x : Lexeme) (q : LineState) (m n : ℕ) → q.now ≡ past p.now x.text
+    → q.depth ≡ p.depth + count_if (opens x) - count_if (closes x) → q.now.offset ≡ p.now.offset + m → length x.text ≤ m
+    → q.width ≤ p.width + 8 * m → 0 < m → HasRoom p (m + n) → HasRoom q n
 room_on p x q m n now depth offset chars width some room =
     let row = advance_row p.now.place x.text in
     let column = advance_column p.now.place x.text in
@@ -95,5 +102,6 @@ room_on p x q m n now depth offset chars width some room =
     count_one true = omega arith
     count_one false = omega arith
 
-pub more_room : (p : LineState) (x : Lexeme) (q : LineState) (m n : ℕ) → IsAfter p x q → q.now.offset ≡ p.now.offset + m → length x.text ≤ m → q.width ≤ p.width + 8 * m → 0 < m → HasRoom p (m + n) → HasRoom q n
+pub more_room : (p : LineState) (x : Lexeme) (q : LineState) (m n : ℕ) → IsAfter p x q → q.now.offset ≡ p.now.offset + m → length x.text ≤ m
+    → q.width ≤ p.width + 8 * m → 0 < m → HasRoom p (m + n) → HasRoom q n
 more_room p x q m n h = room_on p x q m n h.now h.depth

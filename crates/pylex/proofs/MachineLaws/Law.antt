@@ -2,7 +2,8 @@
 --
 -- Carries: bytes_in-append, state_of, state_push, IsBalanced and 7 more, for Run, Points, Ahead,
 -- Resuming and 12 more. On: Stack.
-use Rattle.std.proofs.Common.{◌≡◌, ℕ, ◌+◌, ◌-◌, ◌≤◌, ◌<◌, Bool, true, false, not, ◌&&◌, ◌||◌, ◌==◌, List, [], ◌∷◌, ◌++◌, length, refl, ap, ◌∙◌, sym, arith, cond, append_assoc, reverse, add_comm, add_assoc, add-zero, ⊎_elim, length-append}
+use Rattle.std.proofs.Common.{◌≡◌, ℕ, ◌+◌, ◌-◌, ◌≤◌, ◌<◌, Bool, true, false, not, ◌&&◌, ◌||◌, ◌==◌, List, [], ◌∷◌, ◌++◌, length, refl, ap}
+use Rattle.std.proofs.Common.{◌∙◌, sym, arith, cond, append_assoc, reverse, add_comm, add_assoc, add-zero, ⊎_elim, length-append}
 use Rattle.std.specs.List.{prefix_len, count_by}
 use Rattle.std.specs.Str.{encode_utf8_all}
 use Rattle.std.proofs.lemmas.Str.{encodes-append}
@@ -11,7 +12,8 @@ use Rattle.std.proofs.lemmas.Grind.{common_steps}
 use Rattle.std.proofs.lemmas.Bool.Decides.{nat_tests}
 use Rattle.pysource.specs.Places.{place_after}
 use Rattle.pylex_lexeme.specs.Lexemes.{Lexeme}
-use Rattle.pylex.specs.Lines.{text_before, depth, is_of_blanks, is_of_line_end, is_significant, opens, closes, line_so_far, before_line, is_at_margin, is_logical, count_if}
+use Rattle.pylex.specs.Lines.{text_before, depth, is_of_blanks, is_of_line_end, is_significant, opens, closes, line_so_far, before_line}
+use Rattle.pylex.specs.Lines.{is_at_margin, is_logical, count_if}
 use Rattle.pylex_lexeme.specs.Chars.{bytes_in}
 use Rattle.pylex.specs.Indentation.{column_after, width_from, width_at, widths, open_levels}
 use Rattle.pylex.specs.Listing.{ends_in_join}
@@ -37,7 +39,9 @@ place_of_one cs c =
     rw (r, n)
     (⊎_elim
     (λ (e : (c == 10) ≡ true). rw e (ap (λ k. record { row = k; column = 0 }) (sym (add_assoc 1 (count_by (λ d. d == 10) cs) 1))))
-    (λ (e : (c == 10) ≡ false). rw e (rw add-zero (ap (λ k. record { row = 1 + count_by (λ d. d == 10) cs; column = k }) (add_comm 1 (prefix_len (λ d. not (d == 10)) (reverse cs))))))
+    (λ (e : (c == 10) ≡ false). rw e
+    (rw add-zero (ap (λ k. record { row = 1 + count_by (λ d. d == 10) cs; column = k })
+    (add_comm 1 (prefix_len (λ d. not (d == 10)) (reverse cs))))))
     (bool_cases (c == 10)))
 
 pub place_after-append : (a b : List ℕ) → place_after (a ++ b) ≡ place_past (place_after a) b
@@ -86,21 +90,24 @@ pub record IsBalanced (before : List Lexeme) : Type 0 where
 abbrev ends : List Lexeme → Lexeme → Bool
 ends before x = is_of_line_end x && (depth before == 0)
 
-line_push : (before : List Lexeme) (x : Lexeme) → point_after (text_before (before_line (x ∷ before))) ≡ cond (ends before x) (past (point_after (text_before before)) x.text) (point_after (text_before (before_line before)))
+line_push : (before : List Lexeme) (x : Lexeme) → point_after (text_before (before_line (x ∷ before))) ≡ cond (ends before x)
+    (past (point_after (text_before before)) x.text) (point_after (text_before (before_line before)))
 unfolding line_so_far
 line_push before x = ⊎_elim
     (λ (e : ends before x ≡ true). rw e (point-append (text_before before) x.text))
     (λ (e : ends before x ≡ false). rw e refl)
     (bool_cases (ends before x))
 
-pub margin_push : (before : List Lexeme) (x : Lexeme) → is_at_margin (x ∷ before) ≡ (ends before x || (is_of_blanks x && is_at_margin before))
+pub margin_push : (before : List Lexeme) (x : Lexeme)
+    → is_at_margin (x ∷ before) ≡ (ends before x || (is_of_blanks x && is_at_margin before))
 unfolding line_so_far is_at_margin
 margin_push before x = ⊎_elim
     (λ (e : ends before x ≡ true). rw e refl)
     (λ (e : ends before x ≡ false). rw e refl)
     (bool_cases (ends before x))
 
-pub logical_push : (before : List Lexeme) (x : Lexeme) → is_logical (x ∷ before) ≡ (not (ends before x) && (is_significant x || is_logical before))
+pub logical_push : (before : List Lexeme) (x : Lexeme)
+    → is_logical (x ∷ before) ≡ (not (ends before x) && (is_significant x || is_logical before))
 unfolding line_so_far is_logical
 logical_push before x = ⊎_elim
     (λ (e : ends before x ≡ true). rw e refl)
@@ -114,23 +121,27 @@ width_at_push before x = ⊎_elim
     (λ (e : ends before x ≡ false). rw e (width-append (text_before (line_so_far before)) x.text 0))
     (bool_cases (ends before x))
 
-still_width : (e b m : Bool) (w : ℕ) (t : List ℕ) → still (e || (b && m)) (cond e 0 (width_from w t)) ≡ cond e 0 (still (b && m) (width_from (still m w) t))
+still_width : (e b m : Bool) (w : ℕ) (t : List ℕ) → still (e || (b && m)) (cond e 0 (width_from w t)) ≡ cond e 0
+    (still (b && m) (width_from (still m w) t))
 still_width true b m w t = refl
 still_width false true true w t = refl
 still_width false true false w t = refl
 still_width false false m w t = refl
 
-width_push : (before : List Lexeme) (x : Lexeme) → still (is_at_margin (x ∷ before)) (width_at (x ∷ before)) ≡ cond (ends before x) 0 (still (is_of_blanks x && is_at_margin before) (width_from (still (is_at_margin before) (width_at before)) x.text))
+width_push : (before : List Lexeme) (x : Lexeme) → still (is_at_margin (x ∷ before)) (width_at (x ∷ before)) ≡ cond (ends before x) 0
+    (still (is_of_blanks x && is_at_margin before) (width_from (still (is_at_margin before) (width_at before)) x.text))
 width_push before x =
     let m = margin_push before x in
     let w = width_at_push before x in
     rw (m, w) (still_width (ends before x) (is_of_blanks x) (is_at_margin before) (width_at before) x.text)
 
-levels_push : (before : List Lexeme) (x : Lexeme) → open_levels (widths (x ∷ before)) ≡ cond (is_at_margin before && is_significant x) (pushed (still (is_at_margin before) (width_at before)) (open_levels (widths before))) (open_levels (widths before))
+levels_push : (before : List Lexeme) (x : Lexeme) → open_levels (widths (x ∷ before)) ≡ cond (is_at_margin before && is_significant x)
+    (pushed (still (is_at_margin before) (width_at before)) (open_levels (widths before))) (open_levels (widths before))
 unfolding widths
 levels_push before x = by_cases (is_at_margin before) (is_significant x)
   where
-    by_cases : (m t : Bool) → open_levels (cond (m && t) (width_at before ∷ widths before) (widths before)) ≡ cond (m && t) (pushed (still m (width_at before)) (open_levels (widths before))) (open_levels (widths before))
+    by_cases : (m t : Bool) → open_levels (cond (m && t) (width_at before ∷ widths before) (widths before)) ≡ cond (m && t)
+        (pushed (still m (width_at before)) (open_levels (widths before))) (open_levels (widths before))
     by_cases true true = push (width_at before) (widths before)
     by_cases true false = refl
     by_cases false t = refl
@@ -138,7 +149,8 @@ levels_push before x = by_cases (is_at_margin before) (is_significant x)
 pub count_cons : (p : Lexeme → Bool) (x : Lexeme) (xs : List Lexeme) → count_by p (x ∷ xs) ≡ count_if (p x) + count_by p xs
 count_cons p x xs = grind (arith, common_steps)
 
-less_one : (o c : Bool) (m n : ℕ) → n ≤ m → (c && ((m - n) == 0)) ≡ false → (count_if o + m) - (count_if c + n) ≡ (m - n) + count_if o - count_if c
+less_one : (o c : Bool) (m n : ℕ) → n ≤ m → (c && ((m - n) == 0)) ≡ false
+    → (count_if o + m) - (count_if c + n) ≡ (m - n) + count_if o - count_if c
 less_one true true m n h e = omega arith
 less_one true false m n h e = omega arith
 less_one false true m n h e = omega (arith, one_more m n e)
@@ -147,7 +159,8 @@ less_one false true m n h e = omega (arith, one_more m n e)
     one_more m n e = grind (arith, nat_tests)
 less_one false false m n h e = omega arith
 
-depth_push : (before : List Lexeme) (x : Lexeme) → IsBalanced before → (closes x && (depth before == 0)) ≡ false → depth (x ∷ before) ≡ depth before + count_if (opens x) - count_if (closes x)
+depth_push : (before : List Lexeme) (x : Lexeme) → IsBalanced before → (closes x && (depth before == 0)) ≡ false
+    → depth (x ∷ before) ≡ depth before + count_if (opens x) - count_if (closes x)
 unfolding depth
 depth_push before x b n =
     let o = count_cons opens x before in
@@ -163,14 +176,16 @@ still_balanced false true m n h e = omega (arith, one_more m n e)
     one_more m n e = grind (arith, nat_tests)
 still_balanced false false m n h e = omega arith
 
-pub balanced_push : (before : List Lexeme) (x : Lexeme) → IsBalanced before → (closes x && (depth before == 0)) ≡ false → IsBalanced (x ∷ before)
+pub balanced_push : (before : List Lexeme) (x : Lexeme) → IsBalanced before → (closes x && (depth before == 0)) ≡ false
+    → IsBalanced (x ∷ before)
 unfolding depth
 balanced_push before x b n =
     let o = count_cons opens x before in
     let c = count_cons closes x before in
     record { closed = rw (o, c) (still_balanced (opens x) (closes x) (count_by opens before) (count_by closes before) b.closed n) }
 
-pub state_push : (before : List Lexeme) (x : Lexeme) → IsBalanced before → (closes x && (depth before == 0)) ≡ false → state_of (x ∷ before) ≡ after (state_of before) x
+pub state_push : (before : List Lexeme) (x : Lexeme) → IsBalanced before → (closes x && (depth before == 0)) ≡ false
+    → state_of (x ∷ before) ≡ after (state_of before) x
 unfolding state_of after
 state_push before x b n =
     let now = point-append (text_before before) x.text in

@@ -1,7 +1,8 @@
 -- What the last line of a text begins with, character by character.
 --
 -- Carries: last_push, hash_is, last_front, front_in, for Resumed, LexemeClasses, Run.
-use Rattle.std.proofs.Common.{◌≡◌, ℕ, Bool, true, false, not, ◌==◌, List, [], ◌∷◌, ◌++◌, refl, ap, ◌∙◌, sym, cond, if◌then◌else◌, append_assoc, reverse, ⊎_elim}
+use Rattle.std.proofs.Common.{◌≡◌, ℕ, Bool, true, false, not, ◌==◌, List, [], ◌∷◌, ◌++◌, refl, ap, ◌∙◌, sym, cond, if◌then◌else◌}
+use Rattle.std.proofs.Common.{append_assoc, reverse, ⊎_elim}
 use Rattle.std.specs.List.{take_while}
 use Rattle.std.proofs.lemmas.List.{append-nil, reverse-append}
 use Rattle.std.proofs.lemmas.List.Sums.{take_while-cons}
@@ -42,7 +43,12 @@ front_in-push (d ∷ l) c e = ⊎_elim
     (λ (b : is_blank_char d ≡ false). rw (b, e) (settled (d == 35)))
     (bool_cases (is_blank_char d))
   where
-    settled : (h : Bool) → cond h Hash Other ≡ elim (cond h Hash Other) [ Nothing ↦ cond (is_blank_char c) Nothing (cond (c == 35) Hash Other) | Hash ↦ Hash | Other ↦ Other ]
+    settled : (h : Bool)
+        → cond h Hash Other ≡ elim (cond h Hash Other) [
+          | Nothing ↦ cond (is_blank_char c) Nothing (cond (c == 35) Hash Other)
+          | Hash ↦ Hash
+          | Other ↦ Other
+        ]
     settled true = refl
     settled false = refl
 

@@ -1,7 +1,8 @@
 -- A text's cut, lexeme by lexeme.
 --
 -- Carries: Lister::new. On: Full.
-use Rattle.std.proofs.Common.{◌≡◌, ℕ, ◌-◌, ◌≤◌, ◌<◌, zero, suc, Bool, true, false, is_some, ◌⊎◌, ⊎_elim, List, [], ◌∷◌, ◌++◌, length, take, drop, refl, ap, ◌∙◌, sym, subst, arith, Option, Some, None, append_assoc, length-append, length-take}
+use Rattle.std.proofs.Common.{◌≡◌, ℕ, ◌-◌, ◌≤◌, ◌<◌, zero, suc, Bool, true, false, is_some, ◌⊎◌, ⊎_elim, List, [], ◌∷◌, ◌++◌, length, take}
+use Rattle.std.proofs.Common.{drop, refl, ap, ◌∙◌, sym, subst, arith, Option, Some, None, append_assoc, length-append, length-take}
 use Rattle.std.specs.Prelude.{option_map}
 use Rattle.std.specs.List.{flat_map}
 use Rattle.std.proofs.lemmas.List.{take-append-drop}
@@ -54,12 +55,15 @@ lexeme_at-nil : lexeme_at [] ≡ None
 lexeme_at-nil = none_here (lexeme_at []) refl
 
 -- where a cut goes on after one lexeme
-goes_on : (c : ℕ) (cs : List ℕ) (o : Option Lexeme) → lexeme_at (c ∷ cs) ≡ o → ((n : ℕ) → (left : List ℕ) × AreLexemes (drop n cs) (cut_after n cs) left) → (left : List ℕ) × AreLexemes (c ∷ cs) (list_of (option_map (λ x. x ∷ cut_after (length x.text - 1) cs) o)) left
+goes_on : (c : ℕ) (cs : List ℕ) (o : Option Lexeme) → lexeme_at (c ∷ cs) ≡ o
+    → ((n : ℕ) → (left : List ℕ) × AreLexemes (drop n cs) (cut_after n cs) left)
+    → (left : List ℕ) × AreLexemes (c ∷ cs) (list_of (option_map (λ x. x ∷ cut_after (length x.text - 1) cs) o)) left
 goes_on c cs None e h = (c ∷ cs, (refl, e))
 goes_on c cs (Some x) e h =
     let k = h (length x.text - 1) in
     let n = lexeme_some (c ∷ cs) x e in
-    let p : c ∷ cs ≡ x.text ++ drop (length x.text - 1) cs = lexeme_parts (c ∷ cs) x e ∙ ap (λ d. x.text ++ d) (one_less (length x.text) n) in
+    let p : c ∷ cs ≡ x.text ++ drop (length x.text - 1) cs = lexeme_parts (c ∷ cs) x e
+    ∙ ap (λ d. x.text ++ d) (one_less (length x.text) n) in
     (k.0, (drop (length x.text - 1) cs, e, p, k.1))
   where
     one_less : (n : ℕ) → 0 < n → drop n (c ∷ cs) ≡ drop (n - 1) cs
@@ -88,7 +92,8 @@ unfolding cut left_by_cut
 cut_lexed cs =
     let k = lexed_after cs 0 in
     let j = lexed_joins (cut_after 0 cs) cs k.0 k.1 in
-    let e : drop (length (texts (cut_after 0 cs))) cs ≡ k.0 = ap (drop (length (texts (cut_after 0 cs)))) j ∙ drop_whole (texts (cut_after 0 cs)) k.0 in
+    let e : drop (length (texts (cut_after 0 cs))) cs ≡ k.0 = ap (drop (length (texts (cut_after 0 cs)))) j
+    ∙ drop_whole (texts (cut_after 0 cs)) k.0 in
     subst (λ (l : List ℕ). AreLexemes cs (cut_after 0 cs) l) (sym e) k.1
 
 lexed_stops : (xs : List Lexeme) (text left : List ℕ) → AreLexemes text xs left → lexeme_at left ≡ None
@@ -96,7 +101,12 @@ lexed_stops [] text left h = ap lexeme_at h.0 ∙ h.1
 lexed_stops (x ∷ xs) text left h = lexed_stops xs h.0 left h.3
 
 pub is_cut : (text : List ℕ) → IsCut text
-is_cut text = let l = cut_lexed text in record { lexemes = l; joined = lexed_joins (cut text) text (left_by_cut text) l; stop = lexed_stops (cut text) text (left_by_cut text) l }
+is_cut text = let l = cut_lexed text in record {
+  lexemes = l;
+  joined = lexed_joins (cut text) text (left_by_cut text) l;
+  stop =
+      lexed_stops (cut text) text (left_by_cut text) l;
+}
 
 -- the longest front within a length that passes
 none_within : (p : List ℕ → Bool) (cs : List ℕ) (n k : ℕ) → longest_within p cs n < k → k ≤ n → p (take k cs) ≡ false
@@ -147,7 +157,8 @@ front_short cs a b e = omega (arith, ap length e, length-append a b)
 no_longer : (cs a b : List ℕ) → cs ≡ a ++ b → lexeme_len cs < length a → class_in cs a ≡ None
 unfolding lexeme_len
 no_longer cs a b e l =
-    let n = none_of (class_in cs (take (length a) cs)) (none_within (λ t. is_some (class_in cs t)) cs (length cs) (length a) l (front_short cs a b e)) in
+    let n = none_of (class_in cs (take (length a) cs)) (none_within (λ t. is_some (class_in cs t)) cs (length cs) (length a) l
+    (front_short cs a b e)) in
     subst (λ (t : List ℕ). class_in cs t ≡ None) (front_taken cs a b e) n
 
 lexeme_size : (cs : List ℕ) (x : Lexeme) → lexeme_at cs ≡ Some x → length x.text ≡ lexeme_len cs
@@ -161,7 +172,8 @@ pub lexeme_class : (cs : List ℕ) (x : Lexeme) → lexeme_at cs ≡ Some x → 
 unfolding lexeme_at
 lexeme_class cs x e = class_is (take (lexeme_len cs) cs) (class_in cs (take (lexeme_len cs) cs)) x refl e
   where
-    class_is : (t : List ℕ) (o : Option Class) (x : Lexeme) → class_in cs t ≡ o → option_map (λ k. record { «class» = k; text = t }) o ≡ Some x → class_in cs x.text ≡ Some x.«class»
+    class_is : (t : List ℕ) (o : Option Class) (x : Lexeme) → class_in cs t ≡ o → option_map (λ k. record { «class» = k; text = t }) o ≡
+        Some x → class_in cs x.text ≡ Some x.«class»
     class_is t None x c e = cc
     class_is t (Some k) x c e = cc
 
@@ -169,7 +181,9 @@ no_class : (cs : List ℕ) → lexeme_at cs ≡ None → class_in cs (take (lexe
 unfolding lexeme_at
 no_class cs e = by_class (class_in cs (take (lexeme_len cs) cs)) refl e
   where
-    by_class : (o : Option Class) → class_in cs (take (lexeme_len cs) cs) ≡ o → option_map {U = Lexeme} (λ k. record { «class» = k; text = take (lexeme_len cs) cs }) o ≡ None → class_in cs (take (lexeme_len cs) cs) ≡ None
+    by_class : (o : Option Class) → class_in cs (take (lexeme_len cs) cs) ≡ o
+        → option_map {U = Lexeme} (λ k. record { «class» = k; text = take (lexeme_len cs) cs }) o ≡ None
+        → class_in cs (take (lexeme_len cs) cs) ≡ None
     by_class None c e = c
     by_class (Some k) c e = cc
 
@@ -177,7 +191,8 @@ none_long : (cs : List ℕ) → lexeme_at cs ≡ None → (n : ℕ) → lexeme_l
 unfolding lexeme_len
 none_long cs e zero l = refl
 none_long cs e (suc n) l =
-    let p : is_some (class_in cs (take (lexeme_len cs) cs)) ≡ true = within_passes (λ t. is_some (class_in cs t)) cs (length cs) (omega arith) in
+    let p : is_some (class_in cs (take (lexeme_len cs) cs)) ≡ true =
+    within_passes (λ t. is_some (class_in cs t)) cs (length cs) (omega arith) in
     let q = ap is_some (no_class cs e) in
     cc
 

@@ -2,7 +2,8 @@
 --
 -- Carries: Says, lexeme_says, line_end_begins, comment_in_line, for Ahead, Covering, Told, Points
 -- and 1 more. On: LeadingChar, Lexed.
-use Rattle.std.proofs.Common.{◌≡◌, ℕ, suc, ◌+◌, Bool, true, false, not, ◌&&◌, ◌==◌, cond, List, [], ◌∷◌, ◌++◌, length, refl, ap, ◌∙◌, sym, subst, arith, Option, Some, None, append_assoc, length-append, ⊎_elim}
+use Rattle.std.proofs.Common.{◌≡◌, ℕ, suc, ◌+◌, Bool, true, false, not, ◌&&◌, ◌==◌, cond, List, [], ◌∷◌, ◌++◌, length, refl, ap, ◌∙◌, sym}
+use Rattle.std.proofs.Common.{subst, arith, Option, Some, None, append_assoc, length-append, ⊎_elim}
 use Rattle.std.specs.Prelude.{option_map}
 use Rattle.std.specs.List.{list_all}
 use Rattle.std.specs.Str.{bytes_eq}
@@ -31,7 +32,11 @@ Said Join o c b l j = j ≡ true
 Said (Operator x) o c b l j = o ≡ true
 Said _ o c b l j = Unit {0}
 
-said : (n u o c b l j : Bool) (e : Option Exact) (k : Class) → cond n (Some Name) (cond u (Some Number) (cond o (option_map Operator e) (cond c (Some Comment) (cond b (Some Blanks) (cond l (Some LineEnd) (cond j (Some Join) None)))))) ≡ Some k → Said k o c b l j
+said : (n u o c b l j : Bool) (e : Option Exact) (k : Class)
+    → cond n (Some Name)
+    (cond u (Some Number)
+    (cond o (option_map Operator e) (cond c (Some Comment) (cond b (Some Blanks) (cond l (Some LineEnd) (cond j (Some Join) None)))))) ≡
+    Some k → Said k o c b l j
 said true u o c b l j e k h = let f : Name ≡ k = cc in subst (λ (m : Class). Said m o c b l j) f tt
 said false true o c b l j e k h = let f : Number ≡ k = cc in subst (λ (m : Class). Said m o c b l j) f tt
 said false false true c b l j (Some e) k h = let f : Operator e ≡ k = cc in subst (λ (m : Class). Said m true c b l j) f refl
@@ -39,7 +44,8 @@ said false false true c b l j None k h = absurd cc
 said false false false true b l j e k h = let f : Comment ≡ k = cc in subst (λ (m : Class). Said m false true b l j) f refl
 said false false false false true l j e k h = let f : Blanks ≡ k = cc in subst (λ (m : Class). Said m false false true l j) f refl
 said false false false false false true j e k h = let f : LineEnd ≡ k = cc in subst (λ (m : Class). Said m false false false true j) f refl
-said false false false false false false true e k h = let f : Join ≡ k = cc in subst (λ (m : Class). Said m false false false false true) f refl
+said false false false false false false true e k h = let f : Join ≡ k = cc in
+    subst (λ (m : Class). Said m false false false false true) f refl
 said false false false false false false false e k h = absurd cc
 
 -- what a class says of a text
@@ -72,7 +78,8 @@ line_end_begins t u e = ⊎_elim
     (λ (a : bytes_eq u (10 ∷ []) ≡ true). ap (λ v. last_line (t ++ v)) ((bytes_eq-Decides u (10 ∷ [])).0 a) ∙ ends_in_newline t)
     (λ (a : bytes_eq u (10 ∷ []) ≡ false).
     let b : bytes_eq u (13 ∷ 10 ∷ []) ≡ true = rw a at e in
-    ap (λ v. last_line (t ++ v)) ((bytes_eq-Decides u (13 ∷ 10 ∷ [])).0 b) ∙ ap last_line (sym (append_assoc t (13 ∷ []) (10 ∷ []))) ∙ ends_in_newline (t ++ 13 ∷ []))
+    ap (λ v. last_line (t ++ v)) ((bytes_eq-Decides u (13 ∷ 10 ∷ [])).0 b) ∙ ap last_line (sym (append_assoc t (13 ∷ []) (10 ∷ [])))
+    ∙ ends_in_newline (t ++ 13 ∷ []))
     (bool_cases (bytes_eq u (10 ∷ [])))
 
 both : (a b : Bool) → (a && b) ≡ true → (a ≡ true) × (b ≡ true)
@@ -88,7 +95,8 @@ goes_on_in_line [] t e = ap last_line (append-nil t) ∙ sym (append-nil (last_l
 goes_on_in_line (c ∷ u) t e =
     let p = both (is_comment_part c) (list_all is_comment_part u) e in
     let n : (c == 10) ≡ false = not_newline (c == 10) (not (c == 13)) p.0 in
-    ap last_line (sym (append_assoc t (c ∷ []) u)) ∙ goes_on_in_line u (t ++ c ∷ []) p.1 ∙ ap (λ l. l ++ u) (in_line t c n) ∙ append_assoc (last_line t) (c ∷ []) u
+    ap last_line (sym (append_assoc t (c ∷ []) u)) ∙ goes_on_in_line u (t ++ c ∷ []) p.1 ∙ ap (λ l. l ++ u) (in_line t c n)
+    ∙ append_assoc (last_line t) (c ∷ []) u
   where
     not_newline : (a b : Bool) → (not a && b) ≡ true → a ≡ false
     not_newline true b e = cc
@@ -100,7 +108,8 @@ comment_in_line [] t e = cc
 comment_in_line (c ∷ u) t e =
     let p = both (c == 35) (list_all is_comment_part u) e in
     let n = hash c p.0 in
-    let l : last_line (t ++ c ∷ u) ≡ last_line t ++ c ∷ u = ap last_line (sym (append_assoc t (c ∷ []) u)) ∙ goes_on_in_line u (t ++ c ∷ []) p.1 ∙ ap (λ l. l ++ u) (in_line t c n) ∙ append_assoc (last_line t) (c ∷ []) u in
+    let l : last_line (t ++ c ∷ u) ≡ last_line t ++ c ∷ u = ap last_line (sym (append_assoc t (c ∷ []) u))
+    ∙ goes_on_in_line u (t ++ c ∷ []) p.1 ∙ ap (λ l. l ++ u) (in_line t c n) ∙ append_assoc (last_line t) (c ∷ []) u in
     let k : length (last_line (t ++ c ∷ u)) ≡ length (last_line t) + suc (length u) = ap length l ∙ length-append (last_line t) (c ∷ u) in
     some_length (length (last_line (t ++ c ∷ u))) (length (last_line t)) (length u) k
   where

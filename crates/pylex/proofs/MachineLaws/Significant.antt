@@ -2,7 +2,8 @@
 --
 -- Carries: none_at_all, all_cut, len_within, significant_at and 2 more, for Carried, Finding,
 -- LexedOn, Lined and 3 more.
-use Rattle.std.proofs.Common.{◌≡◌, ℕ, ◌≤◌, Bool, true, false, ◌&&◌, ◌==◌, not, List, [], ◌∷◌, length, take, refl, sym, ◌∙◌, ap, subst, Option, Some, None, arith, suc, zero, cond, inl, inr, ◌⊎◌, ⊎_elim, eqb, is_some}
+use Rattle.std.proofs.Common.{◌≡◌, ℕ, ◌≤◌, Bool, true, false, ◌&&◌, ◌==◌, not, List, [], ◌∷◌, length, take, refl, sym, ◌∙◌, ap, subst}
+use Rattle.std.proofs.Common.{Option, Some, None, arith, suc, zero, cond, inl, inr, ◌⊎◌, ⊎_elim, eqb, is_some}
 use Rattle.std.specs.Prelude.{option_map}
 use Rattle.std.specs.List.{list_all}
 use Rattle.std.specs.Str.{bytes_eq}
@@ -11,7 +12,8 @@ use Rattle.pylex_lexeme.specs.declared.lexeme.Class.{Class}
 use Rattle.pylex_lexeme.specs.declared.lexeme.Class.TheVariants.{Name, Number, Operator, Comment, Blanks, LineEnd, Join, String}
 use Rattle.pylex_lexeme.specs.Chars.{is_comment_part, is_blank_char}
 use Rattle.pylex_lexeme.specs.Strings.{opens_string, counts_as_string}
-use Rattle.pylex_lexeme.specs.Lexemes.{longest_within, class_in, plain_class, lexeme_len, lexeme_at, Lexeme, is_name, is_comment, are_blanks, is_line_end, is_join}
+use Rattle.pylex_lexeme.specs.Lexemes.{longest_within, class_in, plain_class, lexeme_len, lexeme_at, Lexeme, is_name, is_comment}
+use Rattle.pylex_lexeme.specs.Lexemes.{are_blanks, is_line_end, is_join}
 use Rattle.pylex_lexeme.specs.Numbers.{is_number}
 use Rattle.pylex_lexeme.specs.Operators.{is_operator, exact_of}
 use Rattle.pylex_lexeme.specs.declared.kinds.Exact.{Exact}
@@ -25,16 +27,19 @@ record At (cs : List ℕ) (x : Lexeme) : Type 0 where
   pub text : x.text ≡ take (lexeme_len cs) cs
   pub classed : class_in cs x.text ≡ Some x.«class»
 
-at_by : (cs t : List ℕ) (x : Lexeme) (o : Option Class) → class_in cs t ≡ o → option_map (λ k. record { «class» = k; text = t }) o ≡ Some x → (x.text ≡ t) × (class_in cs x.text ≡ Some x.«class»)
+at_by : (cs t : List ℕ) (x : Lexeme) (o : Option Class) → class_in cs t ≡ o → option_map (λ k. record { «class» = k; text = t }) o ≡ Some x
+    → (x.text ≡ t) × (class_in cs x.text ≡ Some x.«class»)
 at_by cs t x None i e = cc
-at_by cs t x (Some k) i e = subst (λ (y : Lexeme). (y.text ≡ t) × (class_in cs y.text ≡ Some y.«class»)) (some_same (record { «class» = k; text = t }) x e) (refl, i)
+at_by cs t x (Some k) i e = subst (λ (y : Lexeme). (y.text ≡ t) × (class_in cs y.text ≡ Some y.«class»))
+    (some_same (record { «class» = k; text = t }) x e) (refl, i)
   where
     some_same : (a b : Lexeme) → Some a ≡ Some b → a ≡ b
     some_same a b e = cc
 
 at : (cs : List ℕ) (x : Lexeme) → lexeme_at cs ≡ Some x → At cs x
 unfolding lexeme_at
-at cs x e = let p = at_by cs (take (lexeme_len cs) cs) x (class_in cs (take (lexeme_len cs) cs)) refl e in record { text = p.0; classed = p.1 }
+at cs x e = let p = at_by cs (take (lexeme_len cs) cs) x (class_in cs (take (lexeme_len cs) cs)) refl e in
+    record { text = p.0; classed = p.1 }
 
 -- a class that is not String has its own test
 plain_in : (cs t : List ℕ) (k : Class) → class_in cs t ≡ Some k → (k ≡ String → ⊥) → plain_class t ≡ Some k
@@ -47,7 +52,9 @@ plain_in cs t k e n = by (opens_string cs) (counts_as_string cs t) e
     by false s f = f
 
 abbrev chosen : Bool → Bool → Bool → Bool → Bool → Bool → Bool → Option Exact → Option Class
-chosen a b c d e f g x = cond a (Some Name) (cond b (Some Number) (cond c (option_map Operator x) (cond d (Some Comment) (cond e (Some Blanks) (cond f (Some LineEnd) (cond g (Some Join) None))))))
+chosen a b c d e f g x =
+    cond a (Some Name) (cond b (Some Number)
+    (cond c (option_map Operator x) (cond d (Some Comment) (cond e (Some Blanks) (cond f (Some LineEnd) (cond g (Some Join) None))))))
 
 comment_of : (a b c d e f g : Bool) (x : Option Exact) → chosen a b c d e f g x ≡ Some Comment → d ≡ true
 comment_of true b c d e f g x h = cc
@@ -98,7 +105,8 @@ same_bytes (x ∷ xs) (y ∷ ys) e =
 comment_parts : (t : List ℕ) → is_comment t ≡ true → list_all is_comment_part t ≡ true
 unfolding is_comment
 comment_parts [] e = refl
-comment_parts (c ∷ t) e = let p = and_parts (c == 35) (list_all is_comment_part t) e in let f : c ≡ 35 = eqb-true c 35 p.0 in rw (f, p.1) refl
+comment_parts (c ∷ t) e = let p = and_parts (c == 35) (list_all is_comment_part t) e in let f : c ≡ 35 =
+    eqb-true c 35 p.0 in rw (f, p.1) refl
 
 blank_parts : (t : List ℕ) → are_blanks t ≡ true → list_all is_blank_char t ≡ true
 unfolding are_blanks
@@ -107,22 +115,27 @@ blank_parts (c ∷ t) e = e
 
 end_parts : (t : List ℕ) → is_line_end t ≡ true → (t ≡ 10 ∷ []) ⊎ (t ≡ 13 ∷ 10 ∷ [])
 unfolding is_line_end
-end_parts t e = ⊎_elim (λ (h : bytes_eq t (10 ∷ []) ≡ true). inl (same_bytes t (10 ∷ []) h)) (λ (h : bytes_eq t (13 ∷ 10 ∷ []) ≡ true). inr (same_bytes t (13 ∷ 10 ∷ []) h)) (or_parts (bytes_eq t (10 ∷ [])) (bytes_eq t (13 ∷ 10 ∷ [])) e)
+end_parts t e = ⊎_elim (λ (h : bytes_eq t (10 ∷ []) ≡ true). inl (same_bytes t (10 ∷ []) h))
+    (λ (h : bytes_eq t (13 ∷ 10 ∷ []) ≡ true). inr (same_bytes t (13 ∷ 10 ∷ []) h))
+    (or_parts (bytes_eq t (10 ∷ [])) (bytes_eq t (13 ∷ 10 ∷ [])) e)
 
 -- a comment holds no CR and no LF
 pub comment_text : (cs : List ℕ) (x : Lexeme) → lexeme_at cs ≡ Some x → x.«class» ≡ Comment → list_all is_comment_part x.text ≡ true
 unfolding plain_class
-comment_text cs x e f = comment_parts x.text (comment_of (is_name x.text) (is_number x.text) (is_operator x.text) (is_comment x.text) (are_blanks x.text) (is_line_end x.text) (is_join x.text) (exact_of x.text) (is_by Comment cs x e f (λ h. cc)))
+comment_text cs x e f = comment_parts x.text (comment_of (is_name x.text) (is_number x.text) (is_operator x.text) (is_comment x.text)
+    (are_blanks x.text) (is_line_end x.text) (is_join x.text) (exact_of x.text) (is_by Comment cs x e f (λ h. cc)))
 
 -- blanks are spaces, tabs and form feeds
 pub blanks_text : (cs : List ℕ) (x : Lexeme) → lexeme_at cs ≡ Some x → x.«class» ≡ Blanks → list_all is_blank_char x.text ≡ true
 unfolding plain_class
-blanks_text cs x e f = blank_parts x.text (blanks_of (is_name x.text) (is_number x.text) (is_operator x.text) (is_comment x.text) (are_blanks x.text) (is_line_end x.text) (is_join x.text) (exact_of x.text) (is_by Blanks cs x e f (λ h. cc)))
+blanks_text cs x e f = blank_parts x.text (blanks_of (is_name x.text) (is_number x.text) (is_operator x.text) (is_comment x.text)
+    (are_blanks x.text) (is_line_end x.text) (is_join x.text) (exact_of x.text) (is_by Blanks cs x e f (λ h. cc)))
 
 -- a line end is LF or CR LF
 pub line_end_text : (cs : List ℕ) (x : Lexeme) → lexeme_at cs ≡ Some x → x.«class» ≡ LineEnd → (x.text ≡ 10 ∷ []) ⊎ (x.text ≡ 13 ∷ 10 ∷ [])
 unfolding plain_class
-line_end_text cs x e f = end_parts x.text (line_end_of (is_name x.text) (is_number x.text) (is_operator x.text) (is_comment x.text) (are_blanks x.text) (is_line_end x.text) (is_join x.text) (exact_of x.text) (is_by LineEnd cs x e f (λ h. cc)))
+line_end_text cs x e f = end_parts x.text (line_end_of (is_name x.text) (is_number x.text) (is_operator x.text) (is_comment x.text)
+    (are_blanks x.text) (is_line_end x.text) (is_join x.text) (exact_of x.text) (is_by LineEnd cs x e f (λ h. cc)))
 
 -- What a significant token begins with
 not_true : (b : Bool) → not b ≡ true → b ≡ false
@@ -188,7 +201,8 @@ not_both : (b : Bool) → b ≡ true → b ≡ false → ⊥
 not_both true e f = cc
 not_both false e f = cc
 
-significant_by : (cs : List ℕ) (x : Lexeme) (k : Class) → begins_significant cs ≡ true → lexeme_at cs ≡ Some x → x.«class» ≡ k → is_significant x ≡ true
+significant_by : (cs : List ℕ) (x : Lexeme) (k : Class) → begins_significant cs ≡ true → lexeme_at cs ≡ Some x → x.«class» ≡ k
+    → is_significant x ≡ true
 unfolding plain_class
 significant_by cs x Name h e f = ap significant_of f
 significant_by cs x Number h e f = ap significant_of f
@@ -196,13 +210,16 @@ significant_by cs x String h e f = ap significant_of f
 significant_by cs x (Operator o) h e f = ap significant_of f
 significant_by cs x Join h e f = ap significant_of f
 significant_by cs x Comment h e f =
-    let t = comment_of (is_name x.text) (is_number x.text) (is_operator x.text) (is_comment x.text) (are_blanks x.text) (is_line_end x.text) (is_join x.text) (exact_of x.text) (is_by Comment cs x e f (λ h. cc)) in
+    let t = comment_of (is_name x.text) (is_number x.text) (is_operator x.text) (is_comment x.text) (are_blanks x.text) (is_line_end x.text)
+    (is_join x.text) (exact_of x.text) (is_by Comment cs x e f (λ h. cc)) in
     absurd (not_both (is_comment x.text) t (ap is_comment (at cs x e).text ∙ significant_comment cs (lexeme_len cs) h))
 significant_by cs x Blanks h e f =
-    let t = blanks_of (is_name x.text) (is_number x.text) (is_operator x.text) (is_comment x.text) (are_blanks x.text) (is_line_end x.text) (is_join x.text) (exact_of x.text) (is_by Blanks cs x e f (λ h. cc)) in
+    let t = blanks_of (is_name x.text) (is_number x.text) (is_operator x.text) (is_comment x.text) (are_blanks x.text) (is_line_end x.text)
+    (is_join x.text) (exact_of x.text) (is_by Blanks cs x e f (λ h. cc)) in
     absurd (not_both (are_blanks x.text) t (ap are_blanks (at cs x e).text ∙ significant_blanks cs (lexeme_len cs) h))
 significant_by cs x LineEnd h e f =
-    let t = line_end_of (is_name x.text) (is_number x.text) (is_operator x.text) (is_comment x.text) (are_blanks x.text) (is_line_end x.text) (is_join x.text) (exact_of x.text) (is_by LineEnd cs x e f (λ h. cc)) in
+    let t = line_end_of (is_name x.text) (is_number x.text) (is_operator x.text) (is_comment x.text) (are_blanks x.text)
+    (is_line_end x.text) (is_join x.text) (exact_of x.text) (is_by LineEnd cs x e f (λ h. cc)) in
     absurd (not_both (is_line_end x.text) t (ap is_line_end (at cs x e).text ∙ significant_line_end cs (lexeme_len cs) h (len_within cs)))
 
 -- a lexeme at the front of what begins a significant token is one

@@ -2,7 +2,8 @@
 --
 -- Carries: remaining_stop, left_stop, left_step, remaining_step and 2 more, for Ahead, LexedOn,
 -- Measured, Carried and 4 more. On: Run.
-use Rattle.std.proofs.Common.{◌≡◌, ℕ, ◌+◌, ◌-◌, ◌<◌, suc, List, [], ◌∷◌, ◌++◌, length, drop, refl, ap, arith, Option, Some, None, length-append}
+use Rattle.std.proofs.Common.{◌≡◌, ℕ, ◌+◌, ◌-◌, ◌<◌, suc, List, [], ◌∷◌, ◌++◌, length, drop, refl, ap, arith, Option, Some, None}
+use Rattle.std.proofs.Common.{length-append}
 use Rattle.std.specs.List.{flat_map}
 use Rattle.pylex.specs.declared.entries.ListingFault.{ListingFault}
 use Rattle.pylex_lexeme.specs.Lexemes.{Lexeme, lexeme_at, cut, cut_after, left_by_cut}
@@ -14,7 +15,8 @@ cut_after_front : (f back : List ℕ) → cut_after (length f) (f ++ back) ≡ c
 cut_after_front [] back = refl
 cut_after_front (d ∷ f) back = cut_after_front f back
 
-pub cut_step : (front back : List ℕ) (x : Lexeme) → lexeme_at (front ++ back) ≡ Some x → x.text ≡ front → 0 < length front → cut (front ++ back) ≡ x ∷ cut back
+pub cut_step : (front back : List ℕ) (x : Lexeme) → lexeme_at (front ++ back) ≡ Some x → x.text ≡ front → 0 < length front
+    → cut (front ++ back) ≡ x ∷ cut back
 unfolding cut
 cut_step [] back x e t n = absurd (omega arith)
 cut_step (c ∷ f) back x e t n =
@@ -30,7 +32,8 @@ drop_front : (f back : List ℕ) (n : ℕ) → drop (length f + n) (f ++ back) �
 drop_front [] back n = let e : 0 + n ≡ n = omega arith in rw e refl
 drop_front (c ∷ f) back n = let e : suc (length f) + n ≡ suc (length f + n) = omega arith in rw e (drop_front f back n)
 
-pub left_step : (front back : List ℕ) (x : Lexeme) → lexeme_at (front ++ back) ≡ Some x → x.text ≡ front → 0 < length front → left_by_cut (front ++ back) ≡ left_by_cut back
+pub left_step : (front back : List ℕ) (x : Lexeme) → lexeme_at (front ++ back) ≡ Some x → x.text ≡ front → 0 < length front
+    → left_by_cut (front ++ back) ≡ left_by_cut back
 unfolding left_by_cut
 left_step front back x e t n =
     let c = cut_step front back x e t n in
@@ -41,14 +44,16 @@ unfolding left_by_cut
 left_stop cs e = let c = cut_stop cs e in rw c refl
 
 -- what is left to list where a lexeme stands, and where none does
-pub remaining_step : (fault : Option ListingFault) (s : State) (front back : List ℕ) (x : Lexeme) → lexeme_at (front ++ back) ≡ Some x → x.text ≡ front → 0 < length front → remaining fault s (front ++ back) ≡ behind_steps (gives s x) (remaining fault (after s x) back)
+pub remaining_step : (fault : Option ListingFault) (s : State) (front back : List ℕ) (x : Lexeme) → lexeme_at (front ++ back) ≡ Some x
+    → x.text ≡ front → 0 < length front → remaining fault s (front ++ back) ≡ behind_steps (gives s x) (remaining fault (after s x) back)
 unfolding remaining
 remaining_step fault s front back x e t n =
     let c = cut_step front back x e t n in
     let l = left_step front back x e t n in
     rw (l, c) (up_to_end-append (gives s x) (run fault (left_by_cut back) (after s x) (cut back)))
 
-pub remaining_stop : (fault : Option ListingFault) (s : State) (cs : List ℕ) → lexeme_at cs ≡ None → remaining fault s cs ≡ up_to_end (stop_of fault s cs)
+pub remaining_stop : (fault : Option ListingFault) (s : State) (cs : List ℕ) → lexeme_at cs ≡ None
+    → remaining fault s cs ≡ up_to_end (stop_of fault s cs)
 unfolding remaining
 remaining_stop fault s cs e =
     let c = cut_stop cs e in

@@ -2,7 +2,8 @@
 --
 -- Carries: pass_line_end, pass_operator, pass_text, machine::find, next_entry. On: Plain,
 -- LexemeClasses, Advancing.
-use Rattle.std.proofs.Common.{◌≡◌, ◌≢◌, ℕ, zero, suc, ◌-◌, cond, Some, None, ◌+◌, ◌<◌, Bool, true, false, not, ◌&&◌, ◌||◌, ◌==◌, nat_lt, List, [], ◌∷◌, length, refl, ap, ◌∙◌, sym, subst, arith, ⊎_elim}
+use Rattle.std.proofs.Common.{◌≡◌, ◌≢◌, ℕ, zero, suc, ◌-◌, cond, Some, None, ◌+◌, ◌<◌, Bool, true, false, not, ◌&&◌, ◌||◌, ◌==◌, nat_lt}
+use Rattle.std.proofs.Common.{List, [], ◌∷◌, length, refl, ap, ◌∙◌, sym, subst, arith, ⊎_elim}
 use Rattle.std.specs.List.{list_all, list_any}
 use Rattle.std.specs.Str.{chars, bytes_eq}
 use Rattle.std.proofs.lemmas.Slice.Eq.{bytes_eq-Decides}
@@ -15,7 +16,8 @@ use Rattle.pylex_lexeme.specs.Chars.{is_blank_char, bytes_in}
 use Rattle.pylex_lexeme.specs.Cuts.{Cuts}
 use Rattle.pylex_lexeme.specs.Operators.{is_operator, is_closer}
 use Rattle.pylex_lexeme.specs.declared.kinds.Exact.{Exact}
-use Rattle.pylex_lexeme.specs.Lexemes.{Lexeme, are_blanks, is_line_end, is_join, is_line_end_class, is_blanks_class, is_join_class, is_opener_class, is_closer_class}
+use Rattle.pylex_lexeme.specs.Lexemes.{Lexeme, are_blanks, is_line_end, is_join, is_line_end_class, is_blanks_class, is_join_class}
+use Rattle.pylex_lexeme.specs.Lexemes.{is_opener_class, is_closer_class}
 use Rattle.pylex_lexeme.proofs.Callers.Booleans.{bool_cases}
 use Rattle.pylex_lexeme.proofs.Callers.Lexemes.{by_words, words}
 use Rattle.pylex.specs.declared.leading_char.LeadingChar.{LeadingChar}
@@ -189,9 +191,16 @@ tells bytes front back k c = by k (lexeme_says (chars bytes) _ c.lexeme)
     by Number s = tt
     by String s = tt
     by Comment s = tt
-    by (Operator o) s = let g = operator_sign (chars front) s in (goes_on front c.counted (sign_even (chars front) g), sign_front (chars front) g)
+    by (Operator o) s = let g = operator_sign (chars front) s in (
+      goes_on front c.counted (sign_even (chars front) g),
+      sign_front (chars front) g,
+    )
     by Blanks s = let g = are_all (chars front) s in (goes_on front c.counted (blanks_even (chars front) g), blanks_front (chars front) g)
-    by LineEnd s = let g = line_end_is (chars front) s in (end_row (chars front) g, end_front (chars front) g, sym (end_bytes (chars front) g) ∙ c.counted)
+    by LineEnd s = let g = line_end_is (chars front) s in (
+      end_row (chars front) g,
+      end_front (chars front) g,
+      sym (end_bytes (chars front) g) ∙ c.counted,
+    )
     by Join s = (join_row (chars front) s, join_front (chars front) s)
 
 -- what is known of a lexeme that is given as it stands
@@ -212,7 +221,8 @@ text_after Blanks e = cc
 text_after LineEnd e = cc
 text_after Join e = cc
 
-pub text_entry : (s : State) (k : Class) (t : List ℕ) → is_text k ≡ true → entry_by s (record { «class» = k; text = t }) ≡ step_of (text_kind k) None s.now (past s.now t) ∷ []
+pub text_entry : (s : State) (k : Class) (t : List ℕ) → is_text k ≡ true → entry_by s (record { «class» = k; text = t }) ≡ step_of
+    (text_kind k) None s.now (past s.now t) ∷ []
 unfolding entry_by
 text_entry s Name t e = refl
 text_entry s Number t e = refl
@@ -223,34 +233,54 @@ text_entry s Blanks t e = cc
 text_entry s LineEnd t e = cc
 text_entry s Join t e = cc
 
-pub operator_entry : (s : State) (o : Exact) (t : List ℕ) → (is_closer o && (s.depth == 0)) ≡ false → entry_by s (record { «class» = Operator o; text = t }) ≡ step_of kinds.Op (Some o) s.now (past s.now t) ∷ []
+pub operator_entry : (s : State) (o : Exact) (t : List ℕ) → (is_closer o && (s.depth == 0)) ≡ false
+    → entry_by s (record { «class» = Operator o; text = t }) ≡ step_of kinds.Op (Some o) s.now (past s.now t) ∷ []
 unfolding entry_by
 operator_entry s o t e = rw e refl
 
-pub line_end_entry : (s : State) (t : List ℕ) → entry_by s (record { «class» = LineEnd; text = t }) ≡ step_of (line_end_kind_of s) None s.now (behind s.now t) ∷ []
+pub line_end_entry : (s : State) (t : List ℕ) → entry_by s (record { «class» = LineEnd; text = t }) ≡ step_of (line_end_kind_of s) None
+    s.now (behind s.now t) ∷ []
 unfolding entry_by
 line_end_entry s t = refl
 
 -- the entries of lexemes, by their points
-pub text_given : (p : LineState) (k : Class) (t : List ℕ) (levels : List ℕ) (kind : Kind) (to : Point) (e : Entry) → is_text k ≡ true → kind ≡ text_kind k → to ≡ past p.now t → step_of kind None p.now to ≡ steps.Entry e → entry_by (with_levels p levels) (record { «class» = k; text = t }) ≡ steps.Entry e ∷ []
+pub text_given : (p : LineState) (k : Class) (t : List ℕ) (levels : List ℕ) (kind : Kind) (to : Point) (e : Entry) → is_text k ≡ true
+    → kind ≡ text_kind k → to ≡ past p.now t → step_of kind None p.now to ≡ steps.Entry e
+    → entry_by (with_levels p levels) (record { «class» = k; text = t }) ≡ steps.Entry e ∷ []
 text_given p k t levels kind to e i is at gives =
     text_entry (with_levels p levels) k t i
     ∙ ap (λ (n : Kind). step_of n None p.now (past p.now t) ∷ []) (sym is)
     ∙ ap (λ (r : Point). step_of kind None p.now r ∷ []) (sym at)
     ∙ ap (λ (s : Step). s ∷ []) gives
 
-pub operator_given : (p : LineState) (o : Exact) (t : List ℕ) (levels : List ℕ) (to : Point) (e : Entry) → (is_closer o && (p.depth == 0)) ≡ false → to ≡ past p.now t → step_of kinds.Op (Some o) p.now to ≡ steps.Entry e → entry_by (with_levels p levels) (record { «class» = Operator o; text = t }) ≡ steps.Entry e ∷ []
+pub operator_given : (p : LineState) (o : Exact) (t : List ℕ) (levels : List ℕ) (to : Point) (e : Entry)
+    → (is_closer o && (p.depth == 0)) ≡ false → to ≡ past p.now t → step_of kinds.Op (Some o) p.now to ≡ steps.Entry e
+    → entry_by (with_levels p levels) (record { «class» = Operator o; text = t }) ≡ steps.Entry e ∷ []
 operator_given p o t levels to e none at gives =
     operator_entry (with_levels p levels) o t none
     ∙ ap (λ (r : Point). step_of kinds.Op (Some o) p.now r ∷ []) (sym at)
     ∙ ap (λ (s : Step). s ∷ []) gives
 
-pub line_end_given : (p : LineState) (bs : List ℕ) (levels : List ℕ) (kind : Kind) (e : Entry) → line_end_kind_of (with_levels p levels) ≡ kind → length (chars bs) ≡ length bs → bytes_in (chars bs) ≡ length bs → step_of kind None p.now (record { place = record { row = p.now.place.row; column = p.now.place.column + length bs }; offset = p.now.offset + length bs }) ≡ steps.Entry e → entry_by (with_levels p levels) (record { «class» = LineEnd; text = chars bs }) ≡ steps.Entry e ∷ []
+pub line_end_given : (p : LineState) (bs : List ℕ) (levels : List ℕ) (kind : Kind) (e : Entry)
+    → line_end_kind_of (with_levels p levels) ≡ kind → length (chars bs) ≡ length bs → bytes_in (chars bs) ≡ length bs
+    → step_of kind None p.now (record {
+      place = record { row = p.now.place.row; column = p.now.place.column + length bs };
+      offset =
+          p.now.offset + length bs;
+    }) ≡ steps.Entry e
+    → entry_by (with_levels p levels) (record { «class» = LineEnd; text = chars bs }) ≡ steps.Entry e ∷ []
 line_end_given p bs levels kind e is many counted gives =
     line_end_entry (with_levels p levels) (chars bs)
     ∙ ap (λ (n : Kind). step_of n None p.now (behind p.now (chars bs)) ∷ []) is
-    ∙ ap (λ (n : ℕ). step_of kind None p.now (record { place = record { row = p.now.place.row; column = p.now.place.column + n }; offset = p.now.offset + bytes_in (chars bs) }) ∷ []) many
-    ∙ ap (λ (n : ℕ). step_of kind None p.now (record { place = record { row = p.now.place.row; column = p.now.place.column + length bs }; offset = p.now.offset + n }) ∷ []) counted
+    ∙ ap (λ (n : ℕ). step_of kind None p.now (record {
+      place = record { row = p.now.place.row; column = p.now.place.column + n };
+      offset =
+          p.now.offset + bytes_in (chars bs);
+    }) ∷ []) many
+    ∙ ap (λ (n : ℕ). step_of kind None p.now (record {
+      place = record { row = p.now.place.row; column = p.now.place.column + length bs };
+      offset = p.now.offset + n;
+    }) ∷ []) counted
     ∙ ap (λ (s : Step). s ∷ []) gives
 
 pub or_none : (b : Bool) → b ≡ (b || false)
@@ -258,7 +288,8 @@ or_none true = refl
 or_none false = refl
 
 -- past it there is room for what follows
-pub passed_room : (p : LineState) (k : Class) (text : List ℕ) (q : LineState) → p.margin ≡ false → Passed p k (chars text) q → bytes_in (chars text) ≡ length text → 0 < length text → (n : ℕ) → HasRoom p (length text + n) → HasRoom q n
+pub passed_room : (p : LineState) (k : Class) (text : List ℕ) (q : LineState) → p.margin ≡ false → Passed p k (chars text) q
+    → bytes_in (chars text) ≡ length text → 0 < length text → (n : ℕ) → HasRoom p (length text + n) → HasRoom q n
 unfolding after
 passed_room p k text q m is counted some n room =
     let x : Lexeme = record { «class» = k; text = chars text } in
@@ -266,7 +297,8 @@ passed_room p k text q m is counted some n room =
     let now : q.now ≡ past p.now (chars text) = ap (λ (s : State). s.now) (is []) in
     let offset : q.now.offset ≡ p.now.offset + bytes_in (chars text) = ap (λ (r : Point). r.offset) now in
     let depth : q.depth ≡ p.depth + count_if (opens x) - count_if (closes x) = ap (λ (s : State). s.depth) (is []) in
-    let width : q.width ≡ 0 = ap (λ (s : State). s.width) (is []) ∙ none (is_line_end_class k && (p.depth == 0)) (is_blanks_class k) p.margin _ m in
+    let width : q.width ≡ 0 = ap (λ (s : State). s.width) (is [])
+    ∙ none (is_line_end_class k && (p.depth == 0)) (is_blanks_class k) p.margin _ m in
     room_on p x q (length text) n now depth (omega arith) (omega (arith, chars_le, counted)) (omega (arith, width)) some room
   where
     none : (e b m : Bool) (w : ℕ) → m ≡ false → cond e 0 (still (b && m) w) ≡ 0

@@ -30,10 +30,12 @@ nil_of_length (b ∷ bs) e = cc
 pub no_chars : (bs : List ℕ) → length bs ≡ 0 → chars bs ≡ []
 no_chars bs e = ap chars (nil_of_length bs e) ∙ chars-nil
 
-pub advance_feed : (p : Place) (c : ℕ) (cs : List ℕ) → c ≡ 10 → place_past p (c ∷ cs) ≡ place_past (record { row = p.row + 1; column = 0 }) cs
+pub advance_feed : (p : Place) (c : ℕ) (cs : List ℕ) → c ≡ 10
+    → place_past p (c ∷ cs) ≡ place_past (record { row = p.row + 1; column = 0 }) cs
 advance_feed p c cs e = rw e refl
 
-pub advance_other : (p : Place) (c : ℕ) (cs : List ℕ) → (c ≡ 10 → ⊥) → place_past p (c ∷ cs) ≡ place_past (record { row = p.row; column = p.column + 1 }) cs
+pub advance_other : (p : Place) (c : ℕ) (cs : List ℕ) → (c ≡ 10 → ⊥)
+    → place_past p (c ∷ cs) ≡ place_past (record { row = p.row; column = p.column + 1 }) cs
 advance_other p c cs e = let f : eqb c 10 ≡ false = grind (arith, nat_tests) in rw f refl
 
 pub width_more : (n c : ℕ) (cs : List ℕ) → width_from n (c ∷ cs) ≡ width_from (column_after n c) cs

@@ -1,7 +1,8 @@
 -- Sources that agree from an offset's line on agree from each later one's on.
 --
 -- Carries: same_front_bytes, agrees_on, for CursorBounds, Cursoring. On: Resume, Law.
-use Rattle.std.proofs.Common.{◌≡◌, ℕ, suc, ◌+◌, ◌-◌, ◌≤◌, true, false, ◌==◌, List, [], ◌∷◌, ◌++◌, length, drop, reverse, refl, ap, ◌∙◌, sym, arith, append_assoc, ⊎_elim}
+use Rattle.std.proofs.Common.{◌≡◌, ℕ, suc, ◌+◌, ◌-◌, ◌≤◌, true, false, ◌==◌, List, [], ◌∷◌, ◌++◌, length, drop, reverse, refl, ap, ◌∙◌, sym}
+use Rattle.std.proofs.Common.{arith, append_assoc, ⊎_elim}
 use Rattle.std.specs.List.{take_while, prefix_len}
 use Rattle.std.proofs.lemmas.List.{append-nil, reverse-append, reverse-reverse}
 use Rattle.std.proofs.lemmas.List.Sums.{take_while-cons}
@@ -46,7 +47,8 @@ whole_lines : (f u : List ℕ) → last_line (lines_before f ++ u) ≡ last_line
 unfolding last_line
 whole_lines f u =
     let r = reverse f in
-    ap (λ t. reverse (take_while goes_on t)) (reverse-append (lines_before f) u ∙ ap (λ t. reverse u ++ t) (reverse-reverse (drop (prefix_len goes_on r) r)))
+    ap (λ t. reverse (take_while goes_on t)) (reverse-append (lines_before f) u
+    ∙ ap (λ t. reverse u ++ t) (reverse-reverse (drop (prefix_len goes_on r) r)))
     ∙ ap reverse (stops_behind (reverse u) r)
 
 -- A text's whole lines before an offset, and what begins with the offset's line.
@@ -72,8 +74,11 @@ lined n text =
     let fb = front_bytes text n in
     let lb : line_begin n text ≡ bytes_in pre = omega arith in
     let fp : front_to (bytes_in pre) text ≡ pre =
-    ap (front_to (bytes_in pre)) ts ∙ front_in pre (line ++ back) (bytes_in pre) (omega arith) ∙ ap (λ k. pre ++ front_to k (line ++ back)) (no_less (bytes_in pre)) ∙ ap (λ t. pre ++ t) (front_zero (line ++ back)) ∙ append-nil pre in
-    let bf : back_from (bytes_in pre) text ≡ line ++ back = ap (λ t. drop (length t) text) fp ∙ ap (drop (length pre)) ts ∙ drop_of pre (line ++ back) in
+    ap (front_to (bytes_in pre)) ts ∙ front_in pre (line ++ back) (bytes_in pre) (omega arith)
+    ∙ ap (λ k. pre ++ front_to k (line ++ back)) (no_less (bytes_in pre))
+    ∙ ap (λ t. pre ++ t) (front_zero (line ++ back)) ∙ append-nil pre in
+    let bf : back_from (bytes_in pre) text ≡ line ++ back = ap (λ t. drop (length t) text) fp ∙ ap (drop (length pre)) ts
+    ∙ drop_of pre (line ++ back) in
     let bl : back_from (line_begin n text) text ≡ line ++ back = ap (λ k. back_from k text) lb ∙ bf in
     record {
       lines = pre;
@@ -90,7 +95,8 @@ drop_parts (c ∷ a) x b = drop_parts a x b
 -- A later offset, told by what begins with the line.
 record Onward (n m : ℕ) (text : List ℕ) : Type 0 where
   begins : line_begin m text ≡ line_begin n text + line_begin (m - line_begin n text) (back_from (line_begin n text) text)
-  same : back_from (line_begin m text) text ≡ back_from (line_begin (m - line_begin n text) (back_from (line_begin n text) text)) (back_from (line_begin n text) text)
+  same : back_from (line_begin m text) text ≡ back_from (line_begin (m - line_begin n text) (back_from (line_begin n text) text))
+      (back_from (line_begin n text) text)
   sizes : bytes_in (front_to m text) ≡ line_begin n text + bytes_in (front_to (m - line_begin n text) (back_from (line_begin n text) text))
 
 onward : (n m : ℕ) (text : List ℕ) → n ≤ m → Onward n m text
@@ -104,18 +110,22 @@ onward n m text h =
     let le : bytes_in pre ≤ m = omega arith in
     let at = λ (k : ℕ) (i : bytes_in pre ≤ k). ap (front_to k) d.whole ∙ front_in pre rest k i ∙ ap (λ j. pre ++ front_to (k - j) rest) b in
     let fm : front_to m text ≡ pre ++ front_to (m - c) rest = at m le in
-    let sm : bytes_in (front_to m text) ≡ c + bytes_in (front_to (m - c) rest) = ap bytes_in fm ∙ bytes_in-append pre (front_to (m - c) rest) ∙ ap (λ j. j + bytes_in (front_to (m - c) rest)) b in
+    let sm : bytes_in (front_to m text) ≡ c + bytes_in (front_to (m - c) rest) = ap bytes_in fm
+    ∙ bytes_in-append pre (front_to (m - c) rest) ∙ ap (λ j. j + bytes_in (front_to (m - c) rest)) b in
     let lm : last_line (front_to m text) ≡ last_line (front_to (m - c) rest) = ap last_line fm ∙ d.skips (front_to (m - c) rest) in
     let lb : bytes_in (last_line (front_to m text)) ≡ bytes_in (last_line (front_to (m - c) rest)) = ap bytes_in lm in
     let i = lined (m - c) rest in
-    let split : bytes_in (lines_before (front_to (m - c) rest)) + bytes_in (last_line (front_to (m - c) rest)) ≡ bytes_in (front_to (m - c) rest) = sym (bytes_in-append (lines_before (front_to (m - c) rest)) (last_line (front_to (m - c) rest))) ∙ ap bytes_in (last_split (front_to (m - c) rest)) in
+    let split : bytes_in (lines_before (front_to (m - c) rest)) + bytes_in (last_line (front_to (m - c) rest)) ≡ bytes_in
+    (front_to (m - c) rest) = sym (bytes_in-append (lines_before (front_to (m - c) rest)) (last_line (front_to (m - c) rest)))
+    ∙ ap bytes_in (last_split (front_to (m - c) rest)) in
     let j = line_begin (m - c) rest in
     let begins : line_begin m text ≡ c + j = omega arith in
     let fj : front_to (c + j) text ≡ pre ++ front_to ((c + j) - c) rest = at (c + j) (omega arith) in
     let less : (c + j) - c ≡ j = omega arith in
     record {
       begins = begins;
-      same = ap (λ k. back_from k text) begins ∙ ap (λ t. drop (length t) text) (fj ∙ ap (λ k. pre ++ front_to k rest) less) ∙ ap (drop (length (pre ++ front_to j rest))) d.whole ∙ drop_parts pre (front_to j rest) rest;
+      same = ap (λ k. back_from k text) begins ∙ ap (λ t. drop (length t) text) (fj ∙ ap (λ k. pre ++ front_to k rest) less)
+          ∙ ap (drop (length (pre ++ front_to j rest))) d.whole ∙ drop_parts pre (front_to j rest) rest;
       sizes = sm;
     }
 
@@ -129,8 +139,10 @@ agrees_on a b n m h g =
       encoding = g.encoding;
       fault = g.fault;
       same_length = g.same_length;
-      begins = p.begins ∙ ap (λ k. k + line_begin (m - k) (back_from (line_begin n a.text) a.text)) e ∙ ap (λ t. line_begin n b.text + line_begin (m - line_begin n b.text) t) s ∙ sym q.begins;
-      same = p.same ∙ ap (λ k. back_from (line_begin (m - k) (back_from (line_begin n a.text) a.text)) (back_from (line_begin n a.text) a.text)) e ∙ ap (λ t. back_from (line_begin (m - line_begin n b.text) t) t) s ∙ sym q.same;
+      begins = p.begins ∙ ap (λ k. k + line_begin (m - k) (back_from (line_begin n a.text) a.text)) e
+          ∙ ap (λ t. line_begin n b.text + line_begin (m - line_begin n b.text) t) s ∙ sym q.begins;
+      same = p.same ∙ ap (λ k. back_from (line_begin (m - k) (back_from (line_begin n a.text) a.text))
+          (back_from (line_begin n a.text) a.text)) e ∙ ap (λ t. back_from (line_begin (m - line_begin n b.text) t) t) s ∙ sym q.same;
     }
 
 -- an offset where a character of one ends is one where a character of the other ends
@@ -140,4 +152,5 @@ same_front_bytes a b n g =
     let q = onward n n b.text (omega arith) in
     let e = g.begins in
     let s = g.same in
-    p.sizes ∙ ap (λ k. k + bytes_in (front_to (n - k) (back_from (line_begin n a.text) a.text))) e ∙ ap (λ t. line_begin n b.text + bytes_in (front_to (n - line_begin n b.text) t)) s ∙ sym q.sizes
+    p.sizes ∙ ap (λ k. k + bytes_in (front_to (n - k) (back_from (line_begin n a.text) a.text))) e
+    ∙ ap (λ t. line_begin n b.text + bytes_in (front_to (n - line_begin n b.text) t)) s ∙ sym q.sizes

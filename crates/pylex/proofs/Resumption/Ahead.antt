@@ -2,7 +2,8 @@
 --
 -- Carries: Placed, front_is, history_is, placed_first and 16 more, for Points, Resuming, Cursoring,
 -- Looking and 4 more. On: Resume, Law, Steps, Resumed and 4 more.
-use Rattle.std.proofs.Common.{◌≡◌, ℕ, ◌-◌, Bool, true, false, not, ◌&&◌, ◌||◌, ◌==◌, cond, List, [], ◌∷◌, ◌++◌, length, drop, refl, ap, ◌∙◌, sym, subst, arith, Option, Some, append_assoc, ⊎_elim}
+use Rattle.std.proofs.Common.{◌≡◌, ℕ, ◌-◌, Bool, true, false, not, ◌&&◌, ◌||◌, ◌==◌, cond, List, [], ◌∷◌, ◌++◌, length, drop, refl, ap, ◌∙◌}
+use Rattle.std.proofs.Common.{sym, subst, arith, Option, Some, append_assoc, ⊎_elim}
 use Rattle.std.proofs.lemmas.List.{append-nil}
 use Rattle.std.proofs.lemmas.Bool.Decides.{nat_tests}
 use Rattle.pylex_lexeme.specs.declared.lexeme.Class.{Class}
@@ -10,7 +11,8 @@ use Rattle.pylex_lexeme.specs.declared.lexeme.Class.TheVariants.{Name, Number, S
 use Rattle.pylex.specs.declared.entries.ListingFault.{ListingFault}
 use Rattle.pylex.specs.declared.entries.Step.{Step}
 use Rattle.pylex_lexeme.specs.Lexemes.{Lexeme, lexeme_at, cut, left_by_cut}
-use Rattle.pylex.specs.Lines.{text_before, depth, opens, closes, is_of_blanks, is_of_line_end, is_significant, line_so_far, is_at_margin, is_logical}
+use Rattle.pylex.specs.Lines.{text_before, depth, opens, closes, is_of_blanks, is_of_line_end, is_significant, line_so_far, is_at_margin}
+use Rattle.pylex.specs.Lines.{is_logical}
 use Rattle.pylex_lexeme.specs.Chars.{bytes_in}
 use Rattle.pylex.specs.Indentation.{width_at, widths, open_levels}
 use Rattle.pylex.specs.Listing.{Source, last_line, ends_in_join, up_to_end, stop_fault}
@@ -30,7 +32,8 @@ use Rattle.pylex.proofs.MachineLaws.LexemeClasses.{Says, line_end_begins, commen
 
 -- what is given from behind these lexemes on, by a cursor there alone
 unfoldable pub ahead : Source → Bool → List Lexeme → List Step
-ahead s indented h = remaining s.fault (resumed (cursor_at 0 0 indented h) (last_line (front_to (bytes_in (text_before h)) s.text))) (back_from (bytes_in (text_before h)) s.text)
+ahead s indented h = remaining s.fault (resumed (cursor_at 0 0 indented h) (last_line (front_to (bytes_in (text_before h)) s.text)))
+    (back_from (bytes_in (text_before h)) s.text)
 
 -- a source is cut into lexemes before a place, those after it, and what is left
 pub record Placed (s : Source) (h xs : List Lexeme) (text left : List ℕ) : Type 0 where
@@ -44,7 +47,8 @@ onto_push : (fs : List Lexeme) (h : List Lexeme) (x : Lexeme) → onto (fs ++ x 
 onto_push [] h x = refl
 onto_push (f ∷ fs) h x = onto_push fs (f ∷ h) x
 
-pub placed_next : (s : Source) (h xs : List Lexeme) (x : Lexeme) (text left : List ℕ) → (p : Placed s h (x ∷ xs) text left) → Placed s (x ∷ h) xs p.lexemes.0 left
+pub placed_next : (s : Source) (h xs : List Lexeme) (x : Lexeme) (text left : List ℕ) → (p : Placed s h (x ∷ xs) text left)
+    → Placed s (x ∷ h) xs p.lexemes.0 left
 placed_next s h xs x text left p = record {
   fronts = p.fronts ++ x ∷ [];
   history = ap (λ g. x ∷ g) p.history ∙ sym (onto_push p.fronts [] x);
@@ -61,13 +65,16 @@ full_behind [] xs f = f
 full_behind (x ∷ fs) xs f = full_behind fs xs f.1
 
 -- the lexemes up to a place are those before it
-pub history_is : (s : Source) (h xs : List Lexeme) (text left : List ℕ) → Placed s h xs text left → lexemes_to (bytes_in (text_before h)) [] (cut s.text) ≡ h
+pub history_is : (s : Source) (h xs : List Lexeme) (text left : List ℕ) → Placed s h xs text left
+    → lexemes_to (bytes_in (text_before h)) [] (cut s.text) ≡ h
 history_is s h xs text left p =
     let f = full_behind p.fronts xs (subst Full p.whole (cut_full s.text)) in
-    ap (λ g. lexemes_to (bytes_in (text_before g)) [] (cut s.text)) p.history ∙ ap (lexemes_to (bytes_in (text_before (onto p.fronts []))) []) p.whole ∙ lexemes_at p.fronts [] xs f ∙ sym p.history
+    ap (λ g. lexemes_to (bytes_in (text_before g)) [] (cut s.text)) p.history
+    ∙ ap (lexemes_to (bytes_in (text_before (onto p.fronts []))) []) p.whole ∙ lexemes_at p.fronts [] xs f ∙ sym p.history
 
 pub front_is : (a b : List ℕ) → front_to (bytes_in a) (a ++ b) ≡ a
-front_is a b = front_in a b (bytes_in a) (omega arith) ∙ ap (λ n. a ++ front_to n b) (none (bytes_in a)) ∙ ap (λ t. a ++ t) (front_zero b) ∙ append-nil a
+front_is a b = front_in a b (bytes_in a) (omega arith) ∙ ap (λ n. a ++ front_to n b) (none (bytes_in a))
+    ∙ ap (λ t. a ++ t) (front_zero b) ∙ append-nil a
   where
     none : (n : ℕ) → n - n ≡ 0
     none n = omega arith
@@ -92,10 +99,12 @@ cut_as (x ∷ xs) text left l =
     }
 
 -- what is ahead of a place is the run from the state that a cursor tells
-pub ahead_runs : (s : Source) (indented : Bool) (h xs : List Lexeme) (text left : List ℕ) → Placed s h xs text left → ahead s indented h ≡ up_to_end (run s.fault left (resumed (cursor_at 0 0 indented h) (last_line (text_before h))) xs)
+pub ahead_runs : (s : Source) (indented : Bool) (h xs : List Lexeme) (text left : List ℕ) → Placed s h xs text left
+    → ahead s indented h ≡ up_to_end (run s.fault left (resumed (cursor_at 0 0 indented h) (last_line (text_before h))) xs)
 unfolding ahead remaining
 ahead_runs s indented h xs text left p =
-    let f : front_to (bytes_in (text_before h)) s.text ≡ text_before h = ap (front_to (bytes_in (text_before h))) p.parts ∙ front_is (text_before h) text in
+    let f : front_to (bytes_in (text_before h)) s.text ≡ text_before h = ap (front_to (bytes_in (text_before h))) p.parts
+    ∙ front_is (text_before h) text in
     let b : drop (length (text_before h)) s.text ≡ text = ap (drop (length (text_before h))) p.parts ∙ drop_front (text_before h) text in
     let c = cut_as xs text left p.lexemes in
     let d = c.cut_is in
@@ -114,7 +123,8 @@ or_parts false b e = (refl, e)
 neutral : (x : Lexeme) → is_significant x ≡ false → (opens x ≡ false) × (closes x ≡ false)
 neutral x e = by_class x.«class» x.text e
   where
-    by_class : (k : Class) (t : List ℕ) → is_significant (record { «class» = k; text = t }) ≡ false → (opens (record { «class» = k; text = t }) ≡ false) × (closes (record { «class» = k; text = t }) ≡ false)
+    by_class : (k : Class) (t : List ℕ) → is_significant (record { «class» = k; text = t }) ≡ false
+        → (opens (record { «class» = k; text = t }) ≡ false) × (closes (record { «class» = k; text = t }) ≡ false)
     by_class Name t e = (refl, refl)
     by_class Number t e = (refl, refl)
     by_class String t e = (refl, refl)
@@ -127,7 +137,8 @@ neutral x e = by_class x.«class» x.text e
 no_significant_in : (x : Lexeme) → is_of_line_end x ≡ true → is_significant x ≡ false
 no_significant_in x e = by_class x.«class» x.text e
   where
-    by_class : (k : Class) (t : List ℕ) → is_of_line_end (record { «class» = k; text = t }) ≡ true → is_significant (record { «class» = k; text = t }) ≡ false
+    by_class : (k : Class) (t : List ℕ) → is_of_line_end (record { «class» = k; text = t }) ≡ true
+        → is_significant (record { «class» = k; text = t }) ≡ false
     by_class Name t e = cc
     by_class Number t e = cc
     by_class String t e = cc
@@ -162,7 +173,9 @@ closed_without (x ∷ before) e = ⊎_elim
     (bool_cases (is_of_line_end x && (depth before == 0)))
 
 -- The state that a cursor tells behind a lexeme with an entry.
-pub resumed_in : (h : List Lexeme) → is_at_margin h ≡ false → ends_in_join h ≡ false → (not (is_logical h) && (length (last_line (text_before h)) == 0)) ≡ false → resumed (cursor_at 0 0 false h) (last_line (text_before h)) ≡ begun_at (state_of h) (point_after (text_before h))
+pub resumed_in : (h : List Lexeme) → is_at_margin h ≡ false → ends_in_join h ≡ false
+    → (not (is_logical h) && (length (last_line (text_before h)) == 0)) ≡ false
+    → resumed (cursor_at 0 0 false h) (last_line (text_before h)) ≡ begun_at (state_of h) (point_after (text_before h))
 unfolding resumed cursor_at state_of
 resumed_in h m j b =
     let c = sym (column_is (text_before h)) in
@@ -175,13 +188,17 @@ unfolding line_so_far
 starts_line h x e = rw e refl
 
 -- elsewhere a line goes on
-pub line_is_on : (h : List Lexeme) (x : Lexeme) → is_of_blanks x ≡ false → (is_of_line_end x && (depth h == 0)) ≡ false → is_at_margin (x ∷ h) ≡ false
+pub line_is_on : (h : List Lexeme) (x : Lexeme) → is_of_blanks x ≡ false → (is_of_line_end x && (depth h == 0)) ≡ false
+    → is_at_margin (x ∷ h) ≡ false
 line_is_on h x b e = margin_push h x ∙ ap (λ t. t || (is_of_blanks x && is_at_margin h)) e ∙ ap (λ t. t && is_at_margin h) b
 
-pub logical_on : (h : List Lexeme) (x : Lexeme) → (is_of_line_end x && (depth h == 0)) ≡ false → is_logical (x ∷ h) ≡ (is_significant x || is_logical h)
+pub logical_on : (h : List Lexeme) (x : Lexeme) → (is_of_line_end x && (depth h == 0)) ≡ false
+    → is_logical (x ∷ h) ≡ (is_significant x || is_logical h)
 logical_on h x e = logical_push h x ∙ ap (λ t. not t && (is_significant x || is_logical h)) e
 
-pub begun_or_filled : (h : List Lexeme) (x : Lexeme) → Says x.«class» x.text → is_of_blanks x ≡ false → (is_of_line_end x && (depth h == 0)) ≡ false → (not (is_significant x || is_logical h) && (length (last_line (text_before h ++ x.text)) == 0)) ≡ false
+pub begun_or_filled : (h : List Lexeme) (x : Lexeme) → Says x.«class» x.text → is_of_blanks x ≡ false
+    → (is_of_line_end x && (depth h == 0)) ≡ false
+    → (not (is_significant x || is_logical h) && (length (last_line (text_before h ++ x.text)) == 0)) ≡ false
 begun_or_filled h x y b e = by_class x.«class» x.text y b e
   where
     in_brackets : (l : Bool) → is_logical h ≡ l → (depth h == 0) ≡ false → l ≡ true
@@ -198,7 +215,10 @@ begun_or_filled h x y b e = by_class x.«class» x.text y b e
     logical : (l z : Bool) → l ≡ true → (not l && z) ≡ false
     logical l z e = rw e refl
 
-    by_class : (k : Class) (t : List ℕ) → Says k t → is_of_blanks (record { «class» = k; text = t }) ≡ false → (is_of_line_end (record { «class» = k; text = t }) && (depth h == 0)) ≡ false → (not (is_significant (record { «class» = k; text = t }) || is_logical h) && (length (last_line (text_before h ++ t)) == 0)) ≡ false
+    by_class : (k : Class) (t : List ℕ) → Says k t → is_of_blanks (record { «class» = k; text = t }) ≡ false
+        → (is_of_line_end (record { «class» = k; text = t }) && (depth h == 0)) ≡ false
+        → (not (is_significant (record { «class» = k; text = t }) || is_logical h) && (length (last_line (text_before h ++ t)) == 0)) ≡
+        false
     by_class Name t y b e = refl
     by_class Number t y b e = refl
     by_class String t y b e = refl
@@ -208,10 +228,12 @@ begun_or_filled h x y b e = by_class x.«class» x.text y b e
     by_class LineEnd t y b e = logical (is_logical h) (length (last_line (text_before h ++ t)) == 0) (in_brackets (is_logical h) refl e)
     by_class Join t y b e = refl
 
-pub line_end_text : (h : List Lexeme) (x : Lexeme) → Says x.«class» x.text → is_of_line_end x ≡ true → last_line (text_before h ++ x.text) ≡ []
+pub line_end_text : (h : List Lexeme) (x : Lexeme) → Says x.«class» x.text → is_of_line_end x ≡ true
+    → last_line (text_before h ++ x.text) ≡ []
 line_end_text h x y e = by_class x.«class» x.text y e
   where
-    by_class : (k : Class) (t : List ℕ) → Says k t → is_of_line_end (record { «class» = k; text = t }) ≡ true → last_line (text_before h ++ t) ≡ []
+    by_class : (k : Class) (t : List ℕ) → Says k t → is_of_line_end (record { «class» = k; text = t }) ≡ true
+        → last_line (text_before h ++ t) ≡ []
     by_class Name t y e = cc
     by_class Number t y e = cc
     by_class String t y e = cc
@@ -225,23 +247,36 @@ state_margin : (h : List Lexeme) → is_at_margin h ≡ false → (state_of h).m
 unfolding state_of
 state_margin h m = m
 
-own_run : (fault : Option ListingFault) (left : List ℕ) (h xs : List Lexeme) (x : Lexeme) → Says x.«class» x.text → is_of_blanks x ≡ false → is_of_join x ≡ false → run fault left (resumed (cursor_at 0 0 false (x ∷ h)) (last_line (text_before (x ∷ h)))) xs ≡ run fault left (state_of (x ∷ h)) xs
+own_run : (fault : Option ListingFault) (left : List ℕ) (h xs : List Lexeme) (x : Lexeme) → Says x.«class» x.text → is_of_blanks x ≡ false
+    → is_of_join x ≡ false → run fault left (resumed (cursor_at 0 0 false (x ∷ h)) (last_line (text_before (x ∷ h)))) xs ≡ run fault
+    left (state_of (x ∷ h)) xs
 own_run fault left h xs x y b j = ⊎_elim
     (λ (e : (is_of_line_end x && (depth h == 0)) ≡ true).
     let p = and_parts (is_of_line_end x) (depth h == 0) e in
     ap (λ s. run fault left s xs) (resumed_start (x ∷ h) 0 0 (starts_line h x e) j (line_end_text h x y p.0)))
     (λ (e : (is_of_line_end x && (depth h == 0)) ≡ false).
     let m = line_is_on h x b e in
-    let l : (not (is_logical (x ∷ h)) && (length (last_line (text_before (x ∷ h))) == 0)) ≡ false = ap (λ t. not t && (length (last_line (text_before (x ∷ h))) == 0)) (logical_on h x e) ∙ begun_or_filled h x y b e in
-    ap (λ s. run fault left s xs) (resumed_in (x ∷ h) m j l) ∙ sym (run_same fault left xs (state_of (x ∷ h)) (point_after (text_before (x ∷ h))) (state_margin (x ∷ h) m)))
+    let l : (not (is_logical (x ∷ h)) && (length (last_line (text_before (x ∷ h))) == 0)) ≡ false =
+    ap (λ t. not t && (length (last_line (text_before (x ∷ h))) == 0)) (logical_on h x e) ∙ begun_or_filled h x y b e in
+    ap (λ s. run fault left s xs) (resumed_in (x ∷ h) m j l)
+    ∙ sym (run_same fault left xs (state_of (x ∷ h)) (point_after (text_before (x ∷ h))) (state_margin (x ∷ h) m)))
     (bool_cases (is_of_line_end x && (depth h == 0)))
 
-pub ahead_own : (s : Source) (h xs : List Lexeme) (x : Lexeme) (text left : List ℕ) → Placed s (x ∷ h) xs text left → Says x.«class» x.text → is_of_blanks x ≡ false → is_of_join x ≡ false → ahead s false (x ∷ h) ≡ up_to_end (run s.fault left (state_of (x ∷ h)) xs)
+pub ahead_own : (s : Source) (h xs : List Lexeme) (x : Lexeme) (text left : List ℕ) → Placed s (x ∷ h) xs text left → Says x.«class» x.text
+    → is_of_blanks x ≡ false → is_of_join x ≡ false → ahead s false (x ∷ h) ≡ up_to_end (run s.fault left (state_of (x ∷ h)) xs)
 ahead_own s h xs x text left p y b j = ahead_runs s false (x ∷ h) xs text left p ∙ ap up_to_end (own_run s.fault left h xs x y b j)
 
 -- The state that a cursor tells behind an INDENT: the line has begun, and its level is open.
 abbrev pub measured : List Lexeme → State
-measured h = record (state_of h) { line = point_after (text_before h); levels = pushed (width_at h) (open_levels (widths h)); margin = false; width = 0; logical = true; joined = false }
+measured h = record (state_of h) {
+  line = point_after (text_before h);
+  levels = pushed (width_at h) (open_levels (widths h));
+  margin =
+      false;
+  width = 0;
+  logical = true;
+  joined = false;
+}
 
 pub resumed_indented : (h : List Lexeme) → resumed (cursor_at 0 0 true h) (last_line (text_before h)) ≡ measured h
 unfolding resumed cursor_at state_of
@@ -263,7 +298,8 @@ measured_entry : (h : List Lexeme) (x : Lexeme) → is_significant x ≡ true �
 unfolding entry_by
 measured_entry h x e = by_class x.«class» x.text e
   where
-    by_class : (k : Class) (t : List ℕ) → is_significant (record { «class» = k; text = t }) ≡ true → entry_by (measured h) (record { «class» = k; text = t }) ≡ entry_by (state_of h) (record { «class» = k; text = t })
+    by_class : (k : Class) (t : List ℕ) → is_significant (record { «class» = k; text = t }) ≡ true
+        → entry_by (measured h) (record { «class» = k; text = t }) ≡ entry_by (state_of h) (record { «class» = k; text = t })
     by_class Name t e = refl
     by_class Number t e = refl
     by_class String t e = refl
@@ -274,11 +310,14 @@ measured_entry h x e = by_class x.«class» x.text e
     by_class Join t e = refl
 
 -- behind its first significant token a line is the same, but for its begin
-measured_after : (h : List Lexeme) (x : Lexeme) → is_at_margin h ≡ true → is_significant x ≡ true → after (measured h) x ≡ begun_at (after (state_of h) x) (point_after (text_before h))
+measured_after : (h : List Lexeme) (x : Lexeme) → is_at_margin h ≡ true → is_significant x ≡ true
+    → after (measured h) x ≡ begun_at (after (state_of h) x) (point_after (text_before h))
 unfolding after state_of
 measured_after h x m e = by_class x.«class» x.text e
   where
-    by_class : (k : Class) (t : List ℕ) → is_significant (record { «class» = k; text = t }) ≡ true → after (measured h) (record { «class» = k; text = t }) ≡ begun_at (after (state_of h) (record { «class» = k; text = t })) (point_after (text_before h))
+    by_class : (k : Class) (t : List ℕ) → is_significant (record { «class» = k; text = t }) ≡ true
+        → after (measured h) (record { «class» = k; text = t }) ≡ begun_at (after (state_of h) (record { «class» = k; text = t }))
+        (point_after (text_before h))
     by_class Name t e = rw m refl
     by_class Number t e = rw m refl
     by_class String t e = rw m refl
@@ -292,7 +331,8 @@ pub significant_margin : (s : State) (x : Lexeme) → is_significant x ≡ true 
 unfolding after
 significant_margin s x e = by_class x.«class» x.text e
   where
-    by_class : (k : Class) (t : List ℕ) → is_significant (record { «class» = k; text = t }) ≡ true → (after s (record { «class» = k; text = t })).margin ≡ false
+    by_class : (k : Class) (t : List ℕ) → is_significant (record { «class» = k; text = t }) ≡ true
+        → (after s (record { «class» = k; text = t })).margin ≡ false
     by_class Name t e = refl
     by_class Number t e = refl
     by_class String t e = refl
@@ -303,19 +343,24 @@ significant_margin s x e = by_class x.«class» x.text e
     by_class Join t e = refl
 
 -- what is ahead of a place behind an INDENT
-pub ahead_indented : (s : Source) (h xs : List Lexeme) (x : Lexeme) (text left : List ℕ) → Placed s h (x ∷ xs) text left → is_at_margin h ≡ true → is_significant x ≡ true → ahead s true h ≡ up_to_end (entry_by (state_of h) x ++ run s.fault left (after (state_of h) x) xs)
+pub ahead_indented : (s : Source) (h xs : List Lexeme) (x : Lexeme) (text left : List ℕ) → Placed s h (x ∷ xs) text left
+    → is_at_margin h ≡ true → is_significant x ≡ true
+    → ahead s true h ≡ up_to_end (entry_by (state_of h) x ++ run s.fault left (after (state_of h) x) xs)
 ahead_indented s h xs x text left p m e =
     ahead_runs s true h (x ∷ xs) text left p
     ∙ ap (λ t. up_to_end (run s.fault left t (x ∷ xs))) (resumed_indented h)
     ∙ ap (λ g. up_to_end (g ++ run s.fault left (after (measured h) x) xs)) (measured_gives h x ∙ measured_entry h x e)
     ∙ ap (λ t. up_to_end (entry_by (state_of h) x ++ run s.fault left t xs)) (measured_after h x m e)
-    ∙ ap (λ r. up_to_end (entry_by (state_of h) x ++ r)) (sym (run_same s.fault left xs (after (state_of h) x) (point_after (text_before h)) (significant_margin (state_of h) x e)))
+    ∙ ap (λ r. up_to_end (entry_by (state_of h) x ++ r))
+    (sym (run_same s.fault left xs (after (state_of h) x) (point_after (text_before h)) (significant_margin (state_of h) x e)))
 
-measured_stop : (fault : Option ListingFault) (left : List ℕ) (h : List Lexeme) → not (length left == 0) ≡ true → stop_of fault (measured h) left ≡ stop_fault fault (state_of h).now.place left ∷ []
+measured_stop : (fault : Option ListingFault) (left : List ℕ) (h : List Lexeme) → not (length left == 0) ≡ true
+    → stop_of fault (measured h) left ≡ stop_fault fault (state_of h).now.place left ∷ []
 unfolding stop_of layout_of
 measured_stop fault left h e = rw e refl
 
-pub ahead_indented_stop : (s : Source) (h : List Lexeme) (text left : List ℕ) → Placed s h [] text left → not (length left == 0) ≡ true → ahead s true h ≡ up_to_end (stop_fault s.fault (state_of h).now.place left ∷ [])
+pub ahead_indented_stop : (s : Source) (h : List Lexeme) (text left : List ℕ) → Placed s h [] text left → not (length left == 0) ≡ true
+    → ahead s true h ≡ up_to_end (stop_fault s.fault (state_of h).now.place left ∷ [])
 ahead_indented_stop s h text left p e =
     ahead_runs s true h [] text left p
     ∙ ap (λ t. up_to_end (run s.fault left t [])) (resumed_indented h)

@@ -2,7 +2,8 @@
 --
 -- Carries: shown_fits, text_length, small_parts, for Moving, Counts, Returning, Skips. On: Resume,
 -- Cursoring, Law, Ahead and 5 more.
-use Rattle.std.proofs.Common.{◌≡◌, ℕ, ◌+◌, ◌*◌, ◌/◌, ◌≤◌, ◌<◌, Bool, true, false, ◌&&◌, ◌||◌, ◌==◌, cond, List, [], ◌∷◌, ◌++◌, length, refl, ap, ◌∙◌, sym, subst, arith, filter, sum, IsUtf8, ⊎_elim}
+use Rattle.std.proofs.Common.{◌≡◌, ℕ, ◌+◌, ◌*◌, ◌/◌, ◌≤◌, ◌<◌, Bool, true, false, ◌&&◌, ◌||◌, ◌==◌, cond, List, [], ◌∷◌, ◌++◌, length, refl}
+use Rattle.std.proofs.Common.{ap, ◌∙◌, sym, subst, arith, filter, sum, IsUtf8, ⊎_elim}
 use Rattle.std.specs.Prelude.{nat_le}
 use Rattle.std.specs.List.{All, list_any, count_by, take_while}
 use Rattle.std.specs.Str.{chars, encode_utf8_all, all_scalars, IsCharBoundary}
@@ -75,7 +76,8 @@ full_onto [] h f g = g
 full_onto (x ∷ fs) h f g = full_onto fs (x ∷ h) f.1 (f.0, g)
 
 full_before : (s : Source) (h xs : List Lexeme) (text left : List ℕ) → Placed s h xs text left → Full h
-full_before s h xs text left p = subst Full (sym p.history) (full_onto p.fronts [] (full_front p.fronts xs (subst Full p.whole (cut_full s.text))) tt)
+full_before s h xs text left p =
+    subst Full (sym p.history) (full_onto p.fronts [] (full_front p.fronts xs (subst Full p.whole (cut_full s.text))) tt)
 
 -- The levels.
 eight_more : (n : ℕ) → (n / 8 + 1) * 8 ≤ n + 8
@@ -124,10 +126,12 @@ widths_within [] = none_at_most (8 * bytes_in (text_before []))
 widths_within (x ∷ h) =
     let b = bytes_in-append (text_before h) x.text in
     let w = line_within h in
-    let rest = more_at_most (8 * bytes_in (text_before h)) (8 * bytes_in (text_before h ++ x.text)) (widths h) (omega arith) (widths_within h) in
+    let rest = more_at_most (8 * bytes_in (text_before h)) (8 * bytes_in (text_before h ++ x.text)) (widths h)
+    (omega arith) (widths_within h) in
     either (is_at_margin h && is_significant x) (width_at h) (omega arith) rest
   where
-    either : (c : Bool) (w : ℕ) → w ≤ 8 * bytes_in (text_before h ++ x.text) → AtMost (8 * bytes_in (text_before h ++ x.text)) (widths h) → AtMost (8 * bytes_in (text_before h ++ x.text)) (cond c (w ∷ widths h) (widths h))
+    either : (c : Bool) (w : ℕ) → w ≤ 8 * bytes_in (text_before h ++ x.text) → AtMost (8 * bytes_in (text_before h ++ x.text)) (widths h)
+        → AtMost (8 * bytes_in (text_before h ++ x.text)) (cond c (w ∷ widths h) (widths h))
     either true w l r = one_at_most (8 * bytes_in (text_before h ++ x.text)) w (widths h) l r
     either false w l r = r
 
@@ -157,7 +161,8 @@ open_within m v ws a e = ⊎_elim
     other true y z e = cc
     other false y z e = e
 
-one_kept : (m : ℕ) (p : ℕ → Bool) (v : ℕ) (vs : List ℕ) (b : Bool) → p v ≡ b → ((u : ℕ) → p u ≡ true → u ≤ m) → AtMost m (filter p vs) → AtMost m (cond b (v ∷ filter p vs) (filter p vs))
+one_kept : (m : ℕ) (p : ℕ → Bool) (v : ℕ) (vs : List ℕ) (b : Bool) → p v ≡ b → ((u : ℕ) → p u ≡ true → u ≤ m) → AtMost m (filter p vs)
+    → AtMost m (cond b (v ∷ filter p vs) (filter p vs))
 one_kept m p v vs true e h a = one_at_most m v (filter p vs) (h v e) a
 one_kept m p v vs false e h a = a
 
@@ -178,11 +183,13 @@ depth_at : (k n : ℕ) (indented : Bool) (h : List Lexeme) → (cursor_at k n in
 unfolding cursor_at
 depth_at k n indented h = refl
 
-levels_at : (k n : ℕ) (indented : Bool) (h : List Lexeme) → (cursor_at k n indented h).levels ≡ open_levels (cond indented (width_at h ∷ widths h) (widths h))
+levels_at : (k n : ℕ) (indented : Bool) (h : List Lexeme) → (cursor_at k n indented h).levels ≡ open_levels
+    (cond indented (width_at h ∷ widths h) (widths h))
 unfolding cursor_at
 levels_at k n indented h = refl
 
-opened_within : (indented : Bool) (h : List Lexeme) → AtMost (8 * bytes_in (text_before h)) (cond indented (width_at h ∷ widths h) (widths h))
+opened_within : (indented : Bool) (h : List Lexeme)
+    → AtMost (8 * bytes_in (text_before h)) (cond indented (width_at h ∷ widths h) (widths h))
 opened_within true h = one_at_most (8 * bytes_in (text_before h)) (width_at h) (widths h) (line_within h) (widths_within h)
 opened_within false h = widths_within h
 
@@ -204,13 +211,17 @@ small_parts a k =
     let o : (cursor a k).offset ≡ bytes_in (text_before h) = ap (λ (c : CursorParts). c.offset) q.is ∙ offset_at k q.skip q.indented h in
     let r : (cursor a k).row ≡ (place_after (text_before h)).row = ap (λ (c : CursorParts). c.row) q.is ∙ row_at k q.skip q.indented h in
     let d : (cursor a k).depth ≡ depth h = ap (λ (c : CursorParts). c.depth) q.is ∙ depth_at k q.skip q.indented h in
-    let l : (cursor a k).levels ≡ open_levels (cond q.indented (width_at h ∷ widths h) (widths h)) = ap (λ (c : CursorParts). c.levels) q.is ∙ levels_at k q.skip q.indented h in
-    let text : bytes_in a.text ≡ bytes_in (text_before h) + bytes_in p.text = ap bytes_in p.placed.parts ∙ bytes_in-append (text_before h) p.text in
-    let front : front_to (cursor a k).offset a.text ≡ text_before h = ap (λ n. front_to n a.text) o ∙ ap (front_to (bytes_in (text_before h))) p.placed.parts ∙ front_is (text_before h) p.text in
+    let l : (cursor a k).levels ≡ open_levels (cond q.indented (width_at h ∷ widths h) (widths h)) = ap (λ (c : CursorParts). c.levels) q.is
+    ∙ levels_at k q.skip q.indented h in
+    let text : bytes_in a.text ≡ bytes_in (text_before h) + bytes_in p.text = ap bytes_in p.placed.parts
+    ∙ bytes_in-append (text_before h) p.text in
+    let front : front_to (cursor a k).offset a.text ≡ text_before h = ap (λ n. front_to n a.text) o
+    ∙ ap (front_to (bytes_in (text_before h))) p.placed.parts ∙ front_is (text_before h) p.text in
     let rw1 = rows_within (text_before h) in
     let rw2 = rows_from (text_before h) in
     let dw = depth_within h (full_before a h p.later p.text p.left p.placed) in
-    let ls : AtMost (8 * bytes_in (text_before h)) (cursor a k).levels = subst (AtMost (8 * bytes_in (text_before h))) (sym l) (levels_within (8 * bytes_in (text_before h)) (cond q.indented (width_at h ∷ widths h) (widths h)) (opened_within q.indented h)) in
+    let ls : AtMost (8 * bytes_in (text_before h)) (cursor a k).levels = subst (AtMost (8 * bytes_in (text_before h))) (sym l)
+    (levels_within (8 * bytes_in (text_before h)) (cond q.indented (width_at h ∷ widths h) (widths h)) (opened_within q.indented h)) in
     record {
       within = omega arith;
       whole = ap bytes_in front ∙ sym o;
@@ -228,7 +239,8 @@ boundary_at text n u e =
     let f = front_to n cs in
     let b = back_from n cs in
     let w : f ++ b ≡ cs = front_and_back cs n in
-    let parts : text ≡ encode_utf8_all f ++ encode_utf8_all b = sym (encodes-chars text u) ∙ ap encode_utf8_all (sym w) ∙ encodes-append f b in
+    let parts : text ≡ encode_utf8_all f ++ encode_utf8_all b = sym (encodes-chars text u)
+    ∙ ap encode_utf8_all (sym w) ∙ encodes-append f b in
     let good : all_scalars b ≡ true = scalars_behind f b (ap all_scalars w ∙ scalars-chars text u) in
     subst (IsCharBoundary text) e (IsCharBoundary-at_seam text (encode_utf8_all f) (encode_utf8_all b) parts (b, (good, refl)))
 
@@ -254,7 +266,8 @@ shown_fits l a k u h =
     let t = text_length l a k u h in
     let w = s.within in
     record {
-      boundary = boundary_at l.source.text l.shown.offset u (sym (same_front_bytes a (in_characters l.source) l.shown.offset h.agrees) ∙ s.whole);
+      boundary = boundary_at l.source.text l.shown.offset u (sym (same_front_bytes a (in_characters l.source) l.shown.offset h.agrees)
+          ∙ s.whole);
       within = omega arith;
       row = s.row;
       rows = s.rows;

@@ -2,7 +2,8 @@
 --
 -- Carries: ahead_is, given_next, not_encoding, given_of and 21 more, for Moving, Returning, Skips,
 -- CursorBounds. On: Passing, Resuming, Points, Ahead and 13 more.
-use Rattle.std.proofs.Common.{◌≡◌, ℕ, ◌+◌, ◌≤◌, ◌<◌, zero, suc, Bool, true, false, not, ◌&&◌, ◌==◌, cond, List, [], ◌∷◌, ◌++◌, length, take, drop, map, reverse, replicate, refl, ap, ◌∙◌, sym, subst, arith, Some, None}
+use Rattle.std.proofs.Common.{◌≡◌, ℕ, ◌+◌, ◌≤◌, ◌<◌, zero, suc, Bool, true, false, not, ◌&&◌, ◌==◌, cond, List, [], ◌∷◌, ◌++◌, length, take}
+use Rattle.std.proofs.Common.{drop, map, reverse, replicate, refl, ap, ◌∙◌, sym, subst, arith, Some, None}
 use Rattle.std.specs.List.{count_by, prefix_len}
 use Rattle.std.specs.Prelude.{nat_lt}
 use Rattle.std.proofs.lemmas.List.{reverse-append, drop-drop}
@@ -24,8 +25,10 @@ use Rattle.pylex.specs.Indentation.{width_from, width_at, widths, open_levels}
 use Rattle.pysource.specs.Parts.{Parts}
 use Rattle.pylex.specs.Listing.{Source, in_characters, listing, rest, origin, last_line, up_to_end}
 use Rattle.pylex.specs.Steps.{entries_of, first_step, mark, fault_at, IsNoEntry}
-use Rattle.pylex.specs.Cursors.{CursorParts, given_last_first, has_no_text, is_encoding, is_indent, with_text, point, ends_in_indent, lexemes_to, cursor_at, cursor}
-use Rattle.pylex.specs.Machine.{State, after, dedents_at, mark_at, stop_of, layout_of, step_of, entry_by, remaining, first_state, behind_steps}
+use Rattle.pylex.specs.Cursors.{CursorParts, given_last_first, has_no_text, is_encoding, is_indent, with_text, point, ends_in_indent}
+use Rattle.pylex.specs.Cursors.{lexemes_to, cursor_at, cursor}
+use Rattle.pylex.specs.Machine.{State, after, dedents_at, mark_at, stop_of, layout_of, step_of, entry_by, remaining, first_state}
+use Rattle.pylex.specs.Machine.{behind_steps}
 use Rattle.pylex.specs.LineState.{measured, is_above, is_level}
 use Rattle.pylex.specs.Standing.{Standing, front_to, standing_by, standing, resumed, to_give, Agrees}
 use Rattle.pylex.specs.Listers.{Listed, StandsIn, shown_at, Passes, here, lexeme, layout}
@@ -56,7 +59,8 @@ stands_as l a k h = (stands_in_agreeing a (in_characters l.source) l.shown h.cur
 
 pub rest_in : (l : Listed) (a : Source) (k : ℕ) → StandsIn l a k → to_give (standing_by (in_characters l.source) l.shown) ≡ rest a k
 rest_in l a k h =
-    resumes (standing_by (in_characters l.source) l.shown) a l.shown.given (stands_in_agreeing a (in_characters l.source) l.shown h.cursor h.agrees)
+    resumes (standing_by (in_characters l.source) l.shown) a l.shown.given
+    (stands_in_agreeing a (in_characters l.source) l.shown h.cursor h.agrees)
     ∙ ap (rest a) h.count
 
 nothing_more : (j : ℕ) (e : Entry) → first_step (drop j []) ≡ steps.Entry e → ⊥
@@ -79,7 +83,8 @@ not_last steps.End (suc j) e s f = nothing_more j e f
 not_last (steps.Fault g) zero e s f = cc
 not_last (steps.Fault g) (suc j) e s f = nothing_more j e f
 
-next_at : (es : List Entry) (last : Step) (k : ℕ) (e : Entry) → IsNoEntry last → first_step (drop k (map steps.Entry es ++ last ∷ [])) ≡ steps.Entry e → NextAt es k e
+next_at : (es : List Entry) (last : Step) (k : ℕ) (e : Entry) → IsNoEntry last → first_step (drop k (map steps.Entry es ++ last ∷ [])) ≡
+    steps.Entry e → NextAt es k e
 next_at [] last k e n f = absurd (not_last last k e n f)
 next_at (d ∷ es) last zero e n f = let s : d ≡ e = cc in record { within = omega arith; taken = ap (λ x. x ∷ []) s }
 next_at (d ∷ es) last (suc k) e n f =
@@ -101,7 +106,8 @@ not_encoding a k e n f =
     given_pointed a k e n g.within g.given
 
 -- An entry without text: the point stays.
-pub after_empty : (l : Listed) (a : Source) (k : ℕ) (e : Entry) → StandsIn l a k → 0 < k → first_step (rest a k) ≡ steps.Entry e → has_no_text e ≡ true → StandsIn (record l { shown = record l.shown { given = k + 1; skip = l.shown.skip + 1 } }) a (k + 1)
+pub after_empty : (l : Listed) (a : Source) (k : ℕ) (e : Entry) → StandsIn l a k → 0 < k → first_step (rest a k) ≡ steps.Entry e
+    → has_no_text e ≡ true → StandsIn (record l { shown = record l.shown { given = k + 1; skip = l.shown.skip + 1 } }) a (k + 1)
 after_empty l a k e h n f t =
     let g = given_next a k e f in
     let w = g.within in
@@ -109,7 +115,8 @@ after_empty l a k e h n f t =
     record {
       cursor = is_own (record {
         within = omega arith;
-        is = ap (λ (p : CursorParts). record p { given = k + 1; skip = p.skip + 1 }) c ∙ sym (cursor_skips a k e g.given t (not_encoding a k e n f));
+        is = ap (λ (p : CursorParts). record p { given = k + 1; skip = p.skip + 1 }) c
+            ∙ sym (cursor_skips a k e g.given t (not_encoding a k e n f));
       });
       count = refl;
       agrees = h.agrees;
@@ -137,15 +144,21 @@ cursor_point a k =
           (ap (λ n. lexemes_to n [] (cut a.text)) p.at ∙ history_is a p.before p.later p.text p.left p.placed);
     }
 
-line_is : (a : Source) (h xs : List Lexeme) (text left : List ℕ) (c : CursorParts) → Placed a h xs text left → c.offset ≡ bytes_in (text_before h) → (standing_by a c).line ≡ last_line (text_before h)
+line_is : (a : Source) (h xs : List Lexeme) (text left : List ℕ) (c : CursorParts) → Placed a h xs text left
+    → c.offset ≡ bytes_in (text_before h) → (standing_by a c).line ≡ last_line (text_before h)
 unfolding standing_by
-line_is a h xs text left c p o = ap last_line (ap (λ n. front_to n a.text) o ∙ ap (front_to (bytes_in (text_before h))) p.parts ∙ front_is (text_before h) text)
+line_is a h xs text left c p o = ap last_line (ap (λ n. front_to n a.text) o ∙ ap (front_to (bytes_in (text_before h))) p.parts
+    ∙ front_is (text_before h) text)
 
-left_is : (a : Source) (h xs : List Lexeme) (text left : List ℕ) (c : CursorParts) → Placed a h xs text left → c.offset ≡ bytes_in (text_before h) → (standing_by a c).left ≡ text
+left_is : (a : Source) (h xs : List Lexeme) (text left : List ℕ) (c : CursorParts) → Placed a h xs text left
+    → c.offset ≡ bytes_in (text_before h) → (standing_by a c).left ≡ text
 unfolding standing_by
-left_is a h xs text left c p o = ap (λ t. drop (length t) a.text) (ap (λ n. front_to n a.text) o ∙ ap (front_to (bytes_in (text_before h))) p.parts ∙ front_is (text_before h) text) ∙ ap (drop (length (text_before h))) p.parts ∙ drop_front (text_before h) text
+left_is a h xs text left c p o = ap (λ t. drop (length t) a.text) (ap (λ n. front_to n a.text) o
+    ∙ ap (front_to (bytes_in (text_before h))) p.parts ∙ front_is (text_before h) text) ∙ ap (drop (length (text_before h))) p.parts
+    ∙ drop_front (text_before h) text
 
-resumed_as : (k n : ℕ) (indented : Bool) (h : List Lexeme) (line : List ℕ) → resumed (cursor_at 0 0 indented h) line ≡ resumed (cursor_at k n indented h) line
+resumed_as : (k n : ℕ) (indented : Bool) (h : List Lexeme) (line : List ℕ) → resumed (cursor_at 0 0 indented h) line ≡ resumed
+    (cursor_at k n indented h) line
 unfolding resumed cursor_at
 resumed_as k n indented h line = refl
 
@@ -157,22 +170,26 @@ pub reached_cursor : (a : Source) (k : ℕ) → Reached a (resumed (cursor a k) 
 reached_cursor a k =
     let q = cursor_point a k in
     let p = q.point in
-    let o : (cursor a k).offset ≡ bytes_in (text_before p.before) = ap (λ (c : CursorParts). c.offset) q.is ∙ offset_at k q.skip q.indented p.before in
+    let o : (cursor a k).offset ≡ bytes_in (text_before p.before) = ap (λ (c : CursorParts). c.offset) q.is
+    ∙ offset_at k q.skip q.indented p.before in
     let line = line_is a p.before p.later p.text p.left (cursor a k) p.placed o in
     let left = left_is a p.before p.later p.text p.left (cursor a k) p.placed o in
     let same : resumed (cursor_at 0 0 q.indented p.before) (last_line (text_before p.before)) ≡ resumed (cursor a k) (standing a k).line =
-    resumed_as k q.skip q.indented p.before (last_line (text_before p.before)) ∙ ap (λ c. resumed c (last_line (text_before p.before))) (sym q.is) ∙ ap (resumed (cursor a k)) (sym line) in
+    resumed_as k q.skip q.indented p.before (last_line (text_before p.before)) ∙ ap (λ c. resumed c (last_line (text_before p.before)))
+    (sym q.is) ∙ ap (resumed (cursor a k)) (sym line) in
     record {
       before = p.before;
       later = p.later;
       left = p.left;
       placed = subst (λ (t : List ℕ). Placed a p.before p.later t p.left) (sym left) p.placed;
       balanced = p.balanced;
-      stood = subst (λ (t : List ℕ). StoodAt (resumed (cursor a k) (standing a k).line) p.before t) (sym left) (subst (λ (s : State). StoodAt s p.before p.text) same p.stood);
+      stood = subst (λ (t : List ℕ). StoodAt (resumed (cursor a k) (standing a k).line) p.before t) (sym left)
+          (subst (λ (s : State). StoodAt s p.before p.text) same p.stood);
     }
 
 -- so does a lister that stands in it
-reached_in : (l : Listed) (a : Source) (k : ℕ) → StandsIn l a k → Reached a (resumed l.shown (standing_by (in_characters l.source) l.shown).line) (standing_by (in_characters l.source) l.shown).left
+reached_in : (l : Listed) (a : Source) (k : ℕ) → StandsIn l a k
+    → Reached a (resumed l.shown (standing_by (in_characters l.source) l.shown).line) (standing_by (in_characters l.source) l.shown).left
 reached_in l a k h =
     let c : l.shown ≡ cursor a k = (is_behind h.cursor).is ∙ ap (cursor a) h.count in
     let v = stands_as l a k h in
@@ -180,14 +197,19 @@ reached_in l a k h =
     (subst (λ (p : CursorParts). Reached a (resumed p (standing a k).line) (standing a k).left) (sym c) (reached_cursor a k))
 
 -- What is left where a lister comes past what gives nothing new.
-pub ahead_is : (s : Source) (c : CursorParts) → 0 < c.given → to_give (standing_by s c) ≡ drop c.skip (remaining s.fault (resumed c (standing_by s c).line) (standing_by s c).left)
+pub ahead_is : (s : Source) (c : CursorParts) → 0 < c.given
+    → to_give (standing_by s c) ≡ drop c.skip (remaining s.fault (resumed c (standing_by s c).line) (standing_by s c).left)
 unfolding to_give standing_by
 ahead_is s c n = let z : (c.given == 0) ≡ false = grind (arith, nat_tests) in rw z refl
 
-pub rest_there : (l : Listed) (a : Source) (k : ℕ) (t : State) (ds : List ℕ) → StandsIn l a k → 0 < k → Passes t ds l.shown.skip (resumed l.shown (standing_by (in_characters l.source) l.shown).line) (standing_by (in_characters l.source) l.shown).left → rest a k ≡ remaining (in_characters l.source).fault t ds
+pub rest_there : (l : Listed) (a : Source) (k : ℕ) (t : State) (ds : List ℕ) → StandsIn l a k → 0 < k
+    → Passes t ds l.shown.skip (resumed l.shown (standing_by (in_characters l.source) l.shown).line)
+    (standing_by (in_characters l.source) l.shown).left → rest a k ≡ remaining (in_characters l.source).fault t ds
 rest_there l a k t ds h n p =
     let c = h.count in
-    sym (rest_in l a k h) ∙ ahead_is (in_characters l.source) l.shown (omega arith) ∙ passes_steps (in_characters l.source).fault t ds l.shown.skip (resumed l.shown (standing_by (in_characters l.source) l.shown).line) (standing_by (in_characters l.source) l.shown).left p
+    sym (rest_in l a k h) ∙ ahead_is (in_characters l.source) l.shown (omega arith) ∙ passes_steps (in_characters l.source).fault t ds
+    l.shown.skip (resumed l.shown (standing_by (in_characters l.source) l.shown).line)
+    (standing_by (in_characters l.source) l.shown).left p
 
 offset_of_resumed : (c : CursorParts) (line : List ℕ) → (resumed c line).now.offset ≡ c.offset
 unfolding resumed
@@ -216,25 +238,31 @@ own_entry t x e q = by_class x.«class» x.text q
     same_entry : (d : Entry) → steps.Entry d ∷ [] ≡ steps.Entry e ∷ [] → d ≡ e
     same_entry d q = cc
 
-    own : (k : Class) (u : List ℕ) (d : Entry) → (closes (record { «class» = k; text = u }) && (t.depth == 0)) ≡ false → OwnPlaces t u d → steps.Entry d ∷ [] ≡ steps.Entry e ∷ [] → OwnEntry t (record { «class» = k; text = u }) e
-    own k u d m p q = let r = subst (OwnPlaces t u) (same_entry d q) p in record { indent = r.indent; begins = r.begins; ends = r.ends; matched = m }
+    own : (k : Class) (u : List ℕ) (d : Entry) → (closes (record { «class» = k; text = u }) && (t.depth == 0)) ≡ false → OwnPlaces t u d
+        → steps.Entry d ∷ [] ≡ steps.Entry e ∷ [] → OwnEntry t (record { «class» = k; text = u }) e
+    own k u d m p q = let r = subst (OwnPlaces t u) (same_entry d q) p in
+        record { indent = r.indent; begins = r.begins; ends = r.ends; matched = m }
 
     line_end : (b : Bool) → elim (cond b kinds.Newline kinds.Nl) [ kinds.Indent ↦ true | _ ↦ false ] ≡ false
     line_end true = refl
     line_end false = refl
 
-    by_operator : (o : Exact) (u : List ℕ) (b : Bool) (f : Step) (d : Entry) → (is_closer o && (t.depth == 0)) ≡ b → (f ≡ steps.Entry e → ⊥) → OwnPlaces t u d → cond b (f ∷ []) (steps.Entry d ∷ []) ≡ steps.Entry e ∷ [] → OwnEntry t (record { «class» = Operator o; text = u }) e
+    by_operator : (o : Exact) (u : List ℕ) (b : Bool) (f : Step) (d : Entry) → (is_closer o && (t.depth == 0)) ≡ b → (f ≡ steps.Entry e → ⊥)
+        → OwnPlaces t u d → cond b (f ∷ []) (steps.Entry d ∷ []) ≡ steps.Entry e ∷ []
+        → OwnEntry t (record { «class» = Operator o; text = u }) e
     by_operator o u true f d m n p q = let g : f ≡ steps.Entry e = cc in absurd (n g)
     by_operator o u false f d m n p q = own (Operator o) u d m p q
 
     no_fault : (f : ListingFault) → steps.Fault f ≡ steps.Entry e → ⊥
     no_fault f q = cc
 
-    by_class : (k : Class) (u : List ℕ) → entry_by t (record { «class» = k; text = u }) ≡ steps.Entry e ∷ [] → OwnEntry t (record { «class» = k; text = u }) e
+    by_class : (k : Class) (u : List ℕ) → entry_by t (record { «class» = k; text = u }) ≡ steps.Entry e ∷ []
+        → OwnEntry t (record { «class» = k; text = u }) e
     by_class Name u q = own Name u _ refl (record { indent = refl; begins = refl; ends = refl }) q
     by_class Number u q = own Number u _ refl (record { indent = refl; begins = refl; ends = refl }) q
     by_class String u q = own String u _ refl (record { indent = refl; begins = refl; ends = refl }) q
-    by_class (Operator o) u q = by_operator o u (is_closer o && (t.depth == 0)) _ _ refl (no_fault _) (record { indent = refl; begins = refl; ends = refl }) q
+    by_class (Operator o) u q = by_operator o u (is_closer o && (t.depth == 0)) _ _ refl (no_fault _)
+        (record { indent = refl; begins = refl; ends = refl }) q
     by_class Comment u q = own Comment u _ refl (record { indent = refl; begins = refl; ends = refl }) q
     by_class Blanks u q = absurd cc
     by_class LineEnd u q = own LineEnd u _ refl (record { indent = line_end (t.logical && (t.depth == 0)); begins = refl; ends = refl }) q
@@ -250,7 +278,8 @@ shown_plain k s h g =
     let o = g.logical in
     rw (n, d, l, o) refl
 
-shown_laid : (k : ℕ) (s : State) (h : List Lexeme) → is_at_margin h ≡ true → GoesAs s (state_of h) → shown_at k (measured s) ≡ cursor_at k 0 true h
+shown_laid : (k : ℕ) (s : State) (h : List Lexeme) → is_at_margin h ≡ true → GoesAs s (state_of h)
+    → shown_at k (measured s) ≡ cursor_at k 0 true h
 unfolding cursor_at state_of
 shown_laid k s h m g =
     let n = g.now in
@@ -264,12 +293,15 @@ shown_laid k s h m g =
 has_text : (m n b : ℕ) (e : Entry) → e.«from» ≡ m → e.to ≡ n → n ≡ m + b → 0 < b → has_no_text e ≡ false
 has_text m n b e f t o p = grind (arith, nat_tests)
 
-moved : (l : Listed) (a : Source) (k : ℕ) (e : Entry) (c : CursorParts) (h xs : List Lexeme) (text left : List ℕ) → StandsIn l a k → first_step (rest a k) ≡ steps.Entry e → has_no_text e ≡ false → Placed a h xs text left → e.to ≡ bytes_in (text_before h) → c ≡ cursor_at (k + 1) 0 (is_indent e) h → c.given ≡ k + 1 → l.shown.offset ≤ c.offset → StandsIn (record l { shown = c }) a (k + 1)
+moved : (l : Listed) (a : Source) (k : ℕ) (e : Entry) (c : CursorParts) (h xs : List Lexeme) (text left : List ℕ) → StandsIn l a k
+    → first_step (rest a k) ≡ steps.Entry e → has_no_text e ≡ false → Placed a h xs text left → e.to ≡ bytes_in (text_before h)
+    → c ≡ cursor_at (k + 1) 0 (is_indent e) h → c.given ≡ k + 1 → l.shown.offset ≤ c.offset → StandsIn (record l { shown = c }) a (k + 1)
 moved l a k e c h xs text left st f t p o q n le =
     let g = given_next a k e f in
     let w = g.within in
     let to : lexemes_to e.to [] (cut a.text) ≡ h = ap (λ m. lexemes_to m [] (cut a.text)) o ∙ history_is a h xs text left p in
-    let m : cursor a (k + 1) ≡ cursor_at (k + 1) 0 (is_indent e) h = cursor_moves a k e g.given t ∙ ap (cursor_at (k + 1) 0 (is_indent e)) to in
+    let m : cursor a (k + 1) ≡ cursor_at (k + 1) 0 (is_indent e) h = cursor_moves a k e g.given t
+    ∙ ap (cursor_at (k + 1) 0 (is_indent e)) to in
     record {
       cursor = is_own (record { within = omega arith; is = q ∙ sym m ∙ ap (cursor a) (sym n) });
       count = n;
@@ -279,28 +311,39 @@ moved l a k e c h xs text left st f t p o q n le =
 -- no place that is passed stands before the cursor
 passes_offset : (t : State) (ds : List ℕ) (n : ℕ) (s : State) (cs : List ℕ) → Passes t ds n s cs → s.now.offset ≤ t.now.offset
 passes_offset t ds n s cs here = omega arith
-passes_offset t ds n s cs (lexeme m u bs x e g p) = let h = passes_offset t ds n (after s x) (drop (lexeme_len cs) cs) p in let o = offset_after s x in omega arith
+passes_offset t ds n s cs (lexeme m u bs x e g p) = let h = passes_offset t ds n (after s x) (drop (lexeme_len cs) cs) p in let o =
+    offset_after s x in omega arith
 passes_offset t ds n s cs (layout m u bs b c l p) = passes_offset t ds m (measured s) cs p
 
 -- An entry with text from a lexeme is the next step.
-pub lexeme_first : (l : Listed) (a : Source) (k : ℕ) (t : State) (ds : List ℕ) (x : Lexeme) (e : Entry) → StandsIn l a k → 0 < k → Passes t ds l.shown.skip (resumed l.shown (standing_by (in_characters l.source) l.shown).line) (standing_by (in_characters l.source) l.shown).left → (t.margin && begins_significant ds) ≡ false → lexeme_at ds ≡ Some x → entry_by t x ≡ steps.Entry e ∷ [] → first_step (rest a k) ≡ steps.Entry e
+pub lexeme_first : (l : Listed) (a : Source) (k : ℕ) (t : State) (ds : List ℕ) (x : Lexeme) (e : Entry) → StandsIn l a k → 0 < k
+    → Passes t ds l.shown.skip (resumed l.shown (standing_by (in_characters l.source) l.shown).line)
+    (standing_by (in_characters l.source) l.shown).left → (t.margin && begins_significant ds) ≡ false → lexeme_at ds ≡ Some x
+    → entry_by t x ≡ steps.Entry e ∷ [] → first_step (rest a k) ≡ steps.Entry e
 lexeme_first l a k t ds x e h n p d f q =
     let significant : (t.margin && is_significant x) ≡ false = ap (λ b. t.margin && b) (significant_is ds x f) ∙ d in
-    ap first_step (rest_there l a k t ds h n p ∙ remaining_lexeme (in_characters l.source).fault t ds x f ∙ ap (λ ss. behind_steps ss (remaining (in_characters l.source).fault (after t x) (drop (lexeme_len ds) ds))) (no_layout t x significant ∙ q))
+    ap first_step (rest_there l a k t ds h n p ∙ remaining_lexeme (in_characters l.source).fault t ds x f
+    ∙ ap (λ ss. behind_steps ss (remaining (in_characters l.source).fault (after t x) (drop (lexeme_len ds) ds)))
+    (no_layout t x significant ∙ q))
 
 -- The cursor behind it.
-pub after_lexeme : (l : Listed) (a : Source) (k : ℕ) (t : State) (ds : List ℕ) (x : Lexeme) (e : Entry) → StandsIn l a k → 0 < k → Passes t ds l.shown.skip (resumed l.shown (standing_by (in_characters l.source) l.shown).line) (standing_by (in_characters l.source) l.shown).left → (t.margin && begins_significant ds) ≡ false → lexeme_at ds ≡ Some x → entry_by t x ≡ steps.Entry e ∷ [] → StandsIn (record l { shown = shown_at (k + 1) (after t x) }) a (k + 1)
+pub after_lexeme : (l : Listed) (a : Source) (k : ℕ) (t : State) (ds : List ℕ) (x : Lexeme) (e : Entry) → StandsIn l a k → 0 < k
+    → Passes t ds l.shown.skip (resumed l.shown (standing_by (in_characters l.source) l.shown).line)
+    (standing_by (in_characters l.source) l.shown).left → (t.margin && begins_significant ds) ≡ false → lexeme_at ds ≡ Some x
+    → entry_by t x ≡ steps.Entry e ∷ [] → StandsIn (record l { shown = shown_at (k + 1) (after t x) }) a (k + 1)
 after_lexeme l a k t ds x e h n p d f q =
     let first = lexeme_first l a k t ds x e h n p d f q in
     let s0 : State = resumed l.shown (standing_by (in_characters l.source) l.shown).line in
     let left : List ℕ = (standing_by (in_characters l.source) l.shown).left in
     let r = passes_reach a t ds l.shown.skip s0 left p (reached_in l a k h) in
     let own = own_entry t x e q in
-    let c : (closes x && (depth r.before == 0)) ≡ false = ap (λ m. closes x && (m == 0)) (sym (stood_depth t r.before ds r.stood)) ∙ own.matched in
+    let c : (closes x && (depth r.before == 0)) ≡ false = ap (λ m. closes x && (m == 0)) (sym (stood_depth t r.before ds r.stood))
+    ∙ own.matched in
     let g = next_alike t r.before ds x f r.balanced c r.stood in
     let next = next_of a r.before r.later ds r.left x f r.placed in
     let o1 = offset_after t x in
-    let o2 : (after t x).now.offset ≡ bytes_in (text_before (x ∷ r.before)) = ap (λ (u : Point). u.offset) g.now ∙ state_offset (x ∷ r.before) in
+    let o2 : (after t x).now.offset ≡ bytes_in (text_before (x ∷ r.before)) = ap (λ (u : Point). u.offset) g.now
+    ∙ state_offset (x ∷ r.before) in
     let le = passes_offset t ds l.shown.skip s0 left p in
     let zero_offset = offset_of_resumed l.shown (standing_by (in_characters l.source) l.shown).line in
     let full = lexeme_full ds x f in
@@ -323,7 +366,8 @@ line_width : (h : List Lexeme) → width_at h ≡ width_from 0 (text_before (lin
 unfolding width_at
 line_width h = refl
 
-pub line_bytes : (h : List Lexeme) → bytes_in (text_before h) ≡ bytes_in (text_before (before_line h)) + bytes_in (text_before (line_so_far h))
+pub line_bytes : (h : List Lexeme) → bytes_in (text_before h) ≡ bytes_in (text_before (before_line h)) + bytes_in
+    (text_before (line_so_far h))
 line_bytes h = sym (ap bytes_in (line_split h)) ∙ bytes_in-append (text_before (before_line h)) (text_before (line_so_far h))
 
 state_line : (h : List Lexeme) → (state_of h).line.offset ≡ bytes_in (text_before (before_line h))
@@ -338,35 +382,54 @@ state_levels : (h : List Lexeme) → (state_of h).levels ≡ open_levels (widths
 unfolding state_of
 state_levels h = refl
 
-indented_line : (h : List Lexeme) → is_at_margin h ≡ true → is_above (state_of h).width (state_of h).levels ≡ true → 0 < bytes_in (text_before (line_so_far h))
+indented_line : (h : List Lexeme) → is_at_margin h ≡ true → is_above (state_of h).width (state_of h).levels ≡ true
+    → 0 < bytes_in (text_before (line_so_far h))
 indented_line h m e =
-    let b : is_above (width_at h) (open_levels (widths h)) ≡ true = sym (ap (λ w. is_above w (state_of h).levels) (state_width h m) ∙ ap (is_above (width_at h)) (state_levels h)) ∙ e in
+    let b : is_above (width_at h) (open_levels (widths h)) ≡ true = sym (ap (λ w. is_above w (state_of h).levels) (state_width h m)
+    ∙ ap (is_above (width_at h)) (state_levels h)) ∙ e in
     let w = above_ground (width_at h) (open_levels (widths h)) (grounded (widths h)) b in
     let l = line_width h in
     some_text (text_before (line_so_far h)) (omega arith)
 
 -- An INDENT is the next step.
-pub indent_first : (l : Listed) (a : Source) (k : ℕ) (t : State) (ds : List ℕ) → StandsIn l a k → 0 < k → Passes t ds l.shown.skip (resumed l.shown (standing_by (in_characters l.source) l.shown).line) (standing_by (in_characters l.source) l.shown).left → t.margin ≡ true → begins_significant ds ≡ true → is_above t.width t.levels ≡ true → first_step (rest a k) ≡ step_of kinds.Indent None t.line t.now
+pub indent_first : (l : Listed) (a : Source) (k : ℕ) (t : State) (ds : List ℕ) → StandsIn l a k → 0 < k
+    → Passes t ds l.shown.skip (resumed l.shown (standing_by (in_characters l.source) l.shown).line)
+    (standing_by (in_characters l.source) l.shown).left → t.margin ≡ true → begins_significant ds ≡ true → is_above t.width t.levels ≡ true
+    → first_step (rest a k) ≡ step_of kinds.Indent None t.line t.now
 indent_first l a k t ds h n p m b w =
-    ap first_step (rest_there l a k t ds h n p ∙ measured_significant (in_characters l.source).fault t ds m b ∙ ap (λ ss. behind_steps ss (remaining (in_characters l.source).fault (measured t) ds)) (layout_indent t m w))
+    ap first_step (rest_there l a k t ds h n p ∙ measured_significant (in_characters l.source).fault t ds m b
+    ∙ ap (λ ss. behind_steps ss (remaining (in_characters l.source).fault (measured t) ds)) (layout_indent t m w))
 
 -- The cursor behind it.
-pub after_indent : (l : Listed) (a : Source) (k : ℕ) (t : State) (ds : List ℕ) → StandsIn l a k → 0 < k → Passes t ds l.shown.skip (resumed l.shown (standing_by (in_characters l.source) l.shown).line) (standing_by (in_characters l.source) l.shown).left → t.margin ≡ true → begins_significant ds ≡ true → is_above t.width t.levels ≡ true → StandsIn (record l { shown = shown_at (k + 1) (measured t) }) a (k + 1)
+pub after_indent : (l : Listed) (a : Source) (k : ℕ) (t : State) (ds : List ℕ) → StandsIn l a k → 0 < k
+    → Passes t ds l.shown.skip (resumed l.shown (standing_by (in_characters l.source) l.shown).line)
+    (standing_by (in_characters l.source) l.shown).left → t.margin ≡ true → begins_significant ds ≡ true → is_above t.width t.levels ≡ true
+    → StandsIn (record l { shown = shown_at (k + 1) (measured t) }) a (k + 1)
 after_indent l a k t ds h n p m b w =
     let s0 : State = resumed l.shown (standing_by (in_characters l.source) l.shown).line in
     let left : List ℕ = (standing_by (in_characters l.source) l.shown).left in
     let r = passes_reach a t ds l.shown.skip s0 left p (reached_in l a k h) in
     let g = plain_stood t r.before ds m r.stood in
     let at : is_at_margin r.before ≡ true = sym (state_at_margin r.before) ∙ sym g.margin ∙ m in
-    let above : is_above (state_of r.before).width (state_of r.before).levels ≡ true = sym (ap (λ v. is_above v t.levels) g.width ∙ ap (is_above (state_of r.before).width) g.levels) ∙ w in
+    let above : is_above (state_of r.before).width (state_of r.before).levels ≡ true =
+    sym (ap (λ v. is_above v t.levels) g.width ∙ ap (is_above (state_of r.before).width) g.levels) ∙ w in
     let full = indented_line r.before at above in
-    let e : Entry = record { kind = kinds.Indent; exact = None; start = t.line.place; «end» = t.now.place; «from» = t.line.offset; to = t.now.offset } in
+    let e : Entry = record {
+      kind = kinds.Indent;
+      exact = None;
+      start = t.line.place;
+      «end» = t.now.place;
+      «from» =
+          t.line.offset;
+      to = t.now.offset;
+    } in
     let o : t.now.offset ≡ bytes_in (text_before r.before) = ap (λ (u : Point). u.offset) g.now ∙ state_offset r.before in
     let i : t.line.offset ≡ bytes_in (text_before (before_line r.before)) = ap (λ (u : Point). u.offset) (g.line m) ∙ state_line r.before in
     let le = passes_offset t ds l.shown.skip s0 left p in
     let zero_offset = offset_of_resumed l.shown (standing_by (in_characters l.source) l.shown).line in
     moved l a k e (shown_at (k + 1) (measured t)) r.before r.later ds r.left h (indent_first l a k t ds h n p m b w)
-    (has_text (bytes_in (text_before (before_line r.before))) (bytes_in (text_before r.before)) (bytes_in (text_before (line_so_far r.before))) e i o (line_bytes r.before) full)
+    (has_text (bytes_in (text_before (before_line r.before))) (bytes_in (text_before r.before))
+    (bytes_in (text_before (line_so_far r.before))) e i o (line_bytes r.before) full)
     r.placed o
     (shown_laid (k + 1) t r.before at g)
     refl (omega arith)
@@ -398,7 +461,8 @@ unfolding given_last_first
 none_given a = refl
 
 pub cursor_by : Source → ℕ → List Entry → CursorParts
-cursor_by a k es = cursor_at k (count_by (λ e. not (is_encoding e)) (take (prefix_len has_no_text es) es)) (ends_in_indent (with_text es)) (lexemes_to (point (with_text es)) [] (cut a.text))
+cursor_by a k es = cursor_at k (count_by (λ e. not (is_encoding e)) (take (prefix_len has_no_text es) es)) (ends_in_indent (with_text es))
+    (lexemes_to (point (with_text es)) [] (cut a.text))
 
 pub cursor_is : (a : Source) (k : ℕ) → cursor a k ≡ cursor_by a k (given_last_first a k)
 unfolding cursor cursor_by
@@ -411,11 +475,14 @@ cursor_first a = refl
 pub after_first : (l : Listed) (a : Source) → StandsIn l a 0 → StandsIn (record l { shown = record l.shown { given = 1 } }) a 1
 after_first l a h =
     let c : l.shown ≡ cursor a 0 = (is_behind h.cursor).is ∙ ap (cursor a) h.count in
-    let some : 1 ≤ length (entries_of (listing a)) = let e : length (entries_of (listing a)) ≡ suc (length (entries_of (remaining a.fault first_state a.text))) = ap (λ ss. length (entries_of ss)) (listing_is a) in omega arith in
+    let some : 1 ≤ length (entries_of (listing a)) =
+    let e : length (entries_of (listing a)) ≡ suc (length (entries_of (remaining a.fault first_state a.text))) =
+    ap (λ ss. length (entries_of ss)) (listing_is a) in omega arith in
     record {
       cursor = is_own (record {
         within = some;
-        is = ap (λ (p : CursorParts). record p { given = 1 }) (c ∙ cursor_is a 0 ∙ ap (cursor_by a 0) (none_given a)) ∙ sym (cursor_is a 1 ∙ ap (cursor_by a 1) (first_given a) ∙ cursor_first a);
+        is = ap (λ (p : CursorParts). record p { given = 1 }) (c ∙ cursor_is a 0 ∙ ap (cursor_by a 0) (none_given a))
+            ∙ sym (cursor_is a 1 ∙ ap (cursor_by a 1) (first_given a) ∙ cursor_first a);
       });
       count = refl;
       agrees = h.agrees;
@@ -440,37 +507,61 @@ pub no_skip : (a : Source) → (cursor a 0).skip ≡ 0
 no_skip a = ap (λ (c : CursorParts). c.skip) (cursor_is a 0 ∙ ap (cursor_by a 0) (none_given a)) ∙ by_none a
 
 -- What is left where some of what comes next is given already.
-pub rest_within : (l : Listed) (a : Source) (k : ℕ) (t : State) (ds : List ℕ) (n j : ℕ) → StandsIn l a k → 0 < k → Passes t ds n (resumed l.shown (standing_by (in_characters l.source) l.shown).line) (standing_by (in_characters l.source) l.shown).left → l.shown.skip ≡ n + j → rest a k ≡ drop j (remaining (in_characters l.source).fault t ds)
+pub rest_within : (l : Listed) (a : Source) (k : ℕ) (t : State) (ds : List ℕ) (n j : ℕ) → StandsIn l a k → 0 < k
+    → Passes t ds n (resumed l.shown (standing_by (in_characters l.source) l.shown).line)
+    (standing_by (in_characters l.source) l.shown).left → l.shown.skip ≡ n + j
+    → rest a k ≡ drop j (remaining (in_characters l.source).fault t ds)
 rest_within l a k t ds n j h b p s =
     let c = h.count in
-    let r : List Step = remaining (in_characters l.source).fault (resumed l.shown (standing_by (in_characters l.source) l.shown).line) (standing_by (in_characters l.source) l.shown).left in
+    let r : List Step = remaining (in_characters l.source).fault (resumed l.shown (standing_by (in_characters l.source) l.shown).line)
+    (standing_by (in_characters l.source) l.shown).left in
     sym (rest_in l a k h) ∙ ahead_is (in_characters l.source) l.shown (omega arith) ∙ ap (λ m. drop m r) s ∙ sym (drop-drop j n r)
-    ∙ ap (drop j) (passes_steps (in_characters l.source).fault t ds n (resumed l.shown (standing_by (in_characters l.source) l.shown).line) (standing_by (in_characters l.source) l.shown).left p)
+    ∙ ap (drop j) (passes_steps (in_characters l.source).fault t ds n (resumed l.shown (standing_by (in_characters l.source) l.shown).line)
+    (standing_by (in_characters l.source) l.shown).left p)
 
 -- the one of some marks that comes after j of them
-mark_next : (j m : ℕ) (e : Entry) (r : List Step) → j < m → first_step (drop j (behind_steps (replicate m (steps.Entry e)) r)) ≡ steps.Entry e
+mark_next : (j m : ℕ) (e : Entry) (r : List Step) → j < m
+    → first_step (drop j (behind_steps (replicate m (steps.Entry e)) r)) ≡ steps.Entry e
 mark_next j zero e r h = absurd (omega arith)
 mark_next zero (suc m) e r h = refl
 mark_next (suc j) (suc m) e r h = mark_next j m e r (omega arith)
 
 -- A DEDENT is the next step, where j of a line's are given.
-pub dedent_first : (l : Listed) (a : Source) (k : ℕ) (t : State) (ds : List ℕ) (n j : ℕ) → StandsIn l a k → 0 < k → Passes t ds n (resumed l.shown (standing_by (in_characters l.source) l.shown).line) (standing_by (in_characters l.source) l.shown).left → l.shown.skip ≡ n + j → t.margin ≡ true → begins_significant ds ≡ true → layout_of t ≡ dedents_at t.width t.levels t.now.offset t.now.place → j < count_by (nat_lt t.width) t.levels → first_step (rest a k) ≡ mark_at kinds.Dedent t.now.offset t.now.place t.now.place
+pub dedent_first : (l : Listed) (a : Source) (k : ℕ) (t : State) (ds : List ℕ) (n j : ℕ) → StandsIn l a k → 0 < k
+    → Passes t ds n (resumed l.shown (standing_by (in_characters l.source) l.shown).line)
+    (standing_by (in_characters l.source) l.shown).left → l.shown.skip ≡ n + j → t.margin ≡ true → begins_significant ds ≡ true
+    → layout_of t ≡ dedents_at t.width t.levels t.now.offset t.now.place → j < count_by (nat_lt t.width) t.levels
+    → first_step (rest a k) ≡ mark_at kinds.Dedent t.now.offset t.now.place t.now.place
 dedent_first l a k t ds n j h b p s m g y c =
     ap first_step (rest_within l a k t ds n j h b p s)
-    ∙ ap (λ ss. first_step (drop j ss)) (measured_significant (in_characters l.source).fault t ds m g ∙ ap (λ ss. behind_steps ss (remaining (in_characters l.source).fault (measured t) ds)) y)
+    ∙ ap (λ ss. first_step (drop j ss)) (measured_significant (in_characters l.source).fault t ds m g
+    ∙ ap (λ ss. behind_steps ss (remaining (in_characters l.source).fault (measured t) ds)) y)
     ∙ mark_next j (count_by (nat_lt t.width) t.levels) _ (remaining (in_characters l.source).fault (measured t) ds) c
 
 -- A fault is the next step: of a line that is on no open level, or of a closing bracket
 -- without its opening one.
-pub mismatch_first : (l : Listed) (a : Source) (k : ℕ) (t : State) (ds : List ℕ) → StandsIn l a k → 0 < k → Passes t ds l.shown.skip (resumed l.shown (standing_by (in_characters l.source) l.shown).line) (standing_by (in_characters l.source) l.shown).left → t.margin ≡ true → begins_significant ds ≡ true → is_above t.width t.levels ≡ false → is_level t.width t.levels ≡ false → first_step (rest a k) ≡ fault_at errors.UnindentMismatch t.now.place
+pub mismatch_first : (l : Listed) (a : Source) (k : ℕ) (t : State) (ds : List ℕ) → StandsIn l a k → 0 < k
+    → Passes t ds l.shown.skip (resumed l.shown (standing_by (in_characters l.source) l.shown).line)
+    (standing_by (in_characters l.source) l.shown).left → t.margin ≡ true → begins_significant ds ≡ true → is_above t.width t.levels ≡ false
+    → is_level t.width t.levels ≡ false → first_step (rest a k) ≡ fault_at errors.UnindentMismatch t.now.place
 mismatch_first l a k t ds h n p m b w v =
-    ap first_step (rest_there l a k t ds h n p ∙ measured_significant (in_characters l.source).fault t ds m b ∙ ap (λ ss. behind_steps ss (remaining (in_characters l.source).fault (measured t) ds)) (layout_mismatch t m w v))
+    ap first_step (rest_there l a k t ds h n p ∙ measured_significant (in_characters l.source).fault t ds m b
+    ∙ ap (λ ss. behind_steps ss (remaining (in_characters l.source).fault (measured t) ds)) (layout_mismatch t m w v))
 
-pub lexeme_fault : (l : Listed) (a : Source) (k : ℕ) (t : State) (ds : List ℕ) (x : Lexeme) (f : ListingFault) → StandsIn l a k → 0 < k → Passes t ds l.shown.skip (resumed l.shown (standing_by (in_characters l.source) l.shown).line) (standing_by (in_characters l.source) l.shown).left → (t.margin && begins_significant ds) ≡ false → lexeme_at ds ≡ Some x → entry_by t x ≡ steps.Fault f ∷ [] → first_step (rest a k) ≡ steps.Fault f
+pub lexeme_fault : (l : Listed) (a : Source) (k : ℕ) (t : State) (ds : List ℕ) (x : Lexeme) (f : ListingFault) → StandsIn l a k → 0 < k
+    → Passes t ds l.shown.skip (resumed l.shown (standing_by (in_characters l.source) l.shown).line)
+    (standing_by (in_characters l.source) l.shown).left → (t.margin && begins_significant ds) ≡ false → lexeme_at ds ≡ Some x
+    → entry_by t x ≡ steps.Fault f ∷ [] → first_step (rest a k) ≡ steps.Fault f
 lexeme_fault l a k t ds x f h n p d o q =
     let significant : (t.margin && is_significant x) ≡ false = ap (λ b. t.margin && b) (significant_is ds x o) ∙ d in
-    ap first_step (rest_there l a k t ds h n p ∙ remaining_lexeme (in_characters l.source).fault t ds x o ∙ ap (λ ss. behind_steps ss (remaining (in_characters l.source).fault (after t x) (drop (lexeme_len ds) ds))) (no_layout t x significant ∙ q))
+    ap first_step (rest_there l a k t ds h n p ∙ remaining_lexeme (in_characters l.source).fault t ds x o
+    ∙ ap (λ ss. behind_steps ss (remaining (in_characters l.source).fault (after t x) (drop (lexeme_len ds) ds)))
+    (no_layout t x significant ∙ q))
 
 -- Where no lexeme stands, the steps of the stop are left, of which j are given already.
-pub rest_at_stop : (l : Listed) (a : Source) (k : ℕ) (t : State) (ds : List ℕ) (n j : ℕ) → StandsIn l a k → 0 < k → Passes t ds n (resumed l.shown (standing_by (in_characters l.source) l.shown).line) (standing_by (in_characters l.source) l.shown).left → l.shown.skip ≡ n + j → lexeme_at ds ≡ None → rest a k ≡ drop j (up_to_end (stop_of (in_characters l.source).fault t ds))
-rest_at_stop l a k t ds n j h b p s e = rest_within l a k t ds n j h b p s ∙ ap (drop j) (remaining_stop (in_characters l.source).fault t ds e)
+pub rest_at_stop : (l : Listed) (a : Source) (k : ℕ) (t : State) (ds : List ℕ) (n j : ℕ) → StandsIn l a k → 0 < k
+    → Passes t ds n (resumed l.shown (standing_by (in_characters l.source) l.shown).line)
+    (standing_by (in_characters l.source) l.shown).left → l.shown.skip ≡ n + j → lexeme_at ds ≡ None
+    → rest a k ≡ drop j (up_to_end (stop_of (in_characters l.source).fault t ds))
+rest_at_stop l a k t ds n j h b p s e = rest_within l a k t ds n j h b p s
+    ∙ ap (drop j) (remaining_stop (in_characters l.source).fault t ds e)

@@ -3,7 +3,8 @@
 --
 -- Carries: passes_steps, passes_reach, Reached, plain_stood and 3 more, for Cursoring. On: Points,
 -- Law, Finding, Measured and 2 more.
-use Rattle.std.proofs.Common.{◌≡◌, ℕ, ◌+◌, zero, suc, Bool, true, false, ◌&&◌, ◌==◌, cond, List, [], ◌∷◌, ◌++◌, drop, replicate, refl, ap, ◌∙◌, sym, subst, arith, Option, Some, None}
+use Rattle.std.proofs.Common.{◌≡◌, ℕ, ◌+◌, zero, suc, Bool, true, false, ◌&&◌, ◌==◌, cond, List, [], ◌∷◌, ◌++◌, drop, replicate, refl, ap}
+use Rattle.std.proofs.Common.{◌∙◌, sym, subst, arith, Option, Some, None}
 use Rattle.std.specs.List.{count_by}
 use Rattle.std.specs.Prelude.{nat_lt}
 use Rattle.pylex_lexeme.specs.declared.lexeme.Class.{Class}
@@ -32,13 +33,15 @@ drop_marks zero n e r = let o : 0 + n ≡ n = omega arith in rw o refl
 drop_marks (suc m) n e r = let o : suc m + n ≡ suc (m + n) = omega arith in rw o (drop_marks m n e r)
 
 -- past n DEDENTs and what gives nothing, the steps there are left
-pub passes_steps : (f : Option ListingFault) (t : State) (ds : List ℕ) (n : ℕ) (s : State) (cs : List ℕ) → Passes t ds n s cs → drop n (remaining f s cs) ≡ remaining f t ds
+pub passes_steps : (f : Option ListingFault) (t : State) (ds : List ℕ) (n : ℕ) (s : State) (cs : List ℕ) → Passes t ds n s cs
+    → drop n (remaining f s cs) ≡ remaining f t ds
 passes_steps f t ds n s cs here = refl
 passes_steps f t ds n s cs (lexeme m r bs x e g p) =
     ap (drop n) (remaining_lexeme f s cs x e ∙ ap (λ ss. behind_steps ss (remaining f (after s x) (drop (lexeme_len cs) cs))) g)
     ∙ passes_steps f t ds n (after s x) (drop (lexeme_len cs) cs) p
 passes_steps f t ds n s cs (layout m r bs a b l p) =
-    ap (drop (count_by (nat_lt s.width) s.levels + m)) (measured_significant f s cs a b ∙ ap (λ ss. behind_steps ss (remaining f (measured s) cs)) l)
+    ap (drop (count_by (nat_lt s.width) s.levels + m)) (measured_significant f s cs a b
+    ∙ ap (λ ss. behind_steps ss (remaining f (measured s) cs)) l)
     ∙ drop_marks (count_by (nat_lt s.width) s.levels) m _ (remaining f (measured s) cs)
     ∙ passes_steps f t ds m (measured s) cs p
 
@@ -52,7 +55,8 @@ silent_closes s x e = by_class x.«class» x.text e
     by_operator true false f g e = refl
     by_operator false d f g e = refl
 
-    by_class : (k : Class) (t : List ℕ) → entry_by s (record { «class» = k; text = t }) ≡ [] → (closes (record { «class» = k; text = t }) && (s.depth == 0)) ≡ false
+    by_class : (k : Class) (t : List ℕ) → entry_by s (record { «class» = k; text = t }) ≡ []
+        → (closes (record { «class» = k; text = t }) && (s.depth == 0)) ≡ false
     by_class Name t e = refl
     by_class Number t e = refl
     by_class String t e = refl
@@ -80,10 +84,12 @@ pub record Reached (a : Source) (t : State) (ds : List ℕ) : Type 0 where
   pub stood : StoodAt t before ds
 
 -- a significant token comes next where the layout is given
-pub next_alike : (s : State) (h : List Lexeme) (cs : List ℕ) (x : Lexeme) → lexeme_at cs ≡ Some x → IsBalanced h → (closes x && (depth h == 0)) ≡ false → StoodAt s h cs → GoesAs (after s x) (state_of (x ∷ h))
+pub next_alike : (s : State) (h : List Lexeme) (cs : List ℕ) (x : Lexeme) → lexeme_at cs ≡ Some x → IsBalanced h
+    → (closes x && (depth h == 0)) ≡ false → StoodAt s h cs → GoesAs (after s x) (state_of (x ∷ h))
 next_alike s h cs x e b n (plain g) = subst (GoesAs (after s x)) (sym (state_push h x b n)) (after_alike s (state_of h) x g)
 next_alike s h cs x e b n (laid m t g) =
-    let same : after (measured (state_of h)) x ≡ state_of (x ∷ h) = after_measured (state_of h) x.«class» x.text (state_at_margin h ∙ m) (significant_is cs x e ∙ t) ∙ sym (state_push h x b n) in
+    let same : after (measured (state_of h)) x ≡ state_of (x ∷ h) = after_measured (state_of h) x.«class» x.text (state_at_margin h ∙ m)
+    (significant_is cs x e ∙ t) ∙ sym (state_push h x b n) in
     subst (GoesAs (after s x)) same (after_alike s (measured (state_of h)) x g)
 
 -- the depth of a state that goes on as another
@@ -104,7 +110,8 @@ pub record Next (a : Source) (h : List Lexeme) (cs left : List ℕ) (x : Lexeme)
   pub later : List Lexeme
   pub placed : Placed a (x ∷ h) later (drop (lexeme_len cs) cs) left
 
-pub next_of : (a : Source) (h xs : List Lexeme) (cs left : List ℕ) (x : Lexeme) → lexeme_at cs ≡ Some x → Placed a h xs cs left → Next a h cs left x
+pub next_of : (a : Source) (h xs : List Lexeme) (cs left : List ℕ) (x : Lexeme) → lexeme_at cs ≡ Some x
+    → Placed a h xs cs left → Next a h cs left x
 next_of a h [] cs left x e p = let n : None ≡ Some x = sym p.lexemes.1 ∙ e in absurd (nothing n)
   where
     nothing : None ≡ Some x → ⊥
@@ -115,14 +122,16 @@ next_of a h (y ∷ xs) cs left x e p =
     let d : p.lexemes.0 ≡ drop (lexeme_len cs) cs = sym (behind_first cs p.lexemes.0 y p.lexemes.1 p.lexemes.2) in
     record {
       later = xs;
-      placed = subst (λ (z : Lexeme). Placed a (z ∷ h) xs (drop (lexeme_len cs) cs) left) s (subst (λ (t : List ℕ). Placed a (y ∷ h) xs t left) d (placed_next a h xs y cs left p));
+      placed = subst (λ (z : Lexeme). Placed a (z ∷ h) xs (drop (lexeme_len cs) cs) left) s
+          (subst (λ (t : List ℕ). Placed a (y ∷ h) xs t left) d (placed_next a h xs y cs left p));
     }
   where
     same_lexeme : Some y ≡ Some x → y ≡ x
     same_lexeme e = cc
 
 -- one lexeme on, whatever it gives
-pub reached_next : (a : Source) (s : State) (cs : List ℕ) (x : Lexeme) → lexeme_at cs ≡ Some x → (closes x && (s.depth == 0)) ≡ false → (r : Reached a s cs) → Reached a (after s x) (drop (lexeme_len cs) cs)
+pub reached_next : (a : Source) (s : State) (cs : List ℕ) (x : Lexeme) → lexeme_at cs ≡ Some x → (closes x && (s.depth == 0)) ≡ false
+    → (r : Reached a s cs) → Reached a (after s x) (drop (lexeme_len cs) cs)
 reached_next a s cs x e n r =
     let q = next_of a r.before r.later cs r.left x e r.placed in
     let c : (closes x && (depth r.before == 0)) ≡ false = ap (λ d. closes x && (d == 0)) (sym (stood_depth s r.before cs r.stood)) ∙ n in
@@ -136,7 +145,8 @@ reached_next a s cs x e n r =
     }
 
 -- the layout of a line given
-reached_measured : (a : Source) (s : State) (cs : List ℕ) → s.margin ≡ true → begins_significant cs ≡ true → Reached a s cs → Reached a (measured s) cs
+reached_measured : (a : Source) (s : State) (cs : List ℕ) → s.margin ≡ true → begins_significant cs ≡ true → Reached a s cs
+    → Reached a (measured s) cs
 reached_measured a s cs m t r =
     let g = plain_stood s r.before cs m r.stood in
     record {
@@ -148,7 +158,9 @@ reached_measured a s cs m t r =
       stood = laid (sym (state_at_margin r.before) ∙ sym g.margin ∙ m) t (measured_alike s (state_of r.before) g);
     }
 
-pub passes_reach : (a : Source) (t : State) (ds : List ℕ) (n : ℕ) (s : State) (cs : List ℕ) → Passes t ds n s cs → Reached a s cs → Reached a t ds
+pub passes_reach : (a : Source) (t : State) (ds : List ℕ) (n : ℕ) (s : State) (cs : List ℕ) → Passes t ds n s cs
+    → Reached a s cs → Reached a t ds
 passes_reach a t ds n s cs here r = r
-passes_reach a t ds n s cs (lexeme m u bs x e g p) r = passes_reach a t ds n (after s x) (drop (lexeme_len cs) cs) p (reached_next a s cs x e (silent_closes s x (silent_entry s x g)) r)
+passes_reach a t ds n s cs (lexeme m u bs x e g p) r = passes_reach a t ds n (after s x) (drop (lexeme_len cs) cs) p
+    (reached_next a s cs x e (silent_closes s x (silent_entry s x g)) r)
 passes_reach a t ds n s cs (layout m u bs b c l p) r = passes_reach a t ds m (measured s) cs p (reached_measured a s cs b c r)

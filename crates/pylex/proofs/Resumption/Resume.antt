@@ -2,7 +2,8 @@
 --
 -- Carries: Full, begun_at, cursor_skips, cursor_moves and 13 more, for Agreement, Ahead, Returning,
 -- Skips and 7 more. On: Law.
-use Rattle.std.proofs.Common.{◌≡◌, ℕ, ◌+◌, ◌-◌, ◌≤◌, ◌<◌, suc, leb, Bool, true, false, not, ◌&&◌, ◌==◌, List, [], ◌∷◌, ◌++◌, length, take, drop, reverse, refl, ap, ◌∙◌, sym, arith, Option, Some, None, append_assoc, ⊎_elim}
+use Rattle.std.proofs.Common.{◌≡◌, ℕ, ◌+◌, ◌-◌, ◌≤◌, ◌<◌, suc, leb, Bool, true, false, not, ◌&&◌, ◌==◌, List, [], ◌∷◌, ◌++◌, length, take}
+use Rattle.std.proofs.Common.{drop, reverse, refl, ap, ◌∙◌, sym, arith, Option, Some, None, append_assoc, ⊎_elim}
 use Rattle.std.specs.List.{prefix_len}
 use Rattle.std.proofs.lemmas.List.{append-nil, reverse-append, reverse-reverse, take-append-drop, append_cancel_left}
 use Rattle.std.proofs.lemmas.Str.{length-le-encodes}
@@ -15,7 +16,8 @@ use Rattle.pylex.specs.Listing.{last_line, Source}
 use Rattle.std.specs.List.{count_by}
 use Rattle.std.proofs.lemmas.Grind.{common_steps}
 use Rattle.pylex.specs.declared.entries.Entry.{Entry}
-use Rattle.pylex.specs.Cursors.{lexemes_to, CursorParts, given_last_first, has_no_text, is_encoding, is_indent, cursor, cursor_at, with_text}
+use Rattle.pylex.specs.Cursors.{lexemes_to, CursorParts, given_last_first, has_no_text, is_encoding, is_indent, cursor, cursor_at}
+use Rattle.pylex.specs.Cursors.{with_text}
 use Rattle.pylex.specs.Machine.{State, gives, layout_of, entry_by, after, ends_line, stop_of, tail_of, last_line_end, run}
 use Rattle.pylex.specs.declared.point.Point.{Point}
 use Rattle.pylex.specs.Standing.{front_to, back_from, line_begin, Agrees, standing_by}
@@ -77,7 +79,8 @@ front_in (c ∷ x) y n h =
     let b = bytes_cons c x in
     let l : leb (bytes_in (c ∷ [])) n ≡ true = grind (arith, nat_tests) in
     let e : n - bytes_in (c ∷ x) ≡ (n - bytes_in (c ∷ [])) - bytes_in x = omega arith in
-    let i : front_to (n - bytes_in (c ∷ [])) (x ++ y) ≡ x ++ front_to ((n - bytes_in (c ∷ [])) - bytes_in x) y = front_in x y (n - bytes_in (c ∷ [])) (omega arith) in
+    let i : front_to (n - bytes_in (c ∷ [])) (x ++ y) ≡ x ++ front_to ((n - bytes_in (c ∷ [])) - bytes_in x) y =
+    front_in x y (n - bytes_in (c ∷ [])) (omega arith) in
     rw (l, e) (ap (λ t. c ∷ t) i)
 
 pub front_zero : (t : List ℕ) → front_to 0 t ≡ []
@@ -142,15 +145,21 @@ parted n text =
     let fb = front_bytes text n in
     let lb : line_begin n text ≡ bytes_in pre = omega arith in
     let fp : front_to (bytes_in pre) text ≡ pre =
-    ap (front_to (bytes_in pre)) ts ∙ front_in pre (line ++ back) (bytes_in pre) (omega arith) ∙ ap (λ k. pre ++ front_to k (line ++ back)) (none (bytes_in pre)) ∙ ap (λ t. pre ++ t) (front_zero (line ++ back)) ∙ append-nil pre in
-    let bf : back_from (bytes_in pre) text ≡ line ++ back = ap (λ t. drop (length t) text) fp ∙ ap (drop (length pre)) ts ∙ drop_of pre (line ++ back) in
+    ap (front_to (bytes_in pre)) ts ∙ front_in pre (line ++ back) (bytes_in pre) (omega arith)
+    ∙ ap (λ k. pre ++ front_to k (line ++ back)) (none (bytes_in pre))
+    ∙ ap (λ t. pre ++ t) (front_zero (line ++ back)) ∙ append-nil pre in
+    let bf : back_from (bytes_in pre) text ≡ line ++ back = ap (λ t. drop (length t) text) fp ∙ ap (drop (length pre)) ts
+    ∙ drop_of pre (line ++ back) in
     let bl : back_from (line_begin n text) text ≡ line ++ back = ap (λ k. back_from k text) lb ∙ bf in
-    let fl : pre ++ line ≡ pre ++ front_to (n - bytes_in pre) (line ++ back) = fs ∙ ap (front_to n) ts ∙ front_in pre (line ++ back) n (omega arith) in
+    let fl : pre ++ line ≡ pre ++ front_to (n - bytes_in pre) (line ++ back) = fs ∙ ap (front_to n) ts
+    ∙ front_in pre (line ++ back) n (omega arith) in
     let ll : line ≡ front_to (n - line_begin n text) (back_from (line_begin n text) text) =
-    append_cancel_left pre line (front_to (n - bytes_in pre) (line ++ back)) fl ∙ sym (ap (λ k. front_to (n - k) (line ++ back)) lb) ∙ sym (ap (front_to (n - line_begin n text)) bl) in
+    append_cancel_left pre line (front_to (n - bytes_in pre) (line ++ back)) fl ∙ sym (ap (λ k. front_to (n - k) (line ++ back)) lb)
+    ∙ sym (ap (front_to (n - line_begin n text)) bl) in
     record {
       line = ll;
-      left = sym (drop_of line back) ∙ ap (λ t. drop (length t) (line ++ back)) ll ∙ sym (ap (drop (length (front_to (n - line_begin n text) (back_from (line_begin n text) text)))) bl);
+      left = sym (drop_of line back) ∙ ap (λ t. drop (length t) (line ++ back)) ll
+          ∙ sym (ap (drop (length (front_to (n - line_begin n text) (back_from (line_begin n text) text)))) bl);
     }
   where
     none : (k : ℕ) → k - k ≡ 0
@@ -165,9 +174,11 @@ agreeing a b c g =
     let e = g.begins in
     let s = g.same in
     let line : last_line (front_to c.offset b.text) ≡ last_line (front_to c.offset a.text) =
-    q.line ∙ sym (ap (λ k. front_to (c.offset - k) (back_from (line_begin c.offset b.text) b.text)) e) ∙ sym (ap (front_to (c.offset - line_begin c.offset a.text)) s) ∙ sym p.line in
+    q.line ∙ sym (ap (λ k. front_to (c.offset - k) (back_from (line_begin c.offset b.text) b.text)) e)
+    ∙ sym (ap (front_to (c.offset - line_begin c.offset a.text)) s) ∙ sym p.line in
     let left : back_from c.offset b.text ≡ back_from c.offset a.text =
-    q.left ∙ sym (ap (λ k. back_from (c.offset - k) (back_from (line_begin c.offset b.text) b.text)) e) ∙ sym (ap (back_from (c.offset - line_begin c.offset a.text)) s) ∙ sym p.left in
+    q.left ∙ sym (ap (λ k. back_from (c.offset - k) (back_from (line_begin c.offset b.text) b.text)) e)
+    ∙ sym (ap (back_from (c.offset - line_begin c.offset a.text)) s) ∙ sym p.left in
     let f = g.fault in
     rw (line, left, f) refl
 
@@ -180,7 +191,8 @@ and_false : (b : Bool) → (b && false) ≡ false
 and_false true = refl
 and_false false = refl
 
-after_goes : (s : State) (p : Point) (x : Lexeme) → s.margin ≡ false → ends_line s x ≡ false → after (begun_at s p) x ≡ begun_at (after s x) p
+after_goes : (s : State) (p : Point) (x : Lexeme) → s.margin ≡ false → ends_line s x ≡ false
+    → after (begun_at s p) x ≡ begun_at (after s x) p
 unfolding after
 after_goes s p x m e = let b = and_false (is_of_blanks x) in rw (e, m, b) refl
 
@@ -188,32 +200,40 @@ pub margin_goes : (s : State) (x : Lexeme) → s.margin ≡ false → ends_line 
 unfolding after
 margin_goes s x m e = let b = and_false (is_of_blanks x) in rw (e, m) b
 
-stop_same : (fault : Option ListingFault) (left : List ℕ) (s : State) (p : Point) → s.margin ≡ false → stop_of fault s left ≡ stop_of fault (begun_at s p) left
+stop_same : (fault : Option ListingFault) (left : List ℕ) (s : State) (p : Point) → s.margin ≡ false
+    → stop_of fault s left ≡ stop_of fault (begun_at s p) left
 unfolding stop_of layout_of tail_of last_line_end
 stop_same None left s p m = rw m refl
 stop_same (Some f) left s p m = rw m refl
 
-pub run_same : (fault : Option ListingFault) (left : List ℕ) (xs : List Lexeme) (s : State) (p : Point) → s.margin ≡ false → run fault left s xs ≡ run fault left (begun_at s p) xs
+pub run_same : (fault : Option ListingFault) (left : List ℕ) (xs : List Lexeme) (s : State) (p : Point) → s.margin ≡ false
+    → run fault left s xs ≡ run fault left (begun_at s p) xs
 run_same fault left [] s p m = stop_same fault left s p m
 run_same fault left (x ∷ xs) s p m =
     ap (λ g. g ++ run fault left (after s x) xs) (gives_same s p x m)
     ∙ ap (λ r. gives (begun_at s p) x ++ r)
     (⊎_elim
     (λ (e : ends_line s x ≡ true). ap (λ t. run fault left t xs) (sym (after_ends s p x m e)))
-    (λ (e : ends_line s x ≡ false). run_same fault left xs (after s x) p (margin_goes s x m e) ∙ ap (λ t. run fault left t xs) (sym (after_goes s p x m e)))
+    (λ (e : ends_line s x ≡ false). run_same fault left xs (after s x) p (margin_goes s x m e)
+    ∙ ap (λ t. run fault left t xs) (sym (after_goes s p x m e)))
     (bool_cases (ends_line s x)))
 
 -- One more entry: without text it counts as skipped, with text the point is behind it.
-pub cursor_skips : (s : Source) (k : ℕ) (e : Entry) → given_last_first s (k + 1) ≡ e ∷ given_last_first s k → has_no_text e ≡ true → is_encoding e ≡ false → cursor s (k + 1) ≡ record (cursor s k) { given = k + 1; skip = (cursor s k).skip + 1 }
+pub cursor_skips : (s : Source) (k : ℕ) (e : Entry) → given_last_first s (k + 1) ≡ e ∷ given_last_first s k → has_no_text e ≡ true
+    → is_encoding e ≡ false → cursor s (k + 1) ≡ record (cursor s k) { given = k + 1; skip = (cursor s k).skip + 1 }
 unfolding cursor cursor_at with_text
 cursor_skips s k e g t n =
     let o : (m : ℕ) → 1 + m ≡ suc m = λ m. omega arith in
-    let c : (es : List Entry) → count_by (λ d. not (is_encoding d)) (e ∷ es) ≡ count_by (λ d. not (is_encoding d)) es + 1 = λ es. skipped e es n in
-    rw (g, t, o (prefix_len has_no_text (given_last_first s k))) (ap (λ q. record (cursor s k) { given = k + 1; skip = q }) (c (take (prefix_len has_no_text (given_last_first s k)) (given_last_first s k))))
+    let c : (es : List Entry) → count_by (λ d. not (is_encoding d)) (e ∷ es) ≡ count_by (λ d. not (is_encoding d)) es +
+    1 = λ es. skipped e es n in
+    rw (g, t, o (prefix_len has_no_text (given_last_first s k))) (ap (λ q. record (cursor s k) { given = k + 1; skip = q })
+    (c (take (prefix_len has_no_text (given_last_first s k)) (given_last_first s k))))
   where
-    skipped : (e : Entry) (es : List Entry) → is_encoding e ≡ false → count_by (λ d. not (is_encoding d)) (e ∷ es) ≡ count_by (λ d. not (is_encoding d)) es + 1
+    skipped : (e : Entry) (es : List Entry) → is_encoding e ≡ false → count_by (λ d. not (is_encoding d)) (e ∷ es) ≡ count_by
+        (λ d. not (is_encoding d)) es + 1
     skipped e es n = grind (arith, common_steps)
 
-pub cursor_moves : (s : Source) (k : ℕ) (e : Entry) → given_last_first s (k + 1) ≡ e ∷ given_last_first s k → has_no_text e ≡ false → cursor s (k + 1) ≡ cursor_at (k + 1) 0 (is_indent e) (lexemes_to e.to [] (cut s.text))
+pub cursor_moves : (s : Source) (k : ℕ) (e : Entry) → given_last_first s (k + 1) ≡ e ∷ given_last_first s k → has_no_text e ≡ false
+    → cursor s (k + 1) ≡ cursor_at (k + 1) 0 (is_indent e) (lexemes_to e.to [] (cut s.text))
 unfolding cursor with_text
 cursor_moves s k e g t = rw (g, t) refl

@@ -37,7 +37,8 @@ column_is t = sym (length-reverse (take_while goes_on (reverse t)) ∙ front_len
 front_again : (r : List ℕ) → take_while goes_on (take_while goes_on r) ≡ take_while goes_on r
 front_again [] = refl
 front_again (c ∷ r) = ⊎_elim
-    (λ (e : (c == 10) ≡ true). let w : take_while goes_on (c ∷ r) ≡ [] = rw take_while-cons (rw e refl) in ap (take_while goes_on) w ∙ sym w)
+    (λ (e : (c == 10) ≡ true). let w : take_while goes_on (c ∷ r) ≡ [] = rw take_while-cons (rw e refl) in
+    ap (take_while goes_on) w ∙ sym w)
     (λ (e : (c == 10) ≡ false).
     let h = front_again r in
     let w : take_while goes_on (c ∷ r) ≡ c ∷ take_while goes_on r = rw take_while-cons (rw e refl) in
@@ -48,20 +49,25 @@ front_again (c ∷ r) = ⊎_elim
 pub front_line : (t : List ℕ) → lead_after Nothing (last_line t) ≡ lead_after Nothing t
 unfolding last_line
 front_line t =
-    let again : last_line (last_line t) ≡ last_line t = ap (λ r. reverse (take_while goes_on r)) (reverse-reverse (take_while goes_on (reverse t))) ∙ ap reverse (front_again (reverse t)) in
+    let again : last_line (last_line t) ≡ last_line t =
+    ap (λ r. reverse (take_while goes_on r)) (reverse-reverse (take_while goes_on (reverse t)))
+    ∙ ap reverse (front_again (reverse t)) in
     sym (last_front (last_line t) []) ∙ ap front_in again ∙ last_front t []
 
-pub resumed_begun : (h : List Lexeme) (k n : ℕ) → is_logical h ≡ true → is_at_margin h ≡ false → ends_in_join h ≡ false → resumed (cursor_at k n false h) (last_line (text_before h)) ≡ begun_at (state_of h) (point_after (text_before h))
+pub resumed_begun : (h : List Lexeme) (k n : ℕ) → is_logical h ≡ true → is_at_margin h ≡ false → ends_in_join h ≡ false
+    → resumed (cursor_at k n false h) (last_line (text_before h)) ≡ begun_at (state_of h) (point_after (text_before h))
 unfolding resumed cursor_at state_of
 resumed_begun h k n l m j =
     let c = sym (column_is (text_before h)) in
     let f = front_line (text_before h) in
     rw (c, f, l, m, j) refl
 
-pub resumed_start : (h : List Lexeme) (k n : ℕ) → line_so_far h ≡ [] → ends_in_join h ≡ false → last_line (text_before h) ≡ [] → resumed (cursor_at k n false h) (last_line (text_before h)) ≡ state_of h
+pub resumed_start : (h : List Lexeme) (k n : ℕ) → line_so_far h ≡ [] → ends_in_join h ≡ false → last_line (text_before h) ≡ []
+    → resumed (cursor_at k n false h) (last_line (text_before h)) ≡ state_of h
 unfolding resumed cursor_at state_of is_logical is_at_margin width_at width_from
 resumed_start h k n l j e =
     let c : (place_after (text_before h)).column ≡ 0 = column_is (text_before h) ∙ ap length e in
-    let p : record { row = (place_after (text_before h)).row; column = 0 } ≡ place_after (text_before h) = sym (ap (λ q. record { row = (place_after (text_before h)).row; column = q }) c) in
+    let p : record { row = (place_after (text_before h)).row; column = 0 } ≡ place_after (text_before h) =
+    sym (ap (λ q. record { row = (place_after (text_before h)).row; column = q }) c) in
     let f : Nothing ≡ lead_after Nothing (text_before h) = sym (ap (lead_after Nothing) e) ∙ front_line (text_before h) in
     rw (e, l, j, ← f, p) refl

@@ -1,7 +1,8 @@
 -- How many entries without text can follow one another behind a cursor's point.
 --
 -- Carries: skip_within, for Moving. On: Blocks, Cursoring, Resume, Layouts and 8 more.
-use Rattle.std.proofs.Common.{◌≡◌, ℕ, zero, suc, ◌+◌, ◌-◌, ◌≤◌, ◌<◌, Bool, true, false, not, ◌&&◌, ◌||◌, ◌==◌, cond, List, [], ◌∷◌, ◌++◌, length, map, drop, replicate, refl, ap, ◌∙◌, sym, subst, arith, Option, Some, None, append_assoc, ⊎_elim}
+use Rattle.std.proofs.Common.{◌≡◌, ℕ, zero, suc, ◌+◌, ◌-◌, ◌≤◌, ◌<◌, Bool, true, false, not, ◌&&◌, ◌||◌, ◌==◌, cond, List, [], ◌∷◌, ◌++◌}
+use Rattle.std.proofs.Common.{length, map, drop, replicate, refl, ap, ◌∙◌, sym, subst, arith, Option, Some, None, append_assoc, ⊎_elim}
 use Rattle.std.specs.List.{count_by}
 use Rattle.std.specs.Prelude.{nat_lt}
 use Rattle.std.proofs.lemmas.Bool.Decides.{nat_tests}
@@ -22,7 +23,8 @@ use Rattle.pylex_lexeme.specs.Chars.{bytes_in}
 use Rattle.pylex.specs.Listing.{Source, listing, rest, stop_fault, up_to_end}
 use Rattle.pylex.specs.Steps.{entries_of, first_step}
 use Rattle.pylex.specs.Cursors.{CursorParts, cursor_at, cursor, has_no_text}
-use Rattle.pylex.specs.Machine.{State, past, pushed, after, ends_line, still, dedents_at, mark_at, last_place, layout_of, entry_by, gives, is_hash, last_line_end, tail_of, stop_of, run, remaining}
+use Rattle.pylex.specs.Machine.{State, past, pushed, after, ends_line, still, dedents_at, mark_at, last_place, layout_of, entry_by, gives}
+use Rattle.pylex.specs.Machine.{is_hash, last_line_end, tail_of, stop_of, run, remaining}
 use Rattle.pylex.specs.LineState.{IsAscending, is_above, is_level}
 use Rattle.pylex.specs.Standing.{standing, resumed}
 use Rattle.pylex.specs.Listers.{Listed, StandsIn}
@@ -49,7 +51,8 @@ Leads n (steps.Fault f ∷ ss) = Unit {0}
 
 leads_more : (m n : ℕ) (ss : List Step) → m ≤ n → Leads m ss → Leads n ss
 leads_more m n [] h l = tt
-leads_more m n (steps.Entry e ∷ ss) h l = λ t. let p = l t in let q : 0 < m = p.0 in (omega arith, leads_more (m - 1) (n - 1) ss (omega arith) p.1)
+leads_more m n (steps.Entry e ∷ ss) h l = λ t. let p = l t in let q : 0 < m = p.0 in
+    (omega arith, leads_more (m - 1) (n - 1) ss (omega arith) p.1)
 leads_more m n (steps.End ∷ ss) h l = tt
 leads_more m n (steps.Fault f ∷ ss) h l = tt
 
@@ -61,9 +64,11 @@ leads_up_to_end n (steps.Fault f ∷ ss) l = tt
 
 marks_lead : (m n o : ℕ) (p : Place) (ss : List Step) → m ≤ n → Leads (n - m) ss → Leads n (replicate m (mark_at kinds.Dedent o p p) ++ ss)
 marks_lead zero n o p ss h l = let e : n - 0 ≡ n = omega arith in rw e at l
-marks_lead (suc m) n o p ss h l = λ t. (omega arith, marks_lead m (n - 1) o p ss (omega arith) (let e : n - suc m ≡ (n - 1) - m = omega arith in rw e at l))
+marks_lead (suc m) n o p ss h l =
+    λ t. (omega arith, marks_lead m (n - 1) o p ss (omega arith) (let e : n - suc m ≡ (n - 1) - m = omega arith in rw e at l))
 
-cond_leads : (b : Bool) (n : ℕ) (a c ss : List Step) → (b ≡ true → Leads n (a ++ ss)) → (b ≡ false → Leads n (c ++ ss)) → Leads n (cond b a c ++ ss)
+cond_leads : (b : Bool) (n : ℕ) (a c ss : List Step) → (b ≡ true → Leads n (a ++ ss)) → (b ≡ false → Leads n (c ++ ss))
+    → Leads n (cond b a c ++ ss)
 cond_leads true n a c ss h k = h refl
 cond_leads false n a c ss h k = k refl
 
@@ -78,15 +83,18 @@ record IsSound (s : State) : Type 0 where
   wide : s.margin ≡ true → 0 < s.width → s.line.offset < s.now.offset
 
 -- a lexeme that gives an entry with text, a fault, or nothing
-entry_leads : (s : State) (x : Lexeme) (n : ℕ) (ss : List Step) → 0 < bytes_in x.text → (is_of_line_end x ≡ false → Leads n ss) → Leads n (entry_by s x ++ ss)
+entry_leads : (s : State) (x : Lexeme) (n : ℕ) (ss : List Step) → 0 < bytes_in x.text → (is_of_line_end x ≡ false → Leads n ss)
+    → Leads n (entry_by s x ++ ss)
 unfolding entry_by
 entry_leads s x n ss f h = by_class x.«class» x.text f h
   where
-    by_class : (k : Class) (t : List ℕ) → 0 < bytes_in t → (is_of_line_end (record { «class» = k; text = t }) ≡ false → Leads n ss) → Leads n (entry_by s (record { «class» = k; text = t }) ++ ss)
+    by_class : (k : Class) (t : List ℕ) → 0 < bytes_in t → (is_of_line_end (record { «class» = k; text = t }) ≡ false → Leads n ss)
+        → Leads n (entry_by s (record { «class» = k; text = t }) ++ ss)
     by_class Name t f h = λ q. absurd (full_entry s.now.offset (bytes_in t) f q)
     by_class Number t f h = λ q. absurd (full_entry s.now.offset (bytes_in t) f q)
     by_class String t f h = λ q. absurd (full_entry s.now.offset (bytes_in t) f q)
-    by_class (Operator o) t f h = cond_leads (is_closer o && (s.depth == 0)) n _ _ ss (λ _. tt) (λ _ q. absurd (full_entry s.now.offset (bytes_in t) f q))
+    by_class (Operator o) t f h = cond_leads (is_closer o && (s.depth == 0)) n _ _ ss (λ _. tt)
+        (λ _ q. absurd (full_entry s.now.offset (bytes_in t) f q))
     by_class Comment t f h = λ q. absurd (full_entry s.now.offset (bytes_in t) f q)
     by_class Blanks t f h = h refl
     by_class LineEnd t f h = λ q. absurd (full_entry s.now.offset (bytes_in t) f q)
@@ -115,11 +123,14 @@ tail_leads s a =
     let g = ground_count s.levels a in
     let closes : Leads n (dedents_at 0 s.levels s.now.offset (last_place s) ++ marker) =
     marks_lead (count_by (nat_lt 0) s.levels) n s.now.offset (last_place s) marker (omega arith) (λ _. (omega arith, tt)) in
-    let more : Leads (n + 1) (dedents_at 0 s.levels s.now.offset (last_place s) ++ marker) = leads_more n (n + 1) (dedents_at 0 s.levels s.now.offset (last_place s) ++ marker) (omega arith) closes in
+    let more : Leads (n + 1) (dedents_at 0 s.levels s.now.offset (last_place s) ++ marker) =
+    leads_more n (n + 1) (dedents_at 0 s.levels s.now.offset (last_place s) ++ marker) (omega arith) closes in
     let o : (n + 1) - 1 ≡ n = omega arith in
-    let one : (0 < n + 1) × Leads ((n + 1) - 1) (dedents_at 0 s.levels s.now.offset (last_place s) ++ marker) = (omega arith, rw o closes) in
+    let one : (0 < n + 1) × Leads ((n + 1) - 1) (dedents_at 0 s.levels s.now.offset (last_place s) ++ marker) =
+    (omega arith, rw o closes) in
     pick (not (s.depth == 0) || s.joined) (n + 1) _ _ tt
-    (subst (λ (us : List Step). Leads (n + 1) us) (sym (append_assoc (last_line_end s) (dedents_at 0 s.levels s.now.offset (last_place s)) marker))
+    (subst (λ (us : List Step). Leads (n + 1) us)
+    (sym (append_assoc (last_line_end s) (dedents_at 0 s.levels s.now.offset (last_place s)) marker))
     (cond_leads s.logical (n + 1) _ _ (dedents_at 0 s.levels s.now.offset (last_place s) ++ marker)
     (λ _. cond_leads (is_hash s.lead) (n + 1) [] _ (dedents_at 0 s.levels s.now.offset (last_place s) ++ marker) (λ _. more) (λ _ t. one))
     (λ _. cond_leads s.margin (n + 1) [] _ (dedents_at 0 s.levels s.now.offset (last_place s) ++ marker) (λ _. more) (λ _ t. one))))
@@ -132,7 +143,9 @@ tail_leads s a =
 fault_leads : (fault : Option ListingFault) (p : Place) (left : List ℕ) (n : ℕ) → Leads n (stop_fault fault p left ∷ [])
 fault_leads fault p left n = let f = stop_is_fault fault p left in subst (λ (t : Step). Leads n (t ∷ [])) (sym f.1) tt
 
-stop_leads : (fault : Option ListingFault) (left : List ℕ) (s : State) → AreApart s.levels → Leads (length s.levels + 1) (layout_of s ++ stop_fault fault s.now.place left ∷ []) → Leads (length s.levels + 1) (stop_of fault s left)
+stop_leads : (fault : Option ListingFault) (left : List ℕ) (s : State) → AreApart s.levels
+    → Leads (length s.levels + 1) (layout_of s ++ stop_fault fault s.now.place left ∷ [])
+    → Leads (length s.levels + 1) (stop_of fault s left)
 unfolding stop_of
 stop_leads fault left s a h = pick (not (length left == 0)) (length s.levels + 1) _ _ h (by_fault fault)
   where
@@ -155,13 +168,17 @@ not_ends s x e = ap (λ b. b && (s.depth == 0)) e
 begun_gives : (s : State) (x : Lexeme) → s.margin ≡ false → gives s x ≡ entry_by s x
 begun_gives s x m = no_layout s x (ap (λ b. b && is_significant x) m)
 
-begun_leads : (fault : Option ListingFault) (left : List ℕ) (xs : List Lexeme) (s : State) → Full xs → AreApart s.levels → s.margin ≡ false → Leads (length s.levels + 1) (run fault left s xs)
-begun_leads fault left [] s f a m = stop_leads fault left s a (subst (λ (ss : List Step). Leads (length s.levels + 1) (ss ++ stop_fault fault s.now.place left ∷ [])) (sym (settled_layout s m)) (fault_leads fault s.now.place left (length s.levels + 1)))
+begun_leads : (fault : Option ListingFault) (left : List ℕ) (xs : List Lexeme) (s : State) → Full xs → AreApart s.levels → s.margin ≡ false
+    → Leads (length s.levels + 1) (run fault left s xs)
+begun_leads fault left [] s f a m =
+    stop_leads fault left s a (subst (λ (ss : List Step). Leads (length s.levels + 1) (ss ++ stop_fault fault s.now.place left ∷ []))
+    (sym (settled_layout s m)) (fault_leads fault s.now.place left (length s.levels + 1)))
 begun_leads fault left (x ∷ xs) s f a m =
     let l = levels_stay s x m in
     subst (λ (ss : List Step). Leads (length s.levels + 1) (ss ++ run fault left (after s x) xs)) (sym (begun_gives s x m))
     (entry_leads s x (length s.levels + 1) (run fault left (after s x) xs) f.0
-    (λ e. subst (λ (n : ℕ). Leads (n + 1) (run fault left (after s x) xs)) (ap length l) (begun_leads fault left xs (after s x) f.1 (subst AreApart (sym l) a) (margin_goes s x m (not_ends s x e)))))
+    (λ e. subst (λ (n : ℕ). Leads (n + 1) (run fault left (after s x) xs)) (ap length l)
+    (begun_leads fault left xs (after s x) f.1 (subst AreApart (sym l) a) (margin_goes s x m (not_ends s x e)))))
 
 -- Where one may be due, a DEDENT closes a level, and an INDENT has text.
 above_zero : (w : ℕ) (levels : List ℕ) → 1 ≤ count_by (λ u. u == 0) levels → is_above w levels ≡ true → 0 < w
@@ -171,13 +188,15 @@ above_zero w (v ∷ levels) c a =
     let less : v < w = let q = p.0 in grind (arith, nat_tests) in
     omega arith
 
-layout_leads : (s : State) (ss : List Step) → IsSound s → s.margin ≡ true → (is_level s.width s.levels ≡ true → Leads (length (pushed s.width s.levels) + 1) ss) → Leads (length s.levels + 1) (layout_of s ++ ss)
+layout_leads : (s : State) (ss : List Step) → IsSound s → s.margin ≡ true
+    → (is_level s.width s.levels ≡ true → Leads (length (pushed s.width s.levels) + 1) ss) → Leads (length s.levels + 1) (layout_of s ++ ss)
 layout_leads s ss i m h = ⊎_elim
     (λ (b : is_above s.width s.levels ≡ true).
     let g = i.apart.ground in
     let w = above_zero s.width s.levels (omega arith) b in
     let less = i.wide m w in
-    subst (λ (us : List Step). Leads (length s.levels + 1) (us ++ ss)) (sym (layout_indent s m b)) (λ q. absurd (apart s.line.offset s.now.offset less q)))
+    subst (λ (us : List Step). Leads (length s.levels + 1) (us ++ ss)) (sym (layout_indent s m b))
+    (λ q. absurd (apart s.line.offset s.now.offset less q)))
     (λ (b : is_above s.width s.levels ≡ false). ⊎_elim
     (λ (v : is_level s.width s.levels ≡ true).
     let l = pushed_length s.width s.levels in
@@ -188,7 +207,8 @@ layout_leads s ss i m h = ⊎_elim
     let n : length (pushed s.width s.levels) + 1 ≡ (length s.levels + 1) - d = omega arith in
     subst (λ (us : List Step). Leads (length s.levels + 1) (us ++ ss)) (sym (layout_dedents s m b v))
     (marks_lead d (length s.levels + 1) s.now.offset s.now.place ss (omega arith) (subst (λ (k : ℕ). Leads k ss) n (h v))))
-    (λ (v : is_level s.width s.levels ≡ false). subst (λ (us : List Step). Leads (length s.levels + 1) (us ++ ss)) (sym (layout_mismatch s m b v)) tt)
+    (λ (v : is_level s.width s.levels ≡ false). subst (λ (us : List Step). Leads (length s.levels + 1) (us ++ ss))
+    (sym (layout_mismatch s m b v)) tt)
     (bool_cases (is_level s.width s.levels)))
     (bool_cases (is_above s.width s.levels))
   where
@@ -211,11 +231,13 @@ sound_order s x h = either (ends_line s x)
     either true = omega arith
     either false = omega arith
 
-sound_wide : (s : State) (x : Lexeme) → s.line.offset ≤ s.now.offset → 0 < bytes_in x.text → 0 < (after s x).width → (after s x).line.offset < (after s x).now.offset
+sound_wide : (s : State) (x : Lexeme) → s.line.offset ≤ s.now.offset → 0 < bytes_in x.text → 0 < (after s x).width
+    → (after s x).line.offset < (after s x).now.offset
 unfolding after
 sound_wide s x h f w = either (ends_line s x) w
   where
-    either : (b : Bool) → 0 < cond b 0 (still (is_of_blanks x && s.margin) (width_from s.width x.text)) → (cond b (past s.now x.text) s.line).offset < s.now.offset + bytes_in x.text
+    either : (b : Bool) → 0 < cond b 0 (still (is_of_blanks x && s.margin) (width_from s.width x.text))
+        → (cond b (past s.now x.text) s.line).offset < s.now.offset + bytes_in x.text
     either true w = absurd (omega arith)
     either false w = omega arith
 
@@ -234,9 +256,11 @@ plain_gives : (s : State) (x : Lexeme) → is_significant x ≡ false → gives 
 unfolding gives
 plain_gives s x e = rw e refl
 
-sound_leads : (fault : Option ListingFault) (left : List ℕ) (xs : List Lexeme) (s : State) → Full xs → IsSound s → Leads (length s.levels + 1) (run fault left s xs)
+sound_leads : (fault : Option ListingFault) (left : List ℕ) (xs : List Lexeme) (s : State) → Full xs → IsSound s
+    → Leads (length s.levels + 1) (run fault left s xs)
 sound_leads fault left [] s f i = ⊎_elim
-    (λ (m : s.margin ≡ true). stop_leads fault left s i.apart (layout_leads s _ i m (λ _. fault_leads fault s.now.place left (length (pushed s.width s.levels) + 1))))
+    (λ (m : s.margin ≡ true). stop_leads fault left s i.apart
+    (layout_leads s _ i m (λ _. fault_leads fault s.now.place left (length (pushed s.width s.levels) + 1))))
     (λ (m : s.margin ≡ false). begun_leads fault left [] s f i.apart m)
     (bool_cases s.margin)
 sound_leads fault left (x ∷ xs) s f i =
@@ -245,13 +269,18 @@ sound_leads fault left (x ∷ xs) s f i =
     (λ (m : s.margin ≡ true). ⊎_elim
     (λ (e : is_significant x ≡ true).
     let l = significant_levels s x m e in
-    let rest : Leads (length (pushed s.width s.levels) + 1) r = subst (λ (ls : List ℕ). Leads (length ls + 1) r) l (begun_leads fault left xs (after s x) f.1 (subst AreApart (sym l) (pushed_apart s.width s.levels i.apart)) (significant_margin s x e)) in
-    subst (λ (ss : List Step). Leads (length s.levels + 1) ss) (sym (ap (λ ss. ss ++ r) (significant_gives s x e) ∙ append_assoc (layout_of s) (entry_by s x) r))
+    let rest : Leads (length (pushed s.width s.levels) + 1) r = subst (λ (ls : List ℕ). Leads (length ls + 1) r) l
+    (begun_leads fault left xs (after s x) f.1 (subst AreApart (sym l) (pushed_apart s.width s.levels i.apart))
+    (significant_margin s x e)) in
+    subst (λ (ss : List Step). Leads (length s.levels + 1) ss) (sym (ap (λ ss. ss ++ r) (significant_gives s x e)
+    ∙ append_assoc (layout_of s) (entry_by s x) r))
     (layout_leads s (entry_by s x ++ r) i m (λ _. entry_leads s x (length (pushed s.width s.levels) + 1) r f.0 (λ _. rest))))
     (λ (e : is_significant x ≡ false).
     let l = plain_levels s x e in
-    let rest : Leads (length s.levels + 1) r = subst (λ (ls : List ℕ). Leads (length ls + 1) r) l (sound_leads fault left xs (after s x) f.1 (sound_after s x i f.0 e)) in
-    subst (λ (ss : List Step). Leads (length s.levels + 1) (ss ++ r)) (sym (plain_gives s x e)) (entry_leads s x (length s.levels + 1) r f.0 (λ _. rest)))
+    let rest : Leads (length s.levels + 1) r = subst (λ (ls : List ℕ). Leads (length ls + 1) r) l
+    (sound_leads fault left xs (after s x) f.1 (sound_after s x i f.0 e)) in
+    subst (λ (ss : List Step). Leads (length s.levels + 1) (ss ++ r)) (sym (plain_gives s x e))
+    (entry_leads s x (length s.levels + 1) r f.0 (λ _. rest)))
     (bool_cases (is_significant x)))
     (λ (m : s.margin ≡ false). begun_leads fault left (x ∷ xs) s f i.apart m)
     (bool_cases s.margin)
@@ -287,8 +316,10 @@ one_of n v ls h =
     later : (n : ℕ) (ls : List ℕ) → IsAscending n ls → count_by (λ u. u == v) ls ≤ 1
     later n [] h = omega arith
     later n (m ∷ ls) h = let c = count_step (λ u. u == v) m ls in ⊎_elim
-        (λ (e : (m == v) ≡ true). let s : m ≡ v = grind (arith, nat_tests) in let z = none_of m v ls h.1 (omega arith) in let o : ◌≡◌ {A = ℕ} (cond (m == v) 1 0) 1 = ap (λ b. cond {A = ℕ} b 1 0) e in omega arith)
-        (λ (e : (m == v) ≡ false). let z : ◌≡◌ {A = ℕ} (cond (m == v) 1 0) 0 = ap (λ b. cond {A = ℕ} b 1 0) e in let r = later m ls h.1 in omega arith)
+        (λ (e : (m == v) ≡ true). let s : m ≡ v = grind (arith, nat_tests) in let z = none_of m v ls h.1 (omega arith) in
+        let o : ◌≡◌ {A = ℕ} (cond (m == v) 1 0) 1 = ap (λ b. cond {A = ℕ} b 1 0) e in omega arith)
+        (λ (e : (m == v) ≡ false). let z : ◌≡◌ {A = ℕ} (cond (m == v) 1 0) 0 = ap (λ b. cond {A = ℕ} b 1 0) e in let r =
+        later m ls h.1 in omega arith)
         (bool_cases (m == v))
 
 apart_of : (levels : List ℕ) → Grounded levels → AreApart levels
@@ -306,9 +337,11 @@ levels_resumed : (c : CursorParts) (line : List ℕ) → (resumed c line).levels
 unfolding resumed
 levels_resumed c line = refl
 
-remaining_leads : (fault : Option ListingFault) (s : State) (text : List ℕ) → IsSound s → Leads (length s.levels + 1) (remaining fault s text)
+remaining_leads : (fault : Option ListingFault) (s : State) (text : List ℕ) → IsSound s
+    → Leads (length s.levels + 1) (remaining fault s text)
 unfolding remaining
-remaining_leads fault s text i = leads_up_to_end (length s.levels + 1) _ (sound_leads fault (left_by_cut text) (cut text) s (cut_full text) i)
+remaining_leads fault s text i =
+    leads_up_to_end (length s.levels + 1) _ (sound_leads fault (left_by_cut text) (cut text) s (cut_full text) i)
 
 -- What a cursor skips, and the entries without text that come next.
 record SkipsFew (a : Source) (k : ℕ) : Type 0 where
@@ -320,9 +353,11 @@ at_point a k n w z =
     let c = cursor a k in
     let g = given_of a k in
     let v = standing a k in
-    let r : rest a k ≡ remaining a.fault (resumed c v.line) v.left = sym (resumes v a k (record { within = w; is = refl })) ∙ ahead_is a c (omega arith) ∙ ap (λ m. drop m (remaining a.fault (resumed c v.line) v.left)) z in
+    let r : rest a k ≡ remaining a.fault (resumed c v.line) v.left = sym (resumes v a k (record { within = w; is = refl }))
+    ∙ ahead_is a c (omega arith) ∙ ap (λ m. drop m (remaining a.fault (resumed c v.line) v.left)) z in
     let l : Leads (length c.levels + 1) (remaining a.fault (resumed c v.line) v.left) =
-    subst (λ (ls : List ℕ). Leads (length ls + 1) (remaining a.fault (resumed c v.line) v.left)) (levels_resumed c v.line) (remaining_leads a.fault (resumed c v.line) v.left (resumed_sound c v.line (small_parts a k).grounded)) in
+    subst (λ (ls : List ℕ). Leads (length ls + 1) (remaining a.fault (resumed c v.line) v.left)) (levels_resumed c v.line)
+    (remaining_leads a.fault (resumed c v.line) v.left (resumed_sound c v.line (small_parts a k).grounded)) in
     let o : length c.levels + 1 ≡ (length c.levels + 1) - c.skip = omega arith in
     record { few = omega arith; leads = subst (λ (m : ℕ). Leads m (rest a k)) o (subst (Leads (length c.levels + 1)) (sym r) l) }
 
@@ -331,10 +366,12 @@ record Comes (a : Source) (k : ℕ) : Type 0 where
   entry : Entry
   is : rest a k ≡ steps.Entry entry ∷ rest a (k + 1)
 
-comes_in : (es : List Entry) (last : Step) (k : ℕ) → k < length es → (e : Entry) × (drop k (map steps.Entry es ++ last ∷ []) ≡ steps.Entry e ∷ drop (k + 1) (map steps.Entry es ++ last ∷ []))
+comes_in : (es : List Entry) (last : Step) (k : ℕ) → k < length es
+    → (e : Entry) × (drop k (map steps.Entry es ++ last ∷ []) ≡ steps.Entry e ∷ drop (k + 1) (map steps.Entry es ++ last ∷ []))
 comes_in [] last k h = absurd (omega arith)
 comes_in (d ∷ es) last zero h = (d, refl)
-comes_in (d ∷ es) last (suc k) h = let c = comes_in es last k (omega arith) in let o : suc k + 1 ≡ suc (k + 1) = omega arith in (c.0, rw o c.1)
+comes_in (d ∷ es) last (suc k) h = let c = comes_in es last k (omega arith) in let o : suc k + 1 ≡ suc (k + 1) =
+    omega arith in (c.0, rw o c.1)
 
 comes : (a : Source) (k : ℕ) → k < length (entries_of (listing a)) → Comes a k
 comes a k h =
@@ -355,14 +392,16 @@ one_more a k n w s =
     ⊎_elim
     (λ (t : has_no_text e ≡ true).
     let m = cursor_skips a k e g.given t (not_encoding a k e n f) in
-    let l : Leads ((length (cursor a k).levels + 1) - (cursor a k).skip) (steps.Entry e ∷ rest a (k + 1)) = subst (Leads ((length (cursor a k).levels + 1) - (cursor a k).skip)) c.is s.leads in
+    let l : Leads ((length (cursor a k).levels + 1) - (cursor a k).skip) (steps.Entry e ∷ rest a (k + 1)) =
+    subst (Leads ((length (cursor a k).levels + 1) - (cursor a k).skip)) c.is s.leads in
     let p = l t in
     let more : 0 < (length (cursor a k).levels + 1) - (cursor a k).skip = p.0 in
     let skips : (cursor a (k + 1)).skip ≡ (cursor a k).skip + 1 = ap (λ (q : CursorParts). q.skip) m in
     let levels : (cursor a (k + 1)).levels ≡ (cursor a k).levels = ap (λ (q : CursorParts). q.levels) m in
     let size : length (cursor a (k + 1)).levels ≡ length (cursor a k).levels = ap length levels in
     let few = s.few in
-    let o : ((length (cursor a k).levels + 1) - (cursor a k).skip) - 1 ≡ (length (cursor a (k + 1)).levels + 1) - (cursor a (k + 1)).skip = omega arith in
+    let o : ((length (cursor a k).levels + 1) - (cursor a k).skip) - 1 ≡ (length (cursor a (k + 1)).levels + 1) - (cursor a (k + 1)).skip =
+    omega arith in
     record { few = omega arith; leads = subst (λ (j : ℕ). Leads j (rest a (k + 1))) o p.1 })
     (λ (t : has_no_text e ≡ false).
     let m = cursor_moves a k e g.given t in
@@ -371,7 +410,8 @@ one_more a k n w s =
 
 skips_few : (a : Source) (j : ℕ) → j + 1 ≤ length (entries_of (listing a)) → SkipsFew a (j + 1)
 skips_few a zero w = let o : 0 + 1 ≡ 1 = omega arith in subst (SkipsFew a) (sym o) (at_point a 1 (omega arith) (omega arith) (first_skip a))
-skips_few a (suc j) w = let o : (j + 1) + 1 ≡ suc j + 1 = omega arith in subst (SkipsFew a) o (one_more a (j + 1) (omega arith) (omega arith) (skips_few a j (omega arith)))
+skips_few a (suc j) w = let o : (j + 1) + 1 ≡ suc j + 1 = omega arith in
+    subst (SkipsFew a) o (one_more a (j + 1) (omega arith) (omega arith) (skips_few a j (omega arith)))
 
 -- A cursor skips one entry more than it has levels, at most.
 skip_of : (a : Source) (k : ℕ) → k ≤ length (entries_of (listing a)) → (cursor a k).skip ≤ length (cursor a k).levels + 1
@@ -379,4 +419,5 @@ skip_of a zero w = let z = no_skip a in omega arith
 skip_of a (suc j) w = let o : j + 1 ≡ suc j = omega arith in let s = subst (SkipsFew a) o (skips_few a j (omega arith)) in s.few
 
 pub skip_within : (l : Listed) (a : Source) (k : ℕ) → StandsIn l a k → l.shown.skip ≤ length l.shown.levels + 1
-skip_within l a k h = subst (λ (c : CursorParts). c.skip ≤ length c.levels + 1) (sym (is_behind h.cursor).is) (skip_of a l.shown.given (is_behind h.cursor).within)
+skip_within l a k h = subst (λ (c : CursorParts). c.skip ≤ length c.levels + 1) (sym (is_behind h.cursor).is)
+    (skip_of a l.shown.given (is_behind h.cursor).within)

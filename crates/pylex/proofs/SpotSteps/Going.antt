@@ -1,7 +1,9 @@
 -- From a spot to the next an entry comes.
 --
 -- Carries: walk, walk_line of pyparse_tokens. On: Passing, Moving, Returning, CursorBounds.
-use Rattle.std.proofs.Common.{◌≡◌, ℕ, ◌+◌, ◌-◌, ◌*◌, ◌<◌, ◌≤◌, Bool, true, false, not, ◌&&◌, ◌||◌, ◌==◌, List, [], ◌∷◌, ◌++◌, length, take, drop, refl, sym, ap, ◌∙◌, subst, arith, Option, Some, None, length-drop, length-append, drop-drop, slice_range}
+use Rattle.std.proofs.Common.{◌≡◌, ℕ, ◌+◌, ◌-◌, ◌*◌, ◌<◌, ◌≤◌, Bool, true, false, not, ◌&&◌, ◌||◌, ◌==◌, List, [], ◌∷◌, ◌++◌, length, take}
+use Rattle.std.proofs.Common.{drop, refl, sym, ap, ◌∙◌, subst, arith, Option, Some, None, length-drop, length-append, drop-drop}
+use Rattle.std.proofs.Common.{slice_range}
 use Rattle.std.specs.Prelude.{if◌then◌else◌}
 use Rattle.std.specs.Str.{chars, IsUtf8, IsCharBoundary, encode_utf8_all, all_scalars}
 use Rattle.std.proofs.Math.Seq.{take-length, drop-append_seam}
@@ -49,7 +51,17 @@ use Rattle.pylex.proofs.SpotSteps.Passing.{line_after, line_passed, after_now, a
 abbrev line_at : CursorParts → List ℕ → LineState
 line_at c line =
     let s = resumed c line in
-    record { now = s.now; line = s.line; depth = s.depth; width = s.width; margin = s.margin; logical = s.logical; joined = s.joined; lead = s.lead }
+    record {
+      now = s.now;
+      line = s.line;
+      depth = s.depth;
+      width = s.width;
+      margin = s.margin;
+      logical = s.logical;
+      joined =
+          s.joined;
+      lead = s.lead;
+    }
 
 line_at_is : (c : CursorParts) (line levels : List ℕ) → c.levels ≡ levels → with_levels (line_at c line) levels ≡ resumed c line
 unfolding resumed
@@ -84,7 +96,8 @@ pub record Stood (p : Parts) (s : Spot) (levels left : List ℕ) : Type 0 where
   pub left_is : left ≡ drop s.offset p.text
   pub size : s.offset + length left ≡ length p.text
 
-stood : (p : Parts) (s : Spot) (levels left : List ℕ) → IsUtf8 p.text → length p.text ≤ source_limit → StandsIn (at_spot p s levels) (in_characters p) s.given → s.begun ≡ true → left ≡ drop s.offset p.text → Stood p s levels left
+stood : (p : Parts) (s : Spot) (levels left : List ℕ) → IsUtf8 p.text → length p.text ≤ source_limit
+    → StandsIn (at_spot p s levels) (in_characters p) s.given → s.begun ≡ true → left ≡ drop s.offset p.text → Stood p s levels left
 stood p s levels left utf8 small stands begun is_left =
     let c : CursorParts = spot_cursor s levels in
     let l : Listed = at_spot p s levels in
@@ -97,7 +110,8 @@ stood p s levels left utf8 small stands begun is_left =
       above = ls;
       is = fits.grounded.is;
       now = line_at c line;
-      keeps = keeps_point l (line_at c line) (take s.offset p.text) left ls line (length ls) utf8 small (in_characters p, stands) fits.grounded.is refl refl is_left refl (line_at_is c line (0 ∷ ls) fits.grounded.is);
+      keeps = keeps_point l (line_at c line) (take s.offset p.text) left ls line (length ls) utf8 small (in_characters p, stands)
+          fits.grounded.is refl refl is_left refl (line_at_is c line (0 ∷ ls) fits.grounded.is);
       margin = at_margin c line begun;
       logical = at_logical c line ∙ begun;
       depth = at_depth c line;
@@ -108,7 +122,17 @@ stood p s levels left utf8 small stands begun is_left =
 
 -- The state directly after an entry, and what its cursor says.
 abbrev anew_line : LineState → LineState
-anew_line q = record { now = q.now; line = q.now; depth = q.depth; width = 0; margin = not q.logical && (q.now.place.column == 0); logical = q.logical; joined = false; lead = q.lead }
+anew_line q = record {
+  now = q.now;
+  line = q.now;
+  depth = q.depth;
+  width = 0;
+  margin = not q.logical && (q.now.place.column == 0);
+  logical =
+      q.logical;
+  joined = false;
+  lead = q.lead;
+}
 
 abbrev point_of : LineState → Shown
 point_of q = record { offset = q.now.offset; row = q.now.place.row; depth = q.depth; begun = q.logical }
@@ -131,9 +155,18 @@ abbrev end_at : LineState → Class → List ℕ → Place
 end_at p k t = elim k [ LineEnd ↦ further p.now.place (length t) | _ ↦ place_past p.now.place t ]
 
 abbrev entry_at : LineState → Class → List ℕ → Entry
-entry_at p k t = record { kind = kind_at p k; exact = operator_of k; start = p.now.place; «end» = end_at p k t; «from» = p.now.offset; to = p.now.offset + bytes_in t }
+entry_at p k t = record {
+  kind = kind_at p k;
+  exact = operator_of k;
+  start = p.now.place;
+  «end» = end_at p k t;
+  «from» = p.now.offset;
+  to =
+      p.now.offset + bytes_in t;
+}
 
-entry_is : (p : LineState) (k : Class) (t : List ℕ) → is_silent k ≡ false → (is_closer_class k && (p.depth == 0)) ≡ false → (levels : List ℕ)
+entry_is : (p : LineState) (k : Class) (t : List ℕ) → is_silent k ≡ false
+    → (is_closer_class k && (p.depth == 0)) ≡ false → (levels : List ℕ)
     → entry_by (with_levels p levels) (record { «class» = k; text = t }) ≡ steps.Entry (entry_at p k t) ∷ []
 unfolding entry_by
 entry_is p Name t g m levels = refl
@@ -146,7 +179,8 @@ entry_is p LineEnd t g m levels = refl
 entry_is p Join t g m levels = cc
 
 -- its type, by whether the logical line goes on after it
-kind_is : (k : Class) (l d : Bool) → l ≡ true → is_silent k ≡ false → (p : LineState) → p.logical ≡ l → (p.depth == 0) ≡ d → kind_at p k ≡ kind_of k (not (is_line_end_class k && d))
+kind_is : (k : Class) (l d : Bool) → l ≡ true → is_silent k ≡ false → (p : LineState) → p.logical ≡ l → (p.depth == 0) ≡ d
+    → kind_at p k ≡ kind_of k (not (is_line_end_class k && d))
 kind_is Name l d e g p a b = refl
 kind_is Number l d e g p a b = refl
 kind_is String l d e g p a b = refl
@@ -154,15 +188,18 @@ kind_is (Operator o) l d e g p a b = refl
 kind_is Comment l d e g p a b = refl
 kind_is Blanks l d e g p a b = cc
 kind_is Join l d e g p a b = cc
-kind_is LineEnd l d e g p a b = ap (λ (x : Bool). if x && (p.depth == 0) then kinds.Newline else kinds.Nl) (a ∙ e) ∙ ap (λ (x : Bool). if x then kinds.Newline else kinds.Nl) b ∙ by d
+kind_is LineEnd l d e g p a b = ap (λ (x : Bool). if x && (p.depth == 0) then kinds.Newline else kinds.Nl) (a ∙ e)
+    ∙ ap (λ (x : Bool). if x then kinds.Newline else kinds.Nl) b ∙ by d
   where
     by : (d : Bool) → (if d then kinds.Newline else kinds.Nl) ≡ (if not d then kinds.Nl else kinds.Newline)
     by true = refl
     by false = refl
 
 -- whether the logical line goes on
-open_is : (k : Class) (d l : Bool) → l ≡ true → (not (is_line_end_class k && d) && (is_significant_class k || l)) ≡ not (is_line_end_class k && d)
-open_is k d l e = ap (λ (x : Bool). not (is_line_end_class k && d) && (is_significant_class k || x)) e ∙ by (not (is_line_end_class k && d)) (is_significant_class k)
+open_is : (k : Class) (d l : Bool) → l ≡ true → (not (is_line_end_class k && d) && (is_significant_class k || l)) ≡ not
+    (is_line_end_class k && d)
+open_is k d l e = ap (λ (x : Bool). not (is_line_end_class k && d) && (is_significant_class k || x)) e
+    ∙ by (not (is_line_end_class k && d)) (is_significant_class k)
   where
     by : (a b : Bool) → (a && (b || true)) ≡ a
     by true true = refl
@@ -181,13 +218,16 @@ pub record Goes (p : Parts) (s : Spot) (levels : List ℕ) (k : Class) (front ba
   pub left : back ≡ drop t.offset p.text
 
 -- what is left after it stands at the end of what was left
-back_is : (text left back : List ℕ) (o n : ℕ) → left ≡ drop o text → (f : List ℕ) → left ≡ f ++ back → n + length back ≡ o + length left → back ≡ drop n text
+back_is : (text left back : List ℕ) (o n : ℕ) → left ≡ drop o text → (f : List ℕ) → left ≡ f ++ back
+    → n + length back ≡ o + length left → back ≡ drop n text
 back_is text left back o n is_left f parts sizes =
     let size : length left ≡ length f + length back = ap length parts ∙ length-append f back in
     let there : n ≡ o + length f = omega arith in
-    sym (ap (λ m. drop m text) there ∙ sym (drop-drop (length f) o text) ∙ ap (drop (length f)) (sym is_left ∙ parts) ∙ drop-append_seam f back)
+    sym (ap (λ m. drop m text) there ∙ sym (drop-drop (length f) o text) ∙ ap (drop (length f)) (sym is_left ∙ parts)
+    ∙ drop-append_seam f back)
 
-module _ (p : Parts) (s t : Spot) (levels left : List ℕ) (k : Class) (front back : List ℕ) (utf8 : IsUtf8 p.text) (some : 0 < s.given) (h : Stood p s levels left) (x : Steps s left k front back t) where
+module _ (p : Parts) (s t : Spot) (levels left : List ℕ) (k : Class) (front back : List ℕ) (utf8 : IsUtf8 p.text) (some : 0 < s.given)
+    (h : Stood p s levels left) (x : Steps s left k front back t) where
   abbrev looks : Looks h.now left x.ahead.rest x.ahead.joins
   looks = looks_on h.now left h.keeps.stands h.margin h.logical x.ahead.rest x.ahead.joins x.ahead.silent
 
@@ -217,21 +257,24 @@ module _ (p : Parts) (s t : Spot) (levels left : List ℕ) (k : Class) (front ba
 
   ahead : EntryAhead (take (length ls) ls) h.now (chars left) own next (chars back)
   ahead =
-      let matched : (is_closer_class k && (now.depth == 0)) ≡ false = ap (λ d. is_closer_class k && (d == 0)) (looks.depth ∙ h.depth) ∙ x.matched in
+      let matched : (is_closer_class k && (now.depth == 0)) ≡ false = ap (λ d. is_closer_class k && (d == 0)) (looks.depth
+      ∙ h.depth) ∙ x.matched in
       entry_found (take (length ls) ls) h.now (chars left) now now next x.ahead.rest front back k own (looks.comes (take (length ls) ls))
       (settles_same (take (length ls) ls) now (chars x.ahead.rest) (ap (λ b. b && begins_significant (chars x.ahead.rest)) looks.margin))
       x.ahead.cuts (entry_is now k (chars front) x.ahead.gives matched) passed
 
   advances : Advances (at_spot p s levels) (steps.Entry own) new (anew_line next) back ls (length ls) 0
   advances =
-      goes_entry (at_spot p s levels) h.now left ls (length ls) 0 h.keeps skips some refl own next (anew_line next) back ls (point_of next) ahead
+      goes_entry (at_spot p s levels) h.now left ls (length ls) 0 h.keeps skips some refl own next (anew_line next) back
+      ls (point_of next) ahead
       (stands_after now next x.ahead.rest front back k x.ahead.cuts looks.stands room)
       (λ ns. refl) (room_anew next) (λ j ms. refl) (sym (take-length ls))
 
   offset : next.now.offset ≡ t.offset
   offset =
       let i = advances.keeps.placed in
-      let whole : length p.text ≡ bytes_in i.before + bytes_in (chars back) = length-text p.text utf8 ∙ ap bytes_in i.whole ∙ bytes_in-append i.before (chars back) in
+      let whole : length p.text ≡ bytes_in i.before + bytes_in (chars back) = length-text p.text utf8 ∙ ap bytes_in i.whole
+      ∙ bytes_in-append i.before (chars back) in
       let rest : length back ≡ bytes_in (chars back) = length-text back x.ahead.cuts.back_utf8 in
       let at : next.now.offset ≡ bytes_in i.before = i.offset in
       let sizes = x.offset in
@@ -246,12 +289,14 @@ module _ (p : Parts) (s t : Spot) (levels left : List ℕ) (k : Class) (front ba
       (sym x.given) offset
       (omega (arith, row, looks.row, h.row, x.ahead.row))
       (depth ∙ ap (λ d. d + count_if (is_opener_class k) - count_if (is_closer_class k)) (looks.depth ∙ h.depth) ∙ sym x.depth)
-      (after_logical now k (chars front) ∙ open_is k (now.depth == 0) now.logical looks.logical ∙ ap (λ d. not (is_line_end_class k && (d == 0))) (looks.depth ∙ h.depth) ∙ sym x.begun)
+      (after_logical now k (chars front) ∙ open_is k (now.depth == 0) now.logical looks.logical
+      ∙ ap (λ d. not (is_line_end_class k && (d == 0))) (looks.depth ∙ h.depth) ∙ sym x.begun)
       (sym skips) (sym h.is)
 
   text : chars (slice_range (encode_utf8_all (chars p.text)) own.«from» own.to) ≡ chars front
   text =
-      let i = stop_in (at_spot p s levels) h.now left ls (length ls) 0 h.keeps skips some now (chars x.ahead.rest) (looks.comes (take (length ls) ls)) in
+      let i = stop_in (at_spot p s levels) h.now left ls (length ls) 0 h.keeps skips some now (chars x.ahead.rest)
+      (looks.comes (take (length ls) ls)) in
       let whole : chars p.text ≡ i.before ++ (chars front ++ chars back) = i.whole ∙ ap (λ u. i.before ++ u) x.ahead.cuts.whole in
       let good : all_scalars (i.before ++ (chars front ++ chars back)) ≡ true = sym (ap all_scalars whole) ∙ scalars-chars p.text utf8 in
       ap (λ u. chars (slice_range (encode_utf8_all u) own.«from» own.to)) whole
@@ -260,12 +305,14 @@ module _ (p : Parts) (s t : Spot) (levels left : List ℕ) (k : Class) (front ba
   goes_by : Goes p s levels k front back t
   goes_by = record {
     entry = own;
-    step = subst (λ (c : CursorParts). NextStep (at_spot p s levels) (steps.Entry own) (record { source = p; shown = c })) shown (leads_moves (at_spot p s levels) (steps.Entry own) new advances.leads);
+    step = subst (λ (c : CursorParts). NextStep (at_spot p s levels) (steps.Entry own) (record { source = p; shown = c })) shown
+        (leads_moves (at_spot p s levels) (steps.Entry own) new advances.leads);
     few =
         let fits = given_fits new (anew_line next) back ls (length ls) 0 advances.keeps in
         let count = x.given in
         omega arith;
-    kind = kind_is k now.logical (s.depth == 0) looks.logical x.ahead.gives now refl (ap (λ d. d == 0) (looks.depth ∙ h.depth)) ∙ ap (kind_of k) (sym x.begun);
+    kind = kind_is k now.logical (s.depth == 0) looks.logical x.ahead.gives now refl (ap (λ d. d == 0) (looks.depth ∙ h.depth))
+        ∙ ap (kind_of k) (sym x.begun);
     exact = refl;
     text = text;
     to = sym (ap (λ (q : Point). q.offset) (after_now now k (chars front))) ∙ offset;
@@ -275,11 +322,15 @@ module _ (p : Parts) (s t : Spot) (levels left : List ℕ) (k : Class) (front ba
   }
 
 -- From a spot within a logical line to the next.
-pub step_goes : (p : Parts) (s t : Spot) (levels left : List ℕ) (k : Class) (front back : List ℕ) → IsUtf8 p.text → length p.text ≤ source_limit → StandsIn (at_spot p s levels) (in_characters p) s.given → 0 < s.given → s.begun ≡ true → left ≡ drop s.offset p.text → Steps s left k front back t → Goes p s levels k front back t
-step_goes p s t levels left k front back utf8 small stands some begun is_left x = goes_by p s t levels left k front back utf8 some (stood p s levels left utf8 small stands begun is_left) x
+pub step_goes : (p : Parts) (s t : Spot) (levels left : List ℕ) (k : Class) (front back : List ℕ) → IsUtf8 p.text
+    → length p.text ≤ source_limit → StandsIn (at_spot p s levels) (in_characters p) s.given → 0 < s.given → s.begun ≡ true
+    → left ≡ drop s.offset p.text → Steps s left k front back t → Goes p s levels k front back t
+step_goes p s t levels left k front back utf8 small stands some begun is_left x =
+    goes_by p s t levels left k front back utf8 some (stood p s levels left utf8 small stands begun is_left) x
 
 -- Its counts are small.
-pub spot_room : (p : Parts) (s : Spot) (levels left : List ℕ) → IsUtf8 p.text → length p.text ≤ source_limit → StandsIn (at_spot p s levels) (in_characters p) s.given → s.begun ≡ true → left ≡ drop s.offset p.text → SpotHasRoom s (length left)
+pub spot_room : (p : Parts) (s : Spot) (levels left : List ℕ) → IsUtf8 p.text → length p.text ≤ source_limit
+    → StandsIn (at_spot p s levels) (in_characters p) s.given → s.begun ≡ true → left ≡ drop s.offset p.text → SpotHasRoom s (length left)
 spot_room p s levels left utf8 small stands begun is_left =
     let h = stood p s levels left utf8 small stands begun is_left in
     let given : s.given ≤ 3 * source_limit + 4 = given_fits (at_spot p s levels) h.now left h.above (length h.above) 0 h.keeps in
@@ -289,9 +340,11 @@ spot_room p s levels left utf8 small stands begun is_left =
     let size = h.size in
     record { given = omega arith; offset = omega arith; row = omega arith; depth = omega arith }
 
-pub spot_boundary : (p : Parts) (s : Spot) (levels : List ℕ) → IsUtf8 p.text → StandsIn (at_spot p s levels) (in_characters p) s.given → IsCharBoundary p.text s.offset
+pub spot_boundary : (p : Parts) (s : Spot) (levels : List ℕ) → IsUtf8 p.text → StandsIn (at_spot p s levels) (in_characters p) s.given
+    → IsCharBoundary p.text s.offset
 spot_boundary p s levels utf8 stands = (shown_fits (at_spot p s levels) (in_characters p) s.given utf8 stands).boundary
 
 -- It leads into the source.
-pub spot_leads : (p : Parts) (s : Spot) (levels : List ℕ) → StandsIn (at_spot p s levels) (in_characters p) s.given → LeadsInto (spot_cursor s levels) p
+pub spot_leads : (p : Parts) (s : Spot) (levels : List ℕ) → StandsIn (at_spot p s levels) (in_characters p) s.given
+    → LeadsInto (spot_cursor s levels) p
 spot_leads p s levels stands = (in_characters p, (stands.cursor, stands.agrees))

@@ -63,14 +63,18 @@ row_feeds p (c ∷ t) = ⊎_elim
 -- and its bytes have as many
 feeds_bytes : (bs : List ℕ) → IsUtf8 bs → count_by is_lf (chars bs) ≡ count_by is_lf bs
 unfolding place_after
-feeds_bytes bs u = let e : 1 + count_by is_lf (chars bs) ≡ 1 + count_by is_lf bs = ap (λ (q : Place). q.row) (place_by_bytes bs u) in omega (arith, e)
+feeds_bytes bs u = let e : 1 + count_by is_lf (chars bs) ≡ 1 + count_by is_lf bs =
+    ap (λ (q : Place). q.row) (place_by_bytes bs u) in omega (arith, e)
 
 -- the row after a lexeme
-pub rows_told : (bytes front back : List ℕ) (k : Class) → Cuts bytes k front back → (p : Place) → (place_past p (chars front)).row ≡ p.row + rows_in k front
+pub rows_told : (bytes front back : List ℕ) (k : Class) → Cuts bytes k front back → (p : Place)
+    → (place_past p (chars front)).row ≡ p.row + rows_in k front
 rows_told bytes front back k c p = by k c
   where
     flat : (k : Class) → is_flat k ≡ true → Cuts bytes k front back → (place_past p (chars front)).row ≡ p.row + 0
-    flat k f c = row_flat p (chars front) (flat_in (chars bytes) (chars front) k f (lexeme_class (chars bytes) (record { «class» = k; text = chars front }) c.lexeme)) ∙ omega arith
+    flat k f c = row_flat p (chars front)
+        (flat_in (chars bytes) (chars front) k f (lexeme_class (chars bytes) (record { «class» = k; text = chars front }) c.lexeme))
+        ∙ omega arith
 
     by : (k : Class) → Cuts bytes k front back → (place_past p (chars front)).row ≡ p.row + rows_in k front
     by Name c = flat Name refl c

@@ -1,7 +1,9 @@
 -- The texts of cursors: each is of one cursor alone.
 --
 -- Carries: read, to_text, first_level, number, numbers, push_levels. On: LinesLemmas.
-use Rattle.std.proofs.Common.{◌≡◌, ◌≢◌, length-append, append-nil, ℕ, zero, suc, ◌+◌, ◌<◌, ◌≤◌, ◌^◌, ◌/◌, ◌%◌, ◌==◌, Bool, true, false, if◌then◌else◌, List, [], ◌∷◌, ◌++◌, length, get_or, take, drop, refl, sym, ap, ◌∙◌, arith, append_assoc, All, decimal, codes}
+use Rattle.std.proofs.Common.{◌≡◌, ◌≢◌, length-append, append-nil, ℕ, zero, suc, ◌+◌, ◌<◌, ◌≤◌, ◌^◌, ◌/◌, ◌%◌, ◌==◌, Bool, true, false}
+use Rattle.std.proofs.Common.{if◌then◌else◌, List, [], ◌∷◌, ◌++◌, length, get_or, take, drop, refl, sym, ap, ◌∙◌, arith, append_assoc, All}
+use Rattle.std.proofs.Common.{decimal, codes}
 use Rattle.std.specs.Fmt.{digits, digits_onto, digit_glyph}
 use Rattle.std.specs.List.{flat_map}
 use Rattle.std.proofs.lemmas.Bool.Decides.{nat_tests}
@@ -29,7 +31,8 @@ digits_high zero n acc h = h
 digits_high (suc k) n acc h =
     let glyph : 48 ≤ digit_glyph false (n % 10) = glyph_high (n % 10) (omega arith) in
     let more : All (λ b. 48 ≤ b) (digit_glyph false (n % 10) ∷ acc) = All-cons (λ b. 48 ≤ b) _ acc glyph h in
-    elim (n / 10 == 0) as (λ b. All (λ b. 48 ≤ b) (if b then digit_glyph false (n % 10) ∷ acc else digits_onto k 10 false (n / 10) (digit_glyph false (n % 10) ∷ acc)))
+    elim (n / 10 == 0) as (λ b. All (λ b. 48 ≤ b) (if b then digit_glyph false (n % 10) ∷ acc else digits_onto k 10 false (n / 10)
+    (digit_glyph false (n % 10) ∷ acc)))
     [ true ↦ more | false ↦ digits_high k (n / 10) (digit_glyph false (n % 10) ∷ acc) more ]
 
 decimal_high : (n : ℕ) → All (λ b. 48 ≤ b) (decimal n)
@@ -56,7 +59,8 @@ separated s (u ∷ us) (v ∷ vs) x y p q e =
     let front = rest.0 in
     (cc front, rest.1)
 
-number_separated : (s m n : ℕ) (x y : List ℕ) → s < 48 → m < 2 ^ 64 → n < 2 ^ 64 → decimal m ++ s ∷ x ≡ decimal n ++ s ∷ y → (m ≡ n) × (x ≡ y)
+number_separated : (s m n : ℕ) (x y : List ℕ) → s < 48 → m < 2 ^ 64 → n < 2 ^ 64
+    → decimal m ++ s ∷ x ≡ decimal n ++ s ∷ y → (m ≡ n) × (x ≡ y)
 number_separated s m n x y low a b e =
     let parts = separated s (decimal m) (decimal n) x y (all_lacks s m low) (all_lacks s n low) e in
     (decimal_injective m n a b parts.0, parts.1)
@@ -84,18 +88,25 @@ no_decimal n x fits e = omega (arith, decimal_nonempty n fits, length-append (de
 pub with_commas-injective : (ms ns : List ℕ) → Words ms → Words ns → with_commas ms ≡ with_commas ns → ms ≡ ns
 with_commas-injective [] [] p q e = refl
 with_commas-injective [] (n ∷ []) p q e = absurd (no_decimal n [] (head_fits n [] q) (e ∙ sym (append-nil (decimal n))))
-with_commas-injective [] (n ∷ n' ∷ ns) p q e = absurd (no_decimal n (44 ∷ with_commas (n' ∷ ns)) (head_fits n (n' ∷ ns) q) (e ∙ append_assoc (decimal n) (codes ",") (with_commas (n' ∷ ns))))
+with_commas-injective [] (n ∷ n' ∷ ns) p q e =
+    absurd (no_decimal n (44 ∷ with_commas (n' ∷ ns)) (head_fits n (n' ∷ ns) q) (e
+    ∙ append_assoc (decimal n) (codes ",") (with_commas (n' ∷ ns))))
 with_commas-injective (m ∷ []) [] p q e = absurd (no_decimal m [] (head_fits m [] p) (sym e ∙ sym (append-nil (decimal m))))
 with_commas-injective (m ∷ []) (n ∷ []) p q e = ap (λ k. k ∷ []) (decimal_injective m n (head_fits m [] p) (head_fits n [] q) e)
 with_commas-injective (m ∷ []) (n ∷ n' ∷ ns) p q e =
-    absurd (not_separated 44 (decimal m) (decimal n) (with_commas (n' ∷ ns)) (all_lacks 44 m (omega arith)) (e ∙ append_assoc (decimal n) (codes ",") (with_commas (n' ∷ ns))))
-with_commas-injective (m ∷ m' ∷ ms) [] p q e = absurd (no_decimal m (44 ∷ with_commas (m' ∷ ms)) (head_fits m (m' ∷ ms) p) (sym e ∙ append_assoc (decimal m) (codes ",") (with_commas (m' ∷ ms))))
+    absurd (not_separated 44 (decimal m) (decimal n) (with_commas (n' ∷ ns)) (all_lacks 44 m (omega arith)) (e
+    ∙ append_assoc (decimal n) (codes ",") (with_commas (n' ∷ ns))))
+with_commas-injective (m ∷ m' ∷ ms) [] p q e =
+    absurd (no_decimal m (44 ∷ with_commas (m' ∷ ms)) (head_fits m (m' ∷ ms) p) (sym e
+    ∙ append_assoc (decimal m) (codes ",") (with_commas (m' ∷ ms))))
 with_commas-injective (m ∷ m' ∷ ms) (n ∷ []) p q e =
-    absurd (not_separated 44 (decimal n) (decimal m) (with_commas (m' ∷ ms)) (all_lacks 44 n (omega arith)) (sym e ∙ append_assoc (decimal m) (codes ",") (with_commas (m' ∷ ms))))
+    absurd (not_separated 44 (decimal n) (decimal m) (with_commas (m' ∷ ms)) (all_lacks 44 n (omega arith)) (sym e
+    ∙ append_assoc (decimal m) (codes ",") (with_commas (m' ∷ ms))))
 with_commas-injective (m ∷ m' ∷ ms) (n ∷ n' ∷ ns) p q e =
     let whole : decimal m ++ 44 ∷ with_commas (m' ∷ ms) ≡ decimal n ++ 44 ∷ with_commas (n' ∷ ns) =
     sym (append_assoc (decimal m) (codes ",") (with_commas (m' ∷ ms))) ∙ e ∙ append_assoc (decimal n) (codes ",") (with_commas (n' ∷ ns)) in
-    let parts = number_separated 44 m n (with_commas (m' ∷ ms)) (with_commas (n' ∷ ns)) (omega arith) (head_fits m (m' ∷ ms) p) (head_fits n (n' ∷ ns) q) whole in
+    let parts = number_separated 44 m n (with_commas (m' ∷ ms)) (with_commas (n' ∷ ns)) (omega arith) (head_fits m (m' ∷ ms) p)
+    (head_fits n (n' ∷ ns) q) whole in
     let rest = with_commas-injective (m' ∷ ms) (n' ∷ ns) (tail_fits m (m' ∷ ms) p) (tail_fits n (n' ∷ ns) q) parts.1 in
     let first = parts.0 in
     cc (first, rest)
@@ -107,13 +118,15 @@ with_blanks ns = flat_map (λ n. decimal n ++ 32 ∷ []) ns
 with_blanks-cons : (n : ℕ) (ns tail : List ℕ) → with_blanks (n ∷ ns) ++ tail ≡ decimal n ++ 32 ∷ (with_blanks ns ++ tail)
 with_blanks-cons n ns tail = simp append_assoc
 
-numbers_separated : (ms ns x y : List ℕ) → length ms ≡ length ns → Words ms → Words ns → with_blanks ms ++ x ≡ with_blanks ns ++ y → (ms ≡ ns) × (x ≡ y)
+numbers_separated : (ms ns x y : List ℕ) → length ms ≡ length ns → Words ms → Words ns
+    → with_blanks ms ++ x ≡ with_blanks ns ++ y → (ms ≡ ns) × (x ≡ y)
 numbers_separated [] [] x y l p q e = (refl, e)
 numbers_separated [] (n ∷ ns) x y l p q e = absurd (omega (arith, l))
 numbers_separated (m ∷ ms) [] x y l p q e = absurd (omega (arith, l))
 numbers_separated (m ∷ ms) (n ∷ ns) x y l p q e =
     let whole = sym (with_blanks-cons m ms x) ∙ e ∙ with_blanks-cons n ns y in
-    let parts = number_separated 32 m n (with_blanks ms ++ x) (with_blanks ns ++ y) (omega arith) (head_fits m ms p) (head_fits n ns q) whole in
+    let parts = number_separated 32 m n (with_blanks ms ++ x) (with_blanks ns ++ y) (omega arith) (head_fits m ms p)
+    (head_fits n ns q) whole in
     let rest = numbers_separated ms ns x y (omega (arith, l)) (tail_fits m ms p) (tail_fits n ns q) parts.1 in
     let first = parts.0 in
     let others = rest.0 in
@@ -148,7 +161,8 @@ six_blanked a b c d e f w =
 pub cursor_text_is : (c : CursorParts) → cursor_text c ≡ codes "pytok1 " ++ (with_blanks (numbers_of c) ++ with_commas c.levels)
 unfolding cursor_text
 cursor_text_is c =
-    regrouped (codes "pytok1") (decimal c.given) (decimal c.offset) (decimal c.row) (decimal c.depth) (decimal (count_if c.begun)) (decimal c.skip) (with_commas c.levels)
+    regrouped (codes "pytok1") (decimal c.given) (decimal c.offset) (decimal c.row) (decimal c.depth) (decimal (count_if c.begun))
+    (decimal c.skip) (with_commas c.levels)
     ∙ ap (λ t. codes "pytok1" ++ 32 ∷ t) (sym (six_blanked c.given c.offset c.row c.depth (count_if c.begun) c.skip (with_commas c.levels)))
 
 flag_fits : (b : Bool) → count_if b < 2 ^ 64
@@ -156,7 +170,10 @@ flag_fits true = omega arith
 flag_fits false = omega arith
 
 pub numbers_fit : (c : CursorParts) → IsWellFormed c → Words (numbers_of c)
-numbers_fit c h = All-from_recursion (λ n. n < 2 ^ 64) (numbers_of c) (h.given, (h.offset, (h.row, (h.depth, (flag_fits c.begun, (h.skip, tt))))))
+numbers_fit c h = All-from_recursion (λ n. n < 2 ^ 64) (numbers_of c) (
+  h.given,
+  (h.offset, (h.row, (h.depth, (flag_fits c.begun, (h.skip, tt))))),
+)
 
 count_if-injective : (a b : Bool) → count_if a ≡ count_if b → a ≡ b
 count_if-injective true true e = refl
@@ -165,7 +182,15 @@ count_if-injective false true e = cc
 count_if-injective false false e = refl
 
 made : ℕ → ℕ → ℕ → ℕ → Bool → ℕ → List ℕ → CursorParts
-made given offset row depth begun skip levels = record { given = given; offset = offset; row = row; depth = depth; begun = begun; skip = skip; levels = levels }
+made given offset row depth begun skip levels = record {
+  given = given;
+  offset = offset;
+  row = row;
+  depth = depth;
+  begun = begun;
+  skip = skip;
+  levels = levels;
+}
 
 made-is : (c : CursorParts) → made c.given c.offset c.row c.depth c.begun c.skip c.levels ≡ c
 unfolding made
@@ -181,39 +206,46 @@ same_parts c d numbers levels =
 pub cursor_text-injective : (c d : CursorParts) → IsWellFormed c → IsWellFormed d → cursor_text c ≡ cursor_text d → c ≡ d
 cursor_text-injective c d p q e =
     let whole = append_cancel_left (codes "pytok1 ") _ _ (sym (cursor_text_is c) ∙ e ∙ cursor_text_is d) in
-    let parts = numbers_separated (numbers_of c) (numbers_of d) (with_commas c.levels) (with_commas d.levels) refl (numbers_fit c p) (numbers_fit d q) whole in
+    let parts = numbers_separated (numbers_of c) (numbers_of d) (with_commas c.levels) (with_commas d.levels) refl (numbers_fit c p)
+    (numbers_fit d q) whole in
     let numbers : numbers_of c ≡ numbers_of d = parts.0 in
     let levels : c.levels ≡ d.levels = with_commas-injective c.levels d.levels p.levels.words q.levels.words parts.1 in
     same_parts c d numbers levels
 
 -- what a cut at the first comma gives of joined numbers
-pub first_level_split : (n : ℕ) (ns bs : List ℕ) (x : Bor (List ℕ) × Bor (List ℕ)) → n < 2 ^ 64 → bs ≡ with_commas (n ∷ ns) → IsSplitOnceResult 44 bs (Some x)
+pub first_level_split : (n : ℕ) (ns bs : List ℕ) (x : Bor (List ℕ) × Bor (List ℕ)) → n < 2 ^ 64 → bs ≡ with_commas (n ∷ ns)
+    → IsSplitOnceResult 44 bs (Some x)
     → (x.0.now ≡ decimal n) × (0 < length ns) × (x.1.now ≡ with_commas ns)
 first_level_split n [] bs x fits whole cut =
     let parts = split_parts 44 bs (Some x) cut (omega arith) in
     absurd (not_separated 44 (decimal n) x.0.now x.1.now (all_lacks 44 n (omega arith)) (sym whole ∙ parts.0))
 first_level_split n (m ∷ ns) bs x fits whole cut =
-    let parts = split_after 44 bs (decimal n) (with_commas (m ∷ ns)) (Some x) cut (omega arith) (whole ∙ append_assoc (decimal n) (codes ",") (with_commas (m ∷ ns))) (decimal_lacks 44 n (omega arith)) in
+    let parts = split_after 44 bs (decimal n) (with_commas (m ∷ ns)) (Some x) cut (omega arith) (whole
+    ∙ append_assoc (decimal n) (codes ",") (with_commas (m ∷ ns))) (decimal_lacks 44 n (omega arith)) in
     (parts.0, omega arith, parts.1)
 
 -- and without a comma one number stands there
-pub first_level_whole : (n : ℕ) (ns bs : List ℕ) → n < 2 ^ 64 → bs ≡ with_commas (n ∷ ns) → IsSplitOnceResult 44 bs None → (ns ≡ []) × (bs ≡ decimal n)
+pub first_level_whole : (n : ℕ) (ns bs : List ℕ) → n < 2 ^ 64 → bs ≡ with_commas (n ∷ ns) → IsSplitOnceResult 44 bs None
+    → (ns ≡ []) × (bs ≡ decimal n)
 first_level_whole n [] bs fits whole cut = (refl, whole)
 first_level_whole n (m ∷ ns) bs fits whole cut =
-    absurd (split_after 44 bs (decimal n) (with_commas (m ∷ ns)) None cut (omega arith) (whole ∙ append_assoc (decimal n) (codes ",") (with_commas (m ∷ ns))) (decimal_lacks 44 n (omega arith)))
+    absurd (split_after 44 bs (decimal n) (with_commas (m ∷ ns)) None cut (omega arith) (whole
+    ∙ append_assoc (decimal n) (codes ",") (with_commas (m ∷ ns))) (decimal_lacks 44 n (omega arith)))
 
 -- one more number joined on
 with_commas-push : (x : ℕ) (xs : List ℕ) (n : ℕ) → with_commas (x ∷ xs ++ n ∷ []) ≡ with_commas (x ∷ xs) ++ 44 ∷ decimal n
 with_commas-push x [] n = append_assoc (decimal x) (codes ",") (decimal n)
 with_commas-push x (y ∷ ys) n =
-    ap (λ t. decimal x ++ codes "," ++ t) (with_commas-push y ys n) ∙ sym (append_assoc (decimal x ++ codes ",") (with_commas (y ∷ ys)) (44 ∷ decimal n))
+    ap (λ t. decimal x ++ codes "," ++ t) (with_commas-push y ys n)
+    ∙ sym (append_assoc (decimal x ++ codes ",") (with_commas (y ∷ ys)) (44 ∷ decimal n))
 
 push_behind : (xs : List ℕ) (n : ℕ) → 0 < length xs → with_commas (xs ++ n ∷ []) ≡ with_commas xs ++ 44 ∷ decimal n
 push_behind [] n some = absurd (omega (arith, some))
 push_behind (x ∷ xs) n some = with_commas-push x xs n
 
 -- the numbers joined so far, and one more
-pub joined_more : (xs : List ℕ) (i : ℕ) → i < length xs → 0 < i → with_commas (take (i + 1) xs) ≡ with_commas (take i xs) ++ 44 ∷ decimal (get_or xs i 0)
+pub joined_more : (xs : List ℕ) (i : ℕ) → i < length xs → 0 < i → with_commas (take (i + 1) xs) ≡ with_commas (take i xs) ++ 44
+    ∷ decimal (get_or xs i 0)
 joined_more xs i inside some =
     ap with_commas (rw add-one (take-suc xs i 0 inside))
     ∙ push_behind (take i xs) (get_or xs i 0) (let within : i ≤ length xs = omega (arith, inside) in rw length-take-le some)
@@ -229,7 +261,8 @@ next_number i ns rest text inside whole =
     let front : drop i ns ≡ get_or ns i 0 ∷ drop (i + 1) ns = rw add-one (drop-cons ns i 0 inside) in
     whole ∙ ap (λ l. with_blanks l ++ rest) front ∙ with_blanks-cons (get_or ns i 0) (drop (i + 1) ns) rest
 
-pub number_kept : (i v : ℕ) (items ns : List ℕ) → i < length items → i < length ns → take i items ≡ take i ns → v ≡ get_or ns i 0 → take (i + 1) (set items i v) ≡ take (i + 1) ns
+pub number_kept : (i v : ℕ) (items ns : List ℕ) → i < length items → i < length ns → take i items ≡ take i ns → v ≡ get_or ns i 0
+    → take (i + 1) (set items i v) ≡ take (i + 1) ns
 number_kept i v items ns held inside so_far same =
     rw (add-one, take-suc-set items i v held, take-suc ns i 0 inside) (ap₂ (λ (l : List ℕ) (n : ℕ). l ++ n ∷ []) so_far same)
 
@@ -237,13 +270,15 @@ pub get_fits : (ns : List ℕ) (i : ℕ) → Words ns → i < length ns → get_
 get_fits ns i fits inside = fits i 0 inside
 
 -- what is written with one more number
-pub written_more : (base before comma new xs : List ℕ) (i : ℕ) → i < length xs → 0 < i → before ≡ base ++ with_commas (take i xs) → comma ≡ before ++ 44 ∷ []
+pub written_more : (base before comma new xs : List ℕ) (i : ℕ) → i < length xs → 0 < i → before ≡ base ++ with_commas (take i xs)
+    → comma ≡ before ++ 44 ∷ []
     → new ≡ comma ++ decimal (get_or xs i 0) → new ≡ base ++ with_commas (take (i + 1) xs)
 written_more base before comma new xs i inside some so_far behind pushed =
     let n : List ℕ = decimal (get_or xs i 0) in
     let all : with_commas (take (i + 1) xs) ≡ with_commas (take i xs) ++ 44 ∷ n = joined_more xs i inside some in
     pushed ∙ ap (λ t. t ++ n) (behind ∙ ap (λ t. t ++ 44 ∷ []) so_far)
-    ∙ append_assoc (base ++ with_commas (take i xs)) (44 ∷ []) n ∙ append_assoc base (with_commas (take i xs)) (44 ∷ n) ∙ ap (λ t. base ++ t) (sym all)
+    ∙ append_assoc (base ++ with_commas (take i xs)) (44 ∷ []) n ∙ append_assoc base (with_commas (take i xs)) (44 ∷ n)
+    ∙ ap (λ t. base ++ t) (sym all)
 
 pub written_first : (base before new xs : List ℕ) (i : ℕ) → i < length xs → i ≤ 0 → before ≡ base ++ with_commas (take i xs)
     → new ≡ before ++ decimal (get_or xs i 0) → new ≡ base ++ with_commas (take (i + 1) xs)
@@ -251,16 +286,20 @@ written_first base before new xs zero inside none so_far pushed =
     pushed ∙ ap (λ t. t ++ decimal (get_or xs 0 0)) (so_far ∙ append-nil base) ∙ ap (λ t. base ++ t) (sym (joined_first xs inside))
 written_first base before new xs (suc i) inside none so_far pushed = absurd (omega (arith, none))
 
-appended : (p a b c d e f g h t₀ t₁ t₂ t₃ t₄ t₅ t₆ t₇ t₈ : List ℕ) → t₀ ≡ p → t₁ ≡ t₀ ++ a → t₂ ≡ t₁ ++ b → t₃ ≡ t₂ ++ c → t₄ ≡ t₃ ++ d → t₅ ≡ t₄ ++ e → t₆ ≡ t₅ ++ f → t₇ ≡ t₆ ++ g → t₈ ≡ t₇ ++ h
+appended : (p a b c d e f g h t₀ t₁ t₂ t₃ t₄ t₅ t₆ t₇ t₈ : List ℕ) → t₀ ≡ p → t₁ ≡ t₀ ++ a → t₂ ≡ t₁ ++ b → t₃ ≡ t₂ ++ c → t₄ ≡ t₃ ++ d
+    → t₅ ≡ t₄ ++ e → t₆ ≡ t₅ ++ f → t₇ ≡ t₆ ++ g → t₈ ≡ t₇ ++ h
     → t₈ ≡ p ++ a ++ b ++ c ++ d ++ e ++ f ++ g ++ h
 appended p a b c d e f g h t₀ t₁ t₂ t₃ t₄ t₅ t₆ t₇ t₈ e₀ e₁ e₂ e₃ e₄ e₅ e₆ e₇ e₈ = cc
 
 -- a cursor's text, part by part
-pub cursor_written : (c : CursorParts) (t₀ t₁ t₂ t₃ t₄ t₅ t₆ t₇ t₈ : List ℕ) → t₀ ≡ codes "pytok1" → t₁ ≡ t₀ ++ part c.given → t₂ ≡ t₁ ++ part c.offset → t₃ ≡ t₂ ++ part c.row
-    → t₄ ≡ t₃ ++ part c.depth → t₅ ≡ t₄ ++ part (count_if c.begun) → t₆ ≡ t₅ ++ part c.skip → t₇ ≡ t₆ ++ 32 ∷ [] → t₈ ≡ t₇ ++ with_commas c.levels → t₈ ≡ cursor_text c
+pub cursor_written : (c : CursorParts) (t₀ t₁ t₂ t₃ t₄ t₅ t₆ t₇ t₈ : List ℕ) → t₀ ≡ codes "pytok1" → t₁ ≡ t₀ ++ part c.given
+    → t₂ ≡ t₁ ++ part c.offset → t₃ ≡ t₂ ++ part c.row
+    → t₄ ≡ t₃ ++ part c.depth → t₅ ≡ t₄ ++ part (count_if c.begun) → t₆ ≡ t₅ ++ part c.skip → t₇ ≡ t₆ ++ 32 ∷ []
+    → t₈ ≡ t₇ ++ with_commas c.levels → t₈ ≡ cursor_text c
 unfolding cursor_text
 cursor_written c t₀ t₁ t₂ t₃ t₄ t₅ t₆ t₇ t₈ e₀ e₁ e₂ e₃ e₄ e₅ e₆ e₇ e₈ =
-    appended (codes "pytok1") (part c.given) (part c.offset) (part c.row) (part c.depth) (part (count_if c.begun)) (part c.skip) (32 ∷ []) (with_commas c.levels)
+    appended (codes "pytok1") (part c.given) (part c.offset) (part c.row) (part c.depth) (part (count_if c.begun)) (part c.skip)
+    (32 ∷ []) (with_commas c.levels)
     t₀ t₁ t₂ t₃ t₄ t₅ t₆ t₇ t₈ e₀ e₁ e₂ e₃ e₄ e₅ e₆ e₇ e₈
 
 flag_back : (b : Bool) → (count_if b == 1) ≡ b
@@ -269,10 +308,20 @@ flag_back false = refl
 
 -- the cursor of six numbers and of levels
 abbrev pub made_of : List ℕ → List ℕ → CursorParts
-made_of ns levels = record { given = get_or ns 0 0; offset = get_or ns 1 0; row = get_or ns 2 0; depth = get_or ns 3 0; begun = get_or ns 4 0 == 1; skip = get_or ns 5 0; levels = levels }
+made_of ns levels = record {
+  given = get_or ns 0 0;
+  offset = get_or ns 1 0;
+  row = get_or ns 2 0;
+  depth = get_or ns 3 0;
+  begun =
+      get_or ns 4 0 == 1;
+  skip = get_or ns 5 0;
+  levels = levels;
+}
 
 pub made_of_its_own : (c : CursorParts) → made_of (numbers_of c) c.levels ≡ c
-made_of_its_own c = same_parts (made_of (numbers_of c) c.levels) c (ap (λ b. c.given ∷ c.offset ∷ c.row ∷ c.depth ∷ count_if b ∷ c.skip ∷ []) (flag_back c.begun)) refl
+made_of_its_own c = same_parts (made_of (numbers_of c) c.levels) c
+    (ap (λ b. c.given ∷ c.offset ∷ c.row ∷ c.depth ∷ count_if b ∷ c.skip ∷ []) (flag_back c.begun)) refl
 
 pub read_is : (c : CursorParts) (ns levels : List ℕ) → ns ≡ numbers_of c → levels ≡ c.levels → made_of ns levels ≡ c
 read_is c ns levels numbers same = ap₂ made_of numbers same ∙ made_of_its_own c
@@ -284,11 +333,13 @@ row_read c ns numbers h none =
     omega (arith, row, low, none)
 
 -- what stands behind the word in front
-pub stripped : (r : Option (Bor (List ℕ))) (p s body : List ℕ) → MatchOption r (FindsTextPrefix p s None) (λ x. StripsPrefix (FindsTextPrefix p) s x.now) → s ≡ p ++ body
+pub stripped : (r : Option (Bor (List ℕ))) (p s body : List ℕ)
+    → MatchOption r (FindsTextPrefix p s None) (λ x. StripsPrefix (FindsTextPrefix p) s x.now) → s ≡ p ++ body
     → IsSomeAnd r (λ x. x.now ≡ body)
 stripped None p s body cases whole = absurd (cases body whole)
 stripped (Some x) p s body cases whole = cases.2 ∙ behind p body s cases.0 whole cases.1.0
 
 -- a cursor's text behind the word in front
-pub text_body : (c : CursorParts) (text : List ℕ) → cursor_text c ≡ text → text ≡ codes "pytok1 " ++ (with_blanks (numbers_of c) ++ with_commas c.levels)
+pub text_body : (c : CursorParts) (text : List ℕ) → cursor_text c ≡ text
+    → text ≡ codes "pytok1 " ++ (with_blanks (numbers_of c) ++ with_commas c.levels)
 text_body c text same = sym same ∙ cursor_text_is c

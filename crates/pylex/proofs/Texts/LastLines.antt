@@ -1,7 +1,9 @@
 -- The line that a text ends in, over bytes.
 --
 -- Carries: last_line. On: Resume.
-use Rattle.std.proofs.Common.{◌≡◌, ◌≢◌, ℕ, suc, ◌+◌, ◌<◌, ◌≤◌, true, false, ◌&&◌, ◌==◌, List, [], ◌∷◌, ◌++◌, length, take, drop, get_or, reverse, refl, ap, ◌∙◌, sym, subst, arith, ⊎_elim, append_assoc, Some, None, drop-cons, get_or-drop, length-drop}
+use Rattle.std.proofs.Common.{◌≡◌, ◌≢◌, ℕ, suc, ◌+◌, ◌<◌, ◌≤◌, true, false, ◌&&◌, ◌==◌, List, [], ◌∷◌, ◌++◌, length, take, drop, get_or}
+use Rattle.std.proofs.Common.{reverse, refl, ap, ◌∙◌, sym, subst, arith, ⊎_elim, append_assoc, Some, None, drop-cons, get_or-drop}
+use Rattle.std.proofs.Common.{length-drop}
 use Rattle.std.specs.List.{take_while, list_all}
 use Rattle.std.specs.Str.{chars, IsUtf8, IsCharBoundary, encode_utf8_all}
 use Rattle.std.specs.Str.Pattern.{RFindsChar}
@@ -21,7 +23,8 @@ all_reverse (c ∷ t) h =
     let p = and_parts (goes_on c) (list_all goes_on t) h in
     let r = all_reverse t p.1 in
     let one : list_all goes_on (c ∷ []) ≡ true = ap (λ b. b && true) p.0 in
-    ap (list_all goes_on) (reverse-append (c ∷ []) t) ∙ list_all-append goes_on (reverse t) (c ∷ []) ∙ ap (λ b. b && list_all goes_on (c ∷ [])) r ∙ one
+    ap (list_all goes_on) (reverse-append (c ∷ []) t) ∙ list_all-append goes_on (reverse t) (c ∷ [])
+    ∙ ap (λ b. b && list_all goes_on (c ∷ [])) r ∙ one
 
 -- characters that go on, up to a line feed
 taken_up : (r s : List ℕ) → list_all goes_on r ≡ true → take_while goes_on (r ++ 10 ∷ s) ≡ r
@@ -43,7 +46,8 @@ taken_whole (c ∷ r) h =
 line_of : (x y : List ℕ) → list_all goes_on y ≡ true → last_line (x ++ 10 ∷ y) ≡ y
 unfolding last_line
 line_of x y h =
-    let parts : reverse (x ++ 10 ∷ y) ≡ reverse y ++ 10 ∷ reverse x = reverse-append x (10 ∷ y) ∙ ap (λ t. t ++ reverse x) (reverse-append (10 ∷ []) y) ∙ append_assoc (reverse y) (10 ∷ []) (reverse x) in
+    let parts : reverse (x ++ 10 ∷ y) ≡ reverse y ++ 10 ∷ reverse x = reverse-append x (10 ∷ y)
+    ∙ ap (λ t. t ++ reverse x) (reverse-append (10 ∷ []) y) ∙ append_assoc (reverse y) (10 ∷ []) (reverse x) in
     ap (λ t. reverse (take_while goes_on t)) parts ∙ ap reverse (taken_up (reverse y) (reverse x) (all_reverse y h)) ∙ reverse-reverse y
 
 line_whole : (y : List ℕ) → list_all goes_on y ≡ true → last_line y ≡ y
@@ -55,9 +59,12 @@ clean_chars : (cs : List ℕ) → list_all goes_on (encode_utf8_all cs) ≡ true
 unfolding lib.Utf8.encode
 clean_chars [] h = refl
 clean_chars (c ∷ cs) h =
-    let p = and_parts (list_all goes_on (encode_utf8_all (c ∷ []))) (list_all goes_on (encode_utf8_all cs)) (sym (ap (list_all goes_on) (encodes-append (c ∷ []) cs) ∙ list_all-append goes_on (encode_utf8_all (c ∷ [])) (encode_utf8_all cs)) ∙ h) in
+    let p = and_parts (list_all goes_on (encode_utf8_all (c ∷ []))) (list_all goes_on (encode_utf8_all cs))
+    (sym (ap (list_all goes_on) (encodes-append (c ∷ []) cs) ∙ list_all-append goes_on (encode_utf8_all (c ∷ [])) (encode_utf8_all cs))
+    ∙ h) in
     let rest = clean_chars cs p.1 in ⊎_elim
-    (λ (e : (c == 10) ≡ true). let same : c ≡ 10 = grind (arith, nat_tests) in absurd (never (sym (ap (λ d. list_all goes_on (encode_utf8_all (d ∷ []))) same) ∙ p.0)))
+    (λ (e : (c == 10) ≡ true). let same : c ≡ 10 = grind (arith, nat_tests) in
+    absurd (never (sym (ap (λ d. list_all goes_on (encode_utf8_all (d ∷ []))) same) ∙ p.0)))
     (λ (e : (c == 10) ≡ false). rw (e, rest) refl)
     (bool_cases (c == 10))
   where
@@ -75,13 +82,16 @@ clean_bytes (b ∷ bs) h =
 clean_line : (line : List ℕ) → IsUtf8 line → ((k : ℕ) → k < length line → get_or line k 0 ≢ 10) → list_all goes_on (chars line) ≡ true
 clean_line line u h = clean_chars (chars line) (ap (list_all goes_on) (encodes-chars line u) ∙ clean_bytes line h)
 
-pub line_behind : (text line : List ℕ) (at : ℕ) → IsUtf8 text → IsUtf8 line → (j : ℕ) × RFindsChar 10 text (Some (at, j)) × (at ≤ j) × IsCharBoundary text at × IsCharBoundary text j → line ≡ drop (at + 1) text → chars line ≡ last_line (chars text)
+pub line_behind : (text line : List ℕ) (at : ℕ) → IsUtf8 text → IsUtf8 line → (j : ℕ) × RFindsChar 10 text (Some (at, j)) × (at ≤ j) ×
+    IsCharBoundary text at × IsCharBoundary text j → line ≡ drop (at + 1) text → chars line ≡ last_line (chars text)
 unfolding lib.Utf8.encode chars
 line_behind text line at u v f e =
     let g = rfind_char 10 text (Some at) f (omega arith) in
-    let whole : text ≡ take at text ++ 10 ∷ line = sym (take-append-drop at text) ∙ ap (λ t. take at text ++ t) (drop-cons text at 0 g.0 ∙ ap (λ b. b ∷ drop (suc at) text) g.1 ∙ ap (λ t. 10 ∷ t) (ap (λ n. drop n text) (sym (next at)) ∙ sym e)) in
+    let whole : text ≡ take at text ++ 10 ∷ line = sym (take-append-drop at text) ∙ ap (λ t. take at text ++ t) (drop-cons text at 0 g.0
+    ∙ ap (λ b. b ∷ drop (suc at) text) g.1 ∙ ap (λ t. 10 ∷ t) (ap (λ n. drop n text) (sym (next at)) ∙ sym e)) in
     let front : IsUtf8 (take at text) = IsUtf8-take text at u f.3 in
-    let spelled : chars text ≡ chars (take at text) ++ 10 ∷ chars line = ap chars whole ∙ chars-append (take at text) (10 ∷ line) front ∙ ap (λ t. chars (take at text) ++ t) (chars-append (10 ∷ []) line (10 ∷ [], (refl, refl))) in
+    let spelled : chars text ≡ chars (take at text) ++ 10 ∷ chars line = ap chars whole ∙ chars-append (take at text) (10 ∷ line) front
+    ∙ ap (λ t. chars (take at text) ++ t) (chars-append (10 ∷ []) line (10 ∷ [], (refl, refl))) in
     let clean = clean_line line v (λ k h. subst (λ (b : ℕ). b ≢ 10) (read k) (g.2 (k + (at + 1)) (omega arith) (within k h))) in
     sym (ap last_line spelled ∙ line_of (chars (take at text)) (chars line) clean)
   where
@@ -89,7 +99,8 @@ line_behind text line at u v f e =
     next n = omega arith
 
     read : (k : ℕ) → get_or text (k + (at + 1)) 0 ≡ get_or line k 0
-    read k = let o : k + (at + 1) ≡ (at + 1) + k = omega arith in ap (λ n. get_or text n 0) o ∙ sym (get_or-drop (at + 1) text k 0) ∙ ap (λ t. get_or t k 0) (sym e)
+    read k = let o : k + (at + 1) ≡ (at + 1) + k = omega arith in ap (λ n. get_or text n 0) o ∙ sym (get_or-drop (at + 1) text k 0)
+        ∙ ap (λ t. get_or t k 0) (sym e)
 
     within : (k : ℕ) → k < length line → k + (at + 1) < length text
     within k h = let l = ap length e ∙ length-drop (at + 1) text in omega arith

@@ -2,14 +2,16 @@
 --
 -- Carries: kind_field, push_line_feed, push_end, push_fields, push_filling, push_operator,
 -- push_plain, push_range and 5 more.
-use Rattle.std.proofs.Common.{◌≡◌, ℕ, true, false, ◌<◌, ◌-◌, List, [], ◌∷◌, ◌++◌, length, drop, replicate, refl, ap, ap₂, ◌∙◌, arith, ◌≤◌, ◌+◌, Result, Ok, Err, is_ok, get_or, length-append, sym, take, subst, append-nil, nat_le, leb-true}
+use Rattle.std.proofs.Common.{◌≡◌, ℕ, true, false, ◌<◌, ◌-◌, List, [], ◌∷◌, ◌++◌, length, drop, replicate, refl, ap, ap₂, ◌∙◌, arith, ◌≤◌}
+use Rattle.std.proofs.Common.{◌+◌, Result, Ok, Err, is_ok, get_or, length-append, sym, take, subst, append-nil, nat_le, leb-true}
 use Rattle.std.specs.Prelude.{zero, suc, ◌/◌, ◌%◌, ◌==◌, ◌&&◌, if◌then◌else◌, decimal, codes, slice_set}
 use Rattle.std.specs.List.{list_all}
 use Rattle.std.specs.Result.{OnOk}
 use Rattle.std.specs.Str.{chars, IsAscii}
 use Rattle.std.proofs.lemmas.Str.{chars-IsAscii, IsAscii-append}
 use Rattle.std.proofs.lemmas.Str.Ascii.{IsAscii-nil, IsAscii-cons}
-use Rattle.std.proofs.lemmas.List.{append_assoc, drop-append-le, drop-drop, drop_all, get_or-append_right, get_or-replicate, length-replicate, replicate-append-replicate, take_at, drop-replicate, set-append_right}
+use Rattle.std.proofs.lemmas.List.{append_assoc, drop-append-le, drop-drop, drop_all, get_or-append_right, get_or-replicate}
+use Rattle.std.proofs.lemmas.List.{length-replicate, replicate-append-replicate, take_at, drop-replicate, set-append_right}
 use Rattle.std.specs.Fmt.{digits, digits_onto, digit_glyph}
 use Rattle.std.proofs.lemmas.Bool.{ne_eqb, and_parts}
 use Rattle.std.proofs.lemmas.Bool.Decides.{nat_tests}
@@ -38,7 +40,8 @@ digits_ascii zero n acc h = h
 digits_ascii (suc k) n acc h =
     let glyph : digit_glyph false (n % 10) < 128 = glyph_ascii (n % 10) (omega arith) in
     let more : IsAscii (digit_glyph false (n % 10) ∷ acc) = IsAscii-cons _ acc glyph h in
-    elim (n / 10 == 0) as (λ b. IsAscii (if b then digit_glyph false (n % 10) ∷ acc else digits_onto k 10 false (n / 10) (digit_glyph false (n % 10) ∷ acc)))
+    elim (n / 10 == 0) as
+    (λ b. IsAscii (if b then digit_glyph false (n % 10) ∷ acc else digits_onto k 10 false (n / 10) (digit_glyph false (n % 10) ∷ acc)))
     [ true ↦ more | false ↦ digits_ascii k (n / 10) (digit_glyph false (n % 10) ∷ acc) more ]
 
 decimal_ascii : (n : ℕ) → IsAscii (decimal n)
@@ -105,7 +108,12 @@ field_filled width taken text old written new front count back =
 
 -- what stands behind an earlier text
 pub behind : (old more new : List ℕ) (n : ℕ) → new ≡ old ++ more → n ≡ length old → drop n new ≡ more
-behind old more new n whole size = rw (whole, size, drop-append-le (length old) old more (omega arith), drop_all (length old) old (omega arith)) refl
+behind old more new n whole size = rw (
+  whole,
+  size,
+  drop-append-le (length old) old more (omega arith),
+  drop_all (length old) old (omega arith),
+) refl
 
 -- three texts appended one by one
 pub three_parts : (old a b c x y new : List ℕ) → x ≡ old ++ a → y ≡ x ++ b → new ≡ y ++ c → new ≡ old ++ (a ++ b ++ c)
@@ -120,16 +128,25 @@ pushed_whole (Err x) new whole old is = tt
 -- what stands behind a text that blanks were appended to, and the text with fewer of them
 pub blank_at : (old : List ℕ) (n i : ℕ) (new : List ℕ) → new ≡ old ++ replicate n 32 → length old ≤ i → i < length new → get_or new i 0 ≡ 32
 blank_at old n i new grown behind inside =
-    let size : length new ≡ length old + n = ap length grown ∙ length-append old (replicate n 32) ∙ ap (λ m. length old + m) (length-replicate n 32) in
-    ap (λ bs. get_or bs i 0) grown ∙ get_or-append_right old (replicate n 32) (length old) i 0 refl behind ∙ get_or-replicate n (i - length old) 32 0 (omega (arith, size))
+    let size : length new ≡ length old + n = ap length grown ∙ length-append old (replicate n 32)
+    ∙ ap (λ m. length old + m) (length-replicate n 32) in
+    ap (λ bs. get_or bs i 0) grown ∙ get_or-append_right old (replicate n 32) (length old) i 0 refl behind
+    ∙ get_or-replicate n (i - length old) 32 0 (omega (arith, size))
 
-pub cut_filling : (old : List ℕ) (n k at : ℕ) (new : List ℕ) → k ≤ n → at ≡ length old → new ≡ old ++ replicate n 32 → take (at + k) new ≡ old ++ replicate k 32
+pub cut_filling : (old : List ℕ) (n k at : ℕ) (new : List ℕ) → k ≤ n → at ≡ length old → new ≡ old ++ replicate n 32
+    → take (at + k) new ≡ old ++ replicate k 32
 cut_filling old n k at new fewer start grown =
     let all : k + (n - k) ≡ n = omega arith in
-    let parts : replicate n 32 ≡ replicate k 32 ++ replicate (n - k) 32 = ap (λ (m : ℕ). replicate {A = ℕ} m 32) (sym all) ∙ sym (replicate-append-replicate {A = ℕ} k (n - k) 32) in
+    let parts : replicate n 32 ≡ replicate k 32 ++ replicate (n - k) 32 = ap (λ (m : ℕ). replicate {A = ℕ} m 32) (sym all)
+    ∙ sym (replicate-append-replicate {A = ℕ} k (n - k) 32) in
     let cut : new ≡ (old ++ replicate k 32) ++ replicate (n - k) 32 =
     grown ∙ ap (λ bs. old ++ bs) parts ∙ sym (append_assoc old (replicate k 32) (replicate (n - k) 32)) in
-    let place : length (old ++ replicate k 32) ≡ at + k = omega (arith, start, length-append old (replicate k 32), length-replicate {A = ℕ} k 32) in
+    let place : length (old ++ replicate k 32) ≡ at + k = omega (
+      arith,
+      start,
+      length-append old (replicate k 32),
+      length-replicate {A = ℕ} k 32,
+    ) in
     ap (take (at + k)) cut ∙ take_at (old ++ replicate k 32) (replicate (n - k) 32) (at + k) place
 
 -- Below, fields that are written to an array.
@@ -148,10 +165,12 @@ range_ascii e =
 -- a place before more text, and its length
 pub place_front : (p : Place) (rest : List ℕ) → decimal p.row ++ (44 ∷ (decimal p.column ++ rest)) ≡ shown_place p ++ rest
 place_front p rest =
-    sym (append_assoc (decimal p.row ++ codes ",") (decimal p.column) rest ∙ append_assoc (decimal p.row) (codes ",") (decimal p.column ++ rest))
+    sym (append_assoc (decimal p.row ++ codes ",") (decimal p.column) rest
+    ∙ append_assoc (decimal p.row) (codes ",") (decimal p.column ++ rest))
 
 pub place_length : (p : Place) → length (shown_place p) ≡ length (decimal p.row) + 1 + length (decimal p.column)
-place_length p = length-append (decimal p.row ++ codes ",") (decimal p.column) ∙ ap (λ n. n + length (decimal p.column)) (length-append (decimal p.row) (codes ","))
+place_length p = length-append (decimal p.row ++ codes ",") (decimal p.column)
+    ∙ ap (λ n. n + length (decimal p.column)) (length-append (decimal p.row) (codes ","))
 
 -- a range of places before more text
 pub range_front : (e : Entry) (rest : List ℕ) → shown_place e.start ++ (45 ∷ (shown_place e.end ++ (58 ∷ rest))) ≡ shown_range e ++ rest
@@ -161,21 +180,24 @@ range_front e rest =
     ∙ append_assoc (shown_place e.start) (codes "-") (shown_place e.end ++ (58 ∷ rest)))
 
 -- the field of places that are no wider than it, and of wider ones
-pub short_range : (e : Entry) (rest : List ℕ) (n : ℕ) → rest ≡ shown_range e ++ replicate 20 32 → n ≡ 20 → length (shown_range e) ≤ 20 → take n rest ≡ filled 20 (shown_range e)
+pub short_range : (e : Entry) (rest : List ℕ) (n : ℕ) → rest ≡ shown_range e ++ replicate 20 32 → n ≡ 20 → length (shown_range e) ≤ 20
+    → take n rest ≡ filled 20 (shown_range e)
 short_range e rest n is width short =
     let size = length (shown_range e) in
     let all : n ≡ size + (20 - size) = omega arith in
     ap (λ k. take k rest) all ∙ cut_filling (shown_range e) 20 (20 - size) size rest (omega arith) refl is
     ∙ ap (λ k. shown_range e ++ replicate (20 - k) 32) (sym (range_characters e))
 
-pub wide_range : (e : Entry) (rest : List ℕ) (n : ℕ) → rest ≡ shown_range e ++ replicate 20 32 → n ≡ length (shown_range e) → 20 < n → take n rest ≡ filled 20 (shown_range e)
+pub wide_range : (e : Entry) (rest : List ℕ) (n : ℕ) → rest ≡ shown_range e ++ replicate 20 32 → n ≡ length (shown_range e) → 20 < n
+    → take n rest ≡ filled 20 (shown_range e)
 wide_range e rest n is size wide =
     let none : 20 - length (chars (shown_range e)) ≡ 0 = omega (arith, range_characters e) in
     ap (take n) is ∙ take_at (shown_range e) (replicate 20 32) n (sym size)
     ∙ sym (append-nil (shown_range e)) ∙ ap (λ k. shown_range e ++ replicate k 32) (sym none)
 
 pub filled_range_ascii : (e : Entry) → IsAscii (filled 20 (shown_range e))
-filled_range_ascii e = IsAscii-append (shown_range e) (replicate (20 - length (chars (shown_range e))) 32) (range_ascii e) (blanks_ascii (20 - length (chars (shown_range e))))
+filled_range_ascii e = IsAscii-append (shown_range e) (replicate (20 - length (chars (shown_range e))) 32) (range_ascii e)
+    (blanks_ascii (20 - length (chars (shown_range e))))
 
 plain_below : (b : ℕ) → is_plain b ≡ true → b < 128
 plain_below b plain =
@@ -189,35 +211,43 @@ plain_ascii (b ∷ bs) plain =
     IsAscii-cons b bs (plain_below b parts.0) (plain_ascii bs parts.1)
 
 -- the field of a short plain text
-plain_field : (text : List ℕ) → list_all is_plain text ≡ true → length text ≤ 13 → 39 ∷ (text ++ 39 ∷ replicate (13 - length text) 32) ≡ filled 15 (repr_text (chars text))
+plain_field : (text : List ℕ) → list_all is_plain text ≡ true → length text ≤ 13 → 39 ∷ (text ++ 39 ∷ replicate (13 - length text) 32) ≡
+    filled 15 (repr_text (chars text))
 plain_field text plain short =
     let shown = plain_repr text plain in
-    let count : length text + 2 ≡ length (chars (repr_text (chars text))) = sym (ap (λ bs. length (chars bs)) shown ∙ plain_repr_characters text plain) in
+    let count : length text + 2 ≡ length (chars (repr_text (chars text))) =
+    sym (ap (λ bs. length (chars bs)) shown ∙ plain_repr_characters text plain) in
     let rest : 13 - length text ≡ 15 - (length text + 2) = omega arith in
-    field_filled 15 (length text + 2) (repr_text (chars text)) [] (39 ∷ (text ++ 39 ∷ [])) (39 ∷ (text ++ 39 ∷ replicate (13 - length text) 32)) (sym shown) count
-    (ap (λ k. 39 ∷ (text ++ 39 ∷ replicate k 32)) rest ∙ ap (λ (bs : List ℕ). 39 ∷ bs) (sym (append_assoc text (39 ∷ []) (replicate (15 - (length text + 2)) 32))))
+    field_filled 15 (length text + 2) (repr_text (chars text)) [] (39 ∷ (text ++ 39 ∷ []))
+    (39 ∷ (text ++ 39 ∷ replicate (13 - length text) 32)) (sym shown) count
+    (ap (λ k. 39 ∷ (text ++ 39 ∷ replicate k 32)) rest
+    ∙ ap (λ (bs : List ℕ). 39 ∷ bs) (sym (append_assoc text (39 ∷ []) (replicate (15 - (length text + 2)) 32))))
 
 -- the line's end behind it
-ended_field : (text : List ℕ) → list_all is_plain text ≡ true → length text ≤ 13 → 39 ∷ (text ++ 39 ∷ (replicate (13 - length text) 32 ++ 10 ∷ [])) ≡ filled 15 (repr_text (chars text)) ++ codes "\n"
+ended_field : (text : List ℕ) → list_all is_plain text ≡ true → length text ≤ 13
+    → 39 ∷ (text ++ 39 ∷ (replicate (13 - length text) 32 ++ 10 ∷ [])) ≡ filled 15 (repr_text (chars text)) ++ codes "\n"
 ended_field text plain short =
     ap (λ (bs : List ℕ). 39 ∷ bs) (sym (append_assoc text (39 ∷ replicate (13 - length text) 32) (10 ∷ [])))
     ∙ ap (λ (bs : List ℕ). bs ++ 10 ∷ []) (plain_field text plain short)
 
 pub short_field : (text copied : List ℕ) → list_all is_plain text ≡ true → length text ≤ 13 → copied ≡ text
-    → slice_set (39 ∷ (copied ++ drop (length text + 1 - 1) (replicate {A = ℕ} 14 32 ++ 10 ∷ []))) (length text + 1) 39 ≡ filled 15 (repr_text (chars text)) ++ codes "\n"
+    → slice_set (39 ∷ (copied ++ drop (length text + 1 - 1) (replicate {A = ℕ} 14 32 ++ 10 ∷ []))) (length text + 1) 39 ≡ filled 15
+    (repr_text (chars text)) ++ codes "\n"
 short_field text copied plain short same =
     let n = length text in
     let len : n + 1 - 1 ≡ n = omega arith in
     let within : n ≤ length (replicate {A = ℕ} 14 32) = omega arith in
     let back : drop n (replicate {A = ℕ} 14 32 ++ 10 ∷ []) ≡ 32 ∷ (replicate (13 - n) 32 ++ 10 ∷ []) =
     let more : 14 - n ≡ suc (13 - n) = omega arith in
-    drop-append-le n (replicate {A = ℕ} 14 32) (10 ∷ []) within ∙ ap (λ bs. bs ++ 10 ∷ []) (drop-replicate n 14 32 ∙ ap (λ k. replicate {A = ℕ} k 32) more) in
+    drop-append-le n (replicate {A = ℕ} 14 32) (10 ∷ []) within ∙ ap (λ bs. bs ++ 10 ∷ []) (drop-replicate n 14 32
+    ∙ ap (λ k. replicate {A = ℕ} k 32) more) in
     let start : n + 1 - (n + 1) ≡ 0 = omega arith in
     let size : length (39 ∷ text) ≡ n + 1 = omega arith in
     rw (same, len, back) (set-append_right (39 ∷ text) (32 ∷ (replicate (13 - n) 32 ++ 10 ∷ [])) (n + 1) (n + 1) 39 size (omega arith)
     ∙ ap (λ k. (39 ∷ text) ++ slice_set (32 ∷ (replicate (13 - n) 32 ++ 10 ∷ [])) k 39) start ∙ ended_field text plain short)
 
-pub filled_plain_ascii : (text : List ℕ) → list_all is_plain text ≡ true → length text ≤ 13 → IsAscii (filled 15 (repr_text (chars text)) ++ codes "\n")
+pub filled_plain_ascii : (text : List ℕ) → list_all is_plain text ≡ true → length text ≤ 13
+    → IsAscii (filled 15 (repr_text (chars text)) ++ codes "\n")
 filled_plain_ascii text plain short =
     IsAscii-append (filled 15 (repr_text (chars text))) (codes "\n")
     (subst IsAscii (plain_field text plain short)

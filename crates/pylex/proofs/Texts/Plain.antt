@@ -1,7 +1,8 @@
 -- Text in ASCII without LF: its bytes are characters of one line.
 --
 -- Carries: after_plain, lead_of_plain, walk, width_after.
-use Rattle.std.proofs.Common.{◌≡◌, ◌≢◌, ℕ, zero, suc, ◌+◌, ◌<◌, ◌≤◌, false, ◌==◌, List, [], ◌∷◌, length, refl, ap, ◌∙◌, sym, subst, arith, get_or, ⊎_elim}
+use Rattle.std.proofs.Common.{◌≡◌, ◌≢◌, ℕ, zero, suc, ◌+◌, ◌<◌, ◌≤◌, false, ◌==◌, List, [], ◌∷◌, length, refl, ap, ◌∙◌, sym, subst, arith}
+use Rattle.std.proofs.Common.{get_or, ⊎_elim}
 use Rattle.std.specs.Str.{chars, IsAscii}
 use Rattle.std.proofs.lemmas.Str.{chars-IsAscii}
 use Rattle.std.proofs.lemmas.Bool.Decides.{nat_tests}
@@ -48,7 +49,8 @@ advance_in_line p (c ∷ cs) a =
     rw e (advance_in_line (record { row = p.row; column = p.column + 1 }) cs a.1 ∙ ap (λ (n : ℕ). record { row = p.row; column = n }) sum)
 
 pub advance_plain : (p : Place) (bs : List ℕ) → IsPlain bs → place_past p (chars bs) ≡ record { row = p.row; column = p.column + length bs }
-advance_plain p bs h = advance_in_line p (chars bs) (plain_in_line bs h) ∙ ap (λ (cs : List ℕ). record { row = p.row; column = p.column + length cs }) (plain_chars bs h)
+advance_plain p bs h = advance_in_line p (chars bs) (plain_in_line bs h)
+    ∙ ap (λ (cs : List ℕ). record { row = p.row; column = p.column + length cs }) (plain_chars bs h)
 
 -- what a line begins with stays so to its end
 pub begun : (f : LeadingChar) (cs : List ℕ) → (f ≡ Nothing → ⊥) → AllInLine cs → lead_after f cs ≡ f

@@ -13,7 +13,8 @@ use Rattle.pylex.specs.Standing.{front_to, standing_by, resumed, to_give}
 use Rattle.pylex_lexeme.proofs.Callers.Lexemes.{lexemes}
 
 unfoldable pub listings : Unit {0}
-unfolding lexemes encode place_after depth line_so_far is_at_margin is_logical width_from width_at widths open_levels layout_by layout entry_of steps_of stop_fault last_line line_end_of_last end_place tail stop listing
+unfolding lexemes encode place_after depth line_so_far is_at_margin is_logical width_from width_at widths open_levels layout_by layout
+    entry_of steps_of stop_fault last_line line_end_of_last end_place tail stop listing
 listings = tt
 
 unfoldable pub cursors : Unit {0}

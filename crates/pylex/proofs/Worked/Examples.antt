@@ -185,7 +185,8 @@ unfolding listings
 two_blocks = refl
 
 -- if x:\n        y\n\tz\n
-tab_as_wide_as_blanks : listing (source ((105 ∷ 102 ∷ 32 ∷ 120 ∷ 58 ∷ 10 ∷ 32 ∷ 32 ∷ 32 ∷ 32 ∷ 32 ∷ 32 ∷ 32 ∷ 32 ∷ 121 ∷ 10 ∷ 9 ∷ 122 ∷ 10 ∷ [])) None) ≡
+tab_as_wide_as_blanks : listing
+    (source ((105 ∷ 102 ∷ 32 ∷ 120 ∷ 58 ∷ 10 ∷ 32 ∷ 32 ∷ 32 ∷ 32 ∷ 32 ∷ 32 ∷ 32 ∷ 32 ∷ 121 ∷ 10 ∷ 9 ∷ 122 ∷ 10 ∷ [])) None) ≡
     entry kinds.Encoding 0 0 0 0 0 0 ∷
     entry kinds.Name 1 0 1 2 0 2 ∷
     entry kinds.Name 1 3 1 4 3 4 ∷
@@ -294,7 +295,8 @@ unfolding listings cursors
 cursor_at_start = refl
 
 -- if x:\n\ty\n after 7: pytok1 7 8 2 0 1 0 0,8
-cursor_in_block : cursor_text (cursor (source ((105 ∷ 102 ∷ 32 ∷ 120 ∷ 58 ∷ 10 ∷ 9 ∷ 121 ∷ 10 ∷ [])) None) 7) ≡ codes "pytok1 7 8 2 0 1 0 0,8"
+cursor_in_block : cursor_text (cursor (source ((105 ∷ 102 ∷ 32 ∷ 120 ∷ 58 ∷ 10 ∷ 9 ∷ 121 ∷ 10 ∷ [])) None) 7) ≡ codes
+    "pytok1 7 8 2 0 1 0 0,8"
 unfolding listings cursors
 cursor_in_block = refl
 
@@ -352,7 +354,8 @@ unfolding listings
 rest_before_mismatch = refl
 
 -- if x:\n\ty\n after 6: pytok1 6 7 2 0 1 0 0,8
-cursor_after_indent : cursor_text (cursor (source ((105 ∷ 102 ∷ 32 ∷ 120 ∷ 58 ∷ 10 ∷ 9 ∷ 121 ∷ 10 ∷ [])) None) 6) ≡ codes "pytok1 6 7 2 0 1 0 0,8"
+cursor_after_indent : cursor_text (cursor (source ((105 ∷ 102 ∷ 32 ∷ 120 ∷ 58 ∷ 10 ∷ 9 ∷ 121 ∷ 10 ∷ [])) None) 6) ≡ codes
+    "pytok1 6 7 2 0 1 0 0,8"
 unfolding listings cursors
 cursor_after_indent = refl
 
@@ -547,22 +550,62 @@ join_only_line : listing (source (codes "if x:\n y\n\\\n z\n") None) ≡
 unfolding listings
 join_only_line = refl
 
-resumed_at_start_stands : standing (source ([]) None) 0 ≡ record { shown = record { given = 0; offset = 0; row = 1; depth = 0; begun = false; skip = 0; levels = 0 ∷ [] }; line = []; left = []; fault = None }
+resumed_at_start_stands : standing (source ([]) None) 0 ≡ record {
+  shown = record {
+    given = 0;
+    offset = 0;
+    row = 1;
+    depth = 0;
+    begun =
+        false;
+    skip = 0;
+    levels = 0 ∷ [];
+  };
+  line = [];
+  left = [];
+  fault = None;
+}
 unfolding standings
 resumed_at_start_stands = refl
 
-resumed_at_start : to_give (record { shown = record { given = 0; offset = 0; row = 1; depth = 0; begun = false; skip = 0; levels = 0 ∷ [] }; line = []; left = []; fault = None }) ≡
+resumed_at_start : to_give (record {
+  shown = record { given = 0; offset = 0; row = 1; depth = 0; begun = false; skip = 0; levels = 0 ∷ [] };
+  line = [];
+  left = [];
+  fault = None;
+}) ≡
     entry kinds.Encoding 0 0 0 0 0 0 ∷
     entry kinds.EndMarker 1 0 1 0 0 0 ∷
     steps.End ∷ []
 unfolding standings
 resumed_at_start = refl
 
-resumed_in_block_stands : standing (source ((105 ∷ 102 ∷ 32 ∷ 120 ∷ 58 ∷ 10 ∷ 9 ∷ 121 ∷ 10 ∷ [])) None) 7 ≡ record { shown = record { given = 7; offset = 8; row = 2; depth = 0; begun = true; skip = 0; levels = 0 ∷ 8 ∷ [] }; line = (9 ∷ 121 ∷ []); left = codes "\n"; fault = None }
+resumed_in_block_stands : standing (source ((105 ∷ 102 ∷ 32 ∷ 120 ∷ 58 ∷ 10 ∷ 9 ∷ 121 ∷ 10 ∷ [])) None) 7 ≡ record {
+  shown =
+      record { given = 7; offset = 8; row = 2; depth = 0; begun = true; skip = 0; levels = 0 ∷ 8 ∷ [] };
+  line = (9 ∷ 121 ∷ []);
+  left =
+      codes "\n";
+  fault = None;
+}
 unfolding standings
 resumed_in_block_stands = refl
 
-resumed_in_block : to_give (record { shown = record { given = 7; offset = 8; row = 2; depth = 0; begun = true; skip = 0; levels = 0 ∷ 8 ∷ [] }; line = (9 ∷ 121 ∷ []); left = codes "\n"; fault = None }) ≡
+resumed_in_block : to_give (record {
+  shown = record {
+    given = 7;
+    offset = 8;
+    row = 2;
+    depth = 0;
+    begun = true;
+    skip = 0;
+    levels =
+        0 ∷ 8 ∷ [];
+  };
+  line = (9 ∷ 121 ∷ []);
+  left = codes "\n";
+  fault = None;
+}) ≡
     entry kinds.Newline 2 2 2 3 8 9 ∷
     entry kinds.Dedent 3 0 3 0 9 9 ∷
     entry kinds.EndMarker 3 0 3 0 9 9 ∷
@@ -570,11 +613,32 @@ resumed_in_block : to_give (record { shown = record { given = 7; offset = 8; row
 unfolding standings
 resumed_in_block = refl
 
-resumed_before_block_stands : standing (source ((105 ∷ 102 ∷ 32 ∷ 120 ∷ 58 ∷ 10 ∷ 9 ∷ 121 ∷ 10 ∷ [])) None) 5 ≡ record { shown = record { given = 5; offset = 6; row = 2; depth = 0; begun = false; skip = 0; levels = 0 ∷ [] }; line = []; left = (9 ∷ 121 ∷ 10 ∷ []); fault = None }
+resumed_before_block_stands : standing (source ((105 ∷ 102 ∷ 32 ∷ 120 ∷ 58 ∷ 10 ∷ 9 ∷ 121 ∷ 10 ∷ [])) None) 5 ≡ record {
+  shown =
+      record { given = 5; offset = 6; row = 2; depth = 0; begun = false; skip = 0; levels = 0 ∷ [] };
+  line = [];
+  left =
+      (9 ∷ 121 ∷ 10 ∷ []);
+  fault = None;
+}
 unfolding standings
 resumed_before_block_stands = refl
 
-resumed_before_block : to_give (record { shown = record { given = 5; offset = 6; row = 2; depth = 0; begun = false; skip = 0; levels = 0 ∷ [] }; line = []; left = (9 ∷ 121 ∷ 10 ∷ []); fault = None }) ≡
+resumed_before_block : to_give (record {
+  shown = record {
+    given = 5;
+    offset = 6;
+    row = 2;
+    depth = 0;
+    begun = false;
+    skip = 0;
+    levels =
+        0 ∷ [];
+  };
+  line = [];
+  left = (9 ∷ 121 ∷ 10 ∷ []);
+  fault = None;
+}) ≡
     entry kinds.Indent 2 0 2 1 6 7 ∷
     entry kinds.Name 2 1 2 2 7 8 ∷
     entry kinds.Newline 2 2 2 3 8 9 ∷
@@ -584,11 +648,32 @@ resumed_before_block : to_give (record { shown = record { given = 5; offset = 6;
 unfolding standings
 resumed_before_block = refl
 
-resumed_after_indent_stands : standing (source ((105 ∷ 102 ∷ 32 ∷ 120 ∷ 58 ∷ 10 ∷ 9 ∷ 121 ∷ 10 ∷ [])) None) 6 ≡ record { shown = record { given = 6; offset = 7; row = 2; depth = 0; begun = true; skip = 0; levels = 0 ∷ 8 ∷ [] }; line = (9 ∷ []); left = codes "y\n"; fault = None }
+resumed_after_indent_stands : standing (source ((105 ∷ 102 ∷ 32 ∷ 120 ∷ 58 ∷ 10 ∷ 9 ∷ 121 ∷ 10 ∷ [])) None) 6 ≡ record {
+  shown =
+      record { given = 6; offset = 7; row = 2; depth = 0; begun = true; skip = 0; levels = 0 ∷ 8 ∷ [] };
+  line = (9 ∷ []);
+  left =
+      codes "y\n";
+  fault = None;
+}
 unfolding standings
 resumed_after_indent_stands = refl
 
-resumed_after_indent : to_give (record { shown = record { given = 6; offset = 7; row = 2; depth = 0; begun = true; skip = 0; levels = 0 ∷ 8 ∷ [] }; line = (9 ∷ []); left = codes "y\n"; fault = None }) ≡
+resumed_after_indent : to_give (record {
+  shown = record {
+    given = 6;
+    offset = 7;
+    row = 2;
+    depth = 0;
+    begun = true;
+    skip = 0;
+    levels =
+        0 ∷ 8 ∷ [];
+  };
+  line = (9 ∷ []);
+  left = codes "y\n";
+  fault = None;
+}) ≡
     entry kinds.Name 2 1 2 2 7 8 ∷
     entry kinds.Newline 2 2 2 3 8 9 ∷
     entry kinds.Dedent 3 0 3 0 9 9 ∷
@@ -597,11 +682,32 @@ resumed_after_indent : to_give (record { shown = record { given = 6; offset = 7;
 unfolding standings
 resumed_after_indent = refl
 
-resumed_among_dedents_stands : standing (source (codes "if a:\n if b:\n  c\nd\n") None) 14 ≡ record { shown = record { given = 14; offset = 17; row = 4; depth = 0; begun = false; skip = 1; levels = 0 ∷ 1 ∷ 2 ∷ [] }; line = []; left = codes "d\n"; fault = None }
+resumed_among_dedents_stands : standing (source (codes "if a:\n if b:\n  c\nd\n") None) 14 ≡ record {
+  shown =
+      record { given = 14; offset = 17; row = 4; depth = 0; begun = false; skip = 1; levels = 0 ∷ 1 ∷ 2 ∷ [] };
+  line = [];
+  left =
+      codes "d\n";
+  fault = None;
+}
 unfolding standings
 resumed_among_dedents_stands = refl
 
-resumed_among_dedents : to_give (record { shown = record { given = 14; offset = 17; row = 4; depth = 0; begun = false; skip = 1; levels = 0 ∷ 1 ∷ 2 ∷ [] }; line = []; left = codes "d\n"; fault = None }) ≡
+resumed_among_dedents : to_give (record {
+  shown = record {
+    given = 14;
+    offset = 17;
+    row = 4;
+    depth = 0;
+    begun = false;
+    skip = 1;
+    levels =
+        0 ∷ 1 ∷ 2 ∷ [];
+  };
+  line = [];
+  left = codes "d\n";
+  fault = None;
+}) ≡
     entry kinds.Dedent 4 0 4 0 17 17 ∷
     entry kinds.Name 4 0 4 1 17 18 ∷
     entry kinds.Newline 4 1 4 2 18 19 ∷
@@ -610,11 +716,32 @@ resumed_among_dedents : to_give (record { shown = record { given = 14; offset = 
 unfolding standings
 resumed_among_dedents = refl
 
-resumed_after_dedents_stands : standing (source (codes "if a:\n if b:\n  c\nd\n") None) 15 ≡ record { shown = record { given = 15; offset = 17; row = 4; depth = 0; begun = false; skip = 2; levels = 0 ∷ 1 ∷ 2 ∷ [] }; line = []; left = codes "d\n"; fault = None }
+resumed_after_dedents_stands : standing (source (codes "if a:\n if b:\n  c\nd\n") None) 15 ≡ record {
+  shown =
+      record { given = 15; offset = 17; row = 4; depth = 0; begun = false; skip = 2; levels = 0 ∷ 1 ∷ 2 ∷ [] };
+  line = [];
+  left =
+      codes "d\n";
+  fault = None;
+}
 unfolding standings
 resumed_after_dedents_stands = refl
 
-resumed_after_dedents : to_give (record { shown = record { given = 15; offset = 17; row = 4; depth = 0; begun = false; skip = 2; levels = 0 ∷ 1 ∷ 2 ∷ [] }; line = []; left = codes "d\n"; fault = None }) ≡
+resumed_after_dedents : to_give (record {
+  shown = record {
+    given = 15;
+    offset = 17;
+    row = 4;
+    depth = 0;
+    begun = false;
+    skip = 2;
+    levels =
+        0 ∷ 1 ∷ 2 ∷ [];
+  };
+  line = [];
+  left = codes "d\n";
+  fault = None;
+}) ≡
     entry kinds.Name 4 0 4 1 17 18 ∷
     entry kinds.Newline 4 1 4 2 18 19 ∷
     entry kinds.EndMarker 5 0 5 0 19 19 ∷
@@ -622,50 +749,143 @@ resumed_after_dedents : to_give (record { shown = record { given = 15; offset = 
 unfolding standings
 resumed_after_dedents = refl
 
-resumed_after_empty_line_end_stands : standing (source (codes "x") None) 3 ≡ record { shown = record { given = 3; offset = 1; row = 1; depth = 0; begun = true; skip = 1; levels = 0 ∷ [] }; line = codes "x"; left = []; fault = None }
+resumed_after_empty_line_end_stands : standing (source (codes "x") None) 3 ≡ record {
+  shown =
+      record { given = 3; offset = 1; row = 1; depth = 0; begun = true; skip = 1; levels = 0 ∷ [] };
+  line = codes "x";
+  left = [];
+  fault = None;
+}
 unfolding standings
 resumed_after_empty_line_end_stands = refl
 
-resumed_after_empty_line_end : to_give (record { shown = record { given = 3; offset = 1; row = 1; depth = 0; begun = true; skip = 1; levels = 0 ∷ [] }; line = codes "x"; left = []; fault = None }) ≡
+resumed_after_empty_line_end : to_give
+    (record {
+      shown = record { given = 3; offset = 1; row = 1; depth = 0; begun = true; skip = 1; levels = 0 ∷ [] };
+      line = codes "x";
+      left = [];
+      fault = None;
+    }) ≡
     entry kinds.EndMarker 2 0 2 0 1 1 ∷
     steps.End ∷ []
 unfolding standings
 resumed_after_empty_line_end = refl
 
-resumed_after_marker_stands : standing (source (codes "x") None) 4 ≡ record { shown = record { given = 4; offset = 1; row = 1; depth = 0; begun = true; skip = 2; levels = 0 ∷ [] }; line = codes "x"; left = []; fault = None }
+resumed_after_marker_stands : standing (source (codes "x") None) 4 ≡ record {
+  shown = record {
+    given = 4;
+    offset = 1;
+    row = 1;
+    depth = 0;
+    begun = true;
+    skip = 2;
+    levels = 0 ∷ [];
+  };
+  line = codes "x";
+  left = [];
+  fault = None;
+}
 unfolding standings
 resumed_after_marker_stands = refl
 
-resumed_after_marker : to_give (record { shown = record { given = 4; offset = 1; row = 1; depth = 0; begun = true; skip = 2; levels = 0 ∷ [] }; line = codes "x"; left = []; fault = None }) ≡
+resumed_after_marker : to_give (record {
+  shown = record {
+    given = 4;
+    offset = 1;
+    row = 1;
+    depth = 0;
+    begun = true;
+    skip = 2;
+    levels =
+        0 ∷ [];
+  };
+  line = codes "x";
+  left = [];
+  fault = None;
+}) ≡
     steps.End ∷ []
 unfolding standings
 resumed_after_marker = refl
 
-resumed_before_mismatch_stands : standing (source (codes "if a:\n    b\n  c\n") None) 8 ≡ record { shown = record { given = 8; offset = 12; row = 3; depth = 0; begun = false; skip = 0; levels = 0 ∷ 4 ∷ [] }; line = []; left = codes "  c\n"; fault = None }
+resumed_before_mismatch_stands : standing (source (codes "if a:\n    b\n  c\n") None) 8 ≡ record {
+  shown =
+      record { given = 8; offset = 12; row = 3; depth = 0; begun = false; skip = 0; levels = 0 ∷ 4 ∷ [] };
+  line = [];
+  left =
+      codes "  c\n";
+  fault = None;
+}
 unfolding standings
 resumed_before_mismatch_stands = refl
 
-resumed_before_mismatch : to_give (record { shown = record { given = 8; offset = 12; row = 3; depth = 0; begun = false; skip = 0; levels = 0 ∷ 4 ∷ [] }; line = []; left = codes "  c\n"; fault = None }) ≡
+resumed_before_mismatch : to_give (record {
+  shown = record {
+    given = 8;
+    offset = 12;
+    row = 3;
+    depth = 0;
+    begun = false;
+    skip = 0;
+    levels =
+        0 ∷ 4 ∷ [];
+  };
+  line = [];
+  left = codes "  c\n";
+  fault = None;
+}) ≡
     steps.Fault (record { code = errors.UnindentMismatch; place = at 3 2 }) ∷ []
 unfolding standings
 resumed_before_mismatch = refl
 
-resumed_after_joined_comment_stands : standing (source (codes "\\\n# c\n") None) 2 ≡ record { shown = record { given = 2; offset = 5; row = 2; depth = 0; begun = true; skip = 0; levels = 0 ∷ [] }; line = codes "# c"; left = codes "\n"; fault = None }
+resumed_after_joined_comment_stands : standing (source (codes "\\\n# c\n") None) 2 ≡ record {
+  shown =
+      record { given = 2; offset = 5; row = 2; depth = 0; begun = true; skip = 0; levels = 0 ∷ [] };
+  line = codes "# c";
+  left =
+      codes "\n";
+  fault = None;
+}
 unfolding standings
 resumed_after_joined_comment_stands = refl
 
-resumed_after_joined_comment : to_give (record { shown = record { given = 2; offset = 5; row = 2; depth = 0; begun = true; skip = 0; levels = 0 ∷ [] }; line = codes "# c"; left = codes "\n"; fault = None }) ≡
+resumed_after_joined_comment : to_give
+    (record {
+      shown = record { given = 2; offset = 5; row = 2; depth = 0; begun = true; skip = 0; levels = 0 ∷ [] };
+      line = codes "# c";
+      left = codes "\n";
+      fault = None;
+    }) ≡
     entry kinds.Newline 2 3 2 4 5 6 ∷
     entry kinds.EndMarker 3 0 3 0 6 6 ∷
     steps.End ∷ []
 unfolding standings
 resumed_after_joined_comment = refl
 
-resumed_after_comment_stands : standing (source (codes "  # c") None) 2 ≡ record { shown = record { given = 2; offset = 5; row = 1; depth = 0; begun = false; skip = 0; levels = 0 ∷ [] }; line = codes "  # c"; left = []; fault = None }
+resumed_after_comment_stands : standing (source (codes "  # c") None) 2 ≡ record {
+  shown =
+      record { given = 2; offset = 5; row = 1; depth = 0; begun = false; skip = 0; levels = 0 ∷ [] };
+  line = codes "  # c";
+  left = [];
+  fault = None;
+}
 unfolding standings
 resumed_after_comment_stands = refl
 
-resumed_after_comment : to_give (record { shown = record { given = 2; offset = 5; row = 1; depth = 0; begun = false; skip = 0; levels = 0 ∷ [] }; line = codes "  # c"; left = []; fault = None }) ≡
+resumed_after_comment : to_give (record {
+  shown = record {
+    given = 2;
+    offset = 5;
+    row = 1;
+    depth = 0;
+    begun = false;
+    skip = 0;
+    levels =
+        0 ∷ [];
+  };
+  line = codes "  # c";
+  left = [];
+  fault = None;
+}) ≡
     entry kinds.Nl 1 5 1 5 5 5 ∷
     entry kinds.EndMarker 2 0 2 0 5 5 ∷
     steps.End ∷ []
@@ -673,6 +893,8 @@ unfolding standings
 resumed_after_comment = refl
 
 -- a source that agrees
-agreeing : standing_by (source ((105 ∷ 102 ∷ 32 ∷ 40 ∷ 58 ∷ 10 ∷ 9 ∷ 121 ∷ 10 ∷ [])) None) (cursor (source ((105 ∷ 102 ∷ 32 ∷ 120 ∷ 58 ∷ 10 ∷ 9 ∷ 121 ∷ 10 ∷ [])) None) 7) ≡ standing (source ((105 ∷ 102 ∷ 32 ∷ 120 ∷ 58 ∷ 10 ∷ 9 ∷ 121 ∷ 10 ∷ [])) None) 7
+agreeing : standing_by (source ((105 ∷ 102 ∷ 32 ∷ 40 ∷ 58 ∷ 10 ∷ 9 ∷ 121 ∷ 10 ∷ [])) None)
+    (cursor (source ((105 ∷ 102 ∷ 32 ∷ 120 ∷ 58 ∷ 10 ∷ 9 ∷ 121 ∷ 10 ∷ [])) None) 7) ≡ standing
+    (source ((105 ∷ 102 ∷ 32 ∷ 120 ∷ 58 ∷ 10 ∷ 9 ∷ 121 ∷ 10 ∷ [])) None) 7
 unfolding standings
 agreeing = refl

@@ -4,8 +4,10 @@
 use Rattle.std.proofs.Common.{◌≡◌, [], ◌∷◌, refl, true, false}
 use Rattle.std.specs.Prelude.{codes}
 use Rattle.std.specs.List.{list_all, list_any}
-use Rattle.pylex_lexeme.specs.Numbers.{is_number, is_decimal, is_radix, is_float, is_imaginary, is_exponent, is_point_after, is_point_before, is_raised}
-use Rattle.pylex_lexeme.specs.Strings.{is_string, is_prefix, is_single, is_triple, is_single_string, is_triple_string, opens_string, opens_triple}
+use Rattle.pylex_lexeme.specs.Numbers.{is_number, is_decimal, is_radix, is_float, is_imaginary, is_exponent, is_point_after}
+use Rattle.pylex_lexeme.specs.Numbers.{is_point_before, is_raised}
+use Rattle.pylex_lexeme.specs.Strings.{is_string, is_prefix, is_single, is_triple, is_single_string, is_triple_string, opens_string}
+use Rattle.pylex_lexeme.specs.Strings.{opens_triple}
 use Rattle.pylex_lexeme.specs.Lexemes.{is_line_end, is_join, is_open_string}
 
 numbers : list_all is_number (
@@ -60,6 +62,7 @@ unfolding is_open_string opens_triple is_prefix is_join is_line_end
 open_strings = refl
 
 no_open_strings : list_any is_open_string (
-    [] ∷ codes "'" ∷ codes "'a" ∷ codes "'a\n" ∷ codes "'a\\" ∷ codes "'a\\\\\n" ∷ codes "'a\\\nb" ∷ codes "'a\\\n\n" ∷ codes "a\\\n" ∷ codes "ur'\\\n" ∷ []) ≡ false
+    [] ∷ codes "'" ∷ codes "'a" ∷ codes "'a\n" ∷ codes "'a\\" ∷ codes "'a\\\\\n" ∷ codes "'a\\\nb" ∷ codes "'a\\\n\n" ∷ codes "a\\\n" ∷
+    codes "ur'\\\n" ∷ []) ≡ false
 unfolding is_open_string opens_triple is_prefix is_join is_line_end
 no_open_strings = refl

@@ -1,5 +1,6 @@
 -- What reading on does to the lines that a lister holds.
-use Rattle.std.specs.Prelude.{◌≡◌, ◌⊎◌, ℕ, ◌+◌, ◌≤◌, ◌<◌, true, List, [], ◌++◌, length, drop, string_bytes, Some, None, Result, Ok, Err, IsUtf8}
+use Rattle.std.specs.Prelude.{◌≡◌, ◌⊎◌, ℕ, ◌+◌, ◌≤◌, ◌<◌, true, List, [], ◌++◌, length, drop, string_bytes, Some, None, Result, Ok, Err}
+use Rattle.std.specs.Prelude.{IsUtf8}
 use Rattle.std.specs.declared.alloc.AllocError.{AllocError}
 use Rattle.pysource.specs.Bytes.{Seen}
 use Rattle.pysource.specs.Streams.{Buffered, Reads, Gives, ComesOnly, MayCome, IsLine, ends_line, unread}
@@ -36,7 +37,8 @@ Holding old new from line (Ok (met.Fault f)) = Stays old new
 Holding old new from line (Ok met.Read) = Stays old new
 Holding old new from line (Err e) = Stays old new
 
--- what an answer says of the text that was added: at the source's end, a faulty line and a failed read it is none; memory runs out only where a line may come
+-- what an answer says of the text that was added: at the source's end, a faulty line and a failed read it is none; memory runs out only
+-- where a line may come
 abbrev pub Adds : Result LineRead AllocError → List ℕ → Buffered → Type 0
 Adds (Ok met.Text) line new = (0 < length line) × IsUtf8 line × ((ends_line line ≡ true) ⊎ ComesOnly new None)
 Adds (Ok met.End) line new = (line ≡ []) × ComesOnly new None × (new.pending ≡ [])
@@ -92,7 +94,8 @@ AddsLine old new from (Err e) = Unit {0}
 
 -- what is held where lines were read from a place at which a lister can't advance
 abbrev pub HoldsOn : HeldLines → HeldLines → ℕ → Result LineRead AllocError → Type 0
-HoldsOn old new from (Ok met.Text) = IsAtStop (string_bytes old.text) from → Holds old.lines new.lines (drop from (string_bytes old.text)) (string_bytes new.text) (drop new.at (string_bytes new.text))
+HoldsOn old new from (Ok met.Text) = IsAtStop (string_bytes old.text) from → Holds old.lines new.lines (drop from (string_bytes old.text))
+    (string_bytes new.text) (drop new.at (string_bytes new.text))
 HoldsOn old new from (Ok met.End) = Unit {0}
 HoldsOn old new from (Ok (met.Fault f)) = Unit {0}
 HoldsOn old new from (Ok met.Read) = Unit {0}

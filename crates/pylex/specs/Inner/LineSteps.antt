@@ -1,5 +1,6 @@
 -- A lister that reads its source line by line, as its code holds it: how it looks ahead, and what a step does.
-use Rattle.std.specs.Prelude.{◌≡◌, ◌⊎◌, ◌||◌, ◌==◌, ℕ, ◌+◌, ◌≤◌, Bool, true, List, [], ◌++◌, take, length, drop, string_bytes, false, ◌<◌, Option, Some, None, Result, Ok}
+use Rattle.std.specs.Prelude.{◌≡◌, ◌⊎◌, ◌||◌, ◌==◌, ℕ, ◌+◌, ◌≤◌, Bool, true, List, [], ◌++◌, take, length, drop, string_bytes, false, ◌<◌}
+use Rattle.std.specs.Prelude.{Option, Some, None, Result, Ok}
 use Rattle.std.specs.declared.alloc.AllocError.{AllocError}
 use Rattle.std.specs.Str.{chars, IsUtf8}
 use Rattle.pysource.specs.Bytes.{Seen}
@@ -51,7 +52,8 @@ pub record IsStreaming (p : Machine) (c : HeldLines) (last : Option Entry) : Typ
   pub lexed : LexedTo (chars (drop c.at (string_bytes c.text))) (chars (string_bytes c.text))
   pub joined : IsJoined [] (string_bytes c.text)
   pub fresh : p.given ≡ 0 → string_bytes c.text ≡ []
-  pub stands : (more : List ℕ) (broken : Bool) → Continues c.lines more broken → (s : Parts) × StreamsIn (streamed p c last) s p.given more broken
+  pub stands : (more : List ℕ) (broken : Bool) → Continues c.lines more broken
+      → (s : Parts) × StreamsIn (streamed p c last) s p.given more broken
 
 -- nothing is left, or a literal that is open
 abbrev pub lacks : List ℕ → Bool
@@ -65,15 +67,19 @@ Stops m left coming fault own = m ≡ met.Stop → (lacks left ≡ false) ⊎ ((
 pub record Looks (p : Machine) (c : HeldLines) (f : Found) : Type 0 where
   pub at : f.at ≤ length (string_bytes c.text)
   pub left : IsUtf8 (drop f.at (string_bytes c.text))
-  pub finds : Peek (take p.nested p.levels.items) p.now (chars (drop c.at (string_bytes c.text))) f.peeked f.now (chars (drop f.at (string_bytes c.text)))
+  pub finds : Peek (take p.nested p.levels.items) p.now (chars (drop c.at (string_bytes c.text))) f.peeked f.now
+      (chars (drop f.at (string_bytes c.text)))
   pub stands : Stands f.now (drop f.at (string_bytes c.text))
-  pub room : (n : ℕ) → HasRoom p.now (length (drop c.at (string_bytes c.text)) + n) → HasRoom f.now (length (drop f.at (string_bytes c.text)) + n)
+  pub room : (n : ℕ) → HasRoom p.now (length (drop c.at (string_bytes c.text)) + n)
+      → HasRoom f.now (length (drop f.at (string_bytes c.text)) + n)
   pub tail : 0 < p.tail → (f.peeked ≡ met.Stop) × (f.now ≡ p.now) × (drop f.at (string_bytes c.text) ≡ drop c.at (string_bytes c.text))
 
 -- that is met in the source
 pub record PeekedIn (p : Machine) (c : HeldLines) (f : Found) : Type 0 where
   pub looks : Looks p c f
-  pub stops : (s : Parts) (k : ℕ) (more : List ℕ) (broken : Bool) → Continues c.lines more broken → StreamsIn (streamed p c None) s k more broken → Stops f.peeked (drop f.at (string_bytes c.text)) (comes c.lines more broken).text f.fault s.fault
+  pub stops : (s : Parts) (k : ℕ) (more : List ℕ) (broken : Bool) → Continues c.lines more broken
+      → StreamsIn (streamed p c None) s k more broken → Stops f.peeked (drop f.at (string_bytes c.text))
+      (comes c.lines more broken).text f.fault s.fault
   pub ended : f.peeked ≡ met.Stop → AwaitsLine (streamed p c None) → ⊥
 
 -- A search for what is met next: the lister stands where it stood, and holds other lines.
@@ -81,7 +87,8 @@ pub record Searches (seen_old seen_new : Seen) (old new : Machine) (c d : HeldLi
   pub taken : List ℕ
   pub reads : Reads seen_old seen_new c.lines d.lines taken
   pub follows : (more : List ℕ) (broken : Bool) → Continues d.lines more broken → Continues c.lines (taken ++ more) broken
-  pub stands : (s : Parts) (k : ℕ) (more : List ℕ) (broken : Bool) → Continues d.lines more broken → StreamsIn (streamed old c None) s k (taken ++ more) broken → StreamsIn (streamed new d None) s k more broken
+  pub stands : (s : Parts) (k : ℕ) (more : List ℕ) (broken : Bool) → Continues d.lines more broken
+      → StreamsIn (streamed old c None) s k (taken ++ more) broken → StreamsIn (streamed new d None) s k more broken
   pub machine : new ≡ record old { now = new.now }
   pub streaming : IsStreaming new d None
 
@@ -103,7 +110,8 @@ Lacks lines.Read row fault = fault ≡ Some (unread row)
 
 -- Past what a search found: that is a step, after whatever was searched.
 abbrev pub Passes : Machine → HeldLines → Found → Streamed → Result Step AllocError → Type 0
-Passes q d f new result = (seen_old seen_new : Seen) (p : Machine) (c : HeldLines) (last : Option Entry) → Searches seen_old seen_new p q c d → 0 < p.given → LooksAhead f c.lines d.lines
+Passes q d f new result = (seen_old seen_new : Seen) (p : Machine) (c : HeldLines) (last : Option Entry)
+    → Searches seen_old seen_new p q c d → 0 < p.given → LooksAhead f c.lines d.lines
     → Next seen_old seen_new (streamed p c last) new result
 
 -- an entry is passed by, whatever was found

@@ -65,13 +65,22 @@ StaysBehind old met new (steps.Entry e) = Unit {0}
 StaysBehind old met new steps.End = (new ≡ old) × ((met ≡ peeked.Stop) ⊎ ((f : ListingFault) × (met ≡ peeked.Fault f)))
 StaysBehind old met new (steps.Fault g) = (new ≡ old) × ((met ≡ peeked.Stop) ⊎ ((f : ListingFault) × (met ≡ peeked.Fault f)))
 
--- From a machine to another by a step: in each source in which a lister stood so, before a text in which it finds what was met, that step comes next. A text may continue after what was looked at, if that makes no other end.
-pub record Advance (old : Machine) (met : Peeked) (now : LineState) (left : List ℕ) (fault : Option LineFault) (step : Step) (new : Machine) : Type 0 where
-  pub goes : (source : Parts) (from to : List ℕ) → Holds source old from → Peek (take old.nested old.levels.items) old.now (chars from) met now (chars to) → Stands now to
-      → (met ≡ peeked.Stop → (levels : List ℕ) → remaining (option_map of_line source.fault) (with_levels now levels) (chars to) ≡ remaining (option_map of_line fault) (with_levels now levels) (chars left))
-      → NextStep (record { source = source; shown = shown_from old }) step (record { source = source; shown = shown_from new }) × Holds source new (left_by step from to)
-  pub measuring : (cs ds : List ℕ) → Peek (take old.nested old.levels.items) old.now cs met now ds → IsMeasuring old.now → IsMeasuring new.now
-  pub ranges : (source : Parts) (from to before rest : List ℕ) → Holds source old from → Peek (take old.nested old.levels.items) old.now (chars from) met now (chars to) → chars source.text ≡ before ++ rest → (before ≡ []) ⊎ EndsLine before → bytes_in (chars to) ≤ bytes_in rest → bytes_in before ≤ old.now.now.offset → IsMeasuring old.now → Ranges (bytes_in before) new.now.now.offset step
+-- From a machine to another by a step: in each source in which a lister stood so, before a text in which it finds what was met, that step
+-- comes next. A text may continue after what was looked at, if that makes no other end.
+pub record Advance (old : Machine) (met : Peeked) (now : LineState) (left : List ℕ) (fault : Option LineFault) (step : Step)
+    (new : Machine) : Type 0 where
+  pub goes : (source : Parts) (from to : List ℕ) → Holds source old from → Peek (take old.nested old.levels.items) old.now (chars from) met
+      now (chars to) → Stands now to
+      → (met ≡ peeked.Stop → (levels : List ℕ) → remaining (option_map of_line source.fault) (with_levels now levels) (chars to) ≡ remaining
+      (option_map of_line fault) (with_levels now levels) (chars left))
+      → NextStep (record { source = source; shown = shown_from old }) step (record { source = source; shown = shown_from new }) × Holds
+      source new (left_by step from to)
+  pub measuring : (cs ds : List ℕ) → Peek (take old.nested old.levels.items) old.now cs met now ds
+      → IsMeasuring old.now → IsMeasuring new.now
+  pub ranges : (source : Parts) (from to before rest : List ℕ) → Holds source old from
+      → Peek (take old.nested old.levels.items) old.now (chars from) met now (chars to) → chars source.text ≡ before ++ rest
+      → (before ≡ []) ⊎ EndsLine before → bytes_in (chars to) ≤ bytes_in rest → bytes_in before ≤ old.now.now.offset → IsMeasuring old.now
+      → Ranges (bytes_in before) new.now.now.offset step
 
 -- from a machine to another by an entry that comes next in a text, where none of the end was given
 pub record StepsOn (old : Machine) (text : List ℕ) (e : Entry) (new : Machine) (left : List ℕ) : Type 0 where

@@ -2,7 +2,8 @@
 --
 -- Carries: or_parts, and_false, Reads and 19 more, for NumberBest, Parts, StringBest,
 -- Union and 14 more. On: Longest.
-use Rattle.std.proofs.Common.{◌≡◌, ℕ, ◌+◌, ◌-◌, ◌≤◌, ◌<◌, Bool, true, false, ◌&&◌, ◌||◌, List, [], ◌∷◌, length, drop, take, refl, ◌∙◌, arith, zero, suc, ◌⊎◌, ⊎_elim, length-drop, inl, inr}
+use Rattle.std.proofs.Common.{◌≡◌, ℕ, ◌+◌, ◌-◌, ◌≤◌, ◌<◌, Bool, true, false, ◌&&◌, ◌||◌, List, [], ◌∷◌, length, drop, take, refl, ◌∙◌}
+use Rattle.std.proofs.Common.{arith, zero, suc, ◌⊎◌, ⊎_elim, length-drop, inl, inr}
 use Rattle.std.specs.List.{list_all}
 use Rattle.std.proofs.lemmas.Bool.{cases_lt}
 use Rattle.pylex_lexeme.specs.Numbers.{split_any, optional, headed}
@@ -49,7 +50,8 @@ best_tail p c cs m b = record {
 }
 
 -- a split is forced to stand where the longest front ends
-pub split_forced : (p q : List ℕ → Bool) (a : ℕ → Bool) (cs : List ℕ) (m i : ℕ) → IsBest p cs m → list_all a (take m cs) ≡ true → Starts a q → split_any p q (take (m + i) cs) ≡ q (take i (drop m cs))
+pub split_forced : (p q : List ℕ → Bool) (a : ℕ → Bool) (cs : List ℕ) (m i : ℕ) → IsBest p cs m → list_all a (take m cs) ≡ true → Starts a q
+    → split_any p q (take (m + i) cs) ≡ q (take i (drop m cs))
 split_forced p q a [] zero i b l s = at_end p q i b.passes
   where
     at_end : (p q : List ℕ → Bool) (i : ℕ) → p [] ≡ true → split_any p q (take (zero + i) []) ≡ q (take i [])
@@ -59,7 +61,8 @@ split_forced p q a [] (suc m) i b l s = absurd (let h = b.within in omega arith)
 split_forced p q a (c ∷ cs) zero zero b l s = let e : p [] ≡ true = b.passes in rw e refl
 split_forced p q a (c ∷ cs) zero (suc i) b l s =
     let e : p [] ≡ true = b.passes in
-    let n : split_any (λ t. p (c ∷ t)) q (take i cs) ≡ false = split_nothing (λ t. p (c ∷ t)) q cs i (λ j h. b.longest (suc j) (omega arith) (omega arith)) in
+    let n : split_any (λ t. p (c ∷ t)) q (take i cs) ≡ false =
+    split_nothing (λ t. p (c ∷ t)) q cs i (λ j h. b.longest (suc j) (omega arith) (omega arith)) in
     let z : zero + suc i ≡ suc i = omega arith in
     rw z (rw (e, n) (or_false (q (c ∷ take i cs))))
   where
@@ -73,7 +76,8 @@ split_forced p q a (c ∷ cs) (suc m) i b l s =
     rw n (rw (and_false (p []) (q (c ∷ take (m + i) cs)) e) (split_forced (λ t. p (c ∷ t)) q a cs m i (best_tail p c cs m b) h.1 s))
 
 -- and nothing shorter than that front has one
-pub split_short : (p q : List ℕ → Bool) (a : ℕ → Bool) (cs : List ℕ) (m j : ℕ) → list_all a (take m cs) ≡ true → Starts a q → q [] ≡ false → j < m → split_any p q (take j cs) ≡ false
+pub split_short : (p q : List ℕ → Bool) (a : ℕ → Bool) (cs : List ℕ) (m j : ℕ) → list_all a (take m cs) ≡ true → Starts a q → q [] ≡ false
+    → j < m → split_any p q (take j cs) ≡ false
 split_short p q a cs zero j l s z h = absurd (omega arith)
 split_short p q a cs (suc m) zero l s z h = and_false (p []) (q []) z
 split_short p q a [] (suc m) (suc j) l s z h = and_false (p []) (q []) z
@@ -83,7 +87,8 @@ split_short p q a (c ∷ cs) (suc m) (suc j) l s z h =
     rw (and_false (p []) (q (c ∷ take j cs)) e) (split_short (λ t. p (c ∷ t)) q a cs m j g.1 s z (omega arith))
 
 -- one part after another
-pub then_best : (p q : List ℕ → Bool) (a : ℕ → Bool) (cs : List ℕ) (m n : ℕ) → IsBest p cs m → list_all a (take m cs) ≡ true → Starts a q → IsBest q (drop m cs) n → IsBest (split_any p q) cs (m + n)
+pub then_best : (p q : List ℕ → Bool) (a : ℕ → Bool) (cs : List ℕ) (m n : ℕ) → IsBest p cs m → list_all a (take m cs) ≡ true → Starts a q
+    → IsBest q (drop m cs) n → IsBest (split_any p q) cs (m + n)
 then_best p q a cs m n b l s r =
     let w : m ≤ length cs = b.within in
     let d : length (drop m cs) ≡ length cs - m = length-drop m cs in
@@ -96,7 +101,8 @@ then_best p q a cs m n b l s r =
           rw e (split_forced p q a cs m (j - m) b l s ∙ r.longest (j - m) (omega arith) (omega arith));
     }
 
-pub then_none : (p q : List ℕ → Bool) (a : ℕ → Bool) (cs : List ℕ) (m : ℕ) → IsBest p cs m → list_all a (take m cs) ≡ true → Starts a q → NoFront q (drop m cs) → NoFront (split_any p q) cs
+pub then_none : (p q : List ℕ → Bool) (a : ℕ → Bool) (cs : List ℕ) (m : ℕ) → IsBest p cs m → list_all a (take m cs) ≡ true → Starts a q
+    → NoFront q (drop m cs) → NoFront (split_any p q) cs
 then_none p q a cs m b l s r j i =
     let w : m ≤ length cs = b.within in
     let d : length (drop m cs) ≡ length cs - m = length-drop m cs in
@@ -129,7 +135,8 @@ optional_best q cs (suc n) r = record { within = r.within; passes = there cs r; 
     longer [] r (suc j) h i = absurd (omega arith)
     longer (c ∷ cs) r (suc j) h i = r.longest (suc j) h i
 
-pub headed_best : (f : ℕ → Bool) (p : List ℕ → Bool) (c : ℕ) (cs : List ℕ) (n : ℕ) → f c ≡ true → IsBest p cs n → IsBest (headed f p) (c ∷ cs) (suc n)
+pub headed_best : (f : ℕ → Bool) (p : List ℕ → Bool) (c : ℕ) (cs : List ℕ) (n : ℕ) → f c ≡ true → IsBest p cs n
+    → IsBest (headed f p) (c ∷ cs) (suc n)
 headed_best f p c cs n e b = record { within = (let h = b.within in omega arith); passes = rw e b.passes; longest = longer }
   where
     longer : (j : ℕ) → suc n < j → j ≤ length (c ∷ cs) → headed f p (take j (c ∷ cs)) ≡ false
@@ -183,7 +190,8 @@ pub best_above : (p : List ℕ → Bool) (cs : List ℕ) (m n : ℕ) → IsBest 
 best_above p cs m n b l j h i = b.longest j (omega arith) i
 
 -- what all that passes consists of
-pub split_all : (a : ℕ → Bool) (p q : List ℕ → Bool) (b : Bool) (t : List ℕ) → ((u : List ℕ) → p u ≡ true → (b && list_all a u) ≡ true) → ((u : List ℕ) → q u ≡ true → list_all a u ≡ true) → split_any p q t ≡ true → (b && list_all a t) ≡ true
+pub split_all : (a : ℕ → Bool) (p q : List ℕ → Bool) (b : Bool) (t : List ℕ) → ((u : List ℕ) → p u ≡ true → (b && list_all a u) ≡ true)
+    → ((u : List ℕ) → q u ≡ true → list_all a u ≡ true) → split_any p q t ≡ true → (b && list_all a t) ≡ true
 split_all a p q b [] f g e = f [] (and_parts (p []) (q []) e).0
 split_all a p q b (c ∷ t) f g e =
     ⊎_elim

@@ -1,7 +1,8 @@
 -- Digits, each with perhaps an underscore before it.
 --
 -- Carries: bump_joined. On: Best, Cases, Longest.
-use Rattle.std.proofs.Common.{◌≡◌, ℕ, ◌≤◌, ◌<◌, Bool, true, false, ◌&&◌, ◌||◌, ◌==◌, List, [], ◌∷◌, length, drop, take, refl, ◌∙◌, arith, zero, suc, ⊎_elim}
+use Rattle.std.proofs.Common.{◌≡◌, ℕ, ◌≤◌, ◌<◌, Bool, true, false, ◌&&◌, ◌||◌, ◌==◌, List, [], ◌∷◌, length, drop, take, refl, ◌∙◌, arith}
+use Rattle.std.proofs.Common.{zero, suc, ⊎_elim}
 use Rattle.std.proofs.lemmas.Bool.{eqb-true}
 use Rattle.std.specs.List.{list_all}
 use Rattle.pylex_lexeme.specs.Chars.{begins}
@@ -38,7 +39,8 @@ pub data Way (d : ℕ → Bool) (a b : ℕ) : Type 0 where
 pub way : (d : ℕ → Bool) (a b : ℕ) → Way d a b
 way d a b =
     ⊎_elim (λ (e : d a ≡ true). digit e)
-    (λ (e : d a ≡ false). ⊎_elim (λ (f : joins d a b ≡ true). both e f) (λ (f : joins d a b ≡ false). neither e f) (bool_cases (joins d a b)))
+    (λ (e : d a ≡ false). ⊎_elim (λ (f : joins d a b ≡ true). both e f) (λ (f : joins d a b ≡ false). neither e f)
+    (bool_cases (joins d a b)))
     (bool_cases (d a))
 
 single : (d : ℕ → Bool) (a : ℕ) → IsBest (are_joined d) (a ∷ []) (joined_len d (a ∷ []))
@@ -63,7 +65,8 @@ joined_best d (a ∷ b ∷ cs) =
       | neither e f ↦ rw (e, f) (after_neither d a b cs e f)
     ]
   where
-    after_digit : (d : ℕ → Bool) (a : ℕ) (cs : List ℕ) (n : ℕ) → d a ≡ true → IsBest (are_joined d) cs n → IsBest (are_joined d) (a ∷ cs) (suc n)
+    after_digit : (d : ℕ → Bool) (a : ℕ) (cs : List ℕ) (n : ℕ) → d a ≡ true → IsBest (are_joined d) cs n
+        → IsBest (are_joined d) (a ∷ cs) (suc n)
     after_digit d a cs n e best = record {
       within = (let h = best.within in omega arith);
       passes = digit_more d a (take n cs) e ∙ best.passes;
@@ -74,7 +77,8 @@ joined_best d (a ∷ b ∷ cs) =
         longer zero h i = absurd (omega arith)
         longer (suc j) h i = digit_more d a (take j cs) e ∙ best.longest j (omega arith) (omega arith)
 
-    after_both : (d : ℕ → Bool) (a b : ℕ) (cs : List ℕ) (n : ℕ) → d a ≡ false → joins d a b ≡ true → IsBest (are_joined d) cs n → IsBest (are_joined d) (a ∷ b ∷ cs) (suc (suc n))
+    after_both : (d : ℕ → Bool) (a b : ℕ) (cs : List ℕ) (n : ℕ) → d a ≡ false → joins d a b ≡ true → IsBest (are_joined d) cs n
+        → IsBest (are_joined d) (a ∷ b ∷ cs) (suc (suc n))
     after_both d a b cs n e f best = record {
       within = (let h = best.within in omega arith);
       passes = both_more d a b (take n cs) e f ∙ best.passes;
@@ -95,7 +99,8 @@ joined_best d (a ∷ b ∷ cs) =
         longer (suc (suc j)) h i = rw (e, f) refl
 
 -- what a set of characters holds that a run consists of
-pub joined_all : (a d : ℕ → Bool) (t : List ℕ) → ((c : ℕ) → d c ≡ true → a c ≡ true) → a 95 ≡ true → are_joined d t ≡ true → list_all a t ≡ true
+pub joined_all : (a d : ℕ → Bool) (t : List ℕ) → ((c : ℕ) → d c ≡ true → a c ≡ true) → a 95 ≡ true
+    → are_joined d t ≡ true → list_all a t ≡ true
 joined_all a d [] f u e = refl
 joined_all a d (x ∷ []) f u e = let h : a x ≡ true = f x e in rw h refl
 joined_all a d (x ∷ y ∷ t) f u e =
@@ -112,7 +117,8 @@ joined_all a d (x ∷ y ∷ t) f u e =
     ]
 
 -- a set of digits within another
-pub joined_subset : (d e : ℕ → Bool) (t : List ℕ) → ((c : ℕ) → d c ≡ true → e c ≡ true) → (e 95 ≡ false) → are_joined d t ≡ true → are_joined e t ≡ true
+pub joined_subset : (d e : ℕ → Bool) (t : List ℕ) → ((c : ℕ) → d c ≡ true → e c ≡ true) → (e 95 ≡ false)
+    → are_joined d t ≡ true → are_joined e t ≡ true
 joined_subset d e [] f u h = refl
 joined_subset d e (x ∷ []) f u h = f x h
 joined_subset d e (x ∷ y ∷ t) f u h =
@@ -134,7 +140,8 @@ pub step_digit : (d : ℕ → Bool) (cs : List ℕ) → begins d cs ≡ true →
 step_digit d [] e = cc
 step_digit d (a ∷ cs) e = rw (len_digit d a cs e) refl
 
-pub step_both : (d : ℕ → Bool) (cs : List ℕ) → begins d cs ≡ false → begins (λ c. c == 95) cs ≡ true → begins d (drop 1 cs) ≡ true → drop (joined_len d (drop 2 cs)) (drop 2 cs) ≡ drop (joined_len d cs) cs
+pub step_both : (d : ℕ → Bool) (cs : List ℕ) → begins d cs ≡ false → begins (λ c. c == 95) cs ≡ true → begins d (drop 1 cs) ≡ true
+    → drop (joined_len d (drop 2 cs)) (drop 2 cs) ≡ drop (joined_len d cs) cs
 step_both d [] e f g = cc
 step_both d (a ∷ []) e f g = cc
 step_both d (a ∷ b ∷ cs) e f g = rw (e, f, g) refl
@@ -163,7 +170,8 @@ some_joined d [] e = cc
 some_joined d (a ∷ []) e =
     ⊎_elim
     (λ (h : d a ≡ true). rw h (omega arith))
-    (λ (h : d a ≡ false). let i : ((a == 95) && false) ≡ true = simp h at e in let k = and_parts (a == 95) false i in absurd (let z : false ≡ true = k.1 in cc))
+    (λ (h : d a ≡ false). let i : ((a == 95) && false) ≡ true = simp h at e in let k = and_parts (a == 95) false i in
+    absurd (let z : false ≡ true = k.1 in cc))
     (bool_cases (d a))
 some_joined d (a ∷ b ∷ cs) e =
     ⊎_elim
@@ -176,7 +184,12 @@ pub some_best : (d : ℕ → Bool) (cs : List ℕ) → begins_some d cs ≡ true
 some_best d cs e =
     let b = joined_best d cs in
     let n : 0 < joined_len d cs = some_joined d cs e in
-    record { within = b.within; passes = same d cs (joined_len d cs) b.within n ∙ b.passes; longest = λ j h i. same d cs j i (omega arith) ∙ b.longest j h i }
+    record {
+      within = b.within;
+      passes = same d cs (joined_len d cs) b.within n ∙ b.passes;
+      longest =
+          λ j h i. same d cs j i (omega arith) ∙ b.longest j h i;
+    }
   where
     same : (d : ℕ → Bool) (cs : List ℕ) (j : ℕ) → j ≤ length cs → 0 < j → are_some d (take j cs) ≡ are_joined d (take j cs)
     same d cs zero i h = absurd (omega arith)

@@ -2,7 +2,8 @@
 --
 -- Carries: IsBest, longest_within_is, longest_within_none, run_best, for Union, StringLongest,
 -- NumberBest, Best and 5 more. On: Cases.
-use Rattle.std.proofs.Common.{◌≡◌, ℕ, ◌≤◌, ◌<◌, Bool, true, false, List, [], ◌∷◌, length, take, refl, sym, subst, arith, add_comm, add-one, zero, suc, ◌⊎◌, ⊎_elim, ◌+◌}
+use Rattle.std.proofs.Common.{◌≡◌, ℕ, ◌≤◌, ◌<◌, Bool, true, false, List, [], ◌∷◌, length, take, refl, sym, subst, arith, add_comm, add-one}
+use Rattle.std.proofs.Common.{zero, suc, ◌⊎◌, ⊎_elim, ◌+◌}
 use Rattle.std.specs.List.{prefix_len, list_all}
 use Rattle.pylex_lexeme.specs.Lexemes.{longest_within}
 use Rattle.pylex_lexeme.proofs.Cases.{bool_cases}
@@ -16,7 +17,8 @@ pub record IsBest (p : List ℕ → Bool) (cs : List ℕ) (n : ℕ) : Type 0 whe
 le_cases : (n m : ℕ) → n ≤ suc m → (n ≡ suc m) ⊎ (n ≤ m)
 le_cases n m h = grind arith
 
-pub longest_within_is : (p : List ℕ → Bool) (cs : List ℕ) (m n : ℕ) → n ≤ m → p (take n cs) ≡ true → ((j : ℕ) → n < j → j ≤ m → p (take j cs) ≡ false) → longest_within p cs m ≡ n
+pub longest_within_is : (p : List ℕ → Bool) (cs : List ℕ) (m n : ℕ) → n ≤ m → p (take n cs) ≡ true
+    → ((j : ℕ) → n < j → j ≤ m → p (take j cs) ≡ false) → longest_within p cs m ≡ n
 longest_within_is p cs zero n h e f = omega arith
 longest_within_is p cs (suc m) n h e f =
     ⊎_elim
@@ -25,9 +27,11 @@ longest_within_is p cs (suc m) n h e f =
     rw g (longest_within_is p cs m n less e (λ j a b. f j a (omega arith))))
     (le_cases n m h)
 
-pub longest_within_none : (p : List ℕ → Bool) (cs : List ℕ) (m : ℕ) → ((j : ℕ) → 0 < j → j ≤ m → p (take j cs) ≡ false) → longest_within p cs m ≡ 0
+pub longest_within_none : (p : List ℕ → Bool) (cs : List ℕ) (m : ℕ) → ((j : ℕ) → 0 < j → j ≤ m → p (take j cs) ≡ false)
+    → longest_within p cs m ≡ 0
 longest_within_none p cs zero f = refl
-longest_within_none p cs (suc m) f = let g : p (take (suc m) cs) ≡ false = f (suc m) (omega arith) (omega arith) in rw g (longest_within_none p cs m (λ j a b. f j a (omega arith)))
+longest_within_none p cs (suc m) f = let g : p (take (suc m) cs) ≡ false = f (suc m) (omega arith) (omega arith) in
+    rw g (longest_within_none p cs m (λ j a b. f j a (omega arith)))
 
 -- The characters at the front that pass: a longer front doesn't pass.
 run_fails : (p : ℕ → Bool) (cs : List ℕ) (j : ℕ) → prefix_len p cs < j → j ≤ length cs → list_all p (take j cs) ≡ false

@@ -11,6 +11,8 @@ use Rattle.pylex_lexeme.proofs.Cases.{bool_cases}
 pub name_byte : (b : ℕ) → (is_ascii_alphanumeric b || (b == 95)) ≡ (nat_lt b 128 && is_xid_continue b)
 name_byte b =
     ⊎_elim
-    (λ (k : nat_lt b 128 ≡ true). let small : b < 128 = grind (arith, nat_tests) in let is = is_xid_continue-ascii b small in rw (k, is) refl)
-    (λ (k : nat_lt b 128 ≡ false). let none : is_ascii_alphanumeric b ≡ false = grind (arith, nat_tests) in let no : (b == 95) ≡ false = grind (arith, nat_tests) in rw (k, none, no) refl)
+    (λ (k : nat_lt b 128 ≡ true). let small : b < 128 = grind (arith, nat_tests) in let is =
+    is_xid_continue-ascii b small in rw (k, is) refl)
+    (λ (k : nat_lt b 128 ≡ false). let none : is_ascii_alphanumeric b ≡ false = grind (arith, nat_tests) in let no : (b == 95) ≡ false =
+    grind (arith, nat_tests) in rw (k, none, no) refl)
     (bool_cases (nat_lt b 128))

@@ -1,11 +1,13 @@
 -- Fronts of a text in ASCII, by bytes and by characters.
 --
 -- Carries: bump, bump_plain, bump_while, first. On: Cases, Texts.
-use Rattle.std.proofs.Common.{◌≡◌, ℕ, ◌<◌, Bool, true, false, ◌&&◌, List, [], ◌∷◌, ◌++◌, drop, refl, sym, ◌∙◌, ap, subst, Some, arith, slice_get, add_comm, add-one, ⊎_elim, nat_lt}
+use Rattle.std.proofs.Common.{◌≡◌, ℕ, ◌<◌, Bool, true, false, ◌&&◌, List, [], ◌∷◌, ◌++◌, drop, refl, sym, ◌∙◌, ap, subst, Some, arith}
+use Rattle.std.proofs.Common.{slice_get, add_comm, add-one, ⊎_elim, nat_lt}
 use Rattle.std.specs.List.{prefix_len}
 use Rattle.std.specs.Str.{chars, IsUtf8, IsCharBoundary}
 use lib.Utf8.{encodes, encode}
-use Rattle.std.proofs.lemmas.Str.{chars-nil, chars_past_char, encode_ascii, byte_from_char, IsUtf8-past_char, IsCharBoundary-after_ascii, IsCharBoundary-from_drop}
+use Rattle.std.proofs.lemmas.Str.{chars-nil, chars_past_char, encode_ascii, byte_from_char, IsUtf8-past_char, IsCharBoundary-after_ascii}
+use Rattle.std.proofs.lemmas.Str.{IsCharBoundary-from_drop}
 use Rattle.std.proofs.lemmas.List.Sums.{prefix_len-le-length}
 use Rattle.std.proofs.lemmas.Bool.Decides.{nat_tests}
 use Rattle.pylex_lexeme.specs.Chars.{begins}
@@ -99,7 +101,8 @@ right_is true b h k = h
 right_is false b h k = cc
 
 -- where a run stops at the text's end or at a byte of ASCII, no character passes
-pub ascii_stops : (p : ℕ → Bool) (bs : List ℕ) → IsUtf8 bs → begins (in_ascii p) bs ≡ false → begins (λ b. nat_lt 127 b) bs ≡ false → after_run p (chars bs) ≡ chars bs
+pub ascii_stops : (p : ℕ → Bool) (bs : List ℕ) → IsUtf8 bs → begins (in_ascii p) bs ≡ false → begins (λ b. nat_lt 127 b) bs ≡ false
+    → after_run p (chars bs) ≡ chars bs
 ascii_stops p [] u e w = rw chars-nil refl
 ascii_stops p (b ∷ t) u e w =
     let l : b < 128 = grind (arith, nat_tests) in

@@ -3,8 +3,10 @@
 -- Carries: based, exponent, fraction, letter_j, plain, point, radix, radix_or_plain and 1 more.
 use Rattle.std.proofs.Common.{◌≡◌, ℕ, ◌+◌, ◌<◌, Bool, true, false, List, [], ◌∷◌, drop, refl, sym, ◌∙◌, ap, arith, zero, suc, ltb}
 use Rattle.pylex_lexeme.specs.Chars.{begins}
-use Rattle.pylex_lexeme.specs.Numbers.{is_decimal_digit, is_zero, is_hex_digit, is_octal_digit, is_binary_digit, is_point, is_e, is_j, is_x, is_o, is_b, is_sign}
-use Rattle.pylex_lexeme.specs.Lengths.{Took, joined_len, begins_some, based_len, radix_len, digit_part_len, exponent_len, point_len, j_len, fraction_len, tail_len, plain_len, number_len}
+use Rattle.pylex_lexeme.specs.Numbers.{is_decimal_digit, is_zero, is_hex_digit, is_octal_digit, is_binary_digit, is_point, is_e, is_j, is_x}
+use Rattle.pylex_lexeme.specs.Numbers.{is_o, is_b, is_sign}
+use Rattle.pylex_lexeme.specs.Lengths.{Took, joined_len, begins_some, based_len, radix_len, digit_part_len, exponent_len, point_len, j_len}
+use Rattle.pylex_lexeme.specs.Lengths.{fraction_len, tail_len, plain_len, number_len}
 use Rattle.std.proofs.lemmas.Bool.Decides.{nat_tests}
 
 pub drop_drop : (a b : ℕ) (cs : List ℕ) → drop b (drop a cs) ≡ drop (a + b) cs
@@ -63,15 +65,18 @@ pub radix_x : (cs : List ℕ) → begins is_zero cs ≡ true → begins is_x (dr
 unfolding radix_len
 radix_x cs e f = rw (e, f) refl
 
-pub radix_o : (cs : List ℕ) → begins is_zero cs ≡ true → begins is_x (drop 1 cs) ≡ false → begins is_o (drop 1 cs) ≡ true → radix_len cs ≡ based_len is_octal_digit (drop 2 cs)
+pub radix_o : (cs : List ℕ) → begins is_zero cs ≡ true → begins is_x (drop 1 cs) ≡ false → begins is_o (drop 1 cs) ≡ true
+    → radix_len cs ≡ based_len is_octal_digit (drop 2 cs)
 unfolding radix_len
 radix_o cs e f g = rw (e, f, g) refl
 
-pub radix_b : (cs : List ℕ) → begins is_zero cs ≡ true → begins is_x (drop 1 cs) ≡ false → begins is_o (drop 1 cs) ≡ false → begins is_b (drop 1 cs) ≡ true → radix_len cs ≡ based_len is_binary_digit (drop 2 cs)
+pub radix_b : (cs : List ℕ) → begins is_zero cs ≡ true → begins is_x (drop 1 cs) ≡ false → begins is_o (drop 1 cs) ≡ false
+    → begins is_b (drop 1 cs) ≡ true → radix_len cs ≡ based_len is_binary_digit (drop 2 cs)
 unfolding radix_len
 radix_b cs e f g h = rw (e, f, g, h) refl
 
-pub radix_other : (cs : List ℕ) → begins is_zero cs ≡ true → begins is_x (drop 1 cs) ≡ false → begins is_o (drop 1 cs) ≡ false → begins is_b (drop 1 cs) ≡ false → radix_len cs ≡ 0
+pub radix_other : (cs : List ℕ) → begins is_zero cs ≡ true → begins is_x (drop 1 cs) ≡ false → begins is_o (drop 1 cs) ≡ false
+    → begins is_b (drop 1 cs) ≡ false → radix_len cs ≡ 0
 unfolding radix_len
 radix_other cs e f g h = rw (e, f, g, h) refl
 
@@ -79,19 +84,24 @@ pub exponent_none : (cs : List ℕ) → begins is_e cs ≡ false → exponent_le
 unfolding exponent_len
 exponent_none cs e = rw e refl
 
-pub exponent_digits : (cs : List ℕ) → begins is_e cs ≡ true → begins is_decimal_digit (drop 1 cs) ≡ true → exponent_len cs ≡ 1 + joined_len is_decimal_digit (drop 1 cs)
+pub exponent_digits : (cs : List ℕ) → begins is_e cs ≡ true → begins is_decimal_digit (drop 1 cs) ≡ true
+    → exponent_len cs ≡ 1 + joined_len is_decimal_digit (drop 1 cs)
 unfolding exponent_len
 exponent_digits cs e f = rw (e, f) refl
 
-pub exponent_unsigned : (cs : List ℕ) → begins is_e cs ≡ true → begins is_decimal_digit (drop 1 cs) ≡ false → begins is_sign (drop 1 cs) ≡ false → exponent_len cs ≡ 0
+pub exponent_unsigned : (cs : List ℕ) → begins is_e cs ≡ true → begins is_decimal_digit (drop 1 cs) ≡ false
+    → begins is_sign (drop 1 cs) ≡ false → exponent_len cs ≡ 0
 unfolding exponent_len
 exponent_unsigned cs e f g = rw (e, f, g) refl
 
-pub exponent_empty : (cs : List ℕ) → begins is_e cs ≡ true → begins is_decimal_digit (drop 1 cs) ≡ false → begins is_sign (drop 1 cs) ≡ true → begins is_decimal_digit (drop 2 cs) ≡ false → exponent_len cs ≡ 0
+pub exponent_empty : (cs : List ℕ) → begins is_e cs ≡ true → begins is_decimal_digit (drop 1 cs) ≡ false → begins is_sign (drop 1 cs) ≡ true
+    → begins is_decimal_digit (drop 2 cs) ≡ false → exponent_len cs ≡ 0
 unfolding exponent_len
 exponent_empty cs e f g h = rw (e, f, g, h) refl
 
-pub exponent_signed : (cs : List ℕ) → begins is_e cs ≡ true → begins is_decimal_digit (drop 1 cs) ≡ false → begins is_sign (drop 1 cs) ≡ true → begins is_decimal_digit (drop 2 cs) ≡ true → exponent_len cs ≡ 2 + joined_len is_decimal_digit (drop 2 cs)
+pub exponent_signed : (cs : List ℕ) → begins is_e cs ≡ true → begins is_decimal_digit (drop 1 cs) ≡ false
+    → begins is_sign (drop 1 cs) ≡ true → begins is_decimal_digit (drop 2 cs) ≡ true
+    → exponent_len cs ≡ 2 + joined_len is_decimal_digit (drop 2 cs)
 unfolding exponent_len
 exponent_signed cs e f g h = rw (e, f, g, h) refl
 
@@ -103,7 +113,8 @@ pub point_alone : (cs : List ℕ) → begins is_point cs ≡ true → begins is_
 unfolding point_len digit_part_len
 point_alone cs e f = rw (e, f) refl
 
-pub point_digits : (cs : List ℕ) → begins is_point cs ≡ true → begins is_decimal_digit (drop 1 cs) ≡ true → point_len cs ≡ 1 + joined_len is_decimal_digit (drop 1 cs)
+pub point_digits : (cs : List ℕ) → begins is_point cs ≡ true → begins is_decimal_digit (drop 1 cs) ≡ true
+    → point_len cs ≡ 1 + joined_len is_decimal_digit (drop 1 cs)
 unfolding point_len digit_part_len
 point_digits cs e f = rw (e, f) refl
 
@@ -123,19 +134,24 @@ pub tail_is : (cs : List ℕ) → tail_len cs ≡ fraction_len cs + j_len (drop 
 unfolding tail_len
 tail_is cs = refl
 
-pub plain_tail : (cs mid rest : List ℕ) → mid ≡ drop (joined_len is_decimal_digit cs) cs → Took (tail_len mid) true mid rest → rest ≡ drop (plain_len cs) cs
+pub plain_tail : (cs mid rest : List ℕ) → mid ≡ drop (joined_len is_decimal_digit cs) cs → Took (tail_len mid) true mid rest
+    → rest ≡ drop (plain_len cs) cs
 unfolding plain_len
 plain_tail cs mid rest e t =
     let n : ltb 0 (tail_len (drop (joined_len is_decimal_digit cs) cs)) ≡ true = ap (λ u. ltb 0 (tail_len u)) (sym e) ∙ sym t.taken in
-    rw n (t.rest ∙ ap (λ u. drop (tail_len u) u) e ∙ drop_drop (joined_len is_decimal_digit cs) (tail_len (drop (joined_len is_decimal_digit cs) cs)) cs)
+    rw n (t.rest ∙ ap (λ u. drop (tail_len u) u) e
+    ∙ drop_drop (joined_len is_decimal_digit cs) (tail_len (drop (joined_len is_decimal_digit cs) cs)) cs)
 
-pub plain_other : (cs mid rest : List ℕ) → mid ≡ drop (joined_len is_decimal_digit cs) cs → begins is_zero cs ≡ false → Took (tail_len mid) false mid rest → rest ≡ drop (plain_len cs) cs
+pub plain_other : (cs mid rest : List ℕ) → mid ≡ drop (joined_len is_decimal_digit cs) cs → begins is_zero cs ≡ false
+    → Took (tail_len mid) false mid rest → rest ≡ drop (plain_len cs) cs
 unfolding plain_len
 plain_other cs mid rest e z t =
     let n : ltb 0 (tail_len (drop (joined_len is_decimal_digit cs) cs)) ≡ false = ap (λ u. ltb 0 (tail_len u)) (sym e) ∙ sym t.taken in
-    rw (n, z) (t.rest ∙ ap (λ u. drop (tail_len u) u) e ∙ drop_drop (joined_len is_decimal_digit cs) (tail_len (drop (joined_len is_decimal_digit cs) cs)) cs)
+    rw (n, z) (t.rest ∙ ap (λ u. drop (tail_len u) u) e
+    ∙ drop_drop (joined_len is_decimal_digit cs) (tail_len (drop (joined_len is_decimal_digit cs) cs)) cs)
 
-pub plain_zeros : (cs mid rest : List ℕ) → mid ≡ drop (joined_len is_decimal_digit cs) cs → begins is_zero cs ≡ true → Took (tail_len mid) false mid rest → drop (joined_len is_zero cs) cs ≡ drop (plain_len cs) cs
+pub plain_zeros : (cs mid rest : List ℕ) → mid ≡ drop (joined_len is_decimal_digit cs) cs → begins is_zero cs ≡ true
+    → Took (tail_len mid) false mid rest → drop (joined_len is_zero cs) cs ≡ drop (plain_len cs) cs
 unfolding plain_len
 plain_zeros cs mid rest e z t =
     let n : ltb 0 (tail_len (drop (joined_len is_decimal_digit cs) cs)) ≡ false = ap (λ u. ltb 0 (tail_len u)) (sym e) ∙ sym t.taken in
@@ -145,7 +161,8 @@ pub number_radix : (cs rest : List ℕ) → Took (radix_len cs) true cs rest →
 unfolding number_len
 number_radix cs rest t = let n : ltb 0 (radix_len cs) ≡ true = sym t.taken in rw n t.rest
 
-pub number_plain : (cs mid rest : List ℕ) → Took (radix_len cs) false cs mid → rest ≡ drop (plain_len mid) mid → rest ≡ drop (number_len cs) cs
+pub number_plain : (cs mid rest : List ℕ) → Took (radix_len cs) false cs mid → rest ≡ drop (plain_len mid) mid
+    → rest ≡ drop (number_len cs) cs
 unfolding number_len
 number_plain cs mid rest t e =
     let n : ltb 0 (radix_len cs) ≡ false = sym t.taken in

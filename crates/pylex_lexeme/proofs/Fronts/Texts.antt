@@ -1,7 +1,8 @@
 -- Texts by their characters.
 --
 -- Carries: bump_plain, bump_while, bump_while_wide, bump_wide, len.
-use Rattle.std.proofs.Common.{◌≡◌, ℕ, ◌<◌, Bool, true, false, List, [], ◌∷◌, length, drop, refl, sym, ◌∙◌, ap, Option, Some, None, arith, slice_get, add_comm, add-one}
+use Rattle.std.proofs.Common.{◌≡◌, ℕ, ◌<◌, Bool, true, false, List, [], ◌∷◌, length, drop, refl, sym, ◌∙◌, ap, Option, Some, None, arith}
+use Rattle.std.proofs.Common.{slice_get, add_comm, add-one}
 use Rattle.std.specs.List.{prefix_len}
 use Rattle.std.specs.Str.{chars, encode_utf8_all, IsUtf8}
 use Rattle.std.specs.Str.Iter.{chars_rest, chars_steps}
@@ -16,8 +17,10 @@ nil_of_length [] e = refl
 nil_of_length (b ∷ bs) e = cc
 
 -- what is left after one step
-pub bump_rest : (s t : Chars) (r : Option ℕ) → IsUtf8 (chars_rest s) → chars_steps s r t → chars (chars_rest t) ≡ drop 1 (chars (chars_rest s))
-bump_rest s t None u h = let e : chars_rest s ≡ [] = nil_of_length (chars_rest s) h.0.0 in let f : chars (chars_rest s) ≡ [] = ap chars e ∙ chars-nil in rw (h.0.1, f) refl
+pub bump_rest : (s t : Chars) (r : Option ℕ) → IsUtf8 (chars_rest s) → chars_steps s r t
+    → chars (chars_rest t) ≡ drop 1 (chars (chars_rest s))
+bump_rest s t None u h = let e : chars_rest s ≡ [] = nil_of_length (chars_rest s) h.0.0 in let f : chars (chars_rest s) ≡ [] = ap chars e
+    ∙ chars-nil in rw (h.0.1, f) refl
 bump_rest s t (Some c) u h = rw (chars_past_char (chars_rest s) (chars_rest t) c u h.0) refl
 
 -- what is left after the longest front of characters that pass

@@ -2,7 +2,8 @@
 --
 -- Carries: words, by_words, heads, no_operator and 7 more, for Union, OperatorLengths, Seconds,
 -- InLine. On: Best, Cases, Joined.
-use Rattle.std.proofs.Common.{◌≡◌, ℕ, ◌≤◌, ◌<◌, Bool, true, false, ◌&&◌, ◌||◌, ◌==◌, List, [], ◌∷◌, map, refl, ◌∙◌, Some, None, arith, cond, ⊎_elim, eqb, leb, is_some}
+use Rattle.std.proofs.Common.{◌≡◌, ℕ, ◌≤◌, ◌<◌, Bool, true, false, ◌&&◌, ◌||◌, ◌==◌, List, [], ◌∷◌, map, refl, ◌∙◌, Some, None, arith, cond}
+use Rattle.std.proofs.Common.{⊎_elim, eqb, leb, is_some}
 use Rattle.std.specs.Prelude.{option_map, codes}
 use Rattle.std.specs.List.{list_all, list_any, find}
 use Rattle.std.specs.Str.{bytes_eq}
@@ -12,7 +13,9 @@ use Rattle.std.proofs.lemmas.Bool.{leb-true, eqb-true, cases_lt}
 use Rattle.unicode_ident.specs.Ident.{is_xid_start, is_xid_continue}
 use Rattle.unicode_ident.proofs.IdentLemmas.{is_xid_start-ascii, is_xid_continue-ascii, is_xid_start-is_xid_continue}
 use Rattle.pylex_lexeme.specs.Chars.{starts_name, is_comment_part, is_blank_char, begins}
-use Rattle.pylex_lexeme.specs.Numbers.{is_nil, split_any, optional, headed, is_decimal_digit, is_zero, is_one_to_nine, is_point, is_j, is_digit_part, is_exponent, is_number, is_decimal, is_radix, is_float, is_imaginary, is_point_after, is_point_before, is_raised}
+use Rattle.pylex_lexeme.specs.Numbers.{is_nil, split_any, optional, headed, is_decimal_digit, is_zero, is_one_to_nine, is_point, is_j}
+use Rattle.pylex_lexeme.specs.Numbers.{is_digit_part, is_exponent, is_number, is_decimal, is_radix, is_float, is_imaginary, is_point_after}
+use Rattle.pylex_lexeme.specs.Numbers.{is_point_before, is_raised}
 use Rattle.pylex_lexeme.specs.Operators.{Operator, operators, is_operator, exact_of}
 use Rattle.pylex_lexeme.specs.Lexemes.{plain_class, is_name, is_comment, are_blanks, is_line_end, is_join}
 use Rattle.pylex_lexeme.specs.declared.lexeme.Class.TheVariants.{Name, Comment, Blanks, LineEnd, Join}
@@ -21,7 +24,8 @@ use Rattle.pylex_lexeme.proofs.Fronts.Best.{or_parts, and_false}
 use Rattle.pylex_lexeme.proofs.Fronts.Joined.{or_parts_false}
 
 -- Operators by their spellings
-found : (t : List ℕ) (os : List Operator) → is_some (option_map (λ o. o.exact) (find (λ o. bytes_eq t o.spelling) os)) ≡ list_any (bytes_eq t) (map (λ o. o.spelling) os)
+found : (t : List ℕ) (os : List Operator) → is_some (option_map (λ o. o.exact) (find (λ o. bytes_eq t o.spelling) os)) ≡ list_any
+    (bytes_eq t) (map (λ o. o.spelling) os)
 found t [] = refl
 found t (o ∷ os) =
     ⊎_elim
@@ -69,7 +73,8 @@ before_off : (c : ℕ) (t : List ℕ) → (is_point c && begins is_decimal_digit
 unfolding is_point_before
 before_off c t e =
     ⊎_elim
-    (λ (h : is_point c ≡ true). let f : begins is_decimal_digit t ≡ false = simp h at e in let g = part_off (optional is_exponent) t f in rw (h, g) refl)
+    (λ (h : is_point c ≡ true). let f : begins is_decimal_digit t ≡ false = simp h at e in let g =
+    part_off (optional is_exponent) t f in rw (h, g) refl)
     (λ (h : is_point c ≡ false). rw h refl)
     (bool_cases (is_point c))
 
@@ -81,14 +86,16 @@ float_off c t d e =
     let h = before_off c t e in
     rw (f, g, h) refl
 
-real_off : (c : ℕ) (t : List ℕ) → is_decimal_digit c ≡ false → (is_point c && begins is_decimal_digit t) ≡ false → (is_digit_part (c ∷ t) || is_float (c ∷ t)) ≡ false
+real_off : (c : ℕ) (t : List ℕ) → is_decimal_digit c ≡ false → (is_point c && begins is_decimal_digit t) ≡ false
+    → (is_digit_part (c ∷ t) || is_float (c ∷ t)) ≡ false
 real_off c t d e = let f = float_off c t d e in rw (d, f) refl
 
 float_none : is_float [] ≡ false
 unfolding is_float is_point_after is_point_before is_raised
 float_none = refl
 
-imaginary_off : (c : ℕ) (t : List ℕ) → is_decimal_digit c ≡ false → (is_point c && begins is_decimal_digit t) ≡ false → is_imaginary (c ∷ t) ≡ false
+imaginary_off : (c : ℕ) (t : List ℕ) → is_decimal_digit c ≡ false → (is_point c && begins is_decimal_digit t) ≡ false
+    → is_imaginary (c ∷ t) ≡ false
 unfolding is_imaginary
 imaginary_off c [] d e = let f = real_off c [] d e in rw (float_none, f) refl
 imaginary_off c (b ∷ t) d e =
@@ -97,7 +104,8 @@ imaginary_off c (b ∷ t) d e =
     rw (float_none, f, g) refl
 
 -- what begins with neither a digit nor a point and a digit is no number
-pub no_number : (c : ℕ) (t : List ℕ) → is_decimal_digit c ≡ false → (is_point c && begins is_decimal_digit t) ≡ false → is_number (c ∷ t) ≡ false
+pub no_number : (c : ℕ) (t : List ℕ) → is_decimal_digit c ≡ false → (is_point c && begins is_decimal_digit t) ≡ false
+    → is_number (c ∷ t) ≡ false
 unfolding is_number is_decimal is_radix
 no_number c t d e =
     let z : is_zero c ≡ false = grind (arith, nat_tests, d) in
@@ -146,10 +154,40 @@ record Away (c : ℕ) : Type 0 where
   pub slash : eqb c 92 ≡ false
 
 name_away : (c : ℕ) → Start c → Away c
-name_away c (past_ascii h) = record { operator = grind (arith, nat_tests); digit = grind (arith, nat_tests); point = grind (arith, nat_tests); hash = grind (arith, nat_tests); blank = grind (arith, nat_tests); feed = grind (arith, nat_tests); return = grind (arith, nat_tests); slash = grind (arith, nat_tests) }
-name_away c (upper h i) = record { operator = grind (arith, nat_tests); digit = grind (arith, nat_tests); point = grind (arith, nat_tests); hash = grind (arith, nat_tests); blank = grind (arith, nat_tests); feed = grind (arith, nat_tests); return = grind (arith, nat_tests); slash = grind (arith, nat_tests) }
-name_away c (lower h i) = record { operator = grind (arith, nat_tests); digit = grind (arith, nat_tests); point = grind (arith, nat_tests); hash = grind (arith, nat_tests); blank = grind (arith, nat_tests); feed = grind (arith, nat_tests); return = grind (arith, nat_tests); slash = grind (arith, nat_tests) }
-name_away c (underscore e) = rw e (record { operator = refl; digit = refl; point = refl; hash = refl; blank = refl; feed = refl; return = refl; slash = refl })
+name_away c (past_ascii h) = record {
+  operator = grind (arith, nat_tests);
+  digit = grind (arith, nat_tests);
+  point =
+      grind (arith, nat_tests);
+  hash = grind (arith, nat_tests);
+  blank = grind (arith, nat_tests);
+  feed = grind (arith, nat_tests);
+  return =
+      grind (arith, nat_tests);
+  slash = grind (arith, nat_tests);
+}
+name_away c (upper h i) = record {
+  operator = grind (arith, nat_tests);
+  digit = grind (arith, nat_tests);
+  point = grind (arith, nat_tests);
+  hash = grind (arith, nat_tests);
+  blank = grind (arith, nat_tests);
+  feed = grind (arith, nat_tests);
+  return = grind (arith, nat_tests);
+  slash = grind (arith, nat_tests);
+}
+name_away c (lower h i) = record {
+  operator = grind (arith, nat_tests);
+  digit = grind (arith, nat_tests);
+  point = grind (arith, nat_tests);
+  hash = grind (arith, nat_tests);
+  blank = grind (arith, nat_tests);
+  feed = grind (arith, nat_tests);
+  return = grind (arith, nat_tests);
+  slash = grind (arith, nat_tests);
+}
+name_away c (underscore e) =
+    rw e (record { operator = refl; digit = refl; point = refl; hash = refl; blank = refl; feed = refl; return = refl; slash = refl })
 
 pub start_continues : (c : ℕ) → starts_name c ≡ true → is_xid_continue c ≡ true
 start_continues c s =
@@ -159,7 +197,8 @@ start_continues c s =
     (or_parts (is_xid_start c) (eqb c 95) s)
 
 -- What a text is that begins with a character
-pub name_class : (c : ℕ) → starts_name c ≡ true → (t : List ℕ) → plain_class (c ∷ t) ≡ cond (headed starts_name (list_all is_xid_continue) (c ∷ t)) (Some Name) None
+pub name_class : (c : ℕ) → starts_name c ≡ true → (t : List ℕ)
+    → plain_class (c ∷ t) ≡ cond (headed starts_name (list_all is_xid_continue) (c ∷ t)) (Some Name) None
 unfolding plain_class is_name is_comment are_blanks is_line_end is_join
 name_class c s t =
     ⊎_elim
@@ -185,10 +224,13 @@ hash_class t =
     let o = no_operator 35 t refl in
     rw (s, n, o) refl
 
-pub comment_class : (c : ℕ) → (c == 35) ≡ true → (t : List ℕ) → plain_class (c ∷ t) ≡ cond (headed (λ c. c == 35) (list_all is_comment_part) (c ∷ t)) (Some Comment) None
+pub comment_class : (c : ℕ) → (c == 35) ≡ true → (t : List ℕ)
+    → plain_class (c ∷ t) ≡ cond (headed (λ c. c == 35) (list_all is_comment_part) (c ∷ t)) (Some Comment) None
 comment_class c e t = let f : c ≡ 35 = eqb-true c 35 e in rw f (hash_class t)
 
-blank_at : (c : ℕ) → is_blank_char c ≡ true → starts_name c ≡ false → is_decimal_digit c ≡ false → is_point c ≡ false → list_any (eqb c) (heads words) ≡ false → (c == 35) ≡ false → (c == 10) ≡ false → (c == 13) ≡ false → (c == 92) ≡ false → (t : List ℕ) → plain_class (c ∷ t) ≡ cond (headed is_blank_char (list_all is_blank_char) (c ∷ t)) (Some Blanks) None
+blank_at : (c : ℕ) → is_blank_char c ≡ true → starts_name c ≡ false → is_decimal_digit c ≡ false → is_point c ≡ false
+    → list_any (eqb c) (heads words) ≡ false → (c == 35) ≡ false → (c == 10) ≡ false → (c == 13) ≡ false → (c == 92) ≡ false → (t : List ℕ)
+    → plain_class (c ∷ t) ≡ cond (headed is_blank_char (list_all is_blank_char) (c ∷ t)) (Some Blanks) None
 unfolding plain_class is_name is_comment are_blanks is_line_end is_join
 blank_at c b s d p o h f r l t =
     let n = no_number c t d (rw p refl) in
@@ -198,29 +240,38 @@ blank_at c b s d p o h f r l t =
     (λ (e : list_all is_blank_char t ≡ false). rw (s, n, q, h, b, e, f, r, l) refl)
     (bool_cases (list_all is_blank_char t))
 
-pub blank_class : (c : ℕ) → is_blank_char c ≡ true → (t : List ℕ) → plain_class (c ∷ t) ≡ cond (headed is_blank_char (list_all is_blank_char) (c ∷ t)) (Some Blanks) None
+pub blank_class : (c : ℕ) → is_blank_char c ≡ true → (t : List ℕ)
+    → plain_class (c ∷ t) ≡ cond (headed is_blank_char (list_all is_blank_char) (c ∷ t)) (Some Blanks) None
 blank_class c s t =
     ⊎_elim
     (λ (g : (eqb c 32 || eqb c 9) ≡ true).
     ⊎_elim
-    (λ (e : eqb c 32 ≡ true). let f : c ≡ 32 = eqb-true c 32 e in rw f (blank_at 32 refl (no_start 32 (omega arith) refl) refl refl refl refl refl refl refl t))
-    (λ (e : eqb c 9 ≡ true). let f : c ≡ 9 = eqb-true c 9 e in rw f (blank_at 9 refl (no_start 9 (omega arith) refl) refl refl refl refl refl refl refl t))
+    (λ (e : eqb c 32 ≡ true). let f : c ≡ 32 = eqb-true c 32 e in
+    rw f (blank_at 32 refl (no_start 32 (omega arith) refl) refl refl refl refl refl refl refl t))
+    (λ (e : eqb c 9 ≡ true). let f : c ≡ 9 = eqb-true c 9 e in
+    rw f (blank_at 9 refl (no_start 9 (omega arith) refl) refl refl refl refl refl refl refl t))
     (or_parts (eqb c 32) (eqb c 9) g))
-    (λ (e : eqb c 12 ≡ true). let f : c ≡ 12 = eqb-true c 12 e in rw f (blank_at 12 refl (no_start 12 (omega arith) refl) refl refl refl refl refl refl refl t))
+    (λ (e : eqb c 12 ≡ true). let f : c ≡ 12 = eqb-true c 12 e in
+    rw f (blank_at 12 refl (no_start 12 (omega arith) refl) refl refl refl refl refl refl refl t))
     (or_parts (eqb c 32 || eqb c 9) (eqb c 12) s)
 
-end_at : (c : ℕ) → starts_name c ≡ false → is_decimal_digit c ≡ false → is_point c ≡ false → list_any (eqb c) (heads words) ≡ false → (c == 35) ≡ false → is_blank_char c ≡ false → (c == 92) ≡ false → (t : List ℕ) → plain_class (c ∷ t) ≡ cond (is_line_end (c ∷ t)) (Some LineEnd) None
+end_at : (c : ℕ) → starts_name c ≡ false → is_decimal_digit c ≡ false → is_point c ≡ false → list_any (eqb c) (heads words) ≡ false
+    → (c == 35) ≡ false → is_blank_char c ≡ false → (c == 92) ≡ false → (t : List ℕ)
+    → plain_class (c ∷ t) ≡ cond (is_line_end (c ∷ t)) (Some LineEnd) None
 unfolding plain_class is_name is_comment are_blanks is_join
 end_at c s d p o h b l t =
     let n = no_number c t d (rw p refl) in
     let q = no_operator c t o in
     rw (s, n, q, h, b, l) refl
 
-pub end_class : (c : ℕ) → ((c == 10) || (c == 13)) ≡ true → (t : List ℕ) → plain_class (c ∷ t) ≡ cond (is_line_end (c ∷ t)) (Some LineEnd) None
+pub end_class : (c : ℕ) → ((c == 10) || (c == 13)) ≡ true → (t : List ℕ)
+    → plain_class (c ∷ t) ≡ cond (is_line_end (c ∷ t)) (Some LineEnd) None
 end_class c s t =
     ⊎_elim
-    (λ (e : eqb c 10 ≡ true). let f : c ≡ 10 = eqb-true c 10 e in rw f (end_at 10 (no_start 10 (omega arith) refl) refl refl refl refl refl refl t))
-    (λ (e : eqb c 13 ≡ true). let f : c ≡ 13 = eqb-true c 13 e in rw f (end_at 13 (no_start 13 (omega arith) refl) refl refl refl refl refl refl t))
+    (λ (e : eqb c 10 ≡ true). let f : c ≡ 10 = eqb-true c 10 e in
+    rw f (end_at 10 (no_start 10 (omega arith) refl) refl refl refl refl refl refl t))
+    (λ (e : eqb c 13 ≡ true). let f : c ≡ 13 = eqb-true c 13 e in
+    rw f (end_at 13 (no_start 13 (omega arith) refl) refl refl refl refl refl refl t))
     (or_parts (eqb c 10) (eqb c 13) s)
 
 no_end : (t : List ℕ) → is_line_end (92 ∷ t) ≡ false
@@ -236,5 +287,6 @@ slash_class t =
     let e = no_end t in
     rw (s, n, o, e) refl
 
-pub join_class : (c : ℕ) → (c == 92) ≡ true → (t : List ℕ) → plain_class (c ∷ t) ≡ cond (headed (λ c. c == 92) is_line_end (c ∷ t)) (Some Join) None
+pub join_class : (c : ℕ) → (c == 92) ≡ true → (t : List ℕ)
+    → plain_class (c ∷ t) ≡ cond (headed (λ c. c == 92) is_line_end (c ∷ t)) (Some Join) None
 join_class c e t = let f : c ≡ 92 = eqb-true c 92 e in rw f (slash_class t)

@@ -1,7 +1,8 @@
 -- The longest operator at a place, by its first three characters.
 --
 -- Carries: exact_of, longest_operator. On: Best, Classes, Cases, Longest and 1 more.
-use Rattle.std.proofs.Common.{◌≡◌, ℕ, ◌≤◌, ◌<◌, Bool, true, false, ◌&&◌, List, [], ◌∷◌, length, drop, take, refl, sym, ◌∙◌, ap, subst, Option, Some, None, arith, suc, zero, ⊎_elim, eqb, leb, is_some, slice_get, if◌then◌else◌}
+use Rattle.std.proofs.Common.{◌≡◌, ℕ, ◌≤◌, ◌<◌, Bool, true, false, ◌&&◌, List, [], ◌∷◌, length, drop, take, refl, sym, ◌∙◌, ap, subst}
+use Rattle.std.proofs.Common.{Option, Some, None, arith, suc, zero, ⊎_elim, eqb, leb, is_some, slice_get, if◌then◌else◌}
 use Rattle.std.specs.Prelude.{option_map}
 use Rattle.std.specs.List.{list_all, list_any}
 use Rattle.std.specs.Str.{bytes_eq}
@@ -26,7 +27,8 @@ other_length (x ∷ t) (y ∷ o) (suc n) h l = let e = other_length t o n (omega
     right true b e = e
     right false b e = refl
 
-none_longer : (t : List ℕ) (n : ℕ) (os : List (List ℕ)) → list_all (λ o. leb (length o) n) os ≡ true → n < length t → list_any (bytes_eq t) os ≡ false
+none_longer : (t : List ℕ) (n : ℕ) (os : List (List ℕ)) → list_all (λ o. leb (length o) n) os ≡ true → n < length t
+    → list_any (bytes_eq t) os ≡ false
 none_longer t n [] s h = refl
 none_longer t n (o ∷ os) s h =
     let p = and_parts (leb (length o) n) (list_all (λ o. leb (length o) n) os) s in
@@ -51,19 +53,24 @@ len_of (a ∷ b ∷ []) = pair_of a b
 len_of (a ∷ b ∷ c ∷ t) = if is_operator (a ∷ b ∷ c ∷ []) then 3 else pair_of a b
 
 -- no longer front of at most three characters passes
-reads_by : (cs : List ℕ) (n : ℕ) → n ≤ length cs → (0 < n → is_operator (take n cs) ≡ true) → ((j : ℕ) → n < j → j ≤ 3 → j ≤ length cs → is_operator (take j cs) ≡ false) → Reads is_operator cs n
+reads_by : (cs : List ℕ) (n : ℕ) → n ≤ length cs → (0 < n → is_operator (take n cs) ≡ true)
+    → ((j : ℕ) → n < j → j ≤ 3 → j ≤ length cs → is_operator (take j cs) ≡ false) → Reads is_operator cs n
 reads_by cs zero h p f = none
   where
     none : (j : ℕ) → j ≤ length cs → is_operator (take j cs) ≡ false
     none zero l = no_operator_none
-    none (suc j) l = ⊎_elim (λ (s : suc j < 4). f (suc j) (omega arith) (omega arith) l) (λ (s : 4 ≤ suc j). let m = length-take (suc j) cs in long_off (take (suc j) cs) (omega arith)) (cases_lt (suc j) 4)
+    none (suc j) l = ⊎_elim (λ (s : suc j < 4). f (suc j) (omega arith) (omega arith) l) (λ (s : 4 ≤ suc j). let m =
+        length-take (suc j) cs in long_off (take (suc j) cs) (omega arith)) (cases_lt (suc j) 4)
 reads_by cs (suc n) h p f = record {
   within = h;
   passes = p (omega arith);
-  longest = λ j a l. ⊎_elim (λ (s : j < 4). f j a (omega arith) l) (λ (s : 4 ≤ j). let m = length-take j cs in long_off (take j cs) (omega arith)) (cases_lt j 4);
+  longest = λ j a l. ⊎_elim (λ (s : j < 4). f j a (omega arith) l) (λ (s : 4 ≤ j). let m = length-take j cs in
+      long_off (take j cs) (omega arith)) (cases_lt j 4);
 }
 
-three_by : (a b c : ℕ) (t : List ℕ) (n : ℕ) → n ≤ 3 → (0 < n → is_operator (take n (a ∷ b ∷ c ∷ t)) ≡ true) → (n < 1 → is_operator (a ∷ []) ≡ false) → (n < 2 → is_operator (a ∷ b ∷ []) ≡ false) → (n < 3 → is_operator (a ∷ b ∷ c ∷ []) ≡ false) → Reads is_operator (a ∷ b ∷ c ∷ t) n
+three_by : (a b c : ℕ) (t : List ℕ) (n : ℕ) → n ≤ 3 → (0 < n → is_operator (take n (a ∷ b ∷ c ∷ t)) ≡ true)
+    → (n < 1 → is_operator (a ∷ []) ≡ false) → (n < 2 → is_operator (a ∷ b ∷ []) ≡ false) → (n < 3 → is_operator (a ∷ b ∷ c ∷ []) ≡ false)
+    → Reads is_operator (a ∷ b ∷ c ∷ t) n
 three_by a b c t n h p f g k = reads_by (a ∷ b ∷ c ∷ t) n (omega arith) p above
   where
     above : (j : ℕ) → n < j → j ≤ 3 → j ≤ length (a ∷ b ∷ c ∷ t) → is_operator (take j (a ∷ b ∷ c ∷ t)) ≡ false
@@ -73,7 +80,8 @@ three_by a b c t n h p f g k = reads_by (a ∷ b ∷ c ∷ t) n (omega arith) p 
     above (suc (suc (suc zero))) i m l = k i
     above (suc (suc (suc (suc j)))) i m l = absurd (omega arith)
 
-two_by : (a b : ℕ) (n : ℕ) → n ≤ 2 → (0 < n → is_operator (take n (a ∷ b ∷ [])) ≡ true) → (n < 1 → is_operator (a ∷ []) ≡ false) → (n < 2 → is_operator (a ∷ b ∷ []) ≡ false) → Reads is_operator (a ∷ b ∷ []) n
+two_by : (a b : ℕ) (n : ℕ) → n ≤ 2 → (0 < n → is_operator (take n (a ∷ b ∷ [])) ≡ true) → (n < 1 → is_operator (a ∷ []) ≡ false)
+    → (n < 2 → is_operator (a ∷ b ∷ []) ≡ false) → Reads is_operator (a ∷ b ∷ []) n
 two_by a b n h p f g = reads_by (a ∷ b ∷ []) n (omega arith) p above
   where
     above : (j : ℕ) → n < j → j ≤ 3 → j ≤ length (a ∷ b ∷ []) → is_operator (take j (a ∷ b ∷ [])) ≡ false
@@ -82,7 +90,8 @@ two_by a b n h p f g = reads_by (a ∷ b ∷ []) n (omega arith) p above
     above (suc (suc zero)) i m l = g i
     above (suc (suc (suc j))) i m l = absurd (omega arith)
 
-one_by : (a : ℕ) (n : ℕ) → n ≤ 1 → (0 < n → is_operator (take n (a ∷ [])) ≡ true) → (n < 1 → is_operator (a ∷ []) ≡ false) → Reads is_operator (a ∷ []) n
+one_by : (a : ℕ) (n : ℕ) → n ≤ 1 → (0 < n → is_operator (take n (a ∷ [])) ≡ true) → (n < 1 → is_operator (a ∷ []) ≡ false)
+    → Reads is_operator (a ∷ []) n
 one_by a n h p f = reads_by (a ∷ []) n (omega arith) p above
   where
     above : (j : ℕ) → n < j → j ≤ 3 → j ≤ length (a ∷ []) → is_operator (take j (a ∷ [])) ≡ false
@@ -99,7 +108,8 @@ len_reads (a ∷ []) =
     (bool_cases (is_operator (a ∷ [])))
 len_reads (a ∷ b ∷ []) =
     ⊎_elim
-    (λ (e : is_operator (a ∷ b ∷ []) ≡ true). rw e (two_by a b 2 (omega arith) (λ h. e) (λ h. absurd (omega arith)) (λ h. absurd (omega arith))))
+    (λ (e : is_operator (a ∷ b ∷ []) ≡ true). rw e (two_by a b 2 (omega arith) (λ h. e) (λ h. absurd (omega arith))
+    (λ h. absurd (omega arith))))
     (λ (e : is_operator (a ∷ b ∷ []) ≡ false).
     ⊎_elim
     (λ (f : is_operator (a ∷ []) ≡ true). rw (e, f) (two_by a b 1 (omega arith) (λ h. f) (λ h. absurd (omega arith)) (λ h. e)))
@@ -108,14 +118,18 @@ len_reads (a ∷ b ∷ []) =
     (bool_cases (is_operator (a ∷ b ∷ [])))
 len_reads (a ∷ b ∷ c ∷ t) =
     ⊎_elim
-    (λ (g : is_operator (a ∷ b ∷ c ∷ []) ≡ true). rw g (three_by a b c t 3 (omega arith) (λ h. g) (λ h. absurd (omega arith)) (λ h. absurd (omega arith)) (λ h. absurd (omega arith))))
+    (λ (g : is_operator (a ∷ b ∷ c ∷ []) ≡ true). rw g (three_by a b c t 3 (omega arith) (λ h. g) (λ h. absurd (omega arith))
+    (λ h. absurd (omega arith)) (λ h. absurd (omega arith))))
     (λ (g : is_operator (a ∷ b ∷ c ∷ []) ≡ false).
     ⊎_elim
-    (λ (e : is_operator (a ∷ b ∷ []) ≡ true). rw (g, e) (three_by a b c t 2 (omega arith) (λ h. e) (λ h. absurd (omega arith)) (λ h. absurd (omega arith)) (λ h. g)))
+    (λ (e : is_operator (a ∷ b ∷ []) ≡ true). rw (g, e) (three_by a b c t 2 (omega arith) (λ h. e) (λ h. absurd (omega arith))
+    (λ h. absurd (omega arith)) (λ h. g)))
     (λ (e : is_operator (a ∷ b ∷ []) ≡ false).
     ⊎_elim
-    (λ (f : is_operator (a ∷ []) ≡ true). rw (g, e, f) (three_by a b c t 1 (omega arith) (λ h. f) (λ h. absurd (omega arith)) (λ h. e) (λ h. g)))
-    (λ (f : is_operator (a ∷ []) ≡ false). rw (g, e, f) (three_by a b c t 0 (omega arith) (λ h. absurd (omega arith)) (λ h. f) (λ h. e) (λ h. g)))
+    (λ (f : is_operator (a ∷ []) ≡ true). rw (g, e, f)
+    (three_by a b c t 1 (omega arith) (λ h. f) (λ h. absurd (omega arith)) (λ h. e) (λ h. g)))
+    (λ (f : is_operator (a ∷ []) ≡ false). rw (g, e, f) (three_by a b c t 0 (omega arith) (λ h. absurd (omega arith))
+    (λ h. f) (λ h. e) (λ h. g)))
     (bool_cases (is_operator (a ∷ []))))
     (bool_cases (is_operator (a ∷ b ∷ []))))
     (bool_cases (is_operator (a ∷ b ∷ c ∷ [])))
@@ -146,21 +160,27 @@ at_one (b ∷ cs) a e = let f : b ≡ a = cc in ap (λ c. c ∷ cs) f
 pub only_one : (cs : List ℕ) (a : ℕ) → slice_get cs 0 ≡ Some a → slice_get (drop 1 cs) 0 ≡ None → cs ≡ a ∷ []
 only_one cs a e f = at_one cs a e ∙ ap (λ t. a ∷ t) (at_none (drop 1 cs) f)
 
-pub only_two : (cs : List ℕ) (a b : ℕ) → slice_get cs 0 ≡ Some a → slice_get (drop 1 cs) 0 ≡ Some b → slice_get (drop 1 (drop 1 cs)) 0 ≡ None → cs ≡ a ∷ b ∷ []
+pub only_two : (cs : List ℕ) (a b : ℕ) → slice_get cs 0 ≡ Some a → slice_get (drop 1 cs) 0 ≡ Some b
+    → slice_get (drop 1 (drop 1 cs)) 0 ≡ None → cs ≡ a ∷ b ∷ []
 only_two cs a b e f g = at_one cs a e ∙ ap (λ t. a ∷ t) (only_one (drop 1 cs) b f g)
 
-pub at_three : (cs : List ℕ) (a b c : ℕ) → slice_get cs 0 ≡ Some a → slice_get (drop 1 cs) 0 ≡ Some b → slice_get (drop 1 (drop 1 cs)) 0 ≡ Some c → cs ≡ a ∷ b ∷ c ∷ drop 1 (drop 1 (drop 1 cs))
+pub at_three : (cs : List ℕ) (a b c : ℕ) → slice_get cs 0 ≡ Some a → slice_get (drop 1 cs) 0 ≡ Some b
+    → slice_get (drop 1 (drop 1 cs)) 0 ≡ Some c → cs ≡ a ∷ b ∷ c ∷ drop 1 (drop 1 (drop 1 cs))
 at_three cs a b c e f g = at_one cs a e ∙ ap (λ t. a ∷ t) (at_one (drop 1 cs) b f ∙ ap (λ t. b ∷ t) (at_one (drop 1 (drop 1 cs)) c g))
 
 -- what the steps of a reader say
 pub one_of : (cs l m : List ℕ) (x : ℕ) → l ≡ cs → Some x ≡ slice_get l 0 → m ≡ drop 1 l → None ≡ slice_get m 0 → cs ≡ x ∷ []
 one_of cs l m x e f g h = sym e ∙ only_one l x (sym f) (ap (λ r. slice_get r 0) (sym g) ∙ sym h)
 
-pub two_of : (cs l m n : List ℕ) (x y : ℕ) → l ≡ cs → Some x ≡ slice_get l 0 → m ≡ drop 1 l → Some y ≡ slice_get m 0 → n ≡ drop 1 m → None ≡ slice_get n 0 → cs ≡ x ∷ y ∷ []
-two_of cs l m n x y e f g h i j = sym e ∙ at_one l x (sym f) ∙ ap (λ t. x ∷ t) (sym g ∙ only_one m y (sym h) (ap (λ r. slice_get r 0) (sym i) ∙ sym j))
+pub two_of : (cs l m n : List ℕ) (x y : ℕ) → l ≡ cs → Some x ≡ slice_get l 0 → m ≡ drop 1 l → Some y ≡ slice_get m 0 → n ≡ drop 1 m
+    → None ≡ slice_get n 0 → cs ≡ x ∷ y ∷ []
+two_of cs l m n x y e f g h i j = sym e ∙ at_one l x (sym f)
+    ∙ ap (λ t. x ∷ t) (sym g ∙ only_one m y (sym h) (ap (λ r. slice_get r 0) (sym i) ∙ sym j))
 
-pub three_of : (cs l m n : List ℕ) (x y z : ℕ) → l ≡ cs → Some x ≡ slice_get l 0 → m ≡ drop 1 l → Some y ≡ slice_get m 0 → n ≡ drop 1 m → Some z ≡ slice_get n 0 → cs ≡ x ∷ y ∷ z ∷ drop 1 n
-three_of cs l m n x y z e f g h i j = sym e ∙ at_one l x (sym f) ∙ ap (λ t. x ∷ t) (sym g ∙ at_one m y (sym h) ∙ ap (λ t. y ∷ t) (sym i ∙ at_one n z (sym j)))
+pub three_of : (cs l m n : List ℕ) (x y z : ℕ) → l ≡ cs → Some x ≡ slice_get l 0 → m ≡ drop 1 l → Some y ≡ slice_get m 0 → n ≡ drop 1 m
+    → Some z ≡ slice_get n 0 → cs ≡ x ∷ y ∷ z ∷ drop 1 n
+three_of cs l m n x y z e f g h i j = sym e ∙ at_one l x (sym f)
+    ∙ ap (λ t. x ∷ t) (sym g ∙ at_one m y (sym h) ∙ ap (λ t. y ∷ t) (sym i ∙ at_one n z (sym j)))
 
 -- names
 pub operator_some : (t : List ℕ) → is_some (exact_of t) ≡ is_operator t
@@ -201,11 +221,15 @@ at_length cs n = option_map (λ e. (e, n)) (exact_of (take n cs))
 pair_is : (a b : ℕ) (t : List ℕ) → at_length (a ∷ b ∷ t) (pair_of a b) ≡ pair_at a b
 pair_is a b t = two (exact_of (a ∷ b ∷ [])) refl
   where
-    one : (o : Option Exact) → exact_of (a ∷ []) ≡ o → at_length (a ∷ b ∷ t) (if is_operator (a ∷ []) then 1 else 0) ≡ option_map (λ e. (e, 1)) o
+    one : (o : Option Exact) → exact_of (a ∷ []) ≡ o → at_length (a ∷ b ∷ t) (if is_operator (a ∷ []) then 1 else 0) ≡
+        option_map (λ e. (e, 1)) o
     one None h = let i = is_by (a ∷ []) None h in rw (i, exact_none) refl
     one (Some e) h = let i = is_by (a ∷ []) (Some e) h in rw (i, h) refl
 
-    two : (o : Option Exact) → exact_of (a ∷ b ∷ []) ≡ o → at_length (a ∷ b ∷ t) (pair_of a b) ≡ elim o [ Some e ↦ Some (e, 2) | None ↦ option_map (λ e. (e, 1)) (exact_of (a ∷ [])) ]
+    two : (o : Option Exact) → exact_of (a ∷ b ∷ []) ≡ o → at_length (a ∷ b ∷ t) (pair_of a b) ≡ elim o [
+      | Some e ↦ Some (e, 2)
+      | None ↦ option_map (λ e. (e, 1)) (exact_of (a ∷ []))
+    ]
     two None h = let i = is_by (a ∷ b ∷ []) None h in rw i (one (exact_of (a ∷ [])) refl)
     two (Some e) h = let i = is_by (a ∷ b ∷ []) (Some e) h in rw (i, h) refl
 
@@ -219,7 +243,8 @@ at_is (a ∷ []) = one (exact_of (a ∷ [])) refl
 at_is (a ∷ b ∷ []) = pair_is a b []
 at_is (a ∷ b ∷ c ∷ t) = three (exact_of (a ∷ b ∷ c ∷ [])) refl
   where
-    three : (o : Option Exact) → exact_of (a ∷ b ∷ c ∷ []) ≡ o → at_length (a ∷ b ∷ c ∷ t) (len_of (a ∷ b ∷ c ∷ t)) ≡ elim o [ Some e ↦ Some (e, 3) | None ↦ pair_at a b ]
+    three : (o : Option Exact) → exact_of (a ∷ b ∷ c ∷ []) ≡ o → at_length (a ∷ b ∷ c ∷ t) (len_of (a ∷ b ∷ c ∷ t)) ≡ elim o
+        [ Some e ↦ Some (e, 3) | None ↦ pair_at a b ]
     three None h = let i = is_by (a ∷ b ∷ c ∷ []) None h in rw i (pair_is a b (c ∷ t))
     three (Some e) h = let i = is_by (a ∷ b ∷ c ∷ []) (Some e) h in rw (i, h) refl
 
@@ -236,18 +261,23 @@ one_at cs a o e h = ap (option_map (λ e. (e, 1))) h ∙ sym (operator_is cs (a 
 pub two_at : (cs : List ℕ) (a b : ℕ) → cs ≡ a ∷ b ∷ [] → pair_at a b ≡ operator_at cs
 two_at cs a b e = sym (operator_is cs (a ∷ b ∷ []) e)
 
-pub three_at : (cs t : List ℕ) (a b c : ℕ) (x : Exact) → cs ≡ a ∷ b ∷ c ∷ t → Some x ≡ exact_of (a ∷ b ∷ c ∷ []) → Some (x, 3) ≡ operator_at cs
-three_at cs t a b c x e h = let f = sym h in let g : at_of (a ∷ b ∷ c ∷ t) ≡ Some (x, 3) = rw (f, at_of) refl in sym (operator_is cs (a ∷ b ∷ c ∷ t) e ∙ g)
+pub three_at : (cs t : List ℕ) (a b c : ℕ) (x : Exact) → cs ≡ a ∷ b ∷ c ∷ t → Some x ≡ exact_of (a ∷ b ∷ c ∷ [])
+    → Some (x, 3) ≡ operator_at cs
+three_at cs t a b c x e h = let f = sym h in let g : at_of (a ∷ b ∷ c ∷ t) ≡ Some (x, 3) = rw (f, at_of) refl in
+    sym (operator_is cs (a ∷ b ∷ c ∷ t) e ∙ g)
 
 pub pair_at_three : (cs t : List ℕ) (a b c : ℕ) → cs ≡ a ∷ b ∷ c ∷ t → None ≡ exact_of (a ∷ b ∷ c ∷ []) → pair_at a b ≡ operator_at cs
-pair_at_three cs t a b c e h = let f = sym h in let g : at_of (a ∷ b ∷ c ∷ t) ≡ pair_at a b = rw (f, at_of) refl in sym (operator_is cs (a ∷ b ∷ c ∷ t) e ∙ g)
+pair_at_three cs t a b c e h = let f = sym h in let g : at_of (a ∷ b ∷ c ∷ t) ≡ pair_at a b = rw (f, at_of) refl in
+    sym (operator_is cs (a ∷ b ∷ c ∷ t) e ∙ g)
 
 pub none_of : (cs l : List ℕ) → l ≡ cs → None ≡ slice_get l 0 → cs ≡ []
 none_of cs l e f = sym e ∙ at_none l (sym f)
 
 -- where a fourth character stands
-pub long_of : (cs l m n k : List ℕ) (x y z : ℕ) → l ≡ cs → Some x ≡ slice_get l 0 → m ≡ drop 1 l → Some y ≡ slice_get m 0 → n ≡ drop 1 m → Some z ≡ slice_get n 0 → k ≡ drop 1 n → (o : Option ℕ) → o ≡ slice_get k 0 → true ≡ is_some o → exact_of cs ≡ None
-long_of cs l m n k x y z e f g h i j p o q r = ap exact_of w ∙ exact_long (x ∷ y ∷ z ∷ drop 1 n) (more (drop 1 n) (r ∙ ap is_some (q ∙ ap (λ u. slice_get u 0) p)))
+pub long_of : (cs l m n k : List ℕ) (x y z : ℕ) → l ≡ cs → Some x ≡ slice_get l 0 → m ≡ drop 1 l → Some y ≡ slice_get m 0 → n ≡ drop 1 m
+    → Some z ≡ slice_get n 0 → k ≡ drop 1 n → (o : Option ℕ) → o ≡ slice_get k 0 → true ≡ is_some o → exact_of cs ≡ None
+long_of cs l m n k x y z e f g h i j p o q r = ap exact_of w
+    ∙ exact_long (x ∷ y ∷ z ∷ drop 1 n) (more (drop 1 n) (r ∙ ap is_some (q ∙ ap (λ u. slice_get u 0) p)))
   where
     w : cs ≡ x ∷ y ∷ z ∷ drop 1 n
     w = three_of cs l m n x y z e f g h i j
@@ -256,8 +286,10 @@ long_of cs l m n k x y z e f g h i j p o q r = ap exact_of w ∙ exact_long (x �
     more [] s = cc
     more (b ∷ t) s = omega arith
 
-pub exact_three : (cs l m n k : List ℕ) (x y z : ℕ) → l ≡ cs → Some x ≡ slice_get l 0 → m ≡ drop 1 l → Some y ≡ slice_get m 0 → n ≡ drop 1 m → Some z ≡ slice_get n 0 → k ≡ drop 1 n → (o : Option ℕ) → o ≡ slice_get k 0 → false ≡ is_some o → cs ≡ x ∷ y ∷ z ∷ []
-exact_three cs l m n k x y z e f g h i j p o q r = three_of cs l m n x y z e f g h i j ∙ ap (λ t. x ∷ y ∷ z ∷ t) (none (drop 1 n) (r ∙ ap is_some (q ∙ ap (λ u. slice_get u 0) p)))
+pub exact_three : (cs l m n k : List ℕ) (x y z : ℕ) → l ≡ cs → Some x ≡ slice_get l 0 → m ≡ drop 1 l → Some y ≡ slice_get m 0 → n ≡ drop 1 m
+    → Some z ≡ slice_get n 0 → k ≡ drop 1 n → (o : Option ℕ) → o ≡ slice_get k 0 → false ≡ is_some o → cs ≡ x ∷ y ∷ z ∷ []
+exact_three cs l m n k x y z e f g h i j p o q r = three_of cs l m n x y z e f g h i j
+    ∙ ap (λ t. x ∷ y ∷ z ∷ t) (none (drop 1 n) (r ∙ ap is_some (q ∙ ap (λ u. slice_get u 0) p)))
   where
     none : (t : List ℕ) → false ≡ is_some (slice_get t 0) → t ≡ []
     none [] s = refl

@@ -46,9 +46,11 @@ pair_alone : (a b : ℕ) → may_be_second b ≡ false → pair_at a b ≡ optio
 pair_alone a b h = let e = exact_off (a ∷ b ∷ []) (second_off a b [] h) in rw (e, pair_at) refl
 
 -- where no operator has the second character, the first alone is one or none is
-pub alone_at : (cs t : List ℕ) (a b : ℕ) → cs ≡ a ∷ b ∷ t → may_be_second b ≡ false → option_map (λ e. (e, 1)) (exact_of (a ∷ [])) ≡ operator_at cs
+pub alone_at : (cs t : List ℕ) (a b : ℕ) → cs ≡ a ∷ b ∷ t → may_be_second b ≡ false
+    → option_map (λ e. (e, 1)) (exact_of (a ∷ [])) ≡ operator_at cs
 alone_at cs [] a b e h = sym (pair_alone a b h) ∙ two_at cs a b e
-alone_at cs (c ∷ t) a b e h = sym (pair_alone a b h) ∙ pair_at_three cs t a b c e (sym (exact_off (a ∷ b ∷ c ∷ []) (second_off a b (c ∷ []) h)))
+alone_at cs (c ∷ t) a b e h = sym (pair_alone a b h)
+    ∙ pair_at_three cs t a b c e (sym (exact_off (a ∷ b ∷ c ∷ []) (second_off a b (c ∷ []) h)))
 
 -- what the steps of a reader say
 pub begun_by : (cs l m : List ℕ) (a b : ℕ) → l ≡ cs → Some a ≡ slice_get l 0 → m ≡ drop 1 l → Some b ≡ slice_get m 0 → cs ≡ a ∷ b ∷ drop 1 m

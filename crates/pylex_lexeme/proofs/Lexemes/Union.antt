@@ -2,7 +2,9 @@
 --
 -- Carries: lexeme, begins_significant, blanks, carriage_return, comment, join, line_feed, literal
 -- and 3 more. On: Classes, Best, OperatorLengths, Longest and 5 more.
-use Rattle.std.proofs.Common.{◌≡◌, ℕ, ◌≤◌, ◌<◌, Bool, true, false, ◌&&◌, ◌||◌, ◌==◌, List, [], ◌∷◌, length, drop, take, refl, sym, ◌∙◌, ap, subst, Option, Some, None, arith, suc, zero, cond, ⊎_elim, eqb, leb, ltb, not, is_some, slice_get, add_comm, add-one}
+use Rattle.std.proofs.Common.{◌≡◌, ℕ, ◌≤◌, ◌<◌, Bool, true, false, ◌&&◌, ◌||◌, ◌==◌, List, [], ◌∷◌, length, drop, take, refl, sym, ◌∙◌, ap}
+use Rattle.std.proofs.Common.{subst, Option, Some, None, arith, suc, zero, cond, ⊎_elim, eqb, leb, ltb, not, is_some, slice_get, add_comm}
+use Rattle.std.proofs.Common.{add-one}
 use Rattle.std.specs.Prelude.{option_map}
 use Rattle.std.specs.List.{list_all, list_any, prefix_len}
 use Rattle.std.proofs.lemmas.Bool.{eqb-true, leb-true, cases_lt}
@@ -12,11 +14,14 @@ use Rattle.unicode_ident.proofs.IdentLemmas.{is_xid_start-ascii}
 use Rattle.std.specs.Char.{is_ascii_alphabetic}
 use Rattle.unicode_ident.specs.Ident.{is_xid_continue}
 use Rattle.pylex_lexeme.specs.declared.lexeme.Class.{Class}
-use Rattle.pylex_lexeme.specs.declared.lexeme.Class.TheVariants.{Name, Number, Operator as OperatorClass, Comment, Blanks, LineEnd, Join, String}
+use Rattle.pylex_lexeme.specs.declared.lexeme.Class.TheVariants.{Name, Number, Operator as OperatorClass, Comment, Blanks, LineEnd, Join}
+use Rattle.pylex_lexeme.specs.declared.lexeme.Class.TheVariants.{String}
 use Rattle.pylex_lexeme.specs.Chars.{begins, starts_name, is_comment_part, is_blank_char, is_prefix_letter, is_r, is_b_or_f}
 use Rattle.pylex_lexeme.specs.Numbers.{headed, is_decimal_digit, is_point, is_number}
-use Rattle.pylex_lexeme.specs.Strings.{opens_string, opens_triple, is_triple_string, is_single_string, counts_as_string, is_prefix, begins_quote}
-use Rattle.pylex_lexeme.specs.Lexemes.{is_name, is_comment, are_blanks, is_join, longest_within, class_in, plain_class, lexeme_len, lexeme_at, Lexeme, is_line_end}
+use Rattle.pylex_lexeme.specs.Strings.{opens_string, opens_triple, is_triple_string, is_single_string, counts_as_string, is_prefix}
+use Rattle.pylex_lexeme.specs.Strings.{begins_quote}
+use Rattle.pylex_lexeme.specs.Lexemes.{is_name, is_comment, are_blanks, is_join, longest_within, class_in, plain_class, lexeme_len}
+use Rattle.pylex_lexeme.specs.Lexemes.{lexeme_at, Lexeme, is_line_end}
 use Rattle.pylex_lexeme.specs.Lengths.{longest, begins_pair, begins_number, number_len, Opens, operator_at}
 use Rattle.pylex_lexeme.specs.Operators.{is_operator, exact_of}
 use Rattle.pylex_lexeme.specs.Cuts.{TakesLexeme, BeginsOther, starts_other, begins_significant}
@@ -28,7 +33,8 @@ use Rattle.pylex_lexeme.proofs.Fronts.Joined.{or_parts_false}
 use Rattle.pylex_lexeme.proofs.Strings.Prefixes.{one_prefix, two_prefix}
 use Rattle.pylex_lexeme.proofs.Numbers.NumberBest.{number_best, longest_number, longest_more}
 use Rattle.pylex_lexeme.proofs.Lexemes.OperatorLengths.{operator_best, operator_none_at, operator_some, exact_off, exact_none}
-use Rattle.pylex_lexeme.proofs.Lexemes.Classes.{words, heads, by_words, no_operator, no_number, start_continues, name_class, comment_class, blank_class, end_class, join_class}
+use Rattle.pylex_lexeme.proofs.Lexemes.Classes.{words, heads, by_words, no_operator, no_number, start_continues, name_class, comment_class}
+use Rattle.pylex_lexeme.proofs.Lexemes.Classes.{blank_class, end_class, join_class}
 
 not_true : (b : Bool) → not b ≡ true → b ≡ false
 not_true true e = cc
@@ -50,15 +56,18 @@ pub class_at : (cs : List ℕ) → option_map (λ (x : Lexeme). x.«class») (le
 unfolding lexeme_at
 class_at cs = of (class_in cs (take (lexeme_len cs) cs))
   where
-    of : (o : Option Class) → option_map (λ (x : Lexeme). x.«class») (option_map (λ (k : Class). record { «class» = k; text = take (lexeme_len cs) cs }) o) ≡ o
+    of : (o : Option Class)
+        → option_map (λ (x : Lexeme). x.«class») (option_map (λ (k : Class). record { «class» = k; text = take (lexeme_len cs) cs }) o) ≡ o
     of None = refl
     of (Some k) = refl
 
 -- a lexeme of n characters that no longer one stands beside
-pub takes_some : (cs : List ℕ) (n : ℕ) (k : Class) → n ≤ length cs → class_in cs (take n cs) ≡ Some k → ((j : ℕ) → n < j → j ≤ length cs → class_in cs (take j cs) ≡ None) → TakesLexeme cs (Some k) (drop n cs)
+pub takes_some : (cs : List ℕ) (n : ℕ) (k : Class) → n ≤ length cs → class_in cs (take n cs) ≡ Some k
+    → ((j : ℕ) → n < j → j ≤ length cs → class_in cs (take j cs) ≡ None) → TakesLexeme cs (Some k) (drop n cs)
 unfolding lexeme_len
 takes_some cs n k h e f =
-    let len : lexeme_len cs ≡ n = longest_within_is (λ t. is_some (class_in cs t)) cs (length cs) n h (ap is_some e) (λ j a b. ap is_some (f j a b)) in
+    let len : lexeme_len cs ≡ n = longest_within_is (λ t. is_some (class_in cs t)) cs (length cs) n h (ap is_some e)
+    (λ j a b. ap is_some (f j a b)) in
     record { «class» = sym (class_at cs ∙ ap (λ i. class_in cs (take i cs)) len ∙ e); rest = ap (λ i. drop i cs) (sym len) }
 
 -- where no front is a lexeme
@@ -80,26 +89,33 @@ plainly cs t e = rw e refl
 abbrev pub Only : (List ℕ → Bool) → Class → List ℕ → Type 0
 Only p k cs = (j : ℕ) → 0 < j → j ≤ length cs → plain_class (take j cs) ≡ cond (p (take j cs)) (Some k) None
 
-pub only_by : (p : List ℕ → Bool) (k : Class) (c : ℕ) (cs : List ℕ) → ((t : List ℕ) → plain_class (c ∷ t) ≡ cond (p (c ∷ t)) (Some k) None) → Only p k (c ∷ cs)
+pub only_by : (p : List ℕ → Bool) (k : Class) (c : ℕ) (cs : List ℕ) → ((t : List ℕ) → plain_class (c ∷ t) ≡ cond (p (c ∷ t)) (Some k) None)
+    → Only p k (c ∷ cs)
 only_by p k c cs f zero a b = absurd (omega arith)
 only_by p k c cs f (suc j) a b = f (take j cs)
 
-pub best_takes : (p : List ℕ → Bool) (k : Class) (cs : List ℕ) (n : ℕ) → opens_string cs ≡ false → 0 < n → IsBest p cs n → Only p k cs → TakesLexeme cs (Some k) (drop n cs)
+pub best_takes : (p : List ℕ → Bool) (k : Class) (cs : List ℕ) (n : ℕ) → opens_string cs ≡ false → 0 < n → IsBest p cs n → Only p k cs
+    → TakesLexeme cs (Some k) (drop n cs)
 best_takes p k cs n o h b f =
     takes_some cs n k b.within
     (plainly cs (take n cs) o ∙ f n h b.within ∙ ap (λ x. cond x (Some k) None) b.passes)
     (λ j i l. plainly cs (take j cs) o ∙ f j (omega arith) l ∙ ap (λ x. cond x (Some k) None) (b.longest j i l))
 
-pub none_takes : (p : List ℕ → Bool) (k : Class) (cs : List ℕ) → opens_string cs ≡ false → NoFront p cs → Only p k cs → TakesLexeme cs None cs
+pub none_takes : (p : List ℕ → Bool) (k : Class) (cs : List ℕ) → opens_string cs ≡ false → NoFront p cs → Only p k cs
+    → TakesLexeme cs None cs
 none_takes p k cs o b f = takes_none cs (λ j i l. plainly cs (take j cs) o ∙ f j i l ∙ ap (λ x. cond x (Some k) None) (b j l))
 
 -- a first character, and a run of others
-run_takes : (starts p : ℕ → Bool) (k : Class) (cs : List ℕ) → opens_string cs ≡ false → begins starts cs ≡ true → ((c : ℕ) → starts c ≡ true → p c ≡ true) → ((c : ℕ) → starts c ≡ true → (t : List ℕ) → plain_class (c ∷ t) ≡ cond (headed starts (list_all p) (c ∷ t)) (Some k) None) → TakesLexeme cs (Some k) (drop (prefix_len p cs) cs)
+run_takes : (starts p : ℕ → Bool) (k : Class) (cs : List ℕ) → opens_string cs ≡ false → begins starts cs ≡ true
+    → ((c : ℕ) → starts c ≡ true → p c ≡ true)
+    → ((c : ℕ) → starts c ≡ true → (t : List ℕ) → plain_class (c ∷ t) ≡ cond (headed starts (list_all p) (c ∷ t)) (Some k) None)
+    → TakesLexeme cs (Some k) (drop (prefix_len p cs) cs)
 run_takes starts p k [] o h e f = cc
 run_takes starts p k (c ∷ cs) o h e f =
     let g : p c ≡ true = e c h in
     let len : prefix_len p (c ∷ cs) ≡ suc (prefix_len p cs) = rw (g, add_comm, add-one) refl in
-    rw len (best_takes (headed starts (list_all p)) k (c ∷ cs) (suc (prefix_len p cs)) o (omega arith) (headed_best starts (list_all p) c cs (prefix_len p cs) h (run_best p cs)) (only_by (headed starts (list_all p)) k c cs (f c h)))
+    rw len (best_takes (headed starts (list_all p)) k (c ∷ cs) (suc (prefix_len p cs)) o (omega arith)
+    (headed_best starts (list_all p) c cs (prefix_len p cs) h (run_best p cs)) (only_by (headed starts (list_all p)) k c cs (f c h)))
 
 -- Where a string opens
 pub opens_off : (c : ℕ) (cs : List ℕ) → is_prefix_letter c ≡ false → ((c == 39) || (c == 34)) ≡ false → opens_string (c ∷ cs) ≡ false
@@ -125,7 +141,8 @@ opens_off c (d ∷ cs) l q =
     none false = refl
 
 -- Names, comments, blanks
-pub name_takes : (cs : List ℕ) → opens_string cs ≡ false → begins starts_name cs ≡ true → TakesLexeme cs (Some Name) (drop (prefix_len is_xid_continue cs) cs)
+pub name_takes : (cs : List ℕ) → opens_string cs ≡ false → begins starts_name cs ≡ true
+    → TakesLexeme cs (Some Name) (drop (prefix_len is_xid_continue cs) cs)
 name_takes cs o h = run_takes starts_name is_xid_continue Name cs o h start_continues name_class
 
 hash_part : (c : ℕ) → (c == 35) ≡ true → is_comment_part c ≡ true
@@ -135,7 +152,8 @@ hash_opens : (cs : List ℕ) → begins (λ c. c == 35) cs ≡ true → opens_st
 hash_opens [] e = cc
 hash_opens (c ∷ cs) e = let f : c ≡ 35 = eqb-true c 35 e in rw f (opens_off 35 cs refl refl)
 
-pub comment_takes : (cs : List ℕ) → begins (λ c. c == 35) cs ≡ true → TakesLexeme cs (Some Comment) (drop (prefix_len is_comment_part cs) cs)
+pub comment_takes : (cs : List ℕ) → begins (λ c. c == 35) cs ≡ true
+    → TakesLexeme cs (Some Comment) (drop (prefix_len is_comment_part cs) cs)
 comment_takes cs h = run_takes (λ c. c == 35) is_comment_part Comment cs (hash_opens cs h) h hash_part comment_class
 
 blank_opens : (cs : List ℕ) → begins is_blank_char cs ≡ true → opens_string cs ≡ false
@@ -176,7 +194,8 @@ both_best cs = record { within = omega arith; passes = refl; longest = longer cs
     longer (c ∷ cs) (suc (suc (suc j))) a b = refl
 
 -- no line end begins with any other characters
-pub no_line_end : (cs : List ℕ) → begins (λ c. c == 10) cs ≡ false → (begins (λ c. c == 13) cs && begins (λ c. c == 10) (drop 1 cs)) ≡ false → is_line_end cs ≡ false
+pub no_line_end : (cs : List ℕ) → begins (λ c. c == 10) cs ≡ false → (begins (λ c. c == 13) cs && begins (λ c. c == 10) (drop 1 cs)) ≡ false
+    → is_line_end cs ≡ false
 unfolding is_line_end
 no_line_end [] e f = refl
 no_line_end (c ∷ []) e f = rw e (none (c == 13))
@@ -190,7 +209,8 @@ no_line_end (c ∷ d ∷ t) e f =
     (λ (h : (c == 13) ≡ false). rw (e, h) refl)
     (bool_cases (c == 13))
 
-pub no_end_front : (cs : List ℕ) → begins (λ c. c == 10) cs ≡ false → (begins (λ c. c == 13) cs && begins (λ c. c == 10) (drop 1 cs)) ≡ false → NoFront is_line_end cs
+pub no_end_front : (cs : List ℕ) → begins (λ c. c == 10) cs ≡ false → (begins (λ c. c == 13) cs && begins (λ c. c == 10) (drop 1 cs)) ≡
+    false → NoFront is_line_end cs
 no_end_front cs e f zero h = no_line_end [] refl refl
 no_end_front [] e f (suc j) h = no_line_end [] refl refl
 no_end_front (c ∷ cs) e f (suc zero) h = no_line_end (c ∷ []) e (none (c == 13))
@@ -213,27 +233,33 @@ pub feed_takes : (cs : List ℕ) → begins (λ c. c == 10) cs ≡ true → Take
 feed_takes [] h = cc
 feed_takes (c ∷ cs) h =
     let e : c ≡ 10 = eqb-true c 10 h in
-    rw e (best_takes is_line_end LineEnd (10 ∷ cs) 1 (opens_off 10 cs refl refl) (omega arith) (feed_best cs) (only_by is_line_end LineEnd 10 cs (end_class 10 refl)))
+    rw e (best_takes is_line_end LineEnd (10 ∷ cs) 1 (opens_off 10 cs refl refl) (omega arith) (feed_best cs)
+    (only_by is_line_end LineEnd 10 cs (end_class 10 refl)))
 
-pub both_take : (cs : List ℕ) → begins (λ c. c == 13) cs ≡ true → begins (λ c. c == 10) (drop 1 cs) ≡ true → TakesLexeme cs (Some LineEnd) (drop 2 cs)
+pub both_take : (cs : List ℕ) → begins (λ c. c == 13) cs ≡ true → begins (λ c. c == 10) (drop 1 cs) ≡ true
+    → TakesLexeme cs (Some LineEnd) (drop 2 cs)
 both_take [] h i = cc
 both_take (c ∷ []) h i = cc
 both_take (c ∷ d ∷ cs) h i =
     let e : c ≡ 13 = eqb-true c 13 h in
     let f : d ≡ 10 = eqb-true d 10 i in
-    rw (e, f) (best_takes is_line_end LineEnd (13 ∷ 10 ∷ cs) 2 (opens_off 13 (10 ∷ cs) refl refl) (omega arith) (both_best cs) (only_by is_line_end LineEnd 13 (10 ∷ cs) (end_class 13 refl)))
+    rw (e, f) (best_takes is_line_end LineEnd (13 ∷ 10 ∷ cs) 2 (opens_off 13 (10 ∷ cs) refl refl) (omega arith) (both_best cs)
+    (only_by is_line_end LineEnd 13 (10 ∷ cs) (end_class 13 refl)))
 
 pub return_takes : (cs : List ℕ) → begins (λ c. c == 13) cs ≡ true → begins (λ c. c == 10) (drop 1 cs) ≡ false → TakesLexeme cs None cs
 return_takes [] h i = cc
 return_takes (c ∷ cs) h i =
     let e : c ≡ 13 = eqb-true c 13 h in
-    rw e (none_takes is_line_end LineEnd (13 ∷ cs) (opens_off 13 cs refl refl) (no_end_front (13 ∷ cs) refl i) (only_by is_line_end LineEnd 13 cs (end_class 13 refl)))
+    rw e (none_takes is_line_end LineEnd (13 ∷ cs) (opens_off 13 cs refl refl) (no_end_front (13 ∷ cs) refl i)
+    (only_by is_line_end LineEnd 13 cs (end_class 13 refl)))
 
 -- Joins
 join_by : (cs : List ℕ) (n : ℕ) → IsBest is_line_end cs n → TakesLexeme (92 ∷ cs) (Some Join) (drop n cs)
-join_by cs n b = best_takes (headed (λ c. c == 92) is_line_end) Join (92 ∷ cs) (suc n) (opens_off 92 cs refl refl) (omega arith) (headed_best (λ c. c == 92) is_line_end 92 cs n refl b) (only_by (headed (λ c. c == 92) is_line_end) Join 92 cs (join_class 92 refl))
+join_by cs n b = best_takes (headed (λ c. c == 92) is_line_end) Join (92 ∷ cs) (suc n) (opens_off 92 cs refl refl) (omega arith)
+    (headed_best (λ c. c == 92) is_line_end 92 cs n refl b) (only_by (headed (λ c. c == 92) is_line_end) Join 92 cs (join_class 92 refl))
 
-pub feed_joins : (cs : List ℕ) → begins (λ c. c == 92) cs ≡ true → begins (λ c. c == 10) (drop 1 cs) ≡ true → TakesLexeme cs (Some Join) (drop 2 cs)
+pub feed_joins : (cs : List ℕ) → begins (λ c. c == 92) cs ≡ true → begins (λ c. c == 10) (drop 1 cs) ≡ true
+    → TakesLexeme cs (Some Join) (drop 2 cs)
 feed_joins [] h i = cc
 feed_joins (c ∷ []) h i = cc
 feed_joins (c ∷ d ∷ cs) h i =
@@ -241,7 +267,8 @@ feed_joins (c ∷ d ∷ cs) h i =
     let f : d ≡ 10 = eqb-true d 10 i in
     rw (e, f) (join_by (10 ∷ cs) 1 (feed_best cs))
 
-pub both_join : (cs : List ℕ) → begins (λ c. c == 92) cs ≡ true → (begins (λ c. c == 13) (drop 1 cs) && begins (λ c. c == 10) (drop 1 (drop 1 cs))) ≡ true → TakesLexeme cs (Some Join) (drop 3 cs)
+pub both_join : (cs : List ℕ) → begins (λ c. c == 92) cs ≡ true
+    → (begins (λ c. c == 13) (drop 1 cs) && begins (λ c. c == 10) (drop 1 (drop 1 cs))) ≡ true → TakesLexeme cs (Some Join) (drop 3 cs)
 both_join [] h i = cc
 both_join (c ∷ []) h i = cc
 both_join (c ∷ d ∷ []) h i = absurd (none (d == 13) i)
@@ -260,11 +287,14 @@ both_join (c ∷ d ∷ b ∷ cs) h i =
     parts true y e = (refl, e)
     parts false y e = cc
 
-pub slash_takes : (cs : List ℕ) → begins (λ c. c == 92) cs ≡ true → begins (λ c. c == 10) (drop 1 cs) ≡ false → (begins (λ c. c == 13) (drop 1 cs) && begins (λ c. c == 10) (drop 1 (drop 1 cs))) ≡ false → TakesLexeme cs None cs
+pub slash_takes : (cs : List ℕ) → begins (λ c. c == 92) cs ≡ true → begins (λ c. c == 10) (drop 1 cs) ≡ false
+    → (begins (λ c. c == 13) (drop 1 cs) && begins (λ c. c == 10) (drop 1 (drop 1 cs))) ≡ false → TakesLexeme cs None cs
 slash_takes [] h i l = cc
 slash_takes (c ∷ cs) h i l =
     let e : c ≡ 92 = eqb-true c 92 h in
-    rw e (none_takes (headed (λ c. c == 92) is_line_end) Join (92 ∷ cs) (opens_off 92 cs refl refl) (headed_rest (λ c. c == 92) is_line_end 92 cs (no_end_front cs i l)) (only_by (headed (λ c. c == 92) is_line_end) Join 92 cs (join_class 92 refl)))
+    rw e (none_takes (headed (λ c. c == 92) is_line_end) Join (92 ∷ cs) (opens_off 92 cs refl refl)
+    (headed_rest (λ c. c == 92) is_line_end 92 cs (no_end_front cs i l)) (only_by (headed (λ c. c == 92) is_line_end) Join 92
+    cs (join_class 92 refl)))
 
 -- Numbers
 number_starts : (c : ℕ) → (is_decimal_digit c || is_point c) ≡ true → starts_name c ≡ false
@@ -297,7 +327,8 @@ number_opens [] e = cc
 number_opens (c ∷ cs) e =
     ⊎_elim
     (λ (d : is_decimal_digit c ≡ true). digit_opens c cs d)
-    (λ (d : (is_point c && begins is_decimal_digit cs) ≡ true). let p = and_parts (is_point c) (begins is_decimal_digit cs) d in let f : c ≡ 46 = eqb-true c 46 p.0 in rw f (opens_off 46 cs refl refl))
+    (λ (d : (is_point c && begins is_decimal_digit cs) ≡ true). let p = and_parts (is_point c) (begins is_decimal_digit cs) d in
+    let f : c ≡ 46 = eqb-true c 46 p.0 in rw f (opens_off 46 cs refl refl))
     (or_parts (is_decimal_digit c) (is_point c && begins is_decimal_digit cs) e)
 
 -- a number's longer fronts are in no other class
@@ -309,7 +340,8 @@ point_words d t e =
     let n : eqb d 46 ≡ false = grind (arith, nat_tests) in
     by_words (46 ∷ d ∷ t) ∙ rw n refl
 
-plain_number : (c : ℕ) (t : List ℕ) → (is_decimal_digit c || is_point c) ≡ true → is_operator (c ∷ t) ≡ false → plain_class (c ∷ t) ≡ cond (is_number (c ∷ t)) (Some Number) None
+plain_number : (c : ℕ) (t : List ℕ) → (is_decimal_digit c || is_point c) ≡ true → is_operator (c ∷ t) ≡ false
+    → plain_class (c ∷ t) ≡ cond (is_number (c ∷ t)) (Some Number) None
 unfolding plain_class is_name is_comment are_blanks is_line_end is_join
 plain_number c t d o =
     let s = number_starts c d in
@@ -318,15 +350,23 @@ plain_number c t d o =
     let p = and_parts (leb 48 c) (leb c 57) e in
     let l = leb-true 48 c p.0 in
     let u = leb-true c 57 p.1 in
-    let h : (eqb c 35 ≡ false) × (is_blank_char c ≡ false) × (eqb c 10 ≡ false) × (eqb c 13 ≡ false) × (eqb c 92 ≡ false) = (grind (arith, nat_tests), grind (arith, nat_tests), grind (arith, nat_tests), grind (arith, nat_tests), grind (arith, nat_tests)) in
+    let h : (eqb c 35 ≡ false) × (is_blank_char c ≡ false) × (eqb c 10 ≡ false) × (eqb c 13 ≡ false) × (eqb c 92 ≡ false) = (
+      grind (arith, nat_tests),
+      grind (arith, nat_tests),
+      grind (arith, nat_tests),
+      grind (arith, nat_tests),
+      grind (arith, nat_tests),
+    ) in
     rw (s, o, h.0, h.1, h.2, h.3, h.4) refl)
     (λ (e : is_point c ≡ true).
     let f : c ≡ 46 = eqb-true c 46 e in
-    let h : (eqb c 35 ≡ false) × (is_blank_char c ≡ false) × (eqb c 10 ≡ false) × (eqb c 13 ≡ false) × (eqb c 92 ≡ false) = rw f (refl, refl, refl, refl, refl) in
+    let h : (eqb c 35 ≡ false) × (is_blank_char c ≡ false) × (eqb c 10 ≡ false) × (eqb c 13 ≡ false) × (eqb c 92 ≡ false) =
+    rw f (refl, refl, refl, refl, refl) in
     rw (s, o, h.0, h.1, h.2, h.3, h.4) refl)
     (or_parts (is_decimal_digit c) (is_point c) d)
 
-number_class : (c : ℕ) (t : List ℕ) → (is_decimal_digit c || is_point c) ≡ true → is_number (c ∷ t) ≡ true → plain_class (c ∷ t) ≡ Some Number
+number_class : (c : ℕ) (t : List ℕ) → (is_decimal_digit c || is_point c) ≡ true → is_number (c ∷ t) ≡ true
+    → plain_class (c ∷ t) ≡ Some Number
 unfolding plain_class is_name
 number_class c t d e = let s = number_starts c d in rw (s, e) refl
 
@@ -334,7 +374,8 @@ number_head : (c : ℕ) (cs : List ℕ) → begins_number (c ∷ cs) ≡ true �
 number_head c cs e =
     ⊎_elim
     (λ (d : is_decimal_digit c ≡ true). rw d refl)
-    (λ (d : (is_point c && begins is_decimal_digit cs) ≡ true). let p = and_parts (is_point c) (begins is_decimal_digit cs) d in right (is_decimal_digit c) (is_point c) p.0)
+    (λ (d : (is_point c && begins is_decimal_digit cs) ≡ true). let p = and_parts (is_point c) (begins is_decimal_digit cs) d in
+    right (is_decimal_digit c) (is_point c) p.0)
     (or_parts (is_decimal_digit c) (is_point c && begins is_decimal_digit cs) e)
   where
     right : (x y : Bool) → y ≡ true → (x || y) ≡ true
@@ -349,16 +390,20 @@ number_no_operator (c ∷ []) (suc (suc j)) e a b = absurd (omega arith)
 number_no_operator (c ∷ d ∷ cs) (suc (suc j)) e a b =
     ⊎_elim
     (λ (i : is_decimal_digit c ≡ true). no_operator c (d ∷ take j cs) (digit_heads c i))
-    (λ (i : (is_point c && is_decimal_digit d) ≡ true). let p = and_parts (is_point c) (is_decimal_digit d) i in let f : c ≡ 46 = eqb-true c 46 p.0 in rw f (point_words d (take j cs) p.1))
+    (λ (i : (is_point c && is_decimal_digit d) ≡ true). let p = and_parts (is_point c) (is_decimal_digit d) i in let f : c ≡ 46 =
+    eqb-true c 46 p.0 in rw f (point_words d (take j cs) p.1))
     (or_parts (is_decimal_digit c) (is_point c && is_decimal_digit d) e)
 
 pub number_takes : (cs : List ℕ) → begins_number cs ≡ true → TakesLexeme cs (Some Number) (drop (longest is_number cs) cs)
 number_takes [] e = cc
-number_takes (c ∷ cs) e = rw (longest_number (c ∷ cs) e) (by (number_len (c ∷ cs)) (number_best (c ∷ cs) e) (subst (λ (i : ℕ). 0 < i) (longest_number (c ∷ cs) e) (longest_more (c ∷ cs) e)))
+number_takes (c ∷ cs) e =
+    rw (longest_number (c ∷ cs) e) (by (number_len (c ∷ cs)) (number_best (c ∷ cs) e) (subst (λ (i : ℕ). 0 < i) (longest_number (c ∷ cs) e)
+    (longest_more (c ∷ cs) e)))
   where
     none : (j : ℕ) → 1 < j → j ≤ length (c ∷ cs) → is_number (take j (c ∷ cs)) ≡ false → plain_class (take j (c ∷ cs)) ≡ None
     none zero a b f = absurd (omega arith)
-    none (suc j) a b f = plain_number c (take j cs) (number_head c cs e) (number_no_operator (c ∷ cs) (suc j) e a b) ∙ ap (λ x. cond x (Some Number) None) f
+    none (suc j) a b f = plain_number c (take j cs) (number_head c cs e) (number_no_operator (c ∷ cs) (suc j) e a b)
+        ∙ ap (λ x. cond x (Some Number) None) f
 
     by : (n : ℕ) → IsBest is_number (c ∷ cs) n → 0 < n → TakesLexeme (c ∷ cs) (Some Number) (drop n (c ∷ cs))
     by zero b h = absurd (omega arith)
@@ -368,10 +413,12 @@ number_takes (c ∷ cs) e = rw (longest_number (c ∷ cs) e) (by (number_len (c 
         (λ j i l. plainly (c ∷ cs) (take j (c ∷ cs)) (number_opens (c ∷ cs) e) ∙ none j (omega arith) l (b.longest j i l))
 
 -- Operators
-other_class : (c : ℕ) (t : List ℕ) → starts_other c ≡ true → is_number (c ∷ t) ≡ false → plain_class (c ∷ t) ≡ option_map OperatorClass (exact_of (c ∷ t))
+other_class : (c : ℕ) (t : List ℕ) → starts_other c ≡ true → is_number (c ∷ t) ≡ false
+    → plain_class (c ∷ t) ≡ option_map OperatorClass (exact_of (c ∷ t))
 unfolding plain_class is_operator is_name is_comment are_blanks is_line_end is_join
 other_class c t h n =
-    let p1 = and_parts (not (starts_name c) && not (c == 35) && not (is_blank_char c) && not (c == 10) && not (c == 13)) (not (c == 92)) h in
+    let p1 = and_parts (not (starts_name c) && not (c == 35) && not (is_blank_char c) && not (c == 10) && not (c == 13)) (not (c == 92))
+    h in
     let p2 = and_parts (not (starts_name c) && not (c == 35) && not (is_blank_char c) && not (c == 10)) (not (c == 13)) p1.0 in
     let p3 = and_parts (not (starts_name c) && not (c == 35) && not (is_blank_char c)) (not (c == 10)) p2.0 in
     let p4 = and_parts (not (starts_name c) && not (c == 35)) (not (is_blank_char c)) p3.0 in
@@ -388,7 +435,8 @@ other_class c t h n =
     by None = refl
     by (Some e) = refl
 
-point_front : (c : ℕ) (cs : List ℕ) (j : ℕ) → (is_point c && begins is_decimal_digit cs) ≡ false → (is_point c && begins is_decimal_digit (take j cs)) ≡ false
+point_front : (c : ℕ) (cs : List ℕ) (j : ℕ) → (is_point c && begins is_decimal_digit cs) ≡ false
+    → (is_point c && begins is_decimal_digit (take j cs)) ≡ false
 point_front c cs zero e = none (is_point c)
   where
     none : (b : Bool) → (b && false) ≡ false
@@ -408,30 +456,42 @@ other_only (c ∷ cs) f n (suc j) h i =
     let p = or_parts_false (is_decimal_digit c) (is_point c && begins is_decimal_digit cs) n in
     other_class c (take j cs) f (no_number c (take j cs) p.0 (point_front c cs j p.1))
 
-no_class_at : (cs : List ℕ) → BeginsOther cs → (j : ℕ) → 0 < j → j ≤ length cs → is_operator (take j cs) ≡ false → class_in cs (take j cs) ≡ None
-no_class_at cs b j h i e = plainly cs (take j cs) b.string ∙ other_only cs b.first b.number j h i ∙ ap (option_map OperatorClass) (exact_off (take j cs) e)
+no_class_at : (cs : List ℕ) → BeginsOther cs → (j : ℕ) → 0 < j → j ≤ length cs → is_operator (take j cs) ≡ false
+    → class_in cs (take j cs) ≡ None
+no_class_at cs b j h i e = plainly cs (take j cs) b.string ∙ other_only cs b.first b.number j h i
+    ∙ ap (option_map OperatorClass) (exact_off (take j cs) e)
 
-pub operator_takes : (cs : List ℕ) (o : Option (Exact × ℕ)) (e : Exact) (n : ℕ) → BeginsOther cs → o ≡ operator_at cs → o ≡ Some (e, n) → TakesLexeme cs (Some (OperatorClass e)) (drop n cs)
+pub operator_takes : (cs : List ℕ) (o : Option (Exact × ℕ)) (e : Exact) (n : ℕ) → BeginsOther cs → o ≡ operator_at cs → o ≡ Some (e, n)
+    → TakesLexeme cs (Some (OperatorClass e)) (drop n cs)
 unfolding operator_at
 operator_takes cs o e n b f g = by (exact_of (take (longest is_operator cs) cs)) refl (sym f ∙ g)
   where
     some : (x : Exact) → exact_of (take (longest is_operator cs) cs) ≡ Some x → 0 < longest is_operator cs
-    some x h = ⊎_elim (λ (z : longest is_operator cs < 1). absurd (none_there (longest is_operator cs) (omega arith) h)) (λ (z : 1 ≤ longest is_operator cs). z) (cases_lt (longest is_operator cs) 1)
+    some x h = ⊎_elim (λ (z : longest is_operator cs < 1). absurd (none_there (longest is_operator cs) (omega arith) h))
+        (λ (z : 1 ≤ longest is_operator cs). z) (cases_lt (longest is_operator cs) 1)
       where
         none_there : (l : ℕ) → l ≡ 0 → exact_of (take l cs) ≡ Some x → ⊥
-        none_there l z h = let i : exact_of [] ≡ Some x = ap (λ l. exact_of (take l cs)) (sym z) ∙ h in let j : None ≡ Some x = sym exact_none ∙ i in cc
+        none_there l z h = let i : exact_of [] ≡ Some x = ap (λ l. exact_of (take l cs)) (sym z) ∙ h in let j : None ≡ Some x =
+            sym exact_none ∙ i in cc
 
-    there : (x : Exact) → exact_of (take (longest is_operator cs) cs) ≡ Some x → TakesLexeme cs (Some (OperatorClass x)) (drop (longest is_operator cs) cs)
+    there : (x : Exact) → exact_of (take (longest is_operator cs) cs) ≡ Some x
+        → TakesLexeme cs (Some (OperatorClass x)) (drop (longest is_operator cs) cs)
     there x h =
         let p = some x h in
         let best = operator_best cs p in
         takes_some cs (longest is_operator cs) (OperatorClass x) best.within
-        (plainly cs (take (longest is_operator cs) cs) b.string ∙ other_only cs b.first b.number (longest is_operator cs) p best.within ∙ ap (option_map OperatorClass) h)
+        (plainly cs (take (longest is_operator cs) cs) b.string ∙ other_only cs b.first b.number (longest is_operator cs) p best.within
+        ∙ ap (option_map OperatorClass) h)
         (λ j i l. no_class_at cs b j (omega arith) l (best.longest j i l))
 
-    by : (o : Option Exact) → exact_of (take (longest is_operator cs) cs) ≡ o → option_map {U = Exact × ℕ} (λ e. (e, longest is_operator cs)) o ≡ Some (e, n) → TakesLexeme cs (Some (OperatorClass e)) (drop n cs)
+    by : (o : Option Exact) → exact_of (take (longest is_operator cs) cs) ≡ o
+        → option_map {U = Exact × ℕ} (λ e. (e, longest is_operator cs)) o ≡ Some (e, n)
+        → TakesLexeme cs (Some (OperatorClass e)) (drop n cs)
     by None h i = absurd cc
-    by (Some x) h i = let z : (x, longest is_operator cs) ≡ (e, n) = cc in let y : x ≡ e = ap (λ (p : Exact × ℕ). p.0) z in let l : longest is_operator cs ≡ n = ap (λ (p : Exact × ℕ). p.1) z in subst (λ (k : Exact). TakesLexeme cs (Some (OperatorClass k)) (drop n cs)) y (subst (λ (m : ℕ). TakesLexeme cs (Some (OperatorClass x)) (drop m cs)) l (there x h))
+    by (Some x) h i = let z : (x, longest is_operator cs) ≡ (e, n) = cc in let y : x ≡ e = ap (λ (p : Exact × ℕ). p.0) z in
+        let l : longest is_operator cs ≡ n = ap (λ (p : Exact × ℕ). p.1) z in
+        subst (λ (k : Exact). TakesLexeme cs (Some (OperatorClass k)) (drop n cs)) y
+        (subst (λ (m : ℕ). TakesLexeme cs (Some (OperatorClass x)) (drop m cs)) l (there x h))
 
 pub operator_none : (cs : List ℕ) (o : Option (Exact × ℕ)) → BeginsOther cs → o ≡ operator_at cs → o ≡ None → TakesLexeme cs None cs
 unfolding operator_at
@@ -443,14 +503,16 @@ operator_none cs o b f g = by (exact_of (take (longest is_operator cs) cs)) refl
     never : true ≡ false → ⊥
     never r = cc
 
-    by : (o : Option Exact) → exact_of (take (longest is_operator cs) cs) ≡ o → option_map {U = Exact × ℕ} (λ e. (e, longest is_operator cs)) o ≡ None → TakesLexeme cs None cs
+    by : (o : Option Exact) → exact_of (take (longest is_operator cs) cs) ≡ o
+        → option_map {U = Exact × ℕ} (λ e. (e, longest is_operator cs)) o ≡ None → TakesLexeme cs None cs
     by (Some x) h i = absurd cc
     by None h i =
         ⊎_elim
         (λ (z : longest is_operator cs < 1). none (omega arith))
         (λ (z : 1 ≤ longest is_operator cs).
         let p = (operator_best cs z).passes in
-        let q : is_operator (take (longest is_operator cs) cs) ≡ false = sym (operator_some (take (longest is_operator cs) cs)) ∙ ap is_some h in
+        let q : is_operator (take (longest is_operator cs) cs) ≡ false =
+        sym (operator_some (take (longest is_operator cs) cs)) ∙ ap is_some h in
         let r : true ≡ false = sym p ∙ q in
         absurd (never r))
         (cases_lt (longest is_operator cs) 1)
@@ -462,11 +524,13 @@ stringly cs t e = rw e refl
 
 same_lengths : (p q : List ℕ → Bool) (cs : List ℕ) (m : ℕ) → ((t : List ℕ) → p t ≡ q t) → longest_within p cs m ≡ longest_within q cs m
 same_lengths p q cs zero f = refl
-same_lengths p q cs (suc m) f = let e : p (take (suc m) cs) ≡ q (take (suc m) cs) = f (take (suc m) cs) in rw (e, same_lengths p q cs m f) refl
+same_lengths p q cs (suc m) f = let e : p (take (suc m) cs) ≡ q (take (suc m) cs) = f (take (suc m) cs) in
+    rw (e, same_lengths p q cs m f) refl
 
 string_len : (cs : List ℕ) → opens_string cs ≡ true → lexeme_len cs ≡ longest (counts_as_string cs) cs
 unfolding lexeme_len longest
-string_len cs o = same_lengths (λ t. is_some (class_in cs t)) (counts_as_string cs) cs (length cs) (λ t. ap is_some (stringly cs t o) ∙ test (counts_as_string cs t))
+string_len cs o = same_lengths (λ t. is_some (class_in cs t)) (counts_as_string cs) cs (length cs) (λ t. ap is_some (stringly cs t o)
+    ∙ test (counts_as_string cs t))
   where
     test : (b : Bool) → is_some (cond b (Some String) None) ≡ b
     test true = refl
@@ -480,15 +544,18 @@ longest_passes p cs (suc m) h =
     (λ (e : p (take (suc m) cs) ≡ false). let i : 0 < longest_within p cs m = simp e at h in rw e (longest_passes p cs m i))
     (bool_cases (p (take (suc m) cs)))
 
-string_passes : (cs : List ℕ) → 0 < longest (counts_as_string cs) cs → counts_as_string cs (take (longest (counts_as_string cs) cs) cs) ≡ true
+string_passes : (cs : List ℕ) → 0 < longest (counts_as_string cs) cs
+    → counts_as_string cs (take (longest (counts_as_string cs) cs) cs) ≡ true
 unfolding longest
 string_passes cs h = longest_passes (counts_as_string cs) cs (length cs) h
 
-pub string_takes : (cs new : List ℕ) → opens_string cs ≡ true → 0 < longest (counts_as_string cs) cs → new ≡ drop (longest (counts_as_string cs) cs) cs → TakesLexeme cs (Some String) new
+pub string_takes : (cs new : List ℕ) → opens_string cs ≡ true → 0 < longest (counts_as_string cs) cs
+    → new ≡ drop (longest (counts_as_string cs) cs) cs → TakesLexeme cs (Some String) new
 string_takes cs new o h e =
     let l = string_len cs o in
     record {
-      «class» = sym (class_at cs ∙ ap (λ i. class_in cs (take i cs)) l ∙ stringly cs (take (longest (counts_as_string cs) cs) cs) o ∙ ap (λ b. cond b (Some String) None) (string_passes cs h));
+      «class» = sym (class_at cs ∙ ap (λ i. class_in cs (take i cs)) l ∙ stringly cs (take (longest (counts_as_string cs) cs) cs) o
+          ∙ ap (λ b. cond b (Some String) None) (string_passes cs h));
       rest = e ∙ ap (λ i. drop i cs) (sym l);
     }
 
@@ -512,10 +579,12 @@ opens_by n cs o = by n o.small o.«prefix» o.quote
     right true y e = refl
     right false y e = e
 
-    by : (n : ℕ) → n ≤ 2 → is_prefix (take n cs) ≡ true → begins_quote (drop n cs) ≡ true → (list_any (λ n. is_prefix (take n cs) && begins_quote (drop n cs)) (0 ∷ 1 ∷ 2 ∷ [])) ≡ true
+    by : (n : ℕ) → n ≤ 2 → is_prefix (take n cs) ≡ true → begins_quote (drop n cs) ≡ true
+        → (list_any (λ n. is_prefix (take n cs) && begins_quote (drop n cs)) (0 ∷ 1 ∷ 2 ∷ [])) ≡ true
     by zero h e f = one (is_prefix (take 0 cs)) (begins_quote (drop 0 cs)) _ e f
     by (suc zero) h e f = two (is_prefix (take 0 cs) && begins_quote (drop 0 cs)) (is_prefix (take 1 cs)) (begins_quote (drop 1 cs)) _ e f
-    by (suc (suc zero)) h e f = right (is_prefix (take 0 cs) && begins_quote (drop 0 cs)) _ (two (is_prefix (take 1 cs) && begins_quote (drop 1 cs)) (is_prefix (take 2 cs)) (begins_quote (drop 2 cs)) _ e f)
+    by (suc (suc zero)) h e f = right (is_prefix (take 0 cs) && begins_quote (drop 0 cs)) _
+        (two (is_prefix (take 1 cs) && begins_quote (drop 1 cs)) (is_prefix (take 2 cs)) (begins_quote (drop 2 cs)) _ e f)
     by (suc (suc (suc n))) h e f = absurd (omega arith)
 
 -- The first character
@@ -527,7 +596,8 @@ pub nothing_at : (cs : List ℕ) → slice_get cs 0 ≡ None → TakesLexeme cs 
 nothing_at [] e = nothing_takes
 nothing_at (c ∷ cs) e = cc
 
-pub opens_none : (cs : List ℕ) (c : ℕ) → slice_get cs 0 ≡ Some c → is_prefix_letter c ≡ false → ((c == 39) || (c == 34)) ≡ false → opens_string cs ≡ false
+pub opens_none : (cs : List ℕ) (c : ℕ) → slice_get cs 0 ≡ Some c → is_prefix_letter c ≡ false → ((c == 39) || (c == 34)) ≡ false
+    → opens_string cs ≡ false
 opens_none [] c e l q = cc
 opens_none (d ∷ cs) c e l q = let f : d ≡ c = cc in rw f (opens_off c cs l q)
 
@@ -535,7 +605,8 @@ opens_none (d ∷ cs) c e l q = let f : d ≡ c = cc in rw f (opens_off c cs l q
 letter_starts : (k : ℕ) → k < 128 → is_ascii_alphabetic k ≡ true → (c : ℕ) → (c == k) ≡ true → starts_name c ≡ true
 letter_starts k h a c e = let f : c ≡ k = eqb-true c k e in rw f (let g = is_xid_start-ascii k h in rw (g, a) refl)
 
-two_start : (k l : ℕ) → k < 128 → l < 128 → is_ascii_alphabetic k ≡ true → is_ascii_alphabetic l ≡ true → (c : ℕ) → ((c == k) || (c == l)) ≡ true → starts_name c ≡ true
+two_start : (k l : ℕ) → k < 128 → l < 128 → is_ascii_alphabetic k ≡ true → is_ascii_alphabetic l ≡ true → (c : ℕ)
+    → ((c == k) || (c == l)) ≡ true → starts_name c ≡ true
 two_start k l h i a b c e = ⊎_elim (letter_starts k h a c) (letter_starts l i b c) (or_parts (c == k) (c == l) e)
 
 pub prefix_starts : (cs : List ℕ) → begins is_prefix_letter cs ≡ true → begins starts_name cs ≡ true
@@ -593,7 +664,8 @@ unfolding begins_significant
 return_of [] = refl
 return_of (d ∷ t) = refl
 
-other_of : (c : ℕ) (t : List ℕ) → (c == 35) ≡ false → (c == 10) ≡ false → (c == 13) ≡ false → begins_significant (c ∷ t) ≡ not (is_blank_char c)
+other_of : (c : ℕ) (t : List ℕ) → (c == 35) ≡ false → (c == 10) ≡ false → (c == 13) ≡ false
+    → begins_significant (c ∷ t) ≡ not (is_blank_char c)
 unfolding begins_significant
 other_of c [] h f r = rw (h, f) (both (is_blank_char c))
   where
@@ -612,11 +684,15 @@ significant_hash cs l c e f h = sym (ap begins_significant (significant_head cs 
 pub significant_feed : (cs l : List ℕ) (c : ℕ) → l ≡ cs → Some c ≡ slice_get l 0 → c ≡ 10 → false ≡ begins_significant cs
 significant_feed cs l c e f h = sym (ap begins_significant (significant_head cs l c e f ∙ ap (λ x. x ∷ drop 1 cs) h) ∙ feed_of (drop 1 cs))
 
-pub significant_other : (cs l : List ℕ) (c : ℕ) → l ≡ cs → Some c ≡ slice_get l 0 → eqb c 35 ≡ false → eqb c 10 ≡ false → eqb c 13 ≡ false → not (is_blank_char c) ≡ begins_significant cs
+pub significant_other : (cs l : List ℕ) (c : ℕ) → l ≡ cs → Some c ≡ slice_get l 0 → eqb c 35 ≡ false → eqb c 10 ≡ false → eqb c 13 ≡ false
+    → not (is_blank_char c) ≡ begins_significant cs
 significant_other cs l c e f h i r = sym (ap begins_significant (significant_head cs l c e f) ∙ other_of c (drop 1 cs) h i r)
 
-pub significant_return : (cs l : List ℕ) (c : ℕ) → l ≡ cs → Some c ≡ slice_get l 0 → c ≡ 13 → not (begins (λ d. d == 10) (drop 1 l)) ≡ begins_significant cs
-significant_return cs l c e f r = ap (λ t. not (begins (λ d. d == 10) (drop 1 t))) e ∙ sym (ap begins_significant (significant_head cs l c e f ∙ ap (λ x. x ∷ drop 1 cs) r) ∙ return_of (drop 1 cs))
+pub significant_return : (cs l : List ℕ) (c : ℕ) → l ≡ cs → Some c ≡ slice_get l 0 → c ≡ 13
+    → not (begins (λ d. d == 10) (drop 1 l)) ≡ begins_significant cs
+significant_return cs l c e f r = ap (λ t. not (begins (λ d. d == 10) (drop 1 t))) e
+    ∙ sym (ap begins_significant (significant_head cs l c e f ∙ ap (λ x. x ∷ drop 1 cs) r) ∙ return_of (drop 1 cs))
 
-pub other_by : (cs : List ℕ) (c : ℕ) → slice_get cs 0 ≡ Some c → starts_name c ≡ false → is_blank_char c ≡ false → eqb c 35 ≡ false → eqb c 10 ≡ false → eqb c 13 ≡ false → eqb c 92 ≡ false → begins starts_other cs ≡ true
+pub other_by : (cs : List ℕ) (c : ℕ) → slice_get cs 0 ≡ Some c → starts_name c ≡ false → is_blank_char c ≡ false → eqb c 35 ≡ false
+    → eqb c 10 ≡ false → eqb c 13 ≡ false → eqb c 92 ≡ false → begins starts_other cs ≡ true
 other_by cs c e s b h f r l = begins_by starts_other cs c e (rw (s, b, h, f, r, l) refl)

@@ -2,11 +2,13 @@
 --
 -- Carries: ends_by_join, open_literal, opens_string. On: Units, StringBest,
 -- StringLongest, Best and 1 more.
-use Rattle.std.proofs.Common.{◌≡◌, ℕ, Bool, true, false, ◌&&◌, ◌||◌, ◌==◌, not, List, [], ◌∷◌, drop, take, refl, sym, ◌∙◌, ap, ⊎_elim, if◌then◌else◌, Option, Some, None, is_some}
+use Rattle.std.proofs.Common.{◌≡◌, ℕ, Bool, true, false, ◌&&◌, ◌||◌, ◌==◌, not, List, [], ◌∷◌, drop, take, refl, sym, ◌∙◌, ap, ⊎_elim}
+use Rattle.std.proofs.Common.{if◌then◌else◌, Option, Some, None, is_some}
 use Rattle.std.specs.Prelude.{IfSome, IfNone}
 use Rattle.std.specs.Str.{bytes_eq}
 use Rattle.pylex_lexeme.specs.Chars.{begins, is_comment_part}
-use Rattle.pylex_lexeme.specs.Strings.{units, is_unit, no_units, is_prefix, begins_quote, begins_three, after_prefix, opens_string, opens_triple}
+use Rattle.pylex_lexeme.specs.Strings.{units, is_unit, no_units, is_prefix, begins_quote, begins_three, after_prefix, opens_string}
+use Rattle.pylex_lexeme.specs.Strings.{opens_triple}
 use Rattle.pylex_lexeme.specs.Lexemes.{is_line_end, is_join, ends_by_join, is_joined, is_open_string}
 use Rattle.pylex_lexeme.specs.Lengths.{unit_len, Opens, begins_quotes, begins_join}
 use Rattle.pylex_lexeme.proofs.Cases.{and_parts, bool_cases}
@@ -35,7 +37,8 @@ units_step a t =
     (λ (h : (a == 92) ≡ false). rw (units_plain a t h, h) refl)
     (bool_cases (a == 92))
   where
-    at_slash : (a : ℕ) (t : List ℕ) → (a == 92) ≡ true → units (a ∷ t) ≡ take (unit_len (a ∷ t)) (a ∷ t) ∷ units (drop (unit_len (a ∷ t)) (a ∷ t))
+    at_slash : (a : ℕ) (t : List ℕ) → (a == 92) ≡ true → units (a ∷ t) ≡ take (unit_len (a ∷ t)) (a ∷ t) ∷ units
+        (drop (unit_len (a ∷ t)) (a ∷ t))
     at_slash a [] h = rw h refl
     at_slash a (b ∷ []) h = rw (h, and_false (b == 13) false refl) refl
     at_slash a (b ∷ c ∷ s) h =
@@ -60,12 +63,14 @@ end_one : (b : ℕ) → is_line_end (b ∷ []) ≡ (b == 10)
 unfolding is_line_end
 end_one b =
     ⊎_elim (λ (h : (b == 10) ≡ true). rw h refl)
-    (λ (h : (b == 10) ≡ false). ⊎_elim (λ (g : (b == 13) ≡ true). rw (h, g) refl) (λ (g : (b == 13) ≡ false). rw (h, g) refl) (bool_cases (b == 13)))
+    (λ (h : (b == 10) ≡ false). ⊎_elim (λ (g : (b == 13) ≡ true). rw (h, g) refl)
+    (λ (g : (b == 13) ≡ false). rw (h, g) refl) (bool_cases (b == 13)))
     (bool_cases (b == 10))
 
 end_two : (b c : ℕ) → ((b == 13) && (c == 10)) ≡ true → is_line_end (b ∷ c ∷ []) ≡ true
 unfolding is_line_end
-end_two b c e = let p = and_parts (b == 13) (c == 10) e in or_true (bytes_eq (b ∷ c ∷ []) (10 ∷ [])) (bytes_eq (b ∷ c ∷ []) (13 ∷ 10 ∷ [])) (rw (p.0, p.1) refl)
+end_two b c e = let p = and_parts (b == 13) (c == 10) e in
+    or_true (bytes_eq (b ∷ c ∷ []) (10 ∷ [])) (bytes_eq (b ∷ c ∷ []) (13 ∷ 10 ∷ [])) (rw (p.0, p.1) refl)
 
 first_unit_joins : (a : ℕ) (t : List ℕ) → is_join (take (unit_len (a ∷ t)) (a ∷ t)) ≡ begins_join (a ∷ t)
 unfolding unit_len is_join is_line_end
@@ -88,7 +93,9 @@ no_units_end [] = refl
 no_units_end (c ∷ t) = nil_units (c ∷ t)
 
 -- One step over the units of a text.
-step : (q : ℕ) (cs : List ℕ) → IsQuote q → begins (λ c. c == q) cs ≡ false → begins is_comment_part cs ≡ true → ends_by_join q (units cs) ≡ (if not (begins (λ c. true) (drop (unit_len cs) cs)) then begins_join cs else ends_by_join q (units (drop (unit_len cs) cs)))
+step : (q : ℕ) (cs : List ℕ) → IsQuote q → begins (λ c. c == q) cs ≡ false → begins is_comment_part cs ≡ true
+    → ends_by_join q (units cs) ≡ (if not (begins (λ c. true) (drop (unit_len cs) cs)) then begins_join cs else ends_by_join q
+    (units (drop (unit_len cs) cs)))
 step q [] k e f = cc
 step q (a ∷ t) k e f =
     let p = and_parts (not (a == 10)) (not (a == 13)) f in
@@ -99,10 +106,12 @@ step q (a ∷ t) k e f =
     let n = no_units_end (drop (unit_len (a ∷ t)) (a ∷ t)) in
     ap (ends_by_join q) (units_step a t) ∙ rw (x, y, z, j, n) refl
 
-pub join_last : (q : ℕ) (cs : List ℕ) → IsQuote q → begins (λ c. c == q) cs ≡ false → begins is_comment_part cs ≡ true → begins (λ c. true) (drop (unit_len cs) cs) ≡ false → begins_join cs ≡ ends_by_join q (units cs)
+pub join_last : (q : ℕ) (cs : List ℕ) → IsQuote q → begins (λ c. c == q) cs ≡ false → begins is_comment_part cs ≡ true
+    → begins (λ c. true) (drop (unit_len cs) cs) ≡ false → begins_join cs ≡ ends_by_join q (units cs)
 join_last q cs k e f g = sym (step q cs k e f ∙ rw g refl)
 
-pub join_step : (q : ℕ) (cs : List ℕ) → IsQuote q → begins (λ c. c == q) cs ≡ false → begins is_comment_part cs ≡ true → begins (λ c. true) (drop (unit_len cs) cs) ≡ true → ends_by_join q (units (drop (unit_len cs) cs)) ≡ ends_by_join q (units cs)
+pub join_step : (q : ℕ) (cs : List ℕ) → IsQuote q → begins (λ c. c == q) cs ≡ false → begins is_comment_part cs ≡ true
+    → begins (λ c. true) (drop (unit_len cs) cs) ≡ true → ends_by_join q (units (drop (unit_len cs) cs)) ≡ ends_by_join q (units cs)
 join_step q cs k e f g = sym (step q cs k e f ∙ rw g refl)
 
 -- Where a string opens.
@@ -113,7 +122,8 @@ opens_by (Some k) cs s n = sym (string_opens k cs s)
 joined_starts : Starts not_quote is_joined
 joined_starts c t e = let p = flip ((c == 39) || (c == 34)) e in rw p refl
 
-pub open_behind : (q n : ℕ) (cs r : List ℕ) → Which q → Opens n cs → r ≡ drop n cs → begins (λ c. c == q) r ≡ true → is_open_string cs ≡ (begins_quotes q r || ends_by_join q (units (drop 1 r)))
+pub open_behind : (q n : ℕ) (cs r : List ℕ) → Which q → Opens n cs → r ≡ drop n cs → begins (λ c. c == q) r ≡ true
+    → is_open_string cs ≡ (begins_quotes q r || ends_by_join q (units (drop 1 r)))
 unfolding is_open_string
 open_behind q n cs r w o e h =
     let i = head_is q r h in
@@ -128,7 +138,8 @@ open_behind q n cs r w o e h =
     joined q t (two e) = rw e refl
 
 -- what begins with a quote stands behind no prefix where no quote does
-at_no_quote : (p : List ℕ → Bool) → p [] ≡ false → Starts not_quote p → (x : Bool) (r : List ℕ) → (x && begins_quote r) ≡ false → (x && p r) ≡ false
+at_no_quote : (p : List ℕ → Bool) → p [] ≡ false → Starts not_quote p → (x : Bool) (r : List ℕ)
+    → (x && begins_quote r) ≡ false → (x && p r) ≡ false
 at_no_quote p z s false r e = refl
 at_no_quote p z s true [] e = z
 at_no_quote p z s true (c ∷ t) e = s c t (rw e refl)
@@ -142,7 +153,8 @@ none_of false false true e = cc
 no_prefix : (p : List ℕ → Bool) → p [] ≡ false → Starts not_quote p → (cs : List ℕ) → opens_string cs ≡ false → after_prefix p cs ≡ false
 unfolding opens_string
 no_prefix p z s cs e =
-    let h = none_of (is_prefix [] && begins_quote cs) (is_prefix (take 1 cs) && begins_quote (drop 1 cs)) (is_prefix (take 2 cs) && begins_quote (drop 2 cs)) e in
+    let h = none_of (is_prefix [] && begins_quote cs) (is_prefix (take 1 cs) && begins_quote (drop 1 cs))
+    (is_prefix (take 2 cs) && begins_quote (drop 2 cs)) e in
     let a = at_no_quote p z s (is_prefix []) cs h.0 in
     let b = at_no_quote p z s (is_prefix (take 1 cs)) (drop 1 cs) h.1 in
     let c = at_no_quote p z s (is_prefix (take 2 cs)) (drop 2 cs) h.2 in

@@ -1,7 +1,8 @@
 -- A reader of a literal goes past a run of plain characters as past each of them.
 --
 -- Carries: close_single, close_triple. On: Triples, Cases, Runs, Units and 1 more.
-use Rattle.std.proofs.Common.{◌≡◌, ℕ, ◌≤◌, Bool, true, false, ◌==◌, not, List, [], ◌∷◌, length, drop, refl, sym, ◌∙◌, ap, arith, ⊎_elim, nat_lt, length-drop, ◌-◌}
+use Rattle.std.proofs.Common.{◌≡◌, ℕ, ◌≤◌, Bool, true, false, ◌==◌, not, List, [], ◌∷◌, length, drop, refl, sym, ◌∙◌, ap, arith, ⊎_elim}
+use Rattle.std.proofs.Common.{nat_lt, length-drop, ◌-◌}
 use Rattle.std.specs.List.{prefix_len}
 use Rattle.pylex_lexeme.specs.declared.string.Quote.{Quote}
 use Rattle.pylex_lexeme.specs.declared.string.Quote.TheVariants.{Single, Double}
@@ -42,9 +43,12 @@ other_is m a h =
     of Double h k = h
 
 pub run_shorter : (cs p : List ℕ) → p ≡ after_run is_plain_char cs → length p ≤ length cs
-run_shorter cs p e = let l : length (after_run is_plain_char cs) ≡ length cs - prefix_len is_plain_char cs = length-drop (prefix_len is_plain_char cs) cs in let k : length p ≡ length (after_run is_plain_char cs) = ap length e in omega (arith, l, k)
+run_shorter cs p e = let l : length (after_run is_plain_char cs) ≡ length cs - prefix_len is_plain_char cs =
+    length-drop (prefix_len is_plain_char cs) cs in let k : length p ≡ length (after_run is_plain_char cs) =
+    ap length e in omega (arith, l, k)
 
-single_run : (m : Quote) (cs : List ℕ) → left_of (single_len (quote_char m) (after_run is_plain_char cs)) (after_run is_plain_char cs) ≡ left_of (single_len (quote_char m) cs) cs
+single_run : (m : Quote) (cs : List ℕ) → left_of (single_len (quote_char m) (after_run is_plain_char cs)) (after_run is_plain_char cs) ≡
+    left_of (single_len (quote_char m) cs) cs
 single_run m [] = refl
 single_run m (a ∷ t) =
     ⊎_elim
@@ -57,7 +61,8 @@ single_run m (a ∷ t) =
     (λ (h : is_plain_char a ≡ false). ap (λ u. left_of (single_len (quote_char m) u) u) (run_off is_plain_char a t h))
     (bool_cases (is_plain_char a))
 
-triple_run : (m : Quote) (cs : List ℕ) → left_of (triple_len (quote_char m) (after_run is_plain_char cs)) (after_run is_plain_char cs) ≡ left_of (triple_len (quote_char m) cs) cs
+triple_run : (m : Quote) (cs : List ℕ) → left_of (triple_len (quote_char m) (after_run is_plain_char cs)) (after_run is_plain_char cs) ≡
+    left_of (triple_len (quote_char m) cs) cs
 triple_run m [] = refl
 triple_run m (a ∷ t) =
     ⊎_elim
@@ -71,8 +76,10 @@ triple_run m (a ∷ t) =
     (λ (h : is_plain_char a ≡ false). ap (λ u. left_of (triple_len (quote_char m) u) u) (run_off is_plain_char a t h))
     (bool_cases (is_plain_char a))
 
-pub single_past : (m : Quote) (cs p : List ℕ) → p ≡ after_run is_plain_char cs → left_of (single_len (quote_char m) p) p ≡ left_of (single_len (quote_char m) cs) cs
+pub single_past : (m : Quote) (cs p : List ℕ) → p ≡ after_run is_plain_char cs → left_of (single_len (quote_char m) p) p ≡ left_of
+    (single_len (quote_char m) cs) cs
 single_past m cs p e = ap (λ u. left_of (single_len (quote_char m) u) u) e ∙ single_run m cs
 
-pub triple_past : (m : Quote) (cs p : List ℕ) → p ≡ after_run is_plain_char cs → left_of (triple_len (quote_char m) p) p ≡ left_of (triple_len (quote_char m) cs) cs
+pub triple_past : (m : Quote) (cs p : List ℕ) → p ≡ after_run is_plain_char cs → left_of (triple_len (quote_char m) p) p ≡ left_of
+    (triple_len (quote_char m) cs) cs
 triple_past m cs p e = ap (λ u. left_of (triple_len (quote_char m) u) u) e ∙ triple_run m cs

@@ -1,21 +1,24 @@
 -- The longest string behind a prefix.
 --
 -- Carries: prefix_and_quoted, quoted. On: StringBest, Best, Longest, Parts and 2 more.
-use Rattle.std.proofs.Common.{◌≡◌, ℕ, ◌+◌, ◌≤◌, ◌<◌, Bool, true, false, ◌&&◌, ◌||◌, ◌==◌, List, [], ◌∷◌, length, drop, take, map, refl, sym, ◌∙◌, ap, subst, arith, zero, suc, ⊎_elim, ltb}
+use Rattle.std.proofs.Common.{◌≡◌, ℕ, ◌+◌, ◌≤◌, ◌<◌, Bool, true, false, ◌&&◌, ◌||◌, ◌==◌, List, [], ◌∷◌, length, drop, take, map, refl, sym}
+use Rattle.std.proofs.Common.{◌∙◌, ap, subst, arith, zero, suc, ⊎_elim, ltb}
 use Rattle.std.specs.List.{list_all, list_any}
 use Rattle.std.specs.Str.{bytes_eq}
 use Rattle.std.proofs.lemmas.Bool.{eqb-true}
 use Rattle.std.proofs.lemmas.Bool.Decides.{nat_tests}
 use Rattle.pylex_lexeme.specs.Chars.{begins}
 use Rattle.pylex_lexeme.specs.Numbers.{split_any}
-use Rattle.pylex_lexeme.specs.Strings.{is_prefix, is_single_string, is_triple_string, begins_quote, begins_three, opens_triple, opens_string, after_prefix, counts_as_string, lower, prefixes}
+use Rattle.pylex_lexeme.specs.Strings.{is_prefix, is_single_string, is_triple_string, begins_quote, begins_three, opens_triple}
+use Rattle.pylex_lexeme.specs.Strings.{opens_string, after_prefix, counts_as_string, lower, prefixes}
 use Rattle.pylex_lexeme.specs.Lengths.{shift, single_len, triple_len, begins_quotes, quoted_len, Opens, Closed, longest}
 use Rattle.pylex_lexeme.proofs.Cases.{and_parts, bool_cases}
 use Rattle.pylex_lexeme.proofs.Fronts.Longest.{IsBest, longest_within_is, longest_within_none}
 use Rattle.pylex_lexeme.proofs.Fronts.Best.{Reads, Starts, and_false}
 use Rattle.pylex_lexeme.proofs.Numbers.Parts.{ReadsAfter, then_reads}
 use Rattle.pylex_lexeme.proofs.Fronts.Taking.{drop_drop}
-use Rattle.pylex_lexeme.proofs.Strings.StringBest.{not_quote, Which, one, two, which, single_either, triple_either, single_starts, triple_starts, quote_starts, three_starts, single_quoted, triple_quoted, no_prefix_one}
+use Rattle.pylex_lexeme.proofs.Strings.StringBest.{not_quote, Which, one, two, which, single_either, triple_either, single_starts}
+use Rattle.pylex_lexeme.proofs.Strings.StringBest.{triple_starts, quote_starts, three_starts, single_quoted, triple_quoted, no_prefix_one}
 
 pub eq_short : (x y o : ℕ) (t : List ℕ) → bytes_eq (x ∷ y ∷ t) (o ∷ []) ≡ false
 eq_short x y o t = ⊎_elim (λ (h : (x == o) ≡ true). rw h refl) (λ (h : (x == o) ≡ false). rw h refl) (bool_cases (x == o))
@@ -25,13 +28,33 @@ eq_second x y o p t s e = ⊎_elim (λ (h : (x == o) ≡ true). rw (h, e) refl) 
 
 eq_third : (x y z o p : ℕ) (t : List ℕ) → bytes_eq (x ∷ y ∷ z ∷ t) (o ∷ p ∷ []) ≡ false
 eq_third x y z o p t =
-    ⊎_elim (λ (h : (x == o) ≡ true). ⊎_elim (λ (g : (y == p) ≡ true). rw (h, g) refl) (λ (g : (y == p) ≡ false). rw (h, g) refl) (bool_cases (y == p))) (λ (h : (x == o) ≡ false). rw h refl) (bool_cases (x == o))
+    ⊎_elim (λ (h : (x == o) ≡ true). ⊎_elim (λ (g : (y == p) ≡ true). rw (h, g) refl) (λ (g : (y == p) ≡ false). rw (h, g) refl)
+    (bool_cases (y == p))) (λ (h : (x == o) ≡ false). rw h refl) (bool_cases (x == o))
 
-none_two : (x y : ℕ) (t : List ℕ) → (y == 114) ≡ false → (y == 98) ≡ false → (y == 102) ≡ false → list_any (bytes_eq (x ∷ y ∷ t)) prefixes ≡ false
-none_two x y t r b f = rw (eq_short x y 114 t, eq_short x y 117 t, eq_short x y 98 t, eq_short x y 102 t, eq_second x y 98 114 t [] r, eq_second x y 114 98 t [] b, eq_second x y 102 114 t [] r, eq_second x y 114 102 t [] f) refl
+none_two : (x y : ℕ) (t : List ℕ) → (y == 114) ≡ false → (y == 98) ≡ false → (y == 102) ≡ false
+    → list_any (bytes_eq (x ∷ y ∷ t)) prefixes ≡ false
+none_two x y t r b f = rw (
+  eq_short x y 114 t,
+  eq_short x y 117 t,
+  eq_short x y 98 t,
+  eq_short x y 102 t,
+  eq_second x y 98 114 t [] r,
+  eq_second x y 114 98 t [] b,
+  eq_second x y 102 114 t [] r,
+  eq_second x y 114 102 t [] f,
+) refl
 
 none_three : (x y z : ℕ) (t : List ℕ) → list_any (bytes_eq (x ∷ y ∷ z ∷ t)) prefixes ≡ false
-none_three x y z t = rw (eq_short x y 114 (z ∷ t), eq_short x y 117 (z ∷ t), eq_short x y 98 (z ∷ t), eq_short x y 102 (z ∷ t), eq_third x y z 98 114 t, eq_third x y z 114 98 t, eq_third x y z 102 114 t, eq_third x y z 114 102 t) refl
+none_three x y z t = rw (
+  eq_short x y 114 (z ∷ t),
+  eq_short x y 117 (z ∷ t),
+  eq_short x y 98 (z ∷ t),
+  eq_short x y 102 (z ∷ t),
+  eq_third x y z 98 114 t,
+  eq_third x y z 114 98 t,
+  eq_third x y z 102 114 t,
+  eq_third x y z 114 102 t,
+) refl
 
 pub no_prefix_two : (a q : ℕ) (t : List ℕ) → Which q → is_prefix (a ∷ q ∷ t) ≡ false
 unfolding is_prefix
@@ -122,14 +145,19 @@ pick_third x p y q z r e f g = rw (e, f, g) (rw (and_false x false refl, and_fal
 -- only the prefix before the quote counts
 pub at_prefix : (p : List ℕ → Bool) → Starts not_quote p → (n : ℕ) (cs : List ℕ) → Opens n cs → after_prefix p cs ≡ p (drop n cs)
 at_prefix p s zero [] o = absurd (let h : false ≡ true = o.quote in cc)
-at_prefix p s zero (q ∷ t) o = pick_first (is_prefix []) (p (q ∷ t)) (is_prefix (take 1 (q ∷ t))) (p (drop 1 (q ∷ t))) (is_prefix (take 2 (q ∷ t))) (p (drop 2 (q ∷ t))) nil_prefix (no_prefix_one q [] (which q o.quote)) (no_prefix_one q (take 1 t) (which q o.quote))
+at_prefix p s zero (q ∷ t) o = pick_first (is_prefix []) (p (q ∷ t)) (is_prefix (take 1 (q ∷ t))) (p (drop 1 (q ∷ t)))
+    (is_prefix (take 2 (q ∷ t))) (p (drop 2 (q ∷ t))) nil_prefix (no_prefix_one q [] (which q o.quote))
+    (no_prefix_one q (take 1 t) (which q o.quote))
 at_prefix p s (suc zero) [] o = absurd (let h : false ≡ true = o.quote in cc)
 at_prefix p s (suc zero) (a ∷ []) o = absurd (let h : false ≡ true = o.quote in cc)
-at_prefix p s (suc zero) (a ∷ q ∷ t) o = pick_second (is_prefix []) (p (a ∷ q ∷ t)) (is_prefix (a ∷ [])) (p (q ∷ t)) (is_prefix (a ∷ q ∷ [])) (p t) (s a (q ∷ t) (letter a [] o.«prefix»)) o.«prefix» (no_prefix_two a q [] (which q o.quote))
+at_prefix p s (suc zero) (a ∷ q ∷ t) o = pick_second (is_prefix []) (p (a ∷ q ∷ t)) (is_prefix (a ∷ [])) (p (q ∷ t))
+    (is_prefix (a ∷ q ∷ [])) (p t) (s a (q ∷ t) (letter a [] o.«prefix»)) o.«prefix» (no_prefix_two a q [] (which q o.quote))
 at_prefix p s (suc (suc zero)) [] o = absurd (let h : false ≡ true = o.quote in cc)
 at_prefix p s (suc (suc zero)) (a ∷ []) o = absurd (let h : false ≡ true = o.quote in cc)
 at_prefix p s (suc (suc zero)) (a ∷ b ∷ []) o = absurd (let h : false ≡ true = o.quote in cc)
-at_prefix p s (suc (suc zero)) (a ∷ b ∷ q ∷ t) o = pick_third (is_prefix []) (p (a ∷ b ∷ q ∷ t)) (is_prefix (a ∷ [])) (p (b ∷ q ∷ t)) (is_prefix (a ∷ b ∷ [])) (p (q ∷ t)) (s a (b ∷ q ∷ t) (letter a (b ∷ []) o.«prefix»)) (s b (q ∷ t) (letter_two a b [] o.«prefix»)) o.«prefix»
+at_prefix p s (suc (suc zero)) (a ∷ b ∷ q ∷ t) o = pick_third (is_prefix []) (p (a ∷ b ∷ q ∷ t)) (is_prefix (a ∷ [])) (p (b ∷ q ∷ t))
+    (is_prefix (a ∷ b ∷ [])) (p (q ∷ t)) (s a (b ∷ q ∷ t) (letter a (b ∷ []) o.«prefix»))
+    (s b (q ∷ t) (letter_two a b [] o.«prefix»)) o.«prefix»
 at_prefix p s (suc (suc (suc n))) cs o = absurd (let h = o.small in omega arith)
 
 pub triple_opens : (n : ℕ) (cs : List ℕ) → Opens n cs → opens_triple cs ≡ begins_three (drop n cs)
@@ -158,7 +186,12 @@ quotes_three q (b ∷ c ∷ t) (two e) = rw e refl
 -- two tests that agree
 pub reads_same : (p q : List ℕ → Bool) (cs : List ℕ) (n : ℕ) → ((t : List ℕ) → p t ≡ q t) → Reads p cs n → Reads q cs n
 reads_same p q cs zero f r = λ j h. sym (f (take j cs)) ∙ r j h
-reads_same p q cs (suc n) f r = record { within = r.within; passes = sym (f (take (suc n) cs)) ∙ r.passes; longest = λ j h i. sym (f (take j cs)) ∙ r.longest j h i }
+reads_same p q cs (suc n) f r = record {
+  within = r.within;
+  passes = sym (f (take (suc n) cs)) ∙ r.passes;
+  longest =
+      λ j h i. sym (f (take j cs)) ∙ r.longest j h i;
+}
 
 counts_three : (cs t : List ℕ) → opens_triple cs ≡ true → split_any is_prefix triple_either t ≡ counts_as_string cs t
 unfolding counts_as_string is_triple_string
@@ -168,33 +201,43 @@ counts_one : (cs t : List ℕ) → opens_triple cs ≡ false → split_any is_pr
 unfolding counts_as_string is_single_string
 counts_one cs t e = rw e refl
 
-string_triple : (q n : ℕ) (cs t : List ℕ) → Which q → Opens n cs → drop n cs ≡ q ∷ t → begins_quotes q (q ∷ t) ≡ true → Reads (counts_as_string cs) cs (shift n (shift 3 (triple_len q (drop 3 (q ∷ t)))))
+string_triple : (q n : ℕ) (cs t : List ℕ) → Which q → Opens n cs → drop n cs ≡ q ∷ t → begins_quotes q (q ∷ t) ≡ true
+    → Reads (counts_as_string cs) cs (shift n (shift 3 (triple_len q (drop 3 (q ∷ t)))))
 string_triple q n cs t w o e h =
     let x : opens_triple cs ≡ true = triple_opens n cs o ∙ ap begins_three e ∙ quotes_three q t w ∙ h in
     let b = prefix_best n cs o in
-    reads_same (split_any is_prefix triple_either) (counts_as_string cs) cs _ (λ u. counts_three cs u x) (after_shift (split_any is_prefix triple_either) cs n (shift 3 (triple_len q (drop 3 (q ∷ t))))
-    (then_reads is_prefix triple_either not_quote cs n (shift 3 (triple_len q (drop 3 (q ∷ t)))) b (prefix_letters (take n cs) b.passes) triple_starts
+    reads_same (split_any is_prefix triple_either) (counts_as_string cs) cs _ (λ u. counts_three cs u x)
+    (after_shift (split_any is_prefix triple_either) cs n (shift 3 (triple_len q (drop 3 (q ∷ t))))
+    (then_reads is_prefix triple_either not_quote cs n (shift 3 (triple_len q (drop 3 (q ∷ t)))) b
+    (prefix_letters (take n cs) b.passes) triple_starts
     (subst (λ (u : List ℕ). Reads triple_either u (shift 3 (triple_len q (drop 3 (q ∷ t))))) (sym e) (three t h))))
   where
     three : (t : List ℕ) → begins_quotes q (q ∷ t) ≡ true → Reads triple_either (q ∷ t) (shift 3 (triple_len q (drop 3 (q ∷ t))))
     three [] h = absurd (let p = and_parts ((q == q) && false) false h in let z : false ≡ true = p.1 in cc)
     three (b ∷ []) h = absurd (let p = and_parts ((q == q) && (b == q)) false h in let z : false ≡ true = p.1 in cc)
-    three (b ∷ c ∷ t) h = let p = and_parts ((q == q) && (b == q)) (c == q) h in let r = and_parts (q == q) (b == q) p.0 in triple_quoted q b c t w r.1 p.1
+    three (b ∷ c ∷ t) h = let p = and_parts ((q == q) && (b == q)) (c == q) h in let r = and_parts (q == q) (b == q) p.0 in
+        triple_quoted q b c t w r.1 p.1
 
-string_single : (q n : ℕ) (cs t : List ℕ) → Which q → Opens n cs → drop n cs ≡ q ∷ t → begins_quotes q (q ∷ t) ≡ false → Reads (counts_as_string cs) cs (shift n (shift 1 (single_len q t)))
+string_single : (q n : ℕ) (cs t : List ℕ) → Which q → Opens n cs → drop n cs ≡ q ∷ t → begins_quotes q (q ∷ t) ≡ false
+    → Reads (counts_as_string cs) cs (shift n (shift 1 (single_len q t)))
 string_single q n cs t w o e h =
     let x : opens_triple cs ≡ false = triple_opens n cs o ∙ ap begins_three e ∙ quotes_three q t w ∙ h in
     let b = prefix_best n cs o in
-    reads_same (split_any is_prefix single_either) (counts_as_string cs) cs _ (λ u. counts_one cs u x) (after_shift (split_any is_prefix single_either) cs n (shift 1 (single_len q t))
+    reads_same (split_any is_prefix single_either) (counts_as_string cs) cs _ (λ u. counts_one cs u x)
+    (after_shift (split_any is_prefix single_either) cs n (shift 1 (single_len q t))
     (then_reads is_prefix single_either not_quote cs n (shift 1 (single_len q t)) b (prefix_letters (take n cs) b.passes) single_starts
     (subst (λ (u : List ℕ). Reads single_either u (shift 1 (single_len q t))) (sym e) (single_quoted q t w))))
 
-pub string_reads : (q n : ℕ) (cs t : List ℕ) → Which q → Opens n cs → drop n cs ≡ q ∷ t → Reads (counts_as_string cs) cs (shift n (quoted_len q (drop n cs)))
+pub string_reads : (q n : ℕ) (cs t : List ℕ) → Which q → Opens n cs → drop n cs ≡ q ∷ t
+    → Reads (counts_as_string cs) cs (shift n (quoted_len q (drop n cs)))
 unfolding quoted_len
 string_reads q n cs t w o e =
     ⊎_elim
-    (λ (h : begins_quotes q (q ∷ t) ≡ true). let k : quoted_len q (drop n cs) ≡ shift 3 (triple_len q (drop 3 (q ∷ t))) = ap (quoted_len q) e ∙ rw h refl in subst (λ (m : ℕ). Reads (counts_as_string cs) cs (shift n m)) (sym k) (string_triple q n cs t w o e h))
-    (λ (h : begins_quotes q (q ∷ t) ≡ false). let k : quoted_len q (drop n cs) ≡ shift 1 (single_len q t) = ap (quoted_len q) e ∙ rw h refl in subst (λ (m : ℕ). Reads (counts_as_string cs) cs (shift n m)) (sym k) (string_single q n cs t w o e h))
+    (λ (h : begins_quotes q (q ∷ t) ≡ true). let k : quoted_len q (drop n cs) ≡ shift 3 (triple_len q (drop 3 (q ∷ t))) =
+    ap (quoted_len q) e ∙ rw h refl in subst (λ (m : ℕ). Reads (counts_as_string cs) cs (shift n m)) (sym k)
+    (string_triple q n cs t w o e h))
+    (λ (h : begins_quotes q (q ∷ t) ≡ false). let k : quoted_len q (drop n cs) ≡ shift 1 (single_len q t) = ap (quoted_len q) e
+    ∙ rw h refl in subst (λ (m : ℕ). Reads (counts_as_string cs) cs (shift n m)) (sym k) (string_single q n cs t w o e h))
     (bool_cases (begins_quotes q (q ∷ t)))
 
 pub longest_reads : (p : List ℕ → Bool) (cs : List ℕ) (n : ℕ) → Reads p cs n → longest p cs ≡ n
@@ -204,25 +247,31 @@ longest_reads p cs (suc n) r = longest_within_is p cs (length cs) (suc n) r.with
 
 -- closing after some characters
 pub closed_shift : (n m : ℕ) (b : Bool) (cs mid new : List ℕ) → mid ≡ drop n cs → Closed m b mid new → Closed (shift n m) b cs new
-closed_shift n zero b cs mid new e k = record { found = k.found; rest = λ h. absurd (let z : b ≡ false = k.found in let y : true ≡ false = sym h ∙ z in cc) }
+closed_shift n zero b cs mid new e k =
+    record { found = k.found; rest = λ h. absurd (let z : b ≡ false = k.found in let y : true ≡ false = sym h ∙ z in cc) }
 closed_shift n (suc m) b cs mid new e k =
     let p : ltb 0 (suc m) ≡ true = grind (arith, nat_tests) in
     let r : ltb 0 (n + suc m) ≡ true = grind (arith, nat_tests) in
     record { found = k.found ∙ p ∙ sym r; rest = λ h. k.rest h ∙ ap (drop (suc m)) e ∙ drop_drop n (suc m) cs }
 
-pub quoted_triple : (q : ℕ) (cs mid new : List ℕ) (b : Bool) → begins_quotes q cs ≡ true → mid ≡ drop 3 cs → Closed (triple_len q mid) b mid new → Closed (quoted_len q cs) b cs new
+pub quoted_triple : (q : ℕ) (cs mid new : List ℕ) (b : Bool) → begins_quotes q cs ≡ true → mid ≡ drop 3 cs
+    → Closed (triple_len q mid) b mid new → Closed (quoted_len q cs) b cs new
 unfolding quoted_len
-quoted_triple q cs mid new b h e k = rw h (closed_shift 3 (triple_len q (drop 3 cs)) b cs mid new e (subst (λ (u : List ℕ). Closed (triple_len q u) b mid new) e k))
+quoted_triple q cs mid new b h e k =
+    rw h (closed_shift 3 (triple_len q (drop 3 cs)) b cs mid new e (subst (λ (u : List ℕ). Closed (triple_len q u) b mid new) e k))
 
-pub quoted_single : (q : ℕ) (cs mid new : List ℕ) (b : Bool) → begins_quotes q cs ≡ false → mid ≡ drop 1 cs → Closed (single_len q mid) b mid new → Closed (quoted_len q cs) b cs new
+pub quoted_single : (q : ℕ) (cs mid new : List ℕ) (b : Bool) → begins_quotes q cs ≡ false → mid ≡ drop 1 cs
+    → Closed (single_len q mid) b mid new → Closed (quoted_len q cs) b cs new
 unfolding quoted_len
-quoted_single q cs mid new b h e k = rw h (closed_shift 1 (single_len q (drop 1 cs)) b cs mid new e (subst (λ (u : List ℕ). Closed (single_len q u) b mid new) e k))
+quoted_single q cs mid new b h e k =
+    rw h (closed_shift 1 (single_len q (drop 1 cs)) b cs mid new e (subst (λ (u : List ℕ). Closed (single_len q u) b mid new) e k))
 
 pub head_is : (q : ℕ) (r : List ℕ) → begins (λ c. c == q) r ≡ true → r ≡ q ∷ drop 1 r
 head_is q [] e = cc
 head_is q (c ∷ t) e = ap (λ d. d ∷ t) (eqb-true c q e)
 
-pub string_closed : (q n : ℕ) (cs mid new : List ℕ) (b : Bool) → Which q → Opens n cs → mid ≡ drop n cs → begins (λ c. c == q) mid ≡ true → Closed (quoted_len q mid) b mid new → Closed (longest (counts_as_string cs) cs) b cs new
+pub string_closed : (q n : ℕ) (cs mid new : List ℕ) (b : Bool) → Which q → Opens n cs → mid ≡ drop n cs → begins (λ c. c == q) mid ≡ true
+    → Closed (quoted_len q mid) b mid new → Closed (longest (counts_as_string cs) cs) b cs new
 string_closed q n cs mid new b w o e h k =
     let d : drop n cs ≡ q ∷ drop 1 (drop n cs) = head_is q (drop n cs) (ap (begins (λ c. c == q)) (sym e) ∙ h) in
     let l = longest_reads (counts_as_string cs) cs (shift n (quoted_len q (drop n cs))) (string_reads q n cs (drop 1 (drop n cs)) w o d) in

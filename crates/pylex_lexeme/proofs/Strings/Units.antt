@@ -1,7 +1,8 @@
 -- The units of a literal, and where it is closed.
 --
 -- Carries: close_single, close_triple, ends_by_join. On: Best, Cases, Longest, Taking and 1 more.
-use Rattle.std.proofs.Common.{◌≡◌, ℕ, ◌+◌, ◌-◌, ◌≤◌, ◌<◌, Bool, true, false, ◌&&◌, ◌||◌, ◌==◌, not, List, [], ◌∷◌, length, drop, take, refl, sym, ◌∙◌, ap, arith, zero, suc, ⊎_elim, ltb, Option, Some, None, if◌then◌else◌, length-drop}
+use Rattle.std.proofs.Common.{◌≡◌, ℕ, ◌+◌, ◌-◌, ◌≤◌, ◌<◌, Bool, true, false, ◌&&◌, ◌||◌, ◌==◌, not, List, [], ◌∷◌, length, drop, take, refl}
+use Rattle.std.proofs.Common.{sym, ◌∙◌, ap, arith, zero, suc, ⊎_elim, ltb, Option, Some, None, if◌then◌else◌, length-drop}
 use Rattle.std.proofs.lemmas.Bool.{cases_lt, eqb-true}
 use Rattle.std.proofs.lemmas.Bool.Decides.{nat_tests}
 use Rattle.pylex_lexeme.specs.Numbers.{is_nil}
@@ -21,7 +22,8 @@ left_of (suc n) cs = Some (drop (suc n) cs)
 
 pub left_shift : (u n : ℕ) (cs : List ℕ) → left_of (shift u n) cs ≡ left_of n (drop u cs)
 left_shift u zero cs = refl
-left_shift u (suc n) cs = let e : u + suc n ≡ suc (u + n) = omega arith in rw e (ap Some (ap (λ i. drop i cs) (sym e) ∙ sym (drop_drop u (suc n) cs)))
+left_shift u (suc n) cs = let e : u + suc n ≡ suc (u + n) = omega arith in
+    rw e (ap Some (ap (λ i. drop i cs) (sym e) ∙ sym (drop_drop u (suc n) cs)))
 
 pub closed_found : (n : ℕ) (cs rest : List ℕ) → Some rest ≡ left_of n cs → Closed n true cs rest
 closed_found zero cs rest e = cc
@@ -32,7 +34,8 @@ closed_none zero cs rest e = record { found = refl; rest = λ h. cc }
 closed_none (suc n) cs rest e = cc
 
 -- a reading after u characters
-pub shift_reads : (p : List ℕ → Bool) (cs : List ℕ) (u n : ℕ) → u ≤ length cs → ((j : ℕ) → j < u → p (take j cs) ≡ false) → ((i : ℕ) → p (take (u + i) cs) ≡ p (take i (drop u cs))) → Reads p (drop u cs) n → Reads p cs (shift u n)
+pub shift_reads : (p : List ℕ → Bool) (cs : List ℕ) (u n : ℕ) → u ≤ length cs → ((j : ℕ) → j < u → p (take j cs) ≡ false)
+    → ((i : ℕ) → p (take (u + i) cs) ≡ p (take i (drop u cs))) → Reads p (drop u cs) n → Reads p cs (shift u n)
 shift_reads p cs u zero l f g r = none
   where
     none : (j : ℕ) → j ≤ length cs → p (take j cs) ≡ false
@@ -74,7 +77,8 @@ nil_units (a ∷ b ∷ []) = ⊎_elim (λ (h : (a == 92) ≡ true). rw h refl) (
 nil_units (a ∷ b ∷ c ∷ t) =
     ⊎_elim
     (λ (h : (a == 92) ≡ true).
-    ⊎_elim (λ (i : ((b == 13) && (c == 10)) ≡ true). rw (h, i) refl) (λ (i : ((b == 13) && (c == 10)) ≡ false). rw (h, i) refl) (bool_cases ((b == 13) && (c == 10))))
+    ⊎_elim (λ (i : ((b == 13) && (c == 10)) ≡ true). rw (h, i) refl) (λ (i : ((b == 13) && (c == 10)) ≡ false). rw (h, i) refl)
+    (bool_cases ((b == 13) && (c == 10))))
     (λ (h : (a == 92) ≡ false). rw h refl)
     (bool_cases (a == 92))
 
@@ -118,10 +122,12 @@ pub record Closer (ends : List (List ℕ) → Bool) (len : List (List ℕ) → �
   pub nothing : len [] ≡ 0
   pub skips : (a : ℕ) (t : List ℕ) (us : List (List ℕ)) → (a == 92) ≡ true → ends ((a ∷ t) ∷ us) ≡ ends us
   pub counts : (a : ℕ) (t : List ℕ) (us : List (List ℕ)) → (a == 92) ≡ true → len ((a ∷ t) ∷ us) ≡ shift (suc (length t)) (len us)
-  pub plain : (a : ℕ) (t : List ℕ) → (a == 92) ≡ false → Reads (λ u. ends (units u)) t (len (units t)) → Reads (λ u. ends (units u)) (a ∷ t) (len (units (a ∷ t)))
+  pub plain : (a : ℕ) (t : List ℕ) → (a == 92) ≡ false → Reads (λ u. ends (units u)) t (len (units t))
+      → Reads (λ u. ends (units u)) (a ∷ t) (len (units (a ∷ t)))
 
 -- after a backslash and one character, or two
-slash_alone : (e : List (List ℕ) → Bool) (l : List (List ℕ) → ℕ) → Closer e l → (a : ℕ) → (a == 92) ≡ true → Reads (λ u. e (units u)) (a ∷ []) (l (units (a ∷ [])))
+slash_alone : (e : List (List ℕ) → Bool) (l : List (List ℕ) → ℕ) → Closer e l → (a : ℕ) → (a == 92) ≡ true
+    → Reads (λ u. e (units u)) (a ∷ []) (l (units (a ∷ [])))
 slash_alone e l k a h = rw (k.counts a [] [] h, k.nothing) none
   where
     none : (j : ℕ) → j ≤ length (a ∷ []) → e (units (take j (a ∷ []))) ≡ false
@@ -129,7 +135,8 @@ slash_alone e l k a h = rw (k.counts a [] [] h, k.nothing) none
     none (suc zero) i = k.skips a [] [] h ∙ k.empty
     none (suc (suc j)) i = absurd (omega arith)
 
-slash_last : (e : List (List ℕ) → Bool) (l : List (List ℕ) → ℕ) → Closer e l → (a b : ℕ) → (a == 92) ≡ true → Reads (λ u. e (units u)) (a ∷ b ∷ []) (l (units (a ∷ b ∷ [])))
+slash_last : (e : List (List ℕ) → Bool) (l : List (List ℕ) → ℕ) → Closer e l → (a b : ℕ) → (a == 92) ≡ true
+    → Reads (λ u. e (units u)) (a ∷ b ∷ []) (l (units (a ∷ b ∷ [])))
 slash_last e l k a b h = rw h (rw (k.counts a (b ∷ []) [] h, k.nothing) none)
   where
     none : (j : ℕ) → j ≤ length (a ∷ b ∷ []) → e (units (take j (a ∷ b ∷ []))) ≡ false
@@ -138,7 +145,9 @@ slash_last e l k a b h = rw h (rw (k.counts a (b ∷ []) [] h, k.nothing) none)
     none (suc (suc zero)) i = rw h (k.skips a (b ∷ []) [] h ∙ k.empty)
     none (suc (suc (suc j))) i = absurd (omega arith)
 
-slash_two : (e : List (List ℕ) → Bool) (l : List (List ℕ) → ℕ) → Closer e l → (a b c : ℕ) (t : List ℕ) → (a == 92) ≡ true → ((b == 13) && (c == 10)) ≡ false → Reads (λ u. e (units u)) (c ∷ t) (l (units (c ∷ t))) → Reads (λ u. e (units u)) (a ∷ b ∷ c ∷ t) (l (units (a ∷ b ∷ c ∷ t)))
+slash_two : (e : List (List ℕ) → Bool) (l : List (List ℕ) → ℕ) → Closer e l → (a b c : ℕ) (t : List ℕ) → (a == 92) ≡ true
+    → ((b == 13) && (c == 10)) ≡ false → Reads (λ u. e (units u)) (c ∷ t) (l (units (c ∷ t)))
+    → Reads (λ u. e (units u)) (a ∷ b ∷ c ∷ t) (l (units (a ∷ b ∷ c ∷ t)))
 slash_two e l k a b c t h n r =
     rw (h, n) (rw (k.counts a (b ∷ []) (units (c ∷ t)) h)
     (shift_reads (λ u. e (units u)) (a ∷ b ∷ c ∷ t) 2 (l (units (c ∷ t))) (omega arith) short long r))
@@ -155,7 +164,9 @@ slash_two e l k a b c t h n r =
     long : (i : ℕ) → e (units (take (2 + i) (a ∷ b ∷ c ∷ t))) ≡ e (units (take i (drop 2 (a ∷ b ∷ c ∷ t))))
     long i = let z : 2 + i ≡ suc (suc i) = omega arith in rw z (longer i)
 
-slash_three : (e : List (List ℕ) → Bool) (l : List (List ℕ) → ℕ) → Closer e l → (a b c : ℕ) (t : List ℕ) → (a == 92) ≡ true → ((b == 13) && (c == 10)) ≡ true → Reads (λ u. e (units u)) t (l (units t)) → Reads (λ u. e (units u)) (a ∷ b ∷ c ∷ t) (l (units (a ∷ b ∷ c ∷ t)))
+slash_three : (e : List (List ℕ) → Bool) (l : List (List ℕ) → ℕ) → Closer e l → (a b c : ℕ) (t : List ℕ) → (a == 92) ≡ true
+    → ((b == 13) && (c == 10)) ≡ true → Reads (λ u. e (units u)) t (l (units t))
+    → Reads (λ u. e (units u)) (a ∷ b ∷ c ∷ t) (l (units (a ∷ b ∷ c ∷ t)))
 slash_three e l k a b c t h n r =
     rw (h, n) (rw (k.counts a (b ∷ c ∷ []) (units t) h)
     (shift_reads (λ u. e (units u)) (a ∷ b ∷ c ∷ t) 3 (l (units t)) (omega arith) short long r))
@@ -180,7 +191,8 @@ nothing_reads e l k = rw k.nothing none
     none (suc j) i = k.empty
 
 -- the only front that closes a literal is the first
-pub closer_reads : (e : List (List ℕ) → Bool) (l : List (List ℕ) → ℕ) → Closer e l → (cs : List ℕ) → Reads (λ u. e (units u)) cs (l (units cs))
+pub closer_reads : (e : List (List ℕ) → Bool) (l : List (List ℕ) → ℕ) → Closer e l → (cs : List ℕ)
+    → Reads (λ u. e (units u)) cs (l (units cs))
 closer_reads e l k [] = nothing_reads e l k
 closer_reads e l k (a ∷ []) =
     ⊎_elim
@@ -203,7 +215,9 @@ closer_reads e l k (a ∷ b ∷ c ∷ t) =
     (bool_cases (a == 92))
 
 -- One quote
-single_plain : (q : ℕ) → IsQuote q → (a : ℕ) (t : List ℕ) → (a == 92) ≡ false → Reads (λ u. ends_by_one q (units u)) t (single_of q (units t)) → Reads (λ u. ends_by_one q (units u)) (a ∷ t) (single_of q (units (a ∷ t)))
+single_plain : (q : ℕ) → IsQuote q → (a : ℕ) (t : List ℕ) → (a == 92) ≡ false
+    → Reads (λ u. ends_by_one q (units u)) t (single_of q (units t))
+    → Reads (λ u. ends_by_one q (units u)) (a ∷ t) (single_of q (units (a ∷ t)))
 single_plain q k a t h r =
     rw (units_plain a t h) (rw (unit_one q a, unit_one 13 a, unit_one 10 a)
     (⊎_elim
@@ -211,11 +225,13 @@ single_plain q k a t h r =
     (λ (e : (a == q) ≡ false).
     ⊎_elim
     (λ (f : ((a == 13) || (a == 10)) ≡ true). rw (e, f) (stopped e f))
-    (λ (f : ((a == 13) || (a == 10)) ≡ false). rw (e, f) (shift_reads (λ u. ends_by_one q (units u)) (a ∷ t) 1 (single_of q (units t)) (omega arith) short (goes_on e f) r))
+    (λ (f : ((a == 13) || (a == 10)) ≡ false). rw (e, f) (shift_reads (λ u. ends_by_one q (units u)) (a ∷ t) 1 (single_of q (units t))
+    (omega arith) short (goes_on e f) r))
     (bool_cases ((a == 13) || (a == 10))))
     (bool_cases (a == q))))
   where
-    opened : (s : List ℕ) → ends_by_one q (units (a ∷ s)) ≡ (if a == q then no_units (units s) else not (a == 13) && not (a == 10) && ends_by_one q (units s))
+    opened : (s : List ℕ) → ends_by_one q (units (a ∷ s)) ≡ (if a == q then no_units (units s) else not (a == 13) && not (a == 10) &&
+        ends_by_one q (units s))
     opened s = rw (units_plain a s h) (rw (unit_one q a, unit_one 13 a, unit_one 10 a) refl)
 
     at_one : (a == q) ≡ true → ends_by_one q (units (take 1 (a ∷ t))) ≡ true
@@ -225,7 +241,8 @@ single_plain q k a t h r =
     past_one e zero i l = absurd (omega arith)
     past_one e (suc j) i l = opened (take j t) ∙ rw e (some_units j t (omega arith) (omega arith))
 
-    stopped : (a == q) ≡ false → ((a == 13) || (a == 10)) ≡ true → (j : ℕ) → j ≤ length (a ∷ t) → ends_by_one q (units (take j (a ∷ t))) ≡ false
+    stopped : (a == q) ≡ false → ((a == 13) || (a == 10)) ≡ true → (j : ℕ) → j ≤ length (a ∷ t)
+        → ends_by_one q (units (take j (a ∷ t))) ≡ false
     stopped e f zero l = refl
     stopped e f (suc j) l = opened (take j t) ∙ rw e (stops (a == 13) (a == 10) (ends_by_one q (units (take j t))) f)
       where
@@ -238,7 +255,8 @@ single_plain q k a t h r =
     short zero i = refl
     short (suc j) i = absurd (omega arith)
 
-    goes_on : (a == q) ≡ false → ((a == 13) || (a == 10)) ≡ false → (i : ℕ) → ends_by_one q (units (take (1 + i) (a ∷ t))) ≡ ends_by_one q (units (take i (drop 1 (a ∷ t))))
+    goes_on : (a == q) ≡ false → ((a == 13) || (a == 10)) ≡ false → (i : ℕ) → ends_by_one q (units (take (1 + i) (a ∷ t))) ≡ ends_by_one q
+        (units (take i (drop 1 (a ∷ t))))
     goes_on e f i =
         let z : 1 + i ≡ suc i = omega arith in
         let p = or_parts_false (a == 13) (a == 10) f in
@@ -248,8 +266,10 @@ pub single_closer : (q : ℕ) → IsQuote q → Closer (ends_by_one q) (single_o
 single_closer q k = record {
   empty = refl;
   nothing = refl;
-  skips = λ a t us h. (let x = unit_slash q a t k.slash h in let y = unit_slash 13 a t refl h in let z = unit_slash 10 a t refl h in rw (x, y, z) refl);
-  counts = λ a t us h. (let x = unit_slash q a t k.slash h in let y = unit_slash 13 a t refl h in let z = unit_slash 10 a t refl h in rw (x, y, z) (ap (λ n. shift n (single_of q us)) (length_suc a t)));
+  skips = λ a t us h. (let x = unit_slash q a t k.slash h in let y = unit_slash 13 a t refl h in let z =
+      unit_slash 10 a t refl h in rw (x, y, z) refl);
+  counts = λ a t us h. (let x = unit_slash q a t k.slash h in let y = unit_slash 13 a t refl h in let z = unit_slash 10 a t refl h in
+      rw (x, y, z) (ap (λ n. shift n (single_of q us)) (length_suc a t)));
   plain = single_plain q k;
 }
   where

@@ -1,7 +1,8 @@
 -- No lexeme but a string goes on behind a line feed.
 --
 -- Carries: plain_none, for Kept. On: Best, Parts, Classes, Cases and 2 more.
-use Rattle.std.proofs.Common.{◌≡◌, ℕ, ◌<◌, Bool, true, false, ◌||◌, ◌==◌, not, List, [], ◌∷◌, ◌++◌, length, refl, sym, ◌∙◌, ap, arith, ⊎_elim, None, length-append}
+use Rattle.std.proofs.Common.{◌≡◌, ℕ, ◌<◌, Bool, true, false, ◌||◌, ◌==◌, not, List, [], ◌∷◌, ◌++◌, length, refl, sym, ◌∙◌, ap, arith}
+use Rattle.std.proofs.Common.{⊎_elim, None, length-append}
 use Rattle.std.specs.List.{list_all, list_any}
 use Rattle.std.specs.Str.{bytes_eq}
 use Rattle.std.proofs.lemmas.Bool.{eqb-true}
@@ -9,7 +10,10 @@ use Rattle.std.proofs.lemmas.Slice.Eq.{bytes_eq-Decides}
 use Rattle.unicode_ident.specs.Ident.{is_xid_continue}
 use Rattle.unicode_ident.proofs.IdentLemmas.{is_xid_start-ascii, is_xid_continue-ascii}
 use Rattle.pylex_lexeme.specs.Chars.{starts_name, is_comment_part, is_blank_char}
-use Rattle.pylex_lexeme.specs.Numbers.{headed, optional, split_any, are_some, is_digit_part, is_exponent, is_decimal_digit, is_zero, is_hex_digit, is_octal_digit, is_binary_digit, is_point, is_e, is_j, is_x, is_o, is_b, is_sign, is_decimal, is_radix, is_point_after, is_point_before, is_raised, is_float, is_imaginary, is_number, is_nil}
+use Rattle.pylex_lexeme.specs.Numbers.{headed, optional, split_any, are_some, is_digit_part, is_exponent, is_decimal_digit, is_zero}
+use Rattle.pylex_lexeme.specs.Numbers.{is_hex_digit, is_octal_digit, is_binary_digit, is_point, is_e, is_j, is_x, is_o, is_b, is_sign}
+use Rattle.pylex_lexeme.specs.Numbers.{is_decimal, is_radix, is_point_after, is_point_before, is_raised, is_float, is_imaginary, is_number}
+use Rattle.pylex_lexeme.specs.Numbers.{is_nil}
 use Rattle.pylex_lexeme.specs.Operators.{is_operator}
 use Rattle.pylex_lexeme.specs.Lexemes.{is_name, is_comment, are_blanks, is_line_end, is_join, plain_class}
 use Rattle.pylex_lexeme.specs.Chunks.{EndsLine}
@@ -37,15 +41,18 @@ all_off f e [] h = refl
 all_off f e (c ∷ t) h = let p = and_parts (f c) (list_all f t) h in let i = off_feed f e c p.0 in rw i (all_off f e t p.1)
 
 -- Numbers
-headed_off : (f : ℕ → Bool) (p : List ℕ → Bool) → f 10 ≡ false → ((t : List ℕ) → p t ≡ true → list_all not_feed t ≡ true) → (t : List ℕ) → headed f p t ≡ true → list_all not_feed t ≡ true
+headed_off : (f : ℕ → Bool) (p : List ℕ → Bool) → f 10 ≡ false → ((t : List ℕ) → p t ≡ true → list_all not_feed t ≡ true) → (t : List ℕ)
+    → headed f p t ≡ true → list_all not_feed t ≡ true
 headed_off f p e h [] i = refl
 headed_off f p e h (c ∷ t) i = let q = and_parts (f c) (p t) i in let k = off_feed f e c q.0 in rw k (h t q.1)
 
-optional_off : (p : List ℕ → Bool) → ((t : List ℕ) → p t ≡ true → list_all not_feed t ≡ true) → (t : List ℕ) → optional p t ≡ true → list_all not_feed t ≡ true
+optional_off : (p : List ℕ → Bool) → ((t : List ℕ) → p t ≡ true → list_all not_feed t ≡ true) → (t : List ℕ) → optional p t ≡ true
+    → list_all not_feed t ≡ true
 optional_off p h [] e = refl
 optional_off p h (c ∷ t) e = h (c ∷ t) e
 
-then_off : (p q : List ℕ → Bool) → ((t : List ℕ) → p t ≡ true → list_all not_feed t ≡ true) → ((t : List ℕ) → q t ≡ true → list_all not_feed t ≡ true) → (t : List ℕ) → split_any p q t ≡ true → list_all not_feed t ≡ true
+then_off : (p q : List ℕ → Bool) → ((t : List ℕ) → p t ≡ true → list_all not_feed t ≡ true)
+    → ((t : List ℕ) → q t ≡ true → list_all not_feed t ≡ true) → (t : List ℕ) → split_any p q t ≡ true → list_all not_feed t ≡ true
 then_off p q f g t e = split_all not_feed p q true t f g e
 
 some_off : (d : ℕ → Bool) → d 10 ≡ false → (t : List ℕ) → are_some d t ≡ true → list_all not_feed t ≡ true
@@ -64,7 +71,8 @@ exponent_off t e =
     (or_parts (headed is_e is_digit_part t) (headed is_e (headed is_sign is_digit_part) t) e)
 
 fraction_off : (t : List ℕ) → split_any (optional is_digit_part) (optional is_exponent) t ≡ true → list_all not_feed t ≡ true
-fraction_off t e = then_off (optional is_digit_part) (optional is_exponent) (optional_off is_digit_part part_off) (optional_off is_exponent exponent_off) t e
+fraction_off t e = then_off (optional is_digit_part) (optional is_exponent) (optional_off is_digit_part part_off)
+    (optional_off is_exponent exponent_off) t e
 
 float_off : (t : List ℕ) → is_float t ≡ true → list_all not_feed t ≡ true
 unfolding is_float is_point_after is_point_before is_raised
@@ -72,8 +80,10 @@ float_off t e =
     ⊎_elim
     (λ (h : (is_point_after t || is_point_before t) ≡ true).
     ⊎_elim
-    (then_off is_digit_part (headed is_point (split_any (optional is_digit_part) (optional is_exponent))) part_off (headed_off is_point (split_any (optional is_digit_part) (optional is_exponent)) refl fraction_off) t)
-    (headed_off is_point (split_any is_digit_part (optional is_exponent)) refl (then_off is_digit_part (optional is_exponent) part_off (optional_off is_exponent exponent_off)) t)
+    (then_off is_digit_part (headed is_point (split_any (optional is_digit_part) (optional is_exponent))) part_off
+    (headed_off is_point (split_any (optional is_digit_part) (optional is_exponent)) refl fraction_off) t)
+    (headed_off is_point (split_any is_digit_part (optional is_exponent)) refl (then_off is_digit_part (optional is_exponent) part_off
+    (optional_off is_exponent exponent_off)) t)
     (or_parts (is_point_after t) (is_point_before t) h))
     (then_off is_digit_part is_exponent part_off exponent_off t)
     (or_parts (is_point_after t || is_point_before t) (is_raised t) e)
@@ -87,9 +97,11 @@ j_off t e = headed_off is_j is_nil refl nil t e
 
 imaginary_off : (t : List ℕ) → is_imaginary t ≡ true → list_all not_feed t ≡ true
 unfolding is_imaginary
-imaginary_off t e = then_off (λ u. is_digit_part u || is_float u) (headed is_j is_nil) (λ u h. ⊎_elim (part_off u) (float_off u) (or_parts (is_digit_part u) (is_float u) h)) j_off t e
+imaginary_off t e = then_off (λ u. is_digit_part u || is_float u) (headed is_j is_nil)
+    (λ u h. ⊎_elim (part_off u) (float_off u) (or_parts (is_digit_part u) (is_float u) h)) j_off t e
 
-based_off : (f d : ℕ → Bool) → f 10 ≡ false → d 10 ≡ false → (t : List ℕ) → headed is_zero (headed f (are_some d)) t ≡ true → list_all not_feed t ≡ true
+based_off : (f d : ℕ → Bool) → f 10 ≡ false → d 10 ≡ false → (t : List ℕ) → headed is_zero (headed f (are_some d)) t ≡ true
+    → list_all not_feed t ≡ true
 based_off f d e g t h = headed_off is_zero (headed f (are_some d)) refl (headed_off f (are_some d) e (some_off d g)) t h
 
 radix_off : (t : List ℕ) → is_radix t ≡ true → list_all not_feed t ≡ true
@@ -102,7 +114,8 @@ radix_off t e =
     (based_off is_o is_octal_digit refl refl t)
     (or_parts (headed is_zero (headed is_x (are_some is_hex_digit)) t) (headed is_zero (headed is_o (are_some is_octal_digit)) t) h))
     (based_off is_b is_binary_digit refl refl t)
-    (or_parts (headed is_zero (headed is_x (are_some is_hex_digit)) t || headed is_zero (headed is_o (are_some is_octal_digit)) t) (headed is_zero (headed is_b (are_some is_binary_digit)) t) e)
+    (or_parts (headed is_zero (headed is_x (are_some is_hex_digit)) t || headed is_zero (headed is_o (are_some is_octal_digit)) t)
+    (headed is_zero (headed is_b (are_some is_binary_digit)) t) e)
 
 pub number_off : (t : List ℕ) → is_number t ≡ true → list_all not_feed t ≡ true
 unfolding is_number
@@ -110,7 +123,8 @@ number_off t e =
     ⊎_elim
     (λ (h : (is_decimal t || is_radix t || is_float t) ≡ true).
     ⊎_elim
-    (λ (i : (is_decimal t || is_radix t) ≡ true). ⊎_elim (λ (k : is_decimal t ≡ true). part_off t (decimal_part t k)) (radix_off t) (or_parts (is_decimal t) (is_radix t) i))
+    (λ (i : (is_decimal t || is_radix t) ≡ true). ⊎_elim (λ (k : is_decimal t ≡ true). part_off t (decimal_part t k)) (radix_off t)
+    (or_parts (is_decimal t) (is_radix t) i))
     (float_off t)
     (or_parts (is_decimal t || is_radix t) (is_float t) h))
     (imaginary_off t)
@@ -132,7 +146,8 @@ operator_off t e = one_of (list_all not_feed) t words refl (sym (by_words t) ∙
 -- Names, comments, blanks
 pub name_off : (t : List ℕ) → is_name t ≡ true → list_all not_feed t ≡ true
 unfolding is_name
-name_off t e = headed_off starts_name (list_all is_xid_continue) (rw (is_xid_start-ascii 10 (omega arith)) refl) (all_off is_xid_continue (is_xid_continue-ascii 10 (omega arith))) t (by t e)
+name_off t e = headed_off starts_name (list_all is_xid_continue) (rw (is_xid_start-ascii 10 (omega arith)) refl)
+    (all_off is_xid_continue (is_xid_continue-ascii 10 (omega arith))) t (by t e)
   where
     by : (t : List ℕ) → is_name t ≡ true → headed starts_name (list_all is_xid_continue) t ≡ true
     by [] h = h
@@ -163,14 +178,19 @@ long_end (a ∷ b ∷ []) h = absurd (omega arith)
 long_end (a ∷ b ∷ c ∷ t) h =
     let s = eq_short a b 10 (c ∷ t) in
     ⊎_elim
-    (λ (e : (a == 13) ≡ true). ⊎_elim (λ (f : (b == 10) ≡ true). rw (s, e, f) refl) (λ (f : (b == 10) ≡ false). rw (s, e, f) refl) (bool_cases (b == 10)))
+    (λ (e : (a == 13) ≡ true). ⊎_elim (λ (f : (b == 10) ≡ true). rw (s, e, f) refl)
+    (λ (f : (b == 10) ≡ false). rw (s, e, f) refl) (bool_cases (b == 10)))
     (λ (e : (a == 13) ≡ false). rw (s, e) refl)
     (bool_cases (a == 13))
 
 end_off : (front : List ℕ) (c : ℕ) (u : List ℕ) → is_line_end ((front ++ 10 ∷ []) ++ c ∷ u) ≡ false
 unfolding is_line_end
 end_off [] c u = refl
-end_off (a ∷ front) c u = long_end (a ∷ (front ++ 10 ∷ []) ++ c ∷ u) (omega (arith, length-append (front ++ 10 ∷ []) (c ∷ u), length-append front (10 ∷ [])))
+end_off (a ∷ front) c u = long_end (a ∷ (front ++ 10 ∷ []) ++ c ∷ u) (omega (
+  arith,
+  length-append (front ++ 10 ∷ []) (c ∷ u),
+  length-append front (10 ∷ []),
+))
 
 join_off : (front : List ℕ) (c : ℕ) (u : List ℕ) → is_join ((front ++ 10 ∷ []) ++ c ∷ u) ≡ false
 unfolding is_join

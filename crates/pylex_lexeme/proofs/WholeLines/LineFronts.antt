@@ -2,7 +2,8 @@
 --
 -- Carries: triples_kept, here_longer, opens_longer, behind_quote and 8 more, for Kept, Lengthened,
 -- OpenLiterals. On: StringBest, LinedUnits, Best, Units and 2 more.
-use Rattle.std.proofs.Common.{◌≡◌, ℕ, ◌≤◌, ◌<◌, Bool, true, false, ◌&&◌, ◌||◌, ◌==◌, List, [], ◌∷◌, ◌++◌, length, take, drop, refl, ◌∙◌, ap, arith, zero, suc, ⊎_elim, length-drop}
+use Rattle.std.proofs.Common.{◌≡◌, ℕ, ◌≤◌, ◌<◌, Bool, true, false, ◌&&◌, ◌||◌, ◌==◌, List, [], ◌∷◌, ◌++◌, length, take, drop, refl, ◌∙◌, ap}
+use Rattle.std.proofs.Common.{arith, zero, suc, ⊎_elim, length-drop}
 use Rattle.std.proofs.lemmas.Bool.{eqb-true, eq-eqb}
 use Rattle.std.proofs.lemmas.List.{take-append-le, drop-append-le}
 use Rattle.pylex_lexeme.specs.Chars.{begins}
@@ -35,12 +36,19 @@ feed_second a = two_prefix a 10 ∙ none ((a == 114) || (a == 82)) (((a == 98) |
     none false false = refl
 
 -- a prefix holds no LF
-after_kept : (p : List ℕ → Bool) → Settles p → (cs es : List ℕ) → is_nil cs ≡ false → lined cs ≡ true → after_prefix p (cs ++ es) ≡ after_prefix p cs
+after_kept : (p : List ℕ → Bool) → Settles p → (cs es : List ℕ) → is_nil cs ≡ false → lined cs ≡ true
+    → after_prefix p (cs ++ es) ≡ after_prefix p cs
 after_kept p k [] es s l = cc
 after_kept p k (a ∷ []) [] s l = refl
-after_kept p k (a ∷ []) (e ∷ es) s l = let z : a ≡ 10 = eqb-true a 10 l in rw z (rw (k (10 ∷ []) (e ∷ es) refl refl, one_prefix 10, feed_first e) refl)
-after_kept p k (a ∷ b ∷ []) es s l = let z : b ≡ 10 = eqb-true b 10 l in rw z (rw (k (a ∷ 10 ∷ []) es refl refl, k (10 ∷ []) es refl refl, feed_second a) refl)
-after_kept p k (a ∷ b ∷ c ∷ t) es s l = rw (k (a ∷ b ∷ c ∷ t) es refl l, k (b ∷ c ∷ t) es refl l, k (c ∷ t) es refl (lined_tail b (c ∷ t) l)) refl
+after_kept p k (a ∷ []) (e ∷ es) s l = let z : a ≡ 10 = eqb-true a 10 l in
+    rw z (rw (k (10 ∷ []) (e ∷ es) refl refl, one_prefix 10, feed_first e) refl)
+after_kept p k (a ∷ b ∷ []) es s l = let z : b ≡ 10 = eqb-true b 10 l in
+    rw z (rw (k (a ∷ 10 ∷ []) es refl refl, k (10 ∷ []) es refl refl, feed_second a) refl)
+after_kept p k (a ∷ b ∷ c ∷ t) es s l = rw (
+  k (a ∷ b ∷ c ∷ t) es refl l,
+  k (b ∷ c ∷ t) es refl l,
+  k (c ∷ t) es refl (lined_tail b (c ∷ t) l),
+) refl
 
 quote_settles : Settles begins_quote
 quote_settles [] es s l = cc
@@ -116,7 +124,13 @@ pub record Quoted (cs : List ℕ) : Type 0 where
 
 quoted_at : (n : ℕ) (cs r : List ℕ) → n ≤ 2 → drop n cs ≡ r → is_prefix (take n cs) ≡ true → begins_quote r ≡ true → Quoted cs
 quoted_at n cs [] h d p e = cc
-quoted_at n cs (q ∷ t) h d p e = record { n = n; q = q; opens = record { small = h; «prefix» = p; quote = ap begins_quote d ∙ e }; here = ap (begins (λ c. c == q)) d ∙ eq-eqb q q refl }
+quoted_at n cs (q ∷ t) h d p e = record {
+  n = n;
+  q = q;
+  opens = record { small = h; «prefix» = p; quote = ap begins_quote d ∙ e };
+  here =
+      ap (begins (λ c. c == q)) d ∙ eq-eqb q q refl;
+}
 
 pub quoted : (cs : List ℕ) → opens_string cs ≡ true → Quoted cs
 unfolding opens_string
@@ -129,7 +143,8 @@ quoted cs e =
     (λ (g : ((is_prefix (take 2 cs) && begins_quote (drop 2 cs)) || false) ≡ true).
     ⊎_elim (at 2 (omega arith)) (λ (h : false ≡ true). cc) (or_parts (is_prefix (take 2 cs) && begins_quote (drop 2 cs)) false g))
     (or_parts (is_prefix (take 1 cs) && begins_quote (drop 1 cs)) ((is_prefix (take 2 cs) && begins_quote (drop 2 cs)) || false) f))
-    (or_parts (is_prefix (take 0 cs) && begins_quote (drop 0 cs)) ((is_prefix (take 1 cs) && begins_quote (drop 1 cs)) || ((is_prefix (take 2 cs) && begins_quote (drop 2 cs)) || false)) e)
+    (or_parts (is_prefix (take 0 cs) && begins_quote (drop 0 cs)) ((is_prefix (take 1 cs) && begins_quote (drop 1 cs)) ||
+    ((is_prefix (take 2 cs) && begins_quote (drop 2 cs)) || false)) e)
   where
     at : (n : ℕ) → n ≤ 2 → (is_prefix (take n cs) && begins_quote (drop n cs)) ≡ true → Quoted cs
     at n h f = let p = and_parts (is_prefix (take n cs)) (begins_quote (drop n cs)) f in quoted_at n cs (drop n cs) h refl p.0 p.1
@@ -161,7 +176,8 @@ begins_more : (p : ℕ → Bool) (r es : List ℕ) → begins p r ≡ true → b
 begins_more p [] es e = cc
 begins_more p (c ∷ t) es e = e
 
-pub here_longer : (q n : ℕ) (cs es : List ℕ) → Opens n cs → begins (λ c. c == q) (drop n cs) ≡ true → begins (λ c. c == q) (drop n (cs ++ es)) ≡ true
+pub here_longer : (q n : ℕ) (cs es : List ℕ) → Opens n cs → begins (λ c. c == q) (drop n cs) ≡ true
+    → begins (λ c. c == q) (drop n (cs ++ es)) ≡ true
 here_longer q n cs es o h = ap (begins (λ c. c == q)) (behind_front n cs es o) ∙ begins_more (λ c. c == q) (drop n cs) es h
 
 pub opens_longer : (n : ℕ) (cs es : List ℕ) → Opens n cs → Opens n (cs ++ es)

@@ -2,7 +2,8 @@
 --
 -- Carries: lined, lined_tail, ends_lined, units_join and 9 more, for Kept, Lengthened, LineFronts,
 -- OpenLiterals. On: Units, Best, Cases, Joined.
-use Rattle.std.proofs.Common.{◌≡◌, ℕ, Bool, true, false, ◌&&◌, ◌||◌, ◌==◌, not, List, [], ◌∷◌, ◌++◌, length, refl, sym, ◌∙◌, ap, arith, zero, suc, ⊎_elim, if◌then◌else◌}
+use Rattle.std.proofs.Common.{◌≡◌, ℕ, Bool, true, false, ◌&&◌, ◌||◌, ◌==◌, not, List, [], ◌∷◌, ◌++◌, length, refl, sym, ◌∙◌, ap, arith}
+use Rattle.std.proofs.Common.{zero, suc, ⊎_elim, if◌then◌else◌}
 use Rattle.std.proofs.lemmas.Bool.{eqb-true}
 use Rattle.std.proofs.lemmas.Bool.Decides.{nat_tests}
 use Rattle.std.proofs.lemmas.Slice.Eq.{bytes_eq-Decides}
@@ -51,7 +52,8 @@ units_join (a ∷ []) es l = units_plain a es (feed_not a 92 l refl)
 units_join (a ∷ b ∷ []) es l =
     ⊎_elim
     (λ (h : (a == 92) ≡ true). at_slash es h (feed_not b 13 l refl))
-    (λ (h : (a == 92) ≡ false). units_plain a (b ∷ es) h ∙ ap (λ us. (a ∷ []) ∷ us) (units_join (b ∷ []) es l) ∙ sym (ap (λ us. us ++ units es) (units_plain a (b ∷ []) h)))
+    (λ (h : (a == 92) ≡ false). units_plain a (b ∷ es) h ∙ ap (λ us. (a ∷ []) ∷ us) (units_join (b ∷ []) es l)
+    ∙ sym (ap (λ us. us ++ units es) (units_plain a (b ∷ []) h)))
     (bool_cases (a == 92))
   where
     at_slash : (es : List ℕ) → (a == 92) ≡ true → (b == 13) ≡ false → units (a ∷ b ∷ es) ≡ units (a ∷ b ∷ []) ++ units es
@@ -64,7 +66,8 @@ units_join (a ∷ b ∷ c ∷ t) es l =
     (λ (n : ((b == 13) && (c == 10)) ≡ true). rw (h, n) (ap (λ us. (a ∷ b ∷ c ∷ []) ∷ us) (units_join t es (lined_tail c t l))))
     (λ (n : ((b == 13) && (c == 10)) ≡ false). rw (h, n) (ap (λ us. (a ∷ b ∷ []) ∷ us) (units_join (c ∷ t) es l)))
     (bool_cases ((b == 13) && (c == 10))))
-    (λ (h : (a == 92) ≡ false). units_plain a (b ∷ c ∷ t ++ es) h ∙ ap (λ us. (a ∷ []) ∷ us) (units_join (b ∷ c ∷ t) es l) ∙ sym (ap (λ us. us ++ units es) (units_plain a (b ∷ c ∷ t) h)))
+    (λ (h : (a == 92) ≡ false). units_plain a (b ∷ c ∷ t ++ es) h ∙ ap (λ us. (a ∷ []) ∷ us) (units_join (b ∷ c ∷ t) es l)
+    ∙ sym (ap (λ us. us ++ units es) (units_plain a (b ∷ c ∷ t) h)))
     (bool_cases (a == 92))
 
 -- the last unit is LF, or a backslash and a line end
@@ -85,7 +88,8 @@ units_last (a ∷ b ∷ c ∷ []) s l =
     ⊎_elim
     (λ (h : (a == 92) ≡ true).
     ⊎_elim
-    (λ (n : (b == 13) ≡ true). let x : a ≡ 92 = eqb-true a 92 h in let y : b ≡ 13 = eqb-true b 13 n in let z : c ≡ 10 = eqb-true c 10 l in rw (x, y, z) refl)
+    (λ (n : (b == 13) ≡ true). let x : a ≡ 92 = eqb-true a 92 h in let y : b ≡ 13 = eqb-true b 13 n in let z : c ≡ 10 =
+    eqb-true c 10 l in rw (x, y, z) refl)
     (λ (n : (b == 13) ≡ false). rw (h, n) (units_last (c ∷ []) refl l))
     (bool_cases (b == 13)))
     (λ (h : (a == 92) ≡ false). rw (units_plain a (b ∷ c ∷ []) h) (rw (nil_units (b ∷ c ∷ [])) (units_last (b ∷ c ∷ []) refl l)))
@@ -143,34 +147,50 @@ pub record Stops (q : ℕ) (us : List (List ℕ)) : Type 0 where
   pub unjoined : ends_by_join q us ≡ false
 
 stops_here : (q : ℕ) (u : List ℕ) (us : List (List ℕ)) → is_unit q u ≡ false → (is_unit 13 u || is_unit 10 u) ≡ true → Stops q (u ∷ us)
-stops_here q u us h i = record { unclosed = rw (h, i) refl; unjoined = line (is_unit 13 u) (is_unit 10 u) (if no_units us then is_join u else ends_by_join q us) h i }
+stops_here q u us h i =
+    record {
+      unclosed = rw (h, i) refl;
+      unjoined =
+          line (is_unit 13 u) (is_unit 10 u) (if no_units us then is_join u else ends_by_join q us) h i;
+    }
   where
     line : (x y z : Bool) → is_unit q u ≡ false → (x || y) ≡ true → (not (is_unit q u || x || y) && z) ≡ false
     line true y z e f = rw e refl
     line false true z e f = rw e refl
     line false false z e f = cc
 
-stops_later : (q : ℕ) (u v : List ℕ) (us : List (List ℕ)) → is_unit q u ≡ false → (is_unit 13 u || is_unit 10 u) ≡ false → Stops q (v ∷ us) → Stops q (u ∷ v ∷ us)
-stops_later q u v us h i s = record { unclosed = rw (h, i) (ap (shift (length u)) s.unclosed); unjoined = and_false (not (is_unit q u || is_unit 13 u || is_unit 10 u)) (ends_by_join q (v ∷ us)) s.unjoined }
+stops_later : (q : ℕ) (u v : List ℕ) (us : List (List ℕ)) → is_unit q u ≡ false → (is_unit 13 u || is_unit 10 u) ≡ false
+    → Stops q (v ∷ us) → Stops q (u ∷ v ∷ us)
+stops_later q u v us h i s = record {
+  unclosed = rw (h, i) (ap (shift (length u)) s.unclosed);
+  unjoined =
+      and_false (not (is_unit q u || is_unit 13 u || is_unit 10 u)) (ends_by_join q (v ∷ us)) s.unjoined;
+}
 
-stops_one : (q : ℕ) (u : List ℕ) → is_unit q u ≡ false → last_ends (u ∷ []) ≡ true → Stops q (u ∷ []) → (is_unit 13 u || is_unit 10 u) ≡ true
-stops_one q u h l s = by (is_unit 13 u) (is_unit 10 u) (is_join u) l (let e : (not (is_unit q u || is_unit 13 u || is_unit 10 u) && is_join u) ≡ false = s.unjoined in rw h at e)
+stops_one : (q : ℕ) (u : List ℕ) → is_unit q u ≡ false → last_ends (u ∷ []) ≡ true → Stops q (u ∷ [])
+    → (is_unit 13 u || is_unit 10 u) ≡ true
+stops_one q u h l s =
+    by (is_unit 13 u) (is_unit 10 u) (is_join u) l (let e : (not (is_unit q u || is_unit 13 u || is_unit 10 u) && is_join u) ≡ false =
+    s.unjoined in rw h at e)
   where
     by : (x y z : Bool) → (y || z) ≡ true → (not (x || y) && z) ≡ false → (x || y) ≡ true
     by true y z l e = refl
     by false true z l e = refl
     by false false z l e = let k : true ≡ false = sym l ∙ e in cc
 
-stops_behind : (q : ℕ) (u v : List ℕ) (us : List (List ℕ)) → is_unit q u ≡ false → (is_unit 13 u || is_unit 10 u) ≡ false → Stops q (u ∷ v ∷ us) → Stops q (v ∷ us)
+stops_behind : (q : ℕ) (u v : List ℕ) (us : List (List ℕ)) → is_unit q u ≡ false → (is_unit 13 u || is_unit 10 u) ≡ false
+    → Stops q (u ∷ v ∷ us) → Stops q (v ∷ us)
 stops_behind q u v us h i s =
     let p = or_parts_false (is_unit 13 u) (is_unit 10 u) i in
     record {
       unclosed = (let e = s.unclosed in shift_none (length u) (single_of q (v ∷ us)) (rw (h, i) at e));
-      unjoined = (let e : (not (is_unit q u || is_unit 13 u || is_unit 10 u) && ends_by_join q (v ∷ us)) ≡ false = s.unjoined in rw (h, p.0, p.1) at e);
+      unjoined = (let e : (not (is_unit q u || is_unit 13 u || is_unit 10 u) && ends_by_join q (v ∷ us)) ≡ false =
+          s.unjoined in rw (h, p.0, p.1) at e);
     }
 
 not_closed : (q : ℕ) (u : List ℕ) (us : List (List ℕ)) → Stops q (u ∷ us) → is_unit q u ≡ false
-not_closed q u us s = ⊎_elim (λ (h : is_unit q u ≡ true). let z : 1 ≡ 0 = (let e = s.unclosed in rw h at e) in cc) (λ (h : is_unit q u ≡ false). h) (bool_cases (is_unit q u))
+not_closed q u us s = ⊎_elim (λ (h : is_unit q u ≡ true). let z : 1 ≡ 0 = (let e = s.unclosed in rw h at e) in cc)
+    (λ (h : is_unit q u ≡ false). h) (bool_cases (is_unit q u))
 
 pub stops_kept : (q : ℕ) (us vs : List (List ℕ)) → last_ends us ≡ true → Stops q us → Stops q (us ++ vs)
 stops_kept q [] vs l s = cc
@@ -179,7 +199,8 @@ stops_kept q (u ∷ v ∷ us) vs l s =
     let h = not_closed q u (v ∷ us) s in
     ⊎_elim
     (stops_here q u (v ∷ us ++ vs) h)
-    (λ (i : (is_unit 13 u || is_unit 10 u) ≡ false). stops_later q u v (us ++ vs) h i (stops_kept q (v ∷ us) vs l (stops_behind q u v us h i s)))
+    (λ (i : (is_unit 13 u || is_unit 10 u) ≡ false). stops_later q u v (us ++ vs) h i
+    (stops_kept q (v ∷ us) vs l (stops_behind q u v us h i s)))
     (bool_cases (is_unit 13 u || is_unit 10 u))
 
 -- A literal that is open goes on in what follows
@@ -205,13 +226,16 @@ goes_join q u v us g = let p = or_parts_false (is_unit 13 u) (is_unit 10 u) g.li
 pub joined_single : (q : ℕ) (us vs : List (List ℕ)) → ends_by_join q us ≡ true → single_of q vs ≡ 0 → single_of q (us ++ vs) ≡ 0
 joined_single q [] vs e f = cc
 joined_single q (u ∷ []) vs e f = goes_on q u vs (goes_by q u (is_join u) e).0 f
-joined_single q (u ∷ v ∷ us) vs e f = let g = goes_by q u (ends_by_join q (v ∷ us)) e in goes_on q u (v ∷ us ++ vs) g.0 (joined_single q (v ∷ us) vs g.1 f)
+joined_single q (u ∷ v ∷ us) vs e f = let g = goes_by q u (ends_by_join q (v ∷ us)) e in
+    goes_on q u (v ∷ us ++ vs) g.0 (joined_single q (v ∷ us) vs g.1 f)
 
-pub joined_join : (q : ℕ) (us vs : List (List ℕ)) → ends_by_join q us ≡ true → no_units vs ≡ false → ends_by_join q (us ++ vs) ≡ ends_by_join q vs
+pub joined_join : (q : ℕ) (us vs : List (List ℕ)) → ends_by_join q us ≡ true → no_units vs ≡ false
+    → ends_by_join q (us ++ vs) ≡ ends_by_join q vs
 joined_join q [] vs e f = cc
 joined_join q (u ∷ []) [] e f = cc
 joined_join q (u ∷ []) (v ∷ vs) e f = goes_join q u v vs (goes_by q u (is_join u) e).0
-joined_join q (u ∷ v ∷ us) vs e f = let g = goes_by q u (ends_by_join q (v ∷ us)) e in goes_join q u v (us ++ vs) g.0 ∙ joined_join q (v ∷ us) vs g.1 f
+joined_join q (u ∷ v ∷ us) vs e f = let g = goes_by q u (ends_by_join q (v ∷ us)) e in goes_join q u v (us ++ vs) g.0
+    ∙ joined_join q (v ∷ us) vs g.1 f
 
 -- Three quotes in what follows stand in the whole
 pub triple_behind : (q : ℕ) (us vs : List (List ℕ)) → triple_of q (us ++ vs) ≡ 0 → triple_of q vs ≡ 0
@@ -240,7 +264,8 @@ end_not_quote q (a ∷ t) k e =
     feed : (10 == q) ≡ false
     feed = let f = k.feed in grind (arith, nat_tests)
 
-pub triple_crosses : (q : ℕ) (us vs : List (List ℕ)) → IsQuote q → last_ends us ≡ true → triple_of q us ≡ 0 → triple_of q vs ≡ 0 → triple_of q (us ++ vs) ≡ 0
+pub triple_crosses : (q : ℕ) (us vs : List (List ℕ)) → IsQuote q → last_ends us ≡ true → triple_of q us ≡ 0 → triple_of q vs ≡ 0
+    → triple_of q (us ++ vs) ≡ 0
 triple_crosses q [] vs k l e f = cc
 triple_crosses q (u ∷ []) vs k l e f = by vs f
   where
@@ -259,5 +284,6 @@ triple_crosses q (u ∷ v ∷ []) vs k l e f = by vs (triple_crosses q (v ∷ []
 triple_crosses q (u ∷ v ∷ w ∷ us) vs k l e f =
     ⊎_elim
     (λ (h : (is_unit q u && is_unit q v && is_unit q w) ≡ true). let z : 3 ≡ 0 = rw h at e in cc)
-    (λ (h : (is_unit q u && is_unit q v && is_unit q w) ≡ false). rw h (ap (shift (length u)) (triple_crosses q (v ∷ w ∷ us) vs k l (shift_none (length u) (triple_of q (v ∷ w ∷ us)) (rw h at e)) f)))
+    (λ (h : (is_unit q u && is_unit q v && is_unit q w) ≡ false). rw h
+    (ap (shift (length u)) (triple_crosses q (v ∷ w ∷ us) vs k l (shift_none (length u) (triple_of q (v ∷ w ∷ us)) (rw h at e)) f)))
     (bool_cases (is_unit q u && is_unit q v && is_unit q w))

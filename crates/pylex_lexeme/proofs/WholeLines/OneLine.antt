@@ -23,7 +23,10 @@ not_flat k m e f h = let g : is_flat k ≡ false = sym (ap is_flat e) ∙ f in c
 flat_by : (t : List ℕ) (n u o c b l j : Bool) (e : Option Exact) (k : Class)
     → (n ≡ true → list_all not_feed t ≡ true) → (u ≡ true → list_all not_feed t ≡ true) → (o ≡ true → list_all not_feed t ≡ true)
     → (c ≡ true → list_all not_feed t ≡ true) → (b ≡ true → list_all not_feed t ≡ true) → is_flat k ≡ true
-    → cond n (Some Name) (cond u (Some Number) (cond o (option_map Operator e) (cond c (Some Comment) (cond b (Some Blanks) (cond l (Some LineEnd) (cond j (Some Join) None)))))) ≡ Some k
+    → cond n (Some Name)
+    (cond u (Some Number)
+    (cond o (option_map Operator e) (cond c (Some Comment) (cond b (Some Blanks) (cond l (Some LineEnd) (cond j (Some Join) None)))))) ≡
+    Some k
     → list_all not_feed t ≡ true
 flat_by t true u o c b l j e k fn fu fo fc fb f h = fn refl
 flat_by t false true o c b l j e k fn fu fo fc fb f h = fu refl
@@ -36,7 +39,8 @@ flat_by t false false false false false false false e k fn fu fo fc fb f h = abs
 
 flat_plain : (t : List ℕ) (k : Class) → is_flat k ≡ true → plain_class t ≡ Some k → list_all not_feed t ≡ true
 unfolding plain_class
-flat_plain t k f e = flat_by t (is_name t) (is_number t) (is_operator t) (is_comment t) (are_blanks t) (is_line_end t) (is_join t) (exact_of t) k (name_off t) (number_off t) (operator_off t) (comment_off t) (blanks_off t) f e
+flat_plain t k f e = flat_by t (is_name t) (is_number t) (is_operator t) (is_comment t) (are_blanks t) (is_line_end t) (is_join t)
+    (exact_of t) k (name_off t) (number_off t) (operator_off t) (comment_off t) (blanks_off t) f e
 
 pub flat_in : (cs t : List ℕ) (k : Class) → is_flat k ≡ true → class_in cs t ≡ Some k → list_all not_feed t ≡ true
 unfolding class_in

@@ -6,4 +6,5 @@ use Rattle.pylex_lexeme.specs.Characters.{line_feed, carriage_return, double_quo
 
 -- ASCII, and neither a quote, a backslash, LF nor CR
 abbrev pub is_plain_char : ℕ → Bool
-is_plain_char c = nat_lt c 128 && (not (c == double_quote) && (not (c == single_quote) && (not (c == backslash) && (not (c == line_feed) && not (c == carriage_return)))))
+is_plain_char c = nat_lt c 128 &&
+    (not (c == double_quote) && (not (c == single_quote) && (not (c == backslash) && (not (c == line_feed) && not (c == carriage_return)))))

@@ -442,33 +442,32 @@ signatures::read_parameter-returns-in-Some-name_at-2 t c = parameter_earlier c.a
 pub signatures::parameters-more-init : goal.signatures::parameters-more-init
 signatures::parameters-more-init t c = record {
   ahead = omega arith;
-  is = parameters_start c.args.tokens.now c.args.depth c.args.annotated c.args.at c.no_parameters-before.result c.requires.within
-      c.no_parameters-before.ensures.formal c.no_parameters-before.ensures.height c.no_parameters-before.ensures.next;
+  is = parameters_start c.args.tokens.now c.args.depth c.args.annotated c.args.at c.no_parameters-signature.result c.requires.within
+      c.no_parameters-signature.ensures.formal c.no_parameters-signature.ensures.height c.no_parameters-signature.ensures.next;
 }
 
 pub signatures::parameters-returns-in_err-one : goal.signatures::parameters-returns-in_err-one
 signatures::parameters-returns-in_err-one t c =
-    let f = parameters_error c.args.tokens.now c.args.depth c.args.annotated _ c.more.before c.more.invariant.is c.in_err-one.field-0.0
+    let f = parameters_error c.args.tokens.now c.args.depth c.args.annotated _ c.more.signature c.more.invariant.is c.in_err-one.field-0.0
     c.more-test.ensures.is c.in_err-one.ensures in
     search (rules, f)
 
 pub signatures::parameters-returns-then-not-is_op : goal.signatures::parameters-returns-then-not-is_op
-signatures::parameters-returns-then-not-is_op t c = parameters_last c.args.tokens.now c.args.depth c.args.annotated _ c.more.before
-    c.more.invariant.is c.in_ok-one.one c.in_ok-signature.signature c.args.at c.more-test.ensures.is c.in_ok-one.ensures
-    c.in_ok-signature.ensures.formal c.in_ok-signature.ensures.height c.in_ok-signature.ensures.next
+signatures::parameters-returns-then-not-is_op t c = parameters_last c.args.tokens.now c.args.depth c.args.annotated _ c.more.signature
+    c.more.invariant.is c.in_ok-one.one c.put_parameter.new.signature c.args.at c.more-test.ensures.is c.in_ok-one.ensures
+    c.in_ok-put_parameter.ensures.formal c.in_ok-put_parameter.ensures.height c.in_ok-put_parameter.ensures.next
     c.if-not-is_op.ensures c.more.invariant.ahead
 
 pub signatures::parameters-more-preserved : goal.signatures::parameters-more-preserved
 signatures::parameters-more-preserved t c = record {
-  ahead = omega (arith, c.more.invariant.ahead, c.in_ok-one.ensures.ahead, c.in_ok-signature.ensures.next, c.placed-before.ensures.next);
-  is = parameters_more c.args.tokens.now c.args.depth c.args.annotated _ c.more.before c.more.invariant.is c.in_ok-one.one
-      c.in_ok-signature.signature c.placed-before.result c.more-test.ensures.is c.in_ok-one.ensures c.in_ok-signature.ensures.formal
-      c.in_ok-signature.ensures.height c.in_ok-signature.ensures.next c.if-not-is_op.ensures c.placed-before.ensures.formal
-      c.placed-before.ensures.height c.placed-before.ensures.next;
+  ahead = omega (arith, c.more.invariant.ahead, c.in_ok-one.ensures.ahead, c.in_ok-put_parameter.ensures.next);
+  is = parameters_more c.args.tokens.now c.args.depth c.args.annotated _ c.more.signature c.more.invariant.is c.in_ok-one.one
+      c.put_parameter.new.signature _ c.more-test.ensures.is c.in_ok-one.ensures c.in_ok-put_parameter.ensures.formal
+      c.in_ok-put_parameter.ensures.height c.in_ok-put_parameter.ensures.next c.if-not-is_op.ensures refl refl refl;
 }
 
 pub signatures::parameters-returns : goal.signatures::parameters-returns
-signatures::parameters-returns t c = parameters_end c.args.tokens.now c.args.depth c.args.annotated _ c.more.before c.more.invariant.is
+signatures::parameters-returns t c = parameters_end c.args.tokens.now c.args.depth c.args.annotated _ c.more.signature c.more.invariant.is
     c.args.at c.more-test.ensures.is c.more.invariant.ahead
 
 pub signatures::lambda_step-returns-in_err-signature : goal.signatures::lambda_step-returns-in_err-signature

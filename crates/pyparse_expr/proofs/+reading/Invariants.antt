@@ -225,12 +225,12 @@ decreases-signatures::lambda_step l = 2 ^ 65 * (20 * (l.depth.steps - 1) + 13)
 
 abbrev pub invariant-signatures::parameters-more : goal.invariant-signatures::parameters-more
 invariant-signatures::parameters-more l = record {
-  ahead : l.at ≤ l.before.next;
-  is : Parameters l.tokens l.depth l.annotated (listed l.depth l.annotated (seen l.tokens l.at)) l.before;
+  ahead : l.at ≤ l.signature.next;
+  is : Parameters l.tokens l.depth l.annotated (listed l.depth l.annotated (seen l.tokens l.at)) l.signature;
 }
 
 abbrev pub decreases-signatures::parameters-more : goal.decreases-signatures::parameters-more
-decreases-signatures::parameters-more l = length l.tokens - l.before.next
+decreases-signatures::parameters-more l = length l.tokens - l.signature.next
 
 abbrev pub decreases-braces::curly : goal.decreases-braces::curly
 decreases-braces::curly l = 2 ^ 65 * (20 * (l.depth.steps - 1) + 18)

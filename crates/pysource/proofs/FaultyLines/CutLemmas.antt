@@ -1,13 +1,15 @@
 -- The text before the first faulty line, and that line's fault, by the first bad byte of all.
 --
 -- Carries: cut_line, good_part. On: LinesLemmas, PlacesLemmas.
-use Rattle.std.proofs.Common.{◌≡◌, ℕ, zero, suc, ◌+◌, ◌-◌, ◌<◌, ◌≤◌, true, false, cond, List, [], ◌∷◌, ◌++◌, length, take, drop, get_or, None, Some, Option, sym, ap, subst, refl, inl, inr, ◌∙◌, arith, zero-le}
+use Rattle.std.proofs.Common.{◌≡◌, ℕ, zero, suc, ◌+◌, ◌-◌, ◌<◌, ◌≤◌, true, false, cond, List, [], ◌∷◌, ◌++◌, length, take, drop, get_or}
+use Rattle.std.proofs.Common.{None, Some, Option, sym, ap, subst, refl, inl, inr, ◌∙◌, arith, zero-le}
 use Rattle.std.specs.Prelude.{◌⊎◌, not, IsUtf8, count_by, reverse}
 use Rattle.std.specs.List.{after_last, onto_first, suffix_len, prefix_len}
 use Rattle.std.specs.Str.{chars, IsCharBoundary}
 use Rattle.std.proofs.lemmas.Bool.{cases_Bool, cases_eq, eqb-true, eq-eqb, ne_eqb}
 use Rattle.std.proofs.Common.{eqb}
-use Rattle.std.proofs.lemmas.List.{take-append-le, length-append, length-take, length-drop, length-take-le, append-nil, drop_at, drop-drop, get_or-take, take-append-drop, reverse-append}
+use Rattle.std.proofs.lemmas.List.{take-append-le, length-append, length-take, length-drop, length-take-le, append-nil, drop_at, drop-drop}
+use Rattle.std.proofs.lemmas.List.{get_or-take, take-append-drop, reverse-append}
 use Rattle.std.proofs.lemmas.List.Folds.{prefix_len-append}
 use Rattle.std.proofs.lemmas.List.Sums.{suffix_len-le-length, sum_by-append}
 use Rattle.std.proofs.lemmas.Str.{IsCharBoundary-at_seam}
@@ -98,18 +100,21 @@ last_from xs =
 
 -- a text is what stands before its last line, and that line
 pub last_seam : (xs : List ℕ) → xs ≡ take (length xs - length (after_last is_lf xs)) xs ++ after_last is_lf xs
-last_seam xs = sym (ap (λ (n : ℕ). take n xs ++ after_last is_lf xs) (last_from xs) ∙ take-append-drop (length xs - suffix_len (λ x. not (is_lf x)) xs) xs)
+last_seam xs = sym (ap (λ (n : ℕ). take n xs ++ after_last is_lf xs) (last_from xs)
+    ∙ take-append-drop (length xs - suffix_len (λ x. not (is_lf x)) xs) xs)
 
 -- the last line is no longer than the text
 pub last_short : (xs : List ℕ) → length (after_last is_lf xs) ≤ length xs
 last_short xs = let whole = length-drop (length xs - suffix_len (λ x. not (is_lf x)) xs) xs in omega (arith, whole)
 
 -- a text may be cut before its last line
-pub last_boundary : (bs last : List ℕ) (at : ℕ) → length bs ≡ at → last ≡ after_last is_lf bs → IsUtf8 last → IsCharBoundary bs (at - length last)
+pub last_boundary : (bs last : List ℕ) (at : ℕ) → length bs ≡ at → last ≡ after_last is_lf bs → IsUtf8 last
+    → IsCharBoundary bs (at - length last)
 last_boundary bs last at long e u =
     let front = take (length bs - length (after_last is_lf bs)) bs in
     let seam : bs ≡ front ++ last = last_seam bs ∙ ap (λ (x : List ℕ). front ++ x) (sym e) in
-    let size : length front ≡ at - length last = length-take-le (length bs - length (after_last is_lf bs)) bs (omega arith) ∙ (let k : length bs - length (after_last is_lf bs) ≡ at - length last = omega (arith, ap length e) in k) in
+    let size : length front ≡ at - length last = length-take-le (length bs - length (after_last is_lf bs)) bs (omega arith)
+    ∙ (let k : length bs - length (after_last is_lf bs) ≡ at - length last = omega (arith, ap length e) in k) in
     subst (IsCharBoundary bs) size (IsCharBoundary-at_seam bs front last seam u)
 
 -- a choice by a number that is equal either way
@@ -135,7 +140,8 @@ after_last_behind front x =
     let s = suffix_len-le-length (λ b. not (is_lf b)) x in
     let whole = length-append l x in
     let behind = suffix_behind front x in
-    let place : length (l ++ x) - suffix_len (λ b. not (is_lf b)) (l ++ x) ≡ length l + (length x - suffix_len (λ b. not (is_lf b)) x) = omega (arith, s, whole, behind) in
+    let place : length (l ++ x) - suffix_len (λ b. not (is_lf b)) (l ++ x) ≡ length l + (length x - suffix_len (λ b. not (is_lf b)) x) =
+    omega (arith, s, whole, behind) in
     ap (λ (n : ℕ). drop n (l ++ x)) place ∙ sym (drop-drop (length x - suffix_len (λ b. not (is_lf b)) x) (length l) (l ++ x))
     ∙ ap (drop (length x - suffix_len (λ b. not (is_lf b)) x)) (drop_at l x (length l) refl)
 
@@ -153,15 +159,24 @@ count_behind front x clean =
 -- the fault of a bad byte at an offset
 abbrev pub told_fault : ℕ → List ℕ → ℕ × LineError → LineFault
 told_fault row t q =
-    record { code = q.1; place = record { row = row + count_by is_lf (take q.0 t); column = length (chars (after_last is_lf (take q.0 t))) } }
+    record {
+      code = q.1;
+      place = record {
+        row = row + count_by is_lf (take q.0 t);
+        column =
+            length (chars (after_last is_lf (take q.0 t)));
+      };
+    }
 
 abbrev pub Told : Charset → ℕ → List ℕ → Option (ℕ × LineError) → Type 0
 Told c row t None = (good_text c (lines_of t) ≡ t) × (line_fault c row (lines_of t) ≡ None)
 Told c row t (Some q) =
-    (good_text c (lines_of t) ≡ take (q.0 - length (after_last is_lf (take q.0 t))) t) × (line_fault c row (lines_of t) ≡ Some (told_fault row t q))
+    (good_text c (lines_of t) ≡ take (q.0 - length (after_last is_lf (take q.0 t))) t) ×
+    (line_fault c row (lines_of t) ≡ Some (told_fault row t q))
 
 -- the first line is bad
-told_here : (c : Charset) (row : ℕ) (t l : List ℕ) (ls : List (List ℕ)) (q : ℕ × LineError) → lines_of t ≡ l ∷ ls → first_bad c l ≡ Some q → q.0 < length l → take q.0 t ≡ take q.0 l → NoLf (take q.0 l) → Told c row t (Some q)
+told_here : (c : Charset) (row : ℕ) (t l : List ℕ) (ls : List (List ℕ)) (q : ℕ × LineError) → lines_of t ≡ l ∷ ls → first_bad c l ≡ Some q
+    → q.0 < length l → take q.0 t ≡ take q.0 l → NoLf (take q.0 l) → Told c row t (Some q)
 unfolding good_text line_fault
 told_here c row t l ls q lines bad inside same clean =
     let last : after_last is_lf (take q.0 t) ≡ take q.0 l = ap (after_last is_lf) same ∙ after_last_none is_lf (take q.0 l) clean in
@@ -180,7 +195,9 @@ told_last c row t (Some q) last bad =
     told_here c row t t [] q last.lines bad (omega (arith, found.1)) refl (NoLf-take q.0 t last.clean)
 
 -- behind a good first line
-told_next : (c : Charset) (row : ℕ) (front rest : List ℕ) (s : Option (ℕ × LineError)) → NoLf front → lines_of ((front ++ 10 ∷ []) ++ rest) ≡ (front ++ 10 ∷ []) ∷ lines_of rest → first_bad c (front ++ 10 ∷ []) ≡ None → first_bad c rest ≡ s → Told c (row + 1) rest s → Told c row ((front ++ 10 ∷ []) ++ rest) (first_bad c ((front ++ 10 ∷ []) ++ rest))
+told_next : (c : Charset) (row : ℕ) (front rest : List ℕ) (s : Option (ℕ × LineError)) → NoLf front
+    → lines_of ((front ++ 10 ∷ []) ++ rest) ≡ (front ++ 10 ∷ []) ∷ lines_of rest → first_bad c (front ++ 10 ∷ []) ≡ None
+    → first_bad c rest ≡ s → Told c (row + 1) rest s → Told c row ((front ++ 10 ∷ []) ++ rest) (first_bad c ((front ++ 10 ∷ []) ++ rest))
 unfolding good_text line_fault
 told_next c row front rest None clean lines good bad told =
     let l = front ++ 10 ∷ [] in
@@ -204,13 +221,17 @@ told_next c row front rest (Some q) clean lines good bad told =
     let count : count_by is_lf (take p t) ≡ 1 + count_by is_lf part = ap (count_by is_lf) before ∙ count_behind front part clean in
     let row_is : row + 1 + count_by is_lf part ≡ row + count_by is_lf (take p t) = omega (arith, count) in
     let fault : told_fault (row + 1) rest q ≡ told_fault row t (p, q.1) =
-    ap (λ (r : ℕ). let f : LineFault = record { code = q.1; place = record { row = r; column = length (chars (after_last is_lf part)) } } in f) row_is
-    ∙ ap (λ (x : List ℕ). let f : LineFault = record { code = q.1; place = record { row = row + count_by is_lf (take p t); column = length (chars x) } } in f) (sym last) in
+    ap (λ (r : ℕ). let f : LineFault = record { code = q.1; place = record { row = r; column = length (chars (after_last is_lf part)) } } in
+    f) row_is
+    ∙ ap (λ (x : List ℕ). let f : LineFault =
+    record { code = q.1; place = record { row = row + count_by is_lf (take p t); column = length (chars x) } } in f) (sym last) in
     subst (Told c row t) (sym (first_bad_next c front rest q good bad))
     (rw (lines, good) (ap (λ (x : List ℕ). l ++ x) told.0 ∙ text), rw (lines, good) (told.1 ∙ ap (λ (f : LineFault). Some f) fault))
 
 -- a text that begins with a line, good or bad
-told_line : (c : Charset) (row : ℕ) (front rest : List ℕ) (r : Option (ℕ × LineError)) → NoLf front → lines_of ((front ++ 10 ∷ []) ++ rest) ≡ (front ++ 10 ∷ []) ∷ lines_of rest → first_bad c (front ++ 10 ∷ []) ≡ r → Told c (row + 1) rest (first_bad c rest) → Told c row ((front ++ 10 ∷ []) ++ rest) (first_bad c ((front ++ 10 ∷ []) ++ rest))
+told_line : (c : Charset) (row : ℕ) (front rest : List ℕ) (r : Option (ℕ × LineError)) → NoLf front
+    → lines_of ((front ++ 10 ∷ []) ++ rest) ≡ (front ++ 10 ∷ []) ∷ lines_of rest → first_bad c (front ++ 10 ∷ []) ≡ r
+    → Told c (row + 1) rest (first_bad c rest) → Told c row ((front ++ 10 ∷ []) ++ rest) (first_bad c ((front ++ 10 ∷ []) ++ rest))
 told_line c row front rest None clean lines is told = told_next c row front rest (first_bad c rest) clean lines is refl told
 told_line c row front rest (Some q) clean lines is told =
     let l = front ++ 10 ∷ [] in
@@ -219,7 +240,8 @@ told_line c row front rest (Some q) clean lines is told =
     let inside : q.0 < length l = omega (arith, found.1) in
     let in_front : take q.0 l ≡ take q.0 front = take-append-le q.0 front (10 ∷ []) (omega arith) in
     subst (Told c row (l ++ rest)) (sym (first_bad_line c front rest q is))
-    (told_here c row (l ++ rest) l (lines_of rest) q lines is inside (take-append-le q.0 l rest (omega arith)) (subst NoLf (sym in_front) (NoLf-take q.0 front clean)))
+    (told_here c row (l ++ rest) l (lines_of rest) q lines is inside (take-append-le q.0 l rest (omega arith))
+    (subst NoLf (sym in_front) (NoLf-take q.0 front clean)))
 
 -- any text up to a length
 told_within : (n : ℕ) (c : Charset) (row : ℕ) (t : List ℕ) → length t ≤ n → Told c row t (first_bad c t)
@@ -232,7 +254,8 @@ told_within (suc n) c row (b ∷ bs) h = elim (cut (b ∷ bs) (omega arith)) [
       let more = length-append (k.front ++ 10 ∷ []) k.rest in
       let long = length-append k.front (10 ∷ []) in
       let lines : lines_of ((k.front ++ 10 ∷ []) ++ k.rest) ≡ (k.front ++ 10 ∷ []) ∷ lines_of k.rest = ap lines_of (sym k.is) ∙ k.lines in
-      let told = told_line c row k.front k.rest (first_bad c (k.front ++ 10 ∷ [])) k.clean lines refl (told_within n c (row + 1) k.rest (omega (arith, size, more, long))) in
+      let told = told_line c row k.front k.rest (first_bad c (k.front ++ 10 ∷ [])) k.clean lines refl
+      (told_within n c (row + 1) k.rest (omega (arith, size, more, long))) in
       subst (λ (t : List ℕ). Told c row t (first_bad c t)) (sym k.is) told
   | inr last ↦ told_last c row (b ∷ bs) (first_bad c (b ∷ bs)) last refl
 ]
@@ -265,7 +288,8 @@ first_of_alone [] h = (refl, refl)
 first_of_alone (b ∷ bs) h = let lines = lines_alone (b ∷ bs) h (omega arith) in (rw lines refl, rw lines refl)
 
 -- behind a line in front stands the second
-pub first_of_more : (front rest : List ℕ) → NoLf front → (nth_line ((front ++ 10 ∷ []) ++ rest) 0 ≡ front ++ 10 ∷ []) × (nth_line ((front ++ 10 ∷ []) ++ rest) 1 ≡ nth_line rest 0)
+pub first_of_more : (front rest : List ℕ) → NoLf front → (nth_line ((front ++ 10 ∷ []) ++ rest) 0 ≡ front ++ 10 ∷ []) ×
+    (nth_line ((front ++ 10 ∷ []) ++ rest) 1 ≡ nth_line rest 0)
 first_of_more front rest h = let lines = lines_at front rest h in (rw lines refl, rw lines refl)
 
 -- the same from what `memchr` answers
@@ -274,15 +298,18 @@ first_unless_found t r answer is =
     let none = rw is at answer in
     first_of_alone t (λ k h. false_from_ne_true (is_lf (get_or t k 0)) (none k zero-le h))
 
-pub first_if_found : (t : List ℕ) (r : Option ℕ) (i : ℕ) → IsFirstByte (is_byte 10) t r → r ≡ Some i → (nth_line t 0 ≡ take (i + 1) t) × (nth_line t 1 ≡ nth_line (drop (i + 1) t) 0)
+pub first_if_found : (t : List ℕ) (r : Option ℕ) (i : ℕ) → IsFirstByte (is_byte 10) t r → r ≡ Some i
+    → (nth_line t 0 ≡ take (i + 1) t) × (nth_line t 1 ≡ nth_line (drop (i + 1) t) 0)
 first_if_found t r i answer is =
     let parts = rw is at answer in
     let inside : i < length t = parts.0.high in
     let lf : get_or t i 0 ≡ 10 = eqb-true (get_or t i 0) 10 parts.1 in
     let front : take (i + 1) t ≡ take i t ++ 10 ∷ [] = take_more t i 0 inside ∙ ap (λ (b : ℕ). take i t ++ b ∷ []) lf in
-    let whole : (take i t ++ 10 ∷ []) ++ drop (i + 1) t ≡ t = ap (λ (x : List ℕ). x ++ drop (i + 1) t) (sym front) ∙ take-append-drop (i + 1) t in
+    let whole : (take i t ++ 10 ∷ []) ++ drop (i + 1) t ≡ t = ap (λ (x : List ℕ). x ++ drop (i + 1) t) (sym front)
+    ∙ take-append-drop (i + 1) t in
     let size = length-take-le i t (omega arith) in
-    let clean : NoLf (take i t) = λ k h. ap is_lf (get_or-take i t k 0 (omega (arith, size))) ∙ false_from_ne_true (is_lf (get_or t k 0)) (parts.0.before k zero-le (omega (arith, size))) in
+    let clean : NoLf (take i t) = λ k h. ap is_lf (get_or-take i t k 0 (omega (arith, size)))
+    ∙ false_from_ne_true (is_lf (get_or t k 0)) (parts.0.before k zero-le (omega (arith, size))) in
     let lines = first_of_more (take i t) (drop (i + 1) t) clean in
     (ap (λ (x : List ℕ). nth_line x 0) (sym whole) ∙ lines.0 ∙ sym front, ap (λ (x : List ℕ). nth_line x 1) (sym whole) ∙ lines.1)
 

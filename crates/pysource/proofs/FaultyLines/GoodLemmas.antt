@@ -1,7 +1,8 @@
 -- The text that is to come is UTF-8, and no longer than the bytes that it is read from.
 --
 -- Carries: what pyast_command, pylex cite. On: BadLemmas, LinesLemmas.
-use Rattle.std.proofs.Common.{◌≡◌, ℕ, ◌+◌, ◌≤◌, Bool, true, false, List, [], ◌∷◌, ◌++◌, length, get_or, None, Some, Option, refl, inl, inr, arith, zero-le, length-append}
+use Rattle.std.proofs.Common.{◌≡◌, ℕ, ◌+◌, ◌≤◌, Bool, true, false, List, [], ◌∷◌, ◌++◌, length, get_or, None, Some, Option, refl, inl, inr}
+use Rattle.std.proofs.Common.{arith, zero-le, length-append}
 use Rattle.std.specs.Prelude.{IsUtf8, not}
 use Rattle.std.specs.List.{onto_first, sum_by}
 use Rattle.std.specs.Option.{option_map_or}
@@ -27,20 +28,23 @@ pub good_line : (charset : Charset) (line : List ℕ) → first_bad charset line
 good_line Utf8 line good = elim (valid_cases line) [
   | inl u ↦ u
   | inr v ↦
-      let none : bad_at Utf8 line (utf8_valid_len line) ≡ None = bad_found Utf8 line None good (utf8_valid_len line) zero-le (omega (arith, v.short)) in
+      let none : bad_at Utf8 line (utf8_valid_len line) ≡ None = bad_found Utf8 line None good (utf8_valid_len line) zero-le
+      (omega (arith, v.short)) in
       let some : bad_at Utf8 line (utf8_valid_len line) ≡ Some NotUtf8 = utf8_at line (utf8_valid_len line) refl in
       cc
 ]
-good_line Ascii line good = IsUtf8-from_ascii line (IsAscii-from_reads line (length line) (omega arith) (λ k low. elim (cases_lt (get_or line k 0) 128) [
-  | inl small ↦ small
-  | inr large ↦
-      let none : bad_at Ascii line k ≡ None = bad_found Ascii line None good k zero-le (omega arith) in
-      let some : bad_at Ascii line k ≡ Some NotAscii = ascii_at line k large in
-      cc
-]))
+good_line Ascii line good =
+    IsUtf8-from_ascii line (IsAscii-from_reads line (length line) (omega arith) (λ k low. elim (cases_lt (get_or line k 0) 128) [
+      | inl small ↦ small
+      | inr large ↦
+          let none : bad_at Ascii line k ≡ None = bad_found Ascii line None good k zero-le (omega arith) in
+          let some : bad_at Ascii line k ≡ Some NotAscii = ascii_at line k large in
+          cc
+    ]))
 
 -- a line before a text, unless the line is bad
-utf8_step : (charset : Charset) (line rest : List ℕ) (r : Option (ℕ × LineError)) → first_bad charset line ≡ r → IsUtf8 rest → IsUtf8 (option_map_or (λ _. []) r (line ++ rest))
+utf8_step : (charset : Charset) (line rest : List ℕ) (r : Option (ℕ × LineError)) → first_bad charset line ≡ r → IsUtf8 rest
+    → IsUtf8 (option_map_or (λ _. []) r (line ++ rest))
 utf8_step charset line rest None good u = IsUtf8-append line rest (good_line charset line good) u
 utf8_step charset line rest (Some bad) is u = IsUtf8-nil
 
@@ -95,14 +99,16 @@ pub good_len : (charset : Charset) (bytes : List ℕ) → length (good_text char
 good_len charset bytes = let good = good_within charset (lines_of bytes) in let whole = lines_sum bytes in omega (arith, good, whole)
 
 pub read_len : (charset : Charset) (broken : Bool) (bytes : List ℕ) → length (good_text charset (lines_read broken bytes)) ≤ length bytes
-read_len charset broken bytes = let good = good_within charset (lines_read broken bytes) in let whole = read_sum broken bytes in omega (arith, good, whole)
+read_len charset broken bytes = let good = good_within charset (lines_read broken bytes) in let whole = read_sum broken bytes in
+    omega (arith, good, whole)
 
 -- the same of what bytes are in a character set
 pub coming_utf8 : (charset : Charset) (row : ℕ) (broken : Bool) (bytes : List ℕ) → IsUtf8 (coming charset row broken bytes).text
 unfolding coming
 coming_utf8 charset row broken bytes = good_utf8 charset (lines_read broken bytes)
 
-pub coming_len : (charset : Charset) (row : ℕ) (broken : Bool) (bytes : List ℕ) → length (coming charset row broken bytes).text ≤ length bytes
+pub coming_len : (charset : Charset) (row : ℕ) (broken : Bool) (bytes : List ℕ)
+    → length (coming charset row broken bytes).text ≤ length bytes
 unfolding coming
 coming_len charset row broken bytes = read_len charset broken bytes
 
@@ -119,11 +125,13 @@ under_len (Some fault) c n h = zero-le
 pub comes_utf8 : (b : Buffered) (more : List ℕ) (broken : Bool) → IsUtf8 (comes b more broken).text
 unfolding comes
 comes_utf8 b more broken =
-    under_utf8 b.fault (coming b.encoding.charset b.row broken (b.pending ++ more)) (coming_utf8 b.encoding.charset b.row broken (b.pending ++ more))
+    under_utf8 b.fault (coming b.encoding.charset b.row broken (b.pending ++ more))
+    (coming_utf8 b.encoding.charset b.row broken (b.pending ++ more))
 
 pub comes_len : (b : Buffered) (more : List ℕ) (broken : Bool) → length (comes b more broken).text ≤ length b.pending + length more
 unfolding comes
 comes_len b more broken =
     let short = coming_len b.encoding.charset b.row broken (b.pending ++ more) in
     let whole = length-append b.pending more in
-    under_len b.fault (coming b.encoding.charset b.row broken (b.pending ++ more)) (length b.pending + length more) (omega (arith, short, whole))
+    under_len b.fault (coming b.encoding.charset b.row broken (b.pending ++ more)) (length b.pending + length more)
+    (omega (arith, short, whole))

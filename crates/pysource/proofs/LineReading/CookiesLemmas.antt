@@ -26,12 +26,14 @@ declared_first_found [] h e = absurd (omega arith)
 declared_first_found (b ∷ bs) h e = rw (ne_eqb (length (declared_here (b ∷ bs))) 0 (λ z. absurd (omega arith)))
 
 -- the two steps at a place of the whole
-pub declared_first_more : (bs : List ℕ) (i : ℕ) → i < length bs → length (declared_here (drop i bs)) ≡ 0 → declared_first (drop i bs) ≡ declared_first (drop (i + 1) bs)
+pub declared_first_more : (bs : List ℕ) (i : ℕ) → i < length bs → length (declared_here (drop i bs)) ≡ 0
+    → declared_first (drop i bs) ≡ declared_first (drop (i + 1) bs)
 declared_first_more bs i h e =
     let here : 0 < length (drop i bs) = simp length-drop (omega arith) in
     declared_first_step (drop i bs) here e ∙ ap declared_first (drop-drop 1 i bs)
 
-pub declared_first_at : (bs : List ℕ) (i : ℕ) → i < length bs → 0 < length (declared_here (drop i bs)) → declared_first (drop i bs) ≡ declared_here (drop i bs)
+pub declared_first_at : (bs : List ℕ) (i : ℕ) → i < length bs → 0 < length (declared_here (drop i bs))
+    → declared_first (drop i bs) ≡ declared_here (drop i bs)
 declared_first_at bs i h e =
     let here : 0 < length (drop i bs) = simp length-drop (omega arith) in
     declared_first_found (drop i bs) here e
@@ -57,10 +59,12 @@ spelled_ascii (b ∷ bs) (w ∷ ws) e h =
     IsAscii-cons b bs (folded_ascii b (omega arith)) (spelled_ascii bs ws parts.1 words.1)
 
 -- which of the two lines counts
-pub second_counts : {A : Type 0} (a b : ℕ) (l : Bool) (x y z : A) → a ≡ 0 → l ≡ true → 0 < b → cond (nat_lt 0 a) x (cond (l && nat_lt 0 b) y z) ≡ y
+pub second_counts : {A : Type 0} (a b : ℕ) (l : Bool) (x y z : A) → a ≡ 0 → l ≡ true → 0 < b
+    → cond (nat_lt 0 a) x (cond (l && nat_lt 0 b) y z) ≡ y
 second_counts a b l x y z none leads some = rw (none, leads, lt-ltb 0 b some)
 
-pub neither_counts : {A : Type 0} (a b : ℕ) (l : Bool) (x y z : A) → a ≡ 0 → (l ≡ false) ⊎ (b ≡ 0) → cond (nat_lt 0 a) x (cond (l && nat_lt 0 b) y z) ≡ z
+pub neither_counts : {A : Type 0} (a b : ℕ) (l : Bool) (x y z : A) → a ≡ 0 → (l ≡ false) ⊎ (b ≡ 0)
+    → cond (nat_lt 0 a) x (cond (l && nat_lt 0 b) y z) ≡ z
 neither_counts a b l x y z none out = elim out [ inl silent ↦ rw (none, silent) | inr empty ↦ rw (none, empty, and-false l) ]
 
 -- what `is_empty` answered

@@ -1,7 +1,8 @@
 -- Where a line may still come.
 --
 -- Carries: LineReader::next_line. On: StreamLemmas, ComingLemmas.
-use Rattle.std.proofs.Common.{◌≡◌, ℕ, zero, suc, ◌+◌, ◌<◌, Bool, true, false, cond, not, ◌&&◌, ◌==◌, List, [], ◌∷◌, ◌++◌, length, take, Option, None, Some, sym, ap, subst, refl, inl, inr, ◌∙◌, arith, append-nil}
+use Rattle.std.proofs.Common.{◌≡◌, ℕ, zero, suc, ◌+◌, ◌<◌, Bool, true, false, cond, not, ◌&&◌, ◌==◌, List, [], ◌∷◌, ◌++◌, length, take}
+use Rattle.std.proofs.Common.{Option, None, Some, sym, ap, subst, refl, inl, inr, ◌∙◌, arith, append-nil}
 use Rattle.std.specs.Prelude.{◌⊎◌, nat_le, slice_index}
 use Rattle.std.specs.Option.{option_map_or}
 use Rattle.std.specs.Str.Lossy.{utf8_valid_len}
@@ -69,8 +70,11 @@ own_if true o p h k = h
 own_if false o p h k = k
 
 bad_own : (charset : Charset) (line : List ℕ) (i : ℕ) → IsOwn (bad_at charset line i)
-bad_own Utf8 line i = own_if (i == utf8_valid_len line) _ _ (λ e. cc) (own_if (slice_index line i == 13 && not (is_lf (slice_index line (i + 1)))) _ _ (λ e. cc) tt)
-bad_own Ascii line i = own_if (nat_le 128 (slice_index line i)) _ _ (λ e. cc) (own_if (slice_index line i == 13 && not (is_lf (slice_index line (i + 1)))) _ _ (λ e. cc) tt)
+bad_own Utf8 line i =
+    own_if (i == utf8_valid_len line) _ _ (λ e. cc)
+    (own_if (slice_index line i == 13 && not (is_lf (slice_index line (i + 1)))) _ _ (λ e. cc) tt)
+bad_own Ascii line i = own_if (nat_le 128 (slice_index line i)) _ _ (λ e. cc)
+    (own_if (slice_index line i == 13 && not (is_lf (slice_index line (i + 1)))) _ _ (λ e. cc) tt)
 
 abbrev IsOwnAt : Option (ℕ × LineError) → Type 0
 IsOwnAt None = Unit {0}
@@ -80,7 +84,8 @@ first_own : (f : ℕ → Option LineError) (i n : ℕ) → ((i : ℕ) → IsOwn 
 first_own f i zero h = tt
 first_own f i (suc n) h = by_first (f i) (h i) (first_own f (i + 1) n h)
   where
-    by_first : (o : Option LineError) → IsOwn o → IsOwnAt (first_given f (i + 1) n) → IsOwnAt (option_map_or (λ x. Some (i, x)) o (first_given f (i + 1) n))
+    by_first : (o : Option LineError) → IsOwn o → IsOwnAt (first_given f (i + 1) n)
+        → IsOwnAt (option_map_or (λ x. Some (i, x)) o (first_given f (i + 1) n))
     by_first None u k = k
     by_first (Some e) u k = u
 
@@ -93,21 +98,25 @@ not_unread c row (b ∷ bs) clean h = by (first_bad c (b ∷ bs)) refl
   where
     by : (o : Option (ℕ × LineError)) → first_bad c (b ∷ bs) ≡ o → ⊥
     by None good =
-        let e : (b ∷ bs) ++ (coming c (row + 1) false []).text ≡ [] = ap (λ (x : Coming). x.text) (sym (coming_last c row (b ∷ bs) clean (omega arith) good) ∙ h) in
+        let e : (b ∷ bs) ++ (coming c (row + 1) false []).text ≡ [] =
+        ap (λ (x : Coming). x.text) (sym (coming_last c row (b ∷ bs) clean (omega arith) good) ∙ h) in
         cc
     by (Some bad) is =
-        let e : Some (fault_at row (b ∷ bs) bad) ≡ Some (unread row) = ap (λ (x : Coming). x.fault) (sym (coming_last_bad c row (b ∷ bs) bad clean (omega arith) is) ∙ h) in
+        let e : Some (fault_at row (b ∷ bs) bad) ≡ Some (unread row) =
+        ap (λ (x : Coming). x.fault) (sym (coming_last_bad c row (b ∷ bs) bad clean (omega arith) is) ∙ h) in
         let same : fault_at row (b ∷ bs) bad ≡ unread row = cc in
         let own : IsOwnAt (Some bad) = subst IsOwnAt is (first_own (bad_at c (b ∷ bs)) 0 (length (b ∷ bs)) (bad_own c (b ∷ bs))) in
         own (ap (λ (f : LineFault). f.code) same)
 
 -- Where reading isn't over, and no line is there, one may come.
-pub reading_may_come : (e : Named) (row : ℕ) (mid : Intake) → mid.reach ≡ Reading → NoLfFrom 0 (length mid.buffer) mid.buffer → MayCome (held e row None mid)
+pub reading_may_come : (e : Named) (row : ℕ) (mid : Intake) → mid.reach ≡ Reading → NoLfFrom 0 (length mid.buffer) mid.buffer
+    → MayCome (held e row None mid)
 reading_may_come e row mid is none fault only =
     let clean = no_lf_all mid.buffer none in
     let follows : (broken : Bool) → FollowsAt mid.reach [] broken = λ broken. subst (λ q. FollowsAt q [] broken) (sym is) tt in
     let at : (broken : Bool) → coming e.charset row broken mid.buffer ≡ record { text = []; fault = fault } =
-    λ broken. ap (coming e.charset row broken) (sym (append-nil mid.buffer)) ∙ sym (comes_is e row mid [] broken) ∙ only [] broken (follows broken) in
+    λ broken. ap (coming e.charset row broken) (sym (append-nil mid.buffer)) ∙ sym (comes_is e row mid [] broken)
+    ∙ only [] broken (follows broken) in
     not_unread e.charset row mid.buffer clean (at false ∙ sym (at true) ∙ coming_cut e.charset row mid.buffer clean)
 
 abbrev not_read : Seen
@@ -118,10 +127,13 @@ abbrev grown_none : (i : Intake) → Grows not_read not_read i i
 grown_none i = record { taken = []; takes = ReadsBytes-none _ _ _; bytes = sym (append-nil i.buffer) }
 
 -- Where a good line is there it may come.
-pub line_may_come : (e : Named) (row end : ℕ) (old mid : Intake) → LineThere 0 end old mid ⊎ LineLeft 0 end mid → 0 < end → first_bad e.charset (take end mid.buffer) ≡ None → MayCome (held e row None mid)
+pub line_may_come : (e : Named) (row end : ℕ) (old mid : Intake) → LineThere 0 end old mid ⊎ LineLeft 0 end mid → 0 < end
+    → first_bad e.charset (take end mid.buffer) ≡ None → MayCome (held e row None mid)
 line_may_come e row end old mid (inl there) some good =
     let size = length-take-le end mid.buffer there.line.within in
-    may_come (held e row None mid) (held e (row + 1) None (skipped end mid)) [] (take end mid.buffer) (gives_line e row end mid mid (grown_none mid) there.line good) (omega (arith, size))
+    may_come (held e row None mid) (held e (row + 1) None (skipped end mid)) [] (take end mid.buffer)
+    (gives_line e row end mid mid (grown_none mid) there.line good) (omega (arith, size))
 line_may_come e row end old mid (inr last) some good =
     let size = length-take-le end mid.buffer (omega (arith, last.all)) in
-    may_come (held e row None mid) (held e (row + 1) None (skipped end mid)) [] (take end mid.buffer) (gives_last e row end mid mid (grown_none mid) last some good) (omega (arith, size))
+    may_come (held e row None mid) (held e (row + 1) None (skipped end mid)) [] (take end mid.buffer)
+    (gives_last e row end mid mid (grown_none mid) last some good) (omega (arith, size))

@@ -1,7 +1,8 @@
 -- What a call for the next line did, by how it ended.
 --
 -- Carries: LineReader::next_line. On: StreamLemmas, HeadLemmas, CutLemmas, ComingLemmas and 1 more.
-use Rattle.std.proofs.Common.{◌≡◌, ◌≢◌, ℕ, ◌+◌, ◌-◌, ◌<◌, ◌≤◌, List, ◌∷◌, get_or, [], ◌++◌, length, take, None, Some, Ok, Result, sym, ap, refl, inl, inr, ◌∙◌, arith, append-nil, length-append}
+use Rattle.std.proofs.Common.{◌≡◌, ◌≢◌, ℕ, ◌+◌, ◌-◌, ◌<◌, ◌≤◌, List, ◌∷◌, get_or, [], ◌++◌, length, take, None, Some, Ok, Result, sym, ap}
+use Rattle.std.proofs.Common.{refl, inl, inr, ◌∙◌, arith, append-nil, length-append}
 use Rattle.std.specs.Prelude.{◌⊎◌, IsUtf8}
 use Rattle.std.specs.declared.alloc.AllocError.{AllocError}
 use Rattle.std.proofs.lemmas.List.{length-take-le, length-drop, get_or_append_left}
@@ -21,7 +22,8 @@ use Rattle.pysource.proofs.FaultyLines.CutLemmas.{first_of_alone}
 use Rattle.pysource.proofs.LineReading.ComingLemmas.{no_lf_all}
 use Rattle.pysource.proofs.LineReading.HeadLemmas.{nth_first, nth_here}
 use Rattle.pysource.proofs.TakenBytes.TakingLemmas.{ReadsBytes-none}
-use Rattle.pysource.proofs.LineReading.StreamLemmas.{held, skipped, gives_nothing, gives_fault, gives_line, gives_last, gives_bad, gives_last_bad, is_line, is_last, only_behind, only_end, only_fault, only_unread}
+use Rattle.pysource.proofs.LineReading.StreamLemmas.{held, skipped, gives_nothing, gives_fault, gives_line, gives_last, gives_bad}
+use Rattle.pysource.proofs.LineReading.StreamLemmas.{gives_last_bad, is_line, is_last, only_behind, only_end, only_fault, only_unread}
 
 -- bytes without line feed are their own first line
 pub none_past : (bytes : List ℕ) → NoLfFrom 0 (length bytes) bytes → past_first bytes ≡ 0
@@ -57,7 +59,8 @@ first_there end old new taken e at = elim (cases_lt (length old) end) [
       let here : LineAt 0 end old = record {
         some = at.some;
         within = long;
-        before = λ k low high is. at.before k low high (ap (λ (w : List ℕ). get_or w k 0) e ∙ get_or_append_left old taken 0 k (omega arith) ∙ is);
+        before = λ k low high is. at.before k low high (ap (λ (w : List ℕ). get_or w k 0) e
+            ∙ get_or_append_left old taken 0 k (omega arith) ∙ is);
         at = sym (ap (λ (w : List ℕ). get_or w (end - 1) 0) e ∙ get_or_append_left old taken 0 (end - 1) (omega (arith, at.some))) ∙ at.at;
       } in
       let first = ap length (nth_here 0 old _ (nth_first end old [] here)) in
@@ -66,7 +69,8 @@ first_there end old new taken e at = elim (cases_lt (length old) end) [
 ]
 
 -- what is taken past a line that is kept
-pub past_found : (end : ℕ) (old mid : Intake) (taken : List ℕ) → mid.buffer ≡ old.buffer ++ taken → LineThere 0 end old mid ⊎ LineLeft 0 end mid → (mid.buffer ≡ old.buffer) ⊎ (past_first mid.buffer ≤ 8_192)
+pub past_found : (end : ℕ) (old mid : Intake) (taken : List ℕ) → mid.buffer ≡ old.buffer ++ taken
+    → LineThere 0 end old mid ⊎ LineLeft 0 end mid → (mid.buffer ≡ old.buffer) ⊎ (past_first mid.buffer ≤ 8_192)
 past_found end old mid taken e (inr last) = inr (omega (arith, none_past mid.buffer last.none))
 past_found end old mid [] e (inl there) = inl (e ∙ append-nil old.buffer)
 past_found end old mid (x ∷ taken) e (inl there) =
@@ -76,7 +80,8 @@ past_found end old mid (x ∷ taken) e (inl there) =
     inr (omega (arith, size, both, past, there.ahead))
 
 -- no line was given
-pub moves_nothing : {x y : Seen} (e : Named) (row : ℕ) (old mid : Intake) (chunk chunk' : List ℕ) (result : Result LineRead AllocError) → Grows x y old mid → chunk' ≡ chunk → Tells result [] (held e row None mid) → (IsText result → ⊥)
+pub moves_nothing : {x y : Seen} (e : Named) (row : ℕ) (old mid : Intake) (chunk chunk' : List ℕ) (result : Result LineRead AllocError)
+    → Grows x y old mid → chunk' ≡ chunk → Tells result [] (held e row None mid) → (IsText result → ⊥)
     → (mid.buffer ≡ old.buffer) ⊎ (past_first mid.buffer ≤ 8_192)
     → NextLine x y (held e row None old) (held e row None mid) chunk chunk' result
 moves_nothing e row old mid chunk chunk' result p same tells not kept = record {
@@ -111,7 +116,8 @@ moves_told x e row fault i chunk = record {
 }
 
 -- a line was given
-pub moves_text : {x y : Seen} (e : Named) (row end : ℕ) (old mid : Intake) (chunk chunk' : List ℕ) → Grows x y old mid → LineThere 0 end old mid ⊎ LineLeft 0 end mid → end ≢ 0
+pub moves_text : {x y : Seen} (e : Named) (row end : ℕ) (old mid : Intake) (chunk chunk' : List ℕ) → Grows x y old mid
+    → LineThere 0 end old mid ⊎ LineLeft 0 end mid → end ≢ 0
     → first_bad e.charset (take end mid.buffer) ≡ None → IsUtf8 (take end mid.buffer) → chunk' ≡ chunk ++ take end mid.buffer
     → NextLine x y (held e row None old) (held e (row + 1) None (skipped end mid)) chunk chunk' (Ok lines.Text)
 moves_text e row end old mid chunk chunk' p (inl there) some good utf8 is =
@@ -152,9 +158,11 @@ moves_text e row end old mid chunk chunk' p (inr last) some good utf8 is =
     }
 
 -- a faulty line
-pub moves_bad : {x y : Seen} (e : Named) (row end : ℕ) (old mid : Intake) (chunk chunk' : List ℕ) (bad : ℕ × LineError) → Grows x y old mid → LineThere 0 end old mid ⊎ LineLeft 0 end mid → end ≢ 0
+pub moves_bad : {x y : Seen} (e : Named) (row end : ℕ) (old mid : Intake) (chunk chunk' : List ℕ) (bad : ℕ × LineError) → Grows x y old mid
+    → LineThere 0 end old mid ⊎ LineLeft 0 end mid → end ≢ 0
     → first_bad e.charset (take end mid.buffer) ≡ Some bad → chunk' ≡ chunk
-    → NextLine x y (held e row None old) (held e row (Some (fault_at row (take end mid.buffer) bad)) mid) chunk chunk' (Ok (lines.Fault (fault_at row (take end mid.buffer) bad)))
+    → NextLine x y (held e row None old) (held e row (Some (fault_at row (take end mid.buffer) bad)) mid) chunk chunk'
+    (Ok (lines.Fault (fault_at row (take end mid.buffer) bad)))
 moves_bad e row end old mid chunk chunk' bad p found some is same = record {
   taken = p.taken;
   line = [];
@@ -173,7 +181,8 @@ moves_bad e row end old mid chunk chunk' bad p found some is same = record {
 }
 
 -- the end
-pub tells_end : (e : Named) (row : ℕ) (old mid : Intake) → LineThere 0 0 old mid ⊎ LineLeft 0 0 mid → Tells (Ok lines.End) [] (held e row None mid)
+pub tells_end : (e : Named) (row : ℕ) (old mid : Intake) → LineThere 0 0 old mid ⊎ LineLeft 0 0 mid
+    → Tells (Ok lines.End) [] (held e row None mid)
 tells_end e row old mid (inl there) = absurd (omega (arith, there.line.some))
 tells_end e row old mid (inr last) = (refl, only_end e row mid last, none_of mid.buffer (omega (arith, last.all)))
   where

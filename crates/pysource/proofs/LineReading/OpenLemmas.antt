@@ -1,7 +1,8 @@
 -- How the lines of a source are opened, and why not.
 --
 -- Carries: LineReader::new. On: StreamLemmas, HeadLemmas.
-use Rattle.std.proofs.Common.{◌≡◌, ℕ, ◌-◌, ◌<◌, ◌≤◌, Bool, true, false, List, [], ◌++◌, length, take, drop, None, Some, Ok, Err, Option, Result, sym, ap, subst, refl, inl, inr, ◌∙◌, arith, append-nil, length-append, length-drop}
+use Rattle.std.proofs.Common.{◌≡◌, ℕ, ◌-◌, ◌<◌, ◌≤◌, Bool, true, false, List, [], ◌++◌, length, take, drop, None, Some, Ok, Err, Option}
+use Rattle.std.proofs.Common.{Result, sym, ap, subst, refl, inl, inr, ◌∙◌, arith, append-nil, length-append, length-drop}
 use Rattle.std.specs.Prelude.{◌⊎◌, ◌&&◌, codes, nat_lt, if◌then◌else◌}
 use Rattle.std.specs.Io.KnownBytes.{Consumes}
 use Rattle.std.proofs.lemmas.Bool.{cases_Bool}
@@ -27,22 +28,32 @@ use Rattle.pysource.proofs.LineReading.HeadLemmas.{encoding_unsearched}
 
 -- what the lines that were read declare, whatever follows
 declared : (i : Intake) (first second : ℕ) → Head i first second → (more : List ℕ) (broken : Bool) → FollowsAt i.reach more broken
-    → encoding_of (nth_line (i.buffer ++ more) 0) (nth_line (i.buffer ++ more) 1) ≡ encoding_of (take first i.buffer) (take (second - first) (drop first i.buffer))
+    → encoding_of (nth_line (i.buffer ++ more) 0) (nth_line (i.buffer ++ more) 1) ≡ encoding_of (take first i.buffer)
+    (take (second - first) (drop first i.buffer))
 declared i first second h more broken f =
     ap (λ (w : List ℕ). encoding_of w (nth_line (i.buffer ++ more) 1)) (h.first_is more broken f) ∙ elim (h.second_is more broken f) [
       | inl e ↦ ap (encoding_of (take first i.buffer)) e
-      | inr none ↦ encoding_unsearched (take first i.buffer) (nth_line (i.buffer ++ more) 1) (take (second - first) (drop first i.buffer)) none
+      | inr none ↦ encoding_unsearched (take first i.buffer) (nth_line (i.buffer ++ more) 1)
+          (take (second - first) (drop first i.buffer)) none
     ]
 
 -- so the source is that under this encoding
 streamed : (i : Intake) (first second : ℕ) → Head i first second → (more : List ℕ) (broken : Bool) → FollowsAt i.reach more broken
-    → stream_of broken (i.buffer ++ more) ≡ stream_under (encoding_of (take first i.buffer) (take (second - first) (drop first i.buffer))) broken (i.buffer ++ more)
+    → stream_of broken (i.buffer ++ more) ≡ stream_under (encoding_of (take first i.buffer) (take (second - first) (drop first i.buffer)))
+    broken (i.buffer ++ more)
 unfolding stream_of
 streamed i first second h more broken f =
     let decided = h.decided more broken f in
     rw decided (ap (λ (r : Result Named SourceFault). stream_under r broken (i.buffer ++ more)) (declared i first second h more broken f))
 
-under_named : (named : Named) (broken : Bool) (bytes : List ℕ) → stream_under (Ok named) broken bytes ≡ Ok (record { encoding = named; text = (coming named.charset 1 broken (without_mark bytes)).text; fault = (coming named.charset 1 broken (without_mark bytes)).fault })
+under_named : (named : Named) (broken : Bool) (bytes : List ℕ)
+    → stream_under (Ok named) broken bytes ≡ Ok
+    (record {
+      encoding = named;
+      text = (coming named.charset 1 broken (without_mark bytes)).text;
+      fault =
+          (coming named.charset 1 broken (without_mark bytes)).fault;
+    })
 unfolding stream_under
 under_named named broken bytes = refl
 
@@ -57,18 +68,23 @@ without_mark_short bytes = elim (cases_Bool (has_mark bytes)) [
 ]
 
 -- the lines are opened
-pub opens : {x y : Seen} (i : Intake) (first second : ℕ) (named : Named) → ReadsBytes x y Reading i.reach 0 i.count i.buffer → i.count ≤ source_limit → Head i first second
-    → encoding_of (take first i.buffer) (take (second - first) (drop first i.buffer)) ≡ Ok named → Opens x y (held named 1 None (unmarked i))
+pub opens : {x y : Seen} (i : Intake) (first second : ℕ) (named : Named) → ReadsBytes x y Reading i.reach 0 i.count i.buffer
+    → i.count ≤ source_limit → Head i first second
+    → encoding_of (take first i.buffer) (take (second - first) (drop first i.buffer)) ≡ Ok named
+    → Opens x y (held named 1 None (unmarked i))
 opens i first second named takes within h is =
     let short = without_mark_short i.buffer in
     record {
       taken = i.buffer;
       reads = takes;
       source = λ more broken f.
-          let comes_here : coming named.charset 1 broken (without_mark (i.buffer ++ more)) ≡ comes (held named 1 None (unmarked i)) more broken =
+          let comes_here : coming named.charset 1 broken (without_mark (i.buffer ++ more)) ≡ comes
+          (held named 1 None (unmarked i)) more broken =
           ap (coming named.charset 1 broken) (h.mark more broken f) ∙ sym (comes_is named 1 (unmarked i) more broken) in
-          streamed i first second h more broken f ∙ ap (λ (r : Result Named SourceFault). stream_under r broken (i.buffer ++ more)) is ∙ under_named named broken (i.buffer ++ more)
-          ∙ ap (λ (c : Coming). let r : Result Parts StreamFault = Ok (record { encoding = named; text = c.text; fault = c.fault }) in r) comes_here;
+          streamed i first second h more broken f ∙ ap (λ (r : Result Named SourceFault). stream_under r broken (i.buffer ++ more)) is
+          ∙ under_named named broken (i.buffer ++ more)
+          ∙ ap (λ (c : Coming). let r : Result Parts StreamFault = Ok (record { encoding = named; text = c.text; fault = c.fault }) in r)
+          comes_here;
       row = refl;
       fault = refl;
       within = within;
@@ -77,24 +93,38 @@ opens i first second named takes within h is =
     }
 
 -- the encoding is refused
-refuses_unsupported : {x y : Seen} (i : Intake) (first second : ℕ) (place : Place) → ReadsBytes x y Reading i.reach 0 i.count i.buffer → Head i first second
-    → encoding_of (take first i.buffer) (take (second - first) (drop first i.buffer)) ≡ Err (cookies.UnsupportedEncoding place) → Refuses x y (UnsupportedEncoding place)
+refuses_unsupported : {x y : Seen} (i : Intake) (first second : ℕ) (place : Place)
+    → ReadsBytes x y Reading i.reach 0 i.count i.buffer → Head i first second
+    → encoding_of (take first i.buffer) (take (second - first) (drop first i.buffer)) ≡ Err (cookies.UnsupportedEncoding place)
+    → Refuses x y (UnsupportedEncoding place)
 unfolding stream_under
 refuses_unsupported {x} {y} i first second place takes h is = record {
   taken = i.buffer;
   reach = i.reach;
-  reads = subst (λ (n : ℕ). ReadsBytes x y Reading i.reach 0 n i.buffer) (let e : i.count ≡ length i.buffer = omega (arith, takes.count) in e) takes;
-  explains = (h.reach, λ more broken f. streamed i first second h more broken f ∙ ap (λ (r : Result Named SourceFault). stream_under r broken (i.buffer ++ more)) is);
+  reads = subst (λ (n : ℕ). ReadsBytes x y Reading i.reach 0 n i.buffer) (let e : i.count ≡ length i.buffer =
+      omega (arith, takes.count) in e) takes;
+  explains = (
+    h.reach,
+    λ more broken f. streamed i first second h more broken f
+        ∙ ap (λ (r : Result Named SourceFault). stream_under r broken (i.buffer ++ more)) is,
+  );
 }
 
-refuses_conflict : {x y : Seen} (i : Intake) (first second : ℕ) (place : Place) → ReadsBytes x y Reading i.reach 0 i.count i.buffer → Head i first second
-    → encoding_of (take first i.buffer) (take (second - first) (drop first i.buffer)) ≡ Err (cookies.BomConflict place) → Refuses x y (BomConflict place)
+refuses_conflict : {x y : Seen} (i : Intake) (first second : ℕ) (place : Place)
+    → ReadsBytes x y Reading i.reach 0 i.count i.buffer → Head i first second
+    → encoding_of (take first i.buffer) (take (second - first) (drop first i.buffer)) ≡ Err (cookies.BomConflict place)
+    → Refuses x y (BomConflict place)
 unfolding stream_under
 refuses_conflict {x} {y} i first second place takes h is = record {
   taken = i.buffer;
   reach = i.reach;
-  reads = subst (λ (n : ℕ). ReadsBytes x y Reading i.reach 0 n i.buffer) (let e : i.count ≡ length i.buffer = omega (arith, takes.count) in e) takes;
-  explains = (h.reach, λ more broken f. streamed i first second h more broken f ∙ ap (λ (r : Result Named SourceFault). stream_under r broken (i.buffer ++ more)) is);
+  reads = subst (λ (n : ℕ). ReadsBytes x y Reading i.reach 0 n i.buffer) (let e : i.count ≡ length i.buffer =
+      omega (arith, takes.count) in e) takes;
+  explains = (
+    h.reach,
+    λ more broken f. streamed i first second h more broken f
+        ∙ ap (λ (r : Result Named SourceFault). stream_under r broken (i.buffer ++ more)) is,
+  );
 }
 
 -- want of memory is never why lines declare no encoding
@@ -110,7 +140,8 @@ neither false x y p q = q
 
 named_never : (marked : Bool) (row : ℕ) (cookie : List ℕ) → NotMemory (named_by marked row cookie)
 named_never marked row cookie =
-    neither (is_utf_8 cookie) _ _ tt (neither (is_spelled cookie (codes "utf8")) _ _ tt (neither (is_ascii_name cookie) _ _ (neither marked _ _ tt tt) tt))
+    neither (is_utf_8 cookie) _ _ tt (neither (is_spelled cookie (codes "utf8")) _ _ tt
+    (neither (is_ascii_name cookie) _ _ (neither marked _ _ tt tt) tt))
 
 never_memory : (first second : List ℕ) → NotMemory (encoding_of first second)
 never_memory first second =
@@ -118,13 +149,16 @@ never_memory first second =
     neither (nat_lt 0 (length (cookie_of line))) _ _ (named_never (has_mark first) 1 (cookie_of line))
     (neither (leads_on line && nat_lt 0 (length (cookie_of second))) _ _ (named_never (has_mark first) 2 (cookie_of second)) tt)
 
-pub refuses_source : {x y : Seen} (i : Intake) (first second : ℕ) (fault : SourceFault) → ReadsBytes x y Reading i.reach 0 i.count i.buffer → Head i first second
+pub refuses_source : {x y : Seen} (i : Intake) (first second : ℕ) (fault : SourceFault)
+    → ReadsBytes x y Reading i.reach 0 i.count i.buffer → Head i first second
     → encoding_of (take first i.buffer) (take (second - first) (drop first i.buffer)) ≡ Err fault → Refuses x y (of_source fault)
 refuses_source i first second (cookies.UnsupportedEncoding place) takes h is = refuses_unsupported i first second place takes h is
 refuses_source i first second (cookies.BomConflict place) takes h is = refuses_conflict i first second place takes h is
-refuses_source i first second cookies.Memory takes h is = absurd (subst NotMemory is (never_memory (take first i.buffer) (take (second - first) (drop first i.buffer))))
+refuses_source i first second cookies.Memory takes h is =
+    absurd (subst NotMemory is (never_memory (take first i.buffer) (take (second - first) (drop first i.buffer))))
 
-cut_off : (r : Reach) (more : List ℕ) (broken : Bool) → (r ≡ Broken) ⊎ (r ≡ Passed) → FollowsAt r more broken → (more ≡ []) × (broken ≡ true)
+cut_off : (r : Reach) (more : List ℕ) (broken : Bool) → (r ≡ Broken) ⊎ (r ≡ Passed) → FollowsAt r more broken
+    → (more ≡ []) × (broken ≡ true)
 cut_off r more broken (inl e) f = subst (λ (q : Reach). FollowsAt q more broken) e f
 cut_off r more broken (inr e) f = subst (λ (q : Reach). FollowsAt q more broken) e f
 
@@ -133,23 +167,27 @@ unfolding stream_of
 unreadable bytes e = rw e refl
 
 -- the lines that decide could not be read
-pub refuses_head : {x y : Seen} (i : Intake) (fault : StreamFault) → ReadsBytes x y Reading i.reach 0 i.count i.buffer → FoundHeads i (Err fault) → Refuses x y fault
+pub refuses_head : {x y : Seen} (i : Intake) (fault : StreamFault) → ReadsBytes x y Reading i.reach 0 i.count i.buffer
+    → FoundHeads i (Err fault) → Refuses x y fault
 refuses_head {x} {y} i Read takes found = record {
   taken = i.buffer;
   reach = i.reach;
-  reads = subst (λ (n : ℕ). ReadsBytes x y Reading i.reach 0 n i.buffer) (let e : i.count ≡ length i.buffer = omega (arith, takes.count) in e) takes;
+  reads = subst (λ (n : ℕ). ReadsBytes x y Reading i.reach 0 n i.buffer) (let e : i.count ≡ length i.buffer =
+      omega (arith, takes.count) in e) takes;
   explains = (
     found.reach,
     λ more broken f.
         let none = cut_off i.reach more broken found.reach f in
-        ap (λ (w : List ℕ). stream_of broken (i.buffer ++ w)) none.0 ∙ ap (λ (q : Bool). stream_of q (i.buffer ++ [])) none.1 ∙ ap (stream_of true) (append-nil i.buffer)
+        ap (λ (w : List ℕ). stream_of broken (i.buffer ++ w)) none.0 ∙ ap (λ (q : Bool). stream_of q (i.buffer ++ [])) none.1
+        ∙ ap (stream_of true) (append-nil i.buffer)
         ∙ unreadable i.buffer found.undecided,
   );
 }
 refuses_head {x} {y} i Memory takes found = record {
   taken = i.buffer;
   reach = i.reach;
-  reads = subst (λ (n : ℕ). ReadsBytes x y Reading i.reach 0 n i.buffer) (let e : i.count ≡ length i.buffer = omega (arith, takes.count) in e) takes;
+  reads = subst (λ (n : ℕ). ReadsBytes x y Reading i.reach 0 n i.buffer) (let e : i.count ≡ length i.buffer =
+      omega (arith, takes.count) in e) takes;
   explains = found;
 }
 refuses_head i (UnsupportedEncoding place) takes found = absurd found
@@ -163,7 +201,8 @@ pub unmarked_same : (i : Intake) → has_mark i.buffer ≡ false → i.buffer �
 unmarked_same i e = rw e refl
 
 -- Where no read failed, known bytes are refused by `Read` only past the limit.
-pub read_past_limit : (bytes : List ℕ) (x y : Seen) → x.to_come ≡ Some bytes → y.failures ≡ x.failures → Refuses x y Read → source_limit < length bytes
+pub read_past_limit : (bytes : List ℕ) (x y : Seen) → x.to_come ≡ Some bytes → y.failures ≡ x.failures → Refuses x y Read
+    → source_limit < length bytes
 read_past_limit bytes x y known told r = elim r.explains.0 [
   | inl broken ↦ absurd (let failed = ap fails broken in omega (arith, r.reads.told, told, failed))
   | inr passed ↦

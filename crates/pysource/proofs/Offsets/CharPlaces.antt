@@ -1,6 +1,7 @@
 -- Carries: place_of, good_part.
 -- The row and the column by the bytes of a text are those by its characters.
-use Rattle.std.proofs.Common.{◌≡◌, ℕ, zero, suc, ◌+◌, ◌≤◌, Bool, false, not, List, [], ◌∷◌, ◌++◌, length, sym, ap, subst, refl, inl, inr, ◌∙◌, arith, length-append}
+use Rattle.std.proofs.Common.{◌≡◌, ℕ, zero, suc, ◌+◌, ◌≤◌, Bool, false, not, List, [], ◌∷◌, ◌++◌, length, sym, ap, subst, refl, inl, inr}
+use Rattle.std.proofs.Common.{◌∙◌, arith, length-append}
 use Rattle.std.specs.Prelude.{◌||◌, IsUtf8, count_by}
 use Rattle.std.specs.List.{after_last, suffix_len}
 use Rattle.std.specs.Str.{chars}
@@ -31,10 +32,12 @@ none_had (x ∷ xs) h = elim (cases_Bool (is_lf x)) [
 ]
 
 no_lf_chars : (bs : List ℕ) → IsUtf8 bs → NoLf bs → NoLf (chars bs)
-no_lf_chars bs u h = none_had (chars bs) (sym (some_character 10 (chars bs) (omega arith)) ∙ ap (has 10) (encodes-chars bs u) ∙ has_none bs h)
+no_lf_chars bs u h = none_had (chars bs) (sym (some_character 10 (chars bs) (omega arith))
+    ∙ ap (has 10) (encodes-chars bs u) ∙ has_none bs h)
 
 -- the characters of a line and of what follows
-line_chars : (front rest : List ℕ) → IsUtf8 ((front ++ 10 ∷ []) ++ rest) → IsUtf8 front × (chars ((front ++ 10 ∷ []) ++ rest) ≡ (chars front ++ 10 ∷ []) ++ chars rest)
+line_chars : (front rest : List ℕ) → IsUtf8 ((front ++ 10 ∷ []) ++ rest)
+    → IsUtf8 front × (chars ((front ++ 10 ∷ []) ++ rest) ≡ (chars front ++ 10 ∷ []) ++ chars rest)
 unfolding chars lib.Utf8.encode
 line_chars front rest u =
     let line = line_text front rest u in
@@ -51,8 +54,12 @@ Placed t = (count_by is_lf t ≡ count_by is_lf (chars t)) × (length (chars (af
 placed_last : (t : List ℕ) → IsUtf8 t → NoLf t → Placed t
 placed_last t u clean =
     let spelled = no_lf_chars t u clean in
-    let whole = suffix_len_is (λ c. not (is_lf c)) (chars t) 0 0 (omega arith) (λ k l h. ap not (spelled k h)) (λ l. absurd (omega arith)) in
-    (count_none t clean ∙ sym (count_none (chars t) spelled), ap (λ (x : List ℕ). length (chars x)) (after_last_none is_lf t clean) ∙ omega (arith, whole))
+    let whole = suffix_len_is (λ c. not (is_lf c)) (chars t) 0 0 (omega arith) (λ k l h. ap not (spelled k h))
+    (λ l. absurd (omega arith)) in (
+      count_none t clean ∙ sym (count_none (chars t) spelled),
+      ap (λ (x : List ℕ). length (chars x)) (after_last_none is_lf t clean)
+          ∙ omega (arith, whole),
+    )
 
 -- behind a line
 placed_next : (front rest : List ℕ) → IsUtf8 ((front ++ 10 ∷ []) ++ rest) → NoLf front → Placed rest → Placed ((front ++ 10 ∷ []) ++ rest)
@@ -61,7 +68,8 @@ placed_next front rest u clean p =
     let rows = count_behind (chars front) (chars rest) (no_lf_chars front parts.0 clean) in
     let columns = suffix_behind (chars front) (chars rest) in (
       count_behind front rest clean ∙ ap (λ (n : ℕ). 1 + n) p.0 ∙ sym rows ∙ ap (count_by is_lf) (sym parts.1),
-      ap (λ (x : List ℕ). length (chars x)) (after_last_behind front rest) ∙ p.1 ∙ sym columns ∙ ap (suffix_len (λ c. not (is_lf c))) (sym parts.1),
+      ap (λ (x : List ℕ). length (chars x)) (after_last_behind front rest) ∙ p.1 ∙ sym columns
+          ∙ ap (suffix_len (λ c. not (is_lf c))) (sym parts.1),
     )
 
 placed_within : (n : ℕ) (t : List ℕ) → length t ≤ n → IsUtf8 t → Placed t
@@ -79,7 +87,11 @@ placed_within (suc n) (b ∷ bs) h u = elim (cut (b ∷ bs) (omega arith)) [
 ]
 
 -- the place after a text, by its bytes
-pub place_by_bytes : (t : List ℕ) → IsUtf8 t → place_after (chars t) ≡ record { row = 1 + count_by is_lf t; column = length (chars (after_last is_lf t)) }
+pub place_by_bytes : (t : List ℕ) → IsUtf8 t → place_after (chars t) ≡ record {
+  row = 1 + count_by is_lf t;
+  column =
+      length (chars (after_last is_lf t));
+}
 unfolding place_after
 place_by_bytes t u =
     let p = placed_within (length t) t (omega arith) u in

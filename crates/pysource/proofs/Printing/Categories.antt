@@ -36,19 +36,22 @@ surrogates_other : (c : ℕ) → c ≤ 0x10_FFFF → passes (in_group Other) (in
 unfolding ucd_category
 surrogates_other c le =
     Stepped-always (λ x. passes (in_group Other) (in_ranges surrogates x) (general_category x))
-    (zip_stepped (passes (in_group Other)) (in_ranges surrogates) general_category (of_ranges surrogates refl) general_category_stepped) refl c le
+    (zip_stepped (passes (in_group Other)) (in_ranges surrogates) general_category (of_ranges surrogates refl) general_category_stepped)
+    refl c le
 
 shown_never_other : (c : ℕ) → c ≤ 0x10_FFFF → passes (λ g. not (in_group Other g)) (in_ranges shown c) (general_category c) ≡ true
 unfolding ucd_category
 shown_never_other c le =
     Stepped-always (λ x. passes (λ g. not (in_group Other g)) (in_ranges shown x) (general_category x))
-    (zip_stepped (passes (λ g. not (in_group Other g))) (in_ranges shown) general_category (of_ranges shown refl) general_category_stepped) refl c le
+    (zip_stepped (passes (λ g. not (in_group Other g))) (in_ranges shown) general_category (of_ranges shown refl) general_category_stepped)
+    refl c le
 
 marks_never_separator : (c : ℕ) → c ≤ 0x10_FFFF → passes (λ g. not (in_group Separator g)) (in_ranges marks c) (general_category c) ≡ true
 unfolding ucd_category
 marks_never_separator c le =
     Stepped-always (λ x. passes (λ g. not (in_group Separator g)) (in_ranges marks x) (general_category x))
-    (zip_stepped (passes (λ g. not (in_group Separator g))) (in_ranges marks) general_category (of_ranges marks refl) general_category_stepped) refl c le
+    (zip_stepped (passes (λ g. not (in_group Separator g))) (in_ranges marks) general_category (of_ranges marks refl)
+    general_category_stepped) refl c le
 
 surrogate_other : (c : ℕ) → 0xD800 ≤ c → c < 0xE000 → in_group Other (general_category c) ≡ true
 unfolding in_ranges

@@ -1,7 +1,8 @@
 -- The repr of a text, from its bytes and its characters.
 --
 -- Carries: is_plain_text, push_escaped, push_plain, push_plain_points, push_repr_points, split_plain. On: Categories, ReprsLemmas.
-use Rattle.std.proofs.Common.{◌≡◌, ℕ, suc, ◌+◌, ◌-◌, ◌<◌, Bool, nat_le, leb-true, true, false, List, [], ◌∷◌, ◌++◌, get_or, length, take, refl, sym, subst, ap, ap₂, ◌∙◌, arith, inl, inr, append-nil, length-append}
+use Rattle.std.proofs.Common.{◌≡◌, ℕ, suc, ◌+◌, ◌-◌, ◌<◌, Bool, nat_le, leb-true, true, false, List, [], ◌∷◌, ◌++◌, get_or, length, take}
+use Rattle.std.proofs.Common.{refl, sym, subst, ap, ap₂, ◌∙◌, arith, inl, inr, append-nil, length-append}
 use Rattle.std.specs.Prelude.{◌==◌, ◌||◌, not, ◌&&◌, IsUtf8, All, if◌then◌else◌}
 use Rattle.std.specs.List.{list_all, list_any, prefix_len, flat_map}
 use Rattle.std.specs.Char.{encode_utf8}
@@ -9,7 +10,9 @@ use Rattle.std.specs.Str.{IsAscii, IsCharBoundary, chars, encode_utf8_all}
 use Rattle.std.proofs.Math.Bool.{or-false}
 use Rattle.std.proofs.lemmas.Bool.Decides.{nat_tests}
 use Rattle.std.proofs.lemmas.Bool.{and_from, and_parts, both_ways, cases_Bool, cases_eq, cases_lt, ne_eqb}
-use Rattle.std.proofs.lemmas.Str.{IsCharBoundary-start, IsCharBoundary-after_ascii, IsUtf8-from_ascii, IsAscii-append, chars-IsAscii, chars-append, chars-nil, chars_past_char, encode_ascii, encodes-IsAscii, encodes-append, encodes-chars, inside_one}
+use Rattle.std.proofs.lemmas.Str.{IsCharBoundary-start, IsCharBoundary-after_ascii, IsUtf8-from_ascii, IsAscii-append, chars-IsAscii}
+use Rattle.std.proofs.lemmas.Str.{chars-append, chars-nil, chars_past_char, encode_ascii, encodes-IsAscii, encodes-append, encodes-chars}
+use Rattle.std.proofs.lemmas.Str.{inside_one}
 use Rattle.std.proofs.lemmas.Str.Ascii.{IsAscii-nil, IsAscii-cons}
 use Rattle.std.proofs.lemmas.List.{append_assoc}
 use Rattle.std.proofs.lemmas.List.Elements.{All-from_get_or}
@@ -88,7 +91,8 @@ between q points = encode_utf8_all (flat_map (escaped is_unprintable q) points)
 abbrev pub inner : ℕ → List ℕ → List ℕ
 inner q bs = between q (chars bs)
 
-plain_between : (q : ℕ) (plain tail : List ℕ) → is_plain q ≡ false → list_all is_plain plain ≡ true → between q (plain ++ tail) ≡ plain ++ between q tail
+plain_between : (q : ℕ) (plain tail : List ℕ) → is_plain q ≡ false → list_all is_plain plain ≡ true
+    → between q (plain ++ tail) ≡ plain ++ between q tail
 plain_between q plain tail quote passes =
     let f = escaped is_unprintable q in
     ap encode_utf8_all (flat_map-append f plain tail)
@@ -96,10 +100,12 @@ plain_between q plain tail quote passes =
     ∙ ap (λ (bs : List ℕ). encode_utf8_all bs ++ between q tail) (plain_all q plain quote passes)
     ∙ ap (λ (bs : List ℕ). bs ++ between q tail) (encodes-IsAscii plain (plain_ascii plain passes))
 
-plain_front : (q : ℕ) (plain tail : List ℕ) → is_plain q ≡ false → list_all is_plain plain ≡ true → inner q (plain ++ tail) ≡ plain ++ inner q tail
+plain_front : (q : ℕ) (plain tail : List ℕ) → is_plain q ≡ false → list_all is_plain plain ≡ true
+    → inner q (plain ++ tail) ≡ plain ++ inner q tail
 plain_front q plain tail quote passes =
     let ascii = plain_ascii plain passes in
-    ap (between q) (chars-append plain tail (IsUtf8-from_ascii plain ascii) ∙ ap (λ (cs : List ℕ). cs ++ chars tail) (chars-IsAscii plain ascii))
+    ap (between q) (chars-append plain tail (IsUtf8-from_ascii plain ascii)
+    ∙ ap (λ (cs : List ℕ). cs ++ chars tail) (chars-IsAscii plain ascii))
     ∙ plain_between q plain (chars tail) quote passes
 
 -- neither quote is plain
@@ -112,30 +118,35 @@ quote_not_plain cs = either (has 39 cs && not (has 34 cs))
 
 -- Below, an output and what is still to come of a text make up a whole.
 
-moved : (out new part to_come left whole : List ℕ) → out ++ to_come ≡ whole → to_come ≡ part ++ left → new ≡ out ++ part → new ++ left ≡ whole
+moved : (out new part to_come left whole : List ℕ) → out ++ to_come ≡ whole → to_come ≡ part ++ left
+    → new ≡ out ++ part → new ++ left ≡ whole
 moved out new part to_come left whole so_far cut grown =
     ap (λ (bs : List ℕ). bs ++ left) grown ∙ append_assoc out part left ∙ ap (λ (bs : List ℕ). out ++ bs) (sym cut) ∙ so_far
 
 -- a plain front was appended
-pub plain_pushed : (q : ℕ) (cs text plain tail out new whole : List ℕ) → q ≡ quote_for cs → text ≡ plain ++ tail → list_all is_plain plain ≡ true
+pub plain_pushed : (q : ℕ) (cs text plain tail out new whole : List ℕ) → q ≡ quote_for cs → text ≡ plain ++ tail
+    → list_all is_plain plain ≡ true
     → out ++ inner q text ≡ whole → new ≡ out ++ plain → new ++ inner q tail ≡ whole
 plain_pushed q cs text plain tail out new whole quote cut passes so_far grown =
     let not_plain : is_plain q ≡ false = ap is_plain quote ∙ quote_not_plain cs in
     moved out new plain (inner q text) (inner q tail) whole so_far (ap (inner q) cut ∙ plain_front q plain tail not_plain passes) grown
 
 -- the same of code points
-pub plain_points_pushed : (q : ℕ) (cs points plain tail out new whole : List ℕ) → q ≡ quote_for cs → points ≡ plain ++ tail → list_all is_plain plain ≡ true
+pub plain_points_pushed : (q : ℕ) (cs points plain tail out new whole : List ℕ) → q ≡ quote_for cs → points ≡ plain ++ tail
+    → list_all is_plain plain ≡ true
     → out ++ between q points ≡ whole → new ≡ out ++ plain → new ++ between q tail ≡ whole
 plain_points_pushed q cs points plain tail out new whole quote cut passes so_far grown =
     let not_plain : is_plain q ≡ false = ap is_plain quote ∙ quote_not_plain cs in
-    moved out new plain (between q points) (between q tail) whole so_far (ap (between q) cut ∙ plain_between q plain tail not_plain passes) grown
+    moved out new plain (between q points) (between q tail) whole so_far (ap (between q) cut
+    ∙ plain_between q plain tail not_plain passes) grown
 
 -- what stands for one code point was appended
 pub point_pushed : (q c : ℕ) (points rest out new whole : List ℕ) → points ≡ c ∷ rest
     → out ++ between q points ≡ whole → new ≡ out ++ encode_utf8_all (escaped is_unprintable q c) → new ++ between q rest ≡ whole
 point_pushed q c points rest out new whole cut so_far grown =
     let f = escaped is_unprintable q in
-    moved out new (encode_utf8_all (f c)) (between q points) (between q rest) whole so_far (ap (between q) cut ∙ encodes-append (f c) (flat_map f rest)) grown
+    moved out new (encode_utf8_all (f c)) (between q points) (between q rest) whole so_far (ap (between q) cut
+    ∙ encodes-append (f c) (flat_map f rest)) grown
 
 -- what stands for one character was appended
 pub character_pushed : (q c : ℕ) (text rest out new whole : List ℕ) → IsUtf8 text → text ≡ encode_utf8 c ++ rest
@@ -143,11 +154,13 @@ pub character_pushed : (q c : ℕ) (text rest out new whole : List ℕ) → IsUt
 character_pushed q c text rest out new whole utf8 cut so_far grown =
     let f = escaped is_unprintable q in
     let parts : inner q text ≡ encode_utf8_all (f c) ++ inner q rest =
-    ap (λ (cs : List ℕ). encode_utf8_all (flat_map f cs)) (chars_past_char text rest c utf8 cut) ∙ encodes-append (f c) (flat_map f (chars rest)) in
+    ap (λ (cs : List ℕ). encode_utf8_all (flat_map f cs)) (chars_past_char text rest c utf8 cut)
+    ∙ encodes-append (f c) (flat_map f (chars rest)) in
     moved out new (encode_utf8_all (f c)) (inner q text) (inner q rest) whole so_far parts grown
 
 -- the output behind the closing quote, where nothing is still to come
-pub closed : (q : ℕ) (tail cs base old new : List ℕ) → length tail ≡ 0 → old ++ inner q tail ≡ base ++ encode_utf8_all (q ∷ flat_map (escaped is_unprintable q) cs)
+pub closed : (q : ℕ) (tail cs base old new : List ℕ) → length tail ≡ 0
+    → old ++ inner q tail ≡ base ++ encode_utf8_all (q ∷ flat_map (escaped is_unprintable q) cs)
     → new ≡ old ++ encode_utf8_all (q ∷ []) → new ≡ base ++ encode_utf8_all (q ∷ flat_map (escaped is_unprintable q) cs ++ q ∷ [])
 closed q [] cs base old new empty so_far grown =
     let all : old ≡ base ++ encode_utf8_all (q ∷ flat_map (escaped is_unprintable q) cs) =
@@ -158,7 +171,8 @@ closed q [] cs base old new empty so_far grown =
 closed q (b ∷ bs) cs base old new empty so_far grown = absurd (omega (arith, empty))
 
 -- the same of code points
-pub points_closed : (q : ℕ) (tail points base old new : List ℕ) → length tail ≡ 0 → old ++ between q tail ≡ base ++ encode_utf8_all (q ∷ flat_map (escaped is_unprintable q) points)
+pub points_closed : (q : ℕ) (tail points base old new : List ℕ) → length tail ≡ 0
+    → old ++ between q tail ≡ base ++ encode_utf8_all (q ∷ flat_map (escaped is_unprintable q) points)
     → new ≡ old ++ encode_utf8_all (q ∷ []) → new ≡ base ++ encode_utf8_all (q ∷ flat_map (escaped is_unprintable q) points ++ q ∷ [])
 points_closed q [] points base old new empty so_far grown =
     end_encoded (escaped is_unprintable q) q points base old new (sym (append-nil old) ∙ so_far) grown
@@ -181,7 +195,8 @@ plain_boundary bs n text is = elim (cases_eq n 0) [
       let place : n - 1 + 1 ≡ n = omega arith in
       let within = prefix_len-le-length is_plain bs in
       let last : is_plain (get_or bs (n - 1) 0) ≡ true = prefix_len_passes is_plain bs (n - 1) 0 (omega (arith, is)) in
-      subst (λ (k : ℕ). IsCharBoundary bs k) place (IsCharBoundary-after_ascii bs (n - 1) text (omega (arith, within, is)) (plain_below (get_or bs (n - 1) 0) last))
+      subst (λ (k : ℕ). IsCharBoundary bs k) place (IsCharBoundary-after_ascii bs (n - 1) text (omega (arith, within, is))
+      (plain_below (get_or bs (n - 1) 0) last))
 ]
 
 one_more : (m n : ℕ) → (1 + m == suc n) ≡ (m == n)
@@ -207,7 +222,8 @@ no_quote (b ∷ bs) plain =
 
 quoted_ascii : (bs : List ℕ) → list_all is_plain bs ≡ true → IsAscii (39 ∷ bs ++ 39 ∷ [])
 quoted_ascii bs plain =
-    IsAscii-append (39 ∷ bs) (39 ∷ []) (IsAscii-cons 39 bs (omega arith) (plain_ascii bs plain)) (IsAscii-cons 39 [] (omega arith) IsAscii-nil)
+    IsAscii-append (39 ∷ bs) (39 ∷ []) (IsAscii-cons 39 bs (omega arith) (plain_ascii bs plain))
+    (IsAscii-cons 39 [] (omega arith) IsAscii-nil)
 
 -- the repr of a plain text
 pub plain_repr : (bs : List ℕ) → list_all is_plain bs ≡ true → repr_text (chars bs) ≡ 39 ∷ bs ++ 39 ∷ []

@@ -47,9 +47,11 @@ pub encodes_hex_escape : (c : ℕ) → encode_utf8_all (hex_escape c) ≡ hex_es
 encodes_hex_escape c = encodes-IsAscii (hex_escape c) (hex_escape_ascii c)
 
 -- the end of an output
-pub end_encoded : (f : ℕ → List ℕ) (q : ℕ) (xs base old new : List ℕ) → old ≡ base ++ encode_utf8_all (q ∷ flat_map f xs) → new ≡ old ++ encode_utf8_all (q ∷ []) → new ≡ base ++ encode_utf8_all (q ∷ flat_map f xs ++ q ∷ [])
+pub end_encoded : (f : ℕ → List ℕ) (q : ℕ) (xs base old new : List ℕ) → old ≡ base ++ encode_utf8_all (q ∷ flat_map f xs)
+    → new ≡ old ++ encode_utf8_all (q ∷ []) → new ≡ base ++ encode_utf8_all (q ∷ flat_map f xs ++ q ∷ [])
 end_encoded f q xs base old new e g =
-    g ∙ ap (λ bs. bs ++ encode_utf8_all (q ∷ [])) e ∙ append_assoc base _ _ ∙ ap (λ bs. base ++ bs) (sym (encodes-append (q ∷ flat_map f xs) (q ∷ [])))
+    g ∙ ap (λ bs. bs ++ encode_utf8_all (q ∷ [])) e ∙ append_assoc base _ _
+    ∙ ap (λ bs. base ++ bs) (sym (encodes-append (q ∷ flat_map f xs) (q ∷ [])))
 
 -- what kept an output that had grown, kept the output
 pub kept_front : (base mid new more : List ℕ) → mid ≡ base ++ more → StartsWith new mid → StartsWith new base

@@ -1,13 +1,15 @@
 -- The bytes of a buffer after a skip and after a read.
 --
 -- Carries: read_from, skip. On: LinesLemmas.
-use Rattle.std.proofs.Common.{◌≡◌, ℕ, ◌+◌, ◌-◌, ◌≤◌, List, ◌++◌, length, take, drop, sym, ap, ◌∙◌, arith, length-drop, length-append, append-nil}
+use Rattle.std.proofs.Common.{◌≡◌, ℕ, ◌+◌, ◌-◌, ◌≤◌, List, ◌++◌, length, take, drop, sym, ap, ◌∙◌, arith, length-drop, length-append}
+use Rattle.std.proofs.Common.{append-nil}
 use Rattle.std.proofs.lemmas.List.{take-append-le, length-take-le, drop-drop, drop-take, drop-append-le}
 use Rattle.std.proofs.lemmas.Slice.{between_is}
 use Rattle.pysource.proofs.FaultyLines.LinesLemmas.{take_over}
 
 -- what a skip leaves
-pub skip_view : (room : List ℕ) (from to count : ℕ) → count ≤ to - from → take (to - (from + count)) (drop (from + count) room) ≡ drop count (take (to - from) (drop from room))
+pub skip_view : (room : List ℕ) (from to count : ℕ) → count ≤ to - from → take (to - (from + count)) (drop (from + count) room) ≡ drop count
+    (take (to - from) (drop from room))
 skip_view room from to count h =
     let whole : to - from ≡ count + (to - (from + count)) = omega arith in
     sym (ap (λ (n : ℕ). drop count (take n (drop from room))) whole ∙ drop-take count (to - (from + count)) (drop from room)
@@ -36,7 +38,8 @@ read_view_none room buf post from to low high =
     ∙ append-nil (take (to - from) (drop from room))
 
 -- a write in the middle leaves the length
-pub put_size : (room buf : List ℕ) (to k : ℕ) → to + k ≤ length room → length buf ≡ k → length (take to room ++ (buf ++ drop k (drop to room))) ≡ length room
+pub put_size : (room buf : List ℕ) (to k : ℕ) → to + k ≤ length room → length buf ≡ k
+    → length (take to room ++ (buf ++ drop k (drop to room))) ≡ length room
 put_size room buf to k within size =
     let front = length-take-le to room (omega arith) in
     let back = length-drop k (drop to room) in

@@ -2,7 +2,8 @@
 --
 -- Carries: read_from, fill, line_end, read_all, write_all.
 use Rattle.std.specs.Prelude.{slice_set}
-use Rattle.std.proofs.Common.{◌≡◌, ◌≢◌, ◌<◌, arith, ℕ, zero, suc, Ok, ◌+◌, true, List, [], ◌∷◌, ◌++◌, length, take, drop, Option, None, Some, refl, sym, ◌∙◌, ap, append_assoc, append-nil, ◌-◌, length-drop}
+use Rattle.std.proofs.Common.{◌≡◌, ◌≢◌, ◌<◌, arith, ℕ, zero, suc, Ok, ◌+◌, true, List, [], ◌∷◌, ◌++◌, length, take, drop, Option, None}
+use Rattle.std.proofs.Common.{Some, refl, sym, ◌∙◌, ap, append_assoc, append-nil, ◌-◌, length-drop}
 use Rattle.std.specs.Io.KnownBytes.{Appends, Consumes, Keeps}
 use Rattle.std.proofs.Math.Seq.{take-add, take-length}
 use Rattle.std.proofs.lemmas.List.{take-append-drop}
@@ -53,7 +54,8 @@ Consumes-refl None = tt
 Consumes-refl (Some x) = refl
 
 -- what was taken so far, and the next n bytes of the rest
-pub Appends-more : (x y z : Option (List ℕ)) (at n : ℕ) (bytes : List ℕ) → Appends x y (take at bytes) → Appends y z (take n (drop at bytes))
+pub Appends-more : (x y z : Option (List ℕ)) (at n : ℕ) (bytes : List ℕ) → Appends x y (take at bytes)
+    → Appends y z (take n (drop at bytes))
     → Appends x z (take (at + n) bytes)
 Appends-more x y z at n bytes p q = rw take-add (Appends-append x y z (take at bytes) (take n (drop at bytes)) p q)
 
@@ -68,12 +70,18 @@ pub slice_from : (at : ℕ) (bytes : List ℕ) → take (length bytes - at) (dro
 slice_from at bytes = rw (← length-drop at bytes) (take-length (drop at bytes))
 
 -- a write of the rest that took nothing
-pub TakesFront-at : (x y z : Option (List ℕ)) (at : ℕ) (bytes : List ℕ) → Appends x y (take at bytes) → Appends y z [] → TakesFront x z bytes
-TakesFront-at x y z at bytes p q =
-    (take at bytes, drop at bytes, sym (take-append-drop at bytes), rw (← append-nil (take at bytes)) (Appends-append x y z (take at bytes) [] p q))
+pub TakesFront-at : (x y z : Option (List ℕ)) (at : ℕ) (bytes : List ℕ) → Appends x y (take at bytes)
+    → Appends y z [] → TakesFront x z bytes
+TakesFront-at x y z at bytes p q = (
+  take at bytes,
+  drop at bytes,
+  sym (take-append-drop at bytes),
+  rw (← append-nil (take at bytes)) (Appends-append x y z (take at bytes) [] p q),
+)
 
 -- a front of a part that stands after what was taken is a front of the whole
-pub TakesFront-after : (x y z : Option (List ℕ)) (done part rest whole : List ℕ) → whole ≡ done ++ (part ++ rest) → Appends x y done → TakesFront y z part
+pub TakesFront-after : (x y z : Option (List ℕ)) (done part rest whole : List ℕ) → whole ≡ done ++ (part ++ rest)
+    → Appends x y done → TakesFront y z part
     → TakesFront x z whole
 TakesFront-after x y z done part rest whole is p (front, back, cut, q) =
     (done ++ front, back ++ rest, is ∙ (ap (λ t. done ++ (t ++ rest)) cut ∙ simp append_assoc), Appends-append x y z done front p q)

@@ -1,7 +1,8 @@
 -- Reads one after another.
 --
 -- Carries: fill, line_end, read_head. On: ByteLemmas.
-use Rattle.std.proofs.Common.{◌≡◌, ◌≢◌, ℕ, ◌+◌, ◌<◌, ◌≤◌, List, [], ◌∷◌, ◌++◌, length, sym, ap, subst, refl, inl, inr, ◌∙◌, arith, length-append, append_assoc, append-nil}
+use Rattle.std.proofs.Common.{◌≡◌, ◌≢◌, ℕ, ◌+◌, ◌<◌, ◌≤◌, List, [], ◌∷◌, ◌++◌, length, sym, ap, subst, refl, inl, inr, ◌∙◌, arith}
+use Rattle.std.proofs.Common.{length-append, append_assoc, append-nil}
 use Rattle.std.specs.Prelude.{◌⊎◌}
 use Rattle.std.specs.Io.KnownBytes.{Consumes, IsAtEnd}
 use Rattle.std.proofs.lemmas.Bool.{cases_lt}
@@ -43,14 +44,17 @@ pub lost_none : {x y : Seen} {c d : ℕ} {r : Reach} {t : List ℕ} (p : ReadsBy
 lost_none p = none_of p.lost (elim (zero_or p.lost) [ inl e ↦ e | inr h ↦ absurd (let e = (p.passed h).0 in cc) ])
 
 -- reads, and then others
-pub ReadsBytes-append : {x y z : Seen} {k l m : ℕ} {r s : Reach} (t u : List ℕ) → ReadsBytes x y r Reading k l t → ReadsBytes y z Reading s l m u → ReadsBytes x z r s k m (t ++ u)
+pub ReadsBytes-append : {x y z : Seen} {k l m : ℕ} {r s : Reach} (t u : List ℕ) → ReadsBytes x y r Reading k l t
+    → ReadsBytes y z Reading s l m u → ReadsBytes x z r s k m (t ++ u)
 ReadsBytes-append {x} {y} {z} {k} {l} {m} {r} {s} t u p q =
     let none = lost_none p in
-    let first : Consumes x.to_come y.to_come t = subst (Consumes x.to_come y.to_come) (ap (λ (w : List ℕ). t ++ w) none ∙ append-nil t) p.consumes in
+    let first : Consumes x.to_come y.to_come t = subst (Consumes x.to_come y.to_come) (ap (λ (w : List ℕ). t ++ w) none
+    ∙ append-nil t) p.consumes in
     let whole = length-append t u in
     record {
       lost = q.lost;
-      consumes = subst (Consumes x.to_come z.to_come) (sym (append_assoc t u q.lost)) (Consumes-append x.to_come y.to_come z.to_come t (u ++ q.lost) first q.consumes);
+      consumes = subst (Consumes x.to_come z.to_come) (sym (append_assoc t u q.lost))
+          (Consumes-append x.to_come y.to_come z.to_come t (u ++ q.lost) first q.consumes);
       count = omega (arith, p.count, q.count, whole);
       within = λ h. q.within (p.within h);
       told = omega (arith, p.told, q.told);
@@ -62,7 +66,8 @@ ReadsBytes-append {x} {y} {z} {k} {l} {m} {r} {s} t u p q =
     }
 
 -- one read that gave some bytes
-pub ReadsBytes-some : (x y : Seen) (c d : ℕ) (t : List ℕ) → Consumes x.to_come y.to_come t → d ≡ c + length t → (c ≤ source_limit → d ≤ source_limit) → y.failures ≡ x.failures → IsSteady x y → ReadsBytes x y Reading Reading c d t
+pub ReadsBytes-some : (x y : Seen) (c d : ℕ) (t : List ℕ) → Consumes x.to_come y.to_come t → d ≡ c + length t
+    → (c ≤ source_limit → d ≤ source_limit) → y.failures ≡ x.failures → IsSteady x y → ReadsBytes x y Reading Reading c d t
 ReadsBytes-some x y c d t p size within told steady = record {
   lost = [];
   consumes = subst (Consumes x.to_come y.to_come) (sym (append-nil t)) p;
@@ -77,7 +82,8 @@ ReadsBytes-some x y c d t p size within told steady = record {
 }
 
 -- that found the end
-pub ReadsBytes-end : (x y : Seen) (c : ℕ) → Consumes x.to_come y.to_come [] → IsAtEnd y.to_come → y.failures ≡ x.failures → IsSteady x y → ReadsBytes x y Reading End c c []
+pub ReadsBytes-end : (x y : Seen) (c : ℕ) → Consumes x.to_come y.to_come [] → IsAtEnd y.to_come → y.failures ≡ x.failures → IsSteady x y
+    → ReadsBytes x y Reading End c c []
 ReadsBytes-end x y c p at told steady = record {
   lost = [];
   consumes = p;
@@ -92,7 +98,8 @@ ReadsBytes-end x y c p at told steady = record {
 }
 
 -- that failed
-pub ReadsBytes-failed : (x y : Seen) (c : ℕ) → Consumes x.to_come y.to_come [] → y.failures ≡ x.failures + 1 → IsSteady x y → ReadsBytes x y Reading Broken c c []
+pub ReadsBytes-failed : (x y : Seen) (c : ℕ) → Consumes x.to_come y.to_come [] → y.failures ≡ x.failures + 1 → IsSteady x y
+    → ReadsBytes x y Reading Broken c c []
 ReadsBytes-failed x y c p told steady = record {
   lost = [];
   consumes = p;
@@ -107,7 +114,8 @@ ReadsBytes-failed x y c p told steady = record {
 }
 
 -- that passed the limit
-pub ReadsBytes-passed : (x y : Seen) (c : ℕ) (t : List ℕ) → Consumes x.to_come y.to_come t → 0 < length t → c ≡ source_limit → y.failures ≡ x.failures → IsSteady x y → ReadsBytes x y Reading Passed c c []
+pub ReadsBytes-passed : (x y : Seen) (c : ℕ) (t : List ℕ) → Consumes x.to_come y.to_come t → 0 < length t → c ≡ source_limit
+    → y.failures ≡ x.failures → IsSteady x y → ReadsBytes x y Reading Passed c c []
 ReadsBytes-passed x y c t p some full told steady = record {
   lost = t;
   consumes = p;
@@ -151,7 +159,8 @@ is_reading Broken = inr (λ e. cc)
 is_reading Passed = inr (λ e. cc)
 
 -- what reading leaves of the kinds of reach
-pub kept_or_full : {x y : Seen} {s t : Intake} (u : Intake) → t.reach ≡ Reading → Grows x y s t → (u.reach ≢ Reading → u.buffer ≡ t.buffer) → (u.reach ≡ s.reach) ⊎ (length t.buffer ≡ length u.buffer)
+pub kept_or_full : {x y : Seen} {s t : Intake} (u : Intake) → t.reach ≡ Reading → Grows x y s t → (u.reach ≢ Reading → u.buffer ≡ t.buffer)
+    → (u.reach ≡ s.reach) ⊎ (length t.buffer ≡ length u.buffer)
 kept_or_full {x} {y} {s} {t} u e p same =
     let was : s.reach ≡ Reading = was_reading (subst (λ (r : Reach). ReadsBytes x y s.reach r s.count t.count p.taken) e p.takes) in
     elim (is_reading u.reach) [ inl is ↦ inl (is ∙ sym was) | inr not ↦ inr (sym (ap length (same not))) ]
@@ -165,7 +174,8 @@ pub clean_under : (start : ℕ) (bytes more : List ℕ) → NoLfFrom start (leng
 clean_under start bytes more p k low high e = p k low high (sym (get_or_append_left bytes more 0 k high) ∙ e)
 
 -- all that was read, where nothing had been
-pub ReadsBytes-whole : {x y : Seen} {s t : Intake} → s.buffer ≡ [] → s.reach ≡ Reading → s.count ≡ 0 → Grows x y s t → ReadsBytes x y Reading t.reach 0 t.count t.buffer
+pub ReadsBytes-whole : {x y : Seen} {s t : Intake} → s.buffer ≡ [] → s.reach ≡ Reading → s.count ≡ 0 → Grows x y s t
+    → ReadsBytes x y Reading t.reach 0 t.count t.buffer
 ReadsBytes-whole {x} {y} {s} {t} empty reading none p =
     let all : p.taken ≡ t.buffer = sym (p.bytes ∙ ap (λ (w : List ℕ). w ++ p.taken) empty) in
     subst (λ (w : List ℕ). ReadsBytes x y Reading t.reach 0 t.count w) all
@@ -177,7 +187,8 @@ empty_parts : (t u : List ℕ) → t ++ u ≡ [] → (t ≡ []) × (u ≡ [])
 empty_parts [] u e = (refl, e)
 empty_parts (x ∷ t) u e = absurd (let f : x ∷ (t ++ u) ≡ [] = e in cc)
 
-pub ReadsBytes-on : (x y z : Seen) (k l m : ℕ) (r q s : Reach) (t u : List ℕ) → ReadsBytes x y r q k l t → ReadsBytes y z q s l m u → ReadsBytes x z r s k m (t ++ u)
+pub ReadsBytes-on : (x y z : Seen) (k l m : ℕ) (r q s : Reach) (t u : List ℕ) → ReadsBytes x y r q k l t → ReadsBytes y z q s l m u
+    → ReadsBytes x z r s k m (t ++ u)
 ReadsBytes-on x y z k l m r q s t u p n = by (is_reading q)
   where
     by : (q ≡ Reading) ⊎ (q ≢ Reading) → ReadsBytes x z r s k m (t ++ u)

@@ -17,7 +17,8 @@ pub record Head (i : Intake) (first second : ℕ) : Type 0 where
   pub second_is : (more : List ℕ) (broken : Bool) → FollowsAt i.reach more broken →
       (nth_line (i.buffer ++ more) 1 ≡ take (second - first) (drop first i.buffer)) ⊎ (searches_second (take first i.buffer) ≡ false)
   pub decided : (more : List ℕ) (broken : Bool) → FollowsAt i.reach more broken → decides broken (i.buffer ++ more) ≡ true
-  pub mark : (more : List ℕ) (broken : Bool) → FollowsAt i.reach more broken → without_mark (i.buffer ++ more) ≡ without_mark i.buffer ++ more
+  pub mark : (more : List ℕ) (broken : Bool) → FollowsAt i.reach more broken
+      → without_mark (i.buffer ++ more) ≡ without_mark i.buffer ++ more
   pub ahead : length i.buffer ≤ 8_192 + head_len i.buffer
 
 -- one of them could not be read whole

@@ -1,4 +1,5 @@
--- On: the texts that are written for floats, imaginary numbers and whole numbers of any size are NUMBER lexemes, and stand for them again; each
+-- On: the texts that are written for floats, imaginary numbers and whole numbers of any size are NUMBER lexemes, and stand for them again;
+-- each
 -- begins with a digit, and is the longest number at its place.
 --
 -- Carries: what the text of a tree with such constants needs.

@@ -12,7 +12,8 @@ use Rattle.pylex.specs.Laws.{IsLawful}
 use Rattle.pytree_node.specs.declared.profiles.Extent.TheVariants.{Plain, Whole}
 use Rattle.pytoken.specs.Terminals.{fault_of}
 use Rattle.pytoken.specs.StringValues.{is_bytes, points_of, literal_fault}
-use Rattle.pytoken.specs.Laws.{is_byte, ComeBack, NamesAreProper, FaultsAreByClass, BytesAreSmall, PointsAreInRange, MarginsAreWidths, AreLawful, TokensAreSound, ExtentsDifferInNumbers}
+use Rattle.pytoken.specs.Laws.{is_byte, ComeBack, NamesAreProper, FaultsAreByClass, BytesAreSmall, PointsAreInRange, MarginsAreWidths}
+use Rattle.pytoken.specs.Laws.{AreLawful, TokensAreSound, ExtentsDifferInNumbers}
 use Rattle.pytoken.proofs.Words
 use Rattle.pytoken.proofs.NumberClasses
 use Rattle.pytoken.proofs.SmallBytes

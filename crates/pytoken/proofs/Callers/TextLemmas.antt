@@ -32,11 +32,13 @@ no_chars bs e = ap chars (nil_of_length bs e) ∙ chars-nil
 pub stops : (p : ℕ → Bool) (bs rest : List ℕ) (c : ℕ) → chars bs ≡ c ∷ chars rest → p c ≡ false → list_all p (chars bs) ≡ false
 stops p bs rest c e fails = ap (list_all p) e ∙ (rw fails refl)
 
-pub goes : (p : ℕ → Bool) (bs rest : List ℕ) (c : ℕ) → chars bs ≡ c ∷ chars rest → p c ≡ true → list_all p (chars rest) ≡ list_all p (chars bs)
+pub goes : (p : ℕ → Bool) (bs rest : List ℕ) (c : ℕ) → chars bs ≡ c ∷ chars rest → p c ≡ true
+    → list_all p (chars rest) ≡ list_all p (chars bs)
 goes p bs rest c e passes = sym (ap (list_all p) e ∙ (rw passes refl))
 
 pub met : (p : ℕ → Bool) (bs rest : List ℕ) (c : ℕ) → chars bs ≡ c ∷ chars rest → p c ≡ true → list_any p (chars bs) ≡ true
 met p bs rest c e passes = ap (list_any p) e ∙ (rw passes refl)
 
-pub passed : (p : ℕ → Bool) (bs rest : List ℕ) (c : ℕ) → chars bs ≡ c ∷ chars rest → p c ≡ false → list_any p (chars rest) ≡ list_any p (chars bs)
+pub passed : (p : ℕ → Bool) (bs rest : List ℕ) (c : ℕ) → chars bs ≡ c ∷ chars rest → p c ≡ false
+    → list_any p (chars rest) ≡ list_any p (chars bs)
 passed p bs rest c e fails = sym (ap (list_any p) e ∙ (rw fails refl))

@@ -8,7 +8,8 @@ use Rattle.std.specs.Str.{IsAscii, all_scalars}
 use Rattle.std.proofs.Math.Utf8.{low_scalar, scalar}
 use Rattle.std.proofs.lemmas.Bool.{and_from, and_parts, or_left, or_right, false≢true}
 use Rattle.std.proofs.lemmas.Bool.Decides.{nat_tests}
-use Rattle.pylex_lexeme.specs.Numbers.{is_nil, split_any, optional, headed, are_some, is_decimal_digit, is_zero, is_hex_digit, is_octal_digit, is_binary_digit}
+use Rattle.pylex_lexeme.specs.Numbers.{is_nil, split_any, optional, headed, are_some, is_decimal_digit, is_zero, is_hex_digit}
+use Rattle.pylex_lexeme.specs.Numbers.{is_octal_digit, is_binary_digit}
 use Rattle.pylex_lexeme.specs.Numbers.{is_point, is_e, is_j, is_x, is_o, is_b, is_sign, is_digit_part, is_exponent, is_decimal, is_radix}
 use Rattle.pylex_lexeme.specs.Numbers.{is_point_after, is_point_before, is_raised, is_float, is_imaginary, is_number}
 use Rattle.pylex_lexeme.proofs.Callers.Booleans.{or_parts}
@@ -57,7 +58,14 @@ record Split (p q : List ℕ → Bool) (t : List ℕ) : Type 0 where
 split_of : (p q : List ℕ → Bool) (t : List ℕ) → split_any p q t ≡ true → Split p q t
 split_of p q [] h = let parts = and_parts (p []) (q []) h in record { front = []; rest = []; text = refl; first = parts.0; then = parts.1 }
 split_of p q (c ∷ t) h = elim (or_parts (p [] && q (c ∷ t)) (split_any (λ u. p (c ∷ u)) q t) h) [
-  | inl here ↦ let parts = and_parts (p []) (q (c ∷ t)) here in record { front = []; rest = c ∷ t; text = refl; first = parts.0; then = parts.1 }
+  | inl here ↦ let parts = and_parts (p []) (q (c ∷ t)) here in record {
+    front = [];
+    rest = c ∷ t;
+    text = refl;
+    first =
+        parts.0;
+    then = parts.1;
+  }
   | inr later ↦
       let s = split_of (λ u. p (c ∷ u)) q t later in
       record { front = c ∷ s.front; rest = s.rest; text = ap (λ u. c ∷ u) s.text; first = s.first; then = s.then }
@@ -80,7 +88,8 @@ headed_ties : (f : ℕ → Bool) (p : List ℕ → Bool) → ((c : ℕ) → f c 
 headed_ties f p word ties [] h = refl
 headed_ties f p word ties (c ∷ t) h =
     let parts = and_parts (f c) (p t) h in
-    and_from (is_word c || false) (are_tied (is_e c) t) (or_left (is_word c) false (word c parts.0)) (tied_behind (is_e c) t (ties t parts.1))
+    and_from (is_word c || false) (are_tied (is_e c) t) (or_left (is_word c) false (word c parts.0))
+    (tied_behind (is_e c) t (ties t parts.1))
 
 -- Digits and letters
 
@@ -136,7 +145,8 @@ behind_point t = split_any (optional is_digit_part) (optional is_exponent) t
 
 behind_ties : Ties behind_point
 behind_ties =
-    split_ties (optional is_digit_part) (optional is_exponent) (optional_ties is_digit_part part_ties) (optional_ties is_exponent exponent_ties)
+    split_ties (optional is_digit_part) (optional is_exponent) (optional_ties is_digit_part part_ties)
+    (optional_ties is_exponent exponent_ties)
 
 float_ties : Ties is_float
 unfolding is_float is_point_after is_point_before is_raised

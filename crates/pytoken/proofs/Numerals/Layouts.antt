@@ -1,6 +1,7 @@
 -- Each layout of a float's digits has the parts of a number.
 -- Carries: Lexemes. On: DigitRuns, Parts.
-use Rattle.std.proofs.Common.{◌≡◌, ℕ, zero, suc, ◌+◌, ◌-◌, ◌<◌, Bool, true, false, List, [], ◌∷◌, ◌++◌, length, take, drop, refl, sym, ap, inl, inr, arith, append-nil, append_assoc, true≢false, lt-ltb, le-ltb, le-leb}
+use Rattle.std.proofs.Common.{◌≡◌, ℕ, zero, suc, ◌+◌, ◌-◌, ◌<◌, Bool, true, false, List, [], ◌∷◌, ◌++◌, length, take, drop, refl, sym, ap}
+use Rattle.std.proofs.Common.{inl, inr, arith, append-nil, append_assoc, true≢false, lt-ltb, le-ltb, le-leb}
 use Rattle.std.specs.Prelude.{codes, decimal, if◌then◌else◌, nat_lt}
 use Rattle.std.specs.Float.Ieee.{Float, nan, inf, fin}
 use Rattle.std.proofs.lemmas.Bool.{or_right, cases_lt, lt-leb}
@@ -55,7 +56,8 @@ signed_power : (sign ds : List ℕ) → IsSign sign → are_digits ds ≡ true �
 signed_power sign ds plus h = or_right (headed is_e are_digits (101 ∷ 43 ∷ ds)) (headed is_e (headed is_sign are_digits) (101 ∷ 43 ∷ ds)) h
 signed_power sign ds minus h = or_right (headed is_e are_digits (101 ∷ 45 ∷ ds)) (headed is_e (headed is_sign are_digits) (101 ∷ 45 ∷ ds)) h
 
-more_digits : (ds : List ℕ) → are_digits ds ≡ true → optional is_fraction (if nat_lt 1 (length ds) then codes "." ++ drop 1 ds else []) ≡ true
+more_digits : (ds : List ℕ) → are_digits ds ≡ true
+    → optional is_fraction (if nat_lt 1 (length ds) then codes "." ++ drop 1 ds else []) ≡ true
 more_digits ds h = elim (cases_lt 1 (length ds)) [
   | inl more ↦ rw (lt-ltb 1 (length ds) more) (some_drop 1 ds more h)
   | inr one ↦ rw (le-ltb 1 (length ds) one) refl
@@ -65,7 +67,8 @@ never_nil : (xs ys : List ℕ) (c : ℕ) → is_nil (xs ++ c ∷ ys) ≡ false
 never_nil [] ys c = refl
 never_nil (x ∷ xs) ys c = refl
 
-scientific_parts : (float : Bool) (ds sign : List ℕ) (power : ℕ) → are_digits ds ≡ true → IsSign sign → HasParts float (scientific ds sign power)
+scientific_parts : (float : Bool) (ds sign : List ℕ) (power : ℕ) → are_digits ds ≡ true → IsSign sign
+    → HasParts float (scientific ds sign power)
 scientific_parts float ds sign power h mark =
     let f = if nat_lt 1 (length ds) then codes "." ++ drop 1 ds else [] in
     record {
@@ -89,7 +92,8 @@ laid_parts float ds high down h = elim (cases_lt down high) [
   | inr below ↦ elim (cases_lt (down - high) 4) [
     | inl near ↦
         let k = down - high in
-        rw (le-ltb down high below, lt-leb 4 k near) (pointed float (48 ∷ []) (zeros k ++ ds) refl (append_some (zeros k) ds (zeros_any k) h))
+        rw (le-ltb down high below, lt-leb 4 k near)
+        (pointed float (48 ∷ []) (zeros k ++ ds) refl (append_some (zeros k) ds (zeros_any k) h))
     | inr far ↦ rw (le-ltb down high below, le-leb 4 (down - high) far) (scientific_parts float ds (45 ∷ []) (down - high + 1) h minus)
   ]
 ]
@@ -112,4 +116,14 @@ float_parts float (fin s (suc m) e) infinity h p =
 -- infinity, as a literal that is too large
 pub infinity_parts : (float : Bool) → HasParts float (codes "1e309")
 infinity_parts float =
-    record { whole = codes "1"; fraction = []; power = codes "e309"; digits = refl; pointed = refl; raised = refl; marked = λ e. refl; text = refl }
+    record {
+      whole = codes "1";
+      fraction = [];
+      power = codes "e309";
+      digits = refl;
+      pointed = refl;
+      raised = refl;
+      marked =
+          λ e. refl;
+      text = refl;
+    }

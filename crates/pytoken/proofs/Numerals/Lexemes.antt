@@ -1,5 +1,6 @@
 -- The texts that are written for numbers are NUMBER lexemes, and stand for them again.
--- Carries: what trees with floats, imaginary numbers and long integers need. On: Layouts, Parts, WholeTexts, Characters, Ends, NumberClasses.
+-- Carries: what trees with floats, imaginary numbers and long integers need. On: Layouts, Parts, WholeTexts, Characters, Ends,
+-- NumberClasses.
 use Rattle.std.proofs.Common.{◌≡◌, ℕ, ◌<◌, Bool, true, false, List, [], ◌∷◌, length, refl, arith}
 use Rattle.std.specs.Prelude.{◌||◌, ◌&&◌, codes}
 use Rattle.std.specs.Float.Ieee.{Float}

@@ -32,7 +32,8 @@ pub record HasParts (float : Bool) (t : List ℕ) : Type 0 where
 split_at : (p q : List ℕ → Bool) (u v : List ℕ) → p u ≡ true → q v ≡ true → split_any p q (u ++ v) ≡ true
 split_at p q [] [] h k = and_from (p []) (q []) h k
 split_at p q [] (c ∷ v) h k = or_left (p [] && q (c ∷ v)) (split_any (λ t. p (c ∷ t)) q v) (and_from (p []) (q (c ∷ v)) h k)
-split_at p q (c ∷ u) v h k = or_right (p [] && q (c ∷ (u ++ v))) (split_any (λ t. p (c ∷ t)) q (u ++ v)) (split_at (λ t. p (c ∷ t)) q u v h k)
+split_at p q (c ∷ u) v h k = or_right (p [] && q (c ∷ (u ++ v))) (split_any (λ t. p (c ∷ t)) q (u ++ v))
+    (split_at (λ t. p (c ∷ t)) q u v h k)
 
 headed_more : (f : ℕ → Bool) (p q : List ℕ → Bool) → ((u : List ℕ) → p u ≡ true → q u ≡ true)
     → (t : List ℕ) → headed f p t ≡ true → headed f q t ≡ true

@@ -18,7 +18,8 @@ use Rattle.pytoken.specs.NumberValues.{whole_value, number_value, number_fault}
 use Rattle.pytoken.specs.Terminals.{Number, terminal_of, single_fault}
 use Rattle.pytoken.proofs.Constants.{Stands}
 use Rattle.pytoken.proofs.NumberKinds.{fault_complex, fault_real, fault_none, value_complex, value_real, value_whole}
-use Rattle.pytoken.proofs.Numerals.Lexemes.{IsNumeral, float_lexeme, imaginary_lexeme, whole_lexeme, float_numeral, imaginary_numeral, whole_numeral}
+use Rattle.pytoken.proofs.Numerals.Lexemes.{IsNumeral, float_lexeme, imaginary_lexeme, whole_lexeme, float_numeral, imaginary_numeral}
+use Rattle.pytoken.proofs.Numerals.Lexemes.{whole_numeral}
 
 -- a number is ASCII, so its bytes are its characters
 
@@ -31,7 +32,12 @@ unfolding single_fault
 is_faultless t ascii none = ap (number_fault Whole) (encodes-IsAscii t ascii) ∙ none
 
 stands : (t : List ℕ) (v : Value) → IsNumeral t → number_value t ≡ v → number_fault Whole t ≡ None → Stands kinds.Number t (Number v)
-stands t v numeral is none = record { terminal = is_value t v numeral.ascii is; single = refl; faultless = is_faultless t numeral.ascii none }
+stands t v numeral is none = record {
+  terminal = is_value t v numeral.ascii is;
+  single = refl;
+  faultless =
+      is_faultless t numeral.ascii none;
+}
 
 pub whole_stands : (n : ℕ) → n < 10 ^ most_digits → Stands kinds.Number (decimal_text n) (Number (value.Int n))
 whole_stands n small =

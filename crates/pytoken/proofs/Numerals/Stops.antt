@@ -1,6 +1,7 @@
 -- A number that ends in a digit or a j is the longest one at its place, where no name and no point goes on.
 -- Carries: what pyunparse_text needs of the texts that are written for numbers. On: Characters, Ends.
-use Rattle.std.proofs.Common.{◌≡◌, ℕ, zero, suc, ◌+◌, ◌-◌, ◌<◌, ◌≤◌, Bool, true, false, List, [], ◌∷◌, ◌++◌, length, take, refl, sym, ap, ◌∙◌, inl, inr, arith, length-append}
+use Rattle.std.proofs.Common.{◌≡◌, ℕ, zero, suc, ◌+◌, ◌-◌, ◌<◌, ◌≤◌, Bool, true, false, List, [], ◌∷◌, ◌++◌, length, take, refl, sym, ap}
+use Rattle.std.proofs.Common.{◌∙◌, inl, inr, arith, length-append}
 use Rattle.std.specs.Prelude.{◌||◌, ◌&&◌, ◌==◌}
 use Rattle.std.specs.Char.{is_ascii_alphanumeric}
 use Rattle.std.proofs.Math.Seq.{take-append_seam, take-append-add}
@@ -86,5 +87,6 @@ numeral_begins t r h =
     let edges = and_parts (begins is_decimal_digit t) (ends is_digit_or_j t) parts.1 in
     or_left (begins is_decimal_digit (t ++ r)) _ (begins_append is_decimal_digit t r edges.0)
 
-pub numeral_len : (t r : List ℕ) → is_numeral t ≡ true → begins is_xid_continue r ≡ false → begins is_point r ≡ false → number_len (t ++ r) ≡ length t
+pub numeral_len : (t r : List ℕ) → is_numeral t ≡ true → begins is_xid_continue r ≡ false → begins is_point r ≡ false
+    → number_len (t ++ r) ≡ length t
 numeral_len t r h name point = sym (longest_number (t ++ r) (numeral_begins t r h)) ∙ numeral_longest t r h name point

@@ -1,6 +1,7 @@
 -- A whole number of any size in decimal.
 -- Carries: Lexemes. On: DigitRuns.
-use Rattle.std.proofs.Common.{◌≡◌, ℕ, zero, suc, ◌+◌, ◌*◌, ◌/◌, ◌%◌, ◌^◌, ◌<◌, ◌≤◌, ◌⊎◌, true, false, List, [], ◌∷◌, ◌++◌, get_or, map, refl, sym, ap, ◌∙◌, inl, inr, arith, ne_eqb}
+use Rattle.std.proofs.Common.{◌≡◌, ℕ, zero, suc, ◌+◌, ◌*◌, ◌/◌, ◌%◌, ◌^◌, ◌<◌, ◌≤◌, ◌⊎◌, true, false, List, [], ◌∷◌, ◌++◌, get_or, map}
+use Rattle.std.proofs.Common.{refl, sym, ap, ◌∙◌, inl, inr, arith, ne_eqb}
 use Rattle.std.specs.Prelude.{◌||◌, ◌==◌, nat_le, filter, decimal}
 use Rattle.std.specs.Char.{digit_value}
 use Rattle.std.specs.Int.Digits.{digits_of, number_from_digits_after, AllBelowBase}
@@ -71,7 +72,8 @@ by_forms P none some (suc n) = rw (some_text (suc n) (omega arith)) (some (suc n
 
 characters_any : (ds : List ℕ) → AllBelowBase 10 ds → are_any (map digit_character ds) ≡ true
 characters_any [] h = refl
-characters_any (d ∷ ds) h = and_from (is_decimal_digit (48 + d)) (are_any (map digit_character ds)) (digit_range d h.0) (characters_any ds h.1)
+characters_any (d ∷ ds) h = and_from (is_decimal_digit (48 + d)) (are_any (map digit_character ds))
+    (digit_range d h.0) (characters_any ds h.1)
 
 value_of : (d : ℕ) → d < 10 → digit_value (48 + d) ≡ d
 value_of d h = omega (arith, digit_value_digit (48 + d) (omega arith, omega arith))
@@ -91,7 +93,8 @@ characters_value n (d ∷ ds) h =
 below : (n : ℕ) → AllBelowBase 10 (digits_of 10 n)
 below n = all_below_base_digits_of 10 n (omega arith)
 
-led : (ds : List ℕ) → AllBelowBase 10 ds → 0 < get_or ds 0 0 → headed is_one_to_nine (are_joined is_decimal_digit) (map digit_character ds) ≡ true
+led : (ds : List ℕ) → AllBelowBase 10 ds → 0 < get_or ds 0 0 → headed is_one_to_nine (are_joined is_decimal_digit)
+    (map digit_character ds) ≡ true
 led [] h l = absurd (omega arith)
 led (d ∷ ds) h l =
     and_from (is_one_to_nine (48 + d)) (are_joined is_decimal_digit (map digit_character ds))
@@ -146,7 +149,8 @@ one_digit n h = elim (cases_eq n 0) [
 one_more : (n : ℕ) → 10 ≤ n → decimal_text n ≡ decimal_text (n / 10) ++ (48 + n % 10) ∷ []
 one_more n h =
     some_text n (omega arith) ∙ ap (map digit_character) (digits_of_step 10 n (omega arith) (omega arith))
-    ∙ map-append digit_character (digits_of 10 (n / 10)) (n % 10 ∷ []) ∙ ap (λ t. t ++ (48 + n % 10) ∷ []) (sym (some_text (n / 10) (omega arith)))
+    ∙ map-append digit_character (digits_of 10 (n / 10)) (n % 10 ∷ [])
+    ∙ ap (λ t. t ++ (48 + n % 10) ∷ []) (sym (some_text (n / 10) (omega arith)))
 
 pub decimal_small : (n : ℕ) → n < 10 ^ 64 → decimal_text n ≡ decimal n
 decimal_small =

@@ -1,5 +1,6 @@
 -- Carries: is_calm, string_fault. On: a literal in which no character may be wrong.
-use Rattle.std.proofs.Common.{◌≡◌, ℕ, zero, suc, ◌-◌, Bool, true, false, List, [], ◌∷◌, length, take, drop, refl, sym, ap, subst, ◌∙◌, inl, inr, Option, Some, None}
+use Rattle.std.proofs.Common.{◌≡◌, ℕ, zero, suc, ◌-◌, Bool, true, false, List, [], ◌∷◌, length, take, drop, refl, sym, ap, subst, ◌∙◌, inl}
+use Rattle.std.proofs.Common.{inr, Option, Some, None}
 use Rattle.std.specs.Prelude.{◌==◌, ◌||◌, ◌&&◌, not, nat_lt, if◌then◌else◌}
 use Rattle.std.specs.Char.{is_digit}
 use Rattle.std.specs.List.{list_any}
@@ -7,7 +8,8 @@ use Rattle.std.proofs.lemmas.Bool.{cases_Bool, and_from, and_parts}
 use Rattle.pylex_lexeme.specs.Strings.{begins_three}
 use Rattle.pytoken.specs.declared.meanings.Meaning.{Meaning}
 use Rattle.pytoken.specs.declared.meanings.Meaning.TheVariants.{Point, Nothing}
-use Rattle.pytoken.specs.Escapes.{Reading, reads, reading, escaped_by, escape_point, meanings, meanings_after, is_named_escape, is_bad_escape, escape_fault}
+use Rattle.pytoken.specs.Escapes.{Reading, reads, reading, escaped_by, escape_point, meanings, meanings_after, is_named_escape}
+use Rattle.pytoken.specs.Escapes.{is_bad_escape, escape_fault}
 use Rattle.pytoken.specs.StringValues.{with_line_feeds, is_raw, is_bytes, is_formatted, prefix_len_of, body_of, string_fault}
 use Rattle.pytoken.specs.Inner.Readings.{asks, is_doubtful, is_calm}
 use Rattle.pytoken.proofs.values.LiteralLemmas.{fault_none, literal_sound}
@@ -47,7 +49,8 @@ parts bytes behind c cs calm =
 
 -- one character off the front
 
-pub calm_stops : (bytes behind : Bool) (c : ℕ) (t u : List ℕ) → t ≡ c ∷ u → is_doubtful bytes behind c ≡ true → is_calm bytes behind t ≡ false
+pub calm_stops : (bytes behind : Bool) (c : ℕ) (t u : List ℕ) → t ≡ c ∷ u → is_doubtful bytes behind c ≡ true
+    → is_calm bytes behind t ≡ false
 calm_stops bytes behind c t u e doubt = ap (is_calm bytes behind) e ∙ (rw doubt refl)
 
 pub calm_goes : (bytes behind : Bool) (c : ℕ) (t u : List ℕ) → t ≡ c ∷ u → is_doubtful bytes behind c ≡ false →
@@ -116,7 +119,8 @@ calm_letter p told bytes c cs digit x u w n = by bytes
       | inr other ↦ rw (other, digit, x, u, w, n) (last (escape_point c))
     ]
 
-calm_escape : (p : Meaning → Bool) → Told p → (bytes : Bool) (cs : List ℕ) → is_calm bytes true cs ≡ true → p (escaped_by bytes cs).meaning ≡ false
+calm_escape : (p : Meaning → Bool) → Told p → (bytes : Bool) (cs : List ℕ) → is_calm bytes true cs ≡ true
+    → p (escaped_by bytes cs).meaning ≡ false
 unfolding escaped_by
 calm_escape p told bytes [] calm = told.point 92
 calm_escape p told bytes (c ∷ cs) calm =
@@ -130,7 +134,8 @@ calm_reading : (p : Meaning → Bool) → Told p → (raw bytes : Bool) (c : ℕ
     p (reading raw bytes c cs).meaning ≡ false
 calm_reading p told raw bytes c cs calm = elim (cases_Bool (not raw && (c == 92))) [
   | inl escape ↦
-      rw escape (calm_escape p told bytes cs (subst (λ (b : Bool). is_calm bytes b cs ≡ true) (and_parts (not raw) (c == 92) escape).1 calm))
+      rw escape (calm_escape p told bytes cs
+      (subst (λ (b : Bool). is_calm bytes b cs ≡ true) (and_parts (not raw) (c == 92) escape).1 calm))
   | inr other ↦ rw other (told.point c)
 ]
 
@@ -173,10 +178,12 @@ calm_feeds bytes behind (c ∷ cs) calm =
     let return = p.first.return in
     rw return (ap (λ (u : List ℕ). c ∷ u) (calm_feeds bytes (c == 92) cs p.rest))
 
-pub calm_sound : (t : List ℕ) → is_calm (is_bytes (with_line_feeds t)) false t ≡ true → is_formatted (with_line_feeds t) ≡ false → string_fault t ≡ None
+pub calm_sound : (t : List ℕ) → is_calm (is_bytes (with_line_feeds t)) false t ≡ true
+    → is_formatted (with_line_feeds t) ≡ false → string_fault t ≡ None
 unfolding string_fault
 calm_sound t calm f =
     let l = with_line_feeds t in
     let bytes = is_bytes l in
     let kept : is_calm bytes false l ≡ true = ap (is_calm bytes false) (calm_feeds bytes false t calm) ∙ calm in
-    literal_sound l f (calm_escapes (is_raw l) bytes (body_of l) (calm_body bytes l kept)) (calm_low bytes false l kept) (calm_nul bytes false l kept)
+    literal_sound l f (calm_escapes (is_raw l) bytes (body_of l) (calm_body bytes l kept)) (calm_low bytes false l kept)
+    (calm_nul bytes false l kept)

@@ -26,11 +26,13 @@ further radix k d (c ∷ cs) e = elim (cases_Bool (nat_lt (digit_value c) radix)
   | inl digit ↦
       let same : Some (digit_value c) ≡ Some d = rw digit at e in
       let is : digit_value c ≡ d = cc in
-      let front : digits_at_front radix (suc k) (c ∷ cs) ≡ c ∷ digits_at_front radix k cs = take_while-cons (λ x. is_digit x radix) c (take k cs)
+      let front : digits_at_front radix (suc k) (c ∷ cs) ≡ c ∷ digits_at_front radix k cs =
+      take_while-cons (λ x. is_digit x radix) c (take k cs)
       ∙ (rw digit refl) in
       record {
         below = omega (arith, is, ltb-true (digit_value c) radix digit);
-        value = λ n. ap (digits_value_after radix n) front ∙ ap (λ (v : ℕ). digits_value_after radix (n * radix + v) (digits_at_front radix k cs)) is;
+        value = λ n. ap (digits_value_after radix n) front
+            ∙ ap (λ (v : ℕ). digits_value_after radix (n * radix + v) (digits_at_front radix k cs)) is;
         count = ap length front;
         behind = ap (λ (ds : List ℕ). drop (length ds) (c ∷ cs)) front;
       }
@@ -56,12 +58,21 @@ pub record Far (radix most count value : ℕ) (t start : List ℕ) : Type 0 wher
   pub bound : value < 16 ^ count
 
 pub far_start : (radix most : ℕ) (t : List ℕ) → Far radix most 0 0 t t
-far_start radix most t = record { left = most; whole = omega arith; values = refl; counts = omega arith; behind = refl; bound = omega arith }
+far_start radix most t = record {
+  left = most;
+  whole = omega arith;
+  values = refl;
+  counts = omega arith;
+  behind =
+      refl;
+  bound = omega arith;
+}
 
 times : (value radix : ℕ) → radix ≤ 16 → value * radix ≤ value * 16
 times value radix high = mul-le-mul_left value high
 
-pub far_fits : (radix most count value d : ℕ) (t start : List ℕ) → Far radix most count value t start → count < most → most ≤ 8 → radix ≤ 16 →
+pub far_fits : (radix most count value d : ℕ) (t start : List ℕ) → Far radix most count value t start → count < most
+    → most ≤ 8 → radix ≤ 16 →
     first_digit radix t ≡ Some d
     → (value * radix < 2 ^ 32) × (value * radix + d < 2 ^ 32)
 far_fits radix most count value d t start far more small high e =
@@ -82,20 +93,24 @@ far_on radix most count value d t start new far more high e cut = go far.left re
         let power = pow-suc 16 count in
         let product = times value radix high in
         let one : 16 ^ (count + 1) ≡ 16 ^ suc count = ap (λ (n : ℕ). 16 ^ n) (omega arith) in
-        let here : digits_at_front radix (suc k) t ≡ digits_at_front radix far.left t = ap (λ (n : ℕ). digits_at_front radix n t) (sym is) in
+        let here : digits_at_front radix (suc k) t ≡ digits_at_front radix far.left t =
+        ap (λ (n : ℕ). digits_at_front radix n t) (sym is) in
         let there : digits_at_front radix k new ≡ digits_at_front radix k (drop 1 t) = ap (digits_at_front radix k) cut in
         record {
           left = k;
           whole = omega (arith, is, far.whole);
           values =
-              ap (digits_value_after radix (value * radix + d)) there ∙ sym (f.value value) ∙ ap (digits_value_after radix value) here ∙ far.values;
+              ap (digits_value_after radix (value * radix + d)) there ∙ sym (f.value value)
+              ∙ ap (digits_value_after radix value) here ∙ far.values;
           counts = omega (arith, ap length there, f.count, ap length here, far.counts);
-          behind = ap₂ (λ (ds u : List ℕ). drop (length ds) u) there cut ∙ sym f.behind ∙ ap (λ (ds : List ℕ). drop (length ds) t) here ∙ far.behind;
+          behind = ap₂ (λ (ds u : List ℕ). drop (length ds) u) there cut ∙ sym f.behind
+              ∙ ap (λ (ds : List ℕ). drop (length ds) t) here ∙ far.behind;
           bound = omega (arith, far.bound, power, product, f.below, one);
         }
 
 -- all digits have been read
-pub far_end : (radix most count value : ℕ) (t start : List ℕ) → (far : Far radix most count value t start) → digits_at_front radix far.left t ≡ []
+pub far_end : (radix most count value : ℕ) (t start : List ℕ) → (far : Far radix most count value t start)
+    → digits_at_front radix far.left t ≡ []
     → (count ≡ length (digits_at_front radix most start)) × (value ≡ digits_value_after radix 0 (digits_at_front radix most start)) ×
     (t ≡ drop (length (digits_at_front radix most start)) start)
 far_end radix most count value t start far none = (

@@ -1,5 +1,6 @@
 -- Carries: texts_fault. On: the first fault of the escapes in several texts.
-use Rattle.std.proofs.Common.{◌≡◌, ℕ, ◌+◌, ◌<◌, ◌≤◌, Bool, true, false, List, [], ◌∷◌, ◌++◌, length, drop, map, get_or, refl, sym, ap, ap₂, ◌∙◌}
+use Rattle.std.proofs.Common.{◌≡◌, ℕ, ◌+◌, ◌<◌, ◌≤◌, Bool, true, false, List, [], ◌∷◌, ◌++◌, length, drop, map, get_or, refl, sym, ap, ap₂}
+use Rattle.std.proofs.Common.{◌∙◌}
 use Rattle.std.proofs.Common.{Option, Some, None}
 use Rattle.std.specs.Prelude.{◌||◌, if◌then◌else◌}
 use Rattle.std.specs.List.{flat_map, list_any}
@@ -74,7 +75,8 @@ no_texts = refl
 
 -- The first fault in the texts of some items, by that in those before a place, and that in the others: behind one more, and at the end.
 
-pub faults_one : {C D : Type 0} (g : C → List Meaning) (h : D → C) (xs : List D) (i : ℕ) (x : D) (fault more next whole : Option TokenError) →
+pub faults_one : {C D : Type 0} (g : C → List Meaning) (h : D → C) (xs : List D) (i : ℕ) (x : D)
+    (fault more next whole : Option TokenError) →
     i < length xs → x ≡ get_or xs i x → more ≡ escape_fault (g (h x)) → next ≡ first_escape_fault fault more →
     first_escape_fault fault (escape_fault (flat_map g (map h (drop i xs)))) ≡ whole →
     first_escape_fault next (escape_fault (flat_map g (map h (drop (i + 1) xs)))) ≡ whole

@@ -1,7 +1,8 @@
 -- Escapes, by the letter behind the backslash.
 --
 -- Carries: escape.
-use Rattle.std.proofs.Common.{◌≡◌, ℕ, ◌<◌, ◌≤◌, Bool, true, false, List, [], ◌∷◌, drop, refl, sym, subst, ap, ◌∙◌, inl, inr, arith, Some, None}
+use Rattle.std.proofs.Common.{◌≡◌, ℕ, ◌<◌, ◌≤◌, Bool, true, false, List, [], ◌∷◌, drop, refl, sym, subst, ap, ◌∙◌, inl, inr, arith, Some}
+use Rattle.std.proofs.Common.{None}
 use Rattle.std.proofs.Common.{slice_get, is_some}
 use Rattle.std.specs.Prelude.{◌==◌, nat_lt}
 use Rattle.std.specs.Char.{digit_value, is_digit}
@@ -9,7 +10,8 @@ use Rattle.std.proofs.lemmas.Bool.{cases_Bool, eq-eqb, ne_eqb, lt-ltb, le-ltb}
 use Rattle.pytoken.specs.declared.meanings.Meaning.{Meaning}
 use Rattle.pytoken.specs.declared.meanings.Meaning.TheVariants.{Point, Nothing, Wrong}
 use Rattle.pytoken.specs.declared.faults.TokenError.TheVariants as errors
-use Rattle.pytoken.specs.Escapes.{Reading, reads, octal, hexadecimal, hexadecimal_len, names_character, escape_point, digits_at_front, escaped_by}
+use Rattle.pytoken.specs.Escapes.{Reading, reads, octal, hexadecimal, hexadecimal_len, names_character, escape_point, digits_at_front}
+use Rattle.pytoken.specs.Escapes.{escaped_by}
 use Rattle.pytoken.specs.Inner.Readings.{ReadsEscape, first_digit}
 
 pub takes_by : (r s : Reading) (old new : List ℕ) (m : Meaning) → r ≡ s → ReadsEscape s old m new → ReadsEscape r old m new
@@ -45,7 +47,8 @@ digit_here radix c t = elim (cases_Bool (nat_lt (digit_value c) radix)) [
 ]
 
 digit_at : (radix c : ℕ) (t : List ℕ) (b : Bool) → slice_get t 0 ≡ Some c → is_some (first_digit radix t) ≡ b → is_digit c radix ≡ b
-digit_at radix c t b e h = sym (digit_here radix c (drop 1 t)) ∙ sym (ap (λ (u : List ℕ). is_some (first_digit radix u)) (begins_by t c e)) ∙ h
+digit_at radix c t b e h = sym (digit_here radix c (drop 1 t)) ∙ sym (ap (λ (u : List ℕ). is_some (first_digit radix u)) (begins_by t c e))
+    ∙ h
 
 pub by_octal : (b : Bool) (c : ℕ) (t : List ℕ) → slice_get t 0 ≡ Some c → (c ≡ 10 → ⊥) → is_some (first_digit 8 t) ≡ true →
     escaped_by b t ≡ octal b (digits_at_front 8 3 t)

@@ -30,7 +30,8 @@ pub only_nul : (escapes : Option TokenError) (t : List ℕ) → escapes ≡ None
     Some Nul ≡ option_or escapes (nul_fault t)
 only_nul escapes t none nul = sym (ap (λ (o : Option TokenError). option_or o (nul_fault t)) none ∙ with_nul t nul)
 
-pub no_own : (escapes : Option TokenError) (t : List ℕ) → escapes ≡ None → list_any (λ c. c == 0) t ≡ false → None ≡ option_or escapes (nul_fault t)
+pub no_own : (escapes : Option TokenError) (t : List ℕ) → escapes ≡ None → list_any (λ c. c == 0) t ≡ false
+    → None ≡ option_or escapes (nul_fault t)
 no_own escapes t none plain = sym (ap (λ (o : Option TokenError). option_or o (nul_fault t)) none ∙ without_nul t plain)
 
 -- the fault of a token by its type
@@ -39,7 +40,8 @@ pub of_name : (extent : Extent) (k : Kind) (t : List ℕ) → k ≡ kinds.Name �
 unfolding single_fault
 of_name extent k t is = rw is refl
 
-pub of_number : (extent : Extent) (k : Kind) (t : List ℕ) → k ≡ kinds.Number → number_fault extent (encode_utf8_all t) ≡ single_fault extent k t
+pub of_number : (extent : Extent) (k : Kind) (t : List ℕ) → k ≡ kinds.Number
+    → number_fault extent (encode_utf8_all t) ≡ single_fault extent k t
 unfolding single_fault
 of_number extent k t is = rw is refl
 
@@ -51,7 +53,8 @@ pub of_comment : (extent : Extent) (k : Kind) (t : List ℕ) → k ≡ kinds.Com
 unfolding single_fault
 of_comment extent k t is = rw is refl
 
-pub of_other : (extent : Extent) (k : Kind) (t : List ℕ) → (k ≡ kinds.Name → ⊥) → (k ≡ kinds.Number → ⊥) → (k ≡ kinds.String → ⊥) → (k ≡ kinds.Comment → ⊥) →
+pub of_other : (extent : Extent) (k : Kind) (t : List ℕ) → (k ≡ kinds.Name → ⊥) → (k ≡ kinds.Number → ⊥) → (k ≡ kinds.String → ⊥)
+    → (k ≡ kinds.Comment → ⊥) →
     None ≡ single_fault extent k t
 unfolding single_fault
 of_other extent kinds.Name t name number string comment = absurd (name refl)

@@ -1,4 +1,5 @@
--- Carries: push_nested_expression, push_expression, push_nested_elements, push_elements, push_nested, push_formatted, push_token, push_terminals.
+-- Carries: push_nested_expression, push_expression, push_nested_elements, push_elements, push_nested, push_formatted, push_token,
+-- push_terminals.
 -- On: what is told of a malformed f-string, and is passed on.
 use Rattle.std.proofs.Common.{◌≡◌, Bool, true, Result, Ok, Err, refl, subst, sym, Option, Some, is_some}
 use Rattle.std.specs.Prelude.{IfErr, IsErrAnd, OnOk}
@@ -24,7 +25,8 @@ around fault (Token e) is = (refl, rw is refl)
 around fault Memory is = tt
 
 -- what tells that an f-string is malformed tells its fault
-as_fault : (b : Bool) (fault : Option TokenError) (e : TerminalFault) → (b ≡ true → fault ≡ Some errors.FString) → TellsMalformed b e → Tells fault e
+as_fault : (b : Bool) (fault : Option TokenError) (e : TerminalFault) → (b ≡ true → fault ≡ Some errors.FString)
+    → TellsMalformed b e → Tells fault e
 as_fault b fault (Token e) f told = let is = told.0 in rw is (f told.1)
 as_fault b fault Memory f told = tt
 

@@ -1,11 +1,13 @@
 -- Carries: push_nested_expression, push_expression. On: the tokens of a field's expression, one after another.
-use Rattle.std.proofs.Common.{◌≡◌, ℕ, ◌+◌, Bool, true, false, List, [], ◌∷◌, ◌++◌, refl, sym, ap, ◌∙◌, append_assoc, Option, is_some, Result, Ok, Err}
+use Rattle.std.proofs.Common.{◌≡◌, ℕ, ◌+◌, Bool, true, false, List, [], ◌∷◌, ◌++◌, refl, sym, ap, ◌∙◌, append_assoc, Option, is_some}
+use Rattle.std.proofs.Common.{Result, Ok, Err}
 use Rattle.std.specs.Prelude.{◌||◌, OnOk}
 use Rattle.std.specs.List.{flat_map, list_any}
 use Rattle.pylex.specs.declared.kind.Kind.{Kind}
 use Rattle.pyfstring_tokens.specs.declared.faults.FieldFault.{FieldFault}
 use Rattle.pyfstring_tokens.specs.declared.faults.FieldFault.TheVariants as faults
-use Rattle.pyfstring_tokens.specs.FieldTokens.{FieldToken, field_tokens, tokens_ahead, opening, closing, has_fault, closes_outer, has_comment}
+use Rattle.pyfstring_tokens.specs.FieldTokens.{FieldToken, field_tokens, tokens_ahead, opening, closing, has_fault, closes_outer}
+use Rattle.pyfstring_tokens.specs.FieldTokens.{has_comment}
 use Rattle.pyfstring_tokens.specs.Answers.{Ends, Refuses}
 use Rattle.pytoken.specs.declared.faults.TokenError.{TokenError}
 use Rattle.pytoken.specs.FormattedStrings.{is_faulty_by}
@@ -33,11 +35,13 @@ reads_first g fault start now text first sound grown =
     }
 
 pub reads_on : (g : FieldToken → List Terminal) (fault : Fault) (start now next : List Terminal) (text : List ℕ) (n : ℕ) (x : FieldToken) →
-    tokens_ahead text n ≡ x ∷ tokens_ahead text (n + 1) → is_faulty_token fault x ≡ false → next ≡ now ++ g x → Reads g fault start now text n →
+    tokens_ahead text n ≡ x ∷ tokens_ahead text (n + 1) → is_faulty_token fault x ≡ false → next ≡ now ++ g x
+    → Reads g fault start now text n →
     Reads g fault start next text (n + 1)
 reads_on g fault start now next text n x here sound grown so_far =
     record {
-      terminals = ap (λ t. t ++ flat_map g (tokens_ahead text (n + 1))) grown ∙ append_assoc now (g x) (flat_map g (tokens_ahead text (n + 1)))
+      terminals = ap (λ t. t ++ flat_map g (tokens_ahead text (n + 1))) grown
+          ∙ append_assoc now (g x) (flat_map g (tokens_ahead text (n + 1)))
           ∙ ap (λ ts. now ++ flat_map g ts) (sym here) ∙ so_far.terminals;
       faults = sym (ap (list_any (is_faulty_token fault)) here ∙ (rw sound refl)) ∙ so_far.faults;
     }
@@ -100,4 +104,5 @@ unfolding is_faulty_by
 token_faulty g fault start now text n x here faulty so_far =
     let some : list_any (is_faulty_token fault) (field_tokens text) ≡ true =
     sym so_far.faults ∙ ap (list_any (is_faulty_token fault)) here ∙ (rw faulty refl) in
-    ap (any (has_fault text) (closes_outer text) (has_comment text)) some ∙ by_fourth (has_fault text) (closes_outer text) (has_comment text)
+    ap (any (has_fault text) (closes_outer text) (has_comment text)) some
+    ∙ by_fourth (has_fault text) (closes_outer text) (has_comment text)

@@ -1,7 +1,8 @@
 -- The characters of a text without its carriage returns, one after another.
 --
 -- Carries: is_done, first_of_any, front_of_any.
-use Rattle.std.proofs.Common.{◌≡◌, ℕ, ◌-◌, ◌≤◌, List, [], ◌∷◌, ◌++◌, length, take, drop, refl, sym, ap, subst, ◌∙◌, arith, append-nil, length-append}
+use Rattle.std.proofs.Common.{◌≡◌, ℕ, ◌-◌, ◌≤◌, List, [], ◌∷◌, ◌++◌, length, take, drop, refl, sym, ap, subst, ◌∙◌, arith, append-nil}
+use Rattle.std.proofs.Common.{length-append}
 use Rattle.std.specs.Prelude.{◌==◌, not}
 use Rattle.std.specs.Str.{chars, IsUtf8}
 use Rattle.std.specs.Char.{encode_utf8}
@@ -12,12 +13,14 @@ use Rattle.std.proofs.lemmas.Str.{chars-nil, chars-append, chars_past_char, IsUt
 use Rattle.pytoken.proofs.Callers.TextLemmas.{past, no_chars}
 use Rattle.pytoken.specs.StringValues.{with_line_feeds, without_last}
 
-pub skipped : (bs rest : List ℕ) (c : ℕ) → IsUtf8 bs → bs ≡ encode_utf8 c ++ rest → c ≡ 13 → with_line_feeds (chars bs) ≡ with_line_feeds (chars rest)
+pub skipped : (bs rest : List ℕ) (c : ℕ) → IsUtf8 bs → bs ≡ encode_utf8 c ++ rest → c ≡ 13
+    → with_line_feeds (chars bs) ≡ with_line_feeds (chars rest)
 skipped bs rest c utf8 e is = let step = past bs rest c utf8 e in let test = eq-eqb c 13 is in ap with_line_feeds step.same ∙ (rw test refl)
 
 pub kept : (bs rest : List ℕ) (c : ℕ) → IsUtf8 bs → bs ≡ encode_utf8 c ++ rest → (c ≡ 13 → ⊥) →
     with_line_feeds (chars bs) ≡ c ∷ with_line_feeds (chars rest)
-kept bs rest c utf8 e other = let step = past bs rest c utf8 e in let test = ne_eqb c 13 other in ap with_line_feeds step.same ∙ (rw test refl)
+kept bs rest c utf8 e other = let step = past bs rest c utf8 e in let test = ne_eqb c 13 other in
+    ap with_line_feeds step.same ∙ (rw test refl)
 
 pub nothing_left : (bs : List ℕ) → length bs ≡ 0 → with_line_feeds (chars bs) ≡ []
 nothing_left bs e = ap with_line_feeds (no_chars bs e)
@@ -63,7 +66,8 @@ pub nothing_before : (bs : List ℕ) → length bs ≡ 0 → with_line_feeds (ch
 nothing_before bs e = let none = nothing_left bs e in rw none refl
 
 -- a text without its last character
-pub text_before_last : (bs front : List ℕ) (c : ℕ) → IsUtf8 bs → IsUtf8 front → bs ≡ front ++ encode_utf8 c → chars front ≡ without_last 1 (chars bs)
+pub text_before_last : (bs front : List ℕ) (c : ℕ) → IsUtf8 bs → IsUtf8 front → bs ≡ front ++ encode_utf8 c
+    → chars front ≡ without_last 1 (chars bs)
 text_before_last bs front c utf8 before e =
     let f = chars front in
     let whole : chars bs ≡ f ++ c ∷ [] = at_end bs front c utf8 before e in

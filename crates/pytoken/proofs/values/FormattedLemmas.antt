@@ -1,6 +1,7 @@
 -- Carries: push_nested_expression, push_expression, push_token, push_nested, push_formatted.
 -- On: an f-string's fault by its elements, and a field's tokens.
-use Rattle.std.proofs.Common.{◌≡◌, ℕ, Bool, true, false, List, [], ◌∷◌, map, Result, Ok, Err, refl, sym, ap, subst, ◌∙◌, Option, Some, None, is_some}
+use Rattle.std.proofs.Common.{◌≡◌, ℕ, Bool, true, false, List, [], ◌∷◌, map, Result, Ok, Err, refl, sym, ap, subst, ◌∙◌, Option, Some, None}
+use Rattle.std.proofs.Common.{is_some}
 use Rattle.std.specs.Prelude.{IfErr, IsErrAnd}
 use Rattle.std.specs.Option.{option_or}
 use Rattle.std.specs.List.{flat_map, list_any}
@@ -60,7 +61,8 @@ cut_told : {P : Type 0} (e : CutError) (d : TerminalFault) (fault : Option Token
 cut_told cut.Malformed d fault is f p = subst (λ (x : TerminalFault). Tells fault x) (sym is) (f p)
 cut_told cut.Memory d fault is f p = subst (λ (x : TerminalFault). Tells fault x) (sym is) tt
 
-pub cut_passed_on : {X P : Type 0} (r : Result X TerminalFault) (e : CutError) (fault : Option TokenError) → IsErrAnd r (λ d. d ≡ fault_by_cut e) →
+pub cut_passed_on : {X P : Type 0} (r : Result X TerminalFault) (e : CutError) (fault : Option TokenError)
+    → IsErrAnd r (λ d. d ≡ fault_by_cut e) →
     (P → fault ≡ Some errors.FString) → IfMalformed e P → IfErr r (λ d. Tells fault d)
 cut_passed_on (Ok x) e fault h f p = absurd h
 cut_passed_on (Err d) e fault h f p = cut_told e d fault h f p

@@ -1,6 +1,7 @@
 -- Carries: skip_prefix, strip, is_marked, escape_fault, literal_fault, text_in, bytes_in,
 -- string_value. On: what stands in a literal's body, and its parts.
-use Rattle.std.proofs.Common.{◌≡◌, ℕ, zero, suc, ◌+◌, ◌-◌, ◌<◌, Bool, true, false, List, [], ◌∷◌, ◌++◌, length, take, drop, refl, sym, ap, ap₂, subst}
+use Rattle.std.proofs.Common.{◌≡◌, ℕ, zero, suc, ◌+◌, ◌-◌, ◌<◌, Bool, true, false, List, [], ◌∷◌, ◌++◌, length, take, drop, refl, sym, ap}
+use Rattle.std.proofs.Common.{ap₂, subst}
 use Rattle.std.proofs.Common.{◌∙◌, arith, Some, None, slice_get, append_assoc, append-nil, length-drop, length-take, take-take, take_all}
 use Rattle.std.specs.Prelude.{◌==◌, ◌||◌, ◌&&◌, not, nat_lt}
 use Rattle.std.specs.Str.{chars, all_scalars, IsUtf8}
@@ -19,7 +20,8 @@ use Rattle.pytoken.specs.Escapes.{reading, meanings_after, meanings, points_in, 
 use Rattle.pytoken.specs.Laws.{is_point, is_byte}
 use Rattle.pytoken.proofs.Callers.Bodies.{body_all, filter_all}
 use Rattle.pytoken.proofs.Callers.Said.{points_small}
-use Rattle.pytoken.specs.StringValues.{is_unicode, with_line_feeds, points_of, value_of, string_value, string_fault, is_quote, prefix_len_of}
+use Rattle.pytoken.specs.StringValues.{is_unicode, with_line_feeds, points_of, value_of, string_value, string_fault, is_quote}
+use Rattle.pytoken.specs.StringValues.{prefix_len_of}
 use Rattle.pytoken.specs.StringValues.{is_marked, is_raw, is_bytes, is_formatted, body_of, without_last, nul_fault, literal_fault}
 use Rattle.pytoken.specs.Inner.Readings.{first_meaning, behind_meaning}
 use Rattle.pytoken.proofs.values.EscapeLemmas.{begins_by}
@@ -68,7 +70,8 @@ pub any_on : (p : Meaning → Bool) (raw bytes : Bool) (t new : List ℕ) (m : M
 any_on p raw bytes t new m b whole e cut so_far =
     let step = ap (list_any p) (meanings_step raw bytes t m e) in
     let same = ap (λ (u : List ℕ). list_any p (meanings raw bytes u)) cut in
-    or_assoc b (p m) (list_any p (meanings raw bytes new)) ∙ ap (λ (x : Bool). b || (p m || x)) same ∙ sym (ap (λ (x : Bool). b || x) step) ∙ so_far
+    or_assoc b (p m) (list_any p (meanings raw bytes new)) ∙ ap (λ (x : Bool). b || (p m || x)) same
+    ∙ sym (ap (λ (x : Bool). b || x) step) ∙ so_far
   where
     or_assoc : (x y z : Bool) → ((x || y) || z) ≡ (x || (y || z))
     or_assoc true y z = refl
@@ -79,7 +82,8 @@ any_on p raw bytes t new m b whole e cut so_far =
 abbrev pub after_prefix : List ℕ → List ℕ
 after_prefix t = drop (prefix_len_of t) t
 
-pub prefix_more : (t new : List ℕ) (c : ℕ) → slice_get t 0 ≡ Some c → is_quote c ≡ false → new ≡ drop 1 t → after_prefix new ≡ after_prefix t
+pub prefix_more : (t new : List ℕ) (c : ℕ) → slice_get t 0 ≡ Some c → is_quote c ≡ false → new ≡ drop 1 t
+    → after_prefix new ≡ after_prefix t
 prefix_more t new c e other cut =
     let whole = begins_by t c e in
     let size : 1 + prefix_len_of (drop 1 t) ≡ suc (prefix_len_of (drop 1 t)) = omega arith in
@@ -118,7 +122,8 @@ pub fault_named : (ms : List Meaning) → list_any is_named_escape ms ≡ true �
 unfolding escape_fault
 fault_named ms named = rw named refl
 
-pub fault_bad : (ms : List Meaning) → list_any is_named_escape ms ≡ false → list_any is_bad_escape ms ≡ true → escape_fault ms ≡ Some errors.BadEscape
+pub fault_bad : (ms : List Meaning) → list_any is_named_escape ms ≡ false → list_any is_bad_escape ms ≡ true
+    → escape_fault ms ≡ Some errors.BadEscape
 unfolding escape_fault
 fault_bad ms named bad = rw (named, bad) refl
 
@@ -128,7 +133,8 @@ fault_none ms named bad = rw (named, bad) refl
 
 pub any_end : (p : Meaning → Bool) (raw bytes : Bool) (t : List ℕ) (b whole : Bool) → first_meaning raw bytes t ≡ None →
     (b || list_any p (meanings raw bytes t)) ≡ whole → b ≡ whole
-any_end p raw bytes t b whole e so_far = sym (or-false b) ∙ sym (ap (λ (ms : List Meaning). b || list_any p ms) (meanings_end raw bytes t e)) ∙ so_far
+any_end p raw bytes t b whole e so_far = sym (or-false b)
+    ∙ sym (ap (λ (ms : List Meaning). b || list_any p ms) (meanings_end raw bytes t e)) ∙ so_far
 
 -- the first fault of a literal
 
@@ -153,7 +159,8 @@ pub literal_nul : (t : List ℕ) → is_formatted t ≡ false → escape_fault (
 unfolding literal_fault nul_fault
 literal_nul t f escape low nul = rw (f, escape, low, nul) refl
 
-pub literal_sound : (t : List ℕ) → is_formatted t ≡ false → escape_fault (ms_of t) ≡ None → (is_bytes t && list_any (nat_lt 0x7F) t) ≡ false →
+pub literal_sound : (t : List ℕ) → is_formatted t ≡ false → escape_fault (ms_of t) ≡ None
+    → (is_bytes t && list_any (nat_lt 0x7F) t) ≡ false →
     list_any (λ c. c == 0) t ≡ false → literal_fault t ≡ None
 unfolding literal_fault nul_fault
 literal_sound t f escape low none = rw (f, escape, low, none) refl
@@ -172,7 +179,8 @@ parts_on p raw bytes t new m e cut all =
 
 -- What a literal stands for
 
-same_points : (t literal body : List ℕ) (raw bytes : Bool) → literal ≡ t → raw ≡ is_raw literal → bytes ≡ is_bytes literal → body ≡ body_of literal
+same_points : (t literal body : List ℕ) (raw bytes : Bool) → literal ≡ t → raw ≡ is_raw literal → bytes ≡ is_bytes literal
+    → body ≡ body_of literal
     → flat_map points_in (meanings raw bytes body) ≡ points_of t
 unfolding points_of
 same_points t literal body raw bytes is r b inner =

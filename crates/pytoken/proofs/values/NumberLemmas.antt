@@ -1,5 +1,6 @@
 -- Carries: whole, is_too_large, integer. On: a whole number byte by byte.
-use Rattle.std.proofs.Common.{◌≡◌, ℕ, ◌+◌, ◌*◌, ◌^◌, ◌<◌, ◌≤◌, Bool, true, false, not, List, [], ◌∷◌, length, drop, get_or, refl, sym, ap, ◌∙◌, inl, inr, arith}
+use Rattle.std.proofs.Common.{◌≡◌, ℕ, ◌+◌, ◌*◌, ◌^◌, ◌<◌, ◌≤◌, Bool, true, false, not, List, [], ◌∷◌, length, drop, get_or, refl, sym, ap}
+use Rattle.std.proofs.Common.{◌∙◌, inl, inr, arith}
 use Rattle.std.proofs.Common.{ap₂, Option, Some, None, is_some, mul-le-mul_left}
 use Rattle.std.specs.Prelude.{◌==◌, nat_le, filter, MatchOption, if◌then◌else◌}
 use Rattle.std.specs.Char.{digit_value}
@@ -104,7 +105,8 @@ module _ (extent : Extent) (t ds : List ℕ) (radix : ℕ) (of_radix : radix ≡
   within (Some v) e some = sym (in_both extent (whole_value t) (below_some t ds radix of_radix of_digits v e).1)
   within None e some = absurd cc
 
-  pub past_plain : (o : Option ℕ) → o ≡ whole_below radix ds → false ≡ is_some o → extent ≡ Plain → true ≡ nat_le (limit_of extent) (whole_value t)
+  pub past_plain : (o : Option ℕ) → o ≡ whole_below radix ds → false ≡ is_some o → extent ≡ Plain
+      → true ≡ nat_le (limit_of extent) (whole_value t)
   past_plain (Some v) e none is = absurd cc
   past_plain None e none is =
       let large = le-leb (2 ^ 128) (whole_value t) (below_none t ds radix of_radix of_digits e) in
@@ -135,6 +137,7 @@ module _ (t ds : List ℕ) (radix : ℕ) (of_radix : radix ≡ radix_of t) (of_d
   not_past None small read is = omega (arith, digits_are t ds radix of_radix of_digits)
 
   pub read_whole : (n : ℕ) (o : Option ℕ)
-      → MatchOption o (10 ^ most_digits ≤ written radix ds) (λ n. (n ≡ written radix ds) × (n < 10 ^ most_digits)) → o ≡ Some n → n ≡ whole_value t
+      → MatchOption o (10 ^ most_digits ≤ written radix ds) (λ n. (n ≡ written radix ds) × (n < 10 ^ most_digits))
+      → o ≡ Some n → n ≡ whole_value t
   read_whole n (Some m) read is = let same : m ≡ n = cc in sym same ∙ read.0 ∙ digits_are t ds radix of_radix of_digits
   read_whole n None read is = absurd cc

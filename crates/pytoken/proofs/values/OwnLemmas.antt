@@ -1,5 +1,6 @@
 -- Carries: first_character, front, bump_plain. On: characters of ASCII at the ends of a text.
-use Rattle.std.proofs.Common.{◌≡◌, ℕ, zero, suc, ◌+◌, ◌-◌, ◌<◌, Bool, true, false, List, [], ◌∷◌, ◌++◌, length, take, drop, refl, sym, ap, ◌∙◌, arith, inl, inr}
+use Rattle.std.proofs.Common.{◌≡◌, ℕ, zero, suc, ◌+◌, ◌-◌, ◌<◌, Bool, true, false, List, [], ◌∷◌, ◌++◌, length, take, drop, refl, sym, ap}
+use Rattle.std.proofs.Common.{◌∙◌, arith, inl, inr}
 use Rattle.std.proofs.Common.{Some, None, slice_get}
 use Rattle.std.specs.Prelude.{◌==◌, ◌||◌, not, nat_le}
 use Rattle.std.specs.List.{list_all, prefix_len}
@@ -61,7 +62,8 @@ last_cut zero (x ∷ []) b size e = let is : x ≡ b = cc in ap (λ (k : ℕ). k
 last_cut zero (x ∷ y ∷ bs) b size e = absurd (omega (arith, size))
 last_cut (suc n) (x ∷ bs) b size e = ap (λ (t : List ℕ). x ∷ t) (last_cut n bs b (omega (arith, size)) e)
 
-pub own_last : (bs front : List ℕ) (b : ℕ) → IsUtf8 bs → slice_get bs (length bs - 1) ≡ Some b → is_own b ≡ true → front ≡ take (length bs - 1) bs →
+pub own_last : (bs front : List ℕ) (b : ℕ) → IsUtf8 bs → slice_get bs (length bs - 1) ≡ Some b → is_own b ≡ true
+    → front ≡ take (length bs - 1) bs →
     with_line_feeds (chars front) ≡ without_last 1 (with_line_feeds (chars bs))
 own_last bs front b utf8 e is cut =
     let o = own b is in

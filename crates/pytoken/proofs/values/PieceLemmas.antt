@@ -7,7 +7,8 @@ use Rattle.pytoken.specs.StringValues.{with_line_feeds}
 use Rattle.pytoken.specs.FormattedStrings.{TextPart, text_meanings, text_points}
 use Rattle.pytoken.specs.Inner.Readings.{body_points}
 
-pub without_pairs : (p : TextPart) (cs : List ℕ) → p.has_pairs ≡ false → cs ≡ with_line_feeds p.source → meanings p.is_raw false cs ≡ text_meanings p
+pub without_pairs : (p : TextPart) (cs : List ℕ) → p.has_pairs ≡ false → cs ≡ with_line_feeds p.source
+    → meanings p.is_raw false cs ≡ text_meanings p
 unfolding text_meanings
 without_pairs p cs none is = rw (none, is) refl
 
@@ -16,6 +17,7 @@ pub with_pairs : (p : TextPart) (made cs : List ℕ) → p.has_pairs ≡ true �
 unfolding text_meanings
 with_pairs p made cs some is kept = rw (some, kept, is) refl
 
-pub same_points : (p : TextPart) (cs : List ℕ) → meanings p.is_raw false cs ≡ text_meanings p → body_points p.is_raw false cs ≡ text_points p
+pub same_points : (p : TextPart) (cs : List ℕ) → meanings p.is_raw false cs ≡ text_meanings p
+    → body_points p.is_raw false cs ≡ text_points p
 unfolding text_points
 same_points p cs same = ap (flat_map points_in) same

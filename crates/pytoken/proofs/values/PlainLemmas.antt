@@ -39,7 +39,8 @@ plain c is =
     }
 
 -- no character of a plain text passes a test that no plain character passes
-none_passes : (p : ℕ → Bool) → ((c : ℕ) → is_plain c ≡ true → p c ≡ false) → (t : List ℕ) → list_all is_plain t ≡ true → list_any p t ≡ false
+none_passes : (p : ℕ → Bool) → ((c : ℕ) → is_plain c ≡ true → p c ≡ false) → (t : List ℕ)
+    → list_all is_plain t ≡ true → list_any p t ≡ false
 none_passes p fails [] all = refl
 none_passes p fails (c ∷ cs) all =
     let parts = and_parts (is_plain c) (list_all is_plain cs) all in
@@ -47,7 +48,8 @@ none_passes p fails (c ∷ cs) all =
     rw here (none_passes p fails cs parts.1)
 
 -- in a plain body nothing is an escape
-no_escape : (p : Meaning → Bool) → ((m : ℕ) → p (Meaning.Point m) ≡ false) → (raw bytes : Bool) (cs : List ℕ) → list_all is_plain cs ≡ true →
+no_escape : (p : Meaning → Bool) → ((m : ℕ) → p (Meaning.Point m) ≡ false) → (raw bytes : Bool) (cs : List ℕ)
+    → list_all is_plain cs ≡ true →
     list_any p (meanings_after raw bytes 0 cs) ≡ false
 no_escape p fails raw bytes [] all = refl
 no_escape p fails raw bytes (c ∷ cs) all =

@@ -1,5 +1,6 @@
 -- Carries: elements, push_terminals. On: what is appended, one after another.
-use Rattle.std.proofs.Common.{◌≡◌, ℕ, zero, suc, ◌+◌, ◌<◌, ◌≤◌, Bool, true, false, List, [], ◌∷◌, ◌++◌, length, drop, map, get_or, refl, sym, ap, ◌∙◌, arith}
+use Rattle.std.proofs.Common.{◌≡◌, ℕ, zero, suc, ◌+◌, ◌<◌, ◌≤◌, Bool, true, false, List, [], ◌∷◌, ◌++◌, length, drop, map, get_or, refl}
+use Rattle.std.proofs.Common.{sym, ap, ◌∙◌, arith}
 use Rattle.std.proofs.Common.{append-nil, append_assoc, Result, Ok, Err}
 use Rattle.std.specs.Prelude.{◌||◌, OnOk}
 use Rattle.std.specs.List.{flat_map, list_any}
@@ -58,12 +59,14 @@ leaves_none f g h start now xs i end so_far =
     sym (append-nil (map f now)) ∙ ap (λ t. map f now ++ flat_map g (map h t)) (sym (none_left xs i end)) ∙ so_far
 
 -- none of the items so far passes a test
-pub passes_over : {C D : Type 0} (p : C → Bool) (h : D → C) (xs : List D) (i : ℕ) (x : D) → i < length xs → x ≡ get_or xs i x → p (h x) ≡ false →
+pub passes_over : {C D : Type 0} (p : C → Bool) (h : D → C) (xs : List D) (i : ℕ) (x : D) → i < length xs
+    → x ≡ get_or xs i x → p (h x) ≡ false →
     list_any p (map h (drop i xs)) ≡ list_any p (map h xs) → list_any p (map h (drop (i + 1) xs)) ≡ list_any p (map h xs)
 passes_over p h xs i x lt read fails so_far =
     sym (ap (λ t. list_any p (map h t)) (dropped xs i x lt read) ∙ (rw fails refl)) ∙ so_far
 
-pub one_passes : {C D : Type 0} (p : C → Bool) (h : D → C) (xs : List D) (i : ℕ) (x : D) → i < length xs → x ≡ get_or xs i x → p (h x) ≡ true →
+pub one_passes : {C D : Type 0} (p : C → Bool) (h : D → C) (xs : List D) (i : ℕ) (x : D) → i < length xs
+    → x ≡ get_or xs i x → p (h x) ≡ true →
     list_any p (map h (drop i xs)) ≡ list_any p (map h xs) → list_any p (map h xs) ≡ true
 one_passes p h xs i x lt read passes so_far =
     sym so_far ∙ ap (λ t. list_any p (map h t)) (dropped xs i x lt read) ∙ (rw passes refl)

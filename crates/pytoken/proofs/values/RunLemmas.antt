@@ -21,7 +21,8 @@ no_escape : (raw : Bool) (c : ℕ) → stands raw c ≡ true → (not raw && (c 
 no_escape true c is = refl
 no_escape false c is = no (c == 92) (and_parts (is_own c) (not (c == 92)) is).1
 
-run_points : (raw bytes : Bool) (run rest : List ℕ) → list_all (stands raw) run ≡ true → body_points raw bytes (run ++ rest) ≡ run ++ body_points raw bytes rest
+run_points : (raw bytes : Bool) (run rest : List ℕ) → list_all (stands raw) run ≡ true
+    → body_points raw bytes (run ++ rest) ≡ run ++ body_points raw bytes rest
 unfolding meanings
 run_points raw bytes [] rest all = refl
 run_points raw bytes (c ∷ run) rest all =
@@ -38,7 +39,8 @@ pub cut_points : (raw bytes : Bool) (t run rest : List ℕ) → Cut raw t run re
 cut_points raw bytes t run rest cut = ap (body_points raw bytes) cut.whole ∙ run_points raw bytes run rest cut.plain
 
 -- the points so far, and those to come
-pub cut_on : (raw bytes : Bool) (t run rest out more whole : List ℕ) → Cut raw t run rest → more ≡ out ++ run → out ++ body_points raw bytes t ≡ whole
+pub cut_on : (raw bytes : Bool) (t run rest out more whole : List ℕ) → Cut raw t run rest → more ≡ out ++ run
+    → out ++ body_points raw bytes t ≡ whole
     → more ++ body_points raw bytes rest ≡ whole
 cut_on raw bytes t run rest out more whole cut grown so_far =
     ap (λ (x : List ℕ). x ++ body_points raw bytes rest) grown ∙ append_assoc out run (body_points raw bytes rest)
@@ -55,7 +57,8 @@ pub cut_all : (p : ℕ → Bool) (raw : Bool) (t run rest : List ℕ) → Cut ra
 cut_all p raw t run rest cut all =
     let split = ap (list_all p) cut.whole ∙ list_all-append p run rest in (and_parts (list_all p run) (list_all p rest) (sym split ∙ all)).1
 
-pub cut_shorter : (raw bytes : Bool) (t next run rest : List ℕ) (m : Meaning) → first_meaning raw bytes t ≡ Some m → next ≡ behind_meaning raw bytes t
+pub cut_shorter : (raw bytes : Bool) (t next run rest : List ℕ) (m : Meaning) → first_meaning raw bytes t ≡ Some m
+    → next ≡ behind_meaning raw bytes t
     → Cut raw next run rest → length rest < length t
 cut_shorter raw bytes t next run rest m e behind cut =
     omega (arith, shorter raw bytes t next m e behind, ap length cut.whole, length-append run rest)

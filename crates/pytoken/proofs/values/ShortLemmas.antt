@@ -1,5 +1,6 @@
 -- Carries: short_value, number_fault, number_terminal. On: numbers of decimal digits alone.
-use Rattle.std.proofs.Common.{◌≡◌, ℕ, ◌+◌, ◌-◌, ◌*◌, ◌^◌, ◌<◌, ◌≤◌, Bool, true, false, List, [], ◌∷◌, length, drop, get_or, refl, sym, ap, ◌∙◌, arith}
+use Rattle.std.proofs.Common.{◌≡◌, ℕ, ◌+◌, ◌-◌, ◌*◌, ◌^◌, ◌<◌, ◌≤◌, Bool, true, false, List, [], ◌∷◌, length, drop, get_or, refl, sym, ap}
+use Rattle.std.proofs.Common.{◌∙◌, arith}
 use Rattle.std.proofs.Common.{Option, Some, None, is_some}
 use Rattle.std.specs.Prelude.{◌==◌, ◌&&◌, ◌||◌, nat_le, filter, IfSome}
 use Rattle.std.specs.Char.{digit_value}
@@ -80,7 +81,8 @@ not_complex : (t : List ℕ) → list_all is_decimal_digit t ≡ true → is_com
 not_complex t all = none_of is_j no_j t all
 
 not_real : (t : List ℕ) → list_all is_decimal_digit t ≡ true → is_real t ≡ false
-not_real t all = ap (λ (b : Bool). (radix_of t == 10) && b) (none_of (λ c. is_point c || is_e c) no_fraction t all) ∙ and_false (radix_of t == 10)
+not_real t all = ap (λ (b : Bool). (radix_of t == 10) && b) (none_of (λ c. is_point c || is_e c) no_fraction t all)
+    ∙ and_false (radix_of t == 10)
 
 digits_written : (t : List ℕ) → list_all is_decimal_digit t ≡ true → written 10 t ≡ digits_value 10 t
 unfolding written
@@ -103,6 +105,7 @@ short_is t value is =
     value_whole t (not_complex t is.digits) (not_real t is.digits) ∙ ap (λ (n : ℕ). Int n) (short_whole t value is)
 
 -- what was read as decimal digits alone has no fault
-pub read_faultless : (extent : Extent) (t : List ℕ) (o : Option ℕ) → IfSome o (λ v. IsShort t v) → true ≡ is_some o → number_fault extent t ≡ None
+pub read_faultless : (extent : Extent) (t : List ℕ) (o : Option ℕ) → IfSome o (λ v. IsShort t v) → true ≡ is_some o
+    → number_fault extent t ≡ None
 read_faultless extent t (Some v) is some = short_faultless extent t v is
 read_faultless extent t None is some = absurd cc

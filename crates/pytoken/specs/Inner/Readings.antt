@@ -1,5 +1,6 @@
 -- What the code reads of a token's text from a place on.
-use Rattle.std.specs.Prelude.{◌≡◌, ℕ, ◌+◌, ◌*◌, ◌^◌, ◌<◌, EachIndex, slice_index, ◌==◌, ◌&&◌, ◌||◌, not, Bool, true, false, List, [], ◌∷◌, drop, nat_lt, nat_le, Option, Some, None, if◌then◌else◌}
+use Rattle.std.specs.Prelude.{◌≡◌, ℕ, ◌+◌, ◌*◌, ◌^◌, ◌<◌, EachIndex, slice_index, ◌==◌, ◌&&◌, ◌||◌, not, Bool, true, false, List, [], ◌∷◌}
+use Rattle.std.specs.Prelude.{drop, nat_lt, nat_le, Option, Some, None, if◌then◌else◌}
 use Rattle.std.specs.Char.{digit_value, is_digit}
 use Rattle.std.specs.List.{flat_map, list_all}
 use Rattle.std.specs.Str.Parse.{digits_value}

@@ -1,37 +1,51 @@
 use Rattle.std.specs.Prelude.{decimal}
 use Rattle.std.proofs.Common.{◌≡◌, ◌+◌, ◌++◌, true, arith, refl, sym, map, ◌∙◌, codes}
 use Rattle.std.specs.String.{string_bytes}
-use Rattle.pytree_node.specs.TreeOf.{alias_of, arguments_of, boxed_of, case_of, handler_of, item_of, keyword_of, option_of, pattern_of, stmt_of, tree_of, type_param_of}
-use Rattle.pytree_dump_text.specs.Shows.{Fields, Node, Scalar, a_field, expr_field, left_out, name_field, no_field, shown, shown_alias, shown_arguments, shown_flag, shown_item, shown_keyword, shown_name, shown_pattern, shown_stmt, type_params_field}
+use Rattle.pytree_node.specs.TreeOf.{alias_of, arguments_of, boxed_of, case_of, handler_of, item_of, keyword_of, option_of, pattern_of}
+use Rattle.pytree_node.specs.TreeOf.{stmt_of, tree_of, type_param_of}
+use Rattle.pytree_dump_text.specs.Shows.{Fields, Node, Scalar, a_field, expr_field, left_out, name_field, no_field, shown, shown_alias}
+use Rattle.pytree_dump_text.specs.Shows.{shown_arguments, shown_flag, shown_item, shown_keyword, shown_name, shown_pattern, shown_stmt}
+use Rattle.pytree_dump_text.specs.Shows.{type_params_field}
 use Rattle.pytree_dump_text.specs.Layout.{before, is_flat, shown_count}
 use Rattle.pytree_dump_text.specs.Blocks.{listed, shown_block, shown_case, shown_caught, shown_handler, shown_matched}
 use Rattle.pytree_dump_text.specs.Slots.{slot_of, with_slot}
-use Rattle.pytree_dump.proofs.RowLemmas.{aliases_row, boxed_field, exprs_row, items_row, keywords_row, member_weight, names_row, type_params_row}
-use Rattle.pytree_dump.proofs.BlockLemmas.{ahead, ahead_as, at_end, case_shows, case_weighs, handler_shows, handler_weighs, long_node, node_shown, stmts_row, text_as}
+use Rattle.pytree_dump.proofs.RowLemmas.{aliases_row, boxed_field, exprs_row, items_row, keywords_row, member_weight, names_row}
+use Rattle.pytree_dump.proofs.RowLemmas.{type_params_row}
+use Rattle.pytree_dump.proofs.BlockLemmas.{ahead, ahead_as, at_end, case_shows, case_weighs, handler_shows, handler_weighs, long_node}
+use Rattle.pytree_dump.proofs.BlockLemmas.{node_shown, stmts_row, text_as}
 use Rattle.pytree_dump.proofs.TextLemmas.{left, member_shown}
 use Rattle.pytree_node.specs.declared.statements.Case as given_case
 use Rattle.pytree_node.specs.declared.statements.Handler as given_handler
-use Rattle.pytree_node.proofs.Callers.StmtShapes.{ann_assign_tree, assert_tree, assign_tree, async_function_def_tree, async_with_tree, aug_assign_tree, class_def_tree, delete_tree, expr_stmt_tree, function_def_tree, global_tree, if_tree, import_from_tree, import_tree, nonlocal_tree, raise_tree, return_tree, type_alias_tree, while_tree, with_tree}
+use Rattle.pytree_node.proofs.Callers.StmtShapes.{ann_assign_tree, assert_tree, assign_tree, async_function_def_tree, async_with_tree}
+use Rattle.pytree_node.proofs.Callers.StmtShapes.{aug_assign_tree, class_def_tree, delete_tree, expr_stmt_tree, function_def_tree}
+use Rattle.pytree_node.proofs.Callers.StmtShapes.{global_tree, if_tree, import_from_tree, import_tree, nonlocal_tree, raise_tree}
+use Rattle.pytree_node.proofs.Callers.StmtShapes.{return_tree, type_alias_tree, while_tree, with_tree}
 use Rattle.pytree_dump.proofs.+blocks.Goals as goal
 
 pub statements::show_stmts-show_stmt-requires : goal.statements::show_stmts-show_stmt-requires
 statements::show_stmts-show_stmt-requires t c =
-    let h : _ = member_weight (λ s. shown_stmt c.args.style.profile (stmt_of s)) _ _ _ c.loop-s-test.true c.s-item.is in (omega (arith, h), tt)
+    let h : _ = member_weight (λ s. shown_stmt c.args.style.profile (stmt_of s)) _ _ _ c.loop-s-test.true
+    c.s-item.is in (omega (arith, h), tt)
 
 pub handlers::show_handlers-show_handler-requires : goal.handlers::show_handlers-show_handler-requires
 handlers::show_handlers-show_handler-requires t c =
-    let h : _ = member_weight (λ h. shown_handler c.args.style.profile (handler_of h)) _ _ _ c.loop-h-test.true c.h-item.is in (omega (arith, h), tt)
+    let h : _ = member_weight (λ h. shown_handler c.args.style.profile (handler_of h)) _ _ _ c.loop-h-test.true
+    c.h-item.is in (omega (arith, h), tt)
 
 pub cases::show_cases-show_case-requires : goal.cases::show_cases-show_case-requires
 cases::show_cases-show_case-requires t c =
-    let h : _ = member_weight (λ k. shown_case c.args.style.profile (case_of k)) _ _ _ c.loop-case-test.true c.case-item.is in (omega (arith, h), tt)
+    let h : _ = member_weight (λ k. shown_case c.args.style.profile (case_of k)) _ _ _ c.loop-case-test.true c.case-item.is in
+    (omega (arith, h), tt)
 
 pub cases::show_cases-loop-case-preserved : goal.cases::show_cases-loop-case-preserved
 cases::show_cases-loop-case-preserved t c = record {
   text =
-      let e1 : string_bytes c.push_before.new.out ≡ string_bytes c.loop-case.out ++ before (is_flat c.args.style.indent) (string_bytes c.loop-case.indentation) c.loop-case.first =
-      c.in_ok-push_before.ensures ∙ (λ i. string_bytes c.loop-case.out ++ before (c.is_flat.ensures i) (c.as_str.ensures.value i) c.loop-case.first) in
-      member_shown (λ k. shown_case c.args.style.profile (case_of k)) _ _ _ c.args.style _ _ _ _ _ _ _ c.loop-case-test.true c.case-item.is c.loop-case.invariant.indentation c.loop-case.invariant.text
+      let e1 : string_bytes c.push_before.new.out ≡ string_bytes c.loop-case.out ++ before (is_flat c.args.style.indent)
+      (string_bytes c.loop-case.indentation) c.loop-case.first =
+      c.in_ok-push_before.ensures
+      ∙ (λ i. string_bytes c.loop-case.out ++ before (c.is_flat.ensures i) (c.as_str.ensures.value i) c.loop-case.first) in
+      member_shown (λ k. shown_case c.args.style.profile (case_of k)) _ _ _ c.args.style _ _ _ _ _ _ _ c.loop-case-test.true c.case-item.is
+      c.loop-case.invariant.indentation c.loop-case.invariant.text
       e1 c.in_ok-show_case.ensures.text;
   indentation = c.in_ok-show_case.ensures.indentation ∙ c.loop-case.invariant.indentation;
 }
@@ -116,7 +130,8 @@ compounds::show_function-returns-clause-text t c =
     (ahead s _ _ _ _ _ _ _ _ _ _ _ r1 r2 c.in_ok-told-2.ensures.indentation (c.in_ok-told-2.ensures.text r2)
     (ahead s _ _ _ _ _ _ _ _ _ _ _ r2 r3 c.in_ok-told-3.ensures.indentation (c.in_ok-told-3.ensures.text r3)
     (ahead s _ _ _ _ _ _ _ _ _ _ _ r3 r4 c.in_ok-told-4.ensures.indentation (c.in_ok-told-4.ensures.text r4)
-    (ahead_as s _ _ _ _ _ _ true _ _ _ _ r4 _ r5 (c.boxed_part.ensures r5 ∙ boxed_field _ _ r5) c.in_ok-told-5.ensures.indentation (c.in_ok-told-5.ensures.text r5)
+    (ahead_as s _ _ _ _ _ _ true _ _ _ _ r4 _ r5 (c.boxed_part.ensures r5 ∙ boxed_field _ _ r5) c.in_ok-told-5.ensures.indentation
+    (c.in_ok-told-5.ensures.text r5)
     (ahead s _ _ _ true _ _ _ _ _ _ _ r5 r6 c.in_ok-told-6.ensures.indentation (c.in_ok-told-6.ensures.text r6)
     c.in_ok-show_type_params.ensures.text)))))) c.in_ok-close.ensures.text
 
@@ -137,7 +152,8 @@ handlers::show_handler-returns-clause-text t c =
 
 pub handlers::show_handler-show_block-requires : goal.handlers::show_handler-show_block-requires
 handlers::show_handler-show_block-requires t c =
-    let h : _ = handler_weighs c.args.style.profile c.args.h.now c.deref-body.result.now c.deref-body.ensures.value in (omega (arith, h), tt)
+    let h : _ = handler_weighs c.args.style.profile c.args.h.now c.deref-body.result.now c.deref-body.ensures.value in
+    (omega (arith, h), tt)
 
 pub cases::show_match-returns-clause-text : goal.cases::show_match-returns-clause-text
 cases::show_match-returns-clause-text t c =
@@ -164,11 +180,13 @@ cases::show_case-returns-clause-text t c =
 
 pub cases::show_case-returns-clause-indentation : goal.cases::show_case-returns-clause-indentation
 cases::show_case-returns-clause-indentation t c = left c.args.style.indent _ _ _ _ c.in_ok-outer.ensures.len
-    (c.in_ok-show_block.ensures.indentation ∙ c.in_ok-told-2.ensures.indentation ∙ c.in_ok-told.ensures.indentation ∙ c.in_ok-outer.ensures.indentation) c.close.ensures.indentation
+    (c.in_ok-show_block.ensures.indentation ∙ c.in_ok-told-2.ensures.indentation ∙ c.in_ok-told.ensures.indentation
+    ∙ c.in_ok-outer.ensures.indentation) c.close.ensures.indentation
 
 pub cases::show_case-show_block-requires : goal.cases::show_case-show_block-requires
 cases::show_case-show_block-requires t c =
-    let h : _ = case_weighs c.args.style.profile c.args.case.now c.deref-body.result.now c.deref-body.ensures.value in (omega (arith, h), tt)
+    let h : _ = case_weighs c.args.style.profile c.args.case.now c.deref-body.result.now c.deref-body.ensures.value in
+    (omega (arith, h), tt)
 
 pub statements::show_stmt-returns-in-FunctionDef-clause-text : goal.statements::show_stmt-returns-in-FunctionDef-clause-text
 statements::show_stmt-returns-in-FunctionDef-clause-text t c =
@@ -205,56 +223,110 @@ statements::show_stmt-returns-in-AnnAssign-clause-text t c =
     let rest : Fields = a_field (codes "simple") (shown_flag c.in-AnnAssign.simple) no_field in
     let e : expr_field (codes "value") (boxed_of c.in-AnnAssign.value) rest ≡ with_slot (slot_of c.boxed_part.result) rest =
     sym (c.boxed_part.ensures rest ∙ boxed_field (codes "value") (boxed_of c.in-AnnAssign.value) rest) in
-    rw (c.in-AnnAssign.is, ann_assign_tree, e, sym c.deref-in-AnnAssign.ensures, sym c.deref-in-AnnAssign-2.ensures) c.show_four.ensures.text
+    rw (c.in-AnnAssign.is, ann_assign_tree, e, sym c.deref-in-AnnAssign.ensures, sym c.deref-in-AnnAssign-2.ensures)
+    c.show_four.ensures.text
 
 pub statements::show_stmt-returns-in-ImportFrom-clause-text : goal.statements::show_stmt-returns-in-ImportFrom-clause-text
 statements::show_stmt-returns-in-ImportFrom-clause-text t c =
     let rest : Fields = a_field (codes "names") (listed (λ a. shown_alias (alias_of a)) c.deref-in-ImportFrom.result.now)
     (a_field (codes "level") (Scalar (decimal c.in-ImportFrom.level)) no_field) in
-    let e : name_field (codes "module") c.in-ImportFrom.module rest ≡ with_slot (slot_of c.name_part.result) rest = sym (c.name_part.ensures rest) in
-    rw (c.in-ImportFrom.is, import_from_tree, aliases_row, sym c.deref-in-ImportFrom.ensures.value, e) c.show_three-in-ImportFrom.ensures.text
+    let e : name_field (codes "module") c.in-ImportFrom.module rest ≡ with_slot (slot_of c.name_part.result) rest =
+    sym (c.name_part.ensures rest) in
+    rw (c.in-ImportFrom.is, import_from_tree, aliases_row, sym c.deref-in-ImportFrom.ensures.value, e)
+    c.show_three-in-ImportFrom.ensures.text
 
 pub statements::show_stmt-returns-in-ClassDef-clause-text : goal.statements::show_stmt-returns-in-ClassDef-clause-text
-statements::show_stmt-returns-in-ClassDef-clause-text t c = rw (c.in-ClassDef.is, class_def_tree, exprs_row, exprs_row, keywords_row, stmts_row, sym c.deref-in-ClassDef.ensures.value, sym c.deref-in-ClassDef-2.ensures.value, sym c.deref-in-ClassDef-3.ensures.value, sym c.deref-in-ClassDef-4.ensures.value, sym c.deref-in-ClassDef-5.ensures.value) c.show_class.ensures.text
+statements::show_stmt-returns-in-ClassDef-clause-text t c = rw (
+  c.in-ClassDef.is,
+  class_def_tree,
+  exprs_row,
+  exprs_row,
+  keywords_row,
+  stmts_row,
+  sym c.deref-in-ClassDef.ensures.value,
+  sym c.deref-in-ClassDef-2.ensures.value,
+  sym c.deref-in-ClassDef-3.ensures.value,
+  sym c.deref-in-ClassDef-4.ensures.value,
+  sym c.deref-in-ClassDef-5.ensures.value,
+) c.show_class.ensures.text
 
 pub statements::show_stmt-returns-in-Return-clause-text : goal.statements::show_stmt-returns-in-Return-clause-text
-statements::show_stmt-returns-in-Return-clause-text t c = rw (c.in-Return.is, return_tree) (rw (sym (c.option_part.ensures no_field)) c.show_one.ensures.text)
+statements::show_stmt-returns-in-Return-clause-text t c =
+    rw (c.in-Return.is, return_tree) (rw (sym (c.option_part.ensures no_field)) c.show_one.ensures.text)
 
 pub statements::show_stmt-returns-in-Delete-clause-text : goal.statements::show_stmt-returns-in-Delete-clause-text
-statements::show_stmt-returns-in-Delete-clause-text t c = rw (c.in-Delete.is, delete_tree, exprs_row, sym c.deref-in-Delete.ensures.value) c.show_one-in-Delete.ensures.text
+statements::show_stmt-returns-in-Delete-clause-text t c = rw (c.in-Delete.is, delete_tree, exprs_row, sym c.deref-in-Delete.ensures.value)
+    c.show_one-in-Delete.ensures.text
 
 pub statements::show_stmt-returns-in-Assign-clause-text : goal.statements::show_stmt-returns-in-Assign-clause-text
-statements::show_stmt-returns-in-Assign-clause-text t c = rw (c.in-Assign.is, assign_tree, exprs_row, sym c.deref-in-Assign.ensures.value) c.show_three.ensures.text
+statements::show_stmt-returns-in-Assign-clause-text t c = rw (c.in-Assign.is, assign_tree, exprs_row, sym c.deref-in-Assign.ensures.value)
+    c.show_three.ensures.text
 
 pub statements::show_stmt-returns-in-AugAssign-clause-text : goal.statements::show_stmt-returns-in-AugAssign-clause-text
 statements::show_stmt-returns-in-AugAssign-clause-text t c = rw (c.in-AugAssign.is, aug_assign_tree) c.show_three-in-AugAssign.ensures.text
 
 pub statements::show_stmt-returns-in-While-clause-text : goal.statements::show_stmt-returns-in-While-clause-text
-statements::show_stmt-returns-in-While-clause-text t c = rw (c.in-While.is, while_tree, stmts_row, stmts_row, sym c.deref-in-While.ensures.value, sym c.deref-in-While-2.ensures.value) c.show_test.ensures.text
+statements::show_stmt-returns-in-While-clause-text t c = rw (
+  c.in-While.is,
+  while_tree,
+  stmts_row,
+  stmts_row,
+  sym c.deref-in-While.ensures.value,
+  sym c.deref-in-While-2.ensures.value,
+) c.show_test.ensures.text
 
 pub statements::show_stmt-returns-in-If-clause-text : goal.statements::show_stmt-returns-in-If-clause-text
-statements::show_stmt-returns-in-If-clause-text t c = rw (c.in-If.is, if_tree, stmts_row, stmts_row, sym c.deref-in-If.ensures.value, sym c.deref-in-If-2.ensures.value) c.show_test-in-If.ensures.text
+statements::show_stmt-returns-in-If-clause-text t c = rw (
+  c.in-If.is,
+  if_tree,
+  stmts_row,
+  stmts_row,
+  sym c.deref-in-If.ensures.value,
+  sym c.deref-in-If-2.ensures.value,
+) c.show_test-in-If.ensures.text
 
 pub statements::show_stmt-returns-in-With-clause-text : goal.statements::show_stmt-returns-in-With-clause-text
-statements::show_stmt-returns-in-With-clause-text t c = rw (c.in-With.is, with_tree, items_row, stmts_row, sym c.deref-in-With.ensures.value, sym c.deref-in-With-2.ensures.value) c.show_with.ensures.text
+statements::show_stmt-returns-in-With-clause-text t c = rw (
+  c.in-With.is,
+  with_tree,
+  items_row,
+  stmts_row,
+  sym c.deref-in-With.ensures.value,
+  sym c.deref-in-With-2.ensures.value,
+) c.show_with.ensures.text
 
 pub statements::show_stmt-returns-in-AsyncWith-clause-text : goal.statements::show_stmt-returns-in-AsyncWith-clause-text
-statements::show_stmt-returns-in-AsyncWith-clause-text t c = rw (c.in-AsyncWith.is, async_with_tree, items_row, stmts_row, sym c.deref-in-AsyncWith.ensures.value, sym c.deref-in-AsyncWith-2.ensures.value) c.show_with-in-AsyncWith.ensures.text
+statements::show_stmt-returns-in-AsyncWith-clause-text t c = rw (
+  c.in-AsyncWith.is,
+  async_with_tree,
+  items_row,
+  stmts_row,
+  sym c.deref-in-AsyncWith.ensures.value,
+  sym c.deref-in-AsyncWith-2.ensures.value,
+) c.show_with-in-AsyncWith.ensures.text
 
 pub statements::show_stmt-returns-in-Raise-clause-text : goal.statements::show_stmt-returns-in-Raise-clause-text
-statements::show_stmt-returns-in-Raise-clause-text t c = rw (c.in-Raise.is, raise_tree) (rw (sym (c.option_part-in-Raise-2.ensures no_field), sym (c.option_part-in-Raise.ensures (with_slot (slot_of c.option_part-in-Raise-2.result) no_field))) c.show_two.ensures.text)
+statements::show_stmt-returns-in-Raise-clause-text t c =
+    rw (c.in-Raise.is, raise_tree) (rw (
+      sym (c.option_part-in-Raise-2.ensures no_field),
+      sym (c.option_part-in-Raise.ensures (with_slot (slot_of c.option_part-in-Raise-2.result) no_field)),
+    ) c.show_two.ensures.text)
 
 pub statements::show_stmt-returns-in-Assert-clause-text : goal.statements::show_stmt-returns-in-Assert-clause-text
-statements::show_stmt-returns-in-Assert-clause-text t c = rw (c.in-Assert.is, assert_tree) (rw (sym (c.option_part-in-Assert.ensures no_field)) c.show_two-in-Assert.ensures.text)
+statements::show_stmt-returns-in-Assert-clause-text t c =
+    rw (c.in-Assert.is, assert_tree) (rw (sym (c.option_part-in-Assert.ensures no_field)) c.show_two-in-Assert.ensures.text)
 
 pub statements::show_stmt-returns-in-Import-clause-text : goal.statements::show_stmt-returns-in-Import-clause-text
-statements::show_stmt-returns-in-Import-clause-text t c = rw (c.in-Import.is, import_tree, aliases_row, sym c.deref-in-Import.ensures.value) c.show_one-in-Import.ensures.text
+statements::show_stmt-returns-in-Import-clause-text t c = rw (c.in-Import.is, import_tree, aliases_row, sym c.deref-in-Import.ensures.value)
+    c.show_one-in-Import.ensures.text
 
 pub statements::show_stmt-returns-in-Global-clause-text : goal.statements::show_stmt-returns-in-Global-clause-text
-statements::show_stmt-returns-in-Global-clause-text t c = rw (c.in-Global.is, global_tree, names_row, sym c.deref-in-Global.ensures.value) c.show_one-in-Global.ensures.text
+statements::show_stmt-returns-in-Global-clause-text t c = rw (c.in-Global.is, global_tree, names_row, sym c.deref-in-Global.ensures.value)
+    c.show_one-in-Global.ensures.text
 
 pub statements::show_stmt-returns-in-Nonlocal-clause-text : goal.statements::show_stmt-returns-in-Nonlocal-clause-text
-statements::show_stmt-returns-in-Nonlocal-clause-text t c = rw (c.in-Nonlocal.is, nonlocal_tree, names_row, sym c.deref-in-Nonlocal.ensures.value) c.show_one-in-Nonlocal.ensures.text
+statements::show_stmt-returns-in-Nonlocal-clause-text t c =
+    rw (c.in-Nonlocal.is, nonlocal_tree, names_row, sym c.deref-in-Nonlocal.ensures.value) c.show_one-in-Nonlocal.ensures.text
 
 pub statements::show_stmt-returns-in-Expr-clause-text : goal.statements::show_stmt-returns-in-Expr-clause-text
 statements::show_stmt-returns-in-Expr-clause-text t c = rw (c.in-Expr.is, expr_stmt_tree) c.show_one-in-Expr.ensures.text

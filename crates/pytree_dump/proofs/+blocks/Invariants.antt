@@ -15,8 +15,10 @@ decreases-statements::show_stmts l = 4 * weight (shown_block l.style.profile l.b
 
 abbrev pub invariant-statements::show_stmts-loop-s : goal.invariant-statements::show_stmts-loop-s
 invariant-statements::show_stmts-loop-s l = record {
-  text : string_bytes l.out ++ members l.style (string_bytes l.initial.indentation) l.first (showns (map (λ s. shown_stmt l.style.profile (stmt_of s)) (drop l.s-index l.body)))
-      ≡ string_bytes l.initial.out ++ members l.style (string_bytes l.initial.indentation) true (showns (map (λ s. shown_stmt l.style.profile (stmt_of s)) l.body));
+  text : string_bytes l.out ++ members l.style (string_bytes l.initial.indentation) l.first
+      (showns (map (λ s. shown_stmt l.style.profile (stmt_of s)) (drop l.s-index l.body)))
+      ≡ string_bytes l.initial.out ++ members l.style (string_bytes l.initial.indentation) true
+      (showns (map (λ s. shown_stmt l.style.profile (stmt_of s)) l.body));
   indentation : string_bytes l.indentation ≡ string_bytes l.initial.indentation;
 }
 
@@ -24,16 +26,19 @@ abbrev pub decreases-statements::show_block : goal.decreases-statements::show_bl
 decreases-statements::show_block l = 4 * weight (shown_block l.style.profile l.body.now) + 1
 
 abbrev pub decreases-compounds::show_test : goal.decreases-compounds::show_test
-decreases-compounds::show_test l = 4 * (weight (shown_block l.style.profile l.body.now) + weight (shown_block l.style.profile l.orelse.now)) + 2
+decreases-compounds::show_test l =
+    4 * (weight (shown_block l.style.profile l.body.now) + weight (shown_block l.style.profile l.orelse.now)) + 2
 
 abbrev pub decreases-compounds::show_for : goal.decreases-compounds::show_for
-decreases-compounds::show_for l = 4 * (weight (shown_block l.style.profile l.body.now) + weight (shown_block l.style.profile l.orelse.now)) + 2
+decreases-compounds::show_for l =
+    4 * (weight (shown_block l.style.profile l.body.now) + weight (shown_block l.style.profile l.orelse.now)) + 2
 
 abbrev pub decreases-compounds::show_with : goal.decreases-compounds::show_with
 decreases-compounds::show_with l = 4 * weight (shown_block l.style.profile l.body.now) + 2
 
 abbrev pub decreases-compounds::show_try : goal.decreases-compounds::show_try
-decreases-compounds::show_try l = 4 * (weight (shown_block l.style.profile l.body.now) + (weight (shown_caught l.style.profile l.handlers.now)
+decreases-compounds::show_try l =
+    4 * (weight (shown_block l.style.profile l.body.now) + (weight (shown_caught l.style.profile l.handlers.now)
     + (weight (shown_block l.style.profile l.orelse.now) + weight (shown_block l.style.profile l.finalbody.now)))) + 2
 
 abbrev pub decreases-compounds::show_function : goal.decreases-compounds::show_function
@@ -50,8 +55,10 @@ decreases-handlers::show_handlers l = 4 * weight (shown_caught l.style.profile l
 
 abbrev pub invariant-handlers::show_handlers-loop-h : goal.invariant-handlers::show_handlers-loop-h
 invariant-handlers::show_handlers-loop-h l = record {
-  text : string_bytes l.out ++ members l.style (string_bytes l.initial.indentation) l.first (showns (map (λ h. shown_handler l.style.profile (handler_of h)) (drop l.h-index l.handlers)))
-      ≡ string_bytes l.initial.out ++ members l.style (string_bytes l.initial.indentation) true (showns (map (λ h. shown_handler l.style.profile (handler_of h)) l.handlers));
+  text : string_bytes l.out ++ members l.style (string_bytes l.initial.indentation) l.first
+      (showns (map (λ h. shown_handler l.style.profile (handler_of h)) (drop l.h-index l.handlers)))
+      ≡ string_bytes l.initial.out ++ members l.style (string_bytes l.initial.indentation) true
+      (showns (map (λ h. shown_handler l.style.profile (handler_of h)) l.handlers));
   indentation : string_bytes l.indentation ≡ string_bytes l.initial.indentation;
 }
 
@@ -69,8 +76,10 @@ decreases-cases::show_cases l = 4 * weight (shown_matched l.style.profile l.case
 
 abbrev pub invariant-cases::show_cases-loop-case : goal.invariant-cases::show_cases-loop-case
 invariant-cases::show_cases-loop-case l = record {
-  text : string_bytes l.out ++ members l.style (string_bytes l.initial.indentation) l.first (showns (map (λ c. shown_case l.style.profile (case_of c)) (drop l.case-index l.cases)))
-      ≡ string_bytes l.initial.out ++ members l.style (string_bytes l.initial.indentation) true (showns (map (λ c. shown_case l.style.profile (case_of c)) l.cases));
+  text : string_bytes l.out ++ members l.style (string_bytes l.initial.indentation) l.first
+      (showns (map (λ c. shown_case l.style.profile (case_of c)) (drop l.case-index l.cases)))
+      ≡ string_bytes l.initial.out ++ members l.style (string_bytes l.initial.indentation) true
+      (showns (map (λ c. shown_case l.style.profile (case_of c)) l.cases));
   indentation : string_bytes l.indentation ≡ string_bytes l.initial.indentation;
 }
 

@@ -1,9 +1,11 @@
 use Rattle.std.proofs.Common.{◌≡◌, ◌+◌, ◌*◌, ◌++◌, true, map, drop}
 use Rattle.std.specs.String.{string_bytes}
 use Rattle.pytree_node.specs.Trees.{optional}
-use Rattle.pytree_node.specs.TreeOf.{tree_of, option_of, comprehension_of, keyword_of, arg_of, arguments_of, alias_of, item_of, type_param_of}
+use Rattle.pytree_node.specs.TreeOf.{tree_of, option_of, comprehension_of, keyword_of, arg_of, arguments_of, alias_of, item_of}
+use Rattle.pytree_node.specs.TreeOf.{type_param_of}
 use Rattle.pytree_dump_text.specs.Layout.{members}
-use Rattle.pytree_dump_text.specs.Shows.{shown, shown_optional, shown_comprehension, shown_keyword, shown_arg, shown_arguments, shown_alias, shown_item, shown_type_param, showns, Row, no_field}
+use Rattle.pytree_dump_text.specs.Shows.{shown, shown_optional, shown_comprehension, shown_keyword, shown_arg, shown_arguments, shown_alias}
+use Rattle.pytree_dump_text.specs.Shows.{shown_item, shown_type_param, showns, Row, no_field}
 use Rattle.pytree_dump_text.specs.Slots.{slot_of, slot_shown, with_slot}
 use Rattle.pytree_dump.specs.Inner.Weights.{weight, field_weights, slot_weight}
 use Rattle.pytree_dump.proofs.+showing.Given as goal
@@ -43,8 +45,10 @@ decreases-lists::show_exprs l = 4 * weight (Row (showns (map (λ e. shown (tree_
 
 abbrev pub invariant-lists::show_exprs-loop-e : goal.invariant-lists::show_exprs-loop-e
 invariant-lists::show_exprs-loop-e l = record {
-  text : string_bytes l.out ++ members l.style (string_bytes l.initial.indentation) l.first (showns (map (λ e. shown (tree_of e)) (drop l.e-index l.es)))
-      ≡ string_bytes l.initial.out ++ members l.style (string_bytes l.initial.indentation) true (showns (map (λ e. shown (tree_of e)) l.es));
+  text : string_bytes l.out ++ members l.style (string_bytes l.initial.indentation) l.first
+      (showns (map (λ e. shown (tree_of e)) (drop l.e-index l.es)))
+      ≡ string_bytes l.initial.out ++ members l.style (string_bytes l.initial.indentation) true
+      (showns (map (λ e. shown (tree_of e)) l.es));
   indentation : string_bytes l.indentation ≡ string_bytes l.initial.indentation;
 }
 
@@ -53,8 +57,10 @@ decreases-lists::show_options l = 4 * weight (Row (showns (map (λ e. shown_opti
 
 abbrev pub invariant-lists::show_options-loop-e : goal.invariant-lists::show_options-loop-e
 invariant-lists::show_options-loop-e l = record {
-  text : string_bytes l.out ++ members l.style (string_bytes l.initial.indentation) l.first (showns (map (λ e. shown_optional (optional (option_of e))) (drop l.e-index l.es)))
-      ≡ string_bytes l.initial.out ++ members l.style (string_bytes l.initial.indentation) true (showns (map (λ e. shown_optional (optional (option_of e))) l.es));
+  text : string_bytes l.out ++ members l.style (string_bytes l.initial.indentation) l.first
+      (showns (map (λ e. shown_optional (optional (option_of e))) (drop l.e-index l.es)))
+      ≡ string_bytes l.initial.out ++ members l.style (string_bytes l.initial.indentation) true
+      (showns (map (λ e. shown_optional (optional (option_of e))) l.es));
   indentation : string_bytes l.indentation ≡ string_bytes l.initial.indentation;
 }
 
@@ -63,8 +69,10 @@ decreases-lists::show_comprehensions l = 4 * weight (Row (showns (map (λ c. sho
 
 abbrev pub invariant-lists::show_comprehensions-loop-c : goal.invariant-lists::show_comprehensions-loop-c
 invariant-lists::show_comprehensions-loop-c l = record {
-  text : string_bytes l.out ++ members l.style (string_bytes l.initial.indentation) l.first (showns (map (λ c. shown_comprehension (comprehension_of c)) (drop l.c-index l.cs)))
-      ≡ string_bytes l.initial.out ++ members l.style (string_bytes l.initial.indentation) true (showns (map (λ c. shown_comprehension (comprehension_of c)) l.cs));
+  text : string_bytes l.out ++ members l.style (string_bytes l.initial.indentation) l.first
+      (showns (map (λ c. shown_comprehension (comprehension_of c)) (drop l.c-index l.cs)))
+      ≡ string_bytes l.initial.out ++ members l.style (string_bytes l.initial.indentation) true
+      (showns (map (λ c. shown_comprehension (comprehension_of c)) l.cs));
   indentation : string_bytes l.indentation ≡ string_bytes l.initial.indentation;
 }
 
@@ -73,8 +81,10 @@ decreases-lists::show_keywords l = 4 * weight (Row (showns (map (λ k. shown_key
 
 abbrev pub invariant-lists::show_keywords-loop-k : goal.invariant-lists::show_keywords-loop-k
 invariant-lists::show_keywords-loop-k l = record {
-  text : string_bytes l.out ++ members l.style (string_bytes l.initial.indentation) l.first (showns (map (λ k. shown_keyword (keyword_of k)) (drop l.k-index l.ks)))
-      ≡ string_bytes l.initial.out ++ members l.style (string_bytes l.initial.indentation) true (showns (map (λ k. shown_keyword (keyword_of k)) l.ks));
+  text : string_bytes l.out ++ members l.style (string_bytes l.initial.indentation) l.first
+      (showns (map (λ k. shown_keyword (keyword_of k)) (drop l.k-index l.ks)))
+      ≡ string_bytes l.initial.out ++ members l.style (string_bytes l.initial.indentation) true
+      (showns (map (λ k. shown_keyword (keyword_of k)) l.ks));
   indentation : string_bytes l.indentation ≡ string_bytes l.initial.indentation;
 }
 
@@ -83,16 +93,20 @@ decreases-lists::show_args l = 4 * weight (Row (showns (map (λ a. shown_arg (ar
 
 abbrev pub invariant-lists::show_args-loop-a : goal.invariant-lists::show_args-loop-a
 invariant-lists::show_args-loop-a l = record {
-  text : string_bytes l.out ++ members l.style (string_bytes l.initial.indentation) l.first (showns (map (λ a. shown_arg (arg_of a)) (drop l.a-index l.all)))
-      ≡ string_bytes l.initial.out ++ members l.style (string_bytes l.initial.indentation) true (showns (map (λ a. shown_arg (arg_of a)) l.all));
+  text : string_bytes l.out ++ members l.style (string_bytes l.initial.indentation) l.first
+      (showns (map (λ a. shown_arg (arg_of a)) (drop l.a-index l.all)))
+      ≡ string_bytes l.initial.out ++ members l.style (string_bytes l.initial.indentation) true
+      (showns (map (λ a. shown_arg (arg_of a)) l.all));
   indentation : string_bytes l.indentation ≡ string_bytes l.initial.indentation;
 }
 
 abbrev pub decreases-nodes::show_four : goal.decreases-nodes::show_four
-decreases-nodes::show_four l = 4 * field_weights (with_slot (slot_of l.a) (with_slot (slot_of l.b) (with_slot (slot_of l.c) (with_slot (slot_of l.d) no_field)))) + 3
+decreases-nodes::show_four l =
+    4 * field_weights (with_slot (slot_of l.a) (with_slot (slot_of l.b) (with_slot (slot_of l.c) (with_slot (slot_of l.d) no_field)))) + 3
 
 abbrev pub decreases-nodes::show_seven : goal.decreases-nodes::show_seven
-decreases-nodes::show_seven l = 4 * field_weights (with_slot (slot_of l.a) (with_slot (slot_of l.b) (with_slot (slot_of l.c) (with_slot (slot_of l.d)
+decreases-nodes::show_seven l =
+    4 * field_weights (with_slot (slot_of l.a) (with_slot (slot_of l.b) (with_slot (slot_of l.c) (with_slot (slot_of l.d)
     (with_slot (slot_of l.e) (with_slot (slot_of l.f) (with_slot (slot_of l.g) no_field))))))) + 3
 
 abbrev pub decreases-members::show_alias : goal.decreases-members::show_alias
@@ -109,8 +123,10 @@ decreases-lists::show_aliases l = 4 * weight (Row (showns (map (λ a. shown_alia
 
 abbrev pub invariant-lists::show_aliases-loop-a : goal.invariant-lists::show_aliases-loop-a
 invariant-lists::show_aliases-loop-a l = record {
-  text : string_bytes l.out ++ members l.style (string_bytes l.initial.indentation) l.first (showns (map (λ a. shown_alias (alias_of a)) (drop l.a-index l.names)))
-      ≡ string_bytes l.initial.out ++ members l.style (string_bytes l.initial.indentation) true (showns (map (λ a. shown_alias (alias_of a)) l.names));
+  text : string_bytes l.out ++ members l.style (string_bytes l.initial.indentation) l.first
+      (showns (map (λ a. shown_alias (alias_of a)) (drop l.a-index l.names)))
+      ≡ string_bytes l.initial.out ++ members l.style (string_bytes l.initial.indentation) true
+      (showns (map (λ a. shown_alias (alias_of a)) l.names));
   indentation : string_bytes l.indentation ≡ string_bytes l.initial.indentation;
 }
 
@@ -119,8 +135,10 @@ decreases-lists::show_items l = 4 * weight (Row (showns (map (λ item. shown_ite
 
 abbrev pub invariant-lists::show_items-loop-item : goal.invariant-lists::show_items-loop-item
 invariant-lists::show_items-loop-item l = record {
-  text : string_bytes l.out ++ members l.style (string_bytes l.initial.indentation) l.first (showns (map (λ item. shown_item (item_of item)) (drop l.item-index l.items)))
-      ≡ string_bytes l.initial.out ++ members l.style (string_bytes l.initial.indentation) true (showns (map (λ item. shown_item (item_of item)) l.items));
+  text : string_bytes l.out ++ members l.style (string_bytes l.initial.indentation) l.first
+      (showns (map (λ item. shown_item (item_of item)) (drop l.item-index l.items)))
+      ≡ string_bytes l.initial.out ++ members l.style (string_bytes l.initial.indentation) true
+      (showns (map (λ item. shown_item (item_of item)) l.items));
   indentation : string_bytes l.indentation ≡ string_bytes l.initial.indentation;
 }
 
@@ -129,8 +147,10 @@ decreases-lists::show_type_params l = 4 * weight (Row (showns (map (λ p. shown_
 
 abbrev pub invariant-lists::show_type_params-loop-p : goal.invariant-lists::show_type_params-loop-p
 invariant-lists::show_type_params-loop-p l = record {
-  text : string_bytes l.out ++ members l.style (string_bytes l.initial.indentation) l.first (showns (map (λ p. shown_type_param (type_param_of p)) (drop l.p-index l.all)))
-      ≡ string_bytes l.initial.out ++ members l.style (string_bytes l.initial.indentation) true (showns (map (λ p. shown_type_param (type_param_of p)) l.all));
+  text : string_bytes l.out ++ members l.style (string_bytes l.initial.indentation) l.first
+      (showns (map (λ p. shown_type_param (type_param_of p)) (drop l.p-index l.all)))
+      ≡ string_bytes l.initial.out ++ members l.style (string_bytes l.initial.indentation) true
+      (showns (map (λ p. shown_type_param (type_param_of p)) l.all));
   indentation : string_bytes l.indentation ≡ string_bytes l.initial.indentation;
 }
 
@@ -141,5 +161,6 @@ abbrev pub decreases-joined::show_joined_keywords : goal.decreases-joined::show_
 decreases-joined::show_joined_keywords l = 4 * weight (Row (showns (map (λ k. shown_keyword (keyword_of k)) l.keywords.now))) + 1
 
 abbrev pub decreases-joined::show_joined_call : goal.decreases-joined::show_joined_call
-decreases-joined::show_joined_call l = 4 * (weight (shown (tree_of l.func.now)) + (weight (Row (showns (map (λ e. shown (tree_of e)) l.args.now)))
+decreases-joined::show_joined_call l =
+    4 * (weight (shown (tree_of l.func.now)) + (weight (Row (showns (map (λ e. shown (tree_of e)) l.args.now)))
     + weight (Row (showns (map (λ k. shown_keyword (keyword_of k)) l.keywords.now))))) + 3

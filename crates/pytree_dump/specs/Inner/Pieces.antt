@@ -14,7 +14,8 @@ use Rattle.pytree_dump_text.specs.Shows.{shown_stmt}
 abbrev pub statement_pieces : Style → List ℕ → Bool → List ℕ → List Stmt → List (List ℕ)
 statement_pieces s indentation first end [] = end ∷ []
 statement_pieces s indentation first end (x ∷ xs) =
-    (before (is_flat s.indent) indentation first ++ text s indentation (shown_stmt s.profile (stmt_of x))) ∷ statement_pieces s indentation false end xs
+    (before (is_flat s.indent) indentation first ++ text s indentation (shown_stmt s.profile (stmt_of x))) ∷ statement_pieces s
+    indentation false end xs
 
 abbrev pub staged_pieces : Style → List ℕ → List ℕ → List ℕ → List Stmt → Stage → List (List ℕ)
 staged_pieces s indentation begin end body stage.Begin = begin ∷ statement_pieces s indentation true end body

@@ -9,6 +9,7 @@ on_ok (Ok x) f h = f h
 on_ok (Err e) f h = tt
 
 -- what holds where the last text was appended
-pub where_pushed : {T E Q : Type 0} (old more new : List ℕ) (r : Result T E) → (new ≡ more → Q) → new ≡ (if is_ok r then more else old) → OnOk r Q
+pub where_pushed : {T E Q : Type 0} (old more new : List ℕ) (r : Result T E) → (new ≡ more → Q)
+    → new ≡ (if is_ok r then more else old) → OnOk r Q
 where_pushed old more new (Ok x) f h = f h
 where_pushed old more new (Err e) f h = tt

@@ -26,7 +26,8 @@ use Rattle.pytree_node.specs.declared.expressions.Keyword as given_keyword
 use Rattle.pytree_node.specs.declared.expressions.Keyword.{Keyword}
 use Rattle.pytree_node.specs.Trees as plain
 use Rattle.pytree_node.specs.Trees.{Identifier, exprs, optional, optionals, comprehensions, keywords, args, optional_arg}
-use Rattle.pytree_node.specs.TreeOf.{tree_of, arg_of, arguments_of, comprehension_of, keyword_of, option_of, boxed_of, arg_option_of, constant_of, boxed, expr_step, arg_step, arguments_step, comprehension_step, keyword_step}
+use Rattle.pytree_node.specs.TreeOf.{tree_of, arg_of, arguments_of, comprehension_of, keyword_of, option_of, boxed_of, arg_option_of}
+use Rattle.pytree_node.specs.TreeOf.{constant_of, boxed, expr_step, arg_step, arguments_step, comprehension_step, keyword_step}
 
 -- one node, whose children are nodes of the program
 abbrev Layer : Type 0
@@ -87,7 +88,8 @@ if_exp_tree test body orelse = rolls (layer.IfExp test body orelse)
 pub dict_tree : (keys : Vec (Option Expr) Global) (values : Vec Expr Global) →
     tree_of (variant.Dict keys values) ≡ plain.Dict (optionals (map option_of keys.items)) (exprs (map tree_of values.items))
 unfolding given.roll-Expr denote.Hole.Carrier.roll
-dict_tree keys values = rolls (layer.Dict keys values) ∙ (λ i. plain.Dict (optionals (map (λ o. option_is o i) keys.items)) (exprs (map tree_of values.items)))
+dict_tree keys values = rolls (layer.Dict keys values)
+    ∙ (λ i. plain.Dict (optionals (map (λ o. option_is o i) keys.items)) (exprs (map tree_of values.items)))
 
 pub set_tree : (elts : Vec Expr Global) →
     tree_of (variant.Set elts) ≡ plain.Set (exprs (map tree_of elts.items))
@@ -105,12 +107,14 @@ unfolding given.roll-Expr denote.Hole.Carrier.roll
 set_comp_tree elt generators = rolls (layer.SetComp elt generators)
 
 pub dict_comp_tree : (key : Box Expr Global) (value : Box Expr Global) (generators : Vec Comprehension Global) →
-    tree_of (variant.DictComp key value generators) ≡ plain.DictComp (tree_of key.value) (tree_of value.value) (comprehensions (map comprehension_of generators.items))
+    tree_of (variant.DictComp key value generators) ≡ plain.DictComp (tree_of key.value) (tree_of value.value)
+    (comprehensions (map comprehension_of generators.items))
 unfolding given.roll-Expr denote.Hole.Carrier.roll
 dict_comp_tree key value generators = rolls (layer.DictComp key value generators)
 
 pub generator_exp_tree : (elt : Box Expr Global) (generators : Vec Comprehension Global) →
-    tree_of (variant.GeneratorExp elt generators) ≡ plain.GeneratorExp (tree_of elt.value) (comprehensions (map comprehension_of generators.items))
+    tree_of (variant.GeneratorExp elt generators) ≡ plain.GeneratorExp (tree_of elt.value)
+    (comprehensions (map comprehension_of generators.items))
 unfolding given.roll-Expr denote.Hole.Carrier.roll
 generator_exp_tree elt generators = rolls (layer.GeneratorExp elt generators)
 
@@ -135,14 +139,17 @@ unfolding given.roll-Expr denote.Hole.Carrier.roll
 compare_tree left ops comparators = rolls (layer.Compare left ops comparators)
 
 pub call_tree : (func : Box Expr Global) (args : Vec Expr Global) (words : Vec Keyword Global) →
-    tree_of (variant.Call func args words) ≡ plain.Call (tree_of func.value) (exprs (map tree_of args.items)) (keywords (map keyword_of words.items))
+    tree_of (variant.Call func args words) ≡ plain.Call (tree_of func.value) (exprs (map tree_of args.items))
+    (keywords (map keyword_of words.items))
 unfolding given.roll-Expr denote.Hole.Carrier.roll
 call_tree func args words = rolls (layer.Call func args words)
 
 pub formatted_value_tree : (value : Box Expr Global) (conversion : Conversion) (spec : Option (Box Expr Global)) →
-    tree_of (variant.FormattedValue value conversion spec) ≡ plain.FormattedValue (tree_of value.value) conversion (optional (boxed_of spec))
+    tree_of (variant.FormattedValue value conversion spec) ≡ plain.FormattedValue (tree_of value.value) conversion
+    (optional (boxed_of spec))
 unfolding given.roll-Expr denote.Hole.Carrier.roll
-formatted_value_tree value conversion spec = rolls (layer.FormattedValue value conversion spec) ∙ (λ i. plain.FormattedValue (tree_of value.value) conversion (optional (boxed_is spec i)))
+formatted_value_tree value conversion spec = rolls (layer.FormattedValue value conversion spec)
+    ∙ (λ i. plain.FormattedValue (tree_of value.value) conversion (optional (boxed_is spec i)))
 
 pub joined_str_tree : (values : Vec Expr Global) →
     tree_of (variant.JoinedStr values) ≡ plain.JoinedStr (exprs (map tree_of values.items))
@@ -185,9 +192,11 @@ unfolding given.roll-Expr denote.Hole.Carrier.roll
 tuple_tree elts ctx = rolls (layer.Tuple elts ctx)
 
 pub slice_tree : (lower : Option (Box Expr Global)) (upper : Option (Box Expr Global)) (step : Option (Box Expr Global)) →
-    tree_of (variant.Slice lower upper step) ≡ plain.Slice (optional (boxed_of lower)) (optional (boxed_of upper)) (optional (boxed_of step))
+    tree_of (variant.Slice lower upper step) ≡ plain.Slice (optional (boxed_of lower)) (optional (boxed_of upper))
+    (optional (boxed_of step))
 unfolding given.roll-Expr denote.Hole.Carrier.roll
-slice_tree lower upper step = rolls (layer.Slice lower upper step) ∙ (λ i. plain.Slice (optional (boxed_is lower i)) (optional (boxed_is upper i)) (optional (boxed_is step i)))
+slice_tree lower upper step = rolls (layer.Slice lower upper step)
+    ∙ (λ i. plain.Slice (optional (boxed_is lower i)) (optional (boxed_is upper i)) (optional (boxed_is step i)))
 
 pub keyword_tree : (k : Keyword) → let o : layer.Keyword-F Expr Arg Arguments Comprehension Keyword = given_keyword.out-Keyword k in
     keyword_of k ≡ record { arg = o.arg; value = tree_of o.value }
@@ -195,7 +204,8 @@ unfolding tree_of keyword_of
 keyword_tree = given_keyword.fold_out-Keyword plain.Expr plain.Arg plain.Arguments plain.Comprehension plain.Keyword
     expr_step arg_step arguments_step comprehension_step keyword_step
 
-pub comprehension_tree : (c : Comprehension) → let o : layer.Comprehension-F Expr Arg Arguments Comprehension Keyword = given_comprehension.out-Comprehension c in
+pub comprehension_tree : (c : Comprehension) → let o : layer.Comprehension-F Expr Arg Arguments Comprehension Keyword =
+    given_comprehension.out-Comprehension c in
     comprehension_of c ≡ record { target = tree_of o.target; iter = tree_of o.iter; ifs = map tree_of o.ifs.items; is_async = o.is_async }
 unfolding tree_of comprehension_of
 comprehension_tree = given_comprehension.fold_out-Comprehension plain.Expr plain.Arg plain.Arguments plain.Comprehension plain.Keyword
@@ -208,7 +218,8 @@ arg_tree a = given_arg.fold_out-Arg plain.Expr plain.Arg plain.Arguments plain.C
     expr_step arg_step arguments_step comprehension_step keyword_step a
     ∙ ap (λ z. plain.arg (given_arg.out-Arg a).arg (optional z)) (boxed_is (given_arg.out-Arg a).annotation)
 
-pub arguments_tree : (a : Arguments) → let o : layer.Arguments-F Expr Arg Arguments Comprehension Keyword = given_arguments.out-Arguments a in
+pub arguments_tree : (a : Arguments) → let o : layer.Arguments-F Expr Arg Arguments Comprehension Keyword =
+    given_arguments.out-Arguments a in
     arguments_of a ≡ plain.arguments (args (map arg_of o.posonlyargs.items)) (args (map arg_of o.args.items))
     (optional_arg (arg_option_of o.vararg)) (args (map arg_of o.kwonlyargs.items))
     (optionals (map option_of o.kw_defaults.items)) (optional_arg (arg_option_of o.kwarg)) (exprs (map tree_of o.defaults.items))
@@ -218,7 +229,8 @@ arguments_tree a = given_arguments.fold_out-Arguments plain.Expr plain.Arg plain
     ∙ (λ i. let o : layer.Arguments-F Expr Arg Arguments Comprehension Keyword = given_arguments.out-Arguments a in
     plain.arguments (args (map arg_of o.posonlyargs.items)) (args (map arg_of o.args.items))
     (optional_arg (arg_option_is o.vararg i)) (args (map arg_of o.kwonlyargs.items))
-    (optionals (map (λ k. option_is k i) o.kw_defaults.items)) (optional_arg (arg_option_is o.kwarg i)) (exprs (map tree_of o.defaults.items)))
+    (optionals (map (λ k. option_is k i) o.kw_defaults.items)) (optional_arg (arg_option_is o.kwarg i))
+    (exprs (map tree_of o.defaults.items)))
 
 -- the value of every expression and of its parts
 pub ruleset expr_shapes = (

@@ -27,7 +27,8 @@ rolls : (node : Layer) → pattern_of (given_pattern.roll-Pattern node) ≡ patt
 unfolding pattern_of
 rolls = given_pattern.fold-roll-Pattern plain.Pattern pattern_step
 
-boxed_is : (o : Option (Box Pattern Global)) → boxed ((shape.former-Pattern-MatchAs-0).map Pattern plain.Pattern pattern_of o) ≡ boxed_pattern_of o
+boxed_is : (o : Option (Box Pattern Global))
+    → boxed ((shape.former-Pattern-MatchAs-0).map Pattern plain.Pattern pattern_of o) ≡ boxed_pattern_of o
 boxed_is None = refl
 boxed_is (Some b) = refl
 
@@ -47,12 +48,14 @@ unfolding given_pattern.roll-Pattern denote.Hole.Carrier.roll
 match_sequence_tree inner = rolls (layer.MatchSequence inner)
 
 pub match_mapping_tree : (keys : Vec Expr Global) (inner : Vec Pattern Global) (rest : Option Identifier) →
-    pattern_of (variant.MatchMapping keys inner rest) ≡ plain.MatchMapping (map tree_of keys.items) (patterns (map pattern_of inner.items)) rest
+    pattern_of (variant.MatchMapping keys inner rest) ≡ plain.MatchMapping (map tree_of keys.items)
+    (patterns (map pattern_of inner.items)) rest
 unfolding given_pattern.roll-Pattern denote.Hole.Carrier.roll
 match_mapping_tree keys inner rest = rolls (layer.MatchMapping keys inner rest)
 
 pub match_class_tree : (cls : Box Expr Global) (inner : Vec Pattern Global) (names : Vec Identifier Global) (named : Vec Pattern Global) →
-    pattern_of (variant.MatchClass cls inner names named) ≡ plain.MatchClass (tree_of cls.value) (patterns (map pattern_of inner.items)) names.items (patterns (map pattern_of named.items))
+    pattern_of (variant.MatchClass cls inner names named) ≡ plain.MatchClass (tree_of cls.value) (patterns (map pattern_of inner.items))
+    names.items (patterns (map pattern_of named.items))
 unfolding given_pattern.roll-Pattern denote.Hole.Carrier.roll
 match_class_tree cls inner names named = rolls (layer.MatchClass cls inner names named)
 

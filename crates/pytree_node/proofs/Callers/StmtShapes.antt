@@ -21,7 +21,8 @@ use Rattle.pytree_node.specs.declared.statements.Stmt.TheVariants as variant
 use Rattle.pytree_node.specs.declared.statements.Stmt.TheOpen as layer
 use Rattle.pytree_node.specs.Trees as plain
 use Rattle.pytree_node.specs.Trees.{Identifier, keywords, stmts, cases, handlers}
-use Rattle.pytree_node.specs.TreeOf.{tree_of, arguments_of, keyword_of, option_of, boxed_of, alias_of, item_of, type_param_of, pattern_of, stmt_of, case_of, handler_of, stmt_step, case_step, handler_step}
+use Rattle.pytree_node.specs.TreeOf.{tree_of, arguments_of, keyword_of, option_of, boxed_of, alias_of, item_of, type_param_of, pattern_of}
+use Rattle.pytree_node.specs.TreeOf.{stmt_of, case_of, handler_of, stmt_step, case_step, handler_step}
 
 -- one statement, whose inner statements are statements of the program
 abbrev Layer : Type 0
@@ -35,18 +36,26 @@ rolls : (node : Layer) → stmt_of (given_stmt.roll-Stmt node) ≡ stmt_step (va
 unfolding stmt_of case_of handler_of
 rolls = given_stmt.fold-roll-Stmt plain.Stmt plain.Case plain.Handler stmt_step case_step handler_step
 
-pub function_def_tree : (name : Identifier) (args : Box Arguments Global) (body : Vec Stmt Global) (decorators : Vec Expr Global) (returns : Option (Box Expr Global)) (parameters : Vec TypeParam Global) →
-    stmt_of (variant.FunctionDef name args body decorators returns parameters) ≡ plain.FunctionDef name (arguments_of args.value) (stmts (map stmt_of body.items)) (map tree_of decorators.items) (boxed_of returns) (map type_param_of parameters.items)
+pub function_def_tree : (name : Identifier) (args : Box Arguments Global) (body : Vec Stmt Global) (decorators : Vec Expr Global)
+    (returns : Option (Box Expr Global)) (parameters : Vec TypeParam Global) →
+    stmt_of (variant.FunctionDef name args body decorators returns parameters) ≡ plain.FunctionDef name (arguments_of args.value)
+    (stmts (map stmt_of body.items)) (map tree_of decorators.items) (boxed_of returns) (map type_param_of parameters.items)
 unfolding given_stmt.roll-Stmt denote.Hole.Carrier.roll
 function_def_tree name args body decorators returns parameters = rolls (layer.FunctionDef name args body decorators returns parameters)
 
-pub async_function_def_tree : (name : Identifier) (args : Box Arguments Global) (body : Vec Stmt Global) (decorators : Vec Expr Global) (returns : Option (Box Expr Global)) (parameters : Vec TypeParam Global) →
-    stmt_of (variant.AsyncFunctionDef name args body decorators returns parameters) ≡ plain.AsyncFunctionDef name (arguments_of args.value) (stmts (map stmt_of body.items)) (map tree_of decorators.items) (boxed_of returns) (map type_param_of parameters.items)
+pub async_function_def_tree : (name : Identifier) (args : Box Arguments Global) (body : Vec Stmt Global) (decorators : Vec Expr Global)
+    (returns : Option (Box Expr Global)) (parameters : Vec TypeParam Global) →
+    stmt_of (variant.AsyncFunctionDef name args body decorators returns parameters) ≡ plain.AsyncFunctionDef name (arguments_of args.value)
+    (stmts (map stmt_of body.items)) (map tree_of decorators.items) (boxed_of returns) (map type_param_of parameters.items)
 unfolding given_stmt.roll-Stmt denote.Hole.Carrier.roll
-async_function_def_tree name args body decorators returns parameters = rolls (layer.AsyncFunctionDef name args body decorators returns parameters)
+async_function_def_tree name args body decorators returns parameters =
+    rolls (layer.AsyncFunctionDef name args body decorators returns parameters)
 
-pub class_def_tree : (name : Identifier) (bases : Vec Expr Global) (words : Vec Keyword Global) (body : Vec Stmt Global) (decorators : Vec Expr Global) (parameters : Vec TypeParam Global) →
-    stmt_of (variant.ClassDef name bases words body decorators parameters) ≡ plain.ClassDef name (map tree_of bases.items) (keywords (map keyword_of words.items)) (stmts (map stmt_of body.items)) (map tree_of decorators.items) (map type_param_of parameters.items)
+pub class_def_tree : (name : Identifier) (bases : Vec Expr Global) (words : Vec Keyword Global) (body : Vec Stmt Global)
+    (decorators : Vec Expr Global) (parameters : Vec TypeParam Global) →
+    stmt_of (variant.ClassDef name bases words body decorators parameters) ≡ plain.ClassDef name (map tree_of bases.items)
+    (keywords (map keyword_of words.items)) (stmts (map stmt_of body.items)) (map tree_of decorators.items)
+    (map type_param_of parameters.items)
 unfolding given_stmt.roll-Stmt denote.Hole.Carrier.roll
 class_def_tree name bases words body decorators parameters = rolls (layer.ClassDef name bases words body decorators parameters)
 
@@ -76,22 +85,26 @@ unfolding given_stmt.roll-Stmt denote.Hole.Carrier.roll
 aug_assign_tree target op value = rolls (layer.AugAssign target op value)
 
 pub ann_assign_tree : (target : Box Expr Global) (annotation : Box Expr Global) (value : Option (Box Expr Global)) (simple : Bool) →
-    stmt_of (variant.AnnAssign target annotation value simple) ≡ plain.AnnAssign (tree_of target.value) (tree_of annotation.value) (boxed_of value) simple
+    stmt_of (variant.AnnAssign target annotation value simple) ≡ plain.AnnAssign (tree_of target.value)
+    (tree_of annotation.value) (boxed_of value) simple
 unfolding given_stmt.roll-Stmt denote.Hole.Carrier.roll
 ann_assign_tree target annotation value simple = rolls (layer.AnnAssign target annotation value simple)
 
 pub for_tree : (target : Box Expr Global) (iter : Box Expr Global) (body : Vec Stmt Global) (orelse : Vec Stmt Global) →
-    stmt_of (variant.For target iter body orelse) ≡ plain.For (tree_of target.value) (tree_of iter.value) (stmts (map stmt_of body.items)) (stmts (map stmt_of orelse.items))
+    stmt_of (variant.For target iter body orelse) ≡ plain.For (tree_of target.value) (tree_of iter.value) (stmts (map stmt_of body.items))
+    (stmts (map stmt_of orelse.items))
 unfolding given_stmt.roll-Stmt denote.Hole.Carrier.roll
 for_tree target iter body orelse = rolls (layer.For target iter body orelse)
 
 pub async_for_tree : (target : Box Expr Global) (iter : Box Expr Global) (body : Vec Stmt Global) (orelse : Vec Stmt Global) →
-    stmt_of (variant.AsyncFor target iter body orelse) ≡ plain.AsyncFor (tree_of target.value) (tree_of iter.value) (stmts (map stmt_of body.items)) (stmts (map stmt_of orelse.items))
+    stmt_of (variant.AsyncFor target iter body orelse) ≡ plain.AsyncFor (tree_of target.value) (tree_of iter.value)
+    (stmts (map stmt_of body.items)) (stmts (map stmt_of orelse.items))
 unfolding given_stmt.roll-Stmt denote.Hole.Carrier.roll
 async_for_tree target iter body orelse = rolls (layer.AsyncFor target iter body orelse)
 
 pub while_tree : (test : Expr) (body : Vec Stmt Global) (orelse : Vec Stmt Global) →
-    stmt_of (variant.While test body orelse) ≡ plain.While (tree_of test) (stmts (map stmt_of body.items)) (stmts (map stmt_of orelse.items))
+    stmt_of (variant.While test body orelse) ≡ plain.While (tree_of test) (stmts (map stmt_of body.items))
+    (stmts (map stmt_of orelse.items))
 unfolding given_stmt.roll-Stmt denote.Hole.Carrier.roll
 while_tree test body orelse = rolls (layer.While test body orelse)
 
@@ -121,12 +134,14 @@ unfolding given_stmt.roll-Stmt denote.Hole.Carrier.roll
 raise_tree exc cause = rolls (layer.Raise exc cause)
 
 pub try_tree : (body : Vec Stmt Global) (caught : Vec Handler Global) (orelse : Vec Stmt Global) (finalbody : Vec Stmt Global) →
-    stmt_of (variant.Try body caught orelse finalbody) ≡ plain.Try (stmts (map stmt_of body.items)) (handlers (map handler_of caught.items)) (stmts (map stmt_of orelse.items)) (stmts (map stmt_of finalbody.items))
+    stmt_of (variant.Try body caught orelse finalbody) ≡ plain.Try (stmts (map stmt_of body.items)) (handlers (map handler_of caught.items))
+    (stmts (map stmt_of orelse.items)) (stmts (map stmt_of finalbody.items))
 unfolding given_stmt.roll-Stmt denote.Hole.Carrier.roll
 try_tree body caught orelse finalbody = rolls (layer.Try body caught orelse finalbody)
 
 pub try_star_tree : (body : Vec Stmt Global) (caught : Vec Handler Global) (orelse : Vec Stmt Global) (finalbody : Vec Stmt Global) →
-    stmt_of (variant.TryStar body caught orelse finalbody) ≡ plain.TryStar (stmts (map stmt_of body.items)) (handlers (map handler_of caught.items)) (stmts (map stmt_of orelse.items)) (stmts (map stmt_of finalbody.items))
+    stmt_of (variant.TryStar body caught orelse finalbody) ≡ plain.TryStar (stmts (map stmt_of body.items))
+    (handlers (map handler_of caught.items)) (stmts (map stmt_of orelse.items)) (stmts (map stmt_of finalbody.items))
 unfolding given_stmt.roll-Stmt denote.Hole.Carrier.roll
 try_star_tree body caught orelse finalbody = rolls (layer.TryStar body caught orelse finalbody)
 

@@ -15,7 +15,8 @@ until-requires c =
     let u : IsUnit c.args.is_raw cs = unit_single c.args.is_raw cs (sym c.pass_unit.ensures.found ∙ c.if-not-pass_unit.false) in
     let unit = c.pass_brace.ensures ∙ ap behind_brace c.again-unit.ensures in
     let P : List ℕ → List ℕ → Type 0 = λ x y. EndsWith x y in
-    subst (λ (x : List ℕ). P x c.pass_unit.new.self) (sym unit) (subst (λ (y : List ℕ). P (behind_brace cs) y) (sym c.pass_unit.ensures.rest) u.ends)
+    subst (λ (x : List ℕ). P x c.pass_unit.new.self) (sym unit)
+    (subst (λ (y : List ℕ). P (behind_brace cs) y) (sym c.pass_unit.ensures.rest) u.ends)
 
 pub loop-left-init : goal.loop-left-init
 loop-left-init c =
@@ -23,7 +24,8 @@ loop-left-init c =
     ∙ ap (λ (x : List ℕ). x ++ single c.args.is_raw c.new-left.result) (sym (ap chars c.in_ok-out.ensures.bytes ∙ chars-nil))
 
 pub loop-left-smaller : goal.loop-left-smaller
-loop-left-smaller c = rw c.pass_unit.ensures.rest (text_shorter c.args.is_raw true c.loop-left.left (sym c.pass_unit.ensures.found ∙ c.if-not-pass_unit.false))
+loop-left-smaller c = rw c.pass_unit.ensures.rest (text_shorter c.args.is_raw true c.loop-left.left (sym c.pass_unit.ensures.found
+    ∙ c.if-not-pass_unit.false))
 
 pub loop-left-preserved : goal.loop-left-preserved
 loop-left-preserved c =
@@ -34,7 +36,8 @@ loop-left-preserved c =
     let unit = c.pass_brace.ensures ∙ ap behind_brace c.again-unit.ensures in
     let rest = c.pass_unit.new.self in
     let text : chars c.until.result.now ≡ before (behind_brace cs) rest = c.until.ensures ∙ ap (λ (x : List ℕ). before x rest) unit in
-    let same : single raw cs ≡ before (behind_brace cs) rest ++ single raw rest = subst (λ (y : List ℕ). single raw cs ≡ before (behind_brace cs) y ++ single raw y) (sym c.pass_unit.ensures.rest) u.same in
+    let same : single raw cs ≡ before (behind_brace cs) rest ++ single raw rest =
+    subst (λ (y : List ℕ). single raw cs ≡ before (behind_brace cs) y ++ single raw y) (sym c.pass_unit.ensures.rest) u.same in
     c.loop-left.invariant
     ∙ ap (λ (x : List ℕ). chars out ++ x) same
     ∙ sym (append_assoc (chars out) (before (behind_brace cs) rest) (single raw rest))
@@ -46,4 +49,5 @@ pub returns-then-not-pass_unit : goal.returns-then-not-pass_unit
 returns-then-not-pass_unit c =
     let raw = c.args.is_raw in
     let none = no_unit raw c.loop-left.left (sym c.pass_unit.ensures.found ∙ c.if-not-pass_unit.true) in
-    sym (c.loop-left.invariant ∙ ap (λ (x : List ℕ). chars (string_bytes c.loop-left.out) ++ x) none ∙ append-nil (chars (string_bytes c.loop-left.out)))
+    sym (c.loop-left.invariant ∙ ap (λ (x : List ℕ). chars (string_bytes c.loop-left.out) ++ x) none
+    ∙ append-nil (chars (string_bytes c.loop-left.out)))

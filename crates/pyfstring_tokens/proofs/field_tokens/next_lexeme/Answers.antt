@@ -36,4 +36,9 @@ lexemes-preserved c =
     let i = c.lexemes.invariant in
     let cuts = c.in-Some.ensures.some in
     let l = shorter rest front back c.in-Some.class cuts in
-    record { utf8 = cuts.back_utf8; passes = past rest front back c.in-Some.class i.passes cuts (sym c.is_gap.ensures ∙ c.if-not-is_gap.false); shorter = omega (arith, i.shorter, l) }
+    record {
+      utf8 = cuts.back_utf8;
+      passes = past rest front back c.in-Some.class i.passes cuts (sym c.is_gap.ensures
+          ∙ c.if-not-is_gap.false);
+      shorter = omega (arith, i.shorter, l);
+    }

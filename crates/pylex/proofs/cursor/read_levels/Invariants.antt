@@ -14,5 +14,6 @@ invariant-loop-rest l = record {
   first : 0 < length l.levels.items → get_or l.levels.items 0 1 ≡ 0;
   ascending : (k : ℕ) → k + 1 < length l.levels.items → get_or l.levels.items k 0 < get_or l.levels.items (k + 1) 0;
   words : All (λ n. n < 2 ^ 64) l.levels.items;
-  reads : (ns : List ℕ) → AreLevels ns → with_commas ns ≡ l.fn.text → (more : List ℕ) × (ns ≡ l.levels.items ++ more) × IsJoined l.rest more;
+  reads : (ns : List ℕ) → AreLevels ns → with_commas ns ≡ l.fn.text
+      → (more : List ℕ) × (ns ≡ l.levels.items ++ more) × IsJoined l.rest more;
 }

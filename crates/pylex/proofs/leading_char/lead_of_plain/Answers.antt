@@ -14,8 +14,10 @@ loop-c-init c = record { begins = search rules; utf8 = search rules; in_line = s
 pub returns-then-not-is_nothing : goal.returns-then-not-is_nothing
 returns-then-not-is_nothing c =
     let rest = chars_rest c.next.new.self in
-    let s : Past (chars_rest c.loop-c.c-iterator) rest c.in-Some.c = past (chars_rest c.loop-c.c-iterator) rest c.in-Some.c c.loop-c.invariant.utf8 c.in-Some.ensures.steps.0 in
-    sym (begun c.after-lead.result (chars rest) (λ e. grind (arith, c.is_nothing.ensures, c.if-not-is_nothing.true, e)) (in_line_past (chars (chars_rest c.loop-c.c-iterator)) (chars rest) c.in-Some.c s.same c.loop-c.invariant.in_line))
+    let s : Past (chars_rest c.loop-c.c-iterator) rest c.in-Some.c = past (chars_rest c.loop-c.c-iterator) rest c.in-Some.c
+    c.loop-c.invariant.utf8 c.in-Some.ensures.steps.0 in
+    sym (begun c.after-lead.result (chars rest) (λ e. grind (arith, c.is_nothing.ensures, c.if-not-is_nothing.true, e))
+    (in_line_past (chars (chars_rest c.loop-c.c-iterator)) (chars rest) c.in-Some.c s.same c.loop-c.invariant.in_line))
     ∙ ap (λ (f : LeadingChar). lead_after f (chars rest)) c.after-lead.ensures
     ∙ ap (lead_after Nothing) (sym s.same)
     ∙ c.loop-c.invariant.begins
@@ -23,16 +25,19 @@ returns-then-not-is_nothing c =
 pub loop-c-preserved : goal.loop-c-preserved
 loop-c-preserved c =
     let rest = chars_rest c.next.new.self in
-    let s : Past (chars_rest c.loop-c.c-iterator) rest c.in-Some.c = past (chars_rest c.loop-c.c-iterator) rest c.in-Some.c c.loop-c.invariant.utf8 c.in-Some.ensures.steps.0 in
+    let s : Past (chars_rest c.loop-c.c-iterator) rest c.in-Some.c = past (chars_rest c.loop-c.c-iterator) rest c.in-Some.c
+    c.loop-c.invariant.utf8 c.in-Some.ensures.steps.0 in
     let nothing : c.after-lead.result ≡ Nothing = grind (arith, c.is_nothing.ensures, c.if-not-is_nothing.false) in
     record {
-      begins = ap (λ (f : LeadingChar). lead_after f (chars rest)) (sym nothing ∙ c.after-lead.ensures) ∙ ap (lead_after Nothing) (sym s.same) ∙ c.loop-c.invariant.begins;
+      begins = ap (λ (f : LeadingChar). lead_after f (chars rest)) (sym nothing ∙ c.after-lead.ensures)
+          ∙ ap (lead_after Nothing) (sym s.same) ∙ c.loop-c.invariant.begins;
       utf8 = s.utf8;
       in_line = in_line_past (chars (chars_rest c.loop-c.c-iterator)) (chars rest) c.in-Some.c s.same c.loop-c.invariant.in_line;
     }
 
 pub returns : goal.returns
-returns c = ap (lead_after Nothing) (sym (no_chars (chars_rest c.loop-c.c-iterator) c.in-None.ensures.steps.0.0)) ∙ c.loop-c.invariant.begins
+returns c = ap (lead_after Nothing) (sym (no_chars (chars_rest c.loop-c.c-iterator) c.in-None.ensures.steps.0.0))
+    ∙ c.loop-c.invariant.begins
 
 pub returns-then-is_spaces : goal.returns-then-is_spaces
 returns-then-is_spaces c = sym (spaces_front c.args.text.now (c.is_spaces.ensures.0 c.if-is_spaces.true))

@@ -17,7 +17,10 @@ returns-then-chunk-len-clause-looks c =
     record {
       at = omega arith;
       left = c.requires.left;
-      finds = rw c.now.ensures (stays_there (take p.nested p.levels.items) p.now (chars rest), subst (StopAhead p.now) (sym (ap chars none ∙ chars-nil)) (stop_empty p.now));
+      finds = rw c.now.ensures (
+        stays_there (take p.nested p.levels.items) p.now (chars rest),
+        subst (StopAhead p.now) (sym (ap chars none ∙ chars-nil)) (stop_empty p.now),
+      );
       stands = rw c.now.ensures (stands_held p d c.requires);
       room = rw c.now.ensures (λ n h. h);
       tail = rw c.now.ensures (λ _. (refl, refl, refl));

@@ -19,10 +19,12 @@ no_stop e k = cc
 abbrev found_by : Entry → LineState → ℕ → ℕ → Found
 found_by e q size rest = record { peeked = peeked.Entry e; now = q; at = size - rest; fault = None }
 
-looks_so : (p r : Machine) (d : HeldLines) (e : Entry) (left : List ℕ) (size : ℕ) → size ≡ length (string_bytes d.text) → (s : StepsOn p (drop d.at (string_bytes d.text)) e r left) → Looks p d (found_by e s.now size (length left))
+looks_so : (p r : Machine) (d : HeldLines) (e : Entry) (left : List ℕ) (size : ℕ) → size ≡ length (string_bytes d.text)
+    → (s : StepsOn p (drop d.at (string_bytes d.text)) e r left) → Looks p d (found_by e s.now size (length left))
 looks_so p r d e left size whole s =
     let text = string_bytes d.text in
-    let at : drop (size - length left) text ≡ left = ap (λ n. drop (n - length left) text) whole ∙ drop_behind text d.at left s.reaches.behind in
+    let at : drop (size - length left) text ≡ left = ap (λ n. drop (n - length left) text) whole
+    ∙ drop_behind text d.at left s.reaches.behind in
     record {
       at = omega (arith, whole);
       left = rw at s.reaches.stands.utf8;
@@ -53,11 +55,14 @@ returns-clause-some c =
     let whole : size ≡ length (string_bytes d.text) = omega (arith, c.len.ensures) in
     let found = found_by e s.now size (length left) in
     let looks = looks_so p r d e left size whole s in
-    let at : drop (size - length left) (string_bytes d.text) ≡ left = ap (λ n. drop (n - length left) (string_bytes d.text)) whole ∙ drop_behind (string_bytes d.text) d.at left s.reaches.behind in
+    let at : drop (size - length left) (string_bytes d.text) ≡ left = ap (λ n. drop (n - length left) (string_bytes d.text)) whole
+    ∙ drop_behind (string_bytes d.text) d.at left s.reaches.behind in
     let peeked = meets_here p d found looks (λ i. absurd (no_stop e i)) in
     let went = rw (← at) at (s.went None) in
     record {
       found = found;
-      streaming = streaming_entry not_read not_read p p d d None (searches_none not_read _ _ c.requires.streaming) r found (steps.Entry e) peeked went e refl c.requires.given tt;
-      passes = λ seen_old seen_new q b last so some ahead. steps_entry _ _ q p b d last so r found (steps.Entry e) peeked went e refl some (entry_ahead found (steps.Entry e) e b.lines d.lines refl tt ahead);
+      streaming = streaming_entry not_read not_read p p d d None (searches_none not_read _ _ c.requires.streaming) r found (steps.Entry e)
+          peeked went e refl c.requires.given tt;
+      passes = λ seen_old seen_new q b last so some ahead. steps_entry _ _ q p b d last so r found (steps.Entry e) peeked went e refl some
+          (entry_ahead found (steps.Entry e) e b.lines d.lines refl tt ahead);
     }

@@ -10,7 +10,10 @@ truncate-requires c =
     let start : c.len.result ≡ length old = search rules in
     let size : length (string_bytes c.push_str.new.self) ≡ length old + 20 = ap length grown ∙ length-append old (replicate 20 32) in
     let at = c.len.result + (c.args.width - c.args.taken) in
-    λ _. (omega (arith, size, start, c.requires), λ _ inside high. absurd (omega (arith, high, blank_at old 20 at _ grown (omega (arith, start)) inside)))
+    λ _. (
+      omega (arith, size, start, c.requires),
+      λ _ inside high. absurd (omega (arith, high, blank_at old 20 at _ grown (omega (arith, start)) inside)),
+    )
 
 pub returns-clause-ok : goal.returns-clause-ok
 returns-clause-ok c =

@@ -12,6 +12,7 @@ truncate-requires c =
     let new = c.push_fields-pushed.new.out in
     let kept = c.push_fields-pushed.ensures.kept in
     let start : c.len-start.result ≡ length (string_bytes old) = search rules in
-    let boundary = IsCharBoundary-from_take (string_bytes new) (length (string_bytes old)) (IsUtf8-had _ new.ok) (starts_with_length _ _ kept)
+    let boundary = IsCharBoundary-from_take (string_bytes new) (length (string_bytes old)) (IsUtf8-had _ new.ok)
+    (starts_with_length _ _ kept)
     (subst IsUtf8 (sym kept) (IsUtf8-had _ old.ok)) in
     λ _. rw start (boundary.0, λ _. boundary.1)

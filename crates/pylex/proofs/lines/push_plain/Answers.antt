@@ -17,7 +17,8 @@ returns-clause-ok c =
     let inside : string_bytes c.push_str.new.self ≡ string_bytes c.push.new.self ++ text = search rules in
     let close : string_bytes c.push-2.new.self ≡ string_bytes c.push_str.new.self ++ 39 ∷ [] = search rules in
     let shown = plain_repr text c.requires in
-    let written : string_bytes c.push-2.new.self ≡ old ++ repr = three_parts old (39 ∷ []) text (39 ∷ []) _ _ _ begun inside close ∙ ap (λ bs. old ++ bs) (sym shown) in
+    let written : string_bytes c.push-2.new.self ≡ old ++ repr = three_parts old (39 ∷ []) text (39 ∷ []) _ _ _ begun inside close
+    ∙ ap (λ bs. old ++ bs) (sym shown) in
     let count : length text + 2 ≡ length (chars repr) = sym (ap (λ bs. length (chars bs)) shown ∙ plain_repr_characters text c.requires) in
     on_ok_weaker c.push_filling.result (λ filling. field_filled 15 _ repr _ _ _ written count filling) c.push_filling.ensures.ok
 
@@ -27,4 +28,5 @@ returns-clause-kept c =
     let begun : string_bytes c.push.new.self ≡ old ++ 39 ∷ [] = search rules in
     let inside : string_bytes c.push_str.new.self ≡ string_bytes c.push.new.self ++ c.args.text.now = search rules in
     let close : string_bytes c.push-2.new.self ≡ string_bytes c.push_str.new.self ++ 39 ∷ [] = search rules in
-    starts_with_trans _ _ _ c.push_filling.ensures.kept (starts_with_of_append _ old _ (three_parts old (39 ∷ []) c.args.text.now (39 ∷ []) _ _ _ begun inside close))
+    starts_with_trans _ _ _ c.push_filling.ensures.kept
+    (starts_with_of_append _ old _ (three_parts old (39 ∷ []) c.args.text.now (39 ∷ []) _ _ _ begun inside close))

@@ -19,7 +19,8 @@ returns-then-start-gt-RANGE_WIDTH-clause-ok c =
     let start = c.put_range-start.result in
     let size : 84 - start ≡ length (shown_range e) = omega (arith, c.put_range-start.ensures.start) in
     on_ok_weaker c.push_ascii.result
-    (λ pushed. pushed ∙ ap (λ bs. string_bytes c.args.out.now ++ bs) (wide_range e _ (84 - start) c.put_range-start.ensures.written size (omega arith)))
+    (λ pushed. pushed ∙ ap (λ bs. string_bytes c.args.out.now ++ bs)
+    (wide_range e _ (84 - start) c.put_range-start.ensures.written size (omega arith)))
     c.push_ascii.ensures.ok
 
 pub push_ascii-requires-2 : goal.push_ascii-requires-2
@@ -27,7 +28,8 @@ push_ascii-requires-2 c =
     let e = c.args.entry.now in
     let start = c.put_range-start.result in
     let width : start + 20 - start ≡ 20 = omega arith in
-    subst IsAscii (sym (short_range e _ (start + 20 - start) c.put_range-start.ensures.written width (omega (arith, c.put_range-start.ensures.start)))) (filled_range_ascii e)
+    subst IsAscii (sym (short_range e _ (start + 20 - start) c.put_range-start.ensures.written width
+    (omega (arith, c.put_range-start.ensures.start)))) (filled_range_ascii e)
 
 pub returns-clause-ok : goal.returns-clause-ok
 returns-clause-ok c =
@@ -35,5 +37,6 @@ returns-clause-ok c =
     let start = c.put_range-start.result in
     let width : start + 20 - start ≡ 20 = omega arith in
     on_ok_weaker c.push_ascii-2.result
-    (λ pushed. pushed ∙ ap (λ bs. string_bytes c.args.out.now ++ bs) (short_range e _ (start + 20 - start) c.put_range-start.ensures.written width (omega (arith, c.put_range-start.ensures.start))))
+    (λ pushed. pushed ∙ ap (λ bs. string_bytes c.args.out.now ++ bs) (short_range e _ (start + 20 - start) c.put_range-start.ensures.written
+    width (omega (arith, c.put_range-start.ensures.start))))
     c.push_ascii-2.ensures.ok

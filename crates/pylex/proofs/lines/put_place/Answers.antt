@@ -9,5 +9,6 @@ returns-clause-start c =
 
 pub returns-clause-written : goal.returns-clause-written
 returns-clause-written c =
-    c.put_number.ensures.written ∙ ap (λ t. decimal c.args.place.row ++ t) (c.put_sign-comma.ensures.written ∙ ap (λ t. 44 ∷ t) c.put_number-column.ensures.written)
+    c.put_number.ensures.written ∙ ap (λ t. decimal c.args.place.row ++ t) (c.put_sign-comma.ensures.written
+    ∙ ap (λ t. 44 ∷ t) c.put_number-column.ensures.written)
     ∙ place_front c.args.place (drop c.args.end c.args.field.now)

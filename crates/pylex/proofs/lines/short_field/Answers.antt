@@ -9,12 +9,14 @@ pub returns-clause-ascii : goal.returns-clause-ascii
 returns-clause-ascii c =
     let text = c.args.text.now in
     let same = c.copy_plain.ensures.copied c.if-not-copy_plain.false ∙ c.as_bytes.ensures.value in
-    let plain : list_all is_plain text ≡ true = sym (ap (list_all is_plain) c.as_bytes.ensures.value) ∙ c.copy_plain.ensures.plain c.if-not-copy_plain.false in
+    let plain : list_all is_plain text ≡ true = sym (ap (list_all is_plain) c.as_bytes.ensures.value)
+    ∙ c.copy_plain.ensures.plain c.if-not-copy_plain.false in
     subst IsAscii (sym (short_field text _ plain c.requires same)) (filled_plain_ascii text plain c.requires)
 
 pub returns-clause-field : goal.returns-clause-field
 returns-clause-field c =
     let text = c.args.text.now in
     let same = c.copy_plain.ensures.copied c.if-not-copy_plain.false ∙ c.as_bytes.ensures.value in
-    let plain : list_all is_plain text ≡ true = sym (ap (list_all is_plain) c.as_bytes.ensures.value) ∙ c.copy_plain.ensures.plain c.if-not-copy_plain.false in
+    let plain : list_all is_plain text ≡ true = sym (ap (list_all is_plain) c.as_bytes.ensures.value)
+    ∙ c.copy_plain.ensures.plain c.if-not-copy_plain.false in
     short_field text _ plain c.requires same

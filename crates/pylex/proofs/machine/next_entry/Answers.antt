@@ -2,7 +2,8 @@ use Rattle.std.proofs.Common.{ℕ, List, [], length, subst, refl}
 use Rattle.std.specs.Str.{chars}
 use Rattle.pylex_lexeme.specs.declared.lexeme.Class.TheVariants.{Blanks, Join}
 use Rattle.pylex.specs.LineState.{with_levels, HasRoom}
-use Rattle.pylex.proofs.Listers.Finding.{stays_there, settles_same, entry_found, nothing_found, some_bytes, stands_after, shorter_after, room_after, behind_cut, margin_past}
+use Rattle.pylex.proofs.Listers.Finding.{stays_there, settles_same, entry_found, nothing_found, some_bytes, stands_after, shorter_after}
+use Rattle.pylex.proofs.Listers.Finding.{room_after, behind_cut, margin_past}
 use Rattle.pylex.proofs.MachineLaws.Told.{tells, cuts_as, fewer, passed_room, blanks_give, join_gives}
 use Rattle.pylex.proofs.machine.next_entry.Goals as goal
 
@@ -24,7 +25,8 @@ pass_blanks-requires-clause-told c =
     tells rest front back Blanks (cuts_as rest front back c.in_ok-class.class Blanks c.in-Blanks.is c.in_ok-class.ensures.some)
 
 pub loop-class-smaller-in-Blanks : goal.loop-class-smaller-in-Blanks
-loop-class-smaller-in-Blanks c = shorter_after c.loop-class.rest.now c.in_ok-class.front.now c.in_ok-class.back.now c.in_ok-class.class c.in_ok-class.ensures.some
+loop-class-smaller-in-Blanks c = shorter_after c.loop-class.rest.now c.in_ok-class.front.now c.in_ok-class.back.now c.in_ok-class.class
+    c.in_ok-class.ensures.some
 
 pub loop-class-preserved-in-Blanks : goal.loop-class-preserved-in-Blanks
 loop-class-preserved-in-Blanks c =
@@ -43,7 +45,8 @@ loop-class-preserved-in-Blanks c =
       utf8 = stands.utf8;
       stands = stands;
       behind_margin = margin_past now ahead Blanks (chars front) i.behind_margin gave passed;
-      comes = λ levels. nothing_found levels c.args.now.now (chars c.args.text.now) now now ahead rest front back Blanks (i.comes levels) (settles_same levels now (chars rest) (rw i.behind_margin refl)) cuts gave passed;
+      comes = λ levels. nothing_found levels c.args.now.now (chars c.args.text.now) now now ahead rest front back Blanks (i.comes levels)
+          (settles_same levels now (chars rest) (rw i.behind_margin refl)) cuts gave passed;
       room = λ n h. room_after now ahead rest front back Blanks cuts room n (i.room n h);
       behind = behind_cut c.args.text.now rest front back Blanks i.stands.utf8 cuts i.behind;
     }
@@ -56,7 +59,8 @@ pass_join-requires-clause-told c =
     tells rest front back Join (cuts_as rest front back c.in_ok-class.class Join c.in-Join.is c.in_ok-class.ensures.some)
 
 pub loop-class-smaller : goal.loop-class-smaller
-loop-class-smaller c = shorter_after c.loop-class.rest.now c.in_ok-class.front.now c.in_ok-class.back.now c.in_ok-class.class c.in_ok-class.ensures.some
+loop-class-smaller c = shorter_after c.loop-class.rest.now c.in_ok-class.front.now c.in_ok-class.back.now c.in_ok-class.class
+    c.in_ok-class.ensures.some
 
 pub loop-class-preserved : goal.loop-class-preserved
 loop-class-preserved c =
@@ -75,7 +79,8 @@ loop-class-preserved c =
       utf8 = stands.utf8;
       stands = stands;
       behind_margin = margin_past now ahead Join (chars front) i.behind_margin gave passed;
-      comes = λ levels. nothing_found levels c.args.now.now (chars c.args.text.now) now now ahead rest front back Join (i.comes levels) (settles_same levels now (chars rest) (rw i.behind_margin refl)) cuts gave passed;
+      comes = λ levels. nothing_found levels c.args.now.now (chars c.args.text.now) now now ahead rest front back Join (i.comes levels)
+          (settles_same levels now (chars rest) (rw i.behind_margin refl)) cuts gave passed;
       room = λ n h. room_after now ahead rest front back Join cuts room n (i.room n h);
       behind = behind_cut c.args.text.now rest front back Join i.stands.utf8 cuts i.behind;
     }
@@ -109,7 +114,9 @@ returns-in_default c =
     let passed = c.in_ok-entry-in_default.ensures.passed in
     let room = passed_room now k front ahead i.behind_margin passed cuts.counted (some_bytes rest front back k cuts) in
     record {
-      entry = λ levels. entry_found levels c.args.now.now (chars c.args.text.now) now now ahead rest front back k c.in_ok-entry-in_default.entry (i.comes levels) (settles_same levels now (chars rest) (rw i.behind_margin refl)) cuts c.in_ok-entry-in_default.ensures.entry passed;
+      entry = λ levels. entry_found levels c.args.now.now (chars c.args.text.now) now now ahead rest front back k
+          c.in_ok-entry-in_default.entry (i.comes levels) (settles_same levels now (chars rest) (rw i.behind_margin refl)) cuts
+          c.in_ok-entry-in_default.ensures.entry passed;
       stands = stands_after now ahead rest front back k cuts i.stands room;
       room = λ n h. room_after now ahead rest front back k cuts room n (i.room n h);
       behind = behind_cut c.args.text.now rest front back k i.stands.utf8 cuts i.behind;

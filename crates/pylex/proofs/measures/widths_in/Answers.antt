@@ -22,8 +22,10 @@ loop-c-preserved c =
     let s : Past left rest c.in-Some.c = past left rest c.in-Some.c c.loop-c.invariant.utf8 c.in-Some.ensures.steps.0 in
     let blank = sym c.if-not-is_blank.ensures in
     record {
-      eight = wider c.loop-c.eight c.column_after-eight.result c.in-Some.c left rest s.same blank c.column_after-eight.ensures.value ∙ c.loop-c.invariant.eight;
-      one = wider_by_one c.loop-c.one c.column_by_one-one.result c.in-Some.c left rest s.same blank c.column_by_one-one.ensures.value ∙ c.loop-c.invariant.one;
+      eight = wider c.loop-c.eight c.column_after-eight.result c.in-Some.c left rest s.same blank c.column_after-eight.ensures.value
+          ∙ c.loop-c.invariant.eight;
+      one = wider_by_one c.loop-c.one c.column_by_one-one.result c.in-Some.c left rest s.same blank c.column_by_one-one.ensures.value
+          ∙ c.loop-c.invariant.one;
       utf8 = s.utf8;
       eight_fits = omega (arith, s.shorter, c.loop-c.invariant.eight_fits, c.column_after-eight.ensures.bound);
       one_fits = omega (arith, s.shorter, c.loop-c.invariant.one_fits, c.column_by_one-one.ensures.bound);

@@ -20,7 +20,8 @@ pub loop-class-init : goal.loop-class-init
 loop-class-init c = record { utf8 = c.utf8.text; joins = (0, here, omega arith); room = c.requires; shorter = omega arith }
 
 pub loop-class-smaller-in-Blanks : goal.loop-class-smaller-in-Blanks
-loop-class-smaller-in-Blanks c = shorter_after c.loop-class.rest.now c.in_ok-class.front.now c.in_ok-class.back.now c.in_ok-class.class c.in_ok-class.ensures.some
+loop-class-smaller-in-Blanks c = shorter_after c.loop-class.rest.now c.in_ok-class.front.now c.in_ok-class.back.now c.in_ok-class.class
+    c.in_ok-class.ensures.some
 
 pub loop-class-preserved-in-Blanks : goal.loop-class-preserved-in-Blanks
 loop-class-preserved-in-Blanks c =
@@ -30,10 +31,17 @@ loop-class-preserved-in-Blanks c =
     let i = c.loop-class.invariant in
     let cuts = cuts_as rest front back c.in_ok-class.class Blanks c.in-Blanks.is c.in_ok-class.ensures.some in
     let less = shorter_after rest front back Blanks cuts in
-    record { utf8 = cuts.back_utf8; joins = (i.joins.0, blanks rest front back i.joins.0 i.joins.1 cuts, i.joins.2); room = omega (arith, i.room, less); shorter = omega (arith, i.shorter, less) }
+    record {
+      utf8 = cuts.back_utf8;
+      joins = (i.joins.0, blanks rest front back i.joins.0 i.joins.1 cuts, i.joins.2);
+      room =
+          omega (arith, i.room, less);
+      shorter = omega (arith, i.shorter, less);
+    }
 
 pub loop-class-smaller : goal.loop-class-smaller
-loop-class-smaller c = shorter_after c.loop-class.rest.now c.in_ok-class.front.now c.in_ok-class.back.now c.in_ok-class.class c.in_ok-class.ensures.some
+loop-class-smaller c = shorter_after c.loop-class.rest.now c.in_ok-class.front.now c.in_ok-class.back.now c.in_ok-class.class
+    c.in_ok-class.ensures.some
 
 pub loop-class-preserved : goal.loop-class-preserved
 loop-class-preserved c =
@@ -43,7 +51,13 @@ loop-class-preserved c =
     let i = c.loop-class.invariant in
     let cuts = cuts_as rest front back c.in_ok-class.class Join c.in-Join.is c.in_ok-class.ensures.some in
     let less = shorter_after rest front back Join cuts in
-    record { utf8 = cuts.back_utf8; joins = (i.joins.0 + 1, join rest front back i.joins.0 i.joins.1 cuts, omega (arith, i.joins.2)); room = omega (arith, i.room, less); shorter = omega (arith, i.shorter, less) }
+    record {
+      utf8 = cuts.back_utf8;
+      joins = (i.joins.0 + 1, join rest front back i.joins.0 i.joins.1 cuts, omega (arith, i.joins.2));
+      room =
+          omega (arith, i.room, less);
+      shorter = omega (arith, i.shorter, less);
+    }
 
 pub returns-in_default : goal.returns-in_default
 returns-in_default c =

@@ -13,7 +13,9 @@ returns-in-35 c = ⊎_elim
     c.in-35.is
 
 pub returns-in-13 : goal.returns-in-13
-returns-in-13 c = ap not c.has_next.ensures ∙ significant_return (chars c.args.text.now) c.new-scanner.result c.in-Some.first c.new-scanner.ensures c.in-Some.ensures c.in-13.is
+returns-in-13 c = ap not c.has_next.ensures ∙ significant_return (chars c.args.text.now) c.new-scanner.result c.in-Some.first
+    c.new-scanner.ensures c.in-Some.ensures c.in-13.is
 
 pub returns-in_default-first : goal.returns-in_default-first
-returns-in_default-first c = ap not c.has.ensures ∙ significant_other (chars c.args.text.now) c.new-scanner.result c.in-Some.first c.new-scanner.ensures c.in-Some.ensures (search rules) (search rules) (search rules)
+returns-in_default-first c = ap not c.has.ensures ∙ significant_other (chars c.args.text.now) c.new-scanner.result c.in-Some.first
+    c.new-scanner.ensures c.in-Some.ensures (search rules) (search rules) (search rules)

@@ -11,26 +11,31 @@ pub returns-then-has_quote : goal.returns-then-has_quote
 returns-then-has_quote c =
     closed_found (single_len (quote_char c.args.quote) c.args.text.now) c.args.text.now c.bump_count.new.self
     (ap Some c.bump_count.ensures
-    ∙ ap (λ (n : ℕ). left_of n c.bump_plain.new.self) (sym (single_here (quote_char c.args.quote) c.bump_plain.new.self (mark_is c.args.quote) (sym c.if-has_quote.ensures)))
+    ∙ ap (λ (n : ℕ). left_of n c.bump_plain.new.self)
+    (sym (single_here (quote_char c.args.quote) c.bump_plain.new.self (mark_is c.args.quote) (sym c.if-has_quote.ensures)))
     ∙ single_past c.args.quote c.loop-quote.text c.bump_plain.new.self c.bump_plain.ensures
     ∙ c.loop-quote.invariant)
 
 pub returns-then-not-has_next : goal.returns-then-not-has_next
 returns-then-not-has_next c =
     closed_none (single_len (quote_char c.args.quote) c.args.text.now) c.args.text.now c.bump_plain.new.self
-    (ap (λ (n : ℕ). left_of n c.bump_plain.new.self) (sym (single_stop (quote_char c.args.quote) c.bump_plain.new.self (mark_is c.args.quote) (sym c.if-has_quote.ensures) (sym c.if-not-has_next.ensures)))
+    (ap (λ (n : ℕ). left_of n c.bump_plain.new.self)
+    (sym (single_stop (quote_char c.args.quote) c.bump_plain.new.self (mark_is c.args.quote) (sym c.if-has_quote.ensures)
+    (sym c.if-not-has_next.ensures)))
     ∙ single_past c.args.quote c.loop-quote.text c.bump_plain.new.self c.bump_plain.ensures
     ∙ c.loop-quote.invariant)
 
 pub loop-quote-smaller : goal.loop-quote-smaller
 loop-quote-smaller c =
-    let less : length c.unit.new.text < length c.bump_plain.new.self = subst (λ (u : List ℕ). length u < length c.bump_plain.new.self) (sym c.unit.ensures) (unit_shorter is_comment_part c.bump_plain.new.self (sym c.if-not-has_next.ensures)) in
+    let less : length c.unit.new.text < length c.bump_plain.new.self = subst (λ (u : List ℕ). length u < length c.bump_plain.new.self)
+    (sym c.unit.ensures) (unit_shorter is_comment_part c.bump_plain.new.self (sym c.if-not-has_next.ensures)) in
     let run = run_shorter c.loop-quote.text c.bump_plain.new.self c.bump_plain.ensures in
     omega (arith, less, run)
 
 pub loop-quote-preserved : goal.loop-quote-preserved
 loop-quote-preserved c =
     ap (λ (u : List ℕ). left_of (single_len (quote_char c.args.quote) u) u) c.unit.ensures
-    ∙ single_step (quote_char c.args.quote) c.bump_plain.new.self (mark_is c.args.quote) (sym c.if-has_quote.ensures) (sym c.if-not-has_next.ensures)
+    ∙ single_step (quote_char c.args.quote) c.bump_plain.new.self (mark_is c.args.quote) (sym c.if-has_quote.ensures)
+    (sym c.if-not-has_next.ensures)
     ∙ single_past c.args.quote c.loop-quote.text c.bump_plain.new.self c.bump_plain.ensures
     ∙ c.loop-quote.invariant

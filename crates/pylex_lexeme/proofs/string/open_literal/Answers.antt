@@ -12,10 +12,13 @@ returns-in_default-clause-none c = ap is_open_string (sym c.new-left.ensures) �
 
 pub returns-then-is_open-clause-some : goal.returns-then-is_open-clause-some
 returns-then-is_open-clause-some c =
-    subst (λ (cs : List ℕ). IsOpenBy (record { quote = c.quote_here-quote.result; triple = c.has_three-triple.result }) cs) c.new-left.ensures
-    (opened _ c.in-Some.prefix_len c.new-left.result c.bump_count.new.self (which_mark c.quote_here-quote.result) c.in-Some.ensures.some c.bump_count.ensures c.quote_here-quote.ensures c.has_three-triple.ensures c.if-is_open.ensures)
+    subst (λ (cs : List ℕ). IsOpenBy (record { quote = c.quote_here-quote.result; triple = c.has_three-triple.result }) cs)
+    c.new-left.ensures
+    (opened _ c.in-Some.prefix_len c.new-left.result c.bump_count.new.self (which_mark c.quote_here-quote.result) c.in-Some.ensures.some
+    c.bump_count.ensures c.quote_here-quote.ensures c.has_three-triple.ensures c.if-is_open.ensures)
 
 pub returns-clause-none : goal.returns-clause-none
 returns-clause-none c =
     ap is_open_string (sym c.new-left.ensures)
-    ∙ unopened (quote_char c.quote_here-quote.result) c.in-Some.prefix_len c.new-left.result c.bump_count.new.self (which_mark c.quote_here-quote.result) c.in-Some.ensures.some c.bump_count.ensures c.quote_here-quote.ensures c.if-is_open.ensures
+    ∙ unopened (quote_char c.quote_here-quote.result) c.in-Some.prefix_len c.new-left.result c.bump_count.new.self
+    (which_mark c.quote_here-quote.result) c.in-Some.ensures.some c.bump_count.ensures c.quote_here-quote.ensures c.if-is_open.ensures

@@ -9,10 +9,12 @@ pub returns-then-has_next-3-clause-some : goal.returns-then-has_next-3-clause-so
 returns-then-has_next-3-clause-some c = opens_one c.args.text.now (sym c.if-has_next-2.ensures) (sym c.if-has_next-3.ensures)
 
 pub returns-then-has_next-2-clause-none : goal.returns-then-has_next-2-clause-none
-returns-then-has_next-2-clause-none c = none_one c.args.text.now (sym c.if-has_next.ensures) (sym c.if-has_next-2.ensures) (sym c.if-has_next-3.ensures)
+returns-then-has_next-2-clause-none c = none_one c.args.text.now (sym c.if-has_next.ensures) (sym c.if-has_next-2.ensures)
+    (sym c.if-has_next-3.ensures)
 
 pub returns-then-not-has_next-clause-none : goal.returns-then-not-has_next-clause-none
-returns-then-not-has_next-clause-none c = none_two c.args.text.now (sym c.if-has_next.ensures) (sym c.if-has_next-2.ensures) (sym c.if-not-has_next.ensures)
+returns-then-not-has_next-clause-none c = none_two c.args.text.now (sym c.if-has_next.ensures) (sym c.if-has_next-2.ensures)
+    (sym c.if-not-has_next.ensures)
 
 pub returns-then-has_pair-clause-some : goal.returns-then-has_pair-clause-some
 returns-then-has_pair-clause-some c = opens_two c.args.text.now (sym c.if-not-has_next.ensures) (sym c.if-has_pair.ensures)

@@ -7,7 +7,13 @@ pub returns-then-n-len-clause-read : goal.returns-then-n-len-clause-read
 returns-then-n-len-clause-read g c =
     let e = rw c.in-Ok.is at c.read.ensures in
     let more = take c.in-Ok.n c.read.new.buf in
-    let long : source_limit < length (c.loop-all.all.items ++ more) = omega (arith, e.bound.1, length-append c.loop-all.all.items more, c.loop-all.all.ok.0, c.if-n-len.true) in
+    let long : source_limit < length (c.loop-all.all.items ++ more) = omega (
+      arith,
+      e.bound.1,
+      length-append c.loop-all.all.items more,
+      c.loop-all.all.ok.0,
+      c.if-n-len.true,
+    ) in
     λ read same. (c.loop-all.all.items ++ more, long, Consumes-append _ _ _ _ _ c.loop-all.invariant.gave e.bytes.0)
 
 pub returns-then-n-len-clause-gave : goal.returns-then-n-len-clause-gave

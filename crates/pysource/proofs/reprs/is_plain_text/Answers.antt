@@ -7,5 +7,6 @@ use Rattle.pysource.proofs.reprs.is_plain_text.Goals as goal
 
 pub returns : goal.returns
 returns c =
-    let len : c.plain_len.result ≡ prefix_len is_plain c.args.text.now = c.plain_len.ensures.value ∙ ap (prefix_len is_plain) c.as_bytes.ensures.value in
+    let len : c.plain_len.result ≡ prefix_len is_plain c.args.text.now = c.plain_len.ensures.value
+    ∙ ap (prefix_len is_plain) c.as_bytes.ensures.value in
     ap (λ n. n == length c.args.text.now) len ∙ all_by_prefix is_plain c.args.text.now

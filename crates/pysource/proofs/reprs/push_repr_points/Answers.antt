@@ -15,11 +15,14 @@ runs-preserved c =
     let cut : rest ≡ take c.in_ok-count.count rest ++ tail =
     c.split_at.ensures.by_index.0 ∙ ap (λ (front : List ℕ). front ++ tail) c.split_at.ensures.front in
     let before =
-    plain_points_pushed q c.args.points.now rest (take c.in_ok-count.count rest) tail (string_bytes c.runs.out) (string_bytes c.push_plain_points.new.out) _
+    plain_points_pushed q c.args.points.now rest (take c.in_ok-count.count rest) tail (string_bytes c.runs.out)
+    (string_bytes c.push_plain_points.new.out) _
     c.quote_of_points-quote.ensures cut c.in_ok-count.ensures.plain c.runs.invariant.output c.in_ok-count.ensures.ok in
     record {
-      front = starts_with_trans _ _ _ c.push_repr_point.ensures.kept (starts_with_trans _ _ _ c.push_plain_points.ensures.kept c.runs.invariant.front);
-      output = point_pushed q c.in-Some.point.now tail c.in-Some.behind.now _ _ _ c.in-Some.ensures.cases.0 before c.in_ok-push_repr_point-in-Some.ensures.ok;
+      front = starts_with_trans _ _ _ c.push_repr_point.ensures.kept (starts_with_trans _ _ _ c.push_plain_points.ensures.kept
+          c.runs.invariant.front);
+      output = point_pushed q c.in-Some.point.now tail c.in-Some.behind.now _ _ _ c.in-Some.ensures.cases.0 before
+          c.in_ok-push_repr_point-in-Some.ensures.ok;
     }
 
 pub returns-clause-ok : goal.returns-clause-ok
@@ -31,8 +34,10 @@ returns-clause-ok c =
     let cut : rest ≡ take c.in_ok-count.count rest ++ tail =
     c.split_at.ensures.by_index.0 ∙ ap (λ (front : List ℕ). front ++ tail) c.split_at.ensures.front in
     let before =
-    plain_points_pushed q points rest (take c.in_ok-count.count rest) tail (string_bytes c.runs.out) (string_bytes c.push_plain_points.new.out) _
+    plain_points_pushed q points rest (take c.in_ok-count.count rest) tail (string_bytes c.runs.out)
+    (string_bytes c.push_plain_points.new.out) _
     c.quote_of_points-quote.ensures cut c.in_ok-count.ensures.plain c.runs.invariant.output c.in_ok-count.ensures.ok in
     let last : string_bytes c.push-2.new.self ≡ string_bytes c.push_plain_points.new.out ++ encode_utf8_all (q ∷ []) = search rules in
     points_closed q tail points (string_bytes c.args.out.now) _ _ c.in-None.ensures.cases before last
-    ∙ ap (λ (x : ℕ). string_bytes c.args.out.now ++ encode_utf8_all (x ∷ flat_map (escaped is_unprintable x) points ++ x ∷ [])) c.quote_of_points-quote.ensures
+    ∙ ap (λ (x : ℕ). string_bytes c.args.out.now ++ encode_utf8_all (x ∷ flat_map (escaped is_unprintable x) points ++ x ∷ []))
+    c.quote_of_points-quote.ensures

@@ -10,7 +10,8 @@ returns-then-lone-valid-clause-value c =
     let valid = c.valid_len-valid.ensures in
     let lone = c.lone_return-lone.ensures in
     let inside : c.lone_return-lone.result < length c.args.bytes.now = omega (arith, valid.within) in
-    sym (first_given_at (bad_at c.args.charset c.args.bytes.now) 0 (length c.args.bytes.now) c.lone_return-lone.result _ zero-le (omega arith)
+    sym (first_given_at (bad_at c.args.charset c.args.bytes.now) 0 (length c.args.bytes.now)
+    c.lone_return-lone.result _ zero-le (omega arith)
     (valid.before c.lone_return-lone.result c.if-lone-valid.true ∙ lone.at inside)
     (λ k low high. valid.before k (omega arith) ∙ lone.before k high))
 
@@ -18,7 +19,8 @@ pub returns-then-valid-bytes-clause-value : goal.returns-then-valid-bytes-clause
 returns-then-valid-bytes-clause-value c =
     let valid = c.valid_len-valid.ensures in
     let lone = c.lone_return-lone.ensures in
-    sym (first_given_at (bad_at c.args.charset c.args.bytes.now) 0 (length c.args.bytes.now) c.valid_len-valid.result _ zero-le (omega arith)
+    sym (first_given_at (bad_at c.args.charset c.args.bytes.now) 0 (length c.args.bytes.now)
+    c.valid_len-valid.result _ zero-le (omega arith)
     (valid.at c.if-valid-bytes.true ∙ ap Some (sym c.invalid.ensures))
     (λ k low high. valid.before k high ∙ lone.before k (omega arith)))
 
@@ -36,6 +38,8 @@ returns-then-lone-valid-clause-front c =
     let front = take c.valid_len-valid.result c.args.bytes.now in
     let inside : lone < length c.args.bytes.now = omega (arith, valid.within) in
     let size = length-take c.valid_len-valid.result c.args.bytes.now in
-    let byte : get_or front lone 0 ≡ 13 = get_or-take c.valid_len-valid.result c.args.bytes.now lone 0 c.if-lone-valid.true ∙ c.lone_return-lone.ensures.byte inside in
-    let part = IsUtf8-take front lone valid.front (IsCharBoundary-before_ascii front lone (omega (arith, size, valid.within)) (omega (arith, byte))) in
+    let byte : get_or front lone 0 ≡ 13 = get_or-take c.valid_len-valid.result c.args.bytes.now lone 0 c.if-lone-valid.true
+    ∙ c.lone_return-lone.ensures.byte inside in
+    let part = IsUtf8-take front lone valid.front (IsCharBoundary-before_ascii front lone (omega (arith, size, valid.within))
+    (omega (arith, byte))) in
     (inside, subst IsUtf8 (take-take lone c.valid_len-valid.result c.args.bytes.now (omega arith)) part)

@@ -23,4 +23,5 @@ loop-c-preserved c =
     }
 
 pub returns : goal.returns
-returns c = sym (ap (list_all is_xid_continue) (no_chars (chars_rest c.loop-c.c-iterator) c.in-None.ensures.steps.0.0)) ∙ c.loop-c.invariant.same
+returns c = sym (ap (list_all is_xid_continue) (no_chars (chars_rest c.loop-c.c-iterator) c.in-None.ensures.steps.0.0))
+    ∙ c.loop-c.invariant.same

@@ -6,7 +6,9 @@ use Rattle.pytree_dump.proofs.lists.show_names.Given as goal
 
 abbrev pub invariant-loop-name : goal.invariant-loop-name
 invariant-loop-name l = record {
-  text : string_bytes l.out ++ members l.style (string_bytes l.initial.indentation) l.first (showns (map (λ name. shown_name name) (drop l.name-index l.names)))
-      ≡ string_bytes l.initial.out ++ members l.style (string_bytes l.initial.indentation) true (showns (map (λ name. shown_name name) l.names));
+  text : string_bytes l.out ++ members l.style (string_bytes l.initial.indentation) l.first
+      (showns (map (λ name. shown_name name) (drop l.name-index l.names)))
+      ≡ string_bytes l.initial.out ++ members l.style (string_bytes l.initial.indentation) true
+      (showns (map (λ name. shown_name name) l.names));
   indentation : string_bytes l.indentation ≡ string_bytes l.initial.indentation;
 }

@@ -25,7 +25,8 @@ show_mapping-returns-clause-text t c =
     let r2 : Fields = name_field (codes "rest") c.args.rest.now no_field in
     let r1 : Fields = a_field (codes "patterns") (shown_pattern_row c.args.patterns.now) r2 in
     let r0 : Fields = a_field (codes "keys") (listed (λ e. shown (tree_of e)) c.args.keys.now) r1 in
-    node_shown s _ _ _ r0 _ _ _ _ _ c.in_ok-outer.ensures.indentation (c.is_short_mapping.ensures c.args.rest.now) c.in_ok-outer.ensures.text
+    node_shown s _ _ _ r0 _ _ _ _ _ c.in_ok-outer.ensures.indentation (c.is_short_mapping.ensures c.args.rest.now)
+    c.in_ok-outer.ensures.text
     (ahead s _ _ _ _ _ _ _ _ _ _ _ r0 r1 c.in_ok-told.ensures.indentation (c.in_ok-told.ensures.text r1)
     (ahead s _ _ _ _ _ _ _ _ _ _ _ r1 r2 c.in_ok-told-2.ensures.indentation (c.in_ok-told-2.ensures.text r2)
     (at_end_as s _ _ _ _ _ _ r2 _ (c.name_part.ensures no_field) (c.in_ok-show_field.ensures.text no_field)))) c.in_ok-close.ensures.text
@@ -56,4 +57,5 @@ pub show_pattern-returns-in-MatchValue-clause-text : goal.show_pattern-returns-i
 show_pattern-returns-in-MatchValue-clause-text t c = rw (c.in-MatchValue.is, match_value_tree) c.show_one.ensures.text
 
 pub show_pattern-returns-in-MatchSingleton-clause-text : goal.show_pattern-returns-in-MatchSingleton-clause-text
-show_pattern-returns-in-MatchSingleton-clause-text t c = rw (c.in-MatchSingleton.is, match_singleton_tree) c.show_one-in-MatchSingleton.ensures.text
+show_pattern-returns-in-MatchSingleton-clause-text t c =
+    rw (c.in-MatchSingleton.is, match_singleton_tree) c.show_one-in-MatchSingleton.ensures.text

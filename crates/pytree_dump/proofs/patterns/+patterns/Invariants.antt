@@ -24,7 +24,8 @@ abbrev pub decreases-show_as : goal.decreases-show_as
 decreases-show_as l = 4 * field_weights (pattern_field (codes "pattern") (optional_pattern (boxed_pattern_of l.pattern.now)) no_field) + 3
 
 abbrev pub decreases-show_optional_pattern : goal.decreases-show_optional_pattern
-decreases-show_optional_pattern l = 4 * field_weights (pattern_field (codes "pattern") (optional_pattern (boxed_pattern_of l.pattern.now)) no_field) + 2
+decreases-show_optional_pattern l =
+    4 * field_weights (pattern_field (codes "pattern") (optional_pattern (boxed_pattern_of l.pattern.now)) no_field) + 2
 
 abbrev pub decreases-show_pattern_field : goal.decreases-show_pattern_field
 decreases-show_pattern_field l = 4 * weight (shown_pattern (pattern_of l.p.now)) + 1
@@ -37,7 +38,9 @@ decreases-show_pattern_row l = 4 * weight (shown_pattern_row l.patterns.now)
 
 abbrev pub invariant-show_pattern_row-loop-p : goal.invariant-show_pattern_row-loop-p
 invariant-show_pattern_row-loop-p l = record {
-  text : string_bytes l.out ++ members l.style (string_bytes l.initial.indentation) l.first (showns (map (λ p. shown_pattern (pattern_of p)) (drop l.p-index l.patterns)))
-      ≡ string_bytes l.initial.out ++ members l.style (string_bytes l.initial.indentation) true (showns (map (λ p. shown_pattern (pattern_of p)) l.patterns));
+  text : string_bytes l.out ++ members l.style (string_bytes l.initial.indentation) l.first
+      (showns (map (λ p. shown_pattern (pattern_of p)) (drop l.p-index l.patterns)))
+      ≡ string_bytes l.initial.out ++ members l.style (string_bytes l.initial.indentation) true
+      (showns (map (λ p. shown_pattern (pattern_of p)) l.patterns));
   indentation : string_bytes l.indentation ≡ string_bytes l.initial.indentation;
 }

@@ -1,6 +1,10 @@
 use Rattle.std.proofs.Common.{refl, sym}
 use Rattle.pytree_node.specs.TreeOf.{tree_of}
-use Rattle.pytree_node.proofs.Callers.ExprShapes.{bool_op_tree, named_expr_tree, bin_op_tree, unary_op_tree, lambda_tree, if_exp_tree, dict_tree, set_tree, list_comp_tree, set_comp_tree, dict_comp_tree, generator_exp_tree, await_tree, yield_from_tree, compare_tree, call_tree, formatted_value_tree, joined_str_tree, attribute_tree, subscript_tree, starred_tree, name_tree, list_tree, tuple_tree}
+use Rattle.pytree_node.proofs.Callers.ExprShapes.{bool_op_tree, named_expr_tree, bin_op_tree, unary_op_tree, lambda_tree, if_exp_tree}
+use Rattle.pytree_node.proofs.Callers.ExprShapes.{dict_tree, set_tree, list_comp_tree, set_comp_tree, dict_comp_tree, generator_exp_tree}
+use Rattle.pytree_node.proofs.Callers.ExprShapes.{await_tree, yield_from_tree, compare_tree, call_tree, formatted_value_tree}
+use Rattle.pytree_node.proofs.Callers.ExprShapes.{joined_str_tree, attribute_tree, subscript_tree, starred_tree, name_tree, list_tree}
+use Rattle.pytree_node.proofs.Callers.ExprShapes.{tuple_tree}
 use Rattle.pytree_dump_text.proofs.SlotLemmas.{formatted_shows}
 use Rattle.pytree_dump_text.proofs.shortness.is_bare.Goals as goal
 

@@ -2,7 +2,8 @@ use Rattle.std.proofs.Common.{map, max, ◌∙◌, ap, sym, refl}
 use Rattle.pytree_node.specs.Trees.{exprs, optional, optionals, comprehensions, keywords, args}
 use Rattle.pytree_node.specs.TreeOf.{tree_of, option_of, comprehension_of, keyword_of, arg_of}
 use Rattle.pytree_node.proofs.Callers.ExprShapes.{dict_comp_tree, call_tree, slice_tree, keyword_tree, comprehension_tree}
-use Rattle.pytree_height.specs.Heights.{capped, height, heights, optional_height, optional_heights, comprehension_heights, keyword_heights, arg_height, arg_heights}
+use Rattle.pytree_height.specs.Heights.{capped, height, heights, optional_height, optional_heights, comprehension_heights, keyword_heights}
+use Rattle.pytree_height.specs.Heights.{arg_height, arg_heights}
 use Rattle.pytree_height.proofs.CapLemmas.{capped-zero, higher, three, two}
 use Rattle.pytree_height.proofs.expressions.+expression_height.Goals as goal
 use Rattle.pytree_height.proofs.expressions.+expression_height.Goals.{options_height-in-None, options_height-in-Some}
@@ -12,16 +13,19 @@ exprs_height-loop-e-preserved t c = higher (λ es. heights (exprs (map tree_of e
     c.loop-e-test.true c.e-item.is c.loop-e.invariant c.expr_height.ensures c.max-most.ensures
 
 pub each_parameter_height-loop-a-preserved : goal.each_parameter_height-loop-a-preserved
-each_parameter_height-loop-a-preserved t c = higher (λ all. arg_heights (args (map arg_of all))) (λ a. arg_height (arg_of a)) refl (λ _ _. refl) _
+each_parameter_height-loop-a-preserved t c = higher (λ all. arg_heights (args (map arg_of all)))
+    (λ a. arg_height (arg_of a)) refl (λ _ _. refl) _
     c.loop-a-test.true c.a-item.is c.loop-a.invariant c.parameter_height.ensures c.max-most.ensures
 
 pub keywords_height-loop-k-preserved : goal.keywords_height-loop-k-preserved
-keywords_height-loop-k-preserved t c = higher (λ ks. keyword_heights (keywords (map keyword_of ks))) (λ k. height (keyword_of k).value) refl (λ _ _. refl) _
+keywords_height-loop-k-preserved t c = higher (λ ks. keyword_heights (keywords (map keyword_of ks)))
+    (λ k. height (keyword_of k).value) refl (λ _ _. refl) _
     c.loop-k-test.true c.k-item.is c.loop-k.invariant (c.expr_height.ensures ∙ rw keyword_tree refl) c.max-most.ensures
 
 pub generators_height-loop-c-preserved : goal.generators_height-loop-c-preserved
 generators_height-loop-c-preserved t c = higher (λ cs. comprehension_heights (comprehensions (map comprehension_of cs)))
-    (λ c. max (height (comprehension_of c).target) (max (height (comprehension_of c).iter) (heights (exprs (comprehension_of c).ifs)))) refl (λ _ _. refl) _
+    (λ c. max (height (comprehension_of c).target) (max (height (comprehension_of c).iter) (heights (exprs (comprehension_of c).ifs)))) refl
+    (λ _ _. refl) _
     c.loop-c-test.true c.c-item.is c.loop-c.invariant
     (two _ _ (c.expr_height.ensures ∙ rw comprehension_tree refl)
     (two _ _ (c.expr_height-in-loop-c.ensures ∙ rw comprehension_tree refl)
@@ -31,11 +35,14 @@ generators_height-loop-c-preserved t c = higher (λ cs. comprehension_heights (c
     c.max-most.ensures
 
 pub options_height-loop-e-preserved : goal.options_height-loop-e-preserved
-options_height-loop-e-preserved t c = higher (λ es. optional_heights (optionals (map option_of es))) (λ e. optional_height (optional (option_of e))) refl (λ _ _. refl) _
+options_height-loop-e-preserved t c = higher (λ es. optional_heights (optionals (map option_of es)))
+    (λ e. optional_height (optional (option_of e))) refl (λ _ _. refl) _
     c.loop-e-test.true c.e-item.is c.loop-e.invariant
     (elim c.match-e.branch [
-      | options_height-in-None w ↦ w.here-is ∙ sym capped-zero ∙ sym (ap (λ o. capped (optional_height (optional (option_of o)))) w.in-None.is)
-      | options_height-in-Some w ↦ w.here-is ∙ w.expr_height-here.ensures ∙ sym (ap (λ o. capped (optional_height (optional (option_of o)))) w.in-Some.is)
+      | options_height-in-None w ↦ w.here-is ∙ sym capped-zero
+          ∙ sym (ap (λ o. capped (optional_height (optional (option_of o)))) w.in-None.is)
+      | options_height-in-Some w ↦ w.here-is ∙ w.expr_height-here.ensures
+          ∙ sym (ap (λ o. capped (optional_height (optional (option_of o)))) w.in-Some.is)
     ])
     c.max-most.ensures
 
@@ -43,7 +50,8 @@ pub expr_height-returns-in-DictComp : goal.expr_height-returns-in-DictComp
 expr_height-returns-in-DictComp t c = rw (c.in-DictComp.is, dict_comp_tree) (three _ _ _
     (c.expr_height-in-DictComp.ensures ∙ ap (λ e. capped (height (tree_of e))) c.deref-in-DictComp.ensures)
     (c.expr_height-in-DictComp-2.ensures ∙ ap (λ e. capped (height (tree_of e))) c.deref-in-DictComp-2.ensures)
-    (c.generators_height-in-DictComp.ensures ∙ ap (λ cs. capped (comprehension_heights (comprehensions (map comprehension_of cs)))) c.deref-in-DictComp-3.ensures.value)
+    (c.generators_height-in-DictComp.ensures ∙ ap (λ cs. capped (comprehension_heights (comprehensions (map comprehension_of cs))))
+    c.deref-in-DictComp-3.ensures.value)
     c.max-in-DictComp.ensures c.max-in-DictComp-2.ensures c.one_more-in-DictComp.ensures)
 
 pub expr_height-returns-in-Call : goal.expr_height-returns-in-Call

@@ -18,6 +18,16 @@ returns-clause-bytes c =
     let behind = length-drop n c.args.buf.now in (
       rw (given, front, c.split_at.ensures.back) (sym (take-append-drop n bytes)),
       λ none some.
-          let all : length bytes ≤ n = omega (arith, none, some, size, whole, behind, c.min-count.ensures, c.min.ensures, c.args.self.now.gives_some) in
+          let all : length bytes ≤ n = omega (
+            arith,
+            none,
+            some,
+            size,
+            whole,
+            behind,
+            c.min-count.ensures,
+            c.min.ensures,
+            c.args.self.now.gives_some,
+          ) in
           c.split_at.ensures.back ∙ drop_of_length-le bytes all,
     )

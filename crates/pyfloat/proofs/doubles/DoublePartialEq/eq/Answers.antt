@@ -9,6 +9,8 @@ pub returns : goal.returns
 returns c =
     let a = c.self.inside.bits in
     let b = c.other.inside.bits in
-    one_answer (a == b) (float_same c.args.self.now c.args.other.now)
-    (λ h. sym c.self.view_is ∙ ap (of_bits binary64) (eqb-true a b h) ∙ c.other.view_is, λ h. eq-eqb a b (same_bits a b c.self.invariant c.other.invariant (c.self.view_is ∙ h ∙ sym c.other.view_is)))
+    one_answer (a == b) (float_same c.args.self.now c.args.other.now) (
+      λ h. sym c.self.view_is ∙ ap (of_bits binary64) (eqb-true a b h) ∙ c.other.view_is,
+      λ h. eq-eqb a b (same_bits a b c.self.invariant c.other.invariant (c.self.view_is ∙ h ∙ sym c.other.view_is)),
+    )
     (same_floats c.args.self.now c.args.other.now)

@@ -8,7 +8,8 @@ use Rattle.pyfstring.proofs.FieldSteps.{expression_fails, expression_blank, expr
 use Rattle.pyfstring.proofs.scanner.Scanner.expression.Goals as goal
 
 pub returns-in_err-pass_expression-clause-malformed : goal.returns-in_err-pass_expression-clause-malformed
-returns-in_err-pass_expression-clause-malformed c = passed_on c.from_residual.result c.in_err-pass_expression.field-0.0 c.from_residual.ensures.1 (expression_fails c.args.self.now) c.in_err-pass_expression.ensures.malformed
+returns-in_err-pass_expression-clause-malformed c = passed_on c.from_residual.result c.in_err-pass_expression.field-0.0
+    c.from_residual.ensures.1 (expression_fails c.args.self.now) c.in_err-pass_expression.ensures.malformed
 
 pub until-text-requires : goal.until-text-requires
 until-text-requires c =

@@ -16,7 +16,8 @@ unfolding text_at
 returns c =
     let found = sym c.eat.ensures.found ∙ c.if-not-eat.false in
     let here = c.eat.ensures.rest ∙ eaten_some 58 c.args.self.now found in
-    let left : c.text.new.self ≡ behind_text c.args.manner.is_raw false (drop 1 c.args.self.now) = c.text.ensures.rest ∙ ap (behind_text c.args.manner.is_raw false) here in
+    let left : c.text.new.self ≡ behind_text c.args.manner.is_raw false (drop 1 c.args.self.now) = c.text.ensures.rest
+    ∙ ap (behind_text c.args.manner.is_raw false) here in
     let cs = drop 1 c.args.self.now in
     let r = behind_text c.args.manner.is_raw false cs in
     let t = c.text.ensures.text ∙ ap (λ (x : List ℕ). before x c.text.new.self) here ∙ ap (before cs) left in

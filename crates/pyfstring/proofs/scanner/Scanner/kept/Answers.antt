@@ -8,7 +8,8 @@ use Rattle.pyfstring.proofs.scanner.Scanner.kept.Goals as goal
 pub returns-then-not-eat-clause-ok : goal.returns-then-not-eat-clause-ok
 returns-then-not-eat-clause-ok c =
     let found = sym c.eat.ensures.found ∙ c.if-not-eat.true in
-    kept_absent c.args.is_nested c.args.start.now c.args.self.now found ∙ ap (λ (r : List ℕ). Some (None, r)) (sym (c.eat.ensures.rest ∙ eaten_none 61 c.args.self.now found))
+    kept_absent c.args.is_nested c.args.start.now c.args.self.now found
+    ∙ ap (λ (r : List ℕ). Some (None, r)) (sym (c.eat.ensures.rest ∙ eaten_none 61 c.args.self.now found))
 
 pub returns-then-is_nested-clause-malformed : goal.returns-then-is_nested-clause-malformed
 returns-then-is_nested-clause-malformed c =
@@ -18,14 +19,17 @@ returns-then-is_nested-clause-malformed c =
 pub until-requires : goal.until-requires
 until-requires c =
     let found = sym c.eat.ensures.found ∙ c.if-not-eat.false in
-    let left : c.pass_blanks.new.self ≡ behind_blanks (drop 1 c.args.self.now) = c.pass_blanks.ensures ∙ ap behind_blanks (c.eat.ensures.rest ∙ eaten_some 61 c.args.self.now found) in
+    let left : c.pass_blanks.new.self ≡ behind_blanks (drop 1 c.args.self.now) = c.pass_blanks.ensures
+    ∙ ap behind_blanks (c.eat.ensures.rest ∙ eaten_some 61 c.args.self.now found) in
     let P : List ℕ → Type 0 = λ r. EndsWith c.args.start.now r in
-    subst P (sym left) (ends_through c.args.start.now c.args.self.now _ c.requires (ends_through c.args.self.now (drop 1 c.args.self.now) _ (ends_drop 1 c.args.self.now) (ends_drop _ (drop 1 c.args.self.now))))
+    subst P (sym left) (ends_through c.args.start.now c.args.self.now _ c.requires (ends_through c.args.self.now (drop 1 c.args.self.now) _
+    (ends_drop 1 c.args.self.now) (ends_drop _ (drop 1 c.args.self.now))))
 
 pub returns-clause-ok : goal.returns-clause-ok
 returns-clause-ok c =
     let found = sym c.eat.ensures.found ∙ c.if-not-eat.false in
-    let left : c.pass_blanks.new.self ≡ behind_blanks (drop 1 c.args.self.now) = c.pass_blanks.ensures ∙ ap behind_blanks (c.eat.ensures.rest ∙ eaten_some 61 c.args.self.now found) in
+    let left : c.pass_blanks.new.self ≡ behind_blanks (drop 1 c.args.self.now) = c.pass_blanks.ensures
+    ∙ ap behind_blanks (c.eat.ensures.rest ∙ eaten_some 61 c.args.self.now found) in
     kept_given c.args.is_nested c.args.start.now c.args.self.now found c.if-is_nested.false
     ∙ ap (λ (r : List ℕ). Some (Some (before c.args.start.now r), r)) (sym left)
     ∙ ap (λ (t : List ℕ). Some (Some t, c.pass_blanks.new.self)) (sym c.until.ensures)

@@ -11,11 +11,13 @@ returns-then-c-eq125 c =
     let here = c.loop-c.self in
     let closing : is_no_closing c.in-Some.c ≡ false = not_from_true _ (eq-eqb c.in-Some.c 125 c.if-c-eq125.true) in
     let stopped = run_stops is_no_closing here c.in-Some.c (sym c.peek.ensures ∙ c.in-Some.is) closing in
-    c.advance.ensures ∙ ap (drop 1) (sym stopped ∙ c.loop-c.invariant) ∙ drop-drop 1 (prefix_len is_no_closing c.args.self.now) c.args.self.now
+    c.advance.ensures ∙ ap (drop 1) (sym stopped ∙ c.loop-c.invariant)
+    ∙ drop-drop 1 (prefix_len is_no_closing c.args.self.now) c.args.self.now
 
 pub returns : goal.returns
 returns c =
     let here = c.loop-c.self in
     let none = sym c.peek.ensures ∙ c.in_default.is in
     let stopped = run_ends is_no_closing here none in
-    sym (none_left here none) ∙ ap (drop 1) (sym stopped ∙ c.loop-c.invariant) ∙ drop-drop 1 (prefix_len is_no_closing c.args.self.now) c.args.self.now
+    sym (none_left here none) ∙ ap (drop 1) (sym stopped ∙ c.loop-c.invariant)
+    ∙ drop-drop 1 (prefix_len is_no_closing c.args.self.now) c.args.self.now

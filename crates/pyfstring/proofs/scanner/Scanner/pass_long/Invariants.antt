@@ -4,7 +4,11 @@ use Rattle.pyfstring.specs.Expressions.{longstring, scan}
 use Rattle.pyfstring.proofs.scanner.Scanner.pass_long.Given as goal
 
 abbrev pub invariant-loop-c : goal.invariant-loop-c
-invariant-loop-c l = record { same : (bs : List Bracket) → scan (longstring l.quote) bs 0 l.initial.self ≡ scan (longstring l.quote) bs 0 l.self; shorter : length l.self ≤ length l.initial.self }
+invariant-loop-c l = record {
+  same : (bs : List Bracket) → scan (longstring l.quote) bs 0 l.initial.self ≡ scan (longstring l.quote) bs 0
+      l.self;
+  shorter : length l.self ≤ length l.initial.self;
+}
 
 abbrev pub decreases-loop-c : goal.decreases-loop-c
 decreases-loop-c l = length l.self

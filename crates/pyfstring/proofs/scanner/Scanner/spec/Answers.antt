@@ -16,10 +16,13 @@ pub returns-in_err-pieces-clause-malformed : goal.returns-in_err-pieces-clause-m
 returns-in_err-pieces-clause-malformed c =
     let found = sym c.eat.ensures.found ∙ c.if-not-eat.false in
     let here = c.eat.ensures.rest ∙ eaten_some 58 c.args.self.now found in
-    passed_on c.from_residual.result c.in_err-pieces.field-0.0 c.from_residual.ensures.1 (λ e. spec_fails (spec_pieces_at c.args.manner) c.args.self.now found (ap (spec_pieces_at c.args.manner) (sym here) ∙ e)) c.in_err-pieces.ensures.malformed
+    passed_on c.from_residual.result c.in_err-pieces.field-0.0 c.from_residual.ensures.1
+    (λ e. spec_fails (spec_pieces_at c.args.manner) c.args.self.now found (ap (spec_pieces_at c.args.manner) (sym here) ∙ e))
+    c.in_err-pieces.ensures.malformed
 
 pub returns-clause-ok : goal.returns-clause-ok
 returns-clause-ok c =
     let found = sym c.eat.ensures.found ∙ c.if-not-eat.false in
     let here = c.eat.ensures.rest ∙ eaten_some 58 c.args.self.now found in
-    spec_given (spec_pieces_at c.args.manner) c.args.self.now (spec_parts c.in_ok-pieces.pieces) c.spec_pieces.new.self found (ap (spec_pieces_at c.args.manner) (sym here) ∙ c.in_ok-pieces.ensures.ok)
+    spec_given (spec_pieces_at c.args.manner) c.args.self.now (spec_parts c.in_ok-pieces.pieces) c.spec_pieces.new.self found
+    (ap (spec_pieces_at c.args.manner) (sym here) ∙ c.in_ok-pieces.ensures.ok)

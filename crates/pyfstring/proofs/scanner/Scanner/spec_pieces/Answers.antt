@@ -16,10 +16,14 @@ unfolding spec_pieces_at
 returns-then-not-eat-clause-ok c =
     let m = c.args.manner in
     let found = sym c.eat.ensures.found ∙ c.if-not-eat.true in
-    let parts = ap (map (part_of text_of)) c.in_ok-push.ensures.items ∙ map-append (part_of text_of) c.loop-pieces.pieces.items (Text c.text.result ∷ []) in
-    loop_ends m.is_raw false (inner_field_at m) (IsField (IsInnerSpec m) m.is_nested) (inner_field_reads m) c.args.self.now c.loop-pieces.self c.text.new.self (chars c.text.result.now) (map (part_of text_of) c.loop-pieces.pieces.items) (map (part_of text_of) c.push.new.self.items)
+    let parts = ap (map (part_of text_of)) c.in_ok-push.ensures.items ∙ map-append (part_of text_of) c.loop-pieces.pieces.items
+    (Text c.text.result ∷ []) in
+    loop_ends m.is_raw false (inner_field_at m) (IsField (IsInnerSpec m) m.is_nested) (inner_field_reads m) c.args.self.now
+    c.loop-pieces.self c.text.new.self (chars c.text.result.now) (map (part_of text_of) c.loop-pieces.pieces.items)
+    (map (part_of text_of) c.push.new.self.items)
     c.loop-pieces.invariant c.text.ensures.rest c.text.ensures.text found parts
-    ∙ ap (λ (r : List ℕ). Some (map (part_of text_of) c.push.new.self.items, r)) (sym (c.eat.ensures.rest ∙ eaten_none 123 c.text.new.self found))
+    ∙ ap (λ (r : List ℕ). Some (map (part_of text_of) c.push.new.self.items, r))
+    (sym (c.eat.ensures.rest ∙ eaten_none 123 c.text.new.self found))
 
 pub returns-in_err-inner_field-clause-malformed : goal.returns-in_err-inner_field-clause-malformed
 unfolding spec_pieces_at
@@ -28,7 +32,9 @@ returns-in_err-inner_field-clause-malformed c =
     let found = sym c.eat.ensures.found ∙ c.if-not-eat.false in
     let here = c.eat.ensures.rest ∙ eaten_some 123 c.text.new.self found in
     let r = c.from_residual-in_err-inner_field in
-    passed_on r.result c.in_err-inner_field.field-0.0 r.ensures.1 (λ e. loop_fails m.is_raw false (inner_field_at m) (IsField (IsInnerSpec m) m.is_nested) (inner_field_reads m) c.args.self.now c.loop-pieces.self c.text.new.self (map (part_of text_of) c.loop-pieces.pieces.items)
+    passed_on r.result c.in_err-inner_field.field-0.0 r.ensures.1 (λ e. loop_fails m.is_raw false (inner_field_at m)
+    (IsField (IsInnerSpec m) m.is_nested) (inner_field_reads m) c.args.self.now c.loop-pieces.self c.text.new.self
+    (map (part_of text_of) c.loop-pieces.pieces.items)
     c.loop-pieces.invariant c.text.ensures.rest found (ap (inner_field_at m) (sym here) ∙ e)) c.in_err-inner_field.ensures.malformed
 
 pub loop-pieces-smaller : goal.loop-pieces-smaller
@@ -36,7 +42,9 @@ loop-pieces-smaller c =
     let m = c.args.manner in
     let found = sym c.eat.ensures.found ∙ c.if-not-eat.false in
     let here = c.eat.ensures.rest ∙ eaten_some 123 c.text.new.self found in
-    loop_shorter m.is_raw false (inner_field_at m) (IsField (IsInnerSpec m) m.is_nested) (inner_field_reads m) c.loop-pieces.self c.text.new.self c.inner_field.new.self (field_of text_of c.in_ok-inner_field.field-0) c.text.ensures.rest found (ap (inner_field_at m) (sym here) ∙ c.in_ok-inner_field.ensures.ok)
+    loop_shorter m.is_raw false (inner_field_at m) (IsField (IsInnerSpec m) m.is_nested) (inner_field_reads m) c.loop-pieces.self
+    c.text.new.self c.inner_field.new.self (field_of text_of c.in_ok-inner_field.field-0) c.text.ensures.rest found
+    (ap (inner_field_at m) (sym here) ∙ c.in_ok-inner_field.ensures.ok)
 
 pub loop-pieces-preserved : goal.loop-pieces-preserved
 unfolding spec_pieces_at
@@ -44,10 +52,14 @@ loop-pieces-preserved c =
     let m = c.args.manner in
     let found = sym c.eat.ensures.found ∙ c.if-not-eat.false in
     let here = c.eat.ensures.rest ∙ eaten_some 123 c.text.new.self found in
-    let first = ap (map (part_of text_of)) c.in_ok-push.ensures.items ∙ map-append (part_of text_of) c.loop-pieces.pieces.items (Text c.text.result ∷ []) in
+    let first = ap (map (part_of text_of)) c.in_ok-push.ensures.items ∙ map-append (part_of text_of) c.loop-pieces.pieces.items
+    (Text c.text.result ∷ []) in
     let parts =
     ap (map (part_of text_of)) c.in_ok-push-2.ensures.items
     ∙ map-append (part_of text_of) c.push.new.self.items (FieldPiece c.in_ok-inner_field.field-0 ∷ [])
     ∙ ap (λ (ps : List SpecPart). ps ++ field (field_of text_of c.in_ok-inner_field.field-0) ∷ []) first in
-    loop_goes m.is_raw false (inner_field_at m) (IsField (IsInnerSpec m) m.is_nested) (inner_field_reads m) c.args.self.now c.loop-pieces.self c.text.new.self (chars c.text.result.now) c.inner_field.new.self (field_of text_of c.in_ok-inner_field.field-0) (map (part_of text_of) c.loop-pieces.pieces.items) (map (part_of text_of) c.push-in-loop-pieces.new.self.items)
-    c.loop-pieces.invariant c.text.ensures.rest c.text.ensures.text found (ap (inner_field_at m) (sym here) ∙ c.in_ok-inner_field.ensures.ok) parts
+    loop_goes m.is_raw false (inner_field_at m) (IsField (IsInnerSpec m) m.is_nested) (inner_field_reads m) c.args.self.now
+    c.loop-pieces.self c.text.new.self (chars c.text.result.now) c.inner_field.new.self (field_of text_of c.in_ok-inner_field.field-0)
+    (map (part_of text_of) c.loop-pieces.pieces.items) (map (part_of text_of) c.push-in-loop-pieces.new.self.items)
+    c.loop-pieces.invariant c.text.ensures.rest c.text.ensures.text found (ap (inner_field_at m) (sym here)
+    ∙ c.in_ok-inner_field.ensures.ok) parts

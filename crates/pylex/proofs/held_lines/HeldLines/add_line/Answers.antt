@@ -26,7 +26,15 @@ returns-in-Text-clause-on g c =
     let k = length-append (string_bytes old.text) m.line in
     rw c.in-Text.is (reads_on _ _ _ _ _ _ c.args.at (Ok met.Text) m c.in_ok-line.ensures.within
     (record { spare = c.requires.chunk.spare; at = omega arith })
-    (record { gone = []; whole = sym m.chunk; base = omega arith; looked = inl refl; behind = λ h. absurd (omega arith); left = left_longer c.args.at _ _ m.line c.requires.at m.chunk }))
+    (record {
+      gone = [];
+      whole = sym m.chunk;
+      base = omega arith;
+      looked = inl refl;
+      behind = λ h. absurd (omega arith);
+      left =
+          left_longer c.args.at _ _ m.line c.requires.at m.chunk;
+    }))
 
 pub returns-in-Text-clause-longer : goal.returns-in-Text-clause-longer
 returns-in-Text-clause-longer g c = let m = rw c.in-Text.is at c.in_ok-line.ensures.reads in (m.line, m.tells.0.utf8, m.chunk)
@@ -34,7 +42,8 @@ returns-in-Text-clause-longer g c = let m = rw c.in-Text.is at c.in_ok-line.ensu
 pub returns-in_default-clause-longer : goal.returns-in_default-clause-longer
 returns-in_default-clause-longer g c =
     let m = c.in_ok-line.ensures.reads in
-    let none = no_line c.in_ok-line.line m.line c.next_line.new.self c.in_default.not-Text (adds_of (Ok c.in_ok-line.line) m.line c.next_line.new.self m.tells) in
+    let none = no_line c.in_ok-line.line m.line c.next_line.new.self c.in_default.not-Text
+    (adds_of (Ok c.in_ok-line.line) m.line c.next_line.new.self m.tells) in
     (m.line, rw none IsUtf8-nil, m.chunk)
 
 pub returns-in_default-clause-on : goal.returns-in_default-clause-on
@@ -42,13 +51,15 @@ returns-in_default-clause-on g c =
     let m = c.in_ok-line.ensures.reads in
     let old = c.args.self.now in
     let adds = adds_of (Ok c.in_ok-line.line) m.line c.next_line.new.self m.tells in
-    let text : string_bytes c.next_line.new.chunk ≡ string_bytes old.text = same_text _ _ _ m.chunk (no_line c.in_ok-line.line m.line c.next_line.new.self c.in_default.not-Text adds) in
+    let text : string_bytes c.next_line.new.chunk ≡ string_bytes old.text =
+    same_text _ _ _ m.chunk (no_line c.in_ok-line.line m.line c.next_line.new.self c.in_default.not-Text adds) in
     reads_on _ _ _ _ _ _ c.args.at (Ok c.in_ok-line.line) m c.in_ok-line.ensures.within
     (record { spare = c.requires.chunk.spare; at = rw text c.requires.chunk.at })
     (holding_other _ _ c.args.at m.line c.in_ok-line.line c.in_default.not-Text (record { text = text; base = refl; at = refl }))
 
 pub returns-in-Text-clause-line : goal.returns-in-Text-clause-line
-returns-in-Text-clause-line g c = let m = rw c.in-Text.is at c.in_ok-line.ensures.reads in rw c.in-Text.is (line_more _ _ c.args.self.now _ c.args.at m refl)
+returns-in-Text-clause-line g c = let m = rw c.in-Text.is at c.in_ok-line.ensures.reads in
+    rw c.in-Text.is (line_more _ _ c.args.self.now _ c.args.at m refl)
 
 pub returns-in_default-clause-line : goal.returns-in_default-clause-line
 returns-in_default-clause-line g c = adds_other _ _ c.args.at c.in_ok-line.line c.in_default.not-Text

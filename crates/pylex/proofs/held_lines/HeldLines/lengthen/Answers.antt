@@ -22,8 +22,11 @@ returns-in-Some-clause-holds g c =
     let size : length (string_bytes old.text) ≡ c.len-from.result = omega (arith, c.len-from.ensures) in
     rw c.in-Text.is (λ s.
     let open_by = rw (c.range_from.ensures.value, c.deref.ensures) at c.in-Some.ensures.some in
-    holds_joined old c.add_line.new.self c.args.at r s c.requires.at c.in-Some.literal _ _ c.add_lines.ensures.adds.added c.add_lines.ensures.adds.text
-    (λ start a. c.add_lines.ensures.joins c.args.at start (subst (λ n. LinesBehind c.in-Some.literal c.args.at n start c.add_line.new.self.lines (string_bytes c.add_line.new.self.text)) size (behind_first old c.add_line.new.self c.args.at r s c.requires.at c.in-Some.literal start a open_by))))
+    holds_joined old c.add_line.new.self c.args.at r s c.requires.at c.in-Some.literal _ _ c.add_lines.ensures.adds.added
+    c.add_lines.ensures.adds.text
+    (λ start a. c.add_lines.ensures.joins c.args.at start
+    (subst (λ n. LinesBehind c.in-Some.literal c.args.at n start c.add_line.new.self.lines (string_bytes c.add_line.new.self.text)) size
+    (behind_first old c.add_line.new.self c.args.at r s c.requires.at c.in-Some.literal start a open_by))))
 
 pub returns-in_default-literal-clause-holds : goal.returns-in_default-literal-clause-holds
 returns-in_default-literal-clause-holds g c =

@@ -23,13 +23,23 @@ returns-in-Text-clause-on g c =
     let text : string_bytes c.swap.new.x ≡ m.line = ap string_bytes c.swap.ensures.x_after ∙ line in
     rw c.in-Text.is (reads_on _ _ _ _ _ _ _ (Ok met.Text) m c.in_ok-line.ensures.within
     (record { spare = c.clear.ensures.bytes; at = omega arith })
-    (record { gone = string_bytes old.text; whole = ap (λ t. string_bytes old.text ++ t) (sym text); base = omega (arith, c.len.ensures); looked = inr refl; behind = λ _. drop_all (string_bytes old.text); left = text ∙ ap (λ t. t ++ m.line) (sym (drop_all (string_bytes old.text))) }))
+    (record {
+      gone = string_bytes old.text;
+      whole = ap (λ t. string_bytes old.text ++ t) (sym text);
+      base = omega (arith, c.len.ensures);
+      looked = inr refl;
+      behind = λ _. drop_all (string_bytes old.text);
+      left = text
+          ∙ ap (λ t. t ++ m.line) (sym (drop_all (string_bytes old.text)));
+    }))
 
 pub returns-in_default-clause-on : goal.returns-in_default-clause-on
 returns-in_default-clause-on g c =
     let m = c.in_ok-line.ensures.reads in
     let adds = adds_of (Ok c.in_ok-line.line) m.line c.next_line.new.self m.tells in
-    let spare : string_bytes c.next_line.new.chunk ≡ [] = same_text _ _ _ m.chunk (no_line c.in_ok-line.line m.line c.next_line.new.self c.in_default.not-Text adds) ∙ c.requires.chunk.spare in
+    let spare : string_bytes c.next_line.new.chunk ≡ [] =
+    same_text _ _ _ m.chunk (no_line c.in_ok-line.line m.line c.next_line.new.self c.in_default.not-Text adds)
+    ∙ c.requires.chunk.spare in
     reads_on _ _ _ _ _ _ _ (Ok c.in_ok-line.line) m c.in_ok-line.ensures.within
     (record { spare = spare; at = c.requires.chunk.at })
     (holding_other _ _ _ m.line c.in_ok-line.line c.in_default.not-Text (record { text = refl; base = refl; at = refl }))
@@ -42,4 +52,6 @@ returns-in-Text-clause-holds g c =
     rw c.in-Text.is (λ s. holds_line _ _ _ _ _ _ _ _ m text)
 
 pub returns-in_default-clause-holds : goal.returns-in_default-clause-holds
-returns-in_default-clause-holds g c = holds_other c.args.self.now (record c.args.self.now { lines = c.next_line.new.self; spare = c.next_line.new.chunk }) _ c.in_ok-line.line c.in_default.not-Text
+returns-in_default-clause-holds g c =
+    holds_other c.args.self.now (record c.args.self.now { lines = c.next_line.new.self; spare = c.next_line.new.chunk }) _
+    c.in_ok-line.line c.in_default.not-Text

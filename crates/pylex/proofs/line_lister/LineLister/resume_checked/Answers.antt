@@ -14,8 +14,14 @@ loop-given-preserved g c = record {
 
 pub returns-then-not-shows-clause-misses : goal.returns-then-not-shows-clause-misses
 returns-then-not-shows-clause-misses g c =
-    let end : c.loop-given._given ≡ c.args.cursor.now.given = omega (arith, c.loop-given-test.false, c.loop-given.auto._given-end, c.given-given-end.ensures) in
-    misses_shown _ _ c.loop-given.lister c.args.cursor.now (rw end at c.loop-given.invariant.begins) (λ e. let t = c.shows.ensures.1 e in let n = c.if-not-shows.ensures in let f = rw (n, t) at c.if-not-shows.true in cc)
+    let end : c.loop-given._given ≡ c.args.cursor.now.given = omega (
+      arith,
+      c.loop-given-test.false,
+      c.loop-given.auto._given-end,
+      c.given-given-end.ensures,
+    ) in
+    misses_shown _ _ c.loop-given.lister c.args.cursor.now (rw end at c.loop-given.invariant.begins) (λ e. let t = c.shows.ensures.1 e in
+    let n = c.if-not-shows.ensures in let f = rw (n, t) at c.if-not-shows.true in cc)
 
 pub returns-in_default-step : goal.returns-in_default-step
 returns-in_default-step g c = record {
@@ -27,11 +33,23 @@ returns-in_default-step g c = record {
     less : c.loop-given._given < c.args.cursor.now.given
     less = omega (arith, c.loop-given-test.true, c.given-given-end.ensures)
 
-    by : (is_unread c.in-Ok.step ≡ true) ⊎ (is_unread c.in-Ok.step ≡ false) → ResumeRefusal (g.R.ByteIn.seen c.args.reader.now) (g.R.ByteIn.seen c.next.new.reader) c.args.cursor.now c.ended_before.result
-    by (inr u) = rw (c.ended_before.ensures.other u) (misses_stop _ _ _ _ _ _ c.loop-given.invariant.begins c.in-Ok.step c.in-Ok.ensures.steps c.in_default-step.not-Entry c.args.cursor.now false less u)
-    by (inl u) = rw (c.ended_before.ensures.read u) (inr (inl (refl, misses_stop _ _ _ _ _ _ c.loop-given.invariant.begins c.in-Ok.step c.in-Ok.ensures.steps c.in_default-step.not-Entry c.args.cursor.now true less u)))
+    by : (is_unread c.in-Ok.step ≡ true) ⊎ (is_unread c.in-Ok.step ≡ false) → ResumeRefusal (g.R.ByteIn.seen c.args.reader.now)
+        (g.R.ByteIn.seen c.next.new.reader) c.args.cursor.now c.ended_before.result
+    by (inr u) = rw (c.ended_before.ensures.other u) (misses_stop _ _ _ _ _ _ c.loop-given.invariant.begins c.in-Ok.step
+        c.in-Ok.ensures.steps c.in_default-step.not-Entry c.args.cursor.now false less u)
+    by (inl u) = rw (c.ended_before.ensures.read u)
+        (inr (inl (
+          refl,
+          misses_stop _ _ _ _ _ _ c.loop-given.invariant.begins c.in-Ok.step c.in-Ok.ensures.steps
+              c.in_default-step.not-Entry c.args.cursor.now true less u,
+        )))
 
 pub returns-clause-begins : goal.returns-clause-begins
 returns-clause-begins g c =
-    let end : c.loop-given._given ≡ c.args.cursor.now.given = omega (arith, c.loop-given-test.false, c.loop-given.auto._given-end, c.given-given-end.ensures) in
+    let end : c.loop-given._given ≡ c.args.cursor.now.given = omega (
+      arith,
+      c.loop-given-test.false,
+      c.loop-given.auto._given-end,
+      c.given-given-end.ensures,
+    ) in
     rw end at c.loop-given.invariant.begins

@@ -19,4 +19,5 @@ returns-clause-passed c =
     })
 
 pub returns-clause-entry : goal.returns-clause-entry
-returns-clause-entry c levels = line_end_given c.args.self.now c.args.text.now levels _ c.entry_of.result (c.line_end_kind-kind.ensures levels) c.requires.told.2 c.requires.counted c.entry_of.ensures
+returns-clause-entry c levels = line_end_given c.args.self.now c.args.text.now levels _ c.entry_of.result
+    (c.line_end_kind-kind.ensures levels) c.requires.told.2 c.requires.counted c.entry_of.ensures

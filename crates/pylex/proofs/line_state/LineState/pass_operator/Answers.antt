@@ -20,4 +20,6 @@ returns-clause-passed c =
     })
 
 pub returns-clause-entry : goal.returns-clause-entry
-returns-clause-entry c levels = operator_given c.args.self.now c.args.operator (chars c.args.text.now) levels _ c.entry_of.result (sym c.is_unmatched.ensures ∙ c.if-is_unmatched.false) (place_offset _ _ _ _ (sym (c.requires.told.0 c.args.self.now.now.place)) c.requires.counted) c.entry_of.ensures
+returns-clause-entry c levels = operator_given c.args.self.now c.args.operator (chars c.args.text.now) levels _ c.entry_of.result
+    (sym c.is_unmatched.ensures ∙ c.if-is_unmatched.false) (place_offset _ _ _ _ (sym (c.requires.told.0 c.args.self.now.now.place))
+    c.requires.counted) c.entry_of.ensures

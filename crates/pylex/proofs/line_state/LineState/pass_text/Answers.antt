@@ -21,4 +21,5 @@ returns-clause-passed c =
     })
 
 pub returns-clause-entry : goal.returns-clause-entry
-returns-clause-entry c levels = text_given c.args.self.now c.args.class (chars c.args.text.now) levels _ _ c.entry_of.result c.requires.class c.text_kind.ensures (place_offset _ _ _ _ c.walk-lead.ensures.place c.requires.counted) c.entry_of.ensures
+returns-clause-entry c levels = text_given c.args.self.now c.args.class (chars c.args.text.now) levels _ _ c.entry_of.result
+    c.requires.class c.text_kind.ensures (place_offset _ _ _ _ c.walk-lead.ensures.place c.requires.counted) c.entry_of.ensures

@@ -15,12 +15,15 @@ use Rattle.pylex.proofs.lister.Lister.new.Goals as goal
 pub invariant_of-result : goal.invariant_of-result
 invariant_of-result c =
     let p = c.start.result in
-    rw (c.text.ensures.value, c.start.ensures.given, c.start.ensures.nested, c.start.ensures.tail) (keeps_first c.args.source.now p.now p.point p.levels.items (rw c.text.ensures.value at c.text.utf8) (rw c.text.ensures.value at c.text.ensures.within) c.start.ensures.levels c.start.ensures.now c.start.ensures.point)
+    rw (c.text.ensures.value, c.start.ensures.given, c.start.ensures.nested, c.start.ensures.tail)
+    (keeps_first c.args.source.now p.now p.point p.levels.items (rw c.text.ensures.value at c.text.utf8)
+    (rw c.text.ensures.value at c.text.ensures.within) c.start.ensures.levels c.start.ensures.now c.start.ensures.point)
 
 pub returns-clause-stands : goal.returns-clause-stands
 returns-clause-stands c =
     let p = c.start.result in
-    rw (c.start.ensures.given, c.start.ensures.nested, c.start.ensures.tail) (shown_first c.args.source.now p.now p.point p.levels.items c.start.ensures.levels c.start.ensures.now c.start.ensures.point)
+    rw (c.start.ensures.given, c.start.ensures.nested, c.start.ensures.tail) (shown_first c.args.source.now p.now p.point p.levels.items
+    c.start.ensures.levels c.start.ensures.now c.start.ensures.point)
 
 pub returns-clause-lawful : goal.returns-clause-lawful
 returns-clause-lawful c =

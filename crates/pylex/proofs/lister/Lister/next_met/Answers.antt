@@ -36,7 +36,8 @@ left_same steps.End from to h = refl
 left_same (steps.Fault f) from to h = refl
 
 -- the fault of the source makes the same end
-alike : (f g : Option LineFault) (now : LineState) (cs : List ℕ) (m : Peeked) → g ≡ f → m ≡ peeked.Stop → (levels : List ℕ) → remaining (option_map of_line f) (with_levels now levels) cs ≡ remaining (option_map of_line g) (with_levels now levels) cs
+alike : (f g : Option LineFault) (now : LineState) (cs : List ℕ) (m : Peeked) → g ≡ f → m ≡ peeked.Stop → (levels : List ℕ)
+    → remaining (option_map of_line f) (with_levels now levels) cs ≡ remaining (option_map of_line g) (with_levels now levels) cs
 alike f g now cs m e stop levels = ap (λ h. remaining (option_map of_line h) (with_levels now levels) cs) (sym e)
 
 -- a step is one of the lister that is seen
@@ -53,27 +54,39 @@ returns-in_err-step-clause-indent c =
     let indent = c.in_err-step.ensures.indent in
     let none : p.tail ≡ 0 = not_stopped p.tail c.peek-peeked.result.0 c.peek-peeked.ensures.stop indent in
     let found = rw indent at c.peek-peeked.ensures.finds in
-    let awaits : AwaitsIndent c.args.self.now = rw (← c.self.view_is) (awaits_indent (record { source = c.self.inside.source.now; shown = shown_from p }) p.now c.self.inside.left.now p.levels.items p.nested p.tail c.self.invariant refl some none c.peek-peeked.result.1 (chars c.peek-peeked.result.2.now) found.0 found.1) in
+    let awaits : AwaitsIndent c.args.self.now =
+    rw (← c.self.view_is) (awaits_indent (record { source = c.self.inside.source.now; shown = shown_from p }) p.now
+    c.self.inside.left.now p.levels.items p.nested p.tail c.self.invariant refl some none c.peek-peeked.result.1
+    (chars c.peek-peeked.result.2.now) found.0 found.1) in
     on_err c.from_residual.result (AwaitsIndent c.args.self.now) awaits
 
 pub invariant_of-self-in-Entry : goal.invariant_of-self-in-Entry
 invariant_of-self-in-Entry c =
-    let g = c.in_ok-step.ensures.went.goes c.self.inside.source.now c.self.inside.left.now c.peek-peeked.result.2.now c.self.invariant c.peek-peeked.ensures.finds c.peek-peeked.ensures.stands (alike c.self.inside.source.now.fault c.line_fault-fault.result c.peek-peeked.result.1 (chars c.peek-peeked.result.2.now) c.peek-peeked.result.0 c.line_fault-fault.ensures) in
+    let g = c.in_ok-step.ensures.went.goes c.self.inside.source.now c.self.inside.left.now c.peek-peeked.result.2.now c.self.invariant
+    c.peek-peeked.ensures.finds c.peek-peeked.ensures.stands (alike c.self.inside.source.now.fault c.line_fault-fault.result
+    c.peek-peeked.result.1 (chars c.peek-peeked.result.2.now) c.peek-peeked.result.0 c.line_fault-fault.ensures) in
     rw c.in-Entry.is at g.1
 
 pub invariant_of-self-in_default : goal.invariant_of-self-in_default
 invariant_of-self-in_default c =
-    let g = c.in_ok-step.ensures.went.goes c.self.inside.source.now c.self.inside.left.now c.peek-peeked.result.2.now c.self.invariant c.peek-peeked.ensures.finds c.peek-peeked.ensures.stands (alike c.self.inside.source.now.fault c.line_fault-fault.result c.peek-peeked.result.1 (chars c.peek-peeked.result.2.now) c.peek-peeked.result.0 c.line_fault-fault.ensures) in
-    subst (Holds c.self.inside.source.now c.advance.new.self) (left_same c.in_ok-step.step c.self.inside.left.now c.peek-peeked.result.2.now c.in_default.not-Entry) g.1
+    let g = c.in_ok-step.ensures.went.goes c.self.inside.source.now c.self.inside.left.now c.peek-peeked.result.2.now c.self.invariant
+    c.peek-peeked.ensures.finds c.peek-peeked.ensures.stands (alike c.self.inside.source.now.fault c.line_fault-fault.result
+    c.peek-peeked.result.1 (chars c.peek-peeked.result.2.now) c.peek-peeked.result.0 c.line_fault-fault.ensures) in
+    subst (Holds c.self.inside.source.now c.advance.new.self) (left_same c.in_ok-step.step c.self.inside.left.now c.peek-peeked.result.2.now
+    c.in_default.not-Entry) g.1
 
 pub returns-in-Entry-clause-steps : goal.returns-in-Entry-clause-steps
 returns-in-Entry-clause-steps c =
-    let g = c.in_ok-step.ensures.went.goes c.self.inside.source.now c.self.inside.left.now c.peek-peeked.result.2.now c.self.invariant c.peek-peeked.ensures.finds c.peek-peeked.ensures.stands (alike c.self.inside.source.now.fault c.line_fault-fault.result c.peek-peeked.result.1 (chars c.peek-peeked.result.2.now) c.peek-peeked.result.0 c.line_fault-fault.ensures) in
+    let g = c.in_ok-step.ensures.went.goes c.self.inside.source.now c.self.inside.left.now c.peek-peeked.result.2.now c.self.invariant
+    c.peek-peeked.ensures.finds c.peek-peeked.ensures.stands (alike c.self.inside.source.now.fault c.line_fault-fault.result
+    c.peek-peeked.result.1 (chars c.peek-peeked.result.2.now) c.peek-peeked.result.0 c.line_fault-fault.ensures) in
     seen _ _ _ _ c.self.view_is g.0
 
 pub returns-in-Entry-clause-given : goal.returns-in-Entry-clause-given
 returns-in-Entry-clause-given c =
-    let g = c.in_ok-step.ensures.went.goes c.self.inside.source.now c.self.inside.left.now c.peek-peeked.result.2.now c.self.invariant c.peek-peeked.ensures.finds c.peek-peeked.ensures.stands (alike c.self.inside.source.now.fault c.line_fault-fault.result c.peek-peeked.result.1 (chars c.peek-peeked.result.2.now) c.peek-peeked.result.0 c.line_fault-fault.ensures) in
+    let g = c.in_ok-step.ensures.went.goes c.self.inside.source.now c.self.inside.left.now c.peek-peeked.result.2.now c.self.invariant
+    c.peek-peeked.ensures.finds c.peek-peeked.ensures.stands (alike c.self.inside.source.now.fault c.line_fault-fault.result
+    c.peek-peeked.result.1 (chars c.peek-peeked.result.2.now) c.peek-peeked.result.0 c.line_fault-fault.ensures) in
     (has_place c.self.inside.source.now c.advance.new.self _ g.1).given
 
 pub returns-in_err-step-clause-given : goal.returns-in_err-step-clause-given
@@ -84,5 +97,14 @@ returns-in_err-step-clause-given c =
 
 pub returns-in_default : goal.returns-in_default
 returns-in_default c =
-    let g = c.in_ok-step.ensures.went.goes c.self.inside.source.now c.self.inside.left.now c.peek-peeked.result.2.now c.self.invariant c.peek-peeked.ensures.finds c.peek-peeked.ensures.stands (alike c.self.inside.source.now.fault c.line_fault-fault.result c.peek-peeked.result.1 (chars c.peek-peeked.result.2.now) c.peek-peeked.result.0 c.line_fault-fault.ensures) in
-    record { steps = seen _ _ _ _ c.self.view_is g.0; source = ap (λ (l : Listed). l.source) c.self.view_is; same = tt; indent = tt; given = (has_place c.self.inside.source.now c.advance.new.self _ g.1).given }
+    let g = c.in_ok-step.ensures.went.goes c.self.inside.source.now c.self.inside.left.now c.peek-peeked.result.2.now c.self.invariant
+    c.peek-peeked.ensures.finds c.peek-peeked.ensures.stands (alike c.self.inside.source.now.fault c.line_fault-fault.result
+    c.peek-peeked.result.1 (chars c.peek-peeked.result.2.now) c.peek-peeked.result.0 c.line_fault-fault.ensures) in
+    record {
+      steps = seen _ _ _ _ c.self.view_is g.0;
+      source = ap (λ (l : Listed). l.source) c.self.view_is;
+      same = tt;
+      indent = tt;
+      given =
+          (has_place c.self.inside.source.now c.advance.new.self _ g.1).given;
+    }

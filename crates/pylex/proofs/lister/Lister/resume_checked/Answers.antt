@@ -15,7 +15,8 @@ returns-in_default-step c =
       lister = tt;
       own = tt;
       leads = tt;
-      another = λ _ is. let w = (is_behind is).within in let due = entry_due a c.loop-given._given c.in-Ok.step (omega arith) moved.0 in c.in_default-step.not-Entry due.0 due.1;
+      another = λ _ is. let w = (is_behind is).within in let due = entry_due a c.loop-given._given c.in-Ok.step (omega arith) moved.0 in
+          c.in_default-step.not-Entry due.0 due.1;
       fault = λ e. absurd cc;
     }
 
@@ -33,8 +34,14 @@ pub returns-then-not-shows-clause-another : goal.returns-then-not-shows-clause-a
 returns-then-not-shows-clause-another c = λ _ own.
     let a = in_characters c.args.source.now in
     let stands = c.loop-given.invariant.stands in
-    let end : c.loop-given._given ≡ c.args.cursor.now.given = omega (arith, c.loop-given-test.false, c.loop-given.auto._given-end, c.given-given-end.ensures) in
-    let same : c.args.cursor.now ≡ c.loop-given.lister.shown = (is_behind own).is ∙ ap (cursor a) (sym end ∙ sym stands.count) ∙ sym (is_behind stands.cursor).is in
+    let end : c.loop-given._given ≡ c.args.cursor.now.given = omega (
+      arith,
+      c.loop-given-test.false,
+      c.loop-given.auto._given-end,
+      c.given-given-end.ensures,
+    ) in
+    let same : c.args.cursor.now ≡ c.loop-given.lister.shown = (is_behind own).is ∙ ap (cursor a) (sym end ∙ sym stands.count)
+    ∙ sym (is_behind stands.cursor).is in
     let t = c.shows.ensures.1 same in
     let n = c.if-not-shows.ensures in
     let f = rw (n, t) at c.if-not-shows.true in

@@ -24,7 +24,8 @@ returns-clause-some c =
       went = λ fault. record {
         goes = λ source from to keeps found stands alike.
             let l : Listed = record { source = source; shown = shown_from p } in
-            let g = goes_entry l p.now from ls p.nested p.tail keeps refl c.requires.some none c.in_ok-entry.entry q c.begin_anew.new.self to ls c.stand.new.self found stands anew.begun anew.room c.stand.ensures (sym all) in
+            let g = goes_entry l p.now from ls p.nested p.tail keeps refl c.requires.some none c.in_ok-entry.entry q c.begin_anew.new.self
+            to ls c.stand.new.self found stands anew.begun anew.room c.stand.ensures (sym all) in
             (leads_moves l _ _ g.leads, g.keeps);
         measuring = λ cs ds found m. measuring_anew q c.begin_anew.new.self anew.begun;
         ranges = λ source from to before rest keeps found e b w low m.

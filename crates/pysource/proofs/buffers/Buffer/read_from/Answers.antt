@@ -19,13 +19,15 @@ returns-in-Ok g c =
     let bound : to + k ≤ length xs = omega (arith, inside, c.min.ensures, c.len.ensures, room) in
     let size : length buf ≡ k = (omega arith) in
     let wrote = with_items_is c.make_room.new.room ws (put_size xs buf to k bound size ∙ room) in
-    let stood : take (to - from) (drop from xs) ≡ c.args.self.now = ap (λ (x : List ℕ). take (to - from) (drop from x)) c.deref_mut.ensures.value ∙ c.in_ok-from.ensures.same ∙ c.self.view_is in
+    let stood : take (to - from) (drop from xs) ≡ c.args.self.now = ap (λ (x : List ℕ). take (to - from) (drop from x))
+    c.deref_mut.ensures.value ∙ c.in_ok-from.ensures.same ∙ c.self.view_is in
     let few : n ≤ length buf = c.in-Ok.ensures.bound.0 in
     record {
       taken = take n buf;
       consumes = c.in-Ok.ensures.bytes.0;
       bytes = ap (λ (x : List ℕ). take (to + n - from) (drop from x)) wrote
-          ∙ read_view xs buf post from to n c.in_ok-from.ensures.order (omega (arith, inside)) few ∙ ap (λ (x : List ℕ). x ++ take n buf) stood;
+          ∙ read_view xs buf post from to n c.in_ok-from.ensures.order (omega (arith, inside)) few
+          ∙ ap (λ (x : List ℕ). x ++ take n buf) stood;
       size = length-take-le n buf few;
       short = omega (arith, few, size, c.min.ensures);
       ended = λ none. c.in-Ok.ensures.bytes.1 none (omega (arith, size, c.min.ensures, c.len.ensures, room, inside));
@@ -47,10 +49,13 @@ returns-in-Err g c =
     let bound : to + k ≤ length xs = omega (arith, inside, c.min.ensures, c.len.ensures, room) in
     let size : length buf ≡ k = (omega arith) in
     let wrote = with_items_is c.make_room.new.room ws (put_size xs buf to k bound size ∙ room) in
-    let stood : take (to - from) (drop from xs) ≡ c.args.self.now = ap (λ (x : List ℕ). take (to - from) (drop from x)) c.deref_mut.ensures.value ∙ c.in_ok-from.ensures.same ∙ c.self.view_is in
+    let stood : take (to - from) (drop from xs) ≡ c.args.self.now = ap (λ (x : List ℕ). take (to - from) (drop from x))
+    c.deref_mut.ensures.value ∙ c.in_ok-from.ensures.same ∙ c.self.view_is in
     record {
       consumes = Keeps-Consumes _ _ c.in-Err.ensures.bytes;
-      bytes = ap (λ (x : List ℕ). take (to - from) (drop from x)) wrote ∙ read_view_none xs buf post from to c.in_ok-from.ensures.order (omega (arith, inside)) ∙ stood;
+      bytes = ap (λ (x : List ℕ). take (to - from) (drop from x)) wrote ∙ read_view_none xs buf post from to c.in_ok-from.ensures.order
+          (omega (arith, inside)) ∙ stood;
       told = c.in-Err.ensures.failed;
-      steady = Steady-failed (g.R.ByteIn.seen c.args.reader.now) (g.R.ByteIn.seen c.read.new.self) c.in-Err.ensures.same c.in-Err.ensures.able;
+      steady = Steady-failed (g.R.ByteIn.seen c.args.reader.now) (g.R.ByteIn.seen c.read.new.self)
+          c.in-Err.ensures.same c.in-Err.ensures.able;
     }

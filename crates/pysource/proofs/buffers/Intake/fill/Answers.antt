@@ -11,16 +11,19 @@ returns-then-left-eq0-clause-grows g c = record {
   takes = elim c.match-read.branch [
     | in-Ok-eq0 w ↦
         let e = rw w.in-Ok-eq0.field-0-test at w.in-Ok-eq0.ensures in
-        rw (c.requires.reading, w.self-is) (ReadsBytes-end _ _ _ e.bytes.0 (e.bytes.1 refl (omega (arith, c.read.auto.buf))) (omega (arith, e.failed)) (e.same, λ _. omega (arith, e.failed)))
+        rw (c.requires.reading, w.self-is) (ReadsBytes-end _ _ _ e.bytes.0 (e.bytes.1 refl (omega (arith, c.read.auto.buf)))
+        (omega (arith, e.failed)) (e.same, λ _. omega (arith, e.failed)))
     | in-Ok w ↦
         let e = w.in-Ok.ensures in
         let size = length-take-le w.in-Ok.field-0 c.read.new.buf e.bound.0 in
         let some : 0 < w.in-Ok.field-0 = omega (arith, w.in-Ok.field-0-test.1) in
         rw (c.requires.reading, w.self-is)
-        (ReadsBytes-passed _ _ _ (take w.in-Ok.field-0 c.read.new.buf) e.bytes.0 (omega (arith, size, some)) (omega (arith, c.requires.within)) (omega (arith, e.failed)) (e.same, λ _. omega (arith, e.failed)))
+        (ReadsBytes-passed _ _ _ (take w.in-Ok.field-0 c.read.new.buf) e.bytes.0 (omega (arith, size, some))
+        (omega (arith, c.requires.within)) (omega (arith, e.failed)) (e.same, λ _. omega (arith, e.failed)))
     | in-Err w ↦
         let e = w.in-Err.ensures in
-        rw (c.requires.reading, w.self-is) (ReadsBytes-failed _ _ _ (Keeps-Consumes _ _ e.bytes) e.failed (Steady-failed (g.R.ByteIn.seen c.args.reader.now) (g.R.ByteIn.seen c.read.new.self) e.same e.able))
+        rw (c.requires.reading, w.self-is) (ReadsBytes-failed _ _ _ (Keeps-Consumes _ _ e.bytes) e.failed
+        (Steady-failed (g.R.ByteIn.seen c.args.reader.now) (g.R.ByteIn.seen c.read.new.self) e.same e.able))
   ];
   bytes = sym (append-nil c.args.self.now.buffer);
 }

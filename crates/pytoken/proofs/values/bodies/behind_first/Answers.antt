@@ -6,7 +6,8 @@ use Rattle.pytoken.proofs.values.bodies.behind_first.Goals as goal
 pub returns-in-Some : goal.returns-in-Some
 returns-in-Some c =
     let cut : c.args.text.now ≡ encode_utf8 c.in-Some._first ++ c.as_str.result.now =
-    sym c.chars-left.ensures.rest ∙ c.in-Some.ensures.steps.0 ∙ ap (λ (t : List ℕ). encode_utf8 c.in-Some._first ++ t) (sym c.as_str.ensures) in
+    sym c.chars-left.ensures.rest ∙ c.in-Some.ensures.steps.0 ∙ ap (λ (t : List ℕ). encode_utf8 c.in-Some._first ++ t)
+    (sym c.as_str.ensures) in
     sym (ap (drop 1) (past c.args.text.now c.as_str.result.now c.in-Some._first c.utf8.text cut).same)
 
 pub returns-in-None : goal.returns-in-None

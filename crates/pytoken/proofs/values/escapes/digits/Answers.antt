@@ -33,5 +33,6 @@ pub returns-after-loop-count : goal.returns-after-loop-count
 returns-after-loop-count c =
     let far = c.loop-count.invariant in
     let end = far_end c.args.radix c.args.most c.loop-count.count c.loop-count.value c.loop-count.text c.args.text.now far
-    (none_wanted c.args.radix c.args.most c.loop-count.count c.loop-count.value c.loop-count.text c.args.text.now far c.loop-count-test.false) in
+    (none_wanted c.args.radix c.args.most c.loop-count.count c.loop-count.value c.loop-count.text c.args.text.now far
+    c.loop-count-test.false) in
     record { count = end.0; value = end.1; behind = end.2 }

@@ -39,7 +39,8 @@ returns-in-Some-point_of c =
     let first = sym c.first.ensures ∙ c.in-Some.is in
     let other = no_octal c.in-Some.first c.args.text.now first c.if-first-eq10.false
     (ap (λ (o : Option ℕ). is_some o) (sym c.digit.ensures) ∙ sym c.if-is_some.ensures) in
-    takes_by _ _ _ _ _ (by_letter c.args.bytes c.in-Some.first c.hexadecimal_len-wanted.result c.in-Some-point_of.point c.args.text.now other
+    takes_by _ _ _ _ _ (by_letter c.args.bytes c.in-Some.first c.hexadecimal_len-wanted.result
+    c.in-Some-point_of.point c.args.text.now other
     c.hexadecimal_len-wanted.ensures.len c.if-wanted-gt0.false (sym c.if-names_character.ensures)
     (sym c.point_of.ensures ∙ c.in-Some-point_of.is)) c.letter-in-Some-point_of.ensures
 

@@ -9,7 +9,8 @@ use Rattle.pytoken.proofs.values.faults.single_fault.Goals as goal
 
 pub returns-in-Name : goal.returns-in-Name
 returns-in-Name c =
-    subst (λ (f : Option TokenError). IfOk c.name_fault.result (λ fault. fault ≡ f)) (of_name c.args.extent c.args.kind (chars c.args.text.now) c.in-Name.is)
+    subst (λ (f : Option TokenError). IfOk c.name_fault.result (λ fault. fault ≡ f))
+    (of_name c.args.extent c.args.kind (chars c.args.text.now) c.in-Name.is)
     c.name_fault.ensures
 
 pub returns-in-Number : goal.returns-in-Number
@@ -27,4 +28,5 @@ returns-in-Comment c = c.comment_fault.ensures ∙ of_comment c.args.extent c.ar
 
 pub returns-in_default : goal.returns-in_default
 returns-in_default c =
-    of_other c.args.extent c.args.kind (chars c.args.text.now) c.in_default.not-Name c.in_default.not-Number c.in_default.not-String c.in_default.not-Comment
+    of_other c.args.extent c.args.kind (chars c.args.text.now) c.in_default.not-Name c.in_default.not-Number c.in_default.not-String
+    c.in_default.not-Comment

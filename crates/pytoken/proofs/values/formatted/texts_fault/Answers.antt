@@ -8,8 +8,10 @@ pub elements-preserved : goal.elements-preserved
 elements-preserved c =
     let xs = c.args.elements.now in
     faults_one element_meanings element_of xs c.elements.element-index _ c.elements.fault _ _ _ c.elements-test.true
-    (read_again xs c.elements.element-index _ c.elements-test.true) c.in_ok-element_fault.ensures c.first_fault-fault.ensures c.elements.invariant
+    (read_again xs c.elements.element-index _ c.elements-test.true) c.in_ok-element_fault.ensures
+    c.first_fault-fault.ensures c.elements.invariant
 
 pub returns : goal.returns
 returns c =
-    faults_end element_meanings element_of c.args.elements.now c.elements.element-index c.elements.fault _ c.elements-test.false c.elements.invariant
+    faults_end element_meanings element_of c.args.elements.now c.elements.element-index c.elements.fault _
+    c.elements-test.false c.elements.invariant

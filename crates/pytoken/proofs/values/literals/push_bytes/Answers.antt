@@ -15,7 +15,8 @@ pub loop-meaning-preserved : goal.loop-meaning-preserved
 loop-meaning-preserved c = λ small.
     let had = c.loop-meaning.invariant small in
     let first = sym c.next_meaning.ensures.meaning ∙ c.in-Some.is in
-    let parts = parts_on is_byte c.args.raw true c.loop-meaning.left c.next_meaning.new.text c.in-Some.meaning first c.next_meaning.ensures.behind
+    let parts = parts_on is_byte c.args.raw true c.loop-meaning.left c.next_meaning.new.text c.in-Some.meaning first
+    c.next_meaning.ensures.behind
     had.1 in
     let cut : Cut c.args.raw c.next_meaning.new.text c.bump_plain.result.now c.bump_plain.new.self =
     record { whole = c.bump_plain.ensures.whole; plain = c.bump_plain.ensures.plain } in (

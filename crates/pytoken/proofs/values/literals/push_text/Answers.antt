@@ -24,14 +24,16 @@ loop-meaning-smaller c =
 pub loop-meaning-preserved : goal.loop-meaning-preserved
 loop-meaning-preserved c =
     let first = sym c.next_meaning.ensures.meaning ∙ c.in-Some.is in
-    let parts = parts_on is_point c.args.raw false c.loop-meaning.left c.next_meaning.new.text c.in-Some.meaning first c.next_meaning.ensures.behind
+    let parts = parts_on is_point c.args.raw false c.loop-meaning.left c.next_meaning.new.text c.in-Some.meaning first
+    c.next_meaning.ensures.behind
     c.loop-meaning.invariant.points in
     let cut : Cut c.args.raw c.next_meaning.new.text c.bump_plain.result.now c.bump_plain.new.self =
     record { whole = c.bump_plain.ensures.whole; plain = c.bump_plain.ensures.plain } in
     record {
       whole = cut_on c.args.raw false c.next_meaning.new.text c.bump_plain.result.now c.bump_plain.new.self c.push_point.new.points
           c.push_bytes.new.self _ cut c.in_ok-push_bytes.ensures
-          (points_on c.args.raw false c.loop-meaning.left c.next_meaning.new.text c.in-Some.meaning c.loop-meaning.points c.push_point.new.points _
+          (points_on c.args.raw false c.loop-meaning.left c.next_meaning.new.text c.in-Some.meaning c.loop-meaning.points
+          c.push_point.new.points _
           first c.next_meaning.ensures.behind c.in_ok-push_point.ensures c.loop-meaning.invariant.whole);
       points = cut_parts is_point c.args.raw false c.next_meaning.new.text c.bump_plain.result.now c.bump_plain.new.self cut parts.1;
     }

@@ -26,5 +26,7 @@ text_in-requires-2 c = body_points c.args.text.now c.new-literal.result c.body-2
 
 pub returns : goal.returns
 returns c = λ sound.
-    text_value (chars c.args.text.now) c.new-literal.result c.body-2.result c.in_ok-points-2.points c.is_marked-raw.result c.is_marked-unicode.result
-    c.new-literal.ensures c.is_marked-raw.ensures c.if-is_marked.ensures c.body-2.ensures c.is_marked-unicode.ensures c.in_ok-points-2.ensures
+    text_value (chars c.args.text.now) c.new-literal.result c.body-2.result c.in_ok-points-2.points c.is_marked-raw.result
+    c.is_marked-unicode.result
+    c.new-literal.ensures c.is_marked-raw.ensures c.if-is_marked.ensures c.body-2.ensures c.is_marked-unicode.ensures
+    c.in_ok-points-2.ensures

@@ -20,9 +20,11 @@ returns-in_err-push_nested_elements-clause-refused c =
     let made = c.in_ok-elements in
     let read = c.deref in
     let r = c.from_residual-in_err-push_nested_elements in
-    told_around (elements_fault is_nested_faulty t (elements_of true t)) (list_any (is_field_of is_nested_faulty) (map element_of read.result.now))
+    told_around (elements_fault is_nested_faulty t (elements_of true t))
+    (list_any (is_field_of is_nested_faulty) (map element_of read.result.now))
     r.result c.in_err-push_nested_elements.field-0.0 r.ensures.1
-    (fault_in_field is_nested_faulty element_of t (elements_of true t) made.elements.items read.result.now made.ensures.cut read.ensures.value)
+    (fault_in_field is_nested_faulty element_of t (elements_of true t) made.elements.items read.result.now
+    made.ensures.cut read.ensures.value)
     c.in_err-push_nested_elements.ensures.refused
 
 pub returns-in-Some-clause-refused : goal.returns-in-Some-clause-refused
@@ -31,7 +33,8 @@ returns-in-Some-clause-refused c =
     let made = c.in_ok-elements in
     let read = c.deref in
     let again = c.deref-2 in
-    fault_found is_nested_faulty element_of t (elements_of true t) made.elements.items read.result.now again.result.now c.in_ok-error.field-0
+    fault_found is_nested_faulty element_of t (elements_of true t) made.elements.items read.result.now
+    again.result.now c.in_ok-error.field-0
     made.ensures.cut read.ensures.value again.ensures.value c.in_ok-push_nested_elements.ensures.sound c.in_ok-error.ensures ∙ c.in-Some.is
 
 pub returns-clause-sound : goal.returns-clause-sound
@@ -40,5 +43,6 @@ returns-clause-sound c =
     let made = c.in_ok-elements in
     let read = c.deref in
     let again = c.deref-2 in
-    fault_found is_nested_faulty element_of t (elements_of true t) made.elements.items read.result.now again.result.now c.in_ok-error.field-0
+    fault_found is_nested_faulty element_of t (elements_of true t) made.elements.items read.result.now
+    again.result.now c.in_ok-error.field-0
     made.ensures.cut read.ensures.value again.ensures.value c.in_ok-push_nested_elements.ensures.sound c.in_ok-error.ensures ∙ c.in-None.is

@@ -20,7 +20,8 @@ elements-preserved c =
 
 pub returns-clause-terminals : goal.returns-clause-terminals
 returns-clause-terminals c =
-    leaves_none terminal (element_terminals nested_expression) element_of _ c.elements.out.items c.args.elements.now c.elements.element-index
+    leaves_none terminal (element_terminals nested_expression) element_of _ c.elements.out.items c.args.elements.now
+    c.elements.element-index
     c.elements-test.false c.elements.invariant.terminals
 
 pub returns-clause-sound : goal.returns-clause-sound

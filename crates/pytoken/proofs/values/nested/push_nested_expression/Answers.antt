@@ -47,8 +47,10 @@ tokens-preserved c =
     let pushed = c.in_ok-push_single-in-Ok-Some.ensures in (
       i.0 + 1,
       step.1,
-      reads_on terminals_in (single_fault Whole) (map terminal c.args.out.now.items) now next text i.0 (field_token c.in-Ok-Some.class t) step.0
-          (subst (λ (k : Kind). is_some (single_fault Whole k t) ≡ false) c.kind_of.ensures (ap (λ (f : Option TokenError). is_some f) pushed.sound))
+      reads_on terminals_in (single_fault Whole) (map terminal c.args.out.now.items) now next text i.0
+          (field_token c.in-Ok-Some.class t) step.0
+          (subst (λ (k : Kind). is_some (single_fault Whole k t) ≡ false) c.kind_of.ensures
+          (ap (λ (f : Option TokenError). is_some f) pushed.sound))
           (subst (λ (k : Kind). next ≡ now ++ (terminal_of k t ∷ [])) c.kind_of.ensures pushed.terminals) i.2,
     )
 
@@ -73,8 +75,10 @@ returns-in-Ok-None-clause-terminals c =
     let now = map terminal c.tokens.out.items in
     let last = map terminal c.push-in-Ok-None.new.out.items in
     let ends = rw c.in-Ok-None.field-0-is at c.in-Ok-None.ensures.ends in
-    reads_last terminals_in (single_fault Whole) (map terminal c.args.out.now.items) now last text i.0 c.push-in-Ok-None.result (ends text i.0 i.1)
-    (subst (λ (ts : List Terminal). OnOk c.push-in-Ok-None.result (last ≡ now ++ ts)) (sym closing_is) c.push-in-Ok-None.ensures.terminals) i.2
+    reads_last terminals_in (single_fault Whole) (map terminal c.args.out.now.items) now last text i.0
+    c.push-in-Ok-None.result (ends text i.0 i.1)
+    (subst (λ (ts : List Terminal). OnOk c.push-in-Ok-None.result (last ≡ now ++ ts)) (sym closing_is) c.push-in-Ok-None.ensures.terminals)
+    i.2
 
 pub returns-in-Ok-None-clause-sound : goal.returns-in-Ok-None-clause-sound
 returns-in-Ok-None-clause-sound c =
@@ -82,7 +86,8 @@ returns-in-Ok-None-clause-sound c =
     let i = c.tokens.invariant in
     let ends = rw c.in-Ok-None.field-0-is at c.in-Ok-None.ensures.ends in
     on_ok c.push-in-Ok-None.result
-    (reads_sound terminals_in (single_fault Whole) (map terminal c.args.out.now.items) (map terminal c.tokens.out.items) text i.0 (ends text i.0 i.1)
+    (reads_sound terminals_in (single_fault Whole) (map terminal c.args.out.now.items) (map terminal c.tokens.out.items)
+    text i.0 (ends text i.0 i.1)
     (single_operator (right_parenthesis ∷ [])) i.2)
 
 pub returns-in-Err-clause-refused : goal.returns-in-Err-clause-refused

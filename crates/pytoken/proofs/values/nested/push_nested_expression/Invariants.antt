@@ -10,7 +10,8 @@ use Rattle.pytoken.proofs.values.nested.push_nested_expression.Given as goal
 abbrev pub invariant-tokens : goal.invariant-tokens
 invariant-tokens l =
     (n : ℕ) × StandsIn l.tokens (chars l.fn.text) n
-    × Reads (λ x. terminal_of x.kind x.text ∷ []) (single_fault Whole) (map terminal l.fn.out.items) (map terminal l.out.items) (chars l.fn.text) n
+    × Reads (λ x. terminal_of x.kind x.text ∷ []) (single_fault Whole) (map terminal l.fn.out.items)
+    (map terminal l.out.items) (chars l.fn.text) n
 
 abbrev pub decreases-tokens : goal.decreases-tokens
 decreases-tokens l = bytes_left l.tokens

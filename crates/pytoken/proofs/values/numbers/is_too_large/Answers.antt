@@ -3,7 +3,8 @@ use Rattle.pytoken.proofs.values.numbers.is_too_large.Goals as goal
 
 pub returns-then-is_some : goal.returns-then-is_some
 returns-then-is_some c =
-    within c.args.extent c.args.text.now c.digits-digits.result.now c.radix_of-radix.result c.radix_of-radix.ensures.value c.digits-digits.ensures
+    within c.args.extent c.args.text.now c.digits-digits.result.now c.radix_of-radix.result
+    c.radix_of-radix.ensures.value c.digits-digits.ensures
     c.whole.result c.whole.ensures c.if-is_some.ensures
 
 pub returns-in-Plain : goal.returns-in-Plain

@@ -12,7 +12,8 @@ elements-preserved c =
     let i = c.elements.element-index in
     let within = c.elements-test.true in
     record {
-      terminals = leaves_one terminal (element_terminals expression) element_of _ c.elements.out.items _ xs i _ within (read_again xs i _ within)
+      terminals = leaves_one terminal (element_terminals expression) element_of _ c.elements.out.items _ xs i _ within
+          (read_again xs i _ within)
           c.elements.invariant.terminals c.in_ok-push_element.ensures.terminals;
       faults = passes_over (is_field_of is_faulty) element_of xs i _ within (read_again xs i _ within) c.in_ok-push_element.ensures.sound
           c.elements.invariant.faults;
@@ -25,7 +26,8 @@ returns-clause-terminals c =
 
 pub returns-clause-sound : goal.returns-clause-sound
 returns-clause-sound c =
-    none_passes (is_field_of is_faulty) element_of c.args.elements.now c.elements.element-index c.elements-test.false c.elements.invariant.faults
+    none_passes (is_field_of is_faulty) element_of c.args.elements.now c.elements.element-index c.elements-test.false
+    c.elements.invariant.faults
 
 pub returns-in_err-push_element-clause-refused : goal.returns-in_err-push_element-clause-refused
 returns-in_err-push_element-clause-refused c =

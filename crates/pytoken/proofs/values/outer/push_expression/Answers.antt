@@ -47,7 +47,8 @@ tokens-preserved c =
       i.0 + 1,
       step.1,
       reads_on terminals_in field_fault (map terminal c.args.out.now.items) now next text i.0 (field_token c.in-Ok-Some.class t) step.0
-          (subst (λ (k : Kind). is_some (field_fault k t) ≡ false) c.kind_of.ensures (ap (λ (f : Option TokenError). is_some f) pushed.sound))
+          (subst (λ (k : Kind). is_some (field_fault k t) ≡ false) c.kind_of.ensures
+          (ap (λ (f : Option TokenError). is_some f) pushed.sound))
           (subst (λ (k : Kind). next ≡ now ++ (terminals_by true nested_expression k t)) c.kind_of.ensures pushed.terminals) i.2,
     )
 
@@ -73,7 +74,8 @@ returns-in-Ok-None-clause-terminals c =
     let last = map terminal c.push-in-Ok-None.new.out.items in
     let ends = rw c.in-Ok-None.field-0-is at c.in-Ok-None.ensures.ends in
     reads_last terminals_in field_fault (map terminal c.args.out.now.items) now last text i.0 c.push-in-Ok-None.result (ends text i.0 i.1)
-    (subst (λ (ts : List Terminal). OnOk c.push-in-Ok-None.result (last ≡ now ++ ts)) (sym closing_is) c.push-in-Ok-None.ensures.terminals) i.2
+    (subst (λ (ts : List Terminal). OnOk c.push-in-Ok-None.result (last ≡ now ++ ts)) (sym closing_is) c.push-in-Ok-None.ensures.terminals)
+    i.2
 
 pub returns-in-Ok-None-clause-sound : goal.returns-in-Ok-None-clause-sound
 returns-in-Ok-None-clause-sound c =

@@ -16,7 +16,8 @@ use Rattle.pytoken.proofs.values.outer.push_token.Goals as goal
 pub returns-then-not-is_fstring-clause-terminals : goal.returns-then-not-is_fstring-clause-terminals
 returns-then-not-is_fstring-clause-terminals c =
     subst (λ (ts : List Terminal). OnOk c.push_single.result (Grows terminal c.args.out.now.items c.push_single.new.out.items ts))
-    (sym (one_terminal true nested_expression c.args.kind (chars c.args.text.now) (sym c.if-not-is_fstring.ensures))) c.push_single.ensures.terminals
+    (sym (one_terminal true nested_expression c.args.kind (chars c.args.text.now) (sym c.if-not-is_fstring.ensures)))
+    c.push_single.ensures.terminals
 
 pub returns-then-not-is_fstring-clause-sound : goal.returns-then-not-is_fstring-clause-sound
 returns-then-not-is_fstring-clause-sound c =
@@ -35,11 +36,13 @@ returns-then-not-is_fstring-clause-refused c =
 pub returns-in-Ok-clause-terminals : goal.returns-in-Ok-clause-terminals
 returns-in-Ok-clause-terminals c =
     subst (λ (ts : List Terminal). Grows terminal c.args.out.now.items c.push_nested.new.out.items ts)
-    (sym (formatted_terminals true nested_expression c.args.kind (chars c.args.text.now) (sym c.if-not-is_fstring.ensures))) c.in-Ok.ensures.terminals
+    (sym (formatted_terminals true nested_expression c.args.kind (chars c.args.text.now) (sym c.if-not-is_fstring.ensures)))
+    c.in-Ok.ensures.terminals
 
 pub returns-in-Ok-clause-sound : goal.returns-in-Ok-clause-sound
 returns-in-Ok-clause-sound c =
-    field_formatted c.args.kind (chars c.args.text.now) (sym c.if-is_bulky.ensures) (sym c.if-not-is_fstring.ensures) ∙ c.in-Ok.ensures.sound
+    field_formatted c.args.kind (chars c.args.text.now) (sym c.if-is_bulky.ensures) (sym c.if-not-is_fstring.ensures)
+    ∙ c.in-Ok.ensures.sound
 
 pub returns-in-Err-clause-refused : goal.returns-in-Err-clause-refused
 returns-in-Err-clause-refused c =

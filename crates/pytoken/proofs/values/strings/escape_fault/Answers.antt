@@ -13,7 +13,8 @@ loop-meaning-preserved c =
     let bad = c.either-bad.ensures ∙ ap (λ (x : Bool). c.loop-meaning.bad || x) c.is_bad_escape.ensures in
     record {
       named = ap (λ (x : Bool). x || list_any is_named_escape left) named
-          ∙ any_on is_named_escape c.args.raw c.args.bytes c.loop-meaning.left c.next_meaning.new.text c.in-Some.meaning c.loop-meaning.named _ first
+          ∙ any_on is_named_escape c.args.raw c.args.bytes c.loop-meaning.left c.next_meaning.new.text c.in-Some.meaning
+          c.loop-meaning.named _ first
           c.next_meaning.ensures.behind c.loop-meaning.invariant.named;
       bad = ap (λ (x : Bool). x || list_any is_bad_escape left) bad ∙ any_on is_bad_escape c.args.raw c.args.bytes c.loop-meaning.left
           c.next_meaning.new.text c.in-Some.meaning c.loop-meaning.bad _ first c.next_meaning.ensures.behind c.loop-meaning.invariant.bad;
@@ -28,13 +29,15 @@ returns-then-named c =
 pub returns-then-bad : goal.returns-then-bad
 returns-then-bad c =
     let none = sym c.next_meaning.ensures.meaning ∙ c.in_default.is in
-    let named = any_end is_named_escape c.args.raw c.args.bytes c.loop-meaning.left c.loop-meaning.named _ none c.loop-meaning.invariant.named in
+    let named = any_end is_named_escape c.args.raw c.args.bytes c.loop-meaning.left c.loop-meaning.named _ none
+    c.loop-meaning.invariant.named in
     let bad = any_end is_bad_escape c.args.raw c.args.bytes c.loop-meaning.left c.loop-meaning.bad _ none c.loop-meaning.invariant.bad in
     sym (fault_bad (meanings c.args.raw c.args.bytes c.args.body) (sym named ∙ c.if-named.false) (sym bad ∙ c.if-bad.true))
 
 pub returns : goal.returns
 returns c =
     let none = sym c.next_meaning.ensures.meaning ∙ c.in_default.is in
-    let named = any_end is_named_escape c.args.raw c.args.bytes c.loop-meaning.left c.loop-meaning.named _ none c.loop-meaning.invariant.named in
+    let named = any_end is_named_escape c.args.raw c.args.bytes c.loop-meaning.left c.loop-meaning.named _ none
+    c.loop-meaning.invariant.named in
     let bad = any_end is_bad_escape c.args.raw c.args.bytes c.loop-meaning.left c.loop-meaning.bad _ none c.loop-meaning.invariant.bad in
     sym (fault_none (meanings c.args.raw c.args.bytes c.args.body) (sym named ∙ c.if-named.false) (sym bad ∙ c.if-bad.false))

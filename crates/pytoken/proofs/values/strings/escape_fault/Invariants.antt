@@ -6,7 +6,8 @@ use Rattle.pytoken.proofs.values.strings.escape_fault.Given as goal
 
 abbrev pub invariant-loop-meaning : goal.invariant-loop-meaning
 invariant-loop-meaning l = record {
-  named : (l.named || list_any is_named_escape (meanings l.raw l.bytes l.left)) ≡ list_any is_named_escape (meanings l.raw l.bytes l.initial.left);
+  named : (l.named || list_any is_named_escape (meanings l.raw l.bytes l.left)) ≡ list_any is_named_escape
+      (meanings l.raw l.bytes l.initial.left);
   bad : (l.bad || list_any is_bad_escape (meanings l.raw l.bytes l.left)) ≡ list_any is_bad_escape (meanings l.raw l.bytes l.initial.left);
 }
 

@@ -10,7 +10,8 @@ pub loop-back-init : goal.loop-back-init
 loop-back-init c = sym (without_none c.loop-front.text)
 
 pub loop-back-preserved : goal.loop-back-preserved
-loop-back-preserved c = c.bump_back.ensures ∙ ap (without_last 1) c.loop-back.invariant ∙ without_one_more c.loop-back._back c.loop-front.text
+loop-back-preserved c = c.bump_back.ensures ∙ ap (without_last 1) c.loop-back.invariant
+    ∙ without_one_more c.loop-back._back c.loop-front.text
 
 pub returns : goal.returns
 returns c =

@@ -15,17 +15,20 @@ use Rattle.pytoken.proofs.values.terminals.terminal_of.Goals as goal
 
 pub returns-in-Name-clause-terminal : goal.returns-in-Name-clause-terminal
 returns-in-Name-clause-terminal c =
-    subst (λ (x : Terminal). IfOk c.name_terminal.result (λ made. terminal made ≡ x)) (of_name c.args.kind (chars c.args.text.now) c.in-Name.is)
+    subst (λ (x : Terminal). IfOk c.name_terminal.result (λ made. terminal made ≡ x))
+    (of_name c.args.kind (chars c.args.text.now) c.in-Name.is)
     c.name_terminal.ensures.terminal
 
 pub returns-in-Name-clause-sound : goal.returns-in-Name-clause-sound
 returns-in-Name-clause-sound c =
-    subst (λ (f : Option TokenError). OnOk c.name_terminal.result (f ≡ None)) (FaultLemmas.of_name c.args.extent c.args.kind (chars c.args.text.now) c.in-Name.is)
+    subst (λ (f : Option TokenError). OnOk c.name_terminal.result (f ≡ None))
+    (FaultLemmas.of_name c.args.extent c.args.kind (chars c.args.text.now) c.in-Name.is)
     c.name_terminal.ensures.sound
 
 pub returns-in-Name-clause-refused : goal.returns-in-Name-clause-refused
 returns-in-Name-clause-refused c =
-    subst (λ (f : Option TokenError). IfErr c.name_terminal.result (Tells f)) (FaultLemmas.of_name c.args.extent c.args.kind (chars c.args.text.now) c.in-Name.is)
+    subst (λ (f : Option TokenError). IfErr c.name_terminal.result (Tells f))
+    (FaultLemmas.of_name c.args.extent c.args.kind (chars c.args.text.now) c.in-Name.is)
     c.name_terminal.ensures.refused
 
 pub returns-in-Number-clause-terminal : goal.returns-in-Number-clause-terminal
@@ -52,17 +55,20 @@ returns-in-Number-clause-refused c =
 
 pub returns-in-String-clause-terminal : goal.returns-in-String-clause-terminal
 returns-in-String-clause-terminal c =
-    subst (λ (x : Terminal). IfOk c.string_terminal.result (λ made. terminal made ≡ x)) (of_string c.args.kind (chars c.args.text.now) c.in-String.is)
+    subst (λ (x : Terminal). IfOk c.string_terminal.result (λ made. terminal made ≡ x))
+    (of_string c.args.kind (chars c.args.text.now) c.in-String.is)
     c.string_terminal.ensures.terminal
 
 pub returns-in-String-clause-sound : goal.returns-in-String-clause-sound
 returns-in-String-clause-sound c =
-    subst (λ (f : Option TokenError). OnOk c.string_terminal.result (f ≡ None)) (FaultLemmas.of_string c.args.extent c.args.kind (chars c.args.text.now) c.in-String.is)
+    subst (λ (f : Option TokenError). OnOk c.string_terminal.result (f ≡ None))
+    (FaultLemmas.of_string c.args.extent c.args.kind (chars c.args.text.now) c.in-String.is)
     c.string_terminal.ensures.sound
 
 pub returns-in-String-clause-refused : goal.returns-in-String-clause-refused
 returns-in-String-clause-refused c =
-    subst (λ (f : Option TokenError). IfErr c.string_terminal.result (Tells f)) (FaultLemmas.of_string c.args.extent c.args.kind (chars c.args.text.now) c.in-String.is)
+    subst (λ (f : Option TokenError). IfErr c.string_terminal.result (Tells f))
+    (FaultLemmas.of_string c.args.extent c.args.kind (chars c.args.text.now) c.in-String.is)
     c.string_terminal.ensures.refused
 
 pub returns-in-Op-clause-sound : goal.returns-in-Op-clause-sound
@@ -73,14 +79,16 @@ returns-in-Op-clause-terminal c = c.operator_terminal.ensures ∙ of_op c.args.k
 
 pub returns-in-Some-clause-refused : goal.returns-in-Some-clause-refused
 returns-in-Some-clause-refused c =
-    sym (FaultLemmas.of_comment c.args.extent c.args.kind (chars c.args.text.now) c.in-Comment.is) ∙ sym c.comment_fault.ensures ∙ c.in-Some.is
+    sym (FaultLemmas.of_comment c.args.extent c.args.kind (chars c.args.text.now) c.in-Comment.is)
+    ∙ sym c.comment_fault.ensures ∙ c.in-Some.is
 
 pub returns-in-None-clause-terminal : goal.returns-in-None-clause-terminal
 returns-in-None-clause-terminal c = of_comment c.args.kind (chars c.args.text.now) c.in-Comment.is
 
 pub returns-in-None-clause-sound : goal.returns-in-None-clause-sound
 returns-in-None-clause-sound c =
-    sym (FaultLemmas.of_comment c.args.extent c.args.kind (chars c.args.text.now) c.in-Comment.is) ∙ sym c.comment_fault.ensures ∙ c.in-None.is
+    sym (FaultLemmas.of_comment c.args.extent c.args.kind (chars c.args.text.now) c.in-Comment.is)
+    ∙ sym c.comment_fault.ensures ∙ c.in-None.is
 
 pub returns-in_default : goal.returns-in_default
 returns-in_default c =

@@ -19,4 +19,5 @@ returns c =
     let made = chars c.as_str.result.now in
     let cs = with_line_feeds made in
     subst (λ (xs : List ℕ). IfOk c.points-2.result (λ points. points ≡ xs))
-    (same_points p cs (with_pairs p made cs c.if-not-self.false (ap chars c.as_str.ensures.value ∙ c.in_ok-text.ensures) refl)) c.points-2.ensures
+    (same_points p cs (with_pairs p made cs c.if-not-self.false (ap chars c.as_str.ensures.value ∙ c.in_ok-text.ensures) refl))
+    c.points-2.ensures
