@@ -33,7 +33,7 @@ pub(crate) fn put(tree: &mut Module, other: &mut Module) -> Option<()> {
 }
 
 /// Takes the last element off a list, and says whether there was one.
-fn drop_last<T>(list: &mut Vec<T>) -> bool {
+fn drop_last<T: Drop>(list: &mut Vec<T>) -> bool {
     match list.pop() {
         Some(last) => {
             drop(last);
@@ -44,7 +44,7 @@ fn drop_last<T>(list: &mut Vec<T>) -> bool {
 }
 
 /// Empties an option, and says whether something was there.
-fn clear<T>(option: &mut Option<T>) -> bool {
+fn clear<T: Drop>(option: &mut Option<T>) -> bool {
     match option.take() {
         Some(value) => {
             drop(value);
