@@ -1,6 +1,6 @@
 #!/usr/bin/env python3
 """Runs the built program where no contract can say what has to hold: its words, files, statuses and lines of faults, as a shell sees them; how
-it reads and writes; that memory, and 4 MB of stack (5 for f-strings), suffice past every round number.
+it reads and writes; that memory, and 4 MB of stack (4.5 for f-strings), suffice past every round number.
 
     conformance/program.py [--program PATH]
 
@@ -227,7 +227,7 @@ def in_fields(most, within, brackets=0):
 
 
 def check_stack(checks):
-    """4 MB of stack suffice for the deepest sources, 5 with fields of f-strings, and for those that are too deep by one."""
+    """4 MB of stack suffice for the deepest sources, 4.5 with fields of f-strings, and for those that are too deep by one."""
     deepest = {
         "brackets": ("(" * 600 + "x" + ")" * 600 + "\n", "(" * 601 + "x" + ")" * 601 + "\n"),
         "yields": ("[(yield " * 249 + "x" + ")]" * 249 + "\n", "[(yield " * 251 + "x" + ")]" * 251 + "\n"),
@@ -246,21 +246,20 @@ def check_stack(checks):
         "defaults in fields": tuple(within(499, in_fields(599, "lambda a=" * count + "x" + ": x" * count)) for count in (495, 496)),
         "comprehensions in fields": tuple(within(499, in_fields(599, "[x for x in " * count + "x" + "]" * count, count)) for count in (495, 496)),
     }
-    check_stack_of(checks, deepest, 4, [])
-    check_stack_of(checks, in_field, 5, ["--whole"])
+    check_stack_of(checks, deepest, 4_000_000, [])
+    check_stack_of(checks, in_field, 4_500_000, ["--whole"])
 
 
-def check_stack_of(checks, sources, megabytes, words):
-    """So much stack suffices for each pair of an accepted source and one that is too deep by one, by `dump` and `unparse` with these words."""
-    size = megabytes << 20
+def check_stack_of(checks, sources, size, words):
+    """So many bytes of stack suffice for each pair of an accepted source and one that is too deep by one, by `dump` and `unparse` with these words."""
     stack = lambda: resource.setrlimit(resource.RLIMIT_STACK, (size, size))
     for name, (accepted, refused) in sources.items():
         for command in ("dump", "unparse"):
             for source, status in ((accepted, 0), (refused, 1)):
                 outcome = run([checks.program, command, *words], input=source.encode(), preexec_fn=stack)
-                checks.is_due(f"{command} of {name}, in {megabytes} MB of stack", outcome.status, status)
+                checks.is_due(f"{command} of {name}, in {size} bytes of stack", outcome.status, status)
         outcome = run([checks.program, "tokens"], input=refused.encode(), preexec_fn=stack)
-        checks.is_due(f"tokens of {name}, in {megabytes} MB of stack", outcome.status, 0)
+        checks.is_due(f"tokens of {name}, in {size} bytes of stack", outcome.status, 0)
 
 
 def main():
