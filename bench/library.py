@@ -11,7 +11,7 @@ TOP = os.path.dirname(os.path.dirname(os.path.abspath(__file__)))
 sys.path.append(os.path.join(TOP, "conformance"))
 
 from dumps import due_fault, parts_of, prepare, program_outcome, python_tree, short_statements  # noqa: E402
-from run import MEGABYTE, ROUNDS, Runs, apart, library_files, library_of_python_311, show_machine  # noqa: E402
+from run import ENOUGH_SECONDS, MEGABYTE, ROUNDS, Runs, apart, library_files, library_of_python_311, show_machine  # noqa: E402
 from timers import built_program  # noqa: E402
 
 
@@ -74,9 +74,8 @@ def show_rows(rows, megabytes):
               f"| {row.processor / rows[0].processor:.1f} | {row.shown_memory()} |{row.failed()}", flush=True)
 
 
-def goals(options, rows, size):
-    """What was measured beside each goal: the words for it, the number, and whether it is missed. No goal, never missed."""
-    own, _, peer, parser = rows
+def goals(options, own, peer, parser, size):
+    """What was measured of a run of pyast beside each goal: the words for it, and whether it is missed. No goal, never missed."""
     times, parsing, held = peer.processor / own.processor, parser.processor / own.processor, own.memory * MEGABYTE / size
     yield f"`{peer.name}` takes {times:.1f} times as long", options.goal is not None and times < options.goal
     yield f"`{parser.name}`, which writes nothing, {parsing:.1f} times", options.parser_goal is not None and parsing < options.parser_goal
@@ -92,21 +91,22 @@ def measure(options, folder, command, peer):
     parse = "import ast,sys;compile(sys.stdin.read(),'-','exec',ast.PyCF_ONLY_AST)"
     rows = [
         Runs(f"pyast {' '.join((command, *options.words))}", [options.program, command, *options.words]),
-        # By the script large pages are asked for.
+        # By the script large pages are asked for. It runs the program of this project, whatever --program names.
         Runs(f"./pyast {command}, the script", [os.path.join(TOP, "pyast"), command, *options.words]),
         Runs(peer, [python, "-c", code]),
         Runs("compile(.., PyCF_ONLY_AST)", [python, "-c", parse]),
     ]
-    for _ in range(ROUNDS):
+    for _ in range(options.rounds):
         for row in rows:
             run_on(row, path)
     size = os.path.getsize(path)
     show_rows(rows, size / MEGABYTE)
-    print(f"\nBeside `pyast {command}`:")
     is_missed = False
-    for words, missed in goals(options, rows, size):
-        print(f"- {words}{': the goal is missed' if missed else ''}")
-        is_missed = is_missed or missed
+    for own in rows[:2]:
+        print(f"\nBeside `{own.name}`:")
+        for words, missed in goals(options, own, *rows[2:], size):
+            print(f"- {words}{': the goal is missed' if missed else ''}")
+            is_missed = is_missed or missed
     return int(is_missed or any(row.status for row in rows))
 
 
@@ -115,6 +115,8 @@ def measure_beside(command, peer):
     parser = argparse.ArgumentParser(description=f"Times `pyast {command}` beside Python's own {peer}, and beside its parser alone.")
     parser.add_argument("--program", metavar="PATH", help="the built program; default: that of this project")
     parser.add_argument("--size", type=int, default=10, metavar="MB", help="of the library's source; default: 10")
+    parser.add_argument("--rounds", type=int, default=ROUNDS, metavar="N",
+                        help=f"in which the programs take turns; one that took {ENOUGH_SECONDS} s in all isn't run again; default: {ROUNDS}")
     parser.add_argument("--goal", type=float, metavar="TIMES", help=f"status 1 where `{peer}` doesn't take so many times as long")
     parser.add_argument("--parser-goal", type=float, metavar="TIMES", help="status 1 where Python's parser alone doesn't take so many times as long")
     parser.add_argument("--most-bytes", type=float, metavar="N", help="status 1 where more bytes are held for each byte of the source")

@@ -66,12 +66,12 @@ class Runs:
         self.taken += seconds
         self.clock = min(self.clock, seconds)
         self.processor = min(self.processor, used.ru_utime + used.ru_stime)
-        self.memory = max(self.memory, peak or used.ru_maxrss / 1000)
+        self.memory = max(self.memory, peak or used.ru_maxrss * 1024 / MEGABYTE)
         self.status = self.status or process.returncode
 
     def shown_memory(self):
         """The peak of memory. A child's begins at that of this script, which starts it: less than that can't be seen."""
-        own = resource.getrusage(resource.RUSAGE_SELF).ru_maxrss / 1000
+        own = resource.getrusage(resource.RUSAGE_SELF).ru_maxrss * 1024 / MEGABYTE
         return f"{self.memory:.0f}" if self.memory > own + 1 else f"under {self.memory:.0f}"
 
     def failed(self):
