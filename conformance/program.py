@@ -153,19 +153,19 @@ def check_streams(checks):
     process.stdin.close()
     process.stdout.close()
     process.wait()
+    check_memory(checks, "tokens of 42 MB, in 12 MB of memory", "tokens", b"name = value  # text\n" * 2_000_000, MEMORY)
+    # The tree takes 56 MB of it, and the text is 17 MB long.
+    check_memory(checks, "a dump isn't held whole", "dump", b"x = f(a, b=1)\n" * 100_000, DUMP_MEMORY)
+
+
+def check_memory(checks, what, command, source, size):
+    """So many bytes of memory suffice for a command on a source."""
     with tempfile.NamedTemporaryFile() as file:
-        file.write(b"name = value  # text\n" * 2_000_000)
+        file.write(source)
         file.flush()
-        little = lambda: resource.setrlimit(resource.RLIMIT_AS, (MEMORY, MEMORY))
-        done = subprocess.run([checks.program, "tokens", file.name], stdout=subprocess.DEVNULL, preexec_fn=little, check=False)
-        checks.is_due("tokens of 42 MB, in 12 MB of memory", done.returncode, 0)
-    with tempfile.NamedTemporaryFile() as file:
-        file.write(b"x = f(a, b=1)\n" * 100_000)
-        file.flush()
-        # The tree takes 56 MB of it, and the text is 17 MB long.
-        some = lambda: resource.setrlimit(resource.RLIMIT_AS, (DUMP_MEMORY, DUMP_MEMORY))
-        done = subprocess.run([checks.program, "dump", file.name], stdout=subprocess.DEVNULL, preexec_fn=some, check=False)
-        checks.is_due("a dump isn't held whole", done.returncode, 0)
+        memory = lambda: resource.setrlimit(resource.RLIMIT_AS, (size, size))
+        done = subprocess.run([checks.program, command, file.name], stdout=subprocess.DEVNULL, preexec_fn=memory, check=False)
+        checks.is_due(what, done.returncode, 0)
 
 
 # --- large sources ------------------------------------------------------------------------------------------------------
