@@ -59,10 +59,10 @@ came_none seen v exact count x held none = record {
 }
 
 -- what was held is written
-pub came_written : (seen_old seen_new : Seen) (old new : Streamed) (exact : Bool) (count left : Option ℕ)
-    (x y z : Option (List ℕ)) (held : List ℕ)
+pub came_written : {seen_old seen_new : Seen} {old new : Streamed} {exact : Bool} {count left : Option ℕ}
+    {x y z : Option (List ℕ)} {held : List ℕ}
     → Came seen_old seen_new old new exact count left x y held → Appends y z held → Came seen_old seen_new old new exact count left x z []
-came_written seen_old seen_new old new exact count left x y z held c w = record {
+came_written {x = x} {y = y} {z = z} {held = held} c w = record {
   taken = c.taken;
   reads = c.reads;
   follows = c.follows;
@@ -71,13 +71,13 @@ came_written seen_old seen_new old new exact count left x y z held c w = record 
 }
 
 -- what was done so far was done with each source
-pub goes_here : (seen_old seen_new : Seen) (old new : Streamed) (exact : Bool) (count left : Option ℕ) (x y : Option (List ℕ))
-    (held : List ℕ) (done : List ℕ → Option Fault → Type 0)
+pub goes_here : {seen_old seen_new : Seen} {old new : Streamed} {exact : Bool} {count left : Option ℕ} {x y : Option (List ℕ)}
+    {held : List ℕ} {done : List ℕ → Option Fault → Type 0}
     → Came seen_old seen_new old new exact count left x y held
     → ((p : Parts) (more : List ℕ) (broken : Bool) → Stood new p old.shown.given more broken exact count left x y held
     → done (output_from exact p count old.shown.given) (fault_from p count old.shown.given))
     → Lists seen_old seen_new old exact count done
-goes_here seen_old seen_new old new exact count left x y held done c does = record {
+goes_here {new = new} c does = record {
   new = new.lines;
   taken = c.taken;
   reads = c.reads;
@@ -86,14 +86,14 @@ goes_here seen_old seen_new old new exact count left x y held done c does = reco
 }
 
 -- and so with what a step on takes
-pub goes_on : (seen_old seen_mid seen_new : Seen) (old mid new : Streamed) (result : Result Step AllocError) (exact : Bool)
-    (count left : Option ℕ) (x y : Option (List ℕ)) (held : List ℕ)
-    (done : List ℕ → Option Fault → Type 0) → Came seen_old seen_mid old mid exact count left x y held
+pub goes_on : {seen_old seen_mid seen_new : Seen} {old mid new : Streamed} {result : Result Step AllocError} {exact : Bool}
+    {count left : Option ℕ} {x y : Option (List ℕ)} {held : List ℕ}
+    {done : List ℕ → Option Fault → Type 0} → Came seen_old seen_mid old mid exact count left x y held
     → (s : Next seen_mid seen_new mid new result)
     → ((p : Parts) (more : List ℕ) (broken : Bool) → Continues new.lines more broken → Stood mid p old.shown.given (s.taken ++ more) broken
     exact count left x y held → done (output_from exact p count old.shown.given) (fault_from p count old.shown.given))
     → Lists seen_old seen_new old exact count done
-goes_on seen_old seen_mid seen_new old mid new result exact count left x y held done c s does = record {
+goes_on {seen_old = seen_old} {seen_mid = seen_mid} {seen_new = seen_new} {old = old} {mid = mid} {new = new} c s does = record {
   new = new.lines;
   taken = c.taken ++ s.taken;
   reads = ReadsBytes-on seen_old seen_mid seen_new _ _ _ old.lines.reach mid.lines.reach new.lines.reach c.taken s.taken c.reads s.reads;
@@ -102,29 +102,30 @@ goes_on seen_old seen_mid seen_new old mid new result exact count left x y held 
 }
 
 -- an entry's line is held, and the lister stands behind it
-pub came_next : (seen_old seen_mid seen_new : Seen) (old mid new : Streamed) (step : Step) (e : Entry) (exact : Bool)
-    (count left : Option ℕ) (x y : Option (List ℕ)) (before text held : List ℕ)
+pub came_next : {seen_old seen_mid seen_new : Seen} {old mid new : Streamed} {step : Step} {e : Entry} {exact : Bool}
+    {count left : Option ℕ} {x y : Option (List ℕ)} {before text held : List ℕ}
     → Came seen_old seen_mid old mid exact count left x y before → Next seen_mid seen_new mid new (Ok step)
     → step ≡ steps.Entry e → left ≢ Some 0
     → ((p : Parts) (k : ℕ) (more : List ℕ) (broken : Bool) → StreamsIn new p k more broken → text ≡ text_of p e)
     → held ≡ before ++ listing_line exact e text
     → Came seen_old seen_new old new exact count (left_behind left e.kind) x y held
-came_next seen_old seen_mid seen_new old mid new step e exact count left x y before text held c s is n shown held_is = record {
-  taken = c.taken ++ s.taken;
-  reads = ReadsBytes-on seen_old seen_mid seen_new _ _ _ old.lines.reach mid.lines.reach new.lines.reach c.taken s.taken c.reads s.reads;
-  follows = λ more broken f. rw append_assoc (c.follows (s.taken ++ more) broken (s.follows more broken f));
-  stood = λ p more broken f t.
-      let m = c.stood p (s.taken ++ more) broken (s.follows more broken f) (rw append_assoc at t) in
-      let next = moved p mid.shown.given more broken f m.stands in
-      let given : new.shown.given ≡ mid.shown.given + 1 = next.1.stands.count in
-      let line : held ≡ before ++ listing_line exact e (text_of p e) = held_is
-      ∙ ap (λ u. before ++ listing_line exact e u) (shown p (mid.shown.given + 1) more broken next.1) in
-      record {
-        stands = subst (λ n. StreamsIn new p n more broken) (sym given) next.1;
-        holds = rw given (held_next exact p mid.shown.given left e x y _ before held next.0 n line m.holds);
-        told = m.told ∙ rw given (told_next p mid.shown.given left e next.0 n);
-      };
-}
+came_next {seen_old = seen_old} {seen_mid = seen_mid} {seen_new = seen_new} {old = old} {mid = mid} {new = new} {e = e} {exact = exact}
+    {count = count} {left = left} {x = x} {y = y} {before = before} {held = held} c s is n shown held_is = record {
+      taken = c.taken ++ s.taken;
+      reads = ReadsBytes-on seen_old seen_mid seen_new _ _ _ old.lines.reach mid.lines.reach new.lines.reach c.taken s.taken c.reads s.reads;
+      follows = λ more broken f. rw append_assoc (c.follows (s.taken ++ more) broken (s.follows more broken f));
+      stood = λ p more broken f t.
+          let m = c.stood p (s.taken ++ more) broken (s.follows more broken f) (rw append_assoc at t) in
+          let next = moved p mid.shown.given more broken f m.stands in
+          let given : new.shown.given ≡ mid.shown.given + 1 = next.1.stands.count in
+          let line : held ≡ before ++ listing_line exact e (text_of p e) = held_is
+          ∙ ap (λ u. before ++ listing_line exact e u) (shown p (mid.shown.given + 1) more broken next.1) in
+          record {
+            stands = subst (λ n. StreamsIn new p n more broken) (sym given) next.1;
+            holds = rw given (held_next exact p mid.shown.given left e x y _ before held next.0 n line m.holds);
+            told = m.told ∙ rw given (told_next p mid.shown.given left e next.0 n);
+          };
+    }
   where
     moved : (p : Parts) (k : ℕ) (more : List ℕ) (broken : Bool) → Continues new.lines more broken
         → StreamsIn mid p k (s.taken ++ more) broken
@@ -132,14 +133,14 @@ came_next seen_old seen_mid seen_new old mid new step e exact count left x y bef
     moved p k more broken f t = rw is at s.steps p k more broken f t
 
 -- a further entry is one more of those that a listing can have
-pub counts_up : (seen_old seen_mid seen_new : Seen) (old mid new : Streamed) (step : Step) (e : Entry) (exact : Bool)
-    (count left : Option ℕ) (x y : Option (List ℕ)) (held : List ℕ)
+pub counts_up : {seen_old seen_mid seen_new : Seen} {old mid new : Streamed} {step : Step} {e : Entry} {exact : Bool}
+    {count left : Option ℕ} {x y : Option (List ℕ)} {held : List ℕ}
     → old.lines.count ≤ source_limit → ((more : List ℕ) (broken : Bool) → Continues old.lines more broken
     → (p : Parts) × StreamsIn old p old.shown.given more broken)
     → Came seen_old seen_mid old mid exact count left x y held → Next seen_mid seen_new mid new (Ok step) → step ≡ steps.Entry e
     → new.shown.given ≤ most_entries
     → most_entries - new.shown.given < most_entries - mid.shown.given
-counts_up seen_old seen_mid seen_new old mid new step e exact count left x y held limited somewhere c s is bound =
+counts_up {mid = mid} {new = new} {count = count} limited somewhere c s is bound =
     let broken = is_broken new.lines.reach in
     let after = continues_none new.lines (s.reads.within (c.reads.within limited)) in
     let before = s.follows [] broken after in
@@ -151,51 +152,51 @@ counts_up seen_old seen_mid seen_new old mid new step e exact count left x y hel
     omega arith
 
 -- which step comes next
-pub next_in : (seen_mid seen_new : Seen) (mid new : Streamed) (step met : Step) (p : Parts) (k : ℕ) (more : List ℕ) (broken exact : Bool)
-    (count left : Option ℕ) (x y : Option (List ℕ)) (held : List ℕ)
+pub next_in : {seen_mid seen_new : Seen} {mid new : Streamed} {step met : Step} {p : Parts} {k : ℕ} {more : List ℕ} {broken exact : Bool}
+    {count left : Option ℕ} {x y : Option (List ℕ)} {held : List ℕ}
     (s : Next seen_mid seen_new mid new (Ok step)) → step ≡ met → Continues new.lines more broken
     → Stood mid p k (s.taken ++ more) broken exact count left x y held
     → slice_get (listing (in_characters p)) mid.shown.given ≡ Some met
-next_in seen_mid seen_new mid new step met p k more broken exact count left x y held s is f m =
+next_in {mid = mid} {p = p} {more = more} {broken = broken} s is f m =
     (rw is at s.steps p mid.shown.given more broken f m.stands).0
 
 -- where there is no memory, what is held is kept
-pub memory_held : (v : Streamed) (p : Parts) (k : ℕ) (more : List ℕ) (broken exact : Bool) (count left : Option ℕ)
-    (x y : Option (List ℕ)) (held : List ℕ)
+pub memory_held : {v : Streamed} {p : Parts} {k : ℕ} {more : List ℕ} {broken exact : Bool} {count left : Option ℕ}
+    {x y : Option (List ℕ)} {held : List ℕ}
     → Stood v p k more broken exact count left x y held → HoldsFor (output_from exact p count k) (fault_from p count k) x y
     held (Some (Plain Memory))
-memory_held v p k more broken exact count left x y held s = (output_from exact p left v.shown.given, s.holds)
+memory_held {v = v} {p = p} {exact = exact} {left = left} s = (output_from exact p left v.shown.given, s.holds)
 
 -- where the count is reached, the cursor's line is held behind the others
-pub stopped_held : (v : Streamed) (p : Parts) (k : ℕ) (more : List ℕ) (broken exact : Bool) (count left : Option ℕ)
-    (x y : Option (List ℕ)) (before held : List ℕ)
+pub stopped_held : {v : Streamed} {p : Parts} {k : ℕ} {more : List ℕ} {broken exact : Bool} {count left : Option ℕ}
+    {x y : Option (List ℕ)} {before held : List ℕ}
     → left ≡ Some 0 → held ≡ before ++ cursor_line v.shown → Stood v p k more broken exact count left x y before
     → HoldsFor (output_from exact p count k) (fault_from p count k) x y held None
-stopped_held v p k more broken exact count left x y before held none is s = (
+stopped_held {v = v} {p = p} {exact = exact} {left = left} {x = x} {y = y} {before = before} {held = held} none is s = (
   s.told ∙ told_none p left v.shown.given none,
   cursor_held exact p v.shown left x y _ before held none
       s.stands.stands.cursor is s.holds,
 )
 
 -- where the listing ends, all is held
-pub ended_held : (v : Streamed) (p : Parts) (k : ℕ) (more : List ℕ) (broken exact : Bool) (count left : Option ℕ)
-    (x y : Option (List ℕ)) (held : List ℕ)
+pub ended_held : {v : Streamed} {p : Parts} {k : ℕ} {more : List ℕ} {broken exact : Bool} {count left : Option ℕ}
+    {x y : Option (List ℕ)} {held : List ℕ}
     → left ≢ Some 0 → slice_get (listing (in_characters p)) v.shown.given ≡ Some steps.End
     → Stood v p k more broken exact count left x y held
     → HoldsFor (output_from exact p count k) (fault_from p count k) x y held None
-ended_held v p k more broken exact count left x y held n next s =
+ended_held {v = v} {p = p} {exact = exact} {left = left} n next s =
     let none = end_last (in_characters p) v.shown.given next in (
       s.told ∙ fault_ended p left v.shown.given n none.0 ∙ ap (λ f. option_map of_listing f) none.1,
       rw (output_ended exact p left v.shown.given n none.0) at s.holds,
     )
 
 -- where it ends by a fault, all before that is held
-pub faulty_held : (v : Streamed) (p : Parts) (k : ℕ) (more : List ℕ) (broken exact : Bool) (count left : Option ℕ) (x y : Option (List ℕ))
-    (held : List ℕ) (f : ListingFault)
+pub faulty_held : {v : Streamed} {p : Parts} {k : ℕ} {more : List ℕ} {broken exact : Bool} {count left : Option ℕ} {x y : Option (List ℕ)}
+    {held : List ℕ} {f : ListingFault}
     → left ≢ Some 0 → slice_get (listing (in_characters p)) v.shown.given ≡ Some (steps.Fault f)
     → Stood v p k more broken exact count left x y held
     → HoldsFor (output_from exact p count k) (fault_from p count k) x y held (Some (of_listing f))
-faulty_held v p k more broken exact count left x y held f n next s =
+faulty_held {v = v} {p = p} {exact = exact} {left = left} {x = x} {y = y} {held = held} {f = f} n next s =
     let none = fault_last (in_characters p) v.shown.given f next in
     HoldsFor-fault _ _ x y held f (s.told ∙ fault_ended p left v.shown.given n none.0 ∙ ap (λ f. option_map of_listing f) none.1)
     (rw (output_ended exact p left v.shown.given n none.0) at s.holds)

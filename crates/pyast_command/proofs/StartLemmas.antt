@@ -190,12 +190,13 @@ all_taken seen_old seen_mid seen_new resume exact count v done s g = ReadsBytes-
     v.lines.reach g.new.reach s.all g.taken s.took g.reads
 
 -- what was done behind the start
-pub listed : (exact : Bool) (count : Option ℕ) (resume : Option CursorParts) (seen_old seen_mid seen_new : Seen) (x y : Option (List ℕ))
-    (v : Streamed) (done : List ℕ → Option Fault → Type 0) (ended : Option Fault)
+pub listed : {exact : Bool} {count : Option ℕ} {resume : Option CursorParts} {seen_old seen_mid seen_new : Seen} {x y : Option (List ℕ)}
+    {v : Streamed} {done : List ℕ → Option Fault → Type 0} {ended : Option Fault}
     → Starts seen_old seen_mid resume v → Lists seen_mid seen_new v exact count done
     → ((output : List ℕ) (told : Option Fault) → done output told → WritesFor output told x y ended)
     → Performs (output_by exact count resume) (fault_by count resume) seen_old seen_new x y source_limit ended
-listed exact count resume seen_old seen_mid seen_new x y v done ended s g does =
+listed {exact = exact} {count = count} {resume = resume} {seen_old = seen_old} {seen_mid = seen_mid} {seen_new = seen_new} {x = x} {y = y}
+    {v = v} {done = done} {ended = ended} s g does =
     performs _ _ x y _ (s.all ++ g.taken) ended (quiet count resume) seen_old seen_new g.new.reach
     (all_taken seen_old seen_mid seen_new resume exact count v done s g)
     (λ more broken f w.

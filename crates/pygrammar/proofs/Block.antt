@@ -15,7 +15,6 @@ pub mod Starts
 pub mod Total
 pub mod Depths
 pub mod FirstDeep
-pub mod DeepLines
 pub mod LineMore
 pub mod Reasons
 pub mod Types

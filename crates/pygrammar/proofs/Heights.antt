@@ -4,7 +4,6 @@ pub mod FieldLemmas
 pub mod Brackets
 pub mod Bound
 pub mod Over
-pub mod CapsStrings
 pub mod Caps
 pub mod KeepsCapped
 pub mod Limits

@@ -1,5 +1,7 @@
 pub mod Callers
+mod Answers
 mod Completeness
+mod Related
 mod Heights
 mod Depths
 mod Soundness

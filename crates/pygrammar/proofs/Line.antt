@@ -17,8 +17,6 @@ pub mod Depth
 pub mod Answered
 pub mod Stays
 pub mod CapsTools
-pub mod CapsSimple
-pub mod CapsHeaders
 pub mod CapsBrackets
 pub mod CapsLines
 pub mod Limit

@@ -11,3 +11,4 @@ mod LineLemmas
 mod LineGatherLemmas
 mod TakingLemmas
 mod WalkLemmas
+mod MarkLemmas

@@ -295,7 +295,7 @@ same_lines p old new e g had read goes =
 
 -- a line that ends
 
-stands_beside : (k : Kind) → ends_open_line k ≡ true → stands_in_line k ≡ false
+pub stands_beside : (k : Kind) → ends_open_line k ≡ true → stands_in_line k ≡ false
 stands_beside kinds.Newline is = refl
 stands_beside kinds.Dedent is = refl
 stands_beside kinds.EndMarker is = refl

@@ -241,7 +241,7 @@ pub record WalkEnds (p : Parts) (levels : List ℕ) (s t : Spot) (old new : Line
   pub went : Went p levels s t old new
   pub given : s.given ≤ t.given
 
-different : (b : Bool) → b ≡ true → b ≡ false → ⊥
+pub different : (b : Bool) → b ≡ true → b ≡ false → ⊥
 different b t f = cc
 
 pub walk_ends : (p : Parts) (levels left : List ℕ) (s t u : Spot) (k : Class) (front back : List ℕ) (old g h : LineGather)
@@ -266,7 +266,7 @@ walk_ends p levels left s t u k front back old g h w x moved takes ends =
 -- ---- The lister goes along.
 
 -- a lister stands at its spot
-here_is : (p : Parts) (l : Listed) (s : Spot) → l.source ≡ p → spot_cursor s l.shown.levels ≡ l.shown → at_spot p s l.shown.levels ≡ l
+pub here_is : (p : Parts) (l : Listed) (s : Spot) → l.source ≡ p → spot_cursor s l.shown.levels ≡ l.shown → at_spot p s l.shown.levels ≡ l
 here_is p l s source shown = ap₂ (λ (q : Parts) (c : CursorParts). record { source = q; shown = c }) (sym source) shown
 
 pub stands_here : (p : Parts) (l : Listed) (s : Spot) (g : LineGather) → StandsAt p l g → spot_cursor s l.shown.levels ≡ l.shown

@@ -5,3 +5,4 @@ pub mod LineGathering
 pub mod LineReading
 pub mod Indenting
 pub mod Walking
+pub mod Marking

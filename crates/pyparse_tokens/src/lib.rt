@@ -5,6 +5,7 @@
 //! each as terminals in one buffer: each token is one, but for an f-string. Both are told the extent
 //! of the language in which to read: a number or an f-string that is a fault in the plain one may be
 //! none in the whole one. The crate `pyparse` reads trees from these lines and passes all items on.
+//! Where the terminals of a line stand is kept by what `next_marked` is given ([`Marks`]).
 //!
 //! The words of contracts are `pytoken`'s, and here in `specs/` those of `Answers` and
 //! `LineReadings`.
@@ -15,6 +16,7 @@ mod gather;
 mod indents;
 mod line_gather;
 mod logical_lines;
+mod marking;
 mod open_line;
 mod pass;
 mod room;
@@ -23,4 +25,5 @@ mod walks;
 
 pub use faults::{GrammarError, ParseFault};
 pub use logical_lines::LogicalLines;
+pub use pyparse_marks::{Marks, Span, Spans};
 pub use tokens::{Token, tokens_of};

@@ -37,7 +37,7 @@ use pytree_node::Extent;
 use std::alloc::{AllocError, Global};
 
 /// Whether a token of this type stands in a line.
-fn stands_in_line(kind: Kind) -> bool
+pub(crate) fn stands_in_line(kind: Kind) -> bool
     ensures { result ≡ stands_in_line kind }
 {
     matches!(kind, Kind::Name | Kind::Number | Kind::String | Kind::Op)

@@ -3,10 +3,11 @@
 //! Python language reference, 2.1.1 "Logical lines".
 
 ghost use Rattle.std.specs.Prelude.{◌≡◌, ◌+◌, ℕ, true, false, length, map, Bool, Some, None};
-ghost use Rattle.std.specs.Prelude.{Result, IfOk, IfErr, if◌then◌else◌};
+ghost use Rattle.std.specs.Prelude.{Result, IfOk, IfErr, if◌then◌else◌, slice_get};
 ghost use Rattle.pylex.specs.Listing.{in_characters};
 ghost use Rattle.pytoken.specs.TerminalOf.{terminal};
-ghost use Rattle.pytoken.specs.Tokens.{lines};
+ghost use Rattle.pytoken.specs.Tokens.{Line, lines};
+ghost use Rattle.pyparse_marks.specs.LineSpans.{line_spans};
 ghost use Rattle.pytoken.specs.Refusals.{refusal};
 ghost use Rattle.pytoken.specs.Laws.{AreLawful, TokensAreSound, ExtentsDifferInNumbers};
 ghost use Rattle.pyparse_tokens.specs.declared.faults.ParseFault.{ParseFault};
@@ -14,11 +15,14 @@ ghost use Rattle.pyparse_tokens.specs.Answers.{Tells};
 ghost use Rattle.pyparse_tokens.specs.Inner.Passing.{kept_refusal};
 ghost use Rattle.pyparse_tokens.specs.LineReadings.{before_first, outcome_of, HoldsLine, EndsAt};
 ghost use Rattle.pyparse_tokens.specs.Inner.LineGathering.{lines_given, StandsBetween, ReadsLine};
+ghost use Rattle.pyparse_tokens.specs.Inner.Marking.{MarksLine};
 
 use crate::faults::ParseFault;
 use crate::line_gather::LineGather;
+use crate::marking::mark_entry;
 use crate::walks::walk_line;
 use pylex::{Lister, Step};
+use pyparse_marks::{Marks, Unmarked};
 use pysource::{Place, Source};
 use pytoken::{Refusal, Terminal};
 use pytree_node::Extent;
@@ -37,11 +41,12 @@ fn end(gather: &LineGather) -> Result<bool, ParseFault>
 }
 
 /// Reads up to the end of the next line, or of the source: whether there is a line.
-fn read_line<'a>(
+fn read_line<'a, M: Marks>(
     alloc: Global,
     source: &'a Source,
     lister: &mut Lister<'a>,
     gather: &mut LineGather<'a>,
+    marks: &mut M,
 ) -> Result<bool, ParseFault>
     requires { StandsBetween source.now lister.old gather.old }
     ensures line { IfOk result
@@ -60,14 +65,19 @@ fn read_line<'a>(
     ensures refused { IfErr result
         (Tells (refusal gather.old.pass.extent (in_characters source.now))) }
     ensures extent { gather.new.pass.extent ≡ gather.old.pass.extent }
+    ensures marks { IfOk result
+        (λ more. more ≡ true
+        → MarksLine M.added source.now lister.old (M.emptied marks.old) marks.new) }
 {
     gather.clear();
+    marks.clear();
     'entries: loop {
-        if walk_line(alloc, source, lister, gather)? {
+        if walk_line(alloc, source, lister, gather, marks)? {
             return Ok(true);
         }
         match lister.next()? {
             Step::Entry(entry) => {
+                mark_entry(alloc, source, &entry, marks)?;
                 if gather.take(alloc, source, &entry)? {
                     if gather.refusal().is_none() {
                         return Ok(true);
@@ -197,10 +207,54 @@ impl<'a> LogicalLines<'a> {
         ensures again { (answer : Result Bool ParseFault) → self.old.outcome ≡ Some answer
             → (result ≡ answer) × (self.new ≡ self.old) }
     {
+        let mut marks = Unmarked;
+        self.next_marked(&mut marks)
+    }
+
+    /// Goes to the next line as [`next`](LogicalLines::next) does, and keeps where its terminals
+    /// stand. Where there is no line, what is kept isn't said.
+    ///
+    /// # Errors
+    ///
+    /// As those of `next`. A source whose offsets have no room in 32 bits is told as memory that is
+    /// wanting, where spans are kept.
+    pub fn next_marked<M: Marks>(&mut self, marks: &mut M) -> Result<bool, ParseFault>
+        ensures source { self.new.source ≡ self.old.source }
+        ensures extent { self.new.extent ≡ self.old.extent }
+        ensures line { IfOk result
+            (λ more. more ≡ true
+            → HoldsLine (in_characters self.old.source) self.old.given self.new) }
+        ensures given { IfOk result
+            (λ more. self.new.given ≡ (if more then self.old.given + 1 else self.old.given)) }
+        ensures all { IfOk result
+            (λ more. more ≡ false
+            → self.old.given ≡ length (lines (in_characters self.old.source))) }
+        ensures sound { IfOk result
+            (λ more. more ≡ false
+            → refusal self.old.extent (in_characters self.old.source) ≡ None) }
+        ensures end { IfOk result
+            (λ more. more ≡ false → EndsAt (in_characters self.old.source) self.new.marker) }
+        ensures refused { IfErr result
+            (Tells (refusal self.old.extent (in_characters self.old.source))) }
+        ensures outcome { self.new.outcome ≡ outcome_of result }
+        ensures again { (answer : Result Bool ParseFault) → self.old.outcome ≡ Some answer
+            → (result ≡ answer) × (self.new ≡ self.old) }
+        ensures marks { IfOk result
+            (λ more. more ≡ true → (line : Line)
+            → slice_get (lines (in_characters self.old.source)) self.old.given ≡ Some line
+            → marks.new ≡ M.added (M.emptied marks.old)
+            (line_spans (in_characters self.old.source).text line)) }
+    {
         if let Some(outcome) = self.outcome {
             return outcome;
         }
-        let answer = read_line(self.alloc, self.source, &mut self.lister, &mut self.gather);
+        let answer = read_line(
+            self.alloc,
+            self.source,
+            &mut self.lister,
+            &mut self.gather,
+            marks,
+        );
         if !matches!(answer, Ok(true)) {
             self.outcome = Some(answer);
         }

@@ -5,25 +5,30 @@
 //! there, and what comes is taken as an entry. That is a fault, a refusal or the end, so a source
 //! has few such places: after a refusal nothing is walked.
 
-ghost use Rattle.std.specs.Prelude.{◌≡◌, ◌<◌, ◌≤◌, true, false, length, IfOk};
+ghost use Rattle.std.specs.Prelude.{◌≡◌, ◌<◌, ◌≤◌, true, false, length, IfOk, None};
 ghost use Rattle.pylex.specs.Listers.{Listed};
 ghost use Rattle.pylex.specs.Spots.{at_spot};
 ghost use Rattle.pyparse_tokens.specs.Inner.LineGathering.{StandsAt, ReadsLine};
+ghost use Rattle.pyparse_tokens.specs.Inner.Marking.{GoesOn, ComesToEnd};
+ghost use Rattle.pyparse_tokens.specs.Inner.Passing.{kept_refusal};
 ghost use Rattle.pyparse_tokens.specs.Inner.Walking.{Reads, Went};
 
 use crate::line_gather::LineGather;
+use crate::marking::mark_lexeme;
 use pylex::{Lister, Spot};
+use pyparse_marks::Marks;
 use pysource::Source;
 use std::alloc::{AllocError, Global};
 
 /// Takes lexeme after lexeme of the line that is open, from the spot on where a lister stands: up to
 /// the line's end, or to one that can't be taken so. The spot there.
-fn walk<'a>(
+fn walk<'a, M: Marks>(
     alloc: Global,
     source: &'a Source,
     lister: &Lister<'a>,
     from: Spot,
     gather: &mut LineGather<'a>,
+    marks: &mut M,
 ) -> Result<Spot, AllocError>
     requires at { StandsAt source.now (at_spot source.now from lister.now.shown.levels) gather.old }
     requires within { from.begun ≡ true }
@@ -36,6 +41,13 @@ fn walk<'a>(
         (λ to. Went source.now lister.entry.now.shown.levels from to gather.old gather.new) }
     ensures given { IfOk result (λ to. from.given ≤ to.given) }
     ensures extent { gather.new.pass.extent ≡ gather.old.pass.extent }
+    ensures marks { IfOk result
+        (λ to. to.begun ≡ true → GoesOn M.added source.now
+        (at_spot source.now from lister.entry.now.shown.levels) gather.old marks.old
+        (at_spot source.now to lister.entry.now.shown.levels) gather.new marks.new) }
+    ensures line_marks { IfOk result
+        (λ to. to.begun ≡ false → kept_refusal gather.new.pass ≡ None → ComesToEnd M.added source.now
+        (at_spot source.now from lister.entry.now.shown.levels) gather.old marks.old marks.new) }
 {
     let text = source.text();
     let mut spot = from;
@@ -44,6 +56,7 @@ fn walk<'a>(
         if !gather.take_lexeme(alloc, source, class, front, to)? {
             return Ok(spot);
         }
+        mark_lexeme(alloc, class, front, to.offset, marks)?;
         if !to.begun {
             return Ok(to);
         }
@@ -55,11 +68,12 @@ fn walk<'a>(
 
 /// Takes what is left of the line that is open where a lister stands, as far as it can be taken
 /// without entries: whether the line ended and nothing is refused. The lister goes along.
-pub(crate) fn walk_line<'a>(
+pub(crate) fn walk_line<'a, M: Marks>(
     alloc: Global,
     source: &'a Source,
     lister: &mut Lister<'a>,
     gather: &mut LineGather<'a>,
+    marks: &mut M,
 ) -> Result<bool, AllocError>
     requires { StandsAt source.now lister.old gather.old }
     ensures within { IfOk result
@@ -72,6 +86,12 @@ pub(crate) fn walk_line<'a>(
         → ReadsLine source.now first lister.new gather.new) }
     ensures given { IfOk result (λ ended. lister.old.shown.given ≤ lister.new.shown.given) }
     ensures extent { gather.new.pass.extent ≡ gather.old.pass.extent }
+    ensures marks { IfOk result
+        (λ ended. ended ≡ false → GoesOn M.added source.now lister.old gather.old marks.old
+        lister.new gather.new marks.new) }
+    ensures line_marks { IfOk result
+        (λ ended. ended ≡ true
+        → ComesToEnd M.added source.now lister.old gather.old marks.old marks.new) }
 {
     if !gather.has_tokens() {
         return Ok(false);
@@ -79,7 +99,7 @@ pub(crate) fn walk_line<'a>(
     let Some(from) = lister.spot() else {
         return Ok(false);
     };
-    let to = walk(alloc, source, lister, from, gather)?;
+    let to = walk(alloc, source, lister, from, gather, marks)?;
     lister.go_to(to);
     if to.begun {
         return Ok(false);

@@ -1,7 +1,7 @@
 -- What the parameters of a function show, field by field.
 --
 -- Carries: show_seven, show_arguments. On: arguments_tree, args_row, optionals_row, exprs_row.
-use Rattle.std.proofs.Common.{◌≡◌, ℕ, ◌+◌, List, Bool, true, false, ◌||◌, Option, codes, map, refl, ap, sym, ◌∙◌, arith}
+use Rattle.std.proofs.Common.{◌≡◌, ℕ, ◌+◌, ◌<◌, List, Option, codes, map, refl, ap, sym, ◌∙◌, arith}
 use Rattle.pytree_node.specs.declared.expressions.Expr.{Expr}
 use Rattle.pytree_node.specs.declared.expressions.Expr.TheOpen as layer
 use Rattle.pytree_node.specs.declared.expressions.Arg.{Arg}
@@ -14,23 +14,18 @@ use Rattle.pytree_node.specs.TreeOf.{tree_of, option_of, arg_of, arg_option_of, 
 use Rattle.pytree_node.proofs.Callers.ExprShapes.{arguments_tree}
 use Rattle.pytree_dump_text.specs.Shows.{Shown, Fields, Node, Row, no_field, a_field, arg_field, shown, shown_arg, shown_args}
 use Rattle.pytree_dump_text.specs.Shows.{shown_arguments, shown_exprs, shown_optional, shown_optionals, showns}
-use Rattle.pytree_dump_text.specs.Layout.{is_short}
+use Rattle.pytree_dump_text.specs.Layout.{shown_count}
 use Rattle.pytree_dump_text.specs.Slots.{Slot, missing, field, with_slot}
 use Rattle.pytree_dump.specs.Inner.Weights.{field_weights, slot_weight}
 use Rattle.pytree_dump.proofs.RowLemmas.{args_row, optionals_row, exprs_row, slot_weighs}
 
--- five fields and more are never on one line
+-- five fields or more are shown
 pub five_shown : (m n o p q : List ℕ) (x y z u w : Shown) (v k : Slot) →
-    is_short (a_field m x (a_field n y (with_slot v (a_field o z (a_field p u (with_slot k (a_field q w no_field))))))) ≡ false
-five_shown m n o p q x y z u w missing missing = refl
-five_shown m n o p q x y z u w missing (field l s) = refl
-five_shown m n o p q x y z u w (field l s) missing = refl
-five_shown m n o p q x y z u w (field l s) (field j r) = refl
-
--- where the fields are too many, only a dump of one line has the node on one
-pub alone : (x y : Bool) → y ≡ false → x ≡ (x || y)
-alone true y e = refl
-alone false y e = sym e
+    3 < shown_count (a_field m x (a_field n y (with_slot v (a_field o z (a_field p u (with_slot k (a_field q w no_field)))))))
+five_shown m n o p q x y z u w missing missing = omega arith
+five_shown m n o p q x y z u w missing (field l s) = omega arith
+five_shown m n o p q x y z u w (field l s) missing = omega arith
+five_shown m n o p q x y z u w (field l s) (field j r) = omega arith
 
 pub seven_weigh : (a b c d e f g : Slot) →
     field_weights (with_slot a (with_slot b (with_slot c (with_slot d (with_slot e (with_slot f (with_slot g no_field)))))))

@@ -2,7 +2,7 @@
 --
 -- Carries: show_joined_attribute, show_joined_keywords, show_joined_call, and the lists that are empty.
 use Rattle.std.proofs.Common.{◌≡◌, ◌∙◌, ap, sym, refl, ◌++◌, ◌∷◌, ◌||◌, ◌&&◌, ℕ, List, [], Bool, true, false, codes, Option, Some, None}
-use Rattle.std.proofs.Common.{map, length, nat_eq, arith}
+use Rattle.std.proofs.Common.{Result, Ok, Err, OnOk, is_ok, if◌then◌else◌, map, length, nat_eq, arith}
 use Rattle.std.proofs.lemmas.Bool.{both_ways, eqb-true}
 use Rattle.std.proofs.lemmas.List.{append-nil, append_assoc}
 use Rattle.pytree_node.specs.declared.operators.Context.{Context}
@@ -11,6 +11,10 @@ use Rattle.pytree_dump_text.specs.declared.styles.Style.{Style}
 use Rattle.pytree_dump_text.specs.Shows.{Shown, Fields, Row, a_field, context_name, no_field, shown_name, showns, word}
 use Rattle.pytree_dump_text.specs.Layout.{deeper, fields, is_flat, is_short, text}
 use Rattle.pytree_dump_text.specs.Slots.{node_text}
+use Rattle.pytree_marked.specs.Appends.{Appends, AppendsNode}
+use Rattle.pytree_marked.specs.MarkedNodes.{Attributes, with_places}
+use Rattle.pytree_marked.specs.Taking.{is_none_left}
+use Rattle.pytree_marked.proofs.Callers.Unplaced.{as_unplaced, closed_unplaced}
 
 first_of : (a b : Bool) → (a && b) ≡ true → a ≡ true
 first_of true b e = refl
@@ -81,9 +85,61 @@ keywords_text o0 o1 o2 o3 ks e1 e2 e3 = e3 ∙ (λ i. (e2 ∙ (λ j. e1 j ++ ks)
     joined_parts o p x b = simp append_assoc refl
 
 -- an empty list
+pub empty_appended : {A T E : Type 0} (g : A → Shown) (xs : List A) (s : Style) (f o o1 : List ℕ) (ps : List Attributes) (r : Result T E)
+    → nat_eq (length xs) 0 ≡ true →
+    o1 ≡ (if is_ok r then o ++ codes "[]" else o) → OnOk r (Appends s f o o1 ps ps (Row (showns (map g xs))))
+empty_appended g [] s f o o1 ps (Ok y) e h = (h, refl)
+empty_appended g [] s f o o1 ps (Err y) e h = tt
+empty_appended g (x ∷ xs) s f o o1 ps r e h =
+    let none : length (x ∷ xs) ≡ 0 = eqb-true (length (x ∷ xs)) 0 e in
+    absurd (omega (arith, none))
+
 pub empty_row : {A : Type 0} (g : A → Shown) (xs : List A) (s : Style) (f : List ℕ) → nat_eq (length xs) 0 ≡ true →
     text s f (Row (showns (map g xs))) ≡ codes "[]"
 empty_row g [] s f e = refl
 empty_row g (x ∷ xs) s f e =
     let none : length (x ∷ xs) ≡ 0 = eqb-true (length (x ∷ xs)) 0 e in
     absurd (omega (arith, none))
+
+-- ---- Where no place is left.
+
+pub none_is : (ps : List Attributes) → is_none_left ps ≡ true → ps ≡ []
+none_is [] e = refl
+none_is (p ∷ ps) e = absurd (both_ways false refl e)
+
+pub none_left : (ps : List Attributes) (b : Bool) → (is_none_left ps && b) ≡ true → ps ≡ []
+none_left ps b e = none_is ps (first_of (is_none_left ps) b e)
+
+pub joined_style : (ps : List Attributes) (b : Bool) → (is_none_left ps && b) ≡ true → b ≡ true
+joined_style ps b e = second_of (is_none_left ps) b e
+
+pub text_of_none : (s : Style) (f o o1 : List ℕ) (ps : List Attributes) (x : Shown) → ps ≡ []
+    → o1 ≡ o ++ text s f (with_places ps x).shown → o1 ≡ o ++ text s f x
+text_of_none s f o o1 ps x none e = e ∙ (λ i. o ++ text s f (as_unplaced ps x none i).shown)
+
+pub left_of_none : (ps ps1 : List Attributes) (x : Shown) → ps ≡ [] → ps1 ≡ (with_places ps x).left → ps1 ≡ []
+left_of_none ps ps1 x none taken = taken ∙ ap (λ z. z.left) (as_unplaced ps x none)
+
+pub joined_node : (m : Bool) (s : Style) (f o o1 : List ℕ) (ps ps1 : List Attributes) (start : List ℕ) (fs : Fields) → ps ≡ [] → ps1 ≡ [] →
+    o1 ≡ o ++ node_text s f start fs → AppendsNode m s f o o1 ps ps1 start fs
+joined_node m s f o o1 ps ps1 start fs none last e = (
+  e ∙ (λ i. o ++ node_text s f start (sym (closed_unplaced m ps fs none) i).shown),
+  last
+      ∙ sym (ap (λ z. z.left) (closed_unplaced m ps fs none)),
+)
+
+-- what is shown as without places
+pub unplaced_appended : (s : Style) (f o o1 : List ℕ) (ps : List Attributes) (x : Shown) → ps ≡ [] → o1 ≡ o ++ text s f x
+    → Appends s f o o1 ps ps x
+unplaced_appended s f o o1 ps x none e =
+    (e ∙ (λ i. o ++ text s f (sym (as_unplaced ps x none) i).shown), none ∙ sym (ap (λ z. z.left) (as_unplaced ps x none)))
+
+-- ---- Results.
+
+pub on_always : {T E Q : Type 0} (r : Result T E) → Q → OnOk r Q
+on_always (Ok x) h = h
+on_always (Err e) h = tt
+
+pub on_both : {T E A B C : Type 0} (r : Result T E) → (A → B → C) → OnOk r A → OnOk r B → OnOk r C
+on_both (Ok x) f a b = f a b
+on_both (Err e) f a b = tt

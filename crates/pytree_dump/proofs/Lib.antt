@@ -3,5 +3,6 @@ mod BlockLemmas
 mod JoinedLemmas
 mod PatternLemmas
 mod PieceLemmas
+mod PlaceLemmas
 mod RowLemmas
 mod TextLemmas

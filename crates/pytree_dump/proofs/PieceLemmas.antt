@@ -1,46 +1,57 @@
 -- The pieces of a dump, put together.
 --
--- Carries: Pieces::new, Pieces::push_next.
+-- Carries: PlacedPieces::new, PlacedPieces::push_next.
 use Rattle.std.proofs.Common.{◌≡◌, ℕ, ◌+◌, ◌++◌, List, [], ◌∷◌, Bool, true, false, codes, refl, ap, sym, ◌∙◌, ◌||◌, map, length, arith}
 use Rattle.std.specs.List.{concat}
 use Rattle.std.proofs.lemmas.List.{append-nil, append_assoc}
 use Rattle.pytree_node.specs.declared.statements.Stmt.{Stmt}
 use Rattle.pytree_node.specs.TreeOf.{stmt_of}
-use Rattle.pytree_dump_text.specs.declared.styles.Style.{Style}
-use Rattle.pytree_dump_text.specs.Shows.{Fields, Row, a_field, no_field, no_shown, showns, shown_module, shown_stmt}
-use Rattle.pytree_dump_text.specs.Layout.{before, deeper, dump_text, fields, is_flat, is_short, label, members, text}
 use Rattle.pytree_dump_text.specs.Blocks.{shown_block}
+use Rattle.pytree_dump_text.specs.declared.styles.Style.{Style}
+use Rattle.pytree_dump_text.specs.Shows.{Shown, Showns, Fields, Row, a_field, no_field, no_shown, showns, shown_module, shown_stmt}
+use Rattle.pytree_dump_text.specs.Layout.{before, deeper, dump_text, fields, is_flat, is_short, label, members, text}
+use Rattle.pytree_marked.specs.Appends.{Appends}
+use Rattle.pytree_marked.specs.MarkedNodes.{Attributes, Placed, rows_with, with_places}
 use Rattle.pytree_dump.specs.Inner.Pieces.{statement_pieces}
-use Rattle.pytree_dump.proofs.BlockLemmas.{module_text, node_shown}
+use Rattle.pytree_dump.proofs.BlockLemmas.{node_shown}
+use Rattle.pytree_dump.proofs.PlaceLemmas.{module_line, module_text}
 
 -- a piece is no longer to come, but given
 pub piece_given : (o o1 piece : List ℕ) (rest : List (List ℕ)) → o1 ≡ o ++ piece → o1 ++ concat rest ≡ o ++ concat (piece ∷ rest)
 piece_given o o1 piece rest e = ap (λ z. z ++ concat rest) e ∙ append_assoc o piece (concat rest)
 
--- the next of the statements
-pub statement_given : (s : Style) (f f1 f2 : List ℕ) (first : Bool) (end o o1 o2 : List ℕ) (x : Stmt) (body xs : List Stmt)
-    → body ≡ x ∷ xs → f1 ≡ f → f2 ≡ f →
-    o1 ≡ o ++ before (is_flat s.indent) f1 first → o2 ≡ o1 ++ text s f1 (shown_stmt s.profile (stmt_of x)) →
-    o2 ++ concat (statement_pieces s f2 false end xs) ≡ o ++ concat (statement_pieces s f first end body)
-statement_given s f f1 f2 first end o o1 o2 x body xs is same same2 e1 e2 =
-    let piece : List ℕ = before (is_flat s.indent) f first ++ text s f (shown_stmt s.profile (stmt_of x)) in
-    let grown : o2 ≡ o ++ piece =
-    e2 ∙ (λ i. (e1 ∙ (λ j. o ++ before (is_flat s.indent) (same j) first)) i ++ text s (same i) (shown_stmt s.profile (stmt_of x)))
-    ∙ append_assoc o (before (is_flat s.indent) f first) (text s f (shown_stmt s.profile (stmt_of x))) in
-    (λ i. o2 ++ concat (statement_pieces s (same2 i) false end xs))
-    ∙ piece_given o o2 piece (statement_pieces s f false end xs) grown
-    ∙ ap (λ z. o ++ concat (statement_pieces s f first end z)) (sym is)
+-- the next of the statements is the first piece
+pub statement_given : (s : Style) (f f1 : List ℕ) (first : Bool) (o o1 o2 : List ℕ) (x : Stmt) (ps ps1 : List Attributes) →
+    f1 ≡ f → o1 ≡ o ++ before (is_flat s.indent) f1 first → Appends s f1 o1 o2 ps ps1 (shown_stmt s.profile (stmt_of x)) →
+    o2 ≡ o ++ (before (is_flat s.indent) f first ++ text s f (with_places ps (shown_stmt s.profile (stmt_of x))).shown)
+statement_given s f f1 first o o1 o2 x ps ps1 same e1 e2 =
+    let one : Shown = (with_places ps (shown_stmt s.profile (stmt_of x))).shown in
+    e2.0 ∙ (λ i. (e1 ∙ (λ j. o ++ before (is_flat s.indent) (same j) first)) i ++ text s (same i) one)
+    ∙ append_assoc o (before (is_flat s.indent) f first) (text s f one)
+
+-- and the others are still to come
+pub statements_left : (s : Style) (f f1 : List ℕ) (first : Bool) (end : List ℕ) (x : Stmt) (body xs : List Stmt) (ps ps1 : List Attributes) →
+    body ≡ x ∷ xs → f1 ≡ f → ps1 ≡ (with_places ps (shown_stmt s.profile (stmt_of x))).left →
+    statement_pieces s f first end body ps
+    ≡ (before (is_flat s.indent) f first ++ text s f (with_places ps (shown_stmt s.profile (stmt_of x))).shown)
+    ∷ statement_pieces s f1 false end xs ps1
+statements_left s f f1 first end x body xs ps ps1 is same left =
+    (λ i. statement_pieces s f first end (is i) ps)
+    ∙ (λ i. (before (is_flat s.indent) f first ++ text s f (with_places ps (shown_stmt s.profile (stmt_of x))).shown)
+    ∷ statement_pieces s (sym same i) false end xs (sym left i))
 
 -- all of the statements
-statements_whole : (s : Style) (f : List ℕ) (first : Bool) (end : List ℕ) (body : List Stmt) →
-    concat (statement_pieces s f first end body) ≡ members s f first (showns (map (λ x. shown_stmt s.profile (stmt_of x)) body)) ++ end
-statements_whole s f first end [] = append-nil end
-statements_whole s f first end (x ∷ xs) =
-    ap (λ z. (before (is_flat s.indent) f first ++ text s f (shown_stmt s.profile (stmt_of x))) ++ z) (statements_whole s f false end xs)
+statements_whole : (s : Style) (f : List ℕ) (first : Bool) (end : List ℕ) (body : List Stmt) (ps : List Attributes) →
+    concat (statement_pieces s f first end body ps)
+    ≡ members s f first (rows_with ps (showns (map (λ x. shown_stmt s.profile (stmt_of x)) body))).shown ++ end
+statements_whole s f first end [] ps = append-nil end
+statements_whole s f first end (x ∷ xs) ps =
+    let one : Placed Shown = with_places ps (shown_stmt s.profile (stmt_of x)) in
+    ap (λ z. (before (is_flat s.indent) f first ++ text s f one.shown) ++ z) (statements_whole s f false end xs one.left)
     ∙ simp append_assoc refl
 
 -- the pieces of a module are its dump text
-pub module_pieces : (s : Style) (f0 f1 g1 f2 f3 b0 b1 b2 b3 e0 e1 e2 e3 : List ℕ) (line : Bool) (body items : List Stmt) →
+pub module_pieces : (s : Style) (ps : List Attributes) (f0 f1 g1 f2 f3 b0 b1 b2 b3 e0 e1 e2 e3 : List ℕ) (line : Bool) (body items : List Stmt) →
     body ≡ items → b0 ≡ [] → e0 ≡ [] → f0 ≡ codes "\n" →
     line ≡ (is_flat s.indent || is_short (a_field (codes "body") (shown_block s.profile body)
     (a_field (codes "type_ignores") (Row no_shown) no_field))) →
@@ -48,29 +59,32 @@ pub module_pieces : (s : Style) (f0 f1 g1 f2 f3 b0 b1 b2 b3 e0 e1 e2 e3 : List �
     e1 ≡ e0 ++ codes "]" → e2 ++ [] ≡ e1 ++ fields s f1 line s.names false (a_field (codes "type_ignores") (Row no_shown) no_field)
     → f2 ≡ f1 →
     e3 ≡ e2 ++ codes ")" → b3 ≡ b2 ++ codes "[" → f3 ≡ deeper s.indent f2 →
-    concat (b3 ∷ statement_pieces s f3 true e3 body) ≡ dump_text s (shown_module s.profile (record { body = map stmt_of items }))
-module_pieces s f0 f1 g1 f2 f3 b0 b1 b2 b3 e0 e1 e2 e3 line body items same none_begun none_ended top is_line hb1 hf1 hg1 hb2
+    concat (b3 ∷ statement_pieces s f3 true e3 body ps)
+    ≡ dump_text s (with_places ps (shown_module s.profile (record { body = map stmt_of items }))).shown
+module_pieces s ps f0 f1 g1 f2 f3 b0 b1 b2 b3 e0 e1 e2 e3 line body items same none_begun none_ended top is_line hb1 hf1 hg1 hb2
     he1 he2 hf2 he3 hb3 hf3 =
     let behind : Fields = a_field (codes "type_ignores") (Row no_shown) no_field in
-    let all : Fields = a_field (codes "body") (shown_block s.profile body) behind in
+    let rows : Showns = (rows_with ps (showns (map (λ x. shown_stmt s.profile (stmt_of x)) body))).shown in
+    let all : Fields = a_field (codes "body") (Row rows) behind in
     let begun : b3 ≡ (b1 ++ before line f1 true ++ label s.names (codes "body")) ++ codes "[" =
     hb3 ∙ ap (λ z. z ++ codes "[") (hb2 ∙ (λ i. b1 ++ before line (hg1 i) true ++ label s.names (codes "body"))) in
     let ended : e3 ≡ (codes "]" ++ fields s f1 line s.names false behind) ++ codes ")" =
     he3 ∙ ap (λ z. z ++ codes ")") (sym (append-nil e2) ∙ he2 ∙ ap (λ z. z ++ fields s f1 line s.names false behind) (he1
     ∙ ap (λ z. z ++ codes "]") none_ended)) in
     let deep : f3 ≡ deeper s.indent f1 = hf3 ∙ ap (deeper s.indent) hf2 in
-    let xs : List ℕ = members s (deeper s.indent f1) true (showns (map (λ x. shown_stmt s.profile (stmt_of x)) body)) in
-    let put : concat (b3 ∷ statement_pieces s f3 true e3 body) ≡ ((b1 ++ before line f1 true ++ label s.names (codes "body")) ++ codes "[")
+    let xs : List ℕ = members s (deeper s.indent f1) true rows in
+    let put : concat (b3 ∷ statement_pieces s f3 true e3 body ps) ≡ ((b1 ++ before line f1 true ++ label s.names (codes "body")) ++ codes "[")
     ++ (xs ++ ((codes "]" ++ fields s f1 line s.names false behind) ++ codes ")")) =
-    ap (λ z. b3 ++ z) (statements_whole s f3 true e3 body)
-    ∙ (λ i. begun i ++ (members s (deep i) true (showns (map (λ x. shown_stmt s.profile (stmt_of x)) body)) ++ ended i)) in
-    let whole : concat (b3 ∷ statement_pieces s f3 true e3 body) ≡ (b1 ++ fields s f1 line s.names true all) ++ codes ")" = put
+    ap (λ z. b3 ++ z) (statements_whole s f3 true e3 body ps) ∙ (λ i. begun i ++ (members s (deep i) true rows ++ ended i)) in
+    let whole : concat (b3 ∷ statement_pieces s f3 true e3 body ps) ≡ (b1 ++ fields s f1 line s.names true all) ++ codes ")" = put
     ∙ simp append_assoc refl in
-    module_text s f0 b0 _ body items same none_begun top
-    (node_shown s f0 f1 (codes "Module(") all b0 b1 (b1 ++ fields s f1 line s.names true all) _ line hf1 is_line hb1 refl whole)
+    let one_line = module_line (is_flat s.indent) line ps s.profile body is_line in
+    module_text s f0 b0 _ ps _ body items same none_begun top
+    (node_shown s f0 f1 (codes "Module(") all b0 b1 (b1 ++ fields s f1 line s.names true all) _ line hf1 one_line hb1 refl whole, refl)
 
 -- a piece for each statement, and one behind them
-pub statement_count : (s : Style) (f : List ℕ) (first : Bool) (end : List ℕ) (body : List Stmt)
-    → length (statement_pieces s f first end body) ≡ length body + 1
-statement_count s f first end [] = refl
-statement_count s f first end (x ∷ xs) = grind (arith, statement_count s f false end xs)
+pub statement_count : (s : Style) (f : List ℕ) (first : Bool) (end : List ℕ) (body : List Stmt) (ps : List Attributes)
+    → length (statement_pieces s f first end body ps) ≡ length body + 1
+statement_count s f first end [] ps = refl
+statement_count s f first end (x ∷ xs) ps =
+    let rest = statement_count s f false end xs (with_places ps (shown_stmt s.profile (stmt_of x))).left in omega (arith, rest)

@@ -90,7 +90,7 @@ dropped_one [] i x lt read = absurd (omega (arith, lt))
 dropped_one (y ∷ ys) zero x lt read = ap (λ z. z ∷ ys) (sym read)
 dropped_one (y ∷ ys) (suc i) x lt read = dropped_one ys i x (omega (arith, lt)) read
 
-dropped : {A : Type 0} (xs : List A) (i : ℕ) (x : A) → i < length xs → x ≡ get_or xs i x → drop i xs ≡ x ∷ drop (i + 1) xs
+pub dropped : {A : Type 0} (xs : List A) (i : ℕ) (x : A) → i < length xs → x ≡ get_or xs i x → drop i xs ≡ x ∷ drop (i + 1) xs
 dropped xs i x lt read =
     let next : suc i ≡ i + 1 = omega arith in
     dropped_one xs i x lt read ∙ ap (λ n. x ∷ drop n xs) next

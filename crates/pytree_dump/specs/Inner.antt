@@ -1,2 +1,3 @@
 pub mod Pieces
 pub mod Weights
+pub mod TypeParams

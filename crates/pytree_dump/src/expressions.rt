@@ -1,29 +1,33 @@
 //! The dump of expressions.
 
-ghost use Rattle.std.specs.Prelude.{◌≡◌, ◌++◌, IfOk, OnOk};
+ghost use Rattle.std.specs.Prelude.{◌≡◌, IfOk, OnOk};
 ghost use Rattle.std.specs.String.{string_bytes};
-ghost use Rattle.pytree_dump_text.specs.Layout.{dump_text, text};
+ghost use Rattle.pytree_dump_text.specs.Layout.{dump_text};
 ghost use Rattle.pytree_dump_text.specs.Shows.{shown};
 ghost use Rattle.pytree_node.specs.TreeOf.{tree_of};
+ghost use Rattle.pytree_marked.specs.Appends.{Appends};
 
 use crate::joined::{is_joined, show_joined_attribute, show_joined_call};
+use crate::leaves::{show_constant_with, show_name_with};
 use crate::nodes::{show_one, show_three, show_two};
-use pytree_dump_text::{Field, Part, Style, boxed_part, show_constant, show_name};
+use pytree_dump_text::{Field, Part, Style, boxed_part};
+use pytree_marked::{NoPlaces, Places};
 use pytree_node::Expr;
 use std::alloc::{AllocError, Global};
 
 /// Appends what an expression shows.
 #[cycle(showing)]
 #[tactic(auto, using(pytree_node::proofs::Callers::ExprShapes::expr_shapes, crate::proofs::RowLemmas::rows))]
-pub(crate) fn show_expr(
+pub(crate) fn show_expr<P: Places>(
     out: &mut String,
     indentation: &mut String,
     style: Style,
     e: &Expr,
+    places: &mut P,
 ) -> Result<(), AllocError>
-    ensures text { OnOk result
-        (string_bytes out.new ≡ string_bytes out.old
-        ++ text style (string_bytes indentation.old) (shown (tree_of e.now))) }
+    ensures text { OnOk result (Appends style (string_bytes indentation.old)
+        (string_bytes out.old) (string_bytes out.new) (P.left places.old) (P.left places.new)
+        (shown (tree_of e.now))) }
     ensures indentation { OnOk result (string_bytes indentation.new ≡ string_bytes indentation.old) }
 {
     match e {
@@ -34,6 +38,7 @@ pub(crate) fn show_expr(
             "BoolOp(",
             Part::Bool(*op),
             Part::Exprs(Field::Values, values),
+            places,
         ),
         Expr::NamedExpr { target, value } => show_two(
             out,
@@ -42,6 +47,7 @@ pub(crate) fn show_expr(
             "NamedExpr(",
             Part::Expr(Field::Target, target),
             Part::Expr(Field::Value, value),
+            places,
         ),
         Expr::BinOp { left, op, right } => show_three(
             out,
@@ -51,6 +57,7 @@ pub(crate) fn show_expr(
             Part::Expr(Field::Left, left),
             Part::Operator(*op),
             Part::Expr(Field::Right, right),
+            places,
         ),
         Expr::UnaryOp { op, operand } => show_two(
             out,
@@ -59,6 +66,7 @@ pub(crate) fn show_expr(
             "UnaryOp(",
             Part::Unary(*op),
             Part::Expr(Field::Operand, operand),
+            places,
         ),
         Expr::Lambda { args, body } => show_two(
             out,
@@ -67,6 +75,7 @@ pub(crate) fn show_expr(
             "Lambda(",
             Part::Arguments(Field::Args, args),
             Part::Expr(Field::Body, body),
+            places,
         ),
         Expr::IfExp { test, body, orelse } => show_three(
             out,
@@ -76,6 +85,7 @@ pub(crate) fn show_expr(
             Part::Expr(Field::Test, test),
             Part::Expr(Field::Body, body),
             Part::Expr(Field::Orelse, orelse),
+            places,
         ),
         Expr::Dict { keys, values } => show_two(
             out,
@@ -84,6 +94,7 @@ pub(crate) fn show_expr(
             "Dict(",
             Part::Options(Field::Keys, keys),
             Part::Exprs(Field::Values, values),
+            places,
         ),
         Expr::Set { elts } => show_one(
             out,
@@ -91,6 +102,7 @@ pub(crate) fn show_expr(
             style,
             "Set(",
             Part::Exprs(Field::Elts, elts),
+            places,
         ),
         Expr::ListComp { elt, generators } => show_two(
             out,
@@ -99,6 +111,7 @@ pub(crate) fn show_expr(
             "ListComp(",
             Part::Expr(Field::Elt, elt),
             Part::Comprehensions(Field::Generators, generators),
+            places,
         ),
         Expr::SetComp { elt, generators } => show_two(
             out,
@@ -107,6 +120,7 @@ pub(crate) fn show_expr(
             "SetComp(",
             Part::Expr(Field::Elt, elt),
             Part::Comprehensions(Field::Generators, generators),
+            places,
         ),
         Expr::DictComp {
             key,
@@ -120,6 +134,7 @@ pub(crate) fn show_expr(
             Part::Expr(Field::Key, key),
             Part::Expr(Field::Value, value),
             Part::Comprehensions(Field::Generators, generators),
+            places,
         ),
         Expr::GeneratorExp { elt, generators } => show_two(
             out,
@@ -128,6 +143,7 @@ pub(crate) fn show_expr(
             "GeneratorExp(",
             Part::Expr(Field::Elt, elt),
             Part::Comprehensions(Field::Generators, generators),
+            places,
         ),
         Expr::Await { value } => show_one(
             out,
@@ -135,6 +151,7 @@ pub(crate) fn show_expr(
             style,
             "Await(",
             Part::Expr(Field::Value, value),
+            places,
         ),
         Expr::Yield { value } => show_one(
             out,
@@ -142,6 +159,7 @@ pub(crate) fn show_expr(
             style,
             "Yield(",
             boxed_part(Field::Value, value),
+            places,
         ),
         Expr::YieldFrom { value } => show_one(
             out,
@@ -149,6 +167,7 @@ pub(crate) fn show_expr(
             style,
             "YieldFrom(",
             Part::Expr(Field::Value, value),
+            places,
         ),
         Expr::Compare {
             left,
@@ -162,14 +181,15 @@ pub(crate) fn show_expr(
             Part::Expr(Field::Left, left),
             Part::Comparisons(Field::Ops, ops),
             Part::Exprs(Field::Comparators, comparators),
+            places,
         ),
         Expr::Call {
             func,
             args,
             keywords,
         } => {
-            if is_joined(style) {
-                show_joined_call(out, indentation, style, func, args, keywords)
+            if is_joined(style, places) {
+                show_joined_call(out, indentation, style, func, args, keywords, places)
             } else {
                 show_three(
                     out,
@@ -179,6 +199,7 @@ pub(crate) fn show_expr(
                     Part::Expr(Field::Func, func),
                     Part::Exprs(Field::Args, args),
                     Part::Keywords(Field::Keywords, keywords),
+                    places,
                 )
             }
         }
@@ -194,6 +215,7 @@ pub(crate) fn show_expr(
             Part::Expr(Field::Value, value),
             Part::Conversion(*conversion),
             boxed_part(Field::FormatSpec, format_spec),
+            places,
         ),
         Expr::JoinedStr { values } => show_one(
             out,
@@ -201,11 +223,12 @@ pub(crate) fn show_expr(
             style,
             "JoinedStr(",
             Part::Exprs(Field::Values, values),
+            places,
         ),
-        Expr::Constant { value } => show_constant(out, style, value),
+        Expr::Constant { value } => show_constant_with(out, indentation, style, value, places),
         Expr::Attribute { value, attr, ctx } => {
-            if is_joined(style) {
-                show_joined_attribute(out, indentation, style, value, attr, *ctx)
+            if is_joined(style, places) {
+                show_joined_attribute(out, indentation, style, value, attr, *ctx, places)
             } else {
                 show_three(
                     out,
@@ -215,6 +238,7 @@ pub(crate) fn show_expr(
                     Part::Expr(Field::Value, value),
                     Part::Name(Field::Attr, attr),
                     Part::Context(*ctx),
+                    places,
                 )
             }
         }
@@ -226,6 +250,7 @@ pub(crate) fn show_expr(
             Part::Expr(Field::Value, value),
             Part::Expr(Field::Slice, slice),
             Part::Context(*ctx),
+            places,
         ),
         Expr::Starred { value, ctx } => show_two(
             out,
@@ -234,8 +259,9 @@ pub(crate) fn show_expr(
             "Starred(",
             Part::Expr(Field::Value, value),
             Part::Context(*ctx),
+            places,
         ),
-        Expr::Name { id, ctx } => show_name(out, style, id, *ctx),
+        Expr::Name { id, ctx } => show_name_with(out, indentation, style, id, *ctx, places),
         Expr::List { elts, ctx } => show_two(
             out,
             indentation,
@@ -243,6 +269,7 @@ pub(crate) fn show_expr(
             "List(",
             Part::Exprs(Field::Elts, elts),
             Part::Context(*ctx),
+            places,
         ),
         Expr::Tuple { elts, ctx } => show_two(
             out,
@@ -251,6 +278,7 @@ pub(crate) fn show_expr(
             "Tuple(",
             Part::Exprs(Field::Elts, elts),
             Part::Context(*ctx),
+            places,
         ),
         Expr::Slice { lower, upper, step } => show_three(
             out,
@@ -260,6 +288,7 @@ pub(crate) fn show_expr(
             boxed_part(Field::Lower, lower),
             boxed_part(Field::Upper, upper),
             boxed_part(Field::Step, step),
+            places,
         ),
     }
 }
@@ -270,6 +299,6 @@ pub fn dump_expr(alloc: Global, e: &Expr, style: Style) -> Result<String, AllocE
 {
     let mut out = String::new(alloc);
     let mut indentation = String::from_str(alloc, "\n")?;
-    show_expr(&mut out, &mut indentation, style, e)?;
+    show_expr(&mut out, &mut indentation, style, e, &mut NoPlaces)?;
     Ok(out)
 }

@@ -1,12 +1,11 @@
 //! The dump of the handlers of a `try`.
 
-ghost use Rattle.std.specs.Prelude.{◌≡◌, ◌++◌, IfOk, OnOk, codes};
+ghost use Rattle.std.specs.Prelude.{◌≡◌, IfOk, OnOk, codes};
 ghost use Rattle.std.specs.String.{string_bytes};
 ghost use Rattle.pytree_dump_text.specs.Blocks.{shown_caught, shown_handler};
-ghost use Rattle.pytree_dump_text.specs.Slots.{coming};
-ghost use Rattle.pytree_dump_text.specs.Layout.{text};
-ghost use Rattle.pytree_dump_text.specs.Shows.{Fields, a_field};
+ghost use Rattle.pytree_dump_text.specs.Shows.{a_field};
 ghost use Rattle.pytree_node.specs.TreeOf.{handler_of};
+ghost use Rattle.pytree_marked.specs.Appends.{Appends, AppendsField};
 
 use crate::nodes::show_field;
 use crate::statements::show_block;
@@ -14,27 +13,27 @@ use pytree_dump_text::{
     Field, Style, Told, close, is_flat, is_short_handler, name_part, open, option_part,
     push_before, push_lead,
 };
+use pytree_marked::{Places, end_node, is_told_on_line};
 use pytree_node::{Handler, Stmt};
 use std::alloc::AllocError;
 
 /// Appends the handlers of a `try` as a field, and tells how the fields behind it are told.
 #[cycle(blocks)]
-pub(crate) fn show_caught(
+pub(crate) fn show_caught<P: Places>(
     out: &mut String,
     indentation: &mut String,
     style: Style,
     told: Told,
     handlers: &[Handler],
+    places: &mut P,
 ) -> Result<Told, AllocError>
-    ensures text { IfOk result (λ next. (rest : Fields) →
-        string_bytes out.new ++ coming style (string_bytes indentation.old) next rest
-        ≡ string_bytes out.old
-        ++ coming style (string_bytes indentation.old) told
-        (a_field (codes "handlers") (shown_caught style.profile handlers.now) rest)) }
+    ensures text { IfOk result (λ next. AppendsField style (string_bytes indentation.old)
+        (string_bytes out.old) (string_bytes out.new) (P.left places.old) (P.left places.new)
+        told next (λ rest. a_field (codes "handlers") (shown_caught style.profile handlers.now) rest)) }
     ensures indentation { OnOk result (string_bytes indentation.new ≡ string_bytes indentation.old) }
 {
     push_lead(out, indentation.as_str(), told, Field::Handlers)?;
-    show_handlers(out, indentation, style, handlers)?;
+    show_handlers(out, indentation, style, handlers, places)?;
     Ok(Told {
         one_line: told.one_line,
         named: told.named,
@@ -45,22 +44,23 @@ pub(crate) fn show_caught(
 /// Appends some handlers as a list.
 #[cycle(blocks)]
 #[tactic(auto, using(crate::proofs::TextLemmas::left, crate::proofs::TextLemmas::may_close))]
-fn show_handlers(
+fn show_handlers<P: Places>(
     out: &mut String,
     indentation: &mut String,
     style: Style,
     handlers: &[Handler],
+    places: &mut P,
 ) -> Result<(), AllocError>
-    ensures text { OnOk result
-        (string_bytes out.new ≡ string_bytes out.old
-        ++ text style (string_bytes indentation.old) (shown_caught style.profile handlers.now)) }
+    ensures text { OnOk result (Appends style (string_bytes indentation.old)
+        (string_bytes out.old) (string_bytes out.new) (P.left places.old) (P.left places.new)
+        (shown_caught style.profile handlers.now)) }
     ensures indentation { OnOk result (string_bytes indentation.new ≡ string_bytes indentation.old) }
 {
     let outer = open(out, indentation, style, "[")?;
     let mut first = true;
     for h in handlers {
         push_before(out, indentation.as_str(), is_flat(style), first)?;
-        show_handler(out, indentation, style, h)?;
+        show_handler(out, indentation, style, h, places)?;
         first = false;
     }
     close(out, indentation, style, outer, "]")?;
@@ -70,20 +70,21 @@ fn show_handlers(
 /// Appends a handler.
 #[cycle(blocks)]
 #[tactic(auto, using(crate::proofs::TextLemmas::left, crate::proofs::TextLemmas::may_close))]
-fn show_handler(
+fn show_handler<P: Places>(
     out: &mut String,
     indentation: &mut String,
     style: Style,
     h: &Handler,
+    places: &mut P,
 ) -> Result<(), AllocError>
-    ensures text { OnOk result
-        (string_bytes out.new ≡ string_bytes out.old
-        ++ text style (string_bytes indentation.old) (shown_handler style.profile (handler_of h.now))) }
+    ensures text { OnOk result (Appends style (string_bytes indentation.old)
+        (string_bytes out.old) (string_bytes out.new) (P.left places.old) (P.left places.new)
+        (shown_handler style.profile (handler_of h.now))) }
     ensures indentation { OnOk result (string_bytes indentation.new ≡ string_bytes indentation.old) }
 {
     let body: &[Stmt] = &h.body;
     let told = Told {
-        one_line: is_short_handler(style, &h.class, body),
+        one_line: is_told_on_line(style, is_short_handler(style, &h.class, body), places),
         named: style.names,
         first: true,
     };
@@ -94,6 +95,7 @@ fn show_handler(
         style,
         told,
         option_part(Field::Type, &h.class),
+        places,
     )?;
     let told = show_field(
         out,
@@ -101,8 +103,9 @@ fn show_handler(
         style,
         told,
         name_part(Field::Name, &h.name),
+        places,
     )?;
-    show_block(out, indentation, style, told, Field::Body, body)?;
-    close(out, indentation, style, outer, ")")?;
+    let told = show_block(out, indentation, style, told, Field::Body, body, places)?;
+    end_node(out, indentation, style, told, outer, places)?;
     Ok(())
 }

@@ -1,88 +1,95 @@
 //! The nodes that a tree has most of, where all is on one line with the names of fields: what
 //! stands between their fields is appended at once.
 
-ghost use Rattle.std.specs.Prelude.{◌≡◌, ◌++◌, ◌&&◌, OnOk, codes, map, true};
+ghost use Rattle.std.specs.Prelude.{◌≡◌, ◌++◌, ◌&&◌, OnOk, codes, map, true, []};
 ghost use Rattle.std.specs.String.{string_bytes};
-ghost use Rattle.pytree_dump_text.specs.Slots.{node_text};
 ghost use Rattle.pytree_dump_text.specs.Layout.{is_flat, text};
 ghost use Rattle.pytree_dump_text.specs.Shows.{Row, a_field, context_name, no_field, shown};
 ghost use Rattle.pytree_dump_text.specs.Shows.{shown_keyword, shown_name, showns, word};
 ghost use Rattle.pytree_node.specs.TreeOf.{keyword_of, tree_of};
+ghost use Rattle.pytree_marked.specs.Appends.{AppendsNode};
+ghost use Rattle.pytree_marked.specs.Taking.{is_none_left};
 
 use crate::expressions::show_expr;
 use crate::lists::{show_exprs, show_keywords};
 use pytree_dump_text::{Style, is_flat, push_name_and_context};
+use pytree_marked::Places;
 use pytree_node::{Context, Expr, Identifier, Keyword};
 use std::alloc::AllocError;
 
-/// Whether a dump is one line with the names of fields.
-pub(crate) fn is_joined(style: Style) -> bool
-    ensures { result ≡ (is_flat style.indent && style.names) }
+/// Whether a dump is one line with the names of fields, and no places are left.
+#[inline(always)]
+pub(crate) fn is_joined<P: Places>(style: Style, places: &P) -> bool
+    ensures { result
+        ≡ (is_none_left (P.left places.now) && (is_flat style.indent && style.names)) }
 {
-    is_flat(style) && style.names
+    places.is_done() && (is_flat(style) && style.names)
 }
 
 /// Appends an attribute.
 #[cycle(showing)]
-pub(crate) fn show_joined_attribute(
+pub(crate) fn show_joined_attribute<P: Places>(
     out: &mut String,
     indentation: &mut String,
     style: Style,
     value: &Expr,
     attr: &Identifier,
     ctx: Context,
+    places: &mut P,
 ) -> Result<(), AllocError>
-    requires { (is_flat style.indent && style.names) ≡ true }
-    ensures text { OnOk result
-        (string_bytes out.new ≡ string_bytes out.old
-        ++ node_text style (string_bytes indentation.old) (codes "Attribute(")
+    requires { (is_none_left (P.left places.old) && (is_flat style.indent && style.names)) ≡ true }
+    ensures text { OnOk result (AppendsNode true style (string_bytes indentation.old)
+        (string_bytes out.old) (string_bytes out.new) (P.left places.old) (P.left places.new) (codes "Attribute(")
         (a_field (codes "value") (shown (tree_of value.now))
         (a_field (codes "attr") (shown_name attr.now)
         (a_field (codes "ctx") (word (context_name ctx)) no_field)))) }
     ensures indentation { OnOk result (string_bytes indentation.new ≡ string_bytes indentation.old) }
 {
     out.push_str("Attribute(value=")?;
-    show_expr(out, indentation, style, value)?;
+    show_expr(out, indentation, style, value, places)?;
     push_name_and_context(out, attr.as_str(), ctx)
 }
 
 /// Appends the keywords of a call, and what ends it.
 #[cycle(showing)]
 #[inline(always)]
-fn show_joined_keywords(
+fn show_joined_keywords<P: Places>(
     out: &mut String,
     indentation: &mut String,
     style: Style,
     keywords: &[Keyword],
+    places: &mut P,
 ) -> Result<(), AllocError>
+    requires { is_none_left (P.left places.old) ≡ true }
     ensures text { OnOk result
         (string_bytes out.new ≡ string_bytes out.old
         ++ (codes ", keywords=" ++ text style (string_bytes indentation.old)
         (Row (showns (map (λ k. shown_keyword (keyword_of k)) keywords.now))) ++ codes ")")) }
+    ensures left { OnOk result (P.left places.new ≡ []) }
     ensures indentation { OnOk result (string_bytes indentation.new ≡ string_bytes indentation.old) }
 {
     if keywords.is_empty() {
         return out.push_str(", keywords=[])");
     }
     out.push_str(", keywords=")?;
-    show_keywords(out, indentation, style, keywords)?;
+    show_keywords(out, indentation, style, keywords, places)?;
     out.push_str(")")
 }
 
 /// Appends a call.
 #[cycle(showing)]
-pub(crate) fn show_joined_call(
+pub(crate) fn show_joined_call<P: Places>(
     out: &mut String,
     indentation: &mut String,
     style: Style,
     func: &Expr,
     args: &[Expr],
     keywords: &[Keyword],
+    places: &mut P,
 ) -> Result<(), AllocError>
-    requires { (is_flat style.indent && style.names) ≡ true }
-    ensures text { OnOk result
-        (string_bytes out.new ≡ string_bytes out.old
-        ++ node_text style (string_bytes indentation.old) (codes "Call(")
+    requires { (is_none_left (P.left places.old) && (is_flat style.indent && style.names)) ≡ true }
+    ensures text { OnOk result (AppendsNode true style (string_bytes indentation.old)
+        (string_bytes out.old) (string_bytes out.new) (P.left places.old) (P.left places.new) (codes "Call(")
         (a_field (codes "func") (shown (tree_of func.now))
         (a_field (codes "args") (Row (showns (map (λ e. shown (tree_of e)) args.now)))
         (a_field (codes "keywords")
@@ -90,8 +97,8 @@ pub(crate) fn show_joined_call(
     ensures indentation { OnOk result (string_bytes indentation.new ≡ string_bytes indentation.old) }
 {
     out.push_str("Call(func=")?;
-    show_expr(out, indentation, style, func)?;
+    show_expr(out, indentation, style, func, places)?;
     out.push_str(", args=")?;
-    show_exprs(out, indentation, style, args)?;
-    show_joined_keywords(out, indentation, style, keywords)
+    show_exprs(out, indentation, style, args, places)?;
+    show_joined_keywords(out, indentation, style, keywords, places)
 }

@@ -2,7 +2,8 @@
 //!
 //! Python library reference, `ast`: `ast.dump`. `specs/Shows` says what each class shows,
 //! `specs/Layout` how that is laid out. The text is written as the tree is walked, with no form of
-//! it in between: whole by [`dump`], statement by statement by [`Pieces`].
+//! it in between: whole by [`dump`], statement by statement by [`Pieces`], and with the places of
+//! nodes by [`dump_placed`] and [`PlacedPieces`].
 #![tactic(auto)]
 
 mod cases;
@@ -10,6 +11,7 @@ mod compounds;
 mod expressions;
 mod handlers;
 mod joined;
+mod leaves;
 mod lists;
 mod members;
 mod modules;
@@ -19,6 +21,7 @@ mod pieces;
 mod statements;
 
 pub use expressions::dump_expr;
-pub use modules::dump;
-pub use pieces::Pieces;
+pub use modules::{dump, dump_placed};
+pub use pieces::{Pieces, PlacedPieces};
 pub use pytree_dump_text::Style;
+pub use pytree_marked::{ListedPlaces, NoPlaces, Places, Shown};

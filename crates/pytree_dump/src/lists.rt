@@ -10,6 +10,7 @@ ghost use Rattle.pytree_dump_text.specs.Shows.{showns, word};
 ghost use Rattle.pytree_node.specs.TreeOf.{alias_of, arg_of, comprehension_of, item_of, keyword_of};
 ghost use Rattle.pytree_node.specs.TreeOf.{option_of, tree_of, type_param_of};
 ghost use Rattle.pytree_node.specs.Trees.{optional};
+ghost use Rattle.pytree_marked.specs.Appends.{Appends};
 
 use crate::expressions::show_expr;
 use crate::members::{
@@ -17,6 +18,7 @@ use crate::members::{
 };
 use pysource::push_repr;
 use pytree_dump_text::{Style, close, comparison_word, is_flat, open, push_before};
+use pytree_marked::Places;
 use pytree_node::{
     Alias, Arg, Comparison, Comprehension, Expr, Identifier, Item, Keyword, TypeParam,
 };
@@ -25,15 +27,15 @@ use std::alloc::AllocError;
 /// Appends a list of expressions.
 #[cycle(showing)]
 #[tactic(auto, using(crate::proofs::TextLemmas::left, crate::proofs::TextLemmas::may_close))]
-pub(crate) fn show_exprs(
+pub(crate) fn show_exprs<P: Places>(
     out: &mut String,
     indentation: &mut String,
     style: Style,
     es: &[Expr],
+    places: &mut P,
 ) -> Result<(), AllocError>
-    ensures text { OnOk result
-        (string_bytes out.new ≡ string_bytes out.old
-        ++ text style (string_bytes indentation.old)
+    ensures text { OnOk result (Appends style (string_bytes indentation.old)
+        (string_bytes out.old) (string_bytes out.new) (P.left places.old) (P.left places.new)
         (Row (showns (map (λ e. shown (tree_of e)) es.now)))) }
     ensures indentation { OnOk result (string_bytes indentation.new ≡ string_bytes indentation.old) }
 {
@@ -45,25 +47,46 @@ pub(crate) fn show_exprs(
     let mut first = true;
     for e in es {
         push_before(out, indentation.as_str(), is_flat(style), first)?;
-        show_expr(out, indentation, style, e)?;
+        show_expr(out, indentation, style, e, places)?;
         first = false;
     }
     close(out, indentation, style, outer, "]")?;
     Ok(())
 }
 
+/// Appends an expression of a list, where it may be absent.
+#[cycle(showing)]
+#[inline(always)]
+fn show_option<P: Places>(
+    out: &mut String,
+    indentation: &mut String,
+    style: Style,
+    e: &Option<Expr>,
+    places: &mut P,
+) -> Result<(), AllocError>
+    ensures text { OnOk result (Appends style (string_bytes indentation.old)
+        (string_bytes out.old) (string_bytes out.new) (P.left places.old) (P.left places.new)
+        (shown_optional (optional (option_of e.now)))) }
+    ensures indentation { OnOk result (string_bytes indentation.new ≡ string_bytes indentation.old) }
+{
+    match e {
+        None => out.push_str("None"),
+        Some(value) => show_expr(out, indentation, style, value, places),
+    }
+}
+
 /// Appends a list of expressions, some of them absent.
 #[cycle(showing)]
 #[tactic(auto, using(crate::proofs::TextLemmas::left, crate::proofs::TextLemmas::may_close))]
-pub(crate) fn show_options(
+pub(crate) fn show_options<P: Places>(
     out: &mut String,
     indentation: &mut String,
     style: Style,
     es: &[Option<Expr>],
+    places: &mut P,
 ) -> Result<(), AllocError>
-    ensures text { OnOk result
-        (string_bytes out.new ≡ string_bytes out.old
-        ++ text style (string_bytes indentation.old)
+    ensures text { OnOk result (Appends style (string_bytes indentation.old)
+        (string_bytes out.old) (string_bytes out.new) (P.left places.old) (P.left places.new)
         (Row (showns (map (λ e. shown_optional (optional (option_of e))) es.now)))) }
     ensures indentation { OnOk result (string_bytes indentation.new ≡ string_bytes indentation.old) }
 {
@@ -71,10 +94,7 @@ pub(crate) fn show_options(
     let mut first = true;
     for e in es {
         push_before(out, indentation.as_str(), is_flat(style), first)?;
-        match e {
-            None => out.push_str("None")?,
-            Some(value) => show_expr(out, indentation, style, value)?,
-        }
+        show_option(out, indentation, style, e, places)?;
         first = false;
     }
     close(out, indentation, style, outer, "]")?;
@@ -84,15 +104,15 @@ pub(crate) fn show_options(
 /// Appends a list of clauses of a comprehension.
 #[cycle(showing)]
 #[tactic(auto, using(crate::proofs::TextLemmas::left, crate::proofs::TextLemmas::may_close))]
-pub(crate) fn show_comprehensions(
+pub(crate) fn show_comprehensions<P: Places>(
     out: &mut String,
     indentation: &mut String,
     style: Style,
     cs: &[Comprehension],
+    places: &mut P,
 ) -> Result<(), AllocError>
-    ensures text { OnOk result
-        (string_bytes out.new ≡ string_bytes out.old
-        ++ text style (string_bytes indentation.old)
+    ensures text { OnOk result (Appends style (string_bytes indentation.old)
+        (string_bytes out.old) (string_bytes out.new) (P.left places.old) (P.left places.new)
         (Row (showns (map (λ c. shown_comprehension (comprehension_of c)) cs.now)))) }
     ensures indentation { OnOk result (string_bytes indentation.new ≡ string_bytes indentation.old) }
 {
@@ -100,7 +120,7 @@ pub(crate) fn show_comprehensions(
     let mut first = true;
     for c in cs {
         push_before(out, indentation.as_str(), is_flat(style), first)?;
-        show_comprehension(out, indentation, style, c)?;
+        show_comprehension(out, indentation, style, c, places)?;
         first = false;
     }
     close(out, indentation, style, outer, "]")?;
@@ -110,15 +130,15 @@ pub(crate) fn show_comprehensions(
 /// Appends a list of arguments by name.
 #[cycle(showing)]
 #[tactic(auto, using(crate::proofs::TextLemmas::left, crate::proofs::TextLemmas::may_close))]
-pub(crate) fn show_keywords(
+pub(crate) fn show_keywords<P: Places>(
     out: &mut String,
     indentation: &mut String,
     style: Style,
     ks: &[Keyword],
+    places: &mut P,
 ) -> Result<(), AllocError>
-    ensures text { OnOk result
-        (string_bytes out.new ≡ string_bytes out.old
-        ++ text style (string_bytes indentation.old)
+    ensures text { OnOk result (Appends style (string_bytes indentation.old)
+        (string_bytes out.old) (string_bytes out.new) (P.left places.old) (P.left places.new)
         (Row (showns (map (λ k. shown_keyword (keyword_of k)) ks.now)))) }
     ensures indentation { OnOk result (string_bytes indentation.new ≡ string_bytes indentation.old) }
 {
@@ -130,7 +150,7 @@ pub(crate) fn show_keywords(
     let mut first = true;
     for k in ks {
         push_before(out, indentation.as_str(), is_flat(style), first)?;
-        show_keyword(out, indentation, style, k)?;
+        show_keyword(out, indentation, style, k, places)?;
         first = false;
     }
     close(out, indentation, style, outer, "]")?;
@@ -140,15 +160,15 @@ pub(crate) fn show_keywords(
 /// Appends a list of parameters.
 #[cycle(showing)]
 #[tactic(auto, using(crate::proofs::TextLemmas::left, crate::proofs::TextLemmas::may_close))]
-pub(crate) fn show_args(
+pub(crate) fn show_args<P: Places>(
     out: &mut String,
     indentation: &mut String,
     style: Style,
     all: &[Arg],
+    places: &mut P,
 ) -> Result<(), AllocError>
-    ensures text { OnOk result
-        (string_bytes out.new ≡ string_bytes out.old
-        ++ text style (string_bytes indentation.old)
+    ensures text { OnOk result (Appends style (string_bytes indentation.old)
+        (string_bytes out.old) (string_bytes out.new) (P.left places.old) (P.left places.new)
         (Row (showns (map (λ a. shown_arg (arg_of a)) all.now)))) }
     ensures indentation { OnOk result (string_bytes indentation.new ≡ string_bytes indentation.old) }
 {
@@ -160,7 +180,7 @@ pub(crate) fn show_args(
     let mut first = true;
     for a in all {
         push_before(out, indentation.as_str(), is_flat(style), first)?;
-        show_arg(out, indentation, style, a)?;
+        show_arg(out, indentation, style, a, places)?;
         first = false;
     }
     close(out, indentation, style, outer, "]")?;
@@ -220,15 +240,15 @@ pub(crate) fn show_names(
 /// Appends a list of names of an import.
 #[cycle(showing)]
 #[tactic(auto, using(crate::proofs::TextLemmas::left, crate::proofs::TextLemmas::may_close))]
-pub(crate) fn show_aliases(
+pub(crate) fn show_aliases<P: Places>(
     out: &mut String,
     indentation: &mut String,
     style: Style,
     names: &[Alias],
+    places: &mut P,
 ) -> Result<(), AllocError>
-    ensures text { OnOk result
-        (string_bytes out.new ≡ string_bytes out.old
-        ++ text style (string_bytes indentation.old)
+    ensures text { OnOk result (Appends style (string_bytes indentation.old)
+        (string_bytes out.old) (string_bytes out.new) (P.left places.old) (P.left places.new)
         (Row (showns (map (λ a. shown_alias (alias_of a)) names.now)))) }
     ensures indentation { OnOk result (string_bytes indentation.new ≡ string_bytes indentation.old) }
 {
@@ -236,7 +256,7 @@ pub(crate) fn show_aliases(
     let mut first = true;
     for a in names {
         push_before(out, indentation.as_str(), is_flat(style), first)?;
-        show_alias(out, indentation, style, a)?;
+        show_alias(out, indentation, style, a, places)?;
         first = false;
     }
     close(out, indentation, style, outer, "]")?;
@@ -246,15 +266,15 @@ pub(crate) fn show_aliases(
 /// Appends a list of items of a `with`.
 #[cycle(showing)]
 #[tactic(auto, using(crate::proofs::TextLemmas::left, crate::proofs::TextLemmas::may_close))]
-pub(crate) fn show_items(
+pub(crate) fn show_items<P: Places>(
     out: &mut String,
     indentation: &mut String,
     style: Style,
     items: &[Item],
+    places: &mut P,
 ) -> Result<(), AllocError>
-    ensures text { OnOk result
-        (string_bytes out.new ≡ string_bytes out.old
-        ++ text style (string_bytes indentation.old)
+    ensures text { OnOk result (Appends style (string_bytes indentation.old)
+        (string_bytes out.old) (string_bytes out.new) (P.left places.old) (P.left places.new)
         (Row (showns (map (λ item. shown_item (item_of item)) items.now)))) }
     ensures indentation { OnOk result (string_bytes indentation.new ≡ string_bytes indentation.old) }
 {
@@ -262,7 +282,7 @@ pub(crate) fn show_items(
     let mut first = true;
     for item in items {
         push_before(out, indentation.as_str(), is_flat(style), first)?;
-        show_item(out, indentation, style, item)?;
+        show_item(out, indentation, style, item, places)?;
         first = false;
     }
     close(out, indentation, style, outer, "]")?;
@@ -272,15 +292,15 @@ pub(crate) fn show_items(
 /// Appends a list of parameters of a type.
 #[cycle(showing)]
 #[tactic(auto, using(crate::proofs::TextLemmas::left, crate::proofs::TextLemmas::may_close))]
-pub(crate) fn show_type_params(
+pub(crate) fn show_type_params<P: Places>(
     out: &mut String,
     indentation: &mut String,
     style: Style,
     all: &[TypeParam],
+    places: &mut P,
 ) -> Result<(), AllocError>
-    ensures text { OnOk result
-        (string_bytes out.new ≡ string_bytes out.old
-        ++ text style (string_bytes indentation.old)
+    ensures text { OnOk result (Appends style (string_bytes indentation.old)
+        (string_bytes out.old) (string_bytes out.new) (P.left places.old) (P.left places.new)
         (Row (showns (map (λ p. shown_type_param (type_param_of p)) all.now)))) }
     ensures indentation { OnOk result (string_bytes indentation.new ≡ string_bytes indentation.old) }
 {
@@ -288,7 +308,7 @@ pub(crate) fn show_type_params(
     let mut first = true;
     for p in all {
         push_before(out, indentation.as_str(), is_flat(style), first)?;
-        show_type_param(out, indentation, style, p)?;
+        show_type_param(out, indentation, style, p, places)?;
         first = false;
     }
     close(out, indentation, style, outer, "]")?;

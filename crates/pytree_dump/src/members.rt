@@ -1,57 +1,69 @@
 //! The parts of a tree that are no expressions, as arguments and parameters.
 
-ghost use Rattle.std.specs.Prelude.{◌≡◌, ◌++◌, OnOk};
+ghost use Rattle.std.specs.Prelude.{◌≡◌, OnOk};
 ghost use Rattle.std.specs.String.{string_bytes};
-ghost use Rattle.pytree_dump_text.specs.Layout.{text};
 ghost use Rattle.pytree_dump_text.specs.Shows.{shown_alias, shown_arg, shown_arguments};
 ghost use Rattle.pytree_dump_text.specs.Shows.{shown_comprehension, shown_item, shown_keyword};
 ghost use Rattle.pytree_dump_text.specs.Shows.{shown_type_param};
-ghost use Rattle.pytree_node.specs.TreeOf.{alias_of, arg_of, arguments_of, comprehension_of, item_of};
-ghost use Rattle.pytree_node.specs.TreeOf.{keyword_of, type_param_of};
+ghost use Rattle.pytree_node.specs.TreeOf.{alias_of, arg_of, arguments_of, comprehension_of};
+ghost use Rattle.pytree_node.specs.TreeOf.{item_of, keyword_of, type_param_of};
+ghost use Rattle.pytree_marked.specs.Appends.{Appends};
 
-use crate::nodes::{show_four, show_one, show_seven, show_three, show_two};
-use pytree_dump_text::{Field, Part, Style, arg_part, boxed_part, name_part, option_part};
+use crate::nodes::{show_field, show_one, show_seven, show_three, show_two};
+use pytree_dump_text::{
+    Field, Part, Style, Told, arg_part, boxed_part, close, is_flat, is_short_two, name_part, open,
+    option_part,
+};
+use pytree_marked::{Places, is_told_on_line};
 use pytree_node::{Alias, Arg, Arguments, Comprehension, Item, Keyword, TypeParam};
 use std::alloc::AllocError;
 
-/// Appends a clause of a comprehension.
+/// Appends a clause of a comprehension, which has no place.
 #[cycle(showing)]
-#[tactic(auto, using(pytree_node::proofs::Callers::ExprShapes::comprehension_tree, crate::proofs::RowLemmas::rows))]
-pub(crate) fn show_comprehension(
+#[tactic(auto, using(pytree_node::proofs::Callers::ExprShapes::comprehension_tree, crate::proofs::RowLemmas::rows, crate::proofs::TextLemmas::left, crate::proofs::TextLemmas::may_close))]
+pub(crate) fn show_comprehension<P: Places>(
     out: &mut String,
     indentation: &mut String,
     style: Style,
     c: &Comprehension,
+    places: &mut P,
 ) -> Result<(), AllocError>
-    ensures text { OnOk result
-        (string_bytes out.new ≡ string_bytes out.old
-        ++ text style (string_bytes indentation.old) (shown_comprehension (comprehension_of c.now))) }
+    ensures text { OnOk result (Appends style (string_bytes indentation.old)
+        (string_bytes out.old) (string_bytes out.new) (P.left places.old) (P.left places.new)
+        (shown_comprehension (comprehension_of c.now))) }
     ensures indentation { OnOk result (string_bytes indentation.new ≡ string_bytes indentation.old) }
 {
-    show_four(
-        out,
-        indentation,
-        style,
-        "comprehension(",
-        Part::Expr(Field::Target, &c.target),
-        Part::Expr(Field::Iter, &c.iter),
-        Part::Exprs(Field::Ifs, &c.ifs),
-        Part::Flag(Field::IsAsync, c.is_async),
-    )
+    let told = Told {
+        one_line: is_flat(style),
+        named: style.names,
+        first: true,
+    };
+    let outer = open(out, indentation, style, "comprehension(")?;
+    let target = Part::Expr(Field::Target, &c.target);
+    let told = show_field(out, indentation, style, told, target, places)?;
+    let iter = Part::Expr(Field::Iter, &c.iter);
+    let told = show_field(out, indentation, style, told, iter, places)?;
+    let ifs = Part::Exprs(Field::Ifs, &c.ifs);
+    let told = show_field(out, indentation, style, told, ifs, places)?;
+    let is_async = Part::Flag(Field::IsAsync, c.is_async);
+    show_field(out, indentation, style, told, is_async, places)?;
+    close(out, indentation, style, outer, ")")?;
+    Ok(())
 }
 
 /// Appends an argument by name.
 #[cycle(showing)]
 #[tactic(auto, using(pytree_node::proofs::Callers::ExprShapes::keyword_tree))]
-pub(crate) fn show_keyword(
+pub(crate) fn show_keyword<P: Places>(
     out: &mut String,
     indentation: &mut String,
     style: Style,
     k: &Keyword,
+    places: &mut P,
 ) -> Result<(), AllocError>
-    ensures text { OnOk result
-        (string_bytes out.new ≡ string_bytes out.old
-        ++ text style (string_bytes indentation.old) (shown_keyword (keyword_of k.now))) }
+    ensures text { OnOk result (Appends style (string_bytes indentation.old)
+        (string_bytes out.old) (string_bytes out.new) (P.left places.old) (P.left places.new)
+        (shown_keyword (keyword_of k.now))) }
     ensures indentation { OnOk result (string_bytes indentation.new ≡ string_bytes indentation.old) }
 {
     show_two(
@@ -61,21 +73,23 @@ pub(crate) fn show_keyword(
         "keyword(",
         name_part(Field::Arg, &k.arg),
         Part::Expr(Field::Value, &k.value),
+        places,
     )
 }
 
 /// Appends a parameter. It has no type comment.
 #[cycle(showing)]
 #[tactic(auto, using(pytree_node::proofs::Callers::ExprShapes::arg_tree))]
-pub(crate) fn show_arg(
+pub(crate) fn show_arg<P: Places>(
     out: &mut String,
     indentation: &mut String,
     style: Style,
     a: &Arg,
+    places: &mut P,
 ) -> Result<(), AllocError>
-    ensures text { OnOk result
-        (string_bytes out.new ≡ string_bytes out.old
-        ++ text style (string_bytes indentation.old) (shown_arg (arg_of a.now))) }
+    ensures text { OnOk result (Appends style (string_bytes indentation.old)
+        (string_bytes out.old) (string_bytes out.new) (P.left places.old) (P.left places.new)
+        (shown_arg (arg_of a.now))) }
     ensures indentation { OnOk result (string_bytes indentation.new ≡ string_bytes indentation.old) }
 {
     show_three(
@@ -86,20 +100,22 @@ pub(crate) fn show_arg(
         Part::Name(Field::Arg, &a.arg),
         boxed_part(Field::Annotation, &a.annotation),
         Part::LeftOut,
+        places,
     )
 }
 
 /// Appends the parameters of a function.
 #[cycle(showing)]
-pub(crate) fn show_arguments(
+pub(crate) fn show_arguments<P: Places>(
     out: &mut String,
     indentation: &mut String,
     style: Style,
     a: &Arguments,
+    places: &mut P,
 ) -> Result<(), AllocError>
-    ensures text { OnOk result
-        (string_bytes out.new ≡ string_bytes out.old
-        ++ text style (string_bytes indentation.old) (shown_arguments (arguments_of a.now))) }
+    ensures text { OnOk result (Appends style (string_bytes indentation.old)
+        (string_bytes out.old) (string_bytes out.new) (P.left places.old) (P.left places.new)
+        (shown_arguments (arguments_of a.now))) }
     ensures indentation { OnOk result (string_bytes indentation.new ≡ string_bytes indentation.old) }
 {
     show_seven(
@@ -114,20 +130,22 @@ pub(crate) fn show_arguments(
         Part::Options(Field::KwDefaults, &a.kw_defaults),
         arg_part(Field::Kwarg, &a.kwarg),
         Part::Exprs(Field::Defaults, &a.defaults),
+        places,
     )
 }
 
 /// Appends a name of an import.
 #[cycle(showing)]
-pub(crate) fn show_alias(
+pub(crate) fn show_alias<P: Places>(
     out: &mut String,
     indentation: &mut String,
     style: Style,
     a: &Alias,
+    places: &mut P,
 ) -> Result<(), AllocError>
-    ensures text { OnOk result
-        (string_bytes out.new ≡ string_bytes out.old
-        ++ text style (string_bytes indentation.old) (shown_alias (alias_of a.now))) }
+    ensures text { OnOk result (Appends style (string_bytes indentation.old)
+        (string_bytes out.old) (string_bytes out.new) (P.left places.old) (P.left places.new)
+        (shown_alias (alias_of a.now))) }
     ensures indentation { OnOk result (string_bytes indentation.new ≡ string_bytes indentation.old) }
 {
     show_two(
@@ -137,43 +155,55 @@ pub(crate) fn show_alias(
         "alias(",
         Part::Name(Field::Name, &a.name),
         name_part(Field::Asname, &a.asname),
+        places,
     )
 }
 
-/// Appends an item of a `with`.
+/// Appends an item of a `with`, which has no place.
 #[cycle(showing)]
-pub(crate) fn show_item(
+#[tactic(auto, using(crate::proofs::TextLemmas::left, crate::proofs::TextLemmas::may_close))]
+pub(crate) fn show_item<P: Places>(
     out: &mut String,
     indentation: &mut String,
     style: Style,
     item: &Item,
+    places: &mut P,
 ) -> Result<(), AllocError>
-    ensures text { OnOk result
-        (string_bytes out.new ≡ string_bytes out.old
-        ++ text style (string_bytes indentation.old) (shown_item (item_of item.now))) }
+    ensures text { OnOk result (Appends style (string_bytes indentation.old)
+        (string_bytes out.old) (string_bytes out.new) (P.left places.old) (P.left places.new)
+        (shown_item (item_of item.now))) }
     ensures indentation { OnOk result (string_bytes indentation.new ≡ string_bytes indentation.old) }
 {
-    show_two(
-        out,
-        indentation,
-        style,
-        "withitem(",
-        Part::Expr(Field::ContextExpr, &item.context_expr),
-        option_part(Field::OptionalVars, &item.optional_vars),
-    )
+    let context_expr = Part::Expr(Field::ContextExpr, &item.context_expr);
+    let optional_vars = option_part(Field::OptionalVars, &item.optional_vars);
+    let told = Told {
+        one_line: is_told_on_line(
+            style,
+            is_short_two(style, context_expr, optional_vars),
+            places,
+        ),
+        named: style.names,
+        first: true,
+    };
+    let outer = open(out, indentation, style, "withitem(")?;
+    let told = show_field(out, indentation, style, told, context_expr, places)?;
+    show_field(out, indentation, style, told, optional_vars, places)?;
+    close(out, indentation, style, outer, ")")?;
+    Ok(())
 }
 
 /// Appends a parameter of a type.
 #[cycle(showing)]
-pub(crate) fn show_type_param(
+pub(crate) fn show_type_param<P: Places>(
     out: &mut String,
     indentation: &mut String,
     style: Style,
     p: &TypeParam,
+    places: &mut P,
 ) -> Result<(), AllocError>
-    ensures text { OnOk result
-        (string_bytes out.new ≡ string_bytes out.old
-        ++ text style (string_bytes indentation.old) (shown_type_param (type_param_of p.now))) }
+    ensures text { OnOk result (Appends style (string_bytes indentation.old)
+        (string_bytes out.old) (string_bytes out.new) (P.left places.old) (P.left places.new)
+        (shown_type_param (type_param_of p.now))) }
     ensures indentation { OnOk result (string_bytes indentation.new ≡ string_bytes indentation.old) }
 {
     match p {
@@ -184,6 +214,7 @@ pub(crate) fn show_type_param(
             "TypeVar(",
             Part::Name(Field::Name, name),
             option_part(Field::Bound, bound),
+            places,
         ),
         TypeParam::ParamSpec { name } => {
             show_one(
@@ -192,6 +223,7 @@ pub(crate) fn show_type_param(
                 style,
                 "ParamSpec(",
                 Part::Name(Field::Name, name),
+                places,
             )
         }
         TypeParam::TypeVarTuple { name } => {
@@ -201,6 +233,7 @@ pub(crate) fn show_type_param(
                 style,
                 "TypeVarTuple(",
                 Part::Name(Field::Name, name),
+                places,
             )
         }
     }

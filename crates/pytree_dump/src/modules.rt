@@ -1,14 +1,16 @@
 //! The dump of a module.
 
-ghost use Rattle.std.specs.Prelude.{◌≡◌, IfOk};
+ghost use Rattle.std.specs.Prelude.{◌≡◌, IfOk, OnOk, drop};
 ghost use Rattle.std.specs.String.{string_bytes};
 ghost use Rattle.pytree_dump_text.specs.Layout.{dump_text};
 ghost use Rattle.pytree_dump_text.specs.Shows.{shown_module};
 ghost use Rattle.pytree_node.specs.TreeOf.{module_of};
+ghost use Rattle.pytree_marked.specs.MarkedNodes.{marked, with_places};
 
 use crate::nodes::show_field;
 use crate::statements::show_block;
 use pytree_dump_text::{Field, Part, Style, Told, close, is_short_module, open};
+use pytree_marked::{NoPlaces, Places};
 use pytree_node::{Module, Stmt};
 use std::alloc::{AllocError, Global};
 
@@ -21,6 +23,26 @@ pub fn dump(alloc: Global, tree: &Module, style: Style) -> Result<String, AllocE
     ensures { IfOk result
         (λ t. string_bytes t ≡ dump_text style (shown_module style.profile (module_of tree.now))) }
 {
+    dump_placed(alloc, tree, style, &mut NoPlaces)
+}
+
+/// The dump text of a module with the places of its nodes: what Python's `ast.dump` gives with
+/// attributes.
+///
+/// The places are taken in the order in which the dump writes them, that of a node behind those in
+/// its fields, one for each node that has a place. Where none is left, no more are shown.
+#[inline(always)]
+pub fn dump_placed<P: Places>(
+    alloc: Global,
+    tree: &Module,
+    style: Style,
+    places: &mut P,
+) -> Result<String, AllocError>
+    ensures text { IfOk result (λ t. string_bytes t ≡ dump_text style
+        (with_places (P.left places.old) (shown_module style.profile (module_of tree.now))).shown) }
+    ensures left { OnOk result (P.left places.new
+        ≡ drop (marked (shown_module style.profile (module_of tree.now))) (P.left places.old)) }
+{
     let body: &[Stmt] = &tree.body;
     let mut out = String::new(alloc);
     let mut indentation = String::from_str(alloc, "\n")?;
@@ -30,13 +52,22 @@ pub fn dump(alloc: Global, tree: &Module, style: Style) -> Result<String, AllocE
         first: true,
     };
     let outer = open(&mut out, &mut indentation, style, "Module(")?;
-    let told = show_block(&mut out, &mut indentation, style, told, Field::Body, body)?;
+    let told = show_block(
+        &mut out,
+        &mut indentation,
+        style,
+        told,
+        Field::Body,
+        body,
+        places,
+    )?;
     show_field(
         &mut out,
         &mut indentation,
         style,
         told,
         Part::Names(Field::TypeIgnores, &[]),
+        places,
     )?;
     close(&mut out, &mut indentation, style, outer, ")")?;
     Ok(out)

@@ -1,36 +1,38 @@
 //! The dump of statements.
 
-ghost use Rattle.std.specs.Prelude.{◌≡◌, ◌++◌, IfOk, OnOk};
+ghost use Rattle.std.specs.Prelude.{◌≡◌, IfOk, OnOk};
 ghost use Rattle.std.specs.String.{string_bytes};
 ghost use Rattle.pytree_dump_text.specs.Blocks.{shown_block};
 ghost use Rattle.pytree_dump_text.specs.Names.{field_name};
-ghost use Rattle.pytree_dump_text.specs.Slots.{coming};
-ghost use Rattle.pytree_dump_text.specs.Layout.{text};
-ghost use Rattle.pytree_dump_text.specs.Shows.{Fields, a_field, shown_stmt};
+ghost use Rattle.pytree_dump_text.specs.Shows.{a_field, shown_stmt};
 ghost use Rattle.pytree_node.specs.TreeOf.{stmt_of};
+ghost use Rattle.pytree_marked.specs.Appends.{Appends, AppendsField};
 
 use crate::cases::show_match;
 use crate::compounds::{show_class, show_for, show_function, show_test, show_try, show_with};
+use crate::leaves::show_word_with;
 use crate::nodes::{show_four, show_one, show_three, show_two};
 use pytree_dump_text::{
     Field, Part, Style, Told, boxed_part, close, is_flat, name_part, open, option_part,
     push_before, push_lead,
 };
+use pytree_marked::Places;
 use pytree_node::Stmt;
 use std::alloc::AllocError;
 
 /// Appends what a statement shows.
 #[cycle(blocks)]
 #[tactic(auto, using(pytree_node::proofs::Callers::StmtShapes::stmt_shapes, crate::proofs::RowLemmas::stmt_rows, crate::proofs::BlockLemmas::block_rows))]
-pub(crate) fn show_stmt(
+pub(crate) fn show_stmt<P: Places>(
     out: &mut String,
     indentation: &mut String,
     style: Style,
     s: &Stmt,
+    places: &mut P,
 ) -> Result<(), AllocError>
-    ensures text { OnOk result
-        (string_bytes out.new ≡ string_bytes out.old
-        ++ text style (string_bytes indentation.old) (shown_stmt style.profile (stmt_of s.now))) }
+    ensures text { OnOk result (Appends style (string_bytes indentation.old)
+        (string_bytes out.old) (string_bytes out.new) (P.left places.old) (P.left places.new)
+        (shown_stmt style.profile (stmt_of s.now))) }
     ensures indentation { OnOk result (string_bytes indentation.new ≡ string_bytes indentation.old) }
 {
     match s {
@@ -52,6 +54,7 @@ pub(crate) fn show_stmt(
             decorator_list,
             returns,
             type_params,
+            places,
         ),
         Stmt::AsyncFunctionDef {
             name,
@@ -71,6 +74,7 @@ pub(crate) fn show_stmt(
             decorator_list,
             returns,
             type_params,
+            places,
         ),
         Stmt::ClassDef {
             name,
@@ -89,6 +93,7 @@ pub(crate) fn show_stmt(
             body,
             decorator_list,
             type_params,
+            places,
         ),
         Stmt::Return { value } => show_one(
             out,
@@ -96,6 +101,7 @@ pub(crate) fn show_stmt(
             style,
             "Return(",
             option_part(Field::Value, value),
+            places,
         ),
         Stmt::Delete { targets } => show_one(
             out,
@@ -103,6 +109,7 @@ pub(crate) fn show_stmt(
             style,
             "Delete(",
             Part::Exprs(Field::Targets, targets),
+            places,
         ),
         Stmt::Assign { targets, value } => show_three(
             out,
@@ -112,6 +119,7 @@ pub(crate) fn show_stmt(
             Part::Exprs(Field::Targets, targets),
             Part::Expr(Field::Value, value),
             Part::LeftOut,
+            places,
         ),
         Stmt::TypeAlias {
             name,
@@ -125,6 +133,7 @@ pub(crate) fn show_stmt(
             Part::Expr(Field::Name, name),
             Part::TypeParams(Field::TypeParams, type_params),
             Part::Expr(Field::Value, value),
+            places,
         ),
         Stmt::AugAssign { target, op, value } => show_three(
             out,
@@ -134,6 +143,7 @@ pub(crate) fn show_stmt(
             Part::Expr(Field::Target, target),
             Part::Operator(*op),
             Part::Expr(Field::Value, value),
+            places,
         ),
         Stmt::AnnAssign {
             target,
@@ -149,13 +159,24 @@ pub(crate) fn show_stmt(
             Part::Expr(Field::Annotation, annotation),
             boxed_part(Field::Value, value),
             Part::Flag(Field::Simple, *simple),
+            places,
         ),
         Stmt::For {
             target,
             iter,
             body,
             orelse,
-        } => show_for(out, indentation, style, "For(", target, iter, body, orelse),
+        } => show_for(
+            out,
+            indentation,
+            style,
+            "For(",
+            target,
+            iter,
+            body,
+            orelse,
+            places,
+        ),
         Stmt::AsyncFor {
             target,
             iter,
@@ -170,6 +191,7 @@ pub(crate) fn show_stmt(
             iter,
             body,
             orelse,
+            places,
         ),
         Stmt::While { test, body, orelse } => show_test(
             out,
@@ -179,6 +201,7 @@ pub(crate) fn show_stmt(
             test,
             body,
             orelse,
+            places,
         ),
         Stmt::If { test, body, orelse } => show_test(
             out,
@@ -188,8 +211,17 @@ pub(crate) fn show_stmt(
             test,
             body,
             orelse,
+            places,
         ),
-        Stmt::With { items, body } => show_with(out, indentation, style, "With(", items, body),
+        Stmt::With { items, body } => show_with(
+            out,
+            indentation,
+            style,
+            "With(",
+            items,
+            body,
+            places,
+        ),
         Stmt::AsyncWith { items, body } => show_with(
             out,
             indentation,
@@ -197,8 +229,16 @@ pub(crate) fn show_stmt(
             "AsyncWith(",
             items,
             body,
+            places,
         ),
-        Stmt::Match { subject, cases } => show_match(out, indentation, style, subject, cases),
+        Stmt::Match { subject, cases } => show_match(
+            out,
+            indentation,
+            style,
+            subject,
+            cases,
+            places,
+        ),
         Stmt::Raise { exc, cause } => show_two(
             out,
             indentation,
@@ -206,6 +246,7 @@ pub(crate) fn show_stmt(
             "Raise(",
             option_part(Field::Exc, exc),
             option_part(Field::Cause, cause),
+            places,
         ),
         Stmt::Try {
             body,
@@ -221,6 +262,7 @@ pub(crate) fn show_stmt(
             handlers,
             orelse,
             finalbody,
+            places,
         ),
         Stmt::TryStar {
             body,
@@ -236,6 +278,7 @@ pub(crate) fn show_stmt(
             handlers,
             orelse,
             finalbody,
+            places,
         ),
         Stmt::Assert { test, msg } => show_two(
             out,
@@ -244,6 +287,7 @@ pub(crate) fn show_stmt(
             "Assert(",
             Part::Expr(Field::Test, test),
             option_part(Field::Msg, msg),
+            places,
         ),
         Stmt::Import { names } => show_one(
             out,
@@ -251,6 +295,7 @@ pub(crate) fn show_stmt(
             style,
             "Import(",
             Part::Aliases(Field::Names, names),
+            places,
         ),
         Stmt::ImportFrom {
             module,
@@ -264,6 +309,7 @@ pub(crate) fn show_stmt(
             name_part(Field::Module, module),
             Part::Aliases(Field::Names, names),
             Part::Number(Field::Level, *level),
+            places,
         ),
         Stmt::Global { names } => show_one(
             out,
@@ -271,6 +317,7 @@ pub(crate) fn show_stmt(
             style,
             "Global(",
             Part::Names(Field::Names, names),
+            places,
         ),
         Stmt::Nonlocal { names } => show_one(
             out,
@@ -278,6 +325,7 @@ pub(crate) fn show_stmt(
             style,
             "Nonlocal(",
             Part::Names(Field::Names, names),
+            places,
         ),
         Stmt::Expr { value } => show_one(
             out,
@@ -285,32 +333,41 @@ pub(crate) fn show_stmt(
             style,
             "Expr(",
             Part::Expr(Field::Value, value),
+            places,
         ),
-        Stmt::Pass => out.push_str("Pass()"),
-        Stmt::Break => out.push_str("Break()"),
-        Stmt::Continue => out.push_str("Continue()"),
+        Stmt::Pass => show_word_with(out, indentation, style, "Pass()", "Pass(", places),
+        Stmt::Break => show_word_with(out, indentation, style, "Break()", "Break(", places),
+        Stmt::Continue => show_word_with(
+            out,
+            indentation,
+            style,
+            "Continue()",
+            "Continue(",
+            places,
+        ),
     }
 }
 
 /// Appends some statements as a list.
 #[cycle(blocks)]
 #[tactic(auto, using(crate::proofs::TextLemmas::left, crate::proofs::TextLemmas::may_close))]
-fn show_stmts(
+fn show_stmts<P: Places>(
     out: &mut String,
     indentation: &mut String,
     style: Style,
     body: &[Stmt],
+    places: &mut P,
 ) -> Result<(), AllocError>
-    ensures text { OnOk result
-        (string_bytes out.new ≡ string_bytes out.old
-        ++ text style (string_bytes indentation.old) (shown_block style.profile body.now)) }
+    ensures text { OnOk result (Appends style (string_bytes indentation.old)
+        (string_bytes out.old) (string_bytes out.new) (P.left places.old) (P.left places.new)
+        (shown_block style.profile body.now)) }
     ensures indentation { OnOk result (string_bytes indentation.new ≡ string_bytes indentation.old) }
 {
     let outer = open(out, indentation, style, "[")?;
     let mut first = true;
     for s in body {
         push_before(out, indentation.as_str(), is_flat(style), first)?;
-        show_stmt(out, indentation, style, s)?;
+        show_stmt(out, indentation, style, s, places)?;
         first = false;
     }
     close(out, indentation, style, outer, "]")?;
@@ -319,23 +376,22 @@ fn show_stmts(
 
 /// Appends a block as a field, and tells how the fields behind it are told.
 #[cycle(blocks)]
-pub(crate) fn show_block(
+pub(crate) fn show_block<P: Places>(
     out: &mut String,
     indentation: &mut String,
     style: Style,
     told: Told,
     field: Field,
     body: &[Stmt],
+    places: &mut P,
 ) -> Result<Told, AllocError>
-    ensures text { IfOk result (λ next. (rest : Fields) →
-        string_bytes out.new ++ coming style (string_bytes indentation.old) next rest
-        ≡ string_bytes out.old
-        ++ coming style (string_bytes indentation.old) told
-        (a_field (field_name field) (shown_block style.profile body.now) rest)) }
+    ensures text { IfOk result (λ next. AppendsField style (string_bytes indentation.old)
+        (string_bytes out.old) (string_bytes out.new) (P.left places.old) (P.left places.new)
+        told next (λ rest. a_field (field_name field) (shown_block style.profile body.now) rest)) }
     ensures indentation { OnOk result (string_bytes indentation.new ≡ string_bytes indentation.old) }
 {
     push_lead(out, indentation.as_str(), told, field)?;
-    show_stmts(out, indentation, style, body)?;
+    show_stmts(out, indentation, style, body, places)?;
     Ok(Told {
         one_line: told.one_line,
         named: told.named,

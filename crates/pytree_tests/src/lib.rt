@@ -39,6 +39,8 @@ mod nodes;
 #[cfg(test)]
 mod patterns;
 #[cfg(test)]
+mod placed_dumps;
+#[cfg(test)]
 mod refusals;
 #[cfg(test)]
 mod sources;

@@ -34,7 +34,8 @@ round_under l m h (d ∷ ds) = elim (nat_lt d.level m) as (λ b. nat_lt d.level 
       | true ↦ λ e. refl
       | false ↦ λ e.
           let k : m ≤ d.level = ltb-false d.level m e in
-          round_under l m h ds ∙ sym (ap (λ b. cond b (d.round + (d.arms + d.own)) (round_at l ds)) (not_less d.level l (omega (arith, h, k))))
+          round_under l m h ds
+          ∙ sym (ap (λ b. cond b (d.round + (d.arms + d.own)) (round_at l ds)) (not_less d.level l (omega (arith, h, k))))
     ] refl
 
 elif_under : (l m : ℕ) → l < m → (ds : List Depth) → arms_at ElifLine l (under m ds) ≡ arms_at ElifLine l ds
@@ -165,19 +166,3 @@ depth_within x earlier =
     let b = arms_are (kind_of x.form) x.level earlier in
     let c = within_lines (kind_of x.form) x.level earlier in
     omega (arith, a, b, c)
-
--- each level that is kept is deeper than those after it
-abbrev pub AreUnder : ℕ → List Depth → Type 0
-AreUnder l [] = Unit {0}
-AreUnder l (d ∷ ds) = (d.level < l) × AreUnder d.level ds
-
-pub are_under : (l : ℕ) (ds : List Depth) (m : ℕ) → AreUnder m ds → AreUnder l (under l ds)
-are_under l [] m h = tt
-are_under l (d ∷ ds) m h = elim (nat_lt d.level l) as (λ b. nat_lt d.level l ≡ b → AreUnder l (cond b (d ∷ ds) (under l ds))) [
-  | true ↦ λ e. (ltb-true d.level l e, h.1)
-  | false ↦ λ e. are_under l ds d.level h.1
-] refl
-
-pub depths_fall : (x : Line) (earlier : List Line) → AreUnder (suc x.level) (depths (x ∷ earlier))
-depths_fall x [] = (omega arith, tt)
-depths_fall x (y ∷ earlier) = (omega arith, are_under x.level (depths (y ∷ earlier)) (suc y.level) (depths_fall y earlier))

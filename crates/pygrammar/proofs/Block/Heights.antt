@@ -1,7 +1,7 @@
 -- The lines of a statement reach as deep as the statement is high.
 --
 -- Carries: high, AreFlat, deepest, IsFlat and 2 more, for Deep,
--- WorkedDepths, DeepLines. On: Around.
+-- WorkedDepths. On: Around.
 use Rattle.std.proofs.Common.{◌≡◌, ℕ, suc, ◌+◌, ◌≤◌, max, List, [], ◌∷◌, ◌++◌, Option, Some, None, Bool, true, false, cond, refl, sym, ap}
 use Rattle.std.proofs.Common.{◌∙◌, subst, arith}
 use Rattle.pytree_node.specs.Trees.{Expr, Pattern, Stmt, Case, Handler, stmts, cases, handlers}

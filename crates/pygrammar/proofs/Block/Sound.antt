@@ -1,9 +1,10 @@
 -- What the reading of blocks gives is a tree of the relation.
 --
 -- Carries: read_gives, for Law, LineMore, Worked. On: Nested, Growing, Steps.
-use Rattle.std.proofs.Common.{◌≡◌, ℕ, suc, ◌≤◌, List, [], ◌∷◌, ◌++◌, length, Option, Some, None, Bool, true, false, ◌&&◌, cond, refl, sym}
+use Rattle.std.proofs.Common.{◌≡◌, ℕ, suc, ◌≤◌, List, [], ◌∷◌, ◌++◌, length, Option, Some, None, Bool, true, false, cond, refl, sym}
 use Rattle.std.proofs.Common.{ap, ◌∙◌, subst, arith, append_assoc, append-nil}
 use Rattle.std.specs.Prelude.{nat_lt}
+use Rattle.std.proofs.lemmas.Bool.{and_parts}
 use borrow.Author.Tests.{ltb-false}
 use Rattle.pytree_node.specs.Trees.{Expr, Stmt, Case}
 use Rattle.pygrammar.specs.Lines.{Line, line, Form, simple_form, decorator_form, header_form, Header, match_header, is_proper, are_proper}
@@ -271,11 +272,7 @@ step_holds seen s x t o h e = step_from seen s x t o h (settle x.level s) refl e
 
 -- the first line, and those behind it
 proper_parts : (x : Line) (xs : List Line) → are_proper (x ∷ xs) ≡ true → (is_proper x.form ≡ true) × (are_proper xs ≡ true)
-proper_parts x xs o = both (is_proper x.form) (are_proper xs) o
-  where
-    both : (a b : Bool) → a && b ≡ true → (a ≡ true) × (b ≡ true)
-    both true b e = (refl, e)
-    both false b e = cc
+proper_parts x xs o = and_parts (is_proper x.form) (are_proper xs) o
 
 run_holds : (seen xs : List Line) (s t : State) → are_proper xs ≡ true → HoldsState seen s → run xs s ≡ Fine t → HoldsState (seen ++ xs) t
 run_holds seen [] s t o h e =

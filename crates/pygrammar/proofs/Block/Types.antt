@@ -3,6 +3,7 @@
 --
 -- Carries: old_has_no_types, for SourceLaw. On: Stays, Answer.
 use Rattle.std.proofs.Common.{◌≡◌, ◌↔◌, ℕ, List, [], ◌∷◌, ◌++◌, Option, Some, None, Bool, true, false, not, ◌&&◌, refl, sym, ap, ◌∙◌}
+use Rattle.std.proofs.lemmas.Bool.{and_parts, and_from}
 use Rattle.pylex.specs.Listing.{Source}
 use Rattle.pytree_node.specs.declared.profiles.Extent.{Extent}
 use Rattle.pytree_node.specs.declared.profiles.Profile.{Profile}
@@ -204,13 +205,6 @@ mutual
   ending_untyped (finally_clause p) f = body_untyped finally_header p f.0 f.1
 
 -- ---- Between the versions.
-
-and_parts : (a b : Bool) → a && b ≡ true → (a ≡ true) × (b ≡ true)
-and_parts true b h = (refl, h)
-and_parts false b h = absurd cc
-
-and_from : (a b : Bool) → a ≡ true → b ≡ true → a && b ≡ true
-and_from a b p q = ap (λ z. z && b) p ∙ q
 
 formed_untyped : {extent : Extent} {earlier : List Line} {xs : List Tokens.Line} {ys : List Line}
     → Formed (python Py311 extent) earlier xs ys → are_lines_untyped ys ≡ true

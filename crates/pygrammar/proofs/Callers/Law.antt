@@ -1,14 +1,14 @@
 -- On: the laws of the grammar of expressions.
 --
 -- Carries: what pyparse_expr, pyparse, pyunparse_text cite.
-use Rattle.std.proofs.Common.{◌≡◌, ◌⊎◌, inl, inr, refl, sym, ◌∙◌, suc, List, [], ◌∷◌, length}
+use Rattle.std.proofs.Common.{◌≡◌, ◌⊎◌, inl, inr, refl, sym, ◌∙◌, suc, [], ◌∷◌, length}
 use Rattle.pytree_node.specs.Trees.{Expr}
-use Rattle.pytoken.specs.Terminals.{Terminal}
 use Rattle.pygrammar.specs.Grammar.{Derives}
 use Rattle.pygrammar.specs.Reader.{Answer, Found, NoForm, TooDeep, reads}
 use Rattle.pygrammar.specs.Meets.{Shapeless}
 use Rattle.pygrammar.specs.Laws.{ExpressionsAreUnique, ExpressionsAreDecided, HeightsAreBounded, ReaderIsExact, LimitIsExact, LimitMeets}
 use Rattle.pygrammar.specs.Laws.{GrammarIsLawful}
+use Rattle.pygrammar.proofs.Answers.{rest_found}
 use Rattle.pygrammar.proofs.Completeness.Complete
 use Rattle.pygrammar.proofs.Depths.Whole
 use Rattle.pygrammar.proofs.Heights.Bound
@@ -17,15 +17,12 @@ use Rattle.pygrammar.proofs.Heights.Contract
 pub expressions_are_unique : ExpressionsAreUnique
 expressions_are_unique l ts a b p q = Complete.one_tree p q
 
-more_left : (a b : Expr) (t : Terminal) (r : List Terminal) → ◌≡◌ {A = Answer Expr} (Found a (t ∷ r)) (Found b []) → ⊥
-more_left a b t r h = absurd (cc)
-
 pub expressions_are_decided : ExpressionsAreDecided
 expressions_are_decided l ts = by_answer (reads l ts) refl
   where
     by_answer : (x : Answer Expr) → reads l ts ≡ x → ((e : Expr) × Derives l ts e) ⊎ Shapeless l ts
     by_answer (Found e []) h = inl (e, (Whole.exactly l ts e).1 h)
-    by_answer (Found a (t ∷ r)) h = inr (λ e p. more_left a e t r (sym h ∙ Whole.reads_all p))
+    by_answer (Found a (t ∷ r)) h = inr (λ e p. rest_found a e t r (sym h ∙ Whole.reads_all p))
     by_answer NoForm h = inr (λ e p. Whole.no_tree (suc (length ts)) l ts e h p)
     by_answer TooDeep h = absurd (Whole.answered l ts h)
 

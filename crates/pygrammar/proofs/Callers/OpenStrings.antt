@@ -42,9 +42,6 @@ tokens_close ts = (Tokens.tokens_close ts).is
 pub expression_closes : {l : Level} {ts : List Terminal} {e : Expr} → Grammar.Derives l ts e → (o : Open) → open_behind_all o ts ≡ o
 expression_closes p = (Expressions.closes p).is
 
-pub yields_closes : {ts : List Terminal} {e : Expr} → Grammar.Yields ts e → (o : Open) → open_behind_all o ts ≡ o
-yields_closes p = (Expressions.closes_yields p).is
-
 pub perhaps_closes : {l : Level} {ts : List Terminal} {a : OptionalExpr} → Grammar.Perhaps l ts a → (o : Open) → open_behind_all o ts ≡ o
 perhaps_closes p = (Expressions.closes_perhaps p).is
 
@@ -58,15 +55,7 @@ chain_closes p = (Expressions.closes_chain p).is
 pub compared_closes : {ts : List Terminal} {c : Comparison} → Grammar.Compared ts c → (o : Open) → open_behind_all o ts ≡ o
 compared_closes p = (Expressions.closes_comparison p).is
 
-pub compares_closes : {ts : List Terminal} {cs : List Comparison} {es : List Expr} → Grammar.Compares ts cs es → (o : Open)
-    → open_behind_all o ts ≡ o
-compares_closes p = (Expressions.closes_compares p).is
-
 -- the parts of f-strings
-pub literals_closes : {u : Bool} {ts : List Terminal} {ps : List StringPart} → Grammar.Literals u ts ps → (o : Open)
-    → open_behind_all o ts ≡ o
-literals_closes p = (Expressions.closes_literals p).is
-
 pub formatted_closes : {u : Bool} {ts : List Terminal} {ps : List StringPart} → Grammar.Formatted u ts ps → (o : Open)
     → open_behind_all o ts ≡ o
 formatted_closes p = (Expressions.closes_formatted p).is
@@ -82,17 +71,8 @@ pub piece_closes : {i : Item} {ts : List Terminal} {e : Entry} → Grammar.Piece
 piece_closes p = (Expressions.closes_piece p).is
 
 -- the clauses of comprehensions
-pub comps_closes : {ts : List Terminal} {gs : List Comprehension} → Grammar.Comps ts gs → (o : Open) → open_behind_all o ts ≡ o
-comps_closes p = (Expressions.closes_comps p).is
-
 pub comp_closes : {ts : List Terminal} {g : Comprehension} → Grammar.Comp ts g → (o : Open) → open_behind_all o ts ≡ o
 comp_closes p = (Expressions.closes_comp p).is
-
-pub for_in_closes : {b : Bool} {ts : List Terminal} {g : Comprehension} → Grammar.ForIn b ts g → (o : Open) → open_behind_all o ts ≡ o
-for_in_closes p = (Expressions.closes_for_in p).is
-
-pub ifs_closes : {ts : List Terminal} {es : List Expr} → Grammar.Ifs ts es → (o : Open) → open_behind_all o ts ≡ o
-ifs_closes p = (Expressions.closes_ifs p).is
 
 -- targets
 pub target_closes : {ts : List Terminal} {s : Expr} → Grammar.Target ts s → (o : Open) → open_behind_all o ts ≡ o
@@ -109,9 +89,6 @@ item_target_closes p = (Expressions.closes_item_target p).is
 
 -- ---- Patterns.
 
-pub literal_closes : {ts : List Terminal} {e : Expr} → PatternGrammar.LiteralOf ts e → (o : Open) → open_behind_all o ts ≡ o
-literal_closes p = (Patterns.closes_literal p).is
-
 pub key_closes : {ts : List Terminal} {e : Expr} → PatternGrammar.KeyOf ts e → (o : Open) → open_behind_all o ts ≡ o
 key_closes p = (Patterns.closes_key p).is
 
@@ -122,14 +99,6 @@ pub pattern_closes : {l : PatternLevel} {ts : List Terminal} {p : Pattern} → P
     → (o : Open) → open_behind_all o ts ≡ o
 pattern_closes p = (Patterns.closes_pattern p).is
 
-pub alternatives_closes : {ts : List Terminal} {ps : List Pattern} → PatternGrammar.Alternatives ts ps → (o : Open)
-    → open_behind_all o ts ≡ o
-alternatives_closes p = (Patterns.closes_alternatives p).is
-
-pub entries_closes : {i : PatternItem} {ts : List Terminal} {es : List PatternEntry} → PatternGrammar.PatternListing i ts es
-    → (o : Open) → open_behind_all o ts ≡ o
-entries_closes p = (Patterns.closes_entries p).is
-
 pub entry_closes : {i : PatternItem} {ts : List Terminal} {e : PatternEntry} → PatternGrammar.PatternPiece i ts e
     → (o : Open) → open_behind_all o ts ≡ o
 entry_closes p = (Patterns.closes_entry p).is
@@ -139,19 +108,12 @@ entry_closes p = (Patterns.closes_entry p).is
 pub simple_closes : {profile : Profile} {ts : List Terminal} {s : Stmt} → Forms.Simple profile ts s → (o : Open) → open_behind_all o ts ≡ o
 simple_closes p = (Lines.closes_simple p).is
 
-pub simples_closes : {profile : Profile} {ts : List Terminal} {ss : List Stmt} → Forms.Simples profile ts ss → (o : Open)
-    → open_behind_all o ts ≡ o
-simples_closes p = (Lines.closes_simples p).is
-
 pub header_closes : {profile : Profile} {ts : List Terminal} {h : Header} → Forms.HeaderOf profile ts h → (o : Open)
     → open_behind_all o ts ≡ o
 header_closes p = (Lines.closes_header p).is
 
 pub case_closes : {ts : List Terminal} {h : Header} → Forms.CaseOf ts h → (o : Open) → open_behind_all o ts ≡ o
 case_closes p = (Lines.closes_case p).is
-
-pub form_closes : {profile : Profile} {ts : List Terminal} {f : Form} → Forms.FormOf profile ts f → (o : Open) → open_behind_all o ts ≡ o
-form_closes p = (Lines.closes_form p).is
 
 pub line_closes : {profile : Profile} {inside : Bool} {ts : List Terminal} {f : Form} → Forms.FormAt profile inside ts f
     → (o : Open) → open_behind_all o ts ≡ o

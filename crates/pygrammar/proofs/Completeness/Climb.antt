@@ -286,10 +286,6 @@ power_climbs ts us a b d p q k le rest s =
     (v.0, v.1, ap (climb (read (suc (suc d))) (read (suc d)) k) (append_assoc ts (Op DoubleStar ∷ us) rest) ∙ c.2 ∙ v.2)
 
 -- chains of a word
-pub append_none : (es : List Expr) → es ++ [] ≡ es
-append_none [] = refl
-append_none (e ∷ es) = ap (λ z. e ∷ z) (append_none es)
-
 abbrev pub ChainReads : BoolOperator → List Terminal → List Expr → Type 0
 ChainReads o us es = (n : ℕ) × ((d : ℕ) → n ≤ d → (rest : List Terminal) → grip_of rest < rank (chain_level o) → (m : ℕ)
     → suc (length (us ++ rest)) ≤ m → (acc : List Expr)

@@ -19,8 +19,9 @@ use Rattle.pygrammar.specs.FormattedStrings.{StringPart, Text, merged, values_of
 use Rattle.pygrammar.specs.Entries.{Item, Of, Pair, Argument, Entry, Single}
 use Rattle.pygrammar.specs.Arguments.{called}
 use Rattle.pygrammar.specs.Grammar as G
-use Rattle.pygrammar.specs.Reader.{Answer, Found, made, primary_loop, read, piece, comps_closed, others_of, call_step, Reads}
+use Rattle.pygrammar.specs.Reader.{Found, made, primary_loop, read, piece, comps_closed, others_of, call_step, Reads}
 use Rattle.pygrammar.specs.Precedence.{starts, starts_comp}
+use Rattle.pygrammar.proofs.Answers.{found_one}
 use Rattle.pygrammar.proofs.Completeness.LookLemmas.{grip_of}
 use Rattle.pygrammar.proofs.Completeness.Climb.{Stops, ReadsAt, ReadsAs, deeper, answers, ChainReads, ComparesReads, last_link_goes}
 use Rattle.pygrammar.proofs.Completeness.Climb.{link_goes, last_compare_goes, compares_goes, compare_goes, binary_goes, unary_goes}
@@ -72,10 +73,6 @@ attribute_goes ts e x p = primary_goes (ts ++ (Op Dot ∷ (Ident x ∷ []))) (Tr
 
 bracket_shape : (ts us rest : List Terminal) (s t : Terminal) → (ts ++ (s ∷ (us ++ (t ∷ [])))) ++ rest ≡ ts ++ (s ∷ (us ++ (t ∷ rest)))
 bracket_shape ts us rest s t = simp append_assoc refl
-
-generator_shape : (ts us vs rest : List Terminal) (s t : Terminal) → (ts ++ (s ∷ (us ++ (vs ++ (t ∷ []))))) ++ rest ≡ ts ++
-    (s ∷ (us ++ (vs ++ (t ∷ rest))))
-generator_shape ts us vs rest s t = simp append_assoc refl
 
 subscript_goes : (ts us : List Terminal) (e s : Expr) → ReadsAs Primary ts e → ReadsAs Slices us s
     → ReadsAs Primary (ts ++ (Op LSqb ∷ (us ++ (Op RSqb ∷ [])))) (Trees.Subscript e s Load)
@@ -337,9 +334,6 @@ pub complete : {l : Level} {ts : List Terminal} {e : Expr} → G.Derives l ts e 
 complete {l} {ts} {e} p =
     let g = goes p in
     (g.0, λ d h. ap (read (suc d) l) (sym (append-nil ts)) ∙ answers l ts e d [] (g.1 d h) (ends l))
-
-found_one : (a b : Expr) (r s : List Terminal) → ◌≡◌ {A = Answer Expr} (Found a r) (Found b s) → a ≡ b
-found_one a b r s h = cc
 
 pub one_tree : {l : Level} {ts : List Terminal} {a b : Expr} → G.Derives l ts a → G.Derives l ts b → a ≡ b
 one_tree {l} {ts} {a} {b} p q =

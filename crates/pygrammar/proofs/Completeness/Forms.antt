@@ -227,9 +227,6 @@ lambda_form_step : (next inner : Reads) (i r rest : List Terminal) (ps : List En
     → level_step next inner Expression (Word Key.Lambda ∷ i) ≡ Found (Trees.Lambda a e) rest
 lambda_form_step next inner i r rest ps a e h1 h2 h3 = rw h1 (rw h2 (rw h3 refl))
 
-two_shape : (ts us rest : List Terminal) (t : Terminal) → (ts ++ (t ∷ us)) ++ rest ≡ ts ++ (t ∷ (us ++ rest))
-two_shape ts us rest t = append_assoc ts (t ∷ us) rest
-
 pub lambda_goes : (ts us : List Terminal) (ps : List Entry) (a : Arguments) (e : Expr) → arranged ps ≡ Some a
     → ListingReads (Parameter false) ts ps → ReadsAs Expression us e
     → ReadsAs Expression (Word Key.Lambda ∷ (ts ++ (Op Colon ∷ us))) (Trees.Lambda a e)

@@ -24,9 +24,10 @@ use Rattle.pygrammar.specs.Operators.{below, left_operator, prefix_operator, cha
 use Rattle.pygrammar.specs.Constants.{constant_word}
 use Rattle.pygrammar.specs.FormattedStrings.{StringPart, has_formatted}
 use Rattle.pygrammar.specs.Grammar as G
-use Rattle.pygrammar.specs.Reader.{Answer, Found, and_then, on_first, Reads, primary_loop, level_step, read, target_item, read_target}
+use Rattle.pygrammar.specs.Reader.{Found, and_then, on_first, Reads, primary_loop, level_step, read, target_item, read_target}
 use Rattle.pygrammar.specs.Reader.{slice_rest, if_else_step, unnamed}
 use Rattle.pygrammar.specs.Precedence.{lead, first}
+use Rattle.pygrammar.proofs.Answers.{found_rest}
 use Rattle.pygrammar.proofs.Completeness.LookLemmas.{grip, grip_of, lead_of, lead_front, miss_op, miss_word, pass_op, pass_op_not}
 use Rattle.pygrammar.proofs.Completeness.LookLemmas.{pass_word, miss_name_with}
 use Rattle.pygrammar.proofs.Completeness.Climb.{Stops, ReadsAt, TargetAt, ReadsAs, unroll, answers, weaken, primary_climbs}
@@ -128,9 +129,6 @@ not_star (G.slice_step a b c) = colon_not_star a _
 not_star _ = tt
 
 -- a NAME that is all of an expression, though a sign follows
-found_rest : (a b : Expr) (r s : List Terminal) → ◌≡◌ {A = Answer Expr} (Found a r) (Found b s) → r ≡ s
-found_rest a b r s h = cc
-
 pub free : (d : ℕ) (l : Level) (s : Exact) (i rest : List Terminal) (e : Expr)
     → ((x : Spelled) (us : List Terminal) → read (suc d) l (Ident x ∷ (Op s ∷ us)) ≡ Found (Trees.Name x.form Load) (Op s ∷ us))
     → read (suc d) l i ≡ Found e rest → (grip_of rest ≡ grip (Op s) → ⊥) → (x : Spelled) (us : List Terminal)

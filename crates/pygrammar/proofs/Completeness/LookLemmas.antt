@@ -1,6 +1,6 @@
 -- Tests on one terminal: what they say of it.
 --
--- Carries: op_is, op_or_not, word_is, word_or_not, for Terminals.
+-- Carries: op_is, op_or_not, word_is, word_or_not, for Terminals; heads, some_none, for Says, Room, CapsBrackets and 5 more.
 use Rattle.std.proofs.Common.{◌≡◌, ◌⊎◌, inl, inr, refl, sym, ap, ◌∙◌, ℕ, ◌≤◌, ◌<◌, arith, List, [], ◌∷◌, ◌++◌, Option, Some, None, Bool}
 use Rattle.std.proofs.Common.{true, false, cond, ◌==◌}
 use Rattle.std.proofs.lemmas.Bool.{eqb-true}
@@ -20,6 +20,14 @@ use Rattle.pygrammar.specs.Looks.{exact_number, keyword_number, is_op, is_word, 
 use Rattle.pygrammar.specs.Reader.{on_some, on_first, on_name_with}
 use Rattle.pygrammar.specs.Precedence.{lead, behind, infix_rank}
 
+-- ---- Lists and options of terminals.
+pub heads : {t u : Terminal} {r s : List Terminal} → t ∷ r ≡ u ∷ s → t ≡ u
+heads q = cc
+
+pub some_none : {A : Type 0} (a : A) → ◌≡◌ {A = Option A} (Some a) None → ⊥
+some_none a h = absurd (cc)
+
+-- ---- Tests.
 abbrev exact_at : ℕ → Exact
 exact_at n = cond (n == 0) LPar
     (cond (n == 1) RPar (cond (n == 2) LSqb
@@ -199,15 +207,6 @@ pub pass_word : {A : Type 0} (x : Keyword) (ts us : List Terminal) (hit : ℕ �
     → on_first (is_word x) (ts ++ us) hit other ≡ other
 pass_word x [] us hit other h = absurd (omega (arith, h))
 pass_word x (t ∷ r) us hit other h = ap (λ o. on_some o (λ a. hit a (r ++ us)) other) (no_word lead x t (λ e. omega (arith, e, h)))
-
-pub pass_word_not : {A : Type 0} (x : Keyword) (ts us : List Terminal) (hit : ℕ → List Terminal → A) (other : A) → 0 < lead_of ts
-    → (lead_of ts ≡ lead (Word x) → ⊥) → on_first (is_word x) (ts ++ us) hit other ≡ other
-pass_word_not x [] us hit other h k = absurd (omega (arith, h))
-pass_word_not x (t ∷ r) us hit other h k = ap (λ o. on_some o (λ a. hit a (r ++ us)) other) (no_word lead x t k)
-
-pub hit_word : {A : Type 0} (x : Keyword) (r : List Terminal) (hit : ℕ → List Terminal → A) (other : A)
-    → on_first (is_word x) (Word x ∷ r) hit other ≡ hit 0 r
-hit_word x r hit other = ap (λ o. on_some o (λ a. hit a r) other) (word_is x)
 
 pub miss_name : {A : Type 0} (r : List Terminal) (hit : List ℕ → List Terminal → A) (other : A) → lead_of r < 24
     → on_first name_in r hit other ≡ other

@@ -3,6 +3,7 @@
 use Rattle.std.proofs.Common.{◌≡◌, ◌⊎◌, inl, inr, ◌↔◌, sym, ap, subst, ◌∙◌, ℕ, zero, suc, ◌+◌, ◌≤◌, ◌<◌, arith, List, [], ◌++◌, length}
 use Rattle.std.proofs.Common.{Some}
 use Rattle.pygrammar.specs.Lengths.{weight}
+use Rattle.pygrammar.proofs.Answers.{none_found, deep_none}
 use Rattle.pygrammar.proofs.Depths.Weights.{weight_most}
 use Rattle.pygrammar.specs.declared.levels.Level.{Level}
 use Rattle.pytree_node.specs.Trees.{Expr}
@@ -10,14 +11,14 @@ use Rattle.pygrammar.specs.Targets.{stored}
 use Rattle.pytoken.specs.Terminals.{Terminal}
 use Rattle.pygrammar.specs.declared.levels.Level.TheVariants.{Stars}
 use Rattle.pygrammar.specs.Grammar.{Derives}
-use Rattle.pygrammar.specs.Reader.{Answer, Found, NoForm, TooDeep, read, reads, read_target}
+use Rattle.pygrammar.specs.Reader.{Found, NoForm, TooDeep, read, reads, read_target}
 use Rattle.pygrammar.proofs.Completeness.Complete.{complete, goes}
 use Rattle.pygrammar.proofs.Completeness.Climb.{Stops, answers}
 use Rattle.pygrammar.proofs.Completeness.LookLemmas.{grip_of, lead_of}
 use Rattle.pygrammar.proofs.Depths.Keeps.{keeps_read}
 use Rattle.pygrammar.proofs.Depths.Enough.{Good, good_read}
 use Rattle.pygrammar.proofs.Soundness.Sound.{sound, sound_read}
-use Rattle.pygrammar.proofs.Soundness.Says.{Says, found, Reads_as}
+use Rattle.pygrammar.proofs.Soundness.Says.{Says, says_found, Reads_as}
 
 pub not_deep : (l : Level) (ts : List Terminal) (d : ℕ) → length ts < d → read d l ts ≡ TooDeep → ⊥
 not_deep l ts d w h = subst (Good (weight ts)) h (good_read d l ts (omega (arith, w, weight_most ts)))
@@ -47,11 +48,6 @@ reads_all {l} {ts} {e} p =
 pub exactly : (l : Level) (ts : List Terminal) (e : Expr) → Derives l ts e ↔ (reads l ts ≡ Found e [])
 exactly l ts e = (λ p. reads_all p, λ h. sound (suc (length ts)) l ts e h)
 
--- at any depth: an answer is the one tree, and no answer above the number of terminals
--- means that there is none
-pub at_any_depth : (d : ℕ) (l : Level) (ts : List Terminal) (e : Expr) → read d l ts ≡ Found e [] → reads l ts ≡ Found e []
-at_any_depth d l ts e h = reads_all (sound d l ts e h)
-
 -- for the forms of a line: an expression at the front, where what follows may stop it
 pub reads_front : {l : Level} {ts : List Terminal} {e : Expr} → Derives l ts e → (rest : List Terminal) → Stops l rest
     → reads l (ts ++ rest) ≡ Found e rest
@@ -63,9 +59,6 @@ reads_front {l} {ts} {e} p rest s =
   where
     one : (k n : ℕ) → k + suc n ≡ suc (k + n)
     one k n = omega arith
-
-pub says_found : {A : Type 0} {P : A → List Terminal → Type 0} (a : A) (r : List Terminal) → Says P (Found a r) → P a r
-says_found a r (found p) = p
 
 pub sound_front : (d : ℕ) (l : Level) (i r : List Terminal) (e : Expr) → read d l i ≡ Found e r
     → (ts : List Terminal) × (i ≡ ts ++ r) × Derives l ts e
@@ -103,16 +96,10 @@ final d l ts = elim (lifts (suc (length ts)) d l ts) [
     swap a b = omega arith
 
 -- so a refusal at any depth is one
-no_form_not_found : (e : Expr) (r : List Terminal) → ◌≡◌ {A = Answer Expr} NoForm (Found e r) → ⊥
-no_form_not_found e r h = absurd (cc)
-
-deep_not_no_form : ◌≡◌ {A = Answer Expr} TooDeep NoForm → ⊥
-deep_not_no_form h = absurd (cc)
-
 pub no_tree : (d : ℕ) (l : Level) (ts : List Terminal) (e : Expr) → read d l ts ≡ NoForm → Derives l ts e → ⊥
 no_tree d l ts e h p = elim (final d l ts) [
-  | inl q ↦ deep_not_no_form (sym q ∙ h)
-  | inr q ↦ no_form_not_found e [] (sym h ∙ (q ∙ reads_all p))
+  | inl q ↦ deep_none (sym q ∙ h)
+  | inr q ↦ none_found e [] (sym h ∙ (q ∙ reads_all p))
 ]
 
 -- the plain reader always comes to an answer

@@ -22,7 +22,7 @@ use Rattle.pygrammar.specs.Inner.EntryHeights.{entry_height, entries_height}
 use Rattle.pygrammar.specs.Lengths.{slack}
 use Rattle.pygrammar.specs.Grammar as G
 use Rattle.pygrammar.proofs.Heights.HeightLemmas.{stored_height, called_height, arranged_height}
-use Rattle.pygrammar.proofs.Heights.Caps.{height_some, gen_size, gens_size}
+use Rattle.pygrammar.proofs.Related.Sizes.{height_some, gen_size, gens_size}
 use Rattle.pygrammar.proofs.Heights.FieldLemmas.{fields_join, joined_most, spec_fields_most}
 use Rattle.pygrammar.proofs.Heights.Brackets.{wide}
 

@@ -4,6 +4,7 @@ use Rattle.std.proofs.Common.{◌≡◌, ◌↔◌, sym, ap, subst, ◌∙◌, r
 use Rattle.std.proofs.Common.{true, false, cond, leb}
 use Rattle.std.proofs.lemmas.Bool.{leb-true, leb-false, le-leb}
 use Rattle.pygrammar.specs.Lengths.{weight}
+use Rattle.pygrammar.proofs.Answers.{found_one}
 use Rattle.pygrammar.proofs.Depths.Weights.{weight_append, weight_most}
 use Rattle.pygrammar.specs.declared.levels.Level.{Level}
 use Rattle.pygrammar.specs.declared.levels.Level.TheVariants.{Value}
@@ -25,21 +26,13 @@ pub unroll_capped : (g d : ℕ) (l : Level) (i : List Terminal)
 unroll_capped g d Value i = refl
 unroll_capped g d _ i = refl
 
--- with room d alone
-pub limited_meets : (d : ℕ) (l : Level) (ts : List Terminal) → limited d l ts ≡ TooDeep
-    → ((e : Expr) → Derives l ts e → d < height e) × (d ≤ weight ts)
-limited_meets d l ts h = (limited_deep d l ts h, limited_enough d l ts h)
-
 -- what is left over, and what is too high
 too_high : (d : ℕ) (l : Level) (ts : List Terminal) (e : Expr) (r : List Terminal) → limited (suc d) l ts ≡ Found e r
     → d < height e → High d l ts
 too_high d l ts e [] h w =
     let p = (limited_exactly (suc d) l ts e).1 h in
-    (λ f q. subst (λ z. d < height z) (same e f (sym h' ∙ reads_all q)) w, λ no. absurd (no e p.0))
+    (λ f q. subst (λ z. d < height z) (found_one e f [] [] (sym h' ∙ reads_all q)) w, λ no. absurd (no e p.0))
   where
-    same : (a b : Expr) → ◌≡◌ {A = Answer Expr} (Found a []) (Found b []) → a ≡ b
-    same a b h = cc
-
     h' : read (suc (length ts)) l ts ≡ Found e []
     h' = capped_found (suc (length ts)) (suc d) l ts e [] h
 too_high d l ts e (t ∷ r) h w =
@@ -79,7 +72,3 @@ found_all d l ts e p w = ap (cap d) ((limited_exactly (suc d) l ts e).0 (p, omeg
 
 pub limit_exactly : (d : ℕ) (l : Level) (ts : List Terminal) (e : Expr) → (Derives l ts e × (height e ≤ d)) ↔ (limit d l ts ≡ Found e [])
 limit_exactly d l ts e = (λ p. found_all d l ts e p.0 p.1, λ h. subst (Meets d l ts) h (meets d l ts))
-
--- with a height of 500
-pub parse_meets : (l : Level) (ts : List Terminal) → Meets 500 l ts (limit 500 l ts)
-parse_meets l ts = meets 500 l ts

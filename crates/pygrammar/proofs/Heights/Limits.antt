@@ -12,6 +12,7 @@ use Rattle.pygrammar.specs.Grammar.{Derives}
 use Rattle.pytree_height.specs.Heights.{height}
 use Rattle.pygrammar.specs.Reader.{Answer, Found, NoForm, TooDeep, Reads, levels_from, read, reads}
 use Rattle.pygrammar.specs.Capped.{cap, capped_descend, capped_step, capped, limited}
+use Rattle.pygrammar.proofs.Answers.{found_one, rest_found, deep_found, deep_none}
 use Rattle.pygrammar.proofs.Completeness.Climb.{Stops}
 use Rattle.pygrammar.proofs.Depths.Whole.{not_deep, final, reads_all, reads_front, no_tree}
 use Rattle.pygrammar.proofs.Soundness.Sound.{sound}
@@ -24,11 +25,8 @@ cap_low d NoForm e r h = absurd (cc)
 cap_low d TooDeep e r h = absurd (cc)
 cap_low d (Found a s) e r h = go (leb (height a) d) refl h
   where
-    same : (a e : Expr) (s r : List Terminal) → ◌≡◌ {A = Answer Expr} (Found a s) (Found e r) → a ≡ e
-    same a e s r h = cc
-
     go : (b : Bool) → leb (height a) d ≡ b → cond b (Found a s) TooDeep ≡ Found e r → height e ≤ d
-    go true q h = subst (λ z. height z ≤ d) (same a e s r h) (leb-true (height a) d q)
+    go true q h = subst (λ z. height z ≤ d) (found_one a e s r h) (leb-true (height a) d q)
     go false q h = absurd (cc)
 
 descend_low : (d : ℕ) (same inner : Reads) (k : ℕ) (l : Level) (i : List Terminal) (e : Expr) (r : List Terminal)
@@ -42,12 +40,6 @@ capped_low (suc g) zero l i e r h = absurd (cc)
 capped_low (suc g) (suc d) l i e r h = descend_low (suc d) (capped g (suc d)) (capped g d) (levels_from l) l i e r h
 
 -- beside the plain reader
-deep_found : (e : Expr) (r : List Terminal) → ◌≡◌ {A = Answer Expr} TooDeep (Found e r) → ⊥
-deep_found e r h = absurd (cc)
-
-deep_no_form : ◌≡◌ {A = Answer Expr} TooDeep NoForm → ⊥
-deep_no_form h = absurd (cc)
-
 over_found : (n : ℕ) (e : Expr) (r : List Terminal) → Over height n (Found e r) → n ≤ height e
 over_found n e r (over p) = p
 
@@ -56,7 +48,7 @@ pub capped_found : (g d : ℕ) (l : Level) (i : List Terminal) (e : Expr) (r : L
 capped_found g d l i e r h = elim (caps_read g d l i) [ inl q ↦ sym q ∙ h | inr q ↦ absurd (deep_found e r (sym q.0 ∙ h)) ]
 
 pub capped_no_form : (g d : ℕ) (l : Level) (i : List Terminal) → capped g d l i ≡ NoForm → read g l i ≡ NoForm
-capped_no_form g d l i h = elim (caps_read g d l i) [ inl q ↦ sym q ∙ h | inr q ↦ absurd (deep_no_form (sym q.0 ∙ h)) ]
+capped_no_form g d l i h = elim (caps_read g d l i) [ inl q ↦ sym q ∙ h | inr q ↦ absurd (deep_none (sym q.0 ∙ h)) ]
 
 pub capped_deep : (g d : ℕ) (l : Level) (i : List Terminal) (e : Expr) (r : List Terminal) → capped g d l i ≡ TooDeep
     → read g l i ≡ Found e r → d < height e
@@ -96,10 +88,7 @@ limited_no_form d l ts h e p = no_tree (suc (length ts)) l ts e (capped_no_form 
 -- no form: something follows
 pub limited_rest : (d : ℕ) (l : Level) (ts : List Terminal) (f : Expr) (t : Terminal) (r : List Terminal) → limited d l ts ≡ Found f (t ∷ r)
     → (e : Expr) → Derives l ts e → ⊥
-limited_rest d l ts f t r h e p = absurd (more f e t r (sym (capped_found (suc (length ts)) d l ts f (t ∷ r) h) ∙ reads_all p))
-  where
-    more : (a b : Expr) (t : Terminal) (r : List Terminal) → ◌≡◌ {A = Answer Expr} (Found a (t ∷ r)) (Found b []) → ⊥
-    more a b t r h = absurd (cc)
+limited_rest d l ts f t r h e p = absurd (rest_found f e t r (sym (capped_found (suc (length ts)) d l ts f (t ∷ r) h) ∙ reads_all p))
 
 -- too deep
 pub limited_deep : (d : ℕ) (l : Level) (ts : List Terminal) → limited d l ts ≡ TooDeep → (e : Expr) → Derives l ts e → d < height e

@@ -24,20 +24,19 @@ use Rattle.pygrammar.specs.Precedence.{lead, starts, starts_comp}
 use Rattle.pygrammar.specs.Capped.{capped}
 use Rattle.pygrammar.specs.Forms.{item}
 use Rattle.pygrammar.specs.LineReader.{always, commas, commas_of, item_target, read_item, bracketed}
-use Rattle.pygrammar.proofs.Completeness.LookLemmas.{op_or_not, word_or_not}
-use Rattle.pygrammar.proofs.Depths.Keeps.{keeps_read}
+use Rattle.pygrammar.proofs.Completeness.LookLemmas.{op_or_not, word_or_not, heads, some_none}
+use Rattle.pygrammar.proofs.Depths.Keeps.{keeps_read, light_read}
 use Rattle.pygrammar.proofs.Depths.Whole.{sound_front}
 use Rattle.pygrammar.proofs.Heights.Limits.{capped_found}
 use Rattle.pygrammar.proofs.Heights.Over.{Over, over, none, sunk, over_then, over_on, over_first, over_cond, over_closed}
-use Rattle.pygrammar.proofs.Heights.Caps.{over_comps_closed, over_unstarred, over_listing, over_primary, over_loop, over_if_else, list_size}
-use Rattle.pygrammar.proofs.Heights.Caps.{list_last, singles_size, caps_read}
-use Rattle.pygrammar.proofs.Line.CapsTools.{over_commas}
-use Rattle.pygrammar.proofs.Line.CapsHeaders.{item_height, Brackets, over_item}
+use Rattle.pygrammar.proofs.Heights.Caps.{over_comps_closed, over_unstarred, over_listing, over_primary, over_loop, over_if_else}
+use Rattle.pygrammar.proofs.Heights.Caps.{caps_read}
+use Rattle.pygrammar.proofs.Related.Sizes.{list_size, list_last, singles_size}
+use Rattle.pygrammar.proofs.Soundness.Says.{name_is}
+use Rattle.pygrammar.proofs.Related.Lines.{item_height}
+use Rattle.pygrammar.proofs.Line.CapsTools.{Brackets, over_commas, over_item}
 
 -- ---- Tests that miss.
-some_none : {A : Type 0} (a : A) → ◌≡◌ {A = Option A} (Some a) None → ⊥
-some_none a h = absurd (cc)
-
 test_is : {A B : Type 0} (z : B) (f : Terminal → Option A) (i : List Terminal) (k : A → List Terminal → B) (x : B)
     → ((t : Terminal) (a : A) (u : List Terminal) → f t ≡ Some a → i ≡ t ∷ u → k a u ≡ z) → x ≡ z → on_first f i k x ≡ z
 test_is z f [] k x h g = g
@@ -62,10 +61,6 @@ word_misses {B} y i k x miss =
       | inl e ↦ absurd (miss u (q ∙ ap (λ z. z ∷ u) e))
       | inr w ↦ absurd (some_none a (sym f ∙ w))
     ]) refl
-
-name_is : (t : Terminal) (x : Identifier) → name_in t ≡ Some x → (y : Spelled) × (t ≡ Ident y) × (y.form ≡ x)
-name_is (Ident y) x h = (y, refl, cc)
-name_is _ x h = absurd (cc)
 
 named_misses : {B : Type 0} (y : Exact) (i : List Terminal) (k : Identifier → List Terminal → B) (x : B)
     → ((a : Spelled) (u : List Terminal) → i ≡ Ident a ∷ (Op y ∷ u) → ⊥) → on_name_with y i k x ≡ x
@@ -192,9 +187,6 @@ module _ (h d : ℕ) where
             | inl w ↦ subst (λ z. Higher (K e z)) (sym (p ∙ ap (λ z. z ∷ s) w)) (named e s)
             | inr w ↦ comma (word_misses Key.As r _ _ (λ u v. some_none 0 (ap (is_word Key.As) (heads (sym v ∙ p)) ∙ w)))
           ]
-            where
-              heads : {t u : Terminal} {r s : List Terminal} → t ∷ r ≡ u ∷ s → t ≡ u
-              heads q = cc
 
       at : (k : ℕ) → (read k Expression i ≡ TooDeep) ⊎ (read k Expression i ≡ read (suc h) Expression i)
           → Higher (and_then (read k Elem i) K)
@@ -259,7 +251,7 @@ module _ (h d : ℕ) where
       (element m (t ∷ r) (behind_element c k acc) q
       (λ e s v. over_on (list_size (Of Elem)) height (suc (suc d)) (suc (suc d)) _ (tuple_closed c)
       (over_first (list_size (Of Elem)) (suc (suc d)) (is_op Sign.Comma) s _ _
-      (λ _ r2. over_listing (read h) (suc (suc d)) (piece (read h) (Of Elem)) (Of Elem) k (acc ++ (Single e ∷ [])) r2
+      (λ _ r2. over_listing (suc (suc d)) (piece (read h) (Of Elem)) (Of Elem) k (acc ++ (Single e ∷ [])) r2
       (omega (arith, v, list_last (Of Elem) acc (Single e)))) (over (omega (arith, v, list_last (Of Elem) acc (Single e)))))
       (λ es r3 y. over_tuple c es r3 y))
       (λ e s. none)
@@ -278,10 +270,10 @@ module _ (h d : ℕ) where
       (λ e r w. over_first height (suc (suc d)) (is_op Sign.Comma) r _ _
       (λ _ r1. over_then height (suc (suc d)) (listing_of (read h) (Of Elem) [] r1) (tuple_closed e)
       (λ es r2. over_closed height (suc (suc d)) Sign.RPar r2 (Trees.Tuple (an_expr e (singles es)) Load) (omega (arith, w))))
-      (over_unstarred (read h) (suc (suc d)) height i _ (over_cond height (suc (suc d)) (starts_comp r) _ _
+      (over_unstarred (suc (suc d)) height i _ (over_cond height (suc (suc d)) (starts_comp r) _ _
       (over_comps_closed (read h) (suc (suc d)) Sign.RPar r (λ gs. Trees.GeneratorExp e (comprehensions gs)) (λ gs. omega (arith, w)))
       (over_closed height (suc (suc d)) Sign.RPar r e w))))
-      (λ e s. over_unstarred (read h) (suc (suc d)) height i NoForm none)
+      (λ e s. over_unstarred (suc (suc d)) height i NoForm none)
       (λ e s le x y. over_elements m (length s) e [] s x y (omega arith)))
 
   -- and what they stand in
@@ -291,9 +283,9 @@ module _ (h d : ℕ) where
       (over_on height height (suc (suc d)) (suc (suc d)) (read (suc h) Primary (Op Sign.LPar ∷ i))
       (λ e r. climb_loop (read h) (rank Or) (length r) e r)
       (over_on height height (suc (suc d)) (suc (suc d)) (round (read h) i) (λ e r. primary_loop (read h) (length r) e r) w
-      (λ e r v. over_primary (read h) (suc (suc d)) (length r) e r v))
-      (λ e r v. over_loop (read h) (suc (suc d)) (rank Or) (length r) e r v))
-      (λ e r v. over_if_else (read h) (suc (suc d)) e r v)
+      (λ e r v. over_primary (read h) (light_read h) (suc (suc d)) (length r) e r v))
+      (λ e r v. over_loop (read h) (light_read h) (suc (suc d)) (rank Or) (length r) e r v))
+      (λ e r v. over_if_else (read h) (light_read h) (suc (suc d)) e r v)
 
   -- after the items in brackets nothing goes too deep
   abbrev behind_items : List Item → List Terminal → Answer (List Item)
@@ -324,9 +316,6 @@ module _ (h d : ℕ) where
         (sym (op_misses Sign.LPar (t ∷ r) (λ _ s. and_then (commas_of one more s) behind_items) NoForm
         (λ u v. some_none 0 (sym (ap (is_op Sign.LPar) (heads v)) ∙ w))) ∙ q))
   ]
-    where
-      heads : {t u : Terminal} {r s : List Terminal} → t ∷ r ≡ u ∷ s → t ≡ u
-      heads q = cc
 
 -- where items in brackets go too deep, the items without them are high
 pub brackets : (g d : ℕ) → Brackets (suc d) (capped g (suc d)) (read g)

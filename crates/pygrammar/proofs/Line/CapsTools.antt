@@ -1,51 +1,26 @@
--- On: `limit_line`. A line that is read within a height, beside the plain one:
--- tools, and lists with commas.
+-- On: `limit_line`. A line that is read within a height, beside the plain one: two readings, and
+-- lists with commas.
 --
--- Carries: caps_found, over_found, caps_some, over_some and 6 more, for CapsHeaders, CapsSimple,
--- CapsLines, CapsBrackets.
-use Rattle.std.proofs.Common.{◌≡◌, inl, inr, refl, ap, subst, ℕ, zero, suc, ◌≤◌, arith, List, [], ◌∷◌, Option, Some, None, Bool, true}
-use Rattle.std.proofs.Common.{false, cond}
+-- Carries: Brackets, caps_else, over_commas, over_item, for CapsLines, CapsBrackets.
+use Rattle.std.proofs.Common.{◌≡◌, inl, inr, ap, subst, ℕ, zero, suc, ◌≤◌, arith, List, [], ◌∷◌, Some, None, Bool, cond}
 use Rattle.std.specs.Prelude.{max}
 use Rattle.pylex_lexeme.specs.declared.kinds.Exact.TheVariants as Sign
+use Rattle.pytoken.specs.declared.keywords.Keyword.TheVariants as Key
+use Rattle.pygrammar.specs.declared.levels.Level.TheVariants.{Expression}
+use Rattle.pytree_node.specs.Trees.{Expr}
 use Rattle.pytoken.specs.Terminals.{Terminal}
-use Rattle.pygrammar.specs.Looks.{is_op}
-use Rattle.pygrammar.specs.Reader.{Answer, Found, NoForm, TooDeep, and_then, on_some, on_first}
-use Rattle.pygrammar.specs.LineReader.{or_else, on_none, commas}
-use Rattle.pygrammar.proofs.Heights.Over.{Over, over, none, sunk, over_then, over_first, over_cond, Caps, caps_then, caps_first, caps_cond}
+use Rattle.pytree_height.specs.Heights.{height, item_heights}
+use Rattle.pygrammar.specs.Looks.{is_op, is_word}
+use Rattle.pygrammar.specs.Forms.{item}
+use Rattle.pygrammar.specs.Reader.{Answer, Found, NoForm, TooDeep, and_then, on_first, Reads}
+use Rattle.pygrammar.specs.LineReader.{or_else, always, commas, commas_of, item_target, read_item, bracketed}
+use Rattle.pygrammar.proofs.Related.Lines.{item_height}
+use Rattle.pygrammar.proofs.Heights.Over.{Over, over, none, sunk, over_then, over_on, over_first, over_cond, Caps}
 
 -- what is found is made of what was found before it
-pub caps_found : {A B : Type 0} (s : A → ℕ) (t : B → ℕ) (n : ℕ) (x y : Answer A) (f : A → B) → Caps s n x y → ((a : A) → s a ≤ t (f a))
-    → Caps t n (and_then x (λ a r. Found (f a) r)) (and_then y (λ a r. Found (f a) r))
-caps_found s t n x y f h le = caps_then s t n n x y (λ a r. Found (f a) r) (λ a r. Found (f a) r) h (λ a r. inl refl)
-    (λ a r w. over (omega (arith, w, le a)))
-
 pub over_found : {A B : Type 0} (t : B → ℕ) (n : ℕ) (x : Answer A) (f : A → B) → ((a : A) → n ≤ t (f a))
     → Over t n (and_then x (λ a r. Found (f a) r))
 over_found t n x f h = over_then t n x (λ a r. Found (f a) r) (λ a r. over (h a))
-
--- choices
-pub caps_some : {A B : Type 0} (s : B → ℕ) (n : ℕ) (o : Option A) (k j : A → Answer B) (x y : Answer B) → ((a : A) → Caps s n (k a) (j a))
-    → Caps s n x y → Caps s n (on_some o k x) (on_some o j y)
-caps_some s n (Some a) k j x y h g = h a
-caps_some s n None k j x y h g = g
-
-pub over_some : {A B : Type 0} (s : B → ℕ) (n : ℕ) (o : Option A) (k : A → Answer B) (x : Answer B)
-    → ((a : A) → o ≡ Some a → Over s n (k a)) → Over s n x → Over s n (on_some o k x)
-over_some s n (Some a) k x h g = h a refl
-over_some s n None k x h g = g
-
-pub caps_none : {B : Type 0} (s : B → ℕ) (n : ℕ) (r : List Terminal) (x y z w : Answer B) → Caps s n x y → Caps s n z w
-    → Caps s n (on_none r x z) (on_none r y w)
-caps_none s n [] x y z w h g = h
-caps_none s n (t ∷ r) x y z w h g = g
-
-pub over_none : {B : Type 0} (s : B → ℕ) (n : ℕ) (r : List Terminal) (x y : Answer B) → Over s n x → Over s n y → Over s n (on_none r x y)
-over_none s n [] x y h g = h
-over_none s n (t ∷ r) x y h g = g
-
-pub over_if : {B : Type 0} (s : B → ℕ) (n : ℕ) (b : Bool) (x y : Answer B) → (b ≡ true → Over s n x) → Over s n y → Over s n (cond b x y)
-over_if s n true x y h g = h refl
-over_if s n false x y h g = g
 
 -- a second reading, which has to be high too where the first one goes too deep
 pub caps_else : {A : Type 0} (s : A → ℕ) (n : ℕ) (x y z w : Answer A) → Caps s n x y → Caps s n z w → (x ≡ TooDeep → Over s (suc n) w)
@@ -79,13 +54,17 @@ module _ {A : Type 0} (s : A → ℕ) (t : List A → ℕ) (join : (a : A) (as_ 
       go NoForm h = none
       go TooDeep h = sunk
 
-  pub caps_commas : (one two : List Terminal → Answer A) → ((i : List Terminal) → Caps s n (one i) (two i)) → (m : ℕ) (i : List Terminal)
-      → Caps t n (commas one more m i) (commas two more m i)
-  caps_commas one two h zero i = inl refl
-  caps_commas one two h (suc m) i = caps_then s t n n _ _ _ _ (h i)
-      (λ a r. caps_first t n (is_op Sign.Comma) r _ _ _ _
-      (λ _ r1. caps_cond t n (more r1) _ _ _ _ (caps_found t t n _ _ (λ as_. a ∷ as_) (caps_commas one two h m r1)
-      (λ as_. omega (arith, join a as_))) (inl refl)) (inl refl))
-      (λ a r w. over_first t (suc n) (is_op Sign.Comma) r _ _
-      (λ _ r1. over_cond t (suc n) (more r1) _ _ (over_found t (suc n) (commas two more m r1) (λ as_. a ∷ as_)
-      (λ as_. omega (arith, w, join a as_))) (over (omega (arith, w, join a [])))) (over (omega (arith, w, join a []))))
+-- an item whose expression is high
+over_behind : (n : ℕ) (other : Reads) (e : Expr) (r : List Terminal) → suc n ≤ height e
+    → Over item_height (suc n) (on_first (is_word Key.As) r (λ _ s. and_then (item_target other s) (λ t r2. Found (item e (Some t)) r2))
+    (Found (item e None) r))
+over_behind n other e r w = over_first item_height (suc n) (is_word Key.As) r _ _
+    (λ _ s. over_found item_height (suc n) (item_target other s) (λ t. item e (Some t)) (λ t. omega (arith, w))) (over (omega (arith, w)))
+
+pub over_item : (n : ℕ) (other : Reads) (i : List Terminal) → Over height (suc n) (other Expression i)
+    → Over item_height (suc n) (read_item other i)
+over_item n other i w = over_on height item_height (suc n) (suc n) (other Expression i) _ w (λ e r v. over_behind n other e r v)
+
+-- where items in brackets go too deep, the items without them are high
+abbrev pub Brackets : ℕ → Reads → Reads → Type 0
+Brackets n self other = (i : List Terminal) → bracketed self i ≡ TooDeep → Over item_heights (suc n) (commas_of (read_item other) always i)

@@ -24,14 +24,15 @@ use Rattle.pygrammar.specs.Entries.{Item, Of, Argument, Parameter, Entry, single
 use Rattle.pygrammar.specs.Targets.{stored}
 use Rattle.pygrammar.specs.Parameters.{arranged}
 use Rattle.pygrammar.specs.Grammar as G
-use Rattle.pygrammar.specs.Reader.{Answer, Found, NoForm, TooDeep, and_then, on_some, made, listing_of, read_target, read}
+use Rattle.pygrammar.specs.Reader.{Answer, Found, NoForm, and_then, on_some, made, listing_of, read_target, read}
 use Rattle.pygrammar.specs.Precedence.{starts}
+use Rattle.pygrammar.proofs.Answers.{deep_found}
 use Rattle.pygrammar.proofs.Completeness.LookLemmas.{grip_of, lead_of, pass_op}
 use Rattle.pygrammar.proofs.Completeness.Climb.{unroll, answers}
 use Rattle.pygrammar.proofs.Completeness.LevelLemmas.{led, stars_step}
 use Rattle.pygrammar.proofs.Completeness.Comps.{ListEnds, Separable, starts_low}
 use Rattle.pygrammar.proofs.Completeness.Complete.{goes, listing_all}
-use Rattle.pygrammar.proofs.Depths.Keeps.{Keeps, AllKeep, k_listing_of, k_target}
+use Rattle.pygrammar.proofs.Depths.Keeps.{Keeps, AllKeep, light_read, k_listing_of, k_target}
 use Rattle.pygrammar.proofs.Depths.Whole.{final, target_front}
 use Rattle.pygrammar.specs.Lines.{Header, loop_header, with_header, except_header, def_header, for_head, function_head, class_head}
 use Rattle.pygrammar.specs.Forms as F
@@ -45,10 +46,7 @@ all_keep : (d : ℕ) → AllKeep (read d) plain
 all_keep d l i = final d l i
 
 lifted : {A : Type 0} (x y : Answer A) (a : A) (r : List Terminal) → Keeps x y → x ≡ Found a r → y ≡ Found a r
-lifted x y a r (inl q) h = absurd (bad a r (sym q ∙ h))
-  where
-    bad : {A : Type 0} (a : A) (r : List Terminal) → ◌≡◌ {A = Answer A} TooDeep (Found a r) → ⊥
-    bad a r h = absurd (cc)
+lifted x y a r (inl q) h = absurd (deep_found a r (sym q ∙ h))
 lifted x y a r (inr q) h = sym q ∙ h
 
 pub listing_front : {i : Item} {us : List Terminal} {es : List Entry} → G.Listing i us es → Separable i → (r : List Terminal) → ListEnds i r
@@ -56,7 +54,7 @@ pub listing_front : {i : Item} {us : List Terminal} {es : List Entry} → G.List
 listing_front {i} {us} {es} c w r s =
     let g = listing_all c in
     lifted (listing_of (read (suc g.0)) i [] (us ++ r)) (listing_of plain i [] (us ++ r)) es r
-    (k_listing_of (read (suc g.0)) plain (all_keep (suc g.0)) i [] (us ++ r))
+    (k_listing_of (read (suc g.0)) plain (all_keep (suc g.0)) (light_read (suc g.0)) i [] (us ++ r))
     (g.1 g.0 (omega arith) w r s (length (us ++ r)) (omega arith) [])
 
 pub target_goes : {ts : List Terminal} {e : Expr} (s : Expr) → G.Derives Stars ts e → stored e ≡ Some s → (r : List Terminal)
@@ -65,7 +63,7 @@ target_goes {ts} {e} s p q r =
     let z = Word Key.In ∷ r in
     let g = target_front s p q z (omega arith) (λ k. omega (arith, k)) (omega arith) in
     lifted (read_target (read (suc g.0)) (ts ++ z)) (read_target plain (ts ++ z)) e z (k_target (read (suc g.0)) plain (all_keep (suc g.0))
-    (ts ++ z)) (g.1 g.0 (omega arith))
+    (light_read (suc g.0)) (ts ++ z)) (g.1 g.0 (omega arith))
 
 -- ---- Stars in front of a colon.
 abbrev pub StarsInv : Level → List Terminal → Expr → Type 0

@@ -6,6 +6,7 @@ use Rattle.std.proofs.Common.{◌≡◌, refl, sym, ap, ◌∙◌, ℕ, suc, ◌
 use Rattle.std.proofs.Common.{false, append_assoc}
 use Rattle.std.specs.Prelude.{◌&&◌}
 use Rattle.std.proofs.lemmas.List.{append-nil}
+use Rattle.std.proofs.lemmas.Bool.{and_right}
 use Rattle.pylex_lexeme.specs.declared.kinds.Exact.TheVariants as Sign
 use Rattle.pytoken.specs.declared.keywords.Keyword.TheVariants as Key
 use Rattle.pytree_node.specs.declared.profiles.Profile.{Profile}
@@ -15,8 +16,9 @@ use Rattle.pytree_node.specs.Trees.{Expr, Identifier, Pattern, Stmt}
 use Rattle.pytoken.specs.Terminals.{Terminal, Op, Word}
 use Rattle.pygrammar.specs.Grammar as G
 use Rattle.pygrammar.specs.PatternGrammar.{DerivesPattern}
-use Rattle.pygrammar.specs.Reader.{Answer, Found}
+use Rattle.pygrammar.specs.Reader.{Found}
 use Rattle.pygrammar.specs.Precedence.{lead}
+use Rattle.pygrammar.proofs.Answers.{found_one}
 use Rattle.pygrammar.proofs.Completeness.LookLemmas.{lead_of, lead_front}
 use Rattle.pygrammar.proofs.Completeness.LevelLemmas.{led}
 use Rattle.pygrammar.proofs.Pattern.Ends.{EndsPattern}
@@ -99,12 +101,7 @@ header_kind (F.def_line x F.no_async g c q k) r = (refl, (_, _, refl))
 header_kind (F.def_line x F.async g c q k) r = (refl, (_, _, refl))
 header_kind _ r = (refl, (_, _, refl))
 
--- without the ends of a `match` a line is no header of one
-never : (b c : Bool) → c ≡ false → (b && c) ≡ false
-never true c h = h
-never false c h = refl
-
--- a line by its opening
+-- a line by its opening: without the ends of a `match` it is no header of one
 line_by : (profile : Profile) (k : Opening) (i : List Terminal) → Full i → opening_of i ≡ k → has_match_ends i ≡ false → (f : Form)
     → ((t : Terminal) (r : List Terminal) → i ≡ t ∷ r → line_of profile plain k i r ≡ Found f []) → line profile plain i ≡ Found f []
 line_by profile k [] g q m f h = absurd (empty g)
@@ -112,7 +109,7 @@ line_by profile k [] g q m f h = absurd (empty g)
     empty : Full [] → ⊥
     empty g = absurd (cc (g.2))
 line_by profile k (t ∷ r) g q m f h =
-    thus _ _ (unless _ _ _ (never (is_whole profile.extent) _ m) (ap (λ k. line_of profile plain k (t ∷ r) r) q ∙ h t r refl)) refl
+    thus _ _ (unless _ _ _ (and_right (is_whole profile.extent) _ m) (ap (λ k. line_of profile plain k (t ∷ r) r) q ∙ h t r refl)) refl
 
 suite_goes : (profile : Profile) {us : List Terminal} {ss : List Stmt} (h : Header) → F.Simples profile us ss
     → suite profile plain h us ≡ Found (header_form h (Some ss)) []
@@ -125,7 +122,7 @@ suite_goes profile {us} {ss} h c = full us (simples_full profile c) (statements_
 
 decorated : (profile : Profile) {ts : List Terminal} {e : Expr} → G.Derives Named ts e
     → line_front profile plain (Op Sign.At ∷ ts) ≡ Found (decorator_form e) []
-decorated profile {ts} p = unless _ _ _ (never (is_whole profile.extent) false refl)
+decorated profile {ts} p = unless _ _ _ (and_right (is_whole profile.extent) false refl)
     (thus (plain Named ts) _ (ap (plain Named) (sym (append-nil ts)) ∙ front p [] (omega arith)) refl)
 
 -- the header of a `match`
@@ -181,7 +178,4 @@ read_goes profile (F.case_suite {us = us} {h = h} {ss = ss} w c s) = case_goes p
 -- a line has one form alone
 pub one_form : {profile : Profile} {inside : Bool} {ts : List Terminal} {f g : Form} → F.FormAt profile inside ts f
     → F.FormAt profile inside ts g → f ≡ g
-one_form {profile} {inside} {ts} {f} {g} p q = same f g [] [] (sym (read_goes profile p) ∙ read_goes profile q)
-  where
-    same : (f g : Form) (r s : List Terminal) → ◌≡◌ {A = Answer Form} (Found f r) (Found g s) → f ≡ g
-    same f g r s h = cc
+one_form {profile} {inside} {ts} {f} {g} p q = found_one f g [] [] (sym (read_goes profile p) ∙ read_goes profile q)

@@ -5,6 +5,7 @@ use Rattle.std.proofs.lemmas.Bool.{leb-true, leb-false, le-leb}
 use Rattle.pytree_node.specs.declared.profiles.Profile.{Profile}
 use Rattle.pytoken.specs.Terminals.{Terminal}
 use Rattle.pygrammar.specs.Lengths.{weight}
+use Rattle.pygrammar.proofs.Answers.{found_one, rest_found, none_found, deep_found, deep_none}
 use Rattle.pygrammar.proofs.Depths.Weights.{weight_most}
 use Rattle.pygrammar.specs.Reader.{Answer, Found, NoForm, TooDeep, read}
 use Rattle.pygrammar.specs.Capped.{capped}
@@ -16,6 +17,7 @@ use Rattle.pygrammar.specs.LineReader.{line_at, plain, plain_pattern, read_line}
 use Rattle.pygrammar.specs.LimitedLines.{cap_form, limit_line}
 use Rattle.pygrammar.specs.Meets.{Formless, HighLine, LineMeets}
 use Rattle.pygrammar.proofs.Depths.Enough.{Good, good_read}
+use Rattle.pygrammar.proofs.Depths.Keeps.{light_read}
 use Rattle.pygrammar.proofs.Depths.Whole.{final}
 use Rattle.pygrammar.proofs.Heights.Over.{Over, over, Caps}
 use Rattle.pygrammar.proofs.Heights.Caps.{caps_read}
@@ -26,19 +28,7 @@ use Rattle.pygrammar.proofs.Line.Law.{read_goes}
 use Rattle.pygrammar.proofs.Line.SoundLines.{read_gives}
 use Rattle.pygrammar.proofs.Line.CapsLines.{c_place}
 use Rattle.pygrammar.proofs.Line.CapsBrackets.{brackets}
-use Rattle.pygrammar.proofs.Line.Patterns.{final_pattern, pattern_good, pattern_over}
-
-found_deep : (f : Form) (r : List Terminal) → ◌≡◌ {A = Answer Form} TooDeep (Found f r) → ⊥
-found_deep f r h = absurd (cc)
-
-no_form_deep : ◌≡◌ {A = Answer Form} TooDeep NoForm → ⊥
-no_form_deep h = absurd (cc)
-
-no_form_found : (f : Form) (r : List Terminal) → ◌≡◌ {A = Answer Form} NoForm (Found f r) → ⊥
-no_form_found f r h = absurd (cc)
-
-rest_found : (f g : Form) (t : Terminal) (r : List Terminal) → ◌≡◌ {A = Answer Form} (Found f (t ∷ r)) (Found g []) → ⊥
-rest_found f g t r h = absurd (cc)
+use Rattle.pygrammar.proofs.Line.Patterns.{final_pattern, pattern_light, pattern_good, pattern_over}
 
 over_is : (n : ℕ) (f : Form) (r : List Terminal) → Over form_height n (Found f r) → n ≤ form_height f
 over_is n f r (over p) = p
@@ -57,28 +47,30 @@ module _ (profile : Profile) (inside : Bool) (d : ℕ) (ts : List Terminal) wher
   at_most = line_at profile (read most) plain_pattern inside ts
 
   plain_one : at_most ≡ read_line profile inside ts
-  plain_one = elim (k_place (read most) plain (λ l i. final most l i) plain_pattern plain_pattern (λ l i. inr refl) profile inside ts) [
-    | inl q ↦ absurd (subst (Good most) q (g_place (read most) most (good_read most) plain_pattern profile inside ts
-        (omega (arith, weight_most ts)) (λ l j v. pattern_good (suc (length j)) (suc (suc (length j))) most l j
-        (omega (arith, weight_most j)) (omega (arith, weight_most j)) (omega (arith, v, weight_most ts)))))
-    | inr q ↦ q
-  ]
+  plain_one = elim (k_place (read most) plain (λ l i. final most l i) (light_read most) plain_pattern plain_pattern (λ l i. inr refl)
+      (λ l i. pattern_light (suc (length i)) (suc (suc (length i))) l i) profile inside ts) [
+        | inl q ↦ absurd (subst (Good most) q (g_place (read most) most (good_read most) plain_pattern profile inside ts
+            (omega (arith, weight_most ts)) (λ l j v. pattern_good (suc (length j)) (suc (suc (length j))) most l j
+            (omega (arith, weight_most j)) (omega (arith, weight_most j)) (omega (arith, v, weight_most ts)))))
+        | inr q ↦ q
+      ]
 
   beside : Caps form_height (suc d) roomy (read_line profile inside ts)
   beside = subst (λ z. Caps form_height (suc d) roomy z) plain_one
-      (c_place (suc d) (capped most (suc d)) (read most) (caps_read most (suc d)) (brackets most d) (capped_pattern most (suc d))
-      plain_pattern (λ l i. final_pattern most (suc d) l i)
+      (c_place (suc d) (capped most (suc d)) (read most) (caps_read most (suc d)) (light_read most) (brackets most d)
+      (capped_pattern most (suc d))
+      plain_pattern (λ l i. final_pattern most (suc d) l i) (λ l i. pattern_light (suc (length i)) (suc (suc (length i))) l i)
       profile inside ts (λ l j r p v h k e. pattern_over most (suc d) l j r p (omega (arith, v)) h k e))
 
   roomy_found : (f : Form) (r : List Terminal) → roomy ≡ Found f r → read_line profile inside ts ≡ Found f r
-  roomy_found f r h = elim beside [ inl q ↦ sym q ∙ h | inr q ↦ absurd (found_deep f r (sym q.0 ∙ h)) ]
+  roomy_found f r h = elim beside [ inl q ↦ sym q ∙ h | inr q ↦ absurd (deep_found f r (sym q.0 ∙ h)) ]
 
   roomy_no_form : roomy ≡ NoForm → Formless profile inside ts
-  roomy_no_form h f p = elim beside [ inl q ↦ no_form_found f [] (sym h ∙ (q ∙ read_goes profile p)) | inr q ↦ no_form_deep (sym q.0 ∙ h) ]
+  roomy_no_form h f p = elim beside [ inl q ↦ none_found f [] (sym h ∙ (q ∙ read_goes profile p)) | inr q ↦ deep_none (sym q.0 ∙ h) ]
 
   roomy_deep : roomy ≡ TooDeep → (f : Form) → FormAt profile inside ts f → suc d < form_height f
   roomy_deep h f p = elim beside [
-    | inl q ↦ absurd (found_deep f [] (sym h ∙ (q ∙ read_goes profile p)))
+    | inl q ↦ absurd (deep_found f [] (sym h ∙ (q ∙ read_goes profile p)))
     | inr q ↦ over_is (suc (suc d)) f [] (subst (λ z. Over form_height (suc (suc d)) z) (read_goes profile p) q.1)
   ]
 
@@ -98,17 +90,14 @@ module _ (profile : Profile) (inside : Bool) (d : ℕ) (ts : List Terminal) wher
   nothing_left : (f : Form) (t : Terminal) (r : List Terminal) → roomy ≡ Found f (t ∷ r) → ⊥
   nothing_left f t r h = elim (read_or_not profile inside ts) [
     | inl q ↦ rest_found f q.0 t r (sym (roomy_found f (t ∷ r) h) ∙ q.1)
-    | inr q ↦ no_form_found f (t ∷ r) (sym q.0 ∙ roomy_found f (t ∷ r) h)
+    | inr q ↦ none_found f (t ∷ r) (sym q.0 ∙ roomy_found f (t ∷ r) h)
   ]
 
   too_high : (f : Form) → roomy ≡ Found f [] → d < form_height f → HighLine profile inside d ts
   too_high f h w = (
-    λ g p. subst (λ z. d < form_height z) (same f g (sym (roomy_found f [] h) ∙ read_goes profile p)) w,
+    λ g p. subst (λ z. d < form_height z) (found_one f g [] [] (sym (roomy_found f [] h) ∙ read_goes profile p)) w,
     λ no. absurd (no f (read_gives profile inside ts f (roomy_found f [] h))),
   )
-    where
-      same : (f g : Form) → ◌≡◌ {A = Answer Form} (Found f []) (Found g []) → f ≡ g
-      same f g h = cc
 
   -- the law: what each answer says
   pub line_limit_meets : LineMeets profile inside d ts (limit_line profile inside d ts)

@@ -3,8 +3,9 @@
 --
 -- Carries: has_match_ends, header_ends, simples_ends, match_by_ends, for Law, Callers/Lines. On:
 -- Colons.
-use Rattle.std.proofs.Common.{◌≡◌, refl, sym, ◌∙◌, List, [], ◌∷◌, ◌++◌, Bool, true, false}
+use Rattle.std.proofs.Common.{◌≡◌, refl, sym, ◌∙◌, List, [], ◌∷◌, ◌++◌, Bool, false}
 use Rattle.std.specs.Prelude.{◌&&◌}
+use Rattle.std.proofs.lemmas.Bool.{and_right}
 use Rattle.pylex_lexeme.specs.declared.kinds.Exact.TheVariants as Sign
 use Rattle.pytree_node.specs.declared.profiles.Profile.{Profile}
 use Rattle.pytree_node.specs.Trees.{Stmt}
@@ -24,15 +25,11 @@ has_match_ends (t ∷ ts) = is_match t && ends_in_colon ts
 -- a list that ends in no colon
 unmatched : (ts : List Terminal) → NotColon ts → has_match_ends ts ≡ false
 unmatched [] h = refl
-unmatched (t ∷ ts) h = nothing (is_match t) (ends_in_colon ts) (rest ts h)
+unmatched (t ∷ ts) h = and_right (is_match t) (ends_in_colon ts) (rest ts h)
   where
     rest : (ts : List Terminal) → NotColon (t ∷ ts) → NotColon ts
     rest [] h = refl
     rest (u ∷ ts) h = h
-
-    nothing : (b c : Bool) → c ≡ false → (b && c) ≡ false
-    nothing true c h = h
-    nothing false c h = refl
 
 pub simples_ends : {profile : Profile} {ts : List Terminal} {ss : List Stmt} → F.Simples profile ts ss → has_match_ends ts ≡ false
 simples_ends {ts = ts} c = unmatched ts (simples_end c)

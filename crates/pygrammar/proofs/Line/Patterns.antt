@@ -1,11 +1,12 @@
 -- What lines need of the reader of patterns: beside the plain one, what any number of steps and any
 -- room answer.
 --
--- Carries: plain_pattern_goes, final_pattern, pattern_good, pattern_over, for Law, Answered, Depth
+-- Carries: plain_pattern_goes, final_pattern, pattern_light, pattern_good, pattern_over, for Law, Answered, Depth
 -- and 2 more. On: Pattern/Sound, Complete, Keeps, Long, Bound.
 use Rattle.std.proofs.Common.{◌≡◌, inl, inr, refl, sym, ap, ◌∙◌, ℕ, suc, ◌≤◌, ◌<◌, arith, List, ◌++◌, length, length-append}
 use Rattle.std.specs.Prelude.{max}
 use Rattle.pygrammar.specs.Lengths.{weight}
+use Rattle.pygrammar.proofs.Answers.{deep_found}
 use Rattle.pygrammar.proofs.Depths.Weights.{weight_append, weight_most}
 use Rattle.pygrammar.specs.declared.pattern_levels.PatternLevel.{PatternLevel}
 use Rattle.pytree_node.specs.Trees.{Pattern}
@@ -16,7 +17,7 @@ use Rattle.pygrammar.specs.PatternGrammar.{DerivesPattern}
 use Rattle.pygrammar.specs.PatternReader.{capped_pattern}
 use Rattle.pygrammar.specs.LineReader.{plain_pattern}
 use Rattle.pygrammar.proofs.Depths.Enough.{Good}
-use Rattle.pygrammar.proofs.Depths.Keeps.{Keeps}
+use Rattle.pygrammar.proofs.Depths.Keeps.{Keeps, Light}
 use Rattle.pygrammar.proofs.Pattern.Bound.{bounded}
 use Rattle.pygrammar.proofs.Pattern.Sound.{sound}
 use Rattle.pygrammar.proofs.Pattern.Ends.{EndsPattern}
@@ -35,6 +36,14 @@ plain_pattern_goes {l} {ts} {p} q r e =
 -- what is found is derived, and no terminal is lost
 shorter : (g d : ℕ) (l : PatternLevel) (i r : List Terminal) (p : Pattern) → capped_pattern g d l i ≡ Found p r → weight r ≤ weight i
 shorter g d l i r p h = let s = sound g d l i r p h in omega (arith, ap weight s.1, weight_append s.0 r)
+
+pub pattern_light : (g d : ℕ) (l : PatternLevel) (i : List Terminal) → Light (suc (weight i)) (capped_pattern g d l i)
+pattern_light g d l i = go (capped_pattern g d l i) refl
+  where
+    go : (x : Answer Pattern) → capped_pattern g d l i ≡ x → Light (suc (weight i)) x
+    go (Found p r) q = omega (arith, shorter g d l i r p q)
+    go NoForm q = tt
+    go TooDeep q = tt
 
 -- the plain reader never goes too deep
 plain_answers : (l : PatternLevel) (i : List Terminal) → plain_pattern l i ≡ TooDeep → ⊥
@@ -68,11 +77,8 @@ pub pattern_over : (g d : ℕ) (l : PatternLevel) (i r : List Terminal) (p : Pat
 pattern_over g d l i r p a h k e =
     let s = sound (suc (length i)) (suc (suc (length i))) l i r p k in
     least d (pattern_height p)
-    (λ w. differ (sym h ∙ (ap (capped_pattern g d l) s.1
+    (λ w. deep_found p r (sym h ∙ (ap (capped_pattern g d l) s.1
     ∙ complete s.2 g d r (omega (arith, a, ap length s.1, length-append s.0 r)) w e)))
   where
-    differ : ◌≡◌ {A = Answer Pattern} TooDeep (Found p r) → ⊥
-    differ q = absurd (cc)
-
     least : (d n : ℕ) → (n ≤ d → ⊥) → d < n
     least d n f = omega (arith, f)

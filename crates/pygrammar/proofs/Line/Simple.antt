@@ -14,8 +14,9 @@ use Rattle.pytoken.specs.Terminals.{Terminal, Op, Word}
 use Rattle.pygrammar.specs.Looks.{is_op, is_word}
 use Rattle.pygrammar.specs.Entries.{Of}
 use Rattle.pygrammar.specs.Grammar as G
-use Rattle.pygrammar.specs.Reader.{Answer, Found, NoForm, made}
+use Rattle.pygrammar.specs.Reader.{Found, made}
 use Rattle.pygrammar.specs.Precedence.{starts}
+use Rattle.pygrammar.proofs.Answers.{none_found}
 use Rattle.pygrammar.proofs.Completeness.LookLemmas.{grip_of}
 use Rattle.pygrammar.proofs.Completeness.Climb.{Stops}
 use Rattle.pygrammar.proofs.Completeness.Comps.{starts_low}
@@ -77,11 +78,8 @@ simple_goes profile (F.from_dots d h q) r w = from_dots_goes d h q r (ends_miss 
     (ends_miss (is_op Sign.Dot) refl w, ends_miss (is_word Key.As) refl w)
 
 -- no statement is empty
-no_answer : (s : Stmt) (r : List Terminal) → ◌≡◌ {A = Answer Stmt} NoForm (Found s r) → ⊥
-no_answer s r h = absurd (cc)
-
 pub filled : (profile : Profile) {ts : List Terminal} {s : Stmt} → F.Simple profile ts s → ts ≡ [] → ⊥
-filled profile {ts} {s} p q = no_answer s [] (ap (λ z. statement profile plain (z ++ [])) (sym q) ∙ simple_goes profile p [] at_end)
+filled profile {ts} {s} p q = none_found s [] (ap (λ z. statement profile plain (z ++ [])) (sym q) ∙ simple_goes profile p [] at_end)
 
 -- whether a list has a first
 abbrev pub Full : List Terminal → Type 0

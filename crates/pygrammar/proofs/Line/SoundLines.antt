@@ -21,9 +21,9 @@ use Rattle.pygrammar.specs.Targets.{stored}
 use Rattle.pygrammar.specs.Grammar as G
 use Rattle.pygrammar.specs.Reader.{Answer, Found, NoForm}
 use Rattle.pygrammar.specs.Precedence.{starts}
-use Rattle.pygrammar.proofs.Soundness.Says.{Says, found, no_form, says_then, says_op, says_word, says_name, says_cond, says_is}
+use Rattle.pygrammar.proofs.Soundness.Says.{Says, found, no_form, says_found, says_then, says_op, says_word, says_name, says_cond}
+use Rattle.pygrammar.proofs.Soundness.Says.{says_some, says_is}
 use Rattle.pygrammar.proofs.Soundness.SoundLists.{says_if, target_sound, listing_of_sound}
-use Rattle.pygrammar.proofs.Depths.Whole.{says_found}
 use Rattle.pygrammar.proofs.Pattern.Sound.{capped_sound}
 use Rattle.pygrammar.specs.Lines.{Form, Header, header_form, case_header}
 use Rattle.pygrammar.specs.Forms as F
@@ -31,7 +31,7 @@ use Rattle.pygrammar.specs.Forms.{is_whole, match_name, match_word, case_name, c
 use Rattle.pygrammar.specs.LineReader.{plain, plain_pattern, on_none, for_rest, with_rest, def_rest, class_rest, except_of, except_rest}
 use Rattle.pygrammar.specs.LineReader.{read_header, suite, is_match, ends_in_colon, is_match_line, opening, line_of, match_rest, line_front}
 use Rattle.pygrammar.specs.LineReader.{line, case_rest, case_whole, read_line, Decorates, Heads, States}
-use Rattle.pygrammar.proofs.Line.SoundParts.{headed, joins, says_some, plain_sound, after_op_sound, after_word_sound, type_params_sound}
+use Rattle.pygrammar.proofs.Line.SoundParts.{headed, joins, plain_sound, after_op_sound, after_word_sound, type_params_sound}
 use Rattle.pygrammar.proofs.Line.SoundParts.{as_sound}
 use Rattle.pygrammar.proofs.Line.SoundSimple.{statements_sound}
 use Rattle.pygrammar.proofs.Line.With.{read_items_sound}

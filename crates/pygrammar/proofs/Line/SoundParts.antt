@@ -1,6 +1,6 @@
 -- What the reader answers has a form: tools, lists with commas, imports.
 --
--- Carries: headed, joins, plain_sound, says_some and 12 more, for SoundSimple, SoundLines, With.
+-- Carries: headed, joins, plain_sound and 12 more, for SoundSimple, SoundLines, With.
 -- On: Says, SoundLists, Soundness/Sound.
 use Rattle.std.proofs.Common.{◌≡◌, refl, sym, ap, subst, ◌∙◌, ℕ, zero, suc, arith, List, [], ◌∷◌, ◌++◌, length, Option, Some, None, Bool}
 use Rattle.std.proofs.Common.{true, false, cond, append_assoc}
@@ -17,7 +17,7 @@ use Rattle.pygrammar.specs.declared.levels.Level.{Level}
 use Rattle.pygrammar.specs.declared.levels.Level.TheVariants.{Expression}
 use Rattle.pytoken.specs.Terminals.{Spelled, Terminal, Op, Word, Ident}
 use Rattle.pygrammar.specs.Entries.{Of}
-use Rattle.pygrammar.specs.Reader.{Answer, on_some}
+use Rattle.pygrammar.specs.Reader.{Answer}
 use Rattle.pygrammar.specs.Precedence.{starts}
 use Rattle.pygrammar.proofs.Soundness.Says.{Says, found, no_form, says_then, says_first, says_op, says_word, says_name, says_cond, says_is}
 use Rattle.pygrammar.proofs.Soundness.Says.{SoundAt}
@@ -43,11 +43,6 @@ headed t q p = q ∙ ap (λ z. t ∷ z) p
 
 pub joins : {i m : List Terminal} (ts us r : List Terminal) → i ≡ ts ++ m → m ≡ us ++ r → i ≡ (ts ++ us) ++ r
 joins ts us r q p = q ∙ (ap (λ z. ts ++ z) p ∙ sym (append_assoc ts us r))
-
-pub says_some : {A B : Type 0} {Q : B → List Terminal → Type 0} (o : Option A) (k : A → Answer B) (x : Answer B)
-    → ((a : A) → o ≡ Some a → Says Q (k a)) → Says Q x → Says Q (on_some o k x)
-says_some (Some a) k x h g = h a refl
-says_some None k x h g = g
 
 -- lists with commas
 module _ (A : Type 0) (X : List Terminal → A → Type 0) (one : List Terminal → Answer A) (all : (i : List Terminal)

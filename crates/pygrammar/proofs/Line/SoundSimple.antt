@@ -19,14 +19,14 @@ use Rattle.pygrammar.specs.Targets.{stored, single_stored}
 use Rattle.pygrammar.specs.Grammar as G
 use Rattle.pygrammar.specs.Reader.{Found, and_then}
 use Rattle.pygrammar.specs.Precedence.{starts}
-use Rattle.pygrammar.proofs.Soundness.Says.{Says, found, no_form, says_then, says_first, says_op, says_cond, says_made, says_is}
+use Rattle.pygrammar.proofs.Soundness.Says.{Says, found, no_form, says_then, says_first, says_op, says_cond, says_some, says_made, says_is}
 use Rattle.pygrammar.proofs.Soundness.SoundLists.{says_name_with}
 use Rattle.pygrammar.specs.Forms as F
-use Rattle.pygrammar.specs.Forms.{type_name, type_word, augmented, is_name}
+use Rattle.pygrammar.specs.Forms.{type_word, augmented, is_name}
 use Rattle.pytree_node.specs.Profiles.{has_types}
 use Rattle.pygrammar.specs.LineReader.{on_type, plain, read_name, dotted_alias, augmented_sign, annotation, value_loop, value_statement}
 use Rattle.pygrammar.specs.LineReader.{deleted_one, alias_rest, statement, statements, on_none}
-use Rattle.pygrammar.proofs.Line.SoundParts.{At, headed, joins, says_some, plain_sound, always_sound, more_sound, if_any_sound}
+use Rattle.pygrammar.proofs.Line.SoundParts.{At, headed, joins, plain_sound, always_sound, more_sound, if_any_sound}
 use Rattle.pygrammar.proofs.Line.SoundParts.{after_op_sound, after_word_sound, type_params_sound, says_type, name_sound, dotted_alias_sound}
 use Rattle.pygrammar.proofs.Line.SoundParts.{import_from_sound}
 use Rattle.pygrammar.proofs.Line.Invert.{to_primary, name_inv, stored_name, target_of}

@@ -4,8 +4,9 @@
 --
 -- Carries: old_is_untyped, form_stays, form_widens, form_narrows, for Answer, Block/Types,
 -- SourceLaw.
-use Rattle.std.proofs.Common.{◌≡◌, ◌↔◌, refl, ap, ◌∙◌, List, Bool, true, false}
-use Rattle.std.specs.Prelude.{not, ◌&&◌}
+use Rattle.std.proofs.Common.{◌≡◌, ◌↔◌, refl, ap, List, Bool, true, false}
+use Rattle.std.specs.Prelude.{not}
+use Rattle.std.proofs.lemmas.Bool.{and_parts, and_from, not-true}
 use Rattle.pytree_node.specs.declared.profiles.Extent.{Extent}
 use Rattle.pytree_node.specs.declared.profiles.Profile.{Profile}
 use Rattle.pytree_node.specs.declared.profiles.Extent.TheVariants.{Plain, Whole}
@@ -118,13 +119,10 @@ no_alias : {extent : Extent} {ts : List Terminal} {s : Stmt} → F.Simple (pytho
 no_alias (F.type_alias h c p) = absurd (cc)
 no_alias _ = refl
 
-both : (b c : Bool) → b ≡ true → c ≡ true → (b && c) ≡ true
-both b c h g = ap (λ z. z && c) h ∙ g
-
 no_aliases : {extent : Extent} {ts : List Terminal} {ss : List Stmt} → F.Simples (python Py311 extent) ts ss → untyped_statements ss ≡ true
-no_aliases (F.last_simple p) = both _ _ (ap not (no_alias p)) refl
-no_aliases (F.ended_simple p) = both _ _ (ap not (no_alias p)) refl
-no_aliases (F.more_simples p c) = both _ _ (ap not (no_alias p)) (no_aliases c)
+no_aliases (F.last_simple p) = and_from _ _ (ap not (no_alias p)) refl
+no_aliases (F.ended_simple p) = and_from _ _ (ap not (no_alias p)) refl
+no_aliases (F.more_simples p c) = and_from _ _ (ap not (no_alias p)) (no_aliases c)
 
 header_untyped : {extent : Extent} {ts : List Terminal} {h : Header} → F.HeaderOf (python Py311 extent) ts h → untyped_header h ≡ true
 header_untyped (F.def_line x a g c q k) = no_type_params g
@@ -135,7 +133,7 @@ form_untyped : {extent : Extent} {ts : List Terminal} {f : Form} → F.FormOf (p
 form_untyped (F.simple_statements c) = no_aliases c
 form_untyped (F.decorator_line p) = refl
 form_untyped (F.header_line p) = header_untyped p
-form_untyped (F.header_suite p c) = both _ _ (header_untyped p) (no_aliases c)
+form_untyped (F.header_suite p c) = and_from _ _ (header_untyped p) (no_aliases c)
 form_untyped (F.match_line form w p) = refl
 
 place_untyped : {extent : Extent} {inside : Bool} {ts : List Terminal} {f : Form}
@@ -145,18 +143,6 @@ place_untyped (F.case_alone w (F.case_line form p g)) = refl
 place_untyped (F.case_suite w (F.case_line form p g) c) = no_aliases c
 
 -- ---- A form without types is one of Python 3.11.
-first : (b c : Bool) → (b && c) ≡ true → b ≡ true
-first true c h = refl
-first false c h = h
-
-second : (b c : Bool) → (b && c) ≡ true → c ≡ true
-second true c h = h
-second false c h = absurd (cc)
-
-none : (b : Bool) → not b ≡ true → b ≡ false
-none true h = absurd (cc)
-none false h = refl
-
 filled : {ts : List Terminal} {ps : List TypeParam} → F.Commas TypeParam F.TypeParamOf ts ps → no_types ps ≡ true → ⊥
 filled (F.alone p) n = absurd (cc)
 filled (F.comma p c) n = absurd (cc)
@@ -192,11 +178,13 @@ simple_returns (F.from_dots d h q) n = F.from_dots d h q
 
 simples_return : {extent : Extent} {ts : List Terminal} {ss : List Stmt} → F.Simples (python Py312 extent) ts ss
     → untyped_statements ss ≡ true → F.Simples (python Py311 extent) ts ss
-simples_return (F.last_simple {s = s} p) n = F.last_simple (simple_returns p (none (is_alias s) (first (not (is_alias s)) true n)))
-simples_return (F.ended_simple {s = s} p) n = F.ended_simple (simple_returns p (none (is_alias s) (first (not (is_alias s)) true n)))
+simples_return (F.last_simple {s = s} p) n =
+    F.last_simple (simple_returns p (not-true (is_alias s) (and_parts (not (is_alias s)) true n).0))
+simples_return (F.ended_simple {s = s} p) n =
+    F.ended_simple (simple_returns p (not-true (is_alias s) (and_parts (not (is_alias s)) true n).0))
 simples_return (F.more_simples {s = s} {ss = ss} p c) n =
-    F.more_simples (simple_returns p (none (is_alias s) (first (not (is_alias s)) (untyped_statements ss) n)))
-    (simples_return c (second (not (is_alias s)) (untyped_statements ss) n))
+    F.more_simples (simple_returns p (not-true (is_alias s) (and_parts (not (is_alias s)) (untyped_statements ss) n).0))
+    (simples_return c (and_parts (not (is_alias s)) (untyped_statements ss) n).1)
 
 header_returns : {extent : Extent} {ts : List Terminal} {h : Header} → F.HeaderOf (python Py312 extent) ts h → untyped_header h ≡ true
     → F.HeaderOf (python Py311 extent) ts h
@@ -220,8 +208,8 @@ form_returns (F.simple_statements c) n = F.simple_statements (simples_return c n
 form_returns (F.decorator_line p) n = F.decorator_line p
 form_returns (F.header_line p) n = F.header_line (header_returns p n)
 form_returns (F.header_suite {h = h} {ss = ss} p c) n =
-    F.header_suite (header_returns p (first (untyped_header h) (untyped_statements ss) n))
-    (simples_return c (second (untyped_header h) (untyped_statements ss) n))
+    F.header_suite (header_returns p (and_parts (untyped_header h) (untyped_statements ss) n).0)
+    (simples_return c (and_parts (untyped_header h) (untyped_statements ss) n).1)
 form_returns (F.match_line form w p) n = F.match_line form w p
 
 place_returns : {extent : Extent} {inside : Bool} {ts : List Terminal} {f : Form} → F.FormAt (python Py312 extent) inside ts f
@@ -229,7 +217,7 @@ place_returns : {extent : Extent} {inside : Bool} {ts : List Terminal} {f : Form
 place_returns (F.other_line h p) n = F.other_line h (form_returns p n)
 place_returns (F.case_alone w c) n = F.case_alone w c
 place_returns (F.case_suite {h = h} {ss = ss} w c s) n =
-    F.case_suite w c (simples_return s (second (untyped_header h) (untyped_statements ss) n))
+    F.case_suite w c (simples_return s (and_parts (untyped_header h) (untyped_statements ss) n).1)
 
 pub old_is_untyped : (extent : Extent) (inside : Bool) (ts : List Terminal) (f : Form)
     → F.FormAt (python Py311 extent) inside ts f ↔ (F.FormAt (python Py312 extent) inside ts f × (untyped f ≡ true))

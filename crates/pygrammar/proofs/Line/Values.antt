@@ -20,6 +20,7 @@ use Rattle.pygrammar.specs.Targets.{stored, single_stored}
 use Rattle.pygrammar.specs.Grammar as G
 use Rattle.pygrammar.specs.Reader.{Answer, Found, NoForm, and_then, on_some, on_first}
 use Rattle.pygrammar.specs.Precedence.{lead}
+use Rattle.pygrammar.proofs.Answers.{found_one, found_rest}
 use Rattle.pygrammar.proofs.Completeness.LookLemmas.{grip, grip_of, lead_of, lead_front, miss_name_with}
 use Rattle.pygrammar.proofs.Completeness.LevelLemmas.{led, free}
 use Rattle.pygrammar.proofs.Soundness.Says.{lower}
@@ -48,11 +49,8 @@ valued _ h = refl
 -- an expression doesn't begin with two names
 name_ends : (x : Spelled) (s r : List Terminal) (e : Expr) → plain Value (Ident x ∷ s) ≡ Found e r
     → peek name_in r ≡ None → peek name_in s ≡ None
-name_ends x (Ident y ∷ s) r e h m = absurd (bad (ap (peek name_in) (rests (Trees.Name x.form Load) e (Ident y ∷ s) r h) ∙ m))
+name_ends x (Ident y ∷ s) r e h m = absurd (bad (ap (peek name_in) (found_rest (Trees.Name x.form Load) e (Ident y ∷ s) r h) ∙ m))
   where
-    rests : (a b : Expr) (r s : List Terminal) → ◌≡◌ {A = Answer Expr} (Found a r) (Found b s) → r ≡ s
-    rests a b r s h = cc
-
     bad : ◌≡◌ {A = Option (List ℕ)} (Some y.form) None → ⊥
     bad h = absurd (cc)
 name_ends x [] r e h m = refl
@@ -229,9 +227,6 @@ annotated_goes profile r {ts} {us} {vs} {f} {t} p q n k b w =
     ∙ (miss_name_with Sign.Colon (ts ++ z) _ _ n ∙ (loop_ends (length (ts ++ z)) [] (ts ++ z) z f h refl
     ∙ (ap (λ b. on_some b (λ t. annotation plain t false y) NoForm) q ∙ annotation_goes t false k b r w)))
 
-found_tree : (a b : Expr) (r s : List Terminal) → ◌≡◌ {A = Answer Expr} (Found a r) (Found b s) → a ≡ b
-found_tree a b r s h = cc
-
 some_same : (a b : Expr) → ◌≡◌ {A = Option Expr} (Some a) (Some b) → a ≡ b
 some_same a b h = cc
 
@@ -245,7 +240,7 @@ part_annotated_goes profile {ts} {us} {vs} {t} (G.single_target {e = f} p q) n k
     ap (statement profile plain) (append_assoc ts (Op Sign.Colon ∷ (us ++ vs)) r) ∙ annotated_goes profile r p q (λ x zs e.
     let z = Op Sign.Colon ∷ ((us ++ vs) ++ r) in
     let h = value_front (item_of p) z (omega arith) (λ k. omega (arith, k)) in
-    let g = found_tree f (Trees.Name x.form Load) z (Op Sign.Colon ∷ zs) (sym h ∙ ap (plain Value) e) in
+    let g = found_one f (Trees.Name x.form Load) z (Op Sign.Colon ∷ zs) (sym h ∙ ap (plain Value) e) in
     differ (ap F.is_name (some_same (Trees.Name x.form Store) t (ap single_stored (sym g) ∙ q)) ∙ n)) k b w
 
 pub group_annotated_goes : (profile : Profile) {ts us vs : List Terminal} {t a : Expr} {v : Option Expr} → G.SingleTarget ts t

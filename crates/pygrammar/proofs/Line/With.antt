@@ -3,8 +3,8 @@
 --
 -- Carries: with_goes, read_items_sound, for Law, SoundLines. On: Says, SoundParts,
 -- LookLemmas, Whole and 5 more.
-use Rattle.std.proofs.Common.{◌≡◌, ◌⊎◌, inl, inr, refl, sym, ap, subst, ◌∙◌, ℕ, zero, suc, ◌≤◌, arith, List, [], ◌∷◌, ◌++◌, length, Option}
-use Rattle.std.proofs.Common.{Some, None, Bool, true, false, cond, append_assoc}
+use Rattle.std.proofs.Common.{◌≡◌, ◌⊎◌, inl, inr, refl, sym, ap, subst, ◌∙◌, ℕ, suc, ◌≤◌, arith, List, [], ◌∷◌, ◌++◌, length}
+use Rattle.std.proofs.Common.{Bool, append_assoc}
 use Rattle.std.proofs.lemmas.List.{append_cancel_right}
 use Rattle.std.specs.Prelude.{max}
 use Rattle.pylex_lexeme.specs.declared.kinds.Exact.TheVariants as Sign
@@ -12,21 +12,25 @@ use Rattle.pytoken.specs.declared.keywords.Keyword.TheVariants as Key
 use Rattle.pygrammar.specs.declared.levels.Level.TheVariants.{Expression, Atom, Primary, Or, Elem}
 use Rattle.pytree_node.specs.Trees.{Expr}
 use Rattle.pytoken.specs.Terminals.{Terminal, Op, Word}
-use Rattle.pygrammar.specs.Looks.{is_op, is_word}
 use Rattle.pygrammar.specs.Entries.{Of, Entry, Single}
 use Rattle.pygrammar.specs.Grammar as G
-use Rattle.pygrammar.specs.Reader.{Answer, Found, NoForm, TooDeep, and_then, on_some, on_first, made, listing_of, round, read}
+use Rattle.pygrammar.specs.Reader.{Answer, Found, NoForm, TooDeep, and_then, listing_of, round, read}
 use Rattle.pygrammar.specs.Precedence.{starts}
-use Rattle.pygrammar.proofs.Completeness.LookLemmas.{grip_of, pass_op, pass_word}
+use Rattle.pygrammar.proofs.Answers.{found_rest, none_found, deep_none}
+use Rattle.pygrammar.proofs.Completeness.LookLemmas.{grip_of, heads, pass_op, pass_word}
 use Rattle.pygrammar.proofs.Completeness.Climb.{answers}
 use Rattle.pygrammar.proofs.Completeness.LevelLemmas.{led}
 use Rattle.pygrammar.proofs.Completeness.Complete.{goes, listing_all}
-use Rattle.pygrammar.proofs.Soundness.Says.{Says, found, no_form, deep, says_then, says_op, says_word, says_made, says_is, lower}
-use Rattle.pygrammar.proofs.Depths.Whole.{final, answered, says_found}
+use Rattle.pygrammar.proofs.Soundness.Says.{Says, found, no_form, deep, says_found, says_then, says_op, says_word, says_made, says_is}
+use Rattle.pygrammar.proofs.Soundness.Says.{lower}
+use Rattle.pygrammar.proofs.Depths.Weights.{weight_most}
+use Rattle.pygrammar.proofs.Depths.Enough.{Good, good_kept, good_reads}
+use Rattle.pygrammar.proofs.Depths.Whole.{final}
+use Rattle.pygrammar.proofs.Related.Lines.{r_bracketed}
 use Rattle.pytree_node.specs.Trees as Trees
 use Rattle.pygrammar.specs.Lines.{with_header}
 use Rattle.pygrammar.specs.Forms as F
-use Rattle.pygrammar.specs.LineReader.{or_else, always, commas, commas_of, plain, item_target, read_item, bracketed, read_items, with_rest}
+use Rattle.pygrammar.specs.LineReader.{or_else, always, commas_of, plain, item_target, read_item, bracketed, read_items, with_rest}
 use Rattle.pygrammar.proofs.Line.Tools.{thus, front}
 use Rattle.pygrammar.proofs.Line.Headers.{items_goes, bracketed_goes}
 use Rattle.pygrammar.proofs.Line.SoundParts.{At, headed, joins, plain_sound, always_sound, more_sound}
@@ -61,59 +65,9 @@ bracketed_sound i = says_op Sign.LPar i _ _
     )) (λ _. no_form)) (λ _. no_form))) (λ _. no_form)
 
 -- ---- The plain reader of brackets always comes to an answer.
-abbrev Calm : {A : Type 0} → Answer A → Type 0
-Calm x = x ≡ TooDeep → ⊥
-
-found_calm : {A : Type 0} (a : A) (r : List Terminal) → Calm (Found a r)
-found_calm a r h = absurd (cc)
-
-no_form_calm : {A : Type 0} → Calm {A = A} NoForm
-no_form_calm h = absurd (cc)
-
-then_calm : {A B : Type 0} (x : Answer A) (k : A → List Terminal → Answer B) → Calm x
-    → ((a : A) (r : List Terminal) → Calm (k a r)) → Calm (and_then x k)
-then_calm (Found a r) k c h = h a r
-then_calm NoForm k c h = no_form_calm
-then_calm TooDeep k c h = absurd (c refl)
-
-first_calm : {A B : Type 0} (f : Terminal → Option A) (r : List Terminal) (k : A → List Terminal → Answer B) (x : Answer B)
-    → ((a : A) (s : List Terminal) → Calm (k a s)) → Calm x → Calm (on_first f r k x)
-first_calm f [] k x h m = m
-first_calm {A} {B} f (t ∷ r) k x h m = go (f t)
-  where
-    go : (o : Option A) → Calm {A = B} (on_some o (λ a. k a r) x)
-    go (Some a) = h a r
-    go None = m
-
-cond_calm : {B : Type 0} (b : Bool) (x y : Answer B) → Calm x → Calm y → Calm (cond b x y)
-cond_calm true x y h k = h
-cond_calm false x y h k = k
-
-made_calm : {A : Type 0} (o : Option A) (r : List Terminal) → Calm (made o r)
-made_calm (Some a) r = found_calm a r
-made_calm None r = no_form_calm
-
-item_target_calm : (i : List Terminal) → Calm (item_target plain i)
-item_target_calm i = first_calm (is_op Sign.Star) i _ _ (λ _ r. then_calm _ _ (answered Expression r) (λ e r1. made_calm _ r1))
-    (then_calm _ _ (answered Expression i) (λ e r. made_calm _ r))
-
-item_calm : (i : List Terminal) → Calm (read_item plain i)
-item_calm i = then_calm _ _ (answered Expression i)
-    (λ e r. first_calm (is_word Key.As) r _ _ (λ _ r1. then_calm _ _ (item_target_calm r1) (λ t r2. found_calm _ r2)) (found_calm _ r))
-
-commas_calm : {A : Type 0} (one : List Terminal → Answer A) (more : List Terminal → Bool) → ((i : List Terminal) → Calm (one i))
-    → (n : ℕ) (i : List Terminal) → Calm (commas one more n i)
-commas_calm one more h zero i = no_form_calm
-commas_calm one more h (suc n) i =
-    then_calm _ _ (h i) (λ a r. first_calm (is_op Sign.Comma) r _ _
-    (λ _ r1. cond_calm (more r1) _ _ (then_calm _ _ (commas_calm one more h n r1) (λ as_ r2. found_calm _ r2)) (found_calm _ r1))
-    (found_calm _ r))
-
-bracketed_calm : (i : List Terminal) → Calm (bracketed plain i)
-bracketed_calm i = first_calm (is_op Sign.LPar) i _ _
-    (λ _ r. then_calm _ _ (commas_calm (read_item plain) (starts (Of Expression)) item_calm (suc (length r)) r)
-    (λ is r1. first_calm (is_op Sign.RPar) r1 _ _ (λ _ r2. first_calm (is_op Sign.Colon) r2 _ _ (λ _ _. found_calm _ r2) no_form_calm)
-    no_form_calm)) no_form_calm
+bracketed_calm : (i : List Terminal) → bracketed plain i ≡ TooDeep → ⊥
+bracketed_calm i h = subst (λ z. Good (suc (length i)) z) h
+    (r_bracketed good_kept plain plain (suc (length i)) (good_reads (suc (length i))) i (omega (arith, weight_most i)))
 
 -- ---- Items in brackets are an expression in brackets, or have an `as` that no expression has.
 data Run : List Terminal → List Entry → Type 0 where
@@ -223,18 +177,9 @@ no_expression {ws} c y =
     let f = round_fails c y in
     let i = Op Sign.LPar ∷ (ws ++ (Word Key.As ∷ y)) in
     let h = expression_fails (suc f.0) (ws ++ (Word Key.As ∷ y)) (f.1 f.0 (omega arith)) in
-    elim (final (suc (suc f.0)) Expression i) [ inl q ↦ absurd (bad (sym q ∙ h)) | inr q ↦ sym q ∙ h ]
-  where
-    bad : ◌≡◌ {A = Answer Expr} TooDeep NoForm → ⊥
-    bad h = absurd (cc)
+    elim (final (suc (suc f.0)) Expression i) [ inl q ↦ absurd (deep_none (sym q ∙ h)) | inr q ↦ sym q ∙ h ]
 
 -- ---- So items in brackets in front of a colon end where the first expression does.
-no_form_found : (e : Expr) (r : List Terminal) → ◌≡◌ {A = Answer Expr} NoForm (Found e r) → ⊥
-no_form_found e r h = absurd (cc)
-
-found_rest : (a b : Expr) (r s : List Terminal) → ◌≡◌ {A = Answer Expr} (Found a r) (Found b s) → r ≡ s
-found_rest a b r s h = cc
-
 atom_expression : {ts : List Terminal} {e : Expr} → G.Derives Atom ts e → G.Derives Expression ts e
 atom_expression {ts} {e} p = G.next (lower Or Primary ts e (omega arith) (omega arith) (omega arith) (G.next p))
 
@@ -245,7 +190,7 @@ same_end {e = e} y z (F.bracketed {ts = vs} c) p q g =
     let w = Op Sign.Colon ∷ y in
     elim (split_all c) [
       | inl u ↦ found_rest e u.0 z w (sym h ∙ (ap (plain Expression) (sym q) ∙ front (atom_expression u.1) w (omega arith)))
-      | inr u ↦ absurd (no_form_found e z (sym (no_expression u.4 (u.2 ++ (Op Sign.RPar ∷ w)))
+      | inr u ↦ absurd (none_found e z (sym (no_expression u.4 (u.2 ++ (Op Sign.RPar ∷ w)))
           ∙ (ap (plain Expression) (shape vs u.0 u.2 w u.3 ∙ q) ∙ h)))
     ]
   where
@@ -263,10 +208,7 @@ FirstOf ts y = (xs : List Terminal) × (e : Expr) × (z : List Terminal) × G.De
     (grip_of z ≤ 8) × ((w : List Terminal) → z ≡ Op Sign.Colon ∷ w → xs ≡ ts)
 
 no_colon : (t : Terminal) (r w : List Terminal) → (t ≡ Op Sign.Colon → ⊥) → t ∷ r ≡ Op Sign.Colon ∷ w → ⊥
-no_colon t r w h q = h (heads t (Op Sign.Colon) r w q)
-  where
-    heads : (t u : Terminal) (r w : List Terminal) → t ∷ r ≡ u ∷ w → t ≡ u
-    heads t u r w q = cc
+no_colon t r w h q = h (heads q)
 
 comma_colon : Op Sign.Comma ≡ Op Sign.Colon → ⊥
 comma_colon q = absurd (cc)

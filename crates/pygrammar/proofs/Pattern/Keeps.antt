@@ -24,8 +24,8 @@ use Rattle.pygrammar.specs.PatternReader.{PatternReads, cap_by, literal_or, dott
 use Rattle.pygrammar.specs.PatternReader.{entries_of, alternatives_loop, sequence_or, round_pattern, square_pattern, mapping_pattern}
 use Rattle.pygrammar.specs.PatternReader.{class_arguments, dotted_pattern, name_pattern, literal_pattern, closed_pattern, read_closed}
 use Rattle.pygrammar.specs.PatternReader.{read_or, read_as_pattern, read_star, read_patterns, pattern_step, capped_pattern}
-use Rattle.pygrammar.proofs.Depths.Keeps.{Keeps, AllKeep, keeps_then, keeps_first, keeps_cond, k_joined, k_literals}
-use Rattle.pygrammar.proofs.Heights.KeepsCapped.{keeps_capped}
+use Rattle.pygrammar.proofs.Depths.Keeps.{Keeps, AllKeep, Lighter, keeps_then, keeps_first, keeps_cond, k_joined, k_literals}
+use Rattle.pygrammar.proofs.Heights.KeepsCapped.{keeps_capped, light_capped}
 
 -- ---- What is checked, with room e in place of d.
 
@@ -44,11 +44,11 @@ keeps_checked : {A : Type 0} (s : A → ℕ) (d e : ℕ) → d ≤ e → (x : An
 keeps_checked s d e w x = keeps_cap s d e w x x (inr refl)
 
 -- a value: what is read by the other reader depends on the room, and the fields of f-strings
-module _ (self reader : Reads) (fields : AllKeep self reader) where
+module _ (self reader : Reads) (fields : AllKeep self reader) (calm : Lighter self) where
   k_literal : (i : List Terminal) (x y : Answer Expr) → Keeps x y → Keeps (literal_or self i x) (literal_or reader i y)
   k_literal (Number v ∷ r) x y h = inr refl
-  k_literal (Literal v ∷ r) x y h = k_literals self reader fields v r
-  k_literal (FormattedBegin ∷ r) x y h = k_joined self reader fields false [] r
+  k_literal (Literal v ∷ r) x y h = k_literals self reader fields calm v r
+  k_literal (FormattedBegin ∷ r) x y h = k_joined self reader fields calm false [] r
   k_literal (Op Minus ∷ r) x y h = inr refl
   k_literal (Op _ ∷ r) x y h = h
   k_literal [] x y h = h
@@ -63,10 +63,10 @@ module _ (d e : ℕ) (le : d ≤ e) where
       (λ x r2. keeps_then _ _ _ _ (keeps_checked height d e le (Found (Trees.Attribute f x Load) r2)) (λ g r3. k_dotted m g r3)) (inr refl))
       (inr refl)
 
-  k_key : (self reader : Reads) → AllKeep self reader → (i : List Terminal) → Keeps (read_key d self i) (read_key e reader i)
-  k_key self reader fields i =
+  k_key : (self reader : Reads) → AllKeep self reader → Lighter self → (i : List Terminal) → Keeps (read_key d self i) (read_key e reader i)
+  k_key self reader fields calm i =
       keeps_cap height d e le _ _
-      (k_literal self reader fields i _ _ (keeps_first singleton_word i _ _ _ _ (λ v r. inr refl)
+      (k_literal self reader fields calm i _ _ (keeps_first singleton_word i _ _ _ _ (λ v r. inr refl)
       (keeps_first name_in i _ _ _ _ (λ x r. keeps_then _ _ _ _ (k_dotted (length r) (Trees.Name x Load) r) (λ f r1. inr refl))
       (inr refl))))
 
@@ -75,11 +75,12 @@ module _ (d e : ℕ) (le : d ≤ e) where
 abbrev KeepsAt : PatternReads → PatternReads → Type 0
 KeepsAt self other = (l : PatternLevel) (i : List Terminal) → Keeps (self l i) (other l i)
 
-module _ (d e : ℕ) (le : d ≤ e) (self reader : Reads) (fields : AllKeep self reader) (inner other : PatternReads)
+module _ (d e : ℕ) (le : d ≤ e) (self reader : Reads) (fields : AllKeep self reader) (calm : Lighter self) (inner other : PatternReads)
     (all : KeepsAt inner other) where
   k_entry : (i : PatternItem) (r : List Terminal) → Keeps (read_entry d self inner i r) (read_entry e reader other i r)
   k_entry Element r = keeps_then _ _ _ _ (all StarPattern r) (λ p r1. inr refl)
-  k_entry KeyPattern r = keeps_first (is_op DoubleStar) r _ _ _ _ (λ _ r1. inr refl) (keeps_then _ _ _ _ (k_key d e le self reader fields r)
+  k_entry KeyPattern r = keeps_first (is_op DoubleStar) r _ _ _ _ (λ _ r1. inr refl)
+      (keeps_then _ _ _ _ (k_key d e le self reader fields calm r)
       (λ k r1. keeps_first (is_op Colon) r1 _ _ _ _ (λ _ r2. keeps_then _ _ _ _ (all AsPattern r2) (λ p r3. inr refl)) (inr refl)))
   k_entry ClassArgument r =
       keeps_first name_in r _ _ _ _
@@ -131,7 +132,7 @@ module _ (d e : ℕ) (le : d ≤ e) (self reader : Reads) (fields : AllKeep self
 
   k_value : (i : List Terminal) → Keeps (literal_pattern d self inner i) (literal_pattern e reader other i)
   k_value i = keeps_then _ _ (λ v r. Found (MatchValue v) r) (λ v r. Found (MatchValue v) r)
-      (k_literal self reader fields i NoForm NoForm (inr refl)) (λ v r. inr refl)
+      (k_literal self reader fields calm i NoForm NoForm (inr refl)) (λ v r. inr refl)
 
   k_constant : (i : List Terminal) → Keeps (on_first singleton_word i (λ v r. Found (MatchSingleton v) r) (literal_pattern d self inner i))
       (on_first singleton_word i (λ v r. Found (MatchSingleton v) r) (literal_pattern e reader other i))
@@ -188,6 +189,6 @@ keeps (suc g) h zero e a b l i = inl refl
 keeps (suc g) zero (suc d) e a b l i = absurd (omega (arith, a))
 keeps (suc g) (suc h) (suc d) zero a b l i = absurd (omega (arith, b))
 keeps (suc g) (suc h) (suc d) (suc e) a b l i = k_step d e (omega (arith, b)) (capped g d) (capped h e)
-    (keeps_capped g h d e (omega (arith, a)) (omega (arith, b))) (capped_pattern g d) (capped_pattern h e)
+    (keeps_capped g h d e (omega (arith, a)) (omega (arith, b))) (light_capped g d) (capped_pattern g d) (capped_pattern h e)
     (keeps g h d e (omega (arith, a)) (omega (arith, b))) (capped_pattern g (suc d)) (capped_pattern h (suc e))
     (keeps g h (suc d) (suc e) (omega (arith, a)) b) l i

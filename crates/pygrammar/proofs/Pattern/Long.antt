@@ -37,7 +37,8 @@ use Rattle.pygrammar.specs.PatternReader.{name_pattern, literal_pattern, closed_
 use Rattle.pygrammar.specs.PatternReader.{read_patterns, pattern_step, capped_pattern}
 use Rattle.pygrammar.proofs.Soundness.Says.{Says, found, no_form, deep, SoundAt}
 use Rattle.pygrammar.proofs.Soundness.SoundStrings.{FitsAt, joined_sound, literals_sound}
-use Rattle.pygrammar.proofs.Depths.Enough.{Good, GoodTo, g_joined, g_literals}
+use Rattle.pygrammar.proofs.Depths.Enough.{Good, GoodTo, good_kept}
+use Rattle.pygrammar.proofs.Related.Strings.{r_joined, r_literals}
 use Rattle.pygrammar.proofs.Heights.Bound.{tall}
 use Rattle.pygrammar.proofs.Heights.Room.{good_capped, sound_capped}
 use Rattle.pygrammar.proofs.Pattern.Sizes.{pattern_some, entry_size, entries_size, entry_some, entries_some, entries_last, elements_low}
@@ -101,10 +102,10 @@ module _ (self : Reads) (b : ℕ) (all : GoodTo b self) (sound : SoundAt self) w
   f_literal : (i : List Terminal) (x : Answer Expr) → weight i ≤ b → Fits height (weight i) x → Fits height (weight i) (literal_or self i x)
   f_literal (Number v ∷ r) x w h = f_number (suc (weight r)) v (Trees.Constant v) r (omega arith) (omega arith)
   f_literal (Literal v ∷ r) x w h = f_said (suc (weight r)) (Literal v ∷ r) (literals self v r)
-      (g_literals self b all (suc (weight r)) v r (omega arith) (omega (arith, w)))
+      (r_literals good_kept self self b all (suc (weight r)) v r (omega arith) (omega (arith, w)))
       (literals_sound self sound (G.Derives Atom) (λ u ts ps l b h. G.joined_string l b h) (λ v w vs h. G.strings vs h) v r)
   f_literal (FormattedBegin ∷ r) x w h = f_said (suc (weight r)) (FormattedBegin ∷ r) (joined_step self false [] r)
-      (g_joined self b all (suc (weight r)) false [] r (omega arith) (omega (arith, w)))
+      (r_joined good_kept self self b all (suc (weight r)) false [] r (omega arith) (omega (arith, w)))
       (joined_sound self sound (G.Derives Atom) (λ u ts ps l b h. G.joined_string l b h) r)
   f_literal (Op Minus ∷ r) x w h = fits_first height (suc (weight r)) number_in heavy_number r _ NoForm
       (λ v r1 q. f_number (suc (weight r)) v (Trees.UnaryOp Un.USub (Trees.Constant v)) r1 (omega arith) (omega (arith, q))) tt

@@ -10,13 +10,14 @@ use Rattle.pygrammar.specs.declared.pattern_levels.PatternLevel.TheVariants.{Sta
 use Rattle.pytree_node.specs.Trees.{Expr, Pattern, MatchAs, absent_pattern, patterns}
 use Rattle.pytoken.specs.Terminals.{Spelled, Terminal, Op, Ident}
 use Rattle.pytree_height.specs.Heights.{height, list_height, pattern_height, pattern_heights}
-use Rattle.pygrammar.specs.Reader.{Answer, Found, Reads}
+use Rattle.pygrammar.specs.Reader.{Found, Reads}
 use Rattle.pygrammar.specs.Capped.{capped}
 use Rattle.pygrammar.specs.PatternOperators.{captured, is_wildcard}
 use Rattle.pygrammar.specs.PatternEntries.{PatternItem, Element, KeyPattern, ClassArgument, PatternEntry, Alone, Keyed, Rest, Named}
 use Rattle.pygrammar.specs.PatternEntries.{elements, pattern_keys, key_patterns, named_patterns}
 use Rattle.pygrammar.specs.PatternGrammar as P
 use Rattle.pygrammar.specs.PatternReader.{PatternReads, starts_entry, read_key, read_entry, entries_loop, alternatives_loop, capped_pattern}
+use Rattle.pygrammar.proofs.Answers.{found_rest}
 use Rattle.pygrammar.proofs.Completeness.LookLemmas.{miss_name_with}
 use Rattle.pygrammar.proofs.Completeness.Comps.{append_no}
 use Rattle.pygrammar.proofs.Pattern.Ends.{pattern_grip_of, miss_sign, pass_start, starts_front, key_starts, no_entry_starts}
@@ -107,12 +108,9 @@ unnamed_argument g d i r p w h k e x us q =
     let f : FindsPattern AsPattern (Ident x ∷ []) (MatchAs absent_pattern (captured x.form)) =
     next_finds AsPattern (Ident x ∷ []) (MatchAs absent_pattern (captured x.form)) refl
     (next_finds OrPattern (Ident x ∷ []) (MatchAs absent_pattern (captured x.form)) refl (capture_finds x)) in
-    let s = same_rest p (MatchAs absent_pattern (captured x.form)) r (Op Equal ∷ us) (sym k
+    let s = found_rest p (MatchAs absent_pattern (captured x.form)) r (Op Equal ∷ us) (sym k
     ∙ (ap (capped_pattern g d AsPattern) q ∙ f g d (Op Equal ∷ us) (omega (arith, w, ap length q)) h (omega arith))) in
     omega (arith, e, ap pattern_grip_of s)
-  where
-    same_rest : (p q : Pattern) (r s : List Terminal) → ◌≡◌ {A = Answer Pattern} (Found p r) (Found q s) → r ≡ s
-    same_rest p q r s h = cc
 
 pub argument_finds : (ts : List Terminal) (p : Pattern) → starts_entry ClassArgument ts ≡ true → FindsPattern AsPattern ts p
     → EntryFinds ClassArgument ts (Alone p)

@@ -10,7 +10,7 @@ use Rattle.pytree_node.specs.declared.operators.Context.TheVariants.{Load}
 use Rattle.pygrammar.specs.declared.pattern_levels.PatternLevel.{PatternLevel}
 use Rattle.pygrammar.specs.declared.pattern_levels.PatternLevel.TheVariants.{Patterns, StarPattern, AsPattern, OrPattern, ClosedPattern}
 use Rattle.pytree_node.specs.Trees
-use Rattle.pytree_node.specs.Trees.{Expr, Identifier, Pattern, MatchAs, MatchSequence, MatchOr, a_pattern, absent_pattern, patterns}
+use Rattle.pytree_node.specs.Trees.{Expr, Identifier, Pattern, MatchAs, MatchSequence, a_pattern, absent_pattern}
 use Rattle.pytoken.specs.Terminals.{Spelled, Terminal, Op, Word, Ident}
 use Rattle.pytree_height.specs.Heights.{pattern_height}
 use Rattle.pygrammar.specs.PatternOperators.{below_pattern, captured, is_wildcard, singleton_word}
@@ -23,9 +23,8 @@ use Rattle.pygrammar.specs.PatternReader.{name_pattern, literal_pattern, closed_
 use Rattle.pygrammar.specs.PatternReader.{read_patterns, pattern_step, cap_pattern, capped_pattern}
 use Rattle.pygrammar.proofs.Heights.Room.{sound_capped}
 use Rattle.pygrammar.proofs.Soundness.Says.{Says, SoundAt, found, no_form, deep, says_then, says_first, says_op, says_word, says_name}
-use Rattle.pygrammar.proofs.Soundness.Says.{says_made, says_is}
+use Rattle.pygrammar.proofs.Soundness.Says.{says_found, says_made, says_is}
 use Rattle.pygrammar.proofs.Soundness.SoundLists.{says_closed, NoStar, no_star}
-use Rattle.pygrammar.proofs.Soundness.Sound.{says_found}
 use Rattle.pygrammar.proofs.Pattern.SoundValues.{says_cap, says_choice, literal_sound, dotted_sound}
 use Rattle.pygrammar.proofs.Pattern.SoundLists.{PatternAt, SoundBelow, entries_sound, alternatives_sound}
 

@@ -22,11 +22,12 @@ use Rattle.pytoken.specs.Keywords.{keyword_of}
 use Rattle.pytoken.specs.NumberValues.{is_complex, is_real, whole_value, number_value, number_fault}
 use Rattle.pytoken.specs.StringValues.{is_bytes, points_of, is_unicode, with_line_feeds, value_of, string_value}
 use Rattle.pytoken.specs.FormattedStrings.{is_fstring}
-use Rattle.pytoken.specs.Terminals.{Op, Word, Ident, Layout, terminal_of, single_fault, terminals_of, fault_of}
+use Rattle.pytoken.specs.Terminals.{Op, Word, Ident, Layout, terminal_of, single_fault, terminals_of, fault_of, expression}
 use Rattle.pytoken.specs.Tokens.{Token}
 use Rattle.pygrammar.specs.Extents.{is_plain_value}
 use Rattle.pygrammar.proofs.Plain.Terminals.{is_terminal_plain}
-use Rattle.pygrammar.proofs.Plain.FormattedStrings.{one_terminal, of_single, plain_formatted, formatted_said}
+use Rattle.pytoken.proofs.Callers.Singles.{one_terminal, of_single, plain_formatted}
+use Rattle.pygrammar.proofs.Plain.FormattedStrings.{formatted_said}
 
 -- ---- Numbers.
 
@@ -98,7 +99,7 @@ faultless_plain k t h = elim (cases_Bool (is_fstring k t)) [
   | inl formatted ↦ absurd (let e = plain_formatted k t formatted in cc)
   | inr other ↦
       let plain = single_plain k t (sym (of_single Plain k t other) ∙ h) in
-      ap (list_all is_terminal_plain) (one_terminal k t other) ∙ ap (λ z. z && true) plain
+      ap (list_all is_terminal_plain) (one_terminal false expression k t other) ∙ ap (λ z. z && true) plain
 ]
 
 pub plain_faultless : (k : Kind) (t : List ℕ) → list_all is_terminal_plain (terminals_of k t) ≡ true → fault_of Whole k t ≡ None
@@ -107,7 +108,7 @@ plain_faultless k t p h = elim (cases_Bool (is_fstring k t)) [
   | inl formatted ↦ absurd (let e = formatted_said k t formatted h in cc)
   | inr other ↦
       let plain = and_parts (is_terminal_plain (terminal_of k t)) true
-      (sym (ap (list_all is_terminal_plain) (one_terminal k t other)) ∙ p) in
+      (sym (ap (list_all is_terminal_plain) (one_terminal false expression k t other)) ∙ p) in
       of_single Plain k t other ∙ plain_single k t plain.0 (sym (of_single Whole k t other) ∙ h)
 ]
 

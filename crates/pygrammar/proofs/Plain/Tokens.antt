@@ -2,12 +2,12 @@
 -- language where it has none in the whole one and its tokens are plain.
 --
 -- Carries: lines_said, faultless_said, plain_refusal, for Law. On: Numbers, OpenLines.
-use Rattle.std.proofs.Common.{◌≡◌, refl, sym, ap, ◌∙◌, ℕ, Bool, true, false, not, ◌&&◌, List, [], ◌∷◌, ◌++◌, Option, Some, None}
+use Rattle.std.proofs.Common.{◌≡◌, refl, sym, ap, ◌∙◌, ℕ, Bool, true, false, ◌&&◌, List, [], ◌∷◌, ◌++◌, Option, Some, None}
 use Rattle.std.proofs.Common.{if◌then◌else◌}
 use Rattle.std.specs.Prelude.{All}
 use Rattle.std.specs.List.{list_all, flat_map}
 use Rattle.std.specs.Option.{option_or}
-use Rattle.std.proofs.lemmas.Bool.{and_parts}
+use Rattle.std.proofs.lemmas.Bool.{and_parts, not-true}
 use Rattle.std.proofs.lemmas.List.Elements.{All-head, All-tail}
 use Rattle.std.proofs.lemmas.List.Folds.{list_all-append}
 use Rattle.pysource.specs.declared.places.Place.{Place}
@@ -81,15 +81,10 @@ module _ (text : List ℕ) (es before : List Entry) (seen line : List Token)
     (ih : (before : List Entry) (seen line : List Token) → Fit (is_open before) es → IsEmpty (is_open before) line
     → Said seen line (tokens_from text before es))
     (h : IsEmpty (is_open before) line) where
-  -- where no line is open
-  none_open : (begun : Bool) → not begun ≡ true → begun ≡ false
-  none_open true e = absurd cc
-  none_open false e = refl
-
   one : (k : Kind) (x : Option Exact) (p q : Place) (f t : ℕ) → may_stand k (is_open before) ≡ true → Fit (next k (is_open before)) es
       → Said seen line (tokens_from text before (entry k x p q f t ∷ es))
   unfolding terminal_of terminals_by
-  one kinds.Encoding x p q f t m k = ih (entry kinds.Encoding x p q f t ∷ before) seen line k (λ _. h (none_open (is_open before) m))
+  one kinds.Encoding x p q f t m k = ih (entry kinds.Encoding x p q f t ∷ before) seen line k (λ _. h (not-true (is_open before) m))
   one kinds.Comment x p q f t m k = ih (entry kinds.Comment x p q f t ∷ before) seen line k h
   one kinds.Nl x p q f t m k = ih (entry kinds.Nl x p q f t ∷ before) seen line k h
   one kinds.Newline x p q f t m k =
@@ -100,7 +95,7 @@ module _ (text : List ℕ) (es before : List Entry) (seen line : List Token)
         | false ↦ λ o. ih (e ∷ before) seen line k o
       ] h
   one kinds.Indent x p q f t m k =
-      let e = entry kinds.Indent x p q f t in ih (e ∷ before) (token_of text e ∷ seen) line k (λ _. h (none_open (is_open before) m))
+      let e = entry kinds.Indent x p q f t in ih (e ∷ before) (token_of text e ∷ seen) line k (λ _. h (not-true (is_open before) m))
   one kinds.Dedent x p q f t m k =
       let e = entry kinds.Dedent x p q f t in
       let u = token_of text e in

@@ -18,7 +18,7 @@ use Rattle.pygrammar.specs.Reader.{Answer, Found, NoForm, TooDeep, and_then, on_
 use Rattle.pygrammar.specs.Operators.{rank}
 use Rattle.pygrammar.specs.Precedence.{infix_rank, behind}
 use Rattle.pygrammar.specs.Grammar as G
-use Rattle.pygrammar.proofs.Completeness.LookLemmas.{op_or_not, word_or_not}
+use Rattle.pygrammar.proofs.Completeness.LookLemmas.{op_or_not, word_or_not, heads, some_none}
 
 pub data Says {A : Type 0} (P : A → List Terminal → Type 0) : Answer A → Type 0 where
   found : {a : A} {r : List Terminal} → P a r → Says P (Found a r)
@@ -38,12 +38,9 @@ pub says_first : {A B : Type 0} {Q : B → List Terminal → Type 0} (f : Termin
 says_first f [] k x h g = g (λ t s q. absurd (cc))
 says_first {A} {B} {Q} f (t ∷ s) k x h g = go (f t) refl
   where
-    head : (t u : Terminal) (r s : List Terminal) → t ∷ r ≡ u ∷ s → t ≡ u
-    head t u r s q = cc
-
     go : (o : Option A) → f t ≡ o → Says Q (on_some o (λ a. k a s) x)
     go (Some a) e = h t a s e refl
-    go None e = g (λ u r q. ap f (sym (head t u s r q)) ∙ e)
+    go None e = g (λ u r q. ap f (sym (heads q)) ∙ e)
 
 pub says_op : {B : Type 0} {Q : B → List Terminal → Type 0} (y : Exact) (i : List Terminal) (k : ℕ → List Terminal → Answer B)
     (x : Answer B) → ((a : ℕ) (s : List Terminal) → i ≡ Op y ∷ s → Says Q (k a s))
@@ -53,9 +50,6 @@ says_op {B} {Q} y i k x h g =
       | inl e ↦ h a s (q ∙ ap (λ z. z ∷ s) e)
       | inr n ↦ absurd (some_none a (sym f ∙ n))
     ]) g
-  where
-    some_none : (a : ℕ) → ◌≡◌ {A = Option ℕ} (Some a) None → ⊥
-    some_none a h = absurd (cc)
 
 pub says_word : {B : Type 0} {Q : B → List Terminal → Type 0} (y : Keyword) (i : List Terminal) (k : ℕ → List Terminal → Answer B)
     (x : Answer B) → ((a : ℕ) (s : List Terminal) → i ≡ Word y ∷ s → Says Q (k a s))
@@ -65,11 +59,8 @@ says_word {B} {Q} y i k x h g =
       | inl e ↦ h a s (q ∙ ap (λ z. z ∷ s) e)
       | inr n ↦ absurd (some_none a (sym f ∙ n))
     ]) g
-  where
-    some_none : (a : ℕ) → ◌≡◌ {A = Option ℕ} (Some a) None → ⊥
-    some_none a h = absurd (cc)
 
-name_is : (t : Terminal) (x : Identifier) → name_in t ≡ Some x → (y : Spelled) × (t ≡ Ident y) × (y.form ≡ x)
+pub name_is : (t : Terminal) (x : Identifier) → name_in t ≡ Some x → (y : Spelled) × (t ≡ Ident y) × (y.form ≡ x)
 name_is (Ident y) x h = (y, refl, cc)
 name_is _ x h = absurd (cc)
 
@@ -82,6 +73,11 @@ pub says_cond : {B : Type 0} {Q : B → List Terminal → Type 0} (b : Bool) (x 
 says_cond true x y h k = h
 says_cond false x y h k = k
 
+pub says_some : {A B : Type 0} {Q : B → List Terminal → Type 0} (o : Option A) (k : A → Answer B) (x : Answer B)
+    → ((a : A) → o ≡ Some a → Says Q (k a)) → Says Q x → Says Q (on_some o k x)
+says_some (Some a) k x h g = h a refl
+says_some None k x h g = g
+
 pub says_made : {B : Type 0} {Q : B → List Terminal → Type 0} (o : Option B) (r : List Terminal)
     → ((a : B) → o ≡ Some a → Q a r) → Says Q (made o r)
 says_made (Some a) r h = found (h a refl)
@@ -92,6 +88,9 @@ pub says_is : {A : Type 0} {P Q : A → List Terminal → Type 0} (x : Answer A)
 says_is x (found {a = a} {r = r} p) h = found (h a r p)
 says_is x no_form h = no_form
 says_is x deep h = deep
+
+pub says_found : {A : Type 0} {P : A → List Terminal → Type 0} (a : A) (r : List Terminal) → Says P (Found a r) → P a r
+says_found a r (found p) = p
 
 -- the rank of an operator that stands first
 abbrev pub turn : Terminal → ℕ

@@ -25,11 +25,11 @@ use Rattle.pygrammar.specs.Reader.{levels_from, descend, read}
 use Rattle.pygrammar.specs.Precedence.{lead, starts, starts_comp}
 use Rattle.pygrammar.specs.Grammar as G
 use Rattle.pygrammar.proofs.Soundness.Says.{Says, found, no_form, deep, says_then, says_op, says_word, says_name, says_cond, says_made}
-use Rattle.pygrammar.proofs.Soundness.Says.{says_is, turns, Reads_as, SoundAt}
+use Rattle.pygrammar.proofs.Soundness.Says.{says_is, says_found, turns, Reads_as, SoundAt}
 use Rattle.std.proofs.lemmas.List.{append-nil}
 use Rattle.pygrammar.proofs.Soundness.SoundStrings.{constant_is, FitsAt, joined_sound, literals_sound}
 use Rattle.pygrammar.proofs.Soundness.SoundClimb.{climb_sound}
-use Rattle.pygrammar.proofs.Completeness.LookLemmas.{lead_of}
+use Rattle.pygrammar.proofs.Completeness.LookLemmas.{lead_of, heads}
 use Rattle.pygrammar.proofs.Completeness.LevelLemmas.{led, not_star}
 use Rattle.pygrammar.proofs.Soundness.SoundLists.{says_if, says_name_with, says_closed, inv, NoStar, no_star, elem_named, named_expression}
 use Rattle.pygrammar.proofs.Soundness.SoundLists.{perhaps_sound, starred_sound, piece_sound, listing_of_sound, others_sound}
@@ -261,10 +261,7 @@ module _ (self : Reads) (all : SoundAt self) where
 -- no Slice begins with a star
 star_lead : (ts r s : List Terminal) → ts ++ r ≡ Op Star ∷ s → 0 < lead_of ts → lead_of ts ≡ 7
 star_lead [] r s q h = absurd (omega (arith, h))
-star_lead (t ∷ ts) r s q h = ap lead (head t (Op Star) (ts ++ r) s q)
-  where
-    head : (t u : Terminal) (r s : List Terminal) → t ∷ r ≡ u ∷ s → t ≡ u
-    head t u r s q = cc
+star_lead (t ∷ ts) r s q h = ap lead (heads q)
 
 module _ (next inner : Reads) (low : SoundAt next) (deeper : SoundAt inner) where
   star_part_sound : (i ts r : List Terminal) (e : Expr) (s : List Terminal) → i ≡ ts ++ r → G.Derives Part ts e → i ≡ Op Star ∷ s
@@ -372,9 +369,6 @@ sound_descend inner h (suc k) l i = sound_step (descend inner k) inner (sound_de
 pub sound_read : (d : ℕ) → SoundAt (read d)
 sound_read zero l i = deep
 sound_read (suc d) l i = sound_descend (read d) (sound_read d) (levels_from l) l i
-
-pub says_found : {A : Type 0} {P : A → List Terminal → Type 0} (a : A) (r : List Terminal) → Says P (Found a r) → P a r
-says_found a r (found p) = p
 
 -- the law
 pub sound : (d : ℕ) (l : Level) (ts : List Terminal) (e : Expr) → read d l ts ≡ Found e [] → G.Derives l ts e

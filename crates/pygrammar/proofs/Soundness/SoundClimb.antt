@@ -254,16 +254,6 @@ raise_is (Word Key.As) h = absurd (cc)
 raise_is (Word _) h = absurd (cc)
 raise_is _ h = absurd (cc)
 
-joins_is : (t : Terminal) (o : BoolOperator) → behind t ≡ Some (Joins o) → t ≡ Word (chain_word o)
-joins_is (Word Key.And) Join.And h = refl
-joins_is (Word Key.Or) Join.Or h = refl
-joins_is (Word Key.And) Join.Or h = absurd (cc)
-joins_is (Word Key.Or) Join.And h = absurd (cc)
-joins_is (Word _) o h = absurd (cc)
-joins_is (Op LPar) o h = absurd (cc)
-joins_is (Op _) o h = absurd (cc)
-joins_is _ o h = absurd (cc)
-
 chain_lower : (o : BoolOperator) (c : Level) (ts : List Terminal) (e : Expr) → rank c ≤ 22 → rank (chain_level o) ≤ lim c → G.Derives c ts e
     → G.Derives (below (chain_level o)) ts e
 chain_lower Join.And c ts e h w p = lower Not c ts e (omega arith) (omega arith) (joint_and c h w) p

@@ -15,7 +15,7 @@ use Rattle.pytree_node.specs.declared.operators.Context.TheVariants.{Load}
 use Rattle.pygrammar.specs.declared.levels.Level.{Level}
 use Rattle.pygrammar.specs.declared.levels.Level.TheVariants.{Stars, StarItem, Named, Expression, Or, BitOr, Primary, Elem, Part, Slice}
 use Rattle.pytree_node.specs.Trees
-use Rattle.pytree_node.specs.Trees.{Expr, an_expr, OptionalExpr, arg, exprs, Comprehension}
+use Rattle.pytree_node.specs.Trees.{Expr, an_expr, OptionalExpr, arg, Comprehension}
 use Rattle.pytoken.specs.Terminals.{Spelled, Terminal, Op, Word, Ident}
 use Rattle.pygrammar.specs.Looks.{is_op, is_word}
 use Rattle.pygrammar.specs.Operators.{below, chain_level, left_operator, prefix_operator}
@@ -26,7 +26,7 @@ use Rattle.pygrammar.specs.Reader.{read_pair, read_argument, read_parameter, pie
 use Rattle.pygrammar.specs.Reader.{target_piece, read_target, ifs_loop, for_in_step, comps_loop, comps_closed}
 use Rattle.pygrammar.specs.Precedence.{starts, begins_comp, starts_comp}
 use Rattle.pygrammar.specs.Grammar as G
-use Rattle.pygrammar.proofs.Completeness.LookLemmas.{op_or_not}
+use Rattle.pygrammar.proofs.Completeness.LookLemmas.{op_or_not, some_none}
 use Rattle.pygrammar.proofs.Soundness.Says.{Says, found, no_form, says_then, says_op, says_word, says_name, says_cond, says_made, says_is}
 use Rattle.pygrammar.proofs.Soundness.Says.{SoundAt, lower}
 use Rattle.std.proofs.lemmas.List.{append-nil}
@@ -54,10 +54,7 @@ says_name_with {B} {Q} s (Ident a ∷ (t ∷ u)) hit x h g = go (is_op s t) refl
     seconds a b t v u w q = cc
 
     op_same : (s : Exact) (n : ℕ) (t : Terminal) → is_op s t ≡ Some n → t ≡ Op s
-    op_same s n t q = elim (op_or_not s t) [ inl e ↦ e | inr f ↦ absurd (bad n (sym q ∙ f)) ]
-      where
-        bad : (n : ℕ) → ◌≡◌ {A = Option ℕ} (Some n) None → ⊥
-        bad n h = absurd (cc)
+    op_same s n t q = elim (op_or_not s t) [ inl e ↦ e | inr f ↦ absurd (some_none n (sym q ∙ f)) ]
 
     self_op : (s : Exact) → is_op s (Op s) ≡ None → ⊥
     self_op LPar h = absurd (cc)
@@ -116,10 +113,7 @@ abbrev pub NoStar : List Terminal → Type 0
 NoStar r = (t : Terminal) (s : List Terminal) → r ≡ t ∷ s → is_op Star t ≡ None
 
 pub no_star : (r s : List Terminal) → NoStar r → r ≡ Op Star ∷ s → ⊥
-no_star r s f q = bad (f (Op Star) s q)
-  where
-    bad : ◌≡◌ {A = Option ℕ} (Some 0) None → ⊥
-    bad h = absurd (cc)
+no_star r s f q = some_none 0 (f (Op Star) s q)
 
 pub elem_named : (r ts r1 : List Terminal) (e : Expr) → r ≡ ts ++ r1 → NoStar r → G.Derives Elem ts e → G.Derives Named ts e
 elem_named r ts r1 e q f p = elim (inv p) [ inl d ↦ d | inr u ↦ absurd (no_star r (u.0 ++ r1) f (q ∙ ap (λ z. z ++ r1) u.1)) ]

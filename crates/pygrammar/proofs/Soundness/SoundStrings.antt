@@ -8,26 +8,22 @@ use Rattle.pylex_lexeme.specs.declared.kinds.Exact.TheVariants.{LPar}
 use Rattle.pyfstring.specs.declared.parts.Conversion.{Conversion}
 use Rattle.pygrammar.specs.declared.levels.Level.TheVariants.{Atom}
 use Rattle.pytree_node.specs.Trees
-use Rattle.pytree_node.specs.Trees.{Expr, OptionalExpr, absent, present}
+use Rattle.pytree_node.specs.Trees.{Expr, OptionalExpr, present}
 use Rattle.pytree_node.specs.Values
 use Rattle.pytoken.specs.Terminals.{Terminal, Op, Literal, FormattedBegin, FormattedEnd, FormattedText, FieldBegin, SpecBegin, FieldEnd}
 use Rattle.pygrammar.specs.Looks.{literal_in, text_in, conversion_in, is_formatted_begin, is_formatted_end, is_spec_begin, is_field_end}
 use Rattle.pygrammar.specs.Constants.{joined}
 use Rattle.pygrammar.specs.FormattedStrings.{StringPart, Text, Field, merged, values_of, spec_values_of, kind_of, text_of, texts_of}
 use Rattle.pygrammar.specs.FormattedStrings.{begins_unicode, has_formatted}
-use Rattle.pygrammar.specs.Reader.{Answer, on_some, on_first, constant_of, string_run, spec_with, field_with, parts_loop, formatted_step}
+use Rattle.pygrammar.specs.Reader.{Answer, on_first, constant_of, string_run, spec_with, field_with, parts_loop, formatted_step}
 use Rattle.pygrammar.specs.Reader.{literals_loop, joined_step, literals, Reads}
 use Rattle.pygrammar.specs.Grammar as G
 use Rattle.pygrammar.proofs.Completeness.LevelLemmas.{led}
-use Rattle.pygrammar.proofs.Soundness.Says.{Says, found, no_form, says_then, says_first, says_op, says_made, says_is, SoundAt}
+use Rattle.pygrammar.proofs.Completeness.LookLemmas.{heads}
+use Rattle.pygrammar.proofs.Soundness.Says.{Says, found, no_form, says_then, says_first, says_op, says_some, says_made, says_is, SoundAt}
 use Rattle.pygrammar.proofs.Heights.HeightLemmas.{some_is}
 
 -- ---- Tests with what they tell.
-
-pub says_some : {A B : Type 0} {Q : B → List Terminal → Type 0} (o : Option A) (k : A → Answer B) (x : Answer B)
-    → ((a : A) → o ≡ Some a → Says Q (k a)) → Says Q x → Says Q (on_some o k x)
-says_some (Some a) k x h g = h a refl
-says_some None k x h g = g
 
 says_mark : {B : Type 0} {Q : B → List Terminal → Type 0} (f : Terminal → Option ℕ) (u : Terminal)
     → ((t : Terminal) (a : ℕ) → f t ≡ Some a → t ≡ u) → (i : List Terminal) (k : ℕ → List Terminal → Answer B) (x : Answer B)
@@ -101,10 +97,7 @@ JoinedBehind u acc r e r1 = (ts : List Terminal) × (qs : List StringPart) × (r
 -- an Atom in front of a list that begins with a bracket begins with it
 bracketed : (ts r s : List Terminal) (e : Expr) → G.Derives Atom ts e → ts ++ r ≡ Op LPar ∷ s → (ks : List Terminal) × (ts ≡ Op LPar ∷ ks)
 bracketed [] r s e d q = absurd (omega (arith, led d))
-bracketed (t ∷ ks) r s e d q = (ks, ap (λ z. z ∷ ks) (head t (Op LPar) (ks ++ r) s q))
-  where
-    head : (t u : Terminal) (r s : List Terminal) → t ∷ r ≡ u ∷ s → t ≡ u
-    head t u r s q = cc
+bracketed (t ∷ ks) r s e d q = (ks, ap (λ z. z ∷ ks) (heads q))
 
 field_shape : (ks us vs : List Terminal) → (Op LPar ∷ (ks ++ (us ++ (FieldEnd ∷ [])))) ++ vs ≡ Op LPar ∷ (ks ++ (us ++ (FieldEnd ∷ vs)))
 field_shape ks us vs = simp append_assoc refl

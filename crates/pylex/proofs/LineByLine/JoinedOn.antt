@@ -197,9 +197,9 @@ holds_none old new at less none = λ s. let n = length-drop at (string_bytes old
     absurd (let f : true ≡ false = sym (s.opened (omega (arith, n, less))) ∙ none in cc)
 
 -- A line took the place of those held.
-pub holds_line : (x y : Seen) (b c : Buffered) (text_b text_c rest line : List ℕ) → (r : NextLine x y b c text_b text_c (Ok met.Text))
+pub holds_line : {x y : Seen} {b c : Buffered} {text_b text_c rest line : List ℕ} (r : NextLine x y b c text_b text_c (Ok met.Text))
     → line ≡ r.line → Holds b c rest line (drop 0 line)
-holds_line x y b c text_b text_c rest line r is = record {
+holds_line {x} {y} {b} {c} {text_b} {text_c} {rest} {line} r is = record {
   joined = joined_more [] line (λ front back e feed some. absurd (no_front front back e feed)) (λ h. absurd (omega arith))
       (subst (λ l. lines_of l ≡ l ∷ []) (sym is) r.tells.0.one);
   lexed = at_left;

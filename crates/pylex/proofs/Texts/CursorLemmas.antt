@@ -292,12 +292,12 @@ appended : (p a b c d e f g h t₀ t₁ t₂ t₃ t₄ t₅ t₆ t₇ t₈ : Lis
 appended p a b c d e f g h t₀ t₁ t₂ t₃ t₄ t₅ t₆ t₇ t₈ e₀ e₁ e₂ e₃ e₄ e₅ e₆ e₇ e₈ = cc
 
 -- a cursor's text, part by part
-pub cursor_written : (c : CursorParts) (t₀ t₁ t₂ t₃ t₄ t₅ t₆ t₇ t₈ : List ℕ) → t₀ ≡ codes "pytok1" → t₁ ≡ t₀ ++ part c.given
+pub cursor_written : (c : CursorParts) {t₀ t₁ t₂ t₃ t₄ t₅ t₆ t₇ t₈ : List ℕ} → t₀ ≡ codes "pytok1" → t₁ ≡ t₀ ++ part c.given
     → t₂ ≡ t₁ ++ part c.offset → t₃ ≡ t₂ ++ part c.row
     → t₄ ≡ t₃ ++ part c.depth → t₅ ≡ t₄ ++ part (count_if c.begun) → t₆ ≡ t₅ ++ part c.skip → t₇ ≡ t₆ ++ 32 ∷ []
     → t₈ ≡ t₇ ++ with_commas c.levels → t₈ ≡ cursor_text c
 unfolding cursor_text
-cursor_written c t₀ t₁ t₂ t₃ t₄ t₅ t₆ t₇ t₈ e₀ e₁ e₂ e₃ e₄ e₅ e₆ e₇ e₈ =
+cursor_written c {t₀} {t₁} {t₂} {t₃} {t₄} {t₅} {t₆} {t₇} {t₈} e₀ e₁ e₂ e₃ e₄ e₅ e₆ e₇ e₈ =
     appended (codes "pytok1") (part c.given) (part c.offset) (part c.row) (part c.depth) (part (count_if c.begun)) (part c.skip)
     (32 ∷ []) (with_commas c.levels)
     t₀ t₁ t₂ t₃ t₄ t₅ t₆ t₇ t₈ e₀ e₁ e₂ e₃ e₄ e₅ e₆ e₇ e₈

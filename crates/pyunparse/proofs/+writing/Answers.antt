@@ -405,7 +405,7 @@ displays::write_pairs-write_pair-requires g t c =
 
 pub clauses::write_clause-returns : goal.clauses::write_clause-returns
 clauses::write_clause-returns g t c = rw (comprehension_tree, sym c.deref.ensures.value) (IfOk-equal _ _ _ _ c.write_conditions.ensures
-    (clause_on g.W.Writer.after c.args.out.now _ _ _ _ _ _ _ _ c.in_ok-put_for.ensures c.in_ok-write_expr.ensures c.in_ok-put_word.ensures
+    (clause_on g.W.Writer.after c.args.out.now _ _ _ _ c.in_ok-put_for.ensures c.in_ok-write_expr.ensures c.in_ok-put_word.ensures
     c.in_ok-write_expr-2.ensures))
 
 pub calls::write_keyword-returns : goal.calls::write_keyword-returns

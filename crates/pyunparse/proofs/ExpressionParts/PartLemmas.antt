@@ -39,12 +39,12 @@ no_values (None ∷ ks) = refl
 no_values (Some k ∷ ks) = refl
 
 -- a clause
-pub clause_on : {S : Type 0} (after : S → Sited → S) (s : S) (b : Bool) (t e : Expr) (cs : Exprs) (s1 s2 s3 s4 : S) →
+pub clause_on : {S : Type 0} (after : S → Sited → S) (s : S) (b : Bool) (t e : Expr) (cs : Exprs) {s1 s2 s3 s4 : S} →
     s1 ≡ puts after s (for_in piece b []) → s2 ≡ puts after s1 (pieces Stars t) → s3 ≡ puts after s2 (word piece Key.In ∷ [])
     → s4 ≡ puts after s3 (pieces Or e) →
     puts after s4 (conditions piece cs) ≡ puts after s
     (for_in piece b (pieces Stars t ++ (word piece Key.In ∷ (pieces Or e ++ conditions piece cs))))
-clause_on after s b t e cs s1 s2 s3 s4 e1 e2 e3 e4 =
+clause_on after s b t e cs {s1} {s2} {s3} {s4} e1 e2 e3 e4 =
     five after s (for_in piece b []) (pieces Stars t) (word piece Key.In ∷ []) (pieces Or e) (conditions piece cs) s1 s2 s3 s4 e1 e2 e3 e4
     ∙ ap (puts after s) (by b)
   where

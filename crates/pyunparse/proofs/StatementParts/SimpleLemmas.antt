@@ -89,25 +89,25 @@ module _ {S : Type 0} (after : S → Sited → S) (s : S) where
         (e2 ∙ ap (λ z. puts after s1 (free piece (Op z) ∷ [])) sign)
         ∙ same (plain.AugAssign (tree_of t) o (tree_of e)) (ap stmt_of is ∙ aug_assign_tree t o e)
 
-    pub annotation_on : (t a : Box Expr Global) (v : Option (Box Expr Global)) (simple : Bool) (u b : Expr) (s1 s2 s3 : S)
+    pub annotation_on : {t a : Box Expr Global} {v : Option (Box Expr Global)} {simple : Bool} {u b : Expr} {s1 s2 s3 : S}
         → r ≡ statement.AnnAssign t a v simple → u ≡ t.value → b ≡ a.value →
         s1 ≡ puts after s (annotated piece (tree_of u) simple) → s2 ≡ puts after s1 (trailing piece Colon ∷ [])
         → s3 ≡ puts after s2 (pieces Level.Expression (tree_of b)) →
         puts after s3 (behind piece (free piece (Op Equal)) Level.Value (boxed_of v)) ≡ puts after s (simple_tokens piece (stmt_of r))
-    annotation_on t a v simple u b s1 s2 s3 is same_target same_annotation e1 e2 e3 =
+    annotation_on {t} {a} {v} {simple} {u} {b} {s1} {s2} {s3} is same_target same_annotation e1 e2 e3 =
         four after s (annotated piece (tree_of u) simple) (trailing piece Colon ∷ []) (pieces Level.Expression (tree_of b))
         (behind piece (free piece (Op Equal)) Level.Value (boxed_of v)) s1 s2 s3 e1 e2 e3
         ∙ (λ i. puts after s
         (simple_tokens piece (plain.AnnAssign (tree_of (same_target i)) (tree_of (same_annotation i)) (boxed_of v) simple)))
         ∙ same (plain.AnnAssign (tree_of t.value) (tree_of a.value) (boxed_of v) simple) (ap stmt_of is ∙ ann_assign_tree t a v simple)
 
-    pub alias_on : (t : Expr) (ps : Vec TypeParam Global) (e : Expr) (qs : List TypeParam) (s1 s2 s3 s4 : S)
+    pub alias_on : {t : Expr} {ps : Vec TypeParam Global} {e : Expr} {qs : List TypeParam} {s1 s2 s3 s4 : S}
         → r ≡ statement.TypeAlias t ps e → qs ≡ ps.items →
         s1 ≡ puts after s (sited (in_form (chars (116 ∷ 121 ∷ 112 ∷ 101 ∷ []))) false false ∷ [])
         → s2 ≡ puts after s1 (pieces Level.Primary (tree_of t)) →
         s3 ≡ puts after s2 (type_params piece (map type_param_of qs)) → s4 ≡ puts after s3 (free piece (Op Equal) ∷ []) →
         puts after s4 (pieces Level.Expression (tree_of e)) ≡ puts after s (simple_tokens piece (stmt_of r))
-    alias_on t ps e qs s1 s2 s3 s4 is same_parameters e1 e2 e3 e4 =
+    alias_on {t} {ps} {e} {qs} {s1} {s2} {s3} {s4} is same_parameters e1 e2 e3 e4 =
         five after s (free piece (in_form type_name) ∷ []) (pieces Level.Primary (tree_of t)) (type_params piece (map type_param_of qs))
         (free piece (Op Equal) ∷ []) (pieces Level.Expression (tree_of e)) s1 s2 s3 s4
         (e1 ∙ ap (λ z. puts after s (free piece (in_form z) ∷ [])) type_text) e2 e3 e4

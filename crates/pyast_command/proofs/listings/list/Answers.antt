@@ -17,16 +17,16 @@ loop-left-init g c = record {
 pub returns-in_err-entry-clause-holds : goal.returns-in_err-entry-clause-holds
 returns-in_err-entry-clause-holds g c =
     let e = err_from_is_err_and c.from_residual.result c.from_residual.ensures.1 in
-    rw (e.1, e.2) (goes_on _ _ _ _ _ _ _ _ _ _ _ _ _ _ c.loop-left.invariant.came c.in_err-entry.ensures.steps
-    (λ p more broken f s. memory_held _ _ _ _ _ _ _ _ _ _ _ s))
+    rw (e.1, e.2) (goes_on c.loop-left.invariant.came c.in_err-entry.ensures.steps
+    (λ p more broken f s. memory_held s))
 
 pub returns-in_err-push_line-in-Entry-clause-holds :
     goal.returns-in_err-push_line-in-Entry-clause-holds
 returns-in_err-push_line-in-Entry-clause-holds g c =
     let e = err_from_is_err_and c.from_residual-in_err-push_line-in-Entry.result c.from_residual-in_err-push_line-in-Entry.ensures.1 in
     rw (e.1, e.2, c.in_err-push_line-in-Entry.ensures.err)
-    (goes_on _ _ _ _ _ _ _ _ _ _ _ _ _ _ c.loop-left.invariant.came c.in_ok-entry.ensures.steps
-    (λ p more broken f s. memory_held _ _ _ _ _ _ _ _ _ _ _ s))
+    (goes_on c.loop-left.invariant.came c.in_ok-entry.ensures.steps
+    (λ p more broken f s. memory_held s))
 
 pub returns-in_err-write_all-in-Entry-clause-holds :
     goal.returns-in_err-write_all-in-Entry-clause-holds
@@ -34,22 +34,22 @@ returns-in_err-write_all-in-Entry-clause-holds g c =
     let e = err_from_is_err_and c.from_residual-in_err-write_all-in-Entry.result c.from_residual-in_err-write_all-in-Entry.ensures.1 in
     let i = c.loop-left.invariant in
     let stopped : c.loop-left.left ≢ Some 0 = c.is_reached.ensures.open c.loop-left-test.true in
-    let came = came_next _ _ _ _ _ _ _ c.in-Entry.entry c.args.exact c.args.count c.loop-left.left _ _ _ c.text.result.now _ i.came
+    let came = came_next i.came
     c.in_ok-entry.ensures.steps c.in-Entry.is stopped c.text.ensures c.in_ok-push_line-in-Entry.ensures.ok in
     let cut : TakesFront (g.W.ByteOut.sent c.loop-left.writer).taken (g.W.ByteOut.sent c.write_all.new.writer).taken
     (string_bytes c.push_line.new.out) =
     rw (← c.as_bytes.ensures.value) c.in_err-write_all-in-Entry.ensures.front in
-    rw (e.1, e.2) (goes_here _ _ _ _ _ _ _ _ _ _ _ came (λ p more broken s. TakesAllBut-cut _ _ _ _ _ _ s.holds cut))
+    rw (e.1, e.2) (goes_here came (λ p more broken s. TakesAllBut-cut _ _ _ _ _ _ s.holds cut))
 
 pub loop-left-smaller-then-len-ge-ENOUGH : goal.loop-left-smaller-then-len-ge-ENOUGH
-loop-left-smaller-then-len-ge-ENOUGH g c = counts_up _ _ _ _ _ _ _ _ _ _ _ _ _ _ c.requires.within c.requires.stands
+loop-left-smaller-then-len-ge-ENOUGH g c = counts_up c.requires.within c.requires.stands
     c.loop-left.invariant.came c.in_ok-entry.ensures.steps c.in-Entry.is c.in_ok-entry.ensures.given
 
 pub loop-left-preserved-then-len-ge-ENOUGH : goal.loop-left-preserved-then-len-ge-ENOUGH
 loop-left-preserved-then-len-ge-ENOUGH g c =
     let i = c.loop-left.invariant in
     let stopped : c.loop-left.left ≢ Some 0 = c.is_reached.ensures.open c.loop-left-test.true in
-    let came = came_next _ _ _ _ _ _ _ c.in-Entry.entry c.args.exact c.args.count c.loop-left.left _ _ _ c.text.result.now _ i.came
+    let came = came_next i.came
     c.in_ok-entry.ensures.steps c.in-Entry.is stopped c.text.ensures c.in_ok-push_line-in-Entry.ensures.ok in
     let wrote : Appends (g.W.ByteOut.sent c.loop-left.writer).taken (g.W.ByteOut.sent c.write_all.new.writer).taken
     (string_bytes c.push_line.new.out) =
@@ -57,20 +57,20 @@ loop-left-preserved-then-len-ge-ENOUGH g c =
     let told = c.in_ok-entry.ensures.steps.reads.told in
     let room = i.room in
     record {
-      came = rw (c.clear.ensures.bytes, c.left_behind-left.ensures) (came_written _ _ _ _ _ _ _ _ _ _ _ came wrote);
+      came = rw (c.clear.ensures.bytes, c.left_behind-left.ensures) (came_written came wrote);
       room = omega arith;
       counted = c.in_ok-write_all-in-Entry.ensures.unfailed ∙ i.counted;
     }
 
 pub loop-left-smaller : goal.loop-left-smaller
-loop-left-smaller g c = counts_up _ _ _ _ _ _ _ _ _ _ _ _ _ _ c.requires.within c.requires.stands c.loop-left.invariant.came
+loop-left-smaller g c = counts_up c.requires.within c.requires.stands c.loop-left.invariant.came
     c.in_ok-entry.ensures.steps c.in-Entry.is c.in_ok-entry.ensures.given
 
 pub loop-left-preserved : goal.loop-left-preserved
 loop-left-preserved g c =
     let i = c.loop-left.invariant in
     let stopped : c.loop-left.left ≢ Some 0 = c.is_reached.ensures.open c.loop-left-test.true in
-    let came = came_next _ _ _ _ _ _ _ c.in-Entry.entry c.args.exact c.args.count c.loop-left.left _ _ _ c.text.result.now _ i.came
+    let came = came_next i.came
     c.in_ok-entry.ensures.steps c.in-Entry.is stopped c.text.ensures c.in_ok-push_line-in-Entry.ensures.ok in
     let told = c.in_ok-entry.ensures.steps.reads.told in
     let room = i.room in
@@ -84,26 +84,25 @@ pub returns-in-End-clause-holds : goal.returns-in-End-clause-holds
 returns-in-End-clause-holds g c =
     let stopped : c.loop-left.left ≢ Some 0 = c.is_reached.ensures.open c.loop-left-test.true in
     let s = c.in_ok-entry.ensures.steps in
-    goes_on _ _ _ _ _ _ _ _ _ _ _ _ _ _ c.loop-left.invariant.came s (λ p more broken f m. ended_held _ _ _ _ _ _ _ _ _ _ _ stopped
-    (next_in _ _ _ _ _ _ _ _ _ _ _ _ _ _ _ _ s c.in-End.is f m) m)
+    goes_on c.loop-left.invariant.came s (λ p more broken f m. ended_held stopped
+    (next_in s c.in-End.is f m) m)
 
 pub returns-in-Fault-clause-holds : goal.returns-in-Fault-clause-holds
 returns-in-Fault-clause-holds g c =
     let stopped : c.loop-left.left ≢ Some 0 = c.is_reached.ensures.open c.loop-left-test.true in
     let s = c.in_ok-entry.ensures.steps in
-    rw c.from.ensures (goes_on _ _ _ _ _ _ _ _ _ _ _ _ _ _ c.loop-left.invariant.came s (λ p more broken f m. faulty_held _ _ _ _ _ _ _ _ _
-    _ _ c.in-Fault.fault stopped (next_in _ _ _ _ _ _ _ _ _ _ _ _ _ _ _ _ s c.in-Fault.is f m) m))
+    rw c.from.ensures (goes_on c.loop-left.invariant.came s (λ p more broken f m. faulty_held stopped (next_in s c.in-Fault.is f m) m))
 
 pub returns-in_err-push_cursor-clause-holds : goal.returns-in_err-push_cursor-clause-holds
 returns-in_err-push_cursor-clause-holds g c =
     let e = err_from_is_err_and c.from_residual-in_err-push_cursor.result c.from_residual-in_err-push_cursor.ensures.1 in
-    rw (e.1, e.2, c.in_err-push_cursor.ensures.err) (goes_here _ _ _ _ _ _ _ _ _ _ _ c.loop-left.invariant.came
-    (λ p more broken s. memory_held _ _ _ _ _ _ _ _ _ _ _ s))
+    rw (e.1, e.2, c.in_err-push_cursor.ensures.err) (goes_here c.loop-left.invariant.came
+    (λ p more broken s. memory_held s))
 
 pub returns-clause-holds : goal.returns-clause-holds
 returns-clause-holds g c =
     let none_left : c.loop-left.left ≡ Some 0 = c.is_reached.ensures.reached c.loop-left-test.false in
-    goes_here _ _ _ _ _ _ _ _ _ _ _ c.loop-left.invariant.came (λ p more broken s. stopped_held _ _ _ _ _ _ _ _ _ _ _ _ none_left
+    goes_here c.loop-left.invariant.came (λ p more broken s. stopped_held none_left
     c.in_ok-push_cursor.ensures.ok s)
 
 pub left_behind-left-requires : goal.left_behind-left-requires

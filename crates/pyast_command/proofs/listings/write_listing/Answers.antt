@@ -27,7 +27,7 @@ pub returns-then-is_write_failed-clause-performs :
     goal.returns-then-is_write_failed-clause-performs
 returns-then-is_write_failed-clause-performs g c =
     let failed = c.is_write_failed.ensures.failed c.if-is_write_failed.true in
-    listed _ _ _ _ _ _ _ _ _ _ _ (rw c.as_ref.ensures.value at c.in_ok-lister.ensures.starts) c.list-listed.ensures.holds
+    listed (rw c.as_ref.ensures.value at c.in_ok-lister.ensures.starts) c.list-listed.ensures.holds
     (λ output told h. HoldsFor-failed output told _ _ _ _ failed h)
 
 pub returns-in_err-write_all-clause-performs : goal.returns-in_err-write_all-clause-performs
@@ -37,7 +37,7 @@ returns-in_err-write_all-clause-performs g c =
     let cut : TakesFront (g.W.ByteOut.sent c.list-listed.new.writer).taken (g.W.ByteOut.sent c.write_all.new.writer).taken
     (string_bytes c.list-listed.new.output) =
     rw (← c.as_bytes.ensures.value) c.in_err-write_all.ensures.front in
-    rw (p.1, p.2) (listed _ _ _ _ _ _ _ _ _ _ _ (rw c.as_ref.ensures.value at c.in_ok-lister.ensures.starts) c.list-listed.ensures.holds
+    rw (p.1, p.2) (listed (rw c.as_ref.ensures.value at c.in_ok-lister.ensures.starts) c.list-listed.ensures.holds
     (λ output told h. HoldsFor-cut output told _ _ _ _ _ unfailed h cut))
 
 pub returns-clause-performs : goal.returns-clause-performs
@@ -46,5 +46,5 @@ returns-clause-performs g c =
     let wrote : Appends (g.W.ByteOut.sent c.list-listed.new.writer).taken (g.W.ByteOut.sent c.write_all.new.writer).taken
     (string_bytes c.list-listed.new.output) =
     rw (← c.as_bytes.ensures.value) c.in_ok-write_all.ensures.ok in
-    listed _ _ _ _ _ _ _ _ _ _ _ (rw c.as_ref.ensures.value at c.in_ok-lister.ensures.starts) c.list-listed.ensures.holds
+    listed (rw c.as_ref.ensures.value at c.in_ok-lister.ensures.starts) c.list-listed.ensures.holds
     (λ output told h. HoldsFor-written output told _ _ _ _ _ unfailed h wrote)

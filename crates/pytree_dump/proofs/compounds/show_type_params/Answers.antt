@@ -1,10 +1,9 @@
-use Rattle.pytree_dump_text.specs.Shows.{no_field}
-use Rattle.pytree_dump.proofs.BlockLemmas.{type_params_text}
+use Rattle.pytree_dump.proofs.PlaceLemmas.{bare_params, if_ok, shown_params}
 use Rattle.pytree_dump.proofs.compounds.show_type_params.Goals as goal
-use Rattle.pytree_dump.proofs.compounds.show_type_params.Goals.{in-Py311, in-Py312}
 
-pub returns-in_ok-show_field-clause-text : goal.returns-in_ok-show_field-clause-text
-returns-in_ok-show_field-clause-text c = elim c.match-style.branch [
-  | in-Py311 w ↦ cc
-  | in-Py312 w ↦ type_params_text c.args.style _ _ _ _ _ _ c.args.type_params.now w.in-Py312.is (c.in_ok-show_field.ensures.text no_field)
-]
+pub returns-in-Py311-clause-text : goal.returns-in-Py311-clause-text
+returns-in-Py311-clause-text g c = bare_params c.args.style _ _ _ _ _ c.in-Py311.is
+
+pub returns-in-Py312-clause-text : goal.returns-in-Py312-clause-text
+returns-in-Py312-clause-text g c = if_ok c.show_field.result (λ next told. shown_params c.args.type_params.now c.in-Py312.is told)
+    c.show_field.ensures.text

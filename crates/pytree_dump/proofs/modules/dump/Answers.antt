@@ -1,16 +1,12 @@
-use Rattle.std.proofs.Common.{codes}
-use Rattle.pytree_dump_text.specs.Shows.{Fields, Row, a_field, no_field, no_shown}
-use Rattle.pytree_dump_text.specs.Blocks.{shown_block}
-use Rattle.pytree_dump.proofs.BlockLemmas.{ahead, at_end, module_text, node_shown}
+use Rattle.std.proofs.Common.{◌≡◌, IfOk, subst}
+use Rattle.std.specs.String.{string_bytes}
+use Rattle.pytree_node.specs.TreeOf.{module_of}
+use Rattle.pytree_dump_text.specs.Layout.{dump_text}
+use Rattle.pytree_dump_text.specs.Shows.{shown_module}
+use Rattle.pytree_marked.proofs.Callers.Unplaced.{unplaced}
 use Rattle.pytree_dump.proofs.modules.dump.Goals as goal
 
 pub returns : goal.returns
 returns c =
-    let s = c.args.style in
-    let body = c.deref-body.result.now in
-    let r1 : Fields = a_field (codes "type_ignores") (Row no_shown) no_field in
-    let r0 : Fields = a_field (codes "body") (shown_block s.profile body) r1 in
-    module_text s _ _ _ body c.args.tree.now.body.items c.deref-body.ensures.value c.new-out.ensures.bytes c.in_ok-indentation.ensures.ok
-    (node_shown s _ _ _ r0 _ _ _ _ _ c.in_ok-outer.ensures.indentation c.is_short_module.ensures c.in_ok-outer.ensures.text
-    (ahead s _ _ _ _ _ _ _ _ _ _ _ r0 r1 c.in_ok-told.ensures.indentation (c.in_ok-told.ensures.text r1)
-    (at_end _ _ (c.in_ok-show_field.ensures.text no_field))) c.in_ok-close.ensures.text)
+    subst (λ x. IfOk c.dump_placed.result (λ t. string_bytes t ≡ dump_text c.args.style x.shown))
+    (unplaced (shown_module c.args.style.profile (module_of c.args.tree.now))) c.dump_placed.ensures.text

@@ -22,13 +22,13 @@ returns-in_ok-put_sign-in-AugAssign g c = IfOk-equal _ _ _ _ c.write_expr-in-Aug
 
 pub returns-in_ok-write_expr-in-AnnAssign : goal.returns-in_ok-write_expr-in-AnnAssign
 returns-in_ok-write_expr-in-AnnAssign g c = IfOk-equal _ _ _ _ c.write_behind.ensures
-    (annotation_on g.W.Writer.after c.args.out.now c.args.s.now _ _ _ _ _ _ _ _ _ c.in-AnnAssign.is c.deref-in-AnnAssign.ensures
+    (annotation_on g.W.Writer.after c.args.out.now c.args.s.now c.in-AnnAssign.is c.deref-in-AnnAssign.ensures
     c.deref-in-AnnAssign-2.ensures
     c.in_ok-write_annotated-in-AnnAssign.ensures c.in_ok-put_sign-in-AnnAssign.ensures c.in_ok-write_expr-in-AnnAssign.ensures)
 
 pub returns-in_ok-put_sign-in-TypeAlias : goal.returns-in_ok-put_sign-in-TypeAlias
 returns-in_ok-put_sign-in-TypeAlias g c = IfOk-equal _ _ _ _ c.write_expr-in-TypeAlias-2.ensures
-    (alias_on g.W.Writer.after c.args.out.now c.args.s.now _ _ _ _ _ _ _ _ c.in-TypeAlias.is c.deref-in-TypeAlias.ensures.value
+    (alias_on g.W.Writer.after c.args.out.now c.args.s.now c.in-TypeAlias.is c.deref-in-TypeAlias.ensures.value
     c.in_ok-put_text-in-TypeAlias.ensures c.in_ok-write_expr-in-TypeAlias.ensures c.in_ok-write_type_params-in-TypeAlias.ensures
     c.in_ok-put_sign-in-TypeAlias.ensures)
 

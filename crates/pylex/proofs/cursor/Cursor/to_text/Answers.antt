@@ -27,5 +27,5 @@ returns c =
     let levels : string_bytes c.push_levels.new.text ≡ string_bytes c.push.new.self ++ with_commas inside.levels.items =
     c.in_ok-push_levels.ensures ∙ ap (λ ns. string_bytes c.push.new.self ++ with_commas ns) c.as_slice.ensures.value in
     let P : CursorParts → Type 0 = λ w. string_bytes c.push_levels.new.text ≡ cursor_text w in
-    subst P c.self.view_is (cursor_written v _ _ _ _ _ _ _ _ _ c.in_ok-text.ensures.ok c.in_ok-push_part.ensures c.in_ok-push_part-2.ensures
+    subst P c.self.view_is (cursor_written v c.in_ok-text.ensures.ok c.in_ok-push_part.ensures c.in_ok-push_part-2.ensures
     c.in_ok-push_part-3.ensures c.in_ok-push_part-4.ensures open_part c.in_ok-push_part-6.ensures blank levels)

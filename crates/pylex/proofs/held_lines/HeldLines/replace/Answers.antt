@@ -49,7 +49,7 @@ returns-in-Text-clause-holds g c =
     let m = rw c.in-Text.is at c.in_ok-line.ensures.reads in
     let line : string_bytes c.next_line.new.chunk ≡ m.line = m.chunk ∙ ap (λ t. t ++ m.line) c.requires.chunk.spare in
     let text : string_bytes c.swap.new.x ≡ m.line = ap string_bytes c.swap.ensures.x_after ∙ line in
-    rw c.in-Text.is (λ s. holds_line _ _ _ _ _ _ _ _ m text)
+    rw c.in-Text.is (λ s. holds_line m text)
 
 pub returns-in_default-clause-holds : goal.returns-in_default-clause-holds
 returns-in_default-clause-holds g c =

@@ -1,15 +1,12 @@
-use Rattle.std.proofs.Common.{ap, arith, length}
-use Rattle.pytree_dump_text.specs.Shows.{no_field}
-use Rattle.pytree_dump.proofs.PieceLemmas.{module_pieces, statement_count}
+use Rattle.std.proofs.Common.{◌≡◌, subst}
+use Rattle.std.specs.List.{concat}
+use Rattle.pytree_node.specs.TreeOf.{module_of}
+use Rattle.pytree_dump_text.specs.Layout.{dump_text}
+use Rattle.pytree_dump_text.specs.Shows.{shown_module}
+use Rattle.pytree_marked.proofs.Callers.Unplaced.{unplaced}
 use Rattle.pytree_dump.proofs.pieces.Pieces.new.Goals as goal
 
-pub returns-clause-text : goal.returns-clause-text
-returns-clause-text c =
-    module_pieces c.args.style _ _ _ _ _ _ _ _ _ _ _ _ _ _ c.deref-body.result.now c.args.tree.now.body.items c.deref-body.ensures.value
-    c.new-begin.ensures.bytes c.new-end.ensures.bytes c.in_ok-indentation.ensures.ok c.is_short_module-one_line.ensures
-    c.in_ok-open.ensures.text c.in_ok-open.ensures.indentation c.as_str.ensures.value c.in_ok-push_lead.ensures
-    c.in_ok-push_str.ensures.bytes (c.in_ok-show_field.ensures.text no_field) c.in_ok-show_field.ensures.indentation
-    c.in_ok-push_str-2.ensures.bytes c.in_ok-open-2.ensures.text c.in_ok-open-2.ensures.indentation
-
-pub returns-clause-count : goal.returns-clause-count
-returns-clause-count c = grind (arith, statement_count, ap length c.deref-body.ensures.value)
+pub returns-in_ok-bare-clause-text : goal.returns-in_ok-bare-clause-text
+returns-in_ok-bare-clause-text c =
+    subst (λ x. concat c.in_ok-bare ≡ dump_text c.args.style x.shown)
+    (unplaced (shown_module c.args.style.profile (module_of c.args.tree.now))) c.in_ok-bare.ensures.text

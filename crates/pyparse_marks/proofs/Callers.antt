@@ -1,0 +1,3 @@
+-- What other crates cite of pyparse_marks.
+pub mod Places
+pub mod Lines

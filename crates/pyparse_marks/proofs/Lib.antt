@@ -1,0 +1,15 @@
+pub mod Callers
+mod Worked
+mod ByteLemmas
+mod Cutting
+mod BodyLemmas
+mod PrefixLemmas
+mod LastLemmas
+mod PassLemmas
+mod PartLemmas
+mod MarkLemmas
+mod PlaceLemmas
+mod Placing
+mod Fitting
+mod FittingParts
+mod FittingTokens

@@ -1,0 +1,2 @@
+-- What serves proofs alone.
+pub mod Walking

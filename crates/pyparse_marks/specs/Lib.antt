@@ -1,0 +1,5 @@
+pub mod Spans
+pub mod TokenSpans
+pub mod LineSpans
+pub mod Laws
+pub mod Inner

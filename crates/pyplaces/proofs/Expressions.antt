@@ -1,0 +1,15 @@
+pub mod Levels
+pub mod Primaries
+pub mod Slices
+pub mod Atoms
+pub mod Braces
+pub mod Listings
+pub mod Comprehensions
+pub mod Arguments
+pub mod Parameters
+pub mod Lower
+pub mod Turns
+pub mod Climbing
+pub mod Chains
+pub mod Strings
+pub mod Readings

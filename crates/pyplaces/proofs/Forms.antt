@@ -1,0 +1,5 @@
+pub mod Parts
+pub mod Simple
+pub mod Values
+pub mod Headers
+pub mod Lines

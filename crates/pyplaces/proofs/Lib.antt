@@ -1,0 +1,16 @@
+mod Worked
+pub mod Fronts
+pub mod Loops
+pub mod Selections
+pub mod Rows
+pub mod Answers
+pub mod Asides
+pub mod RowEnds
+pub mod Expressions
+pub mod Patterns
+pub mod Forms
+pub mod Laws
+mod LineStartLemmas
+mod MarkLemmas
+mod Moves
+mod RowWalks

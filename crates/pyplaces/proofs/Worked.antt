@@ -1,0 +1,5 @@
+pub mod Derivations
+mod Expressions
+mod Lines
+mod Texts
+mod Climbs

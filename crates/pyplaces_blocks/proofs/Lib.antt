@@ -1,0 +1,4 @@
+mod Settling
+mod Adding
+mod Law
+mod StackLemmas

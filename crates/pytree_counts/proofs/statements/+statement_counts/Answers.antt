@@ -1,0 +1,49 @@
+use Rattle.std.proofs.Common.{◌+◌, ◌∙◌, arith, codes, map, refl}
+use Rattle.pytree_node.specs.Trees.{cases, handlers, stmts}
+use Rattle.pytree_node.specs.TreeOf.{case_of, handler_of, stmt_of}
+use Rattle.pytree_node.proofs.Callers.StmtShapes.{case_tree, handler_tree}
+use Rattle.pytree_dump_text.specs.Shows.{Fields, Row, a_field, name_field, no_field, shown_pattern, shown_stmt, shown_cases, shown_handlers}
+use Rattle.pytree_dump_text.specs.Shows.{shown_stmts}
+use Rattle.pytree_marked.specs.MarkedNodes.{marked, marked_rows}
+use Rattle.pytree_counts.specs.Counts.{marked_option}
+use Rattle.pytree_counts.proofs.CountLemmas.{counted, none_counted, name_sum, option_sum, two_on}
+use Rattle.pytree_counts.proofs.statements.+statement_counts.Goals as goal
+
+pub block_marked-loop-s-preserved : goal.block_marked-loop-s-preserved
+block_marked-loop-s-preserved t c = counted (λ xs. marked_rows (shown_stmts c.args.profile (stmts (map stmt_of xs))))
+    (λ x. marked (shown_stmt c.args.profile (stmt_of x))) refl (λ _ _. refl) _ _
+    c.loop-s-test.true c.s-item.is c.loop-s.invariant c.stmt_marked-count.ensures
+
+pub handlers_marked-loop-h-preserved : goal.handlers_marked-loop-h-preserved
+handlers_marked-loop-h-preserved t c = counted (λ all. marked_rows (shown_handlers c.args.profile (handlers (map handler_of all))))
+    (λ h. 1 + (marked_option (handler_of h).class + marked_rows (shown_stmts c.args.profile (stmts (handler_of h).body)))) refl
+    (λ h hs.
+    let last : Fields = a_field (codes "body") (Row (shown_stmts c.args.profile (stmts (handler_of h).body))) no_field in
+    let m = option_sum (codes "type") (handler_of h).class (name_field (codes "name") (handler_of h).name last) in
+    let n = name_sum (codes "name") (handler_of h).name last in omega (arith, m, n)) _ _
+    c.loop-h-test.true c.h-item.is c.loop-h.invariant
+    (two_on _ _ _ c.one_more.ensures (two_on _ _ _ (c.option_marked.ensures ∙ rw handler_tree refl) (c.block_marked-count.ensures
+    ∙ rw (c.deref.ensures.value, handler_tree) refl)))
+
+pub cases_marked-loop-case-preserved : goal.cases_marked-loop-case-preserved
+cases_marked-loop-case-preserved t c = counted (λ all. marked_rows (shown_cases c.args.profile (cases (map case_of all))))
+    (λ k. marked (shown_pattern (case_of k).pattern) +
+    (marked_option (case_of k).guard + marked_rows (shown_stmts c.args.profile (stmts (case_of k).body)))) refl
+    (λ k ks.
+    let last : Fields = a_field (codes "body") (Row (shown_stmts c.args.profile (stmts (case_of k).body))) no_field in
+    let m = option_sum (codes "guard") (case_of k).guard last in omega (arith, m)) _ _
+    c.loop-case-test.true c.case-item.is c.loop-case.invariant
+    (two_on _ _ _ (c.pattern_marked.ensures ∙ rw case_tree refl) (two_on _ _ _ (c.option_marked.ensures ∙ rw case_tree refl)
+    (c.block_marked-count.ensures ∙ rw (c.deref.ensures.value, case_tree) refl)))
+
+pub block_marked-loop-s-init : goal.block_marked-loop-s-init
+block_marked-loop-s-init t c = none_counted (λ xs. marked_rows (shown_stmts c.args.profile (stmts (map stmt_of xs)))) c.args.body.now
+    c.args.before refl (omega arith)
+
+pub handlers_marked-loop-h-init : goal.handlers_marked-loop-h-init
+handlers_marked-loop-h-init t c = none_counted (λ xs. marked_rows (shown_handlers c.args.profile (handlers (map handler_of xs))))
+    c.args.all.now c.args.before refl (omega arith)
+
+pub cases_marked-loop-case-init : goal.cases_marked-loop-case-init
+cases_marked-loop-case-init t c = none_counted (λ xs. marked_rows (shown_cases c.args.profile (cases (map case_of xs)))) c.args.all.now
+    c.args.before refl (omega arith)

@@ -1,0 +1,4 @@
+-- What callers cite of places.
+pub mod Counting
+pub mod Shortness
+pub mod Unplaced

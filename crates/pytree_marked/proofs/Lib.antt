@@ -1,0 +1,2 @@
+mod MemberLemmas
+pub mod Callers

@@ -1,0 +1,3 @@
+pub mod MarkedNodes
+pub mod Taking
+pub mod Appends
