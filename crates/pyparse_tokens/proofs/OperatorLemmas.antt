@@ -8,13 +8,14 @@ use Rattle.pylex.specs.declared.entries.Entry.{Entry}
 use Rattle.pylex.specs.Laws.{HasExact}
 use Rattle.pytree_node.specs.declared.profiles.Extent.{Extent}
 use Rattle.pytoken.specs.Terminals
-use Rattle.pytoken.specs.Terminals.{terminal_of, terminals_of, single_fault, fault_of}
+use Rattle.pytoken.specs.Terminals.{terminal_of, terminals_of, single_fault, fault_of, expression}
 use Rattle.pytoken.specs.Tokens.{text_of}
 use Rattle.pytoken.specs.Refusals.{entry_refusal}
 use Rattle.pyparse_tokens.specs.declared.open_line.OpenLine.{OpenLine}
 use Rattle.pyparse_tokens.specs.Inner.OpenLines.{Pushes}
 use Rattle.pyparse_tokens.specs.Inner.LineGathering.{stands_in_line, Adds}
-use Rattle.pyparse_tokens.proofs.TerminalLemmas.{of_single, one_terminal, no_refusal, pushed_adds}
+use Rattle.pytoken.proofs.Callers.Singles.{of_single, one_terminal}
+use Rattle.pyparse_tokens.proofs.TerminalLemmas.{no_refusal, pushed_adds}
 
 -- an entry is an operator of this exact type
 pub record IsOperator (text : List ℕ) (e : Entry) (x : Exact) : Type 0 where
@@ -57,7 +58,7 @@ operator_faultless extent text e x has is =
 -- what it is
 one_operator : (t : List ℕ) (x : Exact) → exact_of t ≡ Some x → terminals_of kinds.Op t ≡ Terminals.Op x ∷ []
 unfolding terminal_of
-one_operator t x is = one_terminal kinds.Op t refl ∙ (rw (is, terminal_of) refl)
+one_operator t x is = one_terminal false expression kinds.Op t refl ∙ (rw (is, terminal_of) refl)
 
 pub operator_adds : (text : List ℕ) (e : Entry) (x : Exact) (old new : OpenLine) → HasExact text e → e.exact ≡ Some x →
     Pushes e.start (text_of text e) (Terminals.Op x ∷ []) old new → Adds text e old new

@@ -36,7 +36,8 @@ use Rattle.pyparse_tokens.specs.Inner.LineGathering.{stands_in_line, ends_open_l
 use Rattle.pyparse_tokens.specs.Inner.LineGathering.{Adds, TakesEntry}
 use Rattle.pyparse_tokens.specs.Inner.Walking.{IsEntry, Takes, is_plain_token, line_end_kind, TakesLineEnd, TakesLexeme, PassesOperator}
 use Rattle.pyparse_tokens.specs.Inner.Walking.{PassesLineEnd}
-use Rattle.pyparse_tokens.proofs.TerminalLemmas.{of_single, no_refusal, pushed_adds}
+use Rattle.pytoken.proofs.Callers.Singles.{of_single}
+use Rattle.pyparse_tokens.proofs.TerminalLemmas.{no_refusal, pushed_adds}
 use Rattle.pyparse_tokens.proofs.OperatorLemmas.{operator_faultless, operator_adds}
 
 -- an entry of this type and exact type

@@ -22,6 +22,7 @@ use Rattle.pytoken.specs.Terminals.{elements_terminals, is_faulty}
 use Rattle.pytoken.specs.TerminalOf.{terminal}
 use Rattle.pytoken.specs.Tokens.{text_of}
 use Rattle.pytoken.specs.Refusals.{entry_refusal}
+use Rattle.pytoken.proofs.Callers.Singles.{of_single, one_terminal}
 use Rattle.pyparse_tokens.specs.declared.open_line.OpenLine.{OpenLine}
 use Rattle.pyparse_tokens.specs.Inner.OpenLines.{of_first, Pushes}
 use Rattle.pyparse_tokens.specs.Inner.LineGathering.{stands_in_line, Adds}
@@ -42,15 +43,6 @@ formatted_fault extent kinds.Newline t is = absurd cc
 formatted_fault extent kinds.Indent t is = absurd cc
 formatted_fault extent kinds.Dedent t is = absurd cc
 formatted_fault extent kinds.EndMarker t is = absurd cc
-
-pub of_single : (extent : Extent) (k : Kind) (t : List ℕ) → is_fstring k t ≡ false → fault_of extent k t ≡ single_fault extent k t
-unfolding fault_of fault_by
-of_single Plain k t other = refl
-of_single Whole k t other = rw other refl
-
-pub one_terminal : (k : Kind) (t : List ℕ) → is_fstring k t ≡ false → terminals_of k t ≡ terminal_of k t ∷ []
-unfolding terminals_by
-one_terminal k t other = rw other refl
 
 -- what is no STRING is one
 unquoted : (k : Kind) (t : List ℕ) → (k ≡ kinds.String → ⊥) → is_fstring k t ≡ false
@@ -79,7 +71,7 @@ is_single extent k t none = by (is_fstring k t) refl
   where
     by : (b : Bool) → is_fstring k t ≡ b → IsSingle extent k t
     by true is = let some : single_fault extent k t ≡ Some errors.FString = formatted_fault extent k t is in absurd cc
-    by false is = record { sound = of_single extent k t is ∙ none; one = one_terminal k t is }
+    by false is = record { sound = of_single extent k t is ∙ none; one = one_terminal false expression k t is }
 
 -- ---- Tokens without a fault.
 
@@ -119,7 +111,7 @@ some_terminals extent k t none = by (is_fstring k t) refl
   where
     by : (b : Bool) → is_fstring k t ≡ b → 0 < length (terminals_of k t)
     by true is = formatted_terminals extent k t is none
-    by false is = let size : length (terminals_of k t) ≡ 1 = ap length (one_terminal k t is) in omega (arith, size)
+    by false is = let size : length (terminals_of k t) ≡ 1 = ap length (one_terminal false expression k t is) in omega (arith, size)
 
 -- ---- One token more in the line that is open.
 

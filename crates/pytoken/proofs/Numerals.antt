@@ -4,6 +4,5 @@ pub mod Layouts
 pub mod WholeTexts
 pub mod Characters
 pub mod Ends
-pub mod Stops
 pub mod Lexemes
 pub mod Standing

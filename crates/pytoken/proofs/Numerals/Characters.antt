@@ -1,5 +1,5 @@
 -- Which characters stand in a number: a sign stands behind an e alone.
--- Carries: Stops, Lexemes.
+-- Carries: Lexemes.
 use Rattle.std.proofs.Common.{◌≡◌, ℕ, zero, suc, ◌<◌, Bool, true, false, List, [], ◌∷◌, ◌++◌, refl, sym, subst, ap, inl, inr, arith}
 use Rattle.std.specs.Prelude.{◌||◌, ◌&&◌, ◌==◌}
 use Rattle.std.specs.Char.{is_ascii_alphanumeric}

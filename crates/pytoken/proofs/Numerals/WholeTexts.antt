@@ -129,30 +129,3 @@ text_value =
 
 pub text_whole : (n : ℕ) → whole_value (decimal_text n) ≡ n
 text_whole n = digits_whole (decimal_text n) (text_all n) ∙ text_value n
-
--- and so does what pynatural reads of its digits
-pub text_written : (n : ℕ) → written 10 (decimal_text n) ≡ n
-text_written n = digits_written (decimal_text n) (text_all n) ∙ text_value n
-
--- The texts that std writes
-
-one_digit : (n : ℕ) → n < 10 → decimal_text n ≡ (48 + n) ∷ []
-one_digit n h = elim (cases_eq n 0) [
-  | inl z ↦ zero_text n z ∙ ap (λ c. c ∷ []) (let e : 48 ≡ 48 + n = omega (arith, z) in e)
-  | inr other ↦
-      let some : 0 < n = omega (arith, other) in
-      let none : n / 10 ≡ 0 = omega arith in
-      let last : n % 10 ≡ n = omega arith in
-      some_text n some ∙ ap (map digit_character) (digits_of_step 10 n (omega arith) some ∙ (λ i. digits_of 10 (none i) ++ last i ∷ []))
-]
-
-one_more : (n : ℕ) → 10 ≤ n → decimal_text n ≡ decimal_text (n / 10) ++ (48 + n % 10) ∷ []
-one_more n h =
-    some_text n (omega arith) ∙ ap (map digit_character) (digits_of_step 10 n (omega arith) (omega arith))
-    ∙ map-append digit_character (digits_of 10 (n / 10)) (n % 10 ∷ [])
-    ∙ ap (λ t. t ++ (48 + n % 10) ∷ []) (sym (some_text (n / 10) (omega arith)))
-
-pub decimal_small : (n : ℕ) → n < 10 ^ 64 → decimal_text n ≡ decimal n
-decimal_small =
-    decimal_by_steps_wide (λ n ds. decimal_text n ≡ ds) one_digit
-    (λ n ds h same. one_more n h ∙ ap (λ t. t ++ (48 + n % 10) ∷ []) same)
