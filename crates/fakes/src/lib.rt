@@ -1,4 +1,4 @@
-//! A reader and a writer in memory that fail when they are told to, for tests.
+//! A reader and a writer in memory that fail on purpose, for tests.
 //!
 //! A [`FakeReader`] gives some bytes, a few at a read, and behind the last it ends or fails. A
 //! [`FakeWriter`] takes a number of bytes, a few at a write, and then fails or takes none.

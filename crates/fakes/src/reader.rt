@@ -1,4 +1,4 @@
-//! A reader that fails when it is told to.
+//! A reader that fails on purpose.
 
 ghost use Rattle.std.specs.Prelude.{◌≡◌, ◌≤◌, ◌<◌, ◌+◌, ◌-◌, ◌^◌, [], true, Some, IfOk, IsErr};
 ghost use Rattle.std.specs.Prelude.{OnErr, length};

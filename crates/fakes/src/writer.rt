@@ -1,4 +1,4 @@
-//! A writer that fails when it is told to.
+//! A writer that fails on purpose.
 
 ghost use Rattle.std.specs.Prelude.{◌≡◌, ◌≤◌, ◌<◌, ◌+◌, ◌-◌, ◌^◌, [], Some, IfOk, OnErr};
 ghost use Rattle.std.specs.Io.{WritesAtMost};

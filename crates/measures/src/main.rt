@@ -1,4 +1,4 @@
-//! Times what the libraries do, and tells what they read, for the programs of `bench/` and
+//! Times what the libraries do, and shows what they read, for the programs of `bench/` and
 //! `conformance/` alone: a crate of its own, over the libraries, which promises nothing.
 //!
 //! The first word says what: `resume`, `trees`, `values`, `expressions` or `random`, each with words

@@ -5,7 +5,7 @@
 //! into it that stood in statements before, in place of its own. In Python 3.11 and in 3.12 each
 //! has to come back from the text that `unparse` gives where it is well formed and not too high,
 //! and nowhere else. The first that doesn't is shown by its text, and `lost` below. Else a line
-//! tells how many statements and changed ones there are, and how many of them are well formed.
+//! says how many statements and changed ones there are, and how many of them are well formed.
 
 use crate::input::{module_of, source_of};
 use crate::places::{name_of, part_of, place_of};

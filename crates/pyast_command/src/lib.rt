@@ -6,7 +6,7 @@
 //! `pyast_fault`.
 //!
 //! The words of contracts are in `specs/`: `Listings` says what `tokens` writes of a source and
-//! tells, `Dumps` and `Unparses` what `dump` and `unparse` do, both with the `Modules` that sources
+//! reports, `Dumps` and `Unparses` what `dump` and `unparse` do, both with the `Modules` that sources
 //! are; `Runs` what a run is, whatever its reader and its writers do. `Taken` is about what a run
 //! took of its reader.
 #![tactic(auto)]

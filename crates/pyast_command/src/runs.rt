@@ -37,7 +37,7 @@ fn perform<R: ByteIn, W: ByteOut>(
 }
 
 /// A run of the program: reads the source of `reader`, writes to `writer` what the command gives,
-/// and tells what ended the run early, if anything did, in a line to `faults`. The answer is the
+/// and reports what ended the run early, if anything did, in a line to `faults`. The answer is the
 /// status that the program ends with: 0 where all was done, or that of the fault reported.
 ///
 /// `tokens` reads line by line. Where a read fails, or the source is too long, what is written and

@@ -1,4 +1,4 @@
-//! The faults that the program tells: their texts, their statuses and their lines.
+//! The faults that the program reports: their texts, their statuses and their lines.
 ghost use Rattle.std.specs.Prelude.{◌≡◌, ◌<◌, ◌≤◌, ◌+◌, ◌-◌, ◌^◌, IfOk, string_bytes, Some};
 ghost use Rattle.pyparse.specs.Modules.{code_of};
 ghost use Rattle.pyast_fault.specs.declared.fault.Fault.{Fault};

@@ -1,4 +1,4 @@
-//! The faults that the program tells: the table of their texts, their statuses and their lines.
+//! The faults that the program reports: the table of their texts, their statuses and their lines.
 //!
 //! [`Fault`] is what can end a run early, [`fault_text`] the text of each, and [`tell`] writes its
 //! line. [`open_source`] opens the file of a source, or answers the fault that it can't.

@@ -1,4 +1,4 @@
-//! Listings that stop after a count of entries, and that go on after a cursor.
+//! Listings that stop after a count of entries, and that are resumed after a cursor.
 
 use crate::expected::{Left, leaves, line, lines_of, push, reader};
 use pyast_command::{Command, Tokens};

@@ -1,4 +1,4 @@
-//! What `dump` tells of a source that it refuses, of which it writes nothing.
+//! What `dump` reports of a source that it refuses, of which it writes nothing.
 
 use crate::dumps::does_all;
 

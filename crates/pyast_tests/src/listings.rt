@@ -1,4 +1,4 @@
-//! Worked listings: what `tokens` writes of a source, and the fault that it tells.
+//! Worked listings: what `tokens` writes of a source, and the fault that it reports.
 
 use crate::expected::{
     Left, leaves, lists_all, lists_as, lists_bytes_as, push, reader, same_bytes, same_status,

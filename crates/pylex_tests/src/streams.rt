@@ -217,4 +217,14 @@ fn counts_rows(rt: HostRuntime) {
         .expect(&rt, "memory");
     same_line(&rt, &line, &LineRead::Text);
     same_number(&rt, lines.row(), 2, b"behind a line");
+    let last = lines
+        .next_line(&mut reader, &mut chunk)
+        .expect(&rt, "memory");
+    same_line(&rt, &last, &LineRead::Text);
+    same_number(&rt, lines.row(), 3, b"behind the last line");
+    let end = lines
+        .next_line(&mut reader, &mut chunk)
+        .expect(&rt, "memory");
+    same_line(&rt, &end, &LineRead::End);
+    same_number(&rt, lines.row(), 3, b"behind the end");
 }

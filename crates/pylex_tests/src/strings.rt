@@ -1,4 +1,4 @@
-//! String literals, and those that go on over lines.
+//! String literals, and those that run over several lines.
 
 use crate::expected::same_answer;
 use pylex::{is_open_string, open_literal, opens_string};

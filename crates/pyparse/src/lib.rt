@@ -9,9 +9,9 @@
 //! its lines one after another, the tokens of each as terminals in one buffer. These are of
 //! `pyparse_tokens`.
 //!
-//! [`number_value`], [`string_value`] and [`name_value`] tell what the text of a number, a string
+//! [`number_value`], [`string_value`] and [`name_value`] give what the text of a number, a string
 //! or a name stands for, [`string_fault`] and [`name_fault`] what is wrong with it by itself.
-//! [`push_terminals`] tells what a token is to the grammar, [`Terminal`]s, and [`terminal_of`] what
+//! [`push_terminals`] gives what a token is to the grammar, [`Terminal`]s, and [`terminal_of`] what
 //! one is that is no f-string. These are of `pytoken`.
 //!
 //! The words of contracts are those of these two crates and of `pygrammar`, and here in `specs/`

@@ -10,7 +10,7 @@
 //! The words of contracts are those of the grammar: `Reading` is what a line makes of what is kept,
 //! `Blocks` which statements some lines are, and which line is the first faulty one.
 //!
-//! An [`Outline`] keeps the same without trees, and tells the first faulty line ([`BlockFault`])
+//! An [`Outline`] keeps the same without trees, and reports the first faulty line ([`BlockFault`])
 //! among lines whose trees nobody wants.
 #![tactic(auto)]
 

@@ -19,8 +19,8 @@ use std::alloc::{AllocError, Global};
 /// Whether a module is well formed in a version and an extent of Python: whether each of its fields
 /// has what may stand there. What the grammar gives to some lines of tokens that have no fault there
 /// is well formed, and what is well formed has such tokens, and so source text, but for one thing: a
-/// module with an f-string that is higher than 500 is well formed by its parts, and may have none,
-/// since a field of an f-string opens 599 brackets at most.
+/// module with an f-string that is higher than 500 is well formed as far as its parts show, and may
+/// have none, since a field of an f-string opens 599 brackets at most.
 ///
 /// So its names are names, its numbers are of the extent, its targets and contexts stand where they
 /// may, and no list is empty that needs a member. `Err` means out of memory alone, which the test of

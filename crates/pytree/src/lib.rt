@@ -1,7 +1,7 @@
 //! The tree of a Python module, and what can be asked of a tree alone.
 //!
-//! The types are those of `pytree_node`, and come from here too. So do [`height`], which tells how high
-//! a tree is, [`copy`], which makes an equal one, [`same`], which tells whether two are equal, and
+//! The types are those of `pytree_node`, and come from here too. So do [`height`], which gives how high
+//! a tree is, [`copy`], which makes an equal one, [`same`], which says whether two are equal, and
 //! [`dump`], which gives the text that Python's `ast.dump` gives, and [`Pieces`], which gives it in
 //! pieces: the walks of each are a crate of their own.
 //!
@@ -9,11 +9,11 @@
 //! [`Refusal`], [`TokenError`], [`Meaning`]. Its `Keyword` is named there alone, since [`Keyword`]
 //! here is the one of calls and classes, `name=value`.
 //!
-//! Whether a tree is well formed, and so has source text, tell [`well_formed`], [`well_formed_at`]
+//! Whether a tree is well formed, and so has source text, is answered by [`well_formed`], [`well_formed_at`]
 //! and [`well_formed_pattern_at`]: in terms of the levels of the grammars of expressions and of
 //! patterns ([`Level`], [`PatternLevel`]) and of names ([`is_name`], [`is_identifier`],
-//! [`is_keyword`]). One with an f-string that is higher than 500 is well formed by its parts, and may
-//! have no text.
+//! [`is_keyword`]). One with an f-string that is higher than 500 is well formed as far as its parts
+//! show, and may have no text.
 //!
 //! The words of contracts are in `specs/`: `Names` defines names. Those of the crates below come
 //! from here too: `Trees` has the trees as values with no addresses, `TreeOf` the value of each

@@ -5,7 +5,7 @@
 //! walks here ask the same in the same order, and build nothing: [`expr_fits`] of an expression at
 //! a level, [`pattern_fits`] of a pattern at a level of its own grammar, [`statements_fit`] of the
 //! statements of a module, in an extent of the language ([`Asked`]). They serve `pytree`, which
-//! tells by them whether a module is well formed.
+//! says by them whether a module is well formed.
 #![tactic(auto)]
 
 mod asking;

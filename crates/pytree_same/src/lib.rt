@@ -1,4 +1,4 @@
-//! Whether trees are equal: [`same_stmts`] tells whether the values (`pytree_node`'s `TreeOf`) of
+//! Whether trees are equal: [`same_stmts`] says whether the values (`pytree_node`'s `TreeOf`) of
 //! statements are.
 #![tactic(auto)]
 

@@ -1,4 +1,4 @@
-//! What f-strings are to the grammar: terminals one behind the other.
+//! What f-strings are to the grammar: terminals one after the other.
 
 use crate::expected::same_text;
 use crate::sources::push;

@@ -1,6 +1,6 @@
 //! What a token says of the blank after it.
 
-/// What of a token tells whether the next one touches it.
+/// What of a token decides whether the next one touches it.
 #[derive(Clone, Copy)]
 pub struct Edge {
     /// It keeps close to what stands after it.

@@ -12,7 +12,7 @@ use pylex::Kind;
 use std::alloc::{AllocError, Global};
 use std::marker::Model;
 
-/// A list that tokens are appended to, and the text of the f-string that is open behind them.
+/// A list that tokens are appended to, and the text of the f-string that is open after them.
 #[derive(Drop)]
 pub struct PieceWriter {
     alloc: Global,

@@ -18,8 +18,8 @@ use std::alloc::{AllocError, Global};
 /// An f-string is one token, and is written step by step: it begins; its texts are put, and its
 /// fields; it ends. A field begins; its expression is written as any other is; the expression
 /// ends, perhaps with a conversion; a format spec may begin, whose texts and fields are put; the
-/// field ends. The beginning of the f-string tells whether this stands in a field of another one,
-/// and later steps are told it.
+/// field ends. The beginning of the f-string says whether this stands in a field of another one,
+/// and later steps are given that.
 pub trait Writer {
     // The writer after a token, whose text is given in UTF-8.
     ghost after: { Self → Sited → Self };

@@ -1,4 +1,4 @@
-//! A listing that stops, and goes on later.
+//! A listing that stops, and is resumed later.
 
 ghost use Rattle.std.specs.Prelude.{◌≡◌, IfOk, IfErr, string_bytes};
 ghost use Rattle.pylex.specs.Cursors.{cursor_text};

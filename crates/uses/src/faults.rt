@@ -19,7 +19,7 @@ fn placed(alloc: Global, row: usize, column: usize, text: &str) -> Result<String
     format!(in alloc; "{row}:{column}: {text}")
 }
 
-/// The tree of some bytes. Each layer's fault becomes the one that the program tells.
+/// The tree of some bytes. Each layer's fault becomes the one that the program reports.
 pub fn tree_of_bytes(alloc: Global, bytes: &[u8], profile: Profile) -> Result<Module, Fault>
     requires { length bytes.now ≤ source_limit }
     ensures tree { IfOk result (λ tree. IsTreeOf profile bytes.now (module_of tree)) }

@@ -2,7 +2,7 @@
 //!
 //! `docs/LIBRARY.md` quotes them word for word. [`count_names`] lists a source that is held whole,
 //! [`first_comment`] one that is read line by line; with [`kept`] a listing stops, and with
-//! [`resumed`] it goes on. [`dumped`] and [`rewritten`] write what a source's tree is, and
+//! [`resumed`] it is resumed. [`dumped`] and [`rewritten`] write what a source's tree is, and
 //! [`assignment_text`] one that is made by hand. [`tree_of_bytes`] takes the fault of each layer,
 //! and [`described`] reports it.
 #![tactic(auto)]
