@@ -12,5 +12,5 @@ pub mod Forms
 pub mod Laws
 mod LineStartLemmas
 mod MarkLemmas
-mod Moves
+pub mod Moves
 mod RowWalks

@@ -1,26 +1,26 @@
--- Carries: set_aside, take_back, add. The spans of some places, recorded or set aside, and where they are moved.
+-- Carries: set_aside, take_back, add, and who reads with places. The spans of some places, recorded or set aside, and where they are moved.
 use Rattle.std.proofs.Common.{◌≡◌, refl, sym, ap, ◌∙◌, ℕ, List, [], ◌∷◌, ◌++◌, length, map, take, drop, append_assoc, append-nil}
 use Rattle.std.proofs.Math.Seq.{take-append_seam, drop-append_seam}
 use Rattle.std.proofs.lemmas.List.{take-map, drop-map, map-append}
 use Rattle.pyparse_marks.specs.declared.spans.Span as given
-use Rattle.pyplaces.specs.Stretches.{Span, Stretch}
-use Rattle.pyplaces.specs.Recording.{Recording, recording, recorded, put_aside, emptied, afters, span_by, told}
+use Rattle.pyplaces.specs.Stretches.{Span, Stretch, span_of}
+use Rattle.pyplaces.specs.Recording.{Recording, recording, recorded, put_aside, emptied, afters, told}
 
 same_recording : {ms ms' xs xs' ys ys' : List Span} → ms ≡ ms' → xs ≡ xs' → ys ≡ ys' → recording ms xs ys ≡ recording ms' xs' ys'
 same_recording {ms} {ms'} {xs} {xs'} {ys} {ys'} a b c =
     ap (λ m. recording m xs ys) a ∙ (ap (λ x. recording ms' x ys) b ∙ ap (λ y. recording ms' xs' y) c)
 
-recorded_all : (w : Recording) (ps : List Stretch) → afters recorded w ps ≡ recording w.marks (w.spans ++ map (span_by w.marks) ps) w.aside
+pub recorded_all : (w : Recording) (ps : List Stretch) → afters recorded w ps ≡ recording w.marks (w.spans ++ map (span_of w.marks) ps) w.aside
 recorded_all w [] = ap (λ x. recording w.marks x w.aside) (sym (append-nil w.spans))
 recorded_all w (p ∷ ps) =
     recorded_all (recorded w p) ps
-    ∙ ap (λ x. recording w.marks x w.aside) (append_assoc w.spans (span_by w.marks p ∷ []) (map (span_by w.marks) ps))
+    ∙ ap (λ x. recording w.marks x w.aside) (append_assoc w.spans (span_of w.marks p ∷ []) (map (span_of w.marks) ps))
 
-aside_all : (w : Recording) (ps : List Stretch) → afters put_aside w ps ≡ recording w.marks w.spans (w.aside ++ map (span_by w.marks) ps)
+aside_all : (w : Recording) (ps : List Stretch) → afters put_aside w ps ≡ recording w.marks w.spans (w.aside ++ map (span_of w.marks) ps)
 aside_all w [] = ap (λ x. recording w.marks w.spans x) (sym (append-nil w.aside))
 aside_all w (p ∷ ps) =
     aside_all (put_aside w p) ps
-    ∙ ap (λ x. recording w.marks w.spans x) (append_assoc w.aside (span_by w.marks p ∷ []) (map (span_by w.marks) ps))
+    ∙ ap (λ x. recording w.marks w.spans x) (append_assoc w.aside (span_of w.marks p ∷ []) (map (span_of w.marks) ps))
 
 -- what stays of spans that end with others, and what is moved
 kept_front : (xs : List given.Span) (n : ℕ) (front back : List Span) → map told xs ≡ front ++ back → n ≡ length front
@@ -46,8 +46,8 @@ pub set_aside_by : (ms : List Span) (xs xs' ys ys' : List given.Span) (n : ℕ) 
 set_aside_by ms xs xs' ys ys' n w ps h l m =
     let e = h ∙ recorded_all w ps in
     same_recording (ap (λ r. r.marks) e)
-    (ap (map told) m.0 ∙ kept_front xs n w.spans (map (span_by w.marks) ps) (ap (λ r. r.spans) e) l)
-    (ap (map told) m.1 ∙ joined ys xs n w.aside w.spans (map (span_by w.marks) ps) (ap (λ r. r.aside) e) (ap (λ r. r.spans) e) l)
+    (ap (map told) m.0 ∙ kept_front xs n w.spans (map (span_of w.marks) ps) (ap (λ r. r.spans) e) l)
+    (ap (map told) m.1 ∙ joined ys xs n w.aside w.spans (map (span_of w.marks) ps) (ap (λ r. r.aside) e) (ap (λ r. r.spans) e) l)
     ∙ sym (aside_all w ps)
 
 pub take_back_by : (ms : List Span) (xs xs' ys ys' : List given.Span) (n : ℕ) (w : Recording) (ps : List Stretch)
@@ -57,8 +57,8 @@ pub take_back_by : (ms : List Span) (xs xs' ys ys' : List given.Span) (n : ℕ) 
 take_back_by ms xs xs' ys ys' n w ps h l m =
     let e = h ∙ aside_all w ps in
     same_recording (ap (λ r. r.marks) e)
-    (ap (map told) m.1 ∙ joined xs ys n w.spans w.aside (map (span_by w.marks) ps) (ap (λ r. r.spans) e) (ap (λ r. r.aside) e) l)
-    (ap (map told) m.0 ∙ kept_front ys n w.aside (map (span_by w.marks) ps) (ap (λ r. r.aside) e) l)
+    (ap (map told) m.1 ∙ joined xs ys n w.spans w.aside (map (span_of w.marks) ps) (ap (λ r. r.spans) e) (ap (λ r. r.aside) e) l)
+    (ap (map told) m.0 ∙ kept_front ys n w.aside (map (span_of w.marks) ps) (ap (λ r. r.aside) e) l)
     ∙ sym (recorded_all w ps)
 
 -- those of another recorder of the line that had none
@@ -70,6 +70,6 @@ pub add_by : (w : Recording) (ms : List Span) (xs xs' : List given.Span) (ys os 
 add_by w ms xs xs' ys os zs zs' others ps v h m =
     let e = h ∙ recorded_all (emptied w) ps in
     same_recording (ap (λ r. r.marks) v)
-    (ap (map told) m.1 ∙ joined xs zs 0 w.spans [] (map (span_by w.marks) ps) (ap (λ r. r.spans) v) (ap (λ r. r.spans) e) refl)
+    (ap (map told) m.1 ∙ joined xs zs 0 w.spans [] (map (span_of w.marks) ps) (ap (λ r. r.spans) v) (ap (λ r. r.spans) e) refl)
     (ap (λ r. r.aside) v)
     ∙ sym (recorded_all w ps)

@@ -3,7 +3,7 @@ use Rattle.std.specs.Prelude.{ℕ, Bool, Option, List, [], ◌∷◌, ◌++◌, 
 use Rattle.pytree_node.specs.Trees.{Stmt, Handler, Case}
 use Rattle.pygrammar.specs.Lines.{Line}
 use Rattle.pygrammar.specs.Blocks as B
-use Rattle.pyplaces.specs.Stretches.{Mark, Span, span, spans_of}
+use Rattle.pyplaces.specs.Stretches.{Span, span, spans_of}
 use Rattle.pyplaces.specs.FormPlaces.{FormPlaces}
 
 -- a line's bytes, from its first token to its last, and the spans of its parts
@@ -13,13 +13,14 @@ pub record LinePlaces : Type 0 where
   pub behind : List Span
   pub suite : List Span
 
-abbrev pub whole_of : List Mark → Span
+abbrev pub whole_of : List Span → Span
 whole_of [] = span 0 0
-whole_of (m ∷ []) = m.at
-whole_of (m ∷ (n ∷ ms)) = span m.at.start (whole_of (n ∷ ms)).stop
+whole_of (s ∷ []) = s
+whole_of (s ∷ (t ∷ ss)) = span s.start (whole_of (t ∷ ss)).stop
 
-abbrev pub line_of : List Mark → FormPlaces → LinePlaces
-line_of ms f = record { whole = whole_of ms; before = spans_of ms f.before; behind = spans_of ms f.behind; suite = spans_of ms f.suite }
+-- those of a line whose terminals have these spans
+abbrev pub line_of : List Span → FormPlaces → LinePlaces
+line_of ss f = record { whole = whole_of ss; before = spans_of ss f.before; behind = spans_of ss f.behind; suite = spans_of ss f.suite }
 
 -- a compound statement: from where it begins to the end of the last of its lines
 abbrev pub ending : ℕ → List LinePlaces → Span

@@ -15,7 +15,7 @@ use Rattle.pygrammar.specs.Blocks.{Block}
 use Rattle.pygrammar.specs.Lines.{Form, simple_form, decorator_form, header_form, Line}
 use Rattle.pygrammar.specs.Refusals.{Accepted, Formed}
 use Rattle.pygrammar.specs.declared.levels.Level.{Level}
-use Rattle.pyplaces.specs.Stretches.{Mark, Span, Stretch}
+use Rattle.pyplaces.specs.Stretches.{Span, Stretch}
 use Rattle.pyplaces.specs.BlockPlaces.{LinePlaces, block_places}
 use Rattle.pyplaces.specs.ExpressionPlaces.{places}
 use Rattle.pyplaces.specs.FormPlaces.{places_at, simple_places}
@@ -24,8 +24,8 @@ use Rattle.pyplaces.specs.ModulePlaces.{formed_places, module_places}
 
 -- as many spans as marked nodes
 abbrev pub Count : Type 0
-Count = (marks : tokens.Line → List Mark) (profile : Profile) (s : Source) (m : Module) (a : Accepted profile s m)
-    → length (module_places marks a) ≡ marked (shown_module profile m)
+Count = (spans : tokens.Line → List Span) (profile : Profile) (s : Source) (m : Module) (a : Accepted profile s m)
+    → length (module_places spans a) ≡ marked (shown_module profile m)
 
 -- ---- Tokens.
 
@@ -118,10 +118,10 @@ pub data LinesInOrder (profile : Profile) : ℕ → List Line → List LinePlace
 
 -- of lines in order each statement of a block ends before the next begins
 abbrev pub InOrder : Type 0
-InOrder = (marks : tokens.Line → List Mark) (profile : Profile) (earlier forms : List Line) (xs : List tokens.Line)
+InOrder = (spans : tokens.Line → List Span) (profile : Profile) (earlier forms : List Line) (xs : List tokens.Line)
     (f : Formed profile earlier xs forms) (l lo hi : ℕ) (ss : List Stmt) (b : Block l forms ss)
-    → LinesInOrder profile lo forms (formed_places marks f) hi
-    → AreInOrder lo (statement_spans profile ss (block_places (formed_places marks f) b)) hi
+    → LinesInOrder profile lo forms (formed_places spans f) hi
+    → AreInOrder lo (statement_spans profile ss (block_places (formed_places spans f) b)) hi
 
 -- ---- All of them.
 

@@ -1,15 +1,7 @@
--- What records where nodes stand: the marks of the line that is read, the spans so far, and those that are set aside.
-use Rattle.std.specs.Prelude.{◌≡◌, ℕ, List, [], ◌∷◌, ◌++◌, ◌-◌, slice_index_or}
-use Rattle.pyplaces.specs.Stretches.{Span, span, Stretch}
+-- What records where nodes stand: the spans of the terminals of the line that is read, the spans so far, and those that are set aside.
+use Rattle.std.specs.Prelude.{◌≡◌, ℕ, List, [], ◌∷◌, ◌++◌}
+use Rattle.pyplaces.specs.Stretches.{Span, Stretch, span_of}
 pub use Rattle.pyparse_marks.specs.Spans.{told}
-
--- the span of the terminal behind so many, and an empty one at 0 where there is none
-abbrev pub mark_behind : ℕ → List Span → Span
-mark_behind n ms = slice_index_or ms n (span 0 0)
-
--- the span of a stretch of a line with these marks
-abbrev pub span_by : List Span → Stretch → Span
-span_by ms s = span (mark_behind s.first ms).start (mark_behind (s.behind - 1) ms).stop
 
 pub record Recording : Type 0 where
   pub marks : List Span
@@ -21,11 +13,11 @@ recording marks spans aside = record { marks = marks; spans = spans; aside = asi
 
 -- behind the place of one node more
 abbrev pub recorded : Recording → Stretch → Recording
-recorded w s = recording w.marks (w.spans ++ span_by w.marks s ∷ []) w.aside
+recorded w s = recording w.marks (w.spans ++ span_of w.marks s ∷ []) w.aside
 
 -- behind one more that is set aside
 abbrev pub put_aside : Recording → Stretch → Recording
-put_aside w s = recording w.marks w.spans (w.aside ++ span_by w.marks s ∷ [])
+put_aside w s = recording w.marks w.spans (w.aside ++ span_of w.marks s ∷ [])
 
 -- with the same marks and no spans
 abbrev pub emptied : Recording → Recording

@@ -1,7 +1,8 @@
 //! The spans of nodes, while they are recorded.
 
 ghost use Rattle.std.specs.Prelude.{◌≡◌, ◌++◌, map, take, drop, OnOk};
-ghost use Rattle.pyplaces.specs.Recording.{mark_behind, told};
+ghost use Rattle.pyplaces.specs.Recording.{told};
+ghost use Rattle.pyplaces.specs.Stretches.{span_behind};
 
 use crate::recorders::Recorder;
 use crate::row_ends::row_end;
@@ -33,10 +34,34 @@ impl<'a> Model for Recorded<'a> {
     } };
 }
 
+impl<'a> Recorded<'a> {
+    ghost use Rattle.std.specs.Prelude.{[]};
+    ghost use Rattle.pyplaces.specs.Recording.{recording};
+
+    /// Nothing is recorded of a line whose terminals have these spans. It takes no memory.
+    pub fn new(alloc: Global, marks: &'a [Span]) -> Recorded<'a>
+        ensures { result ≡ recording (map told marks.now) [] [] }
+    {
+        Recorded {
+            alloc,
+            marks,
+            spans: Vec::new(alloc),
+            aside: Vec::new(alloc),
+        }
+    }
+
+    /// The spans of the nodes that are recorded, in the order in which the dump writes them.
+    pub fn spans(&self) -> &[Span]
+        ensures { map told result.now ≡ self.now.spans }
+    {
+        self.spans.as_slice()
+    }
+}
+
 /// The span of a terminal, and an empty one where there is none.
 #[tactic(auto, using(crate::proofs::MarkLemmas::mark_within, crate::proofs::MarkLemmas::mark_past))]
 fn mark_at(marks: &[Span], at: usize) -> Span
-    ensures { told result ≡ mark_behind at (map told marks.now) }
+    ensures { told result ≡ span_behind at (map told marks.now) }
 {
     match marks.get(at) {
         Some(mark) => *mark,

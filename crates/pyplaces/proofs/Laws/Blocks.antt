@@ -18,7 +18,7 @@ use Rattle.pygrammar.specs.Lines.{Line, line, Form, header_form, LoopHead, while
 use Rattle.pygrammar.specs.Lines.{loop_header, finally_header, def_header, loop, with_of, definition, try_of}
 use Rattle.pygrammar.specs.Blocks as B
 use Rattle.pygrammar.specs.Refusals.{Accepted, Formed, formed_end, formed_line}
-use Rattle.pyplaces.specs.Stretches.{Mark, Span, Stretch, span_of, spans_of}
+use Rattle.pyplaces.specs.Stretches.{Span, Stretch, span_of, spans_of}
 use Rattle.pyplaces.specs.BlockPlaces.{LinePlaces, own, decorator_places, block_places, statement_places, definition_places}
 use Rattle.pyplaces.specs.BlockPlaces.{final_places, body_places, alternative_places, otherwise_places, handlers_places, cases_places}
 use Rattle.pyplaces.specs.BlockPlaces.{ending_places}
@@ -222,20 +222,20 @@ mutual
 
 -- ---- Accepted sources.
 
-span_count : {n : ℕ} {ps : List Stretch} (ms : List Mark) → Many ps n → Many (spans_of ms ps) n
-span_count {ps = ps} ms p = record { is = length-map ps (span_of ms) ∙ p.is }
+span_count : {n : ℕ} {ps : List Stretch} (ss : List Span) → Many ps n → Many (spans_of ss ps) n
+span_count {ps = ps} ss p = record { is = length-map ps (span_of ss) ∙ p.is }
 
-pub count_formed : {profile : Profile} {earlier : List Line} {xs : List Tokens.Line} {ys : List Line} (marks : Tokens.Line → List Mark)
-    (f : Formed profile earlier xs ys) → LinesCounted profile ys (formed_places marks f)
-count_formed marks formed_end = no_line
-count_formed marks (formed_line {x = x} h r) =
+pub count_formed : {profile : Profile} {earlier : List Line} {xs : List Tokens.Line} {ys : List Line} (spans : Tokens.Line → List Span)
+    (f : Formed profile earlier xs ys) → LinesCounted profile ys (formed_places spans f)
+count_formed spans formed_end = no_line
+count_formed spans (formed_line {x = x} h r) =
     let k = count_form h.is in
     a_line (record {
-      before = span_count (marks x) k.before;
-      behind = span_count (marks x) k.behind;
-      suite = span_count (marks x) k.suite;
-    }) (count_formed marks r)
+      before = span_count (spans x) k.before;
+      behind = span_count (spans x) k.behind;
+      suite = span_count (spans x) k.suite;
+    }) (count_formed spans r)
 
-pub count_module : {profile : Profile} {s : Source} {m : Module} (marks : Tokens.Line → List Mark) (a : Accepted profile s m)
-    → length (module_places marks a) ≡ marked (shown_module profile m)
-count_module marks a = (many (count_block a.block (count_formed marks a.formed)) (omega arith)).is
+pub count_module : {profile : Profile} {s : Source} {m : Module} (spans : Tokens.Line → List Span) (a : Accepted profile s m)
+    → length (module_places spans a) ≡ marked (shown_module profile m)
+count_module spans a = (many (count_block a.block (count_formed spans a.formed)) (omega arith)).is

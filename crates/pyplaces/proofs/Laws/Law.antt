@@ -8,7 +8,7 @@ use Rattle.pyplaces.proofs.Laws.FormApart.{laminar_form}
 use Rattle.pyplaces.proofs.Laws.InOrder.{in_order}
 
 pub count : Count
-count marks profile s m a = count_module marks a
+count spans profile s m a = count_module spans a
 
 pub tokens : Tokens
 tokens profile inside ts f d = let r = tokens_form d in (r.before.are, r.behind.are, r.suite.are)
@@ -24,7 +24,7 @@ pub apart : Apart
 apart profile inside ts f d = (laminar_form d).are
 
 pub ordered : InOrder
-ordered marks profile earlier forms xs f l lo hi ss b o = in_order b (count_formed marks f) o
+ordered spans profile earlier forms xs f l lo hi ss b o = in_order b (count_formed spans f) o
 
 pub places_are_lawful : PlacesAreLawful
 places_are_lawful = record { count = count; tokens = tokens; nested = nested; apart = apart; ordered = ordered }

@@ -5,9 +5,9 @@ use Rattle.pytree_node.specs.declared.operators.Context.TheVariants.{Load}
 use Rattle.pytree_node.specs.Trees
 use Rattle.pytree_node.specs.Trees.{Expr, Identifier}
 use Rattle.pytree_node.specs.Values as Values
-use Rattle.pytoken.specs.Terminals.{Terminal, Layout, in_form, whole}
+use Rattle.pytoken.specs.Terminals.{Terminal, in_form, whole}
 use Rattle.pygrammar.specs.Grammar.{Derives, next, name, number}
-use Rattle.pyplaces.specs.Stretches.{Mark, span}
+use Rattle.pyplaces.specs.Stretches.{Span, span}
 
 abbrev pub atom : {ts : List Terminal} {e : Expr} → Derives Atom ts e → Derives Primary ts e
 atom p = next p
@@ -47,7 +47,7 @@ a x = next name
 abbrev pub n : (v : ℕ) → Derives Primary (whole v ∷ []) (Trees.Constant (Values.Int v))
 n v = next number
 
--- marks of these bytes, start and stop of each in turn
-abbrev pub marks : List ℕ → List Mark
-marks (x ∷ (y ∷ more)) = record { terminal = Layout; at = span x y } ∷ marks more
+-- spans of these bytes, start and stop of each in turn
+abbrev pub marks : List ℕ → List Span
+marks (x ∷ (y ∷ more)) = span x y ∷ marks more
 marks _ = []
