@@ -1,29 +1,27 @@
 #!/usr/bin/env python3
-"""Compares what pyparse reads as an expression with `ast.parse` of Python 3.11.
+"""Compares what `pyast dump` reads of lines that are expressions, or were, with `ast.parse` of Python 3.11.
 
-    conformance/expressions.py [FOLDER ..] [--count N] [--changed N] [--seed N] [--dumper PATH]
+    conformance/expressions.py [FOLDER ..] [--count N] [--changed N] [--seed N] [--program WORDS]
 
 Of every .py file below the folders (by default Python's own library) the source of each expression is taken that stands on one line and
 holds none of what is left out (floats, complex numbers, numbers too large, f-strings, named escapes), each text once; of these N are
-drawn. Besides, N are drawn that were changed in one token. The program of crates/measures tells of each what it is: its dump has
-to be Python's, and where Python's parser refuses it, it has to be refused. The exit status is 0 where all agree, 1 where one differs (it
+drawn. Besides, N are drawn that were changed in one token. Each is a source of its own line: where Python's parser takes it the dumps
+have to be the same, and where that refuses it, it has to be refused. The exit status is 0 where all agree, 1 where one differs (it
 is shown), and 2 where nothing could be compared.
 """
 
-import argparse
 import ast
+import concurrent.futures
 import io
-import os
 import random
-import subprocess
 import sys
-import sysconfig
 import tokenize
 import warnings
 
-from common import TOP, python_files, refuse
+from common import files_parser, go_on_with_python_311, outcome_of, python_files, read_options, refuse
 
 BATCH = 2000
+FAULTS = ("invalid syntax", "too deep", "expected an indented block", "misplaced clause")
 LARGEST = 2**128 - 1
 OPENERS, CLOSERS = "([{", ")]}"
 # What stands in for a token of a changed expression, beside tokens of other expressions.
@@ -96,81 +94,70 @@ def changed(tokens, others, random_):
     return new
 
 
-def python_tells(text):
-    """Python's dump of a line that is one Value, or None where it is refused; False where it can't be compared."""
+def is_left_out(text):
+    """Whether Python takes a line that holds what is refused by itself; None where Python refuses it."""
     try:
-        tree = ast.parse(text)
+        return left_out(ast.parse(text), text)
     except (SyntaxError, ValueError, RecursionError, MemoryError):
         return None
-    if len(tree.body) != 1 or not isinstance(tree.body[0], ast.Expr):
-        return None
-    return False if left_out(tree, text) else ast.dump(tree.body[0].value, annotate_fields=False)
 
 
-def told(dumper, texts):
-    """What the program tells of some lines, or None where one of them is refused by a token or a place."""
-    source = "".join(text + "\n" for text in texts).encode()
-    done = subprocess.run([dumper, "expressions"], input=source, stdout=subprocess.PIPE, check=False)
-    lines = done.stdout.decode().splitlines()
-    return lines if done.returncode == 0 and len(lines) == len(texts) and not lines[0].startswith("refused") else None
-
-
-def answers(dumper, texts):
-    """The same line by line: of a batch that is refused each half by itself, down to the line, of which the reason is told."""
-    lines = told(dumper, texts)
-    if lines is not None:
-        return lines
-    if len(texts) == 1:
-        return ["refused"]
+def differing(program, texts):
+    """The lines, all of which Python takes, of which pyast shows another tree, or none."""
+    data = "".join(text + "\n" for text in texts).encode()
+    mine = outcome_of(program, ["dump", "--bare"], data)
+    due = ast.dump(ast.parse(data), annotate_fields=False).encode("utf-8", "surrogatepass") + b"\n"
+    if not texts or mine.status == 0 and mine.out == due:
+        return []
     half = len(texts) // 2
-    return answers(dumper, texts[:half]) + answers(dumper, texts[half:])
+    return [(texts[0], mine)] if not half else differing(program, texts[:half]) + differing(program, texts[half:])
 
 
-def differences(dumper, texts):
-    """The lines of which the program tells another thing than Python, and how many were compared."""
+def is_refused(program, text):
+    """Whether pyast refuses a line as one that has no form, or that has to go on."""
+    mine = outcome_of(program, ["dump"], text.encode() + b"\n")
+    return mine.status == 1 and mine.err.endswith(tuple(f"error: {fault}\n".encode() for fault in FAULTS))
+
+
+def differences(options, texts):
+    """The lines of which pyast makes another thing than Python, and how many were compared."""
     found, count = [], 0
-    for start in range(0, len(texts), BATCH):
-        batch = [(text, python_tells(text)) for text in texts[start:start + BATCH]]
-        batch = [(text, dump) for text, dump in batch if dump is not False and "\n" not in text]
-        count += len(batch)
-        for (text, dump), line in zip(batch, answers(dumper, [text for text, _ in batch])):
-            refused = line == "refused" or line.startswith(("Syntax at ", "TooDeep at "))
-            if (dump is None) != refused or dump is not None and dump != line:
-                found.append((text, dump, line))
+    with concurrent.futures.ThreadPoolExecutor(options.jobs) as pool:
+        for start in range(0, len(texts), BATCH):
+            told = [(text, is_left_out(text)) for text in texts[start:start + BATCH] if "\n" not in text]
+            taken = [text for text, out in told if out is False]
+            refused = [text for text, out in told if out is None]
+            count += len(taken) + len(refused)
+            found += differing(options.program, taken)
+            answers = pool.map(lambda text: is_refused(options.program, text), refused)
+            found += [(text, "not refused") for text, good in zip(refused, answers) if not good]
     return found, count
 
 
 def main():
-    parser = argparse.ArgumentParser(description=__doc__.partition("\n")[0])
-    parser.add_argument("folders", metavar="FOLDER", nargs="*", help="the folders of sources; Python's own library if none is named")
+    go_on_with_python_311()
+    parser = files_parser(__doc__.partition("\n")[0])
     parser.add_argument("--count", type=int, default=10_000, metavar="N", help="how many expressions are drawn")
-    parser.add_argument("--changed", type=int, default=100_000, metavar="N", help="how many changed ones are drawn")
-    parser.add_argument("--seed", type=int, default=1, metavar="N", help="of the drawing")
-    parser.add_argument("--dumper", default=os.path.join(TOP, "crates", "measures", "out", "measures"), metavar="PATH",
-                        help="the built program of crates/measures")
-    words = parser.parse_args()
-    if sys.version_info[:2] != (3, 11):
-        refuse("this isn't Python 3.11")
-    if not os.access(words.dumper, os.X_OK):
-        refuse(f"{words.dumper} isn't there: `rt run` in crates/measures builds it")
+    parser.add_argument("--changed", type=int, default=20_000, metavar="N", help="how many changed ones are drawn")
+    options = read_options(parser)
     warnings.simplefilter("ignore")
-    random_ = random.Random(words.seed)
-    texts = sorted({text for path in python_files(words.folders or [sysconfig.get_path("stdlib")]) for text in expressions_in(path)})
+    random_ = random.Random(options.seed)
+    texts = sorted({text for path in python_files(options.folders) for text in expressions_in(path)})
     random_.shuffle(texts)
-    own = texts[:words.count]
-    lists = [tokens for text in texts[:20 * words.count] if (tokens := tokens_of(text)) and len(tokens) > 1 and is_balanced(tokens)]
+    own = texts[:options.count]
+    lists = [tokens for text in texts[:20 * options.count] if (tokens := tokens_of(text)) and len(tokens) > 1 and is_balanced(tokens)]
     if not lists:
         refuse("no expression was found")
     made = []
-    while len(made) < words.changed:
+    while len(made) < options.changed:
         tokens = changed(random_.choice(lists), lists, random_)
         if tokens and is_balanced(tokens):
             made.append(" ".join(tokens))
     bad = 0
     for name, lines in (("expressions", own), ("changed ones", made)):
-        found, count = differences(words.dumper, lines)
-        for text, dump, line in found[:10]:
-            print(f"{text!r}: Python {dump}, here {line}")
+        found, count = differences(options, lines)
+        for text, mine in found[:10]:
+            print(f"{text!r}: {mine}")
         print(f"{count} {name}, {len(found)} differences")
         bad += len(found)
     return int(bool(bad))

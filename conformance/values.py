@@ -1,30 +1,30 @@
 #!/usr/bin/env python3
-"""Compares what pyparse makes of number and string tokens with `ast.literal_eval` of Python 3.11.
+"""Compares what `pyast dump` shows of number and string tokens with `ast.dump` of Python 3.11.
 
-    conformance/values.py [FOLDER ..] [--teller PATH]
+    conformance/values.py [FOLDER ..] [--program WORDS]
 
 Of every .py file below the folders (by default Python's own library) all number and string tokens are taken, each text once. Those
-that stand for a whole number below 2 to the 128, a text or bytes are told in batches by the program of crates/measures, and each
-value has to be Python's. Each other has to be refused, by itself, for its reason: float, complex number, number too large, f-string,
-named escape. The exit status is 0 where all agree, 1 where one differs (it is shown), and 2 where nothing could be compared.
+that stand for a whole number below 2 to the 128, a text or bytes are dumped in batches, a line each, and the dump has to be Python's.
+Each other has to be refused by itself, for its reason: float, complex number, number too large, f-string, named escape. The exit
+status is 0 where all agree, 1 where one differs (it is shown), and 2 where nothing could be compared.
 """
 
-import argparse
 import ast
-import os
+import concurrent.futures
 import re
-import subprocess
 import sys
-import sysconfig
 import tokenize
 import warnings
 
-from common import TOP, python_files, refuse
+from common import files_parser, go_on_with_python_311, outcome_of, python_files, read_options
 
 PREFIX = re.compile(r"[A-Za-z]*")
 # A backslash with what it takes along, or another character.
 UNIT = re.compile(r"\\.|[^\\]", re.DOTALL)
 BATCH = 2000
+# What pyast reports of a token that it leaves out.
+TEXTS = {"Complex": "complex literal", "Float": "float literal", "IntegerTooLarge": "integer too large", "FString": "f-string",
+         "NamedEscape": "named escape"}
 LARGEST = 2**128 - 1
 
 
@@ -53,55 +53,42 @@ def reason_of(kind, text):
     return "NamedEscape" if named else None
 
 
-def value_of(kind, text):
-    """How the program has to tell a token: its word, and its value."""
-    value = ast.literal_eval(text)
-    if kind == tokenize.NUMBER:
-        return "int", value
-    if isinstance(value, bytes):
-        return "bytes", value
-    return "u" if text.startswith("u") else "text", value
+def source_of(texts):
+    """A source of these tokens, each a line."""
+    return "".join(text + "\n" for text in texts).encode("utf-8", "surrogatepass")
 
 
-def lines_of(teller, texts):
-    """What the program tells of a source of these tokens, one behind the other."""
-    source = "".join(text + "\n" for text in texts).encode("utf-8", "surrogatepass")
-    done = subprocess.run([teller, "values"], input=source, stdout=subprocess.PIPE, check=False)
-    return [line.split(" ", 2 if not line.startswith("refused") else 1) for line in done.stdout.decode("utf-8", "surrogatepass").splitlines()]
+def differing(program, texts):
+    """The tokens of a batch that pyast shows otherwise than Python, or refuses."""
+    data = source_of(texts)
+    mine = outcome_of(program, ["dump", "--bare"], data)
+    due = ast.dump(ast.parse(data), annotate_fields=False).encode("utf-8", "surrogatepass") + b"\n"
+    if mine.status == 0 and mine.out == due:
+        return []
+    half = len(texts) // 2
+    return [(texts[0], mine)] if not half else differing(program, texts[:half]) + differing(program, texts[half:])
 
 
-def differing(teller, tokens):
-    """The tokens of a batch whose values differ."""
-    told = lines_of(teller, [text for _, text in tokens])
-    if len(told) != len(tokens):
-        half = len(tokens) // 2
-        return [(tokens[0], told)] if not half else differing(teller, tokens[:half]) + differing(teller, tokens[half:])
-    return [(token, line) for token, line in zip(tokens, told) if (line[1], ast.literal_eval(line[2])) != value_of(*token)]
+def is_refused(program, token):
+    """Whether pyast refuses a token that it leaves out, for its reason."""
+    kind, text = token
+    mine = outcome_of(program, ["dump"], source_of([text]))
+    return mine.status == 1 and not mine.out and mine.err.decode().endswith(f":1:0: error: {TEXTS[reason_of(kind, text)]}\n")
 
 
 def main():
-    parser = argparse.ArgumentParser(description=__doc__.partition("\n")[0])
-    parser.add_argument("folders", metavar="FOLDER", nargs="*", help="the folders of sources; Python's own library if none is named")
-    parser.add_argument("--teller", default=os.path.join(TOP, "crates", "measures", "out", "measures"), metavar="PATH",
-                        help="the built program of crates/measures")
-    words = parser.parse_args()
-    if sys.version_info[:2] != (3, 11):
-        refuse("this isn't Python 3.11")
-    if not os.access(words.teller, os.X_OK):
-        refuse(f"{words.teller} isn't there: `rt run` in crates/measures builds it")
+    go_on_with_python_311()
+    options = read_options(files_parser(__doc__.partition("\n")[0]))
     warnings.simplefilter("ignore")
-    texts = sorted({token for path in python_files(words.folders or [sysconfig.get_path("stdlib")]) for token in tokens_in(path)})
-    valued = [token for token in texts if reason_of(*token) is None]
-    differences = []
-    for start in range(0, len(valued), BATCH):
-        differences += differing(words.teller, valued[start:start + BATCH])
-    refused = [token for token in texts if reason_of(*token) is not None]
-    for token in refused:
-        told = lines_of(words.teller, [token[1]])
-        if len(told) != 1 or told[0][0] != "refused" or f"Token({reason_of(*token)}," not in told[0][1]:
-            differences.append((token, told))
-    for (_, text), told in differences[:10]:
-        print(f"{text!r}: {told}")
+    tokens = sorted({token for path in python_files(options.folders) for token in tokens_in(path)})
+    valued = [text for kind, text in tokens if reason_of(kind, text) is None]
+    refused = [token for token in tokens if reason_of(*token) is not None]
+    differences = [one for start in range(0, len(valued), BATCH) for one in differing(options.program, valued[start:start + BATCH])]
+    with concurrent.futures.ThreadPoolExecutor(options.jobs) as pool:
+        answers = pool.map(lambda token: is_refused(options.program, token), refused)
+        differences += [(token, "not refused for its reason") for token, good in zip(refused, answers) if not good]
+    for token, found in differences[:10]:
+        print(f"{token!r}: {found}")
     print(f"{len(valued)} values, {len(refused)} refusals, {len(differences)} differences")
     return int(bool(differences))
 

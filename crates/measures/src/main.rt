@@ -1,24 +1,19 @@
-//! Times what the libraries do, and shows what they read, for the programs of `bench/` and
-//! `conformance/` alone: a crate of its own, over the libraries, which promises nothing.
+//! Times what the libraries do, and compares trees, for the programs of `bench/` and `conformance/`
+//! alone: a crate of its own, over the libraries, which promises nothing.
 //!
-//! The first word says what: `resume`, `trees`, `values`, `expressions` or `random`, each with words
-//! of its own. All but `trees` read the standard input as a source. The status is 1 where the words
+//! The first word says what: `resume`, `trees` or `random`, each with words of its own. All but `trees` read the standard input as a source. The status is 1 where the words
 //! are bad, something fails, or `random` finds a tree that it has to show; else it is 0.
 #![tactic(auto)]
 
-mod expressions;
 mod input;
 mod places;
 mod random;
 mod resume;
 mod trees;
-mod values;
 
-use crate::expressions::expressions;
 use crate::random::random;
 use crate::resume::resume;
 use crate::trees::trees;
-use crate::values::values;
 use std::alloc::Global;
 use std::process::ExitCode;
 
@@ -41,8 +36,6 @@ fn run(rt: &HostRuntime, alloc: Global) -> Option<()> {
     match subject.as_str() {
         "resume" => resume(rt, alloc, word),
         "trees" => trees(rt, alloc, word, text_of(&shape), text_of(&count)),
-        "values" => values(rt, alloc, word),
-        "expressions" => expressions(rt, alloc, word),
         "random" => random(rt, alloc),
         _ => None,
     }
