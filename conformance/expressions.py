@@ -21,7 +21,8 @@ import warnings
 from common import files_parser, go_on_with_python_311, outcome_of, python_files, read_options, refuse
 
 BATCH = 2000
-FAULTS = ("invalid syntax", "too deep", "expected an indented block", "misplaced clause")
+FAULTS = ("invalid syntax", "too deep", "expected an indented block", "misplaced clause", "float literal", "complex literal", "integer too large",
+          "f-string", "named escape")
 LARGEST = 2**128 - 1
 OPENERS, CLOSERS = "([{", ")]}"
 # What stands in for a token of a changed expression, beside tokens of other expressions.
