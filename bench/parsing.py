@@ -3,9 +3,9 @@
 
     bench/parsing.py [--timer PATH] [--goal MB]
 
-1 MB of them, each text once, none with what is left out. The timer is the program of crates/measures, which is built anew where
-it isn't there; it tells how many of the lines are expressions, and what reading them took by its own clock, with nothing written and
-without making the tokens: the least of five runs. The exit status is 0, but 1 where fewer MB a second were read than the goal, and 2
+1 MB of them, each text once, none with a form that is left out. The timer is the program of crates/measures, which is built anew where
+it isn't there; it reports how many of the lines are expressions, and what reading them took by its own clock, with nothing written
+and without making the tokens: the least of five runs. The exit status is 0, but 1 where fewer MB a second were read than the goal, and 2
 where nothing could be measured.
 """
 
@@ -48,7 +48,7 @@ def told(timer, data):
     """How many of some lines are expressions, and the nanoseconds."""
     done = subprocess.run([timer, "expressions", "time"], input=data, stdout=subprocess.PIPE, check=False)
     if done.returncode or done.stdout.startswith(b"refused"):
-        refuse(f"{timer} told {done.stdout[:80]!r}")
+        refuse(f"{timer} wrote {done.stdout[:80]!r}")
     count, taken = done.stdout.split()
     return int(count), int(taken)
 

@@ -1,11 +1,11 @@
 #!/usr/bin/env python3
-"""Times reading a source into terminals beside listing it: `LogicalLines` is to take at most 1.3 times as
+"""Times reading a source into terminals beside listing it: `LogicalLines` has to take at most 1.3 times as
 long as the lister's walk over the same source, with nothing written.
 
     bench/terminals.py [--timer PATH] [--goal TIMES] [--instructions]
 
 The source is made of those files of Python 3.11's library that have tokens here, 9.5 MB. The timer is the program of
-crates/measures, which is built anew where it isn't there; it tells what each of the two took by its own clock, without reading the
+crates/measures, which is built anew where it isn't there; it reports what each of the two took by its own clock, without reading the
 source: the least of five runs, in which they take turns. With --instructions valgrind counts the instructions of the whole runs on a
 tenth of the source, which other work on the machine doesn't disturb. The exit status is 0, but 1 where the goal was missed, and 2 where
 nothing could be measured.
@@ -31,7 +31,7 @@ CALLS = ("list", "terminals")
 
 
 def told(timer, call, data):
-    """What the timer tells of a call on a source: how many entries or terminals, and the nanoseconds. None where it can't be read."""
+    """What the timer reports of a call on a source: how many entries or terminals, and the nanoseconds. None where it can't be read."""
     done = subprocess.run([timer, "values", call], input=data, stdout=subprocess.PIPE, check=False)
     return None if done.returncode or done.stdout.startswith(b"refused") else [int(word) for word in done.stdout.split()]
 
@@ -61,7 +61,7 @@ def instructions(timer, call, data):
         done = subprocess.run(words, input=data, stdout=subprocess.DEVNULL, stderr=subprocess.PIPE, check=False)
     found = re.search(r"Collected : (\d+)", done.stderr.decode())
     if done.returncode or not found:
-        refuse(f"valgrind {timer} values {call} told no count")
+        refuse(f"valgrind {timer} values {call} gave no count")
     return int(found.group(1))
 
 

@@ -3,10 +3,10 @@
 
     conformance/expressions.py [FOLDER ..] [--count N] [--changed N] [--seed N] [--dumper PATH]
 
-Of every .py file below the folders (by default Python's own library) the source of each expression is taken that stands on one line and
-holds none of what is left out (floats, complex numbers, numbers too large, f-strings, named escapes), each text once; of these N are
-drawn. Besides, N are drawn that were changed in one token. The program of crates/measures tells of each what it is: its dump has
-to be Python's, and where Python's parser refuses it, it has to be refused. The exit status is 0 where all agree, 1 where one differs (it
+From every .py file below the folders (by default Python's own library) the expressions are taken that stand on one line and have none of
+the forms that are left out (floats, complex numbers, numbers too large, f-strings, named escapes), each text once; of these N are
+drawn, and N more that were changed in one token. The program of crates/measures writes the dump of each: it has to be Python's, and what
+Python's parser refuses has to be refused. The exit status is 0 where all agree, 1 where one differs (it
 is shown), and 2 where nothing could be compared.
 """
 
@@ -108,7 +108,7 @@ def python_tells(text):
 
 
 def told(dumper, texts):
-    """What the program tells of some lines, or None where one of them is refused by a token or a place."""
+    """What the program writes of some lines, or None where one of them is refused by a token or a place."""
     source = "".join(text + "\n" for text in texts).encode()
     done = subprocess.run([dumper, "expressions"], input=source, stdout=subprocess.PIPE, check=False)
     lines = done.stdout.decode().splitlines()
@@ -116,7 +116,7 @@ def told(dumper, texts):
 
 
 def answers(dumper, texts):
-    """The same line by line: of a batch that is refused each half by itself, down to the line, of which the reason is told."""
+    """The same line by line: of a batch that is refused each half by itself, down to the line, whose reason is kept."""
     lines = told(dumper, texts)
     if lines is not None:
         return lines
@@ -127,7 +127,7 @@ def answers(dumper, texts):
 
 
 def differences(dumper, texts):
-    """The lines of which the program tells another thing than Python, and how many were compared."""
+    """The lines of which the program says something else than Python, and how many were compared."""
     found, count = [], 0
     for start in range(0, len(texts), BATCH):
         batch = [(text, python_tells(text)) for text in texts[start:start + BATCH]]

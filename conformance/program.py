@@ -4,7 +4,7 @@ it reads and writes, at a terminal too; that memory, and 4 MB of stack (4.5 for 
 
     conformance/program.py [--program PATH]
 
-What is due stands in this file or follows from the source, and is never the program's own output. The exit status is 0, but 1 where a check
+What is expected stands in this file or follows from the source, and is never the program's own output. The exit status is 0, but 1 where a check
 fails, and 2 where the program isn't there.
 """
 

@@ -3,9 +3,9 @@
 
     conformance/values.py [FOLDER ..] [--teller PATH]
 
-Of every .py file below the folders (by default Python's own library) all number and string tokens are taken, each text once. Those
-that stand for a whole number below 2 to the 128, a text or bytes are told in batches by the program of crates/measures, and each
-value has to be Python's. Each other has to be refused, by itself, for its reason: float, complex number, number too large, f-string,
+From every .py file below the folders (by default Python's own library) all number and string tokens are taken, each text once. The
+program of crates/measures gives the values of those that stand for a whole number below 2 to the 128, a text or bytes, and each value
+has to be Python's. Each other one has to be refused, by itself, for its reason: float, complex number, number too large, f-string,
 named escape. The exit status is 0 where all agree, 1 where one differs (it is shown), and 2 where nothing could be compared.
 """
 
@@ -54,7 +54,7 @@ def reason_of(kind, text):
 
 
 def value_of(kind, text):
-    """How the program has to tell a token: its word, and its value."""
+    """How the program has to write a token: its word, and its value."""
     value = ast.literal_eval(text)
     if kind == tokenize.NUMBER:
         return "int", value
@@ -64,7 +64,7 @@ def value_of(kind, text):
 
 
 def lines_of(teller, texts):
-    """What the program tells of a source of these tokens, one behind the other."""
+    """What the program writes of a source of these tokens, one after the other."""
     source = "".join(text + "\n" for text in texts).encode("utf-8", "surrogatepass")
     done = subprocess.run([teller, "values"], input=source, stdout=subprocess.PIPE, check=False)
     return [line.split(" ", 2 if not line.startswith("refused") else 1) for line in done.stdout.decode("utf-8", "surrogatepass").splitlines()]
