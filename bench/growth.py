@@ -3,10 +3,10 @@
 
     bench/growth.py [COMMAND ..] [--program PATH] [--only TEXT]
 
-COMMAND is `tokens`, `dump` or `unparse`; without one all three are run. Each source is run as it is, and with a character behind it that begins no
-token. Twice the input is to take at most 2.2 times the time, and 2.2 times the
-memory; a line that takes more is marked. Times of less than 20 ms are mostly the start of a process, and peaks of less than 64 MB are in part
-what each run takes: neither is judged. Each source is to be accepted or refused as its table says. All run within the stack of a login shell.
+COMMAND is `tokens`, `dump` or `unparse`; without one all three are run. Each source is run as it is, and with a character after it that begins
+no token. Twice the input has to take at most 2.2 times the time and 2.2 times the memory; a line that takes more is marked. Times of less than
+20 ms are mostly the start of a process, and peaks of less than 64 MB are in part what each run takes: neither is judged. Each source has to be
+accepted or refused as its table says. All run within the stack of a login shell.
 
 The exit status is 0, but 1 where a run grew more or ended otherwise, and 2 where nothing could be measured.
 """
@@ -118,7 +118,7 @@ def sources_of_formatted():
     yield "497 signs in each of 1,000 fields", lambda n: b"f'" + (b"{" + b"-" * 497 + b"x}") * (n * 500) + b"'\n", ACCEPTED
     yield "a format spec of 10,000,000 characters", lambda n: b"f'{x:" + b"a" * (n * 5_000_000) + b"}'\n", ACCEPTED
     yield "a format spec of 1,000,000 fields", lambda n: b"f'{x:" + b"{a}" * (n * 500_000) + b"}'\n", ACCEPTED
-    yield "1,000,000 format specs in one another", lambda n: b"f'" + b"{x:" * (n * 500_000) + b"'\n", REFUSED
+    yield "1,000,000 nested format specs", lambda n: b"f'" + b"{x:" * (n * 500_000) + b"'\n", REFUSED
     yield "a nested f-string of 1,000,000 fields", lambda n: b"f'{f\"" + b"{a}" * (n * 500_000) + b"\"}'\n", ACCEPTED
     yield "1,000,000 nested f-strings", lambda n: b"f'" + b"{f\"{a}\"}" * (n * 500_000) + b"'\n", ACCEPTED
     yield "1,000,000 f-strings side by side", lambda n: b"(" + b"f'{a}b'\n" * (n * 500_000) + b")\n", ACCEPTED
@@ -127,13 +127,13 @@ def sources_of_formatted():
 
 
 def with_fault(source):
-    """A source with a fault of the listing behind it, before its last line end."""
+    """A source with a fault of the listing after it, before its last line end."""
     make = lambda n: source.make(n).removesuffix(b"\n") + b"$\n"  # noqa: E731
     return Source(f"{source.name}, and `$`", make, dict.fromkeys(source.dues, REFUSED), source.options)
 
 
 def all_sources():
-    """All sources, as they are and with a fault behind them."""
+    """All sources, as they are and with a fault after them."""
     for name, make, listed, read in sources_of_lines():
         yield Source(name, make, {"tokens": listed, "dump": read, "unparse": read})
     for name, make, read in sources_of_trees():

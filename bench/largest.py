@@ -3,8 +3,8 @@
 
     bench/largest.py [COMMAND ..] [--program PATH]
 
-The source has comments alone, a line a megabyte long, so that its tree is empty. Each command accepts the one, and says of the other that it
-can't be read. COMMAND is `tokens`, `dump` or `unparse`; without one all three are run. It takes some gigabytes of memory, and one on the
+The source has comments alone, a line a megabyte long, so that its tree is empty. Each command has to accept the first, and to report that the
+second can't be read. COMMAND is `tokens`, `dump` or `unparse`; without one all three are run. It takes some gigabytes of memory, and one on the
 disk. The exit status is 0, but 1 where a command ended otherwise, and 2 where nothing could be run.
 """
 

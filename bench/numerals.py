@@ -3,10 +3,10 @@
 
     bench/numerals.py [COMMAND ..] [--program PATH] [--quick]
 
-Sources of 1, 2, 5 and 10 MB: floats and integers of Python's library, as often as they stand there, in turn; doubles of 64 random bits; and one
-number alone, of so many digits. The time is to grow as the source does: where a megabyte takes more than 1.1 times what it took at the size
-before, the line is marked. After that single numbers, integers of 4,300 digits among them: what twice as many lines take longer than some
-lines, divided by their count, is to be less than a millisecond. COMMAND is `dump` or `unparse`; without one it is `dump`.
+Sources of 1, 2, 5 and 10 MB: floats and integers of Python's library, as often as they stand there, in turn; doubles of 64 random bits; and a
+single number of as many digits. The time has to grow as the source does: where a megabyte takes more than 1.1 times what it took at the size
+before, the line is marked. After that single numbers are measured, integers of 4,300 digits among them: the time of twice as many lines less that of
+some lines, divided by their count, has to be less than a millisecond. COMMAND is `dump` or `unparse`; without one it is `dump`.
 
 Times are those of the processor, the least of three rounds; growth from less than 20 ms isn't judged. The exit status is 0, but 1 where a
 line is marked, and 2 where nothing could be measured.
@@ -92,7 +92,7 @@ def sources(library, folder):
 
 
 def single_numbers():
-    """The name of each number of which the time is told, and the number."""
+    """The name of each number whose time is measured, and the number."""
     value = random.Random(1).randrange(10**4299, 10**4300)
     yield "integer of 4,300 digits, decimal", str(value)
     yield "the same, hexadecimal", hex(value)

@@ -1,13 +1,13 @@
 #!/usr/bin/env python3
-"""Checks that going on from a cursor takes no new listing: near the end of a source of 48 MB it is to take at most a tenth of
+"""Checks that resuming at a cursor takes no new listing: near the end of a source of 48 MB it has to take at most a tenth of
 the time that listing up to there takes.
 
     bench/resume.py [--program PATH] [--timer PATH]
 
-The cursor is taken by `pyast tokens --count`, behind seven eighths of the entries. The timer is the program of
-crates/measures, which is built anew where it isn't there; it lists up to the cursor (`Lister::resume_checked`) and goes on
-from it (`Lister::resume`), and tells both times. The exit status is 0, but 1 where going on takes longer or leaves other
-entries than it should, and 2 where nothing could be measured.
+The cursor is taken by `pyast tokens --count`, after seven eighths of the entries. The timer is the program of
+crates/measures, which is built anew where it isn't there; it lists up to the cursor (`Lister::resume_checked`),
+resumes there (`Lister::resume`), and reports both times. The exit status is 0, but 1 where resuming takes longer or leaves
+other entries than it should, and 2 where nothing could be measured.
 """
 
 import argparse
@@ -50,7 +50,7 @@ def entry_count(program, path):
 
 
 def cursor_behind(program, path, count):
-    """The text of the cursor behind so many entries: what the last line says."""
+    """The text of the cursor after so many entries: what the last line says."""
     process = subprocess.Popen([program, "tokens", "--count", str(count), path], stdout=subprocess.PIPE)
     end = b""
     while block := process.stdout.read(1 << 20):
@@ -62,7 +62,7 @@ def cursor_behind(program, path, count):
 
 
 def times(timer, path, cursor):
-    """The entries that were left, and the seconds of listing and of going on: of some runs, the least of each."""
+    """The entries that were left, and the seconds of listing and of resuming: of some runs, the least of each."""
     left, listing, resuming = set(), [], []
     for _ in range(ROUNDS):
         with open(path, "rb") as file:
@@ -77,7 +77,7 @@ def times(timer, path, cursor):
 
 
 def main():
-    parser = argparse.ArgumentParser(description="Checks that going on from a cursor takes no new listing.")
+    parser = argparse.ArgumentParser(description="Checks that resuming at a cursor takes no new listing.")
     parser.add_argument("--program", default=os.path.join(TOP, "crates", "pyast", "out", "pyast"), metavar="PATH",
                         help="the built program; default: that of this project")
     parser.add_argument("--timer", default=os.path.join(TOP, "crates", "measures", "out", "measures"), metavar="PATH",
@@ -97,9 +97,9 @@ def main():
         left, listing, resuming = times(timer, path, cursor)
     share = resuming / listing
     well = left == {entries - count} and share <= LARGEST_SHARE
-    print(f"{SIZE / 1e6:.0f} MB, {entries} entries; the cursor behind {count} of them: {cursor}")
-    print(f"left: {' and '.join(map(str, sorted(left)))}, and {entries - count} are due")
-    print(f"listing up to the cursor {listing:.3f} s, going on from it {resuming * 1e6:.2f} µs: {share:.1e} of it; {LARGEST_SHARE} is allowed")
+    print(f"{SIZE / 1e6:.0f} MB, {entries} entries; the cursor after {count} of them: {cursor}")
+    print(f"left: {' and '.join(map(str, sorted(left)))}, where {entries - count} should be")
+    print(f"listing up to the cursor {listing:.3f} s, resuming there {resuming * 1e6:.2f} µs: {share:.1e} of it; {LARGEST_SHARE} is allowed")
     print("as it should be" if well else "NOT as it should be")
     return int(not well)
 

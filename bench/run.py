@@ -80,7 +80,7 @@ class Runs:
 
 
 def watch(pid):
-    """The peak of memory of a program until it ends, in MB, or none where the system doesn't tell it."""
+    """The peak of memory of a program until it ends, in MB, or none where the system doesn't give it."""
     peak = None
     while not os.waitid(os.P_PID, pid, os.WEXITED | os.WNOWAIT | os.WNOHANG):
         with contextlib.suppress(OSError, StopIteration), open(f"/proc/{pid}/status", encoding="utf-8") as file:

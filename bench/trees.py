@@ -4,7 +4,7 @@
     bench/trees.py [--timer PATH] [--statements N]
 
 The timer is the program of crates/measures, which is built anew where it isn't there; with --backend rattle in its folder `rt run`
-builds it by the other compiler. Of a tree of N statements it tells how long each call takes, and of `dump` the megabytes of text a
+builds it by the other compiler. Of a tree of N statements it reports how long each call takes, and of `dump` the megabytes of text a
 second; of a tree of one statement how many expressions may be nested before the stack of 8 MB ends the program. The exit
 status is 0, 1 where `dump` writes less than 200 MB a second, and 2 where nothing could be measured.
 """
@@ -31,7 +31,7 @@ def limit_stack():
 
 
 def told(timer, call, shape, count):
-    """What the timer tells of a call, or None where the stack didn't hold the tree."""
+    """What the timer reports of a call, or None where the stack didn't hold the tree."""
     done = subprocess.run([timer, "trees", call, shape, str(count)], stdout=subprocess.PIPE, stderr=subprocess.DEVNULL, preexec_fn=limit_stack, check=False)
     if done.returncode > 0:
         refuse(f"{timer} trees {call} {shape} {count} ended with status {done.returncode}")

@@ -3,10 +3,10 @@
 
     conformance/compare.py [FOLDER ..] [--quick] [--mutate N]
 
-Every .py file below the folders is listed by both, with and without -e, and from the standard input too; by default the
-folder is that of Python's own library, and the sources of the library's own tests of `tokenize` are listed too. Where the two differ, what pyast has to
-write is worked out again from the module's tokens and the rules of docs/DECISIONS.md: if it is that, to the byte, the
-difference is put in the class of the rule. Any other difference is a failure, shown by the smallest input that has it.
+Every .py file below the folders is listed by both, with and without -e, and from the standard input too; by default the folder is
+that of Python's own library, and the sources of the library's own tests of `tokenize` are listed too. Where the two differ, what
+pyast has to write is worked out again from the module's tokens and the rules of docs/DECISIONS.md: if pyast wrote that, to the
+byte, the difference has the class of the rule. Any other difference is a failure, shown by the smallest input that has it.
 
 The exit status is 0 where every difference has a class, 1 where one has none, and 2 where nothing could be compared; with
 --or-skip it is 0 too where there is no Python 3.11.
@@ -145,7 +145,7 @@ def begins_name(program, character):
 
 
 def continues_name(program, character):
-    """Whether pyast has to let a name go on with the character."""
+    """Whether for pyast a name has to continue with the character."""
     if is_newer(character):
         return accepts(program, f"a{character}\n")
     return character in LATER_IN_NAMES or f"a{character}".isidentifier()
@@ -184,7 +184,7 @@ def find_cookie(body):
 
 
 def read_encoding(data):
-    """The encoding's name as it is shown, the bytes behind a mark, and the class of a difference that comes from here."""
+    """The encoding's name as it is shown, the bytes after a mark, and the class of a difference that comes from here."""
     marked = data.startswith(BYTE_ORDER_MARK)
     body = data[len(BYTE_ORDER_MARK):] if marked else data
     row, cookie = find_cookie(body)
@@ -447,7 +447,7 @@ def show_outcomes(program, data, path, exact, mine, real):
 
 
 def show_failure(program, folder, result, reduce):
-    """Prints a difference without class, on its smallest input unless told not to look for it."""
+    """Prints a difference without class, on its smallest input unless asked not to look for it."""
     data = result.data
     if result.path:
         with open(result.path, "rb") as file:

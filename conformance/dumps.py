@@ -96,7 +96,7 @@ OF_FIELDS = {
     QUOTED: b"x = f'''{\"it's\"}'''\n",
     EQUAL: b"x = f'a' f'{f\"{x=}\"}'\n",
 }
-# What calls the program with `--whole` behind all other words.
+# What calls the program with `--whole` after all other words.
 WITH_WHOLE = ("sh", "-c", 'exec "$0" "$@" --whole')
 # What Python's parser says where it stops at a limit of its own, looks closer at a number than the tokens do, or takes the brackets
 # of `(b).c: d` for those of the whole target.
@@ -157,7 +157,7 @@ def first_match(tree, data):
 
 
 def due_fault(tree, data):
-    """The fault that pyast has to tell of a source that Python accepts, for the first form that it leaves out; None without one."""
+    """The fault that pyast has to report of a source that Python accepts, for the first form that it leaves out; None without one."""
     try:
         for token in tokenize.tokenize(io.BytesIO(data).readline):
             found = own_fault(token)
@@ -184,7 +184,7 @@ def byte_fault(data):
 
 
 def told_fault(outcome):
-    """The fault that pyast tells, without a class, or None."""
+    """The fault that pyast reports, without a class, or None."""
     line = FAULT_LINE.fullmatch(outcome.err.decode("utf-8", "replace"))
     return Fault(int(line[1]), int(line[2]), line[3], None) if line and outcome.status == 1 and not outcome.out else None
 
@@ -433,7 +433,7 @@ def mutants(count, seed, paths):
 
 
 def show_failure(program, result, reduce):
-    """Prints a difference without class, on its smallest input unless told not to look for it."""
+    """Prints a difference without class, on its smallest input unless asked not to look for it."""
     print(f"\n{UNEXPLAINED}: {result.name}")
     if not reduce:
         return

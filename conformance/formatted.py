@@ -27,7 +27,7 @@ EQUAL = "left out: `=` in a nested f-string"
 NAMED = "left out: named escape"
 FORM = "name form"
 
-# The units of the texts of an f-string, and its fields: the text of each expression, and whether `=` stands behind it.
+# The units of the texts of an f-string, and its fields: the text of each expression, and whether `=` stands after it.
 Parts = collections.namedtuple("Parts", "units fields")
 
 
@@ -91,7 +91,7 @@ def tokens_in_fields(literal):
 
 
 def with_fields(tokens):
-    """Some tokens, and behind each f-string those of its fields, at any depth."""
+    """Some tokens, and after each f-string those of its fields, at any depth."""
     for token in tokens:
         yield token
         if is_formatted(token):
@@ -128,7 +128,7 @@ def left_out_in_field(token):
 
 
 def left_out(literal):
-    """What pyast leaves out in an f-string that Python accepts, and how it tells so; or None."""
+    """What pyast leaves out in an f-string that Python accepts, and how it reports that; or None."""
     try:
         found = next(filter(None, map(left_out_in_field, tokens_in_fields(literal))), None)
     except (tokenize.TokenError, SyntaxError, IndexError):

@@ -17,7 +17,7 @@ SPECS = (">", "5", ".3f", "%Y", "é", ":", "!r", "=", "#x", "\\x7b", "\\n", "'",
 OPERATORS = ("+", "-", "**", "%", "==", "!=", "<=", ">=", "<", "and", "or", "in", "is not", "@", ">>")
 BLANKS = ("", "", "", "", " ", "  ", "\t")
 ALPHABET = "{}!:=a'\"\\()#f"
-# Where a short body stands: alone, behind a name in a field, in a format spec, and in a raw f-string.
+# Where a short body stands: alone, after a name in a field, in a format spec, and in a raw f-string.
 FRAMES = ("f'''{}'''\n", "f'''{{a{}}}'''\n", "f'''{{a:{}}}'''\n", 'rF"{}"\n', "f'''{{f\"{}\"}}'''\n")
 # The places of a module where f-strings may stand or have to be refused, two blanks between them.
 PLACES = r"""{0}  x = {0}  {0}; {0}  {0}.a  {0}[0]  x[{0}]  x[{0}:{0}]  {0}({0})  f({0}, *{0}, a={0}, **{0})  -{0}  not {0}  {0} + {0}  {0} % x
@@ -231,8 +231,8 @@ def hostile_texts():
     yield Hostile("backslashes", "f'" + "\\\\" * half + "'\n")
     yield Hostile("backslashes before braces", "f'" + "\\{{" * half + "'\n")
     yield Hostile("escapes", "f'" + "\\x41\\n\\'" * (MANY // 8) + "'\n")
-    yield Hostile("a bad escape behind all", "f'" + "a" * MANY + "\\x4'\n", "bad escape")
-    yield Hostile("a named escape behind all", "f'" + "{x}" * (MANY // 30) + "\\N{DASH}'\n", "named escape")
+    yield Hostile("a bad escape after all else", "f'" + "a" * MANY + "\\x4'\n", "bad escape")
+    yield Hostile("a named escape after all else", "f'" + "{x}" * (MANY // 30) + "\\N{DASH}'\n", "named escape")
     yield Hostile("`\\N{` without an end", "f'" + "\\N{" * (MANY // 3) + "'\n", "named escape")
     yield Hostile("a text in a raw f-string", "rf'" + "\\n" * half + "'\n")
     yield Hostile("lines", "f'''" + "a\n" * half + "'''\n")

@@ -7,9 +7,10 @@ The f-strings are those of every .py file below the folders (by default Python's
 of a module; all bodies of at most N characters that may stand for something there; N that are made by chance; and N of all these that are
 changed. What `dump` writes has to be what `ast.dump` gives, for some of them in all styles, or both have to refuse the source. The text of
 `unparse` has to give that tree again, with no more brackets and no more tokens than that of `ast.unparse`, and it has to be what
-docs/DECISIONS.md says of literals, but for brackets that it saves. Differences have to be of a class that is told there.
+docs/DECISIONS.md says of literals, but for brackets that it saves. Each difference has to be of a class that docs/DECISIONS.md has.
 
-Before that hostile f-strings, of a megabyte or as deep as may be: each has to be refused as is due, or to have the tree that is due.
+Before that hostile f-strings are tried, of a megabyte or nested as deep as they may be: each has to be refused for its reason, or to have
+its tree.
 
 The exit status is 0 where every difference has a class, 1 where one has none, and 2 where nothing could be compared; with --or-skip it is
 0 too where there is no Python 3.11.
@@ -31,7 +32,7 @@ from unparse import Result, coming_back, misplaced_samples
 from values import tokens_in
 
 UNBARE = re.compile(r"[\0\r\n\\'\"\ud800-\udfff]")
-# What `ast.unparse` has otherwise than pyast: a blank behind `except*`, and empty lines before functions and classes.
+# What `ast.unparse` has otherwise than pyast: a blank after `except*`, and empty lines before functions and classes.
 OTHERWISE = {"except* ": "except *", "\n\n": "\n"}
 BRACKETS_AND_BLANKS = str.maketrans("", "", "() ")
 
@@ -71,7 +72,7 @@ class Writer(ast._Unparser):  # pylint: disable=protected-access
         self.write(" ." if is_number else ".", node.attr)
 
     def visit_Subscript(self, node):
-        """One starred element in an index has no comma behind it."""
+        """One starred element in an index has no comma after it."""
         elts = node.slice.elts if isinstance(node.slice, ast.Tuple) else ()
         if len(elts) != 1 or not isinstance(elts[0], ast.Starred):
             super().visit_Subscript(node)
@@ -90,7 +91,7 @@ class Writer(ast._Unparser):  # pylint: disable=protected-access
             super()._write_constant(value)
 
     def visit_JoinedStr(self, node):
-        """One f-string, behind a text of kind `u` where it has that kind."""
+        """One f-string, after a text of kind `u` where it has that kind."""
         values = node.values
         self.check_bare("", 1)
         if "u" in kinds(values):
@@ -150,7 +151,7 @@ def judge(text, tree):
     for other, own in OTHERWISE.items():
         mine, due = mine.replace(other, own), due.replace(other, own)
     same = mine == due if mine.count("(") == due.count("(") else mine.translate(BRACKETS_AND_BLANKS) == due.translate(BRACKETS_AND_BLANKS)
-    return None if same else f"the text is {mine!r}; due is {due!r}"
+    return None if same else f"the text is {mine!r}, and should be {due!r}"
 
 
 # --- hostile f-strings ------------------------------------------------------------------------------------------------
@@ -169,7 +170,7 @@ def why_hostile(program, case):
             return f"Python refuses it: {error}"
         wrong = [dumped] if dumped != Outcome(0, python_dump(tree, {}), b"") else []
     if wrong:
-        return f"status {wrong[0].status}: {(wrong[0].out[:200] or wrong[0].err).decode('utf-8', 'replace')!r}; due is {case.fault or 'its tree'!r}"
+        return f"status {wrong[0].status}: {(wrong[0].out[:200] or wrong[0].err).decode('utf-8', 'replace')!r} in place of {case.fault or 'its tree'!r}"
     return None if case.fault else coming_back(program, (), dumped, mine)
 
 
@@ -180,13 +181,13 @@ def compare_hostile(program, case):
 
 
 def hostile_failures(options):
-    """The hostile f-strings with another answer than is due."""
+    """The hostile f-strings with another answer than they should have."""
     cases = hostile_sources()
     results = results_of(functools.partial(compare_hostile, options.program), len(cases), cases, options.jobs, functools.partial(prepare, True))
     failures = [one for one in results if one.found]
     for failure in failures:
         print(f"{failure.name}: {failure.why}")
-    print(f"{len(cases)} hostile f-strings, {len(failures)} of them with another answer than is due", flush=True)
+    print(f"{len(cases)} hostile f-strings, {len(failures)} of them with another answer than they should have", flush=True)
     return failures
 
 

@@ -5,10 +5,10 @@ top=$(dirname "$(dirname "$(readlink -f "${BASH_SOURCE[0]}")")")
 room=$(mktemp -d)
 trap 'rm -rf "$room"' EXIT
 
-# Ends the run where a text isn't the one that is due.
+# Ends the run where a text isn't the expected one.
 same() {
   if [ "$1" != "$2" ]; then
-    printf 'install.sh: %s is due, and not %s\n' "$2" "$1" >&2
+    printf 'install.sh: %s in place of %s\n' "$1" "$2" >&2
     exit 1
   fi
 }

@@ -6,8 +6,8 @@
 The match statements are those of every .py file below the folders (by default Python's own library with its tests), each a source of its
 own; N that are made by chance, of all patterns and subjects, with more brackets and commas than they need; and N of both kinds that are
 changed in one token. What `dump` writes has to be what `ast.dump` gives, or both have to refuse the source; `unparse`'s text has to give that
-tree again, with no more brackets and no more tokens than the text of `ast.unparse` has. Differences have to be of a class of
-docs/DECISIONS.md.
+tree again, with no more brackets and no more tokens than the text of `ast.unparse` has. Each difference has to be of a class
+that docs/DECISIONS.md has.
 
 The exit status is 0 where every difference has a class, 1 where one has none, and 2 where nothing could be compared; with --or-skip it is
 0 too where there is no Python 3.11.
@@ -85,7 +85,7 @@ def class_pattern(chance, depth):
 
 
 def closed(chance, depth):
-    """What `|` may stand behind."""
+    """What may stand before `|`."""
     if depth == 0:
         return chance.choice((*NAMES, *LITERALS, dotted(chance)))
     inner = depth - 1

@@ -1,15 +1,16 @@
 #!/usr/bin/env python3
 """Runs the built program where no contract can say what has to hold: its words, files, statuses and lines of faults, as a shell sees them; how
-it reads and writes; that memory, and 4 MB of stack (4.5 for f-strings), suffice past every round number.
+it reads and writes, at a terminal too; that memory, and 4 MB of stack (4.5 for f-strings), suffice past every round number.
 
     conformance/program.py [--program PATH]
 
-What is due stands in this file or follows from the source, and is never the program's own output. The exit status is 0, but 1 where a check
+What is expected stands in this file or follows from the source, and is never the program's own output. The exit status is 0, but 1 where a check
 fails, and 2 where the program isn't there.
 """
 
 import argparse
 import os
+import pty
 import resource
 import select
 import subprocess
@@ -42,7 +43,7 @@ class Checks:
         self.program, self.made, self.failed = program, 0, 0
 
     def fail(self, name, text):
-        """Tells a failure."""
+        """Reports a failure."""
         self.failed += 1
         print(f"{name}: {text[:300]}", flush=True)
 
@@ -120,7 +121,7 @@ def wait_for(process, size):
 
 
 def open_pipe(checks, words, data):
-    """A run whose input stays open behind some bytes."""
+    """A run whose input stays open after some bytes."""
     process = subprocess.Popen([checks.program, *words], stdin=subprocess.PIPE, stdout=subprocess.PIPE, stderr=subprocess.DEVNULL)
     process.stdin.write(data)
     process.stdin.flush()
@@ -158,6 +159,20 @@ def check_streams(checks):
     check_memory(checks, "a dump isn't held whole", "dump", b"x = f(a, b=1)\n" * 100_000, DUMP_MEMORY)
 
 
+def check_terminal(checks):
+    """At a terminal one end of input, which Ctrl-D gives at the start of a line, ends each command: no read follows it."""
+    for typed, texts in ((b"x = 1\n", (LISTING, DUMP, "x = 1\n")), (b"", (None, "Module(body=[], type_ignores=[])\n", ""))):
+        for command, text in zip(("tokens", "dump", "unparse"), texts):
+            terminal, lent = pty.openpty()
+            process = subprocess.Popen([checks.program, command], stdin=lent, stdout=subprocess.PIPE, stderr=subprocess.DEVNULL)
+            os.close(lent)
+            os.write(terminal, typed + b"\x04")
+            written = wait_for(process, 1 << 16).decode()
+            checks.is_due(f"{command} at a terminal, {len(typed)} bytes typed", (ended(process), written if text is not None else None), (0, text))
+            process.stdout.close()
+            os.close(terminal)
+
+
 def check_memory(checks, what, command, source, size):
     """So many bytes of memory suffice for a command on a source."""
     with tempfile.NamedTemporaryFile() as file:
@@ -172,7 +187,7 @@ def check_memory(checks, what, command, source, size):
 
 
 def check_large(checks):
-    """Sources past every round number: rows, columns, entries, statements, levels, long lines and literals, and faults behind them."""
+    """Sources past every round number: rows, columns, entries, statements, levels, long lines and literals, and faults after them."""
     rows = 100_001
     source = b"x = 1\n" * rows
     outcome = run([checks.program, "tokens"], input=source)
@@ -269,7 +284,7 @@ def main():
     if not os.access(checks.program, os.X_OK):
         print(f"program.py: {checks.program} isn't there", file=sys.stderr)
         return 2
-    for part in (check_words, check_files, check_streams, check_large, check_stack):
+    for part in (check_words, check_files, check_streams, check_terminal, check_large, check_stack):
         part(checks)
     print(f"{checks.made} checks of the built program, {checks.failed} failed")
     return int(bool(checks.failed))

@@ -36,7 +36,7 @@ def main():
     for fault in faults:
         print(f"docs/LIBRARY.md: {fault}")
     if not faults:
-        print(f"docs/LIBRARY.md quotes {len(blocks)} pieces of crates/uses")
+        print(f"docs/LIBRARY.md quotes {len(blocks)} parts of crates/uses")
     return int(bool(faults))
 
 

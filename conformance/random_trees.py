@@ -1,5 +1,5 @@
 #!/usr/bin/env python3
-"""Has random trees read, written and read again, as they are and changed.
+"""Checks that random trees, as they are and changed, come back when they are written and read again.
 
     conformance/random_trees.py [--count N] [--seed N] [--jobs N] [--program PATH]
 
@@ -7,7 +7,7 @@ Sources of trees of Python 3.11 and of 3.12, of all classes of nodes, are made b
 random` reads them, writes each statement by `unparse`, reads its text by `decode` and `parse`, and compares the two trees by `same`, in
 both versions. It does so too with three trees that it makes of each, in which a part of an expression, an expression and a name come
 from other statements: so they stand where they may not, or as what they may not be. Each tree has to come back where `well_formed` says
-that it is well formed, and nowhere else. Until N statements were compared in all. The exit status is 0 where all are as they should be,
+that it is well formed, and nowhere else. At least N statements are compared. The exit status is 0 where all are as they should be,
 1 where one is not (the smallest source is shown), and 2 where nothing could be compared. Any Python from 3.11 on will do.
 """
 
@@ -65,7 +65,7 @@ def source(seed, number):
 
 
 def counts(program, data):
-    """What the program counts in a source, or what else it tells."""
+    """What the program counts in a source, or what else it writes."""
     done = run([program, "random"], input=data)
     told = TOLD.fullmatch(done.out)
     if done.status != 0 or not told:
@@ -75,13 +75,13 @@ def counts(program, data):
 
 
 def compare(program, seed, number):
-    """What is counted in a source, or its number and what is told of it."""
+    """What is counted in a source, or its number and what is written of it."""
     found, told = counts(program, source(seed, number))
     return found, number, told
 
 
 def show(program, seed, number, told):
-    """Shows what is told of a source, and the smallest one of which it is told."""
+    """Shows what is written of a source, and the smallest one of which it is written."""
     data = source(seed, number)
     print(f"source {number} of the seed {seed}: {told}")
     if told.endswith("lost\n"):

@@ -4,7 +4,7 @@ they give.
 
     conformance/recipes.py
 
-What is due comes from Python's own `tokenize`. The exit status is 0, but 1 where a recipe gives something else.
+What is expected comes from Python's own `tokenize`. The exit status is 0, but 1 where a recipe gives something else.
 """
 
 import collections
@@ -59,7 +59,7 @@ def as_data(recipe, words):
 
 
 def mistakes():
-    """The rows of the table of mistakes: a source, and what `dump` tells of it."""
+    """The rows of the table of mistakes: a source, and what `dump` reports of it."""
     with open(os.path.join(TOP, "docs", "USE.md"), encoding="utf-8") as file:
         table = file.read().split("\n## Common mistakes\n", 1)[1].split("\n## ", 1)[0]
     for source, told in re.findall(r"^\| `(.*?)` \| `(.*?)` \|", table, re.MULTILINE):

@@ -1,8 +1,7 @@
-"""Trees of Python 3.11 made by chance, and for each a source that is surely its: every expression in it has brackets of its own.
+"""Trees of Python 3.11 made by chance, and for each a source that can have no other tree: every expression in it has brackets of its own.
 
 All classes of nodes and all their fields occur but those of what pyast leaves out: without `--whole` floats, complex numbers, f-strings
-and `match`. Where a maker is told so, there are the types of Python 3.12 too: the statement `type`, and parameters of types; or the whole
-language.
+and `match`. A maker can be asked for the types of Python 3.12 too, the statement `type` and parameters of types, or for the whole language.
 """
 
 import ast
@@ -83,7 +82,7 @@ class Maker:
         return self.starred(depth) if self.is_rare() else self.expr(depth)
 
     def value(self, depth):
-        """What may stand behind `=`, `in` of `for` or `return`: a star alone, too."""
+        """What may stand after `=`, `in` of `for` or `return`: a star alone, too."""
         return self.starred(depth) if self.is_rare() and self.is_rare() else self.expr(depth)
 
     def starred(self, depth):
@@ -473,12 +472,12 @@ def bracketed(node):
 
 
 def optional(front, node):
-    """A part that may be missing, behind its front."""
+    """A part that may be missing, after its front."""
     return "" if node is None else f"{front}{bracketed(node)}"
 
 
 def listed(nodes):
-    """Parts, each with a comma behind it."""
+    """Parts, each with a comma after it."""
     return "".join(f"{bracketed(node)}, " for node in nodes)
 
 

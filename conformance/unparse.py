@@ -7,10 +7,11 @@ Of every .py file below the folders (by default that of Python's own library wit
 parts of the others that it accepts: Python has to give the text the tree of the source; `dump` has to write the same of both, byte for
 byte; the text's own text has to be the text; and it may have no more opening brackets than that of `ast.unparse`, where that is a text of
 the tree. A source that `dump` refuses has to be refused in the same words. Random sources are made of random trees, each expression in
-brackets of its own, so that they are surely those trees. With --whole it is `pyast unparse --whole` that is compared, and the random
+brackets of its own, so that they can have no other tree. With --whole it is `pyast unparse --whole` that is compared, and the random
 trees have all numbers.
 
-Before that the worked examples: each has its text, to the byte, and that less any one pair of round brackets is refused or is another tree.
+Before that the worked examples are tried: each has its text, to the byte, and without any one pair of its round brackets the text is
+refused or has another tree.
 
 Where pyast and Python differ about a source, the difference has to be of a class of conformance/dumps.py. Any other is a failure, shown
 by the smallest input that has it. The exit status is 0 where every difference has a class, 1 where one has none, and 2 where nothing
@@ -151,7 +152,7 @@ def faults_of_row(program, row):
     source, text, words = row
     mine = outcome_of(program, ["unparse", *words], source.encode())
     if mine != Outcome(0, text.encode(), b""):
-        yield f"status {mine.status}, {mine.out or mine.err!r}; due is {text!r}"
+        yield f"status {mine.status}, {mine.out or mine.err!r}; should be {text!r}"
         return
     dumped = outcome_of(program, ["dump", *words], source.encode())
     why = coming_back(program, words, dumped, mine)
@@ -183,7 +184,7 @@ def random_sources(count, seed, whole):
 
 
 def show_failure(program, result, reduce, find=examine):
-    """Prints a difference without class, on its smallest input unless told not to look for it; a function finds the difference again."""
+    """Prints a difference without class, on its smallest input unless asked not to look for it; a function finds the difference again."""
     print(f"\n{UNEXPLAINED}: {result.name}: {result.why}")
     if not reduce or result.data is None:
         return

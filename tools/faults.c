@@ -1,7 +1,7 @@
 // Preloaded into the built program by tools/refusals: makes one of its calls fail, or move a single byte.
 //
 // FAULTS_KIND names the calls that count (below), FAULTS_AT the number of the first that goes wrong, from 1 on (0: none), and
-// FAULTS_ALL, where it is set, has all calls behind it go wrong too. FAULTS_FILE is a file of two 64-bit numbers, both 0 at the
+// FAULTS_ALL, where it is set, has all calls after it go wrong too. FAULTS_FILE is a file of two 64-bit numbers, both 0 at the
 // start: the calls that were counted, and those that went wrong. It is mapped, so that it holds however the program ends.
 
 #define _GNU_SOURCE
