@@ -1,6 +1,7 @@
 pub mod Arguments
 pub mod Aside
 pub mod Chains
+pub mod Clauses
 pub mod FormalHeights
 pub mod Found
 pub mod Lists

@@ -1,7 +1,7 @@
 //! The clauses of comprehensions.
 
 ghost use Rattle.std.specs.Prelude.{◌≡◌, ◌+◌, ◌++◌, ◌≤◌, ◌∷◌, [], List, IfOk, IfSome};
-ghost use Rattle.std.specs.Prelude.{MatchResult, length, map, option_map};
+ghost use Rattle.std.specs.Prelude.{MatchOption, MatchResult, length, map, option_map};
 ghost use Rattle.pytree_node.specs.TreeOf.{comprehension_of, tree_of};
 ghost use Rattle.pytree_node.specs.Trees as plain;
 ghost use Rattle.pytoken.specs.Terminals as terminals;
@@ -9,6 +9,7 @@ ghost use Rattle.pygrammar.specs.Entries as entries;
 ghost use Rattle.pygrammar.specs.Reader as reader;
 ghost use Rattle.pygrammar.specs.Targets.{stored};
 ghost use Rattle.pyparse_nodes.specs.Answers.{Answered, Failed};
+ghost use Rattle.pyparse_expr.specs.Inner.Clauses.{IsCutStart, MadeClause, NoClause, NoStart, StartsAt};
 ghost use Rattle.pyparse_expr.specs.Inner.Found.{ClauseAt, ClausesAt, TestsAt};
 ghost use Rattle.pyparse_expr.specs.Inner.Lists.{item_of, items_of};
 ghost use Rattle.pyparse_expr.specs.Inner.PlacedLists.{TuplePlaced};
@@ -191,7 +192,17 @@ fn for_in<R: Recorder>(
         recorder,
     )?;
     let tests = ifs(alloc, tokens, iter.next, depth, recorder)?;
-    match clause_of(target, iter, tests, is_async) {
+    clause_made(target, iter, tests, is_async)
+}
+
+/// A clause of these parts.
+#[inline(never)]
+fn clause_made(target: Read, iter: Read, ifs: Items, is_async: bool) -> Result<ForClause, Stop>
+    ensures { MatchResult result
+        (λ c. MadeClause target iter ifs is_async c)
+        (λ s. NoClause target iter ifs is_async s) }
+{
+    match clause_of(target, iter, ifs, is_async) {
         Some(clause) => Ok(clause),
         None => Err(Stop::NoForm),
     }
@@ -258,6 +269,37 @@ fn push_clause(clauses: ForClauses, clause: ForClause) -> Result<ForClauses, Sto
     })
 }
 
+/// Where a clause's target begins, and whether an `async` stands in front of its `for`.
+#[derive(Clone, Copy)]
+pub(crate) struct ClauseStart {
+    pub is_async: bool,
+    pub at: usize,
+}
+
+/// The start of a clause at the place, if one begins there.
+fn clause_start(tokens: &[Terminal], at: usize) -> Result<Option<ClauseStart>, Stop>
+    ensures { MatchResult result
+        (λ o. MatchOption o (NoStart tokens.now at) (λ s. StartsAt tokens.now at s))
+        (λ s. IsCutStart tokens.now at s) }
+{
+    if is_word(tokens, at, Keyword::For) {
+        return Ok(Some(ClauseStart {
+            is_async: false,
+            at: at + 1,
+        }));
+    }
+    if !is_word(tokens, at, Keyword::Async) {
+        return Ok(None);
+    }
+    if !is_word(tokens, at + 1, Keyword::For) {
+        return Err(Stop::NoForm);
+    }
+    Ok(Some(ClauseStart {
+        is_async: true,
+        at: at + 2,
+    }))
+}
+
 /// The clauses of a comprehension, one after another.
 #[cycle(reading)]
 pub(crate) fn comps<R: Recorder>(
@@ -282,17 +324,12 @@ pub(crate) fn comps<R: Recorder>(
 {
     let mut clauses = no_clauses(alloc, at);
     'more: loop {
-        if is_word(tokens, clauses.next, Keyword::For) {
-            let clause = for_in(alloc, tokens, false, clauses.next + 1, depth, recorder)?;
-            clauses = push_clause(clauses, clause)?;
-        } else if is_word(tokens, clauses.next, Keyword::Async) {
-            if !is_word(tokens, clauses.next + 1, Keyword::For) {
-                return Err(Stop::NoForm);
+        match clause_start(tokens, clauses.next)? {
+            Some(start) => {
+                let clause = for_in(alloc, tokens, start.is_async, start.at, depth, recorder)?;
+                clauses = push_clause(clauses, clause)?;
             }
-            let clause = for_in(alloc, tokens, true, clauses.next + 2, depth, recorder)?;
-            clauses = push_clause(clauses, clause)?;
-        } else {
-            return Ok(clauses);
+            None => return Ok(clauses),
         }
     }
 }

@@ -1,7 +1,7 @@
 //! The parameters of a function, and `lambda`.
 
 ghost use Rattle.std.specs.Prelude.{◌≡◌, ◌+◌, ◌≤◌, ◌<◌, ◌++◌, ◌∷◌, ℕ, MatchResult, IfOk, List, OnOk, [], cond};
-ghost use Rattle.std.specs.Prelude.{length, max, true};
+ghost use Rattle.std.specs.Prelude.{false, length, max, true};
 ghost use Rattle.std.specs.Str.{chars};
 ghost use Rattle.unicode_normalization.specs.Forms.{nfkc};
 ghost use Rattle.pytree_node.specs.TreeOf.{arg_of, boxed_of, tree_of};
@@ -21,14 +21,14 @@ ghost use Rattle.pyparse_expr.specs.Inner.PlacedSignatures.{DefaultsBack, Parame
 ghost use Rattle.pyparse_expr.specs.Inner.PlacedSignatures.{SignaturePlaced, defaults_behind};
 ghost use Rattle.pyparse_expr.specs.Inner.Readings.{inner_reads};
 ghost use Rattle.pyparse_expr.specs.Readings.{IsOpen};
-ghost use Rattle.pyparse_expr.specs.Inner.Signatures.{ParameterAnswered, SignatureAt, collected_reads};
-ghost use Rattle.pyparse_expr.specs.Inner.Signatures.{gathered_reads, plain_reads};
+ghost use Rattle.pyparse_expr.specs.Inner.Signatures.{IsTall, MakesLambda, ParameterAnswered, SignatureAt};
+ghost use Rattle.pyparse_expr.specs.Inner.Signatures.{body_reads, collected_reads, gathered_reads, plain_reads};
 ghost use Rattle.pyparse_nodes.specs.Views.{Stands, first_is, seen};
 ghost use Rattle.pyplaces.specs.EntryPlaces as E;
 ghost use Rattle.pyplaces.specs.Placed.{Placed, PlacedPiece, PlacedSuffix};
 ghost use Rattle.pyplaces.specs.Recording.{Records};
 ghost use Rattle.pyplaces.specs.Rests.{StarSuffix};
-ghost use Rattle.pyplaces.specs.Stretches.{Stretch};
+ghost use Rattle.pyplaces.specs.Stretches.{Stretch, stretch};
 
 use crate::climbing::climb;
 use crate::depth::Depth;
@@ -517,11 +517,55 @@ pub(crate) fn lambda_step<R: Recorder>(
         Records R.after recorder.old ps recorder.new) }
 {
     let signature = parameters(alloc, tokens, false, at, depth, recorder)?;
+    lambda_body(alloc, tokens, signature, from, depth, recorder)
+}
+
+/// What follows the parameters of a lambda that begins at a place.
+#[cycle(reading)]
+#[inline(never)]
+fn lambda_body<R: Recorder>(
+    alloc: Global,
+    tokens: &[Terminal],
+    signature: Signature,
+    from: usize,
+    depth: Depth,
+    recorder: &mut R,
+) -> Result<Read, Stop>
+    requires within { signature.next ≤ length tokens.now }
+    requires open { IsOpen depth }
+    requires tall { IsTall signature }
+    ensures answered { Answered tokens.now depth.room (signature.next + 1)
+        (cap depth.room
+        (body_reads depth (formals.outcome (state_of signature.formal)) (seen tokens.now signature.next))) result }
+    ensures placed { (at : ℕ) → at ≡ from + 1 → (w : R)
+        → SignaturePlaced R.after tokens.now false at signature w recorder.old
+        → IfOk result (λ r. (ps : List Stretch) ×
+        Placed Level.Expression (terminals.Word Keyword.Lambda ∷ seen tokens.now at) from
+        (tree_of r.expr.value) (seen tokens.now r.next) r.next ps ×
+        Records R.after w ps recorder.new) }
+{
     if !is_op(tokens, signature.next, Exact::Colon) {
         return Err(Stop::NoForm);
     }
     let body = read_expression(alloc, tokens, signature.next + 1, depth.inner(), recorder)?;
+    finish_lambda(alloc, signature, from, body, depth.room, recorder)
+}
+
+/// A lambda that begins at a place, of what was read.
+#[inline(never)]
+fn finish_lambda<R: Recorder>(
+    alloc: Global,
+    signature: Signature,
+    from: usize,
+    body: Read,
+    room: usize,
+    recorder: &mut R,
+) -> Result<Read, Stop>
+    requires { IsTall signature }
+    ensures made { MakesLambda room (state_of signature.formal) (tree_of body.expr.value) body.next result }
+    ensures placed { OnOk result (recorder.new ≡ R.after recorder.old (stretch from body.next)) }
+{
     recorder.node(from, body.next)?;
     let args = arranged(signature.formal)?;
-    make_lambda(alloc, args, signature.height, body, depth.room)
+    make_lambda(alloc, args, signature.height, body, room)
 }

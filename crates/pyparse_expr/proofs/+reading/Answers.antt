@@ -24,14 +24,14 @@ use Rattle.pyparse_expr.specs.Inner.Arguments.{state_of, start, step, entry_of}
 use Rattle.pyparse_expr.proofs.Calls.ArgumentSteps.{more_end, more_error, more_last, more_turn, call_behind, reaches_start}
 use Rattle.pyparse_expr.proofs.FormalParameters.ParameterParts.{suffix_failed, suffix_found, by_name, by_star, by_stars, parameter_earlier}
 use Rattle.pyparse_expr.proofs.FormalParameters.ParameterSteps.{parameters_start, parameters_end, parameters_error, parameters_last}
-use Rattle.pyparse_expr.proofs.FormalParameters.ParameterSteps.{parameters_more, lambda_failed, lambda_unclosed, lambda_body_failed}
-use Rattle.pyparse_expr.proofs.FormalParameters.ParameterSteps.{lambda_wrong, lambda_made, signature_height}
+use Rattle.pyparse_expr.proofs.FormalParameters.ParameterSteps.{parameters_more, lambda_failed, lambda_behind, lambda_unclosed}
+use Rattle.pyparse_expr.proofs.FormalParameters.ParameterSteps.{lambda_body_failed, lambda_ended, signature_height}
 use Rattle.pyparse_expr.proofs.Lists.PairSteps.{pairs_start, pairs_end, pairs_stop, pairs_error, pairs_more}
 use Rattle.pyparse_expr.proofs.Lists.BraceSteps.{dict_failed, dict_open, dict_made, set_made}
 use Rattle.pyparse_expr.proofs.ForClauses.CompSteps.{target_more, target_one, targets_failed, targets_made, tests_start, tests_end}
 use Rattle.pyparse_expr.proofs.ForClauses.CompSteps.{tests_error, tests_more}
-use Rattle.pyparse_expr.proofs.ForClauses.ClauseSteps.{clause_target, clauses_cut, clauses_end, clauses_error, clauses_more, for_begins}
-use Rattle.pyparse_expr.proofs.ForClauses.ClauseSteps.{async_begins, clauses_start}
+use Rattle.pyparse_expr.proofs.ForClauses.ClauseSteps.{clause_target, clause_ended, clauses_unbegun, clauses_end, clauses_error}
+use Rattle.pyparse_expr.proofs.ForClauses.ClauseSteps.{clauses_more, start_begins, clauses_start}
 use Rattle.pyparse_expr.proofs.Formatted.Begins.{further, parts_found}
 use Rattle.pyparse_expr.proofs.Formatted.Fields.{field_made, field_open, field_put, field_spec_failed, field_wrong, spec_made}
 use Rattle.pyparse_expr.proofs.Formatted.LiteralRuns.{bytes_wrong, literals_failed, texts_joined}
@@ -69,15 +69,15 @@ use Rattle.pyparse_expr.proofs.Reader.SlicePlaces.{part_star_placed, part_plain_
 use Rattle.pyparse_expr.proofs.Reader.SlicePlaces.{slices_star_placed, slices_alone_placed, slice_from_placed, slice_placed}
 use Rattle.pyparse_expr.proofs.Reader.SlicePlaces.{slice_step_placed}
 use Rattle.pyparse_expr.proofs.ForClauses.ClausePlaces.{item_star_placed, item_plain_placed, targets_placed, target_alone_placed}
-use Rattle.pyparse_expr.proofs.ForClauses.ClausePlaces.{tests_grown_start, tests_grown_turn, tests_grown_end, for_placed}
-use Rattle.pyparse_expr.proofs.ForClauses.ClausePlaces.{clauses_grown_start, clauses_grown_for, clauses_grown_async, clauses_grown_end}
+use Rattle.pyparse_expr.proofs.ForClauses.ClausePlaces.{tests_grown_start, tests_grown_turn, tests_grown_end, clause_placed}
+use Rattle.pyparse_expr.proofs.ForClauses.ClausePlaces.{clauses_grown_start, clauses_grown_turn, clauses_grown_end}
 use Rattle.pyparse_expr.proofs.Recorders.Aside.{aside_now}
 use Rattle.std.proofs.lemmas.Result.{MatchResult-weaker, IfOk-weaker}
 use Rattle.pyparse_expr.proofs.Recorders.Calls.{ok_by, single_read, argument_placed, arguments_start, arguments_end, arguments_last}
 use Rattle.pyparse_expr.proofs.Recorders.Calls.{arguments_turn, no_arguments, one_argument, first_and_others, called_generator}
 use Rattle.pyparse_expr.proofs.Recorders.Signatures.{suffix_none, suffix_some, star_none, star_plain, star_starred, plain_placed}
 use Rattle.pyparse_expr.proofs.Recorders.Signatures.{gathered_placed, collected_placed, bare_placed, slash_placed, double_placed}
-use Rattle.pyparse_expr.proofs.Recorders.Signatures.{signature_start, signature_turn, signature_last, signature_end, lambda_placed}
+use Rattle.pyparse_expr.proofs.Recorders.Signatures.{signature_start, signature_turn, signature_last, signature_end, lambda_finished}
 use Rattle.pyparse_expr.proofs.Recorders.Strings.{row_ended, parts_none, parts_then, text_placed, field_placed, formatted_placed}
 use Rattle.pyparse_expr.proofs.Recorders.Strings.{literal_placed, string_placed, joined_placed, whole_field, spec_none, spec_placed}
 use Rattle.pyparse_expr.proofs.Recorders.Strings.{formatted_first, literals_alone, literals_first, lowered_placed}
@@ -1224,11 +1224,16 @@ comprehensions::for_in-returns-in_err-target-clause-answered g t c =
     c.in_err-target.ensures.answered in
     search (rules, f)
 
-pub comprehensions::for_in-returns-in-Some-clause-placed : goal.comprehensions::for_in-returns-in-Some-clause-placed
-comprehensions::for_in-returns-in-Some-clause-placed g t c = for_placed c.in_ok-target.target c.in_ok-iter.iter
-    c.in_ok-tests.tests c.in-Some.clause
-    c.in_ok-target.ensures.placed c.if-not-is_word.ensures
-    c.in_ok-iter.ensures.placed c.in_ok-tests.ensures.placed c.in-Some.ensures.is c.in-Some.ensures.next
+pub comprehensions::for_in-returns-clause-answered : goal.comprehensions::for_in-returns-clause-answered
+comprehensions::for_in-returns-clause-answered g t c = clause_ended c.args.tokens.now c.args.depth c.args.is_async c.args.at _
+    c.in_ok-target.target c.in_ok-target.ensures.answered c.if-not-is_word.ensures _ c.in_ok-iter.iter
+    (inner_found c.args.tokens.now _ c.args.depth c.inner.result _ _ c.in_ok-iter.iter c.inner.ensures.steps c.inner.ensures.room
+    c.in_ok-iter.ensures.answered) c.in_ok-tests.tests c.clause_made.result c.in_ok-tests.ensures.answered c.clause_made.ensures
+
+pub comprehensions::for_in-returns-clause-placed : goal.comprehensions::for_in-returns-clause-placed
+comprehensions::for_in-returns-clause-placed g t c = clause_placed c.args.is_async c.in_ok-target.target c.in_ok-iter.iter
+    c.in_ok-tests.tests c.clause_made.result c.in_ok-target.ensures.placed c.if-not-is_word.ensures
+    c.in_ok-iter.ensures.placed c.in_ok-tests.ensures.placed c.clause_made.ensures
 
 pub comprehensions::comps-more-init : goal.comprehensions::comps-more-init
 comprehensions::comps-more-init g t c = record {
@@ -1238,54 +1243,47 @@ comprehensions::comps-more-init g t c = record {
   grown = clauses_grown_start c.no_clauses-clauses.ensures.generators c.no_clauses-clauses.ensures.next;
 }
 
-pub comprehensions::comps-returns-in_err-clause-clause-answered : goal.comprehensions::comps-returns-in_err-clause-clause-answered
-comprehensions::comps-returns-in_err-clause-clause-answered g t c =
-    let f = clauses_error c.args.tokens.now c.args.depth _ c.more.clauses c.more.invariant.is false (c.more.clauses.next + 1)
-    (for_begins c.args.tokens.now c.more.clauses.next c.if-is_word.ensures) c.in_err-clause.field-0.0 c.in_err-clause.ensures.answered in
+pub comprehensions::comps-returns-in_err-clause_start-clause-answered : goal.comprehensions::comps-returns-in_err-clause_start-clause-answered
+comprehensions::comps-returns-in_err-clause_start-clause-answered g t c =
+    let f = clauses_unbegun c.args.tokens.now c.args.depth _ c.more.clauses c.more.invariant.is c.in_err-clause_start.field-0.0
+    c.in_err-clause_start.ensures in
     search (rules, f)
 
-pub comprehensions::comps-more-preserved-then-is_word : goal.comprehensions::comps-more-preserved-then-is_word
-comprehensions::comps-more-preserved-then-is_word g t c = record {
-  ahead = omega (arith, c.more.invariant.ahead, c.in_ok-clause.ensures.answered.ahead, c.in_ok-clauses.ensures.next);
-  is = clauses_more c.args.tokens.now c.args.depth _ c.more.clauses c.more.invariant.is false (c.more.clauses.next + 1)
-      (for_begins c.args.tokens.now c.more.clauses.next c.if-is_word.ensures) c.in_ok-clauses.clauses c.in_ok-clause.clause
-      c.in_ok-clause.ensures.answered c.in_ok-clauses.ensures.generators c.in_ok-clauses.ensures.next;
-  grown = clauses_grown_for c.in_ok-clause.clause c.more.invariant.grown c.if-is_word.ensures c.in_ok-clause.ensures.placed
-      c.in_ok-clauses.ensures.generators
-      c.in_ok-clauses.ensures.next;
-}
+pub comprehensions::comps-for_in-requires : goal.comprehensions::comps-for_in-requires
+comprehensions::comps-for_in-requires g t c = λ κs l. (omega arith, (l, (c.in-Some.ensures.within, c.requires.open)))
 
-pub comprehensions::comps-returns-then-not-is_word-clause-answered : goal.comprehensions::comps-returns-then-not-is_word-clause-answered
-comprehensions::comps-returns-then-not-is_word-clause-answered g t c =
-    clauses_cut c.args.tokens.now c.args.depth _ c.more.clauses c.more.invariant.is
-    c.if-is_word-2.ensures c.if-not-is_word.ensures
-
-pub comprehensions::comps-returns-in_err-clause-2-clause-answered : goal.comprehensions::comps-returns-in_err-clause-2-clause-answered
-comprehensions::comps-returns-in_err-clause-2-clause-answered g t c =
-    let f = clauses_error c.args.tokens.now c.args.depth _ c.more.clauses c.more.invariant.is true (c.more.clauses.next + 2)
-    (async_begins c.args.tokens.now c.more.clauses.next c.if-is_word-2.ensures c.if-not-is_word.ensures) c.in_err-clause-2.field-0.0
-    c.in_err-clause-2.ensures.answered in
+pub comprehensions::comps-returns-in_err-clause-clause-answered : goal.comprehensions::comps-returns-in_err-clause-clause-answered
+comprehensions::comps-returns-in_err-clause-clause-answered g t c =
+    let f = clauses_error c.args.tokens.now c.args.depth _ c.more.clauses c.more.invariant.is c.in-Some.start.is_async c.in-Some.start.at
+    (start_begins c.args.tokens.now c.more.clauses.next c.in-Some.start c.in-Some.ensures) c.in_err-clause.field-0.0
+    c.in_err-clause.ensures.answered in
     search (rules, f)
 
 pub comprehensions::comps-more-preserved : goal.comprehensions::comps-more-preserved
 comprehensions::comps-more-preserved g t c = record {
-  ahead = omega (arith, c.more.invariant.ahead, c.in_ok-clause-2.ensures.answered.ahead, c.in_ok-clauses-2.ensures.next);
-  is = clauses_more c.args.tokens.now c.args.depth _ c.more.clauses c.more.invariant.is true (c.more.clauses.next + 2)
-      (async_begins c.args.tokens.now c.more.clauses.next c.if-is_word-2.ensures c.if-not-is_word.ensures) c.in_ok-clauses-2.clauses
-      c.in_ok-clause-2.clause c.in_ok-clause-2.ensures.answered c.in_ok-clauses-2.ensures.generators c.in_ok-clauses-2.ensures.next;
-  grown = clauses_grown_async c.in_ok-clause-2.clause c.more.invariant.grown c.if-is_word-2.ensures c.if-not-is_word.ensures
-      c.in_ok-clause-2.ensures.placed
-      c.in_ok-clauses-2.ensures.generators c.in_ok-clauses-2.ensures.next;
+  ahead = omega (arith, c.more.invariant.ahead, c.in-Some.ensures.ahead, c.in_ok-clause.ensures.answered.ahead, c.in_ok-clauses.ensures.next);
+  is = clauses_more c.args.tokens.now c.args.depth _ c.more.clauses c.more.invariant.is c.in-Some.start.is_async c.in-Some.start.at
+      (start_begins c.args.tokens.now c.more.clauses.next c.in-Some.start c.in-Some.ensures) c.in_ok-clauses.clauses
+      c.in_ok-clause.clause c.in_ok-clause.ensures.answered c.in_ok-clauses.ensures.generators c.in_ok-clauses.ensures.next;
+  grown = clauses_grown_turn c.in-Some.start c.in_ok-clause.clause c.more.invariant.grown c.in-Some.ensures c.in_ok-clause.ensures.placed
+      c.in_ok-clauses.ensures.generators c.in_ok-clauses.ensures.next;
 }
 
-pub comprehensions::comps-returns-else-is_word-2-clause-answered : goal.comprehensions::comps-returns-else-is_word-2-clause-answered
-comprehensions::comps-returns-else-is_word-2-clause-answered g t c = clauses_end c.args.tokens.now c.args.depth _ c.more.clauses
-    c.more.invariant.is c.args.at
-    c.if-is_word.ensures c.if-is_word-2.ensures c.more.invariant.ahead
+pub comprehensions::comps-more-smaller : goal.comprehensions::comps-more-smaller
+comprehensions::comps-more-smaller g t c = omega (
+  arith,
+  c.in-Some.ensures.ahead,
+  c.in_ok-clause.ensures.answered.ahead,
+  c.in_ok-clause.ensures.answered.within,
+  c.in_ok-clauses.ensures.next,
+)
 
-pub comprehensions::comps-returns-else-is_word-2-clause-placed : goal.comprehensions::comps-returns-else-is_word-2-clause-placed
-comprehensions::comps-returns-else-is_word-2-clause-placed g t c = clauses_grown_end c.more.invariant.grown c.if-is_word.ensures
-    c.if-is_word-2.ensures
+pub comprehensions::comps-returns-in-None-clause-answered : goal.comprehensions::comps-returns-in-None-clause-answered
+comprehensions::comps-returns-in-None-clause-answered g t c = clauses_end c.args.tokens.now c.args.depth _ c.more.clauses
+    c.more.invariant.is c.args.at c.in-None.ensures.no_for c.in-None.ensures.no_async c.more.invariant.ahead
+
+pub comprehensions::comps-returns-in-None-clause-placed : goal.comprehensions::comps-returns-in-None-clause-placed
+comprehensions::comps-returns-in-None-clause-placed g t c = clauses_grown_end c.more.invariant.grown c.in-None.ensures
 
 pub slices::read_part-returns-else-is_op-clause-answered : goal.slices::read_part-returns-else-is_op-clause-answered
 slices::read_part-returns-else-is_op-clause-answered g t c = part_plain c.args.tokens.now c.args.depth c.args.at
@@ -1619,44 +1617,40 @@ signatures::lambda_step-returns-in_err-signature-clause-answered g t c =
     let f = lambda_failed c.args.tokens.now c.args.depth c.args.at c.in_err-signature.field-0.0 c.in_err-signature.ensures.answered in
     search (rules, f)
 
-pub signatures::lambda_step-returns-then-not-is_op-clause-answered : goal.signatures::lambda_step-returns-then-not-is_op-clause-answered
-signatures::lambda_step-returns-then-not-is_op-clause-answered g t c = lambda_unclosed c.args.tokens.now c.args.depth c.args.at c.args.at
-    c.in_ok-signature.signature c.in_ok-signature.ensures.answered c.if-not-is_op.ensures
-
-pub signatures::lambda_step-returns-in_err-body-clause-answered : goal.signatures::lambda_step-returns-in_err-body-clause-answered
-signatures::lambda_step-returns-in_err-body-clause-answered g t c =
-    let f = lambda_body_failed c.args.tokens.now c.args.depth c.args.at c.args.at c.in_ok-signature.signature
-    c.in_ok-signature.ensures.answered
-    c.if-not-is_op.ensures c.in_err-body.field-0.0 (rw (← c.inner.ensures.steps, ← c.inner.ensures.room) c.in_err-body.ensures.answered) in
-    search (rules, f)
-
-pub signatures::lambda_step-returns-in_err-args-clause-answered : goal.signatures::lambda_step-returns-in_err-args-clause-answered
-signatures::lambda_step-returns-in_err-args-clause-answered g t c =
-    let b = inner_found c.args.tokens.now _ c.args.depth c.inner.result _ _ c.in_ok-body.body c.inner.ensures.steps
-    c.inner.ensures.room c.in_ok-body.ensures.answered in
-    let f = lambda_wrong c.args.tokens.now c.args.depth c.args.at c.args.at c.in_ok-signature.signature c.in_ok-signature.ensures.answered
-    c.if-not-is_op.ensures _ _ c.in_ok-body.body b c.in_err-args.ensures.is in
-    search (rules, f, c.in_err-args.ensures.why)
-
-pub signatures::lambda_step-make_lambda-requires : goal.signatures::lambda_step-make_lambda-requires
-signatures::lambda_step-make_lambda-requires g t c = signature_height c.args.tokens.now _ _ _ c.in_ok-signature.signature _
-    c.in_ok-signature.ensures.answered c.in_ok-args.ensures
+pub signatures::lambda_step-lambda_body-requires : goal.signatures::lambda_step-lambda_body-requires
+signatures::lambda_step-lambda_body-requires g t c =
+    let h = signature_height c.args.tokens.now _ _ _ c.in_ok-signature.signature c.in_ok-signature.ensures.answered in
+    λ κs l. (omega arith, (l, (c.in_ok-signature.ensures.answered.within, (c.requires.open, h))))
 
 pub signatures::lambda_step-returns-clause-answered : goal.signatures::lambda_step-returns-clause-answered
-signatures::lambda_step-returns-clause-answered g t c =
-    let b = inner_found c.args.tokens.now _ c.args.depth c.inner.result _ _ c.in_ok-body.body c.inner.ensures.steps
-    c.inner.ensures.room c.in_ok-body.ensures.answered in
-    lambda_made c.args.tokens.now c.args.depth c.args.at c.args.at c.in_ok-signature.signature c.in_ok-signature.ensures.answered
-    c.if-not-is_op.ensures _ _ c.in_ok-body.body b _ c.make_lambda.result c.in_ok-args.ensures
-    (omega (arith, c.in_ok-signature.ensures.answered.ahead, c.in_ok-body.ensures.answered.ahead)) c.make_lambda.ensures
+signatures::lambda_step-returns-clause-answered g t c = lambda_behind c.args.tokens.now c.args.depth c.args.at
+    c.in_ok-signature.signature c.in_ok-signature.ensures.answered c.lambda_body.result c.lambda_body.ensures.answered
 
 pub signatures::lambda_step-returns-clause-placed : goal.signatures::lambda_step-returns-clause-placed
-signatures::lambda_step-returns-clause-placed g t c = λ w.
+signatures::lambda_step-returns-clause-placed g t c = λ w. c.lambda_body.ensures.placed c.args.at w _ c.in_ok-signature.ensures.placed
+
+pub signatures::lambda_body-returns-then-not-is_op-clause-answered : goal.signatures::lambda_body-returns-then-not-is_op-clause-answered
+signatures::lambda_body-returns-then-not-is_op-clause-answered g t c = lambda_unclosed c.args.tokens.now c.args.depth
+    c.args.signature c.if-not-is_op.ensures
+
+pub signatures::lambda_body-returns-in_err-body-clause-answered : goal.signatures::lambda_body-returns-in_err-body-clause-answered
+signatures::lambda_body-returns-in_err-body-clause-answered g t c =
+    let f = lambda_body_failed c.args.tokens.now c.args.depth c.args.signature c.if-not-is_op.ensures c.in_err-body.field-0.0
+    (rw (← c.inner.ensures.steps, ← c.inner.ensures.room) c.in_err-body.ensures.answered) in
+    search (rules, f)
+
+pub signatures::lambda_body-returns-clause-answered : goal.signatures::lambda_body-returns-clause-answered
+signatures::lambda_body-returns-clause-answered g t c =
+    let b = inner_found c.args.tokens.now _ c.args.depth c.inner.result _ _ c.in_ok-body.body c.inner.ensures.steps
+    c.inner.ensures.room c.in_ok-body.ensures.answered in
+    lambda_ended c.args.tokens.now c.args.depth c.args.signature c.if-not-is_op.ensures _ c.in_ok-body.body b
+    c.finish_lambda.result c.finish_lambda.ensures.made
+
+pub signatures::lambda_body-returns-clause-placed : goal.signatures::lambda_body-returns-clause-placed
+signatures::lambda_body-returns-clause-placed g t c = λ at q w s.
     let b = c.in_ok-body.ensures.placed in
-    MatchResult-weaker c.make_lambda.result c.make_lambda.ensures
-    (λ r m. lambda_placed c.args.tokens.now c.args.from c.args.at c.args.depth.room
-    c.in_ok-signature.signature _ c.in_ok-body.body r c.in_ok-signature.ensures.placed c.if-not-is_op.ensures b.1 b.2 c.in_ok-node.ensures
-    c.in_ok-args.ensures m w) (λ y _. tt)
+    lambda_finished c.args.tokens.now _ c.args.from at c.args.depth.room c.args.signature c.in_ok-body.body c.finish_lambda.result s
+    c.if-not-is_op.ensures b.1 b.2 c.finish_lambda.ensures.placed c.finish_lambda.ensures.made q
 
 pub strings::more_literals-returns-in_err-text-clause-parts : goal.strings::more_literals-returns-in_err-text-clause-parts
 strings::more_literals-returns-in_err-text-clause-parts g t c = λ acc g.

@@ -317,6 +317,9 @@ decreases-signatures::parameters g l = 2 ^ 65 * (20 * (l.depth.steps - 1) + 12)
 abbrev pub decreases-signatures::lambda_step : goal.decreases-signatures::lambda_step
 decreases-signatures::lambda_step g l = 2 ^ 65 * (20 * (l.depth.steps - 1) + 13)
 
+abbrev pub decreases-signatures::lambda_body : goal.decreases-signatures::lambda_body
+decreases-signatures::lambda_body g l = 2 ^ 65 * (20 * (l.depth.steps - 1) + 12)
+
 abbrev pub invariant-signatures::parameters-more : goal.invariant-signatures::parameters-more
 invariant-signatures::parameters-more g l = record {
   ahead : l.at ≤ l.signature.next;

@@ -3,7 +3,7 @@
 -- Carries: target_item, read_target, ifs, for_in, comps. On: Comprehensions, Levels and Readings of pyplaces, ListPlaces.
 use Rattle.std.proofs.Common.{◌≡◌, refl, sym, ap, ◌∙◌, subst, arith, ℕ, ◌+◌, List, [], ◌∷◌, ◌++◌, map, Option, Some, None, Bool, true}
 use Rattle.std.proofs.Common.{false, Result, Ok, Err}
-use Rattle.std.specs.Prelude.{IfOk}
+use Rattle.std.specs.Prelude.{IfOk, MatchResult}
 use Rattle.pylex_lexeme.specs.declared.kinds.Exact.TheVariants.{Comma, Star}
 use Rattle.pytoken.specs.declared.keywords.Keyword.TheVariants as Key
 use Rattle.pytree_node.specs.declared.operators.Context.TheVariants.{Load}
@@ -35,6 +35,8 @@ use Rattle.pyplaces.proofs.Expressions.Levels.{placed_next, placed_star_tuple}
 use Rattle.pyplaces.proofs.Expressions.Readings.{placed_target_item, placed_target_star}
 use Rattle.pyplaces.proofs.Expressions.Comprehensions.{placed_for, placed_async_for, placed_for_in, ifs_turn, ifs_end}
 use Rattle.pyplaces.proofs.Expressions.Comprehensions.{clauses_turn, clauses_end}
+use Rattle.pyparse_expr.specs.declared.comprehensions.ClauseStart.{ClauseStart}
+use Rattle.pyparse_expr.specs.Inner.Clauses.{MadeClause, NoClause, NoStart, StartsAt, StartWords}
 use Rattle.pyparse_expr.specs.Inner.PlacedLists.{TuplePlaced}
 use Rattle.pyparse_expr.proofs.Recorders.Misses.{no_comp}
 use Rattle.pyparse_expr.proofs.Recorders.Reads.{ReadPlaced, made_whole}
@@ -117,7 +119,7 @@ ForPlaced after ts b at old new r =
     (ps : List Stretch) × PlacedForIn b (seen ts at) at (comprehension_of r.generator) (seen ts r.next) r.next ps × Records after old ps new
 
 module _ {S : Type 0} {after : S → Stretch → S} {ts : List given.Terminal} where
-  pub for_placed : {b : Bool} {at : ℕ} {u v w x : S} (t i : Read) (tests : Items) (r : ForClause) → ReadPlaced after ts Stars at u v t
+  for_placed : {b : Bool} {at : ℕ} {u v w x : S} (t i : Read) (tests : Items) (r : ForClause) → ReadPlaced after ts Stars at u v t
       → Stands (Word Key.In) ts t.next → ReadPlaced after ts Or (t.next + 1) v w i → TestsPlaced after ts i.next w x tests
       → Some (comprehension_of r.generator) ≡ generator_of (stored (tree_of t.expr.value)) (tree_of i.expr.value)
       (map tree_of tests.exprs.items) b
@@ -132,6 +134,14 @@ module _ {S : Type 0} {after : S → Stretch → S} {ts : List given.Terminal} w
             (placed_for_in p.1 g.1 s.is d.1 c.1)),
         records_more p.2 (records_more d.2 c.2),
       )
+
+  pub clause_placed : {at : ℕ} {u v w x : S} (b : Bool) (t i : Read) (tests : Items) (z : Result ForClause Stop)
+      → ReadPlaced after ts Stars at u v t → Stands (Word Key.In) ts t.next → ReadPlaced after ts Or (t.next + 1) v w i
+      → TestsPlaced after ts i.next w x tests
+      → MatchResult z (λ c. MadeClause t i tests b c) (λ s. NoClause t i tests b s)
+      → IfOk z (λ r. ForPlaced after ts b at u x r)
+  clause_placed b t i tests (Ok r) p s d c m = for_placed t i tests r p s d c m.is m.next
+  clause_placed b t i tests (Err e) p s d c m = tt
 
 -- ---- All clauses.
 
@@ -165,13 +175,13 @@ module _ {S : Type 0} {after : S → Stretch → S} {ts : List given.Terminal} {
         records = records_more c.records r;
       }
 
-  pub clauses_grown_for : {now new : ForClauses} {u v w : S} (g : ForClause) → ClausesGrown after ts at now u v
+  clauses_grown_for : {now new : ForClauses} {u v w : S} (g : ForClause) → ClausesGrown after ts at now u v
       → Stands (Word Key.For) ts now.next → ForPlaced after ts false (now.next + 1) v w g
       → map comprehension_of new.generators.items ≡ map comprehension_of now.generators.items ++ (comprehension_of g.generator ∷ [])
       → new.next ≡ g.next → ClausesGrown after ts at new u w
   clauses_grown_for g c s d p k = grown_by g d.0 c (placed_for s.is d.1) d.2 p k
 
-  pub clauses_grown_async : {now new : ForClauses} {u v w : S} (g : ForClause) → ClausesGrown after ts at now u v
+  clauses_grown_async : {now new : ForClauses} {u v w : S} (g : ForClause) → ClausesGrown after ts at now u v
       → Stands (Word Key.Async) ts now.next → Stands (Word Key.For) ts (now.next + 1) → ForPlaced after ts true (now.next + 2) v w g
       → map comprehension_of new.generators.items ≡ map comprehension_of now.generators.items ++ (comprehension_of g.generator ∷ [])
       → new.next ≡ g.next → ClausesGrown after ts at new u w
@@ -181,8 +191,17 @@ module _ {S : Type 0} {after : S → Stretch → S} {ts : List given.Terminal} {
       s.is ∙ (ap (λ r. Word Key.Async ∷ r) f.is ∙ ap (λ n. Word Key.Async ∷ (Word Key.For ∷ seen ts n)) two) in
       grown_by g d.0 c (placed_async_for words d.1) d.2 p k
 
-  pub clauses_grown_end : {now : ForClauses} {u v : S} → ClausesGrown after ts at now u v
-      → None ≡ first_is (is_word Key.For) (seen ts now.next) → None ≡ first_is (is_word Key.Async) (seen ts now.next)
+  pub clauses_grown_turn : {now new : ForClauses} {u v w : S} (s : ClauseStart) (g : ForClause) → ClausesGrown after ts at now u v
+      → StartsAt ts now.next s → ForPlaced after ts s.is_async s.at v w g
+      → map comprehension_of new.generators.items ≡ map comprehension_of now.generators.items ++ (comprehension_of g.generator ∷ [])
+      → new.next ≡ g.next → ClausesGrown after ts at new u w
+  clauses_grown_turn {now} {new} {u} {v} {w} s g c x d p k = go s.is_async s.at x.words d
+    where
+      go : (b : Bool) (n : ℕ) → StartWords ts now.next b n → ForPlaced after ts b n v w g → ClausesGrown after ts at new u w
+      go false n q d = clauses_grown_for g c q.0 (subst (λ z. ForPlaced after ts false z v w g) q.1 d) p k
+      go true n q d = clauses_grown_async g c q.0 q.1 (subst (λ z. ForPlaced after ts true z v w g) q.2 d) p k
+
+  pub clauses_grown_end : {now : ForClauses} {u v : S} → ClausesGrown after ts at now u v → NoStart ts now.next
       → (ps : List Stretch) × Clauses (seen ts at) at (map comprehension_of now.generators.items) (seen ts now.next) now.next ps
       × Records after u ps v
-  clauses_grown_end {now = now} c n m = (c.places, clauses_end c.grows (no_comp (seen ts now.next) n m), c.records)
+  clauses_grown_end {now = now} c n = (c.places, clauses_end c.grows (no_comp (seen ts now.next) n.no_for n.no_async), c.records)

@@ -2,7 +2,8 @@
 --
 -- Carries: signatures.rt. On: Asides, Listings, Parameters, Levels, Selections of pyplaces; Formals.
 use Rattle.std.proofs.Common.{◌≡◌, refl, sym, ap, subst, ◌∙◌, arith, ℕ, ◌+◌, List, [], ◌∷◌, ◌++◌, map, drop, drop-drop, Option, Some, None}
-use Rattle.std.proofs.Common.{Bool, true, false, cond, append_assoc}
+use Rattle.std.proofs.Common.{Bool, true, false, cond, append_assoc, Result, Ok, Err}
+use Rattle.std.specs.Prelude.{IfOk, OnOk}
 use Rattle.std.proofs.lemmas.List.{append-nil}
 use Rattle.pylex_lexeme.specs.declared.kinds.Exact.{Exact}
 use Rattle.pylex_lexeme.specs.declared.kinds.Exact.TheVariants.{Colon, Comma, Star, DoubleStar, Equal, Slash}
@@ -26,6 +27,7 @@ use Rattle.pyparse_nodes.specs.declared.found.Read.{Read}
 use Rattle.pyparse_nodes.specs.declared.parameters.Formal.{Formal}
 use Rattle.pyparse_nodes.specs.declared.parameters.Stage.{Stage}
 use Rattle.pyparse_nodes.specs.declared.parameters.Stage.TheVariants as stage
+use Rattle.pyparse_nodes.specs.declared.stop.Stop.{Stop}
 use Rattle.pyparse_nodes.specs.Answers.{Made}
 use Rattle.pyparse_nodes.specs.Formals.{State, state, start, step, steps, outcome}
 use Rattle.pyparse_nodes.specs.FormalStates.{state_of, entry_of}
@@ -33,6 +35,7 @@ use Rattle.pyparse_nodes.specs.Views.{Stands, seen, first_is}
 use Rattle.pyparse_expr.specs.declared.signatures.ReadParameter.{ReadParameter}
 use Rattle.pyparse_expr.specs.declared.signatures.Signature.{Signature}
 use Rattle.pyparse_expr.specs.Inner.PlacedSignatures.{defaults_behind, Recorded, ParameterPlaced, DefaultsBack, SignaturePlaced}
+use Rattle.pyparse_expr.specs.Inner.Signatures.{MakesLambda}
 use Rattle.pyparse_expr.proofs.FormalParameters.Formals.{arranged_steps}
 use Rattle.pyplaces.specs.EntryPlaces as E
 use Rattle.pyplaces.specs.EntryPlaces.{EntryPlaces}
@@ -549,7 +552,7 @@ module _ {S : Type 0} {after beside : S → Stretch → S} {count : S → ℕ} (
 
 -- ---- A Lambda.
 
-pub lambda_placed : {S : Type 0} {after : S → Stretch → S} {u v w x : S} {ps : List Stretch} (ts : List given.Terminal) (from at room : ℕ)
+lambda_placed : {S : Type 0} {after : S → Stretch → S} {u v w x : S} {ps : List Stretch} (ts : List given.Terminal) (from at room : ℕ)
     (s : Signature) (a : Arguments) (e r : Read) → SignaturePlaced after ts false at s u v → Stands (Op Colon) ts s.next
     → Placed Expression (seen ts (s.next + 1)) (s.next + 1) (tree_of e.expr.value) (seen ts e.next) e.next ps → Records after v ps w
     → x ≡ after w (stretch from e.next) → outcome (state_of s.formal) ≡ Some a → Made room (Trees.Lambda a (tree_of e.expr.value)) e.next r
@@ -563,3 +566,13 @@ lambda_placed {ps = ps} ts from at room s a e r c h p t d o m q = (
       (arranged_steps c.entries ∙ (ap outcome (sym c.state) ∙ o)) h.is p),
   records_more (c.records a o) (records_more t (records_node d)),
 )
+
+pub lambda_finished : {S : Type 0} {after : S → Stretch → S} {u v w : S} {ps : List Stretch} (ts : List given.Terminal)
+    (x : S) (from at room : ℕ) (s : Signature) (e : Read) (z : Result Read Stop) → SignaturePlaced after ts false at s u v
+    → Stands (Op Colon) ts s.next
+    → Placed Expression (seen ts (s.next + 1)) (s.next + 1) (tree_of e.expr.value) (seen ts e.next) e.next ps → Records after v ps w
+    → OnOk z (x ≡ after w (stretch from e.next)) → MakesLambda room (state_of s.formal) (tree_of e.expr.value) e.next z → at ≡ from + 1
+    → IfOk z (λ r. (qs : List Stretch) × Placed Expression (Word Key.Lambda ∷ seen ts at) from (tree_of r.expr.value) (seen ts r.next)
+    r.next qs × Records after u qs x)
+lambda_finished ts x from at room s e (Ok r) c h p t d m q = lambda_placed ts from at room s m.args e r c h p t d m.is m.made q
+lambda_finished ts x from at room s e (Err y) c h p t d m q = tt
