@@ -1,6 +1,6 @@
 -- The pieces of a dump, put together.
 --
--- Carries: PlacedPieces::new, PlacedPieces::push_next.
+-- Carries: PlacedPieces::new.
 use Rattle.std.proofs.Common.{◌≡◌, ℕ, ◌+◌, ◌++◌, List, [], ◌∷◌, Bool, true, false, codes, refl, ap, sym, ◌∙◌, ◌||◌, map, length, arith}
 use Rattle.std.specs.List.{concat}
 use Rattle.std.proofs.lemmas.List.{append-nil, append_assoc}
@@ -10,35 +10,10 @@ use Rattle.pytree_dump_text.specs.Blocks.{shown_block}
 use Rattle.pytree_dump_text.specs.declared.styles.Style.{Style}
 use Rattle.pytree_dump_text.specs.Shows.{Shown, Showns, Fields, Row, a_field, no_field, no_shown, showns, shown_module, shown_stmt}
 use Rattle.pytree_dump_text.specs.Layout.{before, deeper, dump_text, fields, is_flat, is_short, label, members, text}
-use Rattle.pytree_marked.specs.Appends.{Appends}
 use Rattle.pytree_marked.specs.MarkedNodes.{Attributes, Placed, rows_with, with_places}
 use Rattle.pytree_dump.specs.Inner.Pieces.{statement_pieces}
-use Rattle.pytree_dump.proofs.BlockLemmas.{node_shown}
 use Rattle.pytree_dump.proofs.PlaceLemmas.{module_line, module_text}
-
--- a piece is no longer to come, but given
-pub piece_given : (o o1 piece : List ℕ) (rest : List (List ℕ)) → o1 ≡ o ++ piece → o1 ++ concat rest ≡ o ++ concat (piece ∷ rest)
-piece_given o o1 piece rest e = ap (λ z. z ++ concat rest) e ∙ append_assoc o piece (concat rest)
-
--- the next of the statements is the first piece
-pub statement_given : (s : Style) (f f1 : List ℕ) (first : Bool) (o o1 o2 : List ℕ) (x : Stmt) (ps ps1 : List Attributes) →
-    f1 ≡ f → o1 ≡ o ++ before (is_flat s.indent) f1 first → Appends s f1 o1 o2 ps ps1 (shown_stmt s.profile (stmt_of x)) →
-    o2 ≡ o ++ (before (is_flat s.indent) f first ++ text s f (with_places ps (shown_stmt s.profile (stmt_of x))).shown)
-statement_given s f f1 first o o1 o2 x ps ps1 same e1 e2 =
-    let one : Shown = (with_places ps (shown_stmt s.profile (stmt_of x))).shown in
-    e2.0 ∙ (λ i. (e1 ∙ (λ j. o ++ before (is_flat s.indent) (same j) first)) i ++ text s (same i) one)
-    ∙ append_assoc o (before (is_flat s.indent) f first) (text s f one)
-
--- and the others are still to come
-pub statements_left : (s : Style) (f f1 : List ℕ) (first : Bool) (end : List ℕ) (x : Stmt) (body xs : List Stmt) (ps ps1 : List Attributes) →
-    body ≡ x ∷ xs → f1 ≡ f → ps1 ≡ (with_places ps (shown_stmt s.profile (stmt_of x))).left →
-    statement_pieces s f first end body ps
-    ≡ (before (is_flat s.indent) f first ++ text s f (with_places ps (shown_stmt s.profile (stmt_of x))).shown)
-    ∷ statement_pieces s f1 false end xs ps1
-statements_left s f f1 first end x body xs ps ps1 is same left =
-    (λ i. statement_pieces s f first end (is i) ps)
-    ∙ (λ i. (before (is_flat s.indent) f first ++ text s f (with_places ps (shown_stmt s.profile (stmt_of x))).shown)
-    ∷ statement_pieces s (sym same i) false end xs (sym left i))
+use Rattle.pytree_dump.proofs.TextLemmas.{node_shown}
 
 -- all of the statements
 statements_whole : (s : Style) (f : List ℕ) (first : Bool) (end : List ℕ) (body : List Stmt) (ps : List Attributes) →

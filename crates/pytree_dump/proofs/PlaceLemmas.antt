@@ -22,9 +22,9 @@ use Rattle.pytree_dump_text.specs.Slots.{Slot, missing, field, coming, is_missin
 use Rattle.pytree_marked.specs.MarkedNodes.{Attributes, Placed, placed, behind, closed, fields_with, rows_with, with_places}
 use Rattle.pytree_marked.specs.Appends.{Appends, AppendsField, AppendsNode, coming_with}
 use Rattle.pytree_dump.specs.Inner.TypeParams.{type_params_before}
-use Rattle.pytree_dump.proofs.BlockLemmas.{node_shown, stmts_row}
+use Rattle.pytree_dump.proofs.BlockLemmas.{stmts_row}
 use Rattle.pytree_dump.proofs.RowLemmas.{type_params_row}
-use Rattle.pytree_dump.proofs.TextLemmas.{dropped}
+use Rattle.pytree_dump.proofs.TextLemmas.{dropped, node_shown}
 
 parts3 : (o a b c : List ℕ) → o ++ a ++ b ++ c ≡ o ++ (a ++ b ++ c)
 parts3 o a b c = simp append_assoc refl

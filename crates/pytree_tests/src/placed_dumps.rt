@@ -1,43 +1,38 @@
 //! Dumps with places, as Python gives them with attributes.
 
-use crate::expected::same_text;
-use crate::sources::module;
-use pytree::{Extent, Profile, Style, Version};
-use pytree_dump::{ListedPlaces, NoPlaces, Shown, dump_placed};
-use std::test::Fail;
-
-/// Python 3.11, the whole language.
-const WHOLE: Profile = Profile {
-    version: Version::Py311,
-    extent: Extent::Whole,
-};
+use crate::expected::{holds, same_text};
+use crate::sources::whole_module;
+use pytree::{Module, Profile, Style};
+use pytree_dump::{ListedPlaces, PlacedPieces, Places, Shown, dump_placed};
+use std::alloc::Global;
+use std::process::Abort;
 
 /// On one line, with all names.
 const PLAIN: Style = Style {
     indent: None,
     names: true,
-    profile: WHOLE,
+    profile: Profile::PLAIN_311,
 };
 
 /// On one line, without names.
 const BARE: Style = Style {
     indent: None,
     names: false,
-    profile: WHOLE,
+    profile: Profile::PLAIN_311,
 };
 
 /// On lines, two blanks a level.
 const TWO: Style = Style {
     indent: Some(2),
     names: true,
-    profile: WHOLE,
+    profile: Profile::PLAIN_311,
 };
 
 /// On lines, a blank a level, without names.
 const BARE_LINES: Style = Style {
     indent: Some(1),
     names: false,
-    profile: WHOLE,
+    profile: Profile::PLAIN_311,
 };
 
 /// Sources, the places of the first of their nodes in the order of the dump, and the text that
@@ -199,25 +194,73 @@ const ROWS: &[(&str, &[[u32; 4]], Style, &str)] = &[
     ),
 ];
 
-#[test]
-fn dumps_with_places(rt: HostRuntime) -> Result<(), Fail> {
-    let alloc = rt.alloc();
-    for (text, numbers, style, expected) in ROWS {
-        let tree = module(alloc, *text)?;
-        let mut listed = Vec::new(alloc);
-        for [line, byte, end_line, end_byte] in *numbers {
-            listed.push(Shown {
+/// The places that numbers are.
+fn places_of(rt: &impl Abort, alloc: Global, numbers: &[[u32; 4]]) -> Vec<Shown> {
+    let mut places = Vec::new(alloc);
+    for [line, byte, end_line, end_byte] in numbers {
+        places
+            .push(Shown {
                 line: *line,
                 byte: *byte,
                 end_line: *end_line,
                 end_byte: *end_byte,
-            })?;
-        }
-        let mut places = ListedPlaces {
-            left: listed.as_slice(),
-        };
-        let told = dump_placed(alloc, &tree, *style, &mut places)?;
-        same_text(&rt, told.as_str(), *expected, *text);
+            })
+            .expect(rt, "memory");
     }
-    Ok(())
+    places
+}
+
+/// Asserts that a dump with places in one is this text, and that it takes all of them.
+fn same_in_one(
+    rt: &impl Abort,
+    alloc: Global,
+    tree: &Module,
+    places: &[Shown],
+    style: Style,
+    expected: &str,
+) {
+    let mut places = ListedPlaces { left: places };
+    let dumped = dump_placed(alloc, tree, style, &mut places).expect(rt, "memory");
+    same_text(rt, dumped.as_str(), expected, "a dump");
+    holds(rt, places.is_done(), "a dump");
+}
+
+/// Asserts that the pieces of a dump with places put together are this text.
+fn same_in_pieces(
+    rt: &impl Abort,
+    alloc: Global,
+    tree: &Module,
+    places: &[Shown],
+    style: Style,
+    expected: &str,
+) {
+    let mut text = String::new(alloc);
+    let places = ListedPlaces { left: places };
+    let mut pieces = PlacedPieces::new(alloc, tree, style, places).expect(rt, "memory");
+    for _ in 0..=expected.len() {
+        pieces.push_next(&mut text).expect(rt, "memory");
+    }
+    same_text(rt, text.as_str(), expected, "pieces");
+}
+
+/// Asserts the dump of a text with places, in one and in pieces.
+fn is_dumped(
+    rt: &impl Abort,
+    alloc: Global,
+    text: &str,
+    numbers: &[[u32; 4]],
+    style: Style,
+    expected: &str,
+) {
+    let tree = whole_module(rt, alloc, text);
+    let places = places_of(rt, alloc, numbers);
+    same_in_one(rt, alloc, &tree, places.as_slice(), style, expected);
+    same_in_pieces(rt, alloc, &tree, places.as_slice(), style, expected);
+}
+
+#[test]
+fn dumps_with_places(rt: HostRuntime) {
+    for (text, numbers, style, expected) in ROWS {
+        is_dumped(&rt, rt.alloc(), *text, *numbers, *style, *expected);
+    }
 }
