@@ -25,11 +25,11 @@ fn put_integer<W: Writer>(out: &mut W, number: &Integer) -> Result<(), AllocErro
 {
     if let Some(small) = number.to_u128() {
         let mut buffer = Buffer::new();
-        return out.put(Kind::Number, buffer.format(small), false, false);
+        return out.put(Kind::Number, buffer.format(small), Role::Free);
     }
     let mut text = String::new(out.alloc());
     number.push_decimal(&mut text)?;
-    out.put(Kind::Number, text.as_str(), false, false)
+    out.put(Kind::Number, text.as_str(), Role::Free)
 }
 
 /// Writes a float.
@@ -40,7 +40,7 @@ fn put_float<W: Writer>(out: &mut W, float: Double) -> Result<(), AllocError>
     let alloc = out.alloc();
     let mut text = String::new(alloc);
     float.push_source(&mut text, alloc)?;
-    out.put(Kind::Number, text.as_str(), false, false)
+    out.put(Kind::Number, text.as_str(), Role::Free)
 }
 
 /// Writes an imaginary number.
@@ -51,7 +51,7 @@ fn put_imaginary<W: Writer>(out: &mut W, float: Double) -> Result<(), AllocError
     let alloc = out.alloc();
     let mut text = String::new(alloc);
     float.push_imaginary_source(&mut text, alloc)?;
-    out.put(Kind::Number, text.as_str(), false, false)
+    out.put(Kind::Number, text.as_str(), Role::Free)
 }
 
 /// Writes a constant.

@@ -46,12 +46,12 @@ pub(crate) fn write_points<W: Writer>(out: &mut W, count: u64) -> Result<(), All
     let mut close = false;
     let mut left = count;
     while left >= 3 {
-        put_operator(out, Exact::Ellipsis, close, false)?;
+        put_operator(out, Exact::Ellipsis, close)?;
         close = true;
         left -= 3;
     }
     while left > 0 {
-        put_operator(out, Exact::Dot, close, false)?;
+        put_operator(out, Exact::Dot, close)?;
         close = true;
         left -= 1;
     }

@@ -1,18 +1,19 @@
 //! Expressions that may be absent.
 
-ghost use Rattle.std.specs.Prelude.{◌≡◌, OnOk, true};
+ghost use Rattle.std.specs.Prelude.{◌≡◌, OnOk};
 ghost use Rattle.pytree_node.specs.TreeOf.{boxed_of};
 ghost use Rattle.pytree_node.specs.Trees.{optional};
-ghost use Rattle.pytoken.specs.Terminals.{Op};
 ghost use Rattle.pyunparse_text.specs.Folds.{puts};
-ghost use Rattle.pyunparse_text.specs.Pieces.{piece, sited};
+ghost use Rattle.pyunparse_text.specs.Marks.{in_role};
+ghost use Rattle.pyunparse_text.specs.Pieces.{piece};
 ghost use Rattle.pyunparse_text.specs.Written.{perhaps, suffixed};
 
 use crate::expressions::write_expr;
 use pygrammar::Level;
 use pylex::Exact;
 use pytree_node::Expr;
-use pyunparse_text::tokens::put_operator;
+use pyunparse_text::marks::Role;
+use pyunparse_text::tokens::put_sign;
 use pyunparse_text::writers::Writer;
 use std::alloc::AllocError;
 
@@ -37,17 +38,17 @@ pub(crate) fn write_perhaps<W: Writer>(
 pub(crate) fn write_suffix<W: Writer>(
     out: &mut W,
     sign: Exact,
-    behind: bool,
+    role: Role,
     e: &Option<Box<Expr>>,
 ) -> Result<(), AllocError>
     ensures { OnOk result
         (out.new ≡ puts W.after out.old
-        (suffixed piece (sited (Op sign) true behind) (optional (boxed_of e.now)))) }
+        (suffixed piece (in_role role sign) (optional (boxed_of e.now)))) }
 {
     match e {
         None => Ok(()),
         Some(e) => {
-            put_operator(out, sign, true, behind)?;
+            put_sign(out, sign, role)?;
             write_expr(out, Level::Expression, e)
         }
     }

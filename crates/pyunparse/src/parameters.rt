@@ -211,5 +211,5 @@ fn write_named_arg<W: Writer>(out: &mut W, arg: &Arg) -> Result<(), AllocError>
     ensures { OnOk result (out.new ≡ puts W.after out.old (named (arg_of arg.now))) }
 {
     put_name(out, &arg.arg)?;
-    write_suffix(out, Exact::Colon, false, &arg.annotation)
+    write_suffix(out, Exact::Colon, Role::Trailing, &arg.annotation)
 }

@@ -135,6 +135,6 @@ pub(crate) fn write_slice<W: Writer>(
     write_perhaps(out, Level::Expression, lower)?;
     put_sign(out, Exact::Colon, Role::Tight)?;
     write_perhaps(out, Level::Expression, upper)?;
-    write_suffix(out, Exact::Colon, true, step)?;
+    write_suffix(out, Exact::Colon, Role::Tight, step)?;
     close(out, bare)
 }

@@ -11,7 +11,6 @@ mod PieceLaws
 mod Patterns
 mod Modules
 pub mod Callers
-mod Cases
 mod LexemeFronts
 mod FieldTexts
 mod Listings

@@ -6,7 +6,6 @@ pub mod Sound
 pub mod Shallow
 pub mod Formatted
 pub mod Strings
-pub mod Apart
 pub mod Sorts
 pub mod Segments
 pub mod Shut

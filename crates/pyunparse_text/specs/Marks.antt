@@ -1,4 +1,5 @@
 -- The token that stands between each two members of a list, and operators and delimiters by their roles.
+use Rattle.std.specs.Prelude.{Bool, true, false}
 use Rattle.pylex_lexeme.specs.declared.kinds.Exact.{Exact}
 use Rattle.pylex_lexeme.specs.declared.kinds.Exact.TheVariants.{Comma}
 use Rattle.pytoken.specs.declared.keywords.Keyword.TheVariants as Key
@@ -14,6 +15,19 @@ abbrev pub mark : Between → Sited
 mark between.Comma = trailing piece Comma
 mark between.And = word piece Key.And
 mark between.Or = word piece Key.Or
+
+-- whether a token of this role keeps close to what comes before it, and to what comes after it
+abbrev pub is_close_before : Role → Bool
+is_close_before roles.Free = false
+is_close_before roles.Leading = false
+is_close_before roles.Trailing = true
+is_close_before roles.Tight = true
+
+abbrev pub is_close_after : Role → Bool
+is_close_after roles.Free = false
+is_close_after roles.Leading = true
+is_close_after roles.Trailing = false
+is_close_after roles.Tight = true
 
 abbrev pub in_role : Role → Exact → Sited
 in_role roles.Free x = free piece (Op x)

@@ -4,6 +4,7 @@ ghost use Rattle.std.specs.Prelude.{◌≡◌, ◌++◌, ◌∷◌, [], map, OnO
 ghost use Rattle.std.specs.String.{string_bytes};
 
 use crate::literal_texts::{push_bytes_literal, push_text_literal};
+use crate::marks::Role;
 use crate::pieces::Piece;
 use crate::text_writer::TextWriter;
 use crate::writers::Writer;
@@ -85,15 +86,9 @@ impl Writer for PieceWriter {
         self.alloc
     }
 
-    fn put(
-        &mut self,
-        kind: Kind,
-        text: &str,
-        before: bool,
-        behind: bool,
-    ) -> Result<(), AllocError> {
+    fn put(&mut self, kind: Kind, text: &str, role: Role) -> Result<(), AllocError> {
         match &mut self.string {
-            Some(string) if string.is_in_field() => string.put(kind, text, before, behind),
+            Some(string) if string.is_in_field() => string.put(kind, text, role),
             _ => {
                 let text = String::from_str(self.alloc, text)?;
                 self.push(kind, text)

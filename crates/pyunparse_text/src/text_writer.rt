@@ -6,6 +6,7 @@ ghost use Rattle.std.specs.Str.{bytes_eq};
 ghost use Rattle.std.specs.String.{string_bytes};
 ghost use Rattle.pyfstring.specs.Texts.{begins_with};
 ghost use Rattle.pylex_lexeme.specs.Characters.{left_curly_bracket, line_feed, space};
+ghost use Rattle.pyunparse_text.specs.Marks.{is_close_after, is_close_before};
 ghost use Rattle.pyunparse_text.specs.Spacing.{is_number_kind};
 ghost use Rattle.pyunparse_text.specs.Writing.{meets};
 
@@ -13,6 +14,7 @@ use crate::edges::Edge;
 use crate::literal_texts::{
     conversion_text, push_bytes_literal, push_characters, push_text_literal, quote,
 };
+use crate::marks::Role;
 use crate::writers::Writer;
 use pyfstring::Conversion;
 use pylex::Kind;
@@ -65,11 +67,17 @@ fn begins_with_brace(text: &str) -> bool
 }
 
 /// Whether a token touches the one before it. Its kind doesn't matter.
-fn touches(edge: Edge, kind: Kind, text: &str, before: bool, behind: bool) -> bool
-    ensures { result
-        ≡ meets edge (record { kind = kind; text = text.now; before = before; behind = behind }) }
+fn touches(edge: Edge, kind: Kind, text: &str, role: Role) -> bool
+    ensures { result ≡ meets edge (record {
+      kind = kind;
+      text = text.now;
+      before = is_close_before role;
+      behind = is_close_after role;
+    }) }
 {
     let _kind = kind;
+    let before = role.is_close_before();
+    let behind = role.is_close_after();
     !(edge.brace && begins_with_brace(text))
         && (edge.behind | before)
         && !(edge.number && is_byte(text, b'.'))
@@ -189,25 +197,27 @@ impl TextWriter {
     /// Appends the blank before a token, if there is one, and keeps what the token says of the
     /// next. The text matters where it is an operator's.
     #[inline(always)]
-    fn space(
-        &mut self,
-        kind: Kind,
-        text: &str,
-        before: bool,
-        behind: bool,
-    ) -> Result<(), AllocError>
+    fn space(&mut self, kind: Kind, text: &str, role: Role) -> Result<(), AllocError>
         ensures { OnOk result (self.new ≡ record {
-          text = self.old.text ++ blank self.old.last
-              (record { kind = kind; text = text.now; before = before; behind = behind });
-          last = Some
-              (edge_of (record { kind = kind; text = text.now; before = before; behind = behind }));
+          text = self.old.text ++ blank self.old.last (record {
+            kind = kind;
+            text = text.now;
+            before = is_close_before role;
+            behind = is_close_after role;
+          });
+          last = Some (edge_of (record {
+            kind = kind;
+            text = text.now;
+            before = is_close_before role;
+            behind = is_close_after role;
+          }));
           level = self.old.level;
           in_field = self.old.in_field;
         }) }
     {
-        self.put_blank(kind, text, before, behind)?;
+        self.put_blank(kind, text, role)?;
         self.last = Some(Edge {
-            behind,
+            behind: role.is_close_after(),
             number: is_number(kind),
             comma: is_byte(text, b','),
             brace: false,
@@ -235,16 +245,14 @@ impl TextWriter {
     }
 
     /// Appends the blank before a token, if there is one.
-    fn put_blank(
-        &mut self,
-        kind: Kind,
-        text: &str,
-        before: bool,
-        behind: bool,
-    ) -> Result<(), AllocError>
+    fn put_blank(&mut self, kind: Kind, text: &str, role: Role) -> Result<(), AllocError>
         ensures { OnOk result (self.new ≡ record {
-          text = self.old.text ++ blank self.old.last
-              (record { kind = kind; text = text.now; before = before; behind = behind });
+          text = self.old.text ++ blank self.old.last (record {
+            kind = kind;
+            text = text.now;
+            before = is_close_before role;
+            behind = is_close_after role;
+          });
           last = self.old.last;
           level = self.old.level;
           in_field = self.old.in_field;
@@ -253,7 +261,7 @@ impl TextWriter {
         match self.last {
             None => Ok(()),
             Some(edge) => {
-                if touches(edge, kind, text, before, behind) {
+                if touches(edge, kind, text, role) {
                     return Ok(());
                 }
                 self.text.push(' ')
@@ -275,29 +283,23 @@ impl Writer for TextWriter {
         *self.text.allocator()
     }
 
-    fn put(
-        &mut self,
-        kind: Kind,
-        text: &str,
-        before: bool,
-        behind: bool,
-    ) -> Result<(), AllocError> {
-        self.space(kind, text, before, behind)?;
+    fn put(&mut self, kind: Kind, text: &str, role: Role) -> Result<(), AllocError> {
+        self.space(kind, text, role)?;
         self.push_text(text)
     }
 
     fn put_str(&mut self, points: &[u32], unicode: bool) -> Result<(), AllocError> {
-        self.space(Kind::String, "", false, false)?;
+        self.space(Kind::String, "", Role::Free)?;
         push_text_literal(&mut self.text, self.in_field, points, unicode)
     }
 
     fn put_bytes(&mut self, bytes: &[u8]) -> Result<(), AllocError> {
-        self.space(Kind::String, "", false, false)?;
+        self.space(Kind::String, "", Role::Free)?;
         push_bytes_literal(&mut self.text, self.in_field, bytes)
     }
 
     fn begin_string(&mut self) -> Result<bool, AllocError> {
-        self.space(Kind::String, "", false, false)?;
+        self.space(Kind::String, "", Role::Free)?;
         self.text.push('f')?;
         self.push_quote(self.in_field)?;
         Ok(self.in_field)

@@ -17,36 +17,28 @@ use pytoken::Keyword;
 use pytree_node::{Comparison, Identifier, UnaryOperator};
 use std::alloc::AllocError;
 
-/// Writes an operator or delimiter that keeps close to its neighbours, or doesn't.
-pub fn put_operator<W: Writer>(
-    out: &mut W,
-    sign: Exact,
-    before: bool,
-    behind: bool,
-) -> Result<(), AllocError>
-    ensures { OnOk result (out.new ≡ puts W.after out.old (sited (Op sign) before behind ∷ [])) }
-{
-    out.put(Kind::Op, sign.text(), before, behind)
-}
-
 /// Writes an operator or delimiter by its role.
-#[inline(always)]
 pub fn put_sign<W: Writer>(out: &mut W, sign: Exact, role: Role) -> Result<(), AllocError>
     ensures { OnOk result (out.new ≡ puts W.after out.old (in_role role sign ∷ [])) }
 {
-    match role {
-        Role::Free => put_operator(out, sign, false, false),
-        Role::Leading => put_operator(out, sign, false, true),
-        Role::Trailing => put_operator(out, sign, true, false),
-        Role::Tight => put_operator(out, sign, true, true),
+    out.put(Kind::Op, sign.text(), role)
+}
+
+/// Writes an operator, which may keep close to what stands before it.
+pub fn put_operator<W: Writer>(out: &mut W, sign: Exact, close: bool) -> Result<(), AllocError>
+    ensures { OnOk result (out.new ≡ puts W.after out.old (sited (Op sign) close false ∷ [])) }
+{
+    if close {
+        return put_sign(out, sign, Role::Trailing);
     }
+    put_sign(out, sign, Role::Free)
 }
 
 /// Writes a keyword.
 pub fn put_word<W: Writer>(out: &mut W, word: Keyword) -> Result<(), AllocError>
     ensures { OnOk result (out.new ≡ puts W.after out.old (written.word piece word ∷ [])) }
 {
-    out.put(Kind::Name, word.spelling(), false, false)
+    out.put(Kind::Name, word.spelling(), Role::Free)
 }
 
 /// Writes a name, which may keep close to what stands before it.
@@ -54,7 +46,10 @@ pub fn put_text<W: Writer>(out: &mut W, name: &str, before: bool) -> Result<(), 
     ensures { OnOk result
         (out.new ≡ puts W.after out.old (sited (in_form (chars name.now)) before false ∷ [])) }
 {
-    out.put(Kind::Name, name, before, false)
+    if before {
+        return out.put(Kind::Name, name, Role::Trailing);
+    }
+    out.put(Kind::Name, name, Role::Free)
 }
 
 /// Writes a name.
@@ -62,7 +57,7 @@ pub fn put_name<W: Writer>(out: &mut W, name: &Identifier) -> Result<(), AllocEr
     ensures { OnOk result
         (out.new ≡ puts W.after out.old (written.free piece (in_form name.now) ∷ [])) }
 {
-    out.put(Kind::Name, name.as_str(), false, false)
+    out.put(Kind::Name, name.as_str(), Role::Free)
 }
 
 /// Writes a bracket before an expression, unless it is bare.

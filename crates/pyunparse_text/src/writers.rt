@@ -6,9 +6,11 @@ ghost use Rattle.pytoken.specs.Terminals.{Literal};
 ghost use Rattle.pyunparse_text.specs.Folds.{anywhere, puts_elements, sited_in_utf8, Step};
 ghost use Rattle.pyunparse_text.specs.Folds.{Begin, PutText, BeginField, EndExpression};
 ghost use Rattle.pyunparse_text.specs.Folds.{BeginSpec, EndField};
+ghost use Rattle.pyunparse_text.specs.Marks.{is_close_after, is_close_before};
 ghost use Rattle.pyunparse_text.specs.Pieces.{Sited, sited, sited_string};
 ghost use Rattle.pyunparse_text.specs.Written.{Element};
 
+use crate::marks::Role;
 use pyfstring::Conversion;
 use pylex::Kind;
 use std::alloc::{AllocError, Global};
@@ -33,10 +35,14 @@ pub trait Writer {
     /// The allocator that its memory is from.
     fn alloc(&self) -> Global;
 
-    /// Writes a token that keeps close to its neighbours, or doesn't.
-    fn put(&mut self, kind: Kind, text: &str, before: bool, behind: bool) -> Result<(), AllocError>
-        ensures { OnOk result (self.new ≡ after self.old (anywhere
-            (record { kind = kind; text = text.now; before = before; behind = behind }))) };
+    /// Writes a token, as close to its neighbours as its role says.
+    fn put(&mut self, kind: Kind, text: &str, role: Role) -> Result<(), AllocError>
+        ensures { OnOk result (self.new ≡ after self.old (anywhere (record {
+          kind = kind;
+          text = text.now;
+          before = is_close_before role;
+          behind = is_close_after role;
+        }))) };
 
     /// Writes a text constant.
     fn put_str(&mut self, points: &[u32], unicode: bool) -> Result<(), AllocError>

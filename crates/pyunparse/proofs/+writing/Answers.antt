@@ -1,4 +1,4 @@
-use Rattle.std.proofs.Common.{◌≡◌, ◌==◌, ◌+◌, ◌&&◌, nat_eq, drop, false, true, ◌<◌, ◌∙◌, ◌++◌, ◌∷◌, [], ap, arith, length, map, refl, sym}
+use Rattle.std.proofs.Common.{◌≡◌, ◌==◌, ◌+◌, ◌&&◌, nat_eq, drop, false, ◌<◌, ◌∙◌, ◌++◌, ◌∷◌, [], ap, arith, length, map, refl, sym}
 use Rattle.std.proofs.lemmas.Result.{IfOk-equal}
 use Rattle.pylex_lexeme.specs.declared.kinds.Exact.TheVariants.{Colon, Comma, Equal, LBrace, RBrace, Star}
 use Rattle.pytree_node.specs.declared.expressions.Arg as given_arg
@@ -16,9 +16,10 @@ use Rattle.pytree_node.proofs.Callers.ExprShapes.{yield_from_tree, yield_tree}
 use Rattle.pygrammar.specs.declared.levels.Level.TheVariants.{BitOr, Elem, Expression, Named, Or}
 use Rattle.pytree_height.specs.Heights.{arg_height, arg_heights, comprehension_heights, height, heights, keyword_heights, optional_height}
 use Rattle.pytree_height.specs.Heights.{optional_heights}
-use Rattle.pytoken.specs.Terminals.{in_form, Op}
+use Rattle.pytoken.specs.Terminals.{in_form}
 use Rattle.pyunparse_text.specs.Levels.{reaches}
-use Rattle.pyunparse_text.specs.Pieces.{piece, pieces, sited}
+use Rattle.pyunparse_text.specs.Marks.{in_role}
+use Rattle.pyunparse_text.specs.Pieces.{piece, pieces}
 use Rattle.pyunparse_text.specs.Written.{Text, by_name, clauses, conditions, each, element_level, elements_behind, field, first_text, free}
 use Rattle.pyunparse_text.specs.Written.{gathered, leading, listed, names, pairs, spec_elements, suffixed, tight, trailing, tuple_level}
 use Rattle.pyunparse_text.specs.Written.{with_star, written, written_keys}
@@ -656,12 +657,12 @@ pub optional::write_suffix-returns-in-None : goal.optional::write_suffix-returns
 unfolding written
 optional::write_suffix-returns-in-None g t c = rw c.in-None.is refl
 
-pub optional::write_suffix-returns-in_ok-put_operator-in-Some : goal.optional::write_suffix-returns-in_ok-put_operator-in-Some
+pub optional::write_suffix-returns-in_ok-put_sign-in-Some : goal.optional::write_suffix-returns-in_ok-put_sign-in-Some
 unfolding written
-optional::write_suffix-returns-in_ok-put_operator-in-Some g t c =
+optional::write_suffix-returns-in_ok-put_sign-in-Some g t c =
     rw (c.in-Some.is, sym c.deref.ensures) (IfOk-equal _ _ _ _ c.write_expr.ensures
-    (two g.W.Writer.after c.args.out.now (sited (Op c.args.sign) true c.args.behind ∷ []) (pieces Expression (tree_of c.deref.result.now)) _
-    c.in_ok-put_operator-in-Some.ensures))
+    (two g.W.Writer.after c.args.out.now (in_role c.args.role c.args.sign ∷ []) (pieces Expression (tree_of c.deref.result.now)) _
+    c.in_ok-put_sign-in-Some.ensures))
 
 pub parameters::write_own_default-returns-in-None : goal.parameters::write_own_default-returns-in-None
 unfolding written

@@ -6,6 +6,7 @@ use Rattle.std.proofs.Common.{◌≡◌, refl, sym, ap, subst, ◌∙◌, ◌+�
 use Rattle.std.proofs.Common.{cond}
 use Rattle.std.proofs.Common.{length-append}
 use Rattle.std.specs.Prelude.{map}
+use Rattle.std.proofs.lemmas.List.{map-append}
 use Rattle.pylex_lexeme.specs.declared.kinds.Exact.TheVariants.{LPar, RPar, Comma, Star, Equal, DoubleStar}
 use Rattle.pytree_node.specs.declared.operators.Context.TheVariants.{Load}
 use Rattle.pygrammar.specs.declared.levels.Level.TheVariants.{Named, Expression, Primary}
@@ -102,10 +103,6 @@ sorted_keywords (Single e ∷ es) fs = sorted_keywords es fs
 sorted_keywords (Spread e ∷ es) fs = sorted_keywords es fs
 sorted_keywords (_ ∷ es) fs = sorted_keywords es fs
 
-map_append : {A B : Type 0} (f : A → B) (xs ys : List A) → map f (xs ++ ys) ≡ map f xs ++ map f ys
-map_append f [] ys = refl
-map_append f (x ∷ xs) ys = ap (λ z. f x ∷ z) (map_append f xs ys)
-
 firsts_written : {A : Type 0} (make : Maker A) (es : List Entry)
     → each make Named (positional es) ≡ map (entry_in make Argument) (firsts es)
 unfolding each written
@@ -127,7 +124,7 @@ pub sorted_written : {A : Type 0} (make : Maker A) (es : List Entry)
 sorted_written make es =
     ap (λ z. z ++ by_name make (keywords es)) (firsts_written make es)
     ∙ ap (λ z. map (entry_in make Argument) (firsts es) ++ z) (lasts_written make es)
-    ∙ sym (map_append (entry_in make Argument) (firsts es) (lasts es))
+    ∙ sym (map-append (entry_in make Argument) (firsts es) (lasts es))
 
 total_append : (xs ys : List (List (Unit {0}))) → total (xs ++ ys) ≡ total xs + total ys
 total_append [] ys = omega arith
@@ -145,7 +142,7 @@ sorted_total (_ ∷ es) = omega (arith, sorted_total es)
 pub sorted_short : (es : List Entry)
     → length (separated tt (map (entry_marks Argument) (sorted es))) ≤ length (separated tt (map (entry_marks Argument) es))
 sorted_short es =
-    rw (map_append (entry_marks Argument) (firsts es) (lasts es))
+    rw (map-append (entry_marks Argument) (firsts es) (lasts es))
     (omega (
       arith,
       length_separated tt (map (entry_marks Argument) (firsts es) ++ map (entry_marks Argument)

@@ -5,6 +5,7 @@
 use Rattle.std.proofs.Common.{◌≡◌, refl, sym, ap, subst, ◌≤◌, arith, List, [], ◌∷◌, ◌++◌, length, Bool, true, false, append_assoc}
 use Rattle.std.proofs.Common.{length-append}
 use Rattle.std.specs.Prelude.{not, map}
+use Rattle.std.proofs.lemmas.Bool.{not-true}
 use Rattle.pylex_lexeme.specs.declared.kinds.Exact.TheVariants.{LPar, RPar, LSqb, RSqb, LBrace, RBrace, Colon, Comma, Star, Slash, Equal}
 use Rattle.pylex_lexeme.specs.declared.kinds.Exact.TheVariants.{DoubleStar}
 use Rattle.pytree_node.specs.declared.operators.Context.TheVariants.{Load}
@@ -323,17 +324,13 @@ at_atom e es s = let h = head_of s in subst (λ z. G.Derives Atom z (Trees.Tuple
     (sym (with_comma_brackets (written terminal Elem e) (separated (Op Comma) (each terminal Elem (singles es)))))
     (G.tuple (h.0.all Elem h.1) (list_of (tail_of s)))
 
-not_false : (b : Bool) → not b ≡ true → b ≡ false
-not_false true h = absurd (cc)
-not_false false h = refl
-
 star_standings : {e : Expr} {es : List Entry} → Standings (Of Part) (Single e ∷ es) → not (some_slice (an_expr e (singles es))) ≡ true
     → Standings (Of StarItem) (Single e ∷ es)
-star_standings {e} {es} s h = placed StarItem star_from_part s (not_false (some_slice (an_expr e (singles es))) h)
+star_standings {e} {es} s h = placed StarItem star_from_part s (not-true (some_slice (an_expr e (singles es))) h)
 
 elem_standings : {e : Expr} {es : List Entry} → Standings (Of Part) (Single e ∷ es) → not (some_slice (an_expr e (singles es))) ≡ true
     → Standings (Of Elem) (Single e ∷ es)
-elem_standings {e} {es} s h = placed Elem elem_from_part s (not_false (some_slice (an_expr e (singles es))) h)
+elem_standings {e} {es} s h = placed Elem elem_from_part s (not-true (some_slice (an_expr e (singles es))) h)
 
 tuple_at : (m : Level) (b : Bool) (e : Expr) (es : List Entry) → Standings (Of Part) (Single e ∷ es)
     → tuple_place m (some_slice (an_expr e (singles es))) ≡ true

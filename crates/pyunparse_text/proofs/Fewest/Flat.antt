@@ -48,6 +48,7 @@ use Rattle.pyunparse_text.specs.Brackets.{open_after, most_open, brackets}
 use Rattle.pyunparse_text.specs.Laws.{not_atom}
 use Rattle.pyunparse_text.proofs.Fewest.Sizes.{inner}
 use Rattle.pyunparse_text.proofs.Fewest.Reach.{every, implied, fit_within}
+use Rattle.pyunparse_text.proofs.PieceLaws.Shallow.{first_open}
 
 -- balanced, with no more than n open at once
 pub record Flat (n : ℕ) (ts : List Terminal) : Type 0 where
@@ -59,10 +60,6 @@ flat_none n = record { at = λ d us. omega arith }
 flat_more : (m n : ℕ) {ts : List Terminal} → m ≤ n → Flat m ts → Flat n ts
 flat_more m n h f = record { at = λ d us. omega (arith, h, f.at d us) }
 
-pub start_open : (d : ℕ) (us : List Terminal) → d ≤ most_open d us
-start_open d [] = omega arith
-start_open d (t ∷ us) = omega arith
-
 pub both : {n : ℕ} {ts us : List Terminal} → Flat n ts → Flat n us → Flat n (ts ++ us)
 both {n} {ts} {us} f g = record { at = λ d vs. rw (append_assoc ts us vs) (omega (arith, f.at d (us ++ vs), g.at d vs)) }
 
@@ -70,7 +67,7 @@ abbrev pub Neutral : Terminal → Type 0
 Neutral t = (d : ℕ) → open_after d t ≡ d
 
 pub plain : {n : ℕ} {t : Terminal} {ts : List Terminal} → Neutral t → Flat n ts → Flat n (t ∷ ts)
-plain {n} {t} {ts} k f = record { at = λ d us. rw (k d) (omega (arith, f.at d us, start_open d us)) }
+plain {n} {t} {ts} k f = record { at = λ d us. rw (k d) (omega (arith, f.at d us, first_open d us)) }
 
 -- a pair of brackets
 pub record Opens (t : Terminal) : Type 0 where
@@ -103,7 +100,7 @@ pair {n} {o} {c} {ts} p q f = record { at = λ d us. rw (p.is d, append_assoc ts
     step : (d : ℕ) (us : List Terminal) → max d (most_open (suc d) (ts ++ (c ∷ us))) ≤ max (d + (n + 1)) (most_open d us)
     step d us = let h : most_open (suc d) (ts ++ (c ∷ us)) ≤ max (suc d + n) (max (suc d) (most_open d us)) =
         subst (λ k. most_open (suc d) (ts ++ (c ∷ us)) ≤ max (suc d + n) (max (suc d) (most_open k us))) (q.is d) (f.at (suc d) (c ∷ us)) in
-        omega (arith, h, start_open d us)
+        omega (arith, h, first_open d us)
 
 pub up : {m n : ℕ} {ts : List Terminal} → Flat m ts → m ≤ n → Flat n ts
 up {m} {n} f h = flat_more m n h f

@@ -1,6 +1,6 @@
 -- How many tokens an expression is written in.
 --
--- Carries: same, size_is, for Shortest, Patterns. On: Counted.
+-- Carries: same, for Shortest, Patterns. On: Counted.
 use Rattle.std.proofs.Common.{◌≡◌, refl, sym, ap, subst, ℕ, zero, suc, ◌≤◌, arith, List, [], ◌∷◌, ◌++◌, length, Option, Some, None, Bool}
 use Rattle.std.proofs.Common.{true, false}
 use Rattle.std.proofs.Common.{cond, length-append}
@@ -336,10 +336,6 @@ mutual
   same_defaults : (ds : OptionalExprs) → AllSame (defaults one ds) (defaults terminal ds)
   same_defaults no_optional = none
   same_defaults (an_optional d ds) = more (same_suffixed Equal d) (same_defaults ds)
-
--- how many
-pub size_is : (l : Level) (e : Expr) → token_count (written terminal l e) ≡ length (written one l e)
-size_is l e = count_is (same l e).is
 
 -- no more than a list of at least so many
 pub no_more : {ms : List (Unit {0})} {us ts : List Terminal} → Same ms us → AtLeast ms ts → token_count us ≤ token_count ts

@@ -5,6 +5,7 @@ use Rattle.std.proofs.Common.{◌≡◌, refl, sym, ap, subst, ◌∙◌, ℕ, s
 use Rattle.std.proofs.Common.{append-nil}
 use Rattle.std.specs.Prelude.{◌||◌}
 use Rattle.std.proofs.lemmas.Grind.{flat_map-append}
+use Rattle.std.proofs.lemmas.Bool.{or_parts}
 use Rattle.pyfstring.specs.declared.parts.Conversion.{Conversion}
 use Rattle.pylex_lexeme.specs.declared.kinds.Exact.TheVariants.{LPar, RPar}
 use Rattle.pygrammar.specs.declared.levels.Level.{Level}
@@ -144,12 +145,6 @@ no_first_text k no_part h = refl
 no_first_text k (text s) h = absurd (cc)
 no_first_text k (field_of r a q s) h = refl
 
-no_first_spec_text : {u : Bool} {ps : List StringPart} (k : Bool) → Stands u ps → begins_text ps ≡ false
-    → first_text (spec_values_of k ps) ≡ []
-no_first_spec_text k no_part h = refl
-no_first_spec_text k (text s) h = absurd (cc)
-no_first_spec_text k (field_of r a q s) h = refl
-
 mutual
   unfolding written elements_behind spec_elements
 
@@ -213,22 +208,14 @@ record Kindless (values : Bool → Exprs) (ps : List StringPart) : Type 0 where
   stands : Stands false ps
   same : values true ≡ values false
 
-first_none : (a b : Bool) → (a || b) ≡ false → a ≡ false
-first_none true b h = h
-first_none false b h = refl
-
-second_none : (a b : Bool) → (a || b) ≡ false → b ≡ false
-second_none true b h = absurd (cc)
-second_none false b h = h
-
 mutual
   kindless : {ps : List StringPart} → Stands true ps → is_unicode (values_of true ps) ≡ false → Kindless (λ k. values_of k ps) ps
   kindless no_part h = record { stands = no_part; same = refl }
   kindless (text s) h = absurd (cc)
   kindless (field_of {e = e} {c = c} {s = t} {ps = ps} r a q s) h =
-      let k : Kindless (λ k. values_of k ps) ps = kindless s (second_none (is_unicode_spec t) (is_unicode (values_of true ps)) h) in
+      let k : Kindless (λ k. values_of k ps) ps = kindless s (or_parts (is_unicode_spec t) (is_unicode (values_of true ps)) h).1 in
       record {
-        stands = field_of r a (kindless_spec q (first_none (is_unicode_spec t) (is_unicode (values_of true ps)) h)) k.stands;
+        stands = field_of r a (kindless_spec q (or_parts (is_unicode_spec t) (is_unicode (values_of true ps)) h).0) k.stands;
         same = ap (an_expr (Trees.FormattedValue e c t)) k.same;
       }
 
@@ -240,9 +227,9 @@ mutual
   kindless_in_spec (text (field_of r a q s)) h = absurd (cc)
   kindless_in_spec (field_of {e = e} {c = c} {s = t} {ps = ps} r a q s) h =
       let k : Kindless (λ k. spec_values_of k ps) ps =
-      kindless_in_spec s (second_none (is_unicode_spec t) (is_unicode (spec_values_of true ps)) h) in
+      kindless_in_spec s (or_parts (is_unicode_spec t) (is_unicode (spec_values_of true ps)) h).1 in
       record {
-        stands = field_of r a (kindless_spec q (first_none (is_unicode_spec t) (is_unicode (spec_values_of true ps)) h)) k.stands;
+        stands = field_of r a (kindless_spec q (or_parts (is_unicode_spec t) (is_unicode (spec_values_of true ps)) h).0) k.stands;
         same = ap (an_expr (Trees.FormattedValue e c t)) k.same;
       }
 

@@ -7,7 +7,7 @@ use Rattle.std.proofs.Common.{None}
 use Rattle.std.proofs.Common.{inl, inr}
 use Rattle.std.specs.Char.{is_ascii_alphanumeric}
 use Rattle.std.specs.List.{list_all, list_any}
-use Rattle.std.proofs.lemmas.Bool.{ltb-true, cases_Bool}
+use Rattle.std.proofs.lemmas.Bool.{ltb-true, cases_Bool, false_from_ne_true, not-true}
 use Rattle.unicode_ident.specs.Ident.{is_xid_continue}
 use Rattle.unicode_ident.proofs.IdentLemmas.{is_xid_continue-ascii}
 use Rattle.pyfstring.specs.Texts.{begins_with}
@@ -15,7 +15,6 @@ use Rattle.pyfstring.specs.Expressions.{is_quote, is_refused, is_end, opened_by,
 use Rattle.pyfstring.specs.Expressions.{expression}
 use Rattle.pylex_lexeme.proofs.Callers.Booleans.{and_parts, or_parts_false}
 use Rattle.pyunparse_text.proofs.LexemeFronts.OperatorFronts.{of_any}
-use Rattle.pyunparse_text.proofs.Cases.{cases, off}
 use Rattle.pyunparse_text.proofs.FieldTexts.Conditions.{is_there, is_own, is_inner, is_calm, is_plain}
 
 -- ---- Which characters they are.
@@ -49,15 +48,15 @@ not_special c e =
 -- those of a set that has none of them
 pub plain_but : (f : ℕ → Bool) → list_all (λ d. not (f d)) specials ≡ true → (c : ℕ) → f c ≡ true → is_plain c ≡ true
 plain_but f a c e = not_special c
-    (cases (list_any (eqb c) specials) (λ h. let n = off (f c) (of_any (λ d. not (f d)) c specials a h) in cc))
+    (false_from_ne_true (list_any (eqb c) specials) (λ h. let n = not-true (f c) (of_any (λ d. not (f d)) c specials a h) in cc))
 
 -- those that go on in names
 pub name_plain : (c : ℕ) → is_xid_continue c ≡ true → is_plain c ≡ true
-name_plain c e = not_special c (cases (list_any (eqb c) specials) (λ h.
+name_plain c e = not_special c (false_from_ne_true (list_any (eqb c) specials) (λ h.
     let a = of_any (λ d. ltb d 128 && not (is_ascii_alphanumeric d || (d == 95))) c specials refl h in
     let b = and_parts (ltb c 128) (not (is_ascii_alphanumeric c || (c == 95))) a in
     let l : c < 128 = ltb-true c 128 b.0 in
-    let n : is_xid_continue c ≡ false = is_xid_continue-ascii c l ∙ off _ b.1 in
+    let n : is_xid_continue c ≡ false = is_xid_continue-ascii c l ∙ not-true _ b.1 in
     cc))
 
 -- ---- They are passed.
@@ -86,9 +85,14 @@ inner_of c e =
     let b2 = and_parts (not (c == 92)) _ b1.1 in
     let a2 = and_parts (not (c == 35)) _ a1.1 in
     let a3 = and_parts (not (is_there (opened_by c))) (not (is_there (closed_by c))) a2.1 in
-    let s = off (c == 92) b2.0 in
-    let h = off (c == 35) a2.0 in
-    record { quote = off _ b1.0; refused = rw (s, h) refl; opener = none_there (opened_by c) a3.0; closer = none_there (closed_by c) a3.1 }
+    let s = not-true (c == 92) b2.0 in
+    let h = not-true (c == 35) a2.0 in
+    record {
+      quote = not-true _ b1.0;
+      refused = rw (s, h) refl;
+      opener = none_there (opened_by c) a3.0;
+      closer = none_there (closed_by c) a3.1;
+    }
 
 pass_inside : (os : List Bracket) (c : ℕ) (cs : List ℕ) → is_empty os ≡ false → is_inner c ≡ true
     → scan expression os 0 (c ∷ cs) ≡ scan expression os 0 cs
@@ -101,7 +105,7 @@ unfolding step
 pass_calm os c cs k n =
     let a = and_parts (is_inner c) (not (is_end c)) k in
     let p = inner_of c a.0 in
-    let e = off (is_end c) a.1 in
+    let e = not-true (is_end c) a.1 in
     elim (cases_Bool (is_empty os)) [
       | inl h ↦ rw (p.quote, p.refused, h, n, e, p.opener, p.closer, scan) refl
       | inr h ↦ rw (p.quote, p.refused, h, p.opener, p.closer, scan) refl
@@ -110,7 +114,7 @@ pass_calm os c cs k n =
 no_equals : (c : ℕ) → is_calm c ≡ true → (c == 61) ≡ false
 no_equals c k =
     let a = and_parts (is_inner c) (not (is_end c)) k in
-    (or_parts_false ((c == 125) || (c == 33) || (c == 58)) (c == 61) (off (is_end c) a.1)).1
+    (or_parts_false ((c == 125) || (c == 33) || (c == 58)) (c == 61) (not-true (is_end c) a.1)).1
 
 -- whatever follows
 pub plain_passed : (os : List Bracket) (t r : List ℕ) → list_all is_plain t ≡ true → scan expression os 0 (t ++ r) ≡ scan expression os 0 r
@@ -122,9 +126,9 @@ plain_passed os (c ∷ t) r a =
     none : (c : ℕ) (cs : List ℕ) → is_plain c ≡ true → begins_comparison (c ∷ cs) ≡ false
     none c cs e =
         let a = and_parts (is_calm c) (not ((c == 60) || (c == 62))) e in
-        let b = or_parts_false (c == 60) (c == 62) (off _ a.1) in
+        let b = or_parts_false (c == 60) (c == 62) (not-true _ a.1) in
         let d = and_parts (is_inner c) (not (is_end c)) a.0 in
-        let f = or_parts_false ((c == 125) || (c == 33) || (c == 58)) (c == 61) (off (is_end c) d.1) in
+        let f = or_parts_false ((c == 125) || (c == 33) || (c == 58)) (c == 61) (not-true (is_end c) d.1) in
         let g = or_parts_false ((c == 125) || (c == 33)) (c == 58) f.0 in
         let i = or_parts_false (c == 125) (c == 33) g.0 in
         rw (i.1, f.1, b.0, b.1) refl

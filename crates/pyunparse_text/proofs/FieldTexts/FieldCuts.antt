@@ -7,6 +7,8 @@ use Rattle.std.proofs.Common.{if◌then◌else◌, length-append}
 use Rattle.std.specs.List.{list_all}
 use Rattle.std.specs.Str.{bytes_eq}
 use Rattle.std.proofs.lemmas.List.{take-append-le}
+use Rattle.std.proofs.lemmas.Bool.{cases_Bool}
+use Rattle.std.proofs.Math.Bool.{and-false}
 use Rattle.pyfstring.specs.Texts.{begins_with}
 use Rattle.pylex.specs.declared.kind.Kind.{Kind}
 use Rattle.pylex.specs.declared.kind.Kind.TheVariants as kinds
@@ -18,7 +20,6 @@ use Rattle.pylex_lexeme.proofs.Callers.Booleans.{and_parts}
 use Rattle.pylex_lexeme.proofs.Callers.Lexemes.{none_is, nothing_takes}
 use Rattle.pyunparse_text.specs.Spacing.{Piece, is_token, touches, text_behind, stay_apart, are_two_points, all_apart, are_readable}
 use Rattle.pyunparse_text.specs.Inner.Relexed.{lexeme_of, blanks, lexemes_behind, lexemes_of}
-use Rattle.pyunparse_text.proofs.Cases.{bool_cases}
 use Rattle.pyunparse_text.proofs.LexemeFronts.Fronts.{blanks_front}
 use Rattle.pyunparse_text.proofs.LexemeFronts.LineCuts.{Same, same_lexemes}
 use Rattle.pyunparse_text.proofs.LexemeFronts.PieceFronts.{IsPiece, ArePieces, Clear, clear_behind, none_empty, token_front, token_no_blank}
@@ -26,15 +27,11 @@ use Rattle.pyunparse_text.proofs.FieldTexts.Conditions.{expression_text}
 
 -- ---- What stands behind a piece doesn't join it, if no line's end stands behind that either.
 
-and_false : (b : Bool) → (b && false) ≡ false
-and_false true = refl
-and_false false = refl
-
 clear_nothing : (k : Kind) (t : List ℕ) → Clear k t []
 clear_nothing kinds.Name t = (refl, refl)
 clear_nothing kinds.Number t = (refl, refl)
 clear_nothing kinds.String t = refl
-clear_nothing kinds.Op t = (λ j h i. absurd (omega arith), and_false (bytes_eq t (46 ∷ [])))
+clear_nothing kinds.Op t = (λ j h i. absurd (omega arith), and-false (bytes_eq t (46 ∷ [])))
 clear_nothing kinds.Encoding t = tt
 clear_nothing kinds.Comment t = tt
 clear_nothing kinds.Nl t = tt
@@ -64,7 +61,7 @@ clear_alone p [] i a h = clear_nothing p.kind p.text
 clear_alone p (q ∷ qs) i a h =
     let c : Clear p.kind p.text (text_behind p (q ∷ qs) ++ 10 ∷ []) = clear_behind p (q ∷ qs) [] i a h in
     let b = (and_parts (is_token q.kind q.text) (list_all (λ r. is_token r.kind r.text) qs) a).0 in
-    elim (bool_cases (touches p q)) [
+    elim (cases_Bool (touches p q)) [
       | inl t ↦ rw t (head q.kind q.text b (rw t at c))
       | inr t ↦ rw t (clear_front p.kind p.text 32 (q.text ++ text_behind q qs) (10 ∷ []) (rw t at c))
     ]
@@ -96,7 +93,7 @@ behind_lexed p (q ∷ qs) a h =
     let i = and_parts (is_token q.kind q.text) (list_all (λ r. is_token r.kind r.text) qs) a in
     let j = and_parts (not (touches p q) || (stay_apart p q || are_two_points p q qs)) (all_apart q qs) h in
     let k = piece_lexed q qs (lexemes_behind q qs) i.0 i.1 j.1 (behind_lexed q qs i.1 j.1) in
-    elim (bool_cases (touches p q)) [
+    elim (cases_Bool (touches p q)) [
       | inl t ↦ rw t k
       | inr t ↦ rw t (blank_lexed q qs (lexeme_of q ∷ lexemes_behind q qs) i.0 k)
     ]
@@ -114,7 +111,7 @@ expression_lexed (p ∷ ps) e =
     let r = and_parts (list_all (λ q. is_token q.kind q.text) (p ∷ ps)) (all_apart p ps) e in
     let i = and_parts (is_token p.kind p.text) (list_all (λ q. is_token q.kind q.text) ps) r.0 in
     let k = piece_lexed p ps (lexemes_behind p ps) i.0 i.1 r.1 (behind_lexed p ps i.1 r.1) in
-    elim (bool_cases (begins_with 123 p.text)) [
+    elim (cases_Bool (begins_with 123 p.text)) [
       | inl t ↦ rw t (blank_lexed p ps (lexeme_of p ∷ lexemes_behind p ps) i.0 k)
       | inr t ↦ rw t k
     ]

@@ -8,9 +8,10 @@ use Rattle.std.specs.Prelude.{nat_lt}
 use Rattle.std.specs.List.{list_all, list_any, flat_map}
 use Rattle.std.specs.Str.{all_scalars}
 use Rattle.std.proofs.Math.Utf8.{low_scalar}
-use Rattle.std.proofs.lemmas.Bool.{and_from, ltb-true}
+use Rattle.std.proofs.lemmas.Bool.{and_from, ltb-true, not-true}
 use Rattle.std.proofs.lemmas.Bool.Decides.{nat_tests}
 use Rattle.std.proofs.lemmas.List.Folds.{list_all-append}
+use Rattle.std.proofs.Math.Bool.{or-true}
 use Rattle.pyfstring.specs.Expressions.{is_quote}
 use Rattle.pylex.specs.declared.kind.Kind.TheVariants as kinds
 use Rattle.pylex_lexeme.specs.Chars.{is_comment_part}
@@ -28,7 +29,6 @@ use Rattle.pytoken.specs.Terminals.{Literal, Gives, terminal_of, single_fault, f
 use Rattle.pytoken.specs.Terminals.{nested_expression}
 use Rattle.pyunparse_text.specs.Spacing.{is_token}
 use Rattle.pyunparse_text.specs.Pieces.{prefix, in_double_quotes, field_character, field_literal_text}
-use Rattle.pyunparse_text.proofs.Cases.{off}
 use Rattle.pyunparse_text.proofs.Sources.Bytes.{scalars_both}
 use Rattle.pyunparse_text.proofs.FieldTexts.Conditions.{is_own, is_plain_literal}
 use Rattle.pyunparse_text.proofs.FieldTexts.Enclosures.{literal_plain}
@@ -53,7 +53,7 @@ own_read bytes [] a = refl
 own_read bytes (c ∷ t) a =
     let p = and_parts (is_own c) (list_all is_own t) a in
     let p1 = and_parts (not (is_quote c)) _ p.0 in
-    let s = off (c == 92) (and_parts (not (c == 92)) _ p1.1).0 in
+    let s = not-true (c == 92) (and_parts (not (c == 92)) _ p1.1).0 in
     rw s (ap (λ (ms : List Meaning). Point c ∷ ms) (own_read bytes t p.1))
 
 -- ---- The front of a literal.
@@ -137,10 +137,6 @@ prefixes_are : (is_prefix [] ≡ true) × (is_prefix (117 ∷ []) ≡ true) × (
 unfolding is_prefix
 prefixes_are = (refl, refl, refl)
 
-or_true : (b : Bool) → (b || true) ≡ true
-or_true true = refl
-or_true false = refl
-
 -- a body in double quotes is one token, whatever the prefix
 quoted_single : (body : List ℕ) → IsInString true body → is_single_string (34 ∷ body ++ 34 ∷ []) ≡ true
 unfolding is_single_string is_single
@@ -149,7 +145,7 @@ quoted_single body i = let p = prefixes_are.0 in let e = ends_at_quote true body
 marked_single : (a : ℕ) (body : List ℕ) → IsInString true body → is_prefix (a ∷ []) ≡ true
     → is_single_string (a ∷ 34 ∷ body ++ 34 ∷ []) ≡ true
 unfolding is_single_string is_single
-marked_single a body i p = let e = ends_at_quote true body i in rw (p, e) (or_true _)
+marked_single a body i p = let e = ends_at_quote true body i in rw (p, e) (or-true _)
 
 -- a literal with its parts
 record IsWhole (bytes u : Bool) (t body : List ℕ) : Type 0 where
@@ -174,7 +170,7 @@ as_literal bytes u t body w a i n =
       token = and_from (is_single_string t) (list_all is_comment_part t) w.single w.line;
       plain = w.plain;
       scalars = w.scalars;
-      gives = record { single = s; terminal = ap Literal v; sound = record { of_kind = rw k (or_true _); faultless = rw (s, f) refl } };
+      gives = record { single = s; terminal = ap Literal v; sound = record { of_kind = rw k (or-true _); faultless = rw (s, f) refl } };
       terminals = rw (s, v) refl;
       faultless = rw (b, s, f) refl;
     }

@@ -1,13 +1,13 @@
 -- The text of a field's expression is scanned as a whole (reference 2.4.3).
 --
--- Carries: field_scanned, field_taken, for what reads f-strings back. On: PieceScans.
+-- Carries: field_scanned, for what reads f-strings back. On: PieceScans.
 use Rattle.std.proofs.Common.{◌≡◌, ℕ, ◌-◌, Bool, true, false, not, ◌||◌, ◌==◌, List, [], ◌∷◌, ◌++◌, length, take, refl, sym, ◌∙◌, ap, subst}
 use Rattle.std.proofs.Common.{arith}
 use Rattle.std.proofs.Common.{eqb, Option, Some, None, inl, inr, if◌then◌else◌, append_assoc, length-append}
 use Rattle.std.specs.Prelude.{option_and_then}
 use Rattle.std.specs.List.{list_all, list_any}
 use Rattle.std.proofs.Math.Seq.{take-append_seam}
-use Rattle.std.proofs.lemmas.Bool.{cases_Bool, eqb-true}
+use Rattle.std.proofs.lemmas.Bool.{cases_Bool, eqb-true, false_from_ne_true}
 use Rattle.unicode_ident.proofs.IdentLemmas.{is_xid_start-ascii}
 use Rattle.pyfstring.specs.Texts.{begins_with}
 use Rattle.pyfstring.specs.Expressions.{step, scan, expression, behind_expression}
@@ -23,7 +23,6 @@ use Rattle.pylex_lexeme.proofs.Callers.Booleans.{and_parts}
 use Rattle.pylex_lexeme.proofs.Callers.Lexemes.{words, heads}
 use Rattle.pyunparse_text.specs.Spacing.{Piece, is_token, touches, text_behind, stay_apart, are_two_points, all_apart, are_readable}
 use Rattle.pyunparse_text.specs.Tokens.{opens_within}
-use Rattle.pyunparse_text.proofs.Cases.{bool_cases, cases}
 use Rattle.pyunparse_text.proofs.LexemeFronts.PieceFronts.{IsPiece, ArePieces, Clear, Off, clear_behind, none_empty, no_token}
 use Rattle.pyunparse_text.proofs.FieldTexts.Conditions.{is_within, are_enclosed, is_plain_piece, most_open, IsFieldExpression}
 use Rattle.pyunparse_text.proofs.FieldTexts.Conditions.{expression_text}
@@ -41,7 +40,7 @@ Fails f r = begins f r ≡ false
 -- behind a piece that another follows, the first character is the same whatever stands behind these
 same_first : (f : ℕ → Bool) (q s : Piece) (ss : List Piece) (a b : List ℕ) → IsPiece s → Fails f (text_behind q (s ∷ ss) ++ a)
     → Fails f (text_behind q (s ∷ ss) ++ b)
-same_first f q s ss a b i e = elim (bool_cases (touches q s)) [
+same_first f q s ss a b i e = elim (cases_Bool (touches q s)) [
   | inl t ↦ rw t (head s.kind s.text i (rw t at e))
   | inr t ↦ rw t (rw t at e)
 ]
@@ -72,7 +71,7 @@ quote_clear (c ∷ r) e = e
 equals_clear : (t r : List ℕ) → Clear kinds.Op t r → joins_equals t ≡ true → Fails (λ c. c == 61) r
 equals_clear t [] c e = refl
 equals_clear t (d ∷ r) c e =
-    cases (d == 61)
+    false_from_ne_true (d == 61)
     (λ h. let n = c.0 1 (omega arith) (omega arith) in let f : d ≡ 61 = eqb-true d 61 h in
     let g : is_operator (t ++ 61 ∷ []) ≡ false = subst
     (λ (x : ℕ). is_operator (t ++ x ∷ []) ≡ false) f n in cc)
@@ -195,7 +194,7 @@ no_first c e = elim (cases_Bool (c == 32)) [
 
 not_blank : (k : Kind) (t r : List ℕ) → is_token k t ≡ true → list_all is_blank (t ++ r) ≡ false
 not_blank k [] r i = absurd (none_empty k i)
-not_blank k (c ∷ t) r i = cases (list_all is_blank (c ∷ t ++ r)) (λ h.
+not_blank k (c ∷ t) r i = false_from_ne_true (list_all is_blank (c ∷ t ++ r)) (λ h.
     let f = no_first c (and_parts (is_blank c) (list_all is_blank (t ++ r)) h).0 in
     let n = no_token k c t f.others (λ z. f.digit) (λ z. f.sign) in
     cc)
@@ -206,26 +205,4 @@ field_not_blank (p ∷ ps) e =
     let r = and_parts (list_all (λ q. is_token q.kind q.text) (p ∷ ps)) (all_apart p ps) e in
     let i = and_parts (is_token p.kind p.text) (list_all (λ q. is_token q.kind q.text) ps) r.0 in
     let n = not_blank p.kind p.text (text_behind p ps) i.0 in
-    elim (bool_cases (begins_with 123 p.text)) [ inl h ↦ rw h n | inr h ↦ rw h n ]
-
-before_is : (t rest : List ℕ) → before (t ++ rest) rest ≡ t
-unfolding before
-before_is t rest =
-    let e = length-append t rest in
-    let f : length (t ++ rest) - length rest ≡ length t = omega arith in ap (λ n. take n (t ++ rest)) f ∙ take-append_seam t rest
-
-abbrev unless_blank : List ℕ → List ℕ → Option (List ℕ × List ℕ)
-unless_blank t rest = elim (list_all is_blank t) [ true ↦ None | false ↦ Some (t, rest) ]
-
-not_blank_is : (t rest : List ℕ) → list_all is_blank t ≡ false → unless_blank t rest ≡ Some (t, rest)
-not_blank_is t rest n = rw (n, unless_blank) refl
-
--- The law: it is the expression at the front.
-pub field_taken : (ps : List Piece) (rest : List ℕ) → IsFieldExpression ps → EndsExpression rest
-    → expression_at (expression_text ps ++ rest) ≡ Some (expression_text ps, rest)
-unfolding expression_at
-field_taken ps rest f e =
-    let t : List ℕ = expression_text ps in
-    ap (option_and_then (λ r. unless_blank (before (t ++ rest) r) r)) (field_scanned ps rest f e)
-    ∙ ap (λ u. unless_blank u rest) (before_is t rest)
-    ∙ not_blank_is t rest (field_not_blank ps f.readable)
+    elim (cases_Bool (begins_with 123 p.text)) [ inl h ↦ rw h n | inr h ↦ rw h n ]

@@ -6,7 +6,7 @@ use Rattle.std.proofs.Common.{◌∙◌, ap, ap₂}
 use Rattle.std.proofs.Common.{subst, arith, Option, Some, None, inl, inr, if◌then◌else◌}
 use Rattle.std.specs.List.{list_all, list_any}
 use Rattle.std.specs.Str.{all_scalars}
-use Rattle.std.proofs.lemmas.Bool.{eqb-true}
+use Rattle.std.proofs.lemmas.Bool.{eqb-true, cases_Bool, not-true}
 use Rattle.std.proofs.lemmas.Bool.Decides.{nat_tests}
 use Rattle.std.proofs.lemmas.List.Sums.{sum_by-cons}
 use Rattle.pyfstring.specs.Texts.{begins_with}
@@ -29,7 +29,6 @@ use Rattle.pytoken.specs.FormattedStrings.{has_no_tokens}
 use Rattle.pyunparse_text.specs.Spacing.{Piece, is_token, touches, text_behind, all_apart, are_readable}
 use Rattle.pyunparse_text.specs.Tokens.{exact_in, token_of, opens, closes, closes_all}
 use Rattle.pyunparse_text.specs.Inner.Relexed.{lexeme_of, blanks, lexemes_behind}
-use Rattle.pyunparse_text.proofs.Cases.{bool_cases, off}
 use Rattle.pyunparse_text.proofs.LexemeFronts.PieceFronts.{IsPiece, ArePieces}
 use Rattle.pyunparse_text.proofs.Sources.Bytes.{scalars_both}
 use Rattle.pyunparse_text.proofs.FieldTexts.Conditions.{expression_text}
@@ -106,7 +105,7 @@ record AreOwn (xs : List Lexeme) (ps : List Piece) : Type 0 where
   pub balanced : (d : ℕ) → closes_all d ps ≡ true → closes_none d xs ≡ false
   pub closed : (d : ℕ) → closes_all d ps ≡ true → d + count_by lexemes.opens xs ≡ count_by lexemes.closes xs
 
-counted : (p : Lexeme → Bool) (x : Lexeme) (xs : List Lexeme) → count_by p (x ∷ xs) ≡ count_if (p x) + count_by p xs
+pub counted : (p : Lexeme → Bool) (x : Lexeme) (xs : List Lexeme) → count_by p (x ∷ xs) ≡ count_if (p x) + count_by p xs
 counted p x xs = sum_by-cons (λ y. count_if (p y)) x xs
 
 none_own : AreOwn [] []
@@ -123,7 +122,7 @@ balanced_by true true d ps xs a r e = cc
 balanced_by true false d ps xs a r e = let n : d + 1 - 0 ≡ d + 1 = omega arith in ap (λ m. closes_none m xs) n ∙ r (d + 1) e
 balanced_by false true d ps xs a r e =
     let p = and_parts (not (d == 0)) (closes_all (d - 1) ps) e in
-    let z = off (d == 0) p.0 in
+    let z = not-true (d == 0) p.0 in
     let n : d + 0 - 1 ≡ d - 1 = omega arith in
     rw z (ap (λ m. closes_none m xs) n ∙ r (d - 1) p.1)
 balanced_by false false d ps xs a r e = let n : d + 0 - 0 ≡ d = omega arith in ap (λ m. closes_none m xs) n ∙ r d e
@@ -134,7 +133,7 @@ closed_by true true d m n ps a r e = cc
 closed_by true false d m n ps a r e = let w = r (d + 1) e in omega arith
 closed_by false true d m n ps a r e =
     let p = and_parts (not (d == 0)) (closes_all (d - 1) ps) e in
-    let z = off (d == 0) p.0 in
+    let z = not-true (d == 0) p.0 in
     let w = r (d - 1) p.1 in
     grind (arith, nat_tests)
 closed_by false false d m n ps a r e = let w = r d e in omega arith
@@ -175,7 +174,7 @@ behind_own p [] a = none_own
 behind_own p (q ∷ qs) a =
     let i = and_parts (is_token q.kind q.text) (list_all (λ r. is_token r.kind r.text) qs) a in
     let k = piece_own q qs (lexemes_behind q qs) i.0 (behind_own q qs i.1) in
-    elim (bool_cases (touches p q)) [
+    elim (cases_Bool (touches p q)) [
       | inl t ↦ rw t k
       | inr t ↦ rw t (blank_own (q ∷ qs) (lexeme_of q ∷ lexemes_behind q qs) k)
     ]
@@ -186,7 +185,7 @@ expression_own (p ∷ ps) e =
     let r = and_parts (list_all (λ q. is_token q.kind q.text) (p ∷ ps)) (all_apart p ps) e in
     let i = and_parts (is_token p.kind p.text) (list_all (λ q. is_token q.kind q.text) ps) r.0 in
     let k = piece_own p ps (lexemes_behind p ps) i.0 (behind_own p ps i.1) in
-    elim (bool_cases (begins_with 123 p.text)) [
+    elim (cases_Bool (begins_with 123 p.text)) [
       | inl t ↦ rw t (blank_own (p ∷ ps) (lexeme_of p ∷ lexemes_behind p ps) k)
       | inr t ↦ rw t k
     ]

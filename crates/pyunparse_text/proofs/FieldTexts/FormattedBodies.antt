@@ -6,7 +6,7 @@ use Rattle.std.proofs.Common.{subst}
 use Rattle.std.proofs.Common.{if◌then◌else◌}
 use Rattle.std.specs.List.{list_all}
 use Rattle.std.specs.Str.{all_scalars}
-use Rattle.std.proofs.lemmas.Bool.{and_from, cases_Bool, eqb-true}
+use Rattle.std.proofs.lemmas.Bool.{and_from, cases_Bool, eqb-true, not-true}
 use Rattle.std.proofs.lemmas.Grind.{flat_map-append}
 use Rattle.std.proofs.lemmas.List.Folds.{list_all-append}
 use Rattle.pyfstring.specs.declared.parts.Conversion.{Conversion}
@@ -24,7 +24,6 @@ use Rattle.pylex_lexeme.proofs.Callers.Lexemes.{words, by_words}
 use Rattle.pyunparse_text.specs.Spacing.{Piece, is_token, touches, text_behind, all_apart}
 use Rattle.pyunparse_text.specs.Written.{Element, End}
 use Rattle.pyunparse_text.specs.Pieces.{Sited, in_field, conversion_text, field_text, element_text, quote, character_text}
-use Rattle.pyunparse_text.proofs.Cases.{off}
 use Rattle.pyunparse_text.proofs.LexemeFronts.PieceFronts.{ArePieces, words_all}
 use Rattle.pyunparse_text.proofs.SingleTokens.Literals.{Skips, own_skips, both_skip, none_skip}
 use Rattle.pyunparse_text.proofs.Sources.Bytes.{scalars_both}
@@ -39,6 +38,8 @@ use Rattle.pyunparse_text.proofs.FieldTexts.FormattedCuts.{text_and_field, IsInn
 use Rattle.pyunparse_text.proofs.FieldTexts.FormattedCuts.{elements_text}
 use Rattle.pyunparse_text.proofs.FieldTexts.FormattedCuts.{field_text_is}
 use Rattle.pyunparse_text.proofs.FieldTexts.FormattedCuts as cut
+use Rattle.pyunparse_text.proofs.StringTerminals.Bodies.{weaker}
+use Rattle.pyunparse_text.proofs.Sources.Decoding.{both_in}
 
 -- characters in an f-string, by whether that stands in a field
 pub record IsInString (is_in_field : Bool) (w : List ℕ) : Type 0 where
@@ -47,15 +48,12 @@ pub record IsInString (is_in_field : Bool) (w : List ℕ) : Type 0 where
   pub scalars : all_scalars w ≡ true
   pub own : is_in_field ≡ true → list_all is_own w ≡ true
 
-both_all : (f : ℕ → Bool) (a b : List ℕ) → list_all f a ≡ true → list_all f b ≡ true → list_all f (a ++ b) ≡ true
-both_all f a b e g = list_all-append f a b ∙ and_from (list_all f a) (list_all f b) e g
-
 both : {is_in_field : Bool} (a b : List ℕ) → IsInString is_in_field a → IsInString is_in_field b → IsInString is_in_field (a ++ b)
 both {is_in_field} a b x y = record {
   skips = both_skip (quote is_in_field) a b x.skips y.skips;
-  kept = both_all is_kept a b x.kept y.kept;
+  kept = both_in is_kept a b x.kept y.kept;
   scalars = scalars_both a b x.scalars y.scalars;
-  own = λ e. both_all is_own a b (x.own e) (y.own e);
+  own = λ e. both_in is_own a b (x.own e) (y.own e);
 }
 
 nothing : (is_in_field : Bool) → IsInString is_in_field []
@@ -78,15 +76,15 @@ own_free is_in_field c o =
     let p2 = and_parts (not (c == 92)) _ p1.1 in
     let p3 = and_parts (is_comment_part c) (not (c == 0)) p2.1 in
     let p4 = and_parts (not (c == 10)) (not (c == 13)) p3.0 in
-    let q = or_parts_false (c == 39) (c == 34) (off (is_quote c) p1.0) in
+    let q = or_parts_false (c == 39) (c == 34) (not-true (is_quote c) p1.0) in
     record {
       skips =
           own_skips (quote is_in_field) c
           (record {
-            slash = off (c == 92) p2.0;
+            slash = not-true (c == 92) p2.0;
             quote = which is_in_field q.0 q.1;
-            feed = off (c == 10) p4.0;
-            return = off (c == 13) p4.1;
+            feed = not-true (c == 10) p4.0;
+            return = not-true (c == 13) p4.1;
           });
       kept = and_from (not (c == 13)) (not (c == 0)) p4.1 p3.1;
       own = λ e. o;
@@ -123,10 +121,6 @@ all_free is_in_field (c ∷ t) s a =
       scalars = s;
       own = λ e. and_from (is_own c) (list_all is_own t) (f.own e) (r.own e);
     }
-
-weaker : (f g : ℕ → Bool) → ((c : ℕ) → f c ≡ true → g c ≡ true) → (t : List ℕ) → list_all f t ≡ true → list_all g t ≡ true
-weaker f g h [] a = refl
-weaker f g h (c ∷ t) a = let p = and_parts (f c) (list_all f t) a in and_from (g c) (list_all g t) (h c p.0) (weaker f g h t p.1)
 
 own_in_quotes : (is_in_field : Bool) (c : ℕ) → is_own c ≡ true → is_in_quotes is_in_field c ≡ true
 own_in_quotes is_in_field c o = rw o refl
@@ -239,7 +233,7 @@ character_own : (in_spec : Bool) (c : ℕ) → can_stand true in_spec c ≡ true
 character_own true c e =
     let p = and_parts (is_own c) _ e in
     let q = and_parts (all_scalars (c ∷ [])) (not (is_brace c)) p.1 in
-    let b = off (is_brace c) q.1 in
+    let b = not-true (is_brace c) q.1 in
     rw (b, q.0) (and_from (is_own c) true p.0 refl)
 character_own false c e =
     let p = and_parts (is_own c) _ e in
@@ -255,7 +249,7 @@ text_own false in_spec t a e = cc
 text_own true in_spec [] a e = refl
 text_own true in_spec (c ∷ t) a e =
     let p = and_parts (can_stand true in_spec c) (list_all (can_stand true in_spec) t) a in
-    both_all is_own (character_text true in_spec c) (text_source true in_spec t) (character_own in_spec c p.0)
+    both_in is_own (character_text true in_spec c) (text_source true in_spec t) (character_own in_spec c p.0)
     (text_own true in_spec t p.1 e)
 
 text_in : (is_in_field in_spec : Bool) (t : List ℕ) → IsText is_in_field in_spec t

@@ -6,6 +6,7 @@ use Rattle.std.proofs.Common.{append_assoc}
 use Rattle.std.proofs.Common.{append-nil, inl, inr, is_some}
 use Rattle.std.specs.List.{list_all, flat_map}
 use Rattle.std.proofs.lemmas.Grind.{flat_map-append}
+use Rattle.std.proofs.lemmas.Bool.{cases_Bool}
 use Rattle.pyfstring.specs.declared.parts.Conversion.{Conversion}
 use Rattle.pyfstring.specs.declared.parts.Conversion.TheVariants as conversions
 use Rattle.pyfstring.specs.declared.parts.Manner.{Manner}
@@ -21,7 +22,6 @@ use Rattle.pylex_lexeme.proofs.Callers.Booleans.{and_parts}
 use Rattle.pyunparse_text.specs.Spacing.{Piece, is_token, text_behind, all_apart, are_readable}
 use Rattle.pyunparse_text.specs.Written.{Element, Text, Field, Spec, End}
 use Rattle.pyunparse_text.specs.Pieces.{Sited, in_field, conversion_text, field_text, element_text}
-use Rattle.pyunparse_text.proofs.Cases.{bool_cases}
 use Rattle.pyunparse_text.proofs.LexemeFronts.PieceFronts.{none_empty}
 use Rattle.pyunparse_text.proofs.FieldTexts.Conditions.{IsFieldExpression, expression_text, EndsExpression, brace, spec, conversion}
 use Rattle.pyunparse_text.proofs.FieldTexts.FieldScans.{field_scanned, field_not_blank}
@@ -90,7 +90,7 @@ no_second_brace [] r e = cc
 no_second_brace (p ∷ ps) r e =
     let a = and_parts (list_all (λ q. is_token q.kind q.text) (p ∷ ps)) (all_apart p ps) e in
     let i = (and_parts (is_token p.kind p.text) (list_all (λ q. is_token q.kind q.text) ps) a.0).0 in
-    elim (bool_cases (begins_with 123 p.text)) [
+    elim (cases_Bool (begins_with 123 p.text)) [
       | inl h ↦ rw h refl
       | inr h ↦ rw h (head p.text i h)
     ]

@@ -8,7 +8,7 @@ use Rattle.std.proofs.Common.{ap, ap₂, subst, arith, length-append}
 use Rattle.std.specs.Prelude.{option_map}
 use Rattle.std.specs.List.{list_all, list_any}
 use Rattle.std.specs.Str.{all_scalars}
-use Rattle.std.proofs.lemmas.Bool.{and_from, eqb-true}
+use Rattle.std.proofs.lemmas.Bool.{and_from, eqb-true, false_from_ne_true, not-true}
 use Rattle.std.proofs.lemmas.List.{take_at}
 use Rattle.std.proofs.lemmas.List.Folds.{list_all-append}
 use Rattle.pyfstring.specs.Parts.{BodyPart}
@@ -24,21 +24,17 @@ use Rattle.pytoken.specs.FormattedStrings.{is_fstring, is_bulky, elements_of, bo
 use Rattle.pyunparse_text.specs.Spacing.{is_token}
 use Rattle.pyunparse_text.specs.Written.{Element}
 use Rattle.pyunparse_text.specs.Pieces.{Sited, quote, formatted_text}
-use Rattle.pyunparse_text.proofs.Cases.{cases, off}
 use Rattle.pyunparse_text.proofs.Sources.Bytes.{scalars_both}
 use Rattle.pyunparse_text.proofs.FieldTexts.Conditions.{is_own, is_plain_literal}
 use Rattle.pyunparse_text.proofs.FieldTexts.Enclosures.{literal_plain}
 use Rattle.pyunparse_text.proofs.FieldTexts.TextCharacters.{is_kept}
 use Rattle.pyunparse_text.proofs.FieldTexts.FormattedCuts.{IsBody, elements_text, body_cut}
 use Rattle.pyunparse_text.proofs.FieldTexts.FormattedBodies.{IsInString, body_in_string}
+use Rattle.pyunparse_text.proofs.FieldTexts.OperatorScans.{all_but_last}
 
 -- an f-string with this body
 abbrev literal : Bool → List ℕ → List ℕ
 literal is_in_field w = 102 ∷ quote is_in_field ∷ w ++ quote is_in_field ∷ []
-
-text_is : (is_in_field : Bool) (es : List (Element Sited)) → formatted_text is_in_field es ≡ literal is_in_field
-    (elements_text is_in_field es)
-text_is is_in_field es = refl
 
 -- ---- It is one token.
 
@@ -78,7 +74,7 @@ literal_token true w i =
 
 -- it doesn't begin with the quote
 not_first : (q c : ℕ) (w : List ℕ) → (q == 92) ≡ false → ends_by_one q (units (c ∷ w ++ q ∷ [])) ≡ true → (c == q) ≡ false
-not_first q c w s e = cases (c == q) (λ h.
+not_first q c w s e = false_from_ne_true (c == q) (λ h.
     let f : c ≡ q = eqb-true c q h in
     let n : (c == 92) ≡ false = rw f s in
     let g : ends_by_one q ((c ∷ []) ∷ units (w ++ q ∷ [])) ≡ true = subst (λ (u : List (List ℕ)). ends_by_one q u ≡ true)
@@ -103,11 +99,6 @@ not_three q (c ∷ d ∷ w) s e = let n = not_first q c (d ∷ w) s e in rw n (m
     middle : (x y : Bool) → (x && false && y) ≡ false
     middle true y = refl
     middle false y = refl
-
-all_but_last : (w : List ℕ) (q : ℕ) → take (length (w ++ q ∷ []) - 1) (w ++ q ∷ []) ≡ w
-all_but_last w q =
-    let e = length-append w (q ∷ []) in
-    let f : length (w ++ q ∷ []) - 1 ≡ length w = omega arith in ap (λ n. take n (w ++ q ∷ [])) f ∙ take_at w (q ∷ []) (length w) refl
 
 -- what stands between the quotes
 pub inside_is : (is_in_field : Bool) (w : List ℕ) → IsInString is_in_field w → inside (quote is_in_field ∷ w ++ quote is_in_field ∷ []) ≡ w
@@ -144,7 +135,7 @@ no_nul [] a = refl
 no_nul (c ∷ t) a =
     let p = and_parts (is_kept c) (list_all is_kept t) a in
     let q = and_parts (not (c == 13)) (not (c == 0)) p.0 in
-    let n = off (c == 0) q.1 in
+    let n = not-true (c == 0) q.1 in
     rw n (no_nul t p.1)
 
 all_kept : (is_in_field : Bool) (w : List ℕ) → list_all is_kept w ≡ true → list_all is_kept (literal is_in_field w) ≡ true
@@ -158,8 +149,8 @@ own_is_no_bulk (c ∷ w) a =
     let p1 = and_parts (not (is_quote c)) _ p.0 in
     let p2 = and_parts (not (c == 92)) _ p1.1 in
     let p3 = and_parts (is_comment_part c) (not (c == 0)) p2.1 in
-    let q = off (is_quote c) p1.0 in
-    let f = off (c == 10) (and_parts (not (c == 10)) (not (c == 13)) p3.0).0 in
+    let q = not-true (is_quote c) p1.0 in
+    let f = not-true (c == 10) (and_parts (not (c == 10)) (not (c == 13)) p3.0).0 in
     rw (q, f) (own_is_no_bulk w p.1)
 
 -- ---- The laws.

@@ -1,9 +1,12 @@
 -- A number consists of letters, digits, `_`, `.`, `+` and `-`.
 --
--- Carries: number_plain, for PieceScans. On: Characters.
-use Rattle.std.proofs.Common.{◌≡◌, ℕ, Bool, true, ◌||◌, ◌==◌, List, [], ◌∷◌, refl, ⊎_elim, arith}
+-- Carries: number_plain, number_in_line, for PieceScans, FormattedBodies, Decoding. On: Characters.
+use Rattle.std.proofs.Common.{◌≡◌, ℕ, Bool, true, not, ◌||◌, ◌==◌, List, [], ◌∷◌, refl, ⊎_elim, arith}
 use Rattle.std.specs.List.{list_all}
 use Rattle.std.proofs.lemmas.Bool.Decides.{nat_tests}
+use Rattle.pyfstring.specs.Characters.{backslash}
+use Rattle.pyfstring.specs.Expressions.{is_quote}
+use Rattle.pylex_lexeme.specs.Chars.{is_comment_part}
 use Rattle.pylex_lexeme.specs.Numbers.{is_nil, split_any, optional, headed, are_some, is_digit_part, is_exponent, is_decimal_digit, is_zero}
 use Rattle.pylex_lexeme.specs.Numbers.{is_hex_digit, is_octal_digit, is_point, is_e, is_radix, is_point_after, is_point_before, is_raised}
 use Rattle.pylex_lexeme.specs.Numbers.{is_float}
@@ -11,7 +14,7 @@ use Rattle.pylex_lexeme.specs.Numbers.{is_imaginary, is_number}
 use Rattle.pylex_lexeme.proofs.Callers.Booleans.{and_parts, or_parts}
 use Rattle.pylex_lexeme.proofs.Callers.Fronts.{joined_all, split_all}
 use Rattle.pylex_lexeme.proofs.Callers.Numbers.{digit_bounds, either, zero_digit, decimal_part, part_all}
-use Rattle.pyunparse_text.proofs.FieldTexts.Conditions.{is_plain}
+use Rattle.pyunparse_text.proofs.FieldTexts.Conditions.{is_own, is_inner, is_calm, is_plain}
 use Rattle.pyunparse_text.proofs.FieldTexts.Characters.{plain_but}
 
 -- all that passes consists of such characters
@@ -94,3 +97,17 @@ number_plain =
     or_plain
     (or_plain (or_plain (λ t e. part_plain t (decimal_part t e)) radix_plain) float_plain)
     (then_plain (or_plain part_plain float_plain) (headed_plain (two_plain 106 74 refl refl) nil_plain))
+
+plain_in_line : (t : List ℕ) → list_all is_plain t ≡ true → list_all is_comment_part t ≡ true
+plain_in_line [] e = refl
+plain_in_line (c ∷ t) e =
+    let h = and_parts (is_plain c) (list_all is_plain t) e in
+    let calm = and_parts (is_calm c) _ h.0 in
+    let inner = and_parts (is_inner c) _ calm.0 in
+    let own = and_parts (is_own c) _ inner.0 in
+    let i = and_parts (is_comment_part c) _ (and_parts (not (c == backslash)) _ (and_parts (not (is_quote c)) _ own.0).1).1 in
+    rw i.0 (plain_in_line t h.1)
+
+-- No number holds a line's end.
+pub number_in_line : (t : List ℕ) → is_number t ≡ true → list_all is_comment_part t ≡ true
+number_in_line t e = plain_in_line t (number_plain t e)

@@ -7,7 +7,7 @@ use Rattle.std.proofs.Common.{subst, arith, Option, Some, None, inl, inr, length
 use Rattle.std.specs.Prelude.{codes, nat_lt, slice_get}
 use Rattle.std.specs.List.{list_all, list_any}
 use Rattle.std.specs.Str.{bytes_eq}
-use Rattle.std.proofs.lemmas.Bool.{cases_Bool}
+use Rattle.std.proofs.lemmas.Bool.{cases_Bool, not-true}
 use Rattle.std.proofs.lemmas.Bool.Decides.{nat_tests}
 use Rattle.std.proofs.lemmas.List.{take_at}
 use Rattle.std.proofs.lemmas.Slice.Eq.{bytes_eq-Decides}
@@ -19,7 +19,6 @@ use Rattle.pylex_lexeme.specs.Operators.{operators, exact_of, is_operator}
 use Rattle.pylex_lexeme.proofs.Callers.Booleans.{and_parts, or_parts}
 use Rattle.pylex_lexeme.proofs.Callers.Lexemes.{words, by_words}
 use Rattle.pyunparse_text.specs.Tokens.{is_opening, is_closing}
-use Rattle.pyunparse_text.proofs.Cases.{off}
 use Rattle.pyunparse_text.proofs.LexemeFronts.PieceFronts.{words_all}
 use Rattle.pyunparse_text.proofs.FieldTexts.Conditions.{is_there, is_inner, is_calm, is_plain, is_pair, is_within, is_comparison, ends_text}
 use Rattle.pyunparse_text.proofs.FieldTexts.Conditions.{most_open}
@@ -46,7 +45,7 @@ some_open : (bs : List Bracket) (b : Bracket) → is_empty (bs ++ b ∷ []) ≡ 
 some_open [] b = refl
 some_open (o ∷ bs) b = let n : (suc (length (bs ++ b ∷ [])) == 0) ≡ false = grind (arith, nat_tests) in n
 
-all_but_last : (bs : List Bracket) (b : Bracket) → take (length (bs ++ b ∷ []) - 1) (bs ++ b ∷ []) ≡ bs
+pub all_but_last : (bs : List Bracket) (b : Bracket) → take (length (bs ++ b ∷ []) - 1) (bs ++ b ∷ []) ≡ bs
 all_but_last bs b =
     let e = length-append bs (b ∷ []) in
     let f : length (bs ++ b ∷ []) - 1 ≡ length bs = omega arith in ap (λ n. take n (bs ++ b ∷ [])) f ∙ take_at bs (b ∷ []) (length bs) refl
@@ -235,7 +234,7 @@ pub operator_scanned : {os : List (List ℕ)} {bs : List Bracket} (t r : List �
 operator_scanned t r none e o c n f =
     let a : (ends_text t || (is_comparison t || (list_all is_plain t || (list_all is_calm t && joins_equals t)))) ≡ true = rw (o, c) at
     (outside_shape t e) in
-    let m : ends_text t ≡ false = off (ends_text t) n in
+    let m : ends_text t ≡ false = not-true (ends_text t) n in
     let b : (is_comparison t || (list_all is_plain t || (list_all is_calm t && joins_equals t))) ≡ true = rw m at a in
     elim (or_parts (is_comparison t) (list_all is_plain t || (list_all is_calm t && joins_equals t)) b) [
       | inl h ↦ comparison_scanned t r h

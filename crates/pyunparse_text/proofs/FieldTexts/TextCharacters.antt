@@ -8,7 +8,7 @@ use Rattle.std.specs.Prelude.{nat_lt}
 use Rattle.std.specs.Char.{digit_char}
 use Rattle.std.specs.List.{list_all}
 use Rattle.std.specs.Str.{all_scalars}
-use Rattle.std.proofs.lemmas.Bool.{and_from, cases_Bool, eqb-true, ne_eqb, leb-true}
+use Rattle.std.proofs.lemmas.Bool.{and_from, cases_Bool, eqb-true, ne_eqb, leb-true, false_from_ne_true, not-true}
 use Rattle.std.proofs.lemmas.Bool.Decides.{nat_tests}
 use Rattle.std.proofs.lemmas.List.Folds.{list_all-append}
 use Rattle.ucd_category.proofs.Computing.{ucd_category}
@@ -22,7 +22,6 @@ use Rattle.pytoken.specs.Escapes.{meanings_after}
 use Rattle.pytoken.specs.Laws.{is_point}
 use Rattle.pytoken.proofs.Callers.Reprs.{Written, marked, tab, feed, return, short, middle, long, itself, written, Fits, reads_back}
 use Rattle.pyunparse_text.specs.Pieces.{plain_text, character_text, quote}
-use Rattle.pyunparse_text.proofs.Cases.{cases, off}
 use Rattle.pyunparse_text.proofs.SingleTokens.Literals.{Skips, own_skips, both_skip, escape_skips, escaped_skips}
 use Rattle.pyunparse_text.proofs.SingleTokens.Scalars.{escape_scalar, escaped_scalar, own_char}
 use Rattle.pyunparse_text.proofs.FieldTexts.Conditions.{is_own}
@@ -96,7 +95,7 @@ form_kept c w z (middle high below) = hex_all is_kept digit_kept 4 c
 form_kept c w z (long above) = hex_all is_kept digit_kept 8 c
 form_kept c w z (itself no_slash no_quote no_return no_feed shown) =
     one (ne_eqb c 13 no_return)
-    (cases (c == 0)
+    (false_from_ne_true (c == 0)
     (λ h. let f : c ≡ 0 = eqb-true c 0 h in let n : is_unprintable 0 ≡ false = subst (λ (x : ℕ). is_unprintable x ≡ false) f shown in cc))
   where
     one : (c == 13) ≡ false → (c == 0) ≡ false → list_all is_kept (c ∷ []) ≡ true
@@ -202,15 +201,15 @@ own_comes has_pairs c o a b =
     let p2 = and_parts (not (c == 92)) _ p1.1 in
     let p3 = and_parts (is_comment_part c) (not (c == 0)) p2.1 in
     let p4 = and_parts (not (c == 10)) (not (c == 13)) p3.0 in
-    let q = (or_parts_false (c == 39) (c == 34) (off (is_quote c) p1.0)).1 in
-    let s = off (c == 92) p2.0 in
-    let r = off (c == 13) p4.1 in
-    let z = off (c == 0) p3.1 in
+    let q = (or_parts_false (c == 39) (c == 34) (not-true (is_quote c) p1.0)).1 in
+    let s = not-true (c == 92) p2.0 in
+    let r = not-true (c == 13) p4.1 in
+    let z = not-true (c == 0) p3.1 in
     record {
       units = units_own has_pairs c s b;
       read = λ r. rw s refl;
       kept = rw (r, z) refl;
-      skips = own_skips 34 c (record { slash = s; quote = q; feed = off (c == 10) p4.0; return = r });
+      skips = own_skips 34 c (record { slash = s; quote = q; feed = not-true (c == 10) p4.0; return = r });
       scalars = a;
       whole = rw (r, z) refl;
     }
@@ -227,7 +226,7 @@ field_comes : (in_spec : Bool) (c : ℕ) → can_stand true in_spec c ≡ true
 field_comes true c e =
     let p = and_parts (is_own c) _ e in
     let q = and_parts (all_scalars (c ∷ [])) (not (is_brace c)) p.1 in
-    let b = off (is_brace c) q.1 in
+    let b = not-true (is_brace c) q.1 in
     rw (b, q.0) (own_comes false c p.0 q.0 b)
 field_comes false c e =
     let p = and_parts (is_own c) _ e in

@@ -4,10 +4,10 @@
 use Rattle.std.proofs.Common.{◌≡◌, ℕ, zero, suc, Bool, true, false, not, ◌&&◌, ◌==◌, List, [], ◌∷◌, ◌++◌, refl, sym, ◌∙◌, ap, subst}
 use Rattle.std.proofs.Common.{append_assoc}
 use Rattle.std.specs.List.{list_all}
+use Rattle.std.proofs.lemmas.Bool.{not-true}
 use Rattle.pyfstring.specs.Texts.{is_brace, unit_len, units_after}
 use Rattle.pyfstring.specs.Singles.{single_after}
 use Rattle.pylex_lexeme.proofs.Callers.Booleans.{and_parts}
-use Rattle.pyunparse_text.proofs.Cases.{off}
 
 -- whatever stands behind it, w is whole units, and stands for v but for escapes, in a text that has pairs of braces or not
 pub record Units (has_pairs : Bool) (w v : List ℕ) : Type 0 where
@@ -97,4 +97,4 @@ units_all has_pairs [] a = units_none has_pairs
 units_all has_pairs (c ∷ t) a =
     let p = and_parts (is_unit c) (list_all is_unit t) a in
     let q = and_parts (not (c == 92)) (not (is_brace c)) p.0 in
-    units_both t t (units_own has_pairs c (off (c == 92) q.0) (off (is_brace c) q.1)) (units_all has_pairs t p.1)
+    units_both t t (units_own has_pairs c (not-true (c == 92) q.0) (not-true (is_brace c) q.1)) (units_all has_pairs t p.1)

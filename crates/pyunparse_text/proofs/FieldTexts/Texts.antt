@@ -149,11 +149,6 @@ pub text_sound : (is_in_field in_spec : Bool) (t : List ℕ) → IsText is_in_fi
 text_sound is_in_field in_spec t a =
     let r = all_read is_in_field in_spec t a in (ap (list_any is_named_escape) r ∙ none_named t, ap (list_any is_bad_escape) r ∙ none_bad t)
 
-pub text_faultless : (is_in_field in_spec : Bool) (t : List ℕ) → IsText is_in_field in_spec t
-    → escape_fault (text_meanings (text_part is_in_field in_spec t)) ≡ None
-unfolding escape_fault
-text_faultless is_in_field in_spec t a = let s = text_sound is_in_field in_spec t a in rw (s.0, s.1) refl
-
 -- ---- It stands in a literal.
 
 -- it has no line end, and ends no literal in that quote

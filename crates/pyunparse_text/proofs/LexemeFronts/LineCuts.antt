@@ -6,6 +6,7 @@ use Rattle.std.proofs.Common.{⊎_elim}
 use Rattle.std.proofs.Common.{Some, None, append_assoc, replicate}
 use Rattle.std.specs.List.{list_all}
 use Rattle.std.proofs.lemmas.List.{append_cancel_left}
+use Rattle.std.proofs.lemmas.Bool.{cases_Bool}
 use Rattle.pylex_lexeme.specs.Chars.{begins, is_blank_char}
 use Rattle.pylex_lexeme.specs.Lexemes.{Lexeme, lexeme_at, cut, left_by_cut}
 use Rattle.pylex.specs.Laws.{AreLexemes}
@@ -19,7 +20,6 @@ use Rattle.pyunparse_text.specs.Inner.Relexed.{lexeme_of, blanks, feed, lexemes_
 use Rattle.pyunparse_text.specs.Inner.Relexed.{lines_lexemes}
 use Rattle.pyunparse_text.proofs.LexemeFronts.Fronts.{blanks_front, feed_front}
 use Rattle.pyunparse_text.proofs.LexemeFronts.PieceFronts.{IsPiece, ArePieces, token_front, token_no_blank, clear_behind}
-use Rattle.pyunparse_text.proofs.Cases.{bool_cases}
 
 -- a lexeme before others
 before : (x : Lexeme) (t r : List ℕ) (xs : List Lexeme) (left : List ℕ) → x.text ≡ t → lexeme_at (t ++ r) ≡ Some x → AreLexemes r xs left
@@ -53,7 +53,7 @@ behind_lexed p (q ∷ qs) more xs left a h l =
     (λ (t : touches p q ≡ false). rw t (before (blanks (32 ∷ [])) (32 ∷ []) ((q.text ++ text_behind q qs) ++ 10 ∷ more)
     (lexeme_of q ∷ (lexemes_behind q qs ++ feed ∷ xs)) left refl (blanks_front (32 ∷ [])
     ((q.text ++ text_behind q qs) ++ 10 ∷ more) refl refl (no_blank_first q qs more i.0)) k))
-    (bool_cases (touches p q))
+    (cases_Bool (touches p q))
 
 -- The pieces of a line
 pub pieces_lexed : (ps : List Piece) (more : List ℕ) (xs : List Lexeme) (left : List ℕ) → are_readable ps ≡ true → AreLexemes more xs left

@@ -3,6 +3,7 @@
 -- Carries: name_front, for PieceFronts. On: Fronts, Cases.
 use Rattle.std.proofs.Common.{◌≡◌, ℕ, Bool, true, false, ◌&&◌, ◌||◌, ◌==◌, List, [], ◌∷◌, ◌++◌, take, drop, refl, ◌∙◌, arith, ⊎_elim, Some}
 use Rattle.std.specs.List.{list_all, prefix_len}
+use Rattle.std.proofs.lemmas.Bool.{false_from_ne_true}
 use Rattle.unicode_ident.specs.Ident.{is_xid_continue}
 use Rattle.unicode_ident.proofs.IdentLemmas.{is_xid_continue-ascii}
 use Rattle.pylex_lexeme.specs.declared.lexeme.Class.TheVariants.{Name}
@@ -14,25 +15,24 @@ use Rattle.pylex_lexeme.proofs.Callers.Lexemes.{start_continues, name_takes}
 use Rattle.pylex_lexeme.proofs.Callers.Numbers.{either, either_not}
 use Rattle.pylex_lexeme.proofs.Callers.Strings.{two_prefix}
 use Rattle.pyunparse_text.proofs.LexemeFronts.Fronts.{is_lexeme, leaves, run_ends}
-use Rattle.pyunparse_text.proofs.Cases.{cases}
 
 -- characters that stand in no name
 pub quote_ends_name : (c : ℕ) → ((c == 39) || (c == 34)) ≡ true → is_xid_continue c ≡ false
 quote_ends_name c e = either_not is_xid_continue 39 34 c e (is_xid_continue-ascii 39 (omega arith)) (is_xid_continue-ascii 34 (omega arith))
 
 pub part_no_quote : (c : ℕ) → is_xid_continue c ≡ true → ((c == 39) || (c == 34)) ≡ false
-part_no_quote c e = cases ((c == 39) || (c == 34)) (λ h. let f = quote_ends_name c h in cc)
+part_no_quote c e = false_from_ne_true ((c == 39) || (c == 34)) (λ h. let f = quote_ends_name c h in cc)
 
 letter_continues : (a b c : ℕ) → ((c == a) || (c == b)) ≡ true → is_xid_continue a ≡ true → is_xid_continue b ≡ true
     → is_xid_continue c ≡ false → ⊥
 letter_continues a b c e f g h = let y = either is_xid_continue a b c e f g in cc
 
 no_r : (c : ℕ) → is_xid_continue c ≡ false → is_r c ≡ false
-no_r c h = cases (is_r c) (λ e. letter_continues 114 82 c e (is_xid_continue-ascii 114 (omega arith))
+no_r c h = false_from_ne_true (is_r c) (λ e. letter_continues 114 82 c e (is_xid_continue-ascii 114 (omega arith))
     (is_xid_continue-ascii 82 (omega arith)) h)
 
 no_b_or_f : (c : ℕ) → is_xid_continue c ≡ false → is_b_or_f c ≡ false
-no_b_or_f c h = cases (is_b_or_f c)
+no_b_or_f c h = false_from_ne_true (is_b_or_f c)
     (λ e. ⊎_elim
     (λ (f : ((c == 98) || (c == 66)) ≡ true). letter_continues 98 66 c f (is_xid_continue-ascii 98 (omega arith))
     (is_xid_continue-ascii 66 (omega arith)) h)

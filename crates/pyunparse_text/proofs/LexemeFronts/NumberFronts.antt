@@ -7,7 +7,7 @@ use Rattle.std.proofs.Common.{arith}
 use Rattle.std.proofs.Common.{suc, if◌then◌else◌, leb, ltb, ⊎_elim, Some, drop-drop, length-drop}
 use Rattle.std.specs.Char.{is_ascii_alphanumeric}
 use Rattle.std.proofs.Math.Seq.{take-length}
-use Rattle.std.proofs.lemmas.Bool.{eqb-true, leb-true}
+use Rattle.std.proofs.lemmas.Bool.{eqb-true, leb-true, cases_Bool, false_from_ne_true}
 use Rattle.std.proofs.lemmas.Bool.Decides.{nat_tests}
 use Rattle.std.proofs.lemmas.List.{drop-append-le}
 use Rattle.unicode_ident.specs.Ident.{is_xid_continue}
@@ -27,7 +27,6 @@ use Rattle.pylex_lexeme.proofs.Callers.Lexemes.{number_takes}
 use Rattle.pylex_lexeme.proofs.Callers.Numbers.{either, either_not, zero_digit, exponent_none, longest_is, longest_number}
 use Rattle.pyunparse_text.proofs.LexemeFronts.Fronts.{is_lexeme, leaves}
 use Rattle.pyunparse_text.proofs.LexemeFronts.NumberParts.{number_begins, begins_more}
-use Rattle.pyunparse_text.proofs.Cases.{bool_cases, cases}
 
 -- ---- What goes on in names.
 
@@ -70,7 +69,7 @@ record Ends (r : List ℕ) : Type 0 where
 -- What stands in names alone doesn't stand where no name goes on.
 ends_there : (f : ℕ → Bool) (r : List ℕ) → Continue f → Ends r → begins f r ≡ false
 ends_there f [] h n = refl
-ends_there f (c ∷ r) h n = cases (f c) (λ g. let x = h c g in let e = n.continues in cc)
+ends_there f (c ∷ r) h n = false_from_ne_true (f c) (λ g. let x = h c g in let e = n.continues in cc)
 
 begins_front : (f : ℕ → Bool) (t r : List ℕ) → Continue f → Ends r → begins f (t ++ r) ≡ begins f t
 begins_front f [] r h n = ends_there f r h n
@@ -134,7 +133,7 @@ exponent_front (c ∷ []) r n h =
     (λ (e : is_e c ≡ true). let j : is_j c ≡ false = either_not is_j 101 69 c e refl refl in let w : 0 + 0 ≡ 1 =
     simp (e, j) at h in absurd (omega arith))
     (λ (e : is_e c ≡ false). rw e refl)
-    (bool_cases (is_e c))
+    (cases_Bool (is_e c))
 exponent_front (c ∷ s ∷ t) r n h =
     let a = joined_front is_decimal_digit (s ∷ t) r digit_continues n in
     let b = joined_front is_decimal_digit t r digit_continues n in
@@ -163,7 +162,7 @@ zeros_run (a ∷ []) h =
     ⊎_elim
     (λ (e : is_zero a ≡ true). rw (zero_digit a e) refl)
     (λ (e : is_zero a ≡ false). let w : 0 ≡ 1 = simp e at h in absurd (omega arith))
-    (bool_cases (is_zero a))
+    (cases_Bool (is_zero a))
 zeros_run (a ∷ b ∷ t) h =
     ⊎_elim
     (λ (e : is_zero a ≡ true). let w : suc (joined_len is_zero (b ∷ t)) ≡ suc (length (b ∷ t)) = simp e at h in
@@ -176,8 +175,8 @@ zeros_run (a ∷ b ∷ t) h =
     let y : is_decimal_digit a ≡ false = (let z = eqb-true a 95 g.0 in rw z refl) in
     rw (y, g.0, zero_digit b g.1) (ap (λ k. suc (suc k)) (zeros_run t (omega arith))))
     (λ (f : ((a == 95) && is_zero b) ≡ false). let w : 0 ≡ length (a ∷ b ∷ t) = simp (e, f) at h in absurd (omega arith))
-    (bool_cases ((a == 95) && is_zero b)))
-    (bool_cases (is_zero a))
+    (cases_Bool ((a == 95) && is_zero b)))
+    (cases_Bool (is_zero a))
 
 plain_front : (t r : List ℕ) → Ends r → plain_len t ≡ length t → plain_len (t ++ r) ≡ plain_len t
 unfolding plain_len
@@ -205,7 +204,7 @@ number_kept t r n h =
     ⊎_elim
     (λ (e : ltb 0 (radix_len t) ≡ true). rw (x, e) (simp e at h))
     (λ (e : ltb 0 (radix_len t) ≡ false). let p : plain_len t ≡ length t = simp e at h in rw (x, e) (plain_front t r n p ∙ p))
-    (bool_cases (ltb 0 (radix_len t)))
+    (cases_Bool (ltb 0 (radix_len t)))
 
 -- ---- Numbers.
 

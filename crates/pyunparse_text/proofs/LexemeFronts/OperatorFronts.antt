@@ -10,7 +10,7 @@ use Rattle.std.specs.List.{list_all, list_any, starts_with}
 use Rattle.std.specs.Str.{bytes_eq}
 use Rattle.std.specs.Char.{is_ascii_alphabetic, is_ascii_alphanumeric}
 use Rattle.std.proofs.Math.Seq.{take-append_seam, take-append-add}
-use Rattle.std.proofs.lemmas.Bool.{eqb-true, ltb-true}
+use Rattle.std.proofs.lemmas.Bool.{eqb-true, ltb-true, cases_Bool, false_from_ne_true, not-true}
 use Rattle.std.proofs.lemmas.Bool.Decides.{nat_tests}
 use Rattle.std.proofs.lemmas.Slice.Eq.{bytes_eq-Decides}
 use Rattle.unicode_ident.specs.Ident.{is_xid_continue}
@@ -29,7 +29,6 @@ use Rattle.pylex_lexeme.proofs.Callers.Fronts.{IsBest}
 use Rattle.pylex_lexeme.proofs.Callers.Lexemes.{words, heads, by_words, no_operator, no_operator_none, opens_off, operator_takes}
 use Rattle.pyunparse_text.specs.Spacing.{begins_operator}
 use Rattle.pyunparse_text.proofs.LexemeFronts.Fronts.{is_lexeme, leaves}
-use Rattle.pyunparse_text.proofs.Cases.{bool_cases, cases, off}
 
 -- What holds of each of some characters holds of one that is among them.
 pub of_any : (p : ℕ → Bool) (c : ℕ) (xs : List ℕ) → list_all p xs ≡ true → list_any (eqb c) xs ≡ true → p c ≡ true
@@ -79,16 +78,16 @@ sign_of c e =
     let a10 = and_parts (not (c == 13)) _ a9.1 in
     let l : c < 128 = ltb-true c 128 a2.0 in
     record {
-      continues = is_xid_continue-ascii c l ∙ off _ a2.1;
-      starts = rw (is_xid_start-ascii c l) (off (is_ascii_alphabetic c || (c == 95)) a3.0);
-      digit = off _ a4.0;
-      letter = off _ a5.0;
-      quote = off _ a6.0;
-      blank = off _ a7.0;
-      hash = off _ a8.0;
-      feed = off _ a9.0;
-      return = off _ a10.0;
-      slash = off _ a10.1;
+      continues = is_xid_continue-ascii c l ∙ not-true _ a2.1;
+      starts = rw (is_xid_start-ascii c l) (not-true (is_ascii_alphabetic c || (c == 95)) a3.0);
+      digit = not-true _ a4.0;
+      letter = not-true _ a5.0;
+      quote = not-true _ a6.0;
+      blank = not-true _ a7.0;
+      hash = not-true _ a8.0;
+      feed = not-true _ a9.0;
+      return = not-true _ a10.0;
+      slash = not-true _ a10.1;
     }
 
 pub operator_head : (c : ℕ) (t : List ℕ) → is_operator (c ∷ t) ≡ true → Sign c
@@ -126,7 +125,7 @@ begins_word t = refl
 
 -- Where no operator begins with a text and one character more, none is that text and more.
 pub none_begins : (t u : List ℕ) (c : ℕ) → begins_operator (t ++ c ∷ []) ≡ false → is_operator (t ++ c ∷ u) ≡ false
-none_begins t u c e = cases (is_operator (t ++ c ∷ u)) (λ h.
+none_begins t u c e = false_from_ne_true (is_operator (t ++ c ∷ u)) (λ h.
     let w : list_any (bytes_eq ((t ++ c ∷ []) ++ u)) words ≡ true =
     ap (λ x. list_any (bytes_eq x) words) (append_assoc t (c ∷ []) u) ∙ sym (by_words (t ++ c ∷ u)) ∙ h in
     let b : begins_operator (t ++ c ∷ []) ≡ true = begins_word (t ++ c ∷ []) ∙ begins_of (t ++ c ∷ []) u words w in
@@ -157,8 +156,8 @@ makes_number t r = bytes_eq t (46 ∷ []) && begins is_decimal_digit r
 no_number_begins : (c : ℕ) (t r : List ℕ) → is_operator (c ∷ t) ≡ true → makes_number (c ∷ t) r ≡ false
     → (is_point c && begins is_decimal_digit (t ++ r)) ≡ false
 no_number_begins c [] r o e = ⊎_elim (λ (h : (c == 46) ≡ true). rw h (rw h at e))
-    (λ (h : (c == 46) ≡ false). rw h refl) (bool_cases (c == 46))
-no_number_begins c (d ∷ t) r o e = cases (is_point c && is_decimal_digit d) (λ h.
+    (λ (h : (c == 46) ≡ false). rw h refl) (cases_Bool (c == 46))
+no_number_begins c (d ∷ t) r o e = false_from_ne_true (is_point c && is_decimal_digit d) (λ h.
     let p = and_parts (is_point c) (is_decimal_digit d) h in
     let f : c ≡ 46 = eqb-true c 46 p.0 in
     let n = point_words d t p.1 in

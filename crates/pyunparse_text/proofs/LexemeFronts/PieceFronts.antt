@@ -8,7 +8,7 @@ use Rattle.std.proofs.Common.{append_assoc}
 use Rattle.std.proofs.Common.{refl, if◌then◌else◌, ap, sym, ◌∙◌, subst, arith, zero, suc, ⊎_elim, Option, Some, None, eqb}
 use Rattle.std.specs.List.{list_all, list_any}
 use Rattle.std.specs.Str.{bytes_eq}
-use Rattle.std.proofs.lemmas.Bool.{eqb-true}
+use Rattle.std.proofs.lemmas.Bool.{eqb-true, cases_Bool, false_from_ne_true, not-true}
 use Rattle.std.proofs.lemmas.Bool.Decides.{nat_tests}
 use Rattle.std.proofs.lemmas.Slice.Eq.{bytes_eq-Decides}
 use Rattle.unicode_ident.specs.Ident.{is_xid_continue}
@@ -33,7 +33,6 @@ use Rattle.pyunparse_text.proofs.LexemeFronts.NameFronts.{name_front}
 use Rattle.pyunparse_text.proofs.LexemeFronts.NumberFronts.{number_front}
 use Rattle.pyunparse_text.proofs.LexemeFronts.StringFronts.{string_front}
 use Rattle.pyunparse_text.proofs.LexemeFronts.OperatorFronts.{Sign, operator_head, operator_front, makes_number, none_begins}
-use Rattle.pyunparse_text.proofs.Cases.{bool_cases, cases, off}
 
 -- Nothing that stands after a token of a kind joins it.
 abbrev pub Clear : Kind → List ℕ → List ℕ → Type 0
@@ -116,7 +115,7 @@ clear_gap kinds.Number t r c e g = (g.continues, g.point)
 clear_gap kinds.String t r c e g = g.quote
 clear_gap kinds.Op t r c e g =
     let w : list_any (bytes_eq t) words ≡ true = sym (by_words t) ∙ e in
-    let n = off (begins_operator (t ++ c ∷ [])) (words_all (λ w. not (begins_operator (w ++ c ∷ []))) t words g.words w) in
+    let n = not-true (begins_operator (t ++ c ∷ [])) (words_all (λ w. not (begins_operator (w ++ c ∷ []))) t words g.words w) in
     (none_longer t r c n, no_number t r c g.digit)
 clear_gap kinds.Encoding t r c e g = tt
 clear_gap kinds.Comment t r c e g = tt
@@ -209,13 +208,13 @@ blank_off c e =
 -- a token begins with no blank
 pub token_no_blank : (k : Kind) (t r : List ℕ) → is_token k t ≡ true → begins is_blank_char (t ++ r) ≡ false
 token_no_blank k [] r e = absurd (none_empty k e)
-token_no_blank k (c ∷ t) r e = cases (is_blank_char c) (λ h. let o = blank_off c h in let n =
+token_no_blank k (c ∷ t) r e = false_from_ne_true (is_blank_char c) (λ h. let o = blank_off c h in let n =
     no_token k c t o.0 (λ z. o.1) (λ z. o.2) in cc)
 
 -- but for a number, with no digit
 token_no_digit : (k : Kind) (c : ℕ) (t : List ℕ) → is_token k (c ∷ t) ≡ true → is_number_kind k ≡ false → is_decimal_digit c ≡ false
 token_no_digit k c t e f =
-    cases (is_decimal_digit c)
+    false_from_ne_true (is_decimal_digit c)
     (λ h. let n = no_token k c t (digit_off c h) (λ z. absurd (let y : true ≡ false = sym z ∙ f in cc)) (λ z. digit_no_sign c h) in cc)
 
 -- After a piece that touches
@@ -242,7 +241,7 @@ sign_head : (l : Kind) (c : ℕ) (u : List ℕ) → is_token l (c ∷ u) ≡ tru
 sign_head l c u e h = operator_head c u (operator_only l (c ∷ u) h e)
 
 head_eq : (c o : ℕ) → bytes_eq (c ∷ []) (o ∷ []) ≡ (c == o)
-head_eq c o = ⊎_elim (λ (h : (c == o) ≡ true). rw h refl) (λ (h : (c == o) ≡ false). rw h refl) (bool_cases (c == o))
+head_eq c o = ⊎_elim (λ (h : (c == o) ≡ true). rw h refl) (λ (h : (c == o) ≡ false). rw h refl) (cases_Bool (c == o))
 
 no_number_behind : (t r : List ℕ) (l : Kind) (c : ℕ) (u : List ℕ) → is_token l (c ∷ u) ≡ true
     → (bytes_eq t (46 ∷ []) && is_number_kind l) ≡ false
@@ -252,7 +251,7 @@ no_number_behind t r l c u e n =
     (λ (h : is_number_kind l ≡ true). let f : (bytes_eq t (46 ∷ []) && true) ≡ false =
     subst (λ (b : Bool). (bytes_eq t (46 ∷ []) && b) ≡ false) h n in first (bytes_eq t (46 ∷ [])) (is_decimal_digit c) f)
     (λ (h : is_number_kind l ≡ false). no_number t r c (token_no_digit l c u e h))
-    (bool_cases (is_number_kind l))
+    (cases_Bool (is_number_kind l))
   where
     first : (x y : Bool) → (x && true) ≡ false → (x && y) ≡ false
     first true y e = cc
@@ -267,15 +266,15 @@ clear_close kinds.Name l t (c ∷ u) r p =
 clear_close kinds.Number l t (c ∷ u) r p =
     let q = and_parts (is_operator_kind l) (not (bytes_eq (c ∷ []) (46 ∷ []))) p.apart in
     let s = sign_head l c u p.right q.0 in
-    (s.continues, sym (head_eq c 46) ∙ off (bytes_eq (c ∷ []) (46 ∷ [])) q.1)
+    (s.continues, sym (head_eq c 46) ∙ not-true (bytes_eq (c ∷ []) (46 ∷ [])) q.1)
 clear_close kinds.String l t (c ∷ u) r p =
     let q = and_parts (is_operator_kind l) true p.apart in
     let s = sign_head l c u p.right q.0 in
     s.quote
 clear_close kinds.Op l t (c ∷ u) r p =
     let q = and_parts (not (begins_operator (t ++ c ∷ []))) (not (bytes_eq t (46 ∷ []) && is_number_kind l)) p.apart in (
-      none_longer t (u ++ r) c (off (begins_operator (t ++ c ∷ [])) q.0),
-      no_number_behind t (u ++ r) l c u p.right (off (bytes_eq t (46 ∷ []) && is_number_kind l) q.1),
+      none_longer t (u ++ r) c (not-true (begins_operator (t ++ c ∷ [])) q.0),
+      no_number_behind t (u ++ r) l c u p.right (not-true (bytes_eq t (46 ∷ []) && is_number_kind l) q.1),
     )
 clear_close kinds.Encoding l t (c ∷ u) r p = tt
 clear_close kinds.Comment l t (c ∷ u) r p = tt
@@ -329,7 +328,7 @@ points_of p q (s ∷ ss) h =
     record {
       first = (bytes_eq-Decides p.text (46 ∷ [])).0 b.0;
       second = (bytes_eq-Decides q.text (46 ∷ [])).0 b.1;
-      third = λ r rs e t. same r rs e (rw (same_touch r rs e t) at (off (touches q s && bytes_eq (take 1 s.text) (46 ∷ [])) a.1));
+      third = λ r rs e t. same r rs e (rw (same_touch r rs e t) at (not-true (touches q s && bytes_eq (take 1 s.text) (46 ∷ [])) a.1));
     }
   where
     head_of : List Piece → Piece
@@ -359,7 +358,7 @@ third_off p q (r ∷ rs) more a h =
     rw t (subst (λ (u : List ℕ). begins (λ c. c == 46) u ≡ false) (sym (append_assoc r.text (text_behind r rs) (10 ∷ more)))
     (head r.kind r.text (text_behind r rs ++ 10 ∷ more) i.0 (h.third r rs refl t))))
     (λ (t : touches q r ≡ false). rw t refl)
-    (bool_cases (touches q r))
+    (cases_Bool (touches q r))
   where
     head : (k : Kind) (t u : List ℕ) → is_token k t ≡ true → bytes_eq (take 1 t) (46 ∷ []) ≡ false → begins (λ c. c == 46) (t ++ u) ≡ false
     head k [] u e h = absurd (none_empty k e)
@@ -389,4 +388,4 @@ clear_behind p (q ∷ qs) more e a h =
     (third_off p q qs more i.1 x))
     (or_parts (stay_apart p q) (are_two_points p q qs) s))))
     (λ (t : touches p q ≡ false). rw t (clear_gap p.kind p.text ((q.text ++ text_behind q qs) ++ 10 ∷ more) 32 e blank_gap))
-    (bool_cases (touches p q))
+    (cases_Bool (touches p q))

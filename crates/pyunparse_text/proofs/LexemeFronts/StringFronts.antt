@@ -7,7 +7,7 @@ use Rattle.std.proofs.Common.{◌∙◌, ap, subst, arith, suc, ⊎_elim, Some, 
 use Rattle.std.specs.List.{list_all, list_any}
 use Rattle.std.specs.Str.{bytes_eq}
 use Rattle.std.proofs.Math.Seq.{take-append_seam, drop-append_seam}
-use Rattle.std.proofs.lemmas.Bool.{eqb-true, leb-true}
+use Rattle.std.proofs.lemmas.Bool.{eqb-true, leb-true, cases_Bool, not-true}
 use Rattle.std.proofs.lemmas.Slice.Eq.{bytes_eq-Decides}
 use Rattle.pylex_lexeme.specs.declared.lexeme.Class.TheVariants.{String}
 use Rattle.pylex_lexeme.specs.Chars.{begins, is_comment_part}
@@ -23,7 +23,6 @@ use Rattle.pylex_lexeme.proofs.Callers.Strings.{string_reads}
 use Rattle.pylex_lexeme.proofs.Callers.Strings.{longest_reads, string_opens}
 use Rattle.pylex_lexeme.proofs.Callers.Lexemes.{string_takes}
 use Rattle.pyunparse_text.proofs.LexemeFronts.Fronts.{is_lexeme, leaves}
-use Rattle.pyunparse_text.proofs.Cases.{bool_cases, off}
 
 -- A front and a rest that pass
 pub record Split (p q : List ℕ → Bool) (t : List ℕ) : Type 0 where
@@ -99,11 +98,11 @@ behind_plain q c t r h f a e =
     let j : (not (is_unit 13 (c ∷ [])) && not (is_unit 10 (c ∷ [])) && ends_by_one q (units t)) ≡ true = rw i at g in
     let j1 = and_parts (not (is_unit 13 (c ∷ [])) && not (is_unit 10 (c ∷ []))) (ends_by_one q (units t)) j in
     let j2 = and_parts (not (is_unit 13 (c ∷ []))) (not (is_unit 10 (c ∷ []))) j1.0 in
-    let k = off (is_unit 13 (c ∷ [])) j2.0 in
-    let l = off (is_unit 10 (c ∷ [])) j2.1 in
+    let k = not-true (is_unit 13 (c ∷ [])) j2.0 in
+    let l = not-true (is_unit 10 (c ∷ [])) j2.1 in
     let m : 1 + length t ≡ suc (length t) = omega arith in
     rw (i, k, l) (ap (shift 1) (f p.1 j1.1) ∙ longer_by q 1 t j1.1 ∙ m))
-    (bool_cases (is_unit q (c ∷ [])))
+    (cases_Bool (is_unit q (c ∷ [])))
   where
     nothing : (t : List ℕ) → is_nil t ≡ true → 1 ≡ suc (length t)
     nothing [] z = refl
@@ -113,7 +112,7 @@ behind_slash : (q b : ℕ) (t r : List ℕ) → IsQuote q → Behind q r t → B
 behind_slash q b t r k f a e =
     let p1 = and_parts (is_comment_part b) (list_all is_comment_part t) a in
     let p2 = and_parts (not (b == 10)) (not (b == 13)) p1.0 in
-    let n = off (b == 13) p2.1 in
+    let n = not-true (b == 13) p2.1 in
     let u = unit_slash q 92 (b ∷ []) k.slash refl in
     let g : ends_by_one q ((92 ∷ b ∷ []) ∷ units t) ≡ true = subst (λ (x : List (List ℕ)). ends_by_one q x ≡ true) (units_slash b t n) e in
     let h : ends_by_one q (units t) ≡ true = rw u at g in
@@ -129,13 +128,13 @@ single_behind q k (c ∷ []) r =
     ⊎_elim
     (λ (h : (c == 92) ≡ true). subst (λ (x : ℕ). Behind q r (x ∷ [])) (sym (eqb-true c 92 h)) (slash_alone q r k))
     (λ (h : (c == 92) ≡ false). behind_plain q c [] r h (λ a e. cc))
-    (bool_cases (c == 92))
+    (cases_Bool (c == 92))
 single_behind q k (c ∷ b ∷ t) r =
     ⊎_elim
     (λ (h : (c == 92) ≡ true). subst (λ (x : ℕ). Behind q r (x ∷ b ∷ t)) (sym (eqb-true c 92 h))
     (behind_slash q b t r k (single_behind q k t r)))
     (λ (h : (c == 92) ≡ false). behind_plain q c (b ∷ t) r h (single_behind q k (b ∷ t) r))
-    (bool_cases (c == 92))
+    (cases_Bool (c == 92))
 
 -- no three quotes stand at a literal in one quote, nor where a quote doesn't follow it
 no_three : (q : ℕ) → IsQuote q → (t r : List ℕ) → ends_by_one q (units t) ≡ true → begins (λ c. c == q) r ≡ false
@@ -151,7 +150,7 @@ no_three q k (c ∷ t) r e b =
     let z : no_units (units t) ≡ true = rw i at g in
     last t (sym (nil_units t) ∙ z))
     (λ (h : (c == q) ≡ false). rw h (none (q == q)))
-    (bool_cases (c == q))
+    (cases_Bool (c == q))
   where
     none : (x : Bool) → (x && false && begins (λ d. d == q) (t ++ r)) ≡ false
     none true = refl

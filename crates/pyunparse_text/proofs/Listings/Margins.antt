@@ -32,7 +32,7 @@ pub record Even (rest : List ℕ) : Type 0 where
 
 -- ---- Spaces.
 
-eights : (w k : ℕ) → width_from w (replicate k 32) ≡ w + k
+pub eights : (w k : ℕ) → width_from w (replicate k 32) ≡ w + k
 unfolding width_from
 eights w zero = omega arith
 eights w (suc k) = eights (w + 1) k ∙ omega arith
@@ -52,7 +52,7 @@ spaces_of (suc k) r e = take_while-cons is_blank_char 32 (replicate k 32 ++ r) �
 
 -- ---- Written lines.
 
-pieces_unblank : (ps : List Piece) (r : List ℕ) → are_readable ps ≡ true → begins is_blank_char (spaced ps ++ r) ≡ false
+pub pieces_unblank : (ps : List Piece) (r : List ℕ) → are_readable ps ≡ true → begins is_blank_char (spaced ps ++ r) ≡ false
 pieces_unblank [] r e = cc
 pieces_unblank (p ∷ ps) r e =
     let a = and_parts (list_all (λ q. is_token q.kind q.text) (p ∷ ps)) _ e in

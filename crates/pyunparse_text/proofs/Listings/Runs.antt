@@ -8,7 +8,7 @@ use Rattle.std.specs.Prelude.{nat_le}
 use Rattle.std.specs.List.{list_all}
 use Rattle.std.specs.Str.{all_scalars}
 use Rattle.std.proofs.lemmas.List.{append-nil}
-use Rattle.std.proofs.lemmas.Bool.{leb-true, eqb-true, cases_lt}
+use Rattle.std.proofs.lemmas.Bool.{leb-true, eqb-true, cases_lt, cases_Bool, not-true}
 use Rattle.std.proofs.lemmas.Bool.Decides.{nat_tests}
 use Rattle.pylex.specs.declared.kind.Kind.{Kind}
 use Rattle.pylex.specs.declared.kind.Kind.TheVariants as kinds
@@ -32,9 +32,8 @@ use Rattle.pyunparse_text.specs.Tokens.{tokens_behind, opens, closes, closes_all
 use Rattle.pyunparse_text.proofs.LexemeFronts.PieceFronts.{IsPiece, ArePieces}
 use Rattle.pyunparse_text.proofs.Listings.Columns.{columns, deeper, not_deeper, is_column, columns_above, columns_pushed}
 use Rattle.pyunparse_text.proofs.Listings.Tells.{Tells, bytes_both, nothing_told, tells_both, piece_told, marks_told}
-use Rattle.pyunparse_text.proofs.Listings.Margins.{Even, lines_even, margin_even, token_even}
+use Rattle.pyunparse_text.proofs.Listings.Margins.{Even, lines_even, margin_even, token_even, eights}
 use Rattle.pyunparse_text.proofs.Sources.Decoding.{lines_scalars}
-use Rattle.pyunparse_text.proofs.Cases.{bool_cases, off}
 use Rattle.pylex.specs.Lines.{count_if}
 
 -- the steps of lexemes from a state on, and the state after them
@@ -209,12 +208,12 @@ deep d p ps e =
     (λ (c : closes p ≡ true).
     let f : (not (d == 0) && closes_all (d - 1) ps) ≡ true = rw (h, c) at e in
     let g = and_parts (not (d == 0)) (closes_all (d - 1) ps) f in
-    record { next = d - 1; is = rw (h, c) (omega arith); matched = rw c (off (d == 0) g.0); rest = g.1 })
+    record { next = d - 1; is = rw (h, c) (omega arith); matched = rw c (not-true (d == 0) g.0); rest = g.1 })
     (λ (c : closes p ≡ false).
     let f : closes_all d ps ≡ true = rw (h, c) at e in
     record { next = d; is = rw (h, c) (omega arith); matched = rw c refl; rest = f })
-    (bool_cases (closes p)))
-    (bool_cases (opens p))
+    (cases_Bool (closes p)))
+    (cases_Bool (opens p))
   where
     none : (b : Bool) → (b && false) ≡ false
     none true = refl
@@ -347,17 +346,11 @@ behind_runs text s d n p (q ∷ qs) more f i a u c =
           (nothing_told text)) g.tells;
       at = g.at;
     }))
-    (bool_cases (touches p q))
+    (cases_Bool (touches p q))
   where
     again : (text : List ℕ) (s : State) (d n : ℕ) (q : Piece) (qs : List Piece) (more : List ℕ)
         → InLine text s d n ((q.text ++ text_behind q qs) ++ 10 ∷ more) → InLine text s d n (q.text ++ (text_behind q qs ++ 10 ∷ more))
     again text s d n q qs more i = subst (InLine text s d n) (append_assoc q.text (text_behind q qs) (10 ∷ more)) i
-
--- The blanks before a line
-width_blanks : (w k : ℕ) → width_from w (replicate k 32) ≡ w + k
-unfolding width_from
-width_blanks w zero = omega arith
-width_blanks w (suc k) = width_blanks (w + 1) k ∙ omega arith
 
 blanks_scalar : (k : ℕ) → all_scalars (replicate k 32) ≡ true
 blanks_scalar zero = refl
@@ -372,7 +365,7 @@ blanks_margin : (text : List ℕ) (s : State) (m n : ℕ) (rest : List ℕ) → 
 unfolding after
 blanks_margin text s m n rest i =
     let w : width_from s.width (replicate (4 * n) 32) ≡ 4 * n = ap (λ v. width_from v (replicate (4 * n) 32)) i.width
-    ∙ width_blanks 0 (4 * n) ∙ omega arith in
+    ∙ eights 0 (4 * n) ∙ omega arith in
     record {
       before = i.before;
       whole = i.whole;

@@ -23,7 +23,7 @@ async_again F.no_async = F.no_async
 async_again F.async = F.async
 
 -- bases
-exprs_listed : (z : Exprs) → exprs (F.listed z) ≡ z
+pub exprs_listed : (z : Exprs) → exprs (F.listed z) ≡ z
 exprs_listed no_exprs = refl
 exprs_listed (an_expr e z) = ap (an_expr e) (exprs_listed z)
 

@@ -7,7 +7,7 @@ use Rattle.std.specs.List.{list_all, list_any}
 use Rattle.std.proofs.lemmas.List.{map-append}
 use Rattle.std.proofs.lemmas.List.Folds.{list_all-append}
 use Rattle.std.proofs.lemmas.List.Elements.{All-nil, All-cons, All-head, All-tail}
-use Rattle.std.proofs.lemmas.Bool.{and_parts, leb-true, le-leb, eqb-true}
+use Rattle.std.proofs.lemmas.Bool.{and_parts, leb-true, le-leb, eqb-true, and_from, or_left, or_right}
 use Rattle.std.proofs.lemmas.Bool.Decides.{nat_tests}
 use Rattle.pylex_lexeme.specs.declared.kinds.Exact.TheVariants.{At}
 use Rattle.pytree_node.specs.declared.profiles.Extent.{Extent}
@@ -78,9 +78,6 @@ module _ (extent : Extent) where
   fine_none : (n : ℕ) → Fine n [] []
   fine_none n = record { written = λ low. refl; begins = refl; above = refl; rises = refl; give = λ low. no_line }
 
-  and_both : (a b : Bool) → a ≡ true → b ≡ true → (a && b) ≡ true
-  and_both a b e f = rw (e, f) refl
-
   begin_both : (n : ℕ) (ls ms : List Line) → begin_at n ls ≡ true → begin_at n ms ≡ true → begin_at n (ls ++ ms) ≡ true
   begin_both n [] ms e f = f
   begin_both n (l ∷ ls) ms e f = e
@@ -97,10 +94,10 @@ module _ (extent : Extent) where
       let xs : List Line = map line_of rs in
       let ys : List Line = map line_of ss in
       record {
-        written = λ low. rw e (list_all-append is_written xs ys ∙ and_both (list_all is_written xs) (list_all is_written ys)
+        written = λ low. rw e (list_all-append is_written xs ys ∙ and_from (list_all is_written xs) (list_all is_written ys)
             (x.written (low_first qs us low)) (y.written (low_later qs us low)));
         begins = rw e (begin_both n xs ys x.begins y.begins);
-        above = rw e (list_all-append (λ (l : Line). nat_le n l.level) xs ys ∙ and_both (list_all (λ (l : Line). nat_le n l.level) xs)
+        above = rw e (list_all-append (λ (l : Line). nat_le n l.level) xs ys ∙ and_from (list_all (λ (l : Line). nat_le n l.level) xs)
             (list_all (λ (l : Line). nat_le n l.level) ys) x.above y.above);
         rises = rw e (rise_both n n xs ys x.rises x.above (omega arith) y.begins y.rises);
         give = λ low. give_both (x.give (low_first qs us low)) (y.give (low_later qs us low));
@@ -111,7 +108,7 @@ module _ (extent : Extent) where
   deeper n (l ∷ ls) e f =
       let z : l.level ≡ suc n = eqb-true l.level (suc n) e in
       let h = and_parts (nat_le l.level (suc n + 1)) (rise_by_one l.level ls) f in
-      and_both (nat_le l.level (n + 1)) (rise_by_one l.level ls) (le-leb l.level (n + 1) (omega arith)) h.1
+      and_from (nat_le l.level (n + 1)) (rise_by_one l.level ls) (le-leb l.level (n + 1) (omega arith)) h.1
 
   lower : (n : ℕ) (ls : List Line) → list_all (λ (l : Line). nat_le (suc n) l.level) ls ≡ true
       → list_all (λ (l : Line). nat_le n l.level) ls ≡ true
@@ -119,7 +116,7 @@ module _ (extent : Extent) where
   lower n (l ∷ ls) e =
       let h = and_parts (nat_le (suc n) l.level) (list_all (λ (l : Line). nat_le (suc n) l.level) ls) e in
       let i = leb-true (suc n) l.level h.0 in
-      and_both (nat_le n l.level) (list_all (λ (l : Line). nat_le n l.level) ls) (le-leb n l.level (omega arith)) (lower n ls h.1)
+      and_from (nat_le n l.level) (list_all (λ (l : Line). nat_le n l.level) ls) (le-leb n l.level (omega arith)) (lower n ls h.1)
 
   -- a line, and lines one level deeper after it
   fine_head : {n : ℕ} {ps : List Sited} {ts : List Terminal} {rs : List (WrittenLine Sited)} {qs : List (WrittenLine Terminal)}
@@ -128,11 +125,11 @@ module _ (extent : Extent) where
   fine_head {n} {ps} {ts} {rs} {qs} x y =
       let ls : List Line = map line_of rs in
       record {
-        written = λ low. and_both (is_written (record { level = n; pieces = outside ps })) (list_all is_written ls)
+        written = λ low. and_from (is_written (record { level = n; pieces = outside ps })) (list_all is_written ls)
             ((x low.0).line n) (y.written low.1);
         begins = (let e : (n == n) ≡ true = grind (arith, nat_tests) in e);
-        above = and_both (nat_le n n) (list_all (λ (l : Line). nat_le n l.level) ls) (le-leb n n (omega arith)) (lower n ls y.above);
-        rises = and_both (nat_le n (n + 1)) (rise_by_one n ls) (le-leb n (n + 1) (omega arith)) (deeper n ls y.begins y.rises);
+        above = and_from (nat_le n n) (list_all (λ (l : Line). nat_le n l.level) ls) (le-leb n n (omega arith)) (lower n ls y.above);
+        rises = and_from (nat_le n (n + 1)) (rise_by_one n ls) (le-leb n (n + 1) (omega arith)) (deeper n ls y.begins y.rises);
         give = λ low. a_line (x low.0).give (y.give low.1);
       }
 
@@ -252,13 +249,6 @@ module _ (extent : Extent) where
   abbrev has_string : List (WrittenLine Terminal) → Bool
   has_string qs = list_any (λ (w : WrittenLine Terminal). has_formatted w.tokens) qs
 
-  or_left : (a b : Bool) → a ≡ true → (a || b) ≡ true
-  or_left a b e = rw e refl
-
-  or_right : (a b : Bool) → b ≡ true → (a || b) ≡ true
-  or_right true b e = refl
-  or_right false b e = e
-
   all_low : (n : ℕ) (qs : List (WrittenLine Terminal)) → (has_string qs ≡ true → n ≤ 599)
       → All (λ (w : WrittenLine Terminal). brackets w.tokens ≤ n) qs → LowLines qs
   all_low n [] e h = tt
@@ -279,7 +269,7 @@ module _ (extent : Extent) where
       let ls : List Line = map line_of (lines_of piece 0 (stmts m.body)) in
       let few = all_low (expression_height m + 1) (lines_of terminal 0 (stmts m.body))
       (λ f. (let k = low f in omega (arith, k))) (line_brackets m) in
-      record { written = and_both (list_all is_written ls) (rise_by_one 0 ls) (f.written few) f.rises; give = f.give few }
+      record { written = and_from (list_all is_written ls) (rise_by_one 0 ls) (f.written few) f.rises; give = f.give few }
 
   of_lines : (ws : List (WrittenLine Terminal)) → All (IsOfTokens extent) ws → All (IsSaid extent) ws
   of_lines [] h = All-nil (IsSaid extent)

@@ -1,7 +1,7 @@
 -- Carries: the laws of pieces. On: headers and decorators, each form from its parts.
 use Rattle.std.proofs.Common.{◌≡◌, Bool, true, false, List, [], ◌∷◌, ◌++◌, Option, Some, None, map, refl}
 use Rattle.std.specs.Prelude.{cond}
-use Rattle.std.proofs.lemmas.Bool.{and_parts}
+use Rattle.std.proofs.lemmas.Bool.{and_parts, or_right}
 use Rattle.pylex_lexeme.specs.declared.kinds.Exact.TheVariants.{LPar, RPar, LSqb, Colon, Star, At, RArrow}
 use Rattle.pylex_lexeme.specs.Operators.{operators, exact_of}
 use Rattle.pytoken.specs.declared.keywords.Keyword.TheVariants as Key
@@ -23,7 +23,7 @@ use Rattle.pyunparse_text.specs.Pieces.{Sited, piece}
 use Rattle.pyunparse_text.specs.Statements as S
 use Rattle.pyunparse_text.proofs.PieceLaws.Sound.{Writable, AreWritable, WritableKeywords, WritableArguments}
 use Rattle.pyunparse_text.proofs.PieceLaws.Places.{open_place}
-use Rattle.pyunparse_text.proofs.PieceLaws.Sorts.{within, suit, is_like, like, late, starts_plain, starts_item, ends_plain, ends_comma}
+use Rattle.pyunparse_text.proofs.PieceLaws.Sorts.{within, suit, is_like, like, starts_plain, starts_item, ends_plain, ends_comma}
 use Rattle.pyunparse_text.proofs.PieceLaws.Sorts.{more_item}
 use Rattle.pyunparse_text.proofs.PieceLaws.Sorts.{more_comma}
 use Rattle.pyunparse_text.proofs.PieceLaws.Fair.{fair_sign}
@@ -54,7 +54,7 @@ ends_handler = leading piece Star ∷ ends_plain
 
 more_star : (p : Piece) → within ends_plain p ≡ true → within ends_handler p ≡ true
 more_star p e = let h = and_parts (is_token p.kind p.text) (is_like ends_plain p) e in let g =
-    late (like (leading piece Star) p) (is_like ends_plain p) h.1 in rw (h.0, g) refl
+    or_right (like (leading piece Star) p) (is_like ends_plain p) h.1 in rw (h.0, g) refl
 
 abbrev pub SoundHeader : Extent → Header → Type 0
 SoundHeader extent (if_header e) = Writable (open_place extent) false e

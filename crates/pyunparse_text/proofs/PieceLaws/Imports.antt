@@ -6,7 +6,7 @@ use Rattle.std.proofs.Common.{sym, subst, ◌∙◌, arith}
 use Rattle.std.specs.Prelude.{cond, codes}
 use Rattle.std.specs.List.{list_all}
 use Rattle.std.specs.Str.{all_scalars, bytes_eq}
-use Rattle.std.proofs.lemmas.Bool.{and_parts}
+use Rattle.std.proofs.lemmas.Bool.{and_parts, and_from, or_right}
 use Rattle.std.proofs.lemmas.List.Folds.{list_all-append}
 use Rattle.std.proofs.lemmas.Slice.Eq.{bytes_eq-Decides}
 use Rattle.pylex_lexeme.specs.declared.kinds.Exact.TheVariants.{Star, Dot, Ellipsis}
@@ -30,12 +30,12 @@ use Rattle.pyunparse_text.specs.Written.{free, word, tight, listed}
 use Rattle.pyunparse_text.specs.Terminals.{terminal}
 use Rattle.pyunparse_text.specs.Pieces.{Sited, sited, outside, piece}
 use Rattle.pyunparse_text.specs.Statements as S
-use Rattle.pyunparse_text.proofs.PieceLaws.Apart.{plain_head}
+use Rattle.pyunparse_text.proofs.TokenLists.Joins.{plain_head}
 use Rattle.pyunparse_text.proofs.PieceLaws.Fair.{fair_word, fair_name}
 use Rattle.pyunparse_text.proofs.PieceLaws.Places.{outside as no_field, open_place, at_both, GiveAt, give_outside}
 use Rattle.pyunparse_text.proofs.PieceLaws.Shallow.{Low, low_front, low_back}
 use Rattle.pyunparse_text.proofs.PieceLaws.Law.{Reads}
-use Rattle.pyunparse_text.proofs.PieceLaws.Sorts.{late, is_like, like, within, suit, sorts_fit, a_word, starts_plain, ends_plain}
+use Rattle.pyunparse_text.proofs.PieceLaws.Sorts.{is_like, like, within, suit, sorts_fit, a_word, starts_plain, ends_plain}
 use Rattle.pyunparse_text.proofs.PieceLaws.Segments.{Closed, Perhaps, nothing, some, Each, none, more, join, widen, token, sign, tail}
 use Rattle.pyunparse_text.proofs.PieceLaws.Segments.{give_both}
 use Rattle.pyunparse_text.proofs.PieceLaws.Shapes.{Plain, keyword, name, plain_name}
@@ -61,9 +61,6 @@ neat_told : (ps : List Piece) → are_neat ps ≡ true → told ps ≡ true
 neat_told [] e = refl
 neat_told (p ∷ ps) e = neat_apart p ps e
 
-and_both : (a b : Bool) → a ≡ true → b ≡ true → (a && b) ≡ true
-and_both a b e f = rw (e, f) refl
-
 wider : (a b c : Bool) → (a || b) ≡ true → (a || (b || c)) ≡ true
 wider true b c e = refl
 wider false true c e = refl
@@ -74,16 +71,16 @@ told_both : (f g : Piece → Bool) → ((p q : Piece) → f p ≡ true → g q �
 told_both f g j [] ys a e b s = cc
 told_both f g j (p ∷ []) [] a e b s = cc
 told_both f g j (p ∷ []) (q ∷ ys) a e b s =
-    and_both (not (touches p q) || (stay_apart p q || are_two_points p q ys)) (all_apart q ys)
+    and_from (not (touches p q) || (stay_apart p q || are_two_points p q ys)) (all_apart q ys)
     (wider (not (touches p q)) (stay_apart p q) (are_two_points p q ys) (j p q e s)) b
 told_both f g j (p ∷ q ∷ xs) ys a e b s =
     let h = and_parts (fit p q) (all_fit q xs) a in
-    and_both (not (touches p q) || (stay_apart p q || are_two_points p q (xs ++ ys))) (all_apart q (xs ++ ys))
+    and_from (not (touches p q) || (stay_apart p q || are_two_points p q (xs ++ ys))) (all_apart q (xs ++ ys))
     (wider (not (touches p q)) (stay_apart p q) (are_two_points p q (xs ++ ys)) h.0) (told_both f g j (q ∷ xs) ys h.1 e b s)
 
 readable : (b : List Sited) (ps : List Piece) → ArePieces ps → told ps ≡ true → begins_by (within b) ps ≡ true → are_readable ps ≡ true
 readable b [] a t e = cc
-readable b (p ∷ ps) a t e = and_both (list_all (λ q. is_token q.kind q.text) (p ∷ ps)) (all_apart p ps) a t
+readable b (p ∷ ps) a t e = and_from (list_all (λ q. is_token q.kind q.text) (p ∷ ps)) (all_apart p ps) a t
 
 -- a name that keeps close to the points before it
 abbrev near_word : Sited
@@ -98,11 +95,11 @@ ends_near = near_word ∷ ends_plain
 
 more_near : (p : Piece) → within ends_plain p ≡ true → within ends_near p ≡ true
 more_near p e = let h = and_parts (is_token p.kind p.text) (is_like ends_plain p) e in let g =
-    late (like near_word p) (is_like ends_plain p) h.1 in rw (h.0, g) refl
+    or_right (like near_word p) (is_like ends_plain p) h.1 in rw (h.0, g) refl
 
 word_behind : (p : Piece) → within (a_word ∷ []) p ≡ true → within behind_points p ≡ true
 word_behind p e = let h = and_parts (is_token p.kind p.text) (is_like (a_word ∷ []) p) e in let g =
-    late (like near_word p) (is_like (a_word ∷ []) p) h.1 in rw (h.0, g) refl
+    or_right (like near_word p) (is_like (a_word ∷ []) p) h.1 in rw (h.0, g) refl
 
 -- a text is of one name at least
 record Named (x : Identifier) : Type 0 where
@@ -146,10 +143,10 @@ two_apart : (close : Bool) (q : Piece) (qs : List Piece) → bytes_eq (take 1 q.
 two_apart close q qs n f a =
     let p : Piece = sited (Op Dot) close false false in
     let t : are_two_points p second (q ∷ qs) ≡ true = rw n (none (touches second q)) in
-    and_both (not (touches p second) || (stay_apart p second || are_two_points p second (q ∷ qs))) (all_apart second (q ∷ qs))
-    (late (not (touches p second)) (stay_apart p second || are_two_points p second (q ∷ qs))
-    (late (stay_apart p second) (are_two_points p second (q ∷ qs)) t))
-    (and_both (not (touches second q) || (stay_apart second q || are_two_points second q qs)) (all_apart q qs)
+    and_from (not (touches p second) || (stay_apart p second || are_two_points p second (q ∷ qs))) (all_apart second (q ∷ qs))
+    (or_right (not (touches p second)) (stay_apart p second || are_two_points p second (q ∷ qs))
+    (or_right (stay_apart p second) (are_two_points p second (q ∷ qs)) t))
+    (and_from (not (touches second q) || (stay_apart second q || are_two_points second q qs)) (all_apart q qs)
     (wider (not (touches second q)) (stay_apart second q) (are_two_points second q qs) f) a)
   where
     none : (b : Bool) → not (b && false) ≡ true
@@ -184,7 +181,7 @@ ends_import = free piece (Op Star) ∷ ends_plain
 
 more_import : (p : Piece) → within ends_plain p ≡ true → within ends_import p ≡ true
 more_import p e = let h = and_parts (is_token p.kind p.text) (is_like ends_plain p) e in let g =
-    late (like (free piece (Op Star)) p) (is_like ends_plain p) h.1 in rw (h.0, g) refl
+    or_right (like (free piece (Op Star)) p) (is_like ends_plain p) h.1 in rw (h.0, g) refl
 
 abbrev pub SoundAliases : List Alias → Type 0
 SoundAliases [] = Unit {0}
@@ -220,9 +217,9 @@ module _ {extent : Extent} where
   joined_parts : {a c : List Sited} {xs ys : List Piece} {ts us : List Terminal} (b : List Sited) → Written (within a) (within b) xs
       → GiveAt (open_place extent) xs ts → LaterParts extent c ys us → suit b c ≡ true → LaterParts extent a (xs ++ ys) (ts ++ us)
   joined_parts {a} {c} {xs} {ys} b f g y s = record {
-    pieces = list_all-append (λ p. is_token p.kind p.text) xs ys ∙ and_both (list_all (λ p. is_token p.kind p.text) xs)
+    pieces = list_all-append (λ p. is_token p.kind p.text) xs ys ∙ and_from (list_all (λ p. is_token p.kind p.text) xs)
         (list_all (λ p. is_token p.kind p.text) ys) f.pieces y.pieces;
-    scalars = list_all-append (λ p. all_scalars p.text) xs ys ∙ and_both (list_all (λ p. all_scalars p.text) xs)
+    scalars = list_all-append (λ p. all_scalars p.text) xs ys ∙ and_from (list_all (λ p. all_scalars p.text) xs)
         (list_all (λ p. all_scalars p.text) ys) f.scalars y.scalars;
     apart = told_both (within b) (within c) (sorts_fit b c s) xs ys f.neat f.ends y.apart y.begins;
     begins = begins_both (within a) xs ys f.begins;
@@ -346,10 +343,10 @@ module _ {extent : Extent} where
             let r = z.parts (low_back (Op Dot ∷ []) (Op Dot ∷ us) x.flat low) in
             record {
               pieces = list_all-append (λ p. is_token p.kind p.text) (p ∷ []) (second ∷ outside ys)
-                  ∙ and_both (list_all (λ p. is_token p.kind p.text) (p ∷ []))
+                  ∙ and_from (list_all (λ p. is_token p.kind p.text) (p ∷ []))
                   (list_all (λ p. is_token p.kind p.text) (second ∷ outside ys)) g.form.pieces r.pieces;
               scalars = list_all-append (λ p. all_scalars p.text) (p ∷ []) (second ∷ outside ys)
-                  ∙ and_both (list_all (λ p. all_scalars p.text) (p ∷ [])) (list_all (λ p. all_scalars p.text) (second ∷ outside ys))
+                  ∙ and_from (list_all (λ p. all_scalars p.text) (p ∷ [])) (list_all (λ p. all_scalars p.text) (second ∷ outside ys))
                   g.form.scalars r.scalars;
               apart = both_told close (outside ys)
                   (y.parts (low_back (Op Dot ∷ []) us (one_point {extent = extent} true).flat

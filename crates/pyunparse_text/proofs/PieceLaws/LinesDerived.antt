@@ -54,6 +54,7 @@ use Rattle.pyunparse_text.proofs.PieceLaws.Imports.{later_read, SoundNames, Soun
 use Rattle.pyunparse_text.proofs.PieceLaws.HeaderForms.{SoundItems, SoundHeader}
 use Rattle.pyunparse_text.proofs.Patterns.Sound.{pattern_sound}
 use Rattle.pyunparse_text.proofs.Modules.Wells.{HeadOf, other_head, match_head, case_head}
+use Rattle.pyunparse_text.proofs.Modules.Headers.{exprs_listed}
 
 not_point : (c : ℕ) → is_xid_continue c ≡ true → (c == 46) ≡ false
 not_point c h = by (c == 46) refl
@@ -91,10 +92,6 @@ SoundName a = IsProper a.name × MaybeProper a.asname
 unless : (b : Bool) (as_ : List Alias) → SoundNames as_ → SoundUnless b as_
 unless true as_ h = tt
 unless false as_ h = h
-
-exprs_listed : (z : Exprs) → exprs (F.listed z) ≡ z
-exprs_listed no_exprs = refl
-exprs_listed (an_expr e z) = ap (an_expr e) (exprs_listed z)
 
 -- ---- Lists with commas.
 

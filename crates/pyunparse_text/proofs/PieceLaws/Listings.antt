@@ -16,10 +16,10 @@ use Rattle.pyunparse_text.specs.Written.{behind_equal, with_defaults, with_slash
 use Rattle.pyunparse_text.specs.Terminals.{terminal}
 use Rattle.pyunparse_text.specs.Pieces.{Sited, piece}
 use Rattle.pylex_lexeme.specs.Operators.{operators}
-use Rattle.std.proofs.lemmas.Bool.{and_parts}
+use Rattle.std.proofs.lemmas.Bool.{and_parts, or_right}
 use Rattle.pytoken.specs.Laws.{IsProper}
 use Rattle.pyunparse_text.proofs.PieceLaws.Places.{Place}
-use Rattle.pyunparse_text.proofs.PieceLaws.Sorts.{suit, within, like, is_like, late, a_word, starts_other, starts_plain, starts_item}
+use Rattle.pyunparse_text.proofs.PieceLaws.Sorts.{suit, within, like, is_like, a_word, starts_other, starts_plain, starts_item}
 use Rattle.pyunparse_text.proofs.PieceLaws.Sorts.{starts_part}
 use Rattle.pyunparse_text.proofs.PieceLaws.Sorts.{ends_plain, ends_comma, ends_part, starts, ends, more_item, more_part, more_comma}
 use Rattle.pyunparse_text.proofs.PieceLaws.Sorts.{more_colon}
@@ -50,16 +50,16 @@ pub data Maybes (place : Place) (b e : List Sited) : List (List Sited) → List 
 -- parameters among others
 more_last : (p : Piece) → within ends_plain p ≡ true → within ends_parameter p ≡ true
 more_last p e = let h = and_parts (is_token p.kind p.text) (is_like ends_plain p) e in let g =
-    late (like (free piece (Op Slash)) p) _ (late (like (leading piece Star) p) (is_like ends_plain p) h.1) in rw (h.0, g) refl
+    or_right (like (free piece (Op Slash)) p) _ (or_right (like (leading piece Star) p) (is_like ends_plain p) h.1) in rw (h.0, g) refl
 
 word_first : (p : Piece) → within (a_word ∷ []) p ≡ true → within starts_parameter p ≡ true
 word_first p e =
     let h = and_parts (is_token p.kind p.text) (is_like (a_word ∷ []) p) e in
     let l : is_like starts_plain p ≡ true = head_or (like a_word p) (is_like starts_other p) h.1 in
     let g : is_like starts_parameter p ≡ true =
-    late (like (free piece (Op Slash)) p) (is_like starts_item p)
-    (late (like (leading piece Star) p) (is_like (leading piece DoubleStar ∷ starts_plain) p)
-    (late (like (leading piece DoubleStar) p) (is_like starts_plain p) l)) in
+    or_right (like (free piece (Op Slash)) p) (is_like starts_item p)
+    (or_right (like (leading piece Star) p) (is_like (leading piece DoubleStar ∷ starts_plain) p)
+    (or_right (like (leading piece DoubleStar) p) (is_like starts_plain p) l)) in
     rw (h.0, g) refl
   where
     head_or : (a b : Bool) → (a || false) ≡ true → (a || b) ≡ true

@@ -12,13 +12,11 @@ use Rattle.ucd_derived.specs.XidContinueRanges.{xid_continue_ranges}
 use Rattle.unicode_ident.specs.Ident.{is_xid_start, is_xid_continue}
 use Rattle.pylex_lexeme.specs.Chars.{starts_name}
 use Rattle.pylex_lexeme.specs.Lexemes.{is_name}
+use Rattle.pyunparse_text.proofs.SingleTokens.Scalars.{high_scalar}
 
 -- a range without surrogates
 abbrev is_plain : Range → Bool
 is_plain r = nat_lt r.1 0xD800 || (nat_lt 0xDFFF r.0 && nat_le r.1 0x10_FFFF)
-
-above : (c : ℕ) → 57344 ≤ c → c ≤ 1114111 → scalar c ≡ true
-above c h i = grind (arith, nat_tests)
 
 one_scalar : (r : Range) (c : ℕ) → is_plain r ≡ true → (nat_le r.0 c && nat_le c r.1) ≡ true → scalar c ≡ true
 one_scalar r c p h =
@@ -27,7 +25,7 @@ one_scalar r c p h =
     (λ (low : nat_lt r.1 0xD800 ≡ true). low_scalar c (grind (arith, nat_tests)))
     (λ (high : (nat_lt 0xDFFF r.0 && nat_le r.1 0x10_FFFF) ≡ true).
     let v = and_parts (nat_lt 0xDFFF r.0) (nat_le r.1 0x10_FFFF) high in
-    above c (grind (arith, nat_tests)) (grind (arith, nat_tests)))
+    high_scalar c (grind (arith, nat_tests)) (grind (arith, nat_tests)))
     (or_cases (nat_lt r.1 0xD800) (nat_lt 0xDFFF r.0 && nat_le r.1 0x10_FFFF) p)
 
 ranges_scalar : (rs : List Range) (c : ℕ) → list_all is_plain rs ≡ true → in_ranges rs c ≡ true → scalar c ≡ true

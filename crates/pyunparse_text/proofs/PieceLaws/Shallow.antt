@@ -13,7 +13,7 @@ use Rattle.pyunparse_text.specs.Spacing.{Piece}
 use Rattle.pyunparse_text.specs.Tokens.{opens, closes, opens_within}
 use Rattle.pyunparse_text.proofs.PieceLaws.Places.{Place, GiveAt, none_given, given, depth_after, by_text, Flat}
 
-first_open : (d : ℕ) (ts : List Terminal) → d ≤ most_open d ts
+pub first_open : (d : ℕ) (ts : List Terminal) → d ≤ most_open d ts
 first_open d [] = omega arith
 first_open d (t ∷ ts) = omega arith
 
@@ -22,7 +22,7 @@ open_behind : (d : ℕ) (ts us : List Terminal) → most_open (depth_after d ts)
 open_behind d [] us = omega arith
 open_behind d (t ∷ ts) us = let h = open_behind (open_after d t) ts us in omega (arith, h)
 
-one_more : (most d : ℕ) (ts : List Terminal) (ps : List Piece) → ((n : ℕ) → most_open n ts ≤ most → opens_within most n ps ≡ true)
+pub one_more : (most d : ℕ) (ts : List Terminal) (ps : List Piece) → ((n : ℕ) → most_open n ts ≤ most → opens_within most n ps ≡ true)
     → (o s : Bool)
     → most_open (by_text d o s) ts ≤ most
     → (if o then nat_lt d most && opens_within most (d + 1) ps else (if s then opens_within most (d - 1) ps else opens_within most d ps)) ≡

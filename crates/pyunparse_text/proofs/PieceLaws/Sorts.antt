@@ -15,13 +15,9 @@ use Rattle.pyunparse_text.specs.Spacing.{Piece, is_number_kind, is_operator_kind
 use Rattle.pyunparse_text.specs.Written.{free, leading, trailing, tight}
 use Rattle.pyunparse_text.specs.Pieces.{Sited, outside, piece}
 use Rattle.pylex.specs.declared.kind.Kind.TheVariants as kinds
-use Rattle.std.proofs.lemmas.Bool.{and_parts, or_cases, cases_Bool}
+use Rattle.std.proofs.lemmas.Bool.{and_parts, or_cases, cases_Bool, not-true, or_left, or_right}
 use Rattle.pyunparse_text.specs.Inner.Edges.{fit}
-use Rattle.pyunparse_text.proofs.PieceLaws.Apart.{plain_head}
-
-off : (b : Bool) → not b ≡ true → b ≡ false
-off true e = cc
-off false e = refl
+use Rattle.pyunparse_text.proofs.TokenLists.Joins.{plain_head}
 
 abbrev pub same : Bool → Bool → Bool
 same true b = b
@@ -77,27 +73,19 @@ alike x p e =
       text = λ o. rw o at d.1;
     }
 
-pub late : (a b : Bool) → b ≡ true → (a || b) ≡ true
-late true b e = refl
-late false b e = e
-
-early : (a b : Bool) → a ≡ true → (a || b) ≡ true
-early true b e = refl
-early false b e = cc
-
 chosen : (o a b : Bool) → o ≡ true → (if o then a else b) ≡ true → a ≡ true
 chosen true a b o e = e
 chosen false a b o e = cc
 
 loose : (p q : Piece) → (p.behind || q.before) ≡ false → fit p q ≡ true
-loose p q e = let t : touches p q ≡ false = rw e refl in early (not (touches p q)) (stay_apart p q) (rw t refl)
+loose p q e = let t : touches p q ≡ false = rw e refl in or_left (not (touches p q)) (stay_apart p q) (rw t refl)
 
 -- what suits fits
 suits_fit : (x y p q : Piece) → Alike x p → Alike y q → is_token p.kind p.text ≡ true → is_token q.kind q.text ≡ true → suits x y ≡ true
     → fit p q ≡ true
 suits_fit x y p q a b s t e =
     ⊎_elim
-    (λ (n : not (x.behind || y.before) ≡ true). loose p q (rw (a.behind, b.before) (off (x.behind || y.before) n)))
+    (λ (n : not (x.behind || y.before) ≡ true). loose p q (rw (a.behind, b.before) (not-true (x.behind || y.before) n)))
     (λ (h : apart x y ≡ true).
     ⊎_elim
     (λ (ox : is_operator_kind x.kind ≡ true).
@@ -114,7 +102,7 @@ suits_fit x y p q a b s t e =
     let m : begins_operator (p.text ++ take 1 q.text) ≡ false = plain_head q.kind p.text q.text t qo in
     let g : not (bytes_eq p.text (codes ".") && is_number_kind q.kind) ≡ true = rw (tx, b.number) f in
     let r : stay_apart p q ≡ true = rw (po, m, g) refl in
-    late (not (touches p q)) (stay_apart p q) r)
+    or_right (not (touches p q)) (stay_apart p q) r)
     (cases_Bool (is_operator_kind y.kind)))
     (λ (ox : is_operator_kind x.kind ≡ false).
     let po : is_operator_kind p.kind ≡ false = rw a.operator ox in
@@ -133,16 +121,16 @@ suits_fit x y p q a b s t e =
     let pn : is_number_kind p.kind ≡ true = rw a.number i in
     let qd : bytes_eq q.text (codes ".") ≡ true = rw ty d in
     let u : touches p q ≡ false = rw (pn, qd) (none (p.behind || q.before) _) in
-    early (not (touches p q)) (stay_apart p q) (rw u refl))
+    or_left (not (touches p q)) (stay_apart p q) (rw u refl))
     (λ (d : not (is_number_kind x.kind && bytes_eq (take 1 y.text) (codes ".")) ≡ true).
     let c : not (is_number_kind p.kind && bytes_eq (take 1 q.text) (codes ".")) ≡ true = rw (a.number, ty) d in
     let r : stay_apart p q ≡ true = rw (po, qo, c) refl in
-    late (not (touches p q)) (stay_apart p q) r)
+    or_right (not (touches p q)) (stay_apart p q) r)
     (or_cases (bytes_eq y.text (codes ".")) (not (is_number_kind x.kind && bytes_eq (take 1 y.text) (codes "."))) g.1))
     (λ (i : is_number_kind x.kind ≡ false).
     let pn : is_number_kind p.kind ≡ false = rw a.number i in
     let r : stay_apart p q ≡ true = rw (po, qo, pn) refl in
-    late (not (touches p q)) (stay_apart p q) r)
+    or_right (not (touches p q)) (stay_apart p q) r)
     (cases_Bool (is_number_kind x.kind)))
     (cases_Bool (is_operator_kind x.kind)))
     (or_cases (not (x.behind || y.before)) (apart x y) e)
@@ -249,19 +237,19 @@ ends l = ends_plain
 
 pub more_item : (p : Piece) → within starts_plain p ≡ true → within starts_item p ≡ true
 more_item p e = let h = and_parts (is_token p.kind p.text) (is_like starts_plain p) e in let g =
-    late (like (leading piece Star) p) _ (late (like (leading piece DoubleStar) p) (is_like starts_plain p) h.1) in rw (h.0, g) refl
+    or_right (like (leading piece Star) p) _ (or_right (like (leading piece DoubleStar) p) (is_like starts_plain p) h.1) in rw (h.0, g) refl
 
 pub more_part : (p : Piece) → within starts_item p ≡ true → within starts_part p ≡ true
 more_part p e = let h = and_parts (is_token p.kind p.text) (is_like starts_item p) e in let g =
-    late (like (tight piece Colon) p) (is_like starts_item p) h.1 in rw (h.0, g) refl
+    or_right (like (tight piece Colon) p) (is_like starts_item p) h.1 in rw (h.0, g) refl
 
 pub more_comma : (p : Piece) → within ends_plain p ≡ true → within ends_comma p ≡ true
 more_comma p e = let h = and_parts (is_token p.kind p.text) (is_like ends_plain p) e in let g =
-    late (like (trailing piece Comma) p) (is_like ends_plain p) h.1 in rw (h.0, g) refl
+    or_right (like (trailing piece Comma) p) (is_like ends_plain p) h.1 in rw (h.0, g) refl
 
 pub more_colon : (p : Piece) → within ends_comma p ≡ true → within ends_part p ≡ true
 more_colon p e = let h = and_parts (is_token p.kind p.text) (is_like ends_comma p) e in let g =
-    late (like (tight piece Colon) p) (is_like ends_comma p) h.1 in rw (h.0, g) refl
+    or_right (like (tight piece Colon) p) (is_like ends_comma p) h.1 in rw (h.0, g) refl
 
 pub starts_more : (s : Bool) (l : Level) (p : Piece) → within starts_plain p ≡ true → within (starts s l) p ≡ true
 starts_more s Slices p e = more_part p (more_item p e)

@@ -7,7 +7,7 @@ use Rattle.std.proofs.Common.{suc, ◌⊎◌, inl, inr, ⊎_elim, append_assoc, 
 use Rattle.std.specs.Prelude.{codes, nat_lt}
 use Rattle.std.specs.List.{list_all, list_any, flat_map}
 use Rattle.std.specs.Char.{digit_char}
-use Rattle.std.proofs.lemmas.Bool.{eqb-true}
+use Rattle.std.proofs.lemmas.Bool.{eqb-true, cases_Bool}
 use Rattle.std.proofs.lemmas.Bool.Decides.{nat_tests}
 use Rattle.std.proofs.lemmas.List.Folds.{list_all-append}
 use Rattle.pysource.specs.Reprs.{hex, hex_escape, escaped, quote_for, quoted, is_unprintable, is_unprintable_byte, repr_chars, repr_bytes}
@@ -18,7 +18,6 @@ use Rattle.pylex_lexeme.proofs.Callers.Booleans.{or_parts, or_parts_false}
 use Rattle.pylex_lexeme.proofs.Callers.Strings.{IsQuote, quote_is, units_plain, unit_one, unit_slash}
 use Rattle.pyunparse_text.specs.Spacing.{is_token}
 use Rattle.pyunparse_text.proofs.LexemeFronts.StringFronts.{units_slash}
-use Rattle.pyunparse_text.proofs.Cases.{bool_cases}
 
 -- Characters that neither close a literal nor may not stand in it
 abbrev pub Skips : ℕ → List ℕ → Type 0
@@ -103,11 +102,11 @@ escaped_skips test q c w =
     (λ (r : (c == 13) ≡ false). rw r (⊎_elim
     (λ (u : test c ≡ true). rw u (escape_skips q c w))
     (λ (u : test c ≡ false). rw u (own_skips q c (record { slash = s.0; quote = s.1; feed = n; return = r })))
-    (bool_cases (test c))))
-    (bool_cases (c == 13))))
-    (bool_cases (c == 10))))
-    (bool_cases (c == 9))))
-    (bool_cases (c == 92 || c == q))
+    (cases_Bool (test c))))
+    (cases_Bool (c == 13))))
+    (cases_Bool (c == 10))))
+    (cases_Bool (c == 9))))
+    (cases_Bool (c == 92 || c == q))
   where
     special : (c : ℕ) → (c == 92 || c == q) ≡ true → ((c == 13) ≡ false) × ((c == 10) ≡ false)
     special c h = ⊎_elim

@@ -9,14 +9,13 @@ use Rattle.std.specs.List.{list_all, flat_map}
 use Rattle.std.specs.Char.{digit_char}
 use Rattle.std.specs.Str.{all_scalars}
 use Rattle.std.proofs.Math.Utf8.{scalar, low_scalar}
-use Rattle.std.proofs.lemmas.Bool.{eqb-true, cases_lt, leb-true}
+use Rattle.std.proofs.lemmas.Bool.{eqb-true, cases_lt, leb-true, cases_Bool}
 use Rattle.std.proofs.lemmas.Bool.Decides.{nat_tests}
 use Rattle.pysource.specs.Reprs.{hex, hex_escape, escaped, quote_for, quoted, is_unprintable, is_unprintable_byte, repr_chars, repr_bytes}
 use Rattle.pysource.proofs.Callers.Printing.{unprintable_no_character}
 use Rattle.pylex_lexeme.proofs.Callers.Booleans.{and_parts, or_parts}
 use Rattle.pyunparse_text.proofs.Sources.Bytes.{scalars_both}
 use Rattle.pyunparse_text.proofs.SingleTokens.Literals.{which_quote}
-use Rattle.pyunparse_text.proofs.Cases.{bool_cases}
 
 one_scalar : (c : ℕ) → c < 128 → all_scalars (c ∷ []) ≡ true
 one_scalar c h = let s = low_scalar c (omega arith) in rw s refl
@@ -49,7 +48,7 @@ escaped_scalar test q c w own =
     ⊎_elim
     (λ (h : (c == 92 || c == q) ≡ true). rw h (pair_scalar c (special h)))
     (λ (h : (c == 92 || c == q) ≡ false). rw h (others (c == 9) (c == 10) (c == 13)))
-    (bool_cases (c == 92 || c == q))
+    (cases_Bool (c == 92 || c == q))
   where
     special : (c == 92 || c == q) ≡ true → c < 128
     special h = ⊎_elim
@@ -95,7 +94,7 @@ bytes_scalars bs = quoted_scalar is_unprintable_byte (λ b. true) (λ b t e. own
     all [] = refl
     all (b ∷ bs) = all bs
 
-high_scalar : (c : ℕ) → 57344 ≤ c → c ≤ 1114111 → scalar c ≡ true
+pub high_scalar : (c : ℕ) → 57344 ≤ c → c ≤ 1114111 → scalar c ≡ true
 high_scalar c h i = grind (arith, nat_tests)
 
 pub own_char : (c : ℕ) → leb c 1114111 ≡ true → is_unprintable c ≡ false → all_scalars (c ∷ []) ≡ true

@@ -5,7 +5,7 @@ use Rattle.std.proofs.Common.{replicate}
 use Rattle.std.proofs.Common.{Option, Some, None, refl, sym, ◌∙◌, ap, subst, arith, append_assoc, ⊎_elim, if◌then◌else◌}
 use Rattle.std.specs.Prelude.{count_by, nat_lt, nat_le, All}
 use Rattle.std.specs.List.{list_all}
-use Rattle.std.proofs.lemmas.Bool.{and_parts, eqb-true}
+use Rattle.std.proofs.lemmas.Bool.{and_parts, eqb-true, cases_Bool, not-true}
 use Rattle.std.proofs.lemmas.Bool.Decides.{nat_tests}
 use Rattle.std.proofs.lemmas.Grind.{common_steps}
 use Rattle.std.proofs.lemmas.List.{map-append}
@@ -41,7 +41,7 @@ use Rattle.pyunparse_text.specs.Tokens.{are_written, rise_by_one, IsListedAs}
 use Rattle.pyunparse_text.specs.SpacingLaws.{IsClear}
 use Rattle.pyunparse_text.proofs.Listings.Relisting.{entries_all, encoding_entry}
 use Rattle.pyunparse_text.proofs.Listings.Runs.{opens_alone}
-use Rattle.pyunparse_text.proofs.Cases.{bool_cases, off}
+use Rattle.pyunparse_text.proofs.Sources.SourceLines.{count_cons}
 use Rattle.std.specs.Option.{option_or}
 
 -- ---- Faults of tokens.
@@ -127,9 +127,6 @@ shallow most d (o ∷ os) =
     if opener o then nat_lt d most && shallow most (d + 1) os
     else (if closer o then not (d == 0) && shallow most (d - 1) os else shallow most d os)
 
-count_more : (p : Entry → Bool) (e : Entry) (before : List Entry) → count_by p (e ∷ before) ≡ (if p e then 1 else 0) + count_by p before
-count_more p e before = grind (arith, common_steps)
-
 never_both : (o : Option Exact) → opener o ≡ true → closer o ≡ false
 never_both (Some x) h = by x h
   where
@@ -144,8 +141,8 @@ deep_none : (most d : ℕ) (before es : List Entry) → Counted d before → sha
     → first_too_deep most before es ≡ None
 deep_none most d before [] c h = refl
 deep_none most d before (e ∷ es) c h =
-    let x = count_more entry_opens e before in
-    let y = count_more entry_closes e before in
+    let x = count_cons entry_opens e before in
+    let y = count_cons entry_closes e before in
     ⊎_elim
     (λ (o : opener e.exact ≡ true).
     let g : (nat_lt d most && shallow most (d + 1) (map (λ e. e.exact) es)) ≡ true = rw o at h in
@@ -163,7 +160,7 @@ deep_none most d before (e ∷ es) c h =
     (λ (s : closer e.exact ≡ true).
     let g : (not (d == 0) && shallow most (d - 1) (map (λ e. e.exact) es)) ≡ true = rw (o, s) at h in
     let p = and_parts (not (d == 0)) (shallow most (d - 1) (map (λ e. e.exact) es)) g in
-    let z : (d == 0) ≡ false = off (d == 0) p.0 in
+    let z : (d == 0) ≡ false = not-true (d == 0) p.0 in
     let b : count_by entry_closes (e ∷ before) ≡ 1 + count_by entry_closes before = y ∙ rw s refl in
     let n : Counted (d - 1) (e ∷ before) = grind (arith, nat_tests, a, b, c, z) in
     rw f (deep_none most (d - 1) (e ∷ before) es n p.1))
@@ -171,8 +168,8 @@ deep_none most d before (e ∷ es) c h =
     let g : shallow most d (map (λ e. e.exact) es) ≡ true = rw (o, s) at h in
     let b : count_by entry_closes (e ∷ before) ≡ 0 + count_by entry_closes before = y ∙ rw s refl in
     rw f (deep_none most d (e ∷ before) es (omega (arith, a, b, c)) g))
-    (bool_cases (closer e.exact)))
-    (bool_cases (opener e.exact))
+    (cases_Bool (closer e.exact)))
+    (cases_Bool (opener e.exact))
 
 -- tokens that are no operators
 plain_shallow : (most d : ℕ) (ts : List PlainToken) (os : List (Option Exact)) → list_all (λ t. not (is_operator_kind t.kind)) ts ≡ true
@@ -234,8 +231,8 @@ pieces_shallow most d (p ∷ ps) os c w h =
     let b : opens_within most d ps ≡ true = rw (o, s) at w in
     let g : closer (exact_in (token_of p)) ≡ false = y ∙ s in
     rw (f, g) (pieces_shallow most d ps os a b h))
-    (bool_cases (closes p)))
-    (bool_cases (opens p))
+    (cases_Bool (closes p)))
+    (cases_Bool (opens p))
 
 lines_shallow : (extent : Extent) (m : ℕ) (ls : List Line) → list_all is_written ls ≡ true → All (IsClear extent) ls
     → shallow most_brackets 0 (map exact_in (tokens_behind m ls)) ≡ true

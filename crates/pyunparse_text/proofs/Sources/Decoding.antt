@@ -12,7 +12,7 @@ use Rattle.std.proofs.Math.Utf8.{encode}
 use Rattle.std.proofs.Math.Seq.{drop-append_seam}
 use Rattle.std.proofs.lemmas.List.{take-append-drop}
 use Rattle.std.proofs.lemmas.Slice.Eq.{bytes_eq-Decides}
-use Rattle.std.proofs.lemmas.Bool.{eqb-true}
+use Rattle.std.proofs.lemmas.Bool.{eqb-true, false_from_ne_true, not-true}
 use Rattle.std.proofs.lemmas.Bool.Decides.{nat_tests}
 use Rattle.std.proofs.lemmas.List.Folds.{list_all-append}
 use Rattle.std.proofs.lemmas.Str.{encodes-append, chars-encodes, encode_same}
@@ -37,34 +37,31 @@ use Rattle.pylex_lexeme.proofs.Callers.Lexemes.{words, heads, by_words, start_co
 use Rattle.pyunparse_text.specs.Spacing.{Piece, Line, is_token, touches, text_behind, spaced, are_readable, line_text, lines_text}
 use Rattle.pyunparse_text.specs.Tokens.{is_written}
 use Rattle.pyunparse_text.proofs.LexemeFronts.Fronts.{run_ends}
-use Rattle.pyunparse_text.proofs.LexemeFronts.NumberParts.{number_in_line}
 use Rattle.pyunparse_text.proofs.LexemeFronts.PieceFronts.{token_no_blank, Off, no_token, none_empty, words_all, ArePieces}
 use Rattle.pyunparse_text.proofs.Sources.Bytes.{bytes_pass, first_byte, scalars_both}
-use Rattle.pyunparse_text.proofs.Cases.{cases, off}
+use Rattle.pyunparse_text.proofs.FieldTexts.NumberCharacters.{number_in_line}
+use Rattle.pyunparse_text.proofs.StringTerminals.Bodies.{weaker}
+use Rattle.pyunparse_text.proofs.Listings.Margins.{pieces_unblank}
 
 -- No token holds a line's end.
 part_in_line : (c : ℕ) → is_xid_continue c ≡ true → is_comment_part c ≡ true
 part_in_line c e =
     let f : (c == 10) ≡ false =
-    cases (c == 10)
+    false_from_ne_true (c == 10)
     (λ h. let z : is_xid_continue 10 ≡ true = subst (λ (x : ℕ). is_xid_continue x ≡ true) (eqb-true c 10 h) e in let y =
     is_xid_continue-ascii 10 (omega arith) in cc) in
     let g : (c == 13) ≡ false =
-    cases (c == 13)
+    false_from_ne_true (c == 13)
     (λ h. let z : is_xid_continue 13 ≡ true = subst (λ (x : ℕ). is_xid_continue x ≡ true) (eqb-true c 13 h) e in let y =
     is_xid_continue-ascii 13 (omega arith) in cc) in
     rw (f, g) refl
-
-all_by : (p q : ℕ → Bool) → ((c : ℕ) → p c ≡ true → q c ≡ true) → (t : List ℕ) → list_all p t ≡ true → list_all q t ≡ true
-all_by p q f [] e = refl
-all_by p q f (c ∷ t) e = let h = and_parts (p c) (list_all p t) e in rw (f c h.0, all_by p q f t h.1) refl
 
 name_in_line : (t : List ℕ) → is_name t ≡ true → list_all is_comment_part t ≡ true
 unfolding is_name
 name_in_line [] e = refl
 name_in_line (c ∷ t) e =
     let h = and_parts (starts_name c) (list_all is_xid_continue t) e in
-    rw (part_in_line c (start_continues c h.0), all_by is_xid_continue is_comment_part part_in_line t h.1) refl
+    rw (part_in_line c (start_continues c h.0), weaker is_xid_continue is_comment_part part_in_line t h.1) refl
 
 token_in_line : (k : Kind) (t : List ℕ) → is_token k t ≡ true → list_all is_comment_part t ≡ true
 token_in_line kinds.Name t e = name_in_line t e
@@ -79,7 +76,7 @@ token_in_line kinds.Indent t e = cc
 token_in_line kinds.Dedent t e = cc
 token_in_line kinds.EndMarker t e = cc
 
-both_in : (p : ℕ → Bool) (a b : List ℕ) → list_all p a ≡ true → list_all p b ≡ true → list_all p (a ++ b) ≡ true
+pub both_in : (p : ℕ → Bool) (a b : List ℕ) → list_all p a ≡ true → list_all p b ≡ true → list_all p (a ++ b) ≡ true
 both_in p a b e f = list_all-append p a b ∙ rw (e, f) refl
 
 blanks_in : (p : ℕ → Bool) (n : ℕ) → p 32 ≡ true → list_all p (replicate n 32) ≡ true
@@ -116,7 +113,7 @@ quiet_off : (c : ℕ) → Off c → is_decimal_digit c ≡ false → list_any (e
     → (k : Kind) (t r : List ℕ) → is_token k t ≡ true
     → begins (λ d. d == c) (t ++ r) ≡ false
 quiet_off c o n s k [] r e = absurd (none_empty k e)
-quiet_off c o n s k (d ∷ t) r e = cases (d == c) (λ h.
+quiet_off c o n s k (d ∷ t) r e = false_from_ne_true (d == c) (λ h.
     let f : is_token k (c ∷ t) ≡ true = subst (λ (x : ℕ). is_token k (x ∷ t) ≡ true) (eqb-true d c h) e in
     let g = no_token k c t o (λ z. n) (λ z. s) in
     cc)
@@ -138,14 +135,6 @@ spaced_quiet c o n s (p ∷ ps) r e =
     subst (λ (u : List ℕ). begins (λ d. d == c) u ≡ false) (sym (append_assoc p.text (text_behind p ps) r))
     (quiet_off c o n s p.kind p.text (text_behind p ps ++ r) j.0)
 
-spaced_unblank : (ps : List Piece) (r : List ℕ) → are_readable ps ≡ true → begins is_blank_char (spaced ps ++ r) ≡ false
-spaced_unblank [] r e = cc
-spaced_unblank (p ∷ ps) r e =
-    let i = and_parts (list_all (λ q. is_token q.kind q.text) (p ∷ ps)) _ e in
-    let j = and_parts (is_token p.kind p.text) (list_all (λ q. is_token q.kind q.text) ps) i.0 in
-    subst (λ (u : List ℕ). begins is_blank_char u ≡ false) (sym (append_assoc p.text (text_behind p ps) r))
-    (token_no_blank p.kind p.text (text_behind p ps ++ r) j.0)
-
 -- A mark is one character.
 mark_bytes : encode 65279 ≡ 239 ∷ 187 ∷ 191 ∷ []
 unfolding encode
@@ -153,7 +142,7 @@ mark_bytes = refl
 
 pub no_mark : (cs : List ℕ) → begins (λ d. d == 65279) cs ≡ false → has_mark (encode_utf8_all cs) ≡ false
 no_mark [] e = refl
-no_mark (c ∷ cs) e = cases (has_mark (encode_utf8_all (c ∷ cs))) (λ h.
+no_mark (c ∷ cs) e = false_from_ne_true (has_mark (encode_utf8_all (c ∷ cs))) (λ h.
     let bs : List ℕ = encode_utf8_all (c ∷ cs) in
     let t : 239 ∷ 187 ∷ 191 ∷ [] ≡ take 3 bs = (bytes_eq-Decides (239 ∷ 187 ∷ 191 ∷ []) (take 3 bs)).0 h in
     let w : encode c ++ encode_utf8_all cs ≡ encode 65279 ++ drop 3 bs =
@@ -186,7 +175,7 @@ plainly l w =
     let b = and_parts _ (list_all (λ p. all_scalars p.text) l.pieces) a.1 in
     record { readable = a.0; scalars = b.1 }
 
-pieces_of : (ps : List Piece) → are_readable ps ≡ true → ArePieces ps
+pub pieces_of : (ps : List Piece) → are_readable ps ≡ true → ArePieces ps
 pieces_of [] e = refl
 pieces_of (p ∷ ps) e = (and_parts (list_all (λ q. is_token q.kind q.text) (p ∷ ps)) _ e).0
 
@@ -207,7 +196,7 @@ all_at p (x ∷ xs) zero e h = (and_parts (p x) (list_all p xs) e).0
 all_at p (x ∷ xs) (suc k) e h = all_at p xs k (and_parts (p x) (list_all p xs) e).1 (omega arith)
 
 not_parts : (c : ℕ) → is_comment_part c ≡ true → ((c == 10) ≡ false) × ((c == 13) ≡ false)
-not_parts c e = let q = and_parts (not (c == 10)) (not (c == 13)) e in (off (c == 10) q.0, off (c == 13) q.1)
+not_parts c e = let q = and_parts (not (c == 10)) (not (c == 13)) e in (not-true (c == 10) q.0, not-true (c == 13) q.1)
 
 clean : (l : Line) → Plainly l → NoLf (encode_utf8_all (front_of l))
 clean l p k h =
@@ -250,11 +239,11 @@ line_good l p = first_given_none (bad_at Utf8 (bytes_of l)) 0 (length (bytes_of 
     no_returns : list_all (λ b. not (b == 13)) (bytes_of l) ≡ true
     no_returns =
         both_in (λ b. not (b == 13)) (encode_utf8_all (front_of l)) (10 ∷ [])
-        (all_by is_comment_part (λ b. not (b == 13)) (λ c e. rw (not_parts c e).1 refl) (encode_utf8_all (front_of l)) (front_bytes l p))
+        (weaker is_comment_part (λ b. not (b == 13)) (λ c e. rw (not_parts c e).1 refl) (encode_utf8_all (front_of l)) (front_bytes l p))
         refl
 
     no_return : (k : ℕ) → k < length (bytes_of l) → (get_or (bytes_of l) k 0 == 13) ≡ false
-    no_return k h = off (get_or (bytes_of l) k 0 == 13) (all_at (λ b. not (b == 13)) (bytes_of l) k no_returns h)
+    no_return k h = not-true (get_or (bytes_of l) k 0 == 13) (all_at (λ b. not (b == 13)) (bytes_of l) k no_returns h)
 
 -- A line that begins without a mark and declares no encoding
 record Quiet (bs : List ℕ) : Type 0 where
@@ -294,7 +283,7 @@ line_quiet l p = record {
       (spaced_quiet 65279 mark_off refl refl l.pieces (10 ∷ []) p.readable)));
   silent = subst (λ (u : List ℕ). cookie_of u ≡ []) (sym split)
       (no_cookie (4 * l.level) (encode_utf8_all (spaced l.pieces ++ 10 ∷ []))
-      (first_byte is_blank high_blank (spaced l.pieces ++ 10 ∷ []) (spaced_unblank l.pieces (10 ∷ []) p.readable))
+      (first_byte is_blank high_blank (spaced l.pieces ++ 10 ∷ []) (pieces_unblank l.pieces (10 ∷ []) p.readable))
       (first_byte (λ b. b == 35) high_hash (spaced l.pieces ++ 10 ∷ [])
       (spaced_quiet 35 hash_off refl refl l.pieces (10 ∷ []) p.readable)));
 }

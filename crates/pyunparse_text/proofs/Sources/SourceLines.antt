@@ -26,6 +26,7 @@ use Rattle.pysource.specs.declared.places.Place.{Place}
 use Rattle.pyunparse_text.specs.Inner.PlainLines.{is_indent, is_dedent, level_behind, lines_from}
 use Rattle.pyunparse_text.proofs.LexemeFronts.PieceFronts.{ArePieces}
 use Rattle.pyunparse_text.proofs.Listings.Relisting.{entries_all, encoding_entry}
+use Rattle.pyunparse_text.proofs.Sources.Decoding.{pieces_of}
 
 -- whether a line is open after a token
 abbrev opens_line : Kind → Bool
@@ -173,7 +174,8 @@ Counted m before = count_by is_indent before ≡ m + count_by is_dedent before
 is_level : (m : ℕ) (before : List PlainToken) → Counted m before → level_behind before ≡ m
 is_level m before c = omega (arith, c)
 
-count_cons : (p : PlainToken → Bool) (t : PlainToken) (ts : List PlainToken) → count_by p (t ∷ ts) ≡ (if p t then 1 else 0) + count_by p ts
+pub count_cons : (p : PlainToken → Bool) (t : PlainToken) (ts : List PlainToken)
+    → count_by p (t ∷ ts) ≡ (if p t then 1 else 0) + count_by p ts
 count_cons p t ts = grind (arith, common_steps)
 
 counted_other : (m : ℕ) (t : PlainToken) (before : List PlainToken) → is_indent t ≡ false → is_dedent t ≡ false → Counted m before
@@ -277,10 +279,6 @@ line_ends n (p ∷ ps) ts before line a c =
 no_lines : (m : ℕ) (before : List PlainToken) → lines_from before [] (replicate m dedent ++ end_marker ∷ []) ≡ []
 no_lines zero before = refl
 no_lines (suc m) before = no_lines m (dedent ∷ before)
-
-pieces_of : (ps : List Piece) → are_readable ps ≡ true → ArePieces ps
-pieces_of [] e = refl
-pieces_of (p ∷ ps) e = (and_parts (list_all (λ q. is_token q.kind q.text) (p ∷ ps)) _ e).0
 
 lines_behind : (m : ℕ) (ls : List Line) (before : List PlainToken) → list_all is_written ls ≡ true
     → rise_by_one m ls ≡ true → Counted m before

@@ -8,6 +8,7 @@ use Rattle.std.specs.Prelude.{filter, nat_le}
 use Rattle.std.specs.List.{list_all, list_any, flat_map}
 use Rattle.std.proofs.lemmas.Bool.{cases_Bool, and_from, eqb-true}
 use Rattle.std.proofs.lemmas.Bool.Decides.{nat_tests}
+use Rattle.std.proofs.Math.Seq.{take-nil}
 use Rattle.pyfstring.specs.Characters.{backslash}
 use Rattle.pyfstring.specs.Texts.{begins, is_brace, is_literal_char, escape_len, unit_len, units_after, behind_text}
 use Rattle.pyfstring.specs.Singles.{single_after, single}
@@ -64,13 +65,9 @@ fewer_kept q (c ∷ cs) = let r = fewer_kept q cs in elim (cases_Bool (q c)) [
   | inr left_out ↦ rw left_out (omega (arith, r))
 ]
 
-take_none : (k : ℕ) → take {A = ℕ} k [] ≡ []
-take_none zero = refl
-take_none (suc k) = refl
-
 -- all but the last n
 last_all : (p q : ℕ → Bool) (n : ℕ) (cs : List ℕ) → list_all p (without_last n cs) ≡ true → list_all p (without_last n (filter q cs)) ≡ true
-last_all p q n [] h = ap (list_all p) (take_none (0 - n))
+last_all p q n [] h = ap (list_all p) (take-nil (0 - n))
 last_all p q n (c ∷ cs) h = elim (cases_Bool (nat_le n (length cs))) [
   | inl more ↦ (
       let e : suc (length cs) - n ≡ suc (length cs - n) = grind (arith, nat_tests) in

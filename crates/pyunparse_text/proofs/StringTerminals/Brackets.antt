@@ -43,6 +43,8 @@ use Rattle.pyunparse_text.proofs.StringTerminals.Elements.{Laid, nothing, a_text
 use Rattle.pyunparse_text.proofs.StringTerminals.Faultless.{no_field_wrong, field_faultless}
 use Rattle.pyunparse_text.proofs.StringTerminals.Classes.{OfClass, of_class}
 use Rattle.pyunparse_text.proofs.StringTerminals.FieldLexemes.{AllTokens, no_lexeme, a_gap, a_token, IsWholeField, whole_field}
+use Rattle.pyunparse_text.proofs.FieldTexts.FieldTokens.{counted}
+use Rattle.pyunparse_text.proofs.Listings.Runs.{opens_alone}
 
 -- as many brackets are open behind them as before, and no fewer than so many between
 pub record Closed (ts : List Terminal) : Type 0 where
@@ -82,15 +84,6 @@ unfolding terminal_of
 operator_terminal t e h = ap (λ (o : Option Exact). elim o [ Some x ↦ Op x | None ↦ Layout ]) h
 
 -- ---- Lexemes.
-
-counted : (p : Lexeme → Bool) (x : Lexeme) (xs : List Lexeme) → count_by p (x ∷ xs) ≡ count_if (p x) + count_by p xs
-counted p x xs = sum_by-cons (λ y. count_if (p y)) x xs
-
-no_both : (e : Exact) → is_opener e ≡ true → is_closer e ≡ false
-no_both LPar h = refl
-no_both LSqb h = refl
-no_both LBrace h = refl
-no_both _ h = absurd (cc)
 
 -- behind an operator, in n brackets of a field's text and d others
 operator_after : (o c : Bool) (n d : ℕ) → (o ≡ true → c ≡ false) → (c ≡ true → 1 ≤ n)
@@ -137,7 +130,7 @@ module _ (fault : Kind → List ℕ → Option TokenError) (by : Kind → List �
       (by (kind_of k true) text ++ us)
   lexeme_closed (classes.Operator e) text g t s f n d us low =
       let a : open_after (n + d) (Op e) ≡ (n + count_if (is_opener e) - count_if (is_closer e)) + d =
-      operator_after (is_opener e) (is_closer e) n d (no_both e) low in
+      operator_after (is_opener e) (is_closer e) n d (opens_alone e) low in
       let m : most_open (open_after (n + d) (Op e)) us ≤ most_open (n + d) (Op e ∷ us) = omega arith in
       rw (operators_are text e t) (subst (λ k. most_open k us ≤ most_open (n + d) (Op e ∷ us)) a m)
   lexeme_closed classes.Name text g t s f n d us low = apart n d us (others_closed kinds.Name text refl s f)

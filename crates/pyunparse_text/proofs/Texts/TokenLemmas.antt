@@ -1,31 +1,35 @@
--- The texts of signs and words are ASCII, and pieces are put into a list of tokens.
+-- The texts of operators are ASCII, and pieces are put into a list of tokens.
 --
--- Carries: put_sign, put_word, expression_tokens.
-use Rattle.std.proofs.Common.{◌≡◌, ◌∙◌, Bool, false, List, [], ◌∷◌, ◌++◌, map, refl, ap, sym, append-nil, append_assoc}
+-- Carries: put_sign, expression_tokens.
+use Rattle.std.proofs.Common.{◌≡◌, ◌∙◌, ℕ, Bool, true, false, List, [], ◌∷◌, ◌++◌, map, refl, ap, sym, append-nil, append_assoc}
 use Rattle.std.specs.Str.{encode_utf8_all}
 use Rattle.std.specs.Char.{encode_utf8}
 use Rattle.pylex_lexeme.specs.declared.kinds.Exact.{Exact}
 use Rattle.pylex_lexeme.specs.declared.kinds.Exact.TheVariants.{LPar}
 use Rattle.pylex_lexeme.specs.Operators.{exact_text}
-use Rattle.pytoken.specs.declared.keywords.Keyword.{Keyword}
-use Rattle.pytoken.specs.declared.keywords.Keyword.TheVariants.{False}
-use Rattle.pytoken.specs.Keywords.{spelling_of}
+use Rattle.pylex.specs.declared.kind.Kind.TheVariants as kinds
 use Rattle.pyunparse_text.specs.Written.{Element}
 use Rattle.pyunparse_text.specs.Pieces.{Sited, outside}
 use Rattle.pyunparse_text.specs.Tokens.{PlainToken, token_of}
-use Rattle.pyunparse_text.specs.Folds.{Step, in_utf8, puts, puts_element, puts_elements}
+use Rattle.pyunparse_text.specs.Marks.{in_role, is_close_after, is_close_before}
+use Rattle.pyunparse_text.specs.declared.marks.Role.{Role}
+use Rattle.pyunparse_text.specs.declared.marks.Role.TheVariants as roles
+use Rattle.pyunparse_text.specs.Folds.{Step, anywhere, in_utf8, puts, puts_element, puts_elements, sited_in_utf8}
 use Rattle.pyunparse_text.specs.Told.{in_bytes, listed, listed_behind}
 
--- the texts of operators and keywords are ASCII
-pub sign_bytes : (x : Exact) → encode_utf8_all (exact_text x) ≡ exact_text x
+-- the texts of operators are ASCII
+sign_bytes : (x : Exact) → encode_utf8_all (exact_text x) ≡ exact_text x
 unfolding encode_utf8
 sign_bytes LPar = refl
 sign_bytes _ = refl
 
-pub word_bytes : (k : Keyword) → encode_utf8_all (spelling_of k) ≡ spelling_of k
-unfolding encode_utf8
-word_bytes False = refl
-word_bytes _ = refl
+-- an operator by the two sides of its role
+pub sign_put : (r : Role) (x : Exact) (t : List ℕ) → t ≡ exact_text x
+    → anywhere (record { kind = kinds.Op; text = t; before = is_close_before r; behind = is_close_after r }) ≡ sited_in_utf8 (in_role r x)
+sign_put roles.Free x t e = (λ i b. record { kind = kinds.Op; text = (e ∙ sym (sign_bytes x)) i; before = false; behind = false })
+sign_put roles.Leading x t e = (λ i b. record { kind = kinds.Op; text = (e ∙ sym (sign_bytes x)) i; before = false; behind = true })
+sign_put roles.Trailing x t e = (λ i b. record { kind = kinds.Op; text = (e ∙ sym (sign_bytes x)) i; before = true; behind = false })
+sign_put roles.Tight x t e = (λ i b. record { kind = kinds.Op; text = (e ∙ sym (sign_bytes x)) i; before = true; behind = true })
 
 -- tokens that are written into a list where no f-string is open
 pub tokens_put : (ts : List PlainToken) (ps : List Sited) → puts listed_behind (listed ts) ps ≡ listed (ts ++ map in_bytes (outside ps))

@@ -8,6 +8,7 @@ use Rattle.std.specs.Char.{encode_utf8}
 use Rattle.std.proofs.lemmas.Bool.Decides.{nat_tests, same_from_decides}
 use Rattle.std.proofs.lemmas.Slice.Eq.{bytes_eq-Decides}
 use Rattle.std.proofs.lemmas.Str.{encodes-append, encodes_same}
+use Rattle.std.proofs.Math.Bool.{and-false, and-true}
 use Rattle.pyfstring.specs.Texts.{begins_with}
 use Rattle.pylex_lexeme.specs.Characters.{left_curly_bracket}
 use Rattle.pyunparse_text.specs.Spacing.{Piece, spaced, text_behind, touches}
@@ -15,14 +16,6 @@ use Rattle.pyunparse_text.specs.Statements.{is_star}
 use Rattle.pyunparse_text.specs.Pieces.{Sited}
 use Rattle.pyunparse_text.specs.Folds.{in_utf8, puts, sited_in_utf8}
 use Rattle.pyunparse_text.specs.Writing.{Writing, behind, behind_sited, blank, edge_of, meets}
-
-and_true : (b : Bool) → (b && true) ≡ b
-and_true true = refl
-and_true false = refl
-
-and_false : (b : Bool) → (b && false) ≡ false
-and_false true = refl
-and_false false = refl
 
 -- a text is a sign where its bytes are
 pub same_sign : (t s : List ℕ) → encode_utf8_all s ≡ s → bytes_eq (encode_utf8_all t) s ≡ bytes_eq t s
@@ -114,5 +107,5 @@ star_bytes t = same_sign t (codes "*") refl ∙ by t
   where
     by : (t : List ℕ) → bytes_eq t (codes "*") ≡ is_star t None
     by [] = refl
-    by (c ∷ []) = and_true (c == 42)
-    by (c ∷ (d ∷ t)) = and_false (c == 42)
+    by (c ∷ []) = and-true (c == 42)
+    by (c ∷ (d ∷ t)) = and-false (c == 42)

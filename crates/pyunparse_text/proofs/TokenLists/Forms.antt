@@ -8,6 +8,7 @@ use Rattle.std.specs.List.{list_all}
 use Rattle.std.specs.Str.{all_scalars, bytes_eq}
 use Rattle.std.proofs.lemmas.List.Folds.{list_all-append}
 use Rattle.std.proofs.lemmas.Slice.Eq.{bytes_eq-Decides}
+use Rattle.std.proofs.lemmas.Bool.{not-true}
 use Rattle.pylex.specs.declared.kind.Kind.TheVariants as kinds
 use Rattle.pylex_lexeme.specs.Operators.{operators, exact_of}
 use Rattle.pylex_lexeme.proofs.Callers.Booleans.{and_parts, or_parts}
@@ -21,7 +22,6 @@ use Rattle.pyunparse_text.proofs.Listings.Runs.{AreScalar}
 use Rattle.pyunparse_text.proofs.TokenLists.Joins.{neat_both, begins_both, ends_both, neat_readable, Balanced, balanced_within}
 use Rattle.pyunparse_text.proofs.TokenLists.Joins.{behind_leading}
 use Rattle.pyunparse_text.proofs.TokenLists.Joins.{before_trailing, before_point, behind_point}
-use Rattle.pyunparse_text.proofs.Cases.{off}
 
 -- pieces that begin and end by these tests
 pub record Written (b e : Piece → Bool) (ps : List Piece) : Type 0 where
@@ -70,8 +70,8 @@ weaker b c e f g h xs x = record {
 -- Neighbours that fit
 pub blank_fits : (p q : Piece) → is_free_behind p ≡ true → is_free_before q ≡ true → fit p q ≡ true
 blank_fits p q a b =
-    let x = off p.behind a in
-    let y = off q.before b in
+    let x = not-true p.behind a in
+    let y = not-true q.before b in
     let t : touches p q ≡ false = rw (x, y) refl in
     rw t refl
 
@@ -130,17 +130,6 @@ in_brackets xs x =
     (sign false true (codes "(") ∷ []) (xs ++ sign true false (codes ")") ∷ []) l
     (both begins_expression ends_expression (is_sign trailing) ends_expression trailing_fits xs (sign true false (codes ")") ∷ []) x r)
 
-pub brackets_balance : (xs : List Piece) → Balanced xs → Balanced (sign false true (codes "(") ∷ xs ++ sign true false (codes ")") ∷ [])
-unfolding exact_of operators
-brackets_balance xs b = balanced_within (sign false true (codes "(")) (sign true false (codes ")")) xs refl refl refl b
-
--- `-` xs
-pub negated : (xs : List Piece) → Expression xs → Expression (sign false true (codes "-") ∷ xs)
-negated xs x =
-    let l : Written begins_expression (is_sign leading) (sign false true (codes "-") ∷ []) =
-    (let t = by_words (codes "-") in record { pieces = rw t refl; scalars = refl; neat = refl; begins = rw t refl; ends = refl }) in
-    both begins_expression (is_sign leading) begins_expression ends_expression leading_fits (sign false true (codes "-") ∷ []) xs l x
-
 -- xs `+` ys
 pub added : (xs ys : List Piece) → Expression xs → Expression ys → Expression (xs ++ sign false false (codes "+") ∷ ys)
 added xs ys x y =
@@ -172,14 +161,6 @@ attribute xs t x e s =
     (λ p q a b. let h = and_parts (is_operator_kind q.kind) (bytes_eq q.text (codes ".")) b in
     before_point p q a h.0 ((bytes_eq-Decides q.text (codes ".")).0 h.1)) xs _ x d
 
--- A line of an expression alone can be read back.
-pub expression_readable : (xs : List Piece) → Expression xs → are_readable xs ≡ true
-expression_readable xs x = neat_readable xs x.neat (there xs x.begins) x.pieces
-  where
-    there : (xs : List Piece) → begins_by begins_expression xs ≡ true → begins_by (λ p. true) xs ≡ true
-    there [] e = cc
-    there (p ∷ xs) e = refl
-
 -- Items: expressions, and what begins with a star
 abbrev pub Item : List Piece → Type 0
 Item ps = Written begins_item ends_expression ps
@@ -203,19 +184,12 @@ opener_fits p q a b =
     let s =
     and_parts (is_operator_kind q.kind) (is_among stars q.text)
     (and_parts (is_operator_kind q.kind && is_among stars q.text) (not q.before) h).0 in
-    let n = off (bytes_eq p.text (codes ".")) (words_all (λ t. not (bytes_eq t (codes "."))) p.text openers refl x.1) in
+    let n = not-true (bytes_eq p.text (codes ".")) (words_all (λ t. not (bytes_eq t (codes "."))) p.text openers refl x.1) in
     let m =
-    off (begins_operator (p.text ++ take 1 q.text))
+    not-true (begins_operator (p.text ++ take 1 q.text))
     (words_all (λ u. not (begins_operator (p.text ++ take 1 u))) q.text stars
     (words_all (λ t. list_all (λ u. not (begins_operator (t ++ take 1 u))) stars) p.text openers openers_stars x.1) s.1) in
     apart_fits p q (rw (x.0, n, m) refl))
-    (or_parts (begins_expression q) ((is_operator_kind q.kind && is_among stars q.text) && not q.before) b)
-
-item_free : (q : Piece) → begins_item q ≡ true → is_free_before q ≡ true
-item_free q b = ⊎_elim
-    (λ (h : begins_expression q ≡ true). free_before q h)
-    (λ (h : ((is_operator_kind q.kind && is_among stars q.text) && not q.before) ≡ true).
-    (and_parts (is_operator_kind q.kind && is_among stars q.text) (not q.before) h).1)
     (or_parts (begins_expression q) ((is_operator_kind q.kind && is_among stars q.text) && not q.before) b)
 
 -- `*` xs
@@ -237,15 +211,6 @@ keyword t xs e s x =
     (both begins_expression ends_expression (is_sign trailing) ends_expression trailing_fits
     (record { kind = kinds.Name; text = t; before = false; behind = false } ∷ []) (sign true true (codes "=") ∷ xs) n
     (both (is_sign trailing) (is_sign leading) begins_expression ends_expression leading_fits (sign true true (codes "=") ∷ []) xs m x))
-
--- xs `,` ys
-pub separated : (xs ys : List Piece) → Item xs → Item ys → Item (xs ++ sign true false (codes ",") ∷ ys)
-separated xs ys x y =
-    let m : Written (is_sign trailing) is_free_behind (sign true false (codes ",") ∷ []) =
-    (let o = by_words (codes ",") in record { pieces = rw o refl; scalars = refl; neat = refl; begins = refl; ends = refl }) in
-    both begins_item ends_expression (is_sign trailing) ends_expression trailing_fits xs (sign true false (codes ",") ∷ ys) x
-    (both (is_sign trailing) is_free_behind begins_item ends_expression (λ p q a b. blank_fits p q a (item_free q b))
-    (sign true false (codes ",") ∷ []) ys m y)
 
 -- xs `(` ys `)`
 pub called : (xs ys : List Piece) → Expression xs → Item ys

@@ -11,6 +11,7 @@ use Rattle.std.specs.Str.{bytes_eq}
 use Rattle.std.proofs.lemmas.Bool.Decides.{nat_tests}
 use Rattle.std.proofs.lemmas.List.{take-append-drop}
 use Rattle.std.proofs.lemmas.Slice.Eq.{bytes_eq-Decides}
+use Rattle.std.proofs.lemmas.Bool.{cases_Bool, false_from_ne_true, not-true}
 use Rattle.pylex.specs.declared.kind.Kind.{Kind}
 use Rattle.pylex.specs.declared.kind.Kind.TheVariants as kinds
 use Rattle.pylex_lexeme.specs.Operators.{operators}
@@ -26,7 +27,6 @@ use Rattle.pyunparse_text.specs.Inner.Edges.{all_fit, are_neat, begins_by, ends_
 use Rattle.pyunparse_text.specs.Tokens.{opens, closes, closes_all}
 use Rattle.pyunparse_text.proofs.LexemeFronts.PieceFronts.{words_all, ArePieces, Off, no_token, none_empty}
 use Rattle.pyunparse_text.proofs.LexemeFronts.OperatorFronts.{begins_word, of_any, is_sign_char, sign_of}
-use Rattle.pyunparse_text.proofs.Cases.{bool_cases, cases, off}
 
 -- Neat lists, put together
 pub neat_both : (f g : Piece → Bool) → ((p q : Piece) → f p ≡ true → g q ≡ true → fit p q ≡ true)
@@ -113,12 +113,12 @@ begins_any t c (o ∷ os) a e =
     (or_parts (starts_with nat_eq o (t ++ c ∷ [])) (list_any (λ o. starts_with nat_eq o (t ++ c ∷ [])) os) e)
 
 -- after no operator does a name, a number or a string make a longer one
-plain_head : (k : Kind) (t u : List ℕ) → is_token k u ≡ true → is_operator_kind k ≡ false → begins_operator (t ++ take 1 u) ≡ false
+pub plain_head : (k : Kind) (t u : List ℕ) → is_token k u ≡ true → is_operator_kind k ≡ false → begins_operator (t ++ take 1 u) ≡ false
 plain_head k t [] e f = absurd (none_empty k e)
-plain_head k t (c ∷ u) e f = cases (begins_operator (t ++ c ∷ [])) (λ h.
+plain_head k t (c ∷ u) e f = false_from_ne_true (begins_operator (t ++ c ∷ [])) (λ h.
     let s : list_any (eqb c) sign_chars ≡ true = begins_any t c words refl (sym (begins_word (t ++ c ∷ [])) ∙ h) in
     let g = sign_of c (of_any is_sign_char c sign_chars refl s) in
-    let l = off (list_any (eqb (lower c)) (heads prefixes))
+    let l = not-true (list_any (eqb (lower c)) (heads prefixes))
     (of_any (λ d. not (list_any (eqb (lower d)) (heads prefixes))) c sign_chars refl s) in
     let o : Off c = record { name = g.starts; quote = g.quote; letter = l } in
     let n = no_token k c u o (λ z. g.digit) (λ z. absurd (let y : true ≡ false = sym z ∙ f in cc)) in
@@ -148,12 +148,12 @@ behind_leading p q a b =
     let y : (is_token q.kind q.text ≡ true) × ((not (is_operator_kind q.kind) || is_among openings q.text) ≡ true) =
     (y0.0, (and_parts (not (is_operator_kind q.kind) || is_among openings q.text) (not q.before) y0.1).0) in
     let n : bytes_eq p.text (codes ".") ≡ false =
-    off (bytes_eq p.text (codes ".")) (words_all (λ t. not (bytes_eq t (codes "."))) p.text leading refl x.1) in
+    not-true (bytes_eq p.text (codes ".")) (words_all (λ t. not (bytes_eq t (codes "."))) p.text leading refl x.1) in
     let m : begins_operator (p.text ++ take 1 q.text) ≡ false = ⊎_elim
     (λ (h : is_operator_kind q.kind ≡ true). let g : is_among openings q.text ≡ true = rw h at y.1 in
-    off (begins_operator (p.text ++ take 1 q.text)) (pairs_all no_longer leading openings p.text q.text leading_openings x.1 g))
+    not-true (begins_operator (p.text ++ take 1 q.text)) (pairs_all no_longer leading openings p.text q.text leading_openings x.1 g))
     (λ (h : is_operator_kind q.kind ≡ false). plain_head q.kind p.text q.text y.0 h)
-    (bool_cases (is_operator_kind q.kind)) in
+    (cases_Bool (is_operator_kind q.kind)) in
     rw (x.0, n, m) refl
 
 -- A sign after an expression
@@ -164,19 +164,19 @@ before_trailing p q a b =
     (x0.0, (and_parts (not (is_operator_kind p.kind) || is_among closings p.text) (not p.behind) x0.1).0) in
     let y = and_parts (is_operator_kind q.kind) (is_among trailing q.text) b in
     let d : bytes_eq (take 1 q.text) (codes ".") ≡ false =
-    off (bytes_eq (take 1 q.text) (codes ".")) (words_all (λ t. not (bytes_eq (take 1 t) (codes "."))) q.text trailing refl y.1) in
+    not-true (bytes_eq (take 1 q.text) (codes ".")) (words_all (λ t. not (bytes_eq (take 1 t) (codes "."))) q.text trailing refl y.1) in
     ⊎_elim
     (λ (h : is_operator_kind p.kind ≡ true).
     let g : is_among closings p.text ≡ true = rw h at x.1 in
     let n : bytes_eq p.text (codes ".") ≡ false =
-    off (bytes_eq p.text (codes ".")) (words_all (λ t. not (bytes_eq t (codes "."))) p.text closings refl g) in
+    not-true (bytes_eq p.text (codes ".")) (words_all (λ t. not (bytes_eq t (codes "."))) p.text closings refl g) in
     let m =
-    off (begins_operator (p.text ++ take 1 q.text))
+    not-true (begins_operator (p.text ++ take 1 q.text))
     (pairs_all no_longer closings (codes "." ∷ trailing) p.text q.text closings_trailing g (right (bytes_eq q.text (codes "."))
     (is_among trailing q.text) y.1)) in
     rw (h, n, m) refl)
     (λ (h : is_operator_kind p.kind ≡ false). rw (h, y.0, d) (none (is_number_kind p.kind)))
-    (bool_cases (is_operator_kind p.kind))
+    (cases_Bool (is_operator_kind p.kind))
   where
     right : (x y : Bool) → y ≡ true → (x || y) ≡ true
     right true y e = refl
@@ -196,10 +196,10 @@ before_point p q a k t =
     (λ (h : is_operator_kind p.kind ≡ true).
     let g : is_among closings p.text ≡ true = rw h at x.1 in
     let n : bytes_eq p.text (codes ".") ≡ false =
-    off (bytes_eq p.text (codes ".")) (words_all (λ t. not (bytes_eq t (codes "."))) p.text closings refl g) in
+    not-true (bytes_eq p.text (codes ".")) (words_all (λ t. not (bytes_eq t (codes "."))) p.text closings refl g) in
     let m : begins_operator (p.text ++ take 1 q.text) ≡ false =
     ap (λ u. begins_operator (p.text ++ take 1 u)) t
-    ∙ off (begins_operator (p.text ++ 46 ∷ [])) (pairs_all no_longer closings (codes "." ∷ trailing) p.text (codes ".")
+    ∙ not-true (begins_operator (p.text ++ 46 ∷ [])) (pairs_all no_longer closings (codes "." ∷ trailing) p.text (codes ".")
     closings_trailing g refl) in
     let s : stay_apart p q ≡ true = rw (h, n, m) refl in
     last (not (touches p q)) (stay_apart p q) s)
@@ -208,8 +208,8 @@ before_point p q a k t =
     (λ (i : is_number_kind p.kind ≡ true). let u : touches p q ≡ false = rw (t, i) (blank (p.behind || q.before)) in rw u refl)
     (λ (i : is_number_kind p.kind ≡ false). let s : stay_apart p q ≡ true = rw (h, k, i) refl in
     last (not (touches p q)) (stay_apart p q) s)
-    (bool_cases (is_number_kind p.kind)))
-    (bool_cases (is_operator_kind p.kind))
+    (cases_Bool (is_number_kind p.kind)))
+    (cases_Bool (is_operator_kind p.kind))
   where
     last : (a b : Bool) → b ≡ true → (a || b) ≡ true
     last true b e = refl

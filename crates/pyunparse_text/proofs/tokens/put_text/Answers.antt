@@ -1,11 +1,16 @@
-use Rattle.std.proofs.Common.{ap, false, sym}
+use Rattle.std.proofs.Common.{Bool, ap, false, sym}
 use Rattle.std.proofs.lemmas.Result.{IfOk-equal}
 use Rattle.std.proofs.lemmas.Str.{encodes-chars}
 use Rattle.pylex.specs.declared.kind.Kind.TheVariants as kinds
 use Rattle.pyunparse_text.specs.Folds.{anywhere}
 use Rattle.pyunparse_text.proofs.tokens.put_text.Goals as goal
 
+pub returns-then-before : goal.returns-then-before
+returns-then-before g c = rw c.if-before.true (IfOk-equal _ _ _ _ c.put.ensures
+    (ap (λ t. g.W.Writer.after c.args.out.now (anywhere (record { kind = kinds.Name; text = t; before = true; behind = false })))
+    (sym (encodes-chars c.args.name.now c.utf8.name))))
+
 pub returns : goal.returns
-returns g c = IfOk-equal _ _ _ _ c.put.ensures
-    (ap (λ t. g.W.Writer.after c.args.out.now (anywhere (record { kind = kinds.Name; text = t; before = c.args.before; behind = false })))
-    (sym (encodes-chars c.args.name.now c.utf8.name)))
+returns g c = rw c.if-before.false (IfOk-equal _ _ _ _ c.put-2.ensures
+    (ap (λ t. g.W.Writer.after c.args.out.now (anywhere (record { kind = kinds.Name; text = t; before = false; behind = false })))
+    (sym (encodes-chars c.args.name.now c.utf8.name))))
