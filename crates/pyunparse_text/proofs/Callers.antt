@@ -4,6 +4,7 @@ pub mod Read
 pub mod Patterns
 pub mod Modules
 pub mod Texts
+pub mod Trees
 pub mod Law
 pub mod Said
 pub mod Strings

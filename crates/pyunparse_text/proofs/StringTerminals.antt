@@ -2,6 +2,7 @@
 pub mod Elements
 pub mod Faultless
 pub mod Classes
+pub mod FieldCharacters
 pub mod FieldLexemes
 pub mod Brackets
 pub mod Scanned

@@ -1,4 +1,4 @@
--- What is behind tokens that are written one after another, and behind an f-string that is written step by step.
+-- What a writer is after tokens that are written one after another, and after an f-string that is written step by step.
 use Rattle.std.specs.Prelude.{ℕ, Bool, true, false, List, [], ◌∷◌}
 use Rattle.std.specs.Str.{encode_utf8_all}
 use Rattle.pyfstring.specs.declared.parts.Conversion.{Conversion}
@@ -18,12 +18,12 @@ sited_in_utf8 p is_in_field = in_utf8 (p is_in_field)
 abbrev pub anywhere : Piece → Sited
 anywhere p is_in_field = p
 
--- a writer behind some tokens
+-- a writer after some tokens
 abbrev pub puts : {S : Type 0} → (S → Sited → S) → S → List Sited → S
 puts after s [] = s
 puts after s (p ∷ ps) = puts after (after s (sited_in_utf8 p)) ps
 
--- the bracket before an expression, where it is not bare, and the one behind it
+-- the bracket before an expression, where it is not bare, and the one after it
 abbrev pub opened : Bool → List Sited
 opened true = []
 opened false = leading piece LPar ∷ []
@@ -43,7 +43,7 @@ pub data Step : Type 0 where
   BeginSpec : Step
   EndField : Step
 
--- a writer behind some elements of an f-string; the tokens of a field's expression are put by themselves
+-- a writer after some elements of an f-string; the tokens of a field's expression are put by themselves
 module _ {S : Type 0} (after : S → Sited → S) (step : S → Step → S) (is_in_field : Bool) where
   abbrev pub puts_element : S → Element Sited → S
   puts_element s (Text in_spec t) = step s (PutText is_in_field in_spec t)

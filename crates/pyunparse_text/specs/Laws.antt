@@ -168,7 +168,7 @@ PatternsAreRead = (extent : Extent) (l : PatternLevel) (ts : List Terminal) (p :
 
 -- ---- Modules.
 
--- the lines have these forms at their places in a version of Python, behind earlier lines, which are given nearest first
+-- the lines have these forms at their places in a version of Python, after earlier lines, which are given nearest first
 pub data HaveForms (profile : Profile) : List Line → List (WrittenLine Terminal) → List Line → Type 0 where
   no_form : {earlier : List Line} → HaveForms profile earlier [] []
   a_form : {earlier : List Line} {l : ℕ} {ts : List Terminal} {f : Form} {ws : List (WrittenLine Terminal)} {xs : List Line}
@@ -192,7 +192,7 @@ abbrev pub ModulesComeBack : Type 0
 ModulesComeBack = (profile : Profile) (ws : List (WrittenLine Terminal)) (m : Module) → AreModule profile ws m → All MayBeTokens ws
     → AreModule profile (terminal_lines m) m
 
--- behind earlier lines each line stands in a `match` exactly where it is the header of a case
+-- after earlier lines each line stands in a `match` exactly where it is the header of a case
 abbrev pub ArePlaced : List Line → List Line → Type 0
 ArePlaced earlier [] = Unit {0}
 ArePlaced earlier (x ∷ xs) = (stands_in_match x.level earlier ≡ is_case (kind_of x.form)) × ArePlaced (x ∷ earlier) xs

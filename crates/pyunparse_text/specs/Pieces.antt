@@ -21,8 +21,7 @@ use Rattle.pyunparse_text.specs.Spacing.{Piece, spaced}
 use Rattle.pyunparse_text.specs.Written.{Maker, Element, Text, Field, Spec, End, written}
 
 -- how a number is written: a whole one in decimal, a float as the shortest decimal that reads back as it, an imaginary one with a `j`
--- behind
--- (2.4.4 to 2.4.7)
+-- after it (2.4.4 to 2.4.7)
 abbrev pub number_text : Value → List ℕ
 number_text (Int n) = decimal_text n
 number_text (Float x) = float_source x

@@ -28,8 +28,7 @@ is_operator_kind kinds.Op = true
 is_operator_kind _ = false
 
 -- The text is a token of the kind: a name, a number that begins with a digit (as all that are written do: `0.5`, not `.5`), a literal in
--- one quote
--- and without line ends, or an operator.
+-- one quote and without line ends, or an operator.
 abbrev pub is_token : Kind → List ℕ → Bool
 is_token kinds.Name t = is_name t
 is_token kinds.Number t = begins is_decimal_digit t && is_number t
@@ -38,8 +37,7 @@ is_token kinds.Op t = is_operator t
 is_token _ t = false
 
 -- The blanks: there is none where one of the two keeps close, except that a number isn't close to a point, nor a comma to a colon that
--- keeps close to
--- what comes after it, as a slice's does (a header's and a pair's don't).
+-- keeps close to what comes after it, as a slice's does (a header's and a pair's don't).
 abbrev pub touches : Piece → Piece → Bool
 touches p q =
     (p.behind || q.before) && not (is_number_kind p.kind && bytes_eq q.text (codes "."))
@@ -60,8 +58,7 @@ abbrev pub begins_operator : List ℕ → Bool
 begins_operator t = list_any (λ o. starts_with nat_eq o.spelling t) operators
 
 -- Two pieces are told apart without a blank. After a name, a number or a string only an operator is, and after a number none that begins
--- with
--- a point. After an operator each piece is that doesn't make a longer operator of it, or a number of a point.
+-- with a point. After an operator each piece is that doesn't make a longer operator of it, or a number of a point.
 abbrev pub stay_apart : Piece → Piece → Bool
 stay_apart p q =
     if is_operator_kind p.kind then not (begins_operator (p.text ++ take 1 q.text)) && not

@@ -19,7 +19,7 @@ in_bytes p = record { kind = p.kind; text = encode_utf8_all p.text }
 
 -- ---- A list of tokens while it is written.
 
--- the tokens, and the text of the f-string that is open behind them
+-- the tokens, and the text of the f-string that is open after them
 pub record Listed : Type 0 where
   pub tokens : List PlainToken
   pub string : Option Writing
@@ -40,16 +40,16 @@ abbrev pub behind_in : List PlainToken → Option Writing → Sited → Listed
 behind_in ts None p = listed (ts ++ token_of (p false) ∷ [])
 behind_in ts (Some w) p = record { tokens = ts; string = Some (behind w (p true)) }
 
--- behind a token
+-- after a token
 abbrev pub listed_behind : Listed → Sited → Listed
 listed_behind l p = behind_in l.tokens (field_of l.string) p
 
--- the text that an f-string begins behind
+-- the text after which an f-string begins
 abbrev pub or_none : Option Writing → Writing
 or_none None = no_text
 or_none (Some w) = w
 
--- behind a step of the writing of an f-string
+-- after a step of the writing of an f-string
 abbrev pub listed_stepped : Listed → Step → Listed
 listed_stepped l Begin = record { tokens = l.tokens; string = Some (stepped (or_none (field_of l.string)) Begin) }
 listed_stepped l s = record { tokens = l.tokens; string = option_map (λ w. stepped w s) l.string }

@@ -10,8 +10,7 @@ use Rattle.pyunparse_text.specs.Pieces.{Sited, character_text, conversion_text, 
 use Rattle.pyunparse_text.specs.Folds.{Step, Begin, PutText, BeginField, EndExpression, BeginSpec, EndField}
 use Rattle.pyunparse_text.specs.declared.edges.Edge.{Edge}
 
--- the text in UTF-8, what the last token of its line says of what follows, how many levels stand open, and whether a field of an f-string
--- does
+-- the text in UTF-8, what the last token of its line says of what follows, how many levels are open, and whether a field of an f-string is
 pub record Writing : Type 0 where
   pub text : List ℕ
   pub last : Option Edge
@@ -60,7 +59,7 @@ field_edge = record { behind = true; number = false; comma = false; brace = true
 abbrev pub turned : Writing → Edge → Bool → List ℕ → Writing
 turned w e is_in_field t = record { text = w.text ++ t; last = Some e; level = w.level; in_field = is_in_field }
 
--- behind a step of the writing of an f-string
+-- after a step of the writing of an f-string
 abbrev pub stepped : Writing → Step → Writing
 stepped w Begin = turned w (edge_of a_string) w.in_field (blank w.last a_string ++ (codes "f" ++ (quote w.in_field ∷ [])))
 stepped w (PutText is_in_field in_spec t) = more w (encode_utf8_all (flat_map (character_text is_in_field in_spec) t))

@@ -256,7 +256,7 @@ module _ {A : Type 0} (make : Maker A) where
     written l (Trees.SetComp e gs) = enclosed (leading LBrace) RBrace (written Named e ++ clauses gs)
     written l (Trees.Slice a b c) = fit l Slice (perhaps Expression a ++ (tight Colon ∷ (perhaps Expression b ++ suffixed (tight Colon) c)))
 
-    -- what follows a text among the values of a JoinedStr, of an f-string or of the format spec of a field: fields, and behind each of them
+    -- what follows a text among the values of a JoinedStr, of an f-string or of the format spec of a field: fields, and after each of them
     -- the text
     -- that follows it, perhaps an empty one
     pub elements_behind : Bool → Exprs → List (Element A)

@@ -180,7 +180,7 @@ impl TextWriter {
         self.front.push_str(INDENT)
     }
 
-    /// Comes back from a level.
+    /// Leaves a level.
     pub fn dedent(&mut self)
         requires { 0 < self.old.level }
         ensures { self.new ≡ record {

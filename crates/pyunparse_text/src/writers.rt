@@ -54,7 +54,7 @@ pub trait Writer {
         ensures { OnOk result (self.new ≡
             after self.old (sited_in_utf8 (sited (Literal (Bytes bytes.now)) false false))) };
 
-    /// Begins an f-string, and tells whether it stands in a field.
+    /// Begins an f-string, and says whether it stands in a field.
     fn begin_string(&mut self) -> Result<bool, AllocError>
         ensures site { IfOk result (λ in_field. in_field ≡ is_in_field self.old) }
         ensures begun { OnOk result (self.new ≡ step self.old Begin) };

@@ -6,5 +6,11 @@ pub use Rattle.pyunparse_text.proofs.Modules.LinesRead.{IsSaid, modules_said}
 pub use Rattle.pyunparse_text.proofs.Patterns.Readable.{patterns_said}
 pub use Rattle.pyunparse_text.proofs.PieceLaws.Fair.{HasDouble, HasWhole}
 pub use Rattle.pyunparse_text.proofs.PieceLaws.Law.{expressions_said}
-pub use Rattle.pyunparse_text.proofs.PieceLaws.SaidLists.{Said, also, none}
+pub use Rattle.pyunparse_text.proofs.PieceLaws.SaidLists.{Said, also, none, points_stand}
 pub use Rattle.pyunparse_text.proofs.PieceLaws.Sayings.{Sayable}
+pub use Rattle.pyunparse_text.proofs.PieceLaws.OfTokens.{literal_points, passing}
+pub use Rattle.pyunparse_text.proofs.PieceLaws.SinglesSaid.{scalar_point, scalars_points}
+pub use Rattle.pyunparse_text.proofs.PieceLaws.SoftWords.{case_is_proper, match_is_proper, type_is_proper, wildcard_is_proper}
+pub use Rattle.pyunparse_text.proofs.PieceLaws.StringsSaid.{brackets_are, outer_points}
+pub use Rattle.pyunparse_text.proofs.Modules.Places.{under}
+pub use Rattle.pyunparse_text.proofs.Patterns.Entries.{none_alone}

@@ -24,7 +24,7 @@ use Rattle.pygrammar.specs.declared.levels.Level.TheVariants.{Shift, Sum, Term, 
 use Rattle.pygrammar.specs.declared.levels.Level.TheVariants.{Slice}
 use Rattle.pytree_node.specs.Values
 use Rattle.pytree_node.specs.Trees
-use Rattle.pytree_node.specs.Trees.{Expr, OptionalExpr, absent, present, Identifier, exprs, Comprehension, comprehensions}
+use Rattle.pytree_node.specs.Trees.{Expr, OptionalExpr, absent, present, exprs, Comprehension, comprehensions}
 use Rattle.pytoken.specs.Terminals.{Terminal, Op, Word, Ident, Literal, Spelled}
 use Rattle.pygrammar.specs.Operators.{below, left_operator, prefix_operator, chain_level, chain_word, comparison}
 use Rattle.pygrammar.specs.Constants.{constant_word}

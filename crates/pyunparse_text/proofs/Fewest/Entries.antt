@@ -13,7 +13,7 @@ use Rattle.pygrammar.specs.declared.levels.Level.{Level}
 use Rattle.pygrammar.specs.declared.levels.Level.TheVariants.{Value, Stars, StarItem, Named, Expression, BitOr, Atom, Elem, Slices, Part}
 use Rattle.pygrammar.specs.declared.levels.Level.TheVariants.{Subject}
 use Rattle.pytree_node.specs.Trees
-use Rattle.pytree_node.specs.Trees.{Expr, Exprs, no_exprs, an_expr, arg, Identifier}
+use Rattle.pytree_node.specs.Trees.{Expr, Exprs, no_exprs, an_expr, arg}
 use Rattle.pytoken.specs.Terminals.{Terminal, Op, Ident, in_form, Spelled}
 use Rattle.pygrammar.specs.Entries.{Item, Of, Pair, Argument, Parameter, Entry, Single, Paired, Spread, Doubled, Keyed, Plain, Slashed}
 use Rattle.pygrammar.specs.Entries.{Bare}

@@ -10,7 +10,7 @@ use Rattle.pytoken.specs.declared.keywords.Keyword.TheVariants as Key
 use Rattle.pytree_node.specs.declared.operators.Context.TheVariants.{Load}
 use Rattle.pygrammar.specs.declared.levels.Level.TheVariants.{Expression, BitOr}
 use Rattle.pytree_node.specs.Trees
-use Rattle.pytree_node.specs.Trees.{Expr, OptionalExpr, absent, present, arg, Arguments, Identifier}
+use Rattle.pytree_node.specs.Trees.{Expr, OptionalExpr, absent, present, arg, Arguments}
 use Rattle.pytoken.specs.Terminals.{Terminal, Op, Word, Ident, Spelled}
 use Rattle.pygrammar.specs.Entries.{Parameter, Entry, Plain, Slashed, Bare, Gathered, Collected}
 use Rattle.pygrammar.specs.Parameters.{arranged}

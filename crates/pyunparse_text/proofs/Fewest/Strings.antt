@@ -3,7 +3,6 @@
 -- Carries: joined_claim and the claims of its parts, for Induction. On: Counted, Claims, Sizes, Reach, Less.
 use Rattle.std.proofs.Common.{◌≡◌, refl, sym, ap, subst, ◌∙◌, ℕ, suc, ◌≤◌, arith, List, [], ◌∷◌, ◌++◌, Bool, true, false, append_assoc}
 use Rattle.std.proofs.Common.{append-nil}
-use Rattle.std.specs.Prelude.{◌||◌}
 use Rattle.std.proofs.lemmas.Grind.{flat_map-append}
 use Rattle.std.proofs.lemmas.Bool.{or_parts}
 use Rattle.pyfstring.specs.declared.parts.Conversion.{Conversion}
@@ -12,7 +11,7 @@ use Rattle.pygrammar.specs.declared.levels.Level.{Level}
 use Rattle.pygrammar.specs.declared.levels.Level.TheVariants.{Named, Or, Atom}
 use Rattle.pytree_node.specs.Values
 use Rattle.pytree_node.specs.Trees
-use Rattle.pytree_node.specs.Trees.{Expr, Exprs, no_exprs, an_expr, OptionalExpr, absent, present}
+use Rattle.pytree_node.specs.Trees.{Expr, Exprs, an_expr, OptionalExpr, absent, present}
 use Rattle.pytoken.specs.Terminals.{Terminal, Op, Literal, FormattedBegin, FormattedEnd, FormattedText, FieldBegin, SpecBegin, FieldEnd}
 use Rattle.pygrammar.specs.FormattedStrings as Parts
 use Rattle.pygrammar.specs.FormattedStrings.{StringPart, with_text, merged, values_of, spec_values_of, begins_unicode, has_formatted}

@@ -1,7 +1,7 @@
 -- The text of a field's expression is cut into its pieces and the blanks between them.
 --
 -- Carries: expression_cut, expression_end, for FieldTokens. On: Conditions, LineCuts, PieceFronts.
-use Rattle.std.proofs.Common.{◌≡◌, ℕ, ◌≤◌, Bool, true, false, not, ◌&&◌, ◌||◌, List, [], ◌∷◌, ◌++◌, length, refl, sym, ◌∙◌, ap, arith, inl}
+use Rattle.std.proofs.Common.{◌≡◌, ℕ, ◌≤◌, true, not, ◌||◌, List, [], ◌∷◌, ◌++◌, length, refl, sym, ◌∙◌, ap, arith, inl}
 use Rattle.std.proofs.Common.{inr}
 use Rattle.std.proofs.Common.{if◌then◌else◌, length-append}
 use Rattle.std.specs.List.{list_all}

@@ -1,18 +1,15 @@
 -- The text of a field's expression is scanned as a whole (reference 2.4.3).
 --
 -- Carries: field_scanned, for what reads f-strings back. On: PieceScans.
-use Rattle.std.proofs.Common.{◌≡◌, ℕ, ◌-◌, Bool, true, false, not, ◌||◌, ◌==◌, List, [], ◌∷◌, ◌++◌, length, take, refl, sym, ◌∙◌, ap, subst}
+use Rattle.std.proofs.Common.{◌≡◌, ℕ, Bool, true, false, not, ◌||◌, ◌==◌, List, [], ◌∷◌, ◌++◌, length, refl, sym, ◌∙◌, ap, subst}
 use Rattle.std.proofs.Common.{arith}
-use Rattle.std.proofs.Common.{eqb, Option, Some, None, inl, inr, if◌then◌else◌, append_assoc, length-append}
-use Rattle.std.specs.Prelude.{option_and_then}
+use Rattle.std.proofs.Common.{eqb, Some, inl, inr, if◌then◌else◌, append_assoc}
 use Rattle.std.specs.List.{list_all, list_any}
-use Rattle.std.proofs.Math.Seq.{take-append_seam}
 use Rattle.std.proofs.lemmas.Bool.{cases_Bool, eqb-true, false_from_ne_true}
 use Rattle.unicode_ident.proofs.IdentLemmas.{is_xid_start-ascii}
 use Rattle.pyfstring.specs.Texts.{begins_with}
 use Rattle.pyfstring.specs.Expressions.{step, scan, expression, behind_expression}
 use Rattle.pyfstring.specs.Pieces.{is_blank}
-use Rattle.pyfstring.specs.Cutting.{before, expression_at}
 use Rattle.pylex.specs.declared.kind.Kind.{Kind}
 use Rattle.pylex.specs.declared.kind.Kind.TheVariants as kinds
 use Rattle.pylex_lexeme.specs.Chars.{begins, starts_name}

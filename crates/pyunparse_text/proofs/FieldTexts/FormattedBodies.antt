@@ -8,7 +8,6 @@ use Rattle.std.specs.List.{list_all}
 use Rattle.std.specs.Str.{all_scalars}
 use Rattle.std.proofs.lemmas.Bool.{and_from, cases_Bool, eqb-true, not-true}
 use Rattle.std.proofs.lemmas.Grind.{flat_map-append}
-use Rattle.std.proofs.lemmas.List.Folds.{list_all-append}
 use Rattle.pyfstring.specs.declared.parts.Conversion.{Conversion}
 use Rattle.pyfstring.specs.declared.parts.Conversion.TheVariants as conversions
 use Rattle.pyfstring.specs.Texts.{begins_with, is_brace}

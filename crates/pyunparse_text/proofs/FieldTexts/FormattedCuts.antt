@@ -13,7 +13,7 @@ use Rattle.pyfstring.specs.declared.parts.Manner.{Manner}
 use Rattle.pyfstring.specs.Texts.{begins_with}
 use Rattle.pyfstring.specs.Parts.{FieldParts, Part, text, field, SpecPart, BodyPart}
 use Rattle.pyfstring.specs.Pieces as cuts
-use Rattle.pyfstring.specs.Pieces.{IsExpression, Keeps, unkept, Converts, unconverted, by_str, by_repr, by_ascii, conversion_of, Specifies}
+use Rattle.pyfstring.specs.Pieces.{unkept, Converts, unconverted, by_str, by_repr, by_ascii, conversion_of, Specifies}
 use Rattle.pyfstring.specs.Pieces.{unspecified, specified, IsField, Cuts, last_text, and_field, IsInnerSpec, IsSpec, IsCut}
 use Rattle.pyfstring.specs.Cutting.{cut_of}
 use Rattle.pyfstring.proofs.Callers.Law.{cut_of_complete}

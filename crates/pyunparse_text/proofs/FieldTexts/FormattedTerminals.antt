@@ -9,14 +9,12 @@ use Rattle.pyfstring.specs.Parts.{FieldParts, Part, BodyPart}
 use Rattle.pylex.specs.declared.kind.Kind.TheVariants as kinds
 use Rattle.pylex_lexeme.specs.declared.kinds.Exact.TheVariants.{LPar, RPar}
 use Rattle.pytoken.specs.FormattedStrings as read
-use Rattle.pytoken.specs.FormattedStrings.{TextPart, text_points, text_meanings, kept_elements, spec_elements, field_elements}
+use Rattle.pytoken.specs.FormattedStrings.{spec_elements, field_elements}
 use Rattle.pytoken.specs.FormattedStrings.{part_elements}
-use Rattle.pytoken.specs.FormattedStrings.{inner_elements, spec_part_elements, body_part_elements, element_meanings, is_field_of}
-use Rattle.pytoken.specs.FormattedStrings.{elements_fault}
+use Rattle.pytoken.specs.FormattedStrings.{inner_elements, spec_part_elements, body_part_elements}
 use Rattle.pytoken.specs.Terminals as tokens
 use Rattle.pytoken.specs.Terminals.{Terminal, Op, FormattedBegin, FormattedEnd, FormattedText, FieldBegin, SpecBegin, FieldEnd}
 use Rattle.pytoken.specs.Terminals.{terminals_by}
-use Rattle.pytoken.specs.Terminals.{elements_terminals}
 use Rattle.pyunparse_text.specs.Spacing.{Piece}
 use Rattle.pyunparse_text.specs.Written.{Element, Text, Field, Spec, End}
 use Rattle.pyunparse_text.specs.Pieces.{Sited, in_field, formatted_text}

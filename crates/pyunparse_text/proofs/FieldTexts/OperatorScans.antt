@@ -45,7 +45,7 @@ some_open : (bs : List Bracket) (b : Bracket) → is_empty (bs ++ b ∷ []) ≡ 
 some_open [] b = refl
 some_open (o ∷ bs) b = let n : (suc (length (bs ++ b ∷ [])) == 0) ≡ false = grind (arith, nat_tests) in n
 
-pub all_but_last : (bs : List Bracket) (b : Bracket) → take (length (bs ++ b ∷ []) - 1) (bs ++ b ∷ []) ≡ bs
+pub all_but_last : {A : Type 0} (bs : List A) (b : A) → take (length (bs ++ b ∷ []) - 1) (bs ++ b ∷ []) ≡ bs
 all_but_last bs b =
     let e = length-append bs (b ∷ []) in
     let f : length (bs ++ b ∷ []) - 1 ≡ length bs = omega arith in ap (λ n. take n (bs ++ b ∷ [])) f ∙ take_at bs (b ∷ []) (length bs) refl

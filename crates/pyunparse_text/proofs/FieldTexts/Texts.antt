@@ -2,7 +2,7 @@
 -- 2.4.3).
 --
 -- Carries: text_passed, text_comes_back and 3 more, for what reads f-strings back. On: TextCharacters.
-use Rattle.std.proofs.Common.{◌≡◌, ℕ, Bool, true, false, not, ◌==◌, List, [], ◌∷◌, ◌++◌, map, None, refl, sym, ◌∙◌, ap, append-nil}
+use Rattle.std.proofs.Common.{◌≡◌, ℕ, Bool, true, false, not, ◌==◌, List, [], ◌∷◌, ◌++◌, map, refl, sym, ◌∙◌, ap, append-nil}
 use Rattle.std.proofs.Common.{if◌then◌else◌}
 use Rattle.std.specs.List.{list_all, list_any, flat_map}
 use Rattle.std.specs.Str.{all_scalars}
@@ -13,7 +13,7 @@ use Rattle.pyfstring.specs.Singles.{single, single_after}
 use Rattle.pylex_lexeme.proofs.Callers.Booleans.{and_parts}
 use Rattle.pytoken.specs.declared.meanings.Meaning.{Meaning}
 use Rattle.pytoken.specs.declared.meanings.Meaning.TheVariants.{Point}
-use Rattle.pytoken.specs.Escapes.{meanings_after, meanings, points_in, is_named_escape, is_bad_escape, escape_fault}
+use Rattle.pytoken.specs.Escapes.{meanings_after, meanings, points_in, is_named_escape, is_bad_escape}
 use Rattle.pytoken.specs.StringValues.{with_line_feeds}
 use Rattle.pytoken.specs.FormattedStrings.{TextPart, text_meanings, text_points}
 use Rattle.pyunparse_text.specs.Pieces.{character_text, quote}

@@ -1,21 +1,15 @@
 -- What a number begins with.
 --
 -- Carries: number_begins, begins_more, for NumberFronts.
-use Rattle.std.proofs.Common.{◌≡◌, ℕ, Bool, true, false, ◌&&◌, ◌||◌, ◌==◌, List, [], ◌∷◌, ◌++◌, leb, refl, arith, ⊎_elim}
-use Rattle.std.specs.List.{list_all}
-use Rattle.std.specs.Str.{all_scalars}
-use Rattle.std.proofs.Math.Utf8.{low_scalar}
-use Rattle.std.proofs.lemmas.Bool.{leb-true}
-use Rattle.std.proofs.lemmas.Bool.Decides.{nat_tests}
-use Rattle.pylex_lexeme.specs.Chars.{begins, is_comment_part}
-use Rattle.pylex_lexeme.specs.Numbers.{is_nil, split_any, optional, headed, are_some, is_digit_part, is_exponent, is_decimal_digit, is_zero}
-use Rattle.pylex_lexeme.specs.Numbers.{is_hex_digit, is_octal_digit, is_point, is_e, is_j, is_decimal, is_radix, is_point_after}
+use Rattle.std.proofs.Common.{◌≡◌, ℕ, Bool, true, false, ◌&&◌, ◌||◌, List, [], ◌∷◌, ◌++◌, refl, ⊎_elim}
+use Rattle.pylex_lexeme.specs.Chars.{begins}
+use Rattle.pylex_lexeme.specs.Numbers.{is_nil, split_any, optional, headed, is_digit_part, is_exponent, is_decimal_digit, is_zero}
+use Rattle.pylex_lexeme.specs.Numbers.{is_point, is_j, is_decimal, is_radix, is_point_after}
 use Rattle.pylex_lexeme.specs.Numbers.{is_point_before}
 use Rattle.pylex_lexeme.specs.Numbers.{is_raised, is_float, is_imaginary, is_number}
 use Rattle.pylex_lexeme.specs.Lengths.{begins_number}
 use Rattle.pylex_lexeme.proofs.Callers.Booleans.{and_parts, or_parts}
-use Rattle.pylex_lexeme.proofs.Callers.Fronts.{joined_all, split_all}
-use Rattle.pylex_lexeme.proofs.Callers.Numbers.{digit_bounds, either, zero_digit, decimal_part, part_all}
+use Rattle.pylex_lexeme.proofs.Callers.Numbers.{zero_digit, decimal_part}
 
 -- ---- The first characters.
 

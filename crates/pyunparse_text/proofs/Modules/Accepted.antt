@@ -39,11 +39,11 @@ use Rattle.pyunparse_text.specs.Laws.{AcceptedComeBack, IsOfTokens, source_lines
 use Rattle.pyunparse_text.specs.Laws.{ModuleTextsAreAccepted}
 use Rattle.pyunparse_text.proofs.StringTerminals.Brackets.{name_after, string_closed}
 use Rattle.pyunparse_text.proofs.Patterns.OfTokens.{tokens_may_be, of_tokens_may_be}
+use Rattle.pyunparse_text.proofs.PieceLaws.Shallow.{first_open}
 use Rattle.pyunparse_text.proofs.Modules.Law.{modules_again}
 use Rattle.pyunparse_text.proofs.Modules.Low.{forms_low}
 use Rattle.pyunparse_text.proofs.Modules.FlatLines.{line_brackets}
 use Rattle.pyunparse_text.proofs.Modules.LinesRead.{modules_read}
-use Rattle.pyunparse_text.proofs.PieceLaws.Shallow.{one_more, first_open}
 
 -- ---- Lines are one module.
 
@@ -104,6 +104,20 @@ unfolding terminal_of
 text_after kinds.Op text d = op_after text d
 text_after kinds.Name text d = name_after text d
 text_after _ text d = refl
+
+one_more : (most d : ℕ) (ts : List Terminal) (ps : List Piece) → ((n : ℕ) → most_open n ts ≤ most → opens_within most n ps ≡ true)
+    → (o s : Bool)
+    → most_open (by_text d o s) ts ≤ most
+    → (if o then nat_lt d most && opens_within most (d + 1) ps else (if s then opens_within most (d - 1) ps else opens_within most d ps)) ≡
+    true
+one_more most d ts ps more true s k =
+    let e : suc d ≤ most_open (suc d) ts = first_open (suc d) ts in
+    let b : nat_lt d most ≡ true = grind (arith, nat_tests) in
+    let n : suc d ≡ d + 1 = omega arith in
+    let q : opens_within most (d + 1) ps ≡ true = subst (λ n. opens_within most n ps ≡ true) n (more (suc d) k) in
+    rw (b, q) refl
+one_more most d ts ps more false true k = more (d - 1) k
+one_more most d ts ps more false false k = more d k
 
 -- behind a token's terminals no fewer brackets are open than behind the token
 module _ (text : List ℕ) {ts : List Terminal} (most d : ℕ) (us : List Terminal) where

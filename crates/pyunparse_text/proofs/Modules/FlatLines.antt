@@ -15,7 +15,6 @@ use Rattle.pytree_node.specs.Trees
 use Rattle.pytree_node.specs.Trees.{Identifier, Expr, exprs, Keywords, no_keyword, a_keyword, Alias, Item, TypeParam, TypeVar, ParamSpec}
 use Rattle.pytree_node.specs.Trees.{TypeVarTuple, Stmt, Stmts, no_stmt, a_stmt, stmts, Cases, no_case, a_case, Handlers, no_handler}
 use Rattle.pytree_node.specs.Trees.{a_handler}
-use Rattle.pytree_node.specs.Trees.{Module}
 use Rattle.pytoken.specs.declared.keywords.Keyword.TheVariants as Key
 use Rattle.pytoken.specs.Terminals.{Terminal, Op, Word}
 use Rattle.pytree_height.specs.Heights.{height, option_height, list_height, item_heights, type_param_height, type_param_heights}

@@ -30,7 +30,7 @@ placed_both earlier (x ∷ xs) ys p q = (p.0, placed_both (x ∷ earlier) xs ys 
 -- ---- One line.
 
 -- what stands deeper than a line
-under : (l : ℕ) (f : Form) (earlier : List Line) → stands_in_match (suc l) (line l f ∷ earlier) ≡ is_match (kind_of f)
+pub under : (l : ℕ) (f : Form) (earlier : List Line) → stands_in_match (suc l) (line l f ∷ earlier) ≡ is_match (kind_of f)
 under l f earlier = let e : nat_lt l (suc l) ≡ true = lt-ltb l (suc l) (omega arith) in rw e refl
 
 -- a line that is no higher says nothing of what stands at a level

@@ -264,7 +264,7 @@ mapping_claim {ts} {es} {p} c h = by (is_mapping es) refl h
 
 -- ---- Class patterns.
 
-none_alone : (es : List PatternEntry) → all_named es ≡ true → elements es ≡ no_pattern
+pub none_alone : (es : List PatternEntry) → all_named es ≡ true → elements es ≡ no_pattern
 none_alone [] h = refl
 none_alone (Named x p ∷ es) h = none_alone es h
 none_alone (Alone p ∷ es) h = absurd (cc)

@@ -11,7 +11,7 @@ use Rattle.pytree_node.specs.declared.operators.Operator.{Operator}
 use Rattle.pytree_node.specs.declared.operators.Operator.TheVariants as Bin
 use Rattle.pygrammar.specs.declared.levels.Level.TheVariants.{Value, Stars, Named, Expression, Primary}
 use Rattle.pytree_node.specs.Trees
-use Rattle.pytree_node.specs.Trees.{Identifier, Expr, exprs, Item, TypeParam, TypeVar, ParamSpec, TypeVarTuple}
+use Rattle.pytree_node.specs.Trees.{Identifier, Expr, exprs, TypeParam, TypeVar, ParamSpec, TypeVarTuple}
 use Rattle.pytoken.specs.Terminals.{Terminal, Op, in_form}
 use Rattle.pytoken.specs.Laws.{IsProper}
 use Rattle.pygrammar.specs.Forms.{type_name}

@@ -31,13 +31,13 @@ use Rattle.pyunparse_text.proofs.PieceLaws.SinglesSaid.{none_open, name_sayable,
 use Rattle.pyunparse_text.proofs.PieceLaws.StringsSaid.{string_said}
 use Rattle.pyunparse_text.proofs.PieceLaws.SaidLists.{Said, none, also}
 
-passing : (p : ℕ → Bool) (P : ℕ → Type 0) → ((c : ℕ) → p c ≡ true → P c) → (cs : List ℕ) → list_all p cs ≡ true → All P cs
+pub passing : (p : ℕ → Bool) (P : ℕ → Type 0) → ((c : ℕ) → p c ≡ true → P c) → (cs : List ℕ) → list_all p cs ≡ true → All P cs
 passing p P f [] h = All-nil P
 passing p P f (c ∷ cs) h = let w = and_parts (p c) (list_all p cs) h in All-cons P c cs (f c w.0) (passing p P f cs w.1)
 
 -- ---- Strings.
 
-literal_points : (t : List ℕ) → list_all is_point t ≡ true → list_all is_point (points_of t) ≡ true
+pub literal_points : (t : List ℕ) → list_all is_point t ≡ true → list_all is_point (points_of t) ≡ true
 unfolding points_of
 literal_points t h = points_are_in_range (is_raw t) (is_bytes t) (body_of t) (body_all is_point t h)
 

@@ -109,7 +109,7 @@ formatted_both outside n t r h k = list_all-append (can_stand false (is_spec n))
 formatted_both in_field n t r h k = list_all-append (can_stand true (is_spec n)) t r ∙ rw (h, k) refl
 formatted_both in_two n t r h k = absurd h
 
-points_stand : (t : List ℕ) → All IsPoint t → list_all is_point t ≡ true
+pub points_stand : (t : List ℕ) → All IsPoint t → list_all is_point t ≡ true
 points_stand [] h = refl
 points_stand (c ∷ t) h = let f : is_point c ≡ true = le-leb c 1114111 (All-head IsPoint c t h) in let r =
     points_stand t (All-tail IsPoint c t h) in rw (f, r) refl

@@ -22,7 +22,7 @@ open_behind : (d : ℕ) (ts us : List Terminal) → most_open (depth_after d ts)
 open_behind d [] us = omega arith
 open_behind d (t ∷ ts) us = let h = open_behind (open_after d t) ts us in omega (arith, h)
 
-pub one_more : (most d : ℕ) (ts : List Terminal) (ps : List Piece) → ((n : ℕ) → most_open n ts ≤ most → opens_within most n ps ≡ true)
+one_more : (most d : ℕ) (ts : List Terminal) (ps : List Piece) → ((n : ℕ) → most_open n ts ≤ most → opens_within most n ps ≡ true)
     → (o s : Bool)
     → most_open (by_text d o s) ts ≤ most
     → (if o then nat_lt d most && opens_within most (d + 1) ps else (if s then opens_within most (d - 1) ps else opens_within most d ps)) ≡

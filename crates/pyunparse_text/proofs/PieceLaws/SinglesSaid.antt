@@ -106,7 +106,7 @@ sign_sayable extent {o} s t = by (exact_of t)
 
 -- ---- Characters.
 
-scalar_point : (c : ℕ) → scalar c ≡ true → is_point c ≡ true
+pub scalar_point : (c : ℕ) → scalar c ≡ true → is_point c ≡ true
 scalar_point c h =
     ⊎_elim (λ (low : c < 55296). le-leb c 1114111 (omega arith)) (λ (high : (57344 ≤ c) × (c < 1114112)). le-leb c 1114111
     (omega (arith, high.1)))

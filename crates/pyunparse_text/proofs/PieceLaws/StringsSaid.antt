@@ -6,7 +6,6 @@ use Rattle.std.proofs.Common.{refl, sym}
 use Rattle.std.proofs.Common.{◌∙◌, ap, subst, cond, leb, arith, if◌then◌else◌}
 use Rattle.std.specs.Prelude.{nat_lt}
 use Rattle.std.specs.List.{list_all, list_any, flat_map}
-use Rattle.std.specs.Option.{option_or}
 use Rattle.std.specs.Str.{all_scalars, encode_utf8_all}
 use Rattle.std.proofs.Math.Utf8.{scalar}
 use Rattle.std.proofs.lemmas.Bool.{and_from, leb-true}
@@ -33,11 +32,10 @@ use Rattle.pytree_node.specs.Values
 use Rattle.pytree_node.specs.declared.profiles.Extent.TheVariants.{Whole}
 use Rattle.pytoken.specs.declared.keywords.Keyword.{Keyword}
 use Rattle.pytoken.specs.declared.faults.TokenError.{TokenError}
-use Rattle.pytoken.specs.declared.faults.TokenError.TheVariants.{FString, NonAsciiBytes}
 use Rattle.pytoken.specs.Keywords.{keyword_of}
-use Rattle.pytoken.specs.Escapes.{escape_fault, meanings, points_in}
-use Rattle.pytoken.specs.StringValues.{with_line_feeds, is_quote, is_raw, is_bytes, is_unicode, is_formatted, body_of, points_of, value_of}
-use Rattle.pytoken.specs.StringValues.{string_value, literal_fault, string_fault, nul_fault}
+use Rattle.pytoken.specs.Escapes.{meanings, points_in}
+use Rattle.pytoken.specs.StringValues.{with_line_feeds, is_quote, is_raw, is_bytes, is_unicode, body_of, points_of, value_of}
+use Rattle.pytoken.specs.StringValues.{string_value, literal_fault, string_fault}
 use Rattle.pytoken.specs.FormattedStrings.{Element, End, TextPart, text_meanings, text_points, is_fstring, is_bulky, is_field_of}
 use Rattle.pytoken.specs.FormattedStrings.{elements_of}
 use Rattle.pytoken.specs.FormattedStrings.{elements_fault}
@@ -63,13 +61,15 @@ use Rattle.pyunparse_text.proofs.PieceLaws.SinglesSaid.{IsShallow, one_open, two
 use Rattle.pyunparse_text.proofs.PieceLaws.SinglesSaid.{layout_sayable}
 use Rattle.pyunparse_text.proofs.PieceLaws.SinglesSaid.{scalars_points}
 use Rattle.pyunparse_text.proofs.StringTerminals.Elements.{Laid, nothing, a_text, kept_text, a_spec, a_field, at_top, LaidIf, all_laid}
-use Rattle.pyunparse_text.proofs.StringTerminals.Faultless.{no_field_wrong, no_nul, no_nul_in, field_faultless}
+use Rattle.pyunparse_text.proofs.StringTerminals.Faultless.{no_field_wrong, no_nul_in, field_faultless}
 use Rattle.pyunparse_text.proofs.StringTerminals.Classes.{OfClass, of_class, no_string}
 use Rattle.pyunparse_text.proofs.StringTerminals.Brackets.{operator_terminal}
 use Rattle.pyunparse_text.proofs.StringTerminals.FieldLexemes.{IsToken, AllTokens, no_lexeme, a_gap, a_token, IsWholeField, whole_field}
 use Rattle.pyunparse_text.proofs.StringTerminals.Scanned.{is_no_backslash, expression_calm}
-use Rattle.pyunparse_text.proofs.StringTerminals.Bodies.{weaker, joined, none_all, kept_all, kept_pass, body_kept, points_kept, single_kept}
+use Rattle.pyunparse_text.proofs.StringTerminals.Bodies.{weaker, joined, none_all, kept_all, kept_pass, points_kept, single_kept}
 use Rattle.pyunparse_text.proofs.StringTerminals.Bodies.{unbraced}
+use Rattle.pyunparse_text.proofs.StringTerminals.FieldCharacters.{is_calm, is_open, is_flat, flat_parts, flat_scalar, flat_calm}
+use Rattle.pyunparse_text.proofs.StringTerminals.FieldCharacters.{flat_unquoted, open_body, no_nuls, flat_body, calm_body, literally}
 
 -- ---- Terminals that can be said, with what is open behind them.
 
@@ -149,27 +149,11 @@ module _ {n : ℕ} {o : Open} (s : IsShallow (n ∷ o)) where
 
 -- ---- Characters of what stands in a field.
 
--- may stand in its expression
-abbrev is_calm : ℕ → Bool
-is_calm c = scalar c && is_no_backslash c
-
--- may stand in the body of a STRING there
-abbrev is_open : ℕ → Bool
-is_open c = is_calm c && not (is_quote c || (c == 10))
-
-abbrev is_flat : ℕ → Bool
-is_flat c = is_open c && not (c == 0)
-
-open_parts : (c : ℕ) → is_open c ≡ true → (is_calm c ≡ true) × (not (is_quote c || (c == 10)) ≡ true)
-open_parts c h = and_parts (is_calm c) (not (is_quote c || (c == 10))) h
-
 flat_field : (c : ℕ) → (is_flat c && not (c == 13)) ≡ true → is_field_character c ≡ true
 flat_field c h =
     let w = and_parts (is_flat c) (not (c == 13)) h in
-    let v = and_parts (is_open c) (not (c == 0)) w.0 in
-    let u = and_parts (is_calm c) (not (is_quote c || (c == 10))) v.0 in
-    let x = and_parts (scalar c) (is_no_backslash c) u.0 in
-    own (is_quote c) (c == 10) (c == 13) (is_no_backslash c) (not (c == 0)) (scalar c) u.1 w.1 x.1 v.1 x.0
+    let v = flat_parts c w.0 in
+    own (is_quote c) (c == 10) (c == 13) (is_no_backslash c) (not (c == 0)) (scalar c) v.2 w.1 v.1 v.3 v.0
   where
     own : (q l r b z s : Bool) → not (q || l) ≡ true → not r ≡ true → b ≡ true → z ≡ true → s ≡ true
         → ((not q && (b && ((not l && not r) && z))) && (s && true)) ≡ true
@@ -178,59 +162,13 @@ flat_field c h =
     own false false true b z s h i j k m = absurd (cc)
     own false false false b z s h i j k m = rw (j, k, m) refl
 
-no_quote_open : (c : ℕ) → is_quote c ≡ true → is_open c ≡ true → ⊥
-no_quote_open c q h =
-    let u = and_parts (is_calm c) (not (is_quote c || (c == 10))) h in
-    by (is_quote c) (c == 10) q u.1
-  where
-    by : (a b : Bool) → a ≡ true → not (a || b) ≡ true → ⊥
-    by true b q h = cc
-    by false b q h = cc
+-- ---- Literals in a field.
 
--- the body of a STRING that is not bulky, in a field of characters without a backslash
-open_body : (t : List ℕ) → list_all is_calm t ≡ true → is_bulky kinds.String t ≡ false
-    → list_all is_open (body_of t) ≡ true
-open_body t h b =
-    joined is_calm (λ c. not (is_quote c || (c == 10))) (body_of t) (body_all is_calm t h)
-    (none_all (λ c. is_quote c || (c == 10)) (body_of t) b)
-
-no_nuls : (t : List ℕ) → list_any (λ c. c == 0) t ≡ false → list_all (λ c. not (c == 0)) (body_of t) ≡ true
-no_nuls t n = body_all (λ c. not (c == 0)) t (none_all (λ c. c == 0) t n)
-
--- that of the literal without its CRs
 literal_body : (t : List ℕ) → list_all is_calm t ≡ true → is_bulky kinds.String t ≡ false
     → list_any (λ c. c == 0) (with_line_feeds t) ≡ false
     → list_all is_field_character (body_of (with_line_feeds t)) ≡ true
 literal_body t h b n =
-    let u : List ℕ = with_line_feeds t in
-    weaker (λ c. is_flat c && not (c == 13)) is_field_character flat_field (body_of u)
-    (joined is_flat (λ c. not (c == 13)) (body_of u)
-    (joined is_open (λ c. not (c == 0)) (body_of u) (body_kept is_open no_quote_open t (open_body t h b)) (no_nuls u n))
-    (body_all (λ c. not (c == 13)) u (kept_pass (λ c. not (c == 13)) t)))
-
-calm_body : (t : List ℕ) → list_all is_calm t ≡ true → list_all is_no_backslash (body_of (with_line_feeds t)) ≡ true
-calm_body t h =
-    body_all is_no_backslash (with_line_feeds t)
-    (filter_all is_no_backslash (λ c. not (c == 13)) t
-    (weaker is_calm is_no_backslash (λ c k. (and_parts (scalar c) (is_no_backslash c) k).1) t h))
-
--- ---- Literals in a field.
-
-record Literally (t : List ℕ) : Type 0 where
-  ascii : (is_bytes t && list_any (nat_lt 0x7F) t) ≡ false
-  no_nul : list_any (λ c. c == 0) t ≡ false
-
-literally : (t : List ℕ) → literal_fault t ≡ None → Literally t
-unfolding literal_fault
-literally t f = by (is_formatted t) (escape_fault (meanings (is_raw t) (is_bytes t) (body_of t)))
-    (is_bytes t && list_any (nat_lt 0x7F) t) refl f
-  where
-    by : (a : Bool) (o : Option TokenError) (b : Bool) → (is_bytes t && list_any (nat_lt 0x7F) t) ≡ b
-        → cond a (Some FString) (option_or o (cond b (Some NonAsciiBytes) (nul_fault t))) ≡ None → Literally t
-    by true o b e f = absurd (cc)
-    by false (Some x) b e f = absurd (cc)
-    by false None true e f = absurd (cc)
-    by false None false e f = record { ascii = e; no_nul = no_nul t f }
+    weaker (λ c. is_flat c && not (c == 13)) is_field_character flat_field (body_of (with_line_feeds t)) (flat_body t h b n)
 
 small_byte : (c : ℕ) → (is_field_character c && not (nat_lt 0x7F c)) ≡ true → is_field_byte c ≡ true
 small_byte c h =
@@ -310,7 +248,7 @@ module _ (o : Open) (p : ℕ → Bool) (is_nested : Bool) (terminals : List ℕ 
 
 -- ---- An f-string in a field.
 
-brackets_are : (exact_of (40 ∷ []) ≡ Some LPar) × (exact_of (41 ∷ []) ≡ Some RPar)
+pub brackets_are : (exact_of (40 ∷ []) ≡ Some LPar) × (exact_of (41 ∷ []) ≡ Some RPar)
 unfolding exact_of operators
 brackets_are = (refl, refl)
 
@@ -323,29 +261,9 @@ inner_field m k t rest h w n =
     field_walk (k ∷ (m ∷ [])) is_flat (single_fault Whole) (λ j u. terminal_of j u ∷ [])
     (λ x g i.
     lexeme_walk two_open x.«class» x.text g (of_class i.before x.text x.«class» i.in_class) i.faultless
-    (λ e c. absurd (no_string x.text (unquoted x.text i.characters) c)))
+    (λ e c. absurd (no_string x.text (weaker is_flat (λ c. not (is_quote c)) flat_unquoted x.text i.characters) c)))
     t (whole_field is_flat (single_fault Whole) t (weaker is_flat scalar flat_scalar t h) h n)
     (operator_walk two_open (40 ∷ []) LPar brackets_are.0) (operator_walk two_open (41 ∷ []) RPar brackets_are.1)
-  where
-    flat_scalar : (c : ℕ) → is_flat c ≡ true → scalar c ≡ true
-    flat_scalar c e =
-        (and_parts (scalar c) (is_no_backslash c) (open_parts c (and_parts (is_open c) (not (c == 0)) e).0).0).0
-
-    no_quote : (c : ℕ) → is_flat c ≡ true → not (is_quote c) ≡ true
-    no_quote c e =
-        by (is_quote c) (c == 10)
-        (and_parts (is_calm c) (not (is_quote c || (c == 10))) (and_parts (is_open c) (not (c == 0)) e).0).1
-      where
-        by : (a b : Bool) → not (a || b) ≡ true → not a ≡ true
-        by true b h = h
-        by false b h = refl
-
-    unquoted : (u : List ℕ) → list_all is_flat u ≡ true → list_all (λ c. not (is_quote c)) u ≡ true
-    unquoted u e = weaker is_flat (λ c. not (is_quote c)) no_quote u e
-
-flat_calm : (c : ℕ) → is_flat c ≡ true → is_no_backslash c ≡ true
-flat_calm c e =
-    (and_parts (scalar c) (is_no_backslash c) (open_parts c (and_parts (is_open c) (not (c == 0)) e).0).0).1
 
 -- characters that stand for themselves in its texts, in format specs no braces
 stands_there : (b : Bool) (c : ℕ) → (is_field_character c && (cond b (is_literal_char c) true)) ≡ true → can_stand true b c ≡ true
@@ -440,7 +358,7 @@ outer_field k t rest h w n =
     t (whole_field is_calm field_fault t h (joined scalar is_no_backslash t h (expression_calm t rest w)) n)
     (operator_walk one_open (40 ∷ []) LPar brackets_are.0) (operator_walk one_open (41 ∷ []) RPar brackets_are.1)
 
-outer_points : (p : TextPart) → list_all scalar p.source ≡ true → list_all is_point (text_points p) ≡ true
+pub outer_points : (p : TextPart) → list_all scalar p.source ≡ true → list_all is_point (text_points p) ≡ true
 unfolding text_points text_meanings
 outer_points p h =
     points_are_in_range p.is_raw false (with_line_feeds (if p.has_pairs then single p.is_raw p.source else p.source))

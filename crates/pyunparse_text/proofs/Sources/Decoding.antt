@@ -28,7 +28,7 @@ use Rattle.pysource.specs.declared.encodings.Charset.TheVariants.{Utf8}
 use Rattle.pysource.proofs.Callers.Faults.{utf8_before, NoLf, lines_at, valid_all, first_given_none, lone_none_byte}
 use Rattle.pylex.specs.declared.kind.Kind.{Kind}
 use Rattle.pylex.specs.declared.kind.Kind.TheVariants as kinds
-use Rattle.pylex_lexeme.specs.Chars.{begins, starts_name, is_comment_part, is_blank_char}
+use Rattle.pylex_lexeme.specs.Chars.{begins, starts_name, is_comment_part}
 use Rattle.pylex_lexeme.specs.Numbers.{is_decimal_digit, is_number}
 use Rattle.pylex_lexeme.specs.Strings.{is_single_string}
 use Rattle.pylex_lexeme.specs.Lexemes.{is_name}
@@ -37,7 +37,7 @@ use Rattle.pylex_lexeme.proofs.Callers.Lexemes.{words, heads, by_words, start_co
 use Rattle.pyunparse_text.specs.Spacing.{Piece, Line, is_token, touches, text_behind, spaced, are_readable, line_text, lines_text}
 use Rattle.pyunparse_text.specs.Tokens.{is_written}
 use Rattle.pyunparse_text.proofs.LexemeFronts.Fronts.{run_ends}
-use Rattle.pyunparse_text.proofs.LexemeFronts.PieceFronts.{token_no_blank, Off, no_token, none_empty, words_all, ArePieces}
+use Rattle.pyunparse_text.proofs.LexemeFronts.PieceFronts.{Off, no_token, none_empty, words_all, ArePieces}
 use Rattle.pyunparse_text.proofs.Sources.Bytes.{bytes_pass, first_byte, scalars_both}
 use Rattle.pyunparse_text.proofs.FieldTexts.NumberCharacters.{number_in_line}
 use Rattle.pyunparse_text.proofs.StringTerminals.Bodies.{weaker}

@@ -174,8 +174,7 @@ Counted m before = count_by is_indent before ≡ m + count_by is_dedent before
 is_level : (m : ℕ) (before : List PlainToken) → Counted m before → level_behind before ≡ m
 is_level m before c = omega (arith, c)
 
-pub count_cons : (p : PlainToken → Bool) (t : PlainToken) (ts : List PlainToken)
-    → count_by p (t ∷ ts) ≡ (if p t then 1 else 0) + count_by p ts
+pub count_cons : {A : Type 0} (p : A → Bool) (t : A) (ts : List A) → count_by p (t ∷ ts) ≡ (if p t then 1 else 0) + count_by p ts
 count_cons p t ts = grind (arith, common_steps)
 
 counted_other : (m : ℕ) (t : PlainToken) (before : List PlainToken) → is_indent t ≡ false → is_dedent t ≡ false → Counted m before

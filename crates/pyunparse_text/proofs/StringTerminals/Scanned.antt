@@ -46,7 +46,7 @@ some_or_none : {A : Type 0} (o : Option A) → ((x : A) × (o ≡ Some x)) ⊎ (
 some_or_none None = inr refl
 some_or_none (Some x) = inl (x, refl)
 
-never : {A : Type 0} (o : Option A) (x : A) → o ≡ None → o ≡ Some x → ⊥
+pub never : {A : Type 0} (o : Option A) (x : A) → o ≡ None → o ≡ Some x → ⊥
 never o x e h = let z : None ≡ Some x = sym e ∙ h in absurd (cc)
 
 quote_calm : (c : ℕ) → is_quote c ≡ true → is_no_backslash c ≡ true

@@ -1,61 +1,21 @@
 -- Carries: is_bare_tuple, annotated_in_brackets, and is_generator, write_alone, write_item_target of
 -- pyunparse. An expression of the program has the shape that its value has.
-use Rattle.std.proofs.Common.{◌≡◌, Bool, false, [], Option, Global, refl, sym, subst}
+use Rattle.std.proofs.Common.{◌≡◌, Bool, false, [], Option, Global, refl}
 use Rattle.std.specs.declared.vec.Vec.{Vec}
 use Rattle.std.specs.declared.boxed.Box.{Box}
 use Rattle.pytree_node.specs.declared.operators.Context.{Context}
-use Rattle.pytree_node.specs.declared.expressions.Expr as given
 use Rattle.pytree_node.specs.declared.expressions.Expr.{Expr}
 use Rattle.pytree_node.specs.declared.expressions.Expr.TheVariants as variant
-use Rattle.pytree_node.specs.declared.expressions.Expr.TheOpen as layer
-use Rattle.pytree_node.specs.declared.expressions.Arg.{Arg}
-use Rattle.pytree_node.specs.declared.expressions.Arguments.{Arguments}
 use Rattle.pytree_node.specs.declared.expressions.Comprehension.{Comprehension}
-use Rattle.pytree_node.specs.declared.expressions.Keyword.{Keyword}
 use Rattle.pytree_node.specs.Trees as plain
 use Rattle.pytree_node.specs.Trees.{Identifier}
-use Rattle.pytree_node.specs.TreeOf.{tree_of, arg_of, arguments_of, comprehension_of, keyword_of, expr_step, arg_step, arguments_step}
-use Rattle.pytree_node.specs.TreeOf.{comprehension_step, keyword_step}
+use Rattle.pytree_node.specs.TreeOf.{tree_of}
 use Rattle.pygrammar.specs.declared.levels.Level.TheVariants.{Expression}
 use Rattle.pyunparse_text.specs.Pieces.{piece, pieces}
 use Rattle.pyunparse_text.specs.Statements.{annotated_in_brackets, item_target, reads_as_items}
 use Rattle.pyunparse_text.specs.Written.{alone, written}
 use Rattle.pyunparse_text.specs.Sorts.{is_generator}
-
--- one node, whose children are nodes of the program
-abbrev Layer : Type 0
-Layer = layer.Expr-F Expr Arg Arguments Comprehension Keyword
-
--- the node with its children's values in their places
-abbrev valued : Layer → layer.Expr-F plain.Expr plain.Arg plain.Arguments plain.Comprehension plain.Keyword
-valued = given.map-Expr Expr Arg Arguments Comprehension Keyword plain.Expr plain.Arg plain.Arguments plain.Comprehension plain.Keyword
-    tree_of arg_of arguments_of comprehension_of keyword_of
-
-opened : (e : Expr) → tree_of e ≡ expr_step (valued (given.out-Expr e))
-unfolding tree_of arg_of arguments_of comprehension_of keyword_of
-opened = given.fold_out-Expr plain.Expr plain.Arg plain.Arguments plain.Comprehension plain.Keyword
-    expr_step arg_step arguments_step comprehension_step keyword_step
-
--- it has this shape
-abbrev HasShape : plain.Expr → Expr → Type 0
-HasShape (plain.Starred _ _) e = (value : Box Expr Global) × (ctx : Context) × (e ≡ variant.Starred value ctx)
-HasShape (plain.Name _ _) e = (id : Identifier) × (ctx : Context) × (e ≡ variant.Name id ctx)
-HasShape (plain.GeneratorExp _ _) e = (elt : Box Expr Global) × (generators : Vec Comprehension Global) ×
-    (e ≡ variant.GeneratorExp elt generators)
-HasShape (plain.Tuple _ _) e = (elts : Vec Expr Global) × (ctx : Context) × (e ≡ variant.Tuple elts ctx)
-HasShape _ e = Unit {0}
-
-layer_has_shape : (node : Layer) → HasShape (expr_step (valued node)) (given.roll-Expr node)
-unfolding given.roll-Expr denote.Hole.Carrier.roll
-layer_has_shape (layer.Starred value ctx) = (value, ctx, refl)
-layer_has_shape (layer.Name id ctx) = (id, ctx, refl)
-layer_has_shape (layer.GeneratorExp elt generators) = (elt, generators, refl)
-layer_has_shape (layer.Tuple elts ctx) = (elts, ctx, refl)
-layer_has_shape _ = tt
-
-has_shape : (e : Expr) → HasShape (tree_of e) e
-has_shape e = subst (λ g. HasShape (tree_of e) g) (given.roll-out-Expr e)
-    (subst (λ t. HasShape t (given.roll-Expr (given.out-Expr e))) (sym (opened e)) (layer_has_shape (given.out-Expr e)))
+use Rattle.pyunparse_text.proofs.Texts.Shapes.{HasShape, has_shape}
 
 -- an expression of no such shape
 module _ (e : Expr) where

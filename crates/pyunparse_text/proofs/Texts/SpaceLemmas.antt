@@ -1,20 +1,15 @@
 -- Carries: put_str, put_bytes. A literal stands among blanks as any text does that is no sign.
-use Rattle.std.proofs.Common.{◌≡◌, ◌∙◌, ℕ, Bool, true, false, ◌&&◌, ◌==◌, List, [], ◌∷◌, ◌++◌, Option, Some, None, refl, ap, sym}
-use Rattle.std.proofs.Common.{append_assoc}
-use Rattle.std.specs.Prelude.{codes, not, if◌then◌else◌}
-use Rattle.std.specs.List.{flat_map, list_any}
+use Rattle.std.proofs.Common.{◌≡◌, ◌∙◌, ℕ, false, ◌&&◌, ◌==◌, List, [], ◌∷◌, ◌++◌, Option, Some, None, refl, ap}
+use Rattle.std.specs.Prelude.{codes}
 use Rattle.std.specs.Char.{encode_utf8}
 use Rattle.std.specs.Str.{bytes_eq, encode_utf8_all}
 use Rattle.std.proofs.Math.Bool.{and-false}
 use Rattle.pylex.specs.declared.kind.Kind.TheVariants as kinds
 use Rattle.pyfstring.specs.Texts.{begins_with}
 use Rattle.pylex_lexeme.specs.Characters.{left_curly_bracket}
-use Rattle.pysource.specs.Reprs.{escaped, is_unprintable, is_unprintable_byte, quote_for, repr_chars}
-use Rattle.pytree_node.specs.Values.{Str, Bytes}
 use Rattle.pyunparse_text.specs.Spacing.{Piece}
-use Rattle.pyunparse_text.specs.Pieces.{field_character, field_literal_text, in_double_quotes, literal_text, literal_text_in, prefix}
 use Rattle.pyunparse_text.specs.declared.edges.Edge.{Edge}
-use Rattle.pyunparse_text.specs.Writing.{Writing, behind, blank, edge_of}
+use Rattle.pyunparse_text.specs.Writing.{behind, blank, edge_of}
 use Rattle.pyunparse_text.proofs.Texts.WritingLemmas.{same_brace, same_sign}
 
 more : (xs : List ℕ) (b : ℕ) → bytes_eq (xs ++ b ∷ []) [] ≡ false

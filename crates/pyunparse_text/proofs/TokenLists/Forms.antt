@@ -10,16 +10,16 @@ use Rattle.std.proofs.lemmas.List.Folds.{list_all-append}
 use Rattle.std.proofs.lemmas.Slice.Eq.{bytes_eq-Decides}
 use Rattle.std.proofs.lemmas.Bool.{not-true}
 use Rattle.pylex.specs.declared.kind.Kind.TheVariants as kinds
-use Rattle.pylex_lexeme.specs.Operators.{operators, exact_of}
+use Rattle.pylex_lexeme.specs.Operators.{operators}
 use Rattle.pylex_lexeme.proofs.Callers.Booleans.{and_parts, or_parts}
 use Rattle.pylex_lexeme.proofs.Callers.Lexemes.{by_words}
-use Rattle.pyunparse_text.specs.Spacing.{Piece, is_token, is_operator_kind, touches, begins_operator, stay_apart, are_readable}
+use Rattle.pyunparse_text.specs.Spacing.{Piece, is_token, is_operator_kind, touches, begins_operator, stay_apart}
 use Rattle.pyunparse_text.specs.Inner.Edges.{begins_item, openers, stars, is_among, closings, leading, openings, trailing}
 use Rattle.pyunparse_text.specs.Inner.Edges.{begins_expression}
 use Rattle.pyunparse_text.specs.Inner.Edges.{ends_expression, is_free_behind, is_free_before, is_sign, fit, are_neat, begins_by, ends_by}
 use Rattle.pyunparse_text.proofs.LexemeFronts.PieceFronts.{ArePieces, words_all}
 use Rattle.pyunparse_text.proofs.Listings.Runs.{AreScalar}
-use Rattle.pyunparse_text.proofs.TokenLists.Joins.{neat_both, begins_both, ends_both, neat_readable, Balanced, balanced_within}
+use Rattle.pyunparse_text.proofs.TokenLists.Joins.{neat_both, begins_both, ends_both}
 use Rattle.pyunparse_text.proofs.TokenLists.Joins.{behind_leading}
 use Rattle.pyunparse_text.proofs.TokenLists.Joins.{before_trailing, before_point, behind_point}
 

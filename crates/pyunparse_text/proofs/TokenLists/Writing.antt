@@ -1,13 +1,12 @@
 -- Text that grows by a piece, and lines by lines.
 --
 -- Carries: what pyunparse_text cites.
-use Rattle.std.proofs.Common.{◌≡◌, ℕ, ◌+◌, ◌≤◌, Bool, true, ◌==◌, List, [], ◌∷◌, ◌++◌, refl, sym, ◌∙◌, ap, arith, append_assoc, append-nil}
-use Rattle.std.proofs.Common.{if◌then◌else◌}
+use Rattle.std.proofs.Common.{◌≡◌, ℕ, ◌+◌, ◌≤◌, Bool, true, ◌==◌, List, [], ◌∷◌, ◌++◌, refl, arith}
 use Rattle.std.specs.Prelude.{nat_le}
 use Rattle.std.specs.List.{list_all}
 use Rattle.std.proofs.lemmas.Bool.{leb-true, le-leb, eqb-true}
 use Rattle.pylex_lexeme.proofs.Callers.Booleans.{and_parts}
-use Rattle.pyunparse_text.specs.Spacing.{Piece, Line, touches, text_behind, spaced, line_text, lines_text}
+use Rattle.pyunparse_text.specs.Spacing.{Line}
 use Rattle.pyunparse_text.specs.Tokens.{rise_by_one}
 
 -- Lines that begin at a level follow lines none of which is of a lower one.

@@ -1,4 +1,4 @@
-use Rattle.std.proofs.Common.{Bool, ap, false, sym}
+use Rattle.std.proofs.Common.{ap, false, sym, true}
 use Rattle.std.proofs.lemmas.Result.{IfOk-equal}
 use Rattle.std.proofs.lemmas.Str.{encodes-chars}
 use Rattle.pylex.specs.declared.kind.Kind.TheVariants as kinds
