@@ -6,4 +6,3 @@ mod Calls
 mod FormalParameters
 mod ForClauses
 mod Formatted
-mod Recorders

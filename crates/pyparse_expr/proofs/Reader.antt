@@ -8,5 +8,3 @@ pub mod AloneSteps
 pub mod Wholes
 pub mod ChainSteps
 pub mod PartSteps
-pub mod SlicePlaces
-pub mod PartPlaces

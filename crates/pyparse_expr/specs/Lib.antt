@@ -1,4 +1,3 @@
 pub mod Inner
 pub mod Expressions
 pub mod Readings
-pub mod PlacedParts
