@@ -10,11 +10,12 @@ use Rattle.std.proofs.lemmas.List.{take_at, drop_at, get_or_at}
 use Rattle.std.proofs.lemmas.Str.{chars-append, chars_from_encodes, IsUtf8-take, IsUtf8-drop, IsCharBoundary-before_ascii}
 use Rattle.std.proofs.lemmas.Str.{IsCharBoundary-after_ascii}
 use Rattle.std.proofs.lemmas.Str.Pattern.{IsSplitOnceResult, split_parts}
+use Rattle.std.proofs.Math.Bool.{and-true}
+use Rattle.std.specs.Cmp.{both_ways}
 use denote.Ref.{Bor}
 use Rattle.pytree_fits.specs.Names.{is_name}
 use Rattle.pytree_fits.specs.Statements.{dotted, is_star}
-use Rattle.pytree_fits.proofs.Callers.Names.{is_other, one_part, part_before_dot}
-use Rattle.pytree_fits.proofs.NameLemmas.{same_answer}
+use Rattle.pytree_fits.proofs.Fields.Dots.{is_other, one_part, part_before_dot}
 
 others : (cs : List ℕ) → NonePass (λ c. c == 46) cs → list_all is_other cs ≡ true
 others [] h = refl
@@ -28,14 +29,14 @@ dotless_chars : (bs : List ℕ) → IsUtf8 bs → IsDotless bs → list_all is_o
 dotless_chars bs u w = subst (λ cs. list_all is_other cs ≡ true) (chars_from_encodes w.0 bs u w.1) (others w.0 w.2)
 
 -- the characters around a dot
-chars_around : (part behind : List ℕ) → IsUtf8 part → chars (part ++ (46 ∷ behind)) ≡ chars part ++ (46 ∷ chars behind)
+pub chars_around : (part behind : List ℕ) → IsUtf8 part → chars (part ++ (46 ∷ behind)) ≡ chars part ++ (46 ∷ chars behind)
 unfolding chars lib.Utf8.encode
 chars_around part behind u =
     let dot : IsUtf8 (46 ∷ []) = (46 ∷ [], (refl, refl)) in
     chars-append part (46 ∷ behind) u ∙ ap (λ z. chars part ++ z) (chars-append (46 ∷ []) behind dot)
 
 -- what stands on both sides of a dot is text
-sides : (part behind : List ℕ) → IsUtf8 (part ++ (46 ∷ behind)) → IsUtf8 part × IsUtf8 behind
+pub sides : (part behind : List ℕ) → IsUtf8 (part ++ (46 ∷ behind)) → IsUtf8 part × IsUtf8 behind
 sides part behind u =
     let bs = part ++ (46 ∷ behind) in
     let at : get_or bs (length part) 0 ≡ 46 = get_or_at part 46 behind 0 (length part) refl in
@@ -56,11 +57,7 @@ around_dot text part behind u e h =
     ∙ ap (list_all is_name) (part_before_dot (chars part) (chars behind) (dotless_chars part v h))
 
 without_dot : (text : List ℕ) → IsUtf8 text → IsDotless text → dotted is_name (chars text) ≡ is_name (chars text)
-without_dot text u h = ap (list_all is_name) (one_part (chars text) (dotless_chars text u h)) ∙ and_true (is_name (chars text))
-  where
-    and_true : (b : Bool) → (b && true) ≡ b
-    and_true true = refl
-    and_true false = refl
+without_dot text u h = ap (list_all is_name) (one_part (chars text) (dotless_chars text u h)) ∙ and-true (is_name (chars text))
 
 -- a text that is split at its first dot, or has none
 pub at_dot : (text : List ℕ) (r : Option (Bor (List ℕ) × Bor (List ℕ))) → IsUtf8 text → IsSplitOnceResult 46 text r →
@@ -88,7 +85,7 @@ star_bytes : encode_utf8_all (42 ∷ []) ≡ 42 ∷ []
 unfolding lib.Utf8.encode
 star_bytes = refl
 
-star_is : (x : List ℕ) → is_star x ≡ true → x ≡ 42 ∷ []
+pub star_is : (x : List ℕ) → is_star x ≡ true → x ≡ 42 ∷ []
 star_is [] h = absurd (cc)
 star_is (c ∷ []) h = ap (λ z. z ∷ []) (eqb-true c 42 h)
 star_is (c ∷ (d ∷ cs)) h = absurd (cc)
@@ -96,5 +93,5 @@ star_is (c ∷ (d ∷ cs)) h = absurd (cc)
 pub star_told : (text x : List ℕ) (told : Bool) → chars text ≡ x → text ≡ encode_utf8_all x
     → Decides told (text ≡ 42 ∷ []) → told ≡ is_star x
 star_told text x told characters bytes decides =
-    same_answer told (is_star x) (λ t. ap is_star (sym characters ∙ ap chars (decides.0 t) ∙ star_chars))
+    both_ways told (is_star x) (λ t. ap is_star (sym characters ∙ ap chars (decides.0 t) ∙ star_chars))
     (λ s. decides.1 (bytes ∙ ap encode_utf8_all (star_is x s) ∙ star_bytes))

@@ -2,17 +2,11 @@
 use Rattle.std.proofs.Common.{◌≡◌, refl, Fits, w8, get_or, arith, ℕ, ◌<◌, List, [], ◌∷◌, true}
 use Rattle.std.specs.Prelude.{All}
 use Rattle.std.specs.List.{list_all}
-use Rattle.std.proofs.lemmas.Bool.{and_from, le-leb, lt-ltb}
+use Rattle.std.proofs.lemmas.Bool.{and_from, lt-ltb}
 use Rattle.std.proofs.lemmas.List.Elements.{All-head, All-tail, All-from_get_or}
-use Rattle.pytree_node.specs.Points.{IsPoint}
-use Rattle.pytoken.specs.Laws.{is_byte, is_point}
+use Rattle.pytoken.specs.Laws.{is_byte}
 
-pub all_points : (ps : List ℕ) → All IsPoint ps → list_all is_point ps ≡ true
-all_points [] h = refl
-all_points (p ∷ ps) h = and_from (is_point p) (list_all is_point ps) (le-leb p 0x10_FFFF (All-head IsPoint p ps h))
-    (all_points ps (All-tail IsPoint p ps h))
-
-small : (bs : List ℕ) → All (λ b. b < 0x100) bs → list_all is_byte bs ≡ true
+pub small : (bs : List ℕ) → All (λ b. b < 0x100) bs → list_all is_byte bs ≡ true
 small [] h = refl
 small (b ∷ bs) h = and_from (is_byte b) (list_all is_byte bs) (lt-ltb b 0x100 (All-head (λ b. b < 0x100) b bs h))
     (small bs (All-tail (λ b. b < 0x100) b bs h))

@@ -1,5 +1,4 @@
 mod NameLemmas
-mod Shapes
 mod TargetShapes
 mod ValueShapes
 mod StringShapes

@@ -1,5 +1,5 @@
 -- Carries: value_fits, spec_fits. On: the tests of a field of an f-string, one after another.
-use Rattle.std.proofs.Common.{◌≡◌, refl, sym, ap, ◌∙◌, ℕ, suc, ◌+◌, ◌<◌, ◌≤◌, arith, Bool, true, false}
+use Rattle.std.proofs.Common.{◌≡◌, sym, ap, ◌∙◌, ℕ, suc, ◌+◌, ◌<◌, ◌≤◌, arith, Bool, true, false}
 use Rattle.std.specs.Prelude.{◌&&◌, leb}
 use Rattle.std.proofs.lemmas.Bool.{le-leb, lt-leb}
 use Rattle.pytree_node.specs.declared.profiles.Extent.{Extent}

@@ -1,16 +1,10 @@
 -- Carries: have_kind. On: the kinds of the values of an f-string, one by one from the first.
-use Rattle.std.proofs.Common.{◌≡◌, refl, sym, ap, ◌∙◌, inl, inr, ℕ, zero, suc, ◌+◌, ◌<◌, ◌≤◌, arith, List, [], ◌∷◌, length, drop, get_or}
+use Rattle.std.proofs.Common.{◌≡◌, refl, sym, ap, ◌∙◌, inl, inr, ℕ, zero, suc, ◌+◌, ◌<◌, arith, List, [], ◌∷◌, length, drop, get_or}
 use Rattle.std.proofs.Common.{map, drop-cons, Bool, true, false, ◌&&◌}
 use Rattle.std.specs.Prelude.{◌==◌}
 use Rattle.std.proofs.lemmas.Bool.{cases_Bool, both_ways, eq-eqb, ne_eqb, eqb-true}
 use Rattle.pytree_node.specs.Trees.{Expr, exprs}
 use Rattle.pytree_fits.specs.Slots.{is_last, have_kind, has_kind}
-
-none_left : {A : Type 0} (xs : List A) (i : ℕ) → length xs ≤ i → drop i xs ≡ []
-none_left [] zero h = refl
-none_left [] (suc i) h = refl
-none_left (x ∷ xs) zero h = absurd (omega (arith, h))
-none_left (x ∷ xs) (suc i) h = none_left xs i (omega (arith, h))
 
 suc_eq : (a b : ℕ) → (suc a == suc b) ≡ (a == b)
 suc_eq a b = elim (cases_Bool (a == b)) [

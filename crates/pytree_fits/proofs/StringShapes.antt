@@ -15,7 +15,7 @@ use Rattle.pytree_node.specs.TreeOf.{tree_of}
 use Rattle.pytree_node.proofs.Callers.ExprShapes.{joined_str_tree}
 use Rattle.pytree_fits.specs.Tests.{Tests}
 use Rattle.pytree_fits.specs.Slots.{is_text, are_apart, each_value_fits, have_kind, value_fits, spec_fits, has_kind, spec_has_kind}
-use Rattle.pytree_fits.proofs.Shapes.{HasShape, has_shape}
+use Rattle.pyunparse_text.proofs.Callers.Trees.{HasShape, has_shape}
 
 module _ (e : Expr) (no_constant : (value : Constant) → e ≡ variant.Constant value → ⊥) where
   no_text_is : (t : plain.Expr) → HasShape t e → is_text t ≡ false

@@ -12,7 +12,7 @@ use Rattle.pytree_node.specs.Trees.{Identifier}
 use Rattle.pytree_node.specs.TreeOf.{tree_of}
 use Rattle.pytree_fits.specs.Tests.{Tests}
 use Rattle.pytree_fits.specs.Slots.{is_a_name, is_starred, is_single, fits_target}
-use Rattle.pytree_fits.proofs.Shapes.{HasShape, has_shape}
+use Rattle.pyunparse_text.proofs.Callers.Trees.{HasShape, has_shape}
 
 -- an expression of no such shape
 module _ (e : Expr) where

@@ -17,7 +17,7 @@ use Rattle.pytree_node.specs.TreeOf.{tree_of}
 use Rattle.pytree_fits.specs.Tests.{Tests}
 use Rattle.pytree_fits.specs.PatternSlots.{number_fits, imaginary_fits, real_fits, literal_fits, dotted_fits, is_attribute, starts_wild}
 use Rattle.pytree_fits.specs.PatternSlots.{singleton_fits}
-use Rattle.pytree_fits.proofs.Shapes.{HasShape, has_shape}
+use Rattle.pyunparse_text.proofs.Callers.Trees.{HasShape, has_shape}
 
 module _ (e : Expr) where
   module _ (no_constant : (value : Constant) → e ≡ variant.Constant value → ⊥) where

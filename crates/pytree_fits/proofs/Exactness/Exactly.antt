@@ -2,7 +2,7 @@
 -- exactly where they are given.
 use Rattle.std.proofs.Common.{◌≡◌, refl, ap, subst, List, [], ◌∷◌, Some, Bool, true, false, option_map}
 use Rattle.std.specs.Prelude.{not, ◌&&◌}
-use Rattle.std.proofs.lemmas.Bool.{and_parts, and_from}
+use Rattle.std.proofs.lemmas.Bool.{and_parts, and_from, not-true}
 use Rattle.pylex_lexeme.specs.declared.kinds.Exact.TheVariants.{Star}
 use Rattle.pytree_node.specs.declared.operators.Context.TheVariants.{Load, Store, Del}
 use Rattle.pytree_node.specs.Trees
@@ -21,7 +21,7 @@ use Rattle.pytree_fits.specs.Given.{all_pass}
 use Rattle.pytree_fits.proofs.Fields.Standing.{outside}
 use Rattle.pytree_fits.proofs.Fields.AsSpelled.{Passed, GivenAsSpelled, all_passing}
 use Rattle.pytree_fits.specs.Laws.{FitsExactly, TargetsFitExactly, ParametersFitExactly, ArgumentsFitExactly}
-use Rattle.pytree_fits.proofs.Fields.Tests.{parts3, not_true, never, in_context, both_some}
+use Rattle.pytree_fits.proofs.Fields.Tests.{parts3, never, in_context, both_some}
 use Rattle.pytree_fits.proofs.Fields.Levels.{anywhere}
 use Rattle.pytree_fits.proofs.Fields.Entries.{positional_fit, keywords_fit}
 use Rattle.pytree_fits.proofs.Fields.Arranging.{fit_parts, arranged_fit}
@@ -114,7 +114,7 @@ module _ (n : Tests) where
   item_target_given (Trees.Starred e c) h =
       let w = parts3 (is_context Store c) (not (is_starred e)) (fits_target n Store e) h in
       let a = aim (outside n) e w.2 in
-      let b = a.bare (not_true (is_starred e) w.1) in
+      let b = a.bare (not-true (is_starred e) w.1) in
       let u = b.0 Expression in
       in_context (λ k. GivenAsSpelled (outside n) G.ItemTarget (Trees.Starred e k)) Store c w.0 (
         Op Star ∷ u.0,

@@ -1,42 +1,24 @@
 -- Carries: the laws by tokens. On: characters and literals that may stand in a field.
-use Rattle.std.proofs.Common.{◌≡◌, refl, sym, subst, ⊎_elim, ℕ, ◌<◌, ◌≤◌, arith, List, [], ◌∷◌, Option, Some, None, Bool, true, false, cond}
+use Rattle.std.proofs.Common.{◌≡◌, refl, sym, subst, ⊎_elim, ℕ, ◌<◌, ◌≤◌, arith, List, [], ◌∷◌, None, Bool, true, false, cond}
 use Rattle.std.specs.Prelude.{◌&&◌, ◌||◌, ◌==◌, not, nat_lt, nat_le}
 use Rattle.std.specs.List.{list_all, list_any}
-use Rattle.std.specs.Option.{option_or}
 use Rattle.std.proofs.Math.Utf8.{scalar, scalar_cases}
-use Rattle.std.proofs.lemmas.Bool.{and_parts, and_from, le-leb}
+use Rattle.std.proofs.lemmas.Bool.{and_parts, and_from}
 use Rattle.std.proofs.lemmas.Bool.Decides.{nat_tests}
 use Rattle.pylex.specs.declared.kind.Kind.TheVariants as kinds
 use Rattle.pytree_node.specs.Values.{Str, Bytes}
-use Rattle.pytoken.specs.declared.faults.TokenError.{TokenError}
-use Rattle.pytoken.specs.declared.faults.TokenError.TheVariants.{FString, NonAsciiBytes}
-use Rattle.pytoken.specs.Escapes.{escape_fault, meanings}
-use Rattle.pytoken.specs.StringValues.{with_line_feeds, is_quote, is_raw, is_bytes, is_unicode, is_formatted, body_of, points_of, value_of}
-use Rattle.pytoken.specs.StringValues.{string_value, literal_fault, string_fault, nul_fault}
+use Rattle.pytoken.specs.StringValues.{with_line_feeds, is_raw, is_bytes, is_unicode, body_of, points_of, value_of}
+use Rattle.pytoken.specs.StringValues.{string_value, literal_fault, string_fault}
 use Rattle.pytoken.specs.FormattedStrings.{is_bulky}
 use Rattle.pytoken.specs.Terminals.{Literal}
 use Rattle.pytoken.specs.Laws.{is_point}
-use Rattle.pytoken.proofs.Callers.Bodies.{body_all, filter_all}
-use Rattle.pyunparse_text.proofs.Callers.Strings.{no_nul, is_no_backslash, weaker, joined, none_all, kept_pass, body_kept, points_kept}
+use Rattle.pytoken.proofs.Callers.Bodies.{body_all}
+use Rattle.pyunparse_text.proofs.Callers.Strings.{is_no_backslash, weaker, joined, none_all, points_kept}
+use Rattle.pyunparse_text.proofs.Callers.Strings.{is_calm, is_flat, flat_parts, flat_body, calm_body, literally}
+use Rattle.pyunparse_text.proofs.Callers.Said.{scalar_point}
 use Rattle.pytree_fits.specs.Literals.{is_bare, is_bare_byte}
 use Rattle.pytree_fits.proofs.Fields.Tests.{from3}
 use Rattle.pytree_fits.proofs.Exactness.Walks.{Stands}
-
--- what may stand in a field
-abbrev pub is_calm : ℕ → Bool
-is_calm c = scalar c && is_no_backslash c
-
--- in the body of a STRING there
-abbrev pub is_open : ℕ → Bool
-is_open c = is_calm c && not (is_quote c || (c == 10))
-
-abbrev pub is_flat : ℕ → Bool
-is_flat c = is_open c && not (c == 0)
-
-pub point_of : (c : ℕ) → scalar c ≡ true → is_point c ≡ true
-point_of c h =
-    ⊎_elim (λ (low : c < 55296). le-leb c 1114111 (omega arith))
-    (λ (high : (57344 ≤ c) × (c < 1114112)). le-leb c 1114111 (omega (arith, high.1))) (scalar_cases c h)
 
 no_surrogate : (c : ℕ) → scalar c ≡ true → not (nat_le 0xD800 c && nat_le c 0xDFFF) ≡ true
 no_surrogate c h = ⊎_elim (λ (low : c < 55296). below low) (λ (high : (57344 ≤ c) × (c < 1114112)). above high.0) (scalar_cases c h)
@@ -47,33 +29,12 @@ no_surrogate c h = ⊎_elim (λ (low : c < 55296). below low) (λ (high : (57344
     above : 57344 ≤ c → not (nat_le 0xD800 c && nat_le c 0xDFFF) ≡ true
     above high = grind (arith, nat_tests)
 
-flat_parts : (c : ℕ) → is_flat c ≡ true
-    → (scalar c ≡ true) × (is_no_backslash c ≡ true) × (not (is_quote c || (c == 10)) ≡ true) × (not (c == 0) ≡ true)
-flat_parts c h =
-    let v = and_parts (is_open c) (not (c == 0)) h in
-    let u = and_parts (is_calm c) (not (is_quote c || (c == 10))) v.0 in
-    let x = and_parts (scalar c) (is_no_backslash c) u.0 in
-    (x.0, x.1, u.1, v.1)
-
-pub flat_scalar : (c : ℕ) → is_flat c ≡ true → scalar c ≡ true
-flat_scalar c h = (flat_parts c h).0
-
-pub flat_calm : (c : ℕ) → is_flat c ≡ true → is_no_backslash c ≡ true
-flat_calm c h = (flat_parts c h).1
-
-pub flat_unquoted : (c : ℕ) → is_flat c ≡ true → not (is_quote c) ≡ true
-flat_unquoted c h = by (is_quote c) (c == 10) (flat_parts c h).2
-  where
-    by : (a b : Bool) → not (a || b) ≡ true → not a ≡ true
-    by true b h = h
-    by false b h = refl
-
 -- it stands for itself, unless it is a CR
 pub flat_bare : (c : ℕ) → (is_flat c && not (c == 13)) ≡ true → is_bare c ≡ true
 flat_bare c h =
     let w = and_parts (is_flat c) (not (c == 13)) h in
     let v = flat_parts c w.0 in
-    from3 (is_point c) (not (nat_le 0xD800 c && nat_le c 0xDFFF)) _ (point_of c v.0) (no_surrogate c v.0)
+    from3 (is_point c) (not (nat_le 0xD800 c && nat_le c 0xDFFF)) _ (scalar_point c v.0) (no_surrogate c v.0)
     (by (c == 0) (c == 10) (c == 13) (c == 92) (c == 39) (c == 34) v.3 v.2 w.1 v.1)
   where
     by : (z l r b s d : Bool) → not z ≡ true → not ((s || d) || l) ≡ true → not r ≡ true → not b ≡ true
@@ -89,58 +50,14 @@ flat_bare c h =
         by_last true k = k
         by_last false k = refl
 
-no_quote_open : (c : ℕ) → is_quote c ≡ true → is_open c ≡ true → ⊥
-no_quote_open c q h =
-    let u = and_parts (is_calm c) (not (is_quote c || (c == 10))) h in
-    by (is_quote c) (c == 10) q u.1
-  where
-    by : (a b : Bool) → a ≡ true → not (a || b) ≡ true → ⊥
-    by true b q h = cc
-    by false b q h = cc
-
--- the body of a STRING that is not bulky
-pub open_body : (t : List ℕ) → list_all is_calm t ≡ true → is_bulky kinds.String t ≡ false → list_all is_open (body_of t) ≡ true
-open_body t h b =
-    joined is_calm (λ c. not (is_quote c || (c == 10))) (body_of t) (body_all is_calm t h)
-    (none_all (λ c. is_quote c || (c == 10)) (body_of t) b)
-
-pub no_nuls : (t : List ℕ) → list_any (λ c. c == 0) t ≡ false → list_all (λ c. not (c == 0)) (body_of t) ≡ true
-no_nuls t n = body_all (λ c. not (c == 0)) t (none_all (λ c. c == 0) t n)
-
 -- that of the literal without its CRs
 literal_body : (t : List ℕ) → list_all is_calm t ≡ true → is_bulky kinds.String t ≡ false
     → list_any (λ c. c == 0) (with_line_feeds t) ≡ false
     → list_all is_bare (body_of (with_line_feeds t)) ≡ true
 literal_body t h b n =
-    let u : List ℕ = with_line_feeds t in
-    weaker (λ c. is_flat c && not (c == 13)) is_bare flat_bare (body_of u)
-    (joined is_flat (λ c. not (c == 13)) (body_of u)
-    (joined is_open (λ c. not (c == 0)) (body_of u) (body_kept is_open no_quote_open t (open_body t h b)) (no_nuls u n))
-    (body_all (λ c. not (c == 13)) u (kept_pass (λ c. not (c == 13)) t)))
-
-calm_body : (t : List ℕ) → list_all is_calm t ≡ true → list_all is_no_backslash (body_of (with_line_feeds t)) ≡ true
-calm_body t h =
-    body_all is_no_backslash (with_line_feeds t)
-    (filter_all is_no_backslash (λ c. not (c == 13)) t
-    (weaker is_calm is_no_backslash (λ c k. (and_parts (scalar c) (is_no_backslash c) k).1) t h))
+    weaker (λ c. is_flat c && not (c == 13)) is_bare flat_bare (body_of (with_line_feeds t)) (flat_body t h b n)
 
 -- ---- Literals.
-
-record Literally (t : List ℕ) : Type 0 where
-  ascii : (is_bytes t && list_any (nat_lt 0x7F) t) ≡ false
-  no_nul : list_any (λ c. c == 0) t ≡ false
-
-literally : (t : List ℕ) → literal_fault t ≡ None → Literally t
-unfolding literal_fault
-literally t f = by (is_formatted t) (escape_fault (meanings (is_raw t) (is_bytes t) (body_of t)))
-    (is_bytes t && list_any (nat_lt 0x7F) t) refl f
-  where
-    by : (a : Bool) (o : Option TokenError) (b : Bool) → (is_bytes t && list_any (nat_lt 0x7F) t) ≡ b
-        → cond a (Some FString) (option_or o (cond b (Some NonAsciiBytes) (nul_fault t))) ≡ None → Literally t
-    by true o b e f = absurd (cc)
-    by false (Some x) b e f = absurd (cc)
-    by false None true e f = absurd (cc)
-    by false None false e f = record { ascii = e; no_nul = no_nul t f }
 
 small_byte : (c : ℕ) → (is_bare c && not (nat_lt 0x7F c)) ≡ true → is_bare_byte c ≡ true
 small_byte c h =

@@ -6,7 +6,7 @@ use Rattle.std.specs.Prelude.{◌&&◌, ◌==◌, not, if◌then◌else◌}
 use Rattle.std.specs.List.{list_all, list_any, flat_map}
 use Rattle.std.specs.Str.{all_scalars}
 use Rattle.std.proofs.Math.Utf8.{scalar}
-use Rattle.std.proofs.lemmas.Bool.{and_parts, and_from}
+use Rattle.std.proofs.lemmas.Bool.{and_from}
 use Rattle.std.proofs.lemmas.List.Folds.{list_any-append}
 use Rattle.std.proofs.lemmas.Grind.{flat_map-append}
 use Rattle.pyfstring.specs.Expressions.{behind_expression}
@@ -16,7 +16,6 @@ use Rattle.pyfstring_tokens.specs.FieldTokens.{is_gap}
 use Rattle.pylex_lexeme.specs.declared.kinds.Exact.TheVariants.{LPar, RPar}
 use Rattle.pylex_lexeme.specs.declared.lexeme.Class.{Class}
 use Rattle.pylex_lexeme.specs.declared.lexeme.Class.TheVariants as classes
-use Rattle.pylex_lexeme.specs.Operators.{operators, exact_of}
 use Rattle.pylex_lexeme.proofs.Callers.Booleans.{or_parts_false}
 use Rattle.pylex.specs.declared.kind.Kind.{Kind}
 use Rattle.pylex.specs.declared.kind.Kind.TheVariants as kinds
@@ -24,27 +23,26 @@ use Rattle.pylex.specs.Spots.{kind_of}
 use Rattle.pytree_node.specs.declared.profiles.Extent.TheVariants.{Whole}
 use Rattle.pytoken.specs.Escapes.{meanings, points_in}
 use Rattle.pytoken.specs.StringValues.{with_line_feeds, is_quote, body_of, string_value, string_fault}
-use Rattle.pytoken.specs.FormattedStrings.{Element, End, TextPart, text_meanings, text_points, is_fstring, is_bulky, is_field_of}
+use Rattle.pytoken.specs.FormattedStrings.{Element, End, text_meanings, text_points, is_fstring, is_bulky, is_field_of}
 use Rattle.pytoken.specs.FormattedStrings.{elements_of}
 use Rattle.pytoken.specs.FormattedStrings.{elements_fault}
 use Rattle.pytoken.specs.Terminals.{Terminal, Literal, FormattedBegin, FormattedEnd, FormattedText, FieldBegin, SpecBegin, FieldEnd}
 use Rattle.pytoken.specs.Terminals.{element_terminals, elements_terminals, terminal_of, terminals_by, terminals_of, single_fault, fault_by}
 use Rattle.pytoken.specs.Terminals.{fault_of}
 use Rattle.pytoken.specs.Terminals.{field_fault, nested_expression, expression, is_nested_faulty, is_faulty}
-use Rattle.pytoken.specs.Laws.{is_point}
-use Rattle.pytoken.proofs.Callers.Bodies.{body_all, filter_all}
-use Rattle.pytoken.proofs.Callers.Said.{points_are_in_range}
+use Rattle.pytoken.proofs.Callers.Bodies.{body_all}
 use Rattle.pygrammar.specs.OpenStrings.{Open}
 use Rattle.pyunparse_text.proofs.Callers.Strings.{Laid, nothing, a_text, kept_text, a_spec, a_field, at_top, LaidIf, all_laid}
 use Rattle.pyunparse_text.proofs.Callers.Strings.{no_field_wrong}
 use Rattle.pyunparse_text.proofs.Callers.Strings.{no_nul_in, field_faultless, OfClass, of_class, no_string, whole_field, is_no_backslash}
 use Rattle.pyunparse_text.proofs.Callers.Strings.{expression_calm, weaker, joined, kept_all, kept_pass, points_kept, single_kept, unbraced}
+use Rattle.pyunparse_text.proofs.Callers.Strings.{is_calm, is_open, is_flat, flat_scalar, flat_calm, flat_unquoted, open_body, no_nuls}
+use Rattle.pyunparse_text.proofs.Callers.Said.{brackets_are, outer_points}
 use Rattle.pytree_fits.specs.Literals.{is_bare, is_no_brace}
 use Rattle.pytree_fits.specs.Given.{all_pass}
 use Rattle.pytree_fits.proofs.Exactness.Walks.{whole, Stands, Walk, walk_none, walk_one, walk_both, field_walk, operator_walk, lexeme_walk}
-use Rattle.pytree_fits.proofs.Exactness.FieldCharacters.{is_calm, is_open, is_flat, point_of, flat_scalar, flat_calm, flat_unquoted}
 use Rattle.pytree_fits.proofs.Exactness.FieldCharacters.{flat_bare}
-use Rattle.pytree_fits.proofs.Exactness.FieldCharacters.{open_body, no_nuls, string_stands}
+use Rattle.pytree_fits.proofs.Exactness.FieldCharacters.{string_stands}
 
 -- ---- Elements, where these f-strings are open around theirs.
 
@@ -81,10 +79,6 @@ module _ (o : Open) (p : ℕ → Bool) (is_nested : Bool) (terminals : List ℕ 
       (walk_both (elements_walk l (no_field_wrong is_wrong t es n)) (walk_one FormattedEnd refl refl))
 
 -- ---- An f-string in a field.
-
-brackets_are : (exact_of (40 ∷ []) ≡ Some LPar) × (exact_of (41 ∷ []) ≡ Some RPar)
-unfolding exact_of operators
-brackets_are = (refl, refl)
 
 -- in its fields stands no STRING
 inner_field : (m k : ℕ) (t rest : List ℕ) → list_all is_flat t ≡ true → behind_expression (t ++ rest) ≡ Some rest
@@ -180,24 +174,6 @@ field_passes k t rest h w n =
 
 -- ---- An f-string.
 
-scalar_points : (t : List ℕ) → list_all scalar t ≡ true → list_all is_point t ≡ true
-scalar_points t h = weaker scalar is_point point_of t h
-
--- a text of scalars stands for points
-outer_points : (p : TextPart) → list_all scalar p.source ≡ true → list_all is_point (text_points p) ≡ true
-unfolding text_points text_meanings
-outer_points p h =
-    points_are_in_range p.is_raw false (with_line_feeds (if p.has_pairs then single p.is_raw p.source else p.source))
-    (filter_all is_point _ (if p.has_pairs then single p.is_raw p.source else p.source) (by p.has_pairs))
-  where
-    by : (b : Bool) → list_all is_point (if b then single p.is_raw p.source else p.source) ≡ true
-    by true = single_kept is_point p.is_raw p.source (scalar_points p.source h)
-    by false = scalar_points p.source h
-
-scalars_all : (t : List ℕ) → all_scalars t ≡ true → list_all scalar t ≡ true
-scalars_all [] h = refl
-scalars_all (c ∷ t) h = let w = and_parts (scalar c) (all_scalars t) h in and_from (scalar c) (list_all scalar t) w.0 (scalars_all t w.1)
-
 pub formatted_passes : (k : Kind) (t : List ℕ) → all_scalars t ≡ true → is_fstring k t ≡ true → fault_of Whole k t ≡ None
     → all_pass whole [] (terminals_of k t) ≡ true
 unfolding terminals_by fault_of fault_by
@@ -206,5 +182,5 @@ formatted_passes k t s q f =
     let w = formatted_walk [] scalar false expression is_faulty
     (λ k raw u rest h w. outer_points (record { is_raw = raw; has_pairs = at_top k; source = u }) h)
     (λ k u e h. outer_points (record { is_raw = true; has_pairs = false; source = u }) h) field_passes t (elements_of false t)
-    (all_laid scalar false t (body_all scalar t (scalars_all t s))) n refl in
+    (all_laid scalar false t (body_all scalar t s)) n refl in
     rw q w.passed

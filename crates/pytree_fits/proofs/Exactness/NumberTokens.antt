@@ -16,7 +16,7 @@ use Rattle.pytree_node.specs.Values.{Value, Int, Float, Imaginary}
 use Rattle.pytoken.specs.declared.faults.TokenError.{TokenError}
 use Rattle.pytoken.specs.declared.faults.TokenError.TheVariants as errors
 use Rattle.pytoken.specs.NumberValues.{is_complex, is_real, whole_value, number_value, number_fault, too_large}
-use Rattle.pytoken.specs.Terminals.{Number, terminal_of}
+use Rattle.pytoken.specs.Terminals.{terminal_of}
 use Rattle.pytree_fits.specs.Tests.{tests_in}
 use Rattle.pytree_fits.specs.Literals.{has_integer, has_float, is_value}
 use Rattle.pytree_fits.specs.Given.{is_number, passes}

@@ -1,13 +1,12 @@
 -- Carries: the laws by tokens. On: terminals that pass can be said, and tokens may be they: two ways of telling where names and constants
 -- may stand.
-use Rattle.std.proofs.Common.{◌≡◌, ℕ, zero, suc, ◌^◌, ◌<◌, Bool, true, false, not, List, [], ◌∷◌, refl, arith, leb}
-use Rattle.std.specs.Prelude.{All, nat_lt}
+use Rattle.std.proofs.Common.{◌≡◌, ℕ, zero, suc, ◌^◌, ◌<◌, true, false, not, List, [], ◌∷◌, refl, arith, leb}
+use Rattle.std.specs.Prelude.{nat_lt}
 use Rattle.std.specs.List.{list_all}
 use Rattle.std.specs.Str.{all_scalars}
 use Rattle.std.specs.Float.Ieee.{Float, binary64, fits}
 use Rattle.std.proofs.lemmas.Bool.{and_parts, and_from, leb-true, ltb-true}
 use Rattle.std.proofs.lemmas.Bool.Decides.{nat_tests}
-use Rattle.std.proofs.lemmas.List.Elements.{All-nil, All-cons}
 use Rattle.pyfloat.specs.Laws.{is_unsigned}
 use Rattle.pytree_node.specs.Points.{IsPoint}
 use Rattle.pytree_node.specs.Values
@@ -20,7 +19,7 @@ use Rattle.pyunparse_text.specs.Pieces.{is_brace}
 use Rattle.pyunparse_text.specs.Laws as Written
 use Rattle.pyunparse_text.specs.Laws.{may_be_token}
 use Rattle.pyunparse_text.proofs.Callers.Said.{is_own, is_field_character, is_field_byte, can_stand, HasWhole, HasDouble, Sayable, Said}
-use Rattle.pyunparse_text.proofs.Callers.Said.{none, also}
+use Rattle.pyunparse_text.proofs.Callers.Said.{none, also, passing}
 use Rattle.pyunparse_text.proofs.Callers.Strings.{weaker}
 use Rattle.pytree_fits.specs.Tests.{Tests, tests_in, within}
 use Rattle.pytree_fits.specs.Literals.{has_integer, has_float, is_bare, is_bare_byte, is_no_brace, is_value}
@@ -38,10 +37,6 @@ double_has Plain x h = absurd (cc)
 double_has Whole x h = let w = and_parts (fits binary64 x) (is_unsigned x) h in record { held = w.0; unsigned = w.1 }
 
 -- ---- Characters.
-
-all_are : (p : ℕ → Bool) (P : ℕ → Type 0) → ((c : ℕ) → p c ≡ true → P c) → (cs : List ℕ) → list_all p cs ≡ true → All P cs
-all_are p P f [] h = All-nil P
-all_are p P f (c ∷ cs) h = let w = and_parts (p c) (list_all p cs) h in All-cons P c cs (f c w.0) (all_are p P f cs w.1)
 
 bare_own : (c : ℕ) → is_bare c ≡ true → is_own c ≡ true
 bare_own c h = grind (arith, nat_tests)
@@ -80,10 +75,10 @@ Shallow (k ∷ (m ∷ [])) = Unit {0}
 Shallow _ = ⊥
 
 value_said : (extent : Extent) (o : Open) (v : Values.Value) → passes (tests_in extent) o (Literal v) ≡ true → Sayable extent o (Literal v)
-value_said extent [] (Values.Str t u) h = all_are is_point IsPoint (λ c k. leb-true c 1114111 k) t h
+value_said extent [] (Values.Str t u) h = passing is_point IsPoint (λ c k. leb-true c 1114111 k) t h
 value_said extent (k ∷ []) (Values.Str t u) h = weaker is_bare is_field_character bare_character t h
 value_said extent (k ∷ (m ∷ o)) (Values.Str t u) h = absurd (cc)
-value_said extent [] (Values.Bytes t) h = all_are is_byte (λ b. b < 0x100) (λ b k. ltb-true b 0x100 k) t h
+value_said extent [] (Values.Bytes t) h = passing is_byte (λ b. b < 0x100) (λ b k. ltb-true b 0x100 k) t h
 value_said extent (k ∷ []) (Values.Bytes t) h = weaker is_bare_byte is_field_byte bare_byte t h
 value_said extent (k ∷ (m ∷ o)) (Values.Bytes t) h = absurd (cc)
 value_said extent o _ h = absurd (cc)

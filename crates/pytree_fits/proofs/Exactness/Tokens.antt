@@ -1,11 +1,10 @@
 -- Carries: the laws by tokens. On: a token of a source stands for terminals that pass.
-use Rattle.std.proofs.Common.{◌≡◌, refl, sym, ap, ◌∙◌, inl, inr, ℕ, ◌<◌, arith, List, [], ◌∷◌, Option, Some, None, Bool, true, false, ◌&&◌}
+use Rattle.std.proofs.Common.{◌≡◌, refl, sym, ap, ◌∙◌, inl, inr, ℕ, ◌<◌, List, [], ◌∷◌, Option, Some, None, Bool, true, false, ◌&&◌}
 use Rattle.std.specs.Prelude.{◌==◌, not, All, nat_lt, if◌then◌else◌}
 use Rattle.std.specs.List.{list_all, list_any, flat_map}
 use Rattle.std.specs.Option.{option_or}
 use Rattle.std.specs.Str.{all_scalars}
-use Rattle.std.proofs.Math.Utf8.{scalar, scalar_cases}
-use Rattle.std.proofs.lemmas.Bool.{and_parts, and_from, cases_Bool, lt-ltb, le-leb}
+use Rattle.std.proofs.lemmas.Bool.{and_from, cases_Bool}
 use Rattle.std.proofs.lemmas.List.Elements.{All-head, All-tail}
 use Rattle.unicode_normalization.specs.Forms.{nfkc}
 use Rattle.pylex_lexeme.specs.declared.kinds.Exact.{Exact}
@@ -29,9 +28,9 @@ use Rattle.pytoken.specs.Terminals.{Op, Word, Ident, Literal, Layout, terminal_o
 use Rattle.pytoken.specs.Terminals.{is_faulty, fault_of, is_of}
 use Rattle.pytoken.specs.Tokens.{Token}
 use Rattle.pytoken.specs.SourceTokens.{IsOfSource}
-use Rattle.pytoken.specs.Laws.{is_point, is_byte}
-use Rattle.pytoken.proofs.Callers.Bodies.{body_all, filter_all}
-use Rattle.pytoken.proofs.Callers.Said.{names_are_proper, points_are_in_range, bytes_are_small}
+use Rattle.pytoken.specs.Laws.{is_point}
+use Rattle.pytoken.proofs.Callers.Bodies.{filter_all}
+use Rattle.pytoken.proofs.Callers.Said.{names_are_proper, bytes_are_small}
 use Rattle.pygrammar.proofs.Callers.OpenStrings.{terminals_close}
 use Rattle.pytree_fits.specs.Tests.{tests_in}
 use Rattle.pytree_fits.specs.Given.{passes, all_pass, AreSound}
@@ -40,6 +39,8 @@ use Rattle.pytree_fits.proofs.Fields.Tests.{never}
 use Rattle.pytree_fits.proofs.Exactness.ProperNames.{proper_name}
 use Rattle.pytree_fits.proofs.Exactness.FormattedTokens.{formatted_passes}
 use Rattle.pytree_fits.proofs.Exactness.NumberTokens.{number_passes}
+use Rattle.pytree_fits.proofs.InRange.{small}
+use Rattle.pyunparse_text.proofs.Callers.Said.{scalars_points, literal_points}
 
 -- ---- What a token stands for passes.
 
@@ -53,40 +54,20 @@ name_passes extent t h s = by (keyword_of t) refl
     by (Some w) e = refl
     by None e = proper_name (nfkc t) (names_are_proper t h e s)
 
-point_of : (c : ℕ) → scalar c ≡ true → is_point c ≡ true
-point_of c h = elim (scalar_cases c h) [
-  | inl low ↦ le-leb c 0x10_FFFF (omega (arith, low))
-  | inr high ↦ le-leb c 0x10_FFFF (omega (arith, high.1))
-]
-
-points_of_scalars : (t : List ℕ) → all_scalars t ≡ true → list_all is_point t ≡ true
-points_of_scalars [] h = refl
-points_of_scalars (c ∷ t) h = let w = and_parts (scalar c) (all_scalars t) h in and_from (is_point c) (list_all is_point t) (point_of c w.0)
-    (points_of_scalars t w.1)
-
-in_points : (t : List ℕ) → list_all is_point t ≡ true → list_all is_point (points_of t) ≡ true
-unfolding points_of
-in_points t h = points_are_in_range (is_raw t) (is_bytes t) (body_of t) (body_all is_point t h)
-
-all_small : (bs : List ℕ) → All (λ b. b < 0x100) bs → list_all is_byte bs ≡ true
-all_small [] h = refl
-all_small (b ∷ bs) h = and_from (is_byte b) (list_all is_byte bs) (lt-ltb b 0x100 (All-head (λ b. b < 0x100) b bs h))
-    (all_small bs (All-tail (λ b. b < 0x100) b bs h))
-
 string_is : (extent : Extent) (t : List ℕ) → all_scalars t ≡ true → string_fault t ≡ None
     → passes (tests_in extent) [] (Literal (string_value t)) ≡ true
 unfolding string_value value_of
 string_is extent t h s = by (is_bytes (with_line_feeds t)) (λ e. bytes_are_small t (points_of (with_line_feeds t)) e s)
   where
     points : list_all is_point (points_of (with_line_feeds t)) ≡ true
-    points = in_points (with_line_feeds t) (filter_all is_point (λ c. not (c == 13)) t (points_of_scalars t h))
+    points = literal_points (with_line_feeds t) (filter_all is_point (λ c. not (c == 13)) t (scalars_points t h))
 
     by : (b : Bool) → ((if b then Bytes (points_of (with_line_feeds t)) else Str (points_of (with_line_feeds t))
         (is_unicode (with_line_feeds t))) ≡ Bytes (points_of (with_line_feeds t)) → All (λ b. b < 0x100) (points_of (with_line_feeds t))) →
         passes (tests_in extent) []
         (Literal (if b then Bytes (points_of (with_line_feeds t)) else Str (points_of (with_line_feeds t))
         (is_unicode (with_line_feeds t)))) ≡ true
-    by true f = all_small (points_of (with_line_feeds t)) (f refl)
+    by true f = small (points_of (with_line_feeds t)) (f refl)
     by false f = points
 
 string_passes : (extent : Extent) (t : List ℕ) → all_scalars t ≡ true → string_fault t ≡ None

@@ -26,7 +26,7 @@ use Rattle.pytoken.specs.Terminals.{Terminal, Op, Word, Ident, Number, Layout, t
 use Rattle.pytoken.proofs.Callers.Said.{names_are_proper}
 use Rattle.pygrammar.specs.OpenStrings.{Open, open_behind, open_behind_all}
 use Rattle.pygrammar.proofs.Callers.OpenStrings.{behind_append}
-use Rattle.pyunparse_text.proofs.Callers.Strings.{OfClass, IsToken, AllTokens, no_lexeme, a_gap, a_token, IsWholeField}
+use Rattle.pyunparse_text.proofs.Callers.Strings.{OfClass, IsToken, AllTokens, no_lexeme, a_gap, a_token, IsWholeField, operator_terminal}
 use Rattle.pytree_fits.specs.Tests.{Tests, tests_in}
 use Rattle.pytree_fits.specs.Given.{passes, all_pass}
 use Rattle.pytree_fits.proofs.Fields.Standing.{both_from}
@@ -112,10 +112,6 @@ number_stands n o t s h = number_anywhere n o (number_value (encode_utf8_all t))
 number_opens : (n : ℕ) (o : Open) (t : List ℕ) → open_behind (n ∷ o) (terminal_of kinds.Number t) ≡ n ∷ o
 unfolding terminal_of
 number_opens n o t = refl
-
-operator_terminal : (t : List ℕ) (e : Exact) → exact_of t ≡ Some e → terminal_of kinds.Op t ≡ Op e
-unfolding terminal_of
-operator_terminal t e h = ap (λ (o : Option Exact). elim o [ Some x ↦ Op x | None ↦ Layout ]) h
 
 -- where some f-string is open
 module _ (n : ℕ) (o : Open) where

@@ -10,8 +10,9 @@ use Rattle.pygrammar.specs.Parameters.{after_star, at_star, plain_ones, defaulte
 use Rattle.pytree_fits.specs.Tests.{Tests}
 use Rattle.pytree_fits.specs.Slots.{count, count_optional, count_args, fits_at, each_fits, perhaps_fits, each_perhaps_fits, fits_arguments}
 use Rattle.pytree_fits.specs.Slots.{arg_fits, each_arg_fits, perhaps_arg_fits}
-use Rattle.pytree_fits.proofs.Fields.Tests.{parts3, from3, given, mapped_is}
+use Rattle.pytree_fits.proofs.Fields.Tests.{parts3, from3}
 use Rattle.pytree_fits.proofs.Fields.Entries.{all_fit}
+use Rattle.pyunparse_text.proofs.Callers.Trees.{given, mapped_is}
 
 -- the nine tests of parameters
 pub record Parts (n : Tests) (b : Bool) (ps qs : Args) (v : OptionalArg) (ks : Args) (ds : OptionalExprs) (k : OptionalArg)

@@ -4,7 +4,7 @@ use Rattle.std.specs.Prelude.{◌&&◌, leb}
 use Rattle.std.proofs.lemmas.Bool.{and_parts, and_from, le-leb}
 use Rattle.pytree_node.specs.declared.operators.Context.TheVariants.{Store}
 use Rattle.pytree_node.specs.Trees
-use Rattle.pytree_node.specs.Trees.{Expr, Exprs, exprs, Comprehension, comprehensions}
+use Rattle.pytree_node.specs.Trees.{Expr, exprs, Comprehension}
 use Rattle.pygrammar.specs.declared.levels.Level.{Level}
 use Rattle.pygrammar.specs.declared.levels.Level.TheVariants.{StarItem, Expression, Primary, Elem}
 use Rattle.pygrammar.specs.Entries.{Item, Of, Pair, Argument, Parameter, Entry, Single, Paired, Spread, Doubled, Keyed, Plain, Slashed}
@@ -13,7 +13,8 @@ use Rattle.pygrammar.specs.Arguments.{called, in_order, positional, keywords}
 use Rattle.pytree_fits.specs.Tests.{Tests}
 use Rattle.pytree_fits.specs.Slots.{count, count_optional, fits_at, fits_target, each_fits, perhaps_fits, each_perhaps_fits}
 use Rattle.pytree_fits.specs.Slots.{each_keyword_fits, arg_fits}
-use Rattle.pytree_fits.proofs.Fields.Tests.{given, from3}
+use Rattle.pytree_fits.proofs.Fields.Tests.{from3}
+use Rattle.pyunparse_text.proofs.Callers.Trees.{given}
 
 abbrev pub entry_fits : Tests → Item → Entry → Bool
 entry_fits n (Of l) (Single e) = fits_at n l e

@@ -3,10 +3,10 @@
 use Rattle.std.proofs.Common.{◌≡◌, refl, sym, ap, subst, ◌+◌, arith, List, [], ◌∷◌, length, Option, Some, None, Bool, true, false}
 use Rattle.std.specs.Prelude.{eqb, not, ◌&&◌, ◌||◌, if◌then◌else◌}
 use Rattle.std.specs.List.{list_all}
-use Rattle.std.proofs.lemmas.Bool.{and_parts, and_from, or_right, eqb-true, eq-eqb}
+use Rattle.std.proofs.lemmas.Bool.{and_parts, and_from, or_right, eqb-true, eq-eqb, not-true}
 use Rattle.pylex_lexeme.specs.Characters.{low_line}
 use Rattle.pytree_node.specs.Trees
-use Rattle.pytree_node.specs.Trees.{Identifier, Expr, Pattern, no_pattern, absent_pattern, present_pattern}
+use Rattle.pytree_node.specs.Trees.{Identifier, Expr, Pattern, absent_pattern, present_pattern}
 use Rattle.pygrammar.specs.declared.pattern_levels.PatternLevel.{PatternLevel}
 use Rattle.pygrammar.specs.declared.pattern_levels.PatternLevel.TheVariants.{Patterns, StarPattern, AsPattern, OrPattern, ClosedPattern}
 use Rattle.pygrammar.specs.PatternOperators.{below_pattern, captured, is_wildcard}
@@ -16,7 +16,9 @@ use Rattle.pygrammar.specs.PatternEntries.{are_class_arguments, named_attributes
 use Rattle.pytree_fits.specs.Tests.{Tests}
 use Rattle.pytree_fits.specs.PatternSlots.{wildcard, target_fits, perhaps_target_fits, begins_with_wildcard, class_fits, key_fits}
 use Rattle.pytree_fits.specs.PatternSlots.{takes_star_pattern, count_patterns, pattern_fits_at, each_pattern_fits}
-use Rattle.pytree_fits.proofs.Fields.Tests.{from3, from4, given, never, not_true}
+use Rattle.pytree_fits.proofs.Fields.Tests.{from3, from4, never}
+use Rattle.pyunparse_text.proofs.Callers.Trees.{given}
+use Rattle.pyunparse_text.proofs.Callers.Said.{none_alone}
 
 -- ---- Names.
 
@@ -48,7 +50,7 @@ module _ (n : Tests) where
 
   -- the NAME that captures this
   pub name_of : (x : Identifier) → target_fits n x ≡ true → (n.name x ≡ true) × (is_wildcard x ≡ false)
-  name_of x h = let w = and_parts (n.name x) (not (is_wildcard x)) h in (w.0, not_true (is_wildcard x) w.1)
+  name_of x h = let w = and_parts (n.name x) (not (is_wildcard x)) h in (w.0, not-true (is_wildcard x) w.1)
 
   pub capture_of : (o : Option Identifier) → perhaps_target_fits n o ≡ true → (x : Identifier) × (n.name x ≡ true) × (captured x ≡ o)
   capture_of None h = (wildcard, h, refl)
@@ -188,11 +190,6 @@ module _ (n : Tests) where
   as_many_named [] = refl
   as_many_named (Named x p ∷ es) = omega (arith, as_many_named es)
   as_many_named (_ ∷ es) = as_many_named es
-
-  none_alone : (es : List PatternEntry) → all_named es ≡ true → elements es ≡ no_pattern
-  none_alone [] h = refl
-  none_alone (Named x p ∷ es) h = none_alone es h
-  none_alone (_ ∷ es) h = absurd (never h)
 
   behind_alone : (es : List PatternEntry) → are_class_arguments true es ≡ true → not (begins_with_wildcard (named_attributes es)) ≡ true
   behind_alone [] h = refl

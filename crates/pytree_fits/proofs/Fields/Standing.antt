@@ -1,5 +1,5 @@
 -- Carries: the laws of the slots. On: where terminals stand: the f-strings that are open before them.
-use Rattle.std.proofs.Common.{◌≡◌, refl, sym, subst, ℕ, List, [], ◌∷◌, ◌++◌, Bool, true, ◌&&◌}
+use Rattle.std.proofs.Common.{◌≡◌, refl, sym, subst, ℕ, List, [], ◌∷◌, ◌++◌, Bool, true}
 use Rattle.std.proofs.lemmas.Bool.{and_from, and_parts}
 use Rattle.pytoken.specs.Terminals.{Terminal}
 use Rattle.pygrammar.specs.OpenStrings.{Open, open_behind, open_behind_all}
@@ -18,10 +18,6 @@ outside n = record { tests = n; opened = [] }
 -- the tests of the tree that the terminals there give
 abbrev pub here : Standing → Tests
 here n = within n.opened n.tests
-
--- outside, those are the tests themselves
-pub here_outside : (n : Tests) → here (outside n) ≡ n
-here_outside n = refl
 
 -- in an f-string there, with so many fields open
 abbrev pub in_string : Standing → ℕ → Standing

@@ -4,7 +4,7 @@ use Rattle.std.specs.Prelude.{leb, not, ◌||◌}
 use Rattle.std.proofs.lemmas.Bool.{and_parts, and_from, or_left, or_right}
 use Rattle.pyfstring.specs.declared.parts.Conversion.{Conversion}
 use Rattle.pytree_node.specs.Trees
-use Rattle.pytree_node.specs.Trees.{Expr, Exprs, no_exprs, an_expr, OptionalExpr}
+use Rattle.pytree_node.specs.Trees.{Expr, Exprs, OptionalExpr}
 use Rattle.pygrammar.specs.declared.levels.Level.TheVariants.{Expression}
 use Rattle.pygrammar.specs.Forms.{is_whole}
 use Rattle.pygrammar.specs.FormattedStrings.{StringPart, Text, Field, with_text, merged, values_of, spec_values_of}
@@ -12,9 +12,10 @@ use Rattle.pytree_fits.specs.Tests.{Tests, in_field}
 use Rattle.std.specs.List.{list_all}
 use Rattle.pytoken.specs.Laws.{is_point}
 use Rattle.pytree_fits.specs.Literals.{is_no_brace, has_text, has_formatted_text}
-use Rattle.pytree_fits.specs.Slots.{fits_at, is_kind, is_text, are_apart, is_last, have_kind, has_kind, spec_has_kind, may_be_joined}
-use Rattle.pytree_fits.specs.Slots.{text_fits, each_value_fits, value_fits, spec_fits, joined_fits}
-use Rattle.pytree_fits.proofs.Fields.Tests.{from3, all_on, text_on}
+use Rattle.pytree_fits.specs.Slots.{fits_at, is_kind, are_apart, is_last, have_kind, spec_has_kind, may_be_joined}
+use Rattle.pytree_fits.specs.Slots.{each_value_fits, spec_fits, joined_fits}
+use Rattle.pytree_fits.proofs.Fields.Tests.{from3, text_on}
+use Rattle.pyunparse_text.proofs.Callers.Strings.{both_in}
 
 -- ---- Texts.
 
@@ -26,12 +27,12 @@ plain_text (suc k) t h = h
 -- texts side by side
 pub formatted_on : (f d : ℕ) (t s : List ℕ) → has_formatted_text f d t ≡ true → has_formatted_text f d s ≡ true
     → has_formatted_text f d (t ++ s) ≡ true
-formatted_on zero d t s h g = all_on is_point t s h g
+formatted_on zero d t s h g = both_in is_point t s h g
 formatted_on (suc k) zero t s h g = text_on (suc k) t s h g
 formatted_on (suc k) (suc d) t s h g =
     let u = and_parts (has_text (suc k) t) (list_all is_no_brace t) h in
     let w = and_parts (has_text (suc k) s) (list_all is_no_brace s) g in
-    and_from (has_text (suc k) (t ++ s)) (list_all is_no_brace (t ++ s)) (text_on (suc k) t s u.0 w.0) (all_on is_no_brace t s u.1 w.1)
+    and_from (has_text (suc k) (t ++ s)) (list_all is_no_brace (t ++ s)) (text_on (suc k) t s u.0 w.0) (both_in is_no_brace t s u.1 w.1)
 
 -- ---- Parts that fit, of texts of this kind, which stand in so many format specs.
 

@@ -9,8 +9,9 @@ use Rattle.pygrammar.specs.declared.levels.Level.TheVariants.{Expression, Primar
 use Rattle.pygrammar.specs.Targets.{stored, all_stored, deleted, all_deleted, single_stored}
 use Rattle.pytree_fits.specs.Tests.{Tests}
 use Rattle.pytree_fits.specs.Slots.{is_context, is_starred, is_single, fits_at, fits_target, each_target_fits, each_fits}
-use Rattle.pytree_fits.proofs.Fields.Tests.{parts3, given, mapped_is, both_is, star_stored}
+use Rattle.pytree_fits.proofs.Fields.Tests.{parts3}
 use Rattle.pytree_fits.proofs.Fields.Levels.{anywhere}
+use Rattle.pyunparse_text.proofs.Callers.Trees.{given, mapped_is, both_is, star_stored}
 
 module _ (n : Tests) where
   mutual

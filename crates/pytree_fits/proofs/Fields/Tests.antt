@@ -1,24 +1,24 @@
 -- Carries: the laws of the slots. On: tests that hold together, values that are there, constants.
-use Rattle.std.proofs.Common.{◌≡◌, refl, subst, ℕ, zero, suc, map, List, [], ◌∷◌, ◌++◌, Option, Some, None, Bool, true, false, option_map}
-use Rattle.std.specs.Prelude.{◌&&◌, not}
-use Rattle.std.specs.List.{list_all}
+use Rattle.std.proofs.Common.{◌≡◌, refl, ℕ, zero, suc, map, List, [], ◌∷◌, ◌++◌, Option, Some, Bool, true, false}
+use Rattle.std.specs.Prelude.{◌&&◌}
 use Rattle.std.proofs.lemmas.Bool.{and_parts, and_from}
 use Rattle.pylex_lexeme.specs.declared.kinds.Exact.TheVariants.{Ellipsis}
 use Rattle.pytoken.specs.declared.keywords.Keyword.TheVariants as Key
 use Rattle.pytree_node.specs.declared.operators.Context.{Context}
 use Rattle.pytree_node.specs.declared.operators.Context.TheVariants.{Load, Store, Del}
-use Rattle.pytree_node.specs.Trees
 use Rattle.pytree_node.specs.Trees.{Expr, Exprs, an_expr}
 use Rattle.pytree_node.specs.Values
 use Rattle.pytoken.specs.Terminals.{Terminal, Op, Word, Literal}
 use Rattle.pygrammar.specs.Constants.{constant_word, joined}
-use Rattle.pygrammar.specs.Targets.{both, stored}
+use Rattle.pygrammar.specs.Targets.{both}
 use Rattle.pytoken.specs.Laws.{is_point, is_byte}
 use Rattle.pytree_fits.specs.Tests.{Tests}
 use Rattle.pytree_fits.specs.Literals.{is_bare, is_bare_byte, has_text, has_bytes, is_value}
 use Rattle.pytree_fits.specs.Slots.{is_context}
 use Rattle.pytree_fits.specs.Given.{is_literal, passes}
 use Rattle.pytree_fits.proofs.Fields.Standing.{Standing, here, pass_at}
+use Rattle.pyunparse_text.proofs.Callers.Trees.{given}
+use Rattle.pyunparse_text.proofs.Callers.Strings.{both_in}
 
 -- ---- Three tests and more.
 
@@ -47,38 +47,13 @@ pub parts6 : (x y z u v w : Bool) → (x && y && z && u && v && w) ≡ true → 
 parts6 true y z u v w h = let o = parts5 y z u v w h in (refl, o.0, o.1, o.2, o.3, o.4)
 parts6 false y z u v w h = absurd (cc)
 
-pub not_true : (b : Bool) → not b ≡ true → b ≡ false
-not_true true h = absurd (cc)
-not_true false h = refl
-
 pub never : ◌≡◌ {A = Bool} false true → ⊥
 never h = absurd (cc)
 
 -- ---- What is there.
 
-pub given : {A : Type 0} (P : A → Type 0) {a b : A} → ◌≡◌ {A = Option A} (Some a) (Some b) → P a → P b
-given {A} P {a} {b} h p = subst P (same a b h) p
-  where
-    same : (a b : A) → ◌≡◌ {A = Option A} (Some a) (Some b) → a ≡ b
-    same a b h = cc
-
-pub mapped_is : {A B : Type 0} (f : A → B) (o : Option A) (b : B) → option_map f o ≡ Some b → (a : A) × (o ≡ Some a) × (f a ≡ b)
-mapped_is {A} {B} f None b h = absurd (cc)
-mapped_is {A} {B} f (Some a) b h = (a, refl, given (λ x. f a ≡ x) h refl)
-
-pub both_is : (o : Option Expr) (p : Option Exprs) (z : Exprs) → both o p ≡ Some z
-    → (e : Expr) × (es : Exprs) × (o ≡ Some e) × (p ≡ Some es) × (an_expr e es ≡ z)
-both_is None p z h = absurd (cc)
-both_is (Some e) None z h = absurd (cc)
-both_is (Some e) (Some es) z h = (e, es, refl, refl, given (λ x. an_expr e es ≡ x) h refl)
-
 pub both_some : (o : Option Expr) (p : Option Exprs) (e : Expr) (es : Exprs) → o ≡ Some e → p ≡ Some es → both o p ≡ Some (an_expr e es)
 both_some o p e es h g = rw (h, g) refl
-
-pub star_stored : (e : Expr) (c : Context) (s : Expr) → stored (Trees.Starred e c) ≡ Some s
-    → (f : Expr) × (stored e ≡ Some f) × (Trees.Starred f Store ≡ s)
-star_stored (Trees.Starred e d) c s h = absurd (cc)
-star_stored e c s h = mapped_is (λ f. Trees.Starred f Store) (stored e) s h
 
 -- a node with the context of its place
 pub in_context : (P : Context → Type 0) (k c : Context) → is_context k c ≡ true → P k → P c
@@ -101,19 +76,15 @@ word_value n (Word Key.False) v h = given (λ z. is_value n z ≡ true) h refl
 word_value n (Op Ellipsis) v h = given (λ z. is_value n z ≡ true) h refl
 word_value n _ v h = absurd (cc)
 
-pub all_on : (p : ℕ → Bool) (xs ys : List ℕ) → list_all p xs ≡ true → list_all p ys ≡ true → list_all p (xs ++ ys) ≡ true
-all_on p [] ys h g = g
-all_on p (x ∷ xs) ys h g = let w = and_parts (p x) (list_all p xs) h in and_from (p x) (list_all p (xs ++ ys)) w.0 (all_on p xs ys w.1 g)
-
 -- texts and bytes side by side, in so many fields
 pub text_on : (f : ℕ) (t s : List ℕ) → has_text f t ≡ true → has_text f s ≡ true → has_text f (t ++ s) ≡ true
-text_on zero t s h g = all_on is_point t s h g
-text_on (suc zero) t s h g = all_on is_bare t s h g
+text_on zero t s h g = both_in is_point t s h g
+text_on (suc zero) t s h g = both_in is_bare t s h g
 text_on (suc (suc k)) t s h g = absurd (cc)
 
 bytes_on : (f : ℕ) (t s : List ℕ) → has_bytes f t ≡ true → has_bytes f s ≡ true → has_bytes f (t ++ s) ≡ true
-bytes_on zero t s h g = all_on is_byte t s h g
-bytes_on (suc zero) t s h g = all_on is_bare_byte t s h g
+bytes_on zero t s h g = both_in is_byte t s h g
+bytes_on (suc zero) t s h g = both_in is_bare_byte t s h g
 bytes_on (suc (suc k)) t s h g = absurd (cc)
 
 -- literals side by side

@@ -11,7 +11,7 @@ use Rattle.pytree_node.specs.declared.operators.BoolOperator.{BoolOperator}
 use Rattle.pytree_node.specs.declared.operators.Comparison.{Comparison}
 use Rattle.pytree_node.specs.declared.operators.Context.TheVariants.{Load, Store, Del}
 use Rattle.pytree_node.specs.Trees
-use Rattle.pytree_node.specs.Trees.{Expr, Exprs, OptionalExpr, exprs, Comprehension, comprehensions}
+use Rattle.pytree_node.specs.Trees.{Expr, OptionalExpr, exprs, Comprehension, comprehensions}
 use Rattle.pytoken.specs.Terminals.{Terminal, Op, Word, Ident, Number, Literal, FormattedEnd, FieldEnd}
 use Rattle.pygrammar.specs.declared.levels.Level.{Level}
 use Rattle.pygrammar.specs.declared.levels.Level.TheVariants.{Value, StarItem, Named, Expression, Or, BitOr, Factor, Await, Primary, Atom}

@@ -27,10 +27,11 @@ use Rattle.pytree_fits.specs.PatternSlots.{is_attribute, is_singleton, singleton
 use Rattle.pytree_fits.specs.PatternSlots.{pattern_fits_at, each_pattern_fits}
 use Rattle.pytree_fits.proofs.Fields.Standing.{outside, pass_at, left, right, behind}
 use Rattle.pytree_fits.proofs.Fields.Closings.{quiet_left, dotted_closes, signed_closes}
-use Rattle.pytree_fits.proofs.Fields.Tests.{from3, given, mapped_is, joined_value}
+use Rattle.pytree_fits.proofs.Fields.Tests.{from3, joined_value}
 use Rattle.pytree_fits.proofs.Fitting.Fits.{joined_of}
 use Rattle.pytree_fits.proofs.Fields.PatternFields.{captured_fits, bound_fits, other_fits, fits_below, fits_anywhere, entry_fits, all_fit}
 use Rattle.pytree_fits.proofs.Fields.PatternFields.{elements_fit, mapped_fits, class_of_fits}
+use Rattle.pyunparse_text.proofs.Callers.Trees.{given, mapped_is}
 
 -- ---- Values.
 

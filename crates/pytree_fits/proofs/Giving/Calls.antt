@@ -2,6 +2,7 @@
 -- what is given are given.
 use Rattle.std.proofs.Common.{◌≡◌, refl, ap, subst, arith, List, [], ◌∷◌, ◌++◌, Option, Some, None, Bool, true, false, option_map}
 use Rattle.std.specs.Prelude.{not}
+use Rattle.std.proofs.lemmas.Bool.{not-true}
 use Rattle.pylex_lexeme.specs.declared.kinds.Exact.TheVariants.{LPar, RPar, LSqb, RSqb, LBrace, RBrace, Colon, Star, Equal, DoubleStar}
 use Rattle.pytoken.specs.declared.keywords.Keyword.TheVariants as Key
 use Rattle.pytree_node.specs.declared.operators.Context.TheVariants.{Load, Store}
@@ -19,7 +20,7 @@ use Rattle.pygrammar.specs.Grammar as G
 use Rattle.pytree_fits.specs.Slots.{takes_star, is_starred, count, count_optional, has_some, perhaps_name}
 use Rattle.pytree_fits.proofs.Fields.Standing.{Standing}
 use Rattle.pytree_fits.proofs.Fields.AsSpelled.{Passed, GivenAsSpelled, pass_on}
-use Rattle.pytree_fits.proofs.Fields.Tests.{never, not_true}
+use Rattle.pytree_fits.proofs.Fields.Tests.{never}
 use Rattle.pytree_fits.proofs.Giving.Places as P
 use Rattle.pytree_fits.proofs.Giving.Places.{Each, no_more, one_more, lifted, anywhere_at, at, starred_at, named_pass}
 use Rattle.pytree_fits.proofs.Giving.Making.{Pieces, no_piece, a_piece, listing, name_given, attribute_given, subscript_given, tuple_given}
@@ -260,7 +261,7 @@ module _ (n : Standing) where
 
   pub star_aim : (e : Expr) → not (is_starred e) ≡ true → Aim n e → Aim n (Trees.Starred e Store)
   star_aim e h a =
-      let w = a.bare (not_true (is_starred e) h) in
+      let w = a.bare (not-true (is_starred e) h) in
       record {
         tree = Trees.Starred a.tree Load;
         is = star_up a.tree e w.1 a.is;

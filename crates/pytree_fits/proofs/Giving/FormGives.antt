@@ -3,7 +3,7 @@ use Rattle.std.proofs.Common.{◌≡◌, refl, sym, ap, subst, inl, inr, ℕ, ze
 use Rattle.std.proofs.Common.{false}
 use Rattle.std.specs.Prelude.{not, ◌&&◌, ◌||◌, is_none}
 use Rattle.std.specs.List.{list_all}
-use Rattle.std.proofs.lemmas.Bool.{and_parts, and_from, or_cases, ltb-true, eqb-true}
+use Rattle.std.proofs.lemmas.Bool.{and_parts, and_from, or_cases, ltb-true}
 use Rattle.pylex_lexeme.specs.declared.kinds.Exact.{Exact}
 use Rattle.pylex_lexeme.specs.declared.kinds.Exact.TheVariants as Sign
 use Rattle.pytoken.specs.declared.keywords.Keyword.TheVariants as Key
@@ -12,7 +12,7 @@ use Rattle.pytree_node.specs.declared.operators.Operator.TheVariants as Bin
 use Rattle.pytree_node.specs.declared.operators.Context.TheVariants.{Store, Del}
 use Rattle.pytree_node.specs.declared.profiles.Profile.{Profile}
 use Rattle.pytree_node.specs.Trees
-use Rattle.pytree_node.specs.Trees.{Identifier, Expr, Exprs, no_exprs, an_expr, exprs, optional, Arguments, Keywords, Pattern, Stmt, Alias}
+use Rattle.pytree_node.specs.Trees.{Identifier, Expr, exprs, optional, Arguments, Keywords, Pattern, Alias}
 use Rattle.pytree_node.specs.Trees.{Item, TypeParam}
 use Rattle.pytoken.specs.Terminals.{Terminal, Op, Word, in_form}
 use Rattle.pygrammar.specs.declared.levels.Level.{Level}
@@ -43,6 +43,7 @@ use Rattle.pytree_fits.proofs.Giving.PatternGives.{pattern_given}
 use Rattle.pytree_fits.proofs.Exactness.Exactly.{target_given, single_given, del_target_given, item_target_given, parameters_given}
 use Rattle.pytree_fits.proofs.Exactness.Exactly.{arguments_given}
 use Rattle.pytree_fits.proofs.Fields.Dots.{dotted_given}
+use Rattle.pytree_fits.proofs.DottedLemmas.{star_is}
 
 module _ (n : Tests) where
   -- ---- Lists with commas.
@@ -116,11 +117,6 @@ module _ (n : Tests) where
       let w = and_parts (n.name a.name) (perhaps_name n.name a.asname) h in
       let v = as_given a.asname w.1 in
       (in_form a.name ∷ v.0, named_pass (outside n) a.name v.0 w.0 v.1, F.name_as v.2)
-
-  star_is : (x : Identifier) → is_star x ≡ true → x ≡ 42 ∷ []
-  star_is [] h = absurd (never h)
-  star_is (c ∷ []) h = ap (λ z. z ∷ []) (eqb-true c 42 h)
-  star_is (c ∷ (d ∷ cs)) h = absurd (never h)
 
   none_is : {A : Type 0} (o : Option A) → is_none o ≡ true → o ≡ None
   none_is None h = refl

@@ -3,7 +3,7 @@
 use Rattle.std.proofs.Common.{◌≡◌, refl, sym, ap, subst, ◌∙◌, ℕ, suc, arith, List, [], ◌∷◌, ◌++◌, None, Bool, true, false, cond}
 use Rattle.std.specs.Prelude.{leb, ◌&&◌}
 use Rattle.std.specs.List.{list_all}
-use Rattle.std.proofs.lemmas.Bool.{and_parts, and_from, leb-true, le-leb, lt-ltb, le-ltb}
+use Rattle.std.proofs.lemmas.Bool.{and_parts, and_from, leb-true, le-leb, le-ltb}
 use Rattle.pylex_lexeme.specs.declared.kinds.Exact.TheVariants.{Colon}
 use Rattle.pytree_node.specs.declared.profiles.Profile.{Profile}
 use Rattle.pytoken.specs.Terminals.{Terminal, Op}
@@ -14,6 +14,7 @@ use Rattle.pygrammar.specs.Blocks.{header_kind, kind_of, is_match, stands_in_mat
 use Rattle.pytree_fits.specs.Tests.{Tests}
 use Rattle.pytree_fits.proofs.Fields.Standing.{outside}
 use Rattle.pytree_fits.proofs.Fields.AsSpelled.{GivenAsSpelled, AreGivenAsSpelled, none_spelled, one_spelled, pass_on}
+use Rattle.pyunparse_text.proofs.Callers.Said.{under}
 
 -- ---- Lines behind lines.
 
@@ -46,10 +47,6 @@ stands_behind : (l : ℕ) (xs earlier : List Line) → are_deep l xs ≡ true �
 stands_behind l [] earlier h = refl
 stands_behind l (x ∷ xs) earlier h = let w = and_parts (leb l x.level) (are_deep l xs) h in stands_behind l xs (x ∷ earlier) w.1
     ∙ same_place l x earlier w.0
-
--- one level deeper a line stands where the header before tells
-stands_below : (l : ℕ) (f : Form) (earlier : List Line) → stands_in_match (suc l) (line l f ∷ earlier) ≡ is_match (kind_of f)
-stands_below l f earlier = ap (λ b. cond b (is_match (kind_of f)) (stands_in_match (suc l) earlier)) (lt-ltb l (suc l) (omega arith))
 
 -- outside of a `match` no line is a case
 outside_match : (p : Profile) (inside : Bool) (ts : List Terminal) → inside ≡ false → is_case_line p inside ts ≡ false
@@ -90,7 +87,7 @@ module _ (p : Profile) (n : Tests) where
   pub block_of : {l : ℕ} {inside : Bool} {h : Header} {xs : List Line} → Placed (suc l) (is_match (header_kind h)) xs → Led l inside h xs
   block_of {l} {inside} {h} {xs} f = record {
     deep = less_deep l xs f.deep;
-    given = λ earlier e. f.given (line l (header_form h None) ∷ earlier) (stands_below l (header_form h None) earlier);
+    given = λ earlier e. f.given (line l (header_form h None) ∷ earlier) (under l (header_form h None) earlier);
   }
 
   pub led_on : {l : ℕ} {inside : Bool} {h : Header} {xs ys : List Line} → Led l inside h xs → Placed l inside ys → Led l inside h (xs ++ ys)

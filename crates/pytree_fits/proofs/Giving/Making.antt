@@ -17,7 +17,7 @@ use Rattle.pytree_node.specs.declared.operators.Comparison.{Comparison}
 use Rattle.pytree_node.specs.declared.operators.Comparison.TheVariants as Is
 use Rattle.pytree_node.specs.declared.operators.Context.TheVariants.{Load, Store}
 use Rattle.pytree_node.specs.Trees
-use Rattle.pytree_node.specs.Trees.{Identifier, Expr, Exprs, no_exprs, an_expr, OptionalExpr, OptionalExprs, no_optional, an_optional}
+use Rattle.pytree_node.specs.Trees.{Identifier, Expr, Exprs, no_exprs, an_expr, OptionalExpr}
 use Rattle.pytree_node.specs.Trees.{absent, present, exprs}
 use Rattle.pytree_node.specs.Values
 use Rattle.pytoken.specs.Terminals.{Terminal, Op, Word, in_form, Number, Literal}

@@ -8,7 +8,7 @@ use Rattle.pylex_lexeme.specs.declared.kinds.Exact.TheVariants.{Colon, Equal, St
 use Rattle.pytoken.specs.declared.keywords.Keyword.TheVariants as Key
 use Rattle.pytree_node.specs.declared.operators.Context.TheVariants.{Load}
 use Rattle.pytree_node.specs.Trees
-use Rattle.pytree_node.specs.Trees.{Identifier, Expr, Exprs, no_exprs, OptionalExpr, OptionalExprs, absent, present, Arg, arg, Args, no_arg}
+use Rattle.pytree_node.specs.Trees.{Identifier, Expr, Exprs, no_exprs, OptionalExprs, absent, present, Arg, arg, Args, no_arg}
 use Rattle.pytree_node.specs.Trees.{an_arg, OptionalArg, absent_arg, present_arg, Arguments, arguments}
 use Rattle.pytoken.specs.Terminals.{Op, Word, in_form}
 use Rattle.pygrammar.specs.declared.levels.Level.{Level}

@@ -291,7 +291,8 @@ module _ (n : Tests) where
   listed_class {inner} {names} {named} cls c a o =
       let u = class_given n cls c in
       let w = listing a.pieces in
-      let q : class_of cls a.list ≡ Some (Trees.MatchClass cls inner names named) = rw (o, a.alone_are, a.names_are, a.patterns_are) refl in (
+      let q : class_of cls a.list ≡ Some (Trees.MatchClass cls inner names named) =
+      rw (o, a.alone_are, a.names_are, a.patterns_are) refl in (
         u.0 ++ (Op LPar ∷ (w.0 ++ (Op RPar ∷ []))),
         pass_on (outside n) u.0 (Op LPar ∷ (w.0 ++ (Op RPar ∷ []))) u.1
             (pass_on (outside n) w.0 (Op RPar ∷ []) w.1 refl),

@@ -1,7 +1,7 @@
 -- Carries: the laws of patterns. On: values, keys and classes of patterns that fit are given.
 use Rattle.std.proofs.Common.{◌≡◌, refl, sym, subst, ◌∙◌, ◌⊎◌, inl, inr, [], ◌∷◌, ◌++◌, Some, true, false}
 use Rattle.std.specs.Prelude.{not, ◌&&◌, ◌||◌}
-use Rattle.std.proofs.lemmas.Bool.{and_parts, and_from, or_cases}
+use Rattle.std.proofs.lemmas.Bool.{and_parts, and_from, or_cases, not-true}
 use Rattle.pylex_lexeme.specs.declared.kinds.Exact.TheVariants.{Dot, Plus, Minus}
 use Rattle.pytoken.specs.declared.keywords.Keyword.TheVariants as Key
 use Rattle.pytree_node.specs.declared.operators.Operator.{Operator}
@@ -26,7 +26,7 @@ use Rattle.pytree_fits.specs.PatternSlots.{is_sum, is_minus, number_fits, imagin
 use Rattle.pytree_fits.specs.PatternSlots.{is_attribute, starts_wild, class_fits, value_fits, is_singleton, singleton_fits, key_fits}
 use Rattle.pytree_fits.proofs.Fields.Standing.{outside}
 use Rattle.pytree_fits.proofs.Fields.AsSpelled.{Passed, GivenAsSpelled, pass_on, pass_in_front}
-use Rattle.pytree_fits.proofs.Fields.Tests.{parts3, parts4, never, not_true, in_context}
+use Rattle.pytree_fits.proofs.Fields.Tests.{parts3, parts4, never, in_context}
 use Rattle.pytree_fits.proofs.Giving.Places.{named_pass}
 use Rattle.pytree_fits.proofs.Giving.Gives.{joined_given}
 
@@ -45,12 +45,12 @@ module _ (n : Tests) where
   real_given : (e : Expr) → real_fits n e ≡ true → Real e
   real_given (Trees.Constant v) h =
       let w = parts3 (is_number v) (not (is_imaginary v)) (is_value n v) h in
-      record { value = v; real = not_true (is_imaginary v) w.1; given = (Number v ∷ [], one_number v w.0 w.2, G.unsigned) }
+      record { value = v; real = not-true (is_imaginary v) w.1; given = (Number v ∷ [], one_number v w.0 w.2, G.unsigned) }
   real_given (Trees.UnaryOp o (Trees.Constant v)) h =
       let w = parts4 (is_minus o) (is_number v) (not (is_imaginary v)) (is_value n v) h in
       record {
         value = v;
-        real = not_true (is_imaginary v) w.2;
+        real = not-true (is_imaginary v) w.2;
         given = minus o (Trees.Constant v) w.0 (
           Op Minus ∷ (Number v ∷ []),
           one_number v w.1 w.3,
@@ -154,7 +154,7 @@ module _ (n : Tests) where
       let w = and_parts (dotted_fits n e) (not (starts_wild e)) h in
       let r = dotted_given e w.0 in
       let u = r.given in
-      (u.0, u.1, G.class_name u.2 (sym r.starts ∙ not_true (starts_wild e) w.1))
+      (u.0, u.1, G.class_name u.2 (sym r.starts ∙ not-true (starts_wild e) w.1))
 
   attribute_given : (e : Expr) → is_attribute e ≡ true → class_fits n e ≡ true
       → GivenAsSpelled (outside n) (G.DerivesPattern ClosedPattern) (Trees.MatchValue e)

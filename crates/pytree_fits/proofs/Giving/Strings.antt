@@ -1,6 +1,6 @@
 -- Carries: the laws of the slots. On: f-strings of what is given are given.
 use Rattle.std.proofs.Common.{◌≡◌, refl, sym, ap, subst, ◌∙◌, inl, inr, ℕ, zero, suc, ◌-◌, arith, List, [], ◌∷◌, ◌++◌, Bool, true, false}
-use Rattle.std.proofs.Common.{◌&&◌}
+use Rattle.std.proofs.Common.{◌&&◌, append-nil}
 use Rattle.std.specs.Prelude.{leb, not, ◌||◌}
 use Rattle.std.proofs.lemmas.Bool.{and_parts, and_from, or_cases, leb-true}
 use Rattle.pylex_lexeme.specs.declared.kinds.Exact.TheVariants.{LPar, RPar}
@@ -11,12 +11,11 @@ use Rattle.pytree_node.specs.Values
 use Rattle.pytoken.specs.Terminals.{Terminal, Op, Literal, FormattedBegin, FormattedEnd, FormattedText, FieldBegin, SpecBegin, FieldEnd}
 use Rattle.pygrammar.specs.declared.levels.Level.TheVariants.{Named, Expression, Atom}
 use Rattle.pygrammar.specs.Forms.{is_whole}
-use Rattle.pygrammar.specs.OpenStrings.{Open}
 use Rattle.pygrammar.specs.FormattedStrings.{StringPart, Text, Field, with_text, merged, values_of, spec_values_of, begins_unicode}
 use Rattle.pygrammar.specs.FormattedStrings.{has_formatted}
 use Rattle.pygrammar.specs.Grammar as G
 use Rattle.pytree_fits.specs.Literals.{has_text, has_formatted_text}
-use Rattle.pytree_fits.specs.Slots.{is_kind, is_last, have_kind, are_apart, may_be_joined, each_value_fits, joined_fits}
+use Rattle.pytree_fits.specs.Slots.{is_kind, is_last, have_kind, may_be_joined}
 use Rattle.pytree_fits.proofs.Fields.Standing.{Standing, here, in_string}
 use Rattle.pytree_fits.proofs.Fields.AsSpelled.{Ends, GivenAsSpelled, pass_on, pass_past, pass_behind, pass_in_front}
 use Rattle.pytree_fits.proofs.Fields.Tests.{parts3}
@@ -141,10 +140,6 @@ pub record Joined (n : Standing) (es : Exprs) : Type 0 where
   pub formatted : has_formatted given.0 ≡ true
   pub values_are : values_of unicode (merged parts) ≡ es
 
-nothing_behind : {A : Type 0} (xs : List A) → xs ++ [] ≡ xs
-nothing_behind [] = refl
-nothing_behind (x ∷ xs) = ap (λ z. x ∷ z) (nothing_behind xs)
-
 no_text : (f : ℕ) → leb f 1 ≡ true → has_text f [] ≡ true
 no_text zero h = refl
 no_text (suc zero) h = refl
@@ -162,7 +157,7 @@ module _ (n : Standing) (es : Exprs) (stands : (is_whole (here n).extent && leb 
       )
 
   are : (u : Bool) (f : Formed (in_string n 0) u false false es) → values_of u (merged (f.parts ++ [])) ≡ es
-  are u f = ap (λ z. values_of u (merged z)) (nothing_behind f.parts) ∙ ap (values_of u) f.merged_are ∙ f.values_are
+  are u f = ap (λ z. values_of u (merged z)) (append-nil f.parts) ∙ ap (values_of u) f.merged_are ∙ f.values_are
 
   pub plain_joined : Formed (in_string n 0) false false false es → Joined n es
   unfolding alone

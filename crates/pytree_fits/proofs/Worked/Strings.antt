@@ -8,7 +8,7 @@ use Rattle.pytree_node.specs.declared.operators.Context.TheVariants.{Load}
 use Rattle.pytree_node.specs.declared.profiles.Extent.{Extent}
 use Rattle.pytree_node.specs.declared.profiles.Extent.TheVariants.{Plain, Whole}
 use Rattle.pytree_node.specs.Trees
-use Rattle.pytree_node.specs.Trees.{Expr, Exprs, no_exprs, an_expr, exprs, absent, present}
+use Rattle.pytree_node.specs.Trees.{Expr, exprs, absent, present}
 use Rattle.pytree_node.specs.Values.{Str, Bytes}
 use Rattle.pytoken.specs.Terminals.{Terminal, Op, Literal, in_form, FormattedBegin, FormattedEnd, FormattedText, FieldBegin, SpecBegin}
 use Rattle.pytoken.specs.Terminals.{FieldEnd}

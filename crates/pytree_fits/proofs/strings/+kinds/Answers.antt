@@ -1,7 +1,7 @@
-use Rattle.std.proofs.Common.{◌≡◌, ◌+◌, sym, ap, subst, ◌∙◌, map, length, true, Some}
+use Rattle.std.proofs.Common.{◌≡◌, ◌+◌, sym, ap, subst, ◌∙◌, map, length, true}
 use Rattle.std.specs.Prelude.{◌&&◌, ◌==◌}
-use Rattle.pytree_node.specs.TreeOf.{tree_of, boxed_of}
-use Rattle.pytree_node.specs.Trees.{exprs, optional, present}
+use Rattle.pytree_node.specs.TreeOf.{tree_of}
+use Rattle.pytree_node.specs.Trees.{exprs, present}
 use Rattle.pytree_fits.specs.Slots.{have_kind, spec_has_kind}
 use Rattle.pytree_fits.proofs.StringShapes.{any_kind, any_spec, joined_kind}
 use Rattle.pytree_fits.proofs.StringLoops.{kinds_stop, kinds_go_on}
