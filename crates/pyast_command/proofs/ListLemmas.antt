@@ -152,12 +152,12 @@ counts_up {mid = mid} {new = new} {count = count} limited somewhere c s is bound
     omega arith
 
 -- which step comes next
-pub next_in : {seen_mid seen_new : Seen} {mid new : Streamed} {step met : Step} {p : Parts} {k : ℕ} {more : List ℕ} {broken exact : Bool}
-    {count left : Option ℕ} {x y : Option (List ℕ)} {held : List ℕ}
+pub next_in : {seen_mid seen_new : Seen} {mid new : Streamed} {step met : Step} {p : Parts} {k : ℕ} {broken exact : Bool}
+    {count left : Option ℕ} {x y : Option (List ℕ)} {held : List ℕ} (more : List ℕ)
     (s : Next seen_mid seen_new mid new (Ok step)) → step ≡ met → Continues new.lines more broken
     → Stood mid p k (s.taken ++ more) broken exact count left x y held
     → slice_get (listing (in_characters p)) mid.shown.given ≡ Some met
-next_in {mid = mid} {p = p} {more = more} {broken = broken} s is f m =
+next_in {mid = mid} {p = p} {broken = broken} more s is f m =
     (rw is at s.steps p mid.shown.given more broken f m.stands).0
 
 -- where there is no memory, what is held is kept

@@ -85,13 +85,13 @@ returns-in-End-clause-holds g c =
     let stopped : c.loop-left.left ≢ Some 0 = c.is_reached.ensures.open c.loop-left-test.true in
     let s = c.in_ok-entry.ensures.steps in
     goes_on c.loop-left.invariant.came s (λ p more broken f m. ended_held stopped
-    (next_in s c.in-End.is f m) m)
+    (next_in more s c.in-End.is f m) m)
 
 pub returns-in-Fault-clause-holds : goal.returns-in-Fault-clause-holds
 returns-in-Fault-clause-holds g c =
     let stopped : c.loop-left.left ≢ Some 0 = c.is_reached.ensures.open c.loop-left-test.true in
     let s = c.in_ok-entry.ensures.steps in
-    rw c.from.ensures (goes_on c.loop-left.invariant.came s (λ p more broken f m. faulty_held stopped (next_in s c.in-Fault.is f m) m))
+    rw c.from.ensures (goes_on c.loop-left.invariant.came s (λ p more broken f m. faulty_held stopped (next_in more s c.in-Fault.is f m) m))
 
 pub returns-in_err-push_cursor-clause-holds : goal.returns-in_err-push_cursor-clause-holds
 returns-in_err-push_cursor-clause-holds g c =
