@@ -10,7 +10,7 @@ _pyast() {
   esac
   case $command in
     tokens) words='-e --count --resume -h --help' ;;
-    dump) words='--indent --bare --py312 --whole -h --help' ;;
+    dump) words='--indent --bare --attributes --py312 --whole -h --help' ;;
     unparse) words='--py312 --whole -h --help' ;;
     help) words='tokens dump unparse help' ;;
   esac

@@ -10,6 +10,7 @@ complete -c pyast -n '__fish_seen_subcommand_from tokens' -l count -x -d 'Stop a
 complete -c pyast -n '__fish_seen_subcommand_from tokens' -l resume -x -d 'Resume at a cursor of the same source'
 complete -c pyast -n '__fish_seen_subcommand_from dump' -l indent -x -d 'Put each field and each list element on its own line, indented by N spaces a level'
 complete -c pyast -n '__fish_seen_subcommand_from dump' -l bare -d 'Omit the names of fields'
+complete -c pyast -n '__fish_seen_subcommand_from dump' -l attributes -d 'Show where each node stands, by lines and by bytes within them'
 complete -c pyast -n '__fish_seen_subcommand_from dump unparse' -l py312 -d 'Read the forms of types of Python 3.12'
 complete -c pyast -n '__fish_seen_subcommand_from dump unparse' -l whole -d 'Read match statements, f-strings, floats, imaginary numbers and longer integers too'
 complete -c pyast -n '__fish_seen_subcommand_from help' -f -a 'tokens dump unparse help'

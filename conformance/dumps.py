@@ -1,7 +1,7 @@
 #!/usr/bin/env python3
 """Compares `pyast dump` with `ast.parse` and `ast.dump` of Python 3.11, byte for byte.
 
-    conformance/dumps.py [FOLDER ..] [--quick] [--mutate N] [--whole]
+    conformance/dumps.py [FOLDER ..] [--quick] [--mutate N] [--whole] [--attributes]
 
 Every .py file below the folders (by default that of Python's own library with its tests) is dumped in three styles: plain, with
 --indent 2 and with --bare. What pyast writes has to be what `ast.dump` gives, or both have to refuse the source. Where pyast refuses
@@ -10,6 +10,8 @@ out are such classes: there the fault has to be the first such form of the sourc
 one are compared as sources of their own: its statements, and those within statements that have one. Any other difference is a
 failure, shown by the smallest input that has it. With --whole it is `pyast dump --whole` that is compared, which leaves out no number, no `match`
 statement, and of f-strings only those with a string in a field that has a quote or a line end, and those with a `=` in a nested f-string.
+With --attributes each style is compared with the places of nodes; what stands in the fields of f-strings has its true places, which Python
+3.11 doesn't give, so that there the trees are compared, without those places.
 
 The exit status is 0 where every difference has a class, 1 where one has none, and 2 where nothing could be compared; with
 --or-skip it is 0 too where there is no Python 3.11.
@@ -17,6 +19,7 @@ The exit status is 0 where every difference has a class, 1 where one has none, a
 
 import ast
 import collections
+import copy
 import functools
 import io
 import random
@@ -127,6 +130,21 @@ def python_tree(data):
 def python_dump(tree, named):
     """What pyast has to write for a tree, in a style."""
     return ast.dump(tree, **named).encode("utf-8", "surrogatepass") + b"\n"
+
+
+def without_fields(tree):
+    """The dump of a tree with the places of all nodes but those in the fields of f-strings."""
+    for field in ast.walk(tree):
+        for node in ast.walk(field.value) if isinstance(field, ast.FormattedValue) else ():
+            for name in ("lineno", "col_offset", "end_lineno", "end_col_offset"):
+                node.__dict__.pop(name, None)
+    return ast.dump(tree, include_attributes=True)
+
+
+def same_but_fields(out, tree):
+    """Whether a dump with names and places is that of a tree, but for places in the fields of f-strings."""
+    shown = eval(out.decode("utf-8", "surrogatepass"), vars(ast).copy())  # pylint: disable=eval-used
+    return without_fields(shown) == without_fields(copy.deepcopy(tree))
 
 
 # --- what is left out -------------------------------------------------------------------------------------------------
@@ -246,6 +264,8 @@ def class_of_tree(program, data, tree, plain, styles):
         return None
     if [outcome.out for outcome in outs] == due:
         return SAME
+    if "include_attributes" in styles[next(iter(styles))] and has_fstring(data) and same_but_fields(plain.out, tree):
+        return SAME
     return NEWER if [as_escapes(outcome.out) for outcome in outs] == due else None
 
 
@@ -256,7 +276,7 @@ def by_first_margin(found):
 
 def class_of(program, data, styles=STYLES, joins=True):
     """The class of what both make of a source, in some styles of which the plain one is the first."""
-    return class_of_outcome(program, data, program_outcome(program, (), data), styles, joins)
+    return class_of_outcome(program, data, program_outcome(program, next(iter(styles)), data), styles, joins)
 
 
 def class_of_outcome(program, data, mine, styles=STYLES, joins=True):
@@ -462,7 +482,7 @@ def compare_all(options):
     """The results of all cases."""
     count, cases = all_cases(options)
     work = functools.partial(compare_case, options.program)
-    return results_of(work, count, cases, options.jobs, functools.partial(prepare, options.whole))
+    return results_of(work, count, cases, options.jobs, functools.partial(prepare, options.whole, getattr(options, "attributes", False)))
 
 
 def read_language(parser):
@@ -472,12 +492,14 @@ def read_language(parser):
     options.plain = options.program
     if options.whole:
         options.program = WITH_WHOLE + options.program
-    prepare(options.whole)
+    prepare(options.whole, getattr(options, "attributes", False))
     return options
 
 
-def prepare(whole=False):
+def prepare(whole=False, attributes=False):
     """What each process needs: no warnings of the sources, room for high trees, and what is left out."""
+    for words in list(STYLES) if attributes and () in STYLES else ():
+        STYLES[("--attributes", *words)] = STYLES.pop(words) | {"include_attributes": True}
     for reason in OF_WHOLE if whole else ():
         if reason in LEFT_OUT:
             name, _ = LEFT_OUT.pop(reason)
@@ -522,7 +544,9 @@ def compare(options):
 def main():
     """Finds what is needed, and compares."""
     go_on_with_python_311()
-    return compare(read_language(files_parser("Compares `pyast dump` with Python 3.11's ast.dump, byte for byte.")))
+    parser = files_parser("Compares `pyast dump` with Python 3.11's ast.dump, byte for byte.")
+    parser.add_argument("--attributes", action="store_true", help="compare with the places of nodes")
+    return compare(read_language(parser))
 
 
 if __name__ == "__main__":

@@ -184,7 +184,7 @@ reads_none profile seen_old seen_new input (Plain Memory) all h = all.unfailed
 reads_none profile seen_old seen_new input (Plain other) all h = absurd h
 
 -- where there is no module nothing is written
-pub none_written : (making : Making) (profile : Profile) (output : Module → List ℕ → Type 0) (seen_old seen_new : Seen)
+pub none_written : (making : Making) (profile : Profile) (output : List ℕ → Module → List ℕ → Type 0) (seen_old seen_new : Seen)
     (x : Option (List ℕ)) (fault : Fault)
     → ReadsNone profile seen_old seen_new fault → PerformsWhole making (Writes profile output) seen_old seen_new x x
     source_limit (Some fault)
@@ -195,20 +195,20 @@ none_written making profile output seen_old seen_new x (Plain Read) h = (h, Appe
 none_written making profile output seen_old seen_new x (Plain other) h = absurd h
 
 -- where a write fails a front of the output is, and else all of it
-module _ (making : Making) {profile : Profile} {output : Module → List ℕ → Type 0} {seen_old seen_new : Seen} {m : Module}
+module _ (making : Making) {profile : Profile} {output : List ℕ → Module → List ℕ → Type 0} {seen_old seen_new : Seen} {m : Module}
     (x y : Option (List ℕ)) (text : List ℕ) where
-  pub front_written : ReadsModule profile seen_old seen_new m → output m text → TakesFront x y text
+  pub front_written : (reads : ReadsModule profile seen_old seen_new m) → output reads.input m text → TakesFront x y text
       → PerformsWhole making (Writes profile output) seen_old seen_new x y source_limit (Some (Plain Write))
   front_written reads is front = (reads.input, text, reads.all, of_module reads.is is, front)
 
-  pub all_written : ReadsModule profile seen_old seen_new m → output m text → Appends x y text
+  pub all_written : (reads : ReadsModule profile seen_old seen_new m) → output reads.input m text → Appends x y text
       → PerformsWhole making (Writes profile output) seen_old seen_new x y source_limit None
   all_written reads is all = (reads.input, text, reads.all, of_module reads.is is, all)
 
 -- where memory ends while the output is made in pieces, a front of it is written
-pub pieces_cut : (profile : Profile) (output : Module → List ℕ → Type 0) (seen_old seen_new : Seen) (m : Module) (x y : Option (List ℕ))
+pub pieces_cut : (profile : Profile) (output : List ℕ → Module → List ℕ → Type 0) (seen_old seen_new : Seen) (m : Module) (x y : Option (List ℕ))
     (text : List ℕ) (fault : Fault)
-    → ReadsModule profile seen_old seen_new m → output m text → WritesFor text None x y (Some fault)
+    → (reads : ReadsModule profile seen_old seen_new m) → output reads.input m text → WritesFor text None x y (Some fault)
     → PerformsWhole in_pieces (Writes profile output) seen_old seen_new x y source_limit (Some fault)
 pieces_cut profile output seen_old seen_new m x y text (InSource code place) reads is h = cc
 pieces_cut profile output seen_old seen_new m x y text (Plain Read) reads is h = cc

@@ -7,6 +7,8 @@ use Rattle.pylex.specs.Listing.{in_characters}
 use Rattle.pytree_node.specs.declared.profiles.Profile.{Profile}
 use Rattle.pytree_node.specs.Trees.{Module}
 use Rattle.pygrammar.specs.Refusals.{Reason, Accepted, Refused}
+use Rattle.pyplaces.specs.PlacesOf.{PlacesOf}
+use Rattle.pyparse.specs.Placed.{PlacedAs}
 use Rattle.pyast_fault.specs.Faults.{of_source, of_reason}
 use Rattle.pyast_fault.specs.declared.fault.Fault.{Fault}
 
@@ -21,7 +23,14 @@ pub data IsRefused (profile : Profile) (bytes : List ℕ) : Fault → Type 0 whe
   no_source : {fault : SourceFault} → source_of bytes ≡ Err fault → IsRefused profile bytes (of_source fault)
   refused : {p : Parts} {r : Reason} → source_of bytes ≡ Ok p → Refused profile (in_characters p) r → IsRefused profile bytes (of_reason r)
 
--- What is written of bytes, and the fault that is told of them: of a module its output, by a relation; and nothing where they are refused.
-pub data Writes (profile : Profile) (IsOutput : Module → List ℕ → Type 0) (bytes : List ℕ) : List ℕ → Option Fault → Type 0 where
-  of_module : {m : Module} {output : List ℕ} → IsModule profile bytes m → IsOutput m output → Writes profile IsOutput bytes output None
+-- where the nodes stand of the module that bytes are as a source
+pub record HasPlaces (profile : Profile) (bytes : List ℕ) (m : Module) (p : PlacesOf) : Type 0 where
+  pub parts : Parts
+  pub source : source_of bytes ≡ Ok parts
+  pub placed : PlacedAs profile (in_characters parts) parts.text m p
+
+-- What is written of bytes, and the fault that is reported of them: of a module its output, by a relation; and nothing where they are
+-- refused.
+pub data Writes (profile : Profile) (IsOutput : List ℕ → Module → List ℕ → Type 0) (bytes : List ℕ) : List ℕ → Option Fault → Type 0 where
+  of_module : {m : Module} {output : List ℕ} → IsModule profile bytes m → IsOutput bytes m output → Writes profile IsOutput bytes output None
   of_none : {fault : Fault} → IsRefused profile bytes fault → Writes profile IsOutput bytes [] (Some fault)

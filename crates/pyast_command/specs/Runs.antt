@@ -118,7 +118,7 @@ PerformsWhole making does seen_old seen_new old new limit (Some (Plain code)) = 
 -- pieces.
 abbrev pub Does : Command → Seen → Seen → Option (List ℕ) → Option (List ℕ) → ℕ → Option Fault → Type 0
 Does (Tokens asked) = Performs (output_of asked) (fault_in asked)
-Does (Dump asked) = PerformsWhole in_pieces (Dumps asked.style)
+Does (Dump asked) = PerformsWhole in_pieces (Dumps asked.style asked.attributes)
 Does (Unparse asked) = PerformsWhole whole (Unparses asked.profile)
 
 -- the fault line of a run, empty where it ended well

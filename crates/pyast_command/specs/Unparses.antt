@@ -16,4 +16,4 @@ pub record IsTextOf (profile : Profile) (m : Module) (output : List ℕ) : Type 
 -- What `unparse` writes of bytes, and the fault that it tells of them: where they are a source that the grammar accepts, the text of its
 -- module.
 abbrev pub Unparses : Profile → List ℕ → List ℕ → Option Fault → Type 0
-Unparses profile = Writes profile (IsTextOf profile)
+Unparses profile = Writes profile (λ bytes. IsTextOf profile)

@@ -1,5 +1,6 @@
 //! The dump of a source, which is read whole.
-ghost use Rattle.std.specs.Prelude.{◌≡◌, ◌≢◌, ◌+◌, ◌-◌, ◌^◌, ◌<◌, ◌++◌, Some, None, codes};
+ghost use Rattle.std.specs.Prelude.{◌≡◌, ◌≢◌, ◌+◌, ◌-◌, ◌^◌, ◌<◌, ◌++◌, true, false, Some, None};
+ghost use Rattle.std.specs.Prelude.{codes};
 ghost use Rattle.std.specs.List.{concat};
 ghost use Rattle.pysource.specs.Limits.{source_limit};
 ghost use Rattle.pyast_fault.specs.declared.fault.Fault.{Fault};
@@ -7,11 +8,13 @@ ghost use Rattle.pyast_fault.specs.declared.fault.RunFaultCode.{RunFaultCode};
 ghost use Rattle.pyast_command.specs.Dumps.{Dumps};
 ghost use Rattle.pyast_command.specs.Runs.{ended_by, in_pieces, PerformsWhole, WritesFor};
 
-use crate::modules::{leave_to_exit, read_module};
+use crate::modules::{leave_to_exit, read_module, read_placed};
 use pyast_fault::Fault;
 use pyast_words::Dump;
+use pyplaces::PlacesLeft;
 use pysource::{ByteIn, ByteOut, write_all};
-use pytree_dump::Pieces;
+use pytree_dump::{PlacedPieces, Style};
+use pytree_marked::{NoPlaces, Places};
 use std::alloc::Global;
 
 /// How many bytes of text are held at least before they are written.
@@ -21,9 +24,9 @@ const ENOUGH: usize = 65_536;
 const ROOM: usize = 131_072;
 
 /// Writes the pieces of a dump, and a line feed: the text is never held whole.
-fn write_pieces<W: ByteOut>(
+fn write_pieces<P: Places + Drop, W: ByteOut>(
     alloc: Global,
-    mut pieces: Pieces<'_>,
+    mut pieces: PlacedPieces<'_, P>,
     writer: &mut W,
 ) -> Result<(), Fault>
     requires writer { (W.sent writer.old).failures < 2 ^ 64 - 1 }
@@ -45,6 +48,54 @@ fn write_pieces<W: ByteOut>(
     Ok(write_all(writer, held.as_bytes())?)
 }
 
+/// Writes the dump of what a reader gives, without places.
+fn write_bare<R: ByteIn, W: ByteOut>(
+    alloc: Global,
+    style: Style,
+    reader: &mut R,
+    writer: &mut W,
+) -> Result<(), Fault>
+    requires reader { (R.seen reader.old).failures < 2 ^ 64 - 1 }
+    requires writer { (W.sent writer.old).failures < 2 ^ 64 - 1 }
+    ensures performs { PerformsWhole in_pieces (Dumps style false)
+        (R.seen reader.old) (R.seen reader.new)
+        (W.sent writer.old).taken (W.sent writer.new).taken source_limit (ended_by result) }
+    ensures failed { ended_by result ≡ Some (Fault.Plain RunFaultCode.Write)
+        → (W.sent writer.new).failures ≡ (W.sent writer.old).failures + 1 }
+    ensures unfailed { ended_by result ≢ Some (Fault.Plain RunFaultCode.Write)
+        → (W.sent writer.new).failures ≡ (W.sent writer.old).failures }
+{
+    let module = read_module(alloc, style.profile, reader)?;
+    let pieces = PlacedPieces::new(alloc, &module, style, NoPlaces)?;
+    write_pieces(alloc, pieces, writer)?;
+    leave_to_exit(module);
+    Ok(())
+}
+
+/// Writes the dump of what a reader gives, with the places of its nodes.
+fn write_placed<R: ByteIn, W: ByteOut>(
+    alloc: Global,
+    style: Style,
+    reader: &mut R,
+    writer: &mut W,
+) -> Result<(), Fault>
+    requires reader { (R.seen reader.old).failures < 2 ^ 64 - 1 }
+    requires writer { (W.sent writer.old).failures < 2 ^ 64 - 1 }
+    ensures performs { PerformsWhole in_pieces (Dumps style true)
+        (R.seen reader.old) (R.seen reader.new)
+        (W.sent writer.old).taken (W.sent writer.new).taken source_limit (ended_by result) }
+    ensures failed { ended_by result ≡ Some (Fault.Plain RunFaultCode.Write)
+        → (W.sent writer.new).failures ≡ (W.sent writer.old).failures + 1 }
+    ensures unfailed { ended_by result ≢ Some (Fault.Plain RunFaultCode.Write)
+        → (W.sent writer.new).failures ≡ (W.sent writer.old).failures }
+{
+    let (module, places) = read_placed(alloc, style.profile, reader)?.into_parts();
+    let pieces = PlacedPieces::new(alloc, &module, style, PlacesLeft::new(&places))?;
+    write_pieces(alloc, pieces, writer)?;
+    leave_to_exit(module);
+    Ok(())
+}
+
 /// Writes the dump of what a reader gives, which is read whole and accepted before anything is
 /// written.
 pub(crate) fn write_dump<R: ByteIn, W: ByteOut>(
@@ -55,7 +106,7 @@ pub(crate) fn write_dump<R: ByteIn, W: ByteOut>(
 ) -> Result<(), Fault>
     requires reader { (R.seen reader.old).failures < 2 ^ 64 - 1 }
     requires writer { (W.sent writer.old).failures < 2 ^ 64 - 1 }
-    ensures performs { PerformsWhole in_pieces (Dumps asked.now.style)
+    ensures performs { PerformsWhole in_pieces (Dumps asked.now.style asked.now.attributes)
         (R.seen reader.old) (R.seen reader.new)
         (W.sent writer.old).taken (W.sent writer.new).taken source_limit (ended_by result) }
     ensures failed { ended_by result ≡ Some (Fault.Plain RunFaultCode.Write)
@@ -63,9 +114,9 @@ pub(crate) fn write_dump<R: ByteIn, W: ByteOut>(
     ensures unfailed { ended_by result ≢ Some (Fault.Plain RunFaultCode.Write)
         → (W.sent writer.new).failures ≡ (W.sent writer.old).failures }
 {
-    let module = read_module(alloc, asked.style.profile, reader)?;
-    let pieces = Pieces::new(alloc, &module, asked.style)?;
-    write_pieces(alloc, pieces, writer)?;
-    leave_to_exit(module);
-    Ok(())
+    if asked.attributes {
+        write_placed(alloc, asked.style, reader, writer)
+    } else {
+        write_bare(alloc, asked.style, reader, writer)
+    }
 }

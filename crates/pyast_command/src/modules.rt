@@ -7,12 +7,12 @@ ghost use Rattle.pylex.specs.Listing.{in_characters};
 ghost use Rattle.pytree_node.specs.TreeOf.{module_of};
 ghost use Rattle.pyunparse_text.specs.Modules.{module_text};
 ghost use Rattle.pyunparse.specs.RoundTrips.{GivesBack};
-ghost use Rattle.pyast_command.specs.Modules.{IsModule};
-ghost use Rattle.pyast_command.specs.Inner.Reading.{Refuses, ReadsModule, ReadsNone};
+ghost use Rattle.pyast_command.specs.Modules.{HasPlaces, IsModule};
+ghost use Rattle.pyast_command.specs.Inner.Reading.{Refuses, ReadsModule, ReadsNone, ReadsPlaced};
 
 use pyast_fault::Fault;
 use pylex::Lister;
-use pyparse::parse;
+use pyparse::{Placed, parse, parse_placed};
 use pysource::{ByteIn, Source, decode, read_all};
 use pytree_node::{Module, Profile};
 use std::alloc::Global;
@@ -37,6 +37,18 @@ fn accept(alloc: Global, bytes: &[u8], profile: Profile) -> Result<Module, Fault
     Ok(parse(alloc, &source, profile)?)
 }
 
+/// The module that bytes are as a source, and where its nodes stand.
+fn accept_placed(alloc: Global, bytes: &[u8], profile: Profile) -> Result<Placed, Fault>
+    requires { length bytes.now ≤ source_limit }
+    ensures is { IfOk result (λ p. IsModule profile bytes.now (module_of p.module)) }
+    ensures places { IfOk result (λ p. HasPlaces profile bytes.now (module_of p.module) p.places) }
+    ensures refused { IfErr result (Refuses profile bytes.now) }
+{
+    let source = decode(alloc, bytes)?;
+    know_listing(alloc, &source);
+    Ok(parse_placed(alloc, &source, profile)?)
+}
+
 /// The module of what a reader gives, which is read whole: a failed read comes before a fault of
 /// the source.
 pub(crate) fn read_module<R: ByteIn>(
@@ -53,6 +65,21 @@ pub(crate) fn read_module<R: ByteIn>(
 {
     let bytes = read_all(alloc, reader)?;
     accept(alloc, bytes.as_slice(), profile)
+}
+
+/// The same, with where its nodes stand.
+pub(crate) fn read_placed<R: ByteIn>(
+    alloc: Global,
+    profile: Profile,
+    reader: &mut R,
+) -> Result<Placed, Fault>
+    requires { (R.seen reader.old).failures < 2 ^ 64 - 1 }
+    ensures reads { IfOk result (λ p. ReadsPlaced profile (R.seen reader.old)
+        (R.seen reader.new) (module_of p.module) p.places) }
+    ensures none { IfErr result (ReadsNone profile (R.seen reader.old) (R.seen reader.new)) }
+{
+    let bytes = read_all(alloc, reader)?;
+    accept_placed(alloc, bytes.as_slice(), profile)
 }
 
 /// Leaves a module to the end of the process. A run is the last act of its program, and to free the

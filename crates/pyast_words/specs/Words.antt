@@ -64,11 +64,11 @@ tokens_shape = record (new_shape (codes "tokens")) {
       resume_rule ∷ file_rule ∷ [];
 }
 
--- `dump [--indent N] [--bare] [--py312] [--whole] [FILE]`
+-- `dump [--indent N] [--bare] [--attributes] [--py312] [--whole] [FILE]`
 abbrev pub dump_shape : Shape
 dump_shape = record (new_shape (codes "dump")) {
-  rules = number_rule (codes "indent") largest_indent ∷ flag_rule (codes "bare") ∷ flag_rule (codes "py312") ∷ flag_rule
-      (codes "whole") ∷ file_rule ∷ [];
+  rules = number_rule (codes "indent") largest_indent ∷ flag_rule (codes "bare") ∷ flag_rule (codes "attributes") ∷
+      flag_rule (codes "py312") ∷ flag_rule (codes "whole") ∷ file_rule ∷ [];
 }
 
 -- `unparse [--py312] [--whole] [FILE]`
@@ -112,10 +112,12 @@ pub record IsProfile (found : List Row) (profile : Profile) : Type 0 where
   pub newer : IsFlag (one_of (codes "py312") found) (version_has_types profile.version)
   pub whole : IsFlag (one_of (codes "whole") found) (is_whole profile.extent)
 
--- what was found for the arguments of `dump` is what is asked: the blanks of a level, whether names are left out, the profile, the file
+-- what was found for the arguments of `dump` is what is asked: the blanks of a level, whether names are left out, whether places are shown,
+-- the profile, the file
 pub record IsDump (found : List Row) (asked : Dump) : Type 0 where
   pub indent : IsNumber largest_indent (one_of (codes "indent") found) asked.style.indent
   pub bare : IsFlag (one_of (codes "bare") found) (not asked.style.names)
+  pub attributes : IsFlag (one_of (codes "attributes") found) asked.attributes
   pub profile : IsProfile found asked.style.profile
   pub file : option_map string_bytes asked.file ≡ first_of (codes "FILE") found
 

@@ -108,6 +108,8 @@ pub struct Dump {
     /// The version of Python by which the source is read, its extent, and how its tree is laid out,
     /// with at most 16 blanks a level.
     pub style: Style,
+    /// Whether the places of nodes are shown.
+    pub attributes: bool,
     /// The file of the source; the standard input if there is none.
     pub file: Option<String>,
 }
@@ -226,9 +228,11 @@ fn dump_form<'a>(alloc: Global) -> Result<clap::Command<'a>, AllocError>
     let lines =
         "Put each field and each list element on its own line, indented by N spaces a level";
     let bare = "Omit the names of fields";
+    let attributes = "Show where each node stands, by lines and by bytes within them";
     tree_form(alloc, "dump", "Dump the tree of a source")
         .arg(number_form(alloc, "indent", LARGEST_INDENT, lines))?
         .arg(flag_form(alloc, "bare", bare))?
+        .arg(flag_form(alloc, "attributes", attributes))?
         .arg(newer_form(alloc))?
         .arg(whole_form(alloc))?
         .arg(file_form(alloc))
@@ -403,8 +407,13 @@ fn dump_of(alloc: Global, matches: &ArgMatches<'_>) -> Result<Dump, UsageFault>
         names: !matches.get_flag("bare"),
         profile: profile_of(matches),
     };
+    let attributes = matches.get_flag("attributes");
     let file = file_of(alloc, matches)?;
-    Ok(Dump { style, file })
+    Ok(Dump {
+        style,
+        attributes,
+        file,
+    })
 }
 
 /// What the words after `unparse` ask for.

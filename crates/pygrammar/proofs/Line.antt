@@ -1,3 +1,4 @@
+pub mod Brackets
 pub mod Tools
 pub mod Imports
 pub mod Values

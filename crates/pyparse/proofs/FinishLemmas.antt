@@ -50,7 +50,7 @@ unread_high {profile} inside x high = elim (lines_are_lawful.decided profile ins
 
 -- ---- The end.
 
-all_lines : {profile : Profile} {s : Source} {k : ℕ} {end : Place} → Closes profile s k end → first_lines s k ≡ lines s
+pub all_lines : {profile : Profile} {s : Source} {k : ℕ} {end : Place} → Closes profile s k end → first_lines s k ≡ lines s
 all_lines {profile} {s} {k} closes = let all = closes.all in take_all k (lines s) (omega (arith, all))
 
 starts_at_end : {profile : Profile} {s : Source} {k : ℕ} {end : Place} → Closes profile s k end → StartsAt s k end

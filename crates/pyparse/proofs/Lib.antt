@@ -2,4 +2,6 @@ mod TokenListLemmas
 mod PlaceLemmas
 mod ProgressLemmas
 mod FinishLemmas
+mod PlacedLemmas
+mod PlacedEnds
 mod CaseLines

@@ -58,7 +58,7 @@ parted {A} (y ∷ xs) (suc k) x is =
       size = ap suc rest.size;
     }
 
-next_lines : (s : Source) (k : ℕ) (x : Tokens.Line) → slice_get (lines s) k ≡ Some x → first_lines s (k + 1) ≡ first_lines s k ++ x ∷ []
+pub next_lines : (s : Source) (k : ℕ) (x : Tokens.Line) → slice_get (lines s) k ≡ Some x → first_lines s (k + 1) ≡ first_lines s k ++ x ∷ []
 next_lines s k x stands =
     let one : k + 1 ≡ suc k = omega arith in
     ap (first_lines s) one ∙ (parted (lines s) k x stands).next

@@ -1,2 +1,4 @@
 pub mod Placing
 pub mod Progressing
+pub mod Reading
+pub mod PlacedLines

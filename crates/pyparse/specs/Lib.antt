@@ -3,6 +3,7 @@ pub mod Expressions
 pub mod Patterns
 pub mod Places
 pub mod Modules
+pub mod Placed
 pub mod Inner
 pub use Rattle.pyparse_tokens.specs.Answers
 pub use Rattle.pyparse_tokens.specs.LineReadings

@@ -1,10 +1,11 @@
 //! What is known of a source after some of its lines.
 
-ghost use Rattle.std.specs.Prelude.{◌≡◌, ◌+◌, ◌++◌, ◌∷◌, [], List, ℕ, IfOk, IfErr, OnOk};
+ghost use Rattle.std.specs.Prelude.{◌≡◌, ◌+◌, ◌++◌, ◌∷◌, [], List, ℕ, false, IfOk, IfErr, OnOk};
 ghost use Rattle.pylex.specs.Listing.{Source};
 ghost use Rattle.pytree_node.specs.declared.profiles.Profile.{Profile};
 ghost use Rattle.pytree_node.specs.TreeOf.{module_of};
 ghost use Rattle.pytoken.specs.Inner.Behind.{behind};
+ghost use Rattle.pygrammar.specs.Blocks.{Block};
 ghost use Rattle.pygrammar.specs.Lines.{Line, line};
 ghost use Rattle.pygrammar.specs.Refusals.{Accepted};
 ghost use Rattle.pygrammar.specs.FormOf.{form_of};
@@ -59,6 +60,9 @@ fn finish_sound(alloc: Global, blocks: Blocks, end: Place) -> Result<Module, Par
     ensures refused { (profile : Profile) (s : Source) (k : ℕ) (forms : List Line)
         (outline : Outline) → IsSound profile s k forms outline blocks → Closes profile s k end
         → IfErr result (Refuses profile s) }
+    ensures block { (profile : Profile) (s : Source) (k : ℕ) (forms : List Line)
+        (outline : Outline) → IsSound profile s k forms outline blocks
+        → IfOk result (λ m. Block 0 forms (module_of m).body) }
 {
     match blocks.finish(alloc) {
         Ok(body) => Ok(Module { body }),
@@ -219,6 +223,12 @@ impl Known {
         ensures refused { (profile : Profile) (s : Source) (k : ℕ) (forms : List Line)
             → IsKnown profile s k forms self → Closes profile s k end
             → IfErr result (Refuses profile s) }
+
+        // Of these forms, of which each line has one.
+        ensures block { (profile : Profile) (s : Source) (k : ℕ) (forms : List Line)
+            → IsKnown profile s k forms self
+            → IfOk result (λ m. Block 0 forms (module_of m).body) }
+        ensures read { IfOk result (λ m. is_unread self ≡ false) }
     {
         match self {
             Known::Sound { outline: _, blocks } => finish_sound(alloc, blocks, end),

@@ -3,7 +3,8 @@
 //!
 //! [`parse`] gives the tree of a source in a version of Python and an extent of the language, or
 //! the first reason why it has none ([`ParseFault`]). [`parse_expression`] gives the expression
-//! that some tokens are, [`parse_pattern`] the pattern.
+//! that some tokens are, [`parse_pattern`] the pattern. [`parse_placed`] gives the tree with where
+//! its nodes stand ([`Places`]).
 //!
 //! [`tokens_of`] gives the tokens of a source in one pass over its listing. [`LogicalLines`] gives
 //! its lines one after another, the tokens of each as terminals in one buffer. These are of
@@ -22,6 +23,7 @@ mod expressions;
 mod known;
 mod modules;
 mod patterns;
+mod placed;
 mod places;
 mod progress;
 mod token_lists;
@@ -29,7 +31,9 @@ mod token_lists;
 pub use expressions::parse_expression;
 pub use modules::parse;
 pub use patterns::parse_pattern;
+pub use placed::{Placed, parse_placed};
 pub use pyparse_tokens::{GrammarError, LogicalLines, ParseFault, Token, tokens_of};
+pub use pyplaces::{Places, PlacesLeft, Span, has_span, span_text};
 pub use pytoken::{
     Literal, LiteralText, NumberText, Terminal, TerminalFault, TextPiece, identifier_value,
     name_fault, name_value, number_value, push_terminals, string_fault, string_value, terminal_of,

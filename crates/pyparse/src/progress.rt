@@ -1,26 +1,31 @@
 //! The progress through the logical lines of a source: what is known of those so far, and where the
 //! next one stands.
 
-ghost use Rattle.std.specs.Prelude.{◌≡◌, ◌+◌, ◌&&◌, ℕ, Bool, false, not, IfOk, IfErr, OnOk};
+ghost use Rattle.std.specs.Prelude.{◌≡◌, ◌+◌, ◌++◌, ◌∷◌, [], ◌&&◌, ℕ, Bool, List, false, not};
+ghost use Rattle.std.specs.Prelude.{IfOk, IfErr, OnOk};
 ghost use Rattle.pylex.specs.Listing.{Source, in_characters};
 ghost use Rattle.pytree_node.specs.declared.profiles.Profile.{Profile};
 ghost use Rattle.pytree_node.specs.TreeOf.{module_of};
-ghost use Rattle.pytoken.specs.Tokens.{Line};
-ghost use Rattle.pygrammar.specs.Blocks.{is_match, kind_of};
+ghost use Rattle.pytoken.specs.Inner.Behind.{behind};
+ghost use Rattle.pytoken.specs.Tokens as tokens;
+ghost use Rattle.pygrammar.specs.Blocks.{Block, is_match, kind_of};
 ghost use Rattle.pygrammar.specs.Forms.{is_whole};
 ghost use Rattle.pygrammar.specs.FormOf.{form_of};
+ghost use Rattle.pygrammar.specs.Lines.{Line, line};
 ghost use Rattle.pygrammar.specs.Refusals.{terminals, is_left_out, Accepted, Unread};
 ghost use Rattle.pyparse_line.specs.Lines.{Refused};
 ghost use Rattle.pyparse_tokens.specs.LineReadings.{HoldsLine};
 ghost use Rattle.pyparse.specs.Modules.{code_of, Refuses};
-ghost use Rattle.pyparse.specs.Inner.Progressing.{is_unread, IsProgress, Closes};
+ghost use Rattle.pyparse.specs.Inner.Progressing.{is_unread, IsProgress, Closes, Comes};
+ghost use Rattle.pyparse.specs.Inner.Reading.{Holds, Reads};
 
 use crate::known::{Known, let_go};
 use crate::places::Places;
 use pygrammar::{Form, Header};
-use pyparse_line::read_line;
+use pyparse_line::{LineRead, read_line};
 use pyparse_nodes::Stop;
 use pyparse_tokens::{GrammarError, LogicalLines, ParseFault};
+use pyplaces::{Ignored, Recorder};
 use pysource::Place;
 use pytree_node::{Extent, Module, Profile};
 use std::alloc::{AllocError, Global};
@@ -38,7 +43,7 @@ fn is_left_out(profile: Profile, like_match: bool) -> bool
 
 /// The error of a line that has no form, by whether it looks like what the language leaves out.
 fn line_error(stop: Stop, left_out: bool) -> Result<GrammarError, AllocError>
-    ensures { (profile : Profile) (inside : Bool) (x : Line)
+    ensures { (profile : Profile) (inside : Bool) (x : tokens.Line)
         → Refused stop profile inside (terminals x) → left_out ≡ is_left_out profile x
         → IfOk result (λ e. Unread profile inside x (code_of e)) }
 {
@@ -73,7 +78,7 @@ pub(crate) struct Progress {
 impl Progress {
     /// Before the first line. It takes no memory.
     pub(crate) fn new(alloc: Global) -> Progress
-        ensures { (profile : Profile) (s : Source) → IsProgress profile s 0 result }
+        ensures { (profile : Profile) (s : Source) → Holds profile s 0 [] result }
     {
         Progress {
             known: Known::new(alloc),
@@ -81,37 +86,63 @@ impl Progress {
         }
     }
 
-    /// The next line, which is held, where all before it have a form: it is read at its place.
-    fn read(
+    /// Whether a line has no form. Nothing that follows is asked for one then.
+    pub(crate) fn is_unread(&self) -> bool
+        ensures { result ≡ is_unread self.now.known }
+    {
+        self.known.is_unread()
+    }
+
+    /// The form of the next line, which is held, at its place, where all before it have one. Where
+    /// it has none, that is known then. Where its nodes stand is recorded.
+    pub(crate) fn read<R: Recorder + Drop>(
         &mut self,
         alloc: Global,
         lines: &LogicalLines<'_>,
         profile: Profile,
-    ) -> Result<(), AllocError>
+        recorder: &mut R,
+    ) -> Result<Option<LineRead>, AllocError>
         requires { is_unread self.old.known ≡ false }
-        ensures { (k : ℕ) → HoldsLine (in_characters lines.now.source) k lines.now
-            → IsProgress profile (in_characters lines.now.source) k self.old
-            → OnOk result (IsProgress profile (in_characters lines.now.source) (k + 1) self.new) }
+        ensures { (k : ℕ) (forms : List Line) → HoldsLine (in_characters lines.now.source) k lines.now
+            → Holds profile (in_characters lines.now.source) k forms self.old
+            → IfOk result (Reads R.after R.recorded_count profile
+            (in_characters lines.now.source) k forms lines.now.level lines.now.start self.old self.new
+            recorder.old recorder.new) }
     {
-        let level = lines.level();
-        match read_line(alloc, lines.terminals(), profile, self.places.inside(level)) {
-            Ok(form) => {
-                match self.places.step(level, is_match(&form)) {
-                    Ok(()) => {}
-                    Err(error) => {
-                        let_go(form);
-                        return Err(error);
-                    }
-                }
-                self.known.place(alloc, level, form, lines.start())?;
-                Ok(())
-            }
+        let inside = self.places.inside(lines.level());
+        match read_line(alloc, lines.terminals(), profile, inside, recorder) {
+            Ok(read) => Ok(Some(read)),
             Err(stop) => {
                 let error = line_error(stop, is_left_out(profile, lines.is_match()))?;
                 self.known.refuse(error, lines.start());
-                Ok(())
+                Ok(None)
             }
         }
+    }
+
+    /// The next line, by its form, which was found at its place.
+    pub(crate) fn keep(
+        &mut self,
+        alloc: Global,
+        level: usize,
+        form: Form,
+        start: Place,
+    ) -> Result<(), AllocError>
+        ensures { (profile : Profile) (s : Source) (k : ℕ) (forms : List Line)
+            → Holds profile s k forms self.old
+            → Comes profile s k (behind [] forms) (line level (form_of form)) start
+            → OnOk result (Holds profile s (k + 1)
+            (forms ++ line level (form_of form) ∷ []) self.new) }
+    {
+        match self.places.step(level, is_match(&form)) {
+            Ok(()) => {}
+            Err(error) => {
+                let_go(form);
+                return Err(error);
+            }
+        }
+        self.known.place(alloc, level, form, start)?;
+        Ok(())
     }
 
     /// The next line, which is held. Where a line has no form, none after it is asked for one.
@@ -125,10 +156,16 @@ impl Progress {
             → IsProgress profile (in_characters lines.now.source) k self.old
             → OnOk result (IsProgress profile (in_characters lines.now.source) (k + 1) self.new) }
     {
-        if self.known.is_unread() {
+        if self.is_unread() {
             return Ok(());
         }
-        self.read(alloc, lines, profile)
+        match self.read(alloc, lines, profile, &mut Ignored)? {
+            Some(read) => {
+                self.keep(alloc, lines.level(), read.form, lines.start())?;
+                Ok(())
+            }
+            None => Ok(()),
+        }
     }
 
     /// The module, or the first refusal, after the last line: where the source ends.
@@ -137,6 +174,10 @@ impl Progress {
             → Closes profile s k end → IfOk result (λ m. Accepted profile s (module_of m)) }
         ensures refused { (profile : Profile) (s : Source) (k : ℕ) → IsProgress profile s k self
             → Closes profile s k end → IfErr result (Refuses profile s) }
+        ensures block { (profile : Profile) (s : Source) (k : ℕ) (forms : List Line)
+            → Holds profile s k forms self
+            → IfOk result (λ m. Block 0 forms (module_of m).body) }
+        ensures read { IfOk result (λ m. is_unread self.known ≡ false) }
     {
         let Progress { known, places: _ } = self;
         known.finish(alloc, end)

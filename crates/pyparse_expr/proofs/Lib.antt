@@ -6,3 +6,4 @@ mod Calls
 mod FormalParameters
 mod ForClauses
 mod Formatted
+mod Recorders

@@ -3,3 +3,6 @@ pub mod ListSteps
 pub mod SquareSteps
 pub mod PairSteps
 pub mod BraceSteps
+pub mod ListPlaces
+pub mod PairPlaces
+pub mod BracePlaces

@@ -8,3 +8,5 @@ pub mod AloneSteps
 pub mod Wholes
 pub mod ChainSteps
 pub mod PartSteps
+pub mod SlicePlaces
+pub mod PartPlaces

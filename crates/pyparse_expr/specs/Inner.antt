@@ -1,9 +1,17 @@
 pub mod Arguments
+pub mod Aside
 pub mod Chains
+pub mod Clauses
 pub mod FormalHeights
 pub mod Found
 pub mod Lists
 pub mod Pairs
+pub mod PlacedAtoms
+pub mod PlacedCalls
+pub mod PlacedLists
+pub mod PlacedOperations
+pub mod PlacedSignatures
+pub mod PlacedStrings
 pub mod Places
 pub mod Readings
 pub mod Signatures

@@ -1,3 +1,4 @@
 pub mod Inner
 pub mod Expressions
 pub mod Readings
+pub mod PlacedParts

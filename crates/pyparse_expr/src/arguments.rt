@@ -1,21 +1,28 @@
 //! The arguments of a call.
 
 ghost use Rattle.std.specs.Prelude.{◌≡◌, ◌+◌, ◌-◌, ◌++◌, ◌<◌, ◌≤◌, ◌∷◌, MatchResult, [], length};
-ghost use Rattle.std.specs.Prelude.{map, max, option_map, true};
+ghost use Rattle.std.specs.Prelude.{IfOk, List, map, max, option_map, true};
 ghost use Rattle.std.specs.Str.{chars};
 ghost use Rattle.unicode_normalization.specs.Forms.{nfkc};
 ghost use Rattle.pytree_node.specs.TreeOf.{keyword_of, tree_of};
 ghost use Rattle.pygrammar.specs.Capped.{cap};
 ghost use Rattle.pygrammar.specs.Entries as entries;
 ghost use Rattle.pygrammar.specs.Precedence as precedence;
+ghost use Rattle.pytoken.specs.Terminals as terminals;
 ghost use Rattle.pygrammar.specs.Reader as reader;
 ghost use Rattle.pyparse_nodes.specs.Answers.{Answered, Failed};
 ghost use Rattle.pyparse_expr.specs.Inner.Arguments as arguments;
 ghost use Rattle.pyparse_expr.specs.Inner.Arguments.{ActualAt, AddedAt, IsKindAt, arguments_of, entry_of};
 ghost use Rattle.pyparse_expr.specs.Inner.Arguments.{level_of, place_of, state_of};
+ghost use Rattle.pyparse_expr.specs.Inner.PlacedCalls.{ArgumentPlaced, ArgumentsKept};
+ghost use Rattle.pyparse_expr.specs.Inner.PlacedCalls.{ArgumentsPlaced, places_of};
 ghost use Rattle.pyparse_expr.specs.Inner.Readings.{inner_reads};
 ghost use Rattle.pyparse_expr.specs.Readings.{IsOpen};
-ghost use Rattle.pyparse_nodes.specs.Views.{seen};
+ghost use Rattle.pyparse_nodes.specs.Views.{Stands, seen};
+ghost use Rattle.pyplaces.specs.EntryPlaces as E;
+ghost use Rattle.pyplaces.specs.Recording.{Kept, Records};
+ghost use Rattle.pyplaces.specs.Placed.{Placed};
+ghost use Rattle.pyplaces.specs.Stretches.{Stretch, stretch};
 
 use crate::comprehensions::comps;
 use crate::depth::Depth;
@@ -27,6 +34,7 @@ use pyparse_nodes::{
     Actual, ArgumentForm, Read, Stop, is_op, lead_at, make_call, make_generator, make_starred,
     name_with, put, put_keyword, starts_comp,
 };
+use pyplaces::Recorder;
 use pytoken::Terminal;
 use std::alloc::Global;
 
@@ -203,74 +211,137 @@ fn kind_at<'a>(tokens: &[Terminal<'a>], at: usize) -> ArgumentForm<'a>
     }
 }
 
+/// Records an argument with a name, or of `**`, behind the nodes in it, which stand behind `from`
+/// others, and sets all of it aside.
+fn record_keyword<R: Recorder>(
+    at: usize,
+    next: usize,
+    from: usize,
+    recorder: &mut R,
+) -> Result<(), Stop>
+    ensures { MatchResult result
+        (λ _. (w : R) → (ps : List Stretch) → Records R.after w ps recorder.old
+        → from ≡ R.recorded_count w
+        → Kept R.after R.beside w [] (ps ++ (stretch at next ∷ [])) recorder.new)
+        (λ s. s ≡ Stop.Memory) }
+{
+    recorder.node(at, next)?;
+    recorder.set_aside(from)?;
+    Ok(())
+}
+
+/// Records an argument that stands at the terminals from `at` up to `next`, behind the nodes in it,
+/// which stand behind `from` others. One with a name is set aside.
+#[inline(always)]
+fn record_argument<R: Recorder>(
+    kind: ArgumentForm,
+    at: usize,
+    next: usize,
+    from: usize,
+    recorder: &mut R,
+) -> Result<(), Stop>
+    ensures { MatchResult result
+        (λ _. (w : R) → (ps : List Stretch) → Records R.after w ps recorder.old
+        → from ≡ R.recorded_count w
+        → Kept R.after R.beside w
+        (E.positional (places_of kind.entry ps (stretch at next) ∷ []))
+        (E.keywords (places_of kind.entry ps (stretch at next) ∷ [])) recorder.new)
+        (λ s. s ≡ Stop.Memory) }
+{
+    match kind {
+        ArgumentForm::Single => Ok(()),
+        ArgumentForm::Spread => {
+            recorder.node(at, next)?;
+            Ok(())
+        }
+        ArgumentForm::Doubled => record_keyword(at, next, from, recorder),
+        ArgumentForm::Keyed(_) => record_keyword(at, next, from, recorder),
+    }
+}
+
 /// The expression of an argument of this kind.
 #[cycle(reading)]
 #[inline(always)]
-fn read_argument(
+fn read_argument<R: Recorder>(
     alloc: Global,
     tokens: &[Terminal],
     kind: ArgumentForm,
     at: usize,
     depth: Depth,
+    recorder: &mut R,
 ) -> Result<Read, Stop>
     requires within { place_of kind at ≤ length tokens.now }
     requires open { IsOpen depth }
-    ensures { Answered tokens.now (depth.room - 1) (at + 1)
+    ensures answered { Answered tokens.now (depth.room - 1) (at + 1)
         (inner_reads depth (level_of kind.entry)
         (seen tokens.now (place_of kind.entry at))) result }
+    ensures placed { IfOk result (λ r. (ps : List Stretch) ×
+        Placed (level_of kind.entry) (seen tokens.now (place_of kind.entry at))
+        (place_of kind.entry at) (tree_of r.expr.value) (seen tokens.now r.next) r.next ps ×
+        Records R.after recorder.old ps recorder.new) }
 {
     match kind {
-        ArgumentForm::Single => read_named(alloc, tokens, at, depth.inner()),
-        ArgumentForm::Spread => read_expression(alloc, tokens, at + 1, depth.inner()),
-        ArgumentForm::Doubled => read_expression(alloc, tokens, at + 1, depth.inner()),
-        ArgumentForm::Keyed(_) => read_expression(alloc, tokens, at + 2, depth.inner()),
+        ArgumentForm::Single => read_named(alloc, tokens, at, depth.inner(), recorder),
+        ArgumentForm::Spread => read_expression(alloc, tokens, at + 1, depth.inner(), recorder),
+        ArgumentForm::Doubled => read_expression(alloc, tokens, at + 1, depth.inner(), recorder),
+        ArgumentForm::Keyed(_) => read_expression(alloc, tokens, at + 2, depth.inner(), recorder),
     }
 }
 
 /// One more argument.
 #[cycle(reading)]
-fn one_more(
+fn one_more<R: Recorder>(
     alloc: Global,
     tokens: &[Terminal],
     actual: Actual,
     depth: Depth,
+    recorder: &mut R,
 ) -> Result<Actual, Stop>
     requires within { actual.next ≤ length tokens.now }
     requires open { IsOpen depth }
     requires low { actual.height ≤ depth.room }
-    ensures { MatchResult result
+    ensures answered { MatchResult result
         (λ r. AddedAt tokens.now depth.room (actual.next + 1) (state_of actual)
         (reader.read_argument (inner_reads depth) (seen tokens.now actual.next)) r)
         (λ s. Failed s (reader.read_argument (inner_reads depth) (seen tokens.now actual.next))) }
+    ensures placed { IfOk result
+        (λ r. ArgumentPlaced R.after R.beside tokens.now actual.next (state_of actual) r
+        recorder.old recorder.new) }
 {
     let kind = kind_at(tokens, actual.next);
-    let e = read_argument(alloc, tokens, kind, actual.next, depth)?;
+    let from = recorder.recorded();
+    let e = read_argument(alloc, tokens, kind, actual.next, depth, recorder)?;
+    record_argument(kind, actual.next, e.next, from, recorder)?;
     add(alloc, actual, kind, e, depth.room)
 }
 
-/// Arguments with commas between them, after some that were read.
+/// Arguments with commas between them, after some that were read. Those with a name stay set aside.
 #[cycle(reading)]
 #[inline(never)]
-pub(crate) fn more_arguments(
+pub(crate) fn more_arguments<R: Recorder>(
     alloc: Global,
     tokens: &[Terminal],
     actual: Actual,
     depth: Depth,
+    recorder: &mut R,
 ) -> Result<Actual, Stop>
     requires within { actual.next ≤ length tokens.now }
     requires open { IsOpen depth }
     requires low { actual.height ≤ depth.room }
-    ensures { MatchResult result
+    ensures answered { MatchResult result
         (λ r. ActualAt tokens.now depth.room actual.next (state_of actual)
         (arguments_of depth [] (seen tokens.now actual.next)) r)
         (λ s. Failed s (arguments_of depth [] (seen tokens.now actual.next))) }
+    ensures placed { IfOk result
+        (λ r. ArgumentsKept R.after R.beside tokens.now actual.next (state_of actual) r
+        recorder.old recorder.new) }
 {
     let mut actual = actual;
     'more: loop {
         if !begins_argument(tokens, actual.next) {
             return Ok(actual);
         }
-        let grown = one_more(alloc, tokens, actual, depth)?;
+        let grown = one_more(alloc, tokens, actual, depth, recorder)?;
         if !is_op(tokens, grown.next, Exact::Comma) {
             return Ok(grown);
         }
@@ -280,35 +351,56 @@ pub(crate) fn more_arguments(
 }
 
 /// The arguments from a place on.
-pub(crate) fn arguments(
+pub(crate) fn arguments<R: Recorder>(
     alloc: Global,
     tokens: &[Terminal],
     at: usize,
     depth: Depth,
+    recorder: &mut R,
 ) -> Result<Actual, Stop>
     requires within { at ≤ length tokens.now }
     requires open { IsOpen depth }
-    ensures { MatchResult result
+    ensures answered { MatchResult result
         (λ r. ActualAt tokens.now depth.room at arguments.start
         (arguments_of depth [] (seen tokens.now at)) r)
         (λ s. Failed s (arguments_of depth [] (seen tokens.now at))) }
+    ensures placed { IfOk result
+        (λ r. ArgumentsPlaced R.after tokens.now at r recorder.old recorder.new) }
 {
-    more_arguments(alloc, tokens, none_at(alloc, at), depth)
+    let aside = recorder.aside();
+    let actual = more_arguments(alloc, tokens, none_at(alloc, at), depth, recorder)?;
+    recorder.take_back(aside)?;
+    Ok(actual)
 }
 
-/// The call of these arguments, after which its bracket has to stand.
+/// The call of these arguments, after which its bracket has to stand. Those with a name are set
+/// aside, behind `aside` other nodes.
 #[inline(always)]
-fn finish(
+fn finish<R: Recorder>(
     alloc: Global,
     tokens: &[Terminal],
     func: Read,
     actual: Actual,
+    at: usize,
+    aside: usize,
     room: usize,
+    recorder: &mut R,
 ) -> Result<Read, Stop>
     requires { actual.next ≤ length tokens.now }
-    ensures { Answered tokens.now room actual.next
+    ensures answered { Answered tokens.now room actual.next
         (cap room (arguments.finished (tree_of func.expr.value) (state_of actual)
         (seen tokens.now actual.next))) result }
+    ensures placed { Stands (terminals.Op Exact.LPar) tokens.now func.next
+        → (ps : List Stretch)
+        → Placed Level.Primary (seen tokens.now at) at (tree_of func.expr.value)
+        (seen tokens.now func.next) func.next ps
+        → (w : R) → aside ≡ R.aside_count w
+        → ArgumentsKept R.after R.beside tokens.now (func.next + 1) arguments.start actual w
+        recorder.old
+        → IfOk result (λ r. (qs : List Stretch) ×
+        Placed Level.Primary (seen tokens.now at) at (tree_of r.expr.value)
+        (seen tokens.now r.next) r.next (ps ++ qs) ×
+        Records R.after w qs recorder.new) }
 {
     if !is_op(tokens, actual.next, Exact::RPar) {
         return Err(Stop::NoForm);
@@ -317,6 +409,8 @@ fn finish(
         return Err(Stop::NoForm);
     }
     let next = actual.next + 1;
+    recorder.take_back(aside)?;
+    recorder.node(at, next)?;
     make_call(
         alloc,
         func.expr,
@@ -330,46 +424,75 @@ fn finish(
 
 /// A call with a first argument.
 #[cycle(reading)]
-fn call_from(
+fn call_from<R: Recorder>(
     alloc: Global,
     tokens: &[Terminal],
     func: Read,
     first: Actual,
+    at: usize,
+    aside: usize,
     depth: Depth,
+    recorder: &mut R,
 ) -> Result<Read, Stop>
     requires within { first.next ≤ length tokens.now }
     requires open { IsOpen depth }
     requires low { first.height ≤ depth.room }
-    ensures { Answered tokens.now depth.room first.next
+    ensures answered { Answered tokens.now depth.room first.next
         (cap depth.room
         (arguments.called_from depth (tree_of func.expr.value) (state_of first)
         (seen tokens.now first.next))) result }
+    ensures placed { Stands (terminals.Op Exact.LPar) tokens.now func.next
+        → (ps : List Stretch)
+        → Placed Level.Primary (seen tokens.now at) at (tree_of func.expr.value)
+        (seen tokens.now func.next) func.next ps
+        → (w : R) → aside ≡ R.aside_count w
+        → ArgumentPlaced R.after R.beside tokens.now (func.next + 1) arguments.start first w
+        recorder.old
+        → IfOk result (λ r. (qs : List Stretch) ×
+        Placed Level.Primary (seen tokens.now at) at (tree_of r.expr.value)
+        (seen tokens.now r.next) r.next (ps ++ qs) ×
+        Records R.after w qs recorder.new) }
 {
     if !is_op(tokens, first.next, Exact::Comma) {
-        return finish(alloc, tokens, func, first, depth.room);
+        return finish(alloc, tokens, func, first, at, aside, depth.room, recorder);
     }
     let next = first.next + 1;
-    let actual = more_arguments(alloc, tokens, moved(first, next), depth)?;
-    finish(alloc, tokens, func, actual, depth.room)
+    let actual = more_arguments(alloc, tokens, moved(first, next), depth, recorder)?;
+    finish(alloc, tokens, func, actual, at, aside, depth.room, recorder)
 }
 
 /// A call with a generator expression as its only argument, after the element.
 #[cycle(reading)]
 #[inline(never)]
-fn generator_call(
+fn generator_call<R: Recorder>(
     alloc: Global,
     tokens: &[Terminal],
     func: Read,
     elt: Read,
+    at: usize,
     depth: Depth,
+    recorder: &mut R,
 ) -> Result<Read, Stop>
     requires within { elt.next ≤ length tokens.now }
     requires open { IsOpen depth }
-    ensures { Answered tokens.now depth.room elt.next
+    ensures answered { Answered tokens.now depth.room elt.next
         (cap depth.room (reader.generator_call (inner_reads depth) (tree_of func.expr.value)
         (entries.Single (tree_of elt.expr.value)) (seen tokens.now elt.next))) result }
+    ensures placed { Stands (terminals.Op Exact.LPar) tokens.now func.next
+        → precedence.starts_comp (seen tokens.now elt.next) ≡ true
+        → (ps : List Stretch)
+        → Placed Level.Primary (seen tokens.now at) at (tree_of func.expr.value)
+        (seen tokens.now func.next) func.next ps
+        → (es : List Stretch)
+        → Placed Level.Named (seen tokens.now (func.next + 1)) (func.next + 1)
+        (tree_of elt.expr.value) (seen tokens.now elt.next) elt.next es
+        → (w : R) → Records R.after w es recorder.old
+        → IfOk result (λ r. (qs : List Stretch) ×
+        Placed Level.Primary (seen tokens.now at) at (tree_of r.expr.value)
+        (seen tokens.now r.next) r.next (ps ++ qs) ×
+        Records R.after w qs recorder.new) }
 {
-    let comps = comps(alloc, tokens, elt.next, depth)?;
+    let comps = comps(alloc, tokens, elt.next, depth, recorder)?;
     if !is_op(tokens, comps.next, Exact::RPar) {
         return Err(Stop::NoForm);
     }
@@ -377,6 +500,8 @@ fn generator_call(
     let height = elt.height.max(comps.height);
     let e = make_generator(alloc, elt.expr, comps.generators, height, next, depth.room)?;
     let items = first_items(alloc, e)?;
+    recorder.node(func.next, next)?;
+    recorder.node(at, next)?;
     make_call(
         alloc,
         func.expr,
@@ -391,32 +516,45 @@ fn generator_call(
 /// A call, from its bracket on.
 #[cycle(reading)]
 #[inline(never)]
-pub(crate) fn call_step(
+pub(crate) fn call_step<R: Recorder>(
     alloc: Global,
     tokens: &[Terminal],
     func: Read,
+    at: usize,
     depth: Depth,
+    recorder: &mut R,
 ) -> Result<Read, Stop>
     requires within { func.next < length tokens.now }
     requires open { IsOpen depth }
-    ensures { Answered tokens.now depth.room (func.next + 1)
+    ensures answered { Answered tokens.now depth.room (func.next + 1)
         (cap depth.room
         (reader.call_step (inner_reads depth) (tree_of func.expr.value)
         (seen tokens.now (func.next + 1)))) result }
+    ensures placed { Stands (terminals.Op Exact.LPar) tokens.now func.next
+        → (ps : List Stretch)
+        → Placed Level.Primary (seen tokens.now at) at (tree_of func.expr.value)
+        (seen tokens.now func.next) func.next ps
+        → IfOk result (λ r. (qs : List Stretch) ×
+        Placed Level.Primary (seen tokens.now at) at (tree_of r.expr.value)
+        (seen tokens.now r.next) r.next (ps ++ qs) ×
+        Records R.after recorder.old qs recorder.new) }
 {
-    let at = func.next + 1;
-    let none = none_at(alloc, at);
-    if !begins_argument(tokens, at) {
-        return finish(alloc, tokens, func, none, depth.room);
+    let begin = func.next + 1;
+    let aside = recorder.aside();
+    let none = none_at(alloc, begin);
+    if !begins_argument(tokens, begin) {
+        return finish(alloc, tokens, func, none, at, aside, depth.room, recorder);
     }
-    let kind = kind_at(tokens, at);
-    let e = read_argument(alloc, tokens, kind, at, depth)?;
+    let kind = kind_at(tokens, begin);
+    let from = recorder.recorded();
+    let e = read_argument(alloc, tokens, kind, begin, depth, recorder)?;
     if starts_comp(tokens, e.next) {
         return match kind {
-            ArgumentForm::Single => generator_call(alloc, tokens, func, e, depth),
+            ArgumentForm::Single => generator_call(alloc, tokens, func, e, at, depth, recorder),
             _ => Err(Stop::NoForm),
         };
     }
+    record_argument(kind, begin, e.next, from, recorder)?;
     let first = add(alloc, none, kind, e, depth.room)?;
-    call_from(alloc, tokens, func, first, depth)
+    call_from(alloc, tokens, func, first, at, aside, depth, recorder)
 }

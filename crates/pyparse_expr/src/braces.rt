@@ -1,7 +1,7 @@
 //! Sets and dictionaries.
 
-ghost use Rattle.std.specs.Prelude.{◌≡◌, ◌+◌, ◌++◌, ◌<◌, ◌≤◌, ◌∷◌, [], MatchResult, cond, length};
-ghost use Rattle.std.specs.Prelude.{max, true};
+ghost use Rattle.std.specs.Prelude.{◌≡◌, ◌+◌, ◌++◌, ◌<◌, ◌≤◌, ◌∷◌, [], List, IfOk, MatchResult};
+ghost use Rattle.std.specs.Prelude.{cond, length, max, true};
 ghost use Rattle.pytree_node.specs.TreeOf.{tree_of};
 ghost use Rattle.pytree_node.specs.Trees as plain;
 ghost use Rattle.pygrammar.specs.Capped.{cap};
@@ -9,10 +9,18 @@ ghost use Rattle.pygrammar.specs.Entries as entries;
 ghost use Rattle.pygrammar.specs.Precedence as precedence;
 ghost use Rattle.pygrammar.specs.Reader as reader;
 ghost use Rattle.pyparse_nodes.specs.Answers.{Answered, Failed};
+ghost use Rattle.pyparse_expr.specs.Inner.Aside.{Kept};
 ghost use Rattle.pyparse_expr.specs.Inner.Pairs.{PairAt, PairsAt, more_pairs_at, pair_of, pairs_of};
+ghost use Rattle.pyparse_expr.specs.Inner.PlacedLists.{PairPlaced, PairsPlaced};
 ghost use Rattle.pyparse_expr.specs.Inner.Readings.{inner_reads};
 ghost use Rattle.pyparse_expr.specs.Readings.{IsOpen};
-ghost use Rattle.pyparse_nodes.specs.Views.{seen};
+ghost use Rattle.pyparse_nodes.specs.Views.{Stands, seen};
+ghost use Rattle.pyplaces.specs.EntryPlaces as places;
+ghost use Rattle.pyplaces.specs.EntryPlaces.{EntryPlaces};
+ghost use Rattle.pyplaces.specs.Placed.{Placed, PlacedPiece};
+ghost use Rattle.pyplaces.specs.Recording.{Records};
+ghost use Rattle.pyplaces.specs.Stretches.{Stretch};
+ghost use Rattle.pytoken.specs.Terminals as terminals;
 
 use crate::climbing::climb;
 use crate::comprehensions::comps;
@@ -25,90 +33,125 @@ use pyparse_nodes::{
     Pair, Pairs, Read, Stop, is_op, lead_at, make_dict, make_dict_comp, make_set, make_set_comp,
     name_with, put, put_option, starts_comp,
 };
+use pyplaces::Recorder;
 use pytoken::Terminal;
 use std::alloc::Global;
 
-/// After a `{`.
+/// After a `{`, which stands at `from`.
 #[cycle(reading)]
-pub(crate) fn curly(
+pub(crate) fn curly<R: Recorder>(
     alloc: Global,
     tokens: &[Terminal],
+    from: usize,
     at: usize,
     depth: Depth,
+    recorder: &mut R,
 ) -> Result<Read, Stop>
     requires within { at ≤ length tokens.now }
     requires open { IsOpen depth }
-    ensures { Answered tokens.now depth.room (at + 1)
+    ensures answered { Answered tokens.now depth.room (at + 1)
         (cap depth.room (reader.curly (inner_reads depth) (seen tokens.now at))) result }
+    ensures placed { at ≡ from + 1 → IfOk result (λ r. (ps : List Stretch) ×
+        Placed Level.Atom (terminals.Op Exact.LBrace ∷ seen tokens.now at) from
+        (tree_of r.expr.value) (seen tokens.now r.next) r.next ps ×
+        Records R.after recorder.old ps recorder.new) }
 {
     if is_op(tokens, at, Exact::RBrace) {
-        return make_dict(
-            alloc,
-            Vec::new(alloc),
-            Vec::new(alloc),
-            0,
-            at + 1,
-            depth.room,
-        );
+        let next = at + 1;
+        recorder.node(from, next)?;
+        return make_dict(alloc, Vec::new(alloc), Vec::new(alloc), 0, next, depth.room);
     }
     if is_op(tokens, at, Exact::DoubleStar) {
-        let value = climb(alloc, tokens, Level::BitOr, at + 1, depth.inner())?;
-        return dict_from(alloc, tokens, doubled(value), depth);
+        let kept = recorder.aside();
+        let before = recorder.recorded();
+        let value = climb(alloc, tokens, Level::BitOr, at + 1, depth.inner(), recorder)?;
+        recorder.set_aside(before)?;
+        return dict_from(alloc, tokens, doubled(value), from, kept, depth, recorder);
     }
-    let first = read_elem(alloc, tokens, at, depth.inner())?;
+    let first = read_elem(alloc, tokens, at, depth.inner(), recorder)?;
     if is_op(tokens, first.next, Exact::Colon) {
         if is_op(tokens, at, Exact::Star) {
             return Err(Stop::NoForm);
         }
         return match name_with(tokens, at, Exact::ColonEqual) {
             Some(_) => Err(Stop::NoForm),
-            None => keyed(alloc, tokens, first, depth),
+            None => keyed(alloc, tokens, first, from, depth, recorder),
         };
     }
     if starts_comp(tokens, first.next) {
         return if is_op(tokens, at, Exact::Star) {
             Err(Stop::NoForm)
         } else {
-            set_comp(alloc, tokens, first, depth)
+            set_comp(alloc, tokens, first, from, depth, recorder)
         };
     }
-    set_from(alloc, tokens, first, depth)
+    set_from(alloc, tokens, first, from, depth, recorder)
 }
 
 /// A set, after its first element.
 #[cycle(reading)]
-fn set_from(alloc: Global, tokens: &[Terminal], first: Read, depth: Depth) -> Result<Read, Stop>
+fn set_from<R: Recorder>(
+    alloc: Global,
+    tokens: &[Terminal],
+    first: Read,
+    from: usize,
+    depth: Depth,
+    recorder: &mut R,
+) -> Result<Read, Stop>
     requires within { first.next ≤ length tokens.now }
     requires open { IsOpen depth }
     requires low { first.height ≤ depth.room }
-    ensures { Answered tokens.now depth.room first.next
+    ensures answered { Answered tokens.now depth.room first.next
         (cap depth.room
         (reader.and_then (reader.others_of (inner_reads depth) (entries.Of Level.Elem)
         (entries.Single (tree_of first.expr.value)) (seen tokens.now first.next))
         (λ es r. reader.closed Exact.RBrace r (plain.Set (entries.singles es))))) result }
+    ensures placed { (i : List terminals.Terminal) (ps : List Stretch)
+        → Placed Level.Elem i (from + 1) (tree_of first.expr.value) (seen tokens.now first.next)
+        first.next ps
+        → IfOk result (λ r. (qs : List Stretch) ×
+        Placed Level.Atom (terminals.Op Exact.LBrace ∷ i) from (tree_of r.expr.value)
+        (seen tokens.now r.next) r.next (ps ++ qs) × Records R.after recorder.old qs recorder.new) }
 {
-    let items = others(alloc, tokens, Item::Elem, first, depth)?;
+    let items = others(alloc, tokens, Item::Elem, first, depth, recorder)?;
     if !is_op(tokens, items.next, Exact::RBrace) {
         return Err(Stop::NoForm);
     }
-    make_set(alloc, items.exprs, items.height, items.next + 1, depth.room)
+    let next = items.next + 1;
+    recorder.node(from, next)?;
+    make_set(alloc, items.exprs, items.height, next, depth.room)
 }
 
 /// A set comprehension, after its element.
 #[cycle(reading)]
-fn set_comp(alloc: Global, tokens: &[Terminal], first: Read, depth: Depth) -> Result<Read, Stop>
+fn set_comp<R: Recorder>(
+    alloc: Global,
+    tokens: &[Terminal],
+    first: Read,
+    from: usize,
+    depth: Depth,
+    recorder: &mut R,
+) -> Result<Read, Stop>
     requires within { first.next ≤ length tokens.now }
     requires open { IsOpen depth }
-    ensures { Answered tokens.now depth.room first.next
+    ensures answered { Answered tokens.now depth.room first.next
         (cap depth.room
         (reader.comps_closed (inner_reads depth) Exact.RBrace (seen tokens.now first.next)
         (λ gs. plain.SetComp (tree_of first.expr.value) (plain.comprehensions gs)))) result }
+    ensures placed { (i : List terminals.Terminal) (ps : List Stretch)
+        → true ≡ precedence.starts_comp (seen tokens.now first.next)
+        → Placed Level.Named i (from + 1) (tree_of first.expr.value) (seen tokens.now first.next)
+        first.next ps
+        → IfOk result (λ r. (qs : List Stretch) ×
+        Placed Level.Atom (terminals.Op Exact.LBrace ∷ i) from (tree_of r.expr.value)
+        (seen tokens.now r.next) r.next (ps ++ qs) × Records R.after recorder.old qs recorder.new) }
 {
-    let comps = comps(alloc, tokens, first.next, depth)?;
+    let comps = comps(alloc, tokens, first.next, depth, recorder)?;
     if !is_op(tokens, comps.next, Exact::RBrace) {
         return Err(Stop::NoForm);
     }
     let next = comps.next + 1;
+    recorder.node(from, next)?;
     make_set_comp(
         alloc,
         first.expr,
@@ -121,11 +164,18 @@ fn set_comp(alloc: Global, tokens: &[Terminal], first: Read, depth: Depth) -> Re
 
 /// A dictionary or its comprehension, from the colon after the first key on.
 #[cycle(reading)]
-fn keyed(alloc: Global, tokens: &[Terminal], key: Read, depth: Depth) -> Result<Read, Stop>
+fn keyed<R: Recorder>(
+    alloc: Global,
+    tokens: &[Terminal],
+    key: Read,
+    from: usize,
+    depth: Depth,
+    recorder: &mut R,
+) -> Result<Read, Stop>
     requires within { key.next < length tokens.now }
     requires open { IsOpen depth }
     requires low { key.height ≤ depth.room }
-    ensures { Answered tokens.now depth.room key.next
+    ensures answered { Answered tokens.now depth.room key.next
         (cap depth.room
         (reader.and_then (inner_reads depth Level.Expression (seen tokens.now (key.next + 1)))
         (λ v r. cond (precedence.starts_comp r)
@@ -133,37 +183,69 @@ fn keyed(alloc: Global, tokens: &[Terminal], key: Read, depth: Depth) -> Result<
         (λ gs. plain.DictComp (tree_of key.expr.value) v (plain.comprehensions gs)))
         (reader.dict_from (inner_reads depth)
         (entries.Paired (tree_of key.expr.value) v) r)))) result }
+    ensures placed { (i : List terminals.Terminal) (ps : List Stretch)
+        → Placed Level.Expression i (from + 1) (tree_of key.expr.value) (seen tokens.now key.next)
+        key.next ps
+        → Stands (terminals.Op Exact.Colon) tokens.now key.next
+        → IfOk result (λ r. (qs : List Stretch) ×
+        Placed Level.Atom (terminals.Op Exact.LBrace ∷ i) from (tree_of r.expr.value)
+        (seen tokens.now r.next) r.next (ps ++ qs) × Records R.after recorder.old qs recorder.new) }
 {
-    let value = read_expression(alloc, tokens, key.next + 1, depth.inner())?;
+    let kept = recorder.aside();
+    let before = recorder.recorded();
+    let value = read_expression(alloc, tokens, key.next + 1, depth.inner(), recorder)?;
     if starts_comp(tokens, value.next) {
-        dict_comp(alloc, tokens, key, value, depth)
+        dict_comp(alloc, tokens, key, value, from, depth, recorder)
     } else {
-        dict_from(alloc, tokens, paired(key, value), depth)
+        recorder.set_aside(before)?;
+        dict_from(
+            alloc,
+            tokens,
+            paired(key, value),
+            from,
+            kept,
+            depth,
+            recorder,
+        )
     }
 }
 
 /// A dictionary's comprehension, after its value.
 #[cycle(reading)]
-fn dict_comp(
+fn dict_comp<R: Recorder>(
     alloc: Global,
     tokens: &[Terminal],
     key: Read,
     value: Read,
+    from: usize,
     depth: Depth,
+    recorder: &mut R,
 ) -> Result<Read, Stop>
     requires within { value.next ≤ length tokens.now }
     requires open { IsOpen depth }
-    ensures { Answered tokens.now depth.room value.next
+    ensures answered { Answered tokens.now depth.room value.next
         (cap depth.room
         (reader.comps_closed (inner_reads depth) Exact.RBrace (seen tokens.now value.next)
         (λ gs. plain.DictComp (tree_of key.expr.value) (tree_of value.expr.value)
         (plain.comprehensions gs)))) result }
+    ensures placed { (i : List terminals.Terminal) (ps vs : List Stretch)
+        → true ≡ precedence.starts_comp (seen tokens.now value.next)
+        → Placed Level.Expression i (from + 1) (tree_of key.expr.value) (seen tokens.now key.next)
+        key.next ps
+        → Stands (terminals.Op Exact.Colon) tokens.now key.next
+        → Placed Level.Expression (seen tokens.now (key.next + 1)) (key.next + 1)
+        (tree_of value.expr.value) (seen tokens.now value.next) value.next vs
+        → IfOk result (λ r. (qs : List Stretch) ×
+        Placed Level.Atom (terminals.Op Exact.LBrace ∷ i) from (tree_of r.expr.value)
+        (seen tokens.now r.next) r.next (ps ++ (vs ++ qs)) ×
+        Records R.after recorder.old qs recorder.new) }
 {
-    let comps = comps(alloc, tokens, value.next, depth)?;
+    let comps = comps(alloc, tokens, value.next, depth, recorder)?;
     if !is_op(tokens, comps.next, Exact::RBrace) {
         return Err(Stop::NoForm);
     }
     let next = comps.next + 1;
+    recorder.node(from, next)?;
     make_dict_comp(
         alloc,
         key.expr,
@@ -175,42 +257,70 @@ fn dict_comp(
     )
 }
 
-/// A dictionary, after its first pair.
+/// A dictionary, after its first pair, whose value is set aside: the values come behind all keys.
+/// `kept` others were set aside before it.
 #[cycle(reading)]
-fn dict_from(alloc: Global, tokens: &[Terminal], first: Pair, depth: Depth) -> Result<Read, Stop>
+fn dict_from<R: Recorder>(
+    alloc: Global,
+    tokens: &[Terminal],
+    first: Pair,
+    from: usize,
+    kept: usize,
+    depth: Depth,
+    recorder: &mut R,
+) -> Result<Read, Stop>
     requires within { first.next ≤ length tokens.now }
     requires open { IsOpen depth }
     requires low { first.height ≤ depth.room }
-    ensures { Answered tokens.now depth.room first.next
+    ensures answered { Answered tokens.now depth.room first.next
         (cap depth.room
         (reader.dict_from (inner_reads depth) (pair_of first)
         (seen tokens.now first.next))) result }
+    ensures placed { (i : List terminals.Terminal) (w : R) (p : EntryPlaces)
+        → PlacedPiece entries.Pair i (from + 1) (pair_of first) (seen tokens.now first.next)
+        first.next p
+        → kept ≡ R.aside_count w → Kept R.after R.beside w [] (places.values (p ∷ [])) recorder.old
+        → IfOk result (λ r. (qs : List Stretch) ×
+        Placed Level.Atom (terminals.Op Exact.LBrace ∷ i) from (tree_of r.expr.value)
+        (seen tokens.now r.next) r.next (places.keys (p ∷ []) ++ qs) ×
+        Records R.after w qs recorder.new) }
 {
     let one = first_pairs(alloc, first)?;
-    let pairs = more_pairs(alloc, tokens, one, depth)?;
+    let pairs = more_pairs(alloc, tokens, one, depth, recorder)?;
     if !is_op(tokens, pairs.next, Exact::RBrace) {
         return Err(Stop::NoForm);
     }
+    let next = pairs.next + 1;
+    recorder.take_back(kept)?;
+    recorder.node(from, next)?;
     make_dict(
         alloc,
         pairs.keys,
         pairs.values,
         pairs.height,
-        pairs.next + 1,
+        next,
         depth.room,
     )
 }
 
-/// Some pairs, with those after a comma, if one stands there.
+/// Some pairs, with those after a comma, if one stands there. Their values are set aside.
 #[cycle(reading)]
-fn more_pairs(alloc: Global, tokens: &[Terminal], pairs: Pairs, depth: Depth) -> Result<Pairs, Stop>
+fn more_pairs<R: Recorder>(
+    alloc: Global,
+    tokens: &[Terminal],
+    pairs: Pairs,
+    depth: Depth,
+    recorder: &mut R,
+) -> Result<Pairs, Stop>
     requires within { pairs.next ≤ length tokens.now }
     requires open { IsOpen depth }
     requires low { pairs.height ≤ depth.room }
-    ensures { MatchResult result
+    ensures answered { MatchResult result
         (λ r. PairsAt tokens.now depth.room pairs.next
         (more_pairs_at depth (pairs_of pairs) (seen tokens.now pairs.next)) r)
         (λ s. Failed s (more_pairs_at depth (pairs_of pairs) (seen tokens.now pairs.next))) }
+    ensures placed { IfOk result (λ r. PairsPlaced R.after R.beside tokens.now pairs r recorder.old
+        recorder.new) }
 {
     let mut pairs = pairs;
     'more: loop {
@@ -226,30 +336,42 @@ fn more_pairs(alloc: Global, tokens: &[Terminal], pairs: Pairs, depth: Depth) ->
                 next: at,
             });
         }
-        let pair = read_pair(alloc, tokens, at, depth)?;
+        let pair = read_pair(alloc, tokens, at, depth, recorder)?;
         pairs = put_pair(pairs, pair)?;
     }
 }
 
-/// A pair, or `**` and a value.
+/// A pair, or `**` and a value. The value is set aside.
 #[cycle(reading)]
-fn read_pair(alloc: Global, tokens: &[Terminal], at: usize, depth: Depth) -> Result<Pair, Stop>
+fn read_pair<R: Recorder>(
+    alloc: Global,
+    tokens: &[Terminal],
+    at: usize,
+    depth: Depth,
+    recorder: &mut R,
+) -> Result<Pair, Stop>
     requires within { at ≤ length tokens.now }
     requires open { IsOpen depth }
-    ensures { MatchResult result
+    ensures answered { MatchResult result
         (λ r. PairAt tokens.now depth.room (at + 1)
         (reader.read_pair (inner_reads depth) (seen tokens.now at)) r)
         (λ s. Failed s (reader.read_pair (inner_reads depth) (seen tokens.now at))) }
+    ensures placed { IfOk result (λ r. PairPlaced R.after R.beside tokens.now at r recorder.old
+        recorder.new) }
 {
     if is_op(tokens, at, Exact::DoubleStar) {
-        let value = climb(alloc, tokens, Level::BitOr, at + 1, depth.inner())?;
+        let before = recorder.recorded();
+        let value = climb(alloc, tokens, Level::BitOr, at + 1, depth.inner(), recorder)?;
+        recorder.set_aside(before)?;
         return Ok(doubled(value));
     }
-    let key = read_expression(alloc, tokens, at, depth.inner())?;
+    let key = read_expression(alloc, tokens, at, depth.inner(), recorder)?;
     if !is_op(tokens, key.next, Exact::Colon) {
         return Err(Stop::NoForm);
     }
-    let value = read_expression(alloc, tokens, key.next + 1, depth.inner())?;
+    let before = recorder.recorded();
+    let value = read_expression(alloc, tokens, key.next + 1, depth.inner(), recorder)?;
+    recorder.set_aside(before)?;
     Ok(paired(key, value))
 }
 

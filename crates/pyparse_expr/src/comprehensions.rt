@@ -1,7 +1,7 @@
 //! The clauses of comprehensions.
 
-ghost use Rattle.std.specs.Prelude.{◌≡◌, ◌+◌, ◌++◌, ◌≤◌, ◌∷◌, [], IfSome, MatchResult, length, map};
-ghost use Rattle.std.specs.Prelude.{option_map};
+ghost use Rattle.std.specs.Prelude.{◌≡◌, ◌+◌, ◌++◌, ◌≤◌, ◌∷◌, [], List, IfOk, IfSome};
+ghost use Rattle.std.specs.Prelude.{MatchOption, MatchResult, length, map, option_map};
 ghost use Rattle.pytree_node.specs.TreeOf.{comprehension_of, tree_of};
 ghost use Rattle.pytree_node.specs.Trees as plain;
 ghost use Rattle.pytoken.specs.Terminals as terminals;
@@ -9,11 +9,17 @@ ghost use Rattle.pygrammar.specs.Entries as entries;
 ghost use Rattle.pygrammar.specs.Reader as reader;
 ghost use Rattle.pygrammar.specs.Targets.{stored};
 ghost use Rattle.pyparse_nodes.specs.Answers.{Answered, Failed};
+ghost use Rattle.pyparse_expr.specs.Inner.Clauses.{IsCutStart, MadeClause, NoClause, NoStart, StartsAt};
 ghost use Rattle.pyparse_expr.specs.Inner.Found.{ClauseAt, ClausesAt, TestsAt};
-ghost use Rattle.pyparse_expr.specs.Inner.Lists.{items_of};
+ghost use Rattle.pyparse_expr.specs.Inner.Lists.{item_of, items_of};
+ghost use Rattle.pyparse_expr.specs.Inner.PlacedLists.{TuplePlaced};
 ghost use Rattle.pyparse_expr.specs.Inner.Readings.{inner_reads};
 ghost use Rattle.pyparse_expr.specs.Readings.{IsOpen};
 ghost use Rattle.pyparse_nodes.specs.Views.{Stands, seen};
+ghost use Rattle.pyplaces.specs.Placed.{Placed, PlacedForIn, PlacedIfs};
+ghost use Rattle.pyplaces.specs.Recording.{Records};
+ghost use Rattle.pyplaces.specs.Rests.{Clauses};
+ghost use Rattle.pyplaces.specs.Stretches.{Stretch};
 
 use crate::climbing::climb;
 use crate::depth::Depth;
@@ -25,68 +31,90 @@ use pyparse_nodes::{
     ForClause, ForClauses, Items, Read, Stop, append, is_op, is_word, make_starred, make_tuple,
     store,
 };
+use pyplaces::Recorder;
 use pytoken::{Keyword, Terminal};
 use pytree_node::{Comprehension, Context};
 use std::alloc::Global;
 
 /// A target item in front of `in`.
 #[cycle(reading)]
-pub(crate) fn target_item(
+pub(crate) fn target_item<R: Recorder>(
     alloc: Global,
     tokens: &[Terminal],
     at: usize,
     depth: Depth,
+    recorder: &mut R,
 ) -> Result<Read, Stop>
     requires within { at ≤ length tokens.now }
     requires open { IsOpen depth }
-    ensures { Answered tokens.now depth.room (at + 1)
+    ensures answered { Answered tokens.now depth.room (at + 1)
         (reader.target_item (inner_reads depth) (seen tokens.now at)) result }
+    ensures placed { IfOk result (λ r. (ps : List Stretch) ×
+        Placed Level.StarItem (seen tokens.now at) at (tree_of r.expr.value)
+        (seen tokens.now r.next) r.next ps × Records R.after recorder.old ps recorder.new) }
 {
     if is_op(tokens, at, Exact::Star) {
-        let e = read_primary(alloc, tokens, at + 1, depth.inner())?;
+        let e = read_primary(alloc, tokens, at + 1, depth.inner(), recorder)?;
+        recorder.node(at, e.next)?;
         make_starred(alloc, e, depth.room)
     } else {
-        read_primary(alloc, tokens, at, depth.inner())
+        read_primary(alloc, tokens, at, depth.inner(), recorder)
     }
 }
 
 /// A target in front of `in`. A tuple may be higher by one than there is room for: what it stands
 /// in is refused.
 #[cycle(reading)]
-pub(crate) fn read_target(
+pub(crate) fn read_target<R: Recorder>(
     alloc: Global,
     tokens: &[Terminal],
     at: usize,
     depth: Depth,
+    recorder: &mut R,
 ) -> Result<Read, Stop>
     requires within { at ≤ length tokens.now }
     requires open { IsOpen depth }
-    ensures { Answered tokens.now (depth.room + 1) (at + 1)
+    ensures answered { Answered tokens.now (depth.room + 1) (at + 1)
         (reader.read_target (inner_reads depth) (seen tokens.now at)) result }
+    ensures placed { IfOk result (λ r. (ps : List Stretch) ×
+        Placed Level.Stars (seen tokens.now at) at (tree_of r.expr.value)
+        (seen tokens.now r.next) r.next ps × Records R.after recorder.old ps recorder.new) }
 {
-    let first = target_item(alloc, tokens, at, depth)?;
+    let first = target_item(alloc, tokens, at, depth, recorder)?;
     if is_op(tokens, first.next, Exact::Comma) {
-        target_tuple(alloc, tokens, first, depth)
+        target_tuple(alloc, tokens, first, at, depth, recorder)
     } else {
         Ok(first)
     }
 }
 
-/// The tuple of target items, from the comma after the first on.
+/// The tuple of target items, the first of which begins at a place, from the comma after it on.
 #[cycle(reading)]
-fn target_tuple(alloc: Global, tokens: &[Terminal], first: Read, depth: Depth) -> Result<Read, Stop>
+fn target_tuple<R: Recorder>(
+    alloc: Global,
+    tokens: &[Terminal],
+    first: Read,
+    at: usize,
+    depth: Depth,
+    recorder: &mut R,
+) -> Result<Read, Stop>
     requires comma { Stands (terminals.Op Exact.Comma) tokens.now first.next }
     requires open { IsOpen depth }
     requires low { first.height ≤ depth.room }
-    ensures { Answered tokens.now (depth.room + 1) first.next
+    ensures answered { Answered tokens.now (depth.room + 1) first.next
         (reader.and_then (items_of depth Item.Target [] (seen tokens.now (first.next + 1)))
         (λ es r. reader.Found
         (plain.Tuple (plain.an_expr (tree_of first.expr.value)
         (entries.singles es)) Context.Load) r)) result }
+    ensures placed { IfOk result (λ r. TuplePlaced R.after tokens.now (item_of Item.Target) first at
+        r recorder.old recorder.new) }
 {
-    let items = others(alloc, tokens, Item::Target, first, depth)?;
+    let items = others(alloc, tokens, Item::Target, first, depth, recorder)?;
     match depth.room.checked_add(1) {
-        Some(room) => make_tuple(alloc, items.exprs, items.height, items.next, room),
+        Some(room) => {
+            recorder.node(at, items.next)?;
+            make_tuple(alloc, items.exprs, items.height, items.next, room)
+        }
         // No memory holds a tree of such a height.
         None => Err(Stop::Memory),
     }
@@ -94,50 +122,87 @@ fn target_tuple(alloc: Global, tokens: &[Terminal], first: Read, depth: Depth) -
 
 /// The conditions of a clause.
 #[cycle(reading)]
-fn ifs(alloc: Global, tokens: &[Terminal], at: usize, depth: Depth) -> Result<Items, Stop>
+fn ifs<R: Recorder>(
+    alloc: Global,
+    tokens: &[Terminal],
+    at: usize,
+    depth: Depth,
+    recorder: &mut R,
+) -> Result<Items, Stop>
     requires within { at ≤ length tokens.now }
     requires open { IsOpen depth }
-    ensures { MatchResult result
+    ensures answered { MatchResult result
         (λ r. TestsAt tokens.now at
         (reader.ifs_loop (inner_reads depth) (length (seen tokens.now at)) []
         (seen tokens.now at)) r)
         (λ s. Failed s
         (reader.ifs_loop (inner_reads depth) (length (seen tokens.now at)) []
         (seen tokens.now at))) }
+    ensures placed { IfOk result (λ r. (ps : List Stretch) ×
+        PlacedIfs (seen tokens.now at) at (map tree_of r.exprs.items) (seen tokens.now r.next)
+        r.next ps × Records R.after recorder.old ps recorder.new) }
 {
     let mut items = no_items(alloc, at);
     'tests: loop {
         if !is_word(tokens, items.next, Keyword::If) {
             return Ok(items);
         }
-        let e = climb(alloc, tokens, Level::Or, items.next + 1, depth.inner())?;
+        let e = climb(
+            alloc,
+            tokens,
+            Level::Or,
+            items.next + 1,
+            depth.inner(),
+            recorder,
+        )?;
         items = push(items, e)?;
     }
 }
 
 /// A clause, after its `for`.
 #[cycle(reading)]
-fn for_in(
+fn for_in<R: Recorder>(
     alloc: Global,
     tokens: &[Terminal],
     is_async: bool,
     at: usize,
     depth: Depth,
+    recorder: &mut R,
 ) -> Result<ForClause, Stop>
     requires within { at ≤ length tokens.now }
     requires open { IsOpen depth }
-    ensures { MatchResult result
+    ensures answered { MatchResult result
         (λ r. ClauseAt tokens.now (at + 1)
         (reader.for_in_step (inner_reads depth) is_async (seen tokens.now at)) r)
         (λ s. Failed s (reader.for_in_step (inner_reads depth) is_async (seen tokens.now at))) }
+    ensures placed { IfOk result (λ r. (ps : List Stretch) ×
+        PlacedForIn is_async (seen tokens.now at) at (comprehension_of r.generator)
+        (seen tokens.now r.next) r.next ps × Records R.after recorder.old ps recorder.new) }
 {
-    let target = read_target(alloc, tokens, at, depth)?;
+    let target = read_target(alloc, tokens, at, depth, recorder)?;
     if !is_word(tokens, target.next, Keyword::In) {
         return Err(Stop::NoForm);
     }
-    let iter = climb(alloc, tokens, Level::Or, target.next + 1, depth.inner())?;
-    let tests = ifs(alloc, tokens, iter.next, depth)?;
-    match clause_of(target, iter, tests, is_async) {
+    let iter = climb(
+        alloc,
+        tokens,
+        Level::Or,
+        target.next + 1,
+        depth.inner(),
+        recorder,
+    )?;
+    let tests = ifs(alloc, tokens, iter.next, depth, recorder)?;
+    clause_made(target, iter, tests, is_async)
+}
+
+/// A clause of these parts.
+#[inline(never)]
+fn clause_made(target: Read, iter: Read, ifs: Items, is_async: bool) -> Result<ForClause, Stop>
+    ensures { MatchResult result
+        (λ c. MadeClause target iter ifs is_async c)
+        (λ s. NoClause target iter ifs is_async s) }
+{
+    match clause_of(target, iter, ifs, is_async) {
         Some(clause) => Ok(clause),
         None => Err(Stop::NoForm),
     }
@@ -204,37 +269,67 @@ fn push_clause(clauses: ForClauses, clause: ForClause) -> Result<ForClauses, Sto
     })
 }
 
+/// Where a clause's target begins, and whether an `async` stands in front of its `for`.
+#[derive(Clone, Copy)]
+pub(crate) struct ClauseStart {
+    pub is_async: bool,
+    pub at: usize,
+}
+
+/// The start of a clause at the place, if one begins there.
+fn clause_start(tokens: &[Terminal], at: usize) -> Result<Option<ClauseStart>, Stop>
+    ensures { MatchResult result
+        (λ o. MatchOption o (NoStart tokens.now at) (λ s. StartsAt tokens.now at s))
+        (λ s. IsCutStart tokens.now at s) }
+{
+    if is_word(tokens, at, Keyword::For) {
+        return Ok(Some(ClauseStart {
+            is_async: false,
+            at: at + 1,
+        }));
+    }
+    if !is_word(tokens, at, Keyword::Async) {
+        return Ok(None);
+    }
+    if !is_word(tokens, at + 1, Keyword::For) {
+        return Err(Stop::NoForm);
+    }
+    Ok(Some(ClauseStart {
+        is_async: true,
+        at: at + 2,
+    }))
+}
+
 /// The clauses of a comprehension, one after another.
 #[cycle(reading)]
-pub(crate) fn comps(
+pub(crate) fn comps<R: Recorder>(
     alloc: Global,
     tokens: &[Terminal],
     at: usize,
     depth: Depth,
+    recorder: &mut R,
 ) -> Result<ForClauses, Stop>
     requires within { at ≤ length tokens.now }
     requires open { IsOpen depth }
-    ensures { MatchResult result
+    ensures answered { MatchResult result
         (λ r. ClausesAt tokens.now at
         (reader.comps_loop (inner_reads depth) (length (seen tokens.now at)) []
         (seen tokens.now at)) r)
         (λ s. Failed s
         (reader.comps_loop (inner_reads depth) (length (seen tokens.now at)) []
         (seen tokens.now at))) }
+    ensures placed { IfOk result (λ r. (ps : List Stretch) ×
+        Clauses (seen tokens.now at) at (map comprehension_of r.generators.items)
+        (seen tokens.now r.next) r.next ps × Records R.after recorder.old ps recorder.new) }
 {
     let mut clauses = no_clauses(alloc, at);
     'more: loop {
-        if is_word(tokens, clauses.next, Keyword::For) {
-            let clause = for_in(alloc, tokens, false, clauses.next + 1, depth)?;
-            clauses = push_clause(clauses, clause)?;
-        } else if is_word(tokens, clauses.next, Keyword::Async) {
-            if !is_word(tokens, clauses.next + 1, Keyword::For) {
-                return Err(Stop::NoForm);
+        match clause_start(tokens, clauses.next)? {
+            Some(start) => {
+                let clause = for_in(alloc, tokens, start.is_async, start.at, depth, recorder)?;
+                clauses = push_clause(clauses, clause)?;
             }
-            let clause = for_in(alloc, tokens, true, clauses.next + 2, depth)?;
-            clauses = push_clause(clauses, clause)?;
-        } else {
-            return Ok(clauses);
+            None => return Ok(clauses),
         }
     }
 }

@@ -1,24 +1,34 @@
 //! The parameters of a function, and `lambda`.
 
-ghost use Rattle.std.specs.Prelude.{◌≡◌, ◌+◌, ◌≤◌, ◌<◌, MatchResult, OnOk, [], cond, length, max, true};
+ghost use Rattle.std.specs.Prelude.{◌≡◌, ◌+◌, ◌≤◌, ◌<◌, ◌++◌, ◌∷◌, ℕ, MatchResult, IfOk, List, OnOk, [], cond};
+ghost use Rattle.std.specs.Prelude.{false, length, max, true};
 ghost use Rattle.std.specs.Str.{chars};
 ghost use Rattle.unicode_normalization.specs.Forms.{nfkc};
 ghost use Rattle.pytree_node.specs.TreeOf.{arg_of, boxed_of, tree_of};
 ghost use Rattle.pytree_node.specs.Trees as plain;
 ghost use Rattle.pytoken.specs.TerminalOf.{terminal};
+ghost use Rattle.pytoken.specs.Terminals as terminals;
 ghost use Rattle.pygrammar.specs.Capped.{cap};
 ghost use Rattle.pygrammar.specs.Entries as entries;
+ghost use Rattle.pygrammar.specs.Looks.{name_in};
 ghost use Rattle.pygrammar.specs.Precedence as precedence;
 ghost use Rattle.pygrammar.specs.Reader as reader;
 ghost use Rattle.pyparse_nodes.specs.Answers.{Answered, Failed};
 ghost use Rattle.pyparse_nodes.specs.FormalStates.{entry_of, state_of};
 ghost use Rattle.pyparse_nodes.specs.Formals as formals;
 ghost use Rattle.pyparse_expr.specs.Inner.Found.{OptionalAt};
+ghost use Rattle.pyparse_expr.specs.Inner.PlacedSignatures.{DefaultsBack, ParameterPlaced};
+ghost use Rattle.pyparse_expr.specs.Inner.PlacedSignatures.{SignaturePlaced, defaults_behind};
 ghost use Rattle.pyparse_expr.specs.Inner.Readings.{inner_reads};
 ghost use Rattle.pyparse_expr.specs.Readings.{IsOpen};
-ghost use Rattle.pyparse_expr.specs.Inner.Signatures.{ParameterAnswered, SignatureAt, collected_reads};
-ghost use Rattle.pyparse_expr.specs.Inner.Signatures.{gathered_reads, plain_reads};
-ghost use Rattle.pyparse_nodes.specs.Views.{seen};
+ghost use Rattle.pyparse_expr.specs.Inner.Signatures.{IsTall, MakesLambda, ParameterAnswered, SignatureAt};
+ghost use Rattle.pyparse_expr.specs.Inner.Signatures.{body_reads, collected_reads, gathered_reads, plain_reads};
+ghost use Rattle.pyparse_nodes.specs.Views.{Stands, first_is, seen};
+ghost use Rattle.pyplaces.specs.EntryPlaces as E;
+ghost use Rattle.pyplaces.specs.Placed.{Placed, PlacedPiece, PlacedSuffix};
+ghost use Rattle.pyplaces.specs.Recording.{Records};
+ghost use Rattle.pyplaces.specs.Rests.{StarSuffix};
+ghost use Rattle.pyplaces.specs.Stretches.{Stretch, stretch};
 
 use crate::climbing::climb;
 use crate::depth::Depth;
@@ -26,10 +36,11 @@ use crate::levels::read_expression;
 use pygrammar::Level;
 use pylex::Exact;
 use pyparse_nodes::{
-    Formal, Optional, Parameter, Read, Stop, arranged, identifier_of, is_op, make_lambda,
+    Formal, Optional, Parameter, Read, Stage, Stop, arranged, identifier_of, is_op, make_lambda,
     make_starred, name_at, terminal_at,
 };
-use pytoken::Terminal;
+use pyplaces::Recorder;
+use pytoken::{Keyword, Terminal};
 use pytree_node::{Arg, Expr};
 use std::alloc::Global;
 
@@ -125,23 +136,28 @@ fn annotation_sign(annotated: bool) -> Option<Exact>
 
 /// An Expression after a sign, if there is a sign and it stands here.
 #[cycle(reading)]
-pub(crate) fn suffixed(
+pub(crate) fn suffixed<R: Recorder>(
     alloc: Global,
     tokens: &[Terminal],
     sign: Option<Exact>,
     at: usize,
     depth: Depth,
+    recorder: &mut R,
 ) -> Result<Optional, Stop>
     requires within { at ≤ length tokens.now }
     requires open { IsOpen depth }
-    ensures { MatchResult result
+    ensures answered { MatchResult result
         (λ r. OptionalAt tokens.now depth.room at
         (reader.suffixed (inner_reads depth) sign (seen tokens.now at)) r)
         (λ s. Failed s (reader.suffixed (inner_reads depth) sign (seen tokens.now at))) }
+    ensures placed { IfOk result (λ r. (ps : List Stretch) ×
+        PlacedSuffix sign (seen tokens.now at) at (plain.optional (boxed_of r.expr))
+        (seen tokens.now r.next) r.next ps ×
+        Records R.after recorder.old ps recorder.new) }
 {
     match sign {
         Some(sign) => if is_op(tokens, at, sign) {
-            let e = read_expression(alloc, tokens, at + 1, depth.inner())?;
+            let e = read_expression(alloc, tokens, at + 1, depth.inner(), recorder)?;
             Ok(one_read(e))
         } else {
             Ok(none_read(at))
@@ -178,19 +194,24 @@ fn one_read(e: Read) -> Optional
 
 /// The annotation after `*` and a name, where there may be one.
 #[cycle(reading)]
-fn star_annotation(
+fn star_annotation<R: Recorder>(
     alloc: Global,
     tokens: &[Terminal],
     annotated: bool,
     at: usize,
     depth: Depth,
+    recorder: &mut R,
 ) -> Result<Optional, Stop>
     requires within { at ≤ length tokens.now }
     requires open { IsOpen depth }
-    ensures { MatchResult result
+    ensures answered { MatchResult result
         (λ r. OptionalAt tokens.now depth.room at
         (reader.star_annotated (inner_reads depth) annotated (seen tokens.now at)) r)
         (λ s. Failed s (reader.star_annotated (inner_reads depth) annotated (seen tokens.now at))) }
+    ensures placed { IfOk result (λ r. (ps : List Stretch) ×
+        StarSuffix annotated (seen tokens.now at) at (plain.optional (boxed_of r.expr))
+        (seen tokens.now r.next) r.next ps ×
+        Records R.after recorder.old ps recorder.new) }
 {
     if !annotated {
         return Ok(none_read(at));
@@ -199,31 +220,56 @@ fn star_annotation(
         return Ok(none_read(at));
     }
     if is_op(tokens, at + 1, Exact::Star) {
-        let e = climb(alloc, tokens, Level::BitOr, at + 2, depth.inner())?;
+        let e = climb(alloc, tokens, Level::BitOr, at + 2, depth.inner(), recorder)?;
+        recorder.node(at + 1, e.next)?;
         let starred = make_starred(alloc, e, depth.room)?;
         return Ok(one_read(starred));
     }
-    let e = read_expression(alloc, tokens, at + 1, depth.inner())?;
+    let e = read_expression(alloc, tokens, at + 1, depth.inner(), recorder)?;
     Ok(one_read(e))
 }
 
-/// A parameter with no star, after its name.
+/// A parameter with no star, after its name. Its default is set aside.
 #[cycle(reading)]
-fn plain_parameter(
+fn plain_parameter<R: Recorder>(
     alloc: Global,
     tokens: &[Terminal],
     annotated: bool,
     name: &str,
+    from: usize,
     at: usize,
     depth: Depth,
+    recorder: &mut R,
 ) -> Result<ReadParameter, Stop>
     requires within { at ≤ length tokens.now }
     requires open { IsOpen depth }
-    ensures { ParameterAnswered tokens.now depth.room at
+    ensures answered { ParameterAnswered tokens.now depth.room at
         (plain_reads depth annotated (nfkc (chars name.now)) (seen tokens.now at)) result }
+    ensures placed { at ≡ from + 1
+        → Some (nfkc (chars name.now)) ≡ first_is name_in (seen tokens.now from)
+        → (count : ℕ) → IfOk result
+        (λ r. ParameterPlaced R.after R.beside R.aside_count tokens.now annotated from count r
+        recorder.old recorder.new) }
 {
-    let annotation = suffixed(alloc, tokens, annotation_sign(annotated), at, depth)?;
-    let default = suffixed(alloc, tokens, Some(Exact::Equal), annotation.next, depth)?;
+    let annotation = suffixed(
+        alloc,
+        tokens,
+        annotation_sign(annotated),
+        at,
+        depth,
+        recorder,
+    )?;
+    recorder.node(from, annotation.next)?;
+    let recorded = recorder.recorded();
+    let default = suffixed(
+        alloc,
+        tokens,
+        Some(Exact::Equal),
+        annotation.next,
+        depth,
+        recorder,
+    )?;
+    recorder.set_aside(recorded)?;
     let arg = make_arg(alloc, name, annotation.expr)?;
     Ok(ReadParameter {
         parameter: Parameter::Plain(arg, default.expr),
@@ -234,20 +280,29 @@ fn plain_parameter(
 
 /// A parameter after `*` and its name.
 #[cycle(reading)]
-fn gathered_parameter(
+fn gathered_parameter<R: Recorder>(
     alloc: Global,
     tokens: &[Terminal],
     annotated: bool,
     name: &str,
+    from: usize,
     at: usize,
     depth: Depth,
+    recorder: &mut R,
 ) -> Result<ReadParameter, Stop>
     requires within { at ≤ length tokens.now }
     requires open { IsOpen depth }
-    ensures { ParameterAnswered tokens.now depth.room at
+    ensures answered { ParameterAnswered tokens.now depth.room at
         (gathered_reads depth annotated (nfkc (chars name.now)) (seen tokens.now at)) result }
+    ensures placed { at ≡ from + 1
+        → Some (nfkc (chars name.now)) ≡ first_is name_in (seen tokens.now from)
+        → (star : ℕ) → from ≡ star + 1 → Stands (terminals.Op Exact.Star) tokens.now star
+        → (count : ℕ) → IfOk result
+        (λ r. ParameterPlaced R.after R.beside R.aside_count tokens.now annotated star count r
+        recorder.old recorder.new) }
 {
-    let annotation = star_annotation(alloc, tokens, annotated, at, depth)?;
+    let annotation = star_annotation(alloc, tokens, annotated, at, depth, recorder)?;
+    recorder.node(from, annotation.next)?;
     let arg = make_arg(alloc, name, annotation.expr)?;
     Ok(ReadParameter {
         parameter: Parameter::Gathered(arg),
@@ -258,20 +313,37 @@ fn gathered_parameter(
 
 /// A parameter after `**` and its name.
 #[cycle(reading)]
-fn collected_parameter(
+fn collected_parameter<R: Recorder>(
     alloc: Global,
     tokens: &[Terminal],
     annotated: bool,
     name: &str,
+    from: usize,
     at: usize,
     depth: Depth,
+    recorder: &mut R,
 ) -> Result<ReadParameter, Stop>
     requires within { at ≤ length tokens.now }
     requires open { IsOpen depth }
-    ensures { ParameterAnswered tokens.now depth.room at
+    ensures answered { ParameterAnswered tokens.now depth.room at
         (collected_reads depth annotated (nfkc (chars name.now)) (seen tokens.now at)) result }
+    ensures placed { at ≡ from + 1
+        → Some (nfkc (chars name.now)) ≡ first_is name_in (seen tokens.now from)
+        → (star : ℕ) → from ≡ star + 1 → Stands (terminals.Op Exact.DoubleStar) tokens.now star
+        → IfOk result (λ r. (ps : List Stretch) ×
+        PlacedPiece (entries.Parameter annotated) (seen tokens.now star) star
+        (entry_of r.parameter) (seen tokens.now r.next) r.next (E.Collected ps) ×
+        Records R.after recorder.old ps recorder.new) }
 {
-    let annotation = suffixed(alloc, tokens, annotation_sign(annotated), at, depth)?;
+    let annotation = suffixed(
+        alloc,
+        tokens,
+        annotation_sign(annotated),
+        at,
+        depth,
+        recorder,
+    )?;
+    recorder.node(from, annotation.next)?;
     let arg = make_arg(alloc, name, annotation.expr)?;
     Ok(ReadParameter {
         parameter: Parameter::Collected(arg),
@@ -280,27 +352,42 @@ fn collected_parameter(
     })
 }
 
-/// A parameter, or a sign between parameters.
+/// A parameter, or a sign between parameters. In front of a `**` the defaults are taken back that are
+/// set aside behind `count` other nodes: those of keyword-only parameters.
 #[cycle(reading)]
 #[inline(never)]
-fn read_parameter(
+fn read_parameter<R: Recorder>(
     alloc: Global,
     tokens: &[Terminal],
     annotated: bool,
     at: usize,
+    count: usize,
     depth: Depth,
+    recorder: &mut R,
 ) -> Result<ReadParameter, Stop>
     requires within { at < length tokens.now }
     requires open { IsOpen depth }
-    ensures { ParameterAnswered tokens.now depth.room (at + 1)
+    ensures answered { ParameterAnswered tokens.now depth.room (at + 1)
         (reader.read_parameter (inner_reads depth) annotated (seen tokens.now at)) result }
+    ensures placed { IfOk result
+        (λ r. ParameterPlaced R.after R.beside R.aside_count tokens.now annotated at count r
+        recorder.old recorder.new) }
 {
     if let Some(name) = name_at(tokens, at) {
-        return plain_parameter(alloc, tokens, annotated, name, at + 1, depth);
+        return plain_parameter(alloc, tokens, annotated, name, at, at + 1, depth, recorder);
     }
     if is_op(tokens, at, Exact::Star) {
         return match name_at(tokens, at + 1) {
-            Some(name) => gathered_parameter(alloc, tokens, annotated, name, at + 2, depth),
+            Some(name) => gathered_parameter(
+                alloc,
+                tokens,
+                annotated,
+                name,
+                at + 1,
+                at + 2,
+                depth,
+                recorder,
+            ),
             None => Ok(ReadParameter {
                 parameter: Parameter::Bare,
                 height: 0,
@@ -310,7 +397,19 @@ fn read_parameter(
     }
     if is_op(tokens, at, Exact::DoubleStar) {
         return match name_at(tokens, at + 1) {
-            Some(name) => collected_parameter(alloc, tokens, annotated, name, at + 2, depth),
+            Some(name) => {
+                recorder.take_back(count)?;
+                collected_parameter(
+                    alloc,
+                    tokens,
+                    annotated,
+                    name,
+                    at + 1,
+                    at + 2,
+                    depth,
+                    recorder,
+                )
+            }
             None => Err(Stop::NoForm),
         };
     }
@@ -324,57 +423,149 @@ fn read_parameter(
     Err(Stop::NoForm)
 }
 
+/// How many nodes are set aside up to the last default in front of a star, behind a parameter more.
+#[inline(always)]
+fn count_defaults<R: Recorder>(stage: Stage, count: usize, recorder: &R) -> usize
+    ensures { result ≡ defaults_behind stage count (R.aside_count recorder.now) }
+{
+    match stage {
+        Stage::Open => recorder.aside(),
+        Stage::Closed => recorder.aside(),
+        _ => count,
+    }
+}
+
+/// Takes the defaults of keyword-only parameters back, which are set aside behind `count` nodes, and
+/// then those in front of the star, which are behind `aside`.
+#[inline(always)]
+fn take_defaults_back<R: Recorder>(count: usize, aside: usize, recorder: &mut R) -> Result<(), Stop>
+    ensures { MatchResult result
+        (λ _. DefaultsBack R.after R.beside R.aside_count count aside recorder.old recorder.new)
+        (λ s. s ≡ Stop.Memory) }
+{
+    recorder.take_back(count)?;
+    recorder.take_back(aside)?;
+    Ok(())
+}
+
 /// Parameters with commas between them, with annotations or without.
 #[cycle(reading)]
 #[inline(never)]
-pub(crate) fn parameters(
+pub(crate) fn parameters<R: Recorder>(
     alloc: Global,
     tokens: &[Terminal],
     annotated: bool,
     at: usize,
     depth: Depth,
+    recorder: &mut R,
 ) -> Result<Signature, Stop>
     requires within { at ≤ length tokens.now }
     requires open { IsOpen depth }
-    ensures { MatchResult result
+    ensures answered { MatchResult result
         (λ r. SignatureAt tokens.now depth.room at
         (reader.listing_of (inner_reads depth) (entries.Parameter annotated) []
         (seen tokens.now at)) r)
         (λ s. Failed s
         (reader.listing_of (inner_reads depth) (entries.Parameter annotated) []
         (seen tokens.now at))) }
+    ensures placed { IfOk result
+        (λ r. SignaturePlaced R.after tokens.now annotated at r recorder.old recorder.new) }
 {
+    let aside = recorder.aside();
+    let mut count = aside;
     let mut signature = no_parameters(alloc, at);
     'more: while starts_parameter(tokens, signature.next) {
-        let one = read_parameter(alloc, tokens, annotated, signature.next, depth)?;
+        let one = read_parameter(
+            alloc,
+            tokens,
+            annotated,
+            signature.next,
+            count,
+            depth,
+            recorder,
+        )?;
         put_parameter(&mut signature, one)?;
+        count = count_defaults(signature.formal.stage, count, recorder);
         if !is_op(tokens, signature.next, Exact::Comma) {
+            take_defaults_back(count, aside, recorder)?;
             return Ok(signature);
         }
         signature.next += 1;
     }
+    take_defaults_back(count, aside, recorder)?;
     Ok(signature)
 }
 
 /// After a `lambda`.
 #[cycle(reading)]
 #[inline(never)]
-pub(crate) fn lambda_step(
+pub(crate) fn lambda_step<R: Recorder>(
     alloc: Global,
     tokens: &[Terminal],
+    from: usize,
     at: usize,
     depth: Depth,
+    recorder: &mut R,
 ) -> Result<Read, Stop>
     requires within { at ≤ length tokens.now }
     requires open { IsOpen depth }
-    ensures { Answered tokens.now depth.room (at + 1)
+    ensures answered { Answered tokens.now depth.room (at + 1)
         (cap depth.room (reader.lambda_step (inner_reads depth) (seen tokens.now at))) result }
+    ensures placed { at ≡ from + 1 → IfOk result (λ r. (ps : List Stretch) ×
+        Placed Level.Expression (terminals.Word Keyword.Lambda ∷ seen tokens.now at) from
+        (tree_of r.expr.value) (seen tokens.now r.next) r.next ps ×
+        Records R.after recorder.old ps recorder.new) }
 {
-    let signature = parameters(alloc, tokens, false, at, depth)?;
+    let signature = parameters(alloc, tokens, false, at, depth, recorder)?;
+    lambda_body(alloc, tokens, signature, from, depth, recorder)
+}
+
+/// What follows the parameters of a lambda that begins at a place.
+#[cycle(reading)]
+#[inline(never)]
+fn lambda_body<R: Recorder>(
+    alloc: Global,
+    tokens: &[Terminal],
+    signature: Signature,
+    from: usize,
+    depth: Depth,
+    recorder: &mut R,
+) -> Result<Read, Stop>
+    requires within { signature.next ≤ length tokens.now }
+    requires open { IsOpen depth }
+    requires tall { IsTall signature }
+    ensures answered { Answered tokens.now depth.room (signature.next + 1)
+        (cap depth.room
+        (body_reads depth (formals.outcome (state_of signature.formal)) (seen tokens.now signature.next))) result }
+    ensures placed { (at : ℕ) → at ≡ from + 1 → (w : R)
+        → SignaturePlaced R.after tokens.now false at signature w recorder.old
+        → IfOk result (λ r. (ps : List Stretch) ×
+        Placed Level.Expression (terminals.Word Keyword.Lambda ∷ seen tokens.now at) from
+        (tree_of r.expr.value) (seen tokens.now r.next) r.next ps ×
+        Records R.after w ps recorder.new) }
+{
     if !is_op(tokens, signature.next, Exact::Colon) {
         return Err(Stop::NoForm);
     }
-    let body = read_expression(alloc, tokens, signature.next + 1, depth.inner())?;
+    let body = read_expression(alloc, tokens, signature.next + 1, depth.inner(), recorder)?;
+    finish_lambda(alloc, signature, from, body, depth.room, recorder)
+}
+
+/// A lambda that begins at a place, of what was read.
+#[inline(never)]
+fn finish_lambda<R: Recorder>(
+    alloc: Global,
+    signature: Signature,
+    from: usize,
+    body: Read,
+    room: usize,
+    recorder: &mut R,
+) -> Result<Read, Stop>
+    requires { IsTall signature }
+    ensures made { MakesLambda room (state_of signature.formal) (tree_of body.expr.value) body.next result }
+    ensures placed { OnOk result (recorder.new ≡ R.after recorder.old (stretch from body.next)) }
+{
+    recorder.node(from, body.next)?;
     let args = arranged(signature.formal)?;
-    make_lambda(alloc, args, signature.height, body, depth.room)
+    make_lambda(alloc, args, signature.height, body, room)
 }

@@ -2,3 +2,4 @@ mod FrontSteps
 mod OpeningSteps
 mod Spellings
 mod Wholes
+mod Recorders

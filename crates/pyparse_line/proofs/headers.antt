@@ -1,4 +1,4 @@
-mod DefinitionSteps
+pub mod DefinitionSteps
 mod ItemPushes
 mod ItemSteps
 mod MatchSteps

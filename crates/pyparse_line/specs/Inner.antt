@@ -8,3 +8,6 @@ pub mod Words
 pub mod Imports
 pub mod Simple
 pub mod Types
+pub mod PlacedParts
+pub mod PlacedStatements
+pub mod PlacedHeaders

@@ -8,12 +8,15 @@ ghost use Rattle.pyparse_line.specs.Inner.Heights.{suite_height};
 use pygrammar::Form;
 use pytree_node::Stmt;
 
-/// A form, the height of the highest expression in it, and the place after it.
+/// A form, the height of the highest expression in it, and the place after it; and how many nodes
+/// are recorded up to the last one before the body, and up to the last one after it.
 #[derive(Drop)]
 pub(crate) struct ReadForm {
     pub form: Form,
     pub height: usize,
     pub next: usize,
+    pub before: usize,
+    pub behind: usize,
     pub ghost is_height: { height ≡ form_height (form_of form) },
 }
 

@@ -10,7 +10,14 @@ ghost use Rattle.pyparse_expr.specs.Readings.{reads};
 ghost use Rattle.pyparse_nodes.specs.Views.{seen};
 ghost use Rattle.pyparse_pattern.specs.Answers as patterns;
 ghost use Rattle.pyparse_line.specs.Inner.Answers.{FormAnswered};
-ghost use Rattle.pyparse_line.specs.Inner.Fronts.{cased, colon, decorator, front, headed, simple, suite};
+ghost use Rattle.pyparse_line.specs.Inner.Fronts.{cased, colon, decorator, front, headed, simple};
+ghost use Rattle.pyparse_line.specs.Inner.Fronts.{suite};
+ghost use Rattle.std.specs.Prelude.{IfOk, ◌∷◌, true};
+ghost use Rattle.pygrammar.specs.Forms.{case_word, is_whole};
+ghost use Rattle.pytree_node.specs.Trees.{Identifier};
+ghost use Rattle.pytoken.specs.Terminals as terminals;
+ghost use Rattle.pyparse_line.specs.Inner.PlacedHeaders.{ColonPlaced, FormPlaced, LinePlaced};
+ghost use Rattle.pyparse_line.specs.Inner.PlacedHeaders.{SuitePlaced};
 
 use crate::found::{ReadForm, ReadSuite};
 use crate::headers::{ReadHeader, case_rest, match_rest, read_header};
@@ -20,34 +27,51 @@ use pygrammar::{Form, Level};
 use pylex::Exact;
 use pyparse_expr::{Depth, read_at};
 use pyparse_nodes::{Stop, is_op, terminal_at};
+use pyplaces::Recorder;
 use pytoken::Terminal;
 use pytree_node::Profile;
 use std::alloc::Global;
 
 /// A decorator, after its `@`: 8.7 "Function definitions".
-fn read_decorator(alloc: Global, tokens: &[Terminal], depth: Depth) -> Result<ReadForm, Stop>
+fn read_decorator<R: Recorder>(
+    alloc: Global,
+    tokens: &[Terminal],
+    depth: Depth,
+    recorder: &mut R,
+) -> Result<ReadForm, Stop>
     requires { 1 ≤ length tokens.now }
-    ensures { FormAnswered tokens.now 1 (decorator (reads depth) (seen tokens.now 1)) result }
+    ensures answered { FormAnswered tokens.now 1 (decorator (reads depth) (seen tokens.now 1))
+        result }
+    ensures placed { (profile : Profile) → seen tokens.now 0 ≡ terminals.Op Exact.At ∷ seen
+        tokens.now 1
+        → IfOk result (LinePlaced R.after R.recorded_count profile tokens.now recorder.old
+        recorder.new) }
 {
-    let e = read_at(alloc, tokens, Level::Named, 1, depth)?;
+    let e = read_at(alloc, tokens, Level::Named, 1, depth, recorder)?;
+    let recorded = recorder.recorded();
     Ok(ReadForm {
         height: e.height,
         next: e.next,
+        before: recorded,
+        behind: recorded,
         form: Form::Decorator { value: e.expr },
     })
 }
 
 /// What stands after a header's colon: 8 "Compound statements" (`suite`).
-fn read_suite(
+fn read_suite<R: Recorder>(
     alloc: Global,
     tokens: &[Terminal],
     at: usize,
     profile: Profile,
     depth: Depth,
+    recorder: &mut R,
 ) -> Result<ReadSuite, Stop>
     requires { at ≤ length tokens.now }
-    ensures { PartAnswered tokens.now at (suite profile (reads depth) (seen tokens.now at))
+    ensures answered { PartAnswered tokens.now at (suite profile (reads depth) (seen tokens.now at))
         (λ r. suite_of r.statements) (λ r. r.next) result }
+    ensures placed { IfOk result (SuitePlaced R.after profile tokens.now at recorder.old
+        recorder.new) }
 {
     if at == tokens.len() {
         return Ok(ReadSuite {
@@ -56,7 +80,7 @@ fn read_suite(
             next: at,
         });
     }
-    let read = read_statements(alloc, tokens, at, profile, depth)?;
+    let read = read_statements(alloc, tokens, at, profile, depth, recorder)?;
     Ok(ReadSuite {
         statements: Some(read.statements),
         height: read.height,
@@ -65,32 +89,39 @@ fn read_suite(
 }
 
 /// A header's colon, and what stands after it.
-fn read_colon(
+fn read_colon<R: Recorder>(
     alloc: Global,
     tokens: &[Terminal],
     at: usize,
     profile: Profile,
     depth: Depth,
+    recorder: &mut R,
 ) -> Result<ReadSuite, Stop>
     requires { at ≤ length tokens.now }
-    ensures { PartAnswered tokens.now at (colon profile (reads depth) (seen tokens.now at))
+    ensures answered { PartAnswered tokens.now at (colon profile (reads depth) (seen tokens.now at))
         (λ r. suite_of r.statements) (λ r. r.next) result }
+    ensures placed { IfOk result (ColonPlaced R.after profile tokens.now at recorder.old
+        recorder.new) }
 {
     if !is_op(tokens, at, Exact::Colon) {
         return Err(Stop::NoForm);
     }
-    read_suite(alloc, tokens, at + 1, profile, depth)
+    read_suite(alloc, tokens, at + 1, profile, depth, recorder)
 }
 
 /// A line of a header, of its parts.
-fn headed_form(header: ReadHeader, suite: ReadSuite) -> ReadForm
+fn headed_form(header: ReadHeader, suite: ReadSuite, behind: usize) -> ReadForm
     ensures form { form_of result.form
         ≡ lines.header_form (header_of header.header) (suite_of suite.statements) }
     ensures next { result.next ≡ suite.next }
+    ensures before { result.before ≡ header.before }
+    ensures behind { result.behind ≡ behind }
 {
     ReadForm {
         height: header.height.max(suite.height),
         next: suite.next,
+        before: header.before,
+        behind,
         form: Form::Headed {
             header: header.header,
             suite: suite.statements,
@@ -99,32 +130,44 @@ fn headed_form(header: ReadHeader, suite: ReadSuite) -> ReadForm
 }
 
 /// A header, its colon, and what stands after it.
-fn read_headed(
+fn read_headed<R: Recorder + Drop>(
     alloc: Global,
     tokens: &[Terminal],
     profile: Profile,
     depth: Depth,
+    recorder: &mut R,
 ) -> Result<ReadForm, Stop>
-    ensures { FormAnswered tokens.now 0 (headed profile (reads depth) (seen tokens.now 0)) result }
+    ensures answered { FormAnswered tokens.now 0 (headed profile (reads depth) (seen tokens.now 0))
+        result }
+    ensures placed { IfOk result (LinePlaced R.after R.recorded_count profile tokens.now recorder.old
+        recorder.new) }
 {
-    let header = read_header(alloc, tokens, 0, profile, depth)?;
-    let suite = read_colon(alloc, tokens, header.next, profile, depth)?;
-    Ok(headed_form(header, suite))
+    let header = read_header(alloc, tokens, 0, profile, depth, recorder)?;
+    let behind = recorder.recorded();
+    let suite = read_colon(alloc, tokens, header.next, profile, depth, recorder)?;
+    Ok(headed_form(header, suite, behind))
 }
 
 /// Simple statements, with `;` between them.
-fn read_simple(
+fn read_simple<R: Recorder>(
     alloc: Global,
     tokens: &[Terminal],
     profile: Profile,
     depth: Depth,
+    recorder: &mut R,
 ) -> Result<ReadForm, Stop>
-    ensures { FormAnswered tokens.now 1 (simple profile (reads depth) (seen tokens.now 0)) result }
+    ensures answered { FormAnswered tokens.now 1 (simple profile (reads depth) (seen tokens.now 0))
+        result }
+    ensures placed { IfOk result (LinePlaced R.after R.recorded_count profile tokens.now
+        recorder.old recorder.new) }
 {
-    let read = read_statements(alloc, tokens, 0, profile, depth)?;
+    let recorded = recorder.recorded();
+    let read = read_statements(alloc, tokens, 0, profile, depth, recorder)?;
     Ok(ReadForm {
         height: read.height,
         next: read.next,
+        before: recorded,
+        behind: recorded,
         form: Form::Simple {
             statements: read.statements,
         },
@@ -132,42 +175,51 @@ fn read_simple(
 }
 
 /// The header of a case, from after its word on: its colon, and what stands after it.
-fn read_case(
+fn read_case<R: Recorder>(
     alloc: Global,
     tokens: &[Terminal],
     at: usize,
     profile: Profile,
     depth: Depth,
+    recorder: &mut R,
 ) -> Result<ReadForm, Stop>
     requires { at ≤ length tokens.now }
-    ensures { FormAnswered tokens.now at
+    ensures answered { FormAnswered tokens.now at
         (cased profile (reads depth) (patterns.reads depth) (seen tokens.now at)) result }
+    ensures placed { (form : Identifier) → is_whole profile.extent ≡ true → at ≡ 1
+        → seen tokens.now 0 ≡ case_word form ∷ seen tokens.now at
+        → IfOk result (FormPlaced R.after R.recorded_count profile true tokens.now recorder.old
+        recorder.new) }
 {
-    let header = case_rest(alloc, tokens, at, depth)?;
-    let suite = read_colon(alloc, tokens, header.next, profile, depth)?;
-    Ok(headed_form(header, suite))
+    let header = case_rest(alloc, tokens, at, depth, recorder)?;
+    let behind = recorder.recorded();
+    let suite = read_colon(alloc, tokens, header.next, profile, depth, recorder)?;
+    Ok(headed_form(header, suite, behind))
 }
 
 /// The form at the front of a line at its place, by what begins it.
-pub(crate) fn read_front(
+pub(crate) fn read_front<R: Recorder + Drop>(
     alloc: Global,
     tokens: &[Terminal],
     profile: Profile,
     inside: bool,
     depth: Depth,
+    recorder: &mut R,
 ) -> Result<ReadForm, Stop>
-    ensures { FormAnswered tokens.now 0
+    ensures answered { FormAnswered tokens.now 0
         (front profile (reads depth) (patterns.reads depth) inside (seen tokens.now 0)) result }
+    ensures placed { IfOk result (FormPlaced R.after R.recorded_count profile inside tokens.now recorder.old
+        recorder.new) }
 {
     let first = match terminal_at(tokens, 0) {
         Some(first) => first,
         None => return Err(Stop::NoForm),
     };
     match opening_of(tokens, first, profile, inside) {
-        Opening::Decorates => read_decorator(alloc, tokens, depth),
-        Opening::Heads => read_headed(alloc, tokens, profile, depth),
-        Opening::Matches => match_rest(alloc, tokens, 1, depth),
-        Opening::Cases => read_case(alloc, tokens, 1, profile, depth),
-        Opening::States => read_simple(alloc, tokens, profile, depth),
+        Opening::Decorates => read_decorator(alloc, tokens, depth, recorder),
+        Opening::Heads => read_headed(alloc, tokens, profile, depth, recorder),
+        Opening::Matches => match_rest(alloc, tokens, 1, depth, recorder),
+        Opening::Cases => read_case(alloc, tokens, 1, profile, depth, recorder),
+        Opening::States => read_simple(alloc, tokens, profile, depth, recorder),
     }
 }

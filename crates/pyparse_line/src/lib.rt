@@ -11,4 +11,4 @@ mod lines;
 mod openings;
 mod statements;
 
-pub use lines::read_line;
+pub use lines::{LineRead, read_line};

@@ -76,7 +76,7 @@ module _ (ts : List given.Terminal) (d : Depth) (at : ℕ) (x : Identifier) wher
       ∙ first_miss (is_op LPar) (seen ts e.next) _ (Found (MatchValue (tree_of e.expr.value)) (seen ts e.next)) n
 
   -- with a bracket behind the name there are none
-  no_bracket : (e : Read) → Stands (Op LPar) ts at → FoundAt ts (d.room - 1 + 1) at (dotted_from (d.room - 1) x (seen ts at)) e
+  pub no_bracket : (e : Read) → Stands (Op LPar) ts at → FoundAt ts (d.room - 1 + 1) at (dotted_from (d.room - 1) x (seen ts at)) e
       → None ≡ first_is (is_op LPar) (seen ts e.next) → ⊥
   no_bracket e s f n =
       let g : dotted_from (d.room - 1) x (seen ts at) ≡ Found (Trees.Name x Load) (seen ts at) = rw s.is refl in

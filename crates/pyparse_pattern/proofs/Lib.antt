@@ -9,6 +9,7 @@ mod KeySteps
 mod LevelSteps
 mod NumberSteps
 mod Points
+mod Recorders
 mod SequenceSteps
 mod Shapes
 mod StringSteps

@@ -34,7 +34,7 @@ earlier ts room least next x (Ok r) le h = record { ahead = omega (arith, le, h.
 earlier ts room least next x (Err s) le h = h
 
 -- a first pattern and the others
-whole : (p : Pattern) (ps : List Pattern) (es : List PatternEntry) → ps ≡ p ∷ alone_in es → patterns ps ≡ a_pattern p (elements es)
+pub whole : (p : Pattern) (ps : List Pattern) (es : List PatternEntry) → ps ≡ p ∷ alone_in es → patterns ps ≡ a_pattern p (elements es)
 whole p ps es h = ap patterns h ∙ ap (λ qs. a_pattern p qs) (alone_elements es)
 
 module _ (ts : List given.Terminal) (d : Depth) (at : ℕ) where

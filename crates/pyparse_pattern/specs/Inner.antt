@@ -4,3 +4,4 @@ pub mod Entries
 pub mod Parts
 pub mod Readings
 pub mod Found
+pub mod PlacedParts

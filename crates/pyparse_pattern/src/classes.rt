@@ -2,25 +2,33 @@
 //!
 //! Python language reference, 8.6.4.10 "Class Patterns".
 
-ghost use Rattle.std.specs.Prelude.{◌≡◌, ◌≤◌, MatchResult, false, length, map, true};
-ghost use Rattle.pytree_node.specs.TreeOf.{tree_of};
+ghost use Rattle.std.specs.Prelude.{◌≡◌, ◌≤◌, ◌+◌, ◌++◌, IfOk, List, MatchResult, false, length, map, true};
+ghost use Rattle.pytree_node.specs.TreeOf.{pattern_of, tree_of};
 ghost use Rattle.pytree_node.specs.Trees as plain;
+ghost use Rattle.pytoken.specs.Terminals as terminals;
 ghost use Rattle.pygrammar.specs.PatternEntries as arguments;
 ghost use Rattle.pygrammar.specs.PatternReader as reader;
-ghost use Rattle.pyparse_nodes.specs.Views.{seen};
+ghost use Rattle.pyparse_nodes.specs.Views.{Stands, seen};
 ghost use Rattle.pyparse_pattern.specs.Answers.{PatternAnswered};
 ghost use Rattle.pyparse_pattern.specs.Inner.Entries.{entry_of};
 ghost use Rattle.pyparse_pattern.specs.Inner.Made.{MakesPattern};
 ghost use Rattle.pyparse_pattern.specs.Inner.Parts.{IsClassGrown};
+ghost use Rattle.pyparse_pattern.specs.Inner.PlacedParts.{fronts};
 ghost use Rattle.pyparse_pattern.specs.Inner.Readings.{class_from};
+ghost use Rattle.pyplaces.specs.PatternPlaces.{EntryPlaces};
+ghost use Rattle.pyplaces.specs.PlacedPatterns.{PlacedClass, PlacedEntries, PlacedPattern};
+ghost use Rattle.pyplaces.specs.Recording.{Records};
+ghost use Rattle.pyplaces.specs.Stretches.{Stretch};
 
 use crate::entries::{Entries, PatternEntry};
 use crate::found::ReadPattern;
 use crate::lists::put_pattern;
 use crate::makers::{above, boxed};
 use crate::names::is_wildcard;
+use pygrammar::PatternLevel;
 use pylex::Exact;
 use pyparse_nodes::{Read, Stop, append, is_op};
+use pyplaces::Recorder;
 use pytoken::Terminal;
 use pytree_node::{Identifier, Pattern};
 use std::alloc::Global;
@@ -118,19 +126,30 @@ fn make_class(
     )
 }
 
-/// The pattern of a class, after whose arguments its bracket has to stand.
-pub(crate) fn finish_class(
+/// The pattern of a class that begins at a place, after whose arguments its bracket has to stand.
+pub(crate) fn finish_class<R: Recorder>(
     alloc: Global,
     tokens: &[Terminal],
     class: Read,
     entries: Entries,
+    at: usize,
     room: usize,
+    recorder: &mut R,
 ) -> Result<ReadPattern, Stop>
     requires { entries.next ≤ length tokens.now }
-    ensures { PatternAnswered tokens.now room entries.next
+    ensures answered { PatternAnswered tokens.now room entries.next
         (reader.cap_pattern room
         (class_from (tree_of class.expr.value) (map entry_of entries.items.items)
         (seen tokens.now entries.next))) result }
+    ensures placed { Stands (terminals.Op Exact.LPar) tokens.now class.next
+        → (i : List terminals.Terminal) (ps : List Stretch) (w : R) (fs : List EntryPlaces)
+        → PlacedClass i at (tree_of class.expr.value) (seen tokens.now class.next) class.next ps
+        → PlacedEntries arguments.ClassArgument (seen tokens.now (class.next + 1)) (class.next + 1)
+        (map entry_of entries.items.items) (seen tokens.now entries.next) entries.next fs
+        → Records R.after w (fronts fs) recorder.old
+        → IfOk result (λ r. (qs : List Stretch) ×
+        PlacedPattern PatternLevel.ClosedPattern i at (pattern_of r.pattern.value)
+        (seen tokens.now r.next) r.next (ps ++ qs) × Records R.after w qs recorder.new) }
 {
     if !is_op(tokens, entries.next, Exact::RPar) {
         return Err(Stop::NoForm);
@@ -139,5 +158,6 @@ pub(crate) fn finish_class(
         return Err(Stop::NoForm);
     }
     let next = entries.next + 1;
+    recorder.node(at, next)?;
     make_class(alloc, class, entries, next, room)
 }

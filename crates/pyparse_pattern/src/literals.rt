@@ -2,7 +2,8 @@
 //!
 //! Python language reference, 8.6.4.3 "Literal Patterns".
 
-ghost use Rattle.std.specs.Prelude.{◌≡◌, ◌+◌, ◌<◌, length, true};
+ghost use Rattle.std.specs.Prelude.{◌≡◌, ◌+◌, ◌<◌, IfOk, List, length, true};
+ghost use Rattle.pytree_node.specs.TreeOf.{tree_of};
 ghost use Rattle.pytoken.specs.TerminalOf.{terminal};
 ghost use Rattle.pygrammar.specs.PatternReader as reader;
 ghost use Rattle.pygrammar.specs.Reader.{NoForm};
@@ -11,11 +12,15 @@ ghost use Rattle.pyparse_nodes.specs.Views.{seen};
 ghost use Rattle.pyparse_expr.specs.Readings.{IsOpen};
 ghost use Rattle.pyparse_pattern.specs.Inner.Readings.{field_reads};
 ghost use Rattle.pyparse_pattern.specs.Inner.Values.{begins_string, starts_string};
+ghost use Rattle.pyplaces.specs.PlacedPatterns.{PlacedLiteral};
+ghost use Rattle.pyplaces.specs.Recording.{Records};
+ghost use Rattle.pyplaces.specs.Stretches.{Stretch};
 
 use crate::numbers::read_number;
 use pygrammar::Level;
 use pyparse_expr::{Depth, read_at};
 use pyparse_nodes::{Read, Stop, terminal_at};
+use pyplaces::Recorder;
 use pytoken::Terminal;
 use std::alloc::Global;
 
@@ -43,20 +48,24 @@ fn starts_string(tokens: &[Terminal], at: usize) -> bool
 
 /// The literal at a place, up to a height. Strings are read as the atom that they are.
 #[tactic(auto, using(crate::proofs::StringSteps::strings_read, crate::proofs::StringSteps::number_read))]
-pub(crate) fn read_literal(
+pub(crate) fn read_literal<R: Recorder>(
     alloc: Global,
     tokens: &[Terminal],
     at: usize,
     depth: Depth,
+    recorder: &mut R,
 ) -> Result<Read, Stop>
     requires { IsOpen depth }
-    ensures { Answered tokens.now depth.room (at + 1)
+    ensures answered { Answered tokens.now depth.room (at + 1)
         (reader.cap_value depth.room
         (reader.literal_or (field_reads depth) (seen tokens.now at) NoForm)) result }
+    ensures placed { IfOk result (λ r. (ps : List Stretch) ×
+        PlacedLiteral (seen tokens.now at) at (tree_of r.expr.value)
+        (seen tokens.now r.next) r.next ps × Records R.after recorder.old ps recorder.new) }
 {
     if starts_string(tokens, at) {
-        read_at(alloc, tokens, Level::Atom, at, depth)
+        read_at(alloc, tokens, Level::Atom, at, depth, recorder)
     } else {
-        read_number(alloc, tokens, at, depth.room)
+        read_number(alloc, tokens, at, depth.room, recorder)
     }
 }

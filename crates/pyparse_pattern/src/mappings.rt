@@ -2,8 +2,10 @@
 //!
 //! Python language reference, 8.6.4.9 "Mapping Patterns".
 
-ghost use Rattle.std.specs.Prelude.{◌≡◌, ◌≤◌, MatchResult, length, map, true};
+ghost use Rattle.std.specs.Prelude.{◌≡◌, ◌≤◌, ◌+◌, ◌∷◌, IfOk, List, MatchResult, length, map, true};
+ghost use Rattle.pytree_node.specs.TreeOf.{pattern_of};
 ghost use Rattle.pytree_node.specs.Trees as plain;
+ghost use Rattle.pytoken.specs.Terminals as terminals;
 ghost use Rattle.pygrammar.specs.PatternEntries as arguments;
 ghost use Rattle.pygrammar.specs.PatternReader as reader;
 ghost use Rattle.pyparse_nodes.specs.Views.{seen};
@@ -11,14 +13,21 @@ ghost use Rattle.pyparse_pattern.specs.Answers.{PatternAnswered};
 ghost use Rattle.pyparse_pattern.specs.Inner.Entries.{entry_of};
 ghost use Rattle.pyparse_pattern.specs.Inner.Made.{MakesPattern};
 ghost use Rattle.pyparse_pattern.specs.Inner.Parts.{IsMappingGrown};
+ghost use Rattle.pyparse_pattern.specs.Inner.PlacedParts.{behinds, fronts};
 ghost use Rattle.pyparse_pattern.specs.Inner.Readings.{mapping_from};
+ghost use Rattle.pyplaces.specs.PatternPlaces.{EntryPlaces};
+ghost use Rattle.pyplaces.specs.PlacedPatterns.{PlacedEntries, PlacedPattern};
+ghost use Rattle.pyplaces.specs.Recording.{Kept, Records};
+ghost use Rattle.pyplaces.specs.Stretches.{Stretch};
 
 use crate::entries::{Entries, PatternEntry};
 use crate::found::ReadPattern;
 use crate::lists::put_pattern;
 use crate::makers::{above, boxed};
+use pygrammar::PatternLevel;
 use pylex::Exact;
 use pyparse_nodes::{Stop, is_op, put};
+use pyplaces::Recorder;
 use pytoken::Terminal;
 use pytree_node::{Expr, Identifier, Pattern};
 use std::alloc::Global;
@@ -104,17 +113,28 @@ fn make_mapping(
     )
 }
 
-/// A mapping, after whose entries its bracket has to stand.
-pub(crate) fn finish_mapping(
+/// A mapping, which begins at a place, and after whose entries its bracket has to stand. Its
+/// patterns are set aside, behind `kept` others.
+pub(crate) fn finish_mapping<R: Recorder>(
     alloc: Global,
     tokens: &[Terminal],
     entries: Entries,
+    from: usize,
+    kept: usize,
     room: usize,
+    recorder: &mut R,
 ) -> Result<ReadPattern, Stop>
     requires { entries.next ≤ length tokens.now }
-    ensures { PatternAnswered tokens.now room entries.next
+    ensures answered { PatternAnswered tokens.now room entries.next
         (reader.cap_pattern room
         (mapping_from (map entry_of entries.items.items) (seen tokens.now entries.next))) result }
+    ensures placed { (i : List terminals.Terminal) (w : R) (fs : List EntryPlaces)
+        → PlacedEntries arguments.KeyPattern i (from + 1) (map entry_of entries.items.items)
+        (seen tokens.now entries.next) entries.next fs
+        → kept ≡ R.aside_count w → Kept R.after R.beside w (fronts fs) (behinds fs) recorder.old
+        → IfOk result (λ r. (ps : List Stretch) × PlacedPattern PatternLevel.ClosedPattern
+        (terminals.Op Exact.LBrace ∷ i) from (pattern_of r.pattern.value)
+        (seen tokens.now r.next) r.next ps × Records R.after w ps recorder.new) }
 {
     if !is_op(tokens, entries.next, Exact::RBrace) {
         return Err(Stop::NoForm);
@@ -123,5 +143,7 @@ pub(crate) fn finish_mapping(
         return Err(Stop::NoForm);
     }
     let next = entries.next + 1;
+    recorder.take_back(kept)?;
+    recorder.node(from, next)?;
     make_mapping(alloc, entries, next, room)
 }

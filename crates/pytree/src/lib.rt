@@ -3,7 +3,8 @@
 //! The types are those of `pytree_node`, and come from here too. So do [`height`], which gives how high
 //! a tree is, [`copy`], which makes an equal one, [`same`], which says whether two are equal, and
 //! [`dump`], which gives the text that Python's `ast.dump` gives, and [`Pieces`], which gives it in
-//! pieces: the walks of each are a crate of their own.
+//! pieces; [`dump_placed`] and [`PlacedPieces`] give it with where the nodes stand, of which
+//! [`marked`] says how many have a place: the walks of each are a crate of their own.
 //!
 //! What the tokens of a source are to the grammar, and what they say, comes from `pytoken`:
 //! [`Refusal`], [`TokenError`], [`Meaning`]. Its `Keyword` is named there alone, since [`Keyword`]
@@ -33,7 +34,8 @@ pub use modules::{copy, same};
 pub use names::{is_keyword, is_name};
 pub use pygrammar::{Level, PatternLevel};
 pub use pytoken::{Meaning, Refusal, TokenError, is_identifier};
-pub use pytree_dump::{Pieces, Style, dump, dump_expr};
+pub use pytree_counts::marked;
+pub use pytree_dump::{Pieces, PlacedPieces, Shown, Style, dump, dump_expr, dump_placed};
 pub use pytree_height::{Heights, height};
 pub use pytree_node::{
     Alias, Arg, Arguments, BoolOperator, Case, Comparison, Comprehension, Constant, Context,

@@ -3,3 +3,4 @@ pub mod Cursors
 pub mod Streams
 pub mod Trees
 pub mod Faults
+pub mod Places

@@ -7,7 +7,8 @@ use Rattle.pytree_node.specs.Trees.{Module}
 use Rattle.pyast_fault.specs.declared.fault.Fault.{Fault}
 use Rattle.pyast_fault.specs.declared.fault.Fault.TheVariants.{InSource, Plain}
 use Rattle.pyast_fault.specs.declared.fault.RunFaultCode.TheVariants.{Read, Memory}
-use Rattle.pyast_command.specs.Modules.{IsModule, IsRefused}
+use Rattle.pyplaces.specs.PlacesOf.{PlacesOf}
+use Rattle.pyast_command.specs.Modules.{HasPlaces, IsModule, IsRefused}
 use Rattle.pyast_command.specs.Runs.{ReadsAll, ReadsNotAll}
 
 -- the bytes are at fault; or memory was wanting
@@ -20,6 +21,11 @@ pub record ReadsModule (profile : Profile) (seen_old seen_new : Seen) (m : Modul
   pub input : List ℕ
   pub all : ReadsAll seen_old seen_new source_limit input
   pub is : IsModule profile input m
+
+-- and its nodes have these places
+pub record ReadsPlaced (profile : Profile) (seen_old seen_new : Seen) (m : Module) (p : PlacesOf) : Type 0 where
+  pub module : ReadsModule profile seen_old seen_new m
+  pub places : HasPlaces profile module.input m p
 
 -- why they give none: the source is at fault, a read failed, or memory was wanting
 abbrev pub ReadsNone : Profile → Seen → Seen → Fault → Type 0

@@ -1,4 +1,4 @@
--- On: the laws of the reader of a logical line within a height; the ends of the header of a `match`.
+-- On: the laws of the reader of a logical line within a height; the ends of the header of a `match`; items in brackets.
 --
 -- Carries: what pyparse_line cites.
 use Rattle.std.proofs.Common.{◌≡◌, List, Bool}
@@ -8,6 +8,7 @@ use Rattle.pygrammar.specs.Lines.{Form}
 use Rattle.pygrammar.specs.Forms.{FormAt}
 use Rattle.pygrammar.specs.Blocks.{kind_of, is_match}
 use Rattle.pygrammar.specs.LineLaws.{LineLimitIsExact, LineLimitMeets, LinesAreLawful}
+pub use Rattle.pygrammar.proofs.Line.Brackets.{brackets_are_read}
 use Rattle.pygrammar.proofs.Line.Answered.{enough, read_or_not}
 use Rattle.pygrammar.proofs.Line.Depth.{at_depth}
 use Rattle.pygrammar.proofs.Line.SoundLines.{exactly}

@@ -30,7 +30,7 @@ use Rattle.pyparse_nodes.specs.declared.found.Read.{Read}
 use Rattle.pyparse_nodes.specs.declared.stop.Stop.{Stop}
 use Rattle.pyparse_nodes.specs.Answers.{Failed, Answered, FoundAt}
 use Rattle.pyparse_expr.specs.Inner.Arguments.{State, start, step, steps, state_of, level_of, place_of, entry_of, IsKindAt, AddedAt}
-use Rattle.pyparse_expr.specs.Inner.Arguments.{ActualAt, finished, called_from}
+use Rattle.pyparse_expr.specs.Inner.Arguments.{ActualAt, arguments_of, finished, called_from}
 use Rattle.pyparse_expr.specs.Inner.Readings.{inner_reads}
 use Rattle.pyparse_nodes.specs.Views.{Stands, IsNamed, IsNotNamed, seen, first_is, lead_of}
 use Rattle.pyparse_expr.proofs.Calls.ArgumentOrder.{called_steps}
@@ -70,21 +70,22 @@ begins_not (t ∷ r) h n = lt-leb 7 (lead_of (t ∷ r)) h
 -- its kind
 module _ (ts : List given.Terminal) (at : ℕ) where
   pub spread_kind : Stands (Op Star) ts at → IsKindAt kind.Spread ts at
-  spread_kind s = record { within = omega (arith, s.within); is = λ self. rw s.is refl }
+  spread_kind s = record { within = omega (arith, s.within); begins = s; is = λ self. rw s.is refl }
 
   pub doubled_kind : Stands (Op DoubleStar) ts at → IsKindAt kind.Doubled ts at
-  doubled_kind s = record { within = omega (arith, s.within); is = λ self. rw s.is refl }
+  doubled_kind s = record { within = omega (arith, s.within); begins = s; is = λ self. rw s.is refl }
 
   pub single_kind : at ≤ length ts → None ≡ first_is (is_op Star) (seen ts at) → None ≡ first_is (is_op DoubleStar) (seen ts at)
       → IsNotNamed Equal ts at → IsKindAt kind.Single ts at
   single_kind w a b n = record {
     within = w;
+    begins = tt;
     is = λ self. first_miss (is_op Star) (seen ts at) _ _ a ∙ first_miss (is_op DoubleStar) (seen ts at) _ _ b
         ∙ name_miss Equal ts at _ _ n;
   }
 
   pub keyed_kind : (x : Bor (List ℕ)) → IsNamed Equal (nfkc (chars x.now)) ts at → IsKindAt (kind.Keyed x) ts at
-  keyed_kind x s = record { within = omega (arith, s.within); is = λ self. rw (s.is, s.form) refl }
+  keyed_kind x s = record { within = omega (arith, s.within); begins = s; is = λ self. rw (s.is, s.form) refl }
 
 -- what was read of an argument of a kind
 kind_found : (ts : List given.Terminal) (d : Depth) (k : ArgumentForm) (at room least : ℕ) (e : Read) → IsKindAt k ts at
@@ -124,6 +125,18 @@ pub record Reaches (ts : List given.Terminal) (d : Depth) (s : State) (x : Answe
   pub entries : List Entry
   pub is : x ≡ loop d most entries (seen ts a.next)
   pub gives : state_of a ≡ steps s entries
+
+pub reaches_start : (ts : List given.Terminal) (d : Depth) (a : Actual) → a.next ≤ length ts → a.height ≤ d.room
+    → Reaches ts d (state_of a) (arguments_of d [] (seen ts a.next)) a
+reaches_start ts d a w l = record {
+  within = w;
+  low = l;
+  most = length (seen ts a.next);
+  enough = omega arith;
+  entries = [];
+  is = refl;
+  gives = refl;
+}
 
 module _ (ts : List given.Terminal) (d : Depth) where
   pub more_end : (s : State) (x : Answer (List Entry)) (a : Actual) (least : ℕ) → Reaches ts d s x a

@@ -2,7 +2,8 @@
 --
 -- Carries: for_in, comps. On: CompSteps, Reading.
 use Rattle.std.proofs.Common.{◌≡◌, refl, sym, ap, ◌∙◌, arith, ℕ, zero, suc, ◌+◌, ◌≤◌, ◌<◌, subst, List, [], ◌∷◌, ◌++◌, length, map, Some}
-use Rattle.std.proofs.Common.{None, Bool, true, false}
+use Rattle.std.proofs.Common.{Option, None, Bool, true, false, Result, Ok, Err}
+use Rattle.std.specs.Prelude.{MatchOption, MatchResult}
 use Rattle.pytoken.specs.declared.keywords.Keyword.TheVariants as Key
 use Rattle.pytree_node.specs.Trees.{Comprehension}
 use Rattle.pytree_node.specs.TreeOf.{tree_of, comprehension_of}
@@ -19,7 +20,10 @@ use Rattle.pyparse_nodes.specs.declared.found.Items.{Items}
 use Rattle.pyparse_nodes.specs.declared.found.ForClause.{ForClause}
 use Rattle.pyparse_nodes.specs.declared.found.ForClauses.{ForClauses}
 use Rattle.pyparse_nodes.specs.declared.stop.Stop.{Stop}
+use Rattle.pyparse_nodes.specs.declared.stop.Stop.TheVariants as stop
 use Rattle.pyparse_nodes.specs.Answers.{Failed, FoundAt}
+use Rattle.pyparse_expr.specs.declared.comprehensions.ClauseStart.{ClauseStart}
+use Rattle.pyparse_expr.specs.Inner.Clauses.{IsCutStart, MadeClause, NoClause, NoStart, StartsAt, StartWords}
 use Rattle.pyparse_expr.specs.Inner.Found.{TestsAt, ClauseAt, ClausesAt}
 use Rattle.pyparse_expr.specs.Inner.Readings.{inner_reads}
 use Rattle.pyparse_nodes.specs.Views.{Stands, seen, first_is}
@@ -70,6 +74,19 @@ module _ (ts : List given.Terminal) (d : Depth) (b : Bool) (at : ℕ) where
           within = omega (arith, f.within, n);
           is = clause_is cs f ∙ ap (λ o. made o (seen ts cs.next)) h ∙ ap (λ k. Found (comprehension_of c.generator) (seen ts k)) (sym n);
         }
+
+        pub clause_ended : (cs : Items) (z : Result ForClause Stop)
+            → TestsAt ts i.next (ifs_loop (inner_reads d) (length (seen ts i.next)) [] (seen ts i.next)) cs
+            → MatchResult z (λ c. MadeClause t i cs b c) (λ e. NoClause t i cs b e)
+            → MatchResult z (λ c. ClauseAt ts (at + 1) (for_in_step (inner_reads d) b (seen ts at)) c)
+            (λ e. Failed e (for_in_step (inner_reads d) b (seen ts at)))
+        clause_ended cs (Ok c) f m = clause_made cs c f (sym m.is) m.next
+        clause_ended cs (Err stop.NoForm) f m = clause_none cs f (sym m.is)
+        clause_ended cs (Err stop.TooDeep) f m = absurd (unlike m.why)
+          where
+            unlike : stop.TooDeep ≡ stop.NoForm → ⊥
+            unlike h = cc
+        clause_ended cs (Err stop.Memory) f m = tt
 
 -- how far the clauses were read
 pub record Reached (ts : List given.Terminal) (d : Depth) (x : Answer (List Comprehension)) (r : ForClauses) : Type 0 where
@@ -124,6 +141,21 @@ async_begins ts n s f =
     let two : n + 1 + 1 ≡ n + 2 = omega arith in
     subst (λ at. Begins ts n true at) two (record { within = s.within; ahead = omega arith; is = λ self m acc. rw (s.is, f.is) refl })
 
+pub hit_start : (ts : List given.Terminal) (n : ℕ) (o : Option ClauseStart) (s : ClauseStart) → o ≡ Some s
+    → MatchOption o (NoStart ts n) (λ x. StartsAt ts n x) → StartsAt ts n s
+hit_start ts n o s q m = subst (λ p. MatchOption p (NoStart ts n) (λ x. StartsAt ts n x)) q m
+
+pub miss_start : (ts : List given.Terminal) (n : ℕ) (o : Option ClauseStart) → o ≡ None
+    → MatchOption o (NoStart ts n) (λ x. StartsAt ts n x) → NoStart ts n
+miss_start ts n o q m = subst (λ p. MatchOption p (NoStart ts n) (λ x. StartsAt ts n x)) q m
+
+pub start_begins : (ts : List given.Terminal) (n : ℕ) (s : ClauseStart) → StartsAt ts n s → Begins ts n s.is_async s.at
+start_begins ts n s x = go s.is_async s.at x.words
+  where
+    go : (b : Bool) (at : ℕ) → StartWords ts n b at → Begins ts n b at
+    go false at w = subst (λ k. Begins ts n false k) (sym w.1) (for_begins ts n w.0)
+    go true at w = subst (λ k. Begins ts n true k) (sym w.2) (async_begins ts n w.0 w.1)
+
 module _ (ts : List given.Terminal) (d : Depth) (x : Answer (List Comprehension)) (r : ForClauses) (c : Reached ts d x r) where
   module _ (b : Bool) (at : ℕ) (s : Begins ts r.next b at) where
     pub clauses_error : (e : Stop) → Failed e (for_in_step (inner_reads d) b (seen ts at)) → Failed e x
@@ -157,7 +189,7 @@ module _ (ts : List given.Terminal) (d : Depth) (x : Answer (List Comprehension)
         }
 
   -- an `async` with no `for` behind it
-  pub clauses_cut : Stands (Word Key.Async) ts r.next → None ≡ first_is (is_word Key.For) (seen ts (r.next + 1)) → x ≡ NoForm
+  clauses_cut : Stands (Word Key.Async) ts r.next → None ≡ first_is (is_word Key.For) (seen ts (r.next + 1)) → x ≡ NoForm
   clauses_cut s n = go c.most c.enough c.is
     where
       go : (m : ℕ) → length (seen ts r.next) ≤ m → x ≡ comps_loop (inner_reads d) m (map comprehension_of r.generators.items)
@@ -168,3 +200,6 @@ module _ (ts : List given.Terminal) (d : Depth) (x : Answer (List Comprehension)
           rw s.is (first_miss (is_word Key.For) (seen ts (r.next + 1)) (λ _ r2. and_then (for_in_step (inner_reads d) true r2)
           (λ g r3. comps_loop (inner_reads d) m (map comprehension_of r.generators.items ++ (g ∷ [])) r3)) NoForm n) in
           q ∙ one
+
+  pub clauses_unbegun : (e : Stop) → IsCutStart ts r.next e → Failed e x
+  clauses_unbegun e h = subst (λ z. Failed z x) (sym h.why) (clauses_cut h.begun h.no_for)

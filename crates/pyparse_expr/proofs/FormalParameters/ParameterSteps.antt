@@ -1,8 +1,8 @@
 -- The loop over parameters with commas between them, and `lambda`.
 --
--- Carries: parameters, lambda_step. On: Reading, Formals, SignatureHeights.
+-- Carries: parameters, lambda_step, lambda_body, finish_lambda. On: Reading, Formals, SignatureHeights.
 use Rattle.std.proofs.Common.{◌≡◌, refl, sym, ap, ◌∙◌, arith, ℕ, zero, suc, ◌+◌, ◌≤◌, ◌<◌, max, List, [], ◌∷◌, ◌++◌, length, Option, Some}
-use Rattle.std.proofs.Common.{None, Bool, true, false, cond, Result}
+use Rattle.std.proofs.Common.{None, Bool, true, false, cond, subst, Result, Ok, Err}
 use Rattle.pylex_lexeme.specs.declared.kinds.Exact.TheVariants.{Colon, Comma}
 use Rattle.pytree_node.specs.Trees
 use Rattle.pytree_node.specs.Trees.{Expr, Arguments}
@@ -23,15 +23,16 @@ use Rattle.pyparse_nodes.specs.declared.found.Read.{Read}
 use Rattle.pyparse_expr.specs.declared.signatures.ReadParameter.{ReadParameter}
 use Rattle.pyparse_expr.specs.declared.signatures.Signature.{Signature}
 use Rattle.pyparse_nodes.specs.declared.stop.Stop.{Stop}
+use Rattle.pyparse_nodes.specs.declared.stop.Stop.TheVariants as stop
 use Rattle.pyparse_nodes.specs.Answers.{Answered, Failed, FoundAt, Makes}
 use Rattle.pyparse_expr.specs.Inner.FormalHeights.{entry_height, entry_heights}
 use Rattle.pyparse_nodes.specs.Formals.{State, start, step, steps, outcome}
-use Rattle.pyparse_nodes.specs.FormalStates.{state_of, entry_of}
+use Rattle.pyparse_nodes.specs.FormalStates.{IsDisarranged, state_of, entry_of}
 use Rattle.pyparse_expr.specs.Inner.Readings.{inner_reads}
-use Rattle.pyparse_expr.specs.Inner.Signatures.{ParameterAt, SignatureAt}
+use Rattle.pyparse_expr.specs.Inner.Signatures.{IsTall, LambdaUnmade, MakesLambda, ParameterAt, SignatureAt, body_reads}
 use Rattle.pyparse_nodes.specs.Views.{Stands, seen, first_is}
 use Rattle.pyparse_expr.proofs.FormalParameters.Formals.{arranged_steps}
-use Rattle.pyparse_expr.proofs.Reader.Reading.{failed_cap, failed_then, first_miss, node, seen_length}
+use Rattle.pyparse_expr.proofs.Reader.Reading.{earlier, failed_cap, failed_then, first_miss, node, seen_length}
 use Rattle.pyparse_expr.proofs.FormalParameters.SignatureHeights.{arranged_height, entry_heights_more}
 
 abbrev pub loop : Depth → Bool → ℕ → List Entry → List Terminal → Answer (List Entry)
@@ -183,50 +184,70 @@ module _ (ts : List given.Terminal) (d : Depth) (b : Bool) (x : Answer (List Ent
             tall = zh ∙ taller p r f.tall h;
           }
 
--- what stands behind the parameters of a lambda
+-- a lambda, and what stands behind its parameters
 module _ (ts : List given.Terminal) (d : Depth) (at : ℕ) where
-  abbrev behind : List Entry → List Terminal → Answer Expr
-  behind ps r1 = on_first (is_op Colon) r1 (λ _ r2. and_then (inner_reads d level.Expression r2)
-      (λ e r3. made (lambda_of (arranged ps) e) r3)) NoForm
-
   pub lambda_failed : (e : Stop) → Failed e (listed d false (seen ts at)) → Failed e (cap d.room (lambda_step (inner_reads d) (seen ts at)))
-  lambda_failed e f = failed_cap e d.room _ (failed_then e _ behind f)
+  lambda_failed e f = failed_cap e d.room _ (failed_then e _ (λ ps r. body_reads d (arranged ps) r) f)
 
-  module _ (least : ℕ) (s : Signature) (f : SignatureAt ts d.room least (listed d false (seen ts at)) s) where
-    lambda_is : lambda_step (inner_reads d) (seen ts at) ≡ behind f.entries (seen ts s.next)
-    lambda_is = ap (λ z. and_then z behind) f.is
+  pub lambda_behind : (s : Signature) → SignatureAt ts d.room at (listed d false (seen ts at)) s → (z : Result Read Stop)
+      → Answered ts d.room (s.next + 1) (cap d.room (body_reads d (outcome (state_of s.formal)) (seen ts s.next))) z
+      → Answered ts d.room (at + 1) (cap d.room (lambda_step (inner_reads d) (seen ts at))) z
+  lambda_behind s f z h =
+      let e : lambda_step (inner_reads d) (seen ts at) ≡ body_reads d (outcome (state_of s.formal)) (seen ts s.next) =
+      ap (λ y. and_then y (λ ps r. body_reads d (arranged ps) r)) f.is
+      ∙ ap (λ o. body_reads d o (seen ts s.next)) (arranged_steps f.entries ∙ ap outcome (sym f.state)) in
+      earlier ts d.room d.room (at + 1) (s.next + 1) (cap d.room (lambda_step (inner_reads d) (seen ts at))) z (omega arith)
+      (omega (arith, f.ahead))
+      (subst (λ y. Answered ts d.room (s.next + 1) (cap d.room y) z) (sym e) h)
 
-    pub lambda_unclosed : None ≡ first_is (is_op Colon) (seen ts s.next) → cap d.room (lambda_step (inner_reads d) (seen ts at)) ≡ NoForm
-    lambda_unclosed n = ap (λ z. cap d.room z) (lambda_is ∙ first_miss (is_op Colon) (seen ts s.next) _ NoForm n)
+module _ (ts : List given.Terminal) (d : Depth) (s : Signature) where
+  abbrev body : Answer Expr
+  body = body_reads d (outcome (state_of s.formal)) (seen ts s.next)
 
-    module _ (colon : Stands (Op Colon) ts s.next) where
-      bodied : lambda_step (inner_reads d) (seen ts at) ≡ and_then (inner_reads d level.Expression (seen ts (s.next + 1)))
-          (λ e r3. made (lambda_of (arranged f.entries) e) r3)
-      bodied =
-          let w : behind f.entries (seen ts s.next) ≡ and_then (inner_reads d level.Expression (seen ts (s.next + 1)))
-          (λ e r3. made (lambda_of (arranged f.entries) e) r3) = rw colon.is refl in
-          lambda_is ∙ w
+  pub lambda_unclosed : None ≡ first_is (is_op Colon) (seen ts s.next) → cap d.room body ≡ NoForm
+  lambda_unclosed n = ap (λ z. cap d.room z) (first_miss (is_op Colon) (seen ts s.next) _ NoForm n)
 
-      pub lambda_body_failed : (e : Stop) → Failed e (inner_reads d level.Expression (seen ts (s.next + 1)))
-          → Failed e (cap d.room (lambda_step (inner_reads d) (seen ts at)))
-      lambda_body_failed e q = failed_cap e d.room _ (rw bodied (failed_then e _ (λ e2 r3. made (lambda_of (arranged f.entries) e2) r3) q))
+  module _ (colon : Stands (Op Colon) ts s.next) where
+    bodied : body ≡ and_then (inner_reads d level.Expression (seen ts (s.next + 1)))
+        (λ e r3. made (lambda_of (outcome (state_of s.formal)) e) r3)
+    bodied = rw colon.is refl
 
-      module _ (room low : ℕ) (b : Read) (q : FoundAt ts room low (inner_reads d level.Expression (seen ts (s.next + 1))) b) where
-        ended : (o : Option Arguments) → outcome (state_of s.formal) ≡ o → lambda_step (inner_reads d) (seen ts at) ≡ made
-            (lambda_of o (tree_of b.expr.value)) (seen ts b.next)
-        ended o h = bodied ∙ ap (λ z. and_then z (λ e r3. made (lambda_of (arranged f.entries) e) r3)) q.is
-            ∙ ap (λ z. made (lambda_of z (tree_of b.expr.value)) (seen ts b.next)) (arranged_steps f.entries ∙ ap outcome (sym f.state) ∙ h)
+    pub lambda_body_failed : (e : Stop) → Failed e (inner_reads d level.Expression (seen ts (s.next + 1)))
+        → Failed e (cap d.room body)
+    lambda_body_failed e q = failed_cap e d.room _ (rw bodied
+        (failed_then e _ (λ e2 r3. made (lambda_of (outcome (state_of s.formal)) e2) r3) q))
 
-        pub lambda_wrong : outcome (state_of s.formal) ≡ None → cap d.room (lambda_step (inner_reads d) (seen ts at)) ≡ NoForm
-        lambda_wrong h = ap (λ z. cap d.room z) (ended None h)
+    module _ (room : ℕ) (b : Read) (q : FoundAt ts room (s.next + 1 + 1) (inner_reads d level.Expression (seen ts (s.next + 1))) b) where
+      ended : (o : Option Arguments) → outcome (state_of s.formal) ≡ o
+          → body ≡ made (lambda_of o (tree_of b.expr.value)) (seen ts b.next)
+      ended o h = bodied ∙ ap (λ z. and_then z (λ e r3. made (lambda_of (outcome (state_of s.formal)) e) r3)) q.is
+          ∙ ap (λ z. made (lambda_of z (tree_of b.expr.value)) (seen ts b.next)) h
 
-        pub lambda_made : (a : Arguments) (z : Result Read Stop) → outcome (state_of s.formal) ≡ Some a → at + 1 ≤ b.next
-            → Makes d.room (Trees.Lambda a (tree_of b.expr.value)) b.next z
-            → Answered ts d.room (at + 1) (cap d.room (lambda_step (inner_reads d) (seen ts at))) z
-        lambda_made a z h le m =
-            rw (ended (Some a) h) (node ts d.room (at + 1) (Trees.Lambda a (tree_of b.expr.value)) b.next z le q.within m)
+      of_arguments : (a : Arguments) (z : Result Read Stop) → outcome (state_of s.formal) ≡ Some a
+          → Makes d.room (Trees.Lambda a (tree_of b.expr.value)) b.next z → Answered ts d.room (s.next + 1) (cap d.room body) z
+      of_arguments a z h m = subst (λ y. Answered ts d.room (s.next + 1) (cap d.room y) z) (sym (ended (Some a) h))
+          (node ts d.room (s.next + 1) (Trees.Lambda a (tree_of b.expr.value)) b.next z (omega (arith, q.ahead)) q.within m)
+
+      pub lambda_ended : (z : Result Read Stop) → MakesLambda d.room (state_of s.formal) (tree_of b.expr.value) b.next z
+          → Answered ts d.room (s.next + 1) (cap d.room body) z
+      lambda_ended (Ok r) m = of_arguments m.args (Ok r) m.is m.made
+      lambda_ended (Err stop.NoForm) m = ap (λ z. cap d.room z) (ended None m)
+      lambda_ended (Err stop.TooDeep) m = of_arguments m.0 (Err stop.TooDeep) m.1 m.2
+      lambda_ended (Err stop.Memory) m = tt
+
+-- a lambda that was made
+pub lambda_made : (room : ℕ) (x : State) (a : Arguments) (e : Expr) (n : ℕ) (z : Result Read Stop) → outcome x ≡ Some a
+    → Makes room (Trees.Lambda a e) n z → MakesLambda room x e n z
+lambda_made room x a e n (Ok r) h m = record { args = a; is = h; made = m }
+lambda_made room x a e n (Err stop.NoForm) h m = absurd m
+lambda_made room x a e n (Err stop.TooDeep) h m = (a, h, m)
+lambda_made room x a e n (Err stop.Memory) h m = tt
+
+pub lambda_wrong : (room : ℕ) (x : State) (e : Expr) (s : Stop) → IsDisarranged x s → LambdaUnmade room x e s
+lambda_wrong room x e s h = subst (λ y. LambdaUnmade room x e y) (sym h.why) h.is
 
 -- the height of the node
-pub signature_height : (ts : List given.Terminal) (room least : ℕ) (x : Answer (List Entry)) (s : Signature) (a : Arguments)
-    → SignatureAt ts room least x s → outcome (state_of s.formal) ≡ Some a → s.height ≡ arguments_height a
-signature_height ts room least x s a f h = f.tall ∙ arranged_height f.entries a (arranged_steps f.entries ∙ ap outcome (sym f.state) ∙ h)
+pub signature_height : (ts : List given.Terminal) (room least : ℕ) (x : Answer (List Entry)) (s : Signature)
+    → SignatureAt ts room least x s → IsTall s
+signature_height ts room least x s f =
+    record { is = λ a h. f.tall ∙ arranged_height f.entries a (arranged_steps f.entries ∙ ap outcome (sym f.state) ∙ h) }

@@ -97,12 +97,12 @@ one_text _ [] t u h = absurd (cc)
 one_text _ (w ∷ vs) t u h = absurd (cc)
 
 -- what the literals are
-record Ran (v w : Value) (r s : List Terminal) : Type 0 where
-  values : List Value
-  run_is : string_run [] r ≡ Found values s
-  is : joined v values ≡ Some w
+pub record Ran (v w : Value) (r s : List Terminal) : Type 0 where
+  pub values : List Value
+  pub run_is : string_run [] r ≡ Found values s
+  pub is : joined v values ≡ Some w
 
-ran : (v w : Value) (r s : List Terminal) → run v r ≡ Found w s → Ran v w r s
+pub ran : (v w : Value) (r s : List Terminal) → run v r ≡ Found w s → Ran v w r s
 ran v w r s h = go (string_run [] r) refl h
   where
     one : (vs : List Value) (i : List Terminal) (o : Option Value) → string_run [] r ≡ Found vs i → joined v vs ≡ o

@@ -72,6 +72,28 @@ module _ (ts : List given.Terminal) (d : Depth) (at : ℕ) (o : IsOpen d) where
   elem_star e z s f m = by_level ts (at + 1) d level.Elem (seen ts at) z o
       (rw (s.is, f.is) (node ts d.room (at + 1) (Trees.Starred (tree_of e.expr.value) Load) e.next z (omega (arith, f.ahead)) f.within m))
 
+  pub item_star : (e : Read) (z : Result Read Stop) → Stands (Op Star) ts at
+      → FoundAt ts (d.room - 1) (at + 1 + 1) (inner_reads d level.BitOr (seen ts (at + 1))) e
+      → Makes d.room (Trees.Starred (tree_of e.expr.value) Load) e.next z
+      → Answered ts d.room (at + 1) (reads d level.StarItem (seen ts at)) z
+  item_star e z s f m = by_level ts (at + 1) d level.StarItem (seen ts at) z o
+      (rw (s.is, f.is) (node ts d.room (at + 1) (Trees.Starred (tree_of e.expr.value) Load) e.next z (omega (arith, f.ahead)) f.within m))
+
+  pub elem_plain : (z : Result Read Stop) → None ≡ first_is (is_op Star) (seen ts at)
+      → Answered ts d.room (at + 1) (reads d level.Named (seen ts at)) z → Answered ts d.room (at + 1) (reads d level.Elem (seen ts at)) z
+  elem_plain z n h =
+      let q : level_at d level.Elem (seen ts at) ≡ cap d.room (reads d level.Named (seen ts at)) =
+      ap (λ y. cap d.room y) (first_miss (is_op Star) (seen ts at) _ _ n) in
+      by_level ts (at + 1) d level.Elem (seen ts at) z o (rw q (again ts d.room (at + 1) (reads d level.Named (seen ts at)) z h))
+
+  pub item_plain : (z : Result Read Stop) → None ≡ first_is (is_op Star) (seen ts at)
+      → Answered ts d.room (at + 1) (reads d level.Expression (seen ts at)) z
+      → Answered ts d.room (at + 1) (reads d level.StarItem (seen ts at)) z
+  item_plain z n h =
+      let q : level_at d level.StarItem (seen ts at) ≡ cap d.room (reads d level.Expression (seen ts at)) =
+      ap (λ y. cap d.room y) (first_miss (is_op Star) (seen ts at) _ _ n) in
+      by_level ts (at + 1) d level.StarItem (seen ts at) z o (rw q (again ts d.room (at + 1) (reads d level.Expression (seen ts at)) z h))
+
   pub part_star : (e : Read) (z : Result Read Stop) → Stands (Op Star) ts at
       → FoundAt ts (d.room - 1) (at + 1 + 1) (inner_reads d level.Expression (seen ts (at + 1))) e
       → Makes d.room (Trees.Starred (tree_of e.expr.value) Load) e.next z → Answered ts d.room (at + 1) (reads d level.Part (seen ts at)) z
@@ -143,6 +165,14 @@ module _ (ts : List given.Terminal) (d : Depth) (at : ℕ) (o : IsOpen d) where
       → Answered ts d.room (at + 1) (reads d level.Stars (seen ts at)) z
   stars_tuple b z f s h = by_level ts (at + 1) d level.Stars (seen ts at) z o
       (rw (f.is, s.is) (earlier ts d.room d.room (at + 1) b.next _ z (omega arith) f.ahead h))
+
+  pub stars_alone : (b : Read) → FoundAt ts d.room (at + 1) (reads d level.StarItem (seen ts at)) b
+      → None ≡ first_is (is_op Comma) (seen ts b.next) → FoundAt ts d.room (at + 1) (reads d level.Stars (seen ts at)) b
+  stars_alone b f n =
+      let e : level_at d level.Stars (seen ts at) ≡ cap d.room (Found (tree_of b.expr.value) (seen ts b.next)) =
+      ap (λ z. cap d.room (and_then z (λ a r. tupled (inner_reads d) (Of level.StarItem) a r (Found a r)))) f.is
+      ∙ ap (λ z. cap d.room z) (first_miss (is_op Comma) (seen ts b.next) _ (Found (tree_of b.expr.value) (seen ts b.next)) n) in
+      by_level ts (at + 1) d level.Stars (seen ts at) (Ok b) o (rw e (ended ts d.room (at + 1) b f.ahead f.within f.low))
 
   pub slice_open : (z : Result Read Stop) → Stands (Op Colon) ts at
       → Answered ts d.room (at + 1) (cap d.room (slice_rest (inner_reads d) absent (seen ts (at + 1)))) z
@@ -242,3 +272,10 @@ module _ (ts : List given.Terminal) (d : Depth) (at : ℕ) (o : IsOpen d) where
       → Answered ts d.room (at + 1) (reads d level.Value (seen ts at)) z
   value_yield z s h = by_level ts (at + 1) d level.Value (seen ts at) z o
       (rw s.is (again ts d.room (at + 1) (yield_step (inner_reads d) (seen ts (at + 1))) z h))
+
+  pub value_plain : (z : Result Read Stop) → None ≡ first_is (is_word Key.Yield) (seen ts at)
+      → Answered ts d.room (at + 1) (reads d level.Stars (seen ts at)) z → Answered ts d.room (at + 1) (reads d level.Value (seen ts at)) z
+  value_plain z n h =
+      let q : level_at d level.Value (seen ts at) ≡ cap d.room (reads d level.Stars (seen ts at)) =
+      ap (λ y. cap d.room y) (first_miss (is_word Key.Yield) (seen ts at) _ _ n) in
+      by_level ts (at + 1) d level.Value (seen ts at) z o (rw q (again ts d.room (at + 1) (reads d level.Stars (seen ts at)) z h))

@@ -2,7 +2,7 @@
 use Rattle.std.specs.Prelude.{◌≡◌, ℕ, ◌+◌, ◌≤◌, ◌||◌, List, [], ◌∷◌, ◌++◌, Bool, true, false, cond, Option, Some, None, length, map}
 use Rattle.std.specs.Str.{chars}
 use Rattle.unicode_normalization.specs.Forms.{nfkc}
-use Rattle.pylex_lexeme.specs.declared.kinds.Exact.TheVariants.{Comma, RPar}
+use Rattle.pylex_lexeme.specs.declared.kinds.Exact.TheVariants.{Comma, RPar, Star, DoubleStar, Equal}
 use Rattle.pytree_node.specs.declared.operators.Context.TheVariants.{Load}
 use Rattle.pytree_node.specs.Trees
 use Rattle.pytree_node.specs.Trees.{Expr, Keyword, exprs, keywords}
@@ -19,7 +19,7 @@ use Rattle.pyparse_nodes.specs.declared.actual.ArgumentForm.{ArgumentForm}
 use Rattle.pyparse_nodes.specs.declared.actual.ArgumentForm.TheVariants as kind
 use Rattle.pyparse_expr.specs.declared.depth.Depth.{Depth}
 use Rattle.pyparse_expr.specs.Inner.Readings.{inner_reads}
-use Rattle.pyparse_nodes.specs.Views.{seen}
+use Rattle.pyparse_nodes.specs.Views.{Stands, IsNamed, seen}
 
 -- Whether a `NAME =` or a `**` stood, whether a `**` did, and whether one stood where it may not; then the parts of the node.
 pub data State : Type 0 where
@@ -74,9 +74,17 @@ entry_of kind.Spread e = Spread e
 entry_of kind.Doubled e = Doubled e
 entry_of (kind.Keyed x) e = Keyed (nfkc (chars x.now)) e
 
+-- what stands in front of its expression
+abbrev pub Begins : ArgumentForm → List Terminal → ℕ → Type 0
+Begins kind.Single ts at = Unit {0}
+Begins kind.Spread ts at = Stands (tokens.Op Star) ts at
+Begins kind.Doubled ts at = Stands (tokens.Op DoubleStar) ts at
+Begins (kind.Keyed x) ts at = IsNamed Equal (nfkc (chars x.now)) ts at
+
 -- an argument of this kind stands at a place, if any does
 pub record IsKindAt (k : ArgumentForm) (ts : List Terminal) (at : ℕ) : Type 0 where
   pub within : place_of k at ≤ length ts
+  pub begins : Begins k ts at
   pub is : (self : Reads) → read_argument self (seen ts at) ≡ and_then (self (level_of k) (seen ts (place_of k at)))
       (λ e r. Found (entry_of k e) r)
 

@@ -10,6 +10,10 @@ ghost use Rattle.pyparse_expr.specs.Readings.{reads};
 ghost use Rattle.pyparse_pattern.specs.Answers as patterns;
 ghost use Rattle.pyparse_line.specs.Answers.{HeaderAnswered};
 ghost use Rattle.pyparse_line.specs.Inner.Fronts.{case_header_of};
+ghost use Rattle.std.specs.Prelude.{IfOk, ℕ, ◌∷◌, ◌+◌};
+ghost use Rattle.pygrammar.specs.Forms.{case_word};
+ghost use Rattle.pytree_node.specs.Trees.{Identifier};
+ghost use Rattle.pyparse_line.specs.Inner.PlacedHeaders.{CasePlaced};
 
 use crate::headers::found::ReadHeader;
 use crate::statements::after_word;
@@ -17,6 +21,7 @@ use pygrammar::{Header, Level, PatternLevel};
 use pyparse_expr::Depth;
 use pyparse_nodes::Stop;
 use pyparse_pattern::read_pattern;
+use pyplaces::Recorder;
 use pytoken::{Keyword, Terminal};
 use std::alloc::Global;
 
@@ -36,17 +41,22 @@ pub(crate) fn is_case_line(name: &str, inside: bool) -> bool
 }
 
 /// After a `case`: the pattern, and the guard if there is one.
-pub(crate) fn case_rest(
+pub(crate) fn case_rest<R: Recorder>(
     alloc: Global,
     tokens: &[Terminal],
     at: usize,
     depth: Depth,
+    recorder: &mut R,
 ) -> Result<ReadHeader, Stop>
     requires { at ≤ length tokens.now }
-    ensures { HeaderAnswered tokens.now at
+    ensures answered { HeaderAnswered tokens.now at
         (case_header_of (reads depth) (patterns.reads depth) (seen tokens.now at)) result }
+    ensures placed { (from : ℕ) (form : Identifier) → at ≡ from + 1
+        → seen tokens.now from ≡ case_word form ∷ seen tokens.now at
+        → IfOk result (CasePlaced R.after R.recorded_count tokens.now from recorder.old
+        recorder.new) }
 {
-    let pattern = read_pattern(alloc, tokens, PatternLevel::Patterns, at, depth)?;
+    let pattern = read_pattern(alloc, tokens, PatternLevel::Patterns, at, depth, recorder)?;
     let guard = after_word(
         alloc,
         tokens,
@@ -54,10 +64,12 @@ pub(crate) fn case_rest(
         Level::Named,
         pattern.next,
         depth,
+        recorder,
     )?;
     Ok(ReadHeader {
         height: pattern.height.max(guard.height),
         next: guard.next,
+        before: recorder.recorded(),
         header: Header::Case {
             pattern: pattern.pattern,
             guard: guard.expr,

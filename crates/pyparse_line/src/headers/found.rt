@@ -9,12 +9,14 @@ ghost use Rattle.pygrammar.specs.FormOf.{header_of};
 use pygrammar::Header;
 use pytree_node::Item;
 
-/// A header, the height of the highest expression in it, and the place after it.
+/// A header, the height of the highest expression in it, and the place after it; and how many nodes
+/// are recorded up to the last one before the body.
 #[derive(Drop)]
 pub struct ReadHeader {
     pub header: Header,
     pub height: usize,
     pub next: usize,
+    pub before: usize,
     pub ghost is_height: { height ≡ header_height (header_of header) },
 }
 

@@ -11,6 +11,8 @@ ghost use Rattle.pyparse_nodes.specs.Views.{seen};
 ghost use Rattle.pyparse_nodes.specs.Answers.{PartAnswered};
 ghost use Rattle.pyparse_expr.specs.Readings.{reads};
 ghost use Rattle.pyparse_line.specs.Inner.Items.{ItemsAnswered, more_items};
+ghost use Rattle.std.specs.Prelude.{IfOk};
+ghost use Rattle.pyparse_line.specs.Inner.PlacedParts.{ItemListPlaced, ItemPlaced, ItemsPlaced};
 
 use crate::headers::found::{ReadItem, ReadItems};
 use crate::headers::item_targets::item_target;
@@ -19,6 +21,7 @@ use pygrammar::Level;
 use pylex::Exact;
 use pyparse_expr::{Depth, read_at};
 use pyparse_nodes::{Read, Stop, append, is_op, is_word};
+use pyplaces::Recorder;
 use pytoken::{Keyword, Terminal};
 use pytree_node::Item;
 use std::alloc::Global;
@@ -55,17 +58,24 @@ fn item_as(e: Read, target: Read) -> ReadItem
 }
 
 /// An item at a place.
-fn read_item(alloc: Global, tokens: &[Terminal], at: usize, depth: Depth) -> Result<ReadItem, Stop>
+fn read_item<R: Recorder>(
+    alloc: Global,
+    tokens: &[Terminal],
+    at: usize,
+    depth: Depth,
+    recorder: &mut R,
+) -> Result<ReadItem, Stop>
     requires { at ≤ length tokens.now }
-    ensures { PartAnswered tokens.now (at + 1)
+    ensures answered { PartAnswered tokens.now (at + 1)
         (line_reader.read_item (reads depth) (seen tokens.now at)) (λ r. item_of r.item)
         (λ r. r.next) result }
+    ensures placed { IfOk result (ItemPlaced R.after tokens.now at recorder.old recorder.new) }
 {
-    let e = read_at(alloc, tokens, Level::Expression, at, depth)?;
+    let e = read_at(alloc, tokens, Level::Expression, at, depth, recorder)?;
     if !is_word(tokens, e.next, Keyword::As) {
         return Ok(bare_item(e));
     }
-    let target = item_target(alloc, tokens, e.next + 1, depth)?;
+    let target = item_target(alloc, tokens, e.next + 1, depth, recorder)?;
     Ok(item_as(e, target))
 }
 
@@ -123,21 +133,24 @@ fn goes_on(tokens: &[Terminal], at: usize, in_brackets: bool) -> bool
 }
 
 /// Items with commas between them.
-fn items_at(
+fn items_at<R: Recorder>(
     alloc: Global,
     tokens: &[Terminal],
     in_brackets: bool,
     at: usize,
     depth: Depth,
+    recorder: &mut R,
 ) -> Result<ReadItems, Stop>
     requires { at ≤ length tokens.now }
-    ensures { ItemsAnswered tokens.now (at + 1)
+    ensures answered { ItemsAnswered tokens.now (at + 1)
         (line_reader.commas_of (line_reader.read_item (reads depth)) (more_items in_brackets)
         (seen tokens.now at)) result }
+    ensures placed { IfOk result (ItemListPlaced R.after in_brackets tokens.now at recorder.old
+        recorder.new) }
 {
     let mut items = no_items(alloc, at);
     'more: loop {
-        let item = read_item(alloc, tokens, items.next, depth)?;
+        let item = read_item(alloc, tokens, items.next, depth, recorder)?;
         let grown = push(items, item)?;
         if !is_op(tokens, grown.next, Exact::Comma) {
             return Ok(grown);
@@ -151,15 +164,22 @@ fn items_at(
 }
 
 /// Items in brackets, directly in front of a colon.
-fn bracketed(alloc: Global, tokens: &[Terminal], at: usize, depth: Depth) -> Result<ReadItems, Stop>
+fn bracketed<R: Recorder>(
+    alloc: Global,
+    tokens: &[Terminal],
+    at: usize,
+    depth: Depth,
+    recorder: &mut R,
+) -> Result<ReadItems, Stop>
     requires { at ≤ length tokens.now }
-    ensures { ItemsAnswered tokens.now (at + 1)
+    ensures answered { ItemsAnswered tokens.now (at + 1)
         (line_reader.bracketed (reads depth) (seen tokens.now at)) result }
+    ensures placed { IfOk result (ItemsPlaced R.after tokens.now at recorder.old recorder.new) }
 {
     if !is_op(tokens, at, Exact::LPar) {
         return Err(Stop::NoForm);
     }
-    let items = items_at(alloc, tokens, true, at + 1, depth)?;
+    let items = items_at(alloc, tokens, true, at + 1, depth, recorder)?;
     if !is_op(tokens, items.next, Exact::RPar) {
         return Err(Stop::NoForm);
     }
@@ -171,19 +191,26 @@ fn bracketed(alloc: Global, tokens: &[Terminal], at: usize, depth: Depth) -> Res
 }
 
 /// The items of a `with`: where they can be read as items in brackets, they are that.
-pub(crate) fn read_items(
+pub(crate) fn read_items<R: Recorder + Drop>(
     alloc: Global,
     tokens: &[Terminal],
     at: usize,
     depth: Depth,
+    recorder: &mut R,
 ) -> Result<ReadItems, Stop>
     requires { at ≤ length tokens.now }
-    ensures { ItemsAnswered tokens.now (at + 1)
+    ensures answered { ItemsAnswered tokens.now (at + 1)
         (line_reader.read_items (reads depth) (seen tokens.now at)) result }
+    ensures placed { IfOk result (ItemsPlaced R.after tokens.now at recorder.old
+        recorder.new) }
 {
-    match bracketed(alloc, tokens, at, depth) {
-        Ok(items) => Ok(items),
-        Err(Stop::NoForm) => items_at(alloc, tokens, false, at, depth),
+    let mut inside = recorder.fresh()?;
+    match bracketed(alloc, tokens, at, depth, &mut inside) {
+        Ok(items) => {
+            recorder.add(inside)?;
+            Ok(items)
+        }
+        Err(Stop::NoForm) => items_at(alloc, tokens, false, at, depth, recorder),
         Err(stop) => Err(stop),
     }
 }

@@ -10,13 +10,19 @@ ghost use Rattle.pyparse_nodes.specs.Views.{seen};
 ghost use Rattle.pyparse_expr.specs.Readings.{reads};
 ghost use Rattle.pyparse_line.specs.Inner.Answers.{FormAnswered};
 ghost use Rattle.pyparse_line.specs.Inner.Fronts.{matched};
+ghost use Rattle.std.specs.Prelude.{IfOk, ℕ, ◌∷◌, true};
+ghost use Rattle.pygrammar.specs.Forms.{is_whole, match_word};
+ghost use Rattle.pytree_node.specs.Trees.{Identifier};
+ghost use Rattle.pyparse_line.specs.Inner.PlacedHeaders.{LinePlaced};
 
 use crate::found::ReadForm;
 use pygrammar::{Form, Header, Level};
 use pylex::Exact;
 use pyparse_expr::{Depth, read_at};
 use pyparse_nodes::{Stop, is_op};
+use pyplaces::Recorder;
 use pytoken::Terminal;
+use pytree_node::Profile;
 use std::alloc::Global;
 
 /// Whether a text is `match`.
@@ -47,22 +53,32 @@ pub(crate) fn is_match_line(tokens: &[Terminal], name: &str) -> bool
 }
 
 /// After a `match`: the subject, and the colon.
-pub(crate) fn match_rest(
+pub(crate) fn match_rest<R: Recorder>(
     alloc: Global,
     tokens: &[Terminal],
     at: usize,
     depth: Depth,
+    recorder: &mut R,
 ) -> Result<ReadForm, Stop>
     requires { at ≤ length tokens.now }
-    ensures { FormAnswered tokens.now (at + 1) (matched (reads depth) (seen tokens.now at)) result }
+    ensures answered { FormAnswered tokens.now (at + 1) (matched (reads depth) (seen tokens.now at))
+        result }
+    ensures placed { (profile : Profile) (form : Identifier) → is_whole profile.extent ≡ true
+        → at ≡ 1
+        → seen tokens.now 0 ≡ match_word form ∷ seen tokens.now at
+        → IfOk result (LinePlaced R.after R.recorded_count profile tokens.now recorder.old
+        recorder.new) }
 {
-    let subject = read_at(alloc, tokens, Level::Subject, at, depth)?;
+    let subject = read_at(alloc, tokens, Level::Subject, at, depth, recorder)?;
     if !is_op(tokens, subject.next, Exact::Colon) {
         return Err(Stop::NoForm);
     }
+    let recorded = recorder.recorded();
     Ok(ReadForm {
         height: subject.height,
         next: subject.next + 1,
+        before: recorded,
+        behind: recorded,
         form: Form::Headed {
             header: Header::Match {
                 subject: subject.expr,

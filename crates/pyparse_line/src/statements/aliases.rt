@@ -10,11 +10,14 @@ ghost use Rattle.pygrammar.specs.LineReader as line;
 ghost use Rattle.pyparse_nodes.specs.Answers.{PartAnswered};
 ghost use Rattle.pyparse_nodes.specs.Views.{seen};
 ghost use Rattle.pyparse_line.specs.Inner.Imports.{more_names};
+ghost use Rattle.std.specs.Prelude.{IfOk};
+ghost use Rattle.pyparse_line.specs.Inner.PlacedParts.{AliasesPlaced, DottedPlaced};
 
 use crate::statements::found::{ReadAlias, ReadAliases, ReadName};
 use crate::statements::names::{read_as, read_name};
 use pylex::Exact;
 use pyparse_nodes::{Stop, is_op, name_at};
+use pyplaces::Recorder;
 use pytoken::{Terminal, name_value};
 use pytree_node::{Alias, Identifier};
 use std::alloc::Global;
@@ -91,20 +94,23 @@ fn name_alias(alloc: Global, tokens: &[Terminal], at: usize) -> Result<ReadAlias
 }
 
 /// Names with dots, with commas between them.
-pub(crate) fn dotted_aliases(
+pub(crate) fn dotted_aliases<R: Recorder>(
     alloc: Global,
     tokens: &[Terminal],
     at: usize,
+    recorder: &mut R,
 ) -> Result<ReadAliases, Stop>
     requires { at ≤ length tokens.now }
-    ensures { PartAnswered tokens.now at
+    ensures answered { PartAnswered tokens.now at
         (line.commas_of line.dotted_alias line.always (seen tokens.now at))
         (λ r. map alias_of r.aliases.items) (λ r. r.next) result }
+    ensures placed { IfOk result (DottedPlaced R.after tokens.now at recorder.old recorder.new) }
 {
     let mut aliases = Vec::new(alloc);
     let mut next = at;
     'more: loop {
         let one = dotted_alias(alloc, tokens, next)?;
+        recorder.node(next, one.next)?;
         aliases.push(one.alias)?;
         if !is_op(tokens, one.next, Exact::Comma) {
             return Ok(ReadAliases {
@@ -128,21 +134,25 @@ fn more_names(tokens: &[Terminal], at: usize, bracketed: bool) -> bool
 }
 
 /// Names with commas between them, in brackets or not.
-pub(crate) fn name_aliases(
+pub(crate) fn name_aliases<R: Recorder>(
     alloc: Global,
     tokens: &[Terminal],
     at: usize,
     bracketed: bool,
+    recorder: &mut R,
 ) -> Result<ReadAliases, Stop>
     requires { at ≤ length tokens.now }
-    ensures { PartAnswered tokens.now at
+    ensures answered { PartAnswered tokens.now at
         (line.commas_of line.name_alias (more_names bracketed) (seen tokens.now at))
         (λ r. map alias_of r.aliases.items) (λ r. r.next) result }
+    ensures placed { IfOk result (AliasesPlaced R.after bracketed tokens.now at recorder.old
+        recorder.new) }
 {
     let mut aliases = Vec::new(alloc);
     let mut next = at;
     'more: loop {
         let one = name_alias(alloc, tokens, next)?;
+        recorder.node(next, one.next)?;
         aliases.push(one.alias)?;
         if !is_op(tokens, one.next, Exact::Comma) {
             return Ok(ReadAliases {

@@ -14,11 +14,15 @@ ghost use Rattle.pygrammar.specs.Reader as reader;
 ghost use Rattle.pyparse_nodes.specs.Answers.{PartAnswered};
 ghost use Rattle.pyparse_nodes.specs.Views.{seen};
 ghost use Rattle.pyparse_line.specs.Inner.Imports.{dots_at, dots_in};
+ghost use Rattle.std.specs.Prelude.{IfOk};
+ghost use Rattle.pyparse_line.specs.Inner.PlacedParts.{NamesPlaced};
+ghost use Rattle.pyparse_line.specs.Inner.PlacedStatements.{ImportPlaced, WordPlaced};
 
 use crate::statements::aliases::{dotted_aliases, name_aliases, read_dotted};
 use crate::statements::found::{ReadAliases, ReadDots, ReadStatement};
 use pylex::Exact;
 use pyparse_nodes::{Stop, append, is_op, is_word, terminal_at};
+use pyplaces::Recorder;
 use pytoken::{Keyword, Terminal};
 use pytree_node::{Alias, Identifier, Stmt};
 use std::alloc::Global;
@@ -91,18 +95,25 @@ fn star_alias(alloc: Global, next: usize) -> Result<ReadAliases, Stop>
 }
 
 /// The names after the `import` of a `from`.
-fn import_names(alloc: Global, tokens: &[Terminal], at: usize) -> Result<ReadAliases, Stop>
+fn import_names<R: Recorder>(
+    alloc: Global,
+    tokens: &[Terminal],
+    at: usize,
+    recorder: &mut R,
+) -> Result<ReadAliases, Stop>
     requires { at ≤ length tokens.now }
-    ensures { PartAnswered tokens.now at (line.read_names (seen tokens.now at))
+    ensures answered { PartAnswered tokens.now at (line.read_names (seen tokens.now at))
         (λ r. map alias_of r.aliases.items) (λ r. r.next) result }
+    ensures placed { IfOk result (NamesPlaced R.after tokens.now at recorder.old recorder.new) }
 {
     if is_op(tokens, at, Exact::Star) {
+        recorder.node(at, at + 1)?;
         return star_alias(alloc, at + 1);
     }
     if !is_op(tokens, at, Exact::LPar) {
-        return name_aliases(alloc, tokens, at, false);
+        return name_aliases(alloc, tokens, at, false, recorder);
     }
-    let names = name_aliases(alloc, tokens, at + 1, true)?;
+    let names = name_aliases(alloc, tokens, at + 1, true, recorder)?;
     if !is_op(tokens, names.next, Exact::RPar) {
         return Err(Stop::NoForm);
     }
@@ -114,18 +125,21 @@ fn import_names(alloc: Global, tokens: &[Terminal], at: usize) -> Result<ReadAli
 
 /// After the `import` of a `from`, with the module and the dots in front of it.
 #[tactic(auto, using(pytree_node::proofs::Callers::StmtShapes::import_from_tree))]
-fn import_of(
+fn import_of<R: Recorder>(
     alloc: Global,
     tokens: &[Terminal],
     source: Option<Identifier>,
     level: u64,
     at: usize,
+    recorder: &mut R,
 ) -> Result<ReadStatement, Stop>
     requires { at ≤ length tokens.now }
-    ensures { PartAnswered tokens.now at (line.import_of source level (seen tokens.now at))
+    ensures answered { PartAnswered tokens.now at (line.import_of source level (seen tokens.now at))
         (λ r. stmt_of r.statement) (λ r. r.next) result }
+    ensures placed { IfOk result (ImportPlaced R.after source level tokens.now at recorder.old
+        recorder.new) }
 {
-    let names = import_names(alloc, tokens, at)?;
+    let names = import_names(alloc, tokens, at, recorder)?;
     Ok(ReadStatement {
         statement: Stmt::ImportFrom {
             module: source,
@@ -138,21 +152,23 @@ fn import_of(
 }
 
 /// After a `from`.
-pub(crate) fn import_from(
+pub(crate) fn import_from<R: Recorder>(
     alloc: Global,
     tokens: &[Terminal],
     at: usize,
+    recorder: &mut R,
 ) -> Result<ReadStatement, Stop>
     requires { at ≤ length tokens.now }
-    ensures { PartAnswered tokens.now at (line.import_from (seen tokens.now at))
+    ensures answered { PartAnswered tokens.now at (line.import_from (seen tokens.now at))
         (λ r. stmt_of r.statement) (λ r. r.next) result }
+    ensures placed { WordPlaced R.after Keyword.From tokens.now at recorder.old recorder.new result }
 {
     let dots = read_dots(tokens, at)?;
     if is_word(tokens, dots.next, Keyword::Import) {
         if dots.count == 0 {
             return Err(Stop::NoForm);
         }
-        return import_of(alloc, tokens, None, dots.count, dots.next + 1);
+        return import_of(alloc, tokens, None, dots.count, dots.next + 1, recorder);
     }
     let source = read_dotted(alloc, tokens, dots.next)?;
     if !is_word(tokens, source.next, Keyword::Import) {
@@ -164,19 +180,27 @@ pub(crate) fn import_from(
         Some(source.name),
         dots.count,
         source.next + 1,
+        recorder,
     )
 }
 
 /// After an `import`.
 #[tactic(auto, using(pytree_node::proofs::Callers::StmtShapes::import_tree))]
-pub(crate) fn import(alloc: Global, tokens: &[Terminal], at: usize) -> Result<ReadStatement, Stop>
+pub(crate) fn import<R: Recorder>(
+    alloc: Global,
+    tokens: &[Terminal],
+    at: usize,
+    recorder: &mut R,
+) -> Result<ReadStatement, Stop>
     requires { at ≤ length tokens.now }
-    ensures { PartAnswered tokens.now at
+    ensures answered { PartAnswered tokens.now at
         (reader.and_then (line.commas_of line.dotted_alias line.always (seen tokens.now at))
         (λ names r. reader.Found (plain.Import names) r))
         (λ r. stmt_of r.statement) (λ r. r.next) result }
+    ensures placed { WordPlaced R.after Keyword.Import tokens.now at recorder.old recorder.new
+        result }
 {
-    let names = dotted_aliases(alloc, tokens, at)?;
+    let names = dotted_aliases(alloc, tokens, at, recorder)?;
     Ok(ReadStatement {
         statement: Stmt::Import {
             names: names.aliases,

@@ -9,11 +9,14 @@ ghost use Rattle.pygrammar.specs.Precedence as precedence;
 ghost use Rattle.pyparse_nodes.specs.Answers.{PartAnswered};
 ghost use Rattle.pyparse_expr.specs.Readings.{reads};
 ghost use Rattle.pyparse_nodes.specs.Views.{seen};
+ghost use Rattle.std.specs.Prelude.{IfOk};
+ghost use Rattle.pyparse_line.specs.Inner.PlacedParts.{BehindPlaced, OptionalPlaced};
 
 use pygrammar::Level;
 use pylex::Exact;
 use pyparse_expr::{Depth, read_at};
 use pyparse_nodes::{Optional, Read, Stop, is_op, is_word, lead_at};
+use pyplaces::Recorder;
 use pytoken::{Keyword, Terminal};
 use pytree_node::Expr;
 use std::alloc::Global;
@@ -71,62 +74,71 @@ fn starts_stars(tokens: &[Terminal], at: usize) -> bool
 }
 
 /// Expressions and starred ones, if any begin at the place.
-pub(crate) fn stars_or_none(
+pub(crate) fn stars_or_none<R: Recorder>(
     alloc: Global,
     tokens: &[Terminal],
     at: usize,
     depth: Depth,
+    recorder: &mut R,
 ) -> Result<Optional, Stop>
     requires { at ≤ length tokens.now }
-    ensures { PartAnswered tokens.now at
+    ensures answered { PartAnswered tokens.now at
         (line.if_any (reads depth) Level.Stars (seen tokens.now at)) (λ r. boxed_of r.expr)
         (λ r. r.next) result }
+    ensures placed { IfOk result (OptionalPlaced R.after Level.Stars tokens.now at recorder.old
+        recorder.new) }
 {
     if !starts_stars(tokens, at) {
         return Ok(none_at(at));
     }
-    let e = read_at(alloc, tokens, Level::Stars, at, depth)?;
+    let e = read_at(alloc, tokens, Level::Stars, at, depth, recorder)?;
     Ok(one(e))
 }
 
 /// An expression of a level after a sign, if the sign stands at the place.
-pub fn after_sign(
+pub fn after_sign<R: Recorder>(
     alloc: Global,
     tokens: &[Terminal],
     sign: Exact,
     level: Level,
     at: usize,
     depth: Depth,
+    recorder: &mut R,
 ) -> Result<Optional, Stop>
     requires { at ≤ length tokens.now }
-    ensures { PartAnswered tokens.now at
+    ensures answered { PartAnswered tokens.now at
         (line.after (reads depth) (tokens_of.Op sign) level (seen tokens.now at))
         (λ r. boxed_of r.expr) (λ r. r.next) result }
+    ensures placed { IfOk result (BehindPlaced R.after (tokens_of.Op sign) level tokens.now at
+        recorder.old recorder.new) }
 {
     if !is_op(tokens, at, sign) {
         return Ok(none_at(at));
     }
-    let e = read_at(alloc, tokens, level, at + 1, depth)?;
+    let e = read_at(alloc, tokens, level, at + 1, depth, recorder)?;
     Ok(one(e))
 }
 
 /// An expression of a level after a word, if the word stands at the place.
-pub fn after_word(
+pub fn after_word<R: Recorder>(
     alloc: Global,
     tokens: &[Terminal],
     word: Keyword,
     level: Level,
     at: usize,
     depth: Depth,
+    recorder: &mut R,
 ) -> Result<Optional, Stop>
     requires { at ≤ length tokens.now }
-    ensures { PartAnswered tokens.now at
+    ensures answered { PartAnswered tokens.now at
         (line.after (reads depth) (tokens_of.Word word) level (seen tokens.now at))
         (λ r. boxed_of r.expr) (λ r. r.next) result }
+    ensures placed { IfOk result (BehindPlaced R.after (tokens_of.Word word) level tokens.now at
+        recorder.old recorder.new) }
 {
     if !is_word(tokens, at, word) {
         return Ok(none_at(at));
     }
-    let e = read_at(alloc, tokens, level, at + 1, depth)?;
+    let e = read_at(alloc, tokens, level, at + 1, depth, recorder)?;
     Ok(one(e))
 }

@@ -16,6 +16,9 @@ ghost use Rattle.pyparse_nodes.specs.Views.{seen};
 ghost use Rattle.pytree_node.specs.TreeOf.{tree_of};
 ghost use Rattle.pyparse_line.specs.Inner.Simple.{asserts, deletes, globals, nonlocals, raises};
 ghost use Rattle.pyparse_line.specs.Inner.Simple.{returns};
+ghost use Rattle.std.specs.Prelude.{IfOk};
+ghost use Rattle.pyparse_line.specs.Inner.PlacedParts.{AllDeletedPlaced, DeletedPlaced};
+ghost use Rattle.pyparse_line.specs.Inner.PlacedStatements.{WordPlaced};
 
 use crate::statements::found::ReadStatement;
 use crate::statements::names::read_names;
@@ -26,6 +29,7 @@ use pygrammar::Level;
 use pylex::Exact;
 use pyparse_expr::{Depth, no_items, push, read_at};
 use pyparse_nodes::{Items, Read, Stop, deleted, is_op};
+use pyplaces::Recorder;
 use pytoken::{Keyword, Terminal};
 use pytree_node::Stmt;
 use std::alloc::Global;
@@ -101,17 +105,20 @@ pub(crate) fn nonlocal(alloc: Global, tokens: &[Terminal], at: usize) -> Result<
 
 /// After a `return`.
 #[tactic(auto, using(pytree_node::proofs::Callers::StmtShapes::return_tree))]
-pub(crate) fn return_value(
+pub(crate) fn return_value<R: Recorder>(
     alloc: Global,
     tokens: &[Terminal],
     at: usize,
     depth: Depth,
+    recorder: &mut R,
 ) -> Result<ReadStatement, Stop>
     requires { at ≤ length tokens.now }
-    ensures { PartAnswered tokens.now at (returns (reads depth) (seen tokens.now at))
+    ensures answered { PartAnswered tokens.now at (returns (reads depth) (seen tokens.now at))
         (λ r. stmt_of r.statement) (λ r. r.next) result }
+    ensures placed { WordPlaced R.after Keyword.Return tokens.now at recorder.old recorder.new
+        result }
 {
-    let value = stars_or_none(alloc, tokens, at, depth)?;
+    let value = stars_or_none(alloc, tokens, at, depth, recorder)?;
     Ok(ReadStatement {
         height: value.height,
         next: value.next,
@@ -139,20 +146,22 @@ fn raise_at(next: usize) -> ReadStatement
 
 /// After a `raise`.
 #[tactic(auto, using(pytree_node::proofs::Callers::StmtShapes::raise_tree))]
-pub(crate) fn raise(
+pub(crate) fn raise<R: Recorder>(
     alloc: Global,
     tokens: &[Terminal],
     at: usize,
     depth: Depth,
+    recorder: &mut R,
 ) -> Result<ReadStatement, Stop>
     requires { at ≤ length tokens.now }
-    ensures { PartAnswered tokens.now at (raises (reads depth) (seen tokens.now at))
+    ensures answered { PartAnswered tokens.now at (raises (reads depth) (seen tokens.now at))
         (λ r. stmt_of r.statement) (λ r. r.next) result }
+    ensures placed { WordPlaced R.after Keyword.Raise tokens.now at recorder.old recorder.new result }
 {
     if !starts_expression(tokens, at) {
         return Ok(raise_at(at));
     }
-    let exc = read_at(alloc, tokens, Level::Expression, at, depth)?;
+    let exc = read_at(alloc, tokens, Level::Expression, at, depth, recorder)?;
     let cause = after_word(
         alloc,
         tokens,
@@ -160,6 +169,7 @@ pub(crate) fn raise(
         Level::Expression,
         exc.next,
         depth,
+        recorder,
     )?;
     Ok(ReadStatement {
         height: exc.height.max(cause.height),
@@ -173,17 +183,20 @@ pub(crate) fn raise(
 
 /// After an `assert`.
 #[tactic(auto, using(pytree_node::proofs::Callers::StmtShapes::assert_tree))]
-pub(crate) fn assert(
+pub(crate) fn assert<R: Recorder>(
     alloc: Global,
     tokens: &[Terminal],
     at: usize,
     depth: Depth,
+    recorder: &mut R,
 ) -> Result<ReadStatement, Stop>
     requires { at ≤ length tokens.now }
-    ensures { PartAnswered tokens.now at (asserts (reads depth) (seen tokens.now at))
+    ensures answered { PartAnswered tokens.now at (asserts (reads depth) (seen tokens.now at))
         (λ r. stmt_of r.statement) (λ r. r.next) result }
+    ensures placed { WordPlaced R.after Keyword.Assert tokens.now at recorder.old recorder.new
+        result }
 {
-    let test = read_at(alloc, tokens, Level::Expression, at, depth)?;
+    let test = read_at(alloc, tokens, Level::Expression, at, depth, recorder)?;
     let msg = after_sign(
         alloc,
         tokens,
@@ -191,6 +204,7 @@ pub(crate) fn assert(
         Level::Expression,
         test.next,
         depth,
+        recorder,
     )?;
     Ok(ReadStatement {
         height: test.height.max(msg.height),
@@ -203,12 +217,20 @@ pub(crate) fn assert(
 }
 
 /// An expression that is deleted.
-fn deleted_one(alloc: Global, tokens: &[Terminal], at: usize, depth: Depth) -> Result<Read, Stop>
+fn deleted_one<R: Recorder>(
+    alloc: Global,
+    tokens: &[Terminal],
+    at: usize,
+    depth: Depth,
+    recorder: &mut R,
+) -> Result<Read, Stop>
     requires { at ≤ length tokens.now }
-    ensures { PartAnswered tokens.now at (line.deleted_one (reads depth) (seen tokens.now at))
+    ensures answered { PartAnswered tokens.now at (line.deleted_one (reads depth) (seen tokens.now
+        at))
         (λ r. tree_of r.expr.value) (λ r. r.next) result }
+    ensures placed { IfOk result (DeletedPlaced R.after tokens.now at recorder.old recorder.new) }
 {
-    let e = read_at(alloc, tokens, Level::Expression, at, depth)?;
+    let e = read_at(alloc, tokens, Level::Expression, at, depth, recorder)?;
     deleted(e)
 }
 
@@ -225,16 +247,23 @@ fn placed(targets: Items, next: usize) -> Items
 }
 
 /// Expressions that are deleted, with commas between them.
-fn deleted_all(alloc: Global, tokens: &[Terminal], at: usize, depth: Depth) -> Result<Items, Stop>
+fn deleted_all<R: Recorder>(
+    alloc: Global,
+    tokens: &[Terminal],
+    at: usize,
+    depth: Depth,
+    recorder: &mut R,
+) -> Result<Items, Stop>
     requires { at ≤ length tokens.now }
-    ensures { PartAnswered tokens.now at
+    ensures answered { PartAnswered tokens.now at
         (line.commas_of (line.deleted_one (reads depth))
         (precedence.starts (entries.Of Level.Expression)) (seen tokens.now at))
         (λ r. map tree_of r.exprs.items) (λ r. r.next) result }
+    ensures placed { IfOk result (AllDeletedPlaced R.after tokens.now at recorder.old recorder.new) }
 {
     let mut targets = no_items(alloc, at);
     'more: loop {
-        let one = deleted_one(alloc, tokens, targets.next, depth)?;
+        let one = deleted_one(alloc, tokens, targets.next, depth, recorder)?;
         let grown = push(targets, one)?;
         if !is_op(tokens, grown.next, Exact::Comma) {
             return Ok(grown);
@@ -249,17 +278,19 @@ fn deleted_all(alloc: Global, tokens: &[Terminal], at: usize, depth: Depth) -> R
 
 /// After a `del`.
 #[tactic(auto, using(pytree_node::proofs::Callers::StmtShapes::delete_tree))]
-pub(crate) fn delete(
+pub(crate) fn delete<R: Recorder>(
     alloc: Global,
     tokens: &[Terminal],
     at: usize,
     depth: Depth,
+    recorder: &mut R,
 ) -> Result<ReadStatement, Stop>
     requires { at ≤ length tokens.now }
-    ensures { PartAnswered tokens.now at (deletes (reads depth) (seen tokens.now at))
+    ensures answered { PartAnswered tokens.now at (deletes (reads depth) (seen tokens.now at))
         (λ r. stmt_of r.statement) (λ r. r.next) result }
+    ensures placed { WordPlaced R.after Keyword.Del tokens.now at recorder.old recorder.new result }
 {
-    let targets = deleted_all(alloc, tokens, at, depth)?;
+    let targets = deleted_all(alloc, tokens, at, depth, recorder)?;
     Ok(ReadStatement {
         height: targets.height,
         next: targets.next,

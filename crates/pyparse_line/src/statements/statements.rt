@@ -11,6 +11,8 @@ ghost use Rattle.pyparse_nodes.specs.Answers.{PartAnswered};
 ghost use Rattle.pyparse_expr.specs.Readings.{reads};
 ghost use Rattle.pyparse_nodes.specs.Views.{Stands, seen};
 ghost use Rattle.pyparse_line.specs.Inner.Simple.{begun};
+ghost use Rattle.std.specs.Prelude.{IfOk};
+ghost use Rattle.pyparse_line.specs.Inner.PlacedStatements.{FieldsPlaced, SimplesPlaced};
 
 use crate::statements::found::{ReadStatement, ReadStatements};
 use crate::statements::imports::{import, import_from};
@@ -23,76 +25,92 @@ use crate::statements::values::value_statement;
 use pylex::Exact;
 use pyparse_expr::Depth;
 use pyparse_nodes::{Stop, append, is_op, terminal_at};
+use pyplaces::Recorder;
 use pytoken::{Keyword, Terminal};
 use pytree_node::Profile;
 use std::alloc::Global;
 
 /// A statement with no keyword in front: a `type`, or one that begins with a value.
 #[tactic(auto, using(crate::proofs::statements::StatementSteps::named_type, crate::proofs::statements::StatementSteps::no_type))]
-fn plain_statement(
+fn plain_statement<R: Recorder>(
     alloc: Global,
     tokens: &[Terminal],
     at: usize,
     profile: Profile,
     depth: Depth,
+    recorder: &mut R,
 ) -> Result<ReadStatement, Stop>
     requires { at ≤ length tokens.now }
-    ensures { PartAnswered tokens.now (at + 1) (begun profile (reads depth) (seen tokens.now at))
+    ensures answered { PartAnswered tokens.now (at + 1) (begun profile (reads depth) (seen
+        tokens.now at))
         (λ r. stmt_of r.statement) (λ r. r.next) result }
+    ensures placed { IfOk result (FieldsPlaced R.after profile tokens.now at recorder.old
+        recorder.new) }
 {
     match type_name_at(tokens, at, profile) {
-        Some(name) => type_alias(alloc, tokens, name, at + 2, profile, depth),
-        None => value_statement(alloc, tokens, at, depth),
+        Some(name) => {
+            recorder.node(at + 1, at + 2)?;
+            type_alias(alloc, tokens, name, at + 2, profile, depth, recorder)
+        }
+        None => value_statement(alloc, tokens, at, depth, recorder),
     }
 }
 
 /// A statement with this keyword in front.
-fn word_statement(
+fn word_statement<R: Recorder>(
     alloc: Global,
     tokens: &[Terminal],
     word: Keyword,
     at: usize,
     profile: Profile,
     depth: Depth,
+    recorder: &mut R,
 ) -> Result<ReadStatement, Stop>
     requires { Stands (terminals.Word word) tokens.now at }
-    ensures { PartAnswered tokens.now (at + 1)
+    ensures answered { PartAnswered tokens.now (at + 1)
         (line.statement profile (reads depth) (seen tokens.now at)) (λ r. stmt_of r.statement)
         (λ r. r.next) result }
+    ensures placed { IfOk result (FieldsPlaced R.after profile tokens.now at recorder.old
+        recorder.new) }
 {
     match word {
-        Keyword::Return => return_value(alloc, tokens, at + 1, depth),
-        Keyword::Raise => raise(alloc, tokens, at + 1, depth),
-        Keyword::Assert => assert(alloc, tokens, at + 1, depth),
-        Keyword::Del => delete(alloc, tokens, at + 1, depth),
+        Keyword::Return => return_value(alloc, tokens, at + 1, depth, recorder),
+        Keyword::Raise => raise(alloc, tokens, at + 1, depth, recorder),
+        Keyword::Assert => assert(alloc, tokens, at + 1, depth, recorder),
+        Keyword::Del => delete(alloc, tokens, at + 1, depth, recorder),
         Keyword::Global => global(alloc, tokens, at + 1),
         Keyword::Nonlocal => nonlocal(alloc, tokens, at + 1),
         Keyword::Pass => Ok(pass_at(at + 1)),
         Keyword::Break => Ok(break_at(at + 1)),
         Keyword::Continue => Ok(continue_at(at + 1)),
-        Keyword::Import => import(alloc, tokens, at + 1),
-        Keyword::From => import_from(alloc, tokens, at + 1),
-        _ => plain_statement(alloc, tokens, at, profile, depth),
+        Keyword::Import => import(alloc, tokens, at + 1, recorder),
+        Keyword::From => import_from(alloc, tokens, at + 1, recorder),
+        _ => plain_statement(alloc, tokens, at, profile, depth, recorder),
     }
 }
 
 /// A statement.
-fn read_statement(
+fn read_statement<R: Recorder>(
     alloc: Global,
     tokens: &[Terminal],
     at: usize,
     profile: Profile,
     depth: Depth,
+    recorder: &mut R,
 ) -> Result<ReadStatement, Stop>
     requires { at ≤ length tokens.now }
-    ensures { PartAnswered tokens.now (at + 1)
+    ensures answered { PartAnswered tokens.now (at + 1)
         (line.statement profile (reads depth) (seen tokens.now at)) (λ r. stmt_of r.statement)
         (λ r. r.next) result }
+    ensures placed { IfOk result (FieldsPlaced R.after profile tokens.now at recorder.old
+        recorder.new) }
 {
     match terminal_at(tokens, at) {
         Some(t) => match t {
-            Terminal::Word(word) => word_statement(alloc, tokens, word, at, profile, depth),
-            _ => plain_statement(alloc, tokens, at, profile, depth),
+            Terminal::Word(word) => word_statement(
+                alloc, tokens, word, at, profile, depth, recorder,
+            ),
+            _ => plain_statement(alloc, tokens, at, profile, depth, recorder),
         },
         None => Err(Stop::NoForm),
     }
@@ -153,21 +171,25 @@ fn placed(statements: ReadStatements, next: usize) -> ReadStatements
 ///
 /// [`Stop::NoForm`]: no statement stands there. [`Stop::TooDeep`]: an expression is too high.
 /// [`Stop::Memory`].
-pub fn read_statements(
+pub fn read_statements<R: Recorder>(
     alloc: Global,
     tokens: &[Terminal],
     at: usize,
     profile: Profile,
     depth: Depth,
+    recorder: &mut R,
 ) -> Result<ReadStatements, Stop>
     requires { at ≤ length tokens.now }
-    ensures { PartAnswered tokens.now (at + 1)
+    ensures answered { PartAnswered tokens.now (at + 1)
         (line.statements profile (reads depth) (suc (length (seen tokens.now at)))
         (seen tokens.now at)) (λ r. map stmt_of r.statements.items) (λ r. r.next) result }
+    ensures placed { IfOk result (SimplesPlaced R.after profile tokens.now at recorder.old
+        recorder.new) }
 {
     let mut statements = no_statements(alloc, at);
     'more: loop {
-        let one = read_statement(alloc, tokens, statements.next, profile, depth)?;
+        let one = read_statement(alloc, tokens, statements.next, profile, depth, recorder)?;
+        recorder.node(statements.next, one.next)?;
         let grown = with_statement(statements, one)?;
         if !is_op(tokens, grown.next, Exact::Semi) {
             return Ok(grown);

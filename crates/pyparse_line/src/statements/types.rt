@@ -14,6 +14,12 @@ ghost use Rattle.pyparse_nodes.specs.Answers.{PartAnswered};
 ghost use Rattle.pyparse_expr.specs.Readings.{reads};
 ghost use Rattle.pyparse_nodes.specs.Views.{seen};
 ghost use Rattle.pyparse_line.specs.Inner.Types.{begins_type_param, type_var};
+ghost use Rattle.std.specs.Prelude.{IfOk, ℕ};
+ghost use Rattle.pytoken.specs.Terminals.{Ident, Spelled};
+ghost use Rattle.pytree_node.specs.Profiles.{has_types};
+ghost use Rattle.pyparse_line.specs.Inner.PlacedParts.{ParamsPlaced, TypeParamPlaced};
+ghost use Rattle.pyparse_line.specs.Inner.PlacedParts.{TypeParamsPlaced};
+ghost use Rattle.pyparse_line.specs.Inner.PlacedStatements.{AliasPlaced};
 
 use crate::statements::found::{ReadStatement, ReadTypeParam, ReadTypeParams};
 use crate::statements::optional::{after_sign, unboxed};
@@ -23,6 +29,7 @@ use pyparse_expr::{Depth, read_at};
 use pyparse_nodes::{
     Optional, Read, Stop, append, identifier_of, is_op, make_name, name_at, terminal_at,
 };
+use pyplaces::Recorder;
 use pytoken::Terminal;
 use pytree_node::{Context, Profile, Stmt, TypeParam, Version};
 use std::alloc::Global;
@@ -46,19 +53,31 @@ fn type_var_of(alloc: Global, name: &str, bound: Optional) -> Result<ReadTypePar
 }
 
 /// A parameter with no star, after its name.
-fn type_var(
+fn type_var<R: Recorder>(
     alloc: Global,
     tokens: &[Terminal],
     name: &str,
     at: usize,
     depth: Depth,
+    recorder: &mut R,
 ) -> Result<ReadTypeParam, Stop>
     requires { at ≤ length tokens.now }
-    ensures { PartAnswered tokens.now at
+    ensures answered { PartAnswered tokens.now at
         (type_var (reads depth) (nfkc (chars name.now)) (seen tokens.now at))
         (λ r. type_param_of r.param) (λ r. r.next) result }
+    ensures placed { (from : ℕ) (x : Spelled) → at ≡ from + 1
+        → seen tokens.now from ≡ Ident x ∷ seen tokens.now at → x.form ≡ nfkc (chars name.now)
+        → IfOk result (TypeParamPlaced R.after tokens.now from recorder.old recorder.new) }
 {
-    let bound = after_sign(alloc, tokens, Exact::Colon, Level::Expression, at, depth)?;
+    let bound = after_sign(
+        alloc,
+        tokens,
+        Exact::Colon,
+        Level::Expression,
+        at,
+        depth,
+        recorder,
+    )?;
     type_var_of(alloc, name, bound)
 }
 
@@ -94,18 +113,20 @@ fn param_spec(alloc: Global, name: &str, next: usize) -> Result<ReadTypeParam, S
 
 /// A type parameter.
 #[tactic(auto, using(crate::proofs::statements::TypeSteps::by_name, crate::proofs::statements::TypeSteps::by_star, crate::proofs::statements::TypeSteps::by_stars))]
-fn read_type_param(
+fn read_type_param<R: Recorder>(
     alloc: Global,
     tokens: &[Terminal],
     at: usize,
     depth: Depth,
+    recorder: &mut R,
 ) -> Result<ReadTypeParam, Stop>
-    ensures { PartAnswered tokens.now (at + 1)
+    ensures answered { PartAnswered tokens.now (at + 1)
         (line.read_type_param (reads depth) (seen tokens.now at)) (λ r. type_param_of r.param)
         (λ r. r.next) result }
+    ensures placed { IfOk result (TypeParamPlaced R.after tokens.now at recorder.old recorder.new) }
 {
     if let Some(name) = name_at(tokens, at) {
-        return type_var(alloc, tokens, name, at + 1, depth);
+        return type_var(alloc, tokens, name, at + 1, depth, recorder);
     }
     if is_op(tokens, at, Exact::Star) {
         return match name_at(tokens, at + 1) {
@@ -196,20 +217,23 @@ fn placed(params: ReadTypeParams, next: usize) -> ReadTypeParams
 }
 
 /// Type parameters with commas between them.
-fn type_params(
+fn type_params<R: Recorder>(
     alloc: Global,
     tokens: &[Terminal],
     at: usize,
     depth: Depth,
+    recorder: &mut R,
 ) -> Result<ReadTypeParams, Stop>
     requires { at ≤ length tokens.now }
-    ensures { PartAnswered tokens.now at
+    ensures answered { PartAnswered tokens.now at
         (line.commas_of (line.read_type_param (reads depth)) line.starts_type_param
         (seen tokens.now at)) (λ r. map type_param_of r.params.items) (λ r. r.next) result }
+    ensures placed { IfOk result (ParamsPlaced R.after tokens.now at recorder.old recorder.new) }
 {
     let mut params = no_params(alloc, at);
     'more: loop {
-        let one = read_type_param(alloc, tokens, params.next, depth)?;
+        let one = read_type_param(alloc, tokens, params.next, depth, recorder)?;
+        recorder.node(params.next, one.next)?;
         let grown = with_param(params, one)?;
         if !is_op(tokens, grown.next, Exact::Comma) {
             return Ok(grown);
@@ -223,21 +247,24 @@ fn type_params(
 }
 
 /// Type parameters in square brackets, if one stands at the place.
-fn bracketed_type_params(
+fn bracketed_type_params<R: Recorder>(
     alloc: Global,
     tokens: &[Terminal],
     at: usize,
     depth: Depth,
+    recorder: &mut R,
 ) -> Result<ReadTypeParams, Stop>
     requires { at ≤ length tokens.now }
-    ensures { PartAnswered tokens.now at
+    ensures answered { PartAnswered tokens.now at
         (line.bracketed_type_params (reads depth) (seen tokens.now at))
         (λ r. map type_param_of r.params.items) (λ r. r.next) result }
+    ensures placed { (profile : Profile) → has_types profile ≡ true
+        → IfOk result (TypeParamsPlaced R.after profile tokens.now at recorder.old recorder.new) }
 {
     if !is_op(tokens, at, Exact::LSqb) {
         return Ok(no_params(alloc, at));
     }
-    let params = type_params(alloc, tokens, at + 1, depth)?;
+    let params = type_params(alloc, tokens, at + 1, depth, recorder)?;
     if !is_op(tokens, params.next, Exact::RSqb) {
         return Err(Stop::NoForm);
     }
@@ -251,21 +278,24 @@ fn bracketed_type_params(
 ///
 /// [`Stop::NoForm`]: what stands in the bracket are none. [`Stop::TooDeep`]: a bound is too high.
 /// [`Stop::Memory`].
-pub fn read_type_params(
+pub fn read_type_params<R: Recorder>(
     alloc: Global,
     tokens: &[Terminal],
     at: usize,
     profile: Profile,
     depth: Depth,
+    recorder: &mut R,
 ) -> Result<ReadTypeParams, Stop>
     requires { at ≤ length tokens.now }
-    ensures { PartAnswered tokens.now at
+    ensures answered { PartAnswered tokens.now at
         (line.read_type_params profile (reads depth) (seen tokens.now at))
         (λ r. map type_param_of r.params.items) (λ r. r.next) result }
+    ensures placed { IfOk result (TypeParamsPlaced R.after profile tokens.now at recorder.old
+        recorder.new) }
 {
     match profile.version {
         Version::Py311 => Ok(no_params(alloc, at)),
-        Version::Py312 => bracketed_type_params(alloc, tokens, at, depth),
+        Version::Py312 => bracketed_type_params(alloc, tokens, at, depth, recorder),
     }
 }
 
@@ -289,24 +319,34 @@ fn alias_of(name: Read, params: ReadTypeParams, value: Read) -> ReadStatement
 }
 
 /// After `type` and a name.
-pub(crate) fn type_alias(
+pub(crate) fn type_alias<R: Recorder>(
     alloc: Global,
     tokens: &[Terminal],
     name: &str,
     at: usize,
     profile: Profile,
     depth: Depth,
+    recorder: &mut R,
 ) -> Result<ReadStatement, Stop>
     requires { at ≤ length tokens.now }
-    ensures { PartAnswered tokens.now at
+    ensures answered { PartAnswered tokens.now at
         (line.alias_rest profile (reads depth) (nfkc (chars name.now)) (seen tokens.now at))
         (λ r. stmt_of r.statement) (λ r. r.next) result }
+    ensures placed { AliasPlaced R.after profile tokens.now (nfkc (chars name.now)) at recorder.old
+        recorder.new result }
 {
-    let params = read_type_params(alloc, tokens, at, profile, depth)?;
+    let params = read_type_params(alloc, tokens, at, profile, depth, recorder)?;
     if !is_op(tokens, params.next, Exact::Equal) {
         return Err(Stop::NoForm);
     }
-    let value = read_at(alloc, tokens, Level::Expression, params.next + 1, depth)?;
+    let value = read_at(
+        alloc,
+        tokens,
+        Level::Expression,
+        params.next + 1,
+        depth,
+        recorder,
+    )?;
     let name = make_name(alloc, name, Context::Store, at)?;
     Ok(alias_of(name, params, value))
 }

@@ -15,6 +15,10 @@ ghost use Rattle.pygrammar.specs.Reader as reader;
 ghost use Rattle.pyparse_nodes.specs.Answers.{PartAnswered};
 ghost use Rattle.pyparse_expr.specs.Readings.{reads};
 ghost use Rattle.pyparse_nodes.specs.Views.{Stands, first_is, seen};
+ghost use Rattle.std.specs.Prelude.{IfOk};
+ghost use Rattle.pyparse_nodes.specs.Views.{IsNotNamed};
+ghost use Rattle.pyparse_line.specs.Inner.PlacedStatements.{AnnotationPlaced, FieldsPlaced};
+ghost use Rattle.pyparse_line.specs.Inner.PlacedStatements.{TargetsPlaced, ValuePlaced};
 
 use crate::statements::assignments::{annotation_of, assignment_of, augmented_of, expression_of};
 use crate::statements::found::ReadStatement;
@@ -25,25 +29,29 @@ use pyparse_expr::{Depth, no_items, push, read_at};
 use pyparse_nodes::{
     Items, Read, Stop, is_op, make_name, name_with, single_stored, stored, terminal_at,
 };
+use pyplaces::Recorder;
 use pytoken::Terminal;
-use pytree_node::{Context, Operator};
+use pytree_node::{Context, Operator, Profile};
 use std::alloc::Global;
 
 /// After the colon of an annotation.
-fn annotated(
+fn annotated<R: Recorder>(
     alloc: Global,
     tokens: &[Terminal],
     target: Read,
     simple: bool,
     at: usize,
     depth: Depth,
+    recorder: &mut R,
 ) -> Result<ReadStatement, Stop>
     requires { at ≤ length tokens.now }
-    ensures { PartAnswered tokens.now at
+    ensures answered { PartAnswered tokens.now at
         (line.annotation (reads depth) (tree_of target.expr.value) simple (seen tokens.now at))
         (λ r. stmt_of r.statement) (λ r. r.next) result }
+    ensures placed { IfOk result (AnnotationPlaced R.after (tree_of target.expr.value) simple
+        tokens.now at recorder.old recorder.new) }
 {
-    let annotation = read_at(alloc, tokens, Level::Expression, at, depth)?;
+    let annotation = read_at(alloc, tokens, Level::Expression, at, depth, recorder)?;
     let value = after_sign(
         alloc,
         tokens,
@@ -51,6 +59,7 @@ fn annotated(
         Level::Value,
         annotation.next,
         depth,
+        recorder,
     )?;
     Ok(annotation_of(target, annotation, value, simple))
 }
@@ -100,65 +109,71 @@ fn augmented_at(tokens: &[Terminal], at: usize) -> Option<Operator>
 
 /// From the operator of an augmented assignment on.
 #[tactic(auto, using(crate::proofs::statements::ValueSteps::augmented_target, crate::proofs::statements::ValueSteps::augmented_failed, crate::proofs::statements::ValueSteps::augmented_found))]
-fn augmented(
+fn augmented<R: Recorder>(
     alloc: Global,
     tokens: &[Terminal],
     value: Read,
     op: Operator,
     depth: Depth,
+    recorder: &mut R,
 ) -> Result<ReadStatement, Stop>
     requires within { value.next + 1 ≤ length tokens.now }
     requires op { Some op ≡ first_is line.augmented_sign (seen tokens.now value.next) }
-    ensures { PartAnswered tokens.now value.next
+    ensures answered { PartAnswered tokens.now value.next
         (line.end_value (reads depth) [] (tree_of value.expr.value) (seen tokens.now value.next))
         (λ r. stmt_of r.statement) (λ r. r.next) result }
+    ensures placed { ValuePlaced R.after tokens.now value recorder.old recorder.new result }
 {
     let next = value.next + 1;
     let target = single_stored(value)?;
-    let right = read_at(alloc, tokens, Level::Value, next, depth)?;
+    let right = read_at(alloc, tokens, Level::Value, next, depth, recorder)?;
     Ok(augmented_of(target, op, right))
 }
 
 /// From the colon of an annotation on.
 #[tactic(auto, using(crate::proofs::statements::ValueSteps::annotated_target, crate::proofs::statements::ValueSteps::annotated_is))]
-fn annotated_value(
+fn annotated_value<R: Recorder>(
     alloc: Global,
     tokens: &[Terminal],
     value: Read,
     depth: Depth,
+    recorder: &mut R,
 ) -> Result<ReadStatement, Stop>
     requires { Stands (terminals.Op Exact.Colon) tokens.now value.next }
-    ensures { PartAnswered tokens.now value.next
+    ensures answered { PartAnswered tokens.now value.next
         (line.end_value (reads depth) [] (tree_of value.expr.value) (seen tokens.now value.next))
         (λ r. stmt_of r.statement) (λ r. r.next) result }
+    ensures placed { ValuePlaced R.after tokens.now value recorder.old recorder.new result }
 {
     let next = value.next + 1;
     let target = single_stored(value)?;
-    annotated(alloc, tokens, target, false, next, depth)
+    annotated(alloc, tokens, target, false, next, depth, recorder)
 }
 
 /// After a value that no `=` follows.
 #[tactic(auto, using(crate::proofs::statements::ValueSteps::assigned, crate::proofs::statements::ValueSteps::alone))]
-fn end_value(
+fn end_value<R: Recorder>(
     alloc: Global,
     tokens: &[Terminal],
     targets: Items,
     value: Read,
     depth: Depth,
+    recorder: &mut R,
 ) -> Result<ReadStatement, Stop>
     requires { value.next ≤ length tokens.now }
-    ensures { PartAnswered tokens.now value.next
+    ensures answered { PartAnswered tokens.now value.next
         (line.end_value (reads depth) (map tree_of targets.exprs.items) (tree_of value.expr.value)
         (seen tokens.now value.next)) (λ r. stmt_of r.statement) (λ r. r.next) result }
+    ensures placed { TargetsPlaced R.after tokens.now targets value recorder.old recorder.new result }
 {
     if !targets.exprs.is_empty() {
         return Ok(assignment_of(targets, value));
     }
     if let Some(op) = augmented_at(tokens, value.next) {
-        return augmented(alloc, tokens, value, op, depth);
+        return augmented(alloc, tokens, value, op, depth, recorder);
     }
     if is_op(tokens, value.next, Exact::Colon) {
-        return annotated_value(alloc, tokens, value, depth);
+        return annotated_value(alloc, tokens, value, depth, recorder);
     }
     Ok(expression_of(value))
 }
@@ -176,22 +191,25 @@ fn placed(targets: Items, next: usize) -> Items
 }
 
 /// Values with `=` between them, or what one value begins.
-fn assignment(
+fn assignment<R: Recorder>(
     alloc: Global,
     tokens: &[Terminal],
     at: usize,
     depth: Depth,
+    recorder: &mut R,
 ) -> Result<ReadStatement, Stop>
     requires { at ≤ length tokens.now }
-    ensures { PartAnswered tokens.now (at + 1)
+    ensures answered { PartAnswered tokens.now (at + 1)
         (line.value_loop (reads depth) (suc (length (seen tokens.now at))) [] (seen tokens.now at))
         (λ r. stmt_of r.statement) (λ r. r.next) result }
+    ensures placed { (profile : Profile) → IsNotNamed Exact.Colon tokens.now at
+        → IfOk result (FieldsPlaced R.after profile tokens.now at recorder.old recorder.new) }
 {
     let mut targets = no_items(alloc, at);
     'more: loop {
-        let value = read_at(alloc, tokens, Level::Value, targets.next, depth)?;
+        let value = read_at(alloc, tokens, Level::Value, targets.next, depth, recorder)?;
         if !is_op(tokens, value.next, Exact::Equal) {
-            return end_value(alloc, tokens, targets, value, depth);
+            return end_value(alloc, tokens, targets, value, depth, recorder);
         }
         let next = value.next + 1;
         let target = stored(value)?;
@@ -201,22 +219,26 @@ fn assignment(
 }
 
 /// A statement that begins with a value.
-pub(crate) fn value_statement(
+pub(crate) fn value_statement<R: Recorder>(
     alloc: Global,
     tokens: &[Terminal],
     at: usize,
     depth: Depth,
+    recorder: &mut R,
 ) -> Result<ReadStatement, Stop>
     requires { at ≤ length tokens.now }
-    ensures { PartAnswered tokens.now (at + 1)
+    ensures answered { PartAnswered tokens.now (at + 1)
         (line.value_statement (reads depth) (seen tokens.now at)) (λ r. stmt_of r.statement)
         (λ r. r.next) result }
+    ensures placed { (profile : Profile)
+        → IfOk result (FieldsPlaced R.after profile tokens.now at recorder.old recorder.new) }
 {
     match name_with(tokens, at, Exact::Colon) {
         Some(name) => {
+            recorder.node(at, at + 1)?;
             let target = make_name(alloc, name, Context::Store, at + 1)?;
-            annotated(alloc, tokens, target, true, at + 2, depth)
+            annotated(alloc, tokens, target, true, at + 2, depth, recorder)
         }
-        None => assignment(alloc, tokens, at, depth),
+        None => assignment(alloc, tokens, at, depth, recorder),
     }
 }

@@ -1,39 +1,7 @@
-use Rattle.std.proofs.Common.{◌≡◌, ◌++◌, ap, codes, inl}
-use Rattle.std.specs.List.{concat}
-use Rattle.std.proofs.lemmas.Result.{err_from_is_err_and}
-use Rattle.pysource.proofs.Callers.Taken.{Appends-refl}
-use Rattle.pytree_node.specs.TreeOf.{module_of}
-use Rattle.pyast_command.specs.Dumps.{dump_output}
-use Rattle.pyast_command.specs.Runs.{in_pieces}
-use Rattle.pyast_command.proofs.ModuleLemmas.{all_written, none_written, pieces_cut}
 use Rattle.pyast_command.proofs.dumps.write_dump.Goals as goal
 
-pub returns-in_err-module-clause-performs :
-    goal.returns-in_err-module-clause-performs
-returns-in_err-module-clause-performs g c =
-    let e = err_from_is_err_and c.from_residual.result c.from_residual.ensures.1 in
-    rw (e.1, e.2) (none_written in_pieces c.args.asked.now.style.profile (λ m output. output ≡ dump_output c.args.asked.now.style m)
-    (g.R.ByteIn.seen c.args.reader.now) (g.R.ByteIn.seen c.read_module.new.reader) (g.W.ByteOut.sent c.args.writer.now).taken
-    c.in_err-module.field-0.0 c.in_err-module.ensures.none)
+pub returns-then-attributes-clause-performs : goal.returns-then-attributes-clause-performs
+returns-then-attributes-clause-performs g c = rw (c.if-attributes.true) c.write_placed.ensures.performs
 
-pub returns-in_err-pieces-clause-performs :
-    goal.returns-in_err-pieces-clause-performs
-returns-in_err-pieces-clause-performs g c =
-    let e = err_from_is_err_and c.from_residual-in_err-pieces.result c.from_residual-in_err-pieces.ensures.1 in
-    rw (e.1, e.2) (c.in_ok-module.ensures.reads.all.unfailed, inl (Appends-refl (g.W.ByteOut.sent c.args.writer.now).taken))
-
-pub returns-in_err-write_pieces-clause-performs :
-    goal.returns-in_err-write_pieces-clause-performs
-returns-in_err-write_pieces-clause-performs g c =
-    let e = err_from_is_err_and c.from_residual-in_err-write_pieces.result c.from_residual-in_err-write_pieces.ensures.1 in
-    rw (e.1, e.2) (pieces_cut c.args.asked.now.style.profile (λ m output. output ≡ dump_output c.args.asked.now.style m) _ _
-    (module_of c.in_ok-module.module)
-    (g.W.ByteOut.sent c.args.writer.now).taken (g.W.ByteOut.sent c.write_pieces.new.writer).taken
-    (concat c.in_ok-pieces.pieces ++ codes "\n") c.in_err-write_pieces.field-0.0 c.in_ok-module.ensures.reads
-    (ap (λ text. text ++ codes "\n") c.in_ok-pieces.ensures.text) c.in_err-write_pieces.ensures.writes)
-
-pub returns-clause-performs : goal.returns-clause-performs
-returns-clause-performs g c =
-    all_written in_pieces (g.W.ByteOut.sent c.args.writer.now).taken (g.W.ByteOut.sent c.write_pieces.new.writer).taken
-    (concat c.in_ok-pieces.pieces ++ codes "\n") c.in_ok-module.ensures.reads
-    (ap (λ text. text ++ codes "\n") c.in_ok-pieces.ensures.text) c.in_ok-write_pieces.ensures.writes.1
+pub returns-else-attributes-clause-performs : goal.returns-else-attributes-clause-performs
+returns-else-attributes-clause-performs g c = rw (c.if-attributes.false) c.write_bare.ensures.performs

@@ -6,6 +6,7 @@ pub returns : goal.returns
 returns c =
     let indent = one_more c.tree_form.ensures c.number_form.ensures c.in_ok-arg.ensures in
     let bare = one_more indent c.flag_form.ensures c.in_ok-arg-2.ensures in
-    let newer = one_more bare c.newer_form.ensures c.in_ok-arg-3.ensures in
-    let whole = one_more newer c.whole_form.ensures c.in_ok-arg-4.ensures in
-    IfOk-weaker c.arg-5.result _ _ (λ form added. one_more whole c.file_form.ensures added) c.arg-5.ensures
+    let attributes = one_more bare c.flag_form-2.ensures c.in_ok-arg-3.ensures in
+    let newer = one_more attributes c.newer_form.ensures c.in_ok-arg-4.ensures in
+    let whole = one_more newer c.whole_form.ensures c.in_ok-arg-5.ensures in
+    IfOk-weaker c.arg-6.result _ _ (λ form added. one_more whole c.file_form.ensures added) c.arg-6.ensures

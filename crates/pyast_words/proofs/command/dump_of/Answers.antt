@@ -13,6 +13,10 @@ returns-clause-given c = record {
       (is_flag _ _ (λ e. c.get_flag.ensures.none (one_text-rows (found_of c.args.matches.now) (codes "bare") ∙ e))
       (λ e. c.get_flag.ensures.value (one_text-rows (found_of c.args.matches.now) (codes "bare") ∙ e))
       (λ e. c.get_flag.ensures.other (one_text-rows (found_of c.args.matches.now) (codes "bare") ∙ e)));
+  attributes =
+      is_flag _ _ (λ e. c.get_flag-attributes.ensures.none (one_text-rows (found_of c.args.matches.now) (codes "attributes") ∙ e))
+      (λ e. c.get_flag-attributes.ensures.value (one_text-rows (found_of c.args.matches.now) (codes "attributes") ∙ e))
+      (λ e. c.get_flag-attributes.ensures.other (one_text-rows (found_of c.args.matches.now) (codes "attributes") ∙ e));
   profile = c.profile_of.ensures;
   file = c.in_ok-file.ensures;
 }

@@ -11,3 +11,6 @@ returns-in-Ok-clause-accepted c profile s k forms outline was closes = sound_acc
 pub returns-in_ok-block_error-in-Err-clause-refused : goal.returns-in_ok-block_error-in-Err-clause-refused
 returns-in_ok-block_error-in-Err-clause-refused c profile s k forms outline was closes =
     sound_refused closes c.in_ok-block_error-in-Err.field-0 c.in-Err.stop was c.in_ok-block_error-in-Err.ensures c.in-Err.ensures.blamed
+
+pub returns-in-Ok-clause-block : goal.returns-in-Ok-clause-block
+returns-in-Ok-clause-block c profile s k forms outline was = c.in-Ok.ensures.block forms (formed_proper was.formed) was.read

@@ -1,4 +1,4 @@
-use Rattle.std.proofs.Common.{ℕ, ◌+◌, ◌<◌, ◌∙◌, Bool, ap, subst, sym, arith, length}
+use Rattle.std.proofs.Common.{[], ℕ, ◌+◌, ◌<◌, ◌∙◌, Bool, ap, subst, sym, arith, length}
 use Rattle.std.specs.Prelude.{if◌then◌else◌}
 use Rattle.std.proofs.lemmas.Option.{slice_get_within}
 use Rattle.pysource.specs.Parts.{Parts}
@@ -22,7 +22,11 @@ loop-progress-init c =
       known =
           subst (λ (k : ℕ). IsProgress c.args.profile s k c.new-progress.result)
           (sym (ap (λ (r : LineReading). r.given) c.in_ok-lines.ensures.before))
-          (c.new-progress.ensures c.args.profile s);
+          (record {
+            forms = [];
+            known = (c.new-progress.ensures c.args.profile s).known;
+            places = (c.new-progress.ensures c.args.profile s).places;
+          });
     }
 
 pub returns-in_err-next-clause-refused : goal.returns-in_err-next-clause-refused

@@ -5,3 +5,6 @@ returns-clause-accepted c profile s k was closes = c.finish.ensures.accepted pro
 
 pub returns-clause-refused : goal.returns-clause-refused
 returns-clause-refused c profile s k was closes = c.finish.ensures.refused profile s k was.forms was.known closes
+
+pub returns-clause-block : goal.returns-clause-block
+returns-clause-block c profile s k forms was = c.finish.ensures.block profile s k forms was.known

@@ -4,14 +4,16 @@ use Rattle.pygrammar.specs.LineReader.{commas_of, name_alias}
 use Rattle.pyparse_nodes.specs.Views.{seen}
 use Rattle.pyparse_line.specs.Inner.Imports.{more_names}
 use Rattle.pyparse_line.proofs.statements.Callers.Commas.{Listed}
+use Rattle.pyparse_line.proofs.Recorders.Imports.{AliasesGrown}
 use Rattle.pyparse_line.proofs.statements.aliases.name_aliases.Given as goal
 
 abbrev pub invariant-more : goal.invariant-more
-invariant-more l = record {
+invariant-more g l = record {
   ahead : l.at ≤ l.next;
   is : Listed l.tokens name_alias (more_names l.bracketed) (commas_of name_alias (more_names l.bracketed) (seen l.tokens l.at))
       (map alias_of l.aliases.items) l.next;
+  grown : AliasesGrown g.R.Recorder.after l.tokens l.at l.initial.recorder l.recorder (map alias_of l.aliases.items) l.next;
 }
 
 abbrev pub decreases-more : goal.decreases-more
-decreases-more l = length l.tokens - l.next
+decreases-more g l = length l.tokens - l.next

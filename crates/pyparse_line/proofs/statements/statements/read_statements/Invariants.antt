@@ -4,14 +4,16 @@ use Rattle.pygrammar.specs.LineReader.{statements}
 use Rattle.pyparse_expr.specs.Readings.{reads}
 use Rattle.pyparse_nodes.specs.Views.{seen}
 use Rattle.pyparse_line.proofs.statements.StatementSteps.{Runs}
+use Rattle.pyparse_line.proofs.Recorders.Values.{SimplesGrown}
 use Rattle.pyparse_line.proofs.statements.statements.read_statements.Given as goal
 
 abbrev pub invariant-more : goal.invariant-more
-invariant-more l = record {
+invariant-more g l = record {
   ahead : l.at ≤ l.statements.next;
   is : Runs l.tokens l.profile (reads l.depth) (statements l.profile (reads l.depth) (suc (length (seen l.tokens l.at)))
       (seen l.tokens l.at)) (map stmt_of l.statements.statements.items) l.statements.next;
+  grown : SimplesGrown g.R.Recorder.after l.profile l.tokens l.at l.initial.recorder l.recorder l.statements;
 }
 
 abbrev pub decreases-more : goal.decreases-more
-decreases-more l = length l.tokens - l.statements.next
+decreases-more g l = length l.tokens - l.statements.next

@@ -4,14 +4,16 @@ use Rattle.pygrammar.specs.LineReader.{value_loop}
 use Rattle.pyparse_expr.specs.Readings.{reads}
 use Rattle.pyparse_nodes.specs.Views.{seen}
 use Rattle.pyparse_line.proofs.statements.ValueSteps.{Assigns}
+use Rattle.pyparse_line.proofs.Recorders.Values.{TargetsGrown}
 use Rattle.pyparse_line.proofs.statements.values.assignment.Given as goal
 
 abbrev pub invariant-more : goal.invariant-more
-invariant-more l = record {
+invariant-more g l = record {
   ahead : l.at ≤ l.targets.next;
   is : Assigns l.tokens (reads l.depth) (value_loop (reads l.depth) (suc (length (seen l.tokens l.at))) [] (seen l.tokens l.at))
       (map tree_of l.targets.exprs.items) l.targets.next;
+  grown : TargetsGrown g.R.Recorder.after l.tokens l.at l.initial.recorder l.recorder l.targets;
 }
 
 abbrev pub decreases-more : goal.decreases-more
-decreases-more l = length l.tokens - l.targets.next
+decreases-more g l = length l.tokens - l.targets.next

@@ -1,0 +1,14 @@
+use Rattle.std.proofs.Common.{[], refl}
+use Rattle.pygrammar.specs.Refusals.{formed_end}
+use Rattle.pyparse.proofs.placed.PlacedProgress.new.Goals as goal
+
+pub returns : goal.returns
+returns c profile s =
+    let holds = c.new.ensures profile s in
+    record {
+      forms = [];
+      known = holds.known;
+      places = holds.places;
+      zs = [];
+      placed = λ read. (record { formed = formed_end; are = refl }, c.new-2.ensures);
+    }

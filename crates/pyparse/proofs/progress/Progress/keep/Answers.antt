@@ -1,0 +1,17 @@
+use Rattle.std.proofs.Common.{[], ◌∷◌, ◌++◌, List, subst, sym}
+use Rattle.pytoken.specs.Inner.Behind.{behind}
+use Rattle.pygrammar.specs.Lines.{Line, line}
+use Rattle.pygrammar.specs.FormOf.{form_of}
+use Rattle.pyparse.specs.Inner.Placing.{HoldsPlaces}
+use Rattle.pyparse.proofs.ProgressLemmas.{behind_more}
+use Rattle.pyparse.proofs.progress.Progress.keep.Goals as goal
+
+pub returns : goal.returns
+returns c profile s k forms was comes =
+    let next : Line = line c.args.level (form_of c.args.form) in
+    record {
+      known = c.in_ok-place.ensures profile s k forms was.known comes;
+      places =
+          subst (λ (xs : List Line). HoldsPlaces xs c.step.new.self) (sym (behind_more [] forms next))
+          (c.in-Ok.ensures (behind [] forms) (form_of c.args.form) c.is_match.ensures was.places);
+    }

@@ -1,0 +1,11 @@
+-- The places that the readers record.
+pub mod Definitions
+pub mod Fronts
+pub mod Headers
+pub mod Imports
+pub mod Looks
+pub mod Parts
+pub mod Says
+pub mod Types
+pub mod Values
+pub mod Words

@@ -1,0 +1,7 @@
+-- The places that the readers record.
+pub mod Entries
+pub mod Levels
+pub mod Looks
+pub mod Made
+pub mod Sequences
+pub mod Values

@@ -1,0 +1,36 @@
+-- What stands at a place, or doesn't, as the lemmas on places take it.
+--
+-- Carries: each reader of patterns. On: Views.
+use Rattle.std.proofs.Common.{◌≡◌, refl, sym, ap, ◌∙◌, ℕ, ◌+◌, List, [], ◌∷◌, drop, drop-drop, map, Option, Some, None}
+use Rattle.pylex_lexeme.specs.declared.kinds.Exact.{Exact}
+use Rattle.pytoken.specs.Terminals.{Terminal, Spelled, Op, Ident}
+use Rattle.pytoken.specs.declared.values.terminals.Terminal as given
+use Rattle.pytoken.specs.TerminalOf.{terminal}
+use Rattle.pygrammar.specs.Looks.{is_op, name_in}
+use Rattle.pyparse_nodes.specs.Views.{seen, first_is}
+use Rattle.pyplaces.specs.Rests.{Lacks}
+use Rattle.pyplaces.proofs.Answers.{lacks_op}
+
+pub no_op : (x : Exact) {r : List Terminal} → None ≡ first_is (is_op x) r → Lacks (Op x) r
+no_op x h = lacks_op x (λ t s q. sym (h ∙ ap (first_is (is_op x)) q))
+
+-- a terminal of which a test says something
+pub some_first : {A : Type 0} (f : Terminal → Option A) (a : A) (ts : List given.Terminal) (n : ℕ) → Some a ≡ first_is f (seen ts n)
+    → (t : Terminal) × (seen ts n ≡ t ∷ seen ts (n + 1)) × (f t ≡ Some a)
+some_first f a ts n h = go (seen ts n) h (drop-drop 1 n (map terminal ts))
+  where
+    go : (r : List Terminal) {s : List Terminal} → Some a ≡ first_is f r → drop 1 r ≡ s → (t : Terminal) × (r ≡ t ∷ s) × (f t ≡ Some a)
+    go [] h q = absurd (cc)
+    go (t ∷ r) h q = (t, ap (λ z. t ∷ z) q, sym h)
+
+name_is : (t : Terminal) (f : List ℕ) → name_in t ≡ Some f → (x : Spelled) × (t ≡ Ident x) × (x.form ≡ f)
+name_is (Ident x) f h = (x, refl, cc)
+name_is _ f h = absurd (cc)
+
+-- the NAME at a place
+pub name_first : (f : List ℕ) (ts : List given.Terminal) (n : ℕ) → Some f ≡ first_is name_in (seen ts n)
+    → (x : Spelled) × (seen ts n ≡ Ident x ∷ seen ts (n + 1)) × (x.form ≡ f)
+name_first f ts n h =
+    let w = some_first name_in f ts n h in
+    let v = name_is w.0 f w.2 in
+    (v.0, w.1 ∙ ap (λ t. t ∷ seen ts (n + 1)) v.1, v.2)
