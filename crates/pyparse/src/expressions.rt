@@ -14,6 +14,7 @@ use pygrammar::Level;
 use pyparse_expr::read_whole;
 use pyparse_nodes::Stop;
 use pyparse_tokens::{GrammarError, ParseFault, Token};
+use pyplaces::Ignored;
 use pytree_node::Expr;
 use std::alloc::Global;
 
@@ -40,7 +41,7 @@ pub fn parse_expression(
     ensures lawful { GrammarIsLawful }
 {
     let made = terminals_of(alloc, tokens)?;
-    match read_whole(alloc, made.as_slice(), level) {
+    match read_whole(alloc, made.as_slice(), level, &mut Ignored) {
         Ok(expr) => Ok(Box::into_inner(expr)),
         Err(Stop::NoForm) => Err(ParseFault::Grammar(GrammarError::Syntax, first_place(tokens))),
         Err(Stop::TooDeep) => Err(ParseFault::Grammar(GrammarError::TooDeep, first_place(tokens))),

@@ -14,6 +14,7 @@ use pygrammar::PatternLevel;
 use pyparse_nodes::Stop;
 use pyparse_pattern::read_whole_pattern;
 use pyparse_tokens::{GrammarError, ParseFault, Token};
+use pyplaces::Ignored;
 use pytree_node::Pattern;
 use std::alloc::Global;
 
@@ -40,7 +41,7 @@ pub fn parse_pattern(
     ensures lawful { PatternsAreLawful }
 {
     let made = terminals_of(alloc, tokens)?;
-    match read_whole_pattern(alloc, made.as_slice(), level) {
+    match read_whole_pattern(alloc, made.as_slice(), level, &mut Ignored) {
         Ok(pattern) => Ok(Box::into_inner(pattern)),
         Err(Stop::NoForm) => Err(ParseFault::Grammar(GrammarError::Syntax, first_place(tokens))),
         Err(Stop::TooDeep) => Err(ParseFault::Grammar(GrammarError::TooDeep, first_place(tokens))),
