@@ -24,8 +24,8 @@ pub record ReadsModule (profile : Profile) (seen_old seen_new : Seen) (m : Modul
 
 -- and its nodes have these places
 pub record ReadsPlaced (profile : Profile) (seen_old seen_new : Seen) (m : Module) (p : PlacesOf) : Type 0 where
-  pub module : ReadsModule profile seen_old seen_new m
-  pub places : HasPlaces profile module.input m p
+  pub read : ReadsModule profile seen_old seen_new m
+  pub places : HasPlaces profile read.input m p
 
 -- why they give none: the source is at fault, a read failed, or memory was wanting
 abbrev pub ReadsNone : Profile → Seen → Seen → Fault → Type 0

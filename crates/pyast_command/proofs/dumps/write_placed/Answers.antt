@@ -20,7 +20,7 @@ pub returns-in_err-pieces-clause-performs :
     goal.returns-in_err-pieces-clause-performs
 returns-in_err-pieces-clause-performs g c =
     let e = err_from_is_err_and c.from_residual-in_err-pieces.result c.from_residual-in_err-pieces.ensures.1 in
-    rw (e.1, e.2) (c.in_ok-read_placed.ensures.reads.module.all.unfailed, inl (Appends-refl (g.W.ByteOut.sent c.args.writer.now).taken))
+    rw (e.1, e.2) (c.in_ok-read_placed.ensures.reads.read.all.unfailed, inl (Appends-refl (g.W.ByteOut.sent c.args.writer.now).taken))
 
 pub returns-in_err-write_pieces-clause-performs :
     goal.returns-in_err-write_pieces-clause-performs
@@ -29,7 +29,7 @@ returns-in_err-write_pieces-clause-performs g c =
     let reads = c.in_ok-read_placed.ensures.reads in
     rw (e.1, e.2) (pieces_cut c.args.style.profile (IsDumpText c.args.style true) _ _ (module_of c.in_ok-read_placed.field-0.module)
     (g.W.ByteOut.sent c.args.writer.now).taken (g.W.ByteOut.sent c.write_pieces.new.writer).taken
-    (concat c.in_ok-pieces.pieces ++ codes "\n") c.in_err-write_pieces.field-0.0 reads.module
+    (concat c.in_ok-pieces.pieces ++ codes "\n") c.in_err-write_pieces.field-0.0 reads.read
     (c.in_ok-read_placed.field-0.places, reads.places, ap (λ text. text ++ codes "\n") c.in_ok-pieces.ensures.text)
     c.in_err-write_pieces.ensures.writes)
 
@@ -37,6 +37,6 @@ pub returns-clause-performs : goal.returns-clause-performs
 returns-clause-performs g c =
     let reads = c.in_ok-read_placed.ensures.reads in
     all_written in_pieces {output = IsDumpText c.args.style true} (g.W.ByteOut.sent c.args.writer.now).taken
-    (g.W.ByteOut.sent c.write_pieces.new.writer).taken (concat c.in_ok-pieces.pieces ++ codes "\n") reads.module
+    (g.W.ByteOut.sent c.write_pieces.new.writer).taken (concat c.in_ok-pieces.pieces ++ codes "\n") reads.read
     (c.in_ok-read_placed.field-0.places, reads.places, ap (λ text. text ++ codes "\n") c.in_ok-pieces.ensures.text)
     c.in_ok-write_pieces.ensures.writes.1
