@@ -1,6 +1,7 @@
 -- Carries: accept, read_module, write_dump, write_unparse. On: what refuses a source that was read
 -- whole, and that the text of its module gives it back.
-use Rattle.std.proofs.Common.{◌≡◌, ℕ, Bool, true, false, cond, List, [], ◌∷◌, Option, Some, None, Result, Ok, Err, sym, subst, inl, inr}
+use Rattle.std.proofs.Common.{◌≡◌, ◌∙◌, ◌++◌, ap, ℕ, Bool, true, false, cond, List, [], ◌∷◌, Option, Some, None, Result, Ok, Err, sym, subst}
+use Rattle.std.proofs.Common.{codes, inl, inr}
 use Rattle.std.specs.Prelude.{IsUtf8}
 use Rattle.std.specs.Str.{encode_utf8_all}
 use Rattle.std.specs.Io.KnownBytes.{Appends}
@@ -48,6 +49,12 @@ use Rattle.pyast_fault.specs.declared.fault.RunFaultCode.TheVariants.{Read, Writ
 use Rattle.pyunparse_text.specs.Modules.{module_text}
 use Rattle.pyunparse_text.proofs.Callers.Texts.{accepted_texts_are_accepted}
 use Rattle.pyunparse.specs.RoundTrips.{GivesBack}
+use Rattle.pytree_dump_text.specs.Layout.{dump_text}
+use Rattle.pytree_dump_text.specs.Shows.{shown_module}
+use Rattle.pytree_dump_text.specs.declared.styles.Style.{Style}
+use Rattle.pytree_marked.specs.MarkedNodes.{with_places}
+use Rattle.pyplaces.specs.PlacesOf.{PlacesOf, shown_from}
+use Rattle.pyast_command.specs.Dumps.{placed_output}
 use Rattle.pyast_command.specs.Modules.{IsRefused, no_source, refused, Writes, of_module, of_none}
 use Rattle.pyast_command.specs.Runs.{Making, whole, in_pieces, ReadsAll, WritesFor, PerformsWhole}
 use Rattle.pyast_command.specs.Unparses.{IsTextOf}
@@ -222,3 +229,19 @@ pieces_cut profile output seen_old seen_new m x y text (Plain other) reads is h 
 pub is_text : {profile : Profile} {m : Module} {text : List ℕ} → text ≡ encode_utf8_all (module_text m)
     → GivesBack profile (encode_utf8_all (module_text m)) m → IsTextOf profile m text
 is_text {profile} {m} {text} is back = record { text = is; back = subst (λ (bytes : List ℕ). GivesBack profile bytes m) (sym is) back }
+
+-- the text with all places, of those that are left before the first is taken
+pub placed_text : (style : Style) (m k : Module) (p q : PlacesOf) (n : ℕ) → k ≡ m → q ≡ p → n ≡ 0 → (text : List ℕ)
+    → text ≡ dump_text style (with_places (shown_from n q) (shown_module style.profile k)).shown
+    → text ++ codes "\n" ≡ placed_output style m p
+placed_text style m k p q n f e h text is = ap (λ t. t ++ codes "\n") (is
+    ∙ (ap (λ j. dump_text style (with_places (shown_from j q) (shown_module style.profile k)).shown) h
+    ∙ (ap (λ r. dump_text style (with_places (shown_from 0 r) (shown_module style.profile k)).shown) e
+    ∙ ap (λ x. dump_text style (with_places (shown_from 0 p) (shown_module style.profile x)).shown) f)))
+
+-- what a pair is made of
+pub first_is : {A B : Type 0} {z : A × B} {a : A} {b : B} → z ≡ (a, b) → z.0 ≡ a
+first_is {A} {B} h = ap (λ (y : A × B). y.0) h
+
+pub second_is : {A B : Type 0} {z : A × B} {a : A} {b : B} → z ≡ (a, b) → z.1 ≡ b
+second_is {A} {B} h = ap (λ (y : A × B). y.1) h

@@ -24,8 +24,14 @@ pub record ReadsModule (profile : Profile) (seen_old seen_new : Seen) (m : Modul
 
 -- and its nodes have these places
 pub record ReadsPlaced (profile : Profile) (seen_old seen_new : Seen) (m : Module) (p : PlacesOf) : Type 0 where
-  pub read : ReadsModule profile seen_old seen_new m
-  pub places : HasPlaces profile read.input m p
+  pub input : List ℕ
+  pub all : ReadsAll seen_old seen_new source_limit input
+  pub is : IsModule profile input m
+  pub places : HasPlaces profile input m p
+
+abbrev pub module_read : {profile : Profile} {seen_old seen_new : Seen} {m : Module} {p : PlacesOf}
+    → ReadsPlaced profile seen_old seen_new m p → ReadsModule profile seen_old seen_new m
+module_read r = record { input = r.input; all = r.all; is = r.is }
 
 -- why they give none: the source is at fault, a read failed, or memory was wanting
 abbrev pub ReadsNone : Profile → Seen → Seen → Fault → Type 0
