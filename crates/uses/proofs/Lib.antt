@@ -1,3 +1,4 @@
 mod ListingLemmas
+mod PlaceLemmas
 mod StreamLemmas
 mod TreeLemmas

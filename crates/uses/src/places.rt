@@ -9,6 +9,13 @@ use pyparse::{Places, Span, has_span, span_text};
 use pysource::Source;
 use std::alloc::{AllocError, Global};
 
+/// Whether a span holds a byte.
+fn holds(span: Span, byte: u32) -> bool
+    ensures { result ≡ holds byte (told span) }
+{
+    span.from <= byte && byte < span.to
+}
+
 /// The spans of the nodes that stand around a byte of the source, the innermost first.
 pub fn spans_around(alloc: Global, places: &Places, byte: u32) -> Result<Vec<Span>, AllocError>
     ensures { IfOk result
@@ -17,7 +24,7 @@ pub fn spans_around(alloc: Global, places: &Places, byte: u32) -> Result<Vec<Spa
     let mut found = Vec::new(alloc);
     for i in 0..places.len() {
         let span = places.span(i);
-        if span.from <= byte && byte < span.to {
+        if holds(span, byte) {
             found.push(span)?;
         }
     }

@@ -30,20 +30,26 @@ returns-in_err-write_pieces-clause-performs g c =
     let reads = c.in_ok-read_placed.ensures.reads in
     rw (e.1, e.2) (pieces_cut c.args.style.profile (IsDumpText c.args.style true) _ _ (module_of c.in_ok-read_placed.field-0.module)
     (g.W.ByteOut.sent c.args.writer.now).taken (g.W.ByteOut.sent c.write_pieces.new.writer).taken
-    (concat c.in_ok-pieces.pieces ++ codes "\n") c.in_err-write_pieces.field-0.0 (module_read reads)
-    (c.in_ok-read_placed.field-0.places, reads.places, placed_text c.args.style (module_of c.in_ok-read_placed.field-0.module) _
-    c.in_ok-read_placed.field-0.places _ _ (ap module_of (first_is c.into_parts-module.ensures))
-    (c.new.ensures.places ∙ second_is c.into_parts-module.ensures) c.new.ensures.next (concat c.in_ok-pieces.pieces)
-    c.in_ok-pieces.ensures.text)
+    (concat c.in_ok-pieces.pieces ++ codes "\n") c.in_err-write_pieces.field-0.0 (module_read reads) (
+      c.in_ok-read_placed.field-0.places,
+      reads.places,
+      placed_text c.args.style (module_of c.in_ok-read_placed.field-0.module) _
+          c.in_ok-read_placed.field-0.places _ _ (ap module_of (first_is c.into_parts-module.ensures))
+          (c.new.ensures.places ∙ second_is c.into_parts-module.ensures) c.new.ensures.next (concat c.in_ok-pieces.pieces)
+          c.in_ok-pieces.ensures.text,
+    )
     c.in_err-write_pieces.ensures.writes)
 
 pub returns-clause-performs : goal.returns-clause-performs
 returns-clause-performs g c =
     let reads = c.in_ok-read_placed.ensures.reads in
     all_written in_pieces {output = IsDumpText c.args.style true} (g.W.ByteOut.sent c.args.writer.now).taken
-    (g.W.ByteOut.sent c.write_pieces.new.writer).taken (concat c.in_ok-pieces.pieces ++ codes "\n") (module_read reads)
-    (c.in_ok-read_placed.field-0.places, reads.places, placed_text c.args.style (module_of c.in_ok-read_placed.field-0.module) _
-    c.in_ok-read_placed.field-0.places _ _ (ap module_of (first_is c.into_parts-module.ensures))
-    (c.new.ensures.places ∙ second_is c.into_parts-module.ensures) c.new.ensures.next (concat c.in_ok-pieces.pieces)
-    c.in_ok-pieces.ensures.text)
+    (g.W.ByteOut.sent c.write_pieces.new.writer).taken (concat c.in_ok-pieces.pieces ++ codes "\n") (module_read reads) (
+      c.in_ok-read_placed.field-0.places,
+      reads.places,
+      placed_text c.args.style (module_of c.in_ok-read_placed.field-0.module) _
+          c.in_ok-read_placed.field-0.places _ _ (ap module_of (first_is c.into_parts-module.ensures))
+          (c.new.ensures.places ∙ second_is c.into_parts-module.ensures) c.new.ensures.next (concat c.in_ok-pieces.pieces)
+          c.in_ok-pieces.ensures.text,
+    )
     c.in_ok-write_pieces.ensures.writes.1

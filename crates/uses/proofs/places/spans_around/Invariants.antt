@@ -5,4 +5,4 @@ use Rattle.uses.proofs.places.spans_around.Given as goal
 
 abbrev pub invariant-loop-i : goal.invariant-loop-i
 invariant-loop-i l =
-    map told l.found.items ++ filter (holds l.fn.byte) (drop l.i l.fn.places.now.spans) ≡ filter (holds l.fn.byte) l.fn.places.now.spans
+    map told l.found.items ++ filter (holds l.fn.byte) (drop l.i l.fn.places.spans) ≡ filter (holds l.fn.byte) l.fn.places.spans
