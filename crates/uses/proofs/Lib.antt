@@ -1,4 +1,3 @@
 mod ListingLemmas
-mod PlaceLemmas
 mod StreamLemmas
 mod TreeLemmas
