@@ -11,7 +11,7 @@ one are compared as sources of their own: its statements, and those within state
 failure, shown by the smallest input that has it. With --whole it is `pyast dump --whole` that is compared, which leaves out no number, no `match`
 statement, and of f-strings only those with a string in a field that has a quote or a line end, and those with a `=` in a nested f-string.
 With --attributes each style is compared with the places of nodes; what stands in the fields of f-strings has its true places, which Python
-3.11 doesn't give, so that there the trees are compared, without those places.
+3.11 doesn't give, and a format spec that of its row of literals, so that there the trees are compared, without those places.
 
 The exit status is 0 where every difference has a class, 1 where one has none, and 2 where nothing could be compared; with
 --or-skip it is 0 too where there is no Python 3.11.
@@ -132,10 +132,16 @@ def python_dump(tree, named):
     return ast.dump(tree, **named).encode("utf-8", "surrogatepass") + b"\n"
 
 
+def nodes_of_field(field):
+    """The nodes of a field of an f-string whose places Python 3.11 gives otherwise: its expression's, its format spec and the texts in that."""
+    texts = [value for value in getattr(field.format_spec, "values", []) if isinstance(value, ast.Constant)]
+    return [*ast.walk(field.value), *([field.format_spec] if field.format_spec else []), *texts]
+
+
 def without_fields(tree):
     """The dump of a tree with the places of all nodes but those in the fields of f-strings."""
     for field in ast.walk(tree):
-        for node in ast.walk(field.value) if isinstance(field, ast.FormattedValue) else ():
+        for node in nodes_of_field(field) if isinstance(field, ast.FormattedValue) else ():
             for name in ("lineno", "col_offset", "end_lineno", "end_col_offset"):
                 node.__dict__.pop(name, None)
     return ast.dump(tree, include_attributes=True)
