@@ -4,7 +4,7 @@
 use crate::dumps::does_all;
 
 #[test]
-fn dumps_with_places(rt: HostRuntime) {
+fn shows_places_of_names_and_tuples(rt: HostRuntime) {
     let rows = &[
         (
             "dump --attributes",
@@ -64,6 +64,13 @@ fn dumps_with_places(rt: HostRuntime) {
             0,
             "",
         ),
+    ];
+    does_all(&rt, rt.alloc(), rows);
+}
+
+#[test]
+fn shows_places_of_calls_and_displays(rt: HostRuntime) {
+    let rows = &[
         (
             "dump --attributes",
             "f( x for x in y )\n",
@@ -122,6 +129,13 @@ fn dumps_with_places(rt: HostRuntime) {
             0,
             "",
         ),
+    ];
+    does_all(&rt, rt.alloc(), rows);
+}
+
+#[test]
+fn shows_places_of_definitions(rt: HostRuntime) {
+    let rows = &[
         (
             "dump --attributes",
             "@d\ndef f(a: b = (1), *c) -> e: pass\n",
@@ -171,6 +185,13 @@ fn dumps_with_places(rt: HostRuntime) {
             0,
             "",
         ),
+    ];
+    does_all(&rt, rt.alloc(), rows);
+}
+
+#[test]
+fn shows_places_of_handlers_items_and_aliases(rt: HostRuntime) {
+    let rows = &[
         (
             "dump --attributes",
             "try: a\nexcept B as e: b;\nfinally: c\n",
@@ -241,6 +262,13 @@ fn dumps_with_places(rt: HostRuntime) {
             0,
             "",
         ),
+    ];
+    does_all(&rt, rt.alloc(), rows);
+}
+
+#[test]
+fn shows_places_of_subscripts_texts_and_lines(rt: HostRuntime) {
+    let rows = &[
         (
             "dump --attributes",
             "a[b, 1:]\n",
@@ -309,6 +337,13 @@ fn dumps_with_places(rt: HostRuntime) {
             0,
             "",
         ),
+    ];
+    does_all(&rt, rt.alloc(), rows);
+}
+
+#[test]
+fn shows_places_of_targets_and_parameters(rt: HostRuntime) {
+    let rows = &[
         (
             "dump --attributes",
             "'''a\né''' + b\n",
@@ -368,6 +403,13 @@ fn dumps_with_places(rt: HostRuntime) {
             0,
             "",
         ),
+    ];
+    does_all(&rt, rt.alloc(), rows);
+}
+
+#[test]
+fn shows_places_in_each_style(rt: HostRuntime) {
+    let rows = &[
         (
             "dump --attributes",
             "(a) < (b) < c\n",
@@ -428,6 +470,13 @@ fn dumps_with_places(rt: HostRuntime) {
             0,
             "",
         ),
+    ];
+    does_all(&rt, rt.alloc(), rows);
+}
+
+#[test]
+fn shows_places_of_newer_forms(rt: HostRuntime) {
+    let rows = &[
         (
             "dump --attributes --indent 1 --bare",
             "import a\n",
