@@ -149,7 +149,7 @@ def without_fields(tree):
 
 def same_but_fields(out, tree):
     """Whether a dump with names and places is that of a tree, but for places in the fields of f-strings."""
-    shown = eval(out.decode("utf-8", "surrogatepass"), vars(ast).copy())  # pylint: disable=eval-used
+    shown = eval(out.decode("utf-8", "surrogatepass"), {**vars(ast), "Ellipsis": ...})  # pylint: disable=eval-used
     return without_fields(shown) == without_fields(copy.deepcopy(tree))
 
 

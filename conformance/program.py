@@ -1,6 +1,6 @@
 #!/usr/bin/env python3
 """Runs the built program where no contract can say what has to hold: its words, files, statuses and lines of faults, as a shell sees them; how
-it reads and writes, at a terminal too; that memory, and 4 MB of stack (4.5 for f-strings), suffice past every round number.
+it reads and writes, at a terminal too; that memory, and 4 MB of stack, suffice past every round number.
 
     conformance/program.py [--program PATH]
 
@@ -242,7 +242,7 @@ def in_fields(most, within, brackets=0):
 
 
 def check_stack(checks):
-    """4 MB of stack suffice for the deepest sources, 4.5 with fields of f-strings, and for those that are too deep by one."""
+    """4 MB of stack suffice for the deepest sources, and for those that are too deep by one."""
     deepest = {
         "brackets": ("(" * 600 + "x" + ")" * 600 + "\n", "(" * 601 + "x" + ")" * 601 + "\n"),
         "yields": ("[(yield " * 249 + "x" + ")]" * 249 + "\n", "[(yield " * 251 + "x" + ")]" * 251 + "\n"),
@@ -262,7 +262,7 @@ def check_stack(checks):
         "comprehensions in fields": tuple(within(499, in_fields(599, "[x for x in " * count + "x" + "]" * count, count)) for count in (495, 496)),
     }
     check_stack_of(checks, deepest, 4_000_000, [])
-    check_stack_of(checks, in_field, 4_500_000, ["--whole"])
+    check_stack_of(checks, in_field, 4_000_000, ["--whole"])
 
 
 def check_stack_of(checks, sources, size, words):
