@@ -328,7 +328,7 @@ fn shows_places_of_subscripts_texts_and_lines(rt: HostRuntime) {
         ),
         (
             "dump --attributes",
-            "if x:\r\n\\tyé ; \\\r\n\r\n",
+            "if x:\r\n\tyé ; \\\r\n\r\n",
             "Module(body=[If(test=Name(id='x', ctx=Load(), lineno=1, col_offset=3, \
              end_lineno=1, end_col_offset=4), body=[Expr(value=Name(id='yé', ctx=Load(), \
              lineno=2, col_offset=1, end_lineno=2, end_col_offset=4), lineno=2, \
