@@ -11,7 +11,8 @@ one are compared as sources of their own: its statements, and those within state
 failure, shown by the smallest input that has it. With --whole it is `pyast dump --whole` that is compared, which leaves out no number, no `match`
 statement, and of f-strings only those with a string in a field that has a quote or a line end, and those with a `=` in a nested f-string.
 With --attributes each style is compared with the places of nodes; what stands in the fields of f-strings has its true places, which Python
-3.11 doesn't give, and a format spec that of its row of literals, so that there the trees are compared, without those places.
+3.11 doesn't give, and a format spec that of its row of literals, so that there the trees are compared, without those places and in the
+plain style alone.
 
 The exit status is 0 where every difference has a class, 1 where one has none, and 2 where nothing could be compared; with
 --or-skip it is 0 too where there is no Python 3.11.
