@@ -4,5 +4,6 @@ pub mod Finding
 pub mod Ending
 pub mod Looking
 pub mod Moving
+pub mod LookingOn
 pub mod Placing
 pub mod Ranges

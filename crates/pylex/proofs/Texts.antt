@@ -3,3 +3,4 @@ pub mod LinesLemmas
 pub mod CursorLemmas
 pub mod LastLines
 pub mod Plain
+pub mod Spaces

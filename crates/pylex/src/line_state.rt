@@ -12,6 +12,7 @@ ghost use Rattle.pylex.specs.Machine.{past, after, entry_by, still, pushed, firs
 ghost use Rattle.pylex.specs.Machine.{last_line_end, last_place, line_end_kind_of};
 ghost use Rattle.pylex.specs.Listing.{row_after};
 ghost use Rattle.pylex.specs.LineState.{with_levels, measured, begun_anew, given, HasRoom};
+ghost use Rattle.pylex.specs.Inner.Plain.{AreSpaces};
 ghost use Rattle.pylex.specs.Inner.Told.{Tells, Passed, GivesEntry, is_text, text_kind};
 ghost use Rattle.pylex.specs.Lines.{count_if};
 
@@ -253,6 +254,23 @@ impl LineState {
             joined: class.is_join(),
             lead,
         }
+    }
+
+    /// Goes past spaces in a line's margin.
+    #[inline(always)]
+    pub(crate) fn pass_spaces(&mut self, spaces: &str)
+        requires room { HasRoom self.old (length spaces.now) }
+        requires counted { bytes_in (chars spaces.now) ≡ length spaces.now }
+        requires margin { self.old.margin ≡ true }
+        requires spaces { AreSpaces spaces.now }
+        ensures passed { Passed self.old Class.Blanks (chars spaces.now) self.new }
+        ensures margin { self.new.margin ≡ true }
+        ensures room { (n : ℕ) → HasRoom self.old (length spaces.now + n) → HasRoom self.new n }
+    {
+        self.now.place.column += spaces.len();
+        self.now.offset += spaces.len();
+        self.width += spaces.len();
+        self.joined = false;
     }
 
     /// Goes past blanks after a line's margin.

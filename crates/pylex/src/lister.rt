@@ -80,6 +80,7 @@ impl<'a> Lister<'a> {
         if self.machine.is_at_start() {
             return Ok(Step::Entry(self.machine.begin()));
         }
+        self.left = self.machine.look_on(self.left);
         if let Some((entry, left)) = self.machine.step_on(self.left) {
             self.left = left;
             return Ok(Step::Entry(entry));

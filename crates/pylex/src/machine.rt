@@ -10,18 +10,19 @@ ghost use Rattle.pylex.specs.Steps.{first_step, HasNoText, IsNoEntry, IsAt};
 ghost use Rattle.pylex.specs.Machine.{remaining, behind_steps, first_state, mark_at};
 ghost use Rattle.pylex.specs.Standing.{resumed};
 ghost use Rattle.pylex.specs.LineState.{is_level, IsTop, Stands, IsAscending, IsIndentation};
-ghost use Rattle.pylex.specs.LineState.{Settles, Peek, StopAhead, HasRoom, Behind, NextEntry};
+ghost use Rattle.pylex.specs.LineState.{Settles, Comes, Peek, StopAhead, HasRoom, Behind, NextEntry};
 ghost use Rattle.pylex.specs.LineState.{closing, with_levels, given, GivesNoText, IsGivenFault};
 ghost use Rattle.pylex.specs.LineState.{GivesAt};
 ghost use Rattle.pylex.specs.Listers.{shown_by, shown_at};
 ghost use Rattle.pylex.specs.Spots.{spot_cursor};
 ghost use Rattle.pylex.specs.Inner.MachineSteps.{FaultsFirst, HasPlace, IsSame, StepsOn, Advance};
-ghost use Rattle.pylex.specs.Inner.MachineSteps.{StaysBehind, shown_from};
+ghost use Rattle.pylex.specs.Inner.MachineSteps.{StaysBehind, LooksOn, shown_from};
 
 use crate::cursor::{Cursor, Shown};
 use crate::entries::{Emitted, Entry, ListingError, ListingFault, Step};
 use crate::kind::Kind;
 use crate::line_state::LineState;
+use crate::measures::cut_spaces;
 use crate::point::{entry_of, mark};
 use crate::spots::Spot;
 use pylex_lexeme::lexeme::{Class, begins_significant, cut};
@@ -84,6 +85,55 @@ fn indentation_for(width: usize, levels: &[usize]) -> Indentation
         Indentation::Dedent
     } else {
         Indentation::Mismatch
+    }
+}
+
+/// Whether a width is that of the last open level, by the levels above 0.
+#[inline(always)]
+fn is_last_level(width: usize, levels: &[usize]) -> bool
+    requires { IsAscending 0 levels.now }
+    ensures { result ≡ true → IsIndentation width levels.now Indentation.Level }
+{
+    let top = top_level(levels);
+    if width == top {
+        return true;
+    }
+    false
+}
+
+/// Goes past the spaces that a line's margin begins with, where no other blank follows. What is
+/// left of the text there.
+#[inline(always)]
+fn past_spaces<'a>(now: &mut LineState, text: &'a str) -> &'a str
+    requires stands { Stands now.old text.now }
+    requires margin { now.old.margin ≡ true }
+    ensures comes { (levels : List ℕ)
+        → Comes levels now.old (chars text.now) now.new (chars result.now) }
+    ensures stands { Stands now.new result.now }
+    ensures margin { now.new.margin ≡ true }
+{
+    let Some((spaces, left)) = cut_spaces(text) else {
+        return text;
+    };
+    now.pass_spaces(spaces);
+    left
+}
+
+/// Goes past the margin of a line whose first significant token stands here, at the last open
+/// level.
+#[inline(always)]
+fn settle(now: &mut LineState, levels: &[usize], text: &str)
+    requires stands { Stands now.old text.now }
+    requires ascending { IsAscending 0 levels.now }
+    requires margin { now.old.margin ≡ true }
+    ensures comes { Comes levels.now now.old (chars text.now) now.new (chars text.now) }
+    ensures stands { Stands now.new text.now }
+{
+    if !begins_significant(text) {
+        return;
+    }
+    if is_last_level(now.width, levels) {
+        *now = now.measured();
     }
 }
 
@@ -475,6 +525,23 @@ impl Machine {
         self.now
     }
 
+    /// Looks past the spaces that a line begins with, and past its margin where its first token
+    /// stands at the last open level. What is left of the text there.
+    #[inline(always)]
+    pub(crate) fn look_on<'a>(&mut self, text: &'a str) -> &'a str
+        requires place { HasPlace self.old }
+        requires stands { Stands self.old.now text.now }
+        ensures { LooksOn self.old text.now self.new result.now }
+    {
+        if self.tail > 0 || !self.now.margin {
+            return text;
+        }
+        let left = past_spaces(&mut self.now, text);
+        let levels = &self.levels.as_slice()[..self.nested];
+        settle(&mut self.now, levels, left);
+        left
+    }
+
     /// Continues from here at the next look.
     #[inline(always)]
     pub(crate) fn look_from(&mut self, now: LineState)
@@ -493,11 +560,12 @@ impl Machine {
         ensures some { IfSome result (λ r. StepsOn self.old text.now r.0 self.new r.1.now) }
         ensures none { result ≡ None → self.new ≡ self.old }
     {
-        if self.tail > 0 || self.now.margin || self.nested < self.levels.len() {
+        if self.tail > 0 || self.now.margin {
             return None;
         }
         let mut now = self.now;
         let (entry, left) = next_entry(&mut now, text)?;
+        self.levels.truncate(self.nested);
         self.given += 1;
         self.point.stand(now);
         self.now.begin_anew(now);

@@ -2,14 +2,17 @@
 //!
 //! Python language reference, 2.1.8 "Indentation".
 
-ghost use Rattle.std.specs.Prelude.{◌≡◌, ◌+◌, ◌*◌, ◌^◌, ◌<◌, ◌≤◌, length, drop};
+ghost use Rattle.std.specs.Prelude.{◌≡◌, ◌+◌, ◌*◌, ◌^◌, ◌<◌, ◌≤◌, length, drop, IfSome};
 ghost use Rattle.std.specs.Str.{chars, IsCharBoundary};
-ghost use Rattle.pylex_lexeme.specs.Chars.{is_blank_char};
+ghost use Rattle.pylex_lexeme.specs.Chars.{begins, is_blank_char};
+ghost use Rattle.pylex_lexeme.specs.Cuts.{Cuts};
+ghost use Rattle.pylex.specs.Inner.Plain.{AreSpaces, SpacesAhead};
 ghost use Rattle.pylex.specs.Indentation.{column_after, width_from};
 ghost use Rattle.pylex.specs.Margins.{column_by_one, widths_of};
 
 use crate::leading_char::is_spaces;
 use crate::margins::Widths;
+use pylex_lexeme::lexeme::Class;
 use pysource::Source;
 
 /// Whether a character is a blank.
@@ -17,6 +20,45 @@ fn is_blank(c: char) -> bool
     ensures { result ≡ is_blank_char c }
 {
     c == ' ' || c == '\t' || c == '\x0c'
+}
+
+/// Whether a text begins with a blank.
+#[inline(always)]
+fn begins_blank(text: &str) -> bool
+    ensures { result ≡ begins is_blank_char (chars text.now) }
+{
+    match text.chars().next() {
+        Some(first) => is_blank(first),
+        None => false,
+    }
+}
+
+/// How many spaces stand at the front of a text.
+#[inline(always)]
+fn space_count(text: &str) -> usize
+    ensures { SpacesAhead text.now result }
+{
+    let bytes = text.as_bytes();
+    let mut count = 0;
+    while count < bytes.len() && bytes[count] == b' ' {
+        count += 1;
+    }
+    count
+}
+
+/// The spaces that a text begins with, and what is left after them; none where there are none, or
+/// where another blank follows.
+#[inline(always)]
+pub(crate) fn cut_spaces(text: &str) -> Option<(&str, &str)>
+    ensures spaces { IfSome result (λ r. AreSpaces r.0.now) }
+    ensures cuts { IfSome result (λ r. Cuts text.now Class.Blanks r.0.now r.1.now) }
+{
+    let count = space_count(text);
+    let (spaces, left) = text.split_at(count);
+    if count == 0 || begins_blank(left) {
+        return None;
+    }
+    Some((spaces, left))
 }
 
 /// The column after a blank: a tab goes to the next multiple of 8, a form feed sets 0.

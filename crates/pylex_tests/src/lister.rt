@@ -77,6 +77,42 @@ fn lister_after<'a>(
 }
 
 #[test]
+fn begins_lines_by_their_spaces(rt: HostRuntime) {
+    let rows = &[
+        (Kind::Newline, (1, 5), (1, 6)),
+        (Kind::Indent, (2, 0), (2, 4)),
+        (Kind::Name, (2, 4), (2, 5)),
+        (Kind::Newline, (2, 5), (2, 6)),
+        (Kind::Name, (3, 4), (3, 5)),
+        (Kind::Newline, (3, 5), (3, 6)),
+        (Kind::Dedent, (4, 0), (4, 0)),
+        (Kind::Name, (4, 0), (4, 1)),
+        (Kind::Newline, (4, 1), (4, 2)),
+        (Kind::EndMarker, (5, 0), (5, 0)),
+    ];
+    let source = decode(rt.alloc(), b"if x:\n    y\n    z\nw\n").expect(&rt, "a source");
+    let mut lister = lister_after(&rt, rt.alloc(), &source, 4);
+    gives(&rt, &mut lister, rows);
+}
+
+#[test]
+fn begins_a_line_by_spaces_and_another_blank(rt: HostRuntime) {
+    let rows = &[
+        (Kind::Newline, (1, 5), (1, 6)),
+        (Kind::Indent, (2, 0), (2, 2)),
+        (Kind::Name, (2, 2), (2, 3)),
+        (Kind::Newline, (2, 3), (2, 4)),
+        (Kind::Name, (3, 5), (3, 6)),
+        (Kind::Newline, (3, 6), (3, 7)),
+        (Kind::Dedent, (4, 0), (4, 0)),
+        (Kind::EndMarker, (4, 0), (4, 0)),
+    ];
+    let source = decode(rt.alloc(), b"if x:\n  y\n  \x0c  z\n").expect(&rt, "a source");
+    let mut lister = lister_after(&rt, rt.alloc(), &source, 4);
+    gives(&rt, &mut lister, rows);
+}
+
+#[test]
 fn goes_on_behind_an_indent(rt: HostRuntime) {
     let rows = &[
         (Kind::Newline, (2, 2), (2, 3)),

@@ -73,7 +73,7 @@ space_first b bs p = p 0 (omega arith)
 spaces_past : (b : ℕ) (bs : List ℕ) → AreSpaces (b ∷ bs) → AreSpaces bs
 spaces_past b bs p k h = p (suc k) (omega (arith, h))
 
-spaces_plain : (bs : List ℕ) → AreSpaces bs → IsPlain bs
+pub spaces_plain : (bs : List ℕ) → AreSpaces bs → IsPlain bs
 spaces_plain bs p k h = let e = p k h in (omega (arith, e), λ (n : slice_index bs k ≡ 10). absurd (omega (arith, e, n)))
 
 front_spaces : (bs : List ℕ) → AreSpaces bs → lead_after Nothing bs ≡ Nothing
@@ -93,3 +93,9 @@ spaces_front bs p = ap (lead_after Nothing) (plain_chars bs (spaces_plain bs p))
 
 pub spaces_width : (n : ℕ) (bs : List ℕ) → AreSpaces bs → width_from n (chars bs) ≡ n + length bs
 spaces_width n bs p = ap (width_from n) (plain_chars bs (spaces_plain bs p)) ∙ width_spaces n bs p
+
+-- whatever it has begun with
+pub spaces_lead : (f : LeadingChar) (bs : List ℕ) → AreSpaces bs → lead_after f (chars bs) ≡ f
+spaces_lead Nothing bs p = spaces_front bs p
+spaces_lead Hash bs p = begun_plain Hash bs (λ e. cc) (spaces_plain bs p)
+spaces_lead Other bs p = begun_plain Other bs (λ e. cc) (spaces_plain bs p)

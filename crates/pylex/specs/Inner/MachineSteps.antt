@@ -1,5 +1,5 @@
 -- Where a lister stands, and its steps from there.
-use Rattle.std.specs.Prelude.{◌≡◌, ◌⊎◌, ℕ, ◌+◌, ◌-◌, ◌≤◌, List, [], ◌++◌, length, take, Option, OnSome, option_map}
+use Rattle.std.specs.Prelude.{◌≡◌, ◌⊎◌, ℕ, ◌+◌, ◌-◌, ◌<◌, ◌≤◌, List, [], ◌++◌, length, take, Option, OnSome, option_map}
 use Rattle.std.specs.Str.{chars}
 use Rattle.pysource.specs.Parts.{Parts}
 use Rattle.pysource.specs.declared.faults.LineFault.{LineFault}
@@ -17,7 +17,7 @@ use Rattle.pylex_lexeme.specs.Chars.{bytes_in}
 use Rattle.pylex.specs.Listing.{of_line}
 use Rattle.pylex.specs.Listers.{Keeps, NextStep, shown_by}
 use Rattle.pylex.specs.Machine.{remaining}
-use Rattle.pylex.specs.LineState.{with_levels, Stands, IsAscending, Peek, NextEntry, IsMeasuring}
+use Rattle.pylex.specs.LineState.{with_levels, Stands, IsAscending, Comes, Peek, NextEntry, IsMeasuring}
 use Rattle.pylex.specs.Steps.{IsNoEntry, most_entries}
 
 -- the cursor of a machine
@@ -88,3 +88,10 @@ pub record StepsOn (old : Machine) (text : List ℕ) (e : Entry) (new : Machine)
   pub reaches : NextEntry old.now text e now left
   pub tail : old.tail ≡ 0
   pub went : (fault : Option LineFault) → Advance old (peeked.Entry e) now left fault (steps.Entry e) new
+
+-- a machine has looked on in a text, past what gives nothing
+pub record LooksOn (old : Machine) (text : List ℕ) (new : Machine) (left : List ℕ) : Type 0 where
+  pub rest : new ≡ record old { now = new.now }
+  pub comes : Comes (take old.nested old.levels.items) old.now (chars text) new.now (chars left)
+  pub stands : Stands new.now left
+  pub stays : 0 < old.tail → (new.now ≡ old.now) × (left ≡ text)

@@ -1,4 +1,4 @@
-use Rattle.std.proofs.Common.{◌≡◌, ap, ◌∙◌, refl, take, None, List, ℕ}
+use Rattle.std.proofs.Common.{◌≡◌, ◌<◌, ap, ◌∙◌, refl, sym, subst, arith, take, None, List, ℕ}
 use Rattle.std.proofs.lemmas.Result.{IfOk-weaker}
 use Rattle.pysource.specs.Parts.{Parts}
 use Rattle.pylex.specs.declared.entries.Entry.{Entry}
@@ -7,7 +7,8 @@ use Rattle.pylex.specs.declared.entries.Step.TheVariants as steps
 use Rattle.pylex.specs.declared.machine.Peeked.TheVariants as peeked
 use Rattle.pylex.specs.declared.machine.Machine.{Machine}
 use Rattle.pylex.specs.Listers.{Listed, NextStep}
-use Rattle.pylex.specs.Inner.MachineSteps.{shown_from, Holds, StepsOn}
+use Rattle.pylex.specs.Inner.MachineSteps.{shown_from, Holds, LooksOn, StepsOn}
+use Rattle.pylex.proofs.Listers.LookingOn.{keeps_look}
 use Rattle.pylex.proofs.Listers.Moving.{moves_from, goes_first}
 use Rattle.pylex.proofs.Listers.Placing.{has_place}
 use Rattle.pylex.proofs.lister.Lister.next.Goals as goal
@@ -43,23 +44,64 @@ returns-then-is_at_start-clause-steps c =
     c.self.inside.left.now p.levels.items p.nested p.tail c.begin.result c.self.invariant
     (c.is_at_start.ensures.start c.if-is_at_start.true) c.begin.ensures.entry).leads)
 
+pub look_on-self-inside-requires-clause-place : goal.look_on-self-inside-requires-clause-place
+look_on-self-inside-requires-clause-place c = has_place c.self.inside.source.now c.self.inside.machine c.self.inside.left.now c.self.invariant
+
+-- the lister stands where it stood, and has looked on
+looked : (source : Parts) (p q r : Machine) (from to : List ℕ) → Holds source p from → 0 < p.given → LooksOn p from q to → r ≡ q
+    → Holds source r to
+looked source p q r from to keeps some x same =
+    subst (λ (m : Machine). Holds source m to) (sym same) (keeps_look source p q from to keeps some x)
+
+pub step_on-requires-clause-some : goal.step_on-requires-clause-some
+step_on-requires-clause-some c =
+    let same = ap (λ (m : Machine). m.given) c.look_on-self-inside.ensures.rest in
+    let some = c.is_at_start.ensures.behind c.if-is_at_start.false in
+    omega (arith, same, some)
+
 pub step_on-requires-clause-place : goal.step_on-requires-clause-place
-step_on-requires-clause-place c = has_place c.self.inside.source.now c.self.inside.machine c.self.inside.left.now c.self.invariant
+step_on-requires-clause-place c = has_place c.self.inside.source.now c.look_on-self-inside.new.self c.look_on-self-inside.result.now
+    (keeps_look c.self.inside.source.now c.self.inside.machine c.look_on-self-inside.new.self c.self.inside.left.now c.look_on-self-inside.result.now
+    c.self.invariant (c.is_at_start.ensures.behind c.if-is_at_start.false) c.look_on-self-inside.ensures)
+
+pub step_on-requires-clause-stands : goal.step_on-requires-clause-stands
+step_on-requires-clause-stands c = c.look_on-self-inside.ensures.stands
 
 pub invariant_of-self-in-Some : goal.invariant_of-self-in-Some
-invariant_of-self-in-Some c = (entry_passed c.self.inside.source.now c.self.inside.machine c.step_on.new.self c.self.inside.left.now
-    c.in-Some.left.now c.in-Some.entry c.self.invariant c.in-Some.ensures.some).1
+invariant_of-self-in-Some c =
+    let source = c.self.inside.source.now in
+    let from = c.self.inside.left.now in
+    let some = c.is_at_start.ensures.behind c.if-is_at_start.false in
+    let keeps = keeps_look source c.self.inside.machine c.look_on-self-inside.new.self from c.look_on-self-inside.result.now c.self.invariant some c.look_on-self-inside.ensures in
+    (entry_passed source c.look_on-self-inside.new.self c.step_on.new.self c.look_on-self-inside.result.now c.in-Some.left.now c.in-Some.entry keeps
+    c.in-Some.ensures.some).1
 
 pub returns-in-Some-clause-steps : goal.returns-in-Some-clause-steps
-returns-in-Some-clause-steps c = seen _ _ _ _ c.self.view_is (entry_passed c.self.inside.source.now c.self.inside.machine c.step_on.new.self
-    c.self.inside.left.now c.in-Some.left.now c.in-Some.entry c.self.invariant c.in-Some.ensures.some).0
+returns-in-Some-clause-steps c =
+    let source = c.self.inside.source.now in
+    let from = c.self.inside.left.now in
+    let some = c.is_at_start.ensures.behind c.if-is_at_start.false in
+    let keeps = keeps_look source c.self.inside.machine c.look_on-self-inside.new.self from c.look_on-self-inside.result.now c.self.invariant some c.look_on-self-inside.ensures in
+    seen _ _ _ _ (ap (listed source) c.look_on-self-inside.ensures.rest ∙ c.self.view_is)
+    (entry_passed source c.look_on-self-inside.new.self c.step_on.new.self c.look_on-self-inside.result.now c.in-Some.left.now c.in-Some.entry keeps
+    c.in-Some.ensures.some).0
 
 pub returns-in-Some-clause-given : goal.returns-in-Some-clause-given
 returns-in-Some-clause-given c =
-    (has_place c.self.inside.source.now c.step_on.new.self c.in-Some.left.now (entry_passed c.self.inside.source.now c.self.inside.machine
-    c.step_on.new.self c.self.inside.left.now c.in-Some.left.now c.in-Some.entry c.self.invariant c.in-Some.ensures.some).1).given
+    let source = c.self.inside.source.now in
+    let from = c.self.inside.left.now in
+    let some = c.is_at_start.ensures.behind c.if-is_at_start.false in
+    let keeps = keeps_look source c.self.inside.machine c.look_on-self-inside.new.self from c.look_on-self-inside.result.now c.self.invariant some c.look_on-self-inside.ensures in
+    (has_place source c.step_on.new.self c.in-Some.left.now (entry_passed source c.look_on-self-inside.new.self c.step_on.new.self c.look_on-self-inside.result.now
+    c.in-Some.left.now c.in-Some.entry keeps c.in-Some.ensures.some).1).given
+
+pub invariant_of-self-in_default : goal.invariant_of-self-in_default
+invariant_of-self-in_default c =
+    looked c.self.inside.source.now c.self.inside.machine c.look_on-self-inside.new.self c.step_on.new.self c.self.inside.left.now c.look_on-self-inside.result.now
+    c.self.invariant (c.is_at_start.ensures.behind c.if-is_at_start.false) c.look_on-self-inside.ensures (c.in_default.ensures.none refl)
 
 pub returns-clause-steps : goal.returns-clause-steps
 returns-clause-steps c =
-    let same = ap (listed c.self.inside.source.now) (c.in_default.ensures.none refl) ∙ c.self.view_is in
+    let source = c.self.inside.source.now in
+    let same = ap (listed source) (c.in_default.ensures.none refl) ∙ ap (listed source) c.look_on-self-inside.ensures.rest ∙ c.self.view_is in
     IfOk-weaker c.next_met.result _ _ (λ step m. seen _ _ _ _ same m) c.next_met.ensures.steps

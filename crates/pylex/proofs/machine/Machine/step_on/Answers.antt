@@ -1,6 +1,5 @@
 use Rattle.std.proofs.Common.{◌≡◌, [], take, refl, ap, sym, ◌∙◌, arith}
 use Rattle.std.specs.Str.{chars}
-use Rattle.std.proofs.lemmas.List.{take_all}
 use Rattle.pylex.specs.Listers.{Listed}
 use Rattle.pylex.specs.Machine.{State}
 use Rattle.pylex.specs.Inner.MachineSteps.{shown_from}
@@ -16,7 +15,7 @@ returns-clause-some c =
     let q = c.next_entry.new.now in
     let anew = c.begin_anew.ensures in
     let none : p.tail ≡ 0 = omega arith in
-    let all : take p.nested ls ≡ ls = take_all p.nested ls (omega arith) in
+    let new = c.truncate.new.self.items in
     record {
       now = q;
       reaches = r;
@@ -25,7 +24,7 @@ returns-clause-some c =
         goes = λ source from to keeps found stands alike.
             let l : Listed = record { source = source; shown = shown_from p } in
             let g = goes_entry l p.now from ls p.nested p.tail keeps refl c.requires.some none c.in_ok-entry.entry q c.begin_anew.new.self
-            to ls c.stand.new.self found stands anew.begun anew.room c.stand.ensures (sym all) in
+            to new c.stand.new.self found stands anew.begun anew.room c.stand.ensures c.truncate.ensures.items in
             (leads_moves l _ _ g.leads, g.keeps);
         measuring = λ cs ds found m. measuring_anew q c.begin_anew.new.self anew.begun;
         ranges = λ source from to before rest keeps found e b w low m.
