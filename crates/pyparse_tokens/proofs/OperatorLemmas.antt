@@ -1,4 +1,4 @@
--- Carries: push. On: an entry that has an exact type is an operator, and has no fault.
+-- Carries: push, fault_beside. On: an entry that has an exact type is an operator, and has no fault; nor has one that stands in no line.
 use Rattle.std.proofs.Common.{false, ◌≡◌, ℕ, List, [], ◌∷◌, refl, sym, ap, ◌∙◌, Option, Some, None}
 use Rattle.pylex_lexeme.specs.declared.kinds.Exact.{Exact}
 use Rattle.pylex_lexeme.specs.Operators.{exact_of}
@@ -67,3 +67,23 @@ operator_adds text e x old new has is pushes =
     let same : Terminals.Op x ∷ [] ≡ terminals_of e.kind (text_of text e) =
     sym (ap (λ (k : Kind). terminals_of k (text_of text e)) own.kind ∙ one_operator (text_of text e) x own.exact) in
     pushed_adds text e (Terminals.Op x ∷ []) old new (ap stands_in_line own.kind) same pushes
+
+-- an entry that stands in no line has none, but for a comment
+beside_none : (extent : Extent) (k : Kind) (t : List ℕ) → stands_in_line k ≡ false → (k ≡ kinds.Comment → ⊥) → fault_of extent k t ≡ None
+unfolding single_fault
+beside_none extent kinds.Comment t beside other = absurd (other refl)
+beside_none extent kinds.Nl t beside other = of_single extent kinds.Nl t refl
+beside_none extent kinds.Newline t beside other = of_single extent kinds.Newline t refl
+beside_none extent kinds.Indent t beside other = of_single extent kinds.Indent t refl
+beside_none extent kinds.Dedent t beside other = of_single extent kinds.Dedent t refl
+beside_none extent kinds.EndMarker t beside other = of_single extent kinds.EndMarker t refl
+beside_none extent kinds.Encoding t beside other = of_single extent kinds.Encoding t refl
+beside_none extent kinds.Name t beside other = absurd cc
+beside_none extent kinds.Number t beside other = absurd cc
+beside_none extent kinds.String t beside other = absurd cc
+beside_none extent kinds.Op t beside other = absurd cc
+
+pub beside_faultless : (extent : Extent) (text : List ℕ) (e : Entry) → stands_in_line e.kind ≡ false → (e.kind ≡ kinds.Comment → ⊥)
+    → entry_refusal extent text e ≡ None
+beside_faultless extent text e beside other =
+    no_refusal extent text e (beside_none extent e.kind (text_of text e) beside other)

@@ -1,12 +1,13 @@
 //! What one pass over a listing gathers: tokens, and the first faults.
 
-ghost use Rattle.std.specs.Prelude.{◌≡◌, ◌^◌, ◌<◌, [], ◌∷◌, map, IfOk, IfErr, OnOk, None};
+ghost use Rattle.std.specs.Prelude.{◌≡◌, ◌^◌, ◌<◌, false, [], ◌∷◌, map, IfOk, IfErr, OnOk, None};
 ghost use Rattle.std.specs.Str.{chars, IsCharBoundary};
 ghost use Rattle.pylex.specs.Laws.{LiesIn};
 ghost use Rattle.pytoken.specs.Tokens.{text_of, supplied, tokens_of_entry};
 ghost use Rattle.pytoken.specs.Tokens.{token_of as text_token};
 ghost use Rattle.pytoken.specs.Refusals.{entry_refusal};
 ghost use Rattle.pyparse_tokens.specs.Answers.{token_of, Tells};
+ghost use Rattle.pyparse_tokens.specs.Inner.LineGathering.{stands_in_line};
 ghost use Rattle.pyparse_tokens.specs.Inner.Passing.{kept_refusal};
 ghost use Rattle.pyparse_tokens.specs.Inner.Gathering.{Grows, Gathers, Gathered};
 
@@ -42,6 +43,26 @@ pub(crate) fn entry_fault(
     match token_fault(alloc, extent, entry.kind, text_of(source, entry))? {
         Some(error) => Ok(Some(Refusal::Token(error, entry.start))),
         None => Ok(None),
+    }
+}
+
+/// The refusal of an entry with a fault of its own that stands in no line: a comment alone may have
+/// one.
+#[inline(always)]
+pub(crate) fn fault_beside(
+    alloc: Global,
+    extent: Extent,
+    source: &Source,
+    entry: &Entry,
+) -> Result<Option<Refusal>, AllocError>
+    requires lies { LiesIn source.now.text entry.now }
+    requires beside { stands_in_line entry.now.kind ≡ false }
+    ensures { IfOk result
+        (λ fault. fault ≡ entry_refusal extent (chars source.now.text) entry.now) }
+{
+    match entry.kind {
+        Kind::Comment => entry_fault(alloc, extent, source, entry),
+        _ => Ok(None),
     }
 }
 

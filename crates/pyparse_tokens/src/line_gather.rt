@@ -26,7 +26,7 @@ ghost use Rattle.pyparse_tokens.specs.Inner.Walking.{
   TakesLexeme,
 };
 
-use crate::gather::{entry_fault, text_of};
+use crate::gather::{fault_beside, text_of};
 use crate::open_line::OpenLine;
 use crate::pass::Pass;
 use crate::tokens::Token;
@@ -127,7 +127,7 @@ impl<'a> LineGather<'a> {
             return Ok(None);
         }
         if !stands_in_line(entry.kind) {
-            return entry_fault(alloc, self.pass.extent(), source, entry);
+            return fault_beside(alloc, self.pass.extent(), source, entry);
         }
         let token = Token {
             kind: entry.kind,
@@ -223,10 +223,13 @@ impl<'a> LineGather<'a> {
             (TakesEntry (chars source.now.text) entry.now self.old self.new) }
         ensures extent { self.new.pass.extent ≡ self.old.pass.extent }
     {
-        // Most entries are names and operators: what their type decides is decided once for all.
+        // Most entries are names and operators, and at line starts INDENTs and DEDENTs: what their
+        // type decides is decided once for all.
         match entry.kind {
             Kind::Name => self.take_entry(alloc, source, entry),
             Kind::Op => self.take_entry(alloc, source, entry),
+            Kind::Indent => self.take_entry(alloc, source, entry),
+            Kind::Dedent => self.take_entry(alloc, source, entry),
             _ => self.take_entry(alloc, source, entry),
         }
     }
