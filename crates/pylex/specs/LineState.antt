@@ -12,10 +12,10 @@ use Rattle.pylex.specs.declared.entries.Step.{Step}
 use Rattle.pylex.specs.declared.entries.Step.TheVariants as steps
 use Rattle.pylex.specs.declared.kind.Kind.TheVariants as kinds
 use Rattle.pylex.specs.declared.line_state.LineState.{LineState}
-use Rattle.pylex.specs.declared.machine.Indentation.{Indentation}
-use Rattle.pylex.specs.declared.machine.Indentation.TheVariants as indentations
-use Rattle.pylex.specs.declared.machine.Peeked.{Peeked}
-use Rattle.pylex.specs.declared.machine.Peeked.TheVariants as peeked
+use Rattle.pylex.specs.declared.peeked.Indentation.{Indentation}
+use Rattle.pylex.specs.declared.peeked.Indentation.TheVariants as indentations
+use Rattle.pylex.specs.declared.peeked.Peeked.{Peeked}
+use Rattle.pylex.specs.declared.peeked.Peeked.TheVariants as peeked
 use Rattle.pylex_lexeme.specs.Lexemes.{Lexeme, lexeme_at, lexeme_len}
 use Rattle.pylex_lexeme.specs.Cuts.{begins_significant}
 use Rattle.pylex.specs.Machine.{State, after, entry_by, pushed, mark_at, dedents_at, last_place}

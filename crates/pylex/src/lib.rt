@@ -9,6 +9,7 @@
 #![tactic(auto)]
 
 mod cursor;
+mod ends;
 mod entries;
 mod held_lines;
 mod kind;
@@ -20,6 +21,7 @@ mod lister;
 mod machine;
 mod margins;
 mod measures;
+mod peeked;
 mod point;
 mod spots;
 mod stream_lister;

@@ -22,7 +22,7 @@ use crate::entries::{Entry, ListingError, Step};
 use crate::held_lines::HeldLines;
 use crate::kind::Kind;
 use crate::line_state::LineState;
-use crate::machine::{Machine, Peeked};
+use crate::machine::Machine;
 use pylex_lexeme::string::is_open_string;
 use pysource::{ByteIn, LineError, LineFault, LineRead, LineReader, Place, StreamFault};
 use std::alloc::{AllocError, Global};

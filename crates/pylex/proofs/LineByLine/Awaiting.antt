@@ -22,7 +22,7 @@ use Rattle.pylex.specs.declared.held_lines.HeldLines.{HeldLines}
 use Rattle.pylex.specs.declared.line_lister.Found.{Found}
 use Rattle.pylex.specs.declared.line_state.LineState.{LineState}
 use Rattle.pylex.specs.declared.machine.Machine.{Machine}
-use Rattle.pylex.specs.declared.machine.Peeked.TheVariants as peeked
+use Rattle.pylex.specs.declared.peeked.Peeked.TheVariants as peeked
 use Rattle.pylex_lexeme.specs.Cuts.{begins_significant}
 use Rattle.pylex_lexeme.specs.Lexemes.{Lexeme, lexeme_at, lexeme_len, left_by_cut, is_open_string}
 use Rattle.pylex.specs.Machine.{State, after, entry_by}

@@ -12,8 +12,8 @@ use Rattle.pysource.specs.Lines.{lines_of}
 use Rattle.pysource.specs.Places.{is_lf}
 use Rattle.pysource.specs.Streams.{ends_line}
 use Rattle.pylex.specs.declared.entries.ListingFault.{ListingFault}
-use Rattle.pylex.specs.declared.machine.Peeked.{Peeked}
-use Rattle.pylex.specs.declared.machine.Peeked.TheVariants as peeked
+use Rattle.pylex.specs.declared.peeked.Peeked.{Peeked}
+use Rattle.pylex.specs.declared.peeked.Peeked.TheVariants as peeked
 use Rattle.pylex.specs.declared.line_state.LineState.{LineState}
 use Rattle.pylex_lexeme.specs.Chunks.{EndsLine}
 use Rattle.pylex_lexeme.specs.Cuts.{begins_significant}

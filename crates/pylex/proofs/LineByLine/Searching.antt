@@ -24,7 +24,7 @@ use Rattle.pysource.specs.Streams.{Buffered, Coming, FollowsAt, ComesOnly, comes
 use Rattle.pysource.proofs.Callers.Taken.{ReadsBytes-none, ReadsBytes-on}
 use Rattle.pylex.specs.declared.held_lines.HeldLines.{HeldLines}
 use Rattle.pylex.specs.declared.entries.Entry.{Entry}
-use Rattle.pylex.specs.declared.machine.Peeked.TheVariants as peeked
+use Rattle.pylex.specs.declared.peeked.Peeked.TheVariants as peeked
 use Rattle.pylex.specs.declared.machine.Machine.{Machine}
 use Rattle.pylex.specs.declared.line_lister.Found.{Found}
 use Rattle.pylex.specs.Inner.Chunked.{Grows, HoldsOn, Stays, Adds, ReadsOn}

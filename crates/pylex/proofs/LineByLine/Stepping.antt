@@ -15,7 +15,7 @@ use Rattle.pylex.specs.declared.entries.Entry.{Entry}
 use Rattle.pylex.specs.declared.entries.Step.{Step}
 use Rattle.pylex.specs.declared.entries.Step.TheVariants as steps
 use Rattle.pylex.specs.declared.machine.Machine.{Machine}
-use Rattle.pylex.specs.declared.machine.Peeked.TheVariants as peeked
+use Rattle.pylex.specs.declared.peeked.Peeked.TheVariants as peeked
 use Rattle.pylex.specs.declared.line_lister.Found.{Found}
 use Rattle.pylex_lexeme.specs.Chunks.{EndsLine}
 use Rattle.pylex.specs.Laws.{AllLie, StepLies}

@@ -12,8 +12,8 @@ use Rattle.pysource.specs.Parts.{Parts}
 use Rattle.pysource.specs.Streams.{Buffered, comes}
 use Rattle.pysource.specs.declared.faults.LineFault.{LineFault}
 use Rattle.pylex.specs.declared.entries.ListingFault.{ListingFault}
-use Rattle.pylex.specs.declared.machine.Peeked.{Peeked}
-use Rattle.pylex.specs.declared.machine.Peeked.TheVariants as peeked
+use Rattle.pylex.specs.declared.peeked.Peeked.{Peeked}
+use Rattle.pylex.specs.declared.peeked.Peeked.TheVariants as peeked
 use Rattle.pysource.proofs.Callers.Taken.{ReadsBytes-none}
 use Rattle.pylex.specs.declared.held_lines.HeldLines.{HeldLines}
 use Rattle.pylex.specs.declared.entries.Entry.{Entry}

@@ -12,8 +12,8 @@ use Rattle.pylex.specs.Inner.LineSteps.{Stops, lacks}
 use Rattle.std.proofs.lemmas.Str.{encodes-chars, chars-append, IsUtf8-append, IsUtf8-drop, IsCharBoundary-from_take}
 use Rattle.std.proofs.Math.Seq.{take-append_seam, drop-append_seam}
 use Rattle.pysource.specs.declared.faults.LineFault.{LineFault}
-use Rattle.pylex.specs.declared.machine.Peeked.{Peeked}
-use Rattle.pylex.specs.declared.machine.Peeked.TheVariants as peeked
+use Rattle.pylex.specs.declared.peeked.Peeked.{Peeked}
+use Rattle.pylex.specs.declared.peeked.Peeked.TheVariants as peeked
 use Rattle.pylex.specs.declared.line_state.LineState.{LineState}
 use Rattle.pylex_lexeme.specs.Chunks.{EndsLine}
 use Rattle.pylex_lexeme.specs.Lexemes.{is_open_string}

@@ -15,9 +15,9 @@ use Rattle.pylex.specs.declared.kind.Kind.TheVariants as kinds
 use Rattle.pylex.specs.declared.entries.Step.{Step}
 use Rattle.pylex.specs.declared.entries.Step.TheVariants as steps
 use Rattle.pylex.specs.declared.line_state.LineState.{LineState}
-use Rattle.pylex.specs.declared.machine.Indentation.TheVariants as indentations
-use Rattle.pylex.specs.declared.machine.Peeked.{Peeked}
-use Rattle.pylex.specs.declared.machine.Peeked.TheVariants as peeked
+use Rattle.pylex.specs.declared.peeked.Indentation.TheVariants as indentations
+use Rattle.pylex.specs.declared.peeked.Peeked.{Peeked}
+use Rattle.pylex.specs.declared.peeked.Peeked.TheVariants as peeked
 use Rattle.pylex_lexeme.specs.Lexemes.{Lexeme, lexeme_at, lexeme_len, is_significant_class, is_line_end_class, is_blanks_class}
 use Rattle.pylex_lexeme.specs.declared.lexeme.Class.TheVariants.{Name, Number, String, Operator, Comment, Blanks, LineEnd, Join}
 use Rattle.pylex.specs.Lines.{is_significant}

@@ -12,8 +12,8 @@ use Rattle.pysource.specs.Limits.{source_limit}
 use Rattle.pysource.specs.declared.faults.LineFault.{LineFault}
 use Rattle.pysource.specs.declared.line_reader.LineRead.{LineRead}
 use Rattle.pysource.specs.declared.line_reader.LineRead.TheVariants as lines
-use Rattle.pylex.specs.declared.machine.Peeked.{Peeked}
-use Rattle.pylex.specs.declared.machine.Peeked.TheVariants as met
+use Rattle.pylex.specs.declared.peeked.Peeked.{Peeked}
+use Rattle.pylex.specs.declared.peeked.Peeked.TheVariants as met
 use Rattle.pylex.specs.declared.line_lister.Found.{Found}
 use Rattle.pylex_lexeme.specs.Lexemes.{is_open_string}
 use Rattle.pylex.specs.LineState.{Peek, HasRoom, Stands, StopAhead}

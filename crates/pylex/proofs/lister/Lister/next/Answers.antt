@@ -4,7 +4,7 @@ use Rattle.pysource.specs.Parts.{Parts}
 use Rattle.pylex.specs.declared.entries.Entry.{Entry}
 use Rattle.pylex.specs.declared.entries.Step.{Step}
 use Rattle.pylex.specs.declared.entries.Step.TheVariants as steps
-use Rattle.pylex.specs.declared.machine.Peeked.TheVariants as peeked
+use Rattle.pylex.specs.declared.peeked.Peeked.TheVariants as peeked
 use Rattle.pylex.specs.declared.machine.Machine.{Machine}
 use Rattle.pylex.specs.Listers.{Listed, NextStep}
 use Rattle.pylex.specs.Inner.MachineSteps.{shown_from, Holds, LooksOn, StepsOn}

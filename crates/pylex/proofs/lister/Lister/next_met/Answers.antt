@@ -7,9 +7,9 @@ use Rattle.pylex.specs.declared.line_state.LineState.{LineState}
 use Rattle.pylex.specs.declared.entries.Entry.{Entry}
 use Rattle.pylex.specs.declared.entries.Step.{Step}
 use Rattle.pylex.specs.declared.entries.Step.TheVariants as steps
-use Rattle.pylex.specs.declared.machine.Peeked.{Peeked}
+use Rattle.pylex.specs.declared.peeked.Peeked.{Peeked}
 use Rattle.pylex.specs.declared.machine.Machine.{Machine}
-use Rattle.pylex.specs.declared.machine.Peeked.TheVariants as peeked
+use Rattle.pylex.specs.declared.peeked.Peeked.TheVariants as peeked
 use Rattle.pylex.specs.Listing.{of_line}
 use Rattle.pylex.specs.Listers.{Listed, NextStep, AwaitsIndent}
 use Rattle.pylex.specs.Machine.{remaining}
