@@ -19,7 +19,7 @@ ghost use Rattle.pyparse.specs.Inner.Progressing.{Closes};
 
 use crate::progress::Progress;
 use pyparse_line::LineRead;
-use pyparse_marks::{Span, Spans};
+use pyparse_marks::{Marks, Span};
 use pyparse_tokens::{LogicalLines, ParseFault};
 use pyplaces::{Places, Recorded};
 use pyplaces_blocks::{LineSpans, PlaceStack};
@@ -178,7 +178,7 @@ pub fn parse_placed(alloc: Global, source: &Source, profile: Profile) -> Result<
     ensures places { places_laws.PlacesAreLawful }
 {
     let mut lines = LogicalLines::new(alloc, source, profile.extent)?;
-    let mut marks = Spans::new(alloc);
+    let mut marks = Marks::new(alloc);
     let mut progress = PlacedProgress::new(alloc);
     while lines.next_marked(&mut marks)? {
         progress.take(alloc, &lines, marks.as_slice(), profile)?;

@@ -121,6 +121,7 @@ impl Progress {
     }
 
     /// The next line, by its form, which was found at its place.
+    #[inline(always)]
     pub(crate) fn keep(
         &mut self,
         alloc: Global,

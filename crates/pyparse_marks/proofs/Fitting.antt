@@ -1,4 +1,4 @@
--- Carries: Spans::new. On: how many spans the expression of a field has, and how many a token.
+-- Carries: Marks::new. On: how many spans the expression of a field has, and how many a token.
 use Rattle.std.proofs.Common.{◌≡◌, ℕ, zero, suc, ◌+◌, Bool, true, false, ◌||◌, List, [], ◌∷◌, ◌++◌, length, drop, refl, sym, ap, ◌∙◌, subst}
 use Rattle.std.proofs.Common.{arith, length-append, append_assoc, Option, Some, None, is_some}
 use Rattle.std.specs.List.{list_any, flat_map}

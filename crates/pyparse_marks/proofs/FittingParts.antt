@@ -1,4 +1,4 @@
--- Carries: Spans::new. On: how many spans the parts of an f-string have.
+-- Carries: Marks::new. On: how many spans the parts of an f-string have.
 use Rattle.std.proofs.Common.{◌≡◌, ℕ, suc, ◌+◌, Bool, true, false, List, [], ◌∷◌, ◌++◌, length, refl, sym, ap, ◌∙◌, arith}
 use Rattle.std.proofs.Common.{length-append, Option, Some, None}
 use Rattle.std.specs.Prelude.{if◌then◌else◌}

@@ -1,4 +1,4 @@
--- Carries: Spans::new. On: each terminal of a token has a span.
+-- Carries: Marks::new. On: each terminal of a token has a span.
 use Rattle.std.proofs.Common.{◌≡◌, ℕ, suc, ◌+◌, Bool, true, false, ◌&&◌, List, [], ◌∷◌, length, refl, sym, ap, ◌∙◌, arith, length-append}
 use Rattle.std.proofs.Common.{Option, Some, None}
 use Rattle.std.specs.Prelude.{option_map, if◌then◌else◌}

@@ -1,4 +1,4 @@
--- Carries: Spans::push, Spans::push_several. On: the spans of a token.
+-- Carries: push_token. On: the spans of a token.
 use Rattle.std.proofs.Common.{◌≡◌, ℕ, ◌+◌, Bool, false, List, [], ◌∷◌, ap, if◌then◌else◌}
 use Rattle.pylex.specs.declared.kind.Kind.{Kind}
 use Rattle.pylex_lexeme.specs.Chars.{bytes_in}

@@ -1,7 +1,7 @@
-//! Where the terminals of a logical line stand in its source: what keeps their spans, or nothing.
+//! Where the terminals of a logical line stand in its source.
 //!
-//! A reader of lines is given [`Marks`]: [`Spans`] keeps the span of each terminal, [`Unmarked`]
-//! nothing. A token is one terminal, but for an f-string.
+//! A reader of lines is given [`Marks`], which keep the span of each terminal, or nothing. A token
+//! is one terminal, but for an f-string.
 //!
 //! The words of contracts are in `specs/`: `Spans`, `TokenSpans` where the terminals of a token
 //! stand, `LineSpans` those of a line, `Laws` that each terminal has a span.
@@ -16,5 +16,5 @@ mod parts;
 mod spans;
 mod walkers;
 
-pub use marks::{Marks, Spans, Unmarked};
+pub use marks::Marks;
 pub use spans::Span;

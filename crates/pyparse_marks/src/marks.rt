@@ -1,8 +1,9 @@
-//! What keeps where the terminals of a line stand, or doesn't.
+//! Where the terminals of a line stand, if that is kept.
 
-ghost use Rattle.std.specs.Prelude.{◌≡◌, ◌++◌, List, [], map, OnOk};
+ghost use Rattle.std.specs.Prelude.{◌≡◌, List, Some, None, [], map, OnOk};
 ghost use Rattle.std.specs.Str.{chars};
-ghost use Rattle.pyparse_marks.specs.Spans.{Span, told};
+ghost use Rattle.pyparse_marks.specs.Laws.{EachHasSpan};
+ghost use Rattle.pyparse_marks.specs.Spans.{Span, added, emptied, told};
 ghost use Rattle.pyparse_marks.specs.TokenSpans.{token_spans};
 
 use crate::lengths::{len, span, sum};
@@ -13,135 +14,114 @@ use pylex::Kind;
 use std::alloc::{AllocError, Global};
 use std::marker::Model;
 
-/// What keeps where the terminals of a line stand, or doesn't.
-pub trait Marks {
-    // With the spans of some terminals more, and with none.
-    ghost added: { Self → List Span → Self };
-
-    ghost emptied: { Self → Self };
-
-    /// Lets go of all spans.
-    fn clear(&mut self)
-        ensures { self.new ≡ emptied self.old };
-
-    /// The terminals of a token of this type and text, which begins at a byte of the source.
-    ///
-    /// A span has room for 32 bits. For a source that is longer it is told that memory is wanting.
-    fn push(&mut self, alloc: Global, kind: Kind, text: &str, from: usize) -> Result<(), AllocError>
-        ensures { OnOk result
-            (self.new ≡ added self.old (token_spans from kind (chars text.now))) };
-
-    // What is kept of some terminals and then of others is kept of all.
-    ghost added_both: { (m : Self) (xs ys : List Span) → added (added m xs) ys ≡ added m (xs ++ ys) };
-
-    ghost added_none: { (m : Self) → added m [] ≡ m };
-}
-
-/// Keeps nothing.
+/// The spans of the terminals of a line, or nothing where they aren't kept.
 #[derive(Drop)]
-pub struct Unmarked;
-
-impl Marks for Unmarked {
-    ghost use Rattle.std.specs.Prelude.{refl};
-
-    ghost added = { λ m xs. m };
-
-    ghost emptied = { λ m. m };
-
-    #[inline(always)]
-    fn clear(&mut self) {}
-
-    #[inline(always)]
-    fn push(&mut self, _: Global, _: Kind, _: &str, _: usize) -> Result<(), AllocError> {
-        Ok(())
-    }
-
-    ghost added_both = { λ m xs ys. refl };
-
-    ghost added_none = { λ m. refl };
+pub struct Marks {
+    kept: Option<Vec<Span>>,
 }
 
-/// The spans of the terminals of a line.
-#[derive(Drop)]
-pub struct Spans {
-    items: Vec<Span>,
-}
-
-impl Model for Spans {
-    ghost use Rattle.std.specs.Prelude.{List, map};
+impl Model for Marks {
+    ghost use Rattle.std.specs.Prelude.{List, Option, map};
+    ghost use Rattle.std.specs.Option.{option_map};
     ghost use Rattle.pyparse_marks.specs.Spans.{Span, told};
 
-    ghost Value = { List Span };
+    ghost Value = { Option (List Span) };
 
-    ghost view = { λ s. map told s.items.items };
+    ghost view = { λ m. option_map (λ spans. map told spans.items) m.kept };
 }
 
-impl Spans {
-    ghost use Rattle.pyparse_marks.specs.Laws.{EachHasSpan};
+/// Appends the spans of an f-string.
+#[inline(never)]
+fn push_several(
+    alloc: Global,
+    kind: Kind,
+    text: &str,
+    from: usize,
+    spans: &mut Vec<Span>,
+) -> Result<(), AllocError>
+    ensures { OnOk result (map told spans.new.items
+        ≡ map told spans.old.items ++ token_spans from kind (chars text.now)) }
+{
+    let mut walker = Walker::new(alloc, from);
+    pass_token(alloc, kind, text, &mut walker)?;
+    spans.extend_from_slice(walker.spans())?;
+    Ok(())
+}
 
-    /// No span. It takes no memory.
-    pub fn new(alloc: Global) -> Spans
-        ensures empty { result ≡ [] }
+/// Appends the spans of a token.
+fn push_token(
+    alloc: Global,
+    kind: Kind,
+    text: &str,
+    from: usize,
+    spans: &mut Vec<Span>,
+) -> Result<(), AllocError>
+    ensures { OnOk result (map told spans.new.items
+        ≡ map told spans.old.items ++ token_spans from kind (chars text.now)) }
+{
+    if is_fstring(kind, text) {
+        return push_several(alloc, kind, text, from, spans);
+    }
+    let to = sum(from, len(text))?;
+    spans.push(span(from, to)?)?;
+    Ok(())
+}
+
+impl Marks {
+    /// Keeps nothing.
+    pub fn none() -> Marks
+        ensures { result ≡ None }
+    {
+        Marks { kept: None }
+    }
+
+    /// Keeps the spans, of which there are none yet. It takes no memory.
+    pub fn new(alloc: Global) -> Marks
+        ensures empty { result ≡ Some [] }
         ensures law { EachHasSpan }
     {
-        Spans {
-            items: Vec::new(alloc),
+        Marks {
+            kept: Some(Vec::new(alloc)),
         }
     }
 
-    /// The spans.
+    /// The spans that are kept.
     pub fn as_slice(&self) -> &[Span]
-        ensures { map told result.now ≡ self.now }
+        ensures { (spans : List Span) → self.now ≡ Some spans → map told result.now ≡ spans }
     {
-        self.items.as_slice()
+        match &self.kept {
+            Some(spans) => spans.as_slice(),
+            None => &[],
+        }
     }
 
-    /// Appends the spans of an f-string.
-    #[inline(never)]
-    fn push_several(
+    /// Lets go of all spans.
+    pub fn clear(&mut self)
+        ensures { self.new ≡ emptied self.old }
+    {
+        if let Some(spans) = &mut self.kept {
+            spans.clear();
+        }
+    }
+
+    /// The terminals of a token of this type and text, which begins at a byte of the source.
+    ///
+    /// A span has room for 32 bits. For a source that is longer, [`AllocError`] says that memory ran
+    /// out, where spans are kept.
+    #[inline(always)]
+    pub fn push(
         &mut self,
         alloc: Global,
         kind: Kind,
         text: &str,
         from: usize,
     ) -> Result<(), AllocError>
-        ensures { OnOk result (self.new ≡ self.old ++ token_spans from kind (chars text.now)) }
+        ensures { OnOk result
+            (self.new ≡ added self.old (token_spans from kind (chars text.now))) }
     {
-        let mut walker = Walker::new(alloc, from);
-        pass_token(alloc, kind, text, &mut walker)?;
-        self.items.extend_from_slice(walker.spans())?;
-        Ok(())
-    }
-}
-
-impl Marks for Spans {
-    ghost use Rattle.std.specs.Prelude.{◌++◌, []};
-    ghost use Rattle.std.proofs.Common.{append_assoc, append-nil};
-
-    ghost added = { λ s xs. s ++ xs };
-
-    ghost emptied = { λ s. [] };
-
-    fn clear(&mut self) {
-        self.items.clear();
-    }
-
-    fn push(
-        &mut self,
-        alloc: Global,
-        kind: Kind,
-        text: &str,
-        from: usize,
-    ) -> Result<(), AllocError> {
-        if is_fstring(kind, text) {
-            return self.push_several(alloc, kind, text, from);
+        match &mut self.kept {
+            Some(spans) => push_token(alloc, kind, text, from, spans),
+            None => Ok(()),
         }
-        let to = sum(from, len(text))?;
-        self.items.push(span(from, to)?)?;
-        Ok(())
     }
-
-    ghost added_both = { λ s xs ys. append_assoc s xs ys };
-
-    ghost added_none = { λ s. append-nil s };
 }

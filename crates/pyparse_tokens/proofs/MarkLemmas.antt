@@ -1,6 +1,6 @@
 -- Carries: mark_entry, mark_lexeme, walk, walk_line, read_line. On: the spans of a line, with one entry more.
 use Rattle.std.proofs.Common.{◌≡◌, ℕ, ◌-◌, Bool, true, false, List, [], ◌∷◌, ◌++◌, length, take, drop, refl, sym, ap, subst, ◌∙◌, arith}
-use Rattle.std.proofs.Common.{append-nil, length-take, length-drop, Some, None}
+use Rattle.std.proofs.Common.{append-nil, length-take, length-drop, Option, Some, None}
 use Rattle.std.specs.Prelude.{slice_get, slice_range, if◌then◌else◌}
 use Rattle.std.specs.List.{flat_map}
 use Rattle.std.specs.Str.{chars, IsUtf8}
@@ -24,9 +24,10 @@ use Rattle.pylex.specs.Spots.{at_spot, kind_of, Steps}
 use Rattle.pylex.specs.Steps.{entries_of}
 use Rattle.pytoken.specs.Inner.Behind.{behind}
 use Rattle.pytoken.specs.Tokens.{Token, Line, text_of, token_of, is_open, lines}
-use Rattle.pyparse_marks.specs.Spans.{Span}
+use Rattle.pyparse_marks.specs.Spans.{Span, added}
 use Rattle.pyparse_marks.specs.TokenSpans.{token_spans}
 use Rattle.pyparse_marks.specs.LineSpans.{spans_of, line_spans}
+use Rattle.pyparse_marks.proofs.Callers.Kept.{added_both, added_none}
 use Rattle.pyparse_marks.proofs.Callers.Places.{StartsAt, tokens_start}
 use Rattle.pyparse_tokens.specs.declared.line_gather.LineGather.{LineGather}
 use Rattle.pyparse_tokens.specs.Inner.Passing.{kept_refusal}
@@ -70,59 +71,57 @@ spans_with text e line starts = by (stands_in_line e.kind) refl
 
 -- ---- A line.
 
-module _ {M : Type 0} (added : M → List Span → M) (both : (m : M) (xs ys : List Span) → added (added m xs) ys ≡ added m (xs ++ ys))
-    (none_more : (m : M) → added m [] ≡ m) where
-  -- by an entry that doesn't end it
-  pub marks_on : (p : Parts) (old new : Listed) (e : Entry) (g h : LineGather) (start was now : M) → StandsAt p old g → Read p old new e
-      → TakesEntry (chars p.text) e g h → ended_by e g.pass.begun ≡ false → StartsAt (chars p.text) e → KeepsMarks added p old g start was
-      → now ≡ added was (entry_spans (chars p.text) e) → KeepsMarks added p new h start now
-  marks_on p old new e g h start was now had read gains goes starts keep is = λ none.
-      let text = chars p.text in
-      let es = entries_of (listing (in_characters p)) in
-      let front = take old.shown.given es in
-      let before = none_before p old e g h had gains none in
-      let ended : ended_by e (is_open (behind [] front)) ≡ false = ap (ended_by e) (sym had.counts.pass.begun) ∙ goes in
-      let line : front_line text (take new.shown.given es) ≡ with_own text e (front_line text front) =
-      ap (λ (n : ℕ). front_line text (take n es)) read.count ∙ ap (front_line text) read.grown ∙ line_on text front e
-      ∙ ap (λ (b : Bool). if b then [] else with_own text e (front_line text front)) ended
-      in
-      is ∙ ap (λ (m : M). added m (entry_spans text e)) (keep before.0)
-      ∙ both start (flat_map (spans_of text) (front_line text front)) (entry_spans text e)
-      ∙ ap (added start) (spans_with text e (front_line text front) starts ∙ ap (flat_map (spans_of text)) (sym line))
+-- by an entry that doesn't end it
+pub marks_on : (p : Parts) (old new : Listed) (e : Entry) (g h : LineGather) (start was now : Option (List Span)) → StandsAt p old g → Read p old new e
+    → TakesEntry (chars p.text) e g h → ended_by e g.pass.begun ≡ false → StartsAt (chars p.text) e → KeepsMarks p old g start was
+    → now ≡ added was (entry_spans (chars p.text) e) → KeepsMarks p new h start now
+marks_on p old new e g h start was now had read gains goes starts keep is = λ none.
+    let text = chars p.text in
+    let es = entries_of (listing (in_characters p)) in
+    let front = take old.shown.given es in
+    let before = none_before p old e g h had gains none in
+    let ended : ended_by e (is_open (behind [] front)) ≡ false = ap (ended_by e) (sym had.counts.pass.begun) ∙ goes in
+    let line : front_line text (take new.shown.given es) ≡ with_own text e (front_line text front) =
+    ap (λ (n : ℕ). front_line text (take n es)) read.count ∙ ap (front_line text) read.grown ∙ line_on text front e
+    ∙ ap (λ (b : Bool). if b then [] else with_own text e (front_line text front)) ended
+    in
+    is ∙ ap (λ (m : Option (List Span)). added m (entry_spans text e)) (keep before.0)
+    ∙ added_both start (flat_map (spans_of text) (front_line text front)) (entry_spans text e)
+    ∙ ap (added start) (spans_with text e (front_line text front) starts ∙ ap (flat_map (spans_of text)) (sym line))
 
-  -- by the entry that ends it
-  pub marks_end : (p : Parts) (first old new : Listed) (e : Entry) (g h : LineGather) (start was now : M) → Reads p first old g
-      → Read p old new e → TakesEntry (chars p.text) e g h → ended_by e g.pass.begun ≡ true → kept_refusal h.pass ≡ None
-      → KeepsMarks added p old g start was → now ≡ added was (entry_spans (chars p.text) e) → MarksLine added p first start now
-  marks_end p first old new e g h start was now had read gains ends none keep is = λ line stands.
-      let s = in_characters p in
-      let text = chars p.text in
-      let k = old.shown.given in
-      let front = take k (entries_of (listing s)) in
-      let before = none_before p old e g h had.at gains none in
-      let ended : ended_by e (is_open (behind [] front)) ≡ true = ap (ended_by e) (sym had.at.counts.pass.begun) ∙ ends in
-      let parts = and_parts (ends_open_line e.kind) g.pass.begun ends in
-      let own : entry_spans text e ≡ [] = ap (λ (b : Bool). if b then token_spans e.«from» e.kind (text_of text e) else [])
-      (stands_beside e.kind parts.0) in
-      let more = lines_more s k e true ended read.grown in
-      let at : slice_get (lines s) (lines_given p first) ≡ Some (line_at text front) =
-      subst (λ (ls : List Line). slice_get (lines s) (length ls) ≡ Some (line_at text front)) (had.same before.0)
-      (line_stands s k (line_at text front) more) in
-      is ∙ ap (added was) own ∙ none_more was ∙ keep before.0
-      ∙ ap (λ (l : Line). added start (line_spans text l)) (same_line (line_at text front) line (sym at ∙ stands))
-    where
-      same_line : (a b : Line) → Some a ≡ Some b → a ≡ b
-      same_line a b e = cc
+-- by the entry that ends it
+pub marks_end : (p : Parts) (first old new : Listed) (e : Entry) (g h : LineGather) (start was now : Option (List Span)) → Reads p first old g
+    → Read p old new e → TakesEntry (chars p.text) e g h → ended_by e g.pass.begun ≡ true → kept_refusal h.pass ≡ None
+    → KeepsMarks p old g start was → now ≡ added was (entry_spans (chars p.text) e) → MarksLine p first start now
+marks_end p first old new e g h start was now had read gains ends none keep is = λ line stands.
+    let s = in_characters p in
+    let text = chars p.text in
+    let k = old.shown.given in
+    let front = take k (entries_of (listing s)) in
+    let before = none_before p old e g h had.at gains none in
+    let ended : ended_by e (is_open (behind [] front)) ≡ true = ap (ended_by e) (sym had.at.counts.pass.begun) ∙ ends in
+    let parts = and_parts (ends_open_line e.kind) g.pass.begun ends in
+    let own : entry_spans text e ≡ [] = ap (λ (b : Bool). if b then token_spans e.«from» e.kind (text_of text e) else [])
+    (stands_beside e.kind parts.0) in
+    let more = lines_more s k e true ended read.grown in
+    let at : slice_get (lines s) (lines_given p first) ≡ Some (line_at text front) =
+    subst (λ (ls : List Line). slice_get (lines s) (length ls) ≡ Some (line_at text front)) (had.same before.0)
+    (line_stands s k (line_at text front) more) in
+    is ∙ ap (added was) own ∙ added_none was ∙ keep before.0
+    ∙ ap (λ (l : Line). added start (line_spans text l)) (same_line (line_at text front) line (sym at ∙ stands))
+  where
+    same_line : (a b : Line) → Some a ≡ Some b → a ≡ b
+    same_line a b e = cc
 
 -- what was kept where a line began is kept with nothing more
-pub begins : {M : Type 0} (added : M → List Span → M) (p : Parts) (l : Listed) (g : LineGather) (start : M) → added start [] ≡ start
-    → front_line (chars p.text) (take l.shown.given (entries_of (listing (in_characters p)))) ≡ [] → KeepsMarks added p l g start start
-begins added p l g start none_more empty = λ _. sym none_more ∙ sym (ap (λ ts. added start (flat_map (spans_of (chars p.text)) ts)) empty)
+pub begins : (p : Parts) (l : Listed) (g : LineGather) (start : Option (List Span))
+    → front_line (chars p.text) (take l.shown.given (entries_of (listing (in_characters p)))) ≡ [] → KeepsMarks p l g start start
+begins p l g start empty = λ _. sym (added_none start) ∙ sym (ap (λ ts. added start (flat_map (spans_of (chars p.text)) ts)) empty)
 
 -- where something is refused nothing is said
-pub unsaid : {M : Type 0} (added : M → List Span → M) (p : Parts) (l : Listed) (g : LineGather) (start marks : M)
-    → (kept_refusal g.pass ≡ None → ⊥) → KeepsMarks added p l g start marks
-unsaid added p l g start marks refused = λ none. absurd (refused none)
+pub unsaid : (p : Parts) (l : Listed) (g : LineGather) (start marks : Option (List Span))
+    → (kept_refusal g.pass ≡ None → ⊥) → KeepsMarks p l g start marks
+unsaid p l g start marks refused = λ none. absurd (refused none)
 
 -- ---- A lexeme.
 

@@ -25,5 +25,5 @@ mod walks;
 
 pub use faults::{GrammarError, ParseFault};
 pub use logical_lines::LogicalLines;
-pub use pyparse_marks::{Marks, Span, Spans};
+pub use pyparse_marks::{Marks, Span};
 pub use tokens::{Token, tokens_of};

@@ -8,6 +8,7 @@ ghost use Rattle.pylex.specs.Listing.{in_characters};
 ghost use Rattle.pytoken.specs.TerminalOf.{terminal};
 ghost use Rattle.pytoken.specs.Tokens.{Line, lines};
 ghost use Rattle.pyparse_marks.specs.LineSpans.{line_spans};
+ghost use Rattle.pyparse_marks.specs.Spans.{added, emptied};
 ghost use Rattle.pytoken.specs.Refusals.{refusal};
 ghost use Rattle.pytoken.specs.Laws.{AreLawful, TokensAreSound, ExtentsDifferInNumbers};
 ghost use Rattle.pyparse_tokens.specs.declared.faults.ParseFault.{ParseFault};
@@ -22,7 +23,7 @@ use crate::line_gather::LineGather;
 use crate::marking::mark_entry;
 use crate::walks::walk_line;
 use pylex::{Lister, Step};
-use pyparse_marks::{Marks, Unmarked};
+use pyparse_marks::Marks;
 use pysource::{Place, Source};
 use pytoken::{Refusal, Terminal};
 use pytree_node::Extent;
@@ -41,12 +42,12 @@ fn end(gather: &LineGather) -> Result<bool, ParseFault>
 }
 
 /// Reads up to the end of the next line, or of the source: whether there is a line.
-fn read_line<'a, M: Marks>(
+fn read_line<'a>(
     alloc: Global,
     source: &'a Source,
     lister: &mut Lister<'a>,
     gather: &mut LineGather<'a>,
-    marks: &mut M,
+    marks: &mut Marks,
 ) -> Result<bool, ParseFault>
     requires { StandsBetween source.now lister.old gather.old }
     ensures line { IfOk result
@@ -67,7 +68,7 @@ fn read_line<'a, M: Marks>(
     ensures extent { gather.new.pass.extent ≡ gather.old.pass.extent }
     ensures marks { IfOk result
         (λ more. more ≡ true
-        → MarksLine M.added source.now lister.old (M.emptied marks.old) marks.new) }
+        → MarksLine source.now lister.old (emptied marks.old) marks.new) }
 {
     gather.clear();
     marks.clear();
@@ -207,7 +208,7 @@ impl<'a> LogicalLines<'a> {
         ensures again { (answer : Result Bool ParseFault) → self.old.outcome ≡ Some answer
             → (result ≡ answer) × (self.new ≡ self.old) }
     {
-        let mut marks = Unmarked;
+        let mut marks = Marks::none();
         self.next_marked(&mut marks)
     }
 
@@ -218,7 +219,7 @@ impl<'a> LogicalLines<'a> {
     ///
     /// As those of `next`. A source whose offsets have no room in 32 bits is told as memory that is
     /// wanting, where spans are kept.
-    pub fn next_marked<M: Marks>(&mut self, marks: &mut M) -> Result<bool, ParseFault>
+    pub fn next_marked(&mut self, marks: &mut Marks) -> Result<bool, ParseFault>
         ensures source { self.new.source ≡ self.old.source }
         ensures extent { self.new.extent ≡ self.old.extent }
         ensures line { IfOk result
@@ -242,7 +243,7 @@ impl<'a> LogicalLines<'a> {
         ensures marks { IfOk result
             (λ more. more ≡ true → (line : Line)
             → slice_get (lines (in_characters self.old.source)) self.old.given ≡ Some line
-            → marks.new ≡ M.added (M.emptied marks.old)
+            → marks.new ≡ added (emptied marks.old)
             (line_spans (in_characters self.old.source).text line)) }
     {
         if let Some(outcome) = self.outcome {

@@ -3,6 +3,7 @@
 ghost use Rattle.std.specs.Prelude.{◌≡◌, ◌-◌, length, OnOk};
 ghost use Rattle.std.specs.Str.{chars};
 ghost use Rattle.pylex.specs.Laws.{LiesIn};
+ghost use Rattle.pyparse_marks.specs.Spans.{added};
 ghost use Rattle.pyparse_tokens.specs.Inner.Marking.{entry_spans, lexeme_spans};
 
 use crate::gather::text_of;
@@ -14,15 +15,15 @@ use std::alloc::{AllocError, Global};
 
 /// The token of an entry, if it stands in a line.
 #[inline(always)]
-pub(crate) fn mark_entry<M: Marks>(
+pub(crate) fn mark_entry(
     alloc: Global,
     source: &Source,
     entry: &Entry,
-    marks: &mut M,
+    marks: &mut Marks,
 ) -> Result<(), AllocError>
     requires { LiesIn source.now.text entry.now }
     ensures { OnOk result
-        (marks.new ≡ M.added marks.old (entry_spans (chars source.now.text) entry.now)) }
+        (marks.new ≡ added marks.old (entry_spans (chars source.now.text) entry.now)) }
 {
     if !stands_in_line(entry.kind) {
         return Ok(());
@@ -32,15 +33,15 @@ pub(crate) fn mark_entry<M: Marks>(
 
 /// The token of a lexeme that ends at an offset, if it is one.
 #[inline(always)]
-pub(crate) fn mark_lexeme<M: Marks>(
+pub(crate) fn mark_lexeme(
     alloc: Global,
     class: Class,
     text: &str,
     to: usize,
-    marks: &mut M,
+    marks: &mut Marks,
 ) -> Result<(), AllocError>
     ensures { OnOk result (marks.new
-        ≡ M.added marks.old (lexeme_spans class (chars text.now) (to - length text.now))) }
+        ≡ added marks.old (lexeme_spans class (chars text.now) (to - length text.now))) }
 {
     let from = to.saturating_sub(text.len());
     match class {

@@ -22,13 +22,13 @@ use std::alloc::{AllocError, Global};
 
 /// Takes lexeme after lexeme of the line that is open, from the spot on where a lister stands: up to
 /// the line's end, or to one that can't be taken so. The spot there.
-fn walk<'a, M: Marks>(
+fn walk<'a>(
     alloc: Global,
     source: &'a Source,
     lister: &Lister<'a>,
     from: Spot,
     gather: &mut LineGather<'a>,
-    marks: &mut M,
+    marks: &mut Marks,
 ) -> Result<Spot, AllocError>
     requires at { StandsAt source.now (at_spot source.now from lister.now.shown.levels) gather.old }
     requires within { from.begun ≡ true }
@@ -42,11 +42,11 @@ fn walk<'a, M: Marks>(
     ensures given { IfOk result (λ to. from.given ≤ to.given) }
     ensures extent { gather.new.pass.extent ≡ gather.old.pass.extent }
     ensures marks { IfOk result
-        (λ to. to.begun ≡ true → GoesOn M.added source.now
+        (λ to. to.begun ≡ true → GoesOn source.now
         (at_spot source.now from lister.entry.now.shown.levels) gather.old marks.old
         (at_spot source.now to lister.entry.now.shown.levels) gather.new marks.new) }
     ensures line_marks { IfOk result
-        (λ to. to.begun ≡ false → kept_refusal gather.new.pass ≡ None → ComesToEnd M.added source.now
+        (λ to. to.begun ≡ false → kept_refusal gather.new.pass ≡ None → ComesToEnd source.now
         (at_spot source.now from lister.entry.now.shown.levels) gather.old marks.old marks.new) }
 {
     let text = source.text();
@@ -68,12 +68,12 @@ fn walk<'a, M: Marks>(
 
 /// Takes what is left of the line that is open where a lister stands, as far as it can be taken
 /// without entries: whether the line ended and nothing is refused. The lister goes along.
-pub(crate) fn walk_line<'a, M: Marks>(
+pub(crate) fn walk_line<'a>(
     alloc: Global,
     source: &'a Source,
     lister: &mut Lister<'a>,
     gather: &mut LineGather<'a>,
-    marks: &mut M,
+    marks: &mut Marks,
 ) -> Result<bool, AllocError>
     requires { StandsAt source.now lister.old gather.old }
     ensures within { IfOk result
@@ -87,11 +87,11 @@ pub(crate) fn walk_line<'a, M: Marks>(
     ensures given { IfOk result (λ ended. lister.old.shown.given ≤ lister.new.shown.given) }
     ensures extent { gather.new.pass.extent ≡ gather.old.pass.extent }
     ensures marks { IfOk result
-        (λ ended. ended ≡ false → GoesOn M.added source.now lister.old gather.old marks.old
+        (λ ended. ended ≡ false → GoesOn source.now lister.old gather.old marks.old
         lister.new gather.new marks.new) }
     ensures line_marks { IfOk result
         (λ ended. ended ≡ true
-        → ComesToEnd M.added source.now lister.old gather.old marks.old marks.new) }
+        → ComesToEnd source.now lister.old gather.old marks.old marks.new) }
 {
     if !gather.has_tokens() {
         return Ok(false);

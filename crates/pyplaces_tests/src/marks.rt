@@ -1,6 +1,6 @@
 //! Where the terminals of lines stand, as Python's `ast` has it of names, tuples and f-strings.
 
-use pyparse_tokens::{LogicalLines, Span, Spans};
+use pyparse_tokens::{LogicalLines, Marks, Span};
 use pysource::{Source, decode};
 use pytree_node::Extent;
 use std::alloc::Global;
@@ -20,7 +20,7 @@ fn stand(
     rt: &impl Abort,
     alloc: Global,
     lines: &mut LogicalLines<'_>,
-    marks: &mut Spans,
+    marks: &mut Marks,
     pairs: &[Pair],
 ) -> Result<(), Fail> {
     let more = lines.next_marked(marks).expect(rt, "a line");
@@ -46,7 +46,7 @@ fn lines_with_an_fstring(rt: HostRuntime) -> Result<(), Fail> {
         b"\xef\xbb\xbf\xc3\xa9 = f'\xc3\xbc{x}' # c\nif a:\n    b = 'c' \\\n 'd'\n",
     );
     let mut lines = LogicalLines::new(alloc, &source, Extent::Whole)?;
-    let mut marks = Spans::new(alloc);
+    let mut marks = Marks::new(alloc);
     stand(
         &rt,
         alloc,

@@ -1,5 +1,5 @@
 -- What is kept of where the tokens of a line stand.
-use Rattle.std.specs.Prelude.{◌≡◌, ℕ, true, List, [], take, slice_get, Some, None, if◌then◌else◌}
+use Rattle.std.specs.Prelude.{◌≡◌, ℕ, true, List, [], take, slice_get, Some, None, if◌then◌else◌, Option}
 use Rattle.std.specs.List.{flat_map}
 use Rattle.std.specs.Str.{chars}
 use Rattle.pysource.specs.Parts.{Parts}
@@ -10,7 +10,7 @@ use Rattle.pylex.specs.Listers.{Listed}
 use Rattle.pylex.specs.Spots.{kind_of}
 use Rattle.pylex.specs.Steps.{entries_of}
 use Rattle.pytoken.specs.Tokens.{Line, text_of, lines}
-use Rattle.pyparse_marks.specs.Spans.{Span}
+use Rattle.pyparse_marks.specs.Spans.{Span, added}
 use Rattle.pyparse_marks.specs.TokenSpans.{token_spans}
 use Rattle.pyparse_marks.specs.LineSpans.{spans_of, line_spans}
 use Rattle.pyparse_tokens.specs.declared.line_gather.LineGather.{LineGather}
@@ -27,21 +27,21 @@ abbrev pub lexeme_spans : Class → List ℕ → ℕ → List Span
 lexeme_spans k own at = if stands_in_line (kind_of k true) then token_spans at (kind_of k true) own else []
 
 -- Where a lister stands, and nothing is refused: what was kept where the line began, with the spans of its tokens so far.
-abbrev pub KeepsMarks : {M : Type 0} → (M → List Span → M) → Parts → Listed → LineGather → M → M → Type 0
-KeepsMarks added p l g start marks = kept_refusal g.pass ≡ None
+abbrev pub KeepsMarks : Parts → Listed → LineGather → Option (List Span) → Option (List Span) → Type 0
+KeepsMarks p l g start marks = kept_refusal g.pass ≡ None
     → marks ≡ added start (flat_map (spans_of (chars p.text))
     (front_line (chars p.text) (take l.shown.given (entries_of (listing (in_characters p))))))
 
 -- so it goes on, from one place of a line to another
-abbrev pub GoesOn : {M : Type 0} → (M → List Span → M) → Parts → Listed → LineGather → M → Listed → LineGather → M → Type 0
-GoesOn {M} added p from old was to new now = (start : M) → KeepsMarks added p from old start was → KeepsMarks added p to new start now
+abbrev pub GoesOn : Parts → Listed → LineGather → Option (List Span) → Listed → LineGather → Option (List Span) → Type 0
+GoesOn p from old was to new now = (start : Option (List Span)) → KeepsMarks p from old start was → KeepsMarks p to new start now
 
 -- what is kept is what was kept where the line began, with the spans of the line behind those before a place
-abbrev pub MarksLine : {M : Type 0} → (M → List Span → M) → Parts → Listed → M → M → Type 0
-MarksLine added p first start marks = (line : Line) → slice_get (lines (in_characters p)) (lines_given p first) ≡ Some line
+abbrev pub MarksLine : Parts → Listed → Option (List Span) → Option (List Span) → Type 0
+MarksLine p first start marks = (line : Line) → slice_get (lines (in_characters p)) (lines_given p first) ≡ Some line
     → marks ≡ added start (line_spans (chars p.text) line)
 
 -- so it is where the line has ended, since some place in it
-abbrev pub ComesToEnd : {M : Type 0} → (M → List Span → M) → Parts → Listed → LineGather → M → M → Type 0
-ComesToEnd {M} added p from old was now = (start : M) (first : Listed) → Reads p first from old → KeepsMarks added p from old start was
-    → MarksLine added p first start now
+abbrev pub ComesToEnd : Parts → Listed → LineGather → Option (List Span) → Option (List Span) → Type 0
+ComesToEnd p from old was now = (start : Option (List Span)) (first : Listed) → Reads p first from old → KeepsMarks p from old start was
+    → MarksLine p first start now

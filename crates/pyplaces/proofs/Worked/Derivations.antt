@@ -1,4 +1,4 @@
--- Derivations for worked rows, through the levels that have nothing of their own.
+-- Derivations of worked examples, through the levels that have nothing of their own.
 use Rattle.std.specs.Prelude.{ℕ, List, [], ◌∷◌}
 use Rattle.pygrammar.specs.declared.levels.Level.TheVariants.{Value, Stars, StarItem, Named, Expression, Or, BitOr, Primary, Atom}
 use Rattle.pytree_node.specs.declared.operators.Context.TheVariants.{Load}

@@ -1,14 +1,17 @@
-use Rattle.std.proofs.Common.{ℕ, ◌+◌, ◌<◌, ◌∙◌, Bool, ap, subst, sym, arith, length}
-use Rattle.std.specs.Prelude.{if◌then◌else◌}
+use Rattle.std.proofs.Common.{◌≡◌, ℕ, ◌+◌, ◌<◌, ◌∙◌, Bool, Some, [], ap, subst, sym, arith, length, map}
+use Rattle.std.specs.Prelude.{if◌then◌else◌, slice_get}
 use Rattle.std.proofs.lemmas.Option.{slice_get_within}
 use Rattle.pysource.specs.Parts.{Parts}
 use Rattle.pylex.specs.Listing.{in_characters}
 use Rattle.pytree_node.specs.declared.profiles.Extent.{Extent}
-use Rattle.pytoken.specs.Tokens.{lines}
+use Rattle.pytoken.specs.Tokens.{Line, lines}
 use Rattle.std.proofs.lemmas.Result.{err_from_is_err_and}
 use Rattle.pytoken.specs.Refusals.{refusal}
 use Rattle.pyparse_tokens.specs.Answers.{Tells}
-use Rattle.pyparse_tokens.specs.LineReadings.{LineReading}
+use Rattle.pyparse_marks.specs.LineSpans.{line_spans}
+use Rattle.pyparse_marks.specs.Spans.{told}
+use Rattle.pyparse_marks.proofs.Callers.Kept.{kept_anew}
+use Rattle.pyparse_tokens.specs.LineReadings.{LineReading, HoldsLine}
 use Rattle.pyparse.specs.Inner.PlacedLines.{IsPlaced}
 use Rattle.pyparse.proofs.FinishLemmas.{told_on, closes_at}
 use Rattle.pyparse.proofs.placed.parse_placed.Goals as goal
@@ -18,6 +21,7 @@ loop-progress-init c =
     let s = in_characters c.args.source.now in
     record {
       source = ap (λ (r : LineReading). r.source) c.in_ok-lines.ensures.before;
+      kept = record { spans = []; is = c.new-marks.ensures.empty };
       extent = ap (λ (r : LineReading). r.extent) c.in_ok-lines.ensures.before;
       placed =
           subst (λ (k : ℕ). IsPlaced c.args.profile s k c.new-progress.result)
@@ -62,3 +66,35 @@ returns-clause-refused c =
     c.next_marked.new.self.marker c.end.result
     c.loop-progress.invariant.extent (ap in_characters c.loop-progress.invariant.source) (c.in_ok-next_marked.ensures.all c.if-branch.false)
     (c.in_ok-next_marked.ensures.sound c.if-branch.false) (c.in_ok-next_marked.ensures.end c.if-branch.false) c.end.ensures)
+
+pub loop-progress-preserved : goal.loop-progress-preserved
+loop-progress-preserved c =
+    let profile = c.args.profile in
+    let old = c.loop-progress.lines in
+    let new = c.next_marked.new.self in
+    let more = c.if-branch.true in
+    let text = (in_characters old.source).text in
+    let kept = c.loop-progress.invariant.kept in
+    let same : old.source ≡ new.source = sym c.next_marked.ensures.source in
+    let source : new.source ≡ c.args.source.now = c.next_marked.ensures.source ∙ c.loop-progress.invariant.source in
+    let given : new.given ≡ old.given + 1 =
+    c.in_ok-next_marked.ensures.given ∙ ap (λ (b : Bool). if b then old.given + 1 else old.given) more in
+    let held = c.in_ok-next_marked.ensures.line more in
+    let spans : (x : Line) → slice_get (lines (in_characters old.source)) old.given ≡ Some x → c.next_marked.new.marks ≡ Some (line_spans text x) =
+    λ x stands. c.in_ok-next_marked.ensures.marks more x stands ∙ kept_anew c.loop-progress.marks kept.spans (line_spans text x) kept.is in
+    let placed : IsPlaced profile (in_characters new.source) (old.given + 1) c.take.new.self =
+    c.in_ok-take.ensures old.given (subst (λ (p : Parts). HoldsLine (in_characters p) old.given new) same held)
+    (subst (λ (p : Parts). (x : Line) → slice_get (lines (in_characters p)) old.given ≡ Some x
+    → map told c.as_slice.result.now ≡ line_spans (in_characters p).text x) same
+    (λ x stands. c.as_slice.ensures (line_spans text x) (spans x stands)))
+    (subst (λ (p : Parts). IsPlaced profile (in_characters p) old.given c.loop-progress.progress) (sym source)
+    c.loop-progress.invariant.placed)
+    in
+    record {
+      source = source;
+      kept = record { spans = line_spans text held.line; is = spans held.line held.stands };
+      extent = c.next_marked.ensures.extent ∙ c.loop-progress.invariant.extent;
+      placed =
+          subst (λ (k : ℕ). IsPlaced profile (in_characters c.args.source.now) k c.take.new.self) (sym given)
+          (subst (λ (p : Parts). IsPlaced profile (in_characters p) (old.given + 1) c.take.new.self) source placed);
+    }

@@ -5,6 +5,7 @@ use Rattle.pylex.specs.declared.entries.Step.TheVariants as steps
 use Rattle.pylex.specs.Listing.{in_characters, listing}
 use Rattle.pylex.specs.Steps.{entries_of}
 use Rattle.pytoken.specs.declared.refusals.Refusal.{Refusal}
+use Rattle.pyparse_marks.specs.Spans.{emptied}
 use Rattle.pyparse_tokens.specs.Answers.{Tells}
 use Rattle.pyparse_tokens.specs.declared.line_gather.LineGather.{LineGather}
 use Rattle.pyparse_tokens.specs.Inner.Passing.{kept_refusal}
@@ -19,31 +20,31 @@ use Rattle.pyparse_tokens.proofs.MarkLemmas.{entry_starts, marks_on, marks_end, 
 use Rattle.pyparse_tokens.proofs.logical_lines.read_line.Goals as goal
 
 pub entries-init : goal.entries-init
-entries-init g c =
+entries-init c =
     record {
       extent = ap (λ (g : LineGather). g.pass.extent) c.clear.ensures.rest;
       reads = reads_begin c.args.source.now c.args.lister.now c.args.gather.now c.clear.new.self c.requires
           c.clear.ensures.rest c.clear.ensures.empty;
-      marks = subst (KeepsMarks g.M.Marks.added c.args.source.now c.args.lister.now c.clear.new.self (g.M.Marks.emptied c.args.marks.now))
+      marks = subst (KeepsMarks c.args.source.now c.args.lister.now c.clear.new.self (emptied c.args.marks.now))
           (sym c.clear-2.ensures)
-          (begins g.M.Marks.added c.args.source.now c.args.lister.now c.clear.new.self (g.M.Marks.emptied c.args.marks.now)
-          (g.met.M.Marks.added_none (g.M.Marks.emptied c.args.marks.now)) c.requires.closed);
+          (begins c.args.source.now c.args.lister.now c.clear.new.self (emptied c.args.marks.now)
+          c.requires.closed);
     }
 
 pub walk_line-requires : goal.walk_line-requires
-walk_line-requires g c = c.entries.invariant.reads.at
+walk_line-requires c = c.entries.invariant.reads.at
 
 pub returns-then-branch-clause-line : goal.returns-then-branch-clause-line
-returns-then-branch-clause-line g c = λ _. c.in_ok-walk_line.ensures.ended c.if-branch.true c.args.lister.now c.entries.invariant.reads
+returns-then-branch-clause-line c = λ _. c.in_ok-walk_line.ensures.ended c.if-branch.true c.args.lister.now c.entries.invariant.reads
 
 pub returns-then-branch-clause-marks : goal.returns-then-branch-clause-marks
-returns-then-branch-clause-marks g c =
+returns-then-branch-clause-marks c =
     λ _.
-    c.in_ok-walk_line.ensures.line_marks c.if-branch.true (g.M.Marks.emptied c.args.marks.now) c.args.lister.now c.entries.invariant.reads
+    c.in_ok-walk_line.ensures.line_marks c.if-branch.true (emptied c.args.marks.now) c.args.lister.now c.entries.invariant.reads
     c.entries.invariant.marks
 
 pub mark_entry-requires : goal.mark_entry-requires
-mark_entry-requires g c =
+mark_entry-requires c =
     let reads = c.in_ok-walk_line.ensures.within c.if-branch.false c.args.lister.now c.entries.invariant.reads in
     let read =
     entry_read c.args.source.now c.walk_line.new.lister c.next.new.self c.walk_line.new.gather c.in_ok-entry.field-0
@@ -53,7 +54,7 @@ mark_entry-requires g c =
     read.lies
 
 pub take-requires : goal.take-requires
-take-requires g c =
+take-requires c =
     let reads = c.in_ok-walk_line.ensures.within c.if-branch.false c.args.lister.now c.entries.invariant.reads in
     let read =
     entry_read c.args.source.now c.walk_line.new.lister c.next.new.self c.walk_line.new.gather c.in_ok-entry.field-0
@@ -65,7 +66,7 @@ take-requires g c =
     record { lies = read.lies; exact = read.exact; opened = few.0; closed = few.1; indents = low.0; dedents = low.1 }
 
 pub returns-then-is_none-clause-line : goal.returns-then-is_none-clause-line
-returns-then-is_none-clause-line g c =
+returns-then-is_none-clause-line c =
     let reads = c.in_ok-walk_line.ensures.within c.if-branch.false c.args.lister.now c.entries.invariant.reads in
     let read =
     entry_read c.args.source.now c.walk_line.new.lister c.next.new.self c.walk_line.new.gather c.in_ok-entry.field-0
@@ -80,7 +81,7 @@ returns-then-is_none-clause-line g c =
     (sym c.in_ok-take-in-Entry.ensures.ends ∙ c.if-branch-2.true)).line none
 
 pub returns-then-is_none-clause-marks : goal.returns-then-is_none-clause-marks
-returns-then-is_none-clause-marks g c =
+returns-then-is_none-clause-marks c =
     let reads = c.in_ok-walk_line.ensures.within c.if-branch.false c.args.lister.now c.entries.invariant.reads in
     let read =
     entry_read c.args.source.now c.walk_line.new.lister c.next.new.self c.walk_line.new.gather c.in_ok-entry.field-0
@@ -88,16 +89,15 @@ returns-then-is_none-clause-marks g c =
     c.in_ok-entry.ensures.steps c.in-Entry.is
     in
     let none : kept_refusal c.take.new.self.pass ≡ None = search rules in
-    let law = g.met.M.Marks in
-    let start = g.M.Marks.emptied c.args.marks.now in
+    let start = emptied c.args.marks.now in
     λ _.
-    marks_end g.M.Marks.added law.added_both law.added_none c.args.source.now c.args.lister.now c.walk_line.new.lister c.next.new.self
+    marks_end c.args.source.now c.args.lister.now c.walk_line.new.lister c.next.new.self
     c.in-Entry.entry c.walk_line.new.gather c.take.new.self start c.walk_line.new.marks c.mark_entry.new.marks reads read
     c.in_ok-take-in-Entry.ensures.gathers (sym c.in_ok-take-in-Entry.ensures.ends ∙ c.if-branch-2.true) none
     (c.in_ok-walk_line.ensures.marks c.if-branch.false start c.entries.invariant.marks) c.in_ok-mark_entry-in-Entry.ensures
 
 pub entries-smaller-then-branch-2 : goal.entries-smaller-then-branch-2
-entries-smaller-then-branch-2 g c =
+entries-smaller-then-branch-2 c =
     let reads = c.in_ok-walk_line.ensures.within c.if-branch.false c.args.lister.now c.entries.invariant.reads in
     let read =
     entry_read c.args.source.now c.walk_line.new.lister c.next.new.self c.walk_line.new.gather c.in_ok-entry.field-0
@@ -107,7 +107,7 @@ entries-smaller-then-branch-2 g c =
     omega (arith, read.count, read.within, c.in_ok-walk_line.ensures.given)
 
 pub entries-smaller : goal.entries-smaller
-entries-smaller g c =
+entries-smaller c =
     let reads = c.in_ok-walk_line.ensures.within c.if-branch.false c.args.lister.now c.entries.invariant.reads in
     let read =
     entry_read c.args.source.now c.walk_line.new.lister c.next.new.self c.walk_line.new.gather c.in_ok-entry.field-0
@@ -121,7 +121,7 @@ is_none_not None some none = cc
 is_none_not (Some r) some none = cc
 
 pub entries-preserved-then-branch-2 : goal.entries-preserved-then-branch-2
-entries-preserved-then-branch-2 g c =
+entries-preserved-then-branch-2 c =
     let reads = c.in_ok-walk_line.ensures.within c.if-branch.false c.args.lister.now c.entries.invariant.reads in
     let read =
     entry_read c.args.source.now c.walk_line.new.lister c.next.new.self c.walk_line.new.gather c.in_ok-entry.field-0
@@ -144,22 +144,21 @@ entries-preserved-then-branch-2 g c =
           ∙ ap not c.if-is_none.false) none)
           c.clear-then-branch-2.ensures.rest;
       marks =
-          unsaid g.M.Marks.added c.args.source.now c.next.new.self c.clear-then-branch-2.new.self (g.M.Marks.emptied c.args.marks.now)
+          unsaid c.args.source.now c.next.new.self c.clear-then-branch-2.new.self (emptied c.args.marks.now)
           c.mark_entry.new.marks
           (λ none. is_none_not (kept_refusal c.take.new.self.pass) (ap is_some (sym c.refusal.ensures) ∙ c.is_none.ensures
           ∙ ap not c.if-is_none.false) (sym (ap (λ (h : LineGather). kept_refusal h.pass) c.clear-then-branch-2.ensures.rest) ∙ none));
     }
 
 pub entries-preserved : goal.entries-preserved
-entries-preserved g c =
+entries-preserved c =
     let reads = c.in_ok-walk_line.ensures.within c.if-branch.false c.args.lister.now c.entries.invariant.reads in
     let read =
     entry_read c.args.source.now c.walk_line.new.lister c.next.new.self c.walk_line.new.gather c.in_ok-entry.field-0
     c.in-Entry.entry reads.at
     c.in_ok-entry.ensures.steps c.in-Entry.is
     in
-    let law = g.met.M.Marks in
-    let start = g.M.Marks.emptied c.args.marks.now in
+    let start = emptied c.args.marks.now in
     record {
       extent = c.take.ensures.extent ∙ c.walk_line.ensures.extent ∙ c.entries.invariant.extent;
       reads =
@@ -168,7 +167,7 @@ entries-preserved g c =
           c.next.ensures.given (c.in_ok-entry.ensures.source ∙ reads.at.source) c.in_ok-take-in-Entry.ensures.gathers
           (sym c.in_ok-take-in-Entry.ensures.ends ∙ c.if-branch-2.false);
       marks =
-          marks_on g.M.Marks.added law.added_both law.added_none c.args.source.now c.walk_line.new.lister c.next.new.self c.in-Entry.entry
+          marks_on c.args.source.now c.walk_line.new.lister c.next.new.self c.in-Entry.entry
           c.walk_line.new.gather c.take.new.self start c.walk_line.new.marks c.mark_entry.new.marks reads.at read
           c.in_ok-take-in-Entry.ensures.gathers (sym c.in_ok-take-in-Entry.ensures.ends ∙ c.if-branch-2.false)
           (entry_starts c.args.source.now c.walk_line.new.lister c.next.new.self c.walk_line.new.gather
@@ -178,7 +177,7 @@ entries-preserved g c =
     }
 
 pub returns-in-End-clause-same : goal.returns-in-End-clause-same
-returns-in-End-clause-same g c =
+returns-in-End-clause-same c =
     let s = in_characters c.args.source.now in
     let m = moved c.walk_line.new.lister c.next.new.self c.in_ok-entry.field-0 steps.End s c.walk_line.new.lister.shown.given
     c.in_ok-entry.ensures.steps
@@ -190,7 +189,7 @@ returns-in-End-clause-same g c =
     c.end.ensures.end
 
 pub returns-in-End-clause-all : goal.returns-in-End-clause-all
-returns-in-End-clause-all g c =
+returns-in-End-clause-all c =
     let s = in_characters c.args.source.now in
     let at = (c.in_ok-walk_line.ensures.within c.if-branch.false c.args.lister.now c.entries.invariant.reads).at in
     let m = moved c.walk_line.new.lister c.next.new.self c.in_ok-entry.field-0 steps.End s c.walk_line.new.lister.shown.given
@@ -203,7 +202,7 @@ returns-in-End-clause-all g c =
     ∙ ap length (all_lines s c.walk_line.new.lister.shown.given last.0)) c.end.ensures.end
 
 pub returns-in-End-clause-sound : goal.returns-in-End-clause-sound
-returns-in-End-clause-sound g c =
+returns-in-End-clause-sound c =
     let s = in_characters c.args.source.now in
     let at = (c.in_ok-walk_line.ensures.within c.if-branch.false c.args.lister.now c.entries.invariant.reads).at in
     let k = c.walk_line.new.lister.shown.given in
@@ -215,7 +214,7 @@ returns-in-End-clause-sound g c =
     IfOk-weaker c.end.result _ _ (λ more ends _. sym all ∙ ends.1) c.end.ensures.end
 
 pub returns-in-End-clause-marker : goal.returns-in-End-clause-marker
-returns-in-End-clause-marker g c =
+returns-in-End-clause-marker c =
     let s = in_characters c.args.source.now in
     let at = (c.in_ok-walk_line.ensures.within c.if-branch.false c.args.lister.now c.entries.invariant.reads).at in
     let k = c.walk_line.new.lister.shown.given in
@@ -228,7 +227,7 @@ returns-in-End-clause-marker g c =
     IfOk-weaker c.end.result _ _ (λ more is _. ends) c.end.ensures.end
 
 pub returns-in-End-clause-refused : goal.returns-in-End-clause-refused
-returns-in-End-clause-refused g c =
+returns-in-End-clause-refused c =
     let s = in_characters c.args.source.now in
     let at = (c.in_ok-walk_line.ensures.within c.if-branch.false c.args.lister.now c.entries.invariant.reads).at in
     let k = c.walk_line.new.lister.shown.given in
@@ -240,7 +239,7 @@ returns-in-End-clause-refused g c =
     subst (λ (r : Option Refusal). IfErr c.end.result (Tells r)) all c.end.ensures.refused
 
 pub returns-in-Fault-clause-refused : goal.returns-in-Fault-clause-refused
-returns-in-Fault-clause-refused g c =
+returns-in-Fault-clause-refused c =
     let s = in_characters c.args.source.now in
     let at = (c.in_ok-walk_line.ensures.within c.if-branch.false c.args.lister.now c.entries.invariant.reads).at in
     let k = c.walk_line.new.lister.shown.given in

@@ -3,17 +3,18 @@ use Rattle.std.specs.Str.{IsUtf8}
 use Rattle.pysource.specs.Limits.{source_limit}
 use Rattle.pylex.specs.Spots.{at_spot}
 use Rattle.pylex.proofs.CallersOfSpots.{spot_boundary}
+use Rattle.pyparse_marks.specs.Spans.{added}
 use Rattle.pyparse_tokens.proofs.MarkLemmas.{marks_on, marks_end, step_marked, step_starts}
 use Rattle.pyparse_tokens.proofs.WalkLemmas.{few_brackets, walk_begins, walk_room, walk_steps, walk_on, walk_ends}
 use Rattle.pyparse_tokens.proofs.WalkLemmas.{step_taken, step_within, step_ends}
 use Rattle.pyparse_tokens.proofs.walks.walk.Goals as goal
 
 pub range_from-left-requires : goal.range_from-left-requires
-range_from-left-requires g c = λ _. rw c.text-text.ensures.value (spot_boundary c.args.source.now c.args.from c.args.lister.now.shown.levels
+range_from-left-requires c = λ _. rw c.text-text.ensures.value (spot_boundary c.args.source.now c.args.from c.args.lister.now.shown.levels
     (subst IsUtf8 c.text-text.ensures.value c.text-text.utf8) c.requires.at.stands)
 
 pub lexemes-init : goal.lexemes-init
-lexemes-init g c = record {
+lexemes-init c = record {
   walks =
       walk_begins c.args.source.now c.args.lister.now.shown.levels c.range_from-left.result.now c.args.from c.args.gather.now
       c.range_from-left.utf8 c.requires.at
@@ -23,14 +24,14 @@ lexemes-init g c = record {
 }
 
 pub step-requires : goal.step-requires
-step-requires g c =
+step-requires c =
     let small : length c.args.source.now.text ≤ source_limit = rw c.text-text.ensures.value at c.text-text.ensures.within in
     walk_room c.args.source.now c.args.lister.now.shown.levels c.lexemes.left.now c.args.from c.lexemes.spot
     c.args.gather.now c.lexemes.gather
     (subst IsUtf8 c.text-text.ensures.value c.text-text.utf8) small c.lexemes.invariant.walks
 
 pub take_lexeme-requires : goal.take_lexeme-requires
-take_lexeme-requires g c =
+take_lexeme-requires c =
     let p = c.args.source.now in
     let levels = c.args.lister.now.shown.levels in
     let small : length p.text ≤ source_limit = rw c.text-text.ensures.value at c.text-text.ensures.within in
@@ -44,7 +45,7 @@ take_lexeme-requires g c =
     record { begun = w.begun; some = w.some; opened = few.0; closed = few.1; boundary = x.boundary; gives = moved.ahead.gives }
 
 pub returns-then-not-to-clause-at : goal.returns-then-not-to-clause-at
-returns-then-not-to-clause-at g c =
+returns-then-not-to-clause-at c =
     let p = c.args.source.now in
     let levels = c.args.lister.now.shown.levels in
     let small : length p.text ≤ source_limit = rw c.text-text.ensures.value at c.text-text.ensures.within in
@@ -59,7 +60,7 @@ returns-then-not-to-clause-at g c =
     c.take_lexeme.new.self w x moved (c.in_ok-take_lexeme.ensures.taken c.if-not-branch.false) c.if-not-to.true).at
 
 pub returns-then-not-to-clause-went : goal.returns-then-not-to-clause-went
-returns-then-not-to-clause-went g c =
+returns-then-not-to-clause-went c =
     let p = c.args.source.now in
     let levels = c.args.lister.now.shown.levels in
     let small : length p.text ≤ source_limit = rw c.text-text.ensures.value at c.text-text.ensures.within in
@@ -75,7 +76,7 @@ returns-then-not-to-clause-went g c =
 
 -- the last lexeme of the line
 pub returns-then-not-to-clause-line_marks : goal.returns-then-not-to-clause-line_marks
-returns-then-not-to-clause-line_marks g c =
+returns-then-not-to-clause-line_marks c =
     let p = c.args.source.now in
     let levels = c.args.lister.now.shown.levels in
     let utf8 = subst IsUtf8 c.text-text.ensures.value c.text-text.utf8 in
@@ -93,15 +94,14 @@ returns-then-not-to-clause-line_marks g c =
     let x = walk_steps p levels left c.args.from spot to class front back c.args.gather.now old utf8 small c.requires.given w moved in
     let gains = step_taken p levels spot to class front back old new x (c.in_ok-take_lexeme.ensures.taken c.if-not-branch.false) in
     let last = step_ends p levels left spot to class front back old new x moved c.if-not-to.true w.begun in
-    let law = g.met.M.Marks in
     λ _ none start first reads keep.
-    marks_end g.M.Marks.added law.added_both law.added_none p first (at_spot p spot levels) (at_spot p to levels) x.goes.entry old new
+    marks_end p first (at_spot p spot levels) (at_spot p to levels) x.goes.entry old new
     start c.lexemes.marks c.mark_lexeme.new.marks (w.reads first reads) x.read gains last none
-    (c.lexemes.invariant.marks start keep) (c.in_ok-mark_lexeme.ensures ∙ ap (g.M.Marks.added c.lexemes.marks)
+    (c.lexemes.invariant.marks start keep) (c.in_ok-mark_lexeme.ensures ∙ ap (added c.lexemes.marks)
     (step_marked p levels left spot to class front back old utf8 x moved))
 
 pub lexemes-preserved : goal.lexemes-preserved
-lexemes-preserved g c =
+lexemes-preserved c =
     let p = c.args.source.now in
     let levels = c.args.lister.now.shown.levels in
     let utf8 = subst IsUtf8 c.text-text.ensures.value c.text-text.utf8 in
@@ -120,15 +120,14 @@ lexemes-preserved g c =
     let taken = c.in_ok-take_lexeme.ensures.taken c.if-not-branch.false in
     let gains = step_taken p levels spot to class front back old new x taken in
     let inside = step_within p levels spot to class front back old new x gains moved.ahead.gives c.if-not-to.false in
-    let law = g.met.M.Marks in
     record {
       walks =
           walk_on p levels left c.args.from spot to class front back c.args.gather.now old new w x moved taken
           c.in_ok-take_lexeme.ensures.some c.if-not-to.false;
       marks =
           λ start keep.
-          marks_on g.M.Marks.added law.added_both law.added_none p (at_spot p spot levels) (at_spot p to levels) x.goes.entry old new start
+          marks_on p (at_spot p spot levels) (at_spot p to levels) x.goes.entry old new start
           c.lexemes.marks c.mark_lexeme.new.marks w.at x.read gains inside (step_starts p levels spot to class front back old w.at x)
-          (c.lexemes.invariant.marks start keep) (c.in_ok-mark_lexeme.ensures ∙ ap (g.M.Marks.added c.lexemes.marks)
+          (c.lexemes.invariant.marks start keep) (c.in_ok-mark_lexeme.ensures ∙ ap (added c.lexemes.marks)
           (step_marked p levels left spot to class front back old utf8 x moved));
     }

@@ -9,14 +9,14 @@ use Rattle.pyparse_tokens.proofs.WalkLemmas.{here_is, stands_here, leads_there}
 use Rattle.pyparse_tokens.proofs.walks.walk_line.Goals as goal
 
 pub walk-requires-clause-at : goal.walk-requires-clause-at
-walk-requires-clause-at g c = stands_here c.args.source.now c.args.lister.now c.in-Some.from c.args.gather.now
+walk-requires-clause-at c = stands_here c.args.source.now c.args.lister.now c.in-Some.from c.args.gather.now
     c.requires c.in-Some.ensures.shown
 
 pub go_to-requires : goal.go_to-requires
-go_to-requires g c = leads_there c.args.source.now c.args.lister.now c.in_ok-to.to c.walk.new.gather c.requires.source c.in_ok-to.ensures.at
+go_to-requires c = leads_there c.args.source.now c.args.lister.now c.in_ok-to.to c.walk.new.gather c.requires.source c.in_ok-to.ensures.at
 
 pub returns-then-is_none-clause-ended : goal.returns-then-is_none-clause-ended
-returns-then-is_none-clause-ended g c =
+returns-then-is_none-clause-ended c =
     let p = c.args.source.now in
     let old = c.args.lister.now in
     let levels = old.shown.levels in

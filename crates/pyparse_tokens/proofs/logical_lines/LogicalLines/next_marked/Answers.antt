@@ -53,38 +53,38 @@ ended l r answer view reads is =
     subst (λ (q : LineReading). Ends q.extent (in_characters q.source) q.given q.marker answer) view (reads.ended answer is)
 
 pub returns-in-Some-clause-line : goal.returns-in-Some-clause-line
-returns-in-Some-clause-line g c = no_line c.args.self.now.extent (in_characters c.args.self.now.source)
+returns-in-Some-clause-line c = no_line c.args.self.now.extent (in_characters c.args.self.now.source)
     c.args.self.now c.args.self.now.given
     c.args.self.now.marker c.in-Some.outcome (ended c.self.inside c.args.self.now c.in-Some.outcome c.self.view_is
     c.self.invariant c.in-Some.is)
 
 pub returns-in-Some-clause-given : goal.returns-in-Some-clause-given
-returns-in-Some-clause-given g c = none_given c.args.self.now.extent (in_characters c.args.self.now.source) c.args.self.now.given
+returns-in-Some-clause-given c = none_given c.args.self.now.extent (in_characters c.args.self.now.source) c.args.self.now.given
     c.args.self.now.marker c.in-Some.outcome (ended c.self.inside c.args.self.now c.in-Some.outcome c.self.view_is
     c.self.invariant c.in-Some.is)
 
 pub returns-in-Some-clause-all : goal.returns-in-Some-clause-all
-returns-in-Some-clause-all g c = all_given c.args.self.now.extent (in_characters c.args.self.now.source) c.args.self.now.given
+returns-in-Some-clause-all c = all_given c.args.self.now.extent (in_characters c.args.self.now.source) c.args.self.now.given
     c.args.self.now.marker c.in-Some.outcome (ended c.self.inside c.args.self.now c.in-Some.outcome c.self.view_is
     c.self.invariant c.in-Some.is)
 
 pub returns-in-Some-clause-sound : goal.returns-in-Some-clause-sound
-returns-in-Some-clause-sound g c = not_refused c.args.self.now.extent (in_characters c.args.self.now.source) c.args.self.now.given
+returns-in-Some-clause-sound c = not_refused c.args.self.now.extent (in_characters c.args.self.now.source) c.args.self.now.given
     c.args.self.now.marker c.in-Some.outcome (ended c.self.inside c.args.self.now c.in-Some.outcome c.self.view_is
     c.self.invariant c.in-Some.is)
 
 pub returns-in-Some-clause-end : goal.returns-in-Some-clause-end
-returns-in-Some-clause-end g c = marked c.args.self.now.extent (in_characters c.args.self.now.source) c.args.self.now.given
+returns-in-Some-clause-end c = marked c.args.self.now.extent (in_characters c.args.self.now.source) c.args.self.now.given
     c.args.self.now.marker c.in-Some.outcome (ended c.self.inside c.args.self.now c.in-Some.outcome c.self.view_is
     c.self.invariant c.in-Some.is)
 
 pub returns-in-Some-clause-refused : goal.returns-in-Some-clause-refused
-returns-in-Some-clause-refused g c = told c.args.self.now.extent (in_characters c.args.self.now.source) c.args.self.now.given
+returns-in-Some-clause-refused c = told c.args.self.now.extent (in_characters c.args.self.now.source) c.args.self.now.given
     c.args.self.now.marker c.in-Some.outcome (ended c.self.inside c.args.self.now c.in-Some.outcome c.self.view_is
     c.self.invariant c.in-Some.is)
 
 pub returns-in-Some-clause-outcome : goal.returns-in-Some-clause-outcome
-returns-in-Some-clause-outcome g c =
+returns-in-Some-clause-outcome c =
     sym (ap (λ (r : LineReading). r.outcome) c.self.view_is) ∙ c.in-Some.is
     ∙ stays c.args.self.now.extent (in_characters c.args.self.now.source) c.args.self.now.given c.args.self.now.marker
     c.in-Some.outcome (ended c.self.inside c.args.self.now c.in-Some.outcome c.self.view_is c.self.invariant c.in-Some.is)
@@ -95,6 +95,6 @@ not_marked extent s k p (Ok more) P ends = λ is. absurd (cc)
 not_marked extent s k p (Err fault) P ends = tt
 
 pub returns-in-Some-clause-marks : goal.returns-in-Some-clause-marks
-returns-in-Some-clause-marks g c = not_marked c.args.self.now.extent (in_characters c.args.self.now.source) c.args.self.now.given
+returns-in-Some-clause-marks c = not_marked c.args.self.now.extent (in_characters c.args.self.now.source) c.args.self.now.given
     c.args.self.now.marker c.in-Some.outcome _ (ended c.self.inside c.args.self.now c.in-Some.outcome c.self.view_is
     c.self.invariant c.in-Some.is)

@@ -1,0 +1,20 @@
+-- What is kept of the terminals of a line.
+use Rattle.std.proofs.Common.{◌≡◌, refl, ap, subst, sym, List, [], ◌++◌, Option, Some, None, append_assoc, append-nil}
+use Rattle.pyparse_marks.specs.Spans.{Span, added, emptied}
+
+-- what is kept of some terminals and then of others is kept of all
+pub added_both : (kept : Option (List Span)) (xs ys : List Span) → added (added kept xs) ys ≡ added kept (xs ++ ys)
+unfolding added
+added_both None xs ys = refl
+added_both (Some before) xs ys = ap Some (append_assoc before xs ys)
+
+pub added_none : (kept : Option (List Span)) → added kept [] ≡ kept
+unfolding added
+added_none None = refl
+added_none (Some before) = ap Some (append-nil before)
+
+-- where spans are kept, those of another line are
+pub kept_anew : (kept : Option (List Span)) (xs ys : List Span) → kept ≡ Some xs → added (emptied kept) ys ≡ Some ys
+unfolding added emptied
+kept_anew None xs ys h = absurd (cc)
+kept_anew (Some before) xs ys h = refl
