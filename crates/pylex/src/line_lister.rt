@@ -23,6 +23,7 @@ use crate::held_lines::HeldLines;
 use crate::kind::Kind;
 use crate::line_state::LineState;
 use crate::machine::Machine;
+use crate::peeked::Peeked;
 use pylex_lexeme::string::is_open_string;
 use pysource::{ByteIn, LineError, LineFault, LineRead, LineReader, Place, StreamFault};
 use std::alloc::{AllocError, Global};

@@ -20,7 +20,7 @@ use crate::ends::end_step;
 use crate::entries::{Entry, Step};
 use crate::kind::Kind;
 use crate::line_state::LineState;
-use crate::peeked::{Peeked, past_spaces, peek, settle};
+use crate::peeked::{Peeked, next_entry, past_spaces, peek, settle};
 use crate::point::{entry_of, mark};
 use crate::spots::Spot;
 use pysource::{LineFault, Place};

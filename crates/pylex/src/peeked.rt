@@ -189,7 +189,7 @@ fn find<'a>(start: LineState, levels: &[usize], text: &'a str) -> (Peeked, LineS
 /// Advances to the next lexeme that gives an entry, after a line's margin: its entry, and what is
 /// left after it.
 #[inline(always)]
-fn next_entry<'a>(now: &mut LineState, text: &'a str) -> Option<(Entry, &'a str)>
+pub(crate) fn next_entry<'a>(now: &mut LineState, text: &'a str) -> Option<(Entry, &'a str)>
     requires stands { Stands now.old text.now }
     requires behind { now.old.margin ≡ false }
     ensures { IfSome result (λ r. NextEntry now.old text.now r.0 now.new r.1.now) }
