@@ -1,5 +1,5 @@
--- Carries: expr_fits, pattern_fits. On: tests in a row, one of which fails or all but the last of
--- which hold.
+-- Carries: expr_fits, pattern_fits, statement_fits. On: tests in a row, one of which fails or all
+-- but the last of which hold, or of which the first were told together.
 use Rattle.std.proofs.Common.{◌≡◌, refl, List, length, Option, Some, None, Bool, true, false}
 use Rattle.std.specs.Prelude.{◌&&◌, eqb, Result, IfOk}
 use Rattle.std.specs.List.{list_all}
@@ -47,6 +47,20 @@ last_of_four r false y z w h g f e = absurd (cc)
 pub second_fails : (x y : Bool) → false ≡ y → false ≡ (x && y)
 second_fails true y h = h
 second_fails false y h = refl
+
+-- tests that were told together, before one more
+pub two_and : (x y u : Bool) → ((x && y) && u) ≡ (x && y && u)
+two_and true y u = refl
+two_and false y u = refl
+
+pub three_and : (x y z u : Bool) → ((x && y && z) && u) ≡ (x && y && z && u)
+three_and true y z u = two_and y z u
+three_and false y z u = refl
+
+pub five_and : (v w x y z u : Bool) → ((v && w && x && y && z) && u) ≡ (v && w && x && y && z && u)
+five_and true true x y z u = three_and x y z u
+five_and true false x y z u = refl
+five_and false w x y z u = refl
 
 -- the patterns of a mapping
 pub mapping_fails : (n : Tests) (l : PatternLevel) (keys : List Expr) (ps : Patterns) (o : Option Identifier)

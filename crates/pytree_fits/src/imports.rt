@@ -89,7 +89,7 @@ fn is_all(names: &[Alias]) -> bool
 }
 
 /// Whether what is imported from a module fits: names, or all of them.
-pub(crate) fn imports_fit(alloc: Global, names: &[Alias]) -> Result<bool, AllocError>
+fn imports_fit(alloc: Global, names: &[Alias]) -> Result<bool, AllocError>
     ensures { IfOk result (λ told. told ≡ imports_fit is_name (map alias_of names.now)) }
 {
     if is_all(names) {
@@ -99,15 +99,25 @@ pub(crate) fn imports_fit(alloc: Global, names: &[Alias]) -> Result<bool, AllocE
 }
 
 /// Whether the module that names are imported from fits, or there are dots in its place.
-pub(crate) fn source_fits(
-    alloc: Global,
-    source: &Option<Identifier>,
-    level: u64,
-) -> Result<bool, AllocError>
+fn source_fits(alloc: Global, source: &Option<Identifier>, level: u64) -> Result<bool, AllocError>
     ensures { IfOk result (λ told. told ≡ source_fits is_name source.now level) }
 {
     match source {
         None => Ok(level > 0),
         Some(source) => dotted_fits(alloc, source.as_str()),
     }
+}
+
+/// Whether what is imported from a module fits, and the module.
+pub(crate) fn import_from_fits(
+    alloc: Global,
+    source: &Option<Identifier>,
+    names: &[Alias],
+    level: u64,
+) -> Result<bool, AllocError>
+    ensures { IfOk result
+        (λ told. told
+        ≡ (source_fits is_name source.now level && imports_fit is_name (map alias_of names.now))) }
+{
+    Ok(source_fits(alloc, source, level)? && imports_fit(alloc, names)?)
 }

@@ -66,6 +66,17 @@ pub(crate) fn some_targets_fit(
     targets_fit(asked, targets, place)
 }
 
+/// Whether an assignment fits.
+pub(crate) fn assign_fits(asked: Asked, targets: &[Expr], value: &Expr) -> Result<bool, AllocError>
+    ensures { IfOk result
+        (λ told. told
+        ≡ (has_one (map tree_of targets.now) && each_target_fits (tests_at asked.extent asked.fields)
+        contexts.Store (exprs (map tree_of targets.now)) && fits_at (tests_at asked.extent asked.fields)
+        levels.Value (tree_of value.now))) }
+{
+    Ok(some_targets_fit(asked, targets, Context::Store)? && expr_fits(asked, value, Level::Value)?)
+}
+
 /// Whether an assignment with an operator fits.
 pub(crate) fn aug_assign_fits(asked: Asked, target: &Expr, value: &Expr) -> Result<bool, AllocError>
     ensures { IfOk result
@@ -132,6 +143,16 @@ pub(crate) fn raise_fits(
                 && expr_fits(asked, cause, Level::Expression)?,
         ),
     }
+}
+
+/// Whether an `assert` fits.
+pub(crate) fn assert_fits(asked: Asked, test: &Expr, msg: &Option<Expr>) -> Result<bool, AllocError>
+    ensures { IfOk result
+        (λ told. told
+        ≡ (fits_at (tests_at asked.extent asked.fields) levels.Expression (tree_of test.now) &&
+        perhaps_fits (tests_at asked.extent asked.fields) levels.Expression (optional (option_of msg.now)))) }
+{
+    Ok(expr_fits(asked, test, Level::Expression)? && option_fits(asked, msg, Level::Expression)?)
 }
 
 /// Whether a version has type parameters, and the statement `type`.

@@ -17,10 +17,10 @@ use crate::headers::{
     case_head_fits, class_head_fits, clauses_fit, except_fits, for_head_fits, function_head_fits,
     items_fit, match_head_fits,
 };
-use crate::imports::{imports_fit, modules_fit, source_fits};
+use crate::imports::{import_from_fits, modules_fit};
 use crate::simple::{
-    ann_assign_fits, aug_assign_fits, names_fit, option_fits, raise_fits, some_targets_fit,
-    type_alias_fits,
+    ann_assign_fits, assert_fits, assign_fits, aug_assign_fits, names_fit, option_fits, raise_fits,
+    some_targets_fit, type_alias_fits,
 };
 use pygrammar::Level;
 use pytree_node::{Case, Context, Handler, Profile, Stmt};
@@ -57,7 +57,10 @@ fn statement_fits(alloc: Global, profile: Profile, s: &Stmt) -> Result<bool, All
                 returns,
                 type_params,
             )?;
-            Ok(head && suite_fits(alloc, profile, body)?)
+            if !head {
+                return Ok(false);
+            }
+            suite_fits(alloc, profile, body)
         }
         Stmt::AsyncFunctionDef {
             name,
@@ -76,7 +79,10 @@ fn statement_fits(alloc: Global, profile: Profile, s: &Stmt) -> Result<bool, All
                 returns,
                 type_params,
             )?;
-            Ok(head && suite_fits(alloc, profile, body)?)
+            if !head {
+                return Ok(false);
+            }
+            suite_fits(alloc, profile, body)
         }
         Stmt::ClassDef {
             name,
@@ -95,14 +101,14 @@ fn statement_fits(alloc: Global, profile: Profile, s: &Stmt) -> Result<bool, All
                 decorator_list,
                 type_params,
             )?;
-            Ok(head && suite_fits(alloc, profile, body)?)
+            if !head {
+                return Ok(false);
+            }
+            suite_fits(alloc, profile, body)
         }
         Stmt::Return { value } => option_fits(asked, value, Level::Stars),
         Stmt::Delete { targets } => some_targets_fit(asked, targets, Context::Del),
-        Stmt::Assign { targets, value } => Ok(
-            some_targets_fit(asked, targets, Context::Store)?
-                && expr_fits(asked, value, Level::Value)?,
-        ),
+        Stmt::Assign { targets, value } => assign_fits(asked, targets, value),
         Stmt::TypeAlias {
             name,
             type_params,
@@ -170,8 +176,10 @@ fn statement_fits(alloc: Global, profile: Profile, s: &Stmt) -> Result<bool, All
             Ok(items_fit(asked, items)? && suite)
         }
         Stmt::Match { subject, cases } => {
-            let head = match_head_fits(asked, subject, cases)?;
-            Ok(head && cases_fit(alloc, profile, cases)?)
+            if !match_head_fits(asked, subject, cases)? {
+                return Ok(false);
+            }
+            cases_fit(alloc, profile, cases)
         }
         Stmt::Raise { exc, cause } => raise_fits(asked, exc, cause),
         Stmt::Try {
@@ -214,16 +222,13 @@ fn statement_fits(alloc: Global, profile: Profile, s: &Stmt) -> Result<bool, All
             }
             statements_fit(alloc, profile, finalbody)
         }
-        Stmt::Assert { test, msg } => Ok(
-            expr_fits(asked, test, Level::Expression)?
-                && option_fits(asked, msg, Level::Expression)?,
-        ),
+        Stmt::Assert { test, msg } => assert_fits(asked, test, msg),
         Stmt::Import { names } => modules_fit(alloc, names),
         Stmt::ImportFrom {
             module,
             names,
             level,
-        } => Ok(source_fits(alloc, module, *level)? && imports_fit(alloc, names)?),
+        } => import_from_fits(alloc, module, names, *level),
         Stmt::Global { names } => names_fit(alloc, names),
         Stmt::Nonlocal { names } => names_fit(alloc, names),
         Stmt::Expr { value } => expr_fits(asked, value, Level::Value),

@@ -1,6 +1,6 @@
 -- The text of a place's members.
 --
--- Carries: push_members, push_place, end_node.
+-- Carries: push_on_line, push_on_lines, push_place, end_node.
 use Rattle.std.proofs.Common.{◌≡◌, ℕ, ◌++◌, List, [], ◌∷◌, true, Option, Some, None, codes, refl, sym, ap, ◌∙◌}
 use Rattle.std.specs.Option.{option_map}
 use Rattle.std.proofs.lemmas.List.{append-nil, append_assoc}

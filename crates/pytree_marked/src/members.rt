@@ -1,6 +1,7 @@
 //! The members that show a node's place.
 
-ghost use Rattle.std.specs.Prelude.{◌≡◌, ◌++◌, codes, decimal, false, if◌then◌else◌, take, true, OnOk};
+ghost use Rattle.std.specs.Prelude.{◌≡◌, ◌++◌, ℕ, List, codes, decimal, false, if◌then◌else◌, take, true};
+ghost use Rattle.std.specs.Prelude.{OnOk};
 ghost use Rattle.std.specs.String.{string_bytes};
 ghost use Rattle.pytree_dump_text.specs.declared.styles.Style.{Style};
 ghost use Rattle.pytree_dump_text.specs.Layout.{before, deeper, is_flat};
@@ -15,22 +16,70 @@ use crate::shown::Shown;
 use pytree_dump_text::{Style, Told, close, is_flat, push_before, push_number};
 use std::alloc::AllocError;
 
-/// Appends a member: what parts it from those before it, its name and a number.
-fn push_member(
+/// Appends a member on a line of its own: what parts it from those before it, its name and a number.
+fn push_line(
     out: &mut String,
     indentation: &str,
-    one_line: bool,
     first: bool,
     name: &'static str,
     number: u32,
 ) -> Result<(), AllocError>
     ensures { OnOk result
         (string_bytes out.new ≡ string_bytes out.old
-        ++ (before one_line indentation.now first ++ (name.now ++ decimal number))) }
+        ++ (before false indentation.now first ++ (name.now ++ decimal number))) }
 {
-    push_before(out, indentation, one_line, first)?;
+    push_before(out, indentation, false, first)?;
+    push_named(out, name, number)
+}
+
+/// Appends a name, with what parts it from what stands before it, and a number.
+#[inline(always)]
+fn push_named(out: &mut String, name: &'static str, number: u32) -> Result<(), AllocError>
+    ensures { OnOk result
+        (string_bytes out.new ≡ string_bytes out.old ++ (name.now ++ decimal number)) }
+{
     out.push_str(name)?;
     push_number(out, u64::from(number))
+}
+
+/// The name of the first member, with what parts it from those before it on a line.
+#[inline(always)]
+fn first_name(first: bool) -> &'static str
+    ensures { (indentation : List ℕ)
+        → result.now ≡ before true indentation first ++ codes "lineno=" }
+{
+    if first { "lineno=" } else { ", lineno=" }
+}
+
+/// Appends the members that show a place, on one line.
+fn push_on_line(out: &mut String, told: Told, place: Shown) -> Result<(), AllocError>
+    requires { told.one_line ≡ true }
+    ensures { OnOk result ((style : Style) (indentation : List ℕ)
+        → string_bytes out.new ≡ string_bytes out.old
+        ++ coming style indentation told (members (attributes place))) }
+{
+    push_named(out, first_name(told.first), place.line)?;
+    push_named(out, ", col_offset=", place.byte)?;
+    push_named(out, ", end_lineno=", place.end_line)?;
+    push_named(out, ", end_col_offset=", place.end_byte)
+}
+
+/// Appends the members that show a place, each on a line of its own.
+fn push_on_lines(
+    out: &mut String,
+    indentation: &str,
+    told: Told,
+    place: Shown,
+) -> Result<(), AllocError>
+    requires { told.one_line ≡ false }
+    ensures { OnOk result ((style : Style)
+        → string_bytes out.new ≡ string_bytes out.old
+        ++ coming style indentation.now told (members (attributes place))) }
+{
+    push_line(out, indentation, told.first, "lineno=", place.line)?;
+    push_line(out, indentation, false, "col_offset=", place.byte)?;
+    push_line(out, indentation, false, "end_lineno=", place.end_line)?;
+    push_line(out, indentation, false, "end_col_offset=", place.end_byte)
 }
 
 /// Appends the members that show a place.
@@ -44,32 +93,11 @@ fn push_members(
         → string_bytes out.new ≡ string_bytes out.old
         ++ coming style indentation.now told (members (attributes place))) }
 {
-    let one_line = told.one_line;
-    push_member(
-        out,
-        indentation,
-        one_line,
-        told.first,
-        "lineno=",
-        place.line,
-    )?;
-    push_member(out, indentation, one_line, false, "col_offset=", place.byte)?;
-    push_member(
-        out,
-        indentation,
-        one_line,
-        false,
-        "end_lineno=",
-        place.end_line,
-    )?;
-    push_member(
-        out,
-        indentation,
-        one_line,
-        false,
-        "end_col_offset=",
-        place.end_byte,
-    )
+    if told.one_line {
+        push_on_line(out, told, place)
+    } else {
+        push_on_lines(out, indentation, told, place)
+    }
 }
 
 /// Appends the members of a marked node behind its fields: those that show the next place, where one
