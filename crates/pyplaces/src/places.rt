@@ -50,6 +50,38 @@ fn lines_up_to(starts: &[u32], offset: u32) -> usize
     low
 }
 
+/// Whether an offset stands in a line, the first line being 1.
+#[inline(always)]
+fn is_in_line(starts: &[u32], line: usize, offset: u32) -> bool
+    requires { Rising starts.now }
+    ensures within { result ≡ true → line ≤ length starts.now }
+    ensures before { result ≡ true → (k : ℕ) → k < line → slice_index starts.now k ≤ offset }
+    ensures behind { result ≡ true → (k : ℕ) → line ≤ k → k < length starts.now
+        → offset < slice_index starts.now k }
+{
+    if line == 0 || line > starts.len() {
+        return false;
+    }
+    if starts[line - 1] > offset {
+        return false;
+    }
+    line == starts.len() || offset < starts[line]
+}
+
+/// How many lines start at an offset or before it. A number is tried first.
+#[inline(always)]
+fn lines_from(starts: &[u32], near: usize, offset: u32) -> usize
+    requires { Rising starts.now }
+    ensures within { result ≤ length starts.now }
+    ensures before { (k : ℕ) → k < result → slice_index starts.now k ≤ offset }
+    ensures behind { (k : ℕ) → result ≤ k → k < length starts.now → offset < slice_index starts.now k }
+{
+    if is_in_line(starts, near, offset) {
+        return near;
+    }
+    lines_up_to(starts, offset)
+}
+
 /// The start of a line, and 0 where there is none.
 #[tactic(auto, using(crate::proofs::LineStartLemmas::start_within, crate::proofs::LineStartLemmas::start_past))]
 fn start_at(starts: &[u32], at: usize) -> u32
@@ -61,14 +93,16 @@ fn start_at(starts: &[u32], at: usize) -> u32
     }
 }
 
-/// The line of an offset, from 1, and the bytes between the line's start and it.
-fn shown_at(starts: &[u32], offset: u32) -> (u32, u32)
+/// The line of an offset, from 1, and the bytes between the line's start and it. A line is tried
+/// first.
+#[inline(always)]
+fn shown_at(starts: &[u32], near: usize, offset: u32) -> (u32, u32)
     requires rising { Rising starts.now }
     requires few { length starts.now < 2 ^ 32 }
     ensures line { result.0 ≡ line_by starts.now offset }
     ensures byte { result.1 ≡ byte_by starts.now offset }
 {
-    let line = lines_up_to(starts, offset);
+    let line = lines_from(starts, near, offset);
     let start = start_at(starts, line.saturating_sub(1));
     (line as u32, offset.saturating_sub(start))
 }
@@ -126,9 +160,19 @@ impl Places {
         ensures { attributes result
             ≡ attributes_by self.now.starts (slice_index_or self.now.spans i (span 0 0)) }
     {
+        self.shown_near(i, 1)
+    }
+
+    /// What is shown of the place of a node. A line is tried first where it begins.
+    #[inline(always)]
+    fn shown_near(&self, i: usize, near: u32) -> Shown
+        requires { i < length self.now.spans }
+        ensures { attributes result
+            ≡ attributes_by self.now.starts (slice_index_or self.now.spans i (span 0 0)) }
+    {
         let span = self.span(i);
-        let (line, byte) = shown_at(&self.starts, span.from);
-        let (end_line, end_byte) = shown_at(&self.starts, span.to);
+        let (line, byte) = shown_at(&self.starts, near as usize, span.from);
+        let (end_line, end_byte) = shown_at(&self.starts, line as usize, span.to);
         Shown {
             line,
             byte,
@@ -143,6 +187,8 @@ impl Places {
 pub struct PlacesLeft<'a> {
     places: &'a Places,
     next: usize,
+    /// The line of the place that was taken last, near which the next one most often begins.
+    line: u32,
 }
 
 impl<'a> PlacesLeft<'a> {
@@ -151,7 +197,11 @@ impl<'a> PlacesLeft<'a> {
         ensures places { result.places.now ≡ places.now }
         ensures next { result.next ≡ 0 }
     {
-        PlacesLeft { places, next: 0 }
+        PlacesLeft {
+            places,
+            next: 0,
+            line: 1,
+        }
     }
 }
 
@@ -166,8 +216,9 @@ impl<'a> pytree_marked::Places for PlacesLeft<'a> {
         if self.next >= self.places.len() {
             return None;
         }
-        let place = self.places.shown(self.next);
+        let place = self.places.shown_near(self.next, self.line);
         self.next += 1;
+        self.line = place.line;
         Some(place)
     }
 }

@@ -1,7 +1,7 @@
 use Rattle.std.proofs.Common.{ap, ◌∙◌}
 use Rattle.pyplaces.specs.PlacesOf.{PlacesOf}
 use Rattle.pyplaces.proofs.LineStartLemmas.{shown_is}
-use Rattle.pyplaces.proofs.places.Places.shown.Goals as goal
+use Rattle.pyplaces.proofs.places.Places.shown_near.Goals as goal
 
 pub returns : goal.returns
 returns c =
