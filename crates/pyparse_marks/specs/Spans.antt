@@ -15,10 +15,10 @@ abbrev pub told : given.Span → Span
 told s = span s.«from» s.to
 
 -- What is kept of a line: nothing, or the spans of its terminals. With those of some terminals more, and with none.
-pub added : Option (List Span) → List Span → Option (List Span)
+unfoldable pub added : Option (List Span) → List Span → Option (List Span)
 added kept spans = option_map (λ before. before ++ spans) kept
 
-pub emptied : Option (List Span) → Option (List Span)
+unfoldable pub emptied : Option (List Span) → Option (List Span)
 emptied kept = option_map (λ before. []) kept
 
 -- spans are kept

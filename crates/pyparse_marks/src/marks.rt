@@ -1,9 +1,10 @@
 //! Where the terminals of a line stand, if that is kept.
 
-ghost use Rattle.std.specs.Prelude.{◌≡◌, List, Some, None, [], map, OnOk};
+ghost use Rattle.std.specs.Prelude.{◌≡◌, ◌++◌, List, Some, None, [], map, OnOk};
 ghost use Rattle.std.specs.Str.{chars};
 ghost use Rattle.pyparse_marks.specs.Laws.{EachHasSpan};
-ghost use Rattle.pyparse_marks.specs.Spans.{Span, added, emptied, told};
+ghost use Rattle.pyparse_marks.specs.Spans as words;
+ghost use Rattle.pyparse_marks.specs.Spans.{added, emptied, told};
 ghost use Rattle.pyparse_marks.specs.TokenSpans.{token_spans};
 
 use crate::lengths::{len, span, sum};
@@ -87,7 +88,7 @@ impl Marks {
 
     /// The spans that are kept.
     pub fn as_slice(&self) -> &[Span]
-        ensures { (spans : List Span) → self.now ≡ Some spans → map told result.now ≡ spans }
+        ensures { (kept : List words.Span) → self.now ≡ Some kept → map told result.now ≡ kept }
     {
         match &self.kept {
             Some(spans) => spans.as_slice(),
@@ -96,6 +97,7 @@ impl Marks {
     }
 
     /// Lets go of all spans.
+    #[tactic(auto, unfolding(crate::specs::Spans::emptied))]
     pub fn clear(&mut self)
         ensures { self.new ≡ emptied self.old }
     {
@@ -109,6 +111,7 @@ impl Marks {
     /// A span has room for 32 bits. For a source that is longer, [`AllocError`] says that memory ran
     /// out, where spans are kept.
     #[inline(always)]
+    #[tactic(auto, unfolding(crate::specs::Spans::added))]
     pub fn push(
         &mut self,
         alloc: Global,
