@@ -42,6 +42,8 @@ mod matches;
 #[cfg(test)]
 mod numbers;
 #[cfg(test)]
+mod placed_blocks;
+#[cfg(test)]
 mod places;
 #[cfg(test)]
 mod unparses;

@@ -1,7 +1,7 @@
 //! The places of a tree.
 
-ghost use Rattle.std.specs.Prelude.{◌≡◌, ◌≤◌, ◌<◌, ◌^◌, ℕ, map, length, slice_index, slice_index_or};
-ghost use Rattle.std.specs.Prelude.{IfOk};
+ghost use Rattle.std.specs.Prelude.{◌≡◌, ◌≤◌, ◌<◌, ◌^◌, ℕ, true, map, length, slice_index};
+ghost use Rattle.std.specs.Prelude.{slice_index_or, IfOk};
 ghost use Rattle.pyplaces.specs.LineStarts.{Rising, attributes_by, byte_by, line_by, line_starts};
 ghost use Rattle.pyplaces.specs.PlacesOf.{shown_from};
 ghost use Rattle.pyplaces.specs.Recording.{told};

@@ -29,6 +29,8 @@ mod fstrings;
 #[cfg(test)]
 mod logical_lines;
 #[cfg(test)]
+mod marks;
+#[cfg(test)]
 mod match_dumps;
 #[cfg(test)]
 mod module_dumps;
