@@ -15,6 +15,7 @@ use std::alloc::{AllocError, Global};
 
 /// The token of an entry, if it stands in a line.
 #[inline(always)]
+#[tactic(auto, using(pyparse_marks::proofs::Callers::Kept::added_none))]
 pub(crate) fn mark_entry(
     alloc: Global,
     source: &Source,
@@ -33,6 +34,7 @@ pub(crate) fn mark_entry(
 
 /// The token of a lexeme that ends at an offset, if it is one.
 #[inline(always)]
+#[tactic(auto, using(pyparse_marks::proofs::Callers::Kept::added_none))]
 pub(crate) fn mark_lexeme(
     alloc: Global,
     class: Class,
