@@ -12,7 +12,7 @@ use Rattle.pygrammar.specs.PatternGrammar.{DerivesPattern}
 use Rattle.pyplaces.specs.ExpressionPlaces.{places}
 use Rattle.pyplaces.specs.PatternPlaces.{pattern_places}
 use Rattle.pyplaces.specs.FormPlaces.{FormPlaces, plain_header}
-use Rattle.pyplaces_unique.specs.Laws.{OfExpressions, OfPatterns, OfLines, PlacesAreUnique}
+use Rattle.pyplaces_unique.specs.Laws.{OfExpressions, OfPatterns, OfLines, OfBlocks, PlacesAreUnique}
 use Rattle.pyplaces_unique.specs.Inner.Questions
 use Rattle.pyplaces_unique.specs.Inner.Questions.{An, Reading, Done, Ask}
 use Rattle.pyplaces_unique.proofs.Leading.{Comes, from, one_end}
@@ -22,6 +22,8 @@ use Rattle.pyplaces_unique.proofs.PatternLooks.{PatternStops}
 use Rattle.pyplaces_unique.proofs.Patterns.{pattern_goes}
 use Rattle.pyplaces_unique.proofs.LineForms.{line_told}
 use Rattle.pyplaces_unique.proofs.WithForms.{lines_agree}
+use Rattle.pyplaces_unique.proofs.Blocks.{blocks_alike}
+use Rattle.pyplaces_unique.proofs.Sources.{of_sources}
 
 -- nothing follows
 ends : (l : Level) → Stops l []
@@ -62,5 +64,16 @@ of_lines profile inside ts f g p q =
     let w = lines_agree p q refl in
     (one_end (line_told w.0 p w.1) (line_told w.0 q w.2)).0
 
+-- ---- Blocks, and all.
+
+pub of_blocks : OfBlocks
+of_blocks l xs ss ts zs b c = blocks_alike refl b c zs
+
 pub places_are_unique : PlacesAreUnique
-places_are_unique = record { expressions = of_expressions; patterns = of_patterns; lines = of_lines }
+places_are_unique = record {
+  expressions = of_expressions;
+  patterns = of_patterns;
+  lines = of_lines;
+  blocks = of_blocks;
+  sources = of_sources of_lines;
+}

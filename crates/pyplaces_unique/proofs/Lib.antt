@@ -25,4 +25,7 @@ mod LineForms
 mod Balance
 mod FirstBracket
 mod WithForms
-mod Law
+mod BlockLines
+mod Blocks
+mod Sources
+pub mod Law
