@@ -1,0 +1,12 @@
+mod Entries
+mod TokenLines
+mod Aligned
+mod Filling
+mod Walks
+mod FormattedWalks
+mod TokenWalks
+mod Counted
+mod LineSpans
+mod Simples
+mod Lines
+mod Law
