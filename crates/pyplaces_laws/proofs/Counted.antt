@@ -1,8 +1,10 @@
--- As many places in a simple statement as nodes of it that have one: as in pyplaces, whose own lemmas are not for other crates.
+-- As many places in statements as nodes of these that have one: as in pyplaces, whose own lemmas are not for other crates.
 mod Many
 mod Sums
 mod Contexts
 mod Parameters
 mod Entries
 mod Expressions
-pub mod Simple
+mod Patterns
+pub mod Forms
+pub mod Blocks

@@ -9,4 +9,6 @@ mod Counted
 mod LineSpans
 mod Simples
 mod Lines
+mod Together
+mod Blocks
 mod Law

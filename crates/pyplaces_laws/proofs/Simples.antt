@@ -20,7 +20,7 @@ use Rattle.pyplaces.specs.Laws.{IsWithin, AreWithin, last_of, statement_spans, A
 use Rattle.pyplaces.proofs.Laws.Law.{places_are_lawful}
 use Rattle.pyplaces_laws.specs.Spans.{LiesIn, AllLieIn}
 use Rattle.pyplaces_laws.specs.Nesting.{in_decorators, IsRooted, AllRooted}
-use Rattle.pyplaces_laws.proofs.Counted.Simple.{count_simple}
+use Rattle.pyplaces_laws.proofs.Counted.Forms.{count_simple}
 use Rattle.pyplaces_laws.proofs.TokenLines.{TokensIn, forward}
 use Rattle.pyplaces_laws.proofs.Aligned.{terminals_in}
 use Rattle.pyplaces_laws.proofs.Filling.{Fills, ordered, behind_first, behind_last, behind_middle}
@@ -76,16 +76,12 @@ no_decorators (F.from_dots d h c) = refl
 
 -- ---- The spans of a simple statement.
 
-record SimpleIn (profile : Profile) (lo : ℕ) (s : Stmt) (ps : List Span) (hi : ℕ) : Type 0 where
-  own : Span
-  parts : List Span
-  are : ps ≡ parts ++ (own ∷ [])
-  begins : lo ≤ own.start
-  forward : own.start ≤ own.stop
-  ends : own.stop ≤ hi
-  holds : AllLieIn own.start own.stop parts
-  count : length ps ≡ marked (shown_stmt profile s)
-  decorators : 0 ≡ in_decorators s
+-- its own span holds what is in it, and lies between two bytes
+pub record StatementIn (profile : Profile) (lo : ℕ) (s : Stmt) (ps : List Span) (hi : ℕ) : Type 0 where
+  pub root : IsRooted s ps
+  pub begins : lo ≤ root.own.start
+  pub ends : root.own.stop ≤ hi
+  pub count : length ps ≡ marked (shown_stmt profile s)
 
 pub some_token : (text : List ℕ) (lo : ℕ) (ts : List Token) (hi : ℕ) → TokensIn text lo ts hi → 0 < length (spans_in text ts)
     → Filled text lo ts hi
@@ -95,7 +91,7 @@ some_token text lo (t ∷ ts) hi h l = filled text lo t ts hi h
 simple_in : {profile : Profile} {ts : List Terminal} {s : Stmt} (text : List ℕ) (lo : ℕ) (xs : List Token) (hi : ℕ) (at : ℕ)
     (before after : List Span) (d : F.Simple profile ts s) → length before ≡ at → length (spans_in text xs) ≡ length ts
     → TokensIn text lo xs hi
-    → SimpleIn profile lo s (spans_of (before ++ (spans_in text xs ++ after)) (simple_places at d)) hi
+    → StatementIn profile lo s (spans_of (before ++ (spans_in text xs ++ after)) (simple_places at d)) hi
 simple_in {profile} {ts} {s} text lo xs hi at before after d e size h =
     let ss = spans_in text xs in
     let whole = before ++ (ss ++ after) in
@@ -111,17 +107,24 @@ simple_in {profile} {ts} {s} text lo xs hi at before after d e size h =
     ap (λ z. z.stop) (behind_middle before ss after last (at + length ts - 1) (omega (arith, e, o.some)) (omega (arith, size, o.some)))
     ∙ behind_last f.fills last (omega (arith, size, o.some)) in
     let parts = all_lie before ss after f.fills e (omega (arith, size)) (field_places at d) k.parts in
+    let fields = spans_of whole (field_places at d) in
+    let holds : AllLieIn own.start own.stop fields =
+    subst (λ n. AllLieIn n own.stop fields) (sym start) (subst (λ n. AllLieIn f.from n fields) (sym stop) parts) in
     record {
-      own = own;
-      parts = spans_of whole (field_places at d);
-      are = map-append (span_of whole) (field_places at d) (stretch at (at + length ts) ∷ []);
+      root = record {
+        inside = fields;
+        beside = [];
+        further = [];
+        own = own;
+        are = map-append (span_of whole) (field_places at d) (stretch at (at + length ts) ∷ []);
+        decorators = no_decorators d;
+        forward = omega (arith, start, stop, ordered f.fills);
+        holds = subst (AllLieIn own.start own.stop) (sym (append-nil fields)) holds;
+        apart = tt;
+      };
       begins = omega (arith, start, f.begins);
-      forward = omega (arith, start, stop, ordered f.fills);
       ends = omega (arith, stop, f.ends);
-      holds = subst (λ n. AllLieIn n own.stop (spans_of whole (field_places at d))) (sym start)
-          (subst (λ n. AllLieIn f.from n (spans_of whole (field_places at d))) (sym stop) parts);
       count = length-map (simple_places at d) (span_of whole) ∙ count.is;
-      decorators = no_decorators d;
     }
 
 -- ---- Statements in order.
@@ -131,7 +134,7 @@ pub record SimplesIn (profile : Profile) (lo : ℕ) (ss : List Stmt) (ps : List 
   pub order : AreInOrder lo (statement_spans profile ss ps) hi
   pub rooted : AllRooted profile ss ps
 
-last_is : (fs : List Span) (o : Span) → last_of (fs ++ (o ∷ [])) ≡ o ∷ []
+pub last_is : (fs : List Span) (o : Span) → last_of (fs ++ (o ∷ [])) ≡ o ∷ []
 last_is [] o = refl
 last_is (f ∷ []) o = refl
 last_is (f ∷ (g ∷ fs)) o = last_is (g ∷ fs) o
@@ -140,39 +143,35 @@ pub order_lower : (low lo : ℕ) (ps : List Span) (hi : ℕ) → low ≤ lo → 
 order_lower low lo [] hi a h = omega (arith, a, h)
 order_lower low lo (p ∷ ps) hi a h = (omega (arith, a, h.0), h.1, h.2)
 
-none_in : (profile : Profile) (lo hi : ℕ) → lo ≤ hi → SimplesIn profile lo [] [] hi
+pub none_in : (profile : Profile) (lo hi : ℕ) → lo ≤ hi → SimplesIn profile lo [] [] hi
 none_in profile lo hi h = record { order = h; rooted = refl }
 
+pub three : (as_ bs cs ds : List Span) → as_ ++ (bs ++ (cs ++ ds)) ≡ (as_ ++ (bs ++ cs)) ++ ds
+three as_ bs cs ds = simp append_assoc refl
+
 -- a statement and others behind it
-more_in : {profile : Profile} {lo mid hi : ℕ} {s : Stmt} {ss : List Stmt} {ps qs : List Span} → SimpleIn profile lo s ps mid
+pub more_in : {profile : Profile} {lo mid hi : ℕ} {s : Stmt} {ss : List Stmt} {ps qs : List Span} → StatementIn profile lo s ps mid
     → SimplesIn profile mid ss qs hi → SimplesIn profile lo (s ∷ ss) (ps ++ qs) hi
 more_in {profile} {lo} {mid} {hi} {s} {ss} {ps} {qs} a b =
     let n = marked (shown_stmt profile s) in
+    let r = a.root in
+    let own = r.own in
+    let fields = r.inside ++ (r.beside ++ r.further) in
+    let are : ps ≡ fields ++ (own ∷ []) = r.are ∙ three r.inside r.beside r.further (own ∷ []) in
     let front : take n (ps ++ qs) ≡ ps = ap (λ z. take z (ps ++ qs)) (sym a.count) ∙ take-append_seam ps qs in
     let back : drop n (ps ++ qs) ≡ qs = ap (λ z. drop z (ps ++ qs)) (sym a.count) ∙ drop-append_seam ps qs in
-    let spans : statement_spans profile (s ∷ ss) (ps ++ qs) ≡ a.own ∷ statement_spans profile ss qs =
-    ap (λ z. last_of z ++ statement_spans profile ss (drop n (ps ++ qs))) (front ∙ a.are)
-    ∙ (ap (λ z. z ++ statement_spans profile ss (drop n (ps ++ qs))) (last_is a.parts a.own)
-    ∙ ap (λ z. a.own ∷ statement_spans profile ss z) back) in
-    let first : IsRooted s ps = record {
-      inside = a.parts;
-      beside = [];
-      further = [];
-      own = a.own;
-      are = a.are;
-      decorators = a.decorators;
-      forward = a.forward;
-      holds = subst (AllLieIn a.own.start a.own.stop) (sym (append-nil a.parts)) a.holds;
-      apart = tt;
-    } in
+    let spans : statement_spans profile (s ∷ ss) (ps ++ qs) ≡ own ∷ statement_spans profile ss qs =
+    ap (λ z. last_of z ++ statement_spans profile ss (drop n (ps ++ qs))) (front ∙ are)
+    ∙ (ap (λ z. z ++ statement_spans profile ss (drop n (ps ++ qs))) (last_is fields own)
+    ∙ ap (λ z. own ∷ statement_spans profile ss z) back) in
     record {
       order = subst (λ z. AreInOrder lo z hi) (sym spans)
-          (a.begins, a.forward, order_lower a.own.stop mid (statement_spans profile ss qs) hi a.ends b.order);
-      rooted = (subst (IsRooted s) (sym front) first, subst (AllRooted profile ss) (sym back) b.rooted);
+          (a.begins, r.forward, order_lower own.stop mid (statement_spans profile ss qs) hi a.ends b.order);
+      rooted = (subst (IsRooted s) (sym front) r, subst (AllRooted profile ss) (sym back) b.rooted);
     }
 
 -- one statement, and perhaps tokens behind it
-one_in : {profile : Profile} {lo mid hi : ℕ} {s : Stmt} {ps : List Span} → SimpleIn profile lo s ps mid → mid ≤ hi
+pub one_in : {profile : Profile} {lo mid hi : ℕ} {s : Stmt} {ps : List Span} → StatementIn profile lo s ps mid → mid ≤ hi
     → SimplesIn profile lo (s ∷ []) ps hi
 one_in {profile} {lo} {mid} {hi} {s} {ps} a h =
     subst (λ z. SimplesIn profile lo (s ∷ []) z hi) (append-nil ps) (more_in a (none_in profile mid hi h))
@@ -206,8 +205,8 @@ simples_in {profile} text lo xs hi at before (F.more_simples {ts = ts} {us = us}
     append_assoc before (front ++ semi) others ∙ ap (λ z. before ++ z) (append_assoc front semi others
     ∙ (ap (λ z. front ++ z) (sym q.spans) ∙ sym r.spans)) in
     let whole = before ++ spans_in text xs in
-    let a : SimpleIn profile lo s (spans_of whole (simple_places at p)) r.mid =
-    subst (λ z. SimpleIn profile lo s (spans_of (before ++ z) (simple_places at p)) r.mid) (sym r.spans) one in
+    let a : StatementIn profile lo s (spans_of whole (simple_places at p)) r.mid =
+    subst (λ z. StatementIn profile lo s (spans_of (before ++ z) (simple_places at p)) r.mid) (sym r.spans) one in
     let b : SimplesIn profile q.mid ss (spans_of whole (simples_places next c)) hi =
     subst (λ z. SimplesIn profile q.mid ss (spans_of z (simples_places next c)) hi) lists more in
     let low = forward text r.mid q.front q.mid q.in_front in

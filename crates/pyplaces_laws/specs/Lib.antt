@@ -1,3 +1,4 @@
 pub mod Spans
 pub mod Nesting
+pub mod EachBlock
 pub mod Laws

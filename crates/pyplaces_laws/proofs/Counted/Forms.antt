@@ -1,6 +1,6 @@
--- As many places in a simple statement as nodes of it that have one.
+-- Count: as many places in each run of a line as nodes of its form that have one.
 --
--- Carries: count_simple, for Simples. On: Many, Contexts, Entries, Expressions.
+-- On: Many, Contexts, Entries, Expressions, Patterns.
 use Rattle.std.proofs.Common.{◌≡◌, refl, sym, ap, ℕ, ◌+◌, arith, List, [], ◌∷◌, ◌++◌, Option, Some, None, Bool, true, false, length}
 use Rattle.std.proofs.Common.{codes, if◌then◌else◌}
 use Rattle.pytree_node.specs.declared.profiles.Profile.{Profile}
@@ -33,6 +33,7 @@ use Rattle.pyplaces_laws.proofs.Counted.Many.{Many, many, none, one, ◌⊕◌}
 use Rattle.pyplaces_laws.proofs.Counted.Contexts.{stored_count, single_count, deleted_count}
 use Rattle.pyplaces_laws.proofs.Counted.Entries.{positional_count, keywords_count, arguments_count}
 use Rattle.pyplaces_laws.proofs.Counted.Expressions.{count_expr, count_listing}
+use Rattle.pyplaces_laws.proofs.Counted.Patterns.{count_pattern}
 
 -- ---- Parts.
 
@@ -177,3 +178,156 @@ simple_count own at (F.from_dots {ts = ts} d h c) = many (count_names (2 + (at +
 pub count_simple : {profile : Profile} {ts : List Terminal} {s : Stmt} (at : ℕ) (d : F.Simple profile ts s)
     → Many (simple_places at d) (marked (shown_stmt profile s))
 count_simple at d = simple_count _ at d
+
+pub count_simples : {profile : Profile} {ts : List Terminal} {ss : List Stmt} (at : ℕ) (d : F.Simples profile ts ss)
+    → Many (simples_places at d) (marked_rows (shown_stmts profile (stmts ss)))
+count_simples at (F.last_simple p) = many (count_simple at p) (omega arith)
+count_simples at (F.ended_simple p) = many (count_simple at p) (omega arith)
+count_simples at (F.more_simples {ts = ts} p c) = count_simple at p ⊕ count_simples (1 + (at + length ts)) c
+
+-- ---- Headers.
+
+-- in a header's parts before the body of its statement, and in those behind it
+abbrev pub before_count : Header → ℕ
+before_count (if_header e) = marked (shown e)
+before_count (elif_header e) = marked (shown e)
+before_count else_header = 0
+before_count (loop_header (while_head e)) = marked (shown e)
+before_count (loop_header (for_head is_async t e)) = marked (shown t) + marked (shown e)
+before_count (with_header is_async is) = marked_rows (shown_items is)
+before_count try_header = 0
+before_count (except_header star e x) = marked_option e
+before_count finally_header = 0
+before_count (def_header (function_head is_async x ps a r)) = marked (shown_arguments a)
+before_count (def_header (class_head x ps es ks)) = marked_rows (shown_exprs (exprs es)) + marked_rows (shown_keywords ks)
+before_count (match_header e) = marked (shown e)
+before_count (case_header p g) = marked (shown_pattern p) + marked_option g
+
+abbrev pub behind_count : Profile → Header → ℕ
+behind_count profile (def_header (function_head is_async x ps a r)) = marked_option r + marked_fields (type_params_field profile ps)
+behind_count profile (def_header (class_head x ps es ks)) = marked_fields (type_params_field profile ps)
+behind_count profile _ = 0
+
+count_item : {ts : List Terminal} {i : Item} (at : ℕ) (d : F.ItemOf ts i) → Many (item_places at d) (marked (shown_item i))
+count_item at (F.bare_item p) = many (count_expr at p) (omega arith)
+count_item at (F.item_as {ts = ts} p t) = many (count_expr at p ⊕ count_item_target (1 + (at + length ts)) t) (omega arith)
+
+count_items : {ts : List Terminal} {is : List Item} (at : ℕ) (d : F.Items ts is) → Many (items_places at d) (marked_rows (shown_items is))
+count_items at (F.in_brackets (F.bracketed c)) =
+    count_ended Item F.ItemOf (λ ts a. item_places) (λ i. marked (shown_item i)) (λ is. marked_rows (shown_items is)) refl (λ i is. refl)
+    (λ ts a at d. count_item at d) (1 + at) c
+count_items at (F.without c h) =
+    count_commas Item F.ItemOf (λ ts a. item_places) (λ i. marked (shown_item i)) (λ is. marked_rows (shown_items is)) refl (λ i is. refl)
+    (λ ts a at d. count_item at d) at c
+
+listed_is : (es : Exprs) → exprs (F.listed es) ≡ es
+listed_is Trees.no_exprs = refl
+listed_is (Trees.an_expr e es) = ap (Trees.an_expr e) (listed_is es)
+
+count_bases : {ts : List Terminal} {es : List Expr} {ks : Keywords} (at : ℕ) (d : F.Bases ts es ks)
+    → Many (bases_places at d) (marked_rows (shown_exprs (exprs es)) + marked_rows (shown_keywords ks))
+count_bases at F.no_bases = none
+count_bases at (F.bases {es = es} c h) =
+    let c1 = count_listing (1 + at) c in
+    many (positional_count c1 ⊕ keywords_count c1)
+    (ap (λ xs. marked_rows (shown_exprs xs) + marked_rows (shown_keywords (arguments.keywords es)))
+    (sym (listed_is (arguments.positional es))))
+
+-- the runs of a header
+pub record HeaderCounted (profile : Profile) (h : Header) (p : FormPlaces) : Type 0 where
+  pub before : Many p.before (before_count h)
+  pub behind : Many p.behind (behind_count profile h)
+
+header_counted : {profile : Profile} {h : Header} {p : FormPlaces} → Many p.before (before_count h) → Many p.behind (behind_count profile h)
+    → HeaderCounted profile h p
+header_counted b e = record { before = b; behind = e }
+
+count_header : {profile : Profile} {ts : List Terminal} {h : Header} (at : ℕ) (d : F.HeaderOf profile ts h)
+    → HeaderCounted profile h (header_places at d)
+count_header at (F.if_line p) = header_counted (count_expr (1 + at) p) none
+count_header at (F.elif_line p) = header_counted (count_expr (1 + at) p) none
+count_header at F.else_line = header_counted none none
+count_header at (F.while_line p) = header_counted (count_expr (1 + at) p) none
+count_header at (F.for_line {ts = ts} {us = us} a t p) =
+    header_counted (count_target (1 + (at + length ts)) t ⊕ count_expr (2 + (at + (length ts + length us))) p) none
+count_header at (F.with_line {ts = ts} a i) = header_counted (count_items (1 + (at + length ts)) i) none
+count_header at F.try_line = header_counted none none
+count_header at F.finally_line = header_counted none none
+count_header at F.except_all = header_counted none none
+count_header at (F.except_line p a) = header_counted (count_expr (1 + at) p) none
+count_header at (F.except_star p a) = header_counted (count_expr (2 + at) p) none
+count_header at (F.def_line {ts = ts} {us = us} {vs = vs} x a c ps h r) =
+    header_counted (arguments_count (count_listing (3 + (at + (length ts + length us))) ps) h)
+    (count_behind (4 + (at + (length ts + (length us + length vs)))) r ⊕ many (count_type_params (2 + (at + length ts)) c)
+    (sym (params_field c)))
+count_header at (F.class_line {ts = ts} c b) =
+    header_counted (count_bases (2 + (at + length ts)) b) (many (count_type_params (2 + at) c) (sym (params_field c)))
+
+count_case : {profile : Profile} {ts : List Terminal} {h : Header} (at : ℕ) (d : F.CaseOf ts h) → HeaderCounted profile h (case_places at d)
+count_case at (F.case_line {ts = ts} form p g) = header_counted (count_pattern (1 + at) p ⊕ count_behind (1 + (at + length ts)) g) none
+
+-- ---- Lines.
+
+abbrev pub suite_count : Profile → Option (List Stmt) → ℕ
+suite_count profile None = 0
+suite_count profile (Some ss) = marked_rows (shown_stmts profile (stmts ss))
+
+-- in the runs of a line
+abbrev pub line_before : Form → ℕ
+line_before (simple_form ss) = 0
+line_before (decorator_form e) = marked (shown e)
+line_before (header_form h suite) = before_count h
+
+abbrev pub line_behind : Profile → Form → ℕ
+line_behind profile (simple_form ss) = 0
+line_behind profile (decorator_form e) = 0
+line_behind profile (header_form h suite) = behind_count profile h
+
+abbrev pub line_suite : Profile → Form → ℕ
+line_suite profile (simple_form ss) = marked_rows (shown_stmts profile (stmts ss))
+line_suite profile (decorator_form e) = 0
+line_suite profile (header_form h suite) = suite_count profile suite
+
+pub record FormCounted (profile : Profile) (f : Form) (p : FormPlaces) : Type 0 where
+  pub before : Many p.before (line_before f)
+  pub behind : Many p.behind (line_behind profile f)
+  pub suite : Many p.suite (line_suite profile f)
+
+form_counted : {profile : Profile} {f : Form} {p : FormPlaces} → Many p.before (line_before f) → Many p.behind (line_behind profile f)
+    → Many p.suite (line_suite profile f) → FormCounted profile f p
+form_counted b e s = record { before = b; behind = e; suite = s }
+
+-- a header alone has no statements in its line
+alone_suite : {profile : Profile} {ts : List Terminal} {h : Header} (at : ℕ) (d : F.HeaderOf profile ts h)
+    → Many (header_places at d).suite 0
+alone_suite at (F.if_line p) = none
+alone_suite at (F.elif_line p) = none
+alone_suite at F.else_line = none
+alone_suite at (F.while_line p) = none
+alone_suite at (F.for_line a t p) = none
+alone_suite at (F.with_line a i) = none
+alone_suite at F.try_line = none
+alone_suite at F.finally_line = none
+alone_suite at F.except_all = none
+alone_suite at (F.except_line p a) = none
+alone_suite at (F.except_star p a) = none
+alone_suite at (F.def_line x a c ps h r) = none
+alone_suite at (F.class_line c b) = none
+
+case_suite : {ts : List Terminal} {h : Header} (at : ℕ) (d : F.CaseOf ts h) → Many (case_places at d).suite 0
+case_suite at (F.case_line form p g) = none
+
+count_line : {profile : Profile} {ts : List Terminal} {f : Form} (d : F.FormOf profile ts f) → FormCounted profile f (line_places d)
+count_line (F.simple_statements c) = form_counted none none (count_simples 0 c)
+count_line (F.decorator_line p) = form_counted (count_expr 1 p) none none
+count_line (F.header_line h) = let k = count_header 0 h in form_counted k.before k.behind (alone_suite 0 h)
+count_line (F.header_suite {ts = ts} h c) = let k = count_header 0 h in form_counted k.before k.behind (count_simples (1 + length ts) c)
+count_line (F.match_line form h p) = form_counted (count_expr 1 p) none none
+
+pub count_form : {profile : Profile} {inside : Bool} {ts : List Terminal} {f : Form} (d : F.FormAt profile inside ts f)
+    → FormCounted profile f (places_at d)
+count_form (F.other_line h f) = count_line f
+count_form {profile} (F.case_alone h c) =
+    let k = count_case {profile = profile} 0 c in form_counted k.before k.behind (case_suite 0 c)
+count_form {profile} (F.case_suite {ts = ts} h c s) =
+    let k = count_case {profile = profile} 0 c in form_counted k.before k.behind (count_simples (1 + length ts) s)
