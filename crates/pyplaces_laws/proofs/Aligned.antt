@@ -1,12 +1,11 @@
 -- Where a list of terminals that closes the f-strings that it opens leaves off, a token ends.
 --
 -- Carries: terminals_in, Parts, cut, for LineSpans. On: TokenLines.
-use Rattle.std.proofs.Common.{◌≡◌, refl, sym, ap, ◌∙◌, ℕ, ◌+◌, arith, List, [], ◌∷◌, ◌++◌, append-nil, subst}
+use Rattle.std.proofs.Common.{◌≡◌, refl, sym, ap, ◌∙◌, ◌+◌, arith, List, [], ◌∷◌, ◌++◌, append-nil, subst}
 use Rattle.std.specs.List.{flat_map}
-use Rattle.pytree_node.specs.declared.profiles.Extent.TheVariants.{Whole}
-use Rattle.pytoken.specs.Terminals.{Terminal, terminals_of, fault_of}
+use Rattle.pytoken.specs.Terminals.{Terminal, terminals_of}
 use Rattle.pytoken.specs.Tokens.{Token}
-use Rattle.pygrammar.specs.OpenStrings.{Open, open_behind_all, tokens_behind, token_count}
+use Rattle.pygrammar.specs.OpenStrings.{Open, open_behind_all, token_count}
 use Rattle.pygrammar.proofs.Callers.OpenStrings.{behind_append, count_append, terminals_counted, terminals_close}
 use Rattle.pyplaces_laws.proofs.TokenLines.{IsSound, AreSound}
 

@@ -1,13 +1,13 @@
 -- Each block of an accepted source is laid out: by recursion on the derivation.
 --
 -- Carries: block_in, laid_out, for Law. On: Together.
-use Rattle.std.proofs.Common.{◌≡◌, refl, sym, ap, ◌∙◌, subst, ℕ, ◌+◌, ◌≤◌, arith, Bool, false, List, [], ◌∷◌, ◌++◌, append_assoc, length}
-use Rattle.std.proofs.Common.{take, drop, Option, Some, None}
+use Rattle.std.proofs.Common.{◌≡◌, refl, sym, subst, ℕ, ◌+◌, ◌≤◌, arith, Bool, false, List, [], ◌∷◌, ◌++◌, append_assoc, length}
+use Rattle.std.proofs.Common.{take, drop, Option, Some}
 use Rattle.pytree_node.specs.declared.profiles.Profile.{Profile}
 use Rattle.pytree_node.specs.Trees.{Expr, Stmt, Handler, Case, If, Match, stmts, cases}
 use Rattle.pytree_dump_text.specs.Shows.{shown_stmt}
 use Rattle.pytree_marked.specs.MarkedNodes.{marked}
-use Rattle.pygrammar.specs.Lines.{Line, line, Form, simple_form, header_form, Header, finally_header, def_header, loop, with_of}
+use Rattle.pygrammar.specs.Lines.{Line, line, Form, header_form, Header, finally_header, def_header, loop, with_of}
 use Rattle.pygrammar.specs.Lines.{DefHead, definition, try_of}
 use Rattle.pygrammar.specs.Blocks as B
 use Rattle.pyplaces.specs.Stretches.{Span}
@@ -20,7 +20,8 @@ use Rattle.pyplaces_laws.specs.Laws.{IsLaidOut}
 use Rattle.pyplaces_laws.proofs.Counted.Blocks.{count_statement, count_alternative}
 use Rattle.pyplaces_laws.proofs.Simples.{three, none_in, order_lower}
 use Rattle.pyplaces_laws.proofs.Lines.{LineLies, LinesLie}
-use Rattle.pyplaces_laws.proofs.Together.{In, nothing, ◌⊕◌, wide, Given, Split, split, reaches, Head, one_head, head, before_in, suite_lies, own_in}
+use Rattle.pyplaces_laws.proofs.Together.{In, nothing, ◌⊕◌, wide, Given, split, reaches, Head, one_head, head, before_in, suite_lies}
+use Rattle.pyplaces_laws.proofs.Together.{own_in}
 use Rattle.pyplaces_laws.proofs.Together.{BlockIn, BodyIn, compound, loop_plain, with_plain, try_plain, defined, order_higher, both_in}
 
 pub laid_out : {profile : Profile} {lo hi : ℕ} {ss : List Stmt} {ps : List Span} {I : Type 0} → BlockIn profile lo hi ss ps I

@@ -29,7 +29,7 @@ use Rattle.pylex.specs.declared.entries.Step.{Step}
 use Rattle.pylex.specs.declared.entries.Step.TheVariants as steps
 use Rattle.pylex.specs.Lines.{text_before, depth, is_significant, is_at_margin, is_logical}
 use Rattle.pylex.specs.Indentation.{width_at, widths, open_levels, dedents, layout_by, layout}
-use Rattle.pylex.specs.Listing.{Source, listing, origin, line_end_kind, entry_of, steps_of, stop_fault}
+use Rattle.pylex.specs.Listing.{Source, listing, origin, entry_of, steps_of, stop_fault}
 use Rattle.pylex.specs.Listing.{last_line, begins_comment, line_end_of_last, end_place, ends_in_join, tail, stop, steps_from, up_to_end}
 use Rattle.pylex.specs.Steps.{entries_of, mark, fault_at}
 use Rattle.pylex.specs.Laws.{AreLexemes}
@@ -160,12 +160,15 @@ StepsFollow text lo (steps.Fault f ∷ ss) hi = lo ≤ hi
 lower : (text : List ℕ) (low lo : ℕ) (ss : List Step) (hi : ℕ) → low ≤ lo → StepsFollow text lo ss hi → StepsFollow text low ss hi
 lower text low lo [] hi a h = omega (arith, a, h)
 lower text low lo (steps.Entry e ∷ ss) hi a h =
-    let l = h.1 in
-    (h.0, record {
-      forward = omega (arith, a, l.forward);
-      own = λ is. let o = l.own is in
-          record { begins = omega (arith, a, o.begins); ends = o.ends; scalars = o.scalars; string = o.string };
-    }, h.2)
+    let l = h.1 in (
+      h.0,
+      record {
+        forward = omega (arith, a, l.forward);
+        own = λ is. let o = l.own is in
+            record { begins = omega (arith, a, o.begins); ends = o.ends; scalars = o.scalars; string = o.string };
+      },
+      h.2,
+    )
 lower text low lo (steps.End ∷ ss) hi a h = omega (arith, a, h)
 lower text low lo (steps.Fault f ∷ ss) hi a h = omega (arith, a, h)
 
@@ -305,8 +308,14 @@ module _ (cs : List ℕ) (good : all_scalars cs ≡ true) (before : List Lexeme)
       by (Operator o) t h said = choice (is_closer o && (depth before == 0))
         where
           choice : (b : Bool) → StepsFollow cs from (cond b (fault_at errors.UnmatchedCloser (place_after (text_before before)) ∷ [])
-              (steps.Entry (record { kind = kinds.Op; exact = Some o; start = place_after (text_before before);
-              «end» = place_after (text_before before ++ t); «from» = from; to = from + bytes_in t }) ∷ [])) (from + bytes_in t)
+              (steps.Entry (record {
+                kind = kinds.Op;
+                exact = Some o;
+                start = place_after (text_before before);
+                «end» = place_after (text_before before ++ t);
+                «from» = from;
+                to = from + bytes_in t;
+              }) ∷ [])) (from + bytes_in t)
           choice true = omega arith
           choice false = one t _ h refl refl tt
       by Comment t h said = one t _ h refl refl tt

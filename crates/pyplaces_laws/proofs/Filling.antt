@@ -2,7 +2,7 @@
 -- one begins.
 --
 -- Carries: Rises, Fills and their lemmas, for Walks, LineSpans.
-use Rattle.std.proofs.Common.{◌≡◌, refl, sym, ap, ◌∙◌, subst, ℕ, zero, suc, ◌+◌, ◌-◌, ◌<◌, ◌≤◌, arith, List, [], ◌∷◌, ◌++◌, append_assoc}
+use Rattle.std.proofs.Common.{◌≡◌, refl, sym, ap, ◌∙◌, subst, ℕ, zero, suc, ◌+◌, ◌<◌, ◌≤◌, arith, List, [], ◌∷◌, ◌++◌, append_assoc}
 use Rattle.std.proofs.Common.{length, length-append}
 use Rattle.pyparse_marks.specs.Spans.{Span, span}
 use Rattle.pyplaces.specs.Stretches.{span_behind}
@@ -13,9 +13,10 @@ use Rattle.pyplaces_laws.specs.Spans.{LiesIn, AllLieIn}
 pub all_wide : (lo hi low high : ℕ) (ss : List Span) → low ≤ lo → hi ≤ high → AllLieIn lo hi ss → AllLieIn low high ss
 all_wide lo hi low high [] a b h = tt
 all_wide lo hi low high (s ∷ ss) a b h =
-    let l = h.0 in
-    (record { begins = omega (arith, a, l.begins); forward = l.forward; ends = omega (arith, b, l.ends) },
-    all_wide lo hi low high ss a b h.1)
+    let l = h.0 in (
+      record { begins = omega (arith, a, l.begins); forward = l.forward; ends = omega (arith, b, l.ends) },
+      all_wide lo hi low high ss a b h.1,
+    )
 
 pub all_both : (lo hi : ℕ) (ss rs : List Span) → AllLieIn lo hi ss → AllLieIn lo hi rs → AllLieIn lo hi (ss ++ rs)
 all_both lo hi [] rs h k = k
@@ -155,7 +156,8 @@ at_end (e ∷ es) s zero h = absurd (omega (arith, h, length-append es (s ∷ []
 at_end (e ∷ es) s (suc i) h = at_end es s i (omega (arith, h))
 
 pub behind_last : {lo hi : ℕ} {ss : List Span} → Fills lo hi ss → (i : ℕ) → i + 1 ≡ length ss → (span_behind i ss).stop ≡ hi
-behind_last f i h = ap (λ z. (span_behind i z).stop) f.to_last ∙ (ap (λ z. z.stop) (at_end f.earlier f.last i (h ∙ ap length f.to_last)) ∙ f.ends)
+behind_last f i h =
+    ap (λ z. (span_behind i z).stop) f.to_last ∙ (ap (λ z. z.stop) (at_end f.earlier f.last i (h ∙ ap length f.to_last)) ∙ f.ends)
 
 -- among others
 pub behind_middle : (before ss after : List Span) (i n : ℕ) → n ≡ length before + i → i < length ss

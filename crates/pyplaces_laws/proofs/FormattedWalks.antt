@@ -1,7 +1,7 @@
 -- Going over the parts of an f-string that has a cut: one stands where they stand in it.
 --
 -- Carries: body_fine, for TokenWalks. On: Walks.
-use Rattle.std.proofs.Common.{◌≡◌, refl, sym, ap, ◌∙◌, subst, ℕ, zero, suc, ◌+◌, ◌-◌, ◌<◌, ◌≤◌, arith, Bool, true, false, cond, List, [], ◌∷◌}
+use Rattle.std.proofs.Common.{◌≡◌, refl, sym, ap, ◌∙◌, subst, ℕ, zero, suc, ◌+◌, ◌-◌, ◌<◌, ◌≤◌, arith, Bool, true, false, List, [], ◌∷◌}
 use Rattle.std.proofs.Common.{◌++◌, append_assoc, drop, length, Option, Some, None, slice_index_or}
 use Rattle.std.specs.Prelude.{◌==◌}
 use Rattle.std.specs.List.{prefix_len}
@@ -12,13 +12,13 @@ use Rattle.pyfstring.specs.Characters.{exclamation_mark, colon, equals_sign, sma
 use Rattle.pyfstring.specs.Characters.{right_curly_bracket}
 use Rattle.pyfstring.specs.declared.parts.Conversion.{Conversion}
 use Rattle.pyfstring.specs.declared.parts.Manner.{Manner}
-use Rattle.pyfstring.specs.Parts.{FieldParts, Part, text, field, SpecPart, BodyPart}
+use Rattle.pyfstring.specs.Parts.{FieldParts, Part, field, BodyPart}
 use Rattle.pyfstring.specs.Pieces.{IsText, Keeps, unkept, kept, Converts, unconverted, by_str, by_repr, by_ascii, Specifies, unspecified}
 use Rattle.pyfstring.specs.Pieces.{specified, IsField, Cuts, last_text, and_field, IsInnerSpec, IsSpec, IsCut, is_blank_or_tabulation}
 use Rattle.pyfstring.specs.Pieces.{behind_blanks}
 use Rattle.pyparse_marks.specs.Spans.{Span, span}
 use Rattle.pyparse_marks.specs.TokenSpans.{Walk, Around, put, further, moved, past_each, past_text, with_kept, is_conversion}
-use Rattle.pyparse_marks.specs.TokenSpans.{past_conversion, source_len, past_front, past_spec, past_part, past_spec_parts, past_body_parts}
+use Rattle.pyparse_marks.specs.TokenSpans.{past_conversion, source_len, past_spec, past_part, past_spec_parts, past_body_parts}
 use Rattle.pyplaces_laws.proofs.Entries.{bytes_both}
 use Rattle.pyplaces_laws.proofs.Walks.{Fine, fine_put, fine_on}
 

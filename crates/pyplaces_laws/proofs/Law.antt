@@ -8,7 +8,6 @@ use Rattle.pyplaces_laws.specs.Laws.{LinesAreInOrder, StatementsAreInOrder, Bloc
 use Rattle.pyplaces_laws.proofs.TokenLines.{lines_in}
 use Rattle.pyplaces_laws.proofs.Counted.Blocks.{count_formed}
 use Rattle.pyplaces_laws.proofs.Lines.{in_order, lines_lie}
-use Rattle.pyplaces_laws.proofs.Together.{Given}
 use Rattle.pyplaces_laws.proofs.Blocks.{block_in, laid_out}
 
 lines_are_in_order : LinesAreInOrder

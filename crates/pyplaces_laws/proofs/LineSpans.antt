@@ -1,19 +1,16 @@
 -- The spans of the tokens of a line fill its bytes, and are parted where its terminals are.
 --
 -- Carries: Filled, filled, Piece, piece, lie, for Simples, Lines. On: TokenLines, Aligned, Filling, TokenWalks.
-use Rattle.std.proofs.Common.{◌≡◌, refl, sym, ap, ◌∙◌, subst, ℕ, zero, suc, ◌+◌, ◌-◌, ◌<◌, ◌≤◌, arith, true, List, [], ◌∷◌, ◌++◌, append-nil}
-use Rattle.std.proofs.Common.{append_assoc, length, length-append, None}
-use Rattle.std.specs.Prelude.{All}
+use Rattle.std.proofs.Common.{◌≡◌, refl, sym, ap, ◌∙◌, subst, ℕ, ◌+◌, ◌-◌, ◌≤◌, arith, List, [], ◌∷◌, ◌++◌, append-nil}
+use Rattle.std.proofs.Common.{length, length-append}
 use Rattle.std.specs.List.{flat_map}
-use Rattle.std.specs.Str.{all_scalars}
 use Rattle.std.proofs.lemmas.Grind.{flat_map-append}
 use Rattle.std.proofs.lemmas.List.Elements.{All-nil, All-cons}
 use Rattle.pysource.specs.declared.places.Place.{Place}
 use Rattle.pylex.specs.declared.kind.Kind.{Kind}
 use Rattle.pylex.specs.declared.kind.Kind.TheVariants as kinds
-use Rattle.pytree_node.specs.declared.profiles.Extent.TheVariants.{Whole}
 use Rattle.pytoken.specs.SourceTokens.{IsOfSource}
-use Rattle.pytoken.specs.Terminals.{Terminal, terminals_of, terminals_by, fault_of}
+use Rattle.pytoken.specs.Terminals.{Terminal, terminals_of, terminals_by}
 use Rattle.pytoken.specs.Tokens.{Token}
 use Rattle.pyparse_marks.specs.Spans.{Span, span}
 use Rattle.pyparse_marks.specs.LineSpans.{offset, spans_of}
@@ -24,9 +21,8 @@ use Rattle.pyplaces.specs.Stretches.{Stretch, span_behind, span_of}
 use Rattle.pyplaces.specs.Laws.{IsWithin, AreWithin}
 use Rattle.pyplaces.specs.Stretches as Stretches
 use Rattle.pyplaces_laws.specs.Spans.{LiesIn, AllLieIn}
-use Rattle.pyplaces_laws.proofs.Entries.{IsString}
-use Rattle.pyplaces_laws.proofs.TokenLines.{IsSound, AreSound, TokensIn, begin_of, end_of, are_sound, forward}
-use Rattle.pyplaces_laws.proofs.Aligned.{terminals_in, Parts, cut}
+use Rattle.pyplaces_laws.proofs.TokenLines.{IsSound, AreSound, TokensIn, begin_of, end_of, are_sound}
+use Rattle.pyplaces_laws.proofs.Aligned.{terminals_in, cut}
 use Rattle.pyplaces_laws.proofs.Filling.{Fills, fills_both, between, behind_middle}
 use Rattle.pyplaces_laws.proofs.TokenWalks.{token_fills}
 
@@ -62,8 +58,13 @@ one_length text t sound = by t.kind t.start t.text sound
 pub lengths : (text : List ℕ) (ts : List Token) → AreSound ts → length (spans_in text ts) ≡ length (terminals_in ts)
 lengths text [] h = refl
 lengths text (t ∷ ts) h =
-    omega (arith, one_length text t h.0, lengths text ts h.1, length-append (spans_of text t) (spans_in text ts),
-    length-append (terminals_of t.kind t.text) (terminals_in ts))
+    omega (
+      arith,
+      one_length text t h.0,
+      lengths text ts h.1,
+      length-append (spans_of text t) (spans_in text ts),
+      length-append (terminals_of t.kind t.text) (terminals_in ts),
+    )
 
 -- ---- Spans that fill.
 

@@ -1,8 +1,8 @@
 -- The lines of an accepted source stand in order, and the statements in each; what is in a line lies in it.
 --
 -- Carries: LineLies, LinesLie, lines_lie, for Law, Blocks. On: LineSpans, Simples.
-use Rattle.std.proofs.Common.{◌≡◌, refl, sym, ap, ◌∙◌, subst, ℕ, zero, suc, ◌+◌, ◌-◌, ◌<◌, ◌≤◌, arith, Bool, List, [], ◌∷◌, ◌++◌, append-nil}
-use Rattle.std.proofs.Common.{append_assoc, length, length-append, Option, Some, None}
+use Rattle.std.proofs.Common.{◌≡◌, refl, sym, ap, ◌∙◌, subst, ℕ, ◌+◌, ◌<◌, ◌≤◌, arith, Bool, List, [], ◌∷◌, ◌++◌, append-nil}
+use Rattle.std.proofs.Common.{append_assoc, length, length-append, Some, None}
 use Rattle.pylex_lexeme.specs.declared.kinds.Exact.TheVariants as Sign
 use Rattle.pytree_node.specs.declared.profiles.Profile.{Profile}
 use Rattle.pytree_node.specs.Trees.{Stmt}
@@ -11,22 +11,22 @@ use Rattle.pytoken.specs.Tokens as Tokens
 use Rattle.pytoken.specs.Tokens.{Token}
 use Rattle.pyparse_marks.specs.LineSpans.{line_spans}
 use Rattle.pygrammar.specs.Forms as F
-use Rattle.pygrammar.specs.Lines.{Line, line, Form, simple_form, decorator_form, header_form, Header}
+use Rattle.pygrammar.specs.Lines.{Line, Form, simple_form, decorator_form, header_form}
 use Rattle.pygrammar.specs.OpenStrings.{open_behind_all}
 use Rattle.pygrammar.specs.Refusals.{Formed, formed_end, formed_line}
 use Rattle.pygrammar.proofs.Callers.OpenStrings.{header_closes, case_closes}
-use Rattle.pyplaces.specs.Stretches.{Span, span, Stretch, span_of, spans_of}
-use Rattle.pyplaces.specs.FormPlaces.{FormPlaces, simples_places, header_places, case_places, line_places, places_at}
+use Rattle.pyplaces.specs.Stretches.{Span, span, Stretch, spans_of}
+use Rattle.pyplaces.specs.FormPlaces.{simples_places, places_at}
 use Rattle.pyplaces.specs.BlockPlaces.{LinePlaces, whole_of, line_of}
 use Rattle.pyplaces.specs.ModulePlaces.{formed_places}
-use Rattle.pyplaces.specs.Laws.{IsWithin, AreWithin, statement_spans, AreInOrder, statements_in, LinesInOrder, no_line, a_line}
+use Rattle.pyplaces.specs.Laws.{AreWithin, statement_spans, AreInOrder, statements_in, LinesInOrder, no_line, a_line}
 use Rattle.pyplaces.proofs.Laws.Law.{places_are_lawful}
-use Rattle.pyplaces_laws.specs.Spans.{LiesIn, AllLieIn}
+use Rattle.pyplaces_laws.specs.Spans.{AllLieIn}
 use Rattle.pyplaces_laws.specs.Nesting.{AllRooted}
 use Rattle.pyplaces_laws.proofs.TokenLines.{AreSound, TokensIn, LinesIn, are_sound, forward}
 use Rattle.pyplaces_laws.proofs.Aligned.{terminals_in}
 use Rattle.pyplaces_laws.proofs.Filling.{Fills, ordered}
-use Rattle.pyplaces_laws.proofs.LineSpans.{spans_in, lengths, Filled, Piece, piece, all_lie}
+use Rattle.pyplaces_laws.proofs.LineSpans.{spans_in, lengths, Filled, piece, all_lie}
 use Rattle.pyplaces_laws.proofs.Simples.{SimplesIn, some_token, order_lower, simples_in}
 
 -- ---- A line has a terminal.
@@ -82,8 +82,8 @@ record SuiteIn (profile : Profile) (lo : ℕ) (f : Form) (ps : List Span) (hi : 
 
 -- statements behind the colon of a header
 behind_colon : {profile : Profile} {us : List Terminal} {ss : List Stmt} (text : List ℕ) (lo : ℕ) (xs : List Token) (hi : ℕ)
-    (ts : List Terminal) (c : F.Simples profile us ss) → open_behind_all [] ts ≡ [] → terminals_in xs ≡ ts ++ (Op Sign.Colon ∷ us) → TokensIn text lo xs hi
-    → SimplesIn profile lo ss (spans_of (spans_in text xs) (simples_places (1 + length ts) c)) hi
+    (ts : List Terminal) (c : F.Simples profile us ss) → open_behind_all [] ts ≡ [] → terminals_in xs ≡ ts ++ (Op Sign.Colon ∷ us)
+    → TokensIn text lo xs hi → SimplesIn profile lo ss (spans_of (spans_in text xs) (simples_places (1 + length ts) c)) hi
 behind_colon {profile} {us} {ss} text lo xs hi ts c closes is h =
     let r = piece text lo xs hi ts (Op Sign.Colon ∷ us) h closes is in
     let q = piece text r.mid r.back hi (Op Sign.Colon ∷ []) us r.in_back refl r.back_is in
@@ -142,8 +142,12 @@ line_lies {profile} {inside} {f} text lo xs hi d g sound =
     let w = places_are_lawful.tokens profile inside (terminals_in xs) f d in
     let size : length (terminals_in xs) ≡ length ss = sym (lengths text xs sound) in
     let s = suite_in text g.from xs g.to d refl g.tight in
-    let lies : LineLies profile f (record { whole = span g.from g.to; before = spans_of ss (places_at d).before;
-    behind = spans_of ss (places_at d).behind; suite = spans_of ss (places_at d).suite }) = record {
+    let lies : LineLies profile f (record {
+      whole = span g.from g.to;
+      before = spans_of ss (places_at d).before;
+      behind = spans_of ss (places_at d).behind;
+      suite = spans_of ss (places_at d).suite;
+    }) = record {
       forward = ordered g.fills;
       before = all_in ss g.fills size (places_at d).before w.0;
       behind = all_in ss g.fills size (places_at d).behind w.1;
@@ -151,8 +155,12 @@ line_lies {profile} {inside} {f} text lo xs hi d g sound =
       order = s.order;
       rooted = s.rooted;
     } in
-    subst (λ z. LineLies profile f (record { whole = z; before = spans_of ss (places_at d).before;
-    behind = spans_of ss (places_at d).behind; suite = spans_of ss (places_at d).suite })) (sym is) lies
+    subst (λ z. LineLies profile f (record {
+      whole = z;
+      before = spans_of ss (places_at d).before;
+      behind = spans_of ss (places_at d).behind;
+      suite = spans_of ss (places_at d).suite;
+    })) (sym is) lies
 
 -- ---- Lines.
 

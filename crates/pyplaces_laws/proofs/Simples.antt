@@ -1,8 +1,8 @@
 -- The simple statements of a line stand in order, and the span of each holds those of its parts.
 --
 -- Carries: SimplesIn, simples_in, for Lines. On: LineSpans, Counted.
-use Rattle.std.proofs.Common.{◌≡◌, refl, sym, ap, ◌∙◌, subst, ℕ, zero, suc, ◌+◌, ◌-◌, ◌<◌, ◌≤◌, arith, List, [], ◌∷◌, ◌++◌, append-nil}
-use Rattle.std.proofs.Common.{append_assoc, length, length-append, take, drop, map}
+use Rattle.std.proofs.Common.{◌≡◌, refl, sym, ap, ◌∙◌, subst, ℕ, ◌+◌, ◌-◌, ◌<◌, ◌≤◌, arith, List, [], ◌∷◌, ◌++◌, append-nil}
+use Rattle.std.proofs.Common.{append_assoc, length, length-append, take, drop}
 use Rattle.std.proofs.lemmas.List.{map-append, length-map}
 use Rattle.std.proofs.Math.Seq.{drop-append_seam, take-append_seam}
 use Rattle.pylex_lexeme.specs.declared.kinds.Exact.TheVariants as Sign
@@ -14,17 +14,17 @@ use Rattle.pytoken.specs.Terminals.{Terminal, Op}
 use Rattle.pytoken.specs.Tokens.{Token}
 use Rattle.pygrammar.specs.Forms as F
 use Rattle.pygrammar.proofs.Callers.OpenStrings.{simple_closes}
-use Rattle.pyplaces.specs.Stretches.{Span, span, Stretch, stretch, span_behind, span_of, spans_of}
+use Rattle.pyplaces.specs.Stretches.{Span, Stretch, stretch, span_of, spans_of}
 use Rattle.pyplaces.specs.FormPlaces.{field_places, simple_places, simples_places}
 use Rattle.pyplaces.specs.Laws.{IsWithin, AreWithin, last_of, statement_spans, AreInOrder}
 use Rattle.pyplaces.proofs.Laws.Law.{places_are_lawful}
-use Rattle.pyplaces_laws.specs.Spans.{LiesIn, AllLieIn}
+use Rattle.pyplaces_laws.specs.Spans.{AllLieIn}
 use Rattle.pyplaces_laws.specs.Nesting.{in_decorators, IsRooted, AllRooted}
 use Rattle.pyplaces_laws.proofs.Counted.Forms.{count_simple}
 use Rattle.pyplaces_laws.proofs.TokenLines.{TokensIn, forward}
 use Rattle.pyplaces_laws.proofs.Aligned.{terminals_in}
-use Rattle.pyplaces_laws.proofs.Filling.{Fills, ordered, behind_first, behind_last, behind_middle}
-use Rattle.pyplaces_laws.proofs.LineSpans.{spans_in, Filled, filled, Piece, piece, all_lie}
+use Rattle.pyplaces_laws.proofs.Filling.{ordered, behind_first, behind_last, behind_middle}
+use Rattle.pyplaces_laws.proofs.LineSpans.{spans_in, Filled, filled, piece, all_lie}
 
 -- ---- The stretches of a simple statement.
 
@@ -48,7 +48,8 @@ held {profile} {ts} {s} at d =
     let r = places_are_lawful.nested.statements profile ts s at d in
     let e = snoc_last (field_places at d) r.fields (stretch at (at + length ts)) r.own r.are in
     record {
-      parts = subst (λ z. AreWithin at (at + length ts) z) (sym e.0) (subst (λ (z : Stretch). AreWithin z.first z.behind r.fields) (sym e.1) r.holds);
+      parts = subst (λ z. AreWithin at (at + length ts) z) (sym e.0)
+          (subst (λ (z : Stretch). AreWithin z.first z.behind r.fields) (sym e.1) r.holds);
       own = subst (IsWithin at (at + length ts)) (sym e.1) r.within;
     }
 

@@ -2,23 +2,23 @@
 --
 -- Carries: Given, split, head, compound, defined, both_in and their like, for Blocks. On: Lines, Counted.
 use Rattle.std.proofs.Common.{◌≡◌, refl, sym, ap, ◌∙◌, subst, ℕ, ◌+◌, ◌≤◌, arith, Bool, true, false, List, [], ◌∷◌, ◌++◌, append-nil}
-use Rattle.std.proofs.Common.{append_assoc, length, length-append, take, drop, Option, Some, None}
+use Rattle.std.proofs.Common.{append_assoc, length, length-append, take, drop, Option}
 use Rattle.std.proofs.lemmas.List.{take-append-drop, length-take-le}
 use Rattle.pytree_node.specs.declared.profiles.Profile.{Profile}
 use Rattle.pytree_node.specs.Trees.{Stmt, Expr, exprs, Item, Handler}
 use Rattle.pytree_dump_text.specs.Shows.{shown_stmt, shown_exprs}
 use Rattle.pytree_marked.specs.MarkedNodes.{marked, marked_rows}
-use Rattle.pygrammar.specs.Lines.{Line, line, Form, header_form, Header, def_header, DefHead, function_head, class_head, definition, LoopHead}
+use Rattle.pygrammar.specs.Lines.{Line, Form, header_form, def_header, DefHead, function_head, class_head, definition, LoopHead}
 use Rattle.pygrammar.specs.Lines.{while_head, for_head, loop, with_of, try_of}
 use Rattle.pygrammar.specs.Blocks as B
-use Rattle.pyplaces.specs.Stretches.{Span, span}
+use Rattle.pyplaces.specs.Stretches.{Span}
 use Rattle.pyplaces.specs.BlockPlaces.{LinePlaces, ending, own, decorator_places, definition_places, body_places}
 use Rattle.pyplaces.specs.Laws.{last_of, statement_spans, AreInOrder}
-use Rattle.pyplaces_laws.specs.Spans.{LiesIn, AllLieIn}
-use Rattle.pyplaces_laws.specs.Nesting.{in_decorators, IsRooted, AllRooted}
-use Rattle.pyplaces_laws.proofs.Counted.Blocks.{LinesCounted, no_line, a_line, front, back, rows, decorators_count, definition_is}
+use Rattle.pyplaces_laws.specs.Spans.{AllLieIn}
+use Rattle.pyplaces_laws.specs.Nesting.{in_decorators, IsRooted}
+use Rattle.pyplaces_laws.proofs.Counted.Blocks.{LinesCounted, a_line, front, back, rows, decorators_count, definition_is}
 use Rattle.pyplaces_laws.proofs.Filling.{all_wide, all_both}
-use Rattle.pyplaces_laws.proofs.Simples.{SimplesIn, StatementIn, three, last_is, none_in, more_in, one_in, order_lower}
+use Rattle.pyplaces_laws.proofs.Simples.{SimplesIn, StatementIn, three, last_is, more_in, one_in, order_lower}
 use Rattle.pyplaces_laws.proofs.Lines.{LineLies, LinesLie, no_more, one_more}
 
 -- ---- Spans in some bytes.
@@ -175,7 +175,8 @@ pub with_plain : (b : Bool) (items : List Item) (body : List Stmt) → 0 ≡ in_
 with_plain false items body = refl
 with_plain true items body = refl
 
-pub try_plain : (b : Bool) (body : List Stmt) (hs : List Handler) (orelse final : List Stmt) → 0 ≡ in_decorators (try_of b body hs orelse final)
+pub try_plain : (b : Bool) (body : List Stmt) (hs : List Handler) (orelse final : List Stmt)
+    → 0 ≡ in_decorators (try_of b body hs orelse final)
 try_plain false body hs orelse final = refl
 try_plain true body hs orelse final = refl
 
@@ -233,8 +234,13 @@ defined {profile} {lo} {mid} {hi} {es = es} {body = body} {dz = dz} {z = z} {zs 
     record { root = root; begins = omega (arith, h.start, h.begins, low); ends = h.ends; count = omega (arith, count) } in
     record {
       laid = one_in a (omega arith);
-      lies = as_list are (wide first (omega (arith, h.begins, low)) h.ends ⊕ (wide beside (omega arith) (omega (arith, h.begins, h.last,
-          h.ends, l.forward)) ⊕ (wide further (omega (arith, h.begins, low)) h.ends ⊕ wide (own_in h) (omega (arith, h.begins, low)) h.ends)));
+      lies = as_list are (wide first (omega (arith, h.begins, low)) h.ends ⊕ (wide beside (omega arith) (omega (
+        arith,
+        h.begins,
+        h.last,
+        h.ends,
+        l.forward,
+      )) ⊕ (wide further (omega (arith, h.begins, low)) h.ends ⊕ wide (own_in h) (omega (arith, h.begins, low)) h.ends)));
       inside = p.inside;
     }
 

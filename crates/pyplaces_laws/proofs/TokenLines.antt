@@ -1,7 +1,7 @@
 -- The tokens of the lines of a source stand one after another, and so do the lines.
 --
 -- Carries: TokensIn, LinesIn, lines_in, for LineSpans. On: Entries.
-use Rattle.std.proofs.Common.{◌≡◌, ℕ, zero, suc, ◌+◌, ◌≤◌, Bool, true, false, cond, List, [], ◌∷◌, ◌++◌, refl, sym, ap, subst, ◌∙◌, arith}
+use Rattle.std.proofs.Common.{◌≡◌, ℕ, ◌+◌, ◌≤◌, Bool, true, false, cond, List, [], ◌∷◌, ◌++◌, refl, arith}
 use Rattle.std.proofs.Common.{Option, Some, None}
 use Rattle.std.specs.Prelude.{All}
 use Rattle.std.specs.Option.{option_or}
@@ -222,7 +222,8 @@ forward text lo (t ∷ ts) hi h = let k = forward text (end_of text t) ts hi h.2
 lines_follow : (text : List ℕ) (lo mid hi : ℕ) (before line ts : List Token) → TokensIn text lo line mid → TokensFollow text mid ts hi
     → LinesIn text lo (lines_from before line ts) hi
 lines_follow text lo mid hi before line [] h k = let a = forward text lo line mid h in omega (arith, a, k)
-lines_follow text lo mid hi before line (t ∷ ts) h k = by t.kind t.start t.text k (λ low mid before line. lines_follow text low mid hi before line ts)
+lines_follow text lo mid hi before line (t ∷ ts) h k =
+    by t.kind t.start t.text k (λ low mid before line. lines_follow text low mid hi before line ts)
   where
     by : (kind : Kind) (p : Place) (cs : List ℕ) → TokensFollow text mid (record { kind = kind; start = p; text = cs } ∷ ts) hi
         → ((low mid : ℕ) (before line : List Token) → TokensIn text low line mid → TokensFollow text mid ts hi

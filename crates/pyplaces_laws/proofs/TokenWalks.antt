@@ -1,10 +1,9 @@
 -- The spans of a token fill its bytes.
 --
 -- Carries: token_fills, for LineSpans. On: Walks, FormattedWalks.
-use Rattle.std.proofs.Common.{◌≡◌, refl, sym, ap, ◌∙◌, subst, ℕ, ◌+◌, ◌-◌, ◌≤◌, arith, Bool, true, false, List, [], ◌∷◌, ◌++◌, append-nil}
+use Rattle.std.proofs.Common.{◌≡◌, refl, sym, ap, ◌∙◌, ℕ, ◌+◌, ◌-◌, ◌≤◌, arith, Bool, true, false, List, [], ◌++◌}
 use Rattle.std.proofs.Common.{append_assoc, take, drop, length, Option, Some, None}
 use Rattle.std.specs.Prelude.{if◌then◌else◌, option_map}
-use Rattle.std.specs.Str.{all_scalars}
 use Rattle.std.proofs.lemmas.List.{take-append-drop}
 use Rattle.pylex_lexeme.specs.Chars.{bytes_in}
 use Rattle.pylex_lexeme.specs.Strings.{begins_three}
@@ -13,15 +12,14 @@ use Rattle.pyfstring.specs.declared.parts.Manner.{Manner}
 use Rattle.pyfstring.specs.Parts.{BodyPart}
 use Rattle.pyfstring.proofs.Callers.Law.{cut_of_sound}
 use Rattle.pytree_node.specs.declared.profiles.Extent.TheVariants.{Whole}
-use Rattle.pytoken.specs.StringValues.{with_line_feeds, prefix_len_of, is_raw, without_last, body_of}
+use Rattle.pytoken.specs.StringValues.{with_line_feeds, prefix_len_of, is_raw, body_of}
 use Rattle.pytoken.specs.declared.faults.TokenError.TheVariants.{FString}
 use Rattle.pytoken.specs.FormattedStrings.{Element, is_fstring, elements_of, elements_fault}
 use Rattle.pytoken.specs.Terminals.{fault_of, is_faulty}
 use Rattle.pytoken.proofs.Callers.Singles.{of_formatted}
 use Rattle.pyparse_marks.specs.Spans.{Span, span}
 use Rattle.pyparse_marks.specs.TokenSpans.{Walk, put, further, moved, past_single, past_expression, around, opening_len, past_cut, parts_of}
-use Rattle.pyparse_marks.specs.TokenSpans.{past_body_parts, past_formatted, past_token_by, past_nested, past_token, behind_opening, token_spans}
-use Rattle.pyplaces_laws.specs.Spans.{LiesIn, AllLieIn}
+use Rattle.pyparse_marks.specs.TokenSpans.{past_body_parts, past_formatted, past_token_by, past_nested, behind_opening, token_spans}
 use Rattle.pyplaces_laws.proofs.Entries.{bytes_both}
 use Rattle.pyplaces_laws.proofs.Filling.{Fills, one_fills}
 use Rattle.pyplaces_laws.proofs.Walks.{Fine, Passes, fine_put, fine_on, fine_over, expression_fine}
@@ -86,9 +84,10 @@ module _ (lo hi : ℕ) (first : Span) where
       (cut_of_sound m (body_of t) ps is) begun stands in
       let there = behind.at in
       let all : bytes_in t ≡ bytes_in there.before + bytes_in o.closing =
-      ap bytes_in there.is ∙ bytes_both there.before o.closing in
-      (fine_put lo hi first whole ended behind.fine low (omega (arith, there.here)) (omega (arith, there.here, all)) high,
-      omega (arith, there.here, all))
+      ap bytes_in there.is ∙ bytes_both there.before o.closing in (
+        fine_put lo hi first whole ended behind.fine low (omega (arith, there.here)) (omega (arith, there.here, all)) high,
+        omega (arith, there.here, all),
+      )
 
   token_passes : (token : Kind → List ℕ → Walk → Walk) → Passes lo hi first token → (is_nested : Bool)
       → Passes lo hi first (past_token_by is_nested token)

@@ -1,8 +1,7 @@
 -- Going over a token, each step puts spans between its ends, none of which ends before an earlier one begins.
 --
 -- Carries: Fine and its steps, for FormattedWalks, TokenWalks. On: Filling.
-use Rattle.std.proofs.Common.{◌≡◌, refl, sym, ap, ◌∙◌, subst, ℕ, ◌+◌, ◌-◌, ◌<◌, ◌≤◌, arith, Bool, true, false, cond, List, [], ◌∷◌, ◌++◌}
-use Rattle.std.proofs.Common.{append_assoc, length}
+use Rattle.std.proofs.Common.{◌≡◌, refl, ap, ◌∙◌, ℕ, ◌+◌, ◌<◌, ◌≤◌, arith, Bool, true, false, cond, List, [], ◌∷◌, ◌++◌}
 use Rattle.std.specs.List.{flat_map}
 use Rattle.pylex_lexeme.specs.Chars.{bytes_in}
 use Rattle.pylex_lexeme.specs.Lexemes.{Lexeme, cut, left_by_cut}
@@ -12,7 +11,7 @@ use Rattle.pylex.proofs.Callers.{is_cut}
 use Rattle.pyfstring_tokens.specs.FieldTokens.{is_gap}
 use Rattle.pyparse_marks.specs.Spans.{Span, span}
 use Rattle.pyparse_marks.specs.TokenSpans.{Walk, put, further, moved, over, past_each, past_lexeme, past_expression}
-use Rattle.pyplaces_laws.specs.Spans.{LiesIn, AllLieIn}
+use Rattle.pyplaces_laws.specs.Spans.{AllLieIn}
 use Rattle.pyplaces_laws.proofs.Entries.{bytes_both}
 use Rattle.pyplaces_laws.proofs.Filling.{Starts, Rises, starts_later, starts_both, rises_both, all_both}
 

@@ -25,7 +25,8 @@ use Rattle.pyplaces_laws.proofs.Counted.Many.{Many, many, none, one, ◌⊕◌}
 use Rattle.pyplaces_laws.proofs.Counted.Contexts.{stored_count}
 use Rattle.pyplaces_laws.proofs.Counted.Entries.{Counted, single, paired, spread, doubled, keyed, plain, slashed, bare, gathered, collected}
 use Rattle.pyplaces_laws.proofs.Counted.Entries.{AllCounted, no_entry, an_entry, singles_count, keys_count, values_count, positional_count}
-use Rattle.pyplaces_laws.proofs.Counted.Entries.{keywords_count, called_count, arguments_count, PartsCounted, no_part, a_text, a_field, parts_both}
+use Rattle.pyplaces_laws.proofs.Counted.Entries.{keywords_count, called_count, arguments_count, PartsCounted, no_part, a_text, a_field}
+use Rattle.pyplaces_laws.proofs.Counted.Entries.{parts_both}
 use Rattle.pyplaces_laws.proofs.Counted.Entries.{merged_counted, values_counted, spec_values_counted}
 
 slice_count : (a b c : OptionalExpr)
