@@ -10,21 +10,23 @@ use std::process::Abort;
 /// The next line has a terminal at each of these spans.
 fn stand(
     rt: &impl Abort,
+    alloc: Global,
     lines: &mut LogicalLines<'_>,
     marks: &mut Marks,
     spans: &[(u32, u32)],
     text: &str,
 ) {
-    same(rt, &lines.next_marked(marks), &Ok(true), text);
-    same_number(rt, lines.terminals().len(), spans.len(), text);
-    same_number(rt, marks.as_slice().len(), spans.len(), text);
-    for (at, (from, to)) in spans.iter().enumerate() {
-        let expected = Span {
+    let mut expected = Vec::new(alloc);
+    for (from, to) in spans {
+        let span = Span {
             from: *from,
             to: *to,
         };
-        same(rt, &marks.as_slice()[at], &expected, text);
+        expected.push(span).expect(rt, "memory");
     }
+    same(rt, &lines.next_marked(marks), &Ok(true), text);
+    same(rt, &marks.as_slice(), &expected.as_slice(), text);
+    same_number(rt, lines.terminals().len(), spans.len(), text);
 }
 
 #[test]
@@ -52,7 +54,7 @@ fn lines_with_an_fstring(rt: HostRuntime) {
         [(18, 20), (21, 22), (22, 23)].as_slice(),
         [(28, 29), (30, 31), (32, 35), (39, 42)].as_slice(),
     ] {
-        stand(&rt, &mut lines, &mut marks, spans, text);
+        stand(&rt, alloc, &mut lines, &mut marks, spans, text);
     }
     same(&rt, &lines.next_marked(&mut marks), &Ok(false), text);
 }
