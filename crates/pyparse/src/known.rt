@@ -157,6 +157,7 @@ impl Known {
     }
 
     /// The next line, by its form. Lines that stay sound are taken in place.
+    #[inline(always)]
     pub(crate) fn place(
         &mut self,
         alloc: Global,

@@ -12,6 +12,7 @@ ghost use Rattle.pyparse_marks.specs.Spans.{told};
 ghost use Rattle.pyparse_tokens.specs.LineReadings.{HoldsLine};
 ghost use Rattle.pyplaces.specs.BlockPlaces.{whole_of};
 ghost use Rattle.pyplaces.specs.Laws as places_laws;
+ghost use Rattle.pyplaces_laws.specs.Laws.{SourcePlacesAreLawful};
 ghost use Rattle.pyplaces_unique.specs.Laws.{PlacesAreUnique};
 ghost use Rattle.pyparse.specs.Modules.{Refuses};
 ghost use Rattle.pyparse.specs.Placed.{PlacedAs};
@@ -171,12 +172,13 @@ impl PlacedProgress {
 /// # Errors
 ///
 /// As those of `parse`.
-#[tactic(auto, using(pyplaces::proofs::Laws::Law::places_are_lawful, pyplaces_unique::proofs::Law::places_are_unique))]
+#[tactic(auto, using(pyplaces::proofs::Laws::Law::places_are_lawful, pyplaces_laws::proofs::Law::source_places_are_lawful, pyplaces_unique::proofs::Law::places_are_unique))]
 pub fn parse_placed(alloc: Global, source: &Source, profile: Profile) -> Result<Placed, ParseFault>
     ensures placed { IfOk result (λ p. PlacedAs profile (in_characters source.now) source.now.text
         (module_of p.module) p.places) }
     ensures refused { IfErr result (Refuses profile (in_characters source.now)) }
     ensures places { places_laws.PlacesAreLawful }
+    ensures laid_out { SourcePlacesAreLawful }
     ensures unique { PlacesAreUnique }
 {
     let mut lines = LogicalLines::new(alloc, source, profile.extent)?;

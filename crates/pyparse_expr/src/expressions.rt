@@ -30,6 +30,7 @@ use std::alloc::Global;
 pub const MOST_HEIGHT: usize = 500;
 
 /// Reads an expression of a level at a place of some terminals.
+#[inline(always)]
 pub fn read_at<R: Recorder>(
     alloc: Global,
     tokens: &[Terminal],

@@ -1,6 +1,6 @@
 //! Where the terminals of a line stand, if that is kept.
 
-ghost use Rattle.std.specs.Prelude.{◌≡◌, ◌++◌, List, Some, None, [], map, OnOk};
+ghost use Rattle.std.specs.Prelude.{◌≡◌, ◌++◌, List, Some, None, [], map, is_some, OnOk};
 ghost use Rattle.std.specs.Str.{chars};
 ghost use Rattle.pyparse_marks.specs.Laws.{EachHasSpan};
 ghost use Rattle.pyparse_marks.specs.Spans as words;
@@ -86,9 +86,18 @@ impl Marks {
         }
     }
 
-    /// The spans that are kept.
+    /// Whether spans are kept.
+    #[inline(always)]
+    pub fn are_kept(&self) -> bool
+        ensures { result ≡ is_some self.now }
+    {
+        self.kept.is_some()
+    }
+
+    /// The spans that are kept: none where they aren't.
     pub fn as_slice(&self) -> &[Span]
-        ensures { (kept : List words.Span) → self.now ≡ Some kept → map told result.now ≡ kept }
+        ensures kept { (kept : List words.Span) → self.now ≡ Some kept → map told result.now ≡ kept }
+        ensures none { self.now ≡ None → result.now ≡ [] }
     {
         match &self.kept {
             Some(spans) => spans.as_slice(),

@@ -146,6 +146,7 @@ fn bytes_run(
 }
 
 /// The constant of neighbouring literals.
+#[inline(always)]
 pub fn make_literal(alloc: Global, value: Literal, next: usize) -> Result<Read, Stop>
     ensures { MatchResult result (λ r. Made 1 (plain.Constant (literal_value value)) next r)
         (λ s. s ≡ Stop.Memory) }

@@ -106,6 +106,7 @@ fn infix_of(t: Terminal, least: u8) -> Option<Infix>
 }
 
 /// The operator at a place, if it is of this rank or a higher one.
+#[inline(always)]
 pub fn infix_at(tokens: &[Terminal], at: usize, least: u8) -> Option<Infix>
     ensures is { option_map infix_value result
         ≡ first_is (precedence.infix_from least) (seen tokens.now at) }

@@ -26,7 +26,7 @@ pub(crate) fn mark_entry(
     ensures { OnOk result
         (marks.new ≡ added marks.old (entry_spans (chars source.now.text) entry.now)) }
 {
-    if !stands_in_line(entry.kind) {
+    if !marks.are_kept() || !stands_in_line(entry.kind) {
         return Ok(());
     }
     marks.push(alloc, entry.kind, text_of(source, entry), entry.from)
@@ -45,6 +45,9 @@ pub(crate) fn mark_lexeme(
     ensures { OnOk result (marks.new
         ≡ added marks.old (lexeme_spans class (chars text.now) (to - length text.now))) }
 {
+    if !marks.are_kept() {
+        return Ok(());
+    }
     let from = to.saturating_sub(text.len());
     match class {
         Class::Name => marks.push(alloc, Kind::Name, text, from),

@@ -6,8 +6,8 @@ mod Parameters
 mod Entries
 mod Expressions
 mod Patterns
-mod Forms
-mod Blocks
+pub mod Forms
+pub mod Blocks
 mod Within
 mod Tokens
 mod PatternTokens

@@ -13,11 +13,11 @@ use Rattle.pygrammar.specs.Blocks as B
 use Rattle.pyplaces.specs.Stretches.{Span}
 use Rattle.pyplaces.specs.BlockPlaces.{LinePlaces, ending, own, block_places, statement_places, definition_places, final_places}
 use Rattle.pyplaces.specs.BlockPlaces.{body_places, alternative_places, otherwise_places, handlers_places, cases_places, ending_places}
-use Rattle.pyplaces_laws.specs.Spans.{AllLieIn}
+use Rattle.pyplaces_laws.specs.Spans.{AllLieBetween}
 use Rattle.pyplaces_laws.specs.EachBlock.{HandlersLie, InBlock, InStatement, OfBody, OfHeaded, OfAlternative, OfOtherwise, OfHandlers}
 use Rattle.pyplaces_laws.specs.EachBlock.{OfCases, OfEnding}
 use Rattle.pyplaces_laws.specs.Laws.{IsLaidOut}
-use Rattle.pyplaces_laws.proofs.Counted.Blocks.{count_statement, count_alternative}
+use Rattle.pyplaces.proofs.Laws.Blocks.{count_statement, count_alternative}
 use Rattle.pyplaces_laws.proofs.Simples.{three, none_in, order_lower}
 use Rattle.pyplaces_laws.proofs.Lines.{LineLies, LinesLie}
 use Rattle.pyplaces_laws.proofs.Together.{In, nothing, ◌⊕◌, wide, Given, split, reaches, Head, one_head, head, before_in, suite_lies}
@@ -295,7 +295,7 @@ mutual
         order = (
           omega (arith, one.start, h.begins),
           omega (arith, one.start, one.last, a.forward),
-          subst (λ n. AllLieIn n o.stop (z.before ++ body_places z (take (length xs) zs) b)) (sym one.start) held.are,
+          subst (λ n. AllLieBetween n o.stop (z.before ++ body_places z (take (length xs) zs) b)) (sym one.start) held.are,
           handlers_lower o.stop r.middle hi (drop (length xs) zs) e one.ends more.order,
         );
       }

@@ -6,11 +6,11 @@ use Rattle.std.proofs.Common.{◌≡◌, refl, sym, ap, ◌∙◌, subst, ℕ, z
 use Rattle.std.proofs.Common.{length, length-append}
 use Rattle.pyparse_marks.specs.Spans.{Span, span}
 use Rattle.pyplaces.specs.Stretches.{span_behind}
-use Rattle.pyplaces_laws.specs.Spans.{LiesIn, AllLieIn}
+use Rattle.pyplaces_laws.specs.Spans.{LiesBetween, AllLieBetween}
 
 -- ---- Spans in some bytes.
 
-pub all_wide : (lo hi low high : ℕ) (ss : List Span) → low ≤ lo → hi ≤ high → AllLieIn lo hi ss → AllLieIn low high ss
+pub all_wide : (lo hi low high : ℕ) (ss : List Span) → low ≤ lo → hi ≤ high → AllLieBetween lo hi ss → AllLieBetween low high ss
 all_wide lo hi low high [] a b h = tt
 all_wide lo hi low high (s ∷ ss) a b h =
     let l = h.0 in (
@@ -18,7 +18,7 @@ all_wide lo hi low high (s ∷ ss) a b h =
       all_wide lo hi low high ss a b h.1,
     )
 
-pub all_both : (lo hi : ℕ) (ss rs : List Span) → AllLieIn lo hi ss → AllLieIn lo hi rs → AllLieIn lo hi (ss ++ rs)
+pub all_both : (lo hi : ℕ) (ss rs : List Span) → AllLieBetween lo hi ss → AllLieBetween lo hi rs → AllLieBetween lo hi (ss ++ rs)
 all_both lo hi [] rs h k = k
 all_both lo hi (s ∷ ss) rs h k = (h.0, all_both lo hi ss rs h.1 k)
 
@@ -59,11 +59,11 @@ rises_both n [] rs h k a b = k
 rises_both n (s ∷ ss) rs h k a b =
     (stops_both s.start ss rs h.0 (stops_earlier s.start n rs a.0 b), rises_both n ss rs h.1 k a.1 b)
 
-starts_by : (lo hi : ℕ) (ss : List Span) → AllLieIn lo hi ss → Starts hi ss
+starts_by : (lo hi : ℕ) (ss : List Span) → AllLieBetween lo hi ss → Starts hi ss
 starts_by lo hi [] h = tt
 starts_by lo hi (s ∷ ss) h = let l = h.0 in (omega (arith, l.forward, l.ends), starts_by lo hi ss h.1)
 
-stops_by : (lo hi : ℕ) (ss : List Span) → AllLieIn lo hi ss → Stops lo ss
+stops_by : (lo hi : ℕ) (ss : List Span) → AllLieBetween lo hi ss → Stops lo ss
 stops_by lo hi [] h = tt
 stops_by lo hi (s ∷ ss) h = let l = h.0 in (omega (arith, l.forward, l.begins), stops_by lo hi ss h.1)
 
@@ -78,7 +78,7 @@ pub record Fills (lo hi : ℕ) (ss : List Span) : Type 0 where
   pub earlier : List Span
   pub to_last : ss ≡ earlier ++ (last ∷ [])
   pub ends : last.stop ≡ hi
-  pub inside : AllLieIn lo hi ss
+  pub inside : AllLieBetween lo hi ss
   pub rises : Rises ss
 
 pub one_fills : (lo hi : ℕ) → lo ≤ hi → Fills lo hi (span lo hi ∷ [])
@@ -97,7 +97,7 @@ one_fills lo hi h = record {
 
 pub ordered : {lo hi : ℕ} {ss : List Span} → Fills lo hi ss → lo ≤ hi
 ordered {lo} {hi} f =
-    let all : AllLieIn lo hi (f.first ∷ f.later) = subst (AllLieIn lo hi) f.from_first f.inside in
+    let all : AllLieBetween lo hi (f.first ∷ f.later) = subst (AllLieBetween lo hi) f.from_first f.inside in
     let l = all.0 in omega (arith, l.begins, l.forward, l.ends)
 
 pub fills_both : {a b c d : ℕ} {ss rs : List Span} → Fills a b ss → Fills c d rs → b ≤ c → Fills a d (ss ++ rs)
@@ -120,7 +120,7 @@ fills_both {a} {b} {c} {d} {ss = ss} {rs = rs} f g h =
 
 -- ---- The span behind so many.
 
-behind_lies : (lo hi : ℕ) (ss : List Span) (i : ℕ) → i < length ss → AllLieIn lo hi ss → LiesIn lo hi (span_behind i ss)
+behind_lies : (lo hi : ℕ) (ss : List Span) (i : ℕ) → i < length ss → AllLieBetween lo hi ss → LiesBetween lo hi (span_behind i ss)
 behind_lies lo hi [] i l h = absurd (omega (arith, l))
 behind_lies lo hi (s ∷ ss) zero l h = h.0
 behind_lies lo hi (s ∷ ss) (suc i) l h = behind_lies lo hi ss i (omega (arith, l)) h.1
@@ -131,7 +131,7 @@ behind_stops n (s ∷ ss) zero l h = h.0
 behind_stops n (s ∷ ss) (suc i) l h = behind_stops n ss i (omega (arith, l)) h.1
 
 -- what begins at a span and ends at a later one
-behind_rises : (lo hi : ℕ) (ss : List Span) (i j : ℕ) → i ≤ j → j < length ss → AllLieIn lo hi ss → Rises ss
+behind_rises : (lo hi : ℕ) (ss : List Span) (i j : ℕ) → i ≤ j → j < length ss → AllLieBetween lo hi ss → Rises ss
     → (span_behind i ss).start ≤ (span_behind j ss).stop
 behind_rises lo hi [] i j k l h r = absurd (omega (arith, l))
 behind_rises lo hi (s ∷ ss) zero zero k l h r = let o = h.0 in omega (arith, o.forward)
@@ -140,7 +140,7 @@ behind_rises lo hi (s ∷ ss) (suc i) zero k l h r = absurd (omega (arith, k))
 behind_rises lo hi (s ∷ ss) (suc i) (suc j) k l h r = behind_rises lo hi ss i j (omega (arith, k)) (omega (arith, l)) h.1 r.1
 
 pub between : {lo hi : ℕ} {ss : List Span} → Fills lo hi ss → (i j : ℕ) → i ≤ j → j < length ss
-    → LiesIn lo hi (span (span_behind i ss).start (span_behind j ss).stop)
+    → LiesBetween lo hi (span (span_behind i ss).start (span_behind j ss).stop)
 between {lo} {hi} {ss} f i j k l =
     let a = behind_lies lo hi ss i (omega (arith, k, l)) f.inside in
     let b = behind_lies lo hi ss j l f.inside in

@@ -6,7 +6,7 @@ use Rattle.pyparse_marks.specs.LineSpans.{line_spans}
 use Rattle.pyplaces.proofs.Laws.Law.{places_are_lawful}
 use Rattle.pyplaces_laws.specs.Laws.{LinesAreInOrder, StatementsAreInOrder, BlocksAreLaidOut, SourcePlacesAreLawful}
 use Rattle.pyplaces_laws.proofs.TokenLines.{lines_in}
-use Rattle.pyplaces_laws.proofs.Counted.Blocks.{count_formed}
+use Rattle.pyplaces.proofs.Laws.Blocks.{count_formed}
 use Rattle.pyplaces_laws.proofs.Lines.{in_order, lines_lie}
 use Rattle.pyplaces_laws.proofs.Blocks.{block_in, laid_out}
 

@@ -5,7 +5,6 @@ mod Filling
 mod Walks
 mod FormattedWalks
 mod TokenWalks
-mod Counted
 mod LineSpans
 mod Simples
 mod Lines

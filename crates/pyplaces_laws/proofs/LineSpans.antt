@@ -20,7 +20,7 @@ use Rattle.pygrammar.specs.OpenStrings.{open_behind_all}
 use Rattle.pyplaces.specs.Stretches.{Stretch, span_behind, span_of}
 use Rattle.pyplaces.specs.Laws.{IsWithin, AreWithin}
 use Rattle.pyplaces.specs.Stretches as Stretches
-use Rattle.pyplaces_laws.specs.Spans.{LiesIn, AllLieIn}
+use Rattle.pyplaces_laws.specs.Spans.{LiesBetween, AllLieBetween}
 use Rattle.pyplaces_laws.proofs.TokenLines.{IsSound, AreSound, TokensIn, begin_of, end_of, are_sound}
 use Rattle.pyplaces_laws.proofs.Aligned.{terminals_in, cut}
 use Rattle.pyplaces_laws.proofs.Filling.{Fills, fills_both, between, behind_middle}
@@ -141,7 +141,7 @@ piece text lo ts hi p q h closes e =
 
 -- a stretch of some terminals lies in the bytes that their spans fill
 pub lie : {lo hi at behind : ℕ} (before ss after : List Span) → Fills lo hi ss → length before ≡ at → behind ≡ at + length ss
-    → (s : Stretch) → IsWithin at behind s → LiesIn lo hi (span_of (before ++ (ss ++ after)) s)
+    → (s : Stretch) → IsWithin at behind s → LiesBetween lo hi (span_of (before ++ (ss ++ after)) s)
 lie {lo} {hi} before ss after f e size s w =
     let whole = before ++ (ss ++ after) in
     let i = s.first - length before in
@@ -154,10 +154,10 @@ lie {lo} {hi} before ss after f e size s w =
     let last : span_behind (s.behind - 1) whole ≡ span_behind j ss =
     behind_middle before ss after j (s.behind - 1) (omega (arith, e, b, m)) (omega (arith, e, size, b, m, n)) in
     let inner = between f i j (omega (arith, b, m)) (omega (arith, e, size, b, m, n)) in
-    subst (λ z. LiesIn lo hi (span z.start (span_behind (s.behind - 1) whole).stop)) (sym first)
-    (subst (λ z. LiesIn lo hi (span (span_behind i ss).start z.stop)) (sym last) inner)
+    subst (λ z. LiesBetween lo hi (span z.start (span_behind (s.behind - 1) whole).stop)) (sym first)
+    (subst (λ z. LiesBetween lo hi (span (span_behind i ss).start z.stop)) (sym last) inner)
 
 pub all_lie : {lo hi at behind : ℕ} (before ss after : List Span) → Fills lo hi ss → length before ≡ at → behind ≡ at + length ss
-    → (rs : List Stretch) → AreWithin at behind rs → AllLieIn lo hi (Stretches.spans_of (before ++ (ss ++ after)) rs)
+    → (rs : List Stretch) → AreWithin at behind rs → AllLieBetween lo hi (Stretches.spans_of (before ++ (ss ++ after)) rs)
 all_lie before ss after f e size [] w = tt
 all_lie before ss after f e size (s ∷ rs) w = (lie before ss after f e size s w.0, all_lie before ss after f e size rs w.1)

@@ -21,8 +21,8 @@ use Rattle.pyplaces.specs.BlockPlaces.{LinePlaces, whole_of, line_of}
 use Rattle.pyplaces.specs.ModulePlaces.{formed_places}
 use Rattle.pyplaces.specs.Laws.{AreWithin, statement_spans, AreInOrder, statements_in, LinesInOrder, no_line, a_line}
 use Rattle.pyplaces.proofs.Laws.Law.{places_are_lawful}
-use Rattle.pyplaces_laws.specs.Spans.{AllLieIn}
-use Rattle.pyplaces_laws.specs.Nesting.{AllRooted}
+use Rattle.pyplaces_laws.specs.Spans.{AllLieBetween}
+use Rattle.pyplaces_laws.specs.Nesting.{AllHoldTheirParts}
 use Rattle.pyplaces_laws.proofs.TokenLines.{AreSound, TokensIn, LinesIn, are_sound, forward}
 use Rattle.pyplaces_laws.proofs.Aligned.{terminals_in}
 use Rattle.pyplaces_laws.proofs.Filling.{Fills, ordered}
@@ -71,10 +71,10 @@ whole_is {lo} {hi} {ss} f =
 -- ---- The statements in a line.
 
 abbrev pub SuiteRooted : Profile → Form → List Span → Type 0
-SuiteRooted profile (simple_form ss) ps = AllRooted profile ss ps
+SuiteRooted profile (simple_form ss) ps = AllHoldTheirParts profile ss ps
 SuiteRooted profile (decorator_form e) ps = Unit {0}
 SuiteRooted profile (header_form h None) ps = Unit {0}
-SuiteRooted profile (header_form h (Some ss)) ps = AllRooted profile ss ps
+SuiteRooted profile (header_form h (Some ss)) ps = AllHoldTheirParts profile ss ps
 
 record SuiteIn (profile : Profile) (lo : ℕ) (f : Form) (ps : List Span) (hi : ℕ) : Type 0 where
   order : AreInOrder lo (statement_spans profile (statements_in f) ps) hi
@@ -122,16 +122,16 @@ suite_in text lo xs hi (F.case_suite {ts = ts} w c s) is h =
 -- the spans of what stands in a line lie in it, its statements in order, and each holds what is in it
 pub record LineLies (profile : Profile) (f : Form) (z : LinePlaces) : Type 0 where
   pub forward : z.whole.start ≤ z.whole.stop
-  pub before : AllLieIn z.whole.start z.whole.stop z.before
-  pub behind : AllLieIn z.whole.start z.whole.stop z.behind
-  pub suite : AllLieIn z.whole.start z.whole.stop z.suite
+  pub before : AllLieBetween z.whole.start z.whole.stop z.before
+  pub behind : AllLieBetween z.whole.start z.whole.stop z.behind
+  pub suite : AllLieBetween z.whole.start z.whole.stop z.suite
   pub order : AreInOrder z.whole.start (statement_spans profile (statements_in f) z.suite) z.whole.stop
   pub rooted : SuiteRooted profile f z.suite
 
 all_in : {lo hi n : ℕ} (ss : List Span) → Fills lo hi ss → n ≡ length ss → (rs : List Stretch) → AreWithin 0 n rs
-    → AllLieIn lo hi (spans_of ss rs)
+    → AllLieBetween lo hi (spans_of ss rs)
 all_in {lo} {hi} ss f e rs w =
-    subst (λ z. AllLieIn lo hi (spans_of z rs)) (append-nil ss) (all_lie [] ss [] f refl (omega (arith, e)) rs w)
+    subst (λ z. AllLieBetween lo hi (spans_of z rs)) (append-nil ss) (all_lie [] ss [] f refl (omega (arith, e)) rs w)
 
 line_lies : {profile : Profile} {inside : Bool} {f : Form} (text : List ℕ) (lo : ℕ) (xs : List Token) (hi : ℕ)
     (d : F.FormAt profile inside (terminals_in xs) f) → (g : Filled text lo xs hi) → AreSound xs

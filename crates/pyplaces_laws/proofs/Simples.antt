@@ -18,9 +18,9 @@ use Rattle.pyplaces.specs.Stretches.{Span, Stretch, stretch, span_of, spans_of}
 use Rattle.pyplaces.specs.FormPlaces.{field_places, simple_places, simples_places}
 use Rattle.pyplaces.specs.Laws.{IsWithin, AreWithin, last_of, statement_spans, AreInOrder}
 use Rattle.pyplaces.proofs.Laws.Law.{places_are_lawful}
-use Rattle.pyplaces_laws.specs.Spans.{AllLieIn}
-use Rattle.pyplaces_laws.specs.Nesting.{in_decorators, IsRooted, AllRooted}
-use Rattle.pyplaces_laws.proofs.Counted.Forms.{count_simple}
+use Rattle.pyplaces_laws.specs.Spans.{AllLieBetween}
+use Rattle.pyplaces_laws.specs.Nesting.{in_decorators, HoldsItsParts, AllHoldTheirParts}
+use Rattle.pyplaces.proofs.Laws.Forms.{count_simple}
 use Rattle.pyplaces_laws.proofs.TokenLines.{TokensIn, forward}
 use Rattle.pyplaces_laws.proofs.Aligned.{terminals_in}
 use Rattle.pyplaces_laws.proofs.Filling.{ordered, behind_first, behind_last, behind_middle}
@@ -79,7 +79,7 @@ no_decorators (F.from_dots d h c) = refl
 
 -- its own span holds what is in it, and lies between two bytes
 pub record StatementIn (profile : Profile) (lo : ℕ) (s : Stmt) (ps : List Span) (hi : ℕ) : Type 0 where
-  pub root : IsRooted s ps
+  pub root : HoldsItsParts s ps
   pub begins : lo ≤ root.own.start
   pub ends : root.own.stop ≤ hi
   pub count : length ps ≡ marked (shown_stmt profile s)
@@ -109,8 +109,8 @@ simple_in {profile} {ts} {s} text lo xs hi at before after d e size h =
     ∙ behind_last f.fills last (omega (arith, size, o.some)) in
     let parts = all_lie before ss after f.fills e (omega (arith, size)) (field_places at d) k.parts in
     let fields = spans_of whole (field_places at d) in
-    let holds : AllLieIn own.start own.stop fields =
-    subst (λ n. AllLieIn n own.stop fields) (sym start) (subst (λ n. AllLieIn f.from n fields) (sym stop) parts) in
+    let holds : AllLieBetween own.start own.stop fields =
+    subst (λ n. AllLieBetween n own.stop fields) (sym start) (subst (λ n. AllLieBetween f.from n fields) (sym stop) parts) in
     record {
       root = record {
         inside = fields;
@@ -120,7 +120,7 @@ simple_in {profile} {ts} {s} text lo xs hi at before after d e size h =
         are = map-append (span_of whole) (field_places at d) (stretch at (at + length ts) ∷ []);
         decorators = no_decorators d;
         forward = omega (arith, start, stop, ordered f.fills);
-        holds = subst (AllLieIn own.start own.stop) (sym (append-nil fields)) holds;
+        holds = subst (AllLieBetween own.start own.stop) (sym (append-nil fields)) holds;
         apart = tt;
       };
       begins = omega (arith, start, f.begins);
@@ -133,7 +133,7 @@ simple_in {profile} {ts} {s} text lo xs hi at before after d e size h =
 -- the spans of some statements between two bytes
 pub record SimplesIn (profile : Profile) (lo : ℕ) (ss : List Stmt) (ps : List Span) (hi : ℕ) : Type 0 where
   pub order : AreInOrder lo (statement_spans profile ss ps) hi
-  pub rooted : AllRooted profile ss ps
+  pub rooted : AllHoldTheirParts profile ss ps
 
 pub last_is : (fs : List Span) (o : Span) → last_of (fs ++ (o ∷ [])) ≡ o ∷ []
 last_is [] o = refl
@@ -168,7 +168,7 @@ more_in {profile} {lo} {mid} {hi} {s} {ss} {ps} {qs} a b =
     record {
       order = subst (λ z. AreInOrder lo z hi) (sym spans)
           (a.begins, r.forward, order_lower own.stop mid (statement_spans profile ss qs) hi a.ends b.order);
-      rooted = (subst (IsRooted s) (sym front) r, subst (AllRooted profile ss) (sym back) b.rooted);
+      rooted = (subst (HoldsItsParts s) (sym front) r, subst (AllHoldTheirParts profile ss) (sym back) b.rooted);
     }
 
 -- one statement, and perhaps tokens behind it

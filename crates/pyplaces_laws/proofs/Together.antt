@@ -14,9 +14,9 @@ use Rattle.pygrammar.specs.Blocks as B
 use Rattle.pyplaces.specs.Stretches.{Span}
 use Rattle.pyplaces.specs.BlockPlaces.{LinePlaces, ending, own, decorator_places, definition_places, body_places}
 use Rattle.pyplaces.specs.Laws.{last_of, statement_spans, AreInOrder}
-use Rattle.pyplaces_laws.specs.Spans.{AllLieIn}
-use Rattle.pyplaces_laws.specs.Nesting.{in_decorators, IsRooted}
-use Rattle.pyplaces_laws.proofs.Counted.Blocks.{LinesCounted, a_line, front, back, rows, decorators_count, definition_is}
+use Rattle.pyplaces_laws.specs.Spans.{AllLieBetween}
+use Rattle.pyplaces_laws.specs.Nesting.{in_decorators, HoldsItsParts}
+use Rattle.pyplaces.proofs.Laws.Blocks.{LinesCounted, a_line, front, back, rows, decorators_count, definition_is}
 use Rattle.pyplaces_laws.proofs.Filling.{all_wide, all_both}
 use Rattle.pyplaces_laws.proofs.Simples.{SimplesIn, StatementIn, three, last_is, more_in, one_in, order_lower}
 use Rattle.pyplaces_laws.proofs.Lines.{LineLies, LinesLie, no_more, one_more}
@@ -25,7 +25,7 @@ use Rattle.pyplaces_laws.proofs.Lines.{LineLies, LinesLie, no_more, one_more}
 
 infixr 50 ◌⊕◌
 pub record In (lo hi : ℕ) (ps : List Span) : Type 0 where
-  pub are : AllLieIn lo hi ps
+  pub are : AllLieBetween lo hi ps
 
 pub nothing : {lo hi : ℕ} → In lo hi []
 nothing = record { are = tt }
@@ -37,7 +37,7 @@ pub wide : {lo hi low high : ℕ} {ps : List Span} → In lo hi ps → low ≤ l
 wide {lo} {hi} {low} {high} {ps} p a b = record { are = all_wide lo hi low high ps a b p.are }
 
 pub as_list : {lo hi : ℕ} {ps qs : List Span} → ps ≡ qs → In lo hi qs → In lo hi ps
-as_list {lo} {hi} e p = record { are = subst (AllLieIn lo hi) (sym e) p.are }
+as_list {lo} {hi} e p = record { are = subst (AllLieBetween lo hi) (sym e) p.are }
 
 -- ---- Lines.
 
@@ -149,9 +149,9 @@ pub compound : {profile : Profile} {lo hi : ℕ} {f : Form} {xs : List Line} {z 
 compound {profile} {lo} {hi} {z = z} {zs = zs} {ps = ps} {parts = parts} s h e p count none inside =
     let o = ending z.whole.start (z ∷ zs) in
     let l = h.line_lies in
-    let holds : AllLieIn o.start o.stop (parts ++ []) =
-    subst (λ n. AllLieIn n o.stop (parts ++ [])) (sym h.start) (subst (AllLieIn z.whole.start o.stop) (sym (append-nil parts)) p.are) in
-    let root : IsRooted s ps = record {
+    let holds : AllLieBetween o.start o.stop (parts ++ []) =
+    subst (λ n. AllLieBetween n o.stop (parts ++ [])) (sym h.start) (subst (AllLieBetween z.whole.start o.stop) (sym (append-nil parts)) p.are) in
+    let root : HoldsItsParts s ps = record {
       inside = parts;
       beside = [];
       further = [];
@@ -219,7 +219,7 @@ defined {profile} {lo} {mid} {hi} {es = es} {body = body} {dz = dz} {z = z} {zs 
     let c = decorators_count d g.counted in
     let are : definition_places dz (z ∷ zs) b ≡ inside ++ (decorators ++ (z.behind ++ own z zs)) =
     definition_is dz z zs b ∙ sym (append_assoc z.before inner (decorators ++ (z.behind ++ own z zs))) in
-    let root : IsRooted s (definition_places dz (z ∷ zs) b) = record {
+    let root : HoldsItsParts s (definition_places dz (z ∷ zs) b) = record {
       inside = inside;
       beside = decorators;
       further = z.behind;
@@ -227,8 +227,8 @@ defined {profile} {lo} {mid} {hi} {es = es} {body = body} {dz = dz} {z = z} {zs 
       are = are;
       decorators = c.is ∙ in_definition es head body;
       forward = omega (arith, h.start, h.last, l.forward);
-      holds = subst (λ n. AllLieIn n o.stop (inside ++ z.behind)) (sym h.start) parts.are;
-      apart = subst (λ n. AllLieIn 0 n decorators) (sym h.start) apart.are;
+      holds = subst (λ n. AllLieBetween n o.stop (inside ++ z.behind)) (sym h.start) parts.are;
+      apart = subst (λ n. AllLieBetween 0 n decorators) (sym h.start) apart.are;
     } in
     let a : StatementIn profile lo s (definition_places dz (z ∷ zs) b) hi =
     record { root = root; begins = omega (arith, h.start, h.begins, low); ends = h.ends; count = omega (arith, count) } in

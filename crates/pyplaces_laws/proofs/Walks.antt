@@ -11,7 +11,7 @@ use Rattle.pylex.proofs.Callers.{is_cut}
 use Rattle.pyfstring_tokens.specs.FieldTokens.{is_gap}
 use Rattle.pyparse_marks.specs.Spans.{Span, span}
 use Rattle.pyparse_marks.specs.TokenSpans.{Walk, put, further, moved, over, past_each, past_lexeme, past_expression}
-use Rattle.pyplaces_laws.specs.Spans.{AllLieIn}
+use Rattle.pyplaces_laws.specs.Spans.{AllLieBetween}
 use Rattle.pyplaces_laws.proofs.Entries.{bytes_both}
 use Rattle.pyplaces_laws.proofs.Filling.{Starts, Rises, starts_later, starts_both, rises_both, all_both}
 
@@ -21,7 +21,7 @@ pub record Fine (lo hi : ℕ) (first : Span) (w : Walk) : Type 0 where
   pub ends : w.at ≤ hi
   pub later : List Span
   pub begun : w.spans ≡ first ∷ later
-  pub inside : AllLieIn lo hi w.spans
+  pub inside : AllLieBetween lo hi w.spans
   pub starts : Starts w.at w.spans
   pub rises : Rises w.spans
 

@@ -6,7 +6,7 @@ use Rattle.pygrammar.specs.Lines.{Line}
 use Rattle.pygrammar.specs.Blocks as B
 use Rattle.pyparse_marks.specs.Spans.{Span}
 use Rattle.pyplaces.specs.BlockPlaces.{LinePlaces, ending, block_places, body_places, alternative_places}
-use Rattle.pyplaces_laws.specs.Spans.{AllLieIn}
+use Rattle.pyplaces_laws.specs.Spans.{AllLieBetween}
 
 -- what is said of the statements of a block and their spans
 abbrev pub Law : Type 1
@@ -19,7 +19,7 @@ HandlersLie lo zs B.no_except hi = lo ≤ hi
 HandlersLie lo [] (B.except_clause b h) hi = lo ≤ hi
 HandlersLie lo (z ∷ zs) (B.except_clause {xs = xs} b h) hi =
     let own = ending z.whole.start (z ∷ take (length xs) zs) in
-    (lo ≤ own.start) × (own.start ≤ own.stop) × AllLieIn own.start own.stop (z.before ++ body_places z (take (length xs) zs) b)
+    (lo ≤ own.start) × (own.start ≤ own.stop) × AllLieBetween own.start own.stop (z.before ++ body_places z (take (length xs) zs) b)
     × HandlersLie own.stop (drop (length xs) zs) h hi
 
 abbrev mutual

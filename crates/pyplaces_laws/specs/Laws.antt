@@ -11,7 +11,7 @@ use Rattle.pygrammar.specs.Refusals.{Accepted}
 use Rattle.pyplaces.specs.ModulePlaces.{formed_places, source_places}
 use Rattle.pyplaces.specs.Laws.{AreInOrder, LinesInOrder, statement_spans}
 use Rattle.pyplaces_laws.specs.EachBlock.{InBlock}
-use Rattle.pyplaces_laws.specs.Nesting.{AllRooted}
+use Rattle.pyplaces_laws.specs.Nesting.{AllHoldTheirParts}
 
 -- each line ends before the next begins, and so do the statements in a line
 abbrev pub LinesAreInOrder : Type 0
@@ -25,7 +25,7 @@ StatementsAreInOrder = (profile : Profile) (s : Source) (m : Module) (a : Accept
 
 -- The statements of a block and their spans: each statement's own holds what is in it, and ends before the next begins.
 pub record IsLaidOut (profile : Profile) (ss : List Stmt) (ps : List Span) : Type 0 where
-  pub rooted : AllRooted profile ss ps
+  pub rooted : AllHoldTheirParts profile ss ps
   pub from : ℕ
   pub to : ℕ
   pub order : AreInOrder from (statement_spans profile ss ps) to

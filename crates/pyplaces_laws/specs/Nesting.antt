@@ -5,7 +5,7 @@ use Rattle.pytree_node.specs.Trees.{Stmt, FunctionDef, AsyncFunctionDef, ClassDe
 use Rattle.pytree_dump_text.specs.Shows.{shown_stmt, shown_exprs}
 use Rattle.pytree_marked.specs.MarkedNodes.{marked, marked_rows}
 use Rattle.pyparse_marks.specs.Spans.{Span}
-use Rattle.pyplaces_laws.specs.Spans.{AllLieIn}
+use Rattle.pyplaces_laws.specs.Spans.{AllLieBetween}
 
 -- how many nodes in the decorators of a statement have a place
 abbrev pub in_decorators : Stmt → ℕ
@@ -15,7 +15,7 @@ in_decorators (ClassDef name bases keywords body decorators params) = marked_row
 in_decorators _ = 0
 
 -- the spans of a statement: of its parts, of its decorators, of its parts behind these, and its own
-pub record IsRooted (s : Stmt) (ps : List Span) : Type 0 where
+pub record HoldsItsParts (s : Stmt) (ps : List Span) : Type 0 where
   pub inside : List Span
   pub beside : List Span
   pub further : List Span
@@ -23,11 +23,11 @@ pub record IsRooted (s : Stmt) (ps : List Span) : Type 0 where
   pub are : ps ≡ inside ++ (beside ++ (further ++ (own ∷ [])))
   pub decorators : length beside ≡ in_decorators s
   pub forward : own.start ≤ own.stop
-  pub holds : AllLieIn own.start own.stop (inside ++ further)
-  pub apart : AllLieIn 0 own.start beside
+  pub holds : AllLieBetween own.start own.stop (inside ++ further)
+  pub apart : AllLieBetween 0 own.start beside
 
 -- so it is with each of some statements, whose spans stand one after another
-abbrev pub AllRooted : Profile → List Stmt → List Span → Type 0
-AllRooted profile [] ps = ps ≡ []
-AllRooted profile (s ∷ ss) ps =
-    let n = marked (shown_stmt profile s) in IsRooted s (take n ps) × AllRooted profile ss (drop n ps)
+abbrev pub AllHoldTheirParts : Profile → List Stmt → List Span → Type 0
+AllHoldTheirParts profile [] ps = ps ≡ []
+AllHoldTheirParts profile (s ∷ ss) ps =
+    let n = marked (shown_stmt profile s) in HoldsItsParts s (take n ps) × AllHoldTheirParts profile ss (drop n ps)

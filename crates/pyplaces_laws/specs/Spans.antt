@@ -3,11 +3,11 @@ use Rattle.std.specs.Prelude.{ℕ, ◌≤◌, List, [], ◌∷◌}
 use Rattle.pyparse_marks.specs.Spans.{Span}
 
 -- it begins at one of these bytes or behind it, and ends at one or before it
-pub record LiesIn (lo hi : ℕ) (s : Span) : Type 0 where
+pub record LiesBetween (lo hi : ℕ) (s : Span) : Type 0 where
   pub begins : lo ≤ s.start
   pub forward : s.start ≤ s.stop
   pub ends : s.stop ≤ hi
 
-abbrev pub AllLieIn : ℕ → ℕ → List Span → Type 0
-AllLieIn lo hi [] = Unit {0}
-AllLieIn lo hi (s ∷ ss) = LiesIn lo hi s × AllLieIn lo hi ss
+abbrev pub AllLieBetween : ℕ → ℕ → List Span → Type 0
+AllLieBetween lo hi [] = Unit {0}
+AllLieBetween lo hi (s ∷ ss) = LiesBetween lo hi s × AllLieBetween lo hi ss

@@ -74,6 +74,7 @@ fn show_plain_name(out: &mut String, text: &str, ctx: Context) -> Result<(), All
 
 /// Appends the name of an attribute and its context, from what stands before the name on, and the
 /// bracket that ends it.
+#[inline(always)]
 pub fn push_name_and_context(out: &mut String, text: &str, ctx: Context) -> Result<(), AllocError>
     ensures { OnOk result
         (string_bytes out.new ≡ string_bytes out.old
@@ -92,6 +93,7 @@ pub fn push_name_and_context(out: &mut String, text: &str, ctx: Context) -> Resu
 }
 
 /// Appends a name.
+#[inline(always)]
 pub fn show_name(
     out: &mut String,
     style: Style,
@@ -136,6 +138,7 @@ fn constant_end(named: bool, value: &Constant) -> &'static str
 
 /// Appends a constant.
 #[tactic(auto, using(crate::proofs::LeafLemmas::constant_text))]
+#[inline(always)]
 pub fn show_constant(out: &mut String, style: Style, value: &Constant) -> Result<(), AllocError>
     ensures { (indentation : List ℕ)
         → OnOk result

@@ -129,6 +129,7 @@ fn no_statements(alloc: Global, next: usize) -> ReadStatements
 }
 
 /// Statements with one more.
+#[inline(always)]
 #[tactic(auto, using(crate::proofs::statements::StatementSteps::statement_pushed, crate::proofs::statements::StatementSteps::statement_height))]
 fn with_statement(before: ReadStatements, one: ReadStatement) -> Result<ReadStatements, Stop>
     ensures statements { MatchResult result

@@ -105,7 +105,7 @@ definition_count profile (class_head x ps bases ks) es body = omega arith
 
 -- ---- Definitions.
 
-decorators_count : {profile : Profile} {l : ℕ} {ds : List Line} {es : List Expr} {zs : List LinePlaces} → B.Decorators l ds es
+pub decorators_count : {profile : Profile} {l : ℕ} {ds : List Line} {es : List Expr} {zs : List LinePlaces} → B.Decorators l ds es
     → LinesCounted profile ds zs → Many (decorator_places zs) (marked_rows (shown_exprs (exprs es)))
 decorators_count B.no_decorator no_line = none
 decorators_count (B.decorator d) (a_line h c) = h.before ⊕ decorators_count d c
@@ -187,7 +187,7 @@ mutual
   count_final (a_line h c) B.inline = h.suite
   count_final (a_line h c) (B.indented b) = count_block b c
 
-  count_alternative : {profile : Profile} {l : ℕ} {xs : List Line} {ss : List Stmt} {zs : List LinePlaces} (a : B.Alternative l xs ss)
+  pub count_alternative : {profile : Profile} {l : ℕ} {xs : List Line} {ss : List Stmt} {zs : List LinePlaces} (a : B.Alternative l xs ss)
       → LinesCounted profile xs zs → Many (alternative_places zs a) (rows profile ss)
   count_alternative (B.an_else o) c = count_otherwise o c
   count_alternative (B.an_elif {xs = xs} {ys = ys} b a) (a_line {z = z} h c) =
