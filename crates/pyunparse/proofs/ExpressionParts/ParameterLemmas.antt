@@ -6,6 +6,8 @@ use Rattle.std.proofs.Common.{arith, append-nil}
 use Rattle.std.specs.Prelude.{is_some}
 use Rattle.std.proofs.lemmas.Bool.{false≢true}
 use Rattle.std.proofs.lemmas.Bool.Decides.{nat_tests}
+use Rattle.std.proofs.lemmas.List.{drop_all}
+use Rattle.std.specs.List.{drop-map}
 use Rattle.pylex_lexeme.specs.declared.kinds.Exact.TheVariants.{Comma, DoubleStar, Slash, Star}
 use Rattle.pytree_node.specs.declared.expressions.Expr as given
 use Rattle.pytree_node.specs.declared.expressions.Arg as given_arg
@@ -22,7 +24,7 @@ use Rattle.pyunparse.specs.Inner.Members.{members, padded}
 use Rattle.pyunparse.specs.Inner.Parameters.{by_places, default_at, head_default, named, positional, slash_behind}
 use Rattle.pyunparse_text.proofs.Callers.Writing.{not_zero}
 use Rattle.pyunparse.proofs.Sequences.FoldLemmas.{four, three, two}
-use Rattle.pyunparse.proofs.Sequences.MemberLemmas.{dropped, is_nil, members_both, members_none, members_on, none_left}
+use Rattle.pyunparse.proofs.Sequences.MemberLemmas.{dropped, is_nil, members_both, members_none, members_on}
 
 beside_padded : {A : Type 0} (tss : List (List A)) (n : ℕ) (uss : List (List A)) → length tss ≤ n + length uss
     → beside tss (replicate n [] ++ uss) ≡ padded tss n uss
@@ -126,11 +128,6 @@ defaults_left zero ds = refl
 defaults_left (suc n) [] = refl
 defaults_left (suc n) (d ∷ ds) = defaults_left n ds
 
-drop_map : {A B : Type 0} (f : A → B) (n : ℕ) (xs : List A) → drop n (map f xs) ≡ map f (drop n xs)
-drop_map f zero xs = refl
-drop_map f (suc n) [] = refl
-drop_map f (suc n) (x ∷ xs) = drop_map f n xs
-
 drop_next : {A : Type 0} (n : ℕ) (xs : List A) → drop (suc n) xs ≡ drop 1 (drop n xs)
 drop_next zero xs = refl
 drop_next (suc n) [] = refl
@@ -175,7 +172,7 @@ step a rest bare i ds = by (nat_lt i bare) refl
         let after : suc (i - bare) ≡ i + 1 - bare = omega (arith, le) in
         (λ k. padded (names piece (an_arg a rest)) (none k) (D (drop (i - bare) ds)))
         ∙ step_given a rest (drop (i - bare) ds)
-        ∙ (λ k. (named a ++ head_default (sym (drop_map tree_of (i - bare) ds) k)) ∷ padded (names piece rest) (next k)
+        ∙ (λ k. (named a ++ head_default (sym (drop-map tree_of (i - bare) ds) k)) ∷ padded (names piece rest) (next k)
         (D ((sym (drop_next (i - bare) ds) ∙ ap (λ n. drop n ds) after) k)))
 
 module _ {S : Type 0} (after : S → Sited → S) (base o : S) where
@@ -199,7 +196,7 @@ module _ {S : Type 0} (after : S → Sited → S) (base o : S) where
       puts after o (members f comma (padded (N (drop i ps)) (bare - i) uss)) ≡ base → o ≡ base
   unfolding written
   plain_done f ps bare i uss h so_far =
-      sym (ap (λ z. puts after o (members f comma (padded (N z) (bare - i) uss))) (none_left ps i h)
+      sym (ap (λ z. puts after o (members f comma (padded (N z) (bare - i) uss))) (drop_all i ps h)
       ∙ ap (puts after o) (members_none f comma)) ∙ so_far
 
 -- ---- The parameters by their places.
@@ -344,10 +341,10 @@ default_given : (bare i : ℕ) (ds : List given.Expr) → bare ≤ i → default
     (map tree_of (drop (i - bare) ds))
 default_given bare i ds h =
     let e : nat_lt i bare ≡ false = grind (arith, nat_tests) in
-    (λ k. if e k then [] else head_default (drop (i - bare) (map tree_of ds))) ∙ ap head_default (drop_map tree_of (i - bare) ds)
+    (λ k. if e k then [] else head_default (drop (i - bare) (map tree_of ds))) ∙ ap head_default (drop-map tree_of (i - bare) ds)
 
 pub default_none : (bare i : ℕ) (ds : List given.Expr) → bare ≤ i → length ds ≤ i - bare → [] ≡ default_at bare i (map tree_of ds)
-default_none bare i ds h l = sym (default_given bare i ds h ∙ ap (λ z. head_default (map tree_of z)) (none_left ds (i - bare) l))
+default_none bare i ds h l = sym (default_given bare i ds h ∙ ap (λ z. head_default (map tree_of z)) (drop_all (i - bare) ds l))
 
 pub default_some : (bare i : ℕ) (ds : List given.Expr) (e : given.Expr) → bare ≤ i → i - bare < length ds → e ≡ get_or ds (i - bare) e →
     head_default (tree_of e ∷ []) ≡ default_at bare i (map tree_of ds)

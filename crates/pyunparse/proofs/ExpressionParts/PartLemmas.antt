@@ -5,7 +5,7 @@ use Rattle.pylex_lexeme.specs.declared.kinds.Exact.TheVariants.{Equal}
 use Rattle.pytoken.specs.declared.keywords.Keyword.TheVariants as Key
 use Rattle.pytree_node.specs.declared.expressions.Expr as given
 use Rattle.pytree_node.specs.declared.expressions.Arg as given_arg
-use Rattle.pytree_node.specs.Trees.{Arg, Args, Identifier, Keyword, Keywords, a_keyword, an_arg, args, arg, Expr, Exprs, exprs, optional}
+use Rattle.pytree_node.specs.Trees.{Identifier, Keyword, Keywords, a_keyword, args, Expr, Exprs, exprs, optional}
 use Rattle.pytree_node.specs.Trees.{optionals}
 use Rattle.pytree_node.specs.TreeOf.{arg_of, option_of, tree_of}
 use Rattle.pygrammar.specs.declared.levels.Level.TheVariants.{Expression, Or, Stars}
@@ -17,6 +17,7 @@ use Rattle.pyunparse_text.specs.Folds.{puts}
 use Rattle.pyunparse.specs.Inner.Pairs.{pair}
 use Rattle.pyunparse.specs.Inner.Parameters.{named}
 use Rattle.pyunparse.proofs.Sequences.FoldLemmas.{five}
+use Rattle.pyunparse.proofs.ExpressionParts.ParameterLemmas.{one_more}
 
 abbrev pub pairs_of : List (Option given.Expr) → List given.Expr → List (List Sited)
 pairs_of ks es = pairs piece (written_keys piece (optionals (map option_of ks))) (exprs (map tree_of es))
@@ -56,10 +57,6 @@ clause_on after s b t e cs {s1} {s2} {s3} {s4} e1 e2 e3 e4 =
 -- keyword-only parameters and their defaults
 abbrev pub kwonly : List given_arg.Arg → List (Option given.Expr) → List (List Sited)
 kwonly ps ds = beside (names piece (args (map arg_of ps))) (defaults piece (optionals (map option_of ds)))
-
-one_more : (a : Arg) (rest : Args) → names piece (an_arg a rest) ≡ named a ∷ names piece rest
-unfolding written
-one_more (arg x t) rest = refl
 
 pub kwonly_more : (p : given_arg.Arg) (d : Option given.Expr) (ps : List given_arg.Arg) (ds : List (Option given.Expr)) →
     kwonly (p ∷ ps) (d ∷ ds) ≡ (named (arg_of p) ++ suffixed piece (tight piece Equal) (optional (option_of d))) ∷ kwonly ps ds

@@ -2,6 +2,7 @@
 use Rattle.std.proofs.Common.{◌≡◌, ◌∙◌, ℕ, ◌+◌, ◌<◌, ◌≤◌, Result, IfOk, Bool, true, false, List, [], ◌∷◌, ◌++◌, map, length, drop, get_or}
 use Rattle.std.proofs.Common.{refl, ap, sym, append_assoc}
 use Rattle.std.proofs.lemmas.Result.{IfOk-weaker}
+use Rattle.std.proofs.lemmas.List.{drop_all}
 use Rattle.pyfstring.specs.declared.parts.Conversion.{Conversion}
 use Rattle.pytree_node.specs.declared.expressions.Expr as given
 use Rattle.pytree_node.specs.Trees as plain
@@ -16,7 +17,7 @@ use Rattle.pyunparse_text.specs.Folds.{sited_in_utf8}
 use Rattle.pyunparse_text.specs.Written.{Element, Text, End, elements_behind, field, first_text, is_unicode, joined, spec_elements, written}
 use Rattle.pyunparse_text.proofs.Callers.Writing.{elements_both}
 use Rattle.pyunparse.specs.Inner.Values.{value_elements}
-use Rattle.pyunparse.proofs.Sequences.MemberLemmas.{dropped, none_left}
+use Rattle.pyunparse.proofs.Sequences.MemberLemmas.{dropped}
 
 -- one value, and those behind it
 values_both : (b : Bool) (e : plain.Expr) (es : Exprs) →
@@ -87,7 +88,7 @@ module _ {S : Type 0} (after : S → Sited → S) (step : S → Step → S) (is_
         → put_all o (elements_behind piece b (exprs (map tree_of (drop i xs)))) ≡ base →
         o ≡ base
     unfolding written
-    values_done xs i h so_far = sym (ap (λ z. put_all o (elements_behind piece b (exprs (map tree_of z)))) (none_left xs i h)) ∙ so_far
+    values_done xs i h so_far = sym (ap (λ z. put_all o (elements_behind piece b (exprs (map tree_of z)))) (drop_all i xs h)) ∙ so_far
 
 -- an f-string, and the literal in front of it
 module _ {S : Type 0} (after : S → Sited → S) (s : S) (es : Exprs) (u : Bool) (t : List ℕ) (kind : u ≡ is_unicode es)

@@ -1,6 +1,5 @@
 -- Carries: the walks. What is written one after another is written as one.
-use Rattle.std.proofs.Common.{◌≡◌, Result, IfOk, Bool, true, false, if◌then◌else◌, List, [], ◌∷◌, ◌++◌, ◌∙◌, refl, ap, sym}
-use Rattle.std.proofs.lemmas.Result.{IfOk-equal}
+use Rattle.std.proofs.Common.{◌≡◌, Bool, true, false, if◌then◌else◌, List, [], ◌∷◌, ◌++◌, ◌∙◌, refl, ap, sym}
 use Rattle.pygrammar.specs.declared.levels.Level.{Level}
 use Rattle.pyunparse_text.specs.Levels.{reaches}
 use Rattle.pyunparse_text.specs.Pieces.{Sited, piece}
@@ -64,7 +63,3 @@ module _ {S : Type 0} (after : S → Sited → S) (s : S) where
   pub enclosed_on : (o : Sited) (x : Exact) (ts : List Sited) (s1 s2 : S) → s1 ≡ puts after s (o ∷ []) → s2 ≡ puts after s1 ts →
       puts after s2 (trailing piece x ∷ []) ≡ puts after s (enclosed piece o x ts)
   enclosed_on o x ts s1 s2 e1 e2 = three (o ∷ []) ts (trailing piece x ∷ []) s1 s2 e1 e2
-
--- where the last call's answer is the function's
-pub ok_equal : {X T E : Type 0} (r : Result T E) (x y z : X) → IfOk r (λ _. x ≡ y) → y ≡ z → IfOk r (λ _. x ≡ z)
-ok_equal r x y z h e = IfOk-equal r x y z h e

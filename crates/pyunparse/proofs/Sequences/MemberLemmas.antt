@@ -1,6 +1,7 @@
 -- Carries: the loops. One item more is written, or there is none left.
 use Rattle.std.proofs.Common.{◌≡◌, ◌∙◌, ℕ, zero, suc, ◌+◌, ◌-◌, ◌<◌, ◌≤◌, max, min, Bool, true, false, ◌&&◌, if◌then◌else◌, List, [], ◌∷◌}
 use Rattle.std.proofs.Common.{◌++◌, map, length, length-drop, drop, take, get_or, refl, ap, sym, arith, append-nil, append_assoc}
+use Rattle.std.proofs.lemmas.List.{drop_all}
 use Rattle.pytree_node.specs.declared.expressions.Expr as given
 use Rattle.pytree_node.specs.declared.operators.Comparison.{Comparison}
 use Rattle.pygrammar.specs.declared.levels.Level.{Level}
@@ -54,13 +55,6 @@ members_both true t (ts ∷ xss) yss =
     ∙ ap (λ z. z ++ following t yss) (sym (separated_on t ts xss))
 members_both false t (ts ∷ xss) yss = following_both t (ts ∷ xss) yss
 
--- nothing is left
-pub none_left : {A : Type 0} (xs : List A) (i : ℕ) → length xs ≤ i → drop i xs ≡ []
-none_left [] zero h = refl
-none_left [] (suc i) h = refl
-none_left (x ∷ xs) zero h = absurd (omega (arith, h))
-none_left (x ∷ xs) (suc i) h = none_left xs i (omega (arith, h))
-
 pub members_none : {A : Type 0} (f : Bool) (t : A) → members f t [] ≡ []
 members_none true t = refl
 members_none false t = refl
@@ -100,7 +94,7 @@ module _ {S X : Type 0} (after : S → Sited → S) (base o : S) where
 
     pub all_items : F [] ≡ [] → (xs : List X) (i : ℕ) → length xs ≤ i → puts after o (members f t (F (drop i xs))) ≡ base → o ≡ base
     all_items nil xs i h so_far =
-        sym (ap (λ z. puts after o (members f t z)) (ap F (none_left xs i h) ∙ nil) ∙ ap (puts after o) (members_none f t)) ∙ so_far
+        sym (ap (λ z. puts after o (members f t z)) (ap F (drop_all i xs h) ∙ nil) ∙ ap (puts after o) (members_none f t)) ∙ so_far
 
   -- a list whose items stand one behind another
   module _ (F : List X → List Sited) where
@@ -115,7 +109,7 @@ module _ {S X : Type 0} (after : S → Sited → S) (base o : S) where
         ∙ so_far
 
     pub all_parts : F [] ≡ [] → (xs : List X) (i : ℕ) → length xs ≤ i → puts after o (F (drop i xs)) ≡ base → o ≡ base
-    all_parts nil xs i h so_far = sym (ap (puts after o) (ap F (none_left xs i h) ∙ nil)) ∙ so_far
+    all_parts nil xs i h so_far = sym (ap (puts after o) (ap F (drop_all i xs h) ∙ nil)) ∙ so_far
 
 -- the same of two lists at once
 module _ {S X Y : Type 0} (after : S → Sited → S) (base o : S) where

@@ -1,64 +1,24 @@
 -- Carries: the functions of strings and of their texts. Constants, and expressions of the program,
 -- by their shapes.
 use Rattle.std.proofs.Common.{◌≡◌, ◌∙◌, ℕ, ◌==◌, Bool, true, false, List, [], ◌∷◌, map, length, get_or, Option, Global, refl, ap, sym}
-use Rattle.std.proofs.Common.{subst}
 use Rattle.std.proofs.lemmas.Bool.{false≢true}
 use Rattle.std.specs.declared.vec.Vec.{Vec}
 use Rattle.std.specs.declared.boxed.Box.{Box}
 use Rattle.pyfstring.specs.declared.parts.Conversion.{Conversion}
 use Rattle.pytree_node.specs.declared.constants.Constant.{Constant}
-use Rattle.pytree_node.specs.declared.expressions.Expr as given
 use Rattle.pytree_node.specs.declared.expressions.Expr.{Expr}
 use Rattle.pytree_node.specs.declared.expressions.Expr.TheVariants as variant
-use Rattle.pytree_node.specs.declared.expressions.Expr.TheOpen as layer
-use Rattle.pytree_node.specs.declared.expressions.Arg.{Arg}
-use Rattle.pytree_node.specs.declared.expressions.Arguments.{Arguments}
-use Rattle.pytree_node.specs.declared.expressions.Comprehension.{Comprehension}
-use Rattle.pytree_node.specs.declared.expressions.Keyword.{Keyword}
 use Rattle.pytree_node.specs.Values as values
 use Rattle.pytree_node.specs.Trees as plain
 use Rattle.pytree_node.specs.Trees.{Exprs, an_expr, exprs, no_exprs, present}
-use Rattle.pytree_node.specs.TreeOf.{tree_of, arg_of, arguments_of, comprehension_of, keyword_of, expr_step, arg_step, arguments_step}
-use Rattle.pytree_node.specs.TreeOf.{comprehension_step, keyword_step}
+use Rattle.pytree_node.specs.TreeOf.{tree_of}
 use Rattle.pyunparse_text.specs.Pieces.{piece}
 use Rattle.pyunparse_text.specs.Written.{first_text, is_unicode, is_unicode_spec, spec_elements, written}
 use Rattle.pyunparse_text.proofs.Callers.Writing.{not_zero}
+use Rattle.pyunparse_text.proofs.Callers.Trees.{HasShape, has_shape}
 use Rattle.pyunparse.specs.Inner.Values.{value_elements}
 
 -- ---- Expressions.
-
--- one node, whose children are nodes of the program
-abbrev Layer : Type 0
-Layer = layer.Expr-F Expr Arg Arguments Comprehension Keyword
-
--- the node with its children's values in their places
-abbrev valued : Layer → layer.Expr-F plain.Expr plain.Arg plain.Arguments plain.Comprehension plain.Keyword
-valued = given.map-Expr Expr Arg Arguments Comprehension Keyword plain.Expr plain.Arg plain.Arguments plain.Comprehension plain.Keyword
-    tree_of arg_of arguments_of comprehension_of keyword_of
-
-opened : (e : Expr) → tree_of e ≡ expr_step (valued (given.out-Expr e))
-unfolding tree_of arg_of arguments_of comprehension_of keyword_of
-opened = given.fold_out-Expr plain.Expr plain.Arg plain.Arguments plain.Comprehension plain.Keyword
-    expr_step arg_step arguments_step comprehension_step keyword_step
-
--- it has this shape
-abbrev HasShape : plain.Expr → Expr → Type 0
-HasShape (plain.Constant _) e = (value : Constant) × (e ≡ variant.Constant value)
-HasShape (plain.FormattedValue _ _ _) e = (value : Box Expr Global) × (conversion : Conversion) × (spec : Option (Box Expr Global))
-    × (e ≡ variant.FormattedValue value conversion spec)
-HasShape (plain.JoinedStr _) e = (values : Vec Expr Global) × (e ≡ variant.JoinedStr values)
-HasShape _ e = Unit {0}
-
-layer_has_shape : (node : Layer) → HasShape (expr_step (valued node)) (given.roll-Expr node)
-unfolding given.roll-Expr denote.Hole.Carrier.roll
-layer_has_shape (layer.Constant value) = (value, refl)
-layer_has_shape (layer.FormattedValue value conversion spec) = (value, conversion, spec, refl)
-layer_has_shape (layer.JoinedStr values) = (values, refl)
-layer_has_shape _ = tt
-
-has_shape : (e : Expr) → HasShape (tree_of e) e
-has_shape e = subst (λ g. HasShape (tree_of e) g) (given.roll-out-Expr e)
-    (subst (λ t. HasShape t (given.roll-Expr (given.out-Expr e))) (sym (opened e)) (layer_has_shape (given.out-Expr e)))
 
 -- an expression of no such shape
 module _ (e : Expr) where

@@ -1,11 +1,9 @@
 -- Carries: write_dotted, write_module_alias. A name is written point by point.
-use Rattle.std.proofs.Common.{◌≡◌, ◌∙◌, ℕ, ◌+◌, ◌<◌, ◌==◌, Bool, true, false, if◌then◌else◌, List, [], ◌∷◌, ◌++◌, length, get_or, drop}
-use Rattle.std.proofs.Common.{Option, Some, None, refl, ap, sym, subst, arith, append_assoc, length-append}
+use Rattle.std.proofs.Common.{◌≡◌, ◌∙◌, ℕ, ◌==◌, Bool, true, false, if◌then◌else◌, List, [], ◌∷◌, ◌++◌}
+use Rattle.std.proofs.Common.{Option, Some, None, refl, ap, sym, subst, arith}
 use Rattle.std.specs.Prelude.{MatchOption}
 use Rattle.std.specs.Str.{chars, IsUtf8, NoCharPasses, NonePass}
-use Rattle.std.proofs.lemmas.List.{take_at, drop_at, get_or_at}
-use Rattle.std.proofs.lemmas.Str.{chars-append, chars_from_encodes, IsUtf8-take, IsUtf8-drop, IsCharBoundary-before_ascii}
-use Rattle.std.proofs.lemmas.Str.{IsCharBoundary-after_ascii}
+use Rattle.std.proofs.lemmas.Str.{chars_from_encodes}
 use Rattle.std.proofs.lemmas.Str.Pattern.{IsSplitOnceResult, split_parts}
 use denote.Ref.{Bor}
 use Rattle.pylex_lexeme.specs.declared.kinds.Exact.TheVariants.{Dot}
@@ -16,6 +14,7 @@ use Rattle.pygrammar.specs.DottedNames.{lengthen, names_in}
 use Rattle.pyunparse_text.specs.Statements.{dotted, dotted_names, dotted_rest}
 use Rattle.pyunparse_text.specs.Written.{tight}
 use Rattle.pyunparse_text.specs.Folds.{puts, sited_in_utf8}
+use Rattle.pytree_fits.proofs.Callers.Names.{chars_around, sides}
 
 -- ---- The names of a text.
 
@@ -48,27 +47,6 @@ HasNoPoint bs = NoCharPasses (λ c. c == 46) bs
 
 pointless : (bs : List ℕ) → IsUtf8 bs → HasNoPoint bs → NonePass (λ c. c == 46) (chars bs)
 pointless bs u w = subst (NonePass (λ c. c == 46)) (chars_from_encodes w.0 bs u w.1) w.2
-
--- the characters around a point
-chars_around : (part tail : List ℕ) → IsUtf8 part → chars (part ++ (46 ∷ tail)) ≡ chars part ++ (46 ∷ chars tail)
-unfolding chars lib.Utf8.encode
-chars_around part tail u =
-    let point : IsUtf8 (46 ∷ []) = (46 ∷ [], (refl, refl)) in
-    chars-append part (46 ∷ tail) u ∙ ap (λ z. chars part ++ z) (chars-append (46 ∷ []) tail point)
-
--- what stands on both sides of a point is text
-sides : (part tail : List ℕ) → IsUtf8 (part ++ (46 ∷ tail)) → IsUtf8 part × IsUtf8 tail
-sides part tail u =
-    let bs = part ++ (46 ∷ tail) in
-    let at : get_or bs (length part) 0 ≡ 46 = get_or_at part 46 tail 0 (length part) refl in
-    let inside : length part < length bs = simp length-append (omega arith) in
-    let front = IsUtf8-take bs (length part) u (IsCharBoundary-before_ascii bs (length part) inside (omega (arith, at))) in
-    let same : (part ++ (46 ∷ [])) ++ tail ≡ bs = append_assoc part (46 ∷ []) tail in
-    let long : length (part ++ (46 ∷ [])) ≡ length part + 1 = length-append part (46 ∷ []) in
-    let back = IsUtf8-drop bs (length part + 1) u (IsCharBoundary-after_ascii bs (length part) u inside (omega (arith, at))) in (
-      subst IsUtf8 (take_at part (46 ∷ tail) (length part) refl) front,
-      subst IsUtf8 (ap (drop (length part + 1)) (sym same) ∙ drop_at (part ++ (46 ∷ [])) tail (length part + 1) long) back,
-    )
 
 around_point : (close : Bool) (text part tail : List ℕ) → IsUtf8 text → text ≡ part ++ (46 ∷ tail) → HasNoPoint part →
     dotted piece close (chars text) ≡ sited (in_form (chars part)) close false ∷ (tight piece Dot ∷ dotted piece false (chars tail))

@@ -4,6 +4,7 @@ use Rattle.std.proofs.Common.{drop, get_or, replicate, Option, None, refl, ap, s
 use Rattle.std.specs.Str.{encode_utf8_all}
 use Rattle.std.proofs.lemmas.Str.{encodes-append}
 use Rattle.std.proofs.lemmas.Bool.{false≢true}
+use Rattle.std.proofs.lemmas.List.{drop_all}
 use Rattle.pytree_node.specs.declared.statements.Stmt as given_stmt
 use Rattle.pytree_node.specs.Trees
 use Rattle.pytree_node.specs.Trees.{Arguments, Cases, Expr, Identifier, Keywords, Stmts, TypeParam, stmts}
@@ -17,7 +18,7 @@ use Rattle.pyunparse_text.specs.Folds.{puts}
 use Rattle.pyunparse.specs.Inner.Lines.{Blocked, Wrote, def_lines, in_utf8, with_colon}
 use Rattle.pyunparse_text.specs.Writing.{Writing, behind_sited}
 use Rattle.pyunparse_text.proofs.Callers.Writing.{both, level_kept, line_written, not_zero, one}
-use Rattle.pyunparse.proofs.Sequences.MemberLemmas.{dropped, none_left}
+use Rattle.pyunparse.proofs.Sequences.MemberLemmas.{dropped}
 
 blanks_kept : (n : ℕ) → encode_utf8_all (replicate n 32) ≡ replicate n 32
 blanks_kept zero = refl
@@ -153,7 +154,7 @@ module _ {X : Type 0} (base v : Writing) (F : ℕ → List X → List (WrittenLi
 
   pub all_lines : (l : ℕ) → F l [] ≡ [] → (xs : List X) (i : ℕ) → length xs ≤ i → v.text ++ in_utf8 (F l (drop i xs)) ≡ base.text ++ in_utf8
       (F l xs) → v.text ≡ base.text ++ in_utf8 (F l xs)
-  all_lines l nil xs i h so_far = sym (ap (λ z. v.text ++ in_utf8 z) (ap (F l) (none_left xs i h) ∙ nil) ∙ append-nil v.text) ∙ so_far
+  all_lines l nil xs i h so_far = sym (ap (λ z. v.text ++ in_utf8 z) (ap (F l) (drop_all i xs h) ∙ nil) ∙ append-nil v.text) ∙ so_far
 
 -- a clause of no statements, and of some
 pub no_clause : (l : ℕ) (h : Header) (ss : List given_stmt.Stmt) (b : Bool) → b ≡ (length ss == 0) → b ≡ true
