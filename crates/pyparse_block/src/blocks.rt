@@ -33,6 +33,15 @@ impl Blocks {
         }
     }
 
+    /// Lets go of all that is kept.
+    #[cold]
+    #[inline(never)]
+    fn begin_anew(&mut self, alloc: Global)
+        ensures { state_of self.new ≡ start }
+    {
+        self.stack = Stack::new(alloc);
+    }
+
     /// Takes the next line: its level, which is the number of levels above 0 that are open at it,
     /// and its form. After an error it is as it was before the first line.
     ///
@@ -58,7 +67,7 @@ impl Blocks {
         match self.stack.step(alloc, level, form) {
             Ok(()) => Ok(()),
             Err(stop) => {
-                self.stack = Stack::new(alloc);
+                self.begin_anew(alloc);
                 Err(stop)
             }
         }

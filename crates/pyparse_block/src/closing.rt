@@ -24,6 +24,13 @@ pub(crate) fn put(statements: &mut Vec<Stmt>, one: Stmt) -> Result<(), AllocErro
     append(statements, one)
 }
 
+/// Lets go of what isn't kept. It is never inlined, since a function pays at entry for the locals of
+/// what it may drop.
+#[inline(never)]
+pub(crate) fn let_go<T: Drop>(value: T) {
+    drop(value);
+}
+
 /// Statements, and more of them.
 pub(crate) fn put_all(statements: &mut Vec<Stmt>, more: Vec<Stmt>) -> Result<(), AllocError>
     ensures { OnOk result
@@ -31,12 +38,14 @@ pub(crate) fn put_all(statements: &mut Vec<Stmt>, more: Vec<Stmt>) -> Result<(),
         ≡ map stmt_of statements.old.items ++ map stmt_of more.items) }
 {
     let mut more = more;
-    if statements.is_empty() {
+    let put = if statements.is_empty() {
         mem::swap(statements, &mut more);
+        Ok(())
     } else {
-        statements.append(&mut more)?;
-    }
-    Ok(())
+        statements.append(&mut more)
+    };
+    let_go(more);
+    put
 }
 
 /// Puts to the statements of a level those of a group that ends.

@@ -10,7 +10,7 @@ ghost use Rattle.pyparse_block.specs.Inner.Levels.{ended};
 ghost use Rattle.pyparse_block.specs.Inner.Meeting.{is_matching};
 ghost use Rattle.pyparse_block.specs.Values.{group_of, state_of};
 
-use crate::closing::{close, put_all};
+use crate::closing::{close, let_go, put_all};
 use crate::groups::{Group, Part};
 use crate::growing::{grow, grow_match};
 use crate::meeting::{is_matching, mark, meet};
@@ -124,7 +124,13 @@ impl Stack {
         ensures refused { IfErr result
             (Tells (place (state_of self.old) (simple_form (map stmt_of statements.items)))) }
     {
-        close(alloc, &mut self.part)?;
+        match close(alloc, &mut self.part) {
+            Ok(()) => {}
+            Err(stop) => {
+                let_go(statements);
+                return Err(stop);
+            }
+        }
         put_all(&mut self.part.done, statements)?;
         self.fresh = false;
         Ok(())
@@ -198,8 +204,15 @@ impl Stack {
         ensures refused { IfErr result
             (Tells (step (state_of self.old) (line level (form_of form)))) }
     {
-        self.settle(alloc, level)?;
+        match self.settle(alloc, level) {
+            Ok(()) => {}
+            Err(stop) => {
+                let_go(form);
+                return Err(stop);
+            }
+        }
         if level > self.below.len() {
+            let_go(form);
             return Err(BlockStop::Faulty(BlockFault::UnexpectedIndent));
         }
         self.place(alloc, form)
