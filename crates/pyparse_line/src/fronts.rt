@@ -33,6 +33,7 @@ use pytree_node::Profile;
 use std::alloc::Global;
 
 /// A decorator, after its `@`: 8.7 "Function definitions".
+#[inline(never)]
 fn read_decorator<R: Recorder>(
     alloc: Global,
     tokens: &[Terminal],
@@ -129,7 +130,9 @@ fn headed_form(header: ReadHeader, suite: ReadSuite, behind: usize) -> ReadForm
     }
 }
 
-/// A header, its colon, and what stands after it.
+/// A header, its colon, and what stands after it. It is never inlined, since a function pays at entry
+/// for the locals of what it may drop, and most lines have no header.
+#[inline(never)]
 fn read_headed<R: Recorder + Drop>(
     alloc: Global,
     tokens: &[Terminal],
@@ -175,6 +178,7 @@ fn read_simple<R: Recorder>(
 }
 
 /// The header of a case, from after its word on: its colon, and what stands after it.
+#[inline(never)]
 fn read_case<R: Recorder>(
     alloc: Global,
     tokens: &[Terminal],

@@ -53,6 +53,7 @@ pub(crate) fn is_match_line(tokens: &[Terminal], name: &str) -> bool
 }
 
 /// After a `match`: the subject, and the colon.
+#[inline(never)]
 pub(crate) fn match_rest<R: Recorder>(
     alloc: Global,
     tokens: &[Terminal],
