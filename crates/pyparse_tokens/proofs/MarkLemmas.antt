@@ -1,7 +1,7 @@
 -- Carries: mark_entry, mark_lexeme, walk, walk_line, read_line. On: the spans of a line, with one entry more.
 use Rattle.std.proofs.Common.{◌≡◌, ℕ, ◌-◌, Bool, true, false, List, [], ◌∷◌, ◌++◌, length, take, drop, refl, sym, ap, subst, ◌∙◌, arith}
 use Rattle.std.proofs.Common.{append-nil, length-take, length-drop, Option, Some, None}
-use Rattle.std.specs.Prelude.{slice_get, slice_range, if◌then◌else◌}
+use Rattle.std.specs.Prelude.{is_some, slice_get, slice_range, if◌then◌else◌}
 use Rattle.std.specs.List.{flat_map}
 use Rattle.std.specs.Str.{chars, IsUtf8}
 use Rattle.std.proofs.lemmas.Bool.{and_parts}
@@ -40,6 +40,12 @@ use Rattle.pyparse_tokens.proofs.LineGatherLemmas.{Read, none_before, stands_bes
 use Rattle.pyparse_tokens.proofs.LineLemmas.{with_own, line_on}
 use Rattle.pyparse_tokens.proofs.ListingLemmas.{moved, at_entry}
 use Rattle.pyparse_tokens.proofs.WalkLemmas.{Stepped}
+
+-- where nothing is kept, nothing is added
+pub nothing_added : (kept : Option (List Span)) (more : List Span) → is_some kept ≡ false → kept ≡ added kept more
+unfolding added
+nothing_added None more h = refl
+nothing_added (Some before) more h = absurd (cc)
 
 -- ---- An entry.
 

@@ -15,7 +15,7 @@ use std::alloc::{AllocError, Global};
 
 /// The token of an entry, if it stands in a line.
 #[inline(always)]
-#[tactic(auto, using(pyparse_marks::proofs::Callers::Kept::added_none))]
+#[tactic(auto, using(pyparse_marks::proofs::Callers::Kept::added_none, crate::proofs::MarkLemmas::nothing_added))]
 pub(crate) fn mark_entry(
     alloc: Global,
     source: &Source,
@@ -26,7 +26,10 @@ pub(crate) fn mark_entry(
     ensures { OnOk result
         (marks.new ≡ added marks.old (entry_spans (chars source.now.text) entry.now)) }
 {
-    if !marks.are_kept() || !stands_in_line(entry.kind) {
+    if !marks.are_kept() {
+        return Ok(());
+    }
+    if !stands_in_line(entry.kind) {
         return Ok(());
     }
     marks.push(alloc, entry.kind, text_of(source, entry), entry.from)
@@ -34,7 +37,7 @@ pub(crate) fn mark_entry(
 
 /// The token of a lexeme that ends at an offset, if it is one.
 #[inline(always)]
-#[tactic(auto, using(pyparse_marks::proofs::Callers::Kept::added_none))]
+#[tactic(auto, using(pyparse_marks::proofs::Callers::Kept::added_none, crate::proofs::MarkLemmas::nothing_added))]
 pub(crate) fn mark_lexeme(
     alloc: Global,
     class: Class,
