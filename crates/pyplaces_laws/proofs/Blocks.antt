@@ -1,6 +1,6 @@
 -- Each block of an accepted source is laid out: by recursion on the derivation.
 --
--- Carries: block_in, laid_out, for Law. On: Together.
+-- Carries: block_in, laid_out, for Law; lists and clauses for LaminarBlocks. On: Together.
 use Rattle.std.proofs.Common.{◌≡◌, refl, sym, subst, ℕ, ◌+◌, ◌≤◌, arith, Bool, false, List, [], ◌∷◌, ◌++◌, append_assoc, length}
 use Rattle.std.proofs.Common.{take, drop, Option, Some}
 use Rattle.pytree_node.specs.declared.profiles.Profile.{Profile}
@@ -14,7 +14,7 @@ use Rattle.pyplaces.specs.Stretches.{Span}
 use Rattle.pyplaces.specs.BlockPlaces.{LinePlaces, ending, own, block_places, statement_places, definition_places, final_places}
 use Rattle.pyplaces.specs.BlockPlaces.{body_places, alternative_places, otherwise_places, handlers_places, cases_places, ending_places}
 use Rattle.pyplaces_laws.specs.Spans.{AllLieBetween}
-use Rattle.pyplaces_laws.specs.EachBlock.{HandlersLie, InBlock, InStatement, OfBody, OfHeaded, OfAlternative, OfOtherwise, OfHandlers}
+use Rattle.pyplaces_laws.specs.EachBlock.{HandlersLie, CasesLie, InBlock, InStatement, OfBody, OfHeaded, OfAlternative, OfOtherwise, OfHandlers}
 use Rattle.pyplaces_laws.specs.EachBlock.{OfCases, OfEnding}
 use Rattle.pyplaces_laws.specs.Laws.{IsLaidOut}
 use Rattle.pyplaces.proofs.Laws.Blocks.{count_statement, count_alternative}
@@ -28,10 +28,10 @@ pub laid_out : {profile : Profile} {lo hi : ℕ} {ss : List Stmt} {ps : List Spa
     → IsLaidOut profile ss ps
 laid_out {profile} {lo} {hi} r = let l = r.laid in record { rooted = l.rooted; from = lo; to = hi; order = l.order }
 
-two : (as_ bs cs : List Span) → as_ ++ (bs ++ cs) ≡ (as_ ++ bs) ++ cs
+pub two : (as_ bs cs : List Span) → as_ ++ (bs ++ cs) ≡ (as_ ++ bs) ++ cs
 two as_ bs cs = sym (append_assoc as_ bs cs)
 
-four : (as_ bs cs ds es : List Span) → as_ ++ (bs ++ (cs ++ (ds ++ es))) ≡ (as_ ++ (bs ++ (cs ++ ds))) ++ es
+pub four : (as_ bs cs ds es : List Span) → as_ ++ (bs ++ (cs ++ (ds ++ es))) ≡ (as_ ++ (bs ++ (cs ++ ds))) ++ es
 four as_ bs cs ds es = simp append_assoc refl
 
 -- statements that stand in the line of their header
@@ -39,18 +39,24 @@ suite_laid : {profile : Profile} {x : Header} {ss : List Stmt} {z : LinePlaces} 
     → IsLaidOut profile ss z.suite
 suite_laid {z = z} l = record { rooted = l.rooted; from = z.whole.start; to = z.whole.stop; order = l.order }
 
--- ---- Handlers.
+-- ---- Handlers and cases.
 
-record HandlersIn (lo hi : ℕ) (ps : List Span) (I H : Type 0) : Type 0 where
+record ClausesIn (lo hi : ℕ) (ps : List Span) (I O : Type 0) : Type 0 where
   lies : In lo hi ps
   inside : I
-  order : H
+  order : O
 
 handlers_lower : {l : ℕ} {star : Bool} {xs : List Line} {hs : List Handler} (low lo hi : ℕ) (zs : List LinePlaces)
     (e : B.Excepts l star xs hs) → low ≤ lo → HandlersLie lo zs e hi → HandlersLie low zs e hi
 handlers_lower low lo hi zs B.no_except a h = omega (arith, a, h)
 handlers_lower low lo hi [] (B.except_clause b e) a h = omega (arith, a, h)
 handlers_lower low lo hi (z ∷ zs) (B.except_clause b e) a h = (omega (arith, a, h.0), h.1, h.2, h.3)
+
+cases_lower : {l : ℕ} {xs : List Line} {cs : List Case} (low lo hi : ℕ) (zs : List LinePlaces) (e : B.Cases l xs cs) → low ≤ lo
+    → CasesLie lo zs e hi → CasesLie low zs e hi
+cases_lower low lo hi zs B.no_case a h = omega (arith, a, h)
+cases_lower low lo hi [] (B.case_clause b e) a h = omega (arith, a, h)
+cases_lower low lo hi (z ∷ zs) (B.case_clause b e) a h = (omega (arith, a, h.0), h.1, h.2, h.3)
 
 -- ---- A definition's body, behind its header.
 
@@ -59,7 +65,7 @@ headed : (profile : Profile) {l : ℕ} {suite : Option (List Stmt)} {xs : List L
 headed profile z zs B.inline i = i
 headed profile z zs (B.indented b) i = i
 
-some_line : {profile : Profile} {lo hi : ℕ} (ds : List Line) (x : Line) (xs : List Line) → LinesLie profile lo (ds ++ (x ∷ xs)) [] hi → ⊥
+pub some_line : {profile : Profile} {lo hi : ℕ} (ds : List Line) (x : Line) (xs : List Line) → LinesLie profile lo (ds ++ (x ∷ xs)) [] hi → ⊥
 some_line [] x xs o = elim o [ ]
 some_line (d ∷ ds) x xs o = elim o [ ]
 
@@ -76,7 +82,7 @@ definition_in top d b g [] k p c = elim k.lie [ ]
 definition_in top d b g (w ∷ ws) k p c = let h = head k in defined top d b g h (p w ws h.line_lies h.others) c
 
 -- a clause, up to where the last of its own lines ends
-clause : {profile : Profile} {lo hi mid : ℕ} {f : Form} {xs ys : List Line} {z : LinePlaces} {ws zs : List LinePlaces}
+pub clause : {profile : Profile} {lo hi mid : ℕ} {f : Form} {xs ys : List Line} {z : LinePlaces} {ws zs : List LinePlaces}
     → Head profile lo f ys z zs hi → Given profile z.whole.stop xs ws mid → Head profile lo f xs z ws mid
 clause h g = one_head h.line_lies h.begins g
 
@@ -204,10 +210,12 @@ mutual
   statement_in {profile} {zs = z ∷ zs} (B.match_statement {subject = subject} {cs = cs} e) g =
       let h = head g in
       let l = h.line_lies in
+      let o = ending z.whole.start (z ∷ zs) in
       let p = cases_in e h.others in
       let c = count_statement (B.match_statement {subject = subject} e) g.counted in
       compound (Match subject (cases cs)) h (two z.before (cases_places zs e) (own z zs))
-      (wide (before_in l) (omega arith) h.last ⊕ wide p.lies l.forward (omega arith)) c.is refl p.inside
+      (wide (before_in l) (omega arith) h.last ⊕ wide p.lies l.forward (omega arith)) c.is refl
+      (p.inside, (z.whole.stop, o.stop, p.order))
   statement_in {profile} {l = l} {zs = []} (B.definition_of top {suite = suite} {ds = ds} {xs = xs} d b) g =
       elim (some_line ds (line l (header_form (def_header top) suite)) xs g.lie) [ ]
   statement_in {profile} {l = l} {zs = z ∷ zs} (B.definition_of top {suite = suite} {ds = ds} {xs = xs} {es = es} {body = body} d b) g =
@@ -271,7 +279,7 @@ mutual
 
   handlers_in : {profile : Profile} {l lo hi : ℕ} {star : Bool} {xs : List Line} {hs : List Handler} {zs : List LinePlaces}
       (e : B.Excepts l star xs hs) → Given profile lo xs zs hi
-      → HandlersIn lo hi (handlers_places zs e) (OfHandlers (IsLaidOut profile) zs e) (HandlersLie lo zs e hi)
+      → ClausesIn lo hi (handlers_places zs e) (OfHandlers (IsLaidOut profile) zs e) (HandlersLie lo zs e hi)
   handlers_in B.no_except g = record { lies = nothing; inside = tt; order = reaches g.lie }
   handlers_in {zs = []} (B.except_clause b e) g = elim g.lie [ ]
   handlers_in {profile} {lo = lo} {hi = hi} {zs = z ∷ zs} (B.except_clause {xs = xs} {ys = ys} b e) g =
@@ -301,23 +309,32 @@ mutual
       }
 
   cases_in : {profile : Profile} {l lo hi : ℕ} {xs : List Line} {cs : List Case} {zs : List LinePlaces} (e : B.Cases l xs cs)
-      → Given profile lo xs zs hi → BodyIn lo hi (cases_places zs e) (OfCases (IsLaidOut profile) zs e)
-  cases_in B.no_case g = record { lies = nothing; inside = tt }
+      → Given profile lo xs zs hi
+      → ClausesIn lo hi (cases_places zs e) (OfCases (IsLaidOut profile) zs e) (CasesLie lo zs e hi)
+  cases_in B.no_case g = record { lies = nothing; inside = tt; order = reaches g.lie }
   cases_in {zs = []} (B.case_clause b e) g = elim g.lie [ ]
-  cases_in {zs = z ∷ zs} (B.case_clause {xs = xs} {ys = ys} b e) g =
+  cases_in {profile} {lo = lo} {hi = hi} {zs = z ∷ zs} (B.case_clause {xs = xs} {ys = ys} b e) g =
       let h = head g in
       let a = h.line_lies in
       let r = split xs ys h.all in
-      let one = r.first in
+      let one = clause h r.first in
       let two = r.others in
-      let mid = reaches one.lie in
       let high = reaches two.lie in
-      let p = body_in b z (take (length xs) zs) a one in
-      let q = cases_in e two in
+      let more = cases_in e two in
+      let p = body_in b z (take (length xs) zs) a one.others in
+      let o = ending z.whole.start (z ∷ take (length xs) zs) in
+      let held = wide (before_in a) (omega arith) one.last ⊕ p.lies in
       record {
-        lies = wide (before_in a) h.begins (omega (arith, mid, high)) ⊕ (wide p.lies h.begins high
-            ⊕ wide q.lies (omega (arith, h.begins, a.forward, mid)) (omega arith));
-        inside = (p.inside, q.inside);
+        lies = wide (before_in a) h.begins (omega (arith, one.last, one.ends, high))
+            ⊕ (wide p.lies h.begins (omega (arith, one.ends, high))
+            ⊕ wide more.lies (omega (arith, h.begins, a.forward, one.last, one.ends)) (omega arith));
+        inside = (p.inside, more.inside);
+        order = (
+          omega (arith, one.start, h.begins),
+          omega (arith, one.start, one.last, a.forward),
+          subst (λ n. AllLieBetween n o.stop (z.before ++ body_places z (take (length xs) zs) b)) (sym one.start) held.are,
+          cases_lower o.stop r.middle hi (drop (length xs) zs) e one.ends more.order,
+        );
       }
 
   ending_in : {profile : Profile} {l lo hi : ℕ} {xs : List Line} {ss : List Stmt} {zs : List LinePlaces} (f : B.Ending l xs ss)

@@ -120,7 +120,7 @@ fills_both {a} {b} {c} {d} {ss = ss} {rs = rs} f g h =
 
 -- ---- The span behind so many.
 
-behind_lies : (lo hi : ℕ) (ss : List Span) (i : ℕ) → i < length ss → AllLieBetween lo hi ss → LiesBetween lo hi (span_behind i ss)
+pub behind_lies : (lo hi : ℕ) (ss : List Span) (i : ℕ) → i < length ss → AllLieBetween lo hi ss → LiesBetween lo hi (span_behind i ss)
 behind_lies lo hi [] i l h = absurd (omega (arith, l))
 behind_lies lo hi (s ∷ ss) zero l h = h.0
 behind_lies lo hi (s ∷ ss) (suc i) l h = behind_lies lo hi ss i (omega (arith, l)) h.1

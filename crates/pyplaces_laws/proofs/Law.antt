@@ -1,14 +1,17 @@
 -- The laws.
-use Rattle.std.proofs.Common.{[]}
+use Rattle.std.proofs.Common.{[], inl, inr}
 use Rattle.pylex_lexeme.specs.Chars.{bytes_in}
 use Rattle.pytoken.specs.Tokens.{lines}
 use Rattle.pyparse_marks.specs.LineSpans.{line_spans}
 use Rattle.pyplaces.proofs.Laws.Law.{places_are_lawful}
-use Rattle.pyplaces_laws.specs.Laws.{LinesAreInOrder, StatementsAreInOrder, BlocksAreLaidOut, SourcePlacesAreLawful}
+use Rattle.pyplaces_laws.specs.Laws.{LinesAreInOrder, StatementsAreInOrder, BlocksAreLaidOut, PlacesAreClear, SourcePlacesAreLawful}
+use Rattle.pyplaces_laws.specs.Laminar.{AreClearIn}
 use Rattle.pyplaces_laws.proofs.TokenLines.{lines_in}
 use Rattle.pyplaces.proofs.Laws.Blocks.{count_formed}
 use Rattle.pyplaces_laws.proofs.Lines.{in_order, lines_lie}
 use Rattle.pyplaces_laws.proofs.Blocks.{block_in, laid_out}
+use Rattle.pyplaces_laws.proofs.LaminarBlocks.{laminar_block}
+use Rattle.pyplaces_laws.proofs.LaminarLines.{lines_laminar}
 
 lines_are_in_order : LinesAreInOrder
 lines_are_in_order profile s m a good =
@@ -25,5 +28,19 @@ blocks_are_laid_out profile s m a good =
     let r = block_in a.block (record { lie = lie; counted = count_formed (line_spans s.text) a.formed }) in
     (laid_out r, r.inside)
 
+places_are_clear : PlacesAreClear
+places_are_clear profile s m a good p q c d =
+    let tokens = lines_in profile.extent s good a.clear in
+    let lie = lines_lie s.text 0 (bytes_in s.text) a.formed tokens in
+    let R = AreClearIn (line_spans s.text) a.formed in
+    let each = lines_laminar R (λ s t h. inl h) s.text 0 (bytes_in s.text) a.formed tokens (λ s t h. inr h) in
+    let all = laminar_block R (λ s t h. inl h) a.block (record { lie = lie; counted = count_formed (line_spans s.text) a.formed }) each in
+    all.are p q c d
+
 pub source_places_are_lawful : SourcePlacesAreLawful
-source_places_are_lawful = record { lines = lines_are_in_order; statements = statements_are_in_order; blocks = blocks_are_laid_out }
+source_places_are_lawful = record {
+  lines = lines_are_in_order;
+  statements = statements_are_in_order;
+  blocks = blocks_are_laid_out;
+  clear = places_are_clear;
+}

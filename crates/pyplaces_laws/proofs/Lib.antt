@@ -10,4 +10,7 @@ mod Simples
 mod Lines
 mod Together
 mod Blocks
+mod Laminar
+mod LaminarBlocks
+mod LaminarLines
 mod Law

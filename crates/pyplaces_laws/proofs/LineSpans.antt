@@ -31,7 +31,7 @@ spans_in text ts = flat_map (spans_of text) ts
 
 -- ---- As many spans as terminals.
 
-one_length : (text : List ℕ) (t : Token) → IsSound t → length (spans_of text t) ≡ length (terminals_of t.kind t.text)
+pub one_length : (text : List ℕ) (t : Token) → IsSound t → length (spans_of text t) ≡ length (terminals_of t.kind t.text)
 unfolding token_spans terminals_by
 one_length text t sound = by t.kind t.start t.text sound
   where
@@ -103,7 +103,7 @@ filled text lo t (u ∷ ts) hi h =
 
 -- ---- Parts of a line.
 
-split_in : (text : List ℕ) (lo : ℕ) (ts us : List Token) (hi : ℕ) → TokensIn text lo (ts ++ us) hi
+pub split_in : (text : List ℕ) (lo : ℕ) (ts us : List Token) (hi : ℕ) → TokensIn text lo (ts ++ us) hi
     → (mid : ℕ) × TokensIn text lo ts mid × TokensIn text mid us hi
 split_in text lo [] us hi h = (lo, omega arith, h)
 split_in text lo (t ∷ ts) us hi h = let r = split_in text (end_of text t) ts us hi h.2 in (r.0, (h.0, h.1, r.1), r.2)

@@ -22,6 +22,15 @@ HandlersLie lo (z ∷ zs) (B.except_clause {xs = xs} b h) hi =
     (lo ≤ own.start) × (own.start ≤ own.stop) × AllLieBetween own.start own.stop (z.before ++ body_places z (take (length xs) zs) b)
     × HandlersLie own.stop (drop (length xs) zs) h hi
 
+-- A case has no span: what is in it stands between where its line begins and where its last line ends, and the next begins behind that.
+abbrev pub CasesLie : {l : ℕ} {xs : List Line} {cs : List Case} → ℕ → List LinePlaces → B.Cases l xs cs → ℕ → Type 0
+CasesLie lo zs B.no_case hi = lo ≤ hi
+CasesLie lo [] (B.case_clause b c) hi = lo ≤ hi
+CasesLie lo (z ∷ zs) (B.case_clause {xs = xs} b c) hi =
+    let all = ending z.whole.start (z ∷ take (length xs) zs) in
+    (lo ≤ all.start) × (all.start ≤ all.stop) × AllLieBetween all.start all.stop (z.before ++ body_places z (take (length xs) zs) b)
+    × CasesLie all.stop (drop (length xs) zs) c hi
+
 abbrev mutual
   pub InBlock : {l : ℕ} {xs : List Line} {ss : List Stmt} → Law → List LinePlaces → B.Block l xs ss → Type 0
   InBlock P zs B.nothing = Unit {0}
@@ -41,7 +50,7 @@ abbrev mutual
       × ((lo : ℕ) × (hi : ℕ) × HandlersLie lo (take (length ys) behind) h hi)
       × OfOtherwise P (take (length more) last) o × OfEnding P (drop (length more) last) f
   InStatement P (z ∷ zs) (B.definition_of head {ds = ds} d b) = OfHeaded P (drop (length ds) (z ∷ zs)) b
-  InStatement P (z ∷ zs) (B.match_statement c) = OfCases P zs c
+  InStatement P (z ∷ zs) (B.match_statement c) = OfCases P zs c × ((lo : ℕ) × (hi : ℕ) × CasesLie lo zs c hi)
 
   -- of a body, and of the blocks inside it
   pub OfBody : {l : ℕ} {suite : Option (List Stmt)} {xs : List Line} {ss : List Stmt} → Law → LinePlaces → List LinePlaces

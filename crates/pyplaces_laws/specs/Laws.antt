@@ -11,6 +11,7 @@ use Rattle.pygrammar.specs.Refusals.{Accepted}
 use Rattle.pyplaces.specs.ModulePlaces.{formed_places, source_places}
 use Rattle.pyplaces.specs.Laws.{AreInOrder, LinesInOrder, statement_spans}
 use Rattle.pyplaces_laws.specs.EachBlock.{InBlock}
+use Rattle.pyplaces_laws.specs.Laminar.{IsAmong, AreClearIn}
 use Rattle.pyplaces_laws.specs.Nesting.{AllHoldTheirParts}
 
 -- each line ends before the next begins, and so do the statements in a line
@@ -36,7 +37,15 @@ BlocksAreLaidOut = (profile : Profile) (s : Source) (m : Module) (a : Accepted p
     → IsLaidOut profile m.body (source_places a)
     × InBlock (IsLaidOut profile) (formed_places (line_spans s.text) a.formed) a.block
 
+-- Of any two spans one holds the other, or one ends no later than the other begins: but of two of one line that both begin or end within an
+-- f-string (of whose terminals pyplaces says it).
+abbrev pub PlacesAreClear : Type 0
+PlacesAreClear = (profile : Profile) (s : Source) (m : Module) (a : Accepted profile s m) → all_scalars s.text ≡ true → (p q : Span)
+    → IsAmong p (source_places a) → IsAmong q (source_places a)
+    → AreClearIn (line_spans s.text) a.formed p q
+
 pub record SourcePlacesAreLawful : Type 0 where
   pub lines : LinesAreInOrder
   pub statements : StatementsAreInOrder
   pub blocks : BlocksAreLaidOut
+  pub clear : PlacesAreClear

@@ -1,4 +1,5 @@
 pub mod Spans
+pub mod Laminar
 pub mod Nesting
 pub mod EachBlock
 pub mod Laws
