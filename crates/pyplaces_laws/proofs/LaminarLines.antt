@@ -3,8 +3,8 @@
 -- Carries: lines_laminar, for Law. On: LaminarBlocks, LineSpans.
 use Rattle.std.proofs.Common.{◌≡◌, ◌⊎◌, inl, inr, refl, sym, ap, ◌∙◌, subst, ℕ, zero, suc, ◌+◌, ◌-◌, ◌<◌, ◌≤◌, arith, Bool, true, false}
 use Rattle.std.proofs.Common.{List, [], ◌∷◌, ◌++◌, append-nil, length, length-append}
-use Rattle.std.specs.Prelude.{◌&&◌, ◌||◌, nat_le, if◌then◌else◌}
-use Rattle.std.proofs.lemmas.Bool.{leb-true, le-leb}
+use Rattle.std.specs.Prelude.{nat_le, if◌then◌else◌}
+use Rattle.std.proofs.lemmas.Bool.{and_from, and_parts, leb-true, le-leb, or_parts}
 use Rattle.std.proofs.lemmas.List.{map-append}
 use Rattle.std.proofs.lemmas.Grind.{flat_map-append}
 use Rattle.pylex.specs.declared.kind.Kind.{Kind}
@@ -44,16 +44,12 @@ record Front (ts : List Token) (n : ℕ) : Type 0 where
   is : ts ≡ front ++ back
   size : length (terminals_in front) ≡ n
 
-both_true : (a b : Bool) → (a && b) ≡ true → (a ≡ true) × (b ≡ true)
-both_true true b e = (refl, e)
-both_true false b e = absurd cc
-
 front_of : (ts : List Token) (n : ℕ) → are_whole ts n ≡ true → Front ts n
 front_of ts zero e = record { front = []; back = ts; is = refl; size = refl }
 front_of [] (suc n) e = absurd cc
 front_of (t ∷ ts) (suc n) e =
     let own = terminals_of t.kind t.text in
-    let h = both_true (nat_le (length own) (suc n)) (are_whole ts (suc n - length own)) e in
+    let h = and_parts (nat_le (length own) (suc n)) (are_whole ts (suc n - length own)) e in
     let r = front_of ts (suc n - length own) h.1 in
     record {
       front = t ∷ r.front;
@@ -75,25 +71,17 @@ one_span at k t e = by (is_fstring k t) e
     by true e = absurd cc
     by false e = refl
 
-neither : (a b : Bool) → (a || b) ≡ false → (a ≡ false) × (b ≡ false)
-neither true b e = absurd cc
-neither false b e = (refl, e)
-
-and_both : (a b : Bool) → a ≡ true → b ≡ true → (a && b) ≡ true
-and_both true b d e = e
-and_both false b d e = absurd cc
-
 plain_whole : (text : List ℕ) (ts : List Token) → AreSound ts → has_fstring ts ≡ false → (n : ℕ) → n ≤ length (terminals_in ts)
     → are_whole ts n ≡ true
 plain_whole text ts h e zero l = refl
 plain_whole text [] h e (suc n) l = absurd (omega (arith, l))
 plain_whole text (t ∷ ts) h e (suc n) l =
     let own = terminals_of t.kind t.text in
-    let both = neither (is_fstring t.kind t.text) (has_fstring ts) e in
+    let both = or_parts (is_fstring t.kind t.text) (has_fstring ts) e in
     let one : length own ≡ 1 = sym (one_length text t h.0) ∙ one_span (begin_of text t) t.kind t.text both.0 in
     let size = length-append own (terminals_in ts) in
     let rest = plain_whole text ts h.1 both.1 (suc n - length own) (omega (arith, l, one, size)) in
-    and_both (nat_le (length own) (suc n)) (are_whole ts (suc n - length own)) (le-leb (length own) (suc n) (omega (arith, one))) rest
+    and_from (nat_le (length own) (suc n)) (are_whole ts (suc n - length own)) (le-leb (length own) (suc n) (omega (arith, one))) rest
 
 -- ---- Spans in two parts, of which the second begins where a token does.
 
@@ -262,7 +250,7 @@ line_laminar {profile} {inside} {f} text lo xs hi d h p q c e =
     whole : (s t : Stretch) → Law.Contains s rs → Law.Contains t rs → is_of_tokens xs s ≡ true
         → AreClearSpans (span_of ss s) (span_of ss t)
     whole s t c d0 e =
-        let w = both_true (are_whole xs s.first) (are_whole xs s.behind) e in
+        let w = and_parts (are_whole xs s.first) (are_whole xs s.behind) e in
         clear_in_bytes (length (terminals_in xs)) ss runs size s t (one s c) (one t d0) (is_parted text lo xs hi s.first h w.0)
         (is_parted text lo xs hi s.behind h w.1) (places_are_lawful.apart profile inside (terminals_in xs) f d s t c d0)
 
@@ -270,7 +258,7 @@ line_laminar {profile} {inside} {f} text lo xs hi d h p q c e =
     plain s c e =
         let w = one s c in
         let sound = are_sound text lo xs hi h in
-        and_both (are_whole xs s.first) (are_whole xs s.behind) (plain_whole text xs sound e s.first (omega (arith, w.some, w.ends)))
+        and_from (are_whole xs s.first) (are_whole xs s.behind) (plain_whole text xs sound e s.first (omega (arith, w.some, w.ends)))
         (plain_whole text xs sound e s.behind w.ends)
 
     as_given : (a : PlaceOf ss rs p) (b : PlaceOf ss rs q) → AreClearSpans (span_of ss a.place) (span_of ss b.place) → AreClearSpans p q
