@@ -57,4 +57,6 @@ fn lines_with_an_fstring(rt: HostRuntime) {
         stand(&rt, alloc, &mut lines, &mut marks, spans, text);
     }
     same(&rt, &lines.next_marked(&mut marks), &Ok(false), text);
+    same(&rt, &marks.are_kept(), &true, text);
+    same(&rt, &Marks::none().are_kept(), &false, text);
 }
