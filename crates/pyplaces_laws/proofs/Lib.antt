@@ -13,4 +13,4 @@ mod Blocks
 mod Laminar
 mod LaminarBlocks
 mod LaminarLines
-mod Law
+pub mod Law

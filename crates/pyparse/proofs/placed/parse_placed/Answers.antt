@@ -86,7 +86,7 @@ loop-progress-preserved c =
     c.in_ok-take.ensures old.given (subst (λ (p : Parts). HoldsLine (in_characters p) old.given new) same held)
     (subst (λ (p : Parts). (x : Line) → slice_get (lines (in_characters p)) old.given ≡ Some x
     → map told c.as_slice.result.now ≡ line_spans (in_characters p).text x) same
-    (λ x stands. c.as_slice.ensures (line_spans text x) (spans x stands)))
+    (λ x stands. c.as_slice.ensures.kept (line_spans text x) (spans x stands)))
     (subst (λ (p : Parts). IsPlaced profile (in_characters p) old.given c.loop-progress.progress) (sym source)
     c.loop-progress.invariant.placed)
     in
