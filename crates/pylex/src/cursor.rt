@@ -38,6 +38,16 @@ pub enum CursorFault {
     Memory,
 }
 
+impl From<AllocError> for CursorFault {
+    ghost use Rattle.pylex.specs.declared.cursor.CursorFault.TheVariants.{Memory};
+
+    ghost from_gives = { λ error r. r ≡ Memory };
+
+    fn from(_error: AllocError) -> CursorFault {
+        CursorFault::Memory
+    }
+}
+
 /// What is kept of a listing after its first entries, so that it can resume after them.
 ///
 /// All but the counts of entries speak of the point after the last given entry that has text in

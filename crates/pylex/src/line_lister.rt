@@ -179,6 +179,17 @@ pub enum ResumeFault {
     AnotherSource,
 }
 
+impl From<AllocError> for ResumeFault {
+    ghost use Rattle.pylex.specs.declared.line_lister.ResumeFault.TheVariants.{Stream};
+    ghost use Rattle.pysource.specs.declared.line_reader.StreamFault.TheVariants.{Memory};
+
+    ghost from_gives = { λ error r. r ≡ Stream Memory };
+
+    fn from(_error: AllocError) -> ResumeFault {
+        ResumeFault::Stream(StreamFault::Memory)
+    }
+}
+
 /// Why a lister can't resume after a cursor, where its source's listing ends before.
 fn ended_before(step: Step) -> ResumeFault
     ensures { IsEndedBy step result }
@@ -257,9 +268,7 @@ impl LineLister {
     {
         let mut lister = LineLister::new(alloc, reader).map_err(ResumeFault::Stream)?;
         for _given in 0..cursor.given() {
-            let Ok(step) = lister.next(reader) else {
-                return Err(ResumeFault::Stream(StreamFault::Memory));
-            };
+            let step = lister.next(reader)?;
             let Step::Entry(_) = step else {
                 return Err(ended_before(step));
             };

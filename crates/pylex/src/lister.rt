@@ -213,9 +213,7 @@ impl<'a> Lister<'a> {
     {
         let mut lister = Lister::new(alloc, source);
         for _given in 0..cursor.given() {
-            let Ok(step) = lister.next() else {
-                return Err(CursorFault::Memory);
-            };
+            let step = lister.next()?;
             let Step::Entry(_) = step else {
                 return Err(CursorFault::AnotherSource);
             };

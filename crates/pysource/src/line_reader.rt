@@ -56,6 +56,16 @@ pub enum StreamFault {
     Memory,
 }
 
+impl From<AllocError> for StreamFault {
+    ghost use Rattle.pysource.specs.declared.line_reader.StreamFault.TheVariants.{Memory};
+
+    ghost from_gives = { λ error r. r ≡ Memory };
+
+    fn from(_error: AllocError) -> StreamFault {
+        StreamFault::Memory
+    }
+}
+
 impl From<SourceFault> for StreamFault {
     ghost from_gives = { λ fault result. result ≡ of_source fault };
 
@@ -159,10 +169,9 @@ fn head_line<R: ByteIn>(
     ensures within { intake.new.count ≤ source_limit }
     ensures found { FoundHead start intake.old intake.new result }
 {
-    match intake.line_end(reader, start) {
-        Err(_) => Err(StreamFault::Memory),
-        Ok(Some(end)) => Ok(end),
-        Ok(None) => match intake.reach {
+    match intake.line_end(reader, start)? {
+        Some(end) => Ok(end),
+        None => match intake.reach {
             Reach::End => Ok(intake.buffer.bytes().len()),
             _ => Err(StreamFault::Read),
         },

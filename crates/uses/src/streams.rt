@@ -19,16 +19,12 @@ pub fn first_comment<R: ByteIn + Drop>(
 {
     let mut lister = StreamLister::new(alloc, reader)?;
     loop {
-        let Ok(step) = lister.next() else {
-            return Err(StreamFault::Memory);
-        };
+        let step = lister.next()?;
         let Step::Entry(entry) = step else {
             return Ok(None);
         };
         if entry.kind == Kind::Comment {
-            let Ok(comment) = String::from_str(alloc, lister.text(&entry)) else {
-                return Err(StreamFault::Memory);
-            };
+            let comment = String::from_str(alloc, lister.text(&entry))?;
             return Ok(Some(comment));
         }
     }

@@ -25,7 +25,8 @@ returns-clause-comes c = λ levels.
     let back = c.in-Some.left.now in
     let cuts = c.in-Some.ensures.cuts in
     nothing_found levels p (chars text) p p c.pass_spaces.new.self text front back Blanks (stays_there levels p (chars text))
-    (settles_same levels p (chars text) (blanks_due text front back p.margin cuts)) cuts (λ ls. blanks_give (with_levels p ls) (chars front))
+    (settles_same levels p (chars text) (blanks_due text front back p.margin cuts)) cuts
+    (λ ls. blanks_give (with_levels p ls) (chars front))
     c.pass_spaces.ensures.passed
 
 pub returns-clause-stands : goal.returns-clause-stands

@@ -45,7 +45,8 @@ returns-then-is_at_start-clause-steps c =
     (c.is_at_start.ensures.start c.if-is_at_start.true) c.begin.ensures.entry).leads)
 
 pub look_on-self-inside-requires-clause-place : goal.look_on-self-inside-requires-clause-place
-look_on-self-inside-requires-clause-place c = has_place c.self.inside.source.now c.self.inside.machine c.self.inside.left.now c.self.invariant
+look_on-self-inside-requires-clause-place c = has_place c.self.inside.source.now c.self.inside.machine
+    c.self.inside.left.now c.self.invariant
 
 -- the lister stands where it stood, and has looked on
 looked : (source : Parts) (p q r : Machine) (from to : List ℕ) → Holds source p from → 0 < p.given → LooksOn p from q to → r ≡ q
@@ -61,7 +62,8 @@ step_on-requires-clause-some c =
 
 pub step_on-requires-clause-place : goal.step_on-requires-clause-place
 step_on-requires-clause-place c = has_place c.self.inside.source.now c.look_on-self-inside.new.self c.look_on-self-inside.result.now
-    (keeps_look c.self.inside.source.now c.self.inside.machine c.look_on-self-inside.new.self c.self.inside.left.now c.look_on-self-inside.result.now
+    (keeps_look c.self.inside.source.now c.self.inside.machine c.look_on-self-inside.new.self c.self.inside.left.now
+    c.look_on-self-inside.result.now
     c.self.invariant (c.is_at_start.ensures.behind c.if-is_at_start.false) c.look_on-self-inside.ensures)
 
 pub step_on-requires-clause-stands : goal.step_on-requires-clause-stands
@@ -72,8 +74,10 @@ invariant_of-self-in-Some c =
     let source = c.self.inside.source.now in
     let from = c.self.inside.left.now in
     let some = c.is_at_start.ensures.behind c.if-is_at_start.false in
-    let keeps = keeps_look source c.self.inside.machine c.look_on-self-inside.new.self from c.look_on-self-inside.result.now c.self.invariant some c.look_on-self-inside.ensures in
-    (entry_passed source c.look_on-self-inside.new.self c.step_on.new.self c.look_on-self-inside.result.now c.in-Some.left.now c.in-Some.entry keeps
+    let keeps = keeps_look source c.self.inside.machine c.look_on-self-inside.new.self from c.look_on-self-inside.result.now
+    c.self.invariant some c.look_on-self-inside.ensures in
+    (entry_passed source c.look_on-self-inside.new.self c.step_on.new.self c.look_on-self-inside.result.now
+    c.in-Some.left.now c.in-Some.entry keeps
     c.in-Some.ensures.some).1
 
 pub returns-in-Some-clause-steps : goal.returns-in-Some-clause-steps
@@ -81,9 +85,11 @@ returns-in-Some-clause-steps c =
     let source = c.self.inside.source.now in
     let from = c.self.inside.left.now in
     let some = c.is_at_start.ensures.behind c.if-is_at_start.false in
-    let keeps = keeps_look source c.self.inside.machine c.look_on-self-inside.new.self from c.look_on-self-inside.result.now c.self.invariant some c.look_on-self-inside.ensures in
+    let keeps = keeps_look source c.self.inside.machine c.look_on-self-inside.new.self from c.look_on-self-inside.result.now
+    c.self.invariant some c.look_on-self-inside.ensures in
     seen _ _ _ _ (ap (listed source) c.look_on-self-inside.ensures.rest ∙ c.self.view_is)
-    (entry_passed source c.look_on-self-inside.new.self c.step_on.new.self c.look_on-self-inside.result.now c.in-Some.left.now c.in-Some.entry keeps
+    (entry_passed source c.look_on-self-inside.new.self c.step_on.new.self c.look_on-self-inside.result.now
+    c.in-Some.left.now c.in-Some.entry keeps
     c.in-Some.ensures.some).0
 
 pub returns-in-Some-clause-given : goal.returns-in-Some-clause-given
@@ -91,17 +97,21 @@ returns-in-Some-clause-given c =
     let source = c.self.inside.source.now in
     let from = c.self.inside.left.now in
     let some = c.is_at_start.ensures.behind c.if-is_at_start.false in
-    let keeps = keeps_look source c.self.inside.machine c.look_on-self-inside.new.self from c.look_on-self-inside.result.now c.self.invariant some c.look_on-self-inside.ensures in
-    (has_place source c.step_on.new.self c.in-Some.left.now (entry_passed source c.look_on-self-inside.new.self c.step_on.new.self c.look_on-self-inside.result.now
+    let keeps = keeps_look source c.self.inside.machine c.look_on-self-inside.new.self from c.look_on-self-inside.result.now
+    c.self.invariant some c.look_on-self-inside.ensures in
+    (has_place source c.step_on.new.self c.in-Some.left.now (entry_passed source c.look_on-self-inside.new.self c.step_on.new.self
+    c.look_on-self-inside.result.now
     c.in-Some.left.now c.in-Some.entry keeps c.in-Some.ensures.some).1).given
 
 pub invariant_of-self-in_default : goal.invariant_of-self-in_default
 invariant_of-self-in_default c =
-    looked c.self.inside.source.now c.self.inside.machine c.look_on-self-inside.new.self c.step_on.new.self c.self.inside.left.now c.look_on-self-inside.result.now
+    looked c.self.inside.source.now c.self.inside.machine c.look_on-self-inside.new.self c.step_on.new.self c.self.inside.left.now
+    c.look_on-self-inside.result.now
     c.self.invariant (c.is_at_start.ensures.behind c.if-is_at_start.false) c.look_on-self-inside.ensures (c.in_default.ensures.none refl)
 
 pub returns-clause-steps : goal.returns-clause-steps
 returns-clause-steps c =
     let source = c.self.inside.source.now in
-    let same = ap (listed source) (c.in_default.ensures.none refl) ∙ ap (listed source) c.look_on-self-inside.ensures.rest ∙ c.self.view_is in
+    let same = ap (listed source) (c.in_default.ensures.none refl)
+    ∙ ap (listed source) c.look_on-self-inside.ensures.rest ∙ c.self.view_is in
     IfOk-weaker c.next_met.result _ _ (λ step m. seen _ _ _ _ same m) c.next_met.ensures.steps
