@@ -112,7 +112,8 @@ pub came_next : {seen_old seen_mid seen_new : Seen} {old mid new : Streamed} {st
 came_next {seen_old = seen_old} {seen_mid = seen_mid} {seen_new = seen_new} {old = old} {mid = mid} {new = new} {e = e} {exact = exact}
     {count = count} {left = left} {x = x} {y = y} {before = before} {held = held} c s is n shown held_is = record {
       taken = c.taken ++ s.taken;
-      reads = ReadsBytes-on seen_old seen_mid seen_new _ _ _ old.lines.reach mid.lines.reach new.lines.reach c.taken s.taken c.reads s.reads;
+      reads = ReadsBytes-on seen_old seen_mid seen_new _ _ _ old.lines.reach mid.lines.reach new.lines.reach c.taken
+          s.taken c.reads s.reads;
       follows = λ more broken f. rw append_assoc (c.follows (s.taken ++ more) broken (s.follows more broken f));
       stood = λ p more broken f t.
           let m = c.stood p (s.taken ++ more) broken (s.follows more broken f) (rw append_assoc at t) in

@@ -1,6 +1,7 @@
 -- Carries: accept, read_module, write_dump, write_unparse. On: what refuses a source that was read
 -- whole, and that the text of its module gives it back.
-use Rattle.std.proofs.Common.{◌≡◌, ◌∙◌, ◌++◌, ap, ℕ, Bool, true, false, cond, List, [], ◌∷◌, Option, Some, None, Result, Ok, Err, sym, subst}
+use Rattle.std.proofs.Common.{◌≡◌, ◌∙◌, ◌++◌, ap, ℕ, Bool, true, false, cond, List, [], ◌∷◌, Option, Some, None, Result, Ok, Err, sym}
+use Rattle.std.proofs.Common.{subst}
 use Rattle.std.proofs.Common.{codes, inl, inr}
 use Rattle.std.specs.Prelude.{IsUtf8}
 use Rattle.std.specs.Str.{encode_utf8_all}
@@ -213,7 +214,8 @@ module _ (making : Making) {profile : Profile} {output : List ℕ → Module →
   all_written reads is all = (reads.input, text, reads.all, of_module reads.is is, all)
 
 -- where memory ends while the output is made in pieces, a front of it is written
-pub pieces_cut : (profile : Profile) (output : List ℕ → Module → List ℕ → Type 0) (seen_old seen_new : Seen) (m : Module) (x y : Option (List ℕ))
+pub pieces_cut : (profile : Profile) (output : List ℕ → Module → List ℕ → Type 0) (seen_old seen_new : Seen)
+    (m : Module) (x y : Option (List ℕ))
     (text : List ℕ) (fault : Fault)
     → (reads : ReadsModule profile seen_old seen_new m) → output reads.input m text → WritesFor text None x y (Some fault)
     → PerformsWhole in_pieces (Writes profile output) seen_old seen_new x y source_limit (Some fault)

@@ -142,7 +142,8 @@ pub Does-told : (command : Command) (seen_old seen_new : Seen) (x y : Option (Li
     → IsToldAs fault other → Does command seen_old seen_new x y limit (Some fault) → Does command seen_old seen_new x y limit (Some other)
 Does-told (Tokens asked) seen_old seen_new x y limit fault other is p = Performs-told (output_of asked) (fault_in asked) seen_old seen_new x
     y limit fault other is p
-Does-told (Dump asked) seen_old seen_new x y limit fault other is p = PerformsWhole-told in_pieces (Dumps asked.style asked.attributes) seen_old
+Does-told (Dump asked) seen_old seen_new x y limit fault other is p =
+    PerformsWhole-told in_pieces (Dumps asked.style asked.attributes) seen_old
     seen_new x y limit fault other is p
 Does-told (Unparse asked) seen_old seen_new x y limit fault other is p = PerformsWhole-told whole (Unparses asked.profile) seen_old seen_new
     x y limit fault other is p

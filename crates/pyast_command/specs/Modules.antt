@@ -32,5 +32,6 @@ pub record HasPlaces (profile : Profile) (bytes : List ℕ) (m : Module) (p : Pl
 -- What is written of bytes, and the fault that is reported of them: of a module its output, by a relation; and nothing where they are
 -- refused.
 pub data Writes (profile : Profile) (IsOutput : List ℕ → Module → List ℕ → Type 0) (bytes : List ℕ) : List ℕ → Option Fault → Type 0 where
-  of_module : {m : Module} {output : List ℕ} → IsModule profile bytes m → IsOutput bytes m output → Writes profile IsOutput bytes output None
+  of_module : {m : Module} {output : List ℕ} → IsModule profile bytes m → IsOutput bytes m output
+      → Writes profile IsOutput bytes output None
   of_none : {fault : Fault} → IsRefused profile bytes fault → Writes profile IsOutput bytes [] (Some fault)

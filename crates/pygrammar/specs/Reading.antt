@@ -50,19 +50,19 @@ closes (Settled star body hs orelse) = Some (try_of star body hs orelse [] ∷ [
 closes (Matching _) = None
 
 -- statements that are whole, and a group that may go on
-pub record Part : Type 0 where
+pub record PartialBlock : Type 0 where
   pub done : List Stmt
   pub group : Group
 
-abbrev pub part : List Stmt → Group → Part
+abbrev pub part : List Stmt → Group → PartialBlock
 part done group = record { done = done; group = group }
 
 -- the statements that a line that begins another one leaves
-abbrev pub ended : Group → Option Part
+abbrev pub ended : Group → Option PartialBlock
 ended g = elim (closes g) [ None ↦ None | Some ss ↦ Some (part ss Idle) ]
 
 -- what a header finds: the statements that end before it, and the group that it goes on with
-abbrev pub meets : Group → Header → Option Part
+abbrev pub meets : Group → Header → Option PartialBlock
 meets g (if_header _) = ended g
 meets (Choice arms) (elif_header _) = Some (part [] (Choice arms))
 meets _ (elif_header _) = None
@@ -87,7 +87,7 @@ meets (Matching cs) (case_header _ _) = Some (part [] (Matching cs))
 meets _ (case_header _ _) = None
 
 -- what a header and its block make of the group that it goes on with
-abbrev pub grows : Group → Header → List Stmt → Part
+abbrev pub grows : Group → Header → List Stmt → PartialBlock
 grows _ (if_header test) body = part [] (Choice (arm test body ∷ []))
 grows (Choice arms) (elif_header test) body = part [] (Choice (arms ++ arm test body ∷ []))
 grows (Choice arms) else_header body = part (choice arms body) Idle
@@ -130,7 +130,7 @@ abbrev pub start : State
 start = state [] Idle false []
 
 -- the statements of a level, and after them a header with its block
-abbrev pub joined : List Stmt → Group → Header → List Stmt → Part
+abbrev pub joined : List Stmt → Group → Header → List Stmt → PartialBlock
 joined done g h body = part (done ++ (grows g h body).done) (grows g h body).group
 
 -- what the block of a header begins with
@@ -144,7 +144,7 @@ matched (match_header subject) cs = Match subject (cases cs) ∷ []
 matched _ cs = []
 
 -- what a level and its block make, where the block may end here
-abbrev pub above : Waiting → List Stmt → Group → Option Part
+abbrev pub above : Waiting → List Stmt → Group → Option PartialBlock
 above w done (Matching cs) = Some (part (w.done ++ matched w.header cs) Idle)
 above w done g = elim (closes g) [ None ↦ None | Some ss ↦ Some (joined w.done w.group w.header (done ++ ss)) ]
 
@@ -164,12 +164,12 @@ abbrev pub settle : ℕ → State → Answer State
 settle l s = settle_in l s.done s.group s.fresh s.below
 
 -- a line of the deepest open level
-abbrev pub place_header : State → Header → Option (List Stmt) → Part → State
+abbrev pub place_header : State → Header → Option (List Stmt) → PartialBlock → State
 place_header s h None p = state [] (first_group h) true (waiting (s.done ++ p.done) p.group h ∷ s.below)
 place_header s h (Some suite) p =
     state (joined (s.done ++ p.done) p.group h suite).done (joined (s.done ++ p.done) p.group h suite).group false s.below
 
-abbrev pub decorated : Group → Expr → Option Part
+abbrev pub decorated : Group → Expr → Option PartialBlock
 decorated (Marked es) e = Some (part [] (Marked (es ++ e ∷ [])))
 decorated g e = elim (closes g) [ None ↦ None | Some ss ↦ Some (part ss (Marked (e ∷ []))) ]
 

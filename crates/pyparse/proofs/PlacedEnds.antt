@@ -28,7 +28,8 @@ always (Ok x) p = p
 always (Err e) p = tt
 
 -- the places that are kept are those of the module
-pub placed_as : {profile : Profile} {s : Source} {k : ℕ} {end : Place} {p : PlacedProgress} (bytes : List ℕ) (m : Module) (places : PlacesOf)
+pub placed_as : {profile : Profile} {s : Source} {k : ℕ} {end : Place} {p : PlacedProgress} (bytes : List ℕ)
+    (m : Module) (places : PlacesOf)
     (spans : List Span) → Closes profile s k end → (was : IsPlaced profile s k p) → Accepted profile s m
     → is_unread p.progress.known ≡ false → Block 0 was.forms m.body
     → ((b : Block 0 was.forms m.body) → Follows was.forms was.zs p.stack → spans ≡ block_places was.zs b)

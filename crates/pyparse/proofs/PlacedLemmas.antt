@@ -1,5 +1,6 @@
 -- Carries: Progress::read, PlacedProgress, parse_placed. On: the places of one line more, and of all lines.
-use Rattle.std.proofs.Common.{◌≡◌, ℕ, zero, suc, ◌+◌, ◌-◌, ◌≤◌, Bool, true, false, List, [], ◌∷◌, ◌++◌, length, take, drop, map, refl, sym, ap}
+use Rattle.std.proofs.Common.{◌≡◌, ℕ, zero, suc, ◌+◌, ◌-◌, ◌≤◌, Bool, true, false, List, [], ◌∷◌, ◌++◌, length, take, drop, map, refl, sym}
+use Rattle.std.proofs.Common.{ap}
 use Rattle.std.proofs.Common.{◌∙◌, subst, arith, length-append, take_all}
 use Rattle.std.specs.Prelude.{Some, slice_get}
 use Rattle.std.proofs.Math.Seq.{take-append_seam, drop-append_seam, drop-append-add}
@@ -88,7 +89,8 @@ cut_whole {A} a b c =
     record {
       first = ap (λ (k : ℕ). take k (a ++ (b ++ c))) least ∙ take-append_seam a (b ++ c);
       second =
-          ap (λ (k : ℕ). take k (drop (length a) (a ++ (b ++ c)))) middle ∙ ap (λ (xs : List A). take (length b) xs) (drop-append_seam a (b ++ c))
+          ap (λ (k : ℕ). take k (drop (length a) (a ++ (b ++ c)))) middle
+          ∙ ap (λ (xs : List A). take (length b) xs) (drop-append_seam a (b ++ c))
           ∙ take-append_seam b c;
       third =
           ap (λ (xs : List A). take (length (a ++ (b ++ c)) - (length a + length b)) xs)
@@ -104,14 +106,17 @@ cut {A} a b c xs n m all first second =
     (subst (λ (k : ℕ). Cut a b c (a ++ (b ++ c)) k m) (sym first)
     (subst (λ (k : ℕ). Cut a b c (a ++ (b ++ c)) (length a) k) (sym second) (cut_whole a b c)))
 
-count_of : (ms : List Span) (ps : List Stretch) (old : Recording) → old ≡ recording ms [] [] → length (afters recorded old ps).spans ≡ length ps
+count_of : (ms : List Span) (ps : List Stretch) (old : Recording) → old ≡ recording ms [] []
+    → length (afters recorded old ps).spans ≡ length ps
 count_of ms ps old is =
-    ap (λ (w : Recording). length (afters recorded w ps).spans) is ∙ ap (λ (w : Recording). length w.spans) (recorded_all (recording ms [] []) ps)
+    ap (λ (w : Recording). length (afters recorded w ps).spans) is
+    ∙ ap (λ (w : Recording). length w.spans) (recorded_all (recording ms [] []) ps)
     ∙ length-map ps (span_of ms)
 
 -- the runs of what was recorded of a line are its places
 abbrev pub RunsCut : List Span → FormPlaces → LineRead → List Span → Type 0
-RunsCut ms f read spans = Cut (map (span_of ms) f.before) (map (span_of ms) f.behind) (map (span_of ms) f.suite) spans read.before read.behind
+RunsCut ms f read spans = Cut (map (span_of ms) f.before) (map (span_of ms) f.behind) (map (span_of ms) f.suite)
+    spans read.before read.behind
 
 pub runs_cut : (ms : List Span) (f : FormPlaces) (read : LineRead) (old new : Recording) (spans : List Span) → old ≡ recording ms [] []
     → RunsOf recorded (λ (w : Recording). length w.spans) f read old new → spans ≡ new.spans → RunsCut ms f read spans
@@ -148,7 +153,8 @@ line_given ms f read spans before behind suite given runs one two three is =
     ∙ ap (λ (k : ℕ). take (k - read.behind) (drop read.behind (map told spans))) (sym size) ∙ runs.third in
     is
     ∙ ap (λ (xs : List Span). record { whole = whole_of ms; before = xs; behind = map told behind; suite = map told suite }) before_is
-    ∙ ap (λ (xs : List Span). record { whole = whole_of ms; before = map (span_of ms) f.before; behind = xs; suite = map told suite }) behind_is
+    ∙ ap (λ (xs : List Span). record { whole = whole_of ms; before = map (span_of ms) f.before; behind = xs; suite = map told suite })
+    behind_is
     ∙ ap (λ (xs : List Span). record {
       whole = whole_of ms;
       before = map (span_of ms) f.before;
@@ -180,7 +186,8 @@ told_part xs ys n m is = ap (map told) is ∙ sym (take-map told n (drop m xs)) 
 
 grown : {profile : Profile} {earlier : List Line} {xs : List Tokens.Line} {ys : List Line} (spans : Tokens.Line → List Span)
     (p : Formed profile earlier xs ys) (x : Tokens.Line) (f : Form) (h : HasForm profile (stands_in_match x.level (behind earlier ys)) x f)
-    → PlacedLines profile earlier spans (xs ++ x ∷ []) (ys ++ line x.level f ∷ []) (formed_places spans p ++ line_of (spans x) (places_at h.is) ∷ [])
+    → PlacedLines profile earlier spans (xs ++ x ∷ []) (ys ++ line x.level f ∷ [])
+    (formed_places spans p ++ line_of (spans x) (places_at h.is) ∷ [])
 grown spans formed_end x f h = record { formed = formed_line h formed_end; are = refl }
 grown spans (formed_line {x = y} g r) x f h =
     let more = grown spans r x f h in
@@ -195,7 +202,8 @@ placed_next {profile} {s} {k} {forms} {l} {p} {zs} comes was =
     let here = line_of (spans comes.line) (places_at comes.form.is) in
     let same : line comes.line.level l.form ≡ l = ap (λ (n : ℕ). line n l.form) (sym comes.level) in
     let more = grown spans was.formed comes.line l.form comes.form in
-    let grew : PlacedLines profile [] spans (first_lines s k ++ comes.line ∷ []) (forms ++ line comes.line.level l.form ∷ []) (zs ++ here ∷ []) =
+    let grew : PlacedLines profile [] spans (first_lines s k ++ comes.line ∷ [])
+    (forms ++ line comes.line.level l.form ∷ []) (zs ++ here ∷ []) =
     record { formed = more.formed; are = more.are ∙ ap (λ (ys : List LinePlaces). ys ++ here ∷ []) was.are } in
     subst (λ (xs : List Tokens.Line). PlacedLines profile [] spans xs (forms ++ l ∷ []) (zs ++ here ∷ []))
     (sym (next_lines s k comes.line comes.stands))

@@ -10,7 +10,8 @@ use Rattle.pyplaces.specs.LineStarts.{line_starts}
 use Rattle.pyplaces.specs.ModulePlaces.{source_places}
 use Rattle.pyplaces.specs.PlacesOf.{PlacesOf}
 
--- the source is accepted as this module; these are the spans of its marked nodes, in the order of the dump, one for each; and its lines start
+-- the source is accepted as this module; these are the spans of its marked nodes, in the order of the dump, one for each; and its lines
+-- start
 -- there, in bytes
 pub record PlacedAs (profile : Profile) (s : Source) (bytes : List ℕ) (m : Module) (p : PlacesOf) : Type 0 where
   pub accepted : Accepted profile s m

@@ -1,6 +1,6 @@
 //! What is known of a source after some of its lines.
 
-ghost use Rattle.std.specs.Prelude.{◌≡◌, ◌+◌, ◌++◌, ◌∷◌, [], List, ℕ, false, IfOk, IfErr, OnOk};
+ghost use Rattle.std.specs.Prelude.{◌≡◌, ◌+◌, ◌++◌, ◌∷◌, [], List, ℕ, true, false, IfOk, IfErr, OnOk};
 ghost use Rattle.pylex.specs.Listing.{Source};
 ghost use Rattle.pytree_node.specs.declared.profiles.Profile.{Profile};
 ghost use Rattle.pytree_node.specs.TreeOf.{module_of};
@@ -12,7 +12,8 @@ ghost use Rattle.pygrammar.specs.FormOf.{form_of};
 ghost use Rattle.pyparse_block.specs.declared.blocks.Blocks.{Blocks};
 ghost use Rattle.pyparse_block.specs.declared.outline.outlines.Outline.{Outline};
 ghost use Rattle.pyparse.specs.Modules.{Refuses};
-ghost use Rattle.pyparse.specs.Inner.Progressing.{is_unread, IsSound, IsDeepAt, IsKnown, Comes};
+ghost use Rattle.pyparse.specs.Inner.Progressing.{is_sound, is_unread, IsSound, IsDeepAt, IsKnown, Comes};
+ghost use Rattle.pyparse.specs.Inner.Progressing.{AwaitsBlocks, Meets};
 ghost use Rattle.pyparse.specs.Inner.Progressing.{Closes, TellsFault, Fails};
 ghost use Rattle.pyparse.specs.declared.known.Known.TheVariants.{Sound, Deep, Unread};
 
@@ -156,7 +157,82 @@ impl Known {
         }
     }
 
+    /// Meets the next line, by its form: whether lines are sound with it as far as the outline says,
+    /// so that statements grow by it. Else that is known then.
+    #[inline(always)]
+    fn meet(
+        &mut self,
+        alloc: Global,
+        level: usize,
+        form: &Form,
+        start: Place,
+    ) -> Result<bool, AllocError>
+        ensures known { (profile : Profile) (s : Source) (k : ℕ) (forms : List Line)
+            → IsKnown profile s k forms self.old
+            → Comes profile s k (behind [] forms) (line level (form_of form.now)) start
+            → IfOk result (Meets profile s k forms (line level (form_of form.now)) self.new) }
+        ensures sound { IfOk result (λ grows. grows ≡ true → is_sound self.new ≡ true) }
+    {
+        match self {
+            Known::Sound { outline, blocks: _ } => match outline.step(alloc, level, form) {
+                Ok(false) => Ok(true),
+                Ok(true) => {
+                    self.sink(alloc, start);
+                    Ok(false)
+                }
+                Err(stop) => {
+                    self.fail(stop, start)?;
+                    Ok(false)
+                }
+            },
+            Known::Deep { outline, start: _ } => match outline.step(alloc, level, form) {
+                Ok(_) => Ok(false),
+                Err(stop) => {
+                    self.fail(stop, start)?;
+                    Ok(false)
+                }
+            },
+            Known::Faulty { error: _, start: _ } => Ok(false),
+            Known::Unread { error: _, start: _ } => Ok(false),
+        }
+    }
+
+    /// Grows the statements by the next line, which was met.
+    #[inline(always)]
+    fn grow(
+        &mut self,
+        alloc: Global,
+        level: usize,
+        form: Form,
+        start: Place,
+    ) -> Result<(), AllocError>
+        requires { is_sound self.old ≡ true }
+        ensures { (profile : Profile) (s : Source) (k : ℕ) (forms : List Line)
+            → AwaitsBlocks profile s k forms (line level (form_of form)) self.old
+            → Comes profile s k (behind [] forms) (line level (form_of form)) start
+            → OnOk result (IsKnown profile s (k + 1)
+            (forms ++ line level (form_of form) ∷ []) self.new) }
+    {
+        match self {
+            Known::Sound { outline: _, blocks } => match blocks.step(alloc, level, form) {
+                Ok(()) => Ok(()),
+                Err(stop) => {
+                    self.fail(stop, start)?;
+                    Ok(())
+                }
+            },
+            Known::Deep {
+                outline: _,
+                start: _,
+            } => unreachable!(),
+            Known::Faulty { error: _, start: _ } => unreachable!(),
+            Known::Unread { error: _, start: _ } => unreachable!(),
+        }
+    }
+
     /// The next line, by its form. Lines that stay sound are taken in place.
+    ///
+    /// A form is handed on in two places alone, since each pays at entry for a form.
     #[inline(always)]
     pub(crate) fn place(
         &mut self,
@@ -171,49 +247,12 @@ impl Known {
             → OnOk result (IsKnown profile s (k + 1)
             (forms ++ line level (form_of form) ∷ []) self.new) }
     {
-        match self {
-            Known::Sound { outline, blocks } => {
-                match outline.step(alloc, level, &form) {
-                    Ok(false) => {}
-                    Ok(true) => {
-                        let_go(form);
-                        self.sink(alloc, start);
-                        return Ok(());
-                    }
-                    Err(stop) => {
-                        let_go(form);
-                        self.fail(stop, start)?;
-                        return Ok(());
-                    }
-                }
-                match blocks.step(alloc, level, form) {
-                    Ok(()) => Ok(()),
-                    Err(stop) => {
-                        self.fail(stop, start)?;
-                        Ok(())
-                    }
-                }
-            }
-            Known::Deep { outline, start: _ } => match outline.step(alloc, level, &form) {
-                Ok(_) => {
-                    let_go(form);
-                    Ok(())
-                }
-                Err(stop) => {
-                    let_go(form);
-                    self.fail(stop, start)?;
-                    Ok(())
-                }
-            },
-            Known::Faulty { error: _, start: _ } => {
-                let_go(form);
-                Ok(())
-            }
-            Known::Unread { error: _, start: _ } => {
-                let_go(form);
-                Ok(())
-            }
+        let grows = self.meet(alloc, level, &form, start)?;
+        if grows {
+            return self.grow(alloc, level, form, start);
         }
+        let_go(form);
+        Ok(())
     }
 
     /// The module, or the first refusal, after the last line: where the source ends.

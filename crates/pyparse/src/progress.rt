@@ -1,14 +1,14 @@
 //! The progress through the logical lines of a source: what is known of those so far, and where the
 //! next one stands.
 
-ghost use Rattle.std.specs.Prelude.{◌≡◌, ◌+◌, ◌++◌, ◌∷◌, [], ◌&&◌, ℕ, Bool, List, false, not};
+ghost use Rattle.std.specs.Prelude.{◌≡◌, ◌+◌, ◌++◌, ◌∷◌, [], ◌&&◌, ℕ, Bool, List, false, true, not};
 ghost use Rattle.std.specs.Prelude.{IfOk, IfErr, OnOk};
 ghost use Rattle.pylex.specs.Listing.{Source, in_characters};
 ghost use Rattle.pytree_node.specs.declared.profiles.Profile.{Profile};
 ghost use Rattle.pytree_node.specs.TreeOf.{module_of};
 ghost use Rattle.pytoken.specs.Inner.Behind.{behind};
 ghost use Rattle.pytoken.specs.Tokens as tokens;
-ghost use Rattle.pygrammar.specs.Blocks.{Block, is_match, kind_of};
+ghost use Rattle.pygrammar.specs.Blocks.{Block, is_match, kind_of, stands_in_match};
 ghost use Rattle.pygrammar.specs.Forms.{is_whole};
 ghost use Rattle.pygrammar.specs.FormOf.{form_of};
 ghost use Rattle.pygrammar.specs.Lines.{Line, line};
@@ -19,7 +19,7 @@ ghost use Rattle.pyparse.specs.Modules.{code_of, Refuses};
 ghost use Rattle.pyparse.specs.Inner.Progressing.{is_unread, IsProgress, Closes, Comes};
 ghost use Rattle.pyparse.specs.Inner.Reading.{Holds, Reads};
 
-use crate::known::{Known, let_go};
+use crate::known::Known;
 use crate::places::Places;
 use pygrammar::{Form, Header};
 use pyparse_line::{LineRead, read_line};
@@ -113,11 +113,33 @@ impl Progress {
         match read_line(alloc, lines.terminals(), profile, inside, recorder) {
             Ok(read) => Ok(Some(read)),
             Err(stop) => {
-                let error = line_error(stop, is_left_out(profile, lines.is_match()))?;
-                self.known.refuse(error, lines.start());
+                self.refuse(lines, profile, stop)?;
                 Ok(None)
             }
         }
+    }
+
+    /// The next line, which is held, has no form where it stands.
+    #[cold]
+    #[inline(never)]
+    fn refuse(
+        &mut self,
+        lines: &LogicalLines<'_>,
+        profile: Profile,
+        stop: Stop,
+    ) -> Result<(), AllocError>
+        requires { is_unread self.old.known ≡ false }
+        ensures { (inside : Bool) (k : ℕ) (forms : List Line)
+            → HoldsLine (in_characters lines.now.source) k lines.now
+            → Holds profile (in_characters lines.now.source) k forms self.old
+            → inside ≡ stands_in_match lines.now.level (behind [] forms)
+            → Refused stop profile inside lines.now.terminals
+            → OnOk result ((is_unread self.new.known ≡ true)
+            × Holds profile (in_characters lines.now.source) (k + 1) forms self.new) }
+    {
+        let error = line_error(stop, is_left_out(profile, lines.is_match()))?;
+        self.known.refuse(error, lines.start());
+        Ok(())
     }
 
     /// The next line, by its form, which was found at its place.
@@ -135,14 +157,9 @@ impl Progress {
             → OnOk result (Holds profile s (k + 1)
             (forms ++ line level (form_of form) ∷ []) self.new) }
     {
-        match self.places.step(level, is_match(&form)) {
-            Ok(()) => {}
-            Err(error) => {
-                let_go(form);
-                return Err(error);
-            }
-        }
+        let opens_match = is_match(&form);
         self.known.place(alloc, level, form, start)?;
+        self.places.step(level, opens_match)?;
         Ok(())
     }
 
@@ -160,12 +177,17 @@ impl Progress {
         if self.is_unread() {
             return Ok(());
         }
-        match self.read(alloc, lines, profile, &mut Ignored)? {
-            Some(read) => {
-                self.keep(alloc, lines.level(), read.form, lines.start())?;
+        let level = lines.level();
+        let inside = self.places.inside(level);
+        match read_line(alloc, lines.terminals(), profile, inside, &mut Ignored) {
+            Ok(read) => {
+                self.keep(alloc, level, read.form, lines.start())?;
                 Ok(())
             }
-            None => Ok(()),
+            Err(stop) => {
+                self.refuse(lines, profile, stop)?;
+                Ok(())
+            }
         }
     }
 

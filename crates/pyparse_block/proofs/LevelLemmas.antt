@@ -5,7 +5,8 @@ use Rattle.std.proofs.lemmas.List.{map-append, reverse-append, length-reverse, l
 use Rattle.pytree_node.specs.Trees.{Expr, Case, Stmt}
 use Rattle.pygrammar.specs.Lines.{Header, Form, simple_form, decorator_form, header_form}
 use Rattle.pygrammar.specs.Blocks.{Fault, ExpectedIndent, UnexpectedIndent, MisplacedClause}
-use Rattle.pygrammar.specs.Reading.{Answer, Fine, Faulty, then, Group, Idle, Matching, closes, Part, part, decorated, meets, or_misplaced}
+use Rattle.pygrammar.specs.Reading.{Answer, Fine, Faulty, then, Group, Idle, Matching, closes, PartialBlock, part, decorated, meets}
+use Rattle.pygrammar.specs.Reading.{or_misplaced}
 use Rattle.pygrammar.specs.Reading.{place_header, Waiting, State, state, joined, matched, above, settle_in, settle, place, placed}
 use Rattle.pygrammar.proofs.Callers.Blocks.{is_less, not_less, settle_here}
 use Rattle.pyparse_block.specs.declared.stack.Waiting as given_waiting
@@ -88,7 +89,7 @@ pub ended_match : (s : State) (w : Waiting) (below : List Waiting) (cs : List Ca
 ended_match s w below cs b e g = ended_whole s w below b e ∙ ap (λ g. behind below (above w s.done g)) g
 
 -- one level, and then the others
-settle_behind : (l : ℕ) (below : List Waiting) (o : Option Part) →
+settle_behind : (l : ℕ) (below : List Waiting) (o : Option PartialBlock) →
     ◌≡◌ {A = Answer State} (elim o [ None ↦ Faulty MisplacedClause | Some p ↦ settle_in l p.done p.group false below ])
     (then (behind below o) (settle l))
 settle_behind l below None = refl
@@ -157,8 +158,8 @@ pub place_decorator_is : (s : State) (e : Expr) → place s (decorator_form e) �
     (λ p. Fine (state p.done p.group false s.below))
 place_decorator_is s e = by_found (decorated s.group e)
   where
-    by_found : (o : Option Part) → ◌≡◌ {A = Answer State} (or_misplaced o (λ p. state (s.done ++ p.done) p.group false s.below))
-        (then {A = Part} (elim o [ None ↦ Faulty MisplacedClause | Some p ↦ Fine (part (s.done ++ p.done) p.group) ])
+    by_found : (o : Option PartialBlock) → ◌≡◌ {A = Answer State} (or_misplaced o (λ p. state (s.done ++ p.done) p.group false s.below))
+        (then {A = PartialBlock} (elim o [ None ↦ Faulty MisplacedClause | Some p ↦ Fine (part (s.done ++ p.done) p.group) ])
         (λ p. Fine (state p.done p.group false s.below)))
     by_found None = refl
     by_found (Some p) = refl
@@ -168,8 +169,8 @@ pub place_header_is : (s : State) (h : Header) (suite : Option (List Stmt)) →
     place s (header_form h suite) ≡ then (met s.done s.group h) (λ p. Fine (place_header (state [] s.group s.fresh s.below) h suite p))
 place_header_is s h suite = by_found (meets s.group h) suite
   where
-    by_found : (o : Option Part) (suite : Option (List Stmt)) → ◌≡◌ {A = Answer State} (or_misplaced o (place_header s h suite))
-        (then {A = Part} (elim o [ None ↦ Faulty MisplacedClause | Some p ↦ Fine (part (s.done ++ p.done) p.group) ])
+    by_found : (o : Option PartialBlock) (suite : Option (List Stmt)) → ◌≡◌ {A = Answer State} (or_misplaced o (place_header s h suite))
+        (then {A = PartialBlock} (elim o [ None ↦ Faulty MisplacedClause | Some p ↦ Fine (part (s.done ++ p.done) p.group) ])
         (λ p. Fine (place_header (state [] s.group s.fresh s.below) h suite p)))
     by_found None suite = refl
     by_found (Some p) None = refl

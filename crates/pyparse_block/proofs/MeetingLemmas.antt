@@ -9,7 +9,8 @@ use Rattle.pytree_node.specs.declared.expressions.Expr as given_expr
 use Rattle.pygrammar.specs.Lines.{Header, DefHead, if_header, elif_header, else_header, loop_header, with_header, try_header, except_header}
 use Rattle.pygrammar.specs.Lines.{finally_header, def_header, match_header, case_header}
 use Rattle.pygrammar.specs.Blocks.{MisplacedClause, same_bool}
-use Rattle.pygrammar.specs.Reading.{Answer, Fine, Faulty, then, Group, Idle, Marked, Choice, Loop, Trial, Caught, Settled, Matching, Part}
+use Rattle.pygrammar.specs.Reading.{Answer, Fine, Faulty, then, Group, Idle, Marked, Choice, Loop, Trial, Caught, Settled, Matching}
+use Rattle.pygrammar.specs.Reading.{PartialBlock}
 use Rattle.pygrammar.specs.Reading.{part, ended}
 use Rattle.pyparse_block.specs.declared.groups.Group as given_group
 use Rattle.pyparse_block.specs.declared.groups.Group.TheVariants as variant
@@ -17,7 +18,7 @@ use Rattle.pyparse_block.specs.Inner.Meeting.{begins, closed, continues, marked,
 use Rattle.pyparse_block.specs.Values.{group_of}
 
 -- what a header finds, by two tests
-abbrev pub by_tests : List Stmt → Group → Header → Answer Part
+abbrev pub by_tests : List Stmt → Group → Header → Answer PartialBlock
 by_tests d g h = cond (continues h g) (Fine (part d g)) (cond (begins h) (then (closed d g) (λ ss. Fine (part ss Idle)))
     (Faulty MisplacedClause))
 
@@ -25,13 +26,13 @@ on : (d : List Stmt) (g : Group) → Fine (part (d ++ []) g) ≡ Fine (part d g)
 on d g = ap (λ z. Fine (part z g)) (append-nil d)
 
 new : (d : List Stmt) (g : Group)
-    → ◌≡◌ {A = Answer Part} (elim (ended g) [ None ↦ Faulty MisplacedClause | Some p ↦ Fine (part (d ++ p.done) p.group) ])
+    → ◌≡◌ {A = Answer PartialBlock} (elim (ended g) [ None ↦ Faulty MisplacedClause | Some p ↦ Fine (part (d ++ p.done) p.group) ])
     (then (closed d g) (λ ss. Fine (part ss Idle)))
 new d Idle = refl
 new d _ = refl
 
 kind : (d : List Stmt) (g : Group) (b : Bool)
-    → ◌≡◌ {A = Answer Part} (elim (cond b (Some (part [] g)) None) [
+    → ◌≡◌ {A = Answer PartialBlock} (elim (cond b (Some (part [] g)) None) [
       | None ↦ Faulty MisplacedClause
       | Some p ↦ Fine (part (d ++ p.done) p.group)
     ]) (cond b (Fine (part d g)) (Faulty MisplacedClause))

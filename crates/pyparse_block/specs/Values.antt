@@ -1,13 +1,13 @@
 -- The values of what is kept of lines, with no addresses.
 use Rattle.std.specs.Prelude.{List, ◌∷◌, map, reverse}
 use Rattle.pytree_node.specs.TreeOf.{tree_of, stmt_of, case_of, handler_of}
-use Rattle.pygrammar.specs.Reading.{Arm, arm, Group, Part, part, Waiting, waiting, State, state}
+use Rattle.pygrammar.specs.Reading.{Arm, arm, Group, PartialBlock, part, Waiting, waiting, State, state}
 use Rattle.pygrammar.specs.Reading as group
 use Rattle.pygrammar.specs.FormOf.{loop_head_of, header_of}
 use Rattle.pyparse_block.specs.declared.groups.Arm as given_arm
 use Rattle.pyparse_block.specs.declared.groups.Group as given_group
 use Rattle.pyparse_block.specs.declared.groups.Group.TheVariants as variant
-use Rattle.pyparse_block.specs.declared.groups.Part as given_part
+use Rattle.pyparse_block.specs.declared.groups.PartialBlock as given_part
 use Rattle.pyparse_block.specs.declared.stack.Waiting as given_waiting
 use Rattle.pyparse_block.specs.declared.stack.Stack as given_stack
 
@@ -25,7 +25,7 @@ group_of (variant.Settled star body handlers orelse) =
     group.Settled star (map stmt_of body.items) (map handler_of handlers.items) (map stmt_of orelse.items)
 group_of (variant.Matching cases) = group.Matching (map case_of cases.items)
 
-abbrev pub part_of : given_part.Part → Part
+abbrev pub part_of : given_part.PartialBlock → PartialBlock
 part_of p = part (map stmt_of p.done.items) (group_of p.group)
 
 abbrev pub waiting_of : given_waiting.Waiting → Waiting

@@ -7,7 +7,7 @@ ghost use Rattle.pyparse_block.specs.Faults.{Tells};
 ghost use Rattle.pyparse_block.specs.Inner.Meeting.{closed};
 ghost use Rattle.pyparse_block.specs.Values.{group_of};
 
-use crate::groups::{Group, Part};
+use crate::groups::{Group, PartialBlock};
 use crate::outline::{BlockFault, BlockStop};
 use crate::room::append;
 use crate::statements::{choice_statement, loop_statement, try_statement};
@@ -80,7 +80,7 @@ pub(crate) fn end_group(alloc: Global, done: &mut Vec<Stmt>, group: Group) -> Re
 }
 
 /// Ends the group of a level.
-pub(crate) fn close(alloc: Global, part: &mut Part) -> Result<(), BlockStop>
+pub(crate) fn close(alloc: Global, part: &mut PartialBlock) -> Result<(), BlockStop>
     ensures closed { OnOk result
         (closed (map stmt_of part.old.done.items) (group_of part.old.group)
         ≡ Fine (map stmt_of part.new.done.items)) }

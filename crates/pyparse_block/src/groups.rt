@@ -56,7 +56,7 @@ pub(crate) enum Group {
 
 /// What a level has: statements that are whole, and the one that is open.
 #[derive(Drop)]
-pub(crate) struct Part {
+pub(crate) struct PartialBlock {
     pub(crate) done: Vec<Stmt>,
     pub(crate) group: Group,
 }
@@ -65,7 +65,7 @@ pub(crate) struct Part {
 ///
 /// That one is dropped here, by a call, and not where the new one is made: of an enum with many
 /// classes that is long to prove.
-pub(crate) fn open_group(part: &mut Part, group: Group)
+pub(crate) fn open_group(part: &mut PartialBlock, group: Group)
     ensures done { part.new.done ≡ part.old.done }
     ensures group { part.new.group ≡ group }
 {

@@ -10,7 +10,7 @@ ghost use Rattle.pygrammar.specs.FormOf.{def_head_of, header_of};
 ghost use Rattle.pyparse_block.specs.Values.{arm_of, group_of};
 
 use crate::closing::put;
-use crate::groups::{Arm, Group, Part, open_group};
+use crate::groups::{Arm, Group, PartialBlock, open_group};
 use crate::room::append;
 use crate::statements::{
     choice_statement, definition_statement, handler, loop_statement, match_case, match_statement,
@@ -51,7 +51,7 @@ fn with_case(cases: Vec<Case>, case: Case) -> Result<Vec<Case>, AllocError>
 }
 
 /// An `elif` with its block.
-fn grow_elif(part: &mut Part, arm: Arm) -> Result<(), AllocError>
+fn grow_elif(part: &mut PartialBlock, arm: Arm) -> Result<(), AllocError>
     ensures done { OnOk result (map stmt_of part.new.done.items
         ≡ (joined (map stmt_of part.old.done.items) (group_of part.old.group)
         (elif_header (tree_of arm.test.value)) (map stmt_of arm.body.items)).done) }
@@ -68,7 +68,7 @@ fn grow_elif(part: &mut Part, arm: Arm) -> Result<(), AllocError>
 }
 
 /// An `else` with its block.
-fn grow_else(alloc: Global, part: &mut Part, body: Vec<Stmt>) -> Result<(), AllocError>
+fn grow_else(alloc: Global, part: &mut PartialBlock, body: Vec<Stmt>) -> Result<(), AllocError>
     ensures done { OnOk result (map stmt_of part.new.done.items
         ≡ (joined (map stmt_of part.old.done.items) (group_of part.old.group)
         else_header (map stmt_of body.items)).done) }
@@ -108,7 +108,7 @@ fn grow_else(alloc: Global, part: &mut Part, body: Vec<Stmt>) -> Result<(), Allo
 /// An `except` with its block.
 fn grow_except(
     alloc: Global,
-    part: &mut Part,
+    part: &mut PartialBlock,
     star: bool,
     class: Option<Box<Expr>>,
     name: Option<Identifier>,
@@ -155,7 +155,7 @@ fn grow_except(
 }
 
 /// A `finally` with its block.
-fn grow_finally(alloc: Global, part: &mut Part, body: Vec<Stmt>) -> Result<(), AllocError>
+fn grow_finally(alloc: Global, part: &mut PartialBlock, body: Vec<Stmt>) -> Result<(), AllocError>
     ensures done { OnOk result (map stmt_of part.new.done.items
         ≡ (joined (map stmt_of part.old.done.items) (group_of part.old.group)
         finally_header (map stmt_of body.items)).done) }
@@ -193,7 +193,7 @@ fn grow_finally(alloc: Global, part: &mut Part, body: Vec<Stmt>) -> Result<(), A
 /// A `def` or `class` with its block.
 fn grow_def(
     alloc: Global,
-    part: &mut Part,
+    part: &mut PartialBlock,
     head: DefHead,
     body: Vec<Stmt>,
 ) -> Result<(), AllocError>
@@ -214,7 +214,7 @@ fn grow_def(
 
 /// A `case` with its block.
 fn grow_case(
-    part: &mut Part,
+    part: &mut PartialBlock,
     pattern: Box<Pattern>,
     guard: Option<Box<Expr>>,
     body: Vec<Stmt>,
@@ -238,7 +238,7 @@ fn grow_case(
 #[inline(never)]
 pub(crate) fn grow(
     alloc: Global,
-    part: &mut Part,
+    part: &mut PartialBlock,
     header: Header,
     body: Vec<Stmt>,
 ) -> Result<(), AllocError>
@@ -289,7 +289,7 @@ pub(crate) fn grow(
 
 /// A `match` with its cases.
 pub(crate) fn grow_match(
-    part: &mut Part,
+    part: &mut PartialBlock,
     header: Header,
     cases: Vec<Case>,
 ) -> Result<(), AllocError>

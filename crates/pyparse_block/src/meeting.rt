@@ -9,7 +9,7 @@ ghost use Rattle.pyparse_block.specs.Inner.Meeting.{begins, continues, is_matchi
 ghost use Rattle.pyparse_block.specs.Values.{group_of, part_of};
 
 use crate::closing::{close, end_group};
-use crate::groups::{Group, Part, open_group};
+use crate::groups::{Group, PartialBlock, open_group};
 use crate::outline::{BlockFault, BlockStop};
 use crate::room::append;
 use pygrammar::Header;
@@ -66,7 +66,7 @@ fn begins(header: &Header) -> bool
 
 /// What a header finds: it goes on with the group of its level, or that ends before it.
 #[tactic(auto, using(crate::proofs::MeetingLemmas::met_is))]
-pub(crate) fn meet(alloc: Global, part: &mut Part, header: &Header) -> Result<(), BlockStop>
+pub(crate) fn meet(alloc: Global, part: &mut PartialBlock, header: &Header) -> Result<(), BlockStop>
     ensures met { OnOk result (met (map stmt_of part.old.done.items) (group_of part.old.group)
         (header_of header.now) ≡ Fine (part_of part.new)) }
     ensures refused { IfErr result
@@ -94,7 +94,11 @@ fn with_expr(expressions: Vec<Expr>, one: Box<Expr>) -> Result<Vec<Expr>, AllocE
 
 /// What a decorator makes of its level: it goes on with decorators, or the group ends before it.
 #[inline(never)]
-pub(crate) fn mark(alloc: Global, part: &mut Part, value: Box<Expr>) -> Result<(), BlockStop>
+pub(crate) fn mark(
+    alloc: Global,
+    part: &mut PartialBlock,
+    value: Box<Expr>,
+) -> Result<(), BlockStop>
     ensures marked { OnOk result (marked (map stmt_of part.old.done.items)
         (group_of part.old.group) (tree_of value.value) ≡ Fine (part_of part.new)) }
     ensures refused { IfErr result

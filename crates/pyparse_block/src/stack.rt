@@ -11,7 +11,7 @@ ghost use Rattle.pyparse_block.specs.Inner.Meeting.{is_matching};
 ghost use Rattle.pyparse_block.specs.Values.{group_of, state_of};
 
 use crate::closing::{close, let_go, put_all};
-use crate::groups::{Group, Part};
+use crate::groups::{Group, PartialBlock};
 use crate::growing::{grow, grow_match};
 use crate::meeting::{is_matching, mark, meet};
 use crate::outline::{BlockFault, BlockStop};
@@ -23,7 +23,7 @@ use std::mem;
 /// A level that waits for the block of its last line, a header.
 #[derive(Drop)]
 pub(crate) struct Waiting {
-    pub(crate) part: Part,
+    pub(crate) part: PartialBlock,
     pub(crate) header: Header,
 }
 
@@ -31,7 +31,7 @@ pub(crate) struct Waiting {
 /// below it, the deepest last.
 #[derive(Drop)]
 pub(crate) struct Stack {
-    pub(crate) part: Part,
+    pub(crate) part: PartialBlock,
     pub(crate) fresh: bool,
     pub(crate) below: Vec<Waiting>,
 }
@@ -54,7 +54,7 @@ impl Stack {
         ensures { state_of result ≡ start }
     {
         Stack {
-            part: Part {
+            part: PartialBlock {
                 done: Vec::new(alloc),
                 group: Group::Idle,
             },
@@ -73,7 +73,7 @@ impl Stack {
         ensures fewer { OnOk result (length self.new.below.items < length self.old.below.items) }
     {
         let Waiting { part, header } = self.below.pop().unwrap();
-        let Part { done: _, group } = mem::replace(&mut self.part, part);
+        let PartialBlock { done: _, group } = mem::replace(&mut self.part, part);
         let Group::Matching { cases } = group else {
             unreachable!();
         };
@@ -97,7 +97,7 @@ impl Stack {
         }
         close(alloc, &mut self.part)?;
         let Waiting { part, header } = self.below.pop().unwrap();
-        let Part { done, group: _ } = mem::replace(&mut self.part, part);
+        let PartialBlock { done, group: _ } = mem::replace(&mut self.part, part);
         grow(alloc, &mut self.part, header, done)?;
         self.fresh = false;
         Ok(())
@@ -167,7 +167,7 @@ impl Stack {
         meet(alloc, &mut self.part, &header)?;
         match suite {
             None => {
-                let fresh = Part {
+                let fresh = PartialBlock {
                     done: Vec::new(alloc),
                     group: first_group(alloc, &header),
                 };
@@ -231,7 +231,7 @@ impl Stack {
             fresh: _,
             below: _,
         } = stack;
-        let Part { done, group: _ } = part;
+        let PartialBlock { done, group: _ } = part;
         Ok(done)
     }
 }

@@ -13,7 +13,8 @@ use Rattle.pyplaces.specs.Placed.{PlacedListing}
 use Rattle.pyplaces.specs.Recording.{Records}
 
 -- the parameters of a `def`
-pub record ParametersPlaced {S : Type 0} (after : S → Stretch → S) (ts : List Terminal) (at : ℕ) (args : Trees.Arguments) (next : ℕ) (old new : S)
+pub record ParametersPlaced {S : Type 0} (after : S → Stretch → S) (ts : List Terminal) (at : ℕ) (args : Trees.Arguments)
+    (next : ℕ) (old new : S)
     : Type 0 where
   pub es : List Entry
   pub places : List EntryPlaces
@@ -22,7 +23,8 @@ pub record ParametersPlaced {S : Type 0} (after : S → Stretch → S) (ts : Lis
   pub records : Records after old (E.arranged places) new
 
 -- the arguments of a `class`
-pub record BasesPlaced {S : Type 0} (after : S → Stretch → S) (ts : List Terminal) (at : ℕ) (args : Trees.Exprs) (words : Trees.Keywords) (next : ℕ) (old new : S)
+pub record BasesPlaced {S : Type 0} (after : S → Stretch → S) (ts : List Terminal) (at : ℕ) (args : Trees.Exprs) (words : Trees.Keywords)
+    (next : ℕ) (old new : S)
     : Type 0 where
   pub es : List Entry
   pub places : List EntryPlaces

@@ -1,7 +1,7 @@
 -- Carries: mark_entry, mark_lexeme, walk, walk_line, read_line. On: the spans of a line, with one entry more.
 use Rattle.std.proofs.Common.{◌≡◌, ℕ, ◌-◌, Bool, true, false, List, [], ◌∷◌, ◌++◌, length, take, drop, refl, sym, ap, subst, ◌∙◌, arith}
 use Rattle.std.proofs.Common.{append-nil, length-take, length-drop, Option, Some, None}
-use Rattle.std.specs.Prelude.{is_some, slice_get, slice_range, if◌then◌else◌}
+use Rattle.std.specs.Prelude.{slice_get, slice_range, if◌then◌else◌}
 use Rattle.std.specs.List.{flat_map}
 use Rattle.std.specs.Str.{chars, IsUtf8}
 use Rattle.std.proofs.lemmas.Bool.{and_parts}
@@ -41,12 +41,6 @@ use Rattle.pyparse_tokens.proofs.LineLemmas.{with_own, line_on}
 use Rattle.pyparse_tokens.proofs.ListingLemmas.{moved, at_entry}
 use Rattle.pyparse_tokens.proofs.WalkLemmas.{Stepped}
 
--- where nothing is kept, nothing is added
-pub nothing_added : (kept : Option (List Span)) (more : List Span) → is_some kept ≡ false → kept ≡ added kept more
-unfolding added
-nothing_added None more h = refl
-nothing_added (Some before) more h = absurd (cc)
-
 -- ---- An entry.
 
 -- the next entry starts where its offset says
@@ -78,7 +72,8 @@ spans_with text e line starts = by (stands_in_line e.kind) refl
 -- ---- A line.
 
 -- by an entry that doesn't end it
-pub marks_on : (p : Parts) (old new : Listed) (e : Entry) (g h : LineGather) (start was now : Option (List Span)) → StandsAt p old g → Read p old new e
+pub marks_on : (p : Parts) (old new : Listed) (e : Entry) (g h : LineGather) (start was now : Option (List Span))
+    → StandsAt p old g → Read p old new e
     → TakesEntry (chars p.text) e g h → ended_by e g.pass.begun ≡ false → StartsAt (chars p.text) e → KeepsMarks p old g start was
     → now ≡ added was (entry_spans (chars p.text) e) → KeepsMarks p new h start now
 marks_on p old new e g h start was now had read gains goes starts keep is = λ none.
@@ -96,7 +91,8 @@ marks_on p old new e g h start was now had read gains goes starts keep is = λ n
     ∙ ap (added start) (spans_with text e (front_line text front) starts ∙ ap (flat_map (spans_of text)) (sym line))
 
 -- by the entry that ends it
-pub marks_end : (p : Parts) (first old new : Listed) (e : Entry) (g h : LineGather) (start was now : Option (List Span)) → Reads p first old g
+pub marks_end : (p : Parts) (first old new : Listed) (e : Entry) (g h : LineGather) (start was now : Option (List Span))
+    → Reads p first old g
     → Read p old new e → TakesEntry (chars p.text) e g h → ended_by e g.pass.begun ≡ true → kept_refusal h.pass ≡ None
     → KeepsMarks p old g start was → now ≡ added was (entry_spans (chars p.text) e) → MarksLine p first start now
 marks_end p first old new e g h start was now had read gains ends none keep is = λ line stands.

@@ -15,7 +15,7 @@ use std::alloc::{AllocError, Global};
 
 /// The token of an entry, if it stands in a line.
 #[inline(always)]
-#[tactic(auto, using(pyparse_marks::proofs::Callers::Kept::added_none, crate::proofs::MarkLemmas::nothing_added))]
+#[tactic(auto, using(pyparse_marks::proofs::Callers::Kept::added_none, pyparse_marks::proofs::Callers::Kept::nothing_added))]
 pub(crate) fn mark_entry(
     alloc: Global,
     source: &Source,
@@ -37,7 +37,7 @@ pub(crate) fn mark_entry(
 
 /// The token of a lexeme that ends at an offset, if it is one.
 #[inline(always)]
-#[tactic(auto, using(pyparse_marks::proofs::Callers::Kept::added_none, crate::proofs::MarkLemmas::nothing_added))]
+#[tactic(auto, using(pyparse_marks::proofs::Callers::Kept::added_none, pyparse_marks::proofs::Callers::Kept::nothing_added))]
 pub(crate) fn mark_lexeme(
     alloc: Global,
     class: Class,

@@ -10,7 +10,8 @@ same_recording : {ms ms' xs xs' ys ys' : List Span} → ms ≡ ms' → xs ≡ xs
 same_recording {ms} {ms'} {xs} {xs'} {ys} {ys'} a b c =
     ap (λ m. recording m xs ys) a ∙ (ap (λ x. recording ms' x ys) b ∙ ap (λ y. recording ms' xs' y) c)
 
-pub recorded_all : (w : Recording) (ps : List Stretch) → afters recorded w ps ≡ recording w.marks (w.spans ++ map (span_of w.marks) ps) w.aside
+pub recorded_all : (w : Recording) (ps : List Stretch)
+    → afters recorded w ps ≡ recording w.marks (w.spans ++ map (span_of w.marks) ps) w.aside
 recorded_all w [] = ap (λ x. recording w.marks x w.aside) (sym (append-nil w.spans))
 recorded_all w (p ∷ ps) =
     recorded_all (recorded w p) ps

@@ -15,7 +15,8 @@ stretch first behind = record { first = first; behind = behind }
 abbrev pub over : ℕ → ℕ → List Stretch
 over at count = stretch at (at + count) ∷ []
 
--- Each terminal of a line has its span: of an f-string both ends have the bytes of the whole token; the terminals of a field have their own,
+-- Each terminal of a line has its span: of an f-string both ends have the bytes of the whole token; the terminals of a field have their
+-- own,
 -- its `(` those of the `{`, its `)` the byte behind the expression.
 
 -- the span of the terminal behind so many, by the spans of a line's terminals, and an empty one at 0 where there is none

@@ -14,7 +14,8 @@ use Rattle.pyplaces.specs.Stretches.{Span}
 use Rattle.pyplaces.specs.BlockPlaces.{LinePlaces, ending, own, block_places, statement_places, definition_places, final_places}
 use Rattle.pyplaces.specs.BlockPlaces.{body_places, alternative_places, otherwise_places, handlers_places, cases_places, ending_places}
 use Rattle.pyplaces_laws.specs.Spans.{AllLieBetween}
-use Rattle.pyplaces_laws.specs.EachBlock.{HandlersLie, CasesLie, InBlock, InStatement, OfBody, OfHeaded, OfAlternative, OfOtherwise, OfHandlers}
+use Rattle.pyplaces_laws.specs.EachBlock.{HandlersLie, CasesLie, InBlock, InStatement, OfBody, OfHeaded, OfAlternative, OfOtherwise}
+use Rattle.pyplaces_laws.specs.EachBlock.{OfHandlers}
 use Rattle.pyplaces_laws.specs.EachBlock.{OfCases, OfEnding}
 use Rattle.pyplaces_laws.specs.Laws.{IsLaidOut}
 use Rattle.pyplaces.proofs.Laws.Blocks.{count_statement, count_alternative}
@@ -65,7 +66,8 @@ headed : (profile : Profile) {l : ℕ} {suite : Option (List Stmt)} {xs : List L
 headed profile z zs B.inline i = i
 headed profile z zs (B.indented b) i = i
 
-pub some_line : {profile : Profile} {lo hi : ℕ} (ds : List Line) (x : Line) (xs : List Line) → LinesLie profile lo (ds ++ (x ∷ xs)) [] hi → ⊥
+pub some_line : {profile : Profile} {lo hi : ℕ} (ds : List Line) (x : Line) (xs : List Line)
+    → LinesLie profile lo (ds ++ (x ∷ xs)) [] hi → ⊥
 some_line [] x xs o = elim o [ ]
 some_line (d ∷ ds) x xs o = elim o [ ]
 

@@ -87,7 +87,8 @@ module _ (R : Span → Span → Type 0) (clear : (s t : Span) → AreClearSpans 
   before_apart : {profile : Profile} {f : Form} {z : LinePlaces} → LineLies profile f z → LineLaminar z
       → Apart z.whole.start z.whole.stop z.before
   before_apart {z = z} l k =
-      among R clear (spans_in_line z) z.before (λ s c. in_front (z.before ++ z.behind) z.suite (in_front z.before z.behind c)) (line_apart l k)
+      among R clear (spans_in_line z) z.before (λ s c. in_front (z.before ++ z.behind) z.suite (in_front z.before z.behind c))
+      (line_apart l k)
 
   header_apart : {profile : Profile} {f : Form} {z : LinePlaces} → LineLies profile f z → LineLaminar z
       → Apart z.whole.start z.whole.stop (z.before ++ z.behind)
@@ -110,7 +111,8 @@ module _ (R : Span → Span → Type 0) (clear : (s t : Span) → AreClearSpans 
   with_own : {profile : Profile} {lo hi : ℕ} {f : Form} {xs : List Line} {z : LinePlaces} {zs : List LinePlaces} {ps : List Span}
       → Head profile lo f xs z zs hi → Apart z.whole.start (ending z.whole.start (z ∷ zs)).stop ps → Apart lo hi (ps ++ own z zs)
   with_own {z = z} {zs = zs} h l =
-      wider R clear (held R clear (ending z.whole.start (z ∷ zs)) l (omega (arith, h.start)) (omega arith)) (omega (arith, h.start, h.begins))
+      wider R clear (held R clear (ending z.whole.start (z ∷ zs)) l (omega (arith, h.start)) (omega arith))
+      (omega (arith, h.start, h.begins))
       h.ends
 
   decorators_apart : {profile : Profile} {lo hi : ℕ} {xs : List Line} {zs : List LinePlaces} → LinesLie profile lo xs zs hi
@@ -178,7 +180,8 @@ module _ (R : Span → Span → Type 0) (clear : (s t : Span) → AreClearSpans 
     laminar_statement {zs = []} (B.with_statement b) g k = elim g.lie [ ]
     laminar_statement {zs = z ∷ zs} (B.with_statement b) g k =
         let h = head g in
-        as_those R clear (two z.before (body_places z zs b) (own z zs)) (with_own h (top_of z (body_places z zs b) (laminar_whole b z zs h.line_lies h.others k)))
+        as_those R clear (two z.before (body_places z zs b) (own z zs))
+        (with_own h (top_of z (body_places z zs b) (laminar_whole b z zs h.line_lies h.others k)))
     laminar_statement {zs = []} (B.try_finally b f) g k = elim g.lie [ ]
     laminar_statement {l = l} {zs = z ∷ zs} (B.try_finally {last = last} {xs = xs} {ys = ys} b f) g k =
         let h = head g in

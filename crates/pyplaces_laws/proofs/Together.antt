@@ -150,7 +150,8 @@ compound {profile} {lo} {hi} {z = z} {zs = zs} {ps = ps} {parts = parts} s h e p
     let o = ending z.whole.start (z ∷ zs) in
     let l = h.line_lies in
     let holds : AllLieBetween o.start o.stop (parts ++ []) =
-    subst (λ n. AllLieBetween n o.stop (parts ++ [])) (sym h.start) (subst (AllLieBetween z.whole.start o.stop) (sym (append-nil parts)) p.are) in
+    subst (λ n. AllLieBetween n o.stop (parts ++ [])) (sym h.start)
+    (subst (AllLieBetween z.whole.start o.stop) (sym (append-nil parts)) p.are) in
     let root : HoldsItsParts s ps = record {
       inside = parts;
       beside = [];

@@ -26,7 +26,8 @@ statements_whole s f first end (x ∷ xs) ps =
     ∙ simp append_assoc refl
 
 -- the pieces of a module are its dump text
-pub module_pieces : (s : Style) (ps : List Attributes) (f0 f1 g1 f2 f3 b0 b1 b2 b3 e0 e1 e2 e3 : List ℕ) (line : Bool) (body items : List Stmt) →
+pub module_pieces : (s : Style) (ps : List Attributes) {f0 f1 g1 f2 f3 b0 b1 b2 b3 e0 e1 : List ℕ} (e2 : List ℕ) {e3 : List ℕ} {line : Bool}
+    (body items : List Stmt) →
     body ≡ items → b0 ≡ [] → e0 ≡ [] → f0 ≡ codes "\n" →
     line ≡ (is_flat s.indent || is_short (a_field (codes "body") (shown_block s.profile body)
     (a_field (codes "type_ignores") (Row no_shown) no_field))) →
@@ -36,7 +37,8 @@ pub module_pieces : (s : Style) (ps : List Attributes) (f0 f1 g1 f2 f3 b0 b1 b2 
     e3 ≡ e2 ++ codes ")" → b3 ≡ b2 ++ codes "[" → f3 ≡ deeper s.indent f2 →
     concat (b3 ∷ statement_pieces s f3 true e3 body ps)
     ≡ dump_text s (with_places ps (shown_module s.profile (record { body = map stmt_of items }))).shown
-module_pieces s ps f0 f1 g1 f2 f3 b0 b1 b2 b3 e0 e1 e2 e3 line body items same none_begun none_ended top is_line hb1 hf1 hg1 hb2
+module_pieces s ps {f0} {f1} {g1} {f2} {f3} {b0} {b1} {b2} {b3} {e0} {e1} e2 {e3} {line} body items same none_begun none_ended
+    top is_line hb1 hf1 hg1 hb2
     he1 he2 hf2 he3 hb3 hf3 =
     let behind : Fields = a_field (codes "type_ignores") (Row no_shown) no_field in
     let rows : Showns = (rows_with ps (showns (map (λ x. shown_stmt s.profile (stmt_of x)) body))).shown in
@@ -48,7 +50,8 @@ module_pieces s ps f0 f1 g1 f2 f3 b0 b1 b2 b3 e0 e1 e2 e3 line body items same n
     ∙ ap (λ z. z ++ codes "]") none_ended)) in
     let deep : f3 ≡ deeper s.indent f1 = hf3 ∙ ap (deeper s.indent) hf2 in
     let xs : List ℕ = members s (deeper s.indent f1) true rows in
-    let put : concat (b3 ∷ statement_pieces s f3 true e3 body ps) ≡ ((b1 ++ before line f1 true ++ label s.names (codes "body")) ++ codes "[")
+    let put : concat (b3 ∷ statement_pieces s f3 true e3 body ps) ≡
+    ((b1 ++ before line f1 true ++ label s.names (codes "body")) ++ codes "[")
     ++ (xs ++ ((codes "]" ++ fields s f1 line s.names false behind) ++ codes ")")) =
     ap (λ z. b3 ++ z) (statements_whole s f3 true e3 body ps) ∙ (λ i. begun i ++ (members s (deep i) true rows ++ ended i)) in
     let whole : concat (b3 ∷ statement_pieces s f3 true e3 body ps) ≡ (b1 ++ fields s f1 line s.names true all) ++ codes ")" = put

@@ -130,13 +130,13 @@ nothing_appended s f o ps t = record { text = λ m rest. refl; left = λ rest. r
 -- ---- Nodes.
 
 -- a marked node, of what begins it, its fields, and what ends it
-pub node_ended : (s : Style) (f f1 f2 start : List ℕ) (F : Fields → Fields) (o0 o1 o2 o3 : List ℕ) (ps ps1 ps2 : List Attributes)
-    (line : Bool) (t2 : Told) →
+pub node_ended : (s : Style) (f : List ℕ) {f1 f2 : List ℕ} (start : List ℕ) (F : Fields → Fields) (o0 : List ℕ) {o1 o2 o3 : List ℕ}
+    {ps ps1 ps2 : List Attributes} {line : Bool} {t2 : Told} →
     f1 ≡ deeper s.indent f → line ≡ (is_flat s.indent || is_short (closed true (fields_with ps (F no_field))).shown) → o1 ≡ o0 ++ start →
     AppendsField s f1 o1 o2 ps ps1 (record { one_line = line; named = s.names; first = true }) t2 F → f2 ≡ f1 →
     o3 ≡ o2 ++ (coming_with true s f2 ps1 t2 no_field ++ codes ")") → ps2 ≡ behind true ps1
     → AppendsNode true s f o0 o3 ps ps2 start (F no_field)
-node_ended s f f1 f2 start F o0 o1 o2 o3 ps ps1 ps2 line t2 deep is begun told same e taken =
+node_ended s f {f1} {f2} start F o0 {o1} {o2} {o3} {ps} {ps1} {ps2} {line} {t2} deep is begun told same e taken =
     let all : Fields = (closed true (fields_with ps (F no_field))).shown in
     let whole : o3 ≡ o1 ++ fields s f1 line s.names true all ++ codes ")" =
     e ∙ (λ i. o2 ++ (coming_with true s (same i) ps1 t2 no_field ++ codes ")"))
@@ -148,12 +148,12 @@ node_ended s f f1 f2 start F o0 o1 o2 o3 ps ps1 ps2 line t2 deep is begun told s
     )
 
 -- a node that isn't marked
-pub plain_ended : (s : Style) (f f1 start : List ℕ) (F : Fields → Fields) (o0 o1 o2 o3 : List ℕ) (ps ps1 : List Attributes)
-    (line : Bool) (t2 : Told) →
+pub plain_ended : (s : Style) (f : List ℕ) {f1 : List ℕ} (start : List ℕ) (F : Fields → Fields) (o0 : List ℕ) {o1 o2 o3 : List ℕ}
+    {ps ps1 : List Attributes} {line : Bool} {t2 : Told} →
     f1 ≡ deeper s.indent f → line ≡ (is_flat s.indent || is_short (closed false (fields_with ps (F no_field))).shown) → o1 ≡ o0 ++ start →
     AppendsField s f1 o1 o2 ps ps1 (record { one_line = line; named = s.names; first = true }) t2 F →
     o3 ≡ o2 ++ codes ")" → AppendsNode false s f o0 o3 ps ps1 start (F no_field)
-plain_ended s f f1 start F o0 o1 o2 o3 ps ps1 line t2 deep is begun told e =
+plain_ended s f {f1} start F o0 {o1} {o2} {o3} {ps} {ps1} {line} {t2} deep is begun told e =
     let all : Fields = (closed false (fields_with ps (F no_field))).shown in
     let whole : o3 ≡ o1 ++ fields s f1 line s.names true all ++ codes ")" =
     e ∙ ap (λ z. z ++ codes ")") (sym (append-nil o2) ∙ told.text false no_field) in
@@ -162,12 +162,13 @@ plain_ended s f f1 start F o0 o1 o2 o3 ps ps1 line t2 deep is begun told e =
 -- ---- Lists.
 
 -- one member more of a list
-pub member_appended : {A : Type 0} (g : A → Shown) (xs : List A) (i : ℕ) (x : A) (s : Style) (f f1 base o o1 o2 : List ℕ) (first : Bool)
-    (ps ps1 : List Attributes) →
+pub member_appended : {A : Type 0} (g : A → Shown) (xs : List A) {i : ℕ} {x : A} (s : Style) {f f1 base : List ℕ}
+    (o : List ℕ) {o1 o2 : List ℕ}
+    (first : Bool) (ps : List Attributes) {ps1 : List Attributes} →
     i < length xs → x ≡ get_or xs i x → f1 ≡ f → o ++ members s f first (rows_with ps (showns (map g (drop i xs)))).shown ≡ base →
     o1 ≡ o ++ before (is_flat s.indent) f1 first → Appends s f1 o1 o2 ps ps1 (g x) →
     o2 ++ members s f false (rows_with ps1 (showns (map g (drop (i + 1) xs)))).shown ≡ base
-member_appended g xs i x s f f1 base o o1 o2 first ps ps1 lt read same so_far e1 e2 =
+member_appended g xs {i} {x} s {f} {f1} {base} o {o1} {o2} first ps {ps1} lt read same so_far e1 e2 =
     let one : Placed Shown = with_places ps (g x) in
     let rest : List ℕ = members s f false (rows_with one.left (showns (map g (drop (i + 1) xs)))).shown in
     let grown : o2 ≡ o ++ before (is_flat s.indent) f first ++ text s f one.shown =
@@ -176,22 +177,22 @@ member_appended g xs i x s f f1 base o o1 o2 first ps ps1 lt read same so_far e1
     ∙ ap (λ z. z ++ rest) grown ∙ parts3 o (before (is_flat s.indent) f first) (text s f one.shown) rest
     ∙ ap (λ z. o ++ members s f first (rows_with ps (showns (map g z))).shown) (sym (dropped xs i x lt read)) ∙ so_far
 
-pub member_left : {A : Type 0} (g : A → Shown) (xs : List A) (i : ℕ) (x : A) (ps ps1 last : List Attributes) →
+pub member_left : {A : Type 0} (g : A → Shown) (xs : List A) {i : ℕ} {x : A} (ps : List Attributes) {ps1 last : List Attributes} →
     i < length xs → x ≡ get_or xs i x → (rows_with ps (showns (map g (drop i xs)))).left ≡ last → ps1 ≡ (with_places ps (g x)).left →
     (rows_with ps1 (showns (map g (drop (i + 1) xs)))).left ≡ last
-member_left g xs i x ps ps1 last lt read so_far taken =
+member_left g xs {i} {x} ps {ps1} {last} lt read so_far taken =
     ap (λ q. (rows_with q (showns (map g (drop (i + 1) xs)))).left) taken
     ∙ ap (λ z. (rows_with ps (showns (map g z))).left) (sym (dropped xs i x lt read)) ∙ so_far
 
 -- a list, of what begins it, its members and what ends it
-pub row_ended : {A : Type 0} (g : A → Shown) (xs : List A) (i : ℕ) (s : Style) (f f1 o o1 o2 o3 : List ℕ) (first : Bool)
-    (ps ps1 : List Attributes) →
+pub row_ended : {A : Type 0} (g : A → Shown) (xs : List A) {i : ℕ} (s : Style) (f : List ℕ) {f1 : List ℕ} (o : List ℕ) {o1 : List ℕ}
+    (o2 : List ℕ) {o3 : List ℕ} (first : Bool) (ps : List Attributes) {ps1 : List Attributes} →
     length xs ≤ i → f1 ≡ deeper s.indent f → o1 ≡ o ++ codes "[" →
     o2 ++ members s f1 first (rows_with ps1 (showns (map g (drop i xs)))).shown ≡ o1 ++ members s f1 true
     (rows_with ps (showns (map g xs))).shown →
     (rows_with ps1 (showns (map g (drop i xs)))).left ≡ (rows_with ps (showns (map g xs))).left → o3 ≡ o2 ++ codes "]" →
     Appends s f o o3 ps ps1 (Row (showns (map g xs)))
-row_ended g xs i s f f1 o o1 o2 o3 first ps ps1 past deep e1 all left e3 =
+row_ended g xs {i} s f {f1} o {o1} o2 {o3} first ps {ps1} past deep e1 all left e3 =
     let none : drop i xs ≡ [] = drop_all i xs past in
     let rows : Showns = (rows_with ps (showns (map g xs))).shown in
     let at_end : o2 ≡ o1 ++ members s f1 true rows =

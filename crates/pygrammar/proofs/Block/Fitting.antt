@@ -8,7 +8,8 @@ use Rattle.pygrammar.specs.Lines.{Line, Header, if_header, elif_header, else_hea
 use Rattle.pygrammar.specs.Lines.{finally_header, def_header, match_header, case_header, DefHead}
 use Rattle.pygrammar.specs.Blocks.{Kind, DecoratorLine, IfLine, LoopLine, WithLine, TryLine, DefLine, MatchLine, header_kind, kind_of}
 use Rattle.pygrammar.specs.Blocks.{same_bool, is_try_clause, is_decorated, is_case}
-use Rattle.pygrammar.specs.Reading.{Group, Idle, Marked, Choice, Loop, Trial, Caught, Settled, Matching, closes, Part, part, ended, meets}
+use Rattle.pygrammar.specs.Reading.{Group, Idle, Marked, Choice, Loop, Trial, Caught, Settled, Matching, closes, PartialBlock, part, ended}
+use Rattle.pygrammar.specs.Reading.{meets}
 use Rattle.pygrammar.specs.Reading.{grows, decorated, first_group}
 use Rattle.pygrammar.proofs.Block.Growing.{ended_of}
 use Rattle.pygrammar.proofs.Block.Nested.{is_matching}
@@ -80,19 +81,20 @@ pub no_decorator_header : (h : Header) → is_decorator (header_kind h) ≡ fals
 no_decorator_header (if_header _) = refl
 no_decorator_header _ = refl
 
-stands_new : (g : Group) (h : Header) (p : Part) (body : List Stmt) (s : Standing) → ended g ≡ Some p → stand (grows Idle h body).group ≡ s
+stands_new : (g : Group) (h : Header) (p : PartialBlock) (body : List Stmt) (s : Standing) → ended g ≡ Some p
+    → stand (grows Idle h body).group ≡ s
     → stand (grows p.group h body).group ≡ s
 stands_new g h p body s e k =
     let n = ended_of g p (closes g) refl e in
     let i : part n.more Idle ≡ p = cc (n.is) in
     ap (λ z. stand (grows z.group h body).group) (sym i) ∙ k
 
-stands_on : (g : Group) (h : Header) (p : Part) (body : List Stmt) (s : Standing) → Some (part [] g) ≡ Some p
+stands_on : (g : Group) (h : Header) (p : PartialBlock) (body : List Stmt) (s : Standing) → Some (part [] g) ≡ Some p
     → stand (grows g h body).group ≡ s → stand (grows p.group h body).group ≡ s
 stands_on g h p body s e k = let i : part [] g ≡ p = cc in ap (λ z. stand (grows z.group h body).group) (sym i) ∙ k
 
 stands_except : (other star : Bool) (first : List Stmt) (hs : List Handler) (m : Option Expr) (name : Option Identifier)
-    (p : Part) (body : List Stmt) →
+    (p : PartialBlock) (body : List Stmt) →
     cond (same_bool other star) (Some (part [] (Caught star first hs))) None ≡ Some p
     → stand (grows p.group (except_header other m name) body).group ≡ AfterExcept other
 stands_except true true first hs m name p body e = stands_on (Caught true first hs) (except_header true m name) p body
@@ -102,7 +104,7 @@ stands_except false false first hs m name p body e = stands_on (Caught false fir
 stands_except true false first hs m name p body e = cc
 stands_except false true first hs m name p body e = cc
 
-pub grows_stands : (g : Group) (h : Header) (p : Part) (body : List Stmt) → meets g h ≡ Some p
+pub grows_stands : (g : Group) (h : Header) (p : PartialBlock) (body : List Stmt) → meets g h ≡ Some p
     → stand (grows p.group h body).group ≡ after (header_kind h) (stand g)
 grows_stands g (if_header t) p body e = stands_new g (if_header t) p body AfterIf e refl
 grows_stands g (loop_header t) p body e = stands_new g (loop_header t) p body AfterLoop e refl
@@ -144,7 +146,7 @@ fits_closed (Trial b) more k e h c = cc
 fits_closed (Matching cs) more k e h c = cc
 fits_closed g more k e h c = record { follows = h; tries = λ i. cc; decorates = λ i. cc; placed = ap (same_bool false) c }
 
-fits_ended : (g : Group) (p : Part) (k : Kind) → ended g ≡ Some p → admits k (stand g) ≡ true → is_case k ≡ false → Fits k g
+fits_ended : (g : Group) (p : PartialBlock) (k : Kind) → ended g ≡ Some p → admits k (stand g) ≡ true → is_case k ≡ false → Fits k g
 fits_ended g p k e h c = let n = ended_of g p (closes g) refl e in fits_closed g n.more k n.closed h c
 
 pub wrong_closed : (g : Group) (k : Kind) → closes g ≡ None → is_try_clause k ≡ false → is_decorated k ≡ false
@@ -155,26 +157,26 @@ wrong_closed (Matching cs) k e t d c = wrong_place (ap (same_bool true) c)
 wrong_closed g k e t d c = cc
 
 not_ended : (g : Group) (o : Option (List Stmt)) → closes g ≡ o
-    → ◌≡◌ {A = Option Part} (elim o [ None ↦ None | Some ss ↦ Some (part ss Idle) ]) None → closes g ≡ None
+    → ◌≡◌ {A = Option PartialBlock} (elim o [ None ↦ None | Some ss ↦ Some (part ss Idle) ]) None → closes g ≡ None
 not_ended g None c e = c
 not_ended g (Some ss) c e = cc
 
 wrong_ended : (g : Group) (k : Kind) → ended g ≡ None → is_try_clause k ≡ false → is_decorated k ≡ false → is_case k ≡ false → Wrong k g
 wrong_ended g k e t d c = wrong_closed g k (not_ended g (closes g) refl e) t d c
 
-wrong_kind : (other star : Bool) (p : Part) → cond (same_bool other star) (Some p) None ≡ None → same_bool other star ≡ false
+wrong_kind : (other star : Bool) (p : PartialBlock) → cond (same_bool other star) (Some p) None ≡ None → same_bool other star ≡ false
 wrong_kind true true p e = cc
 wrong_kind false false p e = cc
 wrong_kind true false p e = refl
 wrong_kind false true p e = refl
 
-right_kind : (other star : Bool) (p q : Part) → cond (same_bool other star) (Some p) None ≡ Some q → same_bool other star ≡ true
+right_kind : (other star : Bool) (p q : PartialBlock) → cond (same_bool other star) (Some p) None ≡ Some q → same_bool other star ≡ true
 right_kind true true p q e = refl
 right_kind false false p q e = refl
 right_kind true false p q e = cc
 right_kind false true p q e = cc
 
-pub fits_header : (g : Group) (h : Header) (p : Part) → meets g h ≡ Some p → Fits (header_kind h) g
+pub fits_header : (g : Group) (h : Header) (p : PartialBlock) → meets g h ≡ Some p → Fits (header_kind h) g
 fits_header g (if_header t) p e = fits_ended g p IfLine e refl refl
 fits_header g (loop_header t) p e = fits_ended g p LoopLine e refl refl
 fits_header g (with_header a t) p e = fits_ended g p WithLine e refl refl
@@ -225,7 +227,7 @@ wrong_header g (def_header t) e = cc
 wrong_header (Matching cs) (case_header q c) e = cc
 wrong_header g (case_header q c) e = wrong_place refl
 
-pub fits_decorator : (g : Group) (x : Expr) (p : Part) → decorated g x ≡ Some p → Fits DecoratorLine g
+pub fits_decorator : (g : Group) (x : Expr) (p : PartialBlock) → decorated g x ≡ Some p → Fits DecoratorLine g
 fits_decorator (Marked es) x p e = record { follows = refl; tries = λ i. cc; decorates = λ i. refl; placed = refl }
 fits_decorator (Trial b) x p e = cc
 fits_decorator (Matching cs) x p e = cc

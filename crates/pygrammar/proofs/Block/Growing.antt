@@ -12,7 +12,8 @@ use Rattle.pygrammar.specs.Blocks.{handler, case_of, same_bool, header_kind, is_
 use Rattle.pygrammar.specs.Blocks.{Excepts, Cases, Ending, Decorators, nothing, and_then, if_statement, loop_statement, with_statement}
 use Rattle.pygrammar.specs.Blocks.{try_finally, try_except, definition_of, match_statement, an_else, an_elif, no_else, else_clause}
 use Rattle.pygrammar.specs.Blocks.{no_except, except_clause, no_case, case_clause, no_finally, finally_clause, no_decorator}
-use Rattle.pygrammar.specs.Reading.{arm, Group, Idle, Marked, Choice, Loop, Trial, Caught, Settled, Matching, choice, closes, Part, part}
+use Rattle.pygrammar.specs.Reading.{arm, Group, Idle, Marked, Choice, Loop, Trial, Caught, Settled, Matching, choice, closes, PartialBlock}
+use Rattle.pygrammar.specs.Reading.{part}
 use Rattle.pygrammar.specs.Reading.{ended, meets, grows, joined, matched}
 use Rattle.pygrammar.proofs.Block.Leads.{choice-append, no_gap}
 
@@ -133,71 +134,73 @@ completes {l} {xs} {d} {g} zs ss p k =
 
 -- what a header and its block make of a level
 pub record GrowsBy (l : ℕ) (xs : List Line) (suite : Option (List Stmt)) (ys : List Line) (body : List Stmt) (h : Header) (d : List Stmt)
-    (p : Part) : Type 0 where
+    (p : PartialBlock) : Type 0 where
   pub prefix : Prefix l (xs ++ (line l (header_form h suite) ∷ ys)) (joined (d ++ p.done) p.group h body).done
       (joined (d ++ p.done) p.group h body).group
 
-from_part : {l : ℕ} {xs ys : List Line} {suite : Option (List Stmt)} {body d : List Stmt} {h : Header} (q p : Part) → Some q ≡ Some p
+from_part : {l : ℕ} {xs ys : List Line} {suite : Option (List Stmt)} {body d : List Stmt} {h : Header} (q p : PartialBlock)
+    → Some q ≡ Some p
     → GrowsBy l xs suite ys body h d q → GrowsBy l xs suite ys body h d p
-from_part {l} {xs} {ys} {suite} {body} {d} {h} q p e k = let i : q ≡ p = cc in let P : Part → Type 0 =
+from_part {l} {xs} {ys} {suite} {body} {d} {h} q p e k = let i : q ≡ p = cc in let P : PartialBlock → Type 0 =
     λ z. GrowsBy l xs suite ys body h d z in subst P i k
 
-pub record Ended (g : Group) (p : Part) : Type 0 where
+pub record Ended (g : Group) (p : PartialBlock) : Type 0 where
   pub more : List Stmt
   pub closed : closes g ≡ Some more
   pub is : Some (part more Idle) ≡ Some p
 
-pub ended_of : (g : Group) (p : Part) (o : Option (List Stmt)) → closes g ≡ o
+pub ended_of : (g : Group) (p : PartialBlock) (o : Option (List Stmt)) → closes g ≡ o
     → elim o [ None ↦ None | Some ss ↦ Some (part ss Idle) ] ≡ Some p → Ended g p
 ended_of g p None c e = cc
 ended_of g p (Some more) c e = record { more = more; closed = c; is = e }
 
 -- a header that begins a statement which goes on, and one whose statement is whole
 opens_group : {l : ℕ} {xs ys : List Line} {suite : Option (List Stmt)} {body d : List Stmt} {g : Group} {h : Header}
-    (p : Part) (g' : Group) →
+    (p : PartialBlock) (g' : Group) →
     ended g ≡ Some p → Prefix l xs d g → grows Idle h body ≡ part [] g' → Grown l xs (line l (header_form h suite) ∷ ys) g'
     → GrowsBy l xs suite ys body h d p
 opens_group {l} {xs} {ys} {suite} {body} {d} {g} {h} p g' e k r b =
     let n = ended_of g p (closes g) refl e in
     from_part (part n.more Idle) p n.is (record {
       prefix =
-          let P : Part → Type 0 = λ z. Prefix l (xs ++ (line l (header_form h suite) ∷ ys)) ((d ++ n.more) ++ z.done) z.group in
+          let P : PartialBlock → Type 0 = λ z. Prefix l (xs ++ (line l (header_form h suite) ∷ ys)) ((d ++ n.more) ++ z.done) z.group in
           subst P (sym r) (prefix_to (sym (append-nil (d ++ n.more))) (begins (line l (header_form h suite) ∷ ys) n.more g' n.closed k b));
     })
 
 opens_whole : {l : ℕ} {xs ys : List Line} {suite : Option (List Stmt)} {body d : List Stmt} {g : Group} {h : Header}
-    (p : Part) (ss : List Stmt) →
+    (p : PartialBlock) (ss : List Stmt) →
     ended g ≡ Some p → Prefix l xs d g → grows Idle h body ≡ part ss Idle → Statement l (line l (header_form h suite) ∷ ys) ss
     → GrowsBy l xs suite ys body h d p
 opens_whole {l} {xs} {ys} {suite} {body} {d} {g} {h} p ss e k r b =
     let n = ended_of g p (closes g) refl e in
     from_part (part n.more Idle) p n.is (record {
       prefix =
-          let P : Part → Type 0 = λ z. Prefix l (xs ++ (line l (header_form h suite) ∷ ys)) ((d ++ n.more) ++ z.done) z.group in
+          let P : PartialBlock → Type 0 = λ z. Prefix l (xs ++ (line l (header_form h suite) ∷ ys)) ((d ++ n.more) ++ z.done) z.group in
           subst P (sym r) (whole (line l (header_form h suite) ∷ ys) n.more ss n.closed k b);
     })
 
 -- a clause after which the statement goes on, and one that makes it whole
-goes_on : {l : ℕ} {xs ys : List Line} {suite : Option (List Stmt)} {body d : List Stmt} {g : Group} {h : Header} (p : Part) (g' : Group) →
+goes_on : {l : ℕ} {xs ys : List Line} {suite : Option (List Stmt)} {body d : List Stmt} {g : Group} {h : Header}
+    (p : PartialBlock) (g' : Group) →
     Some (part [] g) ≡ Some p → Prefix l xs d g → grows g h body ≡ part [] g'
     → ((front zs : List Line) → Grown l front zs g → Grown l front (zs ++ (line l (header_form h suite) ∷ ys)) g')
     → GrowsBy l xs suite ys body h d p
 goes_on {l} {xs} {ys} {suite} {body} {d} {g} {h} p g' e k r b =
     from_part (part [] g) p e (record {
       prefix =
-          let P : Part → Type 0 = λ z. Prefix l (xs ++ (line l (header_form h suite) ∷ ys)) ((d ++ []) ++ z.done) z.group in
+          let P : PartialBlock → Type 0 = λ z. Prefix l (xs ++ (line l (header_form h suite) ∷ ys)) ((d ++ []) ++ z.done) z.group in
           subst P (sym r) (prefix_to (sym (append-nil (d ++ []) ∙ append-nil d)) (extends (line l (header_form h suite) ∷ ys) g' k b));
     })
 
 makes_whole : {l : ℕ} {xs ys : List Line} {suite : Option (List Stmt)} {body d : List Stmt} {g : Group} {h : Header}
-    (p : Part) (ss : List Stmt) →
+    (p : PartialBlock) (ss : List Stmt) →
     Some (part [] g) ≡ Some p → Prefix l xs d g → grows g h body ≡ part ss Idle
     → ((front zs : List Line) → Grown l front zs g → Statement l (zs ++ (line l (header_form h suite) ∷ ys)) ss)
     → GrowsBy l xs suite ys body h d p
 makes_whole {l} {xs} {ys} {suite} {body} {d} {g} {h} p ss e k r b =
     from_part (part [] g) p e (record {
       prefix =
-          let P : Part → Type 0 = λ z. Prefix l (xs ++ (line l (header_form h suite) ∷ ys)) ((d ++ []) ++ z.done) z.group in
+          let P : PartialBlock → Type 0 = λ z. Prefix l (xs ++ (line l (header_form h suite) ∷ ys)) ((d ++ []) ++ z.done) z.group in
           subst P (sym r) (prefix_to (sym (no_gap d ss)) (completes (line l (header_form h suite) ∷ ys) ss k b));
     })
 
@@ -212,7 +215,7 @@ tried : {l : ℕ} {zs ws : List Line} {first ss : List Stmt} → Grown l [] zs (
 tried {l} {zs} {ws} {first} {ss} (suite, ys, e, b) k = lines_to (ap (λ z. z ++ ws) (sym e)) (k suite ys b)
 
 more_excepts : {l : ℕ} {xs ys : List Line} {suite : Option (List Stmt)} {body d : List Stmt} (star : Bool) (m : Option Expr)
-    (name : Option Identifier) (p : Part) (first : List Stmt) (hs : List Handler) →
+    (name : Option Identifier) (p : PartialBlock) (first : List Stmt) (hs : List Handler) →
     Some (part [] (Caught star first hs)) ≡ Some p → Prefix l xs d (Caught star first hs) → Body l suite ys body
     → GrowsBy l xs suite ys body (except_header star m name) d p
 more_excepts {l} {ys = ys} {suite = suite} {body = body} star m name p first hs e k b =
@@ -227,7 +230,7 @@ more_excepts {l} {ys = ys} {suite = suite} {body = body} star m name p first hs 
 
 -- a further `except`, which is of the kind of those before it
 one_kind : {l : ℕ} {xs ys : List Line} {suite : Option (List Stmt)} {body d : List Stmt} (other star : Bool) (m : Option Expr)
-    (name : Option Identifier) (p : Part) (first : List Stmt) (hs : List Handler) →
+    (name : Option Identifier) (p : PartialBlock) (first : List Stmt) (hs : List Handler) →
     cond (same_bool other star) (Some (part [] (Caught star first hs))) None ≡ Some p → Prefix l xs d (Caught star first hs)
     → Body l suite ys body → GrowsBy l xs suite ys body (except_header other m name) d p
 one_kind {l} {ys = ys} {suite = suite} {body = body} true true m name p first hs e k b = more_excepts true m name p first hs e k b
@@ -252,7 +255,7 @@ cases_more {l} {ys = ys} pattern guard {suite = suite} {body = body} (case_claus
     (case_clause a (cases_more pattern guard c b))
 
 -- a header that is no `match`
-pub grows_by : {l : ℕ} {xs ys : List Line} {suite : Option (List Stmt)} {body d : List Stmt} (g : Group) (h : Header) (p : Part) →
+pub grows_by : {l : ℕ} {xs ys : List Line} {suite : Option (List Stmt)} {body d : List Stmt} (g : Group) (h : Header) (p : PartialBlock) →
     is_match (header_kind h) ≡ false → meets g h ≡ Some p → Prefix l xs d g → Body l suite ys body → GrowsBy l xs suite ys body h d p
 grows_by {body = body} g (if_header test) p i e k b = opens_group p (Choice (arm test body ∷ [])) e k refl (λ zs orelse q. if_statement b q)
 grows_by {body = body} g (loop_header head) p i e k b = opens_group p (Loop head body) e k refl (λ zs orelse q. loop_statement b q)
@@ -301,14 +304,14 @@ grows_by {ys = ys} {suite = suite} {body = body} (Matching cs) (case_header patt
 grows_by g h p i e k b = cc
 
 -- and one that is, with its cases
-pub gathers : {l : ℕ} {xs : List Line} {d : List Stmt} (g : Group) (h : Header) (p : Part) → is_match (header_kind h) ≡ true
+pub gathers : {l : ℕ} {xs : List Line} {d : List Stmt} (g : Group) (h : Header) (p : PartialBlock) → is_match (header_kind h) ≡ true
     → meets g h ≡ Some p → Prefix l xs d g →
     (x : Line) (ys : List Line) (cs : List Case) → Cases (suc l) (x ∷ ys) cs → Prefix l (xs ++ (line l (header_form h None) ∷ (x ∷ ys)))
     ((d ++ p.done) ++ matched h cs) Idle
 gathers {l} {xs} {d} g (match_header subject) p i e k x ys cs c =
     let n = ended_of g p (closes g) refl e in
     let j : part n.more Idle ≡ p = cc (n.is) in
-    let Q : Part → Type 0 = λ z. Prefix l (xs ++ (line l (header_form (match_header subject) None) ∷ (x ∷ ys)))
+    let Q : PartialBlock → Type 0 = λ z. Prefix l (xs ++ (line l (header_form (match_header subject) None) ∷ (x ∷ ys)))
     ((d ++ z.done) ++ (Match subject (cases cs) ∷ [])) Idle in
     subst Q j (whole (line l (header_form (match_header subject) None) ∷ (x ∷ ys)) n.more (Match subject (cases cs) ∷ [])
     n.closed k (match_statement c))

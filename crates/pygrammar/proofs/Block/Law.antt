@@ -12,7 +12,8 @@ use Rattle.pygrammar.specs.Lines.{Line, line, Form, simple_form, decorator_form,
 use Rattle.pygrammar.specs.Blocks.{Block, Fault, ExpectedIndent, UnexpectedIndent, MisplacedClause, Kind, SimpleLine, DecoratorLine}
 use Rattle.pygrammar.specs.Blocks.{EndLine, header_kind, kind_of, IsClear, IsFault, IsFaultless, clear_end, clear_line, FirstFault}
 use Rattle.pygrammar.specs.Blocks.{fault_at_end, fault_at, fault_behind}
-use Rattle.pygrammar.specs.Reading.{Answer, Fine, Faulty, then, Group, Idle, Marked, closes, Part, part, meets, decorated, or_misplaced}
+use Rattle.pygrammar.specs.Reading.{Answer, Fine, Faulty, then, Group, Idle, Marked, closes, PartialBlock, part, meets, decorated}
+use Rattle.pygrammar.specs.Reading.{or_misplaced}
 use Rattle.pygrammar.specs.Reading.{place_header, Waiting, waiting, State, state, start, joined, first_group, settle, place, placed, step}
 use Rattle.pygrammar.specs.Reading.{run, stops, finish, read}
 use Rattle.pygrammar.proofs.Block.Leads.{read_block}
@@ -56,7 +57,7 @@ marks_behind earlier s t f d g r o e m i = record {
   nested = nested_on t.group g t.below i r.settled.nested;
 }
 
-marks_deeper : (earlier : List Line) (s t : State) (h : Header) (d : List Stmt) (p : Part) → Reached earlier (length t.below) s t
+marks_deeper : (earlier : List Line) (s t : State) (h : Header) (d : List Stmt) (p : PartialBlock) → Reached earlier (length t.below) s t
     → meets t.group h ≡ Some p →
     Marks (line (length t.below) (header_form h None) ∷ earlier) (state [] (first_group h) true (waiting d p.group h ∷ t.below))
 marks_deeper earlier s t h d p r e = record {
@@ -89,16 +90,16 @@ steps_simple earlier s t ss r (Some more) c = (
   marks_behind earlier s t (simple_form ss) ((t.done ++ more) ++ ss) Idle r refl refl refl (sym (closed_unmatched t.group more c)),
 )
 
-marks_decorated : (g : Group) (x : Expr) (p : Part) → decorated g x ≡ Some p → is_marked p.group ≡ true
+marks_decorated : (g : Group) (x : Expr) (p : PartialBlock) → decorated g x ≡ Some p → is_marked p.group ≡ true
 marks_decorated (Marked es) x p e = let i : part [] (Marked (es ++ x ∷ [])) ≡ p = cc in ap (λ z. is_marked z.group) (sym i)
 marks_decorated g x p e = marks_from g x p (closes g) refl e
   where
-    marks_from : (g : Group) (x : Expr) (p : Part) (o : Option (List Stmt)) → closes g ≡ o
+    marks_from : (g : Group) (x : Expr) (p : PartialBlock) (o : Option (List Stmt)) → closes g ≡ o
         → elim o [ None ↦ None | Some ss ↦ Some (part ss (Marked (x ∷ []))) ] ≡ Some p → is_marked p.group ≡ true
     marks_from g x p None c e = cc
     marks_from g x p (Some ss) c e = let i : part ss (Marked (x ∷ [])) ≡ p = cc in ap (λ z. is_marked z.group) (sym i)
 
-steps_decorator : (earlier : List Line) (s t : State) (x : Expr) → Reached earlier (length t.below) s t → (o : Option Part)
+steps_decorator : (earlier : List Line) (s t : State) (x : Expr) → Reached earlier (length t.below) s t → (o : Option PartialBlock)
     → decorated t.group x ≡ o →
     Steps earlier (line (length t.below) (decorator_form x)) (or_misplaced o (λ p. state (t.done ++ p.done) p.group false t.below))
 steps_decorator earlier s t x r None c = wrong_here earlier (length t.below) s t DecoratorLine r (wrong_decorator_line t.group x c)
@@ -110,7 +111,7 @@ steps_decorator earlier s t x r (Some p) c =
     )
 
 steps_header : (earlier : List Line) (s t : State) (h : Header) (suite : Option (List Stmt)) → Reached earlier (length t.below) s t
-    → (o : Option Part) → meets t.group h ≡ o →
+    → (o : Option PartialBlock) → meets t.group h ≡ o →
     Steps earlier (line (length t.below) (header_form h suite)) (or_misplaced o (place_header t h suite))
 steps_header earlier s t h suite r None c = wrong_here earlier (length t.below) s t (header_kind h) r (wrong_header t.group h c)
 steps_header earlier s t h None r (Some p) c = (

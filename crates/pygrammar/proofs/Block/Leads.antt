@@ -14,7 +14,8 @@ use Rattle.pygrammar.specs.Blocks.{try_finally, try_except, definition_of, match
 use Rattle.pygrammar.specs.Blocks.{else_clause, no_except, except_clause, no_case, case_clause, no_finally, finally_clause, no_decorator}
 use Rattle.pygrammar.specs.Blocks.{decorator}
 use Rattle.pygrammar.specs.Reading.{Answer, Fine, Faulty, then, Arm, arm, Group, Idle, Marked, Choice, Loop, Trial, Caught, Settled}
-use Rattle.pygrammar.specs.Reading.{Matching, choice, closes, Part, part, ended, meets, grows, decorated, or_misplaced, place_header}
+use Rattle.pygrammar.specs.Reading.{Matching, choice, closes, PartialBlock, part, ended, meets, grows, decorated, or_misplaced}
+use Rattle.pygrammar.specs.Reading.{place_header}
 use Rattle.pygrammar.specs.Reading.{Waiting, waiting, State, state, start, joined, first_group, above, settle, place, run, finish, read}
 use Rattle.pygrammar.proofs.Block.Steps.{then_then, run-append, closes_above, settle_here, settle_block, step_here}
 
@@ -93,7 +94,7 @@ Gives l xs ss = (d : List Stmt) (g : Group) (more : List Stmt) → closes g ≡ 
 
 -- a header with its block, but that of a `match`
 abbrev pub GivesBody : ℕ → Option (List Stmt) → List Line → List Stmt → Type 0
-GivesBody l suite xs body = (d : List Stmt) (g : Group) (h : Header) (p : Part) → first_group h ≡ Idle → meets g h ≡ Some p →
+GivesBody l suite xs body = (d : List Stmt) (g : Group) (h : Header) (p : PartialBlock) → first_group h ≡ Idle → meets g h ≡ Some p →
     Leads l (line l (header_form h suite) ∷ xs) d g (joined (d ++ p.done) p.group h body).done (joined (d ++ p.done) p.group h body).group
 
 body_inline : (l : ℕ) (ss : List Stmt) → GivesBody l (Some ss) [] ss
@@ -101,7 +102,7 @@ body_inline l ss d g h p i e =
     one_line l (header_form h (Some ss)) d (joined (d ++ p.done) p.group h ss).done g (joined (d ++ p.done) p.group h ss).group
     (λ b below. ap (λ o. or_misplaced o (place_header (state d g b below) h (Some ss))) e)
 
-after_block : (l : ℕ) (d1 : List Stmt) (g1 : Group) (w : Waiting) (below : List Waiting) (p : Part)
+after_block : (l : ℕ) (d1 : List Stmt) (g1 : Group) (w : Waiting) (below : List Waiting) (p : PartialBlock)
     → above w d1 g1 ≡ Some p → length below ≡ l →
     (a : Answer State) → then a (settle (suc l)) ≡ Fine (state d1 g1 false (w ∷ below))
     → then a (settle l) ≡ Fine (state p.done p.group false below)
@@ -109,7 +110,7 @@ after_block l d1 g1 w below p c n (Fine t) h = settle_block l t d1 g1 w below p 
 after_block l d1 g1 w below p c n (Faulty f) h = cc
 
 -- a header whose block is the lines that follow
-with_lines : (l : ℕ) (x : Line) (xs : List Line) (d d1 : List Stmt) (g g1 : Group) (h : Header) (p q : Part) → meets g h ≡ Some p →
+with_lines : (l : ℕ) (x : Line) (xs : List Line) (d d1 : List Stmt) (g g1 : Group) (h : Header) (p q : PartialBlock) → meets g h ≡ Some p →
     Leads (suc l) (x ∷ xs) [] (first_group h) d1 g1 → above (waiting (d ++ p.done) p.group h) d1 g1 ≡ Some q →
     Leads l (line l (header_form h None) ∷ (x ∷ xs)) d g q.done q.group
 with_lines l x xs d d1 g g1 h p q e c u = record {

@@ -7,24 +7,26 @@ use Rattle.pytree_node.specs.Trees.{Expr, Identifier, Stmt, Case, Handler}
 use Rattle.pygrammar.specs.Lines.{Header, if_header, elif_header, else_header, loop_header, with_header, try_header, except_header}
 use Rattle.pygrammar.specs.Lines.{finally_header, def_header, match_header, case_header, header_form, is_proper}
 use Rattle.pygrammar.specs.Blocks.{header_kind, is_match, same_bool}
-use Rattle.pygrammar.specs.Reading.{Group, Idle, Marked, Choice, Loop, Trial, Caught, Settled, Matching, closes, Part, part, ended, meets}
+use Rattle.pygrammar.specs.Reading.{Group, Idle, Marked, Choice, Loop, Trial, Caught, Settled, Matching, closes, PartialBlock, part, ended}
+use Rattle.pygrammar.specs.Reading.{meets}
 use Rattle.pygrammar.specs.Reading.{grows, decorated, Waiting, waiting, joined, first_group, matched, above}
 use Rattle.pygrammar.proofs.Block.Growing.{ended_of}
 
 -- ---- A level ends.
 
 -- a block of cases, or one of statements
-pub data Ends (w : Waiting) (d : List Stmt) : Group → Part → Type 0 where
+pub data Ends (w : Waiting) (d : List Stmt) : Group → PartialBlock → Type 0 where
   ends_cases : (cs : List Case) → Ends w d (Matching cs) (part (w.done ++ matched w.header cs) Idle)
   ends_block : {g : Group} (ss : List Stmt) → closes g ≡ Some ss → Ends w d g (joined w.done w.group w.header (d ++ ss))
 
-pub ends_of : (w : Waiting) (d : List Stmt) (g : Group) (p : Part) → above w d g ≡ Some p → Ends w d g p
-ends_of w d (Matching cs) p e = let P : Part → Type 0 = λ z. Ends w d (Matching cs) z in let i : part (w.done ++ matched w.header cs) Idle ≡
+pub ends_of : (w : Waiting) (d : List Stmt) (g : Group) (p : PartialBlock) → above w d g ≡ Some p → Ends w d g p
+ends_of w d (Matching cs) p e = let P : PartialBlock → Type 0 = λ z. Ends w d (Matching cs) z in
+    let i : part (w.done ++ matched w.header cs) Idle ≡
     p = cc in subst P i (ends_cases cs)
 ends_of w d g p e = elim (closes g) as (λ o. closes g ≡ o
     → elim o [ None ↦ None | Some ss ↦ Some (joined w.done w.group w.header (d ++ ss)) ] ≡ Some p → Ends w d g p) [
       | None ↦ λ c k. cc
-      | Some ss ↦ λ c k. let P : Part → Type 0 = λ z. Ends w d g z in let i : joined w.done w.group w.header (d ++ ss) ≡ p = cc in
+      | Some ss ↦ λ c k. let P : PartialBlock → Type 0 = λ z. Ends w d g z in let i : joined w.done w.group w.header (d ++ ss) ≡ p = cc in
           subst P i (ends_block ss c)
     ] refl e
 
@@ -38,12 +40,12 @@ pub closed_unmatched : (g : Group) (ss : List Stmt) → closes g ≡ Some ss →
 closed_unmatched (Matching cs) ss e = cc
 closed_unmatched _ ss e = refl
 
-decorated_unmatched : (g : Group) (x : Expr) (p : Part) → decorated g x ≡ Some p → is_matching g ≡ false
+decorated_unmatched : (g : Group) (x : Expr) (p : PartialBlock) → decorated g x ≡ Some p → is_matching g ≡ false
 decorated_unmatched (Matching cs) x p e = cc
 decorated_unmatched _ x p e = refl
 
 -- what is left is decorators
-pub decorated_same : (g : Group) (x : Expr) (p : Part) → decorated g x ≡ Some p → is_matching p.group ≡ is_matching g
+pub decorated_same : (g : Group) (x : Expr) (p : PartialBlock) → decorated g x ≡ Some p → is_matching p.group ≡ is_matching g
 decorated_same (Marked es) x p e = let i : part [] (Marked (es ++ x ∷ [])) ≡ p = cc in ap (λ z. is_matching z.group) (sym i)
 decorated_same g x p e = marked (closes g) e ∙ sym (decorated_unmatched g x p e)
   where
@@ -52,19 +54,19 @@ decorated_same g x p e = marked (closes g) e ∙ sym (decorated_unmatched g x p 
     marked None e = cc
     marked (Some ss) e = let i : part ss (Marked (x ∷ [])) ≡ p = cc in ap (λ z. is_matching z.group) (sym i)
 
-same_new : (g : Group) (h : Header) (p : Part) (body : List Stmt) → ended g ≡ Some p → is_matching (grows Idle h body).group ≡ false
+same_new : (g : Group) (h : Header) (p : PartialBlock) (body : List Stmt) → ended g ≡ Some p → is_matching (grows Idle h body).group ≡ false
     → is_matching (grows p.group h body).group ≡ is_matching g
 same_new g h p body e k =
     let n = ended_of g p (closes g) refl e in
     let i : part n.more Idle ≡ p = cc (n.is) in
     ap (λ z. is_matching (grows z.group h body).group) (sym i) ∙ k ∙ sym (closed_unmatched g n.more n.closed)
 
-same_on : (g : Group) (h : Header) (p : Part) (body : List Stmt) → Some (part [] g) ≡ Some p
+same_on : (g : Group) (h : Header) (p : PartialBlock) (body : List Stmt) → Some (part [] g) ≡ Some p
     → is_matching (grows g h body).group ≡ is_matching g → is_matching (grows p.group h body).group ≡ is_matching g
 same_on g h p body e k = let i : part [] g ≡ p = cc in ap (λ z. is_matching (grows z.group h body).group) (sym i) ∙ k
 
 same_except : (other star : Bool) (first : List Stmt) (hs : List Handler) (m : Option Expr) (name : Option Identifier)
-    (p : Part) (body : List Stmt) →
+    (p : PartialBlock) (body : List Stmt) →
     cond (same_bool other star) (Some (part [] (Caught star first hs))) None ≡ Some p
     → is_matching (grows p.group (except_header other m name) body).group ≡ false
 same_except true true first hs m name p body e = same_on (Caught true first hs) (except_header true m name) p body e refl
@@ -73,7 +75,7 @@ same_except true false first hs m name p body e = cc
 same_except false true first hs m name p body e = cc
 
 -- a header and its block don't change whether it is such a group
-pub grows_same : (g : Group) (h : Header) (p : Part) (body : List Stmt) → meets g h ≡ Some p
+pub grows_same : (g : Group) (h : Header) (p : PartialBlock) (body : List Stmt) → meets g h ≡ Some p
     → is_matching (grows p.group h body).group ≡ is_matching g
 grows_same g (if_header t) p body e = same_new g (if_header t) p body e refl
 grows_same g (loop_header t) p body e = same_new g (loop_header t) p body e refl
@@ -120,7 +122,8 @@ first_matching (match_header t) = refl
 first_matching _ = refl
 
 -- a header opens a level
-pub nested_deeper : (g : Group) (below : List Waiting) (d : List Stmt) (h : Header) (p : Part) → meets g h ≡ Some p → AreNested g below
+pub nested_deeper : (g : Group) (below : List Waiting) (d : List Stmt) (h : Header) (p : PartialBlock)
+    → meets g h ≡ Some p → AreNested g below
     → AreNested (first_group h) (waiting d p.group h ∷ below)
 nested_deeper g below d h p e n = (first_matching h, λ body. nested_on g (grows p.group h body).group below (grows_same g h p body e) n)
 
@@ -129,7 +132,8 @@ grows_match g (match_header t) body e = refl
 grows_match g h body e = cc
 
 -- and a level ends
-pub nested_pop : (w : Waiting) (d : List Stmt) (g : Group) (p : Part) (below : List Waiting) → Ends w d g p → AreNested g (w ∷ below)
+pub nested_pop : (w : Waiting) (d : List Stmt) (g : Group) (p : PartialBlock) (below : List Waiting) → Ends w d g p
+    → AreNested g (w ∷ below)
     → AreNested p.group below
 nested_pop w d g p below (ends_cases cs) n = let P : Group → Type 0 = λ z. AreNested z below in
     subst P (grows_match w.group w.header [] (sym n.0)) (n.1 [])

@@ -12,7 +12,7 @@ use Rattle.pygrammar.specs.Blocks.{Fault, ExpectedIndent, UnexpectedIndent, Misp
 use Rattle.pygrammar.specs.Blocks.{kind_of, previous, may_follow, is_try_clause, is_decorated, level_before, opens_before, is_match}
 use Rattle.pygrammar.specs.Blocks.{is_case, same_bool, stands_in_match, Misplaced, not_taken, ends_try, ends_decorators, not_by_place}
 use Rattle.pygrammar.specs.Blocks.{HasFault, not_deeper, far_deeper, opens_none, misplaced, comes_before, IsClear, IsFault}
-use Rattle.pygrammar.specs.Reading.{Answer, Fine, Faulty, Group, Marked, Trial, closes, Part, grows, Waiting, State, state, above}
+use Rattle.pygrammar.specs.Reading.{Answer, Fine, Faulty, Group, Marked, Trial, closes, PartialBlock, grows, Waiting, State, state, above}
 use Rattle.pygrammar.specs.Reading.{settle_in}
 use Rattle.pygrammar.proofs.Block.Steps.{popped}
 use Rattle.pygrammar.proofs.Block.Standing.{Standing, Free, AfterTry, AfterDecorator, standing, stand, admits, may_follow_is, try_stands}
@@ -80,19 +80,19 @@ unmarked g a b = cc
 
 -- ---- A level ends.
 
-ends_no_try : (w : Waiting) (d : List Stmt) (g : Group) (p : Part) → Ends w d g p → stand g ≡ AfterTry → ⊥
+ends_no_try : (w : Waiting) (d : List Stmt) (g : Group) (p : PartialBlock) → Ends w d g p → stand g ≡ AfterTry → ⊥
 ends_no_try w d g p (ends_cases cs) e = cc
 ends_no_try w d g p (ends_block ss c) e = closes_no_try g ss c e
 
-ends_unmarked : (w : Waiting) (d : List Stmt) (g : Group) (p : Part) → Ends w d g p → is_marked g ≡ false
+ends_unmarked : (w : Waiting) (d : List Stmt) (g : Group) (p : PartialBlock) → Ends w d g p → is_marked g ≡ false
 ends_unmarked w d g p (ends_cases cs) = refl
 ends_unmarked w d g p (ends_block ss c) = closes_unmarked g ss c
 
-left_unmarked : (w : Waiting) (d : List Stmt) (g : Group) (p : Part) → Ends w d g p → is_marked p.group ≡ false
+left_unmarked : (w : Waiting) (d : List Stmt) (g : Group) (p : PartialBlock) → Ends w d g p → is_marked p.group ≡ false
 left_unmarked w d g p (ends_cases cs) = refl
 left_unmarked w d g p (ends_block ss c) = not_marked w.group w.header (d ++ ss)
 
-left_stands : (s : Standing) (w : Waiting) (d : List Stmt) (g : Group) (p : Part) → Ends w d g p
+left_stands : (s : Standing) (w : Waiting) (d : List Stmt) (g : Group) (p : PartialBlock) → Ends w d g p
     → is_matching g ≡ is_match (header_kind w.header) →
     ((body : List Stmt) → s ≡ stand (grows w.group w.header body).group) → s ≡ stand p.group
 left_stands s w d g p (ends_cases cs) n k = k [] ∙ ap stand (grows_match w.group w.header [] (sym n))
@@ -138,7 +138,7 @@ settles_up l earlier g g' w below (Faulty e) n s c m m' h = record {
 settles_pop : (l : ℕ) (earlier : List Line) (d : List Stmt) (g : Group) (f : Bool) (w : Waiting) (below : List Waiting)
     → l < length (w ∷ below) →
     standing (length (w ∷ below)) earlier ≡ stand g
-    → ((p : Part) → Ends w d g p → Settles l earlier p.group false below (settle_in l p.done p.group false below)) →
+    → ((p : PartialBlock) → Ends w d g p → Settles l earlier p.group false below (settle_in l p.done p.group false below)) →
     Settles l earlier g f (w ∷ below) (cond f (Faulty ExpectedIndent) (popped l d g w below))
 settles_pop l earlier d g true w below n s k = record { above = n; why = inl (refl, refl) }
 settles_pop l earlier d g false w below n s k =

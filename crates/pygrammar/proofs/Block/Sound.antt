@@ -10,7 +10,8 @@ use Rattle.pytree_node.specs.Trees.{Expr, Stmt, Case}
 use Rattle.pygrammar.specs.Lines.{Line, line, Form, simple_form, decorator_form, header_form, Header, match_header, is_proper, are_proper}
 use Rattle.pygrammar.specs.Blocks.{ExpectedIndent, UnexpectedIndent, MisplacedClause, Block, Body, Cases, Decorators, nothing, simple_line}
 use Rattle.pygrammar.specs.Blocks.{inline, indented, no_case, no_decorator, decorator, header_kind, is_match}
-use Rattle.pygrammar.specs.Reading.{Answer, Fine, Faulty, then, Group, Idle, Marked, closes, Part, part, meets, decorated, or_misplaced}
+use Rattle.pygrammar.specs.Reading.{Answer, Fine, Faulty, then, Group, Idle, Marked, closes, PartialBlock, part, meets, decorated}
+use Rattle.pygrammar.specs.Reading.{or_misplaced}
 use Rattle.pygrammar.specs.Reading.{place_header, Waiting, State, state, start, joined, first_group, matched, above, settle_in, settle}
 use Rattle.pygrammar.specs.Reading.{place, placed, step, run, finish, read}
 use Rattle.pygrammar.proofs.Block.Steps.{popped}
@@ -72,7 +73,7 @@ gathered : (l : ℕ) (w : Waiting) (below : List Waiting) (xs ys : List Line) (c
 gathered l w below xs [] cs a i h c = absurd h
 gathered l w below xs (y ∷ ys) cs a i h c = a.gather i y ys cs c
 
-ends_prefix : (seen : List Line) (d : List Stmt) (g : Group) (w : Waiting) (below : List Waiting) (p : Part)
+ends_prefix : (seen : List Line) (d : List Stmt) (g : Group) (w : Waiting) (below : List Waiting) (p : PartialBlock)
     (h : Holds seen d g false (w ∷ below)) → Ends w d g p →
     Prefix (length below) (h.stack.1 ++ (line (length below) (header_form w.header None) ∷ h.here)) p.done p.group
 ends_prefix seen d g w below p h (ends_cases cs) =
@@ -83,7 +84,8 @@ ends_prefix seen d g w below p h (ends_block ss c) =
     (closed_prefix ss c h.prefix))
 
 -- a level comes to its end
-joins : (seen : List Line) (d : List Stmt) (g : Group) (w : Waiting) (below : List Waiting) (p : Part) → Holds seen d g false (w ∷ below)
+joins : (seen : List Line) (d : List Stmt) (g : Group) (w : Waiting) (below : List Waiting) (p : PartialBlock)
+    → Holds seen d g false (w ∷ below)
     → above w d g ≡ Some p →
     Holds seen p.done p.group false below
 joins seen d g w below p h c =
@@ -109,7 +111,7 @@ HoldsState seen s = Holds seen s.done s.group s.fresh s.below
 settle_pops : (l : ℕ) (seen : List Line) (d : List Stmt) (g : Group) (f : Bool) (w : Waiting) (below : List Waiting) (t : State)
     → Holds seen d g f (w ∷ below) →
     cond f (Faulty ExpectedIndent) (popped l d g w below) ≡ Fine t →
-    ((p : Part) → Holds seen p.done p.group false below → settle_in l p.done p.group false below ≡ Fine t
+    ((p : PartialBlock) → Holds seen p.done p.group false below → settle_in l p.done p.group false below ≡ Fine t
     → HoldsState seen t × (length t.below ≤ l)) →
     HoldsState seen t × (length t.below ≤ l)
 settle_pops l seen d g true w below t h e k = cc
@@ -164,7 +166,7 @@ first_prefix l (match_header t) = record { front = []; back = []; is = refl; blo
 first_prefix l _ = record { front = []; back = []; is = refl; block = nothing; grown = refl }
 
 place_header_holds : (seen : List Line) (d : List Stmt) (g : Group) (f : Bool) (below : List Waiting) (h : Header)
-    (suite : Option (List Stmt)) (p : Part) → is_proper (header_form h suite) ≡ true →
+    (suite : Option (List Stmt)) (p : PartialBlock) → is_proper (header_form h suite) ≡ true →
     Holds seen d g f below → meets g h ≡ Some p → Then seen (line (length below) (header_form h suite))
     (place_header (state d g f below) h suite p)
 place_header_holds seen d g f below h None p i k m = record {
@@ -193,23 +195,24 @@ decorators-append : {l : ℕ} {xs ys : List Line} {es fs : List Expr} → Decora
 decorators-append no_decorator q = q
 decorators-append (decorator p) q = decorator (decorators-append p q)
 
-marks : (seen : List Line) (d : List Stmt) (g : Group) (f : Bool) (below : List Waiting) (x : Expr) (p : Part) → Holds seen d g f below
+marks : (seen : List Line) (d : List Stmt) (g : Group) (f : Bool) (below : List Waiting) (x : Expr) (p : PartialBlock)
+    → Holds seen d g f below
     → (o : Option (List Stmt)) → closes g ≡ o →
     elim o [ None ↦ None | Some ss ↦ Some (part ss (Marked (x ∷ []))) ] ≡ Some p
     → Holds (seen ++ (line (length below) (decorator_form x) ∷ [])) (d ++ p.done) p.group false below
 marks seen d g f below x p k None c e = cc
 marks seen d g f below x p k (Some more) c e =
     let i : part more (Marked (x ∷ [])) ≡ p = cc in
-    let P : Part → Type 0 = λ z. Holds (seen ++ (line (length below) (decorator_form x) ∷ [])) (d ++ z.done) z.group false below in
+    let P : PartialBlock → Type 0 = λ z. Holds (seen ++ (line (length below) (decorator_form x) ∷ [])) (d ++ z.done) z.group false below in
     subst P i (stays (line (length below) (decorator_form x)) (d ++ more) (Marked (x ∷ [])) (sym (closed_unmatched g more c)) k
     (begins (line (length below) (decorator_form x) ∷ []) more (Marked (x ∷ [])) c k.prefix (decorator no_decorator)))
 
-decorated_holds : (seen : List Line) (d : List Stmt) (g : Group) (f : Bool) (below : List Waiting) (x : Expr) (p : Part)
+decorated_holds : (seen : List Line) (d : List Stmt) (g : Group) (f : Bool) (below : List Waiting) (x : Expr) (p : PartialBlock)
     → Holds seen d g f below →
     decorated g x ≡ Some p → Holds (seen ++ (line (length below) (decorator_form x) ∷ [])) (d ++ p.done) p.group false below
 decorated_holds seen d (Marked es) f below x p k e =
     let i : part [] (Marked (es ++ x ∷ [])) ≡ p = cc in
-    let P : Part → Type 0 = λ z. Holds (seen ++ (line (length below) (decorator_form x) ∷ [])) (d ++ z.done) z.group false below in
+    let P : PartialBlock → Type 0 = λ z. Holds (seen ++ (line (length below) (decorator_form x) ∷ [])) (d ++ z.done) z.group false below in
     subst P i (stays (line (length below) (decorator_form x)) (d ++ []) (Marked (es ++ x ∷ [])) refl k
     (prefix_to (sym (append-nil d)) (extends (line (length below) (decorator_form x) ∷ []) (Marked (es ++ x ∷ [])) k.prefix
     (λ front ys n. decorators-append n (decorator no_decorator)))))
@@ -225,7 +228,8 @@ simple_holds seen s ss t h (Some more) c e =
     (stays (line (length s.below) (simple_form ss)) ((s.done ++ more) ++ ss) Idle (sym (closed_unmatched s.group more c)) h
     (whole (line (length s.below) (simple_form ss) ∷ []) more ss c h.prefix simple_line))
 
-decorator_holds : (seen : List Line) (s : State) (x : Expr) (t : State) → HoldsState seen s → (o : Option Part) → decorated s.group x ≡ o →
+decorator_holds : (seen : List Line) (s : State) (x : Expr) (t : State) → HoldsState seen s → (o : Option PartialBlock)
+    → decorated s.group x ≡ o →
     or_misplaced o (λ p. state (s.done ++ p.done) p.group false s.below) ≡ Fine t → Then seen (line (length s.below) (decorator_form x)) t
 decorator_holds seen s x t h None c e = cc
 decorator_holds seen s x t h (Some p) c e =
@@ -233,7 +237,7 @@ decorator_holds seen s x t h (Some p) c e =
     (decorated_holds seen s.done s.group s.fresh s.below x p h c)
 
 header_holds : (seen : List Line) (s : State) (k : Header) (suite : Option (List Stmt)) (t : State) → is_proper (header_form k suite) ≡ true
-    → HoldsState seen s → (o : Option Part) → meets s.group k ≡ o →
+    → HoldsState seen s → (o : Option PartialBlock) → meets s.group k ≡ o →
     or_misplaced o (place_header s k suite) ≡ Fine t → Then seen (line (length s.below) (header_form k suite)) t
 header_holds seen s k suite t i h None c e = cc
 header_holds seen s k suite t i h (Some p) c e =

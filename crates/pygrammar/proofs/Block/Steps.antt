@@ -9,7 +9,7 @@ use borrow.Author.Tests.{ltb-true, lt-ltb}
 use Rattle.pytree_node.specs.Trees.{Stmt}
 use Rattle.pygrammar.specs.Lines.{Line, line, Form}
 use Rattle.pygrammar.specs.Blocks.{ExpectedIndent, UnexpectedIndent, MisplacedClause}
-use Rattle.pygrammar.specs.Reading.{Answer, Fine, Faulty, then, Group, Matching, closes, Part, Waiting, State, state, joined, above}
+use Rattle.pygrammar.specs.Reading.{Answer, Fine, Faulty, then, Group, Matching, closes, PartialBlock, Waiting, State, state, joined, above}
 use Rattle.pygrammar.specs.Reading.{settle_in, settle, place, placed, step, run}
 
 pub not_less : (a b : ℕ) → b ≤ a → nat_lt a b ≡ false
@@ -74,7 +74,7 @@ settle_settle l m h d g f (w ∷ below) =
     refl
 
 -- the block of a header ends
-pub settle_block : (l : ℕ) (s : State) (d : List Stmt) (g : Group) (w : Waiting) (below : List Waiting) (p : Part) →
+pub settle_block : (l : ℕ) (s : State) (d : List Stmt) (g : Group) (w : Waiting) (below : List Waiting) (p : PartialBlock) →
     length below ≡ l → settle (suc l) s ≡ Fine (state d g false (w ∷ below)) → above w d g ≡ Some p
     → settle l s ≡ Fine (state p.done p.group false below)
 settle_block l s d g w below p n h c =

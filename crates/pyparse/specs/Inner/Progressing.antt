@@ -1,5 +1,5 @@
 -- What is known of a source behind some of its lines.
-use Rattle.std.specs.Prelude.{◌≡◌, ℕ, ◌+◌, Bool, true, false, List, [], ◌++◌, length, take, slice_get, Some, None}
+use Rattle.std.specs.Prelude.{◌≡◌, ℕ, ◌+◌, Bool, true, false, List, [], ◌∷◌, ◌++◌, length, take, slice_get, Some, None}
 use Rattle.pysource.specs.declared.places.Place.{Place}
 use Rattle.pylex.specs.Listing.{Source}
 use Rattle.pytree_node.specs.declared.profiles.Profile.{Profile}
@@ -9,6 +9,7 @@ use Rattle.pytoken.specs.Tokens as Tokens
 use Rattle.pytoken.specs.Refusals.{refusal}
 use Rattle.pygrammar.specs.Lines.{Line}
 use Rattle.pygrammar.specs.Blocks.{Fault, FirstFault, stands_in_match}
+use Rattle.pygrammar.specs.Depths.{count, innermost, is_deep}
 use Rattle.pygrammar.specs.Reading.{Fine, run, start}
 use Rattle.pygrammar.specs.Refusals.{Indentation, StartsAt, HasForm, Formed, FirstUnread, FirstDeep}
 use Rattle.pyparse_block.specs.declared.blocks.Blocks.{Blocks}
@@ -71,6 +72,11 @@ IsKnown profile s k forms (Deep o p) = IsDeepAt profile s k forms o p
 IsKnown profile s k forms (Faulty e p) = IsFaultyAt profile s k forms e p
 IsKnown profile s k forms (Unread e p) = IsUnreadAt profile s k e p
 
+-- whether all is sound so far
+abbrev pub is_sound : Known → Bool
+is_sound (Sound o b) = true
+is_sound _ = false
+
 -- whether a line without a form is
 abbrev pub is_unread : Known → Bool
 is_unread (Unread e p) = true
@@ -91,6 +97,21 @@ pub record Comes (profile : Profile) (s : Source) (k : ℕ) (earlier : List Line
   pub level : l.level ≡ line.level
   pub form : HasForm profile (stands_in_match line.level earlier) line l.form
   pub starts : StartsAt s k p
+
+-- the lines are sound; the next one is in what is kept without trees, and not yet in what is kept with them
+pub record IsHalfSound (profile : Profile) (s : Source) (k : ℕ) (forms : List Line) (l : Line) (o : Outline) (b : Blocks) : Type 0 where
+  pub was : Outline
+  pub sound : IsSound profile s k forms was b
+  pub follows : (xs : List Line) → Follows xs was → Follows (xs ++ l ∷ []) o × (false ≡ is_deep (innermost l (count [] xs)))
+
+abbrev pub AwaitsBlocks : Profile → Source → ℕ → List Line → Line → Known → Type 0
+AwaitsBlocks profile s k forms l (Sound o b) = IsHalfSound profile s k forms l o b
+AwaitsBlocks profile s k forms l _ = ⊥
+
+-- once the next line was met, statements are to grow by it, or what is known has it
+abbrev pub Meets : Profile → Source → ℕ → List Line → Line → Known → Bool → Type 0
+Meets profile s k forms l known true = AwaitsBlocks profile s k forms l known
+Meets profile s k forms l known false = IsKnown profile s (k + 1) (forms ++ l ∷ []) known
 
 -- behind so many lines a source ends, with ENDMARKER here, and its tokens are not refused
 pub record Closes (profile : Profile) (s : Source) (k : ℕ) (p : Place) : Type 0 where

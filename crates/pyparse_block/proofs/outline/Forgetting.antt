@@ -10,7 +10,8 @@ use Rattle.pygrammar.specs.Lines.{except_header, finally_header, def_header, mat
 use Rattle.pygrammar.specs.Lines.{header_form}
 use Rattle.pygrammar.specs.Blocks.{Fault, ExpectedIndent, UnexpectedIndent, MisplacedClause, same_bool}
 use Rattle.pygrammar.specs.Reading.{Answer, Fine, Faulty, then, Group, Idle, Marked, Choice, Loop, Trial, Caught, Settled, Matching, closes}
-use Rattle.pygrammar.specs.Reading.{Part, part, meets, grows, decorated, or_misplaced, place_header, Waiting, waiting, State, state, start}
+use Rattle.pygrammar.specs.Reading.{PartialBlock, part, meets, grows, decorated, or_misplaced, place_header, Waiting, waiting, State, state}
+use Rattle.pygrammar.specs.Reading.{start}
 use Rattle.pygrammar.specs.Reading.{joined}
 use Rattle.pygrammar.specs.Reading as reading
 use Rattle.pyparse_block.specs.declared.outline.shapes.Shape as bare_shape
@@ -49,7 +50,7 @@ grown_alike Idle (case_header p t) body = refl
 grown_alike _ (case_header p t) body = refl
 
 -- what is open behind a header that was met
-abbrev met : Option Part → Header → Option bare.GroupKind
+abbrev met : Option PartialBlock → Header → Option bare.GroupKind
 met o h = elim o [ None ↦ None | Some p ↦ Some (group_of (grows p.group h []).group) ]
 
 met_new : (g : Group) (h : Header) (b : bare.GroupKind) → group_of (grows Idle h []).group ≡ b
@@ -103,7 +104,7 @@ whole_is Idle = refl
 whole_is _ = refl
 
 -- what is open in the level below a level that ends, if it may
-abbrev open_in : Option Part → Option bare.GroupKind
+abbrev open_in : Option PartialBlock → Option bare.GroupKind
 open_in o = elim o [ None ↦ None | Some p ↦ Some (group_of p.group) ]
 
 above_alike : (w : Waiting) (done : List Stmt) (g : Group) → open_in (reading.above w done g) ≡ above (group_of g) (awaited w)
@@ -115,7 +116,7 @@ above_alike w done g = by_closes (closes g) ∙ ap (λ b. cond b (Some (awaited 
     by_closes None = refl
     by_closes (Some ss) = ap Some (grown_alike w.group w.header (done ++ ss))
 
-settled : (l : ℕ) (below : List Waiting) (o : Option Part) →
+settled : (l : ℕ) (below : List Waiting) (o : Option PartialBlock) →
     ((d : List Stmt) (g : Group) → outlined (reading.settle_in l d g false below) ≡ settle_in l (group_of g) false (map awaited below)) →
     outlined (elim o [ None ↦ Faulty MisplacedClause | Some p ↦ reading.settle_in l p.done p.group false below ])
     ≡ left l (map awaited below) (open_in o)
@@ -170,7 +171,7 @@ first_alike : (h : Header) → group_of (reading.first_group h) ≡ first (shape
 first_alike (match_header e) = refl
 first_alike _ = refl
 
-header_outlined : (s : State) (h : Header) (suite : Option (List Stmt)) (o : Option Part) →
+header_outlined : (s : State) (h : Header) (suite : Option (List Stmt)) (o : Option PartialBlock) →
     outlined (or_misplaced o (place_header s h suite)) ≡ behind (shape_of (header_form h suite)) (outline s) (met o h)
 header_outlined s h None None = refl
 header_outlined s h (Some ss) None = refl

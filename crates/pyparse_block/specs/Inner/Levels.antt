@@ -1,10 +1,10 @@
 -- The end of one level.
 use Rattle.std.specs.Prelude.{false, cond, List, [], ◌∷◌, Option, Some, None}
 use Rattle.pygrammar.specs.Blocks.{ExpectedIndent, MisplacedClause}
-use Rattle.pygrammar.specs.Reading.{Answer, Fine, Faulty, Part, Waiting, State, state, above}
+use Rattle.pygrammar.specs.Reading.{Answer, Fine, Faulty, PartialBlock, Waiting, State, state, above}
 
 -- what is kept behind a level that ended, by what the level below it has now
-abbrev pub behind : List Waiting → Option Part → Answer State
+abbrev pub behind : List Waiting → Option PartialBlock → Answer State
 behind below made = elim made [ None ↦ Faulty MisplacedClause | Some p ↦ Fine (state p.done p.group false below) ]
 
 -- the deepest level comes to its end, with this one below it

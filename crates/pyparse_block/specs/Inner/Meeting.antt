@@ -4,7 +4,8 @@ use Rattle.pytree_node.specs.Trees.{Expr, Stmt}
 use Rattle.pygrammar.specs.Lines.{Header, if_header, elif_header, else_header, loop_header, with_header, try_header, except_header}
 use Rattle.pygrammar.specs.Lines.{finally_header, def_header, match_header, case_header}
 use Rattle.pygrammar.specs.Blocks.{MisplacedClause, same_bool}
-use Rattle.pygrammar.specs.Reading.{Answer, Fine, Faulty, Group, Marked, Choice, Loop, Trial, Caught, Settled, Matching, Part, part, closes}
+use Rattle.pygrammar.specs.Reading.{Answer, Fine, Faulty, Group, Marked, Choice, Loop, Trial, Caught, Settled, Matching, PartialBlock, part}
+use Rattle.pygrammar.specs.Reading.{closes}
 use Rattle.pygrammar.specs.Reading.{meets, decorated}
 
 -- the statements of a level whose group ends
@@ -42,9 +43,9 @@ begins (match_header _) = true
 begins _ = false
 
 -- what a header finds of a level: its statements, and the group that it goes on with
-abbrev pub met : List Stmt → Group → Header → Answer Part
+abbrev pub met : List Stmt → Group → Header → Answer PartialBlock
 met done g h = elim (meets g h) [ None ↦ Faulty MisplacedClause | Some p ↦ Fine (part (done ++ p.done) p.group) ]
 
 -- what a decorator makes of a level
-abbrev pub marked : List Stmt → Group → Expr → Answer Part
+abbrev pub marked : List Stmt → Group → Expr → Answer PartialBlock
 marked done g e = elim (decorated g e) [ None ↦ Faulty MisplacedClause | Some p ↦ Fine (part (done ++ p.done) p.group) ]

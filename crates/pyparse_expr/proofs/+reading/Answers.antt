@@ -56,7 +56,8 @@ use Rattle.pyparse_expr.proofs.Recorders.Chains.{links_read, links_placed, chain
 use Rattle.pyparse_expr.proofs.Recorders.Tails.{subscript_placed}
 use Rattle.pyparse_expr.proofs.Recorders.Levels.{yields_made, stars_tupled, item_starred, elem_starred, named_placed, moved_behind}
 use Rattle.pyparse_expr.proofs.Recorders.Levels.{if_else_placed}
-use Rattle.pyparse_expr.proofs.Recorders.Atoms.{leaf_placed, no_tuple_placed, group_placed, yield_group_placed, group_tuple_placed, generator_placed}
+use Rattle.pyparse_expr.proofs.Recorders.Atoms.{leaf_placed, no_tuple_placed, group_placed, yield_group_placed, group_tuple_placed}
+use Rattle.pyparse_expr.proofs.Recorders.Atoms.{generator_placed}
 use Rattle.pyparse_expr.proofs.Recorders.Atoms.{no_list_placed, list_placed, list_comp_placed}
 use Rattle.pyparse_expr.specs.Inner.Lists.{item_of}
 use Rattle.pyparse_expr.proofs.Lists.ListPlaces.{grown_start, grown_turn, grown_end, grown_comma, others_placed, item_placed, tuple_placed}
@@ -582,7 +583,8 @@ pub levels::yield_step-returns-in_ok-node-3-clause-placed : goal.levels::yield_s
 levels::yield_step-returns-in_ok-node-3-clause-placed g t c = yields_made g.R.Recorder.after _ _ c.args.tokens.now c.args.from
     c.args.at c.args.depth.room
     (Trees.Yield Trees.absent)
-    c.args.at c.make_yield-else-lead_at-rank.result c.make_yield-else-lead_at-rank.ensures (placed_yield_some placed_nothing) records_none c.in_ok-node-3.ensures
+    c.args.at c.make_yield-else-lead_at-rank.result c.make_yield-else-lead_at-rank.ensures (placed_yield_some placed_nothing)
+    records_none c.in_ok-node-3.ensures
 
 pub levels::read_stars-returns-then-is_op-clause-placed : goal.levels::read_stars-returns-then-is_op-clause-placed
 levels::read_stars-returns-then-is_op-clause-placed g t c =
@@ -1483,7 +1485,8 @@ signatures::star_annotation-returns-then-not-annotated-clause-placed g t c = (
 pub signatures::star_annotation-returns-then-not-is_op-clause-placed : goal.signatures::star_annotation-returns-then-not-is_op-clause-placed
 signatures::star_annotation-returns-then-not-is_op-clause-placed g t c = (
   [],
-  star_none c.args.tokens.now c.args.annotated c.args.at c.none_read-then-not-is_op.result c.none_read-then-not-is_op.ensures.expr c.none_read-then-not-is_op.ensures.next,
+  star_none c.args.tokens.now c.args.annotated c.args.at c.none_read-then-not-is_op.result c.none_read-then-not-is_op.ensures.expr
+      c.none_read-then-not-is_op.ensures.next,
   records_none,
 )
 

@@ -88,7 +88,8 @@ module _ {S : Type 0} (after : S → Stretch → S) (u v : S) (ts : List given.T
   yield_group_placed begin at e (Err o) q y p k h = tt
 
   -- a tuple, and a generator expression, behind the first element
-  pub group_tuple_placed : {w : S} (begin room : ℕ) (i : List Terminal) (ps : List Stretch) (first : Read) (items : Items) (z : Result Read Stop)
+  pub group_tuple_placed : {w : S} (begin room : ℕ) (i : List Terminal) (ps : List Stretch) (first : Read)
+      (items : Items) (z : Result Read Stop)
       → Placed level.Elem i (begin + 1) (tree_of first.expr.value) (seen ts first.next) first.next ps
       → Stands (Op Comma) ts first.next → OthersPlaced after ts (Of level.Elem) first items u w → Stands (Op RPar) ts items.next
       → v ≡ after w (stretch begin (items.next + 1))

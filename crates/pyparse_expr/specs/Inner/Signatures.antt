@@ -62,7 +62,8 @@ pub record IsTall (s : Signature) : Type 0 where
 
 -- what stands behind the parameters of a lambda
 abbrev pub body_reads : Depth → Option Arguments → List tokens.Terminal → Answer Expr
-body_reads d o r1 = on_first (is_op Colon) r1 (λ _ r2. and_then (inner_reads d level.Expression r2) (λ e r3. made (lambda_of o e) r3)) NoForm
+body_reads d o r1 = on_first (is_op Colon) r1 (λ _ r2. and_then (inner_reads d level.Expression r2) (λ e r3. made (lambda_of o e) r3))
+    NoForm
 
 -- a lambda of the parameters so far
 pub record LambdaMade (room : ℕ) (x : State) (e : Expr) (next : ℕ) (r : Read) : Type 0 where

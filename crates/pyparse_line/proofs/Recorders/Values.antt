@@ -250,9 +250,9 @@ type_placed after u v w {ts} {at} prof name z h k f =
 
 -- ---- Statements one behind the other.
 pub record SimplesGrown {S : Type 0} (after : S → Stretch → S) (prof : Profile) (ts : List given.Terminal) (at : ℕ) (old new : S)
-    (now : ReadStatements) : Type 0 where
+    (xs : List Stmt) (next : ℕ) : Type 0 where
   pub places : List Stretch
-  pub grows : Grows (Semicolons prof) (seen ts at) at (map stmt_of now.statements.items) (seen ts now.next) now.next places
+  pub grows : Grows (Semicolons prof) (seen ts at) at xs (seen ts next) next places
   pub records : Records after old places new
 
 simples_ended : {prof : Profile} {i r : List Terminal} {at n : ℕ} {ps : List Stretch} (xs : List Stmt) (x : Stmt)
@@ -261,40 +261,39 @@ simples_ended [] x c = simples_some c
 simples_ended (y ∷ xs) x c = simples_some c
 
 module _ {S : Type 0} {after : S → Stretch → S} {prof : Profile} {ts : List given.Terminal} {at : ℕ} where
-  pub simples_start : {now : ReadStatements} {u : S} → map stmt_of now.statements.items ≡ [] → now.next ≡ at
-      → SimplesGrown after prof ts at u u now
-  simples_start h q = record {
+  pub simples_start : {xs : List Stmt} {u : S} → xs ≡ [] → SimplesGrown after prof ts at u u xs at
+  simples_start h = record {
     places = [];
-    grows = moved (seen ts) (λ ss s n. Grows (Semicolons prof) (seen ts at) at ss s n []) h q grows_start;
+    grows = moved (seen ts) (λ ss s n. Grows (Semicolons prof) (seen ts at) at ss s n []) h refl grows_start;
     records = records_none;
   }
 
-  module _ {now next : ReadStatements} {u v w x : S} (one : ReadStatement) (g : SimplesGrown after prof ts at u v now)
-      (d : FieldsPlaced after prof ts now.next v w one) (k : x ≡ after w (stretch now.next one.next))
-      (h : map stmt_of next.statements.items ≡ map stmt_of now.statements.items ++ (stmt_of one.statement ∷ [])) where
-    pub run_turn : Stands (Op Semi) ts one.next → next.next ≡ one.next + 1 → SimplesGrown after prof ts at u x next
-    run_turn s q = record {
-      places = g.places ++ (d.places ++ (stretch now.next one.next ∷ []));
-      grows = moved (seen ts) (λ ss i n. Grows (Semicolons prof) (seen ts at) at ss i n
-          (g.places ++ (d.places ++ (stretch now.next one.next ∷ [])))) h q (simples_turn g.grows (placed_simple d.fields) s.is);
+  module _ {xs : List Stmt} {n : ℕ} {u v w x : S} (one : ReadStatement) (g : SimplesGrown after prof ts at u v xs n)
+      (d : FieldsPlaced after prof ts n v w one) (k : x ≡ after w (stretch n one.next)) where
+    pub run_turn : {ys : List Stmt} {next : ℕ} → ys ≡ xs ++ (stmt_of one.statement ∷ []) → Stands (Op Semi) ts one.next
+        → next ≡ one.next + 1 → SimplesGrown after prof ts at u x ys next
+    run_turn h s q = record {
+      places = g.places ++ (d.places ++ (stretch n one.next ∷ []));
+      grows = moved (seen ts) (λ ss i m. Grows (Semicolons prof) (seen ts at) at ss i m
+          (g.places ++ (d.places ++ (stretch n one.next ∷ [])))) h q (simples_turn g.grows (placed_simple d.fields) s.is);
       records = recorded_more g.records d.records k;
     }
 
-    pub run_last : next.next ≡ one.next → SimplesPlaced after prof ts at u x next
-    run_last q = record {
-      places = g.places ++ (d.places ++ (stretch now.next one.next ∷ []));
-      simples = moved (seen ts) (λ ss i n. PlacedSimples prof (seen ts at) at ss i n
-          (g.places ++ (d.places ++ (stretch now.next one.next ∷ [])))) h q
-          (simples_ended (map stmt_of now.statements.items) (stmt_of one.statement) (simples_last g.grows (placed_simple d.fields)));
-      records = recorded_more g.records d.records k;
-    }
+    module _ {next : ReadStatements} (h : map stmt_of next.statements.items ≡ xs ++ (stmt_of one.statement ∷ [])) where
+      pub run_last : next.next ≡ one.next → SimplesPlaced after prof ts at u x next
+      run_last q = record {
+        places = g.places ++ (d.places ++ (stretch n one.next ∷ []));
+        simples = moved (seen ts) (λ ss i m. PlacedSimples prof (seen ts at) at ss i m
+            (g.places ++ (d.places ++ (stretch n one.next ∷ [])))) h q
+            (simples_ended xs (stmt_of one.statement) (simples_last g.grows (placed_simple d.fields)));
+        records = recorded_more g.records d.records k;
+      }
 
-    pub run_end : Stands (Op Semi) ts one.next → next.next ≡ one.next + 1 → SimplesPlaced after prof ts at u x next
-    run_end s q = record {
-      places = g.places ++ (d.places ++ (stretch now.next one.next ∷ []));
-      simples = moved (seen ts) (λ ss i n. PlacedSimples prof (seen ts at) at ss i n
-          (g.places ++ (d.places ++ (stretch now.next one.next ∷ [])))) h q
-          (simples_ended (map stmt_of now.statements.items) (stmt_of one.statement)
-          (simples_end (simples_turn g.grows (placed_simple d.fields) s.is)));
-      records = recorded_more g.records d.records k;
-    }
+      pub run_end : Stands (Op Semi) ts one.next → next.next ≡ one.next + 1 → SimplesPlaced after prof ts at u x next
+      run_end s q = record {
+        places = g.places ++ (d.places ++ (stretch n one.next ∷ []));
+        simples = moved (seen ts) (λ ss i m. PlacedSimples prof (seen ts at) at ss i m
+            (g.places ++ (d.places ++ (stretch n one.next ∷ [])))) h q
+            (simples_ended xs (stmt_of one.statement) (simples_end (simples_turn g.grows (placed_simple d.fields) s.is)));
+        records = recorded_more g.records d.records k;
+      }

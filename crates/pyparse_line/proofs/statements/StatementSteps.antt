@@ -1,6 +1,6 @@
 -- A statement by its first terminal, and statements with semicolons between them.
 --
--- Carries: plain_statement, word_statement, read_statement, with_statement, read_statements.
+-- Carries: plain_statement, word_statement, read_statement, take_statement, read_statements.
 -- On: LineReader, Heights.
 use Rattle.std.proofs.Common.{◌≡◌, refl, sym, ap, ◌∙◌, arith, ℕ, zero, suc, ◌+◌, ◌≤◌, ◌<◌, max, List, [], ◌∷◌, ◌++◌, length, map}
 use Rattle.std.proofs.Common.{append_assoc, Some, None}
@@ -105,6 +105,9 @@ statement_height xs ys s h k e a b = omega (
   ap (λ l. highest_in_all (stmts l)) (statement_pushed xs ys s e),
   higher (map stmt_of xs) (stmt_of s),
 )
+
+pub no_height : {ss : List Stmt} → ss ≡ [] → 0 ≡ highest_in_all (stmts ss)
+no_height h = rw h refl
 
 -- how far they were read
 pub record Runs (ts : List given.Terminal) (profile : Profile) (self : Reads) (x : Answer (List Stmt))

@@ -3,7 +3,7 @@ use Rattle.std.specs.Prelude.{◌≡◌, ℕ, ◌+◌, List, [], ◌∷◌, ◌+
 use Rattle.pylex_lexeme.specs.declared.kinds.Exact.TheVariants.{Colon, Equal}
 use Rattle.pytree_node.specs.declared.profiles.Profile.{Profile}
 use Rattle.pytree_node.specs.Profiles.{has_types}
-use Rattle.pytree_node.specs.Trees.{Alias, AnnAssign, Expr, Identifier, ImportFrom}
+use Rattle.pytree_node.specs.Trees.{Alias, AnnAssign, Expr, Identifier, ImportFrom, Stmt}
 use Rattle.pytree_node.specs.TreeOf.{stmt_of, tree_of}
 use Rattle.pytoken.specs.declared.keywords.Keyword.{Keyword}
 use Rattle.pytoken.specs.Terminals as tokens
@@ -11,6 +11,9 @@ use Rattle.pytoken.specs.Terminals.{Ident, Op, Spelled, Word}
 use Rattle.pytoken.specs.declared.values.terminals.Terminal.{Terminal}
 use Rattle.pygrammar.specs.declared.levels.Level.TheVariants.{Expression, Value}
 use Rattle.pygrammar.specs.Forms.{type_word}
+use Rattle.pygrammar.specs.LineReader as line
+use Rattle.pygrammar.specs.Reader.{Reads}
+use Rattle.pyparse_nodes.specs.Answers.{PartAt}
 use Rattle.pyparse_nodes.specs.declared.found.Items.{Items}
 use Rattle.pyparse_nodes.specs.declared.found.Read.{Read}
 use Rattle.pyparse_nodes.specs.declared.stop.Stop.{Stop}
@@ -91,3 +94,14 @@ module _ {S : Type 0} (after : S → Stretch → S) where
     pub places : List Stretch
     pub simples : PlacedSimples profile (seen ts at) at (map stmt_of r.statements.items) (seen ts r.next) r.next places
     pub records : Records after old places new
+
+  -- one statement more was read behind some, and it is recorded
+  pub record StatementTaken (profile : Profile) (self : Reads) (ts : List Terminal) (at : ℕ) (old new : S) (was now : List Stmt)
+      (next : ℕ) : Type 0 where
+    pub one : ReadStatement
+    pub between : S
+    pub part : PartAt ts (at + 1) (line.statement profile self (seen ts at)) (stmt_of one.statement) one.next
+    pub grown : now ≡ was ++ (stmt_of one.statement ∷ [])
+    pub next_is : next ≡ one.next
+    pub fields : FieldsPlaced profile ts at old between one
+    pub node : new ≡ after between (stretch at one.next)

@@ -2,17 +2,17 @@
 //!
 //! Python language reference, 7 "Simple statements".
 
-ghost use Rattle.std.specs.Prelude.{◌≡◌, ◌+◌, ◌++◌, ◌<◌, ◌≤◌, ◌∷◌, [], MatchResult, length, map};
-ghost use Rattle.std.specs.Prelude.{suc};
+ghost use Rattle.std.specs.Prelude.{◌≡◌, ◌+◌, ◌≤◌, IfOk, MatchResult, OnOk, length, map, suc};
 ghost use Rattle.pytree_node.specs.TreeOf.{stmt_of};
+ghost use Rattle.pytree_node.specs.Trees.{stmts};
+ghost use Rattle.pytree_height.specs.Heights.{highest_in_all};
 ghost use Rattle.pytoken.specs.Terminals as terminals;
 ghost use Rattle.pygrammar.specs.LineReader as line;
-ghost use Rattle.pyparse_nodes.specs.Answers.{PartAnswered};
+ghost use Rattle.pyparse_nodes.specs.Answers.{Failed, PartAnswered};
 ghost use Rattle.pyparse_expr.specs.Readings.{reads};
 ghost use Rattle.pyparse_nodes.specs.Views.{Stands, seen};
 ghost use Rattle.pyparse_line.specs.Inner.Simple.{begun};
-ghost use Rattle.std.specs.Prelude.{IfOk};
-ghost use Rattle.pyparse_line.specs.Inner.PlacedStatements.{FieldsPlaced, SimplesPlaced};
+ghost use Rattle.pyparse_line.specs.Inner.PlacedStatements.{FieldsPlaced, SimplesPlaced, StatementTaken};
 
 use crate::statements::found::{ReadStatement, ReadStatements};
 use crate::statements::imports::{import, import_from};
@@ -27,7 +27,7 @@ use pyparse_expr::Depth;
 use pyparse_nodes::{Stop, append, is_op, terminal_at};
 use pyplaces::Recorder;
 use pytoken::{Keyword, Terminal};
-use pytree_node::Profile;
+use pytree_node::{Profile, Stmt};
 use std::alloc::Global;
 
 /// A statement with no keyword in front: a `type`, or one that begins with a value.
@@ -116,53 +116,45 @@ fn read_statement<R: Recorder>(
     }
 }
 
-/// No statements, at a place.
-fn no_statements(alloc: Global, next: usize) -> ReadStatements
-    ensures statements { map stmt_of result.statements.items ≡ [] }
-    ensures next { result.next ≡ next }
+/// Takes one statement more, and answers the place after it. Where it stands is recorded.
+fn take_statement<R: Recorder>(
+    alloc: Global,
+    tokens: &[Terminal],
+    at: usize,
+    profile: Profile,
+    depth: Depth,
+    recorder: &mut R,
+    statements: &mut Vec<Stmt>,
+    height: &mut usize,
+) -> Result<usize, Stop>
+    requires { at ≤ length tokens.now }
+    ensures taken { MatchResult result
+        (StatementTaken R.after profile (reads depth) tokens.now at recorder.old recorder.new
+        (map stmt_of statements.old.items) (map stmt_of statements.new.items))
+        (λ s. Failed s (line.statement profile (reads depth) (seen tokens.now at))) }
+    ensures ahead { IfOk result (λ next. at + 1 ≤ next) }
+    ensures height { OnOk result
+        (height.old ≡ highest_in_all (stmts (map stmt_of statements.old.items))
+        → height.new ≡ highest_in_all (stmts (map stmt_of statements.new.items))) }
 {
-    ReadStatements {
-        statements: Vec::new(alloc),
-        height: 0,
-        next,
+    match read_statement(alloc, tokens, at, profile, depth, recorder) {
+        Ok(one) => {
+            let next = one.next;
+            *height = (*height).max(one.height);
+            append(statements, one.statement)?;
+            recorder.node(at, next)?;
+            Ok(next)
+        }
+        Err(stop) => Err(stop),
     }
 }
 
-/// Statements with one more.
-#[inline(always)]
-#[tactic(auto, using(crate::proofs::statements::StatementSteps::statement_pushed, crate::proofs::statements::StatementSteps::statement_height))]
-fn with_statement(before: ReadStatements, one: ReadStatement) -> Result<ReadStatements, Stop>
-    ensures statements { MatchResult result
-        (λ r. map stmt_of r.statements.items
-        ≡ map stmt_of before.statements.items ++ (stmt_of one.statement ∷ []))
-        (λ s. s ≡ Stop.Memory) }
-    ensures next { MatchResult result (λ r. r.next ≡ one.next) (λ s. s ≡ Stop.Memory) }
-{
-    let ReadStatements {
-        statements,
-        height,
-        next: _,
-    } = before;
-    let mut statements = statements;
-    append(&mut statements, one.statement)?;
-    Ok(ReadStatements {
-        statements,
-        height: height.max(one.height),
-        next: one.next,
-    })
-}
-
-/// The same statements, with another place after them.
-fn placed(statements: ReadStatements, next: usize) -> ReadStatements
-    ensures statements { map stmt_of result.statements.items
-        ≡ map stmt_of statements.statements.items }
-    ensures next { result.next ≡ next }
-{
-    ReadStatements {
-        statements: statements.statements,
-        height: statements.height,
-        next,
-    }
+/// Lets statements go that aren't answered. It is never inlined, since a function pays at entry for
+/// the locals of what it may drop.
+#[cold]
+#[inline(never)]
+fn let_go(statements: Vec<Stmt>) {
+    drop(statements);
 }
 
 /// Simple statements with semicolons between them. One may stand after the last statement where
@@ -187,18 +179,40 @@ pub fn read_statements<R: Recorder>(
     ensures placed { IfOk result (SimplesPlaced R.after profile tokens.now at recorder.old
         recorder.new) }
 {
-    let mut statements = no_statements(alloc, at);
+    let mut statements = Vec::new(alloc);
+    let mut height = 0;
+    let mut next = at;
     'more: loop {
-        let one = read_statement(alloc, tokens, statements.next, profile, depth, recorder)?;
-        recorder.node(statements.next, one.next)?;
-        let grown = with_statement(statements, one)?;
-        if !is_op(tokens, grown.next, Exact::Semi) {
-            return Ok(grown);
+        let after = match take_statement(
+            alloc,
+            tokens,
+            next,
+            profile,
+            depth,
+            recorder,
+            &mut statements,
+            &mut height,
+        ) {
+            Ok(after) => after,
+            Err(stop) => {
+                let_go(statements);
+                return Err(stop);
+            }
+        };
+        if !is_op(tokens, after, Exact::Semi) {
+            return Ok(ReadStatements {
+                statements,
+                height,
+                next: after,
+            });
         }
-        let next = grown.next + 1;
-        statements = placed(grown, next);
+        next = after + 1;
         if next == tokens.len() {
-            return Ok(statements);
+            return Ok(ReadStatements {
+                statements,
+                height,
+                next,
+            });
         }
     }
 }

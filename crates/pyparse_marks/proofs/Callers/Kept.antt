@@ -1,5 +1,6 @@
 -- What is kept of the terminals of a line.
-use Rattle.std.proofs.Common.{◌≡◌, refl, ap, subst, sym, List, [], ◌++◌, Option, Some, None, append_assoc, append-nil}
+use Rattle.std.proofs.Common.{◌≡◌, refl, ap, subst, sym, false, List, [], ◌++◌, Option, Some, None, append_assoc, append-nil}
+use Rattle.std.specs.Prelude.{is_some}
 use Rattle.pyparse_marks.specs.Spans.{Span, added, emptied}
 
 -- what is kept of some terminals and then of others is kept of all
@@ -18,3 +19,9 @@ pub kept_anew : (kept : Option (List Span)) (xs ys : List Span) → kept ≡ Som
 unfolding added emptied
 kept_anew None xs ys h = absurd (cc)
 kept_anew (Some before) xs ys h = refl
+
+-- where nothing is kept, nothing is added
+pub nothing_added : (kept : Option (List Span)) (more : List Span) → is_some kept ≡ false → kept ≡ added kept more
+unfolding added
+nothing_added None more h = refl
+nothing_added (Some before) more h = absurd (cc)

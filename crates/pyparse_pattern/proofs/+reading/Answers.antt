@@ -14,8 +14,10 @@ use Rattle.pyparse_pattern.proofs.ClosedSteps.{closed_here, closed_word, inner_d
 use Rattle.pyparse_pattern.proofs.ElementSteps.{elements_alone}
 use Rattle.pyparse_pattern.proofs.EntrySteps.{entries_end, entries_error, entries_more, entries_start}
 use Rattle.pyparse_pattern.proofs.SequenceSteps.{open_sequence, round_sequence, square_sequence}
-use Rattle.pyparse_pattern.proofs.Recorders.Entries.{argument_placed, class_records, element_placed, elements_as, elements_placed, entries_begun}
-use Rattle.pyparse_pattern.proofs.Recorders.Entries.{entries_closed, entries_ended, entries_gone, entry_as, keyed_placed, named_placed, rest_placed}
+use Rattle.pyparse_pattern.proofs.Recorders.Entries.{argument_placed, class_records, element_placed, elements_as, elements_placed}
+use Rattle.pyparse_pattern.proofs.Recorders.Entries.{entries_begun}
+use Rattle.pyparse_pattern.proofs.Recorders.Entries.{entries_closed, entries_ended, entries_gone, entry_as, keyed_placed, named_placed}
+use Rattle.pyparse_pattern.proofs.Recorders.Entries.{rest_placed}
 use Rattle.pyparse_pattern.proofs.Recorders.Levels.{bars_begun, bars_ended, bars_gone, capture_placed, class_joined, or_placed}
 use Rattle.pyparse_pattern.proofs.Recorders.Levels.{singleton_placed, value_placed}
 use Rattle.pyparse_pattern.proofs.Recorders.Made.{placed_at, whole_at, whole_joined, whole_on, whole_seen}
@@ -303,7 +305,8 @@ sequences::elements-returns-clause-placed g t c =
 
 pub sequences::others-returns-clause-placed : goal.sequences::others-returns-clause-placed
 sequences::others-returns-clause-placed g t c =
-    elements_as g.R.Recorder.after c.args.recorder.now c.elements.new.recorder c.args.tokens.now (c.args.first.next + 1) _ (pattern_of c.args.first.pattern.value ∷ []) _ c.elements.result
+    elements_as g.R.Recorder.after c.args.recorder.now c.elements.new.recorder c.args.tokens.now (c.args.first.next + 1) _
+    (pattern_of c.args.first.pattern.value ∷ []) _ c.elements.result
     (sym c.in_ok-patterns.ensures.next) (sym c.in_ok-patterns.ensures.items) c.elements.ensures.placed
 
 pub sequences::round-returns-then-is_op-clause-placed : goal.sequences::round-returns-then-is_op-clause-placed
@@ -324,29 +327,34 @@ sequences::round-returns-clause-placed g t c = λ q.
 pub sequences::square-returns-clause-placed : goal.sequences::square-returns-clause-placed
 sequences::square-returns-clause-placed g t c = λ q.
     square_placed g.R.Recorder.after _ _ c.args.tokens.now c.args.from c.args.at c.in_ok-patterns.patterns c.bracketed.result q
-    (elements_as g.R.Recorder.after c.args.recorder.now c.elements.new.recorder c.args.tokens.now c.args.at _ [] _ (Ok c.in_ok-patterns.patterns) (sym c.no_patterns.ensures.next)
+    (elements_as g.R.Recorder.after c.args.recorder.now c.elements.new.recorder c.args.tokens.now c.args.at _ [] _
+    (Ok c.in_ok-patterns.patterns) (sym c.no_patterns.ensures.next)
     (sym c.no_patterns.ensures.items) c.in_ok-patterns.ensures.placed) c.bracketed.ensures.placed
 
 -- ---- Places: entries.
 
 pub listings::read_entry-returns-in_ok-read-in-Element-clause-placed : goal.listings::read_entry-returns-in_ok-read-in-Element-clause-placed
 listings::read_entry-returns-in_ok-read-in-Element-clause-placed g t c =
-    element_placed g.R.Recorder.after g.R.Recorder.beside c.args.tokens.now (item_of c.args.item) c.args.at c.in_ok-read-in-Element.read c.alone.result
+    element_placed g.R.Recorder.after g.R.Recorder.beside c.args.tokens.now (item_of c.args.item) c.args.at
+    c.in_ok-read-in-Element.read c.alone.result
     (ap item_of c.in-Element.is) c.in_ok-read-in-Element.ensures.placed c.alone.ensures.entry c.alone.ensures.next
 
 pub listings::read_entry-returns-in-KeyPattern-clause-placed : goal.listings::read_entry-returns-in-KeyPattern-clause-placed
 listings::read_entry-returns-in-KeyPattern-clause-placed g t c =
-    entry_as g.R.Recorder.after g.R.Recorder.beside c.args.tokens.now c.args.recorder.now c.key_entry.new.recorder (item_of c.args.item) _ c.args.at c.key_entry.result
+    entry_as g.R.Recorder.after g.R.Recorder.beside c.args.tokens.now c.args.recorder.now c.key_entry.new.recorder (item_of c.args.item) _
+    c.args.at c.key_entry.result
     (ap item_of c.in-KeyPattern.is) c.key_entry.ensures.placed
 
 pub listings::read_entry-returns-in-ClassArgument-clause-placed : goal.listings::read_entry-returns-in-ClassArgument-clause-placed
 listings::read_entry-returns-in-ClassArgument-clause-placed g t c =
-    entry_as g.R.Recorder.after g.R.Recorder.beside c.args.tokens.now c.args.recorder.now c.argument_entry.new.recorder (item_of c.args.item) _ c.args.at c.argument_entry.result
+    entry_as g.R.Recorder.after g.R.Recorder.beside c.args.tokens.now c.args.recorder.now c.argument_entry.new.recorder
+    (item_of c.args.item) _ c.args.at c.argument_entry.result
     (ap item_of c.in-ClassArgument.is) c.argument_entry.ensures.placed
 
 pub listings::key_entry-returns-then-is_op-clause-placed : goal.listings::key_entry-returns-then-is_op-clause-placed
 listings::key_entry-returns-then-is_op-clause-placed g t c =
-    rest_placed g.R.Recorder.after g.R.Recorder.beside c.args.tokens.now c.args.recorder.now c.args.at c.rest_entry.result c.if-is_op.ensures
+    rest_placed g.R.Recorder.after g.R.Recorder.beside c.args.tokens.now c.args.recorder.now c.args.at
+    c.rest_entry.result c.if-is_op.ensures
     (c.rest_entry.ensures.placed c.args.at (omega arith))
 
 pub listings::key_entry-returns-clause-placed : goal.listings::key_entry-returns-clause-placed

@@ -261,7 +261,8 @@ rest_read ts begin at f y d n q s e w g k =
     let p : PlacedEntry KeyPattern (Op DoubleStar ∷ seen ts at) begin (Rest x.0.form) (seen ts (at + 1)) (at + 1) E.Rest =
     subst (λ m. PlacedEntry KeyPattern (Op DoubleStar ∷ seen ts at) begin (Rest x.0.form) (seen ts (at + 1)) (m + 1) E.Rest) (sym q)
     (placed_rest (ap is_wildcard same ∙ w) refl x.1) in
-    said_as (λ c t m. PlacedEntry KeyPattern (Op DoubleStar ∷ seen ts at) begin c t m E.Rest) (seen ts) (g ∙ ap (λ z. Rest z) (sym same)) k p
+    said_as (λ c t m. PlacedEntry KeyPattern (Op DoubleStar ∷ seen ts at) begin c t m E.Rest) (seen ts) (g
+    ∙ ap (λ z. Rest z) (sym same)) k p
 
 -- ---- The patterns of a sequence.
 

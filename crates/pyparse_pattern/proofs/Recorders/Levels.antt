@@ -177,7 +177,8 @@ module _ {S : Type 0} (after : S → Stretch → S) (u v : S) (ts : List given.T
       → IfOk z (Whole after ts level.ClosedPattern (Ident x ∷ seen ts at) begin u v)
   capture_placed x begin at y z q e d m =
       let own : List Stretch = stretch begin at ∷ [] in
-      let p : PlacedPattern level.ClosedPattern (Ident x ∷ seen ts at) begin (MatchAs absent_pattern (captured x.form)) (seen ts at) at own =
+      let p : PlacedPattern level.ClosedPattern (Ident x ∷ seen ts at) begin
+      (MatchAs absent_pattern (captured x.form)) (seen ts at) at own =
       subst (λ k. PlacedPattern level.ClosedPattern (Ident x ∷ seen ts at) begin (MatchAs absent_pattern (captured x.form)) (seen ts at) k
       (stretch begin k ∷ [])) (sym q) (placed_capture {x = x} {i = Ident x ∷ seen ts at} {r = seen ts at} {at = begin} refl) in
       leaf_made after u v ts level.ClosedPattern (Ident x ∷ seen ts at) begin (MatchAs absent_pattern y) at z m

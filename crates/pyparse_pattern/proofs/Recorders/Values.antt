@@ -47,7 +47,8 @@ use Rattle.pyplaces.specs.PlacedPatterns.{PlacedDotted, PlacedKey, PlacedLiteral
 use Rattle.pyplaces.specs.Recording.{Records}
 use Rattle.pyplaces.proofs.Answers.{records_more, records_node, records_none}
 use Rattle.pyplaces.proofs.Fronts.{◌⊕◌, own}
-use Rattle.pyplaces.proofs.Patterns.Values.{placed_unsigned, placed_negative, placed_number, placed_complex, placed_first_name, placed_dot_name}
+use Rattle.pyplaces.proofs.Patterns.Values.{placed_unsigned, placed_negative, placed_number, placed_complex, placed_first_name}
+use Rattle.pyplaces.proofs.Patterns.Values.{placed_dot_name}
 use Rattle.pyplaces.proofs.Patterns.Values.{placed_literal_key, placed_singleton_key}
 use Rattle.pyparse_pattern.proofs.Points.{after_point}
 use Rattle.pyparse_pattern.proofs.Recorders.Looks.{name_first, some_first}
@@ -112,7 +113,8 @@ module _ {S : Type 0} (after : S → Stretch → S) (u v : S) (ts : List given.T
 
   pub sum_joined : {w : S} (at : ℕ) (n : found.Number) (z : Result Read Stop) → SignedPlaced after ts at n u w
       → ((y : Value) (ps : List Stretch) → n.imaginary ≡ is_imaginary y
-      → PlacedNumber y (seen ts at) at (tree_of n.read.expr.value) (seen ts n.read.next) n.read.next ps → IfOk z (Summed after ts at ps w v))
+      → PlacedNumber y (seen ts at) at (tree_of n.read.expr.value) (seen ts n.read.next) n.read.next ps
+      → IfOk z (Summed after ts at ps w v))
       → IfOk z (LiteralRead after ts at u v)
   sum_joined at n (Ok r) s f =
       let h = f s.value s.places s.imaginary s.placed in (s.places ++ h.0, h.1, records_more s.records h.2)
@@ -231,8 +233,11 @@ value_of : {f : Identifier} {ts : List Terminal} {e : Expr} (d : P.Dotted f ts e
 value_of P.first_name at n w = absurd (n _ _ refl)
 value_of (P.dot_name {ts = ts} x p) at n w =
     let own : List Stretch = over at (2 + length ts) in
-    let size : 2 + length ts ≡ length (ts ++ (Op Dot ∷ (Ident x ∷ []))) = omega (arith, length-append ts (Op Dot ∷ (Ident x ∷ []))) in
-    (P.value x (P.class_name p w), sym (append_assoc (dotted_places at p) own own) ∙ ap (λ m. (dotted_places at p ++ own) ++ over at m) size)
+    let size : 2 + length ts ≡ length (ts ++ (Op Dot ∷ (Ident x ∷ []))) = omega (arith, length-append ts (Op Dot ∷ (Ident x ∷ []))) in (
+      P.value x (P.class_name p w),
+      sym (append_assoc (dotted_places at p) own own)
+          ∙ ap (λ m. (dotted_places at p ++ own) ++ over at m) size,
+    )
 
 -- a value is one node more
 pub dotted_value : {f : Identifier} {i r : List Terminal} {at behind : ℕ} {e : Expr} {ps : List Stretch}

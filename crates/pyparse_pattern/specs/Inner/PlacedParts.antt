@@ -74,7 +74,8 @@ pub record ElementsPlaced {S : Type 0} (after : S → Stretch → S) (ts : List 
   pub listing : PlacedEntries Element (seen ts at) at entries (seen ts r.next) r.next places
   pub records : Records after old (E.alone places) new
 
-pub record AlternativesPlaced {S : Type 0} (after : S → Stretch → S) (ts : List Terminal) (at : ℕ) (p : Pattern) (r : Patterns) (old new : S)
+pub record AlternativesPlaced {S : Type 0} (after : S → Stretch → S) (ts : List Terminal) (at : ℕ) (p : Pattern)
+    (r : Patterns) (old new : S)
     : Type 0 where
   pub others : List Pattern
   pub places : List Stretch

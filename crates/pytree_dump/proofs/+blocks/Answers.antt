@@ -49,10 +49,10 @@ cases::show_cases-loop-case-preserved g t c = record {
       (string_bytes c.loop-case.indentation) c.loop-case.first =
       c.in_ok-push_before.ensures
       ∙ (λ i. string_bytes c.loop-case.out ++ before (c.is_flat.ensures i) (c.as_str.ensures.value i) c.loop-case.first) in
-      member_appended (λ k. shown_case c.args.style.profile (case_of k)) _ _ _ c.args.style _ _ _ _ _ _ _ _ _ c.loop-case-test.true
+      member_appended (λ k. shown_case c.args.style.profile (case_of k)) _ c.args.style _ _ _ c.loop-case-test.true
       c.case-item.is c.loop-case.invariant.indentation c.loop-case.invariant.text
       e1 c.in_ok-show_case.ensures.text;
-  left = member_left (λ k. shown_case c.args.style.profile (case_of k)) _ _ _ _ _ _ c.loop-case-test.true c.case-item.is
+  left = member_left (λ k. shown_case c.args.style.profile (case_of k)) _ _ c.loop-case-test.true c.case-item.is
       c.loop-case.invariant.left c.in_ok-show_case.ensures.text.1;
   indentation = c.in_ok-show_case.ensures.indentation ∙ c.loop-case.invariant.indentation;
 }
@@ -63,7 +63,7 @@ compounds::show_test-returns-clause-text g t c =
     let F : Fields → Fields = λ rest. a_field (codes "test") (shown (tree_of c.args.test.now))
     (a_field (codes "body") (shown_block s.profile c.args.body.now)
     (a_field (codes "orelse") (shown_block s.profile c.args.orelse.now) rest)) in
-    node_ended s _ _ _ c.args.class.now F _ _ _ _ _ _ _ _ _ c.in_ok-outer.ensures.indentation
+    node_ended s _ c.args.class.now F _ c.in_ok-outer.ensures.indentation
     (marked_line _ _ _ _ (F no_field) c.is_told_on_line.ensures c.is_short_test.ensures)
     c.in_ok-outer.ensures.text
     (then_field c.in_ok-told.ensures.text c.in_ok-told.ensures.indentation
@@ -78,7 +78,7 @@ compounds::show_for-returns-clause-text g t c =
     let F : Fields → Fields = λ rest. a_field (codes "target") (shown (tree_of c.args.target.now))
     (a_field (codes "iter") (shown (tree_of c.args.iter.now)) (a_field (codes "body") (shown_block s.profile c.args.body.now)
     (a_field (codes "orelse") (shown_block s.profile c.args.orelse.now) (left_out rest)))) in
-    node_ended s _ _ _ c.args.class.now F _ _ _ _ _ _ _ _ _ c.in_ok-outer.ensures.indentation
+    node_ended s _ c.args.class.now F _ c.in_ok-outer.ensures.indentation
     (c.is_flat.ensures ∙ long_line true _ _ (F no_field) (four_or_more (F no_field) 0 refl))
     c.in_ok-outer.ensures.text
     (then_field c.in_ok-told.ensures.text c.in_ok-told.ensures.indentation
@@ -93,7 +93,7 @@ compounds::show_with-returns-clause-text g t c =
     let s = c.args.style in
     let F : Fields → Fields = λ rest. a_field (codes "items") (listed (λ item. shown_item (item_of item)) c.args.items.now)
     (a_field (codes "body") (shown_block s.profile c.args.body.now) (left_out rest)) in
-    node_ended s _ _ _ c.args.class.now F _ _ _ _ _ _ _ _ _ c.in_ok-outer.ensures.indentation
+    node_ended s _ c.args.class.now F _ c.in_ok-outer.ensures.indentation
     (marked_line _ _ _ _ (F no_field) c.is_told_on_line.ensures c.is_short_with.ensures)
     c.in_ok-outer.ensures.text
     (then_field c.in_ok-told.ensures.text c.in_ok-told.ensures.indentation
@@ -107,7 +107,7 @@ compounds::show_try-returns-clause-text g t c =
     (a_field (codes "handlers") (shown_caught s.profile c.args.handlers.now)
     (a_field (codes "orelse") (shown_block s.profile c.args.orelse.now)
     (a_field (codes "finalbody") (shown_block s.profile c.args.finalbody.now) rest))) in
-    node_ended s _ _ _ c.args.class.now F _ _ _ _ _ _ _ _ _ c.in_ok-outer.ensures.indentation
+    node_ended s _ c.args.class.now F _ c.in_ok-outer.ensures.indentation
     (c.is_flat.ensures ∙ long_line true _ _ (F no_field) (four_or_more (F no_field) 0 refl))
     c.in_ok-outer.ensures.text
     (then_field c.in_ok-told.ensures.text c.in_ok-told.ensures.indentation
@@ -126,7 +126,7 @@ compounds::show_class-returns-clause-text g t c =
     (a_field (codes "body") (shown_block s.profile c.args.body.now)
     (a_field (codes "decorator_list") (listed (λ e. shown (tree_of e)) c.args.decorator_list.now)
     (type_params_before s.profile (map type_param_of c.args.type_params.now) rest))))) in
-    node_ended s _ _ _ (codes "ClassDef(") F _ _ _ _ _ _ _ _ _ c.in_ok-outer.ensures.indentation
+    node_ended s _ (codes "ClassDef(") F _ c.in_ok-outer.ensures.indentation
     (c.is_flat.ensures ∙ long_line true _ _ (F no_field)
     (four_or_more (F no_field) (shown_count (type_params_before s.profile (map type_param_of c.args.type_params.now) no_field) + 1)
     refl))
@@ -150,7 +150,7 @@ compounds::show_function-returns-clause-text g t c =
     (a_field (codes "decorator_list") (listed (λ e. shown (tree_of e)) c.args.decorator_list.now)
     (expr_field (codes "returns") (boxed_of c.args.returns.now)
     (left_out (type_params_before s.profile (map type_param_of c.args.type_params.now) rest)))))) in
-    node_ended s _ _ _ c.args.class.now F _ _ _ _ _ _ _ _ _ c.in_ok-outer.ensures.indentation
+    node_ended s _ c.args.class.now F _ c.in_ok-outer.ensures.indentation
     (c.is_flat.ensures ∙ long_line true _ _ (F no_field)
     (four_or_more (F no_field)
     (shown_count (expr_field (codes "returns") (boxed_of c.args.returns.now)
@@ -177,7 +177,7 @@ handlers::show_handler-returns-clause-text g t c =
     (name_field (codes "name") (given_handler.out-Handler h).name (a_field (codes "body") (shown_block s.profile body) rest)) in
     shown_as s (string_bytes c.args.indentation.now) (string_bytes c.args.out.now) _ (g.P.Places.left c.args.places.now) _
     (Node (codes "ExceptHandler") (F no_field)) _ (handler_shows s.profile h body c.deref-body.ensures.value)
-    (node_ended s _ _ _ (codes "ExceptHandler(") F _ _ _ _ _ _ _ _ _ c.in_ok-outer.ensures.indentation
+    (node_ended s _ (codes "ExceptHandler(") F _ c.in_ok-outer.ensures.indentation
     (marked_line _ _ _ _ (F no_field) c.is_told_on_line.ensures (c.is_short_handler.ensures (given_handler.out-Handler h).name))
     c.in_ok-outer.ensures.text
     (then_field (as_field c.option_part.ensures c.in_ok-told.ensures.text) c.in_ok-told.ensures.indentation
@@ -195,7 +195,7 @@ cases::show_match-returns-clause-text g t c =
     let s = c.args.style in
     let F : Fields → Fields = λ rest. a_field (codes "subject") (shown (tree_of c.args.subject.now))
     (a_field (codes "cases") (shown_matched s.profile c.args.cases.now) rest) in
-    node_ended s _ _ _ (codes "Match(") F _ _ _ _ _ _ _ _ _ c.in_ok-outer.ensures.indentation
+    node_ended s _ (codes "Match(") F _ c.in_ok-outer.ensures.indentation
     (marked_line _ _ _ _ (F no_field) c.is_told_on_line.ensures c.is_short_match.ensures)
     c.in_ok-outer.ensures.text
     (then_field c.in_ok-told.ensures.text c.in_ok-told.ensures.indentation
@@ -213,7 +213,7 @@ cases::show_case-returns-clause-text g t c =
     shown_as s (string_bytes c.args.indentation.now) (string_bytes c.args.out.now) _ (g.P.Places.left c.args.places.now) _
     (Node (codes "match_case") (a_field (codes "pattern") first (G no_field))) _
     (case_shows s.profile case body c.deref-body.ensures.value)
-    (plain_ended s _ _ (codes "match_case(") (λ rest. a_field (codes "pattern") first (G rest)) _ _ _ _ _ _ _ _
+    (plain_ended s _ (codes "match_case(") (λ rest. a_field (codes "pattern") first (G rest)) _
     c.in_ok-outer.ensures.indentation
     (led_line _ _ _ _ (codes "pattern") first (G no_field) (pattern_marked (pattern_of (given_case.out-Case case).pattern))
     c.is_told_on_line.ensures c.is_short_case.ensures)
@@ -496,17 +496,17 @@ statements::show_stmts-loop-s-preserved g t c = record {
       (string_bytes c.loop-s.indentation) c.loop-s.first =
       c.in_ok-push_before.ensures
       ∙ (λ i. string_bytes c.loop-s.out ++ before (c.is_flat.ensures i) (c.as_str.ensures.value i) c.loop-s.first) in
-      member_appended (λ s. shown_stmt c.args.style.profile (stmt_of s)) _ _ _ c.args.style _ _ _ _ _ _ _ _ _ c.loop-s-test.true c.s-item.is
+      member_appended (λ s. shown_stmt c.args.style.profile (stmt_of s)) _ c.args.style _ _ _ c.loop-s-test.true c.s-item.is
       c.loop-s.invariant.indentation c.loop-s.invariant.text
       e1 c.in_ok-show_stmt.ensures.text;
-  left = member_left (λ s. shown_stmt c.args.style.profile (stmt_of s)) _ _ _ _ _ _ c.loop-s-test.true c.s-item.is c.loop-s.invariant.left
+  left = member_left (λ s. shown_stmt c.args.style.profile (stmt_of s)) _ _ c.loop-s-test.true c.s-item.is c.loop-s.invariant.left
       c.in_ok-show_stmt.ensures.text.1;
   indentation = c.in_ok-show_stmt.ensures.indentation ∙ c.loop-s.invariant.indentation;
 }
 
 pub statements::show_stmts-returns-clause-text : goal.statements::show_stmts-returns-clause-text
 statements::show_stmts-returns-clause-text g t c =
-    row_ended (λ s. shown_stmt c.args.style.profile (stmt_of s)) c.args.body.now _ c.args.style _ _ _ _ _ _ _ _ _ c.loop-s-test.false
+    row_ended (λ s. shown_stmt c.args.style.profile (stmt_of s)) c.args.body.now c.args.style _ _ _ _ _ c.loop-s-test.false
     c.in_ok-outer.ensures.indentation c.in_ok-outer.ensures.text
     c.loop-s.invariant.text c.loop-s.invariant.left c.in_ok-close.ensures.text
 
@@ -517,23 +517,23 @@ handlers::show_handlers-loop-h-preserved g t c = record {
       (string_bytes c.loop-h.indentation) c.loop-h.first =
       c.in_ok-push_before.ensures
       ∙ (λ i. string_bytes c.loop-h.out ++ before (c.is_flat.ensures i) (c.as_str.ensures.value i) c.loop-h.first) in
-      member_appended (λ h. shown_handler c.args.style.profile (handler_of h)) _ _ _ c.args.style _ _ _ _ _ _ _ _ _ c.loop-h-test.true
+      member_appended (λ h. shown_handler c.args.style.profile (handler_of h)) _ c.args.style _ _ _ c.loop-h-test.true
       c.h-item.is c.loop-h.invariant.indentation c.loop-h.invariant.text
       e1 c.in_ok-show_handler.ensures.text;
-  left = member_left (λ h. shown_handler c.args.style.profile (handler_of h)) _ _ _ _ _ _ c.loop-h-test.true c.h-item.is
+  left = member_left (λ h. shown_handler c.args.style.profile (handler_of h)) _ _ c.loop-h-test.true c.h-item.is
       c.loop-h.invariant.left c.in_ok-show_handler.ensures.text.1;
   indentation = c.in_ok-show_handler.ensures.indentation ∙ c.loop-h.invariant.indentation;
 }
 
 pub handlers::show_handlers-returns-clause-text : goal.handlers::show_handlers-returns-clause-text
 handlers::show_handlers-returns-clause-text g t c =
-    row_ended (λ h. shown_handler c.args.style.profile (handler_of h)) c.args.handlers.now _ c.args.style _ _ _ _ _ _ _ _ _
+    row_ended (λ h. shown_handler c.args.style.profile (handler_of h)) c.args.handlers.now c.args.style _ _ _ _ _
     c.loop-h-test.false c.in_ok-outer.ensures.indentation c.in_ok-outer.ensures.text
     c.loop-h.invariant.text c.loop-h.invariant.left c.in_ok-close.ensures.text
 
 pub cases::show_cases-returns-clause-text : goal.cases::show_cases-returns-clause-text
 cases::show_cases-returns-clause-text g t c =
-    row_ended (λ k. shown_case c.args.style.profile (case_of k)) c.args.cases.now _ c.args.style _ _ _ _ _ _ _ _ _ c.loop-case-test.false
+    row_ended (λ k. shown_case c.args.style.profile (case_of k)) c.args.cases.now c.args.style _ _ _ _ _ c.loop-case-test.false
     c.in_ok-outer.ensures.indentation c.in_ok-outer.ensures.text
     c.loop-case.invariant.text c.loop-case.invariant.left c.in_ok-close.ensures.text
 

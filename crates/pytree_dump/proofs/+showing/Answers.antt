@@ -43,7 +43,7 @@ nodes::show_field-returns-clause-text g t c =
 
 pub nodes::show_one-returns-clause-text : goal.nodes::show_one-returns-clause-text
 nodes::show_one-returns-clause-text g t c =
-    node_ended c.args.style _ _ _ c.args.class.now (λ rest. with_slot (slot_of c.args.a) (rest)) _ _ _ _ _ _ _ _ _
+    node_ended c.args.style _ c.args.class.now (λ rest. with_slot (slot_of c.args.a) (rest)) _
     c.in_ok-outer.ensures.indentation
     (marked_line _ _ _ _ (with_slot (slot_of c.args.a) no_field) c.is_told_on_line.ensures c.is_short_one.ensures)
     c.in_ok-outer.ensures.text
@@ -52,8 +52,7 @@ nodes::show_one-returns-clause-text g t c =
 
 pub nodes::show_two-returns-clause-text : goal.nodes::show_two-returns-clause-text
 nodes::show_two-returns-clause-text g t c =
-    node_ended c.args.style _ _ _ c.args.class.now (λ rest. with_slot (slot_of c.args.a) (with_slot (slot_of c.args.b) (rest))) _ _ _ _ _ _
-    _ _ _
+    node_ended c.args.style _ c.args.class.now (λ rest. with_slot (slot_of c.args.a) (with_slot (slot_of c.args.b) (rest))) _
     c.in_ok-outer.ensures.indentation
     (marked_line _ _ _ _ (with_slot (slot_of c.args.a) (with_slot (slot_of c.args.b) no_field))
     c.is_told_on_line.ensures c.is_short_two.ensures)
@@ -63,8 +62,8 @@ nodes::show_two-returns-clause-text g t c =
 
 pub nodes::show_three-returns-clause-text : goal.nodes::show_three-returns-clause-text
 nodes::show_three-returns-clause-text g t c =
-    node_ended c.args.style _ _ _ c.args.class.now
-    (λ rest. with_slot (slot_of c.args.a) (with_slot (slot_of c.args.b) (with_slot (slot_of c.args.c) (rest)))) _ _ _ _ _ _ _ _ _
+    node_ended c.args.style _ c.args.class.now
+    (λ rest. with_slot (slot_of c.args.a) (with_slot (slot_of c.args.b) (with_slot (slot_of c.args.c) (rest)))) _
     c.in_ok-outer.ensures.indentation
     (marked_line _ _ _ _ (with_slot (slot_of c.args.a) (with_slot (slot_of c.args.b) (with_slot (slot_of c.args.c) no_field)))
     c.is_told_on_line.ensures c.is_short_three.ensures)
@@ -76,12 +75,11 @@ nodes::show_three-returns-clause-text g t c =
 
 pub nodes::show_seven-returns-clause-text : goal.nodes::show_seven-returns-clause-text
 nodes::show_seven-returns-clause-text g t c = λ long.
-    plain_ended c.args.style _ _ c.args.class.now
-    (λ rest. with_slot (slot_of c.args.a)
+    plain_ended c.args.style _ c.args.class.now (λ rest. with_slot (slot_of c.args.a)
     (with_slot (slot_of c.args.b)
     (with_slot (slot_of c.args.c)
     (with_slot (slot_of c.args.d)
-    (with_slot (slot_of c.args.e) (with_slot (slot_of c.args.f) (with_slot (slot_of c.args.g) (rest)))))))) _ _ _ _ _ _ _ _
+    (with_slot (slot_of c.args.e) (with_slot (slot_of c.args.f) (with_slot (slot_of c.args.g) (rest)))))))) _
     c.in_ok-outer.ensures.indentation (c.is_flat.ensures
     ∙ long_line false _ _
     (with_slot (slot_of c.args.a)
@@ -194,10 +192,10 @@ lists::show_comprehensions-loop-c-preserved g t c = record {
       (string_bytes c.loop-c.indentation) c.loop-c.first =
       c.in_ok-push_before.ensures
       ∙ (λ i. string_bytes c.loop-c.out ++ before (c.is_flat.ensures i) (c.as_str.ensures.value i) c.loop-c.first) in
-      member_appended (λ c. shown_comprehension (comprehension_of c)) _ _ _ c.args.style _ _ _ _ _ _ _ _ _ c.loop-c-test.true c.c-item.is
+      member_appended (λ c. shown_comprehension (comprehension_of c)) _ c.args.style _ _ _ c.loop-c-test.true c.c-item.is
       c.loop-c.invariant.indentation c.loop-c.invariant.text
       e1 c.in_ok-show_comprehension.ensures.text;
-  left = member_left (λ c. shown_comprehension (comprehension_of c)) _ _ _ _ _ _ c.loop-c-test.true c.c-item.is c.loop-c.invariant.left
+  left = member_left (λ c. shown_comprehension (comprehension_of c)) _ _ c.loop-c-test.true c.c-item.is c.loop-c.invariant.left
       c.in_ok-show_comprehension.ensures.text.1;
   indentation = c.in_ok-show_comprehension.ensures.indentation ∙ c.loop-c.invariant.indentation;
 }
@@ -221,8 +219,8 @@ members::show_comprehension-returns-clause-text g t c =
     shown_as c.args.style (string_bytes c.args.indentation.now) (string_bytes c.args.out.now) (string_bytes c.close.new.out)
     (g.P.Places.left c.args.places.now) (g.P.Places.left c.show_field-4.new.places) (Node (codes "comprehension") (F no_field))
     (shown_comprehension (comprehension_of c.args.c.now)) k
-    (plain_ended c.args.style (string_bytes c.args.indentation.now) _ (codes "comprehension(") F (string_bytes c.args.out.now) _ _ _
-    (g.P.Places.left c.args.places.now) _ _ _
+    (plain_ended c.args.style (string_bytes c.args.indentation.now) (codes "comprehension(") F (string_bytes c.args.out.now) {ps =
+    (g.P.Places.left c.args.places.now)}
     c.in_ok-outer.ensures.indentation (c.is_flat.ensures ∙ long_line false _ (g.P.Places.left c.args.places.now) (F no_field)
     (four_or_more (F no_field) 0 refl)) c.in_ok-outer.ensures.text
     (then_field c.in_ok-told.ensures.text c.in_ok-told.ensures.indentation
@@ -926,17 +924,17 @@ lists::show_exprs-loop-e-preserved g t c = record {
       (string_bytes c.loop-e.indentation) c.loop-e.first =
       c.in_ok-push_before.ensures
       ∙ (λ i. string_bytes c.loop-e.out ++ before (c.is_flat.ensures i) (c.as_str.ensures.value i) c.loop-e.first) in
-      member_appended (λ e. shown (tree_of e)) _ _ _ c.args.style _ _ _ _ _ _ _ _ _ c.loop-e-test.true c.e-item.is
+      member_appended (λ e. shown (tree_of e)) _ c.args.style _ _ _ c.loop-e-test.true c.e-item.is
       c.loop-e.invariant.indentation c.loop-e.invariant.text
       e1 c.in_ok-show_expr.ensures.text;
-  left = member_left (λ e. shown (tree_of e)) _ _ _ _ _ _ c.loop-e-test.true c.e-item.is c.loop-e.invariant.left
+  left = member_left (λ e. shown (tree_of e)) _ _ c.loop-e-test.true c.e-item.is c.loop-e.invariant.left
       c.in_ok-show_expr.ensures.text.1;
   indentation = c.in_ok-show_expr.ensures.indentation ∙ c.loop-e.invariant.indentation;
 }
 
 pub lists::show_exprs-returns-clause-text : goal.lists::show_exprs-returns-clause-text
 lists::show_exprs-returns-clause-text g t c =
-    row_ended (λ e. shown (tree_of e)) c.args.es.now _ c.args.style _ _ _ _ _ _ _ _ _ c.loop-e-test.false c.in_ok-outer.ensures.indentation
+    row_ended (λ e. shown (tree_of e)) c.args.es.now c.args.style _ _ _ _ _ c.loop-e-test.false c.in_ok-outer.ensures.indentation
     c.in_ok-outer.ensures.text
     c.loop-e.invariant.text c.loop-e.invariant.left c.in_ok-close.ensures.text
 
@@ -947,23 +945,23 @@ lists::show_options-loop-e-preserved g t c = record {
       (string_bytes c.loop-e.indentation) c.loop-e.first =
       c.in_ok-push_before.ensures
       ∙ (λ i. string_bytes c.loop-e.out ++ before (c.is_flat.ensures i) (c.as_str.ensures.value i) c.loop-e.first) in
-      member_appended (λ e. shown_optional (optional (option_of e))) _ _ _ c.args.style _ _ _ _ _ _ _ _ _ c.loop-e-test.true c.e-item.is
+      member_appended (λ e. shown_optional (optional (option_of e))) _ c.args.style _ _ _ c.loop-e-test.true c.e-item.is
       c.loop-e.invariant.indentation c.loop-e.invariant.text
       e1 c.in_ok-show_option.ensures.text;
-  left = member_left (λ e. shown_optional (optional (option_of e))) _ _ _ _ _ _ c.loop-e-test.true c.e-item.is c.loop-e.invariant.left
+  left = member_left (λ e. shown_optional (optional (option_of e))) _ _ c.loop-e-test.true c.e-item.is c.loop-e.invariant.left
       c.in_ok-show_option.ensures.text.1;
   indentation = c.in_ok-show_option.ensures.indentation ∙ c.loop-e.invariant.indentation;
 }
 
 pub lists::show_options-returns-clause-text : goal.lists::show_options-returns-clause-text
 lists::show_options-returns-clause-text g t c =
-    row_ended (λ e. shown_optional (optional (option_of e))) c.args.es.now _ c.args.style _ _ _ _ _ _ _ _ _ c.loop-e-test.false
+    row_ended (λ e. shown_optional (optional (option_of e))) c.args.es.now c.args.style _ _ _ _ _ c.loop-e-test.false
     c.in_ok-outer.ensures.indentation c.in_ok-outer.ensures.text
     c.loop-e.invariant.text c.loop-e.invariant.left c.in_ok-close.ensures.text
 
 pub lists::show_comprehensions-returns-clause-text : goal.lists::show_comprehensions-returns-clause-text
 lists::show_comprehensions-returns-clause-text g t c =
-    row_ended (λ c. shown_comprehension (comprehension_of c)) c.args.cs.now _ c.args.style _ _ _ _ _ _ _ _ _ c.loop-c-test.false
+    row_ended (λ c. shown_comprehension (comprehension_of c)) c.args.cs.now c.args.style _ _ _ _ _ c.loop-c-test.false
     c.in_ok-outer.ensures.indentation c.in_ok-outer.ensures.text
     c.loop-c.invariant.text c.loop-c.invariant.left c.in_ok-close.ensures.text
 
@@ -974,17 +972,17 @@ lists::show_keywords-loop-k-preserved g t c = record {
       (string_bytes c.loop-k.indentation) c.loop-k.first =
       c.in_ok-push_before.ensures
       ∙ (λ i. string_bytes c.loop-k.out ++ before (c.is_flat.ensures i) (c.as_str.ensures.value i) c.loop-k.first) in
-      member_appended (λ k. shown_keyword (keyword_of k)) _ _ _ c.args.style _ _ _ _ _ _ _ _ _ c.loop-k-test.true c.k-item.is
+      member_appended (λ k. shown_keyword (keyword_of k)) _ c.args.style _ _ _ c.loop-k-test.true c.k-item.is
       c.loop-k.invariant.indentation c.loop-k.invariant.text
       e1 c.in_ok-show_keyword.ensures.text;
-  left = member_left (λ k. shown_keyword (keyword_of k)) _ _ _ _ _ _ c.loop-k-test.true c.k-item.is c.loop-k.invariant.left
+  left = member_left (λ k. shown_keyword (keyword_of k)) _ _ c.loop-k-test.true c.k-item.is c.loop-k.invariant.left
       c.in_ok-show_keyword.ensures.text.1;
   indentation = c.in_ok-show_keyword.ensures.indentation ∙ c.loop-k.invariant.indentation;
 }
 
 pub lists::show_keywords-returns-clause-text : goal.lists::show_keywords-returns-clause-text
 lists::show_keywords-returns-clause-text g t c =
-    row_ended (λ k. shown_keyword (keyword_of k)) c.args.ks.now _ c.args.style _ _ _ _ _ _ _ _ _ c.loop-k-test.false
+    row_ended (λ k. shown_keyword (keyword_of k)) c.args.ks.now c.args.style _ _ _ _ _ c.loop-k-test.false
     c.in_ok-outer.ensures.indentation c.in_ok-outer.ensures.text
     c.loop-k.invariant.text c.loop-k.invariant.left c.in_ok-close.ensures.text
 
@@ -995,17 +993,17 @@ lists::show_args-loop-a-preserved g t c = record {
       (string_bytes c.loop-a.indentation) c.loop-a.first =
       c.in_ok-push_before.ensures
       ∙ (λ i. string_bytes c.loop-a.out ++ before (c.is_flat.ensures i) (c.as_str.ensures.value i) c.loop-a.first) in
-      member_appended (λ a. shown_arg (arg_of a)) _ _ _ c.args.style _ _ _ _ _ _ _ _ _ c.loop-a-test.true c.a-item.is
+      member_appended (λ a. shown_arg (arg_of a)) _ c.args.style _ _ _ c.loop-a-test.true c.a-item.is
       c.loop-a.invariant.indentation c.loop-a.invariant.text
       e1 c.in_ok-show_arg.ensures.text;
-  left = member_left (λ a. shown_arg (arg_of a)) _ _ _ _ _ _ c.loop-a-test.true c.a-item.is c.loop-a.invariant.left
+  left = member_left (λ a. shown_arg (arg_of a)) _ _ c.loop-a-test.true c.a-item.is c.loop-a.invariant.left
       c.in_ok-show_arg.ensures.text.1;
   indentation = c.in_ok-show_arg.ensures.indentation ∙ c.loop-a.invariant.indentation;
 }
 
 pub lists::show_args-returns-clause-text : goal.lists::show_args-returns-clause-text
 lists::show_args-returns-clause-text g t c =
-    row_ended (λ a. shown_arg (arg_of a)) c.args.all.now _ c.args.style _ _ _ _ _ _ _ _ _ c.loop-a-test.false
+    row_ended (λ a. shown_arg (arg_of a)) c.args.all.now c.args.style _ _ _ _ _ c.loop-a-test.false
     c.in_ok-outer.ensures.indentation c.in_ok-outer.ensures.text
     c.loop-a.invariant.text c.loop-a.invariant.left c.in_ok-close.ensures.text
 
@@ -1016,17 +1014,17 @@ lists::show_aliases-loop-a-preserved g t c = record {
       (string_bytes c.loop-a.indentation) c.loop-a.first =
       c.in_ok-push_before.ensures
       ∙ (λ i. string_bytes c.loop-a.out ++ before (c.is_flat.ensures i) (c.as_str.ensures.value i) c.loop-a.first) in
-      member_appended (λ a. shown_alias (alias_of a)) _ _ _ c.args.style _ _ _ _ _ _ _ _ _ c.loop-a-test.true c.a-item.is
+      member_appended (λ a. shown_alias (alias_of a)) _ c.args.style _ _ _ c.loop-a-test.true c.a-item.is
       c.loop-a.invariant.indentation c.loop-a.invariant.text
       e1 c.in_ok-show_alias.ensures.text;
-  left = member_left (λ a. shown_alias (alias_of a)) _ _ _ _ _ _ c.loop-a-test.true c.a-item.is c.loop-a.invariant.left
+  left = member_left (λ a. shown_alias (alias_of a)) _ _ c.loop-a-test.true c.a-item.is c.loop-a.invariant.left
       c.in_ok-show_alias.ensures.text.1;
   indentation = c.in_ok-show_alias.ensures.indentation ∙ c.loop-a.invariant.indentation;
 }
 
 pub lists::show_aliases-returns-clause-text : goal.lists::show_aliases-returns-clause-text
 lists::show_aliases-returns-clause-text g t c =
-    row_ended (λ a. shown_alias (alias_of a)) c.args.names.now _ c.args.style _ _ _ _ _ _ _ _ _ c.loop-a-test.false
+    row_ended (λ a. shown_alias (alias_of a)) c.args.names.now c.args.style _ _ _ _ _ c.loop-a-test.false
     c.in_ok-outer.ensures.indentation c.in_ok-outer.ensures.text
     c.loop-a.invariant.text c.loop-a.invariant.left c.in_ok-close.ensures.text
 
@@ -1037,17 +1035,17 @@ lists::show_items-loop-item-preserved g t c = record {
       (string_bytes c.loop-item.indentation) c.loop-item.first =
       c.in_ok-push_before.ensures
       ∙ (λ i. string_bytes c.loop-item.out ++ before (c.is_flat.ensures i) (c.as_str.ensures.value i) c.loop-item.first) in
-      member_appended (λ item. shown_item (item_of item)) _ _ _ c.args.style _ _ _ _ _ _ _ _ _ c.loop-item-test.true c.item-item.is
+      member_appended (λ item. shown_item (item_of item)) _ c.args.style _ _ _ c.loop-item-test.true c.item-item.is
       c.loop-item.invariant.indentation c.loop-item.invariant.text
       e1 c.in_ok-show_item.ensures.text;
-  left = member_left (λ item. shown_item (item_of item)) _ _ _ _ _ _ c.loop-item-test.true c.item-item.is c.loop-item.invariant.left
+  left = member_left (λ item. shown_item (item_of item)) _ _ c.loop-item-test.true c.item-item.is c.loop-item.invariant.left
       c.in_ok-show_item.ensures.text.1;
   indentation = c.in_ok-show_item.ensures.indentation ∙ c.loop-item.invariant.indentation;
 }
 
 pub lists::show_items-returns-clause-text : goal.lists::show_items-returns-clause-text
 lists::show_items-returns-clause-text g t c =
-    row_ended (λ item. shown_item (item_of item)) c.args.items.now _ c.args.style _ _ _ _ _ _ _ _ _ c.loop-item-test.false
+    row_ended (λ item. shown_item (item_of item)) c.args.items.now c.args.style _ _ _ _ _ c.loop-item-test.false
     c.in_ok-outer.ensures.indentation c.in_ok-outer.ensures.text
     c.loop-item.invariant.text c.loop-item.invariant.left c.in_ok-close.ensures.text
 
@@ -1058,17 +1056,17 @@ lists::show_type_params-loop-p-preserved g t c = record {
       (string_bytes c.loop-p.indentation) c.loop-p.first =
       c.in_ok-push_before.ensures
       ∙ (λ i. string_bytes c.loop-p.out ++ before (c.is_flat.ensures i) (c.as_str.ensures.value i) c.loop-p.first) in
-      member_appended (λ p. shown_type_param (type_param_of p)) _ _ _ c.args.style _ _ _ _ _ _ _ _ _ c.loop-p-test.true c.p-item.is
+      member_appended (λ p. shown_type_param (type_param_of p)) _ c.args.style _ _ _ c.loop-p-test.true c.p-item.is
       c.loop-p.invariant.indentation c.loop-p.invariant.text
       e1 c.in_ok-show_type_param.ensures.text;
-  left = member_left (λ p. shown_type_param (type_param_of p)) _ _ _ _ _ _ c.loop-p-test.true c.p-item.is c.loop-p.invariant.left
+  left = member_left (λ p. shown_type_param (type_param_of p)) _ _ c.loop-p-test.true c.p-item.is c.loop-p.invariant.left
       c.in_ok-show_type_param.ensures.text.1;
   indentation = c.in_ok-show_type_param.ensures.indentation ∙ c.loop-p.invariant.indentation;
 }
 
 pub lists::show_type_params-returns-clause-text : goal.lists::show_type_params-returns-clause-text
 lists::show_type_params-returns-clause-text g t c =
-    row_ended (λ p. shown_type_param (type_param_of p)) c.args.all.now _ c.args.style _ _ _ _ _ _ _ _ _ c.loop-p-test.false
+    row_ended (λ p. shown_type_param (type_param_of p)) c.args.all.now c.args.style _ _ _ _ _ c.loop-p-test.false
     c.in_ok-outer.ensures.indentation c.in_ok-outer.ensures.text
     c.loop-p.invariant.text c.loop-p.invariant.left c.in_ok-close.ensures.text
 
@@ -1097,9 +1095,8 @@ pub members::show_item-returns-clause-text : goal.members::show_item-returns-cla
 members::show_item-returns-clause-text g t c =
     let e = shown (tree_of c.args.item.now.context_expr) in
     let r1 : Fields = expr_field (codes "optional_vars") (option_of c.args.item.now.optional_vars) no_field in
-    plain_ended c.args.style _ _ (codes "withitem(")
-    (λ rest. a_field (codes "context_expr") e (expr_field (codes "optional_vars") (option_of c.args.item.now.optional_vars) rest)) _ _ _
-    _ _ _ _ _
+    plain_ended c.args.style _ (codes "withitem(")
+    (λ rest. a_field (codes "context_expr") e (expr_field (codes "optional_vars") (option_of c.args.item.now.optional_vars) rest)) _
     c.in_ok-outer.ensures.indentation
     (led_line _ _ _ _ (codes "context_expr") e r1 (expr_marked _) c.is_told_on_line.ensures
     (c.is_short_two.ensures ∙ ap (λ z. is_flat c.args.style.indent || is_short (a_field (codes "context_expr") e z))

@@ -10,7 +10,8 @@ returns-in_err-source-clause-refused c =
 pub returns-in_err-parse_placed-clause-refused : goal.returns-in_err-parse_placed-clause-refused
 returns-in_err-parse_placed-clause-refused c =
     let e = err_from_is_err_and c.from_residual-in_err-parse_placed.result c.from_residual-in_err-parse_placed.ensures.1 in
-    rw (e.1, e.2) (refused_by c.args.profile c.args.bytes.now c.in_ok-source.source c.in_err-parse_placed.field-0.0 c.in_ok-source.ensures.value
+    rw (e.1, e.2) (refused_by c.args.profile c.args.bytes.now c.in_ok-source.source c.in_err-parse_placed.field-0.0
+    c.in_ok-source.ensures.value
     c.in_err-parse_placed.ensures.refused)
 
 pub returns-clause-is : goal.returns-clause-is

@@ -9,7 +9,8 @@ pub returns-in_err-module-clause-performs :
     goal.returns-in_err-module-clause-performs
 returns-in_err-module-clause-performs g c =
     let e = err_from_is_err_and c.from_residual.result c.from_residual.ensures.1 in
-    rw (e.1, e.2) (none_written whole c.args.asked.now.profile (λ (bytes : List ℕ). IsTextOf c.args.asked.now.profile) (g.R.ByteIn.seen c.args.reader.now)
+    rw (e.1, e.2) (none_written whole c.args.asked.now.profile (λ (bytes : List ℕ). IsTextOf c.args.asked.now.profile)
+    (g.R.ByteIn.seen c.args.reader.now)
     (g.R.ByteIn.seen c.read_module.new.reader) (g.W.ByteOut.sent c.args.writer.now).taken c.in_err-module.field-0.0
     c.in_err-module.ensures.none)
 

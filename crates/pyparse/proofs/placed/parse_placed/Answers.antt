@@ -33,7 +33,8 @@ pub returns-in_err-next_marked-clause-refused : goal.returns-in_err-next_marked-
 returns-in_err-next_marked-clause-refused c =
     let s = in_characters c.args.source.now in
     told_on c.args.profile s c.from_residual-in_err-next_marked.result c.in_err-next_marked.field-0.0
-    (subst (λ (p : Parts). Tells (refusal c.args.profile.extent (in_characters p)) c.in_err-next_marked.field-0.0) c.loop-progress.invariant.source
+    (subst (λ (p : Parts). Tells (refusal c.args.profile.extent (in_characters p)) c.in_err-next_marked.field-0.0)
+    c.loop-progress.invariant.source
     (subst (λ (x : Extent). Tells (refusal x (in_characters c.loop-progress.lines.source)) c.in_err-next_marked.field-0.0)
     c.loop-progress.invariant.extent c.in_err-next_marked.ensures.refused))
     (err_from_is_err_and c.from_residual-in_err-next_marked.result c.from_residual-in_err-next_marked.ensures.1)
@@ -80,7 +81,8 @@ loop-progress-preserved c =
     let given : new.given ≡ old.given + 1 =
     c.in_ok-next_marked.ensures.given ∙ ap (λ (b : Bool). if b then old.given + 1 else old.given) more in
     let held = c.in_ok-next_marked.ensures.line more in
-    let spans : (x : Line) → slice_get (lines (in_characters old.source)) old.given ≡ Some x → c.next_marked.new.marks ≡ Some (line_spans text x) =
+    let spans : (x : Line) → slice_get (lines (in_characters old.source)) old.given ≡ Some x
+    → c.next_marked.new.marks ≡ Some (line_spans text x) =
     λ x stands. c.in_ok-next_marked.ensures.marks more x stands ∙ kept_anew c.loop-progress.marks kept.spans (line_spans text x) kept.is in
     let placed : IsPlaced profile (in_characters new.source) (old.given + 1) c.take.new.self =
     c.in_ok-take.ensures old.given (subst (λ (p : Parts). HoldsLine (in_characters p) old.given new) same held)

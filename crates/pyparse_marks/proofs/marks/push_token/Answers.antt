@@ -13,4 +13,5 @@ returns c =
     ap (map told) c.in_ok-push.ensures.items ∙ map-append told c.args.spans.now.items (c.in_ok-span.field-0 ∷ [])
     ∙ ap (λ (s : Span). map told c.args.spans.now.items ++ s ∷ []) (c.in_ok-span.ensures
     ∙ ap (span c.args.from) (c.in_ok-to.ensures ∙ ap (λ n. c.args.from + n) c.len.ensures))
-    ∙ ap (λ (xs : List Span). map told c.args.spans.now.items ++ xs) (sym (single_spans c.args.from c.args.kind (chars c.args.text.now) none))
+    ∙ ap (λ (xs : List Span). map told c.args.spans.now.items ++ xs)
+    (sym (single_spans c.args.from c.args.kind (chars c.args.text.now) none))

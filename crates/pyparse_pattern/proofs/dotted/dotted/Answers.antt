@@ -36,6 +36,7 @@ returns-clause-placed g c = c.points.invariant.placed
 
 pub returns-in_err-e-in-Some-clause-answered : goal.returns-in_err-e-in-Some-clause-answered
 returns-in_err-e-in-Some-clause-answered g c =
-    let f = points_high c.args.tokens.now c.args.room _ c.points.e _ c.in_err-e-in-Some.field-0.0 c.points.invariant.is c.points-test.ensures
+    let f = points_high c.args.tokens.now c.args.room _ c.points.e _ c.in_err-e-in-Some.field-0.0
+    c.points.invariant.is c.points-test.ensures
     c.in-Some.ensures.is c.in_err-e-in-Some.ensures in
     search (rules, f)

@@ -17,6 +17,6 @@ returns-then-is_done-clause-text g c =
 
 pub returns-clause-text : goal.returns-clause-text
 returns-clause-text g c =
-    node_ended c.args.style _ _ _ c.args.class.now (λ rest. rest) _ _ _ _ _ _ _ _ _
+    node_ended c.args.style _ c.args.class.now (λ rest. rest) _
     c.in_ok-outer.ensures.indentation (flat_line _ _ _ no_field (sym c.if-is_done.ensures) c.is_flat.ensures) c.in_ok-outer.ensures.text
     (nothing_appended c.args.style _ _ _ _) refl c.in_ok-end_node.ensures.text c.in_ok-end_node.ensures.left

@@ -14,7 +14,7 @@ returns-clause-text g c =
     (a_field (codes "type_ignores") (Row no_shown) rest) in
     module_text s _ _ _ _ _ body c.args.tree.now.body.items c.deref-body.ensures.value c.new-out.ensures.bytes
     c.in_ok-indentation.ensures.ok
-    (plain_ended s _ _ (codes "Module(") F _ _ _ _ _ _ _ _ c.in_ok-outer.ensures.indentation
+    (plain_ended s _ (codes "Module(") F _ c.in_ok-outer.ensures.indentation
     (module_line _ _ _ s.profile body c.is_short_module.ensures) c.in_ok-outer.ensures.text
     (then_field c.in_ok-told.ensures.text c.in_ok-told.ensures.indentation c.in_ok-show_field.ensures.text) c.in_ok-close.ensures.text)
 
@@ -25,7 +25,7 @@ returns-clause-left g c =
     let F : Fields → Fields = λ rest. a_field (codes "body") (shown_block s.profile body)
     (a_field (codes "type_ignores") (Row no_shown) rest) in
     module_left s _ _ _ _ _ body c.args.tree.now.body.items c.deref-body.ensures.value
-    (plain_ended s _ _ (codes "Module(") F _ _ _ _ _ _ _ _ c.in_ok-outer.ensures.indentation
+    (plain_ended s _ (codes "Module(") F _ c.in_ok-outer.ensures.indentation
     (module_line _ _ _ s.profile body c.is_short_module.ensures) c.in_ok-outer.ensures.text
     (then_field c.in_ok-told.ensures.text c.in_ok-told.ensures.indentation c.in_ok-show_field.ensures.text) c.in_ok-close.ensures.text)
     ∙ taken (shown_module s.profile (module_of c.args.tree.now)) _

@@ -8,9 +8,8 @@ use Rattle.pytree_dump.proofs.nodes.show_four.Goals as goal
 
 pub returns-clause-text : goal.returns-clause-text
 returns-clause-text g c =
-    node_ended c.args.style _ _ _ c.args.class.now
-    (λ rest. with_slot (slot_of c.args.a)
-    (with_slot (slot_of c.args.b) (with_slot (slot_of c.args.c) (with_slot (slot_of c.args.d) (rest))))) _ _ _ _ _ _ _ _ _
+    node_ended c.args.style _ c.args.class.now (λ rest. with_slot (slot_of c.args.a)
+    (with_slot (slot_of c.args.b) (with_slot (slot_of c.args.c) (with_slot (slot_of c.args.d) (rest))))) _
     c.in_ok-outer.ensures.indentation
     (marked_line _ _ _ _
     (with_slot (slot_of c.args.a) (with_slot (slot_of c.args.b) (with_slot (slot_of c.args.c) (with_slot (slot_of c.args.d) no_field))))

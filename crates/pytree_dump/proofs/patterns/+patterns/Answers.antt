@@ -24,7 +24,7 @@ pub show_many-returns-clause-text : goal.show_many-returns-clause-text
 show_many-returns-clause-text g t c =
     let s = c.args.style in
     let F : Fields → Fields = λ rest. a_field (codes "patterns") (shown_pattern_row c.args.patterns.now) rest in
-    node_ended s _ _ _ c.args.class.now F _ _ _ _ _ _ _ _ _ c.in_ok-outer.ensures.indentation
+    node_ended s _ c.args.class.now F _ c.in_ok-outer.ensures.indentation
     (marked_line _ _ _ _ (F no_field) c.is_told_on_line.ensures c.is_short_patterns.ensures)
     c.in_ok-outer.ensures.text
     c.in_ok-told.ensures.text
@@ -35,7 +35,7 @@ show_mapping-returns-clause-text g t c =
     let s = c.args.style in
     let F : Fields → Fields = λ rest. a_field (codes "keys") (listed (λ e. shown (tree_of e)) c.args.keys.now)
     (a_field (codes "patterns") (shown_pattern_row c.args.patterns.now) (name_field (codes "rest") c.args.rest.now rest)) in
-    node_ended s _ _ _ (codes "MatchMapping(") F _ _ _ _ _ _ _ _ _ c.in_ok-outer.ensures.indentation
+    node_ended s _ (codes "MatchMapping(") F _ c.in_ok-outer.ensures.indentation
     (marked_line _ _ _ _ (F no_field) c.is_told_on_line.ensures (c.is_short_mapping.ensures c.args.rest.now))
     c.in_ok-outer.ensures.text
     (then_field c.in_ok-told.ensures.text c.in_ok-told.ensures.indentation
@@ -51,7 +51,7 @@ show_instance-returns-clause-text g t c =
     (a_field (codes "patterns") (shown_pattern_row c.args.patterns.now)
     (a_field (codes "kwd_attrs") (listed (λ name. shown_name name) c.args.kwd_attrs.now)
     (a_field (codes "kwd_patterns") (shown_pattern_row c.args.kwd_patterns.now) rest))) in
-    node_ended s _ _ _ (codes "MatchClass(") F _ _ _ _ _ _ _ _ _ c.in_ok-outer.ensures.indentation
+    node_ended s _ (codes "MatchClass(") F _ c.in_ok-outer.ensures.indentation
     (c.is_flat.ensures ∙ long_line true _ _ (F no_field) (four_or_more (F no_field) 0 refl))
     c.in_ok-outer.ensures.text
     (then_field c.in_ok-told.ensures.text c.in_ok-told.ensures.indentation
@@ -66,7 +66,7 @@ show_as-returns-clause-text g t c =
     let s = c.args.style in
     let F : Fields → Fields = λ rest. pattern_field (codes "pattern") (optional_pattern (boxed_pattern_of c.args.pattern.now))
     (name_field (codes "name") c.args.name.now rest) in
-    node_ended s _ _ _ (codes "MatchAs(") F _ _ _ _ _ _ _ _ _ c.in_ok-outer.ensures.indentation
+    node_ended s _ (codes "MatchAs(") F _ c.in_ok-outer.ensures.indentation
     (marked_line _ _ _ _ (F no_field) c.is_told_on_line.ensures (c.is_short_as.ensures c.args.name.now))
     c.in_ok-outer.ensures.text
     (then_field c.in_ok-told.ensures.text c.in_ok-told.ensures.indentation
@@ -107,17 +107,17 @@ show_pattern_row-loop-p-preserved g t c = record {
       (string_bytes c.loop-p.indentation) c.loop-p.first =
       c.in_ok-push_before.ensures
       ∙ (λ i. string_bytes c.loop-p.out ++ before (c.is_flat.ensures i) (c.as_str.ensures.value i) c.loop-p.first) in
-      member_appended (λ p. shown_pattern (pattern_of p)) _ _ _ c.args.style _ _ _ _ _ _ _ _ _ c.loop-p-test.true c.p-item.is
+      member_appended (λ p. shown_pattern (pattern_of p)) _ c.args.style _ _ _ c.loop-p-test.true c.p-item.is
       c.loop-p.invariant.indentation c.loop-p.invariant.text
       e1 c.in_ok-show_pattern.ensures.text;
-  left = member_left (λ p. shown_pattern (pattern_of p)) _ _ _ _ _ _ c.loop-p-test.true c.p-item.is c.loop-p.invariant.left
+  left = member_left (λ p. shown_pattern (pattern_of p)) _ _ c.loop-p-test.true c.p-item.is c.loop-p.invariant.left
       c.in_ok-show_pattern.ensures.text.1;
   indentation = c.in_ok-show_pattern.ensures.indentation ∙ c.loop-p.invariant.indentation;
 }
 
 pub show_pattern_row-returns-clause-text : goal.show_pattern_row-returns-clause-text
 show_pattern_row-returns-clause-text g t c =
-    row_ended (λ p. shown_pattern (pattern_of p)) c.args.patterns.now _ c.args.style _ _ _ _ _ _ _ _ _ c.loop-p-test.false
+    row_ended (λ p. shown_pattern (pattern_of p)) c.args.patterns.now c.args.style _ _ _ _ _ c.loop-p-test.false
     c.in_ok-outer.ensures.indentation c.in_ok-outer.ensures.text
     c.loop-p.invariant.text c.loop-p.invariant.left c.in_ok-close.ensures.text
 

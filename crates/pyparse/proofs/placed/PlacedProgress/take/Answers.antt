@@ -82,9 +82,11 @@ returns c k held spans was =
       zs = was.zs ++ here ∷ [];
       placed = λ read.
           let before = was.placed (sym c.is_unread.ensures ∙ c.if-is_unread.false) in (
-            subst (λ (n : ℕ). PlacedLines profile [] (line_spans s.text) (first_lines s (k + 1)) (was.forms ++ line n form ∷ []) (was.zs ++ here ∷ []))
+            subst (λ (n : ℕ). PlacedLines profile [] (line_spans s.text) (first_lines s (k + 1))
+                (was.forms ++ line n form ∷ []) (was.zs ++ here ∷ []))
                 (sym c.level-level.ensures) (placed_next found.1.comes before.0),
-            subst (λ (z : LinePlaces). Follows (was.forms ++ line c.level-level.result form ∷ []) (was.zs ++ z ∷ []) c.step.new.self) given_here
+            subst (λ (z : LinePlaces). Follows (was.forms ++ line c.level-level.result form ∷ []) (was.zs ++ z ∷ []) c.step.new.self)
+                given_here
                 (c.in_ok-step.ensures.follows was.forms was.zs before.1),
           );
     }

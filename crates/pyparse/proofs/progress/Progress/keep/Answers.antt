@@ -13,5 +13,5 @@ returns c profile s k forms was comes =
       known = c.in_ok-place.ensures profile s k forms was.known comes;
       places =
           subst (λ (xs : List Line). HoldsPlaces xs c.step.new.self) (sym (behind_more [] forms next))
-          (c.in-Ok.ensures (behind [] forms) (form_of c.args.form) c.is_match.ensures was.places);
+          (c.in_ok-step.ensures (behind [] forms) (form_of c.args.form) c.is_match-opens_match.ensures was.places);
     }

@@ -4,7 +4,7 @@ use Rattle.pytree_node.specs.TreeOf.{stmt_of}
 use Rattle.pygrammar.specs.FormOf.{header_of}
 use Rattle.pygrammar.specs.Reading.{joined}
 use Rattle.pygrammar.specs.Reading as reading
-use Rattle.pyparse_block.specs.declared.groups.Part.{Part}
+use Rattle.pyparse_block.specs.declared.groups.PartialBlock.{PartialBlock}
 use Rattle.pyparse_block.specs.declared.stack.Waiting.{Waiting}
 use Rattle.pyparse_block.specs.Values.{group_of, state_of}
 use Rattle.pyparse_block.proofs.LevelLemmas.{level_ended}
@@ -15,9 +15,11 @@ returns-clause-ended c =
     let w = c.unwrap-part.result in
     let popped : c.args.self.now.below.items ≡ c.pop.new.self.items ++ w ∷ [] = c.pop.ensures.items
     ∙ ap (λ (o : Option Waiting). c.pop.new.self.items ++ option_to_list o) c.unwrap-part.ensures in
-    let put = λ (p q : Part). joined (map stmt_of p.done.items) (group_of p.group) (header_of w.header) (map stmt_of q.done.items) in
-    let puts = ap (λ (p : Part). put p c.replace-done.result) c.replace-done.ensures.after ∙ ap (put w.part) c.replace-done.ensures.value in
+    let put = λ (p q : PartialBlock). joined (map stmt_of p.done.items) (group_of p.group) (header_of w.header)
+    (map stmt_of q.done.items) in
+    let puts = ap (λ (p : PartialBlock). put p c.replace-done.result) c.replace-done.ensures.after
+    ∙ ap (put w.part) c.replace-done.ensures.value in
     level_ended (state_of c.args.self.now) c.args.self.now.below.items c.pop.new.self.items w (map stmt_of c.close.new.part.done.items) _ _
     refl popped c.if-self.false (sym c.if-is_matching.ensures) c.in_ok-close.ensures.closed
-    (c.in_ok-grow.ensures.done ∙ ap (λ (p : reading.Part). p.done) puts) (c.in_ok-grow.ensures.group
-    ∙ ap (λ (p : reading.Part). p.group) puts)
+    (c.in_ok-grow.ensures.done ∙ ap (λ (p : reading.PartialBlock). p.done) puts) (c.in_ok-grow.ensures.group
+    ∙ ap (λ (p : reading.PartialBlock). p.group) puts)

@@ -1,5 +1,7 @@
-use Rattle.std.proofs.Common.{◌≤◌, ◌-◌, length, map, suc}
+use Rattle.std.proofs.Common.{◌≡◌, ◌≤◌, ◌-◌, length, map, suc}
 use Rattle.pytree_node.specs.TreeOf.{stmt_of}
+use Rattle.pytree_node.specs.Trees.{stmts}
+use Rattle.pytree_height.specs.Heights.{highest_in_all}
 use Rattle.pygrammar.specs.LineReader.{statements}
 use Rattle.pyparse_expr.specs.Readings.{reads}
 use Rattle.pyparse_nodes.specs.Views.{seen}
@@ -9,11 +11,13 @@ use Rattle.pyparse_line.proofs.statements.statements.read_statements.Given as go
 
 abbrev pub invariant-more : goal.invariant-more
 invariant-more g l = record {
-  ahead : l.at ≤ l.statements.next;
+  ahead : l.at ≤ l.next;
   is : Runs l.tokens l.profile (reads l.depth) (statements l.profile (reads l.depth) (suc (length (seen l.tokens l.at)))
-      (seen l.tokens l.at)) (map stmt_of l.statements.statements.items) l.statements.next;
-  grown : SimplesGrown g.R.Recorder.after l.profile l.tokens l.at l.initial.recorder l.recorder l.statements;
+      (seen l.tokens l.at)) (map stmt_of l.statements.items) l.next;
+  grown : SimplesGrown g.R.Recorder.after l.profile l.tokens l.at l.initial.recorder l.recorder (map stmt_of l.statements.items)
+      l.next;
+  high : l.height ≡ highest_in_all (stmts (map stmt_of l.statements.items));
 }
 
 abbrev pub decreases-more : goal.decreases-more
-decreases-more g l = length l.tokens - l.statements.next
+decreases-more g l = length l.tokens - l.next
