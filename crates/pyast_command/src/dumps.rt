@@ -14,7 +14,7 @@ use pyast_words::Dump;
 use pyplaces::PlacesLeft;
 use pysource::{ByteIn, ByteOut, write_all};
 use pytree_dump::{PlacedPieces, Style};
-use pytree_marked::{NoPlaces, Places};
+use pytree_marked::{NoPlaces, PlaceSource};
 use std::alloc::Global;
 
 /// How many bytes of text are held at least before they are written.
@@ -24,7 +24,7 @@ const ENOUGH: usize = 65_536;
 const ROOM: usize = 131_072;
 
 /// Writes the pieces of a dump, and a line feed: the text is never held whole.
-fn write_pieces<P: Places + Drop, W: ByteOut>(
+fn write_pieces<P: PlaceSource + Drop, W: ByteOut>(
     alloc: Global,
     mut pieces: PlacedPieces<'_, P>,
     writer: &mut W,

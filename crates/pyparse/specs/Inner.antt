@@ -1,4 +1,4 @@
-pub mod Placing
+pub mod LastLines
 pub mod Progressing
 pub mod Reading
 pub mod PlacedLines

@@ -157,8 +157,8 @@ impl Known {
         }
     }
 
-    /// Meets the next line, by its form: whether lines are sound with it as far as the outline says,
-    /// so that statements grow by it. Else that is known then.
+    /// Takes the next line into the outline, and says whether statements grow by it: whether no line
+    /// so far is faulty or too deep. Where they don't, all that the line changes is known.
     #[inline(always)]
     fn meet(
         &mut self,
@@ -197,7 +197,7 @@ impl Known {
         }
     }
 
-    /// Grows the statements by the next line, which was met.
+    /// Grows the statements by the next line, which the outline has.
     #[inline(always)]
     fn grow(
         &mut self,
@@ -230,9 +230,9 @@ impl Known {
         }
     }
 
-    /// The next line, by its form. Lines that stay sound are taken in place.
+    /// Takes the next line: into the outline, and then, where statements grow by it, into these.
     ///
-    /// A form is handed on in two places alone, since each pays at entry for a form.
+    /// The form is passed on in two places alone, since a function clears room for each at entry.
     #[inline(always)]
     pub(crate) fn place(
         &mut self,

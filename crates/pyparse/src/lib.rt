@@ -21,10 +21,10 @@
 
 mod expressions;
 mod known;
+mod last_lines;
 mod modules;
 mod patterns;
 mod placed;
-mod places;
 mod progress;
 mod token_lists;
 

@@ -20,7 +20,7 @@ ghost use Rattle.pyparse.specs.Inner.Progressing.{is_unread, IsProgress, Closes,
 ghost use Rattle.pyparse.specs.Inner.Reading.{Holds, Reads};
 
 use crate::known::Known;
-use crate::places::Places;
+use crate::last_lines::LastLines;
 use pygrammar::{Form, Header};
 use pyparse_line::{LineRead, read_line};
 use pyparse_nodes::Stop;
@@ -72,7 +72,7 @@ fn is_match(form: &Form) -> bool
 #[derive(Drop)]
 pub(crate) struct Progress {
     known: Known,
-    places: Places,
+    last_lines: LastLines,
 }
 
 impl Progress {
@@ -82,7 +82,7 @@ impl Progress {
     {
         Progress {
             known: Known::new(alloc),
-            places: Places::new(alloc),
+            last_lines: LastLines::new(alloc),
         }
     }
 
@@ -109,7 +109,7 @@ impl Progress {
             (in_characters lines.now.source) k forms lines.now.level lines.now.start self.old self.new
             recorder.old recorder.new) }
     {
-        let inside = self.places.inside(lines.level());
+        let inside = self.last_lines.inside(lines.level());
         match read_line(alloc, lines.terminals(), profile, inside, recorder) {
             Ok(read) => Ok(Some(read)),
             Err(stop) => {
@@ -159,7 +159,7 @@ impl Progress {
     {
         let opens_match = is_match(&form);
         self.known.place(alloc, level, form, start)?;
-        self.places.step(level, opens_match)?;
+        self.last_lines.step(level, opens_match)?;
         Ok(())
     }
 
@@ -178,7 +178,7 @@ impl Progress {
             return Ok(());
         }
         let level = lines.level();
-        let inside = self.places.inside(level);
+        let inside = self.last_lines.inside(level);
         match read_line(alloc, lines.terminals(), profile, inside, &mut Ignored) {
             Ok(read) => {
                 self.keep(alloc, level, read.form, lines.start())?;
@@ -202,7 +202,10 @@ impl Progress {
             → IfOk result (λ m. Block 0 forms (module_of m).body) }
         ensures read { IfOk result (λ m. is_unread self.known ≡ false) }
     {
-        let Progress { known, places: _ } = self;
+        let Progress {
+            known,
+            last_lines: _,
+        } = self;
         known.finish(alloc, end)
     }
 }

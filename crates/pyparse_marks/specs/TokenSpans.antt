@@ -8,14 +8,13 @@ use Rattle.std.specs.Prelude.{if◌then◌else◌}
 use Rattle.std.specs.Str.{encode_utf8_all}
 use Rattle.pylex_lexeme.specs.Chars.{bytes_in}
 use Rattle.pylex_lexeme.specs.Lexemes.{Lexeme, cut}
-use Rattle.pylex_lexeme.specs.Strings.{begins_three}
 use Rattle.pylex.specs.declared.kind.Kind.{Kind}
 use Rattle.pylex.specs.Spots.{kind_of}
 use Rattle.pyfstring.specs.Characters.{exclamation_mark}
 use Rattle.pyfstring.specs.Parts.{Part, text, field, SpecPart, BodyPart}
 use Rattle.pyfstring.specs.Cutting.{cut_of}
 use Rattle.pyfstring_tokens.specs.FieldTokens.{is_gap}
-use Rattle.pytoken.specs.StringValues.{with_line_feeds, prefix_len_of, is_raw, body_of}
+use Rattle.pytoken.specs.StringValues.{with_line_feeds, is_raw, after_opening, body_of}
 use Rattle.pytoken.specs.FormattedStrings.{is_fstring}
 use Rattle.pyparse_marks.specs.Spans.{Span, span}
 
@@ -115,13 +114,9 @@ past_body_parts expression a ps w = past_each (past_part expression (past_spec_p
 
 -- ---- Tokens.
 
--- a literal behind its prefix and its first quotes
-abbrev pub behind_opening : List ℕ → List ℕ
-behind_opening t = let opened = drop (prefix_len_of t) t in drop (if begins_three opened then 3 else 1) opened
-
--- the bytes of these
+-- the bytes of a literal's prefix and its first quotes
 abbrev pub opening_len : List ℕ → ℕ
-opening_len t = bytes_in t - bytes_in (behind_opening t)
+opening_len t = bytes_in t - bytes_in (after_opening t)
 
 -- an f-string that begins here
 abbrev pub around : List ℕ → Walk → Around

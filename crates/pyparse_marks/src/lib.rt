@@ -7,7 +7,6 @@
 //! stand, `LineSpans` those of a line, `Laws` that each terminal has a span.
 #![tactic(auto)]
 
-mod bodies;
 mod expressions;
 mod formatted;
 mod lengths;

@@ -8,10 +8,11 @@ ghost use Rattle.pyparse_marks.specs.Spans.{added, emptied, told};
 ghost use Rattle.pyparse_marks.specs.TokenSpans.{token_spans};
 
 use crate::lengths::{len, span, sum};
-use crate::parts::{is_fstring, pass_token};
+use crate::parts::pass_token;
 use crate::spans::Span;
 use crate::walkers::Walker;
 use pylex::Kind;
+use pytoken::is_fstring;
 use std::alloc::{AllocError, Global};
 use std::marker::Model;
 

@@ -5,20 +5,19 @@
 ghost use Rattle.std.specs.Prelude.{◌≡◌, true, false, map, OnOk, option_map};
 ghost use Rattle.std.specs.Str.{chars};
 ghost use Rattle.pyfstring.specs.Parts.{text_of, part_of, spec_parts};
-ghost use Rattle.pytoken.specs.FormattedStrings.{is_fstring};
 ghost use Rattle.pyparse_marks.specs.TokenSpans.{past_text, past_part, past_spec, past_spec_parts};
 ghost use Rattle.pyparse_marks.specs.TokenSpans.{past_body_parts, past_expression, past_formatted};
 ghost use Rattle.pyparse_marks.specs.TokenSpans.{past_cut, parts_of, opening_len};
 ghost use Rattle.pyparse_marks.specs.TokenSpans.{past_token, past_nested};
 ghost use Rattle.pyparse_marks.specs.Inner.Walking.{around_of};
 
-use crate::bodies::{body, is_marked, opening_len};
 use crate::expressions::{Single, Tokens};
 use crate::formatted::{Around, pass_end, pass_front, pass_inner_spec, pass_text};
 use crate::lengths::{len, span, sum};
 use crate::walkers::Walker;
 use pyfstring::{CutError, Manner, Piece, SpecPiece, pieces};
 use pylex::Kind;
+use pytoken::{after_opening, body, is_fstring, is_raw};
 use std::alloc::{AllocError, Global};
 
 /// Goes past a piece of a spec.
@@ -121,6 +120,13 @@ fn pass_pieces<T: Tokens>(
     Ok(())
 }
 
+/// The bytes before the body of a literal.
+fn opening_len(text: &str) -> usize
+    ensures { result ≡ opening_len (chars text.now) }
+{
+    len(text).saturating_sub(len(after_opening(text)))
+}
+
 /// Goes over an f-string, by whether it stands in a field itself, or nowhere if it is malformed.
 /// Where one stands then isn't said.
 fn pass_cut<T: Tokens>(
@@ -135,7 +141,7 @@ fn pass_cut<T: Tokens>(
         walker.old) }
 {
     let text = around.text;
-    let is_raw = is_marked(text, 'r', 'R');
+    let is_raw = is_raw(text);
     match pieces(alloc, body(text), Manner { is_raw, is_nested }) {
         Ok(pieces) => {
             walker.put(around.whole)?;
@@ -171,17 +177,6 @@ fn pass_formatted<T: Tokens>(
     )?;
     walker.move_to(stop);
     Ok(())
-}
-
-/// Whether a token is an f-string.
-#[inline(always)]
-pub(crate) fn is_fstring(kind: Kind, text: &str) -> bool
-    ensures { result ≡ is_fstring kind (chars text.now) }
-{
-    match kind {
-        Kind::String => is_marked(text, 'f', 'F'),
-        _ => false,
-    }
 }
 
 /// A token is one terminal, but for an f-string, whose fields have such tokens alone.

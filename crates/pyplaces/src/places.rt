@@ -205,7 +205,7 @@ impl<'a> PlacesLeft<'a> {
     }
 }
 
-impl<'a> pytree_marked::Places for PlacesLeft<'a> {
+impl<'a> pytree_marked::PlaceSource for PlacesLeft<'a> {
     ghost left = { λ w. shown_from w.next w.places.now };
 
     fn is_done(&self) -> bool {

@@ -6,7 +6,6 @@ use Rattle.pylex_lexeme.specs.Characters.{line_feed}
 use Rattle.pylex.specs.declared.kind.Kind.{Kind}
 use Rattle.pylex.specs.declared.kind.Kind.TheVariants as kinds
 use Rattle.pyfstring.specs.declared.parts.Conversion.{Conversion}
-use Rattle.pyfstring.specs.declared.parts.Manner.{Manner}
 use Rattle.pyfstring.specs.Singles.{single}
 use Rattle.pyfstring.specs.Parts.{FieldParts, Part, text, field, SpecPart, BodyPart}
 use Rattle.pyfstring.specs.Cutting.{cut_of}

@@ -61,6 +61,10 @@ inside t = let width = if begins_three t then 3 else 1 in without_last width (dr
 abbrev pub body_of : List ℕ → List ℕ
 body_of t = inside (drop (prefix_len_of t) t)
 
+-- what stands after the prefix and the first quotes of a literal
+abbrev pub after_opening : List ℕ → List ℕ
+after_opening t = let opened = drop (prefix_len_of t) t in drop (if begins_three opened then 3 else 1) opened
+
 -- the points of a literal without CRs: of a text its characters, of bytes these
 unfoldable pub points_of : List ℕ → List ℕ
 points_of t = flat_map points_in (meanings (is_raw t) (is_bytes t) (body_of t))

@@ -6,8 +6,9 @@
 //! [`terminal_of`] gives what a token is to the grammar that is a single [`Terminal`], as all are but
 //! f-strings, and [`push_terminals`] what any token is. A string is a [`LiteralText`] there, a number
 //! that isn't a short whole one a [`NumberText`], a text in an f-string a [`TextPiece`]: the values of
-//! these are made when they are asked for. [`is_identifier`] says which texts are names. The tokens
-//! of a whole source are read by `pyparse_tokens`.
+//! these are made when they are asked for. [`is_identifier`] says which texts are names. Where the
+//! parts of a literal are say [`after_opening`] and [`body`], which kind it is [`is_raw`] and
+//! [`is_fstring`]. The tokens of a whole source are read by `pyparse_tokens`.
 //!
 //! What reads numbers is told the extent of the language: a number that is a fault in the plain one
 //! may be none in the whole one.
@@ -36,7 +37,7 @@ pub use meanings::Meaning;
 pub use names::is_identifier;
 pub use refusals::Refusal;
 pub use values::{
-    Literal, LiteralText, NumberText, Terminal, TerminalFault, TextPiece, identifier_value,
-    name_fault, name_value, number_value, push_terminals, string_fault, string_value, terminal_of,
-    token_fault,
+    Literal, LiteralText, NumberText, Terminal, TerminalFault, TextPiece, after_opening, body,
+    identifier_value, is_fstring, is_raw, name_fault, name_value, number_value, push_terminals,
+    string_fault, string_value, terminal_of, token_fault,
 };

@@ -1,7 +1,8 @@
 //! Counts of expressions.
 
 ghost use Rattle.std.specs.Prelude.{◌≡◌, ◌+◌, map};
-ghost use Rattle.pytree_counts.specs.Counts.{capped, marked_optional, marked_optional_arg};
+ghost use Rattle.pytree_marked.specs.MarkedOptions.{marked_optional, marked_optional_arg};
+ghost use Rattle.pytree_counts.specs.Counts.{capped};
 ghost use Rattle.pytree_dump_text.specs.Shows.{shown, shown_arg, shown_args, shown_arguments};
 ghost use Rattle.pytree_dump_text.specs.Shows.{shown_comprehensions, shown_exprs, shown_keywords};
 ghost use Rattle.pytree_dump_text.specs.Shows.{shown_optionals};

@@ -1,7 +1,8 @@
 //! Counts of patterns.
 
 ghost use Rattle.std.specs.Prelude.{◌≡◌, ◌+◌, map};
-ghost use Rattle.pytree_counts.specs.Counts.{capped, marked_optional_pattern};
+ghost use Rattle.pytree_marked.specs.MarkedOptions.{marked_optional_pattern};
+ghost use Rattle.pytree_counts.specs.Counts.{capped};
 ghost use Rattle.pytree_dump_text.specs.Shows.{shown_pattern, shown_patterns};
 ghost use Rattle.pytree_marked.specs.MarkedNodes.{marked, marked_rows};
 ghost use Rattle.pytree_node.specs.TreeOf.{boxed_pattern_of, pattern_of};

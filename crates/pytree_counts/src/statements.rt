@@ -1,7 +1,8 @@
 //! Counts of statements.
 
 ghost use Rattle.std.specs.Prelude.{◌≡◌, ◌+◌, map};
-ghost use Rattle.pytree_counts.specs.Counts.{capped, marked_option};
+ghost use Rattle.pytree_marked.specs.MarkedOptions.{marked_option};
+ghost use Rattle.pytree_counts.specs.Counts.{capped};
 ghost use Rattle.pytree_dump_text.specs.Shows.{shown_aliases, shown_cases, shown_handlers};
 ghost use Rattle.pytree_dump_text.specs.Shows.{shown_items, shown_stmt, shown_stmts, shown_type_param};
 ghost use Rattle.pytree_dump_text.specs.Shows.{shown_type_params, type_params_field};

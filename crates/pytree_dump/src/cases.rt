@@ -14,14 +14,14 @@ use pytree_dump_text::{
     Field, Part, Style, Told, close, is_flat, is_short_case, is_short_match, open, option_part,
     push_before, push_lead,
 };
-use pytree_marked::{Places, end_node, is_told_on_line};
+use pytree_marked::{PlaceSource, end_node, is_told_on_line};
 use pytree_node::{Case, Expr, Stmt};
 use std::alloc::AllocError;
 
 /// Appends a `match`.
 #[cycle(blocks)]
 #[tactic(auto, using(crate::proofs::TextLemmas::left, crate::proofs::TextLemmas::may_close))]
-pub(crate) fn show_match<P: Places>(
+pub(crate) fn show_match<P: PlaceSource>(
     out: &mut String,
     indentation: &mut String,
     style: Style,
@@ -56,7 +56,7 @@ pub(crate) fn show_match<P: Places>(
 
 /// Appends the cases of a `match` as a field, and tells how the fields behind it are told.
 #[cycle(blocks)]
-fn show_matched<P: Places>(
+fn show_matched<P: PlaceSource>(
     out: &mut String,
     indentation: &mut String,
     style: Style,
@@ -81,7 +81,7 @@ fn show_matched<P: Places>(
 /// Appends some cases as a list.
 #[cycle(blocks)]
 #[tactic(auto, using(crate::proofs::TextLemmas::left, crate::proofs::TextLemmas::may_close))]
-fn show_cases<P: Places>(
+fn show_cases<P: PlaceSource>(
     out: &mut String,
     indentation: &mut String,
     style: Style,
@@ -107,7 +107,7 @@ fn show_cases<P: Places>(
 /// Appends a case.
 #[cycle(blocks)]
 #[tactic(auto, using(crate::proofs::TextLemmas::left, crate::proofs::TextLemmas::may_close))]
-fn show_case<P: Places>(
+fn show_case<P: PlaceSource>(
     out: &mut String,
     indentation: &mut String,
     style: Style,

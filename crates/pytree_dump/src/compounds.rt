@@ -18,14 +18,14 @@ use pytree_dump_text::{
     Field, Part, Style, Told, after_left_out, boxed_part, is_flat, is_short_test, is_short_with,
     open,
 };
-use pytree_marked::{Places, end_node, is_told_on_line};
+use pytree_marked::{PlaceSource, end_node, is_told_on_line};
 use pytree_node::{Arguments, Expr, Handler, Identifier, Item, Keyword, Stmt, TypeParam, Version};
 use std::alloc::AllocError;
 
 /// Appends a `while` or an `if`.
 #[cycle(blocks)]
 #[tactic(auto, using(crate::proofs::TextLemmas::left, crate::proofs::TextLemmas::may_close))]
-pub(crate) fn show_test<P: Places>(
+pub(crate) fn show_test<P: PlaceSource>(
     out: &mut String,
     indentation: &mut String,
     style: Style,
@@ -65,7 +65,7 @@ pub(crate) fn show_test<P: Places>(
 /// Appends a `for`, which shows four fields.
 #[cycle(blocks)]
 #[tactic(auto, using(crate::proofs::TextLemmas::left, crate::proofs::TextLemmas::may_close))]
-pub(crate) fn show_for<P: Places>(
+pub(crate) fn show_for<P: PlaceSource>(
     out: &mut String,
     indentation: &mut String,
     style: Style,
@@ -117,7 +117,7 @@ pub(crate) fn show_for<P: Places>(
 /// Appends a `with`.
 #[cycle(blocks)]
 #[tactic(auto, using(crate::proofs::TextLemmas::left, crate::proofs::TextLemmas::may_close))]
-pub(crate) fn show_with<P: Places>(
+pub(crate) fn show_with<P: PlaceSource>(
     out: &mut String,
     indentation: &mut String,
     style: Style,
@@ -156,7 +156,7 @@ pub(crate) fn show_with<P: Places>(
 /// Appends a `try`, which shows four fields.
 #[cycle(blocks)]
 #[tactic(auto, using(crate::proofs::TextLemmas::left, crate::proofs::TextLemmas::may_close))]
-pub(crate) fn show_try<P: Places>(
+pub(crate) fn show_try<P: PlaceSource>(
     out: &mut String,
     indentation: &mut String,
     style: Style,
@@ -200,7 +200,7 @@ pub(crate) fn show_try<P: Places>(
 /// Appends a `def`, which shows four fields or more.
 #[cycle(blocks)]
 #[tactic(auto, using(crate::proofs::TextLemmas::left, crate::proofs::TextLemmas::may_close))]
-pub(crate) fn show_function<P: Places>(
+pub(crate) fn show_function<P: PlaceSource>(
     out: &mut String,
     indentation: &mut String,
     style: Style,
@@ -272,7 +272,7 @@ pub(crate) fn show_function<P: Places>(
 /// Appends a `class`, which shows five fields or more.
 #[cycle(blocks)]
 #[tactic(auto, using(crate::proofs::TextLemmas::left, crate::proofs::TextLemmas::may_close))]
-pub(crate) fn show_class<P: Places>(
+pub(crate) fn show_class<P: PlaceSource>(
     out: &mut String,
     indentation: &mut String,
     style: Style,
@@ -340,7 +340,7 @@ pub(crate) fn show_class<P: Places>(
 
 /// Appends the parameters of a type as a field, where its Python has that field, and tells how what
 /// is behind it is told.
-fn show_type_params<P: Places>(
+fn show_type_params<P: PlaceSource>(
     out: &mut String,
     indentation: &mut String,
     style: Style,

@@ -11,14 +11,14 @@ use crate::joined::{is_joined, show_joined_attribute, show_joined_call};
 use crate::leaves::{show_constant_with, show_name_with};
 use crate::nodes::{show_one, show_three, show_two};
 use pytree_dump_text::{Field, Part, Style, boxed_part};
-use pytree_marked::{NoPlaces, Places};
+use pytree_marked::{NoPlaces, PlaceSource};
 use pytree_node::Expr;
 use std::alloc::{AllocError, Global};
 
 /// Appends what an expression shows.
 #[cycle(showing)]
 #[tactic(auto, using(pytree_node::proofs::Callers::ExprShapes::expr_shapes, crate::proofs::RowLemmas::rows))]
-pub(crate) fn show_expr<P: Places>(
+pub(crate) fn show_expr<P: PlaceSource>(
     out: &mut String,
     indentation: &mut String,
     style: Style,

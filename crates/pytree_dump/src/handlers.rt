@@ -13,13 +13,13 @@ use pytree_dump_text::{
     Field, Style, Told, close, is_flat, is_short_handler, name_part, open, option_part,
     push_before, push_lead,
 };
-use pytree_marked::{Places, end_node, is_told_on_line};
+use pytree_marked::{PlaceSource, end_node, is_told_on_line};
 use pytree_node::{Handler, Stmt};
 use std::alloc::AllocError;
 
 /// Appends the handlers of a `try` as a field, and tells how the fields behind it are told.
 #[cycle(blocks)]
-pub(crate) fn show_caught<P: Places>(
+pub(crate) fn show_caught<P: PlaceSource>(
     out: &mut String,
     indentation: &mut String,
     style: Style,
@@ -44,7 +44,7 @@ pub(crate) fn show_caught<P: Places>(
 /// Appends some handlers as a list.
 #[cycle(blocks)]
 #[tactic(auto, using(crate::proofs::TextLemmas::left, crate::proofs::TextLemmas::may_close))]
-fn show_handlers<P: Places>(
+fn show_handlers<P: PlaceSource>(
     out: &mut String,
     indentation: &mut String,
     style: Style,
@@ -70,7 +70,7 @@ fn show_handlers<P: Places>(
 /// Appends a handler.
 #[cycle(blocks)]
 #[tactic(auto, using(crate::proofs::TextLemmas::left, crate::proofs::TextLemmas::may_close))]
-fn show_handler<P: Places>(
+fn show_handler<P: PlaceSource>(
     out: &mut String,
     indentation: &mut String,
     style: Style,

@@ -13,13 +13,13 @@ ghost use Rattle.pytree_marked.specs.Taking.{is_none_left};
 use crate::expressions::show_expr;
 use crate::lists::{show_exprs, show_keywords};
 use pytree_dump_text::{Style, is_flat, push_name_and_context};
-use pytree_marked::Places;
+use pytree_marked::PlaceSource;
 use pytree_node::{Context, Expr, Identifier, Keyword};
 use std::alloc::AllocError;
 
 /// Whether a dump is one line with the names of fields, and no places are left.
 #[inline(always)]
-pub(crate) fn is_joined<P: Places>(style: Style, places: &P) -> bool
+pub(crate) fn is_joined<P: PlaceSource>(style: Style, places: &P) -> bool
     ensures { result
         ≡ (is_none_left (P.left places.now) && (is_flat style.indent && style.names)) }
 {
@@ -28,7 +28,7 @@ pub(crate) fn is_joined<P: Places>(style: Style, places: &P) -> bool
 
 /// Appends an attribute.
 #[cycle(showing)]
-pub(crate) fn show_joined_attribute<P: Places>(
+pub(crate) fn show_joined_attribute<P: PlaceSource>(
     out: &mut String,
     indentation: &mut String,
     style: Style,
@@ -53,7 +53,7 @@ pub(crate) fn show_joined_attribute<P: Places>(
 /// Appends the keywords of a call, and what ends it.
 #[cycle(showing)]
 #[inline(always)]
-fn show_joined_keywords<P: Places>(
+fn show_joined_keywords<P: PlaceSource>(
     out: &mut String,
     indentation: &mut String,
     style: Style,
@@ -78,7 +78,7 @@ fn show_joined_keywords<P: Places>(
 
 /// Appends a call.
 #[cycle(showing)]
-pub(crate) fn show_joined_call<P: Places>(
+pub(crate) fn show_joined_call<P: PlaceSource>(
     out: &mut String,
     indentation: &mut String,
     style: Style,

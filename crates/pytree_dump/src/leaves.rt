@@ -10,14 +10,14 @@ ghost use Rattle.pytree_node.specs.Trees.{Constant as ConstantTree, Name};
 
 use crate::nodes::show_two;
 use pytree_dump_text::{Field, Part, Style, Told, is_flat, open, show_constant, show_name};
-use pytree_marked::{Places, end_node};
+use pytree_marked::{PlaceSource, end_node};
 use pytree_node::{Constant, Context, Identifier};
 use std::alloc::AllocError;
 
 /// Appends a name.
 #[cycle(showing)]
 #[inline(always)]
-pub(crate) fn show_name_with<P: Places>(
+pub(crate) fn show_name_with<P: PlaceSource>(
     out: &mut String,
     indentation: &mut String,
     style: Style,
@@ -58,7 +58,7 @@ fn kind_part<'a>(value: &Constant) -> Part<'a>
 /// Appends a constant.
 #[cycle(showing)]
 #[inline(always)]
-pub(crate) fn show_constant_with<P: Places>(
+pub(crate) fn show_constant_with<P: PlaceSource>(
     out: &mut String,
     indentation: &mut String,
     style: Style,
@@ -87,7 +87,7 @@ pub(crate) fn show_constant_with<P: Places>(
 /// Appends a node without fields, given whole and by what begins it.
 #[inline(always)]
 #[tactic(auto, using(crate::proofs::TextLemmas::left, crate::proofs::TextLemmas::may_close))]
-pub(crate) fn show_word_with<P: Places>(
+pub(crate) fn show_word_with<P: PlaceSource>(
     out: &mut String,
     indentation: &mut String,
     style: Style,

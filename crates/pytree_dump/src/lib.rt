@@ -24,4 +24,4 @@ pub use expressions::dump_expr;
 pub use modules::{dump, dump_placed};
 pub use pieces::{Pieces, PlacedPieces};
 pub use pytree_dump_text::Style;
-pub use pytree_marked::{ListedPlaces, NoPlaces, Places, Shown};
+pub use pytree_marked::{ListedPlaces, NoPlaces, PlaceSource, Shown};

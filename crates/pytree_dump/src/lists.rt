@@ -18,7 +18,7 @@ use crate::members::{
 };
 use pysource::push_repr;
 use pytree_dump_text::{Style, close, comparison_word, is_flat, open, push_before};
-use pytree_marked::Places;
+use pytree_marked::PlaceSource;
 use pytree_node::{
     Alias, Arg, Comparison, Comprehension, Expr, Identifier, Item, Keyword, TypeParam,
 };
@@ -27,7 +27,7 @@ use std::alloc::AllocError;
 /// Appends a list of expressions.
 #[cycle(showing)]
 #[tactic(auto, using(crate::proofs::TextLemmas::left, crate::proofs::TextLemmas::may_close))]
-pub(crate) fn show_exprs<P: Places>(
+pub(crate) fn show_exprs<P: PlaceSource>(
     out: &mut String,
     indentation: &mut String,
     style: Style,
@@ -57,7 +57,7 @@ pub(crate) fn show_exprs<P: Places>(
 /// Appends an expression of a list, where it may be absent.
 #[cycle(showing)]
 #[inline(always)]
-fn show_option<P: Places>(
+fn show_option<P: PlaceSource>(
     out: &mut String,
     indentation: &mut String,
     style: Style,
@@ -78,7 +78,7 @@ fn show_option<P: Places>(
 /// Appends a list of expressions, some of them absent.
 #[cycle(showing)]
 #[tactic(auto, using(crate::proofs::TextLemmas::left, crate::proofs::TextLemmas::may_close))]
-pub(crate) fn show_options<P: Places>(
+pub(crate) fn show_options<P: PlaceSource>(
     out: &mut String,
     indentation: &mut String,
     style: Style,
@@ -104,7 +104,7 @@ pub(crate) fn show_options<P: Places>(
 /// Appends a list of clauses of a comprehension.
 #[cycle(showing)]
 #[tactic(auto, using(crate::proofs::TextLemmas::left, crate::proofs::TextLemmas::may_close))]
-pub(crate) fn show_comprehensions<P: Places>(
+pub(crate) fn show_comprehensions<P: PlaceSource>(
     out: &mut String,
     indentation: &mut String,
     style: Style,
@@ -130,7 +130,7 @@ pub(crate) fn show_comprehensions<P: Places>(
 /// Appends a list of arguments by name.
 #[cycle(showing)]
 #[tactic(auto, using(crate::proofs::TextLemmas::left, crate::proofs::TextLemmas::may_close))]
-pub(crate) fn show_keywords<P: Places>(
+pub(crate) fn show_keywords<P: PlaceSource>(
     out: &mut String,
     indentation: &mut String,
     style: Style,
@@ -160,7 +160,7 @@ pub(crate) fn show_keywords<P: Places>(
 /// Appends a list of parameters.
 #[cycle(showing)]
 #[tactic(auto, using(crate::proofs::TextLemmas::left, crate::proofs::TextLemmas::may_close))]
-pub(crate) fn show_args<P: Places>(
+pub(crate) fn show_args<P: PlaceSource>(
     out: &mut String,
     indentation: &mut String,
     style: Style,
@@ -240,7 +240,7 @@ pub(crate) fn show_names(
 /// Appends a list of names of an import.
 #[cycle(showing)]
 #[tactic(auto, using(crate::proofs::TextLemmas::left, crate::proofs::TextLemmas::may_close))]
-pub(crate) fn show_aliases<P: Places>(
+pub(crate) fn show_aliases<P: PlaceSource>(
     out: &mut String,
     indentation: &mut String,
     style: Style,
@@ -266,7 +266,7 @@ pub(crate) fn show_aliases<P: Places>(
 /// Appends a list of items of a `with`.
 #[cycle(showing)]
 #[tactic(auto, using(crate::proofs::TextLemmas::left, crate::proofs::TextLemmas::may_close))]
-pub(crate) fn show_items<P: Places>(
+pub(crate) fn show_items<P: PlaceSource>(
     out: &mut String,
     indentation: &mut String,
     style: Style,
@@ -292,7 +292,7 @@ pub(crate) fn show_items<P: Places>(
 /// Appends a list of parameters of a type.
 #[cycle(showing)]
 #[tactic(auto, using(crate::proofs::TextLemmas::left, crate::proofs::TextLemmas::may_close))]
-pub(crate) fn show_type_params<P: Places>(
+pub(crate) fn show_type_params<P: PlaceSource>(
     out: &mut String,
     indentation: &mut String,
     style: Style,

@@ -14,14 +14,14 @@ use pytree_dump_text::{
     Field, Part, Style, Told, arg_part, boxed_part, close, is_flat, is_short_two, name_part, open,
     option_part,
 };
-use pytree_marked::{Places, is_told_on_line};
+use pytree_marked::{PlaceSource, is_told_on_line};
 use pytree_node::{Alias, Arg, Arguments, Comprehension, Item, Keyword, TypeParam};
 use std::alloc::AllocError;
 
 /// Appends a clause of a comprehension, which has no place.
 #[cycle(showing)]
 #[tactic(auto, using(pytree_node::proofs::Callers::ExprShapes::comprehension_tree, crate::proofs::RowLemmas::rows, crate::proofs::TextLemmas::left, crate::proofs::TextLemmas::may_close))]
-pub(crate) fn show_comprehension<P: Places>(
+pub(crate) fn show_comprehension<P: PlaceSource>(
     out: &mut String,
     indentation: &mut String,
     style: Style,
@@ -54,7 +54,7 @@ pub(crate) fn show_comprehension<P: Places>(
 /// Appends an argument by name.
 #[cycle(showing)]
 #[tactic(auto, using(pytree_node::proofs::Callers::ExprShapes::keyword_tree))]
-pub(crate) fn show_keyword<P: Places>(
+pub(crate) fn show_keyword<P: PlaceSource>(
     out: &mut String,
     indentation: &mut String,
     style: Style,
@@ -80,7 +80,7 @@ pub(crate) fn show_keyword<P: Places>(
 /// Appends a parameter. It has no type comment.
 #[cycle(showing)]
 #[tactic(auto, using(pytree_node::proofs::Callers::ExprShapes::arg_tree))]
-pub(crate) fn show_arg<P: Places>(
+pub(crate) fn show_arg<P: PlaceSource>(
     out: &mut String,
     indentation: &mut String,
     style: Style,
@@ -106,7 +106,7 @@ pub(crate) fn show_arg<P: Places>(
 
 /// Appends the parameters of a function.
 #[cycle(showing)]
-pub(crate) fn show_arguments<P: Places>(
+pub(crate) fn show_arguments<P: PlaceSource>(
     out: &mut String,
     indentation: &mut String,
     style: Style,
@@ -136,7 +136,7 @@ pub(crate) fn show_arguments<P: Places>(
 
 /// Appends a name of an import.
 #[cycle(showing)]
-pub(crate) fn show_alias<P: Places>(
+pub(crate) fn show_alias<P: PlaceSource>(
     out: &mut String,
     indentation: &mut String,
     style: Style,
@@ -162,7 +162,7 @@ pub(crate) fn show_alias<P: Places>(
 /// Appends an item of a `with`, which has no place.
 #[cycle(showing)]
 #[tactic(auto, using(crate::proofs::TextLemmas::left, crate::proofs::TextLemmas::may_close))]
-pub(crate) fn show_item<P: Places>(
+pub(crate) fn show_item<P: PlaceSource>(
     out: &mut String,
     indentation: &mut String,
     style: Style,
@@ -194,7 +194,7 @@ pub(crate) fn show_item<P: Places>(
 
 /// Appends a parameter of a type.
 #[cycle(showing)]
-pub(crate) fn show_type_param<P: Places>(
+pub(crate) fn show_type_param<P: PlaceSource>(
     out: &mut String,
     indentation: &mut String,
     style: Style,

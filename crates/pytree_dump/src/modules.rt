@@ -10,7 +10,7 @@ ghost use Rattle.pytree_marked.specs.MarkedNodes.{marked, with_places};
 use crate::nodes::show_field;
 use crate::statements::show_block;
 use pytree_dump_text::{Field, Part, Style, Told, close, is_short_module, open};
-use pytree_marked::{NoPlaces, Places};
+use pytree_marked::{NoPlaces, PlaceSource};
 use pytree_node::{Module, Stmt};
 use std::alloc::{AllocError, Global};
 
@@ -32,7 +32,7 @@ pub fn dump(alloc: Global, tree: &Module, style: Style) -> Result<String, AllocE
 /// The places are taken in the order in which the dump writes them, that of a node behind those in
 /// its fields, one for each node that has a place. Where none is left, no more are shown.
 #[inline(always)]
-pub fn dump_placed<P: Places>(
+pub fn dump_placed<P: PlaceSource>(
     alloc: Global,
     tree: &Module,
     style: Style,

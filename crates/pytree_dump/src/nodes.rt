@@ -19,7 +19,7 @@ use pytree_dump_text::{
     is_absent, is_flat, is_short_four, is_short_one, is_short_three, is_short_two, open,
     operator_word, push_lead, push_number, push_value, unary_word,
 };
-use pytree_marked::{Places, end_node, is_told_on_line};
+use pytree_marked::{PlaceSource, end_node, is_told_on_line};
 use std::alloc::AllocError;
 
 /// How a truth value is shown, as a number.
@@ -33,7 +33,7 @@ fn flag_word(flag: bool) -> &'static str
 /// Appends what a field shows.
 #[cycle(showing)]
 #[inline(always)]
-fn show_part<P: Places>(
+fn show_part<P: PlaceSource>(
     out: &mut String,
     indentation: &mut String,
     style: Style,
@@ -76,7 +76,7 @@ fn show_part<P: Places>(
 /// Appends a field, and tells how the fields behind it are told.
 #[cycle(showing)]
 #[inline(always)]
-pub(crate) fn show_field<P: Places>(
+pub(crate) fn show_field<P: PlaceSource>(
     out: &mut String,
     indentation: &mut String,
     style: Style,
@@ -105,7 +105,7 @@ pub(crate) fn show_field<P: Places>(
 #[cycle(showing)]
 #[tactic(auto, using(crate::proofs::TextLemmas::left, crate::proofs::TextLemmas::may_close))]
 #[inline(always)]
-pub(crate) fn show_one<P: Places>(
+pub(crate) fn show_one<P: PlaceSource>(
     out: &mut String,
     indentation: &mut String,
     style: Style,
@@ -133,7 +133,7 @@ pub(crate) fn show_one<P: Places>(
 #[cycle(showing)]
 #[tactic(auto, using(crate::proofs::TextLemmas::left, crate::proofs::TextLemmas::may_close))]
 #[inline(always)]
-pub(crate) fn show_two<P: Places>(
+pub(crate) fn show_two<P: PlaceSource>(
     out: &mut String,
     indentation: &mut String,
     style: Style,
@@ -163,7 +163,7 @@ pub(crate) fn show_two<P: Places>(
 #[cycle(showing)]
 #[tactic(auto, using(crate::proofs::TextLemmas::left, crate::proofs::TextLemmas::may_close))]
 #[inline(always)]
-pub(crate) fn show_three<P: Places>(
+pub(crate) fn show_three<P: PlaceSource>(
     out: &mut String,
     indentation: &mut String,
     style: Style,
@@ -194,7 +194,7 @@ pub(crate) fn show_three<P: Places>(
 
 /// Appends a node of four fields.
 #[tactic(auto, using(crate::proofs::TextLemmas::left, crate::proofs::TextLemmas::may_close))]
-pub(crate) fn show_four<P: Places>(
+pub(crate) fn show_four<P: PlaceSource>(
     out: &mut String,
     indentation: &mut String,
     style: Style,
@@ -229,7 +229,7 @@ pub(crate) fn show_four<P: Places>(
 /// Appends a node of seven fields that has no place and is too long for one line.
 #[cycle(showing)]
 #[tactic(auto, using(crate::proofs::TextLemmas::left, crate::proofs::TextLemmas::may_close))]
-pub(crate) fn show_seven<P: Places>(
+pub(crate) fn show_seven<P: PlaceSource>(
     out: &mut String,
     indentation: &mut String,
     style: Style,

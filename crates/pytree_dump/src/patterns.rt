@@ -15,14 +15,14 @@ use pytree_dump_text::{
     Field, Part, Style, Told, after_left_out, close, is_flat, is_short_as, is_short_mapping,
     is_short_patterns, name_part, open, push_before, push_lead,
 };
-use pytree_marked::{Places, end_node, is_told_on_line};
+use pytree_marked::{PlaceSource, end_node, is_told_on_line};
 use pytree_node::{Expr, Identifier, Pattern};
 use std::alloc::AllocError;
 
 /// Appends what a pattern shows.
 #[cycle(patterns)]
 #[tactic(auto, using(pytree_node::proofs::Callers::PatternShapes::pattern_shapes, crate::proofs::PatternLemmas::pattern_rows))]
-pub(crate) fn show_pattern<P: Places>(
+pub(crate) fn show_pattern<P: PlaceSource>(
     out: &mut String,
     indentation: &mut String,
     style: Style,
@@ -109,7 +109,7 @@ pub(crate) fn show_pattern<P: Places>(
 /// Appends a pattern that is a list of patterns: a sequence, or alternatives.
 #[cycle(patterns)]
 #[tactic(auto, using(crate::proofs::TextLemmas::left, crate::proofs::TextLemmas::may_close))]
-fn show_many<P: Places>(
+fn show_many<P: PlaceSource>(
     out: &mut String,
     indentation: &mut String,
     style: Style,
@@ -144,7 +144,7 @@ fn show_many<P: Places>(
 /// Appends a pattern of keys and patterns, perhaps with a name for the rest.
 #[cycle(patterns)]
 #[tactic(auto, using(crate::proofs::TextLemmas::left, crate::proofs::TextLemmas::may_close))]
-fn show_mapping<P: Places>(
+fn show_mapping<P: PlaceSource>(
     out: &mut String,
     indentation: &mut String,
     style: Style,
@@ -198,7 +198,7 @@ fn show_mapping<P: Places>(
 /// Appends a pattern of a class, which shows four fields.
 #[cycle(patterns)]
 #[tactic(auto, using(crate::proofs::TextLemmas::left, crate::proofs::TextLemmas::may_close))]
-fn show_instance<P: Places>(
+fn show_instance<P: PlaceSource>(
     out: &mut String,
     indentation: &mut String,
     style: Style,
@@ -263,7 +263,7 @@ fn show_instance<P: Places>(
 /// Appends a pattern with a name for what it matches. Either may be absent.
 #[cycle(patterns)]
 #[tactic(auto, using(crate::proofs::TextLemmas::left, crate::proofs::TextLemmas::may_close))]
-fn show_as<P: Places>(
+fn show_as<P: PlaceSource>(
     out: &mut String,
     indentation: &mut String,
     style: Style,
@@ -299,7 +299,7 @@ fn show_as<P: Places>(
 /// Appends a pattern as a field, where it is not absent, and tells how the fields behind it are
 /// told.
 #[cycle(patterns)]
-fn show_optional_pattern<P: Places>(
+fn show_optional_pattern<P: PlaceSource>(
     out: &mut String,
     indentation: &mut String,
     style: Style,
@@ -320,7 +320,7 @@ fn show_optional_pattern<P: Places>(
 
 /// Appends a pattern as a field, and tells how the fields behind it are told.
 #[cycle(patterns)]
-pub(crate) fn show_pattern_field<P: Places>(
+pub(crate) fn show_pattern_field<P: PlaceSource>(
     out: &mut String,
     indentation: &mut String,
     style: Style,
@@ -344,7 +344,7 @@ pub(crate) fn show_pattern_field<P: Places>(
 
 /// Appends some patterns as a field, and tells how the fields behind it are told.
 #[cycle(patterns)]
-fn show_patterns<P: Places>(
+fn show_patterns<P: PlaceSource>(
     out: &mut String,
     indentation: &mut String,
     style: Style,
@@ -370,7 +370,7 @@ fn show_patterns<P: Places>(
 /// Appends some patterns as a list.
 #[cycle(patterns)]
 #[tactic(auto, using(crate::proofs::TextLemmas::left, crate::proofs::TextLemmas::may_close))]
-fn show_pattern_row<P: Places>(
+fn show_pattern_row<P: PlaceSource>(
     out: &mut String,
     indentation: &mut String,
     style: Style,

@@ -14,7 +14,7 @@ use crate::statements::show_stmt;
 use pytree_dump_text::{
     Field, Part, Style, Told, is_flat, is_short_module, open, push_before, push_lead,
 };
-use pytree_marked::{NoPlaces, Places};
+use pytree_marked::{NoPlaces, PlaceSource};
 use pytree_node::{Module, Stmt};
 use std::alloc::{AllocError, Global};
 use std::marker::Model;
@@ -35,7 +35,7 @@ enum Stage {
 ///
 /// So the text need not be held whole. A piece is made when it is asked for.
 #[derive(Drop)]
-pub struct PlacedPieces<'a, P: Places> {
+pub struct PlacedPieces<'a, P: PlaceSource> {
     style: Style,
     stage: Stage,
     /// The statements that are still to come.
@@ -50,7 +50,7 @@ pub struct PlacedPieces<'a, P: Places> {
     places: P,
 }
 
-impl<'a, P: Places> Model for PlacedPieces<'a, P> {
+impl<'a, P: PlaceSource> Model for PlacedPieces<'a, P> {
     ghost use Rattle.std.specs.Prelude.{ℕ, List};
     ghost use Rattle.std.specs.String.{string_bytes};
 
@@ -62,7 +62,7 @@ impl<'a, P: Places> Model for PlacedPieces<'a, P> {
         (string_bytes p.end) p.body.now p.stage (P.left p.places) };
 }
 
-impl<'a, P: Places> PlacedPieces<'a, P> {
+impl<'a, P: PlaceSource> PlacedPieces<'a, P> {
     /// All pieces of a module's dump text, with places that are taken as
     /// [`dump_placed`](crate::dump_placed) takes them.
     pub fn new(

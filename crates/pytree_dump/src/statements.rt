@@ -16,14 +16,14 @@ use pytree_dump_text::{
     Field, Part, Style, Told, boxed_part, close, is_flat, name_part, open, option_part,
     push_before, push_lead,
 };
-use pytree_marked::Places;
+use pytree_marked::PlaceSource;
 use pytree_node::Stmt;
 use std::alloc::AllocError;
 
 /// Appends what a statement shows.
 #[cycle(blocks)]
 #[tactic(auto, using(pytree_node::proofs::Callers::StmtShapes::stmt_shapes, crate::proofs::RowLemmas::stmt_rows, crate::proofs::BlockLemmas::block_rows))]
-pub(crate) fn show_stmt<P: Places>(
+pub(crate) fn show_stmt<P: PlaceSource>(
     out: &mut String,
     indentation: &mut String,
     style: Style,
@@ -351,7 +351,7 @@ pub(crate) fn show_stmt<P: Places>(
 /// Appends some statements as a list.
 #[cycle(blocks)]
 #[tactic(auto, using(crate::proofs::TextLemmas::left, crate::proofs::TextLemmas::may_close))]
-fn show_stmts<P: Places>(
+fn show_stmts<P: PlaceSource>(
     out: &mut String,
     indentation: &mut String,
     style: Style,
@@ -376,7 +376,7 @@ fn show_stmts<P: Places>(
 
 /// Appends a block as a field, and tells how the fields behind it are told.
 #[cycle(blocks)]
-pub(crate) fn show_block<P: Places>(
+pub(crate) fn show_block<P: PlaceSource>(
     out: &mut String,
     indentation: &mut String,
     style: Style,

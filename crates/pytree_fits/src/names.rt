@@ -11,7 +11,7 @@ use std::alloc::{AllocError, Global};
 use unicode_normalization::is_nfkc;
 
 /// Whether a text is one of the 35 keywords of Python 3.11.
-pub(crate) fn is_keyword(text: &str) -> bool
+pub fn is_keyword(text: &str) -> bool
     ensures { result ≡ is_keyword (chars text.now) }
 {
     Keyword::of(text).is_some()
@@ -19,7 +19,7 @@ pub(crate) fn is_keyword(text: &str) -> bool
 
 /// Whether a text is a name that a well-formed tree may hold: an identifier that is no keyword and
 /// is its own form NFKC, as the names of a tree that Python makes are.
-pub(crate) fn is_name(alloc: Global, text: &str) -> Result<bool, AllocError>
+pub fn is_name(alloc: Global, text: &str) -> Result<bool, AllocError>
     ensures { IfOk result (λ told. told ≡ is_name (chars text.now)) }
 {
     if !is_identifier(text) {

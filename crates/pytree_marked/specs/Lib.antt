@@ -1,3 +1,4 @@
 pub mod MarkedNodes
+pub mod MarkedOptions
 pub mod Taking
 pub mod Appends

@@ -1,5 +1,5 @@
 -- Places in the program, which are taken one after the other.
-use Rattle.std.specs.Prelude.{ℕ, Bool, true, false, List, [], ◌∷◌, Option, Some, None}
+use Rattle.std.specs.Prelude.{Bool, true, false, List, [], ◌∷◌, Option, Some, None}
 use Rattle.pytree_marked.specs.declared.shown.Shown as given
 use Rattle.pytree_marked.specs.MarkedNodes.{Attributes}
 

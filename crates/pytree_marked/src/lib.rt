@@ -10,5 +10,5 @@ mod places;
 mod shown;
 
 pub use members::{end_node, is_told_on_line};
-pub use places::{ListedPlaces, NoPlaces, Places};
+pub use places::{ListedPlaces, NoPlaces, PlaceSource};
 pub use shown::Shown;

@@ -11,7 +11,7 @@ ghost use Rattle.pytree_marked.specs.MarkedNodes.{behind, members};
 ghost use Rattle.pytree_marked.specs.Appends.{coming_with};
 ghost use Rattle.pytree_marked.specs.Taking.{attributes, is_none_left};
 
-use crate::places::Places;
+use crate::places::PlaceSource;
 use crate::shown::Shown;
 use pytree_dump_text::{Style, Told, close, is_flat, push_before, push_number};
 use std::alloc::AllocError;
@@ -103,7 +103,7 @@ fn push_members(
 /// Appends the members of a marked node behind its fields: those that show the next place, where one
 /// is left.
 #[inline(always)]
-fn push_place<P: Places>(
+fn push_place<P: PlaceSource>(
     out: &mut String,
     indentation: &str,
     told: Told,
@@ -124,7 +124,7 @@ fn push_place<P: Places>(
 /// short as it was.
 #[inline(always)]
 #[tactic(auto, using(crate::proofs::MemberLemmas::ended))]
-pub fn end_node<P: Places>(
+pub fn end_node<P: PlaceSource>(
     out: &mut String,
     indentation: &mut String,
     style: Style,
@@ -150,7 +150,7 @@ pub fn end_node<P: Places>(
 /// places: a node that has a place, or that holds one, has lines of its own.
 #[inline(always)]
 #[tactic(auto, using(crate::proofs::Callers::Shortness::marked_line))]
-pub fn is_told_on_line<P: Places>(style: Style, is_short: bool, places: &P) -> bool
+pub fn is_told_on_line<P: PlaceSource>(style: Style, is_short: bool, places: &P) -> bool
     ensures { result ≡ (if is_none_left (P.left places.now) then is_short else is_flat style.indent) }
 {
     if places.is_done() {

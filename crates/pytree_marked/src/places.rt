@@ -8,7 +8,7 @@ ghost use Rattle.pytree_marked.specs.Taking.{attributes, first_left, is_none_lef
 use crate::shown::Shown;
 
 /// The places of a tree's nodes, which a dump takes one after the other, or none.
-pub trait Places {
+pub trait PlaceSource {
     // Those that are still to come.
     ghost left: { Self → List Attributes };
 
@@ -26,7 +26,7 @@ pub trait Places {
 #[derive(Drop)]
 pub struct NoPlaces;
 
-impl Places for NoPlaces {
+impl PlaceSource for NoPlaces {
     ghost left = { λ _. [] };
 
     #[inline(always)]
@@ -47,7 +47,7 @@ pub struct ListedPlaces<'a> {
     pub left: &'a [Shown],
 }
 
-impl<'a> Places for ListedPlaces<'a> {
+impl<'a> PlaceSource for ListedPlaces<'a> {
     ghost left = { λ places. map attributes places.left.now };
 
     fn is_done(&self) -> bool {

@@ -3,7 +3,7 @@
 use crate::expected::{holds, same_text};
 use crate::sources::whole_module;
 use pytree::{Module, Profile, Style};
-use pytree_dump::{ListedPlaces, PlacedPieces, Places, Shown, dump_placed};
+use pytree_dump::{ListedPlaces, PlaceSource, PlacedPieces, Shown, dump_placed};
 use std::alloc::Global;
 use std::process::Abort;
 

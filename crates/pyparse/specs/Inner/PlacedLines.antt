@@ -12,7 +12,7 @@ use Rattle.pyplaces.specs.BlockPlaces.{LinePlaces}
 use Rattle.pyplaces.specs.ModulePlaces.{formed_places}
 use Rattle.pyplaces_blocks.specs.StateOf.{Follows}
 use Rattle.pyparse.specs.declared.placed.PlacedProgress.{PlacedProgress}
-use Rattle.pyparse.specs.Inner.Placing.{HoldsPlaces}
+use Rattle.pyparse.specs.Inner.LastLines.{HoldsLastLines}
 use Rattle.pyparse.specs.Inner.Progressing.{first_lines, is_unread, IsKnown}
 
 -- these are the forms of some lines, and these their places
@@ -25,7 +25,7 @@ pub record PlacedLines (profile : Profile) (earlier : List Line) (spans : Tokens
 pub record IsPlaced (profile : Profile) (s : Source) (k : ℕ) (p : PlacedProgress) : Type 0 where
   pub forms : List Line
   pub known : IsKnown profile s k forms p.progress.known
-  pub places : HoldsPlaces (behind [] forms) p.progress.places
+  pub last_lines : HoldsLastLines (behind [] forms) p.progress.last_lines
   pub zs : List LinePlaces
   pub placed : is_unread p.progress.known ≡ false
       → PlacedLines profile [] (line_spans s.text) (first_lines s k) forms zs × Follows forms zs p.stack

@@ -25,7 +25,7 @@ use Rattle.pyparse.specs.declared.known.Known.TheVariants.{Sound, Deep, Faulty, 
 use Rattle.pyparse.specs.declared.progress.Progress.{Progress}
 use Rattle.pyparse_tokens.specs.LineReadings.{EndsAt}
 use Rattle.pyparse.specs.Modules.{code_of}
-use Rattle.pyparse.specs.Inner.Placing.{HoldsPlaces}
+use Rattle.pyparse.specs.Inner.LastLines.{HoldsLastLines}
 
 -- ---- The lines so far.
 
@@ -86,7 +86,7 @@ is_unread _ = false
 pub record IsProgress (profile : Profile) (s : Source) (k : ℕ) (p : Progress) : Type 0 where
   pub forms : List Line
   pub known : IsKnown profile s k forms p.known
-  pub places : HoldsPlaces (behind [] forms) p.places
+  pub last_lines : HoldsLastLines (behind [] forms) p.last_lines
 
 -- ---- The next line, and the end.
 

@@ -1,5 +1,5 @@
 -- What the reading of one more line of a source gives.
-use Rattle.std.specs.Prelude.{◌≡◌, ℕ, ◌+◌, true, List, [], ◌∷◌, ◌++◌, Option, Some, None}
+use Rattle.std.specs.Prelude.{◌≡◌, ℕ, ◌+◌, true, List, [], ◌++◌, Option, Some, None}
 use Rattle.pysource.specs.declared.places.Place.{Place}
 use Rattle.pylex.specs.Listing.{Source}
 use Rattle.pytree_node.specs.declared.profiles.Profile.{Profile}
@@ -11,13 +11,13 @@ use Rattle.pyplaces.specs.FormPlaces.{FormPlaces, places_at}
 use Rattle.pyplaces.specs.Recording.{Records, afters}
 use Rattle.pyplaces.specs.Stretches.{Stretch}
 use Rattle.pyparse.specs.declared.progress.Progress.{Progress}
-use Rattle.pyparse.specs.Inner.Placing.{HoldsPlaces}
+use Rattle.pyparse.specs.Inner.LastLines.{HoldsLastLines}
 use Rattle.pyparse.specs.Inner.Progressing.{is_unread, IsKnown, Comes}
 
 -- these are the forms of so many lines, or of those up to the first that has none, and it says where a further line stands
 pub record Holds (profile : Profile) (s : Source) (k : ℕ) (forms : List Line) (p : Progress) : Type 0 where
   pub known : IsKnown profile s k forms p.known
-  pub places : HoldsPlaces (behind [] forms) p.places
+  pub last_lines : HoldsLastLines (behind [] forms) p.last_lines
 
 -- the places of a line's form are recorded in its three runs, and it says where they end
 pub record RunsOf {R : Type 0} (after : R → Stretch → R) (count : R → ℕ) (f : FormPlaces) (read : LineRead) (old new : R) : Type 0 where

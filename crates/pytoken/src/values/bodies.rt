@@ -1,4 +1,4 @@
-//! What stands between the quotes of a literal, lent from its source with its carriage returns.
+//! The parts of a literal, lent from its source with its carriage returns.
 //!
 //! Python language reference, 2.4.1 "String and Bytes literals".
 
@@ -7,7 +7,8 @@ ghost use Rattle.std.specs.List.{list_any};
 ghost use Rattle.std.specs.Str.{chars};
 ghost use Rattle.pylex_lexeme.specs.Characters.{line_feed};
 ghost use Rattle.pylex_lexeme.specs.Strings.{begins_three};
-ghost use Rattle.pytoken.specs.StringValues.{is_quote, prefix_len_of, without_last, inside, body_of};
+ghost use Rattle.pytoken.specs.StringValues.{is_quote, prefix_len_of, without_last};
+ghost use Rattle.pytoken.specs.StringValues.{after_opening, body_of};
 
 use crate::values::strings::is_quote;
 
@@ -74,35 +75,51 @@ fn before_last(text: &str) -> &str
     }
 }
 
-/// A text without some characters at both ends.
-fn strip(text: &str, count: usize) -> &str
-    ensures { chars result.now ≡ without_last count (drop count (chars text.now)) }
+/// A text without its first characters.
+fn behind(text: &str, count: usize) -> &str
+    ensures { chars result.now ≡ drop count (chars text.now) }
 {
     let mut rest = text;
     'front: for _front in 0..count {
         rest = behind_first(rest);
     }
+    rest
+}
+
+/// A text without its last characters.
+fn without_last(text: &str, count: usize) -> &str
+    ensures { chars result.now ≡ without_last count (chars text.now) }
+{
+    let mut rest = text;
     'back: for _back in 0..count {
         rest = before_last(rest);
     }
     rest
 }
 
-/// What stands between the quotes of a literal that has no prefix.
-fn inside(text: &str) -> &str
-    ensures { chars result.now ≡ inside (chars text.now) }
+/// What stands after the prefix and the first quotes of a literal.
+///
+/// Python language reference, 2.4.1 "String and Bytes literals".
+pub fn after_opening(text: &str) -> &str
+    ensures { chars result.now ≡ after_opening (chars text.now) }
 {
-    if has_three(text) {
-        return strip(text, 3);
+    let opened = behind_prefix(text);
+    if has_three(opened) {
+        return behind(opened, 3);
     }
-    strip(text, 1)
+    behind(opened, 1)
 }
 
 /// What stands between the quotes of a literal.
-pub(crate) fn body(text: &str) -> &str
+///
+/// Python language reference, 2.4.1 "String and Bytes literals".
+pub fn body(text: &str) -> &str
     ensures { chars result.now ≡ body_of (chars text.now) }
 {
-    inside(behind_prefix(text))
+    if has_three(behind_prefix(text)) {
+        return without_last(after_opening(text), 3);
+    }
+    without_last(after_opening(text), 1)
 }
 
 /// Whether a character is a quote or a line feed.

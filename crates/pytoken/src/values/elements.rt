@@ -13,8 +13,7 @@ ghost use Rattle.pytoken.specs.FormattedStrings as elements;
 ghost use Rattle.pytoken.specs.Inner.Pushing.{element_of, Grows, IfMalformed};
 
 use crate::values::bodies::body;
-use crate::values::characters::Characters;
-use crate::values::strings::is_marked;
+use crate::values::strings::is_raw;
 use crate::values::text_pieces::TextPiece;
 use pyfstring::{Conversion, CutError, Manner, Piece, SpecPiece, pieces};
 use std::alloc::{AllocError, Global};
@@ -196,7 +195,7 @@ pub(crate) fn elements<'a>(
     ensures malformed { IfErr result
         (λ e. IfMalformed e (elements_of is_nested (chars text.now) ≡ None)) }
 {
-    let is_raw = is_marked(&Characters::new(text), 'r', 'R');
+    let is_raw = is_raw(text);
     let pieces = pieces(alloc, body(text), Manner { is_raw, is_nested })?;
     let mut out = Vec::new(alloc);
     match push_pieces(&mut out, is_raw, &pieces) {

@@ -30,8 +30,10 @@ use pytree_node::Extent;
 use std::alloc::{AllocError, Global};
 
 /// Whether a token is an f-string.
+///
+/// Python language reference, 2.4.3 "Formatted string literals".
 #[inline(always)]
-pub(crate) fn is_fstring(kind: Kind, text: &str) -> bool
+pub fn is_fstring(kind: Kind, text: &str) -> bool
     ensures { result ≡ is_fstring kind (chars text.now) }
 {
     match kind {

@@ -7,7 +7,8 @@ ghost use Rattle.std.specs.Str.{chars};
 ghost use Rattle.std.specs.List.{list_all, list_any};
 ghost use Rattle.pylex_lexeme.specs.Strings.{begins_three};
 ghost use Rattle.pytoken.specs.Escapes.{meanings, escape_fault, is_named_escape, is_bad_escape};
-ghost use Rattle.pytoken.specs.StringValues.{is_quote, is_marked, prefix_len_of, without_last};
+ghost use Rattle.pytoken.specs.StringValues.{is_quote, is_marked, is_raw, prefix_len_of};
+ghost use Rattle.pytoken.specs.StringValues.{without_last, with_line_feeds};
 ghost use Rattle.pytoken.specs.StringValues.{inside, body_of, literal_fault, string_fault};
 ghost use Rattle.pytoken.specs.Inner.Readings.{is_bare, is_plain, asks, is_doubtful, is_calm};
 
@@ -54,6 +55,15 @@ pub(crate) fn is_marked(literal: &Characters, small: char, capital: char) -> boo
         }
     }
     false
+}
+
+/// Whether a literal is raw: whether `r` or `R` stands in its prefix.
+///
+/// Python language reference, 2.4.1 "String and Bytes literals".
+pub fn is_raw(text: &str) -> bool
+    ensures { result ≡ is_raw (with_line_feeds (chars text.now)) }
+{
+    is_marked(&Characters::new(text), 'r', 'R')
 }
 
 /// Takes the prefix that stands here.

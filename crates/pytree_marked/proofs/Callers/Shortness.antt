@@ -1,21 +1,17 @@
 -- Which nodes stand on one line under places: those of marked nodes, only where none is left.
 --
 -- Carries: is_told_on_line, and of `pytree_dump` all nodes.
-use Rattle.std.proofs.Common.{◌≡◌, ℕ, zero, suc, ◌+◌, ◌<◌, ◌⊎◌, inl, inr, List, [], ◌∷◌, Bool, true, false, ◌&&◌, ◌||◌, if◌then◌else◌, refl}
+use Rattle.std.proofs.Common.{◌≡◌, ℕ, zero, suc, ◌+◌, ◌<◌, inl, inr, List, [], ◌∷◌, Bool, true, false, ◌&&◌, ◌||◌, if◌then◌else◌, refl}
 use Rattle.std.proofs.Common.{ap, sym, ◌∙◌, arith}
 use Rattle.std.specs.Prelude.{nat_le}
-use Rattle.std.proofs.lemmas.Bool.{both_ways, cases_Bool, and_cases}
+use Rattle.std.proofs.lemmas.Bool.{both_ways, cases_Bool, and_cases, and_right}
 use Rattle.pytree_node.specs.Trees
 use Rattle.pytree_dump_text.specs.Shows.{Shown, Fields, Scalar, Row, Node, no_shown, a_shown, no_field, a_field, left_out, shown}
 use Rattle.pytree_dump_text.specs.Shows.{shown_pattern}
 use Rattle.pytree_dump_text.specs.Layout.{all_simple, is_short, is_simple, shown_count}
-use Rattle.pytree_marked.specs.MarkedNodes.{Attributes, behind, closed, fields_with, is_marked, members, own, with_members, with_places}
+use Rattle.pytree_marked.specs.MarkedNodes.{Attributes, behind, closed, fields_with, is_marked, own, with_members, with_places}
 use Rattle.pytree_marked.specs.Taking.{is_none_left}
 use Rattle.pytree_marked.proofs.Callers.Unplaced.{closed_unplaced}
-
-and_false : (b : Bool) → (b && false) ≡ false
-and_false true = refl
-and_false false = refl
 
 or_false : (b : Bool) → b ≡ (b || false)
 or_false true = refl
@@ -87,7 +83,7 @@ took_fields ps (left_out fs) some none = took_fields ps fs some none
 took_fields ps (a_field name x fs) some none = elim (cases_Bool (is_none_left (with_places ps x).left)) [
   | inl gone ↦ ap (λ b. b && all_simple (fields_with (with_places ps x).left fs).shown) (took ps x some gone)
   | inr more ↦ ap (λ b. is_simple (with_places ps x).shown && b) (took_fields (with_places ps x).left fs more none)
-      ∙ and_false (is_simple (with_places ps x).shown)
+      ∙ and_right (is_simple (with_places ps x).shown) false refl
 ]
 
 not_simple : (fs more : Fields) → all_simple fs ≡ false → all_simple (with_members fs more) ≡ false
@@ -95,7 +91,7 @@ not_simple no_field more h = absurd (both_ways true h refl)
 not_simple (left_out fs) more h = not_simple fs more h
 not_simple (a_field name x fs) more h = elim (and_cases (is_simple x) (all_simple fs) h) [
   | inl e ↦ ap (λ b. b && all_simple (with_members fs more)) e
-  | inr e ↦ ap (λ b. is_simple x && b) (not_simple fs more e) ∙ and_false (is_simple x)
+  | inr e ↦ ap (λ b. is_simple x && b) (not_simple fs more e) ∙ and_right (is_simple x) false refl
 ]
 
 -- ---- A marked node stands on one line only where no place is left.
@@ -106,7 +102,7 @@ long_placed ps fs some =
     let o : Fields = own true (fields_with ps fs).left in
     elim (cases_Bool (is_none_left (fields_with ps fs).left)) [
       | inl none ↦ ap (λ b. nat_le (shown_count (with_members r o)) 3 && b) (not_simple r o (took_fields ps fs some none))
-          ∙ and_false (nat_le (shown_count (with_members r o)) 3)
+          ∙ and_right (nat_le (shown_count (with_members r o)) 3) false refl
       | inr more ↦
           let c = member_count r o in
           let k : shown_count o ≡ 4 = own_count (fields_with ps fs).left more in
@@ -166,7 +162,7 @@ short_led (p ∷ ps) name x rest is =
     let one = with_places (p ∷ ps) x in
     let behind_it : Fields = with_members (fields_with one.left rest).shown no_field in
     ap (λ b. nat_le (shown_count behind_it + 1) 3 && (b && all_simple behind_it)) (led_full (p ∷ ps) x refl is)
-    ∙ and_false (nat_le (shown_count behind_it + 1) 3)
+    ∙ and_right (nat_le (shown_count behind_it + 1) 3) false refl
 
 pub led_line : (flat short line : Bool) (ps : List Attributes) (name : List ℕ) (x : Shown) (rest : Fields) → is_marked_node x ≡ true →
     line ≡ (if is_none_left ps then short else flat) → short ≡ (flat || is_short (a_field name x rest)) →

@@ -14,7 +14,7 @@ use Rattle.pytree_node.specs.declared.operators.Context.{Context}
 use Rattle.pytree_node.specs.declared.operators.Context.TheVariants as context
 use Rattle.pytree_dump_text.specs.Shows.{Shown, Showns, Fields, Scalar, Row, Node, no_shown, a_shown, no_field, a_field, left_out, showns}
 use Rattle.pytree_dump_text.specs.Shows.{shown_name, word, bool_name, comparison_name, context_name, operator_name, unary_name}
-use Rattle.pytree_marked.specs.MarkedNodes.{Attributes, Placed, placed, behind, closed, fields_with, is_marked, own, rows_with}
+use Rattle.pytree_marked.specs.MarkedNodes.{Attributes, Placed, placed, closed, fields_with, is_marked, rows_with}
 use Rattle.pytree_marked.specs.MarkedNodes.{with_members, with_places}
 
 -- ---- Where none is left.

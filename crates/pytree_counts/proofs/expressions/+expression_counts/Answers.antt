@@ -5,8 +5,10 @@ use Rattle.pytree_node.proofs.Callers.ExprShapes.{call_tree, comprehension_tree,
 use Rattle.pytree_dump_text.specs.Shows.{Fields, a_field, no_field, optional_field, shown, shown_arg, shown_optional, shown_args}
 use Rattle.pytree_dump_text.specs.Shows.{shown_comprehensions, shown_exprs, shown_keywords, shown_optionals}
 use Rattle.pytree_marked.specs.MarkedNodes.{marked, marked_rows}
-use Rattle.pytree_counts.specs.Counts.{capped, marked_optional}
-use Rattle.pytree_counts.proofs.CountLemmas.{optional_sum, capped_none, capped_on, counted, name_sum, none_counted, two_on}
+use Rattle.pytree_marked.specs.MarkedOptions.{marked_optional}
+use Rattle.pytree_counts.specs.Counts.{capped}
+use Rattle.pytree_marked.proofs.Callers.Sums.{optional_sum, name_sum}
+use Rattle.pytree_counts.proofs.CountLemmas.{capped_none, capped_on, counted, none_counted, two_on}
 use Rattle.pytree_counts.proofs.expressions.+expression_counts.Goals as goal
 use Rattle.pytree_counts.proofs.expressions.+expression_counts.Goals.{options_marked-in-None, options_marked-in-Some}
 

@@ -5,8 +5,9 @@ use Rattle.pytree_node.proofs.Callers.StmtShapes.{case_tree, handler_tree}
 use Rattle.pytree_dump_text.specs.Shows.{Fields, Row, a_field, name_field, no_field, shown_pattern, shown_stmt, shown_cases, shown_handlers}
 use Rattle.pytree_dump_text.specs.Shows.{shown_stmts}
 use Rattle.pytree_marked.specs.MarkedNodes.{marked, marked_rows}
-use Rattle.pytree_counts.specs.Counts.{marked_option}
-use Rattle.pytree_counts.proofs.CountLemmas.{counted, none_counted, name_sum, option_sum, two_on}
+use Rattle.pytree_marked.specs.MarkedOptions.{marked_option}
+use Rattle.pytree_marked.proofs.Callers.Sums.{name_sum, option_sum}
+use Rattle.pytree_counts.proofs.CountLemmas.{counted, none_counted, two_on}
 use Rattle.pytree_counts.proofs.statements.+statement_counts.Goals as goal
 
 pub block_marked-loop-s-preserved : goal.block_marked-loop-s-preserved

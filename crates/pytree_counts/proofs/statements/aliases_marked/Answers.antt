@@ -2,7 +2,8 @@ use Rattle.std.proofs.Common.{arith, codes, map, refl}
 use Rattle.pytree_node.specs.TreeOf.{alias_of}
 use Rattle.pytree_dump_text.specs.Shows.{no_field, shown_aliases}
 use Rattle.pytree_marked.specs.MarkedNodes.{marked_rows}
-use Rattle.pytree_counts.proofs.CountLemmas.{counted, none_counted, name_sum}
+use Rattle.pytree_marked.proofs.Callers.Sums.{name_sum}
+use Rattle.pytree_counts.proofs.CountLemmas.{counted, none_counted}
 use Rattle.pytree_counts.proofs.statements.aliases_marked.Goals as goal
 
 pub loop-name-preserved : goal.loop-name-preserved

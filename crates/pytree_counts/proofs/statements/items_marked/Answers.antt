@@ -2,8 +2,9 @@ use Rattle.std.proofs.Common.{◌+◌, arith, codes, map, refl}
 use Rattle.pytree_node.specs.TreeOf.{item_of}
 use Rattle.pytree_dump_text.specs.Shows.{no_field, shown, shown_items}
 use Rattle.pytree_marked.specs.MarkedNodes.{marked, marked_rows}
-use Rattle.pytree_counts.specs.Counts.{marked_option}
-use Rattle.pytree_counts.proofs.CountLemmas.{counted, none_counted, option_sum, two_on}
+use Rattle.pytree_marked.specs.MarkedOptions.{marked_option}
+use Rattle.pytree_marked.proofs.Callers.Sums.{option_sum}
+use Rattle.pytree_counts.proofs.CountLemmas.{counted, none_counted, two_on}
 use Rattle.pytree_counts.proofs.statements.items_marked.Goals as goal
 
 pub loop-item-preserved : goal.loop-item-preserved

@@ -1,13 +1,13 @@
 use Rattle.std.proofs.Common.{ℕ, List, codes, decimal, true, ◌++◌, ◌∙◌, ap}
 use Rattle.std.specs.String.{string_bytes}
 use Rattle.std.proofs.lemmas.List.{append_assoc}
+use Rattle.std.proofs.lemmas.Result.{on_ok_weaker}
 use Rattle.pytree_dump_text.specs.Layout.{before}
-use Rattle.pytree_dump_text.proofs.Callers.Results.{on_ok}
 use Rattle.pytree_marked.proofs.MemberLemmas.{members_text}
 use Rattle.pytree_marked.proofs.members.push_on_line.Goals as goal
 
 pub returns : goal.returns
-returns c = on_ok c.push_named-4.result
+returns c = on_ok_weaker c.push_named-4.result
     (λ last s indentation.
     let lead = before true indentation c.args.told.first in
     let line = decimal c.args.place.line in

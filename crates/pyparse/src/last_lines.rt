@@ -5,7 +5,7 @@
 ghost use Rattle.std.specs.Prelude.{◌≡◌, ◌∷◌, ◌≤◌, [], List, ℕ, OnOk, reverse};
 ghost use Rattle.pygrammar.specs.Lines.{Form, Line, line};
 ghost use Rattle.pygrammar.specs.Blocks.{is_match, kind_of, stands_in_match};
-ghost use Rattle.pyparse.specs.Inner.Placing.{HoldsPlaces, stands_behind};
+ghost use Rattle.pyparse.specs.Inner.LastLines.{HoldsLastLines, stands_behind};
 
 use std::alloc::{AllocError, Global};
 
@@ -18,7 +18,7 @@ pub(crate) struct Last {
 }
 
 /// Drops this level and the deeper ones.
-#[tactic(auto, using(crate::proofs::PlaceLemmas::placing))]
+#[tactic(auto, using(crate::proofs::LastLineLemmas::last_lines))]
 fn drop_from(lasts: &mut Vec<Last>, level: usize)
     ensures { (l : ℕ) → l ≤ level
         → stands_behind l (reverse lasts.new.items) ≡ stands_behind l (reverse lasts.old.items) }
@@ -33,24 +33,24 @@ fn drop_from(lasts: &mut Vec<Last>, level: usize)
 
 /// The lines in whose blocks the next one may stand: the last one of each level, the deepest last.
 #[derive(Drop)]
-pub(crate) struct Places {
+pub(crate) struct LastLines {
     lasts: Vec<Last>,
 }
 
-impl Places {
+impl LastLines {
     /// Before the first line. It takes no memory.
-    pub(crate) fn new(alloc: Global) -> Places
-        ensures { HoldsPlaces [] result }
+    pub(crate) fn new(alloc: Global) -> LastLines
+        ensures { HoldsLastLines [] result }
     {
-        Places {
+        LastLines {
             lasts: Vec::new(alloc),
         }
     }
 
     /// Whether the next line stands in a `match`, by its level.
-    #[tactic(auto, using(crate::proofs::PlaceLemmas::placing))]
+    #[tactic(auto, using(crate::proofs::LastLineLemmas::last_lines))]
     pub(crate) fn inside(&self, level: usize) -> bool
-        ensures { (earlier : List Line) → HoldsPlaces earlier self.now
+        ensures { (earlier : List Line) → HoldsLastLines earlier self.now
             → result ≡ stands_in_match level earlier }
     {
         let mut lasts = self.lasts.as_slice();
@@ -66,8 +66,8 @@ impl Places {
     /// Takes the next line: its level, and whether it is the header of a `match`.
     pub(crate) fn step(&mut self, level: usize, opens_match: bool) -> Result<(), AllocError>
         ensures { (earlier : List Line) (form : Form) → opens_match ≡ is_match (kind_of form)
-            → HoldsPlaces earlier self.old
-            → OnOk result (HoldsPlaces (line level form ∷ earlier) self.new) }
+            → HoldsLastLines earlier self.old
+            → OnOk result (HoldsLastLines (line level form ∷ earlier) self.new) }
     {
         drop_from(&mut self.lasts, level);
         self.lasts.push(Last {
