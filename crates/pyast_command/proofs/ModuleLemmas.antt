@@ -57,7 +57,7 @@ use Rattle.pytree_marked.specs.MarkedNodes.{with_places}
 use Rattle.pyplaces.specs.PlacesOf.{PlacesOf, shown_from}
 use Rattle.pyast_command.specs.Dumps.{placed_output}
 use Rattle.pyast_command.specs.Modules.{IsRefused, no_source, refused, Writes, of_module, of_none}
-use Rattle.pyast_command.specs.Runs.{Making, whole, in_pieces, ReadsAll, WritesFor, PerformsWhole}
+use Rattle.pyast_command.specs.Runs.{Making, whole, in_pieces, WritesFor, PerformsWhole}
 use Rattle.pyast_command.specs.Unparses.{IsTextOf}
 use Rattle.pyast_command.specs.Inner.Reading.{Refuses, ReadsModule, ReadsNone}
 use Rattle.pyast_command.proofs.UnreadLemmas.{listing_is_read}
@@ -183,13 +183,6 @@ gives_back profile bytes p m is lawful accepted =
     record { back = t.back; accepted = t.accepted; only = t.only }
 
 -- ---- Of a reader.
-
--- what a fault of bytes that were read whole is to their reader
-pub reads_none : (profile : Profile) (seen_old seen_new : Seen) (input : List ℕ) (fault : Fault)
-    → ReadsAll seen_old seen_new source_limit input → Refuses profile input fault → ReadsNone profile seen_old seen_new fault
-reads_none profile seen_old seen_new input (InSource code place) all h = (input, all, h)
-reads_none profile seen_old seen_new input (Plain Memory) all h = all.unfailed
-reads_none profile seen_old seen_new input (Plain other) all h = absurd h
 
 -- where there is no module nothing is written
 pub none_written : (making : Making) (profile : Profile) (output : List ℕ → Module → List ℕ → Type 0) (seen_old seen_new : Seen)

@@ -1,9 +1,8 @@
 -- Laws of a run.
 --
 -- Carries: list, write_listing, run.
-use Rattle.std.proofs.Common.{true, Bool, ◌≡◌, ◌≢◌, ◌++◌, ℕ, List, [], false, Option, None, Some, Ok, Err, Result, refl, sym, ap, inl, inr}
+use Rattle.std.proofs.Common.{Bool, ◌≡◌, ◌≢◌, ◌++◌, ℕ, List, [], Option, None, Some, refl, sym, ap, inl, inr}
 use Rattle.std.proofs.Common.{◌∙◌, append_assoc, append-nil}
-use Rattle.std.specs.Prelude.{OnOk, OnErr, is_err}
 use Rattle.std.specs.Io.KnownBytes.{Appends}
 use Rattle.pysource.specs.Bytes.{Seen, TakesFront}
 use Rattle.pysource.proofs.Callers.Taken.{Appends-append, TakesFront-after}
@@ -20,21 +19,6 @@ use Rattle.pyast_fault.specs.declared.fault.SourceFaultCode.{SourceFaultCode}
 use Rattle.pyast_fault.specs.declared.fault.RunFaultCode.TheVariants.{Read, Write, Memory, CursorOfAnotherSource}
 use Rattle.pyast_fault.specs.declared.fault.Fault.{Fault}
 use Rattle.pyast_fault.specs.declared.fault.Fault.TheVariants.{InSource, Plain}
-
--- what holds anyway, holds where there is an error
-pub on_error : {A E : Type 0} (r : Result A E) (P : Type 0) → P → OnErr r P
-on_error (Ok a) P p = tt
-on_error (Err e) P p = p
-
--- what a success brings, where there was no error
-pub on_success : {A E : Type 0} {P : Type 0} (r : Result A E) → is_err r ≡ false → OnOk r P → P
-on_success (Ok a) n p = p
-on_success (Err e) n p = cc
-
--- what an error brings, where there was one
-pub on_failure : {A E : Type 0} {P : Type 0} (r : Result A E) → is_err r ≡ true → OnErr r P → P
-on_failure (Ok a) n p = cc
-on_failure (Err e) n p = p
 
 -- a further line is held, and no longer left
 pub TakesAllBut-held : (x y : Option (List ℕ)) (output held line left : List ℕ) → TakesAllBut x y output held (line ++ left)

@@ -5,6 +5,7 @@ use Rattle.std.proofs.Common.{◌≡◌, ℕ, Bool, true, false, ◌&&◌, List,
 use Rattle.std.proofs.Common.{None, Ok, append_assoc, arith}
 use Rattle.std.specs.Prelude.{nat_lt}
 use Rattle.std.proofs.lemmas.Bool.Decides.{nat_tests}
+use Rattle.std.proofs.lemmas.Bool.{and_parts}
 use Rattle.pysource.specs.Parts.{Parts}
 use Rattle.pysource.specs.Bytes.{Seen, TakesFront}
 use Rattle.pysource.specs.Streams.{stream_of, Refuses}
@@ -103,10 +104,6 @@ is_unread_is errors.EofInStatement h = cc
 is_unread_is errors.UnindentMismatch h = cc
 is_unread_is errors.UnmatchedCloser h = cc
 
-both : (a b : Bool) → (a && b) ≡ true → (a ≡ true) × (b ≡ true)
-both true b h = (refl, h)
-both false b h = cc
-
 unread_of : (o : Option ListingFault) → elim o [ Some f ↦ is_unread_code f.code | None ↦ false ] ≡ true
     → (f : ListingFault) × (o ≡ Some f) × (f.code ≡ errors.Line line_errors.FailedRead)
 unread_of None h = cc
@@ -128,7 +125,7 @@ missed_another c p n = by_test (ends_unread (listing (in_characters p)) && nat_l
     by_test : (b : Bool) → (ends_unread (listing (in_characters p)) && nat_lt (length (entries_of (listing (in_characters p)))) c.given) ≡ b
         → missed (Some c) (in_characters p) ≡ CursorOfAnotherSource
     by_test true e =
-        let t = both (ends_unread (listing (in_characters p))) _ e in
+        let t = and_parts (ends_unread (listing (in_characters p))) _ e in
         let h = t.1 in
         absurd (n (record { fault = unread_of (fault_of (listing (in_characters p))) t.0; before = grind (arith, nat_tests) }))
     by_test false e = rw e refl

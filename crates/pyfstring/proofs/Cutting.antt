@@ -20,10 +20,6 @@ is_text is_raw has_pairs cs = record { whole = before_whole cs _ (text_ends is_r
 
 -- ---- Parts that are known already.
 
-pub put_nothing : {X : Type 0} (o : Read (List X)) → o ≡ put_before [] o
-put_nothing None = refl
-put_nothing (Some x) = refl
-
 pub put_two : {S : Type 0} (done : List (Part S)) (t : List ℕ) (f : FieldParts S) (o : Read (List (Part S)))
     → put_before done (put_first t f o) ≡ put_before ((done ++ text t ∷ []) ++ field f ∷ []) o
 put_two done t f None = refl

@@ -1,7 +1,7 @@
 -- What stands before a rest, and what begins a list.
 use Rattle.std.proofs.Common.{◌≡◌, ℕ, ◌-◌, ◌≤◌, true, List, [], ◌∷◌, ◌++◌, length, take, drop, refl, sym, ap, ◌∙◌, arith, length-append}
 use Rattle.std.proofs.lemmas.List.{take_at, take-append-drop, append_assoc}
-use Rattle.std.proofs.lemmas.Bool.{eqb-true, eq-eqb}
+use Rattle.std.proofs.lemmas.Bool.{eqb-true}
 use Rattle.pyfstring.specs.Texts.{begins_with}
 use Rattle.pyfstring.specs.Cutting.{EndsWith, before}
 
@@ -33,6 +33,3 @@ ends_length cs r (t, e) = omega (arith, length-append t r, ap length e)
 pub begins_is : (c : ℕ) (cs : List ℕ) → begins_with c cs ≡ true → cs ≡ c ∷ drop 1 cs
 begins_is c [] e = cc
 begins_is c (d ∷ cs) e = ap (λ x. x ∷ cs) (eqb-true d c e)
-
-pub begins_at : (c : ℕ) (cs : List ℕ) → begins_with c (c ∷ cs) ≡ true
-begins_at c cs = eq-eqb c c refl

@@ -24,9 +24,6 @@ begins_same f e nothing = refl
 begins_same f e (character {c = c} {cs = cs} n l) = ap (begins f) (plain_one c cs n)
 begins_same f e (line_end l) = sym e
 
-pub shorter_one : (c : ℕ) (cs : List ℕ) (k : ℕ) → length (c ∷ cs) < suc k → length cs < k
-shorter_one c cs k l = omega arith
-
 -- ---- Behind a closing brace.
 
 pub closing_same : (cs : List ℕ) → drop (prefix_len is_no_closing (without_returns cs) + 1) (without_returns cs) ≡ without_returns

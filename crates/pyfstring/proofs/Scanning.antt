@@ -145,7 +145,7 @@ escape_some cs = cond_both (not (begins_with capital_n (drop 1 cs))) 2 _ (λ (n 
 
 -- ---- A text, one unit after another.
 
-some_unit : (n : ℕ) → not (n == 0) ≡ true → (m : ℕ) × (n ≡ suc m)
+pub some_unit : (n : ℕ) → not (n == 0) ≡ true → (m : ℕ) × (n ≡ suc m)
 some_unit zero e = cc
 some_unit (suc m) e = (m, refl)
 

@@ -10,15 +10,12 @@ use Rattle.pyfstring.specs.Singles.{single_after, single}
 use Rattle.pyfstring.specs.Cutting.{EndsWith, before}
 use Rattle.pyfstring.specs.Inner.Passing.{behind_brace}
 use Rattle.pyfstring.proofs.Fronts.{before_is, ends_drop, ends_one}
+use Rattle.pyfstring.proofs.Scanning.{some_unit}
 
 stays : (is_raw : Bool) (n : ℕ) (cs : List ℕ) → single_after is_raw n cs ≡ take n cs ++ single_after is_raw 0 (drop n cs)
 stays is_raw zero cs = refl
 stays is_raw (suc n) [] = refl
 stays is_raw (suc n) (c ∷ cs) = ap (λ x. c ∷ x) (stays is_raw n cs)
-
-some_unit : (n : ℕ) → not (n == 0) ≡ true → (m : ℕ) × (n ≡ suc m)
-some_unit zero e = cc
-some_unit (suc m) e = (m, refl)
 
 -- what the unit at the front is made
 pub record IsUnit (is_raw : Bool) (cs : List ℕ) : Type 0 where

@@ -1,7 +1,7 @@
 -- What one step of a loop leaves.
 -- Carries: pass_closing, pass_blanks, are_blanks, pass_short, pass_long.
 use Rattle.std.proofs.Common.{◌≡◌, ℕ, suc, ◌<◌, Bool, true, false, List, [], ◌∷◌, length, drop, refl, sym, ◌∙◌, ap, subst, Option, Some}
-use Rattle.std.proofs.Common.{None, arith, slice_get, add_comm, add-one, ◌-◌, ◌++◌, take, length-drop, ◌⊎◌, inl, inr}
+use Rattle.std.proofs.Common.{None, arith, slice_get, ◌-◌, ◌++◌, take, length-drop, ◌⊎◌, inl, inr}
 use Rattle.std.specs.Prelude.{◌==◌, ◌&&◌, nat_lt, if◌then◌else◌}
 use Rattle.std.specs.List.{prefix_len, list_all}
 use Rattle.pyfstring.specs.declared.expressions.Bracket.{Bracket}
@@ -23,10 +23,6 @@ shorter (d ∷ cs) c e = omega arith
 abbrev pub after_run : (ℕ → Bool) → List ℕ → List ℕ
 after_run p cs = drop (prefix_len p cs) cs
 
-pub run_goes : (p : ℕ → Bool) (cs : List ℕ) (c : ℕ) → slice_get cs 0 ≡ Some c → p c ≡ true → after_run p (drop 1 cs) ≡ after_run p cs
-run_goes p [] c e h = cc
-run_goes p (d ∷ cs) c e h = let f : d ≡ c = cc in let g : p d ≡ true = rw f h in rw (g, add_comm, add-one) refl
-
 pub run_stops : (p : ℕ → Bool) (cs : List ℕ) (c : ℕ) → slice_get cs 0 ≡ Some c → p c ≡ false → after_run p cs ≡ cs
 run_stops p [] c e h = cc
 run_stops p (d ∷ cs) c e h = let f : d ≡ c = cc in let g : p d ≡ false = rw f h in rw g refl
@@ -40,10 +36,6 @@ none_left [] e = refl
 none_left (d ∷ cs) e = cc
 
 -- ---- All characters pass.
-
-pub all_goes : (p : ℕ → Bool) (cs : List ℕ) (c : ℕ) → slice_get cs 0 ≡ Some c → p c ≡ true → list_all p cs ≡ list_all p (drop 1 cs)
-all_goes p [] c e h = cc
-all_goes p (d ∷ cs) c e h = let f : d ≡ c = cc in let g : p d ≡ true = rw f h in rw g refl
 
 pub all_stops : (p : ℕ → Bool) (cs : List ℕ) (c : ℕ) → slice_get cs 0 ≡ Some c → p c ≡ false → list_all p cs ≡ false
 all_stops p [] c e h = cc

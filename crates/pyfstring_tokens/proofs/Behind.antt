@@ -2,8 +2,8 @@
 -- comment.
 --
 -- Carries: new, next, by Places. On: LastChars, PlainEnds.
-use Rattle.std.proofs.Common.{◌≡◌, ℕ, ◌≤◌, ◌<◌, zero, suc, Bool, true, false, ◌&&◌, ◌||◌, ◌==◌, List, [], ◌∷◌, ◌++◌, length, take, refl}
-use Rattle.std.proofs.Common.{sym, ap, ◌∙◌, arith, ⊎_elim, Some, None, is_some, length-append, if◌then◌else◌}
+use Rattle.std.proofs.Common.{◌≡◌, ℕ, ◌<◌, suc, Bool, true, false, ◌&&◌, ◌||◌, ◌==◌, List, [], ◌∷◌, ◌++◌, length, take, refl}
+use Rattle.std.proofs.Common.{sym, ap, ◌∙◌, arith, Some, None, is_some, length-append, if◌then◌else◌}
 use Rattle.std.specs.Prelude.{option_map}
 use Rattle.std.proofs.Math.Seq.{take-length}
 use Rattle.std.proofs.lemmas.List.{take-append-le}
@@ -11,8 +11,8 @@ use Rattle.std.proofs.lemmas.Bool.Decides.{nat_tests}
 use Rattle.pylex_lexeme.specs.declared.lexeme.Class.TheVariants.{String, Comment}
 use Rattle.pylex_lexeme.specs.Strings.{begins_quote, begins_three, after_prefix, opens_string, opens_triple, counts_as_string}
 use Rattle.pylex_lexeme.specs.Lexemes.{Lexeme, class_in, plain_class, longest_within, lexeme_len, lexeme_at}
-use Rattle.pylex_lexeme.proofs.Callers.Booleans.{bool_cases}
 use Rattle.pylex_lexeme.proofs.Callers.Lexemes.{comment_takes}
+use Rattle.pylex_lexeme.proofs.Callers.WholeLines.{same_within, len_within}
 use Rattle.pyfstring_tokens.specs.Standing.{closed}
 use Rattle.pyfstring_tokens.specs.FieldTokens.{is_comment_class}
 use Rattle.pyfstring_tokens.proofs.LastChars.{no_string}
@@ -71,25 +71,6 @@ whole_none a cs e = by (opens_string (a ∷ (cs ++ 41 ∷ [])))
         plain_class (a ∷ (cs ++ 41 ∷ []))) ≡ None
     by true = rw (no_string (a ∷ (cs ++ 41 ∷ [])) (a ∷ cs)) refl
     by false = plain_end a cs e
-
--- The longest front
-same_within : (p q : List ℕ → Bool) (cs es : List ℕ) (m : ℕ) → m ≤ length cs → ((t : List ℕ) → p t ≡ q t)
-    → longest_within p (cs ++ es) m ≡ longest_within q cs m
-same_within p q cs es zero h f = refl
-same_within p q cs es (suc m) h f =
-    let e : p (take (suc m) (cs ++ es)) ≡ q (take (suc m) cs) = ap p (take-append-le (suc m) cs es h) ∙ f (take (suc m) cs) in
-    rw (e, same_within p q cs es m (omega arith) f) refl
-
-within : (p : List ℕ → Bool) (cs : List ℕ) (m : ℕ) → longest_within p cs m ≤ m
-within p cs zero = omega arith
-within p cs (suc m) = ⊎_elim
-    (λ (e : p (take (suc m) cs) ≡ true). rw e (omega arith))
-    (λ (e : p (take (suc m) cs) ≡ false). let i = within p cs m in rw e (omega arith))
-    (bool_cases (p (take (suc m) cs)))
-
-len_within : (cs : List ℕ) → lexeme_len cs ≤ length cs
-unfolding lexeme_len
-len_within cs = within (λ t. is_some (class_in cs t)) cs (length cs)
 
 not_whole : (p : List ℕ → Bool) (cs : List ℕ) → p cs ≡ false → (n : ℕ) → length cs ≡ suc n
     → longest_within p cs (length cs) ≡ longest_within p cs n

@@ -1,2 +1,3 @@
 -- What other crates cite of pyfstring_tokens.
 pub mod Law
+pub mod Lexemes

@@ -4,10 +4,10 @@
 use Rattle.std.proofs.Common.{◌≡◌, ℕ, Bool, true, false, not, ◌&&◌, ◌||◌, ◌==◌, List, [], ◌∷◌, ◌++◌, refl, sym, ap, ◌∙◌, arith, ⊎_elim}
 use Rattle.std.proofs.Common.{if◌then◌else◌}
 use Rattle.std.proofs.lemmas.Slice.Eq.{bytes_eq-Decides}
+use Rattle.std.proofs.lemmas.Bool.{false_from_ne_true, or_cases, and_parts, cases_Bool}
 use Rattle.pylex_lexeme.specs.Numbers.{split_any}
 use Rattle.pylex_lexeme.specs.Strings.{is_prefix, units, is_unit, no_units, ends_by_one, ends_by_three, is_single, is_triple}
 use Rattle.pylex_lexeme.specs.Strings.{is_triple_string, is_single_string, counts_as_string, opens_triple}
-use Rattle.pylex_lexeme.proofs.Callers.Booleans.{and_parts, or_parts, bool_cases}
 
 -- the last character, or this one where there is none
 abbrev pub last_of : ℕ → List ℕ → ℕ
@@ -30,14 +30,14 @@ flat (u ∷ us) = u ++ flat us
 flat_units : (t : List ℕ) → flat (units t) ≡ t
 flat_units [] = refl
 flat_units (a ∷ []) = refl
-flat_units (a ∷ b ∷ []) = ⊎_elim (λ (h : (a == 92) ≡ true). rw h refl) (λ (h : (a == 92) ≡ false). rw h refl) (bool_cases (a == 92))
+flat_units (a ∷ b ∷ []) = ⊎_elim (λ (h : (a == 92) ≡ true). rw h refl) (λ (h : (a == 92) ≡ false). rw h refl) (cases_Bool (a == 92))
 flat_units (a ∷ b ∷ c ∷ t) = ⊎_elim
     (λ (h : (a == 92) ≡ true). ⊎_elim
     (λ (i : ((b == 13) && (c == 10)) ≡ true). rw (h, i) (ap (λ u. a ∷ b ∷ c ∷ u) (flat_units t)))
     (λ (i : ((b == 13) && (c == 10)) ≡ false). rw (h, i) (ap (λ u. a ∷ b ∷ u) (flat_units (c ∷ t))))
-    (bool_cases ((b == 13) && (c == 10))))
+    (cases_Bool ((b == 13) && (c == 10))))
     (λ (h : (a == 92) ≡ false). rw h (ap (λ u. a ∷ u) (flat_units (b ∷ c ∷ t))))
-    (bool_cases (a == 92))
+    (cases_Bool (a == 92))
 
 unit_is : (q : ℕ) (u : List ℕ) → is_unit q u ≡ true → u ≡ q ∷ []
 unit_is q u e = (bytes_eq-Decides u (q ∷ [])).0 e
@@ -53,7 +53,7 @@ one_last q d (u ∷ us) e = ⊎_elim
     (λ (h : is_unit q u ≡ false).
     let f : (not (is_unit 13 u) && not (is_unit 10 u) && ends_by_one q us) ≡ true = rw h at e in
     last_join d u (flat us) ∙ one_last q (last_of d u) us (and_parts (not (is_unit 13 u) && not (is_unit 10 u)) (ends_by_one q us) f).1)
-    (bool_cases (is_unit q u))
+    (cases_Bool (is_unit q u))
 
 three_last : (q d : ℕ) (us : List (List ℕ)) → ends_by_three q us ≡ true → last_of d (flat us) ≡ q
 three_last q d [] e = cc
@@ -66,7 +66,7 @@ three_last q d (u ∷ v ∷ w ∷ us) e = ⊎_elim
     last_join d u (v ++ (w ++ flat us)) ∙ last_join (last_of d u) v (w ++ flat us) ∙ rw (i, none_left us n) refl)
     (λ (h : (is_unit q u && is_unit q v && is_unit q w) ≡ false). last_join d u (v ++ (w ++ flat us))
     ∙ three_last q (last_of d u) (v ∷ w ∷ us) (rw h at e))
-    (bool_cases (is_unit q u && is_unit q v && is_unit q w))
+    (cases_Bool (is_unit q u && is_unit q v && is_unit q w))
 
 single_last : (q d : ℕ) (t : List ℕ) → is_single q t ≡ true → last_of d t ≡ q
 unfolding is_single
@@ -99,7 +99,7 @@ split_of p q (c ∷ t) e = ⊎_elim
     (λ (h : (p [] && q (c ∷ t)) ≡ true). record { front = []; rest = c ∷ t; whole = refl; passes = (and_parts (p []) (q (c ∷ t)) h).1 })
     (λ (h : split_any (λ u. p (c ∷ u)) q t ≡ true). let s = split_of (λ u. p (c ∷ u)) q t h in
     record { front = c ∷ s.front; rest = s.rest; whole = ap (λ u. c ∷ u) s.whole; passes = s.passes })
-    (or_parts (p [] && q (c ∷ t)) (split_any (λ u. p (c ∷ u)) q t) e)
+    (or_cases (p [] && q (c ∷ t)) (split_any (λ u. p (c ∷ u)) q t) e)
 
 -- no text that passes ends with a right parenthesis
 abbrev EndsOff : (List ℕ → Bool) → Type 0
@@ -109,7 +109,7 @@ either_off : (p : ℕ → List ℕ → Bool) → ((q d : ℕ) (t : List ℕ) →
 either_off p f d t e l = ⊎_elim
     (λ (h : p 39 t ≡ true). let z : 39 ≡ 41 = sym (f 39 d t h) ∙ l in omega arith)
     (λ (h : p 34 t ≡ true). let z : 34 ≡ 41 = sym (f 34 d t h) ∙ l in omega arith)
-    (or_parts (p 39 t) (p 34 t) e)
+    (or_cases (p 39 t) (p 34 t) e)
 
 behind_off : (p : List ℕ → Bool) → EndsOff p → (t : List ℕ) → split_any is_prefix p t ≡ true → last_of 0 t ≡ 41 → ⊥
 behind_off p f t e l = let s = split_of is_prefix p t e in
@@ -123,15 +123,11 @@ singles_off : (t : List ℕ) → is_single_string t ≡ true → last_of 0 t ≡
 unfolding is_single_string
 singles_off t e l = behind_off (λ u. is_single 39 u || is_single 34 u) (either_off is_single single_last) t e l
 
-pub off : (b : Bool) → (b ≡ true → ⊥) → b ≡ false
-off true f = absurd (f refl)
-off false f = refl
-
 -- no string ends with a right parenthesis
 pub no_string : (cs t : List ℕ) → counts_as_string cs (t ++ 41 ∷ []) ≡ false
 unfolding counts_as_string
 no_string cs t = by (opens_triple cs)
   where
     by : (b : Bool) → (if b then is_triple_string (t ++ 41 ∷ []) else is_single_string (t ++ 41 ∷ [])) ≡ false
-    by true = off (is_triple_string (t ++ 41 ∷ [])) (λ e. triples_off (t ++ 41 ∷ []) e (last_end 0 t 41))
-    by false = off (is_single_string (t ++ 41 ∷ [])) (λ e. singles_off (t ++ 41 ∷ []) e (last_end 0 t 41))
+    by true = false_from_ne_true (is_triple_string (t ++ 41 ∷ [])) (λ e. triples_off (t ++ 41 ∷ []) e (last_end 0 t 41))
+    by false = false_from_ne_true (is_single_string (t ++ 41 ∷ [])) (λ e. singles_off (t ++ 41 ∷ []) e (last_end 0 t 41))

@@ -6,8 +6,8 @@ use Rattle.std.proofs.Common.{sym, ap, ◌∙◌, subst, arith, append_assoc, So
 use Rattle.std.specs.List.{list_any}
 use Rattle.std.proofs.lemmas.Bool.Decides.{nat_tests}
 use Rattle.std.proofs.lemmas.List.Sums.{sum_by-cons}
+use Rattle.std.proofs.lemmas.Bool.{or_parts}
 use Rattle.pylex_lexeme.specs.Lexemes.{Lexeme, lexeme_at, cut, left_by_cut}
-use Rattle.pylex_lexeme.proofs.Callers.Booleans.{or_parts_false}
 use Rattle.pylex_lexeme.proofs.Callers.Lexemes.{none_is, nothing_takes}
 use Rattle.pylex.specs.Laws.{AreLexemes}
 use Rattle.pylex.specs.Lines.{opens, closes, count_if}
@@ -57,8 +57,8 @@ record Allowed (x : Lexeme) (xs : List Lexeme) (d : ℕ) : Type 0 where
 
 allowed : (x : Lexeme) (xs : List Lexeme) (d : ℕ) → Clear (x ∷ xs) d → Allowed x xs d
 allowed x xs d c =
-    let b = or_parts_false (closes x && (d == 0)) (closes_none (d + count_if (opens x) - count_if (closes x)) xs) c.balanced in
-    let u = or_parts_false (is_of_comment x) (list_any is_of_comment xs) c.uncommented in
+    let b = or_parts (closes x && (d == 0)) (closes_none (d + count_if (opens x) - count_if (closes x)) xs) c.balanced in
+    let u = or_parts (is_of_comment x) (list_any is_of_comment xs) c.uncommented in
     record { matched = b.0; comment = u.0; clear = record { balanced = b.1; uncommented = u.1 } }
 
 -- Past one lexeme

@@ -23,7 +23,7 @@ of_class : (o : Option Class) (t : List ℕ) (k : Class) → o ≡ Some k → op
     Some (record { «class» = k; text = t })
 of_class o t k e = rw e refl
 
-is_lexeme : (t r : List ℕ) (k : Class) → TakesLexeme (t ++ r) (Some k) r → lexeme_at (t ++ r) ≡ Some (record { «class» = k; text = t })
+pub is_lexeme : (t r : List ℕ) (k : Class) → TakesLexeme (t ++ r) (Some k) r → lexeme_at (t ++ r) ≡ Some (record { «class» = k; text = t })
 unfolding lexeme_at
 is_lexeme t r k h =
     let c : class_in (t ++ r) (take (lexeme_len (t ++ r)) (t ++ r)) ≡ Some k = sym (class_at (t ++ r)) ∙ sym h.«class» in

@@ -7,12 +7,12 @@ use Rattle.std.specs.List.{list_any}
 use Rattle.std.specs.Str.{all_scalars}
 use Rattle.std.proofs.lemmas.Bool.Decides.{nat_tests}
 use Rattle.std.proofs.lemmas.List.{append-nil}
+use Rattle.std.proofs.lemmas.Bool.{and_right}
 use Rattle.pylex_lexeme.specs.Chars.{bytes_in}
 use Rattle.pylex_lexeme.specs.declared.kinds.Exact.TheVariants.{LPar, RPar}
 use Rattle.pylex_lexeme.specs.declared.lexeme.Class.{Class}
 use Rattle.pylex_lexeme.specs.declared.lexeme.Class.TheVariants.{Name, Number, String, Operator, Comment, Blanks, LineEnd, Join}
 use Rattle.pylex_lexeme.specs.Lexemes.{Lexeme, lexeme_at, cut, is_opener_class, is_closer_class}
-use Rattle.pylex_lexeme.proofs.Callers.Booleans.{and_false}
 use Rattle.pylex.specs.declared.kind.Kind.TheVariants as kinds
 use Rattle.pylex.specs.declared.entries.Step.{Step}
 use Rattle.pylex.specs.declared.entries.Step.TheVariants as steps
@@ -142,7 +142,7 @@ past_token text n rest back d x some e w g k m i =
     let p = parts text i.before rest back x.text i.whole w i.scalars in
     let c = (cut_some rest back x e w).lexemes in
     let inner = within s d i.depth in
-    let off : (is_closer_class x.«class» && (s.depth == 0)) ≡ false = and_false (is_closer_class x.«class») (s.depth == 0) inner in
+    let off : (is_closer_class x.«class» && (s.depth == 0)) ≡ false = and_right (is_closer_class x.«class») (s.depth == 0) inner in
     let told = token_told src s (closed rest) (closed back) x i.margin (lexeme_kept rest x some k e)
     (closed_parts rest x.text back w) g k off in
     let own = sliced src (40 ∷ i.before) x.text (closed back) s.now.offset (s.now.offset + bytes_in x.text) p.whole

@@ -4,23 +4,24 @@
 -- Carries: new, next, by Behind. On: LastChars.
 use Rattle.std.proofs.Common.{◌≡◌, ℕ, Bool, true, false, not, ◌&&◌, ◌||◌, ◌==◌, List, [], ◌∷◌, ◌++◌, refl, sym, ap, ◌∙◌, arith, ⊎_elim}
 use Rattle.std.proofs.Common.{None, leb}
-use Rattle.std.specs.List.{list_all, list_any}
+use Rattle.std.specs.List.{list_all}
 use Rattle.std.specs.Str.{bytes_eq}
 use Rattle.std.proofs.lemmas.Bool.Decides.{nat_tests}
 use Rattle.std.proofs.lemmas.Slice.Eq.{bytes_eq-Decides}
 use Rattle.unicode_ident.specs.Ident.{is_xid_continue}
 use Rattle.unicode_ident.proofs.IdentLemmas.{is_xid_continue-ascii}
+use Rattle.std.proofs.lemmas.Bool.{false_from_ne_true, or_cases, and_parts, and_right}
 use Rattle.pylex_lexeme.specs.Chars.{is_blank_char}
 use Rattle.pylex_lexeme.specs.Numbers.{headed, optional, split_any, are_some, is_digit_part, is_exponent, is_decimal_digit, is_zero}
 use Rattle.pylex_lexeme.specs.Numbers.{is_hex_digit, is_octal_digit, is_point, is_e, is_radix, is_point_after, is_point_before, is_raised}
 use Rattle.pylex_lexeme.specs.Numbers.{is_float, is_imaginary, is_number, is_nil}
 use Rattle.pylex_lexeme.specs.Operators.{is_operator}
 use Rattle.pylex_lexeme.specs.Lexemes.{is_name, is_comment, are_blanks, is_line_end, is_join, plain_class}
-use Rattle.pylex_lexeme.proofs.Callers.Booleans.{and_parts, and_false, or_parts}
 use Rattle.pylex_lexeme.proofs.Callers.Fronts.{split_all, joined_all}
 use Rattle.pylex_lexeme.proofs.Callers.Lexemes.{words, by_words}
 use Rattle.pylex_lexeme.proofs.Callers.Numbers.{part_all, decimal_part, digit_bounds, either, zero_digit}
-use Rattle.pyfstring_tokens.proofs.LastChars.{last_of, last_end, off}
+use Rattle.pylex_lexeme.proofs.Callers.WholeLines.{one_of}
+use Rattle.pyfstring_tokens.proofs.LastChars.{last_of, last_end}
 
 -- from `+` to `z`
 abbrev plain : ℕ → Bool
@@ -52,7 +53,7 @@ then_plain : {p q : List ℕ → Bool} → IsPlain p → IsPlain q → IsPlain (
 then_plain {p = p} {q = q} f g t e = split_all plain p q true t f g e
 
 or_plain : {p q : List ℕ → Bool} → IsPlain p → IsPlain q → IsPlain (λ t. p t || q t)
-or_plain {p = p} {q = q} f g t e = ⊎_elim (f t) (g t) (or_parts (p t) (q t) e)
+or_plain {p = p} {q = q} f g t e = ⊎_elim (f t) (g t) (or_cases (p t) (q t) e)
 
 nil_plain : IsPlain is_nil
 nil_plain [] e = refl
@@ -110,19 +111,20 @@ number_plain =
 -- what a right parenthesis isn't among holds not of all characters of a text that ends with one
 all_end : (p : ℕ → Bool) (cs : List ℕ) → p 41 ≡ false → list_all p (cs ++ 41 ∷ []) ≡ false
 all_end p [] e = rw e refl
-all_end p (c ∷ cs) e = and_false (p c) (list_all p (cs ++ 41 ∷ [])) (all_end p cs e)
+all_end p (c ∷ cs) e = and_right (p c) (list_all p (cs ++ 41 ∷ [])) (all_end p cs e)
 
 name_end : (a : ℕ) (cs : List ℕ) → is_name (a ∷ (cs ++ 41 ∷ [])) ≡ false
 unfolding is_name
-name_end a cs = and_false _ (list_all is_xid_continue (cs ++ 41 ∷ [])) (all_end is_xid_continue cs (is_xid_continue-ascii 41 (omega arith)))
+name_end a cs = and_right _ (list_all is_xid_continue (cs ++ 41 ∷ [])) (all_end is_xid_continue cs (is_xid_continue-ascii 41 (omega arith)))
 
 number_end : (cs : List ℕ) → is_number (cs ++ 41 ∷ []) ≡ false
-number_end cs = off (is_number (cs ++ 41 ∷ [])) (λ e. let h = number_plain (cs ++ 41 ∷ []) e in let f = all_end plain cs refl in
+number_end cs = false_from_ne_true (is_number (cs ++ 41 ∷ [])) (λ e. let h = number_plain (cs ++ 41 ∷ []) e in let f =
+    all_end plain cs refl in
     let z : false ≡ true = sym f ∙ h in cc)
 
 blanks_end : (a : ℕ) (cs : List ℕ) → are_blanks (a ∷ (cs ++ 41 ∷ [])) ≡ false
 unfolding are_blanks
-blanks_end a cs = and_false _ (list_all is_blank_char (cs ++ 41 ∷ [])) (all_end is_blank_char cs refl)
+blanks_end a cs = and_right _ (list_all is_blank_char (cs ++ 41 ∷ [])) (all_end is_blank_char cs refl)
 
 -- a single character, or one that ends otherwise
 abbrev stands_alone : List ℕ → Bool
@@ -130,21 +132,12 @@ stands_alone [] = true
 stands_alone (c ∷ []) = true
 stands_alone (c ∷ d ∷ t) = not (last_of d t == 41)
 
-one_of : (p : List ℕ → Bool) (t : List ℕ) (os : List (List ℕ)) → list_all p os ≡ true → list_any (bytes_eq t) os ≡ true → p t ≡ true
-one_of p t [] e h = cc
-one_of p t (o ∷ os) e h =
-    let q = and_parts (p o) (list_all p os) e in
-    ⊎_elim
-    (λ (i : bytes_eq t o ≡ true). ap p ((bytes_eq-Decides t o).0 i) ∙ q.0)
-    (λ (i : list_any (bytes_eq t) os ≡ true). one_of p t os q.1 i)
-    (or_parts (bytes_eq t o) (list_any (bytes_eq t) os) h)
-
 not_alone : (a : ℕ) (cs : List ℕ) → stands_alone (a ∷ (cs ++ 41 ∷ [])) ≡ false
 not_alone a [] = refl
 not_alone a (b ∷ cs) = rw (last_end b cs 41) refl
 
 operator_end : (a : ℕ) (cs : List ℕ) → is_operator (a ∷ (cs ++ 41 ∷ [])) ≡ false
-operator_end a cs = off (is_operator (a ∷ (cs ++ 41 ∷ []))) (λ e.
+operator_end a cs = false_from_ne_true (is_operator (a ∷ (cs ++ 41 ∷ []))) (λ e.
     let h = one_of stands_alone (a ∷ (cs ++ 41 ∷ [])) words refl (sym (by_words (a ∷ (cs ++ 41 ∷ []))) ∙ e) in
     let f = not_alone a cs in
     let z : false ≡ true = sym f ∙ h in
@@ -155,15 +148,15 @@ unfolding is_line_end
 feed_last d t e = ⊎_elim
     (λ (h : bytes_eq t (10 ∷ []) ≡ true). ap (last_of d) ((bytes_eq-Decides t (10 ∷ [])).0 h))
     (λ (h : bytes_eq t (13 ∷ 10 ∷ []) ≡ true). ap (last_of d) ((bytes_eq-Decides t (13 ∷ 10 ∷ [])).0 h))
-    (or_parts (bytes_eq t (10 ∷ [])) (bytes_eq t (13 ∷ 10 ∷ [])) e)
+    (or_cases (bytes_eq t (10 ∷ [])) (bytes_eq t (13 ∷ 10 ∷ [])) e)
 
 line_end_end : (cs : List ℕ) → is_line_end (cs ++ 41 ∷ []) ≡ false
-line_end_end cs = off (is_line_end (cs ++ 41 ∷ [])) (λ e. let z : 41 ≡ 10 = sym (last_end 0 cs 41)
+line_end_end cs = false_from_ne_true (is_line_end (cs ++ 41 ∷ [])) (λ e. let z : 41 ≡ 10 = sym (last_end 0 cs 41)
     ∙ feed_last 0 (cs ++ 41 ∷ []) e in omega arith)
 
 join_end : (a : ℕ) (cs : List ℕ) → is_join (a ∷ (cs ++ 41 ∷ [])) ≡ false
 unfolding is_join
-join_end a cs = and_false (a == 92) (is_line_end (cs ++ 41 ∷ [])) (line_end_end cs)
+join_end a cs = and_right (a == 92) (is_line_end (cs ++ 41 ∷ [])) (line_end_end cs)
 
 comment_end : (a : ℕ) (cs : List ℕ) → (a == 35) ≡ false → is_comment (a ∷ (cs ++ 41 ∷ [])) ≡ false
 unfolding is_comment

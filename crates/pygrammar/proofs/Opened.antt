@@ -1,5 +1,5 @@
 pub mod Counts
-mod Closing
+pub mod Closing
 pub mod Expressions
 pub mod Patterns
 mod Parts

@@ -3,7 +3,7 @@ mod Targets
 mod Entries
 mod Parameters
 mod Expressions
-mod Forms
+pub mod Forms
 mod Blocks
 mod FormattedStrings
 mod Numbers

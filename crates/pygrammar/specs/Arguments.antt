@@ -2,7 +2,7 @@
 use Rattle.std.specs.Prelude.{List, [], ◌∷◌, Option, Some, None, Bool, true, false, cond}
 use Rattle.pytree_node.specs.declared.operators.Context.TheVariants.{Load}
 use Rattle.pytree_node.specs.Trees
-use Rattle.pytree_node.specs.Trees.{Expr, Exprs, no_exprs, an_expr, Keywords, no_keyword, a_keyword, arguments}
+use Rattle.pytree_node.specs.Trees.{Expr, Exprs, no_exprs, an_expr, Keywords, no_keyword, a_keyword}
 use Rattle.pygrammar.specs.Entries.{Entry, Single, Spread, Doubled, Keyed}
 
 -- No plain one follows a `NAME =` or a `**`, and no `*` follows a `**`. The two flags: a `NAME =` or `**`, a `**` stood before.

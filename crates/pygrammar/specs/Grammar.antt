@@ -15,7 +15,7 @@ use Rattle.pygrammar.specs.declared.levels.Level.{Level}
 use Rattle.pygrammar.specs.declared.levels.Level.TheVariants.{Value, Stars, StarItem, Named, Expression, Or, Compare, BitOr, Factor, Power}
 use Rattle.pygrammar.specs.declared.levels.Level.TheVariants.{Await, Primary, Atom, Elem, Slices, Part, Slice, Subject}
 use Rattle.pytree_node.specs.Trees
-use Rattle.pytree_node.specs.Trees.{Expr, no_exprs, an_expr, OptionalExpr, absent, present, arg, Arguments, Identifier, exprs}
+use Rattle.pytree_node.specs.Trees.{Expr, no_exprs, an_expr, OptionalExpr, absent, present, arg, Arguments, exprs}
 use Rattle.pytree_node.specs.Trees.{Comprehension, comprehensions}
 use Rattle.pytree_node.specs.Values
 use Rattle.pyfstring.specs.declared.parts.Conversion.{Conversion}

@@ -10,7 +10,7 @@ use Rattle.pytree_node.specs.declared.profiles.Profile.{Profile}
 use Rattle.pygrammar.specs.declared.levels.Level.{Level}
 use Rattle.pygrammar.specs.declared.levels.Level.TheVariants.{Value, Stars, Named, Expression, Subject}
 use Rattle.pygrammar.specs.declared.pattern_levels.PatternLevel.TheVariants.{Patterns}
-use Rattle.pytree_node.specs.Trees.{Expr, Arguments, Keywords, no_keyword, Identifier, Stmt, Alias, Item, TypeParam, TypeVar, ParamSpec}
+use Rattle.pytree_node.specs.Trees.{Expr, no_keyword, Identifier, Stmt, Alias, Item, TypeParam, TypeVar, ParamSpec}
 use Rattle.pytree_node.specs.Trees.{TypeVarTuple, Return, Delete, Assign, TypeAlias, AugAssign, AnnAssign, Raise, Assert, Import}
 use Rattle.pytree_node.specs.Trees.{ImportFrom, Global, Nonlocal, ExprOf, Pass, Break, Continue}
 use Rattle.pytree_node.specs.Trees as Trees

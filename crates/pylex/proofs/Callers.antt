@@ -2,37 +2,34 @@
 -- first ones, the lexemes of a text, and the machine's run over these.
 --
 -- Carries: what pyast_command, pyparse_tokens, pyunparse_text, pytoken cite. On: Lexed, Finding, Run.
-use Rattle.std.proofs.Common.{◌≡◌, ℕ, zero, suc, ◌+◌, ◌≤◌, Bool, true, false, ◌&&◌, ◌==◌, List, [], ◌∷◌, drop, length, refl, sym, ap, ◌∙◌}
+use Rattle.std.proofs.Common.{◌≡◌, ℕ, zero, suc, ◌+◌, ◌≤◌, Bool, true, false, ◌==◌, List, [], ◌∷◌, drop, length, refl, sym, ap, ◌∙◌}
 use Rattle.std.proofs.Common.{subst, Some, None, slice_get, nat_le, arith}
 use Rattle.std.proofs.lemmas.Bool.Decides.{nat_tests}
 use lib.Pointwise.{bytes_decides}
+use Rattle.std.proofs.lemmas.Bool.{and_parts}
 use Rattle.pylex.specs.declared.entries.Entry.{Entry}
 use Rattle.pylex.specs.declared.entries.ListingFault.{ListingFault}
 use Rattle.pylex.specs.declared.entries.Step.{Step}
 use Rattle.pylex.specs.declared.entries.Step.TheVariants as steps
 use Rattle.pylex.specs.declared.kind.Kind.TheVariants as kinds
-use Rattle.pylex_lexeme.specs.Cuts.{begins_significant}
-use Rattle.pylex_lexeme.specs.Lexemes.{Lexeme, lexeme_at, cut, left_by_cut}
-use Rattle.pylex.specs.Lines.{is_significant, count_if}
+use Rattle.pylex_lexeme.specs.Lexemes.{cut, left_by_cut}
+use Rattle.pylex.specs.Lines.{count_if}
 use Rattle.pylex.specs.Cursors.{CursorParts, cursor, same_parts}
-use Rattle.pylex.specs.Laws.{LiesIn, AllLie, AreLexemes, IsCut, LongestWins}
-use Rattle.pylex.specs.Machine.{remaining, first_state}
+use Rattle.pylex.specs.Laws.{LiesIn, AllLie}
 use Rattle.pylex.specs.Listing.{Source, listing, rest, up_to_end, origin, steps_from}
 use Rattle.pylex.specs.Standing.{is_cursor_of, IsCursorOf}
 use Rattle.pylex.specs.Steps.{entries_of, fault_of, mark}
-use Rattle.pylex.proofs.Listers.Finding as finding
-use Rattle.pylex.proofs.MachineLaws.Lexed as lexed
-use Rattle.pylex.proofs.MachineLaws.Run as run
+pub use Rattle.pylex.proofs.Listing.Exactness.{scalars_of}
+pub use Rattle.pylex.proofs.Texts.Spaces.{spaces_utf8, spaces_chars, behind_spaces}
+pub use Rattle.pylex.proofs.MachineLaws.Lexed.{cut_lexed, is_cut, longest_wins}
+pub use Rattle.pylex.proofs.Listers.Finding.{significant_is}
+pub use Rattle.pylex.proofs.MachineLaws.Run.{listing_is}
 
 equals_itself : (n : ℕ) → (n == n) ≡ true
 equals_itself n = grind (arith, nat_tests)
 
 equal : (m n : ℕ) → (m == n) ≡ true → m ≡ n
 equal m n h = grind (arith, nat_tests)
-
-both : (a b : Bool) → (a && b) ≡ true → (a ≡ true) × (b ≡ true)
-both true b h = (refl, h)
-both false b h = cc
 
 same_flag : (a b : Bool) → count_if a ≡ count_if b → a ≡ b
 same_flag true true h = refl
@@ -54,12 +51,12 @@ same_cursor c d given offset row depth begun skip levels = built c.given d.given
 -- two cursors of the same parts are one
 pub same_is : (c d : CursorParts) → same_parts c d ≡ true → c ≡ d
 same_is c d h =
-    let a = both (c.given == d.given) _ h in
-    let b = both (c.offset == d.offset) _ a.1 in
-    let e = both (c.row == d.row) _ b.1 in
-    let f = both (c.depth == d.depth) _ e.1 in
-    let i = both (count_if c.begun == count_if d.begun) _ f.1 in
-    let j = both (c.skip == d.skip) _ i.1 in
+    let a = and_parts (c.given == d.given) _ h in
+    let b = and_parts (c.offset == d.offset) _ a.1 in
+    let e = and_parts (c.row == d.row) _ b.1 in
+    let f = and_parts (c.depth == d.depth) _ e.1 in
+    let i = and_parts (count_if c.begun == count_if d.begun) _ f.1 in
+    let j = and_parts (c.skip == d.skip) _ i.1 in
     same_cursor c d (equal _ _ a.0) (equal _ _ b.0) (equal _ _ e.0) (equal _ _ f.0) (same_flag _ _ (equal _ _ i.0)) (equal _ _ j.0)
     ((bytes_decides c.levels d.levels).0 j.1)
 
@@ -81,7 +78,7 @@ pub record IsBehind (c : CursorParts) (s : Source) : Type 0 where
 -- to be a cursor of a source is to be that behind so many of its entries
 pub is_behind : {c : CursorParts} {s : Source} → IsCursorOf c s → IsBehind c s
 unfolding is_cursor_of
-is_behind {c} {s} h = let t = both (nat_le c.given (length (entries_of (listing s)))) _ h in let w = t.0 in
+is_behind {c} {s} h = let t = and_parts (nat_le c.given (length (entries_of (listing s)))) _ h in let w = t.0 in
     record { within = grind (arith, nat_tests); is = same_is c (cursor s c.given) t.1 }
 
 is_within : (m n : ℕ) → m ≤ n → nat_le m n ≡ true
@@ -155,20 +152,3 @@ entry_lies text (steps.Entry d ∷ ss) zero e l h = let is : d ≡ e = cc in sub
 entry_lies text (steps.End ∷ ss) zero e l h = cc
 entry_lies text (steps.Fault f ∷ ss) zero e l h = cc
 entry_lies text (s ∷ ss) (suc k) e l h = entry_lies text ss k e l.1 h
-
-pub cut_lexed : (text : List ℕ) → AreLexemes text (cut text) (left_by_cut text)
-cut_lexed = lexed.cut_lexed
-
-pub is_cut : (text : List ℕ) → IsCut text
-is_cut = lexed.is_cut
-
-pub longest_wins : (text : List ℕ) → LongestWins text
-longest_wins = lexed.longest_wins
-
--- a lexeme makes its line logical exactly where it is seen to
-pub significant_is : (text : List ℕ) (x : Lexeme) → lexeme_at text ≡ Some x → is_significant x ≡ begins_significant text
-significant_is = finding.significant_is
-
--- a source is listed as the machine runs over its lexemes
-pub listing_is : (s : Source) → listing s ≡ mark kinds.Encoding [] origin origin ∷ remaining s.fault first_state s.text
-listing_is = run.listing_is

@@ -1,5 +1,5 @@
 -- Places, depth and lines. The lexemes before a place stand last first.
-use Rattle.std.specs.Prelude.{ℕ, ◌-◌, ◌+◌, Bool, ◌&&◌, ◌==◌, List, [], ◌∷◌, ◌++◌, length, drop, count_by, if◌then◌else◌}
+use Rattle.std.specs.Prelude.{ℕ, ◌-◌, Bool, ◌&&◌, ◌==◌, List, [], ◌∷◌, ◌++◌, length, drop, count_by, if◌then◌else◌}
 use Rattle.std.specs.List.{list_all, list_any}
 use Rattle.pylex_lexeme.specs.Lexemes.{Lexeme, is_blanks_class, is_line_end_class, is_significant_class, is_opener_class, is_closer_class}
 

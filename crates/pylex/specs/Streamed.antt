@@ -12,7 +12,6 @@ use Rattle.pylex.specs.declared.line_lister.ResumeFault.{ResumeFault}
 use Rattle.pylex.specs.declared.line_lister.ResumeFault.TheVariants as resumes
 use Rattle.pysource.specs.Limits.{source_limit}
 use Rattle.pysource.specs.declared.faults.LineError.TheVariants.{FailedRead}
-use Rattle.pysource.specs.declared.line_reader.LineRead.{LineRead}
 use Rattle.pysource.specs.declared.line_reader.LineRead.TheVariants as lines
 use Rattle.pylex_lexeme.specs.Lexemes.{left_by_cut, is_open_string}
 use Rattle.pylex.specs.LineState.{Comes, IsMeasuring, StopAhead}

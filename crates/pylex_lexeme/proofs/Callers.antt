@@ -1,5 +1,4 @@
 -- What other crates cite of pylex_lexeme.
-pub mod Booleans
 pub mod Fronts
 pub mod Lexemes
 pub mod Numbers

@@ -1,4 +1,3 @@
-mod Cases
 mod Computing
 mod Fronts
 mod Numbers

@@ -17,8 +17,8 @@ use Rattle.pytoken.specs.Refusals.{refusal}
 use Rattle.pygrammar.specs.Lines.{Line, are_proper}
 use Rattle.pygrammar.specs.Meets.{HighLine}
 use Rattle.pygrammar.specs.Blocks.{Block, Fault, FirstFault}
-use Rattle.pygrammar.specs.Refusals.{Code, Indentation, at, StartsAt, at_end, terminals, Formed, FirstUnread, Unread, too_high, no_match}
-use Rattle.pygrammar.specs.Refusals.{no_form, too_long, Accepted, Refused, by_tokens, by_line, by_block, by_height}
+use Rattle.pygrammar.specs.Refusals.{Code, Indentation, at, StartsAt, at_end, terminals, Formed, FirstUnread, Unread, too_high}
+use Rattle.pygrammar.specs.Refusals.{too_long, Accepted, Refused, by_tokens, by_line, by_block, by_height}
 use Rattle.pygrammar.specs.Refusals as code
 use Rattle.pygrammar.specs.Reading.{Fine, run, start}
 use Rattle.pygrammar.proofs.Callers.Blocks.{formed_flat, formed_proper, deep_is_high}

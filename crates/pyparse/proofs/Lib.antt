@@ -1,5 +1,5 @@
 mod TokenListLemmas
-mod PlaceLemmas
+mod LastLineLemmas
 mod ProgressLemmas
 mod FinishLemmas
 mod PlacedLemmas

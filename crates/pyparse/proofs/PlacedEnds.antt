@@ -1,6 +1,5 @@
 -- Carries: PlacedProgress::finish, Known::finish. On: the places of all lines of a source.
-use Rattle.std.proofs.Common.{◌≡◌, ℕ, Bool, false, List, [], length, sym, ap, ◌∙◌, subst}
-use Rattle.std.specs.Prelude.{Result, Ok, Err, IfOk}
+use Rattle.std.proofs.Common.{◌≡◌, ℕ, false, List, [], length, sym, ap, ◌∙◌, subst}
 use Rattle.pysource.specs.declared.places.Place.{Place}
 use Rattle.pylex.specs.Listing.{Source}
 use Rattle.pytree_node.specs.declared.profiles.Profile.{Profile}
@@ -21,11 +20,6 @@ use Rattle.pyparse.specs.Placed.{PlacedAs}
 use Rattle.pyparse.specs.Inner.PlacedLines.{PlacedLines, IsPlaced}
 use Rattle.pyparse.specs.Inner.Progressing.{Closes, is_unread}
 use Rattle.pyparse.proofs.FinishLemmas.{all_lines}
-
--- whatever is answered
-pub always : {A E P : Type 0} (r : Result A E) → P → IfOk r (λ (x : A). P)
-always (Ok x) p = p
-always (Err e) p = tt
 
 -- the places that are kept are those of the module
 pub placed_as : {profile : Profile} {s : Source} {k : ℕ} {end : Place} {p : PlacedProgress} (bytes : List ℕ)

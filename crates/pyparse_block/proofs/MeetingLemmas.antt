@@ -1,10 +1,8 @@
 -- What a header finds, and where decorators stand.
 --
 -- Carries: meet, mark.
-use Rattle.std.proofs.Common.{◌≡◌, List, [], ◌∷◌, ◌++◌, Some, None, Bool, true, false, cond, refl, ap, append-nil}
-use Rattle.std.specs.declared.alloc.Global.{Global}
-use Rattle.std.specs.declared.vec.Vec.{Vec}
-use Rattle.pytree_node.specs.Trees.{Expr, Stmt}
+use Rattle.std.proofs.Common.{◌≡◌, List, [], ◌++◌, Some, None, Bool, true, false, cond, refl, ap, append-nil}
+use Rattle.pytree_node.specs.Trees.{Stmt}
 use Rattle.pytree_node.specs.declared.expressions.Expr as given_expr
 use Rattle.pygrammar.specs.Lines.{Header, DefHead, if_header, elif_header, else_header, loop_header, with_header, try_header, except_header}
 use Rattle.pygrammar.specs.Lines.{finally_header, def_header, match_header, case_header}
@@ -14,8 +12,7 @@ use Rattle.pygrammar.specs.Reading.{PartialBlock}
 use Rattle.pygrammar.specs.Reading.{part, ended}
 use Rattle.pyparse_block.specs.declared.groups.Group as given_group
 use Rattle.pyparse_block.specs.declared.groups.Group.TheVariants as variant
-use Rattle.pyparse_block.specs.Inner.Meeting.{begins, closed, continues, marked, met}
-use Rattle.pyparse_block.specs.Values.{group_of}
+use Rattle.pyparse_block.specs.Inner.Meeting.{begins, closed, continues, met}
 
 -- what a header finds, by two tests
 abbrev pub by_tests : List Stmt → Group → Header → Answer PartialBlock
@@ -71,14 +68,3 @@ met_is d g (def_header t) = defines d g t
 met_is d g (match_header t) = new d g
 met_is d (Matching cs) (case_header p t) = on d (Matching cs)
 met_is d _ (case_header p t) = refl
-
--- a decorator behind others
-pub marked_more : (d : List Stmt) (es : List Expr) (e : Expr) → marked d (Marked es) e ≡ Fine (part d (Marked (es ++ e ∷ [])))
-marked_more d es e = on d (Marked (es ++ e ∷ []))
-
--- one that stands behind none
-pub marked_first : (d : List Stmt) (g : given_group.Group) (e : Expr) → ((es : Vec given_expr.Expr Global) → g ≡ variant.Marked es → ⊥) →
-    marked d (group_of g) e ≡ then (closed d (group_of g)) (λ ss. Fine (part ss (Marked (e ∷ []))))
-marked_first d (variant.Marked es) e h = absurd (h es refl)
-marked_first d variant.Idle e h = refl
-marked_first d _ e h = refl

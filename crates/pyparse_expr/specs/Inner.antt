@@ -1,5 +1,4 @@
 pub mod Arguments
-pub mod Aside
 pub mod Chains
 pub mod Clauses
 pub mod FormalHeights

@@ -1,5 +1,5 @@
 -- The parts of headers that were read and recorded, with their places.
-use Rattle.std.specs.Prelude.{◌≡◌, ℕ, List, ◌++◌, map, Some, true, false}
+use Rattle.std.specs.Prelude.{◌≡◌, ℕ, List, ◌++◌, Some, true, false}
 use Rattle.pytree_node.specs.Trees as Trees
 use Rattle.pytoken.specs.declared.values.terminals.Terminal.{Terminal}
 use Rattle.pygrammar.specs.Arguments.{in_order, keywords, positional}

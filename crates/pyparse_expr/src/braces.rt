@@ -9,7 +9,6 @@ ghost use Rattle.pygrammar.specs.Entries as entries;
 ghost use Rattle.pygrammar.specs.Precedence as precedence;
 ghost use Rattle.pygrammar.specs.Reader as reader;
 ghost use Rattle.pyparse_nodes.specs.Answers.{Answered, Failed};
-ghost use Rattle.pyparse_expr.specs.Inner.Aside.{Kept};
 ghost use Rattle.pyparse_expr.specs.Inner.Pairs.{PairAt, PairsAt, more_pairs_at, pair_of, pairs_of};
 ghost use Rattle.pyparse_expr.specs.Inner.PlacedLists.{PairPlaced, PairsPlaced};
 ghost use Rattle.pyparse_expr.specs.Inner.Readings.{inner_reads};
@@ -18,7 +17,7 @@ ghost use Rattle.pyparse_nodes.specs.Views.{Stands, seen};
 ghost use Rattle.pyplaces.specs.EntryPlaces as places;
 ghost use Rattle.pyplaces.specs.EntryPlaces.{EntryPlaces};
 ghost use Rattle.pyplaces.specs.Placed.{Placed, PlacedPiece};
-ghost use Rattle.pyplaces.specs.Recording.{Records};
+ghost use Rattle.pyplaces.specs.Recording.{Records, Kept};
 ghost use Rattle.pyplaces.specs.Stretches.{Stretch};
 ghost use Rattle.pytoken.specs.Terminals as terminals;
 

@@ -4,14 +4,14 @@ use Rattle.std.proofs.Common.{arith, length-append, append_assoc, Option, Some, 
 use Rattle.std.specs.List.{list_any, flat_map}
 use Rattle.std.specs.Str.{all_scalars}
 use Rattle.std.proofs.Math.Utf8.{scalar}
+use Rattle.std.proofs.lemmas.Bool.{and_parts, or_parts}
 use Rattle.pylex_lexeme.specs.Characters.{left_parenthesis, right_parenthesis}
 use Rattle.pylex_lexeme.specs.Chars.{bytes_in}
 use Rattle.pylex_lexeme.specs.Lexemes.{Lexeme, cut, left_by_cut}
-use Rattle.pylex_lexeme.proofs.Callers.Booleans.{and_parts, or_parts_false}
 use Rattle.pylex.specs.declared.kind.Kind.{Kind}
 use Rattle.pylex.specs.declared.kind.Kind.TheVariants as kinds
 use Rattle.pylex.specs.Spots.{kind_of}
-use Rattle.pylex.proofs.Callers.{is_cut}
+use Rattle.pylex.proofs.Callers.{is_cut, scalars_of}
 use Rattle.pyfstring_tokens.specs.FieldTokens.{FieldToken, field_tokens, opening, closing, is_gap, has_fault, closes_outer, has_comment}
 use Rattle.pyfstring_tokens.specs.Answers.{field_token}
 use Rattle.pyfstring_tokens.specs.Laws.{tokens_of}
@@ -37,10 +37,6 @@ pub scalars_back : (a b : List ℕ) → all_scalars (a ++ b) ≡ true → all_sc
 scalars_back [] b e = e
 scalars_back (c ∷ a) b e = scalars_back a b (and_parts (scalar c) (all_scalars (a ++ b)) e).1
 
-pub scalars_front : (a b : List ℕ) → all_scalars (a ++ b) ≡ true → all_scalars a ≡ true
-scalars_front [] b e = refl
-scalars_front (c ∷ a) b e = let p = and_parts (scalar c) (all_scalars (a ++ b)) e in rw p.0 (scalars_front a b p.1)
-
 pub scalars_drop : (n : ℕ) (cs : List ℕ) → all_scalars cs ≡ true → all_scalars (drop n cs) ≡ true
 scalars_drop zero cs e = e
 scalars_drop (suc n) [] e = refl
@@ -50,11 +46,11 @@ scalars_drop (suc n) (c ∷ cs) e = scalars_drop n cs (and_parts (scalar c) (all
 
 pub none_front : {A : Type 0} (p : A → Bool) (xs ys : List A) → list_any p (xs ++ ys) ≡ false → list_any p xs ≡ false
 none_front p [] ys e = refl
-none_front p (x ∷ xs) ys e = let q = or_parts_false (p x) (list_any p (xs ++ ys)) e in rw q.0 (none_front p xs ys q.1)
+none_front p (x ∷ xs) ys e = let q = or_parts (p x) (list_any p (xs ++ ys)) e in rw q.0 (none_front p xs ys q.1)
 
 pub none_back : {A : Type 0} (p : A → Bool) (xs ys : List A) → list_any p (xs ++ ys) ≡ false → list_any p ys ≡ false
 none_back p [] ys e = e
-none_back p (x ∷ xs) ys e = none_back p xs ys (or_parts_false (p x) (list_any p (xs ++ ys)) e).1
+none_back p (x ∷ xs) ys e = none_back p xs ys (or_parts (p x) (list_any p (xs ++ ys)) e).1
 
 pub flat_both : {A B : Type 0} (g : A → List B) (xs ys : List A)
     → length (flat_map g (xs ++ ys)) ≡ length (flat_map g xs) + length (flat_map g ys)
@@ -109,10 +105,10 @@ module _ (token : Kind → List ℕ → Walk → Walk) (ts : Kind → List ℕ �
           subst (λ (cs : List ℕ). all_scalars cs ≡ true) (append_assoc x.text (flat_map (λ (y : Lexeme). y.text) xs) left) u in
           let k = kind_of x.«class» true in
           let clean : list_any faulty (field_token x.«class» x.text ∷ tokens_of xs) ≡ false = rw gap at none in
-          let parts = or_parts_false (is_some (fault k x.text)) (list_any faulty (tokens_of xs)) clean in
+          let parts = or_parts (is_some (fault k x.text)) (list_any faulty (tokens_of xs)) clean in
           let next = token k x.text w in
           let here : count next ≡ count w + length (ts k x.text) =
-          fits k x.text (scalars_front x.text behind text_ok) (none_is (fault k x.text) parts.0) w in
+          fits k x.text (scalars_of x.text behind text_ok) (none_is (fault k x.text) parts.0) w in
           let rest = more (scalars_back x.text behind text_ok) parts.1 next in
           let size : length (flat_map own (field_token x.«class» x.text ∷ tokens_of xs)) ≡ length (ts k x.text)
           + length (flat_map own (tokens_of xs)) =
@@ -130,14 +126,14 @@ module _ (token : Kind → List ℕ → Walk → Walk) (ts : Kind → List ℕ �
       → count (past_expression token t w) ≡ count w + length (flat_map own (field_tokens t))
   unfolding past_expression is_faulty_by
   expression_fits first last t u sound w =
-      let parts = or_parts_false (has_fault t || closes_outer t || has_comment t) (list_any faulty (field_tokens t)) sound in
+      let parts = or_parts (has_fault t || closes_outer t || has_comment t) (list_any faulty (field_tokens t)) sound in
       let no = three_false (has_fault t) (closes_outer t) (has_comment t) parts.0 in
       let law = tokens_are_own t u in
       let all = law.all (law.whole no.0 no.1 no.2) in
       let xs = cut t in
       let inside = tokens_of xs ++ closing ∷ [] in
       let none : list_any faulty (opening ∷ inside) ≡ false = ap (list_any faulty) (sym all) ∙ parts.1 in
-      let among = none_front faulty (tokens_of xs) (closing ∷ []) (or_parts_false (faulty opening) (list_any faulty inside) none).1 in
+      let among = none_front faulty (tokens_of xs) (closing ∷ []) (or_parts (faulty opening) (list_any faulty inside) none).1 in
       let text_ok : all_scalars (flat_map (λ x. x.text) xs ++ left_by_cut t) ≡ true = ap all_scalars (sym (is_cut t).joined) ∙ u in
       let begun = over 1 w in
       let ended = past_each (past_lexeme token) xs begun in

@@ -5,7 +5,8 @@ use Rattle.std.specs.Prelude.{if◌then◌else◌}
 use Rattle.std.specs.List.{list_any, flat_map, prefix_len}
 use Rattle.std.specs.Str.{all_scalars}
 use Rattle.std.proofs.Math.Utf8.{scalar}
-use Rattle.pylex_lexeme.proofs.Callers.Booleans.{and_parts, or_parts_false}
+use Rattle.std.proofs.lemmas.Bool.{and_parts, or_parts}
+use Rattle.pylex.proofs.Callers.{scalars_of}
 use Rattle.pyfstring.specs.Characters.{exclamation_mark, colon, equals_sign, small_a, small_r, small_s, left_curly_bracket}
 use Rattle.pyfstring.specs.Characters.{right_curly_bracket}
 use Rattle.pyfstring.specs.declared.parts.Conversion.{Conversion}
@@ -19,7 +20,7 @@ use Rattle.pytoken.specs.Terminals.{Terminal, element_terminals}
 use Rattle.pyparse_marks.specs.TokenSpans.{Walk, Around, put, further, moved, past_each, past_text, with_kept, is_conversion}
 use Rattle.pyparse_marks.specs.TokenSpans.{past_conversion}
 use Rattle.pyparse_marks.specs.TokenSpans.{source_len, past_front, past_spec, past_part, past_spec_parts, past_body_parts}
-use Rattle.pyparse_marks.proofs.Fitting.{count, put_one, scalars_back, scalars_front, scalars_drop, none_front, none_back, flat_both}
+use Rattle.pyparse_marks.proofs.Fitting.{count, put_one, scalars_back, scalars_drop, none_front, none_back, flat_both}
 
 scalars_tail : (c : ℕ) (cs : List ℕ) → all_scalars (c ∷ cs) ≡ true → all_scalars cs ≡ true
 scalars_tail c cs e = (and_parts (scalar c) (all_scalars cs) e).1
@@ -101,7 +102,7 @@ module _ (expression : List ℕ → Walk → Walk) (terminals : List ℕ → Lis
         let spec = spec_elements elements f.spec in
         let behind = Field f.conversion f.text ∷ (spec ++ End ∷ []) in
         let inner = none_back (is_field_of faulty) (kept_elements f.kept) behind none in
-        let own = or_parts_false (faulty f.text) (fails (spec ++ End ∷ [])) inner in
+        let own = or_parts (faulty f.text) (fails (spec ++ End ∷ [])) inner in
         let front = past_front expression a f.kept f.text w in
         let last = past_spec past a f.spec front in
         let one : size (field_elements elements f) ≡ size (kept_elements f.kept) + size behind =
@@ -132,7 +133,7 @@ module _ (expression : List ℕ → Walk → Walk) (terminals : List ℕ → Lis
         let spec = specifies_ok said i.specifies (converts_ok i.converts (keeps_ok i.keeps behind)) in
         record {
           rest_ok = scalars_tail right_curly_bracket rest spec.0;
-          fit = field_fits f (scalars_front f.text i.after_expression whole) spec.1;
+          fit = field_fits f (scalars_of f.text i.after_expression whole) spec.1;
         }
 
     cut_said : {raw pairs : Bool} {Is : List ℕ → FieldParts S → List ℕ → Type 0} (is_raw has_pairs : Bool)

@@ -2,9 +2,6 @@ pub mod Callers
 mod Worked
 mod ByteLemmas
 mod Cutting
-mod BodyLemmas
-mod PrefixLemmas
-mod LastLemmas
 mod PassLemmas
 mod PartLemmas
 mod MarkLemmas

@@ -1,16 +1,16 @@
 -- Carries: pass_cut, pass_formatted, pass_front. On: what an f-string is cut into, and where it stands.
-use Rattle.std.proofs.Common.{◌≡◌, ℕ, ◌+◌, Bool, List, arith, Result, Ok, Err, refl, sym, ap, ap₂, ◌∙◌, Option, Some, None}
+use Rattle.std.proofs.Common.{◌≡◌, ℕ, ◌+◌, Bool, List, arith, Result, Ok, Err, sym, ap, ap₂, ◌∙◌, Option, Some, None}
 use Rattle.std.specs.Prelude.{OnOk}
 use Rattle.std.specs.Str.{chars, encode_utf8_all, IsUtf8}
 use Rattle.std.proofs.lemmas.Str.{encodes-chars}
-use Rattle.pyfstring.specs.declared.parts.Manner.{Manner}
 use Rattle.pyfstring.specs.Parts.{BodyPart}
 use Rattle.pyfstring.specs.Pieces.{IsCut}
 use Rattle.pyfstring.specs.Cutting.{cut_of}
 use Rattle.pyfstring.specs.Laws.{IsMalformed}
-use Rattle.pyfstring.proofs.Callers.Law.{cut_of_sound, cut_of_complete}
+use Rattle.pyfstring.proofs.Callers.Law.{cut_of_complete}
 use Rattle.pylex_lexeme.specs.Chars.{bytes_in}
 use Rattle.pytoken.specs.StringValues.{with_line_feeds, is_raw, body_of}
+use Rattle.pytoken.proofs.Callers.Bodies.{no_cut}
 use Rattle.pyparse_marks.specs.declared.spans.Span as given
 use Rattle.pyparse_marks.specs.Spans.{Span, span, told}
 use Rattle.pyparse_marks.specs.TokenSpans.{Walk, Around, put, further, moved, around, parts_of, past_cut, past_body_parts, with_kept}
@@ -25,13 +25,6 @@ pub parts_cut : (is_nested raw : Bool) (t body : List ℕ) (parts : List BodyPar
     → IsCut (record { is_raw = raw; is_nested = is_nested }) body parts → parts_of is_nested t ≡ Some parts
 parts_cut is_nested raw t body parts marked between cut =
     same_cut is_nested raw t body marked between ∙ cut_of_complete _ body parts cut
-
-no_cut : (m : Manner) (body : List ℕ) → IsMalformed m body → cut_of m body ≡ None
-no_cut m body malformed = by_cut (cut_of m body) refl
-  where
-    by_cut : (o : Option (List BodyPart)) → cut_of m body ≡ o → o ≡ None
-    by_cut None is = refl
-    by_cut (Some parts) is = absurd (malformed parts (cut_of_sound m body parts is))
 
 pub no_parts : (is_nested raw : Bool) (t body : List ℕ) → raw ≡ is_raw (with_line_feeds t) → body ≡ body_of t
     → IsMalformed (record { is_raw = raw; is_nested = is_nested }) body → parts_of is_nested t ≡ None

@@ -1,32 +1,9 @@
 -- Carries: pass_expression, pass_spec_pieces, pass_pieces. On: what is passed one after another.
-use Rattle.std.proofs.Common.{◌≡◌, ℕ, zero, suc, ◌+◌, ◌<◌, ◌≤◌, List, [], ◌∷◌, length, drop, map, get_or, refl, sym, ap, ◌∙◌, arith}
+use Rattle.std.proofs.Common.{◌≡◌, ℕ, ◌+◌, ◌<◌, ◌≤◌, List, length, drop, map, get_or, sym, ap, ◌∙◌}
 use Rattle.std.proofs.Common.{Result, Ok, Err}
 use Rattle.std.specs.Prelude.{OnOk}
+use Rattle.pytoken.proofs.Callers.Bodies.{dropped, none_left}
 use Rattle.pyparse_marks.specs.TokenSpans.{Walk, past_each}
-
-dropped_one : {A : Type 0} (xs : List A) (i : ℕ) (x : A) → i < length xs → x ≡ get_or xs i x → drop i xs ≡ x ∷ drop (suc i) xs
-dropped_one [] i x lt read = absurd (omega (arith, lt))
-dropped_one (y ∷ ys) zero x lt read = ap (λ z. z ∷ ys) (sym read)
-dropped_one (y ∷ ys) (suc i) x lt read = dropped_one ys i x (omega (arith, lt)) read
-
--- what is left of a list, where an item is read
-dropped : {A : Type 0} (xs : List A) (i : ℕ) (x : A) → i < length xs → x ≡ get_or xs i x → drop i xs ≡ x ∷ drop (i + 1) xs
-dropped xs i x lt read =
-    let next : suc i ≡ i + 1 = omega arith in
-    dropped_one xs i x lt read ∙ ap (λ n. x ∷ drop n xs) next
-
--- what is read is the same by any default
-pub read_again : {A : Type 0} (xs : List A) (i : ℕ) (d : A) → i < length xs → get_or xs i d ≡ get_or xs i (get_or xs i d)
-read_again [] i d lt = absurd (omega (arith, lt))
-read_again (x ∷ xs) zero d lt = refl
-read_again (x ∷ xs) (suc i) d lt = read_again xs i d (omega (arith, lt))
-
--- nothing is left
-none_left : {A : Type 0} (xs : List A) (i : ℕ) → length xs ≤ i → drop i xs ≡ []
-none_left [] zero h = refl
-none_left [] (suc i) h = refl
-none_left (x ∷ xs) zero h = absurd (omega (arith, h))
-none_left (x ∷ xs) (suc i) h = none_left xs i (omega (arith, h))
 
 -- Past the items so far, what is still to come leads to the end.
 abbrev pub Leads : {A B : Type 0} → (A → Walk → Walk) → (B → A) → Walk → Walk → List B → ℕ → Type 0

@@ -1,7 +1,7 @@
 -- Texts among the values of a JoinedStr.
 --
 -- Carries: end_values. On: Pushes.
-use Rattle.std.proofs.Common.{◌≡◌, refl, sym, ap, ◌∙◌, ℕ, List, [], ◌∷◌, ◌++◌, map, length, ◌==◌, Bool, true, false}
+use Rattle.std.proofs.Common.{◌≡◌, refl, sym, ap, ◌∙◌, ℕ, List, [], ◌∷◌, ◌++◌, map, length, ◌==◌, Bool, false}
 use Rattle.pytree_node.specs.Trees
 use Rattle.pytree_node.specs.Values
 use Rattle.pytree_node.specs.TreeOf.{tree_of}

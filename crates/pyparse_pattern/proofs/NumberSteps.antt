@@ -21,26 +21,13 @@ use Rattle.pyparse_nodes.specs.declared.stop.Stop.{Stop}
 use Rattle.pyparse_nodes.specs.declared.stop.Stop.TheVariants as stop
 use Rattle.pyparse_nodes.specs.Answers.{Answered, Failed, Makes}
 use Rattle.pyparse_nodes.specs.Views.{Stands, first_is, first_of, seen}
-use Rattle.pyparse_expr.proofs.Callers.Looks.{first_hit, front, seen_next}
+use Rattle.pyparse_expr.proofs.Callers.Looks.{first_hit, front, low_node, seen_next}
 use Rattle.pyparse_pattern.specs.declared.numbers.Number as found
 use Rattle.pyparse_pattern.specs.Inner.Values.{NoNumberAt, NumberAt, summed}
 
 -- a terminal of the program stands
 pub stands_here : (ts : List given.Terminal) (at : ℕ) (t : Terminal) → at < length ts → first_of (seen ts at) ≡ Some t → Stands t ts at
 stands_here ts at t w h = record { within = w; is = front ts at t h }
-
--- an expression of a height below a limit
-pub low_node : (ts : List given.Terminal) (room least : ℕ) (e : Expr) (n : ℕ) (z : Result Read Stop) → least ≤ n → n ≤ length ts
-    → height e ≤ room → Makes room e n z → Answered ts room least (Found e (seen ts n)) z
-low_node ts room least e n (Ok r) le w b h = record {
-  ahead = omega (arith, le, h.next_is);
-  within = omega (arith, w, h.next_is);
-  low = h.low;
-  is = ap (λ t. Found t (seen ts n)) (sym h.tree) ∙ ap (λ m. Found (tree_of r.expr.value) (seen ts m)) (sym h.next_is);
-}
-low_node ts room least e n (Err stop.NoForm) le w b h = absurd h
-low_node ts room least e n (Err stop.TooDeep) le w b h = absurd (omega (arith, b, h))
-low_node ts room least e n (Err stop.Memory) le w b h = tt
 
 not_deep : (i : List Terminal) → on_first number_in i (λ v r. Found v r) NoForm ≡ TooDeep → ⊥
 not_deep [] h = absurd (cc)

@@ -1,7 +1,6 @@
 -- The places that the readers record.
 pub mod Entries
 pub mod Levels
-pub mod Looks
 pub mod Made
 pub mod Sequences
 pub mod Values

@@ -1,12 +1,9 @@
 -- Carries: spell_match, read_line. On: the texts of a line's first and last token, and
 -- the last token of a source.
-use Rattle.std.proofs.Common.{◌≡◌, ℕ, Bool, true, false, List, [], ◌∷◌, ◌++◌, length, refl, sym, ap, ◌∙◌, inl, inr, append_assoc, ◌<◌}
+use Rattle.std.proofs.Common.{◌≡◌, ℕ, Bool, true, false, List, [], ◌∷◌, ◌++◌, length, refl, sym, ap, ◌∙◌, append_assoc, ◌<◌}
 use Rattle.std.proofs.Common.{arith, Some, None}
 use Rattle.std.specs.Prelude.{◌&&◌}
-use Rattle.std.specs.Str.{chars, bytes_eq, IsUtf8, IsAscii, encode_utf8_all}
-use Rattle.std.proofs.lemmas.Bool.{cases_Bool, both_ways, false_from_ne_true}
-use Rattle.std.proofs.lemmas.Slice.Eq.{bytes_eq-Decides}
-use Rattle.std.proofs.lemmas.Str.{chars-IsAscii, encodes-chars, encodes-IsAscii}
+use Rattle.std.specs.Str.{bytes_eq, IsAscii}
 use Rattle.std.proofs.lemmas.Str.Ascii.{IsAscii-nil, IsAscii-cons}
 use Rattle.pylex.specs.declared.kind.Kind.TheVariants as kinds
 use Rattle.pylex.specs.declared.entries.Entry.{Entry}
@@ -34,19 +31,6 @@ match_is_ascii =
 
 pub colon_is_ascii : IsAscii (58 ∷ [])
 colon_is_ascii = IsAscii-cons 58 [] (omega arith) IsAscii-nil
-
--- a text is an ASCII word by its characters where it is by its bytes
-pub same_word : (bs word : List ℕ) → IsUtf8 bs → IsAscii word → bytes_eq (chars bs) word ≡ bytes_eq bs word
-same_word bs word utf8 ascii = elim (cases_Bool (bytes_eq bs word)) [
-  | inl same ↦
-      let is = (bytes_eq-Decides bs word).0 same in
-      (bytes_eq-Decides (chars bs) word).1 (ap chars is ∙ chars-IsAscii word ascii) ∙ sym same
-  | inr other ↦
-      false_from_ne_true (bytes_eq (chars bs) word) (λ same.
-      let is = (bytes_eq-Decides (chars bs) word).0 same in
-      let whole = sym (encodes-chars bs utf8) ∙ ap encode_utf8_all is ∙ encodes-IsAscii word ascii in
-      both_ways (bytes_eq bs word) other ((bytes_eq-Decides bs word).1 whole)) ∙ sym other
-]
 
 -- ---- The ends of a line.
 

@@ -1,5 +1,5 @@
 -- Carries: Indents::take, tokens_of. On: the first mixed line, behind more lines.
-use Rattle.std.proofs.Common.{◌≡◌, ℕ, zero, suc, ◌<◌, Bool, true, false, List, [], ◌∷◌, ◌++◌, ◌+◌, ◌-◌, ◌≤◌, length, take, drop, refl, sym}
+use Rattle.std.proofs.Common.{◌≡◌, ℕ, zero, suc, ◌<◌, true, false, List, [], ◌∷◌, ◌++◌, ◌+◌, ◌-◌, ◌≤◌, length, take, drop, refl, sym}
 use Rattle.std.proofs.Common.{ap, ap₂, subst, ◌∙◌}
 use Rattle.std.proofs.Common.{arith, length-append, length-take, take-append-drop, Option, Some, None, append_assoc, append-nil}
 use Rattle.pysource.specs.declared.places.Place.{Place}
@@ -13,10 +13,11 @@ use Rattle.pylex_lexeme.specs.Chars.{is_blank_char}
 use Rattle.pylex.specs.Indentation.{width_from}
 use Rattle.pylex.specs.Margins.{blanks_of, width_by_one, widths_of}
 use Rattle.pyparse_tokens.proofs.TextLemmas.{past, no_chars}
-use Rattle.std.specs.Prelude.{replicate, if◌then◌else◌}
+use Rattle.std.specs.Prelude.{replicate}
 use Rattle.std.specs.Option.{is_some, option_or}
 use Rattle.std.specs.List.{list_any}
 use Rattle.pylex.specs.declared.margins.Widths.{Widths}
+use Rattle.pylex.proofs.Callers.{spaces_utf8, spaces_chars, behind_spaces}
 use Rattle.pytoken.specs.declared.refusals.Refusal.{Refusal}
 use Rattle.pytoken.specs.declared.refusals.Refusal.TheVariants.{MixedTabs}
 use Rattle.pytoken.specs.Inner.Behind.{behind}
@@ -44,10 +45,6 @@ pub takes_none : (text : List ℕ) (o : ℕ) (i : Indents) → is_logical_at tex
 takes_none text o i other ms had =
     let none : margin_at text o ≡ [] = rw other refl in
     subst (λ (ls : List Margin). Measured ls i) (sym (ap (λ (ls : List Margin). ms ++ ls) none ∙ append-nil ms)) had
-
-pub none_of : (o : Option Refusal) → is_some o ≡ false → o ≡ None
-none_of (Some r) h = absurd cc
-none_of None h = refl
 
 some_of : (o : Option Refusal) → is_some o ≡ true → (r : Refusal) × (o ≡ Some r)
 some_of (Some r) h = (r, refl)
@@ -80,9 +77,6 @@ mixed_one ms m none = mixed_on [] ms (m ∷ []) ∙ (rw none (or_none (margin_re
     or_none : (r : Option Refusal) → option_or r None ≡ r
     or_none (Some x) = refl
     or_none None = refl
-
-mixed_by : (m : Margin) (b : Bool) → Option Refusal
-mixed_by m b = if b then Some (MixedTabs m.start) else None
 
 -- a mixed line was taken
 pub takes_mixed : (text : List ℕ) (o : ℕ) (w : Widths) (old new : Indents) → is_logical_at text o ≡ true
@@ -170,29 +164,11 @@ stops_at_end start now had none = stopped start now had (ap blanks_of (no_chars 
 
 -- Spaces at the front of a text
 
-space_front : (t : List ℕ) → 32 ∷ t ≡ encode_utf8 32 ++ t
-space_front t = sym (ap (λ (front : List ℕ). front ++ t) (encode_ascii 32 (omega arith)))
-
-spaces_utf8 : (n : ℕ) (rest : List ℕ) → IsUtf8 (replicate n 32 ++ rest) → IsUtf8 rest
-spaces_utf8 zero rest utf8 = utf8
-spaces_utf8 (suc n) rest utf8 =
-    spaces_utf8 n rest (past (32 ∷ (replicate n 32 ++ rest)) (replicate n 32 ++ rest) 32 utf8 (space_front (replicate n 32 ++ rest))).utf8
-
-spaces_chars : (n : ℕ) (rest : List ℕ) → IsUtf8 (replicate n 32 ++ rest) → chars (replicate n 32 ++ rest) ≡ replicate n 32 ++ chars rest
-spaces_chars zero rest utf8 = refl
-spaces_chars (suc n) rest utf8 =
-    let s = past (32 ∷ (replicate n 32 ++ rest)) (replicate n 32 ++ rest) 32 utf8 (space_front (replicate n 32 ++ rest)) in
-    s.same ∙ ap (λ (t : List ℕ). 32 ∷ t) (spaces_chars n rest s.utf8)
-
 spaces_blanks : (n : ℕ) (cs : List ℕ) → begins_blank cs ≡ false → blanks_of (replicate n 32 ++ cs) ≡ replicate n 32
 spaces_blanks zero [] other = refl
 spaces_blanks zero (c ∷ cs) other = take_while-cons is_blank_char c cs ∙ (rw other refl)
 spaces_blanks (suc n) cs other =
     take_while-cons is_blank_char 32 (replicate n 32 ++ cs) ∙ ap (λ (t : List ℕ). 32 ∷ t) (spaces_blanks n cs other)
-
-behind_spaces : (n : ℕ) (cs : List ℕ) → drop n (replicate n 32 ++ cs) ≡ cs
-behind_spaces zero cs = refl
-behind_spaces (suc n) cs = behind_spaces n cs
 
 eight_spaces : (m n : ℕ) → width_from m (replicate n 32) ≡ m + n
 unfolding width_from

@@ -6,7 +6,7 @@ use Rattle.std.proofs.Common.{inl, inr, arith, take-append-drop, Some, append-ni
 use Rattle.std.specs.Prelude.{nat_lt, nat_le, filter, slice_get}
 use Rattle.std.specs.List.{list_any, list_all}
 use Rattle.std.proofs.Math.ListN.{drop_of_length-le}
-use Rattle.std.proofs.lemmas.Bool.{cases_Bool, and_from, and_parts}
+use Rattle.std.proofs.lemmas.Bool.{cases_Bool, and_from, and_parts, or_parts, not-false}
 use Rattle.std.proofs.lemmas.Bool.Decides.{nat_tests}
 use Rattle.std.proofs.lemmas.List.Elements.{filter-append}
 use Rattle.std.proofs.lemmas.List.Folds.{list_any-append}
@@ -47,14 +47,6 @@ or_twice true true = refl
 or_twice true false = refl
 or_twice false true = refl
 or_twice false false = refl
-
-or_neither : (a b : Bool) → (a || b) ≡ false → (a ≡ false) × (b ≡ false)
-or_neither true b h = absurd cc
-or_neither false b h = (refl, h)
-
-not_false : (a : Bool) → not a ≡ false → a ≡ true
-not_false true h = refl
-not_false false h = absurd cc
 
 and_assoc : (a b c : Bool) → ((a && b) && c) ≡ (a && (b && c))
 and_assoc true b c = refl
@@ -184,8 +176,8 @@ once : (p : Widths → Bool) (ws : List Widths) (w : Widths) → clashes ws w �
     → (list_any p (narrower ws w) || p w) ≡ (list_any p (filter (λ v. nat_le v.eight w.eight) ws) || p w)
 once p [] w none = refl
 once p (v ∷ ws) w none =
-    let parts = or_neither (not (are_alike v w)) (clashes ws w) none in
-    let alike = not_false (are_alike v w) parts.0 in
+    let parts = or_parts (not (are_alike v w)) (clashes ws w) none in
+    let alike = not-false (are_alike v w) parts.0 in
     let within : Widths → Bool = λ v. nat_le v.eight w.eight in
     let more = once p ws w parts.1 in
     elim (cases_Bool (nat_lt v.eight w.eight)) [
@@ -205,8 +197,8 @@ once p (v ∷ ws) w none =
 narrower_less : (ws : List Widths) (w : Widths) → clashes ws w ≡ false → list_all (λ v. is_less v w) (narrower ws w) ≡ true
 narrower_less [] w none = refl
 narrower_less (v ∷ ws) w none =
-    let parts = or_neither (not (are_alike v w)) (clashes ws w) none in
-    let alike = not_false (are_alike v w) parts.0 in
+    let parts = or_parts (not (are_alike v w)) (clashes ws w) none in
+    let alike = not-false (are_alike v w) parts.0 in
     elim (cases_Bool (nat_lt v.eight w.eight)) [
       | inl below ↦ rw below (and_from (is_less v w) (list_all (λ v. is_less v w) (narrower ws w)) (alike_less v w alike below)
           (narrower_less ws w parts.1))

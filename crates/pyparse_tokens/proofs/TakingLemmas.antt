@@ -1,11 +1,10 @@
 -- Carries: take_token, take_operator, take_line_end, take_lexeme. On: what is kept of a lexeme of the line that
 -- is open is what is kept of its entry.
-use Rattle.std.proofs.Common.{◌≡◌, ℕ, ◌-◌, ◌<◌, Bool, true, false, not, List, [], ◌∷◌, ◌++◌, length, map, refl, sym, ap, ap₂, subst, ◌∙◌}
+use Rattle.std.proofs.Common.{◌≡◌, ℕ, ◌-◌, ◌<◌, Bool, true, false, not, List, [], ◌∷◌, ◌++◌, length, map, refl, sym, ap, subst, ◌∙◌}
 use Rattle.std.proofs.Common.{append-nil, arith, Option, Some, None}
 use Rattle.std.specs.Prelude.{if◌then◌else◌, Result, Ok, Err, OnOk}
 use Rattle.std.specs.Option.{option_or}
 use Rattle.std.specs.Str.{chars}
-use Rattle.std.proofs.lemmas.Bool.{and_parts}
 use Rattle.pysource.specs.declared.places.Place.{Place}
 use Rattle.pylex_lexeme.specs.declared.kinds.Exact.{Exact}
 use Rattle.pylex_lexeme.specs.declared.lexeme.Class.{Class}
@@ -19,7 +18,7 @@ use Rattle.pytree_node.specs.declared.profiles.Extent.{Extent}
 use Rattle.pytoken.specs.declared.refusals.Refusal.{Refusal}
 use Rattle.pytoken.specs.declared.refusals.Refusal.TheVariants.{TooDeep}
 use Rattle.pytoken.specs.declared.values.terminals.Terminal.{Terminal}
-use Rattle.pytoken.specs.Indentation.{Margin, margin_at}
+use Rattle.pytoken.specs.Indentation.{Margin}
 use Rattle.pytoken.specs.Terminals
 use Rattle.pytoken.specs.Terminals.{single_fault, terminals_of, fault_of}
 use Rattle.pytoken.specs.TerminalOf.{terminal}
@@ -30,14 +29,14 @@ use Rattle.pyparse_tokens.specs.declared.pass.Pass.{Pass}
 use Rattle.pyparse_tokens.specs.declared.open_line.OpenLine.{OpenLine}
 use Rattle.pyparse_tokens.specs.declared.line_gather.LineGather.{LineGather}
 use Rattle.pyparse_tokens.specs.Inner.Indenting.{Measured, Measures}
-use Rattle.pyparse_tokens.specs.Inner.Passing.{still_open, line_ends, exceeding, counted, given_margins, Gains}
+use Rattle.pyparse_tokens.specs.Inner.Passing.{still_open, line_ends, exceeding, Gains}
 use Rattle.pyparse_tokens.specs.Inner.OpenLines.{of_first, Pushes}
 use Rattle.pyparse_tokens.specs.Inner.LineGathering.{stands_in_line, ends_open_line, is_indent, is_dedent, marker_behind, own_terminals}
 use Rattle.pyparse_tokens.specs.Inner.LineGathering.{Adds, TakesEntry}
-use Rattle.pyparse_tokens.specs.Inner.Walking.{IsEntry, Takes, is_plain_token, line_end_kind, TakesLineEnd, TakesLexeme, PassesOperator}
+use Rattle.pyparse_tokens.specs.Inner.Walking.{IsEntry, Takes, line_end_kind, TakesLineEnd, TakesLexeme, PassesOperator}
 use Rattle.pyparse_tokens.specs.Inner.Walking.{PassesLineEnd}
 use Rattle.pytoken.proofs.Callers.Singles.{of_single}
-use Rattle.pyparse_tokens.proofs.TerminalLemmas.{no_refusal, pushed_adds}
+use Rattle.pyparse_tokens.proofs.TerminalLemmas.{no_refusal}
 use Rattle.pyparse_tokens.proofs.OperatorLemmas.{operator_faultless, operator_adds}
 
 -- an entry of this type and exact type
@@ -81,37 +80,6 @@ record IsWithin (k : Kind) : Type 0 where
   pub indent : is_indent k ≡ false
   pub dedent : is_dedent k ≡ false
   pub marker : (e : Entry) (p : Place) → e.kind ≡ k → marker_behind e p ≡ p
-
-is_within : (k : Kind) → is_plain_token k ≡ true → IsWithin k
-is_within kinds.Name plain =
-    record { stands = refl; goes = refl; stays = refl; inner = λ o c. refl; indent = refl; dedent = refl; marker = λ e p is. rw is refl }
-is_within kinds.Number plain =
-    record { stands = refl; goes = refl; stays = refl; inner = λ o c. refl; indent = refl; dedent = refl; marker = λ e p is. rw is refl }
-is_within kinds.String plain =
-    record { stands = refl; goes = refl; stays = refl; inner = λ o c. refl; indent = refl; dedent = refl; marker = λ e p is. rw is refl }
-is_within kinds.Op plain = absurd cc
-is_within kinds.Comment plain = absurd cc
-is_within kinds.Encoding plain = absurd cc
-is_within kinds.Nl plain = absurd cc
-is_within kinds.Newline plain = absurd cc
-is_within kinds.Indent plain = absurd cc
-is_within kinds.Dedent plain = absurd cc
-is_within kinds.EndMarker plain = absurd cc
-
-token_gains : (text : List ℕ) (e : Entry) (k : Kind) (old : Pass) → IsWithin k → old.begun ≡ true
-    → Gains text (as_entry e k None) None old old
-token_gains text e k old within begun =
-    let none : given_margins text (as_entry e k None) old.opened old.closed ≡ [] =
-    ap (λ (b : Bool). if b then margin_at text e.to else []) (within.inner old.opened old.closed) in
-    record {
-      extent = refl;
-      begun = begun ∙ sym (ap (still_open k) begun ∙ within.stays);
-      opened = refl;
-      closed = refl;
-      faulty = or_none old.faulty;
-      deep = or_none old.deep;
-      indents = subst (λ (ms : List Margin). Measures ms old.indents old.indents) (sym none) (none_measured old.indents);
-    }
 
 -- ---- What is kept of the line.
 
@@ -166,38 +134,6 @@ operator_takes x own old new begun some passes pushes rest text e is =
           operator_adds text e x old.line new.line is.has is.exact
           (later old.line.start e.start own (text_of text e) (Terminals.Op x ∷ []) old.line new.line some (sym is.own_text) pushes);
     }
-
--- a name, a number or a string without a fault
-pub token_takes : (k : Kind) (own : List ℕ) (old new : LineGather) → is_plain_token k ≡ true → old.pass.begun ≡ true
-    → 0 < length old.line.terminals.items → fault_of old.pass.extent k own ≡ None
-    → Pushes old.line.start own (terminals_of k own) old.line new.line
-    → new ≡ record old { line = new.line } → Takes k None own old new
-token_takes k own old new plain begun some sound pushes rest text e is =
-    let within = is_within k plain in
-    let none : entry_refusal old.pass.extent text e ≡ None =
-    no_refusal old.pass.extent text e (ap₂ (fault_of old.pass.extent) is.kind is.own_text ∙ sound) in
-    let pass : new.pass ≡ old.pass = ap (λ (g : LineGather). g.pass) rest in
-    let gains : Gains text e None old.pass old.pass =
-    subst (λ (d : Entry). Gains text d None old.pass old.pass) (entry_as e k None is.kind is.exact)
-    (token_gains text e k old.pass within begun) in
-    record {
-      pass =
-          subst (λ (p : Pass). Gains text e (entry_refusal old.pass.extent text e) old.pass p) (sym pass)
-          (subst (λ (r : Option Refusal). Gains text e r old.pass old.pass) (sym none) gains);
-      level = λ ends.
-          let ended = (and_parts (ends_open_line e.kind) old.pass.begun ends).0 in
-          absurd (not_both (ends_open_line e.kind) ended (ap ends_open_line is.kind ∙ within.goes));
-      indents = ap (λ (g : LineGather). g.indents) rest ∙ sym (ap (counted old.indents) (ap is_indent is.kind ∙ within.indent));
-      dedents = ap (λ (g : LineGather). g.dedents) rest ∙ sym (ap (counted old.dedents) (ap is_dedent is.kind ∙ within.dedent));
-      marker = ap (λ (g : LineGather). g.marker) rest ∙ sym (within.marker e old.marker is.kind);
-      line = λ _.
-          pushed_adds text e (terminals_of k own) old.line new.line (ap stands_in_line is.kind ∙ within.stands)
-          (sym (ap₂ terminals_of is.kind is.own_text))
-          (later old.line.start e.start own (text_of text e) (terminals_of k own) old.line new.line some (sym is.own_text) pushes);
-    }
-  where
-    not_both : (b : Bool) → b ≡ true → b ≡ false → ⊥
-    not_both b t f = cc
 
 line_end_faultless : (extent : Extent) (text : List ℕ) (e : Entry) (b : Bool) → e.kind ≡ line_end_kind b
     → entry_refusal extent text e ≡ None

@@ -1,6 +1,5 @@
 -- The laws of places.
 mod Many
-mod Sums
 mod Contexts
 mod Parameters
 mod Entries

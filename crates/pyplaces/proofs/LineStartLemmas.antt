@@ -1,10 +1,10 @@
 -- Where the lines of a text start, and the places that are shown by that.
 --
 -- Carries: line_starts, lines_up_to, shown_at, Places::new, and the law of shown places.
-use Rattle.std.proofs.Common.{◌≡◌, refl, sym, ap, ◌∙◌, ℕ, zero, suc, ◌+◌, ◌-◌, ◌<◌, ◌≤◌, arith, List, [], ◌∷◌, ◌++◌, Bool, true, false}
+use Rattle.std.proofs.Common.{◌≡◌, refl, sym, ap, ◌∙◌, ℕ, zero, suc, ◌+◌, ◌-◌, ◌<◌, ◌≤◌, arith, List, [], ◌∷◌, Bool, true, false}
 use Rattle.std.proofs.Common.{cond}
 use Rattle.pysource.specs.Limits.{source_limit}
-use Rattle.std.proofs.Common.{◌==◌, ◌^◌, subst, length, drop, get_or, append_assoc, nat_lt}
+use Rattle.std.proofs.Common.{◌==◌, ◌^◌, subst, length, drop, get_or, nat_lt}
 use Rattle.std.specs.Prelude.{count_by, nat_le, slice_index, slice_index_or, take, map}
 use Rattle.std.proofs.lemmas.Bool.{ltb-true, ltb-false, leb-true, leb-false}
 use Rattle.pytree_marked.specs.MarkedNodes.{Attributes}
@@ -13,7 +13,7 @@ use Rattle.pyparse_marks.specs.declared.spans.Span as given
 use Rattle.pyplaces.specs.Stretches.{Span, span}
 use Rattle.pyplaces.specs.Recording.{told}
 use Rattle.pyplaces.specs.PlacesOf.{PlacesOf}
-use Rattle.std.proofs.lemmas.List.{append-nil, drop_all, drop_more}
+use Rattle.std.proofs.lemmas.List.{drop_all, drop_more}
 use Rattle.std.proofs.lemmas.List.Sums.{sum_by-cons}
 use Rattle.pylex_lexeme.specs.Characters.{line_feed}
 use Rattle.pyplaces.specs.LineStarts.{Rising, attributes_by, byte_by, line_by, line_starts, starts_behind}
@@ -23,27 +23,6 @@ use Rattle.pyplaces.specs.ModulePlaces.{byte_at, line_at}
 
 cut : (bytes : List ℕ) (i b : ℕ) → i < length bytes → b ≡ get_or bytes i b → drop i bytes ≡ b ∷ drop (i + 1) bytes
 cut bytes i b h read = drop_more bytes i b h ∙ ap (λ z. z ∷ drop (i + 1) bytes) (sym read)
-
-next_is : (i : ℕ) → suc i ≡ i + 1
-next_is i = omega arith
-
-pub start_more : (bytes starts : List ℕ) (i b : ℕ) → i < length bytes → b ≡ get_or bytes i b → b ≡ line_feed
-    → (starts ++ ((i + 1) ∷ [])) ++ starts_behind (i + 1) (drop (i + 1) bytes) ≡ starts ++ starts_behind i (drop i bytes)
-start_more bytes starts i b h read is =
-    let rest : List ℕ = drop (i + 1) bytes in
-    append_assoc starts ((i + 1) ∷ []) (starts_behind (i + 1) rest)
-    ∙ ap (λ z. starts ++ z) (sym (ap (starts_behind i) (cut bytes i b h read)
-    ∙ (ap (λ x. starts_behind i (x ∷ rest)) is ∙ ap (λ n. n ∷ starts_behind n rest) (next_is i))))
-
-pub start_same : (bytes starts : List ℕ) (i b : ℕ) → i < length bytes → b ≡ get_or bytes i b → (b == line_feed) ≡ false
-    → starts ++ starts_behind (i + 1) (drop (i + 1) bytes) ≡ starts ++ starts_behind i (drop i bytes)
-start_same bytes starts i b h read is =
-    let rest : List ℕ = drop (i + 1) bytes in
-    ap (λ z. starts ++ z) (sym (ap (starts_behind i) (cut bytes i b h read)
-    ∙ (ap (λ x. cond x (suc i ∷ starts_behind (suc i) rest) (starts_behind (suc i) rest)) is ∙ ap (λ n. starts_behind n rest) (next_is i))))
-
-pub starts_all : (bytes starts : List ℕ) (i : ℕ) → length bytes ≤ i → starts ++ starts_behind i (drop i bytes) ≡ starts
-starts_all bytes starts i h = ap (λ z. starts ++ starts_behind i z) (drop_all i bytes h) ∙ append-nil starts
 
 -- ---- They rise, and are no more than the bytes and one.
 

@@ -1,11 +1,10 @@
 -- A row of literals and f-strings is as long as the walk to its end is: each f-string of a derivation closes those that it opens.
 --
 -- Carries: row_end, read_joined. On: RowEnds.
-use Rattle.std.proofs.Common.{◌≡◌, ◌⊎◌, inl, inr, refl, sym, ap, ◌∙◌, ℕ, zero, suc, ◌+◌, ◌-◌, arith, List, [], ◌∷◌, ◌++◌, length}
+use Rattle.std.proofs.Common.{◌≡◌, ◌⊎◌, inl, inr, refl, sym, ap, ◌∙◌, ℕ, suc, ◌+◌, ◌-◌, arith, List, [], ◌∷◌, ◌++◌, length}
 use Rattle.std.proofs.Common.{append_assoc}
-use Rattle.std.proofs.Common.{length-append, Option, Some, None, Bool}
-use Rattle.pytree_node.specs.Values
-use Rattle.pytoken.specs.Terminals.{Terminal, Literal, FormattedBegin, FormattedEnd, FieldBegin, FieldEnd}
+use Rattle.std.proofs.Common.{length-append, Bool}
+use Rattle.pytoken.specs.Terminals.{Terminal, FormattedBegin, FormattedEnd, FieldBegin, FieldEnd}
 use Rattle.pygrammar.specs.FormattedStrings.{StringPart}
 use Rattle.pygrammar.specs.Grammar as G
 use Rattle.pygrammar.specs.OpenStrings.{Open, open_behind_all}

@@ -1,7 +1,7 @@
 -- The walk to a row's end, terminal by terminal.
 --
 -- Carries: closed, inside, row_end. On: RowEnds.
-use Rattle.std.proofs.Common.{◌≡◌, refl, sym, ap, ◌∙◌, ℕ, zero, suc, ◌+◌, ◌-◌, ◌≤◌, ◌<◌, arith, List, [], ◌∷◌, length, map, drop, Option}
+use Rattle.std.proofs.Common.{◌≡◌, refl, sym, ap, ◌∙◌, ℕ, zero, suc, ◌+◌, ◌-◌, ◌≤◌, ◌<◌, arith, List, [], ◌∷◌, length, map, drop}
 use Rattle.std.proofs.Common.{Some, None, get_or}
 use Rattle.pytoken.specs.Terminals as tokens
 use Rattle.pytoken.specs.TerminalOf.{terminal}

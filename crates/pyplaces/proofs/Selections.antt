@@ -137,23 +137,3 @@ keyword_defaults_behind fs (past {e = Gathered ps} {es = es} u) = all_defaults_a
 keyword_defaults_behind fs (past {e = _} u) = keyword_defaults_behind fs u
 
 -- ---- Patterns.
-
-pub alone_append : (es fs : List P.EntryPlaces) → P.alone (es ++ fs) ≡ P.alone es ++ P.alone fs
-alone_append [] fs = refl
-alone_append (P.Alone ps ∷ es) fs = behind ps _ _ (alone_append es fs)
-alone_append (_ ∷ es) fs = alone_append es fs
-
-pub pattern_keys_append : (es fs : List P.EntryPlaces) → P.pattern_keys (es ++ fs) ≡ P.pattern_keys es ++ P.pattern_keys fs
-pattern_keys_append [] fs = refl
-pattern_keys_append (P.Keyed ks ps ∷ es) fs = behind ks _ _ (pattern_keys_append es fs)
-pattern_keys_append (_ ∷ es) fs = pattern_keys_append es fs
-
-pub key_patterns_append : (es fs : List P.EntryPlaces) → P.key_patterns (es ++ fs) ≡ P.key_patterns es ++ P.key_patterns fs
-key_patterns_append [] fs = refl
-key_patterns_append (P.Keyed ks ps ∷ es) fs = behind ps _ _ (key_patterns_append es fs)
-key_patterns_append (_ ∷ es) fs = key_patterns_append es fs
-
-pub named_append : (es fs : List P.EntryPlaces) → P.named (es ++ fs) ≡ P.named es ++ P.named fs
-named_append [] fs = refl
-named_append (P.Named ps ∷ es) fs = behind ps _ _ (named_append es fs)
-named_append (_ ∷ es) fs = named_append es fs

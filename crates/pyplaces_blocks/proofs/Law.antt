@@ -14,6 +14,7 @@ use Rattle.pygrammar.specs.Blocks.{no_except, except_clause, no_case, case_claus
 use Rattle.pyplaces.specs.Stretches.{Span}
 use Rattle.pyplaces.specs.BlockPlaces.{LinePlaces, own, decorator_places, block_places, statement_places, definition_places, final_places}
 use Rattle.pyplaces.specs.BlockPlaces.{body_places, alternative_places, otherwise_places, handlers_places, cases_places, ending_places}
+use Rattle.pyplaces.proofs.Laws.Blocks.{definition_is}
 use Rattle.pyplaces_blocks.specs.Steps.{OpenNode, node, State, state, is_clause, begins_node, is_definition, settle_in, settle, place, step}
 use Rattle.pyplaces_blocks.specs.Steps.{run}
 use Rattle.pyplaces_blocks.proofs.Settling.{ended, stays, steady, resumed, below_within, inner_within, handler_ends, lasts_at_clause}
@@ -127,12 +128,6 @@ decorators_read {l} (decorator {e = value} d) (z ∷ zs) s sp ds os e f k =
     (ap (λ t. settle l false (place t l (decorator_form value) z)) k ∙ stays l false sp (ds ++ z.before) os z.whole.stop
     (steady l false s sp ds os e k))
     ∙ ap (λ t. state sp t os (stops z.whole.stop zs)) (append_assoc ds z.before (decorator_places zs))
-
-definition_is : {l : ℕ} {suite : Option (List Stmt)} {xs : List Line} {ss : List Stmt} (ds : List LinePlaces) (z : LinePlaces)
-    (zs : List LinePlaces) (b : Body l suite xs ss) →
-    definition_places ds (z ∷ zs) b ≡ z.before ++ (body_places z zs b ++ (decorator_places ds ++ (z.behind ++ own z zs)))
-definition_is ds z zs inline = refl
-definition_is ds z zs (indented b) = refl
 
 definition_reads : {l : ℕ} {suite : Option (List Stmt)} {xs : List Line} {ss : List Stmt} (head : DefHead) (b : Body l suite xs ss) →
     Bodies l suite xs (λ z zs. body_places z zs b) → (ds zs : List LinePlaces) (s : State) (sp : List Span) (os : List OpenNode) (e : ℕ) →

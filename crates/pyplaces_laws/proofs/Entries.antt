@@ -1,14 +1,14 @@
 -- The entries of a listing that are tokens of a line stand one after another, each with its own text.
 --
 -- Carries: Follow, entries_follow, for TokenLines.
-use Rattle.std.proofs.Common.{◌≡◌, ℕ, zero, suc, ◌+◌, ◌-◌, ◌≤◌, Bool, true, false, not, ◌&&◌, ◌||◌, ◌==◌, cond, List, [], ◌∷◌, ◌++◌, length}
-use Rattle.std.proofs.Common.{take, drop, replicate, refl, sym, ap, subst, ◌∙◌, arith, append_assoc, length-append, Option, Some, None}
+use Rattle.std.proofs.Common.{◌≡◌, ℕ, zero, suc, ◌+◌, ◌≤◌, Bool, true, false, not, ◌&&◌, ◌||◌, ◌==◌, cond, List, [], ◌∷◌, ◌++◌, length}
+use Rattle.std.proofs.Common.{replicate, refl, sym, ap, subst, ◌∙◌, arith, append_assoc, length-append, Option, Some, None}
 use Rattle.std.specs.Prelude.{nat_lt, option_map}
 use Rattle.std.specs.List.{list_all, list_any}
-use Rattle.std.specs.Str.{chars, encode_utf8_all, all_scalars}
+use Rattle.std.specs.Str.{encode_utf8_all, all_scalars}
 use Rattle.std.proofs.Math.Utf8.{scalar}
-use Rattle.std.proofs.lemmas.Bool.{and_from, and_parts, or_left, or_right}
-use Rattle.std.proofs.lemmas.Str.{encodes-append, chars_from_encodes}
+use Rattle.std.proofs.lemmas.Bool.{and_parts}
+use Rattle.std.proofs.lemmas.Str.{encodes-append}
 use Rattle.pysource.specs.declared.places.Place.{Place}
 use Rattle.pysource.specs.Places.{place_after}
 use Rattle.pylex_lexeme.specs.declared.lexeme.Class.{Class}
@@ -16,7 +16,7 @@ use Rattle.pylex_lexeme.specs.declared.lexeme.Class.TheVariants.{Name, Number, S
 use Rattle.pylex_lexeme.specs.Chars.{bytes_in}
 use Rattle.pylex_lexeme.specs.declared.kinds.Exact.{Exact}
 use Rattle.pylex_lexeme.specs.Numbers.{is_number}
-use Rattle.pylex_lexeme.specs.Strings.{opens_string, opens_triple, counts_as_string, is_string, is_triple_string, is_single_string}
+use Rattle.pylex_lexeme.specs.Strings.{opens_string, counts_as_string, is_string}
 use Rattle.pylex_lexeme.specs.Operators.{is_closer, is_operator, exact_of}
 use Rattle.pylex_lexeme.specs.Lexemes.{Lexeme, is_name, is_comment, are_blanks, is_line_end, is_join, plain_class, class_in, cut}
 use Rattle.pylex_lexeme.specs.Lexemes.{left_by_cut, is_open_string}
@@ -33,51 +33,19 @@ use Rattle.pylex.specs.Listing.{Source, listing, origin, entry_of, steps_of, sto
 use Rattle.pylex.specs.Listing.{last_line, begins_comment, line_end_of_last, end_place, ends_in_join, tail, stop, steps_from, up_to_end}
 use Rattle.pylex.specs.Steps.{entries_of, mark, fault_at}
 use Rattle.pylex.specs.Laws.{AreLexemes}
-use Rattle.pylex.proofs.Callers.{cut_lexed, longest_wins}
+use Rattle.pylex.proofs.Callers.{cut_lexed, longest_wins, scalars_of}
 use Rattle.pyfstring_tokens.specs.FieldTokens.{is_token_kind}
 use Rattle.pytoken.specs.Tokens.{text_of}
+use Rattle.pytoken.proofs.Callers.TextLemmas.{own_text, counted}
 
 -- ---- Bytes of texts.
 
 pub bytes_both : (a b : List ℕ) → bytes_in (a ++ b) ≡ bytes_in a + bytes_in b
 bytes_both a b = ap length (encodes-append a b) ∙ length-append (encode_utf8_all a) (encode_utf8_all b)
 
-pub scalars_front : (a b : List ℕ) → all_scalars (a ++ b) ≡ true → all_scalars a ≡ true
-scalars_front [] b h = refl
-scalars_front (c ∷ a) b h =
-    let parts = and_parts (scalar c) (all_scalars (a ++ b)) h in
-    and_from (scalar c) (all_scalars a) parts.0 (scalars_front a b parts.1)
-
 pub scalars_back : (a b : List ℕ) → all_scalars (a ++ b) ≡ true → all_scalars b ≡ true
 scalars_back [] b h = h
 scalars_back (c ∷ a) b h = scalars_back a b (and_parts (scalar c) (all_scalars (a ++ b)) h).1
-
-drop_whole : (a b : List ℕ) → drop (length a) (a ++ b) ≡ b
-drop_whole [] b = refl
-drop_whole (c ∷ a) b = drop_whole a b
-
-take_whole : (a b : List ℕ) → take (length a) (a ++ b) ≡ a
-take_whole [] b = refl
-take_whole (c ∷ a) b = ap (λ (t : List ℕ). c ∷ t) (take_whole a b)
-
--- what stands between the offsets of an entry
-own_text : (a t b : List ℕ) (e : Entry) → all_scalars (a ++ (t ++ b)) ≡ true → e.«from» ≡ bytes_in a → e.to ≡ bytes_in a + bytes_in t
-    → text_of (a ++ (t ++ b)) e ≡ t
-own_text a t b e good first last =
-    let front = encode_utf8_all a in
-    let own = encode_utf8_all t in
-    let rest = encode_utf8_all b in
-    let whole : encode_utf8_all (a ++ (t ++ b)) ≡ front ++ (own ++ rest) =
-    encodes-append a (t ++ b) ∙ ap (λ (bs : List ℕ). front ++ bs) (encodes-append t b) in
-    let size : e.to - e.«from» ≡ length own = omega (arith, first, last) in
-    let between : take (e.to - e.«from») (drop e.«from» (encode_utf8_all (a ++ (t ++ b)))) ≡ own =
-    ap (λ (bs : List ℕ). take (e.to - e.«from») (drop e.«from» bs)) whole
-    ∙ ap (λ (n : ℕ). take (e.to - e.«from») (drop n (front ++ (own ++ rest)))) first
-    ∙ ap (take (e.to - e.«from»)) (drop_whole front (own ++ rest))
-    ∙ ap (λ (n : ℕ). take n (own ++ rest)) size
-    ∙ take_whole own rest in
-    let scalars = scalars_front t b (scalars_back a (t ++ b) good) in
-    ap chars between ∙ sym (chars_from_encodes t own (t, (scalars, refl)) refl)
 
 -- ---- Strings.
 
@@ -85,14 +53,6 @@ own_text a t b e good first last =
 abbrev pub IsString : Kind → List ℕ → Type 0
 IsString kinds.String t = is_string t ≡ true
 IsString k t = Unit {0}
-
-counted : (cs t : List ℕ) → counts_as_string cs t ≡ true → is_string t ≡ true
-unfolding counts_as_string is_string
-counted cs t h = by (opens_triple cs) h
-  where
-    by : (o : Bool) → cond o (is_triple_string t) (is_single_string t) ≡ true → (is_triple_string t || is_single_string t) ≡ true
-    by true e = or_left (is_triple_string t) (is_single_string t) e
-    by false e = or_right (is_triple_string t) (is_single_string t) e
 
 not_plain : (t : List ℕ) → plain_class t ≡ Some String → ⊥
 unfolding plain_class
@@ -282,7 +242,7 @@ link cs a t b e good h first last string =
       own = λ is. record {
         begins = omega (arith, first);
         ends = omega (arith, first, size);
-        scalars = ap all_scalars own ∙ scalars_front t b (scalars_back a (t ++ b) (sym (ap all_scalars h) ∙ good));
+        scalars = ap all_scalars own ∙ scalars_of t b (scalars_back a (t ++ b) (sym (ap all_scalars h) ∙ good));
         string = subst (IsString e.kind) (sym own) string;
       };
     }

@@ -12,14 +12,14 @@ use Rattle.pyfstring.specs.declared.parts.Manner.{Manner}
 use Rattle.pyfstring.specs.Parts.{BodyPart}
 use Rattle.pyfstring.proofs.Callers.Law.{cut_of_sound}
 use Rattle.pytree_node.specs.declared.profiles.Extent.TheVariants.{Whole}
-use Rattle.pytoken.specs.StringValues.{with_line_feeds, prefix_len_of, is_raw, body_of}
+use Rattle.pytoken.specs.StringValues.{with_line_feeds, prefix_len_of, is_raw, after_opening, body_of}
 use Rattle.pytoken.specs.declared.faults.TokenError.TheVariants.{FString}
 use Rattle.pytoken.specs.FormattedStrings.{Element, is_fstring, elements_of, elements_fault}
 use Rattle.pytoken.specs.Terminals.{fault_of, is_faulty}
 use Rattle.pytoken.proofs.Callers.Singles.{of_formatted}
 use Rattle.pyparse_marks.specs.Spans.{Span, span}
 use Rattle.pyparse_marks.specs.TokenSpans.{Walk, put, further, moved, past_single, past_expression, around, opening_len, past_cut, parts_of}
-use Rattle.pyparse_marks.specs.TokenSpans.{past_body_parts, past_formatted, past_token_by, past_nested, behind_opening, token_spans}
+use Rattle.pyparse_marks.specs.TokenSpans.{past_body_parts, past_formatted, past_token_by, past_nested, token_spans}
 use Rattle.pyplaces_laws.proofs.Entries.{bytes_both}
 use Rattle.pyplaces_laws.proofs.Filling.{Fills, one_fills}
 use Rattle.pyplaces_laws.proofs.Walks.{Fine, Passes, fine_put, fine_on, fine_over, expression_fine}
@@ -41,7 +41,7 @@ opened t =
     let p = prefix_len_of t in
     let after = drop p t in
     let width = if begins_three after then 3 else 1 in
-    let inside = behind_opening t in
+    let inside = after_opening t in
     let n = length inside - width in
     let front = take p t ++ take width after in
     let one : t ≡ front ++ inside =

@@ -15,6 +15,7 @@ use Rattle.pygrammar.specs.Operators.{below}
 use Rattle.pygrammar.specs.Entries.{Item, Of, Entry, Single, singles}
 use Rattle.pygrammar.specs.Precedence.{first}
 use Rattle.pygrammar.specs.Targets.{all_stored, both, stored}
+use Rattle.pygrammar.proofs.Callers.Steps.{both_some}
 use Rattle.pyplaces.specs.Stretches.{Stretch, over}
 use Rattle.pyplaces.specs.EntryPlaces as E
 use Rattle.pyplaces.specs.EntryPlaces.{EntryPlaces}
@@ -22,7 +23,7 @@ use Rattle.pyplaces_unique.specs.Inner.Looks.{lead_of}
 use Rattle.pyplaces_unique.proofs.Levels.{Reads, answers}
 use Rattle.pyplaces_unique.proofs.Answered.{AimAt, Good, no_aim}
 use Rattle.pyplaces_unique.proofs.Clauses.{plain_aim, star_aim, lone_aim, AimsRead, no_aims, last_aim, more_aims, tuple_aim, mapped_some}
-use Rattle.pyplaces_unique.proofs.Clauses.{both_some, starred_stored}
+use Rattle.pyplaces_unique.proofs.Clauses.{starred_stored}
 
 next_aim : (l : Level) (ts : List Terminal) (e : Expr) (f : ℕ → List Stretch) → first (below l) ≤ lead_of ts → Reads l ts f
     → ((s : Expr) → stored e ≡ Some s → AimAt (below l) ts f) → (s : Expr) → stored e ≡ Some s → AimAt l ts f

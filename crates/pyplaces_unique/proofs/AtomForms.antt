@@ -14,9 +14,10 @@ use Rattle.pygrammar.specs.Constants.{constant_word}
 use Rattle.pygrammar.specs.Entries.{Of}
 use Rattle.pygrammar.specs.Precedence.{starts, starts_comp}
 use Rattle.pygrammar.specs.Grammar as G
+use Rattle.pygrammar.proofs.Callers.Steps.{close_shape, close_two, close_after}
 use Rattle.pyplaces.specs.Stretches.{Stretch, over}
 use Rattle.pyplaces.specs.EntryPlaces as E
-use Rattle.pyplaces.specs.EntryPlaces.{EntryPlaces, singles, keys, values, positional, keywords}
+use Rattle.pyplaces.specs.EntryPlaces.{EntryPlaces, singles}
 use Rattle.pyplaces_unique.specs.Inner.Looks.{lead_of, after, on_grip}
 use Rattle.pyplaces_unique.specs.Inner.ExpressionSteps.{Goes}
 use Rattle.pyplaces_unique.specs.Inner.AtomSteps.{square}
@@ -46,20 +47,6 @@ constant_goes (Word _) v h at rest k s = on here
 constant_goes _ v h at rest k s = absurd (cc)
 
 -- ---- Round brackets.
-
-pub close_shape : (ts rest : List Terminal) (s t : Terminal) → (s ∷ (ts ++ (t ∷ []))) ++ rest ≡ s ∷ (ts ++ (t ∷ rest))
-close_shape ts rest s t = ap (λ z. s ∷ z) (append_assoc ts (t ∷ []) rest)
-
-pub close_two : (ts us rest : List Terminal) (s t : Terminal) → (s ∷ (ts ++ (us ++ (t ∷ [])))) ++ rest ≡ s ∷ (ts ++ (us ++ (t ∷ rest)))
-close_two ts us rest s t = simp append_assoc refl
-
-pub close_after : (ts us rest : List Terminal) (s c t : Terminal) → (s ∷ (ts ++ (c ∷ (us ++ (t ∷ []))))) ++ rest ≡ s ∷
-    (ts ++ (c ∷ (us ++ (t ∷ rest))))
-close_after ts us rest s c t = simp append_assoc refl
-
-pub close_three : (ts us vs rest : List Terminal) (s c t : Terminal) → (s ∷ (ts ++ (c ∷ (us ++ (vs ++ (t ∷ [])))))) ++ rest ≡ s ∷
-    (ts ++ (c ∷ (us ++ (vs ++ (t ∷ rest)))))
-close_three ts us vs rest s c t = simp append_assoc refl
 
 -- an item begins neither as the end of the brackets nor as `yield`
 abbrev rounded : ℕ → List Terminal → Goes → Reading

@@ -7,11 +7,11 @@ use Rattle.pylex_lexeme.specs.declared.kinds.Exact.TheVariants.{Comma, Star}
 use Rattle.pytoken.specs.declared.keywords.Keyword.TheVariants as Key
 use Rattle.pytree_node.specs.declared.operators.Context.TheVariants.{Load, Store}
 use Rattle.pytree_node.specs.Trees
-use Rattle.pytree_node.specs.Trees.{Expr, Exprs, Comprehension}
+use Rattle.pytree_node.specs.Trees.{Expr, Comprehension}
 use Rattle.pytoken.specs.Terminals.{Terminal, Op, Word}
 use Rattle.pygrammar.specs.declared.levels.Level.TheVariants.{StarItem, Or, Primary}
 use Rattle.pygrammar.specs.Precedence.{starts_comp}
-use Rattle.pygrammar.specs.Targets.{both, stored}
+use Rattle.pygrammar.specs.Targets.{stored}
 use Rattle.pygrammar.specs.Grammar as G
 use Rattle.pyplaces.specs.Stretches.{Stretch, over}
 use Rattle.pyplaces.specs.EntryPlaces as E
@@ -72,12 +72,6 @@ tuple_aim ts us f g p q at rest k s = shaped Aim at k (append_assoc ts (Op Comma
 pub mapped_some : {A B : Type 0} (f : A → B) (o : Option A) (b : B) → option_map f o ≡ Some b → (a : A) × (o ≡ Some a)
 mapped_some f None b h = absurd (cc)
 mapped_some f (Some a) b h = (a, refl)
-
-pub both_some : (o : Option Expr) (p : Option Exprs) (z : Exprs) → both o p ≡ Some z
-    → ((e : Expr) × (o ≡ Some e)) × ((es : Exprs) × (p ≡ Some es))
-both_some None p z h = absurd (cc)
-both_some (Some e) None z h = absurd (cc)
-both_some (Some e) (Some es) z h = ((e, refl), (es, refl))
 
 pub starred_stored : (e s : Expr) → stored (Trees.Starred e Load) ≡ Some s → (a : Expr) × (stored e ≡ Some a)
 starred_stored (Trees.Starred e c) s h = absurd (cc)

@@ -12,6 +12,7 @@ use Rattle.pygrammar.specs.declared.levels.Level.TheVariants.{Named, Expression,
 use Rattle.pygrammar.specs.Entries.{Of, Pair}
 use Rattle.pygrammar.specs.Precedence.{starts, starts_comp}
 use Rattle.pygrammar.specs.Grammar as G
+use Rattle.pygrammar.proofs.Callers.Steps.{close_shape, close_two}
 use Rattle.pyplaces.specs.Stretches.{Stretch, over}
 use Rattle.pyplaces.specs.EntryPlaces.{EntryPlaces, singles, keys, values}
 use Rattle.pyplaces_unique.specs.Inner.Looks.{grip_of, lead_of, on_grip}
@@ -24,7 +25,7 @@ use Rattle.pyplaces_unique.proofs.Levels.{Reads, next_goes}
 use Rattle.pyplaces_unique.proofs.Answered.{Answers, counted, shaped, ClauseStops}
 use Rattle.pyplaces_unique.proofs.Lists.{ListReads, last_item_goes, pair_goes}
 use Rattle.pyplaces_unique.proofs.Clauses.{comps_front}
-use Rattle.pyplaces_unique.proofs.AtomForms.{close_shape, close_two, bracketed_comp}
+use Rattle.pyplaces_unique.proofs.AtomForms.{bracketed_comp}
 
 -- an item begins neither as the end of the brackets nor as `**`
 abbrev peeked : ℕ → List Terminal → Goes → Reading

@@ -19,6 +19,7 @@ use Rattle.pygrammar.specs.FormattedStrings.{StringPart, has_formatted}
 use Rattle.pygrammar.specs.Entries.{Item, Of, Pair, Entry, singles}
 use Rattle.pygrammar.specs.Targets.{all_stored}
 use Rattle.pygrammar.specs.Grammar as G
+use Rattle.pygrammar.proofs.Callers.Entries.{piece_starts}
 use Rattle.pyplaces.specs.ExpressionPlaces.{places, yield_places, perhaps_places, suffix_places, chain_places, compares_places}
 use Rattle.pyplaces.specs.ExpressionPlaces.{literals_places, formatted_places, spec_places, listing_places, piece_places, comps_places}
 use Rattle.pyplaces.specs.ExpressionPlaces.{comp_places, for_places, ifs_places}
@@ -43,7 +44,7 @@ use Rattle.pyplaces_unique.proofs.Operators.{SignsStop, compares_grip, last_comp
 use Rattle.pyplaces_unique.proofs.Lists.{ListReads, no_item_goes, last_item_goes, item_goes, no_suffix_goes, suffix_goes, single_goes}
 use Rattle.pyplaces_unique.proofs.Lists.{pair_goes, pairs_of_goes, argument_goes, star_argument_goes, double_argument_goes}
 use Rattle.pyplaces_unique.proofs.Lists.{keyword_argument_goes, parameter_goes, slash_goes, bare_goes, star_parameter_goes}
-use Rattle.pyplaces_unique.proofs.Lists.{star_annotation_goes, double_parameter_goes, piece_starts}
+use Rattle.pyplaces_unique.proofs.Lists.{star_annotation_goes, double_parameter_goes}
 use Rattle.pyplaces_unique.proofs.Clauses.{IfsStop, no_if_goes, if_one_goes, target_in_goes, ClauseReads, for_goes, async_goes}
 use Rattle.pyplaces_unique.proofs.Clauses.{one_comp_goes}
 use Rattle.pyplaces_unique.proofs.Clauses.{comps_goes}

@@ -19,8 +19,9 @@ use Rattle.pygrammar.specs.Constants.{constant_word}
 use Rattle.pygrammar.specs.Operators.{below, prefix_operator, chain_level, chain_word, rank}
 use Rattle.pygrammar.specs.Precedence.{first}
 use Rattle.pygrammar.specs.Grammar as G
+use Rattle.pygrammar.proofs.Callers.Terminals.{first_pos}
 use Rattle.pyplaces_unique.specs.Inner.Looks.{grip, grip_of, lead_of}
-use Rattle.pyplaces_unique.proofs.Led.{led, first_pos}
+use Rattle.pyplaces_unique.proofs.Led.{led}
 use Rattle.pyplaces_unique.proofs.Operators.{left_grip, compares_grip}
 use Rattle.pyplaces_unique.proofs.Balance.{walk, Balanced, nil, both, balanced, balanced_listing, balanced_comps, balanced_yields, shut}
 use Rattle.pyplaces_unique.proofs.Balance.{shut_behind}

@@ -14,6 +14,7 @@ use Rattle.pygrammar.specs.declared.levels.Level.TheVariants.{Subject}
 use Rattle.pygrammar.specs.Entries.{Of, Parameter}
 use Rattle.pygrammar.specs.Precedence.{first}
 use Rattle.pygrammar.specs.Grammar as G
+use Rattle.pygrammar.proofs.Callers.Terminals.{first_pos}
 use Rattle.pyplaces.specs.Stretches.{Stretch, over}
 use Rattle.pyplaces.specs.EntryPlaces.{EntryPlaces, singles, arranged}
 use Rattle.pyplaces_unique.specs.Inner.Looks.{grip_of, lead_of}
@@ -22,7 +23,7 @@ use Rattle.pyplaces_unique.specs.Inner.ExpressionSteps.{Goes}
 use Rattle.pyplaces_unique.specs.Inner.Steps.{here, on}
 use Rattle.pyplaces_unique.proofs.Leading.{Comes, via, to, past, miss, untrue, is_true}
 use Rattle.pyplaces_unique.proofs.LookLemmas.{fronted, front_grip, starts_of, starts_low}
-use Rattle.pyplaces_unique.proofs.Led.{led, first_pos}
+use Rattle.pyplaces_unique.proofs.Led.{led}
 use Rattle.pyplaces_unique.proofs.Levels.{Stops, Reads, answers, next_goes}
 use Rattle.pyplaces_unique.proofs.Answered.{Answers, counted, shaped, PerhapsStops, ListEnds}
 

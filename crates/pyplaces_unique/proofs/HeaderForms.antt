@@ -75,11 +75,6 @@ def_goes x {us} {vs} {ws} c l r a at z k =
     (4 + (a + (length us + (length vs + w)))) r) (λ e. absurd (omega (arith, e)))
     (omega arith)) here))
 
-bases_mark : {us : List Terminal} {es : List Expr} {ks : Keywords} → F.Bases us es ks → (z : List Terminal)
-    → mark_of (us ++ (Op Sign.Colon ∷ z)) ≡ 14 → ⊥
-bases_mark F.no_bases z e = omega (arith, e)
-bases_mark (F.bases c h) z e = omega (arith, e)
-
 class_goes : {profile : Profile} (x : Spelled) {ts us : List Terminal} {tps : List TypeParam} {es : List Expr} {ks : Keywords}
     (c : F.TypeParams profile ts tps) (b : F.Bases us es ks) (at : ℕ) (z : List Terminal) (k : HeadGoes)
     → Comes (class_read at (Ident x ∷ (ts ++ (us ++ (Op Sign.Colon ∷ z)))) k)

@@ -14,7 +14,7 @@ use Rattle.pyplaces.specs.PatternPlaces.{pattern_places}
 use Rattle.pyplaces.specs.FormPlaces.{FormPlaces, plain_header}
 use Rattle.pyplaces_unique.specs.Laws.{OfExpressions, OfPatterns, OfLines, OfBlocks, PlacesAreUnique}
 use Rattle.pyplaces_unique.specs.Inner.Questions
-use Rattle.pyplaces_unique.specs.Inner.Questions.{An, Reading, Done, Ask}
+use Rattle.pyplaces_unique.specs.Inner.Questions.{An, Done, Ask}
 use Rattle.pyplaces_unique.proofs.Leading.{Comes, from, one_end}
 use Rattle.pyplaces_unique.proofs.Levels.{Stops, value_stops, answers}
 use Rattle.pyplaces_unique.proofs.Expressions.{goes}

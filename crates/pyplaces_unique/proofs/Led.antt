@@ -1,51 +1,23 @@
 -- With which terminals the expressions of a level begin.
 --
--- Carries: led, first_pos, NotStar, not_star, for Levels, Expressions. On: LookLemmas.
-use Rattle.std.proofs.Common.{◌≡◌, ◌≤◌, ◌<◌, arith, List, ◌∷◌, ◌++◌, Some, Bool, true}
-use Rattle.pylex_lexeme.specs.declared.kinds.Exact.TheVariants.{Colon, Plus, Minus, Tilde, Ellipsis}
-use Rattle.pytoken.specs.declared.keywords.Keyword.TheVariants as Key
+-- Carries: led, NotStar, not_star, for Levels, Expressions. On: LookLemmas.
+use Rattle.std.proofs.Common.{◌≡◌, ◌≤◌, arith, List, ◌∷◌, ◌++◌, Some, Bool, true}
+use Rattle.pylex_lexeme.specs.declared.kinds.Exact.TheVariants.{Colon}
 use Rattle.pytree_node.specs.declared.operators.Operator.{Operator}
 use Rattle.pytree_node.specs.declared.operators.UnaryOperator.{UnaryOperator}
 use Rattle.pytree_node.specs.declared.operators.BoolOperator.{BoolOperator}
 use Rattle.pytree_node.specs.declared.operators.BoolOperator.TheVariants as Join
 use Rattle.pygrammar.specs.declared.levels.Level.{Level}
-use Rattle.pygrammar.specs.declared.levels.Level.TheVariants.{Value, Expression, Not, Factor, Slice}
+use Rattle.pygrammar.specs.declared.levels.Level.TheVariants.{Expression, Slice}
 use Rattle.pytree_node.specs.Trees.{Expr, OptionalExpr}
-use Rattle.pytree_node.specs.Values
-use Rattle.pytoken.specs.Terminals.{Terminal, Op, Word}
+use Rattle.pytoken.specs.Terminals.{Terminal, Op}
 use Rattle.pygrammar.specs.Operators.{below, left_operator, prefix_operator, chain_level}
-use Rattle.pygrammar.specs.Constants.{constant_word}
 use Rattle.pygrammar.specs.FormattedStrings.{StringPart, has_formatted}
 use Rattle.pygrammar.specs.Grammar as G
-use Rattle.pygrammar.specs.Precedence.{lead, first}
+use Rattle.pygrammar.specs.Precedence.{first}
+use Rattle.pygrammar.proofs.Callers.Terminals.{first_below, first_pos, prefix_led, constant_led}
 use Rattle.pyplaces_unique.specs.Inner.Looks.{lead_of}
 use Rattle.pyplaces_unique.proofs.LookLemmas.{lead_front}
-
-pub first_below : (l : Level) → first l ≤ first (below l)
-first_below Value = omega arith
-first_below _ = omega arith
-
-pub first_pos : (l : Level) → 0 < first l
-first_pos Value = omega arith
-first_pos _ = omega arith
-
-prefix_led : (l : Level) (t : Terminal) (o : UnaryOperator) → prefix_operator l t ≡ Some o → first l ≤ lead t
-prefix_led Not (Word Key.Not) o h = omega arith
-prefix_led Not (Word _) o h = absurd (cc)
-prefix_led Factor (Op Plus) o h = omega arith
-prefix_led Factor (Op Minus) o h = omega arith
-prefix_led Factor (Op Tilde) o h = omega arith
-prefix_led Factor (Op _) o h = absurd (cc)
-prefix_led _ t o h = absurd (cc)
-
-constant_led : (t : Terminal) (v : Values.Value) → constant_word t ≡ Some v → 24 ≤ lead t
-constant_led (Word Key.None) v h = omega arith
-constant_led (Word Key.True) v h = omega arith
-constant_led (Word Key.False) v h = omega arith
-constant_led (Op Ellipsis) v h = omega arith
-constant_led (Word _) v h = absurd (cc)
-constant_led (Op _) v h = absurd (cc)
-constant_led _ v h = absurd (cc)
 
 literals_led : {u : Bool} {ts : List Terminal} {ps : List StringPart} → G.Literals u ts ps → has_formatted ts ≡ true → 24 ≤ lead_of ts
 literals_led G.no_literal h = absurd (cc)

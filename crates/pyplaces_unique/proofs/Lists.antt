@@ -1,18 +1,18 @@
 -- Lists of items.
 --
--- Carries: ListReads, no_item_goes .. double_parameter_goes, piece_starts, for Expressions. On: Levels, Answered, Led.
-use Rattle.std.proofs.Common.{◌≡◌, ◌⊎◌, inl, inr, refl, sym, ap, ◌∙◌, ℕ, ◌+◌, ◌≤◌, ◌<◌, arith, List, [], ◌∷◌, ◌++◌, length, append_assoc}
+-- Carries: ListReads, no_item_goes .. double_parameter_goes, for Expressions. On: Levels, Answered, Led.
+use Rattle.std.proofs.Common.{◌≡◌, ◌⊎◌, inl, inr, refl, sym, ap, ◌∙◌, ℕ, ◌+◌, ◌≤◌, arith, List, [], ◌∷◌, ◌++◌, length, append_assoc}
 use Rattle.std.proofs.Common.{length-append}
 use Rattle.std.proofs.Common.{Option, Some, None, Bool, true, false, cond}
-use Rattle.std.proofs.lemmas.Bool.{le-leb, ne_eqb}
+use Rattle.std.proofs.lemmas.Bool.{ne_eqb}
 use Rattle.pylex_lexeme.specs.declared.kinds.Exact.{Exact}
 use Rattle.pylex_lexeme.specs.declared.kinds.Exact.TheVariants.{Colon, Comma, Star, Slash, Equal, DoubleStar}
 use Rattle.pytree_node.specs.Trees.{OptionalExpr}
 use Rattle.pytoken.specs.Terminals.{Spelled, Terminal, Op, Ident}
 use Rattle.pygrammar.specs.declared.levels.Level.{Level}
 use Rattle.pygrammar.specs.declared.levels.Level.TheVariants.{Named, Expression, BitOr}
-use Rattle.pygrammar.specs.Entries.{Item, Of, Pair, Argument, Parameter, Entry}
-use Rattle.pygrammar.specs.Precedence.{lead, first, begins, starts}
+use Rattle.pygrammar.specs.Entries.{Item, Of, Pair, Argument, Parameter}
+use Rattle.pygrammar.specs.Precedence.{starts}
 use Rattle.pygrammar.specs.Grammar as G
 use Rattle.pyplaces.specs.Stretches.{Stretch, stretch, over}
 use Rattle.pyplaces.specs.EntryPlaces as E
@@ -22,7 +22,7 @@ use Rattle.pyplaces_unique.specs.Inner.Questions.{Suffixed, Items, Piece}
 use Rattle.pyplaces_unique.specs.Inner.Steps.{here, on}
 use Rattle.pyplaces_unique.proofs.Leading.{via, past, untrue, is_true}
 use Rattle.pyplaces_unique.proofs.LookLemmas.{fronted, front_grip, not_named}
-use Rattle.pyplaces_unique.proofs.Led.{led, first_pos}
+use Rattle.pyplaces_unique.proofs.Led.{led}
 use Rattle.pyplaces_unique.proofs.Levels.{Reads, answers, free_named}
 use Rattle.pyplaces_unique.proofs.Answered.{Answers, counted, shaped, SuffixStops, PieceStops, ListEnds, Separable}
 use Rattle.pyplaces_unique.proofs.Operators.{same_true}
@@ -158,35 +158,3 @@ double_parameter_goes false x ts f p at rest k s = on (via (p (2 + at) rest _ tt
 double_parameter_goes true x ts f p at rest k s = on (via (p (2 + at) rest _ (s.3, s.1)) (counted k rest (omega arith)))
 
 -- ---- The first terminal of an item.
-
-begins_pair : (t : Terminal) → 9 ≤ lead t → begins Pair t ≡ true
-begins_pair (Op DoubleStar) h = refl
-begins_pair (Op _) h = le-leb 9 _ h
-begins_pair _ h = le-leb 9 _ h
-
-begins_argument : (t : Terminal) → 9 ≤ lead t → begins Argument t ≡ true
-begins_argument (Op DoubleStar) h = refl
-begins_argument (Op y) h = le-leb 7 (lead (Op y)) (omega (arith, h))
-begins_argument t h = le-leb 7 (lead t) (omega (arith, h))
-
-starts_front : (i : Item) (n : ℕ) → ((t : Terminal) → n ≤ lead t → begins i t ≡ true) → (ts us : List Terminal) → 0 < n → n ≤ lead_of ts
-    → starts i (ts ++ us) ≡ true
-starts_front i n f [] us p h = absurd (omega (arith, p, h))
-starts_front i n f (t ∷ ts) us p h = f t h
-
-pub piece_starts : {i : Item} {ts : List Terminal} {a : Entry} → G.Piece i ts a → (us : List Terminal) → starts i (ts ++ us) ≡ true
-piece_starts (G.single {l = l} {ts = ts} p) us = starts_front (Of l) (first l) (λ t h. le-leb (first l) (lead t) h) ts
-    us (first_pos l) (led p)
-piece_starts (G.pair {ts = ts} {us = vs} p q) us = ap (starts Pair) (append_assoc ts (Op Colon ∷ vs) us)
-    ∙ starts_front Pair 9 begins_pair ts _ (omega arith) (led p)
-piece_starts (G.pairs_of p) us = refl
-piece_starts (G.argument {ts = ts} p) us = starts_front Argument 9 begins_argument ts us (omega arith) (led p)
-piece_starts (G.star_argument p) us = refl
-piece_starts (G.keyword_argument p) us = refl
-piece_starts (G.double_argument p) us = refl
-piece_starts (G.parameter a d) us = refl
-piece_starts G.slash us = refl
-piece_starts G.bare_star us = refl
-piece_starts (G.star_parameter a) us = refl
-piece_starts (G.star_annotation p) us = refl
-piece_starts (G.double_parameter a) us = refl

@@ -4,7 +4,7 @@
 use Rattle.std.proofs.Common.{◌≡◌, refl, ap, ◌∙◌, ℕ, ◌+◌, ◌≤◌, ◌==◌, arith, List, [], ◌∷◌, ◌++◌, length, append_assoc}
 use Rattle.std.proofs.Common.{length-append}
 use Rattle.std.proofs.Common.{Some, true, false, cond}
-use Rattle.std.proofs.lemmas.Bool.{ne_eqb}
+use Rattle.std.proofs.lemmas.Bool.{ne_eqb, lt-leb}
 use Rattle.pylex_lexeme.specs.declared.kinds.Exact.TheVariants.{LPar, RPar, LSqb, RSqb, LBrace, RBrace, Colon, Comma, Star, DoubleStar}
 use Rattle.pylex_lexeme.specs.declared.kinds.Exact.TheVariants.{Equal}
 use Rattle.pylex_lexeme.specs.declared.kinds.Exact.TheVariants.{Dot, VBar}
@@ -18,6 +18,7 @@ use Rattle.pygrammar.specs.PatternOperators.{below_pattern, singleton_word}
 use Rattle.pygrammar.specs.PatternEntries.{PatternItem, Element, KeyPattern, ClassArgument}
 use Rattle.pygrammar.specs.Grammar as G
 use Rattle.pygrammar.specs.PatternGrammar as P
+use Rattle.pygrammar.proofs.Callers.Steps.{close_shape, close_after}
 use Rattle.pyplaces.specs.Stretches.{Stretch, over}
 use Rattle.pyplaces.specs.FormPlaces.{plain_header}
 use Rattle.pyplaces.specs.PatternPlaces.{EntryPlaces, Alone, Keyed, Rest, Named, alone, pattern_keys, key_patterns, named, literal_places}
@@ -30,8 +31,7 @@ use Rattle.pyplaces_unique.specs.Inner.Steps.{here, on}
 use Rattle.pyplaces_unique.proofs.Leading.{Comes, via, from, to, past, untrue, is_true, one_end}
 use Rattle.pyplaces_unique.proofs.LookLemmas.{fronted}
 use Rattle.pyplaces_unique.proofs.Answered.{Answers, counted, shaped}
-use Rattle.pyplaces_unique.proofs.AtomForms.{close_shape, close_after}
-use Rattle.pyplaces_unique.proofs.PatternLooks.{miss_mark, PatternStops, least, low_leb}
+use Rattle.pyplaces_unique.proofs.PatternLooks.{miss_mark, PatternStops, least}
 use Rattle.pyplaces_unique.proofs.PatternValues.{literal_reads, dotted_reads, dotted_front, dotted_end, key_reads}
 
 abbrev pub PatternReads : PatternLevel → List Terminal → (ℕ → List Stretch) → Type 0
@@ -208,7 +208,7 @@ pub open_sequence_reads : (ts us : List Terminal) {f : ℕ → List Stretch} {g 
     (λ at. f at ++ (alone (g (1 + (at + length ts))) ++ over at (1 + (length ts + length us))))
 open_sequence_reads ts us p q at rest k s = shaped (Pattern Patterns) at k (append_assoc ts (Op Comma ∷ us) rest)
     (on (via (p at (Op Comma ∷ (us ++ rest)) _ (omega arith))
-    (via (q (1 + (at + length ts)) rest _ (low_leb 7 (lead_of rest) (omega (arith, s.1)), λ e. omega (arith, s.0, e), omega (arith, s.0)))
+    (via (q (1 + (at + length ts)) rest _ (lt-leb 7 (lead_of rest) (omega (arith, s.1)), λ e. omega (arith, s.0, e), omega (arith, s.0)))
     (counted k rest (omega (arith, length-append ts (Op Comma ∷ us)))))))
 
 pub as_name_reads : (ts : List Terminal) (x : Spelled) {f : ℕ → List Stretch} → PatternReads OrPattern ts f

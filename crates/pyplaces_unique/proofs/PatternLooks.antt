@@ -1,9 +1,8 @@
 -- What may follow a pattern, and what begins one.
 --
 -- Carries: PatternStops, miss_mark, mark_grip, pattern_led, entry_led, for PatternValues, PatternForms, Patterns. On: LookLemmas.
-use Rattle.std.proofs.Common.{◌≡◌, refl, ℕ, ◌≤◌, ◌<◌, arith, List, [], ◌∷◌, ◌++◌, Some, Bool, true, false}
-use Rattle.std.proofs.lemmas.Bool.{le-leb, leb-true}
-use Rattle.std.specs.Prelude.{leb}
+use Rattle.std.proofs.Common.{◌≡◌, refl, ℕ, ◌≤◌, arith, List, [], ◌∷◌, ◌++◌, Some, Bool, true}
+use Rattle.std.proofs.lemmas.Bool.{le-leb}
 use Rattle.pylex_lexeme.specs.declared.kinds.Exact.{Exact}
 use Rattle.pylex_lexeme.specs.declared.kinds.Exact.TheVariants.{LPar, Plus, Minus, DoubleStar}
 use Rattle.pytoken.specs.declared.keywords.Keyword.{Keyword}
@@ -140,11 +139,3 @@ sum_mark (Op Plus) o h = refl
 sum_mark (Op Minus) o h = refl
 sum_mark (Op _) o h = absurd (cc)
 sum_mark _ o h = absurd (cc)
-
--- nothing that begins an entry
-pub low_leb : (n m : ℕ) → m < n → leb n m ≡ false
-low_leb n m h = go (leb n m) refl
-  where
-    go : (b : Bool) → leb n m ≡ b → leb n m ≡ false
-    go false q = q
-    go true q = absurd (omega (arith, h, leb-true n m q))

@@ -4,6 +4,7 @@
 use Rattle.std.proofs.Common.{◌≡◌, refl, sym, ap, ◌∙◌, ℕ, suc, ◌+◌, ◌≤◌, ◌<◌, arith, List, [], ◌∷◌, ◌++◌, length, append_assoc}
 use Rattle.std.proofs.Common.{length-append}
 use Rattle.std.proofs.Common.{Option, Some, false, append-nil}
+use Rattle.std.proofs.lemmas.Bool.{lt-leb}
 use Rattle.pylex_lexeme.specs.declared.kinds.Exact.{Exact}
 use Rattle.pylex_lexeme.specs.declared.kinds.Exact.TheVariants as Sign
 use Rattle.pytoken.specs.declared.keywords.Keyword.TheVariants as Key
@@ -31,7 +32,7 @@ use Rattle.pyplaces_unique.proofs.Led.{led}
 use Rattle.pyplaces_unique.proofs.Levels.{value_stops, Reads}
 use Rattle.pyplaces_unique.proofs.Answered.{Answers, counted, shaped, PerhapsStops}
 use Rattle.pyplaces_unique.proofs.Forms.{nothing_goes, something_goes}
-use Rattle.pyplaces_unique.proofs.PatternLooks.{miss_mark, low_leb}
+use Rattle.pyplaces_unique.proofs.PatternLooks.{miss_mark}
 use Rattle.pyplaces_unique.proofs.LineParts.{behind_marked, behind_gripped, behind_grip, module_reads, commas_reads, ended_reads}
 use Rattle.pyplaces_unique.proofs.LineParts.{alias_reads}
 use Rattle.pyplaces_unique.proofs.LineParts.{alias_begins, dotted_alias_reads, dotted_alias_begins, deleted_reads, deleted_begins}
@@ -250,7 +251,7 @@ field_goes (F.assert_of {ts = ts} {us = us} p c) at rest k s =
     (counted k rest (omega (arith, length-append ts us)))))
 field_goes (F.delete c) at rest k s =
     via (ended_reads ADeleted Expr G.DelTarget (λ ts a. del_target_places) deleted_reads deleted_begins c (1 + at) rest _
-    (ends_element rest s, λ e. omega (arith, e, s.2), low_leb 9 (lead_of rest) (omega (arith, s.1)))) (counted k rest (omega arith))
+    (ends_element rest s, λ e. omega (arith, e, s.2), lt-leb 9 (lead_of rest) (omega (arith, s.1)))) (counted k rest (omega arith))
 field_goes (F.global c) at rest k s =
     via (commas_reads AName Identifier F.Name no_places name_reads name_begins c (1 + at) rest _
     (ends_element rest s, λ e. omega (arith, e, s.2))) (counted k rest (omega arith))

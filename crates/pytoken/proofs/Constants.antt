@@ -124,7 +124,7 @@ quote_mark cs = either (list_any (λ c. c == 39) cs && not (list_any (λ c. c ==
     either false = inl refl
 
 -- no character of a text passes a test where its quotes and its body don't
-none_of : (p : ℕ → Bool) (xs : List ℕ) → list_all (λ c. not (p c)) xs ≡ true → list_any p xs ≡ false
+pub none_of : (p : ℕ → Bool) (xs : List ℕ) → list_all (λ c. not (p c)) xs ≡ true → list_any p xs ≡ false
 none_of p [] h = refl
 none_of p (x ∷ xs) h = let parts = and_parts (not (p x)) (list_all (λ c. not (p c)) xs) h in
     or_from (p x) (list_any p xs) (not-true (p x) parts.0) (none_of p xs parts.1)

@@ -9,7 +9,7 @@ use Rattle.pyfstring.specs.declared.parts.Conversion.TheVariants.{None as Unconv
 use Rattle.pytree_node.specs.declared.profiles.Extent.TheVariants.{Plain, Whole}
 use Rattle.pytoken.specs.declared.faults.TokenError.{TokenError}
 use Rattle.pytoken.specs.declared.faults.TokenError.TheVariants as errors
-use Rattle.pytoken.specs.Terminals.{Terminal, Op, in_form, FormattedBegin, FormattedEnd, FormattedText, FieldBegin, SpecBegin, FieldEnd}
+use Rattle.pytoken.specs.Terminals.{Op, in_form, FormattedBegin, FormattedEnd, FormattedText, FieldBegin, SpecBegin, FieldEnd}
 use Rattle.pytoken.specs.Terminals.{terminals_of, fault_of}
 use Rattle.pytoken.proofs.Computing.{formatted}
 

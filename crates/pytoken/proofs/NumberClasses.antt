@@ -2,14 +2,13 @@
 use Rattle.std.proofs.Common.{◌≡◌, ℕ, ◌^◌, Bool, true, false, List, [], ◌∷◌, refl, ap, inl, inr, arith, Some}
 use Rattle.std.specs.Prelude.{◌==◌, ◌||◌, ◌&&◌, not}
 use Rattle.std.specs.List.{list_any, list_all}
-use Rattle.std.proofs.lemmas.Bool.{and_from, and_left, and_right, or_from, or_left, or_right, cases_Bool, not-true}
+use Rattle.std.proofs.lemmas.Bool.{and_from, and_left, and_right, or_left, or_right, cases_Bool, not-true, or_cases, and_parts}
 use Rattle.std.proofs.lemmas.Bool.Decides.{nat_tests}
 use Rattle.pylex_lexeme.specs.Numbers.{is_nil, split_any, optional, headed, is_decimal_digit, is_zero, is_hex_digit, is_octal_digit}
 use Rattle.pylex_lexeme.specs.Numbers.{is_binary_digit}
 use Rattle.pylex_lexeme.specs.Numbers.{is_point, is_e, is_j, is_x, is_o, is_b, is_sign, are_some, is_decimal, is_radix, is_digit_part}
 use Rattle.pylex_lexeme.specs.Numbers.{is_exponent}
 use Rattle.pylex_lexeme.specs.Numbers.{is_point_after, is_point_before, is_raised, is_float, is_imaginary}
-use Rattle.pylex_lexeme.proofs.Callers.Booleans.{and_parts, or_parts}
 use Rattle.pylex_lexeme.proofs.Callers.Fronts.{split_all, joined_all}
 use Rattle.pylex_lexeme.proofs.Callers.Numbers.{digit_bounds, either, either_not, point_is, part_all, decimal_part}
 use Rattle.pyfloat.specs.FloatValues.{float_value}
@@ -19,6 +18,7 @@ use Rattle.pytoken.specs.declared.faults.TokenError.TheVariants as errors
 use Rattle.pytoken.specs.NumberValues.{radix_of, whole_value, is_complex, is_real, number_value, number_fault, too_large}
 use Rattle.pytoken.specs.Laws.{FaultsAreByClass}
 use Rattle.pytoken.proofs.NumberKinds.{fault_complex, fault_real, value_complex, value_real, value_whole}
+use Rattle.pytoken.proofs.Constants.{none_of}
 
 -- Texts in parts
 
@@ -26,7 +26,7 @@ use Rattle.pytoken.proofs.NumberKinds.{fault_complex, fault_real, value_complex,
 split_has : (p q : List ℕ → Bool) (r : ℕ → Bool) → ((u : List ℕ) → q u ≡ true → list_any r u ≡ true)
     → (t : List ℕ) → split_any p q t ≡ true → list_any r t ≡ true
 split_has p q r has [] h = has [] (and_parts (p []) (q []) h).1
-split_has p q r has (c ∷ cs) h = elim (or_parts (p [] && q (c ∷ cs)) (split_any (λ t. p (c ∷ t)) q cs) h) [
+split_has p q r has (c ∷ cs) h = elim (or_cases (p [] && q (c ∷ cs)) (split_any (λ t. p (c ∷ t)) q cs) h) [
   | inl here ↦ has (c ∷ cs) (and_parts (p []) (q (c ∷ cs)) here).1
   | inr later ↦ or_right (r c) (list_any r cs) (split_has (λ t. p (c ∷ t)) q r has cs later)
 ]
@@ -48,12 +48,6 @@ optional_all : (r : ℕ → Bool) (p : List ℕ → Bool) → ((u : List ℕ) �
     → (t : List ℕ) → optional p t ≡ true → list_all r t ≡ true
 optional_all r p rest [] h = refl
 optional_all r p rest (c ∷ t) h = rest (c ∷ t) h
-
-none_of : (p : ℕ → Bool) (xs : List ℕ) → list_all (λ c. not (p c)) xs ≡ true → list_any p xs ≡ false
-none_of p [] h = refl
-none_of p (x ∷ xs) h =
-    let parts = and_parts (not (p x)) (list_all (λ c. not (p c)) xs) h in
-    or_from (p x) (list_any p xs) (not-true (p x) parts.0) (none_of p xs parts.1)
 
 -- Decimal digits, points, exponents: no letter of a base, and no j
 
@@ -83,7 +77,7 @@ part_plain t h = part_all is_plain digit_plain refl t h
 
 exponent_plain : (t : List ℕ) → is_exponent t ≡ true → list_all is_plain t ≡ true
 unfolding is_exponent
-exponent_plain t h = elim (or_parts (headed is_e is_digit_part t) (headed is_e (headed is_sign is_digit_part) t) h) [
+exponent_plain t h = elim (or_cases (headed is_e is_digit_part t) (headed is_e (headed is_sign is_digit_part) t) h) [
   | inl bare ↦ headed_all is_plain is_e is_digit_part e_plain part_plain t bare
   | inr signed ↦
       headed_all is_plain is_e (headed is_sign is_digit_part) e_plain (headed_all is_plain is_sign is_digit_part sign_plain part_plain) t
@@ -97,8 +91,8 @@ then_plain p q front rest t h = split_all is_plain p q true t front rest h
 
 float_plain : (t : List ℕ) → is_float t ≡ true → list_all is_plain t ≡ true
 unfolding is_float is_point_after is_point_before is_raised
-float_plain t h = elim (or_parts (is_point_after t || is_point_before t) (is_raised t) h) [
-  | inl pointed ↦ elim (or_parts (is_point_after t) (is_point_before t) pointed) [
+float_plain t h = elim (or_cases (is_point_after t || is_point_before t) (is_raised t) h) [
+  | inl pointed ↦ elim (or_cases (is_point_after t) (is_point_before t) pointed) [
     | inl after ↦
         let fraction = split_any (optional is_digit_part) (optional is_exponent) in
         let behind = then_plain (optional is_digit_part) (optional is_exponent) (optional_all is_plain is_digit_part part_plain)
@@ -150,15 +144,15 @@ e_marks c h = or_right (is_point c) (is_e c) h
 
 exponent_has : (t : List ℕ) → is_exponent t ≡ true → list_any is_mark t ≡ true
 unfolding is_exponent
-exponent_has t h = elim (or_parts (headed is_e is_digit_part t) (headed is_e (headed is_sign is_digit_part) t) h) [
+exponent_has t h = elim (or_cases (headed is_e is_digit_part t) (headed is_e (headed is_sign is_digit_part) t) h) [
   | inl bare ↦ headed_has is_e is_digit_part is_mark e_marks t bare
   | inr signed ↦ headed_has is_e (headed is_sign is_digit_part) is_mark e_marks t signed
 ]
 
 float_has : (t : List ℕ) → is_float t ≡ true → list_any is_mark t ≡ true
 unfolding is_float is_point_after is_point_before is_raised
-float_has t h = elim (or_parts (is_point_after t || is_point_before t) (is_raised t) h) [
-  | inl pointed ↦ elim (or_parts (is_point_after t) (is_point_before t) pointed) [
+float_has t h = elim (or_cases (is_point_after t || is_point_before t) (is_raised t) h) [
+  | inl pointed ↦ elim (or_cases (is_point_after t) (is_point_before t) pointed) [
     | inl after ↦
         let fraction = split_any (optional is_digit_part) (optional is_exponent) in
         split_has is_digit_part (headed is_point fraction) is_mark (headed_has is_point fraction is_mark point_marks) t after
@@ -215,8 +209,8 @@ based t h =
     let first = headed is_zero (headed is_x (are_some is_hex_digit)) t in
     let second = headed is_zero (headed is_o (are_some is_octal_digit)) t in
     let third = headed is_zero (headed is_b (are_some is_binary_digit)) t in
-    elim (or_parts (first || second) third h) [
-      | inl earlier ↦ elim (or_parts first second earlier) [ inl is ↦ hexadecimal is | inr is ↦ octal is ]
+    elim (or_cases (first || second) third h) [
+      | inl earlier ↦ elim (or_cases first second earlier) [ inl is ↦ hexadecimal is | inr is ↦ octal is ]
       | inr is ↦ binary is
     ]
 
@@ -287,7 +281,7 @@ whole_by t complex real = (plain_whole t complex real, value_whole t complex rea
 
 whole_is : (t : List ℕ) → (is_decimal t || is_radix t) ≡ true
     → (number_fault Plain t ≡ too_large (2 ^ 128) t) × (number_value t ≡ Int (whole_value t))
-whole_is t h = elim (or_parts (is_decimal t) (is_radix t) h) [
+whole_is t h = elim (or_cases (is_decimal t) (is_radix t) h) [
   | inl decimal ↦ whole_by t (decimal_not_complex t decimal) (decimal_not_real t decimal)
   | inr radix ↦ whole_by t (radix_not_complex t (based t radix))
       (and_left (radix_of t == 10) (list_any is_mark t) (other_radix t (based t radix)))

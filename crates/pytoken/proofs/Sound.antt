@@ -8,7 +8,7 @@ use Rattle.std.specs.Prelude.{option_map, nat_lt, All}
 use Rattle.std.specs.List.{list_all, list_any}
 use Rattle.std.specs.Str.{chars, encode_utf8_all, all_scalars}
 use Rattle.std.proofs.Math.Utf8.{scalar}
-use Rattle.std.proofs.lemmas.Bool.{and_from, and_parts, or_left, or_right}
+use Rattle.std.proofs.lemmas.Bool.{and_parts, or_left, or_right}
 use Rattle.std.proofs.lemmas.List.Elements.{All-nil, All-append}
 use Rattle.std.proofs.lemmas.Str.{encodes-append, chars_from_encodes}
 use Rattle.pysource.specs.declared.places.Place.{Place}
@@ -45,14 +45,9 @@ use Rattle.pytoken.specs.Refusals.{most_brackets, entry_refusal, first_entry_ref
 use Rattle.pytoken.specs.Laws.{TokensAreSound}
 use Rattle.pytoken.proofs.EntryTokens.{of_entry, none_parts, no_fault, not_refused}
 use Rattle.std.specs.Option.{option_or}
+use Rattle.pylex.proofs.Callers.{scalars_of}
 
 -- the text of a lexeme is what stands between its offsets
-
-scalars_of : (t b : List ℕ) → all_scalars (t ++ b) ≡ true → all_scalars t ≡ true
-scalars_of [] b h = refl
-scalars_of (c ∷ t) b h =
-    let parts = and_parts (scalar c) (all_scalars (t ++ b)) h in
-    and_from (scalar c) (all_scalars t) parts.0 (scalars_of t b parts.1)
 
 scalars_behind : (a b : List ℕ) → all_scalars (a ++ b) ≡ true → all_scalars b ≡ true
 scalars_behind [] b h = h
@@ -66,7 +61,7 @@ take_whole : (a b : List ℕ) → take (length a) (a ++ b) ≡ a
 take_whole [] b = refl
 take_whole (c ∷ a) b = ap (λ (t : List ℕ). c ∷ t) (take_whole a b)
 
-own_text : (a t b : List ℕ) (e : Entry) → all_scalars (a ++ (t ++ b)) ≡ true → e.«from» ≡ bytes_in a → e.to ≡ bytes_in a + bytes_in t
+pub own_text : (a t b : List ℕ) (e : Entry) → all_scalars (a ++ (t ++ b)) ≡ true → e.«from» ≡ bytes_in a → e.to ≡ bytes_in a + bytes_in t
     → text_of (a ++ (t ++ b)) e ≡ t
 own_text a t b e good first last =
     let front = encode_utf8_all a in
@@ -143,7 +138,7 @@ unfolding plain_class
 plain_said t k e =
     said (is_name t) (is_number t) (is_operator t) (is_comment t) (are_blanks t) (is_line_end t) (is_join t) (exact_of t) k e
 
-counted : (cs t : List ℕ) → counts_as_string cs t ≡ true → is_string t ≡ true
+pub counted : (cs t : List ℕ) → counts_as_string cs t ≡ true → is_string t ≡ true
 unfolding counts_as_string is_string
 counted cs t h = by (opens_triple cs) h
   where

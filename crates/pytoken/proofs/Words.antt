@@ -159,7 +159,7 @@ ascii_from (c ∷ t) all =
     let parts = and_parts (is_ascii c) (list_all is_ascii t) all in IsAscii-cons c t (ltb-true c 128 parts.0) (ascii_from t parts.1)
 
 -- a text is an ASCII word by its characters where it is by its bytes
-same_word : (bs word : List ℕ) → IsUtf8 bs → IsAscii word → bytes_eq (chars bs) word ≡ bytes_eq bs word
+pub same_word : (bs word : List ℕ) → IsUtf8 bs → IsAscii word → bytes_eq (chars bs) word ≡ bytes_eq bs word
 same_word bs word utf8 ascii = elim (cases_Bool (bytes_eq bs word)) [
   | inl same ↦
       let is = (bytes_eq-Decides bs word).0 same in
@@ -229,7 +229,7 @@ fit_form form sound = elim (cases_Bool (is_unfit form)) [
     none_from None e = refl
     none_from (Some k) e = cc
 
-by_form : (t : List ℕ) → is_in_form Nfkc t ≡ false → name_fault t ≡ form_fault (nfkc t)
+pub by_form : (t : List ℕ) → is_in_form Nfkc t ≡ false → name_fault t ≡ form_fault (nfkc t)
 unfolding name_fault
 by_form t other = rw other refl
 

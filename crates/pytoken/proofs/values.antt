@@ -11,11 +11,11 @@ mod PlainLemmas
 mod CalmLemmas
 mod FaultLemmas
 mod TerminalLemmas
-mod PushLemmas
+pub mod PushLemmas
 mod EscapeFaults
 mod FieldLemmas
 mod Faulting
 mod FormattedLemmas
 mod BodyLemmas
-mod ElementLemmas
+pub mod ElementLemmas
 mod PieceLemmas

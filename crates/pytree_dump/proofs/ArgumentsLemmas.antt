@@ -1,7 +1,7 @@
 -- What the parameters of a function show, field by field.
 --
 -- Carries: show_seven, show_arguments. On: arguments_tree, args_row, optionals_row, exprs_row.
-use Rattle.std.proofs.Common.{◌≡◌, ℕ, ◌+◌, ◌<◌, List, Option, codes, map, refl, ap, sym, ◌∙◌, arith}
+use Rattle.std.proofs.Common.{◌≡◌, ℕ, ◌+◌, ◌<◌, List, Option, codes, map, ap, sym, ◌∙◌, arith}
 use Rattle.pytree_node.specs.declared.expressions.Expr.{Expr}
 use Rattle.pytree_node.specs.declared.expressions.Expr.TheOpen as layer
 use Rattle.pytree_node.specs.declared.expressions.Arg.{Arg}

@@ -7,10 +7,10 @@
 use Rattle.std.proofs.Common.{refl, None}
 use Rattle.std.specs.List.{list_all}
 use Rattle.std.specs.Str.{encode_utf8_all}
+use Rattle.std.proofs.lemmas.Bool.{and_parts}
 use Rattle.pysource.specs.Cookies.{plain}
 use Rattle.pysource.specs.Parts.{Parts}
 use Rattle.pylex.specs.Listing.{in_characters}
-use Rattle.pylex_lexeme.proofs.Callers.Booleans.{and_parts}
 use Rattle.pyunparse_text.specs.Spacing.{lines_text}
 use Rattle.pyunparse_text.specs.Tokens.{tokens_behind, is_written, rise_by_one, IsListedAs}
 use Rattle.pyunparse_text.specs.SpacingLaws.{WrittenIsRead, WrittenIsClear}

@@ -1,12 +1,10 @@
 -- Carries: first_comment. On: a lister over a reader gives one entry more at each step.
-use Rattle.std.proofs.Common.{◌≡◌, ℕ, ◌+◌, ◌≤◌, Bool, true, false, cond, List, [], ◌∷◌, ◌++◌, Option, Some, None, Ok, slice_get}
+use Rattle.std.proofs.Common.{◌≡◌, ℕ, ◌+◌, Bool, true, false, List, [], ◌∷◌, ◌++◌, Option, Some, None, Ok, slice_get}
 use Rattle.std.proofs.Common.{string_bytes, option_map, refl, sym, ap, subst, ◌∙◌, append_assoc, arith}
-use Rattle.std.proofs.lemmas.Grind.{common_steps}
 use Rattle.std.specs.Prelude.{find, String}
 use Rattle.std.specs.declared.alloc.Global.{Global}
 use Rattle.pysource.specs.Bytes.{Seen}
 use Rattle.pysource.specs.Parts.{Parts}
-use Rattle.pysource.specs.Limits.{source_limit}
 use Rattle.pysource.specs.Streams.{FollowsAt, stream_of}
 use Rattle.pysource.specs.Taking.{ReadsBytes}
 use Rattle.pysource.specs.declared.line_reader.Reach.{Reach}
@@ -17,9 +15,9 @@ use Rattle.pylex.specs.declared.entries.Step.{Step}
 use Rattle.pylex.specs.declared.entries.Step.TheVariants as steps
 use Rattle.pylex.specs.declared.kind.Kind.{Kind}
 use Rattle.pylex.specs.declared.kind.Kind.TheVariants as kinds
-use Rattle.pylex.specs.Listing.{Source, in_characters, listing, rest}
+use Rattle.pylex.specs.Listing.{in_characters, listing, rest}
 use Rattle.pylex.specs.ListingLines.{text_of}
-use Rattle.pylex.specs.Steps.{entries_of, entries_in, IsNoEntry}
+use Rattle.pylex.specs.Steps.{entries_of, entries_in}
 use Rattle.pylex.specs.Streamed.{Streamed, StreamsIn, Continues, BeginsAnew, Next}
 use Rattle.pylex.proofs.Callers.{next_is, end_last, fault_last}
 use Rattle.uses.specs.Streams.{is_comment, first_comment_of, Finds}

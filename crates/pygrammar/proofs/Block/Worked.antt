@@ -2,7 +2,7 @@
 --
 -- Carries: v, says, head, short, refused, for WorkedDepths, WorkedMatches. On: Law, Sound.
 use Rattle.std.proofs.Common.{◌≡◌, ℕ, List, [], ◌∷◌, Some, None, true, false, refl, subst}
-use Rattle.pytree_node.specs.Trees.{Expr, no_keyword, Arguments, Stmt, If, ClassDef, Try, ExprOf, stmts, handlers}
+use Rattle.pytree_node.specs.Trees.{Expr, no_keyword, Stmt, If, ClassDef, Try, ExprOf, stmts, handlers}
 use Rattle.pytree_node.specs.Trees as Trees
 use Rattle.pytree_node.specs.declared.operators.Context.TheVariants.{Load}
 use Rattle.pygrammar.specs.Lines.{Line, line, simple_form, decorator_form, header_form, Header, if_header, elif_header, else_header}

@@ -15,6 +15,8 @@ use Rattle.pygrammar.proofs.Line.SoundLines.{exactly}
 use Rattle.pygrammar.proofs.Line.Limit
 use Rattle.pygrammar.proofs.Line.MatchLines
 use Rattle.pygrammar.proofs.Line.MatchLines.{has_match_ends}
+pub use Rattle.pygrammar.proofs.Line.SoundParts.{headed, joins, type_is}
+pub use Rattle.pygrammar.proofs.Line.Invert.{called_name, stored_name}
 
 pub line_limit_is_exact : LineLimitIsExact
 line_limit_is_exact = Limit.line_limit_exactly

@@ -28,6 +28,7 @@ use Rattle.pygrammar.proofs.Opened.Tokens
 pub use Rattle.pygrammar.proofs.Opened.Counts.{behind_append, tokens_append, count_append, count_most, count_plain, count_within}
 pub use Rattle.pygrammar.proofs.Opened.Counts.{count_formatted}
 pub use Rattle.pygrammar.proofs.Opened.Tokens.{terminals_counted, tokens_counted}
+pub use Rattle.pygrammar.proofs.Opened.Closing.{one_less, none_some}
 
 -- ---- Tokens.
 

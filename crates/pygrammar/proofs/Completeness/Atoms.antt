@@ -172,7 +172,7 @@ module _ (self : Reads) where
 pub close_shape : (ts rest : List Terminal) (s t : Terminal) → (s ∷ (ts ++ (t ∷ []))) ++ rest ≡ s ∷ (ts ++ (t ∷ rest))
 close_shape ts rest s t = ap (λ z. s ∷ z) (append_assoc ts (t ∷ []) rest)
 
-close_two : (ts us rest : List Terminal) (s t : Terminal) → (s ∷ (ts ++ (us ++ (t ∷ [])))) ++ rest ≡ s ∷ (ts ++ (us ++ (t ∷ rest)))
+pub close_two : (ts us rest : List Terminal) (s t : Terminal) → (s ∷ (ts ++ (us ++ (t ∷ [])))) ++ rest ≡ s ∷ (ts ++ (us ++ (t ∷ rest)))
 close_two ts us rest s t = simp append_assoc refl
 
 pub close_after : (ts us rest : List Terminal) (s c t : Terminal) → (s ∷ (ts ++ (c ∷ (us ++ (t ∷ []))))) ++ rest ≡ s ∷

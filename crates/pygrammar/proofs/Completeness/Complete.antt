@@ -71,7 +71,7 @@ attribute_goes ts e x p = primary_goes (ts ++ (Op Dot ∷ (Ident x ∷ []))) (Tr
     let w = dot_more (read d) c.0 e x rest (omega (arith, c.1)) in
     (w.0, w.1, ap (read (suc d) Primary) (append_assoc ts (Op Dot ∷ (Ident x ∷ [])) rest) ∙ c.2 ∙ w.2))
 
-bracket_shape : (ts us rest : List Terminal) (s t : Terminal) → (ts ++ (s ∷ (us ++ (t ∷ [])))) ++ rest ≡ ts ++ (s ∷ (us ++ (t ∷ rest)))
+pub bracket_shape : (ts us rest : List Terminal) (s t : Terminal) → (ts ++ (s ∷ (us ++ (t ∷ [])))) ++ rest ≡ ts ++ (s ∷ (us ++ (t ∷ rest)))
 bracket_shape ts us rest s t = simp append_assoc refl
 
 subscript_goes : (ts us : List Terminal) (e s : Expr) → ReadsAs Primary ts e → ReadsAs Slices us s

@@ -41,7 +41,7 @@ pub first_pos : (l : Level) → 0 < first l
 first_pos Value = omega arith
 first_pos _ = omega arith
 
-prefix_led : (l : Level) (t : Terminal) (o : UnaryOperator) → prefix_operator l t ≡ Some o → first l ≤ lead t
+pub prefix_led : (l : Level) (t : Terminal) (o : UnaryOperator) → prefix_operator l t ≡ Some o → first l ≤ lead t
 prefix_led Not (Word Key.Not) o h = omega arith
 prefix_led Not (Word _) o h = absurd (cc)
 prefix_led Factor (Op Plus) o h = omega arith
@@ -50,7 +50,7 @@ prefix_led Factor (Op Tilde) o h = omega arith
 prefix_led Factor (Op _) o h = absurd (cc)
 prefix_led _ t o h = absurd (cc)
 
-constant_led : (t : Terminal) (v : Values.Value) → constant_word t ≡ Some v → 24 ≤ lead t
+pub constant_led : (t : Terminal) (v : Values.Value) → constant_word t ≡ Some v → 24 ≤ lead t
 constant_led (Word Key.None) v h = omega arith
 constant_led (Word Key.True) v h = omega arith
 constant_led (Word Key.False) v h = omega arith

@@ -5,6 +5,7 @@
 use Rattle.std.proofs.Common.{◌≡◌, refl, sym, ap, ◌∙◌, ℕ, ◌+◌, arith, List, [], ◌∷◌, Option, Some, None, Bool, true, false, cond}
 use Rattle.std.proofs.Common.{option_map}
 use Rattle.std.specs.Prelude.{max}
+use Rattle.std.proofs.lemmas.Option.{same_Some}
 use Rattle.pytree_node.specs.declared.operators.Context.{Context}
 use Rattle.pytree_node.specs.declared.operators.Context.TheVariants.{Store, Del}
 use Rattle.pytree_node.specs.Trees
@@ -18,14 +19,11 @@ use Rattle.pytree_height.specs.Heights.{height, heights, optional_height, keywor
 use Rattle.pytree_height.specs.Heights.{arguments_height, optional_arg_height}
 use Rattle.pygrammar.specs.Inner.EntryHeights.{entries_height}
 
-pub some_is : {A : Type 0} (a b : A) → Some a ≡ Some b → a ≡ b
-some_is a b h = cc
-
 -- f keeps what n counts
 pub mapped_keeps : {A B : Type 0} (f : A → B) (o : Option A) (b : B) (n : A → ℕ) (k : B → ℕ) (z : ℕ) → ((a : A) → o ≡ Some a → k (f a) ≡ z)
     → option_map f o ≡ Some b → k b ≡ z
 mapped_keeps f None b n k z h q = absurd (cc)
-mapped_keeps f (Some a) b n k z h q = ap k (sym (some_is (f a) b q)) ∙ h a refl
+mapped_keeps f (Some a) b n k z h q = ap k (sym (same_Some (f a) b q)) ∙ h a refl
 
 star_height : (e : Expr) (c : Context) (s : Expr) → ((f : Expr) → stored e ≡ Some f → height f ≡ height e)
     → stored (Trees.Starred e c) ≡ Some s → height s ≡ height e + 1
@@ -37,14 +35,14 @@ both_height : (o : Option Expr) (p : Option Exprs) (fs : Exprs) (m n : ℕ) → 
     → ((gs : Exprs) → p ≡ Some gs → heights gs ≡ n) → both o p ≡ Some fs → heights fs ≡ max m n
 both_height None p fs m n f g h = absurd (cc)
 both_height (Some e) None fs m n f g h = absurd (cc)
-both_height (Some e) (Some es) fs m n f g h = ap heights (sym (some_is (an_expr e es) fs h))
+both_height (Some e) (Some es) fs m n f g h = ap heights (sym (same_Some (an_expr e es) fs h))
     ∙ (ap (λ z. max z (heights es)) (f e refl) ∙ ap (λ z. max m z) (g es refl))
 
 mutual
   pub stored_height : (e s : Expr) → stored e ≡ Some s → height s ≡ height e
-  stored_height (Trees.Name x c) s h = ap height (sym (some_is (Trees.Name x Store) s h))
-  stored_height (Trees.Attribute e x c) s h = ap height (sym (some_is (Trees.Attribute e x Store) s h))
-  stored_height (Trees.Subscript e i c) s h = ap height (sym (some_is (Trees.Subscript e i Store) s h))
+  stored_height (Trees.Name x c) s h = ap height (sym (same_Some (Trees.Name x Store) s h))
+  stored_height (Trees.Attribute e x c) s h = ap height (sym (same_Some (Trees.Attribute e x Store) s h))
+  stored_height (Trees.Subscript e i c) s h = ap height (sym (same_Some (Trees.Subscript e i Store) s h))
   stored_height (Trees.Tuple es c) s h = mapped_keeps (λ fs. Trees.Tuple fs Store) (all_stored es) s heights height (heights es + 1)
       (λ fs q. ap (λ n. n + 1) (all_height es fs q)) h
   stored_height (Trees.ListOf es c) s h = mapped_keeps (λ fs. Trees.ListOf fs Store) (all_stored es) s heights height (heights es + 1)
@@ -53,15 +51,15 @@ mutual
   stored_height _ s h = absurd (cc)
 
   all_height : (es fs : Exprs) → all_stored es ≡ Some fs → heights fs ≡ heights es
-  all_height no_exprs fs h = ap heights (sym (some_is no_exprs fs h))
+  all_height no_exprs fs h = ap heights (sym (same_Some no_exprs fs h))
   all_height (an_expr e es) fs h = both_height (stored e) (all_stored es) fs (height e) (heights es) (λ s q. stored_height e s q)
       (λ gs q. all_height es gs q) h
 
 mutual
   pub deleted_height : (e s : Expr) → deleted e ≡ Some s → height s ≡ height e
-  deleted_height (Trees.Name x c) s h = ap height (sym (some_is (Trees.Name x Del) s h))
-  deleted_height (Trees.Attribute e x c) s h = ap height (sym (some_is (Trees.Attribute e x Del) s h))
-  deleted_height (Trees.Subscript e i c) s h = ap height (sym (some_is (Trees.Subscript e i Del) s h))
+  deleted_height (Trees.Name x c) s h = ap height (sym (same_Some (Trees.Name x Del) s h))
+  deleted_height (Trees.Attribute e x c) s h = ap height (sym (same_Some (Trees.Attribute e x Del) s h))
+  deleted_height (Trees.Subscript e i c) s h = ap height (sym (same_Some (Trees.Subscript e i Del) s h))
   deleted_height (Trees.Tuple es c) s h = mapped_keeps (λ fs. Trees.Tuple fs Del) (all_deleted es) s heights height (heights es + 1)
       (λ fs q. ap (λ n. n + 1) (deleted_heights es fs q)) h
   deleted_height (Trees.ListOf es c) s h = mapped_keeps (λ fs. Trees.ListOf fs Del) (all_deleted es) s heights height (heights es + 1)
@@ -69,14 +67,14 @@ mutual
   deleted_height _ s h = absurd (cc)
 
   deleted_heights : (es fs : Exprs) → all_deleted es ≡ Some fs → heights fs ≡ heights es
-  deleted_heights no_exprs fs h = ap heights (sym (some_is no_exprs fs h))
+  deleted_heights no_exprs fs h = ap heights (sym (same_Some no_exprs fs h))
   deleted_heights (an_expr e es) fs h = both_height (deleted e) (all_deleted es) fs (height e) (heights es) (λ s q. deleted_height e s q)
       (λ gs q. deleted_heights es gs q) h
 
 pub single_height : (e s : Expr) → single_stored e ≡ Some s → height s ≡ height e
-single_height (Trees.Name x c) s h = ap height (sym (some_is (Trees.Name x Store) s h))
-single_height (Trees.Attribute e x c) s h = ap height (sym (some_is (Trees.Attribute e x Store) s h))
-single_height (Trees.Subscript e i c) s h = ap height (sym (some_is (Trees.Subscript e i Store) s h))
+single_height (Trees.Name x c) s h = ap height (sym (same_Some (Trees.Name x Store) s h))
+single_height (Trees.Attribute e x c) s h = ap height (sym (same_Some (Trees.Attribute e x Store) s h))
+single_height (Trees.Subscript e i c) s h = ap height (sym (same_Some (Trees.Subscript e i Store) s h))
 single_height _ s h = absurd (cc)
 
 -- arguments
@@ -105,7 +103,7 @@ ordered_height true true (Doubled e ∷ es) h = omega (arith, ordered_height tru
 ordered_height true true (_ ∷ es) h = absurd (cc)
 
 called_is : (b : Bool) (x e : Expr) → cond b (Some x) None ≡ Some e → (b ≡ true) × (x ≡ e)
-called_is true x e h = (refl, some_is x e h)
+called_is true x e h = (refl, same_Some x e h)
 called_is false x e h = absurd (cc)
 
 pub called_height : (f e : Expr) (es : List Entry) → called f es ≡ Some e → height e ≡ max (height f) (entries_height es) + 1
@@ -114,7 +112,7 @@ called_height f e es h =
     ap height (sym z.1) ∙ ap (λ n. max (height f) n + 1) (sym (ordered_height false false es z.0))
 
 -- the larger of several, in another order
-swap : (a b c : ℕ) → max a (max b c) ≡ max b (max a c)
+pub swap : (a b c : ℕ) → max a (max b c) ≡ max b (max a c)
 swap a b c = omega arith
 
 regroup : (a b c : ℕ) → max (max a b) c ≡ max a (max b c)
@@ -155,7 +153,7 @@ move_vararg ps qs v ks kds k ds p h =
 vararg_height : Arguments → ℕ
 vararg_height (arguments ps qs v ks kds k ds) = optional_arg_height v
 
-keyword_only_height : (p : Arg) (d : OptionalExpr) (a : Arguments)
+pub keyword_only_height : (p : Arg) (d : OptionalExpr) (a : Arguments)
     → arguments_height (add_keyword_only p d a) ≡ max (max (arg_height p) (optional_height d)) (arguments_height a)
 keyword_only_height p d (arguments ps qs v ks kds k ds) = move_keyword (optional_height d) (heights ds) (optional_arg_height k)
     (optional_heights kds) (arg_heights ks) (arg_height p) (arg_heights ps) (arg_heights qs) (optional_arg_height v)
@@ -164,7 +162,7 @@ default_height : (d : OptionalExpr) (ds : Exprs) → heights (with_default d ds)
 default_height absent ds = omega arith
 default_height (present d) ds = refl
 
-plain_height : (p : Arg) (d : OptionalExpr) (a : Arguments)
+pub plain_height : (p : Arg) (d : OptionalExpr) (a : Arguments)
     → arguments_height (add_plain p d a) ≡ max (max (arg_height p) (optional_height d)) (arguments_height a)
 plain_height p d (arguments ps qs v ks kds k ds) =
     ap (λ z. max (arg_heights ps)
@@ -173,7 +171,7 @@ plain_height p d (arguments ps qs v ks kds k ds) =
     (default_height d ds) ∙ move_plain (optional_height d) (heights ds) (optional_arg_height k) (optional_heights kds) (arg_heights ks)
     (arg_height p) (arg_heights ps) (arg_heights qs) (optional_arg_height v)
 
-slash_height : (p : Arg) (d : OptionalExpr) (a : Arguments)
+pub slash_height : (p : Arg) (d : OptionalExpr) (a : Arguments)
     → arguments_height (add_before_slash p d a) ≡ max (max (arg_height p) (optional_height d)) (arguments_height a)
 slash_height p d (arguments ps qs v ks kds k ds) =
     ap (λ z. max (max (arg_height p) (arg_heights ps))
@@ -199,28 +197,28 @@ kwarg_vararg : (p : Arg) → vararg_height (with_kwarg p) ≡ 0
 unfolding vararg_height
 kwarg_vararg p = refl
 
-kwarg_height : (p : Arg) → arguments_height (with_kwarg p) ≡ max (arg_height p) 0
+pub kwarg_height : (p : Arg) → arguments_height (with_kwarg p) ≡ max (arg_height p) 0
 kwarg_height p = omega arith
 
 no_vararg : (es : List Entry) (a : Arguments) → after_star es ≡ Some a → vararg_height a ≡ 0
-no_vararg [] a h = ap vararg_height (sym (some_is no_arguments a h)) ∙ zero_vararg
+no_vararg [] a h = ap vararg_height (sym (same_Some no_arguments a h)) ∙ zero_vararg
 no_vararg (Plain p d ∷ es) a h = mapped_keeps (add_keyword_only p d) (after_star es) a vararg_height vararg_height 0
     (λ b q. add_vararg p d b ∙ no_vararg es b q) h
-no_vararg (Collected p ∷ []) a h = ap vararg_height (sym (some_is (with_kwarg p) a h)) ∙ kwarg_vararg p
+no_vararg (Collected p ∷ []) a h = ap vararg_height (sym (same_Some (with_kwarg p) a h)) ∙ kwarg_vararg p
 no_vararg (Collected p ∷ (x ∷ es)) a h = absurd (cc)
 no_vararg (_ ∷ es) a h = absurd (cc)
 
 after_height : (es : List Entry) (a : Arguments) → after_star es ≡ Some a → arguments_height a ≡ entries_height es
-after_height [] a h = ap arguments_height (sym (some_is no_arguments a h))
+after_height [] a h = ap arguments_height (sym (same_Some no_arguments a h))
 after_height (Plain p d ∷ es) a h = mapped_keeps (add_keyword_only p d) (after_star es) a arguments_height arguments_height
     (max (max (arg_height p) (optional_height d)) (entries_height es)) (λ b q. keyword_only_height p d b
     ∙ ap (λ n. max (max (arg_height p) (optional_height d)) n) (after_height es b q)) h
-after_height (Collected p ∷ []) a h = ap arguments_height (sym (some_is (with_kwarg p) a h)) ∙ kwarg_height p
+after_height (Collected p ∷ []) a h = ap arguments_height (sym (same_Some (with_kwarg p) a h)) ∙ kwarg_height p
 after_height (Collected p ∷ (x ∷ es)) a h = absurd (cc)
 after_height (_ ∷ es) a h = absurd (cc)
 
 star_entries : (es : List Entry) (a : Arguments) → at_star es ≡ Some a → arguments_height a ≡ entries_height es
-star_entries [] a h = ap arguments_height (sym (some_is no_arguments a h))
+star_entries [] a h = ap arguments_height (sym (same_Some no_arguments a h))
 star_entries (Gathered p ∷ es) a h = mapped_keeps (set_vararg p) (after_star es) a arguments_height arguments_height
     (max (arg_height p) (entries_height es)) (λ b q. set_height p b (no_vararg es b q)
     ∙ ap (λ n. max (arg_height p) n) (after_height es b q)) h
@@ -229,7 +227,7 @@ star_entries (Bare ∷ (Plain p d ∷ es)) a h = after_height (Plain p d ∷ es)
     bare : (n : ℕ) → n ≡ max 0 n
     bare n = omega arith
 star_entries (Bare ∷ _) a h = absurd (cc)
-star_entries (Collected p ∷ []) a h = ap arguments_height (sym (some_is (with_kwarg p) a h)) ∙ kwarg_height p
+star_entries (Collected p ∷ []) a h = ap arguments_height (sym (same_Some (with_kwarg p) a h)) ∙ kwarg_height p
 star_entries (Collected p ∷ (x ∷ es)) a h = absurd (cc)
 star_entries (_ ∷ es) a h = absurd (cc)
 

@@ -1,7 +1,7 @@
 -- Where items in brackets aren't read within a height, none stand in front of a colon.
 --
 -- Carries: brackets_are_read, for Callers/Lines. On: Caps, Depth, Headers.
-use Rattle.std.proofs.Common.{◌≡◌, inl, inr, refl, sym, ap, subst, ◌∙◌, ℕ, zero, suc, ◌+◌, arith, List, [], ◌∷◌, ◌++◌}
+use Rattle.std.proofs.Common.{◌≡◌, inl, inr, refl, sym, ap, ◌∙◌, ℕ, zero, suc, arith, List, ◌∷◌, ◌++◌}
 use Rattle.pylex_lexeme.specs.declared.kinds.Exact.TheVariants as Sign
 use Rattle.pytree_node.specs.Trees.{Item}
 use Rattle.pytoken.specs.Terminals.{Terminal, Op}

@@ -9,7 +9,7 @@ use Rattle.pytree_node.specs.declared.operators.BoolOperator.{BoolOperator}
 use Rattle.pytree_node.specs.declared.operators.BoolOperator.TheVariants as Join
 use Rattle.pygrammar.specs.declared.levels.Level.{Level}
 use Rattle.pygrammar.specs.declared.levels.Level.TheVariants.{Value, Stars, Primary}
-use Rattle.pytree_node.specs.Trees.{Expr, Identifier}
+use Rattle.pytree_node.specs.Trees.{Expr}
 use Rattle.pytree_node.specs.Trees as Trees
 use Rattle.pytoken.specs.Terminals.{Spelled, Terminal, Op, Ident}
 use Rattle.pygrammar.specs.Operators.{below, left_operator, prefix_operator, chain_level}
@@ -33,7 +33,7 @@ to_primary s (G.yields (G.yield_from p)) h = absurd (cc)
 to_primary s (G.yields (G.yield_some p)) h = absurd (cc)
 to_primary s _ h = absurd (cc)
 
-called_name : (f e : Expr) (es : List Entry) → called f es ≡ Some e → is_name e ≡ false
+pub called_name : (f e : Expr) (es : List Entry) → called f es ≡ Some e → is_name e ≡ false
 called_name f e es h = go (in_order false false es) h
   where
     go : (b : Bool) → ◌≡◌ {A = Option Expr} (cond b (Some (Trees.Call f (positional es) (keywords es))) None) (Some e) → is_name e ≡ false

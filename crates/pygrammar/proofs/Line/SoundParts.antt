@@ -123,7 +123,7 @@ type_params_sound profile i = says_if (has_types profile) _ _ (λ h. says_op Sig
     ))))
     (λ _. found ([], refl, F.no_type_params))) (found ([], refl, F.no_type_params))
 
-type_is : (t : Terminal) (n : ℕ) → is_type t ≡ Some n → (form : Identifier) × (t ≡ type_word form)
+pub type_is : (t : Terminal) (n : ℕ) → is_type t ≡ Some n → (form : Identifier) × (t ≡ type_word form)
 type_is (Ident x) n h = (x.form, go (bytes_eq x.spelling type_name) refl h)
   where
     go : (b : Bool) → bytes_eq x.spelling type_name ≡ b → ◌≡◌ {A = Option ℕ} (cond b (Some 0) None) (Some n) → Ident x ≡ type_word x.form

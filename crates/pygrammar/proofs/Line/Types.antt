@@ -14,7 +14,7 @@ use Rattle.pygrammar.specs.Grammar as G
 use Rattle.pygrammar.specs.Reader.{Found}
 use Rattle.pygrammar.proofs.Completeness.Climb.{Stops}
 use Rattle.pygrammar.specs.Forms as F
-use Rattle.pygrammar.specs.Forms.{type_name, type_word}
+use Rattle.pygrammar.specs.Forms.{type_word}
 use Rattle.pytree_node.specs.Profiles.{has_types}
 use Rattle.pygrammar.specs.LineReader.{starts_type_param, commas_of, plain, read_type_param, bracketed_type_params, read_type_params}
 use Rattle.pygrammar.specs.LineReader.{alias_rest, statement}

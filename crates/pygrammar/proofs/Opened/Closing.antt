@@ -76,7 +76,7 @@ ended x p = both p (sign none)
 pub formatted : {ts us : List Terminal} → Closes ts → Closes us → Closes (FormattedBegin ∷ (ts ++ (FormattedEnd ∷ us)))
 formatted {ts} {us} p q = record { is = λ o. past p (0 ∷ o) (FormattedEnd ∷ us) ∙ q.is o }
 
-one_less : (n : ℕ) → suc n - 1 ≡ n
+pub one_less : (n : ℕ) → suc n - 1 ≡ n
 one_less n = omega arith
 
 pub field : {c : Conversion} {ts us vs : List Terminal} → Closes ts → Closes us → Closes vs
@@ -95,7 +95,7 @@ field {c} {ts} {us} {vs} p q r = record { is = by }
 abbrev Quiet : {A : Type 0} → (Terminal → Option A) → Type 0
 Quiet {A} f = (t : Terminal) (a : A) → f t ≡ Some a → IsQuiet t
 
-none_some : {A : Type 0} (o : Option A) (a : A) → o ≡ None → o ≡ Some a → ⊥
+pub none_some : {A : Type 0} (o : Option A) (a : A) → o ≡ None → o ≡ Some a → ⊥
 none_some None a h q = absurd cc
 none_some (Some x) a h q = absurd cc
 

@@ -41,9 +41,10 @@ use Rattle.pygrammar.proofs.Depths.Enough.{Good, GoodTo, good_kept}
 use Rattle.pygrammar.proofs.Related.Strings.{r_joined, r_literals}
 use Rattle.pygrammar.proofs.Heights.Bound.{tall}
 use Rattle.pygrammar.proofs.Heights.Room.{good_capped, sound_capped}
-use Rattle.pygrammar.proofs.Pattern.Sizes.{pattern_some, entry_size, entries_size, entry_some, entries_some, entries_last, elements_low}
+use Rattle.pygrammar.proofs.Pattern.Sizes.{entry_size, entries_size, entry_some, entries_some, entries_last, elements_low}
 use Rattle.pygrammar.proofs.Pattern.Sizes.{mapped_low, class_low, as_low, alternatives_size, alternatives_some, alternatives_last}
 use Rattle.pygrammar.proofs.Pattern.Sizes.{alternatives_low}
+use Rattle.pygrammar.proofs.Pattern.ReadLevels.{pattern_some}
 
 -- ---- An answer that fits: what is found has, with what the terminals after it count, a size of at most n.
 

@@ -25,18 +25,16 @@ use Rattle.pygrammar.proofs.Pattern.Ends.{pass_start}
 use Rattle.pygrammar.proofs.Pattern.ReadValues.{fits, class_reads}
 use Rattle.pygrammar.proofs.Pattern.ReadLevels.{FindsPattern, by_step, by_closed}
 use Rattle.pygrammar.proofs.Pattern.ReadEntries.{elements_hold, mapping_holds, arguments_hold, ListingFinds, AlternativesFind}
+use Rattle.pygrammar.proofs.Completeness.Complete.{bracket_shape}
 
 -- ---- Lists with brackets.
-
-close_behind : (ts us r : List Terminal) (s t : Terminal) → (ts ++ (s ∷ (us ++ (t ∷ [])))) ++ r ≡ ts ++ (s ∷ (us ++ (t ∷ r)))
-close_behind ts us r s t = simp append_assoc refl
 
 one_more : (ts us : List Terminal) (t : Terminal) → length (ts ++ (t ∷ us)) ≡ suc (length ts + length us)
 one_more ts us t = omega (arith, length-append ts (t ∷ us))
 
 -- ---- Heights.
 
-chosen : (b : Bool) (p q : Pattern) → (if b then Some p else None) ≡ Some q → p ≡ q
+pub chosen : (b : Bool) (p q : Pattern) → (if b then Some p else None) ≡ Some q → p ≡ q
 chosen true p q h = same p q h
   where
     same : (p q : Pattern) → Some p ≡ Some q → p ≡ q
@@ -176,7 +174,7 @@ class_pattern_finds ts us e es p q c o k = by_closed (ts ++ (Op LPar ∷ (us ++ 
     let v = class_height e es p o in
     let rest = us ++ (Op RPar ∷ r) in
     let b = class_reads q d (Op LPar ∷ rest) (omega (arith, h, v)) (omega arith) in
-    ap (closed_pattern d (capped g d) (capped_pattern g d) (capped_pattern g (suc d))) (close_behind ts us r (Op LPar) (Op RPar) ∙ b.2.0) ∙
+    ap (closed_pattern d (capped g d) (capped_pattern g d) (capped_pattern g (suc d))) (bracket_shape ts us r (Op LPar) (Op RPar) ∙ b.2.0) ∙
     (class_step d (capped g d) (capped_pattern g d) (capped_pattern g (suc d)) b.0 b.1 rest e b.3 b.2.1 ∙
     arguments_step d (capped g d) (capped_pattern g d) (capped_pattern g (suc d)) rest r e es p
     (k g d (Op RPar ∷ r) (omega (arith, w, n, m)) (omega (arith, h, v, arguments_hold c)) (omega arith) (length rest)

@@ -2,18 +2,16 @@
 --
 -- Carries: entry_size, entries_size, alternatives_size and what is made of them, for Bound and
 -- Long. On: HeightLemmas.
-use Rattle.std.proofs.Common.{◌≡◌, ap, ℕ, suc, ◌≤◌, ◌<◌, arith, List, [], ◌∷◌, ◌++◌, length, Some, None, Bool, true, false, if◌then◌else◌}
+use Rattle.std.proofs.Common.{◌≡◌, ap, ℕ, suc, ◌≤◌, ◌<◌, arith, List, [], ◌∷◌, ◌++◌, length, Some, false}
 use Rattle.std.specs.Prelude.{max}
-use Rattle.pytree_node.specs.Trees.{Expr, Identifier, Pattern, MatchValue, MatchMapping, MatchClass, MatchAs, present_pattern, patterns}
+use Rattle.pytree_node.specs.Trees.{Expr, Identifier, Pattern, MatchMapping, MatchClass, MatchAs, present_pattern, patterns}
 use Rattle.pytree_height.specs.Heights.{height, list_height, pattern_height, pattern_heights}
 use Rattle.pygrammar.specs.PatternOperators.{captured}
 use Rattle.pygrammar.specs.PatternEntries.{PatternEntry, Alone, Keyed, Rest, Named, elements, is_mapping, pattern_keys, key_patterns}
 use Rattle.pygrammar.specs.PatternEntries.{rest_of, mapped, are_class_arguments, named_attributes, named_patterns, class_of, as_named}
-use Rattle.pygrammar.proofs.Heights.HeightLemmas.{some_is, mapped_keeps}
-
-pub pattern_some : (p : Pattern) → 0 < pattern_height p
-pattern_some (MatchValue e) = omega arith
-pattern_some _ = omega arith
+use Rattle.pygrammar.proofs.Heights.HeightLemmas.{mapped_keeps}
+use Rattle.pygrammar.proofs.Pattern.ReadLevels.{pattern_some}
+use Rattle.pygrammar.proofs.Pattern.ReadBrackets.{chosen}
 
 -- ---- Entries. An entry without a pattern counts 1, as does the list without entries.
 
@@ -57,10 +55,6 @@ named_low (Named x p ∷ es) = omega (arith, named_low es)
 named_low (_ ∷ es) = omega (arith, named_low es)
 
 -- ---- What is made of a list.
-
-chosen : (b : Bool) (p q : Pattern) → (if b then Some p else None) ≡ Some q → p ≡ q
-chosen true p q h = some_is p q h
-chosen false p q h = absurd (cc)
 
 pub mapped_low : (es : List PatternEntry) (p : Pattern) → mapped es ≡ Some p → pattern_height p ≤ suc (entries_size es)
 mapped_low es p h = omega (

@@ -5,6 +5,7 @@
 use Rattle.std.proofs.Common.{◌≡◌, refl, sym, ap, ◌∙◌, ℕ, zero, suc, ◌≤◌, List, [], ◌∷◌, ◌++◌, length, Some, None, Bool, true, false, cond}
 use Rattle.std.proofs.Common.{leb, append_assoc}
 use Rattle.std.proofs.lemmas.Bool.{leb-true}
+use Rattle.std.proofs.lemmas.Option.{same_Some}
 use Rattle.pylex_lexeme.specs.declared.kinds.Exact.TheVariants.{Minus, Dot}
 use Rattle.pytree_node.specs.declared.operators.Context.TheVariants.{Load}
 use Rattle.pygrammar.specs.declared.levels.Level.TheVariants.{Sum}
@@ -21,7 +22,6 @@ use Rattle.pygrammar.specs.PatternReader.{cap_by, imaginary_in, number_in, numbe
 use Rattle.pygrammar.specs.PatternReader.{read_key}
 use Rattle.pygrammar.proofs.Soundness.Says.{Says, SoundAt, found, no_form, deep, says_then, says_first, says_op, says_name, says_is}
 use Rattle.pygrammar.proofs.Soundness.SoundStrings.{joined_sound, literals_sound}
-use Rattle.pygrammar.proofs.Heights.HeightLemmas.{some_is}
 
 -- ---- Tests with what they tell.
 
@@ -43,14 +43,14 @@ says_choice false x y h k = k refl
 -- ---- Literals.
 
 number_is : (t : Terminal) (v : Values.Value) → number_in t ≡ Some v → t ≡ Number v
-number_is (Number w) v h = ap Number (some_is w v h)
+number_is (Number w) v h = ap Number (same_Some w v h)
 number_is _ v h = absurd (cc)
 
 imaginary_is : (t : Terminal) (v : Values.Value) → imaginary_in t ≡ Some v → (t ≡ Number v) × (is_imaginary v ≡ true)
 imaginary_is (Number w) v h = go (is_imaginary w) refl h
   where
     go : (b : Bool) → is_imaginary w ≡ b → cond b (Some w) None ≡ Some v → (Number w ≡ Number v) × (is_imaginary v ≡ true)
-    go true e k = (ap Number (some_is w v k), ap is_imaginary (sym (some_is w v k)) ∙ e)
+    go true e k = (ap Number (same_Some w v k), ap is_imaginary (sym (same_Some w v k)) ∙ e)
     go false e k = absurd (cc)
 imaginary_is _ v h = absurd (cc)
 

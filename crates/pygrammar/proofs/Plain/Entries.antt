@@ -5,6 +5,7 @@
 -- called_plain, for Parameters, Expressions, Forms. On: Terminals, Targets.
 use Rattle.std.proofs.Common.{◌≡◌, refl, sym, ap, ◌∙◌, Bool, true, false, cond, ◌&&◌, List, [], ◌∷◌, Some, None}
 use Rattle.std.proofs.Math.Bool.{and_assoc}
+use Rattle.std.proofs.lemmas.Option.{same_Some}
 use Rattle.pygrammar.specs.declared.levels.Level.{Level}
 use Rattle.pytree_node.specs.Trees
 use Rattle.pytree_node.specs.Trees.{Expr}
@@ -15,7 +16,6 @@ use Rattle.pygrammar.specs.Arguments.{in_order, positional, keywords, called}
 use Rattle.pygrammar.specs.Extents.{is_plain, are_plain, is_optional_plain, are_optionals_plain, are_keywords_plain, is_arg_plain}
 use Rattle.pygrammar.specs.Grammar as G
 use Rattle.pygrammar.proofs.Plain.Terminals.{and_swap, and_across}
-use Rattle.pygrammar.proofs.Heights.HeightLemmas.{some_is}
 
 abbrev pub is_entry_plain : Entry → Bool
 is_entry_plain (Single e) = is_plain e
@@ -76,7 +76,7 @@ arguments_plain (G.last_item p) = argument_plain [] p refl
 arguments_plain (G.item {es = es} p c) = argument_plain es p (arguments_plain c)
 
 called_is : (b : Bool) (x e : Expr) → cond b (Some x) None ≡ Some e → x ≡ e
-called_is true x e h = some_is x e h
+called_is true x e h = same_Some x e h
 called_is false x e h = absurd cc
 
 pub called_plain : {ts : List Terminal} {es : List Entry} (f e : Expr) → G.Listing Argument ts es → called f es ≡ Some e

@@ -5,6 +5,7 @@
 use Rattle.std.proofs.Common.{◌≡◌, refl, sym, ap, ◌∙◌, Bool, true, false, ◌&&◌, List, [], ◌∷◌, ◌++◌, map, Option, Some, None}
 use Rattle.std.specs.List.{list_all}
 use Rattle.std.proofs.Math.Bool.{and_assoc, and-true}
+use Rattle.std.proofs.lemmas.Option.{same_Some}
 use Rattle.pylex_lexeme.specs.declared.kinds.Exact.{Exact}
 use Rattle.pylex_lexeme.specs.declared.kinds.Exact.TheVariants as Sign
 use Rattle.pytoken.specs.declared.keywords.Keyword.TheVariants as Key
@@ -26,7 +27,6 @@ use Rattle.pygrammar.specs.Constants.{constant_word, joined}
 use Rattle.pygrammar.specs.Entries.{Item, Entry}
 use Rattle.pygrammar.specs.Extents.{is_plain_value, is_plain, are_plain, is_optional_plain, are_comprehensions_plain}
 use Rattle.pygrammar.specs.Grammar as G
-use Rattle.pygrammar.proofs.Heights.HeightLemmas.{some_is}
 use Rattle.pygrammar.proofs.Plain.Terminals.{and_swap, is_terminal_plain, Plainness, none, same, alone, front, sign, word, ident, both}
 use Rattle.pygrammar.proofs.Plain.Terminals.{ended}
 use Rattle.pygrammar.proofs.Plain.Targets.{stored_plain, deleted_plain, single_plain}
@@ -72,15 +72,15 @@ compared_plain G.is_not p = word (word p)
 
 -- what a word or a sign stands for is plain
 word_plain : (t : Terminal) (v : Value) → constant_word t ≡ Some v → (is_terminal_plain t ≡ true) × (is_plain_value v ≡ true)
-word_plain (Word Key.None) v h = (refl, ap is_plain_value (sym (some_is Values.None v h)))
-word_plain (Word Key.True) v h = (refl, ap is_plain_value (sym (some_is (Values.Bool true) v h)))
-word_plain (Word Key.False) v h = (refl, ap is_plain_value (sym (some_is _ v h)))
-word_plain (Op Sign.Ellipsis) v h = (refl, ap is_plain_value (sym (some_is Values.Ellipsis v h)))
+word_plain (Word Key.None) v h = (refl, ap is_plain_value (sym (same_Some Values.None v h)))
+word_plain (Word Key.True) v h = (refl, ap is_plain_value (sym (same_Some (Values.Bool true) v h)))
+word_plain (Word Key.False) v h = (refl, ap is_plain_value (sym (same_Some _ v h)))
+word_plain (Op Sign.Ellipsis) v h = (refl, ap is_plain_value (sym (same_Some Values.Ellipsis v h)))
 word_plain _ v h = absurd cc
 
 joined_plain : (v : Value) (vs : List Value) (w : Value) → joined v vs ≡ Some w
     → list_all is_terminal_plain (Literal v ∷ map Literal vs) ≡ is_plain_value w
-joined_plain v [] w h = and-true (is_plain_value v) ∙ ap is_plain_value (some_is v w h)
+joined_plain v [] w h = and-true (is_plain_value v) ∙ ap is_plain_value (same_Some v w h)
 joined_plain (Values.Str t u) (Values.Str s v ∷ vs) w h = joined_plain (Values.Str (t ++ s) u) vs w h
 joined_plain (Values.Bytes t) (Values.Bytes s ∷ vs) w h = joined_plain (Values.Bytes (t ++ s)) vs w h
 joined_plain _ (_ ∷ vs) w h = absurd cc

@@ -183,7 +183,7 @@ plain_items : {ts : List Terminal} {is : List Item} → F.Items ts is → Plainn
 plain_items (F.in_brackets (F.bracketed c)) = sign (ended Sign.RPar (plain_commas? Item F.ItemOf is_item_plain plain_item c))
 plain_items (F.without c n) = plain_commas Item F.ItemOf is_item_plain plain_item c
 
-exprs_listed : (es : Exprs) → exprs (F.listed es) ≡ es
+pub exprs_listed : (es : Exprs) → exprs (F.listed es) ≡ es
 exprs_listed no_exprs = refl
 exprs_listed (an_expr e es) = ap (λ z. an_expr e z) (exprs_listed es)
 

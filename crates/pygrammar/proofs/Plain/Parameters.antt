@@ -3,13 +3,13 @@
 -- Carries: arranged_plain, for Expressions, Forms. On: Terminals, Targets, Entries.
 use Rattle.std.proofs.Common.{◌≡◌, refl, sym, ap, ◌∙◌, Bool, true, false, cond, ◌&&◌, List, [], ◌∷◌, Option, Some, option_map}
 use Rattle.std.proofs.Math.Bool.{and_assoc, and_comm}
+use Rattle.std.proofs.lemmas.Option.{same_Some}
 use Rattle.pytree_node.specs.Trees.{Exprs, OptionalExpr, absent, present, Arg, Arguments, arguments}
 use Rattle.pygrammar.specs.Entries.{Entry, Plain, Slashed, Bare, Gathered, Collected}
 use Rattle.pygrammar.specs.Parameters.{arranged, at_star, after_star, plain_ones, before_slash, has_slash, with_kwarg, with_default}
 use Rattle.pygrammar.specs.Parameters.{add_keyword_only, set_vararg, add_plain, add_before_slash, no_arguments}
 use Rattle.pygrammar.specs.Extents.{are_plain, is_optional_plain, are_optionals_plain, is_arg_plain, are_args_plain, is_optional_arg_plain}
 use Rattle.pygrammar.specs.Extents.{are_arguments_plain}
-use Rattle.pygrammar.proofs.Heights.HeightLemmas.{some_is}
 use Rattle.pygrammar.proofs.Plain.Terminals.{and_swap}
 use Rattle.pygrammar.proofs.Plain.Targets.{mapped_keeps}
 use Rattle.pygrammar.proofs.Plain.Entries.{is_entry_plain, are_entries_plain}
@@ -83,10 +83,10 @@ vararg_stays p d (arguments ps qs v ks kds k ds) = refl
 
 no_vararg : (es : List Entry) (a : Arguments) → after_star es ≡ Some a → is_vararg_plain a ≡ true
 unfolding is_vararg_plain
-no_vararg [] a h = ap is_vararg_plain (sym (some_is no_arguments a h))
+no_vararg [] a h = ap is_vararg_plain (sym (same_Some no_arguments a h))
 no_vararg (Plain p d ∷ es) a h = mapped_keeps (add_keyword_only p d) (after_star es) a is_vararg_plain true
     (λ b q. vararg_stays p d b ∙ no_vararg es b q) h
-no_vararg (Collected p ∷ []) a h = ap is_vararg_plain (sym (some_is (with_kwarg p) a h))
+no_vararg (Collected p ∷ []) a h = ap is_vararg_plain (sym (same_Some (with_kwarg p) a h))
 no_vararg (Collected p ∷ (x ∷ es)) a h = absurd cc
 no_vararg (_ ∷ es) a h = absurd cc
 
@@ -99,20 +99,20 @@ vararg_plain p (arguments ps qs v ks kds k ds) h =
     ∙ ap (λ z. is_arg_plain p && (are_args_plain ps && (are_args_plain qs && (z && rest)))) (sym h)
 
 after_plain : (es : List Entry) → Agree es (after_star es)
-after_plain [] a h = ap are_arguments_plain (sym (some_is no_arguments a h))
+after_plain [] a h = ap are_arguments_plain (sym (same_Some no_arguments a h))
 after_plain (Plain p d ∷ es) a h = in_front (Plain p d) es (add_keyword_only p d) (after_star es) (λ b q. keyword_only_plain p d b)
     (λ b q. after_plain es b q) a h
-after_plain (Collected p ∷ []) a h = ap are_arguments_plain (sym (some_is (with_kwarg p) a h))
+after_plain (Collected p ∷ []) a h = ap are_arguments_plain (sym (same_Some (with_kwarg p) a h))
 after_plain (Collected p ∷ (x ∷ es)) a h = absurd cc
 after_plain (_ ∷ es) a h = absurd cc
 
 star_plain : (es : List Entry) → Agree es (at_star es)
-star_plain [] a h = ap are_arguments_plain (sym (some_is no_arguments a h))
+star_plain [] a h = ap are_arguments_plain (sym (same_Some no_arguments a h))
 star_plain (Gathered p ∷ es) a h = in_front (Gathered p) es (set_vararg p) (after_star es)
     (λ b q. vararg_plain p b (no_vararg es b q)) (after_plain es) a h
 star_plain (Bare ∷ (Plain p d ∷ es)) a h = after_plain (Plain p d ∷ es) a h
 star_plain (Bare ∷ _) a h = absurd cc
-star_plain (Collected p ∷ []) a h = ap are_arguments_plain (sym (some_is (with_kwarg p) a h))
+star_plain (Collected p ∷ []) a h = ap are_arguments_plain (sym (same_Some (with_kwarg p) a h))
 star_plain (Collected p ∷ (x ∷ es)) a h = absurd cc
 star_plain (_ ∷ es) a h = absurd cc
 

@@ -11,7 +11,7 @@ use Rattle.pytree_node.specs.declared.profiles.Profile.{Profile}
 use Rattle.pygrammar.specs.declared.levels.Level.{Level}
 use Rattle.pygrammar.specs.declared.levels.Level.TheVariants.{Value, Stars, Named, Expression, Subject}
 use Rattle.pygrammar.specs.declared.pattern_levels.PatternLevel.TheVariants.{Patterns}
-use Rattle.pytree_node.specs.Trees.{Expr, Exprs, no_exprs, an_expr, exprs, Identifier, Stmt, stmts, Alias, Item, Pattern}
+use Rattle.pytree_node.specs.Trees.{Expr, Exprs, exprs, Identifier, Stmt, stmts, Alias, Item, Pattern}
 use Rattle.pytree_node.specs.Trees.{TypeParam}
 use Rattle.pytree_node.specs.Trees as Trees
 use Rattle.pytoken.specs.Terminals.{Terminal, Op, Word}
@@ -47,17 +47,13 @@ use Rattle.pygrammar.proofs.Related.Sizes.{under, arguments_size, parameters_siz
 use Rattle.pygrammar.proofs.Related.Rules.{Relation, Kept, To, found, none, beside, choose, tested, option, first, named_with, closing}
 use Rattle.pygrammar.proofs.Related.Rules.{making}
 use Rattle.pygrammar.proofs.Related.Expressions.{r_listing_of, r_target}
+use Rattle.pygrammar.proofs.Plain.Forms.{exprs_listed}
 
 abbrev pub suite_height : List Stmt → ℕ
 suite_height ss = highest_in_all (stmts ss)
 
 abbrev pub item_height : Item → ℕ
 item_height i = max (height i.context_expr) (option_height i.optional_vars)
-
--- the bases of a class
-exprs_listed : (es : Exprs) → exprs (listed es) ≡ es
-exprs_listed no_exprs = refl
-exprs_listed (an_expr e es) = ap (an_expr e) (exprs_listed es)
 
 bases_height : (es : List Entry) → in_order false false es ≡ true → entries_height es ≡ max (heights (exprs (listed (positional es))))
     (keyword_heights (keywords es))

@@ -207,7 +207,7 @@ module _ (self : Reads) (all : SoundAt self) where
 abbrev LeftFacts : Terminal → Level → Operator → Type 0
 LeftFacts t l o = (left_operator l t ≡ Some o) × (halt (below l) ≡ suc (rank l)) × (lim l ≡ rank l) × (14 ≤ rank l) × (rank l ≤ 19)
 
-same_left : (P : Level → Operator → Type 0) (l n : Level) (o p : Operator) → P l o
+pub same_left : (P : Level → Operator → Type 0) (l n : Level) (o p : Operator) → P l o
     → ◌≡◌ {A = Option Infix} (Some (Left l o)) (Some (Left n p)) → P n p
 same_left P l n o p h q = subst (λ z. P z p) (one l n o p q) (subst (λ z. P l z) (two l n o p q) h)
   where
@@ -247,7 +247,7 @@ left_facts (Word Key.As) l o h = absurd (cc)
 left_facts (Word _) l o h = absurd (cc)
 left_facts _ l o h = absurd (cc)
 
-raise_is : (t : Terminal) → behind t ≡ Some Raise → t ≡ Op DoubleStar
+pub raise_is : (t : Terminal) → behind t ≡ Some Raise → t ≡ Op DoubleStar
 raise_is (Op DoubleStar) h = refl
 raise_is (Op _) h = absurd (cc)
 raise_is (Word Key.As) h = absurd (cc)
@@ -395,7 +395,7 @@ prefix_hit k (Some a) o h = go (leb k (prefix_rank a)) refl h
 abbrev SignedFacts : Terminal → Level → UnaryOperator → Type 0
 SignedFacts t l o = (prefix_operator l t ≡ Some o) × (halt l ≡ suc (lim l)) × (rank l ≤ 22)
 
-same_signed : (P : Level → UnaryOperator → Type 0) (l n : Level) (o p : UnaryOperator) → P l o
+pub same_signed : (P : Level → UnaryOperator → Type 0) (l n : Level) (o p : UnaryOperator) → P l o
     → ◌≡◌ {A = Option Prefix} (Some (Signed l o)) (Some (Signed n p)) → P n p
 same_signed P l n o p h q = subst (λ z. P z p) (one l n o p q) (subst (λ z. P l z) (two l n o p q) h)
   where
@@ -414,7 +414,7 @@ signed_facts (Word _) l o h = absurd (cc)
 signed_facts (Op _) l o h = absurd (cc)
 signed_facts _ l o h = absurd (cc)
 
-awaits_is : (t : Terminal) → before t ≡ Some Awaits → t ≡ Word Key.Await
+pub awaits_is : (t : Terminal) → before t ≡ Some Awaits → t ≡ Word Key.Await
 awaits_is (Word Key.Await) h = refl
 awaits_is (Word _) h = absurd (cc)
 awaits_is (Op Plus) h = absurd (cc)

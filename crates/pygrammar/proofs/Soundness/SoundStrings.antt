@@ -4,6 +4,7 @@
 use Rattle.std.proofs.Common.{map, ◌≡◌, refl, sym, ap, subst, ◌∙◌, ℕ, zero, suc, arith, List, [], ◌∷◌, ◌++◌, length, Option, Some, None}
 use Rattle.std.proofs.Common.{Bool, true, false, append_assoc, option_map}
 use Rattle.std.proofs.lemmas.List.{append-nil}
+use Rattle.std.proofs.lemmas.Option.{same_Some}
 use Rattle.pylex_lexeme.specs.declared.kinds.Exact.TheVariants.{LPar}
 use Rattle.pyfstring.specs.declared.parts.Conversion.{Conversion}
 use Rattle.pygrammar.specs.declared.levels.Level.TheVariants.{Atom}
@@ -21,7 +22,6 @@ use Rattle.pygrammar.specs.Grammar as G
 use Rattle.pygrammar.proofs.Completeness.LevelLemmas.{led}
 use Rattle.pygrammar.proofs.Completeness.LookLemmas.{heads}
 use Rattle.pygrammar.proofs.Soundness.Says.{Says, found, no_form, says_then, says_first, says_op, says_some, says_made, says_is, SoundAt}
-use Rattle.pygrammar.proofs.Heights.HeightLemmas.{some_is}
 
 -- ---- Tests with what they tell.
 
@@ -46,25 +46,25 @@ field_end_is : (t : Terminal) (a : ℕ) → is_field_end t ≡ Some a → t ≡ 
 field_end_is FieldEnd a h = refl
 field_end_is _ a h = absurd (cc)
 
-text_is : (t : Terminal) (x : List ℕ) → text_in t ≡ Some x → t ≡ FormattedText x
-text_is (FormattedText y) x h = ap FormattedText (some_is y x h)
+pub text_is : (t : Terminal) (x : List ℕ) → text_in t ≡ Some x → t ≡ FormattedText x
+text_is (FormattedText y) x h = ap FormattedText (same_Some y x h)
 text_is _ x h = absurd (cc)
 
-field_is : (t : Terminal) (c : Conversion) → conversion_in t ≡ Some c → t ≡ FieldBegin c
-field_is (FieldBegin b) c h = ap FieldBegin (some_is b c h)
+pub field_is : (t : Terminal) (c : Conversion) → conversion_in t ≡ Some c → t ≡ FieldBegin c
+field_is (FieldBegin b) c h = ap FieldBegin (same_Some b c h)
 field_is _ c h = absurd (cc)
 
-literal_is : (t : Terminal) (v : Values.Value) → literal_in t ≡ Some v → t ≡ Literal v
-literal_is (Literal w) v h = ap Literal (some_is w v h)
+pub literal_is : (t : Terminal) (v : Values.Value) → literal_in t ≡ Some v → t ≡ Literal v
+literal_is (Literal w) v h = ap Literal (same_Some w v h)
 literal_is _ v h = absurd (cc)
 
-value_is : (v : Values.Value) (x : List ℕ) → text_of v ≡ Some x → (k : Bool) × (v ≡ Values.Str x k)
-value_is (Values.Str y k) x h = (k, ap (λ z. Values.Str z k) (some_is y x h))
+pub value_is : (v : Values.Value) (x : List ℕ) → text_of v ≡ Some x → (k : Bool) × (v ≡ Values.Str x k)
+value_is (Values.Str y k) x h = (k, ap (λ z. Values.Str z k) (same_Some y x h))
 value_is _ x h = absurd (cc)
 
 pub constant_is : (o : Option Values.Value) (e : Expr) → constant_of o ≡ Some e → (w : Values.Value) × (o ≡ Some w) × (Trees.Constant w ≡ e)
 constant_is None e h = absurd (cc)
-constant_is (Some w) e h = (w, refl, some_is (Trees.Constant w) e h)
+constant_is (Some w) e h = (w, refl, same_Some (Trees.Constant w) e h)
 
 string_sound : (acc : List Values.Value) (r : List Terminal)
     → Says (λ ws r1. (vs : List Values.Value) × (ws ≡ acc ++ vs) × (r ≡ map Literal vs ++ r1)) (string_run acc r)
@@ -200,7 +200,7 @@ module _ (self : Reads) (all : SoundAt self) where
 -- the texts in front of the first f-string
 prefixed : (u : Bool) (vs : List Values.Value) (ps : List StringPart) → texts_of vs ≡ Some ps → (ts : List Terminal) (qs : List StringPart)
     → G.Literals u ts qs → G.Literals u (map Literal vs ++ ts) (ps ++ qs)
-prefixed u [] ps h ts qs l = subst (λ z. G.Literals u ts (z ++ qs)) (some_is [] ps h) l
+prefixed u [] ps h ts qs l = subst (λ z. G.Literals u ts (z ++ qs)) (same_Some [] ps h) l
 prefixed u (Values.Str t k ∷ vs) ps h ts qs l = go (texts_of vs) refl h (λ xs e. prefixed u vs xs e ts qs l)
   where
     go : (o : Option (List StringPart)) → texts_of vs ≡ o → option_map (λ z. Text t ∷ z) o ≡ Some ps
@@ -208,7 +208,7 @@ prefixed u (Values.Str t k ∷ vs) ps h ts qs l = go (texts_of vs) refl h (λ xs
         → G.Literals u (Literal (Values.Str t k) ∷ (map Literal vs ++ ts)) (ps ++ qs)
     go None e q f = absurd (cc)
     go (Some xs) e q f = subst (λ z. G.Literals u (Literal (Values.Str t k) ∷ (map Literal vs ++ ts)) (z ++ qs))
-        (some_is (Text t ∷ xs) ps q) (G.text_literal (f xs e))
+        (same_Some (Text t ∷ xs) ps q) (G.text_literal (f xs e))
 prefixed u (_ ∷ vs) ps h ts qs l = absurd (cc)
 
 formatted_behind : (vs : List Values.Value) (ts : List Terminal) → has_formatted (map Literal vs ++ (FormattedBegin ∷ ts)) ≡ true

@@ -8,7 +8,7 @@ use Rattle.pytree_node.specs.declared.operators.Context.TheVariants.{Load}
 use Rattle.pygrammar.specs.declared.levels.Level.TheVariants.{Value}
 use Rattle.pygrammar.specs.declared.pattern_levels.PatternLevel.TheVariants.{Patterns}
 use Rattle.pytree_node.specs.Trees
-use Rattle.pytree_node.specs.Trees.{Expr, Exprs, Pattern, no_exprs, an_expr, absent, present, MatchValue}
+use Rattle.pytree_node.specs.Trees.{Expr, absent, present, MatchValue}
 use Rattle.pytree_node.specs.Values
 use Rattle.pytoken.specs.Terminals.{Terminal, Op, Literal, in_form, FormattedBegin, FormattedEnd, FormattedText, FieldBegin, SpecBegin}
 use Rattle.pytoken.specs.Terminals.{FieldEnd}

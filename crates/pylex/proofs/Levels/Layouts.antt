@@ -13,8 +13,8 @@ use Rattle.pylex.specs.declared.entries.ListingError.TheVariants as errors
 use Rattle.pylex.specs.declared.kind.Kind.TheVariants as kinds
 use Rattle.pylex.specs.Steps.{fault_at}
 use Rattle.pylex.specs.Machine.{State, layout_of, pushed, step_of, mark_at, dedents_at}
-use Rattle.pylex_lexeme.proofs.Callers.Booleans.{bool_cases, and_parts}
 use Rattle.std.proofs.Math.Bool.{and-false}
+use Rattle.std.proofs.lemmas.Bool.{cases_Bool, and_parts}
 use Rattle.pysource.specs.declared.places.Place.{Place}
 use Rattle.pylex.specs.LineState.{IsAscending, is_above, is_level}
 
@@ -64,7 +64,7 @@ level_not_above w [] h = cc
 level_not_above w (v ∷ ls) h = ⊎_elim
     (λ (e : (v == w) ≡ true). let not_less : nat_lt v w ≡ false = grind (arith, nat_tests) in rw not_less refl)
     (λ (e : (v == w) ≡ false). let rest = level_not_above w ls (rw e at h) in rw rest (and-false (nat_lt v w)))
-    (bool_cases (v == w))
+    (cases_Bool (v == w))
 
 -- a width above all opens a level
 pub pushed_above : (w : ℕ) (ls : List ℕ) → is_above w ls ≡ true → pushed w ls ≡ ls ++ w ∷ []

@@ -7,9 +7,9 @@ use Rattle.std.specs.Prelude.{nat_lt}
 use Rattle.std.proofs.lemmas.Bool.Decides.{nat_tests}
 use Rattle.std.proofs.lemmas.List.{append-nil}
 use Rattle.std.proofs.lemmas.List.Elements.{filter-append}
+use Rattle.std.proofs.lemmas.Bool.{cases_Bool, and_parts}
 use Rattle.pylex.specs.Indentation.{below, is_open, open_levels}
 use Rattle.pylex.specs.LineState.{IsAscending, is_above}
-use Rattle.pylex_lexeme.proofs.Callers.Booleans.{bool_cases, and_parts}
 use Rattle.pylex.proofs.Levels.Layouts.{above-push, ascending-push}
 use Rattle.pylex.proofs.Levels.Tops.{above_more}
 
@@ -53,7 +53,7 @@ one_more p n k =
       ascending = k.ascending;
       within = more;
     })
-    (bool_cases (p (suc n)))
+    (cases_Bool (p (suc n)))
 
 kept : (p : ℕ → Bool) (n : ℕ) → p 0 ≡ true → Kept p n
 kept p zero h = kept_first p h

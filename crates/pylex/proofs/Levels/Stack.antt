@@ -4,16 +4,12 @@
 use Rattle.std.proofs.Common.{◌≡◌, ℕ, ◌+◌, ◌≤◌, ◌<◌, Bool, true, false, ◌&&◌, ◌||◌, ◌==◌, List, [], ◌∷◌, ◌++◌, refl, sym, ◌∙◌, ap, arith}
 use Rattle.std.proofs.Common.{cond, ⊎_elim, ltb, leb, suc, zero, sum, filter, zero-add}
 use Rattle.std.proofs.lemmas.Bool.Decides.{nat_tests}
-use Rattle.std.proofs.lemmas.Bool.{cases_lt}
+use Rattle.std.proofs.lemmas.Bool.{cases_lt, cases_Bool}
 use Rattle.std.proofs.lemmas.List.Sums.{take_while-cons}
 use Rattle.std.proofs.lemmas.List.{append-nil}
 use Rattle.std.proofs.lemmas.List.Elements.{filter-append}
 use Rattle.std.proofs.lemmas.Grind.{common_steps}
 use Rattle.pylex.specs.Indentation.{below, is_open, open_levels}
-use Rattle.pylex_lexeme.proofs.Callers.Booleans.{bool_cases}
-
-or_comes : (a b c : Bool) → a ≡ false → (a || (b || c)) ≡ (b || c)
-or_comes a b c e = rw e refl
 
 open_push : (w v : ℕ) (ws : List ℕ) → is_open (w ∷ ws) v ≡ ((v == 0) || (leb v w && ((v == w) || is_open ws v)))
 open_push w v ws =
@@ -23,8 +19,8 @@ open_push w v ws =
     ⊎_elim
     (λ (e : leb v w ≡ true). rw take_while-cons (rw (e, z) refl))
     (λ (e : leb v w ≡ false). rw take_while-cons (rw (e, z) refl))
-    (bool_cases (leb v w)))
-    (bool_cases (v == 0))
+    (cases_Bool (leb v w)))
+    (cases_Bool (v == 0))
 
 -- the stack after a line of width w above 0
 abbrev pub stack_after : ℕ → List ℕ → List ℕ
@@ -46,7 +42,7 @@ open_less : (w n : ℕ) (ws : List ℕ) → n < w → is_open (w ∷ ws) n ≡ i
 open_less w n ws i =
     let l : leb n w ≡ true = grind (arith, nat_tests) in
     let d : (n == w) ≡ false = grind (arith, nat_tests) in
-    open_push w n ws ∙ rw (l, d) (⊎_elim (λ (z : (n == 0) ≡ true). rw z refl) (λ (z : (n == 0) ≡ false). rw z refl) (bool_cases (n == 0)))
+    open_push w n ws ∙ rw (l, d) (⊎_elim (λ (z : (n == 0) ≡ true). rw z refl) (λ (z : (n == 0) ≡ false). rw z refl) (cases_Bool (n == 0)))
 
 open_same : (w n : ℕ) (ws : List ℕ) → 0 < w → n ≡ w → is_open (w ∷ ws) n ≡ true
 open_same w n ws h i =

@@ -5,9 +5,9 @@ use Rattle.std.proofs.Common.{◌≡◌, ℕ, ◌<◌, ◌≤◌, Bool, true, fa
 use Rattle.std.proofs.Common.{arith, length-append}
 use Rattle.std.specs.Prelude.{nat_lt}
 use Rattle.std.proofs.lemmas.Bool.Decides.{nat_tests}
+use Rattle.std.proofs.lemmas.Bool.{and_parts}
 use Rattle.pylex.specs.declared.peeked.Indentation.TheVariants as indentations
 use Rattle.pylex.specs.LineState.{IsAscending, IsTop, IsIndentation, is_above, is_level}
-use Rattle.pylex_lexeme.proofs.Callers.Booleans.{and_parts}
 use Rattle.pylex.proofs.Levels.Layouts.{above-push, level-push, count-push, ascending_above, pushed_last, count_none}
 
 -- a list is empty, or has a last member

@@ -1,7 +1,7 @@
 -- How far is read ahead over several reads.
 --
 -- Carries: LineLister::next.
-use Rattle.std.proofs.Common.{◌≡◌, inl, inr, ⊎_elim, ℕ, ◌≤◌, List, [], ◌∷◌, length, refl, ap, sym, ◌∙◌, subst, arith}
+use Rattle.std.proofs.Common.{◌≡◌, inl, inr, ⊎_elim, ℕ, ◌≤◌, List, [], ◌∷◌, length, refl, ap, sym, subst, arith}
 use Rattle.std.specs.Prelude.{Result, Ok}
 use Rattle.std.specs.declared.alloc.AllocError.{AllocError}
 use Rattle.pysource.specs.Bytes.{Seen}
@@ -16,16 +16,6 @@ ahead_none b = inl (refl, omega arith)
 pub ahead_but : (a b : Buffered) → Ahead a b → AheadBut a b
 ahead_but a b (inl s) = inl s
 ahead_but a b (inr few) = inr (omega (arith, few))
-
-pub ahead_both : (a b c : Buffered) → Ahead a b → Ahead b c → Ahead a c
-ahead_both a b c p (inr few) = inr few
-ahead_both a b c (inl s) (inl t) = inl (t.0 ∙ s.0, omega (arith, s.1, t.1))
-ahead_both a b c (inr few) (inl t) = inr (omega (arith, few, t.1))
-
-pub but_both : (a b c : Buffered) → Ahead a b → AheadBut b c → AheadBut a c
-but_both a b c p (inr few) = inr few
-but_both a b c (inl s) (inl t) = inl (t.0 ∙ s.0, omega (arith, s.1, t.1))
-but_both a b c (inr few) (inl t) = inr (omega (arith, few, t.1))
 
 module _ (x y : Seen) (a b c : Buffered) (text_b text_c : List ℕ) where
   -- A line was given.

@@ -11,9 +11,8 @@ use Rattle.std.proofs.lemmas.Bool.{eqb-true}
 use Rattle.std.proofs.lemmas.Str.{chars-nil}
 use Rattle.pysource.specs.Bytes.{Seen}
 use Rattle.pysource.specs.Parts.{Parts}
-use Rattle.pysource.specs.Streams.{Buffered, Gives, ComesOnly, MayCome}
-use Rattle.pysource.specs.declared.faults.LineFault.{LineFault}
-use Rattle.pysource.proofs.Callers.Coming.{may_come, only_given}
+use Rattle.pysource.specs.Streams.{Buffered, Gives, MayCome}
+use Rattle.pysource.proofs.Callers.Coming.{only_given}
 use Rattle.pylex.specs.declared.entries.Entry.{Entry}
 use Rattle.pylex.specs.declared.entries.ListingFault.{ListingFault}
 use Rattle.pylex.specs.declared.entries.Step.{Step}

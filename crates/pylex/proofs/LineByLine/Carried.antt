@@ -23,9 +23,9 @@ use Rattle.pylex.specs.LineState.{measured, Walks, stays, silent, level, dedent,
 use Rattle.pylex.specs.LineState.{FaultAhead, IndentAhead, DedentAhead, Peek}
 use Rattle.pylex.proofs.MachineLaws.Steps.{remaining_stop}
 use Rattle.pylex.proofs.Listers.Measured.{stop_within}
-use Rattle.pylex.proofs.MachineLaws.Significant.{none_at_all, len_within}
+use Rattle.pylex.proofs.MachineLaws.Significant.{none_at_all}
 use Rattle.pylex.proofs.Listers.Finding.{no_significant}
-use Rattle.pylex_lexeme.proofs.Callers.WholeLines.{lexeme_kept, len_kept, none_kept, open_kept, opens_kept, significant_kept}
+use Rattle.pylex_lexeme.proofs.Callers.WholeLines.{lexeme_kept, len_kept, none_kept, open_kept, opens_kept, significant_kept, len_within}
 
 -- Behind a front of whole lines are whole lines, or nothing.
 line_left : (c : ℕ) (cs front : List ℕ) → c ∷ cs ≡ front ++ 10 ∷ [] → EndsLine cs ⊎ (cs ≡ [])
@@ -51,7 +51,7 @@ pub drop_carried : (cs es : List ℕ) (x : Lexeme) → EndsLine cs → lexeme_at
 drop_carried cs es x l e = ap (λ n. drop n (cs ++ es)) (len_kept cs es x l e) ∙ drop-append-le (lexeme_len cs) cs es (len_within cs)
 
 -- where a lexeme or a significant token stands there are lines
-lexeme_lines : (cs : List ℕ) (x : Lexeme) → lexeme_at cs ≡ Some x → EndsLine cs ⊎ (cs ≡ []) → EndsLine cs
+pub lexeme_lines : (cs : List ℕ) (x : Lexeme) → lexeme_at cs ≡ Some x → EndsLine cs ⊎ (cs ≡ []) → EndsLine cs
 lexeme_lines cs x e (inl l) = l
 lexeme_lines cs x e (inr z) = absurd (none_at_all x (ap lexeme_at (sym z) ∙ e))
 
@@ -110,11 +110,6 @@ comes_carried levels p cs q ds es h c = record { walks = walks_carried _ ds es 0
 pub comes_lines : (levels : List ℕ) (p : LineState) (cs : List ℕ) (q : LineState) (ds : List ℕ) → EndsLine cs ⊎ (cs ≡ [])
     → Comes levels p cs q ds → EndsLine ds ⊎ (ds ≡ [])
 comes_lines levels p cs q ds h c = walks_lines _ ds 0 _ cs h c.walks
-
--- where it passes all it goes on with what follows
-pub nothing_held : (levels : List ℕ) (p : LineState) (cs : List ℕ) (q : LineState) (es : List ℕ) → EndsLine cs ⊎ (cs ≡ [])
-    → Comes levels p cs q [] → Comes levels p (cs ++ es) q es
-nothing_held levels p cs q es h c = comes_carried levels p cs q [] es h c
 
 -- It meets the same.
 pub entry_carried : (levels : List ℕ) (p : LineState) (cs : List ℕ) (e : Entry) (q : LineState) (ds es : List ℕ) → EndsLine cs ⊎ (cs ≡ [])

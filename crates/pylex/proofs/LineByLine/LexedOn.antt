@@ -8,6 +8,7 @@ use Rattle.std.specs.Str.{chars, IsUtf8}
 use Rattle.std.proofs.lemmas.Str.{chars-append, chars-nil}
 use Rattle.std.proofs.lemmas.List.{take-append-drop}
 use Rattle.std.specs.List.{onto_first}
+use Rattle.std.proofs.lemmas.Bool.{cases_Bool}
 use Rattle.pysource.specs.Lines.{lines_of}
 use Rattle.pysource.specs.Places.{is_lf}
 use Rattle.pysource.specs.Streams.{ends_line}
@@ -22,28 +23,23 @@ use Rattle.pylex_lexeme.specs.Lexemes.{Lexeme, lexeme_at, lexeme_len, cut, left_
 use Rattle.pylex.specs.Machine.{State}
 use Rattle.pylex.specs.LineState.{Walks, stays, silent, level, dedent, Comes, GivesFault, mismatch, faulty, StopAhead, Peek}
 use Rattle.pylex.specs.Held.{IsJoined, LexedTo, at_left, past_lexeme}
-use Rattle.pylex.proofs.LineByLine.Carried.{drop_ends, drop_carried}
+use Rattle.pylex.proofs.LineByLine.Carried.{drop_ends, drop_carried, lexeme_lines}
 use Rattle.pylex_lexeme.proofs.Callers.WholeLines.{lexeme_kept}
-use Rattle.pylex.proofs.MachineLaws.Lexed.{cut_lexed, lexeme_front, lexeme_parts, lexeme_some}
-use Rattle.pylex_lexeme.proofs.Callers.Booleans.{bool_cases}
+use Rattle.pylex.proofs.MachineLaws.Lexed.{cut_lexed, lexeme_parts, lexeme_some}
 use Rattle.pylex.proofs.LineByLine.Lined.{lined_chars, feed_behind, ends_on}
 use Rattle.pylex.proofs.MachineLaws.Steps.{left_step, left_stop}
 use Rattle.pylex.proofs.MachineLaws.Significant.{none_at_all}
+use Rattle.pylex.proofs.Listers.Measured.{lexeme_front}
 
 -- Past lexemes and then past others.
 pub lexed_both : (ds es cs : List ℕ) → LexedTo ds cs → LexedTo es ds → LexedTo es cs
 lexed_both ds es cs at_left q = q
 lexed_both ds es cs (past_lexeme bs x e p) q = past_lexeme cs x e (lexed_both ds es (drop (lexeme_len cs) cs) p q)
 
--- More lines change no lexeme of whole lines.
-lines_here : (cs : List ℕ) (x : Lexeme) → lexeme_at cs ≡ Some x → EndsLine cs ⊎ (cs ≡ []) → EndsLine cs
-lines_here cs x e (inl l) = l
-lines_here cs x e (inr z) = absurd (none_at_all x (ap lexeme_at (sym z) ∙ e))
-
 pub lexed_on : (ds es cs : List ℕ) → EndsLine cs ⊎ (cs ≡ []) → LexedTo ds cs → LexedTo (ds ++ es) (cs ++ es)
 lexed_on ds es cs h at_left = at_left
 lexed_on ds es cs h (past_lexeme bs x e p) =
-    let l = lines_here cs x e h in
+    let l = lexeme_lines cs x e h in
     past_lexeme (cs ++ es) x (lexeme_kept cs es x l e)
     (subst (LexedTo (ds ++ es)) (sym (drop_carried cs es x l e))
     (lexed_on ds es (drop (lexeme_len cs) cs) (⊎_elim (λ z. inr z) (λ m. inl m) (drop_ends cs x l e)) p))
@@ -152,7 +148,7 @@ feed_last (b ∷ c ∷ front) back h e some = ⊎_elim
     let f : onto_first b (lines_of (c ∷ front ++ back)) ≡ (b ∷ c ∷ front ++ back) ∷ [] = rw is at h in
     feed_last (c ∷ front) back (first_of b (c ∷ front ++ back) (lines_of (c ∷ front ++ back)) (λ z. cc) f)
     (sym (ends_on b c front) ∙ e) some)
-    (bool_cases (is_lf b))
+    (cases_Bool (is_lf b))
   where
     first_of : (b : ℕ) (t : List ℕ) (ls : List (List ℕ)) → (t ≡ [] → ⊥) → onto_first b ls ≡ (b ∷ t) ∷ [] → ls ≡ t ∷ []
     first_of b t [] n e = absurd (n (let f : (b ∷ []) ∷ [] ≡ (b ∷ t) ∷ [] = e in cc))

@@ -62,7 +62,7 @@ pub only_line : (held gone new line : List ℕ) → held ++ line ≡ gone ++ new
 only_line held gone new line e is = sym (drop-append_seam held new) ∙ ap (drop (length held)) (ap (λ g. g ++ new) (sym is) ∙ sym e)
     ∙ drop-append_seam held line
 
-utf8_front : (front back : List ℕ) → IsUtf8 (front ++ back) → IsUtf8 back → IsUtf8 front
+pub utf8_front : (front back : List ℕ) → IsUtf8 (front ++ back) → IsUtf8 back → IsUtf8 front
 utf8_front front back u v =
     subst IsUtf8 (take-append_seam front back)
     (IsUtf8-take (front ++ back) (length front) u (IsCharBoundary-at_seam (front ++ back) front back refl v))

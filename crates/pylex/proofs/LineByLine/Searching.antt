@@ -112,10 +112,6 @@ module _ (p : Machine) (c : HeldLines) (h : IsStreaming p c None) where
       let two = length-append held (comes c.lines w.more w.broken).text in
       omega (arith, x.base, x.keeps.small, whole, one, two)
 
--- The bytes up to what is left of a text.
-pub behind_len : (whole rest : List ℕ) → Behind whole rest → length rest ≤ length whole
-behind_len whole rest b = omega (arith, ap length b.1, length-append b.0 rest)
-
 pub drop_behind : (text : List ℕ) (at : ℕ) (rest : List ℕ) → Behind (drop at text) rest → drop (length text - length rest) text ≡ rest
 drop_behind text at rest b =
     let front = take at text ++ b.0 in
@@ -123,13 +119,6 @@ drop_behind text at rest b =
     ∙ sym (append_assoc (take at text) b.0 rest) in
     let size : length text - length rest ≡ length front = omega (arith, ap length whole, length-append front rest) in
     ap (λ n. drop n text) size ∙ ap (drop (length front)) whole ∙ drop-append_seam front rest
-
-pub len_behind : (text : List ℕ) (at : ℕ) (rest : List ℕ) → Behind (drop at text) rest → length rest ≤ length text
-len_behind text at rest b =
-    let n = behind_len (drop at text) rest b in
-    let m = ap length (take-append-drop at text) in
-    let k = length-append (take at text) (drop at text) in
-    omega (arith, n, m, k)
 
 -- a reader that isn't read
 abbrev pub not_read : Seen

@@ -2,12 +2,11 @@
 --
 -- Carries: step_is, stands_then, streams_entry, streams_other, for Steppings. On: Streaming, Lined,
 -- Lying, Ranges and 2 more.
-use Rattle.std.proofs.Common.{◌≡◌, ◌⊎◌, inl, inr, ⊎_elim, ℕ, ◌+◌, ◌<◌, Bool, List, [], ◌∷◌, ◌++◌, length, take, drop, refl, ap, sym, ◌∙◌}
+use Rattle.std.proofs.Common.{◌≡◌, ◌⊎◌, inl, inr, ⊎_elim, ℕ, ◌+◌, ◌<◌, Bool, List, [], ◌++◌, length, take, drop, refl, ap, sym, ◌∙◌}
 use Rattle.std.proofs.Common.{subst, length-append, length-drop, arith, Some, None, string_bytes, zero, suc}
 use Rattle.std.specs.Prelude.{slice_get}
 use Rattle.std.specs.Str.{chars, IsUtf8}
-use Rattle.std.proofs.lemmas.Str.{chars-append, chars-nil, IsUtf8-append, IsUtf8-take, IsCharBoundary-at_seam}
-use Rattle.std.proofs.Math.Seq.{take-append_seam}
+use Rattle.std.proofs.lemmas.Str.{chars-append, chars-nil, IsUtf8-append}
 use Rattle.pysource.specs.Parts.{Parts}
 use Rattle.pysource.specs.Streams.{comes}
 use Rattle.pylex.specs.declared.held_lines.HeldLines.{HeldLines}
@@ -18,7 +17,6 @@ use Rattle.pylex.specs.declared.machine.Machine.{Machine}
 use Rattle.pylex.specs.declared.peeked.Peeked.TheVariants as peeked
 use Rattle.pylex.specs.declared.line_lister.Found.{Found}
 use Rattle.pylex_lexeme.specs.Chunks.{EndsLine}
-use Rattle.pylex.specs.Laws.{AllLie, StepLies}
 use Rattle.pylex_lexeme.specs.Chars.{bytes_in}
 use Rattle.pylex.specs.Listing.{in_characters, listing}
 use Rattle.pylex.specs.Listing.{rest as rest_of_listing}
@@ -29,24 +27,13 @@ use Rattle.pylex.specs.Steps.{entries_in, first_step, IsIndent}
 use Rattle.pylex.specs.Streamed.{Continues, StreamsIn, IsHeld}
 use Rattle.pylex.specs.Inner.LineSteps.{IsStreaming, streamed, PeekedIn}
 use Rattle.pylex.proofs.LineByLine.Lined.{lined_chars}
-use Rattle.pylex.proofs.Listing.Lying.{entries_lie}
+use Rattle.pylex.proofs.Listing.Lying.{entries_lie, step_lies}
 use Rattle.pylex.proofs.Listers.Moving.{awaits_indent}
 use Rattle.pylex.proofs.Listers.Ranges.{in_offset}
-use Rattle.pylex.proofs.LineByLine.Reading.{lined_left}
+use Rattle.pylex.proofs.LineByLine.Reading.{lined_left, utf8_front}
 use Rattle.pylex.proofs.LineByLine.Streaming.{Lined, utf8_after, finds_whole, end_whole, stands_whole}
 use Rattle.pylex_lexeme.proofs.Callers.Fronts.{length-text}
 use Rattle.pylex.proofs.Listing.Unencoded.{not_encoding}
-
--- a step lies in the text with all of them
-lies_at : (text : List ℕ) (ss : List Step) (k : ℕ) (s : Step) → AllLie text ss → slice_get ss k ≡ Some s → StepLies text s
-lies_at text [] k s l e = absurd cc
-lies_at text (r ∷ ss) zero s l e = let f : r ≡ s = cc in subst (StepLies text) f l.0
-lies_at text (r ∷ ss) (suc k) s l e = lies_at text ss k s l.1 e
-
-utf8_before : (front back : List ℕ) → IsUtf8 (front ++ back) → IsUtf8 back → IsUtf8 front
-utf8_before front back u v =
-    subst IsUtf8 (take-append_seam front back)
-    (IsUtf8-take (front ++ back) (length front) u (IsCharBoundary-at_seam (front ++ back) front back refl v))
 
 -- nothing is left behind a step without entry but what was left
 left_same : (s : Step) (from to : List ℕ) → ((e : Entry) → s ≡ steps.Entry e → ⊥) → left_by s from to ≡ from
@@ -118,7 +105,7 @@ module _ (q r : Machine) (d : HeldLines) (f : Found) (step : Step) (h : IsStream
   utf8_held = IsUtf8-append held coming h.text utf8_coming
 
   utf8_begin : IsUtf8 x.before
-  utf8_begin = utf8_before x.before (held ++ coming) (subst IsUtf8 x.whole x.keeps.utf8) utf8_held
+  utf8_begin = utf8_front x.before (held ++ coming) (subst IsUtf8 x.whole x.keeps.utf8) utf8_held
 
   size_text : bytes_in (chars s.text) ≡ length x.before + (length held + length coming)
   size_text = sym (length-text s.text x.keeps.utf8) ∙ ap length x.whole ∙ length-append x.before (held ++ coming)
@@ -180,7 +167,7 @@ module _ (q r : Machine) (d : HeldLines) (f : Found) (step : Step) (h : IsStream
       last = inr (
         not_encoding (in_characters s) k e some (step_is ∙ ap Some is),
         held_entry,
-        lies_at s.text (listing (in_characters s)) k (steps.Entry e) (entries_lie s x.keeps.utf8) (step_is ∙ ap Some is),
+        step_lies s.text (listing (in_characters s)) k (steps.Entry e) (entries_lie s x.keeps.utf8) (step_is ∙ ap Some is),
       );
     }
 

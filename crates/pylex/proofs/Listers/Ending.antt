@@ -8,6 +8,7 @@ use Rattle.std.specs.Str.{chars, encode_utf8_all, IsUtf8}
 use Rattle.std.proofs.lemmas.Str.{chars-nil, encodes-chars}
 use Rattle.std.proofs.lemmas.Bool.Decides.{nat_tests}
 use Rattle.std.proofs.lemmas.Grind.{common_steps}
+use Rattle.std.proofs.lemmas.Bool.{cases_Bool}
 use Rattle.pylex.specs.declared.entries.Emitted.{Emitted}
 use Rattle.pylex.specs.declared.entries.Emitted.TheVariants as gives
 use Rattle.pylex.specs.declared.entries.Entry.{Entry}
@@ -24,7 +25,6 @@ use Rattle.pylex.specs.Listing.{further, stop_fault, row_after, up_to_end}
 use Rattle.pylex.specs.Steps.{first_step, fault_at}
 use Rattle.pylex.specs.Machine.{State, is_hash, stop_of, tail_of, last_line_end, last_place, remaining, behind_steps, mark_at, dedents_at}
 use Rattle.pylex.specs.LineState.{with_levels, given, GivesNoText, closing, IsAscending, StopAhead}
-use Rattle.pylex_lexeme.proofs.Callers.Booleans.{bool_cases}
 use Rattle.pylex.proofs.MachineLaws.Run.{up_to_end-append}
 use Rattle.pylex.proofs.MachineLaws.Steps.{remaining_stop}
 use Rattle.pylex.proofs.Listers.Measured.{stop_within, behind_steps-append}
@@ -40,7 +40,7 @@ significant_at_stop : (c : ℕ) (cs : List ℕ) → lexeme_at (c ∷ cs) ≡ Non
 significant_at_stop c cs e = ⊎_elim
     (λ (b : begins_significant (c ∷ cs) ≡ true). b)
     (λ (b : begins_significant (c ∷ cs) ≡ false). let n = all_cut (c ∷ cs) b e in cc)
-    (bool_cases (begins_significant (c ∷ cs)))
+    (cases_Bool (begins_significant (c ∷ cs)))
 
 and_true : (b : Bool) → (b && true) ≡ b
 and_true true = refl
@@ -200,20 +200,6 @@ closing_end p levels n k h c more =
     sym (ap (λ ss. first_step (drop k ss)) (closing_steps p levels n h c) ∙ ap first_step (behind_repeated n k _ _ (omega arith))
     ∙ ap (λ j. first_step (drop j (mark_at kinds.EndMarker p.now.offset (last_place (with_levels p [])) (last_place (with_levels p []))
     ∷ steps.End ∷ []))) z ∙ behind_end (k - suc n))
-
--- Where they begin with a fault, or with a line end.
-pub end_fault : (ss : List Step) (f : ListingFault) (c : List Step) (k : ℕ) → ss ≡ behind_steps (steps.Fault f ∷ []) c → k < length ss
-    → steps.Fault f ≡ first_step (drop k ss)
-end_fault ss f c k is h = let one : length ss ≡ 1 = ap length is in let z : k ≡ 0 = omega arith in rw (z, is) refl
-
-pub end_first : (ss : List Step) (e : Entry) (c : List Step) (k : ℕ) → ss ≡ behind_steps (steps.Entry e ∷ []) c → k ≡ 0
-    → steps.Entry e ≡ first_step (drop k ss)
-end_first ss e c k is z = rw (z, is) refl
-
-pub end_later : (ss : List Step) (e : Entry) (c : List Step) (k : ℕ) (r : Step) → ss ≡ behind_steps (steps.Entry e ∷ []) c → 0 < k
-    → r ≡ first_step (drop (k - 1) c) → r ≡ first_step (drop k ss)
-end_later ss e c k r is h by = let z : k ≡ suc (k - 1) = omega arith in by
-    ∙ sym (ap (λ ts. first_step (drop k ts)) is ∙ ap (λ j. first_step (drop j (steps.Entry e ∷ c))) z)
 
 -- the line end that the text's end gives has no text
 last_line_end_empty : (s : State) (e : Entry) → last_line_end s ≡ steps.Entry e ∷ [] → e.«from» ≡ e.to

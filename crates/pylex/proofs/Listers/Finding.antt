@@ -30,10 +30,11 @@ use Rattle.std.proofs.lemmas.Bool.Decides.{nat_tests}
 use lib.Utf8.{encodes}
 use Rattle.std.specs.Str.{IsUtf8}
 use Rattle.std.proofs.lemmas.Str.{length-le-encodes, encodes-chars, encodes-append}
-use Rattle.pylex_lexeme.proofs.Callers.Booleans.{bool_cases}
+use Rattle.std.proofs.lemmas.Bool.{cases_Bool}
 use Rattle.pylex.proofs.Listers.Measured.{lexeme_front, remaining_lexeme, measured_lexeme, measured_stop}
 use Rattle.pylex.proofs.Levels.Layouts.{layout_dedents, layout_mismatch, level_not_above, level-push, pushed_less, dedents-push}
 use Rattle.pylex.proofs.MachineLaws.Significant.{significant_at, plain_at}
+use Rattle.pylex.proofs.Resumption.Resume.{drop_of}
 
 false_or_true : (b : Bool) → (b ≡ false) ⊎ (b ≡ true)
 false_or_true true = inr refl
@@ -44,7 +45,7 @@ pub significant_is : (cs : List ℕ) (x : Lexeme) → lexeme_at cs ≡ Some x �
 significant_is cs x e = ⊎_elim
     (λ (b : begins_significant cs ≡ true). significant_at cs x b e ∙ sym b)
     (λ (b : begins_significant cs ≡ false). plain_at cs x b e ∙ sym b)
-    (bool_cases (begins_significant cs))
+    (cases_Bool (begins_significant cs))
 
 -- a significant token begins no empty text
 pub no_significant : {A : Type 0} → begins_significant [] ≡ true → A
@@ -78,10 +79,6 @@ no_layout s x h = ⊎_elim
     no_choice true ss = refl
     no_choice false ss = refl
 
-drop_front : (u v : List ℕ) → drop (length u) (u ++ v) ≡ v
-drop_front [] v = refl
-drop_front (c ∷ u) v = drop_front u v
-
 same_drop : (n : ℕ) (cs : List ℕ) → drop n cs ≡ drop (length (take n cs)) cs
 same_drop zero cs = refl
 same_drop (suc n) [] = refl
@@ -91,7 +88,7 @@ same_drop (suc n) (c ∷ cs) = same_drop n cs
 pub behind_first : (cs b : List ℕ) (x : Lexeme) → lexeme_at cs ≡ Some x → cs ≡ x.text ++ b → drop (lexeme_len cs) cs ≡ b
 behind_first cs b x e p =
     let f = lexeme_front cs x e in
-    same_drop (lexeme_len cs) cs ∙ ap (λ t. drop (length t) cs) (sym f) ∙ ap (drop (length x.text)) p ∙ drop_front x.text b
+    same_drop (lexeme_len cs) cs ∙ ap (λ t. drop (length t) cs) (sym f) ∙ ap (drop (length x.text)) p ∙ drop_of x.text b
 
 -- A DEDENT for the last level, where the width is that of one before it.
 pub dedent_step : (f : Option ListingFault) (s : State) (cs ls : List ℕ) (v : ℕ) → s.margin ≡ true → begins_significant cs ≡ true

@@ -25,7 +25,8 @@ use Rattle.pylex.proofs.Resumption.Resumed.{column_is, front_line}
 use Rattle.pylex.proofs.Listers.Measured.{lexeme_front}
 use Rattle.pylex.proofs.Levels.Layouts.{level_not_above, level-push, count-push, layout_dedents, pushed_less}
 use Rattle.pylex.proofs.Listers.Finding.{significant_is, no_layout}
-use Rattle.pylex.proofs.Resumption.Ahead.{front_is, drop_front}
+use Rattle.pylex.proofs.Resumption.Ahead.{front_is}
+use Rattle.pylex.proofs.Resumption.Resume.{drop_of}
 
 -- Columns don't depend on the row.
 advance_column : (p q : Place) (t : List ℕ) → p.column ≡ q.column → (place_past p t).column ≡ (place_past q t).column
@@ -97,7 +98,7 @@ pub left_in : (a : Source) (c : CursorParts) (s : State) (ds : List ℕ) → c.o
     → (standing_by a c).left ≡ ds
 unfolding standing_by
 left_in a c s ds o i = ap (λ t. drop (length t) a.text) (ap (λ n. front_to n a.text) (o ∙ i.offset)
-    ∙ ap (front_to (bytes_in i.before)) i.whole ∙ front_is i.before ds) ∙ ap (drop (length i.before)) i.whole ∙ drop_front i.before ds
+    ∙ ap (front_to (bytes_in i.before)) i.whole ∙ front_is i.before ds) ∙ ap (drop (length i.before)) i.whole ∙ drop_of i.before ds
 
 pub resumed_anew : (k : ℕ) (s : State) (line : List ℕ) → s.now.place.column ≡ length line → s.lead ≡ lead_after Nothing line
     → resumed (shown_at k s) line ≡ begun_anew s

@@ -4,7 +4,6 @@
 -- Finding, Ending, Passing, Carried and 3 more. On: Steps, Run, Full.
 use Rattle.std.proofs.Common.{◌≡◌, ℕ, ◌<◌, true, false, ◌==◌, List, [], ◌∷◌, ◌++◌, length, take, drop, refl, ap, ◌∙◌, sym, subst, arith}
 use Rattle.std.proofs.Common.{Option, Some, None}
-use Rattle.std.specs.Prelude.{option_map}
 use Rattle.std.proofs.lemmas.Bool.Decides.{nat_tests}
 use Rattle.std.proofs.lemmas.List.{take-append-drop}
 use Rattle.pylex.specs.declared.entries.ListingFault.{ListingFault}
@@ -20,7 +19,7 @@ use Rattle.pylex.specs.Machine.{State, after, gives, entry_by, layout_of, stop_o
 use Rattle.pylex.specs.LineState.{measured}
 use Rattle.pylex.proofs.MachineLaws.Run.{up_to_end-append}
 use Rattle.pylex.proofs.MachineLaws.Steps.{remaining_step, remaining_stop}
-use Rattle.pylex.proofs.MachineLaws.Full.{lexeme_full}
+use Rattle.pylex.proofs.MachineLaws.Full.{lexeme_full, text_is}
 
 -- the state after a significant token is the same, measured before or with it
 pub after_measured : (s : State) (k : Class) (t : List ℕ) → s.margin ≡ true → is_significant (record { «class» = k; text = t }) ≡ true
@@ -54,14 +53,9 @@ behind_steps-append (steps.Entry e ∷ a) b c = ap (λ ss. steps.Entry e ∷ ss)
 behind_steps-append (steps.End ∷ a) b c = refl
 behind_steps-append (steps.Fault f ∷ a) b c = refl
 
--- the text of a lexeme is a front of the text
-front_by : (t : List ℕ) (o : Option Class) (x : Lexeme) → option_map (λ k. record { «class» = k; text = t }) o ≡ Some x → x.text ≡ t
-front_by t None x e = cc
-front_by t (Some k) x e = cc
-
 pub lexeme_front : (cs : List ℕ) (x : Lexeme) → lexeme_at cs ≡ Some x → x.text ≡ take (lexeme_len cs) cs
 unfolding lexeme_at
-lexeme_front cs x e = front_by (take (lexeme_len cs) cs) (class_in cs (take (lexeme_len cs) cs)) x e
+lexeme_front cs x e = text_is (take (lexeme_len cs) cs) (class_in cs (take (lexeme_len cs) cs)) x e
 
 full_length : (t : List ℕ) → 0 < bytes_in t → 0 < length t
 full_length [] h = absurd (omega (arith, no_bytes))

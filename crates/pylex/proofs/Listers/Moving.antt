@@ -3,8 +3,8 @@
 -- Carries: Lister::new, Lister::next, next_met, Lister::resume_checked, advance, Machine::peek,
 -- step_on. On: Cursoring, Looking, Finding, Layouts and 8 more.
 use Rattle.std.proofs.Common.{◌≡◌, ℕ, zero, suc, ◌+◌, ◌-◌, ◌*◌, ◌<◌, ◌≤◌, Bool, true, false, ◌||◌, ◌==◌, List, [], ◌∷◌, ◌++◌, length, take}
-use Rattle.std.proofs.Common.{drop, map, get_or, refl, ap, ◌∙◌, sym, subst, arith, Some, None, length-drop, ⊎_elim}
-use Rattle.std.specs.Prelude.{nat_lt, slice_get}
+use Rattle.std.proofs.Common.{drop, map, get_or, refl, ap, ◌∙◌, sym, subst, arith, Some, None, length-drop}
+use Rattle.std.specs.Prelude.{slice_get}
 use Rattle.std.specs.Str.{chars, IsUtf8}
 use Rattle.std.proofs.Math.Seq.{take-suc, take-length}
 use Rattle.std.proofs.lemmas.Bool.Decides.{nat_tests}
@@ -23,7 +23,7 @@ use Rattle.pylex.specs.declared.leading_char.LeadingChar.TheVariants.{Nothing}
 use Rattle.pylex_lexeme.specs.Lexemes.{cut, left_by_cut}
 use Rattle.pylex.specs.Cursors.{CursorParts, has_no_text, given_last_first, with_text, lexemes_to, cursor_at, cursor}
 use Rattle.pylex.specs.Listing.{Source, in_characters, listing, rest, origin, last_line}
-use Rattle.pylex.specs.Steps.{entries_of, first_step, entries_in, IsIndent, mark, IsNoEntry}
+use Rattle.pylex.specs.Steps.{entries_of, first_step, entries_in, IsIndent, mark}
 use Rattle.pylex.specs.Machine.{State, first_state, remaining, mark_at, step_of, pushed, after, lead_after}
 use Rattle.pylex.specs.LineState.{with_levels, measured, begun_anew, Stands, HasRoom, IsAscending, Comes, EntryAhead, FaultAhead}
 use Rattle.pylex.specs.LineState.{IndentAhead, DedentAhead, StopAhead, Walks, stays, dedent, is_level}
@@ -33,7 +33,6 @@ use Rattle.pylex.specs.Listers.{Listed, StandsIn, NextStep, AwaitsIndent, Keeps,
 use Rattle.pylex.proofs.MachineLaws.Law.{state_of}
 use Rattle.pylex.proofs.Resumption.Ahead.{history_is, placed_first}
 use Rattle.pylex.proofs.Resumption.Resuming.{begun_state}
-use Rattle.pylex_lexeme.proofs.Callers.Booleans.{bool_cases}
 use Rattle.pylex.proofs.Listing.Ends.{is_whole}
 use Rattle.pylex.proofs.Levels.Layouts.{level-push, pushed_above, ascending-push, ascending-front}
 use Rattle.pylex.proofs.Listers.Finding.{walks_steps, walks_on, same_ahead, fault_step, dedent_step}
@@ -632,33 +631,3 @@ pub entry_due : (a : Source) (k : ℕ) (s : Step) → k < length (entries_of (li
 entry_due a k s h g =
     let w = is_whole a in
     entry_among (entries_of (listing a)) w.last s k h (ap (λ ss. slice_get ss k) (sym w.whole) ∙ g)
-
--- What is left of a listing, by its next step.
-drop_at : (ss : List Step) (k : ℕ) (s : Step) → slice_get ss k ≡ Some s → drop k ss ≡ s ∷ drop (k + 1) ss
-drop_at [] k s e = cc
-drop_at (r ∷ ss) zero s e = let same : r ≡ s = cc in ap (λ x. x ∷ ss) same
-drop_at (r ∷ ss) (suc k) s e = let o : suc k + 1 ≡ suc (k + 1) = omega arith in rw o (drop_at ss k s e)
-
-pub rest_entry : (a : Source) (k : ℕ) (e : Entry) → slice_get (listing a) k ≡ Some (steps.Entry e)
-    → rest a k ≡ steps.Entry e ∷ rest a (k + 1)
-rest_entry a k e h = drop_at (listing a) k (steps.Entry e) h
-
-none_behind : (ss : List Step) (k : ℕ) → length ss ≤ k → drop k ss ≡ []
-none_behind [] k h = drop_none k
-none_behind (s ∷ ss) zero h = absurd (omega arith)
-none_behind (s ∷ ss) (suc k) h = none_behind ss k (omega arith)
-
-no_stop : (s : Step) (e : Entry) → IsNoEntry s → s ≡ steps.Entry e → ⊥
-no_stop (steps.Entry d) e n h = n
-no_stop steps.End e n h = cc
-no_stop (steps.Fault f) e n h = cc
-
-pub rest_stop : (a : Source) (k : ℕ) (s : Step) → slice_get (listing a) k ≡ Some s → IsNoEntry s → rest a k ≡ s ∷ []
-rest_stop a k s h n =
-    let l = listing_length a in
-    let last : length (entries_of (listing a)) ≤ k = ⊎_elim
-    (λ (b : nat_lt k (length (entries_of (listing a))) ≡ true). let due = entry_due a k s (grind (arith, nat_tests)) h in
-    absurd (no_stop s due.0 n due.1))
-    (λ (b : nat_lt k (length (entries_of (listing a))) ≡ false). grind (arith, nat_tests))
-    (bool_cases (nat_lt k (length (entries_of (listing a))))) in
-    drop_at (listing a) k s h ∙ ap (λ ss. s ∷ ss) (none_behind (listing a) (k + 1) (omega arith))

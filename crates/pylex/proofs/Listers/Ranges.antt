@@ -6,6 +6,7 @@ use Rattle.std.proofs.Common.{◌∙◌, sym, subst, arith, inl, inr, ◌⊎◌,
 use Rattle.std.specs.List.{list_all}
 use Rattle.std.proofs.lemmas.Bool.Decides.{nat_tests}
 use Rattle.std.proofs.lemmas.Str.{encode_ascii, length-le-encodes}
+use Rattle.std.proofs.lemmas.Bool.{cases_Bool, and_parts}
 use Rattle.pysource.specs.Places.{place_after}
 use Rattle.pysource.specs.declared.places.Place.{Place}
 use Rattle.pylex_lexeme.specs.declared.lexeme.Class.{Class}
@@ -30,13 +31,12 @@ use Rattle.pylex.specs.Machine.{State, place_past, past, after, entry_by, ends_l
 use Rattle.pylex.specs.LineState.{with_levels, measured, begun_anew, Walks, stays, silent, level, dedent, Comes, EntryAhead, given, GivesAt}
 use Rattle.pylex.specs.LineState.{IsMeasuring}
 use Rattle.pylex.specs.Listers.{IsIn}
-use Rattle.pylex_lexeme.proofs.Callers.Booleans.{bool_cases, and_parts}
 use Rattle.pylex.proofs.MachineLaws.Law.{place_after-append, bytes_in-append}
 use Rattle.pylex.proofs.Resumption.Resumed.{column_is}
 use Rattle.pylex.proofs.MachineLaws.Significant.{blanks_text}
 
 -- A walk goes on in the text.
-offset_after : (s : State) (x : Lexeme) → (after s x).now.offset ≡ s.now.offset + bytes_in x.text
+pub offset_after : (s : State) (x : Lexeme) → (after s x).now.offset ≡ s.now.offset + bytes_in x.text
 unfolding after
 offset_after s x = refl
 
@@ -153,13 +153,13 @@ pub measuring_start : (p : LineState) → with_levels p (0 ∷ []) ≡ first_sta
 measuring_start p f m = let now : p.now.offset ≡ 0 = ap (λ (s : State). s.now.offset) f in omega arith
 
 -- The line of a state begins behind whole lines before it.
-advance_column : (p : Place) (t : List ℕ) → (place_past p t).column ≤ p.column + length t
+pub advance_column : (p : Place) (t : List ℕ) → (place_past p t).column ≤ p.column + length t
 advance_column p [] = omega arith
 advance_column p (c ∷ t) = ⊎_elim
     (λ (e : (c == 10) ≡ true). let h = advance_column (record { row = p.row + 1; column = 0 }) t in rw (e, place_past) (omega arith))
     (λ (e : (c == 10) ≡ false). let h = advance_column (record { row = p.row; column = p.column + 1 }) t in
     rw (e, place_past) (omega arith))
-    (bool_cases (c == 10))
+    (cases_Bool (c == 10))
 
 line_begins : (before : List ℕ) → (before ≡ []) ⊎ EndsLine before → (place_after before).column ≡ 0
 unfolding place_after

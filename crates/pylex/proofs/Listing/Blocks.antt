@@ -9,6 +9,7 @@ use Rattle.std.specs.Prelude.{nat_lt}
 use Rattle.std.proofs.lemmas.Grind.{common_steps}
 use Rattle.std.proofs.lemmas.Bool.Decides.{nat_tests}
 use Rattle.std.proofs.lemmas.List.Sums.{length-filter}
+use Rattle.std.proofs.lemmas.Bool.{cases_Bool}
 use Rattle.pysource.specs.declared.places.Place.{Place}
 use Rattle.pylex_lexeme.specs.declared.lexeme.Class.{Class}
 use Rattle.pylex_lexeme.specs.declared.lexeme.Class.TheVariants.{Name, Number, String, Operator, Comment, Blanks, LineEnd, Join}
@@ -27,7 +28,6 @@ use Rattle.pylex.specs.Cursors.{is_indent}
 use Rattle.pylex.specs.Machine.{State, behind, pushed, after, dedents_at, mark_at, line_end_kind_of, layout_of, entry_by, gives, is_hash}
 use Rattle.pylex.specs.Machine.{last_line_end, last_place, tail_of, stop_of, run, remaining, first_state}
 use Rattle.pylex.specs.Laws.{is_dedent, ClosesBlocks}
-use Rattle.pylex_lexeme.proofs.Callers.Booleans.{bool_cases}
 use Rattle.pylex.proofs.MachineLaws.Run.{listing_is}
 use Rattle.pylex.proofs.Listing.Ends.{stop_is_fault}
 
@@ -104,7 +104,7 @@ below_count v w (u ∷ levels) =
     rw e (count_step (λ u. u == v) u (filter (λ u. nat_lt u w) levels) ∙ ap (λ n. cond (u == v) 1 0 + n) h
     ∙ kept_count u v w (count_by (λ u. u == v) levels) e ∙ ap (λ n. cond (nat_lt v w) n 0) (sym a)))
     (λ (e : nat_lt u w ≡ false). rw e (h ∙ left_count u v w (count_by (λ u. u == v) levels) e ∙ ap (λ n. cond (nat_lt v w) n 0) (sym a)))
-    (bool_cases (nat_lt u w))
+    (cases_Bool (nat_lt u w))
 
 pushed_count : (v w : ℕ) (levels : List ℕ) → count_by (λ u. u == v) (pushed w levels) ≡ cond (nat_lt v w)
     (count_by (λ u. u == v) levels) 0 + cond (w == v) 1 0
@@ -186,7 +186,7 @@ layout_nested s ss k n o = ⊎_elim
     (above (n - count_by (nat_lt s.width) s.levels) (record { apart = g; many = omega arith })))
     (λ _. tt))))
     (λ (m : s.margin ≡ false). let same : NestedFrom s.levels ss = rw m at k in rw m (same n o))
-    (bool_cases s.margin)
+    (cases_Bool s.margin)
 
 entry_nested : (s : State) (x : Lexeme) (n : ℕ) (ss : List Step) → Nested n ss → Nested n (entry_by s x ++ ss)
 unfolding entry_by

@@ -24,8 +24,8 @@ use Rattle.pylex.specs.Machine.{tail_of, stop_of, run, remaining, first_state}
 use Rattle.pylex.specs.Laws.{AreLexemes}
 use Rattle.pylex.specs.Listers.{Listed, StandsIn}
 use Rattle.pylex.specs.LineState.{is_above, is_level}
-use Rattle.pylex_lexeme.proofs.Callers.Booleans.{bool_cases}
 use Rattle.std.proofs.Math.Bool.{and-true, and-false}
+use Rattle.std.proofs.lemmas.Bool.{cases_Bool}
 use Rattle.pylex.proofs.Levels.Layouts.{layout_indent, layout_dedents, layout_mismatch}
 use Rattle.pylex.proofs.Listers.Finding.{settled_layout}
 use Rattle.pylex.proofs.MachineLaws.Law.{bytes_in-append}
@@ -83,13 +83,13 @@ layout_many s = ⊎_elim
     let w = some_at s.width s.levels v in
     laid_many s _ m (layout_dedents s m b v) (omega arith))
     (λ (v : is_level s.width s.levels ≡ false). laid_many s _ m (layout_mismatch s m b v) (omega arith))
-    (bool_cases (is_level s.width s.levels)))
-    (bool_cases (is_above s.width s.levels)))
+    (cases_Bool (is_level s.width s.levels)))
+    (cases_Bool (is_above s.width s.levels)))
     (λ (m : s.margin ≡ false).
     let n : many (layout_of s) ≡ 0 = ap many (settled_layout s m) in
     let l : length (levels_behind s) ≡ length s.levels = ap (λ b. length (cond b (pushed s.width s.levels) s.levels)) m in
     omega arith)
-    (bool_cases s.margin)
+    (cases_Bool s.margin)
 
 -- a lexeme gives one entry at most
 entry_many : (s : State) (x : Lexeme) → many (entry_by s x) ≤ 1

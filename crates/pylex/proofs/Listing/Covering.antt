@@ -8,6 +8,7 @@ use Rattle.std.specs.Prelude.{nat_lt}
 use Rattle.std.proofs.lemmas.List.{append-nil}
 use Rattle.std.proofs.lemmas.Bool.Decides.{nat_tests}
 use Rattle.std.proofs.lemmas.List.Elements.{All-nil, All-cons, All-append}
+use Rattle.std.proofs.lemmas.Bool.{cases_Bool}
 use Rattle.pysource.specs.declared.places.Place.{Place}
 use Rattle.pylex_lexeme.specs.declared.lexeme.Class.{Class}
 use Rattle.pylex_lexeme.specs.declared.lexeme.Class.TheVariants.{Name, Number, String, Operator, Comment, Blanks, LineEnd, Join}
@@ -25,7 +26,6 @@ use Rattle.pylex.specs.Steps.{entries_of, fault_of, mark}
 use Rattle.pylex.specs.Machine.{State, past, behind, after, dedents_at, mark_at, step_of, layout_of, entry_by, gives, is_hash}
 use Rattle.pylex.specs.Machine.{last_line_end, last_place, tail_of, stop_of, run, remaining, first_state}
 use Rattle.pylex.specs.Laws.{AreLexemes, IsGap, StandsNext, Covers, IsCovered}
-use Rattle.pylex_lexeme.proofs.Callers.Booleans.{bool_cases}
 use Rattle.pylex.proofs.MachineLaws.Law.{bytes_in-append}
 use Rattle.pylex.proofs.MachineLaws.Run.{listing_is}
 use Rattle.pylex.proofs.Listing.Ends.{stop_is_fault}
@@ -128,7 +128,7 @@ layout_spans s text ss k n gap l = ⊎_elim
     (dedents_span s.width s.levels s.now.place n s.now.offset gap text ss k l.is_gap l.now)
     tt)))
     (λ (e : s.margin ≡ false). rw e (k n gap l.is_gap l.now))
-    (bool_cases s.margin)
+    (cases_Bool s.margin)
 
 -- a lexeme's entry
 entry_spans : (s : State) (x : Lexeme) (text : List ℕ) (ss : List Step) → (x.«class» ≡ Blanks → ⊥) → (x.«class» ≡ Join → IsGap x.text)
@@ -214,7 +214,7 @@ lexeme_spans s x cs text ss e k n gap l = ⊎_elim
     (cond_spans (is_significant x) n (gap ++ (x.text ++ text)) (layout_of s) [] (entry_by s x ++ ss)
     (layout_spans s (x.text ++ text) (entry_by s x ++ ss) own n gap l)
     (own n gap l.is_gap l.now)))
-    (bool_cases (is_of_blanks x))
+    (cases_Bool (is_of_blanks x))
 
 pick_spans : (b : Bool) (n : ℕ) (text : List ℕ) (a c : List Step) → (b ≡ true → Spans n text a) → (b ≡ false → Spans n text c)
     → Spans n text (cond b a c)

@@ -37,17 +37,14 @@ use Rattle.pylex.specs.Steps.{entries_of, mark, fault_at}
 use Rattle.pylex.specs.Laws.{AreLexemes, HasExact, HaveExact}
 use Rattle.pylex.proofs.MachineLaws.Lexed.{cut_lexed, lexeme_class}
 use Rattle.pylex.proofs.Listing.Lying.{scalars_behind}
+use Rattle.pylex.proofs.Resumption.Resume.{drop_of}
 
 -- what stands between the offsets of a piece is its text
 
-scalars_of : (t b : List ℕ) → all_scalars (t ++ b) ≡ true → all_scalars t ≡ true
+pub scalars_of : (t b : List ℕ) → all_scalars (t ++ b) ≡ true → all_scalars t ≡ true
 scalars_of [] b h = refl
 scalars_of (c ∷ t) b h = let parts = and_parts (scalar c) (all_scalars (t ++ b)) h in
     and_from (scalar c) (all_scalars t) parts.0 (scalars_of t b parts.1)
-
-drop_whole : (a b : List ℕ) → drop (length a) (a ++ b) ≡ b
-drop_whole [] b = refl
-drop_whole (c ∷ a) b = drop_whole a b
 
 take_whole : (a b : List ℕ) → take (length a) (a ++ b) ≡ a
 take_whole [] b = refl
@@ -65,7 +62,7 @@ own_text a t b first last good begins ends =
     let between : take (last - first) (drop first (encode_utf8_all (a ++ (t ++ b)))) ≡ own =
     ap (λ (bs : List ℕ). take (last - first) (drop first bs)) whole
     ∙ ap (λ (n : ℕ). take (last - first) (drop n (front ++ (own ++ rest)))) begins
-    ∙ ap (take (last - first)) (drop_whole front (own ++ rest))
+    ∙ ap (take (last - first)) (drop_of front (own ++ rest))
     ∙ ap (λ (n : ℕ). take n (own ++ rest)) size
     ∙ take_whole own rest in
     let scalars = scalars_of t b (scalars_behind a (t ++ b) good) in

@@ -27,7 +27,7 @@ use Rattle.pylex_lexeme.specs.Chars.{bytes_in}
 use Rattle.pylex.specs.Indentation.{width_at, widths, open_levels, dedents, layout_by, layout}
 use Rattle.pylex.specs.Listing.{Source, listing, in_characters, origin, entry_of, steps_of, stop_fault, last_line, begins_comment}
 use Rattle.pylex.specs.Listing.{line_end_of_last, end_place, ends_in_join, tail, stop, steps_from, up_to_end}
-use Rattle.pylex.specs.Steps.{first_step, rest_of, mark, fault_at}
+use Rattle.pylex.specs.Steps.{mark, fault_at}
 use Rattle.pylex.specs.Laws.{LiesIn, StepLies, AllLie, AreLexemes}
 use Rattle.pylex.proofs.MachineLaws.Law.{bytes_in-append}
 use Rattle.pylex.proofs.MachineLaws.Run.{line_split}
@@ -186,17 +186,6 @@ listing_lies s good =
 pub entries_lie : (p : Parts) → IsUtf8 p.text → AllLie p.text (listing (in_characters p))
 entries_lie p u = subst (λ (t : List ℕ). AllLie t (listing (in_characters p))) (encodes-chars p.text u)
     (listing_lies (in_characters p) (scalars-chars p.text u))
-
--- so does the next one, and those after it
-pub first_lies : (text : List ℕ) (ss : List Step) → AllLie text ss → StepLies text (first_step ss)
-first_lies text [] h = tt
-first_lies text (s ∷ ss) h = h.0
-
-pub rest_lies : (text : List ℕ) (ss : List Step) → AllLie text ss → AllLie text (rest_of ss)
-rest_lies text [] h = tt
-rest_lies text (steps.Entry e ∷ ss) h = h.1
-rest_lies text (steps.End ∷ ss) h = h
-rest_lies text (steps.Fault f ∷ ss) h = h
 
 -- and so does each
 pub step_lies : (text : List ℕ) (ss : List Step) (k : ℕ) (s : Step) → AllLie text ss → slice_get ss k ≡ Some s → StepLies text s

@@ -5,6 +5,7 @@ use Rattle.std.proofs.Common.{◌≡◌, ℕ, ◌+◌, ◌≤◌, ◌<◌, zero,
 use Rattle.std.proofs.Common.{get_or, replicate, refl, sym, subst, arith, Option, Some, None, ⊎_elim}
 use Rattle.std.specs.List.{list_all, list_any}
 use Rattle.std.specs.Prelude.{nat_lt}
+use Rattle.std.proofs.lemmas.Bool.{cases_Bool}
 use Rattle.pysource.specs.declared.places.Place.{Place}
 use Rattle.pylex_lexeme.specs.declared.lexeme.Class.{Class}
 use Rattle.pylex_lexeme.specs.declared.lexeme.Class.TheVariants.{Name, Number, String, Operator, Comment, Blanks, LineEnd, Join}
@@ -24,7 +25,6 @@ use Rattle.pylex.specs.Steps.{entries_of}
 use Rattle.pylex.specs.Machine.{State, place_past, past, after, ends_line, dedents_at, mark_at, step_of, layout_of, entry_by, gives}
 use Rattle.pylex.specs.Machine.{is_hash, last_line_end, last_place, tail_of, stop_of, run, remaining, first_state, first_point}
 use Rattle.pylex.specs.Laws.{RunsForward, EndsBefore, AreOrdered, IsOrdered}
-use Rattle.pylex_lexeme.proofs.Callers.Booleans.{bool_cases}
 use Rattle.pylex.proofs.MachineLaws.Run.{listing_is}
 use Rattle.pylex.proofs.Listing.Ends.{stop_is_fault}
 
@@ -186,7 +186,7 @@ others_reach s x n h = subst (λ (q : Point). Reaches (floor s) (gives s x) q) (
 
 lexeme_reaches : (s : State) (x : Lexeme) → NotBehind s.line s.now → Reaches (floor s) (gives s x) (floor (after s x))
 lexeme_reaches s x h = ⊎_elim (λ (e : is_of_blanks x ≡ true). blanks_reach s x e h) (λ (e : is_of_blanks x ≡ false). others_reach s x e h)
-    (bool_cases (is_of_blanks x))
+    (cases_Bool (is_of_blanks x))
 
 abbrev last_point : State → Point
 last_point s = record { place = last_place s; offset = s.now.offset }

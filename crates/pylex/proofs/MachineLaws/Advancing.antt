@@ -3,6 +3,7 @@
 -- Carries: LineState::after, pass_blanks, pass_join, pass_line_end, pass_operator, pass_text.
 use Rattle.std.proofs.Common.{◌≡◌, ℕ, ◌+◌, ◌-◌, ◌*◌, ◌<◌, ◌≤◌, Bool, true, false, not, ◌&&◌, ◌||◌, ◌==◌, List, [], ◌∷◌, length, refl, ap}
 use Rattle.std.proofs.Common.{◌∙◌, arith, cond, ⊎_elim}
+use Rattle.std.proofs.lemmas.Bool.{cases_Bool}
 use Rattle.pylex_lexeme.specs.declared.lexeme.Class.{Class}
 use Rattle.pylex_lexeme.specs.declared.lexeme.Class.TheVariants.{Name, Number, String, Operator, Comment, Blanks, LineEnd, Join}
 use Rattle.pysource.specs.declared.places.Place.{Place}
@@ -13,8 +14,8 @@ use Rattle.pylex.specs.Lines.{opens, closes, is_significant, is_of_blanks, is_of
 use Rattle.pylex.specs.Indentation.{width_from}
 use Rattle.pylex_lexeme.specs.Chars.{bytes_in}
 use Rattle.pylex.specs.Machine.{place_past, lead_after, after, past, still, is_of_join}
-use Rattle.pylex_lexeme.proofs.Callers.Booleans.{bool_cases}
 use Rattle.pylex.specs.LineState.{with_levels, HasRoom}
+use Rattle.pylex.proofs.Listers.Ranges.{advance_column}
 
 abbrev pub ends : LineState → Lexeme → Bool
 ends p x = is_of_line_end x && (p.depth == 0)
@@ -63,16 +64,7 @@ advance_row r (c ∷ cs) =
     ⊎_elim
     (λ (e : (c == 10) ≡ true). let h = advance_row (record { row = r.row + 1; column = 0 }) cs in rw (e, place_past) (omega arith))
     (λ (e : (c == 10) ≡ false). let h = advance_row (record { row = r.row; column = r.column + 1 }) cs in rw (e, place_past) (omega arith))
-    (bool_cases (c == 10))
-
-advance_column : (r : Place) (cs : List ℕ) → (place_past r cs).column ≤ r.column + length cs
-advance_column r [] = omega arith
-advance_column r (c ∷ cs) =
-    ⊎_elim
-    (λ (e : (c == 10) ≡ true). let h = advance_column (record { row = r.row + 1; column = 0 }) cs in rw (e, place_past) (omega arith))
-    (λ (e : (c == 10) ≡ false). let h = advance_column (record { row = r.row; column = r.column + 1 }) cs in
-    rw (e, place_past) (omega arith))
-    (bool_cases (c == 10))
+    (cases_Bool (c == 10))
 
 -- a point by its place and its offset
 pub place_offset : (p : Point) (t : List ℕ) (q : Place) (m : ℕ) → q ≡ place_past p.place t → bytes_in t ≡ m

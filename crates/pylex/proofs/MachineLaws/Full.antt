@@ -11,7 +11,7 @@ use Rattle.pylex_lexeme.specs.Chars.{bytes_in}
 use Rattle.pylex_lexeme.proofs.Callers.Lexemes.{class_none}
 use Rattle.pylex.proofs.Resumption.Resume.{Full}
 
-text_is : (t : List ℕ) (o : Option Class) (x : Lexeme) → option_map (λ k. record { «class» = k; text = t }) o ≡ Some x → x.text ≡ t
+pub text_is : (t : List ℕ) (o : Option Class) (x : Lexeme) → option_map (λ k. record { «class» = k; text = t }) o ≡ Some x → x.text ≡ t
 text_is t None x e = cc
 text_is t (Some k) x e = cc
 

@@ -10,6 +10,7 @@ use Rattle.std.proofs.lemmas.Str.{encodes-append}
 use Rattle.std.proofs.lemmas.List.{append-nil, reverse-append}
 use Rattle.std.proofs.lemmas.Grind.{common_steps}
 use Rattle.std.proofs.lemmas.Bool.Decides.{nat_tests}
+use Rattle.std.proofs.lemmas.Bool.{cases_Bool}
 use Rattle.pysource.specs.Places.{place_after}
 use Rattle.pylex_lexeme.specs.Lexemes.{Lexeme}
 use Rattle.pylex.specs.Lines.{text_before, depth, is_of_blanks, is_of_line_end, is_significant, opens, closes, line_so_far, before_line}
@@ -21,7 +22,6 @@ use Rattle.pylex.specs.Machine.{State, place_past, lead_after_char, lead_after, 
 use Rattle.pylex.specs.declared.point.Point.{Point}
 use Rattle.pylex.specs.declared.leading_char.LeadingChar.{LeadingChar}
 use Rattle.pylex.specs.declared.leading_char.LeadingChar.TheVariants.{Nothing}
-use Rattle.pylex_lexeme.proofs.Callers.Booleans.{bool_cases}
 use Rattle.pylex.proofs.Levels.Stack.{push}
 
 -- Places and offsets.
@@ -42,7 +42,7 @@ place_of_one cs c =
     (λ (e : (c == 10) ≡ false). rw e
     (rw add-zero (ap (λ k. record { row = 1 + count_by (λ d. d == 10) cs; column = k })
     (add_comm 1 (prefix_len (λ d. not (d == 10)) (reverse cs))))))
-    (bool_cases (c == 10)))
+    (cases_Bool (c == 10)))
 
 pub place_after-append : (a b : List ℕ) → place_after (a ++ b) ≡ place_past (place_after a) b
 place_after-append a [] = ap place_after (append-nil a)
@@ -96,7 +96,7 @@ unfolding line_so_far
 line_push before x = ⊎_elim
     (λ (e : ends before x ≡ true). rw e (point-append (text_before before) x.text))
     (λ (e : ends before x ≡ false). rw e refl)
-    (bool_cases (ends before x))
+    (cases_Bool (ends before x))
 
 pub margin_push : (before : List Lexeme) (x : Lexeme)
     → is_at_margin (x ∷ before) ≡ (ends before x || (is_of_blanks x && is_at_margin before))
@@ -104,7 +104,7 @@ unfolding line_so_far is_at_margin
 margin_push before x = ⊎_elim
     (λ (e : ends before x ≡ true). rw e refl)
     (λ (e : ends before x ≡ false). rw e refl)
-    (bool_cases (ends before x))
+    (cases_Bool (ends before x))
 
 pub logical_push : (before : List Lexeme) (x : Lexeme)
     → is_logical (x ∷ before) ≡ (not (ends before x) && (is_significant x || is_logical before))
@@ -112,14 +112,14 @@ unfolding line_so_far is_logical
 logical_push before x = ⊎_elim
     (λ (e : ends before x ≡ true). rw e refl)
     (λ (e : ends before x ≡ false). rw e refl)
-    (bool_cases (ends before x))
+    (cases_Bool (ends before x))
 
 width_at_push : (before : List Lexeme) (x : Lexeme) → width_at (x ∷ before) ≡ cond (ends before x) 0 (width_from (width_at before) x.text)
 unfolding line_so_far width_at width_from
 width_at_push before x = ⊎_elim
     (λ (e : ends before x ≡ true). rw e refl)
     (λ (e : ends before x ≡ false). rw e (width-append (text_before (line_so_far before)) x.text 0))
-    (bool_cases (ends before x))
+    (cases_Bool (ends before x))
 
 still_width : (e b m : Bool) (w : ℕ) (t : List ℕ) → still (e || (b && m)) (cond e 0 (width_from w t)) ≡ cond e 0
     (still (b && m) (width_from (still m w) t))

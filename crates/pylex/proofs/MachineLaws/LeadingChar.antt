@@ -6,12 +6,12 @@ use Rattle.std.proofs.Common.{append_assoc, reverse, ⊎_elim}
 use Rattle.std.specs.List.{take_while}
 use Rattle.std.proofs.lemmas.List.{append-nil, reverse-append}
 use Rattle.std.proofs.lemmas.List.Sums.{take_while-cons}
+use Rattle.std.proofs.lemmas.Bool.{cases_Bool}
 use Rattle.pylex_lexeme.specs.Chars.{is_blank_char}
 use Rattle.pylex.specs.Listing.{last_line, begins_comment}
 use Rattle.pylex.specs.Machine.{lead_after_char, lead_after, is_hash}
 use Rattle.pylex.specs.declared.leading_char.LeadingChar.{LeadingChar}
 use Rattle.pylex.specs.declared.leading_char.LeadingChar.TheVariants.{Nothing, Hash, Other}
-use Rattle.pylex_lexeme.proofs.Callers.Booleans.{bool_cases}
 
 pub last_push : (t : List ℕ) (c : ℕ) → last_line (t ++ c ∷ []) ≡ cond (c == 10) [] (last_line t ++ c ∷ [])
 unfolding last_line
@@ -20,7 +20,7 @@ last_push t c =
     rw r (⊎_elim
     (λ (e : (c == 10) ≡ true). rw take_while-cons (rw e refl))
     (λ (e : (c == 10) ≡ false). rw take_while-cons (rw e (reverse-append (c ∷ []) (take_while (λ d. not (d == 10)) (reverse t)))))
-    (bool_cases (c == 10)))
+    (cases_Bool (c == 10)))
 
 -- a front in a line without LF
 abbrev pub front_in : List ℕ → LeadingChar
@@ -41,7 +41,7 @@ front_in-push [] c e = rw e refl
 front_in-push (d ∷ l) c e = ⊎_elim
     (λ (b : is_blank_char d ≡ true). rw b (front_in-push l c e))
     (λ (b : is_blank_char d ≡ false). rw (b, e) (settled (d == 35)))
-    (bool_cases (is_blank_char d))
+    (cases_Bool (is_blank_char d))
   where
     settled : (h : Bool)
         → cond h Hash Other ≡ elim (cond h Hash Other) [
@@ -58,7 +58,7 @@ last_one t c =
     rw l (⊎_elim
     (λ (e : (c == 10) ≡ true). rw e refl)
     (λ (e : (c == 10) ≡ false). let f = front_in-push (last_line t) c e in rw e (f ∙ rw e refl))
-    (bool_cases (c == 10)))
+    (cases_Bool (c == 10)))
 
 pub last_front : (b a : List ℕ) → front_in (last_line (a ++ b)) ≡ lead_after (front_in (last_line a)) b
 last_front [] a = ap (λ t. front_in (last_line t)) (append-nil a)

@@ -6,21 +6,15 @@ use Rattle.std.proofs.Common.{drop, refl, ap, ◌∙◌, sym, subst, arith, Opti
 use Rattle.std.specs.Prelude.{option_map}
 use Rattle.std.specs.List.{flat_map}
 use Rattle.std.proofs.lemmas.List.{take-append-drop}
+use Rattle.std.proofs.lemmas.Bool.{cases_Bool}
 use Rattle.pylex_lexeme.specs.declared.lexeme.Class.{Class}
 use Rattle.pylex_lexeme.specs.Lexemes.{Lexeme, class_in, longest_within, lexeme_len, lexeme_at, cut, cut_after, left_by_cut, list_of}
 use Rattle.pylex_lexeme.specs.Chars.{bytes_in}
 use Rattle.pylex.specs.Laws.{AreLexemes, IsCut, LongestWins}
-use Rattle.pylex_lexeme.proofs.Callers.Booleans.{bool_cases}
 use Rattle.pylex.proofs.MachineLaws.Full.{lexeme_full}
-use Rattle.pylex_lexeme.proofs.Callers.Lexemes.{class_none}
-
-text_taken : (t : List ℕ) (o : Option Class) (x : Lexeme) → option_map (λ k. record { «class» = k; text = t }) o ≡ Some x → x.text ≡ t
-text_taken t None x e = cc
-text_taken t (Some k) x e = cc
-
-pub lexeme_front : (cs : List ℕ) (x : Lexeme) → lexeme_at cs ≡ Some x → x.text ≡ take (lexeme_len cs) cs
-unfolding lexeme_at
-lexeme_front cs x e = text_taken (take (lexeme_len cs) cs) (class_in cs (take (lexeme_len cs) cs)) x e
+use Rattle.pylex_lexeme.proofs.Callers.Lexemes.{class_none, longest_passes}
+use Rattle.pylex.proofs.Listers.Measured.{lexeme_front}
+use Rattle.pylex.proofs.Resumption.Resume.{drop_of}
 
 pub lexeme_parts : (cs : List ℕ) (x : Lexeme) → lexeme_at cs ≡ Some x → cs ≡ x.text ++ drop (length x.text) cs
 lexeme_parts cs x e = front cs (lexeme_len cs) x.text (lexeme_front cs x e)
@@ -83,17 +77,13 @@ pub lexed_joins : (xs : List Lexeme) (text left : List ℕ) → AreLexemes text 
 lexed_joins [] text left h = sym h.0
 lexed_joins (x ∷ xs) text left h = h.2 ∙ ap (λ r. x.text ++ r) (lexed_joins xs h.0 left h.3) ∙ sym (append_assoc x.text (texts xs) left)
 
-drop_whole : (a b : List ℕ) → drop (length a) (a ++ b) ≡ b
-drop_whole [] b = refl
-drop_whole (c ∷ a) b = drop_whole a b
-
 pub cut_lexed : (cs : List ℕ) → AreLexemes cs (cut cs) (left_by_cut cs)
 unfolding cut left_by_cut
 cut_lexed cs =
     let k = lexed_after cs 0 in
     let j = lexed_joins (cut_after 0 cs) cs k.0 k.1 in
     let e : drop (length (texts (cut_after 0 cs))) cs ≡ k.0 = ap (drop (length (texts (cut_after 0 cs)))) j
-    ∙ drop_whole (texts (cut_after 0 cs)) k.0 in
+    ∙ drop_of (texts (cut_after 0 cs)) k.0 in
     subst (λ (l : List ℕ). AreLexemes cs (cut_after 0 cs) l) (sym e) k.1
 
 lexed_stops : (xs : List Lexeme) (text left : List ℕ) → AreLexemes text xs left → lexeme_at left ≡ None
@@ -117,7 +107,7 @@ none_within p cs (suc n) k l h = ⊎_elim
     (λ (le : k ≤ n). none_within p cs n k (rw e at l) le)
     (λ (eq : k ≡ suc n). ap (λ j. p (take j cs)) eq ∙ e)
     (split k n h))
-    (bool_cases (p (take (suc n) cs)))
+    (cases_Bool (p (take (suc n) cs)))
   where
     too_long : p (take (suc n) cs) ≡ true → suc n < k → ⊥
     too_long e g = omega arith
@@ -130,14 +120,7 @@ within_bound p cs zero = omega arith
 within_bound p cs (suc n) = ⊎_elim
     (λ (e : p (take (suc n) cs) ≡ true). rw e (omega arith))
     (λ (e : p (take (suc n) cs) ≡ false). let h = within_bound p cs n in rw e (omega arith))
-    (bool_cases (p (take (suc n) cs)))
-
-within_passes : (p : List ℕ → Bool) (cs : List ℕ) (n : ℕ) → 0 < longest_within p cs n → p (take (longest_within p cs n) cs) ≡ true
-within_passes p cs zero h = absurd (omega arith)
-within_passes p cs (suc n) h = ⊎_elim
-    (λ (e : p (take (suc n) cs) ≡ true). rw e e)
-    (λ (e : p (take (suc n) cs) ≡ false). rw e (within_passes p cs n (rw e at h)))
-    (bool_cases (p (take (suc n) cs)))
+    (cases_Bool (p (take (suc n) cs)))
 
 none_of : (o : Option Class) → is_some o ≡ false → o ≡ None
 none_of None e = refl
@@ -192,7 +175,7 @@ unfolding lexeme_len
 none_long cs e zero l = refl
 none_long cs e (suc n) l =
     let p : is_some (class_in cs (take (lexeme_len cs) cs)) ≡ true =
-    within_passes (λ t. is_some (class_in cs t)) cs (length cs) (omega arith) in
+    longest_passes (λ t. is_some (class_in cs t)) cs (length cs) (omega arith) in
     let q = ap is_some (no_class cs e) in
     cc
 

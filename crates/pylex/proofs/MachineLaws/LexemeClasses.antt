@@ -10,6 +10,7 @@ use Rattle.std.specs.Str.{bytes_eq}
 use Rattle.std.proofs.lemmas.List.{append-nil}
 use Rattle.std.proofs.lemmas.Slice.Eq.{bytes_eq-Decides}
 use Rattle.std.proofs.lemmas.Bool.Decides.{nat_tests}
+use Rattle.std.proofs.lemmas.Bool.{and_parts, cases_Bool}
 use Rattle.pylex_lexeme.specs.declared.lexeme.Class.{Class}
 use Rattle.pylex_lexeme.specs.declared.lexeme.Class.TheVariants.{Name, Number, String, Operator, Comment, Blanks, LineEnd, Join}
 use Rattle.pylex_lexeme.specs.Chars.{is_comment_part}
@@ -19,7 +20,6 @@ use Rattle.pylex_lexeme.specs.Numbers.{is_number}
 use Rattle.pylex_lexeme.specs.Strings.{opens_string, counts_as_string}
 use Rattle.pylex_lexeme.specs.Lexemes.{Lexeme, is_name, is_comment, are_blanks, is_line_end, is_join, plain_class, class_in, lexeme_at}
 use Rattle.pylex.specs.Listing.{last_line}
-use Rattle.pylex_lexeme.proofs.Callers.Booleans.{bool_cases}
 use Rattle.pylex.proofs.MachineLaws.LeadingChar.{last_push}
 use Rattle.pylex.proofs.MachineLaws.Lexed.{lexeme_class}
 
@@ -80,11 +80,7 @@ line_end_begins t u e = ⊎_elim
     let b : bytes_eq u (13 ∷ 10 ∷ []) ≡ true = rw a at e in
     ap (λ v. last_line (t ++ v)) ((bytes_eq-Decides u (13 ∷ 10 ∷ [])).0 b) ∙ ap last_line (sym (append_assoc t (13 ∷ []) (10 ∷ [])))
     ∙ ends_in_newline (t ++ 13 ∷ []))
-    (bool_cases (bytes_eq u (10 ∷ [])))
-
-both : (a b : Bool) → (a && b) ≡ true → (a ≡ true) × (b ≡ true)
-both true b e = (refl, e)
-both false b e = cc
+    (cases_Bool (bytes_eq u (10 ∷ [])))
 
 in_line : (t : List ℕ) (c : ℕ) → (c == 10) ≡ false → last_line (t ++ c ∷ []) ≡ last_line t ++ c ∷ []
 in_line t c e = last_push t c ∙ ap (λ b. cond b [] (last_line t ++ c ∷ [])) e
@@ -93,7 +89,7 @@ in_line t c e = last_push t c ∙ ap (λ b. cond b [] (last_line t ++ c ∷ []))
 goes_on_in_line : (u t : List ℕ) → list_all is_comment_part u ≡ true → last_line (t ++ u) ≡ last_line t ++ u
 goes_on_in_line [] t e = ap last_line (append-nil t) ∙ sym (append-nil (last_line t))
 goes_on_in_line (c ∷ u) t e =
-    let p = both (is_comment_part c) (list_all is_comment_part u) e in
+    let p = and_parts (is_comment_part c) (list_all is_comment_part u) e in
     let n : (c == 10) ≡ false = not_newline (c == 10) (not (c == 13)) p.0 in
     ap last_line (sym (append_assoc t (c ∷ []) u)) ∙ goes_on_in_line u (t ++ c ∷ []) p.1 ∙ ap (λ l. l ++ u) (in_line t c n)
     ∙ append_assoc (last_line t) (c ∷ []) u
@@ -106,7 +102,7 @@ pub comment_in_line : (u t : List ℕ) → is_comment u ≡ true → (length (la
 unfolding is_comment
 comment_in_line [] t e = cc
 comment_in_line (c ∷ u) t e =
-    let p = both (c == 35) (list_all is_comment_part u) e in
+    let p = and_parts (c == 35) (list_all is_comment_part u) e in
     let n = hash c p.0 in
     let l : last_line (t ++ c ∷ u) ≡ last_line t ++ c ∷ u = ap last_line (sym (append_assoc t (c ∷ []) u))
     ∙ goes_on_in_line u (t ++ c ∷ []) p.1 ∙ ap (λ l. l ++ u) (in_line t c n) ∙ append_assoc (last_line t) (c ∷ []) u in

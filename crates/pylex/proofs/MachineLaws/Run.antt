@@ -4,6 +4,7 @@
 use Rattle.std.proofs.Common.{◌≡◌, ℕ, ◌+◌, Bool, true, false, ◌&&◌, ◌==◌, List, [], ◌∷◌, ◌++◌, refl, ap, ◌∙◌, sym, arith, cond, Option}
 use Rattle.std.proofs.Common.{Some, None, append_assoc, ⊎_elim}
 use Rattle.std.proofs.lemmas.List.{append-nil}
+use Rattle.std.proofs.lemmas.Bool.{cases_Bool}
 use Rattle.pysource.specs.Places.{place_after}
 use Rattle.pylex_lexeme.specs.declared.lexeme.Class.{Class}
 use Rattle.pylex_lexeme.specs.declared.lexeme.Class.TheVariants.{Name, Number, String, Operator, Comment, Blanks, LineEnd, Join}
@@ -20,7 +21,6 @@ use Rattle.pylex.specs.Listing.{Source, entry_of, steps_of, line_end_of_last, en
 use Rattle.pylex.specs.declared.kind.Kind.TheVariants as kinds
 use Rattle.pylex.specs.Machine.{State, layout_of, entry_by, gives, last_line_end, tail_of, stop_of, run, remaining, after, behind_steps}
 use Rattle.pylex.specs.Machine.{first_state, still}
-use Rattle.pylex_lexeme.proofs.Callers.Booleans.{bool_cases}
 use Rattle.pylex.proofs.MachineLaws.Law.{state_of, state_push, IsBalanced, balanced_push, place_after-append, bytes_in-append}
 use Rattle.pylex.proofs.MachineLaws.LeadingChar.{hash_is}
 
@@ -32,7 +32,7 @@ line_split (x ∷ before) = ⊎_elim
     (λ (e : (is_of_line_end x && (depth before == 0)) ≡ true). rw e (append-nil (text_before before ++ x.text)))
     (λ (e : (is_of_line_end x && (depth before == 0)) ≡ false). let h = line_split before in
     rw e (sym (append_assoc (text_before (before_line before)) (text_before (line_so_far before)) x.text) ∙ ap (λ t. t ++ x.text) h))
-    (bool_cases (is_of_line_end x && (depth before == 0)))
+    (cases_Bool (is_of_line_end x && (depth before == 0)))
 
 layout_is : (before : List Lexeme) → layout before ≡ layout_of (state_of before)
 unfolding layout layout_by layout_of state_of
@@ -126,7 +126,7 @@ law fault left before (x ∷ xs) b =
     ap (behind_steps (gives (state_of before) x))
     (law fault left (x ∷ before) xs (balanced_push before x b e)
     ∙ ap (λ s. up_to_end (run fault left s xs)) (state_push before x b e)))
-    (bool_cases (closes x && (depth before == 0)))
+    (cases_Bool (closes x && (depth before == 0)))
     ∙ sym (up_to_end-append (gives (state_of before) x) (run fault left (after (state_of before) x) xs))
 
 pub listing_is : (s : Source) → listing s ≡ mark kinds.Encoding [] origin origin ∷ remaining s.fault first_state s.text

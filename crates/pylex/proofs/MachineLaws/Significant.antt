@@ -1,26 +1,25 @@
 -- What makes a line logical is seen at its first characters.
 --
--- Carries: none_at_all, all_cut, len_within, significant_at and 2 more, for Carried, Finding,
+-- Carries: none_at_all, all_cut, significant_at and 2 more, for Carried, Finding,
 -- LexedOn, Lined and 3 more.
 use Rattle.std.proofs.Common.{◌≡◌, ℕ, ◌≤◌, Bool, true, false, ◌&&◌, ◌==◌, not, List, [], ◌∷◌, length, take, refl, sym, ◌∙◌, ap, subst}
-use Rattle.std.proofs.Common.{Option, Some, None, arith, suc, zero, cond, inl, inr, ◌⊎◌, ⊎_elim, eqb, is_some}
+use Rattle.std.proofs.Common.{Option, Some, None, suc, zero, cond, ⊎_elim}
 use Rattle.std.specs.Prelude.{option_map}
 use Rattle.std.specs.List.{list_all}
-use Rattle.std.specs.Str.{bytes_eq}
-use Rattle.std.proofs.lemmas.Bool.{eqb-true}
+use Rattle.std.proofs.lemmas.Bool.{not-true, and_parts, cases_Bool}
 use Rattle.pylex_lexeme.specs.declared.lexeme.Class.{Class}
 use Rattle.pylex_lexeme.specs.declared.lexeme.Class.TheVariants.{Name, Number, Operator, Comment, Blanks, LineEnd, Join, String}
-use Rattle.pylex_lexeme.specs.Chars.{is_comment_part, is_blank_char}
+use Rattle.pylex_lexeme.specs.Chars.{is_blank_char}
 use Rattle.pylex_lexeme.specs.Strings.{opens_string, counts_as_string}
-use Rattle.pylex_lexeme.specs.Lexemes.{longest_within, class_in, plain_class, lexeme_len, lexeme_at, Lexeme, is_name, is_comment}
+use Rattle.pylex_lexeme.specs.Lexemes.{class_in, plain_class, lexeme_len, lexeme_at, Lexeme, is_name, is_comment}
 use Rattle.pylex_lexeme.specs.Lexemes.{are_blanks, is_line_end, is_join}
 use Rattle.pylex_lexeme.specs.Numbers.{is_number}
 use Rattle.pylex_lexeme.specs.Operators.{is_operator, exact_of}
 use Rattle.pylex_lexeme.specs.declared.kinds.Exact.{Exact}
 use Rattle.pylex.specs.Lines.{is_significant}
 use Rattle.pylex_lexeme.specs.Cuts.{TakesLexeme, begins_significant, begins_line_end}
-use Rattle.pylex_lexeme.proofs.Callers.Booleans.{and_parts, bool_cases, or_parts}
 use Rattle.pylex_lexeme.proofs.Callers.Lexemes.{nothing_takes, comment_takes, blanks_take, feed_takes, both_take, no_end_front}
+use Rattle.pylex_lexeme.proofs.Callers.WholeLines.{len_within}
 
 -- a lexeme by its class and its text
 record At (cs : List ℕ) (x : Lexeme) : Type 0 where
@@ -92,55 +91,16 @@ line_end_of false false false false false false false x h = cc
 is_by : (k : Class) (cs : List ℕ) (x : Lexeme) → lexeme_at cs ≡ Some x → x.«class» ≡ k → (k ≡ String → ⊥) → plain_class x.text ≡ Some k
 is_by k cs x e f n = plain_in cs x.text k ((at cs x e).classed ∙ ap (λ i. Some i) f) n
 
-same_bytes : (xs ys : List ℕ) → bytes_eq xs ys ≡ true → xs ≡ ys
-same_bytes [] [] e = refl
-same_bytes [] (y ∷ ys) e = cc
-same_bytes (x ∷ xs) [] e = cc
-same_bytes (x ∷ xs) (y ∷ ys) e =
-    let p = and_parts (eqb x y) (bytes_eq xs ys) e in
-    let h = eqb-true x y p.0 in
-    let t = same_bytes xs ys p.1 in
-    cc
-
-comment_parts : (t : List ℕ) → is_comment t ≡ true → list_all is_comment_part t ≡ true
-unfolding is_comment
-comment_parts [] e = refl
-comment_parts (c ∷ t) e = let p = and_parts (c == 35) (list_all is_comment_part t) e in let f : c ≡ 35 =
-    eqb-true c 35 p.0 in rw (f, p.1) refl
-
-blank_parts : (t : List ℕ) → are_blanks t ≡ true → list_all is_blank_char t ≡ true
+pub blank_parts : (t : List ℕ) → are_blanks t ≡ true → list_all is_blank_char t ≡ true
 unfolding are_blanks
 blank_parts [] e = refl
 blank_parts (c ∷ t) e = e
-
-end_parts : (t : List ℕ) → is_line_end t ≡ true → (t ≡ 10 ∷ []) ⊎ (t ≡ 13 ∷ 10 ∷ [])
-unfolding is_line_end
-end_parts t e = ⊎_elim (λ (h : bytes_eq t (10 ∷ []) ≡ true). inl (same_bytes t (10 ∷ []) h))
-    (λ (h : bytes_eq t (13 ∷ 10 ∷ []) ≡ true). inr (same_bytes t (13 ∷ 10 ∷ []) h))
-    (or_parts (bytes_eq t (10 ∷ [])) (bytes_eq t (13 ∷ 10 ∷ [])) e)
-
--- a comment holds no CR and no LF
-pub comment_text : (cs : List ℕ) (x : Lexeme) → lexeme_at cs ≡ Some x → x.«class» ≡ Comment → list_all is_comment_part x.text ≡ true
-unfolding plain_class
-comment_text cs x e f = comment_parts x.text (comment_of (is_name x.text) (is_number x.text) (is_operator x.text) (is_comment x.text)
-    (are_blanks x.text) (is_line_end x.text) (is_join x.text) (exact_of x.text) (is_by Comment cs x e f (λ h. cc)))
 
 -- blanks are spaces, tabs and form feeds
 pub blanks_text : (cs : List ℕ) (x : Lexeme) → lexeme_at cs ≡ Some x → x.«class» ≡ Blanks → list_all is_blank_char x.text ≡ true
 unfolding plain_class
 blanks_text cs x e f = blank_parts x.text (blanks_of (is_name x.text) (is_number x.text) (is_operator x.text) (is_comment x.text)
     (are_blanks x.text) (is_line_end x.text) (is_join x.text) (exact_of x.text) (is_by Blanks cs x e f (λ h. cc)))
-
--- a line end is LF or CR LF
-pub line_end_text : (cs : List ℕ) (x : Lexeme) → lexeme_at cs ≡ Some x → x.«class» ≡ LineEnd → (x.text ≡ 10 ∷ []) ⊎ (x.text ≡ 13 ∷ 10 ∷ [])
-unfolding plain_class
-line_end_text cs x e f = end_parts x.text (line_end_of (is_name x.text) (is_number x.text) (is_operator x.text) (is_comment x.text)
-    (are_blanks x.text) (is_line_end x.text) (is_join x.text) (exact_of x.text) (is_by LineEnd cs x e f (λ h. cc)))
-
--- What a significant token begins with
-not_true : (b : Bool) → not b ≡ true → b ≡ false
-not_true true e = cc
-not_true false e = refl
 
 significant_comment : (cs : List ℕ) (n : ℕ) → begins_significant cs ≡ true → is_comment (take n cs) ≡ false
 unfolding begins_significant is_comment
@@ -149,7 +109,7 @@ significant_comment (c ∷ cs) zero h = refl
 significant_comment (c ∷ cs) (suc n) h =
     let p = and_parts (not (is_blank_char c) && not (c == 35)) (not (begins_line_end (c ∷ cs))) h in
     let q = and_parts (not (is_blank_char c)) (not (c == 35)) p.0 in
-    let e : (c == 35) ≡ false = not_true (c == 35) q.1 in
+    let e : (c == 35) ≡ false = not-true (c == 35) q.1 in
     rw e refl
 
 significant_blanks : (cs : List ℕ) (n : ℕ) → begins_significant cs ≡ true → are_blanks (take n cs) ≡ false
@@ -159,7 +119,7 @@ significant_blanks (c ∷ cs) zero h = refl
 significant_blanks (c ∷ cs) (suc n) h =
     let p = and_parts (not (is_blank_char c) && not (c == 35)) (not (begins_line_end (c ∷ cs))) h in
     let q = and_parts (not (is_blank_char c)) (not (c == 35)) p.0 in
-    let e : is_blank_char c ≡ false = not_true (is_blank_char c) q.0 in
+    let e : is_blank_char c ≡ false = not-true (is_blank_char c) q.0 in
     rw e refl
 
 end_front : (cs : List ℕ) (n : ℕ) → begins_line_end cs ≡ false → n ≤ length cs → is_line_end (take n cs) ≡ false
@@ -180,19 +140,7 @@ unfolding begins_significant
 significant_line_end [] n h l = cc
 significant_line_end (c ∷ cs) n h l =
     let p = and_parts (not (is_blank_char c) && not (c == 35)) (not (begins_line_end (c ∷ cs))) h in
-    end_front (c ∷ cs) n (not_true (begins_line_end (c ∷ cs)) p.1) l
-
-pub len_within : (cs : List ℕ) → lexeme_len cs ≤ length cs
-unfolding lexeme_len
-len_within cs = within (length cs)
-  where
-    within : (m : ℕ) → longest_within (λ t. is_some (class_in cs t)) cs m ≤ m
-    within zero = omega arith
-    within (suc m) =
-        ⊎_elim
-        (λ (e : is_some (class_in cs (take (suc m) cs)) ≡ true). rw e (omega arith))
-        (λ (e : is_some (class_in cs (take (suc m) cs)) ≡ false). let i = within m in rw e (omega arith))
-        (bool_cases (is_some (class_in cs (take (suc m) cs))))
+    end_front (c ∷ cs) n (not-true (begins_line_end (c ∷ cs)) p.1) l
 
 abbrev significant_of : Class → Bool
 significant_of k = elim k [ Blanks ↦ false | Comment ↦ false | LineEnd ↦ false | _ ↦ true ]
@@ -242,7 +190,7 @@ lays_end c (d ∷ cs) e =
     let f : ((c == 13) && (d == 10)) ≡ true = simp h at e in
     let p = and_parts (c == 13) (d == 10) f in
     record { kind = LineEnd; new = _; takes = both_take (c ∷ d ∷ cs) p.0 p.1; plain = refl })
-    (bool_cases (c == 10))
+    (cases_Bool (c == 10))
 
 lays : (c : ℕ) (cs : List ℕ) → begins_significant (c ∷ cs) ≡ false → Lays (c ∷ cs)
 unfolding begins_significant
@@ -256,9 +204,9 @@ lays c cs h =
     ⊎_elim
     (λ (g : begins_line_end (c ∷ cs) ≡ true). lays_end c cs g)
     (λ (g : begins_line_end (c ∷ cs) ≡ false). let t : true ≡ false = simp (e, f, g) at h in cc)
-    (bool_cases (begins_line_end (c ∷ cs))))
-    (bool_cases (c == 35)))
-    (bool_cases (is_blank_char c))
+    (cases_Bool (begins_line_end (c ∷ cs))))
+    (cases_Bool (c == 35)))
+    (cases_Bool (is_blank_char c))
 
 class_by : (cs new : List ℕ) (k : Class) (x : Lexeme) → TakesLexeme cs (Some k) new → lexeme_at cs ≡ Some x → x.«class» ≡ k
 class_by cs new k x t e = let f : Some k ≡ Some x.«class» = t.«class» ∙ ap (option_map (λ (y : Lexeme). y.«class»)) e in cc

@@ -9,6 +9,7 @@ use Rattle.std.specs.Str.{chars, bytes_eq}
 use Rattle.std.proofs.lemmas.Slice.Eq.{bytes_eq-Decides}
 use Rattle.std.proofs.lemmas.Bool.Decides.{nat_tests}
 use Rattle.std.proofs.lemmas.Str.{encodes-IsAscii, length-le-encodes}
+use Rattle.std.proofs.lemmas.Bool.{and_parts, cases_Bool}
 use Rattle.pysource.specs.declared.places.Place.{Place}
 use Rattle.pylex_lexeme.specs.declared.lexeme.Class.{Class}
 use Rattle.pylex_lexeme.specs.declared.lexeme.Class.TheVariants.{Name, Number, String, Operator, Comment, Blanks, LineEnd, Join}
@@ -16,9 +17,8 @@ use Rattle.pylex_lexeme.specs.Chars.{is_blank_char, bytes_in}
 use Rattle.pylex_lexeme.specs.Cuts.{Cuts}
 use Rattle.pylex_lexeme.specs.Operators.{is_operator, is_closer}
 use Rattle.pylex_lexeme.specs.declared.kinds.Exact.{Exact}
-use Rattle.pylex_lexeme.specs.Lexemes.{Lexeme, are_blanks, is_line_end, is_join, is_line_end_class, is_blanks_class, is_join_class}
+use Rattle.pylex_lexeme.specs.Lexemes.{Lexeme, is_line_end, is_join, is_line_end_class, is_blanks_class, is_join_class}
 use Rattle.pylex_lexeme.specs.Lexemes.{is_opener_class, is_closer_class}
-use Rattle.pylex_lexeme.proofs.Callers.Booleans.{bool_cases}
 use Rattle.pylex_lexeme.proofs.Callers.Lexemes.{by_words, words}
 use Rattle.pylex.specs.declared.leading_char.LeadingChar.{LeadingChar}
 use Rattle.pylex.specs.declared.leading_char.LeadingChar.TheVariants.{Nothing, Hash, Other}
@@ -37,10 +37,7 @@ use Rattle.pylex.specs.Inner.Plain.{IsPlain}
 use Rattle.pylex.specs.Inner.Told.{GoesOn, begun_by, Tells, Passed, is_text, text_kind}
 use Rattle.pylex.proofs.MachineLaws.LexemeClasses.{Says, lexeme_says}
 use Rattle.pylex.proofs.Texts.Plain.{plain_ascii, AllInLine, advance_in_line, begun}
-
-both : (a b : Bool) → (a && b) ≡ true → (a ≡ true) × (b ≡ true)
-both true b e = (refl, e)
-both false b e = cc
+use Rattle.pylex.proofs.MachineLaws.Significant.{blank_parts}
 
 -- characters of ASCII, and no LF
 abbrev is_even : ℕ → Bool
@@ -48,15 +45,15 @@ is_even c = nat_lt c 128 && not (c == 10)
 
 even_plain : (cs : List ℕ) → list_all is_even cs ≡ true → IsPlain cs
 even_plain [] e k h = absurd (omega (arith, h))
-even_plain (c ∷ cs) e zero h = let p = both (is_even c) (list_all is_even cs) e in first c p.0
+even_plain (c ∷ cs) e zero h = let p = and_parts (is_even c) (list_all is_even cs) e in first c p.0
   where
     first : (c : ℕ) → is_even c ≡ true → (c < 128) × (c ≢ 10)
     first c e = (grind (arith, nat_tests), λ h. grind (arith, nat_tests))
-even_plain (c ∷ cs) e (suc k) h = let p = both (is_even c) (list_all is_even cs) e in even_plain cs p.1 k (omega (arith, h))
+even_plain (c ∷ cs) e (suc k) h = let p = and_parts (is_even c) (list_all is_even cs) e in even_plain cs p.1 k (omega (arith, h))
 
 even_in_line : (cs : List ℕ) → list_all is_even cs ≡ true → AllInLine cs
 even_in_line [] e = tt
-even_in_line (c ∷ cs) e = let p = both (is_even c) (list_all is_even cs) e in (no_feed c p.0, even_in_line cs p.1)
+even_in_line (c ∷ cs) e = let p = and_parts (is_even c) (list_all is_even cs) e in (no_feed c p.0, even_in_line cs p.1)
   where
     no_feed : (c : ℕ) → is_even c ≡ true → (c == 10) ≡ false
     no_feed c e = grind (arith, nat_tests)
@@ -74,11 +71,11 @@ goes_on bs counted e p =
 any_all : (p : List ℕ → Bool) (t : List ℕ) (ws : List (List ℕ)) → list_any (bytes_eq t) ws ≡ true → list_all p ws ≡ true → p t ≡ true
 any_all p t [] e a = absurd cc
 any_all p t (w ∷ ws) e a =
-    let q = both (p w) (list_all p ws) a in
+    let q = and_parts (p w) (list_all p ws) a in
     ⊎_elim
     (λ (h : bytes_eq t w ≡ true). ap p ((bytes_eq-Decides t w).0 h) ∙ q.0)
     (λ (h : bytes_eq t w ≡ false). any_all p t ws (rw h at e) q.1)
-    (bool_cases (bytes_eq t w))
+    (cases_Bool (bytes_eq t w))
 
 -- an operator's first character begins a line with something
 abbrev is_sign : List ℕ → Bool
@@ -88,8 +85,8 @@ is_sign (c ∷ cs) = list_all is_even (c ∷ cs) && (not (is_blank_char c) && no
 sign_front : (t : List ℕ) → is_sign t ≡ true → (f : LeadingChar) → lead_after f t ≡ begun_by f
 sign_front [] e f = cc
 sign_front (c ∷ cs) e f =
-    let p = both (list_all is_even (c ∷ cs)) (not (is_blank_char c) && not (c == 35)) e in
-    let q = both (not (is_blank_char c)) (not (c == 35)) p.1 in
+    let p = and_parts (list_all is_even (c ∷ cs)) (not (is_blank_char c) && not (c == 35)) e in
+    let q = and_parts (not (is_blank_char c)) (not (c == 35)) p.1 in
     let a = even_in_line (c ∷ cs) p.0 in
     by f a (no (is_blank_char c) q.0) (no (c == 35) q.1)
   where
@@ -104,7 +101,7 @@ sign_front (c ∷ cs) e f =
 
 sign_even : (t : List ℕ) → is_sign t ≡ true → list_all is_even t ≡ true
 sign_even [] e = cc
-sign_even (c ∷ cs) e = (both (list_all is_even (c ∷ cs)) (not (is_blank_char c) && not (c == 35)) e).0
+sign_even (c ∷ cs) e = (and_parts (list_all is_even (c ∷ cs)) (not (is_blank_char c) && not (c == 35)) e).0
 
 operator_sign : (t : List ℕ) → is_operator t ≡ true → is_sign t ≡ true
 operator_sign t e = any_all is_sign t words (sym (by_words t) ∙ e) refl
@@ -113,7 +110,7 @@ operator_sign t e = any_all is_sign t words (sym (by_words t) ∙ e) refl
 blanks_even : (cs : List ℕ) → list_all is_blank_char cs ≡ true → list_all is_even cs ≡ true
 blanks_even [] e = refl
 blanks_even (c ∷ cs) e =
-    let p = both (is_blank_char c) (list_all is_blank_char cs) e in
+    let p = and_parts (is_blank_char c) (list_all is_blank_char cs) e in
     let h = even c p.0 in
     rw h (blanks_even cs p.1)
   where
@@ -125,18 +122,13 @@ blanks_front cs e Hash = begun Hash cs (λ n. cc) (even_in_line cs (blanks_even 
 blanks_front cs e Other = begun Other cs (λ n. cc) (even_in_line cs (blanks_even cs e))
 blanks_front [] e Nothing = refl
 blanks_front (c ∷ cs) e Nothing =
-    let p = both (is_blank_char c) (list_all is_blank_char cs) e in
+    let p = and_parts (is_blank_char c) (list_all is_blank_char cs) e in
     let b = p.0 in
     let n = feed c p.0 in
     rw (n, b) (blanks_front cs p.1 Nothing)
   where
     feed : (c : ℕ) → is_blank_char c ≡ true → (c == 10) ≡ false
     feed c e = grind (arith, nat_tests)
-
-are_all : (t : List ℕ) → are_blanks t ≡ true → list_all is_blank_char t ≡ true
-unfolding are_blanks
-are_all [] e = cc
-are_all (c ∷ cs) e = e
 
 -- line ends
 data LineEnd_is (t : List ℕ) : Type 0 where
@@ -150,7 +142,7 @@ line_end_is t e = ⊎_elim
     (λ (a : bytes_eq t (10 ∷ []) ≡ false).
     let b : bytes_eq t (13 ∷ 10 ∷ []) ≡ true = rw a at e in
     crlf ((bytes_eq-Decides t (13 ∷ 10 ∷ [])).0 b))
-    (bool_cases (bytes_eq t (10 ∷ [])))
+    (cases_Bool (bytes_eq t (10 ∷ [])))
 
 end_row : (t : List ℕ) → LineEnd_is t → (p : Place) → place_past p t ≡ record { row = p.row + 1; column = 0 }
 end_row t (lf e) p = rw e refl
@@ -169,7 +161,7 @@ join_row : (t : List ℕ) → is_join t ≡ true → (p : Place) → place_past 
 unfolding is_join
 join_row [] e p = cc
 join_row (c ∷ cs) e p =
-    let q = both (c == 92) (is_line_end cs) e in
+    let q = and_parts (c == 92) (is_line_end cs) e in
     let n = slash c q.0 in
     rw n (end_row cs (line_end_is cs q.1) (record { row = p.row; column = p.column + 1 }))
   where
@@ -180,7 +172,7 @@ join_front : (t : List ℕ) → is_join t ≡ true → (f : LeadingChar) → lea
 unfolding is_join
 join_front [] e f = cc
 join_front (c ∷ cs) e f =
-    let q = both (c == 92) (is_line_end cs) e in
+    let q = and_parts (c == 92) (is_line_end cs) e in
     end_front cs (line_end_is cs q.1) _
 
 pub tells : (bytes front back : List ℕ) (k : Class) → Cuts bytes k front back → Tells k front
@@ -195,7 +187,10 @@ tells bytes front back k c = by k (lexeme_says (chars bytes) _ c.lexeme)
       goes_on front c.counted (sign_even (chars front) g),
       sign_front (chars front) g,
     )
-    by Blanks s = let g = are_all (chars front) s in (goes_on front c.counted (blanks_even (chars front) g), blanks_front (chars front) g)
+    by Blanks s = let g = blank_parts (chars front) s in (
+      goes_on front c.counted (blanks_even (chars front) g),
+      blanks_front (chars front) g,
+    )
     by LineEnd s = let g = line_end_is (chars front) s in (
       end_row (chars front) g,
       end_front (chars front) g,

@@ -6,10 +6,10 @@ use Rattle.std.proofs.Common.{arith, append_assoc, ⊎_elim}
 use Rattle.std.specs.List.{take_while, prefix_len}
 use Rattle.std.proofs.lemmas.List.{append-nil, reverse-append, reverse-reverse}
 use Rattle.std.proofs.lemmas.List.Sums.{take_while-cons}
+use Rattle.std.proofs.lemmas.Bool.{cases_Bool}
 use Rattle.pylex_lexeme.specs.Chars.{bytes_in}
 use Rattle.pylex.specs.Listing.{Source, last_line}
 use Rattle.pylex.specs.Standing.{front_to, back_from, line_begin, Agrees}
-use Rattle.pylex_lexeme.proofs.Callers.Booleans.{bool_cases}
 use Rattle.pylex.proofs.MachineLaws.Law.{bytes_in-append}
 use Rattle.pylex.proofs.Resumption.Resume.{goes_on, lines_before, last_split, front_in, front_zero, front_bytes, front_and_back, drop_of}
 
@@ -34,14 +34,14 @@ stops_there [] = refl
 stops_there (c ∷ r) = ⊎_elim
     (λ (e : (c == 10) ≡ true). ap (take_while goes_on) (left_all c r e) ∙ taken_none c r e)
     (λ (e : (c == 10) ≡ false). ap (take_while goes_on) (left_on c r e) ∙ stops_there r)
-    (bool_cases (c == 10))
+    (cases_Bool (c == 10))
 
 stops_behind : (u r : List ℕ) → take_while goes_on (u ++ behind_line r) ≡ take_while goes_on u
 stops_behind [] r = stops_there r
 stops_behind (c ∷ u) r = ⊎_elim
     (λ (e : (c == 10) ≡ true). taken_none c (u ++ behind_line r) e ∙ sym (taken_none c u e))
     (λ (e : (c == 10) ≡ false). taken_one c (u ++ behind_line r) e ∙ ap (λ t. c ∷ t) (stops_behind u r) ∙ sym (taken_one c u e))
-    (bool_cases (c == 10))
+    (cases_Bool (c == 10))
 
 whole_lines : (f u : List ℕ) → last_line (lines_before f ++ u) ≡ last_line u
 unfolding last_line

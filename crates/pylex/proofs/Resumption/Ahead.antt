@@ -6,6 +6,7 @@ use Rattle.std.proofs.Common.{◌≡◌, ℕ, ◌-◌, Bool, true, false, not, �
 use Rattle.std.proofs.Common.{sym, subst, arith, Option, Some, append_assoc, ⊎_elim}
 use Rattle.std.proofs.lemmas.List.{append-nil}
 use Rattle.std.proofs.lemmas.Bool.Decides.{nat_tests}
+use Rattle.std.proofs.lemmas.Bool.{and_parts, or_parts, cases_Bool}
 use Rattle.pylex_lexeme.specs.declared.lexeme.Class.{Class}
 use Rattle.pylex_lexeme.specs.declared.lexeme.Class.TheVariants.{Name, Number, String, Operator, Comment, Blanks, LineEnd, Join}
 use Rattle.pylex.specs.declared.entries.ListingFault.{ListingFault}
@@ -20,11 +21,10 @@ use Rattle.pylex.specs.Cursors.{cursor_at, lexemes_to}
 use Rattle.pylex.specs.Machine.{State, pushed, after, is_of_join, layout_of, entry_by, gives, stop_of, run, remaining}
 use Rattle.pylex.specs.Standing.{front_to, back_from, resumed}
 use Rattle.pylex.specs.Laws.{AreLexemes}
-use Rattle.pylex_lexeme.proofs.Callers.Booleans.{bool_cases}
 use Rattle.pylex.proofs.Levels.Stack.{push}
 use Rattle.pylex.proofs.MachineLaws.Law.{state_of, point_after, margin_push, logical_push, count_cons}
 use Rattle.pylex.proofs.MachineLaws.Steps.{cut_step, cut_stop, left_step, left_stop}
-use Rattle.pylex.proofs.Resumption.Resume.{begun_at, run_same, front_in, front_zero, onto, Full, lexemes_at}
+use Rattle.pylex.proofs.Resumption.Resume.{begun_at, run_same, front_in, front_zero, onto, Full, lexemes_at, drop_of}
 use Rattle.pylex.proofs.Resumption.Resumed.{column_is, front_line, resumed_start}
 use Rattle.pylex.proofs.MachineLaws.Full.{cut_full}
 use Rattle.pylex.proofs.MachineLaws.Lexed.{lexeme_some, cut_lexed}
@@ -79,10 +79,6 @@ front_is a b = front_in a b (bytes_in a) (omega arith) ∙ ap (λ n. a ++ front_
     none : (n : ℕ) → n - n ≡ 0
     none n = omega arith
 
-pub drop_front : (a b : List ℕ) → drop (length a) (a ++ b) ≡ b
-drop_front [] b = refl
-drop_front (c ∷ a) b = drop_front a b
-
 record IsCutAs (text : List ℕ) (xs : List Lexeme) (left : List ℕ) : Type 0 where
   cut_is : cut text ≡ xs
   left_is : left_by_cut text ≡ left
@@ -105,20 +101,11 @@ unfolding ahead remaining
 ahead_runs s indented h xs text left p =
     let f : front_to (bytes_in (text_before h)) s.text ≡ text_before h = ap (front_to (bytes_in (text_before h))) p.parts
     ∙ front_is (text_before h) text in
-    let b : drop (length (text_before h)) s.text ≡ text = ap (drop (length (text_before h))) p.parts ∙ drop_front (text_before h) text in
+    let b : drop (length (text_before h)) s.text ≡ text = ap (drop (length (text_before h))) p.parts ∙ drop_of (text_before h) text in
     let c = cut_as xs text left p.lexemes in
     let d = c.cut_is in
     let e = c.left_is in
     rw (f, b, d, e) refl
-
--- Where no significant token stands in a line, no bracket is open.
-and_parts : (a b : Bool) → (a && b) ≡ true → (a ≡ true) × (b ≡ true)
-and_parts true b e = (refl, e)
-and_parts false b e = cc
-
-or_parts : (a b : Bool) → (a || b) ≡ false → (a ≡ false) × (b ≡ false)
-or_parts true b e = cc
-or_parts false b e = (refl, e)
 
 neutral : (x : Lexeme) → is_significant x ≡ false → (opens x ≡ false) × (closes x ≡ false)
 neutral x e = by_class x.«class» x.text e
@@ -170,7 +157,7 @@ closed_without (x ∷ before) e = ⊎_elim
     let m : is_logical (x ∷ before) ≡ (is_significant x || is_logical before) = rw l refl in
     let p = or_parts (is_significant x) (is_logical before) (sym m ∙ e) in
     same_depth x before p.0 ∙ closed_without before p.1)
-    (bool_cases (is_of_line_end x && (depth before == 0)))
+    (cases_Bool (is_of_line_end x && (depth before == 0)))
 
 -- The state that a cursor tells behind a lexeme with an entry.
 pub resumed_in : (h : List Lexeme) → is_at_margin h ≡ false → ends_in_join h ≡ false
@@ -260,7 +247,7 @@ own_run fault left h xs x y b j = ⊎_elim
     ap (λ t. not t && (length (last_line (text_before (x ∷ h))) == 0)) (logical_on h x e) ∙ begun_or_filled h x y b e in
     ap (λ s. run fault left s xs) (resumed_in (x ∷ h) m j l)
     ∙ sym (run_same fault left xs (state_of (x ∷ h)) (point_after (text_before (x ∷ h))) (state_margin (x ∷ h) m)))
-    (bool_cases (is_of_line_end x && (depth h == 0)))
+    (cases_Bool (is_of_line_end x && (depth h == 0)))
 
 pub ahead_own : (s : Source) (h xs : List Lexeme) (x : Lexeme) (text left : List ℕ) → Placed s (x ∷ h) xs text left → Says x.«class» x.text
     → is_of_blanks x ≡ false → is_of_join x ≡ false → ahead s false (x ∷ h) ≡ up_to_end (run s.fault left (state_of (x ∷ h)) xs)

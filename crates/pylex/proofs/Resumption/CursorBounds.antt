@@ -12,6 +12,7 @@ use Rattle.std.proofs.lemmas.Bool.Decides.{nat_tests}
 use Rattle.std.proofs.lemmas.List.Sums.{count_by-le-length, take_while-cons}
 use Rattle.std.proofs.lemmas.List.Elements.{All-cons, All-nil, All-from_recursion, recursion_from_All}
 use Rattle.std.proofs.Math.Nat.{div-mul-le_self}
+use Rattle.std.proofs.lemmas.Bool.{cases_Bool}
 use Rattle.pysource.specs.Places.{place_after}
 use Rattle.pylex_lexeme.specs.Lexemes.{Lexeme}
 use Rattle.pylex.specs.Lines.{text_before, depth, opens, is_significant, line_so_far, is_at_margin}
@@ -21,7 +22,6 @@ use Rattle.pylex.specs.Listing.{Source, in_characters}
 use Rattle.pylex.specs.Cursors.{CursorParts, cursor_at, cursor}
 use Rattle.pylex.specs.Standing.{front_to, back_from}
 use Rattle.pylex.specs.Listers.{Listed, StandsIn}
-use Rattle.pylex_lexeme.proofs.Callers.Booleans.{bool_cases}
 use Rattle.pylex.proofs.MachineLaws.Law.{bytes_in-append, count_cons}
 use Rattle.pylex_lexeme.proofs.Callers.Fronts.{length-text}
 use Rattle.pylex.proofs.Listing.Lying.{scalars_behind}
@@ -146,7 +146,7 @@ among_within m v (w ∷ ws) a e =
     let none : take_while (nat_le v) (w ∷ ws) ≡ [] = t ∙ rw h refl in
     let f : false ≡ true = sym (ap (list_any (λ u. v == u)) none) ∙ e in
     absurd (never f))
-    (bool_cases (nat_le v w))
+    (cases_Bool (nat_le v w))
   where
     never : false ≡ true → ⊥
     never e = cc
@@ -155,7 +155,7 @@ open_within : (m v : ℕ) (ws : List ℕ) → AtMost m ws → is_open ws v ≡ t
 open_within m v ws a e = ⊎_elim
     (λ (z : (v == 0) ≡ true). let n : v ≡ 0 = grind (arith, nat_tests) in omega arith)
     (λ (z : (v == 0) ≡ false). among_within m v ws a (other (v == 0) (list_any (λ w. v == w) (take_while (nat_le v) ws)) z e))
-    (bool_cases (v == 0))
+    (cases_Bool (v == 0))
   where
     other : (x y : Bool) → x ≡ false → (x || y) ≡ true → y ≡ true
     other true y z e = cc

@@ -3,10 +3,9 @@
 -- Carries: ahead_is, given_next, not_encoding, given_of and 21 more, for Moving, Returning, Skips,
 -- CursorBounds. On: Passing, Resuming, Points, Ahead and 13 more.
 use Rattle.std.proofs.Common.{◌≡◌, ℕ, ◌+◌, ◌≤◌, ◌<◌, zero, suc, Bool, true, false, not, ◌&&◌, ◌==◌, cond, List, [], ◌∷◌, ◌++◌, length, take}
-use Rattle.std.proofs.Common.{drop, map, reverse, replicate, refl, ap, ◌∙◌, sym, subst, arith, Some, None}
+use Rattle.std.proofs.Common.{drop, map, reverse, refl, ap, ◌∙◌, sym, subst, arith, Some, None}
 use Rattle.std.specs.List.{count_by, prefix_len}
-use Rattle.std.specs.Prelude.{nat_lt}
-use Rattle.std.proofs.lemmas.List.{reverse-append, drop-drop}
+use Rattle.std.proofs.lemmas.List.{reverse-append}
 use Rattle.std.proofs.lemmas.Bool.Decides.{nat_tests}
 use Rattle.pylex_lexeme.specs.declared.kinds.Exact.{Exact}
 use Rattle.pylex_lexeme.specs.declared.lexeme.Class.{Class}
@@ -23,27 +22,26 @@ use Rattle.pylex.specs.Lines.{text_before, depth, closes, is_significant, line_s
 use Rattle.pylex_lexeme.specs.Chars.{bytes_in}
 use Rattle.pylex.specs.Indentation.{width_from, width_at, widths, open_levels}
 use Rattle.pysource.specs.Parts.{Parts}
-use Rattle.pylex.specs.Listing.{Source, in_characters, listing, rest, origin, last_line, up_to_end}
-use Rattle.pylex.specs.Steps.{entries_of, first_step, mark, fault_at, IsNoEntry}
+use Rattle.pylex.specs.Listing.{Source, in_characters, listing, rest, origin, last_line}
+use Rattle.pylex.specs.Steps.{entries_of, first_step, mark, IsNoEntry}
 use Rattle.pylex.specs.Cursors.{CursorParts, given_last_first, has_no_text, is_encoding, is_indent, with_text, point, ends_in_indent}
 use Rattle.pylex.specs.Cursors.{lexemes_to, cursor_at, cursor}
-use Rattle.pylex.specs.Machine.{State, after, dedents_at, mark_at, stop_of, layout_of, step_of, entry_by, remaining, first_state}
+use Rattle.pylex.specs.Machine.{State, after, step_of, entry_by, remaining, first_state}
 use Rattle.pylex.specs.Machine.{behind_steps}
-use Rattle.pylex.specs.LineState.{measured, is_above, is_level}
+use Rattle.pylex.specs.LineState.{measured, is_above}
 use Rattle.pylex.specs.Standing.{Standing, front_to, standing_by, standing, resumed, to_give, Agrees}
 use Rattle.pylex.specs.Listers.{Listed, StandsIn, shown_at, Passes, here, lexeme, layout}
 use Rattle.pylex.proofs.MachineLaws.Law.{state_of, bytes_in-append}
 use Rattle.pylex.proofs.MachineLaws.Run.{listing_is, line_split}
 use Rattle.pylex.proofs.MachineLaws.Full.{lexeme_full}
 use Rattle.pylex.proofs.Listing.Ends.{is_whole}
-use Rattle.pylex.proofs.Resumption.Resume.{cursor_skips, cursor_moves}
+use Rattle.pylex.proofs.Resumption.Resume.{cursor_skips, cursor_moves, drop_of}
 use Rattle.pylex.proofs.Listers.Measured.{remaining_lexeme}
-use Rattle.pylex.proofs.Levels.Layouts.{layout_indent, layout_mismatch}
-use Rattle.pylex.proofs.MachineLaws.Steps.{remaining_stop}
+use Rattle.pylex.proofs.Levels.Layouts.{layout_indent}
 use Rattle.pylex.specs.declared.entries.ListingError.TheVariants as errors
 use Rattle.pylex.proofs.Listers.Finding.{measured_significant, significant_is, no_layout}
 use Rattle.pylex.proofs.Levels.Stack.{push}
-use Rattle.pylex.proofs.Resumption.Ahead.{Placed, history_is, front_is, drop_front}
+use Rattle.pylex.proofs.Resumption.Ahead.{Placed, history_is, front_is}
 use Rattle.pylex.proofs.Resumption.Resuming.{resumes, stands_in_agreeing, encoding_entry, state_offset, state_at_margin}
 use Rattle.pylex.proofs.Resumption.Agreement.{agrees_on}
 use Rattle.pylex.proofs.Resumption.Points.{GoesAs, StoodAt, PointOf, point_after_given, given_pointed}
@@ -52,6 +50,7 @@ use Rattle.pylex.proofs.Levels.OpenLevels.{grounded, above_ground}
 use Rattle.pylex.specs.declared.point.Point.{Point}
 use Rattle.std.proofs.lemmas.Str.{length-le-encodes}
 use Rattle.pylex.proofs.Callers.{is_behind, is_own}
+use Rattle.pylex.proofs.Listers.Ranges.{offset_after}
 
 -- What a lister that stands in a source still gives is the rest of that source's listing.
 stands_as : (l : Listed) (a : Source) (k : ℕ) → StandsIn l a k → standing_by (in_characters l.source) l.shown ≡ standing a k
@@ -155,7 +154,7 @@ left_is : (a : Source) (h xs : List Lexeme) (text left : List ℕ) (c : CursorPa
 unfolding standing_by
 left_is a h xs text left c p o = ap (λ t. drop (length t) a.text) (ap (λ n. front_to n a.text) o
     ∙ ap (front_to (bytes_in (text_before h))) p.parts ∙ front_is (text_before h) text) ∙ ap (drop (length (text_before h))) p.parts
-    ∙ drop_front (text_before h) text
+    ∙ drop_of (text_before h) text
 
 resumed_as : (k n : ℕ) (indented : Bool) (h : List Lexeme) (line : List ℕ) → resumed (cursor_at 0 0 indented h) line ≡ resumed
     (cursor_at k n indented h) line
@@ -211,13 +210,9 @@ rest_there l a k t ds h n p =
     l.shown.skip (resumed l.shown (standing_by (in_characters l.source) l.shown).line)
     (standing_by (in_characters l.source) l.shown).left p
 
-offset_of_resumed : (c : CursorParts) (line : List ℕ) → (resumed c line).now.offset ≡ c.offset
+pub offset_of_resumed : (c : CursorParts) (line : List ℕ) → (resumed c line).now.offset ≡ c.offset
 unfolding resumed
 offset_of_resumed c line = refl
-
-offset_after : (s : State) (x : Lexeme) → (after s x).now.offset ≡ s.now.offset + bytes_in x.text
-unfolding after
-offset_after s x = refl
 
 -- The own entry of a lexeme.
 record OwnEntry (t : State) (x : Lexeme) (e : Entry) : Type 0 where
@@ -505,63 +500,3 @@ by_none a = refl
 
 pub no_skip : (a : Source) → (cursor a 0).skip ≡ 0
 no_skip a = ap (λ (c : CursorParts). c.skip) (cursor_is a 0 ∙ ap (cursor_by a 0) (none_given a)) ∙ by_none a
-
--- What is left where some of what comes next is given already.
-pub rest_within : (l : Listed) (a : Source) (k : ℕ) (t : State) (ds : List ℕ) (n j : ℕ) → StandsIn l a k → 0 < k
-    → Passes t ds n (resumed l.shown (standing_by (in_characters l.source) l.shown).line)
-    (standing_by (in_characters l.source) l.shown).left → l.shown.skip ≡ n + j
-    → rest a k ≡ drop j (remaining (in_characters l.source).fault t ds)
-rest_within l a k t ds n j h b p s =
-    let c = h.count in
-    let r : List Step = remaining (in_characters l.source).fault (resumed l.shown (standing_by (in_characters l.source) l.shown).line)
-    (standing_by (in_characters l.source) l.shown).left in
-    sym (rest_in l a k h) ∙ ahead_is (in_characters l.source) l.shown (omega arith) ∙ ap (λ m. drop m r) s ∙ sym (drop-drop j n r)
-    ∙ ap (drop j) (passes_steps (in_characters l.source).fault t ds n (resumed l.shown (standing_by (in_characters l.source) l.shown).line)
-    (standing_by (in_characters l.source) l.shown).left p)
-
--- the one of some marks that comes after j of them
-mark_next : (j m : ℕ) (e : Entry) (r : List Step) → j < m
-    → first_step (drop j (behind_steps (replicate m (steps.Entry e)) r)) ≡ steps.Entry e
-mark_next j zero e r h = absurd (omega arith)
-mark_next zero (suc m) e r h = refl
-mark_next (suc j) (suc m) e r h = mark_next j m e r (omega arith)
-
--- A DEDENT is the next step, where j of a line's are given.
-pub dedent_first : (l : Listed) (a : Source) (k : ℕ) (t : State) (ds : List ℕ) (n j : ℕ) → StandsIn l a k → 0 < k
-    → Passes t ds n (resumed l.shown (standing_by (in_characters l.source) l.shown).line)
-    (standing_by (in_characters l.source) l.shown).left → l.shown.skip ≡ n + j → t.margin ≡ true → begins_significant ds ≡ true
-    → layout_of t ≡ dedents_at t.width t.levels t.now.offset t.now.place → j < count_by (nat_lt t.width) t.levels
-    → first_step (rest a k) ≡ mark_at kinds.Dedent t.now.offset t.now.place t.now.place
-dedent_first l a k t ds n j h b p s m g y c =
-    ap first_step (rest_within l a k t ds n j h b p s)
-    ∙ ap (λ ss. first_step (drop j ss)) (measured_significant (in_characters l.source).fault t ds m g
-    ∙ ap (λ ss. behind_steps ss (remaining (in_characters l.source).fault (measured t) ds)) y)
-    ∙ mark_next j (count_by (nat_lt t.width) t.levels) _ (remaining (in_characters l.source).fault (measured t) ds) c
-
--- A fault is the next step: of a line that is on no open level, or of a closing bracket
--- without its opening one.
-pub mismatch_first : (l : Listed) (a : Source) (k : ℕ) (t : State) (ds : List ℕ) → StandsIn l a k → 0 < k
-    → Passes t ds l.shown.skip (resumed l.shown (standing_by (in_characters l.source) l.shown).line)
-    (standing_by (in_characters l.source) l.shown).left → t.margin ≡ true → begins_significant ds ≡ true → is_above t.width t.levels ≡ false
-    → is_level t.width t.levels ≡ false → first_step (rest a k) ≡ fault_at errors.UnindentMismatch t.now.place
-mismatch_first l a k t ds h n p m b w v =
-    ap first_step (rest_there l a k t ds h n p ∙ measured_significant (in_characters l.source).fault t ds m b
-    ∙ ap (λ ss. behind_steps ss (remaining (in_characters l.source).fault (measured t) ds)) (layout_mismatch t m w v))
-
-pub lexeme_fault : (l : Listed) (a : Source) (k : ℕ) (t : State) (ds : List ℕ) (x : Lexeme) (f : ListingFault) → StandsIn l a k → 0 < k
-    → Passes t ds l.shown.skip (resumed l.shown (standing_by (in_characters l.source) l.shown).line)
-    (standing_by (in_characters l.source) l.shown).left → (t.margin && begins_significant ds) ≡ false → lexeme_at ds ≡ Some x
-    → entry_by t x ≡ steps.Fault f ∷ [] → first_step (rest a k) ≡ steps.Fault f
-lexeme_fault l a k t ds x f h n p d o q =
-    let significant : (t.margin && is_significant x) ≡ false = ap (λ b. t.margin && b) (significant_is ds x o) ∙ d in
-    ap first_step (rest_there l a k t ds h n p ∙ remaining_lexeme (in_characters l.source).fault t ds x o
-    ∙ ap (λ ss. behind_steps ss (remaining (in_characters l.source).fault (after t x) (drop (lexeme_len ds) ds)))
-    (no_layout t x significant ∙ q))
-
--- Where no lexeme stands, the steps of the stop are left, of which j are given already.
-pub rest_at_stop : (l : Listed) (a : Source) (k : ℕ) (t : State) (ds : List ℕ) (n j : ℕ) → StandsIn l a k → 0 < k
-    → Passes t ds n (resumed l.shown (standing_by (in_characters l.source) l.shown).line)
-    (standing_by (in_characters l.source) l.shown).left → l.shown.skip ≡ n + j → lexeme_at ds ≡ None
-    → rest a k ≡ drop j (up_to_end (stop_of (in_characters l.source).fault t ds))
-rest_at_stop l a k t ds n j h b p s e = rest_within l a k t ds n j h b p s
-    ∙ ap (drop j) (remaining_stop (in_characters l.source).fault t ds e)

@@ -8,6 +8,7 @@ use Rattle.std.specs.List.{list_all, list_any, count_by, prefix_len}
 use Rattle.std.specs.Prelude.{nat_lt}
 use Rattle.std.proofs.lemmas.List.{reverse-append, length-reverse, length-take-le}
 use Rattle.std.proofs.lemmas.Bool.Decides.{nat_tests}
+use Rattle.std.proofs.lemmas.Bool.{cases_Bool, and_parts}
 use Rattle.pysource.specs.declared.places.Place.{Place}
 use Rattle.pylex_lexeme.specs.declared.lexeme.Class.{Class}
 use Rattle.pylex_lexeme.specs.declared.lexeme.Class.TheVariants.{Name, Number, String, Operator, Comment, Blanks, LineEnd, Join}
@@ -30,7 +31,6 @@ use Rattle.pylex.specs.Machine.{State, past, behind, after, ends_line, is_of_joi
 use Rattle.pylex.specs.Machine.{entry_by, gives, is_hash, last_line_end, last_place, tail_of, stop_of, run, remaining, first_state}
 use Rattle.pylex.specs.LineState.{measured}
 use Rattle.pylex.specs.Standing.{resumed}
-use Rattle.pylex_lexeme.proofs.Callers.Booleans.{bool_cases, and_parts}
 use Rattle.pylex.proofs.MachineLaws.Law.{state_of, state_push, point_after, IsBalanced, balanced_push, bytes_in-append}
 use Rattle.pylex.proofs.MachineLaws.Run.{listing_is}
 use Rattle.pylex.proofs.Listing.Ends.{stop_is_fault}
@@ -41,7 +41,7 @@ use Rattle.pylex.proofs.Listers.Finding.{significant_is}
 use Rattle.pylex.proofs.MachineLaws.Significant.{all_cut}
 use Rattle.pylex.proofs.Resumption.Ahead.{Placed, placed_next, placed_first, resumed_in, resumed_indented, starts_line, line_is_on}
 use Rattle.pylex.proofs.Resumption.Ahead.{logical_on, begun_or_filled, line_end_text, measured as indented_at}
-use Rattle.pylex.proofs.Resumption.Resuming.{state_offset, state_at_margin, state_depth, begun_state, encoding_entry}
+use Rattle.pylex.proofs.Resumption.Resuming.{state_offset, state_at_margin, state_depth, begun_state, encoding_entry, given_first}
 
 -- Two states go on alike; where a line has begun, its start counts no more.
 pub record GoesAs (s t : State) : Type 0 where
@@ -144,7 +144,7 @@ own_alike h x y b j = ⊎_elim
     let l : (not (is_logical (x ∷ h)) && (length (last_line (text_before (x ∷ h))) == 0)) ≡ false =
     ap (λ t. not t && (length (last_line (text_before (x ∷ h))) == 0)) (logical_on h x e) ∙ begun_or_filled h x y b e in
     begun_alike _ (state_of (x ∷ h)) (point_after (text_before (x ∷ h))) (state_at_margin (x ∷ h) ∙ m) (resumed_in (x ∷ h) m j l))
-    (bool_cases (is_of_line_end x && (depth h == 0)))
+    (cases_Bool (is_of_line_end x && (depth h == 0)))
 
 -- Behind an INDENT.
 indented_alike : (h : List Lexeme) → is_at_margin h ≡ true → GoesAs (indented_at h) (measured (state_of h))
@@ -294,7 +294,7 @@ stop_begins : (left : List ℕ) → lexeme_at left ≡ None → not (length left
 stop_begins left e n = ⊎_elim
     (λ (t : begins_significant left ≡ true). t)
     (λ (t : begins_significant left ≡ false). absurd (empty left (all_cut left t e) n))
-    (bool_cases (begins_significant left))
+    (cases_Bool (begins_significant left))
   where
     empty : (left : List ℕ) → left ≡ [] → not (length left == 0) ≡ true → ⊥
     empty [] e n = cc
@@ -327,7 +327,7 @@ own_pointed s h xs x text left p b k = ⊎_elim
     (entry_pointed s (state_of h) x (own_point s h xs x p.lexemes.0 left (placed_next s h xs x text left p) c
     (lexeme_says text x p.lexemes.1)))
     (subst (λ (t : State). AllPointed s (run s.fault left t xs)) (state_push h x b e) (k c)))
-    (bool_cases (closes x && (depth h == 0)))
+    (cases_Bool (closes x && (depth h == 0)))
 
 lexeme_pointed : (s : Source) (h xs : List Lexeme) (x : Lexeme) (text left : List ℕ) → (p : Placed s h (x ∷ xs) text left) → IsBalanced h
     → (IsBalanced (x ∷ h) → AllPointed s (run s.fault left (state_of (x ∷ h)) xs))
@@ -424,14 +424,7 @@ points s [] h = one_skipped s encoding_entry [] refl (none_given s)
 points s (e ∷ es) h = ⊎_elim
     (λ (t : has_no_text e ≡ true). one_skipped s e (es ++ encoding_entry ∷ []) t (points s es h.1))
     (λ (t : has_no_text e ≡ false). one_reached s e (es ++ encoding_entry ∷ []) t (h.0.1 t))
-    (bool_cases (has_no_text e))
-
-given_first : (s : Source) (j : ℕ)
-    → given_last_first s (suc j) ≡ reverse (take j (entries_of (remaining s.fault first_state s.text))) ++ encoding_entry ∷ []
-unfolding given_last_first
-given_first s j =
-    let t = take j (entries_of (remaining s.fault first_state s.text)) in
-    ap (λ ss. reverse (take (suc j) (entries_of ss))) (listing_is s) ∙ reverse-append (encoding_entry ∷ []) t
+    (cases_Bool (has_no_text e))
 
 none_so_far : (s : Source) → PointAfter s (given_last_first s 0)
 unfolding given_last_first

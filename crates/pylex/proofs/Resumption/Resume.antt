@@ -2,7 +2,7 @@
 --
 -- Carries: Full, begun_at, cursor_skips, cursor_moves and 13 more, for Agreement, Ahead, Returning,
 -- Skips and 7 more. On: Law.
-use Rattle.std.proofs.Common.{◌≡◌, ℕ, ◌+◌, ◌-◌, ◌≤◌, ◌<◌, suc, leb, Bool, true, false, not, ◌&&◌, ◌==◌, List, [], ◌∷◌, ◌++◌, length, take}
+use Rattle.std.proofs.Common.{◌≡◌, ℕ, ◌+◌, ◌-◌, ◌≤◌, ◌<◌, suc, leb, Bool, true, false, not, ◌==◌, List, [], ◌∷◌, ◌++◌, length, take}
 use Rattle.std.proofs.Common.{drop, reverse, refl, ap, ◌∙◌, sym, arith, Option, Some, None, append_assoc, ⊎_elim}
 use Rattle.std.specs.List.{prefix_len}
 use Rattle.std.proofs.lemmas.List.{append-nil, reverse-append, reverse-reverse, take-append-drop, append_cancel_left}
@@ -15,13 +15,13 @@ use Rattle.pylex_lexeme.specs.Chars.{bytes_in}
 use Rattle.pylex.specs.Listing.{last_line, Source}
 use Rattle.std.specs.List.{count_by}
 use Rattle.std.proofs.lemmas.Grind.{common_steps}
+use Rattle.std.proofs.lemmas.Bool.{cases_Bool, and_right}
 use Rattle.pylex.specs.declared.entries.Entry.{Entry}
 use Rattle.pylex.specs.Cursors.{lexemes_to, CursorParts, given_last_first, has_no_text, is_encoding, is_indent, cursor, cursor_at}
 use Rattle.pylex.specs.Cursors.{with_text}
 use Rattle.pylex.specs.Machine.{State, gives, layout_of, entry_by, after, ends_line, stop_of, tail_of, last_line_end, run}
 use Rattle.pylex.specs.declared.point.Point.{Point}
 use Rattle.pylex.specs.Standing.{front_to, back_from, line_begin, Agrees, standing_by}
-use Rattle.pylex_lexeme.proofs.Callers.Booleans.{bool_cases}
 use Rattle.pylex.proofs.MachineLaws.Law.{bytes_in-append}
 
 -- Where a line has begun, its start counts no more.
@@ -101,7 +101,7 @@ front_bytes (c ∷ t) n = ⊎_elim
     let m : bytes_in (c ∷ []) ≤ n = grind (arith, nat_tests) in
     rw l (omega arith))
     (λ (l : leb (bytes_in (c ∷ [])) n ≡ false). rw l (omega arith))
-    (bool_cases (leb (bytes_in (c ∷ [])) n))
+    (cases_Bool (leb (bytes_in (c ∷ [])) n))
 
 pub front_and_back : (t : List ℕ) (n : ℕ) → front_to n t ++ back_from n t ≡ t
 unfolding front_to
@@ -109,7 +109,7 @@ front_and_back [] n = refl
 front_and_back (c ∷ t) n = ⊎_elim
     (λ (l : leb (bytes_in (c ∷ [])) n ≡ true). let h = front_and_back t (n - bytes_in (c ∷ [])) in rw l (ap (λ s. c ∷ s) h))
     (λ (l : leb (bytes_in (c ∷ [])) n ≡ false). rw l refl)
-    (bool_cases (leb (bytes_in (c ∷ [])) n))
+    (cases_Bool (leb (bytes_in (c ∷ [])) n))
 
 -- A line's begin, by bytes: its text and what is behind it depend on what stands from the begin on.
 abbrev pub goes_on : ℕ → Bool
@@ -187,18 +187,14 @@ after_ends : (s : State) (p : Point) (x : Lexeme) → s.margin ≡ false → end
 unfolding after
 after_ends s p x m e = rw (e, m) refl
 
-and_false : (b : Bool) → (b && false) ≡ false
-and_false true = refl
-and_false false = refl
-
 after_goes : (s : State) (p : Point) (x : Lexeme) → s.margin ≡ false → ends_line s x ≡ false
     → after (begun_at s p) x ≡ begun_at (after s x) p
 unfolding after
-after_goes s p x m e = let b = and_false (is_of_blanks x) in rw (e, m, b) refl
+after_goes s p x m e = let b = and_right (is_of_blanks x) false refl in rw (e, m, b) refl
 
 pub margin_goes : (s : State) (x : Lexeme) → s.margin ≡ false → ends_line s x ≡ false → (after s x).margin ≡ false
 unfolding after
-margin_goes s x m e = let b = and_false (is_of_blanks x) in rw (e, m) b
+margin_goes s x m e = let b = and_right (is_of_blanks x) false refl in rw (e, m) b
 
 stop_same : (fault : Option ListingFault) (left : List ℕ) (s : State) (p : Point) → s.margin ≡ false
     → stop_of fault s left ≡ stop_of fault (begun_at s p) left
@@ -216,7 +212,7 @@ run_same fault left (x ∷ xs) s p m =
     (λ (e : ends_line s x ≡ true). ap (λ t. run fault left t xs) (sym (after_ends s p x m e)))
     (λ (e : ends_line s x ≡ false). run_same fault left xs (after s x) p (margin_goes s x m e)
     ∙ ap (λ t. run fault left t xs) (sym (after_goes s p x m e)))
-    (bool_cases (ends_line s x)))
+    (cases_Bool (ends_line s x)))
 
 -- One more entry: without text it counts as skipped, with text the point is behind it.
 pub cursor_skips : (s : Source) (k : ℕ) (e : Entry) → given_last_first s (k + 1) ≡ e ∷ given_last_first s k → has_no_text e ≡ true

@@ -6,6 +6,7 @@ use Rattle.std.proofs.Common.{◌≡◌, ℕ, Bool, true, false, not, ◌==◌, 
 use Rattle.std.specs.List.{take_while, prefix_len}
 use Rattle.std.proofs.lemmas.List.{reverse-reverse, length-reverse}
 use Rattle.std.proofs.lemmas.List.Sums.{take_while-cons}
+use Rattle.std.proofs.lemmas.Bool.{cases_Bool}
 use Rattle.pysource.specs.Places.{place_after}
 use Rattle.pylex_lexeme.specs.Lexemes.{Lexeme}
 use Rattle.pylex.specs.Lines.{text_before, line_so_far, is_at_margin, is_logical}
@@ -15,10 +16,8 @@ use Rattle.pylex.specs.Cursors.{cursor_at}
 use Rattle.pylex.specs.Machine.{lead_after}
 use Rattle.pylex.specs.declared.leading_char.LeadingChar.TheVariants.{Nothing}
 use Rattle.pylex.specs.Standing.{resumed}
-use Rattle.pylex_lexeme.proofs.Callers.Booleans.{bool_cases}
-use Rattle.pylex.proofs.MachineLaws.Law.{state_of, point_after}
+use Rattle.pylex.proofs.MachineLaws.Law.{state_of}
 use Rattle.pylex.proofs.MachineLaws.LeadingChar.{last_front, front_in}
-use Rattle.pylex.proofs.Resumption.Resume.{begun_at}
 
 abbrev goes_on : ℕ → Bool
 goes_on c = not (c == 10)
@@ -28,7 +27,7 @@ front_length [] = refl
 front_length (c ∷ r) = ⊎_elim
     (λ (e : (c == 10) ≡ true). rw take_while-cons (rw e refl))
     (λ (e : (c == 10) ≡ false). let h = front_length r in rw take_while-cons (rw e (omega arith)))
-    (bool_cases (c == 10))
+    (cases_Bool (c == 10))
 
 pub column_is : (t : List ℕ) → (place_after t).column ≡ length (last_line t)
 unfolding place_after last_line
@@ -44,7 +43,7 @@ front_again (c ∷ r) = ⊎_elim
     let w : take_while goes_on (c ∷ r) ≡ c ∷ take_while goes_on r = rw take_while-cons (rw e refl) in
     let v : take_while goes_on (c ∷ take_while goes_on r) ≡ c ∷ take_while goes_on r = rw take_while-cons (rw e (ap (λ t. c ∷ t) h)) in
     ap (take_while goes_on) w ∙ v ∙ sym w)
-    (bool_cases (c == 10))
+    (cases_Bool (c == 10))
 
 pub front_line : (t : List ℕ) → lead_after Nothing (last_line t) ≡ lead_after Nothing t
 unfolding last_line
@@ -53,14 +52,6 @@ front_line t =
     ap (λ r. reverse (take_while goes_on r)) (reverse-reverse (take_while goes_on (reverse t)))
     ∙ ap reverse (front_again (reverse t)) in
     sym (last_front (last_line t) []) ∙ ap front_in again ∙ last_front t []
-
-pub resumed_begun : (h : List Lexeme) (k n : ℕ) → is_logical h ≡ true → is_at_margin h ≡ false → ends_in_join h ≡ false
-    → resumed (cursor_at k n false h) (last_line (text_before h)) ≡ begun_at (state_of h) (point_after (text_before h))
-unfolding resumed cursor_at state_of
-resumed_begun h k n l m j =
-    let c = sym (column_is (text_before h)) in
-    let f = front_line (text_before h) in
-    rw (c, f, l, m, j) refl
 
 pub resumed_start : (h : List Lexeme) (k n : ℕ) → line_so_far h ≡ [] → ends_in_join h ≡ false → last_line (text_before h) ≡ []
     → resumed (cursor_at k n false h) (last_line (text_before h)) ≡ state_of h

@@ -9,6 +9,7 @@ use Rattle.std.specs.Prelude.{nat_lt}
 use Rattle.std.proofs.lemmas.List.{reverse-append, drop-drop}
 use Rattle.std.proofs.lemmas.Grind.{common_steps}
 use Rattle.std.proofs.lemmas.Bool.Decides.{nat_tests}
+use Rattle.std.proofs.lemmas.Bool.{cases_Bool}
 use Rattle.pysource.specs.Places.{place_after}
 use Rattle.pysource.specs.declared.places.Place.{Place}
 use Rattle.pylex_lexeme.specs.declared.lexeme.Class.{Class}
@@ -31,7 +32,6 @@ use Rattle.pylex.specs.Cursors.{cursor_at, cursor}
 use Rattle.pylex.specs.Machine.{State, past, behind, after, is_of_join, dedents_at, mark_at, line_end_kind_of, layout_of, entry_by, gives}
 use Rattle.pylex.specs.Machine.{is_hash, last_line_end, last_place, tail_of, stop_of, run, remaining, first_state}
 use Rattle.pylex.specs.Standing.{standing_by, standing, resumed, to_give, Resumes, StandsInAgreeing}
-use Rattle.pylex_lexeme.proofs.Callers.Booleans.{bool_cases}
 use Rattle.pylex.proofs.MachineLaws.Law.{state_of, state_push, IsBalanced, balanced_push, bytes_in-append}
 use Rattle.pylex.proofs.MachineLaws.Run.{listing_is}
 use Rattle.pylex.proofs.Resumption.Resume.{agreeing}
@@ -214,7 +214,7 @@ own_resumable s h xs x text left p b k = ⊎_elim
     ∙ ahead_own s h xs x p.lexemes.0 left q (lexeme_says text x p.lexemes.1) nb nj
     ∙ ap up_to_end same)
     (subst (Resumable s) same (k (balanced_push h x b e))))
-    (bool_cases (closes x && (depth h == 0)))
+    (cases_Bool (closes x && (depth h == 0)))
 
 lexeme_resumable : (s : Source) (h xs : List Lexeme) (x : Lexeme) (text left : List ℕ) → (p : Placed s h (x ∷ xs) text left) → IsBalanced h
     → (IsBalanced (x ∷ h) → Resumable s (run s.fault left (state_of (x ∷ h)) xs))
@@ -296,7 +296,7 @@ leaves_next s e es ss n h l = ⊎_elim
     })
     (λ (t : has_no_text e ≡ false).
     record { left = ap (λ m. drop m (from_point s (e ∷ es))) (none_skipped e es t) ∙ new_point s e es t ∙ h t })
-    (bool_cases (has_no_text e))
+    (cases_Bool (has_no_text e))
 
 walk : (s : Source) (ss : List Step) (es : List Entry) (j : ℕ) → Rests s ss → Leaves s es ss → j ≤ length (entries_of ss)
     → Leaves s (reverse (take j (entries_of ss)) ++ es) (drop j ss)
@@ -343,7 +343,7 @@ rests s = subst (λ (t : State). Rests s (up_to_end (run s.fault (left_by_cut s.
     nothing_open : IsBalanced []
     nothing_open = record { closed = omega arith }
 
-given_first : (s : Source) (j : ℕ)
+pub given_first : (s : Source) (j : ℕ)
     → given_last_first s (suc j) ≡ reverse (take j (entries_of (remaining s.fault first_state s.text))) ++ encoding_entry ∷ []
 unfolding given_last_first
 given_first s j =

@@ -1,7 +1,7 @@
 -- Back to the point of a cursor: the entries without text behind it were given last.
 --
 -- Carries: at_point, resume. On: Cursoring, Resume, Moving, Looking and 2 more.
-use Rattle.std.proofs.Common.{◌≡◌, ℕ, zero, suc, ◌+◌, ◌-◌, ◌<◌, ◌≤◌, Bool, true, false, List, [], ◌∷◌, ◌++◌, length, take, drop, refl, ap}
+use Rattle.std.proofs.Common.{◌≡◌, ℕ, zero, suc, ◌+◌, ◌-◌, ◌<◌, ◌≤◌, true, false, List, ◌∷◌, ◌++◌, length, take, drop, refl, ap}
 use Rattle.std.proofs.Common.{◌∙◌, sym, subst, arith, ⊎_elim, Some, length-append}
 use Rattle.std.specs.Str.{chars, IsUtf8, IsCharBoundary}
 use Rattle.std.proofs.Math.Seq.{take-length}
@@ -14,33 +14,26 @@ use Rattle.pylex.specs.declared.entries.Entry.{Entry}
 use Rattle.pylex.specs.declared.leading_char.LeadingChar.TheVariants.{Nothing}
 use Rattle.pylex.specs.declared.line_state.LineState.{LineState}
 use Rattle.std.specs.Prelude.{slice_get}
+use Rattle.std.proofs.lemmas.Bool.{cases_Bool}
 use Rattle.pylex.specs.declared.entries.Step.{Step}
 use Rattle.pylex.specs.declared.entries.Step.TheVariants as steps
-use Rattle.pylex_lexeme.specs.Lexemes.{Lexeme, cut}
 use Rattle.pylex_lexeme.specs.Chars.{bytes_in}
 use Rattle.pylex.specs.Listing.{Source, in_characters, last_line, listing, rest}
 use Rattle.pylex.specs.Steps.{entries_of, first_step, entries_in}
-use Rattle.pylex.specs.Cursors.{CursorParts, has_no_text, lexemes_to, cursor_at, cursor}
+use Rattle.pylex.specs.Cursors.{CursorParts, has_no_text, cursor_at, cursor}
 use Rattle.pylex.specs.Machine.{State, lead_after}
 use Rattle.pylex.specs.LineState.{with_levels, IsAscending, Walks, stays}
 use Rattle.pylex.specs.Standing.{resumed, standing_by, Agrees, IsCursorOf}
 use Rattle.pylex.specs.Listers.{Listed, StandsIn, LeadsInto, Keeps, IsIn, shown_by}
-use Rattle.pylex_lexeme.proofs.Callers.Booleans.{bool_cases}
 use Rattle.pylex.proofs.Resumption.Resume.{cursor_skips, cursor_moves, last_split, lines_before}
 use Rattle.pylex.proofs.Listers.Looking.{line_in, left_in}
 use Rattle.pylex.proofs.Resumption.Cursoring.{GivenNext, given_next, not_encoding, given_of, none_given, first_given, cursor_by, cursor_is}
-use Rattle.pylex.proofs.Resumption.Cursoring.{cursor_first, agrees_itself}
+use Rattle.pylex.proofs.Resumption.Cursoring.{cursor_first, no_skip, offset_of_resumed}
 use Rattle.pylex.proofs.Resumption.CursorBounds.{shown_fits}
 use Rattle.pylex_lexeme.proofs.Callers.Fronts.{length-text}
-use Rattle.pylex.proofs.Listers.Moving.{first_at, listing_length, cursor_opens, entry_due}
+use Rattle.pylex.proofs.Listers.Moving.{first_at, listing_length, entry_due}
 use Rattle.pylex.proofs.Callers.{is_behind, is_own}
-
-skip_of : (k n : ℕ) (b : Bool) (h : List Lexeme) → (cursor_at k n b h).skip ≡ n
-unfolding cursor_at
-skip_of k n b h = refl
-
-none_skipped : (a : Source) → (cursor a 0).skip ≡ 0
-none_skipped a = ap (λ (c : CursorParts). c.skip) (cursor_opens a) ∙ skip_of 0 0 false (lexemes_to 0 [] (cut a.text))
+use Rattle.pylex.proofs.Resumption.Skips.{skip_at}
 
 one_given : (a : Source) → cursor a 1 ≡ record (cursor a 0) { given = 1 }
 one_given a =
@@ -76,7 +69,7 @@ one_back a m j e b =
 -- one entry without text back
 by_empty : (a : Source) (m j : ℕ) (d : Entry) → first_step (rest a j) ≡ steps.Entry d → GivenNext a j d → has_no_text d ≡ true
     → ((cursor a j).skip ≡ m → Back a m j) → (cursor a (suc j)).skip ≡ suc m → Back a (suc m) (suc j)
-by_empty a m zero d f g t b e = absurd (no_more a m 1 (ap (λ (c : CursorParts). c.skip) (one_given a) ∙ none_skipped a) e)
+by_empty a m zero d f g t b e = absurd (no_more a m 1 (ap (λ (c : CursorParts). c.skip) (one_given a) ∙ no_skip a) e)
 by_empty a m (suc i) d f g t b e =
     let next : suc i + 1 ≡ suc (suc i) = omega arith in
     let skips = cursor_skips a (suc i) d g.given t (not_encoding a (suc i) d (omega arith) f) in
@@ -86,7 +79,7 @@ by_empty a m (suc i) d f g t b e =
 
 cursor_back : (a : Source) (m k : ℕ) → k ≤ length (entries_of (listing a)) → (cursor a k).skip ≡ m → Back a m k
 cursor_back a zero k w e = let z : k - 0 ≡ k = omega arith in record { within = omega arith; is = rw z (at_same a k e) }
-cursor_back a (suc m) zero w e = absurd (no_more a m 0 (none_skipped a) e)
+cursor_back a (suc m) zero w e = absurd (no_more a m 0 (no_skip a) e)
 cursor_back a (suc m) (suc j) w e =
     let l = listing_length a in
     let due = entry_due a j (first_step (rest a j)) (omega arith) (first_at (listing a) j (omega arith)) in
@@ -95,8 +88,8 @@ cursor_back a (suc m) (suc j) w e =
     (λ (t : has_no_text due.0 ≡ true). by_empty a m j due.0 due.1 g t (λ f. cursor_back a m j (omega arith) f) e)
     (λ (t : has_no_text due.0 ≡ false).
     let moved : cursor a (suc j) ≡ cursor_at (j + 1) 0 _ _ = sym (ap (cursor a) next) ∙ cursor_moves a j due.0 g.given t in
-    absurd (no_more a m (suc j) (ap (λ (c : CursorParts). c.skip) moved ∙ skip_of (j + 1) 0 _ _) e))
-    (bool_cases (has_no_text due.0))
+    absurd (no_more a m (suc j) (ap (λ (c : CursorParts). c.skip) moved ∙ skip_at (j + 1) 0 _ _) e))
+    (cases_Bool (has_no_text due.0))
 
 -- A lister at the point of a cursor stands in the sources that the cursor leads into.
 pub stands_back : (l : Listed) (a : Source) → StandsIn l a l.shown.given
@@ -120,11 +113,6 @@ skip_in_given l a h = let own = is_behind h.cursor in
 
 pub led_stands : (c : CursorParts) (p : Parts) → (h : LeadsInto c p) → StandsIn (record { source = p; shown = c }) h.0 c.given
 led_stands c p h = record { cursor = h.1.0; count = refl; agrees = h.1.1 }
-
--- What the state at a cursor's point is made of.
-point_offset : (c : CursorParts) (line : List ℕ) → (resumed c line).now.offset ≡ c.offset
-unfolding resumed
-point_offset c line = refl
 
 point_row : (c : CursorParts) (line : List ℕ) → (resumed c line).now.place.row ≡ c.row
 unfolding resumed
@@ -174,7 +162,7 @@ keeps_point l p front left ls line nested utf8 small stood levels counted front_
     let rest : length left ≡ length l.source.text - c.offset = ap length left_is ∙ length-drop c.offset l.source.text in
     let all : take nested ls ≡ ls = ap (λ j. take j ls) counted ∙ take-length ls in
     let none : length ls - nested ≡ 0 = omega arith in
-    let offset : p.now.offset ≡ c.offset = ap (λ (s : State). s.now.offset) state ∙ point_offset c line in
+    let offset : p.now.offset ≡ c.offset = ap (λ (s : State). s.now.offset) state ∙ offset_of_resumed c line in
     let row : p.now.place.row ≡ c.row = ap (λ (s : State). s.now.place.row) state ∙ point_row c line in
     let column : p.now.place.column ≡ length line = ap (λ (s : State). s.now.place.column) state ∙ point_column c line in
     let depth : p.depth ≡ c.depth = ap (λ (s : State). s.depth) state ∙ point_depth c line in
@@ -292,7 +280,3 @@ arrives c p l i h stands all source =
     let n : (c.given - c.skip) + i ≡ c.given = omega arith in
     let shown : l.shown ≡ c = (is_behind stands.cursor).is ∙ ap (cursor h.0) (stands.count ∙ n) ∙ sym (is_behind h.1.0).is in
     ap (λ q. record l { source = q }) source ∙ ap (λ d. record { source = p; shown = d }) shown
-
--- A cursor leads into its own source.
-pub leads_itself : (c : CursorParts) (p : Parts) → IsCursorOf c (in_characters p) → LeadsInto c p
-leads_itself c p h = (in_characters p, (h, agrees_itself (in_characters p) c.offset))

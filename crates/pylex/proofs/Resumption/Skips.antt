@@ -7,6 +7,7 @@ use Rattle.std.specs.List.{count_by}
 use Rattle.std.specs.Prelude.{nat_lt}
 use Rattle.std.proofs.lemmas.Bool.Decides.{nat_tests}
 use Rattle.std.proofs.Math.Bool.{and-false}
+use Rattle.std.proofs.lemmas.Bool.{cases_Bool, and_parts}
 use Rattle.pysource.specs.declared.places.Place.{Place}
 use Rattle.pylex_lexeme.specs.declared.lexeme.Class.{Class}
 use Rattle.pylex_lexeme.specs.declared.lexeme.Class.TheVariants.{Name, Number, String, Operator, Comment, Blanks, LineEnd, Join}
@@ -28,7 +29,6 @@ use Rattle.pylex.specs.Machine.{is_hash, last_line_end, tail_of, stop_of, run, r
 use Rattle.pylex.specs.LineState.{IsAscending, is_above, is_level}
 use Rattle.pylex.specs.Standing.{standing, resumed}
 use Rattle.pylex.specs.Listers.{Listed, StandsIn}
-use Rattle.pylex_lexeme.proofs.Callers.Booleans.{bool_cases, and_parts}
 use Rattle.pylex.proofs.Listing.Ends.{is_whole, stop_is_fault}
 use Rattle.pylex.proofs.Resumption.Resume.{Full, margin_goes, cursor_skips, cursor_moves}
 use Rattle.pylex.proofs.MachineLaws.Full.{cut_full}
@@ -209,8 +209,8 @@ layout_leads s ss i m h = ⊎_elim
     (marks_lead d (length s.levels + 1) s.now.offset s.now.place ss (omega arith) (subst (λ (k : ℕ). Leads k ss) n (h v))))
     (λ (v : is_level s.width s.levels ≡ false). subst (λ (us : List Step). Leads (length s.levels + 1) (us ++ ss))
     (sym (layout_mismatch s m b v)) tt)
-    (bool_cases (is_level s.width s.levels)))
-    (bool_cases (is_above s.width s.levels))
+    (cases_Bool (is_level s.width s.levels)))
+    (cases_Bool (is_above s.width s.levels))
   where
     apart : (x y : ℕ) → x < y → (x == y) ≡ true → ⊥
     apart x y l e = grind (arith, nat_tests)
@@ -262,7 +262,7 @@ sound_leads fault left [] s f i = ⊎_elim
     (λ (m : s.margin ≡ true). stop_leads fault left s i.apart
     (layout_leads s _ i m (λ _. fault_leads fault s.now.place left (length (pushed s.width s.levels) + 1))))
     (λ (m : s.margin ≡ false). begun_leads fault left [] s f i.apart m)
-    (bool_cases s.margin)
+    (cases_Bool s.margin)
 sound_leads fault left (x ∷ xs) s f i =
     let r = run fault left (after s x) xs in
     ⊎_elim
@@ -281,9 +281,9 @@ sound_leads fault left (x ∷ xs) s f i =
     (sound_leads fault left xs (after s x) f.1 (sound_after s x i f.0 e)) in
     subst (λ (ss : List Step). Leads (length s.levels + 1) (ss ++ r)) (sym (plain_gives s x e))
     (entry_leads s x (length s.levels + 1) r f.0 (λ _. rest)))
-    (bool_cases (is_significant x)))
+    (cases_Bool (is_significant x)))
     (λ (m : s.margin ≡ false). begun_leads fault left (x ∷ xs) s f i.apart m)
-    (bool_cases s.margin)
+    (cases_Bool s.margin)
 
 -- Levels that begin with 0 and ascend are apart.
 none_of : (n v : ℕ) (ls : List ℕ) → IsAscending n ls → v ≤ n → count_by (λ u. u == v) ls ≡ 0
@@ -311,7 +311,7 @@ one_of n v ls h =
     let z : ◌≡◌ {A = ℕ} (cond (n == v) 1 0) 0 = ap (λ b. cond {A = ℕ} b 1 0) e in
     let r = later n ls h in
     omega arith)
-    (bool_cases (n == v))
+    (cases_Bool (n == v))
   where
     later : (n : ℕ) (ls : List ℕ) → IsAscending n ls → count_by (λ u. u == v) ls ≤ 1
     later n [] h = omega arith
@@ -320,7 +320,7 @@ one_of n v ls h =
         let o : ◌≡◌ {A = ℕ} (cond (m == v) 1 0) 1 = ap (λ b. cond {A = ℕ} b 1 0) e in omega arith)
         (λ (e : (m == v) ≡ false). let z : ◌≡◌ {A = ℕ} (cond (m == v) 1 0) 0 = ap (λ b. cond {A = ℕ} b 1 0) e in let r =
         later m ls h.1 in omega arith)
-        (bool_cases (m == v))
+        (cases_Bool (m == v))
 
 apart_of : (levels : List ℕ) → Grounded levels → AreApart levels
 apart_of levels g = subst AreApart (sym g.is) (record {
@@ -379,7 +379,7 @@ comes a k h =
     let c = comes_in (entries_of (listing a)) w.last k h in
     record { entry = c.0; is = ap (drop k) w.whole ∙ c.1 ∙ ap (λ ss. steps.Entry c.0 ∷ drop (k + 1) ss) (sym w.whole) }
 
-skip_at : (k n : ℕ) (b : Bool) (h : List Lexeme) → (cursor_at k n b h).skip ≡ n
+pub skip_at : (k n : ℕ) (b : Bool) (h : List Lexeme) → (cursor_at k n b h).skip ≡ n
 unfolding cursor_at
 skip_at k n b h = refl
 
@@ -406,7 +406,7 @@ one_more a k n w s =
     (λ (t : has_no_text e ≡ false).
     let m = cursor_moves a k e g.given t in
     at_point a (k + 1) (omega arith) w (ap (λ (q : CursorParts). q.skip) m ∙ skip_at (k + 1) 0 _ _))
-    (bool_cases (has_no_text e))
+    (cases_Bool (has_no_text e))
 
 skips_few : (a : Source) (j : ℕ) → j + 1 ≤ length (entries_of (listing a)) → SkipsFew a (j + 1)
 skips_few a zero w = let o : 0 + 1 ≡ 1 = omega arith in subst (SkipsFew a) (sym o) (at_point a 1 (omega arith) (omega arith) (first_skip a))

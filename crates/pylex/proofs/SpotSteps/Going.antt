@@ -2,7 +2,7 @@
 --
 -- Carries: walk, walk_line of pyparse_tokens. On: Passing, Moving, Returning, CursorBounds.
 use Rattle.std.proofs.Common.{◌≡◌, ℕ, ◌+◌, ◌-◌, ◌*◌, ◌<◌, ◌≤◌, Bool, true, false, not, ◌&&◌, ◌||◌, ◌==◌, List, [], ◌∷◌, ◌++◌, length, take}
-use Rattle.std.proofs.Common.{drop, refl, sym, ap, ◌∙◌, subst, arith, Option, Some, None, length-drop, length-append, drop-drop}
+use Rattle.std.proofs.Common.{drop, refl, sym, ap, ◌∙◌, subst, arith, length-drop, length-append, drop-drop}
 use Rattle.std.proofs.Common.{slice_range}
 use Rattle.std.specs.Prelude.{if◌then◌else◌}
 use Rattle.std.specs.Str.{chars, IsUtf8, IsCharBoundary, encode_utf8_all, all_scalars}
@@ -11,17 +11,15 @@ use Rattle.std.proofs.lemmas.Str.{scalars-chars}
 use Rattle.pysource.specs.Limits.{source_limit}
 use Rattle.pysource.specs.Parts.{Parts}
 use Rattle.pysource.specs.declared.places.Place.{Place}
-use Rattle.pylex_lexeme.specs.declared.kinds.Exact.{Exact}
 use Rattle.pylex_lexeme.specs.declared.lexeme.Class.{Class}
 use Rattle.pylex_lexeme.specs.declared.lexeme.Class.TheVariants.{Name, Number, String, Operator, Comment, Blanks, LineEnd, Join}
 use Rattle.pylex_lexeme.specs.Chars.{bytes_in}
 use Rattle.pylex_lexeme.specs.Cuts.{begins_significant}
-use Rattle.pylex_lexeme.specs.Lexemes.{Lexeme, is_significant_class, is_line_end_class, is_opener_class, is_closer_class}
+use Rattle.pylex_lexeme.specs.Lexemes.{is_significant_class, is_line_end_class, is_opener_class, is_closer_class}
 use Rattle.pylex_lexeme.proofs.Callers.Fronts.{length-text}
 use Rattle.pylex.specs.declared.kind.Kind.{Kind}
 use Rattle.pylex.specs.declared.kind.Kind.TheVariants as kinds
 use Rattle.pylex.specs.declared.entries.Entry.{Entry}
-use Rattle.pylex.specs.declared.entries.Step.{Step}
 use Rattle.pylex.specs.declared.entries.Step.TheVariants as steps
 use Rattle.pylex.specs.declared.point.Point.{Point}
 use Rattle.pylex.specs.declared.cursor.Shown.{Shown}
@@ -29,12 +27,12 @@ use Rattle.pylex.specs.declared.line_state.LineState.{LineState}
 use Rattle.pylex.specs.declared.spots.Spot.{Spot}
 use Rattle.pylex.specs.Cursors.{CursorParts}
 use Rattle.pylex.specs.Lines.{count_if}
-use Rattle.pylex.specs.Listing.{Source, in_characters, last_line, further}
+use Rattle.pylex.specs.Listing.{in_characters, last_line, further}
 use Rattle.pylex.specs.Steps.{most_entries}
-use Rattle.pylex.specs.Machine.{State, place_past, past, entry_by, line_end_kind_of}
-use Rattle.pylex.specs.LineState.{with_levels, begun_anew, HasRoom, Stands, EntryAhead}
+use Rattle.pylex.specs.Machine.{place_past, entry_by, line_end_kind_of}
+use Rattle.pylex.specs.LineState.{with_levels, HasRoom, EntryAhead}
 use Rattle.pylex.specs.Standing.{resumed}
-use Rattle.pylex.specs.Listers.{Listed, StandsIn, LeadsInto, NextStep, Keeps, IsIn, shown_at, shown_by}
+use Rattle.pylex.specs.Listers.{Listed, StandsIn, LeadsInto, NextStep, Keeps, shown_by}
 use Rattle.pylex.specs.Inner.Told.{Passed}
 use Rattle.pylex.specs.Spots.{spot_cursor, at_spot, is_silent, Steps, SpotHasRoom, kind_of, operator_of}
 use Rattle.pylex.proofs.Callers.{same_cursor}

@@ -1,18 +1,17 @@
 -- Past lexemes that give no entry: the state there.
 --
 -- Carries: step_goes. On: Rows, Finding, Told.
-use Rattle.std.proofs.Common.{◌≡◌, ℕ, ◌+◌, ◌-◌, Bool, true, false, not, ◌&&◌, ◌||◌, ◌==◌, List, [], ◌∷◌, ◌++◌, length, refl, sym, ap, ◌∙◌}
+use Rattle.std.proofs.Common.{◌≡◌, ℕ, ◌+◌, ◌-◌, true, false, not, ◌&&◌, ◌||◌, ◌==◌, List, [], refl, ap, ◌∙◌}
 use Rattle.std.proofs.Common.{arith}
 use Rattle.std.specs.Str.{chars}
-use Rattle.pysource.specs.declared.places.Place.{Place}
 use Rattle.pylex_lexeme.specs.declared.lexeme.Class.{Class}
 use Rattle.pylex_lexeme.specs.declared.lexeme.Class.TheVariants.{Blanks, Join}
 use Rattle.pylex_lexeme.specs.Cuts.{Cuts}
-use Rattle.pylex_lexeme.specs.Lexemes.{Lexeme, is_significant_class, is_line_end_class, is_opener_class, is_closer_class}
+use Rattle.pylex_lexeme.specs.Lexemes.{is_significant_class, is_line_end_class, is_opener_class, is_closer_class}
 use Rattle.pylex.specs.declared.point.Point.{Point}
 use Rattle.pylex.specs.declared.line_state.LineState.{LineState}
 use Rattle.pylex.specs.Lines.{count_if}
-use Rattle.pylex.specs.Machine.{State, place_past, past, after, entry_by}
+use Rattle.pylex.specs.Machine.{State, past, after, entry_by}
 use Rattle.pylex.specs.LineState.{with_levels, Stands, Comes, Behind}
 use Rattle.pylex.specs.Inner.Told.{Passed}
 use Rattle.pylex.specs.Spots.{Silent, here, blanks, join, rows_in}

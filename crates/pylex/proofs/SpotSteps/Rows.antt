@@ -1,29 +1,25 @@
 -- The rows that a lexeme ends: only line ends, joins and strings have line feeds.
 --
 -- Carries: looks_on, step_goes. On: Told, Walking, Lexed.
-use Rattle.std.proofs.Common.{◌≡◌, ℕ, ◌+◌, Bool, true, false, not, ◌&&◌, ◌==◌, List, [], ◌∷◌, refl, ap, ◌∙◌, arith, ⊎_elim, Some}
+use Rattle.std.proofs.Common.{◌≡◌, ℕ, ◌+◌, Bool, true, false, ◌==◌, List, [], ◌∷◌, refl, ap, ◌∙◌, arith, ⊎_elim}
 use Rattle.std.specs.Prelude.{count_by, if◌then◌else◌}
 use Rattle.std.specs.List.{list_all}
 use Rattle.std.specs.Str.{chars, IsUtf8}
 use Rattle.std.proofs.lemmas.Bool.Decides.{nat_tests}
 use Rattle.std.proofs.lemmas.List.Sums.{sum_by-cons}
+use Rattle.std.proofs.lemmas.Bool.{and_parts, cases_Bool}
 use Rattle.pysource.specs.Places.{is_lf, place_after}
 use Rattle.pysource.specs.declared.places.Place.{Place}
 use Rattle.pysource.proofs.Callers.Places.{place_by_bytes}
 use Rattle.pylex_lexeme.specs.declared.lexeme.Class.{Class}
 use Rattle.pylex_lexeme.specs.declared.lexeme.Class.TheVariants.{Name, Number, String, Operator, Comment, Blanks, LineEnd, Join}
 use Rattle.pylex_lexeme.specs.Cuts.{Cuts}
-use Rattle.pylex_lexeme.proofs.Callers.Booleans.{bool_cases}
 use Rattle.pylex_lexeme.proofs.Callers.WholeLines.{not_feed, is_flat, flat_in}
 use Rattle.pylex.specs.Machine.{place_past}
 use Rattle.pylex.specs.Spots.{rows_in}
 use Rattle.pylex.proofs.MachineLaws.Lexed.{lexeme_class}
 use Rattle.pylex.proofs.MachineLaws.Told.{tells}
 use Rattle.pylex.proofs.MachineLaws.Walking.{advance_feed, advance_other}
-
-both : (a b : Bool) → (a && b) ≡ true → (a ≡ true) × (b ≡ true)
-both true b e = (refl, e)
-both false b e = cc
 
 no_feed : (c : ℕ) → not_feed c ≡ true → (c == 10) ≡ false
 no_feed c e = grind (arith, nat_tests)
@@ -37,7 +33,7 @@ other c e h = grind (arith, nat_tests)
 row_flat : (p : Place) (t : List ℕ) → list_all not_feed t ≡ true → (place_past p t).row ≡ p.row
 row_flat p [] h = refl
 row_flat p (c ∷ t) h =
-    let q = both (not_feed c) (list_all not_feed t) h in
+    let q = and_parts (not_feed c) (list_all not_feed t) h in
     let n = no_feed c q.0 in
     ap (λ (r : Place). r.row) (advance_other p c t (other c n)) ∙ row_flat (record { row = p.row; column = p.column + 1 }) t q.1
 
@@ -58,7 +54,7 @@ row_feeds p (c ∷ t) = ⊎_elim
     let rest = row_feeds q t in
     let more = feeds_more c t false e in
     ap (λ (r : Place). r.row) (advance_other p c t (other c e)) ∙ rest ∙ omega (arith, more))
-    (bool_cases (c == 10))
+    (cases_Bool (c == 10))
 
 -- and its bytes have as many
 feeds_bytes : (bs : List ℕ) → IsUtf8 bs → count_by is_lf (chars bs) ≡ count_by is_lf bs

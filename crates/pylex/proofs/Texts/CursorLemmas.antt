@@ -1,13 +1,12 @@
 -- The texts of cursors: each is of one cursor alone.
 --
 -- Carries: read, to_text, first_level, number, numbers, push_levels. On: LinesLemmas.
-use Rattle.std.proofs.Common.{◌≡◌, ◌≢◌, length-append, append-nil, ℕ, zero, suc, ◌+◌, ◌<◌, ◌≤◌, ◌^◌, ◌/◌, ◌%◌, ◌==◌, Bool, true, false}
+use Rattle.std.proofs.Common.{◌≡◌, ◌≢◌, append-nil, ℕ, zero, suc, ◌+◌, ◌<◌, ◌≤◌, ◌^◌, ◌/◌, ◌%◌, ◌==◌, Bool, true, false}
 use Rattle.std.proofs.Common.{if◌then◌else◌, List, [], ◌∷◌, ◌++◌, length, get_or, take, drop, refl, sym, ap, ◌∙◌, arith, append_assoc, All}
 use Rattle.std.proofs.Common.{decimal, codes}
 use Rattle.std.specs.Fmt.{digits, digits_onto, digit_glyph}
 use Rattle.std.specs.List.{flat_map}
 use Rattle.std.proofs.lemmas.Bool.Decides.{nat_tests}
-use Rattle.std.proofs.lemmas.Fmt.{decimal_injective, decimal_nonempty}
 use denote.Ref.{Bor}
 use Rattle.std.specs.Prelude.{MatchOption}
 use Rattle.std.specs.Option.{IsSomeAnd}
@@ -17,7 +16,6 @@ use Rattle.std.proofs.Common.{Option, Some, None, add-one, length-take-le}
 use Rattle.std.proofs.Math.Seq.{take-suc, take-suc-set, drop-cons}
 use Rattle.std.proofs.Common.{ap₂, set}
 use Rattle.std.proofs.lemmas.Str.Pattern.{IsSplitOnceResult, split_after, split_parts}
-use Rattle.std.proofs.lemmas.List.{append_cancel_left}
 use Rattle.std.proofs.lemmas.List.Elements.{All-from_recursion, All-cons, All-head, All-tail, All-nil, All-weaker}
 use Rattle.pylex.specs.Cursors.{CursorParts, cursor_text, with_commas, part}
 use Rattle.pylex.specs.CursorTexts.{IsWellFormed}
@@ -59,12 +57,6 @@ separated s (u ∷ us) (v ∷ vs) x y p q e =
     let front = rest.0 in
     (cc front, rest.1)
 
-number_separated : (s m n : ℕ) (x y : List ℕ) → s < 48 → m < 2 ^ 64 → n < 2 ^ 64
-    → decimal m ++ s ∷ x ≡ decimal n ++ s ∷ y → (m ≡ n) × (x ≡ y)
-number_separated s m n x y low a b e =
-    let parts = separated s (decimal m) (decimal n) x y (all_lacks s m low) (all_lacks s n low) e in
-    (decimal_injective m n a b parts.0, parts.1)
-
 -- without a separator there is nothing behind one
 not_separated : (s : ℕ) (us vs y : List ℕ) → Lacks s us → us ≡ vs ++ s ∷ y → ⊥
 not_separated s [] [] y p e = cc
@@ -75,62 +67,12 @@ not_separated s (u ∷ us) (v ∷ vs) y p e = not_separated s us vs y (All-tail 
 abbrev pub Words : List ℕ → Type 0
 Words ns = All (λ n. n < 2 ^ 64) ns
 
-head_fits : (n : ℕ) (ns : List ℕ) → Words (n ∷ ns) → n < 2 ^ 64
-head_fits n ns = All-head (λ n. n < 2 ^ 64) n ns
-
-tail_fits : (n : ℕ) (ns : List ℕ) → Words (n ∷ ns) → Words ns
-tail_fits n ns = All-tail (λ n. n < 2 ^ 64) n ns
-
-no_decimal : (n : ℕ) (x : List ℕ) → n < 2 ^ 64 → [] ≡ decimal n ++ x → ⊥
-no_decimal n x fits e = omega (arith, decimal_nonempty n fits, length-append (decimal n) x, ap length e)
-
--- numbers joined by commas are read in one way
-pub with_commas-injective : (ms ns : List ℕ) → Words ms → Words ns → with_commas ms ≡ with_commas ns → ms ≡ ns
-with_commas-injective [] [] p q e = refl
-with_commas-injective [] (n ∷ []) p q e = absurd (no_decimal n [] (head_fits n [] q) (e ∙ sym (append-nil (decimal n))))
-with_commas-injective [] (n ∷ n' ∷ ns) p q e =
-    absurd (no_decimal n (44 ∷ with_commas (n' ∷ ns)) (head_fits n (n' ∷ ns) q) (e
-    ∙ append_assoc (decimal n) (codes ",") (with_commas (n' ∷ ns))))
-with_commas-injective (m ∷ []) [] p q e = absurd (no_decimal m [] (head_fits m [] p) (sym e ∙ sym (append-nil (decimal m))))
-with_commas-injective (m ∷ []) (n ∷ []) p q e = ap (λ k. k ∷ []) (decimal_injective m n (head_fits m [] p) (head_fits n [] q) e)
-with_commas-injective (m ∷ []) (n ∷ n' ∷ ns) p q e =
-    absurd (not_separated 44 (decimal m) (decimal n) (with_commas (n' ∷ ns)) (all_lacks 44 m (omega arith)) (e
-    ∙ append_assoc (decimal n) (codes ",") (with_commas (n' ∷ ns))))
-with_commas-injective (m ∷ m' ∷ ms) [] p q e =
-    absurd (no_decimal m (44 ∷ with_commas (m' ∷ ms)) (head_fits m (m' ∷ ms) p) (sym e
-    ∙ append_assoc (decimal m) (codes ",") (with_commas (m' ∷ ms))))
-with_commas-injective (m ∷ m' ∷ ms) (n ∷ []) p q e =
-    absurd (not_separated 44 (decimal n) (decimal m) (with_commas (m' ∷ ms)) (all_lacks 44 n (omega arith)) (sym e
-    ∙ append_assoc (decimal m) (codes ",") (with_commas (m' ∷ ms))))
-with_commas-injective (m ∷ m' ∷ ms) (n ∷ n' ∷ ns) p q e =
-    let whole : decimal m ++ 44 ∷ with_commas (m' ∷ ms) ≡ decimal n ++ 44 ∷ with_commas (n' ∷ ns) =
-    sym (append_assoc (decimal m) (codes ",") (with_commas (m' ∷ ms))) ∙ e ∙ append_assoc (decimal n) (codes ",") (with_commas (n' ∷ ns)) in
-    let parts = number_separated 44 m n (with_commas (m' ∷ ms)) (with_commas (n' ∷ ns)) (omega arith) (head_fits m (m' ∷ ms) p)
-    (head_fits n (n' ∷ ns) q) whole in
-    let rest = with_commas-injective (m' ∷ ms) (n' ∷ ns) (tail_fits m (m' ∷ ms) p) (tail_fits n (n' ∷ ns) q) parts.1 in
-    let first = parts.0 in
-    cc (first, rest)
-
 -- numbers, with a blank behind each
 abbrev pub with_blanks : List ℕ → List ℕ
 with_blanks ns = flat_map (λ n. decimal n ++ 32 ∷ []) ns
 
 with_blanks-cons : (n : ℕ) (ns tail : List ℕ) → with_blanks (n ∷ ns) ++ tail ≡ decimal n ++ 32 ∷ (with_blanks ns ++ tail)
 with_blanks-cons n ns tail = simp append_assoc
-
-numbers_separated : (ms ns x y : List ℕ) → length ms ≡ length ns → Words ms → Words ns
-    → with_blanks ms ++ x ≡ with_blanks ns ++ y → (ms ≡ ns) × (x ≡ y)
-numbers_separated [] [] x y l p q e = (refl, e)
-numbers_separated [] (n ∷ ns) x y l p q e = absurd (omega (arith, l))
-numbers_separated (m ∷ ms) [] x y l p q e = absurd (omega (arith, l))
-numbers_separated (m ∷ ms) (n ∷ ns) x y l p q e =
-    let whole = sym (with_blanks-cons m ms x) ∙ e ∙ with_blanks-cons n ns y in
-    let parts = number_separated 32 m n (with_blanks ms ++ x) (with_blanks ns ++ y) (omega arith) (head_fits m ms p)
-    (head_fits n ns q) whole in
-    let rest = numbers_separated ms ns x y (omega (arith, l)) (tail_fits m ms p) (tail_fits n ns q) parts.1 in
-    let first = parts.0 in
-    let others = rest.0 in
-    (cc (first, others), rest.1)
 
 -- the numbers of a cursor before its levels
 abbrev pub numbers_of : CursorParts → List ℕ
@@ -201,16 +143,6 @@ pub same_parts : (c d : CursorParts) → numbers_of c ≡ numbers_of d → c.lev
 same_parts c d numbers levels =
     let begun : c.begun ≡ d.begun = count_if-injective c.begun d.begun (cc numbers) in
     cc (made-is c, made-is d, numbers, levels, begun)
-
--- two cursors with one text are one cursor
-pub cursor_text-injective : (c d : CursorParts) → IsWellFormed c → IsWellFormed d → cursor_text c ≡ cursor_text d → c ≡ d
-cursor_text-injective c d p q e =
-    let whole = append_cancel_left (codes "pytok1 ") _ _ (sym (cursor_text_is c) ∙ e ∙ cursor_text_is d) in
-    let parts = numbers_separated (numbers_of c) (numbers_of d) (with_commas c.levels) (with_commas d.levels) refl (numbers_fit c p)
-    (numbers_fit d q) whole in
-    let numbers : numbers_of c ≡ numbers_of d = parts.0 in
-    let levels : c.levels ≡ d.levels = with_commas-injective c.levels d.levels p.levels.words q.levels.words parts.1 in
-    same_parts c d numbers levels
 
 -- what a cut at the first comma gives of joined numbers
 pub first_level_split : (n : ℕ) (ns bs : List ℕ) (x : Bor (List ℕ) × Bor (List ℕ)) → n < 2 ^ 64 → bs ≡ with_commas (n ∷ ns)

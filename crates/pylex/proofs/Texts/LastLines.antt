@@ -13,8 +13,8 @@ use Rattle.std.proofs.lemmas.List.{reverse-append, reverse-reverse, take-append-
 use Rattle.std.proofs.lemmas.List.Folds.{list_all-append}
 use Rattle.std.proofs.lemmas.List.Sums.{take_while-cons}
 use Rattle.std.proofs.lemmas.Bool.Decides.{nat_tests}
+use Rattle.std.proofs.lemmas.Bool.{cases_Bool, and_parts}
 use Rattle.pylex.specs.Listing.{last_line}
-use Rattle.pylex_lexeme.proofs.Callers.Booleans.{bool_cases, and_parts}
 use Rattle.pylex.proofs.Resumption.Resume.{goes_on}
 
 all_reverse : (t : List ℕ) → list_all goes_on t ≡ true → list_all goes_on (reverse t) ≡ true
@@ -66,7 +66,7 @@ clean_chars (c ∷ cs) h =
     (λ (e : (c == 10) ≡ true). let same : c ≡ 10 = grind (arith, nat_tests) in
     absurd (never (sym (ap (λ d. list_all goes_on (encode_utf8_all (d ∷ []))) same) ∙ p.0)))
     (λ (e : (c == 10) ≡ false). rw (e, rest) refl)
-    (bool_cases (c == 10))
+    (cases_Bool (c == 10))
   where
     never : false ≡ true → ⊥
     never e = cc

@@ -3,10 +3,9 @@
 -- Carries: kind_field, push_line_feed, push_end, push_fields, push_filling, push_operator,
 -- push_plain, push_range and 5 more.
 use Rattle.std.proofs.Common.{◌≡◌, ℕ, true, false, ◌<◌, ◌-◌, List, [], ◌∷◌, ◌++◌, length, drop, replicate, refl, ap, ap₂, ◌∙◌, arith, ◌≤◌}
-use Rattle.std.proofs.Common.{◌+◌, Result, Ok, Err, is_ok, get_or, length-append, sym, take, subst, append-nil, nat_le, leb-true}
+use Rattle.std.proofs.Common.{◌+◌, get_or, length-append, sym, take, subst, append-nil, nat_le, leb-true}
 use Rattle.std.specs.Prelude.{zero, suc, ◌/◌, ◌%◌, ◌==◌, ◌&&◌, if◌then◌else◌, decimal, codes, slice_set}
 use Rattle.std.specs.List.{list_all}
-use Rattle.std.specs.Result.{OnOk}
 use Rattle.std.specs.Str.{chars, IsAscii}
 use Rattle.std.proofs.lemmas.Str.{chars-IsAscii, IsAscii-append}
 use Rattle.std.proofs.lemmas.Str.Ascii.{IsAscii-nil, IsAscii-cons}
@@ -47,14 +46,6 @@ digits_ascii (suc k) n acc h =
 decimal_ascii : (n : ℕ) → IsAscii (decimal n)
 unfolding digits
 decimal_ascii n = digits_ascii 64 n [] IsAscii-nil
-
--- a number of one digit, and of two
-pub one_digit : (n : ℕ) → n < 10 → decimal n ≡ (48 + n) ∷ []
-unfolding digits
-one_digit n small =
-    let none : n / 10 ≡ 0 = omega arith in
-    let whole : n % 10 ≡ n = omega arith in
-    rw (none, whole) (ap (λ g. g ∷ []) (glyph n small))
 
 pub two_digits : (n : ℕ) → 10 ≤ n → n < 100 → decimal n ≡ (48 + n / 10) ∷ (48 + n % 10) ∷ []
 unfolding digits
@@ -119,11 +110,6 @@ behind old more new n whole size = rw (
 pub three_parts : (old a b c x y new : List ℕ) → x ≡ old ++ a → y ≡ x ++ b → new ≡ y ++ c → new ≡ old ++ (a ++ b ++ c)
 three_parts old a b c x y new first second third =
     third ∙ ap (λ bs. bs ++ c) (second ∙ ap (λ bs. bs ++ b) first ∙ append_assoc old a b) ∙ append_assoc old (a ++ b) c
-
--- a text that was appended, where there was memory
-pub pushed_whole : {A E : Type 0} (r : Result A E) (new whole old : List ℕ) → new ≡ (if is_ok r then whole else old) → OnOk r (new ≡ whole)
-pushed_whole (Ok x) new whole old is = is
-pushed_whole (Err x) new whole old is = tt
 
 -- what stands behind a text that blanks were appended to, and the text with fewer of them
 pub blank_at : (old : List ℕ) (n i : ℕ) (new : List ℕ) → new ≡ old ++ replicate n 32 → length old ≤ i → i < length new → get_or new i 0 ≡ 32

@@ -1,8 +1,8 @@
 -- The spaces at the front of a text are its first lexeme, where no other blank follows.
 --
 -- Carries: cut_spaces, past_spaces. On: Plain, Walking, Lexed, Finding.
-use Rattle.std.proofs.Common.{◌≡◌, ℕ, zero, suc, ◌+◌, ◌<◌, ◌≤◌, Bool, true, false, ◌&&◌, List, [], ◌∷◌, ◌++◌, length, take, drop, refl, ap}
-use Rattle.std.proofs.Common.{◌∙◌, sym, subst, arith, Option, Some, None, length-take, length-drop, take-append-drop, add_comm, add-one}
+use Rattle.std.proofs.Common.{◌≡◌, ℕ, zero, suc, ◌<◌, Bool, true, false, ◌&&◌, List, [], ◌∷◌, ◌++◌, length, take, drop, refl, ap}
+use Rattle.std.proofs.Common.{◌∙◌, sym, subst, arith, Option, Some, None, length-drop, take-append-drop}
 use Rattle.std.specs.Prelude.{replicate, option_map}
 use Rattle.std.specs.List.{prefix_len}
 use Rattle.std.specs.Char.{encode_utf8}
@@ -11,9 +11,9 @@ use Rattle.std.proofs.lemmas.List.{length-replicate, append_cancel_right}
 use Rattle.std.proofs.lemmas.Str.{encode_ascii, IsUtf8-from_ascii, IsCharBoundary-at_seam}
 use Rattle.pylex_lexeme.specs.declared.lexeme.Class.{Class}
 use Rattle.pylex_lexeme.specs.declared.lexeme.Class.TheVariants.{Blanks}
-use Rattle.pylex_lexeme.specs.Chars.{begins, bytes_in, is_blank_char}
-use Rattle.pylex_lexeme.specs.Cuts.{Cuts, TakesLexeme, begins_significant}
-use Rattle.pylex_lexeme.specs.Lexemes.{Lexeme, lexeme_at, lexeme_len}
+use Rattle.pylex_lexeme.specs.Chars.{begins, is_blank_char}
+use Rattle.pylex_lexeme.specs.Cuts.{Cuts, begins_significant}
+use Rattle.pylex_lexeme.specs.Lexemes.{Lexeme, lexeme_at}
 use Rattle.pylex_lexeme.proofs.Callers.Fronts.{length-text}
 use Rattle.pylex_lexeme.proofs.Callers.Lexemes.{blanks_take}
 use Rattle.pylex.specs.Inner.Plain.{AreSpaces, SpacesAhead}
@@ -30,12 +30,12 @@ are_spaces (suc n) (suc k) h = are_spaces n k (omega (arith, h))
 space_front : (t : List ℕ) → 32 ∷ t ≡ encode_utf8 32 ++ t
 space_front t = sym (ap (λ (front : List ℕ). front ++ t) (encode_ascii 32 (omega arith)))
 
-spaces_utf8 : (n : ℕ) (rest : List ℕ) → IsUtf8 (replicate n 32 ++ rest) → IsUtf8 rest
+pub spaces_utf8 : (n : ℕ) (rest : List ℕ) → IsUtf8 (replicate n 32 ++ rest) → IsUtf8 rest
 spaces_utf8 zero rest utf8 = utf8
 spaces_utf8 (suc n) rest utf8 =
     spaces_utf8 n rest (past (32 ∷ (replicate n 32 ++ rest)) (replicate n 32 ++ rest) 32 utf8 (space_front (replicate n 32 ++ rest))).utf8
 
-spaces_chars : (n : ℕ) (rest : List ℕ) → IsUtf8 (replicate n 32 ++ rest) → chars (replicate n 32 ++ rest) ≡ replicate n 32 ++ chars rest
+pub spaces_chars : (n : ℕ) (rest : List ℕ) → IsUtf8 (replicate n 32 ++ rest) → chars (replicate n 32 ++ rest) ≡ replicate n 32 ++ chars rest
 spaces_chars zero rest utf8 = refl
 spaces_chars (suc n) rest utf8 =
     let s = past (32 ∷ (replicate n 32 ++ rest)) (replicate n 32 ++ rest) 32 utf8 (space_front (replicate n 32 ++ rest)) in
@@ -51,7 +51,7 @@ some_begins : (n : ℕ) (cs : List ℕ) → 0 < n → begins is_blank_char (repl
 some_begins zero cs some = absurd (omega (arith, some))
 some_begins (suc n) cs some = refl
 
-behind_spaces : (n : ℕ) (cs : List ℕ) → drop n (replicate n 32 ++ cs) ≡ cs
+pub behind_spaces : (n : ℕ) (cs : List ℕ) → drop n (replicate n 32 ++ cs) ≡ cs
 behind_spaces zero cs = refl
 behind_spaces (suc n) cs = behind_spaces n cs
 

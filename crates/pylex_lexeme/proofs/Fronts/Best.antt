@@ -1,13 +1,12 @@
 -- The longest fronts that pass, for tests made of parts.
 --
--- Carries: or_parts, and_false, Reads and 19 more, for NumberBest, Parts, StringBest,
+-- Carries: Reads and 19 more, for NumberBest, Parts, StringBest,
 -- Union and 14 more. On: Longest.
 use Rattle.std.proofs.Common.{◌≡◌, ℕ, ◌+◌, ◌-◌, ◌≤◌, ◌<◌, Bool, true, false, ◌&&◌, ◌||◌, List, [], ◌∷◌, length, drop, take, refl, ◌∙◌}
-use Rattle.std.proofs.Common.{arith, zero, suc, ◌⊎◌, ⊎_elim, length-drop, inl, inr}
+use Rattle.std.proofs.Common.{arith, zero, suc, ⊎_elim, length-drop}
 use Rattle.std.specs.List.{list_all}
-use Rattle.std.proofs.lemmas.Bool.{cases_lt}
+use Rattle.std.proofs.lemmas.Bool.{cases_lt, and_parts, and_right, or_cases}
 use Rattle.pylex_lexeme.specs.Numbers.{split_any, optional, headed}
-use Rattle.pylex_lexeme.proofs.Cases.{and_parts}
 use Rattle.pylex_lexeme.proofs.Fronts.Longest.{IsBest}
 
 -- no front passes
@@ -26,14 +25,6 @@ Reads p cs (suc n) = IsBest p cs (suc n)
 -- what passes doesn't begin with a character of the set
 abbrev pub Starts : (ℕ → Bool) → (List ℕ → Bool) → Type 0
 Starts a q = (c : ℕ) (t : List ℕ) → a c ≡ true → q (c ∷ t) ≡ false
-
-pub and_false : (a b : Bool) → b ≡ false → (a && b) ≡ false
-and_false true b e = e
-and_false false b e = refl
-
-pub or_parts : (a b : Bool) → (a || b) ≡ true → (a ≡ true) ⊎ (b ≡ true)
-or_parts true b e = inl refl
-or_parts false b e = inr e
 
 split_nothing : (p q : List ℕ → Bool) (cs : List ℕ) (i : ℕ) → NoFront p cs → split_any p q (take i cs) ≡ false
 split_nothing p q cs zero f = let e : p [] ≡ false = f 0 (omega arith) in rw e refl
@@ -73,18 +64,18 @@ split_forced p q a (c ∷ cs) (suc m) i b l s =
     let n : suc m + i ≡ suc (m + i) = omega arith in
     let h = and_parts (a c) (list_all a (take m cs)) l in
     let e : q (c ∷ take (m + i) cs) ≡ false = s c (take (m + i) cs) h.0 in
-    rw n (rw (and_false (p []) (q (c ∷ take (m + i) cs)) e) (split_forced (λ t. p (c ∷ t)) q a cs m i (best_tail p c cs m b) h.1 s))
+    rw n (rw (and_right (p []) (q (c ∷ take (m + i) cs)) e) (split_forced (λ t. p (c ∷ t)) q a cs m i (best_tail p c cs m b) h.1 s))
 
 -- and nothing shorter than that front has one
 pub split_short : (p q : List ℕ → Bool) (a : ℕ → Bool) (cs : List ℕ) (m j : ℕ) → list_all a (take m cs) ≡ true → Starts a q → q [] ≡ false
     → j < m → split_any p q (take j cs) ≡ false
 split_short p q a cs zero j l s z h = absurd (omega arith)
-split_short p q a cs (suc m) zero l s z h = and_false (p []) (q []) z
-split_short p q a [] (suc m) (suc j) l s z h = and_false (p []) (q []) z
+split_short p q a cs (suc m) zero l s z h = and_right (p []) (q []) z
+split_short p q a [] (suc m) (suc j) l s z h = and_right (p []) (q []) z
 split_short p q a (c ∷ cs) (suc m) (suc j) l s z h =
     let g = and_parts (a c) (list_all a (take m cs)) l in
     let e : q (c ∷ take j cs) ≡ false = s c (take j cs) g.0 in
-    rw (and_false (p []) (q (c ∷ take j cs)) e) (split_short (λ t. p (c ∷ t)) q a cs m j g.1 s z (omega arith))
+    rw (and_right (p []) (q (c ∷ take j cs)) e) (split_short (λ t. p (c ∷ t)) q a cs m j g.1 s z (omega arith))
 
 -- one part after another
 pub then_best : (p q : List ℕ → Bool) (a : ℕ → Bool) (cs : List ℕ) (m n : ℕ) → IsBest p cs m → list_all a (take m cs) ≡ true → Starts a q
@@ -141,7 +132,7 @@ headed_best f p c cs n e b = record { within = (let h = b.within in omega arith)
   where
     longer : (j : ℕ) → suc n < j → j ≤ length (c ∷ cs) → headed f p (take j (c ∷ cs)) ≡ false
     longer zero h i = absurd (omega arith)
-    longer (suc j) h i = and_false (f c) (p (take j cs)) (b.longest j (omega arith) (omega arith))
+    longer (suc j) h i = and_right (f c) (p (take j cs)) (b.longest j (omega arith) (omega arith))
 
 pub headed_none : (f : ℕ → Bool) (p : List ℕ → Bool) (c : ℕ) (cs : List ℕ) → f c ≡ false → NoFront (headed f p) (c ∷ cs)
 headed_none f p c cs e zero i = refl
@@ -149,7 +140,7 @@ headed_none f p c cs e (suc j) i = rw e refl
 
 pub headed_rest : (f : ℕ → Bool) (p : List ℕ → Bool) (c : ℕ) (cs : List ℕ) → NoFront p cs → NoFront (headed f p) (c ∷ cs)
 headed_rest f p c cs r zero i = refl
-headed_rest f p c cs r (suc j) i = and_false (f c) (p (take j cs)) (r j (omega arith))
+headed_rest f p c cs r (suc j) i = and_right (f c) (p (take j cs)) (r j (omega arith))
 
 pub headed_nil : (f : ℕ → Bool) (p : List ℕ → Bool) → NoFront (headed f p) []
 headed_nil f p zero i = refl
@@ -202,7 +193,7 @@ split_all a p q b (c ∷ t) f g e =
     rw (x, y) refl)
     (λ (h : split_any (λ u. p (c ∷ u)) q t ≡ true).
     assoc b (a c) (list_all a t) (split_all a (λ u. p (c ∷ u)) q (b && a c) t (λ u i. back b (a c) (list_all a u) (f (c ∷ u) i)) g h))
-    (or_parts (p [] && q (c ∷ t)) (split_any (λ u. p (c ∷ u)) q t) e)
+    (or_cases (p [] && q (c ∷ t)) (split_any (λ u. p (c ∷ u)) q t) e)
   where
     assoc : (x y z : Bool) → ((x && y) && z) ≡ true → (x && (y && z)) ≡ true
     assoc true y z i = i

@@ -1,20 +1,15 @@
 -- Digits, each with perhaps an underscore before it.
 --
--- Carries: bump_joined. On: Best, Cases, Longest.
-use Rattle.std.proofs.Common.{◌≡◌, ℕ, ◌≤◌, ◌<◌, Bool, true, false, ◌&&◌, ◌||◌, ◌==◌, List, [], ◌∷◌, length, drop, take, refl, ◌∙◌, arith}
+-- Carries: bump_joined. On: Best, Longest.
+use Rattle.std.proofs.Common.{◌≡◌, ℕ, ◌≤◌, ◌<◌, Bool, true, false, ◌&&◌, ◌==◌, List, [], ◌∷◌, length, drop, take, refl, ◌∙◌, arith}
 use Rattle.std.proofs.Common.{zero, suc, ⊎_elim}
-use Rattle.std.proofs.lemmas.Bool.{eqb-true}
+use Rattle.std.proofs.lemmas.Bool.{eqb-true, cases_Bool, and_parts, and_right, or_parts}
 use Rattle.std.specs.List.{list_all}
 use Rattle.pylex_lexeme.specs.Chars.{begins}
 use Rattle.pylex_lexeme.specs.Numbers.{are_joined, are_some}
 use Rattle.pylex_lexeme.specs.Lengths.{joined_len, begins_some}
-use Rattle.pylex_lexeme.proofs.Cases.{and_parts, bool_cases}
 use Rattle.pylex_lexeme.proofs.Fronts.Longest.{IsBest}
-use Rattle.pylex_lexeme.proofs.Fronts.Best.{NoFront, and_false}
-
-pub or_parts_false : (a b : Bool) → (a || b) ≡ false → (a ≡ false) × (b ≡ false)
-or_parts_false true b e = cc
-or_parts_false false b e = (refl, e)
+use Rattle.pylex_lexeme.proofs.Fronts.Best.{NoFront}
 
 abbrev pub joins : (ℕ → Bool) → ℕ → ℕ → Bool
 joins d a b = (a == 95) && d b
@@ -40,15 +35,15 @@ pub way : (d : ℕ → Bool) (a b : ℕ) → Way d a b
 way d a b =
     ⊎_elim (λ (e : d a ≡ true). digit e)
     (λ (e : d a ≡ false). ⊎_elim (λ (f : joins d a b ≡ true). both e f) (λ (f : joins d a b ≡ false). neither e f)
-    (bool_cases (joins d a b)))
-    (bool_cases (d a))
+    (cases_Bool (joins d a b)))
+    (cases_Bool (d a))
 
 single : (d : ℕ → Bool) (a : ℕ) → IsBest (are_joined d) (a ∷ []) (joined_len d (a ∷ []))
 single d a =
     ⊎_elim
     (λ (e : d a ≡ true). rw e (record { within = omega arith; passes = e; longest = λ j h i. absurd (omega arith) }))
     (λ (e : d a ≡ false). rw e (record { within = omega arith; passes = refl; longest = not_one d a e }))
-    (bool_cases (d a))
+    (cases_Bool (d a))
   where
     not_one : (d : ℕ → Bool) (a : ℕ) → d a ≡ false → (j : ℕ) → 0 < j → j ≤ length (a ∷ []) → are_joined d (take j (a ∷ [])) ≡ false
     not_one d a e zero h i = absurd (omega arith)
@@ -154,7 +149,7 @@ stop_first d (a ∷ b ∷ cs) e f = rw (e, f) refl
 pub stop_second : (d : ℕ → Bool) (cs : List ℕ) → begins d cs ≡ false → begins d (drop 1 cs) ≡ false → joined_len d cs ≡ 0
 stop_second d [] e f = refl
 stop_second d (a ∷ []) e f = rw e refl
-stop_second d (a ∷ b ∷ cs) e f = rw (e, f, and_false (a == 95) false refl) refl
+stop_second d (a ∷ b ∷ cs) e f = rw (e, f, and_right (a == 95) false refl) refl
 
 pub shorter : (f : ℕ → Bool) (cs : List ℕ) → begins f cs ≡ true → length (drop 1 cs) < length cs
 shorter f [] e = cc
@@ -172,12 +167,12 @@ some_joined d (a ∷ []) e =
     (λ (h : d a ≡ true). rw h (omega arith))
     (λ (h : d a ≡ false). let i : ((a == 95) && false) ≡ true = simp h at e in let k = and_parts (a == 95) false i in
     absurd (let z : false ≡ true = k.1 in cc))
-    (bool_cases (d a))
+    (cases_Bool (d a))
 some_joined d (a ∷ b ∷ cs) e =
     ⊎_elim
     (λ (h : d a ≡ true). rw h (omega arith))
     (λ (h : d a ≡ false). let i : joins d a b ≡ true = simp h at e in rw (h, i) (omega arith))
-    (bool_cases (d a))
+    (cases_Bool (d a))
 
 -- (_?digit)+
 pub some_best : (d : ℕ → Bool) (cs : List ℕ) → begins_some d cs ≡ true → IsBest (are_some d) cs (joined_len d cs)
@@ -199,7 +194,7 @@ some_best d cs e =
 pub some_none : (d : ℕ → Bool) (cs : List ℕ) → begins_some d cs ≡ false → NoFront (are_some d) cs
 some_none d cs e zero i = refl
 some_none d [] e (suc j) i = refl
-some_none d (a ∷ []) e (suc zero) i = (or_parts_false (d a) ((a == 95) && false) e).0
+some_none d (a ∷ []) e (suc zero) i = (or_parts (d a) ((a == 95) && false) e).0
 some_none d (a ∷ []) e (suc (suc j)) i = absurd (omega arith)
-some_none d (a ∷ b ∷ cs) e (suc zero) i = (or_parts_false (d a) ((a == 95) && d b) e).0
-some_none d (a ∷ b ∷ cs) e (suc (suc j)) i = let p = or_parts_false (d a) ((a == 95) && d b) e in rw (p.0, p.1) refl
+some_none d (a ∷ b ∷ cs) e (suc zero) i = (or_parts (d a) ((a == 95) && d b) e).0
+some_none d (a ∷ b ∷ cs) e (suc (suc j)) i = let p = or_parts (d a) ((a == 95) && d b) e in rw (p.0, p.1) refl

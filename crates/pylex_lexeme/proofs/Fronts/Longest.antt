@@ -1,12 +1,12 @@
 -- The longest front of a text that passes a test.
 --
 -- Carries: IsBest, longest_within_is, longest_within_none, run_best, for Union, StringLongest,
--- NumberBest, Best and 5 more. On: Cases.
+-- NumberBest, Best and 5 more.
 use Rattle.std.proofs.Common.{◌≡◌, ℕ, ◌≤◌, ◌<◌, Bool, true, false, List, [], ◌∷◌, length, take, refl, sym, subst, arith, add_comm, add-one}
 use Rattle.std.proofs.Common.{zero, suc, ◌⊎◌, ⊎_elim, ◌+◌}
 use Rattle.std.specs.List.{prefix_len, list_all}
+use Rattle.std.proofs.lemmas.Bool.{cases_Bool}
 use Rattle.pylex_lexeme.specs.Lexemes.{longest_within}
-use Rattle.pylex_lexeme.proofs.Cases.{bool_cases}
 
 -- n is the length of the longest front that passes
 pub record IsBest (p : List ℕ → Bool) (cs : List ℕ) (n : ℕ) : Type 0 where
@@ -41,15 +41,15 @@ run_fails p (c ∷ cs) (suc j) a b =
     ⊎_elim
     (λ (e : p c ≡ true). let l : 1 + prefix_len p cs < suc j = simp e at a in rw e (run_fails p cs j (omega arith) (omega arith)))
     (λ (e : p c ≡ false). rw e refl)
-    (bool_cases (p c))
+    (cases_Bool (p c))
 
-run_passes : (p : ℕ → Bool) (cs : List ℕ) → list_all p (take (prefix_len p cs) cs) ≡ true
+pub run_passes : (p : ℕ → Bool) (cs : List ℕ) → list_all p (take (prefix_len p cs) cs) ≡ true
 run_passes p [] = refl
 run_passes p (c ∷ cs) =
     ⊎_elim
     (λ (e : p c ≡ true). rw (e, add_comm, add-one) (rw e (run_passes p cs)))
     (λ (e : p c ≡ false). rw e refl)
-    (bool_cases (p c))
+    (cases_Bool (p c))
 
 run_le : (p : ℕ → Bool) (cs : List ℕ) → prefix_len p cs ≤ length cs
 run_le p [] = omega arith
@@ -57,7 +57,7 @@ run_le p (c ∷ cs) =
     ⊎_elim
     (λ (e : p c ≡ true). let h = run_le p cs in rw e (omega arith))
     (λ (e : p c ≡ false). rw e (omega arith))
-    (bool_cases (p c))
+    (cases_Bool (p c))
 
 pub run_best : (p : ℕ → Bool) (cs : List ℕ) → IsBest (list_all p) cs (prefix_len p cs)
 run_best p cs = record { within = run_le p cs; passes = run_passes p cs; longest = run_fails p cs }

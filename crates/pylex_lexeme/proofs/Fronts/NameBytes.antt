@@ -1,12 +1,12 @@
 -- Bytes that are characters of ASCII of a name.
 --
--- Carries: has_byte. On: Cases.
+-- Carries: has_byte.
 use Rattle.std.proofs.Common.{◌≡◌, ℕ, ◌<◌, true, false, ◌&&◌, ◌||◌, ◌==◌, refl, arith, ⊎_elim, nat_lt}
 use Rattle.std.specs.Char.{is_ascii_alphanumeric}
 use Rattle.std.proofs.lemmas.Bool.Decides.{nat_tests}
 use Rattle.unicode_ident.specs.Ident.{is_xid_continue}
 use Rattle.unicode_ident.proofs.IdentLemmas.{is_xid_continue-ascii}
-use Rattle.pylex_lexeme.proofs.Cases.{bool_cases}
+use Rattle.std.proofs.lemmas.Bool.{cases_Bool}
 
 pub name_byte : (b : ℕ) → (is_ascii_alphanumeric b || (b == 95)) ≡ (nat_lt b 128 && is_xid_continue b)
 name_byte b =
@@ -15,4 +15,4 @@ name_byte b =
     is_xid_continue-ascii b small in rw (k, is) refl)
     (λ (k : nat_lt b 128 ≡ false). let none : is_ascii_alphanumeric b ≡ false = grind (arith, nat_tests) in let no : (b == 95) ≡ false =
     grind (arith, nat_tests) in rw (k, none, no) refl)
-    (bool_cases (nat_lt b 128))
+    (cases_Bool (nat_lt b 128))

@@ -1,6 +1,6 @@
 -- Fronts of a text in ASCII, by bytes and by characters.
 --
--- Carries: bump, bump_plain, bump_while, first. On: Cases, Texts.
+-- Carries: bump, bump_plain, bump_while, first. On: Texts.
 use Rattle.std.proofs.Common.{◌≡◌, ℕ, ◌<◌, Bool, true, false, ◌&&◌, List, [], ◌∷◌, ◌++◌, drop, refl, sym, ◌∙◌, ap, subst, Some, arith}
 use Rattle.std.proofs.Common.{slice_get, add_comm, add-one, ⊎_elim, nat_lt}
 use Rattle.std.specs.List.{prefix_len}
@@ -10,9 +10,9 @@ use Rattle.std.proofs.lemmas.Str.{chars-nil, chars_past_char, encode_ascii, byte
 use Rattle.std.proofs.lemmas.Str.{IsCharBoundary-from_drop}
 use Rattle.std.proofs.lemmas.List.Sums.{prefix_len-le-length}
 use Rattle.std.proofs.lemmas.Bool.Decides.{nat_tests}
+use Rattle.std.proofs.lemmas.Bool.{cases_Bool, and_parts}
 use Rattle.pylex_lexeme.specs.Chars.{begins}
 use Rattle.pylex_lexeme.specs.Inner.Plain.{is_plain_char}
-use Rattle.pylex_lexeme.proofs.Cases.{bool_cases, and_parts}
 use Rattle.pylex_lexeme.proofs.Fronts.Texts.{after_run}
 
 -- a byte of ASCII is a character
@@ -54,7 +54,7 @@ run_utf8 f p t (b ∷ bs) u =
     ⊎_elim
     (λ (h : f b ≡ true). subst IsUtf8 (sym (run_on f b bs h)) (run_utf8 f p t bs (rest_utf8 b bs u (t.ascii b h))))
     (λ (h : f b ≡ false). subst IsUtf8 (sym (run_off f b bs h)) u)
-    (bool_cases (f b))
+    (cases_Bool (f b))
 
 pub run_cut : (f p : ℕ → Bool) → Tells f p → (bs : List ℕ) → IsUtf8 bs → IsCharBoundary bs (prefix_len f bs)
 run_cut f p t bs u = IsCharBoundary-from_drop bs (prefix_len f bs) (prefix_len-le-length f bs) (run_utf8 f p t bs u)
@@ -70,7 +70,7 @@ run_same f p t (b ∷ bs) u =
     ∙ run_same f p t bs (rest_utf8 b bs u l)
     ∙ sym (ap (after_run p) (chars_first b bs u l) ∙ run_on p b (chars bs) (t.passes b h)))
     (λ (h : f b ≡ false). ap (λ r. after_run p (chars r)) (run_off f b bs h))
-    (bool_cases (f b))
+    (cases_Bool (f b))
 
 pub run_stopped : (f : ℕ → Bool) (bs : List ℕ) → begins f (after_run f bs) ≡ false
 run_stopped f [] = refl
@@ -78,7 +78,7 @@ run_stopped f (b ∷ t) =
     ⊎_elim
     (λ (h : f b ≡ true). ap (begins f) (run_on f b t h) ∙ run_stopped f t)
     (λ (h : f b ≡ false). ap (begins f) (run_off f b t h) ∙ h)
-    (bool_cases (f b))
+    (cases_Bool (f b))
 
 -- a test of bytes of ASCII
 abbrev pub in_ascii : (ℕ → Bool) → ℕ → Bool
@@ -123,5 +123,5 @@ plain_stops (b ∷ t) (c ∷ cs, (s, h)) e =
     let same : b ≡ c = byte_from_char (b ∷ t) (encodes cs) c (sym h) l in
     ap is_plain_char (sym same) ∙ e)
     (λ (k : is_plain_char c ≡ false). k)
-    (bool_cases (is_plain_char c)) in
+    (cases_Bool (is_plain_char c)) in
     ap (after_run is_plain_char) f ∙ run_off is_plain_char c (chars (encodes cs)) n ∙ sym f

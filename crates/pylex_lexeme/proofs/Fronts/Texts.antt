@@ -1,8 +1,8 @@
 -- Texts by their characters.
 --
 -- Carries: bump_plain, bump_while, bump_while_wide, bump_wide, len.
-use Rattle.std.proofs.Common.{◌≡◌, ℕ, ◌<◌, Bool, true, false, List, [], ◌∷◌, length, drop, refl, sym, ◌∙◌, ap, Option, Some, None, arith}
-use Rattle.std.proofs.Common.{slice_get, add_comm, add-one}
+use Rattle.std.proofs.Common.{◌≡◌, ℕ, ◌<◌, Bool, List, [], ◌∷◌, length, drop, refl, sym, ◌∙◌, ap, Option, Some, None, arith}
+use Rattle.std.proofs.Common.{slice_get}
 use Rattle.std.specs.List.{prefix_len}
 use Rattle.std.specs.Str.{chars, encode_utf8_all, IsUtf8}
 use Rattle.std.specs.Str.Iter.{chars_rest, chars_steps}
@@ -26,18 +26,6 @@ bump_rest s t (Some c) u h = rw (chars_past_char (chars_rest s) (chars_rest t) c
 -- what is left after the longest front of characters that pass
 abbrev pub after_run : (ℕ → Bool) → List ℕ → List ℕ
 after_run p cs = drop (prefix_len p cs) cs
-
-pub after_run-more : (p : ℕ → Bool) (cs : List ℕ) (c : ℕ) → slice_get cs 0 ≡ Some c → p c ≡ true → after_run p (drop 1 cs) ≡ after_run p cs
-after_run-more p [] c e h = cc
-after_run-more p (d ∷ cs) c e h = let f : d ≡ c = cc in let g : p d ≡ true = rw f h in rw (g, add_comm, add-one) refl
-
-pub after_run-stop : (p : ℕ → Bool) (cs : List ℕ) (c : ℕ) → slice_get cs 0 ≡ Some c → p c ≡ false → after_run p cs ≡ cs
-after_run-stop p [] c e h = cc
-after_run-stop p (d ∷ cs) c e h = let f : d ≡ c = cc in let g : p d ≡ false = rw f h in rw g refl
-
-pub after_run-end : (p : ℕ → Bool) (cs : List ℕ) → slice_get cs 0 ≡ None → after_run p cs ≡ cs
-after_run-end p [] e = refl
-after_run-end p (d ∷ cs) e = cc
 
 pub shorter : (cs : List ℕ) (c : ℕ) → slice_get cs 0 ≡ Some c → length (drop 1 cs) < length cs
 shorter [] c e = cc

@@ -1,7 +1,7 @@
 -- The class of a text, by its first characters.
 --
 -- Carries: words, by_words, heads, no_operator and 7 more, for Union, OperatorLengths, Seconds,
--- InLine. On: Best, Cases, Joined.
+-- InLine. On: Best, Joined.
 use Rattle.std.proofs.Common.{◌≡◌, ℕ, ◌≤◌, ◌<◌, Bool, true, false, ◌&&◌, ◌||◌, ◌==◌, List, [], ◌∷◌, map, refl, ◌∙◌, Some, None, arith, cond}
 use Rattle.std.proofs.Common.{⊎_elim, eqb, leb, is_some}
 use Rattle.std.specs.Prelude.{option_map, codes}
@@ -9,7 +9,7 @@ use Rattle.std.specs.List.{list_all, list_any, find}
 use Rattle.std.specs.Str.{bytes_eq}
 use Rattle.std.specs.Char.{is_ascii_alphabetic}
 use Rattle.std.proofs.lemmas.Bool.Decides.{nat_tests}
-use Rattle.std.proofs.lemmas.Bool.{leb-true, eqb-true, cases_lt}
+use Rattle.std.proofs.lemmas.Bool.{leb-true, eqb-true, cases_lt, cases_Bool, and_parts, and_right, or_parts, or_cases}
 use Rattle.unicode_ident.specs.Ident.{is_xid_start, is_xid_continue}
 use Rattle.unicode_ident.proofs.IdentLemmas.{is_xid_start-ascii, is_xid_continue-ascii, is_xid_start-is_xid_continue}
 use Rattle.pylex_lexeme.specs.Chars.{starts_name, is_comment_part, is_blank_char, begins}
@@ -19,9 +19,6 @@ use Rattle.pylex_lexeme.specs.Numbers.{is_point_before, is_raised}
 use Rattle.pylex_lexeme.specs.Operators.{Operator, operators, is_operator, exact_of}
 use Rattle.pylex_lexeme.specs.Lexemes.{plain_class, is_name, is_comment, are_blanks, is_line_end, is_join}
 use Rattle.pylex_lexeme.specs.declared.lexeme.Class.TheVariants.{Name, Comment, Blanks, LineEnd, Join}
-use Rattle.pylex_lexeme.proofs.Cases.{and_parts, bool_cases}
-use Rattle.pylex_lexeme.proofs.Fronts.Best.{or_parts, and_false}
-use Rattle.pylex_lexeme.proofs.Fronts.Joined.{or_parts_false}
 
 -- Operators by their spellings
 found : (t : List ℕ) (os : List Operator) → is_some (option_map (λ o. o.exact) (find (λ o. bytes_eq t o.spelling) os)) ≡ list_any
@@ -31,7 +28,7 @@ found t (o ∷ os) =
     ⊎_elim
     (λ (e : bytes_eq t o.spelling ≡ true). rw e refl)
     (λ (e : bytes_eq t o.spelling ≡ false). rw e (found t os))
-    (bool_cases (bytes_eq t o.spelling))
+    (cases_Bool (bytes_eq t o.spelling))
 
 abbrev pub words : List (List ℕ)
 words =
@@ -55,7 +52,7 @@ heads ((x ∷ o) ∷ os) = x ∷ heads os
 pub no_head : (c : ℕ) (t : List ℕ) (os : List (List ℕ)) → list_any (eqb c) (heads os) ≡ false → list_any (bytes_eq (c ∷ t)) os ≡ false
 no_head c t [] e = refl
 no_head c t ([] ∷ os) e = no_head c t os e
-no_head c t ((x ∷ o) ∷ os) e = let p = or_parts_false (eqb c x) (list_any (eqb c) (heads os)) e in rw p.0 (no_head c t os p.1)
+no_head c t ((x ∷ o) ∷ os) e = let p = or_parts (eqb c x) (list_any (eqb c) (heads os)) e in rw p.0 (no_head c t os p.1)
 
 pub no_operator : (c : ℕ) (t : List ℕ) → list_any (eqb c) (heads words) ≡ false → is_operator (c ∷ t) ≡ false
 no_operator c t e = by_words (c ∷ t) ∙ no_head c t words e
@@ -76,7 +73,7 @@ before_off c t e =
     (λ (h : is_point c ≡ true). let f : begins is_decimal_digit t ≡ false = simp h at e in let g =
     part_off (optional is_exponent) t f in rw (h, g) refl)
     (λ (h : is_point c ≡ false). rw h refl)
-    (bool_cases (is_point c))
+    (cases_Bool (is_point c))
 
 float_off : (c : ℕ) (t : List ℕ) → is_decimal_digit c ≡ false → (is_point c && begins is_decimal_digit t) ≡ false → is_float (c ∷ t) ≡ false
 unfolding is_float is_point_after is_raised
@@ -99,7 +96,7 @@ imaginary_off : (c : ℕ) (t : List ℕ) → is_decimal_digit c ≡ false → (i
 unfolding is_imaginary
 imaginary_off c [] d e = let f = real_off c [] d e in rw (float_none, f) refl
 imaginary_off c (b ∷ t) d e =
-    let f = real_off c [] d (and_false (is_point c) false refl) in
+    let f = real_off c [] d (and_right (is_point c) false refl) in
     let g = split_off (λ u. is_digit_part (c ∷ b ∷ u) || is_float (c ∷ b ∷ u)) (headed is_j is_nil) t (λ u. real_off c (b ∷ u) d e) in
     rw (float_none, f, g) refl
 
@@ -131,9 +128,9 @@ ascii_start c e =
     ⊎_elim
     (λ (g : (leb 65 c && leb c 90) ≡ true). let b = between 65 c 90 g in upper b.0 b.1)
     (λ (g : (leb 97 c && leb c 122) ≡ true). let b = between 97 c 122 g in lower b.0 b.1)
-    (or_parts (leb 65 c && leb c 90) (leb 97 c && leb c 122) f))
+    (or_cases (leb 65 c && leb c 90) (leb 97 c && leb c 122) f))
     (λ (f : eqb c 95 ≡ true). underscore (eqb-true c 95 f))
-    (or_parts (is_ascii_alphabetic c) (eqb c 95) e)
+    (or_cases (is_ascii_alphabetic c) (eqb c 95) e)
 
 starts : (c : ℕ) → starts_name c ≡ true → Start c
 starts c s =
@@ -194,7 +191,7 @@ start_continues c s =
     ⊎_elim
     (λ (e : is_xid_start c ≡ true). is_xid_start-is_xid_continue c e)
     (λ (e : eqb c 95 ≡ true). let f : c ≡ 95 = eqb-true c 95 e in rw f (is_xid_continue-ascii 95 (omega arith)))
-    (or_parts (is_xid_start c) (eqb c 95) s)
+    (or_cases (is_xid_start c) (eqb c 95) s)
 
 -- What a text is that begins with a character
 pub name_class : (c : ℕ) → starts_name c ≡ true → (t : List ℕ)
@@ -208,7 +205,7 @@ name_class c s t =
     let n = no_number c t a.digit (and_off (is_point c) (begins is_decimal_digit t) a.point) in
     let o = no_operator c t a.operator in
     rw (s, e, n, o, a.hash, a.blank, a.feed, a.return, a.slash) refl)
-    (bool_cases (list_all is_xid_continue t))
+    (cases_Bool (list_all is_xid_continue t))
   where
     and_off : (x y : Bool) → x ≡ false → (x && y) ≡ false
     and_off x y e = rw e refl
@@ -238,7 +235,7 @@ blank_at c b s d p o h f r l t =
     ⊎_elim
     (λ (e : list_all is_blank_char t ≡ true). rw (s, n, q, h, b, e) refl)
     (λ (e : list_all is_blank_char t ≡ false). rw (s, n, q, h, b, e, f, r, l) refl)
-    (bool_cases (list_all is_blank_char t))
+    (cases_Bool (list_all is_blank_char t))
 
 pub blank_class : (c : ℕ) → is_blank_char c ≡ true → (t : List ℕ)
     → plain_class (c ∷ t) ≡ cond (headed is_blank_char (list_all is_blank_char) (c ∷ t)) (Some Blanks) None
@@ -250,10 +247,10 @@ blank_class c s t =
     rw f (blank_at 32 refl (no_start 32 (omega arith) refl) refl refl refl refl refl refl refl t))
     (λ (e : eqb c 9 ≡ true). let f : c ≡ 9 = eqb-true c 9 e in
     rw f (blank_at 9 refl (no_start 9 (omega arith) refl) refl refl refl refl refl refl refl t))
-    (or_parts (eqb c 32) (eqb c 9) g))
+    (or_cases (eqb c 32) (eqb c 9) g))
     (λ (e : eqb c 12 ≡ true). let f : c ≡ 12 = eqb-true c 12 e in
     rw f (blank_at 12 refl (no_start 12 (omega arith) refl) refl refl refl refl refl refl refl t))
-    (or_parts (eqb c 32 || eqb c 9) (eqb c 12) s)
+    (or_cases (eqb c 32 || eqb c 9) (eqb c 12) s)
 
 end_at : (c : ℕ) → starts_name c ≡ false → is_decimal_digit c ≡ false → is_point c ≡ false → list_any (eqb c) (heads words) ≡ false
     → (c == 35) ≡ false → is_blank_char c ≡ false → (c == 92) ≡ false → (t : List ℕ)
@@ -272,7 +269,7 @@ end_class c s t =
     rw f (end_at 10 (no_start 10 (omega arith) refl) refl refl refl refl refl refl t))
     (λ (e : eqb c 13 ≡ true). let f : c ≡ 13 = eqb-true c 13 e in
     rw f (end_at 13 (no_start 13 (omega arith) refl) refl refl refl refl refl refl t))
-    (or_parts (eqb c 10) (eqb c 13) s)
+    (or_cases (eqb c 10) (eqb c 13) s)
 
 no_end : (t : List ℕ) → is_line_end (92 ∷ t) ≡ false
 unfolding is_line_end

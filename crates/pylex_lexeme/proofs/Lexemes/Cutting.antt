@@ -1,31 +1,28 @@
 -- A text's bytes, cut after some of its characters.
 --
 -- Carries: cut. On: Union.
-use Rattle.std.proofs.Common.{◌≡◌, ℕ, ◌+◌, ◌-◌, ◌≤◌, ◌<◌, Bool, true, false, List, [], ◌∷◌, ◌++◌, length, drop, take, refl, sym, ◌∙◌, ap}
-use Rattle.std.proofs.Common.{subst, Option, Some, None, arith, length-append, option_map, zero, suc, ◌&&◌}
+use Rattle.std.proofs.Common.{◌≡◌, ℕ, ◌+◌, ◌-◌, ◌≤◌, ◌<◌, true, List, [], ◌∷◌, ◌++◌, length, drop, take, refl, sym, ◌∙◌, ap}
+use Rattle.std.proofs.Common.{subst, Option, Some, None, arith, length-append, option_map, zero, suc}
 use Rattle.std.specs.Str.{chars, IsUtf8, IsCharBoundary}
 use lib.Utf8.{scalar, scalars, encodes}
 use Rattle.std.proofs.lemmas.Str.{encodes-append, encodes-chars, scalars-chars, chars-encodes, IsCharBoundary-at_seam}
 use Rattle.std.proofs.lemmas.List.{take-append-drop}
 use Rattle.std.proofs.Math.Seq.{take-append_seam, drop-append_seam}
+use Rattle.std.proofs.lemmas.Bool.{and_parts}
 use Rattle.pylex_lexeme.specs.declared.lexeme.Class.{Class}
 use Rattle.pylex_lexeme.specs.Lexemes.{Lexeme, class_in, lexeme_len, lexeme_at}
 use Rattle.pylex_lexeme.specs.Cuts.{TakesLexeme, Cuts}
 use Rattle.pylex_lexeme.proofs.Lexemes.Union.{class_at, class_none}
 
-and_true : (a b : Bool) → (a && b) ≡ true → (a ≡ true) × (b ≡ true)
-and_true true b e = (refl, e)
-and_true false b e = cc
-
 scalars_take : (n : ℕ) (cs : List ℕ) → scalars cs ≡ true → scalars (take n cs) ≡ true
 scalars_take zero cs e = refl
 scalars_take (suc n) [] e = refl
-scalars_take (suc n) (c ∷ cs) e = let p = and_true (scalar c) (scalars cs) e in rw p.0 (scalars_take n cs p.1)
+scalars_take (suc n) (c ∷ cs) e = let p = and_parts (scalar c) (scalars cs) e in rw p.0 (scalars_take n cs p.1)
 
 scalars_drop : (n : ℕ) (cs : List ℕ) → scalars cs ≡ true → scalars (drop n cs) ≡ true
 scalars_drop zero cs e = e
 scalars_drop (suc n) [] e = refl
-scalars_drop (suc n) (c ∷ cs) e = let p = and_true (scalar c) (scalars cs) e in scalars_drop n cs p.1
+scalars_drop (suc n) (c ∷ cs) e = let p = and_parts (scalar c) (scalars cs) e in scalars_drop n cs p.1
 
 pub front_of : ℕ → List ℕ → List ℕ
 front_of n bs = encodes (take n (chars bs))

@@ -1,16 +1,15 @@
 -- The longest operator at a place, by its first three characters.
 --
--- Carries: exact_of, longest_operator. On: Best, Classes, Cases, Longest and 1 more.
+-- Carries: exact_of, longest_operator. On: Best, Classes, Longest and 1 more.
 use Rattle.std.proofs.Common.{◌≡◌, ℕ, ◌≤◌, ◌<◌, Bool, true, false, ◌&&◌, List, [], ◌∷◌, length, drop, take, refl, sym, ◌∙◌, ap, subst}
 use Rattle.std.proofs.Common.{Option, Some, None, arith, suc, zero, ⊎_elim, eqb, leb, is_some, slice_get, if◌then◌else◌}
 use Rattle.std.specs.Prelude.{option_map}
 use Rattle.std.specs.List.{list_all, list_any}
 use Rattle.std.specs.Str.{bytes_eq}
-use Rattle.std.proofs.lemmas.Bool.{leb-true, cases_lt}
+use Rattle.std.proofs.lemmas.Bool.{leb-true, cases_lt, cases_Bool, and_parts}
 use Rattle.pylex_lexeme.specs.declared.kinds.Exact.{Exact}
 use Rattle.pylex_lexeme.specs.Operators.{operators, is_operator, exact_of}
 use Rattle.pylex_lexeme.specs.Lengths.{longest, operator_at, pair_at}
-use Rattle.pylex_lexeme.proofs.Cases.{and_parts, bool_cases}
 use Rattle.std.proofs.lemmas.List.{length-take}
 use Rattle.pylex_lexeme.proofs.Fronts.Longest.{IsBest}
 use Rattle.pylex_lexeme.proofs.Fronts.Best.{Reads, NoFront}
@@ -105,7 +104,7 @@ len_reads (a ∷ []) =
     ⊎_elim
     (λ (e : is_operator (a ∷ []) ≡ true). rw e (one_by a 1 (omega arith) (λ h. e) (λ h. absurd (omega arith))))
     (λ (e : is_operator (a ∷ []) ≡ false). rw e (one_by a 0 (omega arith) (λ h. absurd (omega arith)) (λ h. e)))
-    (bool_cases (is_operator (a ∷ [])))
+    (cases_Bool (is_operator (a ∷ [])))
 len_reads (a ∷ b ∷ []) =
     ⊎_elim
     (λ (e : is_operator (a ∷ b ∷ []) ≡ true). rw e (two_by a b 2 (omega arith) (λ h. e) (λ h. absurd (omega arith))
@@ -114,8 +113,8 @@ len_reads (a ∷ b ∷ []) =
     ⊎_elim
     (λ (f : is_operator (a ∷ []) ≡ true). rw (e, f) (two_by a b 1 (omega arith) (λ h. f) (λ h. absurd (omega arith)) (λ h. e)))
     (λ (f : is_operator (a ∷ []) ≡ false). rw (e, f) (two_by a b 0 (omega arith) (λ h. absurd (omega arith)) (λ h. f) (λ h. e)))
-    (bool_cases (is_operator (a ∷ []))))
-    (bool_cases (is_operator (a ∷ b ∷ [])))
+    (cases_Bool (is_operator (a ∷ []))))
+    (cases_Bool (is_operator (a ∷ b ∷ [])))
 len_reads (a ∷ b ∷ c ∷ t) =
     ⊎_elim
     (λ (g : is_operator (a ∷ b ∷ c ∷ []) ≡ true). rw g (three_by a b c t 3 (omega arith) (λ h. g) (λ h. absurd (omega arith))
@@ -130,9 +129,9 @@ len_reads (a ∷ b ∷ c ∷ t) =
     (three_by a b c t 1 (omega arith) (λ h. f) (λ h. absurd (omega arith)) (λ h. e) (λ h. g)))
     (λ (f : is_operator (a ∷ []) ≡ false). rw (g, e, f) (three_by a b c t 0 (omega arith) (λ h. absurd (omega arith))
     (λ h. f) (λ h. e) (λ h. g)))
-    (bool_cases (is_operator (a ∷ []))))
-    (bool_cases (is_operator (a ∷ b ∷ []))))
-    (bool_cases (is_operator (a ∷ b ∷ c ∷ [])))
+    (cases_Bool (is_operator (a ∷ []))))
+    (cases_Bool (is_operator (a ∷ b ∷ []))))
+    (cases_Bool (is_operator (a ∷ b ∷ c ∷ [])))
 
 pub len_longest : (cs : List ℕ) → longest is_operator cs ≡ len_of cs
 len_longest cs = longest_reads is_operator cs (len_of cs) (len_reads cs)
@@ -159,14 +158,6 @@ at_one (b ∷ cs) a e = let f : b ≡ a = cc in ap (λ c. c ∷ cs) f
 
 pub only_one : (cs : List ℕ) (a : ℕ) → slice_get cs 0 ≡ Some a → slice_get (drop 1 cs) 0 ≡ None → cs ≡ a ∷ []
 only_one cs a e f = at_one cs a e ∙ ap (λ t. a ∷ t) (at_none (drop 1 cs) f)
-
-pub only_two : (cs : List ℕ) (a b : ℕ) → slice_get cs 0 ≡ Some a → slice_get (drop 1 cs) 0 ≡ Some b
-    → slice_get (drop 1 (drop 1 cs)) 0 ≡ None → cs ≡ a ∷ b ∷ []
-only_two cs a b e f g = at_one cs a e ∙ ap (λ t. a ∷ t) (only_one (drop 1 cs) b f g)
-
-pub at_three : (cs : List ℕ) (a b c : ℕ) → slice_get cs 0 ≡ Some a → slice_get (drop 1 cs) 0 ≡ Some b
-    → slice_get (drop 1 (drop 1 cs)) 0 ≡ Some c → cs ≡ a ∷ b ∷ c ∷ drop 1 (drop 1 (drop 1 cs))
-at_three cs a b c e f g = at_one cs a e ∙ ap (λ t. a ∷ t) (at_one (drop 1 cs) b f ∙ ap (λ t. b ∷ t) (at_one (drop 1 (drop 1 cs)) c g))
 
 -- what the steps of a reader say
 pub one_of : (cs l m : List ℕ) (x : ℕ) → l ≡ cs → Some x ≡ slice_get l 0 → m ≡ drop 1 l → None ≡ slice_get m 0 → cs ≡ x ∷ []

@@ -1,14 +1,13 @@
 -- Operators by their second characters.
 --
--- Carries: longest_operator. On: OperatorLengths, Classes, Cases, Joined.
+-- Carries: longest_operator. On: OperatorLengths, Classes, Joined.
 use Rattle.std.proofs.Common.{◌≡◌, ℕ, Bool, false, ◌&&◌, ◌||◌, ◌==◌, List, [], ◌∷◌, refl, sym, ◌∙◌, ap, Some, eqb, slice_get, drop}
 use Rattle.std.specs.Prelude.{option_map}
 use Rattle.std.specs.List.{list_any}
 use Rattle.std.specs.Str.{bytes_eq}
+use Rattle.std.proofs.lemmas.Bool.{and_right, or_parts}
 use Rattle.pylex_lexeme.specs.Operators.{is_operator, exact_of}
 use Rattle.pylex_lexeme.specs.Lengths.{operator_at, pair_at}
-use Rattle.pylex_lexeme.proofs.Cases.{right_false}
-use Rattle.pylex_lexeme.proofs.Fronts.Joined.{or_parts_false}
 use Rattle.pylex_lexeme.proofs.Lexemes.Classes.{words, by_words}
 use Rattle.pylex_lexeme.proofs.Lexemes.OperatorLengths.{exact_off, two_at, pair_at_three, at_one}
 
@@ -22,11 +21,11 @@ seconds ((x ∷ y ∷ o) ∷ os) = y ∷ seconds os
 no_second : (a b : ℕ) (t : List ℕ) (os : List (List ℕ)) → list_any (eqb b) (seconds os) ≡ false → list_any (bytes_eq (a ∷ b ∷ t)) os ≡ false
 no_second a b t [] e = refl
 no_second a b t ([] ∷ os) e = no_second a b t os e
-no_second a b t ((x ∷ []) ∷ os) e = let f = right_false (eqb a x) false refl in rw f (no_second a b t os e)
+no_second a b t ((x ∷ []) ∷ os) e = let f = and_right (eqb a x) false refl in rw f (no_second a b t os e)
 no_second a b t ((x ∷ y ∷ o) ∷ os) e =
-    let p = or_parts_false (eqb b y) (list_any (eqb b) (seconds os)) e in
+    let p = or_parts (eqb b y) (list_any (eqb b) (seconds os)) e in
     let f : (eqb b y && bytes_eq t o) ≡ false = rw p.0 refl in
-    let g = right_false (eqb a x) (eqb b y && bytes_eq t o) f in
+    let g = and_right (eqb a x) (eqb b y && bytes_eq t o) f in
     rw g (no_second a b t os p.1)
 
 abbrev pub may_be_second : ℕ → Bool
@@ -34,11 +33,11 @@ may_be_second c = (c == 61) || ((c == 60) || ((c == 62) || ((c == 42) || ((c == 
 
 second_off : (a b : ℕ) (t : List ℕ) → may_be_second b ≡ false → is_operator (a ∷ b ∷ t) ≡ false
 second_off a b t h =
-    let p = or_parts_false (b == 61) _ h in
-    let q = or_parts_false (b == 60) _ p.1 in
-    let r = or_parts_false (b == 62) _ q.1 in
-    let s = or_parts_false (b == 42) _ r.1 in
-    let u = or_parts_false (b == 47) (b == 46) s.1 in
+    let p = or_parts (b == 61) _ h in
+    let q = or_parts (b == 60) _ p.1 in
+    let r = or_parts (b == 62) _ q.1 in
+    let s = or_parts (b == 42) _ r.1 in
+    let u = or_parts (b == 47) (b == 46) s.1 in
     let none : list_any (eqb b) (seconds words) ≡ false = rw (p.0, q.0, r.0, s.0, u.0, u.1) refl in
     by_words (a ∷ b ∷ t) ∙ no_second a b t words none
 

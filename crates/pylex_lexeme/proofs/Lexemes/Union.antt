@@ -7,7 +7,7 @@ use Rattle.std.proofs.Common.{subst, Option, Some, None, arith, suc, zero, cond,
 use Rattle.std.proofs.Common.{add-one}
 use Rattle.std.specs.Prelude.{option_map}
 use Rattle.std.specs.List.{list_all, list_any, prefix_len}
-use Rattle.std.proofs.lemmas.Bool.{eqb-true, leb-true, cases_lt}
+use Rattle.std.proofs.lemmas.Bool.{eqb-true, leb-true, cases_lt, not-true, cases_Bool, and_parts, or_parts, or_cases}
 use Rattle.pylex_lexeme.specs.declared.kinds.Exact.{Exact}
 use Rattle.std.proofs.lemmas.Bool.Decides.{nat_tests}
 use Rattle.unicode_ident.proofs.IdentLemmas.{is_xid_start-ascii}
@@ -19,26 +19,19 @@ use Rattle.pylex_lexeme.specs.declared.lexeme.Class.TheVariants.{String}
 use Rattle.pylex_lexeme.specs.Chars.{begins, starts_name, is_comment_part, is_blank_char, is_prefix_letter, is_r, is_b_or_f}
 use Rattle.pylex_lexeme.specs.Numbers.{headed, is_decimal_digit, is_point, is_number}
 use Rattle.pylex_lexeme.specs.Strings.{opens_string, opens_triple, is_triple_string, is_single_string, counts_as_string, is_prefix}
-use Rattle.pylex_lexeme.specs.Strings.{begins_quote}
 use Rattle.pylex_lexeme.specs.Lexemes.{is_name, is_comment, are_blanks, is_join, longest_within, class_in, plain_class, lexeme_len}
 use Rattle.pylex_lexeme.specs.Lexemes.{lexeme_at, Lexeme, is_line_end}
-use Rattle.pylex_lexeme.specs.Lengths.{longest, begins_pair, begins_number, number_len, Opens, operator_at}
+use Rattle.pylex_lexeme.specs.Lengths.{longest, begins_pair, begins_number, number_len, operator_at}
 use Rattle.pylex_lexeme.specs.Operators.{is_operator, exact_of}
 use Rattle.pylex_lexeme.specs.Cuts.{TakesLexeme, BeginsOther, starts_other, begins_significant}
 use Rattle.pylex_lexeme.proofs.Computing.{classes}
-use Rattle.pylex_lexeme.proofs.Cases.{and_parts, bool_cases}
 use Rattle.pylex_lexeme.proofs.Fronts.Longest.{IsBest, longest_within_is, longest_within_none, run_best}
-use Rattle.pylex_lexeme.proofs.Fronts.Best.{NoFront, headed_best, headed_rest, or_parts}
-use Rattle.pylex_lexeme.proofs.Fronts.Joined.{or_parts_false}
+use Rattle.pylex_lexeme.proofs.Fronts.Best.{NoFront, headed_best, headed_rest}
 use Rattle.pylex_lexeme.proofs.Strings.Prefixes.{one_prefix, two_prefix}
 use Rattle.pylex_lexeme.proofs.Numbers.NumberBest.{number_best, longest_number, longest_more}
 use Rattle.pylex_lexeme.proofs.Lexemes.OperatorLengths.{operator_best, operator_none_at, operator_some, exact_off, exact_none}
 use Rattle.pylex_lexeme.proofs.Lexemes.Classes.{words, heads, by_words, no_operator, no_number, start_continues, name_class, comment_class}
 use Rattle.pylex_lexeme.proofs.Lexemes.Classes.{blank_class, end_class, join_class}
-
-not_true : (b : Bool) → not b ≡ true → b ≡ false
-not_true true e = cc
-not_true false e = refl
 
 -- no class has the empty text
 no_class : (o t : Bool) → cond o (cond (cond t (is_triple_string []) (is_single_string [])) (Some String) None) (plain_class []) ≡ None
@@ -127,8 +120,8 @@ opens_off c [] l q = let e : is_prefix (c ∷ []) ≡ false = one_prefix c ∙ l
     none false = refl
 opens_off c (d ∷ cs) l q =
     let e : is_prefix (c ∷ []) ≡ false = one_prefix c ∙ l in
-    let r = or_parts_false (is_r c) (((c == 117) || (c == 85)) || is_b_or_f c) l in
-    let b = or_parts_false ((c == 117) || (c == 85)) (is_b_or_f c) r.1 in
+    let r = or_parts (is_r c) (((c == 117) || (c == 85)) || is_b_or_f c) l in
+    let b = or_parts ((c == 117) || (c == 85)) (is_b_or_f c) r.1 in
     let p : begins_pair (c ∷ d ∷ []) ≡ false = pair (is_r c) (is_b_or_f d) (is_b_or_f c) (is_r d) r.0 b.1 in
     let f : is_prefix (c ∷ d ∷ []) ≡ false = two_prefix c d ∙ p in
     rw (q, e, f) (none (is_prefix []))
@@ -164,9 +157,9 @@ blank_opens (c ∷ cs) e =
     ⊎_elim
     (λ (h : eqb c 32 ≡ true). let f : c ≡ 32 = eqb-true c 32 h in rw f (opens_off 32 cs refl refl))
     (λ (h : eqb c 9 ≡ true). let f : c ≡ 9 = eqb-true c 9 h in rw f (opens_off 9 cs refl refl))
-    (or_parts (eqb c 32) (eqb c 9) g))
+    (or_cases (eqb c 32) (eqb c 9) g))
     (λ (h : eqb c 12 ≡ true). let f : c ≡ 12 = eqb-true c 12 h in rw f (opens_off 12 cs refl refl))
-    (or_parts (eqb c 32 || eqb c 9) (eqb c 12) e)
+    (or_cases (eqb c 32 || eqb c 9) (eqb c 12) e)
 
 pub blanks_take : (cs : List ℕ) → begins is_blank_char cs ≡ true → TakesLexeme cs (Some Blanks) (drop (prefix_len is_blank_char cs) cs)
 blanks_take cs h = run_takes is_blank_char is_blank_char Blanks cs (blank_opens cs h) h (λ c e. e) blank_class
@@ -207,7 +200,7 @@ no_line_end (c ∷ d ∷ t) e f =
     ⊎_elim
     (λ (h : (c == 13) ≡ true). let g : (d == 10) ≡ false = simp h at f in rw (e, h, g) refl)
     (λ (h : (c == 13) ≡ false). rw (e, h) refl)
-    (bool_cases (c == 13))
+    (cases_Bool (c == 13))
 
 pub no_end_front : (cs : List ℕ) → begins (λ c. c == 10) cs ≡ false → (begins (λ c. c == 13) cs && begins (λ c. c == 10) (drop 1 cs)) ≡
     false → NoFront is_line_end cs
@@ -224,10 +217,6 @@ no_end_front (c ∷ []) e f (suc (suc j)) h = no_line_end (c ∷ []) e (none (c 
     none true = refl
     none false = refl
 no_end_front (c ∷ d ∷ cs) e f (suc (suc j)) h = no_line_end (c ∷ d ∷ take j cs) e f
-
-head_is : (q : ℕ) (r : List ℕ) → begins (λ c. c == q) r ≡ true → r ≡ q ∷ drop 1 r
-head_is q [] e = cc
-head_is q (c ∷ t) e = ap (λ d. d ∷ t) (eqb-true c q e)
 
 pub feed_takes : (cs : List ℕ) → begins (λ c. c == 10) cs ≡ true → TakesLexeme cs (Some LineEnd) (drop 1 cs)
 feed_takes [] h = cc
@@ -306,7 +295,7 @@ number_starts c e =
     let u = leb-true c 57 p.1 in
     rw (is_xid_start-ascii c (omega arith)) (grind (arith, nat_tests)))
     (λ (d : is_point c ≡ true). let f : c ≡ 46 = eqb-true c 46 d in rw f (rw (is_xid_start-ascii 46 (omega arith)) refl))
-    (or_parts (is_decimal_digit c) (is_point c) e)
+    (or_cases (is_decimal_digit c) (is_point c) e)
 
 digit_heads : (c : ℕ) → is_decimal_digit c ≡ true → list_any (eqb c) (heads words) ≡ false
 digit_heads c d =
@@ -329,10 +318,10 @@ number_opens (c ∷ cs) e =
     (λ (d : is_decimal_digit c ≡ true). digit_opens c cs d)
     (λ (d : (is_point c && begins is_decimal_digit cs) ≡ true). let p = and_parts (is_point c) (begins is_decimal_digit cs) d in
     let f : c ≡ 46 = eqb-true c 46 p.0 in rw f (opens_off 46 cs refl refl))
-    (or_parts (is_decimal_digit c) (is_point c && begins is_decimal_digit cs) e)
+    (or_cases (is_decimal_digit c) (is_point c && begins is_decimal_digit cs) e)
 
 -- a number's longer fronts are in no other class
-point_words : (d : ℕ) (t : List ℕ) → is_decimal_digit d ≡ true → is_operator (46 ∷ d ∷ t) ≡ false
+pub point_words : (d : ℕ) (t : List ℕ) → is_decimal_digit d ≡ true → is_operator (46 ∷ d ∷ t) ≡ false
 point_words d t e =
     let p = and_parts (leb 48 d) (leb d 57) e in
     let l = leb-true 48 d p.0 in
@@ -363,7 +352,7 @@ plain_number c t d o =
     let h : (eqb c 35 ≡ false) × (is_blank_char c ≡ false) × (eqb c 10 ≡ false) × (eqb c 13 ≡ false) × (eqb c 92 ≡ false) =
     rw f (refl, refl, refl, refl, refl) in
     rw (s, o, h.0, h.1, h.2, h.3, h.4) refl)
-    (or_parts (is_decimal_digit c) (is_point c) d)
+    (or_cases (is_decimal_digit c) (is_point c) d)
 
 number_class : (c : ℕ) (t : List ℕ) → (is_decimal_digit c || is_point c) ≡ true → is_number (c ∷ t) ≡ true
     → plain_class (c ∷ t) ≡ Some Number
@@ -376,7 +365,7 @@ number_head c cs e =
     (λ (d : is_decimal_digit c ≡ true). rw d refl)
     (λ (d : (is_point c && begins is_decimal_digit cs) ≡ true). let p = and_parts (is_point c) (begins is_decimal_digit cs) d in
     right (is_decimal_digit c) (is_point c) p.0)
-    (or_parts (is_decimal_digit c) (is_point c && begins is_decimal_digit cs) e)
+    (or_cases (is_decimal_digit c) (is_point c && begins is_decimal_digit cs) e)
   where
     right : (x y : Bool) → y ≡ true → (x || y) ≡ true
     right true y e = refl
@@ -392,7 +381,7 @@ number_no_operator (c ∷ d ∷ cs) (suc (suc j)) e a b =
     (λ (i : is_decimal_digit c ≡ true). no_operator c (d ∷ take j cs) (digit_heads c i))
     (λ (i : (is_point c && is_decimal_digit d) ≡ true). let p = and_parts (is_point c) (is_decimal_digit d) i in let f : c ≡ 46 =
     eqb-true c 46 p.0 in rw f (point_words d (take j cs) p.1))
-    (or_parts (is_decimal_digit c) (is_point c && is_decimal_digit d) e)
+    (or_cases (is_decimal_digit c) (is_point c && is_decimal_digit d) e)
 
 pub number_takes : (cs : List ℕ) → begins_number cs ≡ true → TakesLexeme cs (Some Number) (drop (longest is_number cs) cs)
 number_takes [] e = cc
@@ -423,12 +412,12 @@ other_class c t h n =
     let p3 = and_parts (not (starts_name c) && not (c == 35) && not (is_blank_char c)) (not (c == 10)) p2.0 in
     let p4 = and_parts (not (starts_name c) && not (c == 35)) (not (is_blank_char c)) p3.0 in
     let p5 = and_parts (not (starts_name c)) (not (c == 35)) p4.0 in
-    let e1 = not_true (starts_name c) p5.0 in
-    let e2 = not_true (c == 35) p5.1 in
-    let e3 = not_true (is_blank_char c) p4.1 in
-    let e4 = not_true (c == 10) p3.1 in
-    let e5 = not_true (c == 13) p2.1 in
-    let e6 = not_true (c == 92) p1.1 in
+    let e1 = not-true (starts_name c) p5.0 in
+    let e2 = not-true (c == 35) p5.1 in
+    let e3 = not-true (is_blank_char c) p4.1 in
+    let e4 = not-true (c == 10) p3.1 in
+    let e5 = not-true (c == 13) p2.1 in
+    let e6 = not-true (c == 92) p1.1 in
     rw (e1, n, e2, e3, e4, e5, e6) (by (exact_of (c ∷ t)))
   where
     by : (o : Option Exact) → cond (is_some o) (option_map OperatorClass o) None ≡ option_map OperatorClass o
@@ -453,7 +442,7 @@ other_only : (cs : List ℕ) → begins starts_other cs ≡ true → begins_numb
 other_only [] f n j h i = cc
 other_only (c ∷ cs) f n zero h i = absurd (omega arith)
 other_only (c ∷ cs) f n (suc j) h i =
-    let p = or_parts_false (is_decimal_digit c) (is_point c && begins is_decimal_digit cs) n in
+    let p = or_parts (is_decimal_digit c) (is_point c && begins is_decimal_digit cs) n in
     other_class c (take j cs) f (no_number c (take j cs) p.0 (point_front c cs j p.1))
 
 no_class_at : (cs : List ℕ) → BeginsOther cs → (j : ℕ) → 0 < j → j ≤ length cs → is_operator (take j cs) ≡ false
@@ -536,13 +525,13 @@ string_len cs o = same_lengths (λ t. is_some (class_in cs t)) (counts_as_string
     test true = refl
     test false = refl
 
-longest_passes : (p : List ℕ → Bool) (cs : List ℕ) (m : ℕ) → 0 < longest_within p cs m → p (take (longest_within p cs m) cs) ≡ true
+pub longest_passes : (p : List ℕ → Bool) (cs : List ℕ) (m : ℕ) → 0 < longest_within p cs m → p (take (longest_within p cs m) cs) ≡ true
 longest_passes p cs zero h = absurd (omega arith)
 longest_passes p cs (suc m) h =
     ⊎_elim
     (λ (e : p (take (suc m) cs) ≡ true). rw e e)
     (λ (e : p (take (suc m) cs) ≡ false). let i : 0 < longest_within p cs m = simp e at h in rw e (longest_passes p cs m i))
-    (bool_cases (p (take (suc m) cs)))
+    (cases_Bool (p (take (suc m) cs)))
 
 string_passes : (cs : List ℕ) → 0 < longest (counts_as_string cs) cs
     → counts_as_string cs (take (longest (counts_as_string cs) cs) cs) ≡ true
@@ -564,29 +553,6 @@ string_none cs o h =
     let l = string_len cs o ∙ h in
     record { «class» = sym (class_at cs ∙ ap (λ i. class_in cs (take i cs)) l ∙ class_none cs); rest = ap (λ i. drop i cs) (sym l) }
 
-pub opens_by : (n : ℕ) (cs : List ℕ) → Opens n cs → opens_string cs ≡ true
-unfolding opens_string
-opens_by n cs o = by n o.small o.«prefix» o.quote
-  where
-    one : (x p q : Bool) → x ≡ true → p ≡ true → ((x && p) || q) ≡ true
-    one x p q e f = rw (e, f) refl
-
-    two : (a x p q : Bool) → x ≡ true → p ≡ true → (a || ((x && p) || q)) ≡ true
-    two true x p q e f = refl
-    two false x p q e f = rw (e, f) refl
-
-    right : (x y : Bool) → y ≡ true → (x || y) ≡ true
-    right true y e = refl
-    right false y e = e
-
-    by : (n : ℕ) → n ≤ 2 → is_prefix (take n cs) ≡ true → begins_quote (drop n cs) ≡ true
-        → (list_any (λ n. is_prefix (take n cs) && begins_quote (drop n cs)) (0 ∷ 1 ∷ 2 ∷ [])) ≡ true
-    by zero h e f = one (is_prefix (take 0 cs)) (begins_quote (drop 0 cs)) _ e f
-    by (suc zero) h e f = two (is_prefix (take 0 cs) && begins_quote (drop 0 cs)) (is_prefix (take 1 cs)) (begins_quote (drop 1 cs)) _ e f
-    by (suc (suc zero)) h e f = right (is_prefix (take 0 cs) && begins_quote (drop 0 cs)) _
-        (two (is_prefix (take 1 cs) && begins_quote (drop 1 cs)) (is_prefix (take 2 cs)) (begins_quote (drop 2 cs)) _ e f)
-    by (suc (suc (suc n))) h e f = absurd (omega arith)
-
 -- The first character
 pub begins_by : (p : ℕ → Bool) (cs : List ℕ) (c : ℕ) → slice_get cs 0 ≡ Some c → p c ≡ true → begins p cs ≡ true
 begins_by p [] c e h = cc
@@ -607,7 +573,7 @@ letter_starts k h a c e = let f : c ≡ k = eqb-true c k e in rw f (let g = is_x
 
 two_start : (k l : ℕ) → k < 128 → l < 128 → is_ascii_alphabetic k ≡ true → is_ascii_alphabetic l ≡ true → (c : ℕ)
     → ((c == k) || (c == l)) ≡ true → starts_name c ≡ true
-two_start k l h i a b c e = ⊎_elim (letter_starts k h a c) (letter_starts l i b c) (or_parts (c == k) (c == l) e)
+two_start k l h i a b c e = ⊎_elim (letter_starts k h a c) (letter_starts l i b c) (or_cases (c == k) (c == l) e)
 
 pub prefix_starts : (cs : List ℕ) → begins is_prefix_letter cs ≡ true → begins starts_name cs ≡ true
 prefix_starts [] e = cc
@@ -621,9 +587,9 @@ prefix_starts (c ∷ cs) e =
     ⊎_elim
     (two_start 98 66 (omega arith) (omega arith) refl refl c)
     (two_start 102 70 (omega arith) (omega arith) refl refl c)
-    (or_parts ((c == 98) || (c == 66)) ((c == 102) || (c == 70)) g))
-    (or_parts ((c == 117) || (c == 85)) (is_b_or_f c) f))
-    (or_parts (is_r c) (((c == 117) || (c == 85)) || is_b_or_f c) e)
+    (or_cases ((c == 98) || (c == 66)) ((c == 102) || (c == 70)) g))
+    (or_cases ((c == 117) || (c == 85)) (is_b_or_f c) f))
+    (or_cases (is_r c) (((c == 117) || (c == 85)) || is_b_or_f c) e)
 
 -- what a reader says of a length
 pub some_len : (n : ℕ) → true ≡ ltb 0 n → 0 < n

@@ -5,23 +5,23 @@ use Rattle.std.proofs.Common.{◌≡◌, ℕ, ◌+◌, ◌<◌, Bool, true, fals
 use Rattle.std.proofs.Common.{subst, arith, zero, suc, ⊎_elim, ltb, if◌then◌else◌}
 use Rattle.std.specs.List.{list_all}
 use Rattle.std.proofs.lemmas.Bool.Decides.{nat_tests}
+use Rattle.std.proofs.lemmas.Bool.{cases_Bool, and_parts, or_cases}
 use Rattle.pylex_lexeme.specs.Chars.{begins}
 use Rattle.pylex_lexeme.specs.Numbers.{is_nil, split_any, optional, headed, is_digit_part, is_exponent, is_decimal_digit, is_zero, is_point}
 use Rattle.pylex_lexeme.specs.Numbers.{is_e, is_j, is_x, is_o, is_b, is_radix, is_decimal, is_point_after, is_point_before, is_raised}
 use Rattle.pylex_lexeme.specs.Numbers.{is_float, is_imaginary, is_number}
 use Rattle.pylex_lexeme.specs.Lengths.{longest, joined_len, radix_len, digit_part_len, exponent_len, point_len, j_len, fraction_len}
 use Rattle.pylex_lexeme.specs.Lengths.{tail_len, plain_len, number_len, begins_number}
-use Rattle.pylex_lexeme.proofs.Cases.{and_parts, bool_cases}
 use Rattle.pylex_lexeme.proofs.Fronts.Longest.{IsBest, longest_within_is}
 use Rattle.pylex_lexeme.proofs.Fronts.Joined.{len_digit, stop_first}
-use Rattle.pylex_lexeme.proofs.Fronts.Best.{NoFront, Above, Reads, or_parts, then_best, then_none, first_none, optional_best, headed_best}
-use Rattle.pylex_lexeme.proofs.Fronts.Best.{headed_none, headed_nil, headed_starts, or_left, or_right, or_none, or_above, none_above}
+use Rattle.pylex_lexeme.proofs.Fronts.Best.{NoFront, Above, Reads, then_best, then_none, first_none, optional_best, headed_best}
+use Rattle.pylex_lexeme.proofs.Fronts.Best.{headed_starts, or_left, or_right, or_none, or_above, none_above}
 use Rattle.pylex_lexeme.proofs.Fronts.Best.{best_above, split_all}
 use Rattle.pylex_lexeme.proofs.Numbers.NumberSets.{in_run, not_j, run_not_point, digit_not_point, digit_not_j, either, either_not}
 use Rattle.pylex_lexeme.proofs.Numbers.NumberSets.{zero_digit, point_is}
 use Rattle.pylex_lexeme.proofs.Numbers.Parts.{ReadsAfter, then_reads, reads_best, part_best, part_none, part_all, part_run, exponent_reads}
 use Rattle.pylex_lexeme.proofs.Numbers.Parts.{exponent_starts, j_reads, j_starts, after_point, radix_reads, decimal_part, zeros_best}
-use Rattle.pylex_lexeme.proofs.Numbers.Parts.{whole_best}
+use Rattle.pylex_lexeme.proofs.Numbers.Parts.{whole_best, begins_not, headed_part}
 use Rattle.pylex_lexeme.proofs.Fronts.Taking.{drop_drop, point_none, exponent_none, j_none, radix_none, radix_other, tail_is}
 
 -- Floats hold no j
@@ -47,7 +47,7 @@ exponent_no_j t e =
     (λ (h : headed is_e (headed (λ c. (c == 43) || (c == 45)) is_digit_part) t ≡ true).
     headed_all not_j is_e (headed (λ c. (c == 43) || (c == 45)) is_digit_part) (λ c i. either not_j 101 69 c i refl refl)
     (λ u i. headed_all not_j (λ c. (c == 43) || (c == 45)) is_digit_part (λ c k. either not_j 43 45 c k refl refl) part_no_j u i) t h)
-    (or_parts (headed is_e is_digit_part t) (headed is_e (headed (λ c. (c == 43) || (c == 45)) is_digit_part) t) e)
+    (or_cases (headed is_e is_digit_part t) (headed is_e (headed (λ c. (c == 43) || (c == 45)) is_digit_part) t) e)
 
 point_no_j : (c : ℕ) → is_point c ≡ true → not_j c ≡ true
 point_no_j c e = let z : c ≡ 46 = point_is c e in rw z refl
@@ -70,16 +70,16 @@ float_no_j t e =
     (λ (i : is_point_before t ≡ true).
     headed_all not_j is_point (split_any is_digit_part (optional is_exponent)) point_no_j
     (then_no_j is_digit_part (optional is_exponent) part_no_j (optional_all not_j is_exponent exponent_no_j)) t i)
-    (or_parts (is_point_after t) (is_point_before t) h))
+    (or_cases (is_point_after t) (is_point_before t) h))
     (λ (h : is_raised t ≡ true). then_no_j is_digit_part is_exponent part_no_j exponent_no_j t h)
-    (or_parts (is_point_after t || is_point_before t) (is_raised t) e)
+    (or_cases (is_point_after t || is_point_before t) (is_raised t) e)
 
 -- A digitpart or a float
 abbrev pub is_real : List ℕ → Bool
 is_real t = is_digit_part t || is_float t
 
 real_no_j : (t : List ℕ) → is_real t ≡ true → list_all not_j t ≡ true
-real_no_j t e = ⊎_elim (part_no_j t) (float_no_j t) (or_parts (is_digit_part t) (is_float t) e)
+real_no_j t e = ⊎_elim (part_no_j t) (float_no_j t) (or_cases (is_digit_part t) (is_float t) e)
 
 -- a point, digits and an exponent
 pub point_fraction : (c : ℕ) (cs : List ℕ) → is_point c ≡ true
@@ -107,18 +107,10 @@ after_reads (c ∷ cs) e =
     (headed_best is_point (split_any (optional is_digit_part) (optional is_exponent)) c cs
     (digit_part_len cs + exponent_len (drop (digit_part_len cs) cs)) e (after_point cs))
 
-headed_off : (f : ℕ → Bool) (p : List ℕ → Bool) (cs : List ℕ) → begins f cs ≡ false → NoFront (headed f p) cs
-headed_off f p [] e = headed_nil f p
-headed_off f p (c ∷ cs) e = headed_none f p c cs e
-
-begins_off : (f g : ℕ → Bool) (cs : List ℕ) → ((c : ℕ) → f c ≡ true → g c ≡ false) → begins f cs ≡ true → begins g cs ≡ false
-begins_off f g [] h e = refl
-begins_off f g (c ∷ cs) h e = h c e
-
 exponent_off : (cs : List ℕ) → begins is_e cs ≡ false → NoFront is_exponent cs
 unfolding is_exponent
 exponent_off cs e = or_none (headed is_e is_digit_part) (headed is_e (headed (λ c. (c == 43) || (c == 45)) is_digit_part)) cs
-    (headed_off is_e is_digit_part cs e) (headed_off is_e (headed (λ c. (c == 43) || (c == 45)) is_digit_part) cs e)
+    (headed_part is_e is_digit_part cs e) (headed_part is_e (headed (λ c. (c == 43) || (c == 45)) is_digit_part) cs e)
 
 point_not_e : (c : ℕ) → is_point c ≡ true → is_e c ≡ false
 point_not_e c e = let z : c ≡ 46 = point_is c e in rw z refl
@@ -146,16 +138,16 @@ float_reads cs e =
     (then_reads is_digit_part (headed is_point (split_any (optional is_digit_part) (optional is_exponent))) in_run cs m (fraction_len r) b a
     (headed_starts in_run is_point (split_any (optional is_digit_part) (optional is_exponent)) run_not_point) (after_reads r h))
     p
-    (then_none is_digit_part is_exponent in_run cs m b a exponent_starts (exponent_off r (begins_off is_point is_e r point_not_e h))))
+    (then_none is_digit_part is_exponent in_run cs m b a exponent_starts (exponent_off r (begins_not is_point is_e r point_not_e h))))
     (λ (h : begins is_point r ≡ false).
     rw (other_fraction r h)
     (float_raised is_point_after is_point_before is_raised cs m (exponent_len r)
     (then_none is_digit_part (headed is_point (split_any (optional is_digit_part) (optional is_exponent))) in_run cs m b a
     (headed_starts in_run is_point (split_any (optional is_digit_part) (optional is_exponent)) run_not_point)
-    (headed_off is_point (split_any (optional is_digit_part) (optional is_exponent)) r h))
+    (headed_part is_point (split_any (optional is_digit_part) (optional is_exponent)) r h))
     p
     (then_reads is_digit_part is_exponent in_run cs m (exponent_len r) b a exponent_starts (exponent_reads r))))
-    (bool_cases (begins is_point r))
+    (cases_Bool (begins is_point r))
   where
     m : ℕ
     m = joined_len is_decimal_digit cs
@@ -170,7 +162,7 @@ float_reads cs e =
     a = part_run (take (joined_len is_decimal_digit cs) cs) (part_best cs e).passes
 
     p : NoFront is_point_before cs
-    p = headed_off is_point (split_any is_digit_part (optional is_exponent)) cs (begins_off is_decimal_digit is_point cs digit_not_point e)
+    p = headed_part is_point (split_any is_digit_part (optional is_exponent)) cs (begins_not is_decimal_digit is_point cs digit_not_point e)
 
 -- the float that begins with a point
 pub point_float : (c : ℕ) (cs : List ℕ) → is_point c ≡ true → begins is_decimal_digit cs ≡ true
@@ -212,7 +204,7 @@ decimal_above cs k f j h i =
     ⊎_elim
     (λ (e : is_decimal (take j cs) ≡ true). let a = decimal_part (take j cs) e in let b = f j h i in cc)
     (λ (e : is_decimal (take j cs) ≡ false). e)
-    (bool_cases (is_decimal (take j cs)))
+    (cases_Bool (is_decimal (take j cs)))
 
 part_above : (cs : List ℕ) (k : ℕ) → IsBest is_real cs k → Above is_digit_part cs k
 part_above cs k b j h i = (or_false (is_digit_part (take j cs)) (is_float (take j cs)) (b.longest j h i)).0
@@ -287,7 +279,7 @@ whole_number cs k zero d e b f r =
     ⊎_elim
     (λ (z : begins is_zero cs ≡ true). rw z (only_decimal cs k (joined_len is_zero cs) (zeros_best cs z) f r i))
     (λ (z : begins is_zero cs ≡ false). rw z (only_decimal cs k (joined_len is_decimal_digit cs) (whole_best cs d z) f r i))
-    (bool_cases (begins is_zero cs))
+    (cases_Bool (begins is_zero cs))
 whole_number cs k (suc n) d e b f r =
     let i : ReadsAfter is_imaginary cs k (suc n) = subst (ReadsAfter is_imaginary cs k) (sym e) (imaginary_reads cs k b) in
     with_j cs k n b r i
@@ -371,9 +363,9 @@ plain_radix z c cs n e h =
     (λ (g : is_o c ≡ false).
     ⊎_elim (plain_b c)
     (λ (i : is_b c ≡ false). let y = radix_other (z ∷ c ∷ cs) e f g i in absurd (omega (arith, y, h)))
-    (bool_cases (is_b c)))
-    (bool_cases (is_o c)))
-    (bool_cases (is_x c))
+    (cases_Bool (is_b c)))
+    (cases_Bool (is_o c)))
+    (cases_Bool (is_x c))
 
 radix_number : (z c : ℕ) (cs : List ℕ) (n : ℕ) → is_zero z ≡ true → Plain c → IsBest is_radix (z ∷ c ∷ cs) (suc n)
     → IsBest is_number (z ∷ c ∷ cs) (suc n)
@@ -403,7 +395,7 @@ at_digit [] (suc n) e r d = cc
 at_digit (z ∷ cs) (suc n) e r d =
     ⊎_elim (at_zero z cs r (sym e))
     (λ (f : is_zero z ≡ false). let y = radix_none (z ∷ cs) f in absurd (omega (arith, y, e)))
-    (bool_cases (is_zero z))
+    (cases_Bool (is_zero z))
   where
     at_zero : (z : ℕ) (cs : List ℕ) → IsBest is_radix (z ∷ cs) (suc n) → radix_len (z ∷ cs) ≡ suc n → is_zero z ≡ true
         → IsBest is_number (z ∷ cs) (number_len (z ∷ cs))
@@ -439,7 +431,7 @@ number_best (c ∷ cs) e =
     (λ (d : is_decimal_digit c ≡ true). at_digit (c ∷ cs) (radix_len (c ∷ cs)) refl (radix_reads (c ∷ cs)) d)
     (λ (h : (is_point c && begins is_decimal_digit cs) ≡ true). let p = and_parts (is_point c) (begins is_decimal_digit cs)
     h in at_point c cs p.0 p.1)
-    (or_parts (is_decimal_digit c) (is_point c && begins is_decimal_digit cs) e)
+    (or_cases (is_decimal_digit c) (is_point c && begins is_decimal_digit cs) e)
 
 pub longest_is : (p : List ℕ → Bool) (cs : List ℕ) (n : ℕ) → IsBest p cs n → longest p cs ≡ n
 unfolding longest

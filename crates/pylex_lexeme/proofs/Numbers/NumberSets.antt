@@ -2,11 +2,9 @@
 --
 -- Carries: in_run, not_j, either_not, zero_digit and 10 more, for NumberBest, Parts. On: Best.
 use Rattle.std.proofs.Common.{◌≡◌, ℕ, ◌≤◌, Bool, true, false, ◌||◌, ◌==◌, not, refl, arith, leb, ⊎_elim}
-use Rattle.std.proofs.lemmas.Bool.{eqb-true, leb-true}
+use Rattle.std.proofs.lemmas.Bool.{eqb-true, leb-true, and_parts, or_cases}
 use Rattle.std.proofs.lemmas.Bool.Decides.{nat_tests}
 use Rattle.pylex_lexeme.specs.Numbers.{is_decimal_digit, is_zero, is_one_to_nine, is_point, is_e, is_j, is_sign}
-use Rattle.pylex_lexeme.proofs.Cases.{and_parts}
-use Rattle.pylex_lexeme.proofs.Fronts.Best.{or_parts}
 
 abbrev pub in_run : ℕ → Bool
 in_run c = is_decimal_digit c || (c == 95)
@@ -33,7 +31,7 @@ run_cases : (f : ℕ → Bool) (c : ℕ) → in_run c ≡ true → (is_decimal_d
 run_cases f c e g h =
     ⊎_elim g
     (λ (i : (c == 95) ≡ true). let z : c ≡ 95 = eqb-true c 95 i in rw z h)
-    (or_parts (is_decimal_digit c) (c == 95) e)
+    (or_cases (is_decimal_digit c) (c == 95) e)
 
 pub run_not_point : (c : ℕ) → in_run c ≡ true → is_point c ≡ false
 run_not_point c e = run_cases is_point c e (digit_not_point c) refl
@@ -49,14 +47,14 @@ either f a b c e g h =
     ⊎_elim
     (λ (i : (c == a) ≡ true). let z : c ≡ a = eqb-true c a i in rw z g)
     (λ (i : (c == b) ≡ true). let z : c ≡ b = eqb-true c b i in rw z h)
-    (or_parts (c == a) (c == b) e)
+    (or_cases (c == a) (c == b) e)
 
 pub either_not : (f : ℕ → Bool) (a b c : ℕ) → ((c == a) || (c == b)) ≡ true → f a ≡ false → f b ≡ false → f c ≡ false
 either_not f a b c e g h =
     ⊎_elim
     (λ (i : (c == a) ≡ true). let z : c ≡ a = eqb-true c a i in rw z g)
     (λ (i : (c == b) ≡ true). let z : c ≡ b = eqb-true c b i in rw z h)
-    (or_parts (c == a) (c == b) e)
+    (or_cases (c == a) (c == b) e)
 
 pub zero_digit : (c : ℕ) → is_zero c ≡ true → is_decimal_digit c ≡ true
 zero_digit c e = let z : c ≡ 48 = eqb-true c 48 e in rw z refl

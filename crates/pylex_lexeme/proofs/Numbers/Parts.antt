@@ -5,15 +5,15 @@
 use Rattle.std.proofs.Common.{◌≡◌, ℕ, ◌+◌, ◌≤◌, ◌<◌, Bool, true, false, ◌&&◌, ◌||◌, List, [], ◌∷◌, length, drop, take, refl, ◌∙◌, arith}
 use Rattle.std.proofs.Common.{zero, suc, ⊎_elim}
 use Rattle.std.specs.List.{list_all}
+use Rattle.std.proofs.lemmas.Bool.{cases_Bool, and_parts, or_cases}
 use Rattle.pylex_lexeme.specs.Chars.{begins}
 use Rattle.pylex_lexeme.specs.Numbers.{is_nil, split_any, optional, headed, are_joined, are_some, is_digit_part, is_exponent}
 use Rattle.pylex_lexeme.specs.Numbers.{is_decimal_digit, is_zero, is_one_to_nine, is_hex_digit, is_octal_digit, is_binary_digit, is_e, is_j}
 use Rattle.pylex_lexeme.specs.Numbers.{is_x, is_o, is_b, is_sign, is_radix, is_decimal}
 use Rattle.pylex_lexeme.specs.Lengths.{joined_len, begins_some, based_len, radix_len, digit_part_len, exponent_len, j_len}
-use Rattle.pylex_lexeme.proofs.Cases.{and_parts, bool_cases}
 use Rattle.pylex_lexeme.proofs.Fronts.Longest.{IsBest}
 use Rattle.pylex_lexeme.proofs.Fronts.Joined.{joined_best, joined_all, joined_subset, len_digit, some_best, some_none}
-use Rattle.pylex_lexeme.proofs.Fronts.Best.{NoFront, Reads, Starts, or_parts, then_best, then_none, optional_best, headed_best, headed_none}
+use Rattle.pylex_lexeme.proofs.Fronts.Best.{NoFront, Reads, Starts, then_best, then_none, optional_best, headed_best, headed_none}
 use Rattle.pylex_lexeme.proofs.Fronts.Best.{headed_rest, headed_nil, or_left, or_right, or_none, none_above}
 use Rattle.pylex_lexeme.proofs.Numbers.NumberSets.{in_run, not_j, run_not_e, digit_not_sign, either_not, zero_digit, one_digit, other_digit}
 use Rattle.pylex_lexeme.proofs.Numbers.NumberSets.{not_both}
@@ -56,7 +56,7 @@ part_reads (c ∷ cs) =
     (rw (len_digit is_decimal_digit c cs e) (headed_best is_decimal_digit (are_joined is_decimal_digit) c cs
     (joined_len is_decimal_digit cs) e (joined_best is_decimal_digit cs))))
     (λ (e : is_decimal_digit c ≡ false). rw e (headed_none is_decimal_digit (are_joined is_decimal_digit) c cs e))
-    (bool_cases (is_decimal_digit c))
+    (cases_Bool (is_decimal_digit c))
 
 pub part_all : (a : ℕ → Bool) → ((c : ℕ) → is_decimal_digit c ≡ true → a c ≡ true) → a 95 ≡ true → (t : List ℕ)
     → is_digit_part t ≡ true → list_all a t ≡ true
@@ -73,11 +73,11 @@ pub part_run : (t : List ℕ) → is_digit_part t ≡ true → list_all in_run t
 part_run t e = part_all in_run in_run_digit refl t e
 
 -- Exponents
-begins_not : (f g : ℕ → Bool) (cs : List ℕ) → ((c : ℕ) → f c ≡ true → g c ≡ false) → begins f cs ≡ true → begins g cs ≡ false
+pub begins_not : (f g : ℕ → Bool) (cs : List ℕ) → ((c : ℕ) → f c ≡ true → g c ≡ false) → begins f cs ≡ true → begins g cs ≡ false
 begins_not f g [] h e = refl
 begins_not f g (c ∷ cs) h e = h c e
 
-headed_part : (f : ℕ → Bool) (p : List ℕ → Bool) (cs : List ℕ) → begins f cs ≡ false → NoFront (headed f p) cs
+pub headed_part : (f : ℕ → Bool) (p : List ℕ → Bool) (cs : List ℕ) → begins f cs ≡ false → NoFront (headed f p) cs
 headed_part f p [] e = headed_nil f p
 headed_part f p (c ∷ cs) e = headed_none f p c cs e
 
@@ -91,7 +91,7 @@ exponent_reads (c ∷ cs) =
     (λ (e : is_e c ≡ false). reads_none is_exponent (c ∷ cs) (exponent_len (c ∷ cs)) (exponent_none (c ∷ cs) e)
     (or_none (headed is_e is_digit_part) (headed is_e (headed is_sign is_digit_part)) (c ∷ cs) (headed_none is_e is_digit_part c cs e)
     (headed_none is_e (headed is_sign is_digit_part) c cs e)))
-    (bool_cases (is_e c))
+    (cases_Bool (is_e c))
   where
     signed : (c s : ℕ) (cs : List ℕ) → is_e c ≡ true → is_decimal_digit s ≡ false → is_sign s ≡ true → begins is_decimal_digit cs ≡ true
         → Reads is_exponent (c ∷ s ∷ cs) (exponent_len (c ∷ s ∷ cs))
@@ -121,10 +121,10 @@ exponent_reads (c ∷ cs) =
         (λ (h : begins is_decimal_digit cs ≡ true). signed c s cs e d g h)
         (λ (h : begins is_decimal_digit cs ≡ false). nothing c (s ∷ cs) (exponent_empty (c ∷ s ∷ cs) e d g h) (part_none (s ∷ cs) d)
         (headed_rest is_sign is_digit_part s cs (part_none cs h)))
-        (bool_cases (begins is_decimal_digit cs)))
+        (cases_Bool (begins is_decimal_digit cs)))
         (λ (g : is_sign s ≡ false). nothing c (s ∷ cs) (exponent_unsigned (c ∷ s ∷ cs) e d g) (part_none (s ∷ cs) d)
         (headed_none is_sign is_digit_part s cs g))
-        (bool_cases (is_sign s))
+        (cases_Bool (is_sign s))
 
     digits : (c : ℕ) (cs : List ℕ) → is_e c ≡ true → begins is_decimal_digit cs ≡ true → Reads is_exponent (c ∷ cs) (exponent_len (c ∷ cs))
     digits c cs e h =
@@ -136,7 +136,7 @@ exponent_reads (c ∷ cs) =
         (headed_part is_sign is_digit_part cs (begins_not is_decimal_digit is_sign cs digit_not_sign h)))))
 
     with_e : (c : ℕ) (cs : List ℕ) → is_e c ≡ true → Reads is_exponent (c ∷ cs) (exponent_len (c ∷ cs))
-    with_e c cs e = ⊎_elim (digits c cs e) (unsigned c cs e) (bool_cases (begins is_decimal_digit cs))
+    with_e c cs e = ⊎_elim (digits c cs e) (unsigned c cs e) (cases_Bool (begins is_decimal_digit cs))
 
 pub exponent_starts : Starts in_run is_exponent
 unfolding is_exponent
@@ -158,11 +158,11 @@ j_reads (c ∷ cs) =
     (λ (e : is_j c ≡ true). reads_best (headed is_j is_nil) (c ∷ cs) (j_len (c ∷ cs)) 0 (j_some (c ∷ cs) e)
     (headed_best is_j is_nil c cs 0 e (nil_best cs)))
     (λ (e : is_j c ≡ false). reads_none (headed is_j is_nil) (c ∷ cs) (j_len (c ∷ cs)) (j_none (c ∷ cs) e) (headed_none is_j is_nil c cs e))
-    (bool_cases (is_j c))
+    (cases_Bool (is_j c))
 
 pub j_starts : Starts not_j (headed is_j is_nil)
 j_starts c t e = ⊎_elim (λ (h : is_j c ≡ true). let i : false ≡ true = simp h at e in cc)
-    (λ (h : is_j c ≡ false). rw h refl) (bool_cases (is_j c))
+    (λ (h : is_j c ≡ false). rw h refl) (cases_Bool (is_j c))
 
 -- What follows a point
 pub after_point : (cs : List ℕ) → IsBest (split_any (optional is_digit_part) (optional is_exponent)) cs
@@ -191,7 +191,7 @@ based_reads f d z c cs e g =
     (λ (h : begins_some d cs ≡ false).
     reads_none (headed is_zero (headed f (are_some d))) (z ∷ c ∷ cs) (based_len d cs) (based_none d cs h)
     (headed_rest is_zero (headed f (are_some d)) z (c ∷ cs) (headed_rest f (are_some d) c cs (some_none d cs h))))
-    (bool_cases (begins_some d cs))
+    (cases_Bool (begins_some d cs))
 
 -- the first of three alone
 reads_first : (p q r : List ℕ → Bool) (cs : List ℕ) (n : ℕ) → Reads p cs n → NoFront q cs → NoFront r cs
@@ -237,7 +237,7 @@ radix_reads (z ∷ cs) =
     ⊎_elim (with_zero z cs)
     (λ (e : is_zero z ≡ false). all_none (z ∷ cs) (headed_none is_zero _ z cs e) (headed_none is_zero _ z cs e)
     (headed_none is_zero _ z cs e) (radix_none (z ∷ cs) e))
-    (bool_cases (is_zero z))
+    (cases_Bool (is_zero z))
   where
     with_zero : (z : ℕ) (cs : List ℕ) → is_zero z ≡ true → Reads is_radix (z ∷ cs) (radix_len (z ∷ cs))
     with_zero z [] e = all_none (z ∷ []) (short_none is_x _ z) (short_none is_o _ z) (short_none is_b _ z)
@@ -261,9 +261,9 @@ radix_reads (z ∷ cs) =
         (letter_none is_x _ z c cs f) (letter_none is_o _ z c cs g) (based_reads is_b is_binary_digit z c cs e h)))
         (λ (h : is_b c ≡ false). all_none (z ∷ c ∷ cs) (letter_none is_x _ z c cs f) (letter_none is_o _ z c cs g)
         (letter_none is_b _ z c cs h) (radix_other (z ∷ c ∷ cs) e f g h))
-        (bool_cases (is_b c)))
-        (bool_cases (is_o c)))
-        (bool_cases (is_x c))
+        (cases_Bool (is_b c)))
+        (cases_Bool (is_o c)))
+        (cases_Bool (is_x c))
 
 -- Decimal numbers
 pub decimal_part : (t : List ℕ) → is_decimal t ≡ true → is_digit_part t ≡ true
@@ -280,7 +280,7 @@ decimal_part (c ∷ t) e =
     let p = and_parts (is_one_to_nine c) (are_joined is_decimal_digit t) h in
     let g : is_decimal_digit c ≡ true = one_digit c p.0 in
     rw (g, p.1) refl)
-    (or_parts (is_zero c && are_joined is_zero t) (is_one_to_nine c && are_joined is_decimal_digit t) e)
+    (or_cases (is_zero c && are_joined is_zero t) (is_one_to_nine c && are_joined is_decimal_digit t) e)
 
 pub zeros_best : (cs : List ℕ) → begins is_zero cs ≡ true → IsBest is_decimal cs (joined_len is_zero cs)
 unfolding is_decimal

@@ -6,28 +6,20 @@ use Rattle.std.proofs.Common.{◌≡◌, ℕ, Bool, true, false, ◌&&◌, ◌||
 use Rattle.std.proofs.Common.{if◌then◌else◌, Option, Some, None, is_some}
 use Rattle.std.specs.Prelude.{IfSome, IfNone}
 use Rattle.std.specs.Str.{bytes_eq}
+use Rattle.std.proofs.lemmas.Bool.{not-true, cases_Bool, and_parts, and_right, or_right}
 use Rattle.pylex_lexeme.specs.Chars.{begins, is_comment_part}
 use Rattle.pylex_lexeme.specs.Strings.{units, is_unit, no_units, is_prefix, begins_quote, begins_three, after_prefix, opens_string}
 use Rattle.pylex_lexeme.specs.Strings.{opens_triple}
 use Rattle.pylex_lexeme.specs.Lexemes.{is_line_end, is_join, ends_by_join, is_joined, is_open_string}
 use Rattle.pylex_lexeme.specs.Lengths.{unit_len, Opens, begins_quotes, begins_join}
-use Rattle.pylex_lexeme.proofs.Cases.{and_parts, bool_cases}
-use Rattle.pylex_lexeme.proofs.Fronts.Best.{Starts, and_false}
+use Rattle.pylex_lexeme.proofs.Fronts.Best.{Starts}
 use Rattle.pylex_lexeme.proofs.Strings.Units.{units_plain, nil_units, unit_one, unit_slash, IsQuote}
 use Rattle.pylex_lexeme.proofs.Strings.StringBest.{not_quote, Which, one, two, three_starts}
 use Rattle.pylex_lexeme.proofs.Strings.StringLongest.{at_prefix, string_opens, triple_opens, quotes_three, head_is}
 
-flip : (b : Bool) → not b ≡ true → b ≡ false
-flip true e = cc
-flip false e = refl
-
 or_false : (b : Bool) → (b || false) ≡ b
 or_false true = refl
 or_false false = refl
-
-or_true : (a b : Bool) → b ≡ true → (a || b) ≡ true
-or_true true b e = refl
-or_true false b e = e
 
 -- The first unit of a text, and those behind it.
 units_step : (a : ℕ) (t : List ℕ) → units (a ∷ t) ≡ take (unit_len (a ∷ t)) (a ∷ t) ∷ units (drop (unit_len (a ∷ t)) (a ∷ t))
@@ -35,17 +27,17 @@ unfolding unit_len
 units_step a t =
     ⊎_elim (at_slash a t)
     (λ (h : (a == 92) ≡ false). rw (units_plain a t h, h) refl)
-    (bool_cases (a == 92))
+    (cases_Bool (a == 92))
   where
     at_slash : (a : ℕ) (t : List ℕ) → (a == 92) ≡ true → units (a ∷ t) ≡ take (unit_len (a ∷ t)) (a ∷ t) ∷ units
         (drop (unit_len (a ∷ t)) (a ∷ t))
     at_slash a [] h = rw h refl
-    at_slash a (b ∷ []) h = rw (h, and_false (b == 13) false refl) refl
+    at_slash a (b ∷ []) h = rw (h, and_right (b == 13) false refl) refl
     at_slash a (b ∷ c ∷ s) h =
         ⊎_elim
         (λ (n : ((b == 13) && (c == 10)) ≡ true). rw (h, n) refl)
         (λ (n : ((b == 13) && (c == 10)) ≡ false). rw (h, n) refl)
-        (bool_cases ((b == 13) && (c == 10)))
+        (cases_Bool ((b == 13) && (c == 10)))
 
 first_unit_not : (q a : ℕ) (t : List ℕ) → (92 == q) ≡ false → (a == q) ≡ false → is_unit q (take (unit_len (a ∷ t)) (a ∷ t)) ≡ false
 unfolding unit_len
@@ -55,38 +47,38 @@ first_unit_not q a t k e =
     ⊎_elim
     (λ (n : (begins (λ c. c == 13) t && begins (λ c. c == 10) (drop 1 t)) ≡ true). rw (h, n) (unit_slash q a (take 2 t) k h))
     (λ (n : (begins (λ c. c == 13) t && begins (λ c. c == 10) (drop 1 t)) ≡ false). rw (h, n) (unit_slash q a (take 1 t) k h))
-    (bool_cases (begins (λ c. c == 13) t && begins (λ c. c == 10) (drop 1 t))))
+    (cases_Bool (begins (λ c. c == 13) t && begins (λ c. c == 10) (drop 1 t))))
     (λ (h : (a == 92) ≡ false). rw h (unit_one q a ∙ e))
-    (bool_cases (a == 92))
+    (cases_Bool (a == 92))
 
 end_one : (b : ℕ) → is_line_end (b ∷ []) ≡ (b == 10)
 unfolding is_line_end
 end_one b =
     ⊎_elim (λ (h : (b == 10) ≡ true). rw h refl)
     (λ (h : (b == 10) ≡ false). ⊎_elim (λ (g : (b == 13) ≡ true). rw (h, g) refl)
-    (λ (g : (b == 13) ≡ false). rw (h, g) refl) (bool_cases (b == 13)))
-    (bool_cases (b == 10))
+    (λ (g : (b == 13) ≡ false). rw (h, g) refl) (cases_Bool (b == 13)))
+    (cases_Bool (b == 10))
 
 end_two : (b c : ℕ) → ((b == 13) && (c == 10)) ≡ true → is_line_end (b ∷ c ∷ []) ≡ true
 unfolding is_line_end
 end_two b c e = let p = and_parts (b == 13) (c == 10) e in
-    or_true (bytes_eq (b ∷ c ∷ []) (10 ∷ [])) (bytes_eq (b ∷ c ∷ []) (13 ∷ 10 ∷ [])) (rw (p.0, p.1) refl)
+    or_right (bytes_eq (b ∷ c ∷ []) (10 ∷ [])) (bytes_eq (b ∷ c ∷ []) (13 ∷ 10 ∷ [])) (rw (p.0, p.1) refl)
 
 first_unit_joins : (a : ℕ) (t : List ℕ) → is_join (take (unit_len (a ∷ t)) (a ∷ t)) ≡ begins_join (a ∷ t)
 unfolding unit_len is_join is_line_end
 first_unit_joins a t =
     ⊎_elim (at_slash a t)
     (λ (h : (a == 92) ≡ false). rw h (rw h refl))
-    (bool_cases (a == 92))
+    (cases_Bool (a == 92))
   where
     at_slash : (a : ℕ) (t : List ℕ) → (a == 92) ≡ true → is_join (take (unit_len (a ∷ t)) (a ∷ t)) ≡ begins_join (a ∷ t)
     at_slash a [] h = rw h (rw h refl)
-    at_slash a (b ∷ []) h = rw (h, and_false (b == 13) false refl) (rw h (end_one b ∙ sym (or_false (b == 10))))
+    at_slash a (b ∷ []) h = rw (h, and_right (b == 13) false refl) (rw h (end_one b ∙ sym (or_false (b == 10))))
     at_slash a (b ∷ c ∷ s) h =
         ⊎_elim
-        (λ (n : ((b == 13) && (c == 10)) ≡ true). rw (h, n) (rw h (end_two b c n ∙ sym (or_true (b == 10) true refl))))
+        (λ (n : ((b == 13) && (c == 10)) ≡ true). rw (h, n) (rw h (end_two b c n ∙ sym (or_right (b == 10) true refl))))
         (λ (n : ((b == 13) && (c == 10)) ≡ false). rw (h, n) (rw h (end_one b ∙ sym (or_false (b == 10)))))
-        (bool_cases ((b == 13) && (c == 10)))
+        (cases_Bool ((b == 13) && (c == 10)))
 
 no_units_end : (t : List ℕ) → no_units (units t) ≡ not (begins (λ c. true) t)
 no_units_end [] = refl
@@ -100,8 +92,8 @@ step q [] k e f = cc
 step q (a ∷ t) k e f =
     let p = and_parts (not (a == 10)) (not (a == 13)) f in
     let x = first_unit_not q a t k.slash e in
-    let y = first_unit_not 13 a t refl (flip (a == 13) p.1) in
-    let z = first_unit_not 10 a t refl (flip (a == 10) p.0) in
+    let y = first_unit_not 13 a t refl (not-true (a == 13) p.1) in
+    let z = first_unit_not 10 a t refl (not-true (a == 10) p.0) in
     let j = first_unit_joins a t in
     let n = no_units_end (drop (unit_len (a ∷ t)) (a ∷ t)) in
     ap (ends_by_join q) (units_step a t) ∙ rw (x, y, z, j, n) refl
@@ -120,7 +112,7 @@ opens_by None cs s n = sym n
 opens_by (Some k) cs s n = sym (string_opens k cs s)
 
 joined_starts : Starts not_quote is_joined
-joined_starts c t e = let p = flip ((c == 39) || (c == 34)) e in rw p refl
+joined_starts c t e = let p = not-true ((c == 39) || (c == 34)) e in rw p refl
 
 pub open_behind : (q n : ℕ) (cs r : List ℕ) → Which q → Opens n cs → r ≡ drop n cs → begins (λ c. c == q) r ≡ true
     → is_open_string cs ≡ (begins_quotes q r || ends_by_join q (units (drop 1 r)))

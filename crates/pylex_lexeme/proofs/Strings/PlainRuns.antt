@@ -1,24 +1,20 @@
 -- A reader of a literal goes past a run of plain characters as past each of them.
 --
--- Carries: close_single, close_triple. On: Triples, Cases, Runs, Units and 1 more.
-use Rattle.std.proofs.Common.{◌≡◌, ℕ, ◌≤◌, Bool, true, false, ◌==◌, not, List, [], ◌∷◌, length, drop, refl, sym, ◌∙◌, ap, arith, ⊎_elim}
+-- Carries: close_single, close_triple. On: Triples, Runs, Units and 1 more.
+use Rattle.std.proofs.Common.{◌≡◌, ℕ, ◌≤◌, true, false, ◌==◌, not, List, [], ◌∷◌, length, drop, refl, sym, ◌∙◌, ap, arith, ⊎_elim}
 use Rattle.std.proofs.Common.{nat_lt, length-drop, ◌-◌}
 use Rattle.std.specs.List.{prefix_len}
+use Rattle.std.proofs.lemmas.Bool.{not-true, cases_Bool, and_parts}
 use Rattle.pylex_lexeme.specs.declared.string.Quote.{Quote}
 use Rattle.pylex_lexeme.specs.declared.string.Quote.TheVariants.{Single, Double}
 use Rattle.pylex_lexeme.specs.Chars.{is_comment_part}
 use Rattle.pylex_lexeme.specs.Inner.Plain.{is_plain_char}
 use Rattle.pylex_lexeme.specs.Strings.{quote_char}
 use Rattle.pylex_lexeme.specs.Lengths.{single_len, triple_len, begins_quotes}
-use Rattle.pylex_lexeme.proofs.Cases.{bool_cases, and_parts}
 use Rattle.pylex_lexeme.proofs.Fronts.Texts.{after_run}
 use Rattle.pylex_lexeme.proofs.Fronts.Runs.{run_on, run_off}
 use Rattle.pylex_lexeme.proofs.Strings.Units.{left_of, mark_is}
 use Rattle.pylex_lexeme.proofs.Strings.Triples.{single_step, triple_step, unit_plain}
-
-not_true : (b : Bool) → not b ≡ true → b ≡ false
-not_true true h = cc
-not_true false h = refl
 
 -- what a plain character is not
 record IsOther (q a : ℕ) : Type 0 where
@@ -33,8 +29,8 @@ other_is m a h =
     let s = and_parts (not (a == 39)) _ d.1 in
     let l = and_parts (not (a == 92)) _ s.1 in
     record {
-      quote = of m (not_true (a == 34) d.0) (not_true (a == 39) s.0);
-      slash = not_true (a == 92) l.0;
+      quote = of m (not-true (a == 34) d.0) (not-true (a == 39) s.0);
+      slash = not-true (a == 92) l.0;
       part = l.1;
     }
   where
@@ -59,7 +55,7 @@ single_run m (a ∷ t) =
     ∙ ap (λ n. left_of (single_len (quote_char m) (drop n (a ∷ t))) (drop n (a ∷ t))) (sym (unit_plain (a ∷ t) o.slash))
     ∙ single_step (quote_char m) (a ∷ t) (mark_is m) o.quote o.part)
     (λ (h : is_plain_char a ≡ false). ap (λ u. left_of (single_len (quote_char m) u) u) (run_off is_plain_char a t h))
-    (bool_cases (is_plain_char a))
+    (cases_Bool (is_plain_char a))
 
 triple_run : (m : Quote) (cs : List ℕ) → left_of (triple_len (quote_char m) (after_run is_plain_char cs)) (after_run is_plain_char cs) ≡
     left_of (triple_len (quote_char m) cs) cs
@@ -74,7 +70,7 @@ triple_run m (a ∷ t) =
     ∙ ap (λ n. left_of (triple_len (quote_char m) (drop n (a ∷ t))) (drop n (a ∷ t))) (sym (unit_plain (a ∷ t) o.slash))
     ∙ triple_step (quote_char m) (a ∷ t) (mark_is m) n refl)
     (λ (h : is_plain_char a ≡ false). ap (λ u. left_of (triple_len (quote_char m) u) u) (run_off is_plain_char a t h))
-    (bool_cases (is_plain_char a))
+    (cases_Bool (is_plain_char a))
 
 pub single_past : (m : Quote) (cs p : List ℕ) → p ≡ after_run is_plain_char cs → left_of (single_len (quote_char m) p) p ≡ left_of
     (single_len (quote_char m) cs) cs

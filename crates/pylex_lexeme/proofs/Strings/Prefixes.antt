@@ -1,16 +1,14 @@
 -- Prefixes by their letters.
 --
--- Carries: lexeme, opening. On: Best, StringLongest, Cases, StringBest.
+-- Carries: lexeme, opening. On: Best, StringLongest, StringBest.
 use Rattle.std.proofs.Common.{◌≡◌, ℕ, ◌+◌, ◌≤◌, Bool, true, false, ◌&&◌, ◌||◌, ◌==◌, List, [], ◌∷◌, take, drop, refl, ◌∙◌, arith, ⊎_elim}
 use Rattle.std.proofs.Common.{leb}
 use Rattle.std.specs.Str.{bytes_eq}
-use Rattle.std.proofs.lemmas.Bool.{leb-true}
+use Rattle.std.proofs.lemmas.Bool.{leb-true, cases_Bool, and_parts, and_right}
 use Rattle.std.proofs.lemmas.Bool.Decides.{nat_tests}
 use Rattle.pylex_lexeme.specs.Chars.{begins, is_r, is_prefix_letter}
 use Rattle.pylex_lexeme.specs.Strings.{lower, is_prefix, opens_string, begins_quote}
 use Rattle.pylex_lexeme.specs.Lengths.{Opens, begins_pair}
-use Rattle.pylex_lexeme.proofs.Cases.{and_parts, bool_cases}
-use Rattle.pylex_lexeme.proofs.Fronts.Best.{and_false}
 use Rattle.pylex_lexeme.proofs.Strings.StringBest.{which}
 use Rattle.pylex_lexeme.proofs.Strings.StringLongest.{eq_short, no_prefix_two}
 
@@ -20,7 +18,7 @@ lower_is c o u e x y =
     (λ (h : (leb 65 c && leb c 90) ≡ true). let p = and_parts (leb 65 c) (leb c 90) h in let l = leb-true 65 c p.0 in let r =
     leb-true c 90 p.1 in rw h (grind (arith, nat_tests)))
     (λ (h : (leb 65 c && leb c 90) ≡ false). rw h (grind (arith, nat_tests, h)))
-    (bool_cases (leb 65 c && leb c 90))
+    (cases_Bool (leb 65 c && leb c 90))
 
 lower_r : (c : ℕ) → (lower c == 114) ≡ ((c == 114) || (c == 82))
 lower_r c = lower_is c 114 82 refl (omega arith) (omega arith)
@@ -35,15 +33,15 @@ lower_f : (c : ℕ) → (lower c == 102) ≡ ((c == 102) || (c == 70))
 lower_f c = lower_is c 102 70 refl (omega arith) (omega arith)
 
 eq_one : (x o : ℕ) → bytes_eq (x ∷ []) (o ∷ []) ≡ (x == o)
-eq_one x o = ⊎_elim (λ (h : (x == o) ≡ true). rw h refl) (λ (h : (x == o) ≡ false). rw h refl) (bool_cases (x == o))
+eq_one x o = ⊎_elim (λ (h : (x == o) ≡ true). rw h refl) (λ (h : (x == o) ≡ false). rw h refl) (cases_Bool (x == o))
 
 eq_long : (x o p : ℕ) → bytes_eq (x ∷ []) (o ∷ p ∷ []) ≡ false
-eq_long x o p = ⊎_elim (λ (h : (x == o) ≡ true). rw h refl) (λ (h : (x == o) ≡ false). rw h refl) (bool_cases (x == o))
+eq_long x o p = ⊎_elim (λ (h : (x == o) ≡ true). rw h refl) (λ (h : (x == o) ≡ false). rw h refl) (cases_Bool (x == o))
 
 eq_two : (x y o p : ℕ) → bytes_eq (x ∷ y ∷ []) (o ∷ p ∷ []) ≡ ((x == o) && (y == p))
 eq_two x y o p =
     ⊎_elim (λ (h : (x == o) ≡ true). ⊎_elim (λ (g : (y == p) ≡ true). rw (h, g) refl) (λ (g : (y == p) ≡ false). rw (h, g) refl)
-    (bool_cases (y == p))) (λ (h : (x == o) ≡ false). rw h refl) (bool_cases (x == o))
+    (cases_Bool (y == p))) (λ (h : (x == o) ≡ false). rw h refl) (cases_Bool (x == o))
 
 shuffle_one : (r u b f : Bool) → (r || (u || (b || (f || false)))) ≡ (r || (u || (b || f)))
 shuffle_one true u b f = refl
@@ -144,7 +142,7 @@ none_one [] e f g = cc
 none_one (a ∷ []) e f g = cc
 none_one (a ∷ q ∷ t) e f g =
     nothing (is_prefix []) (begins_quote (a ∷ q ∷ t)) (is_prefix (a ∷ [])) (begins_quote (q ∷ t)) (is_prefix (a ∷ q ∷ [])) (begins_quote t)
-    (and_false (is_prefix []) (begins_quote (a ∷ q ∷ t)) e) (let x : is_prefix (a ∷ []) ≡ false = one_prefix a ∙ g in rw x refl) (let x =
+    (and_right (is_prefix []) (begins_quote (a ∷ q ∷ t)) e) (let x : is_prefix (a ∷ []) ≡ false = one_prefix a ∙ g in rw x refl) (let x =
     no_prefix_two a q [] (which q f) in rw x refl)
 
 pub none_two : (cs : List ℕ) → begins is_quote cs ≡ false → begins is_quote (drop 1 cs) ≡ false → begins is_quote (drop 2 cs) ≡ false
@@ -153,17 +151,17 @@ unfolding opens_string
 none_two cs e f g =
     nothing (is_prefix []) (begins_quote cs) (is_prefix (take 1 cs)) (begins_quote (drop 1 cs)) (is_prefix (take 2 cs))
     (begins_quote (drop 2 cs))
-    (and_false (is_prefix []) (begins_quote cs) (same cs false e)) (and_false (is_prefix (take 1 cs)) (begins_quote (drop 1 cs))
-    (same (drop 1 cs) false f)) (and_false (is_prefix (take 2 cs)) (begins_quote (drop 2 cs)) (same (drop 2 cs) false g))
+    (and_right (is_prefix []) (begins_quote cs) (same cs false e)) (and_right (is_prefix (take 1 cs)) (begins_quote (drop 1 cs))
+    (same (drop 1 cs) false f)) (and_right (is_prefix (take 2 cs)) (begins_quote (drop 2 cs)) (same (drop 2 cs) false g))
 
 pub none_pair : (cs : List ℕ) → begins is_quote cs ≡ false → begins is_quote (drop 1 cs) ≡ false → begins_pair cs ≡ false
     → opens_string cs ≡ false
 unfolding opens_string is_prefix
 none_pair [] e f g = refl
 none_pair (a ∷ []) e f g = nothing (is_prefix []) (begins_quote (a ∷ [])) (is_prefix (a ∷ [])) false (is_prefix (a ∷ [])) false
-    (and_false (is_prefix []) (begins_quote (a ∷ [])) e) (and_false (is_prefix (a ∷ [])) false refl)
-    (and_false (is_prefix (a ∷ [])) false refl)
+    (and_right (is_prefix []) (begins_quote (a ∷ [])) e) (and_right (is_prefix (a ∷ [])) false refl)
+    (and_right (is_prefix (a ∷ [])) false refl)
 none_pair (a ∷ b ∷ t) e f g =
     nothing (is_prefix []) (begins_quote (a ∷ b ∷ t)) (is_prefix (a ∷ [])) (begins_quote (b ∷ t)) (is_prefix (a ∷ b ∷ [])) (begins_quote t)
-    (and_false (is_prefix []) (begins_quote (a ∷ b ∷ t)) e) (and_false (is_prefix (a ∷ [])) (begins_quote (b ∷ t)) f)
+    (and_right (is_prefix []) (begins_quote (a ∷ b ∷ t)) e) (and_right (is_prefix (a ∷ [])) (begins_quote (b ∷ t)) f)
     (let x : is_prefix (a ∷ b ∷ []) ≡ false = two_prefix a b ∙ g in rw x refl)

@@ -3,16 +3,15 @@
 -- Carries: open_literal, prefix_and_quoted. On: Best, Units, Joined, Triples.
 use Rattle.std.proofs.Common.{◌≡◌, ℕ, ◌+◌, Bool, true, false, ◌||◌, ◌==◌, not, List, [], ◌∷◌, refl, ◌∙◌, ap, subst, arith, zero, suc}
 use Rattle.std.proofs.Common.{⊎_elim}
-use Rattle.std.proofs.lemmas.Bool.{eqb-true}
+use Rattle.std.proofs.lemmas.Bool.{eqb-true, not-true, or_parts, or_cases}
 use Rattle.pylex_lexeme.specs.Numbers.{headed}
 use Rattle.pylex_lexeme.specs.declared.string.Quote.{Quote}
 use Rattle.pylex_lexeme.specs.declared.string.Quote.TheVariants.{Single, Double}
 use Rattle.pylex_lexeme.specs.Strings.{units, ends_by_one, ends_by_three, is_single, is_triple, is_prefix, begins_quote, begins_three}
 use Rattle.pylex_lexeme.specs.Strings.{quote_char}
 use Rattle.pylex_lexeme.specs.Lengths.{shift, single_len, triple_len, single_of, triple_of}
-use Rattle.pylex_lexeme.proofs.Fronts.Best.{NoFront, Reads, Starts, or_parts, headed_best, headed_none, headed_rest, or_left, or_right}
+use Rattle.pylex_lexeme.proofs.Fronts.Best.{NoFront, Reads, Starts, headed_best, headed_none, headed_rest, or_left, or_right}
 use Rattle.pylex_lexeme.proofs.Fronts.Best.{or_none, none_above}
-use Rattle.pylex_lexeme.proofs.Fronts.Joined.{or_parts_false}
 use Rattle.pylex_lexeme.proofs.Strings.Units.{IsQuote, quote_is, closer_reads, single_closer}
 use Rattle.pylex_lexeme.proofs.Strings.Triples.{triple_closer}
 
@@ -74,7 +73,7 @@ pub data Which (q : ℕ) : Type 0 where
 
 pub which : (q : ℕ) → ((q == 39) || (q == 34)) ≡ true → Which q
 which q e = ⊎_elim (λ (h : (q == 39) ≡ true). one (eqb-true q 39 h)) (λ (h : (q == 34) ≡ true). two (eqb-true q 34 h))
-    (or_parts (q == 39) (q == 34) e)
+    (or_cases (q == 39) (q == 34) e)
 
 pub which_mark : (q : Quote) → Which (quote_char q)
 which_mark Single = one refl
@@ -110,25 +109,21 @@ triple_quoted q b c t (two e) f g =
 abbrev pub not_quote : ℕ → Bool
 not_quote c = not ((c == 39) || (c == 34))
 
-off : (b : Bool) → not b ≡ true → b ≡ false
-off true e = cc
-off false e = refl
-
 pub single_starts : Starts not_quote single_either
 unfolding is_single
-single_starts c t e = let p = or_parts_false (c == 39) (c == 34) (off ((c == 39) || (c == 34)) e) in rw (p.0, p.1) refl
+single_starts c t e = let p = or_parts (c == 39) (c == 34) (not-true ((c == 39) || (c == 34)) e) in rw (p.0, p.1) refl
 
 pub triple_starts : Starts not_quote triple_either
 unfolding is_triple
-triple_starts c t e = let p = or_parts_false (c == 39) (c == 34) (off ((c == 39) || (c == 34)) e) in rw (p.0, p.1) refl
+triple_starts c t e = let p = or_parts (c == 39) (c == 34) (not-true ((c == 39) || (c == 34)) e) in rw (p.0, p.1) refl
 
 pub quote_starts : Starts not_quote begins_quote
-quote_starts c t e = off ((c == 39) || (c == 34)) e
+quote_starts c t e = not-true ((c == 39) || (c == 34)) e
 
 pub three_starts : Starts not_quote begins_three
 three_starts c [] e = refl
 three_starts c (b ∷ []) e = refl
-three_starts c (b ∷ d ∷ t) e = let p = off ((c == 39) || (c == 34)) e in rw p refl
+three_starts c (b ∷ d ∷ t) e = let p = not-true ((c == 39) || (c == 34)) e in rw p refl
 
 -- no text with a quote in it is a prefix
 pub no_prefix_one : (q : ℕ) (t : List ℕ) → Which q → is_prefix (q ∷ t) ≡ false

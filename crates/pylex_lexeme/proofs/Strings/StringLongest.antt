@@ -5,31 +5,30 @@ use Rattle.std.proofs.Common.{◌≡◌, ℕ, ◌+◌, ◌≤◌, ◌<◌, Bool,
 use Rattle.std.proofs.Common.{◌∙◌, ap, subst, arith, zero, suc, ⊎_elim, ltb}
 use Rattle.std.specs.List.{list_all, list_any}
 use Rattle.std.specs.Str.{bytes_eq}
-use Rattle.std.proofs.lemmas.Bool.{eqb-true}
+use Rattle.std.proofs.lemmas.Bool.{eqb-true, cases_Bool, and_parts, and_right}
 use Rattle.std.proofs.lemmas.Bool.Decides.{nat_tests}
 use Rattle.pylex_lexeme.specs.Chars.{begins}
 use Rattle.pylex_lexeme.specs.Numbers.{split_any}
 use Rattle.pylex_lexeme.specs.Strings.{is_prefix, is_single_string, is_triple_string, begins_quote, begins_three, opens_triple}
 use Rattle.pylex_lexeme.specs.Strings.{opens_string, after_prefix, counts_as_string, lower, prefixes}
 use Rattle.pylex_lexeme.specs.Lengths.{shift, single_len, triple_len, begins_quotes, quoted_len, Opens, Closed, longest}
-use Rattle.pylex_lexeme.proofs.Cases.{and_parts, bool_cases}
 use Rattle.pylex_lexeme.proofs.Fronts.Longest.{IsBest, longest_within_is, longest_within_none}
-use Rattle.pylex_lexeme.proofs.Fronts.Best.{Reads, Starts, and_false}
+use Rattle.pylex_lexeme.proofs.Fronts.Best.{Reads, Starts}
 use Rattle.pylex_lexeme.proofs.Numbers.Parts.{ReadsAfter, then_reads}
 use Rattle.pylex_lexeme.proofs.Fronts.Taking.{drop_drop}
 use Rattle.pylex_lexeme.proofs.Strings.StringBest.{not_quote, Which, one, two, which, single_either, triple_either, single_starts}
 use Rattle.pylex_lexeme.proofs.Strings.StringBest.{triple_starts, quote_starts, three_starts, single_quoted, triple_quoted, no_prefix_one}
 
 pub eq_short : (x y o : ℕ) (t : List ℕ) → bytes_eq (x ∷ y ∷ t) (o ∷ []) ≡ false
-eq_short x y o t = ⊎_elim (λ (h : (x == o) ≡ true). rw h refl) (λ (h : (x == o) ≡ false). rw h refl) (bool_cases (x == o))
+eq_short x y o t = ⊎_elim (λ (h : (x == o) ≡ true). rw h refl) (λ (h : (x == o) ≡ false). rw h refl) (cases_Bool (x == o))
 
 eq_second : (x y o p : ℕ) (t s : List ℕ) → (y == p) ≡ false → bytes_eq (x ∷ y ∷ t) (o ∷ p ∷ s) ≡ false
-eq_second x y o p t s e = ⊎_elim (λ (h : (x == o) ≡ true). rw (h, e) refl) (λ (h : (x == o) ≡ false). rw h refl) (bool_cases (x == o))
+eq_second x y o p t s e = ⊎_elim (λ (h : (x == o) ≡ true). rw (h, e) refl) (λ (h : (x == o) ≡ false). rw h refl) (cases_Bool (x == o))
 
 eq_third : (x y z o p : ℕ) (t : List ℕ) → bytes_eq (x ∷ y ∷ z ∷ t) (o ∷ p ∷ []) ≡ false
 eq_third x y z o p t =
     ⊎_elim (λ (h : (x == o) ≡ true). ⊎_elim (λ (g : (y == p) ≡ true). rw (h, g) refl) (λ (g : (y == p) ≡ false). rw (h, g) refl)
-    (bool_cases (y == p))) (λ (h : (x == o) ≡ false). rw h refl) (bool_cases (x == o))
+    (cases_Bool (y == p))) (λ (h : (x == o) ≡ false). rw h refl) (cases_Bool (x == o))
 
 none_two : (x y : ℕ) (t : List ℕ) → (y == 114) ≡ false → (y == 98) ≡ false → (y == 102) ≡ false
     → list_any (bytes_eq (x ∷ y ∷ t)) prefixes ≡ false
@@ -75,7 +74,7 @@ letter a t e =
     ⊎_elim
     (λ (h : ((a == 39) || (a == 34)) ≡ true). let n = no_prefix_one_of a t (which a h) in cc)
     (λ (h : ((a == 39) || (a == 34)) ≡ false). rw h refl)
-    (bool_cases ((a == 39) || (a == 34)))
+    (cases_Bool ((a == 39) || (a == 34)))
   where
     no_prefix_one_of : (a : ℕ) (t : List ℕ) → Which a → is_prefix (a ∷ t) ≡ false
     no_prefix_one_of a t w = no_prefix_one a t w
@@ -85,7 +84,7 @@ letter_two a b t e =
     ⊎_elim
     (λ (h : ((b == 39) || (b == 34)) ≡ true). let n = no_prefix_two a b t (which b h) in cc)
     (λ (h : ((b == 39) || (b == 34)) ≡ false). rw h refl)
-    (bool_cases ((b == 39) || (b == 34)))
+    (cases_Bool ((b == 39) || (b == 34)))
 
 prefix_letters : (t : List ℕ) → is_prefix t ≡ true → list_all not_quote t ≡ true
 prefix_letters [] e = refl
@@ -129,14 +128,14 @@ pick_first x p y q z r e f g = rw (e, f, g) (keep p)
     keep false = refl
 
 pick_second : (x p y q z r : Bool) → p ≡ false → y ≡ true → z ≡ false → ((x && p) || ((y && q) || ((z && r) || false))) ≡ q
-pick_second x p y q z r e f g = rw (e, f, g) (rw (and_false x false refl) (keep q))
+pick_second x p y q z r e f g = rw (e, f, g) (rw (and_right x false refl) (keep q))
   where
     keep : (p : Bool) → (p || false) ≡ p
     keep true = refl
     keep false = refl
 
 pick_third : (x p y q z r : Bool) → p ≡ false → q ≡ false → z ≡ true → ((x && p) || ((y && q) || ((z && r) || false))) ≡ r
-pick_third x p y q z r e f g = rw (e, f, g) (rw (and_false x false refl, and_false y false refl) (keep r))
+pick_third x p y q z r e f g = rw (e, f, g) (rw (and_right x false refl, and_right y false refl) (keep r))
   where
     keep : (p : Bool) → (p || false) ≡ p
     keep true = refl
@@ -178,8 +177,8 @@ after_shift p cs n (suc m) r = as_suc p cs (n + suc m) (n + m) (omega arith) r
     as_suc p cs (suc i) k e b = b
 
 pub quotes_three : (q : ℕ) (t : List ℕ) → Which q → begins_three (q ∷ t) ≡ begins_quotes q (q ∷ t)
-quotes_three q [] w = sym (and_false ((q == q) && false) false refl)
-quotes_three q (b ∷ []) w = sym (and_false ((q == q) && (b == q)) false refl)
+quotes_three q [] w = sym (and_right ((q == q) && false) false refl)
+quotes_three q (b ∷ []) w = sym (and_right ((q == q) && (b == q)) false refl)
 quotes_three q (b ∷ c ∷ t) (one e) = rw e refl
 quotes_three q (b ∷ c ∷ t) (two e) = rw e refl
 
@@ -238,7 +237,7 @@ string_reads q n cs t w o e =
     (string_triple q n cs t w o e h))
     (λ (h : begins_quotes q (q ∷ t) ≡ false). let k : quoted_len q (drop n cs) ≡ shift 1 (single_len q t) = ap (quoted_len q) e
     ∙ rw h refl in subst (λ (m : ℕ). Reads (counts_as_string cs) cs (shift n m)) (sym k) (string_single q n cs t w o e h))
-    (bool_cases (begins_quotes q (q ∷ t)))
+    (cases_Bool (begins_quotes q (q ∷ t)))
 
 pub longest_reads : (p : List ℕ → Bool) (cs : List ℕ) (n : ℕ) → Reads p cs n → longest p cs ≡ n
 unfolding longest

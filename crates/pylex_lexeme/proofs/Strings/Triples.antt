@@ -1,16 +1,15 @@
 -- Literals in three quotes, and the steps of the readers.
 --
 -- Carries: close_single, close_triple, ends_by_join, unit. On: Units, Best,
--- Cases, Longest and 1 more.
+-- Longest and 1 more.
 use Rattle.std.proofs.Common.{◌≡◌, ℕ, ◌+◌, ◌-◌, ◌≤◌, ◌<◌, Bool, true, false, ◌&&◌, ◌==◌, not, List, [], ◌∷◌, length, drop, take, refl, sym}
 use Rattle.std.proofs.Common.{◌∙◌, ap, subst, arith, zero, suc, ⊎_elim, length-drop}
-use Rattle.std.proofs.lemmas.Bool.{eqb-true}
+use Rattle.std.proofs.lemmas.Bool.{eqb-true, cases_Bool, and_parts, and_right}
 use Rattle.pylex_lexeme.specs.Chars.{begins, is_comment_part}
 use Rattle.pylex_lexeme.specs.Strings.{units, is_unit, no_units, ends_by_one, ends_by_three}
 use Rattle.pylex_lexeme.specs.Lengths.{unit_len, shift, single_of, triple_of, single_len, triple_len, begins_quotes}
-use Rattle.pylex_lexeme.proofs.Cases.{and_parts, bool_cases}
 use Rattle.pylex_lexeme.proofs.Fronts.Longest.{IsBest}
-use Rattle.pylex_lexeme.proofs.Fronts.Best.{Reads, and_false}
+use Rattle.pylex_lexeme.proofs.Fronts.Best.{Reads}
 use Rattle.pylex_lexeme.proofs.Fronts.Taking.{drop_drop}
 use Rattle.pylex_lexeme.proofs.Strings.Units.{left_of, left_shift, shift_reads, units_plain, some_units, unit_one, IsQuote, unit_slash}
 use Rattle.pylex_lexeme.proofs.Strings.Units.{slash_not, Closer, single_closer}
@@ -29,7 +28,7 @@ first_units q k [] = refl
 first_units q k (a ∷ s) =
     ⊎_elim (at_slash a s)
     (λ (h : (a == 92) ≡ false). rw (units_plain a s h) (unit_one q a))
-    (bool_cases (a == 92))
+    (cases_Bool (a == 92))
   where
     at_slash : (a : ℕ) (s : List ℕ) → (a == 92) ≡ true → first_of q (units (a ∷ s)) ≡ (a == q)
     at_slash a [] h = unit_one q a
@@ -38,7 +37,7 @@ first_units q k (a ∷ s) =
         ⊎_elim
         (λ (n : ((b == 13) && (c == 10)) ≡ true). rw (h, n) (unit_slash q a (b ∷ c ∷ []) k.slash h ∙ sym (slash_not q a k.slash h)))
         (λ (n : ((b == 13) && (c == 10)) ≡ false). rw (h, n) (unit_slash q a (b ∷ []) k.slash h ∙ sym (slash_not q a k.slash h)))
-        (bool_cases ((b == 13) && (c == 10)))
+        (cases_Bool ((b == 13) && (c == 10)))
 
 two_units : (q : ℕ) → IsQuote q → (s : List ℕ) → two q (units s) ≡ (begins (λ c. c == q) s && begins (λ c. c == q) (drop 1 s))
 unfolding first_of two
@@ -46,7 +45,7 @@ two_units q k [] = refl
 two_units q k (a ∷ s) =
     ⊎_elim (λ (h : (a == 92) ≡ true). let z = slash_not q a k.slash h in at_slash a s h ∙ rw z refl)
     (λ (h : (a == 92) ≡ false). rw (units_plain a s h) (rw (unit_one q a, first_units q k s) refl))
-    (bool_cases (a == 92))
+    (cases_Bool (a == 92))
   where
     at_slash : (a : ℕ) (s : List ℕ) → (a == 92) ≡ true → two q (units (a ∷ s)) ≡ false
     at_slash a [] h = let x = unit_slash q a [] k.slash h in rw x refl
@@ -55,7 +54,7 @@ two_units q k (a ∷ s) =
         ⊎_elim
         (λ (n : ((b == 13) && (c == 10)) ≡ true). let x = unit_slash q a (b ∷ c ∷ []) k.slash h in rw (h, n, x) refl)
         (λ (n : ((b == 13) && (c == 10)) ≡ false). let x = unit_slash q a (b ∷ []) k.slash h in rw (h, n, x) refl)
-        (bool_cases ((b == 13) && (c == 10)))
+        (cases_Bool ((b == 13) && (c == 10)))
 
 assoc : (x y z : Bool) → (x && (y && z)) ≡ ((x && y) && z)
 assoc true y z = refl
@@ -80,9 +79,9 @@ three_test : (q : ℕ) → IsQuote q → (a : ℕ) (s : List ℕ) → (is_unit q
 three_test q k a s = rw (unit_one q a, two_units q k s) (assoc (a == q) (begins (λ c. c == q) s) (begins (λ c. c == q) (drop 1 s)))
 
 front_quotes : (q a : ℕ) (t : List ℕ) (i : ℕ) → begins_quotes q (a ∷ t) ≡ false → begins_quotes q (a ∷ take i t) ≡ false
-front_quotes q a t zero e = and_false ((a == q) && false) false refl
+front_quotes q a t zero e = and_right ((a == q) && false) false refl
 front_quotes q a [] (suc i) e = e
-front_quotes q a (b ∷ t) (suc zero) e = and_false ((a == q) && (b == q)) false refl
+front_quotes q a (b ∷ t) (suc zero) e = and_right ((a == q) && (b == q)) false refl
 front_quotes q a (b ∷ []) (suc (suc i)) e = e
 front_quotes q a (b ∷ c ∷ t) (suc (suc i)) e = e
 
@@ -115,7 +114,7 @@ triple_plain q k a t h r =
     (λ (e : begins_quotes q (a ∷ t) ≡ false).
     rw (units_plain a t h) (rw (three_counts q (a ∷ []) (units t) (three_test q k a t ∙ e))
     (shift_reads (λ u. ends_by_three q (units u)) (a ∷ t) 1 (triple_of q (units t)) (omega arith) short (goes_on e) r)))
-    (bool_cases (begins_quotes q (a ∷ t)))
+    (cases_Bool (begins_quotes q (a ∷ t)))
   where
     short : (j : ℕ) → j < 1 → ends_by_three q (units (take j (a ∷ t))) ≡ false
     short zero i = refl
@@ -181,20 +180,20 @@ unit_shorter f (a ∷ t) e =
     length-drop 3 (a ∷ t) in rw (h, i) (omega arith))
     (λ (i : (begins (λ c. c == 13) t && begins (λ c. c == 10) (drop 1 t)) ≡ false). let d : length (drop 2 (a ∷ t)) ≡ length (a ∷ t) - 2 =
     length-drop 2 (a ∷ t) in rw (h, i) (omega arith))
-    (bool_cases (begins (λ c. c == 13) t && begins (λ c. c == 10) (drop 1 t))))
+    (cases_Bool (begins (λ c. c == 13) t && begins (λ c. c == 10) (drop 1 t))))
     (λ (h : (a == 92) ≡ false). rw h (omega arith))
-    (bool_cases (a == 92))
+    (cases_Bool (a == 92))
 
 slash_step : (e : List (List ℕ) → Bool) (l : List (List ℕ) → ℕ) → Closer e l → (a : ℕ) (t : List ℕ) → (a == 92) ≡ true
     → l (units (a ∷ t)) ≡ shift (unit_len (a ∷ t)) (l (units (drop (unit_len (a ∷ t)) (a ∷ t))))
 unfolding unit_len
 slash_step e l k a [] h = rw h (k.counts a [] [] h ∙ rw k.nothing refl)
-slash_step e l k a (b ∷ []) h = rw (h, and_false (b == 13) false refl) (k.counts a (b ∷ []) [] h ∙ rw k.nothing refl)
+slash_step e l k a (b ∷ []) h = rw (h, and_right (b == 13) false refl) (k.counts a (b ∷ []) [] h ∙ rw k.nothing refl)
 slash_step e l k a (b ∷ c ∷ t) h =
     ⊎_elim
     (λ (n : ((b == 13) && (c == 10)) ≡ true). rw (h, n) (k.counts a (b ∷ c ∷ []) (units t) h))
     (λ (n : ((b == 13) && (c == 10)) ≡ false). rw (h, n) (k.counts a (b ∷ []) (units (c ∷ t)) h))
-    (bool_cases ((b == 13) && (c == 10)))
+    (cases_Bool ((b == 13) && (c == 10)))
 
 comment_part : (a : ℕ) → is_comment_part a ≡ true → ((a == 13) ≡ false) × ((a == 10) ≡ false)
 comment_part a e = let p = and_parts (not (a == 10)) (not (a == 13)) e in (flip (a == 13) p.1, flip (a == 10) p.0)
@@ -209,7 +208,7 @@ unfolding single_len
 single_step q [] k e f = cc
 single_step q (a ∷ t) k e f =
     let s : single_of q (units (a ∷ t)) ≡ shift (unit_len (a ∷ t)) (single_of q (units (drop (unit_len (a ∷ t)) (a ∷ t)))) =
-    ⊎_elim (slash_step (ends_by_one q) (single_of q) (single_closer q k) a t) plain (bool_cases (a == 92)) in
+    ⊎_elim (slash_step (ends_by_one q) (single_of q) (single_closer q k) a t) plain (cases_Bool (a == 92)) in
     rw s (sym (left_shift (unit_len (a ∷ t)) (single_of q (units (drop (unit_len (a ∷ t)) (a ∷ t)))) (a ∷ t)))
   where
     plain : (a == 92) ≡ false → single_of q (units (a ∷ t)) ≡ shift (unit_len (a ∷ t))
@@ -237,7 +236,7 @@ single_stop q (a ∷ t) k e f =
     let g : (a == 10) ≡ true = feed (a == 10) (a == 13) f h in
     let z : a ≡ 10 = eqb-true a 10 g in let y : (a == 92) ≡ false = rw z refl in
     rw (units_plain a t y) (rw (unit_one q a, unit_one 13 a, unit_one 10 a) (rw (e, h, g) refl)))
-    (bool_cases (a == 13))
+    (cases_Bool (a == 13))
   where
     feed : (x y : Bool) → (not x && not y) ≡ false → y ≡ false → x ≡ true
     feed true y i j = refl
@@ -250,7 +249,7 @@ unfolding triple_len
 triple_step q [] k e f = cc
 triple_step q (a ∷ t) k e f =
     let s : triple_of q (units (a ∷ t)) ≡ shift (unit_len (a ∷ t)) (triple_of q (units (drop (unit_len (a ∷ t)) (a ∷ t)))) =
-    ⊎_elim (slash_step (ends_by_three q) (triple_of q) (triple_closer q k) a t) plain (bool_cases (a == 92)) in
+    ⊎_elim (slash_step (ends_by_three q) (triple_of q) (triple_closer q k) a t) plain (cases_Bool (a == 92)) in
     rw s (sym (left_shift (unit_len (a ∷ t)) (triple_of q (units (drop (unit_len (a ∷ t)) (a ∷ t)))) (a ∷ t)))
   where
     plain : (a == 92) ≡ false → triple_of q (units (a ∷ t)) ≡ shift (unit_len (a ∷ t))

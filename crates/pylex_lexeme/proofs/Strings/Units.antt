@@ -1,20 +1,18 @@
 -- The units of a literal, and where it is closed.
 --
--- Carries: close_single, close_triple, ends_by_join. On: Best, Cases, Longest, Taking and 1 more.
+-- Carries: close_single, close_triple, ends_by_join. On: Best, Longest, Taking and 1 more.
 use Rattle.std.proofs.Common.{◌≡◌, ℕ, ◌+◌, ◌-◌, ◌≤◌, ◌<◌, Bool, true, false, ◌&&◌, ◌||◌, ◌==◌, not, List, [], ◌∷◌, length, drop, take, refl}
 use Rattle.std.proofs.Common.{sym, ◌∙◌, ap, arith, zero, suc, ⊎_elim, ltb, Option, Some, None, if◌then◌else◌, length-drop}
-use Rattle.std.proofs.lemmas.Bool.{cases_lt, eqb-true}
+use Rattle.std.proofs.lemmas.Bool.{cases_lt, eqb-true, cases_Bool, or_parts, or_cases}
 use Rattle.std.proofs.lemmas.Bool.Decides.{nat_tests}
 use Rattle.pylex_lexeme.specs.Numbers.{is_nil}
 use Rattle.pylex_lexeme.specs.declared.string.Quote.{Quote}
 use Rattle.pylex_lexeme.specs.declared.string.Quote.TheVariants.{Single, Double}
 use Rattle.pylex_lexeme.specs.Strings.{units, is_unit, no_units, ends_by_one, quote_char}
 use Rattle.pylex_lexeme.specs.Lengths.{shift, single_of, Closed}
-use Rattle.pylex_lexeme.proofs.Cases.{bool_cases}
 use Rattle.pylex_lexeme.proofs.Fronts.Longest.{IsBest}
-use Rattle.pylex_lexeme.proofs.Fronts.Best.{Reads, or_parts}
+use Rattle.pylex_lexeme.proofs.Fronts.Best.{Reads}
 use Rattle.pylex_lexeme.proofs.Fronts.Taking.{drop_drop}
-use Rattle.pylex_lexeme.proofs.Fronts.Joined.{or_parts_false}
 
 abbrev pub left_of : ℕ → List ℕ → Option (List ℕ)
 left_of zero cs = None
@@ -73,14 +71,14 @@ units_plain a (b ∷ c ∷ t) e = rw e refl
 pub nil_units : (t : List ℕ) → no_units (units t) ≡ is_nil t
 nil_units [] = refl
 nil_units (a ∷ []) = refl
-nil_units (a ∷ b ∷ []) = ⊎_elim (λ (h : (a == 92) ≡ true). rw h refl) (λ (h : (a == 92) ≡ false). rw h refl) (bool_cases (a == 92))
+nil_units (a ∷ b ∷ []) = ⊎_elim (λ (h : (a == 92) ≡ true). rw h refl) (λ (h : (a == 92) ≡ false). rw h refl) (cases_Bool (a == 92))
 nil_units (a ∷ b ∷ c ∷ t) =
     ⊎_elim
     (λ (h : (a == 92) ≡ true).
     ⊎_elim (λ (i : ((b == 13) && (c == 10)) ≡ true). rw (h, i) refl) (λ (i : ((b == 13) && (c == 10)) ≡ false). rw (h, i) refl)
-    (bool_cases ((b == 13) && (c == 10))))
+    (cases_Bool ((b == 13) && (c == 10))))
     (λ (h : (a == 92) ≡ false). rw h refl)
-    (bool_cases (a == 92))
+    (cases_Bool (a == 92))
 
 -- more than nothing
 pub some_units : (j : ℕ) (t : List ℕ) → 0 < j → j ≤ length t → no_units (units (take j t)) ≡ false
@@ -89,7 +87,7 @@ some_units (suc j) [] h i = absurd (omega arith)
 some_units (suc j) (c ∷ t) h i = nil_units (c ∷ take j t)
 
 pub unit_one : (q a : ℕ) → is_unit q (a ∷ []) ≡ (a == q)
-unit_one q a = ⊎_elim (λ (h : (a == q) ≡ true). rw h refl) (λ (h : (a == q) ≡ false). rw h refl) (bool_cases (a == q))
+unit_one q a = ⊎_elim (λ (h : (a == q) ≡ true). rw h refl) (λ (h : (a == q) ≡ false). rw h refl) (cases_Bool (a == q))
 
 -- a character that is neither a backslash nor a line's end, as quotes are
 pub record IsQuote (q : ℕ) : Type 0 where
@@ -103,7 +101,7 @@ quote_is q e =
     ⊎_elim
     (λ (h : (q == 39) ≡ true). let z : q ≡ 39 = eqb-true q 39 h in rw z (record { slash = refl; other = refl; feed = refl; ret = refl }))
     (λ (h : (q == 34) ≡ true). let z : q ≡ 34 = eqb-true q 34 h in rw z (record { slash = refl; other = refl; feed = refl; ret = refl }))
-    (or_parts (q == 39) (q == 34) e)
+    (or_cases (q == 39) (q == 34) e)
 
 pub mark_is : (q : Quote) → IsQuote (quote_char q)
 mark_is Single = quote_is 39 refl
@@ -198,21 +196,21 @@ closer_reads e l k (a ∷ []) =
     ⊎_elim
     (λ (h : (a == 92) ≡ true). slash_alone e l k a h)
     (λ (h : (a == 92) ≡ false). k.plain a [] h (closer_reads e l k []))
-    (bool_cases (a == 92))
+    (cases_Bool (a == 92))
 closer_reads e l k (a ∷ b ∷ []) =
     ⊎_elim
     (λ (h : (a == 92) ≡ true). slash_last e l k a b h)
     (λ (h : (a == 92) ≡ false). k.plain a (b ∷ []) h (closer_reads e l k (b ∷ [])))
-    (bool_cases (a == 92))
+    (cases_Bool (a == 92))
 closer_reads e l k (a ∷ b ∷ c ∷ t) =
     ⊎_elim
     (λ (h : (a == 92) ≡ true).
     ⊎_elim
     (λ (n : ((b == 13) && (c == 10)) ≡ true). slash_three e l k a b c t h n (closer_reads e l k t))
     (λ (n : ((b == 13) && (c == 10)) ≡ false). slash_two e l k a b c t h n (closer_reads e l k (c ∷ t)))
-    (bool_cases ((b == 13) && (c == 10))))
+    (cases_Bool ((b == 13) && (c == 10))))
     (λ (h : (a == 92) ≡ false). k.plain a (b ∷ c ∷ t) h (closer_reads e l k (b ∷ c ∷ t)))
-    (bool_cases (a == 92))
+    (cases_Bool (a == 92))
 
 -- One quote
 single_plain : (q : ℕ) → IsQuote q → (a : ℕ) (t : List ℕ) → (a == 92) ≡ false
@@ -227,8 +225,8 @@ single_plain q k a t h r =
     (λ (f : ((a == 13) || (a == 10)) ≡ true). rw (e, f) (stopped e f))
     (λ (f : ((a == 13) || (a == 10)) ≡ false). rw (e, f) (shift_reads (λ u. ends_by_one q (units u)) (a ∷ t) 1 (single_of q (units t))
     (omega arith) short (goes_on e f) r))
-    (bool_cases ((a == 13) || (a == 10))))
-    (bool_cases (a == q))))
+    (cases_Bool ((a == 13) || (a == 10))))
+    (cases_Bool (a == q))))
   where
     opened : (s : List ℕ) → ends_by_one q (units (a ∷ s)) ≡ (if a == q then no_units (units s) else not (a == 13) && not (a == 10) &&
         ends_by_one q (units s))
@@ -259,7 +257,7 @@ single_plain q k a t h r =
         (units (take i (drop 1 (a ∷ t))))
     goes_on e f i =
         let z : 1 + i ≡ suc i = omega arith in
-        let p = or_parts_false (a == 13) (a == 10) f in
+        let p = or_parts (a == 13) (a == 10) f in
         rw z (opened (take i t) ∙ rw (e, p.0, p.1) refl)
 
 pub single_closer : (q : ℕ) → IsQuote q → Closer (ends_by_one q) (single_of q)

@@ -1,11 +1,11 @@
 -- No lexeme but a string goes on behind a line feed.
 --
--- Carries: plain_none, for Kept. On: Best, Parts, Classes, Cases and 2 more.
+-- Carries: plain_none, for Kept. On: Best, Parts, Classes and 2 more.
 use Rattle.std.proofs.Common.{◌≡◌, ℕ, ◌<◌, Bool, true, false, ◌||◌, ◌==◌, not, List, [], ◌∷◌, ◌++◌, length, refl, sym, ◌∙◌, ap, arith}
 use Rattle.std.proofs.Common.{⊎_elim, None, length-append}
 use Rattle.std.specs.List.{list_all, list_any}
 use Rattle.std.specs.Str.{bytes_eq}
-use Rattle.std.proofs.lemmas.Bool.{eqb-true}
+use Rattle.std.proofs.lemmas.Bool.{eqb-true, cases_Bool, and_parts, and_right, or_cases}
 use Rattle.std.proofs.lemmas.Slice.Eq.{bytes_eq-Decides}
 use Rattle.unicode_ident.specs.Ident.{is_xid_continue}
 use Rattle.unicode_ident.proofs.IdentLemmas.{is_xid_start-ascii, is_xid_continue-ascii}
@@ -17,8 +17,7 @@ use Rattle.pylex_lexeme.specs.Numbers.{is_nil}
 use Rattle.pylex_lexeme.specs.Operators.{is_operator}
 use Rattle.pylex_lexeme.specs.Lexemes.{is_name, is_comment, are_blanks, is_line_end, is_join, plain_class}
 use Rattle.pylex_lexeme.specs.Chunks.{EndsLine}
-use Rattle.pylex_lexeme.proofs.Cases.{and_parts, bool_cases}
-use Rattle.pylex_lexeme.proofs.Fronts.Best.{and_false, or_parts, split_all}
+use Rattle.pylex_lexeme.proofs.Fronts.Best.{split_all}
 use Rattle.pylex_lexeme.proofs.Fronts.Joined.{joined_all}
 use Rattle.pylex_lexeme.proofs.Numbers.Parts.{part_all, decimal_part}
 use Rattle.pylex_lexeme.proofs.Strings.StringLongest.{eq_short}
@@ -34,7 +33,7 @@ off_feed f e c h =
     ⊎_elim
     (λ (g : (c == 10) ≡ true). let z : c ≡ 10 = eqb-true c 10 g in let i : f 10 ≡ true = rw z at h in cc)
     (λ (g : (c == 10) ≡ false). rw g refl)
-    (bool_cases (c == 10))
+    (cases_Bool (c == 10))
 
 all_off : (f : ℕ → Bool) → f 10 ≡ false → (t : List ℕ) → list_all f t ≡ true → list_all not_feed t ≡ true
 all_off f e [] h = refl
@@ -68,7 +67,7 @@ exponent_off t e =
     ⊎_elim
     (headed_off is_e is_digit_part refl part_off t)
     (headed_off is_e (headed is_sign is_digit_part) refl (headed_off is_sign is_digit_part refl part_off) t)
-    (or_parts (headed is_e is_digit_part t) (headed is_e (headed is_sign is_digit_part) t) e)
+    (or_cases (headed is_e is_digit_part t) (headed is_e (headed is_sign is_digit_part) t) e)
 
 fraction_off : (t : List ℕ) → split_any (optional is_digit_part) (optional is_exponent) t ≡ true → list_all not_feed t ≡ true
 fraction_off t e = then_off (optional is_digit_part) (optional is_exponent) (optional_off is_digit_part part_off)
@@ -84,9 +83,9 @@ float_off t e =
     (headed_off is_point (split_any (optional is_digit_part) (optional is_exponent)) refl fraction_off) t)
     (headed_off is_point (split_any is_digit_part (optional is_exponent)) refl (then_off is_digit_part (optional is_exponent) part_off
     (optional_off is_exponent exponent_off)) t)
-    (or_parts (is_point_after t) (is_point_before t) h))
+    (or_cases (is_point_after t) (is_point_before t) h))
     (then_off is_digit_part is_exponent part_off exponent_off t)
-    (or_parts (is_point_after t || is_point_before t) (is_raised t) e)
+    (or_cases (is_point_after t || is_point_before t) (is_raised t) e)
 
 j_off : (t : List ℕ) → headed is_j is_nil t ≡ true → list_all not_feed t ≡ true
 j_off t e = headed_off is_j is_nil refl nil t e
@@ -98,7 +97,7 @@ j_off t e = headed_off is_j is_nil refl nil t e
 imaginary_off : (t : List ℕ) → is_imaginary t ≡ true → list_all not_feed t ≡ true
 unfolding is_imaginary
 imaginary_off t e = then_off (λ u. is_digit_part u || is_float u) (headed is_j is_nil)
-    (λ u h. ⊎_elim (part_off u) (float_off u) (or_parts (is_digit_part u) (is_float u) h)) j_off t e
+    (λ u h. ⊎_elim (part_off u) (float_off u) (or_cases (is_digit_part u) (is_float u) h)) j_off t e
 
 based_off : (f d : ℕ → Bool) → f 10 ≡ false → d 10 ≡ false → (t : List ℕ) → headed is_zero (headed f (are_some d)) t ≡ true
     → list_all not_feed t ≡ true
@@ -112,9 +111,9 @@ radix_off t e =
     ⊎_elim
     (based_off is_x is_hex_digit refl refl t)
     (based_off is_o is_octal_digit refl refl t)
-    (or_parts (headed is_zero (headed is_x (are_some is_hex_digit)) t) (headed is_zero (headed is_o (are_some is_octal_digit)) t) h))
+    (or_cases (headed is_zero (headed is_x (are_some is_hex_digit)) t) (headed is_zero (headed is_o (are_some is_octal_digit)) t) h))
     (based_off is_b is_binary_digit refl refl t)
-    (or_parts (headed is_zero (headed is_x (are_some is_hex_digit)) t || headed is_zero (headed is_o (are_some is_octal_digit)) t)
+    (or_cases (headed is_zero (headed is_x (are_some is_hex_digit)) t || headed is_zero (headed is_o (are_some is_octal_digit)) t)
     (headed is_zero (headed is_b (are_some is_binary_digit)) t) e)
 
 pub number_off : (t : List ℕ) → is_number t ≡ true → list_all not_feed t ≡ true
@@ -124,21 +123,21 @@ number_off t e =
     (λ (h : (is_decimal t || is_radix t || is_float t) ≡ true).
     ⊎_elim
     (λ (i : (is_decimal t || is_radix t) ≡ true). ⊎_elim (λ (k : is_decimal t ≡ true). part_off t (decimal_part t k)) (radix_off t)
-    (or_parts (is_decimal t) (is_radix t) i))
+    (or_cases (is_decimal t) (is_radix t) i))
     (float_off t)
-    (or_parts (is_decimal t || is_radix t) (is_float t) h))
+    (or_cases (is_decimal t || is_radix t) (is_float t) h))
     (imaginary_off t)
-    (or_parts (is_decimal t || is_radix t || is_float t) (is_imaginary t) e)
+    (or_cases (is_decimal t || is_radix t || is_float t) (is_imaginary t) e)
 
 -- Operators
-one_of : (p : List ℕ → Bool) (t : List ℕ) (os : List (List ℕ)) → list_all p os ≡ true → list_any (bytes_eq t) os ≡ true → p t ≡ true
+pub one_of : (p : List ℕ → Bool) (t : List ℕ) (os : List (List ℕ)) → list_all p os ≡ true → list_any (bytes_eq t) os ≡ true → p t ≡ true
 one_of p t [] e h = cc
 one_of p t (o ∷ os) e h =
     let q = and_parts (p o) (list_all p os) e in
     ⊎_elim
     (λ (i : bytes_eq t o ≡ true). ap p ((bytes_eq-Decides t o).0 i) ∙ q.0)
     (λ (i : list_any (bytes_eq t) os ≡ true). one_of p t os q.1 i)
-    (or_parts (bytes_eq t o) (list_any (bytes_eq t) os) h)
+    (or_cases (bytes_eq t o) (list_any (bytes_eq t) os) h)
 
 pub operator_off : (t : List ℕ) → is_operator t ≡ true → list_all not_feed t ≡ true
 operator_off t e = one_of (list_all not_feed) t words refl (sym (by_words t) ∙ e)
@@ -179,9 +178,9 @@ long_end (a ∷ b ∷ c ∷ t) h =
     let s = eq_short a b 10 (c ∷ t) in
     ⊎_elim
     (λ (e : (a == 13) ≡ true). ⊎_elim (λ (f : (b == 10) ≡ true). rw (s, e, f) refl)
-    (λ (f : (b == 10) ≡ false). rw (s, e, f) refl) (bool_cases (b == 10)))
+    (λ (f : (b == 10) ≡ false). rw (s, e, f) refl) (cases_Bool (b == 10)))
     (λ (e : (a == 13) ≡ false). rw (s, e) refl)
-    (bool_cases (a == 13))
+    (cases_Bool (a == 13))
 
 end_off : (front : List ℕ) (c : ℕ) (u : List ℕ) → is_line_end ((front ++ 10 ∷ []) ++ c ∷ u) ≡ false
 unfolding is_line_end
@@ -195,11 +194,11 @@ end_off (a ∷ front) c u = long_end (a ∷ (front ++ 10 ∷ []) ++ c ∷ u) (om
 join_off : (front : List ℕ) (c : ℕ) (u : List ℕ) → is_join ((front ++ 10 ∷ []) ++ c ∷ u) ≡ false
 unfolding is_join
 join_off [] c u = refl
-join_off (a ∷ front) c u = and_false (a == 92) (is_line_end ((front ++ 10 ∷ []) ++ c ∷ u)) (end_off front c u)
+join_off (a ∷ front) c u = and_right (a == 92) (is_line_end ((front ++ 10 ∷ []) ++ c ∷ u)) (end_off front c u)
 
 feed_in : (front : List ℕ) (v : List ℕ) → list_all not_feed ((front ++ 10 ∷ []) ++ v) ≡ false
 feed_in [] v = refl
-feed_in (a ∷ front) v = and_false (not_feed a) (list_all not_feed ((front ++ 10 ∷ []) ++ v)) (feed_in front v)
+feed_in (a ∷ front) v = and_right (not_feed a) (list_all not_feed ((front ++ 10 ∷ []) ++ v)) (feed_in front v)
 
 past_feed : (front : List ℕ) (c : ℕ) (u : List ℕ) → plain_class ((front ++ 10 ∷ []) ++ c ∷ u) ≡ None
 unfolding plain_class

@@ -7,6 +7,7 @@ use Rattle.std.proofs.Common.{◌≡◌, ℕ, ◌+◌, ◌≤◌, ◌<◌, Bool,
 use Rattle.std.proofs.Common.{sym, ◌∙◌, ap, subst, arith, zero, suc, ◌⊎◌, inl, inr, ⊎_elim, Some, None, is_some, length-append}
 use Rattle.std.specs.Prelude.{option_map}
 use Rattle.std.proofs.lemmas.List.{take-append-le}
+use Rattle.std.proofs.lemmas.Bool.{cases_Bool, and_parts, or_parts}
 use Rattle.pylex_lexeme.specs.declared.lexeme.Class.TheVariants.{String}
 use Rattle.pylex_lexeme.specs.Chars.{begins}
 use Rattle.pylex_lexeme.specs.Numbers.{is_nil}
@@ -15,9 +16,7 @@ use Rattle.pylex_lexeme.specs.Lexemes.{Lexeme, class_in, plain_class, longest_wi
 use Rattle.pylex_lexeme.specs.Lengths.{shift, single_of, triple_of, single_len, triple_len, quoted_len, begins_quotes, longest, Opens}
 use Rattle.pylex_lexeme.specs.Cuts.{TakesLexeme}
 use Rattle.pylex_lexeme.specs.Chunks.{EndsLine}
-use Rattle.pylex_lexeme.proofs.Cases.{and_parts, bool_cases}
 use Rattle.pylex_lexeme.proofs.Fronts.Best.{Reads}
-use Rattle.pylex_lexeme.proofs.Fronts.Joined.{or_parts_false}
 use Rattle.pylex_lexeme.proofs.Strings.Units.{IsQuote}
 use Rattle.pylex_lexeme.proofs.Strings.StringLongest.{head_is, string_reads, longest_reads}
 use Rattle.pylex_lexeme.proofs.Strings.OpenStrings.{open_behind, open_none}
@@ -30,7 +29,7 @@ use Rattle.pylex_lexeme.proofs.WholeLines.LineFronts.{opens_kept, triples_kept, 
 use Rattle.pylex_lexeme.proofs.WholeLines.LineFronts.{which_quote, behind_front, here_longer, opens_longer, drop_lined}
 
 -- Longest fronts
-same_within : (p q : List ℕ → Bool) (cs es : List ℕ) (m : ℕ) → m ≤ length cs → ((t : List ℕ) → p t ≡ q t)
+pub same_within : (p q : List ℕ → Bool) (cs es : List ℕ) (m : ℕ) → m ≤ length cs → ((t : List ℕ) → p t ≡ q t)
     → longest_within p (cs ++ es) m ≡ longest_within q cs m
 same_within p q cs es zero h f = refl
 same_within p q cs es (suc m) h f =
@@ -45,7 +44,7 @@ none_above p cs n (suc k) f =
     let g : p (take (suc (n + k)) cs) ≡ false = f (suc (n + k)) (omega arith) (omega arith) in
     rw e (rw g (none_above p cs n k (λ j a b. f j a (omega arith))))
 
-len_within : (cs : List ℕ) → lexeme_len cs ≤ length cs
+pub len_within : (cs : List ℕ) → lexeme_len cs ≤ length cs
 unfolding lexeme_len
 len_within cs = within (λ t. is_some (class_in cs t)) cs (length cs)
   where
@@ -55,7 +54,7 @@ len_within cs = within (λ t. is_some (class_in cs t)) cs (length cs)
         ⊎_elim
         (λ (e : p (take (suc m) cs) ≡ true). rw e (omega arith))
         (λ (e : p (take (suc m) cs) ≡ false). let i = within p cs m in rw e (omega arith))
-        (bool_cases (p (take (suc m) cs)))
+        (cases_Bool (p (take (suc m) cs)))
 
 -- Where no longer front is a lexeme
 abbrev NoLonger : List ℕ → List ℕ → Type 0
@@ -139,15 +138,15 @@ quoted_kept q (a ∷ t) es k h l e =
     (λ (f : begins_quotes q (a ∷ t) ≡ true). rw (s ∙ f, f) (three t f l e))
     (λ (f : begins_quotes q (a ∷ t) ≡ false). rw (s ∙ f, f)
     (ap (shift 1) (single_len_kept q t es (behind_quote q a t k h l) (lined_tail a t l) (one f e))))
-    (bool_cases (begins_quotes q (a ∷ t)))
+    (cases_Bool (begins_quotes q (a ∷ t)))
   where
     one : begins_quotes q (a ∷ t) ≡ false → Ends q (a ∷ t) → (0 < single_len q t) ⊎ (ends_by_join q (units t) ≡ false)
     one f (inl h) = inl (shift_some 1 (single_len q t) (rw f at h))
-    one f (inr h) = inr (or_parts_false (begins_quotes q (a ∷ t)) (ends_by_join q (units t)) h).1
+    one f (inr h) = inr (or_parts (begins_quotes q (a ∷ t)) (ends_by_join q (units t)) h).1
 
     three : (t : List ℕ) → begins_quotes q (a ∷ t) ≡ true → lined (a ∷ t) ≡ true → Ends q (a ∷ t)
         → shift 3 (triple_len q (drop 3 (a ∷ t ++ es))) ≡ shift 3 (triple_len q (drop 3 (a ∷ t)))
-    three t f l (inr h) = absurd (let z = (or_parts_false (begins_quotes q (a ∷ t)) (ends_by_join q (units t)) h).0 in cc)
+    three t f l (inr h) = absurd (let z = (or_parts (begins_quotes q (a ∷ t)) (ends_by_join q (units t)) h).0 in cc)
     three [] f l (inl h) = absurd (let p = and_parts ((a == q) && false) false f in let z : false ≡ true = p.1 in cc)
     three (b ∷ []) f l (inl h) = absurd (let p = and_parts ((a == q) && (b == q)) false f in let z : false ≡ true = p.1 in cc)
     three (b ∷ c ∷ t) f l (inl h) = ap (shift 3) (triple_len_kept q t es (lined_tail c t l) (shift_some 3 (triple_len q t) (rw f at h)))
@@ -205,7 +204,7 @@ abbrev Settled : List ℕ → Type 0
 Settled cs = ((x : Lexeme) × (lexeme_at cs ≡ Some x)) ⊎ (is_open_string cs ≡ false)
 
 none_longer : (cs es : List ℕ) → EndsLine cs → Settled cs → NoLonger cs es
-none_longer cs es l k = ⊎_elim (λ (s : opens_string cs ≡ true). string s (quoted cs s)) (none_plain cs es l) (bool_cases (opens_string cs))
+none_longer cs es l k = ⊎_elim (λ (s : opens_string cs ≡ true). string s (quoted cs s)) (none_plain cs es l) (cases_Bool (opens_string cs))
   where
     ends : (v : Quoted cs) → opens_string cs ≡ true → (m : ℕ) → quoted_len v.q (drop v.n cs) ≡ m → Settled cs → Ends v.q (drop v.n cs)
     ends v s (suc m) e k = inl (omega arith)
@@ -232,7 +231,7 @@ open_stops : (q : ℕ) (r es : List ℕ) → IsQuote q → begins (λ c. c == q)
 unfolding quoted_len single_len
 open_stops q [] es k h l z g = cc
 open_stops q (a ∷ t) es k h l z g =
-    let p = or_parts_false (begins_quotes q (a ∷ t)) (ends_by_join q (units t)) g in
+    let p = or_parts (begins_quotes q (a ∷ t)) (ends_by_join q (units t)) g in
     let u : shift 1 (single_of q (units t)) ≡ 0 = rw p.0 at z in
     let w = stops_kept q (units t) (units es) (units_last t (behind_quote q a t k h l) (lined_tail a t l))
     (record { unclosed = shift_none 1 (single_of q (units t)) u; unjoined = p.1 }) in
@@ -241,7 +240,7 @@ open_stops q (a ∷ t) es k h l z g =
 
 pub open_kept : (cs es : List ℕ) → EndsLine cs → lexeme_at cs ≡ None → is_open_string cs ≡ false → is_open_string (cs ++ es) ≡ false
 open_kept cs es l e f = ⊎_elim (λ (s : opens_string cs ≡ true). string s (quoted cs s))
-    (λ (s : opens_string cs ≡ false). open_none (cs ++ es) (opens_kept cs es l ∙ s)) (bool_cases (opens_string cs))
+    (λ (s : opens_string cs ≡ false). open_none (cs ++ es) (opens_kept cs es l ∙ s)) (cases_Bool (opens_string cs))
   where
     string : opens_string cs ≡ true → Quoted cs → is_open_string (cs ++ es) ≡ false
     string s v =

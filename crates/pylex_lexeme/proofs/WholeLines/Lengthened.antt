@@ -4,13 +4,13 @@
 -- Carries: triple_goes_on, single_goes_on, triple_ended, single_open, for OpenLiterals. On: LinedUnits, LineFronts,
 -- StringLongest, Units and 3 more.
 use Rattle.std.proofs.Common.{◌≡◌, ℕ, true, false, ◌&&◌, ◌==◌, List, [], ◌∷◌, ◌++◌, drop, refl, sym, ◌∙◌, ap, None}
+use Rattle.std.proofs.lemmas.Bool.{and_parts}
 use Rattle.pylex_lexeme.specs.Chars.{begins}
 use Rattle.pylex_lexeme.specs.Numbers.{is_nil}
 use Rattle.pylex_lexeme.specs.Strings.{units, begins_three, opens_triple}
 use Rattle.pylex_lexeme.specs.Lexemes.{lexeme_at, ends_by_join, is_open_string}
 use Rattle.pylex_lexeme.specs.Lengths.{single_of, triple_of, single_len, triple_len, quoted_len, begins_quotes, Opens}
 use Rattle.pylex_lexeme.specs.Chunks.{EndsLine}
-use Rattle.pylex_lexeme.proofs.Cases.{and_parts}
 use Rattle.pylex_lexeme.proofs.Strings.Units.{IsQuote, nil_units}
 use Rattle.pylex_lexeme.proofs.Strings.StringLongest.{string_opens, triple_opens, quotes_three, head_is}
 use Rattle.pylex_lexeme.proofs.Strings.OpenStrings.{open_behind}

@@ -4,7 +4,7 @@
 -- OpenLiterals. On: StringBest, LinedUnits, Best, Units and 2 more.
 use Rattle.std.proofs.Common.{◌≡◌, ℕ, ◌≤◌, ◌<◌, Bool, true, false, ◌&&◌, ◌||◌, ◌==◌, List, [], ◌∷◌, ◌++◌, length, take, drop, refl, ◌∙◌, ap}
 use Rattle.std.proofs.Common.{arith, zero, suc, ⊎_elim, length-drop}
-use Rattle.std.proofs.lemmas.Bool.{eqb-true, eq-eqb}
+use Rattle.std.proofs.lemmas.Bool.{eqb-true, eq-eqb, cases_Bool, and_parts, and_right, or_cases}
 use Rattle.std.proofs.lemmas.List.{take-append-le, drop-append-le}
 use Rattle.pylex_lexeme.specs.Chars.{begins}
 use Rattle.pylex_lexeme.specs.Numbers.{is_nil}
@@ -12,8 +12,6 @@ use Rattle.pylex_lexeme.specs.Strings.{is_prefix, begins_quote, begins_three, af
 use Rattle.pylex_lexeme.specs.Lengths.{Opens, begins_quotes}
 use Rattle.pylex_lexeme.specs.Cuts.{begins_significant}
 use Rattle.pylex_lexeme.specs.Chunks.{EndsLine}
-use Rattle.pylex_lexeme.proofs.Cases.{and_parts, bool_cases}
-use Rattle.pylex_lexeme.proofs.Fronts.Best.{and_false, or_parts}
 use Rattle.pylex_lexeme.proofs.Strings.Units.{IsQuote, quote_is}
 use Rattle.pylex_lexeme.proofs.Strings.StringBest.{Which, one, two, which}
 use Rattle.pylex_lexeme.proofs.Strings.Prefixes.{one_prefix, two_prefix}
@@ -75,7 +73,7 @@ three_settles (a ∷ b ∷ []) es s l = none es
         ⊎_elim
         (λ (h : ((a == 39) || (a == 34)) ≡ true). rw z (other e (which a h)))
         (λ (h : ((a == 39) || (a == 34)) ≡ false). rw h refl)
-        (bool_cases ((a == 39) || (a == 34)))
+        (cases_Bool ((a == 39) || (a == 34)))
 three_settles (a ∷ b ∷ c ∷ t) es s l = refl
 
 pub opens_kept : (cs es : List ℕ) → EndsLine cs → opens_string (cs ++ es) ≡ opens_string cs
@@ -91,12 +89,12 @@ feed_no_quote q a k l =
     ⊎_elim
     (λ (h : (a == q) ≡ true). let y : a ≡ q = eqb-true a q h in let z : (q == 10) ≡ true = rw y at l in let f = k.feed in cc)
     (λ (h : (a == q) ≡ false). h)
-    (bool_cases (a == q))
+    (cases_Bool (a == q))
 
 pub quotes_kept : (q : ℕ) → IsQuote q → (r es : List ℕ) → is_nil r ≡ false → lined r ≡ true → begins_quotes q (r ++ es) ≡ begins_quotes q r
 quotes_kept q k [] es s l = cc
 quotes_kept q k (a ∷ []) es s l = let n = feed_no_quote q a k l in rw n refl
-quotes_kept q k (a ∷ b ∷ []) es s l = let n = feed_no_quote q b k l in rw n (rw (and_false (a == q) false refl) refl)
+quotes_kept q k (a ∷ b ∷ []) es s l = let n = feed_no_quote q b k l in rw n (rw (and_right (a == q) false refl) refl)
 quotes_kept q k (a ∷ b ∷ c ∷ t) es s l = refl
 
 -- behind a quote the line goes on
@@ -141,9 +139,9 @@ quoted cs e =
     ⊎_elim
     (at 1 (omega arith))
     (λ (g : ((is_prefix (take 2 cs) && begins_quote (drop 2 cs)) || false) ≡ true).
-    ⊎_elim (at 2 (omega arith)) (λ (h : false ≡ true). cc) (or_parts (is_prefix (take 2 cs) && begins_quote (drop 2 cs)) false g))
-    (or_parts (is_prefix (take 1 cs) && begins_quote (drop 1 cs)) ((is_prefix (take 2 cs) && begins_quote (drop 2 cs)) || false) f))
-    (or_parts (is_prefix (take 0 cs) && begins_quote (drop 0 cs)) ((is_prefix (take 1 cs) && begins_quote (drop 1 cs)) ||
+    ⊎_elim (at 2 (omega arith)) (λ (h : false ≡ true). cc) (or_cases (is_prefix (take 2 cs) && begins_quote (drop 2 cs)) false g))
+    (or_cases (is_prefix (take 1 cs) && begins_quote (drop 1 cs)) ((is_prefix (take 2 cs) && begins_quote (drop 2 cs)) || false) f))
+    (or_cases (is_prefix (take 0 cs) && begins_quote (drop 0 cs)) ((is_prefix (take 1 cs) && begins_quote (drop 1 cs)) ||
     ((is_prefix (take 2 cs) && begins_quote (drop 2 cs)) || false)) e)
   where
     at : (n : ℕ) → n ≤ 2 → (is_prefix (take n cs) && begins_quote (drop n cs)) ≡ true → Quoted cs

@@ -1,10 +1,10 @@
 -- The units of a text of whole lines are the same where more text follows.
 --
 -- Carries: lined, lined_tail, ends_lined, units_join and 9 more, for Kept, Lengthened, LineFronts,
--- OpenLiterals. On: Units, Best, Cases, Joined.
+-- OpenLiterals. On: Units, Best, Joined.
 use Rattle.std.proofs.Common.{◌≡◌, ℕ, Bool, true, false, ◌&&◌, ◌||◌, ◌==◌, not, List, [], ◌∷◌, ◌++◌, length, refl, sym, ◌∙◌, ap, arith}
 use Rattle.std.proofs.Common.{zero, suc, ⊎_elim, if◌then◌else◌}
-use Rattle.std.proofs.lemmas.Bool.{eqb-true}
+use Rattle.std.proofs.lemmas.Bool.{eqb-true, cases_Bool, and_parts, and_right, or_parts, or_cases}
 use Rattle.std.proofs.lemmas.Bool.Decides.{nat_tests}
 use Rattle.std.proofs.lemmas.Slice.Eq.{bytes_eq-Decides}
 use Rattle.pylex_lexeme.specs.Chunks.{EndsLine}
@@ -12,9 +12,6 @@ use Rattle.pylex_lexeme.specs.Numbers.{is_nil}
 use Rattle.pylex_lexeme.specs.Strings.{units, is_unit, no_units}
 use Rattle.pylex_lexeme.specs.Lexemes.{is_line_end, is_join, ends_by_join}
 use Rattle.pylex_lexeme.specs.Lengths.{shift, single_of, triple_of}
-use Rattle.pylex_lexeme.proofs.Cases.{and_parts, bool_cases}
-use Rattle.pylex_lexeme.proofs.Fronts.Best.{and_false, or_parts}
-use Rattle.pylex_lexeme.proofs.Fronts.Joined.{or_parts_false}
 use Rattle.pylex_lexeme.proofs.Strings.Units.{units_plain, nil_units, unit_one, unit_slash, IsQuote}
 
 -- nothing, or characters whose last is LF
@@ -54,7 +51,7 @@ units_join (a ∷ b ∷ []) es l =
     (λ (h : (a == 92) ≡ true). at_slash es h (feed_not b 13 l refl))
     (λ (h : (a == 92) ≡ false). units_plain a (b ∷ es) h ∙ ap (λ us. (a ∷ []) ∷ us) (units_join (b ∷ []) es l)
     ∙ sym (ap (λ us. us ++ units es) (units_plain a (b ∷ []) h)))
-    (bool_cases (a == 92))
+    (cases_Bool (a == 92))
   where
     at_slash : (es : List ℕ) → (a == 92) ≡ true → (b == 13) ≡ false → units (a ∷ b ∷ es) ≡ units (a ∷ b ∷ []) ++ units es
     at_slash [] h n = rw h refl
@@ -65,10 +62,10 @@ units_join (a ∷ b ∷ c ∷ t) es l =
     ⊎_elim
     (λ (n : ((b == 13) && (c == 10)) ≡ true). rw (h, n) (ap (λ us. (a ∷ b ∷ c ∷ []) ∷ us) (units_join t es (lined_tail c t l))))
     (λ (n : ((b == 13) && (c == 10)) ≡ false). rw (h, n) (ap (λ us. (a ∷ b ∷ []) ∷ us) (units_join (c ∷ t) es l)))
-    (bool_cases ((b == 13) && (c == 10))))
+    (cases_Bool ((b == 13) && (c == 10))))
     (λ (h : (a == 92) ≡ false). units_plain a (b ∷ c ∷ t ++ es) h ∙ ap (λ us. (a ∷ []) ∷ us) (units_join (b ∷ c ∷ t) es l)
     ∙ sym (ap (λ us. us ++ units es) (units_plain a (b ∷ c ∷ t) h)))
-    (bool_cases (a == 92))
+    (cases_Bool (a == 92))
 
 -- the last unit is LF, or a backslash and a line end
 abbrev pub last_ends : List (List ℕ) → Bool
@@ -83,7 +80,7 @@ units_last (a ∷ b ∷ []) s l =
     ⊎_elim
     (λ (h : (a == 92) ≡ true). let y : a ≡ 92 = eqb-true a 92 h in let z : b ≡ 10 = eqb-true b 10 l in rw (y, z) refl)
     (λ (h : (a == 92) ≡ false). rw (units_plain a (b ∷ []) h) (units_last (b ∷ []) refl l))
-    (bool_cases (a == 92))
+    (cases_Bool (a == 92))
 units_last (a ∷ b ∷ c ∷ []) s l =
     ⊎_elim
     (λ (h : (a == 92) ≡ true).
@@ -91,18 +88,18 @@ units_last (a ∷ b ∷ c ∷ []) s l =
     (λ (n : (b == 13) ≡ true). let x : a ≡ 92 = eqb-true a 92 h in let y : b ≡ 13 = eqb-true b 13 n in let z : c ≡ 10 =
     eqb-true c 10 l in rw (x, y, z) refl)
     (λ (n : (b == 13) ≡ false). rw (h, n) (units_last (c ∷ []) refl l))
-    (bool_cases (b == 13)))
+    (cases_Bool (b == 13)))
     (λ (h : (a == 92) ≡ false). rw (units_plain a (b ∷ c ∷ []) h) (rw (nil_units (b ∷ c ∷ [])) (units_last (b ∷ c ∷ []) refl l)))
-    (bool_cases (a == 92))
+    (cases_Bool (a == 92))
 units_last (a ∷ b ∷ c ∷ d ∷ t) s l =
     ⊎_elim
     (λ (h : (a == 92) ≡ true).
     ⊎_elim
     (λ (n : ((b == 13) && (c == 10)) ≡ true). rw (h, n) (rw (nil_units (d ∷ t)) (units_last (d ∷ t) refl l)))
     (λ (n : ((b == 13) && (c == 10)) ≡ false). rw (h, n) (rw (nil_units (c ∷ d ∷ t)) (units_last (c ∷ d ∷ t) refl l)))
-    (bool_cases ((b == 13) && (c == 10))))
+    (cases_Bool ((b == 13) && (c == 10))))
     (λ (h : (a == 92) ≡ false). rw (units_plain a (b ∷ c ∷ d ∷ t) h) (rw (nil_units (b ∷ c ∷ d ∷ t)) (units_last (b ∷ c ∷ d ∷ t) refl l)))
-    (bool_cases (a == 92))
+    (cases_Bool (a == 92))
 
 -- Literals that are closed
 shift_more : (u m n : ℕ) → shift u m ≡ suc n → (k : ℕ) × (m ≡ suc k)
@@ -125,8 +122,8 @@ single_kept q n (u ∷ us) vs e =
     let f : shift (length u) (single_of q us) ≡ suc n = rw (h, i) at e in
     let m = shift_more (length u) (single_of q us) n f in
     rw (h, i) (ap (shift (length u)) (single_kept q m.0 us vs m.1 ∙ sym m.1) ∙ f))
-    (bool_cases (is_unit 13 u || is_unit 10 u)))
-    (bool_cases (is_unit q u))
+    (cases_Bool (is_unit 13 u || is_unit 10 u)))
+    (cases_Bool (is_unit q u))
 
 pub triple_kept : (q n : ℕ) (us vs : List (List ℕ)) → triple_of q us ≡ suc n → triple_of q (us ++ vs) ≡ suc n
 triple_kept q n [] vs e = cc
@@ -139,7 +136,7 @@ triple_kept q n (u ∷ v ∷ w ∷ us) vs e =
     let f : shift (length u) (triple_of q (v ∷ w ∷ us)) ≡ suc n = rw h at e in
     let m = shift_more (length u) (triple_of q (v ∷ w ∷ us)) n f in
     rw h (ap (shift (length u)) (triple_kept q m.0 (v ∷ w ∷ us) vs m.1 ∙ sym m.1) ∙ f))
-    (bool_cases (is_unit q u && is_unit q v && is_unit q w))
+    (cases_Bool (is_unit q u && is_unit q v && is_unit q w))
 
 -- A literal that neither ends nor is open stops at a line end
 pub record Stops (q : ℕ) (us : List (List ℕ)) : Type 0 where
@@ -164,7 +161,7 @@ stops_later : (q : ℕ) (u v : List ℕ) (us : List (List ℕ)) → is_unit q u 
 stops_later q u v us h i s = record {
   unclosed = rw (h, i) (ap (shift (length u)) s.unclosed);
   unjoined =
-      and_false (not (is_unit q u || is_unit 13 u || is_unit 10 u)) (ends_by_join q (v ∷ us)) s.unjoined;
+      and_right (not (is_unit q u || is_unit 13 u || is_unit 10 u)) (ends_by_join q (v ∷ us)) s.unjoined;
 }
 
 stops_one : (q : ℕ) (u : List ℕ) → is_unit q u ≡ false → last_ends (u ∷ []) ≡ true → Stops q (u ∷ [])
@@ -181,7 +178,7 @@ stops_one q u h l s =
 stops_behind : (q : ℕ) (u v : List ℕ) (us : List (List ℕ)) → is_unit q u ≡ false → (is_unit 13 u || is_unit 10 u) ≡ false
     → Stops q (u ∷ v ∷ us) → Stops q (v ∷ us)
 stops_behind q u v us h i s =
-    let p = or_parts_false (is_unit 13 u) (is_unit 10 u) i in
+    let p = or_parts (is_unit 13 u) (is_unit 10 u) i in
     record {
       unclosed = (let e = s.unclosed in shift_none (length u) (single_of q (v ∷ us)) (rw (h, i) at e));
       unjoined = (let e : (not (is_unit q u || is_unit 13 u || is_unit 10 u) && ends_by_join q (v ∷ us)) ≡ false =
@@ -190,7 +187,7 @@ stops_behind q u v us h i s =
 
 not_closed : (q : ℕ) (u : List ℕ) (us : List (List ℕ)) → Stops q (u ∷ us) → is_unit q u ≡ false
 not_closed q u us s = ⊎_elim (λ (h : is_unit q u ≡ true). let z : 1 ≡ 0 = (let e = s.unclosed in rw h at e) in cc)
-    (λ (h : is_unit q u ≡ false). h) (bool_cases (is_unit q u))
+    (λ (h : is_unit q u ≡ false). h) (cases_Bool (is_unit q u))
 
 pub stops_kept : (q : ℕ) (us vs : List (List ℕ)) → last_ends us ≡ true → Stops q us → Stops q (us ++ vs)
 stops_kept q [] vs l s = cc
@@ -201,7 +198,7 @@ stops_kept q (u ∷ v ∷ us) vs l s =
     (stops_here q u (v ∷ us ++ vs) h)
     (λ (i : (is_unit 13 u || is_unit 10 u) ≡ false). stops_later q u v (us ++ vs) h i
     (stops_kept q (v ∷ us) vs l (stops_behind q u v us h i s)))
-    (bool_cases (is_unit 13 u || is_unit 10 u))
+    (cases_Bool (is_unit 13 u || is_unit 10 u))
 
 -- A literal that is open goes on in what follows
 record Goes (q : ℕ) (u : List ℕ) : Type 0 where
@@ -221,7 +218,7 @@ goes_on : (q : ℕ) (u : List ℕ) (us : List (List ℕ)) → Goes q u → singl
 goes_on q u us g e = rw (g.closed, g.line) (ap (shift (length u)) e)
 
 goes_join : (q : ℕ) (u v : List ℕ) (us : List (List ℕ)) → Goes q u → ends_by_join q (u ∷ v ∷ us) ≡ ends_by_join q (v ∷ us)
-goes_join q u v us g = let p = or_parts_false (is_unit 13 u) (is_unit 10 u) g.line in rw (g.closed, p.0, p.1) refl
+goes_join q u v us g = let p = or_parts (is_unit 13 u) (is_unit 10 u) g.line in rw (g.closed, p.0, p.1) refl
 
 pub joined_single : (q : ℕ) (us vs : List (List ℕ)) → ends_by_join q us ≡ true → single_of q vs ≡ 0 → single_of q (us ++ vs) ≡ 0
 joined_single q [] vs e f = cc
@@ -249,7 +246,7 @@ triple_behind q (u ∷ us) vs e = triple_behind q us vs (without (us ++ vs) e)
         ⊎_elim
         (λ (h : (is_unit q u && is_unit q v && is_unit q w) ≡ true). let z : 3 ≡ 0 = rw h at e in cc)
         (λ (h : (is_unit q u && is_unit q v && is_unit q w) ≡ false). shift_none (length u) (triple_of q (v ∷ w ∷ ws)) (rw h at e))
-        (bool_cases (is_unit q u && is_unit q v && is_unit q w))
+        (cases_Bool (is_unit q u && is_unit q v && is_unit q w))
 
 -- Three quotes don't run over a line end
 end_not_quote : (q : ℕ) (u : List ℕ) → IsQuote q → (is_unit 10 u || is_join u) ≡ true → is_unit q u ≡ false
@@ -259,7 +256,7 @@ end_not_quote q (a ∷ t) k e =
     ⊎_elim
     (λ (h : is_unit 10 (a ∷ t) ≡ true). ap (is_unit q) ((bytes_eq-Decides (a ∷ t) (10 ∷ [])).0 h) ∙ unit_one q 10 ∙ feed)
     (λ (h : ((a == 92) && is_line_end t) ≡ true). unit_slash q a t k.slash (and_parts (a == 92) (is_line_end t) h).0)
-    (or_parts (is_unit 10 (a ∷ t)) ((a == 92) && is_line_end t) e)
+    (or_cases (is_unit 10 (a ∷ t)) ((a == 92) && is_line_end t) e)
   where
     feed : (10 == q) ≡ false
     feed = let f = k.feed in grind (arith, nat_tests)
@@ -279,11 +276,11 @@ triple_crosses q (u ∷ v ∷ []) vs k l e f = by vs (triple_crosses q (v ∷ []
     by [] f = refl
     by (w ∷ vs) f =
         let h = end_not_quote q v k l in
-        let i : (is_unit q u && is_unit q v && is_unit q w) ≡ false = rw (h, and_false (is_unit q u) false refl) refl in
+        let i : (is_unit q u && is_unit q v && is_unit q w) ≡ false = rw (h, and_right (is_unit q u) false refl) refl in
         rw i (ap (shift (length u)) f)
 triple_crosses q (u ∷ v ∷ w ∷ us) vs k l e f =
     ⊎_elim
     (λ (h : (is_unit q u && is_unit q v && is_unit q w) ≡ true). let z : 3 ≡ 0 = rw h at e in cc)
     (λ (h : (is_unit q u && is_unit q v && is_unit q w) ≡ false). rw h
     (ap (shift (length u)) (triple_crosses q (v ∷ w ∷ us) vs k l (shift_none (length u) (triple_of q (v ∷ w ∷ us)) (rw h at e)) f)))
-    (bool_cases (is_unit q u && is_unit q v && is_unit q w))
+    (cases_Bool (is_unit q u && is_unit q v && is_unit q w))

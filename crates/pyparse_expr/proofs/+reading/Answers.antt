@@ -1,4 +1,4 @@
-use Rattle.std.proofs.Common.{refl, arith, length, rules, ◌+◌, ◌≤◌, ap, map, ◌≡◌, ◌-◌, true, false, ◌++◌, ◌∷◌, [], sym, subst, ◌∙◌, Some}
+use Rattle.std.proofs.Common.{refl, arith, rules, ◌+◌, ◌≤◌, ap, map, ◌≡◌, ◌-◌, false, ◌++◌, ◌∷◌, [], sym, subst, ◌∙◌, Some}
 use Rattle.pytree_node.specs.TreeOf.{tree_of}
 use Rattle.pyparse_expr.specs.Inner.Readings.{same_reads, inner_reads}
 use Rattle.pyparse_nodes.specs.Views.{seen, first_is}

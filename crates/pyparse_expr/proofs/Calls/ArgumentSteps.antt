@@ -112,7 +112,7 @@ some_start : (r : List Terminal) → starts Argument r ≡ true → 0 < length r
 some_start [] h = absurd (cc)
 some_start (t ∷ r) h = omega arith
 
-steps_snoc : (s : State) (es : List Entry) (e : Entry) → steps s (es ++ (e ∷ [])) ≡ step (steps s es) e
+pub steps_snoc : (s : State) (es : List Entry) (e : Entry) → steps s (es ++ (e ∷ [])) ≡ step (steps s es) e
 steps_snoc s [] e = refl
 steps_snoc s (x ∷ es) e = steps_snoc (step s x) es e
 

@@ -14,7 +14,6 @@ use Rattle.pytoken.specs.Terminals.{Terminal, Op, Word}
 use Rattle.pytoken.specs.declared.values.terminals.Terminal as given
 use Rattle.pygrammar.specs.declared.levels.Level.TheVariants.{Stars, StarItem, Or, Primary}
 use Rattle.pygrammar.specs.Entries.{Of}
-use Rattle.pygrammar.specs.Looks.{is_op, is_word}
 use Rattle.pygrammar.specs.Reader.{generator_of}
 use Rattle.pygrammar.specs.Targets.{stored}
 use Rattle.pyparse_nodes.specs.declared.found.ForClause.{ForClause}
@@ -23,10 +22,10 @@ use Rattle.pyparse_nodes.specs.declared.found.Items.{Items}
 use Rattle.pyparse_nodes.specs.declared.found.Read.{Read}
 use Rattle.pyparse_nodes.specs.declared.stop.Stop.{Stop}
 use Rattle.pyparse_nodes.specs.Answers.{Makes}
-use Rattle.pyparse_nodes.specs.Views.{Stands, seen, first_is}
+use Rattle.pyparse_nodes.specs.Views.{Stands, seen}
 use Rattle.pyplaces.specs.Stretches.{Stretch, stretch}
 use Rattle.pyplaces.specs.EntryPlaces as E
-use Rattle.pyplaces.specs.Placed.{Placed, PlacedComp, PlacedForIn, PlacedIfs}
+use Rattle.pyplaces.specs.Placed.{PlacedComp, PlacedForIn, PlacedIfs}
 use Rattle.pyplaces.specs.Recording.{Records}
 use Rattle.pyplaces.specs.Rests.{Clauses}
 use Rattle.pyplaces.proofs.Answers.{placed_as, records_none, records_node, records_more}

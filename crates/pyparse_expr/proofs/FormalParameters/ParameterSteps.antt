@@ -10,7 +10,6 @@ use Rattle.pytree_node.specs.TreeOf.{tree_of}
 use Rattle.pytoken.specs.Terminals.{Terminal, Op}
 use Rattle.pytoken.specs.declared.values.terminals.Terminal as given
 use Rattle.pygrammar.specs.declared.levels.Level.TheVariants as level
-use Rattle.pytree_height.specs.Heights.{arguments_height}
 use Rattle.pygrammar.specs.Entries.{Entry, Parameter}
 use Rattle.pygrammar.specs.Parameters.{arranged}
 use Rattle.pygrammar.specs.Looks.{is_op}

@@ -1,19 +1,16 @@
 -- The height of parameters that are arranged is that of the highest of them.
 --
 -- Carries: lambda_step. On: Parameters, Heights.
-use Rattle.std.proofs.Common.{◌≡◌, refl, sym, ap, ◌∙◌, arith, ℕ, max, List, [], ◌∷◌, ◌++◌, Option, Some, None, Bool, true, false, cond}
+use Rattle.std.proofs.Common.{◌≡◌, sym, ap, ◌∙◌, arith, ℕ, max, List, [], ◌∷◌, ◌++◌, Option, Some, None, Bool, true, false, cond}
 use Rattle.std.proofs.Common.{option_map}
-use Rattle.pytree_node.specs.Trees.{Exprs, OptionalExpr, absent, present, Arg, Arguments, arguments}
+use Rattle.pytree_node.specs.Trees.{OptionalExpr, absent, present, Arg, Arguments, arguments}
 use Rattle.pytree_height.specs.Heights.{height, heights, optional_height, optional_heights, arg_height, arg_heights, optional_arg_height}
 use Rattle.pytree_height.specs.Heights.{arguments_height}
 use Rattle.pygrammar.specs.Entries.{Entry, Plain, Slashed, Bare, Gathered, Collected}
-use Rattle.pygrammar.specs.Parameters.{with_kwarg, no_arguments, with_default, add_keyword_only, set_vararg, add_plain, add_before_slash}
+use Rattle.pygrammar.specs.Parameters.{with_kwarg, no_arguments, add_keyword_only, set_vararg, add_plain, add_before_slash}
 use Rattle.pygrammar.specs.Parameters.{after_star, at_star, plain_ones, before_slash, has_slash, arranged}
+use Rattle.pygrammar.proofs.Callers.Entries.{swap, keyword_only_height, plain_height, slash_height, kwarg_height}
 use Rattle.pyparse_expr.specs.Inner.FormalHeights.{entry_height, entry_heights}
-
--- maxima of some
-swap : (x m r : ℕ) → max x (max m r) ≡ max m (max x r)
-swap x m r = omega arith
 
 regroup : (x m r : ℕ) → max (max m x) r ≡ max m (max x r)
 regroup x m r = omega arith
@@ -41,18 +38,6 @@ keyword_inner : (a d k e t : ℕ) → max (max a k) (max (max d e) t) ≡ max (m
 keyword_inner a d k e t = ap (λ z. max (max a k) z) (regroup e d t) ∙ regroup k a (max d (max e t)) ∙ ap (λ z. max a z) (swap k d (max e t))
     ∙ pair a d (max k (max e t))
 
-keyword_high : (a : Arg) (d : OptionalExpr) (r : Arguments)
-    → arguments_height (add_keyword_only a d r) ≡ max (max (arg_height a) (optional_height d)) (arguments_height r)
-keyword_high a d (arguments ps qs v ks kds k ds) =
-    let t = max (optional_arg_height k) (heights ds) in
-    let n = max (arg_height a) (optional_height d) in
-    let u = max (arg_heights ks) (max (optional_heights kds) t) in
-    let e = keyword_inner (arg_height a) (optional_height d) (arg_heights ks) (optional_heights kds) t in
-    ap (λ z. max (arg_heights ps) (max (arg_heights qs) (max (optional_arg_height v) z))) e
-    ∙ ap (λ z. max (arg_heights ps) (max (arg_heights qs) z)) (swap (optional_arg_height v) n u)
-    ∙ ap (λ z. max (arg_heights ps) z) (swap (arg_heights qs) n (max (optional_arg_height v) u))
-    ∙ swap (arg_heights ps) n (max (arg_heights qs) (max (optional_arg_height v) u))
-
 keyword_beside : (a : Arg) (d : OptionalExpr) (r : Arguments)
     → beside (add_keyword_only a d r) ≡ max (max (arg_height a) (optional_height d)) (beside r)
 keyword_beside a d (arguments ps qs v ks kds k ds) =
@@ -69,48 +54,6 @@ set_high a (arguments ps qs v ks kds k ds) =
     let u = max (arg_heights ks) (max (optional_heights kds) (max (optional_arg_height k) (heights ds))) in
     ap (λ z. max (arg_heights ps) z) (swap (arg_heights qs) (arg_height a) u)
     ∙ swap (arg_heights ps) (arg_height a) (max (arg_heights qs) u)
-
-default_high : (d : OptionalExpr) (ds : Exprs) → heights (with_default d ds) ≡ max (optional_height d) (heights ds)
-default_high absent ds = omega arith
-default_high (present e) ds = refl
-
--- a default is brought to the front, past all but the last of the parts
-default_front : (v k e t d r : ℕ) → max v (max k (max e (max t (max d r)))) ≡ max d (max v (max k (max e (max t r))))
-default_front v k e t d r =
-    ap (λ z. max v (max k (max e z))) (swap t d r)
-    ∙ ap (λ z. max v (max k z)) (swap e d (max t r))
-    ∙ ap (λ z. max v z) (swap k d (max e (max t r)))
-    ∙ swap v d (max k (max e (max t r)))
-
-plain_high : (a : Arg) (d : OptionalExpr) (r : Arguments)
-    → arguments_height (add_plain a d r) ≡ max (max (arg_height a) (optional_height d)) (arguments_height r)
-plain_high a d (arguments ps qs v ks kds k ds) =
-    let b = max (optional_arg_height v) (max (arg_heights ks) (max (optional_heights kds) (max (optional_arg_height k) (heights ds)))) in
-    ap (λ z. max (arg_heights ps)
-    (max (max (arg_height a) (arg_heights qs))
-    (max (optional_arg_height v) (max (arg_heights ks) (max (optional_heights kds) (max (optional_arg_height k) z))))))
-    (default_high d ds)
-    ∙ ap (λ z. max (arg_heights ps) (max (max (arg_height a) (arg_heights qs)) z)) (default_front (optional_arg_height v) (arg_heights ks)
-    (optional_heights kds) (optional_arg_height k) (optional_height d) (heights ds))
-    ∙ ap (λ z. max (arg_heights ps) z) (regroup (arg_heights qs) (arg_height a) (max (optional_height d) b)
-    ∙ ap (λ z. max (arg_height a) z) (swap (arg_heights qs) (optional_height d) b)
-    ∙ pair (arg_height a) (optional_height d) (max (arg_heights qs) b))
-    ∙ swap (arg_heights ps) (max (arg_height a) (optional_height d)) (max (arg_heights qs) b)
-
-before_high : (a : Arg) (d : OptionalExpr) (r : Arguments) → arguments_height (add_before_slash a d r) ≡ max
-    (max (arg_height a) (optional_height d)) (arguments_height r)
-before_high a d (arguments ps qs v ks kds k ds) =
-    let b = max (optional_arg_height v) (max (arg_heights ks) (max (optional_heights kds) (max (optional_arg_height k) (heights ds)))) in
-    ap (λ z. max (max (arg_height a) (arg_heights ps))
-    (max (arg_heights qs)
-    (max (optional_arg_height v) (max (arg_heights ks) (max (optional_heights kds) (max (optional_arg_height k) z))))))
-    (default_high d ds)
-    ∙ ap (λ z. max (max (arg_height a) (arg_heights ps)) (max (arg_heights qs) z)) (default_front (optional_arg_height v) (arg_heights ks)
-    (optional_heights kds) (optional_arg_height k) (optional_height d) (heights ds))
-    ∙ ap (λ z. max (max (arg_height a) (arg_heights ps)) z) (swap (arg_heights qs) (optional_height d) b)
-    ∙ regroup (arg_heights ps) (arg_height a) (max (optional_height d) (max (arg_heights qs) b))
-    ∙ ap (λ z. max (arg_height a) z) (swap (arg_heights ps) (optional_height d) (max (arg_heights qs) b))
-    ∙ pair (arg_height a) (optional_height d) (max (arg_heights ps) (max (arg_heights qs) b))
 
 -- behind a star, by either measure
 after_high : (m : Arguments → ℕ)
@@ -130,14 +73,11 @@ none_high = omega arith
 none_beside : beside no_arguments ≡ 0
 none_beside = omega arith
 
-kwarg_high : (a : Arg) → arguments_height (with_kwarg a) ≡ max (arg_height a) 0
-kwarg_high a = omega arith
-
 kwarg_beside : (a : Arg) → beside (with_kwarg a) ≡ max (arg_height a) 0
 kwarg_beside a = omega arith
 
 star_high : (es : List Entry) → IsHigh arguments_height (entry_heights es) (after_star es)
-star_high es = after_high arguments_height keyword_high none_high kwarg_high es
+star_high es = after_high arguments_height keyword_only_height none_high kwarg_height es
 
 gathered_high : (a : Arg) (h : ℕ) (x : Option Arguments) → IsHigh beside h x
     → IsHigh arguments_height (max (arg_height a) h) (option_map (set_vararg a) x)
@@ -156,7 +96,7 @@ at_star_high (Bare ∷ []) = tt
 at_star_high (Bare ∷ (Plain a d ∷ es)) = under_zero (entry_heights (Plain a d ∷ es)) (after_star (Plain a d ∷ es))
     (star_high (Plain a d ∷ es))
 at_star_high (Bare ∷ (_ ∷ es)) = tt
-at_star_high (Collected a ∷ []) = kwarg_high a
+at_star_high (Collected a ∷ []) = kwarg_height a
 at_star_high (Collected a ∷ (e ∷ es)) = tt
 at_star_high (_ ∷ es) = tt
 
@@ -165,11 +105,11 @@ plain_ones_high true [] = none_high
 plain_ones_high false [] = none_high
 plain_ones_high true (Plain a absent ∷ es) = tt
 plain_ones_high false (Plain a absent ∷ es) = high_mapped arguments_height (add_plain a absent) (max (arg_height a) 0) (entry_heights es)
-    (plain_ones false es) (plain_high a absent) (plain_ones_high false es)
+    (plain_ones false es) (plain_height a absent) (plain_ones_high false es)
 plain_ones_high true (Plain a (present e) ∷ es) = high_mapped arguments_height (add_plain a (present e)) (max (arg_height a) (height e))
-    (entry_heights es) (plain_ones true es) (plain_high a (present e)) (plain_ones_high true es)
+    (entry_heights es) (plain_ones true es) (plain_height a (present e)) (plain_ones_high true es)
 plain_ones_high false (Plain a (present e) ∷ es) = high_mapped arguments_height (add_plain a (present e)) (max (arg_height a) (height e))
-    (entry_heights es) (plain_ones true es) (plain_high a (present e)) (plain_ones_high true es)
+    (entry_heights es) (plain_ones true es) (plain_height a (present e)) (plain_ones_high true es)
 plain_ones_high true (e ∷ es) = at_star_high (e ∷ es)
 plain_ones_high false (e ∷ es) = at_star_high (e ∷ es)
 
@@ -179,23 +119,23 @@ before_slash_high false [] = tt
 before_slash_high true (Plain a absent ∷ es) = tt
 before_slash_high false (Plain a absent ∷ []) = tt
 before_slash_high false (Plain a absent ∷ (Slashed ∷ es)) = high_mapped arguments_height (add_before_slash a absent) (max (arg_height a) 0)
-    (max 0 (entry_heights es)) (plain_ones false es) (before_high a absent) (under_zero (entry_heights es) (plain_ones false es)
+    (max 0 (entry_heights es)) (plain_ones false es) (slash_height a absent) (under_zero (entry_heights es) (plain_ones false es)
     (plain_ones_high false es))
 before_slash_high false (Plain a absent ∷ (e ∷ es)) = high_mapped arguments_height (add_before_slash a absent) (max (arg_height a) 0)
-    (entry_heights (e ∷ es)) (before_slash false (e ∷ es)) (before_high a absent) (before_slash_high false (e ∷ es))
+    (entry_heights (e ∷ es)) (before_slash false (e ∷ es)) (slash_height a absent) (before_slash_high false (e ∷ es))
 before_slash_high true (Plain a (present d) ∷ []) = tt
 before_slash_high false (Plain a (present d) ∷ []) = tt
 before_slash_high true (Plain a (present d) ∷ (Slashed ∷ es)) = high_mapped arguments_height (add_before_slash a (present d))
-    (max (arg_height a) (height d)) (max 0 (entry_heights es)) (plain_ones true es) (before_high a (present d))
+    (max (arg_height a) (height d)) (max 0 (entry_heights es)) (plain_ones true es) (slash_height a (present d))
     (under_zero (entry_heights es) (plain_ones true es) (plain_ones_high true es))
 before_slash_high false (Plain a (present d) ∷ (Slashed ∷ es)) = high_mapped arguments_height (add_before_slash a (present d))
-    (max (arg_height a) (height d)) (max 0 (entry_heights es)) (plain_ones true es) (before_high a (present d))
+    (max (arg_height a) (height d)) (max 0 (entry_heights es)) (plain_ones true es) (slash_height a (present d))
     (under_zero (entry_heights es) (plain_ones true es) (plain_ones_high true es))
 before_slash_high true (Plain a (present d) ∷ (e ∷ es)) = high_mapped arguments_height (add_before_slash a (present d))
-    (max (arg_height a) (height d)) (entry_heights (e ∷ es)) (before_slash true (e ∷ es)) (before_high a (present d))
+    (max (arg_height a) (height d)) (entry_heights (e ∷ es)) (before_slash true (e ∷ es)) (slash_height a (present d))
     (before_slash_high true (e ∷ es))
 before_slash_high false (Plain a (present d) ∷ (e ∷ es)) = high_mapped arguments_height (add_before_slash a (present d))
-    (max (arg_height a) (height d)) (entry_heights (e ∷ es)) (before_slash true (e ∷ es)) (before_high a (present d))
+    (max (arg_height a) (height d)) (entry_heights (e ∷ es)) (before_slash true (e ∷ es)) (slash_height a (present d))
     (before_slash_high true (e ∷ es))
 before_slash_high true (_ ∷ es) = tt
 before_slash_high false (_ ∷ es) = tt

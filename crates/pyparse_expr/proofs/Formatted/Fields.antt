@@ -1,14 +1,13 @@
 -- The parts of an f-string one by one: texts, and fields with their format specs.
 --
 -- Carries: with_part, read_field, read_spec, string_atom, formatted_atom. On: Formatted.Values, Reading.
-use Rattle.std.proofs.Common.{◌≡◌, refl, sym, ap, ◌∙◌, arith, ℕ, ◌+◌, ◌≤◌, ◌<◌, List, [], length, drop, Option, Some, None, Bool, false}
+use Rattle.std.proofs.Common.{◌≡◌, sym, ap, ◌∙◌, arith, ℕ, ◌+◌, ◌<◌, List, [], length, None, Bool, false}
 use Rattle.std.proofs.Common.{Result, Ok, Err, MatchResult}
 use Rattle.pylex_lexeme.specs.declared.kinds.Exact.TheVariants.{LPar}
 use Rattle.pyfstring.specs.declared.parts.Conversion.{Conversion}
 use Rattle.pytree_node.specs.Trees
 use Rattle.pytree_node.specs.Trees.{Expr, OptionalExpr, absent, present, exprs, optional}
 use Rattle.pytree_node.specs.TreeOf.{boxed_of, tree_of}
-use Rattle.pytree_height.specs.Heights.{height}
 use Rattle.pytoken.specs.FormattedStrings.{text_points}
 use Rattle.pytoken.specs.TerminalOf.{text_part}
 use Rattle.pytoken.specs.Terminals.{Terminal, Op, SpecBegin, FieldEnd}
@@ -31,8 +30,8 @@ use Rattle.pyparse_nodes.specs.JoinedStates.{Gathers, IsNode, ended, state_of, s
 use Rattle.pyparse_nodes.specs.Views.{Stands, seen, first_is}
 use Rattle.pyparse_expr.specs.declared.depth.Depth.{Depth}
 use Rattle.pyparse_expr.specs.Inner.Readings.{inner_reads}
-use Rattle.pyparse_expr.specs.Inner.Strings.{AddedAt, Lowers, PartAdded, PartsAt, part_reads}
-use Rattle.pyparse_expr.proofs.Reader.Reading.{cap_high, cap_low, failed_cap, failed_then, first_hit, first_miss}
+use Rattle.pyparse_expr.specs.Inner.Strings.{Lowers, PartAdded, PartsAt, part_reads}
+use Rattle.pyparse_expr.proofs.Reader.Reading.{cap_high, cap_low, failed_then, first_hit, first_miss}
 use Rattle.pyparse_expr.proofs.Formatted.Values.{spec_values}
 
 module _ (ts : List given.Terminal) (d : Depth) (u : Bool) (most : ℕ) where

@@ -1,7 +1,7 @@
 -- Neighbouring literals, in front of an f-string or of none.
 --
 -- Carries: read_literals. On: Runs, JoinedStates.
-use Rattle.std.proofs.Common.{◌≡◌, refl, sym, ap, ◌∙◌, ℕ, ◌+◌, ◌≤◌, arith, List, [], ◌∷◌, ◌++◌, length, Option, Some, None, Bool}
+use Rattle.std.proofs.Common.{◌≡◌, refl, sym, ap, ◌∙◌, ℕ, ◌+◌, ◌≤◌, arith, List, [], ◌∷◌, ◌++◌, Option, Some, None, Bool}
 use Rattle.std.proofs.Common.{option_map, Result, Ok, Err, MatchResult}
 use Rattle.pytree_node.specs.Trees
 use Rattle.pytree_node.specs.Trees.{Expr}
@@ -54,7 +54,7 @@ no_bytes t k vs b h = let r = text_run k k [] t vs (Values.Bytes b) h in absurd 
     bad : {x : List ℕ} → Values.Str x k ≡ Values.Bytes b → ⊥
     bad q = cc
 
-bytes_run : (t : List ℕ) (vs : List Value) (s : List ℕ) (k : Bool) → joined (Values.Bytes t) vs ≡ Some (Values.Str s k) → ⊥
+pub bytes_run : (t : List ℕ) (vs : List Value) (s : List ℕ) (k : Bool) → joined (Values.Bytes t) vs ≡ Some (Values.Str s k) → ⊥
 bytes_run t [] s k h = cc
 bytes_run t (Values.Bytes x ∷ vs) s k h = bytes_run (t ++ x) vs s k h
 bytes_run t (_ ∷ vs) s k h = cc

@@ -1,7 +1,7 @@
 -- The loops over the parts of an f-string, and over literals and f-strings.
 --
 -- Carries: read_parts, read_formatted, more_literals, read_joined. On: Formatted.Values, Reading.
-use Rattle.std.proofs.Common.{◌≡◌, refl, sym, ap, ◌∙◌, arith, ℕ, zero, suc, ◌+◌, ◌≤◌, ◌<◌, List, [], ◌∷◌, ◌++◌, length, drop, Option, Some}
+use Rattle.std.proofs.Common.{◌≡◌, refl, sym, ap, ◌∙◌, arith, ℕ, zero, suc, ◌+◌, ◌≤◌, ◌<◌, List, [], ◌∷◌, ◌++◌, length, drop, Some}
 use Rattle.std.proofs.Common.{None, Bool, Result, Ok, Err, MatchResult}
 use Rattle.pytree_node.specs.Trees
 use Rattle.pytree_node.specs.Trees.{Expr, exprs}
@@ -22,13 +22,13 @@ use Rattle.pyparse_nodes.specs.declared.marks.Part.TheVariants as part
 use Rattle.pyparse_nodes.specs.declared.stop.Stop.{Stop}
 use Rattle.pyparse_nodes.specs.declared.stop.Stop.TheVariants as stop
 use Rattle.pyparse_nodes.specs.Answers.{Failed, PartAnswered}
-use Rattle.pyparse_nodes.specs.JoinedStates.{Gathers, IsNode, ended, gathered, state, state_of, step, steps}
+use Rattle.pyparse_nodes.specs.JoinedStates.{Gathers, IsNode, ended, gathered, state, state_of, step}
 use Rattle.pyparse_nodes.specs.Marks.{conversion_of, points_of}
 use Rattle.pyparse_nodes.specs.Runs.{IsNoText}
 use Rattle.pyparse_nodes.specs.Views.{Stands, seen, first_is}
 use Rattle.pyparse_expr.specs.declared.depth.Depth.{Depth}
 use Rattle.pyparse_expr.specs.Inner.Readings.{inner_reads}
-use Rattle.pyparse_expr.specs.Inner.Strings.{AddedAt, PartsAt, PartsAnswered, part_reads}
+use Rattle.pyparse_expr.specs.Inner.Strings.{AddedAt, PartsAt, part_reads}
 use Rattle.pyparse_expr.proofs.Reader.Reading.{seen_next, seen_length, first_hit, first_miss, failed_then}
 use Rattle.pyparse_expr.proofs.Formatted.Values.{joined_values, steps_append}
 

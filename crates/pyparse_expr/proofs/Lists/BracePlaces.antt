@@ -1,8 +1,7 @@
 -- The places of what stands in braces.
 --
 -- Carries: curly, set_comp, keyed, dict_comp. On: Braces of pyplaces, PairPlaces, ListPlaces.
-use Rattle.std.proofs.Common.{◌≡◌, refl, sym, ap, ◌∙◌, subst, ℕ, ◌+◌, List, [], ◌∷◌, ◌++◌, map, None, Some, true, Result, Ok, Err}
-use Rattle.std.proofs.Common.{append_assoc}
+use Rattle.std.proofs.Common.{◌≡◌, refl, sym, ap, ◌∙◌, subst, ℕ, ◌+◌, List, [], ◌∷◌, ◌++◌, map, None, true, Result, Ok, Err}
 use Rattle.std.specs.Prelude.{IfOk}
 use Rattle.std.proofs.lemmas.List.{append-nil}
 use Rattle.pylex_lexeme.specs.declared.kinds.Exact.TheVariants.{Colon, ColonEqual, DoubleStar, LBrace, RBrace, Star}
@@ -25,14 +24,13 @@ use Rattle.pyplaces.specs.Stretches.{Stretch, stretch}
 use Rattle.pyplaces.specs.EntryPlaces as E
 use Rattle.pyplaces.specs.EntryPlaces.{EntryPlaces}
 use Rattle.pyplaces.specs.Placed.{Placed, PlacedPiece}
-use Rattle.pyplaces.specs.Recording.{afters, Records}
+use Rattle.pyplaces.specs.Recording.{Records, Kept}
 use Rattle.pyplaces.specs.Rests.{Clauses}
 use Rattle.pyplaces.proofs.Answers.{placed_as, records_node, records_more}
 use Rattle.pyplaces.proofs.Expressions.Listings.{placed_no_item}
 use Rattle.pyplaces.proofs.Expressions.Braces.{placed_dict, placed_dict_comp, placed_pair, placed_pairs_of, placed_set_comp}
 use Rattle.pyplaces.proofs.Expressions.Comprehensions.{clauses_some}
 use Rattle.pyplaces.proofs.Expressions.Readings.{elem_named, named_expression}
-use Rattle.pyparse_expr.specs.Inner.Aside.{Kept}
 use Rattle.pyparse_expr.specs.Inner.Pairs.{pair_of}
 use Rattle.pyparse_expr.proofs.Lists.PairPlaces.{piece_as}
 use Rattle.pyparse_expr.proofs.Recorders.Aside.{kept_as}

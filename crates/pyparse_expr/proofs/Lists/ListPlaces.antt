@@ -7,7 +7,7 @@ use Rattle.std.proofs.lemmas.List.{append-nil, map-append}
 use Rattle.pylex_lexeme.specs.declared.kinds.Exact.TheVariants.{Comma, LBrace, RBrace}
 use Rattle.pytree_node.specs.declared.operators.Context.TheVariants.{Load}
 use Rattle.pytree_node.specs.Trees
-use Rattle.pytree_node.specs.Trees.{Expr, exprs}
+use Rattle.pytree_node.specs.Trees.{exprs}
 use Rattle.pytree_node.specs.TreeOf.{tree_of}
 use Rattle.pytoken.specs.Terminals.{Terminal, Op}
 use Rattle.pytoken.specs.declared.values.terminals.Terminal as given

@@ -9,7 +9,7 @@ use Rattle.std.proofs.lemmas.List.{map-append}
 use Rattle.pylex_lexeme.specs.declared.kinds.Exact.TheVariants.{Comma, RPar}
 use Rattle.pytree_node.specs.declared.operators.Context.TheVariants.{Load}
 use Rattle.pytree_node.specs.Trees
-use Rattle.pytree_node.specs.Trees.{Expr, Exprs, exprs, an_expr, no_exprs}
+use Rattle.pytree_node.specs.Trees.{Expr, Exprs, exprs, an_expr}
 use Rattle.pytree_node.specs.TreeOf.{tree_of}
 use Rattle.pytoken.specs.Terminals.{Terminal, Op}
 use Rattle.pytoken.specs.declared.values.terminals.Terminal as given

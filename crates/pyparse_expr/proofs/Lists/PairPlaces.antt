@@ -1,7 +1,7 @@
 -- The places of pairs, and of a Dict.
 --
 -- Carries: read_pair, more_pairs, dict_from, keyed, curly. On: Listings and Braces of pyplaces, PairSteps, Aside.
-use Rattle.std.proofs.Common.{◌≡◌, refl, sym, ap, ◌∙◌, subst, ℕ, ◌+◌, List, [], ◌∷◌, ◌++◌, map, None, Result, Ok, Err, append_assoc}
+use Rattle.std.proofs.Common.{◌≡◌, refl, sym, ap, ◌∙◌, subst, ℕ, ◌+◌, List, [], ◌∷◌, ◌++◌, map, None, Result, append_assoc}
 use Rattle.std.specs.Prelude.{IfOk}
 use Rattle.std.proofs.lemmas.List.{append-nil}
 use Rattle.pylex_lexeme.specs.declared.kinds.Exact.TheVariants.{Comma, Colon, DoubleStar, LBrace, RBrace}
@@ -23,19 +23,19 @@ use Rattle.pyparse_nodes.specs.Views.{Stands, seen, first_is}
 use Rattle.pyplaces.specs.Stretches.{Stretch, stretch}
 use Rattle.pyplaces.specs.EntryPlaces as E
 use Rattle.pyplaces.specs.EntryPlaces.{EntryPlaces}
-use Rattle.pyplaces.specs.Placed.{Placed, PlacedPiece}
-use Rattle.pyplaces.specs.Recording.{afters, Records}
+use Rattle.pyplaces.specs.Placed.{PlacedPiece}
+use Rattle.pyplaces.specs.Recording.{afters, Kept}
 use Rattle.pyplaces.specs.Rests.{Others}
 use Rattle.pyplaces.proofs.Answers.{records_node, records_more}
+use Rattle.pyplaces.proofs.Asides.{kept_more, kept_then}
 use Rattle.pyplaces.proofs.Loops.{Grows, grows_start}
 use Rattle.pyplaces.proofs.Selections.{keys_append, values_append}
 use Rattle.pyplaces.proofs.Expressions.Listings.{others_turn, others_end, others_comma, listed}
 use Rattle.pyplaces.proofs.Expressions.Braces.{placed_dict, placed_pair, placed_pairs_of}
-use Rattle.pyparse_expr.specs.Inner.Aside.{Kept}
 use Rattle.pyparse_expr.specs.Inner.Pairs.{pair_of, pairs_of}
 use Rattle.pyparse_expr.specs.Inner.PlacedLists.{PairPlaced, PairsPlaced}
 use Rattle.pyparse_expr.proofs.Lists.PairSteps.{pairs_keys, pairs_values}
-use Rattle.pyparse_expr.proofs.Recorders.Aside.{kept_as, kept_aside, kept_back, kept_then, records_done}
+use Rattle.pyparse_expr.proofs.Recorders.Aside.{kept_as, kept_back, records_done}
 use Rattle.pyparse_expr.proofs.Recorders.Misses.{lacks_sign}
 use Rattle.pyparse_expr.proofs.Recorders.Reads.{ReadPlaced, LeftPlaced, made_left, with_places}
 
@@ -62,7 +62,7 @@ module _ {S : Type 0} {after beside : S → Stretch → S} {ts : List given.Term
   paired_placed a e b s d h p k = record {
     entry = E.Paired b.0 d.0;
     placed = piece_as (seen ts) p k (placed_pair b.1 s.is d.1);
-    kept = kept_as (append-nil b.0) (append-nil d.0) (kept_aside b.2 h);
+    kept = kept_as (append-nil b.0) (append-nil d.0) (kept_then b.2 h);
   }
 
 -- ---- How far the pairs have come.
@@ -97,7 +97,7 @@ module _ {S : Type 0} {after beside : S → Stretch → S} {ts : List given.Term
         entries = p ∙ (ap (λ z. z ++ one) g.entries ∙ append_assoc (pairs_of first) g.es one);
         grows = subst (λ z. Grows (Others Pair) (seen ts first.next) first.next (g.es ++ one) (seen ts z) z (g.places ++ its))
             (sym k) (others_turn g.grows s.is d.placed);
-        kept = kept_as (keys_append g.places its) (values_append g.places its) (kept_then apart g.kept d.kept);
+        kept = kept_as (keys_append g.places its) (values_append g.places its) (kept_more (record { is = apart }) g.kept d.kept);
       }
 
   pub pairs_grown_end : {first pairs : Pairs} {u v : S} → PairsGrown after beside ts first pairs u v
@@ -140,7 +140,7 @@ module _ {S : Type 0} {after beside : S → Stretch → S} {ts : List given.Term
       let others : Others Pair (seen ts first.next) first.next o.es (seen ts pairs.next) pairs.next o.places =
       subst (λ n. Others Pair (seen ts n) n o.es (seen ts pairs.next) pairs.next o.places) place o.others in
       let both : Kept after beside w (E.keys o.places) (E.values fs) v =
-      kept_as refl (values_append (p ∷ []) o.places) (kept_then apart before o.kept) in
+      kept_as refl (values_append (p ∷ []) o.places) (kept_more (record { is = apart }) before o.kept) in
       let keys_are : parts.keys (pair_of first ∷ o.es) ≡ optionals (map option_of pairs.keys.items) =
       ap parts.keys all ∙ pairs_keys pairs in
       let values_are : parts.values (pair_of first ∷ o.es) ≡ exprs (map tree_of pairs.values.items) =

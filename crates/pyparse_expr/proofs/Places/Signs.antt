@@ -7,7 +7,6 @@ use Rattle.pytoken.specs.declared.keywords.Keyword.TheVariants as Key
 use Rattle.pylex_lexeme.specs.declared.kinds.Exact.TheVariants.{EqEqual, NotEqual, Less, LessEqual, Greater, GreaterEqual}
 use Rattle.pytree_node.specs.declared.operators.BoolOperator.{BoolOperator}
 use Rattle.pytree_node.specs.declared.operators.BoolOperator.TheVariants as Join
-use Rattle.pytree_node.specs.declared.operators.Comparison.{Comparison}
 use Rattle.pytree_node.specs.declared.operators.Comparison.TheVariants as Is
 use Rattle.pytree_node.specs.Trees.{Expr}
 use Rattle.pytoken.specs.Terminals.{Terminal, Op, Word}
@@ -22,9 +21,6 @@ use Rattle.pyparse_expr.specs.Inner.Chains.{ComparedAt, MisComparedAt, NotCompar
 use Rattle.pyparse_nodes.specs.Views.{Stands, seen, first_is, first_of}
 use Rattle.pyparse_expr.proofs.Reader.Reading.{first_hit, first_miss, seen_next}
 use Rattle.pyparse_nodes.proofs.Callers.Places.{front}
-
-abbrev Hit : Type 0
-Hit = Comparison → List Terminal → Answer Expr
 
 pub one_sign : (ts : List given.Terminal) (at : ℕ) (c : Compared) → Some c.op ≡ first_is comparison (seen ts at) → at < length ts
     → c.next ≡ at + 1 → ComparedAt ts at c

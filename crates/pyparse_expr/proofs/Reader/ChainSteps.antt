@@ -14,7 +14,6 @@ use Rattle.pygrammar.specs.declared.levels.Level.TheVariants as level
 use Rattle.pygrammar.specs.Looks.{is_word}
 use Rattle.pygrammar.specs.Operators.{below, chain_level, chain_word}
 use Rattle.pygrammar.specs.Precedence as precedence
-use Rattle.pygrammar.specs.Precedence.{Infix}
 use Rattle.pygrammar.specs.Reader.{Answer, Found, NoForm, TooDeep, and_then, on_some, chain_loop, compare_loop, operation}
 use Rattle.pygrammar.specs.Capped.{cap}
 use Rattle.pygrammar.proofs.Callers.Terminals.{word_is}

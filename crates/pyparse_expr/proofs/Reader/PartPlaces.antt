@@ -1,7 +1,7 @@
 -- The places of the parts of headers.
 --
 -- Carries: parameters_at, arguments_at. On: ArgumentOrder, Formals.
-use Rattle.std.proofs.Common.{◌≡◌, sym, ap, ◌∙◌, ℕ, List, map, Some, Bool, true, false, not}
+use Rattle.std.proofs.Common.{◌≡◌, sym, ap, ◌∙◌, ℕ, List, map, Some, true, false, not}
 use Rattle.pytree_node.specs.Trees
 use Rattle.pytree_node.specs.Trees.{Arguments, exprs}
 use Rattle.pytree_node.specs.TreeOf.{keyword_of, tree_of}

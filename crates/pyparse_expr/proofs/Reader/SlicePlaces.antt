@@ -21,7 +21,7 @@ use Rattle.pyparse_nodes.specs.Answers.{Makes}
 use Rattle.pyparse_nodes.specs.Views.{Stands, IsNotNamed, seen, first_is}
 use Rattle.pyplaces.specs.Stretches.{Stretch, stretch}
 use Rattle.pyplaces.specs.EntryPlaces as E
-use Rattle.pyplaces.specs.Placed.{Placed, PlacedPerhaps}
+use Rattle.pyplaces.specs.Placed.{PlacedPerhaps}
 use Rattle.pyplaces.specs.Recording.{Records}
 use Rattle.pyplaces.specs.Rests.{PlacedPart, starred, unstarred}
 use Rattle.pyplaces.proofs.Answers.{placed_as, read_from, records_made, records_node, records_more}

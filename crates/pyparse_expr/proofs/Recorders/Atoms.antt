@@ -2,8 +2,7 @@
 --
 -- Carries: read_atom, atom_of, other_atom, closed, round, group_tuple, generator_group, square, list_comp.
 -- On: Made, Looks, Levels; Atoms, Listings and Comprehensions of pyplaces.
-use Rattle.std.proofs.Common.{◌≡◌, refl, sym, ap, subst, ◌∙◌, arith, ℕ, ◌+◌, List, [], ◌∷◌, ◌++◌, None, true, Result, Ok, Err, map}
-use Rattle.std.proofs.Common.{append_assoc}
+use Rattle.std.proofs.Common.{◌≡◌, refl, sym, subst, ℕ, ◌+◌, List, [], ◌∷◌, ◌++◌, None, true, Result, Ok, Err, map}
 use Rattle.std.specs.Prelude.{IfOk, MatchResult}
 use Rattle.pylex_lexeme.specs.declared.kinds.Exact.TheVariants.{LPar, RPar, LSqb, RSqb, Comma, Star}
 use Rattle.pytoken.specs.declared.keywords.Keyword.TheVariants as Key
@@ -13,7 +12,6 @@ use Rattle.pytree_node.specs.Trees.{Expr, exprs, no_exprs, comprehensions}
 use Rattle.pytree_node.specs.TreeOf.{tree_of, comprehension_of}
 use Rattle.pytoken.specs.Terminals.{Terminal, Op, Word}
 use Rattle.pytoken.specs.declared.values.terminals.Terminal as given
-use Rattle.pygrammar.specs.declared.levels.Level.{Level}
 use Rattle.pygrammar.specs.declared.levels.Level.TheVariants as level
 use Rattle.pygrammar.specs.Entries.{Of}
 use Rattle.pygrammar.specs.Looks.{is_op}
@@ -39,7 +37,6 @@ use Rattle.pyplaces.proofs.Expressions.Comprehensions.{clauses_some}
 use Rattle.pyplaces.proofs.Expressions.Listings.{placed_single, placed_no_item, listed, behind_comma}
 use Rattle.pyplaces.proofs.Expressions.Readings.{elem_named}
 use Rattle.pyparse_expr.proofs.Recorders.Made.{Whole, WholeBehind, at_next, whole_made, whole_behind, leaf_made}
-use Rattle.pyparse_expr.proofs.Recorders.Levels.{Yielded}
 use Rattle.pyparse_expr.proofs.Recorders.Looks.{no_op}
 
 module _ {S : Type 0} (after : S → Stretch → S) (u v : S) (ts : List given.Terminal) where

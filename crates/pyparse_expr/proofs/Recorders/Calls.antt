@@ -1,7 +1,7 @@
 -- The arguments of a call, recorded: those with a name are set aside, and taken back at its end.
 --
 -- Carries: arguments.rt. On: Asides, Listings, Arguments, Primaries of pyplaces; ArgumentOrder.
-use Rattle.std.proofs.Common.{◌≡◌, refl, sym, ap, subst, ◌∙◌, ℕ, ◌+◌, List, [], ◌∷◌, ◌++◌, map, Some, None, Bool, true, false, cond}
+use Rattle.std.proofs.Common.{◌≡◌, refl, sym, ap, subst, ◌∙◌, ℕ, ◌+◌, List, [], ◌∷◌, ◌++◌, map, Some, None, true, false, cond}
 use Rattle.std.proofs.Common.{append_assoc, Result, Ok, Err, MatchResult, IfOk}
 use Rattle.std.proofs.lemmas.List.{append-nil}
 use Rattle.pylex_lexeme.specs.declared.kinds.Exact.TheVariants.{LPar, RPar, Comma}
@@ -37,6 +37,7 @@ use Rattle.pyplaces.proofs.Expressions.Listings.{placed_no_item, placed_last_ite
 use Rattle.pyplaces.proofs.Expressions.Primaries.{placed_call, placed_call_generator}
 use Rattle.pyplaces.proofs.Loops.{Grows, grows_start}
 use Rattle.pyplaces.proofs.Selections.{positional_append, keywords_append}
+use Rattle.pyparse_expr.proofs.Calls.ArgumentSteps.{steps_snoc}
 
 -- two things of what a call returned
 pub ok_by : {X Y : Type 0} {P Q T : X → Type 0} (A B : Y → Type 0) (z : Result X Y) → MatchResult z P A → MatchResult z Q B
@@ -84,13 +85,9 @@ pub single_read : {e : Expr} {r : List Terminal} {behind : ℕ} {ps : List Stret
 single_read {e} {r} {behind} {ps} ts at k q p =
     subst (λ z. Placed (level_of z) (seen ts (place_of z at)) (place_of z at) e r behind ps) q p
 
-steps_one : (s : State) (es : List Entry) (e : Entry) → steps s (es ++ (e ∷ [])) ≡ step (steps s es) e
-steps_one s [] e = refl
-steps_one s (x ∷ es) e = steps_one (step s x) es e
-
 one_more : (s : State) (a r : Actual) (es : List Entry) (e : Entry) → state_of a ≡ steps s es → state_of r ≡ step (state_of a) e
     → state_of r ≡ steps s (es ++ (e ∷ []))
-one_more s a r es e p q = q ∙ ap (λ z. step z e) p ∙ sym (steps_one s es e)
+one_more s a r es e p q = q ∙ ap (λ z. step z e) p ∙ sym (steps_snoc s es e)
 
 -- what is said of it, for a function that stands from `at` on
 abbrev pub CallPlaced : {S : Type 0} → (S → Stretch → S) → List given.Terminal → ℕ → List Stretch → Read → S → S → Type 0

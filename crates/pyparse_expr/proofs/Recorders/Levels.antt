@@ -2,17 +2,16 @@
 --
 -- Carries: read_value, read_subject, yield_step, read_stars, read_star_item, read_elem, read_named, read_expression, if_else_step.
 -- On: Made, Looks; Levels, Readings and Listings of pyplaces.
-use Rattle.std.proofs.Common.{◌≡◌, refl, sym, ap, subst, ◌∙◌, arith, ℕ, ◌+◌, List, [], ◌∷◌, ◌++◌, None, Result, Ok, Err, append_assoc}
+use Rattle.std.proofs.Common.{◌≡◌, refl, sym, ap, subst, ◌∙◌, ℕ, ◌+◌, List, [], ◌∷◌, ◌++◌, None, Result, Ok, Err, append_assoc}
 use Rattle.std.specs.Prelude.{IfOk}
 use Rattle.pylex_lexeme.specs.declared.kinds.Exact.TheVariants.{Comma, Star, ColonEqual}
 use Rattle.pytoken.specs.declared.keywords.Keyword.TheVariants as Key
 use Rattle.pytree_node.specs.declared.operators.Context.TheVariants.{Load, Store}
 use Rattle.pytree_node.specs.Trees
-use Rattle.pytree_node.specs.Trees.{Expr, absent, present}
+use Rattle.pytree_node.specs.Trees.{Expr}
 use Rattle.pytree_node.specs.TreeOf.{tree_of}
-use Rattle.pytoken.specs.Terminals.{Terminal, Spelled, Op, Word, Ident}
+use Rattle.pytoken.specs.Terminals.{Terminal, Op, Word}
 use Rattle.pytoken.specs.declared.values.terminals.Terminal as given
-use Rattle.pygrammar.specs.declared.levels.Level.{Level}
 use Rattle.pygrammar.specs.declared.levels.Level.TheVariants as level
 use Rattle.pygrammar.specs.Entries.{Of}
 use Rattle.pygrammar.specs.Looks.{is_op}
@@ -24,7 +23,6 @@ use Rattle.pyparse_expr.specs.Inner.PlacedLists.{TuplePlaced}
 use Rattle.pyplaces.specs.Stretches.{Stretch, stretch}
 use Rattle.pyplaces.specs.Placed.{Placed, PlacedYields}
 use Rattle.pyplaces.specs.Recording.{Records, afters}
-use Rattle.pyplaces.specs.Rests.{Lacks}
 use Rattle.pyplaces.proofs.Answers.{placed_as, records_node, records_made, records_more}
 use Rattle.pyplaces.proofs.Expressions.Levels.{placed_next, placed_yields, placed_star_tuple, placed_subject_tuple, placed_star_item}
 use Rattle.pyplaces.proofs.Expressions.Levels.{placed_star_elem, placed_named, placed_if_else}

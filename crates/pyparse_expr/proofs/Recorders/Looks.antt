@@ -8,7 +8,7 @@ use Rattle.pytoken.specs.Terminals.{Terminal, Spelled, Op, Word, Ident}
 use Rattle.pytoken.specs.declared.values.terminals.Terminal as given
 use Rattle.pytoken.specs.TerminalOf.{terminal}
 use Rattle.pygrammar.specs.Looks.{is_op, is_word, name_in}
-use Rattle.pyparse_nodes.specs.Views.{IsNotNamed, seen, first_is}
+use Rattle.pyparse_nodes.specs.Views.{seen, first_is}
 use Rattle.pyplaces.specs.Rests.{Lacks}
 use Rattle.pyplaces.proofs.Answers.{lacks_op, lacks_word}
 
@@ -31,7 +31,7 @@ some_first f a ts n h = go (seen ts n) h (drop-drop 1 n (map terminal ts))
     go [] h q = absurd (cc)
     go (t ∷ r) h q = (t, ap (λ z. t ∷ z) q, sym h)
 
-name_is : (t : Terminal) (f : List ℕ) → name_in t ≡ Some f → (x : Spelled) × (t ≡ Ident x) × (x.form ≡ f)
+pub name_is : (t : Terminal) (f : List ℕ) → name_in t ≡ Some f → (x : Spelled) × (t ≡ Ident x) × (x.form ≡ f)
 name_is (Ident x) f h = (x, refl, cc)
 name_is _ f h = absurd (cc)
 

@@ -1,7 +1,7 @@
 -- What was made behind a node that was recorded, or handed on from a reader further in: the places of the whole.
 --
 -- Carries: each reader of expressions. On: the steps of an answer, in pyplaces.
-use Rattle.std.proofs.Common.{◌≡◌, refl, sym, ap, subst, ◌∙◌, ℕ, ◌+◌, List, [], ◌∷◌, ◌++◌, Result, Ok, Err}
+use Rattle.std.proofs.Common.{◌≡◌, sym, subst, ℕ, List, ◌++◌, Result, Ok, Err}
 use Rattle.std.specs.Prelude.{IfOk, MatchResult}
 use Rattle.pytree_node.specs.Trees.{Expr}
 use Rattle.pytree_node.specs.TreeOf.{tree_of}
@@ -13,11 +13,11 @@ use Rattle.pyparse_nodes.specs.declared.stop.Stop.{Stop}
 use Rattle.pyparse_nodes.specs.declared.stop.Stop.TheVariants as stop
 use Rattle.pyparse_nodes.specs.Answers.{Made, Makes}
 use Rattle.pyparse_nodes.specs.Views.{seen}
-use Rattle.pyplaces.specs.Stretches.{Stretch, stretch}
-use Rattle.pyplaces.specs.Placed.{Placed, PlacedYields}
+use Rattle.pyplaces.specs.Stretches.{Stretch}
+use Rattle.pyplaces.specs.Placed.{Placed}
 use Rattle.pyplaces.specs.Recording.{Records}
 use Rattle.pyplaces.specs.Standing.{Standing}
-use Rattle.pyplaces.proofs.Answers.{placed_as, standing_as, records_node, records_more}
+use Rattle.pyplaces.proofs.Answers.{placed_as, standing_as, records_more}
 
 -- the same place by another number
 pub at_next : {l : Level} {i r : List Terminal} {at n behind : ℕ} {e : Expr} {ps : List Stretch} → at ≡ n → Placed l i at e r behind ps

@@ -1,10 +1,9 @@
 -- What doesn't stand at a place, as the lemmas on places take it.
 --
 -- Carries: listing, more_pairs, curly, read_slices, read_part, read_slice, comps.
-use Rattle.std.proofs.Common.{◌≡◌, refl, sym, ap, ◌∙◌, ℕ, List, [], ◌∷◌, Option, Some, None, Bool, true, false}
+use Rattle.std.proofs.Common.{◌≡◌, refl, sym, ap, ◌∙◌, ℕ, List, [], ◌∷◌, Option, Some, None, false}
 use Rattle.pylex_lexeme.specs.declared.kinds.Exact.{Exact}
 use Rattle.pylex_lexeme.specs.declared.kinds.Exact.TheVariants.{ColonEqual}
-use Rattle.pytoken.specs.declared.keywords.Keyword.{Keyword}
 use Rattle.pytoken.specs.declared.keywords.Keyword.TheVariants as Key
 use Rattle.pytoken.specs.Terminals.{Terminal, Spelled, Op, Word, Ident}
 use Rattle.pygrammar.specs.Looks.{is_op, is_word}
@@ -12,13 +11,10 @@ use Rattle.pygrammar.specs.Precedence.{starts_comp}
 use Rattle.pygrammar.specs.Reader.{on_name_with}
 use Rattle.pyparse_nodes.specs.Views.{first_is}
 use Rattle.pyplaces.specs.Rests.{Lacks}
-use Rattle.pyplaces.proofs.Answers.{lacks_op, lacks_word}
+use Rattle.pyplaces.proofs.Answers.{lacks_op}
 
 pub lacks_sign : (r : List Terminal) (x : Exact) → None ≡ first_is (is_op x) r → Lacks (Op x) r
 lacks_sign r x h = lacks_op x (λ t s q. sym (h ∙ ap (λ z. first_is (is_op x) z) q))
-
-pub lacks_keyword : (r : List Terminal) (x : Keyword) → None ≡ first_is (is_word x) r → Lacks (Word x) r
-lacks_keyword r x h = lacks_word x (λ t s q. sym (h ∙ ap (λ z. first_is (is_word x) z) q))
 
 no_some : (f : List ℕ) → ◌≡◌ {A = Option (List ℕ)} None (Some f) → ⊥
 no_some f h = absurd (cc)

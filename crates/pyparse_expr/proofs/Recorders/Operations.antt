@@ -1,7 +1,7 @@
 -- The places of operations, and how far climbing has come.
 --
 -- Carries: climb, climb_first, prefixed, signed, operation, binary. On: Made, Looks; Climbing and Turns of pyplaces.
-use Rattle.std.proofs.Common.{◌≡◌, refl, sym, ap, subst, ◌∙◌, arith, ℕ, ◌+◌, ◌≤◌, ◌<◌, List, [], ◌∷◌, ◌++◌, Some, None, true, Result, Ok}
+use Rattle.std.proofs.Common.{◌≡◌, refl, sym, subst, arith, ℕ, ◌+◌, ◌≤◌, List, [], ◌∷◌, ◌++◌, Some, None, true, Result, Ok}
 use Rattle.std.proofs.Common.{Err}
 use Rattle.std.specs.Prelude.{IfOk}
 use Rattle.pytree_node.specs.declared.operators.Operator.{Operator}

@@ -10,14 +10,14 @@ use Rattle.pylex_lexeme.specs.declared.kinds.Exact.TheVariants.{Colon, Comma, St
 use Rattle.pytree_node.specs.declared.operators.Context.TheVariants.{Load}
 use Rattle.pytree_node.specs.declared.expressions.Arg as given_arg
 use Rattle.pytree_node.specs.Trees
-use Rattle.pytree_node.specs.Trees.{Expr, OptionalExpr, absent, present, optional, Arg, arg, Arguments}
+use Rattle.pytree_node.specs.Trees.{OptionalExpr, absent, present, optional, Arg, arg, Arguments}
 use Rattle.pytree_node.specs.TreeOf.{tree_of, boxed_of, arg_of}
 use Rattle.pytoken.specs.declared.keywords.Keyword.TheVariants as Key
 use Rattle.pytoken.specs.Terminals.{Terminal, Spelled, Op, Word, Ident}
 use Rattle.pytoken.specs.TerminalOf.{terminal}
 use Rattle.pytoken.specs.declared.values.terminals.Terminal as given
 use Rattle.pygrammar.specs.declared.levels.Level.TheVariants.{Expression, BitOr}
-use Rattle.pygrammar.specs.Entries.{Entry, Item, Parameter, Single, Paired, Spread, Doubled, Keyed, Plain, Slashed, Bare, Gathered}
+use Rattle.pygrammar.specs.Entries.{Entry, Item, Parameter, Plain, Slashed, Bare, Gathered}
 use Rattle.pygrammar.specs.Entries.{Collected}
 use Rattle.pygrammar.specs.Grammar as G
 use Rattle.pygrammar.specs.Looks.{name_in}
@@ -56,12 +56,9 @@ use Rattle.pyplaces.proofs.Selections.{Unstarred, none, plain, slash, Starred, w
 use Rattle.pyplaces.proofs.Selections.{defaults_before, keyword_defaults_before, unstarred_plain, unstarred_slash, starred_bare}
 use Rattle.pyplaces.proofs.Selections.{starred_gathered, starred_more, keyword_defaults_behind}
 use Rattle.pyplaces.proofs.Selections as Selections
+use Rattle.pyparse_expr.proofs.Recorders.Looks.{name_is}
 
 -- ---- Names.
-
-name_is : (t : Terminal) (f : List ℕ) → name_in t ≡ Some f → (x : Spelled) × (t ≡ Ident x) × (x.form ≡ f)
-name_is (Ident x) f h = (x, refl, cc)
-name_is _ f h = absurd (cc)
 
 -- the NAME at a place
 name_front : (ts : List given.Terminal) (n : ℕ) (f : List ℕ) → Some f ≡ first_is name_in (seen ts n)

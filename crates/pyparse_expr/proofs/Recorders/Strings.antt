@@ -1,7 +1,7 @@
 -- Literals and f-strings, recorded: each text and each field has the place of the whole row, whose end is sought before it is read.
 --
 -- Carries: strings.rt. On: Strings, Rows, RowEnds of pyplaces; Formatted.Values, LiteralRuns.
-use Rattle.std.proofs.Common.{◌≡◌, refl, sym, ap, subst, ◌∙◌, arith, ℕ, ◌+◌, ◌-◌, ◌≤◌, ◌<◌, List, [], ◌∷◌, ◌++◌, length, map, drop}
+use Rattle.std.proofs.Common.{◌≡◌, refl, sym, ap, subst, ◌∙◌, arith, ℕ, ◌+◌, ◌<◌, List, [], ◌∷◌, ◌++◌, length, map, drop}
 use Rattle.std.proofs.Common.{drop-drop}
 use Rattle.std.proofs.Common.{append_assoc, length-append, suc, ◌==◌, Option, Some, None, option_map, Bool, true, false, Result, Ok, Err}
 use Rattle.std.proofs.Common.{IfOk}
@@ -10,7 +10,7 @@ use Rattle.std.proofs.lemmas.List.{append-nil, length-map}
 use Rattle.pylex_lexeme.specs.declared.kinds.Exact.TheVariants.{LPar}
 use Rattle.pyfstring.specs.declared.parts.Conversion.{Conversion}
 use Rattle.pytree_node.specs.Trees
-use Rattle.pytree_node.specs.Trees.{Expr, OptionalExpr, absent, present, exprs, optional}
+use Rattle.pytree_node.specs.Trees.{Expr, absent, present, exprs, optional}
 use Rattle.pytree_node.specs.TreeOf.{tree_of, boxed_of}
 use Rattle.pytree_node.specs.Values
 use Rattle.pytree_node.specs.Values.{Value}
@@ -21,23 +21,24 @@ use Rattle.pytoken.specs.declared.values.terminals.Terminal as given
 use Rattle.pytoken.specs.declared.values.text_pieces.TextPiece.{TextPiece}
 use Rattle.pygrammar.specs.declared.levels.Level.TheVariants.{Atom}
 use Rattle.pygrammar.specs.Constants.{joined}
-use Rattle.pygrammar.specs.FormattedStrings.{StringPart, Text, Field, merged, values_of, spec_values_of, text_of, texts_of, kind_of}
+use Rattle.pygrammar.specs.FormattedStrings.{StringPart, Text, Field, merged, spec_values_of, text_of, texts_of, kind_of}
 use Rattle.pygrammar.specs.FormattedStrings.{begins_unicode, has_formatted}
 use Rattle.pygrammar.specs.Looks.{literal_in, text_in, conversion_in, is_formatted_begin}
-use Rattle.pygrammar.specs.Reader.{Answer, Found, string_run}
+use Rattle.pygrammar.specs.Reader.{Found, string_run}
+use Rattle.pygrammar.proofs.Callers.Strings.{text_is, field_is, literal_is, value_is}
 use Rattle.pyparse_nodes.specs.declared.found.JoinedValues.{JoinedValues}
 use Rattle.pyparse_nodes.specs.declared.found.Optional.{Optional}
 use Rattle.pyparse_nodes.specs.declared.found.Read.{Read}
 use Rattle.pyparse_nodes.specs.declared.marks.Part.TheVariants as part
 use Rattle.pyparse_nodes.specs.declared.stop.Stop.{Stop}
 use Rattle.pyparse_nodes.specs.Answers.{Made, PartAt}
-use Rattle.pyparse_nodes.specs.JoinedStates.{Gathers, IsNode, State, state, ended, gathered, state_of, step, steps}
+use Rattle.pyparse_nodes.specs.JoinedStates.{Gathers, IsNode, state, ended, gathered, state_of, step, steps}
 use Rattle.pyparse_nodes.specs.Marks.{conversion_of, points_of}
 use Rattle.pyparse_nodes.specs.Runs.{run}
 use Rattle.pyparse_nodes.specs.Views.{Stands, seen, first_is}
 use Rattle.pyparse_expr.specs.Inner.PlacedStrings.{RowGrows, PartsPlaced, FormattedPlaced, FieldPlaced, JoinedPlaced}
 use Rattle.pyparse_expr.specs.Inner.Strings.{Lowers}
-use Rattle.pyparse_expr.proofs.Formatted.LiteralRuns.{Ran, ran}
+use Rattle.pyparse_expr.proofs.Formatted.LiteralRuns.{ran, bytes_run}
 use Rattle.pyparse_expr.proofs.Formatted.Values.{joined_values, spec_values, steps_append}
 use Rattle.pyparse_expr.proofs.Reader.Reading.{seen_length}
 use Rattle.pyplaces.specs.ExpressionPlaces.{string_places}
@@ -46,7 +47,7 @@ use Rattle.pyplaces.specs.Recording.{Records, Alike}
 use Rattle.pyplaces.specs.RowEnds.{row_length}
 use Rattle.pyplaces.specs.Rows.{RowSoFar, row_start, row_text, row_field, text_places}
 use Rattle.pyplaces.specs.Stretches.{Stretch, stretch}
-use Rattle.pyplaces.proofs.Answers.{placed_as, read_as, read_from, records_none, records_node, records_made, records_more}
+use Rattle.pyplaces.proofs.Answers.{placed_as, read_as, read_from, records_none, records_node, records_more}
 use Rattle.pyplaces.proofs.Expressions.Strings.{placed_strings, placed_no_spec, placed_spec, placed_joined_string, placed_texts, parts_text}
 use Rattle.pyplaces.proofs.Expressions.Strings.{parts_field, parts_end, literals_text, literals_formatted, literals_end}
 use Rattle.pyplaces.proofs.Expressions.Strings.{placed_formatted_literal}
@@ -55,21 +56,6 @@ use Rattle.pyplaces.proofs.RowEnds.{row_walk}
 use Rattle.pyplaces.proofs.Rows.{row_end}
 
 -- ---- What stands at a place.
-
-some_is : {A : Type 0} (a b : A) → Some a ≡ Some b → a ≡ b
-some_is a b h = cc
-
-text_is : (t : Terminal) (y : List ℕ) → text_in t ≡ Some y → t ≡ FormattedText y
-text_is (FormattedText x) y h = ap FormattedText (some_is x y h)
-text_is _ y h = absurd (cc)
-
-conversion_is : (t : Terminal) (c : Conversion) → conversion_in t ≡ Some c → t ≡ FieldBegin c
-conversion_is (FieldBegin x) c h = ap FieldBegin (some_is x c h)
-conversion_is _ c h = absurd (cc)
-
-literal_is : (t : Terminal) (v : Value) → literal_in t ≡ Some v → t ≡ Literal v
-literal_is (Literal x) v h = ap Literal (some_is x v h)
-literal_is _ v h = absurd (cc)
 
 -- a terminal of which a test tells what it is
 front : {A : Type 0} (f : Terminal → Option A) (g : A → Terminal) → ((t : Terminal) (a : A) → f t ≡ Some a → t ≡ g a)
@@ -86,10 +72,6 @@ row_ended [] h k = refl
 row_ended (Literal v ∷ r) h k = absurd (cc)
 row_ended (FormattedBegin ∷ r) h k = absurd (cc)
 row_ended (t ∷ r) h k = refl
-
-str_of : (v : Value) (t : List ℕ) → text_of v ≡ Some t → (k : Bool) × (v ≡ Values.Str t k)
-str_of (Values.Str s k) t h = (k, ap (λ z. Values.Str z k) (some_is s t h))
-str_of _ t h = absurd (cc)
 
 -- the text of a state
 state_text : (xs ys : List Expr) (s t : List ℕ) → state xs s ≡ state ys t → s ≡ t
@@ -206,7 +188,7 @@ module _ {S : Type 0} {after : S → Stretch → S} (ts : List given.Terminal) (
       → conversion_of (Some (part.Field c)) ≡ first_is conversion_in (seen ts b.next)
       → PartsPlaced after (PlacedFormatted u row) ts u row b j v y
   field_placed {x = x} c b j f l t d n g h =
-      let i = front conversion_in FieldBegin conversion_is ts b.next c h in
+      let i = front conversion_in FieldBegin field_is ts b.next c h in
       let e : state_of j ≡ step u (state_of b) (Field (Trees.FormattedValue d.value c d.spec)) = g.is
       ∙ ap (λ z. step u (state_of b) (Field z)) d.tree in
       record {
@@ -241,7 +223,7 @@ module _ {S : Type 0} {after : S → Stretch → S} (ts : List given.Terminal) (
       → text_of v ≡ Some points → Gathers (step u (state_of b) (Text points)) (b.next + 1) j
       → PartsPlaced after (PlacedLiterals u row) ts u row b j x x
   literal_placed v points b j x h q g =
-      let k = str_of v points q in
+      let k = value_is v points q in
       let i = front literal_in Literal literal_is ts b.next v h ∙ ap (λ z. Literal z ∷ seen ts (b.next + 1)) k.1 in
       record {
         parts = Text points ∷ [];
@@ -517,11 +499,6 @@ record TextsOf (row : Stretch) (u : Bool) (whole : List ℕ) (v : Value) (vs : L
   row_grows : RowGrows row [] parts [] whole []
   gives : gathered u parts ≡ state [] whole
 
-bytes_text : (b : List ℕ) (vs : List Value) (t : List ℕ) (u : Bool) → joined (Values.Bytes b) vs ≡ Some (Values.Str t u) → ⊥
-bytes_text b [] t u h = cc
-bytes_text b (Values.Bytes x ∷ vs) t u h = bytes_text (b ++ x) vs t u h
-bytes_text b (_ ∷ vs) t u h = cc
-
 texts_first : (row : Stretch) (u : Bool) (whole : List ℕ) (v : Value) (vs : List Value) → joined v vs ≡ Some (Values.Str whole u)
     → TextsOf row u whole v vs
 texts_first row u whole (Values.Str s k) vs h =
@@ -533,7 +510,7 @@ texts_first row u whole (Values.Str s k) vs h =
       row_grows = row_more (row_one_text s) c.row_grows;
       gives = c.gives;
     }
-texts_first row u whole (Values.Bytes b) vs h = absurd (bytes_text b vs whole u h)
+texts_first row u whole (Values.Bytes b) vs h = absurd (bytes_run b vs whole u h)
 texts_first row u whole _ [] h = absurd (cc)
 texts_first row u whole _ (w ∷ vs) h = absurd (cc)
 

@@ -1,7 +1,7 @@
 -- The places of a whole list.
 --
 -- Carries: read_whole, read_at. On: Made.
-use Rattle.std.proofs.Common.{◌≡◌, refl, sym, ap, subst, ◌∙◌, arith, ℕ, List, [], length, map, drop, Result, Ok, Err}
+use Rattle.std.proofs.Common.{◌≡◌, sym, subst, arith, ℕ, List, [], length, map, Result, Ok, Err}
 use Rattle.std.proofs.lemmas.List.{length-map, drop_all}
 use Rattle.std.specs.Prelude.{IfOk}
 use Rattle.pytree_node.specs.Trees.{Expr}

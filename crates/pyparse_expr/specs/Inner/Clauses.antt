@@ -1,7 +1,6 @@
 -- Clauses of comprehensions: how one begins, and what is made of its parts.
 use Rattle.std.specs.Prelude.{◌≡◌, ℕ, ◌+◌, ◌≤◌, Bool, true, false, Some, None, List, length, map}
 use Rattle.pytoken.specs.declared.keywords.Keyword.TheVariants as Key
-use Rattle.pytree_node.specs.Trees.{Comprehension}
 use Rattle.pytree_node.specs.TreeOf.{tree_of, comprehension_of}
 use Rattle.pytoken.specs.Terminals.{Word}
 use Rattle.pytoken.specs.declared.values.terminals.Terminal.{Terminal}

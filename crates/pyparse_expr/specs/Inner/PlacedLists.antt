@@ -15,9 +15,8 @@ use Rattle.pyplaces.specs.Stretches.{Stretch, stretch}
 use Rattle.pyplaces.specs.EntryPlaces as E
 use Rattle.pyplaces.specs.EntryPlaces.{EntryPlaces}
 use Rattle.pyplaces.specs.Placed.{PlacedListing, PlacedPiece}
-use Rattle.pyplaces.specs.Recording.{Records}
+use Rattle.pyplaces.specs.Recording.{Records, Kept}
 use Rattle.pyplaces.specs.Rests.{Others}
-use Rattle.pyparse_expr.specs.Inner.Aside.{Kept}
 use Rattle.pyparse_expr.specs.Inner.Found.{entries_of}
 use Rattle.pyparse_expr.specs.Inner.Pairs.{pair_of, pairs_of}
 

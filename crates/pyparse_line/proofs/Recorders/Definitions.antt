@@ -1,16 +1,16 @@
 -- The headers of `def` and `class`: the places of parameters of types are set aside, and taken back behind the others.
 --
 -- Carries: definitions.rt. On: Looks; Asides and Headers of pyplaces.
-use Rattle.std.proofs.Common.{◌≡◌, refl, sym, ap, subst, ◌∙◌, ℕ, ◌+◌, List, [], ◌∷◌, ◌++◌, map, Option, Some, None, Bool, Result, Ok, Err}
+use Rattle.std.proofs.Common.{◌≡◌, refl, sym, ap, subst, ◌∙◌, ℕ, ◌+◌, List, [], ◌∷◌, ◌++◌, map, Some, Bool, Result, Ok, Err}
 use Rattle.std.proofs.Common.{append_assoc, append-nil}
 use Rattle.std.specs.Prelude.{IfOk, MatchResult}
 use Rattle.pylex_lexeme.specs.declared.kinds.Exact.TheVariants.{LPar, RArrow, RPar}
 use Rattle.pytree_node.specs.declared.profiles.Profile.{Profile}
 use Rattle.pytree_node.specs.Trees
-use Rattle.pytree_node.specs.Trees.{Expr, Identifier, TypeParam, exprs, no_keyword}
+use Rattle.pytree_node.specs.Trees.{Identifier, exprs, no_keyword}
 use Rattle.pytree_node.specs.TreeOf.{arguments_of, boxed_of, keyword_of, tree_of, type_param_of}
 use Rattle.pytoken.specs.declared.keywords.Keyword.TheVariants as Key
-use Rattle.pytoken.specs.Terminals.{Ident, Op, Spelled, Terminal, Word}
+use Rattle.pytoken.specs.Terminals.{Ident, Op, Terminal, Word}
 use Rattle.pytoken.specs.declared.values.terminals.Terminal as given
 use Rattle.pygrammar.specs.declared.levels.Level.TheVariants.{Expression}
 use Rattle.pygrammar.specs.Arguments.{positional}
@@ -32,14 +32,14 @@ use Rattle.pyplaces.specs.PlacedForms.{Bare, PlacedBases, PlacedHeader, PlacedTy
 use Rattle.pyplaces.specs.Recording.{Kept, Moves, Records, afters}
 use Rattle.pyplaces.specs.Stretches.{Stretch}
 use Rattle.pyplaces.proofs.Asides.{Apart, Still, count_still, kept_aside, kept_back, kept_more, kept_records}
-use Rattle.pyplaces.proofs.Answers.{records_more, records_none}
+use Rattle.pyplaces.proofs.Answers.{records_none}
 use Rattle.pyplaces.proofs.Forms.Headers.{placed_bases, placed_class_line, placed_def_line, placed_no_bases}
 use Rattle.pyparse_line.specs.declared.headers.found.ReadHeader.{ReadHeader}
 use Rattle.pyparse_line.specs.declared.statements.found.ReadTypeParams.{ReadTypeParams}
 use Rattle.pyparse_line.specs.Inner.PlacedHeaders.{ClassPlaced, FunctionPlaced, HeaderPlaced}
 use Rattle.pyparse_line.specs.Inner.PlacedParts.{BehindPlaced, TypeParamsPlaced}
 use Rattle.pyparse_line.proofs.headers.DefinitionSteps.{listed_all}
-use Rattle.pyparse_line.proofs.Recorders.Looks.{begun, moved, name_stands, numbered}
+use Rattle.pyparse_line.proofs.Recorders.Looks.{begun, moved, name_stands}
 
 -- places in front of those that are set aside
 kept_front : {S : Type 0} {after beside : S → Stretch → S} {u v w : S} {ps qs : List Stretch} → Apart after beside

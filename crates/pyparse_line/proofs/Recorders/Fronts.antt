@@ -1,7 +1,7 @@
 -- The places of a line, by what begins it.
 --
 -- Carries: fronts.rt, matches.rt, read_line. On: Openings; Lines of pyplaces.
-use Rattle.std.proofs.Common.{◌≡◌, refl, sym, ap, subst, ◌∙◌, arith, ℕ, ◌+◌, List, [], ◌∷◌, ◌++◌, length, map, drop, Option, Some, None}
+use Rattle.std.proofs.Common.{◌≡◌, refl, sym, ap, subst, ◌∙◌, arith, ℕ, ◌+◌, List, [], ◌∷◌, ◌++◌, length, map, Option, Some, None}
 use Rattle.std.proofs.Common.{Bool}
 use Rattle.std.proofs.Common.{true, false, cond, append_assoc, append-nil, Result, Ok, Err}
 use Rattle.std.proofs.lemmas.List.{length-map, drop_all}
@@ -43,7 +43,7 @@ use Rattle.pyparse_line.specs.declared.headers.found.ReadHeader.{ReadHeader}
 use Rattle.pyparse_line.specs.declared.openings.Opening.{Opening}
 use Rattle.pyparse_line.specs.declared.openings.Opening.TheVariants as kind
 use Rattle.pyparse_line.specs.declared.statements.found.ReadStatements.{ReadStatements}
-use Rattle.pyparse_line.specs.Inner.Openings.{opening_at, plain_opening, terminal_opening}
+use Rattle.pyparse_line.specs.Inner.Openings.{opening_at, terminal_opening}
 use Rattle.pyparse_line.specs.Inner.PlacedHeaders.{CasePlaced, ColonPlaced, FormPlaced, HeaderPlaced, LinePlaced, PlacedSuite}
 use Rattle.pyparse_line.specs.Inner.PlacedHeaders.{SuitePlaced, no_suite, some_suite}
 use Rattle.pyparse_line.specs.Inner.PlacedStatements.{SimplesPlaced}

@@ -1,15 +1,15 @@
 -- Headers, but those of `def` and `class`.
 --
 -- Carries: conditions.rt, clauses.rt, loops.rt, items.rt, item_targets.rt, cases.rt, headers.rt. On: Looks, Says; Headers of pyplaces.
-use Rattle.std.proofs.Common.{◌≡◌, refl, sym, ap, subst, ◌∙◌, arith, ℕ, ◌+◌, List, [], ◌∷◌, ◌++◌, map, Option, Some, None, Bool, true}
+use Rattle.std.proofs.Common.{◌≡◌, refl, sym, ap, subst, ◌∙◌, ℕ, ◌+◌, List, [], ◌∷◌, ◌++◌, map, Option, Some, None, Bool, true}
 use Rattle.std.proofs.Common.{false}
 use Rattle.std.proofs.Common.{append-nil, Result, Ok, Err}
 use Rattle.std.specs.Prelude.{IfOk}
-use Rattle.pylex_lexeme.specs.declared.kinds.Exact.TheVariants.{Colon, Comma, LPar, RPar, Star}
+use Rattle.pylex_lexeme.specs.declared.kinds.Exact.TheVariants.{Comma, LPar, RPar, Star}
 use Rattle.pytree_node.specs.declared.operators.Context.TheVariants.{Load}
 use Rattle.pytree_node.specs.declared.profiles.Profile.{Profile}
 use Rattle.pytree_node.specs.Trees
-use Rattle.pytree_node.specs.Trees.{Expr, Identifier, Item, Pattern}
+use Rattle.pytree_node.specs.Trees.{Identifier, Item}
 use Rattle.pytree_node.specs.TreeOf.{boxed_of, item_of, pattern_of, tree_of}
 use Rattle.pytoken.specs.declared.keywords.Keyword.TheVariants as Key
 use Rattle.pytoken.specs.Terminals.{Op, Terminal, Word}
@@ -34,8 +34,8 @@ use Rattle.pyparse_nodes.specs.Views.{Stands, seen}
 use Rattle.pyparse_expr.specs.declared.depth.Depth.{Depth}
 use Rattle.pyparse_expr.specs.Readings.{reads}
 use Rattle.pyplaces.specs.FormPlaces.{form_places, item_places, plain_header}
-use Rattle.pyplaces.specs.Placed.{Placed, PlacedItemTarget}
-use Rattle.pyplaces.specs.PlacedForms.{Bare, Commaed, PlacedCase, PlacedCommas, PlacedEnded, PlacedHeader, PlacedItem, PlacedItems}
+use Rattle.pyplaces.specs.Placed.{Placed}
+use Rattle.pyplaces.specs.PlacedForms.{Bare, Commaed, PlacedCase, PlacedCommas, PlacedHeader, PlacedItem, PlacedItems}
 use Rattle.pyplaces.specs.PlacedPatterns.{PlacedPattern}
 use Rattle.pyplaces.specs.Recording.{Records, afters}
 use Rattle.pyplaces.specs.Stretches.{Stretch, stretch}
@@ -47,6 +47,7 @@ use Rattle.pyplaces.proofs.Forms.Headers.{placed_in_brackets, placed_item_as, pl
 use Rattle.pyplaces.proofs.Forms.Headers.{placed_without}
 use Rattle.pyplaces.proofs.Forms.Parts.{bare_async, bare_no_async, commaed_end, commaed_turn, commaed_with, commas_last, commas_turn}
 use Rattle.pyplaces.proofs.Loops.{Grows, grows_start}
+use Rattle.pyparse_expr.proofs.Callers.Looks.{placed_at}
 use Rattle.pyparse_pattern.specs.declared.found.ReadPattern.{ReadPattern}
 use Rattle.pyparse_line.specs.declared.headers.found.ReadHeader.{ReadHeader}
 use Rattle.pyparse_line.specs.declared.headers.found.ReadItem.{ReadItem}
@@ -54,7 +55,7 @@ use Rattle.pyparse_line.specs.declared.headers.found.ReadItems.{ReadItems}
 use Rattle.pyparse_line.specs.Inner.Items.{more_items}
 use Rattle.pyparse_line.specs.Inner.PlacedHeaders.{AsyncHeader, CasePlaced, ExceptPlaced, HeaderPlaced, WordHeader}
 use Rattle.pyparse_line.specs.Inner.PlacedParts.{BehindPlaced, ItemList, ItemListPlaced, ItemPlaced, ItemsPlaced, TargetPlaced}
-use Rattle.pyparse_line.proofs.Recorders.Looks.{moved, numbered}
+use Rattle.pyparse_line.proofs.Recorders.Looks.{moved}
 use Rattle.pyparse_line.proofs.Recorders.Parts.{commaed_ended}
 use Rattle.pyparse_line.proofs.Recorders.Says.{as_bare}
 
@@ -164,7 +165,7 @@ module _ {S : Type 0} (after : S → Stretch → S) (count : S → ℕ) (u v : S
   pub except_star_placed : {ts : List given.Terminal} {at : ℕ} (z : Result ReadHeader Stop) → Stands (Op Star) ts at
       → IfOk z (ExceptPlaced after count true ts (at + 1) u v) → WordHeader after count Key.Except ts at u v z
   except_star_placed {ts} (Ok r) t e prof from q s = plain_of e.header refl (counted e)
-      (placed_except_star s.is (ap (λ n. seen ts n) (sym q) ∙ t.is) (numbered (ap (λ n. n + 1) q) e.part) e.alias) e.records
+      (placed_except_star s.is (ap (λ n. seen ts n) (sym q) ∙ t.is) (placed_at (ap (λ n. n + 1) q) e.part) e.alias) e.records
   except_star_placed (Err o) t e prof from q s = tt
 
   pub except_line_placed : {ts : List given.Terminal} {at : ℕ} (z : Result ReadHeader Stop)

@@ -1,12 +1,11 @@
 -- Imports.
 --
 -- Carries: aliases.rt, imports.rt. On: Looks, Says; Parts and Simple of pyplaces.
-use Rattle.std.proofs.Common.{◌≡◌, refl, sym, ap, subst, ◌∙◌, arith, ℕ, ◌+◌, ◌<◌, ◌≤◌, List, [], ◌∷◌, ◌++◌, length, map, Option, Some, None}
+use Rattle.std.proofs.Common.{◌≡◌, refl, sym, arith, ℕ, ◌+◌, ◌<◌, List, [], ◌∷◌, ◌++◌, length, map, Option, Some, None}
 use Rattle.std.proofs.Common.{Bool, true, false, Result, Ok, Err, length-append}
 use Rattle.std.specs.Prelude.{IfOk, MatchResult}
 use Rattle.pylex_lexeme.specs.Characters.{asterisk}
 use Rattle.pylex_lexeme.specs.declared.kinds.Exact.TheVariants.{Comma, LPar, RPar, Star}
-use Rattle.pytree_node.specs.declared.profiles.Profile.{Profile}
 use Rattle.pytree_node.specs.Trees.{Alias, Identifier, Import, ImportFrom}
 use Rattle.pytree_node.specs.TreeOf.{alias_of, stmt_of}
 use Rattle.pytoken.specs.declared.keywords.Keyword.TheVariants as Key
@@ -20,7 +19,7 @@ use Rattle.pyparse_nodes.specs.declared.stop.Stop.{Stop}
 use Rattle.pyparse_nodes.specs.declared.stop.Stop.TheVariants as stop
 use Rattle.pyparse_nodes.specs.Views.{Stands, seen}
 use Rattle.pyplaces.specs.FormPlaces.{dotted_alias_places, name_alias_places}
-use Rattle.pyplaces.specs.PlacedForms.{Bare, Commaed, PlacedCommas, PlacedDottedAlias, PlacedEnded, PlacedNameAlias, PlacedNames}
+use Rattle.pyplaces.specs.PlacedForms.{Commaed, PlacedCommas, PlacedDottedAlias, PlacedNameAlias, PlacedNames}
 use Rattle.pyplaces.specs.Recording.{Records}
 use Rattle.pyplaces.specs.Stretches.{Stretch, stretch}
 use Rattle.pyplaces.proofs.Answers.{read_from, records_more, records_node, records_none}
@@ -29,13 +28,12 @@ use Rattle.pyplaces.proofs.Forms.Parts.{placed_bracketed_names, placed_names}
 use Rattle.pyplaces.proofs.Forms.Simple.{placed_from_dots, placed_from_module, placed_import}
 use Rattle.pyplaces.proofs.Fronts.{built, own}
 use Rattle.pyplaces.proofs.Loops.{Grows, grows_start}
-use Rattle.pyparse_line.specs.declared.statements.found.ReadAlias.{ReadAlias}
 use Rattle.pyparse_line.specs.declared.statements.found.ReadAliases.{ReadAliases}
 use Rattle.pyparse_line.specs.declared.statements.found.ReadStatement.{ReadStatement}
 use Rattle.pyparse_line.specs.Inner.Imports.{more_names}
 use Rattle.pyparse_line.specs.Inner.PlacedParts.{AliasList, AliasesPlaced, DottedPlaced, NamesPlaced}
 use Rattle.pyparse_line.specs.Inner.PlacedStatements.{ImportPlaced, WordPlaced}
-use Rattle.pyparse_line.proofs.Recorders.Looks.{At, front_ends, moved}
+use Rattle.pyparse_line.proofs.Recorders.Looks.{front_ends, moved}
 use Rattle.pyparse_line.proofs.Recorders.Parts.{commaed_ended}
 use Rattle.pyparse_line.proofs.Recorders.Says.{dots_bare, dotted_alias_at, dotted_bare, name_alias_at}
 use Rattle.pyparse_line.proofs.Recorders.Words.{fields_of}

@@ -1,19 +1,16 @@
 -- What was read, in other words; and the terminals that stand in front of it.
 --
 -- Carries: each reader of statements and headers. On: Views.
-use Rattle.std.proofs.Common.{◌≡◌, refl, sym, ap, subst, ◌∙◌, arith, ℕ, ◌+◌, ◌-◌, ◌≤◌, List, [], ◌∷◌, ◌++◌, length, drop, drop-drop, map}
-use Rattle.std.proofs.Common.{Option, Some, None, length-append}
+use Rattle.std.proofs.Common.{◌≡◌, refl, sym, ap, subst, ◌∙◌, arith, ℕ, ◌+◌, ◌≤◌, List, [], ◌∷◌, ◌++◌, length}
+use Rattle.std.proofs.Common.{Some, None, length-append}
 use Rattle.pylex_lexeme.specs.declared.kinds.Exact.{Exact}
 use Rattle.pytoken.specs.Terminals.{Terminal, Spelled, Ident, Op}
 use Rattle.pytoken.specs.declared.values.terminals.Terminal as given
-use Rattle.pytoken.specs.TerminalOf.{terminal}
-use Rattle.pygrammar.specs.Looks.{is_op, name_in}
-use Rattle.pygrammar.specs.Reader.{on_first, on_name_with, on_some}
-use Rattle.pyparse_nodes.specs.Answers.{PartAt}
+use Rattle.pygrammar.specs.Looks.{name_in}
+use Rattle.pygrammar.specs.Reader.{on_name_with, on_some}
 use Rattle.pyparse_nodes.specs.Views.{IsNotNamed, Stands, seen, first_is}
 use Rattle.pygrammar.proofs.Callers.Terminals.{op_is}
-use Rattle.pyparse_expr.proofs.Callers.Looks.{seen_length}
-use Rattle.pyplaces.specs.Placed.{ReadAs}
+use Rattle.pyparse_expr.proofs.Callers.Looks.{seen_length, name_is, some_first}
 use Rattle.pyplaces.specs.PlacedForms.{Bare}
 use Rattle.pyplaces.specs.Recording.{Records}
 use Rattle.pyplaces.specs.Stretches.{Stretch}
@@ -24,11 +21,6 @@ pub moved : {A : Type 0} {x y : A} {n k : ℕ} (rest : ℕ → List Terminal) (P
     → P x (rest n) n → P y (rest k) k
 moved {x = x} {y = y} {n = n} {k = k} rest P h q p = subst (λ z. P y (rest z) z) (sym q) (subst (λ z. P z (rest n) n) (sym h) p)
 
--- from an equal number on
-pub numbered : {P : Type 0} {X : List Terminal → Type 0} {f : (us : List Terminal) → ℕ → X us → P} {i r : List Terminal} {at n behind : ℕ}
-    {ps : P} → at ≡ n → ReadAs X f i at r behind ps → ReadAs X f i n r behind ps
-numbered {X = X} {f = f} {i = i} {r = r} {behind = behind} {ps = ps} q p = subst (λ z. ReadAs X f i z r behind ps) q p
-
 -- what was recorded of some, of one more, and its own place
 pub recorded_more : {S : Type 0} {after : S → Stretch → S} {u v w x : S} {ps qs : List Stretch} {s : Stretch} → Records after u ps v
     → Records after v qs w → x ≡ after w s → Records after u (ps ++ (qs ++ (s ∷ []))) x
@@ -37,23 +29,6 @@ recorded_more g d k = records_more g (records_more d (records_node k))
 -- a terminal in front of a place
 pub begun : {t : Terminal} {ts : List given.Terminal} {at from : ℕ} → at ≡ from + 1 → Stands t ts from → seen ts from ≡ t ∷ seen ts at
 begun {t} {ts} q s = s.is ∙ ap (λ n. t ∷ seen ts n) (sym q)
-
--- a terminal of which a test says something
-some_first : {A : Type 0} (f : Terminal → Option A) (a : A) (ts : List given.Terminal) (n : ℕ) → Some a ≡ first_is f (seen ts n)
-    → (t : Terminal) × (seen ts n ≡ t ∷ seen ts (n + 1)) × (f t ≡ Some a)
-some_first f a ts n h = go (seen ts n) h (drop-drop 1 n (map terminal ts))
-  where
-    go : (r : List Terminal) {s : List Terminal} → Some a ≡ first_is f r → drop 1 r ≡ s → (t : Terminal) × (r ≡ t ∷ s) × (f t ≡ Some a)
-    go [] h q = absurd (cc)
-    go (t ∷ r) h q = (t, ap (λ z. t ∷ z) q, sym h)
-
-pub some_terminal : {A : Type 0} (f : Terminal → Option A) (a : A) (ts : List given.Terminal) (n : ℕ) → Some a ≡ first_is f (seen ts n)
-    → (t : Terminal) × (seen ts n ≡ t ∷ seen ts (n + 1)) × (f t ≡ Some a)
-some_terminal f a ts n h = some_first f a ts n h
-
-name_is : (t : Terminal) (f : List ℕ) → name_in t ≡ Some f → (x : Spelled) × (t ≡ Ident x) × (x.form ≡ f)
-name_is (Ident x) f h = (x, refl, cc)
-name_is _ f h = absurd (cc)
 
 -- the NAME at a place
 pub record NameAt (f : List ℕ) (ts : List given.Terminal) (n : ℕ) : Type 0 where

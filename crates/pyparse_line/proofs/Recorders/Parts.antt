@@ -1,7 +1,7 @@
 -- Parts of statements: expressions that may be left out, targets, and lists of them.
 --
 -- Carries: optional.rt, deleted_one, deleted_all, delete. On: Looks; Parts of pyplaces.
-use Rattle.std.proofs.Common.{◌≡◌, refl, sym, ap, subst, ◌∙◌, ℕ, ◌+◌, List, [], ◌∷◌, ◌++◌, map, Some, None, Result, Ok, Err}
+use Rattle.std.proofs.Common.{◌≡◌, ℕ, ◌+◌, List, [], ◌∷◌, ◌++◌, map, Some, None, Result, Ok, Err}
 use Rattle.std.specs.Prelude.{IfOk}
 use Rattle.pylex_lexeme.specs.declared.kinds.Exact.TheVariants.{Comma}
 use Rattle.pytree_node.specs.Trees.{Expr}
@@ -19,8 +19,8 @@ use Rattle.pyparse_nodes.specs.declared.found.Read.{Read}
 use Rattle.pyparse_nodes.specs.declared.stop.Stop.{Stop}
 use Rattle.pyparse_nodes.specs.Views.{Stands, seen}
 use Rattle.pyplaces.specs.ExpressionPlaces.{del_target_places}
-use Rattle.pyplaces.specs.Placed.{Placed, PlacedDelTarget}
-use Rattle.pyplaces.specs.PlacedForms.{Commaed, PlacedBehind, PlacedEnded, PlacedOptional, more}
+use Rattle.pyplaces.specs.Placed.{Placed}
+use Rattle.pyplaces.specs.PlacedForms.{Commaed, PlacedBehind, PlacedEnded, PlacedOptional}
 use Rattle.pyplaces.specs.Recording.{Records}
 use Rattle.pyplaces.specs.Stretches.{Stretch}
 use Rattle.pyplaces.proofs.Answers.{read_as, records_more, records_none}

@@ -1,12 +1,10 @@
 -- Parameters of types, and the statement `type`.
 --
 -- Carries: types.rt, plain_statement. On: Looks; Parts and Simple of pyplaces.
-use Rattle.std.proofs.Common.{◌≡◌, refl, sym, ap, subst, ◌∙◌, arith, ℕ, ◌+◌, List, [], ◌∷◌, ◌++◌, map, Option, Some, None, Bool, true}
+use Rattle.std.proofs.Common.{◌≡◌, refl, sym, ap, ◌∙◌, arith, ℕ, ◌+◌, List, [], ◌∷◌, ◌++◌, map, Option, Some, None, Bool, true}
 use Rattle.std.proofs.Common.{false}
 use Rattle.std.proofs.Common.{cond, Result, Ok, Err}
 use Rattle.std.specs.Prelude.{IfOk, MatchResult}
-use Rattle.std.specs.Str.{bytes_eq}
-use Rattle.std.proofs.lemmas.Slice.Eq.{bytes_eq-Decides}
 use Rattle.pylex_lexeme.specs.declared.kinds.Exact.TheVariants.{Colon, Comma, DoubleStar, Equal, LSqb, RSqb, Star}
 use Rattle.pytree_node.specs.declared.operators.Context.TheVariants.{Store}
 use Rattle.pytree_node.specs.declared.profiles.Profile.{Profile}
@@ -19,11 +17,11 @@ use Rattle.pytoken.specs.Terminals.{Ident, Op, Spelled, Terminal}
 use Rattle.pytoken.specs.declared.values.terminals.Terminal as given
 use Rattle.pygrammar.specs.declared.levels.Level.TheVariants.{Expression}
 use Rattle.pygrammar.specs.Forms as F
-use Rattle.pygrammar.specs.Forms.{type_name, type_word}
-use Rattle.pygrammar.specs.LineReader.{is_type, on_type}
+use Rattle.pygrammar.specs.Forms.{type_word}
+use Rattle.pygrammar.specs.LineReader.{is_type}
 use Rattle.pygrammar.specs.Looks.{name_in}
 use Rattle.pygrammar.specs.Reader.{Answer, Found, NoForm, on_first, on_some}
-use Rattle.pyparse_nodes.specs.Answers.{Made}
+use Rattle.pygrammar.proofs.Callers.Lines.{type_is}
 use Rattle.pyparse_nodes.specs.declared.found.Optional.{Optional}
 use Rattle.pyparse_nodes.specs.declared.found.Read.{Read}
 use Rattle.pyparse_nodes.specs.declared.stop.Stop.{Stop}
@@ -34,7 +32,7 @@ use Rattle.pyplaces.specs.Placed.{Placed}
 use Rattle.pyplaces.specs.PlacedForms.{Commaed, PlacedEnded, PlacedFields, PlacedTypeParam, PlacedTypeParams}
 use Rattle.pyplaces.specs.Recording.{Records}
 use Rattle.pyplaces.specs.Stretches.{Stretch, stretch}
-use Rattle.pyplaces.proofs.Answers.{read_from, records_more, records_node, records_none}
+use Rattle.pyplaces.proofs.Answers.{read_from, records_more, records_none}
 use Rattle.pyplaces.proofs.Forms.Parts.{commaed_end, commaed_turn, commaed_with, placed_no_type_params, placed_param_spec}
 use Rattle.pyplaces.proofs.Forms.Parts.{placed_type_params, placed_type_var, placed_type_var_tuple}
 use Rattle.pyplaces.proofs.Forms.Simple.{placed_type_alias}
@@ -43,7 +41,7 @@ use Rattle.pyparse_line.specs.declared.statements.found.ReadStatement.{ReadState
 use Rattle.pyparse_line.specs.declared.statements.found.ReadTypeParam.{ReadTypeParam}
 use Rattle.pyparse_line.specs.declared.statements.found.ReadTypeParams.{ReadTypeParams}
 use Rattle.pyparse_line.specs.Inner.PlacedParts.{BehindPlaced, ParamsPlaced, TypeParamPlaced, TypeParamsPlaced}
-use Rattle.pyparse_line.specs.Inner.PlacedStatements.{AliasPlaced, FieldsBehind}
+use Rattle.pyparse_line.specs.Inner.PlacedStatements.{AliasPlaced}
 use Rattle.pyparse_line.specs.Inner.Types.{HasTypeName}
 use Rattle.pyparse_line.proofs.Recorders.Looks.{moved, name_stands, recorded_more}
 use Rattle.pyparse_line.proofs.Recorders.Parts.{commaed_ended}
@@ -197,14 +195,6 @@ pub record TypeAt (prof : Profile) (name : Identifier) (ts : List given.Terminal
   pub spelled : Spelled
   pub is : seen ts at ≡ type_word form ∷ (Ident spelled ∷ seen ts (at + 2))
   pub named : spelled.form ≡ name
-
-type_is : (t : Terminal) (n : ℕ) → is_type t ≡ Some n → (form : Identifier) × (t ≡ type_word form)
-type_is (Ident x) n h = (x.form, go (bytes_eq x.spelling type_name) refl h)
-  where
-    go : (b : Bool) → bytes_eq x.spelling type_name ≡ b → ◌≡◌ {A = Option ℕ} (cond b (Some 0) None) (Some n) → Ident x ≡ type_word x.form
-    go true q h = ap (λ z. Ident (record { spelling = z; form = x.form })) ((bytes_eq-Decides x.spelling type_name).0 q)
-    go false q h = absurd (cc)
-type_is _ n h = absurd (cc)
 
 -- an answer that tells the NAME and what stands behind it
 abbrev hit : Identifier → List Terminal → Answer Stmt

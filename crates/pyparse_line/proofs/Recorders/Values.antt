@@ -1,9 +1,9 @@
 -- Statements that begin with a value, and statements one behind the other.
 --
 -- Carries: values.rt, plain_statement, read_statements. On: Looks; Simple and Values of pyplaces.
-use Rattle.std.proofs.Common.{◌≡◌, refl, sym, ap, subst, ◌∙◌, arith, ℕ, ◌+◌, ◌<◌, List, [], ◌∷◌, ◌++◌, length, map, Option, Some, None}
+use Rattle.std.proofs.Common.{◌≡◌, refl, sym, ap, subst, ◌∙◌, arith, ℕ, ◌+◌, List, [], ◌∷◌, ◌++◌, length, map, Some}
 use Rattle.std.proofs.Common.{Bool, true, false}
-use Rattle.std.proofs.Common.{append_assoc, append-nil, Result, Ok, Err}
+use Rattle.std.proofs.Common.{append-nil, Result, Ok, Err}
 use Rattle.std.specs.Prelude.{IfOk}
 use Rattle.pylex_lexeme.specs.declared.kinds.Exact.{Exact}
 use Rattle.pylex_lexeme.specs.declared.kinds.Exact.TheVariants.{Colon, Equal, Semi}
@@ -14,13 +14,14 @@ use Rattle.pytree_node.specs.declared.profiles.Profile.{Profile}
 use Rattle.pytree_node.specs.Trees
 use Rattle.pytree_node.specs.Trees.{AnnAssign, Assign, AugAssign, Expr, ExprOf, Identifier, Stmt}
 use Rattle.pytree_node.specs.TreeOf.{boxed_of, stmt_of, tree_of}
-use Rattle.pytoken.specs.Terminals.{Ident, Op, Spelled, Terminal}
+use Rattle.pytoken.specs.Terminals.{Ident, Op, Terminal}
 use Rattle.pytoken.specs.declared.values.terminals.Terminal as given
 use Rattle.pygrammar.specs.declared.levels.Level.TheVariants.{Expression, Value}
 use Rattle.pygrammar.specs.Forms.{augmented, is_name}
 use Rattle.pygrammar.specs.LineReader.{augmented_sign}
 use Rattle.pygrammar.specs.Targets.{single_stored, stored}
-use Rattle.pyparse_nodes.specs.Answers.{Made, Turned}
+use Rattle.pygrammar.proofs.Callers.Lines.{stored_name}
+use Rattle.pyparse_nodes.specs.Answers.{Turned}
 use Rattle.pyparse_nodes.specs.declared.found.Items.{Items}
 use Rattle.pyparse_nodes.specs.declared.found.Optional.{Optional}
 use Rattle.pyparse_nodes.specs.declared.found.Read.{Read}
@@ -30,20 +31,21 @@ use Rattle.pyplaces.specs.Placed.{Placed}
 use Rattle.pyplaces.specs.PlacedForms.{PlacedBehind, PlacedFields, PlacedSimples, Semicolons}
 use Rattle.pyplaces.specs.Recording.{Records}
 use Rattle.pyplaces.specs.Stretches.{Stretch, stretch}
-use Rattle.pyplaces.proofs.Answers.{read_from, records_more, records_node, records_none}
+use Rattle.pyplaces.proofs.Answers.{records_more, records_node, records_none}
 use Rattle.pyplaces.proofs.Forms.Parts.{Assigned, assigned_end, assigned_turn, no_target, targets}
 use Rattle.pyplaces.proofs.Forms.Simple.{placed_annotated_group, placed_annotated_name, placed_annotated_part, placed_assign}
 use Rattle.pyplaces.proofs.Forms.Simple.{placed_augmented_assign, placed_simple, placed_value, simples_end, simples_last, simples_some}
 use Rattle.pyplaces.proofs.Forms.Simple.{simples_turn}
 use Rattle.pyplaces.proofs.Forms.Values.{grouped_name, single_target, value_target}
 use Rattle.pyplaces.proofs.Loops.{Grows, grows_start}
+use Rattle.pyparse_expr.proofs.Callers.Looks.{some_first, placed_at}
 use Rattle.pyparse_line.specs.declared.statements.found.ReadStatement.{ReadStatement}
 use Rattle.pyparse_line.specs.declared.statements.found.ReadStatements.{ReadStatements}
 use Rattle.pyparse_line.specs.Inner.PlacedParts.{BehindPlaced}
 use Rattle.pyparse_line.specs.Inner.PlacedStatements.{AliasPlaced, AnnotationPlaced, FieldsBehind, FieldsPlaced, SimplesPlaced}
 use Rattle.pyparse_line.specs.Inner.PlacedStatements.{Targeted, TargetsPlaced, ValuePlaced, targeted, untargeted}
 use Rattle.pyparse_line.specs.Inner.Types.{HasTypeName}
-use Rattle.pyparse_line.proofs.Recorders.Looks.{moved, not_named, numbered, recorded_more, some_terminal}
+use Rattle.pyparse_line.proofs.Recorders.Looks.{moved, not_named, recorded_more}
 use Rattle.pyparse_line.proofs.Recorders.Types.{type_stands}
 
 -- whether there are targets
@@ -60,13 +62,6 @@ is_filled items f q = go items.exprs.items f q
     go : (xs : List given_expr.Expr) → (length xs ≡ 0 → ⊥) → map tree_of xs ≡ [] → ⊥
     go [] f q = f refl
     go (x ∷ xs) f q = absurd (cc)
-
--- a target is a Name where the value is one
-named_alike : (e s : Expr) → single_stored e ≡ Some s → is_name s ≡ true → is_name e ≡ true
-named_alike (Trees.Name x c) s h k = refl
-named_alike (Trees.Attribute e x c) s h k = absurd (cc)
-named_alike (Trees.Subscript e i c) s h k = absurd (cc)
-named_alike _ s h k = absurd (cc)
 
 -- a sign of an augmented assignment
 sign_of : (t : Terminal) (op : Operator) → augmented_sign t ≡ Some op → (z : Exact) × (t ≡ Op z) × (augmented z ≡ Some op)
@@ -133,7 +128,7 @@ module _ {S : Type 0} {after : S → Stretch → S} {ts : List given.Terminal} w
       → Records after u qs v → stmt_of r.statement ≡ AugAssign (tree_of target.expr.value) op (tree_of right.expr.value)
       → r.next ≡ right.next → ValuePlaced after ts value u v (Ok r)
   augmented_placed {value = value} {op} target right s t q k h e prof at ps n p =
-      let w = some_terminal augmented_sign op ts value.next s in
+      let w = some_first augmented_sign op ts value.next s in
       let z = sign_of w.0 op w.2 in
       fields_behind ps h e (placed_augmented_assign {z = z.0} (single_target p t.is) z.2
       (w.1 ∙ ap (λ x. x ∷ seen ts (value.next + 1)) z.1) q) k
@@ -164,12 +159,12 @@ module _ {S : Type 0} (after : S → Stretch → S) (u w : S) where
       go : (b : Bool) → is_name (tree_of target.expr.value) ≡ b → FieldsBehind after prof ts at ps u w r
       go false k = fields_behind ps a.statement refl (placed_annotated_part (single_target p t.is) k s.is a.first a.second) a.records
       go true k =
-          let b : is_name (tree_of value.expr.value) ≡ true = named_alike (tree_of value.expr.value) (tree_of target.expr.value) t.is k in
+          let b : is_name (tree_of value.expr.value) ≡ true = stored_name (tree_of value.expr.value) (tree_of target.expr.value) t.is k in
           let g = grouped_name p t.is b (λ x q. not_named Colon ts at x (seen ts (value.next + 1)) n
           (q ∙ ap (λ r. Ident x ∷ r) s.is)) in
           fields_behind ps a.statement refl
           (placed_annotated_group g.open_is g.target g.close_is s.is
-          (numbered (ap (λ m. m + 1) (sym g.ends)) a.first) a.second) a.records
+          (placed_at (ap (λ m. m + 1) (sym g.ends)) a.first) a.second) a.records
   value_annotated value target (Err o) s t a prof at ps n p = tt
 
 module _ {S : Type 0} (after : S → Stretch → S) (u : S) (ts : List given.Terminal) (targets : Items) (value : Read) where
@@ -197,7 +192,7 @@ module _ {S : Type 0} (after : S → Stretch → S) (u : S) (ts : List given.Ter
   no_targets v z h f prof at middle ps qs n g p =
       let w = untargeted_is (map tree_of targets.exprs.items) h g in
       let q : Placed Value (seen ts at) at (tree_of value.expr.value) (seen ts value.next) value.next qs =
-      numbered (sym w.1) (subst (λ i. Placed Value i middle (tree_of value.expr.value) (seen ts value.next) value.next qs) (sym w.0) p) in
+      placed_at (sym w.1) (subst (λ i. Placed Value i middle (tree_of value.expr.value) (seen ts value.next) value.next qs) (sym w.0) p) in
       subst (λ l. IfOk z (FieldsBehind after prof ts at l u v)) (sym (ap (λ l. l ++ qs) w.2)) (f prof at qs n q)
 
   pub value_alone : (r : ReadStatement) → map tree_of targets.exprs.items ≡ [] → stmt_of r.statement ≡ ExprOf (tree_of value.expr.value)

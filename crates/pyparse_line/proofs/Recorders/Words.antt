@@ -1,10 +1,10 @@
 -- Statements that begin with a keyword.
 --
 -- Carries: simple.rt, word_statement. On: Looks, Says; Simple of pyplaces.
-use Rattle.std.proofs.Common.{◌≡◌, refl, sym, ap, subst, ◌∙◌, ℕ, ◌+◌, List, [], ◌∷◌, ◌++◌, map, Option, Some, None, Result, Ok, Err}
+use Rattle.std.proofs.Common.{◌≡◌, refl, sym, ap, subst, ◌∙◌, ℕ, ◌+◌, List, map, Some, None, Result, Ok, Err}
 use Rattle.std.specs.Prelude.{IfOk}
 use Rattle.pytree_node.specs.declared.profiles.Profile.{Profile}
-use Rattle.pytree_node.specs.Trees.{Assert, Break, Continue, Delete, Expr, Global, Identifier, Nonlocal, Pass, Raise, Return, Stmt}
+use Rattle.pytree_node.specs.Trees.{Assert, Break, Continue, Delete, Global, Identifier, Nonlocal, Pass, Raise, Return, Stmt}
 use Rattle.pytree_node.specs.TreeOf.{boxed_of, stmt_of, tree_of}
 use Rattle.pytoken.specs.declared.keywords.Keyword.{Keyword}
 use Rattle.pytoken.specs.declared.keywords.Keyword.TheVariants as Key

@@ -146,17 +146,6 @@ pub record Dots (ts : List given.Terminal) (x : Answer ℕ) (count n : ℕ) : Ty
   pub within : n ≤ length ts
   pub is : x ≡ and_then (read_dots (seen ts n)) (λ k r. Found (count + k) r)
 
-no_dots_before : (x : Answer ℕ) → x ≡ and_then x (λ k r. Found (0 + k) r)
-no_dots_before NoForm = refl
-no_dots_before TooDeep = refl
-no_dots_before (Found k r) = ap (λ j. Found j r) same
-  where
-    same : k ≡ 0 + k
-    same = omega arith
-
-pub dots_start : (ts : List given.Terminal) (at : ℕ) → at ≤ length ts → Dots ts (read_dots (seen ts at)) 0 at
-dots_start ts at w = record { within = w; is = no_dots_before (read_dots (seen ts at)) }
-
 none_read : (r : List Terminal) → dots_at r ≡ 0 → read_dots r ≡ Found 0 r
 none_read [] h = refl
 none_read (Op Dot ∷ r) h = absurd (cc)

@@ -1,7 +1,5 @@
 -- Headers and lines that were read and recorded, with their places in three runs.
 use Rattle.std.specs.Prelude.{◌≡◌, ℕ, ◌+◌, List, [], ◌++◌, ◌∷◌, Bool, Option, Some, None, Result, IfOk, map}
-use Rattle.std.specs.Str.{chars}
-use Rattle.unicode_normalization.specs.Forms.{nfkc}
 use Rattle.pylex_lexeme.specs.declared.kinds.Exact.TheVariants.{Colon}
 use Rattle.pytree_node.specs.declared.profiles.Profile.{Profile}
 use Rattle.pytree_node.specs.Trees.{Expr, Identifier, Stmt}
@@ -14,7 +12,6 @@ use Rattle.pytoken.specs.declared.values.terminals.Terminal.{Terminal}
 use Rattle.pygrammar.specs.declared.levels.Level.TheVariants.{Expression}
 use Rattle.pygrammar.specs.FormOf.{form_of, header_of, suite_of}
 use Rattle.pygrammar.specs.Forms as F
-use Rattle.pygrammar.specs.Forms.{case_word, is_whole, match_word}
 use Rattle.pygrammar.specs.Lines.{except_header}
 use Rattle.pyparse_nodes.specs.declared.stop.Stop.{Stop}
 use Rattle.pyparse_nodes.specs.Views.{Stands, seen}

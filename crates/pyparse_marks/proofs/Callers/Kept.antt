@@ -1,5 +1,5 @@
 -- What is kept of the terminals of a line.
-use Rattle.std.proofs.Common.{◌≡◌, refl, ap, subst, sym, false, List, [], ◌++◌, Option, Some, None, append_assoc, append-nil}
+use Rattle.std.proofs.Common.{◌≡◌, refl, ap, false, List, [], ◌++◌, Option, Some, None, append_assoc, append-nil}
 use Rattle.std.specs.Prelude.{is_some}
 use Rattle.pyparse_marks.specs.Spans.{Span, added, emptied}
 

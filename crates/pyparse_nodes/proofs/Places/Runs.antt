@@ -46,11 +46,6 @@ text_mixed t s u r = turned (Values.Str t u) (Values.Bytes s) r ∙ never [] r
 pub bytes_mixed : (t s : List ℕ) (u : Bool) (r : List Terminal) → run (Values.Bytes t) (Literal (Values.Str s u) ∷ r) ≡ NoForm
 bytes_mixed t s u r = turned (Values.Bytes t) (Values.Str s u) r ∙ never [] r
 
-pub run_end : (v : Value) (r : List Terminal) → None ≡ first_is literal_in r → run v r ≡ Found v r
-run_end v [] h = refl
-run_end v (Literal w ∷ r) h = absurd (cc)
-run_end v (_ ∷ r) h = refl
-
 pub literal_front : (ts : List given.Terminal) (n : ℕ) (v : Value) → Some v ≡ first_is literal_in (seen ts n)
     → seen ts n ≡ Literal v ∷ seen ts (n + 1)
 literal_front ts n v h = split (seen ts n) h ∙ ap (λ r. Literal v ∷ r) (drop-drop 1 n (map terminal ts))

@@ -1,5 +1,5 @@
-use Rattle.std.proofs.Common.{refl, ◌+◌, ◌-◌, ◌∙◌, ◌∷◌, [], ap, arith, rules, map, sym, Some, Ok}
-use Rattle.pylex_lexeme.specs.declared.kinds.Exact.TheVariants.{LBrace, LPar, LSqb, Star}
+use Rattle.std.proofs.Common.{refl, ◌+◌, ◌∙◌, ◌∷◌, [], ap, arith, rules, map, sym, Some, Ok}
+use Rattle.pylex_lexeme.specs.declared.kinds.Exact.TheVariants.{LBrace, LPar, LSqb}
 use Rattle.pytree_node.specs.TreeOf.{pattern_of}
 use Rattle.pytoken.specs.Terminals.{Op, Ident}
 use Rattle.pytoken.specs.TerminalOf.{terminal}
@@ -8,11 +8,11 @@ use Rattle.pygrammar.specs.PatternOperators.{captured, is_wildcard}
 use Rattle.pyparse_nodes.specs.Views.{seen}
 use Rattle.pyplaces.proofs.Asides.{Apart}
 use Rattle.pyplaces.proofs.Patterns.Levels.{placed_pattern_next}
-use Rattle.pyparse_expr.proofs.Callers.Looks.{front}
+use Rattle.pyparse_expr.proofs.Callers.Looks.{front, placed_at}
 use Rattle.pyparse_pattern.proofs.AlternativeSteps.{bars_end, bars_error, bars_more, bars_start}
 use Rattle.pyparse_pattern.proofs.ClosedSteps.{closed_here, closed_word, inner_dotted, inner_found, name_value, same_found}
 use Rattle.pyparse_pattern.proofs.ElementSteps.{elements_alone}
-use Rattle.pyparse_pattern.proofs.EntrySteps.{entries_end, entries_error, entries_more, entries_start}
+use Rattle.pyparse_pattern.proofs.EntrySteps.{entries_error, entries_more, entries_start}
 use Rattle.pyparse_pattern.proofs.SequenceSteps.{open_sequence, round_sequence, square_sequence}
 use Rattle.pyparse_pattern.proofs.Recorders.Entries.{argument_placed, class_records, element_placed, elements_as, elements_placed}
 use Rattle.pyparse_pattern.proofs.Recorders.Entries.{entries_begun}
@@ -20,7 +20,7 @@ use Rattle.pyparse_pattern.proofs.Recorders.Entries.{entries_closed, entries_end
 use Rattle.pyparse_pattern.proofs.Recorders.Entries.{rest_placed}
 use Rattle.pyparse_pattern.proofs.Recorders.Levels.{bars_begun, bars_ended, bars_gone, capture_placed, class_joined, or_placed}
 use Rattle.pyparse_pattern.proofs.Recorders.Levels.{singleton_placed, value_placed}
-use Rattle.pyparse_pattern.proofs.Recorders.Made.{placed_at, whole_at, whole_joined, whole_on, whole_seen}
+use Rattle.pyparse_pattern.proofs.Recorders.Made.{whole_at, whole_joined, whole_on, whole_seen}
 use Rattle.pyparse_pattern.proofs.Recorders.Sequences.{alone_placed, empty_placed, group_placed, open_placed, round_placed, square_placed}
 use Rattle.pyparse_pattern.specs.Inner.Entries.{entry_of, item_of}
 use Rattle.pyparse_pattern.proofs.+reading.Goals as goal

@@ -2,7 +2,7 @@
 --
 -- Carries: read_entries, read_entry, key_entry, rest_entry, argument_entry, elements, others, finish_mapping, finish_class. On: Made;
 -- Lists, Asides and Loops of pyplaces.
-use Rattle.std.proofs.Common.{◌≡◌, refl, sym, ap, subst, ◌∙◌, ℕ, ◌+◌, List, [], ◌∷◌, ◌++◌, length, map, Some, None, Bool, true, false}
+use Rattle.std.proofs.Common.{◌≡◌, refl, sym, ap, subst, ◌∙◌, ℕ, ◌+◌, List, [], ◌∷◌, ◌++◌, length, map, Some, Bool, true, false}
 use Rattle.std.proofs.Common.{append_assoc, Result, Ok, Err}
 use Rattle.std.specs.Prelude.{◌&&◌, not, IfOk, MatchResult}
 use Rattle.std.proofs.lemmas.List.{append-nil}
@@ -31,12 +31,12 @@ use Rattle.pyplaces.specs.Stretches.{Stretch}
 use Rattle.pyplaces.specs.PatternPlaces as E
 use Rattle.pyplaces.specs.PatternPlaces.{EntryPlaces, entries_places, pattern_places}
 use Rattle.pyplaces.specs.PlacedPatterns.{PlacedEntries, PlacedEntry}
-use Rattle.pyplaces.specs.Recording.{afters, Kept, Moves, Records}
+use Rattle.pyplaces.specs.Recording.{Kept, Moves, Records}
 use Rattle.pyplaces.proofs.Asides.{Apart, kept_aside, kept_more, kept_none, kept_records, kept_then, records_kept}
 use Rattle.pyplaces.proofs.Loops.{Grows, grows_start}
 use Rattle.pyplaces.proofs.Patterns.Lists.{entries_end, entries_last, entries_turn, placed_class_argument, placed_element}
 use Rattle.pyplaces.proofs.Patterns.Lists.{placed_key_pattern, placed_named_argument, placed_rest}
-use Rattle.pyparse_pattern.proofs.Recorders.Looks.{name_first}
+use Rattle.pyparse_expr.proofs.Callers.Looks.{name_first}
 use Rattle.pyparse_pattern.proofs.Recorders.Made.{Whole, placed_in, said_as}
 use Rattle.pyparse_pattern.proofs.Recorders.Values.{KeyRead}
 
@@ -145,10 +145,6 @@ pub kept_as : {S : Type 0} {after beside : S → Stretch → S} {u v : S} {ps qs
     → Kept after beside u rs ss v → Kept after beside u ps qs v
 kept_as {after = after} {beside = beside} {u = u} {v = v} {ps = ps} {ss = ss} h q k =
     subst (λ z. Kept after beside u ps z v) (sym q) (subst (λ z. Kept after beside u z ss v) (sym h) k)
-
-pub records_as : {S : Type 0} {after : S → Stretch → S} {u v : S} {ps qs : List Stretch} → ps ≡ qs → Records after u qs v
-    → Records after u ps v
-records_as {after = after} {u = u} {v = v} h r = subst (λ z. Records after u z v) (sym h) r
 
 -- how far a list has come
 pub record EntriesGrown {S : Type 0} (after beside : S → Stretch → S) (ts : List given.Terminal) (i : PatternItem) (at : ℕ)

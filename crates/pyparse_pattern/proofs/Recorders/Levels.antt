@@ -2,8 +2,8 @@
 --
 -- Carries: levels.rt, closed.rt, finish_mapping, finish_class, read_whole_pattern. On: Made, Values, Entries; Levels and Lists of
 -- pyplaces' patterns.
-use Rattle.std.proofs.Common.{◌≡◌, inl, inr, refl, sym, ap, subst, ◌∙◌, arith, ℕ, ◌+◌, ◌-◌, List, [], ◌∷◌, ◌++◌, length, map, drop, Option}
-use Rattle.std.proofs.Common.{Some, None, true, false, if◌then◌else◌, append_assoc, Result, Ok, Err}
+use Rattle.std.proofs.Common.{◌≡◌, inl, inr, refl, sym, ap, subst, ◌∙◌, arith, ℕ, ◌+◌, ◌-◌, List, [], ◌∷◌, ◌++◌, length, map, Option}
+use Rattle.std.proofs.Common.{Some, None, true, false, append_assoc, Result}
 use Rattle.std.specs.Prelude.{IfOk, MatchResult}
 use Rattle.std.proofs.lemmas.List.{length-map, drop_all}
 use Rattle.pylex_lexeme.specs.declared.kinds.Exact.TheVariants.{LBrace, LPar, RBrace, RPar, Star, VBar}
@@ -35,7 +35,7 @@ use Rattle.pyparse_pattern.specs.declared.found.ReadPattern.{ReadPattern}
 use Rattle.pyparse_pattern.specs.Inner.Entries.{entry_of}
 use Rattle.pyparse_pattern.specs.Inner.Found.{IsQualified}
 use Rattle.pyparse_pattern.specs.Inner.Made.{MadePattern, MakesPattern}
-use Rattle.pyparse_pattern.specs.Inner.PlacedParts.{AlternativesPlaced, EntriesPlaced, behinds, fronts}
+use Rattle.pyparse_pattern.specs.Inner.PlacedParts.{AlternativesPlaced, behinds, fronts}
 use Rattle.pyplaces.specs.Stretches.{Stretch, stretch}
 use Rattle.pyplaces.specs.PatternPlaces as E
 use Rattle.pyplaces.specs.PatternPlaces.{EntryPlaces}
@@ -49,11 +49,10 @@ use Rattle.pyplaces.proofs.Patterns.Levels.{placed_alternatives, placed_as_name,
 use Rattle.pyplaces.proofs.Patterns.Levels.{placed_mapping, placed_singleton, placed_star}
 use Rattle.pyplaces.proofs.Patterns.Lists.{bars_end, bars_some, bars_turn}
 use Rattle.pyplaces.proofs.Patterns.Values.{placed_class}
+use Rattle.pyparse_expr.proofs.Callers.Looks.{no_op, name_first, with_places}
 use Rattle.pyparse_pattern.proofs.ClosedSteps.{no_bracket}
 use Rattle.pyparse_pattern.proofs.Recorders.Entries.{class_fronts, key_fronts}
-use Rattle.pyparse_pattern.proofs.Recorders.Looks.{name_first, no_op}
-use Rattle.pyparse_pattern.proofs.Recorders.Made.{Whole, WholeBehind, leaf_made, placed_at, said_as, whole_behind, whole_joined, whole_made}
-use Rattle.pyparse_pattern.proofs.Recorders.Made.{with_places}
+use Rattle.pyparse_pattern.proofs.Recorders.Made.{Whole, WholeBehind, leaf_made, said_as, whole_behind, whole_joined, whole_made}
 use Rattle.pyparse_pattern.proofs.Recorders.Values.{DottedRead, LiteralRead, dotted_value, pointed}
 
 -- up to the end of the list

@@ -24,20 +24,10 @@ pub said_as : {A : Type 0} (K : A → List Terminal → ℕ → Type 0) {e f : A
     → K e (rest n) n → K f (rest k) k
 said_as K {e} {f} {n = n} rest h q p = subst (λ z. K f (rest z) z) (sym q) (subst (λ z. K z (rest n) n) (sym h) p)
 
--- the same place by another number
-pub placed_at : {P : Type 0} {X : List Terminal → Type 0} {f : (ts : List Terminal) → ℕ → X ts → P} {i r : List Terminal}
-    {at n behind : ℕ} {ps : P} → at ≡ n → ReadAs X f i at r behind ps → ReadAs X f i n r behind ps
-placed_at {X = X} {f = f} {i = i} {r = r} {behind = behind} {ps = ps} h p = subst (λ z. ReadAs X f i z r behind ps) h p
-
 -- the same list in other words
 pub placed_in : {P : Type 0} {X : List Terminal → Type 0} {f : (ts : List Terminal) → ℕ → X ts → P} {i j r : List Terminal}
     {at behind : ℕ} {ps : P} → j ≡ i → ReadAs X f i at r behind ps → ReadAs X f j at r behind ps
 placed_in {X = X} {f = f} {r = r} {at = at} {behind = behind} {ps = ps} h p = subst (λ z. ReadAs X f z at r behind ps) (sym h) p
-
--- equal places
-pub with_places : {P : Type 0} {X : List Terminal → Type 0} {f : (ts : List Terminal) → ℕ → X ts → P} {i r : List Terminal}
-    {at behind : ℕ} {ps qs : P} → ps ≡ qs → ReadAs X f i at r behind ps → ReadAs X f i at r behind qs
-with_places {X = X} {f = f} {i = i} {r = r} {at = at} {behind = behind} h p = subst (λ z. ReadAs X f i at r behind z) h p
 
 -- a pattern of a level at the front of a list that begins at a place, and its places
 abbrev pub Whole : {S : Type 0} → (S → Stretch → S) → List given.Terminal → PatternLevel → List Terminal → ℕ → S → S → ReadPattern → Type 0

@@ -18,22 +18,20 @@ use Rattle.pyparse_nodes.specs.declared.stop.Stop.{Stop}
 use Rattle.pyparse_nodes.specs.Views.{Stands, first_is, seen}
 use Rattle.pyparse_pattern.specs.declared.found.Patterns.{Patterns}
 use Rattle.pyparse_pattern.specs.declared.found.ReadPattern.{ReadPattern}
-use Rattle.pyparse_pattern.specs.Inner.Entries.{alone_in}
 use Rattle.pyparse_pattern.specs.Inner.Made.{MakesPattern}
 use Rattle.pyparse_pattern.specs.Inner.PlacedParts.{BracketedPlaced, ElementsPlaced, GroupedPlaced}
 use Rattle.pyplaces.specs.Stretches.{Stretch, stretch}
 use Rattle.pyplaces.specs.PatternPlaces as E
 use Rattle.pyplaces.specs.PatternPlaces.{pattern_places}
 use Rattle.pyplaces.specs.PlacedPatterns.{PlacedPattern}
-use Rattle.pyplaces.specs.Recording.{Records}
 use Rattle.pyplaces.specs.Rests.{Lacks}
 use Rattle.pyplaces.proofs.Answers.{records_more, records_node}
 use Rattle.pyplaces.proofs.Patterns.Levels.{placed_empty_sequence, placed_open_sequence, placed_pattern_group, placed_pattern_next}
 use Rattle.pyplaces.proofs.Patterns.Levels.{placed_round_sequence, placed_square_sequence}
+use Rattle.pyparse_expr.proofs.Callers.Looks.{no_op, placed_at}
 use Rattle.pyparse_pattern.proofs.Arranged.{alone_elements}
 use Rattle.pyparse_pattern.proofs.SequenceSteps.{whole}
-use Rattle.pyparse_pattern.proofs.Recorders.Looks.{no_op}
-use Rattle.pyparse_pattern.proofs.Recorders.Made.{Whole, placed_at, whole_is, whole_made}
+use Rattle.pyparse_pattern.proofs.Recorders.Made.{Whole, whole_is, whole_made}
 
 -- ---- A pattern of star_pattern that begins with no star is one of as_pattern.
 

@@ -1,7 +1,7 @@
 -- The places of the values of patterns: numbers, strings, names with points, keys.
 --
 -- Carries: number_at, signed_at, with_imaginary, sum_at, read_literal, dotted, dotted_key, any_key. On: Made, Looks; Values of pyplaces.
-use Rattle.std.proofs.Common.{◌≡◌, refl, sym, ap, subst, ◌∙◌, arith, ℕ, ◌+◌, List, [], ◌∷◌, ◌++◌, length, Some, None, true, false}
+use Rattle.std.proofs.Common.{◌≡◌, refl, sym, ap, subst, ◌∙◌, arith, ℕ, ◌+◌, List, [], ◌∷◌, ◌++◌, length, Some, true, false}
 use Rattle.std.proofs.Common.{length-append, append_assoc, Result, Ok, Err}
 use Rattle.std.specs.Prelude.{IfOk, MatchResult}
 use Rattle.std.proofs.lemmas.List.{append-nil}
@@ -50,9 +50,9 @@ use Rattle.pyplaces.proofs.Fronts.{◌⊕◌, own}
 use Rattle.pyplaces.proofs.Patterns.Values.{placed_unsigned, placed_negative, placed_number, placed_complex, placed_first_name}
 use Rattle.pyplaces.proofs.Patterns.Values.{placed_dot_name}
 use Rattle.pyplaces.proofs.Patterns.Values.{placed_literal_key, placed_singleton_key}
+use Rattle.pyparse_expr.proofs.Callers.Looks.{some_first, name_first, with_places}
 use Rattle.pyparse_pattern.proofs.Points.{after_point}
-use Rattle.pyparse_pattern.proofs.Recorders.Looks.{name_first, some_first}
-use Rattle.pyparse_pattern.proofs.Recorders.Made.{placed_in, said_as, with_places}
+use Rattle.pyparse_pattern.proofs.Recorders.Made.{said_as}
 
 -- ---- Numbers.
 

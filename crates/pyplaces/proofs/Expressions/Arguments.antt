@@ -10,7 +10,6 @@ use Rattle.pygrammar.specs.Entries.{Argument, Single, Spread, Doubled, Keyed}
 use Rattle.pygrammar.specs.Grammar as G
 use Rattle.pyplaces.specs.Stretches.{Stretch, stretch}
 use Rattle.pyplaces.specs.EntryPlaces as E
-use Rattle.pyplaces.specs.EntryPlaces.{EntryPlaces}
 use Rattle.pyplaces.specs.Placed.{Placed, PlacedPiece}
 use Rattle.pyplaces.proofs.Fronts.{sign, signs, front_of, from, built, entry_at}
 

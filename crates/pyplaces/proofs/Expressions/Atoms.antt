@@ -7,7 +7,7 @@ use Rattle.pytoken.specs.declared.keywords.Keyword.TheVariants as Key
 use Rattle.pytree_node.specs.declared.operators.Context.TheVariants.{Load}
 use Rattle.pygrammar.specs.declared.levels.Level.TheVariants.{Named, Atom, Elem}
 use Rattle.pytree_node.specs.Trees
-use Rattle.pytree_node.specs.Trees.{Expr, no_exprs, an_expr, OptionalExpr, absent, present, arg, Arguments, Comprehension, comprehensions}
+use Rattle.pytree_node.specs.Trees.{Expr, no_exprs, an_expr, Comprehension, comprehensions}
 use Rattle.pytree_node.specs.Values
 use Rattle.pytoken.specs.Terminals.{Terminal, Spelled, Op, Word, Ident, Number}
 use Rattle.pygrammar.specs.Constants.{constant_word}

@@ -5,7 +5,7 @@ use Rattle.std.proofs.Common.{◌≡◌, ap, ℕ, ◌+◌, arith, List, [], ◌�
 use Rattle.pylex_lexeme.specs.declared.kinds.Exact.TheVariants.{LBrace, RBrace, Colon, DoubleStar}
 use Rattle.pygrammar.specs.declared.levels.Level.TheVariants.{Named, Expression, BitOr, Atom, Elem}
 use Rattle.pytree_node.specs.Trees
-use Rattle.pytree_node.specs.Trees.{Expr, no_exprs, an_expr, OptionalExpr, absent, present, arg, Arguments, Comprehension, comprehensions}
+use Rattle.pytree_node.specs.Trees.{Expr, Comprehension, comprehensions}
 use Rattle.pytoken.specs.Terminals.{Terminal, Op}
 use Rattle.pygrammar.specs.Entries.{Of, Pair, Entry, Paired, Doubled, singles, keys, values}
 use Rattle.pygrammar.specs.Grammar as G

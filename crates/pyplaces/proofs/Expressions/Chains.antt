@@ -13,15 +13,10 @@ use Rattle.pytoken.specs.Terminals.{Terminal, Word}
 use Rattle.pygrammar.specs.Operators.{below, chain_level, chain_word, comparison}
 use Rattle.pygrammar.specs.Grammar as G
 use Rattle.pyplaces.specs.Stretches.{Stretch}
-use Rattle.pyplaces.specs.Placed.{Placed, PlacedChain, PlacedCompares, PlacedSign}
+use Rattle.pyplaces.specs.Placed.{Placed, PlacedChain, PlacedSign}
 use Rattle.pyplaces.specs.Rests.{Lacks, Links, no_word, words, Sides, no_sign, signs}
 use Rattle.pyplaces.proofs.Fronts.{nothing, sign, both, front_of, from, built, ◌⊕◌, tails}
 use Rattle.pyplaces.proofs.Loops.{Grows, grows_turn, grows_end}
-
--- ---- Sides of `and` and `or`.
-pub placed_last_link : {o : BoolOperator} {i r : List Terminal} {at behind : ℕ} {e : Expr} {ps : List Stretch}
-    → Placed (below (chain_level o)) i at e r behind ps → PlacedChain o i at (e ∷ []) r behind ps
-placed_last_link p = built (front_of p) (G.last_link p.derived) p.places_are
 
 pub placed_link : {o : BoolOperator} {i r s u : List Terminal} {at m behind : ℕ} {e : Expr} {es : List Expr} {ps qs : List Stretch}
     → Placed (below (chain_level o)) i at e r m ps → r ≡ Word (chain_word o) ∷ s → PlacedChain o s (m + 1) es u behind qs
@@ -95,8 +90,3 @@ sides_turn {e = e} {o = o} {os = os} {es = es} {ps = ps} {qs = qs} g d p = recor
 pub sides_end : {i r : List Terminal} {at m : ℕ} {os : List Comparison} {es : List Expr} {ps : List Stretch} → SidesGrow i at os es r m ps
     → Sides i at os es r m ps
 sides_end {os = os} {es = es} {ps = ps} g = let c = g.so [] [] _ _ [] no_sign in rw (append-nil os, append-nil es, append-nil ps) at c
-
--- where one was read
-pub sides_some : {i r : List Terminal} {at m : ℕ} {o : Comparison} {os : List Comparison} {es : List Expr} {ps : List Stretch}
-    → Sides i at (o ∷ os) es r m ps → PlacedCompares i at (o ∷ os) es r m ps
-sides_some (signs c) = c

@@ -18,13 +18,14 @@ use Rattle.pytoken.specs.Terminals.{Terminal, Op, Word}
 use Rattle.pygrammar.specs.Operators.{below, chain_level, chain_word, left_operator, prefix_operator, rank}
 use Rattle.pygrammar.specs.Precedence as precedence
 use Rattle.pygrammar.specs.Grammar as G
+use Rattle.pygrammar.proofs.Callers.Steps.{raise_is, awaits_is}
 use Rattle.pyplaces.specs.Stretches.{Stretch, stretch}
 use Rattle.pyplaces.specs.Placed.{Placed, PlacedChain, PlacedCompares}
 use Rattle.pyplaces.specs.Standing.{turn_of, Ended, follower, Standing}
 use Rattle.pyplaces.proofs.Fronts.{sign, both, front_of, from, built, ◌⊕◌, own}
 use Rattle.pyplaces.proofs.Expressions.Levels.{placed_next}
 use Rattle.pyplaces.proofs.Expressions.Lower.{placed_lower}
-use Rattle.pyplaces.proofs.Expressions.Turns.{turns, turn_is, left_facts, raise_is, chain_facts, signed_facts, awaits_is, follower_rank}
+use Rattle.pyplaces.proofs.Expressions.Turns.{turns, turn_is, left_facts, chain_facts, signed_facts, follower_rank}
 use Rattle.pyplaces.proofs.Expressions.Turns.{joint_or, joint_and, joint_compare, joint_power}
 
 -- ---- The nodes.

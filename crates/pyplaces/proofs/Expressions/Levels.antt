@@ -11,7 +11,7 @@ use Rattle.pygrammar.specs.declared.levels.Level.{Level}
 use Rattle.pygrammar.specs.declared.levels.Level.TheVariants.{Value, Stars, StarItem, Named, Expression, Or, BitOr}
 use Rattle.pygrammar.specs.declared.levels.Level.TheVariants.{Elem, Slices, Part, Subject}
 use Rattle.pytree_node.specs.Trees
-use Rattle.pytree_node.specs.Trees.{Expr, no_exprs, an_expr, OptionalExpr, absent, present, arg, Arguments, Comprehension, comprehensions}
+use Rattle.pytree_node.specs.Trees.{Expr, an_expr, OptionalExpr, absent, present, Arguments}
 use Rattle.pytoken.specs.Terminals.{Terminal, Spelled, Op, Word, Ident}
 use Rattle.pygrammar.specs.Operators.{below}
 use Rattle.pygrammar.specs.Entries.{Of, Parameter, Entry, singles}

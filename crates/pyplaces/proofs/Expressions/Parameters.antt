@@ -7,13 +7,12 @@ use Rattle.pylex_lexeme.specs.declared.kinds.Exact.TheVariants.{Colon, Star, Sla
 use Rattle.pytree_node.specs.declared.operators.Context.TheVariants.{Load}
 use Rattle.pygrammar.specs.declared.levels.Level.TheVariants.{Expression, BitOr}
 use Rattle.pytree_node.specs.Trees
-use Rattle.pytree_node.specs.Trees.{Expr, no_exprs, an_expr, OptionalExpr, absent, present, arg, Arguments, Comprehension, comprehensions}
+use Rattle.pytree_node.specs.Trees.{Expr, OptionalExpr, absent, present, arg}
 use Rattle.pytoken.specs.Terminals.{Terminal, Spelled, Op, Ident}
 use Rattle.pygrammar.specs.Entries.{Parameter, Plain, Slashed, Bare, Gathered, Collected}
 use Rattle.pygrammar.specs.Grammar as G
 use Rattle.pyplaces.specs.Stretches.{Stretch, stretch}
 use Rattle.pyplaces.specs.EntryPlaces as E
-use Rattle.pyplaces.specs.EntryPlaces.{EntryPlaces}
 use Rattle.pyplaces.specs.Placed.{Placed, PlacedSuffix, PlacedPiece}
 use Rattle.pyplaces.specs.Rests.{StarSuffix, plain_suffix, star_suffix}
 use Rattle.pyplaces.proofs.Fronts.{nothing, sign, both, front_of, from, built, ◌⊕◌, own, reaches, entry}

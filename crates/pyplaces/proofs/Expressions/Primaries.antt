@@ -6,7 +6,7 @@ use Rattle.pylex_lexeme.specs.declared.kinds.Exact.TheVariants.{LPar, RPar, LSqb
 use Rattle.pytree_node.specs.declared.operators.Context.TheVariants.{Load}
 use Rattle.pygrammar.specs.declared.levels.Level.TheVariants.{Named, Primary, Slices}
 use Rattle.pytree_node.specs.Trees
-use Rattle.pytree_node.specs.Trees.{Expr, no_exprs, an_expr, OptionalExpr, absent, present, arg, Arguments, Comprehension, comprehensions}
+use Rattle.pytree_node.specs.Trees.{Expr, no_exprs, an_expr, Comprehension, comprehensions}
 use Rattle.pytoken.specs.Terminals.{Terminal, Spelled, Op, Ident}
 use Rattle.pygrammar.specs.Entries.{Argument, Entry}
 use Rattle.pygrammar.specs.Arguments.{called}

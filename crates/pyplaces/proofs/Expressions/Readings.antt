@@ -8,7 +8,7 @@ use Rattle.pygrammar.specs.declared.levels.Level.{Level}
 use Rattle.pygrammar.specs.declared.levels.Level.TheVariants.{Stars, StarItem, Named, Expression, Or, BitOr, Primary, Atom}
 use Rattle.pygrammar.specs.declared.levels.Level.TheVariants.{Elem, Slices, Part}
 use Rattle.pytree_node.specs.Trees
-use Rattle.pytree_node.specs.Trees.{Expr, no_exprs, an_expr, OptionalExpr, absent, present, arg, Arguments, Comprehension, comprehensions}
+use Rattle.pytree_node.specs.Trees.{Expr, no_exprs, an_expr}
 use Rattle.pytoken.specs.Terminals.{Terminal, Spelled, Op, Ident}
 use Rattle.pytree_node.specs.declared.operators.Operator.{Operator}
 use Rattle.pytree_node.specs.declared.operators.UnaryOperator.{UnaryOperator}

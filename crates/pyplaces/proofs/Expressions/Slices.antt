@@ -6,7 +6,7 @@ use Rattle.pylex_lexeme.specs.declared.kinds.Exact.TheVariants.{Colon, Star}
 use Rattle.pytree_node.specs.declared.operators.Context.TheVariants.{Load}
 use Rattle.pygrammar.specs.declared.levels.Level.TheVariants.{Expression, Slices, Slice}
 use Rattle.pytree_node.specs.Trees
-use Rattle.pytree_node.specs.Trees.{Expr, no_exprs, an_expr, OptionalExpr, absent, present, arg, Arguments, Comprehension, comprehensions}
+use Rattle.pytree_node.specs.Trees.{Expr, no_exprs, an_expr, OptionalExpr, absent}
 use Rattle.pytoken.specs.Terminals.{Terminal, Op}
 use Rattle.pygrammar.specs.Grammar as G
 use Rattle.pyplaces.specs.Stretches.{Stretch, stretch}

@@ -6,7 +6,7 @@ use Rattle.std.proofs.Common.{cond, leb}
 use Rattle.std.proofs.lemmas.Bool.{leb-true, le-leb}
 use Rattle.pylex_lexeme.specs.declared.kinds.Exact.TheVariants.{LPar, Plus, Minus, Star, Slash, VBar, Amper, Less, Greater, Percent}
 use Rattle.pylex_lexeme.specs.declared.kinds.Exact.TheVariants.{EqEqual, NotEqual, LessEqual, GreaterEqual, Tilde, Circumflex, LeftShift}
-use Rattle.pylex_lexeme.specs.declared.kinds.Exact.TheVariants.{RightShift, DoubleStar, DoubleSlash, At}
+use Rattle.pylex_lexeme.specs.declared.kinds.Exact.TheVariants.{RightShift, DoubleSlash, At}
 use Rattle.pytoken.specs.declared.keywords.Keyword.TheVariants as Key
 use Rattle.pytree_node.specs.declared.operators.Operator.{Operator}
 use Rattle.pytree_node.specs.declared.operators.Operator.TheVariants as Bin
@@ -20,8 +20,9 @@ use Rattle.pytoken.specs.Terminals.{Terminal, Op, Word}
 use Rattle.pygrammar.specs.Looks.{is_word}
 use Rattle.pygrammar.specs.Operators.{below, chain_level, chain_word, comparison, left_operator, prefix_operator, rank}
 use Rattle.pygrammar.specs.Reader.{on_some}
-use Rattle.pygrammar.specs.Precedence.{Infix, Left, Raise, Joins, Prefix, Signed, Awaits, infix_rank, behind, prefix_rank, before}
+use Rattle.pygrammar.specs.Precedence.{Infix, Left, Joins, Prefix, Signed, infix_rank, behind, prefix_rank, before}
 use Rattle.pygrammar.specs.Precedence.{at_least, infix_from, prefix_from}
+use Rattle.pygrammar.proofs.Callers.Steps.{same_left, same_signed}
 use Rattle.pyplaces.specs.Rests.{Lacks}
 use Rattle.pyplaces.specs.Standing.{turn, turn_of, Ended, follower}
 
@@ -120,16 +121,6 @@ pub record LeftFacts (t : Terminal) (l : Level) (o : Operator) : Type 0 where
   pub least : 14 ≤ rank l
   pub most : rank l ≤ 19
 
-same_left : (P : Level → Operator → Type 0) (l n : Level) (o p : Operator) → P l o
-    → ◌≡◌ {A = Option Infix} (Some (Left l o)) (Some (Left n p)) → P n p
-same_left P l n o p h q = subst (λ z. P z p) (one l n o p q) (subst (λ z. P l z) (two l n o p q) h)
-  where
-    one : (l n : Level) (o p : Operator) → ◌≡◌ {A = Option Infix} (Some (Left l o)) (Some (Left n p)) → l ≡ n
-    one l n o p q = cc
-
-    two : (l n : Level) (o p : Operator) → ◌≡◌ {A = Option Infix} (Some (Left l o)) (Some (Left n p)) → o ≡ p
-    two l n o p q = cc
-
 facts : (t : Terminal) (l : Level) (o : Operator) → left_operator l t ≡ Some o → rank (below l) ≡ suc (rank l) → follower l ≡ rank l
     → 14 ≤ rank l → rank l ≤ 19 → LeftFacts t l o
 facts t l o a b c d e = record { operator = a; next = b; follows = c; least = d; most = e }
@@ -157,13 +148,6 @@ left_facts (Op _) l o h = absurd (cc)
 left_facts (Word Key.As) l o h = absurd (cc)
 left_facts (Word _) l o h = absurd (cc)
 left_facts _ l o h = absurd (cc)
-
-pub raise_is : (t : Terminal) → behind t ≡ Some Raise → t ≡ Op DoubleStar
-raise_is (Op DoubleStar) h = refl
-raise_is (Op _) h = absurd (cc)
-raise_is (Word Key.As) h = absurd (cc)
-raise_is (Word _) h = absurd (cc)
-raise_is _ h = absurd (cc)
 
 pub joins_is : (t : Terminal) (o : BoolOperator) → behind t ≡ Some (Joins o) → t ≡ Word (chain_word o)
 joins_is (Word Key.And) Join.And h = refl
@@ -236,16 +220,6 @@ pub record SignedFacts (t : Terminal) (l : Level) (o : UnaryOperator) : Type 0 w
   pub follows : rank l ≡ suc (follower l)
   pub most : rank l ≤ 22
 
-same_signed : (P : Level → UnaryOperator → Type 0) (l n : Level) (o p : UnaryOperator) → P l o
-    → ◌≡◌ {A = Option Prefix} (Some (Signed l o)) (Some (Signed n p)) → P n p
-same_signed P l n o p h q = subst (λ z. P z p) (one l n o p q) (subst (λ z. P l z) (two l n o p q) h)
-  where
-    one : (l n : Level) (o p : UnaryOperator) → ◌≡◌ {A = Option Prefix} (Some (Signed l o)) (Some (Signed n p)) → l ≡ n
-    one l n o p q = cc
-
-    two : (l n : Level) (o p : UnaryOperator) → ◌≡◌ {A = Option Prefix} (Some (Signed l o)) (Some (Signed n p)) → o ≡ p
-    two l n o p q = cc
-
 signs_facts : (t : Terminal) (l : Level) (o : UnaryOperator) → prefix_operator l t ≡ Some o → rank l ≡ suc (follower l) → rank l ≤ 22
     → SignedFacts t l o
 signs_facts t l o a b c = record { operator = a; follows = b; most = c }
@@ -258,10 +232,3 @@ signed_facts (Op Tilde) l o h = same_signed (SignedFacts (Op Tilde)) Factor l Un
 signed_facts (Word _) l o h = absurd (cc)
 signed_facts (Op _) l o h = absurd (cc)
 signed_facts _ l o h = absurd (cc)
-
-pub awaits_is : (t : Terminal) → before t ≡ Some Awaits → t ≡ Word Key.Await
-awaits_is (Word Key.Await) h = refl
-awaits_is (Word _) h = absurd (cc)
-awaits_is (Op Plus) h = absurd (cc)
-awaits_is (Op _) h = absurd (cc)
-awaits_is _ h = absurd (cc)

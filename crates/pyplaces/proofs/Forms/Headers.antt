@@ -13,7 +13,7 @@ use Rattle.pygrammar.specs.Entries.{Argument, Parameter, Entry}
 use Rattle.pygrammar.specs.Arguments.{in_order, positional, keywords}
 use Rattle.pygrammar.specs.Parameters.{arranged}
 use Rattle.pygrammar.specs.Forms as F
-use Rattle.pygrammar.specs.Forms.{type_word, match_word, case_word, alias, item, augmented, is_name, listed, is_whole, is_case_line}
+use Rattle.pygrammar.specs.Forms.{case_word, item, listed}
 use Rattle.pygrammar.specs.Lines.{if_header, elif_header, else_header, loop_header}
 use Rattle.pygrammar.specs.Lines.{with_header, try_header, except_header, finally_header, def_header, case_header, while_head}
 use Rattle.pygrammar.specs.Lines.{for_head, function_head, class_head}

@@ -9,7 +9,7 @@ use Rattle.pygrammar.specs.declared.levels.Level.TheVariants.{Named, Subject}
 use Rattle.pytree_node.specs.Trees.{Expr, Identifier, Stmt}
 use Rattle.pytoken.specs.Terminals.{Terminal, Op}
 use Rattle.pygrammar.specs.Forms as F
-use Rattle.pygrammar.specs.Forms.{type_word, match_word, case_word, alias, item, augmented, is_name, listed, is_whole, is_case_line}
+use Rattle.pygrammar.specs.Forms.{match_word, is_whole, is_case_line}
 use Rattle.pygrammar.specs.Lines.{Form, simple_form, decorator_form, header_form, Header, match_header}
 use Rattle.pyplaces.specs.Stretches.{Stretch}
 use Rattle.pyplaces.specs.FormPlaces.{FormPlaces, form_places, with_suite, plain_header, line_places, places_at}

@@ -4,22 +4,22 @@
 use Rattle.std.proofs.Common.{◌≡◌, refl, sym, ap, subst, ◌∙◌, ℕ, ◌+◌, arith, List, [], ◌∷◌, ◌++◌, Option, Some, None, true, false}
 use Rattle.std.proofs.Common.{append_assoc}
 use Rattle.std.proofs.lemmas.List.{append-nil}
-use Rattle.pylex_lexeme.specs.Characters.{full_stop, asterisk}
+use Rattle.pylex_lexeme.specs.Characters.{asterisk}
 use Rattle.pylex_lexeme.specs.declared.kinds.Exact.TheVariants as Sign
 use Rattle.pytoken.specs.declared.keywords.Keyword.TheVariants as Key
 use Rattle.pytree_node.specs.declared.profiles.Profile.{Profile}
 use Rattle.pytree_node.specs.Profiles.{has_types}
 use Rattle.pygrammar.specs.declared.levels.Level.{Level}
 use Rattle.pygrammar.specs.declared.levels.Level.TheVariants.{Expression}
-use Rattle.pytree_node.specs.Trees.{Expr, Identifier, Alias, TypeParam, TypeVar, ParamSpec, TypeVarTuple}
+use Rattle.pytree_node.specs.Trees.{Expr, Alias, TypeParam, TypeVar, ParamSpec, TypeVarTuple}
 use Rattle.pytoken.specs.Terminals.{Terminal, Spelled, Op, Word, Ident}
 use Rattle.pygrammar.specs.Forms as F
-use Rattle.pygrammar.specs.Forms.{type_word, match_word, case_word, alias, item, augmented, is_name, listed, is_whole, is_case_line}
+use Rattle.pygrammar.specs.Forms.{alias}
 use Rattle.pyplaces.specs.Stretches.{Stretch, stretch}
 use Rattle.pyplaces.specs.FormPlaces.{commas_places, ended_places, type_param_places, name_alias_places}
 use Rattle.pyplaces.specs.Placed.{Placed, PlacedTarget}
 use Rattle.pyplaces.specs.PlacedForms.{Bare, PlacedOptional, PlacedBehind, PlacedOne, PlacedCommas, PlacedEnded, Commaed, no_more, more}
-use Rattle.pyplaces.specs.PlacedForms.{PlacedTypeParam, PlacedTypeParams, PlacedDottedAlias, PlacedNameAlias, PlacedNames, PlacedTargets}
+use Rattle.pyplaces.specs.PlacedForms.{PlacedTypeParam, PlacedTypeParams, PlacedNames, PlacedTargets}
 use Rattle.pyplaces.proofs.Fronts.{Front, nothing, sign, both, front_of, from, built, ◌⊕◌, own}
 use Rattle.pyplaces.proofs.Loops.{Grows, grows_turn, grows_end}
 
@@ -38,40 +38,11 @@ pub placed_behind : {l : Level} {t : Terminal} {i r s : List Terminal} {at behin
     → Placed l r (at + 1) e s behind ps → PlacedBehind t l i at (Some e) s behind ps
 placed_behind h p = built (sign h (front_of p)) (F.behind p.derived) (from p (omega arith))
 
--- parts without places
-pub bare_no_as : {r : List Terminal} {at : ℕ} → Bare (λ ts. F.As ts None) r at r at
-bare_no_as = built nothing F.no_as refl
-
-pub bare_as : {x : Spelled} {i r s : List Terminal} {at : ℕ} → i ≡ Word Key.As ∷ r → r ≡ Ident x ∷ s
-    → Bare (λ ts. F.As ts (Some x.form)) i at s (at + 1 + 1)
-bare_as h k = built (sign h (sign k nothing)) F.as_name refl
-
 pub bare_no_async : {r : List Terminal} {at : ℕ} → Bare (λ ts. F.Async ts false) r at r at
 bare_no_async = built nothing F.no_async refl
 
 pub bare_async : {i r : List Terminal} {at : ℕ} → i ≡ Word Key.Async ∷ r → Bare (λ ts. F.Async ts true) i at r (at + 1)
 bare_async h = built (sign h nothing) F.async refl
-
-pub bare_one_name : {x : Spelled} {i r : List Terminal} {at : ℕ} → i ≡ Ident x ∷ r → Bare (λ ts. F.Dotted ts x.form) i at r (at + 1)
-bare_one_name h = built (sign h nothing) F.one_name refl
-
-pub bare_dot_name : {x : Spelled} {i r s u : List Terminal} {at behind : ℕ} {y : Identifier} → i ≡ Ident x ∷ r → r ≡ Op Sign.Dot ∷ s
-    → Bare (λ ts. F.Dotted ts y) s (at + 1 + 1) u behind → Bare (λ ts. F.Dotted ts (x.form ++ (full_stop ∷ y))) i at u behind
-bare_dot_name h k p = built (sign h (sign k (front_of p))) (F.dot_name p.derived) refl
-
-pub bare_no_dot : {r : List Terminal} {at : ℕ} → Bare (λ ts. F.Dots ts 0) r at r at
-bare_no_dot = built nothing F.no_dot refl
-
-pub bare_dot : {i r s : List Terminal} {n at behind : ℕ} → i ≡ Op Sign.Dot ∷ r → Bare (λ ts. F.Dots ts n) r (at + 1) s behind
-    → Bare (λ ts. F.Dots ts (1 + n)) i at s behind
-bare_dot h p = built (sign h (front_of p)) (F.dot p.derived) refl
-
-pub bare_dots : {i r s : List Terminal} {n at behind : ℕ} → i ≡ Op Sign.Ellipsis ∷ r → Bare (λ ts. F.Dots ts n) r (at + 1) s behind
-    → Bare (λ ts. F.Dots ts (3 + n)) i at s behind
-bare_dots h p = built (sign h (front_of p)) (F.dots p.derived) refl
-
-pub bare_name : {x : Spelled} {i r : List Terminal} {at : ℕ} → i ≡ Ident x ∷ r → Bare (λ ts. F.Name ts x.form) i at r (at + 1)
-bare_name h = built (sign h nothing) F.name refl
 
 -- ---- X,.. and X,.. [,]
 
@@ -171,16 +142,6 @@ pub placed_type_params : {prof : Profile} {i r s u : List Terminal} {at m : ℕ}
     → s ≡ Op Sign.RSqb ∷ u → PlacedTypeParams prof i at tys u (m + 1) ps
 placed_type_params q h c k = built (sign h (both (front_of c) (sign k nothing))) (F.type_params q c.derived) (from c (omega arith))
 
--- ---- Imports.
-pub placed_dotted_alias : {i r s : List Terminal} {at m behind : ℕ} {y : Identifier} {xo : Option Identifier}
-    → Bare (λ ts. F.Dotted ts y) i at r m → Bare (λ ts. F.As ts xo) r m s behind
-    → PlacedDottedAlias i at (alias y xo) s behind (stretch at behind ∷ [])
-placed_dotted_alias p q = built (both (front_of p) (front_of q)) (F.dotted_as p.derived q.derived) (own (omega (arith, p.ends, q.ends)))
-
-pub placed_name_alias : {x : Spelled} {i r s : List Terminal} {at behind : ℕ} {xo : Option Identifier} → i ≡ Ident x ∷ r
-    → Bare (λ ts. F.As ts xo) r (at + 1) s behind → PlacedNameAlias i at (alias x.form xo) s behind (stretch at behind ∷ [])
-placed_name_alias h q = built (sign h (front_of q)) (F.name_as q.derived) (own (omega (arith, q.ends)))
-
 pub placed_all_names : {i r : List Terminal} {at : ℕ} → i ≡ Op Sign.Star ∷ r
     → PlacedNames i at (alias (asterisk ∷ []) None ∷ []) r (at + 1) (stretch at (at + 1) ∷ [])
 placed_all_names h = built (sign h nothing) F.all_names refl
@@ -193,11 +154,6 @@ pub placed_bracketed_names : {i r s u : List Terminal} {at m : ℕ} {ps : List S
     → PlacedEnded Alias F.NameAlias (λ ts a. name_alias_places) r (at + 1) als s m ps → s ≡ Op Sign.RPar ∷ u
     → PlacedNames i at als u (m + 1) ps
 placed_bracketed_names h c k = built (sign h (both (front_of c) (sign k nothing))) (F.bracketed_names c.derived) (from c (omega arith))
-
--- ---- The targets of an assignment.
-pub placed_last_target : {i r s : List Terminal} {at m : ℕ} {e : Expr} {ps : List Stretch} → PlacedTarget i at e r m ps
-    → r ≡ Op Sign.Equal ∷ s → PlacedTargets i at (e ∷ []) s (m + 1) ps
-placed_last_target p h = built (both (front_of p) (sign h nothing)) (F.last_target p.derived) p.places_are
 
 pub placed_more_targets : {i r s u : List Terminal} {at m behind : ℕ} {e : Expr} {es : List Expr} {ps qs : List Stretch}
     → PlacedTarget i at e r m ps → r ≡ Op Sign.Equal ∷ s → PlacedTargets s (m + 1) es u behind qs
@@ -225,7 +181,3 @@ assigned_turn {e = e} {qs = qs} g p h = grows_turn (e ∷ []) qs g (λ fs s next
 pub assigned_end : {i r : List Terminal} {at m : ℕ} {es : List Expr} {ps : List Stretch} → Grows Assigned i at es r m ps
     → Assigned i at es r m ps
 assigned_end g = grows_end g no_target
-
-pub assigned_some : {i r : List Terminal} {at m : ℕ} {e : Expr} {es : List Expr} {ps : List Stretch} → Assigned i at (e ∷ es) r m ps
-    → PlacedTargets i at (e ∷ es) r m ps
-assigned_some (targets c) = c

@@ -11,14 +11,14 @@ use Rattle.pytree_node.specs.declared.operators.Context.TheVariants.{Store}
 use Rattle.pytree_node.specs.declared.profiles.Profile.{Profile}
 use Rattle.pytree_node.specs.Profiles.{has_types}
 use Rattle.pygrammar.specs.declared.levels.Level.TheVariants.{Value, Stars, Expression}
-use Rattle.pytree_node.specs.Trees.{Expr, Exprs, no_keyword, Arguments, Keywords, Identifier, Pattern, Stmt, Alias, Item}
-use Rattle.pytree_node.specs.Trees.{TypeParam, TypeVar, ParamSpec, TypeVarTuple, Return, Delete, Assign, TypeAlias, AugAssign, AnnAssign}
+use Rattle.pytree_node.specs.Trees.{Expr, Identifier, Stmt, Alias}
+use Rattle.pytree_node.specs.Trees.{TypeParam, Return, Delete, Assign, TypeAlias, AugAssign, AnnAssign}
 use Rattle.pytree_node.specs.Trees.{Raise, Assert, Import, ImportFrom, Global, Nonlocal, ExprOf, Pass, Break, Continue}
 use Rattle.pytree_node.specs.Trees as Trees
 use Rattle.pytoken.specs.Terminals.{Terminal, Spelled, Op, Word, Ident}
 use Rattle.pygrammar.specs.Grammar.{DelTarget}
 use Rattle.pygrammar.specs.Forms as F
-use Rattle.pygrammar.specs.Forms.{type_word, match_word, case_word, alias, item, augmented, is_name, listed, is_whole, is_case_line}
+use Rattle.pygrammar.specs.Forms.{type_word, augmented, is_name}
 use Rattle.pyplaces.specs.Stretches.{Stretch, stretch}
 use Rattle.pyplaces.specs.ExpressionPlaces.{del_target_places}
 use Rattle.pyplaces.specs.FormPlaces.{dotted_alias_places}
@@ -147,10 +147,6 @@ placed_simple p = built (front_of p) p.derived (p.places_are ⊕ own p.ends)
 pub placed_last_simple : {prof : Profile} {i r : List Terminal} {at behind : ℕ} {ps : List Stretch} {st : Stmt}
     → PlacedSimple prof i at st r behind ps → PlacedSimples prof i at (st ∷ []) r behind ps
 placed_last_simple p = built (front_of p) (F.last_simple p.derived) p.places_are
-
-pub placed_ended_simple : {prof : Profile} {i r s : List Terminal} {at m : ℕ} {ps : List Stretch} {st : Stmt}
-    → PlacedSimple prof i at st r m ps → r ≡ Op Sign.Semi ∷ s → PlacedSimples prof i at (st ∷ []) s (m + 1) ps
-placed_ended_simple p h = built (both (front_of p) (sign h nothing)) (F.ended_simple p.derived) p.places_are
 
 pub placed_more_simples : {prof : Profile} {i r s u : List Terminal} {at m behind : ℕ} {ps qs : List Stretch} {st : Stmt} {sts : List Stmt}
     → PlacedSimple prof i at st r m ps → r ≡ Op Sign.Semi ∷ s → PlacedSimples prof s (m + 1) sts u behind qs

@@ -1,8 +1,8 @@
 -- A value that was read as a target, by the shape of its tree.
 --
 -- Carries: stored, single_stored, augmented, annotated_value, assignment. On: Readings.
-use Rattle.std.proofs.Common.{◌≡◌, ◌⊎◌, inl, inr, refl, sym, ap, ◌∙◌, ℕ, ◌+◌, arith, List, [], ◌∷◌, ◌++◌, length, Option, Some, None, Bool}
-use Rattle.std.proofs.Common.{true, false, cond, append_assoc, length-append}
+use Rattle.std.proofs.Common.{◌≡◌, ◌⊎◌, inl, inr, refl, sym, ap, ◌∙◌, ℕ, ◌+◌, arith, List, [], ◌∷◌, ◌++◌, length, Option, Some, None}
+use Rattle.std.proofs.Common.{true, append_assoc, length-append}
 use Rattle.pylex_lexeme.specs.declared.kinds.Exact.TheVariants as Sign
 use Rattle.pytree_node.specs.declared.operators.Operator.{Operator}
 use Rattle.pytree_node.specs.declared.operators.UnaryOperator.{UnaryOperator}
@@ -11,14 +11,12 @@ use Rattle.pytree_node.specs.declared.operators.BoolOperator.TheVariants as Join
 use Rattle.pygrammar.specs.declared.levels.Level.{Level}
 use Rattle.pygrammar.specs.declared.levels.Level.TheVariants.{Value, Stars, Primary}
 use Rattle.pytree_node.specs.Trees.{Expr}
-use Rattle.pytree_node.specs.Trees as Trees
 use Rattle.pytoken.specs.Terminals.{Spelled, Terminal, Op, Ident}
 use Rattle.pygrammar.specs.Operators.{below, left_operator, prefix_operator, chain_level}
-use Rattle.pygrammar.specs.Entries.{Entry}
-use Rattle.pygrammar.specs.Arguments.{in_order, called, positional, keywords}
 use Rattle.pygrammar.specs.Targets.{stored, single_stored}
 use Rattle.pygrammar.specs.Grammar as G
 use Rattle.pygrammar.specs.Forms.{is_name}
+use Rattle.pygrammar.proofs.Callers.Lines.{called_name}
 use Rattle.pyplaces.specs.Stretches.{Stretch}
 use Rattle.pyplaces.specs.ExpressionPlaces.{places}
 use Rattle.pyplaces.specs.Placed.{Placed, PlacedSingleTarget, PlacedTarget}
@@ -91,16 +89,6 @@ value_target {at = at} {s = s} p h = elim (value_inv p.derived) [
     some_none s h = absurd (cc)
 
 -- ---- A Name stands alone or in brackets.
-
-called_name : (f e : Expr) (es : List Entry) → called f es ≡ Some e → is_name e ≡ false
-called_name f e es h = go (in_order false false es) h
-  where
-    go : (b : Bool) → ◌≡◌ {A = Option Expr} (cond b (Some (Trees.Call f (positional es) (keywords es))) None) (Some e) → is_name e ≡ false
-    go true q = ap is_name (sym (same (Trees.Call f (positional es) (keywords es)) e q))
-      where
-        same : (a b : Expr) → ◌≡◌ {A = Option Expr} (Some a) (Some b) → a ≡ b
-        same a b q = cc
-    go false q = absurd (cc)
 
 abbrev NameInv : (ts : List Terminal) (e : Expr) → (ℕ → List Stretch) → Type 0
 NameInv ts e ps = ((x : Spelled) × (ts ≡ Ident x ∷ [])) ⊎ ((us : List Terminal) × (ts ≡ Op Sign.LPar ∷ (us ++ (Op Sign.RPar ∷ []))) ×

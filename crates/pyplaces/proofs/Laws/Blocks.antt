@@ -11,8 +11,8 @@ use Rattle.pytree_node.specs.Trees.{Expr, Identifier, Pattern, Stmt, Case, Handl
 use Rattle.pytree_dump_text.specs.Shows.{Fields, Row, a_field, no_field, left_out, name_field, shown_exprs, shown_cases, shown_handlers}
 use Rattle.pytree_dump_text.specs.Shows.{shown_items, shown_module, shown_pattern, shown_stmts, type_params_field}
 use Rattle.pytree_marked.specs.MarkedNodes.{marked, marked_rows}
-use Rattle.pyplaces.proofs.Laws.Sums.{marked_option}
-use Rattle.pyplaces.proofs.Laws.Sums.{name_sum, option_sum}
+use Rattle.pytree_marked.specs.MarkedOptions.{marked_option}
+use Rattle.pytree_marked.proofs.Callers.Sums.{name_sum, option_sum}
 use Rattle.pytoken.specs.Tokens as Tokens
 use Rattle.pygrammar.specs.Lines.{Line, line, Form, header_form, LoopHead, while_head, for_head, DefHead, function_head, class_head}
 use Rattle.pygrammar.specs.Lines.{loop_header, finally_header, def_header, loop, with_of, definition, try_of}

@@ -3,13 +3,14 @@
 -- Carries: Count. On: Many, Parameters.
 use Rattle.std.proofs.Common.{◌≡◌, refl, ap, ◌∙◌, ℕ, ◌+◌, arith, List, [], ◌∷◌, ◌++◌, Some, None, Bool, true, false, cond}
 use Rattle.std.proofs.Common.{length, length-append}
+use Rattle.std.proofs.lemmas.Option.{same_Some}
 use Rattle.pytree_node.specs.Trees
 use Rattle.pytree_node.specs.Trees.{Expr, OptionalExpr, Arg, Arguments, Identifier}
 use Rattle.pytree_node.specs.Values
 use Rattle.pytree_dump_text.specs.Shows.{shown, shown_arg, shown_arguments, shown_exprs, shown_keywords, shown_optionals}
 use Rattle.pytree_marked.specs.MarkedNodes.{marked, marked_rows}
-use Rattle.pyplaces.proofs.Laws.Sums.{marked_optional}
-use Rattle.pyplaces.proofs.Laws.Sums.{kind_none}
+use Rattle.pytree_marked.specs.MarkedOptions.{marked_optional}
+use Rattle.pytree_marked.proofs.Callers.Sums.{kind_none}
 use Rattle.pygrammar.specs.FormattedStrings.{StringPart, Text, Field, with_text, merged, values_of, spec_values_of}
 use Rattle.pygrammar.specs.Entries.{Entry, Single, Paired, Spread, Doubled, Keyed, Plain, Slashed, Bare, Gathered, Collected, singles, keys}
 use Rattle.pygrammar.specs.Entries.{values}
@@ -20,7 +21,6 @@ use Rattle.pyplaces.specs.EntryPlaces as E
 use Rattle.pyplaces.specs.EntryPlaces.{EntryPlaces}
 use Rattle.pyplaces.specs.ExpressionPlaces.{string_places}
 use Rattle.pyplaces.proofs.Laws.Many.{Many, many, each, none, more, ◌⊕◌}
-use Rattle.pyplaces.proofs.Laws.Contexts.{some_is}
 use Rattle.pyplaces.proofs.Laws.Parameters.{entries_total, arranged_count}
 
 -- an entry, and the places in it
@@ -114,7 +114,7 @@ keywords_count (an_entry (gathered h) c) = keywords_count c
 keywords_count (an_entry (collected h) c) = keywords_count c
 
 called_is : (b : Bool) (x e : Expr) → cond b (Some x) None ≡ Some e → x ≡ e
-called_is true x e h = some_is x e h
+called_is true x e h = same_Some x e h
 called_is false x e h = absurd (cc)
 
 pub called_count : (f e : Expr) (es : List Entry) → called f es ≡ Some e

@@ -10,8 +10,8 @@ use Rattle.pytree_node.specs.Trees
 use Rattle.pytree_node.specs.Trees.{Expr, OptionalExpr, Identifier, exprs, Comprehension, comprehensions, arg}
 use Rattle.pytree_dump_text.specs.Shows.{Fields, no_field, left_out, optional_field, shown, shown_arg, shown_exprs, shown_comprehensions}
 use Rattle.pytree_marked.specs.MarkedNodes.{marked, marked_rows}
-use Rattle.pyplaces.proofs.Laws.Sums.{marked_optional}
-use Rattle.pyplaces.proofs.Laws.Sums.{operator_none, unary_none, bool_none, comparisons_none, kind_none, optional_sum}
+use Rattle.pytree_marked.specs.MarkedOptions.{marked_optional}
+use Rattle.pytree_marked.proofs.Callers.Sums.{operator_none, unary_none, bool_none, comparisons_none, kind_none, optional_sum}
 use Rattle.pytoken.specs.Terminals.{Terminal}
 use Rattle.pygrammar.specs.declared.levels.Level.{Level}
 use Rattle.pygrammar.specs.FormattedStrings.{StringPart}

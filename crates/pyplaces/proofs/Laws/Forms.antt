@@ -7,14 +7,14 @@ use Rattle.pytree_node.specs.declared.profiles.Profile.{Profile}
 use Rattle.pytree_node.specs.Profiles.{has_types}
 use Rattle.pytree_node.specs.declared.operators.Context.TheVariants.{Load}
 use Rattle.pytree_node.specs.Trees
-use Rattle.pytree_node.specs.Trees.{Expr, Exprs, Keywords, Identifier, Stmt, Alias, Item, TypeParam, exprs, stmts}
+use Rattle.pytree_node.specs.Trees.{Expr, Exprs, Keywords, Stmt, Alias, Item, TypeParam, exprs, stmts}
 use Rattle.pytree_dump_text.specs.Shows.{Row, a_field, no_field, shown, shown_exprs, shown_keywords, shown_arguments}
 use Rattle.pytree_dump_text.specs.Shows.{shown_alias, shown_aliases, shown_item, shown_items, shown_flag, shown_pattern}
 use Rattle.pytree_dump_text.specs.Shows.{shown_stmt}
 use Rattle.pytree_dump_text.specs.Shows.{shown_stmts, shown_type_param, shown_type_params, type_params_field}
 use Rattle.pytree_marked.specs.MarkedNodes.{marked, marked_fields, marked_rows}
-use Rattle.pyplaces.proofs.Laws.Sums.{marked_option}
-use Rattle.pyplaces.proofs.Laws.Sums.{operator_none, names_none, name_sum, option_sum}
+use Rattle.pytree_marked.specs.MarkedOptions.{marked_option}
+use Rattle.pytree_marked.proofs.Callers.Sums.{operator_none, names_none, name_sum, option_sum}
 use Rattle.pytoken.specs.Terminals.{Terminal}
 use Rattle.pygrammar.specs.declared.levels.Level.{Level}
 use Rattle.pygrammar.specs.Arguments as arguments

@@ -18,7 +18,7 @@ use Rattle.pyplaces.specs.BlockPlaces.{cases_places}
 use Rattle.pyplaces.specs.Laws.{last_of, statement_spans, AreInOrder, LinesInOrder, no_line, a_line}
 use Rattle.pyplaces.proofs.Laws.Many.{Many}
 use Rattle.pyplaces.proofs.Laws.Blocks as counted
-use Rattle.pyplaces.proofs.Laws.Blocks.{LinesCounted, rows, count_block, count_statement, definition_is, front, back}
+use Rattle.pyplaces.proofs.Laws.Blocks.{LinesCounted, rows, count_statement, definition_is, front, back}
 
 -- ---- Spans in order.
 

@@ -3,16 +3,17 @@
 -- Carries: Count.
 use Rattle.std.proofs.Common.{◌≡◌, refl, sym, ap, ◌∙◌, ℕ, ◌+◌, arith, List, [], ◌∷◌, Option, Some, Bool, true, false, cond, codes}
 use Rattle.std.proofs.Common.{option_map}
+use Rattle.std.proofs.lemmas.Option.{same_Some}
 use Rattle.pytree_node.specs.Trees.{Exprs, OptionalExpr, absent, present, Arg, Arguments, arguments}
 use Rattle.pytree_dump_text.specs.Shows.{Fields, Row, a_field, no_field, arg_field, shown_arg, shown_args, shown_arguments, shown_exprs}
 use Rattle.pytree_dump_text.specs.Shows.{shown_optionals}
 use Rattle.pytree_marked.specs.MarkedNodes.{marked, marked_rows}
-use Rattle.pyplaces.proofs.Laws.Sums.{marked_optional, marked_optional_arg}
-use Rattle.pyplaces.proofs.Laws.Sums.{arg_sum, optional_marked}
+use Rattle.pytree_marked.specs.MarkedOptions.{marked_optional, marked_optional_arg}
+use Rattle.pytree_marked.proofs.Callers.Sums.{arg_sum, optional_marked}
 use Rattle.pygrammar.specs.Entries.{Entry, Plain, Slashed, Bare, Gathered, Collected}
 use Rattle.pygrammar.specs.Parameters.{arranged, at_star, after_star, plain_ones, before_slash, has_slash, with_kwarg, with_default}
 use Rattle.pygrammar.specs.Parameters.{add_keyword_only, set_vararg, add_plain, add_before_slash, no_arguments}
-use Rattle.pyplaces.proofs.Laws.Contexts.{counts, mapped, some_is}
+use Rattle.pyplaces.proofs.Laws.Contexts.{counts, mapped}
 
 abbrev total : Arguments → ℕ
 total (arguments ps qs v ks kds k ds) =
@@ -69,23 +70,23 @@ collected p = omega arith
 -- ---- All of them.
 
 no_vararg : (es : List Entry) (a : Arguments) → after_star es ≡ Some a → vararg_total a ≡ 0
-no_vararg [] a h = ap vararg_total (sym (some_is no_arguments a h))
+no_vararg [] a h = ap vararg_total (sym (same_Some no_arguments a h))
 no_vararg (Plain p d ∷ es) a h = mapped (add_keyword_only p d) (after_star es) a vararg_total 0
     (λ b q. vararg_stays p d b ∙ no_vararg es b q) h
-no_vararg (Collected p ∷ []) a h = ap vararg_total (sym (some_is (with_kwarg p) a h))
+no_vararg (Collected p ∷ []) a h = ap vararg_total (sym (same_Some (with_kwarg p) a h))
 no_vararg (Collected p ∷ (x ∷ es)) a h = absurd (cc)
 no_vararg (_ ∷ es) a h = absurd (cc)
 
 after : (es : List Entry) (a : Arguments) → after_star es ≡ Some a → total a ≡ entries_total es
-after [] a h = ap total (sym (some_is no_arguments a h))
+after [] a h = ap total (sym (same_Some no_arguments a h))
 after (Plain p d ∷ es) a h = mapped (add_keyword_only p d) (after_star es) a total (entries_total (Plain p d ∷ es))
     (λ b q. keyword_only p d b ∙ ap (λ n. (marked (shown_arg p) + marked_optional d) + n) (after es b q)) h
-after (Collected p ∷ []) a h = ap total (sym (some_is (with_kwarg p) a h)) ∙ collected p
+after (Collected p ∷ []) a h = ap total (sym (same_Some (with_kwarg p) a h)) ∙ collected p
 after (Collected p ∷ (x ∷ es)) a h = absurd (cc)
 after (_ ∷ es) a h = absurd (cc)
 
 star : (es : List Entry) (a : Arguments) → at_star es ≡ Some a → total a ≡ entries_total es
-star [] a h = ap total (sym (some_is no_arguments a h))
+star [] a h = ap total (sym (same_Some no_arguments a h))
 star (Gathered p ∷ es) a h = mapped (set_vararg p) (after_star es) a total (entries_total (Gathered p ∷ es))
     (λ b q. gathered p b (no_vararg es b q) ∙ ap (λ n. marked (shown_arg p) + n) (after es b q)) h
 star (Bare ∷ (Plain p d ∷ es)) a h = after (Plain p d ∷ es) a h ∙ bare (entries_total (Plain p d ∷ es))
@@ -93,7 +94,7 @@ star (Bare ∷ (Plain p d ∷ es)) a h = after (Plain p d ∷ es) a h ∙ bare (
     bare : (n : ℕ) → n ≡ 0 + n
     bare n = omega arith
 star (Bare ∷ _) a h = absurd (cc)
-star (Collected p ∷ []) a h = ap total (sym (some_is (with_kwarg p) a h)) ∙ collected p
+star (Collected p ∷ []) a h = ap total (sym (same_Some (with_kwarg p) a h)) ∙ collected p
 star (Collected p ∷ (x ∷ es)) a h = absurd (cc)
 star (_ ∷ es) a h = absurd (cc)
 

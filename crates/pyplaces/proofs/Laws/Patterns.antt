@@ -3,13 +3,14 @@
 -- On: Many, Contexts, Entries, Expressions.
 use Rattle.std.proofs.Common.{◌≡◌, sym, ap, ◌∙◌, ℕ, ◌+◌, arith, List, [], ◌∷◌, Some, None, Bool, true, false, length}
 use Rattle.std.proofs.Common.{codes, if◌then◌else◌}
+use Rattle.std.proofs.lemmas.Option.{same_Some}
 use Rattle.pytree_node.specs.Trees.{Expr, Identifier, Pattern, MatchMapping, MatchClass, MatchAs, present_pattern}
 use Rattle.pytree_node.specs.Trees.{exprs, patterns}
 use Rattle.pytree_node.specs.Values.{Value}
 use Rattle.pytree_dump_text.specs.Shows.{no_field, shown, shown_exprs, shown_pattern}
 use Rattle.pytree_dump_text.specs.Shows.{shown_patterns}
 use Rattle.pytree_marked.specs.MarkedNodes.{marked, marked_rows}
-use Rattle.pyplaces.proofs.Laws.Sums.{kind_none, name_sum, names_none, operator_none}
+use Rattle.pytree_marked.proofs.Callers.Sums.{kind_none, name_sum, names_none, operator_none}
 use Rattle.pytoken.specs.Terminals.{Terminal}
 use Rattle.pygrammar.specs.declared.pattern_levels.PatternLevel.{PatternLevel}
 use Rattle.pygrammar.specs.PatternOperators.{captured}
@@ -23,7 +24,6 @@ use Rattle.pyplaces.specs.PatternPlaces.{signed_places, literal_places, dotted_p
 use Rattle.pyplaces.specs.PatternPlaces.{alternatives_places, entries_places, entry_places}
 use Rattle.pyplaces.proofs.Laws.Many.{Many, many, none, one, ◌⊕◌}
 use Rattle.pyplaces.proofs.Laws.Contexts as contexts
-use Rattle.pyplaces.proofs.Laws.Contexts.{some_is}
 use Rattle.pyplaces.proofs.Laws.Entries.{merged_counted, values_counted}
 use Rattle.pyplaces.proofs.Laws.Expressions.{count_literals}
 
@@ -104,7 +104,7 @@ named_count (an_entry (named h) c) = h ⊕ named_count c
 
 -- what is answered if b holds
 if_so : (b : Bool) (x p : Pattern) → (if b then Some x else None) ≡ Some p → x ≡ p
-if_so true x p h = some_is x p h
+if_so true x p h = same_Some x p h
 if_so false x p h = absurd (cc)
 
 mapping_count : (es : List PatternEntry) (p : Pattern) → mapped es ≡ Some p

@@ -3,13 +3,12 @@
 -- Carries: read_patterns, read_star, read_as, named, read_or, read_closed, name_pattern, round, square, finish_mapping, finish_class. On:
 -- Fronts.
 use Rattle.std.proofs.Common.{◌≡◌, refl, ap, ℕ, ◌+◌, arith, List, [], ◌∷◌, ◌++◌, Some}
-use Rattle.pylex_lexeme.specs.declared.kinds.Exact.TheVariants.{LPar, RPar, LSqb, RSqb, LBrace, RBrace, Comma, Star, Dot, VBar}
+use Rattle.pylex_lexeme.specs.declared.kinds.Exact.TheVariants.{LPar, RPar, LSqb, RSqb, LBrace, RBrace, Comma, Star, VBar}
 use Rattle.pytoken.specs.declared.keywords.Keyword.TheVariants as Key
-use Rattle.pytree_node.specs.declared.operators.Context.TheVariants.{Load}
 use Rattle.pygrammar.specs.declared.pattern_levels.PatternLevel.{PatternLevel}
 use Rattle.pygrammar.specs.declared.pattern_levels.PatternLevel.TheVariants.{Patterns, StarPattern, AsPattern, OrPattern, ClosedPattern}
 use Rattle.pytree_node.specs.Trees
-use Rattle.pytree_node.specs.Trees.{Expr, Identifier, Pattern, MatchValue, MatchSingleton, MatchSequence, MatchStar, MatchAs, MatchOr}
+use Rattle.pytree_node.specs.Trees.{Expr, Pattern, MatchValue, MatchSingleton, MatchSequence, MatchStar, MatchAs, MatchOr}
 use Rattle.pytree_node.specs.Trees.{no_pattern, a_pattern, absent_pattern, patterns}
 use Rattle.pytree_node.specs.Values
 use Rattle.pytoken.specs.Terminals.{Terminal, Spelled, Op, Word, Ident}
@@ -61,12 +60,6 @@ placed_singleton q h = built (sign h nothing) (P.singleton q) refl
 pub placed_capture : {x : Spelled} {i r : List Terminal} {at : ℕ} → i ≡ Ident x ∷ r
     → PlacedPattern ClosedPattern i at (MatchAs absent_pattern (captured x.form)) r (at + 1) (stretch at (at + 1) ∷ [])
 placed_capture h = built (sign h nothing) P.capture refl
-
-pub placed_value : {x : Spelled} {i r s u : List Terminal} {at m : ℕ} {e : Expr} {ps : List Stretch} → PlacedClass i at e r m ps
-    → r ≡ Op Dot ∷ s → s ≡ Ident x ∷ u → PlacedPattern ClosedPattern i at (MatchValue (Trees.Attribute e x.form Load)) u (m + 1 + 1)
-    (ps ++ (stretch at (m + 1 + 1) ∷ (stretch at (m + 1 + 1) ∷ [])))
-placed_value {x = x} p h k = built (both (front_of p) (sign h (sign k nothing))) (P.value x p.derived)
-    (p.places_are ⊕ own (omega (arith, p.ends)) ⊕ own (omega (arith, p.ends)))
 
 pub placed_pattern_group : {i r s u : List Terminal} {at m : ℕ} {ps : List Stretch} {a : Pattern} → i ≡ Op LPar ∷ r
     → PlacedPattern AsPattern r (at + 1) a s m ps → s ≡ Op RPar ∷ u → PlacedPattern ClosedPattern i at a u (m + 1) ps

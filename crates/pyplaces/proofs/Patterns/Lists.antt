@@ -71,11 +71,6 @@ pub entries_last : {i r s : List Terminal} {at m n : ℕ} {j : PatternItem} {e :
     → Grows (PlacedEntries j) i at es r m ps → PlacedEntry j r m e s n p → PlacedEntries j i at (es ++ (e ∷ [])) s n (ps ++ (p ∷ []))
 entries_last {e = e} g d = g.so (e ∷ []) _ _ _ (placed_last_entry d)
 
--- ---- Alternatives: a turn of the loop begins before a `|`.
-pub placed_last_alternative : {i r : List Terminal} {at behind : ℕ} {ps : List Stretch} {a : Pattern}
-    → PlacedPattern ClosedPattern i at a r behind ps → PlacedAlternatives i at (a ∷ []) r behind ps
-placed_last_alternative p = built (front_of p) (P.last_alternative p.derived) p.places_are
-
 pub placed_alternative : {i r s u : List Terminal} {at m behind : ℕ} {ps qs : List Stretch} {a : Pattern} {xs : List Pattern}
     → PlacedPattern ClosedPattern i at a r m ps → r ≡ Op VBar ∷ s → PlacedAlternatives s (m + 1) xs u behind qs
     → PlacedAlternatives i at (a ∷ xs) u behind (ps ++ qs)

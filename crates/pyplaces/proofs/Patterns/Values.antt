@@ -1,26 +1,20 @@
 -- The values of patterns: literals, names with points, keys.
 --
 -- Carries: read_number and what it calls, dotted, read_key, dotted_key. On: Fronts.
-use Rattle.std.proofs.Common.{◌≡◌, refl, sym, ap, subst, ℕ, ◌+◌, arith, List, [], ◌∷◌, ◌++◌, length, Some, Bool, true, false, map}
-use Rattle.std.proofs.lemmas.List.{length-map}
+use Rattle.std.proofs.Common.{◌≡◌, refl, ℕ, ◌+◌, arith, List, [], ◌∷◌, ◌++◌, Some, true, false}
 use Rattle.pylex_lexeme.specs.declared.kinds.Exact.TheVariants.{Dot, Minus}
 use Rattle.pytree_node.specs.declared.operators.Operator.{Operator}
 use Rattle.pytree_node.specs.declared.operators.UnaryOperator.TheVariants as Un
 use Rattle.pytree_node.specs.declared.operators.Context.TheVariants.{Load}
 use Rattle.pygrammar.specs.declared.levels.Level.TheVariants.{Sum}
 use Rattle.pytree_node.specs.Trees
-use Rattle.pytree_node.specs.Trees.{Expr, Identifier, Pattern, MatchValue, MatchSingleton, MatchSequence, MatchStar, MatchAs, MatchOr}
-use Rattle.pytree_node.specs.Trees.{no_pattern, a_pattern, absent_pattern, patterns}
+use Rattle.pytree_node.specs.Trees.{Expr, Identifier}
 use Rattle.pytree_node.specs.Values
-use Rattle.pytoken.specs.Terminals.{Terminal, Spelled, Op, Ident, Number, Literal}
-use Rattle.pygrammar.specs.Constants.{joined}
-use Rattle.pygrammar.specs.FormattedStrings.{StringPart, merged, values_of, begins_unicode, has_formatted}
+use Rattle.pytoken.specs.Terminals.{Terminal, Spelled, Op, Ident, Number}
 use Rattle.pygrammar.specs.Operators.{left_operator}
 use Rattle.pygrammar.specs.PatternOperators.{is_imaginary, is_wildcard, singleton_word}
 use Rattle.pygrammar.specs.PatternGrammar as P
 use Rattle.pyplaces.specs.Stretches.{Stretch, stretch}
-use Rattle.pyplaces.specs.ExpressionPlaces.{string_places, literals_places}
-use Rattle.pyplaces.specs.Placed.{PlacedLiterals}
 use Rattle.pyplaces.specs.PlacedPatterns.{PlacedNumber, PlacedLiteral, PlacedDotted, PlacedClass, PlacedKey}
 use Rattle.pyplaces.proofs.Fronts.{nothing, sign, both, front_of, built, ◌⊕◌, own, reaches}
 
@@ -45,21 +39,6 @@ pub placed_complex : {t : Terminal} {o : Operator} {i r s u : List Terminal} {at
 placed_complex {t = t} p a b h k c = built (both (front_of p) (sign h (sign k nothing))) (P.complex t p.derived a b c)
     (p.places_are ⊕ reaches (omega (arith, p.ends)) (omega (arith, p.ends)) ⊕ own (omega (arith, p.ends)))
 
-pub placed_strings : {i r : List Terminal} {at behind : ℕ} {y z : Values.Value} (vs : List Values.Value)
-    → i ≡ Literal y ∷ (map Literal vs ++ r) → joined y vs ≡ Some z → at + 1 + length vs ≡ behind
-    → PlacedLiteral i at (Trees.Constant z) r behind (stretch at behind ∷ [])
-placed_strings vs h q e = built (record { is = h; ends = omega (arith, length-map vs Literal, e) }) (P.strings vs q)
-    (own (omega (arith, e)))
-
-pub placed_joined_string : {bb : Bool} {i r : List Terminal} {at behind : ℕ} {ss : List StringPart} {fs : List (List Stretch)}
-    → (p : PlacedLiterals bb (stretch at behind) i at ss r behind fs) → begins_unicode p.front ≡ bb → has_formatted p.front ≡ true
-    → PlacedLiteral i at (Trees.JoinedStr (values_of bb (merged ss))) r behind
-    (string_places (stretch at behind) (merged ss) fs ++ (stretch at behind ∷ []))
-placed_joined_string {at = at} {behind = behind} {ss = ss} {fs = fs} p b f = built (front_of p) (P.joined_string p.derived b f)
-    (subst (λ z. string_places (stretch at z) (merged ss) (literals_places (stretch at z) at p.derived) ++ (stretch at z ∷ [])
-    ≡ string_places (stretch at behind) (merged ss) fs ++ (stretch at behind ∷ [])) (sym p.ends)
-    (ap (string_places (stretch at behind) (merged ss)) p.places_are ⊕ refl))
-
 -- ---- Names with points, classes and keys.
 pub placed_first_name : {x : Spelled} {i r : List Terminal} {at : ℕ} → i ≡ Ident x ∷ r
     → PlacedDotted x.form i at (Trees.Name x.form Load) r (at + 1) (stretch at (at + 1) ∷ [])
@@ -82,9 +61,3 @@ placed_literal_key p = built (front_of p) (P.literal_key p.derived) p.places_are
 pub placed_singleton_key : {t : Terminal} {i r : List Terminal} {at : ℕ} {y : Values.Value} → singleton_word t ≡ Some y → i ≡ t ∷ r
     → PlacedKey i at (Trees.Constant y) r (at + 1) (stretch at (at + 1) ∷ [])
 placed_singleton_key q h = built (sign h nothing) (P.singleton_key q) refl
-
-pub placed_name_key : {x : Spelled} {i r s u : List Terminal} {at m : ℕ} {e : Expr} {ps : List Stretch} {f : Identifier}
-    → PlacedDotted f i at e r m ps → r ≡ Op Dot ∷ s → s ≡ Ident x ∷ u
-    → PlacedKey i at (Trees.Attribute e x.form Load) u (m + 1 + 1) (ps ++ (stretch at (m + 1 + 1) ∷ []))
-placed_name_key {x = x} p h k = built (both (front_of p) (sign h (sign k nothing))) (P.name_key x p.derived)
-    (p.places_are ⊕ own (omega (arith, p.ends)))

@@ -5,7 +5,6 @@ use Rattle.std.proofs.Common.{◌≡◌, refl, List, [], ◌∷◌, Some, None, 
 use Rattle.pytree_node.specs.Profiles.{plain_311}
 use Rattle.pytree_node.specs.declared.operators.Context.TheVariants.{Load}
 use Rattle.pytree_node.specs.Trees
-use Rattle.pytree_node.specs.Trees.{Stmt}
 use Rattle.pytoken.specs.Terminals.{Terminal, Spelled}
 use Rattle.pygrammar.specs.Grammar as G
 use Rattle.pygrammar.specs.Forms as F

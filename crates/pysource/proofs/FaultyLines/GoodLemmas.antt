@@ -94,10 +94,6 @@ read_sum true bytes =
     let whole = lines_sum bytes in
     omega (arith, both, whole)
 
--- good lines are no longer than the bytes
-pub good_len : (charset : Charset) (bytes : List ℕ) → length (good_text charset (lines_of bytes)) ≤ length bytes
-good_len charset bytes = let good = good_within charset (lines_of bytes) in let whole = lines_sum bytes in omega (arith, good, whole)
-
 pub read_len : (charset : Charset) (broken : Bool) (bytes : List ℕ) → length (good_text charset (lines_read broken bytes)) ≤ length bytes
 read_len charset broken bytes = let good = good_within charset (lines_read broken bytes) in let whole = read_sum broken bytes in
     omega (arith, good, whole)

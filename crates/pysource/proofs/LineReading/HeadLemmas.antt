@@ -83,7 +83,7 @@ without_mark_at end bytes more at =
     ]
 
 -- nothing follows at the end
-at_end : (r : Reach) (more : List ℕ) (broken : Bool) → r ≡ End → FollowsAt r more broken → (more ≡ []) × (broken ≡ false)
+pub at_end : (r : Reach) (more : List ℕ) (broken : Bool) → r ≡ End → FollowsAt r more broken → (more ≡ []) × (broken ≡ false)
 at_end r more broken e f = subst (λ (q : Reach). FollowsAt q more broken) e f
 
 not_or_true : (b : Bool) → (not b || true) ≡ true

@@ -6,7 +6,7 @@ use Rattle.std.proofs.Common.{Option, None, Some, sym, ap, subst, refl, inl, inr
 use Rattle.std.specs.Prelude.{◌⊎◌, nat_le, slice_index}
 use Rattle.std.specs.Option.{option_map_or}
 use Rattle.std.specs.Str.Lossy.{utf8_valid_len}
-use Rattle.std.proofs.lemmas.List.{length-take-le, take_all}
+use Rattle.std.proofs.lemmas.List.{length-take-le}
 use Rattle.pysource.specs.Names.{Named}
 use Rattle.pysource.specs.Lines.{bad_at, first_given, first_bad}
 use Rattle.pysource.specs.Places.{is_lf}

@@ -3,14 +3,14 @@
 -- Carries: LineReader::new. On: StreamLemmas, HeadLemmas.
 use Rattle.std.proofs.Common.{◌≡◌, ℕ, ◌-◌, ◌<◌, ◌≤◌, Bool, true, false, List, [], ◌++◌, length, take, drop, None, Some, Ok, Err, Option}
 use Rattle.std.proofs.Common.{Result, sym, ap, subst, refl, inl, inr, ◌∙◌, arith, append-nil, length-append, length-drop}
-use Rattle.std.specs.Prelude.{◌⊎◌, ◌&&◌, codes, nat_lt, if◌then◌else◌}
+use Rattle.std.specs.Prelude.{◌&&◌, codes, nat_lt, if◌then◌else◌}
 use Rattle.std.specs.Io.KnownBytes.{Consumes}
 use Rattle.std.proofs.lemmas.Bool.{cases_Bool}
 use Rattle.pysource.specs.Names.{Named}
 use Rattle.pysource.specs.Parts.{Parts}
 use Rattle.pysource.specs.Cookies.{encoding_of, named_by, cookie_of, leads_on, is_utf_8, is_ascii_name, is_spelled, without_mark, has_mark}
 use Rattle.pysource.specs.Sources.{nth_line}
-use Rattle.pysource.specs.Taking.{ReadsBytes, fails}
+use Rattle.pysource.specs.Taking.{ReadsBytes}
 use Rattle.pysource.specs.Streams.{Coming, FollowsAt, comes, coming, decides, of_source, stream_of, stream_under, Opens, Refuses}
 use Rattle.pysource.specs.Inner.Heads.{Head, FoundHeads}
 use Rattle.pysource.specs.declared.buffers.Intake.{Intake}
@@ -19,11 +19,10 @@ use Rattle.pysource.specs.Limits.{source_limit}
 use Rattle.pysource.specs.declared.encodings.SourceFault.{SourceFault}
 use Rattle.pysource.specs.declared.encodings.SourceFault.TheVariants as cookies
 use Rattle.pysource.specs.declared.places.Place.{Place}
-use Rattle.pysource.specs.declared.line_reader.Reach.{Reach}
-use Rattle.pysource.specs.declared.line_reader.Reach.TheVariants.{Reading, Broken, Passed}
+use Rattle.pysource.specs.declared.line_reader.Reach.TheVariants.{Reading}
 use Rattle.pysource.specs.declared.line_reader.StreamFault.{StreamFault}
 use Rattle.pysource.specs.declared.line_reader.StreamFault.TheVariants.{UnsupportedEncoding, BomConflict, Read, Memory}
-use Rattle.pysource.proofs.LineReading.StreamLemmas.{held, comes_is}
+use Rattle.pysource.proofs.LineReading.StreamLemmas.{held, comes_is, cut_off}
 use Rattle.pysource.proofs.LineReading.HeadLemmas.{encoding_unsearched}
 
 -- what the lines that were read declare, whatever follows
@@ -157,11 +156,6 @@ refuses_source i first second (cookies.BomConflict place) takes h is = refuses_c
 refuses_source i first second cookies.Memory takes h is =
     absurd (subst NotMemory is (never_memory (take first i.buffer) (take (second - first) (drop first i.buffer))))
 
-cut_off : (r : Reach) (more : List ℕ) (broken : Bool) → (r ≡ Broken) ⊎ (r ≡ Passed) → FollowsAt r more broken
-    → (more ≡ []) × (broken ≡ true)
-cut_off r more broken (inl e) f = subst (λ (q : Reach). FollowsAt q more broken) e f
-cut_off r more broken (inr e) f = subst (λ (q : Reach). FollowsAt q more broken) e f
-
 unreadable : (bytes : List ℕ) → decides true bytes ≡ false → stream_of true bytes ≡ Err Read
 unfolding stream_of
 unreadable bytes e = rw e refl
@@ -199,19 +193,3 @@ unmarked_skip i e = rw e refl
 
 pub unmarked_same : (i : Intake) → has_mark i.buffer ≡ false → i.buffer ≡ without_mark i.buffer
 unmarked_same i e = rw e refl
-
--- Where no read failed, known bytes are refused by `Read` only past the limit.
-pub read_past_limit : (bytes : List ℕ) (x y : Seen) → x.to_come ≡ Some bytes → y.failures ≡ x.failures → Refuses x y Read
-    → source_limit < length bytes
-read_past_limit bytes x y known told r = elim r.explains.0 [
-  | inl broken ↦ absurd (let failed = ap fails broken in omega (arith, r.reads.told, told, failed))
-  | inr passed ↦
-      let some = r.reads.newly (λ e. let e' : Reading ≡ Passed = e in cc) passed in
-      let full = (r.reads.passed some).1 in
-      let long = length-append r.taken r.reads.lost in
-      given y.to_come (r.taken ++ r.reads.lost) (rw known at r.reads.consumes) (omega (arith, some, full, long))
-]
-  where
-    given : (come : Option (List ℕ)) (t : List ℕ) → Consumes (Some bytes) come t → source_limit < length t → source_limit < length bytes
-    given None t p past = absurd p
-    given (Some rest) t p past = let size = ap length p in let parts = length-append t rest in omega (arith, size, parts, past)

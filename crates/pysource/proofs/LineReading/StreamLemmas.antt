@@ -25,6 +25,7 @@ use Rattle.pysource.specs.declared.faults.LineFault.{LineFault}
 use Rattle.pysource.proofs.FaultyLines.CutLemmas.{NoLf, lines_alone}
 use Rattle.pysource.proofs.LineReading.ComingLemmas.{no_lf_all, line_front, line_clean, one_line, ends_at_lf, coming_line, coming_bad}
 use Rattle.pysource.proofs.LineReading.ComingLemmas.{coming_last, coming_last_bad, coming_none, coming_cut}
+use Rattle.pysource.proofs.LineReading.HeadLemmas.{at_end}
 
 -- a line reader by its parts
 abbrev pub held : Named → ℕ → Option LineFault → Intake → Buffered
@@ -139,10 +140,6 @@ gives_bad e row end old mid p bad at is more broken f =
           ∙ sym (comes_fault e row (fault_at row line bad) mid more broken),
     )
 
--- at the end nothing follows
-at_end : (r : Reach) (more : List ℕ) (broken : Bool) → r ≡ End → FollowsAt r more broken → (more ≡ []) × (broken ≡ false)
-at_end r more broken e f = subst (λ (q : Reach). FollowsAt q more broken) e f
-
 -- what is to come then
 left_comes : (e : Named) (row end : ℕ) (mid : Intake) → LineLeft 0 end mid → (more : List ℕ) (broken : Bool)
     → FollowsAt mid.reach more broken → coming e.charset row broken (mid.buffer ++ more) ≡ coming e.charset row false (take end mid.buffer)
@@ -159,7 +156,7 @@ left_size : (end : ℕ) (mid : Intake) → LineLeft 0 end mid → length (take e
 left_size end mid left = ap length (take_all end mid.buffer (omega (arith, left.all))) ∙ sym left.all
 
 -- a list of no length
-no_more : (xs : List ℕ) → length xs ≡ 0 → xs ≡ []
+pub no_more : (xs : List ℕ) → length xs ≡ 0 → xs ≡ []
 no_more [] h = refl
 no_more (x ∷ xs) h = absurd (omega (arith, h))
 
@@ -221,7 +218,7 @@ only_end e row mid left more broken f =
 pub only_fault : (e : Named) (row : ℕ) (fault : LineFault) (i : Intake) → ComesOnly (held e row (Some fault) i) (Some fault)
 only_fault e row fault i more broken f = comes_fault e row fault i more broken
 
-cut_off : (r : Reach) (more : List ℕ) (broken : Bool) → (r ≡ Broken) ⊎ (r ≡ Passed) → FollowsAt r more broken
+pub cut_off : (r : Reach) (more : List ℕ) (broken : Bool) → (r ≡ Broken) ⊎ (r ≡ Passed) → FollowsAt r more broken
     → (more ≡ []) × (broken ≡ true)
 cut_off r more broken (inl e) f = subst (λ (q : Reach). FollowsAt q more broken) e f
 cut_off r more broken (inr e) f = subst (λ (q : Reach). FollowsAt q more broken) e f

@@ -2,8 +2,8 @@
 -- space to the tilde are printable.
 --
 -- Carries: printable.
-use Rattle.std.proofs.Common.{◌≡◌, ℕ, ◌<◌, ◌≤◌, Bool, true, false, not, ◌||◌, [], ◌∷◌, List, inl, inr, refl, sym, ap, arith}
-use Rattle.std.proofs.lemmas.Bool.{cases_eq, eq-eqb, le-leb, ne_eqb, and_from, or_left}
+use Rattle.std.proofs.Common.{◌≡◌, ℕ, ◌<◌, ◌≤◌, Bool, true, false, not, ◌||◌, [], ◌∷◌, List, inl, inr, refl, ap, arith}
+use Rattle.std.proofs.lemmas.Bool.{cases_eq, eq-eqb, le-leb, ne_eqb, and_from, or_left, not-true}
 use Rattle.std.proofs.Math.Bool.{and-false}
 use Rattle.std.specs.Prelude.{◌==◌}
 use Rattle.std.specs.Char.{OutOfScalarRange}
@@ -79,17 +79,13 @@ unprintable_no_character c out = elim out [
   | inr beyond ↦ other_unprintable c (omega arith) (beyond_other c (omega arith))
 ]
 
-not_true : (b : Bool) → not b ≡ true → b ≡ false
-not_true true e = sym e
-not_true false e = refl
-
 shown_not_other : (c : ℕ) → 0x20 ≤ c → c ≤ 0x7E → in_group Other (general_category c) ≡ false
 unfolding in_ranges
 shown_not_other c low high =
     let above = le-leb 0x20 c low in
     let below = le-leb c 0x7E high in
     let whole = shown_never_other c (omega arith) in
-    not_true (in_group Other (general_category c)) (rw (above, below) at whole)
+    not-true (in_group Other (general_category c)) (rw (above, below) at whole)
 
 mark_not_separator : (c : ℕ) → 0x21 ≤ c → c ≤ 0x7E → in_group Separator (general_category c) ≡ false
 unfolding in_ranges
@@ -97,7 +93,7 @@ mark_not_separator c low high =
     let above = le-leb 0x21 c low in
     let below = le-leb c 0x7E high in
     let whole = marks_never_separator c (omega arith) in
-    not_true (in_group Separator (general_category c)) (rw (above, below) at whole)
+    not-true (in_group Separator (general_category c)) (rw (above, below) at whole)
 
 -- a character of ASCII from the space to the tilde
 pub printable_ascii : (c : ℕ) → 0x20 ≤ c → c ≤ 0x7E → is_unprintable c ≡ false

@@ -1,8 +1,7 @@
 -- Laws of known bytes.
 --
 -- Carries: read_from, fill, line_end, read_all, write_all.
-use Rattle.std.specs.Prelude.{slice_set}
-use Rattle.std.proofs.Common.{◌≡◌, ◌≢◌, ◌<◌, arith, ℕ, zero, suc, Ok, ◌+◌, true, List, [], ◌∷◌, ◌++◌, length, take, drop, Option, None}
+use Rattle.std.proofs.Common.{◌≡◌, ◌≢◌, ℕ, zero, suc, Ok, ◌+◌, true, List, [], ◌∷◌, ◌++◌, length, take, drop, Option, None}
 use Rattle.std.proofs.Common.{Some, refl, sym, ◌∙◌, ap, append_assoc, append-nil, ◌-◌, length-drop}
 use Rattle.std.specs.Io.KnownBytes.{Appends, Consumes, Keeps}
 use Rattle.std.proofs.Math.Seq.{take-add, take-length}
@@ -89,8 +88,3 @@ TakesFront-after x y z done part rest whole is p (front, back, cut, q) =
 -- what was taken is a front of the whole
 pub TakesFront-done : (x y : Option (List ℕ)) (done rest whole : List ℕ) → whole ≡ done ++ rest → Appends x y done → TakesFront x y whole
 TakesFront-done x y done rest whole is p = (done, rest, is, p)
-
--- a buffer that took one byte in front
-pub take-put_first : (buf : List ℕ) (x : ℕ) → 0 < length buf → take 1 (slice_set buf 0 x) ≡ x ∷ []
-take-put_first [] x room = absurd (omega arith)
-take-put_first (b ∷ bs) x room = refl

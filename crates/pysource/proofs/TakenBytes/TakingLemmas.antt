@@ -14,11 +14,7 @@ use Rattle.pysource.specs.Taking.{ReadsBytes, Grows, NoLfFrom}
 use Rattle.pysource.specs.declared.line_reader.Reach.{Reach}
 use Rattle.pysource.specs.declared.line_reader.Reach.TheVariants.{Reading, End, Broken, Passed}
 use Rattle.pysource.proofs.TakenBytes.ByteLemmas.{Consumes-append, Consumes-refl, Steady-append}
-
--- a list of no length
-none_of : (xs : List ℕ) → length xs ≡ 0 → xs ≡ []
-none_of [] h = refl
-none_of (x ∷ xs) h = absurd (omega (arith, h))
+use Rattle.pysource.proofs.LineReading.StreamLemmas.{no_more}
 
 -- no read was made
 pub ReadsBytes-none : (seen : Seen) (count : ℕ) (reach : Reach) → ReadsBytes seen seen reach reach count count []
@@ -41,7 +37,7 @@ zero_or (x ∷ xs) = inr (omega arith)
 
 -- where reading goes on nothing was lost
 pub lost_none : {x y : Seen} {c d : ℕ} {r : Reach} {t : List ℕ} (p : ReadsBytes x y r Reading c d t) → p.lost ≡ []
-lost_none p = none_of p.lost (elim (zero_or p.lost) [ inl e ↦ e | inr h ↦ absurd (let e = (p.passed h).0 in cc) ])
+lost_none p = no_more p.lost (elim (zero_or p.lost) [ inl e ↦ e | inr h ↦ absurd (let e = (p.passed h).0 in cc) ])
 
 -- reads, and then others
 pub ReadsBytes-append : {x y z : Seen} {k l m : ℕ} {r s : Reach} (t u : List ℕ) → ReadsBytes x y r Reading k l t

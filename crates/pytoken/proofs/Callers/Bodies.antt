@@ -7,6 +7,8 @@ use Rattle.std.specs.List.{list_all}
 use Rattle.std.proofs.lemmas.Bool.{cases_Bool, and_from, and_parts}
 use Rattle.pylex_lexeme.specs.Strings.{begins_three}
 use Rattle.pytoken.specs.StringValues.{prefix_len_of, without_last, body_of}
+pub use Rattle.pytoken.proofs.values.PushLemmas.{dropped, read_again, none_left}
+pub use Rattle.pytoken.proofs.values.ElementLemmas.{no_cut}
 
 all_drop : (p : ℕ → Bool) (n : ℕ) (xs : List ℕ) → list_all p xs ≡ true → list_all p (drop n xs) ≡ true
 all_drop p zero xs all = all

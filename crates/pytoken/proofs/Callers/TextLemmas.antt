@@ -6,6 +6,7 @@ use Rattle.std.specs.List.{list_all, list_any}
 use Rattle.std.specs.Char.{encode_utf8}
 use Rattle.std.specs.Str.{chars, IsUtf8}
 use Rattle.std.proofs.lemmas.Str.{chars-nil, chars_past_char, IsUtf8-past_char, length-encode, len_utf8_bounds}
+pub use Rattle.pytoken.proofs.Sound.{own_text, counted}
 
 -- one character off the front of a text
 pub record Past (bs rest : List ℕ) (c : ℕ) : Type 0 where

@@ -6,13 +6,12 @@ use Rattle.std.specs.Char.{is_ascii_alphanumeric}
 use Rattle.std.specs.List.{list_all}
 use Rattle.std.specs.Str.{IsAscii, all_scalars}
 use Rattle.std.proofs.Math.Utf8.{low_scalar, scalar}
-use Rattle.std.proofs.lemmas.Bool.{and_from, and_parts, or_left, or_right, false≢true}
+use Rattle.std.proofs.lemmas.Bool.{and_from, and_parts, or_left, or_right, false≢true, or_cases}
 use Rattle.std.proofs.lemmas.Bool.Decides.{nat_tests}
 use Rattle.pylex_lexeme.specs.Numbers.{is_nil, split_any, optional, headed, are_some, is_decimal_digit, is_zero, is_hex_digit}
 use Rattle.pylex_lexeme.specs.Numbers.{is_octal_digit, is_binary_digit}
 use Rattle.pylex_lexeme.specs.Numbers.{is_point, is_e, is_j, is_x, is_o, is_b, is_sign, is_digit_part, is_exponent, is_decimal, is_radix}
 use Rattle.pylex_lexeme.specs.Numbers.{is_point_after, is_point_before, is_raised, is_float, is_imaginary, is_number}
-use Rattle.pylex_lexeme.proofs.Callers.Booleans.{or_parts}
 use Rattle.pylex_lexeme.proofs.Callers.Fronts.{joined_all}
 use Rattle.pylex_lexeme.proofs.Callers.Numbers.{digit_bounds, either, part_all, decimal_part}
 
@@ -31,7 +30,7 @@ tied_behind : (behind : Bool) (t : List ℕ) → are_tied false t ≡ true → a
 tied_behind behind [] h = refl
 tied_behind behind (c ∷ t) h =
     let parts = and_parts (is_word c || false) (are_tied (is_e c) t) h in
-    let word : is_word c ≡ true = elim (or_parts (is_word c) false parts.0) [ inl is ↦ is | inr none ↦ absurd (false≢true none) ] in
+    let word : is_word c ≡ true = elim (or_cases (is_word c) false parts.0) [ inl is ↦ is | inr none ↦ absurd (false≢true none) ] in
     and_from (is_word c || (behind && is_sign c)) (are_tied (is_e c) t) (or_left (is_word c) (behind && is_sign c) word) parts.1
 
 tied_append : (behind : Bool) (u v : List ℕ) → are_tied behind u ≡ true → are_tied false v ≡ true → are_tied behind (u ++ v) ≡ true
@@ -57,7 +56,7 @@ record Split (p q : List ℕ → Bool) (t : List ℕ) : Type 0 where
 
 split_of : (p q : List ℕ → Bool) (t : List ℕ) → split_any p q t ≡ true → Split p q t
 split_of p q [] h = let parts = and_parts (p []) (q []) h in record { front = []; rest = []; text = refl; first = parts.0; then = parts.1 }
-split_of p q (c ∷ t) h = elim (or_parts (p [] && q (c ∷ t)) (split_any (λ u. p (c ∷ u)) q t) h) [
+split_of p q (c ∷ t) h = elim (or_cases (p [] && q (c ∷ t)) (split_any (λ u. p (c ∷ u)) q t) h) [
   | inl here ↦ let parts = and_parts (p []) (q (c ∷ t)) here in record {
     front = [];
     rest = c ∷ t;
@@ -135,7 +134,7 @@ signed_ties (c ∷ s ∷ t) h =
 
 exponent_ties : Ties is_exponent
 unfolding is_exponent
-exponent_ties t h = elim (or_parts (headed is_e is_digit_part t) (headed is_e (headed is_sign is_digit_part) t) h) [
+exponent_ties t h = elim (or_cases (headed is_e is_digit_part t) (headed is_e (headed is_sign is_digit_part) t) h) [
   | inl bare ↦ headed_ties is_e is_digit_part e_word part_ties t bare
   | inr signed ↦ signed_ties t signed
 ]
@@ -150,8 +149,8 @@ behind_ties =
 
 float_ties : Ties is_float
 unfolding is_float is_point_after is_point_before is_raised
-float_ties t h = elim (or_parts (is_point_after t || is_point_before t) (is_raised t) h) [
-  | inl pointed ↦ elim (or_parts (is_point_after t) (is_point_before t) pointed) [
+float_ties t h = elim (or_cases (is_point_after t || is_point_before t) (is_raised t) h) [
+  | inl pointed ↦ elim (or_cases (is_point_after t) (is_point_before t) pointed) [
     | inl after ↦
         split_ties is_digit_part (headed is_point behind_point) part_ties (headed_ties is_point behind_point point_word behind_ties) t after
     | inr before ↦
@@ -170,7 +169,7 @@ unfolding is_imaginary
 imaginary_ties = split_ties (λ u. is_digit_part u || is_float u) (headed is_j is_nil) either_ties (headed_ties is_j is_nil j_word nil_ties)
   where
     either_ties : Ties (λ u. is_digit_part u || is_float u)
-    either_ties t h = elim (or_parts (is_digit_part t) (is_float t) h) [ inl part ↦ part_ties t part | inr float ↦ float_ties t float ]
+    either_ties t h = elim (or_cases (is_digit_part t) (is_float t) h) [ inl part ↦ part_ties t part | inr float ↦ float_ties t float ]
 
 based_ties : (f d : ℕ → Bool) → ((c : ℕ) → f c ≡ true → is_word c ≡ true) → ((c : ℕ) → d c ≡ true → is_word c ≡ true)
     → Ties (headed is_zero (headed f (are_some d)))
@@ -186,8 +185,8 @@ radix_ties t h =
     let x = headed is_zero (headed is_x (are_some is_hex_digit)) t in
     let o = headed is_zero (headed is_o (are_some is_octal_digit)) t in
     let b = headed is_zero (headed is_b (are_some is_binary_digit)) t in
-    elim (or_parts (x || o) b h) [
-      | inl earlier ↦ elim (or_parts x o earlier) [
+    elim (or_cases (x || o) b h) [
+      | inl earlier ↦ elim (or_cases x o earlier) [
         | inl is ↦ based_ties is_x is_hex_digit (λ c e. either is_word 120 88 c e refl refl) hex_word t is
         | inr is ↦ based_ties is_o is_octal_digit (λ c e. either is_word 111 79 c e refl refl) octal_word t is
       ]
@@ -196,9 +195,9 @@ radix_ties t h =
 
 pub number_ties : (t : List ℕ) → is_number t ≡ true → are_tied false t ≡ true
 unfolding is_number
-number_ties t h = elim (or_parts (is_decimal t || is_radix t || is_float t) (is_imaginary t) h) [
-  | inl earlier ↦ elim (or_parts (is_decimal t || is_radix t) (is_float t) earlier) [
-    | inl whole ↦ elim (or_parts (is_decimal t) (is_radix t) whole) [
+number_ties t h = elim (or_cases (is_decimal t || is_radix t || is_float t) (is_imaginary t) h) [
+  | inl earlier ↦ elim (or_cases (is_decimal t || is_radix t) (is_float t) earlier) [
+    | inl whole ↦ elim (or_cases (is_decimal t) (is_radix t) whole) [
       | inl decimal ↦ part_ties t (decimal_part t decimal)
       | inr radix ↦ radix_ties t radix
     ]
@@ -213,7 +212,7 @@ pub word_low : (c : ℕ) → is_word c ≡ true → c < 128
 word_low c h = grind (arith, nat_tests)
 
 tied_low : (c : ℕ) (behind : Bool) → (is_word c || (behind && is_sign c)) ≡ true → c < 128
-tied_low c behind h = elim (or_parts (is_word c) (behind && is_sign c) h) [
+tied_low c behind h = elim (or_cases (is_word c) (behind && is_sign c) h) [
   | inl word ↦ word_low c word
   | inr both ↦ let sign = (and_parts behind (is_sign c) both).1 in grind (arith, nat_tests)
 ]

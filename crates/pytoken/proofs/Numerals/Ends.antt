@@ -1,10 +1,9 @@
 -- The first character and the last one of the texts that are written for numbers.
 -- Carries: Lexemes. On: DigitRuns, Parts.
 use Rattle.std.proofs.Common.{◌≡◌, ℕ, Bool, true, List, [], ◌∷◌, ◌++◌, refl, sym, subst, inl, inr, append-nil}
-use Rattle.std.proofs.lemmas.Bool.{and_parts, or_left, false≢true}
+use Rattle.std.proofs.lemmas.Bool.{and_parts, or_left, false≢true, or_cases}
 use Rattle.pylex_lexeme.specs.Chars.{begins}
 use Rattle.pylex_lexeme.specs.Numbers.{optional, headed, is_decimal_digit, is_point, is_e, is_j, is_sign}
-use Rattle.pylex_lexeme.proofs.Callers.Booleans.{or_parts}
 use Rattle.pytoken.specs.Numerals.{ends, is_digit_or_j}
 use Rattle.pytoken.proofs.Numerals.DigitRuns.{are_digits, are_any}
 use Rattle.pytoken.proofs.Numerals.Parts.{HasParts, is_fraction, is_power}
@@ -59,7 +58,7 @@ fraction_end : (t : List ℕ) → is_fraction t ≡ true → ends is_digit_or_j 
 fraction_end t h = headed_end is_point are_digits digits_close t h
 
 power_end : (t : List ℕ) → is_power t ≡ true → ends is_digit_or_j t ≡ true
-power_end t h = elim (or_parts (headed is_e are_digits t) (headed is_e (headed is_sign are_digits) t) h) [
+power_end t h = elim (or_cases (headed is_e are_digits t) (headed is_e (headed is_sign are_digits) t) h) [
   | inl bare ↦ headed_end is_e are_digits digits_close t bare
   | inr signed ↦ headed_end is_e (headed is_sign are_digits) (headed_end is_sign are_digits digits_close) t signed
 ]

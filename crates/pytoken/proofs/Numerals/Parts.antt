@@ -2,10 +2,9 @@
 -- Carries: Layouts, Lexemes. On: DigitRuns.
 use Rattle.std.proofs.Common.{◌≡◌, ℕ, Bool, true, false, List, [], ◌∷◌, ◌++◌, refl, sym, subst, inl, inr, append-nil, true≢false}
 use Rattle.std.specs.Prelude.{◌||◌, ◌&&◌}
-use Rattle.std.proofs.lemmas.Bool.{and_from, and_parts, or_left, or_right}
+use Rattle.std.proofs.lemmas.Bool.{and_from, and_parts, or_left, or_right, or_cases}
 use Rattle.pylex_lexeme.specs.Numbers.{is_nil, split_any, optional, headed, is_point, is_e, is_j, is_sign, is_digit_part, is_exponent}
 use Rattle.pylex_lexeme.specs.Numbers.{is_point_after, is_point_before, is_raised, is_float, is_imaginary}
-use Rattle.pylex_lexeme.proofs.Callers.Booleans.{or_parts}
 use Rattle.pytoken.proofs.Numerals.DigitRuns.{are_digits, digits_part}
 
 -- a point and digits
@@ -49,7 +48,7 @@ optional_more p q more (c ∷ t) h = more (c ∷ t) h
 
 power_exponent : (t : List ℕ) → is_power t ≡ true → is_exponent t ≡ true
 unfolding is_exponent
-power_exponent t h = elim (or_parts (headed is_e are_digits t) (headed is_e (headed is_sign are_digits) t) h) [
+power_exponent t h = elim (or_cases (headed is_e are_digits t) (headed is_e (headed is_sign are_digits) t) h) [
   | inl bare ↦
       or_left (headed is_e is_digit_part t) (headed is_e (headed is_sign is_digit_part) t)
       (headed_more is_e are_digits is_digit_part digits_part t bare)

@@ -4,7 +4,7 @@ use Rattle.std.proofs.Common.{inr, Option, Some, None}
 use Rattle.std.specs.Prelude.{◌==◌, ◌||◌, ◌&&◌, not, nat_lt, if◌then◌else◌}
 use Rattle.std.specs.Char.{is_digit}
 use Rattle.std.specs.List.{list_any}
-use Rattle.std.proofs.lemmas.Bool.{cases_Bool, and_from, and_parts}
+use Rattle.std.proofs.lemmas.Bool.{cases_Bool, and_from, and_parts, not-true, or_parts}
 use Rattle.pylex_lexeme.specs.Strings.{begins_three}
 use Rattle.pytoken.specs.declared.meanings.Meaning.{Meaning}
 use Rattle.pytoken.specs.declared.meanings.Meaning.TheVariants.{Point, Nothing}
@@ -13,15 +13,6 @@ use Rattle.pytoken.specs.Escapes.{is_bad_escape, escape_fault}
 use Rattle.pytoken.specs.StringValues.{with_line_feeds, is_raw, is_bytes, is_formatted, prefix_len_of, body_of, string_fault}
 use Rattle.pytoken.specs.Inner.Readings.{asks, is_doubtful, is_calm}
 use Rattle.pytoken.proofs.values.LiteralLemmas.{fault_none, literal_sound}
-
--- both of two are false where one of them or the other isn't true
-neither : (a b : Bool) → (a || b) ≡ false → (a ≡ false) × (b ≡ false)
-neither false b none = (refl, none)
-neither true b none = absurd (cc)
-
-no : (b : Bool) → not b ≡ true → b ≡ false
-no false is = refl
-no true is = absurd (cc)
 
 -- what a character is that may not be wrong
 record Sure (bytes behind : Bool) (c : ℕ) : Type 0 where
@@ -32,9 +23,10 @@ record Sure (bytes behind : Bool) (c : ℕ) : Type 0 where
 
 sure : (bytes behind : Bool) (c : ℕ) → not (is_doubtful bytes behind c) ≡ true → Sure bytes behind c
 sure bytes behind c is =
-    let one = neither (behind && asks c) ((bytes && nat_lt 0x7F c) || ((c == 0) || (c == 13))) (no (is_doubtful bytes behind c) is) in
-    let two = neither (bytes && nat_lt 0x7F c) ((c == 0) || (c == 13)) one.1 in
-    let three = neither (c == 0) (c == 13) two.1 in
+    let one = or_parts (behind && asks c) ((bytes && nat_lt 0x7F c) || ((c == 0) || (c == 13)))
+    (not-true (is_doubtful bytes behind c) is) in
+    let two = or_parts (bytes && nat_lt 0x7F c) ((c == 0) || (c == 13)) one.1 in
+    let three = or_parts (c == 0) (c == 13) two.1 in
     record { asks = one.0; low = two.0; nul = three.0; return = three.1 }
 
 -- the first character of a calm text, and those behind it
@@ -61,7 +53,7 @@ calm_goes bytes behind c t u e sure = sym (ap (is_calm bytes behind) e ∙ (rw s
 fewer : (behind : Bool) (bytes : Bool) (c : ℕ) → not (is_doubtful bytes behind c) ≡ true → not (is_doubtful bytes false c) ≡ true
 fewer false bytes c is = is
 fewer true bytes c is =
-    let rest = (neither (asks c) ((bytes && nat_lt 0x7F c) || ((c == 0) || (c == 13))) (no (is_doubtful bytes true c) is)).1 in
+    let rest = (or_parts (asks c) ((bytes && nat_lt 0x7F c) || ((c == 0) || (c == 13))) (not-true (is_doubtful bytes true c) is)).1 in
     rw rest refl
 
 anywhere : (bytes behind : Bool) (cs : List ℕ) → is_calm bytes behind cs ≡ true → is_calm bytes false cs ≡ true
@@ -124,10 +116,10 @@ calm_escape : (p : Meaning → Bool) → Told p → (bytes : Bool) (cs : List �
 unfolding escaped_by
 calm_escape p told bytes [] calm = told.point 92
 calm_escape p told bytes (c ∷ cs) calm =
-    let octal = neither (is_digit c 8) ((c == 120) || ((c == 117) || ((c == 85) || (c == 78)))) (parts bytes true c cs calm).first.asks in
-    let x = neither (c == 120) ((c == 117) || ((c == 85) || (c == 78))) octal.1 in
-    let u = neither (c == 117) ((c == 85) || (c == 78)) x.1 in
-    let w = neither (c == 85) (c == 78) u.1 in
+    let octal = or_parts (is_digit c 8) ((c == 120) || ((c == 117) || ((c == 85) || (c == 78)))) (parts bytes true c cs calm).first.asks in
+    let x = or_parts (c == 120) ((c == 117) || ((c == 85) || (c == 78))) octal.1 in
+    let u = or_parts (c == 117) ((c == 85) || (c == 78)) x.1 in
+    let w = or_parts (c == 85) (c == 78) u.1 in
     calm_letter p told bytes c cs octal.0 x.0 u.0 w.0 w.1
 
 calm_reading : (p : Meaning → Bool) → Told p → (raw bytes : Bool) (c : ℕ) (cs : List ℕ) → is_calm bytes (c == 92) cs ≡ true →

@@ -26,7 +26,7 @@ pub elements_cut : (is_nested raw : Bool) (t body : List ℕ) (parts : List Body
 elements_cut is_nested raw t body parts marked between cut =
     same_cut is_nested raw t body marked between ∙ ap (option_map (body_part_elements raw)) (cut_of_complete _ body parts cut)
 
-no_cut : (m : Manner) (body : List ℕ) → IsMalformed m body → cut_of m body ≡ None
+pub no_cut : (m : Manner) (body : List ℕ) → IsMalformed m body → cut_of m body ≡ None
 no_cut m body malformed = by_cut (cut_of m body) refl
   where
     by_cut : (o : Option (List BodyPart)) → cut_of m body ≡ o → o ≡ None

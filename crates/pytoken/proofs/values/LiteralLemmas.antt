@@ -13,6 +13,7 @@ use Rattle.std.proofs.lemmas.Str.{scalars-chars}
 use Rattle.pytree_node.specs.Values.{Str, Bytes}
 use Rattle.std.specs.List.{flat_map, list_any, list_all}
 use Rattle.std.proofs.Math.Bool.{or-false}
+use Rattle.pylex_lexeme.proofs.Callers.Lexemes.{at_one}
 use Rattle.pytoken.specs.declared.faults.TokenError.{TokenError}
 use Rattle.pytoken.specs.declared.faults.TokenError.TheVariants as errors
 use Rattle.pytoken.specs.declared.meanings.Meaning.{Meaning}
@@ -24,7 +25,6 @@ use Rattle.pytoken.specs.StringValues.{is_unicode, with_line_feeds, points_of, v
 use Rattle.pytoken.specs.StringValues.{prefix_len_of}
 use Rattle.pytoken.specs.StringValues.{is_marked, is_raw, is_bytes, is_formatted, body_of, without_last, nul_fault, literal_fault}
 use Rattle.pytoken.specs.Inner.Readings.{first_meaning, behind_meaning}
-use Rattle.pytoken.proofs.values.EscapeLemmas.{begins_by}
 
 later : (raw bytes : Bool) (n : ℕ) (cs : List ℕ) → meanings_after raw bytes n cs ≡ meanings_after raw bytes 0 (drop n cs)
 later raw bytes zero cs = refl
@@ -85,12 +85,12 @@ after_prefix t = drop (prefix_len_of t) t
 pub prefix_more : (t new : List ℕ) (c : ℕ) → slice_get t 0 ≡ Some c → is_quote c ≡ false → new ≡ drop 1 t
     → after_prefix new ≡ after_prefix t
 prefix_more t new c e other cut =
-    let whole = begins_by t c e in
+    let whole = at_one t c e in
     let size : 1 + prefix_len_of (drop 1 t) ≡ suc (prefix_len_of (drop 1 t)) = omega arith in
     ap after_prefix cut ∙ sym (ap after_prefix whole ∙ (rw (other, size) refl))
 
 pub prefix_stops : (t : List ℕ) (c : ℕ) → slice_get t 0 ≡ Some c → is_quote c ≡ true → after_prefix t ≡ t
-prefix_stops t c e quote = let whole = begins_by t c e in ap after_prefix whole ∙ (rw quote refl) ∙ sym whole
+prefix_stops t c e quote = let whole = at_one t c e in ap after_prefix whole ∙ (rw quote refl) ∙ sym whole
 
 pub prefix_ends : (t : List ℕ) → slice_get t 0 ≡ None → after_prefix t ≡ t
 prefix_ends [] e = refl
@@ -107,7 +107,7 @@ without_none t = take_all (length t - 0) t (omega arith)
 pub mark_on : (a b c : ℕ) (t new : List ℕ) → slice_get t 0 ≡ Some c → is_quote c ≡ false → ((c == a) || (c == b)) ≡ false → new ≡ drop 1 t →
     is_marked a b new ≡ is_marked a b t
 mark_on a b c t new e other neither cut =
-    let whole = begins_by t c e in
+    let whole = at_one t c e in
     let size : 1 + prefix_len_of (drop 1 t) ≡ suc (prefix_len_of (drop 1 t)) = omega arith in
     ap (is_marked a b) cut ∙ sym (ap (is_marked a b) whole ∙ (rw (other, size, neither) refl))
 

@@ -47,10 +47,6 @@ pub name_own : (t : List ℕ) → is_in_form Nfkc t ≡ true → name_fault t �
 unfolding name_fault
 name_own t own = rw own refl
 
-pub name_other : (t : List ℕ) → is_in_form Nfkc t ≡ false → name_fault t ≡ form_fault (nfkc t)
-unfolding name_fault
-name_other t other = rw other refl
-
 low_all : (bs : List ℕ) → AreLow bs → All (λ b. b < 128) bs
 low_all [] low k d within = absurd (omega (arith, within))
 low_all (b ∷ bs) low zero d within = low 0 (omega arith)

@@ -1,11 +1,11 @@
 -- Carries: first_character, front, bump_plain. On: characters of ASCII at the ends of a text.
 use Rattle.std.proofs.Common.{◌≡◌, ℕ, zero, suc, ◌+◌, ◌-◌, ◌<◌, Bool, true, false, List, [], ◌∷◌, ◌++◌, length, take, drop, refl, sym, ap}
-use Rattle.std.proofs.Common.{◌∙◌, arith, inl, inr}
+use Rattle.std.proofs.Common.{◌∙◌, arith}
 use Rattle.std.proofs.Common.{Some, None, slice_get}
 use Rattle.std.specs.Prelude.{◌==◌, ◌||◌, not, nat_le}
 use Rattle.std.specs.List.{list_all, prefix_len}
 use Rattle.std.specs.Str.{chars, IsUtf8, IsAscii, IsCharBoundary}
-use Rattle.std.proofs.lemmas.Bool.{cases_Bool, and_parts, eq-eqb, leb-true}
+use Rattle.std.proofs.lemmas.Bool.{and_parts, eq-eqb, leb-true, not-true}
 use Rattle.std.proofs.lemmas.List.{take-append-drop}
 use Rattle.std.proofs.lemmas.List.Elements.{filter-append}
 use Rattle.std.proofs.lemmas.List.Sums.{prefix_len-le-length}
@@ -13,6 +13,8 @@ use Rattle.std.proofs.lemmas.Option.{slice_get_within, get_or_from_slice_get}
 use Rattle.std.proofs.lemmas.Str.{encode_ascii, chars-append, chars-IsAscii, IsUtf8-take, IsUtf8-from_ascii, IsCharBoundary-before_ascii}
 use Rattle.std.proofs.lemmas.Str.{IsCharBoundary-after_ascii, IsCharBoundary-from_take}
 use Rattle.std.proofs.lemmas.Str.Ascii.{IsAscii-nil, IsAscii-cons}
+use Rattle.pylex_lexeme.proofs.Callers.Lexemes.{at_one}
+use Rattle.pylex_lexeme.proofs.Callers.Fronts.{run_passes}
 use Rattle.pytoken.specs.StringValues.{with_line_feeds, without_last}
 use Rattle.pytoken.specs.Inner.Readings.{is_own, stands}
 use Rattle.pytoken.proofs.values.Filtered.{kept, nothing, last_taken}
@@ -21,21 +23,13 @@ record Own (c : ℕ) : Type 0 where
   low : c < 128
   other : (c == 13) ≡ false
 
-no : (b : Bool) → not b ≡ true → b ≡ false
-no false is = refl
-no true is = cc
-
 own : (c : ℕ) → is_own c ≡ true → Own c
 own c is =
     let parts = and_parts (nat_le c 0x7F) (not (c == 13)) is in
-    record { low = omega (arith, leb-true c 0x7F parts.0); other = no (c == 13) parts.1 }
+    record { low = omega (arith, leb-true c 0x7F parts.0); other = not-true (c == 13) parts.1 }
 
 no_return : (c : ℕ) → (c == 13) ≡ false → c ≡ 13 → ⊥
 no_return c other is = let same = eq-eqb c 13 is in absurd (cc)
-
-begins : (t : List ℕ) (c : ℕ) → slice_get t 0 ≡ Some c → t ≡ c ∷ drop 1 t
-begins [] c e = absurd (cc)
-begins (d ∷ t) c e = let is : d ≡ c = cc in ap (λ (k : ℕ). k ∷ t) is
 
 -- at the front
 
@@ -43,7 +37,7 @@ pub own_first : (bs : List ℕ) (b : ℕ) → IsUtf8 bs → slice_get bs 0 ≡ S
     with_line_feeds (chars bs) ≡ b ∷ with_line_feeds (chars (drop 1 bs))
 own_first bs b utf8 e is =
     let o = own b is in
-    kept bs (drop 1 bs) b utf8 (begins bs b e ∙ ap (λ (x : List ℕ). x ++ drop 1 bs) (sym (encode_ascii b o.low))) (no_return b o.other)
+    kept bs (drop 1 bs) b utf8 (at_one bs b e ∙ ap (λ (x : List ℕ). x ++ drop 1 bs) (sym (encode_ascii b o.low))) (no_return b o.other)
 
 pub own_boundary : (bs : List ℕ) (b : ℕ) → IsUtf8 bs → slice_get bs 0 ≡ Some b → is_own b ≡ true → IsCharBoundary bs 1
 own_boundary bs b utf8 e is =
@@ -76,15 +70,6 @@ own_last bs front b utf8 e is cut =
 
 -- a run of them
 
-passes : (p : ℕ → Bool) (bs : List ℕ) → list_all p (take (prefix_len p bs) bs) ≡ true
-passes p [] = refl
-passes p (b ∷ bs) = elim (cases_Bool (p b)) [
-  | inl passed ↦
-      let size : 1 + prefix_len p bs ≡ suc (prefix_len p bs) = omega arith in
-      rw (passed, size, passed) (passes p bs)
-  | inr fails ↦ rw fails refl
-]
-
 stands_own : (raw : Bool) (c : ℕ) → stands raw c ≡ true → Own c
 stands_own raw c is = own c (and_parts (is_own c) (raw || not (c == 92)) is).0
 
@@ -108,7 +93,7 @@ pub record Run (raw : Bool) (bs : List ℕ) (n : ℕ) : Type 0 where
 
 pub run_of : (raw : Bool) (bs : List ℕ) (n : ℕ) → IsUtf8 bs → n ≡ prefix_len (stands raw) bs → Run raw bs n
 run_of raw bs n utf8 e =
-    let all : list_all (stands raw) (take n bs) ≡ true = ap (λ (k : ℕ). list_all (stands raw) (take k bs)) e ∙ passes (stands raw) bs in
+    let all : list_all (stands raw) (take n bs) ≡ true = ap (λ (k : ℕ). list_all (stands raw) (take k bs)) e ∙ run_passes (stands raw) bs in
     let ascii = run_ascii raw (take n bs) all in
     let own_utf8 = IsUtf8-from_ascii (take n bs) ascii in
     record {

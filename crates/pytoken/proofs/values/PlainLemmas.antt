@@ -3,7 +3,7 @@ use Rattle.std.proofs.Common.{◌≡◌, ℕ, Bool, true, false, List, [], ◌�
 use Rattle.std.specs.Prelude.{◌==◌, ◌&&◌, not, nat_lt, nat_le}
 use Rattle.std.specs.List.{list_all, list_any}
 use Rattle.std.specs.Str.{chars, IsAscii}
-use Rattle.std.proofs.lemmas.Bool.{and_parts, leb-true, le-ltb}
+use Rattle.std.proofs.lemmas.Bool.{and_parts, leb-true, le-ltb, not-true, and_right}
 use Rattle.std.proofs.lemmas.Str.{chars-IsAscii}
 use Rattle.std.proofs.lemmas.Str.Ascii.{IsAscii-nil, IsAscii-cons}
 use Rattle.pytoken.specs.declared.faults.TokenError.TheVariants.{FString}
@@ -13,14 +13,6 @@ use Rattle.pytoken.specs.StringValues.{with_line_feeds, is_raw, is_bytes, is_for
 use Rattle.pytoken.proofs.Callers.Bodies.{body_all, filter_all}
 use Rattle.pytoken.specs.Inner.Readings.{is_plain}
 use Rattle.pytoken.proofs.values.LiteralLemmas.{fault_none, literal_formatted, literal_sound}
-
-no : (b : Bool) → not b ≡ true → b ≡ false
-no false is = refl
-no true is = cc
-
-and_false : (b : Bool) → (b && false) ≡ false
-and_false true = refl
-and_false false = refl
 
 -- a plain character is none of those that can be wrong
 record Plain (c : ℕ) : Type 0 where
@@ -34,8 +26,8 @@ plain c is =
     let second = and_parts (not (c == 92)) (not (c == 0)) first.1 in
     record {
       low = le-ltb 0x7F c (leb-true c 0x7F first.0);
-      escape = no (c == 92) second.0;
-      nul = no (c == 0) second.1;
+      escape = not-true (c == 92) second.0;
+      nul = not-true (c == 0) second.1;
     }
 
 -- no character of a plain text passes a test that no plain character passes
@@ -54,7 +46,7 @@ no_escape : (p : Meaning → Bool) → ((m : ℕ) → p (Meaning.Point m) ≡ fa
 no_escape p fails raw bytes [] all = refl
 no_escape p fails raw bytes (c ∷ cs) all =
     let parts = and_parts (is_plain c) (list_all is_plain cs) all in
-    let step : (not raw && (c == 92)) ≡ false = ap (λ (b : Bool). not raw && b) (plain c parts.0).escape ∙ and_false (not raw) in
+    let step : (not raw && (c == 92)) ≡ false = ap (λ (b : Bool). not raw && b) (plain c parts.0).escape ∙ and_right (not raw) false refl in
     let here = fails c in
     rw (step, here) (no_escape p fails raw bytes cs parts.1)
 
@@ -91,7 +83,7 @@ plain_sound t all f =
     let kept : list_all is_plain l ≡ true = filter_all is_plain (λ c. not (c == 13)) t all in
     let high = none_passes (nat_lt 0x7F) (λ c is. (plain c is).low) l kept in
     literal_sound l f (no_fault (is_raw l) (is_bytes l) (body_of l) (body_all is_plain l kept))
-    (ap (λ (b : Bool). is_bytes l && b) high ∙ and_false (is_bytes l))
+    (ap (λ (b : Bool). is_bytes l && b) high ∙ and_right (is_bytes l) false refl)
     (none_passes (λ c. c == 0) (λ c is. (plain c is).nul) l kept)
 
 pub any_fault : (t literal : List ℕ) → literal ≡ with_line_feeds t → literal_fault literal ≡ string_fault t

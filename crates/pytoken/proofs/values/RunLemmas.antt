@@ -4,22 +4,18 @@ use Rattle.std.proofs.Common.{◌≡◌, ℕ, ◌<◌, Bool, true, false, List, 
 use Rattle.std.proofs.Common.{append_assoc, append-nil, length-append}
 use Rattle.std.specs.Prelude.{◌==◌, ◌&&◌, not}
 use Rattle.std.specs.List.{list_all}
-use Rattle.std.proofs.lemmas.Bool.{and_parts}
+use Rattle.std.proofs.lemmas.Bool.{and_parts, not-true}
 use Rattle.std.proofs.lemmas.List.Folds.{list_all-append}
+use Rattle.pylex_lexeme.proofs.Callers.Lexemes.{at_one}
 use Rattle.pytoken.specs.declared.meanings.Meaning.{Meaning}
 use Rattle.pytoken.specs.Escapes.{meanings}
 use Rattle.pytoken.specs.StringValues.{is_quote, is_marked, inside, body_of}
 use Rattle.pytoken.specs.Inner.Readings.{first_meaning, behind_meaning, is_own, stands, is_bare, body_points}
-use Rattle.pytoken.proofs.values.EscapeLemmas.{begins_by}
 use Rattle.pytoken.proofs.values.LiteralLemmas.{shorter, prefix_stops}
-
-no : (b : Bool) → not b ≡ true → b ≡ false
-no false is = refl
-no true is = cc
 
 no_escape : (raw : Bool) (c : ℕ) → stands raw c ≡ true → (not raw && (c == 92)) ≡ false
 no_escape true c is = refl
-no_escape false c is = no (c == 92) (and_parts (is_own c) (not (c == 92)) is).1
+no_escape false c is = not-true (c == 92) (and_parts (is_own c) (not (c == 92)) is).1
 
 run_points : (raw bytes : Bool) (run rest : List ℕ) → list_all (stands raw) run ≡ true
     → body_points raw bytes (run ++ rest) ≡ run ++ body_points raw bytes rest
@@ -53,10 +49,6 @@ cut_parts p raw bytes t run rest cut all =
     let split = ap (list_all p) (cut_points raw bytes t run rest cut) ∙ list_all-append p run (body_points raw bytes rest) in
     (and_parts (list_all p run) (list_all p (body_points raw bytes rest)) (sym split ∙ all)).1
 
-pub cut_all : (p : ℕ → Bool) (raw : Bool) (t run rest : List ℕ) → Cut raw t run rest → list_all p t ≡ true → list_all p rest ≡ true
-cut_all p raw t run rest cut all =
-    let split = ap (list_all p) cut.whole ∙ list_all-append p run rest in (and_parts (list_all p run) (list_all p rest) (sym split ∙ all)).1
-
 pub cut_shorter : (raw bytes : Bool) (t next run rest : List ℕ) (m : Meaning) → first_meaning raw bytes t ≡ Some m
     → next ≡ behind_meaning raw bytes t
     → Cut raw next run rest → length rest < length t
@@ -72,7 +64,7 @@ cut_whole raw bytes t run rest out cut none grown =
 -- a literal without a prefix
 
 pub bare_some : (t : List ℕ) (c : ℕ) → slice_get t 0 ≡ Some c → is_quote c ≡ is_bare t
-bare_some t c e = sym (ap is_bare (begins_by t c e))
+bare_some t c e = sym (ap is_bare (at_one t c e))
 
 pub bare_none : (t : List ℕ) → slice_get t 0 ≡ None → false ≡ is_bare t
 bare_none [] e = refl

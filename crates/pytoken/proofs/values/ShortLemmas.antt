@@ -1,20 +1,17 @@
 -- Carries: short_value, number_fault, number_terminal. On: numbers of decimal digits alone.
-use Rattle.std.proofs.Common.{◌≡◌, ℕ, ◌+◌, ◌-◌, ◌*◌, ◌^◌, ◌<◌, ◌≤◌, Bool, true, false, List, [], ◌∷◌, length, drop, get_or, refl, sym, ap}
+use Rattle.std.proofs.Common.{◌≡◌, ℕ, ◌≤◌, Bool, true, false, List, [], ◌∷◌, refl, sym, ap}
 use Rattle.std.proofs.Common.{◌∙◌, arith}
 use Rattle.std.proofs.Common.{Option, Some, None, is_some}
 use Rattle.std.specs.Prelude.{◌==◌, ◌&&◌, ◌||◌, nat_le, filter, IfSome}
-use Rattle.std.specs.Char.{digit_value}
 use Rattle.std.specs.List.{list_all, list_any}
-use Rattle.std.specs.Str.Parse.{digits_value, digits_value_after}
-use Rattle.std.proofs.lemmas.Bool.{and_parts, leb-true, ne_eqb}
+use Rattle.std.specs.Str.Parse.{digits_value}
+use Rattle.std.proofs.lemmas.Bool.{and_parts, leb-true, ne_eqb, and_right}
 use Rattle.std.proofs.lemmas.Bool.Decides.{nat_tests}
-use Rattle.std.proofs.lemmas.List.{at_drop_more}
-use Rattle.std.proofs.lemmas.Str.{digit_value_digit}
 use Rattle.pynatural.specs.Readings.{written, is_no_underscore}
 use Rattle.pylex_lexeme.specs.Numbers.{is_j, is_point, is_e, is_x, is_o, is_b}
-use Rattle.pytree_node.specs.Values.{Value, Int}
+use Rattle.pytree_node.specs.Values.{Int}
 use Rattle.pytree_node.specs.declared.profiles.Extent.{Extent}
-use Rattle.pytoken.specs.NumberValues.{radix_of, digits_in, is_complex, is_real, whole_value, number_value, number_fault}
+use Rattle.pytoken.specs.NumberValues.{radix_of, is_complex, is_real, whole_value, number_value, number_fault}
 use Rattle.pytoken.specs.Inner.Readings.{is_decimal_digit, IsShort}
 use Rattle.pytoken.proofs.NumberKinds.{in_both, fault_none, value_whole}
 
@@ -26,18 +23,6 @@ digit : (c : ℕ) → is_decimal_digit c ≡ true → Digit c
 digit c is =
     let parts = and_parts (nat_le 48 c) (nat_le c 57) is in
     record { least = omega (arith, leb-true 48 c parts.0); most = omega (arith, leb-true c 57 parts.1) }
-
-pub digit_worth : (c : ℕ) → is_decimal_digit c ≡ true → digit_value c ≡ c - 48
-digit_worth c is = let d = digit c is in omega (arith, digit_value_digit c (d.least, d.most))
-
--- one more digit
-pub short_step : (bs : List ℕ) (i value b : ℕ) → i < length bs → b ≡ get_or bs i 0 → is_decimal_digit b ≡ true →
-    digits_value_after 10 (value * 10 + (b - 48)) (drop (i + 1) bs) ≡ digits_value_after 10 value (drop i bs)
-short_step bs i value b within here is =
-    let worth = digit_worth b is in
-    ap (λ (n : ℕ). digits_value_after 10 (value * 10 + n) (drop (i + 1) bs)) (sym worth)
-    ∙ ap (λ (c : ℕ). digits_value_after 10 value (c ∷ drop (i + 1) bs)) here
-    ∙ sym (at_drop_more (digits_value_after 10 value) bs i 0 within)
 
 none_of : (p : ℕ → Bool) → ((c : ℕ) → Digit c → p c ≡ false) → (t : List ℕ) → list_all is_decimal_digit t ≡ true → list_any p t ≡ false
 none_of p fails [] all = refl
@@ -67,10 +52,6 @@ decimal (a ∷ b ∷ t) all =
     let b2 : is_b b ≡ false = grind (arith, nat_tests) in
     rw (x, o, b2) refl
 
-and_false : (b : Bool) → (b && false) ≡ false
-and_false true = refl
-and_false false = refl
-
 no_j : (c : ℕ) → Digit c → is_j c ≡ false
 no_j c d = let least = d.least in let most = d.most in grind (arith, nat_tests)
 
@@ -82,7 +63,7 @@ not_complex t all = none_of is_j no_j t all
 
 not_real : (t : List ℕ) → list_all is_decimal_digit t ≡ true → is_real t ≡ false
 not_real t all = ap (λ (b : Bool). (radix_of t == 10) && b) (none_of (λ c. is_point c || is_e c) no_fraction t all)
-    ∙ and_false (radix_of t == 10)
+    ∙ and_right (radix_of t == 10) false refl
 
 digits_written : (t : List ℕ) → list_all is_decimal_digit t ≡ true → written 10 t ≡ digits_value 10 t
 unfolding written

@@ -175,7 +175,7 @@ handlers::show_handler-returns-clause-text g t c =
     let body = c.deref-body.result.now in
     let F : Fields → Fields = λ rest. expr_field (codes "type") (option_of (given_handler.out-Handler h).class)
     (name_field (codes "name") (given_handler.out-Handler h).name (a_field (codes "body") (shown_block s.profile body) rest)) in
-    shown_as s (string_bytes c.args.indentation.now) (string_bytes c.args.out.now) _ (g.P.Places.left c.args.places.now) _
+    shown_as s (string_bytes c.args.indentation.now) (string_bytes c.args.out.now) _ (g.P.PlaceSource.left c.args.places.now) _
     (Node (codes "ExceptHandler") (F no_field)) _ (handler_shows s.profile h body c.deref-body.ensures.value)
     (node_ended s _ (codes "ExceptHandler(") F _ c.in_ok-outer.ensures.indentation
     (marked_line _ _ _ _ (F no_field) c.is_told_on_line.ensures (c.is_short_handler.ensures (given_handler.out-Handler h).name))
@@ -210,7 +210,7 @@ cases::show_case-returns-clause-text g t c =
     let first : Shown = shown_pattern (pattern_of (given_case.out-Case case).pattern) in
     let G : Fields → Fields = λ rest. expr_field (codes "guard") (option_of (given_case.out-Case case).guard)
     (a_field (codes "body") (shown_block s.profile body) rest) in
-    shown_as s (string_bytes c.args.indentation.now) (string_bytes c.args.out.now) _ (g.P.Places.left c.args.places.now) _
+    shown_as s (string_bytes c.args.indentation.now) (string_bytes c.args.out.now) _ (g.P.PlaceSource.left c.args.places.now) _
     (Node (codes "match_case") (a_field (codes "pattern") first (G no_field))) _
     (case_shows s.profile case body c.deref-body.ensures.value)
     (plain_ended s _ (codes "match_case(") (λ rest. a_field (codes "pattern") first (G rest)) _
@@ -253,7 +253,7 @@ statements::show_stmt-returns-in-FunctionDef-clause-text g t c =
       sym c.deref-in-FunctionDef-3.ensures.value,
     ) refl in
     shown_on c.args.style (string_bytes c.args.indentation.now) (string_bytes c.args.out.now) (string_bytes c.show_function.new.out)
-    (g.P.Places.left c.args.places.now) (g.P.Places.left c.show_function.new.places) c.show_function.result _ _ (sym e)
+    (g.P.PlaceSource.left c.args.places.now) (g.P.PlaceSource.left c.show_function.new.places) c.show_function.result _ _ (sym e)
     c.show_function.ensures.text
 
 pub statements::show_stmt-returns-in-AsyncFunctionDef-clause-text : goal.statements::show_stmt-returns-in-AsyncFunctionDef-clause-text
@@ -276,8 +276,8 @@ statements::show_stmt-returns-in-AsyncFunctionDef-clause-text g t c =
       sym c.deref-in-AsyncFunctionDef-4.ensures.value,
     ) refl in
     shown_on c.args.style (string_bytes c.args.indentation.now) (string_bytes c.args.out.now)
-    (string_bytes c.show_function-in-AsyncFunctionDef.new.out) (g.P.Places.left c.args.places.now)
-    (g.P.Places.left c.show_function-in-AsyncFunctionDef.new.places) c.show_function-in-AsyncFunctionDef.result _ _ (sym e)
+    (string_bytes c.show_function-in-AsyncFunctionDef.new.out) (g.P.PlaceSource.left c.args.places.now)
+    (g.P.PlaceSource.left c.show_function-in-AsyncFunctionDef.new.places) c.show_function-in-AsyncFunctionDef.result _ _ (sym e)
     c.show_function-in-AsyncFunctionDef.ensures.text
 
 pub statements::show_stmt-returns-in-TypeAlias-clause-text : goal.statements::show_stmt-returns-in-TypeAlias-clause-text
@@ -293,8 +293,8 @@ statements::show_stmt-returns-in-TypeAlias-clause-text g t c =
       sym c.deref-in-TypeAlias.ensures.value,
     ) refl in
     shown_on c.args.style (string_bytes c.args.indentation.now) (string_bytes c.args.out.now)
-    (string_bytes c.show_three-in-TypeAlias.new.out) (g.P.Places.left c.args.places.now)
-    (g.P.Places.left c.show_three-in-TypeAlias.new.places) c.show_three-in-TypeAlias.result _ _ (sym e)
+    (string_bytes c.show_three-in-TypeAlias.new.out) (g.P.PlaceSource.left c.args.places.now)
+    (g.P.PlaceSource.left c.show_three-in-TypeAlias.new.places) c.show_three-in-TypeAlias.result _ _ (sym e)
     c.show_three-in-TypeAlias.ensures.text
 
 pub statements::show_stmt-returns-in-AnnAssign-clause-text : goal.statements::show_stmt-returns-in-AnnAssign-clause-text
@@ -307,7 +307,7 @@ statements::show_stmt-returns-in-AnnAssign-clause-text g t c =
     (a_field (codes "annotation") (shown (tree_of c.deref-in-AnnAssign-2.result.now)) (with_slot (slot_of c.boxed_part.result) rest))) =
     rw (c.in-AnnAssign.is, ann_assign_tree, k, sym c.deref-in-AnnAssign.ensures, sym c.deref-in-AnnAssign-2.ensures) refl in
     shown_on c.args.style (string_bytes c.args.indentation.now) (string_bytes c.args.out.now) (string_bytes c.show_four.new.out)
-    (g.P.Places.left c.args.places.now) (g.P.Places.left c.show_four.new.places) c.show_four.result _ _ (sym e)
+    (g.P.PlaceSource.left c.args.places.now) (g.P.PlaceSource.left c.show_four.new.places) c.show_four.result _ _ (sym e)
     c.show_four.ensures.text
 
 pub statements::show_stmt-returns-in-ImportFrom-clause-text : goal.statements::show_stmt-returns-in-ImportFrom-clause-text
@@ -320,8 +320,8 @@ statements::show_stmt-returns-in-ImportFrom-clause-text g t c =
     (with_slot (slot_of c.name_part.result) rest) =
     rw (c.in-ImportFrom.is, import_from_tree, aliases_row c.in-ImportFrom.names.items, sym c.deref-in-ImportFrom.ensures.value, k) refl in
     shown_on c.args.style (string_bytes c.args.indentation.now) (string_bytes c.args.out.now)
-    (string_bytes c.show_three-in-ImportFrom.new.out) (g.P.Places.left c.args.places.now)
-    (g.P.Places.left c.show_three-in-ImportFrom.new.places) c.show_three-in-ImportFrom.result _ _ (sym e)
+    (string_bytes c.show_three-in-ImportFrom.new.out) (g.P.PlaceSource.left c.args.places.now)
+    (g.P.PlaceSource.left c.show_three-in-ImportFrom.new.places) c.show_three-in-ImportFrom.result _ _ (sym e)
     c.show_three-in-ImportFrom.ensures.text
 
 pub statements::show_stmt-returns-in-ClassDef-clause-text : goal.statements::show_stmt-returns-in-ClassDef-clause-text
@@ -347,7 +347,7 @@ statements::show_stmt-returns-in-ClassDef-clause-text g t c =
       sym c.deref-in-ClassDef-5.ensures.value,
     ) refl in
     shown_on c.args.style (string_bytes c.args.indentation.now) (string_bytes c.args.out.now) (string_bytes c.show_class.new.out)
-    (g.P.Places.left c.args.places.now) (g.P.Places.left c.show_class.new.places) c.show_class.result _ _ (sym e)
+    (g.P.PlaceSource.left c.args.places.now) (g.P.PlaceSource.left c.show_class.new.places) c.show_class.result _ _ (sym e)
     c.show_class.ensures.text
 
 pub statements::show_stmt-returns-in-Return-clause-text : goal.statements::show_stmt-returns-in-Return-clause-text
@@ -360,7 +360,7 @@ statements::show_stmt-returns-in-Delete-clause-text g t c =
     (a_field (codes "targets") (listed (λ e. shown (tree_of e)) c.deref-in-Delete.result.now) no_field) =
     rw (c.in-Delete.is, delete_tree, exprs_row c.in-Delete.targets.items, sym c.deref-in-Delete.ensures.value) refl in
     shown_on c.args.style (string_bytes c.args.indentation.now) (string_bytes c.args.out.now) (string_bytes c.show_one-in-Delete.new.out)
-    (g.P.Places.left c.args.places.now) (g.P.Places.left c.show_one-in-Delete.new.places) c.show_one-in-Delete.result _ _ (sym e)
+    (g.P.PlaceSource.left c.args.places.now) (g.P.PlaceSource.left c.show_one-in-Delete.new.places) c.show_one-in-Delete.result _ _ (sym e)
     c.show_one-in-Delete.ensures.text
 
 pub statements::show_stmt-returns-in-Assign-clause-text : goal.statements::show_stmt-returns-in-Assign-clause-text
@@ -370,7 +370,7 @@ statements::show_stmt-returns-in-Assign-clause-text g t c =
     (a_field (codes "value") (shown (tree_of c.in-Assign.value)) (left_out no_field))) =
     rw (c.in-Assign.is, assign_tree, exprs_row c.in-Assign.targets.items, sym c.deref-in-Assign.ensures.value) refl in
     shown_on c.args.style (string_bytes c.args.indentation.now) (string_bytes c.args.out.now) (string_bytes c.show_three.new.out)
-    (g.P.Places.left c.args.places.now) (g.P.Places.left c.show_three.new.places) c.show_three.result _ _ (sym e)
+    (g.P.PlaceSource.left c.args.places.now) (g.P.PlaceSource.left c.show_three.new.places) c.show_three.result _ _ (sym e)
     c.show_three.ensures.text
 
 pub statements::show_stmt-returns-in-AugAssign-clause-text : goal.statements::show_stmt-returns-in-AugAssign-clause-text
@@ -392,7 +392,7 @@ statements::show_stmt-returns-in-While-clause-text g t c =
       sym c.deref-in-While-2.ensures.value,
     ) refl in
     shown_on c.args.style (string_bytes c.args.indentation.now) (string_bytes c.args.out.now) (string_bytes c.show_test.new.out)
-    (g.P.Places.left c.args.places.now) (g.P.Places.left c.show_test.new.places) c.show_test.result _ _ (sym e)
+    (g.P.PlaceSource.left c.args.places.now) (g.P.PlaceSource.left c.show_test.new.places) c.show_test.result _ _ (sym e)
     c.show_test.ensures.text
 
 pub statements::show_stmt-returns-in-If-clause-text : goal.statements::show_stmt-returns-in-If-clause-text
@@ -410,7 +410,7 @@ statements::show_stmt-returns-in-If-clause-text g t c =
       sym c.deref-in-If-2.ensures.value,
     ) refl in
     shown_on c.args.style (string_bytes c.args.indentation.now) (string_bytes c.args.out.now) (string_bytes c.show_test-in-If.new.out)
-    (g.P.Places.left c.args.places.now) (g.P.Places.left c.show_test-in-If.new.places) c.show_test-in-If.result _ _ (sym e)
+    (g.P.PlaceSource.left c.args.places.now) (g.P.PlaceSource.left c.show_test-in-If.new.places) c.show_test-in-If.result _ _ (sym e)
     c.show_test-in-If.ensures.text
 
 pub statements::show_stmt-returns-in-With-clause-text : goal.statements::show_stmt-returns-in-With-clause-text
@@ -427,7 +427,7 @@ statements::show_stmt-returns-in-With-clause-text g t c =
       sym c.deref-in-With-2.ensures.value,
     ) refl in
     shown_on c.args.style (string_bytes c.args.indentation.now) (string_bytes c.args.out.now) (string_bytes c.show_with.new.out)
-    (g.P.Places.left c.args.places.now) (g.P.Places.left c.show_with.new.places) c.show_with.result _ _ (sym e)
+    (g.P.PlaceSource.left c.args.places.now) (g.P.PlaceSource.left c.show_with.new.places) c.show_with.result _ _ (sym e)
     c.show_with.ensures.text
 
 pub statements::show_stmt-returns-in-AsyncWith-clause-text : goal.statements::show_stmt-returns-in-AsyncWith-clause-text
@@ -444,8 +444,8 @@ statements::show_stmt-returns-in-AsyncWith-clause-text g t c =
       sym c.deref-in-AsyncWith-2.ensures.value,
     ) refl in
     shown_on c.args.style (string_bytes c.args.indentation.now) (string_bytes c.args.out.now)
-    (string_bytes c.show_with-in-AsyncWith.new.out) (g.P.Places.left c.args.places.now)
-    (g.P.Places.left c.show_with-in-AsyncWith.new.places) c.show_with-in-AsyncWith.result _ _ (sym e)
+    (string_bytes c.show_with-in-AsyncWith.new.out) (g.P.PlaceSource.left c.args.places.now)
+    (g.P.PlaceSource.left c.show_with-in-AsyncWith.new.places) c.show_with-in-AsyncWith.result _ _ (sym e)
     c.show_with-in-AsyncWith.ensures.text
 
 pub statements::show_stmt-returns-in-Raise-clause-text : goal.statements::show_stmt-returns-in-Raise-clause-text
@@ -465,7 +465,7 @@ statements::show_stmt-returns-in-Import-clause-text g t c =
     (a_field (codes "names") (listed (λ a. shown_alias (alias_of a)) c.deref-in-Import.result.now) no_field) =
     rw (c.in-Import.is, import_tree, aliases_row c.in-Import.names.items, sym c.deref-in-Import.ensures.value) refl in
     shown_on c.args.style (string_bytes c.args.indentation.now) (string_bytes c.args.out.now) (string_bytes c.show_one-in-Import.new.out)
-    (g.P.Places.left c.args.places.now) (g.P.Places.left c.show_one-in-Import.new.places) c.show_one-in-Import.result _ _ (sym e)
+    (g.P.PlaceSource.left c.args.places.now) (g.P.PlaceSource.left c.show_one-in-Import.new.places) c.show_one-in-Import.result _ _ (sym e)
     c.show_one-in-Import.ensures.text
 
 pub statements::show_stmt-returns-in-Global-clause-text : goal.statements::show_stmt-returns-in-Global-clause-text
@@ -474,7 +474,7 @@ statements::show_stmt-returns-in-Global-clause-text g t c =
     (a_field (codes "names") (listed (λ name. shown_name name) c.deref-in-Global.result.now) no_field) =
     rw (c.in-Global.is, global_tree, names_row c.in-Global.names.items, sym c.deref-in-Global.ensures.value) refl in
     shown_on c.args.style (string_bytes c.args.indentation.now) (string_bytes c.args.out.now) (string_bytes c.show_one-in-Global.new.out)
-    (g.P.Places.left c.args.places.now) (g.P.Places.left c.show_one-in-Global.new.places) c.show_one-in-Global.result _ _ (sym e)
+    (g.P.PlaceSource.left c.args.places.now) (g.P.PlaceSource.left c.show_one-in-Global.new.places) c.show_one-in-Global.result _ _ (sym e)
     c.show_one-in-Global.ensures.text
 
 pub statements::show_stmt-returns-in-Nonlocal-clause-text : goal.statements::show_stmt-returns-in-Nonlocal-clause-text
@@ -483,7 +483,8 @@ statements::show_stmt-returns-in-Nonlocal-clause-text g t c =
     (a_field (codes "names") (listed (λ name. shown_name name) c.deref-in-Nonlocal.result.now) no_field) =
     rw (c.in-Nonlocal.is, nonlocal_tree, names_row c.in-Nonlocal.names.items, sym c.deref-in-Nonlocal.ensures.value) refl in
     shown_on c.args.style (string_bytes c.args.indentation.now) (string_bytes c.args.out.now) (string_bytes c.show_one-in-Nonlocal.new.out)
-    (g.P.Places.left c.args.places.now) (g.P.Places.left c.show_one-in-Nonlocal.new.places) c.show_one-in-Nonlocal.result _ _ (sym e)
+    (g.P.PlaceSource.left c.args.places.now) (g.P.PlaceSource.left c.show_one-in-Nonlocal.new.places)
+    c.show_one-in-Nonlocal.result _ _ (sym e)
     c.show_one-in-Nonlocal.ensures.text
 
 pub statements::show_stmt-returns-in-Expr-clause-text : goal.statements::show_stmt-returns-in-Expr-clause-text
@@ -577,7 +578,7 @@ statements::show_stmt-returns-in-For-clause-text g t c =
       sym c.deref-in-For-4.ensures.value,
     ) refl in
     shown_on c.args.style (string_bytes c.args.indentation.now) (string_bytes c.args.out.now) (string_bytes c.show_for.new.out)
-    (g.P.Places.left c.args.places.now) (g.P.Places.left c.show_for.new.places) c.show_for.result _ _ (sym e)
+    (g.P.PlaceSource.left c.args.places.now) (g.P.PlaceSource.left c.show_for.new.places) c.show_for.result _ _ (sym e)
     c.show_for.ensures.text
 
 pub statements::show_stmt-returns-in-AsyncFor-clause-text : goal.statements::show_stmt-returns-in-AsyncFor-clause-text
@@ -598,7 +599,8 @@ statements::show_stmt-returns-in-AsyncFor-clause-text g t c =
       sym c.deref-in-AsyncFor-4.ensures.value,
     ) refl in
     shown_on c.args.style (string_bytes c.args.indentation.now) (string_bytes c.args.out.now) (string_bytes c.show_for-in-AsyncFor.new.out)
-    (g.P.Places.left c.args.places.now) (g.P.Places.left c.show_for-in-AsyncFor.new.places) c.show_for-in-AsyncFor.result _ _ (sym e)
+    (g.P.PlaceSource.left c.args.places.now) (g.P.PlaceSource.left c.show_for-in-AsyncFor.new.places)
+    c.show_for-in-AsyncFor.result _ _ (sym e)
     c.show_for-in-AsyncFor.ensures.text
 
 pub statements::show_stmt-returns-in-Match-clause-text : goal.statements::show_stmt-returns-in-Match-clause-text
@@ -608,7 +610,7 @@ statements::show_stmt-returns-in-Match-clause-text g t c =
     (a_field (codes "cases") (shown_matched c.args.style.profile c.deref-in-Match.result.now) no_field)) =
     rw (c.in-Match.is, match_tree, cases_row c.args.style.profile c.in-Match.cases.items, sym c.deref-in-Match.ensures.value) refl in
     shown_on c.args.style (string_bytes c.args.indentation.now) (string_bytes c.args.out.now) (string_bytes c.show_match.new.out)
-    (g.P.Places.left c.args.places.now) (g.P.Places.left c.show_match.new.places) c.show_match.result _ _ (sym e)
+    (g.P.PlaceSource.left c.args.places.now) (g.P.PlaceSource.left c.show_match.new.places) c.show_match.result _ _ (sym e)
     c.show_match.ensures.text
 
 pub statements::show_stmt-returns-in-Try-clause-text : goal.statements::show_stmt-returns-in-Try-clause-text
@@ -631,7 +633,7 @@ statements::show_stmt-returns-in-Try-clause-text g t c =
       sym c.deref-in-Try-4.ensures.value,
     ) refl in
     shown_on c.args.style (string_bytes c.args.indentation.now) (string_bytes c.args.out.now) (string_bytes c.show_try.new.out)
-    (g.P.Places.left c.args.places.now) (g.P.Places.left c.show_try.new.places) c.show_try.result _ _ (sym e)
+    (g.P.PlaceSource.left c.args.places.now) (g.P.PlaceSource.left c.show_try.new.places) c.show_try.result _ _ (sym e)
     c.show_try.ensures.text
 
 pub statements::show_stmt-returns-in-TryStar-clause-text : goal.statements::show_stmt-returns-in-TryStar-clause-text
@@ -654,5 +656,6 @@ statements::show_stmt-returns-in-TryStar-clause-text g t c =
       sym c.deref-in-TryStar-4.ensures.value,
     ) refl in
     shown_on c.args.style (string_bytes c.args.indentation.now) (string_bytes c.args.out.now) (string_bytes c.show_try-in-TryStar.new.out)
-    (g.P.Places.left c.args.places.now) (g.P.Places.left c.show_try-in-TryStar.new.places) c.show_try-in-TryStar.result _ _ (sym e)
+    (g.P.PlaceSource.left c.args.places.now) (g.P.PlaceSource.left c.show_try-in-TryStar.new.places)
+    c.show_try-in-TryStar.result _ _ (sym e)
     c.show_try-in-TryStar.ensures.text

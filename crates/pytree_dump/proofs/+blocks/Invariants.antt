@@ -17,11 +17,12 @@ decreases-statements::show_stmts g l = 4 * weight (shown_block l.style.profile l
 abbrev pub invariant-statements::show_stmts-loop-s : goal.invariant-statements::show_stmts-loop-s
 invariant-statements::show_stmts-loop-s g l = record {
   text : string_bytes l.out ++ members l.style (string_bytes l.initial.indentation) l.first
-      (rows_with (g.P.Places.left l.places) (showns (map (λ s. shown_stmt l.style.profile (stmt_of s)) (drop l.s-index l.body)))).shown
+      (rows_with (g.P.PlaceSource.left l.places) (showns (map (λ s. shown_stmt l.style.profile (stmt_of s)) (drop l.s-index l.body)))).shown
       ≡ string_bytes l.initial.out ++ members l.style (string_bytes l.initial.indentation) true
-      (rows_with (g.P.Places.left l.initial.places) (showns (map (λ s. shown_stmt l.style.profile (stmt_of s)) l.body))).shown;
-  left : (rows_with (g.P.Places.left l.places) (showns (map (λ s. shown_stmt l.style.profile (stmt_of s)) (drop l.s-index l.body)))).left ≡
-      (rows_with (g.P.Places.left l.initial.places) (showns (map (λ s. shown_stmt l.style.profile (stmt_of s)) l.body))).left;
+      (rows_with (g.P.PlaceSource.left l.initial.places) (showns (map (λ s. shown_stmt l.style.profile (stmt_of s)) l.body))).shown;
+  left : (rows_with (g.P.PlaceSource.left l.places)
+      (showns (map (λ s. shown_stmt l.style.profile (stmt_of s)) (drop l.s-index l.body)))).left ≡
+      (rows_with (g.P.PlaceSource.left l.initial.places) (showns (map (λ s. shown_stmt l.style.profile (stmt_of s)) l.body))).left;
   indentation : string_bytes l.indentation ≡ string_bytes l.initial.indentation;
 }
 
@@ -59,14 +60,15 @@ decreases-handlers::show_handlers g l = 4 * weight (shown_caught l.style.profile
 abbrev pub invariant-handlers::show_handlers-loop-h : goal.invariant-handlers::show_handlers-loop-h
 invariant-handlers::show_handlers-loop-h g l = record {
   text : string_bytes l.out ++ members l.style (string_bytes l.initial.indentation) l.first
-      (rows_with (g.P.Places.left l.places)
+      (rows_with (g.P.PlaceSource.left l.places)
       (showns (map (λ h. shown_handler l.style.profile (handler_of h)) (drop l.h-index l.handlers)))).shown
       ≡ string_bytes l.initial.out ++ members l.style (string_bytes l.initial.indentation) true
-      (rows_with (g.P.Places.left l.initial.places)
+      (rows_with (g.P.PlaceSource.left l.initial.places)
       (showns (map (λ h. shown_handler l.style.profile (handler_of h)) l.handlers))).shown;
-  left : (rows_with (g.P.Places.left l.places)
+  left : (rows_with (g.P.PlaceSource.left l.places)
       (showns (map (λ h. shown_handler l.style.profile (handler_of h)) (drop l.h-index l.handlers)))).left ≡
-      (rows_with (g.P.Places.left l.initial.places) (showns (map (λ h. shown_handler l.style.profile (handler_of h)) l.handlers))).left;
+      (rows_with (g.P.PlaceSource.left l.initial.places)
+      (showns (map (λ h. shown_handler l.style.profile (handler_of h)) l.handlers))).left;
   indentation : string_bytes l.indentation ≡ string_bytes l.initial.indentation;
 }
 
@@ -85,12 +87,13 @@ decreases-cases::show_cases g l = 4 * weight (shown_matched l.style.profile l.ca
 abbrev pub invariant-cases::show_cases-loop-case : goal.invariant-cases::show_cases-loop-case
 invariant-cases::show_cases-loop-case g l = record {
   text : string_bytes l.out ++ members l.style (string_bytes l.initial.indentation) l.first
-      (rows_with (g.P.Places.left l.places) (showns (map (λ c. shown_case l.style.profile (case_of c)) (drop l.case-index l.cases)))).shown
+      (rows_with (g.P.PlaceSource.left l.places)
+      (showns (map (λ c. shown_case l.style.profile (case_of c)) (drop l.case-index l.cases)))).shown
       ≡ string_bytes l.initial.out ++ members l.style (string_bytes l.initial.indentation) true
-      (rows_with (g.P.Places.left l.initial.places) (showns (map (λ c. shown_case l.style.profile (case_of c)) l.cases))).shown;
-  left : (rows_with (g.P.Places.left l.places)
+      (rows_with (g.P.PlaceSource.left l.initial.places) (showns (map (λ c. shown_case l.style.profile (case_of c)) l.cases))).shown;
+  left : (rows_with (g.P.PlaceSource.left l.places)
       (showns (map (λ c. shown_case l.style.profile (case_of c)) (drop l.case-index l.cases)))).left ≡
-      (rows_with (g.P.Places.left l.initial.places) (showns (map (λ c. shown_case l.style.profile (case_of c)) l.cases))).left;
+      (rows_with (g.P.PlaceSource.left l.initial.places) (showns (map (λ c. shown_case l.style.profile (case_of c)) l.cases))).left;
   indentation : string_bytes l.indentation ≡ string_bytes l.initial.indentation;
 }
 

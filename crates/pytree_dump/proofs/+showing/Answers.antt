@@ -14,8 +14,9 @@ use Rattle.pytree_dump.specs.Inner.Weights.{weight, field_weights}
 use Rattle.pytree_dump.proofs.JoinedLemmas.{unplaced_appended, attribute_text, call_text, empty_appended, empty_row, joined_node}
 use Rattle.pytree_dump.proofs.JoinedLemmas.{joined_style, keywords_text, left_of_none, none_is, none_left, on_always, on_both, text_of_none}
 use Rattle.std.proofs.lemmas.List.{append-nil}
+use Rattle.std.proofs.lemmas.Result.{on_ok_weaker}
 use Rattle.pysource.specs.Reprs.{repr_text}
-use Rattle.pytree_dump_text.proofs.Callers.Results.{on_ok, where_pushed}
+use Rattle.pytree_dump_text.proofs.Callers.Results.{where_pushed}
 use Rattle.pytree_dump.proofs.ArgumentsLemmas.{five_shown, seven_weigh, arguments_shown}
 use Rattle.pytree_dump.proofs.RowLemmas.{slot_weighs, member_weight, exprs_row, comprehensions_row, keywords_row, comparisons_row}
 use Rattle.pytree_dump.proofs.RowLemmas.{optionals_row}
@@ -217,11 +218,11 @@ members::show_comprehension-returns-clause-text g t c =
     (a_field (codes "ifs") (Row (showns (map (λ e. shown (tree_of e)) (c.deref.ensures.value i))))
     (a_field (codes "is_async") (shown_flag c.args.c.now.is_async) no_field))))) ∙ sym e in
     shown_as c.args.style (string_bytes c.args.indentation.now) (string_bytes c.args.out.now) (string_bytes c.close.new.out)
-    (g.P.Places.left c.args.places.now) (g.P.Places.left c.show_field-4.new.places) (Node (codes "comprehension") (F no_field))
+    (g.P.PlaceSource.left c.args.places.now) (g.P.PlaceSource.left c.show_field-4.new.places) (Node (codes "comprehension") (F no_field))
     (shown_comprehension (comprehension_of c.args.c.now)) k
     (plain_ended c.args.style (string_bytes c.args.indentation.now) (codes "comprehension(") F (string_bytes c.args.out.now) {ps =
-    (g.P.Places.left c.args.places.now)}
-    c.in_ok-outer.ensures.indentation (c.is_flat.ensures ∙ long_line false _ (g.P.Places.left c.args.places.now) (F no_field)
+    (g.P.PlaceSource.left c.args.places.now)}
+    c.in_ok-outer.ensures.indentation (c.is_flat.ensures ∙ long_line false _ (g.P.PlaceSource.left c.args.places.now) (F no_field)
     (four_or_more (F no_field) 0 refl)) c.in_ok-outer.ensures.text
     (then_field c.in_ok-told.ensures.text c.in_ok-told.ensures.indentation
     (then_field c.in_ok-told-2.ensures.text c.in_ok-told-2.ensures.indentation
@@ -242,7 +243,7 @@ members::show_arguments-returns-clause-text g t c =
     c.deref-5.ensures.value in
     subst (λ x. OnOk c.show_seven.result (Appends c.args.style (string_bytes c.args.indentation.now) (string_bytes c.args.out.now)
     (string_bytes c.show_seven.new.out)
-    (g.P.Places.left c.args.places.now) (g.P.Places.left c.show_seven.new.places) x))
+    (g.P.PlaceSource.left c.args.places.now) (g.P.PlaceSource.left c.show_seven.new.places) x))
     (sym e) (c.show_seven.ensures.text (five_shown (codes "posonlyargs") (codes "args") (codes "kwonlyargs")
     (codes "kw_defaults") (codes "defaults")
     (Row (showns (map (λ a. shown_arg (arg_of a)) c.deref.result.now)))
@@ -254,16 +255,17 @@ members::show_arguments-returns-clause-text g t c =
 
 pub joined::show_joined_attribute-returns-clause-text : goal.joined::show_joined_attribute-returns-clause-text
 joined::show_joined_attribute-returns-clause-text g t c =
-    let none : g.P.Places.left c.args.places.now ≡ [] = none_left _ _ c.requires in
+    let none : g.P.PlaceSource.left c.args.places.now ≡ [] = none_left _ _ c.requires in
     let value : Shown = shown (tree_of c.args.value.now) in
     let fs : Fields = a_field (codes "value") value (a_field (codes "attr") (shown_name c.args.attr.now)
     (a_field (codes "ctx") (word (context_name c.args.ctx)) no_field)) in
-    on_ok c.push_name_and_context.result
-    (λ pushed. joined_node true c.args.style (string_bytes c.args.indentation.now) _ _ (g.P.Places.left c.args.places.now) _
+    on_ok_weaker c.push_name_and_context.result
+    (λ pushed. joined_node true c.args.style (string_bytes c.args.indentation.now) _ _ (g.P.PlaceSource.left c.args.places.now) _
     (codes "Attribute(") fs none (left_of_none _ _ value none c.in_ok-show_expr.ensures.text.1)
     (attribute_text c.args.style (string_bytes c.args.indentation.now) c.args.attr.now _ value c.args.ctx _ _ _ _
     (joined_style _ _ c.requires) c.as_str.ensures.characters
-    c.in_ok-push_str.ensures.bytes (text_of_none c.args.style (string_bytes c.args.indentation.now) _ _ (g.P.Places.left c.args.places.now)
+    c.in_ok-push_str.ensures.bytes (text_of_none c.args.style (string_bytes c.args.indentation.now) _ _
+    (g.P.PlaceSource.left c.args.places.now)
     value none c.in_ok-show_expr.ensures.text.0) pushed))
     c.push_name_and_context.ensures
 
@@ -280,11 +282,11 @@ joined::show_joined_keywords-returns-then-is_empty-clause-text g t c =
 
 pub joined::show_joined_keywords-returns-clause-text : goal.joined::show_joined_keywords-returns-clause-text
 joined::show_joined_keywords-returns-clause-text g t c =
-    let none : g.P.Places.left c.args.places.now ≡ [] = none_is _ c.requires in
+    let none : g.P.PlaceSource.left c.args.places.now ≡ [] = none_is _ c.requires in
     let row : Shown = Row (showns (map (λ k. shown_keyword (keyword_of k)) c.args.keywords.now)) in
     where_pushed _ _ _ c.push_str-3.result
     (keywords_text _ _ _ _ _ c.in_ok-push_str.ensures.bytes (text_of_none c.args.style (string_bytes c.args.indentation.now) _ _
-    (g.P.Places.left c.args.places.now) row none c.in_ok-show_keywords.ensures.text.0))
+    (g.P.PlaceSource.left c.args.places.now) row none c.in_ok-show_keywords.ensures.text.0))
     c.push_str-3.ensures.bytes
 
 pub joined::show_joined_keywords-show_keywords-requires : goal.joined::show_joined_keywords-show_keywords-requires
@@ -292,19 +294,20 @@ joined::show_joined_keywords-show_keywords-requires g t c = (λ κs l. (omega ar
 
 pub joined::show_joined_call-returns-clause-text : goal.joined::show_joined_call-returns-clause-text
 joined::show_joined_call-returns-clause-text g t c =
-    let none : g.P.Places.left c.args.places.now ≡ [] = none_left _ _ c.requires in
+    let none : g.P.PlaceSource.left c.args.places.now ≡ [] = none_left _ _ c.requires in
     let func : Shown = shown (tree_of c.args.func.now) in
     let args : Shown = Row (showns (map (λ e. shown (tree_of e)) c.args.args.now)) in
     let words : Shown = Row (showns (map (λ k. shown_keyword (keyword_of k)) c.args.keywords.now)) in
     let fs : Fields = a_field (codes "func") func (a_field (codes "args") args (a_field (codes "keywords") words no_field)) in
     let none1 = left_of_none _ _ func none c.in_ok-show_expr.ensures.text.1 in
     on_both c.show_joined_keywords.result
-    (λ ended last. joined_node true c.args.style (string_bytes c.args.indentation.now) _ _ (g.P.Places.left c.args.places.now) _
+    (λ ended last. joined_node true c.args.style (string_bytes c.args.indentation.now) _ _ (g.P.PlaceSource.left c.args.places.now) _
     (codes "Call(") fs none last
     (call_text c.args.style (string_bytes c.args.indentation.now) func args words _ _ _ _ _ _ (joined_style _ _ c.requires)
-    c.in_ok-push_str.ensures.bytes (text_of_none c.args.style (string_bytes c.args.indentation.now) _ _ (g.P.Places.left c.args.places.now)
+    c.in_ok-push_str.ensures.bytes (text_of_none c.args.style (string_bytes c.args.indentation.now) _ _
+    (g.P.PlaceSource.left c.args.places.now)
     func none c.in_ok-show_expr.ensures.text.0) c.in_ok-push_str-2.ensures.bytes
-    (text_of_none c.args.style (string_bytes c.show_expr.new.indentation) _ _ (g.P.Places.left c.show_expr.new.places) args none1
+    (text_of_none c.args.style (string_bytes c.show_expr.new.indentation) _ _ (g.P.PlaceSource.left c.show_expr.new.places) args none1
     c.in_ok-show_exprs.ensures.text.0 ∙ ap (λ z. string_bytes c.push_str-2.new.self ++ text c.args.style z args)
     c.in_ok-show_expr.ensures.indentation)
     (ended ∙ ap (λ z. string_bytes c.show_exprs.new.out ++ (codes ", keywords=" ++ text c.args.style z words ++ codes ")"))
@@ -325,17 +328,17 @@ joined::show_joined_call-show_joined_keywords-requires g t c =
 
 pub lists::show_exprs-returns-then-is_empty-clause-text : goal.lists::show_exprs-returns-then-is_empty-clause-text
 lists::show_exprs-returns-then-is_empty-clause-text g t c = empty_appended (λ e. shown (tree_of e)) c.args.es.now c.args.style
-    (string_bytes c.args.indentation.now) _ _ (g.P.Places.left c.args.places.now) c.push_str.result (sym c.if-is_empty.ensures)
+    (string_bytes c.args.indentation.now) _ _ (g.P.PlaceSource.left c.args.places.now) c.push_str.result (sym c.if-is_empty.ensures)
     c.push_str.ensures.bytes
 
 pub lists::show_keywords-returns-then-is_empty-clause-text : goal.lists::show_keywords-returns-then-is_empty-clause-text
 lists::show_keywords-returns-then-is_empty-clause-text g t c = empty_appended (λ k. shown_keyword (keyword_of k)) c.args.ks.now c.args.style
-    (string_bytes c.args.indentation.now) _ _ (g.P.Places.left c.args.places.now) c.push_str.result (sym c.if-is_empty.ensures)
+    (string_bytes c.args.indentation.now) _ _ (g.P.PlaceSource.left c.args.places.now) c.push_str.result (sym c.if-is_empty.ensures)
     c.push_str.ensures.bytes
 
 pub lists::show_args-returns-then-is_empty-clause-text : goal.lists::show_args-returns-then-is_empty-clause-text
 lists::show_args-returns-then-is_empty-clause-text g t c = empty_appended (λ a. shown_arg (arg_of a)) c.args.all.now c.args.style
-    (string_bytes c.args.indentation.now) _ _ (g.P.Places.left c.args.places.now) c.push_str.result (sym c.if-is_empty.ensures)
+    (string_bytes c.args.indentation.now) _ _ (g.P.PlaceSource.left c.args.places.now) c.push_str.result (sym c.if-is_empty.ensures)
     c.push_str.ensures.bytes
 
 pub expressions::show_expr-returns-in-GeneratorExp-clause-text : goal.expressions::show_expr-returns-in-GeneratorExp-clause-text
@@ -352,8 +355,8 @@ expressions::show_expr-returns-in-GeneratorExp-clause-text g t c =
       sym c.deref-in-GeneratorExp-2.ensures.value,
     ) refl in
     shown_on c.args.style (string_bytes c.args.indentation.now) (string_bytes c.args.out.now)
-    (string_bytes c.show_two-in-GeneratorExp.new.out) (g.P.Places.left c.args.places.now)
-    (g.P.Places.left c.show_two-in-GeneratorExp.new.places) c.show_two-in-GeneratorExp.result _ _ (sym e)
+    (string_bytes c.show_two-in-GeneratorExp.new.out) (g.P.PlaceSource.left c.args.places.now)
+    (g.P.PlaceSource.left c.show_two-in-GeneratorExp.new.places) c.show_two-in-GeneratorExp.result _ _ (sym e)
     c.show_two-in-GeneratorExp.ensures.text
 
 pub expressions::show_expr-returns-in-DictComp-clause-text : goal.expressions::show_expr-returns-in-DictComp-clause-text
@@ -371,8 +374,8 @@ expressions::show_expr-returns-in-DictComp-clause-text g t c =
       sym c.deref-in-DictComp-3.ensures.value,
     ) refl in
     shown_on c.args.style (string_bytes c.args.indentation.now) (string_bytes c.args.out.now)
-    (string_bytes c.show_three-in-DictComp.new.out) (g.P.Places.left c.args.places.now)
-    (g.P.Places.left c.show_three-in-DictComp.new.places) c.show_three-in-DictComp.result _ _ (sym e)
+    (string_bytes c.show_three-in-DictComp.new.out) (g.P.PlaceSource.left c.args.places.now)
+    (g.P.PlaceSource.left c.show_three-in-DictComp.new.places) c.show_three-in-DictComp.result _ _ (sym e)
     c.show_three-in-DictComp.ensures.text
 
 pub expressions::show_expr-show_three-requires-in-DictComp : goal.expressions::show_expr-show_three-requires-in-DictComp
@@ -404,7 +407,8 @@ expressions::show_expr-returns-in-Compare-clause-text g t c =
       sym c.deref-in-Compare-3.ensures.value,
     ) refl in
     shown_on c.args.style (string_bytes c.args.indentation.now) (string_bytes c.args.out.now) (string_bytes c.show_three-in-Compare.new.out)
-    (g.P.Places.left c.args.places.now) (g.P.Places.left c.show_three-in-Compare.new.places) c.show_three-in-Compare.result _ _ (sym e)
+    (g.P.PlaceSource.left c.args.places.now) (g.P.PlaceSource.left c.show_three-in-Compare.new.places)
+    c.show_three-in-Compare.result _ _ (sym e)
     c.show_three-in-Compare.ensures.text
 
 pub expressions::show_expr-show_three-requires-in-Compare : goal.expressions::show_expr-show_three-requires-in-Compare
@@ -439,7 +443,7 @@ expressions::show_expr-returns-then-is_joined-clause-text g t c =
       sym c.deref-then-is_joined-3.ensures.value,
     ) refl in
     shown_on c.args.style (string_bytes c.args.indentation.now) (string_bytes c.args.out.now) (string_bytes c.show_joined_call.new.out)
-    (g.P.Places.left c.args.places.now) (g.P.Places.left c.show_joined_call.new.places) c.show_joined_call.result _ _ (sym e)
+    (g.P.PlaceSource.left c.args.places.now) (g.P.PlaceSource.left c.show_joined_call.new.places) c.show_joined_call.result _ _ (sym e)
     c.show_joined_call.ensures.text
 
 pub expressions::show_expr-show_joined_call-requires : goal.expressions::show_expr-show_joined_call-requires
@@ -474,8 +478,8 @@ expressions::show_expr-returns-else-is_joined-clause-text g t c =
       sym c.deref-else-is_joined-3.ensures.value,
     ) refl in
     shown_on c.args.style (string_bytes c.args.indentation.now) (string_bytes c.args.out.now)
-    (string_bytes c.show_three-else-is_joined.new.out) (g.P.Places.left c.args.places.now)
-    (g.P.Places.left c.show_three-else-is_joined.new.places) c.show_three-else-is_joined.result _ _ (sym e)
+    (string_bytes c.show_three-else-is_joined.new.out) (g.P.PlaceSource.left c.args.places.now)
+    (g.P.PlaceSource.left c.show_three-else-is_joined.new.places) c.show_three-else-is_joined.result _ _ (sym e)
     c.show_three-else-is_joined.ensures.text
 
 pub expressions::show_expr-show_three-requires-else-is_joined : goal.expressions::show_expr-show_three-requires-else-is_joined
@@ -521,7 +525,7 @@ expressions::show_expr-returns-in-BoolOp-clause-text g t c =
     (a_field (codes "values") (Row (showns (map (λ e. shown (tree_of e)) c.deref.result.now))) no_field)) =
     rw (c.in-BoolOp.is, bool_op_tree, exprs_row c.in-BoolOp.values.items, sym c.deref.ensures.value) refl in
     shown_on c.args.style (string_bytes c.args.indentation.now) (string_bytes c.args.out.now) (string_bytes c.show_two.new.out)
-    (g.P.Places.left c.args.places.now) (g.P.Places.left c.show_two.new.places) c.show_two.result _ _ (sym e)
+    (g.P.PlaceSource.left c.args.places.now) (g.P.PlaceSource.left c.show_two.new.places) c.show_two.result _ _ (sym e)
     c.show_two.ensures.text
 
 pub expressions::show_expr-show_two-requires : goal.expressions::show_expr-show_two-requires
@@ -588,7 +592,8 @@ expressions::show_expr-returns-in-IfExp-clause-text g t c =
     (a_field (codes "orelse") (shown (tree_of c.deref-in-IfExp-3.result.now)) no_field))) =
     rw (c.in-IfExp.is, if_exp_tree, sym c.deref-in-IfExp.ensures, sym c.deref-in-IfExp-2.ensures, sym c.deref-in-IfExp-3.ensures) refl in
     shown_on c.args.style (string_bytes c.args.indentation.now) (string_bytes c.args.out.now) (string_bytes c.show_three-in-IfExp.new.out)
-    (g.P.Places.left c.args.places.now) (g.P.Places.left c.show_three-in-IfExp.new.places) c.show_three-in-IfExp.result _ _ (sym e)
+    (g.P.PlaceSource.left c.args.places.now) (g.P.PlaceSource.left c.show_three-in-IfExp.new.places)
+    c.show_three-in-IfExp.result _ _ (sym e)
     c.show_three-in-IfExp.ensures.text
 
 pub expressions::show_expr-show_three-requires-in-IfExp : goal.expressions::show_expr-show_three-requires-in-IfExp
@@ -612,7 +617,7 @@ expressions::show_expr-returns-in-Dict-clause-text g t c =
       sym c.deref-in-Dict-2.ensures.value,
     ) refl in
     shown_on c.args.style (string_bytes c.args.indentation.now) (string_bytes c.args.out.now) (string_bytes c.show_two-in-Dict.new.out)
-    (g.P.Places.left c.args.places.now) (g.P.Places.left c.show_two-in-Dict.new.places) c.show_two-in-Dict.result _ _ (sym e)
+    (g.P.PlaceSource.left c.args.places.now) (g.P.PlaceSource.left c.show_two-in-Dict.new.places) c.show_two-in-Dict.result _ _ (sym e)
     c.show_two-in-Dict.ensures.text
 
 pub expressions::show_expr-show_two-requires-in-Dict : goal.expressions::show_expr-show_two-requires-in-Dict
@@ -635,7 +640,7 @@ expressions::show_expr-returns-in-Set-clause-text g t c =
     (a_field (codes "elts") (Row (showns (map (λ e. shown (tree_of e)) c.deref-in-Set.result.now))) no_field) =
     rw (c.in-Set.is, set_tree, exprs_row c.in-Set.elts.items, sym c.deref-in-Set.ensures.value) refl in
     shown_on c.args.style (string_bytes c.args.indentation.now) (string_bytes c.args.out.now) (string_bytes c.show_one.new.out)
-    (g.P.Places.left c.args.places.now) (g.P.Places.left c.show_one.new.places) c.show_one.result _ _ (sym e)
+    (g.P.PlaceSource.left c.args.places.now) (g.P.PlaceSource.left c.show_one.new.places) c.show_one.result _ _ (sym e)
     c.show_one.ensures.text
 
 pub expressions::show_expr-show_one-requires : goal.expressions::show_expr-show_one-requires
@@ -656,7 +661,8 @@ expressions::show_expr-returns-in-ListComp-clause-text g t c =
       sym c.deref-in-ListComp-2.ensures.value,
     ) refl in
     shown_on c.args.style (string_bytes c.args.indentation.now) (string_bytes c.args.out.now) (string_bytes c.show_two-in-ListComp.new.out)
-    (g.P.Places.left c.args.places.now) (g.P.Places.left c.show_two-in-ListComp.new.places) c.show_two-in-ListComp.result _ _ (sym e)
+    (g.P.PlaceSource.left c.args.places.now) (g.P.PlaceSource.left c.show_two-in-ListComp.new.places)
+    c.show_two-in-ListComp.result _ _ (sym e)
     c.show_two-in-ListComp.ensures.text
 
 pub expressions::show_expr-show_two-requires-in-ListComp : goal.expressions::show_expr-show_two-requires-in-ListComp
@@ -684,7 +690,8 @@ expressions::show_expr-returns-in-SetComp-clause-text g t c =
       sym c.deref-in-SetComp-2.ensures.value,
     ) refl in
     shown_on c.args.style (string_bytes c.args.indentation.now) (string_bytes c.args.out.now) (string_bytes c.show_two-in-SetComp.new.out)
-    (g.P.Places.left c.args.places.now) (g.P.Places.left c.show_two-in-SetComp.new.places) c.show_two-in-SetComp.result _ _ (sym e)
+    (g.P.PlaceSource.left c.args.places.now) (g.P.PlaceSource.left c.show_two-in-SetComp.new.places)
+    c.show_two-in-SetComp.result _ _ (sym e)
     c.show_two-in-SetComp.ensures.text
 
 pub expressions::show_expr-show_two-requires-in-SetComp : goal.expressions::show_expr-show_two-requires-in-SetComp
@@ -760,7 +767,8 @@ expressions::show_expr-returns-in-JoinedStr-clause-text g t c =
     (a_field (codes "values") (Row (showns (map (λ e. shown (tree_of e)) c.deref-in-JoinedStr.result.now))) no_field) =
     rw (c.in-JoinedStr.is, joined_str_tree, exprs_row c.in-JoinedStr.values.items, sym c.deref-in-JoinedStr.ensures.value) refl in
     shown_on c.args.style (string_bytes c.args.indentation.now) (string_bytes c.args.out.now) (string_bytes c.show_one-in-JoinedStr.new.out)
-    (g.P.Places.left c.args.places.now) (g.P.Places.left c.show_one-in-JoinedStr.new.places) c.show_one-in-JoinedStr.result _ _ (sym e)
+    (g.P.PlaceSource.left c.args.places.now) (g.P.PlaceSource.left c.show_one-in-JoinedStr.new.places)
+    c.show_one-in-JoinedStr.result _ _ (sym e)
     c.show_one-in-JoinedStr.ensures.text
 
 pub expressions::show_expr-show_one-requires-in-JoinedStr : goal.expressions::show_expr-show_one-requires-in-JoinedStr
@@ -781,8 +789,8 @@ expressions::show_expr-returns-in-Subscript-clause-text g t c =
     (a_field (codes "ctx") (word (context_name c.in-Subscript.ctx)) no_field))) =
     rw (c.in-Subscript.is, subscript_tree, sym c.deref-in-Subscript.ensures, sym c.deref-in-Subscript-2.ensures) refl in
     shown_on c.args.style (string_bytes c.args.indentation.now) (string_bytes c.args.out.now)
-    (string_bytes c.show_three-in-Subscript.new.out) (g.P.Places.left c.args.places.now)
-    (g.P.Places.left c.show_three-in-Subscript.new.places) c.show_three-in-Subscript.result _ _ (sym e)
+    (string_bytes c.show_three-in-Subscript.new.out) (g.P.PlaceSource.left c.args.places.now)
+    (g.P.PlaceSource.left c.show_three-in-Subscript.new.places) c.show_three-in-Subscript.result _ _ (sym e)
     c.show_three-in-Subscript.ensures.text
 
 pub expressions::show_expr-show_three-requires-in-Subscript : goal.expressions::show_expr-show_three-requires-in-Subscript
@@ -811,7 +819,7 @@ expressions::show_expr-returns-in-List-clause-text g t c =
     (a_field (codes "ctx") (word (context_name c.in-List.ctx)) no_field)) =
     rw (c.in-List.is, list_tree, exprs_row c.in-List.elts.items, sym c.deref-in-List.ensures.value) refl in
     shown_on c.args.style (string_bytes c.args.indentation.now) (string_bytes c.args.out.now) (string_bytes c.show_two-in-List.new.out)
-    (g.P.Places.left c.args.places.now) (g.P.Places.left c.show_two-in-List.new.places) c.show_two-in-List.result _ _ (sym e)
+    (g.P.PlaceSource.left c.args.places.now) (g.P.PlaceSource.left c.show_two-in-List.new.places) c.show_two-in-List.result _ _ (sym e)
     c.show_two-in-List.ensures.text
 
 pub expressions::show_expr-show_two-requires-in-List : goal.expressions::show_expr-show_two-requires-in-List
@@ -827,7 +835,7 @@ expressions::show_expr-returns-in-Tuple-clause-text g t c =
     (a_field (codes "ctx") (word (context_name c.in-Tuple.ctx)) no_field)) =
     rw (c.in-Tuple.is, tuple_tree, exprs_row c.in-Tuple.elts.items, sym c.deref-in-Tuple.ensures.value) refl in
     shown_on c.args.style (string_bytes c.args.indentation.now) (string_bytes c.args.out.now) (string_bytes c.show_two-in-Tuple.new.out)
-    (g.P.Places.left c.args.places.now) (g.P.Places.left c.show_two-in-Tuple.new.places) c.show_two-in-Tuple.result _ _ (sym e)
+    (g.P.PlaceSource.left c.args.places.now) (g.P.PlaceSource.left c.show_two-in-Tuple.new.places) c.show_two-in-Tuple.result _ _ (sym e)
     c.show_two-in-Tuple.ensures.text
 
 pub expressions::show_expr-show_two-requires-in-Tuple : goal.expressions::show_expr-show_two-requires-in-Tuple
@@ -880,41 +888,42 @@ nodes::show_part-returns-in-TypeParams-clause-text g t c = rw c.in-TypeParams.is
 
 pub nodes::show_part-returns-in-Comparisons-clause-text : goal.nodes::show_part-returns-in-Comparisons-clause-text
 nodes::show_part-returns-in-Comparisons-clause-text g t c =
-    rw c.in-Comparisons.is (plain_appended c.args.style (string_bytes c.args.indentation.now) _ _ _ (g.P.Places.left c.args.places.now) _
-    (comparisons_unplaced (g.P.Places.left c.args.places.now) _) c.show_comparisons.ensures.text)
+    rw c.in-Comparisons.is (plain_appended c.args.style (string_bytes c.args.indentation.now) _ _ _
+    (g.P.PlaceSource.left c.args.places.now) _
+    (comparisons_unplaced (g.P.PlaceSource.left c.args.places.now) _) c.show_comparisons.ensures.text)
 
 pub nodes::show_part-returns-in-Names-clause-text : goal.nodes::show_part-returns-in-Names-clause-text
 nodes::show_part-returns-in-Names-clause-text g t c =
-    rw c.in-Names.is (plain_appended c.args.style (string_bytes c.args.indentation.now) _ _ _ (g.P.Places.left c.args.places.now) _
-    (names_unplaced (g.P.Places.left c.args.places.now) _) c.show_names.ensures.text)
+    rw c.in-Names.is (plain_appended c.args.style (string_bytes c.args.indentation.now) _ _ _ (g.P.PlaceSource.left c.args.places.now) _
+    (names_unplaced (g.P.PlaceSource.left c.args.places.now) _) c.show_names.ensures.text)
 
 pub nodes::show_part-returns-in-Operator-clause-text : goal.nodes::show_part-returns-in-Operator-clause-text
 nodes::show_part-returns-in-Operator-clause-text g t c =
     rw c.in-Operator.is (word_pushed c.args.style (string_bytes c.args.indentation.now) _ _ _ (operator_name c.in-Operator.op)
-    (g.P.Places.left c.args.places.now) c.push_str.result c.operator_word.ensures
-    (operator_unplaced c.in-Operator.op (g.P.Places.left c.args.places.now)) c.push_str.ensures.bytes)
+    (g.P.PlaceSource.left c.args.places.now) c.push_str.result c.operator_word.ensures
+    (operator_unplaced c.in-Operator.op (g.P.PlaceSource.left c.args.places.now)) c.push_str.ensures.bytes)
 
 pub nodes::show_part-returns-in-Unary-clause-text : goal.nodes::show_part-returns-in-Unary-clause-text
 nodes::show_part-returns-in-Unary-clause-text g t c =
     rw c.in-Unary.is (word_pushed c.args.style (string_bytes c.args.indentation.now) _ _ _ (unary_name c.in-Unary.op)
-    (g.P.Places.left c.args.places.now) c.push_str-in-Unary.result c.unary_word.ensures
-    (unary_unplaced c.in-Unary.op (g.P.Places.left c.args.places.now)) c.push_str-in-Unary.ensures.bytes)
+    (g.P.PlaceSource.left c.args.places.now) c.push_str-in-Unary.result c.unary_word.ensures
+    (unary_unplaced c.in-Unary.op (g.P.PlaceSource.left c.args.places.now)) c.push_str-in-Unary.ensures.bytes)
 
 pub nodes::show_part-returns-in-Bool-clause-text : goal.nodes::show_part-returns-in-Bool-clause-text
 nodes::show_part-returns-in-Bool-clause-text g t c =
     rw c.in-Bool.is (word_pushed c.args.style (string_bytes c.args.indentation.now) _ _ _ (bool_name c.in-Bool.op)
-    (g.P.Places.left c.args.places.now) c.push_str-in-Bool.result c.bool_word.ensures
-    (bool_unplaced c.in-Bool.op (g.P.Places.left c.args.places.now)) c.push_str-in-Bool.ensures.bytes)
+    (g.P.PlaceSource.left c.args.places.now) c.push_str-in-Bool.result c.bool_word.ensures
+    (bool_unplaced c.in-Bool.op (g.P.PlaceSource.left c.args.places.now)) c.push_str-in-Bool.ensures.bytes)
 
 pub nodes::show_part-returns-in-Context-clause-text : goal.nodes::show_part-returns-in-Context-clause-text
 nodes::show_part-returns-in-Context-clause-text g t c =
     rw c.in-Context.is (word_pushed c.args.style (string_bytes c.args.indentation.now) _ _ _ (context_name c.in-Context.ctx)
-    (g.P.Places.left c.args.places.now) c.push_str-in-Context.result c.context_word.ensures
-    (context_unplaced c.in-Context.ctx (g.P.Places.left c.args.places.now)) c.push_str-in-Context.ensures.bytes)
+    (g.P.PlaceSource.left c.args.places.now) c.push_str-in-Context.result c.context_word.ensures
+    (context_unplaced c.in-Context.ctx (g.P.PlaceSource.left c.args.places.now)) c.push_str-in-Context.ensures.bytes)
 
 pub nodes::show_part-returns-in-Conversion-clause-text : goal.nodes::show_part-returns-in-Conversion-clause-text
 nodes::show_part-returns-in-Conversion-clause-text g t c =
-    rw c.in-Conversion.is (scalar_pushed c.args.style (string_bytes c.args.indentation.now) _ _ _ _ (g.P.Places.left c.args.places.now)
+    rw c.in-Conversion.is (scalar_pushed c.args.style (string_bytes c.args.indentation.now) _ _ _ _ (g.P.PlaceSource.left c.args.places.now)
     c.push_str-in-Conversion.result c.conversion_word.ensures c.push_str-in-Conversion.ensures.bytes)
 
 pub lists::show_exprs-loop-e-preserved : goal.lists::show_exprs-loop-e-preserved
@@ -1081,7 +1090,7 @@ lists::show_option-show_expr-requires g t c = let k : _ = ap (λ o. weight (show
 pub lists::show_option-returns-in-None-clause-text : goal.lists::show_option-returns-in-None-clause-text
 lists::show_option-returns-in-None-clause-text g t c =
     rw c.in-None.is (scalar_pushed c.args.style (string_bytes c.args.indentation.now) _ _ _ (codes "None")
-    (g.P.Places.left c.args.places.now) c.push_str.result refl c.push_str.ensures.bytes)
+    (g.P.PlaceSource.left c.args.places.now) c.push_str.result refl c.push_str.ensures.bytes)
 
 pub lists::show_option-returns-in-Some-clause-text : goal.lists::show_option-returns-in-Some-clause-text
 lists::show_option-returns-in-Some-clause-text g t c = rw c.in-Some.is c.show_expr.ensures.text
@@ -1116,7 +1125,8 @@ joined::show_joined_keywords-returns-then-is_empty-clause-left g t c = on_always
 
 pub leaves::show_name_with-returns-then-is_done-clause-text : goal.leaves::show_name_with-returns-then-is_done-clause-text
 leaves::show_name_with-returns-then-is_done-clause-text g t c =
-    on_ok c.show_name.result (unplaced_appended c.args.style (string_bytes c.args.indentation.now) _ _ (g.P.Places.left c.args.places.now)
+    on_ok_weaker c.show_name.result (unplaced_appended c.args.style (string_bytes c.args.indentation.now) _ _
+    (g.P.PlaceSource.left c.args.places.now)
     (shown (Name c.args.id.now c.args.ctx)) (none_is _ (sym c.if-is_done.ensures)))
     (c.show_name.ensures (string_bytes c.args.indentation.now))
 
@@ -1125,8 +1135,8 @@ leaves::show_name_with-returns-clause-text g t c = c.show_two.ensures.text
 
 pub leaves::show_constant_with-returns-then-is_done-clause-text : goal.leaves::show_constant_with-returns-then-is_done-clause-text
 leaves::show_constant_with-returns-then-is_done-clause-text g t c =
-    on_ok c.show_constant.result (unplaced_appended c.args.style (string_bytes c.args.indentation.now) _ _
-    (g.P.Places.left c.args.places.now) (shown (ConstantTree (constant_of c.args.value.now))) (none_is _ (sym c.if-is_done.ensures)))
+    on_ok_weaker c.show_constant.result (unplaced_appended c.args.style (string_bytes c.args.indentation.now) _ _
+    (g.P.PlaceSource.left c.args.places.now) (shown (ConstantTree (constant_of c.args.value.now))) (none_is _ (sym c.if-is_done.ensures)))
     (c.show_constant.ensures (string_bytes c.args.indentation.now))
 
 pub leaves::show_constant_with-returns-clause-text : goal.leaves::show_constant_with-returns-clause-text
@@ -1148,31 +1158,31 @@ expressions::show_expr-show_constant_with-requires g t c =
 pub nodes::show_part-returns-in-Name-clause-text : goal.nodes::show_part-returns-in-Name-clause-text
 nodes::show_part-returns-in-Name-clause-text g t c =
     rw c.in-Name.is (scalar_on c.args.style (string_bytes c.args.indentation.now) (string_bytes c.args.out.now)
-    (string_bytes c.push_repr.new.out) (repr_text c.in-Name.id.now) (g.P.Places.left c.args.places.now) c.push_repr.result
-    (on_ok c.push_repr.result (λ e. e ∙ ap (λ z. string_bytes c.args.out.now ++ repr_text z) c.as_str.ensures.characters)
+    (string_bytes c.push_repr.new.out) (repr_text c.in-Name.id.now) (g.P.PlaceSource.left c.args.places.now) c.push_repr.result
+    (on_ok_weaker c.push_repr.result (λ e. e ∙ ap (λ z. string_bytes c.args.out.now ++ repr_text z) c.as_str.ensures.characters)
     c.push_repr.ensures.ok))
 
 pub nodes::show_part-returns-in-Value-clause-text : goal.nodes::show_part-returns-in-Value-clause-text
 nodes::show_part-returns-in-Value-clause-text g t c =
     rw c.in-Value.is (scalar_on c.args.style (string_bytes c.args.indentation.now) (string_bytes c.args.out.now)
-    (string_bytes c.push_value.new.out) (value_text (constant_of c.in-Value.value.now)) (g.P.Places.left c.args.places.now)
+    (string_bytes c.push_value.new.out) (value_text (constant_of c.in-Value.value.now)) (g.P.PlaceSource.left c.args.places.now)
     c.push_value.result c.push_value.ensures)
 
 pub nodes::show_part-returns-in-Number-clause-text : goal.nodes::show_part-returns-in-Number-clause-text
 nodes::show_part-returns-in-Number-clause-text g t c =
     rw c.in-Number.is (scalar_on c.args.style (string_bytes c.args.indentation.now) (string_bytes c.args.out.now)
-    (string_bytes c.push_number.new.out) (decimal c.in-Number.number) (g.P.Places.left c.args.places.now)
+    (string_bytes c.push_number.new.out) (decimal c.in-Number.number) (g.P.PlaceSource.left c.args.places.now)
     c.push_number.result c.push_number.ensures)
 
 pub nodes::show_part-returns-in-Flag-clause-text : goal.nodes::show_part-returns-in-Flag-clause-text
 nodes::show_part-returns-in-Flag-clause-text g t c =
-    rw c.in-Flag.is (scalar_pushed c.args.style (string_bytes c.args.indentation.now) _ _ _ _ (g.P.Places.left c.args.places.now)
+    rw c.in-Flag.is (scalar_pushed c.args.style (string_bytes c.args.indentation.now) _ _ _ _ (g.P.PlaceSource.left c.args.places.now)
     c.push_str-in-Flag.result c.flag_word.ensures c.push_str-in-Flag.ensures.bytes)
 
 pub nodes::show_part-returns-in-Kind-clause-text : goal.nodes::show_part-returns-in-Kind-clause-text
 nodes::show_part-returns-in-Kind-clause-text g t c =
     rw c.in-Kind.is (scalar_pushed c.args.style (string_bytes c.args.indentation.now) _ _ _ (codes "'u'")
-    (g.P.Places.left c.args.places.now) c.push_str-in-Kind.result refl c.push_str-in-Kind.ensures.bytes)
+    (g.P.PlaceSource.left c.args.places.now) c.push_str-in-Kind.result refl c.push_str-in-Kind.ensures.bytes)
 
 pub nodes::show_part-returns-in-LeftOut-clause-text : goal.nodes::show_part-returns-in-LeftOut-clause-text
 nodes::show_part-returns-in-LeftOut-clause-text g t c = rw c.in-LeftOut.is (sym (append-nil (string_bytes c.args.out.now)), refl)
@@ -1225,7 +1235,8 @@ expressions::show_expr-returns-then-is_joined-2-clause-text g t c =
     =
     rw (c.in-Attribute.is, attribute_tree, sym c.deref-then-is_joined-2-2.ensures) refl in
     shown_on c.args.style (string_bytes c.args.indentation.now) (string_bytes c.args.out.now) (string_bytes c.show_joined_attribute.new.out)
-    (g.P.Places.left c.args.places.now) (g.P.Places.left c.show_joined_attribute.new.places) c.show_joined_attribute.result _ _ (sym e)
+    (g.P.PlaceSource.left c.args.places.now) (g.P.PlaceSource.left c.show_joined_attribute.new.places)
+    c.show_joined_attribute.result _ _ (sym e)
     c.show_joined_attribute.ensures.text
 
 pub expressions::show_expr-returns-else-is_joined-2-clause-text : goal.expressions::show_expr-returns-else-is_joined-2-clause-text
@@ -1236,6 +1247,6 @@ expressions::show_expr-returns-else-is_joined-2-clause-text g t c =
     =
     rw (c.in-Attribute.is, attribute_tree, sym c.deref-else-is_joined-2-2.ensures) refl in
     shown_on c.args.style (string_bytes c.args.indentation.now) (string_bytes c.args.out.now)
-    (string_bytes c.show_three-else-is_joined-2.new.out) (g.P.Places.left c.args.places.now)
-    (g.P.Places.left c.show_three-else-is_joined-2.new.places) c.show_three-else-is_joined-2.result _ _ (sym e)
+    (string_bytes c.show_three-else-is_joined-2.new.out) (g.P.PlaceSource.left c.args.places.now)
+    (g.P.PlaceSource.left c.show_three-else-is_joined-2.new.places) c.show_three-else-is_joined-2.result _ _ (sym e)
     c.show_three-else-is_joined-2.ensures.text

@@ -48,11 +48,11 @@ decreases-lists::show_exprs g l = 5 * weight (Row (showns (map (λ e. shown (tre
 abbrev pub invariant-lists::show_exprs-loop-e : goal.invariant-lists::show_exprs-loop-e
 invariant-lists::show_exprs-loop-e g l = record {
   text : string_bytes l.out ++ members l.style (string_bytes l.initial.indentation) l.first
-      (rows_with (g.P.Places.left l.places) (showns (map (λ e. shown (tree_of e)) (drop l.e-index l.es)))).shown
+      (rows_with (g.P.PlaceSource.left l.places) (showns (map (λ e. shown (tree_of e)) (drop l.e-index l.es)))).shown
       ≡ string_bytes l.initial.out ++ members l.style (string_bytes l.initial.indentation) true
-      (rows_with (g.P.Places.left l.initial.places) (showns (map (λ e. shown (tree_of e)) l.es))).shown;
-  left : (rows_with (g.P.Places.left l.places) (showns (map (λ e. shown (tree_of e)) (drop l.e-index l.es)))).left ≡
-      (rows_with (g.P.Places.left l.initial.places) (showns (map (λ e. shown (tree_of e)) l.es))).left;
+      (rows_with (g.P.PlaceSource.left l.initial.places) (showns (map (λ e. shown (tree_of e)) l.es))).shown;
+  left : (rows_with (g.P.PlaceSource.left l.places) (showns (map (λ e. shown (tree_of e)) (drop l.e-index l.es)))).left ≡
+      (rows_with (g.P.PlaceSource.left l.initial.places) (showns (map (λ e. shown (tree_of e)) l.es))).left;
   indentation : string_bytes l.indentation ≡ string_bytes l.initial.indentation;
 }
 
@@ -62,11 +62,12 @@ decreases-lists::show_options g l = 5 * weight (Row (showns (map (λ e. shown_op
 abbrev pub invariant-lists::show_options-loop-e : goal.invariant-lists::show_options-loop-e
 invariant-lists::show_options-loop-e g l = record {
   text : string_bytes l.out ++ members l.style (string_bytes l.initial.indentation) l.first
-      (rows_with (g.P.Places.left l.places) (showns (map (λ e. shown_optional (optional (option_of e))) (drop l.e-index l.es)))).shown
+      (rows_with (g.P.PlaceSource.left l.places) (showns (map (λ e. shown_optional (optional (option_of e))) (drop l.e-index l.es)))).shown
       ≡ string_bytes l.initial.out ++ members l.style (string_bytes l.initial.indentation) true
-      (rows_with (g.P.Places.left l.initial.places) (showns (map (λ e. shown_optional (optional (option_of e))) l.es))).shown;
-  left : (rows_with (g.P.Places.left l.places) (showns (map (λ e. shown_optional (optional (option_of e))) (drop l.e-index l.es)))).left ≡
-      (rows_with (g.P.Places.left l.initial.places) (showns (map (λ e. shown_optional (optional (option_of e))) l.es))).left;
+      (rows_with (g.P.PlaceSource.left l.initial.places) (showns (map (λ e. shown_optional (optional (option_of e))) l.es))).shown;
+  left : (rows_with (g.P.PlaceSource.left l.places)
+      (showns (map (λ e. shown_optional (optional (option_of e))) (drop l.e-index l.es)))).left ≡
+      (rows_with (g.P.PlaceSource.left l.initial.places) (showns (map (λ e. shown_optional (optional (option_of e))) l.es))).left;
   indentation : string_bytes l.indentation ≡ string_bytes l.initial.indentation;
 }
 
@@ -76,11 +77,12 @@ decreases-lists::show_comprehensions g l = 5 * weight (Row (showns (map (λ c. s
 abbrev pub invariant-lists::show_comprehensions-loop-c : goal.invariant-lists::show_comprehensions-loop-c
 invariant-lists::show_comprehensions-loop-c g l = record {
   text : string_bytes l.out ++ members l.style (string_bytes l.initial.indentation) l.first
-      (rows_with (g.P.Places.left l.places) (showns (map (λ c. shown_comprehension (comprehension_of c)) (drop l.c-index l.cs)))).shown
+      (rows_with (g.P.PlaceSource.left l.places) (showns (map (λ c. shown_comprehension (comprehension_of c)) (drop l.c-index l.cs)))).shown
       ≡ string_bytes l.initial.out ++ members l.style (string_bytes l.initial.indentation) true
-      (rows_with (g.P.Places.left l.initial.places) (showns (map (λ c. shown_comprehension (comprehension_of c)) l.cs))).shown;
-  left : (rows_with (g.P.Places.left l.places) (showns (map (λ c. shown_comprehension (comprehension_of c)) (drop l.c-index l.cs)))).left ≡
-      (rows_with (g.P.Places.left l.initial.places) (showns (map (λ c. shown_comprehension (comprehension_of c)) l.cs))).left;
+      (rows_with (g.P.PlaceSource.left l.initial.places) (showns (map (λ c. shown_comprehension (comprehension_of c)) l.cs))).shown;
+  left : (rows_with (g.P.PlaceSource.left l.places)
+      (showns (map (λ c. shown_comprehension (comprehension_of c)) (drop l.c-index l.cs)))).left ≡
+      (rows_with (g.P.PlaceSource.left l.initial.places) (showns (map (λ c. shown_comprehension (comprehension_of c)) l.cs))).left;
   indentation : string_bytes l.indentation ≡ string_bytes l.initial.indentation;
 }
 
@@ -90,11 +92,11 @@ decreases-lists::show_keywords g l = 5 * weight (Row (showns (map (λ k. shown_k
 abbrev pub invariant-lists::show_keywords-loop-k : goal.invariant-lists::show_keywords-loop-k
 invariant-lists::show_keywords-loop-k g l = record {
   text : string_bytes l.out ++ members l.style (string_bytes l.initial.indentation) l.first
-      (rows_with (g.P.Places.left l.places) (showns (map (λ k. shown_keyword (keyword_of k)) (drop l.k-index l.ks)))).shown
+      (rows_with (g.P.PlaceSource.left l.places) (showns (map (λ k. shown_keyword (keyword_of k)) (drop l.k-index l.ks)))).shown
       ≡ string_bytes l.initial.out ++ members l.style (string_bytes l.initial.indentation) true
-      (rows_with (g.P.Places.left l.initial.places) (showns (map (λ k. shown_keyword (keyword_of k)) l.ks))).shown;
-  left : (rows_with (g.P.Places.left l.places) (showns (map (λ k. shown_keyword (keyword_of k)) (drop l.k-index l.ks)))).left ≡
-      (rows_with (g.P.Places.left l.initial.places) (showns (map (λ k. shown_keyword (keyword_of k)) l.ks))).left;
+      (rows_with (g.P.PlaceSource.left l.initial.places) (showns (map (λ k. shown_keyword (keyword_of k)) l.ks))).shown;
+  left : (rows_with (g.P.PlaceSource.left l.places) (showns (map (λ k. shown_keyword (keyword_of k)) (drop l.k-index l.ks)))).left ≡
+      (rows_with (g.P.PlaceSource.left l.initial.places) (showns (map (λ k. shown_keyword (keyword_of k)) l.ks))).left;
   indentation : string_bytes l.indentation ≡ string_bytes l.initial.indentation;
 }
 
@@ -104,11 +106,11 @@ decreases-lists::show_args g l = 5 * weight (Row (showns (map (λ a. shown_arg (
 abbrev pub invariant-lists::show_args-loop-a : goal.invariant-lists::show_args-loop-a
 invariant-lists::show_args-loop-a g l = record {
   text : string_bytes l.out ++ members l.style (string_bytes l.initial.indentation) l.first
-      (rows_with (g.P.Places.left l.places) (showns (map (λ a. shown_arg (arg_of a)) (drop l.a-index l.all)))).shown
+      (rows_with (g.P.PlaceSource.left l.places) (showns (map (λ a. shown_arg (arg_of a)) (drop l.a-index l.all)))).shown
       ≡ string_bytes l.initial.out ++ members l.style (string_bytes l.initial.indentation) true
-      (rows_with (g.P.Places.left l.initial.places) (showns (map (λ a. shown_arg (arg_of a)) l.all))).shown;
-  left : (rows_with (g.P.Places.left l.places) (showns (map (λ a. shown_arg (arg_of a)) (drop l.a-index l.all)))).left ≡
-      (rows_with (g.P.Places.left l.initial.places) (showns (map (λ a. shown_arg (arg_of a)) l.all))).left;
+      (rows_with (g.P.PlaceSource.left l.initial.places) (showns (map (λ a. shown_arg (arg_of a)) l.all))).shown;
+  left : (rows_with (g.P.PlaceSource.left l.places) (showns (map (λ a. shown_arg (arg_of a)) (drop l.a-index l.all)))).left ≡
+      (rows_with (g.P.PlaceSource.left l.initial.places) (showns (map (λ a. shown_arg (arg_of a)) l.all))).left;
   indentation : string_bytes l.indentation ≡ string_bytes l.initial.indentation;
 }
 
@@ -132,11 +134,11 @@ decreases-lists::show_aliases g l = 5 * weight (Row (showns (map (λ a. shown_al
 abbrev pub invariant-lists::show_aliases-loop-a : goal.invariant-lists::show_aliases-loop-a
 invariant-lists::show_aliases-loop-a g l = record {
   text : string_bytes l.out ++ members l.style (string_bytes l.initial.indentation) l.first
-      (rows_with (g.P.Places.left l.places) (showns (map (λ a. shown_alias (alias_of a)) (drop l.a-index l.names)))).shown
+      (rows_with (g.P.PlaceSource.left l.places) (showns (map (λ a. shown_alias (alias_of a)) (drop l.a-index l.names)))).shown
       ≡ string_bytes l.initial.out ++ members l.style (string_bytes l.initial.indentation) true
-      (rows_with (g.P.Places.left l.initial.places) (showns (map (λ a. shown_alias (alias_of a)) l.names))).shown;
-  left : (rows_with (g.P.Places.left l.places) (showns (map (λ a. shown_alias (alias_of a)) (drop l.a-index l.names)))).left ≡
-      (rows_with (g.P.Places.left l.initial.places) (showns (map (λ a. shown_alias (alias_of a)) l.names))).left;
+      (rows_with (g.P.PlaceSource.left l.initial.places) (showns (map (λ a. shown_alias (alias_of a)) l.names))).shown;
+  left : (rows_with (g.P.PlaceSource.left l.places) (showns (map (λ a. shown_alias (alias_of a)) (drop l.a-index l.names)))).left ≡
+      (rows_with (g.P.PlaceSource.left l.initial.places) (showns (map (λ a. shown_alias (alias_of a)) l.names))).left;
   indentation : string_bytes l.indentation ≡ string_bytes l.initial.indentation;
 }
 
@@ -146,11 +148,11 @@ decreases-lists::show_items g l = 5 * weight (Row (showns (map (λ item. shown_i
 abbrev pub invariant-lists::show_items-loop-item : goal.invariant-lists::show_items-loop-item
 invariant-lists::show_items-loop-item g l = record {
   text : string_bytes l.out ++ members l.style (string_bytes l.initial.indentation) l.first
-      (rows_with (g.P.Places.left l.places) (showns (map (λ item. shown_item (item_of item)) (drop l.item-index l.items)))).shown
+      (rows_with (g.P.PlaceSource.left l.places) (showns (map (λ item. shown_item (item_of item)) (drop l.item-index l.items)))).shown
       ≡ string_bytes l.initial.out ++ members l.style (string_bytes l.initial.indentation) true
-      (rows_with (g.P.Places.left l.initial.places) (showns (map (λ item. shown_item (item_of item)) l.items))).shown;
-  left : (rows_with (g.P.Places.left l.places) (showns (map (λ item. shown_item (item_of item)) (drop l.item-index l.items)))).left ≡
-      (rows_with (g.P.Places.left l.initial.places) (showns (map (λ item. shown_item (item_of item)) l.items))).left;
+      (rows_with (g.P.PlaceSource.left l.initial.places) (showns (map (λ item. shown_item (item_of item)) l.items))).shown;
+  left : (rows_with (g.P.PlaceSource.left l.places) (showns (map (λ item. shown_item (item_of item)) (drop l.item-index l.items)))).left ≡
+      (rows_with (g.P.PlaceSource.left l.initial.places) (showns (map (λ item. shown_item (item_of item)) l.items))).left;
   indentation : string_bytes l.indentation ≡ string_bytes l.initial.indentation;
 }
 
@@ -160,11 +162,11 @@ decreases-lists::show_type_params g l = 5 * weight (Row (showns (map (λ p. show
 abbrev pub invariant-lists::show_type_params-loop-p : goal.invariant-lists::show_type_params-loop-p
 invariant-lists::show_type_params-loop-p g l = record {
   text : string_bytes l.out ++ members l.style (string_bytes l.initial.indentation) l.first
-      (rows_with (g.P.Places.left l.places) (showns (map (λ p. shown_type_param (type_param_of p)) (drop l.p-index l.all)))).shown
+      (rows_with (g.P.PlaceSource.left l.places) (showns (map (λ p. shown_type_param (type_param_of p)) (drop l.p-index l.all)))).shown
       ≡ string_bytes l.initial.out ++ members l.style (string_bytes l.initial.indentation) true
-      (rows_with (g.P.Places.left l.initial.places) (showns (map (λ p. shown_type_param (type_param_of p)) l.all))).shown;
-  left : (rows_with (g.P.Places.left l.places) (showns (map (λ p. shown_type_param (type_param_of p)) (drop l.p-index l.all)))).left ≡
-      (rows_with (g.P.Places.left l.initial.places) (showns (map (λ p. shown_type_param (type_param_of p)) l.all))).left;
+      (rows_with (g.P.PlaceSource.left l.initial.places) (showns (map (λ p. shown_type_param (type_param_of p)) l.all))).shown;
+  left : (rows_with (g.P.PlaceSource.left l.places) (showns (map (λ p. shown_type_param (type_param_of p)) (drop l.p-index l.all)))).left ≡
+      (rows_with (g.P.PlaceSource.left l.initial.places) (showns (map (λ p. shown_type_param (type_param_of p)) l.all))).left;
   indentation : string_bytes l.indentation ≡ string_bytes l.initial.indentation;
 }
 

@@ -3,11 +3,6 @@
 -- Carries: show_plain_name, show_name, show_constant, push_name_and_context, and of `pytree_dump` the lists and calls.
 use Rattle.std.proofs.Common.{◌≡◌, ℕ, List, if◌then◌else◌, Result, Ok, Err, OnOk, is_ok}
 
--- what follows from what holds where a call did well
-pub on_ok : {T E P Q : Type 0} (r : Result T E) → (P → Q) → OnOk r P → OnOk r Q
-on_ok (Ok x) f h = f h
-on_ok (Err e) f h = tt
-
 -- what holds where the last text was appended
 pub where_pushed : {T E Q : Type 0} (old more new : List ℕ) (r : Result T E) → (new ≡ more → Q)
     → new ≡ (if is_ok r then more else old) → OnOk r Q

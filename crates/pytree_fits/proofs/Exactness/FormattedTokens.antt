@@ -6,7 +6,7 @@ use Rattle.std.specs.Prelude.{◌&&◌, ◌==◌, not, if◌then◌else◌}
 use Rattle.std.specs.List.{list_all, list_any, flat_map}
 use Rattle.std.specs.Str.{all_scalars}
 use Rattle.std.proofs.Math.Utf8.{scalar}
-use Rattle.std.proofs.lemmas.Bool.{and_from}
+use Rattle.std.proofs.lemmas.Bool.{and_from, or_parts}
 use Rattle.std.proofs.lemmas.List.Folds.{list_any-append}
 use Rattle.std.proofs.lemmas.Grind.{flat_map-append}
 use Rattle.pyfstring.specs.Expressions.{behind_expression}
@@ -16,7 +16,6 @@ use Rattle.pyfstring_tokens.specs.FieldTokens.{is_gap}
 use Rattle.pylex_lexeme.specs.declared.kinds.Exact.TheVariants.{LPar, RPar}
 use Rattle.pylex_lexeme.specs.declared.lexeme.Class.{Class}
 use Rattle.pylex_lexeme.specs.declared.lexeme.Class.TheVariants as classes
-use Rattle.pylex_lexeme.proofs.Callers.Booleans.{or_parts_false}
 use Rattle.pylex.specs.declared.kind.Kind.{Kind}
 use Rattle.pylex.specs.declared.kind.Kind.TheVariants as kinds
 use Rattle.pylex.specs.Spots.{kind_of}
@@ -61,9 +60,9 @@ module _ (o : Open) (p : ℕ → Bool) (is_nested : Bool) (terminals : List ℕ 
   elements_walk {k} (kept_text {t = t} q h l) n = walk_both (walk_one _ (kept k t q h) refl) (elements_walk l n)
   elements_walk {k} (a_spec l) n = walk_both (walk_one SpecBegin refl refl) (elements_walk l n)
   elements_walk {k} (a_field {c = c} {t = t} {rest = rest} {ss = ss} {es = es} b h w s l) n =
-      let f = or_parts_false (is_wrong t) (list_any (is_field_of is_wrong) (ss ++ (End ∷ es))) n in
+      let f = or_parts (is_wrong t) (list_any (is_field_of is_wrong) (ss ++ (End ∷ es))) n in
       let g =
-      or_parts_false (list_any (is_field_of is_wrong) ss) (list_any (is_field_of is_wrong) es)
+      or_parts (list_any (is_field_of is_wrong) ss) (list_any (is_field_of is_wrong) es)
       (sym (list_any-append (is_field_of is_wrong) ss (End ∷ es)) ∙ f.1) in
       let e : suc k - 1 ≡ k = omega arith in
       let m : Walk (suc k ∷ o) (k ∷ o) (flat_map (element_terminals terminals) (ss ++ (End ∷ es))) =

@@ -9,7 +9,8 @@ use Rattle.pygrammar.specs.Grammar as G
 use Rattle.pygrammar.specs.Forms as F
 use Rattle.pygrammar.specs.OpenStrings.{Open, open_behind, open_behind_all}
 use Rattle.pygrammar.proofs.Callers.OpenStrings.{expression_closes, target_closes, item_target_closes}
-use Rattle.pytree_fits.proofs.Fields.Closings.{Closes, none, both, sign, word, ident, ended}
+use Rattle.pytree_fits.proofs.Fields.Closings.{Closes, none}
+use Rattle.pytree_fits.proofs.Fields.Closings.{both, sign, word, ident, ended}
 
 expression : {l : Level} {ts : List Terminal} {e : Expr} → G.Derives l ts e → Closes ts
 expression p = record { is = expression_closes p }

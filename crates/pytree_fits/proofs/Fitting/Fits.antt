@@ -1,5 +1,5 @@
 -- Carries: the laws of the slots. On: what the grammar gives to terminals that pass, fits.
-use Rattle.std.proofs.Common.{◌≡◌, refl, subst, ℕ, suc, ◌+◌, ◌-◌, ◌≤◌, arith, List, [], ◌∷◌, ◌++◌, length, Option, Some, None, Bool, true}
+use Rattle.std.proofs.Common.{◌≡◌, refl, subst, ℕ, suc, ◌+◌, ◌≤◌, arith, List, [], ◌∷◌, ◌++◌, length, Option, Some, None, Bool, true}
 use Rattle.std.proofs.Common.{false, cond, map}
 use Rattle.std.specs.Prelude.{◌&&◌, ◌||◌, eqb, leb}
 use Rattle.std.proofs.lemmas.Bool.{and_parts, and_from, eq-eqb, le-leb}
@@ -21,7 +21,7 @@ use Rattle.pygrammar.specs.Forms.{is_whole}
 use Rattle.pygrammar.specs.FormattedStrings.{StringPart, merged, values_of, has_formatted}
 use Rattle.pygrammar.specs.Entries.{Item, Entry, singles, keys, values}
 use Rattle.pygrammar.specs.Grammar as G
-use Rattle.pygrammar.proofs.Callers.OpenStrings.{comp_closes, compared_closes, expression_closes, formatted_closes, spec_closes}
+use Rattle.pygrammar.proofs.Callers.OpenStrings.{comp_closes, compared_closes, expression_closes, formatted_closes, spec_closes, one_less}
 use Rattle.pygrammar.proofs.Callers.OpenStrings.{listing_closes, perhaps_closes, piece_closes, suffix_closes}
 use Rattle.pytree_fits.specs.Tests.{Tests}
 use Rattle.pytree_fits.specs.Slots.{count, count_optional, has_some, is_absent, is_single, fits_at, fits_target, each_fits, perhaps_fits}
@@ -72,9 +72,6 @@ noted b p = by b p refl
     by b G.no_suffix h = refl
     by true (G.suffix p) h = refl
     by false (G.suffix p) h = absurd (cc)
-
-one_less : (n : ℕ) → suc n - 1 ≡ n
-one_less n = omega arith
 
 -- an f-string among some literals is one that may stand there
 pub may_stand : (n : Standing) {u : Bool} {ts : List Terminal} {ps : List StringPart} → G.Literals u ts ps → has_formatted ts ≡ true

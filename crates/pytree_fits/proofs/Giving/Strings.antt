@@ -1,5 +1,5 @@
 -- Carries: the laws of the slots. On: f-strings of what is given are given.
-use Rattle.std.proofs.Common.{◌≡◌, refl, sym, ap, subst, ◌∙◌, inl, inr, ℕ, zero, suc, ◌-◌, arith, List, [], ◌∷◌, ◌++◌, Bool, true, false}
+use Rattle.std.proofs.Common.{◌≡◌, refl, sym, ap, subst, ◌∙◌, inl, inr, ℕ, zero, suc, arith, List, [], ◌∷◌, ◌++◌, Bool, true, false}
 use Rattle.std.proofs.Common.{◌&&◌, append-nil}
 use Rattle.std.specs.Prelude.{leb, not, ◌||◌}
 use Rattle.std.proofs.lemmas.Bool.{and_parts, and_from, or_cases, leb-true}
@@ -14,6 +14,7 @@ use Rattle.pygrammar.specs.Forms.{is_whole}
 use Rattle.pygrammar.specs.FormattedStrings.{StringPart, Text, Field, with_text, merged, values_of, spec_values_of, begins_unicode}
 use Rattle.pygrammar.specs.FormattedStrings.{has_formatted}
 use Rattle.pygrammar.specs.Grammar as G
+use Rattle.pygrammar.proofs.Callers.OpenStrings.{one_less}
 use Rattle.pytree_fits.specs.Literals.{has_text, has_formatted_text}
 use Rattle.pytree_fits.specs.Slots.{is_kind, is_last, have_kind, may_be_joined}
 use Rattle.pytree_fits.proofs.Fields.Standing.{Standing, here, in_string}
@@ -71,9 +72,6 @@ text_of true u k t (p ∷ ps) h =
     ap (λ z. an_expr (Trees.Constant (Values.Str t z)) (spec_values_of u (p ∷ ps)))
     (sym (kind_is (u && not (true && is_last (spec_values_of u (p ∷ ps)))) k h
     ∙ own_kind u (true && is_last (spec_values_of u (p ∷ ps))) (some_left u p ps)))
-
-one_less : (n : ℕ) → suc n - 1 ≡ n
-one_less n = omega arith
 
 module _ (n : Standing) (u s : Bool) where
   pub none_formed : (b : Bool) → Formed n u s b no_exprs

@@ -17,6 +17,7 @@ use Rattle.pygrammar.specs.declared.levels.Level.TheVariants.{BitOr, Elem, Expre
 use Rattle.pytree_height.specs.Heights.{arg_height, arg_heights, comprehension_heights, height, heights, keyword_heights, optional_height}
 use Rattle.pytree_height.specs.Heights.{optional_heights}
 use Rattle.pytoken.specs.Terminals.{in_form}
+use Rattle.pytoken.proofs.Callers.Bodies.{read_again}
 use Rattle.pyunparse_text.specs.Levels.{reaches}
 use Rattle.pyunparse_text.specs.Marks.{in_role}
 use Rattle.pyunparse_text.specs.Pieces.{piece, pieces}
@@ -39,7 +40,7 @@ use Rattle.pyunparse.proofs.Shapes.MeasureLemmas.{call_height, compare_height, d
 use Rattle.pyunparse.proofs.Shapes.MeasureLemmas.{generator_height, joined_height, keyword_height, keyword_only_lower, named_arg_height}
 use Rattle.pyunparse.proofs.Shapes.MeasureLemmas.{parts_height, places_lower, star_lower}
 use Rattle.pyunparse.proofs.Sequences.MemberLemmas.{all_items, all_parts, both_done, both_on, compared_done, compared_on, item_on}
-use Rattle.pyunparse.proofs.Sequences.MemberLemmas.{members_none, no_higher, part_on, read_again, rest_no_higher, take_rest}
+use Rattle.pyunparse.proofs.Sequences.MemberLemmas.{members_none, no_higher, part_on, rest_no_higher, take_rest}
 use Rattle.pyunparse.proofs.ExpressionParts.ParameterLemmas.{D, N, places_on, default_bare, default_none, default_some, parameters_told}
 use Rattle.pyunparse.proofs.ExpressionParts.ParameterLemmas.{plain_done, plain_on, plain_start}
 use Rattle.pyunparse.proofs.ExpressionParts.PartLemmas.{by_name_more, clause_on, kwonly, kwonly_more, no_defaults, no_params, no_keys}

@@ -33,7 +33,7 @@ pub alone_is : (es : List given.Expr) (ks : Keywords) (e : given.Expr) (ts : Lis
 alone_is es ks e ts h read = ap (alone piece) (sym (lone_one es ks e h read))
     ∙ (λ i. if sym h i then alone piece (exprs (map tree_of es)) else ts)
 
-none_each : (es : List given.Expr) → is_nil (each piece Named (exprs (map tree_of es))) ≡ (length es == 0)
+pub none_each : (es : List given.Expr) → is_nil (each piece Named (exprs (map tree_of es))) ≡ (length es == 0)
 unfolding written
 none_each [] = refl
 none_each (e ∷ es) = sym (not_zero (length es))

@@ -16,6 +16,7 @@ use Rattle.pytree_node.specs.Trees.{arguments}
 use Rattle.pytree_node.specs.TreeOf.{arg_of, arg_option_of, tree_of}
 use Rattle.pygrammar.specs.declared.levels.Level.TheVariants.{Expression}
 use Rattle.pytoken.specs.Terminals.{Op}
+use Rattle.pytoken.proofs.Callers.Bodies.{dropped}
 use Rattle.pyunparse_text.specs.Pieces.{Sited, piece}
 use Rattle.pyunparse_text.specs.Written.{behind_equal, beside, defaults, each, free, gathered, listed, names, parameters, trailing}
 use Rattle.pyunparse_text.specs.Written.{with_defaults, with_slash, with_star, written}
@@ -24,7 +25,7 @@ use Rattle.pyunparse.specs.Inner.Members.{members, padded}
 use Rattle.pyunparse.specs.Inner.Parameters.{by_places, default_at, head_default, named, positional, slash_behind}
 use Rattle.pyunparse_text.proofs.Callers.Writing.{not_zero}
 use Rattle.pyunparse.proofs.Sequences.FoldLemmas.{four, three, two}
-use Rattle.pyunparse.proofs.Sequences.MemberLemmas.{dropped, is_nil, members_both, members_none, members_on}
+use Rattle.pyunparse.proofs.Sequences.MemberLemmas.{is_nil, members_both, members_none, members_on}
 
 beside_padded : {A : Type 0} (tss : List (List A)) (n : ℕ) (uss : List (List A)) → length tss ≤ n + length uss
     → beside tss (replicate n [] ++ uss) ≡ padded tss n uss

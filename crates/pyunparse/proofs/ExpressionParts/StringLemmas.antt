@@ -11,13 +11,13 @@ use Rattle.pytree_node.specs.TreeOf.{tree_of}
 use Rattle.pygrammar.specs.declared.levels.Level.TheVariants.{Or}
 use Rattle.pytree_node.specs.Values.{Str}
 use Rattle.pytoken.specs.Terminals.{Literal}
+use Rattle.pytoken.proofs.Callers.Bodies.{dropped}
 use Rattle.pyunparse_text.specs.Pieces.{Sited, piece, pieces, sited, sited_string}
 use Rattle.pyunparse_text.specs.Folds.{Step, Begin, PutText, BeginField, EndExpression, BeginSpec, EndField, puts, puts_elements}
 use Rattle.pyunparse_text.specs.Folds.{sited_in_utf8}
 use Rattle.pyunparse_text.specs.Written.{Element, Text, End, elements_behind, field, first_text, is_unicode, joined, spec_elements, written}
 use Rattle.pyunparse_text.proofs.Callers.Writing.{elements_both}
 use Rattle.pyunparse.specs.Inner.Values.{value_elements}
-use Rattle.pyunparse.proofs.Sequences.MemberLemmas.{dropped}
 
 -- one value, and those behind it
 values_both : (b : Bool) (e : plain.Expr) (es : Exprs) →

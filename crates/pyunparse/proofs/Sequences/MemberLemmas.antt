@@ -7,6 +7,7 @@ use Rattle.pytree_node.specs.declared.operators.Comparison.{Comparison}
 use Rattle.pygrammar.specs.declared.levels.Level.{Level}
 use Rattle.pytree_node.specs.Trees.{exprs}
 use Rattle.pytree_node.specs.TreeOf.{tree_of}
+use Rattle.pytoken.proofs.Callers.Bodies.{dropped}
 use Rattle.pyunparse_text.specs.Levels.{comparison_signs}
 use Rattle.pyunparse_text.specs.Pieces.{Sited, piece, pieces}
 use Rattle.pyunparse_text.specs.Written.{compared, each, free, separated, written}
@@ -17,17 +18,6 @@ use Rattle.pyunparse.proofs.Sequences.FoldLemmas.{puts_append}
 abbrev pub is_nil : {A : Type 0} → List A → Bool
 is_nil [] = true
 is_nil (x ∷ xs) = false
-
-dropped_one : {A : Type 0} (xs : List A) (i : ℕ) (x : A) → i < length xs → x ≡ get_or xs i x → drop i xs ≡ x ∷ drop (suc i) xs
-dropped_one [] i x lt read = absurd (omega (arith, lt))
-dropped_one (y ∷ ys) zero x lt read = ap (λ z. z ∷ ys) (sym read)
-dropped_one (y ∷ ys) (suc i) x lt read = dropped_one ys i x (omega (arith, lt)) read
-
--- what is left of a list, where an item is read
-pub dropped : {A : Type 0} (xs : List A) (i : ℕ) (x : A) → i < length xs → x ≡ get_or xs i x → drop i xs ≡ x ∷ drop (i + 1) xs
-dropped xs i x lt read =
-    let next : suc i ≡ i + 1 = omega arith in
-    dropped_one xs i x lt read ∙ ap (λ n. x ∷ drop n xs) next
 
 -- a member and those behind it
 pub separated_on : {A : Type 0} (t : A) (ts : List A) (tss : List (List A)) → separated t (ts ∷ tss) ≡ ts ++ following t tss
@@ -162,17 +152,6 @@ unfolding written
 compared_done after base o l os es i h so_far =
     sym (ap (puts after o) (ended (λ xs ys. compared piece xs (each piece l (exprs (map tree_of ys)))) (λ _. refl) no_more os es i h))
     ∙ so_far
-
--- an item that is read is what any other reading gives
-pub read_again : {A : Type 0} (xs : List A) (i : ℕ) (d : A) → i < length xs → get_or xs i d ≡ get_or xs i (get_or xs i d)
-read_again [] i d lt = absurd (omega (arith, lt))
-read_again (x ∷ xs) zero d lt = refl
-read_again (x ∷ xs) (suc i) d lt = other xs i d (get_or xs i d) (omega (arith, lt))
-  where
-    other : {A : Type 0} (xs : List A) (i : ℕ) (d e : A) → i < length xs → get_or xs i d ≡ get_or xs i e
-    other [] i d e lt = absurd (omega (arith, lt))
-    other (x ∷ xs) zero d e lt = refl
-    other (x ∷ xs) (suc i) d e lt = other xs i d e (omega (arith, lt))
 
 take_all : {A : Type 0} (xs : List A) (m : ℕ) → m ≡ length xs → take m xs ≡ xs
 take_all [] zero e = refl

@@ -17,19 +17,15 @@ use Rattle.pygrammar.specs.Forms.{case_name, match_name}
 use Rattle.pygrammar.specs.Lines.{case_header, match_header}
 use Rattle.pyunparse_text.specs.Pieces.{Sited, piece, pieces, sited}
 use Rattle.pyunparse_text.specs.Statements.{bases, behind, header_tokens}
-use Rattle.pyunparse_text.specs.Written.{by_name, each, enclosed, free, listed, tight, trailing, word, written}
+use Rattle.pyunparse_text.specs.Written.{by_name, each, enclosed, free, listed, tight, trailing, word}
 use Rattle.pyunparse_text.specs.WrittenPatterns.{written_pattern}
 use Rattle.pyunparse_text.specs.Folds.{puts}
 use Rattle.pyunparse.specs.Inner.Lines.{with_colon}
 use Rattle.pyunparse.specs.Inner.Members.{members}
 use Rattle.pyunparse_text.proofs.Callers.Writing.{not_zero}
 use Rattle.pyunparse.proofs.Sequences.FoldLemmas.{three, two}
-use Rattle.pyunparse.proofs.Sequences.MemberLemmas.{is_nil, members_both}
-
-none_each : (es : List given.Expr) → is_nil (each piece Named (exprs (map tree_of es))) ≡ (length es == 0)
-unfolding written
-none_each [] = refl
-none_each (e ∷ es) = sym (not_zero (length es))
+use Rattle.pyunparse.proofs.Sequences.MemberLemmas.{members_both}
+use Rattle.pyunparse.proofs.ExpressionParts.ArgumentLemmas.{none_each}
 
 -- bases, and keywords behind them
 pub bases_listed : {S : Type 0} (after : S → Sited → S) (s s1 : S) (es : List given.Expr) (ks : Keywords) (b : Bool) →

@@ -9,6 +9,7 @@ use Rattle.pytree_node.specs.declared.statements.Stmt as given_stmt
 use Rattle.pytree_node.specs.Trees
 use Rattle.pytree_node.specs.Trees.{Arguments, Cases, Expr, Identifier, Keywords, Stmts, TypeParam, stmts}
 use Rattle.pytree_node.specs.TreeOf.{stmt_of}
+use Rattle.pytoken.proofs.Callers.Bodies.{dropped}
 use Rattle.pygrammar.specs.Lines.{Header, class_head, else_header, function_head, if_header, loop_header, match_header, while_head}
 use Rattle.pyunparse_text.specs.Spacing.{line_text, lines_text, spaced}
 use Rattle.pyunparse_text.specs.Modules.{WrittenLine, alternative, case_lines, clause, decorators, header, line_of, lines_of}
@@ -18,7 +19,6 @@ use Rattle.pyunparse_text.specs.Folds.{puts}
 use Rattle.pyunparse.specs.Inner.Lines.{Blocked, Wrote, def_lines, in_utf8, with_colon}
 use Rattle.pyunparse_text.specs.Writing.{Writing, behind_sited}
 use Rattle.pyunparse_text.proofs.Callers.Writing.{both, level_kept, line_written, not_zero, one}
-use Rattle.pyunparse.proofs.Sequences.MemberLemmas.{dropped}
 
 blanks_kept : (n : ℕ) → encode_utf8_all (replicate n 32) ≡ replicate n 32
 blanks_kept zero = refl

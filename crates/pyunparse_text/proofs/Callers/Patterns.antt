@@ -2,13 +2,14 @@
 -- read back.
 --
 -- Carries: what pyunparse cites.
-use Rattle.pyunparse_text.specs.Laws.{PatternsAreShortest, PatternBracketsAreWithinHeight, PatternsAreRead}
+use Rattle.pyunparse_text.specs.Laws.{PatternsAreShortest, PatternBracketsAreWithinHeight}
 use Rattle.pyunparse_text.proofs.Fewest.Sizes.{no_more}
 use Rattle.pyunparse_text.proofs.Patterns.Sizes.{same_pattern}
 use Rattle.pyunparse_text.proofs.Patterns.Claims.{here}
 use Rattle.pyunparse_text.proofs.Patterns.Induction.{claim}
 use Rattle.pyunparse_text.proofs.Patterns.Flat.{pattern_brackets}
 use Rattle.pyunparse_text.proofs.Patterns.Readable.{patterns_read}
+pub use Rattle.pyunparse_text.proofs.Patterns.Readable.{patterns_read as patterns_are_read}
 
 pub patterns_are_shortest : PatternsAreShortest
 patterns_are_shortest l ts p told d =
@@ -16,6 +17,3 @@ patterns_are_shortest l ts p told d =
 
 pub pattern_brackets_are_within_height : PatternBracketsAreWithinHeight
 pattern_brackets_are_within_height = pattern_brackets
-
-pub patterns_are_read : PatternsAreRead
-patterns_are_read = patterns_read

@@ -1,8 +1,4 @@
 -- On: what is written is read back.
 --
 -- Carries: what pyunparse cites.
-use Rattle.pyunparse_text.specs.Laws.{ExpressionsAreRead}
-use Rattle.pyunparse_text.proofs.PieceLaws.Law
-
-pub expressions_are_read : ExpressionsAreRead
-expressions_are_read = Law.expressions_read
+pub use Rattle.pyunparse_text.proofs.PieceLaws.Law.{expressions_read as expressions_are_read}

@@ -1,5 +1,5 @@
 -- What callers cite of the tokens in the fields of an f-string. Cited by pytree_fits.
-pub use Rattle.pyunparse_text.proofs.StringTerminals.Bodies.{body_kept, joined, kept_all, kept_pass, none_all, points_kept, single_kept}
+pub use Rattle.pyunparse_text.proofs.StringTerminals.Bodies.{body_kept, joined, kept_pass, none_all, points_kept, single_kept}
 pub use Rattle.pyunparse_text.proofs.StringTerminals.Bodies.{unbraced}
 pub use Rattle.pyunparse_text.proofs.StringTerminals.Bodies.{weaker}
 pub use Rattle.pyunparse_text.proofs.StringTerminals.Brackets.{operator_terminal}
@@ -10,5 +10,7 @@ pub use Rattle.pyunparse_text.proofs.StringTerminals.FieldCharacters.{Literally,
 pub use Rattle.pyunparse_text.proofs.StringTerminals.FieldCharacters.{flat_unquoted, is_calm, is_flat, is_open, literally, no_nuls}
 pub use Rattle.pyunparse_text.proofs.StringTerminals.FieldCharacters.{open_body}
 pub use Rattle.pyunparse_text.proofs.StringTerminals.FieldLexemes.{AllTokens, IsToken, IsWholeField, a_gap, a_token, no_lexeme, whole_field}
-pub use Rattle.pyunparse_text.proofs.StringTerminals.Scanned.{expression_calm, is_no_backslash, never}
+pub use Rattle.pyunparse_text.proofs.StringTerminals.Scanned.{expression_calm, is_no_backslash}
 pub use Rattle.pyunparse_text.proofs.Sources.Decoding.{both_in}
+pub use Rattle.pytoken.proofs.Callers.Bodies.{filter_all as kept_all}
+pub use Rattle.pygrammar.proofs.Callers.OpenStrings.{none_some as never}

@@ -7,13 +7,12 @@ use Rattle.std.proofs.Common.{None}
 use Rattle.std.proofs.Common.{inl, inr}
 use Rattle.std.specs.Char.{is_ascii_alphanumeric}
 use Rattle.std.specs.List.{list_all, list_any}
-use Rattle.std.proofs.lemmas.Bool.{ltb-true, cases_Bool, false_from_ne_true, not-true}
+use Rattle.std.proofs.lemmas.Bool.{ltb-true, cases_Bool, false_from_ne_true, not-true, and_parts, or_parts}
 use Rattle.unicode_ident.specs.Ident.{is_xid_continue}
 use Rattle.unicode_ident.proofs.IdentLemmas.{is_xid_continue-ascii}
 use Rattle.pyfstring.specs.Texts.{begins_with}
 use Rattle.pyfstring.specs.Expressions.{is_quote, is_refused, is_end, opened_by, closed_by, is_empty, begins_comparison, step, scan}
 use Rattle.pyfstring.specs.Expressions.{expression}
-use Rattle.pylex_lexeme.proofs.Callers.Booleans.{and_parts, or_parts_false}
 use Rattle.pyunparse_text.proofs.LexemeFronts.OperatorFronts.{of_any}
 use Rattle.pyunparse_text.proofs.FieldTexts.Conditions.{is_there, is_own, is_inner, is_calm, is_plain}
 
@@ -25,24 +24,24 @@ specials = 39 ∷ 34 ∷ 92 ∷ 35 ∷ 40 ∷ 91 ∷ 123 ∷ 41 ∷ 93 ∷ 125 �
 
 not_special : (c : ℕ) → list_any (eqb c) specials ≡ false → is_plain c ≡ true
 not_special c e =
-    let a1 = or_parts_false (eqb c 39) _ e in
-    let a2 = or_parts_false (eqb c 34) _ a1.1 in
-    let a3 = or_parts_false (eqb c 92) _ a2.1 in
-    let a4 = or_parts_false (eqb c 35) _ a3.1 in
-    let a5 = or_parts_false (eqb c 40) _ a4.1 in
-    let a6 = or_parts_false (eqb c 91) _ a5.1 in
-    let a7 = or_parts_false (eqb c 123) _ a6.1 in
-    let a8 = or_parts_false (eqb c 41) _ a7.1 in
-    let a9 = or_parts_false (eqb c 93) _ a8.1 in
-    let a10 = or_parts_false (eqb c 125) _ a9.1 in
-    let a11 = or_parts_false (eqb c 33) _ a10.1 in
-    let a12 = or_parts_false (eqb c 58) _ a11.1 in
-    let a13 = or_parts_false (eqb c 61) _ a12.1 in
-    let a14 = or_parts_false (eqb c 60) _ a13.1 in
-    let a15 = or_parts_false (eqb c 62) _ a14.1 in
-    let a16 = or_parts_false (eqb c 10) _ a15.1 in
-    let a17 = or_parts_false (eqb c 13) _ a16.1 in
-    let a18 = or_parts_false (eqb c 0) _ a17.1 in
+    let a1 = or_parts (eqb c 39) _ e in
+    let a2 = or_parts (eqb c 34) _ a1.1 in
+    let a3 = or_parts (eqb c 92) _ a2.1 in
+    let a4 = or_parts (eqb c 35) _ a3.1 in
+    let a5 = or_parts (eqb c 40) _ a4.1 in
+    let a6 = or_parts (eqb c 91) _ a5.1 in
+    let a7 = or_parts (eqb c 123) _ a6.1 in
+    let a8 = or_parts (eqb c 41) _ a7.1 in
+    let a9 = or_parts (eqb c 93) _ a8.1 in
+    let a10 = or_parts (eqb c 125) _ a9.1 in
+    let a11 = or_parts (eqb c 33) _ a10.1 in
+    let a12 = or_parts (eqb c 58) _ a11.1 in
+    let a13 = or_parts (eqb c 61) _ a12.1 in
+    let a14 = or_parts (eqb c 60) _ a13.1 in
+    let a15 = or_parts (eqb c 62) _ a14.1 in
+    let a16 = or_parts (eqb c 10) _ a15.1 in
+    let a17 = or_parts (eqb c 13) _ a16.1 in
+    let a18 = or_parts (eqb c 0) _ a17.1 in
     rw (a1.0, a2.0, a3.0, a4.0, a5.0, a6.0, a7.0, a8.0, a9.0, a10.0, a11.0, a12.0, a13.0, a14.0, a15.0, a16.0, a17.0, a18.0) refl
 
 -- those of a set that has none of them
@@ -114,7 +113,7 @@ pass_calm os c cs k n =
 no_equals : (c : ℕ) → is_calm c ≡ true → (c == 61) ≡ false
 no_equals c k =
     let a = and_parts (is_inner c) (not (is_end c)) k in
-    (or_parts_false ((c == 125) || (c == 33) || (c == 58)) (c == 61) (not-true (is_end c) a.1)).1
+    (or_parts ((c == 125) || (c == 33) || (c == 58)) (c == 61) (not-true (is_end c) a.1)).1
 
 -- whatever follows
 pub plain_passed : (os : List Bracket) (t r : List ℕ) → list_all is_plain t ≡ true → scan expression os 0 (t ++ r) ≡ scan expression os 0 r
@@ -126,11 +125,11 @@ plain_passed os (c ∷ t) r a =
     none : (c : ℕ) (cs : List ℕ) → is_plain c ≡ true → begins_comparison (c ∷ cs) ≡ false
     none c cs e =
         let a = and_parts (is_calm c) (not ((c == 60) || (c == 62))) e in
-        let b = or_parts_false (c == 60) (c == 62) (not-true _ a.1) in
+        let b = or_parts (c == 60) (c == 62) (not-true _ a.1) in
         let d = and_parts (is_inner c) (not (is_end c)) a.0 in
-        let f = or_parts_false ((c == 125) || (c == 33) || (c == 58)) (c == 61) (not-true (is_end c) d.1) in
-        let g = or_parts_false ((c == 125) || (c == 33)) (c == 58) f.0 in
-        let i = or_parts_false (c == 125) (c == 33) g.0 in
+        let f = or_parts ((c == 125) || (c == 33) || (c == 58)) (c == 61) (not-true (is_end c) d.1) in
+        let g = or_parts ((c == 125) || (c == 33)) (c == 58) f.0 in
+        let i = or_parts (c == 125) (c == 33) g.0 in
         rw (i.1, f.1, b.0, b.1) refl
 
 -- within brackets

@@ -5,10 +5,9 @@ use Rattle.std.proofs.Common.{◌≡◌, ℕ, ◌+◌, ◌-◌, length, drop, su
 use Rattle.std.proofs.Common.{◌∷◌, ◌++◌}
 use Rattle.std.proofs.Common.{refl, sym, ◌∙◌, ap, append_assoc, append-nil, if◌then◌else◌}
 use Rattle.std.specs.List.{list_all}
-use Rattle.std.proofs.lemmas.Bool.{and_from, cases_Bool, not-true}
+use Rattle.std.proofs.lemmas.Bool.{and_from, cases_Bool, not-true, and_parts, or_parts}
 use Rattle.std.proofs.lemmas.Bool.Decides.{nat_tests}
 use Rattle.pyfstring.specs.Expressions.{is_quote}
-use Rattle.pylex_lexeme.proofs.Callers.Booleans.{and_parts, or_parts_false}
 use Rattle.pyunparse_text.specs.Spacing.{Piece}
 use Rattle.pyunparse_text.specs.Tokens.{opens, closes, closes_all}
 use Rattle.pyunparse_text.proofs.FieldTexts.Conditions.{is_pair, is_within, closes_last, ends_field, are_enclosed, is_inner, is_calm}
@@ -111,7 +110,7 @@ literal_plain (c ∷ a) t e b =
     plain_quote c h =
         let i = and_parts (is_inner c) _ (and_parts (is_calm c) _ h).0 in
         let o = and_parts (is_own c) _ i.0 in
-        (or_parts_false (c == 39) (c == 34) (not-true (is_quote c) (and_parts (not (is_quote c)) _ o.0).0)).1
+        (or_parts (c == 39) (c == 34) (not-true (is_quote c) (and_parts (not (is_quote c)) _ o.0).0)).1
 
     otherwise : (b x y : Bool) → b ≡ false → y ≡ true → (if b then x else y) ≡ true
     otherwise true x y h e = cc

@@ -7,7 +7,7 @@ use Rattle.std.proofs.Common.{if◌then◌else◌, length-append}
 use Rattle.std.specs.List.{list_all}
 use Rattle.std.specs.Str.{bytes_eq}
 use Rattle.std.proofs.lemmas.List.{take-append-le}
-use Rattle.std.proofs.lemmas.Bool.{cases_Bool}
+use Rattle.std.proofs.lemmas.Bool.{cases_Bool, and_parts}
 use Rattle.std.proofs.Math.Bool.{and-false}
 use Rattle.pyfstring.specs.Texts.{begins_with}
 use Rattle.pylex.specs.declared.kind.Kind.{Kind}
@@ -16,14 +16,14 @@ use Rattle.pylex.specs.Laws.{AreLexemes}
 use Rattle.pylex.proofs.Callers.{cut_lexed}
 use Rattle.pylex_lexeme.specs.Lexemes.{Lexeme, cut, left_by_cut}
 use Rattle.pylex_lexeme.specs.Operators.{is_operator}
-use Rattle.pylex_lexeme.proofs.Callers.Booleans.{and_parts}
 use Rattle.pylex_lexeme.proofs.Callers.Lexemes.{none_is, nothing_takes}
 use Rattle.pyunparse_text.specs.Spacing.{Piece, is_token, touches, text_behind, stay_apart, are_two_points, all_apart, are_readable}
 use Rattle.pyunparse_text.specs.Inner.Relexed.{lexeme_of, blanks, lexemes_behind, lexemes_of}
 use Rattle.pyunparse_text.proofs.LexemeFronts.Fronts.{blanks_front}
-use Rattle.pyunparse_text.proofs.LexemeFronts.LineCuts.{Same, same_lexemes}
+use Rattle.pyunparse_text.proofs.LexemeFronts.LineCuts.{Same}
 use Rattle.pyunparse_text.proofs.LexemeFronts.PieceFronts.{IsPiece, ArePieces, Clear, clear_behind, none_empty, token_front, token_no_blank}
 use Rattle.pyunparse_text.proofs.FieldTexts.Conditions.{expression_text}
+use Rattle.pyunparse_text.proofs.LexemeFronts.LineCuts.{same_lexemes}
 
 -- ---- What stands behind a piece doesn't join it, if no line's end stands behind that either.
 

@@ -8,7 +8,7 @@ use Rattle.std.specs.Prelude.{nat_lt}
 use Rattle.std.specs.List.{list_all, list_any, flat_map}
 use Rattle.std.specs.Str.{all_scalars}
 use Rattle.std.proofs.Math.Utf8.{low_scalar}
-use Rattle.std.proofs.lemmas.Bool.{and_from, ltb-true, not-true}
+use Rattle.std.proofs.lemmas.Bool.{and_from, ltb-true, not-true, and_parts}
 use Rattle.std.proofs.lemmas.Bool.Decides.{nat_tests}
 use Rattle.std.proofs.lemmas.List.Folds.{list_all-append}
 use Rattle.std.proofs.Math.Bool.{or-true}
@@ -16,7 +16,6 @@ use Rattle.pyfstring.specs.Expressions.{is_quote}
 use Rattle.pylex.specs.declared.kind.Kind.TheVariants as kinds
 use Rattle.pylex_lexeme.specs.Chars.{is_comment_part}
 use Rattle.pylex_lexeme.specs.Strings.{is_single, is_single_string, is_prefix, is_string}
-use Rattle.pylex_lexeme.proofs.Callers.Booleans.{and_parts}
 use Rattle.pytree_node.specs.Values.{Value, Str, Bytes}
 use Rattle.pytoken.specs.declared.meanings.Meaning.{Meaning}
 use Rattle.pytoken.specs.declared.meanings.Meaning.TheVariants.{Point}

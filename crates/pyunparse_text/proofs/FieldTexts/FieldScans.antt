@@ -5,7 +5,7 @@ use Rattle.std.proofs.Common.{◌≡◌, ℕ, Bool, true, false, not, ◌||◌, 
 use Rattle.std.proofs.Common.{arith}
 use Rattle.std.proofs.Common.{eqb, Some, inl, inr, if◌then◌else◌, append_assoc}
 use Rattle.std.specs.List.{list_all, list_any}
-use Rattle.std.proofs.lemmas.Bool.{cases_Bool, eqb-true, false_from_ne_true}
+use Rattle.std.proofs.lemmas.Bool.{cases_Bool, eqb-true, false_from_ne_true, and_parts}
 use Rattle.unicode_ident.proofs.IdentLemmas.{is_xid_start-ascii}
 use Rattle.pyfstring.specs.Texts.{begins_with}
 use Rattle.pyfstring.specs.Expressions.{step, scan, expression, behind_expression}
@@ -16,7 +16,6 @@ use Rattle.pylex_lexeme.specs.Chars.{begins, starts_name}
 use Rattle.pylex_lexeme.specs.Numbers.{is_decimal_digit}
 use Rattle.pylex_lexeme.specs.Operators.{is_operator}
 use Rattle.pylex_lexeme.specs.Strings.{begins_quote, lower, prefixes}
-use Rattle.pylex_lexeme.proofs.Callers.Booleans.{and_parts}
 use Rattle.pylex_lexeme.proofs.Callers.Lexemes.{words, heads}
 use Rattle.pyunparse_text.specs.Spacing.{Piece, is_token, touches, text_behind, stay_apart, are_two_points, all_apart, are_readable}
 use Rattle.pyunparse_text.specs.Tokens.{opens_within}

@@ -6,7 +6,7 @@ use Rattle.std.proofs.Common.{◌∙◌, ap, ap₂}
 use Rattle.std.proofs.Common.{subst, arith, Option, Some, None, inl, inr, if◌then◌else◌}
 use Rattle.std.specs.List.{list_all, list_any}
 use Rattle.std.specs.Str.{all_scalars}
-use Rattle.std.proofs.lemmas.Bool.{eqb-true, cases_Bool, not-true}
+use Rattle.std.proofs.lemmas.Bool.{eqb-true, cases_Bool, not-true, and_parts}
 use Rattle.std.proofs.lemmas.Bool.Decides.{nat_tests}
 use Rattle.std.proofs.lemmas.List.Sums.{sum_by-cons}
 use Rattle.pyfstring.specs.Texts.{begins_with}
@@ -24,7 +24,6 @@ use Rattle.pylex_lexeme.specs.declared.lexeme.Class.{Class}
 use Rattle.pylex_lexeme.specs.declared.lexeme.Class.TheVariants.{Operator, Join}
 use Rattle.pylex_lexeme.specs.Lexemes.{Lexeme, is_opener_class, is_closer_class}
 use Rattle.pylex_lexeme.specs.Operators.{exact_of, is_operator, is_opener, is_closer}
-use Rattle.pylex_lexeme.proofs.Callers.Booleans.{and_parts}
 use Rattle.pytoken.specs.FormattedStrings.{has_no_tokens}
 use Rattle.pyunparse_text.specs.Spacing.{Piece, is_token, touches, text_behind, all_apart, are_readable}
 use Rattle.pyunparse_text.specs.Tokens.{exact_in, token_of, opens, closes, closes_all}

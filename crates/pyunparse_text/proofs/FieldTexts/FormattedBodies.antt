@@ -6,7 +6,7 @@ use Rattle.std.proofs.Common.{subst}
 use Rattle.std.proofs.Common.{if◌then◌else◌}
 use Rattle.std.specs.List.{list_all}
 use Rattle.std.specs.Str.{all_scalars}
-use Rattle.std.proofs.lemmas.Bool.{and_from, cases_Bool, eqb-true, not-true}
+use Rattle.std.proofs.lemmas.Bool.{and_from, cases_Bool, eqb-true, not-true, and_parts, or_parts}
 use Rattle.std.proofs.lemmas.Grind.{flat_map-append}
 use Rattle.pyfstring.specs.declared.parts.Conversion.{Conversion}
 use Rattle.pyfstring.specs.declared.parts.Conversion.TheVariants as conversions
@@ -18,12 +18,12 @@ use Rattle.pylex.specs.declared.kind.Kind.TheVariants as kinds
 use Rattle.pylex_lexeme.specs.Chars.{is_comment_part}
 use Rattle.pylex_lexeme.specs.Numbers.{is_number}
 use Rattle.pylex_lexeme.specs.Operators.{is_operator}
-use Rattle.pylex_lexeme.proofs.Callers.Booleans.{and_parts, or_parts_false}
 use Rattle.pylex_lexeme.proofs.Callers.Lexemes.{words, by_words}
+use Rattle.pylex_lexeme.proofs.Callers.WholeLines.{one_of}
 use Rattle.pyunparse_text.specs.Spacing.{Piece, is_token, touches, text_behind, all_apart}
 use Rattle.pyunparse_text.specs.Written.{Element, End}
 use Rattle.pyunparse_text.specs.Pieces.{Sited, in_field, conversion_text, field_text, element_text, quote, character_text}
-use Rattle.pyunparse_text.proofs.LexemeFronts.PieceFronts.{ArePieces, words_all}
+use Rattle.pyunparse_text.proofs.LexemeFronts.PieceFronts.{ArePieces}
 use Rattle.pyunparse_text.proofs.SingleTokens.Literals.{Skips, own_skips, both_skip, none_skip}
 use Rattle.pyunparse_text.proofs.Sources.Bytes.{scalars_both}
 use Rattle.pyunparse_text.proofs.FieldTexts.Conditions.{is_own, is_inner, is_calm, is_plain, ends_plainly, is_plain_literal, is_plain_piece}
@@ -75,7 +75,7 @@ own_free is_in_field c o =
     let p2 = and_parts (not (c == 92)) _ p1.1 in
     let p3 = and_parts (is_comment_part c) (not (c == 0)) p2.1 in
     let p4 = and_parts (not (c == 10)) (not (c == 13)) p3.0 in
-    let q = or_parts_false (c == 39) (c == 34) (not-true (is_quote c) p1.0) in
+    let q = or_parts (c == 39) (c == 34) (not-true (is_quote c) p1.0) in
     record {
       skips =
           own_skips (quote is_in_field) c
@@ -135,7 +135,7 @@ plain_in_quotes is_in_field c e =
     own_in_quotes is_in_field c (and_parts (is_own c) _ (and_parts (is_inner c) _ (and_parts (is_calm c) _ e).0).0).0
 
 operator_own : (t : List ℕ) → is_operator t ≡ true → list_all is_own t ≡ true
-operator_own t e = words_all (list_all is_own) t words refl (sym (by_words t) ∙ e)
+operator_own t e = one_of (list_all is_own) t words refl (sym (by_words t) ∙ e)
 
 -- a literal in double quotes
 ends_in_quotes : (t : List ℕ) → ends_plainly 34 t ≡ true → list_all (is_in_quotes false) t ≡ true

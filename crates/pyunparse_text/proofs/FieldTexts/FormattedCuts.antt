@@ -6,7 +6,7 @@ use Rattle.std.proofs.Common.{append_assoc}
 use Rattle.std.proofs.Common.{append-nil, inl, inr, is_some}
 use Rattle.std.specs.List.{list_all, flat_map}
 use Rattle.std.proofs.lemmas.Grind.{flat_map-append}
-use Rattle.std.proofs.lemmas.Bool.{cases_Bool}
+use Rattle.std.proofs.lemmas.Bool.{cases_Bool, and_parts}
 use Rattle.pyfstring.specs.declared.parts.Conversion.{Conversion}
 use Rattle.pyfstring.specs.declared.parts.Conversion.TheVariants as conversions
 use Rattle.pyfstring.specs.declared.parts.Manner.{Manner}
@@ -18,7 +18,6 @@ use Rattle.pyfstring.specs.Pieces.{unspecified, specified, IsField, Cuts, last_t
 use Rattle.pyfstring.specs.Cutting.{cut_of}
 use Rattle.pyfstring.proofs.Callers.Law.{cut_of_complete}
 use Rattle.pylex.specs.declared.kind.Kind.TheVariants as kinds
-use Rattle.pylex_lexeme.proofs.Callers.Booleans.{and_parts}
 use Rattle.pyunparse_text.specs.Spacing.{Piece, is_token, text_behind, all_apart, are_readable}
 use Rattle.pyunparse_text.specs.Written.{Element, Text, Field, Spec, End}
 use Rattle.pyunparse_text.specs.Pieces.{Sited, in_field, conversion_text, field_text, element_text}

@@ -6,11 +6,11 @@ use Rattle.std.proofs.Common.{◌≡◌, ℕ, Bool, true, false, List, [], ◌�
 use Rattle.std.specs.List.{list_any}
 use Rattle.std.specs.Str.{all_scalars}
 use Rattle.std.proofs.lemmas.Grind.{flat_map-append}
+use Rattle.std.proofs.lemmas.Bool.{or_parts}
 use Rattle.pyfstring.specs.Parts.{FieldParts, BodyPart}
 use Rattle.pyfstring_tokens.specs.Laws.{HasOwnTokens}
 use Rattle.pylex.specs.declared.kind.Kind.{Kind}
 use Rattle.pylex.specs.declared.kind.Kind.TheVariants as kinds
-use Rattle.pylex_lexeme.proofs.Callers.Booleans.{or_parts_false}
 use Rattle.pytree_node.specs.declared.profiles.Extent.TheVariants.{Whole}
 use Rattle.pytoken.specs.declared.faults.TokenError.{TokenError}
 use Rattle.pytoken.specs.Terminals.{FormattedBegin, FormattedEnd, terminals_by, terminals_of, nested_expression, expression, single_fault}
@@ -84,7 +84,7 @@ none_faulty : (fault : Kind → List ℕ → Option TokenError) (test : List ℕ
     → list_any (λ ps. test (expression_text ps)) pss ≡ false
 none_faulty fault test h [] e n = refl
 none_faulty fault test h (ps ∷ pss) e n =
-    let p = or_parts_false (has_fault_by fault ps) (list_any (has_fault_by fault) pss) n in
+    let p = or_parts (has_fault_by fault ps) (list_any (has_fault_by fault) pss) n in
     let a = h ps e.0 p.0 in
     rw a (none_faulty fault test h pss e.1 p.1)
 

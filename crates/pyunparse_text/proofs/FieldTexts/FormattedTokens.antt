@@ -8,7 +8,7 @@ use Rattle.std.proofs.Common.{ap, ap₂, subst}
 use Rattle.std.specs.Prelude.{option_map}
 use Rattle.std.specs.List.{list_all, list_any}
 use Rattle.std.specs.Str.{all_scalars}
-use Rattle.std.proofs.lemmas.Bool.{and_from, eqb-true, false_from_ne_true, not-true}
+use Rattle.std.proofs.lemmas.Bool.{and_from, eqb-true, false_from_ne_true, not-true, and_parts}
 use Rattle.std.proofs.lemmas.List.Folds.{list_all-append}
 use Rattle.pyfstring.specs.Parts.{BodyPart}
 use Rattle.pyfstring.specs.Cutting.{cut_of}
@@ -16,7 +16,6 @@ use Rattle.pylex.specs.declared.kind.Kind.TheVariants as kinds
 use Rattle.pylex_lexeme.specs.Chars.{is_comment_part}
 use Rattle.pylex_lexeme.specs.Numbers.{is_nil}
 use Rattle.pylex_lexeme.specs.Strings.{begins_three, units, ends_by_one, no_units, is_unit, is_single, is_single_string, is_prefix}
-use Rattle.pylex_lexeme.proofs.Callers.Booleans.{and_parts}
 use Rattle.pylex_lexeme.proofs.Callers.Strings.{nil_units, unit_one, units_plain}
 use Rattle.pytoken.specs.StringValues.{with_line_feeds, is_quote, is_raw, is_formatted, inside, body_of, nul_fault}
 use Rattle.pytoken.specs.FormattedStrings.{is_fstring, is_bulky, elements_of, body_part_elements}

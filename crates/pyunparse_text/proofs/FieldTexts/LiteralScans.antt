@@ -3,12 +3,11 @@
 -- Carries: literal_scanned, for PieceScans. On: Conditions, Characters.
 use Rattle.std.proofs.Common.{◌≡◌, ℕ, Bool, true, false, not, ◌&&◌, ◌==◌, List, [], ◌∷◌, ◌++◌, refl, sym, ◌∙◌, subst, inl, inr}
 use Rattle.std.proofs.Common.{if◌then◌else◌}
-use Rattle.std.proofs.lemmas.Bool.{and_from, cases_Bool, eqb-true, not-true}
+use Rattle.std.proofs.lemmas.Bool.{and_from, cases_Bool, eqb-true, not-true, or_cases, and_parts, or_parts}
 use Rattle.std.specs.List.{list_all}
 use Rattle.pyfstring.specs.Texts.{begins_with}
 use Rattle.pyfstring.specs.Expressions.{is_quote, begins_three, step, scan, expression, shortstring}
 use Rattle.pylex_lexeme.specs.Strings.{begins_quote}
-use Rattle.pylex_lexeme.proofs.Callers.Booleans.{and_parts, or_parts, or_parts_false}
 use Rattle.pyunparse_text.proofs.FieldTexts.Conditions.{is_plain, is_own, ends_plainly, is_plain_literal}
 use Rattle.pyunparse_text.proofs.FieldTexts.Characters.{Bracket, plain_passed}
 
@@ -19,7 +18,7 @@ record IsQuote (q : ℕ) : Type 0 where
   pub itself : (q == q) ≡ true
 
 quote_of : (q : ℕ) → is_quote q ≡ true → IsQuote q
-quote_of q e = elim (or_parts (q == 39) (q == 34) e) [
+quote_of q e = elim (or_cases (q == 39) (q == 34) e) [
   | inl h ↦ subst IsQuote (sym (eqb-true q 39 h)) (record { quote = refl; slash = refl; itself = refl })
   | inr h ↦ subst IsQuote (sym (eqb-true q 34 h)) (record { quote = refl; slash = refl; itself = refl })
 ]
@@ -28,9 +27,9 @@ quote_of q e = elim (or_parts (q == 39) (q == 34) e) [
 own_is : (q c : ℕ) → is_quote q ≡ true → is_own c ≡ true → ((c == q) ≡ false) × ((c == 92) ≡ false)
 own_is q c e b =
     let p = and_parts (not (is_quote c)) _ b in
-    let n = or_parts_false (c == 39) (c == 34) (not-true (is_quote c) p.0) in
+    let n = or_parts (c == 39) (c == 34) (not-true (is_quote c) p.0) in
     let s = and_parts (not (c == 92)) _ p.1 in (
-      elim (or_parts (q == 39) (q == 34) e) [
+      elim (or_cases (q == 39) (q == 34) e) [
         | inl h ↦ subst (λ (x : ℕ). (c == x) ≡ false) (sym (eqb-true q 39 h)) n.0
         | inr h ↦ subst (λ (x : ℕ). (c == x) ≡ false) (sym (eqb-true q 34 h)) n.1
       ],
@@ -40,8 +39,8 @@ own_is q c e b =
 no_quote : (q : ℕ) (r : List ℕ) → is_quote q ≡ true → begins_quote r ≡ false → begins_with q r ≡ false
 no_quote q [] e n = refl
 no_quote q (c ∷ r) e n =
-    let p = or_parts_false (c == 39) (c == 34) n in
-    elim (or_parts (q == 39) (q == 34) e) [
+    let p = or_parts (c == 39) (c == 34) n in
+    elim (or_cases (q == 39) (q == 34) e) [
       | inl h ↦ subst (λ (x : ℕ). (c == x) ≡ false) (sym (eqb-true q 39 h)) p.0
       | inr h ↦ subst (λ (x : ℕ). (c == x) ≡ false) (sym (eqb-true q 34 h)) p.1
     ]

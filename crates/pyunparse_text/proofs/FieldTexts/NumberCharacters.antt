@@ -4,6 +4,7 @@
 use Rattle.std.proofs.Common.{◌≡◌, ℕ, Bool, true, not, ◌||◌, ◌==◌, List, [], ◌∷◌, refl, ⊎_elim, arith}
 use Rattle.std.specs.List.{list_all}
 use Rattle.std.proofs.lemmas.Bool.Decides.{nat_tests}
+use Rattle.std.proofs.lemmas.Bool.{or_cases, and_parts}
 use Rattle.pyfstring.specs.Characters.{backslash}
 use Rattle.pyfstring.specs.Expressions.{is_quote}
 use Rattle.pylex_lexeme.specs.Chars.{is_comment_part}
@@ -11,7 +12,6 @@ use Rattle.pylex_lexeme.specs.Numbers.{is_nil, split_any, optional, headed, are_
 use Rattle.pylex_lexeme.specs.Numbers.{is_hex_digit, is_octal_digit, is_point, is_e, is_radix, is_point_after, is_point_before, is_raised}
 use Rattle.pylex_lexeme.specs.Numbers.{is_float}
 use Rattle.pylex_lexeme.specs.Numbers.{is_imaginary, is_number}
-use Rattle.pylex_lexeme.proofs.Callers.Booleans.{and_parts, or_parts}
 use Rattle.pylex_lexeme.proofs.Callers.Fronts.{joined_all, split_all}
 use Rattle.pylex_lexeme.proofs.Callers.Numbers.{digit_bounds, either, zero_digit, decimal_part, part_all}
 use Rattle.pyunparse_text.proofs.FieldTexts.Conditions.{is_own, is_inner, is_calm, is_plain}
@@ -46,7 +46,7 @@ then_plain : {p q : List ℕ → Bool} → IsPlain p → IsPlain q → IsPlain (
 then_plain {p = p} {q = q} f g t e = split_all is_plain p q true t f g e
 
 or_plain : {p q : List ℕ → Bool} → IsPlain p → IsPlain q → IsPlain (λ t. p t || q t)
-or_plain {p = p} {q = q} f g t e = ⊎_elim (f t) (g t) (or_parts (p t) (q t) e)
+or_plain {p = p} {q = q} f g t e = ⊎_elim (f t) (g t) (or_cases (p t) (q t) e)
 
 nil_plain : IsPlain is_nil
 nil_plain [] e = refl

@@ -7,7 +7,7 @@ use Rattle.std.proofs.Common.{subst, arith, Option, Some, None, inl, inr, length
 use Rattle.std.specs.Prelude.{codes, nat_lt, slice_get}
 use Rattle.std.specs.List.{list_all, list_any}
 use Rattle.std.specs.Str.{bytes_eq}
-use Rattle.std.proofs.lemmas.Bool.{cases_Bool, not-true}
+use Rattle.std.proofs.lemmas.Bool.{cases_Bool, not-true, or_cases, and_parts}
 use Rattle.std.proofs.lemmas.Bool.Decides.{nat_tests}
 use Rattle.std.proofs.lemmas.List.{take_at}
 use Rattle.std.proofs.lemmas.Slice.Eq.{bytes_eq-Decides}
@@ -16,10 +16,9 @@ use Rattle.pyfstring.specs.Expressions.{is_quote, is_refused, is_end, opened_by,
 use Rattle.pyfstring.specs.Expressions.{scan}
 use Rattle.pyfstring.specs.Expressions.{expression}
 use Rattle.pylex_lexeme.specs.Operators.{operators, exact_of, is_operator}
-use Rattle.pylex_lexeme.proofs.Callers.Booleans.{and_parts, or_parts}
 use Rattle.pylex_lexeme.proofs.Callers.Lexemes.{words, by_words}
+use Rattle.pylex_lexeme.proofs.Callers.WholeLines.{one_of}
 use Rattle.pyunparse_text.specs.Tokens.{is_opening, is_closing}
-use Rattle.pyunparse_text.proofs.LexemeFronts.PieceFronts.{words_all}
 use Rattle.pyunparse_text.proofs.FieldTexts.Conditions.{is_there, is_inner, is_calm, is_plain, is_pair, is_within, is_comparison, ends_text}
 use Rattle.pyunparse_text.proofs.FieldTexts.Conditions.{most_open}
 use Rattle.pyunparse_text.proofs.FieldTexts.Characters.{Bracket, plain_passed, inner_passed, calm_passed}
@@ -100,7 +99,7 @@ openers = codes "(" ∷ codes "[" ∷ codes "{" ∷ []
 
 opening_shape : (t : List ℕ) → is_operator t ≡ true → (not (is_opening t) || list_any (bytes_eq t) openers) ≡ true
 unfolding exact_of operators openers
-opening_shape t e = words_all (λ t. not (is_opening t) || list_any (bytes_eq t) openers) t words refl (sym (by_words t) ∙ e)
+opening_shape t e = one_of (λ t. not (is_opening t) || list_any (bytes_eq t) openers) t words refl (sym (by_words t) ∙ e)
 
 opener_of : (t : List ℕ) → is_operator t ≡ true → is_opening t ≡ true → Opener t
 unfolding openers
@@ -199,13 +198,13 @@ is_bracket t = is_opening t || is_closing t
 
 inside_shape : (t : List ℕ) → is_operator t ≡ true → (is_bracket t || list_all is_inner t) ≡ true
 unfolding exact_of operators
-inside_shape t e = words_all (λ t. is_bracket t || list_all is_inner t) t words refl (sym (by_words t) ∙ e)
+inside_shape t e = one_of (λ t. is_bracket t || list_all is_inner t) t words refl (sym (by_words t) ∙ e)
 
 outside_shape : (t : List ℕ) → is_operator t ≡ true
     → (is_bracket t || (ends_text t || (is_comparison t || (list_all is_plain t || (list_all is_calm t && joins_equals t))))) ≡ true
 unfolding is_operator exact_of operators
 outside_shape t e =
-    words_all (λ t. is_bracket t ||
+    one_of (λ t. is_bracket t ||
     (ends_text t || (is_comparison t || (list_all is_plain t || (list_all is_calm t && joins_equals t))))) t words
     refl (sym (by_words t) ∙ e)
 
@@ -236,9 +235,9 @@ operator_scanned t r none e o c n f =
     (outside_shape t e) in
     let m : ends_text t ≡ false = not-true (ends_text t) n in
     let b : (is_comparison t || (list_all is_plain t || (list_all is_calm t && joins_equals t))) ≡ true = rw m at a in
-    elim (or_parts (is_comparison t) (list_all is_plain t || (list_all is_calm t && joins_equals t)) b) [
+    elim (or_cases (is_comparison t) (list_all is_plain t || (list_all is_calm t && joins_equals t)) b) [
       | inl h ↦ comparison_scanned t r h
-      | inr h ↦ elim (or_parts (list_all is_plain t) (list_all is_calm t && joins_equals t) h) [
+      | inr h ↦ elim (or_cases (list_all is_plain t) (list_all is_calm t && joins_equals t) h) [
         | inl i ↦ plain_passed [] t r i
         | inr i ↦ let p = and_parts (list_all is_calm t) (joins_equals t) i in calm_passed [] t r p.0 (f p.1)
       ]

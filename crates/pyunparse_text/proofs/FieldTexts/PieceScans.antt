@@ -5,7 +5,7 @@ use Rattle.std.proofs.Common.{◌≡◌, ℕ, ◌+◌, ◌-◌, true, false, not
 use Rattle.std.proofs.Common.{inr}
 use Rattle.std.specs.Prelude.{nat_lt}
 use Rattle.std.specs.List.{list_all}
-use Rattle.std.proofs.lemmas.Bool.{cases_Bool}
+use Rattle.std.proofs.lemmas.Bool.{cases_Bool, and_parts}
 use Rattle.unicode_ident.specs.Ident.{is_xid_continue}
 use Rattle.pyfstring.specs.Texts.{begins_with}
 use Rattle.pyfstring.specs.Expressions.{scan, expression}
@@ -16,7 +16,6 @@ use Rattle.pylex_lexeme.specs.Numbers.{is_number}
 use Rattle.pylex_lexeme.specs.Operators.{is_operator}
 use Rattle.pylex_lexeme.specs.Strings.{begins_quote}
 use Rattle.pylex_lexeme.specs.Lexemes.{is_name}
-use Rattle.pylex_lexeme.proofs.Callers.Booleans.{and_parts}
 use Rattle.pylex_lexeme.proofs.Callers.Lexemes.{start_continues}
 use Rattle.pyunparse_text.specs.Spacing.{Piece, is_token, is_operator_kind}
 use Rattle.pyunparse_text.specs.Tokens.{opens, closes, opens_within}

@@ -8,15 +8,15 @@ use Rattle.std.specs.Prelude.{nat_lt}
 use Rattle.std.specs.Char.{digit_char}
 use Rattle.std.specs.List.{list_all}
 use Rattle.std.specs.Str.{all_scalars}
-use Rattle.std.proofs.lemmas.Bool.{and_from, cases_Bool, eqb-true, ne_eqb, leb-true, false_from_ne_true, not-true}
+use Rattle.std.proofs.lemmas.Bool.{and_from, cases_Bool, eqb-true, ne_eqb, leb-true, false_from_ne_true, not-true, or_cases, and_parts}
 use Rattle.std.proofs.lemmas.Bool.Decides.{nat_tests}
 use Rattle.std.proofs.lemmas.List.Folds.{list_all-append}
 use Rattle.ucd_category.proofs.Computing.{ucd_category}
+use Rattle.std.proofs.lemmas.Bool.{or_parts}
 use Rattle.pyfstring.specs.Texts.{is_brace}
 use Rattle.pyfstring.specs.Expressions.{is_quote}
 use Rattle.pysource.specs.Reprs.{hex, hex_escape, escaped, is_unprintable}
 use Rattle.pylex_lexeme.specs.Chars.{is_comment_part}
-use Rattle.pylex_lexeme.proofs.Callers.Booleans.{and_parts, or_parts, or_parts_false}
 use Rattle.pytoken.specs.declared.meanings.Meaning.TheVariants.{Point}
 use Rattle.pytoken.specs.Escapes.{meanings_after}
 use Rattle.pytoken.specs.Laws.{is_point}
@@ -129,7 +129,7 @@ escaped_comes has_pairs c e b =
 -- ---- Braces.
 
 pub brace_of : (P : ℕ → Type 0) (c : ℕ) → P 123 → P 125 → is_brace c ≡ true → P c
-brace_of P c a b e = elim (or_parts (c == 123) (c == 125) e) [
+brace_of P c a b e = elim (or_cases (c == 123) (c == 125) e) [
   | inl h ↦ subst P (sym (eqb-true c 123 h)) a
   | inr h ↦ subst P (sym (eqb-true c 125 h)) b
 ]
@@ -146,7 +146,7 @@ pair_comes q c w e =
         own_skips q x
         (record {
           slash = s;
-          quote = subst (λ (y : ℕ). (x == y) ≡ false) (sym h) (or_parts_false (x == 39) (x == 34) n).0;
+          quote = subst (λ (y : ℕ). (x == y) ≡ false) (sym h) (or_parts (x == 39) (x == 34) n).0;
           feed = f;
           return = r;
         })
@@ -154,7 +154,7 @@ pair_comes q c w e =
         own_skips q x
         (record {
           slash = s;
-          quote = subst (λ (y : ℕ). (x == y) ≡ false) (sym h) (or_parts_false (x == 39) (x == 34) n).1;
+          quote = subst (λ (y : ℕ). (x == y) ≡ false) (sym h) (or_parts (x == 39) (x == 34) n).1;
           feed = f;
           return = r;
         })
@@ -201,7 +201,7 @@ own_comes has_pairs c o a b =
     let p2 = and_parts (not (c == 92)) _ p1.1 in
     let p3 = and_parts (is_comment_part c) (not (c == 0)) p2.1 in
     let p4 = and_parts (not (c == 10)) (not (c == 13)) p3.0 in
-    let q = (or_parts_false (c == 39) (c == 34) (not-true (is_quote c) p1.0)).1 in
+    let q = (or_parts (c == 39) (c == 34) (not-true (is_quote c) p1.0)).1 in
     let s = not-true (c == 92) p2.0 in
     let r = not-true (c == 13) p4.1 in
     let z = not-true (c == 0) p3.1 in

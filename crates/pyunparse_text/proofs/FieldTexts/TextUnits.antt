@@ -4,10 +4,9 @@
 use Rattle.std.proofs.Common.{◌≡◌, ℕ, zero, suc, Bool, true, false, not, ◌&&◌, ◌==◌, List, [], ◌∷◌, ◌++◌, refl, sym, ◌∙◌, ap, subst}
 use Rattle.std.proofs.Common.{append_assoc}
 use Rattle.std.specs.List.{list_all}
-use Rattle.std.proofs.lemmas.Bool.{not-true}
+use Rattle.std.proofs.lemmas.Bool.{not-true, and_parts}
 use Rattle.pyfstring.specs.Texts.{is_brace, unit_len, units_after}
 use Rattle.pyfstring.specs.Singles.{single_after}
-use Rattle.pylex_lexeme.proofs.Callers.Booleans.{and_parts}
 
 -- whatever stands behind it, w is whole units, and stands for v but for escapes, in a text that has pairs of braces or not
 pub record Units (has_pairs : Bool) (w v : List ℕ) : Type 0 where

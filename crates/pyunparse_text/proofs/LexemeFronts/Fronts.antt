@@ -1,36 +1,20 @@
 -- The lexeme at the front of a text that begins with a whole one, by what stands after that.
 --
--- Carries: is_lexeme, leaves, run_ends, blanks_front and 1 more, for NameFronts, LineCuts,
+-- Carries: leaves, run_ends, blanks_front and 1 more, for NameFronts, LineCuts,
 -- NumberFronts, OperatorFronts and 2 more.
-use Rattle.std.proofs.Common.{◌≡◌, ℕ, Bool, true, false, List, [], ◌∷◌, ◌++◌, length, take, drop, refl, sym, ◌∙◌, ap, subst, suc, Option}
+use Rattle.std.proofs.Common.{◌≡◌, ℕ, Bool, true, false, List, [], ◌∷◌, ◌++◌, length, drop, refl, ◌∙◌, ap, subst, suc}
 use Rattle.std.proofs.Common.{Some}
 use Rattle.std.proofs.Common.{add-one, add_comm}
-use Rattle.std.specs.Prelude.{option_map}
 use Rattle.std.specs.List.{list_all, prefix_len}
 use Rattle.std.proofs.Math.Seq.{drop-append_seam}
-use Rattle.std.proofs.lemmas.List.{take-append-drop, append_cancel_right}
+use Rattle.std.proofs.lemmas.Bool.{and_parts}
 use Rattle.pylex_lexeme.specs.declared.lexeme.Class.{Class}
 use Rattle.pylex_lexeme.specs.declared.lexeme.Class.TheVariants.{Blanks, LineEnd}
 use Rattle.pylex_lexeme.specs.Chars.{begins, is_blank_char}
-use Rattle.pylex_lexeme.specs.Lexemes.{Lexeme, lexeme_at, lexeme_len, class_in}
+use Rattle.pylex_lexeme.specs.Lexemes.{lexeme_at}
 use Rattle.pylex_lexeme.specs.Cuts.{TakesLexeme}
-use Rattle.pylex_lexeme.proofs.Callers.Booleans.{and_parts}
-use Rattle.pylex_lexeme.proofs.Callers.Lexemes.{class_at, blanks_take, feed_takes}
-
--- What is taken off the front of t and r, where r is left, is t.
-of_class : (o : Option Class) (t : List ℕ) (k : Class) → o ≡ Some k
-    → option_map {U = Lexeme} (λ c. record { «class» = c; text = t }) o ≡ Some (record { «class» = k; text = t })
-of_class o t k e = rw e refl
-
-pub is_lexeme : (t r : List ℕ) (k : Class) → TakesLexeme (t ++ r) (Some k) r → lexeme_at (t ++ r) ≡ Some (record { «class» = k; text = t })
-unfolding lexeme_at
-is_lexeme t r k h =
-    let c : class_in (t ++ r) (take (lexeme_len (t ++ r)) (t ++ r)) ≡ Some k = sym (class_at (t ++ r)) ∙ sym h.«class» in
-    let w : take (lexeme_len (t ++ r)) (t ++ r) ++ r ≡ t ++ r =
-    ap (λ d. take (lexeme_len (t ++ r)) (t ++ r) ++ d) h.rest ∙ take-append-drop (lexeme_len (t ++ r)) (t ++ r) in
-    let e : take (lexeme_len (t ++ r)) (t ++ r) ≡ t = append_cancel_right (take (lexeme_len (t ++ r)) (t ++ r)) t r w in
-    of_class (class_in (t ++ r) (take (lexeme_len (t ++ r)) (t ++ r))) (take (lexeme_len (t ++ r)) (t ++ r)) k c
-    ∙ ap (λ u. Some (record { «class» = k; text = u })) e
+use Rattle.pylex_lexeme.proofs.Callers.Lexemes.{blanks_take, feed_takes}
+use Rattle.pyfstring_tokens.proofs.Callers.Lexemes.{is_lexeme}
 
 pub leaves : (t r : List ℕ) (k : Class) (n : ℕ) → n ≡ length t → TakesLexeme (t ++ r) (Some k) (drop n (t ++ r))
     → TakesLexeme (t ++ r) (Some k) r

@@ -6,11 +6,10 @@ use Rattle.std.proofs.Common.{⊎_elim}
 use Rattle.std.proofs.Common.{Some, None, append_assoc, replicate}
 use Rattle.std.specs.List.{list_all}
 use Rattle.std.proofs.lemmas.List.{append_cancel_left}
-use Rattle.std.proofs.lemmas.Bool.{cases_Bool}
+use Rattle.std.proofs.lemmas.Bool.{cases_Bool, and_parts}
 use Rattle.pylex_lexeme.specs.Chars.{begins, is_blank_char}
 use Rattle.pylex_lexeme.specs.Lexemes.{Lexeme, lexeme_at, cut, left_by_cut}
 use Rattle.pylex.specs.Laws.{AreLexemes}
-use Rattle.pylex_lexeme.proofs.Callers.Booleans.{and_parts}
 use Rattle.pylex_lexeme.proofs.Callers.Lexemes.{none_is, nothing_takes}
 use Rattle.pylex.proofs.Callers.{cut_lexed}
 use Rattle.pyunparse_text.specs.Spacing.{Piece, Line, is_token, touches, text_behind, spaced, stay_apart, are_two_points, all_apart}

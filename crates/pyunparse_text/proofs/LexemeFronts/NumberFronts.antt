@@ -7,7 +7,7 @@ use Rattle.std.proofs.Common.{arith}
 use Rattle.std.proofs.Common.{suc, if◌then◌else◌, leb, ltb, ⊎_elim, Some, drop-drop, length-drop}
 use Rattle.std.specs.Char.{is_ascii_alphanumeric}
 use Rattle.std.proofs.Math.Seq.{take-length}
-use Rattle.std.proofs.lemmas.Bool.{eqb-true, leb-true, cases_Bool, false_from_ne_true}
+use Rattle.std.proofs.lemmas.Bool.{eqb-true, leb-true, cases_Bool, false_from_ne_true, and_parts}
 use Rattle.std.proofs.lemmas.Bool.Decides.{nat_tests}
 use Rattle.std.proofs.lemmas.List.{drop-append-le}
 use Rattle.unicode_ident.specs.Ident.{is_xid_continue}
@@ -21,11 +21,11 @@ use Rattle.pylex_lexeme.specs.Lengths.{longest, number_len, plain_len, radix_len
 use Rattle.pylex_lexeme.specs.Lengths.{exponent_len, j_len}
 use Rattle.pylex_lexeme.specs.Lengths.{digit_part_len, joined_len}
 use Rattle.pylex_lexeme.specs.Lexemes.{lexeme_at}
-use Rattle.pylex_lexeme.proofs.Callers.Booleans.{and_parts}
 use Rattle.pylex_lexeme.proofs.Callers.Fronts.{stop_first}
 use Rattle.pylex_lexeme.proofs.Callers.Lexemes.{number_takes}
 use Rattle.pylex_lexeme.proofs.Callers.Numbers.{either, either_not, zero_digit, exponent_none, longest_is, longest_number}
-use Rattle.pyunparse_text.proofs.LexemeFronts.Fronts.{is_lexeme, leaves}
+use Rattle.pyfstring_tokens.proofs.Callers.Lexemes.{is_lexeme}
+use Rattle.pyunparse_text.proofs.LexemeFronts.Fronts.{leaves}
 use Rattle.pyunparse_text.proofs.LexemeFronts.NumberParts.{number_begins, begins_more}
 
 -- ---- What goes on in names.

@@ -2,13 +2,13 @@
 --
 -- Carries: number_begins, begins_more, for NumberFronts.
 use Rattle.std.proofs.Common.{◌≡◌, ℕ, Bool, true, false, ◌&&◌, ◌||◌, List, [], ◌∷◌, ◌++◌, refl, ⊎_elim}
+use Rattle.std.proofs.lemmas.Bool.{or_cases, and_parts}
 use Rattle.pylex_lexeme.specs.Chars.{begins}
 use Rattle.pylex_lexeme.specs.Numbers.{is_nil, split_any, optional, headed, is_digit_part, is_exponent, is_decimal_digit, is_zero}
 use Rattle.pylex_lexeme.specs.Numbers.{is_point, is_j, is_decimal, is_radix, is_point_after}
 use Rattle.pylex_lexeme.specs.Numbers.{is_point_before}
 use Rattle.pylex_lexeme.specs.Numbers.{is_raised, is_float, is_imaginary, is_number}
 use Rattle.pylex_lexeme.specs.Lengths.{begins_number}
-use Rattle.pylex_lexeme.proofs.Callers.Booleans.{and_parts, or_parts}
 use Rattle.pylex_lexeme.proofs.Callers.Numbers.{zero_digit, decimal_part}
 
 -- ---- The first characters.
@@ -21,7 +21,7 @@ split_begins b p q f (c ∷ t) e =
     ⊎_elim
     (λ (h : (p [] && q (c ∷ t)) ≡ true). f [] (c ∷ t) (and_parts (p []) (q (c ∷ t)) h).0)
     (split_begins (λ u. b (c ∷ u)) (λ u. p (c ∷ u)) q (λ u. f (c ∷ u)) t)
-    (or_parts (p [] && q (c ∷ t)) (split_any (λ u. p (c ∷ u)) q t) e)
+    (or_cases (p [] && q (c ∷ t)) (split_any (λ u. p (c ∷ u)) q t) e)
 
 digit_begins : (t r : List ℕ) → is_digit_part t ≡ true → begins is_decimal_digit (t ++ r) ≡ true
 digit_begins [] r e = cc
@@ -48,9 +48,9 @@ float_begins t e =
     ⊎_elim
     (λ (h : (is_point_after t || is_point_before t) ≡ true). ⊎_elim
     (split_begins begins_number is_digit_part _ part_begins t) (point_begins t)
-    (or_parts (is_point_after t) (is_point_before t) h))
+    (or_cases (is_point_after t) (is_point_before t) h))
     (split_begins begins_number is_digit_part is_exponent part_begins t)
-    (or_parts (is_point_after t || is_point_before t) (is_raised t) e)
+    (or_cases (is_point_after t || is_point_before t) (is_raised t) e)
 
 pub begins_more : (t r : List ℕ) → begins_number t ≡ true → begins_number (t ++ r) ≡ true
 begins_more [] r e = cc
@@ -58,7 +58,7 @@ begins_more (c ∷ []) r e =
     ⊎_elim
     (λ (h : is_decimal_digit c ≡ true). rw h refl)
     (λ (h : (is_point c && false) ≡ true). let n = and_parts (is_point c) false h in cc)
-    (or_parts (is_decimal_digit c) (is_point c && false) e)
+    (or_cases (is_decimal_digit c) (is_point c && false) e)
 begins_more (c ∷ d ∷ t) r e = e
 
 imaginary_begins : (t : List ℕ) → is_imaginary t ≡ true → begins_number t ≡ true
@@ -66,7 +66,7 @@ unfolding is_imaginary
 imaginary_begins t e =
     split_begins begins_number (λ u. is_digit_part u || is_float u) (headed is_j is_nil)
     (λ u r h. ⊎_elim (part_begins u r) (λ (f : is_float u ≡ true). begins_more u r (float_begins u f))
-    (or_parts (is_digit_part u) (is_float u) h)) t e
+    (or_cases (is_digit_part u) (is_float u) h)) t e
 
 whole_begins : (t : List ℕ) → (is_decimal t || is_radix t) ≡ true → begins is_decimal_digit t ≡ true
 unfolding is_decimal is_radix
@@ -75,7 +75,7 @@ whole_begins (c ∷ t) e =
     ⊎_elim
     (λ (h : is_decimal (c ∷ t) ≡ true). digit_begins (c ∷ t) [] (decimal_part (c ∷ t) h))
     (λ (h : is_radix (c ∷ t) ≡ true). zero_digit c (zero (is_zero c) _ _ _ h))
-    (or_parts (is_decimal (c ∷ t)) (is_radix (c ∷ t)) e)
+    (or_cases (is_decimal (c ∷ t)) (is_radix (c ∷ t)) e)
   where
     zero : (z a b d : Bool) → ((z && a) || (z && b) || (z && d)) ≡ true → z ≡ true
     zero true a b d e = refl
@@ -90,6 +90,6 @@ number_begins t e =
     ⊎_elim
     (λ (i : (is_decimal t || is_radix t) ≡ true). let d = whole_begins t i in rw d refl)
     (float_begins t)
-    (or_parts (is_decimal t || is_radix t) (is_float t) h))
+    (or_cases (is_decimal t || is_radix t) (is_float t) h))
     (imaginary_begins t)
-    (or_parts (is_decimal t || is_radix t || is_float t) (is_imaginary t) e)
+    (or_cases (is_decimal t || is_radix t || is_float t) (is_imaginary t) e)

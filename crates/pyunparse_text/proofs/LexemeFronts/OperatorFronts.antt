@@ -10,7 +10,7 @@ use Rattle.std.specs.List.{list_all, list_any, starts_with}
 use Rattle.std.specs.Str.{bytes_eq}
 use Rattle.std.specs.Char.{is_ascii_alphabetic, is_ascii_alphanumeric}
 use Rattle.std.proofs.Math.Seq.{take-append_seam, take-append-add}
-use Rattle.std.proofs.lemmas.Bool.{eqb-true, ltb-true, cases_Bool, false_from_ne_true, not-true}
+use Rattle.std.proofs.lemmas.Bool.{eqb-true, ltb-true, cases_Bool, false_from_ne_true, not-true, or_cases, and_parts}
 use Rattle.std.proofs.lemmas.Bool.Decides.{nat_tests}
 use Rattle.std.proofs.lemmas.Slice.Eq.{bytes_eq-Decides}
 use Rattle.unicode_ident.specs.Ident.{is_xid_continue}
@@ -23,12 +23,13 @@ use Rattle.pylex_lexeme.specs.Operators.{operators, exact_of, is_operator}
 use Rattle.pylex_lexeme.specs.Lexemes.{lexeme_at}
 use Rattle.pylex_lexeme.specs.Lengths.{longest, operator_at}
 use Rattle.pylex_lexeme.specs.Cuts.{BeginsOther}
-use Rattle.pylex_lexeme.proofs.Callers.Booleans.{and_parts, or_parts}
-use Rattle.pylex_lexeme.proofs.Callers.Numbers.{digit_bounds, longest_is}
+use Rattle.pylex_lexeme.proofs.Callers.Numbers.{longest_is}
 use Rattle.pylex_lexeme.proofs.Callers.Fronts.{IsBest}
 use Rattle.pylex_lexeme.proofs.Callers.Lexemes.{words, heads, by_words, no_operator, no_operator_none, opens_off, operator_takes}
+use Rattle.pylex_lexeme.proofs.Callers.Lexemes.{point_words}
+use Rattle.pyfstring_tokens.proofs.Callers.Lexemes.{is_lexeme}
 use Rattle.pyunparse_text.specs.Spacing.{begins_operator}
-use Rattle.pyunparse_text.proofs.LexemeFronts.Fronts.{is_lexeme, leaves}
+use Rattle.pyunparse_text.proofs.LexemeFronts.Fronts.{leaves}
 
 -- What holds of each of some characters holds of one that is among them.
 pub of_any : (p : ℕ → Bool) (c : ℕ) (xs : List ℕ) → list_all p xs ≡ true → list_any (eqb c) xs ≡ true → p c ≡ true
@@ -38,7 +39,7 @@ of_any p c (x ∷ xs) a e =
     ⊎_elim
     (λ (h : eqb c x ≡ true). let f : c ≡ x = eqb-true c x h in rw f q.0)
     (λ (h : list_any (eqb c) xs ≡ true). of_any p c xs q.1 h)
-    (or_parts (eqb c x) (list_any (eqb c) xs) e)
+    (or_cases (eqb c x) (list_any (eqb c) xs) e)
 
 -- an ASCII character that stands in no name, begins no number and no string, and is neither a
 -- blank, a line's end, a hash nor a backslash
@@ -113,7 +114,7 @@ begins_of t u (o ∷ os) e =
     rw s refl)
     (λ (h : list_any (bytes_eq (t ++ u)) os ≡ true). right (starts_with nat_eq o t)
     (list_any (λ x. starts_with nat_eq x t) os) (begins_of t u os h))
-    (or_parts (bytes_eq (t ++ u) o) (list_any (bytes_eq (t ++ u)) os) e)
+    (or_cases (bytes_eq (t ++ u) o) (list_any (bytes_eq (t ++ u)) os) e)
   where
     right : (x y : Bool) → y ≡ true → (x || y) ≡ true
     right true y e = refl
@@ -142,12 +143,6 @@ operator_best t r e f = let n = length-append t r in record {
       ap (λ k. is_operator (take k (t ++ r))) (sym s) ∙ ap is_operator (take-append-add t r (j - length t)) ∙ f (j - length t) (omega arith)
       (omega arith);
 }
-
-point_words : (d : ℕ) (t : List ℕ) → is_decimal_digit d ≡ true → is_operator (46 ∷ d ∷ t) ≡ false
-point_words d t e =
-    let b = digit_bounds d e in
-    let n : eqb d 46 ≡ false = grind (arith, nat_tests) in
-    by_words (46 ∷ d ∷ t) ∙ rw n refl
 
 -- a point alone, and a digit after it
 abbrev pub makes_number : List ℕ → List ℕ → Bool

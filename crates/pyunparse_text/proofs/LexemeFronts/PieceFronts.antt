@@ -1,14 +1,14 @@
 -- A piece is the lexeme at the front of the text from it on, whatever piece,
 -- blank or line end follows.
 --
--- Carries: ArePieces, token_no_blank, words_all, IsPiece and 5 more, for Decoding, LineCuts, Joins,
+-- Carries: ArePieces, token_no_blank, IsPiece and 5 more, for Decoding, LineCuts, Joins,
 -- Runs and 3 more. On: OperatorFronts, Cases, NameFronts, NumberFronts and 1 more.
 use Rattle.std.proofs.Common.{◌≡◌, ℕ, ◌≤◌, ◌<◌, Bool, true, false, not, ◌&&◌, ◌||◌, ◌==◌, List, [], ◌∷◌, ◌++◌, length, take, map, leb}
 use Rattle.std.proofs.Common.{append_assoc}
 use Rattle.std.proofs.Common.{refl, if◌then◌else◌, ap, sym, ◌∙◌, subst, arith, zero, suc, ⊎_elim, Option, Some, None, eqb}
 use Rattle.std.specs.List.{list_all, list_any}
 use Rattle.std.specs.Str.{bytes_eq}
-use Rattle.std.proofs.lemmas.Bool.{eqb-true, cases_Bool, false_from_ne_true, not-true}
+use Rattle.std.proofs.lemmas.Bool.{eqb-true, cases_Bool, false_from_ne_true, not-true, or_cases, and_parts, or_parts}
 use Rattle.std.proofs.lemmas.Bool.Decides.{nat_tests}
 use Rattle.std.proofs.lemmas.Slice.Eq.{bytes_eq-Decides}
 use Rattle.unicode_ident.specs.Ident.{is_xid_continue}
@@ -22,9 +22,9 @@ use Rattle.pylex_lexeme.specs.declared.lexeme.Class.TheVariants.{Operator, Join}
 use Rattle.pylex_lexeme.specs.Operators.{operators, exact_of, is_operator}
 use Rattle.pylex_lexeme.specs.Strings.{begins_quote, is_single_string, is_single, is_prefix, prefixes, lower}
 use Rattle.pylex_lexeme.specs.Lexemes.{lexeme_at, is_name}
-use Rattle.pylex_lexeme.proofs.Callers.Booleans.{and_parts, or_parts, or_parts_false}
 use Rattle.pylex_lexeme.proofs.Callers.Lexemes.{words, heads, by_words, no_head, no_operator, no_operator_none}
 use Rattle.pylex_lexeme.proofs.Callers.Numbers.{digit_bounds}
+use Rattle.pylex_lexeme.proofs.Callers.WholeLines.{one_of}
 use Rattle.pyunparse_text.specs.Spacing.{Piece, is_token, is_number_kind, is_operator_kind, touches, text_behind, begins_operator}
 use Rattle.pyunparse_text.specs.Spacing.{stay_apart}
 use Rattle.pyunparse_text.specs.Spacing.{are_two_points, all_apart}
@@ -61,16 +61,6 @@ token_front kinds.Newline t r e c = cc
 token_front kinds.Indent t r e c = cc
 token_front kinds.Dedent t r e c = cc
 token_front kinds.EndMarker t r e c = cc
-
--- After a blank or a line end
-pub words_all : (p : List ℕ → Bool) (t : List ℕ) (os : List (List ℕ)) → list_all p os ≡ true → list_any (bytes_eq t) os ≡ true → p t ≡ true
-words_all p t [] a e = cc
-words_all p t (o ∷ os) a e =
-    let q = and_parts (p o) (list_all p os) a in
-    ⊎_elim
-    (λ (h : bytes_eq t o ≡ true). subst (λ (x : List ℕ). p x ≡ true) (sym ((bytes_eq-Decides t o).0 h)) q.0)
-    (λ (h : list_any (bytes_eq t) os ≡ true). words_all p t os q.1 h)
-    (or_parts (bytes_eq t o) (list_any (bytes_eq t) os) e)
 
 abbrev ends_words : ℕ → Bool
 ends_words c = list_all (λ w. not (begins_operator (w ++ c ∷ []))) words
@@ -115,7 +105,7 @@ clear_gap kinds.Number t r c e g = (g.continues, g.point)
 clear_gap kinds.String t r c e g = g.quote
 clear_gap kinds.Op t r c e g =
     let w : list_any (bytes_eq t) words ≡ true = sym (by_words t) ∙ e in
-    let n = not-true (begins_operator (t ++ c ∷ [])) (words_all (λ w. not (begins_operator (w ++ c ∷ []))) t words g.words w) in
+    let n = not-true (begins_operator (t ++ c ∷ [])) (one_of (λ w. not (begins_operator (w ++ c ∷ []))) t words g.words w) in
     (none_longer t r c n, no_number t r c g.digit)
 clear_gap kinds.Encoding t r c e g = tt
 clear_gap kinds.Comment t r c e g = tt
@@ -142,7 +132,7 @@ no_name c u e = rw e refl
 no_string : (c : ℕ) (u : List ℕ) → Off c → is_single_string (c ∷ u) ≡ false
 unfolding is_single_string is_single is_prefix
 no_string c u o =
-    let q = or_parts_false (c == 39) (c == 34) o.quote in
+    let q = or_parts (c == 39) (c == 34) o.quote in
     let s =
     split_off (λ t. list_any (bytes_eq (map lower (c ∷ t))) prefixes) (λ v. is_single 39 v || is_single 34 v) u
     (λ v. no_head (lower c) (map lower v) prefixes o.letter) in
@@ -200,10 +190,10 @@ blank_off c e =
     rw f (record { name = rw (is_xid_start-ascii 32 (omega arith)) refl; quote = refl; letter = refl }, refl, refl))
     (λ (h : eqb c 9 ≡ true). let f : c ≡ 9 = eqb-true c 9 h in
     rw f (record { name = rw (is_xid_start-ascii 9 (omega arith)) refl; quote = refl; letter = refl }, refl, refl))
-    (or_parts (eqb c 32) (eqb c 9) g))
+    (or_cases (eqb c 32) (eqb c 9) g))
     (λ (h : eqb c 12 ≡ true). let f : c ≡ 12 = eqb-true c 12 h in
     rw f (record { name = rw (is_xid_start-ascii 12 (omega arith)) refl; quote = refl; letter = refl }, refl, refl))
-    (or_parts (eqb c 32 || eqb c 9) (eqb c 12) e)
+    (or_cases (eqb c 32 || eqb c 9) (eqb c 12) e)
 
 -- a token begins with no blank
 pub token_no_blank : (k : Kind) (t r : List ℕ) → is_token k t ≡ true → begins is_blank_char (t ++ r) ≡ false
@@ -386,6 +376,6 @@ clear_behind p (q ∷ qs) more e a h =
     (record { left = e; right = i.0; apart = c }))
     (λ (c : are_two_points p q qs ≡ true). let x = points_of p q qs c in clear_third p q (text_behind q qs ++ 10 ∷ more) e x.first x.second
     (third_off p q qs more i.1 x))
-    (or_parts (stay_apart p q) (are_two_points p q qs) s))))
+    (or_cases (stay_apart p q) (are_two_points p q qs) s))))
     (λ (t : touches p q ≡ false). rw t (clear_gap p.kind p.text ((q.text ++ text_behind q qs) ++ 10 ∷ more) 32 e blank_gap))
     (cases_Bool (touches p q))

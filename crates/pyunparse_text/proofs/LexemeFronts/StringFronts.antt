@@ -7,7 +7,7 @@ use Rattle.std.proofs.Common.{◌∙◌, ap, subst, arith, suc, ⊎_elim, Some, 
 use Rattle.std.specs.List.{list_all, list_any}
 use Rattle.std.specs.Str.{bytes_eq}
 use Rattle.std.proofs.Math.Seq.{take-append_seam, drop-append_seam}
-use Rattle.std.proofs.lemmas.Bool.{eqb-true, leb-true, cases_Bool, not-true}
+use Rattle.std.proofs.lemmas.Bool.{eqb-true, leb-true, cases_Bool, not-true, or_cases, and_parts, or_parts}
 use Rattle.std.proofs.lemmas.Slice.Eq.{bytes_eq-Decides}
 use Rattle.pylex_lexeme.specs.declared.lexeme.Class.TheVariants.{String}
 use Rattle.pylex_lexeme.specs.Chars.{begins, is_comment_part}
@@ -17,12 +17,12 @@ use Rattle.pylex_lexeme.specs.Strings.{begins_quote}
 use Rattle.pylex_lexeme.specs.Strings.{counts_as_string}
 use Rattle.pylex_lexeme.specs.Lengths.{Opens, shift, single_of, single_len, quoted_len, begins_quotes, longest}
 use Rattle.pylex_lexeme.specs.Lexemes.{lexeme_at}
-use Rattle.pylex_lexeme.proofs.Callers.Booleans.{and_parts, or_parts, or_parts_false}
 use Rattle.pylex_lexeme.proofs.Callers.Strings.{IsQuote, quote_is, units_plain, nil_units, unit_one, unit_slash, Which, one, two}
 use Rattle.pylex_lexeme.proofs.Callers.Strings.{string_reads}
 use Rattle.pylex_lexeme.proofs.Callers.Strings.{longest_reads, string_opens}
 use Rattle.pylex_lexeme.proofs.Callers.Lexemes.{string_takes}
-use Rattle.pyunparse_text.proofs.LexemeFronts.Fronts.{is_lexeme, leaves}
+use Rattle.pyfstring_tokens.proofs.Callers.Lexemes.{is_lexeme}
+use Rattle.pyunparse_text.proofs.LexemeFronts.Fronts.{leaves}
 
 -- A front and a rest that pass
 pub record Split (p q : List ℕ → Bool) (t : List ℕ) : Type 0 where
@@ -53,7 +53,7 @@ split_of p q (c ∷ t) e =
       front_passes = s.front_passes;
       rest_passes = s.rest_passes;
     })
-    (or_parts (p [] && q (c ∷ t)) (split_any (λ u. p (c ∷ u)) q t) e)
+    (or_cases (p [] && q (c ∷ t)) (split_any (λ u. p (c ∷ u)) q t) e)
 
 -- A prefix has at most two letters.
 among_short : (n : ℕ) (t : List ℕ) (os : List (List ℕ)) → list_all (λ o. leb (length o) n) os ≡ true
@@ -65,7 +65,7 @@ among_short n t (o ∷ os) a e =
     (λ (h : bytes_eq t o ≡ true). let f : length t ≡ length o = ap length ((bytes_eq-Decides t o).0 h) in let g =
     leb-true (length o) n q.0 in omega arith)
     (λ (h : list_any (bytes_eq t) os ≡ true). among_short n t os q.1 h)
-    (or_parts (bytes_eq t o) (list_any (bytes_eq t) os) e)
+    (or_cases (bytes_eq t o) (list_any (bytes_eq t) os) e)
 
 lowered : (t : List ℕ) → length (map lower t) ≡ length t
 lowered [] = refl
@@ -180,8 +180,8 @@ quoted_behind q k t r a e b =
 
 no_quote_of : (q : ℕ) (r : List ℕ) → Which q → begins_quote r ≡ false → begins (λ c. c == q) r ≡ false
 no_quote_of q [] w e = refl
-no_quote_of q (c ∷ r) (one f) e = let p = or_parts_false (c == 39) (c == 34) e in rw f p.0
-no_quote_of q (c ∷ r) (two f) e = let p = or_parts_false (c == 39) (c == 34) e in rw f p.1
+no_quote_of q (c ∷ r) (one f) e = let p = or_parts (c == 39) (c == 34) e in rw f p.0
+no_quote_of q (c ∷ r) (two f) e = let p = or_parts (c == 39) (c == 34) e in rw f p.1
 
 quote_of : (q : ℕ) → Which q → IsQuote q
 quote_of q (one f) = quote_is q (rw f refl)
@@ -236,4 +236,4 @@ string_front t r e c b =
     (⊎_elim
     (λ (h : is_single 39 s.rest ≡ true). single_front 39 s.front s.rest r (one refl) s.front_passes d h b)
     (λ (h : is_single 34 s.rest ≡ true). single_front 34 s.front s.rest r (two refl) s.front_passes d h b)
-    (or_parts (is_single 39 s.rest) (is_single 34 s.rest) s.rest_passes))
+    (or_cases (is_single 39 s.rest) (is_single 34 s.rest) s.rest_passes))

@@ -8,7 +8,7 @@ use Rattle.std.specs.Prelude.{nat_le}
 use Rattle.std.specs.List.{list_all}
 use Rattle.std.specs.Str.{all_scalars}
 use Rattle.std.proofs.lemmas.List.{append-nil}
-use Rattle.std.proofs.lemmas.Bool.{leb-true, eqb-true, cases_lt, cases_Bool, not-true}
+use Rattle.std.proofs.lemmas.Bool.{leb-true, eqb-true, cases_lt, cases_Bool, not-true, and_parts}
 use Rattle.std.proofs.lemmas.Bool.Decides.{nat_tests}
 use Rattle.pylex.specs.declared.kind.Kind.{Kind}
 use Rattle.pylex.specs.declared.kind.Kind.TheVariants as kinds
@@ -22,7 +22,6 @@ use Rattle.pylex_lexeme.specs.Lexemes.{Lexeme}
 use Rattle.pylex_lexeme.specs.Chars.{bytes_in}
 use Rattle.pylex.specs.Indentation.{width_from}
 use Rattle.pylex.specs.Machine.{State, after, gives, run, stop_of, layout_of, entry_by, step_of, past, behind, pushed}
-use Rattle.pylex_lexeme.proofs.Callers.Booleans.{and_parts}
 use Rattle.pyunparse_text.specs.Spacing.{Piece, Line, is_token, is_operator_kind, touches, text_behind, spaced, are_readable, line_text}
 use Rattle.pyunparse_text.specs.Spacing.{lines_text}
 use Rattle.pyunparse_text.specs.Inner.Relexed.{class_of, lexeme_of, blanks, feed, lexemes_behind, lexemes_of, indent_lexemes, line_lexemes}

@@ -1,16 +1,15 @@
 -- Steps of a listing that are entries of tokens.
 --
 -- Carries: Tells, tells_both, marks_told, bytes_both and 2 more, for Runs, Relisting.
-use Rattle.std.proofs.Common.{◌≡◌, ℕ, ◌+◌, ◌-◌, ◌&&◌, List, [], ◌∷◌, ◌++◌, length, take, drop, map, true, refl, sym, ◌∙◌, ap, arith, zero}
+use Rattle.std.proofs.Common.{◌≡◌, ℕ, ◌+◌, ◌-◌, ◌&&◌, List, [], ◌∷◌, ◌++◌, length, map, true, refl, sym, ◌∙◌, ap, arith, zero}
 use Rattle.std.proofs.Common.{suc}
 use Rattle.std.proofs.Common.{replicate, Option, None, length-append}
 use Rattle.std.specs.Prelude.{slice_range}
 use Rattle.std.specs.List.{list_all}
 use Rattle.std.specs.Str.{chars, encode_utf8_all, all_scalars}
-use Rattle.std.proofs.Math.Seq.{take-append_seam, drop-append_seam}
 use Rattle.std.proofs.lemmas.List.{map-append}
 use Rattle.std.proofs.lemmas.List.Folds.{list_all-append}
-use Rattle.std.proofs.lemmas.Str.{encodes-append, chars-encodes, chars-nil}
+use Rattle.std.proofs.lemmas.Str.{encodes-append, chars-nil}
 use Rattle.pysource.specs.declared.places.Place.{Place}
 use Rattle.pylex.specs.declared.kind.Kind.{Kind}
 use Rattle.pylex_lexeme.specs.declared.kinds.Exact.{Exact}
@@ -20,6 +19,7 @@ use Rattle.pylex.specs.declared.entries.Step.TheVariants as steps
 use Rattle.pylex.specs.declared.point.Point.{Point}
 use Rattle.pylex_lexeme.specs.Chars.{bytes_in}
 use Rattle.pylex.specs.Machine.{step_of, mark_at}
+use Rattle.pyfstring_tokens.proofs.Callers.Lexemes.{sliced}
 use Rattle.pyunparse_text.specs.Tokens.{PlainToken, token_at, exact_in}
 use Rattle.pyunparse_text.specs.Inner.Even.{ends_evenly}
 
@@ -49,21 +49,6 @@ tells_both text ss rs ts us a b = record {
   even = list_all-append (λ (e : Entry). ends_evenly text e.kind e.to) a.entries b.entries
       ∙ ap (λ x. x && list_all (λ (e : Entry). ends_evenly text e.kind e.to) b.entries) a.even ∙ b.even;
 }
-
--- what stands in a text between two offsets
-pub sliced : (text a t b : List ℕ) (lo hi : ℕ) → text ≡ a ++ (t ++ b) → all_scalars t ≡ true → lo ≡ bytes_in a → hi ≡ lo + bytes_in t
-    → chars (slice_range (encode_utf8_all text) lo hi) ≡ t
-sliced text a t b lo hi w u e f =
-    let x : encode_utf8_all text ≡ encode_utf8_all a ++ (encode_utf8_all t ++ encode_utf8_all b) =
-    ap encode_utf8_all w ∙ encodes-append a (t ++ b) ∙ ap (λ y. encode_utf8_all a ++ y) (encodes-append t b) in
-    let d : drop lo (encode_utf8_all text) ≡ encode_utf8_all t ++ encode_utf8_all b =
-    ap (λ y. drop lo y) x ∙ ap (λ n. drop n (encode_utf8_all a ++ (encode_utf8_all t ++ encode_utf8_all b))) e
-    ∙ drop-append_seam (encode_utf8_all a) (encode_utf8_all t ++ encode_utf8_all b) in
-    let n : hi - lo ≡ length (encode_utf8_all t) = omega arith in
-    let s : take (hi - lo) (drop lo (encode_utf8_all text)) ≡ encode_utf8_all t =
-    ap (λ y. take (hi - lo) y) d ∙ ap (λ m. take m (encode_utf8_all t ++ encode_utf8_all b)) n
-    ∙ take-append_seam (encode_utf8_all t) (encode_utf8_all b) in
-    ap chars s ∙ chars-encodes t u
 
 pub piece_told : (text a t b : List ℕ) (k : Kind) (e : Option Exact) (p q : Point) → text ≡ a ++ (t ++ b) → all_scalars t ≡ true
     → p.offset ≡ bytes_in a → q.offset ≡ p.offset + bytes_in t

@@ -13,6 +13,7 @@ use Rattle.pylex.specs.declared.entries.Entry.{Entry}
 use Rattle.pylex.specs.Listing.{Source, listing}
 use Rattle.pylex.specs.Steps.{entries_of}
 use Rattle.pylex.specs.Laws.{Covers, StandsNext, IsLawful}
+use Rattle.pylex.proofs.Callers.{scalars_of}
 use Rattle.pytree_node.specs.declared.profiles.Extent.{Extent}
 use Rattle.pytree_node.specs.declared.profiles.Extent.TheVariants.{Plain, Whole}
 use Rattle.pytree_node.specs.declared.profiles.Profile.{Profile}
@@ -27,7 +28,7 @@ use Rattle.pyunparse_text.proofs.Callers.Lists.{bytes_both, sliced}
 use Rattle.pyunparse_text.specs.Modules.{written_line}
 use Rattle.pyunparse_text.specs.Laws.{AreOfTokens, no_token, a_token, IsOfTokens, AreWithin, source_lines, IsOfSourceIn, TokensAreOfTokens}
 use Rattle.pyunparse_text.specs.Laws.{AcceptedTextsAreAccepted}
-use Rattle.pyunparse_text.proofs.StringTerminals.Elements.{front_scalars, back_scalars}
+use Rattle.pyunparse_text.proofs.StringTerminals.Elements.{back_scalars}
 use Rattle.pyunparse_text.proofs.Modules.High.{modules_low}
 use Rattle.pyunparse_text.proofs.Modules.Accepted.{source_forms, texts_accepted}
 
@@ -46,7 +47,7 @@ covered text a t o (x ∷ es) left w e s c =
     let p : text ≡ b ++ (n.own ++ n.behind) = w ∙ ap (λ u. a ++ u) n.parts ∙ sym (append_assoc a n.gap (n.own ++ n.behind)) in
     let r : all_scalars (n.own ++ n.behind) ≡ true = back_scalars n.gap (n.own ++ n.behind) (subst (λ u. all_scalars u ≡ true) n.parts s) in
     let f : x.«from» ≡ bytes_in b = n.begins ∙ ap (λ k. k + bytes_in n.gap) e ∙ sym (bytes_both a n.gap) in
-    let own : all_scalars n.own ≡ true = front_scalars n.own n.behind r in
+    let own : all_scalars n.own ≡ true = scalars_of n.own n.behind r in
     let is : text_of text x ≡ n.own = sliced text b n.own n.behind x.«from» x.to p own f n.ends in
     let q : text ≡ (b ++ n.own) ++ n.behind = p ∙ sym (append_assoc b n.own n.behind) in
     let l : x.to ≡ bytes_in (b ++ n.own) = n.ends ∙ ap (λ k. k + bytes_in n.own) f ∙ sym (bytes_both b n.own) in

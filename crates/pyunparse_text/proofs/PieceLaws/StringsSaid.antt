@@ -8,7 +8,7 @@ use Rattle.std.specs.Prelude.{nat_lt}
 use Rattle.std.specs.List.{list_all, list_any, flat_map}
 use Rattle.std.specs.Str.{all_scalars, encode_utf8_all}
 use Rattle.std.proofs.Math.Utf8.{scalar}
-use Rattle.std.proofs.lemmas.Bool.{and_from, leb-true}
+use Rattle.std.proofs.lemmas.Bool.{and_from, leb-true, and_parts, or_parts}
 use Rattle.std.proofs.lemmas.Bool.Decides.{nat_tests}
 use Rattle.std.proofs.lemmas.Grind.{flat_map-append}
 use Rattle.std.proofs.lemmas.List.Folds.{list_any-append}
@@ -24,7 +24,6 @@ use Rattle.pylex_lexeme.specs.declared.lexeme.Class.{Class}
 use Rattle.pylex_lexeme.specs.declared.lexeme.Class.TheVariants as classes
 use Rattle.pylex_lexeme.specs.Lexemes.{Lexeme, cut}
 use Rattle.pylex_lexeme.specs.Operators.{operators, exact_of}
-use Rattle.pylex_lexeme.proofs.Callers.Booleans.{and_parts, or_parts_false}
 use Rattle.pylex.specs.declared.kind.Kind.{Kind}
 use Rattle.pylex.specs.declared.kind.Kind.TheVariants as kinds
 use Rattle.pylex.specs.Spots.{kind_of}
@@ -66,7 +65,7 @@ use Rattle.pyunparse_text.proofs.StringTerminals.Classes.{OfClass, of_class, no_
 use Rattle.pyunparse_text.proofs.StringTerminals.Brackets.{operator_terminal}
 use Rattle.pyunparse_text.proofs.StringTerminals.FieldLexemes.{IsToken, AllTokens, no_lexeme, a_gap, a_token, IsWholeField, whole_field}
 use Rattle.pyunparse_text.proofs.StringTerminals.Scanned.{is_no_backslash, expression_calm}
-use Rattle.pyunparse_text.proofs.StringTerminals.Bodies.{weaker, joined, none_all, kept_all, kept_pass, points_kept, single_kept}
+use Rattle.pyunparse_text.proofs.StringTerminals.Bodies.{weaker, joined, none_all, kept_pass, points_kept, single_kept}
 use Rattle.pyunparse_text.proofs.StringTerminals.Bodies.{unbraced}
 use Rattle.pyunparse_text.proofs.StringTerminals.FieldCharacters.{is_calm, is_open, is_flat, flat_parts, flat_scalar, flat_calm}
 use Rattle.pyunparse_text.proofs.StringTerminals.FieldCharacters.{flat_unquoted, open_body, no_nuls, flat_body, calm_body, literally}
@@ -229,9 +228,9 @@ module _ (o : Open) (p : ℕ → Bool) (is_nested : Bool) (terminals : List ℕ 
   elements_walk {k} (kept_text {t = t} q h l) n = walk_both (walk_one _ (kept k t q h) refl) (elements_walk l n)
   elements_walk {k} (a_spec l) n = walk_both (walk_one SpecBegin (signs k).0 refl) (elements_walk l n)
   elements_walk {k} (a_field {c = c} {t = t} {rest = rest} {ss = ss} {es = es} b h w s l) n =
-      let f = or_parts_false (is_wrong t) (list_any (is_field_of is_wrong) (ss ++ (End ∷ es))) n in
+      let f = or_parts (is_wrong t) (list_any (is_field_of is_wrong) (ss ++ (End ∷ es))) n in
       let g =
-      or_parts_false (list_any (is_field_of is_wrong) ss) (list_any (is_field_of is_wrong) es)
+      or_parts (list_any (is_field_of is_wrong) ss) (list_any (is_field_of is_wrong) es)
       (sym (list_any-append (is_field_of is_wrong) ss (End ∷ es)) ∙ f.1) in
       let e : suc k - 1 ≡ k = omega arith in
       let m : Walk (suc k ∷ o) (k ∷ o) (flat_map (element_terminals terminals) (ss ++ (End ∷ es))) =
@@ -284,12 +283,12 @@ inner_text m k raw t rest h w = by k w
     calm : (u : List ℕ) → list_all is_flat u ≡ true → flat_map points_in (meanings raw false (with_line_feeds u)) ≡ with_line_feeds u
     calm u e =
         points_kept raw false (with_line_feeds u)
-        (kept_all is_no_backslash (λ c. not (c == 13)) u (weaker is_flat is_no_backslash flat_calm u e))
+        (filter_all is_no_backslash (λ c. not (c == 13)) u (weaker is_flat is_no_backslash flat_calm u e))
 
     fielded : (u : List ℕ) → list_all is_flat u ≡ true → list_all is_field_character (with_line_feeds u) ≡ true
     fielded u e =
         weaker (λ c. is_flat c && not (c == 13)) is_field_character flat_field (with_line_feeds u)
-        (joined is_flat (λ c. not (c == 13)) (with_line_feeds u) (kept_all is_flat (λ c. not (c == 13)) u e)
+        (joined is_flat (λ c. not (c == 13)) (with_line_feeds u) (filter_all is_flat (λ c. not (c == 13)) u e)
         (kept_pass (λ c. not (c == 13)) u))
 
     in_spec : (b : Bool) (u : List ℕ) → list_all is_flat u ≡ true → list_all (λ c. cond b (is_literal_char c) true) u ≡ true
@@ -298,7 +297,7 @@ inner_text m k raw t rest h w = by k w
         subst (λ z. list_all (can_stand true b) z ≡ true) (sym (calm u e))
         (weaker (λ c. is_field_character c && cond b (is_literal_char c) true) (can_stand true b) (stands_there b) (with_line_feeds u)
         (joined is_field_character (λ c. cond b (is_literal_char c) true) (with_line_feeds u) (fielded u e)
-        (kept_all (λ c. cond b (is_literal_char c) true) (λ c. not (c == 13)) u l)))
+        (filter_all (λ c. cond b (is_literal_char c) true) (λ c. not (c == 13)) u l)))
 
     anything : (u : List ℕ) → list_all (λ c. true) u ≡ true
     anything [] = refl

@@ -7,14 +7,13 @@ use Rattle.std.proofs.Common.{suc, ◌⊎◌, inl, inr, ⊎_elim, append_assoc, 
 use Rattle.std.specs.Prelude.{codes, nat_lt}
 use Rattle.std.specs.List.{list_all, list_any, flat_map}
 use Rattle.std.specs.Char.{digit_char}
-use Rattle.std.proofs.lemmas.Bool.{eqb-true, cases_Bool}
+use Rattle.std.proofs.lemmas.Bool.{eqb-true, cases_Bool, or_cases, or_parts}
 use Rattle.std.proofs.lemmas.Bool.Decides.{nat_tests}
 use Rattle.std.proofs.lemmas.List.Folds.{list_all-append}
 use Rattle.pysource.specs.Reprs.{hex, hex_escape, escaped, quote_for, quoted, is_unprintable, is_unprintable_byte, repr_chars, repr_bytes}
 use Rattle.pylex.specs.declared.kind.Kind.TheVariants as kinds
 use Rattle.pylex_lexeme.specs.Chars.{is_comment_part}
 use Rattle.pylex_lexeme.specs.Strings.{units, ends_by_one, is_single, is_single_string, is_prefix}
-use Rattle.pylex_lexeme.proofs.Callers.Booleans.{or_parts, or_parts_false}
 use Rattle.pylex_lexeme.proofs.Callers.Strings.{IsQuote, quote_is, units_plain, unit_one, unit_slash}
 use Rattle.pyunparse_text.specs.Spacing.{is_token}
 use Rattle.pyunparse_text.proofs.LexemeFronts.StringFronts.{units_slash}
@@ -92,7 +91,7 @@ escaped_skips test q c w =
     ⊎_elim
     (λ (h : (c == 92 || c == q) ≡ true). rw h (pair_skips q c (quote_of q w) (special c h).0 (special c h).1))
     (λ (h : (c == 92 || c == q) ≡ false).
-    let s = or_parts_false (c == 92) (c == q) h in
+    let s = or_parts (c == 92) (c == q) h in
     rw h (⊎_elim
     (λ (t : (c == 9) ≡ true). rw t (pair_skips q 116 (quote_of q w) refl refl))
     (λ (t : (c == 9) ≡ false). rw t (⊎_elim
@@ -113,7 +112,7 @@ escaped_skips test q c w =
         (λ (e : (c == 92) ≡ true). let f : c ≡ 92 = eqb-true c 92 e in rw f (refl, refl))
         (λ (e : (c == q) ≡ true). let f : c ≡ q = eqb-true c q e in
         ⊎_elim (λ (g : q ≡ 39). rw (f, g) (refl, refl)) (λ (g : q ≡ 34). rw (f, g) (refl, refl)) w)
-        (or_parts (c == 92) (c == q) h)
+        (or_cases (c == 92) (c == q) h)
 
 all_skip : (test : ℕ → Bool) (q : ℕ) → (q ≡ 39) ⊎ (q ≡ 34) → (cs : List ℕ) → Skips q (flat_map (escaped test q) cs)
 all_skip test q w [] = none_skip q

@@ -9,11 +9,10 @@ use Rattle.std.specs.List.{list_all, flat_map}
 use Rattle.std.specs.Char.{digit_char}
 use Rattle.std.specs.Str.{all_scalars}
 use Rattle.std.proofs.Math.Utf8.{scalar, low_scalar}
-use Rattle.std.proofs.lemmas.Bool.{eqb-true, cases_lt, leb-true, cases_Bool}
+use Rattle.std.proofs.lemmas.Bool.{eqb-true, cases_lt, leb-true, cases_Bool, or_cases, and_parts}
 use Rattle.std.proofs.lemmas.Bool.Decides.{nat_tests}
 use Rattle.pysource.specs.Reprs.{hex, hex_escape, escaped, quote_for, quoted, is_unprintable, is_unprintable_byte, repr_chars, repr_bytes}
 use Rattle.pysource.proofs.Callers.Printing.{unprintable_no_character}
-use Rattle.pylex_lexeme.proofs.Callers.Booleans.{and_parts, or_parts}
 use Rattle.pyunparse_text.proofs.Sources.Bytes.{scalars_both}
 use Rattle.pyunparse_text.proofs.SingleTokens.Literals.{which_quote}
 
@@ -54,7 +53,7 @@ escaped_scalar test q c w own =
     special h = ⊎_elim
         (λ (e : (c == 92) ≡ true). let f : c ≡ 92 = eqb-true c 92 e in omega arith)
         (λ (e : (c == q) ≡ true). let f : c ≡ q = eqb-true c q e in ⊎_elim (λ (g : q ≡ 39). omega arith) (λ (g : q ≡ 34). omega arith) w)
-        (or_parts (c == 92) (c == q) h)
+        (or_cases (c == 92) (c == q) h)
 
     plain : (b : Bool) → test c ≡ b → all_scalars (if b then hex_escape c else c ∷ []) ≡ true
     plain true e = escape_scalar c

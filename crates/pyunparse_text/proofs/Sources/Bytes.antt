@@ -6,12 +6,11 @@ use Rattle.std.proofs.Common.{⊎_elim}
 use Rattle.std.specs.List.{list_all}
 use Rattle.std.specs.Str.{encode_utf8_all, all_scalars}
 use Rattle.std.proofs.Math.Utf8.{encode, next, scalar}
-use Rattle.std.proofs.lemmas.Bool.{cases_lt, leb-true}
+use Rattle.std.proofs.lemmas.Bool.{cases_lt, leb-true, and_parts}
 use Rattle.std.proofs.lemmas.Bool.Decides.{nat_tests}
 use Rattle.std.proofs.lemmas.List.Folds.{list_all-append}
 use Rattle.std.proofs.lemmas.Str.{encode_ascii, length-encode, len_utf8_bounds}
 use Rattle.pylex_lexeme.specs.Chars.{begins}
-use Rattle.pylex_lexeme.proofs.Callers.Booleans.{and_parts}
 
 least : (a b : ℕ) → 128 ≤ a → leb 128 (a + b) ≡ true
 least a b h = grind (arith, nat_tests)

@@ -12,7 +12,7 @@ use Rattle.std.proofs.Math.Utf8.{encode}
 use Rattle.std.proofs.Math.Seq.{drop-append_seam}
 use Rattle.std.proofs.lemmas.List.{take-append-drop}
 use Rattle.std.proofs.lemmas.Slice.Eq.{bytes_eq-Decides}
-use Rattle.std.proofs.lemmas.Bool.{eqb-true, false_from_ne_true, not-true}
+use Rattle.std.proofs.lemmas.Bool.{eqb-true, false_from_ne_true, not-true, and_parts}
 use Rattle.std.proofs.lemmas.Bool.Decides.{nat_tests}
 use Rattle.std.proofs.lemmas.List.Folds.{list_all-append}
 use Rattle.std.proofs.lemmas.Str.{encodes-append, chars-encodes, encode_same}
@@ -32,12 +32,12 @@ use Rattle.pylex_lexeme.specs.Chars.{begins, starts_name, is_comment_part}
 use Rattle.pylex_lexeme.specs.Numbers.{is_decimal_digit, is_number}
 use Rattle.pylex_lexeme.specs.Strings.{is_single_string}
 use Rattle.pylex_lexeme.specs.Lexemes.{is_name}
-use Rattle.pylex_lexeme.proofs.Callers.Booleans.{and_parts}
 use Rattle.pylex_lexeme.proofs.Callers.Lexemes.{words, heads, by_words, start_continues}
+use Rattle.pylex_lexeme.proofs.Callers.WholeLines.{one_of}
 use Rattle.pyunparse_text.specs.Spacing.{Piece, Line, is_token, touches, text_behind, spaced, are_readable, line_text, lines_text}
 use Rattle.pyunparse_text.specs.Tokens.{is_written}
 use Rattle.pyunparse_text.proofs.LexemeFronts.Fronts.{run_ends}
-use Rattle.pyunparse_text.proofs.LexemeFronts.PieceFronts.{Off, no_token, none_empty, words_all, ArePieces}
+use Rattle.pyunparse_text.proofs.LexemeFronts.PieceFronts.{Off, no_token, none_empty, ArePieces}
 use Rattle.pyunparse_text.proofs.Sources.Bytes.{bytes_pass, first_byte, scalars_both}
 use Rattle.pyunparse_text.proofs.FieldTexts.NumberCharacters.{number_in_line}
 use Rattle.pyunparse_text.proofs.StringTerminals.Bodies.{weaker}
@@ -67,7 +67,7 @@ token_in_line : (k : Kind) (t : List ℕ) → is_token k t ≡ true → list_all
 token_in_line kinds.Name t e = name_in_line t e
 token_in_line kinds.Number t e = number_in_line t (and_parts (begins is_decimal_digit t) (is_number t) e).1
 token_in_line kinds.String t e = (and_parts (is_single_string t) (list_all is_comment_part t) e).1
-token_in_line kinds.Op t e = words_all (list_all is_comment_part) t words refl (sym (by_words t) ∙ e)
+token_in_line kinds.Op t e = one_of (list_all is_comment_part) t words refl (sym (by_words t) ∙ e)
 token_in_line kinds.Encoding t e = cc
 token_in_line kinds.Comment t e = cc
 token_in_line kinds.Nl t e = cc

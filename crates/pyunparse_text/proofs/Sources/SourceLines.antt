@@ -6,7 +6,7 @@ use Rattle.std.proofs.Common.{arith, zero}
 use Rattle.std.proofs.Common.{suc, replicate, ⊎_elim, append_assoc, if◌then◌else◌, ltb}
 use Rattle.std.specs.Prelude.{count_by, nat_lt, nat_le}
 use Rattle.std.specs.List.{list_all}
-use Rattle.std.proofs.lemmas.Bool.{cases_lt, leb-true}
+use Rattle.std.proofs.lemmas.Bool.{cases_lt, leb-true, and_parts}
 use Rattle.std.proofs.lemmas.Bool.Decides.{nat_tests}
 use Rattle.std.proofs.lemmas.Grind.{common_steps}
 use Rattle.std.proofs.lemmas.List.{append-nil, map-append}
@@ -15,7 +15,6 @@ use Rattle.pylex.specs.declared.kind.Kind.TheVariants as kinds
 use Rattle.pylex.specs.declared.entries.Entry.{Entry}
 use Rattle.pylex.specs.Listing.{Source, listing}
 use Rattle.pylex.specs.Steps.{entries_of}
-use Rattle.pylex_lexeme.proofs.Callers.Booleans.{and_parts}
 use Rattle.pyunparse_text.specs.Spacing.{Piece, Line, is_token, are_readable}
 use Rattle.pyunparse_text.specs.Tokens.{PlainToken, token_at, token_of, newline, indent, dedent, end_marker, level_tokens, line_tokens}
 use Rattle.pyunparse_text.specs.Tokens.{tokens_behind}

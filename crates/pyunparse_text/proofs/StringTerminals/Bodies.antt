@@ -6,14 +6,13 @@ use Rattle.std.proofs.Common.{refl}
 use Rattle.std.proofs.Common.{sym, ap, subst, inl, inr, ◌⊎◌, arith, length-append, if◌then◌else◌}
 use Rattle.std.specs.Prelude.{filter, nat_le}
 use Rattle.std.specs.List.{list_all, list_any, flat_map}
-use Rattle.std.proofs.lemmas.Bool.{cases_Bool, and_from, eqb-true}
+use Rattle.std.proofs.lemmas.Bool.{cases_Bool, and_from, eqb-true, and_parts, or_parts}
 use Rattle.std.proofs.lemmas.Bool.Decides.{nat_tests}
 use Rattle.std.proofs.Math.Seq.{take-nil}
 use Rattle.pyfstring.specs.Characters.{backslash}
 use Rattle.pyfstring.specs.Texts.{begins, is_brace, is_literal_char, escape_len, unit_len, units_after, behind_text}
 use Rattle.pyfstring.specs.Singles.{single_after, single}
 use Rattle.pylex_lexeme.specs.Strings.{begins_three}
-use Rattle.pylex_lexeme.proofs.Callers.Booleans.{and_parts, or_parts_false}
 use Rattle.pytoken.specs.declared.meanings.Meaning.{Meaning}
 use Rattle.pytoken.specs.declared.meanings.Meaning.TheVariants.{Point}
 use Rattle.pytoken.specs.Escapes.{meanings_after, meanings, points_in, Reading, reads, escaped_by}
@@ -36,18 +35,9 @@ joined p q (c ∷ cs) h g =
 pub none_all : (p : ℕ → Bool) (cs : List ℕ) → list_any p cs ≡ false → list_all (λ c. not (p c)) cs ≡ true
 none_all p [] h = refl
 none_all p (c ∷ cs) h =
-    let w = or_parts_false (p c) (list_any p cs) h in
+    let w = or_parts (p c) (list_any p cs) h in
     let e = w.0 in
     rw e (none_all p cs w.1)
-
-pub kept_all : (p q : ℕ → Bool) (cs : List ℕ) → list_all p cs ≡ true → list_all p (filter q cs) ≡ true
-kept_all p q [] h = refl
-kept_all p q (c ∷ cs) h =
-    let w = and_parts (p c) (list_all p cs) h in
-    elim (cases_Bool (q c)) [
-      | inl kept ↦ rw kept (and_from (p c) (list_all p (filter q cs)) w.0 (kept_all p q cs w.1))
-      | inr left_out ↦ rw left_out (kept_all p q cs w.1)
-    ]
 
 pub kept_pass : (q : ℕ → Bool) (cs : List ℕ) → list_all q (filter q cs) ≡ true
 kept_pass q [] = refl

@@ -12,13 +12,13 @@ use Rattle.std.proofs.lemmas.List.Folds.{list_any-append}
 use Rattle.std.proofs.lemmas.Bool.Decides.{nat_tests}
 use Rattle.std.proofs.lemmas.Grind.{flat_map-append}
 use Rattle.unicode_normalization.specs.Forms.{nfkc}
+use Rattle.std.proofs.lemmas.Bool.{or_parts}
 use Rattle.pylex_lexeme.specs.declared.kinds.Exact.{Exact}
 use Rattle.pylex_lexeme.specs.declared.kinds.Exact.TheVariants.{LPar, RPar}
 use Rattle.pylex_lexeme.specs.declared.lexeme.Class.{Class}
 use Rattle.pylex_lexeme.specs.declared.lexeme.Class.TheVariants as classes
 use Rattle.pylex_lexeme.specs.Lexemes.{Lexeme, is_opener_class, is_closer_class, cut}
 use Rattle.pylex_lexeme.specs.Operators.{operators, exact_of, is_opener, is_closer}
-use Rattle.pylex_lexeme.proofs.Callers.Booleans.{or_parts_false}
 use Rattle.pylex.specs.declared.kind.Kind.{Kind}
 use Rattle.pylex.specs.declared.kind.Kind.TheVariants as kinds
 use Rattle.pylex.specs.Lines.{opens, closes, count_if}
@@ -145,13 +145,13 @@ module _ (fault : Kind → List ℕ → Option TokenError) (by : Kind → List �
   lexemes_closed n no_lexeme c e d us = let z : n + d ≡ d = omega (arith, e) in rw z (omega arith)
   lexemes_closed n (a_gap {x = x} {xs = xs} g h) c e d us =
       let b = no_brackets x.«class» g in
-      let p = or_parts_false (closes x && (n == 0)) (closes_none (n + count_if (opens x) - count_if (closes x)) xs) c in
+      let p = or_parts (closes x && (n == 0)) (closes_none (n + count_if (opens x) - count_if (closes x)) xs) c in
       let same : n + count_if (opens x) - count_if (closes x) ≡ n = rw (b.0, b.1) (omega arith) in
       let o : count_by opens (x ∷ xs) ≡ count_by opens xs = counted opens x xs ∙ rw b.0 (omega arith) in
       let k : count_by closes (x ∷ xs) ≡ count_by closes xs = counted closes x xs ∙ rw b.1 (omega arith) in
       rw g (lexemes_closed n h (subst (λ m. closes_none m xs ≡ false) same p.1) (omega (arith, o, k, e)) d us)
   lexemes_closed n (a_token {x = x} {xs = xs} g t h) c e d us =
-      let p = or_parts_false (closes x && (n == 0)) (closes_none (n + count_if (opens x) - count_if (closes x)) xs) c in
+      let p = or_parts (closes x && (n == 0)) (closes_none (n + count_if (opens x) - count_if (closes x)) xs) c in
       let low : closes x ≡ true → 1 ≤ n = closer_low (closes x) n p.0 in
       let m : ℕ = n + count_if (opens x) - count_if (closes x) in
       let q : m + count_by opens xs ≡ count_by closes xs = omega (
@@ -205,9 +205,9 @@ module _ (is_nested : Bool) (terminals : List ℕ → List Terminal) (is_wrong :
   elements_closed (kept_text q h l) n = both (one _ (λ d. refl)) (elements_closed l n)
   elements_closed (a_spec l) n = both (one _ (λ d. refl)) (elements_closed l n)
   elements_closed (a_field {c = c} {t = t} {ss = ss} {es = es} b h w s l) n =
-      let f = or_parts_false (is_wrong t) (list_any (is_field_of is_wrong) (ss ++ (End ∷ es))) n in
+      let f = or_parts (is_wrong t) (list_any (is_field_of is_wrong) (ss ++ (End ∷ es))) n in
       let g =
-      or_parts_false (list_any (is_field_of is_wrong) ss) (list_any (is_field_of is_wrong) es)
+      or_parts (list_any (is_field_of is_wrong) ss) (list_any (is_field_of is_wrong) es)
       (sym (list_any-append (is_field_of is_wrong) ss (End ∷ es)) ∙ f.1) in
       let m : Closed (flat_map (element_terminals terminals) (ss ++ (End ∷ es))) =
       subst Closed (sym (flat_map-append (element_terminals terminals) ss (End ∷ es)))

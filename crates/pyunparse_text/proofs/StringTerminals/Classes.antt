@@ -5,7 +5,7 @@ use Rattle.std.proofs.Common.{◌≡◌, ℕ, Bool, true, false, ◌||◌, ◌==
 use Rattle.std.proofs.Common.{⊎_elim}
 use Rattle.std.specs.Prelude.{option_map}
 use Rattle.std.specs.List.{list_all}
-use Rattle.std.proofs.lemmas.Bool.{eqb-true}
+use Rattle.std.proofs.lemmas.Bool.{eqb-true, or_cases, and_parts}
 use Rattle.std.proofs.lemmas.List.Folds.{list_all-append}
 use Rattle.pylex_lexeme.specs.declared.kinds.Exact.{Exact}
 use Rattle.pylex_lexeme.specs.declared.lexeme.Class.{Class}
@@ -15,7 +15,6 @@ use Rattle.pylex_lexeme.specs.Strings.{opens_string, opens_triple, counts_as_str
 use Rattle.pylex_lexeme.specs.Strings.{is_triple_string}
 use Rattle.pylex_lexeme.specs.Operators.{is_operator, exact_of}
 use Rattle.pylex_lexeme.specs.Lexemes.{class_in, plain_class, is_name, is_comment, are_blanks, is_line_end, is_join}
-use Rattle.pylex_lexeme.proofs.Callers.Booleans.{and_parts, or_parts}
 use Rattle.pytoken.specs.StringValues.{is_quote}
 use Rattle.pyunparse_text.proofs.LexemeFronts.StringFronts.{split_of}
 
@@ -105,8 +104,8 @@ no_split p a b t h e =
     and_parts (list_all is_no_quote s.front) (list_all is_no_quote s.rest)
     (sym (list_all-append is_no_quote s.front s.rest) ∙ subst (λ z. list_all is_no_quote z ≡ true) s.whole h) in
     ⊎_elim (headed_quote 39 refl a s.rest w.1) (headed_quote 34 refl b s.rest w.1)
-    (or_parts (headed (λ c. c == 39) a s.rest) (headed (λ c. c == 34) b s.rest) s.rest_passes)
+    (or_cases (headed (λ c. c == 39) a s.rest) (headed (λ c. c == 34) b s.rest) s.rest_passes)
 
 pub no_string : (t : List ℕ) → list_all (λ c. not (is_quote c)) t ≡ true → (is_triple_string t || is_single_string t) ≡ true → ⊥
 unfolding is_triple_string is_single_string is_triple is_single
-no_string t h e = ⊎_elim (no_split _ _ _ t h) (no_split _ _ _ t h) (or_parts (is_triple_string t) (is_single_string t) e)
+no_string t h e = ⊎_elim (no_split _ _ _ t h) (no_split _ _ _ t h) (or_cases (is_triple_string t) (is_single_string t) e)

@@ -8,7 +8,7 @@ use Rattle.std.specs.Prelude.{option_map}
 use Rattle.std.specs.List.{list_all, flat_map}
 use Rattle.std.specs.Str.{all_scalars}
 use Rattle.std.proofs.Math.Utf8.{scalar}
-use Rattle.std.proofs.lemmas.Bool.{and_from}
+use Rattle.std.proofs.lemmas.Bool.{and_parts}
 use Rattle.std.proofs.lemmas.List.Folds.{list_all-append}
 use Rattle.pyfstring.specs.declared.parts.Conversion.{Conversion}
 use Rattle.pyfstring.specs.declared.parts.Manner.{Manner}
@@ -19,16 +19,10 @@ use Rattle.pyfstring.specs.Parts.{FieldParts, Part, BodyPart}
 use Rattle.pyfstring.specs.Texts.{behind_text}
 use Rattle.pyfstring.specs.Pieces.{IsField, Keeps, Converts, Specifies, Cuts, IsInnerSpec, IsSpec, IsCut, behind_blanks}
 use Rattle.pyfstring.proofs.Callers.Law.{cut_of_sound}
-use Rattle.pylex_lexeme.proofs.Callers.Booleans.{and_parts}
 use Rattle.pytoken.specs.StringValues.{with_line_feeds, is_raw, body_of}
 use Rattle.pytoken.specs.FormattedStrings.{Element, Field, Spec, End, text_element, kept_elements, spec_elements, field_elements}
 use Rattle.pytoken.specs.FormattedStrings.{part_elements}
 use Rattle.pytoken.specs.FormattedStrings.{inner_elements, spec_part_elements, body_part_elements, elements_of}
-
-pub front_scalars : (t b : List ℕ) → all_scalars (t ++ b) ≡ true → all_scalars t ≡ true
-front_scalars [] b h = refl
-front_scalars (c ∷ t) b h = let w = and_parts (scalar c) (all_scalars (t ++ b)) h in
-    and_from (scalar c) (all_scalars t) w.0 (front_scalars t b w.1)
 
 pub back_scalars : (a b : List ℕ) → all_scalars (a ++ b) ≡ true → all_scalars b ≡ true
 back_scalars [] b h = h

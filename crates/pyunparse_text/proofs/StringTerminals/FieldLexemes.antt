@@ -7,12 +7,12 @@ use Rattle.std.proofs.Common.{is_some}
 use Rattle.std.specs.List.{list_all, list_any}
 use Rattle.std.specs.Str.{all_scalars}
 use Rattle.std.proofs.lemmas.List.Folds.{list_all-append}
+use Rattle.std.proofs.lemmas.Bool.{and_parts, or_parts}
 use Rattle.pylex_lexeme.specs.Lexemes.{Lexeme, class_in, cut, left_by_cut}
-use Rattle.pylex_lexeme.proofs.Callers.Booleans.{and_parts, or_parts_false}
 use Rattle.pylex.specs.declared.kind.Kind.{Kind}
 use Rattle.pylex.specs.Spots.{kind_of}
 use Rattle.pylex.specs.Laws.{AreLexemes}
-use Rattle.pylex.proofs.Callers.{cut_lexed, longest_wins}
+use Rattle.pylex.proofs.Callers.{cut_lexed, longest_wins, scalars_of}
 use Rattle.pyfstring_tokens.specs.FieldTokens.{FieldToken, is_gap, has_fault, closes_outer, has_comment, opening, closing}
 use Rattle.pyfstring_tokens.specs.Answers.{field_token}
 use Rattle.pyfstring_tokens.specs.Given.{AreAll}
@@ -20,7 +20,7 @@ use Rattle.pyfstring_tokens.specs.Laws.{tokens_of, IsWhole, HasOwnTokens}
 use Rattle.pyfstring_tokens.proofs.Callers.Law.{tokens_are_own}
 use Rattle.pytoken.specs.declared.faults.TokenError.{TokenError}
 use Rattle.pytoken.specs.FormattedStrings.{has_no_tokens, is_faulty_by}
-use Rattle.pyunparse_text.proofs.StringTerminals.Elements.{front_scalars, back_scalars}
+use Rattle.pyunparse_text.proofs.StringTerminals.Elements.{back_scalars}
 
 -- a lexeme that is a token, of characters that pass a test, and has no fault
 pub record IsToken (p : ℕ → Bool) (fault : Kind → List ℕ → Option TokenError) (x : Lexeme) : Type 0 where
@@ -69,12 +69,12 @@ module _ (p : ℕ → Bool) (fault : Kind → List ℕ → Option TokenError) wh
           → (has_one fault (tokens_of xs ++ behind) ≡ false → AllTokens p fault xs) → AllTokens p fault (x ∷ xs)
       by true e n more = a_gap e (more n)
       by false e n more =
-          let f = or_parts_false (is_some (fault (kind_of x.«class» true) x.text)) (has_one fault (tokens_of xs ++ behind)) n in
+          let f = or_parts (is_some (fault (kind_of x.«class» true) x.text)) (has_one fault (tokens_of xs ++ behind)) n in
           a_token e
           (record {
             before = text;
             in_class = ((longest_wins text).longest x at).in_class;
-            scalars = front_scalars x.text rest w;
+            scalars = scalars_of x.text rest w;
             characters = v.0;
             faultless = no_fault (fault (kind_of x.«class» true) x.text) f.0;
           })
@@ -84,10 +84,10 @@ module _ (p : ℕ → Bool) (fault : Kind → List ℕ → Option TokenError) wh
   unfolding is_faulty_by
   whole_field t s h n =
       let own : HasOwnTokens t = tokens_are_own t s in
-      let f = or_parts_false (has_no_tokens t) _ n in
-      let g = or_parts_false (has_fault t || closes_outer t) (has_comment t) f.0 in
-      let k = or_parts_false (has_fault t) (closes_outer t) g.0 in
+      let f = or_parts (has_no_tokens t) _ n in
+      let g = or_parts (has_fault t || closes_outer t) (has_comment t) f.0 in
+      let k = or_parts (has_fault t) (closes_outer t) g.0 in
       let w : IsWhole t = own.whole k.0 k.1 g.1 in
       let a : AreAll t (tokens_of (cut t)) = own.all w in
-      let b = or_parts_false (is_some (fault opening.kind opening.text)) _ (ap (has_one fault) (sym a) ∙ f.1) in
+      let b = or_parts (is_some (fault opening.kind opening.text)) _ (ap (has_one fault) (sym a) ∙ f.1) in
       record { whole = w; tokens = a; all = lexeme_tokens t (cut t) (left_by_cut t) (cut_lexed t) s h (closing ∷ []) b.1 }

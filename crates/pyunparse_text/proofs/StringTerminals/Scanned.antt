@@ -6,13 +6,13 @@ use Rattle.std.proofs.Common.{None, refl}
 use Rattle.std.proofs.Common.{sym, ◌∙◌, ap, subst, inl, inr, ◌⊎◌, arith, length-append}
 use Rattle.std.specs.Prelude.{nat_lt, slice_get}
 use Rattle.std.specs.List.{list_all}
-use Rattle.std.proofs.lemmas.Bool.{cases_Bool, and_from, eqb-true}
+use Rattle.std.proofs.lemmas.Bool.{cases_Bool, and_from, eqb-true, and_parts, or_parts}
 use Rattle.std.proofs.lemmas.Bool.Decides.{nat_tests}
 use Rattle.pyfstring.specs.Characters.{backslash, equals_sign, hash}
 use Rattle.pyfstring.specs.Texts.{begins_with}
 use Rattle.pyfstring.specs.Expressions.{is_quote, is_refused, is_end, is_empty, is_last, most_open, opened_by, closed_by, begins_comparison}
 use Rattle.pyfstring.specs.Expressions.{begins_three, step, Inside, expression, shortstring, longstring, scan, behind_expression}
-use Rattle.pylex_lexeme.proofs.Callers.Booleans.{and_parts, or_parts_false}
+use Rattle.pygrammar.proofs.Callers.OpenStrings.{none_some}
 use Rattle.pyunparse_text.proofs.FieldTexts.Characters.{Bracket}
 
 abbrev pub is_no_backslash : ℕ → Bool
@@ -45,9 +45,6 @@ three_calm c (d ∷ e ∷ cs) h w =
 some_or_none : {A : Type 0} (o : Option A) → ((x : A) × (o ≡ Some x)) ⊎ (o ≡ None)
 some_or_none None = inr refl
 some_or_none (Some x) = inl (x, refl)
-
-pub never : {A : Type 0} (o : Option A) (x : A) → o ≡ None → o ≡ Some x → ⊥
-never o x e h = let z : None ≡ Some x = sym e ∙ h in absurd (cc)
 
 quote_calm : (c : ℕ) → is_quote c ≡ true → is_no_backslash c ≡ true
 quote_calm c q = grind (arith, nat_tests)
@@ -94,7 +91,7 @@ module _ (t rest : List ℕ)
           more expression (opened ++ b.0 ∷ []) 0 tt (sym e ∙ h))
       | inr l ↦ (let o = b.1 in
           let e : scan expression opened 0 (c ∷ t ++ rest) ≡ None = rw (q, r, m, n, o, l, scan) refl in
-          absurd (never _ rest e h))
+          absurd (none_some _ rest e h))
     ]
     | inr o ↦ elim (some_or_none (closed_by c)) [
       | inl b ↦ elim (cases_Bool (is_last (slice_get opened (length opened - 1)) b.0)) [
@@ -104,7 +101,7 @@ module _ (t rest : List ℕ)
             more expression (take (length opened - 1) opened) 0 tt (sym e ∙ h))
         | inr l ↦ (let s = b.1 in
             let e : scan expression opened 0 (c ∷ t ++ rest) ≡ None = rw (q, r, m, n, o, s, l, scan) refl in
-            absurd (never _ rest e h))
+            absurd (none_some _ rest e h))
       ]
       | inr s ↦ (
           let e : scan expression opened 0 (c ∷ t ++ rest) ≡ scan expression opened 0 (t ++ rest) = rw (q, r, m, n, o, s, scan) refl in
@@ -118,8 +115,8 @@ module _ (t rest : List ℕ)
   at_expression opened c h = elim (cases_Bool (is_quote c)) [
     | inl q ↦ at_literal opened c q h
     | inr q ↦ elim (cases_Bool (is_refused c)) [
-      | inl r ↦ (let e : scan expression opened 0 (c ∷ t ++ rest) ≡ None = rw (q, r, scan) refl in absurd (never _ rest e h))
-      | inr r ↦ both_calm c (no_backslash c (or_parts_false (c == backslash) (c == hash) r).0)
+      | inl r ↦ (let e : scan expression opened 0 (c ∷ t ++ rest) ≡ None = rw (q, r, scan) refl in absurd (none_some _ rest e h))
+      | inr r ↦ both_calm c (no_backslash c (or_parts (c == backslash) (c == hash) r).0)
           (elim (cases_Bool (is_empty opened && begins_comparison (c ∷ t ++ rest))) [
             | inl m ↦ (
                 let e : scan expression opened 0 (c ∷ t ++ rest) ≡ scan expression opened 1 (t ++ rest) = rw (q, r, m, scan) refl in

@@ -2,26 +2,23 @@
 -- end as an expression does. How brackets add up is in Joins.
 --
 -- Carries: what pyunparse_text cites. On: Joins, PieceFronts, Runs, Cases.
-use Rattle.std.proofs.Common.{◌≡◌, ℕ, Bool, true, false, not, ◌&&◌, ◌||◌, List, [], ◌∷◌, ◌++◌, refl, ◌∙◌, take, ⊎_elim}
+use Rattle.std.proofs.Common.{◌≡◌, ℕ, Bool, true, false, not, ◌&&◌, ◌||◌, List, [], ◌∷◌, ◌++◌, refl, ◌∙◌}
 use Rattle.std.specs.Prelude.{codes}
 use Rattle.std.specs.List.{list_all}
-use Rattle.std.specs.Str.{all_scalars, bytes_eq}
+use Rattle.std.specs.Str.{all_scalars}
 use Rattle.std.proofs.lemmas.List.Folds.{list_all-append}
-use Rattle.std.proofs.lemmas.Slice.Eq.{bytes_eq-Decides}
-use Rattle.std.proofs.lemmas.Bool.{not-true}
+use Rattle.std.proofs.lemmas.Bool.{not-true, and_parts}
 use Rattle.pylex.specs.declared.kind.Kind.TheVariants as kinds
-use Rattle.pylex_lexeme.specs.Operators.{operators}
-use Rattle.pylex_lexeme.proofs.Callers.Booleans.{and_parts, or_parts}
 use Rattle.pylex_lexeme.proofs.Callers.Lexemes.{by_words}
-use Rattle.pyunparse_text.specs.Spacing.{Piece, is_token, is_operator_kind, touches, begins_operator, stay_apart}
-use Rattle.pyunparse_text.specs.Inner.Edges.{begins_item, openers, stars, is_among, closings, leading, openings, trailing}
+use Rattle.pyunparse_text.specs.Spacing.{Piece, is_token, is_operator_kind, touches, stay_apart}
+use Rattle.pyunparse_text.specs.Inner.Edges.{begins_item, is_among, closings, leading, openings, trailing}
 use Rattle.pyunparse_text.specs.Inner.Edges.{begins_expression}
 use Rattle.pyunparse_text.specs.Inner.Edges.{ends_expression, is_free_behind, is_free_before, is_sign, fit, are_neat, begins_by, ends_by}
-use Rattle.pyunparse_text.proofs.LexemeFronts.PieceFronts.{ArePieces, words_all}
+use Rattle.pyunparse_text.proofs.LexemeFronts.PieceFronts.{ArePieces}
 use Rattle.pyunparse_text.proofs.Listings.Runs.{AreScalar}
 use Rattle.pyunparse_text.proofs.TokenLists.Joins.{neat_both, begins_both, ends_both}
 use Rattle.pyunparse_text.proofs.TokenLists.Joins.{behind_leading}
-use Rattle.pyunparse_text.proofs.TokenLists.Joins.{before_trailing, before_point, behind_point}
+use Rattle.pyunparse_text.proofs.TokenLists.Joins.{before_trailing}
 
 -- pieces that begin and end by these tests
 pub record Written (b e : Piece → Bool) (ps : List Piece) : Type 0 where
@@ -119,17 +116,6 @@ one_sign f p t s e = record { pieces = rw t refl; scalars = rw s refl; neat = re
 abbrev sign : Bool → Bool → List ℕ → Piece
 sign l r t = record { kind = kinds.Op; text = t; before = l; behind = r }
 
--- `(` xs `)`
-pub in_brackets : (xs : List Piece) → Expression xs → Expression (sign false true (codes "(") ∷ xs ++ sign true false (codes ")") ∷ [])
-in_brackets xs x =
-    let l : Written begins_expression (is_sign leading) (sign false true (codes "(") ∷ []) =
-    (let t = by_words (codes "(") in record { pieces = rw t refl; scalars = refl; neat = refl; begins = rw t refl; ends = refl }) in
-    let r : Written (is_sign trailing) ends_expression (sign true false (codes ")") ∷ []) =
-    (let t = by_words (codes ")") in record { pieces = rw t refl; scalars = refl; neat = refl; begins = refl; ends = rw t refl }) in
-    both begins_expression (is_sign leading) begins_expression ends_expression leading_fits
-    (sign false true (codes "(") ∷ []) (xs ++ sign true false (codes ")") ∷ []) l
-    (both begins_expression ends_expression (is_sign trailing) ends_expression trailing_fits xs (sign true false (codes ")") ∷ []) x r)
-
 -- xs `+` ys
 pub added : (xs ys : List Piece) → Expression xs → Expression ys → Expression (xs ++ sign false false (codes "+") ∷ ys)
 added xs ys x y =
@@ -140,57 +126,12 @@ added xs ys x y =
     (both is_free_before is_free_behind begins_expression ends_expression (λ p q a b. blank_fits p q a (free_before q b))
     (sign false false (codes "+") ∷ []) ys m y)
 
--- xs `.` name
-pub attribute : (xs : List Piece) (t : List ℕ) → Expression xs → is_token kinds.Name t ≡ true → all_scalars t ≡ true
-    → Expression (xs ++ sign true true (codes ".") ∷ record { kind = kinds.Name; text = t; before = false; behind = false } ∷ [])
-attribute xs t x e s =
-    let n : Expression (record { kind = kinds.Name; text = t; before = false; behind = false } ∷ []) =
-    one_piece (record { kind = kinds.Name; text = t; before = false; behind = false }) e refl refl refl s in
-    let d : Written (λ q. is_operator_kind q.kind && bytes_eq q.text (codes ".")) ends_expression
-    (sign true true (codes ".") ∷ record { kind = kinds.Name; text = t; before = false; behind = false } ∷ []) =
-    (let o = by_words (codes ".") in record {
-      pieces = rw (o, e) refl;
-      scalars = rw s refl;
-      neat = (let f = apart_fits (sign true true (codes ".")) (record { kind = kinds.Name; text = t; before = false; behind = false })
-          (behind_point (sign true true (codes ".")) (record { kind = kinds.Name; text = t; before = false; behind = false }) refl
-          refl refl e) in rw f refl);
-      begins = refl;
-      ends = n.ends;
-    }) in
-    both begins_expression ends_expression (λ q. is_operator_kind q.kind && bytes_eq q.text (codes ".")) ends_expression
-    (λ p q a b. let h = and_parts (is_operator_kind q.kind) (bytes_eq q.text (codes ".")) b in
-    before_point p q a h.0 ((bytes_eq-Decides q.text (codes ".")).0 h.1)) xs _ x d
-
 -- Items: expressions, and what begins with a star
 abbrev pub Item : List Piece → Type 0
 Item ps = Written begins_item ends_expression ps
 
 pub item : (xs : List Piece) → Expression xs → Item xs
 item xs x = weaker begins_expression begins_item ends_expression ends_expression (λ p e. rw e refl) (λ p e. e) xs x
-
-openers_stars : list_all (λ t. list_all (λ u. not (begins_operator (t ++ take 1 u))) stars) openers ≡ true
-unfolding operators
-openers_stars = refl
-
--- an opening bracket, and an item
-pub opener_fits : (p q : Piece) → is_sign openers p ≡ true → begins_item q ≡ true → fit p q ≡ true
-opener_fits p q a b =
-    let x = and_parts (is_operator_kind p.kind) (is_among openers p.text) a in
-    ⊎_elim
-    (λ (h : begins_expression q ≡ true).
-    let l : is_among leading p.text ≡ true = words_all (is_among leading) p.text openers refl x.1 in
-    leading_fits p q (rw (x.0, l) refl) h)
-    (λ (h : ((is_operator_kind q.kind && is_among stars q.text) && not q.before) ≡ true).
-    let s =
-    and_parts (is_operator_kind q.kind) (is_among stars q.text)
-    (and_parts (is_operator_kind q.kind && is_among stars q.text) (not q.before) h).0 in
-    let n = not-true (bytes_eq p.text (codes ".")) (words_all (λ t. not (bytes_eq t (codes "."))) p.text openers refl x.1) in
-    let m =
-    not-true (begins_operator (p.text ++ take 1 q.text))
-    (words_all (λ u. not (begins_operator (p.text ++ take 1 u))) q.text stars
-    (words_all (λ t. list_all (λ u. not (begins_operator (t ++ take 1 u))) stars) p.text openers openers_stars x.1) s.1) in
-    apart_fits p q (rw (x.0, n, m) refl))
-    (or_parts (begins_expression q) ((is_operator_kind q.kind && is_among stars q.text) && not q.before) b)
 
 -- `*` xs
 pub starred : (xs : List Piece) → Expression xs → Item (sign false true (codes "*") ∷ xs)
@@ -211,17 +152,3 @@ keyword t xs e s x =
     (both begins_expression ends_expression (is_sign trailing) ends_expression trailing_fits
     (record { kind = kinds.Name; text = t; before = false; behind = false } ∷ []) (sign true true (codes "=") ∷ xs) n
     (both (is_sign trailing) (is_sign leading) begins_expression ends_expression leading_fits (sign true true (codes "=") ∷ []) xs m x))
-
--- xs `(` ys `)`
-pub called : (xs ys : List Piece) → Expression xs → Item ys
-    → Expression (xs ++ (sign true true (codes "(") ∷ ys ++ sign true false (codes ")") ∷ []))
-called xs ys x y =
-    let l : Written (is_sign trailing) (is_sign openers) (sign true true (codes "(") ∷ []) =
-    (let o = by_words (codes "(") in record { pieces = rw o refl; scalars = refl; neat = refl; begins = refl; ends = refl }) in
-    let r : Written (is_sign trailing) ends_expression (sign true false (codes ")") ∷ []) =
-    (let o = by_words (codes ")") in record { pieces = rw o refl; scalars = refl; neat = refl; begins = refl; ends = rw o refl }) in
-    both begins_expression ends_expression (is_sign trailing) ends_expression trailing_fits xs
-    (sign true true (codes "(") ∷ ys ++ sign true false (codes ")") ∷ []) x
-    (both (is_sign trailing) (is_sign openers) begins_item ends_expression opener_fits (sign true true (codes "(") ∷ [])
-    (ys ++ sign true false (codes ")") ∷ []) l
-    (both begins_item ends_expression (is_sign trailing) ends_expression trailing_fits ys (sign true false (codes ")") ∷ []) y r))

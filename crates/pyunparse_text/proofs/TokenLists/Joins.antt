@@ -11,13 +11,13 @@ use Rattle.std.specs.Str.{bytes_eq}
 use Rattle.std.proofs.lemmas.Bool.Decides.{nat_tests}
 use Rattle.std.proofs.lemmas.List.{take-append-drop}
 use Rattle.std.proofs.lemmas.Slice.Eq.{bytes_eq-Decides}
-use Rattle.std.proofs.lemmas.Bool.{cases_Bool, false_from_ne_true, not-true}
+use Rattle.std.proofs.lemmas.Bool.{cases_Bool, false_from_ne_true, not-true, or_cases, and_parts}
 use Rattle.pylex.specs.declared.kind.Kind.{Kind}
 use Rattle.pylex.specs.declared.kind.Kind.TheVariants as kinds
 use Rattle.pylex_lexeme.specs.Operators.{operators}
-use Rattle.pylex_lexeme.proofs.Callers.Booleans.{and_parts, or_parts}
 use Rattle.pylex_lexeme.proofs.Callers.Lexemes.{words, heads}
 use Rattle.pylex_lexeme.specs.Strings.{lower, prefixes}
+use Rattle.pylex_lexeme.proofs.Callers.WholeLines.{one_of}
 use Rattle.pyunparse_text.specs.Spacing.{Piece, is_token, is_operator_kind, is_number_kind, touches, stay_apart, are_two_points}
 use Rattle.pyunparse_text.specs.Spacing.{begins_operator}
 use Rattle.pyunparse_text.specs.Spacing.{all_apart, are_readable}
@@ -25,7 +25,7 @@ use Rattle.pyunparse_text.specs.Inner.Edges.{is_among, closings, leading, openin
 use Rattle.pyunparse_text.specs.Inner.Edges.{fit}
 use Rattle.pyunparse_text.specs.Inner.Edges.{all_fit, are_neat, begins_by, ends_by}
 use Rattle.pyunparse_text.specs.Tokens.{opens, closes, closes_all}
-use Rattle.pyunparse_text.proofs.LexemeFronts.PieceFronts.{words_all, ArePieces, Off, no_token, none_empty}
+use Rattle.pyunparse_text.proofs.LexemeFronts.PieceFronts.{ArePieces, Off, no_token, none_empty}
 use Rattle.pyunparse_text.proofs.LexemeFronts.OperatorFronts.{begins_word, of_any, is_sign_char, sign_of}
 
 -- Neat lists, put together
@@ -110,7 +110,7 @@ begins_any t c (o ∷ os) a e =
     (λ (h : starts_with nat_eq o (t ++ c ∷ []) ≡ true). char_of (λ d. list_any (eqb d) sign_chars) t (drop (length (t ++ c ∷ [])) o) c
     (subst (λ (u : List ℕ). list_all (λ d. list_any (eqb d) sign_chars) u ≡ true) (front_is o (t ++ c ∷ []) h) q.0))
     (λ (h : list_any (λ o. starts_with nat_eq o (t ++ c ∷ [])) os ≡ true). begins_any t c os q.1 h)
-    (or_parts (starts_with nat_eq o (t ++ c ∷ [])) (list_any (λ o. starts_with nat_eq o (t ++ c ∷ [])) os) e)
+    (or_cases (starts_with nat_eq o (t ++ c ∷ [])) (list_any (λ o. starts_with nat_eq o (t ++ c ∷ [])) os) e)
 
 -- after no operator does a name, a number or a string make a longer one
 pub plain_head : (k : Kind) (t u : List ℕ) → is_token k u ≡ true → is_operator_kind k ≡ false → begins_operator (t ++ take 1 u) ≡ false
@@ -128,7 +128,7 @@ plain_head k t (c ∷ u) e f = false_from_ne_true (begins_operator (t ++ c ∷ [
 pairs_all : (p : List ℕ → List ℕ → Bool) (ts us : List (List ℕ)) (t u : List ℕ)
     → list_all (λ x. list_all (p x) us) ts ≡ true → is_among ts t ≡ true
     → is_among us u ≡ true → p t u ≡ true
-pairs_all p ts us t u a e f = words_all (p t) u us (words_all (λ x. list_all (p x) us) t ts a e) f
+pairs_all p ts us t u a e f = one_of (p t) u us (one_of (λ x. list_all (p x) us) t ts a e) f
 
 abbrev no_longer : List ℕ → List ℕ → Bool
 no_longer t u = not (begins_operator (t ++ take 1 u))
@@ -148,7 +148,7 @@ behind_leading p q a b =
     let y : (is_token q.kind q.text ≡ true) × ((not (is_operator_kind q.kind) || is_among openings q.text) ≡ true) =
     (y0.0, (and_parts (not (is_operator_kind q.kind) || is_among openings q.text) (not q.before) y0.1).0) in
     let n : bytes_eq p.text (codes ".") ≡ false =
-    not-true (bytes_eq p.text (codes ".")) (words_all (λ t. not (bytes_eq t (codes "."))) p.text leading refl x.1) in
+    not-true (bytes_eq p.text (codes ".")) (one_of (λ t. not (bytes_eq t (codes "."))) p.text leading refl x.1) in
     let m : begins_operator (p.text ++ take 1 q.text) ≡ false = ⊎_elim
     (λ (h : is_operator_kind q.kind ≡ true). let g : is_among openings q.text ≡ true = rw h at y.1 in
     not-true (begins_operator (p.text ++ take 1 q.text)) (pairs_all no_longer leading openings p.text q.text leading_openings x.1 g))
@@ -164,12 +164,12 @@ before_trailing p q a b =
     (x0.0, (and_parts (not (is_operator_kind p.kind) || is_among closings p.text) (not p.behind) x0.1).0) in
     let y = and_parts (is_operator_kind q.kind) (is_among trailing q.text) b in
     let d : bytes_eq (take 1 q.text) (codes ".") ≡ false =
-    not-true (bytes_eq (take 1 q.text) (codes ".")) (words_all (λ t. not (bytes_eq (take 1 t) (codes "."))) q.text trailing refl y.1) in
+    not-true (bytes_eq (take 1 q.text) (codes ".")) (one_of (λ t. not (bytes_eq (take 1 t) (codes "."))) q.text trailing refl y.1) in
     ⊎_elim
     (λ (h : is_operator_kind p.kind ≡ true).
     let g : is_among closings p.text ≡ true = rw h at x.1 in
     let n : bytes_eq p.text (codes ".") ≡ false =
-    not-true (bytes_eq p.text (codes ".")) (words_all (λ t. not (bytes_eq t (codes "."))) p.text closings refl g) in
+    not-true (bytes_eq p.text (codes ".")) (one_of (λ t. not (bytes_eq t (codes "."))) p.text closings refl g) in
     let m =
     not-true (begins_operator (p.text ++ take 1 q.text))
     (pairs_all no_longer closings (codes "." ∷ trailing) p.text q.text closings_trailing g (right (bytes_eq q.text (codes "."))
@@ -183,50 +183,5 @@ before_trailing p q a b =
     right false y e = e
 
     none : (b : Bool) → not (b && false) ≡ true
-    none true = refl
-    none false = refl
-
--- A point after an expression: a number has a blank before it
-pub before_point : (p q : Piece) → ends_expression p ≡ true → is_operator_kind q.kind ≡ true → q.text ≡ codes "." → fit p q ≡ true
-before_point p q a k t =
-    let x0 = and_parts (is_token p.kind p.text) ((not (is_operator_kind p.kind) || is_among closings p.text) && not p.behind) a in
-    let x : (is_token p.kind p.text ≡ true) × ((not (is_operator_kind p.kind) || is_among closings p.text) ≡ true) =
-    (x0.0, (and_parts (not (is_operator_kind p.kind) || is_among closings p.text) (not p.behind) x0.1).0) in
-    ⊎_elim
-    (λ (h : is_operator_kind p.kind ≡ true).
-    let g : is_among closings p.text ≡ true = rw h at x.1 in
-    let n : bytes_eq p.text (codes ".") ≡ false =
-    not-true (bytes_eq p.text (codes ".")) (words_all (λ t. not (bytes_eq t (codes "."))) p.text closings refl g) in
-    let m : begins_operator (p.text ++ take 1 q.text) ≡ false =
-    ap (λ u. begins_operator (p.text ++ take 1 u)) t
-    ∙ not-true (begins_operator (p.text ++ 46 ∷ [])) (pairs_all no_longer closings (codes "." ∷ trailing) p.text (codes ".")
-    closings_trailing g refl) in
-    let s : stay_apart p q ≡ true = rw (h, n, m) refl in
-    last (not (touches p q)) (stay_apart p q) s)
-    (λ (h : is_operator_kind p.kind ≡ false).
-    ⊎_elim
-    (λ (i : is_number_kind p.kind ≡ true). let u : touches p q ≡ false = rw (t, i) (blank (p.behind || q.before)) in rw u refl)
-    (λ (i : is_number_kind p.kind ≡ false). let s : stay_apart p q ≡ true = rw (h, k, i) refl in
-    last (not (touches p q)) (stay_apart p q) s)
-    (cases_Bool (is_number_kind p.kind)))
-    (cases_Bool (is_operator_kind p.kind))
-  where
-    last : (a b : Bool) → b ≡ true → (a || b) ≡ true
-    last true b e = refl
-    last false b e = e
-
-    blank : (b : Bool) → (b && false && not (bytes_eq p.text (codes ",") && false)) ≡ false
-    blank true = refl
-    blank false = refl
-
--- A name after a point
-pub behind_point : (p q : Piece) → is_operator_kind p.kind ≡ true → p.text ≡ codes "." → q.kind ≡ kinds.Name → is_token q.kind q.text ≡ true
-    → stay_apart p q ≡ true
-behind_point p q k t n e =
-    let m : begins_operator (p.text ++ take 1 q.text) ≡ false = plain_head q.kind p.text q.text e (rw n refl) in
-    let z : is_number_kind q.kind ≡ false = rw n refl in
-    rw (k, m, z) (none (bytes_eq p.text (codes ".")))
-  where
-    none : (b : Bool) → (true && not (b && false)) ≡ true
     none true = refl
     none false = refl

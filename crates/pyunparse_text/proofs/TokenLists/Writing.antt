@@ -4,8 +4,7 @@
 use Rattle.std.proofs.Common.{◌≡◌, ℕ, ◌+◌, ◌≤◌, Bool, true, ◌==◌, List, [], ◌∷◌, ◌++◌, refl, arith}
 use Rattle.std.specs.Prelude.{nat_le}
 use Rattle.std.specs.List.{list_all}
-use Rattle.std.proofs.lemmas.Bool.{leb-true, le-leb, eqb-true}
-use Rattle.pylex_lexeme.proofs.Callers.Booleans.{and_parts}
+use Rattle.std.proofs.lemmas.Bool.{leb-true, le-leb, eqb-true, and_parts}
 use Rattle.pyunparse_text.specs.Spacing.{Line}
 use Rattle.pyunparse_text.specs.Tokens.{rise_by_one}
 

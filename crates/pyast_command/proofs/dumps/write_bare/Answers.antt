@@ -1,4 +1,4 @@
-use Rattle.std.proofs.Common.{◌≡◌, ◌++◌, ap, codes, inl, false, subst, ◌∙◌}
+use Rattle.std.proofs.Common.{◌++◌, ap, codes, inl, false, ◌∙◌}
 use Rattle.std.specs.List.{concat}
 use Rattle.std.proofs.lemmas.Result.{err_from_is_err_and}
 use Rattle.pysource.proofs.Callers.Taken.{Appends-refl}

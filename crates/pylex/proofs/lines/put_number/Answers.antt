@@ -1,7 +1,7 @@
 use Rattle.std.proofs.Common.{◌≡◌, ◌∷◌, ◌+◌, ◌++◌, ℕ, List, length, drop, ap, sym, ◌∙◌, arith, rules}
 use Rattle.std.specs.Prelude.{◌/◌, ◌%◌}
-use Rattle.std.proofs.lemmas.Fmt.{length-decimal-le}
-use Rattle.pylex.proofs.Texts.LinesLemmas.{one_digit, two_digits, drop_behind}
+use Rattle.std.proofs.lemmas.Fmt.{length-decimal-le, decimal_digit}
+use Rattle.pylex.proofs.Texts.LinesLemmas.{two_digits, drop_behind}
 use Rattle.pylex.proofs.lines.put_number.Goals as goal
 
 pub write_digits-requires : goal.write_digits-requires
@@ -15,7 +15,7 @@ returns-clause-short c =
 pub returns-then-number-lt10-clause-start : goal.returns-then-number-lt10-clause-start
 returns-then-number-lt10-clause-start c = omega (
   arith,
-  ap length (one_digit c.args.number c.if-number-lt10.true),
+  ap length (decimal_digit c.args.number c.if-number-lt10.true),
   c.put_sign-ones.ensures.start,
 )
 
@@ -26,7 +26,7 @@ returns-then-number-lt10-clause-written c =
     c.put_sign-tens.ensures.written
     ∙ c.put_sign-ones.ensures.written
     ∙ ap (λ n. (48 + n) ∷ drop c.args.end c.args.field.now) whole
-    ∙ ap (λ (t : List ℕ). t ++ drop c.args.end c.args.field.now) (sym (one_digit c.args.number c.if-number-lt10.true))
+    ∙ ap (λ (t : List ℕ). t ++ drop c.args.end c.args.field.now) (sym (decimal_digit c.args.number c.if-number-lt10.true))
 
 pub returns-else-number-lt10-clause-start : goal.returns-else-number-lt10-clause-start
 returns-else-number-lt10-clause-start c =

@@ -1,6 +1,6 @@
 use Rattle.std.proofs.Common.{◌∙◌, refl, sym}
 use Rattle.std.specs.Str.{chars}
-use Rattle.pylex_lexeme.proofs.Callers.Booleans.{right_false}
+use Rattle.std.proofs.lemmas.Bool.{and_right}
 use Rattle.pylex.proofs.Listers.Finding.{settles_level, settles_same, indent_ahead, dedent_ahead, fault_mismatch}
 use Rattle.pylex_lexeme.specs.Cuts.{begins_significant}
 use Rattle.pylex.proofs.peeked.line_start.Goals as goal
@@ -10,7 +10,7 @@ pub returns-then-not-now-clause-settles : goal.returns-then-not-now-clause-settl
 returns-then-not-now-clause-settles c = λ _. settles_same c.args.levels.now c.args.now.now (chars c.args.text.now)
     (elim c.then-not-now.branch [
       | then-not-now-via-then-not-now w ↦ rw w.if-not-now.true refl
-      | then-not-now-via-else-not-now+then-not-begins_significant w ↦ right_false c.args.now.now.margin
+      | then-not-now-via-else-not-now+then-not-begins_significant w ↦ and_right c.args.now.now.margin
           (begins_significant (chars c.args.text.now)) (sym w.begins_significant.ensures ∙ w.if-not-begins_significant.true)
     ])
 

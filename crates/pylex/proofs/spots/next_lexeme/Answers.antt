@@ -1,8 +1,8 @@
-use Rattle.std.proofs.Common.{◌≡◌, ℕ, ◌+◌, length, false, arith, refl}
+use Rattle.std.proofs.Common.{◌≡◌, ◌+◌, false, arith, refl}
 use Rattle.pylex_lexeme.specs.declared.lexeme.Class.{Class}
 use Rattle.pylex_lexeme.specs.declared.lexeme.Class.TheVariants.{Name, Number, String, Operator, Comment, Blanks, LineEnd, Join}
 use Rattle.pylex.specs.Spots.{is_silent, here, blanks, join}
-use Rattle.pylex.proofs.Listers.Finding.{shorter_after, some_bytes}
+use Rattle.pylex.proofs.Listers.Finding.{shorter_after}
 use Rattle.pylex.proofs.MachineLaws.Told.{cuts_as}
 use Rattle.pylex.proofs.spots.next_lexeme.Goals as goal
 

@@ -25,7 +25,7 @@ loop-progress-init c =
           (record {
             forms = [];
             known = (c.new-progress.ensures c.args.profile s).known;
-            places = (c.new-progress.ensures c.args.profile s).places;
+            last_lines = (c.new-progress.ensures c.args.profile s).last_lines;
           });
     }
 

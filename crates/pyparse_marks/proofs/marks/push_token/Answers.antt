@@ -1,7 +1,6 @@
 use Rattle.std.proofs.Common.{◌≡◌, ◌∷◌, [], map, ap, sym, List, ◌++◌, ◌+◌, false, ◌∙◌}
 use Rattle.std.proofs.lemmas.List.{map-append}
 use Rattle.std.specs.Str.{chars}
-use Rattle.pylex_lexeme.specs.Chars.{bytes_in}
 use Rattle.pytoken.specs.FormattedStrings.{is_fstring}
 use Rattle.pyparse_marks.specs.Spans.{Span, span, told}
 use Rattle.pyparse_marks.proofs.MarkLemmas.{single_spans}

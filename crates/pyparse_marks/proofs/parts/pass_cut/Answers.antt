@@ -11,7 +11,7 @@ returns-in_ok-pass_pieces-in-Ok g c =
     let a = around_of c.args.around.now in
     let t = chars c.args.around.now.text.now in
     let parts = body_parts c.in-Ok.pieces in
-    let cut = parts_cut c.args.is_nested c.is_marked-is_raw.result t (chars c.body.result.now) parts c.is_marked-is_raw.ensures
+    let cut = parts_cut c.args.is_nested c.is_raw-is_raw.result t (chars c.body.result.now) parts c.is_raw-is_raw.ensures
     c.body.ensures c.in-Ok.ensures.cut in
     cut_passed c.put-in-Ok.result (past_expression g.T.Tokens.past) a (opening_len t) c.args.is_nested t parts c.args.walker.now
     c.put.new.self c.go_on.new.self c.pass_pieces.new.walker c.put-in-Ok.new.self cut c.in_ok-put-in-Ok.ensures
@@ -25,5 +25,5 @@ returns-in-Err-Malformed g c =
     let a = around_of c.args.around.now in
     let t = chars c.args.around.now.text.now in
     sym (ap (λ o. past_cut (past_expression g.T.Tokens.past) a (opening_len t) o c.args.walker.now)
-    (no_parts c.args.is_nested c.is_marked-is_raw.result t (chars c.body.result.now) c.is_marked-is_raw.ensures c.body.ensures
+    (no_parts c.args.is_nested c.is_raw-is_raw.result t (chars c.body.result.now) c.is_raw-is_raw.ensures c.body.ensures
     (rw c.in-Err-Malformed.field-0-is at c.in-Err-Malformed.ensures.malformed)))

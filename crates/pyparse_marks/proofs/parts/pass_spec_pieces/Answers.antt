@@ -1,8 +1,9 @@
 use Rattle.std.proofs.Common.{refl}
 use Rattle.pyfstring.specs.Parts.{part_of, text_of}
+use Rattle.pytoken.proofs.Callers.Bodies.{read_again}
 use Rattle.pyparse_marks.specs.TokenSpans.{past_part, past_text, past_expression}
 use Rattle.pyparse_marks.specs.Inner.Walking.{around_of}
-use Rattle.pyparse_marks.proofs.PassLemmas.{read_again, leads_one, leads_none}
+use Rattle.pyparse_marks.proofs.PassLemmas.{leads_one, leads_none}
 use Rattle.pyparse_marks.proofs.parts.pass_spec_pieces.Goals as goal
 
 pub pieces-init : goal.pieces-init

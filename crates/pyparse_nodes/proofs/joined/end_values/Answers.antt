@@ -1,4 +1,4 @@
-use Rattle.std.proofs.Common.{◌≡◌, ◌∙◌, sym, ap}
+use Rattle.std.proofs.Common.{◌∙◌, sym, ap}
 use Rattle.pytree_height.specs.Heights.{height}
 use Rattle.pytree_node.proofs.Callers.ExprShapes.{constant_tree}
 use Rattle.pyparse_nodes.proofs.Callers.Pushes.{pushed_height}

@@ -1,4 +1,4 @@
-use Rattle.std.proofs.Common.{arith, rules, ◌+◌, ◌∷◌}
+use Rattle.std.proofs.Common.{arith, rules, ◌∷◌}
 use Rattle.pytoken.specs.Terminals.{Ident}
 use Rattle.pyparse_nodes.specs.Views.{seen}
 use Rattle.pyparse_pattern.proofs.Points.{points_end, points_high, points_more, points_start, points_stop}

@@ -1,7 +1,8 @@
 use Rattle.std.proofs.Common.{◌≡◌, ◌∙◌, [], ◌∷◌, ap, sym, true, false}
 use Rattle.std.specs.Prelude.{◌&&◌, Bool}
 use Rattle.std.specs.Str.{chars, bytes_eq}
-use Rattle.pyparse_tokens.proofs.EndLemmas.{match_is_ascii, colon_is_ascii, same_word}
+use Rattle.pytoken.proofs.Callers.Said.{same_word}
+use Rattle.pyparse_tokens.proofs.EndLemmas.{match_is_ascii, colon_is_ascii}
 use Rattle.pyparse_tokens.proofs.open_line.spell_match.Goals as goal
 
 pub returns-then-eq : goal.returns-then-eq

@@ -1,4 +1,4 @@
-use Rattle.std.proofs.Common.{arith, ap, ◌∙◌, ◌+◌}
+use Rattle.std.proofs.Common.{arith, ap, ◌∙◌}
 use Rattle.pytoken.specs.TerminalOf.{terminal}
 use Rattle.pyplaces.specs.RowEnds.{depth_behind}
 use Rattle.pyplaces.proofs.RowWalks.{walk_past, walk_stops, walk_goes, walk_few}

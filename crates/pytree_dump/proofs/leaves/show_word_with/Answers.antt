@@ -11,7 +11,8 @@ pub returns-then-is_done-clause-text : goal.returns-then-is_done-clause-text
 returns-then-is_done-clause-text g c =
     let none = none_is _ (sym c.if-is_done.ensures) in
     where_pushed _ _ _ c.push_str.result
-    (λ e. joined_node true c.args.style (string_bytes c.args.indentation.now) _ _ (g.P.Places.left c.args.places.now) _ c.args.class.now
+    (λ e. joined_node true c.args.style (string_bytes c.args.indentation.now) _ _
+    (g.P.PlaceSource.left c.args.places.now) _ c.args.class.now
     no_field none none (e ∙ ap (λ z. string_bytes c.args.out.now ++ z) (c.requires ∙ word_whole c.args.class.now)))
     c.push_str.ensures.bytes
 

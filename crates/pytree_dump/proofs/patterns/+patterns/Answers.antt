@@ -96,7 +96,7 @@ show_optional_pattern-returns-in-Some-clause-text g t c =
     rw c.in-Some.is
     (subst (λ q. IfOk c.show_pattern_field.result (λ next. AppendsField c.args.style (string_bytes c.args.indentation.now)
     (string_bytes c.args.out.now) (string_bytes c.show_pattern_field.new.out)
-    (g.P.Places.left c.args.places.now) (g.P.Places.left c.show_pattern_field.new.places) c.args.told next
+    (g.P.PlaceSource.left c.args.places.now) (g.P.PlaceSource.left c.show_pattern_field.new.places) c.args.told next
     (λ rest. a_field (codes "pattern") (shown_pattern (pattern_of q)) rest)))
     c.deref.ensures c.show_pattern_field.ensures.text)
 
@@ -127,7 +127,7 @@ show_pattern-returns-in-MatchSequence-clause-text g t c =
     (a_field (codes "patterns") (shown_pattern_row c.deref.result.now) no_field) =
     rw (c.in-MatchSequence.is, match_sequence_tree, patterns_row c.in-MatchSequence.patterns.items, sym c.deref.ensures.value) refl in
     shown_on c.args.style (string_bytes c.args.indentation.now) (string_bytes c.args.out.now) (string_bytes c.show_many.new.out)
-    (g.P.Places.left c.args.places.now) (g.P.Places.left c.show_many.new.places) c.show_many.result _ _ (sym e)
+    (g.P.PlaceSource.left c.args.places.now) (g.P.PlaceSource.left c.show_many.new.places) c.show_many.result _ _ (sym e)
     c.show_many.ensures.text
 
 pub show_pattern-returns-in-MatchOr-clause-text : goal.show_pattern-returns-in-MatchOr-clause-text
@@ -136,7 +136,8 @@ show_pattern-returns-in-MatchOr-clause-text g t c =
     (a_field (codes "patterns") (shown_pattern_row c.deref-in-MatchOr.result.now) no_field) =
     rw (c.in-MatchOr.is, match_or_tree, patterns_row c.in-MatchOr.patterns.items, sym c.deref-in-MatchOr.ensures.value) refl in
     shown_on c.args.style (string_bytes c.args.indentation.now) (string_bytes c.args.out.now) (string_bytes c.show_many-in-MatchOr.new.out)
-    (g.P.Places.left c.args.places.now) (g.P.Places.left c.show_many-in-MatchOr.new.places) c.show_many-in-MatchOr.result _ _ (sym e)
+    (g.P.PlaceSource.left c.args.places.now) (g.P.PlaceSource.left c.show_many-in-MatchOr.new.places)
+    c.show_many-in-MatchOr.result _ _ (sym e)
     c.show_many-in-MatchOr.ensures.text
 
 pub show_pattern-returns-in-MatchMapping-clause-text : goal.show_pattern-returns-in-MatchMapping-clause-text
@@ -154,7 +155,7 @@ show_pattern-returns-in-MatchMapping-clause-text g t c =
       sym c.deref-in-MatchMapping-2.ensures.value,
     ) refl in
     shown_on c.args.style (string_bytes c.args.indentation.now) (string_bytes c.args.out.now) (string_bytes c.show_mapping.new.out)
-    (g.P.Places.left c.args.places.now) (g.P.Places.left c.show_mapping.new.places) c.show_mapping.result _ _ (sym e)
+    (g.P.PlaceSource.left c.args.places.now) (g.P.PlaceSource.left c.show_mapping.new.places) c.show_mapping.result _ _ (sym e)
     c.show_mapping.ensures.text
 
 pub show_pattern-returns-in-MatchClass-clause-text : goal.show_pattern-returns-in-MatchClass-clause-text
@@ -176,5 +177,5 @@ show_pattern-returns-in-MatchClass-clause-text g t c =
       sym c.deref-in-MatchClass-4.ensures.value,
     ) refl in
     shown_on c.args.style (string_bytes c.args.indentation.now) (string_bytes c.args.out.now) (string_bytes c.show_instance.new.out)
-    (g.P.Places.left c.args.places.now) (g.P.Places.left c.show_instance.new.places) c.show_instance.result _ _ (sym e)
+    (g.P.PlaceSource.left c.args.places.now) (g.P.PlaceSource.left c.show_instance.new.places) c.show_instance.result _ _ (sym e)
     c.show_instance.ensures.text

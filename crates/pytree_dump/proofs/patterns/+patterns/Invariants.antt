@@ -40,10 +40,10 @@ decreases-show_pattern_row g l = 4 * weight (shown_pattern_row l.patterns.now)
 abbrev pub invariant-show_pattern_row-loop-p : goal.invariant-show_pattern_row-loop-p
 invariant-show_pattern_row-loop-p g l = record {
   text : string_bytes l.out ++ members l.style (string_bytes l.initial.indentation) l.first
-      (rows_with (g.P.Places.left l.places) (showns (map (λ p. shown_pattern (pattern_of p)) (drop l.p-index l.patterns)))).shown
+      (rows_with (g.P.PlaceSource.left l.places) (showns (map (λ p. shown_pattern (pattern_of p)) (drop l.p-index l.patterns)))).shown
       ≡ string_bytes l.initial.out ++ members l.style (string_bytes l.initial.indentation) true
-      (rows_with (g.P.Places.left l.initial.places) (showns (map (λ p. shown_pattern (pattern_of p)) l.patterns))).shown;
-  left : (rows_with (g.P.Places.left l.places) (showns (map (λ p. shown_pattern (pattern_of p)) (drop l.p-index l.patterns)))).left ≡
-      (rows_with (g.P.Places.left l.initial.places) (showns (map (λ p. shown_pattern (pattern_of p)) l.patterns))).left;
+      (rows_with (g.P.PlaceSource.left l.initial.places) (showns (map (λ p. shown_pattern (pattern_of p)) l.patterns))).shown;
+  left : (rows_with (g.P.PlaceSource.left l.places) (showns (map (λ p. shown_pattern (pattern_of p)) (drop l.p-index l.patterns)))).left ≡
+      (rows_with (g.P.PlaceSource.left l.initial.places) (showns (map (λ p. shown_pattern (pattern_of p)) l.patterns))).left;
   indentation : string_bytes l.indentation ≡ string_bytes l.initial.indentation;
 }

@@ -1,14 +1,15 @@
 use Rattle.std.proofs.Common.{◌∙◌, ◌++◌, ap, sym, codes}
 use Rattle.std.specs.Str.{chars}
 use Rattle.std.specs.String.{string_bytes}
+use Rattle.std.proofs.lemmas.Result.{on_ok_weaker}
 use Rattle.pytree_dump_text.specs.Shows.{context_name}
 use Rattle.pytree_dump_text.proofs.LeafLemmas.{plain_attribute, told_attribute}
-use Rattle.pytree_dump_text.proofs.Callers.Results.{on_ok, where_pushed}
+use Rattle.pytree_dump_text.proofs.Callers.Results.{where_pushed}
 use Rattle.pytree_dump_text.proofs.leaves.push_name_and_context.Goals as goal
 
 pub returns-then-is_plain_text : goal.returns-then-is_plain_text
 returns-then-is_plain_text c =
-    on_ok c.push_context_end.result
+    on_ok_weaker c.push_context_end.result
     (plain_attribute c.args.text.now c.args.ctx _ _ _ _ (sym c.if-is_plain_text.ensures) c.in_ok-push_str.ensures.bytes
     c.in_ok-push_str-2.ensures.bytes)
     c.push_context_end.ensures

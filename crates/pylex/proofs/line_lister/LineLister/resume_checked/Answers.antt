@@ -1,8 +1,8 @@
 use Rattle.std.proofs.Common.{◌≡◌, ◌<◌, true, false, ◌⊎◌, inl, inr, refl, arith}
 use Rattle.std.proofs.lemmas.Result.{err_from_is_err_and}
+use Rattle.std.proofs.lemmas.Bool.{cases_Bool}
 use Rattle.pylex.specs.Streamed.{ResumeRefusal, is_unread}
 use Rattle.pylex.proofs.LineByLine.Behind.{begins_next, misses_stop, took_on, misses_shown}
-use Rattle.pylex_lexeme.proofs.Callers.Booleans.{bool_cases}
 use Rattle.pylex.proofs.line_lister.LineLister.resume_checked.Goals as goal
 
 pub returns-in_err-step-clause-misses : goal.returns-in_err-step-clause-misses
@@ -30,7 +30,7 @@ pub returns-in_default : goal.returns-in_default
 returns-in_default g c = record {
   begins = tt;
   shown = tt;
-  misses = by (bool_cases (is_unread c.in_ok-step.step));
+  misses = by (cases_Bool (is_unread c.in_ok-step.step));
 }
   where
     less : c.loop-given._given < c.args.cursor.now.given

@@ -10,12 +10,12 @@ returns-in_ok-places-in-Ok-clause-placed c profile k was closes =
     let s = in_characters c.args.source.now in
     placed_as c.args.source.now.text (module_of c.in-Ok.module) c.in_ok-places-in-Ok.places
     (map told c.in_ok-finish-in-Ok.field-0.items) closes was
-    (c.in-Ok.ensures.accepted profile s k (record { forms = was.forms; known = was.known; places = was.places }) closes)
-    c.in-Ok.ensures.read (c.in-Ok.ensures.block profile s k was.forms (record { known = was.known; places = was.places }))
+    (c.in-Ok.ensures.accepted profile s k (record { forms = was.forms; known = was.known; last_lines = was.last_lines }) closes)
+    c.in-Ok.ensures.read (c.in-Ok.ensures.block profile s k was.forms (record { known = was.known; last_lines = was.last_lines }))
     (λ b follows. c.in_ok-finish-in-Ok.ensures.placed was.forms was.zs (module_of c.in-Ok.module).body b follows)
     c.in_ok-places-in-Ok.ensures.spans c.in_ok-places-in-Ok.ensures.starts
 
 pub returns-in-Err-clause-refused : goal.returns-in-Err-clause-refused
 returns-in-Err-clause-refused c profile k was closes =
     c.in-Err.ensures.refused profile (in_characters c.args.source.now) k
-    (record { forms = was.forms; known = was.known; places = was.places }) closes
+    (record { forms = was.forms; known = was.known; last_lines = was.last_lines }) closes

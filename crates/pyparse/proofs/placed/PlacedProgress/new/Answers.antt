@@ -8,7 +8,7 @@ returns c profile s =
     record {
       forms = [];
       known = holds.known;
-      places = holds.places;
+      last_lines = holds.last_lines;
       zs = [];
       placed = λ read. (record { formed = formed_end; are = refl }, c.new-2.ensures);
     }

@@ -1,10 +1,10 @@
-use Rattle.std.proofs.Common.{◌∙◌, ◌≡◌, ◌+◌, ◌++◌, ◌∷◌, [], ℕ, List, Bool, true, false, map, refl, sym, ap, subst}
+use Rattle.std.proofs.Common.{◌∙◌, ◌≡◌, ◌+◌, ◌++◌, ◌∷◌, [], ℕ, List, true, false, map, sym, ap, subst}
 use Rattle.std.proofs.lemmas.Bool.{false≢true}
 use Rattle.pysource.specs.declared.places.Place.{Place}
 use Rattle.pylex.specs.Listing.{in_characters}
 use Rattle.pytoken.specs.Inner.Behind.{behind}
 use Rattle.pygrammar.specs.FormOf.{form_of}
-use Rattle.pygrammar.specs.Lines.{Line, line}
+use Rattle.pygrammar.specs.Lines.{line}
 use Rattle.pyparse_marks.specs.LineSpans.{line_spans}
 use Rattle.pyparse_marks.specs.Spans.{Span, told}
 use Rattle.pyplaces.specs.BlockPlaces.{LinePlaces, line_of}
@@ -26,18 +26,18 @@ returns-then-is_unread c k held spans was =
       known =
           unread_stays c.args.profile (in_characters c.args.lines.now.source) k was.forms c.args.self.now.progress.known c.args.lines.now
           unread held was.known;
-      places = was.places;
+      last_lines = was.last_lines;
       zs = was.zs;
       placed = λ read. absurd (false≢true (sym read ∙ unread));
     }
 
 pub returns-in-None : goal.returns-in-None
 returns-in-None c k held spans was =
-    let holds = (c.in_ok-read.ensures k was.forms held (record { known = was.known; places = was.places })).none c.in-None.is in
+    let holds = (c.in_ok-read.ensures k was.forms held (record { known = was.known; last_lines = was.last_lines })).none c.in-None.is in
     record {
       forms = was.forms;
       known = holds.1.known;
-      places = holds.1.places;
+      last_lines = holds.1.last_lines;
       zs = was.zs;
       placed = λ read. absurd (false≢true (sym read ∙ holds.0));
     }
@@ -47,7 +47,7 @@ returns c k held spans was =
     let profile = c.args.profile in
     let s = in_characters c.args.lines.now.source in
     let form = form_of c.in-Some.read.form in
-    let holds : Holds profile s k was.forms c.args.self.now.progress = record { known = was.known; places = was.places } in
+    let holds : Holds profile s k was.forms c.args.self.now.progress = record { known = was.known; last_lines = was.last_lines } in
     let found = (c.in_ok-read.ensures k was.forms held holds).found c.in-Some.read c.in-Some.is in
     let comes = subst (λ (n : ℕ). Comes profile s k (behind [] was.forms) (line n form) c.args.lines.now.start) (sym c.level-level.ensures)
     found.1.comes in
@@ -78,7 +78,7 @@ returns c k held spans was =
     record {
       forms = was.forms ++ line c.level-level.result form ∷ [];
       known = kept.known;
-      places = kept.places;
+      last_lines = kept.last_lines;
       zs = was.zs ++ here ∷ [];
       placed = λ read.
           let before = was.placed (sym c.is_unread.ensures ∙ c.if-is_unread.false) in (

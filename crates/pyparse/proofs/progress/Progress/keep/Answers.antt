@@ -1,8 +1,8 @@
-use Rattle.std.proofs.Common.{[], ◌∷◌, ◌++◌, List, subst, sym}
+use Rattle.std.proofs.Common.{[], List, subst, sym}
 use Rattle.pytoken.specs.Inner.Behind.{behind}
 use Rattle.pygrammar.specs.Lines.{Line, line}
 use Rattle.pygrammar.specs.FormOf.{form_of}
-use Rattle.pyparse.specs.Inner.Placing.{HoldsPlaces}
+use Rattle.pyparse.specs.Inner.LastLines.{HoldsLastLines}
 use Rattle.pyparse.proofs.ProgressLemmas.{behind_more}
 use Rattle.pyparse.proofs.progress.Progress.keep.Goals as goal
 
@@ -11,7 +11,7 @@ returns c profile s k forms was comes =
     let next : Line = line c.args.level (form_of c.args.form) in
     record {
       known = c.in_ok-place.ensures profile s k forms was.known comes;
-      places =
-          subst (λ (xs : List Line). HoldsPlaces xs c.step.new.self) (sym (behind_more [] forms next))
-          (c.in_ok-step.ensures (behind [] forms) (form_of c.args.form) c.is_match-opens_match.ensures was.places);
+      last_lines =
+          subst (λ (xs : List Line). HoldsLastLines xs c.step.new.self) (sym (behind_more [] forms next))
+          (c.in_ok-step.ensures (behind [] forms) (form_of c.args.form) c.is_match-opens_match.ensures was.last_lines);
     }

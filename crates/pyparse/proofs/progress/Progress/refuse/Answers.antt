@@ -27,6 +27,6 @@ returns c inside k forms held was stands refused =
             c.requires was.known held.stands
             (subst (λ (b : Bool). Unread c.args.profile b held.line (code_of c.in_ok-error.error)) here unread)
             (subst (StartsAt s k) (sym c.start.ensures) (starts_held s k c.args.lines.now held)));
-        places = was.places;
+        last_lines = was.last_lines;
       },
     )

@@ -16,29 +16,29 @@ returns-then-is_unread c k held was = record {
   known =
       unread_stays c.args.profile (in_characters c.args.lines.now.source) k was.forms c.args.self.now.known c.args.lines.now
       (sym c.is_unread.ensures ∙ c.if-is_unread.true) held was.known;
-  places = was.places;
+  last_lines = was.last_lines;
 }
 
 pub returns-in_ok-keep-in-Ok : goal.returns-in_ok-keep-in-Ok
 returns-in_ok-keep-in-Ok c k held was =
     let earlier = behind [] was.forms in
     let comes = comes_held earlier c.inside-inside.result (map terminal c.terminals.result.now) c.level-level.result
-    (form_of c.in-Ok.read.form) c.start.result held (c.inside-inside.ensures earlier was.places)
+    (form_of c.in-Ok.read.form) c.start.result held (c.inside-inside.ensures earlier was.last_lines)
     c.terminals.ensures c.level-level.ensures c.start.ensures c.in-Ok.ensures.form in
     let kept = c.in_ok-keep-in-Ok.ensures c.args.profile (in_characters c.args.lines.now.source) k was.forms
-    (record { known = was.known; places = was.places }) comes in
+    (record { known = was.known; last_lines = was.last_lines }) comes in
     record {
       forms = was.forms ++ line c.level-level.result (form_of c.in-Ok.read.form) ∷ [];
       known = kept.known;
-      places = kept.places;
+      last_lines = kept.last_lines;
     }
 
 pub returns-in_ok-refuse-in-Err : goal.returns-in_ok-refuse-in-Err
 returns-in_ok-refuse-in-Err c k held was =
     let earlier = behind [] was.forms in
     let holds = c.in_ok-refuse-in-Err.ensures c.inside-inside.result k was.forms held
-    (record { known = was.known; places = was.places })
-    (c.inside-inside.ensures earlier was.places ∙ ap (λ (l : ℕ). stands_in_match l earlier) c.level-level.ensures)
+    (record { known = was.known; last_lines = was.last_lines })
+    (c.inside-inside.ensures earlier was.last_lines ∙ ap (λ (l : ℕ). stands_in_match l earlier) c.level-level.ensures)
     (subst (λ (ts : List Terminal). Refused c.in-Err.stop c.args.profile c.inside-inside.result ts) c.terminals.ensures
     c.in-Err.ensures.form) in
-    record { forms = was.forms; known = holds.1.known; places = holds.1.places }
+    record { forms = was.forms; known = holds.1.known; last_lines = holds.1.last_lines }

@@ -5,8 +5,9 @@ use Rattle.std.proofs.lemmas.Str.{chars_from_encodes}
 use Rattle.unicode_normalization.specs.Forms.{nfkc}
 use Rattle.pytoken.specs.declared.faults.TokenError.{TokenError}
 use Rattle.pytoken.specs.NameValues.{form_fault}
-use Rattle.pytoken.proofs.values.NameLemmas.{told, name_own, name_other}
+use Rattle.pytoken.proofs.values.NameLemmas.{told, name_own}
 use Rattle.pytoken.proofs.values.names.fault_by_form.Goals as goal
+use Rattle.pytoken.proofs.Words.{by_form}
 
 pub returns-then-own : goal.returns-then-own
 returns-then-own c =
@@ -19,4 +20,4 @@ returns c =
     let spelled = chars_from_encodes (nfkc (chars c.args.text.now)) c.as_str.result.now c.as_str.utf8
     (sym (c.as_str.ensures.value ∙ c.in_ok-form.ensures)) in
     subst (λ (f : Option TokenError). IfOk c.form_fault.result (λ fault. fault ≡ f))
-    (ap form_fault (sym spelled) ∙ sym (name_other (chars c.args.text.now) (sym own ∙ c.if-own.false))) c.form_fault.ensures
+    (ap form_fault (sym spelled) ∙ sym (by_form (chars c.args.text.now) (sym own ∙ c.if-own.false))) c.form_fault.ensures
