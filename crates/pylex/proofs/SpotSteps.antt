@@ -2,3 +2,4 @@
 pub mod Rows
 pub mod Passing
 pub mod Going
+pub mod Beginning

@@ -11,6 +11,7 @@ pub mod Standing
 pub mod Laws
 pub mod Listers
 pub mod Spots
+pub mod LineStarts
 pub mod Held
 pub mod Streamed
 pub mod Inner

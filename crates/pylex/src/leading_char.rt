@@ -1,7 +1,8 @@
 //! What a line begins with, and the walk over a text that finds it and the place after.
 
-ghost use Rattle.std.specs.Prelude.{◌≡◌, ◌↔◌, IsTrue, ◌+◌, ◌^◌, ◌<◌, length};
+ghost use Rattle.std.specs.Prelude.{◌≡◌, ◌↔◌, IsTrue, ◌+◌, ◌^◌, ◌<◌, length, true, slice_index};
 ghost use Rattle.std.specs.Str.{chars};
+ghost use Rattle.pylex_lexeme.specs.Characters.{hash};
 ghost use Rattle.pylex.specs.Machine.{place_past, lead_after_char, lead_after, is_hash};
 ghost use Rattle.pylex.specs.Inner.Plain.{AreSpaces, IsPlain};
 ghost use Rattle.pylex.specs.Inner.Told.{Tells, begun_by};
@@ -91,9 +92,31 @@ pub(crate) fn is_spaces(text: &str) -> bool
     text.as_bytes().iter().all(|b| *b == b' ')
 }
 
+/// Whether a text begins with a byte above that of `#`: with no blank, in plain text.
+#[inline(always)]
+fn begins_above_hash(text: &str) -> bool
+    ensures some { result ≡ true → 0 < length text.now }
+    ensures first { result ≡ true → hash < slice_index text.now 0 }
+{
+    let bytes = text.as_bytes();
+    !bytes.is_empty() && bytes[0] > b'#'
+}
+
 /// What a line begins with after plain text at its start.
-#[inline(never)]
+#[inline(always)]
 fn lead_of_plain(text: &str) -> LeadingChar
+    requires { IsPlain text.now }
+    ensures { result ≡ lead_after LeadingChar.Nothing (chars text.now) }
+{
+    if begins_above_hash(text) {
+        return LeadingChar::Other;
+    }
+    lead_of_chars(text)
+}
+
+/// What a line begins with after plain text at its start: by each character.
+#[inline(never)]
+fn lead_of_chars(text: &str) -> LeadingChar
     requires { IsPlain text.now }
     ensures { result ≡ lead_after LeadingChar.Nothing (chars text.now) }
 {
@@ -185,6 +208,9 @@ pub(crate) fn lead_of(line: &str) -> LeadingChar
     requires { length line.now < 2 ^ 62 }
     ensures { result ≡ lead_after LeadingChar.Nothing (chars line.now) }
 {
+    if line.is_empty() {
+        return LeadingChar::Nothing;
+    }
     let (_, lead) = walk(Place { row: 1, column: 0 }, LeadingChar::Nothing, line);
     lead
 }

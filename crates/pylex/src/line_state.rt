@@ -91,6 +91,19 @@ impl LineState {
         }
     }
 
+    /// Goes past the layout before the first significant token of a logical line.
+    #[inline(always)]
+    pub(crate) fn measure(&mut self)
+        ensures measured { (levels : List ℕ)
+            → with_levels self.new (pushed self.old.width levels)
+            ≡ measured (with_levels self.old levels) }
+        ensures room { (n : ℕ) → HasRoom self.old n → HasRoom self.new n }
+    {
+        self.margin = false;
+        self.width = 0;
+        self.logical = true;
+    }
+
     /// Directly after an entry with text: a line is yet to be measured only at its start.
     pub(crate) fn begun_anew(self) -> LineState
         ensures begun { (levels : List ℕ)
@@ -416,9 +429,11 @@ impl LineState {
             Class::Operator(operator) => self.pass_operator(operator, text),
             Class::LineEnd => Some(self.pass_line_end(text)),
             Class::Blanks | Class::Join => None,
-            Class::Name | Class::Number | Class::String | Class::Comment => {
-                Some(self.pass_text(class, text))
-            }
+            // What the class decides is decided once for all.
+            Class::Name => Some(self.pass_text(Class::Name, text)),
+            Class::Number => Some(self.pass_text(Class::Number, text)),
+            Class::String => Some(self.pass_text(Class::String, text)),
+            Class::Comment => Some(self.pass_text(Class::Comment, text)),
         }
     }
 

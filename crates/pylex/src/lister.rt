@@ -1,28 +1,48 @@
 //! The listing of a source, one entry after another.
 
 ghost use Rattle.std.specs.Prelude.{◌≡◌, ◌≢◌, ◌↔◌, IsTrue, ◌+◌, ◌-◌, ◌^◌, ◌<◌, ◌≤◌, length, IfOk};
-ghost use Rattle.std.specs.Prelude.{IfErr, IfSome, OnOk, OnErr, Ok, Err, true};
+ghost use Rattle.std.specs.Prelude.{IfErr, IfSome, OnOk, OnErr, Ok, Err, true, slice_index};
 ghost use Rattle.std.specs.Str.{chars};
+ghost use Rattle.pylex_lexeme.specs.Characters.{line_feed};
 ghost use Rattle.pylex.specs.Listing.{last_line, listing, in_characters};
 ghost use Rattle.pylex.specs.Laws.{IsLawful, AllLie, HaveExact};
 ghost use Rattle.pylex.specs.Standing.{IsCursorOf};
 ghost use Rattle.pylex.specs.Listers.{StandsIn, LeadsInto, NextStep, AwaitsIndent};
 ghost use Rattle.pylex.specs.Steps.{most_entries};
 ghost use Rattle.pylex.specs.Spots.{spot_cursor, at_spot};
+ghost use Rattle.pylex.specs.LineStarts.{BeginsLine};
 
 use crate::cursor::{Cursor, CursorFault};
 use crate::entries::Step;
 use crate::machine::Machine;
 use crate::spots::Spot;
-use pysource::Source;
+use pylex_lexeme::lexeme::Class;
+use pysource::{Place, Source};
 use std::alloc::{AllocError, Global};
 use std::marker::Model;
+
+/// Whether a text ends in a line feed.
+#[inline(always)]
+fn ends_in_feed(text: &str) -> bool
+    ensures some { result ≡ true → 0 < length text.now }
+    ensures last { result ≡ true → slice_index text.now (length text.now - 1) ≡ line_feed }
+{
+    let bytes = text.as_bytes();
+    if bytes.is_empty() {
+        return false;
+    }
+    bytes[bytes.len() - 1] == b'\n'
+}
 
 /// The line that a text ends in.
 fn last_line(text: &str) -> &str
     ensures line { chars result.now ≡ last_line (chars text.now) }
     ensures within { length result.now ≤ length text.now }
 {
+    // Most spots that a lister goes to are at the start of a line.
+    if ends_in_feed(text) {
+        return "";
+    }
     match text.rfind('\n') {
         Some(at) => &text[at + 1..],
         None => text,
@@ -85,6 +105,9 @@ impl<'a> Lister<'a> {
             self.left = left;
             return Ok(Step::Entry(entry));
         }
+        if let Some(step) = self.machine.layout_on(self.left)? {
+            return Ok(step);
+        }
         self.next_met()
     }
 
@@ -117,6 +140,24 @@ impl<'a> Lister<'a> {
         ensures some { IfSome result (λ s. 0 < s.given) }
     {
         self.machine.spot()
+    }
+
+    /// The token that begins a line, where its entry comes next: its class, its text, its place, and
+    /// the spot behind it. It isn't given: the lister stands where it stood.
+    ///
+    /// None where anything else comes next, as an INDENT, and where a level was closed since the last
+    /// entry with text.
+    #[inline(always)]
+    pub fn begin_line(&mut self) -> Option<(Class, &'a str, Place, Spot)>
+        ensures same { self.new ≡ self.old }
+        ensures begins { IfSome result
+            (λ r. BeginsLine self.old r.0 r.1.now r.2 r.3) }
+    {
+        if self.machine.is_at_start() {
+            return None;
+        }
+        self.left = self.machine.look_on(self.left);
+        self.machine.line_start(self.left)
     }
 
     /// Goes to a spot of the source at which the levels are open that are open here. The entries

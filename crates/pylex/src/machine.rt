@@ -14,15 +14,18 @@ ghost use Rattle.pylex.specs.Listers.{shown_by, shown_at};
 ghost use Rattle.pylex.specs.Spots.{spot_cursor};
 ghost use Rattle.pylex.specs.Inner.MachineSteps.{FaultsFirst, HasPlace, IsSame, StepsOn, Advance};
 ghost use Rattle.pylex.specs.Inner.MachineSteps.{StaysBehind, LooksOn, shown_from};
+ghost use Rattle.pylex.specs.Inner.LineLayouts.{LaysOut, AwaitsLevel};
+ghost use Rattle.pylex.specs.Inner.LineStarting.{LineStart};
 
 use crate::cursor::{Cursor, Shown};
 use crate::ends::end_step;
 use crate::entries::{Entry, Step};
 use crate::kind::Kind;
 use crate::line_state::LineState;
-use crate::peeked::{Peeked, next_entry, past_spaces, peek, settle};
+use crate::peeked::{Indentation, Peeked, entry_on, indentation_for, past_spaces, peek, settle};
 use crate::point::{entry_of, mark};
-use crate::spots::Spot;
+use crate::spots::{Spot, start_lexeme};
+use pylex_lexeme::lexeme::{Class, begins_significant};
 use pysource::{LineFault, Place};
 use std::alloc::{AllocError, Global};
 
@@ -207,8 +210,8 @@ impl Machine {
         self.now = now;
     }
 
-    /// Gives the entry of the next lexeme that gives one, where that stands after a line's margin,
-    /// and the text that is left there. Otherwise nothing is changed.
+    /// Gives the entry of the next lexeme that gives one, where that stands after a line's margin or
+    /// is no significant token, and the text that is left there. Otherwise nothing is changed.
     #[inline(always)]
     pub(crate) fn step_on<'a>(&mut self, text: &'a str) -> Option<(Entry, &'a str)>
         requires some { 0 < self.old.given }
@@ -217,16 +220,63 @@ impl Machine {
         ensures some { IfSome result (λ r. StepsOn self.old text.now r.0 self.new r.1.now) }
         ensures none { result ≡ None → self.new ≡ self.old }
     {
-        if self.tail > 0 || self.now.margin {
+        if self.tail > 0 {
             return None;
         }
         let mut now = self.now;
-        let (entry, left) = next_entry(&mut now, text)?;
+        let (entry, left) = entry_on(&mut now, text)?;
         self.levels.truncate(self.nested);
         self.given += 1;
         self.point.stand(now);
         self.now.begin_anew(now);
         Some((entry, left))
+    }
+
+    /// Gives the INDENT or the next DEDENT of a line whose first significant token stands here.
+    /// Otherwise nothing is changed.
+    ///
+    /// Memory is taken only for an INDENT; if it runs out, nothing is changed.
+    #[inline(always)]
+    pub(crate) fn layout_on(&mut self, text: &str) -> Result<Option<Step>, AllocError>
+        requires some { 0 < self.old.given }
+        requires place { HasPlace self.old }
+        requires stands { Stands self.old.now text.now }
+        ensures some { IfOk result
+            (λ r. IfSome r (λ step. LaysOut self.old text.now step self.new)) }
+        ensures none { IfOk result (λ r. r ≡ None → self.new ≡ self.old) }
+        ensures same { OnErr result (IsSame self.old self.new) }
+        ensures indent { OnErr result (AwaitsLevel self.old text.now) }
+    {
+        if self.tail > 0 || !self.now.margin || !begins_significant(text) {
+            return Ok(None);
+        }
+        let levels = &self.levels.as_slice()[..self.nested];
+        match indentation_for(self.now.width, levels) {
+            Indentation::Indent => {
+                let step = self.advance(Peeked::Indent, self.now, text, None)?;
+                Ok(Some(step))
+            }
+            Indentation::Dedent => {
+                let step = self.advance(Peeked::Dedent, self.now, text, None)?;
+                Ok(Some(step))
+            }
+            Indentation::Level | Indentation::Mismatch => Ok(None),
+        }
+    }
+
+    /// The token that begins a line, where its entry comes next: its class, its text, its place, and
+    /// the spot behind it.
+    #[inline(always)]
+    pub(crate) fn line_start<'a>(&self, text: &'a str) -> Option<(Class, &'a str, Place, Spot)>
+        requires place { HasPlace self.now }
+        requires stands { Stands self.now.now text.now }
+        ensures { IfSome result
+            (λ r. LineStart self.entry.now text.now r.0 r.1.now r.2 r.3) }
+    {
+        if self.tail > 0 || self.nested < self.levels.len() || self.now.margin {
+            return None;
+        }
+        start_lexeme(self.now, self.given, text)
     }
 
     /// What is met next in a text, and how far from it.

@@ -52,7 +52,7 @@ fn is_level(width: usize, levels: &[usize]) -> bool
 
 /// The layout of a line by its width and the open levels above 0.
 #[tactic(auto, using(crate::proofs::Levels::Tops::top_indent, crate::proofs::Levels::Tops::top_level, crate::proofs::Levels::Tops::top_dedent, crate::proofs::Levels::Tops::top_mismatch))]
-fn indentation_for(width: usize, levels: &[usize]) -> Indentation
+pub(crate) fn indentation_for(width: usize, levels: &[usize]) -> Indentation
     requires { IsAscending 0 levels.now }
     ensures { IsIndentation width levels.now result }
 {
@@ -113,7 +113,7 @@ pub(crate) fn settle(now: &mut LineState, levels: &[usize], text: &str)
         return;
     }
     if is_last_level(now.width, levels) {
-        *now = now.measured();
+        now.measure();
     }
 }
 
@@ -189,7 +189,7 @@ fn find<'a>(start: LineState, levels: &[usize], text: &'a str) -> (Peeked, LineS
 /// Advances to the next lexeme that gives an entry, after a line's margin: its entry, and what is
 /// left after it.
 #[inline(always)]
-pub(crate) fn next_entry<'a>(now: &mut LineState, text: &'a str) -> Option<(Entry, &'a str)>
+fn next_entry<'a>(now: &mut LineState, text: &'a str) -> Option<(Entry, &'a str)>
     requires stands { Stands now.old text.now }
     requires behind { now.old.margin ≡ false }
     ensures { IfSome result (λ r. NextEntry now.old text.now r.0 now.new r.1.now) }
@@ -212,6 +212,43 @@ pub(crate) fn next_entry<'a>(now: &mut LineState, text: &'a str) -> Option<(Entr
             }
         }
     }
+}
+
+/// Advances past a comment or a line end that stands here in a line's margin: its entry, and what
+/// is left after it.
+#[inline(always)]
+fn margin_entry<'a>(now: &mut LineState, text: &'a str) -> Option<(Entry, &'a str)>
+    requires stands { Stands now.old text.now }
+    ensures { IfSome result (λ r. NextEntry now.old text.now r.0 now.new r.1.now) }
+{
+    // Most margins end at a significant token, and nothing is cut twice.
+    let bytes = text.as_bytes();
+    if bytes.is_empty() || (bytes[0] != b'#' && bytes[0] != b'\n' && bytes[0] != b'\r') {
+        return None;
+    }
+    let (class, front, back) = cut(text)?;
+    if class.is_significant() {
+        return None;
+    }
+    let ahead = now.after(class, front);
+    let Emitted::Entry(entry) = now.give(class, front, ahead.now) else {
+        return None;
+    };
+    *now = ahead;
+    Some((entry, back))
+}
+
+/// Advances to the next lexeme that gives an entry, where no layout comes before it: its entry, and
+/// what is left after it. In a line's margin that is one that stands here.
+#[inline(always)]
+pub(crate) fn entry_on<'a>(now: &mut LineState, text: &'a str) -> Option<(Entry, &'a str)>
+    requires stands { Stands now.old text.now }
+    ensures { IfSome result (λ r. NextEntry now.old text.now r.0 now.new r.1.now) }
+{
+    if now.margin {
+        return margin_entry(now, text);
+    }
+    next_entry(now, text)
 }
 
 /// What a lister meets next. Where entries of the end were given that is the end.

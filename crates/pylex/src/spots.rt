@@ -6,9 +6,14 @@ ghost use Rattle.std.specs.Prelude.{IfSome};
 ghost use Rattle.pysource.specs.Places.{is_lf};
 ghost use Rattle.pylex_lexeme.specs.Lexemes.{is_closer_class, is_opener_class, is_line_end_class};
 ghost use Rattle.pylex.specs.Lines.{count_if};
+ghost use Rattle.pylex.specs.LineState.{Stands};
+ghost use Rattle.pylex.specs.LineStarts.{begins_line};
 ghost use Rattle.pylex.specs.Spots.{rows_in, LexemeAhead, Steps, SpotHasRoom};
+ghost use Rattle.pylex.specs.Inner.LineStarting.{StartLexeme};
 
+use crate::line_state::LineState;
 use pylex_lexeme::lexeme::{Class, cut};
+use pysource::Place;
 
 /// A spot of a listing, directly after an entry that has text in the source: what a lister's cursor
 /// says there, its open levels aside.
@@ -69,6 +74,44 @@ fn next_lexeme<'a>(text: &'a str, row: usize) -> Option<(Class, &'a str, &'a str
             _ => return Some((class, front, back, at + rows_in(class, front))),
         }
     }
+}
+
+/// Whether a lexeme is a token that can begin a line.
+#[inline(always)]
+fn begins_line(class: Class) -> bool
+    ensures { result ≡ begins_line class }
+{
+    match class {
+        Class::Name | Class::Number | Class::String => true,
+        Class::Operator(operator) => !operator.is_closer(),
+        _ => false,
+    }
+}
+
+/// The token that a text begins with, if it can begin a line: its class, its text, its place, and
+/// the spot behind it. So many entries were given before it.
+#[inline(always)]
+pub(crate) fn start_lexeme<'a>(
+    now: LineState,
+    given: usize,
+    text: &'a str,
+) -> Option<(Class, &'a str, Place, Spot)>
+    requires stands { Stands now text.now }
+    requires given { given < 2 ^ 62 }
+    ensures { IfSome result (λ r. StartLexeme now given text.now r.0 r.1.now r.2 r.3) }
+{
+    let (class, front, _) = cut(text)?;
+    if !begins_line(class) {
+        return None;
+    }
+    let spot = Spot {
+        given: given + 1,
+        offset: now.now.offset + front.len(),
+        row: now.now.place.row + rows_in(class, front),
+        depth: now.depth + usize::from(class.is_opener()),
+        begun: true,
+    };
+    Some((class, front, now.now.place, spot))
 }
 
 impl Spot {

@@ -6,3 +6,5 @@ pub mod OperatorTexts
 pub mod Seconds
 pub mod Cutting
 pub mod Delimiters
+pub mod Signs
+pub mod AsciiRuns

@@ -11,6 +11,7 @@ ghost use Rattle.pylex_lexeme.specs.Lexemes.{is_line_end_class, is_join_class, i
 ghost use Rattle.pylex_lexeme.specs.Lexemes.{is_closer_class};
 ghost use Rattle.pylex_lexeme.specs.Cuts.{TakesLexeme, Cuts, BeginsOther, begins_significant};
 ghost use Rattle.pylex_lexeme.specs.Cuts.{is_delimiter};
+ghost use Rattle.pylex_lexeme.specs.Inner.Frequent.{is_sign};
 
 use crate::kinds::Exact;
 use crate::number::number;
@@ -103,6 +104,21 @@ fn name(text: &mut Scanner)
     text.bump_while(CharSet::NamePart);
 }
 
+/// Takes the name that stands here, if it is of ASCII and followed neither by a quote nor by a
+/// character past ASCII: otherwise a string may stand here, or a longer name.
+#[inline(always)]
+fn ascii_name(text: &mut Scanner) -> Option<Class>
+    requires { begins starts_name text.old ≡ true }
+    ensures { IfSome result (λ k. TakesLexeme text.old (Some k) text.new) }
+{
+    let _ = text.bump();
+    text.bump_ascii(CharSet::NamePart);
+    if text.has_quote_or_wide() {
+        return None;
+    }
+    Some(Class::Name)
+}
+
 /// Takes the comment that stands here.
 fn comment(text: &mut Scanner)
     requires { begins (λ c. c == hash) text.old ≡ true }
@@ -117,10 +133,12 @@ fn blanks(text: &mut Scanner)
     requires { begins is_blank_char text.old ≡ true }
     ensures { TakesLexeme text.old (Some Class.Blanks) text.new }
 {
-    text.bump_while(CharSet::Blank);
+    let _ = text.bump();
+    text.bump_ascii(CharSet::Blank);
 }
 
 /// Takes the LF that stands here.
+#[inline(always)]
 fn line_feed(text: &mut Scanner)
     requires { begins (λ c. c == line_feed) text.old ≡ true }
     ensures { TakesLexeme text.old (Some Class.LineEnd) text.new }
@@ -169,11 +187,28 @@ fn operator(text: &mut Scanner) -> Option<Class>
 
 /// Takes the bracket or comma that stands here.
 #[inline(always)]
-fn delimiter(text: &mut Scanner, which: Exact) -> Option<Class>
+fn delimiter(text: &mut Scanner, which: Exact) -> Class
     requires { begins (is_delimiter which) text.old ≡ true }
-    ensures { TakesLexeme text.old result text.new }
+    ensures { TakesLexeme text.old (Some result) text.new }
 {
     let _ = text.bump();
+    Class::Operator(which)
+}
+
+/// Takes the point, colon or equals sign that stands here, if a character of ASCII is after it that
+/// is not among those from `*` to `>`: no operator and no number goes on with another.
+#[inline(always)]
+fn sign(text: &mut Scanner, which: Exact) -> Option<Class>
+    requires { begins (is_sign which) text.old ≡ true }
+    ensures { IfSome result (λ k. TakesLexeme text.old (Some k) text.new) }
+{
+    let _ = text.bump();
+    let Some(next) = text.first_ascii() else {
+        return None;
+    };
+    if '*' <= next && next <= '>' {
+        return None;
+    }
     Some(Class::Operator(which))
 }
 
@@ -246,8 +281,8 @@ fn has_number(text: &Scanner) -> bool
 /// Takes the longest lexeme that stands here, and says its class; none and nothing where no lexeme
 /// stands.
 #[tactic(auto, using(crate::proofs::Lexemes::Union::begins_by))]
-#[inline(always)]
-pub(crate) fn lexeme(text: &mut Scanner) -> Option<Class>
+#[inline(never)]
+fn any_lexeme(text: &mut Scanner) -> Option<Class>
     ensures { TakesLexeme text.old result text.new }
 {
     match text.first()? {
@@ -271,13 +306,6 @@ pub(crate) fn lexeme(text: &mut Scanner) -> Option<Class>
             *text = ahead;
             class
         }
-        '(' => delimiter(text, Exact::LPar),
-        ')' => delimiter(text, Exact::RPar),
-        '[' => delimiter(text, Exact::LSqb),
-        ']' => delimiter(text, Exact::RSqb),
-        '{' => delimiter(text, Exact::LBrace),
-        '}' => delimiter(text, Exact::RBrace),
-        ',' => delimiter(text, Exact::Comma),
         c if CharSet::Blank.has(c) => {
             blanks(text);
             Some(Class::Blanks)
@@ -294,6 +322,68 @@ pub(crate) fn lexeme(text: &mut Scanner) -> Option<Class>
         }
         _ => operator(text),
     }
+}
+
+/// Takes the lexeme that stands here, if it is one of those that most are: blanks, a name of ASCII,
+/// a line feed, a bracket, a comma, or a point, colon or equals sign alone. None says nothing.
+#[tactic(auto, using(crate::proofs::Lexemes::Union::begins_by))]
+#[inline(always)]
+fn frequent_lexeme(text: &mut Scanner) -> Option<Class>
+    ensures { IfSome result (λ k. TakesLexeme text.old (Some k) text.new) }
+{
+    let Some(first) = text.first_ascii() else {
+        return None;
+    };
+    match first {
+        c if CharSet::Blank.has(c) => {
+            blanks(text);
+            Some(Class::Blanks)
+        }
+        c if is_name_start(c) => ascii_name(text),
+        '\n' => {
+            line_feed(text);
+            Some(Class::LineEnd)
+        }
+        '(' => Some(delimiter(text, Exact::LPar)),
+        ')' => Some(delimiter(text, Exact::RPar)),
+        '[' => Some(delimiter(text, Exact::LSqb)),
+        ']' => Some(delimiter(text, Exact::RSqb)),
+        '{' => Some(delimiter(text, Exact::LBrace)),
+        '}' => Some(delimiter(text, Exact::RBrace)),
+        ',' => Some(delimiter(text, Exact::Comma)),
+        '.' => sign(text, Exact::Dot),
+        ':' => sign(text, Exact::Colon),
+        '=' => sign(text, Exact::Equal),
+        _ => None,
+    }
+}
+
+/// Takes the longest lexeme that stands here, by a call and by another scanner: so this one need
+/// not stand in memory.
+#[inline(always)]
+fn lexeme_by_call(text: &mut Scanner) -> Option<Class>
+    ensures { TakesLexeme text.old result text.new }
+{
+    let mut ahead = text.again();
+    let class = any_lexeme(&mut ahead);
+    *text = ahead;
+    class
+}
+
+/// Takes the longest lexeme that stands here, and says its class; none and nothing where no lexeme
+/// stands.
+///
+/// Those that most are need no call.
+#[inline(always)]
+fn lexeme(text: &mut Scanner) -> Option<Class>
+    ensures { TakesLexeme text.old result text.new }
+{
+    let mut ahead = text.again();
+    if let Some(class) = frequent_lexeme(&mut ahead) {
+        *text = ahead;
+        return Some(class);
+    }
+    lexeme_by_call(text)
 }
 
 /// The longest lexeme at the front of a text: its class, its text, and what is after it; none

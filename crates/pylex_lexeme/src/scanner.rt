@@ -2,13 +2,14 @@
 
 ghost use Rattle.std.specs.Char.{is_ascii_alphanumeric};
 ghost use Rattle.std.specs.Prelude.{◌≡◌, ◌==◌, ◌&&◌, ◌||◌, ℕ, ◌≤◌, List, length, drop, slice_get};
-ghost use Rattle.std.specs.Prelude.{nat_lt};
+ghost use Rattle.std.specs.Prelude.{nat_lt, false, Some, IfSome};
 ghost use Rattle.std.specs.Str.{chars, encode_utf8_all, IsUtf8};
 ghost use Rattle.std.specs.List.{prefix_len};
 ghost use Rattle.unicode_ident.specs.Ident.{is_xid_continue};
 ghost use Rattle.pylex_lexeme.specs.Chars.{has, begins};
 ghost use Rattle.pylex_lexeme.specs.Characters.{carriage_return, line_feed, low_line};
 ghost use Rattle.pylex_lexeme.specs.Inner.Plain.{is_plain_char};
+ghost use Rattle.pylex_lexeme.specs.Inner.Frequent.{is_quote_or_wide};
 ghost use Rattle.pylex_lexeme.specs.Lengths.{joined_len, begins_some};
 
 use std::marker::Model;
@@ -68,6 +69,17 @@ impl<'a> Scanner<'a> {
         self.rest.chars().next()
     }
 
+    /// The next character, if it is of ASCII.
+    #[inline(always)]
+    pub(crate) fn first_ascii(&self) -> Option<char>
+        ensures { IfSome result (λ c. slice_get self.now 0 ≡ Some c) }
+    {
+        match self.rest.as_bytes().first() {
+            Some(byte) if *byte < 128 => Some(*byte as char),
+            _ => None,
+        }
+    }
+
     /// Takes the next character.
     #[inline(always)]
     pub(crate) fn bump(&mut self) -> Option<char>
@@ -79,13 +91,21 @@ impl<'a> Scanner<'a> {
                 self.rest = &self.rest[1..];
                 Some(*byte as char)
             }
-            _ => {
-                let mut ahead = self.again();
-                let first = ahead.bump_wide();
-                *self = ahead;
-                first
-            }
+            _ => self.bump_by_call(),
         }
+    }
+
+    /// Takes the next character by a call, and by another scanner: so this one need not stand in
+    /// memory.
+    #[inline(always)]
+    fn bump_by_call(&mut self) -> Option<char>
+        ensures first { result ≡ slice_get self.old 0 }
+        ensures rest { self.new ≡ drop 1 self.old }
+    {
+        let mut ahead = self.again();
+        let first = ahead.bump_wide();
+        *self = ahead;
+        first
     }
 
     /// Takes the next character, which may be past ASCII.
@@ -145,6 +165,24 @@ impl<'a> Scanner<'a> {
             let _ = ahead.bump();
         }
         *self = ahead;
+    }
+
+    /// Takes the characters of ASCII from here on that are in a set.
+    #[inline(always)]
+    pub(crate) fn bump_ascii(&mut self, set: CharSet)
+        ensures { self.new
+            ≡ drop (prefix_len (λ c. nat_lt c 128 && has set c) self.old) self.old }
+    {
+        let count = ascii_run(self.rest.as_bytes(), set);
+        self.rest = &self.rest[count..];
+    }
+
+    /// Whether a quote or a character past ASCII stands here.
+    #[inline(always)]
+    pub(crate) fn has_quote_or_wide(&self) -> bool
+        ensures { result ≡ false → begins is_quote_or_wide self.now ≡ false }
+    {
+        begins_quote_or_wide(self.rest.as_bytes())
     }
 
     /// Takes the characters of ASCII from here on that are neither a quote, a backslash nor of a
@@ -223,6 +261,25 @@ fn begins_wide(bytes: &[u8]) -> bool
 {
     match bytes.first() {
         Some(byte) => *byte > 127,
+        None => false,
+    }
+}
+
+/// Whether a byte is a quote, or past ASCII.
+#[inline(always)]
+fn is_quote_or_wide(byte: u8) -> bool
+    ensures { result ≡ is_quote_or_wide byte }
+{
+    byte > 127 || (byte == b'\'' || byte == b'"')
+}
+
+/// Whether bytes begin with a quote, or with one past ASCII.
+#[inline(always)]
+fn begins_quote_or_wide(bytes: &[u8]) -> bool
+    ensures { result ≡ begins is_quote_or_wide bytes.now }
+{
+    match bytes.first() {
+        Some(byte) => is_quote_or_wide(*byte),
         None => false,
     }
 }

@@ -76,6 +76,36 @@ fn lister_after<'a>(
     lister
 }
 
+/// The token that begins a line where a lister stands has this text and stands there; none does
+/// where the text is empty.
+fn begins_with(rt: &impl Abort, lister: &mut Lister, expected: &str, place: (usize, usize)) {
+    let Some((_, text, start, _)) = lister.begin_line() else {
+        same_text(rt, "", expected, expected);
+        return;
+    };
+    same_text(rt, text, expected, expected);
+    stands_at(rt, start, place);
+}
+
+#[test]
+fn tells_the_token_that_begins_a_line(rt: HostRuntime) {
+    // After so many entries; an INDENT comes after 5, a DEDENT after 10.
+    let rows = &[
+        (0, "", (0, 0)),
+        (1, "if", (1, 0)),
+        (5, "", (0, 0)),
+        (6, "y", (2, 4)),
+        (8, "z", (3, 4)),
+        (10, "", (0, 0)),
+        (11, "", (0, 0)),
+    ];
+    let source = decode(rt.alloc(), b"if x:\n    y\n    z\nw\n").expect(&rt, "a source");
+    for (steps, text, place) in rows {
+        let mut lister = lister_after(&rt, rt.alloc(), &source, *steps);
+        begins_with(&rt, &mut lister, text, *place);
+    }
+}
+
 #[test]
 fn begins_lines_by_their_spaces(rt: HostRuntime) {
     let rows = &[

@@ -9,7 +9,7 @@ ghost use Rattle.pyparse_block.specs.Values.{group_of};
 
 use crate::groups::{Group, PartialBlock};
 use crate::outline::{BlockFault, BlockStop};
-use crate::room::append;
+use crate::room::{append, append_all};
 use crate::statements::{choice_statement, loop_statement, try_statement};
 use pytree_node::Stmt;
 use std::alloc::{AllocError, Global};
@@ -42,7 +42,7 @@ pub(crate) fn put_all(statements: &mut Vec<Stmt>, more: Vec<Stmt>) -> Result<(),
         mem::swap(statements, &mut more);
         Ok(())
     } else {
-        statements.append(&mut more)
+        append_all(statements, &mut more)
     };
     let_go(more);
     put

@@ -97,7 +97,9 @@ impl Stack {
         }
         close(alloc, &mut self.part)?;
         let Waiting { part, header } = self.below.pop().unwrap();
-        let PartialBlock { done, group: _ } = mem::replace(&mut self.part, part);
+        let PartialBlock { mut done, group: _ } = mem::replace(&mut self.part, part);
+        // The block is whole, so the room that is left over is given back.
+        done.shrink_to_fit();
         grow(alloc, &mut self.part, header, done)?;
         self.fresh = false;
         Ok(())

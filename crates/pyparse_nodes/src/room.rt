@@ -10,8 +10,8 @@ use crate::stop::Stop;
 use pytree_node::{Expr, Keyword};
 use std::alloc::Global;
 
-/// Appends an item. The first one gets room for itself alone: most lists of a tree hold one item,
-/// and `Vec::push` makes room for four.
+/// Appends an item. Room is made for one item, and then for twice as many: most lists of a tree hold
+/// one or two, and `Vec::push` makes room for four.
 ///
 /// Answers `Stop::Memory` where there was no memory.
 #[inline(always)]
@@ -20,8 +20,8 @@ pub fn append<T: Drop>(items: &mut Vec<T>, item: T) -> Result<(), Stop>
         (λ s. s ≡ Stop.Memory) }
     ensures kept { OnErr result (items.new.items ≡ items.old.items) }
 {
-    if items.is_empty() {
-        items.reserve_exact(1)?;
+    if items.len() == items.capacity() {
+        items.reserve_exact(items.len().max(1))?;
     }
     items.push(item)?;
     Ok(())

@@ -12,3 +12,4 @@ mod LineGatherLemmas
 mod TakingLemmas
 mod WalkLemmas
 mod MarkLemmas
+mod LineStartLemmas

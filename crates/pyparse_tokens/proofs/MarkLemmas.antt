@@ -143,7 +143,7 @@ same_kind at LineEnd false own = refl
 same_kind at Join true own = refl
 same_kind at Join false own = refl
 
-lexeme_entry : (text : List ℕ) (k : Class) (begun : Bool) (own : List ℕ) (e : Entry) (at : ℕ) → e.kind ≡ kind_of k begun
+pub lexeme_entry : (text : List ℕ) (k : Class) (begun : Bool) (own : List ℕ) (e : Entry) (at : ℕ) → e.kind ≡ kind_of k begun
     → text_of text e ≡ own → e.«from» ≡ at → lexeme_spans k own at ≡ entry_spans text e
 lexeme_entry text k begun own e at kind is begin =
     same_kind at k begun own ∙ ap (λ (j : Kind). kind_spans at j own) (sym kind) ∙ ap (λ (t : List ℕ). kind_spans at e.kind t) (sym is)

@@ -272,3 +272,30 @@ stops_narrower start ws v w had alike below rising =
           sym (filter-append (λ v. nat_lt v.eight w.eight) ws (v ∷ [])
           ∙ (rw below (ap (λ (vs : List Widths). vs ++ v ∷ []) all.1))) ∙ had.narrower;
     }
+
+all_below : (ws : List Widths) (w : Widths) → list_all (λ u. is_less u w) ws ≡ true → (clashes ws w ≡ false) × (narrower ws w ≡ ws)
+all_below [] w below = (refl, refl)
+all_below (u ∷ ws) w below =
+    let parts = and_parts (is_less u w) (list_all (λ u. is_less u w) ws) below in
+    let alike = less_alike u w parts.0 in
+    let eight = (and_parts (nat_lt u.eight w.eight) (nat_lt u.one w.one) parts.0).0 in
+    let more = all_below ws w parts.1 in
+    (rw alike more.0, rw eight (ap (λ (vs : List Widths). u ∷ vs) more.1))
+
+-- a line as wide as the last goes in its place
+pub goes_last : (front : List Widths) (w : Widths) → are_rising (front ++ w ∷ []) ≡ true → Drops (front ++ w ∷ []) front w false
+goes_last front w rising =
+    let all = all_below front w (rising_pop front w rising).1 in
+    let own : are_alike w w ≡ true = grind (arith, nat_tests) in
+    let not_below : nat_lt w.eight w.eight ≡ false = grind (arith, nat_tests) in
+    let had = drops_on (front ++ w ∷ []) front w w (record { narrower = refl; clash = refl; rising = λ h. h }) own not_below in
+    record { clash = sym all.0 ∙ had.clash; kept = λ h. sym all.1 ∙ had.narrower }
+
+-- the last of some lines, by its widths
+pub last_as : (ws : List Widths) (v w : Widths) → Some v ≡ slice_get ws (length ws - 1) → v.eight ≡ w.eight → v.one ≡ w.one
+    → (front : List Widths) × (ws ≡ front ++ w ∷ [])
+last_as ws v w last eight one = (
+  take (length ws - 1) ws,
+  last_of ws v last ∙ ap (λ (u : Widths). take (length ws - 1) ws ++ u ∷ [])
+      (widths_by v.eight w.eight v.one w.one eight one),
+)

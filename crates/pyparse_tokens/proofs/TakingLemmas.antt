@@ -1,7 +1,8 @@
--- Carries: take_token, take_operator, take_line_end, take_lexeme. On: what is kept of a lexeme of the line that
+-- Carries: take_token, take_operator, take_line_end, take_lexeme, begin_token, begin_operator. On: what is kept of a lexeme of the line that
 -- is open is what is kept of its entry.
 use Rattle.std.proofs.Common.{◌≡◌, ℕ, ◌-◌, ◌<◌, Bool, true, false, not, List, [], ◌∷◌, ◌++◌, length, map, refl, sym, ap, subst, ◌∙◌}
-use Rattle.std.proofs.Common.{append-nil, arith, Option, Some, None}
+use Rattle.std.proofs.Common.{append-nil, arith, length-append, Option, Some, None}
+use Rattle.std.proofs.lemmas.List.{length-map}
 use Rattle.std.specs.Prelude.{if◌then◌else◌, Result, Ok, Err, OnOk}
 use Rattle.std.specs.Option.{option_or}
 use Rattle.std.specs.Str.{chars}
@@ -33,6 +34,7 @@ use Rattle.pyparse_tokens.specs.Inner.Passing.{still_open, line_ends, exceeding,
 use Rattle.pyparse_tokens.specs.Inner.OpenLines.{of_first, Pushes}
 use Rattle.pyparse_tokens.specs.Inner.LineGathering.{stands_in_line, ends_open_line, is_indent, is_dedent, marker_behind, own_terminals}
 use Rattle.pyparse_tokens.specs.Inner.LineGathering.{Adds, TakesEntry}
+use Rattle.pyparse_tokens.specs.Inner.LineBeginning.{TakesStart}
 use Rattle.pyparse_tokens.specs.Inner.Walking.{IsEntry, Takes, line_end_kind, TakesLineEnd, TakesLexeme, PassesOperator}
 use Rattle.pyparse_tokens.specs.Inner.Walking.{PassesLineEnd}
 use Rattle.pytoken.proofs.Callers.Singles.{of_single}
@@ -134,6 +136,60 @@ operator_takes x own old new begun some passes pushes rest text e is =
           operator_adds text e x old.line new.line is.has is.exact
           (later old.line.start e.start own (text_of text e) (Terminals.Op x ∷ []) old.line new.line some (sym is.own_text) pushes);
     }
+
+-- ---- The token that begins a line.
+
+pushes_as : (p q : Place) (own mine : List ℕ) (ts us : List Terminals.Terminal) (old new : OpenLine) → p ≡ q → own ≡ mine → ts ≡ us
+    → Pushes p own ts old new → Pushes q mine us old new
+pushes_as p q own mine ts us old new place text same pushes =
+    subst (λ (r : Place). Pushes r mine us old new) place
+    (subst (λ (t : List ℕ). Pushes p t us old new) text (subst (λ (vs : List Terminals.Terminal). Pushes p own vs old new) same pushes))
+
+-- whatever stood before it, the line has begun behind it
+start_gains : (text : List ℕ) (e : Entry) (x : Exact) (old mid : Pass) → PassesOperator x old mid
+    → Gains text (as_entry e kinds.Op (Some x)) None old (record mid { begun = true })
+start_gains text e x old mid passes =
+    let few : exceeding (as_entry e kinds.Op (Some x)) old.opened old.closed ≡ None =
+    ap (λ (d : Bool). if d then Some (TooDeep e.start) else None) passes.few in
+    subst (λ (m : Pass). Gains text (as_entry e kinds.Op (Some x)) None old (record m { begun = true })) (sym passes.rest)
+    record {
+      extent = refl;
+      begun = refl;
+      opened = refl;
+      closed = refl;
+      faulty = or_none old.faulty;
+      deep = or_none old.deep ∙ ap (option_or old.deep) (sym few);
+      indents = none_measured old.indents;
+    }
+
+pub operator_begins : (x : Exact) (own : List ℕ) (start : Place) (old new : LineGather) (mid : Pass) → PassesOperator x old.pass mid
+    → Pushes start own (Terminals.Op x ∷ []) old.line new.line
+    → new ≡ record old { pass = record mid { begun = true }; line = new.line } → TakesStart kinds.Op (Some x) own start old new
+operator_begins x own start old new mid passes pushes rest text e is at =
+    let pass : new.pass ≡ record mid { begun = true } = ap (λ (g : LineGather). g.pass) rest in
+    let none : entry_refusal old.pass.extent text e ≡ None = operator_faultless old.pass.extent text e x is.has is.exact in
+    let gains : Gains text e None old.pass (record mid { begun = true }) =
+    subst (λ (d : Entry). Gains text d None old.pass (record mid { begun = true })) (entry_as e kinds.Op (Some x) is.kind is.exact)
+    (start_gains text e x old.pass mid passes) in
+    record {
+      pass = subst (λ (r : Option Refusal). Gains text e r old.pass new.pass) (sym none) (subst (Gains text e None old.pass) (sym pass) gains);
+      level = λ ends. let n : false ≡ true = rw is.kind at ends in absurd cc;
+      indents = ap (λ (g : LineGather). g.indents) rest ∙ rw is.kind refl;
+      dedents = ap (λ (g : LineGather). g.dedents) rest ∙ rw is.kind refl;
+      marker = ap (λ (g : LineGather). g.marker) rest ∙ rw is.kind refl;
+      line = λ _.
+          operator_adds text e x old.line new.line is.has is.exact
+          (pushes_as start e.start own (text_of text e) (Terminals.Op x ∷ []) (Terminals.Op x ∷ []) old.line new.line (sym at)
+          (sym is.own_text) refl pushes);
+    }
+
+-- of what was appended something is kept
+pub some_pushed : (p : Place) (own : List ℕ) (ts : List Terminals.Terminal) (old new : OpenLine) → Pushes p own ts old new
+    → 0 < length ts → 0 < length new.terminals.items
+some_pushed p own ts old new pushes some =
+    let size = sym (length-map new.terminals.items terminal) ∙ ap length pushes.terminals
+    ∙ length-append (map terminal old.terminals.items) ts in
+    omega (arith, size, some)
 
 line_end_faultless : (extent : Extent) (text : List ℕ) (e : Entry) (b : Bool) → e.kind ≡ line_end_kind b
     → entry_refusal extent text e ≡ None

@@ -6,3 +6,4 @@ pub mod LineReading
 pub mod Indenting
 pub mod Walking
 pub mod Marking
+pub mod LineBeginning

@@ -2,9 +2,10 @@
 //!
 //! Python language reference, 2.1.8 "Indentation".
 
-ghost use Rattle.std.specs.Prelude.{◌≡◌, ◌++◌, true, [], length, drop, OnOk, None};
+ghost use Rattle.std.specs.Prelude.{◌≡◌, ◌++◌, true, List, [], ◌∷◌, length, drop, OnOk, None};
 ghost use Rattle.std.specs.Str.{chars, IsCharBoundary};
 ghost use Rattle.pylex_lexeme.specs.Chars.{is_blank_char};
+ghost use Rattle.pylex.specs.declared.margins.Widths.{Widths};
 ghost use Rattle.pylex.specs.Margins.{blanks_of, widths_of};
 ghost use Rattle.pytoken.specs.Indentation.{behind_offset, are_alike, margin_at};
 ghost use Rattle.pyparse_tokens.specs.Inner.Indenting.{is_logical_at, start_at, are_rising};
@@ -110,6 +111,23 @@ fn drop_wider(standing: &mut Vec<Widths>, widths: Widths) -> bool
     false
 }
 
+/// Whether a line is as wide as the last of these.
+#[inline(always)]
+fn ends_in(standing: &[Widths], widths: Widths) -> bool
+    ensures { result ≡ true → (front : List Widths) × (standing.now ≡ front ++ widths ∷ []) }
+{
+    let Some(last) = standing.last() else {
+        return false;
+    };
+    if last.eight != widths.eight {
+        return false;
+    }
+    if last.one != widths.one {
+        return false;
+    }
+    true
+}
+
 /// What one pass over the lines of a source keeps of their indentation.
 #[derive(Drop)]
 pub(crate) struct Indents {
@@ -154,6 +172,10 @@ impl Indents {
         ensures { OnOk result
             (Measures (margin_at (chars source.now.text) offset) self.old self.new) }
     {
+        // Half of all lines: such a line goes in the place of the last.
+        if ends_in(self.standing.as_slice(), widths) {
+            return Ok(());
+        }
         if drop_wider(&mut self.standing, widths) {
             self.mixed = Some(Refusal::MixedTabs(start_of(source, offset)));
             return Ok(());

@@ -18,7 +18,8 @@ ghost use Rattle.pyparse_tokens.specs.Inner.LineGathering.{
   TakesEntry,
 };
 ghost use Rattle.pyparse_tokens.specs.Inner.OpenLines.{keeps_match};
-ghost use Rattle.pylex.specs.Spots.{is_silent};
+ghost use Rattle.pylex.specs.Spots.{is_silent, kind_of, operator_of};
+ghost use Rattle.pyparse_tokens.specs.Inner.LineBeginning.{TakesStart};
 ghost use Rattle.pyparse_tokens.specs.Inner.Walking.{
   is_plain_token,
   Takes,
@@ -345,6 +346,96 @@ impl<'a> LineGather<'a> {
                 self.take_line_end(source, !to.begun, to.offset)?;
                 Ok(true)
             }
+        }
+    }
+
+    /// Whether no line is open, and nothing is refused so far.
+    #[inline(always)]
+    pub(crate) fn is_between(&self) -> bool
+        ensures { result ≡ true → self.now.pass.begun ≡ false }
+    {
+        !self.pass.has_begun() && self.refusal().is_none()
+    }
+
+    /// Takes a name, a number or a string that begins a line at a place: whether it has no fault by
+    /// itself. One that has a fault isn't taken.
+    #[inline(always)]
+    fn begin_token(
+        &mut self,
+        alloc: Global,
+        kind: Kind,
+        text: &'a str,
+        start: Place,
+    ) -> Result<bool, AllocError>
+        requires { is_plain_token kind ≡ true }
+        ensures taken { IfOk result (λ taken. taken ≡ true
+            → TakesStart kind None (chars text.now) start self.old self.new) }
+        ensures some { IfOk result
+            (λ taken. taken ≡ true → 0 < length self.new.line.terminals.items) }
+        ensures kept { IfOk result (λ taken. taken ≡ false → self.new ≡ self.old) }
+        ensures extent { self.new.pass.extent ≡ self.old.pass.extent }
+    {
+        let token = Token { kind, start, text };
+        let fault = self.line.push_token(alloc, self.pass.extent(), token)?;
+        if fault.is_some() {
+            return Ok(false);
+        }
+        self.pass.begin();
+        Ok(true)
+    }
+
+    /// Takes an operator that begins a line at a place: whether it opens no bracket too many. One
+    /// that does isn't taken.
+    #[inline(always)]
+    fn begin_operator(
+        &mut self,
+        exact: Exact,
+        text: &'a str,
+        start: Place,
+    ) -> Result<bool, AllocError>
+        requires opened { self.old.pass.opened < 2 ^ 63 }
+        requires closed { self.old.pass.closed < 2 ^ 63 }
+        ensures taken { IfOk result (λ taken. taken ≡ true
+            → TakesStart Kind.Op (Some exact) (chars text.now) start self.old self.new) }
+        ensures some { IfOk result
+            (λ taken. taken ≡ true → 0 < length self.new.line.terminals.items) }
+        ensures kept { IfOk result (λ taken. taken ≡ false → self.new ≡ self.old) }
+        ensures extent { self.new.pass.extent ≡ self.old.pass.extent }
+    {
+        if !self.pass.take_operator(exact) {
+            return Ok(false);
+        }
+        self.line.push(start, text, Terminal::Op(exact))?;
+        self.pass.begin();
+        Ok(true)
+    }
+
+    /// Takes the token that begins a line at a place: whether it has no fault by itself and opens no
+    /// bracket too many. Another isn't taken.
+    #[inline(always)]
+    pub(crate) fn begin(
+        &mut self,
+        alloc: Global,
+        class: Class,
+        text: &'a str,
+        start: Place,
+    ) -> Result<bool, AllocError>
+        requires opened { self.old.pass.opened < 2 ^ 63 }
+        requires closed { self.old.pass.closed < 2 ^ 63 }
+        ensures taken { IfOk result (λ taken. taken ≡ true
+            → TakesStart (kind_of class true) (operator_of class) (chars text.now) start
+            self.old self.new) }
+        ensures some { IfOk result
+            (λ taken. taken ≡ true → 0 < length self.new.line.terminals.items) }
+        ensures kept { IfOk result (λ taken. taken ≡ false → self.new ≡ self.old) }
+        ensures extent { self.new.pass.extent ≡ self.old.pass.extent }
+    {
+        match class {
+            Class::Name => self.begin_token(alloc, Kind::Name, text, start),
+            Class::Number => self.begin_token(alloc, Kind::Number, text, start),
+            Class::String => self.begin_token(alloc, Kind::String, text, start),
+            Class::Operator(exact) => self.begin_operator(exact, text, start),
+            _ => Ok(false),
         }
     }
 

@@ -195,6 +195,14 @@ impl Pass {
         Ok(())
     }
 
+    /// A line has begun.
+    #[inline(always)]
+    pub(crate) fn begin(&mut self)
+        ensures { self.new ≡ record self.old { begun = true } }
+    {
+        self.begun = true;
+    }
+
     /// Takes an operator within a line: whether it opens no bracket too many. One that does isn't
     /// taken.
     #[inline(always)]

@@ -1,16 +1,18 @@
-//! The rest of a logical line, taken without its entries.
+//! A logical line, or what is left of it, taken without its entries.
 //!
-//! Most entries of a listing stand within a line, after its first token. A lexeme there is taken as
-//! it is, and no place is measured. What can't be taken so ends the walk before it: the lister goes
-//! there, and what comes is taken as an entry. That is a fault, a refusal or the end, so a source
-//! has few such places: after a refusal nothing is walked.
+//! Most entries of a listing stand within a line. A lexeme there is taken as it is, and no place but
+//! that of the first token is measured. What can't be taken so ends the walk before it: the lister
+//! goes there, and what comes is taken as an entry. That is a fault, a refusal or the end, so a
+//! source has few such places: after a refusal nothing is walked. A line's first token is taken as
+//! an entry too, where it closes levels.
 
-ghost use Rattle.std.specs.Prelude.{◌≡◌, ◌<◌, ◌≤◌, true, false, length, IfOk, None};
+ghost use Rattle.std.specs.Prelude.{◌≡◌, ◌<◌, ◌≤◌, true, false, length, IfOk, IfSome, None};
 ghost use Rattle.pylex.specs.Listers.{Listed};
 ghost use Rattle.pylex.specs.Spots.{at_spot};
 ghost use Rattle.pyparse_tokens.specs.Inner.LineGathering.{StandsAt, ReadsLine};
 ghost use Rattle.pyparse_tokens.specs.Inner.Marking.{GoesOn, ComesToEnd};
 ghost use Rattle.pyparse_tokens.specs.Inner.Passing.{kept_refusal};
+ghost use Rattle.pyparse_tokens.specs.Inner.LineBeginning.{BeginsAt};
 ghost use Rattle.pyparse_tokens.specs.Inner.Walking.{Reads, Went};
 
 use crate::line_gather::LineGather;
@@ -66,8 +68,44 @@ fn walk<'a>(
     Ok(spot)
 }
 
-/// Takes what is left of the line that is open where a lister stands, as far as it can be taken
-/// without entries: whether the line ended and nothing is refused. The lister goes along.
+/// The spot from which a line can be taken without entries: where a lister stands in a line of which
+/// tokens are kept, or else behind the token that begins one, if that comes next. It is taken.
+#[inline(always)]
+fn spot_of<'a>(
+    alloc: Global,
+    source: &'a Source,
+    lister: &mut Lister<'a>,
+    gather: &mut LineGather<'a>,
+    marks: &mut Marks,
+) -> Result<Option<Spot>, AllocError>
+    requires { StandsAt source.now lister.old gather.old }
+    ensures lister { lister.new ≡ lister.old }
+    ensures begun { IfOk result
+        (λ r. IfSome r
+        (λ spot. BeginsAt source.now lister.old gather.old marks.old spot gather.new marks.new)) }
+    ensures gather { IfOk result (λ r. r ≡ None → gather.new ≡ gather.old) }
+    ensures marks { IfOk result (λ r. r ≡ None → marks.new ≡ marks.old) }
+    ensures extent { gather.new.pass.extent ≡ gather.old.pass.extent }
+{
+    if gather.has_tokens() {
+        return Ok(lister.spot());
+    }
+    if !gather.is_between() {
+        return Ok(None);
+    }
+    let Some((class, text, start, spot)) = lister.begin_line() else {
+        return Ok(None);
+    };
+    if !gather.begin(alloc, class, text, start)? {
+        return Ok(None);
+    }
+    mark_lexeme(alloc, class, text, spot.offset, marks)?;
+    Ok(Some(spot))
+}
+
+/// Takes what is left of the line that is open where a lister stands, or the one that begins there,
+/// as far as it can be taken without entries: whether the line ended and nothing is refused. The
+/// lister goes along.
 pub(crate) fn walk_line<'a>(
     alloc: Global,
     source: &'a Source,
@@ -93,10 +131,7 @@ pub(crate) fn walk_line<'a>(
         (λ ended. ended ≡ true
         → ComesToEnd source.now lister.old gather.old marks.old marks.new) }
 {
-    if !gather.has_tokens() {
-        return Ok(false);
-    }
-    let Some(from) = lister.spot() else {
+    let Some(from) = spot_of(alloc, source, lister, gather, marks)? else {
         return Ok(false);
     };
     let to = walk(alloc, source, lister, from, gather, marks)?;

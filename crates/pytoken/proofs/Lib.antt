@@ -20,3 +20,4 @@ mod ValueRows
 mod TokenRows
 mod RefusalRows
 mod NameLemmas
+mod KeywordLemmas

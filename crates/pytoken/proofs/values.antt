@@ -1,4 +1,5 @@
 mod NameLemmas
+mod ClearLemmas
 mod NumberLemmas
 mod ShortLemmas
 mod DigitLemmas

@@ -2,9 +2,10 @@
 //!
 //! Python language reference, 2.3.1 "Keywords".
 
-ghost use Rattle.std.specs.Prelude.{◌≡◌};
+ghost use Rattle.std.specs.Prelude.{◌≡◌, IsFalse, None};
 ghost use Rattle.std.specs.Str.{chars};
 ghost use Rattle.pytoken.specs.Keywords.{spelling_of, keyword_of};
+ghost use Rattle.pytoken.specs.Inner.Readings.{first_letters, leads};
 
 /// A keyword of Python 3.11.
 #[derive(Clone, Copy, Debug, PartialEq, Eq)]
@@ -44,6 +45,49 @@ pub enum Keyword {
     While,
     With,
     Yield,
+}
+
+/// The letters that keywords of a length begin with, as bits: a letter's is its byte modulo 64.
+#[inline(always)]
+fn first_letters(len: usize) -> u64
+    ensures { result ≡ first_letters len }
+{
+    match len {
+        // as, if, in, is, or
+        2 => 0x0000_8202_0000_0000,
+        // and, def, del, for, not, try
+        3 => 0x0010_4052_0000_0000,
+        // None, True, elif, else, from, pass, with
+        4 => 0x0081_0060_0010_4000,
+        // False, async, await, break, class, raise, while, yield
+        5 => 0x0284_000E_0000_0040,
+        // assert, except, global, import, lambda, return
+        6 => 0x0004_12A2_0000_0000,
+        // finally
+        7 => 0x0000_0040_0000_0000,
+        // continue, nonlocal
+        8 => 0x0000_4008_0000_0000,
+        _ => 0,
+    }
+}
+
+/// Whether some keyword has so many bytes, and this letter in front.
+#[inline(always)]
+fn leads(len: usize, first: u8) -> bool
+    ensures { result ≡ leads len first }
+{
+    (first_letters(len) >> (first % 64)) % 2 == 1
+}
+
+/// Whether a text may be a keyword, by its length and its first byte. Few names may.
+#[inline(always)]
+fn may_be_keyword(text: &str) -> bool
+    ensures { IsFalse result → keyword_of text.now ≡ None }
+{
+    match text.as_bytes().first() {
+        Some(first) => leads(text.len(), *first),
+        None => false,
+    }
 }
 
 /// The keyword whose bytes a text has: its first byte leaves few to compare it with.
@@ -198,6 +242,9 @@ impl Keyword {
     pub fn of(text: &str) -> Option<Keyword>
         ensures { result ≡ keyword_of (chars text.now) }
     {
+        if !may_be_keyword(text) {
+            return None;
+        }
         spelled(text)
     }
 }

@@ -4,6 +4,7 @@
 
 mod bodies;
 mod characters;
+mod clear_bytes;
 mod elements;
 mod escapes;
 mod faults;

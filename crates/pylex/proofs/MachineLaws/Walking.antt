@@ -1,6 +1,6 @@
 -- A text character by character: the place, the line's front and the width after each.
 --
--- Carries: lead_of_plain, walk_chars, width_after, widths_in.
+-- Carries: lead_of_chars, walk_chars, width_after, widths_in.
 use Rattle.std.proofs.Common.{◌≡◌, ℕ, ◌+◌, ◌<◌, false, List, [], ◌∷◌, ◌++◌, length, refl, ap, ◌∙◌, arith, eqb, length-append}
 use Rattle.std.specs.Str.{chars, IsUtf8}
 use Rattle.std.specs.Char.{encode_utf8}

@@ -119,7 +119,7 @@ stood p s levels left utf8 small stands begun is_left =
     }
 
 -- The state directly after an entry, and what its cursor says.
-abbrev anew_line : LineState → LineState
+abbrev pub anew_line : LineState → LineState
 anew_line q = record {
   now = q.now;
   line = q.now;
@@ -132,14 +132,14 @@ anew_line q = record {
   lead = q.lead;
 }
 
-abbrev point_of : LineState → Shown
+abbrev pub point_of : LineState → Shown
 point_of q = record { offset = q.now.offset; row = q.now.place.row; depth = q.depth; begun = q.logical }
 
-room_anew : (q : LineState) (n : ℕ) → HasRoom q n → HasRoom (anew_line q) n
+pub room_anew : (q : LineState) (n : ℕ) → HasRoom q n → HasRoom (anew_line q) n
 room_anew q n h = record { row = h.row; column = h.column; offset = h.offset; depth = h.depth; width = omega (arith, h.width) }
 
 -- The entry of a lexeme.
-abbrev kind_at : LineState → Class → Kind
+abbrev pub kind_at : LineState → Class → Kind
 kind_at p k = elim k [
   | Name ↦ kinds.Name
   | Number ↦ kinds.Number
@@ -149,10 +149,10 @@ kind_at p k = elim k [
   | _ ↦ line_end_kind_of (with_levels p [])
 ]
 
-abbrev end_at : LineState → Class → List ℕ → Place
+abbrev pub end_at : LineState → Class → List ℕ → Place
 end_at p k t = elim k [ LineEnd ↦ further p.now.place (length t) | _ ↦ place_past p.now.place t ]
 
-abbrev entry_at : LineState → Class → List ℕ → Entry
+abbrev pub entry_at : LineState → Class → List ℕ → Entry
 entry_at p k t = record {
   kind = kind_at p k;
   exact = operator_of k;
@@ -163,7 +163,7 @@ entry_at p k t = record {
       p.now.offset + bytes_in t;
 }
 
-entry_is : (p : LineState) (k : Class) (t : List ℕ) → is_silent k ≡ false
+pub entry_is : (p : LineState) (k : Class) (t : List ℕ) → is_silent k ≡ false
     → (is_closer_class k && (p.depth == 0)) ≡ false → (levels : List ℕ)
     → entry_by (with_levels p levels) (record { «class» = k; text = t }) ≡ steps.Entry (entry_at p k t) ∷ []
 unfolding entry_by

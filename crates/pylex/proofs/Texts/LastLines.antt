@@ -1,15 +1,15 @@
 -- The line that a text ends in, over bytes.
 --
 -- Carries: last_line. On: Resume.
-use Rattle.std.proofs.Common.{◌≡◌, ◌≢◌, ℕ, suc, ◌+◌, ◌<◌, ◌≤◌, true, false, ◌&&◌, ◌==◌, List, [], ◌∷◌, ◌++◌, length, take, drop, get_or}
+use Rattle.std.proofs.Common.{◌≡◌, ◌≢◌, ℕ, suc, ◌+◌, ◌-◌, ◌<◌, ◌≤◌, true, false, ◌&&◌, ◌==◌, List, [], ◌∷◌, ◌++◌, length, take, drop, get_or}
 use Rattle.std.proofs.Common.{reverse, refl, ap, ◌∙◌, sym, subst, arith, ⊎_elim, append_assoc, Some, None, drop-cons, get_or-drop}
 use Rattle.std.proofs.Common.{length-drop}
 use Rattle.std.specs.List.{take_while, list_all}
 use Rattle.std.specs.Str.{chars, IsUtf8, IsCharBoundary, encode_utf8_all}
 use Rattle.std.specs.Str.Pattern.{RFindsChar}
-use Rattle.std.proofs.lemmas.Str.{chars-append, encodes-append, encodes-chars, IsUtf8-take}
+use Rattle.std.proofs.lemmas.Str.{chars-append, encodes-append, encodes-chars, IsUtf8-take, IsCharBoundary-before_ascii}
 use Rattle.std.proofs.lemmas.Str.Pattern.{rfind_char}
-use Rattle.std.proofs.lemmas.List.{reverse-append, reverse-reverse, take-append-drop}
+use Rattle.std.proofs.lemmas.List.{reverse-append, reverse-reverse, take-append-drop, drop_all}
 use Rattle.std.proofs.lemmas.List.Folds.{list_all-append}
 use Rattle.std.proofs.lemmas.List.Sums.{take_while-cons}
 use Rattle.std.proofs.lemmas.Bool.Decides.{nat_tests}
@@ -107,3 +107,15 @@ line_behind text line at u v f e =
 
 pub line_alone : (text : List ℕ) → IsUtf8 text → RFindsChar 10 text None → chars text ≡ last_line (chars text)
 line_alone text u f = sym (line_whole (chars text) (clean_line text u (rfind_char 10 text None f (omega arith))))
+
+pub line_begun : (text : List ℕ) → IsUtf8 text → 0 < length text → get_or text (length text - 1) 0 ≡ 10 → chars [] ≡ last_line (chars text)
+unfolding lib.Utf8.encode chars
+line_begun text u some last =
+    let at = length text - 1 in
+    let less : at < length text = omega arith in
+    let none : drop (suc at) text ≡ [] = drop_all (suc at) text (omega arith) in
+    let whole : text ≡ take at text ++ 10 ∷ [] = sym (take-append-drop at text) ∙ ap (λ t. take at text ++ t) (drop-cons text at 0 less
+    ∙ ap (λ b. b ∷ drop (suc at) text) last ∙ ap (λ t. 10 ∷ t) none) in
+    let front : IsUtf8 (take at text) = IsUtf8-take text at u (IsCharBoundary-before_ascii text at less (omega (arith, last))) in
+    let spelled : chars text ≡ chars (take at text) ++ 10 ∷ [] = ap chars whole ∙ chars-append (take at text) (10 ∷ []) front in
+    sym (ap last_line spelled ∙ line_of (chars (take at text)) [] refl)

@@ -1,12 +1,14 @@
 -- Text in ASCII without LF: its bytes are characters of one line.
 --
--- Carries: after_plain, lead_of_plain, walk, width_after.
+-- Carries: after_plain, lead_of_chars, lead_of_plain, walk, width_after.
 use Rattle.std.proofs.Common.{◌≡◌, ◌≢◌, ℕ, zero, suc, ◌+◌, ◌<◌, ◌≤◌, false, ◌==◌, List, [], ◌∷◌, length, refl, ap, ◌∙◌, sym, subst, arith}
 use Rattle.std.proofs.Common.{get_or, ⊎_elim}
 use Rattle.std.specs.Str.{chars, IsAscii}
 use Rattle.std.proofs.lemmas.Str.{chars-IsAscii}
 use Rattle.std.proofs.lemmas.Bool.Decides.{nat_tests}
 use Rattle.std.proofs.lemmas.Bool.{cases_lt}
+use Rattle.pylex_lexeme.specs.Characters.{hash}
+use Rattle.pylex_lexeme.specs.Chars.{is_blank_char}
 use Rattle.pysource.specs.declared.places.Place.{Place}
 use Rattle.pylex.specs.declared.leading_char.LeadingChar.{LeadingChar}
 use Rattle.pylex.specs.declared.leading_char.LeadingChar.TheVariants.{Nothing, Hash, Other}
@@ -61,6 +63,16 @@ begun Other (c ∷ cs) n a = let e = a.0 in rw e (begun Other cs n a.1)
 
 pub begun_plain : (f : LeadingChar) (bs : List ℕ) → (f ≡ Nothing → ⊥) → IsPlain bs → lead_after f (chars bs) ≡ f
 begun_plain f bs n p = begun f (chars bs) n (plain_in_line bs p)
+
+-- a character above `#` is neither that nor a blank
+pub plain_above_hash : (bs : List ℕ) → IsPlain bs → 0 < length bs → hash < slice_index bs 0 → lead_after Nothing (chars bs) ≡ Other
+plain_above_hash [] p some h = absurd (omega arith)
+plain_above_hash (b ∷ bs) p some h =
+    let in_lines = in_line (b ∷ bs) p in
+    let feed = in_lines.0 in
+    let blank : is_blank_char b ≡ false = grind (arith, nat_tests) in
+    let number : (b == hash) ≡ false = grind (arith, nat_tests) in
+    ap (lead_after Nothing) (plain_chars (b ∷ bs) p) ∙ rw (feed, blank, number) (begun Other bs (λ e. cc) in_lines.1)
 
 -- one character off the front
 pub in_line_past : (cs ds : List ℕ) (c : ℕ) → cs ≡ c ∷ ds → AllInLine cs → AllInLine ds

@@ -1,6 +1,7 @@
 -- Fronts of a text in ASCII, by bytes and by characters.
 --
--- Carries: bump, bump_plain, bump_while, first. On: Texts.
+-- Carries: bump, bump_ascii, bump_plain, bump_while, first, first_ascii, has_quote_or_wide,
+-- ascii_name, blanks. On: Texts.
 use Rattle.std.proofs.Common.{◌≡◌, ℕ, ◌<◌, Bool, true, false, ◌&&◌, List, [], ◌∷◌, ◌++◌, drop, refl, sym, ◌∙◌, ap, subst, Some, arith}
 use Rattle.std.proofs.Common.{slice_get, add_comm, add-one, ⊎_elim, nat_lt}
 use Rattle.std.specs.List.{prefix_len}
@@ -10,9 +11,10 @@ use Rattle.std.proofs.lemmas.Str.{chars-nil, chars_past_char, encode_ascii, byte
 use Rattle.std.proofs.lemmas.Str.{IsCharBoundary-from_drop}
 use Rattle.std.proofs.lemmas.List.Sums.{prefix_len-le-length}
 use Rattle.std.proofs.lemmas.Bool.Decides.{nat_tests}
-use Rattle.std.proofs.lemmas.Bool.{cases_Bool, and_parts}
+use Rattle.std.proofs.lemmas.Bool.{cases_Bool, and_parts, or_parts}
 use Rattle.pylex_lexeme.specs.Chars.{begins}
 use Rattle.pylex_lexeme.specs.Inner.Plain.{is_plain_char}
+use Rattle.pylex_lexeme.specs.Inner.Frequent.{is_quote_or_wide}
 use Rattle.pylex_lexeme.proofs.Fronts.Texts.{after_run}
 
 -- a byte of ASCII is a character
@@ -90,13 +92,16 @@ tells_ascii p = record {
   passes = λ b h. (and_parts (nat_lt b 128) (p b) h).1;
 }
 
+pub tells_own : (p : ℕ → Bool) → Tells (in_ascii p) (in_ascii p)
+tells_own p = record { ascii = (tells_ascii p).ascii; passes = λ b h. h }
+
 pub tells_plain : Tells is_plain_char is_plain_char
 tells_plain = record {
   ascii = λ b h. let k : nat_lt b 128 ≡ true = (and_parts (nat_lt b 128) _ h).0 in grind (arith, nat_tests);
   passes = λ b h. h;
 }
 
-right_is : (a b : Bool) → (a && b) ≡ false → a ≡ true → b ≡ false
+pub right_is : (a b : Bool) → (a && b) ≡ false → a ≡ true → b ≡ false
 right_is true b h k = h
 right_is false b h k = cc
 
@@ -111,17 +116,26 @@ ascii_stops p (b ∷ t) u e w =
     let f = chars_first b t u l in
     ap (after_run p) f ∙ run_off p b (chars t) n ∙ sym f
 
-pub plain_stops : (bs : List ℕ) → IsUtf8 bs → begins is_plain_char bs ≡ false → after_run is_plain_char (chars bs) ≡ chars bs
-plain_stops [] u e = rw chars-nil refl
-plain_stops (b ∷ t) ([], (s, h)) e = cc
-plain_stops (b ∷ t) (c ∷ cs, (s, h)) e =
-    let f : chars (b ∷ t) ≡ c ∷ chars (encodes cs) = chars_past_char (b ∷ t) (encodes cs) c (c ∷ cs, (s, h)) (sym h) in
-    let n : is_plain_char c ≡ false =
+-- where a run of bytes stops, one of characters does
+pub own_stops : (f : ℕ → Bool) → Tells f f → (bs : List ℕ) → IsUtf8 bs → begins f bs ≡ false → after_run f (chars bs) ≡ chars bs
+own_stops f tells [] u e = rw chars-nil refl
+own_stops f tells (b ∷ t) ([], (s, h)) e = cc
+own_stops f tells (b ∷ t) (c ∷ cs, (s, h)) e =
+    let g : chars (b ∷ t) ≡ c ∷ chars (encodes cs) = chars_past_char (b ∷ t) (encodes cs) c (c ∷ cs, (s, h)) (sym h) in
+    let n : f c ≡ false =
     ⊎_elim
-    (λ (k : is_plain_char c ≡ true).
-    let l : c < 128 = tells_plain.ascii c k in
+    (λ (k : f c ≡ true).
+    let l : c < 128 = tells.ascii c k in
     let same : b ≡ c = byte_from_char (b ∷ t) (encodes cs) c (sym h) l in
-    ap is_plain_char (sym same) ∙ e)
-    (λ (k : is_plain_char c ≡ false). k)
-    (cases_Bool (is_plain_char c)) in
-    ap (after_run is_plain_char) f ∙ run_off is_plain_char c (chars (encodes cs)) n ∙ sym f
+    ap f (sym same) ∙ e)
+    (λ (k : f c ≡ false). k)
+    (cases_Bool (f c)) in
+    ap (after_run f) g ∙ run_off f c (chars (encodes cs)) n ∙ sym g
+
+-- where bytes begin with neither a quote nor one past ASCII, nor do their characters
+pub neither_first : (bs : List ℕ) → IsUtf8 bs → begins is_quote_or_wide bs ≡ false → begins is_quote_or_wide (chars bs) ≡ false
+neither_first [] u e = rw chars-nil refl
+neither_first (b ∷ t) u e =
+    let w : nat_lt 127 b ≡ false = (or_parts (nat_lt 127 b) _ e).0 in
+    let l : b < 128 = grind (arith, nat_tests) in
+    ap (begins is_quote_or_wide) (chars_first b t u l) ∙ e

@@ -1,6 +1,6 @@
 -- The brackets and the comma, with which no longer operator begins.
 --
--- Carries: delimiter. On: Union, OperatorLengths, Classes.
+-- Carries: delimiter, sign. On: Union, OperatorLengths, Classes.
 use Rattle.std.proofs.Common.{◌≡◌, ℕ, ◌<◌, true, false, ◌||◌, ◌==◌, List, [], ◌∷◌, drop, refl, sym, ◌∙◌, ap, Some, is_some, arith, eqb}
 use Rattle.std.specs.Prelude.{option_map}
 use Rattle.std.specs.Char.{is_ascii_alphabetic}
@@ -28,14 +28,19 @@ delimiter_at : (c : ℕ) (t : List ℕ) (e : Exact) → exact_of (c ∷ []) ≡ 
 unfolding operator_at
 delimiter_at c t e exact len = rw len (ap (option_map (λ x. (x, 1))) exact)
 
+-- a character that begins no lexeme but an operator, and is the longest one here
+pub one_takes : (c : ℕ) (t : List ℕ) (e : Exact) → exact_of (c ∷ []) ≡ Some e → longest is_operator (c ∷ t) ≡ 1 → BeginsOther (c ∷ t)
+    → TakesLexeme (c ∷ t) (Some (OperatorClass e)) t
+one_takes c t e exact len other = operator_takes (c ∷ t) (operator_at (c ∷ t)) e 1 other refl (delimiter_at c t e exact len)
+
 -- a character that begins no lexeme but an operator, and that no operator goes on with
 alone_takes : (c : ℕ) (t : List ℕ) (e : Exact) → exact_of (c ∷ []) ≡ Some e → ((b : ℕ) (u : List ℕ) → is_operator (c ∷ b ∷ u) ≡ false)
     → BeginsOther (c ∷ t) → TakesLexeme (c ∷ t) (Some (OperatorClass e)) t
 alone_takes c t e exact none other =
     let one : is_operator (c ∷ []) ≡ true = sym (operator_some (c ∷ [])) ∙ ap is_some exact in
-    operator_takes (c ∷ t) (operator_at (c ∷ t)) e 1 other refl (delimiter_at c t e exact (delimiter_len c t one none))
+    one_takes c t e exact (delimiter_len c t one none) other
 
-other_at : (c : ℕ) (t : List ℕ) → c < 128 → (is_ascii_alphabetic c || (c == 95)) ≡ false → is_prefix_letter c ≡ false
+pub other_at : (c : ℕ) (t : List ℕ) → c < 128 → (is_ascii_alphabetic c || (c == 95)) ≡ false → is_prefix_letter c ≡ false
     → ((c == 39) || (c == 34)) ≡ false → begins_number (c ∷ t) ≡ false
     → is_blank_char c ≡ false → eqb c 35 ≡ false → eqb c 10 ≡ false → eqb c 13 ≡ false → eqb c 92 ≡ false → BeginsOther (c ∷ t)
 other_at c t small letter prefix quote number blank h f r l = record {

@@ -1,6 +1,6 @@
 -- Operators by their second characters.
 --
--- Carries: longest_operator. On: OperatorLengths, Classes, Joined.
+-- Carries: longest_operator, sign. On: OperatorLengths, Classes, Joined.
 use Rattle.std.proofs.Common.{◌≡◌, ℕ, Bool, false, ◌&&◌, ◌||◌, ◌==◌, List, [], ◌∷◌, refl, sym, ◌∙◌, ap, Some, eqb, slice_get, drop}
 use Rattle.std.specs.Prelude.{option_map}
 use Rattle.std.specs.List.{list_any}
@@ -31,7 +31,7 @@ no_second a b t ((x ∷ y ∷ o) ∷ os) e =
 abbrev pub may_be_second : ℕ → Bool
 may_be_second c = (c == 61) || ((c == 60) || ((c == 62) || ((c == 42) || ((c == 47) || (c == 46)))))
 
-second_off : (a b : ℕ) (t : List ℕ) → may_be_second b ≡ false → is_operator (a ∷ b ∷ t) ≡ false
+pub second_off : (a b : ℕ) (t : List ℕ) → may_be_second b ≡ false → is_operator (a ∷ b ∷ t) ≡ false
 second_off a b t h =
     let p = or_parts (b == 61) _ h in
     let q = or_parts (b == 60) _ p.1 in

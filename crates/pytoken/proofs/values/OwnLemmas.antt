@@ -1,20 +1,22 @@
--- Carries: first_character, front, bump_plain. On: characters of ASCII at the ends of a text.
-use Rattle.std.proofs.Common.{◌≡◌, ℕ, zero, suc, ◌+◌, ◌-◌, ◌<◌, Bool, true, false, List, [], ◌∷◌, ◌++◌, length, take, drop, refl, sym, ap}
-use Rattle.std.proofs.Common.{◌∙◌, arith}
-use Rattle.std.proofs.Common.{Some, None, slice_get}
-use Rattle.std.specs.Prelude.{◌==◌, ◌||◌, not, nat_le}
+-- Carries: first_character, front, bump_plain, begins_apart. On: characters of ASCII at the ends of a text.
+use Rattle.std.proofs.Common.{◌≡◌, ℕ, zero, suc, ◌+◌, ◌-◌, ◌<◌, ◌≤◌, Bool, true, false, List, [], ◌∷◌, ◌++◌, length, take, drop, refl, sym}
+use Rattle.std.proofs.Common.{ap, ◌∙◌, arith}
+use Rattle.std.proofs.Common.{Some, None, slice_get, get_or}
+use Rattle.std.specs.Prelude.{◌==◌, ◌||◌, ◌&&◌, not, nat_le}
 use Rattle.std.specs.List.{list_all, prefix_len}
 use Rattle.std.specs.Str.{chars, IsUtf8, IsAscii, IsCharBoundary}
-use Rattle.std.proofs.lemmas.Bool.{and_parts, eq-eqb, leb-true, not-true}
+use Rattle.std.proofs.lemmas.Bool.{and_parts, and_left, and_right, eq-eqb, leb-true, not-true}
 use Rattle.std.proofs.lemmas.List.{take-append-drop}
 use Rattle.std.proofs.lemmas.List.Elements.{filter-append}
 use Rattle.std.proofs.lemmas.List.Sums.{prefix_len-le-length}
 use Rattle.std.proofs.lemmas.Option.{slice_get_within, get_or_from_slice_get}
-use Rattle.std.proofs.lemmas.Str.{encode_ascii, chars-append, chars-IsAscii, IsUtf8-take, IsUtf8-from_ascii, IsCharBoundary-before_ascii}
-use Rattle.std.proofs.lemmas.Str.{IsCharBoundary-after_ascii, IsCharBoundary-from_take}
+use Rattle.std.proofs.lemmas.Str.{encode_ascii, chars-append, chars-IsAscii, IsUtf8-take, IsUtf8-drop, IsUtf8-from_ascii}
+use Rattle.std.proofs.lemmas.Str.{IsCharBoundary-before_ascii, IsCharBoundary-after_ascii, IsCharBoundary-from_take}
 use Rattle.std.proofs.lemmas.Str.Ascii.{IsAscii-nil, IsAscii-cons}
 use Rattle.pylex_lexeme.proofs.Callers.Lexemes.{at_one}
 use Rattle.pylex_lexeme.proofs.Callers.Fronts.{run_passes}
+use Rattle.pylex_lexeme.specs.Characters.{single_quote, double_quote}
+use Rattle.pylex_lexeme.specs.Strings.{begins_three}
 use Rattle.pytoken.specs.StringValues.{with_line_feeds, without_last}
 use Rattle.pytoken.specs.Inner.Readings.{is_own, stands}
 use Rattle.pytoken.proofs.values.Filtered.{kept, nothing, last_taken}
@@ -47,6 +49,25 @@ own_boundary bs b utf8 e is =
 pub own_none : (bs : List ℕ) → slice_get bs 0 ≡ None → with_line_feeds (chars bs) ≡ []
 own_none [] e = nothing
 own_none (b ∷ bs) e = absurd (cc)
+
+unequal : (a b : ℕ) (t : List ℕ) → (b == a) ≡ false → begins_three (a ∷ b ∷ t) ≡ false
+unequal a b [] other = refl
+unequal a b (c ∷ t) other =
+    and_left (((a == single_quote) || (a == double_quote)) && (b == a)) (c == a)
+    (and_right ((a == single_quote) || (a == double_quote)) (b == a) other)
+
+-- two of them that differ
+pub own_apart : (bs : List ℕ) → IsUtf8 bs → 2 ≤ length bs
+    → (is_own (get_or bs 0 0) && (is_own (get_or bs 1 0) && not (get_or bs 1 0 == get_or bs 0 0))) ≡ true
+    → begins_three (with_line_feeds (chars bs)) ≡ false
+own_apart [] utf8 long is = absurd (omega (arith, long))
+own_apart (a ∷ []) utf8 long is = absurd (omega (arith, long))
+own_apart (a ∷ b ∷ bs) utf8 long is =
+    let parts = and_parts (is_own a) (is_own b && not (b == a)) is in
+    let more = and_parts (is_own b) (not (b == a)) parts.1 in
+    let tail : IsUtf8 (b ∷ bs) = IsUtf8-drop (a ∷ b ∷ bs) 1 utf8 (own_boundary (a ∷ b ∷ bs) a utf8 refl parts.0) in
+    ap begins_three (own_first (a ∷ b ∷ bs) a utf8 refl parts.0 ∙ ap (λ (t : List ℕ). a ∷ t) (own_first (b ∷ bs) b tail refl more.0))
+    ∙ unequal a b (with_line_feeds (chars bs)) (not-true (b == a) more.1)
 
 -- at the end
 

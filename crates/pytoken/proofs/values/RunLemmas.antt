@@ -1,9 +1,9 @@
--- Carries: begins_bare, push_text, text_in, push_bytes, bytes_in, string_value. On: runs of
+-- Carries: begins_bare, escape_fault, push_text, text_in, push_bytes, bytes_in, string_value. On: runs of
 -- characters that stand for themselves, and literals without a prefix.
 use Rattle.std.proofs.Common.{◌≡◌, ℕ, ◌<◌, Bool, true, false, List, [], ◌∷◌, ◌++◌, length, refl, sym, ap, ◌∙◌, arith, Some, None, slice_get}
 use Rattle.std.proofs.Common.{append_assoc, append-nil, length-append}
 use Rattle.std.specs.Prelude.{◌==◌, ◌&&◌, not}
-use Rattle.std.specs.List.{list_all}
+use Rattle.std.specs.List.{list_all, list_any}
 use Rattle.std.proofs.lemmas.Bool.{and_parts, not-true}
 use Rattle.std.proofs.lemmas.List.Folds.{list_all-append}
 use Rattle.pylex_lexeme.proofs.Callers.Lexemes.{at_one}
@@ -33,6 +33,22 @@ pub record Cut (raw : Bool) (t run rest : List ℕ) : Type 0 where
 
 pub cut_points : (raw bytes : Bool) (t run rest : List ℕ) → Cut raw t run rest → body_points raw bytes t ≡ run ++ body_points raw bytes rest
 cut_points raw bytes t run rest cut = ap (body_points raw bytes) cut.whole ∙ run_points raw bytes run rest cut.plain
+
+-- in a run nothing passes a test that no character passes
+run_any : (p : Meaning → Bool) → ((m : ℕ) → p (Meaning.Point m) ≡ false) → (raw bytes : Bool) (run rest : List ℕ)
+    → list_all (stands raw) run ≡ true → list_any p (meanings raw bytes (run ++ rest)) ≡ list_any p (meanings raw bytes rest)
+unfolding meanings
+run_any p fails raw bytes [] rest all = refl
+run_any p fails raw bytes (c ∷ run) rest all =
+    let parts = and_parts (stands raw c) (list_all (stands raw) run) all in
+    let step = no_escape raw c parts.0 in
+    let here = fails c in
+    rw (step, here) (run_any p fails raw bytes run rest parts.1)
+
+pub cut_any : (p : Meaning → Bool) → ((m : ℕ) → p (Meaning.Point m) ≡ false) → (raw bytes : Bool) (t run rest : List ℕ)
+    → Cut raw t run rest → list_any p (meanings raw bytes rest) ≡ list_any p (meanings raw bytes t)
+cut_any p fails raw bytes t run rest cut =
+    sym (ap (λ (x : List ℕ). list_any p (meanings raw bytes x)) cut.whole ∙ run_any p fails raw bytes run rest cut.plain)
 
 -- the points so far, and those to come
 pub cut_on : (raw bytes : Bool) (t run rest out more whole : List ℕ) → Cut raw t run rest → more ≡ out ++ run

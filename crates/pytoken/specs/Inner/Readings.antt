@@ -1,6 +1,6 @@
 -- What the code reads of a token's text from a place on.
-use Rattle.std.specs.Prelude.{◌≡◌, ℕ, ◌+◌, ◌*◌, ◌^◌, ◌<◌, EachIndex, slice_index, ◌==◌, ◌&&◌, ◌||◌, not, Bool, true, false, List, [], ◌∷◌}
-use Rattle.std.specs.Prelude.{drop, nat_lt, nat_le, Option, Some, None, if◌then◌else◌}
+use Rattle.std.specs.Prelude.{◌≡◌, ℕ, ◌+◌, ◌*◌, ◌/◌, ◌%◌, ◌^◌, ◌<◌, ◌≤◌, EachIndex, slice_index, ◌==◌, ◌&&◌, ◌||◌, not}
+use Rattle.std.specs.Prelude.{Bool, true, false, List, [], ◌∷◌, drop, nat_lt, nat_le, Option, Some, None, if◌then◌else◌}
 use Rattle.std.specs.Char.{digit_value, is_digit}
 use Rattle.std.specs.List.{flat_map, list_all}
 use Rattle.std.specs.Str.Parse.{digits_value}
@@ -64,6 +64,22 @@ pub record IsShort (bs : List ℕ) (value : ℕ) : Type 0 where
   pub worth : value ≡ digits_value 10 bs
   pub fits : value < 2 ^ 64
 
+-- The letters that keywords of a length begin with: bit 97 % 64 is set for a, and so on.
+abbrev pub first_letters : ℕ → ℕ
+first_letters len =
+    if len == 2 then 0x0000_8202_0000_0000
+    else (if len == 3 then 0x0010_4052_0000_0000
+    else (if len == 4 then 0x0081_0060_0010_4000
+    else (if len == 5 then 0x0284_000E_0000_0040
+    else (if len == 6 then 0x0004_12A2_0000_0000
+    else (if len == 7 then 0x0000_0040_0000_0000
+    else (if len == 8 then 0x0000_4008_0000_0000
+    else 0))))))
+
+-- some keyword may have so many characters, and this letter in front
+abbrev pub leads : ℕ → ℕ → Bool
+leads len c = (first_letters len / 2 ^ (c % 64)) % 2 == 1
+
 -- bytes of ASCII alone
 abbrev pub AreLow : List ℕ → Type 0
 AreLow bs = EachIndex bs (λ k. slice_index bs k < 128)
@@ -80,6 +96,14 @@ stands raw c = is_own c && (raw || not (c == 92))
 abbrev pub is_bare : List ℕ → Bool
 is_bare [] = false
 is_bare (c ∷ cs) = is_quote c
+
+-- a character of ASCII that is neither of two
+abbrev pub is_clear : ℕ → ℕ → ℕ → Bool
+is_clear one other c = nat_le c 0x7F && (not (c == one) && not (c == other))
+
+-- the bytes from a place up to another are such characters
+abbrev pub IsClearBetween : ℕ → ℕ → List ℕ → ℕ → ℕ → Type 0
+IsClearBetween one other bs i j = (k : ℕ) → i ≤ k → k < j → is_clear one other (slice_index bs k) ≡ true
 
 -- a character that stands for itself in each literal: ASCII, but no backslash and not U+0000
 abbrev pub is_plain : ℕ → Bool

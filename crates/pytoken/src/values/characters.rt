@@ -1,11 +1,14 @@
 //! A token's text that is read character by character, without its carriage returns.
 
-ghost use Rattle.std.specs.Prelude.{◌≡◌, ◌++◌, ℕ, List, [], true, drop, slice_get, IsTrue};
+ghost use Rattle.std.specs.Prelude.{◌≡◌, ◌++◌, ◌==◌, ◌&&◌, ℕ, List, [], true, false, not, drop};
+ghost use Rattle.std.specs.Prelude.{slice_get, IsTrue};
 ghost use Rattle.std.specs.List.{list_all, prefix_len};
 ghost use Rattle.std.specs.Str.{chars, IsUtf8};
+ghost use Rattle.pylex_lexeme.specs.Strings.{begins_three};
 ghost use Rattle.pytoken.specs.StringValues.{with_line_feeds, without_last};
 ghost use Rattle.pytoken.specs.Inner.Readings.{is_own, stands};
 
+use crate::values::clear_bytes::are_clear;
 use std::marker::Model;
 
 /// Whether a byte is a character of ASCII, but no carriage return.
@@ -13,6 +16,13 @@ fn is_own(byte: u8) -> bool
     ensures { result ≡ is_own byte }
 {
     byte <= 0x7F && byte != b'\r'
+}
+
+/// Whether two bytes are such characters, and differ.
+fn are_apart(first: u8, second: u8) -> bool
+    ensures { result ≡ (is_own first && (is_own second && not (second == first))) }
+{
+    is_own(first) && is_own(second) && second != first
 }
 
 /// Whether a byte is a character that stands for itself in a literal.
@@ -26,6 +36,9 @@ fn stands(raw: bool, byte: u8) -> bool
 fn plain_len(bytes: &[u8], raw: bool) -> usize
     ensures { result ≡ prefix_len (stands raw) bytes.now }
 {
+    if are_clear(bytes, b'\\', b'\r') {
+        return bytes.len();
+    }
     let mut len = 0;
     for byte in bytes {
         if !stands(raw, *byte) {
@@ -144,6 +157,17 @@ impl<'a> Characters<'a> {
         let plain = &self.rest.as_bytes()[..len];
         self.rest = &self.rest[len..];
         plain
+    }
+
+    /// Whether two characters stand in front that differ, as the bytes in front tell.
+    #[inline(always)]
+    pub(crate) fn begins_apart(&self) -> bool
+        ensures { IsTrue result → begins_three self.now ≡ false }
+    {
+        match self.rest.as_bytes() {
+            [first, second, ..] => are_apart(*first, *second),
+            _ => false,
+        }
     }
 
     /// The next character.

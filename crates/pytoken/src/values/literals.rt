@@ -106,19 +106,13 @@ fn bytes_in(alloc: Global, body: Characters, raw: bool) -> Result<Vec<u8>, Alloc
     Ok(bytes)
 }
 
-/// What a string literal without a fault stands for.
-pub fn string_value(alloc: Global, text: &str) -> Result<Literal, AllocError>
+/// What a string literal without a fault stands for, if it may have a prefix.
+#[inline(never)]
+fn prefixed_value(alloc: Global, text: &str) -> Result<Literal, AllocError>
     ensures { IfOk result (λ made. string_fault (chars text.now) ≡ None
         → literal_value made ≡ string_value (chars text.now)) }
 {
     let literal = Characters::new(text);
-    if begins_bare(&literal) {
-        let points = text_in(alloc, inside(&literal), false)?;
-        return Ok(Literal::Text {
-            points,
-            unicode: false,
-        });
-    }
     let raw = is_marked(&literal, 'r', 'R');
     if is_marked(&literal, 'b', 'B') {
         let bytes = bytes_in(alloc, body(&literal), raw)?;
@@ -127,4 +121,20 @@ pub fn string_value(alloc: Global, text: &str) -> Result<Literal, AllocError>
     let points = text_in(alloc, body(&literal), raw)?;
     let unicode = is_marked(&literal, 'u', 'u');
     Ok(Literal::Text { points, unicode })
+}
+
+/// What a string literal without a fault stands for.
+pub fn string_value(alloc: Global, text: &str) -> Result<Literal, AllocError>
+    ensures { IfOk result (λ made. string_fault (chars text.now) ≡ None
+        → literal_value made ≡ string_value (chars text.now)) }
+{
+    let literal = Characters::new(text);
+    if !begins_bare(&literal) {
+        return prefixed_value(alloc, text);
+    }
+    let points = text_in(alloc, inside(&literal), false)?;
+    Ok(Literal::Text {
+        points,
+        unicode: false,
+    })
 }

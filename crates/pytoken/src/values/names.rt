@@ -2,12 +2,13 @@
 //!
 //! Python language reference, 2.3 "Identifiers and keywords".
 
-ghost use Rattle.std.specs.Prelude.{◌≡◌, ◌↔◌, ◌<◌, IsTrue, IfOk, string_bytes};
+ghost use Rattle.std.specs.Prelude.{◌≡◌, IsTrue, IfOk, string_bytes};
 ghost use Rattle.std.specs.Str.{chars, encode_utf8_all};
 ghost use Rattle.unicode_normalization.specs.Forms.{nfkc};
 ghost use Rattle.pytoken.specs.NameValues.{name_fault, form_fault};
 ghost use Rattle.pytoken.specs.Inner.Readings.{AreLow};
 
+use crate::values::clear_bytes::are_clear;
 use crate::{Keyword, TokenError, is_identifier};
 use pytree_node::Identifier;
 use std::alloc::{AllocError, Global};
@@ -40,9 +41,10 @@ fn form_fault(alloc: Global, form: &str) -> Result<Option<TokenError>, AllocErro
 /// Whether a text is ASCII alone, and so its own form.
 #[inline(always)]
 fn is_ascii(text: &str) -> bool
-    ensures { IsTrue result ↔ AreLow text.now }
+    ensures { IsTrue result → AreLow text.now }
 {
-    text.as_bytes().iter().all(|byte| *byte < 128)
+    // No byte of ASCII is left out: 0xFF is none.
+    are_clear(text.as_bytes(), 0xFF, 0xFF)
 }
 
 /// The name of a tree that a text stands for, by its form.

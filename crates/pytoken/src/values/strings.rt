@@ -2,17 +2,18 @@
 //!
 //! Python language reference, 2.4.1 "String and Bytes literals".
 
-ghost use Rattle.std.specs.Prelude.{◌≡◌, ◌==◌, ◌||◌, ◌&&◌, drop, nat_lt, false};
+ghost use Rattle.std.specs.Prelude.{◌≡◌, ◌==◌, ◌||◌, ◌&&◌, IsTrue, drop, nat_lt, true, false};
 ghost use Rattle.std.specs.Str.{chars};
 ghost use Rattle.std.specs.List.{list_all, list_any};
 ghost use Rattle.pylex_lexeme.specs.Strings.{begins_three};
 ghost use Rattle.pytoken.specs.Escapes.{meanings, escape_fault, is_named_escape, is_bad_escape};
 ghost use Rattle.pytoken.specs.StringValues.{is_quote, is_marked, is_raw, prefix_len_of};
-ghost use Rattle.pytoken.specs.StringValues.{without_last, with_line_feeds};
+ghost use Rattle.pytoken.specs.StringValues.{is_formatted, without_last, with_line_feeds};
 ghost use Rattle.pytoken.specs.StringValues.{inside, body_of, literal_fault, string_fault};
 ghost use Rattle.pytoken.specs.Inner.Readings.{is_bare, is_plain, asks, is_doubtful, is_calm};
 
 use crate::values::characters::Characters;
+use crate::values::clear_bytes::are_clear;
 use crate::values::escapes::next_meaning;
 use crate::{Meaning, TokenError};
 
@@ -78,8 +79,8 @@ fn skip_prefix(literal: &mut Characters)
     }
 }
 
-/// Whether three equal quotes stand here.
-fn has_three(literal: &Characters) -> bool
+/// Whether three equal quotes stand here, of which each may be looked at.
+fn counts_three(literal: &Characters) -> bool
     ensures { result ≡ begins_three literal.now }
 {
     let mut left = literal.again();
@@ -96,6 +97,17 @@ fn has_three(literal: &Characters) -> bool
         return false;
     };
     is_quote(first) && third == first
+}
+
+/// Whether three equal quotes stand here.
+#[inline(always)]
+fn has_three(literal: &Characters) -> bool
+    ensures { result ≡ begins_three literal.now }
+{
+    if literal.begins_apart() {
+        return false;
+    }
+    counts_three(literal)
 }
 
 /// Takes some characters from both ends.
@@ -173,6 +185,7 @@ pub(crate) fn escape_fault(body: Characters, raw: bool, bytes: bool) -> Option<T
     while let Some(meaning) = next_meaning(&mut left, raw, bytes) {
         named = either(named, is_named_escape(meaning));
         bad = either(bad, is_bad_escape(meaning));
+        let _ = left.bump_plain(raw);
     }
     if named {
         return Some(TokenError::NamedEscape);
@@ -237,24 +250,12 @@ fn literal_fault(literal: &Characters) -> Option<TokenError>
     None
 }
 
-/// Whether a byte is a character that stands for itself in each literal.
-fn is_plain(byte: u8) -> bool
-    ensures { result ≡ is_plain byte }
-{
-    byte <= 0x7F && byte != b'\\' && byte != 0
-}
-
 /// Whether each byte of a text is a character that stands for itself in each literal.
+#[inline(always)]
 pub(crate) fn are_plain(text: &str) -> bool
-    ensures { result ≡ list_all is_plain text.now }
+    ensures { IsTrue result → list_all is_plain text.now ≡ true }
 {
-    let bytes = text.as_bytes();
-    let mut plain = true;
-    for byte in bytes {
-        // The loop looks at all bytes, so that one step may take many.
-        plain &= is_plain(*byte);
-    }
-    plain
+    are_clear(text.as_bytes(), b'\\', b'\0')
 }
 
 /// Whether a character after a backslash may begin an escape that is wrong.
@@ -285,20 +286,30 @@ fn is_calm(text: &str, bytes: bool) -> bool
     true
 }
 
-/// The fault that a string has by itself, if it has one: the first one. Most literals are seen to
-/// have none without reading their escapes.
-pub fn string_fault(text: &str) -> Option<TokenError>
+/// The fault of a string that isn't plain. Most are seen to have none without reading their
+/// escapes.
+#[inline(never)]
+fn unplain_fault(text: &str) -> Option<TokenError>
+    requires { is_formatted (with_line_feeds (chars text.now)) ≡ false }
     ensures { result ≡ string_fault (chars text.now) }
 {
     let literal = Characters::new(text);
-    if is_marked(&literal, 'f', 'F') {
+    if is_calm(text, is_marked(&literal, 'b', 'B')) {
+        return None;
+    }
+    literal_fault(&literal)
+}
+
+/// The fault that a string has by itself, if it has one: the first one. Most literals are seen to
+/// have none without reading their characters.
+pub fn string_fault(text: &str) -> Option<TokenError>
+    ensures { result ≡ string_fault (chars text.now) }
+{
+    if is_marked(&Characters::new(text), 'f', 'F') {
         return Some(TokenError::FString);
     }
     if are_plain(text) {
         return None;
     }
-    if is_calm(text, is_marked(&literal, 'b', 'B')) {
-        return None;
-    }
-    literal_fault(&literal)
+    unplain_fault(text)
 }

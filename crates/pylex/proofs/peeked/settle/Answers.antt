@@ -7,8 +7,8 @@ pub returns-then-not-begins_significant-clause-comes : goal.returns-then-not-beg
 returns-then-not-begins_significant-clause-comes c = stays_there c.args.levels.now c.args.now.now (chars c.args.text.now)
 
 pub returns-then-is_last_level-clause-comes : goal.returns-then-is_last_level-clause-comes
-returns-then-is_last_level-clause-comes c = (settles_level c.args.levels.now c.args.now.now c.measured.result (chars c.args.text.now)
-    c.requires.margin (sym c.if-not-begins_significant.ensures) (c.if-is_last_level.ensures refl) c.measured.ensures.measured).comes
+returns-then-is_last_level-clause-comes c = (settles_level c.args.levels.now c.args.now.now c.measure.new.self (chars c.args.text.now)
+    c.requires.margin (sym c.if-not-begins_significant.ensures) (c.if-is_last_level.ensures refl) c.measure.ensures.measured).comes
 
 pub returns-else-is_last_level-clause-comes : goal.returns-else-is_last_level-clause-comes
 returns-else-is_last_level-clause-comes c = stays_there c.args.levels.now c.args.now.now (chars c.args.text.now)

@@ -1,14 +1,16 @@
 use Rattle.std.proofs.Common.{◌≡◌, ◌<◌, ap, ◌∙◌, refl, sym, subst, arith, take, None, List, ℕ}
 use Rattle.std.proofs.lemmas.Result.{IfOk-weaker}
+use Rattle.std.specs.Prelude.{Result, Ok, Err, OnErr}
+use Rattle.std.specs.declared.alloc.AllocError.{AllocError}
 use Rattle.pysource.specs.Parts.{Parts}
 use Rattle.pylex.specs.declared.entries.Entry.{Entry}
 use Rattle.pylex.specs.declared.entries.Step.{Step}
 use Rattle.pylex.specs.declared.entries.Step.TheVariants as steps
 use Rattle.pylex.specs.declared.peeked.Peeked.TheVariants as peeked
 use Rattle.pylex.specs.declared.machine.Machine.{Machine}
-use Rattle.pylex.specs.Listers.{Listed, NextStep}
+use Rattle.pylex.specs.Listers.{Listed, NextStep, AwaitsIndent}
 use Rattle.pylex.specs.Inner.MachineSteps.{shown_from, Holds, LooksOn, StepsOn}
-use Rattle.pylex.proofs.Listers.LookingOn.{keeps_look}
+use Rattle.pylex.proofs.Listers.LookingOn.{listed, keeps_look, laid_out, level_awaited, same_held}
 use Rattle.pylex.proofs.Listers.Moving.{moves_from, goes_first}
 use Rattle.pylex.proofs.Listers.Placing.{has_place}
 use Rattle.pylex.proofs.lister.Lister.next.Goals as goal
@@ -16,9 +18,6 @@ use Rattle.pylex.proofs.lister.Lister.next.Goals as goal
 -- a step is one of the lister that is seen
 seen : (old same : Listed) (step : Step) (new : Listed) → old ≡ same → NextStep old step new → NextStep same step new
 seen old same step new e m = rw (← e) m
-
-abbrev listed : Parts → Machine → Listed
-listed source p = record { source = source; shown = shown_from p }
 
 no_stop : (e : Entry) → peeked.Entry e ≡ peeked.Stop → ⊥
 no_stop e k = cc
@@ -103,15 +102,114 @@ returns-in-Some-clause-given c =
     c.look_on-self-inside.result.now
     c.in-Some.left.now c.in-Some.entry keeps c.in-Some.ensures.some).1).given
 
-pub invariant_of-self-in_default : goal.invariant_of-self-in_default
-invariant_of-self-in_default c =
-    looked c.self.inside.source.now c.self.inside.machine c.look_on-self-inside.new.self c.step_on.new.self c.self.inside.left.now
-    c.look_on-self-inside.result.now
-    c.self.invariant (c.is_at_start.ensures.behind c.if-is_at_start.false) c.look_on-self-inside.ensures (c.in_default.ensures.none refl)
+-- how the lister stands that has looked on, where no entry came
+on_looked : (source : Parts) (p q r : Machine) (from to : List ℕ) → LooksOn p from q to → r ≡ q → 0 < p.given → 0 < r.given
+on_looked source p q r from to x same some =
+    let on = ap (λ (m : Machine). m.given) same ∙ ap (λ (m : Machine). m.given) x.rest in
+    omega arith
+
+on_err : {A : Type 0} (r : Result A AllocError) (P : Type 0) → P → OnErr r P
+on_err (Ok s) P p = tt
+on_err (Err e) P p = p
+
+pub layout_on-requires : goal.layout_on-requires
+layout_on-requires c =
+    let source = c.self.inside.source.now in
+    let to = c.look_on-self-inside.result.now in
+    let some = c.is_at_start.ensures.behind c.if-is_at_start.false in
+    let none = c.in_default.ensures.none refl in
+    let keeps = looked source c.self.inside.machine c.look_on-self-inside.new.self c.step_on.new.self c.self.inside.left.now to
+    c.self.invariant some c.look_on-self-inside.ensures none in
+    record {
+      some = on_looked source c.self.inside.machine c.look_on-self-inside.new.self c.step_on.new.self c.self.inside.left.now to
+          c.look_on-self-inside.ensures none some;
+      place = has_place source c.step_on.new.self to keeps;
+      stands = keeps.stands;
+    }
+
+pub invariant_of-self-in_err-step : goal.invariant_of-self-in_err-step
+invariant_of-self-in_err-step c =
+    let source = c.self.inside.source.now in
+    let to = c.look_on-self-inside.result.now in
+    let some = c.is_at_start.ensures.behind c.if-is_at_start.false in
+    let none = c.in_default.ensures.none refl in
+    let keeps = looked source c.self.inside.machine c.look_on-self-inside.new.self c.step_on.new.self c.self.inside.left.now to
+    c.self.invariant some c.look_on-self-inside.ensures none in
+    same_held source c.step_on.new.self c.layout_on.new.self to c.in_err-step.ensures.same keeps
+
+pub returns-in_err-step-clause-indent : goal.returns-in_err-step-clause-indent
+returns-in_err-step-clause-indent c =
+    let source = c.self.inside.source.now in
+    let to = c.look_on-self-inside.result.now in
+    let some = c.is_at_start.ensures.behind c.if-is_at_start.false in
+    let none = c.in_default.ensures.none refl in
+    let keeps = looked source c.self.inside.machine c.look_on-self-inside.new.self c.step_on.new.self c.self.inside.left.now to
+    c.self.invariant some c.look_on-self-inside.ensures none in
+    let same = ap (listed source) none ∙ ap (listed source) c.look_on-self-inside.ensures.rest ∙ c.self.view_is in
+    let more = on_looked source c.self.inside.machine c.look_on-self-inside.new.self c.step_on.new.self c.self.inside.left.now to
+    c.look_on-self-inside.ensures none some in
+    on_err c.from_residual.result (AwaitsIndent c.args.self.now)
+    (subst AwaitsIndent same (level_awaited source c.step_on.new.self to keeps more c.in_err-step.ensures.indent))
+
+pub returns-in_err-step-clause-given : goal.returns-in_err-step-clause-given
+returns-in_err-step-clause-given c =
+    let source = c.self.inside.source.now in
+    let to = c.look_on-self-inside.result.now in
+    let some = c.is_at_start.ensures.behind c.if-is_at_start.false in
+    let none = c.in_default.ensures.none refl in
+    let keeps = looked source c.self.inside.machine c.look_on-self-inside.new.self c.step_on.new.self c.self.inside.left.now to
+    c.self.invariant some c.look_on-self-inside.ensures none in
+    (has_place source c.layout_on.new.self to
+    (same_held source c.step_on.new.self c.layout_on.new.self to c.in_err-step.ensures.same keeps)).given
+
+pub invariant_of-self-in-Some-2 : goal.invariant_of-self-in-Some-2
+invariant_of-self-in-Some-2 c =
+    let source = c.self.inside.source.now in
+    let to = c.look_on-self-inside.result.now in
+    let some = c.is_at_start.ensures.behind c.if-is_at_start.false in
+    let none = c.in_default.ensures.none refl in
+    let keeps = looked source c.self.inside.machine c.look_on-self-inside.new.self c.step_on.new.self c.self.inside.left.now to
+    c.self.invariant some c.look_on-self-inside.ensures none in
+    (laid_out source c.step_on.new.self c.layout_on.new.self to c.in-Some-2.step keeps
+    (rw c.in-Some-2.is at c.in_ok-step.ensures.some)).1
+
+pub returns-in-Some-2-clause-steps : goal.returns-in-Some-2-clause-steps
+returns-in-Some-2-clause-steps c =
+    let source = c.self.inside.source.now in
+    let to = c.look_on-self-inside.result.now in
+    let some = c.is_at_start.ensures.behind c.if-is_at_start.false in
+    let none = c.in_default.ensures.none refl in
+    let keeps = looked source c.self.inside.machine c.look_on-self-inside.new.self c.step_on.new.self c.self.inside.left.now to
+    c.self.invariant some c.look_on-self-inside.ensures none in
+    let same = ap (listed source) none ∙ ap (listed source) c.look_on-self-inside.ensures.rest ∙ c.self.view_is in
+    seen _ _ _ _ same (laid_out source c.step_on.new.self c.layout_on.new.self to c.in-Some-2.step keeps
+    (rw c.in-Some-2.is at c.in_ok-step.ensures.some)).0
+
+pub returns-in-Some-2-clause-given : goal.returns-in-Some-2-clause-given
+returns-in-Some-2-clause-given c =
+    let source = c.self.inside.source.now in
+    let to = c.look_on-self-inside.result.now in
+    let some = c.is_at_start.ensures.behind c.if-is_at_start.false in
+    let none = c.in_default.ensures.none refl in
+    let keeps = looked source c.self.inside.machine c.look_on-self-inside.new.self c.step_on.new.self c.self.inside.left.now to
+    c.self.invariant some c.look_on-self-inside.ensures none in
+    (has_place source c.layout_on.new.self to
+    (laid_out source c.step_on.new.self c.layout_on.new.self to c.in-Some-2.step keeps
+    (rw c.in-Some-2.is at c.in_ok-step.ensures.some)).1).given
+
+pub invariant_of-self-2 : goal.invariant_of-self-2
+invariant_of-self-2 c =
+    let source = c.self.inside.source.now in
+    let to = c.look_on-self-inside.result.now in
+    let some = c.is_at_start.ensures.behind c.if-is_at_start.false in
+    let none = c.in_default.ensures.none refl in
+    let keeps = looked source c.self.inside.machine c.look_on-self-inside.new.self c.step_on.new.self c.self.inside.left.now to
+    c.self.invariant some c.look_on-self-inside.ensures none in
+    subst (λ (m : Machine). Holds source m to) (sym (c.in_ok-step.ensures.none c.in_default-2.is)) keeps
 
 pub returns-clause-steps : goal.returns-clause-steps
 returns-clause-steps c =
     let source = c.self.inside.source.now in
-    let same = ap (listed source) (c.in_default.ensures.none refl)
+    let same = ap (listed source) (c.in_ok-step.ensures.none c.in_default-2.is) ∙ ap (listed source) (c.in_default.ensures.none refl)
     ∙ ap (listed source) c.look_on-self-inside.ensures.rest ∙ c.self.view_is in
     IfOk-weaker c.next_met.result _ _ (λ step m. seen _ _ _ _ same m) c.next_met.ensures.steps

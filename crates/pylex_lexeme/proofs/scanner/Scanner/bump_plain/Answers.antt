@@ -3,7 +3,7 @@ use Rattle.std.specs.List.{prefix_len}
 use Rattle.std.specs.Str.{chars}
 use Rattle.pylex_lexeme.specs.Inner.Plain.{is_plain_char}
 use Rattle.pylex_lexeme.proofs.Fronts.Texts.{after_run}
-use Rattle.pylex_lexeme.proofs.Fronts.Runs.{tells_plain, run_cut, run_utf8, run_same, run_stopped, plain_stops}
+use Rattle.pylex_lexeme.proofs.Fronts.Runs.{tells_plain, run_cut, run_utf8, run_same, run_stopped, own_stops}
 use Rattle.pylex_lexeme.proofs.scanner.Scanner.bump_plain.Goals as goal
 
 pub range_from-self-inside-requires : goal.range_from-self-inside-requires
@@ -20,7 +20,7 @@ returns c =
     let rest : c.range_from-self-inside.result.now ≡ after_run is_plain_char bs = c.range_from-self-inside.ensures.value
     ∙ ap (λ n. drop n bs) count in
     ap chars rest
-    ∙ sym (plain_stops (after_run is_plain_char bs) (run_utf8 is_plain_char is_plain_char tells_plain bs c.self.invariant)
+    ∙ sym (own_stops is_plain_char tells_plain (after_run is_plain_char bs) (run_utf8 is_plain_char is_plain_char tells_plain bs c.self.invariant)
     (run_stopped is_plain_char bs))
     ∙ run_same is_plain_char is_plain_char tells_plain bs c.self.invariant
     ∙ ap (after_run is_plain_char) c.self.view_is

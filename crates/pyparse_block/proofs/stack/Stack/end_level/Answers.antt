@@ -1,5 +1,6 @@
 use Rattle.std.specs.Prelude.{option_to_list}
-use Rattle.std.proofs.Common.{Option, ◌≡◌, ◌∷◌, ◌++◌, [], refl, sym, ap, ◌∙◌, map}
+use Rattle.std.proofs.Common.{Option, List, ◌≡◌, ◌∷◌, ◌++◌, [], refl, sym, ap, ◌∙◌, map}
+use Rattle.pytree_node.specs.declared.statements.Stmt.{Stmt}
 use Rattle.pytree_node.specs.TreeOf.{stmt_of}
 use Rattle.pygrammar.specs.FormOf.{header_of}
 use Rattle.pygrammar.specs.Reading.{joined}
@@ -17,7 +18,10 @@ returns-clause-ended c =
     ∙ ap (λ (o : Option Waiting). c.pop.new.self.items ++ option_to_list o) c.unwrap-part.ensures in
     let put = λ (p q : PartialBlock). joined (map stmt_of p.done.items) (group_of p.group) (header_of w.header)
     (map stmt_of q.done.items) in
-    let puts = ap (λ (p : PartialBlock). put p c.replace-done.result) c.replace-done.ensures.after
+    let fit = λ (l : List Stmt). joined (map stmt_of c.replace-done.new.dest.done.items) (group_of c.replace-done.new.dest.group)
+    (header_of w.header) (map stmt_of l) in
+    let puts = ap fit c.shrink_to_fit.ensures.items
+    ∙ ap (λ (p : PartialBlock). put p c.replace-done.result) c.replace-done.ensures.after
     ∙ ap (put w.part) c.replace-done.ensures.value in
     level_ended (state_of c.args.self.now) c.args.self.now.below.items c.pop.new.self.items w (map stmt_of c.close.new.part.done.items) _ _
     refl popped c.if-self.false (sym c.if-is_matching.ensures) c.in_ok-close.ensures.closed

@@ -5,7 +5,7 @@ use Rattle.pytoken.proofs.values.PlainLemmas.{plain_no_nul}
 use Rattle.pytoken.proofs.values.faults.comment_fault.Goals as goal
 
 pub returns-then-are_plain : goal.returns-then-are_plain
-returns-then-are_plain c = sym (plain_no_nul c.args.text.now (sym c.if-are_plain.ensures))
+returns-then-are_plain c = sym (plain_no_nul c.args.text.now (c.are_plain.ensures c.if-are_plain.true))
 
 pub returns-then-has_nul : goal.returns-then-has_nul
 returns-then-has_nul c = sym (with_nul (chars c.args.text.now) (sym c.if-has_nul.ensures))

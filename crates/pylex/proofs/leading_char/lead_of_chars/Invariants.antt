@@ -4,7 +4,7 @@ use Rattle.std.specs.Str.Iter.{chars_rest}
 use Rattle.pylex.specs.declared.leading_char.LeadingChar.TheVariants.{Nothing}
 use Rattle.pylex.specs.Machine.{lead_after}
 use Rattle.pylex.proofs.Texts.Plain.{AllInLine}
-use Rattle.pylex.proofs.leading_char.lead_of_plain.Given as goal
+use Rattle.pylex.proofs.leading_char.lead_of_chars.Given as goal
 
 abbrev pub invariant-loop-c : goal.invariant-loop-c
 invariant-loop-c l = record {

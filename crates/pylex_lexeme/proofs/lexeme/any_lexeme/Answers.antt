@@ -1,7 +1,7 @@
 use Rattle.std.proofs.Common.{rules, sym, ◌∙◌, ◌||◌, ◌==◌}
 use Rattle.pylex_lexeme.proofs.Strings.Prefixes.{opens_zero}
 use Rattle.pylex_lexeme.proofs.Lexemes.Union.{nothing_at, begins_by, other_by, opens_none, number_takes}
-use Rattle.pylex_lexeme.proofs.lexeme.lexeme.Goals as goal
+use Rattle.pylex_lexeme.proofs.lexeme.any_lexeme.Goals as goal
 
 pub returns-in_err-c : goal.returns-in_err-c
 returns-in_err-c c = rw c.from_residual.ensures (nothing_at c.args.text.now (sym c.first.ensures ∙ c.in_err-c.was))
