@@ -33,7 +33,7 @@ fn accept(alloc: Global, bytes: Vec<u8>, profile: Profile) -> Result<Module, Fau
     ensures refused { IfErr result (Refuses profile bytes.items) }
 {
     let source = decode(alloc, bytes.as_slice())?;
-    // The source has a text of its own, so the tree gets their room.
+    // The source holds a text of its own, so their room is free for the tree.
     drop(bytes);
     know_listing(alloc, &source);
     Ok(parse(alloc, &source, profile)?)

@@ -16,7 +16,7 @@ use Rattle.pylex.specs.Steps.{most_entries}
 abbrev pub begins_line : Class → Bool
 begins_line k = elim k [ Name ↦ true | Number ↦ true | String ↦ true | Operator o ↦ not (is_closer o) | _ ↦ false ]
 
--- Where a lister stands the entry of such a lexeme comes next: its class, its text, given as its bytes, where it starts, and the spot behind
+-- Where a lister stands the entry of such a lexeme comes next: its class, its text, given as its bytes, where it starts, and the spot after
 -- it, where the lister would stand then.
 pub record BeginsLine (l : Listed) (k : Class) (own : List ℕ) (place : Place) (s : Spot) : Type 0 where
   pub token : begins_line k ≡ true

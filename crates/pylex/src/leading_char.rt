@@ -92,7 +92,7 @@ pub(crate) fn is_spaces(text: &str) -> bool
     text.as_bytes().iter().all(|b| *b == b' ')
 }
 
-/// Whether a text begins with a byte above that of `#`: with no blank, in plain text.
+/// Whether a text begins with a byte above `#`. In plain text that is no blank.
 #[inline(always)]
 fn begins_above_hash(text: &str) -> bool
     ensures some { result ≡ true → 0 < length text.now }

@@ -143,10 +143,10 @@ impl<'a> Lister<'a> {
     }
 
     /// The token that begins a line, where its entry comes next: its class, its text, its place, and
-    /// the spot behind it. It isn't given: the lister stands where it stood.
+    /// the spot after it. It isn't given: the lister stands where it stood.
     ///
-    /// None where anything else comes next, as an INDENT, and where a level was closed since the last
-    /// entry with text.
+    /// None says nothing. It is answered where anything else comes next, as an INDENT, and where a
+    /// level was closed since the last entry with text.
     #[inline(always)]
     pub fn begin_line(&mut self) -> Option<(Class, &'a str, Place, Spot)>
         ensures same { self.new ≡ self.old }

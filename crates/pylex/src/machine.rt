@@ -265,7 +265,7 @@ impl Machine {
     }
 
     /// The token that begins a line, where its entry comes next: its class, its text, its place, and
-    /// the spot behind it.
+    /// the spot after it.
     #[inline(always)]
     pub(crate) fn line_start<'a>(&self, text: &'a str) -> Option<(Class, &'a str, Place, Spot)>
         requires place { HasPlace self.now }

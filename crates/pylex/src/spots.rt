@@ -89,7 +89,7 @@ fn begins_line(class: Class) -> bool
 }
 
 /// The token that a text begins with, if it can begin a line: its class, its text, its place, and
-/// the spot behind it. So many entries were given before it.
+/// the spot after it. So many entries were given before it.
 #[inline(always)]
 pub(crate) fn start_lexeme<'a>(
     now: LineState,

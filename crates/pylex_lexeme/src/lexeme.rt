@@ -196,7 +196,7 @@ fn delimiter(text: &mut Scanner, which: Exact) -> Class
 }
 
 /// Takes the point, colon or equals sign that stands here, if a character of ASCII is after it that
-/// is not among those from `*` to `>`: no operator and no number goes on with another.
+/// is not among those from `*` to `>`: so no longer operator and no number stands here.
 #[inline(always)]
 fn sign(text: &mut Scanner, which: Exact) -> Option<Class>
     requires { begins (is_sign which) text.old ≡ true }
@@ -324,8 +324,8 @@ fn any_lexeme(text: &mut Scanner) -> Option<Class>
     }
 }
 
-/// Takes the lexeme that stands here, if it is one of those that most are: blanks, a name of ASCII,
-/// a line feed, a bracket, a comma, or a point, colon or equals sign alone. None says nothing.
+/// Takes the lexeme that stands here, if it is one of the frequent ones: blanks, a name of ASCII, a
+/// line feed, a bracket, a comma, or a point, colon or equals sign alone. None says nothing.
 #[tactic(auto, using(crate::proofs::Lexemes::Union::begins_by))]
 #[inline(always)]
 fn frequent_lexeme(text: &mut Scanner) -> Option<Class>
@@ -373,7 +373,7 @@ fn lexeme_by_call(text: &mut Scanner) -> Option<Class>
 /// Takes the longest lexeme that stands here, and says its class; none and nothing where no lexeme
 /// stands.
 ///
-/// Those that most are need no call.
+/// Frequent ones need no call.
 #[inline(always)]
 fn lexeme(text: &mut Scanner) -> Option<Class>
     ensures { TakesLexeme text.old result text.new }

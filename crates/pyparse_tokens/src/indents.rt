@@ -172,7 +172,7 @@ impl Indents {
         ensures { OnOk result
             (Measures (margin_at (chars source.now.text) offset) self.old self.new) }
     {
-        // Half of all lines: such a line goes in the place of the last.
+        // Half of all lines are as wide as the one before, and change nothing.
         if ends_in(self.standing.as_slice(), widths) {
             return Ok(());
         }

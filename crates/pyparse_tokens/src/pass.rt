@@ -195,7 +195,7 @@ impl Pass {
         Ok(())
     }
 
-    /// A line has begun.
+    /// Notes that a line has begun.
     #[inline(always)]
     pub(crate) fn begin(&mut self)
         ensures { self.new ≡ record self.old { begun = true } }

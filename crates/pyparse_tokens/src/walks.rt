@@ -69,7 +69,7 @@ fn walk<'a>(
 }
 
 /// The spot from which a line can be taken without entries: where a lister stands in a line of which
-/// tokens are kept, or else behind the token that begins one, if that comes next. It is taken.
+/// tokens are kept, or else after the token that begins one, if that comes next. It is taken.
 #[inline(always)]
 fn spot_of<'a>(
     alloc: Global,

@@ -11,7 +11,7 @@ use Rattle.pylex.specs.Lines.{count_if}
 use Rattle.pylex.specs.LineStarts.{begins_line}
 use Rattle.pylex.specs.Spots.{rows_in}
 
--- from a place in a text, after so many entries, a token that can begin a line: its class, its bytes, its place, and the spot behind it
+-- from a place in a text, after so many entries, a token that can begin a line: its class, its bytes, its place, and the spot after it
 pub record StartLexeme (p : LineState) (count : ℕ) (text : List ℕ) (k : Class) (front : List ℕ) (at : Place) (s : Spot) : Type 0 where
   pub back : List ℕ
   pub cuts : Cuts text k front back

@@ -1,4 +1,4 @@
--- What tells the lexemes that most are from others, by the character after them.
+-- Frequent lexemes, told from others by the character after them.
 --
 -- Internal: how they are taken without a call. No public contract cites it.
 use Rattle.std.specs.Prelude.{ℕ, Bool, false, ◌||◌, ◌==◌, nat_lt}

@@ -1,4 +1,5 @@
-//! A test of many bytes at a time: whether each is clear, a character of ASCII that is neither of two.
+//! A test of many bytes at a time: whether each is clear, a character of ASCII that is neither of
+//! two given ones.
 
 ghost use Rattle.std.specs.Prelude.{◌≡◌, ◌+◌, ◌*◌, ◌≤◌, length, IsTrue};
 ghost use Rattle.pytoken.specs.Inner.Readings.{is_clear, IsClearBetween};

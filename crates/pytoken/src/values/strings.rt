@@ -79,7 +79,7 @@ fn skip_prefix(literal: &mut Characters)
     }
 }
 
-/// Whether three equal quotes stand here, of which each may be looked at.
+/// Whether three equal quotes stand here, by looking at each.
 fn counts_three(literal: &Characters) -> bool
     ensures { result ≡ begins_three literal.now }
 {
