@@ -25,30 +25,26 @@ fn know_listing(alloc: Global, source: &Source)
 }
 
 /// The module that bytes are as a source. Its own text gives it back.
-fn accept(alloc: Global, bytes: Vec<u8>, profile: Profile) -> Result<Module, Fault>
-    requires { length bytes.items ≤ source_limit }
-    ensures is { IfOk result (λ m. IsModule profile bytes.items (module_of m)) }
+fn accept(alloc: Global, bytes: &[u8], profile: Profile) -> Result<Module, Fault>
+    requires { length bytes.now ≤ source_limit }
+    ensures is { IfOk result (λ m. IsModule profile bytes.now (module_of m)) }
     ensures back { IfOk result
         (λ m. GivesBack profile (encode_utf8_all (module_text (module_of m))) (module_of m)) }
-    ensures refused { IfErr result (Refuses profile bytes.items) }
+    ensures refused { IfErr result (Refuses profile bytes.now) }
 {
-    let source = decode(alloc, bytes.as_slice())?;
-    // The source holds a text of its own, so their room is free for the tree.
-    drop(bytes);
+    let source = decode(alloc, bytes)?;
     know_listing(alloc, &source);
     Ok(parse(alloc, &source, profile)?)
 }
 
 /// The module that bytes are as a source, and where its nodes stand.
-fn accept_placed(alloc: Global, bytes: Vec<u8>, profile: Profile) -> Result<Placed, Fault>
-    requires { length bytes.items ≤ source_limit }
-    ensures is { IfOk result (λ p. IsModule profile bytes.items (module_of p.module)) }
-    ensures places { IfOk result
-        (λ p. HasPlaces profile bytes.items (module_of p.module) p.places) }
-    ensures refused { IfErr result (Refuses profile bytes.items) }
+fn accept_placed(alloc: Global, bytes: &[u8], profile: Profile) -> Result<Placed, Fault>
+    requires { length bytes.now ≤ source_limit }
+    ensures is { IfOk result (λ p. IsModule profile bytes.now (module_of p.module)) }
+    ensures places { IfOk result (λ p. HasPlaces profile bytes.now (module_of p.module) p.places) }
+    ensures refused { IfErr result (Refuses profile bytes.now) }
 {
-    let source = decode(alloc, bytes.as_slice())?;
-    drop(bytes);
+    let source = decode(alloc, bytes)?;
     know_listing(alloc, &source);
     Ok(parse_placed(alloc, &source, profile)?)
 }
@@ -68,7 +64,7 @@ pub(crate) fn read_module<R: ByteIn>(
     ensures none { IfErr result (ReadsNone profile (R.seen reader.old) (R.seen reader.new)) }
 {
     let bytes = read_all(alloc, reader)?;
-    accept(alloc, bytes, profile)
+    accept(alloc, bytes.as_slice(), profile)
 }
 
 /// The same, with where its nodes stand.
@@ -83,7 +79,7 @@ pub(crate) fn read_placed<R: ByteIn>(
     ensures none { IfErr result (ReadsNone profile (R.seen reader.old) (R.seen reader.new)) }
 {
     let bytes = read_all(alloc, reader)?;
-    accept_placed(alloc, bytes, profile)
+    accept_placed(alloc, bytes.as_slice(), profile)
 }
 
 /// Leaves a module to the end of the process. A run is the last act of its program, and to free the
