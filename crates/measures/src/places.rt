@@ -5,8 +5,8 @@ use pytree::{Alias, Expr, Identifier, Stmt};
 /// A place of an expression in a statement, if it has one.
 pub(crate) fn place_of(stmt: &mut Stmt) -> Option<&mut Expr> {
     match stmt {
-        Stmt::FunctionDef { decorator_list, .. } => decorator_list.first_mut(),
-        Stmt::ClassDef { bases, .. } => bases.first_mut(),
+        Stmt::FunctionDef(def) => def.decorator_list.first_mut(),
+        Stmt::ClassDef(class) => class.bases.first_mut(),
         Stmt::Return { value } => value.as_mut(),
         Stmt::Delete { targets } => targets.first_mut(),
         Stmt::Assign { targets, .. } => targets.first_mut(),
@@ -17,7 +17,7 @@ pub(crate) fn place_of(stmt: &mut Stmt) -> Option<&mut Expr> {
         Stmt::AsyncFor { iter, .. } => Some(iter),
         Stmt::While { test, .. } => Some(test),
         Stmt::If { test, .. } => Some(test),
-        Stmt::Raise { exc, .. } => exc.as_mut(),
+        Stmt::Raise { exc: Some(exc), .. } => Some(exc),
         Stmt::Assert { test, .. } => Some(test),
         Stmt::Expr { value } => Some(value),
         _ => None,
@@ -33,16 +33,16 @@ pub(crate) fn part_of(expr: &mut Expr) -> Option<&mut Expr> {
         Expr::UnaryOp { operand, .. } => Some(operand),
         Expr::Lambda { body, .. } => Some(body),
         Expr::IfExp { orelse, .. } => Some(orelse),
-        Expr::Dict { values, .. } => values.first_mut(),
+        Expr::Dict(dict) => dict.values.first_mut(),
         Expr::Set { elts } => elts.first_mut(),
         Expr::ListComp { elt, .. } => Some(elt),
         Expr::SetComp { elt, .. } => Some(elt),
-        Expr::DictComp { key, .. } => Some(key),
+        Expr::DictComp(comp) => Some(&mut comp.key),
         Expr::GeneratorExp { elt, .. } => Some(elt),
         Expr::Await { value } => Some(value),
         Expr::YieldFrom { value } => Some(value),
-        Expr::Compare { comparators, .. } => comparators.first_mut(),
-        Expr::Call { args, .. } => args.first_mut(),
+        Expr::Compare(compare) => compare.comparators.first_mut(),
+        Expr::Call(call) => call.args.first_mut(),
         Expr::Attribute { value, .. } => Some(value),
         Expr::Subscript { slice, .. } => Some(slice),
         Expr::Starred { value, .. } => Some(value),
@@ -63,8 +63,8 @@ fn first_name(names: &mut Vec<Alias>) -> Option<&mut Identifier> {
 /// A place of a name in a statement, if it has one.
 pub(crate) fn name_of(stmt: &mut Stmt) -> Option<&mut Identifier> {
     match stmt {
-        Stmt::FunctionDef { name, .. } => Some(name),
-        Stmt::ClassDef { name, .. } => Some(name),
+        Stmt::FunctionDef(def) => Some(&mut def.name),
+        Stmt::ClassDef(class) => Some(&mut class.name),
         Stmt::Import { names } => first_name(names),
         Stmt::ImportFrom { names, .. } => first_name(names),
         Stmt::Global { names } => names.first_mut(),

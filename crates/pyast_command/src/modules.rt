@@ -2,6 +2,7 @@
 ghost use Rattle.std.specs.Prelude.{◌+◌, ◌-◌, ◌^◌, ◌<◌, ◌≤◌, length, IfOk, IfErr};
 ghost use Rattle.std.specs.Str.{encode_utf8_all};
 ghost use Rattle.pysource.specs.Limits.{source_limit};
+ghost use Rattle.pysource.specs.Sources.{UnlessMemory, source_of};
 ghost use Rattle.pylex.specs.Laws.{IsLawful};
 ghost use Rattle.pylex.specs.Listing.{in_characters};
 ghost use Rattle.pytree_node.specs.TreeOf.{module_of};
@@ -13,7 +14,7 @@ ghost use Rattle.pyast_command.specs.Inner.Reading.{Refuses, ReadsModule, ReadsN
 use pyast_fault::Fault;
 use pylex::Lister;
 use pyparse::{Placed, parse, parse_placed};
-use pysource::{ByteIn, Source, decode, read_all};
+use pysource::{ByteIn, Source, SourceFault, decode, read_all};
 use pytree_node::{Module, Profile};
 use std::alloc::Global;
 
@@ -24,27 +25,36 @@ fn know_listing(alloc: Global, source: &Source)
     let _ = Lister::new(alloc, source);
 }
 
+/// The source that bytes are. The bytes are dropped then, so that a tree isn't made beside them.
+fn decoded(alloc: Global, bytes: Vec<u8>) -> Result<Source, SourceFault>
+    requires { length bytes.items ≤ source_limit }
+    ensures { UnlessMemory result (source_of bytes.items) }
+{
+    decode(alloc, bytes.as_slice())
+}
+
 /// The module that bytes are as a source. Its own text gives it back.
-fn accept(alloc: Global, bytes: &[u8], profile: Profile) -> Result<Module, Fault>
-    requires { length bytes.now ≤ source_limit }
-    ensures is { IfOk result (λ m. IsModule profile bytes.now (module_of m)) }
+fn accept(alloc: Global, bytes: Vec<u8>, profile: Profile) -> Result<Module, Fault>
+    requires { length bytes.items ≤ source_limit }
+    ensures is { IfOk result (λ m. IsModule profile bytes.items (module_of m)) }
     ensures back { IfOk result
         (λ m. GivesBack profile (encode_utf8_all (module_text (module_of m))) (module_of m)) }
-    ensures refused { IfErr result (Refuses profile bytes.now) }
+    ensures refused { IfErr result (Refuses profile bytes.items) }
 {
-    let source = decode(alloc, bytes)?;
+    let source = decoded(alloc, bytes)?;
     know_listing(alloc, &source);
     Ok(parse(alloc, &source, profile)?)
 }
 
 /// The module that bytes are as a source, and where its nodes stand.
-fn accept_placed(alloc: Global, bytes: &[u8], profile: Profile) -> Result<Placed, Fault>
-    requires { length bytes.now ≤ source_limit }
-    ensures is { IfOk result (λ p. IsModule profile bytes.now (module_of p.module)) }
-    ensures places { IfOk result (λ p. HasPlaces profile bytes.now (module_of p.module) p.places) }
-    ensures refused { IfErr result (Refuses profile bytes.now) }
+fn accept_placed(alloc: Global, bytes: Vec<u8>, profile: Profile) -> Result<Placed, Fault>
+    requires { length bytes.items ≤ source_limit }
+    ensures is { IfOk result (λ p. IsModule profile bytes.items (module_of p.module)) }
+    ensures places { IfOk result
+        (λ p. HasPlaces profile bytes.items (module_of p.module) p.places) }
+    ensures refused { IfErr result (Refuses profile bytes.items) }
 {
-    let source = decode(alloc, bytes)?;
+    let source = decoded(alloc, bytes)?;
     know_listing(alloc, &source);
     Ok(parse_placed(alloc, &source, profile)?)
 }
@@ -64,7 +74,7 @@ pub(crate) fn read_module<R: ByteIn>(
     ensures none { IfErr result (ReadsNone profile (R.seen reader.old) (R.seen reader.new)) }
 {
     let bytes = read_all(alloc, reader)?;
-    accept(alloc, bytes.as_slice(), profile)
+    accept(alloc, bytes, profile)
 }
 
 /// The same, with where its nodes stand.
@@ -79,7 +89,7 @@ pub(crate) fn read_placed<R: ByteIn>(
     ensures none { IfErr result (ReadsNone profile (R.seen reader.old) (R.seen reader.new)) }
 {
     let bytes = read_all(alloc, reader)?;
-    accept_placed(alloc, bytes.as_slice(), profile)
+    accept_placed(alloc, bytes, profile)
 }
 
 /// Leaves a module to the end of the process. A run is the last act of its program, and to free the

@@ -2,3 +2,4 @@ mod StatementLemmas
 mod MeetingLemmas
 mod LevelLemmas
 mod AnswerLemmas
+mod TryLemmas

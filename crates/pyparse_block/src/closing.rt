@@ -68,13 +68,20 @@ pub(crate) fn end_group(alloc: Global, done: &mut Vec<Stmt>, group: Group) -> Re
             star,
             body,
             handlers,
-        } => try_statement(star, body, handlers, Vec::new(alloc), Vec::new(alloc)),
+        } => try_statement(
+            alloc,
+            star,
+            body,
+            handlers,
+            Vec::new(alloc),
+            Vec::new(alloc),
+        )?,
         Group::Settled {
             star,
             body,
             handlers,
             orelse,
-        } => try_statement(star, body, handlers, orelse, Vec::new(alloc)),
+        } => try_statement(alloc, star, body, handlers, orelse, Vec::new(alloc))?,
     };
     Ok(put(done, one)?)
 }

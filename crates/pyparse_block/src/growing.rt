@@ -166,7 +166,7 @@ fn grow_finally(alloc: Global, part: &mut PartialBlock, body: Vec<Stmt>) -> Resu
     let group = mem::replace(&mut part.group, Group::Idle);
     match group {
         Group::Trial { body: first } => {
-            let one = try_statement(false, first, Vec::new(alloc), Vec::new(alloc), body);
+            let one = try_statement(alloc, false, first, Vec::new(alloc), Vec::new(alloc), body)?;
             put(&mut part.done, one)
         }
         Group::Caught {
@@ -174,7 +174,7 @@ fn grow_finally(alloc: Global, part: &mut PartialBlock, body: Vec<Stmt>) -> Resu
             body: first,
             handlers,
         } => {
-            let one = try_statement(star, first, handlers, Vec::new(alloc), body);
+            let one = try_statement(alloc, star, first, handlers, Vec::new(alloc), body)?;
             put(&mut part.done, one)
         }
         Group::Settled {
@@ -183,7 +183,7 @@ fn grow_finally(alloc: Global, part: &mut PartialBlock, body: Vec<Stmt>) -> Resu
             handlers,
             orelse,
         } => {
-            let one = try_statement(star, first, handlers, orelse, body);
+            let one = try_statement(alloc, star, first, handlers, orelse, body)?;
             put(&mut part.done, one)
         }
         _ => Ok(()),
@@ -209,7 +209,8 @@ fn grow_def(
         Group::Marked { decorators } => decorators,
         _ => Vec::new(alloc),
     };
-    put(&mut part.done, definition_statement(decorators, head, body))
+    let one = definition_statement(alloc, decorators, head, body)?;
+    put(&mut part.done, one)
 }
 
 /// A `case` with its block.

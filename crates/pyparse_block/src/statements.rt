@@ -13,7 +13,9 @@ ghost use Rattle.pyparse_block.specs.Values.{arm_of};
 
 use crate::groups::Arm;
 use pygrammar::{DefHead, LoopHead};
-use pytree_node::{Case, Expr, Handler, Identifier, Item, Pattern, Stmt};
+use pytree_node::{
+    Case, ClassDef, Expr, FunctionDef, Handler, Identifier, Item, Pattern, Stmt, Try,
+};
 use std::alloc::{AllocError, Global};
 
 /// A loop with its blocks.
@@ -23,11 +25,7 @@ pub(crate) fn loop_statement(head: LoopHead, body: Vec<Stmt>, orelse: Vec<Stmt>)
         ≡ loop (loop_head_of head) (map stmt_of body.items) (map stmt_of orelse.items) }
 {
     match head {
-        LoopHead::While { test } => Stmt::While {
-            test: Box::into_inner(test),
-            body,
-            orelse,
-        },
+        LoopHead::While { test } => Stmt::While { test, body, orelse },
         LoopHead::For {
             is_async,
             target,
@@ -67,30 +65,28 @@ pub(crate) fn with_statement(is_async: bool, items: Vec<Item>, body: Vec<Stmt>) 
 /// A `try` with its clauses.
 #[tactic(auto, using(pytree_node::proofs::Callers::StmtShapes::stmt_shapes))]
 pub(crate) fn try_statement(
+    alloc: Global,
     star: bool,
     body: Vec<Stmt>,
     handlers: Vec<Handler>,
     orelse: Vec<Stmt>,
     finalbody: Vec<Stmt>,
-) -> Stmt
-    ensures { stmt_of result
+) -> Result<Stmt, AllocError>
+    ensures { IfOk result (λ s. stmt_of s
         ≡ try_of star (map stmt_of body.items) (map handler_of handlers.items)
-        (map stmt_of orelse.items) (map stmt_of finalbody.items) }
+        (map stmt_of orelse.items) (map stmt_of finalbody.items)) }
 {
+    let parts = Try {
+        body,
+        handlers,
+        orelse,
+        finalbody,
+    };
+    let parts = Box::new(alloc, parts)?;
     if star {
-        Stmt::TryStar {
-            body,
-            handlers,
-            orelse,
-            finalbody,
-        }
+        Ok(Stmt::TryStar(parts))
     } else {
-        Stmt::Try {
-            body,
-            handlers,
-            orelse,
-            finalbody,
-        }
+        Ok(Stmt::Try(parts))
     }
 }
 
@@ -148,12 +144,14 @@ pub(crate) fn match_statement(subject: Box<Expr>, cases: Vec<Case>) -> Stmt
 /// A `def` or a `class` with its decorators and its block.
 #[tactic(auto, using(pytree_node::proofs::Callers::StmtShapes::stmt_shapes))]
 pub(crate) fn definition_statement(
+    alloc: Global,
     decorator_list: Vec<Expr>,
     head: DefHead,
     body: Vec<Stmt>,
-) -> Stmt
-    ensures { stmt_of result ≡ definition (map tree_of decorator_list.items) (def_head_of head)
-        (map stmt_of body.items) }
+) -> Result<Stmt, AllocError>
+    ensures { IfOk result (λ s. stmt_of s
+        ≡ definition (map tree_of decorator_list.items) (def_head_of head)
+        (map stmt_of body.items)) }
 {
     match head {
         DefHead::Function {
@@ -163,24 +161,19 @@ pub(crate) fn definition_statement(
             args,
             returns,
         } => {
+            let def = FunctionDef {
+                name,
+                args,
+                body,
+                decorator_list,
+                returns,
+                type_params,
+            };
+            let def = Box::new(alloc, def)?;
             if is_async {
-                Stmt::AsyncFunctionDef {
-                    name,
-                    args,
-                    body,
-                    decorator_list,
-                    returns,
-                    type_params,
-                }
+                Ok(Stmt::AsyncFunctionDef(def))
             } else {
-                Stmt::FunctionDef {
-                    name,
-                    args,
-                    body,
-                    decorator_list,
-                    returns,
-                    type_params,
-                }
+                Ok(Stmt::FunctionDef(def))
             }
         }
         DefHead::Class {
@@ -188,14 +181,17 @@ pub(crate) fn definition_statement(
             type_params,
             bases,
             keywords,
-        } => Stmt::ClassDef {
-            name,
-            bases,
-            keywords,
-            body,
-            decorator_list,
-            type_params,
-        },
+        } => {
+            let class = ClassDef {
+                name,
+                bases,
+                keywords,
+                body,
+                decorator_list,
+                type_params,
+            };
+            Ok(Stmt::ClassDef(Box::new(alloc, class)?))
+        }
     }
 }
 
@@ -205,11 +201,7 @@ fn if_statement(arm: Arm, orelse: Vec<Stmt>) -> Stmt
     ensures { stmt_of result ∷ [] ≡ choice (arm_of arm ∷ []) (map stmt_of orelse.items) }
 {
     let Arm { test, body } = arm;
-    Stmt::If {
-        test: Box::into_inner(test),
-        body,
-        orelse,
-    }
+    Stmt::If { test, body, orelse }
 }
 
 /// The statements that `elif`s and an `else` are: each `elif` is an `if` alone in the `else` of the

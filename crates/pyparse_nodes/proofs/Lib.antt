@@ -3,3 +3,4 @@ mod Places
 mod FormalParameters
 mod Stores
 mod JoinedTexts
+mod MadeParts

@@ -8,11 +8,11 @@ ghost use Rattle.pygrammar.specs.FormattedStrings.{Field, Text};
 ghost use Rattle.pyparse_nodes.specs.JoinedStates.{Gathers, IsNode, ended, state, state_of, step};
 
 use crate::found::{Items, JoinedValues, Optional, Read};
-use crate::literals::add_points;
+use crate::literals::{add_points, text};
 use crate::makers::boxed;
 use crate::room::{append, put};
 use crate::stop::Stop;
-use pytree_node::{Constant, Conversion, Expr, Points};
+use pytree_node::{Conversion, Expr, Points};
 use std::alloc::Global;
 
 /// A text alone.
@@ -88,10 +88,7 @@ fn end_values(before: JoinedValues, unicode: bool) -> Result<Items, Stop>
             next,
         });
     }
-    let value = Constant::Str {
-        points: before.text,
-        unicode,
-    };
+    let value = text(before.text, unicode);
     append(&mut exprs, Expr::Constant { value })?;
     Ok(Items {
         exprs,

@@ -1,8 +1,8 @@
 //! A node of lists, or of parts that may be left out, where it is not too high.
 
 ghost use Rattle.std.specs.Prelude.{◌≡◌, max, map};
-ghost use Rattle.pytree_node.specs.TreeOf.{arguments_of, boxed_of, comprehension_of};
-ghost use Rattle.pytree_node.specs.TreeOf.{keyword_of, option_of, tree_of};
+ghost use Rattle.pytree_node.specs.TreeOf.{arguments_of, boxed_of, call_of, comprehension_of};
+ghost use Rattle.pytree_node.specs.TreeOf.{dict_comp_of, keyword_of, option_of, tree_of};
 ghost use Rattle.pytree_node.specs.Trees as plain;
 ghost use Rattle.pytree_node.specs.Trees.{comprehensions, exprs, optional, optionals};
 ghost use Rattle.pytree_height.specs.Heights as Heights;
@@ -11,7 +11,7 @@ ghost use Rattle.pyparse_nodes.specs.Answers.{Makes};
 use crate::found::Read;
 use crate::makers::{above, boxed};
 use crate::stop::Stop;
-use pytree_node::{Arguments, Comprehension, Context, Expr, Keyword};
+use pytree_node::{Arguments, Call, Comprehension, Context, Dict, DictComp, Expr, Keyword, Slice};
 use std::alloc::Global;
 
 /// A tuple, of elements of this height.
@@ -97,7 +97,21 @@ pub fn make_dict(
         (exprs (map tree_of values.items))) next result }
 {
     let height = above(under, room)?;
-    boxed(alloc, Expr::Dict { keys, values }, height, next)
+    let dict = Box::new(alloc, Dict { keys, values })?;
+    boxed(alloc, Expr::Dict(dict), height, next)
+}
+
+/// A call of these parts.
+#[inline(always)]
+fn call_of_parts(func: Box<Expr>, args: Vec<Expr>, keywords: Vec<Keyword>) -> Call
+    ensures { call_of result ≡ plain.Call (tree_of func.value) (exprs (map tree_of args.items))
+        (plain.keywords (map keyword_of keywords.items)) }
+{
+    Call {
+        func: Box::into_inner(func),
+        args,
+        keywords,
+    }
 }
 
 /// A call, of parts of this height.
@@ -120,16 +134,8 @@ pub fn make_call(
         (plain.keywords (map keyword_of keywords.items))) next result }
 {
     let height = above(under, room)?;
-    boxed(
-        alloc,
-        Expr::Call {
-            func,
-            args,
-            keywords,
-        },
-        height,
-        next,
-    )
+    let call = Box::new(alloc, call_of_parts(func, args, keywords))?;
+    boxed(alloc, Expr::Call(call), height, next)
 }
 
 /// A generator expression, of parts of this height.
@@ -192,6 +198,19 @@ pub fn make_set_comp(
     boxed(alloc, Expr::SetComp { elt, generators }, height, next)
 }
 
+/// A dict comprehension of these parts.
+#[inline(always)]
+fn dict_comp_of_parts(key: Box<Expr>, value: Box<Expr>, generators: Vec<Comprehension>) -> DictComp
+    ensures { dict_comp_of result ≡ plain.DictComp (tree_of key.value) (tree_of value.value)
+        (comprehensions (map comprehension_of generators.items)) }
+{
+    DictComp {
+        key: Box::into_inner(key),
+        value: Box::into_inner(value),
+        generators,
+    }
+}
+
 /// A dict comprehension, of parts of this height.
 #[tactic(auto, using(pytree_node::proofs::Callers::ExprShapes::expr_shapes))]
 pub fn make_dict_comp(
@@ -211,16 +230,8 @@ pub fn make_dict_comp(
         (comprehensions (map comprehension_of generators.items))) next result }
 {
     let height = above(under, room)?;
-    boxed(
-        alloc,
-        Expr::DictComp {
-            key,
-            value,
-            generators,
-        },
-        height,
-        next,
-    )
+    let comp = Box::new(alloc, dict_comp_of_parts(key, value, generators))?;
+    boxed(alloc, Expr::DictComp(comp), height, next)
 }
 
 /// A lambda, of parameters of this height.
@@ -286,5 +297,6 @@ pub fn make_slice(
         (optional (boxed_of step))) next result }
 {
     let height = above(under, room)?;
-    boxed(alloc, Expr::Slice { lower, upper, step }, height, next)
+    let slice = Box::new(alloc, Slice { lower, upper, step })?;
+    boxed(alloc, Expr::Slice(slice), height, next)
 }

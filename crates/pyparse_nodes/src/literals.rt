@@ -1,6 +1,7 @@
 //! Neighbouring literals.
 
 ghost use Rattle.std.specs.Prelude.{◌≡◌, ◌++◌, ◌≤◌, MatchResult, Some, length};
+ghost use Rattle.pytree_node.specs.TreeOf.{constant_of};
 ghost use Rattle.pytree_node.specs.Trees as plain;
 ghost use Rattle.pytree_node.specs.Values as values;
 ghost use Rattle.pytoken.specs.StringValues.{string_value};
@@ -145,6 +146,18 @@ fn bytes_run(
     })
 }
 
+/// A text, whose `kind` is `u` where it says so.
+#[inline(always)]
+pub(crate) fn text(points: Points, unicode: bool) -> Constant
+    ensures { constant_of result ≡ values.Str points unicode }
+{
+    if unicode {
+        Constant::UnicodeStr(points)
+    } else {
+        Constant::Str(points)
+    }
+}
+
 /// The constant of neighbouring literals.
 #[inline(always)]
 pub fn make_literal(alloc: Global, value: Literal, next: usize) -> Result<Read, Stop>
@@ -152,9 +165,7 @@ pub fn make_literal(alloc: Global, value: Literal, next: usize) -> Result<Read, 
         (λ s. s ≡ Stop.Memory) }
 {
     match value {
-        Literal::Text { points, unicode } => {
-            make_constant(alloc, Constant::Str { points, unicode }, next)
-        }
+        Literal::Text { points, unicode } => make_constant(alloc, text(points, unicode), next),
         Literal::Bytes(bytes) => make_constant(alloc, Constant::Bytes(bytes), next),
     }
 }

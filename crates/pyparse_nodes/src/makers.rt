@@ -18,8 +18,8 @@ use crate::found::Read;
 use crate::stop::Stop;
 use pytoken::{NumberText, identifier_value};
 use pytree_node::{
-    Arguments, BoolOperator, Comparison, Comprehension, Constant, Context, Expr, Identifier,
-    Integer, Keyword, Operator, UnaryOperator,
+    BoolOperator, Compare, Comparison, Constant, Context, Expr, Identifier, Integer, Operator,
+    UnaryOperator,
 };
 use std::alloc::Global;
 
@@ -272,16 +272,13 @@ pub fn make_compare(
         (exprs (map tree_of comparators.items))) next result }
 {
     let height = above(under, room)?;
-    boxed(
-        alloc,
-        Expr::Compare {
-            left,
-            ops,
-            comparators,
-        },
-        height,
-        next,
-    )
+    let compare = Compare {
+        left: Box::into_inner(left),
+        ops,
+        comparators,
+    };
+    let compare = Box::new(alloc, compare)?;
+    boxed(alloc, Expr::Compare(compare), height, next)
 }
 
 /// An attribute.

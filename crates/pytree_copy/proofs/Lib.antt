@@ -1,1 +1,2 @@
-mod ArgumentsLemmas
+mod FieldLemmas
+mod TryLemmas

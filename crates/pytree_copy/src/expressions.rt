@@ -1,11 +1,14 @@
 //! Copies of expressions.
 
 ghost use Rattle.std.specs.Prelude.{◌≡◌, IfOk, map};
-ghost use Rattle.pytree_node.specs.TreeOf.{arg_of, arg_option_of, arguments_of, boxed_of};
-ghost use Rattle.pytree_node.specs.TreeOf.{comprehension_of, keyword_of, option_of, tree_of};
+ghost use Rattle.pytree_node.specs.TreeOf.{arg_of, arg_option_of, arguments_of, boxed_of, call_of};
+ghost use Rattle.pytree_node.specs.TreeOf.{compare_of, comprehension_of, dict_comp_of, dict_of};
+ghost use Rattle.pytree_node.specs.TreeOf.{keyword_of, option_of, slice_of, tree_of};
 
 use crate::leaves::{both, copy_comparisons, copy_constant, copy_optional_name};
-use pytree_node::{Arg, Arguments, Comprehension, Expr, Keyword};
+use pytree_node::{
+    Arg, Arguments, Call, Compare, Comprehension, Dict, DictComp, Expr, Keyword, Slice,
+};
 use std::alloc::{AllocError, Global};
 
 /// A copy of an expression.
@@ -41,10 +44,7 @@ pub(crate) fn copy_expr(alloc: Global, e: &Expr) -> Result<Expr, AllocError>
             body: copy_box(alloc, body)?,
             orelse: copy_box(alloc, orelse)?,
         }),
-        Expr::Dict { keys, values } => Ok(Expr::Dict {
-            keys: copy_optional_exprs(alloc, keys)?,
-            values: copy_exprs(alloc, values)?,
-        }),
+        Expr::Dict(dict) => Ok(Expr::Dict(copy_dict(alloc, dict)?)),
         Expr::Set { elts } => Ok(Expr::Set {
             elts: copy_exprs(alloc, elts)?,
         }),
@@ -56,15 +56,7 @@ pub(crate) fn copy_expr(alloc: Global, e: &Expr) -> Result<Expr, AllocError>
             elt: copy_box(alloc, elt)?,
             generators: copy_comprehensions(alloc, generators)?,
         }),
-        Expr::DictComp {
-            key,
-            value,
-            generators,
-        } => Ok(Expr::DictComp {
-            key: copy_box(alloc, key)?,
-            value: copy_box(alloc, value)?,
-            generators: copy_comprehensions(alloc, generators)?,
-        }),
+        Expr::DictComp(comp) => Ok(Expr::DictComp(copy_dict_comp(alloc, comp)?)),
         Expr::GeneratorExp { elt, generators } => Ok(Expr::GeneratorExp {
             elt: copy_box(alloc, elt)?,
             generators: copy_comprehensions(alloc, generators)?,
@@ -78,24 +70,8 @@ pub(crate) fn copy_expr(alloc: Global, e: &Expr) -> Result<Expr, AllocError>
         Expr::YieldFrom { value } => Ok(Expr::YieldFrom {
             value: copy_box(alloc, value)?,
         }),
-        Expr::Compare {
-            left,
-            ops,
-            comparators,
-        } => Ok(Expr::Compare {
-            left: copy_box(alloc, left)?,
-            ops: copy_comparisons(alloc, ops)?,
-            comparators: copy_exprs(alloc, comparators)?,
-        }),
-        Expr::Call {
-            func,
-            args,
-            keywords,
-        } => Ok(Expr::Call {
-            func: copy_box(alloc, func)?,
-            args: copy_exprs(alloc, args)?,
-            keywords: copy_keywords(alloc, keywords)?,
-        }),
+        Expr::Compare(compare) => Ok(Expr::Compare(copy_compare(alloc, compare)?)),
+        Expr::Call(call) => Ok(Expr::Call(copy_call(alloc, call)?)),
         Expr::FormattedValue {
             value,
             conversion,
@@ -137,12 +113,79 @@ pub(crate) fn copy_expr(alloc: Global, e: &Expr) -> Result<Expr, AllocError>
             elts: copy_exprs(alloc, elts)?,
             ctx: *ctx,
         }),
-        Expr::Slice { lower, upper, step } => Ok(Expr::Slice {
-            lower: copy_optional_box(alloc, lower)?,
-            upper: copy_optional_box(alloc, upper)?,
-            step: copy_optional_box(alloc, step)?,
-        }),
+        Expr::Slice(slice) => Ok(Expr::Slice(copy_slice(alloc, slice)?)),
     }
+}
+
+/// A copy of a dictionary.
+#[cycle(copying)]
+#[tactic(auto, using(pytree_node::proofs::Callers::ExprShapes::expr_shapes))]
+fn copy_dict(alloc: Global, dict: &Dict) -> Result<Box<Dict>, AllocError>
+    ensures { IfOk result (λ made. dict_of made.value ≡ dict_of dict.now) }
+{
+    let copy = Dict {
+        keys: copy_optional_exprs(alloc, &dict.keys)?,
+        values: copy_exprs(alloc, &dict.values)?,
+    };
+    Ok(Box::new(alloc, copy)?)
+}
+
+/// A copy of a dictionary's comprehension.
+#[cycle(copying)]
+#[tactic(auto, using(pytree_node::proofs::Callers::ExprShapes::expr_shapes))]
+fn copy_dict_comp(alloc: Global, comp: &DictComp) -> Result<Box<DictComp>, AllocError>
+    ensures { IfOk result (λ made. dict_comp_of made.value ≡ dict_comp_of comp.now) }
+{
+    let generators = copy_comprehensions(alloc, &comp.generators)?;
+    let (key, value) = both(copy_expr(alloc, &comp.key)?, copy_expr(alloc, &comp.value))?;
+    let copy = DictComp {
+        key,
+        value,
+        generators,
+    };
+    Ok(Box::new(alloc, copy)?)
+}
+
+/// A copy of a comparison.
+#[cycle(copying)]
+#[tactic(auto, using(pytree_node::proofs::Callers::ExprShapes::expr_shapes))]
+fn copy_compare(alloc: Global, compare: &Compare) -> Result<Box<Compare>, AllocError>
+    ensures { IfOk result (λ made. compare_of made.value ≡ compare_of compare.now) }
+{
+    let copy = Compare {
+        ops: copy_comparisons(alloc, &compare.ops)?,
+        comparators: copy_exprs(alloc, &compare.comparators)?,
+        left: copy_expr(alloc, &compare.left)?,
+    };
+    Ok(Box::new(alloc, copy)?)
+}
+
+/// A copy of a call.
+#[cycle(copying)]
+#[tactic(auto, using(pytree_node::proofs::Callers::ExprShapes::expr_shapes))]
+fn copy_call(alloc: Global, call: &Call) -> Result<Box<Call>, AllocError>
+    ensures { IfOk result (λ made. call_of made.value ≡ call_of call.now) }
+{
+    let copy = Call {
+        args: copy_exprs(alloc, &call.args)?,
+        keywords: copy_keywords(alloc, &call.keywords)?,
+        func: copy_expr(alloc, &call.func)?,
+    };
+    Ok(Box::new(alloc, copy)?)
+}
+
+/// A copy of a slice.
+#[cycle(copying)]
+#[tactic(auto, using(pytree_node::proofs::Callers::ExprShapes::expr_shapes))]
+fn copy_slice(alloc: Global, slice: &Slice) -> Result<Box<Slice>, AllocError>
+    ensures { IfOk result (λ made. slice_of made.value ≡ slice_of slice.now) }
+{
+    let copy = Slice {
+        lower: copy_optional_box(alloc, &slice.lower)?,
+        upper: copy_optional_box(alloc, &slice.upper)?,
+        step: copy_optional_box(alloc, &slice.step)?,
+    };
+    Ok(Box::new(alloc, copy)?)
 }
 
 /// A copy of an expression, in a box.

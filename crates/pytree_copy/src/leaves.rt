@@ -52,10 +52,8 @@ pub(crate) fn copy_constant(alloc: Global, constant: &Constant) -> Result<Consta
         Constant::Int(value) => Ok(Constant::Int(value.clone()?)),
         Constant::Float(value) => Ok(Constant::Float(*value)),
         Constant::Imaginary(value) => Ok(Constant::Imaginary(*value)),
-        Constant::Str { points, unicode } => Ok(Constant::Str {
-            points: points.clone()?,
-            unicode: *unicode,
-        }),
+        Constant::Str(points) => Ok(Constant::Str(points.clone()?)),
+        Constant::UnicodeStr(points) => Ok(Constant::UnicodeStr(points.clone()?)),
         Constant::Bytes(bytes) => Ok(Constant::Bytes(copy_bytes(alloc, bytes)?)),
     }
 }

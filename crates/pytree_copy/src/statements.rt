@@ -4,7 +4,8 @@
 //! not be dropped where one of these runs out of memory, which is long to prove.
 
 ghost use Rattle.std.specs.Prelude.{◌≡◌, IfOk, map};
-ghost use Rattle.pytree_node.specs.TreeOf.{case_of, handler_of, stmt_of};
+ghost use Rattle.pytree_node.specs.TreeOf.{case_of, class_def_of, function_def_of, handler_of};
+ghost use Rattle.pytree_node.specs.TreeOf.{stmt_of, try_of};
 
 use crate::expressions::{
     copy_box, copy_boxed_arguments, copy_expr, copy_exprs, copy_keywords, copy_optional_box,
@@ -12,7 +13,7 @@ use crate::expressions::{
 use crate::leaves::{both, copy_names, copy_optional_name};
 use crate::parts::{copy_aliases, copy_items, copy_optional_expr, copy_type_params};
 use crate::patterns::copy_pattern;
-use pytree_node::{Case, Handler, Stmt};
+use pytree_node::{Case, ClassDef, FunctionDef, Handler, Stmt, Try};
 use std::alloc::{AllocError, Global};
 
 /// A copy of a statement.
@@ -22,51 +23,9 @@ fn copy_stmt(alloc: Global, s: &Stmt) -> Result<Stmt, AllocError>
     ensures { IfOk result (λ made. stmt_of made ≡ stmt_of s.now) }
 {
     match s {
-        Stmt::FunctionDef {
-            name,
-            args,
-            body,
-            decorator_list,
-            returns,
-            type_params,
-        } => Ok(Stmt::FunctionDef {
-            name: name.clone()?,
-            args: copy_boxed_arguments(alloc, args)?,
-            body: copy_stmts(alloc, body)?,
-            decorator_list: copy_exprs(alloc, decorator_list)?,
-            returns: copy_optional_box(alloc, returns)?,
-            type_params: copy_type_params(alloc, type_params)?,
-        }),
-        Stmt::AsyncFunctionDef {
-            name,
-            args,
-            body,
-            decorator_list,
-            returns,
-            type_params,
-        } => Ok(Stmt::AsyncFunctionDef {
-            name: name.clone()?,
-            args: copy_boxed_arguments(alloc, args)?,
-            body: copy_stmts(alloc, body)?,
-            decorator_list: copy_exprs(alloc, decorator_list)?,
-            returns: copy_optional_box(alloc, returns)?,
-            type_params: copy_type_params(alloc, type_params)?,
-        }),
-        Stmt::ClassDef {
-            name,
-            bases,
-            keywords,
-            body,
-            decorator_list,
-            type_params,
-        } => Ok(Stmt::ClassDef {
-            name: name.clone()?,
-            bases: copy_exprs(alloc, bases)?,
-            keywords: copy_keywords(alloc, keywords)?,
-            body: copy_stmts(alloc, body)?,
-            decorator_list: copy_exprs(alloc, decorator_list)?,
-            type_params: copy_type_params(alloc, type_params)?,
-        }),
+        Stmt::FunctionDef(def) => Ok(Stmt::FunctionDef(copy_function(alloc, def)?)),
+        Stmt::AsyncFunctionDef(def) => Ok(Stmt::AsyncFunctionDef(copy_function(alloc, def)?)),
+        Stmt::ClassDef(class) => Ok(Stmt::ClassDef(copy_class(alloc, class)?)),
         Stmt::Return { value } => Ok(Stmt::Return {
             value: copy_optional_expr(alloc, value)?,
         }),
@@ -83,11 +42,11 @@ fn copy_stmt(alloc: Global, s: &Stmt) -> Result<Stmt, AllocError>
             value,
         } => Ok(Stmt::TypeAlias {
             type_params: copy_type_params(alloc, type_params)?,
-            name: copy_expr(alloc, name)?,
-            value: copy_expr(alloc, value)?,
+            name: copy_box(alloc, name)?,
+            value: copy_box(alloc, value)?,
         }),
         Stmt::AugAssign { target, op, value } => Ok(Stmt::AugAssign {
-            target: copy_expr(alloc, target)?,
+            target: copy_box(alloc, target)?,
             op: *op,
             value: copy_expr(alloc, value)?,
         }),
@@ -127,12 +86,12 @@ fn copy_stmt(alloc: Global, s: &Stmt) -> Result<Stmt, AllocError>
         Stmt::While { test, body, orelse } => Ok(Stmt::While {
             body: copy_stmts(alloc, body)?,
             orelse: copy_stmts(alloc, orelse)?,
-            test: copy_expr(alloc, test)?,
+            test: copy_box(alloc, test)?,
         }),
         Stmt::If { test, body, orelse } => Ok(Stmt::If {
             body: copy_stmts(alloc, body)?,
             orelse: copy_stmts(alloc, orelse)?,
-            test: copy_expr(alloc, test)?,
+            test: copy_box(alloc, test)?,
         }),
         Stmt::With { items, body } => Ok(Stmt::With {
             items: copy_items(alloc, items)?,
@@ -147,34 +106,14 @@ fn copy_stmt(alloc: Global, s: &Stmt) -> Result<Stmt, AllocError>
             subject: copy_expr(alloc, subject)?,
         }),
         Stmt::Raise { exc, cause } => Ok(Stmt::Raise {
-            exc: copy_optional_expr(alloc, exc)?,
-            cause: copy_optional_expr(alloc, cause)?,
+            exc: copy_optional_box(alloc, exc)?,
+            cause: copy_optional_box(alloc, cause)?,
         }),
-        Stmt::Try {
-            body,
-            handlers,
-            orelse,
-            finalbody,
-        } => Ok(Stmt::Try {
-            body: copy_stmts(alloc, body)?,
-            handlers: copy_handlers(alloc, handlers)?,
-            orelse: copy_stmts(alloc, orelse)?,
-            finalbody: copy_stmts(alloc, finalbody)?,
-        }),
-        Stmt::TryStar {
-            body,
-            handlers,
-            orelse,
-            finalbody,
-        } => Ok(Stmt::TryStar {
-            body: copy_stmts(alloc, body)?,
-            handlers: copy_handlers(alloc, handlers)?,
-            orelse: copy_stmts(alloc, orelse)?,
-            finalbody: copy_stmts(alloc, finalbody)?,
-        }),
+        Stmt::Try(parts) => Ok(Stmt::Try(copy_try(alloc, parts)?)),
+        Stmt::TryStar(parts) => Ok(Stmt::TryStar(copy_try(alloc, parts)?)),
         Stmt::Assert { test, msg } => Ok(Stmt::Assert {
+            msg: copy_optional_box(alloc, msg)?,
             test: copy_expr(alloc, test)?,
-            msg: copy_optional_expr(alloc, msg)?,
         }),
         Stmt::Import { names } => Ok(Stmt::Import {
             names: copy_aliases(alloc, names)?,
@@ -201,6 +140,55 @@ fn copy_stmt(alloc: Global, s: &Stmt) -> Result<Stmt, AllocError>
         Stmt::Break => Ok(Stmt::Break),
         Stmt::Continue => Ok(Stmt::Continue),
     }
+}
+
+/// A copy of the definition of a function.
+#[cycle(copying)]
+#[tactic(auto, using(pytree_node::proofs::Callers::StmtShapes::stmt_shapes))]
+fn copy_function(alloc: Global, def: &FunctionDef) -> Result<Box<FunctionDef>, AllocError>
+    ensures { IfOk result (λ made. function_def_of made.value ≡ function_def_of def.now) }
+{
+    let copy = FunctionDef {
+        name: def.name.clone()?,
+        args: copy_boxed_arguments(alloc, &def.args)?,
+        body: copy_stmts(alloc, &def.body)?,
+        decorator_list: copy_exprs(alloc, &def.decorator_list)?,
+        returns: copy_optional_box(alloc, &def.returns)?,
+        type_params: copy_type_params(alloc, &def.type_params)?,
+    };
+    Ok(Box::new(alloc, copy)?)
+}
+
+/// A copy of the definition of a class.
+#[cycle(copying)]
+#[tactic(auto, using(pytree_node::proofs::Callers::StmtShapes::stmt_shapes))]
+fn copy_class(alloc: Global, class: &ClassDef) -> Result<Box<ClassDef>, AllocError>
+    ensures { IfOk result (λ made. class_def_of made.value ≡ class_def_of class.now) }
+{
+    let copy = ClassDef {
+        name: class.name.clone()?,
+        bases: copy_exprs(alloc, &class.bases)?,
+        keywords: copy_keywords(alloc, &class.keywords)?,
+        body: copy_stmts(alloc, &class.body)?,
+        decorator_list: copy_exprs(alloc, &class.decorator_list)?,
+        type_params: copy_type_params(alloc, &class.type_params)?,
+    };
+    Ok(Box::new(alloc, copy)?)
+}
+
+/// A copy of a `try`.
+#[cycle(copying)]
+#[tactic(auto, using(pytree_node::proofs::Callers::StmtShapes::stmt_shapes))]
+fn copy_try(alloc: Global, parts: &Try) -> Result<Box<Try>, AllocError>
+    ensures { IfOk result (λ made. try_of made.value ≡ try_of parts.now) }
+{
+    let copy = Try {
+        body: copy_stmts(alloc, &parts.body)?,
+        handlers: copy_handlers(alloc, &parts.handlers)?,
+        orelse: copy_stmts(alloc, &parts.orelse)?,
+        finalbody: copy_stmts(alloc, &parts.finalbody)?,
+    };
+    Ok(Box::new(alloc, copy)?)
 }
 
 /// Statements that are equal to these. If memory runs out, what was made of them is dropped.

@@ -2,7 +2,9 @@
 --
 -- Carries: expr_marked, pattern_marked, stmt_marked, marked.
 use Rattle.std.proofs.Common.{◌≡◌, ℕ, ◌+◌, ◌<◌, ◌≤◌, ◌-◌, ◌^◌, List, [], ◌∷◌, ◌++◌, length, get_or, take}
-use Rattle.std.proofs.Common.{arith, ap, sym, ◌∙◌}
+use Rattle.std.proofs.Common.{Option, Some, None, arith, ap, refl, sym, ◌∙◌}
+use Rattle.pytree_node.specs.Trees.{Expr, optional}
+use Rattle.pytree_marked.specs.MarkedOptions.{marked_option, marked_optional}
 use Rattle.std.proofs.lemmas.List.{take_more}
 use Rattle.pytree_marked.proofs.Callers.Sums.{operator_none, unary_none, bool_none, context_none, comparisons_none, names_none, kind_none}
 use Rattle.pytree_marked.proofs.Callers.Sums.{name_sum, optional_sum, option_sum, arg_sum, pattern_sum}
@@ -15,6 +17,11 @@ capped_in a b = omega arith
 pub capped_none : (a : ℕ) → a ≤ 2 ^ 64 - 1 → a ≡ capped (a + 0)
 unfolding capped
 capped_none a h = omega (arith, h)
+
+-- an expression that may be absent, as either of the two types of it
+pub optional_counts : (e : Option Expr) → marked_optional (optional e) ≡ marked_option e
+optional_counts None = refl
+optional_counts (Some e) = refl
 
 -- one count behind another
 pub two_on : (here a b : ℕ) {mid next : ℕ} → mid ≡ capped (here + a) → next ≡ capped (mid + b) → next ≡ capped (here + (a + b))

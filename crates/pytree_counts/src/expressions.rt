@@ -8,12 +8,13 @@ ghost use Rattle.pytree_dump_text.specs.Shows.{shown_comprehensions, shown_exprs
 ghost use Rattle.pytree_dump_text.specs.Shows.{shown_optionals};
 ghost use Rattle.pytree_marked.specs.MarkedNodes.{marked, marked_rows};
 ghost use Rattle.pytree_node.specs.TreeOf.{arg_of, arg_option_of, arguments_of, boxed_of};
-ghost use Rattle.pytree_node.specs.TreeOf.{comprehension_of, keyword_of, option_of, tree_of};
+ghost use Rattle.pytree_node.specs.TreeOf.{call_of, comprehension_of, dict_comp_of, keyword_of};
+ghost use Rattle.pytree_node.specs.TreeOf.{option_of, slice_of, tree_of};
 ghost use Rattle.pytree_node.specs.Trees.{args, comprehensions, exprs, keywords, optional, optional_arg};
 ghost use Rattle.pytree_node.specs.Trees.{optionals};
 
 use crate::counts::one_more;
-use pytree_node::{Arg, Arguments, Comprehension, Expr, Keyword};
+use pytree_node::{Arg, Arguments, Call, Comprehension, DictComp, Expr, Keyword, Slice};
 
 /// The nodes of an expression that have a place, counted on.
 #[cycle(expression_counts)]
@@ -31,34 +32,24 @@ pub(crate) fn expr_marked(e: &Expr, before: u64) -> u64
         Expr::IfExp { test, body, orelse } => {
             expr_marked(orelse, expr_marked(body, expr_marked(test, count)))
         }
-        Expr::Dict { keys, values } => exprs_marked(values, options_marked(keys, count)),
+        Expr::Dict(dict) => exprs_marked(&dict.values, options_marked(&dict.keys, count)),
         Expr::Set { elts } => exprs_marked(elts, count),
         Expr::ListComp { elt, generators } => generators_marked(
             generators,
             expr_marked(elt, count),
         ),
         Expr::SetComp { elt, generators } => generators_marked(generators, expr_marked(elt, count)),
-        Expr::DictComp {
-            key,
-            value,
-            generators,
-        } => { generators_marked(generators, expr_marked(value, expr_marked(key, count))) }
+        Expr::DictComp(comp) => dict_comp_marked(comp, before),
         Expr::GeneratorExp { elt, generators } => {
             generators_marked(generators, expr_marked(elt, count))
         }
         Expr::Await { value } => expr_marked(value, count),
         Expr::Yield { value } => boxed_marked(value, count),
         Expr::YieldFrom { value } => expr_marked(value, count),
-        Expr::Compare {
-            left,
-            comparators,
-            ..
-        } => { exprs_marked(comparators, expr_marked(left, count)) }
-        Expr::Call {
-            func,
-            args,
-            keywords,
-        } => { keywords_marked(keywords, exprs_marked(args, expr_marked(func, count))) }
+        Expr::Compare(compare) => {
+            exprs_marked(&compare.comparators, expr_marked(&compare.left, count))
+        }
+        Expr::Call(call) => call_marked(call, before),
         Expr::FormattedValue {
             value,
             format_spec,
@@ -72,10 +63,38 @@ pub(crate) fn expr_marked(e: &Expr, before: u64) -> u64
         Expr::Name { .. } => count,
         Expr::List { elts, .. } => exprs_marked(elts, count),
         Expr::Tuple { elts, .. } => exprs_marked(elts, count),
-        Expr::Slice { lower, upper, step } => {
-            boxed_marked(step, boxed_marked(upper, boxed_marked(lower, count)))
-        }
+        Expr::Slice(slice) => slice_marked(slice, before),
     }
+}
+
+/// Those of a dictionary's comprehension.
+#[cycle(expression_counts)]
+#[tactic(auto, using(pytree_node::proofs::Callers::ExprShapes::expr_shapes, crate::proofs::CountLemmas::counting))]
+fn dict_comp_marked(comp: &DictComp, before: u64) -> u64
+    ensures { result ≡ capped (before + marked (shown (dict_comp_of comp.now))) }
+{
+    let count = expr_marked(&comp.value, expr_marked(&comp.key, one_more(before)));
+    generators_marked(&comp.generators, count)
+}
+
+/// Those of a call.
+#[cycle(expression_counts)]
+#[tactic(auto, using(pytree_node::proofs::Callers::ExprShapes::expr_shapes, crate::proofs::CountLemmas::counting))]
+fn call_marked(call: &Call, before: u64) -> u64
+    ensures { result ≡ capped (before + marked (shown (call_of call.now))) }
+{
+    let count = exprs_marked(&call.args, expr_marked(&call.func, one_more(before)));
+    keywords_marked(&call.keywords, count)
+}
+
+/// Those of a slice.
+#[cycle(expression_counts)]
+#[tactic(auto, using(pytree_node::proofs::Callers::ExprShapes::expr_shapes, crate::proofs::CountLemmas::counting))]
+fn slice_marked(slice: &Slice, before: u64) -> u64
+    ensures { result ≡ capped (before + marked (shown (slice_of slice.now))) }
+{
+    let count = boxed_marked(&slice.upper, boxed_marked(&slice.lower, one_more(before)));
+    boxed_marked(&slice.step, count)
 }
 
 /// Those of an expression that may be absent.

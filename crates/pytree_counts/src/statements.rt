@@ -8,15 +8,17 @@ ghost use Rattle.pytree_dump_text.specs.Shows.{shown_items, shown_stmt, shown_st
 ghost use Rattle.pytree_dump_text.specs.Shows.{shown_type_params, type_params_field};
 ghost use Rattle.pytree_marked.specs.MarkedNodes.{marked, marked_fields, marked_rows};
 ghost use Rattle.pytree_node.specs.TreeOf.{alias_of, case_of, handler_of, item_of, option_of, stmt_of};
-ghost use Rattle.pytree_node.specs.TreeOf.{type_param_of};
-ghost use Rattle.pytree_node.specs.Trees.{cases, handlers, stmts};
+ghost use Rattle.pytree_node.specs.TreeOf.{class_def_of, function_def_of, try_of, type_param_of};
+ghost use Rattle.pytree_node.specs.Trees.{cases, function_def, handlers, stmts, try_block};
 
 use crate::counts::one_more;
 use crate::expressions::{
     boxed_marked, expr_marked, exprs_marked, keywords_marked, parameters_marked,
 };
 use crate::patterns::pattern_marked;
-use pytree_node::{Alias, Case, Expr, Handler, Item, Profile, Stmt, TypeParam, Version};
+use pytree_node::{
+    Alias, Case, ClassDef, Expr, FunctionDef, Handler, Item, Profile, Stmt, Try, TypeParam, Version,
+};
 
 /// The nodes of an expression that may be absent that have a place, counted on.
 #[tactic(auto, using(pytree_node::proofs::Callers::StmtShapes::stmt_shapes, crate::proofs::CountLemmas::counting))]
@@ -97,44 +99,9 @@ fn stmt_marked(profile: Profile, s: &Stmt, before: u64) -> u64
 {
     let count = one_more(before);
     match s {
-        Stmt::FunctionDef {
-            args,
-            body,
-            decorator_list,
-            returns,
-            type_params,
-            ..
-        } => {
-            let count = parameters_marked(args, count);
-            let count = block_marked(profile, body, count);
-            let count = boxed_marked(returns, exprs_marked(decorator_list, count));
-            own_params_marked(profile, type_params, count)
-        }
-        Stmt::AsyncFunctionDef {
-            args,
-            body,
-            decorator_list,
-            returns,
-            type_params,
-            ..
-        } => {
-            let count = parameters_marked(args, count);
-            let count = block_marked(profile, body, count);
-            let count = boxed_marked(returns, exprs_marked(decorator_list, count));
-            own_params_marked(profile, type_params, count)
-        }
-        Stmt::ClassDef {
-            bases,
-            keywords,
-            body,
-            decorator_list,
-            type_params,
-            ..
-        } => {
-            let count = keywords_marked(keywords, exprs_marked(bases, count));
-            let count = exprs_marked(decorator_list, block_marked(profile, body, count));
-            own_params_marked(profile, type_params, count)
-        }
+        Stmt::FunctionDef(def) => function_marked(profile, def, before),
+        Stmt::AsyncFunctionDef(def) => function_marked(profile, def, before),
+        Stmt::ClassDef(class) => class_marked(profile, class, before),
         Stmt::Return { value } => option_marked(value, count),
         Stmt::Delete { targets } => exprs_marked(targets, count),
         Stmt::Assign { targets, value } => expr_marked(value, exprs_marked(targets, count)),
@@ -190,26 +157,10 @@ fn stmt_marked(profile: Profile, s: &Stmt, before: u64) -> u64
         Stmt::With { items, body } => block_marked(profile, body, items_marked(items, count)),
         Stmt::AsyncWith { items, body } => block_marked(profile, body, items_marked(items, count)),
         Stmt::Match { subject, cases } => cases_marked(profile, cases, expr_marked(subject, count)),
-        Stmt::Raise { exc, cause } => option_marked(cause, option_marked(exc, count)),
-        Stmt::Try {
-            body,
-            handlers,
-            orelse,
-            finalbody,
-        } => {
-            let count = handlers_marked(profile, handlers, block_marked(profile, body, count));
-            block_marked(profile, finalbody, block_marked(profile, orelse, count))
-        }
-        Stmt::TryStar {
-            body,
-            handlers,
-            orelse,
-            finalbody,
-        } => {
-            let count = handlers_marked(profile, handlers, block_marked(profile, body, count));
-            block_marked(profile, finalbody, block_marked(profile, orelse, count))
-        }
-        Stmt::Assert { test, msg } => option_marked(msg, expr_marked(test, count)),
+        Stmt::Raise { exc, cause } => boxed_marked(cause, boxed_marked(exc, count)),
+        Stmt::Try(parts) => try_marked(profile, parts, before),
+        Stmt::TryStar(parts) => try_marked(profile, parts, before),
+        Stmt::Assert { test, msg } => boxed_marked(msg, expr_marked(test, count)),
         Stmt::Import { names } => aliases_marked(names, count),
         Stmt::ImportFrom { names, .. } => aliases_marked(names, count),
         Stmt::Global { .. } => count,
@@ -219,6 +170,50 @@ fn stmt_marked(profile: Profile, s: &Stmt, before: u64) -> u64
         Stmt::Break => count,
         Stmt::Continue => count,
     }
+}
+
+/// Those of the definition of a function.
+#[cycle(statement_counts)]
+#[tactic(auto, using(pytree_node::proofs::Callers::StmtShapes::stmt_shapes, crate::proofs::CountLemmas::counting))]
+fn function_marked(profile: Profile, def: &FunctionDef, before: u64) -> u64
+    ensures { result ≡ capped (before
+        + marked (shown_stmt profile (function_def (function_def_of def.now)))) }
+{
+    let count = parameters_marked(&def.args, one_more(before));
+    let count = block_marked(profile, &def.body, count);
+    let count = boxed_marked(&def.returns, exprs_marked(&def.decorator_list, count));
+    own_params_marked(profile, &def.type_params, count)
+}
+
+/// Those of the definition of a class.
+#[cycle(statement_counts)]
+#[tactic(auto, using(pytree_node::proofs::Callers::StmtShapes::stmt_shapes, crate::proofs::CountLemmas::counting))]
+fn class_marked(profile: Profile, class: &ClassDef, before: u64) -> u64
+    ensures { result ≡ capped (before + marked (shown_stmt profile (class_def_of class.now))) }
+{
+    let count = exprs_marked(&class.bases, one_more(before));
+    let count = keywords_marked(&class.keywords, count);
+    let count = block_marked(profile, &class.body, count);
+    own_params_marked(
+        profile,
+        &class.type_params,
+        exprs_marked(&class.decorator_list, count),
+    )
+}
+
+/// Those of a `try`.
+#[cycle(statement_counts)]
+#[tactic(auto, using(pytree_node::proofs::Callers::StmtShapes::stmt_shapes, crate::proofs::CountLemmas::counting))]
+fn try_marked(profile: Profile, parts: &Try, before: u64) -> u64
+    ensures { result ≡ capped (before + marked (shown_stmt profile (try_block (try_of parts.now)))) }
+{
+    let count = block_marked(profile, &parts.body, one_more(before));
+    let count = handlers_marked(profile, &parts.handlers, count);
+    block_marked(
+        profile,
+        &parts.finalbody,
+        block_marked(profile, &parts.orelse, count),
+    )
 }
 
 /// Those of a block.

@@ -7,6 +7,11 @@ use Rattle.pytree_node.specs.declared.expressions.Expr.TheOpen as layer
 use Rattle.pytree_node.specs.declared.expressions.Arg.{Arg}
 use Rattle.pytree_node.specs.declared.expressions.Comprehension.{Comprehension}
 use Rattle.pytree_node.specs.declared.expressions.Keyword.{Keyword}
+use Rattle.pytree_node.specs.declared.expressions.Call.{Call}
+use Rattle.pytree_node.specs.declared.expressions.Compare.{Compare}
+use Rattle.pytree_node.specs.declared.expressions.Dict.{Dict}
+use Rattle.pytree_node.specs.declared.expressions.DictComp.{DictComp}
+use Rattle.pytree_node.specs.declared.expressions.Slice.{Slice}
 use Rattle.pytree_node.specs.declared.expressions.Arguments as given
 use Rattle.pytree_node.specs.declared.expressions.Arguments.{Arguments}
 use Rattle.pytree_node.specs.Trees.{optional, optional_arg, args, optionals, exprs}
@@ -55,7 +60,7 @@ pub arguments_shown : (a : Arguments) (p q k : List Arg) (kd : List (Option Expr
     (with_slot w
     (a_field (codes "defaults") (Row (showns (map (λ e. shown (tree_of e)) d))) no_field)))))))
 arguments_shown a p q k kd d v w hp hq hv hk hkd hw hd =
-    let o : layer.Arguments-F Expr Arg Arguments Comprehension Keyword = given.out-Arguments a in
+    let o : layer.Arguments-F Expr Arg Arguments Call Compare Comprehension Dict DictComp Keyword Slice = given.out-Arguments a in
     let ep : shown_args (args (map arg_of o.posonlyargs.items)) ≡ showns (map (λ a. shown_arg (arg_of a)) p) =
     args_row o.posonlyargs.items ∙ ap (λ z. showns (map (λ a. shown_arg (arg_of a)) z)) (sym hp) in
     let eq : shown_args (args (map arg_of o.args.items)) ≡ showns (map (λ a. shown_arg (arg_of a)) q) =

@@ -2,7 +2,7 @@
 --
 -- Carries: all that is shown.
 use Rattle.std.proofs.Common.{◌≡◌, ℕ, ◌+◌, ◌<◌, ◌≤◌, ◌++◌, List, [], ◌∷◌, Bool, true, false, ◌||◌, codes, refl, ap, sym, ◌∙◌, length, drop}
-use Rattle.std.proofs.Common.{map, get_or, Result, Ok, Err, IfOk, OnOk, is_ok, if◌then◌else◌}
+use Rattle.std.proofs.Common.{map, get_or, Result, Ok, Err, IfOk, OnOk, is_ok, if◌then◌else◌, subst}
 use Rattle.std.proofs.lemmas.Bool.{both_ways}
 use Rattle.std.proofs.lemmas.List.{append-nil, append_assoc, drop_all}
 use Rattle.pytree_node.specs.declared.profiles.Profile.{Profile}
@@ -210,6 +210,10 @@ shown_as s f o o1 ps ps1 x y same e = (
   e.1
       ∙ (λ i. (with_places ps (same i)).left),
 )
+
+pub node_as : (s : Style) (f o o1 start : List ℕ) (ps ps1 : List Attributes) {fs gs : Fields} → fs ≡ gs →
+    AppendsNode true s f o o1 ps ps1 start fs → AppendsNode true s f o o1 ps ps1 start gs
+node_as s f o o1 start ps ps1 e h = subst (λ z. AppendsNode true s f o o1 ps ps1 start z) e h
 
 pub shown_on : {T E : Type 0} (s : Style) (f o o1 : List ℕ) (ps ps1 : List Attributes) (r : Result T E) (x y : Shown) → x ≡ y
     → OnOk r (Appends s f o o1 ps ps1 x) → OnOk r (Appends s f o o1 ps ps1 y)

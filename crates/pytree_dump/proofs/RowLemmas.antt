@@ -2,7 +2,7 @@
 --
 -- Carries: show_expr, show_comprehension, show_stmt, show_stmts, show_handlers, show_function,
 -- show_two, show_three and 8 more.
-use Rattle.std.proofs.Common.{◌≡◌, ℕ, zero, suc, ◌+◌, ◌<◌, length, get_or, arith, List, [], ◌∷◌, map, ap, refl, Option, None, Some}
+use Rattle.std.proofs.Common.{◌≡◌, ℕ, zero, suc, ◌+◌, ◌<◌, ◌≤◌, length, get_or, arith, List, [], ◌∷◌, map, ap, refl, Option, None, Some}
 use Rattle.pytree_node.specs.declared.expressions.Expr.{Expr}
 use Rattle.pytree_node.specs.declared.expressions.Comprehension.{Comprehension}
 use Rattle.pytree_node.specs.declared.expressions.Keyword.{Keyword}
@@ -14,12 +14,18 @@ use Rattle.pytree_node.specs.declared.statements.TypeParam.{TypeParam}
 use Rattle.pytree_node.specs.Trees
 use Rattle.pytree_node.specs.Trees.{exprs, optional, optionals, comprehensions, keywords, args}
 use Rattle.pytree_node.specs.TreeOf.{tree_of, option_of, comprehension_of, keyword_of, arg_of, alias_of, item_of, type_param_of}
-use Rattle.pytree_dump_text.specs.Shows.{Shown, Fields, Row, shown_optional, shown_optionals, shown_comprehension, shown_comprehensions}
+use Rattle.pytree_dump_text.specs.Shows.{Shown, Fields, Node, Row, Scalar, shown_optional, shown_optionals, shown_comprehension, shown_comprehensions}
 use Rattle.pytree_dump_text.specs.Shows.{shown_keyword, shown_keywords, shown_arg, shown_args, shown_comparisons, word, comparison_name}
 use Rattle.pytree_dump_text.specs.Shows.{shown, shown_exprs, showns, a_shown, optional_field, expr_field, shown_name, shown_names}
 use Rattle.pytree_dump_text.specs.Shows.{shown_alias, shown_aliases, shown_item, shown_items, shown_type_param, shown_type_params}
 use Rattle.pytree_dump_text.specs.Slots.{Slot, missing, field, with_slot}
 use Rattle.pytree_dump.specs.Inner.Weights.{weight, field_weights, slot_weight}
+
+-- what is shown weighs something
+pub weighs : (x : Shown) → 1 ≤ weight x
+weighs (Scalar t) = omega arith
+weighs (Row xs) = omega arith
+weighs (Node class fs) = omega arith
 
 pub exprs_row : (es : List Expr) → shown_exprs (exprs (map tree_of es)) ≡ showns (map (λ e. shown (tree_of e)) es)
 exprs_row [] = refl

@@ -1,3 +1,4 @@
+pub mod Definitions
 pub mod Pieces
 pub mod Weights
 pub mod TypeParams

@@ -2,13 +2,13 @@
 
 ghost use Rattle.std.specs.Prelude.{◌≡◌, OnOk, codes, map, IfOk, true};
 ghost use Rattle.std.specs.String.{string_bytes};
-ghost use Rattle.pytree_dump_text.specs.Blocks.{listed, shown_block, shown_caught};
-ghost use Rattle.pytree_dump_text.specs.Shows.{a_field, expr_field, left_out, no_field, shown};
-ghost use Rattle.pytree_dump_text.specs.Shows.{shown_arguments, shown_item, shown_keyword};
-ghost use Rattle.pytree_dump_text.specs.Shows.{shown_name, type_params_field};
-ghost use Rattle.pytree_node.specs.TreeOf.{arguments_of, boxed_of, item_of, keyword_of, tree_of};
+ghost use Rattle.pytree_dump_text.specs.Blocks.{listed, shown_block};
+ghost use Rattle.pytree_dump_text.specs.Shows.{a_field, left_out, no_field, shown, shown_item};
+ghost use Rattle.pytree_dump_text.specs.Shows.{shown_stmt};
+ghost use Rattle.pytree_node.specs.TreeOf.{class_def_of, function_def_of, item_of, tree_of, try_of};
 ghost use Rattle.pytree_node.specs.TreeOf.{type_param_of};
-ghost use Rattle.pytree_marked.specs.Appends.{AppendsNode, AppendsField};
+ghost use Rattle.pytree_marked.specs.Appends.{Appends, AppendsField, AppendsNode};
+ghost use Rattle.pytree_dump.specs.Inner.Definitions.{function_def_fields, try_fields};
 ghost use Rattle.pytree_dump.specs.Inner.TypeParams.{type_params_before};
 
 use crate::handlers::show_caught;
@@ -19,7 +19,7 @@ use pytree_dump_text::{
     open,
 };
 use pytree_marked::{PlaceSource, end_node, is_told_on_line};
-use pytree_node::{Arguments, Expr, Handler, Identifier, Item, Keyword, Stmt, TypeParam, Version};
+use pytree_node::{ClassDef, Expr, FunctionDef, Item, Stmt, Try, TypeParam, Version};
 use std::alloc::AllocError;
 
 /// Appends a `while` or an `if`.
@@ -161,18 +161,12 @@ pub(crate) fn show_try<P: PlaceSource>(
     indentation: &mut String,
     style: Style,
     class: &'static str,
-    body: &[Stmt],
-    handlers: &[Handler],
-    orelse: &[Stmt],
-    finalbody: &[Stmt],
+    parts: &Try,
     places: &mut P,
 ) -> Result<(), AllocError>
     ensures text { OnOk result (AppendsNode true style (string_bytes indentation.old)
         (string_bytes out.old) (string_bytes out.new) (P.left places.old) (P.left places.new) class.now
-        (a_field (codes "body") (shown_block style.profile body.now)
-        (a_field (codes "handlers") (shown_caught style.profile handlers.now)
-        (a_field (codes "orelse") (shown_block style.profile orelse.now)
-        (a_field (codes "finalbody") (shown_block style.profile finalbody.now) no_field))))) }
+        (try_fields style.profile (try_of parts.now))) }
     ensures indentation { OnOk result (string_bytes indentation.new ≡ string_bytes indentation.old) }
 {
     let told = Told {
@@ -181,16 +175,32 @@ pub(crate) fn show_try<P: PlaceSource>(
         first: true,
     };
     let outer = open(out, indentation, style, class)?;
-    let told = show_block(out, indentation, style, told, Field::Body, body, places)?;
-    let told = show_caught(out, indentation, style, told, handlers, places)?;
-    let told = show_block(out, indentation, style, told, Field::Orelse, orelse, places)?;
+    let told = show_block(
+        out,
+        indentation,
+        style,
+        told,
+        Field::Body,
+        &parts.body,
+        places,
+    )?;
+    let told = show_caught(out, indentation, style, told, &parts.handlers, places)?;
+    let told = show_block(
+        out,
+        indentation,
+        style,
+        told,
+        Field::Orelse,
+        &parts.orelse,
+        places,
+    )?;
     let told = show_block(
         out,
         indentation,
         style,
         told,
         Field::Finalbody,
-        finalbody,
+        &parts.finalbody,
         places,
     )?;
     end_node(out, indentation, style, told, outer, places)?;
@@ -205,22 +215,12 @@ pub(crate) fn show_function<P: PlaceSource>(
     indentation: &mut String,
     style: Style,
     class: &'static str,
-    name: &Identifier,
-    args: &Arguments,
-    body: &[Stmt],
-    decorator_list: &[Expr],
-    returns: &Option<Box<Expr>>,
-    type_params: &[TypeParam],
+    def: &FunctionDef,
     places: &mut P,
 ) -> Result<(), AllocError>
     ensures text { OnOk result (AppendsNode true style (string_bytes indentation.old)
         (string_bytes out.old) (string_bytes out.new) (P.left places.old) (P.left places.new) class.now
-        (a_field (codes "name") (shown_name name.now)
-        (a_field (codes "args") (shown_arguments (arguments_of args.now))
-        (a_field (codes "body") (shown_block style.profile body.now)
-        (a_field (codes "decorator_list") (listed (λ e. shown (tree_of e)) decorator_list.now)
-        (expr_field (codes "returns") (boxed_of returns.now)
-        (left_out (type_params_field style.profile (map type_param_of type_params.now))))))))) }
+        (function_def_fields style.profile (function_def_of def.now))) }
     ensures indentation { OnOk result (string_bytes indentation.new ≡ string_bytes indentation.old) }
 {
     let told = Told {
@@ -234,7 +234,7 @@ pub(crate) fn show_function<P: PlaceSource>(
         indentation,
         style,
         told,
-        Part::Name(Field::Name, name),
+        Part::Name(Field::Name, &def.name),
         places,
     )?;
     let told = show_field(
@@ -242,16 +242,24 @@ pub(crate) fn show_function<P: PlaceSource>(
         indentation,
         style,
         told,
-        Part::Arguments(Field::Args, args),
+        Part::Arguments(Field::Args, &def.args),
         places,
     )?;
-    let told = show_block(out, indentation, style, told, Field::Body, body, places)?;
+    let told = show_block(
+        out,
+        indentation,
+        style,
+        told,
+        Field::Body,
+        &def.body,
+        places,
+    )?;
     let told = show_field(
         out,
         indentation,
         style,
         told,
-        Part::Exprs(Field::DecoratorList, decorator_list),
+        Part::Exprs(Field::DecoratorList, &def.decorator_list),
         places,
     )?;
     let told = show_field(
@@ -259,12 +267,12 @@ pub(crate) fn show_function<P: PlaceSource>(
         indentation,
         style,
         told,
-        boxed_part(Field::Returns, returns),
+        boxed_part(Field::Returns, &def.returns),
         places,
     )?;
     // The field `type_comment`.
     let told = show_field(out, indentation, style, told, Part::LeftOut, places)?;
-    let told = show_type_params(out, indentation, style, told, type_params, places)?;
+    let told = show_type_params(out, indentation, style, told, &def.type_params, places)?;
     end_node(out, indentation, style, told, outer, places)?;
     Ok(())
 }
@@ -276,22 +284,12 @@ pub(crate) fn show_class<P: PlaceSource>(
     out: &mut String,
     indentation: &mut String,
     style: Style,
-    name: &Identifier,
-    bases: &[Expr],
-    words: &[Keyword],
-    body: &[Stmt],
-    decorator_list: &[Expr],
-    type_params: &[TypeParam],
+    class: &ClassDef,
     places: &mut P,
 ) -> Result<(), AllocError>
-    ensures text { OnOk result (AppendsNode true style (string_bytes indentation.old)
-        (string_bytes out.old) (string_bytes out.new) (P.left places.old) (P.left places.new) (codes "ClassDef(")
-        (a_field (codes "name") (shown_name name.now)
-        (a_field (codes "bases") (listed (λ e. shown (tree_of e)) bases.now)
-        (a_field (codes "keywords") (listed (λ k. shown_keyword (keyword_of k)) words.now)
-        (a_field (codes "body") (shown_block style.profile body.now)
-        (a_field (codes "decorator_list") (listed (λ e. shown (tree_of e)) decorator_list.now)
-        (type_params_field style.profile (map type_param_of type_params.now)))))))) }
+    ensures text { OnOk result (Appends style (string_bytes indentation.old)
+        (string_bytes out.old) (string_bytes out.new) (P.left places.old) (P.left places.new)
+        (shown_stmt style.profile (class_def_of class.now))) }
     ensures indentation { OnOk result (string_bytes indentation.new ≡ string_bytes indentation.old) }
 {
     let told = Told {
@@ -305,7 +303,7 @@ pub(crate) fn show_class<P: PlaceSource>(
         indentation,
         style,
         told,
-        Part::Name(Field::Name, name),
+        Part::Name(Field::Name, &class.name),
         places,
     )?;
     let told = show_field(
@@ -313,7 +311,7 @@ pub(crate) fn show_class<P: PlaceSource>(
         indentation,
         style,
         told,
-        Part::Exprs(Field::Bases, bases),
+        Part::Exprs(Field::Bases, &class.bases),
         places,
     )?;
     let told = show_field(
@@ -321,19 +319,27 @@ pub(crate) fn show_class<P: PlaceSource>(
         indentation,
         style,
         told,
-        Part::Keywords(Field::Keywords, words),
+        Part::Keywords(Field::Keywords, &class.keywords),
         places,
     )?;
-    let told = show_block(out, indentation, style, told, Field::Body, body, places)?;
+    let told = show_block(
+        out,
+        indentation,
+        style,
+        told,
+        Field::Body,
+        &class.body,
+        places,
+    )?;
     let told = show_field(
         out,
         indentation,
         style,
         told,
-        Part::Exprs(Field::DecoratorList, decorator_list),
+        Part::Exprs(Field::DecoratorList, &class.decorator_list),
         places,
     )?;
-    let told = show_type_params(out, indentation, style, told, type_params, places)?;
+    let told = show_type_params(out, indentation, style, told, &class.type_params, places)?;
     end_node(out, indentation, style, told, outer, places)?;
     Ok(())
 }

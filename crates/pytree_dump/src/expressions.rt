@@ -4,6 +4,7 @@ ghost use Rattle.std.specs.Prelude.{◌≡◌, IfOk, OnOk};
 ghost use Rattle.std.specs.String.{string_bytes};
 ghost use Rattle.pytree_dump_text.specs.Layout.{dump_text};
 ghost use Rattle.pytree_dump_text.specs.Shows.{shown};
+ghost use Rattle.pytree_node.specs.TreeOf.{call_of, compare_of, dict_comp_of, dict_of, slice_of};
 ghost use Rattle.pytree_node.specs.TreeOf.{tree_of};
 ghost use Rattle.pytree_marked.specs.Appends.{Appends};
 
@@ -12,7 +13,7 @@ use crate::leaves::{show_constant_with, show_name_with};
 use crate::nodes::{show_one, show_three, show_two};
 use pytree_dump_text::{Field, Part, Style, boxed_part};
 use pytree_marked::{NoPlaces, PlaceSource};
-use pytree_node::Expr;
+use pytree_node::{Call, Compare, Dict, DictComp, Expr, Slice};
 use std::alloc::{AllocError, Global};
 
 /// Appends what an expression shows.
@@ -87,15 +88,7 @@ pub(crate) fn show_expr<P: PlaceSource>(
             Part::Expr(Field::Orelse, orelse),
             places,
         ),
-        Expr::Dict { keys, values } => show_two(
-            out,
-            indentation,
-            style,
-            "Dict(",
-            Part::Options(Field::Keys, keys),
-            Part::Exprs(Field::Values, values),
-            places,
-        ),
+        Expr::Dict(dict) => show_dict(out, indentation, style, dict, places),
         Expr::Set { elts } => show_one(
             out,
             indentation,
@@ -122,20 +115,7 @@ pub(crate) fn show_expr<P: PlaceSource>(
             Part::Comprehensions(Field::Generators, generators),
             places,
         ),
-        Expr::DictComp {
-            key,
-            value,
-            generators,
-        } => show_three(
-            out,
-            indentation,
-            style,
-            "DictComp(",
-            Part::Expr(Field::Key, key),
-            Part::Expr(Field::Value, value),
-            Part::Comprehensions(Field::Generators, generators),
-            places,
-        ),
+        Expr::DictComp(comp) => show_dict_comp(out, indentation, style, comp, places),
         Expr::GeneratorExp { elt, generators } => show_two(
             out,
             indentation,
@@ -169,40 +149,8 @@ pub(crate) fn show_expr<P: PlaceSource>(
             Part::Expr(Field::Value, value),
             places,
         ),
-        Expr::Compare {
-            left,
-            ops,
-            comparators,
-        } => show_three(
-            out,
-            indentation,
-            style,
-            "Compare(",
-            Part::Expr(Field::Left, left),
-            Part::Comparisons(Field::Ops, ops),
-            Part::Exprs(Field::Comparators, comparators),
-            places,
-        ),
-        Expr::Call {
-            func,
-            args,
-            keywords,
-        } => {
-            if is_joined(style, places) {
-                show_joined_call(out, indentation, style, func, args, keywords, places)
-            } else {
-                show_three(
-                    out,
-                    indentation,
-                    style,
-                    "Call(",
-                    Part::Expr(Field::Func, func),
-                    Part::Exprs(Field::Args, args),
-                    Part::Keywords(Field::Keywords, keywords),
-                    places,
-                )
-            }
-        }
+        Expr::Compare(compare) => show_compare(out, indentation, style, compare, places),
+        Expr::Call(call) => show_call(out, indentation, style, call, places),
         Expr::FormattedValue {
             value,
             conversion,
@@ -280,17 +228,146 @@ pub(crate) fn show_expr<P: PlaceSource>(
             Part::Context(*ctx),
             places,
         ),
-        Expr::Slice { lower, upper, step } => show_three(
+        Expr::Slice(slice) => show_slice(out, indentation, style, slice, places),
+    }
+}
+
+/// Appends what a dictionary shows.
+#[cycle(showing)]
+#[tactic(auto, using(pytree_node::proofs::Callers::ExprShapes::expr_shapes, crate::proofs::RowLemmas::rows))]
+fn show_dict<P: PlaceSource>(
+    out: &mut String,
+    indentation: &mut String,
+    style: Style,
+    dict: &Dict,
+    places: &mut P,
+) -> Result<(), AllocError>
+    ensures text { OnOk result (Appends style (string_bytes indentation.old)
+        (string_bytes out.old) (string_bytes out.new) (P.left places.old) (P.left places.new)
+        (shown (dict_of dict.now))) }
+    ensures indentation { OnOk result (string_bytes indentation.new ≡ string_bytes indentation.old) }
+{
+    show_two(
+        out,
+        indentation,
+        style,
+        "Dict(",
+        Part::Options(Field::Keys, &dict.keys),
+        Part::Exprs(Field::Values, &dict.values),
+        places,
+    )
+}
+
+/// Appends what a dictionary's comprehension shows.
+#[cycle(showing)]
+#[tactic(auto, using(pytree_node::proofs::Callers::ExprShapes::expr_shapes, crate::proofs::RowLemmas::rows))]
+fn show_dict_comp<P: PlaceSource>(
+    out: &mut String,
+    indentation: &mut String,
+    style: Style,
+    comp: &DictComp,
+    places: &mut P,
+) -> Result<(), AllocError>
+    ensures text { OnOk result (Appends style (string_bytes indentation.old)
+        (string_bytes out.old) (string_bytes out.new) (P.left places.old) (P.left places.new)
+        (shown (dict_comp_of comp.now))) }
+    ensures indentation { OnOk result (string_bytes indentation.new ≡ string_bytes indentation.old) }
+{
+    show_three(
+        out,
+        indentation,
+        style,
+        "DictComp(",
+        Part::Expr(Field::Key, &comp.key),
+        Part::Expr(Field::Value, &comp.value),
+        Part::Comprehensions(Field::Generators, &comp.generators),
+        places,
+    )
+}
+
+/// Appends what a comparison shows.
+#[cycle(showing)]
+#[tactic(auto, using(pytree_node::proofs::Callers::ExprShapes::expr_shapes, crate::proofs::RowLemmas::rows))]
+fn show_compare<P: PlaceSource>(
+    out: &mut String,
+    indentation: &mut String,
+    style: Style,
+    compare: &Compare,
+    places: &mut P,
+) -> Result<(), AllocError>
+    ensures text { OnOk result (Appends style (string_bytes indentation.old)
+        (string_bytes out.old) (string_bytes out.new) (P.left places.old) (P.left places.new)
+        (shown (compare_of compare.now))) }
+    ensures indentation { OnOk result (string_bytes indentation.new ≡ string_bytes indentation.old) }
+{
+    show_three(
+        out,
+        indentation,
+        style,
+        "Compare(",
+        Part::Expr(Field::Left, &compare.left),
+        Part::Comparisons(Field::Ops, &compare.ops),
+        Part::Exprs(Field::Comparators, &compare.comparators),
+        places,
+    )
+}
+
+/// Appends what a call shows.
+#[cycle(showing)]
+#[tactic(auto, using(pytree_node::proofs::Callers::ExprShapes::expr_shapes, crate::proofs::RowLemmas::rows))]
+fn show_call<P: PlaceSource>(
+    out: &mut String,
+    indentation: &mut String,
+    style: Style,
+    call: &Call,
+    places: &mut P,
+) -> Result<(), AllocError>
+    ensures text { OnOk result (Appends style (string_bytes indentation.old)
+        (string_bytes out.old) (string_bytes out.new) (P.left places.old) (P.left places.new)
+        (shown (call_of call.now))) }
+    ensures indentation { OnOk result (string_bytes indentation.new ≡ string_bytes indentation.old) }
+{
+    if is_joined(style, places) {
+        show_joined_call(out, indentation, style, call, places)
+    } else {
+        show_three(
             out,
             indentation,
             style,
-            "Slice(",
-            boxed_part(Field::Lower, lower),
-            boxed_part(Field::Upper, upper),
-            boxed_part(Field::Step, step),
+            "Call(",
+            Part::Expr(Field::Func, &call.func),
+            Part::Exprs(Field::Args, &call.args),
+            Part::Keywords(Field::Keywords, &call.keywords),
             places,
-        ),
+        )
     }
+}
+
+/// Appends what a slice shows.
+#[cycle(showing)]
+#[tactic(auto, using(pytree_node::proofs::Callers::ExprShapes::expr_shapes, crate::proofs::RowLemmas::rows))]
+fn show_slice<P: PlaceSource>(
+    out: &mut String,
+    indentation: &mut String,
+    style: Style,
+    slice: &Slice,
+    places: &mut P,
+) -> Result<(), AllocError>
+    ensures text { OnOk result (Appends style (string_bytes indentation.old)
+        (string_bytes out.old) (string_bytes out.new) (P.left places.old) (P.left places.new)
+        (shown (slice_of slice.now))) }
+    ensures indentation { OnOk result (string_bytes indentation.new ≡ string_bytes indentation.old) }
+{
+    show_three(
+        out,
+        indentation,
+        style,
+        "Slice(",
+        boxed_part(Field::Lower, &slice.lower),
+        boxed_part(Field::Upper, &slice.upper),
+        boxed_part(Field::Step, &slice.step),
+        places,
+    )
 }
 
 /// The dump text of an expression.

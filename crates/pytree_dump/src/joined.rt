@@ -6,15 +6,15 @@ ghost use Rattle.std.specs.String.{string_bytes};
 ghost use Rattle.pytree_dump_text.specs.Layout.{is_flat, text};
 ghost use Rattle.pytree_dump_text.specs.Shows.{Row, a_field, context_name, no_field, shown};
 ghost use Rattle.pytree_dump_text.specs.Shows.{shown_keyword, shown_name, showns, word};
-ghost use Rattle.pytree_node.specs.TreeOf.{keyword_of, tree_of};
-ghost use Rattle.pytree_marked.specs.Appends.{AppendsNode};
+ghost use Rattle.pytree_node.specs.TreeOf.{call_of, keyword_of, tree_of};
+ghost use Rattle.pytree_marked.specs.Appends.{Appends, AppendsNode};
 ghost use Rattle.pytree_marked.specs.Taking.{is_none_left};
 
 use crate::expressions::show_expr;
 use crate::lists::{show_exprs, show_keywords};
 use pytree_dump_text::{Style, is_flat, push_name_and_context};
 use pytree_marked::PlaceSource;
-use pytree_node::{Context, Expr, Identifier, Keyword};
+use pytree_node::{Call, Context, Expr, Identifier, Keyword};
 use std::alloc::AllocError;
 
 /// Whether a dump is one line with the names of fields, and no places are left.
@@ -82,23 +82,18 @@ pub(crate) fn show_joined_call<P: PlaceSource>(
     out: &mut String,
     indentation: &mut String,
     style: Style,
-    func: &Expr,
-    args: &[Expr],
-    keywords: &[Keyword],
+    call: &Call,
     places: &mut P,
 ) -> Result<(), AllocError>
     requires { (is_none_left (P.left places.old) && (is_flat style.indent && style.names)) ≡ true }
-    ensures text { OnOk result (AppendsNode true style (string_bytes indentation.old)
-        (string_bytes out.old) (string_bytes out.new) (P.left places.old) (P.left places.new) (codes "Call(")
-        (a_field (codes "func") (shown (tree_of func.now))
-        (a_field (codes "args") (Row (showns (map (λ e. shown (tree_of e)) args.now)))
-        (a_field (codes "keywords")
-        (Row (showns (map (λ k. shown_keyword (keyword_of k)) keywords.now))) no_field)))) }
+    ensures text { OnOk result (Appends style (string_bytes indentation.old)
+        (string_bytes out.old) (string_bytes out.new) (P.left places.old) (P.left places.new)
+        (shown (call_of call.now))) }
     ensures indentation { OnOk result (string_bytes indentation.new ≡ string_bytes indentation.old) }
 {
     out.push_str("Call(func=")?;
-    show_expr(out, indentation, style, func, places)?;
+    show_expr(out, indentation, style, &call.func, places)?;
     out.push_str(", args=")?;
-    show_exprs(out, indentation, style, args, places)?;
-    show_joined_keywords(out, indentation, style, keywords, places)
+    show_exprs(out, indentation, style, &call.args, places)?;
+    show_joined_keywords(out, indentation, style, &call.keywords, places)
 }

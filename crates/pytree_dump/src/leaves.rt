@@ -50,7 +50,7 @@ fn kind_part<'a>(value: &Constant) -> Part<'a>
         → with_slot (slot_of result) rest ≡ kind_field (constant_of value.now) rest }
 {
     match value {
-        Constant::Str { unicode: true, .. } => Part::Kind,
+        Constant::UnicodeStr(_) => Part::Kind,
         _ => Part::LeftOut,
     }
 }

@@ -131,7 +131,7 @@ fn constant_end(named: bool, value: &Constant) -> &'static str
     ensures { result.now ≡ kind_shown named (constant_of value.now) ++ codes ")" }
 {
     match value {
-        Constant::Str { unicode: true, .. } => { if named { ", kind='u')" } else { ", 'u')" } }
+        Constant::UnicodeStr(_) => { if named { ", kind='u')" } else { ", 'u')" } }
         _ => ")",
     }
 }

@@ -23,17 +23,17 @@ pub(crate) fn is_bare(e: &Expr) -> bool
         Expr::UnaryOp { .. } => false,
         Expr::Lambda { .. } => false,
         Expr::IfExp { .. } => false,
-        Expr::Dict { .. } => false,
+        Expr::Dict(_) => false,
         Expr::Set { .. } => false,
         Expr::ListComp { .. } => false,
         Expr::SetComp { .. } => false,
-        Expr::DictComp { .. } => false,
+        Expr::DictComp(_) => false,
         Expr::GeneratorExp { .. } => false,
         Expr::Await { .. } => false,
         Expr::Yield { value } => value.is_none(),
         Expr::YieldFrom { .. } => false,
-        Expr::Compare { .. } => false,
-        Expr::Call { .. } => false,
+        Expr::Compare(_) => false,
+        Expr::Call(_) => false,
         Expr::FormattedValue { .. } => false,
         Expr::JoinedStr { .. } => false,
         Expr::Constant { .. } => false,
@@ -43,7 +43,13 @@ pub(crate) fn is_bare(e: &Expr) -> bool
         Expr::Name { .. } => false,
         Expr::List { .. } => false,
         Expr::Tuple { .. } => false,
-        Expr::Slice { lower, upper, step } => all(lower.is_none(), upper.is_none(), step.is_none()),
+        Expr::Slice(slice) => {
+            all(
+                slice.lower.is_none(),
+                slice.upper.is_none(),
+                slice.step.is_none(),
+            )
+        }
     }
 }
 

@@ -140,7 +140,8 @@ pub fn push_value(out: &mut String, value: &Constant) -> Result<(), AllocError>
         Constant::Int(number) => number.push_decimal(out),
         Constant::Float(value) => push_float(out, *value),
         Constant::Imaginary(value) => push_imaginary(out, *value),
-        Constant::Str { points, .. } => push_repr_points(out, points.as_slice()),
+        Constant::Str(points) => push_repr_points(out, points.as_slice()),
+        Constant::UnicodeStr(points) => push_repr_points(out, points.as_slice()),
         Constant::Bytes(bytes) => push_repr_bytes(out, bytes.as_slice()),
     }
 }

@@ -6,7 +6,7 @@ use Rattle.pytree_node.specs.declared.operators.Context.TheVariants.{Store, Del}
 use Rattle.pytree_node.specs.declared.profiles.Profile.{Profile}
 use Rattle.pytree_node.specs.Trees
 use Rattle.pytree_node.specs.Trees.{Identifier, Expr, exprs, optional, Stmt, Stmts, no_stmt, a_stmt, stmts, Cases, no_case, a_case}
-use Rattle.pytree_node.specs.Trees.{Handlers, no_handler, a_handler, Alias, Item, TypeParam, Module}
+use Rattle.pytree_node.specs.Trees.{Handlers, no_handler, a_handler, handlers, Alias, Item, TypeParam, TryFields, Module}
 use Rattle.pygrammar.specs.declared.levels.Level.TheVariants.{Value, Stars, Expression, Elem}
 use Rattle.pygrammar.specs.declared.pattern_levels.PatternLevel.TheVariants.{AsPattern}
 use Rattle.pygrammar.specs.Forms.{is_whole}
@@ -164,6 +164,11 @@ abbrev mutual
   handlers_fit p n star no_handler = true
   handlers_fit p n star (a_handler class name body hs) =
       caught_fits n star class name && suite_fits p n body && handlers_fit p n star hs
+
+-- a `try` by its fields, with `except*` or with `except`
+abbrev pub try_fits : Profile → Tests → (star : Bool) → TryFields → Bool
+try_fits p n star f = clauses_fit star (handlers f.handlers) (stmts f.orelse) (stmts f.finalbody) && suite_fits p n (stmts f.body)
+    && handlers_fit p n star (handlers f.handlers) && statements_fit p n (stmts f.orelse) && statements_fit p n (stmts f.finalbody)
 
 -- the statements of a module
 abbrev pub module_fits : Profile → Tests → Module → Bool

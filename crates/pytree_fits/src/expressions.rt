@@ -3,7 +3,9 @@
 ghost use Rattle.std.specs.Prelude.{◌≡◌, ◌&&◌, IfOk, map};
 ghost use Rattle.pytree_node.specs.declared.operators.Context.TheVariants as contexts;
 ghost use Rattle.pygrammar.specs.declared.levels.Level.TheVariants as levels;
-ghost use Rattle.pytree_node.specs.TreeOf.{boxed_of, comprehension_of, keyword_of, option_of, tree_of};
+ghost use Rattle.pytree_node.specs.TreeOf.{boxed_of, call_of, compare_of, comprehension_of};
+ghost use Rattle.pytree_node.specs.TreeOf.{dict_comp_of, dict_of, keyword_of, option_of, slice_of};
+ghost use Rattle.pytree_node.specs.TreeOf.{tree_of};
 ghost use Rattle.pytree_node.specs.Trees.{comprehensions, exprs, keywords, optional, optionals};
 ghost use Rattle.pytree_fits.specs.Names.{is_name};
 ghost use Rattle.pytree_fits.specs.Slots.{each_clause_fits, each_fits, each_keyword_fits};
@@ -21,7 +23,7 @@ use crate::places::{is_a_name, is_context, member_level, takes_slice, takes_star
 use crate::strings::joined_fits;
 use crate::targets::target_fits;
 use pygrammar::Level;
-use pytree_node::{Comprehension, Context, Expr, Keyword};
+use pytree_node::{Call, Compare, Comprehension, Context, Dict, DictComp, Expr, Keyword, Slice};
 use std::alloc::AllocError;
 
 /// Whether an expression fits a level of the grammar: whether each of its fields has what may stand
@@ -54,11 +56,7 @@ pub fn expr_fits(asked: Asked, expr: &Expr, level: Level) -> Result<bool, AllocE
                 && expr_fits(asked, body, Level::Expression)?
                 && expr_fits(asked, orelse, Level::Expression)?,
         ),
-        Expr::Dict { keys, values } => Ok(
-            are_pairs(keys, values)
-                && options_fit(asked, keys)?
-                && exprs_fit(asked, values, Level::Expression)?,
-        ),
+        Expr::Dict(dict) => dict_fits(asked, dict),
         Expr::Set { elts } => Ok(are_at_least(elts, 1) && exprs_fit(asked, elts, Level::Elem)?),
         Expr::ListComp { elt, generators } => Ok(
             has_clause(generators)
@@ -70,22 +68,7 @@ pub fn expr_fits(asked: Asked, expr: &Expr, level: Level) -> Result<bool, AllocE
                 && expr_fits(asked, elt, Level::Expression)?
                 && clauses_fit(asked, generators)?,
         ),
-        Expr::DictComp {
-            key,
-            value,
-            generators,
-        } => {
-            if !has_clause(generators) {
-                return Ok(false);
-            }
-            if !expr_fits(asked, key, Level::Expression)? {
-                return Ok(false);
-            }
-            if !expr_fits(asked, value, Level::Expression)? {
-                return Ok(false);
-            }
-            clauses_fit(asked, generators)
-        }
+        Expr::DictComp(comp) => dict_comp_fits(asked, comp),
         Expr::GeneratorExp { elt, generators } => Ok(
             has_clause(generators)
                 && expr_fits(asked, elt, Level::Expression)?
@@ -94,32 +77,8 @@ pub fn expr_fits(asked: Asked, expr: &Expr, level: Level) -> Result<bool, AllocE
         Expr::Await { value } => expr_fits(asked, value, Level::Expression),
         Expr::Yield { value } => boxed_fits(asked, value, Level::Stars),
         Expr::YieldFrom { value } => expr_fits(asked, value, Level::Expression),
-        Expr::Compare {
-            left,
-            ops,
-            comparators,
-        } => {
-            if !are_comparisons(ops, comparators) {
-                return Ok(false);
-            }
-            if !expr_fits(asked, left, Level::Expression)? {
-                return Ok(false);
-            }
-            exprs_fit(asked, comparators, Level::Expression)
-        }
-        Expr::Call {
-            func,
-            args,
-            keywords,
-        } => {
-            if !expr_fits(asked, func, Level::Expression)? {
-                return Ok(false);
-            }
-            if !exprs_fit(asked, args, Level::Elem)? {
-                return Ok(false);
-            }
-            keywords_fit(asked, keywords)
-        }
+        Expr::Compare(compare) => compare_fits(asked, compare),
+        Expr::Call(call) => call_fits(asked, call),
         Expr::FormattedValue { .. } => Ok(false),
         Expr::JoinedStr { values } => joined_fits(asked, values),
         Expr::Constant { value } => Ok(constant_fits(asked, value)),
@@ -147,19 +106,89 @@ pub fn expr_fits(asked: Asked, expr: &Expr, level: Level) -> Result<bool, AllocE
         Expr::Tuple { elts, ctx } => Ok(
             is_context(Context::Load, *ctx) && exprs_fit(asked, elts, member_level(level))?,
         ),
-        Expr::Slice { lower, upper, step } => {
-            if !takes_slice(level) {
-                return Ok(false);
-            }
-            if !boxed_fits(asked, lower, Level::Expression)? {
-                return Ok(false);
-            }
-            if !boxed_fits(asked, upper, Level::Expression)? {
-                return Ok(false);
-            }
-            boxed_fits(asked, step, Level::Expression)
-        }
+        Expr::Slice(slice) => Ok(takes_slice(level) && slice_fits(asked, slice)?),
     }
+}
+
+/// Whether a dictionary fits.
+#[cycle(fits)]
+#[tactic(auto, using(pytree_node::proofs::Callers::ExprShapes::expr_shapes))]
+fn dict_fits(asked: Asked, dict: &Dict) -> Result<bool, AllocError>
+    ensures { IfOk result
+        (λ told. told ≡ fits_at (tests_at asked.extent asked.fields) levels.Expression (dict_of dict.now)) }
+{
+    Ok(
+        are_pairs(&dict.keys, &dict.values)
+            && options_fit(asked, &dict.keys)?
+            && exprs_fit(asked, &dict.values, Level::Expression)?,
+    )
+}
+
+/// Whether a dictionary's comprehension fits.
+#[cycle(fits)]
+#[tactic(auto, using(pytree_node::proofs::Callers::ExprShapes::expr_shapes))]
+fn dict_comp_fits(asked: Asked, comp: &DictComp) -> Result<bool, AllocError>
+    ensures { IfOk result
+        (λ told. told ≡ fits_at (tests_at asked.extent asked.fields) levels.Expression (dict_comp_of comp.now)) }
+{
+    if !has_clause(&comp.generators) {
+        return Ok(false);
+    }
+    if !expr_fits(asked, &comp.key, Level::Expression)? {
+        return Ok(false);
+    }
+    if !expr_fits(asked, &comp.value, Level::Expression)? {
+        return Ok(false);
+    }
+    clauses_fit(asked, &comp.generators)
+}
+
+/// Whether a comparison fits.
+#[cycle(fits)]
+#[tactic(auto, using(pytree_node::proofs::Callers::ExprShapes::expr_shapes))]
+fn compare_fits(asked: Asked, compare: &Compare) -> Result<bool, AllocError>
+    ensures { IfOk result
+        (λ told. told ≡ fits_at (tests_at asked.extent asked.fields) levels.Expression (compare_of compare.now)) }
+{
+    if !are_comparisons(&compare.ops, &compare.comparators) {
+        return Ok(false);
+    }
+    if !expr_fits(asked, &compare.left, Level::Expression)? {
+        return Ok(false);
+    }
+    exprs_fit(asked, &compare.comparators, Level::Expression)
+}
+
+/// Whether a call fits.
+#[cycle(fits)]
+#[tactic(auto, using(pytree_node::proofs::Callers::ExprShapes::expr_shapes))]
+fn call_fits(asked: Asked, call: &Call) -> Result<bool, AllocError>
+    ensures { IfOk result
+        (λ told. told ≡ fits_at (tests_at asked.extent asked.fields) levels.Expression (call_of call.now)) }
+{
+    if !expr_fits(asked, &call.func, Level::Expression)? {
+        return Ok(false);
+    }
+    if !exprs_fit(asked, &call.args, Level::Elem)? {
+        return Ok(false);
+    }
+    keywords_fit(asked, &call.keywords)
+}
+
+/// Whether a slice fits, where one may stand.
+#[cycle(fits)]
+#[tactic(auto, using(pytree_node::proofs::Callers::ExprShapes::expr_shapes))]
+fn slice_fits(asked: Asked, slice: &Slice) -> Result<bool, AllocError>
+    ensures { IfOk result
+        (λ told. told ≡ fits_at (tests_at asked.extent asked.fields) levels.Slices (slice_of slice.now)) }
+{
+    if !boxed_fits(asked, &slice.lower, Level::Expression)? {
+        return Ok(false);
+    }
+    if !boxed_fits(asked, &slice.upper, Level::Expression)? {
+        return Ok(false);
+    }
+    boxed_fits(asked, &slice.step, Level::Expression)
 }
 
 /// Whether an expression that may be absent fits a level.

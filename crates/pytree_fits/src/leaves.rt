@@ -40,7 +40,8 @@ pub(crate) fn constant_fits(asked: Asked, value: &Constant) -> bool
         Constant::Int(number) => integer_fits(asked.extent, number),
         Constant::Float(double) => double_fits(asked.extent, double),
         Constant::Imaginary(double) => double_fits(asked.extent, double),
-        Constant::Str { points, .. } => points_fit(points.as_slice(), asked.fields),
+        Constant::Str(points) => points_fit(points.as_slice(), asked.fields),
+        Constant::UnicodeStr(points) => points_fit(points.as_slice(), asked.fields),
         Constant::Bytes(bytes) => bytes_fit(bytes, asked.fields),
     }
 }

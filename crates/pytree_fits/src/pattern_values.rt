@@ -76,7 +76,8 @@ fn is_literal(value: &Constant) -> bool
     ensures { result ≡ is_literal (constant_of value.now) }
 {
     match value {
-        Constant::Str { .. } => true,
+        Constant::Str(_) => true,
+        Constant::UnicodeStr(_) => true,
         Constant::Bytes(_) => true,
         _ => false,
     }

@@ -127,12 +127,12 @@ pub(crate) fn ann_assign_fits(
 /// Whether what `raise` raises fits, and from what.
 pub(crate) fn raise_fits(
     asked: Asked,
-    exc: &Option<Expr>,
-    cause: &Option<Expr>,
+    exc: &Option<Box<Expr>>,
+    cause: &Option<Box<Expr>>,
 ) -> Result<bool, AllocError>
     ensures { IfOk result
         (λ told. told
-        ≡ raised_fits (tests_at asked.extent asked.fields) (option_of exc.now) (option_of cause.now)) }
+        ≡ raised_fits (tests_at asked.extent asked.fields) (boxed_of exc.now) (boxed_of cause.now)) }
 {
     match (exc, cause) {
         (None, None) => Ok(true),
@@ -146,13 +146,17 @@ pub(crate) fn raise_fits(
 }
 
 /// Whether an `assert` fits.
-pub(crate) fn assert_fits(asked: Asked, test: &Expr, msg: &Option<Expr>) -> Result<bool, AllocError>
+pub(crate) fn assert_fits(
+    asked: Asked,
+    test: &Expr,
+    msg: &Option<Box<Expr>>,
+) -> Result<bool, AllocError>
     ensures { IfOk result
         (λ told. told
         ≡ (fits_at (tests_at asked.extent asked.fields) levels.Expression (tree_of test.now) &&
-        perhaps_fits (tests_at asked.extent asked.fields) levels.Expression (optional (option_of msg.now)))) }
+        perhaps_fits (tests_at asked.extent asked.fields) levels.Expression (optional (boxed_of msg.now)))) }
 {
-    Ok(expr_fits(asked, test, Level::Expression)? && option_fits(asked, msg, Level::Expression)?)
+    Ok(expr_fits(asked, test, Level::Expression)? && boxed_fits(asked, msg, Level::Expression)?)
 }
 
 /// Whether a version has type parameters, and the statement `type`.

@@ -1,14 +1,15 @@
 //! Whether statements fit, with those inside.
 
 ghost use Rattle.std.specs.Prelude.{◌≡◌, ◌&&◌, IfOk, map};
-ghost use Rattle.pytree_node.specs.TreeOf.{case_of, handler_of, stmt_of};
-ghost use Rattle.pytree_node.specs.Trees.{cases, handlers, optional, stmts};
+ghost use Rattle.pytree_node.specs.TreeOf.{case_of, class_def_of, function_def_of, handler_of};
+ghost use Rattle.pytree_node.specs.TreeOf.{stmt_of, try_of};
+ghost use Rattle.pytree_node.specs.Trees.{cases, function_def, handlers, optional, stmts};
 ghost use Rattle.pygrammar.specs.declared.levels.Level.TheVariants as levels;
 ghost use Rattle.pygrammar.specs.declared.pattern_levels.PatternLevel.TheVariants as pattern_levels;
 ghost use Rattle.pytree_fits.specs.PatternSlots.{pattern_fits_at};
 ghost use Rattle.pytree_fits.specs.Slots.{perhaps_fits};
 ghost use Rattle.pytree_fits.specs.Statements.{cases_fit, caught_fits, handlers_fit};
-ghost use Rattle.pytree_fits.specs.Statements.{statement_fits, statements_fit, suite_fits};
+ghost use Rattle.pytree_fits.specs.Statements.{statement_fits, statements_fit, suite_fits, try_fits};
 ghost use Rattle.pytree_fits.specs.Tests.{tests_in};
 
 use crate::asking::Asked;
@@ -23,7 +24,7 @@ use crate::simple::{
     some_targets_fit, type_alias_fits,
 };
 use pygrammar::Level;
-use pytree_node::{Case, Context, Handler, Profile, Stmt};
+use pytree_node::{Case, ClassDef, Context, FunctionDef, Handler, Profile, Stmt, Try};
 use std::alloc::{AllocError, Global};
 
 /// Whether a statement fits.
@@ -40,72 +41,9 @@ fn statement_fits(alloc: Global, profile: Profile, s: &Stmt) -> Result<bool, All
         fields: 0,
     };
     match s {
-        Stmt::FunctionDef {
-            name,
-            args,
-            body,
-            decorator_list,
-            returns,
-            type_params,
-        } => {
-            let head = function_head_fits(
-                asked,
-                profile,
-                name,
-                args,
-                decorator_list,
-                returns,
-                type_params,
-            )?;
-            if !head {
-                return Ok(false);
-            }
-            suite_fits(alloc, profile, body)
-        }
-        Stmt::AsyncFunctionDef {
-            name,
-            args,
-            body,
-            decorator_list,
-            returns,
-            type_params,
-        } => {
-            let head = function_head_fits(
-                asked,
-                profile,
-                name,
-                args,
-                decorator_list,
-                returns,
-                type_params,
-            )?;
-            if !head {
-                return Ok(false);
-            }
-            suite_fits(alloc, profile, body)
-        }
-        Stmt::ClassDef {
-            name,
-            bases,
-            keywords,
-            body,
-            decorator_list,
-            type_params,
-        } => {
-            let head = class_head_fits(
-                asked,
-                profile,
-                name,
-                bases,
-                keywords,
-                decorator_list,
-                type_params,
-            )?;
-            if !head {
-                return Ok(false);
-            }
-            suite_fits(alloc, profile, body)
-        }
+        Stmt::FunctionDef(def) => function_fits(alloc, profile, def),
+        Stmt::AsyncFunctionDef(def) => function_fits(alloc, profile, def),
+        Stmt::ClassDef(class) => class_fits(alloc, profile, class),
         Stmt::Return { value } => option_fits(asked, value, Level::Stars),
         Stmt::Delete { targets } => some_targets_fit(asked, targets, Context::Del),
         Stmt::Assign { targets, value } => assign_fits(asked, targets, value),
@@ -182,46 +120,8 @@ fn statement_fits(alloc: Global, profile: Profile, s: &Stmt) -> Result<bool, All
             cases_fit(alloc, profile, cases)
         }
         Stmt::Raise { exc, cause } => raise_fits(asked, exc, cause),
-        Stmt::Try {
-            body,
-            handlers,
-            orelse,
-            finalbody,
-        } => {
-            if !clauses_fit(false, handlers, orelse, finalbody) {
-                return Ok(false);
-            }
-            if !suite_fits(alloc, profile, body)? {
-                return Ok(false);
-            }
-            if !handlers_fit(alloc, profile, false, handlers)? {
-                return Ok(false);
-            }
-            if !statements_fit(alloc, profile, orelse)? {
-                return Ok(false);
-            }
-            statements_fit(alloc, profile, finalbody)
-        }
-        Stmt::TryStar {
-            body,
-            handlers,
-            orelse,
-            finalbody,
-        } => {
-            if !clauses_fit(true, handlers, orelse, finalbody) {
-                return Ok(false);
-            }
-            if !suite_fits(alloc, profile, body)? {
-                return Ok(false);
-            }
-            if !handlers_fit(alloc, profile, true, handlers)? {
-                return Ok(false);
-            }
-            if !statements_fit(alloc, profile, orelse)? {
-                return Ok(false);
-            }
-            statements_fit(alloc, profile, finalbody)
-        }
+        Stmt::Try(parts) => try_fits(alloc, profile, false, parts),
+        Stmt::TryStar(parts) => try_fits(alloc, profile, true, parts),
         Stmt::Assert { test, msg } => assert_fits(asked, test, msg),
         Stmt::Import { names } => modules_fit(alloc, names),
         Stmt::ImportFrom {
@@ -236,6 +136,84 @@ fn statement_fits(alloc: Global, profile: Profile, s: &Stmt) -> Result<bool, All
         Stmt::Break => Ok(true),
         Stmt::Continue => Ok(true),
     }
+}
+
+/// Whether the definition of a function fits.
+#[cycle(statements)]
+#[tactic(auto, using(pytree_node::proofs::Callers::StmtShapes::stmt_shapes))]
+fn function_fits(alloc: Global, profile: Profile, def: &FunctionDef) -> Result<bool, AllocError>
+    ensures { IfOk result (λ told. told
+        ≡ statement_fits profile (tests_in profile.extent) (function_def (function_def_of def.now))) }
+{
+    let extent = profile.extent;
+    let asked = Asked {
+        alloc,
+        extent,
+        fields: 0,
+    };
+    let head = function_head_fits(
+        asked,
+        profile,
+        &def.name,
+        &def.args,
+        &def.decorator_list,
+        &def.returns,
+        &def.type_params,
+    )?;
+    if !head {
+        return Ok(false);
+    }
+    suite_fits(alloc, profile, &def.body)
+}
+
+/// Whether the definition of a class fits.
+#[cycle(statements)]
+#[tactic(auto, using(pytree_node::proofs::Callers::StmtShapes::stmt_shapes))]
+fn class_fits(alloc: Global, profile: Profile, class: &ClassDef) -> Result<bool, AllocError>
+    ensures { IfOk result (λ told. told
+        ≡ statement_fits profile (tests_in profile.extent) (class_def_of class.now)) }
+{
+    let extent = profile.extent;
+    let asked = Asked {
+        alloc,
+        extent,
+        fields: 0,
+    };
+    let head = class_head_fits(
+        asked,
+        profile,
+        &class.name,
+        &class.bases,
+        &class.keywords,
+        &class.decorator_list,
+        &class.type_params,
+    )?;
+    if !head {
+        return Ok(false);
+    }
+    suite_fits(alloc, profile, &class.body)
+}
+
+/// Whether a `try` fits, with `except*` or with `except`.
+#[cycle(statements)]
+#[tactic(auto, using(pytree_node::proofs::Callers::StmtShapes::stmt_shapes))]
+fn try_fits(alloc: Global, profile: Profile, star: bool, parts: &Try) -> Result<bool, AllocError>
+    ensures { IfOk result
+        (λ told. told ≡ try_fits profile (tests_in profile.extent) star (try_of parts.now)) }
+{
+    if !clauses_fit(star, &parts.handlers, &parts.orelse, &parts.finalbody) {
+        return Ok(false);
+    }
+    if !suite_fits(alloc, profile, &parts.body)? {
+        return Ok(false);
+    }
+    if !handlers_fit(alloc, profile, star, &parts.handlers)? {
+        return Ok(false);
+    }
+    if !statements_fit(alloc, profile, &parts.orelse)? {
+        return Ok(false);
+    }
+    statements_fit(alloc, profile, &parts.finalbody)
 }
 
 /// Whether the block of a header fits: there are statements, and each fits.

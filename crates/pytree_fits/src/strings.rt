@@ -6,7 +6,7 @@ ghost use Rattle.pytree_node.specs.Trees.{exprs, optional};
 ghost use Rattle.pytree_node.specs.Trees as trees;
 ghost use Rattle.pytree_fits.specs.Slots.{are_apart, each_value_fits, has_kind, have_kind};
 ghost use Rattle.pytree_fits.specs.Slots.{is_text, joined_fits, may_be_joined, spec_fits};
-ghost use Rattle.pytree_fits.specs.Slots.{spec_has_kind, value_fits};
+ghost use Rattle.pytree_fits.specs.Slots.{spec_has_kind, text_fits, value_fits};
 ghost use Rattle.pytree_fits.specs.Tests.{tests_at};
 
 use crate::asking::Asked;
@@ -14,7 +14,7 @@ use crate::expressions::expr_fits;
 use crate::headers::is_whole;
 use crate::texts::formatted_fits;
 use pygrammar::Level;
-use pytree_node::{Constant, Expr};
+use pytree_node::{Constant, Expr, Points};
 use std::alloc::AllocError;
 
 /// Whether the values of a JoinedStr fit.
@@ -109,12 +109,18 @@ fn text_fits(asked: Asked, value: &Constant, depth: usize) -> bool
         (trees.Constant (constant_of value.now)) }
 {
     match value {
-        Constant::Str { points, .. } => {
-            let points = points.as_slice();
-            !points.is_empty() && formatted_fits(points, asked.fields, depth)
-        }
+        Constant::Str(points) => points_fit(asked, points, depth),
+        Constant::UnicodeStr(points) => points_fit(asked, points, depth),
         _ => false,
     }
+}
+
+/// Whether a text may stand in an f-string: whether it isn't empty, and can be written there.
+fn points_fit(asked: Asked, points: &Points, depth: usize) -> bool
+    ensures { result ≡ text_fits (tests_at asked.extent asked.fields) depth points.now }
+{
+    let points = points.as_slice();
+    !points.is_empty() && formatted_fits(points, asked.fields, depth)
 }
 
 /// Whether a value is a text.
@@ -191,7 +197,8 @@ fn is_of_kind(value: &Constant, unicode: bool) -> bool
     ensures { result ≡ has_kind unicode false (trees.Constant (constant_of value.now)) }
 {
     match value {
-        Constant::Str { unicode: kind, .. } => *kind == unicode,
+        Constant::Str(_) => !unicode,
+        Constant::UnicodeStr(_) => unicode,
         _ => true,
     }
 }

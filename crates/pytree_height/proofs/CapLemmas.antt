@@ -27,12 +27,6 @@ pub ruleset caps = (capped-zero, capped-one, capped-max, capped-more)
 pub two : (a b : ℕ) {x y m : ℕ} → x ≡ capped a → y ≡ capped b → m ≡ max x y → m ≡ capped (max a b)
 two a b ex ey em = em ∙ (λ i. max (ex i) (ey i)) ∙ sym (capped-max a b)
 
--- 1 more than the highest of three
-pub three : (a b c : ℕ) {x y z m n r : ℕ} → x ≡ capped a → y ≡ capped b → z ≡ capped c → m ≡ max y z → n ≡ max x m → r ≡ capped (n + 1) →
-    r ≡ capped (max a (max b c) + 1)
-three a b c ex ey ez em en er = er ∙ ap (λ k. capped (k + 1)) (two a (max b c) ex (two b c ey ez em) en)
-    ∙ sym (capped-more (max a (max b c)))
-
 module _ {A : Type 0} (highest : List A → ℕ) (one : A → ℕ) (none : highest [] ≡ 0)
     (first : (y : A) (ys : List A) → highest (y ∷ ys) ≡ max (one y) (highest ys)) where
   -- the highest of a list that is longer by one

@@ -5,12 +5,13 @@ ghost use Rattle.pytree_height.specs.Heights.{capped, arg_height, arg_heights, a
 ghost use Rattle.pytree_height.specs.Heights.{comprehension_heights, height, heights, keyword_heights};
 ghost use Rattle.pytree_height.specs.Heights.{optional_arg_height, optional_height, optional_heights};
 ghost use Rattle.pytree_node.specs.TreeOf.{arg_of, arg_option_of, arguments_of, boxed_of};
-ghost use Rattle.pytree_node.specs.TreeOf.{comprehension_of, keyword_of, option_of, tree_of};
+ghost use Rattle.pytree_node.specs.TreeOf.{call_of, comprehension_of, dict_comp_of, keyword_of};
+ghost use Rattle.pytree_node.specs.TreeOf.{option_of, slice_of, tree_of};
 ghost use Rattle.pytree_node.specs.Trees.{args, comprehensions, exprs, keywords, optional, optional_arg};
 ghost use Rattle.pytree_node.specs.Trees.{optionals};
 
 use crate::modules::one_more;
-use pytree_node::{Arg, Arguments, Comprehension, Expr, Keyword};
+use pytree_node::{Arg, Arguments, Call, Comprehension, DictComp, Expr, Keyword, Slice};
 
 /// The height of an expression.
 #[cycle(expression_height)]
@@ -27,7 +28,7 @@ pub(crate) fn expr_height(e: &Expr) -> u64
         Expr::IfExp { test, body, orelse } => {
             one_more(expr_height(test).max(expr_height(body).max(expr_height(orelse))))
         }
-        Expr::Dict { keys, values } => one_more(options_height(keys).max(exprs_height(values))),
+        Expr::Dict(dict) => { one_more(options_height(&dict.keys).max(exprs_height(&dict.values))) }
         Expr::Set { elts } => one_more(exprs_height(elts)),
         Expr::ListComp { elt, generators } => {
             one_more(expr_height(elt).max(generators_height(generators)))
@@ -35,27 +36,17 @@ pub(crate) fn expr_height(e: &Expr) -> u64
         Expr::SetComp { elt, generators } => {
             one_more(expr_height(elt).max(generators_height(generators)))
         }
-        Expr::DictComp {
-            key,
-            value,
-            generators,
-        } => one_more(expr_height(key).max(expr_height(value).max(generators_height(generators)))),
+        Expr::DictComp(comp) => dict_comp_height(comp),
         Expr::GeneratorExp { elt, generators } => {
             one_more(expr_height(elt).max(generators_height(generators)))
         }
         Expr::Await { value } => one_more(expr_height(value)),
         Expr::Yield { value } => one_more(boxed_height(value)),
         Expr::YieldFrom { value } => one_more(expr_height(value)),
-        Expr::Compare {
-            left,
-            comparators,
-            ..
-        } => one_more(expr_height(left).max(exprs_height(comparators))),
-        Expr::Call {
-            func,
-            args,
-            keywords,
-        } => one_more(expr_height(func).max(exprs_height(args).max(keywords_height(keywords)))),
+        Expr::Compare(compare) => {
+            one_more(expr_height(&compare.left).max(exprs_height(&compare.comparators)))
+        }
+        Expr::Call(call) => call_height(call),
         Expr::FormattedValue {
             value,
             format_spec,
@@ -71,10 +62,38 @@ pub(crate) fn expr_height(e: &Expr) -> u64
         Expr::Name { .. } => 1,
         Expr::List { elts, .. } => one_more(exprs_height(elts)),
         Expr::Tuple { elts, .. } => one_more(exprs_height(elts)),
-        Expr::Slice { lower, upper, step } => {
-            one_more(boxed_height(lower).max(boxed_height(upper).max(boxed_height(step))))
-        }
+        Expr::Slice(slice) => slice_height(slice),
     }
+}
+
+/// The height of a dictionary's comprehension.
+#[cycle(expression_height)]
+#[tactic(auto, using(pytree_node::proofs::Callers::ExprShapes::expr_shapes, crate::proofs::CapLemmas::caps))]
+fn dict_comp_height(comp: &DictComp) -> u64
+    ensures { result ≡ capped (height (dict_comp_of comp.now)) }
+{
+    let inner = expr_height(&comp.value).max(generators_height(&comp.generators));
+    one_more(expr_height(&comp.key).max(inner))
+}
+
+/// The height of a call.
+#[cycle(expression_height)]
+#[tactic(auto, using(pytree_node::proofs::Callers::ExprShapes::expr_shapes, crate::proofs::CapLemmas::caps))]
+fn call_height(call: &Call) -> u64
+    ensures { result ≡ capped (height (call_of call.now)) }
+{
+    let inner = exprs_height(&call.args).max(keywords_height(&call.keywords));
+    one_more(expr_height(&call.func).max(inner))
+}
+
+/// The height of a slice.
+#[cycle(expression_height)]
+#[tactic(auto, using(pytree_node::proofs::Callers::ExprShapes::expr_shapes, crate::proofs::CapLemmas::caps))]
+fn slice_height(slice: &Slice) -> u64
+    ensures { result ≡ capped (height (slice_of slice.now)) }
+{
+    let inner = boxed_height(&slice.upper).max(boxed_height(&slice.step));
+    one_more(boxed_height(&slice.lower).max(inner))
 }
 
 /// The height of an expression that may be absent.

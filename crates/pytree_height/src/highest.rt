@@ -2,8 +2,8 @@
 
 ghost use Rattle.std.specs.Prelude.{◌≡◌, map};
 ghost use Rattle.pytree_node.specs.TreeOf.{case_of, handler_of, item_of, option_of, stmt_of};
-ghost use Rattle.pytree_node.specs.TreeOf.{type_param_of};
-ghost use Rattle.pytree_node.specs.Trees.{cases, handlers, stmts};
+ghost use Rattle.pytree_node.specs.TreeOf.{class_def_of, function_def_of, try_of, type_param_of};
+ghost use Rattle.pytree_node.specs.Trees.{cases, function_def, handlers, stmts, try_block};
 ghost use Rattle.pytree_height.specs.Heights.{capped, highest_in, highest_in_all, highest_in_cases};
 ghost use Rattle.pytree_height.specs.Heights.{highest_in_handlers};
 ghost use Rattle.pytree_height.specs.Heights.{item_heights, option_height, type_param_height};
@@ -13,7 +13,7 @@ use crate::expressions::{
     boxed_height, expr_height, exprs_height, keywords_height, parameters_height,
 };
 use crate::patterns::pattern_height;
-use pytree_node::{Case, Expr, Handler, Item, Stmt, TypeParam};
+use pytree_node::{Case, ClassDef, Expr, FunctionDef, Handler, Item, Stmt, Try, TypeParam};
 
 /// The height of an expression that may be absent.
 #[tactic(auto, using(crate::proofs::CapLemmas::caps))]
@@ -70,42 +70,9 @@ fn highest_in(s: &Stmt) -> u64
     ensures { result ≡ capped (highest_in (stmt_of s.now)) }
 {
     match s {
-        Stmt::FunctionDef {
-            args,
-            body,
-            decorator_list,
-            returns,
-            type_params,
-            ..
-        } => {
-            let ends = boxed_height(returns).max(type_params_height(type_params));
-            let inner = highest_in_all(body).max(exprs_height(decorator_list).max(ends));
-            parameters_height(args).max(inner)
-        }
-        Stmt::AsyncFunctionDef {
-            args,
-            body,
-            decorator_list,
-            returns,
-            type_params,
-            ..
-        } => {
-            let ends = boxed_height(returns).max(type_params_height(type_params));
-            let inner = highest_in_all(body).max(exprs_height(decorator_list).max(ends));
-            parameters_height(args).max(inner)
-        }
-        Stmt::ClassDef {
-            bases,
-            keywords,
-            body,
-            decorator_list,
-            type_params,
-            ..
-        } => {
-            let ends = exprs_height(decorator_list).max(type_params_height(type_params));
-            let inner = keywords_height(keywords).max(highest_in_all(body).max(ends));
-            exprs_height(bases).max(inner)
-        }
+        Stmt::FunctionDef(def) => highest_in_function(def),
+        Stmt::AsyncFunctionDef(def) => highest_in_function(def),
+        Stmt::ClassDef(class) => highest_in_class(class),
         Stmt::Return { value } => option_height(value),
         Stmt::Delete { targets } => exprs_height(targets),
         Stmt::Assign { targets, value } => exprs_height(targets).max(expr_height(value)),
@@ -148,26 +115,10 @@ fn highest_in(s: &Stmt) -> u64
         Stmt::With { items, body } => items_height(items).max(highest_in_all(body)),
         Stmt::AsyncWith { items, body } => items_height(items).max(highest_in_all(body)),
         Stmt::Match { subject, cases } => expr_height(subject).max(highest_in_cases(cases)),
-        Stmt::Raise { exc, cause } => option_height(exc).max(option_height(cause)),
-        Stmt::Try {
-            body,
-            handlers,
-            orelse,
-            finalbody,
-        } => {
-            let ends = highest_in_all(orelse).max(highest_in_all(finalbody));
-            highest_in_all(body).max(highest_in_handlers(handlers).max(ends))
-        }
-        Stmt::TryStar {
-            body,
-            handlers,
-            orelse,
-            finalbody,
-        } => {
-            let ends = highest_in_all(orelse).max(highest_in_all(finalbody));
-            highest_in_all(body).max(highest_in_handlers(handlers).max(ends))
-        }
-        Stmt::Assert { test, msg } => expr_height(test).max(option_height(msg)),
+        Stmt::Raise { exc, cause } => boxed_height(exc).max(boxed_height(cause)),
+        Stmt::Try(parts) => highest_in_try(parts),
+        Stmt::TryStar(parts) => highest_in_try(parts),
+        Stmt::Assert { test, msg } => expr_height(test).max(boxed_height(msg)),
         Stmt::Import { .. } => 0,
         Stmt::ImportFrom { .. } => 0,
         Stmt::Global { .. } => 0,
@@ -177,6 +128,38 @@ fn highest_in(s: &Stmt) -> u64
         Stmt::Break => 0,
         Stmt::Continue => 0,
     }
+}
+
+/// The height of the highest expression or pattern of the definition of a function.
+#[cycle(highest_in)]
+#[tactic(auto, using(pytree_node::proofs::Callers::StmtShapes::stmt_shapes, crate::proofs::CapLemmas::caps))]
+fn highest_in_function(def: &FunctionDef) -> u64
+    ensures { result ≡ capped (highest_in (function_def (function_def_of def.now))) }
+{
+    let ends = boxed_height(&def.returns).max(type_params_height(&def.type_params));
+    let inner = highest_in_all(&def.body).max(exprs_height(&def.decorator_list).max(ends));
+    parameters_height(&def.args).max(inner)
+}
+
+/// The height of the highest expression or pattern of a class, or 0.
+#[cycle(highest_in)]
+#[tactic(auto, using(pytree_node::proofs::Callers::StmtShapes::stmt_shapes, crate::proofs::CapLemmas::caps))]
+fn highest_in_class(class: &ClassDef) -> u64
+    ensures { result ≡ capped (highest_in (class_def_of class.now)) }
+{
+    let ends = exprs_height(&class.decorator_list).max(type_params_height(&class.type_params));
+    let inner = keywords_height(&class.keywords).max(highest_in_all(&class.body).max(ends));
+    exprs_height(&class.bases).max(inner)
+}
+
+/// The height of the highest expression or pattern of a `try`, or 0.
+#[cycle(highest_in)]
+#[tactic(auto, using(pytree_node::proofs::Callers::StmtShapes::stmt_shapes, crate::proofs::CapLemmas::caps))]
+fn highest_in_try(parts: &Try) -> u64
+    ensures { result ≡ capped (highest_in (try_block (try_of parts.now))) }
+{
+    let ends = highest_in_all(&parts.orelse).max(highest_in_all(&parts.finalbody));
+    highest_in_all(&parts.body).max(highest_in_handlers(&parts.handlers).max(ends))
 }
 
 /// The height of the highest expression or pattern of some statements, or 0.

@@ -3,11 +3,11 @@
 ghost use Rattle.std.specs.Prelude.{◌≡◌, map};
 ghost use Rattle.pytree_height.specs.Heights.{capped, case_heights, handler_heights, stmt_height};
 ghost use Rattle.pytree_height.specs.Heights.{stmt_heights};
-ghost use Rattle.pytree_node.specs.TreeOf.{case_of, handler_of, stmt_of};
-ghost use Rattle.pytree_node.specs.Trees.{cases, handlers, stmts};
+ghost use Rattle.pytree_node.specs.TreeOf.{case_of, handler_of, stmt_of, try_of};
+ghost use Rattle.pytree_node.specs.Trees.{cases, handlers, stmts, try_block};
 
 use crate::modules::one_more;
-use pytree_node::{Case, Handler, Stmt};
+use pytree_node::{Case, Handler, Stmt, Try};
 
 /// The height of a statement.
 #[cycle(statement_height)]
@@ -16,9 +16,9 @@ pub(crate) fn statement_height(s: &Stmt) -> u64
     ensures { result ≡ capped (stmt_height (stmt_of s.now)) }
 {
     match s {
-        Stmt::FunctionDef { body, .. } => one_more(statements_height(body)),
-        Stmt::AsyncFunctionDef { body, .. } => one_more(statements_height(body)),
-        Stmt::ClassDef { body, .. } => one_more(statements_height(body)),
+        Stmt::FunctionDef(def) => one_more(statements_height(&def.body)),
+        Stmt::AsyncFunctionDef(def) => one_more(statements_height(&def.body)),
+        Stmt::ClassDef(class) => one_more(statements_height(&class.body)),
         Stmt::For { body, orelse, .. } => {
             one_more(statements_height(body).max(statements_height(orelse)))
         }
@@ -34,24 +34,8 @@ pub(crate) fn statement_height(s: &Stmt) -> u64
         Stmt::With { body, .. } => one_more(statements_height(body)),
         Stmt::AsyncWith { body, .. } => one_more(statements_height(body)),
         Stmt::Match { cases, .. } => one_more(cases_height(cases)),
-        Stmt::Try {
-            body,
-            handlers,
-            orelse,
-            finalbody,
-        } => {
-            let ends = statements_height(orelse).max(statements_height(finalbody));
-            one_more(statements_height(body).max(handlers_height(handlers).max(ends)))
-        }
-        Stmt::TryStar {
-            body,
-            handlers,
-            orelse,
-            finalbody,
-        } => {
-            let ends = statements_height(orelse).max(statements_height(finalbody));
-            one_more(statements_height(body).max(handlers_height(handlers).max(ends)))
-        }
+        Stmt::Try(parts) => try_height(parts),
+        Stmt::TryStar(parts) => try_height(parts),
         Stmt::Return { .. } => 1,
         Stmt::Delete { .. } => 1,
         Stmt::Assign { .. } => 1,
@@ -69,6 +53,16 @@ pub(crate) fn statement_height(s: &Stmt) -> u64
         Stmt::Break => 1,
         Stmt::Continue => 1,
     }
+}
+
+/// The height of a `try`.
+#[cycle(statement_height)]
+#[tactic(auto, using(pytree_node::proofs::Callers::StmtShapes::stmt_shapes, crate::proofs::CapLemmas::caps))]
+fn try_height(parts: &Try) -> u64
+    ensures { result ≡ capped (stmt_height (try_block (try_of parts.now))) }
+{
+    let ends = statements_height(&parts.orelse).max(statements_height(&parts.finalbody));
+    one_more(statements_height(&parts.body).max(handlers_height(&parts.handlers).max(ends)))
 }
 
 /// The height of the highest of some statements, or 0.

@@ -312,6 +312,34 @@ abbrev pub handlers : List Handler → Handlers
 handlers [] = no_handler
 handlers (h ∷ hs) = a_handler h.class h.name (stmts h.body) (handlers hs)
 
+-- the fields of a FunctionDef or an AsyncFunctionDef
+pub record FunctionDefFields : Type 0 where
+  pub name : Identifier
+  pub args : Arguments
+  pub body : List Stmt
+  pub decorator_list : List Expr
+  pub returns : Option Expr
+  pub type_params : List TypeParam
+
+abbrev pub function_def : FunctionDefFields → Stmt
+function_def f = FunctionDef f.name f.args (stmts f.body) f.decorator_list f.returns f.type_params
+
+abbrev pub async_function_def : FunctionDefFields → Stmt
+async_function_def f = AsyncFunctionDef f.name f.args (stmts f.body) f.decorator_list f.returns f.type_params
+
+-- the fields of a Try or a TryStar
+pub record TryFields : Type 0 where
+  pub body : List Stmt
+  pub handlers : List Handler
+  pub orelse : List Stmt
+  pub finalbody : List Stmt
+
+abbrev pub try_block : TryFields → Stmt
+try_block f = Try (stmts f.body) (handlers f.handlers) (stmts f.orelse) (stmts f.finalbody)
+
+abbrev pub try_star_block : TryFields → Stmt
+try_star_block f = TryStar (stmts f.body) (handlers f.handlers) (stmts f.orelse) (stmts f.finalbody)
+
 -- a module: Module(stmt* body, type_ignore* type_ignores)
 pub record Module : Type 0 where
   pub body : List Stmt

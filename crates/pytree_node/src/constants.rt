@@ -22,9 +22,10 @@ pub enum Constant {
     Float(Double),
     /// An imaginary number, by its imaginary part.
     Imaginary(Double),
-    /// A text, by its code points. Its `kind` is `u` where `unicode` says so: where the first of
-    /// its literals has the prefix `u`.
-    Str { points: Points, unicode: bool },
+    /// A text, by its code points.
+    Str(Points),
+    /// A text whose `kind` is `u`: the first of its literals has the prefix `u`.
+    UnicodeStr(Points),
     /// Bytes.
     Bytes(Vec<u8>),
 }

@@ -7,7 +7,8 @@ use crate::identifiers::Identifier;
 use crate::operators::{BoolOperator, Comparison, Context, Operator, UnaryOperator};
 use pyfstring::Conversion;
 
-/// An expression: the class `expr`. It takes 64 bytes.
+/// An expression: the class `expr`. It takes 40 bytes: the classes
+/// that would need more are boxed.
 #[derive(Drop)]
 #[cycle(expressions)]
 pub enum Expr {
@@ -43,11 +44,8 @@ pub enum Expr {
         body: Box<Expr>,
         orelse: Box<Expr>,
     },
-    /// `{a: b, **c}`. A `**c` has no key, and the value `c`.
-    Dict {
-        keys: Vec<Option<Expr>>,
-        values: Vec<Expr>,
-    },
+    /// `{a: b, **c}`.
+    Dict(Box<Dict>),
     /// `{a, b}`.
     Set {
         elts: Vec<Expr>,
@@ -63,11 +61,7 @@ pub enum Expr {
         generators: Vec<Comprehension>,
     },
     /// `{a: b for c in d}`.
-    DictComp {
-        key: Box<Expr>,
-        value: Box<Expr>,
-        generators: Vec<Comprehension>,
-    },
+    DictComp(Box<DictComp>),
     /// `(a for b in c)`.
     GeneratorExp {
         elt: Box<Expr>,
@@ -85,18 +79,10 @@ pub enum Expr {
     YieldFrom {
         value: Box<Expr>,
     },
-    /// `a < b == c`: as many operators as comparators.
-    Compare {
-        left: Box<Expr>,
-        ops: Vec<Comparison>,
-        comparators: Vec<Expr>,
-    },
+    /// `a < b == c`.
+    Compare(Box<Compare>),
     /// `f(a, *b, c=d, **e)`.
-    Call {
-        func: Box<Expr>,
-        args: Vec<Expr>,
-        keywords: Vec<Keyword>,
-    },
+    Call(Box<Call>),
     /// A field of an f-string, `{value!r:format_spec}`. It stands in a `JoinedStr` alone, and its
     /// format spec is one.
     FormattedValue {
@@ -145,11 +131,51 @@ pub enum Expr {
         ctx: Context,
     },
     /// `lower:upper:step`, in a subscript.
-    Slice {
-        lower: Option<Box<Expr>>,
-        upper: Option<Box<Expr>>,
-        step: Option<Box<Expr>>,
-    },
+    Slice(Box<Slice>),
+}
+
+/// The class `Dict`. A `**c` has no key, and the value `c`.
+#[derive(Drop)]
+#[cycle(expressions)]
+pub struct Dict {
+    pub keys: Vec<Option<Expr>>,
+    pub values: Vec<Expr>,
+}
+
+/// The class `DictComp`.
+#[derive(Drop)]
+#[cycle(expressions)]
+pub struct DictComp {
+    pub key: Expr,
+    pub value: Expr,
+    pub generators: Vec<Comprehension>,
+}
+
+/// The class `Compare`: as many operators as comparators.
+#[derive(Drop)]
+#[cycle(expressions)]
+pub struct Compare {
+    pub left: Expr,
+    pub ops: Vec<Comparison>,
+    pub comparators: Vec<Expr>,
+}
+
+/// The class `Call`.
+#[derive(Drop)]
+#[cycle(expressions)]
+pub struct Call {
+    pub func: Expr,
+    pub args: Vec<Expr>,
+    pub keywords: Vec<Keyword>,
+}
+
+/// The class `Slice`.
+#[derive(Drop)]
+#[cycle(expressions)]
+pub struct Slice {
+    pub lower: Option<Box<Expr>>,
+    pub upper: Option<Box<Expr>>,
+    pub step: Option<Box<Expr>>,
 }
 
 /// A `for` with its `if`s: the class `comprehension`.

@@ -11,11 +11,11 @@ use std::marker::Model;
 use std::string::String;
 
 /// How many bytes of a text are kept with no allocation.
-const INLINE_LEN: usize = 30;
+const INLINE_LEN: usize = 14;
 
 /// A name of a program: a variable's, a module's with its dots, or `*` in an import.
 ///
-/// A contract sees it as the list of its characters. A name of at most 30 bytes of UTF-8 takes no
+/// A contract sees it as the list of its characters. A name of at most 14 bytes of UTF-8 takes no
 /// memory of its own. Nothing here says that a name is one by Python's rules.
 #[derive(Drop)]
 pub struct Identifier {
@@ -26,7 +26,7 @@ pub struct Identifier {
 #[derive(Drop)]
 enum Text {
     Inline { len: u8, bytes: [u8; INLINE_LEN] },
-    Allocated(String),
+    Allocated(Box<String>),
 }
 
 impl Model for Identifier {
@@ -49,7 +49,7 @@ fn allocated(alloc: Global, text: &str) -> Result<Identifier, AllocError>
     ensures { IfOk result (λ made. made ≡ chars text.now) }
 {
     Ok(Identifier {
-        text: Text::Allocated(String::from_str(alloc, text)?),
+        text: Text::Allocated(Box::new(alloc, String::from_str(alloc, text)?)?),
     })
 }
 
@@ -57,7 +57,7 @@ impl Identifier {
     /// The name of this text.
     pub fn new(alloc: Global, text: &str) -> Result<Identifier, AllocError>
         ensures value { IfOk result (λ made. made ≡ chars text.now) }
-        ensures inline { length text.now ≤ 30 → IsOk result }
+        ensures inline { length text.now ≤ 14 → IsOk result }
     {
         if text.len() > INLINE_LEN {
             return allocated(alloc, text);

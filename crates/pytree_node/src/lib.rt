@@ -49,7 +49,9 @@ mod profiles;
 mod statements;
 
 pub use constants::Constant;
-pub use expressions::{Arg, Arguments, Comprehension, Expr, Keyword};
+pub use expressions::{
+    Arg, Arguments, Call, Compare, Comprehension, Dict, DictComp, Expr, Keyword, Slice,
+};
 pub use identifiers::Identifier;
 pub use integers::Integer;
 pub use modules::Module;
@@ -58,4 +60,4 @@ pub use patterns::Pattern;
 pub use points::Points;
 pub use profiles::{Extent, Profile, Version};
 pub use pyfstring::Conversion;
-pub use statements::{Alias, Case, Handler, Item, Stmt, TypeParam};
+pub use statements::{Alias, Case, ClassDef, FunctionDef, Handler, Item, Stmt, Try, TypeParam};

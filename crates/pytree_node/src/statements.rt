@@ -7,40 +7,19 @@ use crate::identifiers::Identifier;
 use crate::operators::Operator;
 use crate::patterns::Pattern;
 
-/// A statement: the class `stmt`. It takes 160 bytes.
+/// A statement: the class `stmt`. It takes 72 bytes.
 ///
-/// An expression is a field of its statement; it is boxed where the statement would be larger than
-/// all others.
+/// An expression is a field of its statement; it is boxed, or the whole class is, where the
+/// statement would be larger.
 #[derive(Drop)]
 #[cycle(statements)]
 pub enum Stmt {
     /// `def`.
-    FunctionDef {
-        name: Identifier,
-        args: Box<Arguments>,
-        body: Vec<Stmt>,
-        decorator_list: Vec<Expr>,
-        returns: Option<Box<Expr>>,
-        type_params: Vec<TypeParam>,
-    },
+    FunctionDef(Box<FunctionDef>),
     /// `async def`.
-    AsyncFunctionDef {
-        name: Identifier,
-        args: Box<Arguments>,
-        body: Vec<Stmt>,
-        decorator_list: Vec<Expr>,
-        returns: Option<Box<Expr>>,
-        type_params: Vec<TypeParam>,
-    },
+    AsyncFunctionDef(Box<FunctionDef>),
     /// `class`.
-    ClassDef {
-        name: Identifier,
-        bases: Vec<Expr>,
-        keywords: Vec<Keyword>,
-        body: Vec<Stmt>,
-        decorator_list: Vec<Expr>,
-        type_params: Vec<TypeParam>,
-    },
+    ClassDef(Box<ClassDef>),
     /// `return`, `return a`.
     Return {
         value: Option<Expr>,
@@ -56,13 +35,13 @@ pub enum Stmt {
     },
     /// `type a = b`, of Python 3.12.
     TypeAlias {
-        name: Expr,
+        name: Box<Expr>,
         type_params: Vec<TypeParam>,
-        value: Expr,
+        value: Box<Expr>,
     },
     /// `a += b`.
     AugAssign {
-        target: Expr,
+        target: Box<Expr>,
         op: Operator,
         value: Expr,
     },
@@ -89,13 +68,13 @@ pub enum Stmt {
     },
     /// `while`.
     While {
-        test: Expr,
+        test: Box<Expr>,
         body: Vec<Stmt>,
         orelse: Vec<Stmt>,
     },
     /// `if`. An `elif` is an `if` alone in `orelse`.
     If {
-        test: Expr,
+        test: Box<Expr>,
         body: Vec<Stmt>,
         orelse: Vec<Stmt>,
     },
@@ -116,27 +95,17 @@ pub enum Stmt {
     },
     /// `raise`, `raise a`, `raise a from b`.
     Raise {
-        exc: Option<Expr>,
-        cause: Option<Expr>,
+        exc: Option<Box<Expr>>,
+        cause: Option<Box<Expr>>,
     },
     /// `try` with `except`s, or with `finally` alone.
-    Try {
-        body: Vec<Stmt>,
-        handlers: Vec<Handler>,
-        orelse: Vec<Stmt>,
-        finalbody: Vec<Stmt>,
-    },
+    Try(Box<Try>),
     /// `try` with `except*`s.
-    TryStar {
-        body: Vec<Stmt>,
-        handlers: Vec<Handler>,
-        orelse: Vec<Stmt>,
-        finalbody: Vec<Stmt>,
-    },
+    TryStar(Box<Try>),
     /// `assert a`, `assert a, b`.
     Assert {
         test: Expr,
-        msg: Option<Expr>,
+        msg: Option<Box<Expr>>,
     },
     /// `import a.b as c, d`.
     Import {
@@ -167,6 +136,40 @@ pub enum Stmt {
     Break,
     /// `continue`.
     Continue,
+}
+
+/// The classes `FunctionDef` and `AsyncFunctionDef`.
+#[derive(Drop)]
+#[cycle(statements)]
+pub struct FunctionDef {
+    pub name: Identifier,
+    pub args: Box<Arguments>,
+    pub body: Vec<Stmt>,
+    pub decorator_list: Vec<Expr>,
+    pub returns: Option<Box<Expr>>,
+    pub type_params: Vec<TypeParam>,
+}
+
+/// The class `ClassDef`.
+#[derive(Drop)]
+#[cycle(statements)]
+pub struct ClassDef {
+    pub name: Identifier,
+    pub bases: Vec<Expr>,
+    pub keywords: Vec<Keyword>,
+    pub body: Vec<Stmt>,
+    pub decorator_list: Vec<Expr>,
+    pub type_params: Vec<TypeParam>,
+}
+
+/// The classes `Try` and `TryStar`.
+#[derive(Drop)]
+#[cycle(statements)]
+pub struct Try {
+    pub body: Vec<Stmt>,
+    pub handlers: Vec<Handler>,
+    pub orelse: Vec<Stmt>,
+    pub finalbody: Vec<Stmt>,
 }
 
 /// A `case` with its block: the class `match_case`.

@@ -4,7 +4,7 @@
 use Rattle.std.proofs.Common.{◌≡◌, List, [], ◌∷◌, Option, None, Some, refl, ap, sym, ◌∙◌}
 use Rattle.pytree_node.specs.Trees as plain
 use Rattle.pytree_node.specs.Trees.{exprs, optional, optionals, comprehensions, keywords, args, patterns, optional_pattern, stmts, cases}
-use Rattle.pytree_node.specs.Trees.{handlers}
+use Rattle.pytree_node.specs.Trees.{handlers, function_def, async_function_def, try_block, try_star_block}
 
 -- what makes the list, or the option, of which the first is made
 abbrev of_exprs : plain.Exprs → List plain.Expr
@@ -52,6 +52,40 @@ abbrev of_handlers : plain.Handlers → List plain.Handler
 of_handlers plain.no_handler = []
 of_handlers (plain.a_handler class name body hs) = record { class = class; name = name; body = of_stmts body } ∷ of_handlers hs
 
+abbrev of_function_def : plain.Stmt → plain.FunctionDefFields → plain.FunctionDefFields
+of_function_def (plain.FunctionDef name args body decorators returns parameters) f = record {
+  name = name;
+  args = args;
+  body = of_stmts body;
+  decorator_list = decorators;
+  returns = returns;
+  type_params = parameters;
+}
+of_function_def (plain.AsyncFunctionDef name args body decorators returns parameters) f = record {
+  name = name;
+  args = args;
+  body = of_stmts body;
+  decorator_list = decorators;
+  returns = returns;
+  type_params = parameters;
+}
+of_function_def _ f = f
+
+abbrev of_try : plain.Stmt → plain.TryFields → plain.TryFields
+of_try (plain.Try body caught orelse finalbody) f = record {
+  body = of_stmts body;
+  handlers = of_handlers caught;
+  orelse = of_stmts orelse;
+  finalbody = of_stmts finalbody;
+}
+of_try (plain.TryStar body caught orelse finalbody) f = record {
+  body = of_stmts body;
+  handlers = of_handlers caught;
+  orelse = of_stmts orelse;
+  finalbody = of_stmts finalbody;
+}
+of_try _ f = f
+
 back_exprs : (xs : List plain.Expr) → of_exprs (exprs xs) ≡ xs
 back_exprs [] = refl
 back_exprs (x ∷ xs) = ap (λ z. x ∷ z) (back_exprs xs)
@@ -97,6 +131,22 @@ back_handlers : (xs : List plain.Handler) → of_handlers (handlers xs) ≡ xs
 back_handlers [] = refl
 back_handlers (x ∷ xs) = (λ i. record { class = x.class; name = x.name; body = back_stmts x.body i } ∷ back_handlers xs i)
 
+back_function_def : (f : plain.FunctionDefFields) → record f { body = of_stmts (stmts f.body) } ≡ f
+back_function_def f = (λ i. record f { body = back_stmts f.body i })
+
+back_try : (f : plain.TryFields) → record {
+  body = of_stmts (stmts f.body);
+  handlers = of_handlers (handlers f.handlers);
+  orelse = of_stmts (stmts f.orelse);
+  finalbody = of_stmts (stmts f.finalbody);
+} ≡ f
+back_try f = (λ i. record {
+  body = back_stmts f.body i;
+  handlers = back_handlers f.handlers i;
+  orelse = back_stmts f.orelse i;
+  finalbody = back_stmts f.finalbody i;
+})
+
 pub exprs_same : (xs ys : List plain.Expr) → exprs xs ≡ exprs ys → xs ≡ ys
 exprs_same xs ys e = sym (back_exprs xs) ∙ ap of_exprs e ∙ back_exprs ys
 
@@ -129,6 +179,18 @@ cases_same xs ys e = sym (back_cases xs) ∙ ap of_cases e ∙ back_cases ys
 
 pub handlers_same : (xs ys : List plain.Handler) → handlers xs ≡ handlers ys → xs ≡ ys
 handlers_same xs ys e = sym (back_handlers xs) ∙ ap of_handlers e ∙ back_handlers ys
+
+pub function_def_same : (f g : plain.FunctionDefFields) → function_def f ≡ function_def g → f ≡ g
+function_def_same f g e = sym (back_function_def f) ∙ ap (λ s. of_function_def s f) e ∙ back_function_def g
+
+pub async_function_def_same : (f g : plain.FunctionDefFields) → async_function_def f ≡ async_function_def g → f ≡ g
+async_function_def_same f g e = sym (back_function_def f) ∙ ap (λ s. of_function_def s f) e ∙ back_function_def g
+
+pub try_same : (f g : plain.TryFields) → try_block f ≡ try_block g → f ≡ g
+try_same f g e = sym (back_try f) ∙ ap (λ s. of_try s f) e ∙ back_try g
+
+pub try_star_same : (f g : plain.TryFields) → try_star_block f ≡ try_star_block g → f ≡ g
+try_star_same f g e = sym (back_try f) ∙ ap (λ s. of_try s f) e ∙ back_try g
 
 -- what `grind` is given beside the value of each class
 pub ruleset expr_members = (exprs_same, optionals_same, comprehensions_same, keywords_same, args_same)

@@ -1,11 +1,14 @@
 //! Whether expressions are equal.
 
 ghost use Rattle.std.specs.Prelude.{◌≡◌, ◌↔◌, IsTrue, map};
-ghost use Rattle.pytree_node.specs.TreeOf.{arg_of, arg_option_of, arguments_of, boxed_of};
-ghost use Rattle.pytree_node.specs.TreeOf.{comprehension_of, keyword_of, option_of, tree_of};
+ghost use Rattle.pytree_node.specs.TreeOf.{arg_of, arg_option_of, arguments_of, boxed_of, call_of};
+ghost use Rattle.pytree_node.specs.TreeOf.{compare_of, comprehension_of, dict_comp_of, dict_of};
+ghost use Rattle.pytree_node.specs.TreeOf.{keyword_of, option_of, slice_of, tree_of};
 
 use crate::leaves::{same_comparisons, same_constant, same_name, same_optional_name};
-use pytree_node::{Arg, Arguments, Comprehension, Expr, Keyword};
+use pytree_node::{
+    Arg, Arguments, Call, Compare, Comprehension, Dict, DictComp, Expr, Keyword, Slice,
+};
 
 /// Whether two expressions are equal.
 #[cycle(same)]
@@ -78,15 +81,11 @@ pub(crate) fn same_expr(a: &Expr, b: &Expr) -> bool
                 && same_expr(body, other_body)
                 && same_expr(orelse, other_orelse)
         }
-        Expr::Dict { keys, values } => {
-            let Expr::Dict {
-                keys: other_keys,
-                values: other_values,
-            } = b
-            else {
+        Expr::Dict(dict) => {
+            let Expr::Dict(other) = b else {
                 return false;
             };
-            same_optional_exprs(keys, other_keys) && same_exprs(values, other_values)
+            same_dict(dict, other)
         }
         Expr::Set { elts } => {
             let Expr::Set { elts: other_elts } = b else {
@@ -114,22 +113,11 @@ pub(crate) fn same_expr(a: &Expr, b: &Expr) -> bool
             };
             same_expr(elt, other_elt) && same_comprehensions(generators, other_generators)
         }
-        Expr::DictComp {
-            key,
-            value,
-            generators,
-        } => {
-            let Expr::DictComp {
-                key: other_key,
-                value: other_value,
-                generators: other_generators,
-            } = b
-            else {
+        Expr::DictComp(comp) => {
+            let Expr::DictComp(other) = b else {
                 return false;
             };
-            same_expr(key, other_key)
-                && same_expr(value, other_value)
-                && same_comprehensions(generators, other_generators)
+            same_dict_comp(comp, other)
         }
         Expr::GeneratorExp { elt, generators } => {
             let Expr::GeneratorExp {
@@ -159,39 +147,17 @@ pub(crate) fn same_expr(a: &Expr, b: &Expr) -> bool
             };
             same_expr(value, other_value)
         }
-        Expr::Compare {
-            left,
-            ops,
-            comparators,
-        } => {
-            let Expr::Compare {
-                left: other_left,
-                ops: other_ops,
-                comparators: other_comparators,
-            } = b
-            else {
+        Expr::Compare(compare) => {
+            let Expr::Compare(other) = b else {
                 return false;
             };
-            same_expr(left, other_left)
-                && same_comparisons(ops, other_ops)
-                && same_exprs(comparators, other_comparators)
+            same_compare(compare, other)
         }
-        Expr::Call {
-            func,
-            args,
-            keywords,
-        } => {
-            let Expr::Call {
-                func: other_func,
-                args: other_args,
-                keywords: other_keywords,
-            } = b
-            else {
+        Expr::Call(call) => {
+            let Expr::Call(other) = b else {
                 return false;
             };
-            same_expr(func, other_func)
-                && same_exprs(args, other_args)
-                && same_keywords(keywords, other_keywords)
+            same_call(call, other)
         }
         Expr::FormattedValue {
             value,
@@ -287,20 +253,66 @@ pub(crate) fn same_expr(a: &Expr, b: &Expr) -> bool
             };
             same_exprs(elts, other_elts) && ctx == other_ctx
         }
-        Expr::Slice { lower, upper, step } => {
-            let Expr::Slice {
-                lower: other_lower,
-                upper: other_upper,
-                step: other_step,
-            } = b
-            else {
+        Expr::Slice(slice) => {
+            let Expr::Slice(other) = b else {
                 return false;
             };
-            same_optional_box(lower, other_lower)
-                && same_optional_box(upper, other_upper)
-                && same_optional_box(step, other_step)
+            same_slice(slice, other)
         }
     }
+}
+
+/// Whether two dictionaries are equal.
+#[cycle(same)]
+#[tactic(auto, using(pytree_node::proofs::Callers::ExprShapes::expr_shapes, crate::proofs::Members::expr_members))]
+fn same_dict(a: &Dict, b: &Dict) -> bool
+    ensures { IsTrue result ↔ (dict_of a.now ≡ dict_of b.now) }
+{
+    same_optional_exprs(&a.keys, &b.keys) && same_exprs(&a.values, &b.values)
+}
+
+/// Whether two comprehensions of dictionaries are equal.
+#[cycle(same)]
+#[tactic(auto, using(pytree_node::proofs::Callers::ExprShapes::expr_shapes, crate::proofs::Members::expr_members))]
+fn same_dict_comp(a: &DictComp, b: &DictComp) -> bool
+    ensures { IsTrue result ↔ (dict_comp_of a.now ≡ dict_comp_of b.now) }
+{
+    same_expr(&a.key, &b.key)
+        && same_expr(&a.value, &b.value)
+        && same_comprehensions(&a.generators, &b.generators)
+}
+
+/// Whether two comparisons are equal.
+#[cycle(same)]
+#[tactic(auto, using(pytree_node::proofs::Callers::ExprShapes::expr_shapes, crate::proofs::Members::expr_members))]
+fn same_compare(a: &Compare, b: &Compare) -> bool
+    ensures { IsTrue result ↔ (compare_of a.now ≡ compare_of b.now) }
+{
+    same_expr(&a.left, &b.left)
+        && same_comparisons(&a.ops, &b.ops)
+        && same_exprs(&a.comparators, &b.comparators)
+}
+
+/// Whether two calls are equal.
+#[cycle(same)]
+#[tactic(auto, using(pytree_node::proofs::Callers::ExprShapes::expr_shapes, crate::proofs::Members::expr_members))]
+fn same_call(a: &Call, b: &Call) -> bool
+    ensures { IsTrue result ↔ (call_of a.now ≡ call_of b.now) }
+{
+    same_expr(&a.func, &b.func)
+        && same_exprs(&a.args, &b.args)
+        && same_keywords(&a.keywords, &b.keywords)
+}
+
+/// Whether two slices are equal.
+#[cycle(same)]
+#[tactic(auto, using(pytree_node::proofs::Callers::ExprShapes::expr_shapes, crate::proofs::Members::expr_members))]
+fn same_slice(a: &Slice, b: &Slice) -> bool
+    ensures { IsTrue result ↔ (slice_of a.now ≡ slice_of b.now) }
+{
+    same_optional_box(&a.lower, &b.lower)
+        && same_optional_box(&a.upper, &b.upper)
+        && same_optional_box(&a.step, &b.step)
 }
 
 /// Whether the expressions are equal, or both absent.

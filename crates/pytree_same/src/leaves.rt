@@ -49,13 +49,8 @@ pub(crate) fn same_constant(a: &Constant, b: &Constant) -> bool
         (Constant::Int(a), Constant::Int(b)) => a == b,
         (Constant::Float(a), Constant::Float(b)) => same_double(a, b),
         (Constant::Imaginary(a), Constant::Imaginary(b)) => same_double(a, b),
-        (
-            Constant::Str { points, unicode },
-            Constant::Str {
-                points: other_points,
-                unicode: other_unicode,
-            },
-        ) => points == other_points && unicode == other_unicode,
+        (Constant::Str(a), Constant::Str(b)) => a == b,
+        (Constant::UnicodeStr(a), Constant::UnicodeStr(b)) => a == b,
         (Constant::Bytes(a), Constant::Bytes(b)) => same_bytes(a, b),
         _ => false,
     }

@@ -1,13 +1,14 @@
 //! Whether statements are equal.
 
 ghost use Rattle.std.specs.Prelude.{◌≡◌, ◌↔◌, IsTrue, map};
-ghost use Rattle.pytree_node.specs.TreeOf.{case_of, handler_of, stmt_of};
+ghost use Rattle.pytree_node.specs.TreeOf.{case_of, class_def_of, function_def_of, handler_of};
+ghost use Rattle.pytree_node.specs.TreeOf.{stmt_of, try_of};
 
 use crate::expressions::{same_arguments, same_expr, same_exprs, same_keywords, same_optional_box};
 use crate::leaves::{same_name, same_names, same_optional_name};
 use crate::parts::{same_aliases, same_items, same_optional_expr, same_type_params};
 use crate::patterns::same_pattern;
-use pytree_node::{Case, Handler, Stmt};
+use pytree_node::{Case, ClassDef, FunctionDef, Handler, Stmt, Try};
 
 /// Whether two statements are equal.
 #[cycle(same)]
@@ -16,83 +17,23 @@ fn same_stmt(a: &Stmt, b: &Stmt) -> bool
     ensures { IsTrue result ↔ (stmt_of a.now ≡ stmt_of b.now) }
 {
     match a {
-        Stmt::FunctionDef {
-            name,
-            args,
-            body,
-            decorator_list,
-            returns,
-            type_params,
-        } => {
-            let Stmt::FunctionDef {
-                name: other_name,
-                args: other_args,
-                body: other_body,
-                decorator_list: other_decorator_list,
-                returns: other_returns,
-                type_params: other_type_params,
-            } = b
-            else {
+        Stmt::FunctionDef(def) => {
+            let Stmt::FunctionDef(other) = b else {
                 return false;
             };
-            same_name(name, other_name)
-                && same_arguments(args, other_args)
-                && same_stmts(body, other_body)
-                && same_exprs(decorator_list, other_decorator_list)
-                && same_optional_box(returns, other_returns)
-                && same_type_params(type_params, other_type_params)
+            same_function(def, other)
         }
-        Stmt::AsyncFunctionDef {
-            name,
-            args,
-            body,
-            decorator_list,
-            returns,
-            type_params,
-        } => {
-            let Stmt::AsyncFunctionDef {
-                name: other_name,
-                args: other_args,
-                body: other_body,
-                decorator_list: other_decorator_list,
-                returns: other_returns,
-                type_params: other_type_params,
-            } = b
-            else {
+        Stmt::AsyncFunctionDef(def) => {
+            let Stmt::AsyncFunctionDef(other) = b else {
                 return false;
             };
-            same_name(name, other_name)
-                && same_arguments(args, other_args)
-                && same_stmts(body, other_body)
-                && same_exprs(decorator_list, other_decorator_list)
-                && same_optional_box(returns, other_returns)
-                && same_type_params(type_params, other_type_params)
+            same_function(def, other)
         }
-        Stmt::ClassDef {
-            name,
-            bases,
-            keywords,
-            body,
-            decorator_list,
-            type_params,
-        } => {
-            let Stmt::ClassDef {
-                name: other_name,
-                bases: other_bases,
-                keywords: other_keywords,
-                body: other_body,
-                decorator_list: other_decorator_list,
-                type_params: other_type_params,
-            } = b
-            else {
+        Stmt::ClassDef(class) => {
+            let Stmt::ClassDef(other) = b else {
                 return false;
             };
-            same_name(name, other_name)
-                && same_exprs(bases, other_bases)
-                && same_keywords(keywords, other_keywords)
-                && same_stmts(body, other_body)
-                && same_exprs(decorator_list, other_decorator_list)
-                && same_type_params(type_params, other_type_params)
+            same_class(class, other)
         }
         Stmt::Return { value } => {
             let Stmt::Return { value: other_value } = b else {
@@ -271,47 +212,19 @@ fn same_stmt(a: &Stmt, b: &Stmt) -> bool
             else {
                 return false;
             };
-            same_optional_expr(exc, other_exc) && same_optional_expr(cause, other_cause)
+            same_optional_box(exc, other_exc) && same_optional_box(cause, other_cause)
         }
-        Stmt::Try {
-            body,
-            handlers,
-            orelse,
-            finalbody,
-        } => {
-            let Stmt::Try {
-                body: other_body,
-                handlers: other_handlers,
-                orelse: other_orelse,
-                finalbody: other_finalbody,
-            } = b
-            else {
+        Stmt::Try(parts) => {
+            let Stmt::Try(other) = b else {
                 return false;
             };
-            same_stmts(body, other_body)
-                && same_handlers(handlers, other_handlers)
-                && same_stmts(orelse, other_orelse)
-                && same_stmts(finalbody, other_finalbody)
+            same_try(parts, other)
         }
-        Stmt::TryStar {
-            body,
-            handlers,
-            orelse,
-            finalbody,
-        } => {
-            let Stmt::TryStar {
-                body: other_body,
-                handlers: other_handlers,
-                orelse: other_orelse,
-                finalbody: other_finalbody,
-            } = b
-            else {
+        Stmt::TryStar(parts) => {
+            let Stmt::TryStar(other) = b else {
                 return false;
             };
-            same_stmts(body, other_body)
-                && same_handlers(handlers, other_handlers)
-                && same_stmts(orelse, other_orelse)
-                && same_stmts(finalbody, other_finalbody)
+            same_try(parts, other)
         }
         Stmt::Assert { test, msg } => {
             let Stmt::Assert {
@@ -321,7 +234,7 @@ fn same_stmt(a: &Stmt, b: &Stmt) -> bool
             else {
                 return false;
             };
-            same_expr(test, other_test) && same_optional_expr(msg, other_msg)
+            same_expr(test, other_test) && same_optional_box(msg, other_msg)
         }
         Stmt::Import { names } => {
             let Stmt::Import { names: other_names } = b else {
@@ -368,6 +281,46 @@ fn same_stmt(a: &Stmt, b: &Stmt) -> bool
         Stmt::Break => matches!(b, Stmt::Break),
         Stmt::Continue => matches!(b, Stmt::Continue),
     }
+}
+
+/// Whether two definitions of functions are equal.
+#[cycle(same)]
+#[tactic(auto, using(pytree_node::proofs::Callers::StmtShapes::stmt_shapes, crate::proofs::Members::stmt_members))]
+fn same_function(a: &FunctionDef, b: &FunctionDef) -> bool
+    ensures { IsTrue result ↔ (function_def_of a.now ≡ function_def_of b.now) }
+{
+    same_name(&a.name, &b.name)
+        && same_arguments(&a.args, &b.args)
+        && same_stmts(&a.body, &b.body)
+        && same_exprs(&a.decorator_list, &b.decorator_list)
+        && same_optional_box(&a.returns, &b.returns)
+        && same_type_params(&a.type_params, &b.type_params)
+}
+
+/// Whether two definitions of classes are equal.
+#[cycle(same)]
+#[tactic(auto, using(pytree_node::proofs::Callers::StmtShapes::stmt_shapes, crate::proofs::Members::stmt_members))]
+fn same_class(a: &ClassDef, b: &ClassDef) -> bool
+    ensures { IsTrue result ↔ (class_def_of a.now ≡ class_def_of b.now) }
+{
+    same_name(&a.name, &b.name)
+        && same_exprs(&a.bases, &b.bases)
+        && same_keywords(&a.keywords, &b.keywords)
+        && same_stmts(&a.body, &b.body)
+        && same_exprs(&a.decorator_list, &b.decorator_list)
+        && same_type_params(&a.type_params, &b.type_params)
+}
+
+/// Whether two `try`s are equal.
+#[cycle(same)]
+#[tactic(auto, using(pytree_node::proofs::Callers::StmtShapes::stmt_shapes, crate::proofs::Members::stmt_members))]
+fn same_try(a: &Try, b: &Try) -> bool
+    ensures { IsTrue result ↔ (try_of a.now ≡ try_of b.now) }
+{
+    same_stmts(&a.body, &b.body)
+        && same_handlers(&a.handlers, &b.handlers)
+        && same_stmts(&a.orelse, &b.orelse)
+        && same_stmts(&a.finalbody, &b.finalbody)
 }
 
 /// Whether the statements are equal, each with its own: whether each node has the class and the

@@ -1,13 +1,13 @@
 //! Statements with their blocks, a line after another.
 
 ghost use Rattle.std.specs.Prelude.{◌≡◌, ◌∷◌, [], suc, OnOk, map};
-ghost use Rattle.pygrammar.specs.Lines.{Header, class_head, function_head};
-ghost use Rattle.pytree_node.specs.TreeOf.{arguments_of, boxed_of, case_of, handler_of, item_of};
-ghost use Rattle.pytree_node.specs.TreeOf.{keyword_of, stmt_of, tree_of, type_param_of};
+ghost use Rattle.pygrammar.specs.Lines.{Header, function_head};
+ghost use Rattle.pytree_node.specs.TreeOf.{case_of, class_def_of, function_def_of, handler_of};
+ghost use Rattle.pytree_node.specs.TreeOf.{item_of, stmt_of, tree_of, try_of};
 ghost use Rattle.pytree_node.specs.Trees as plain;
-ghost use Rattle.pytree_node.specs.Trees.{cases, handlers, keywords, stmts};
-ghost use Rattle.pyunparse.specs.Inner.Lines.{Blocked, Wrote, def_lines, elif_lines, for_lines};
-ghost use Rattle.pyunparse.specs.Inner.Lines.{is_if, one_case, one_handler, try_lines, with_lines};
+ghost use Rattle.pytree_node.specs.Trees.{cases, handlers, stmts};
+ghost use Rattle.pyunparse.specs.Inner.Lines.{Blocked, Wrote, class_def_lines, def_lines, elif_lines};
+ghost use Rattle.pyunparse.specs.Inner.Lines.{for_lines, is_if, one_case, one_handler, try_lines, with_lines};
 ghost use Rattle.pyunparse_text.specs.Modules as modules;
 ghost use Rattle.pyunparse_text.specs.Pieces.{piece};
 ghost use Rattle.pyunparse_text.specs.Statements.{header_tokens};
@@ -20,9 +20,7 @@ use crate::headers::{
 };
 use crate::lines::{write_decorators, write_line};
 use pytoken::Keyword;
-use pytree_node::{
-    Arguments, Case, Expr, Handler, Identifier, Item, Keyword as Word, Stmt, TypeParam,
-};
+use pytree_node::{Case, ClassDef, Expr, FunctionDef, Handler, Item, Stmt, Try};
 use pyunparse_text::text_writer::TextWriter;
 use std::alloc::AllocError;
 
@@ -78,50 +76,19 @@ fn write_stmt(out: &mut TextWriter, s: &Stmt) -> Result<(), AllocError>
         Stmt::With { items, body } => write_with(out, false, items, body),
         Stmt::AsyncWith { items, body } => write_with(out, true, items, body),
         Stmt::Match { subject, cases } => write_match(out, subject, cases),
-        Stmt::Try {
-            body,
-            handlers,
-            orelse,
-            finalbody,
-        } => write_try(out, false, body, handlers, orelse, finalbody),
-        Stmt::TryStar {
-            body,
-            handlers,
-            orelse,
-            finalbody,
-        } => write_try(out, true, body, handlers, orelse, finalbody),
-        Stmt::FunctionDef {
-            name,
-            args,
-            body,
-            decorator_list,
-            returns,
-            type_params,
-        } => {
-            write_decorators(out, decorator_list)?;
-            write_function(out, false, name, type_params, args, returns, body)
+        Stmt::Try(parts) => write_try(out, false, parts),
+        Stmt::TryStar(parts) => write_try(out, true, parts),
+        Stmt::FunctionDef(def) => {
+            write_decorators(out, &def.decorator_list)?;
+            write_function(out, false, def)
         }
-        Stmt::AsyncFunctionDef {
-            name,
-            args,
-            body,
-            decorator_list,
-            returns,
-            type_params,
-        } => {
-            write_decorators(out, decorator_list)?;
-            write_function(out, true, name, type_params, args, returns, body)
+        Stmt::AsyncFunctionDef(def) => {
+            write_decorators(out, &def.decorator_list)?;
+            write_function(out, true, def)
         }
-        Stmt::ClassDef {
-            name,
-            bases,
-            keywords,
-            body,
-            decorator_list,
-            type_params,
-        } => {
-            write_decorators(out, decorator_list)?;
-            write_class(out, name, type_params, bases, keywords, body)
+        Stmt::ClassDef(class) => {
+            write_decorators(out, &class.decorator_list)?;
+            write_class(out, class)
         }
         _ => write_line(out, s),
     }
@@ -204,65 +171,57 @@ fn write_with(
 
 /// Writes a `def` after its decorators.
 #[cycle(blocks)]
-fn write_function(
-    out: &mut TextWriter,
-    is_async: bool,
-    name: &Identifier,
-    type_params: &[TypeParam],
-    args: &Arguments,
-    returns: &Option<Box<Expr>>,
-    body: &[Stmt],
-) -> Result<(), AllocError>
+#[tactic(auto, using(pytree_node::proofs::Callers::StmtShapes::function_def_shape))]
+fn write_function(out: &mut TextWriter, is_async: bool, def: &FunctionDef) -> Result<(), AllocError>
     ensures { OnOk result (Wrote out.old out.new (def_lines out.old.level
-        (function_head is_async name.now (map type_param_of type_params.now) (arguments_of args.now)
-        (boxed_of returns.now)) (stmts (map stmt_of body.now)))) }
+        (function_head is_async (function_def_of def.now).name (function_def_of def.now).type_params
+        (function_def_of def.now).args (function_def_of def.now).returns)
+        (stmts (function_def_of def.now).body))) }
 {
     out.begin_line()?;
-    write_function_header(out, is_async, name, type_params, args, returns)?;
-    write_block(out, body)
+    write_function_header(
+        out,
+        is_async,
+        &def.name,
+        &def.type_params,
+        &def.args,
+        &def.returns,
+    )?;
+    write_block(out, &def.body)
 }
 
 /// Writes a `class` after its decorators.
 #[cycle(blocks)]
-fn write_class(
-    out: &mut TextWriter,
-    name: &Identifier,
-    type_params: &[TypeParam],
-    bases: &[Expr],
-    words: &[Word],
-    body: &[Stmt],
-) -> Result<(), AllocError>
-    ensures { OnOk result (Wrote out.old out.new (def_lines out.old.level
-        (class_head name.now (map type_param_of type_params.now) (map tree_of bases.now)
-        (keywords (map keyword_of words.now))) (stmts (map stmt_of body.now)))) }
+fn write_class(out: &mut TextWriter, class: &ClassDef) -> Result<(), AllocError>
+    ensures { OnOk result (Wrote out.old out.new (class_def_lines out.old.level (class_def_of class.now))) }
 {
     out.begin_line()?;
-    write_class_header(out, name, type_params, bases, words)?;
-    write_block(out, body)
+    write_class_header(
+        out,
+        &class.name,
+        &class.type_params,
+        &class.bases,
+        &class.keywords,
+    )?;
+    write_block(out, &class.body)
 }
 
 /// Writes a `try` with its clauses.
 #[cycle(blocks)]
-fn write_try(
-    out: &mut TextWriter,
-    is_star: bool,
-    body: &[Stmt],
-    caught: &[Handler],
-    orelse: &[Stmt],
-    finalbody: &[Stmt],
-) -> Result<(), AllocError>
+#[tactic(auto, using(pytree_node::proofs::Callers::StmtShapes::try_shape))]
+fn write_try(out: &mut TextWriter, is_star: bool, parts: &Try) -> Result<(), AllocError>
     ensures { OnOk result
         (Wrote out.old out.new
-        (try_lines out.old.level is_star (stmts (map stmt_of body.now))
-        (handlers (map handler_of caught.now))
-        (stmts (map stmt_of orelse.now)) (stmts (map stmt_of finalbody.now)))) }
+        (try_lines out.old.level is_star (stmts (try_of parts.now).body)
+        (handlers (try_of parts.now).handlers)
+        (stmts (try_of parts.now).orelse) (stmts (try_of parts.now).finalbody))) }
 {
     out.begin_line()?;
     write_word_header(out, Keyword::Try)?;
-    write_block(out, body)?;
-    write_handlers(out, is_star, caught)?;
-    write_clause(out, Keyword::Else, orelse)?;
-    write_clause(out, Keyword::Finally, finalbody)
+    write_block(out, &parts.body)?;
+    write_handlers(out, is_star, &parts.handlers)?;
+    write_clause(out, Keyword::Else, &parts.orelse)?;
+    write_clause(out, Keyword::Finally, &parts.finalbody)
 }
 
 /// Writes the handlers of a `try`.

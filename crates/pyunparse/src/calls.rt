@@ -3,7 +3,7 @@
 ghost use Rattle.std.specs.Prelude.{◌≡◌, ◌++◌, OnOk, map, false, true, if◌then◌else◌};
 ghost use Rattle.pylex_lexeme.specs.declared.kinds.Exact.TheVariants.{Comma};
 ghost use Rattle.pytree_node.specs.declared.operators.Context.{Context};
-ghost use Rattle.pytree_node.specs.TreeOf.{keyword_of, tree_of};
+ghost use Rattle.pytree_node.specs.TreeOf.{call_of, keyword_of, tree_of};
 ghost use Rattle.pytree_node.specs.Trees as plain;
 ghost use Rattle.pytree_node.specs.Trees.{an_expr, exprs, keywords, no_exprs};
 ghost use Rattle.pygrammar.specs.declared.levels.Level.TheVariants as Level;
@@ -19,7 +19,7 @@ use crate::displays::write_members;
 use crate::expressions::write_expr;
 use pygrammar::Level;
 use pylex::Exact;
-use pytree_node::{Expr, Identifier, Keyword};
+use pytree_node::{Call, Expr, Identifier, Keyword};
 use pyunparse_text::levels::reaches;
 use pyunparse_text::marks::{Between, Role};
 use pyunparse_text::tokens::{close, open, put_between, put_name, put_sign};
@@ -74,21 +74,15 @@ pub(crate) fn write_subscript<W: Writer>(
 pub(crate) fn write_call<W: Writer>(
     out: &mut W,
     level: Level,
-    func: &Expr,
-    args: &[Expr],
-    words: &[Keyword],
+    call: &Call,
 ) -> Result<(), AllocError>
-    ensures { OnOk result
-        (out.new ≡ puts W.after out.old
-        (pieces level
-        (plain.Call (tree_of func.now) (exprs (map tree_of args.now))
-        (keywords (map keyword_of words.now))))) }
+    ensures { OnOk result (out.new ≡ puts W.after out.old (pieces level (call_of call.now))) }
 {
     let bare = reaches(level, Level::Primary);
     open(out, bare)?;
-    write_expr(out, Level::Primary, func)?;
+    write_expr(out, Level::Primary, &call.func)?;
     put_sign(out, Exact::LPar, Role::Tight)?;
-    write_arguments(out, args, words)?;
+    write_arguments(out, &call.args, &call.keywords)?;
     put_sign(out, Exact::RPar, Role::Trailing)?;
     close(out, bare)
 }

@@ -2,7 +2,7 @@
 
 ghost use Rattle.std.specs.Prelude.{◌≡◌, ◌++◌, ◌∷◌, [], OnOk, map};
 ghost use Rattle.pylex_lexeme.specs.declared.kinds.Exact.TheVariants.{Colon, LBrace, RBrace};
-ghost use Rattle.pytree_node.specs.TreeOf.{comprehension_of, tree_of};
+ghost use Rattle.pytree_node.specs.TreeOf.{comprehension_of, dict_comp_of, tree_of};
 ghost use Rattle.pytree_node.specs.Trees.{comprehensions, exprs};
 ghost use Rattle.pygrammar.specs.declared.levels.Level.TheVariants as Level;
 ghost use Rattle.pyunparse.specs.Inner.Clauses.{clause, condition};
@@ -14,7 +14,7 @@ use crate::expressions::write_expr;
 use pygrammar::Level;
 use pylex::Exact;
 use pytoken::Keyword;
-use pytree_node::{Comprehension, Expr};
+use pytree_node::{Comprehension, DictComp, Expr};
 use pyunparse_text::marks::Role;
 use pyunparse_text::tokens::{put_sign, put_word};
 use pyunparse_text::writers::Writer;
@@ -60,22 +60,16 @@ pub(crate) fn write_generator<W: Writer>(
 #[cycle(writing)]
 pub(crate) fn write_dict_comprehension<W: Writer>(
     out: &mut W,
-    key: &Expr,
-    value: &Expr,
-    generators: &[Comprehension],
+    comp: &DictComp,
 ) -> Result<(), AllocError>
-    ensures { OnOk result
-        (out.new ≡ puts W.after out.old
-        (enclosed piece (leading piece LBrace) RBrace (pieces Level.Expression (tree_of key.now)
-        ++ (trailing piece Colon
-        ∷ (pieces Level.Expression (tree_of value.now)
-        ++ clauses piece (comprehensions (map comprehension_of generators.now))))))) }
+    ensures { (level : Level) → OnOk result
+        (out.new ≡ puts W.after out.old (pieces level (dict_comp_of comp.now))) }
 {
     put_sign(out, Exact::LBrace, Role::Leading)?;
-    write_expr(out, Level::Expression, key)?;
+    write_expr(out, Level::Expression, &comp.key)?;
     put_sign(out, Exact::Colon, Role::Trailing)?;
-    write_expr(out, Level::Expression, value)?;
-    write_clauses(out, generators)?;
+    write_expr(out, Level::Expression, &comp.value)?;
+    write_clauses(out, &comp.generators)?;
     put_sign(out, Exact::RBrace, Role::Trailing)
 }
 

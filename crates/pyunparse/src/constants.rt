@@ -76,7 +76,8 @@ pub(crate) fn put_constant<W: Writer>(out: &mut W, value: &Constant) -> Result<(
         Constant::Int(number) => put_integer(out, number),
         Constant::Float(float) => put_float(out, *float),
         Constant::Imaginary(float) => put_imaginary(out, *float),
-        Constant::Str { points, unicode } => out.put_str(points.as_slice(), *unicode),
+        Constant::Str(points) => out.put_str(points.as_slice(), false),
+        Constant::UnicodeStr(points) => out.put_str(points.as_slice(), true),
         Constant::Bytes(bytes) => out.put_bytes(bytes),
     }
 }

@@ -2,20 +2,20 @@
 
 ghost use Rattle.std.specs.Prelude.{◌≡◌, Option, OnOk, map, true};
 ghost use Rattle.pylex_lexeme.specs.declared.kinds.Exact.TheVariants.{LBrace, RBrace, Comma};
-ghost use Rattle.pytree_node.specs.TreeOf.{option_of, tree_of};
+ghost use Rattle.pytree_node.specs.TreeOf.{dict_of, option_of, tree_of};
 ghost use Rattle.pytree_node.specs.Trees.{exprs, optionals};
 ghost use Rattle.pygrammar.specs.declared.levels.Level.TheVariants as Level;
 ghost use Rattle.pyunparse_text.specs.Folds.{puts};
 ghost use Rattle.pyunparse.specs.Inner.Members.{members};
 ghost use Rattle.pyunparse_text.specs.Marks.{mark};
 ghost use Rattle.pyunparse.specs.Inner.Pairs.{pair};
-ghost use Rattle.pyunparse_text.specs.Pieces.{piece};
+ghost use Rattle.pyunparse_text.specs.Pieces.{piece, pieces};
 ghost use Rattle.pyunparse_text.specs.Written.{each, enclosed, leading, listed, pairs, written_keys};
 
 use crate::expressions::write_expr;
 use pygrammar::Level;
 use pylex::Exact;
-use pytree_node::Expr;
+use pytree_node::{Dict, Expr};
 use pyunparse_text::marks::{Between, Role};
 use pyunparse_text::tokens::{put_between, put_sign};
 use pyunparse_text::writers::Writer;
@@ -64,20 +64,12 @@ pub(crate) fn write_display<W: Writer>(
 
 /// Writes a dictionary. What has no key stands after `**`.
 #[cycle(writing)]
-pub(crate) fn write_dict<W: Writer>(
-    out: &mut W,
-    keys: &[Option<Expr>],
-    values: &[Expr],
-) -> Result<(), AllocError>
-    ensures { OnOk result
-        (out.new ≡ puts W.after out.old
-        (enclosed piece (leading piece LBrace) RBrace
-        (listed piece
-        (pairs piece (written_keys piece (optionals (map option_of keys.now)))
-        (exprs (map tree_of values.now)))))) }
+pub(crate) fn write_dict<W: Writer>(out: &mut W, dict: &Dict) -> Result<(), AllocError>
+    ensures { (level : Level) → OnOk result
+        (out.new ≡ puts W.after out.old (pieces level (dict_of dict.now))) }
 {
     put_sign(out, Exact::LBrace, Role::Leading)?;
-    write_pairs(out, keys, values)?;
+    write_pairs(out, &dict.keys, &dict.values)?;
     put_sign(out, Exact::RBrace, Role::Trailing)
 }
 

@@ -47,7 +47,7 @@ pub(crate) fn write_expr<W: Writer>(out: &mut W, level: Level, e: &Expr) -> Resu
         Expr::UnaryOp { op, operand } => write_unary(out, level, *op, operand),
         Expr::Lambda { args, body } => write_lambda(out, level, args, body),
         Expr::IfExp { test, body, orelse } => write_conditional(out, level, test, body, orelse),
-        Expr::Dict { keys, values } => write_dict(out, keys, values),
+        Expr::Dict(dict) => write_dict(out, dict),
         Expr::Set { elts } => write_display(out, Exact::LBrace, Exact::RBrace, elts),
         Expr::ListComp { elt, generators } => {
             write_comprehension(out, Exact::LSqb, Exact::RSqb, elt, generators)
@@ -55,27 +55,15 @@ pub(crate) fn write_expr<W: Writer>(out: &mut W, level: Level, e: &Expr) -> Resu
         Expr::SetComp { elt, generators } => {
             write_comprehension(out, Exact::LBrace, Exact::RBrace, elt, generators)
         }
-        Expr::DictComp {
-            key,
-            value,
-            generators,
-        } => write_dict_comprehension(out, key, value, generators),
+        Expr::DictComp(comp) => write_dict_comprehension(out, comp),
         Expr::GeneratorExp { elt, generators } => {
             write_comprehension(out, Exact::LPar, Exact::RPar, elt, generators)
         }
         Expr::Await { value } => write_await(out, level, value),
         Expr::Yield { value } => write_yield(out, level, value),
         Expr::YieldFrom { value } => write_yield_from(out, level, value),
-        Expr::Compare {
-            left,
-            ops,
-            comparators,
-        } => write_compare(out, level, left, ops, comparators),
-        Expr::Call {
-            func,
-            args,
-            keywords,
-        } => write_call(out, level, func, args, keywords),
+        Expr::Compare(compare) => write_compare(out, level, compare),
+        Expr::Call(call) => write_call(out, level, call),
         Expr::FormattedValue {
             value,
             conversion,
@@ -92,7 +80,7 @@ pub(crate) fn write_expr<W: Writer>(out: &mut W, level: Level, e: &Expr) -> Resu
         Expr::Name { id, .. } => put_name(out, id),
         Expr::List { elts, .. } => write_display(out, Exact::LSqb, Exact::RSqb, elts),
         Expr::Tuple { elts, .. } => write_tuple(out, level, elts),
-        Expr::Slice { lower, upper, step } => write_slice(out, level, lower, upper, step),
+        Expr::Slice(slice) => write_slice(out, level, slice),
     }
 }
 

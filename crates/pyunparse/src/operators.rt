@@ -1,7 +1,7 @@
 //! Expressions of operators and of keywords.
 
 ghost use Rattle.std.specs.Prelude.{◌≡◌, OnOk, map};
-ghost use Rattle.pytree_node.specs.TreeOf.{arguments_of, boxed_of, tree_of};
+ghost use Rattle.pytree_node.specs.TreeOf.{arguments_of, boxed_of, compare_of, tree_of};
 ghost use Rattle.pytree_node.specs.Trees as plain;
 ghost use Rattle.pytree_node.specs.Trees.{exprs, optional};
 ghost use Rattle.pygrammar.specs.Operators.{chain_word};
@@ -18,7 +18,7 @@ use crate::parameters::write_parameters;
 use pygrammar::Level;
 use pylex::Exact;
 use pytoken::Keyword;
-use pytree_node::{Arguments, BoolOperator, Comparison, Expr, Operator, UnaryOperator};
+use pytree_node::{Arguments, BoolOperator, Compare, Comparison, Expr, Operator, UnaryOperator};
 use pyunparse_text::levels::{
     chain_level, chain_member_level, left_level, operator_level, reaches, right_level, unary_level,
 };
@@ -217,19 +217,15 @@ pub(crate) fn write_yield_from<W: Writer>(
 pub(crate) fn write_compare<W: Writer>(
     out: &mut W,
     level: Level,
-    left: &Expr,
-    ops: &[Comparison],
-    comparators: &[Expr],
+    compare: &Compare,
 ) -> Result<(), AllocError>
     ensures { OnOk result
-        (out.new ≡ puts W.after out.old
-        (pieces level
-        (plain.Compare (tree_of left.now) ops.now (exprs (map tree_of comparators.now))))) }
+        (out.new ≡ puts W.after out.old (pieces level (compare_of compare.now))) }
 {
     let bare = reaches(level, Level::Compare);
     open(out, bare)?;
-    write_expr(out, Level::BitOr, left)?;
-    write_compared(out, ops, comparators)?;
+    write_expr(out, Level::BitOr, &compare.left)?;
+    write_compared(out, &compare.ops, &compare.comparators)?;
     close(out, bare)
 }
 

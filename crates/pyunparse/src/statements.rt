@@ -45,6 +45,21 @@ pub(crate) fn write_option<W: Writer>(
     }
 }
 
+/// Writes an expression in a box that may be absent.
+fn write_boxed<W: Writer>(
+    out: &mut W,
+    level: Level,
+    e: &Option<Box<Expr>>,
+) -> Result<(), AllocError>
+    ensures { OnOk result
+        (out.new ≡ puts W.after out.old (written.perhaps_written piece level (boxed_of e.now))) }
+{
+    match e {
+        None => Ok(()),
+        Some(e) => write_expr(out, level, e),
+    }
+}
+
 /// Writes a sign and an expression, or nothing.
 pub(crate) fn write_behind<W: Writer>(
     out: &mut W,
@@ -112,23 +127,23 @@ fn write_annotated<W: Writer>(out: &mut W, target: &Expr, simple: bool) -> Resul
 /// Writes a `raise`.
 fn write_raise<W: Writer>(
     out: &mut W,
-    exc: &Option<Expr>,
-    cause: &Option<Expr>,
+    exc: &Option<Box<Expr>>,
+    cause: &Option<Box<Expr>>,
 ) -> Result<(), AllocError>
     ensures { OnOk result
         (out.new ≡ puts W.after out.old
-        (written.simple_tokens piece (plain.Raise (option_of exc.now) (option_of cause.now)))) }
+        (written.simple_tokens piece (plain.Raise (boxed_of exc.now) (boxed_of cause.now)))) }
 {
     put_word(out, Keyword::Raise)?;
-    write_option(out, Level::Expression, exc)?;
+    write_boxed(out, Level::Expression, exc)?;
     write_cause(out, cause)
 }
 
 /// Writes the cause of a `raise`, if there is one.
-fn write_cause<W: Writer>(out: &mut W, cause: &Option<Expr>) -> Result<(), AllocError>
+fn write_cause<W: Writer>(out: &mut W, cause: &Option<Box<Expr>>) -> Result<(), AllocError>
     ensures { OnOk result
         (out.new ≡ puts W.after out.old
-        (written.behind piece (word piece Key.From) Level.Expression (option_of cause.now))) }
+        (written.behind piece (word piece Key.From) Level.Expression (boxed_of cause.now))) }
 {
     match cause {
         None => Ok(()),
@@ -140,10 +155,14 @@ fn write_cause<W: Writer>(out: &mut W, cause: &Option<Expr>) -> Result<(), Alloc
 }
 
 /// Writes an `assert`.
-fn write_assert<W: Writer>(out: &mut W, test: &Expr, msg: &Option<Expr>) -> Result<(), AllocError>
+fn write_assert<W: Writer>(
+    out: &mut W,
+    test: &Expr,
+    msg: &Option<Box<Expr>>,
+) -> Result<(), AllocError>
     ensures { OnOk result
         (out.new ≡ puts W.after out.old
-        (written.simple_tokens piece (plain.Assert (tree_of test.now) (option_of msg.now)))) }
+        (written.simple_tokens piece (plain.Assert (tree_of test.now) (boxed_of msg.now)))) }
 {
     put_word(out, Keyword::Assert)?;
     write_expr(out, Level::Expression, test)?;
@@ -151,10 +170,10 @@ fn write_assert<W: Writer>(out: &mut W, test: &Expr, msg: &Option<Expr>) -> Resu
 }
 
 /// Writes the message of an `assert`, if there is one.
-fn write_message<W: Writer>(out: &mut W, msg: &Option<Expr>) -> Result<(), AllocError>
+fn write_message<W: Writer>(out: &mut W, msg: &Option<Box<Expr>>) -> Result<(), AllocError>
     ensures { OnOk result
         (out.new ≡ puts W.after out.old
-        (written.behind piece (trailing piece Comma) Level.Expression (option_of msg.now))) }
+        (written.behind piece (trailing piece Comma) Level.Expression (boxed_of msg.now))) }
 {
     match msg {
         None => Ok(()),

@@ -14,7 +14,8 @@ fn constant_text(value: &Constant) -> &[u32]
         ≡ written.first_text (an_expr (plain.Constant (constant_of value.now)) no_exprs) }
 {
     match value {
-        Constant::Str { points, .. } => points.as_slice(),
+        Constant::Str(points) => points.as_slice(),
+        Constant::UnicodeStr(points) => points.as_slice(),
         _ => &[],
     }
 }
@@ -44,10 +45,7 @@ fn is_unicode_text(value: &Constant) -> bool
     ensures { result
         ≡ written.is_unicode (an_expr (plain.Constant (constant_of value.now)) no_exprs) }
 {
-    match value {
-        Constant::Str { unicode, .. } => *unicode,
-        _ => false,
-    }
+    matches!(value, Constant::UnicodeStr(_))
 }
 
 /// Whether a text of the kind `u` is among values, or in the format spec of a field.

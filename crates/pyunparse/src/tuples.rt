@@ -2,7 +2,7 @@
 
 ghost use Rattle.std.specs.Prelude.{◌≡◌, OnOk, map};
 ghost use Rattle.pytree_node.specs.declared.operators.Context.{Context};
-ghost use Rattle.pytree_node.specs.TreeOf.{boxed_of, tree_of};
+ghost use Rattle.pytree_node.specs.TreeOf.{boxed_of, slice_of, tree_of};
 ghost use Rattle.pytree_node.specs.Trees as plain;
 ghost use Rattle.pytree_node.specs.Trees.{exprs, optional};
 ghost use Rattle.pyunparse.specs.Inner.Elements.{are_bare, is_alone, is_elem, is_part, last};
@@ -14,7 +14,7 @@ use crate::displays::write_members;
 use crate::optional::{write_perhaps, write_suffix};
 use pygrammar::Level;
 use pylex::Exact;
-use pytree_node::Expr;
+use pytree_node::{Expr, Slice};
 use pyunparse_text::levels::{element_level, reaches, tuple_level};
 use pyunparse_text::marks::{Between, Role};
 use pyunparse_text::sorts::{Sort, sort_of};
@@ -120,21 +120,15 @@ pub(crate) fn put_last<W: Writer>(out: &mut W, is_alone: bool) -> Result<(), All
 pub(crate) fn write_slice<W: Writer>(
     out: &mut W,
     level: Level,
-    lower: &Option<Box<Expr>>,
-    upper: &Option<Box<Expr>>,
-    step: &Option<Box<Expr>>,
+    slice: &Slice,
 ) -> Result<(), AllocError>
-    ensures { OnOk result
-        (out.new ≡ puts W.after out.old
-        (pieces level
-        (plain.Slice (optional (boxed_of lower.now)) (optional (boxed_of upper.now))
-        (optional (boxed_of step.now))))) }
+    ensures { OnOk result (out.new ≡ puts W.after out.old (pieces level (slice_of slice.now))) }
 {
     let bare = reaches(level, Level::Slice);
     open(out, bare)?;
-    write_perhaps(out, Level::Expression, lower)?;
+    write_perhaps(out, Level::Expression, &slice.lower)?;
     put_sign(out, Exact::Colon, Role::Tight)?;
-    write_perhaps(out, Level::Expression, upper)?;
-    write_suffix(out, Exact::Colon, Role::Tight, step)?;
+    write_perhaps(out, Level::Expression, &slice.upper)?;
+    write_suffix(out, Exact::Colon, Role::Tight, &slice.step)?;
     close(out, bare)
 }

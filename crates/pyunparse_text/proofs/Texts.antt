@@ -4,7 +4,6 @@ pub mod EncodedLemmas
 pub mod LevelLemmas
 pub mod ReprLemmas
 pub mod ShapeLemmas
-pub mod Shapes
 pub mod SpaceLemmas
 pub mod StringLemmas
 pub mod TokenLemmas

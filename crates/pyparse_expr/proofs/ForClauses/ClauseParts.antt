@@ -10,6 +10,11 @@ use Rattle.pytree_node.specs.declared.expressions.Arguments.{Arguments}
 use Rattle.pytree_node.specs.declared.expressions.Comprehension as given
 use Rattle.pytree_node.specs.declared.expressions.Comprehension.{Comprehension}
 use Rattle.pytree_node.specs.declared.expressions.Keyword.{Keyword}
+use Rattle.pytree_node.specs.declared.expressions.Call.{Call}
+use Rattle.pytree_node.specs.declared.expressions.Compare.{Compare}
+use Rattle.pytree_node.specs.declared.expressions.Dict.{Dict}
+use Rattle.pytree_node.specs.declared.expressions.DictComp.{DictComp}
+use Rattle.pytree_node.specs.declared.expressions.Slice.{Slice}
 use Rattle.pytree_node.specs.Trees as plain
 use Rattle.pytree_node.specs.Trees.{comprehensions}
 use Rattle.pytree_node.specs.TreeOf.{comprehension_of, tree_of}
@@ -20,7 +25,7 @@ use Rattle.pygrammar.specs.Targets.{stored}
 use Rattle.pygrammar.proofs.Callers.Entries.{stored_height}
 
 abbrev Layer : Type 0
-Layer = layer.Comprehension-F Expr Arg Arguments Comprehension Keyword
+Layer = layer.Comprehension-F Expr Arg Arguments Call Compare Comprehension Dict DictComp Keyword Slice
 
 -- its value, of its fields
 abbrev valued : Layer → plain.Comprehension

@@ -46,7 +46,7 @@ pub(crate) fn augmented_of(target: Read, op: Operator, value: Read) -> ReadState
         height: target.height.max(value.height),
         next: value.next,
         statement: Stmt::AugAssign {
-            target: Box::into_inner(target.expr),
+            target: target.expr,
             op,
             value: Box::into_inner(value.expr),
         },

@@ -175,8 +175,8 @@ pub(crate) fn raise<R: Recorder>(
         height: exc.height.max(cause.height),
         next: cause.next,
         statement: Stmt::Raise {
-            exc: Some(Box::into_inner(exc.expr)),
-            cause: unboxed(cause.expr),
+            exc: Some(exc.expr),
+            cause: cause.expr,
         },
     })
 }
@@ -211,7 +211,7 @@ pub(crate) fn assert<R: Recorder>(
         next: msg.next,
         statement: Stmt::Assert {
             test: Box::into_inner(test.expr),
-            msg: unboxed(msg.expr),
+            msg: msg.expr,
         },
     })
 }

@@ -311,9 +311,9 @@ fn alias_of(name: Read, params: ReadTypeParams, value: Read) -> ReadStatement
         height: name.height.max(params.height.max(value.height)),
         next: value.next,
         statement: Stmt::TypeAlias {
-            name: Box::into_inner(name.expr),
+            name: name.expr,
             type_params: params.params,
-            value: Box::into_inner(value.expr),
+            value: value.expr,
         },
     }
 }

@@ -9,6 +9,11 @@ use Rattle.pytree_node.specs.declared.expressions.Expr.TheOpen as layer
 use Rattle.pytree_node.specs.declared.expressions.Arg.{Arg}
 use Rattle.pytree_node.specs.declared.expressions.Comprehension.{Comprehension}
 use Rattle.pytree_node.specs.declared.expressions.Keyword.{Keyword}
+use Rattle.pytree_node.specs.declared.expressions.Call.{Call}
+use Rattle.pytree_node.specs.declared.expressions.Compare.{Compare}
+use Rattle.pytree_node.specs.declared.expressions.Dict.{Dict}
+use Rattle.pytree_node.specs.declared.expressions.DictComp.{DictComp}
+use Rattle.pytree_node.specs.declared.expressions.Slice.{Slice}
 use Rattle.pytree_node.specs.Trees as plain
 use Rattle.pytree_node.specs.Trees.{args, exprs, optional, optional_arg, optionals}
 use Rattle.pytree_node.specs.TreeOf.{arg_of, arg_option_of, arguments_of, option_of, tree_of}
@@ -17,7 +22,7 @@ use Rattle.pygrammar.specs.Parameters.{no_arguments}
 use Rattle.pyparse_nodes.specs.declared.parameters.Stage.{Stage}
 use Rattle.pyparse_nodes.specs.Formals.{state, before, args_before, optionals_before, exprs_before, arg_or}
 
-abbrev valued : layer.Arguments-F Expr Arg Arguments Comprehension Keyword → plain.Arguments
+abbrev valued : layer.Arguments-F Expr Arg Arguments Call Compare Comprehension Dict DictComp Keyword Slice → plain.Arguments
 valued o = plain.arguments (args (map arg_of o.posonlyargs.items)) (args (map arg_of o.args.items))
     (optional_arg (arg_option_of o.vararg)) (args (map arg_of o.kwonlyargs.items))
     (optionals (map option_of o.kw_defaults.items)) (optional_arg (arg_option_of o.kwarg)) (exprs (map tree_of o.defaults.items))
@@ -38,7 +43,7 @@ this_arg : (o : Option plain.Arg) → optional_arg o ≡ arg_or o plain.absent_a
 this_arg None = refl
 this_arg (Some a) = refl
 
-pub node_is : (a : layer.Arguments-F Expr Arg Arguments Comprehension Keyword) (g : Stage) (b : Bool) →
+pub node_is : (a : layer.Arguments-F Expr Arg Arguments Call Compare Comprehension Dict DictComp Keyword Slice) (g : Stage) (b : Bool) →
     arguments_of (given.roll-Arguments a) ≡ before (state g b (map arg_of a.posonlyargs.items) (map arg_of a.args.items)
     (arg_option_of a.vararg)
     (map arg_of a.kwonlyargs.items) (map optional (map option_of a.kw_defaults.items)) (arg_option_of a.kwarg)

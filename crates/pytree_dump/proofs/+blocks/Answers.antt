@@ -1,9 +1,9 @@
 use Rattle.std.specs.Prelude.{decimal}
-use Rattle.std.proofs.Common.{◌≡◌, ◌+◌, ◌++◌, true, arith, refl, sym, map, ◌∙◌, codes}
+use Rattle.std.proofs.Common.{◌≡◌, ◌+◌, ◌++◌, true, arith, refl, ap, sym, map, ◌∙◌, codes}
 use Rattle.std.specs.String.{string_bytes}
 use Rattle.pytree_node.specs.TreeOf.{alias_of, arguments_of, boxed_of, case_of, handler_of, item_of, keyword_of, option_of, pattern_of}
-use Rattle.pytree_node.specs.TreeOf.{stmt_of, tree_of, type_param_of}
-use Rattle.pytree_dump_text.specs.Shows.{Fields, Shown, Node, Scalar, a_field, expr_field, left_out, name_field, no_field, shown}
+use Rattle.pytree_node.specs.TreeOf.{stmt_of, tree_of, type_param_of, class_def_of, function_def_of, try_of}
+use Rattle.pytree_dump_text.specs.Shows.{Fields, Shown, Node, Row, Scalar, a_field, expr_field, left_out, name_field, no_field, shown}
 use Rattle.pytree_dump_text.specs.Shows.{shown_alias, shown_arguments, shown_flag, shown_item, shown_keyword, shown_name, shown_pattern}
 use Rattle.pytree_dump_text.specs.Shows.{shown_stmt, shown_type_param, type_params_field}
 use Rattle.pytree_dump_text.specs.Layout.{before, is_flat, shown_count}
@@ -14,17 +14,21 @@ use Rattle.pytree_dump.proofs.RowLemmas.{type_params_row}
 use Rattle.pytree_dump.proofs.BlockLemmas.{case_shows, case_weighs, handler_shows, handler_weighs, stmts_row, cases_row, handlers_row}
 use Rattle.pytree_dump.proofs.TextLemmas.{left}
 use Rattle.pytree_dump.proofs.PlaceLemmas.{absent_appended, as_field, field_appended, member_appended, member_left, node_ended, plain_ended}
-use Rattle.pytree_dump.proofs.PlaceLemmas.{row_ended, shown_as, then_field, shown_on}
+use Rattle.pytree_dump.proofs.PlaceLemmas.{node_as, row_ended, shown_as, then_field, shown_on}
+use Rattle.pytree_dump.specs.Inner.Definitions.{function_def_fields, try_fields}
 use Rattle.pytree_dump.specs.Inner.TypeParams.{type_params_before}
 use Rattle.pytree_marked.proofs.Callers.Shortness.{four_or_more, led_line, long_line, marked_line, pattern_marked}
 use Rattle.pytree_dump_text.specs.Names.{field_name}
 use Rattle.pytree_node.specs.declared.statements.Case as given_case
+use Rattle.pytree_node.specs.declared.statements.ClassDef as given_class_def
+use Rattle.pytree_node.specs.declared.statements.FunctionDef as given_function_def
+use Rattle.pytree_node.specs.declared.statements.Try as given_try
 use Rattle.pytree_node.specs.declared.statements.Handler as given_handler
 use Rattle.pytree_node.proofs.Callers.StmtShapes.{ann_assign_tree, assert_tree, assign_tree, async_function_def_tree, async_with_tree}
 use Rattle.pytree_node.proofs.Callers.StmtShapes.{aug_assign_tree, class_def_tree, delete_tree, expr_stmt_tree, function_def_tree}
 use Rattle.pytree_node.proofs.Callers.StmtShapes.{global_tree, if_tree, import_from_tree, import_tree, nonlocal_tree, raise_tree}
 use Rattle.pytree_node.proofs.Callers.StmtShapes.{return_tree, type_alias_tree, while_tree, with_tree, break_tree, continue_tree, pass_tree}
-use Rattle.pytree_node.proofs.Callers.StmtShapes.{for_tree, async_for_tree, match_tree, try_tree, try_star_tree}
+use Rattle.pytree_node.proofs.Callers.StmtShapes.{for_tree, async_for_tree, match_tree, try_tree, try_star_tree, class_def_shape, function_def_shape, try_shape}
 use Rattle.pytree_dump.proofs.+blocks.Goals as goal
 
 pub statements::show_stmts-show_stmt-requires : goal.statements::show_stmts-show_stmt-requires
@@ -103,11 +107,25 @@ compounds::show_with-returns-clause-text g t c =
 pub compounds::show_try-returns-clause-text : goal.compounds::show_try-returns-clause-text
 compounds::show_try-returns-clause-text g t c =
     let s = c.args.style in
-    let F : Fields → Fields = λ rest. a_field (codes "body") (shown_block s.profile c.args.body.now)
-    (a_field (codes "handlers") (shown_caught s.profile c.args.handlers.now)
-    (a_field (codes "orelse") (shown_block s.profile c.args.orelse.now)
-    (a_field (codes "finalbody") (shown_block s.profile c.args.finalbody.now) rest))) in
-    node_ended s _ c.args.class.now F _ c.in_ok-outer.ensures.indentation
+    let o = given_try.out-Try c.args.parts.now in
+    let F : Fields → Fields = λ rest. a_field (codes "body") (shown_block s.profile c.deref.result.now)
+    (a_field (codes "handlers") (shown_caught s.profile c.deref-2.result.now)
+    (a_field (codes "orelse") (shown_block s.profile c.deref-3.result.now)
+    (a_field (codes "finalbody") (shown_block s.profile c.deref-4.result.now) rest))) in
+    let e : try_fields s.profile (try_of c.args.parts.now) ≡ F no_field =
+    rw (
+      try_shape,
+      stmts_row s.profile o.body.items,
+      handlers_row s.profile o.handlers.items,
+      stmts_row s.profile o.orelse.items,
+      stmts_row s.profile o.finalbody.items,
+      sym c.deref.ensures.value,
+      sym c.deref-2.ensures.value,
+      sym c.deref-3.ensures.value,
+      sym c.deref-4.ensures.value,
+    ) refl in
+    node_as s (string_bytes c.args.indentation.now) (string_bytes c.args.out.now) _ c.args.class.now (g.P.PlaceSource.left c.args.places.now) _ (sym e)
+    (node_ended s _ c.args.class.now F _ c.in_ok-outer.ensures.indentation
     (c.is_flat.ensures ∙ long_line true _ _ (F no_field) (four_or_more (F no_field) 0 refl))
     c.in_ok-outer.ensures.text
     (then_field c.in_ok-told.ensures.text c.in_ok-told.ensures.indentation
@@ -115,21 +133,36 @@ compounds::show_try-returns-clause-text g t c =
     (then_field c.in_ok-told-3.ensures.text c.in_ok-told-3.ensures.indentation
     c.in_ok-told-4.ensures.text)))
     (c.in_ok-told-4.ensures.indentation ∙ c.in_ok-told-3.ensures.indentation ∙ c.in_ok-told-2.ensures.indentation
-    ∙ c.in_ok-told.ensures.indentation) c.in_ok-end_node.ensures.text c.in_ok-end_node.ensures.left
+    ∙ c.in_ok-told.ensures.indentation) c.in_ok-end_node.ensures.text c.in_ok-end_node.ensures.left)
 
 pub compounds::show_class-returns-clause-text : goal.compounds::show_class-returns-clause-text
 compounds::show_class-returns-clause-text g t c =
     let s = c.args.style in
-    let F : Fields → Fields = λ rest. a_field (codes "name") (shown_name c.args.name.now)
-    (a_field (codes "bases") (listed (λ e. shown (tree_of e)) c.args.bases.now)
-    (a_field (codes "keywords") (listed (λ k. shown_keyword (keyword_of k)) c.args.words.now)
-    (a_field (codes "body") (shown_block s.profile c.args.body.now)
-    (a_field (codes "decorator_list") (listed (λ e. shown (tree_of e)) c.args.decorator_list.now)
-    (type_params_before s.profile (map type_param_of c.args.type_params.now) rest))))) in
-    node_ended s _ (codes "ClassDef(") F _ c.in_ok-outer.ensures.indentation
+    let o = given_class_def.out-ClassDef c.args.class.now in
+    let params = map type_param_of c.deref-5.result.now in
+    let F : Fields → Fields = λ rest. a_field (codes "name") (shown_name o.name)
+    (a_field (codes "bases") (listed (λ e. shown (tree_of e)) c.deref.result.now)
+    (a_field (codes "keywords") (listed (λ k. shown_keyword (keyword_of k)) c.deref-2.result.now)
+    (a_field (codes "body") (shown_block s.profile c.deref-3.result.now)
+    (a_field (codes "decorator_list") (listed (λ e. shown (tree_of e)) c.deref-4.result.now)
+    (type_params_before s.profile params rest))))) in
+    let e : shown_stmt s.profile (class_def_of c.args.class.now) ≡ Node (codes "ClassDef") (F no_field) =
+    ap (shown_stmt s.profile) (class_def_shape c.args.class.now)
+    ∙ (λ i. Node (codes "ClassDef") (a_field (codes "name") (shown_name o.name)
+    (a_field (codes "bases") (Row (exprs_row o.bases.items i)) (a_field (codes "keywords") (Row (keywords_row o.keywords.items i))
+    (a_field (codes "body") (Row (stmts_row s.profile o.body.items i))
+    (a_field (codes "decorator_list") (Row (exprs_row o.decorator_list.items i))
+    (type_params_field s.profile (map type_param_of o.type_params.items))))))))
+    ∙ (λ i. Node (codes "ClassDef") (a_field (codes "name") (shown_name o.name)
+    (a_field (codes "bases") (listed (λ e. shown (tree_of e)) (sym c.deref.ensures.value i))
+    (a_field (codes "keywords") (listed (λ k. shown_keyword (keyword_of k)) (sym c.deref-2.ensures.value i))
+    (a_field (codes "body") (shown_block s.profile (sym c.deref-3.ensures.value i))
+    (a_field (codes "decorator_list") (listed (λ e. shown (tree_of e)) (sym c.deref-4.ensures.value i))
+    (type_params_field s.profile (map type_param_of (sym c.deref-5.ensures.value i))))))))) in
+    shown_as s (string_bytes c.args.indentation.now) (string_bytes c.args.out.now) _ (g.P.PlaceSource.left c.args.places.now) _ _ _ (sym e)
+    (node_ended s _ (codes "ClassDef(") F _ c.in_ok-outer.ensures.indentation
     (c.is_flat.ensures ∙ long_line true _ _ (F no_field)
-    (four_or_more (F no_field) (shown_count (type_params_before s.profile (map type_param_of c.args.type_params.now) no_field) + 1)
-    refl))
+    (four_or_more (F no_field) (shown_count (type_params_before s.profile params no_field) + 1) refl))
     c.in_ok-outer.ensures.text
     (then_field c.in_ok-told.ensures.text c.in_ok-told.ensures.indentation
     (then_field c.in_ok-told-2.ensures.text c.in_ok-told-2.ensures.indentation
@@ -139,22 +172,35 @@ compounds::show_class-returns-clause-text g t c =
     c.in_ok-told-6.ensures.text)))))
     (c.in_ok-told-6.ensures.indentation ∙ c.in_ok-told-5.ensures.indentation ∙ c.in_ok-told-4.ensures.indentation
     ∙ c.in_ok-told-3.ensures.indentation ∙ c.in_ok-told-2.ensures.indentation ∙ c.in_ok-told.ensures.indentation)
-    c.in_ok-end_node.ensures.text c.in_ok-end_node.ensures.left
+    c.in_ok-end_node.ensures.text c.in_ok-end_node.ensures.left)
 
 pub compounds::show_function-returns-clause-text : goal.compounds::show_function-returns-clause-text
 compounds::show_function-returns-clause-text g t c =
     let s = c.args.style in
-    let F : Fields → Fields = λ rest. a_field (codes "name") (shown_name c.args.name.now)
-    (a_field (codes "args") (shown_arguments (arguments_of c.args.args.now))
-    (a_field (codes "body") (shown_block s.profile c.args.body.now)
-    (a_field (codes "decorator_list") (listed (λ e. shown (tree_of e)) c.args.decorator_list.now)
-    (expr_field (codes "returns") (boxed_of c.args.returns.now)
-    (left_out (type_params_before s.profile (map type_param_of c.args.type_params.now) rest)))))) in
-    node_ended s _ c.args.class.now F _ c.in_ok-outer.ensures.indentation
+    let o = given_function_def.out-FunctionDef c.args.def.now in
+    let params = map type_param_of c.deref-4.result.now in
+    let F : Fields → Fields = λ rest. a_field (codes "name") (shown_name o.name)
+    (a_field (codes "args") (shown_arguments (arguments_of c.deref.result.now))
+    (a_field (codes "body") (shown_block s.profile c.deref-2.result.now)
+    (a_field (codes "decorator_list") (listed (λ e. shown (tree_of e)) c.deref-3.result.now)
+    (expr_field (codes "returns") (boxed_of o.returns) (left_out (type_params_before s.profile params rest)))))) in
+    let e : function_def_fields s.profile (function_def_of c.args.def.now) ≡ F no_field =
+    ap (function_def_fields s.profile) (function_def_shape c.args.def.now)
+    ∙ (λ i. a_field (codes "name") (shown_name o.name) (a_field (codes "args") (shown_arguments (arguments_of (sym c.deref.ensures i)))
+    (a_field (codes "body") (Row (stmts_row s.profile o.body.items i))
+    (a_field (codes "decorator_list") (Row (exprs_row o.decorator_list.items i))
+    (expr_field (codes "returns") (boxed_of o.returns)
+    (left_out (type_params_field s.profile (map type_param_of o.type_params.items))))))))
+    ∙ (λ i. a_field (codes "name") (shown_name o.name) (a_field (codes "args") (shown_arguments (arguments_of c.deref.result.now))
+    (a_field (codes "body") (shown_block s.profile (sym c.deref-2.ensures.value i))
+    (a_field (codes "decorator_list") (listed (λ e. shown (tree_of e)) (sym c.deref-3.ensures.value i))
+    (expr_field (codes "returns") (boxed_of o.returns)
+    (left_out (type_params_field s.profile (map type_param_of (sym c.deref-4.ensures.value i))))))))) in
+    node_as s (string_bytes c.args.indentation.now) (string_bytes c.args.out.now) _ c.args.class.now (g.P.PlaceSource.left c.args.places.now) _ (sym e)
+    (node_ended s _ c.args.class.now F _ c.in_ok-outer.ensures.indentation
     (c.is_flat.ensures ∙ long_line true _ _ (F no_field)
     (four_or_more (F no_field)
-    (shown_count (expr_field (codes "returns") (boxed_of c.args.returns.now)
-    (left_out (type_params_before s.profile (map type_param_of c.args.type_params.now) no_field)))) refl))
+    (shown_count (expr_field (codes "returns") (boxed_of o.returns) (left_out (type_params_before s.profile params no_field)))) refl))
     c.in_ok-outer.ensures.text
     (then_field c.in_ok-told.ensures.text c.in_ok-told.ensures.indentation
     (then_field c.in_ok-told-2.ensures.text c.in_ok-told-2.ensures.indentation
@@ -166,7 +212,7 @@ compounds::show_function-returns-clause-text g t c =
     c.in_ok-told-7.ensures.text))))))
     (c.in_ok-told-7.ensures.indentation ∙ c.in_ok-told-6.ensures.indentation ∙ c.in_ok-told-5.ensures.indentation
     ∙ c.in_ok-told-4.ensures.indentation ∙ c.in_ok-told-3.ensures.indentation ∙ c.in_ok-told-2.ensures.indentation
-    ∙ c.in_ok-told.ensures.indentation) c.in_ok-end_node.ensures.text c.in_ok-end_node.ensures.left
+    ∙ c.in_ok-told.ensures.indentation) c.in_ok-end_node.ensures.text c.in_ok-end_node.ensures.left)
 
 pub handlers::show_handler-returns-clause-text : goal.handlers::show_handler-returns-clause-text
 handlers::show_handler-returns-clause-text g t c =
@@ -236,22 +282,9 @@ cases::show_case-show_block-requires g t c =
 pub statements::show_stmt-returns-in-FunctionDef-clause-text : goal.statements::show_stmt-returns-in-FunctionDef-clause-text
 statements::show_stmt-returns-in-FunctionDef-clause-text g t c =
     let e : shown_stmt c.args.style.profile (stmt_of c.args.s.now) ≡ Node (codes "FunctionDef")
-    (a_field (codes "name") (shown_name c.in-FunctionDef.name)
-    (a_field (codes "args") (shown_arguments (arguments_of c.deref.result.now))
-    (a_field (codes "body") (shown_block c.args.style.profile c.deref-in-FunctionDef.result.now)
-    (a_field (codes "decorator_list") (listed (λ e. shown (tree_of e)) c.deref-in-FunctionDef-2.result.now)
-    (expr_field (codes "returns") (boxed_of c.in-FunctionDef.returns)
-    (left_out (type_params_field c.args.style.profile (map type_param_of c.deref-in-FunctionDef-3.result.now)))))))) =
-    rw (
-      c.in-FunctionDef.is,
-      function_def_tree,
-      stmts_row c.args.style.profile c.in-FunctionDef.body.items,
-      exprs_row c.in-FunctionDef.decorator_list.items,
-      sym c.deref.ensures,
-      sym c.deref-in-FunctionDef.ensures.value,
-      sym c.deref-in-FunctionDef-2.ensures.value,
-      sym c.deref-in-FunctionDef-3.ensures.value,
-    ) refl in
+    (function_def_fields c.args.style.profile (function_def_of c.deref.result.now)) =
+    ap (λ z. shown_stmt c.args.style.profile (stmt_of z)) c.in-FunctionDef.is ∙ ap (shown_stmt c.args.style.profile) (function_def_tree _)
+    ∙ ap (λ z. Node (codes "FunctionDef") (function_def_fields c.args.style.profile (function_def_of z))) (sym c.deref.ensures) in
     shown_on c.args.style (string_bytes c.args.indentation.now) (string_bytes c.args.out.now) (string_bytes c.show_function.new.out)
     (g.P.PlaceSource.left c.args.places.now) (g.P.PlaceSource.left c.show_function.new.places) c.show_function.result _ _ (sym e)
     c.show_function.ensures.text
@@ -259,38 +292,26 @@ statements::show_stmt-returns-in-FunctionDef-clause-text g t c =
 pub statements::show_stmt-returns-in-AsyncFunctionDef-clause-text : goal.statements::show_stmt-returns-in-AsyncFunctionDef-clause-text
 statements::show_stmt-returns-in-AsyncFunctionDef-clause-text g t c =
     let e : shown_stmt c.args.style.profile (stmt_of c.args.s.now) ≡ Node (codes "AsyncFunctionDef")
-    (a_field (codes "name") (shown_name c.in-AsyncFunctionDef.name)
-    (a_field (codes "args") (shown_arguments (arguments_of c.deref-in-AsyncFunctionDef.result.now))
-    (a_field (codes "body") (shown_block c.args.style.profile c.deref-in-AsyncFunctionDef-2.result.now)
-    (a_field (codes "decorator_list") (listed (λ e. shown (tree_of e)) c.deref-in-AsyncFunctionDef-3.result.now)
-    (expr_field (codes "returns") (boxed_of c.in-AsyncFunctionDef.returns)
-    (left_out (type_params_field c.args.style.profile (map type_param_of c.deref-in-AsyncFunctionDef-4.result.now)))))))) =
-    rw (
-      c.in-AsyncFunctionDef.is,
-      async_function_def_tree,
-      stmts_row c.args.style.profile c.in-AsyncFunctionDef.body.items,
-      exprs_row c.in-AsyncFunctionDef.decorator_list.items,
-      sym c.deref-in-AsyncFunctionDef.ensures,
-      sym c.deref-in-AsyncFunctionDef-2.ensures.value,
-      sym c.deref-in-AsyncFunctionDef-3.ensures.value,
-      sym c.deref-in-AsyncFunctionDef-4.ensures.value,
-    ) refl in
-    shown_on c.args.style (string_bytes c.args.indentation.now) (string_bytes c.args.out.now)
-    (string_bytes c.show_function-in-AsyncFunctionDef.new.out) (g.P.PlaceSource.left c.args.places.now)
-    (g.P.PlaceSource.left c.show_function-in-AsyncFunctionDef.new.places) c.show_function-in-AsyncFunctionDef.result _ _ (sym e)
+    (function_def_fields c.args.style.profile (function_def_of c.deref-in-AsyncFunctionDef.result.now)) =
+    ap (λ z. shown_stmt c.args.style.profile (stmt_of z)) c.in-AsyncFunctionDef.is ∙ ap (shown_stmt c.args.style.profile) (async_function_def_tree _)
+    ∙ ap (λ z. Node (codes "AsyncFunctionDef") (function_def_fields c.args.style.profile (function_def_of z))) (sym c.deref-in-AsyncFunctionDef.ensures) in
+    shown_on c.args.style (string_bytes c.args.indentation.now) (string_bytes c.args.out.now) (string_bytes c.show_function-in-AsyncFunctionDef.new.out)
+    (g.P.PlaceSource.left c.args.places.now) (g.P.PlaceSource.left c.show_function-in-AsyncFunctionDef.new.places) c.show_function-in-AsyncFunctionDef.result _ _ (sym e)
     c.show_function-in-AsyncFunctionDef.ensures.text
 
 pub statements::show_stmt-returns-in-TypeAlias-clause-text : goal.statements::show_stmt-returns-in-TypeAlias-clause-text
 statements::show_stmt-returns-in-TypeAlias-clause-text g t c =
     let e : shown_stmt c.args.style.profile (stmt_of c.args.s.now) ≡ Node (codes "TypeAlias")
-    (a_field (codes "name") (shown (tree_of c.in-TypeAlias.name))
-    (a_field (codes "type_params") (listed (λ p. shown_type_param (type_param_of p)) c.deref-in-TypeAlias.result.now)
-    (a_field (codes "value") (shown (tree_of c.in-TypeAlias.value)) no_field))) =
+    (a_field (codes "name") (shown (tree_of c.deref-in-TypeAlias.result.now))
+    (a_field (codes "type_params") (listed (λ p. shown_type_param (type_param_of p)) c.deref-in-TypeAlias-2.result.now)
+    (a_field (codes "value") (shown (tree_of c.deref-in-TypeAlias-3.result.now)) no_field))) =
     rw (
       c.in-TypeAlias.is,
       type_alias_tree,
       type_params_row c.in-TypeAlias.type_params.items,
-      sym c.deref-in-TypeAlias.ensures.value,
+      sym c.deref-in-TypeAlias.ensures,
+      sym c.deref-in-TypeAlias-2.ensures.value,
+      sym c.deref-in-TypeAlias-3.ensures,
     ) refl in
     shown_on c.args.style (string_bytes c.args.indentation.now) (string_bytes c.args.out.now)
     (string_bytes c.show_three-in-TypeAlias.new.out) (g.P.PlaceSource.left c.args.places.now)
@@ -326,26 +347,9 @@ statements::show_stmt-returns-in-ImportFrom-clause-text g t c =
 
 pub statements::show_stmt-returns-in-ClassDef-clause-text : goal.statements::show_stmt-returns-in-ClassDef-clause-text
 statements::show_stmt-returns-in-ClassDef-clause-text g t c =
-    let e : shown_stmt c.args.style.profile (stmt_of c.args.s.now) ≡ Node (codes "ClassDef")
-    (a_field (codes "name") (shown_name c.in-ClassDef.name)
-    (a_field (codes "bases") (listed (λ e. shown (tree_of e)) c.deref-in-ClassDef.result.now)
-    (a_field (codes "keywords") (listed (λ k. shown_keyword (keyword_of k)) c.deref-in-ClassDef-2.result.now)
-    (a_field (codes "body") (shown_block c.args.style.profile c.deref-in-ClassDef-3.result.now)
-    (a_field (codes "decorator_list") (listed (λ e. shown (tree_of e)) c.deref-in-ClassDef-4.result.now)
-    (type_params_field c.args.style.profile (map type_param_of c.deref-in-ClassDef-5.result.now))))))) =
-    rw (
-      c.in-ClassDef.is,
-      class_def_tree,
-      exprs_row c.in-ClassDef.bases.items,
-      keywords_row c.in-ClassDef.keywords.items,
-      stmts_row c.args.style.profile c.in-ClassDef.body.items,
-      exprs_row c.in-ClassDef.decorator_list.items,
-      sym c.deref-in-ClassDef.ensures.value,
-      sym c.deref-in-ClassDef-2.ensures.value,
-      sym c.deref-in-ClassDef-3.ensures.value,
-      sym c.deref-in-ClassDef-4.ensures.value,
-      sym c.deref-in-ClassDef-5.ensures.value,
-    ) refl in
+    let e : shown_stmt c.args.style.profile (stmt_of c.args.s.now) ≡ shown_stmt c.args.style.profile
+    (class_def_of c.deref-in-ClassDef.result.now) =
+    rw (c.in-ClassDef.is, class_def_tree, sym c.deref-in-ClassDef.ensures) refl in
     shown_on c.args.style (string_bytes c.args.indentation.now) (string_bytes c.args.out.now) (string_bytes c.show_class.new.out)
     (g.P.PlaceSource.left c.args.places.now) (g.P.PlaceSource.left c.show_class.new.places) c.show_class.result _ _ (sym e)
     c.show_class.ensures.text
@@ -375,21 +379,22 @@ statements::show_stmt-returns-in-Assign-clause-text g t c =
 
 pub statements::show_stmt-returns-in-AugAssign-clause-text : goal.statements::show_stmt-returns-in-AugAssign-clause-text
 statements::show_stmt-returns-in-AugAssign-clause-text g t c =
-    rw (c.in-AugAssign.is, aug_assign_tree) c.show_three-in-AugAssign.ensures.text
+    rw (c.in-AugAssign.is, aug_assign_tree, sym c.deref-in-AugAssign.ensures) c.show_three-in-AugAssign.ensures.text
 
 pub statements::show_stmt-returns-in-While-clause-text : goal.statements::show_stmt-returns-in-While-clause-text
 statements::show_stmt-returns-in-While-clause-text g t c =
     let e : shown_stmt c.args.style.profile (stmt_of c.args.s.now) ≡ Node (codes "While")
-    (a_field (codes "test") (shown (tree_of c.in-While.test))
-    (a_field (codes "body") (shown_block c.args.style.profile c.deref-in-While.result.now)
-    (a_field (codes "orelse") (shown_block c.args.style.profile c.deref-in-While-2.result.now) no_field))) =
+    (a_field (codes "test") (shown (tree_of c.deref-in-While.result.now))
+    (a_field (codes "body") (shown_block c.args.style.profile c.deref-in-While-2.result.now)
+    (a_field (codes "orelse") (shown_block c.args.style.profile c.deref-in-While-3.result.now) no_field))) =
     rw (
       c.in-While.is,
       while_tree,
       stmts_row c.args.style.profile c.in-While.body.items,
       stmts_row c.args.style.profile c.in-While.orelse.items,
-      sym c.deref-in-While.ensures.value,
+      sym c.deref-in-While.ensures,
       sym c.deref-in-While-2.ensures.value,
+      sym c.deref-in-While-3.ensures.value,
     ) refl in
     shown_on c.args.style (string_bytes c.args.indentation.now) (string_bytes c.args.out.now) (string_bytes c.show_test.new.out)
     (g.P.PlaceSource.left c.args.places.now) (g.P.PlaceSource.left c.show_test.new.places) c.show_test.result _ _ (sym e)
@@ -398,16 +403,17 @@ statements::show_stmt-returns-in-While-clause-text g t c =
 pub statements::show_stmt-returns-in-If-clause-text : goal.statements::show_stmt-returns-in-If-clause-text
 statements::show_stmt-returns-in-If-clause-text g t c =
     let e : shown_stmt c.args.style.profile (stmt_of c.args.s.now) ≡ Node (codes "If")
-    (a_field (codes "test") (shown (tree_of c.in-If.test))
-    (a_field (codes "body") (shown_block c.args.style.profile c.deref-in-If.result.now)
-    (a_field (codes "orelse") (shown_block c.args.style.profile c.deref-in-If-2.result.now) no_field))) =
+    (a_field (codes "test") (shown (tree_of c.deref-in-If.result.now))
+    (a_field (codes "body") (shown_block c.args.style.profile c.deref-in-If-2.result.now)
+    (a_field (codes "orelse") (shown_block c.args.style.profile c.deref-in-If-3.result.now) no_field))) =
     rw (
       c.in-If.is,
       if_tree,
       stmts_row c.args.style.profile c.in-If.body.items,
       stmts_row c.args.style.profile c.in-If.orelse.items,
-      sym c.deref-in-If.ensures.value,
+      sym c.deref-in-If.ensures,
       sym c.deref-in-If-2.ensures.value,
+      sym c.deref-in-If-3.ensures.value,
     ) refl in
     shown_on c.args.style (string_bytes c.args.indentation.now) (string_bytes c.args.out.now) (string_bytes c.show_test-in-If.new.out)
     (g.P.PlaceSource.left c.args.places.now) (g.P.PlaceSource.left c.show_test-in-If.new.places) c.show_test-in-If.result _ _ (sym e)
@@ -450,14 +456,17 @@ statements::show_stmt-returns-in-AsyncWith-clause-text g t c =
 
 pub statements::show_stmt-returns-in-Raise-clause-text : goal.statements::show_stmt-returns-in-Raise-clause-text
 statements::show_stmt-returns-in-Raise-clause-text g t c =
+    let last : Fields = with_slot (slot_of c.boxed_part-in-Raise-2.result) no_field in
     rw (c.in-Raise.is, raise_tree) (rw (
-      sym (c.option_part-in-Raise-2.ensures no_field),
-      sym (c.option_part-in-Raise.ensures (with_slot (slot_of c.option_part-in-Raise-2.result) no_field)),
+      sym (c.boxed_part-in-Raise-2.ensures no_field ∙ boxed_field (codes "cause") (boxed_of c.in-Raise.cause) no_field),
+      sym (c.boxed_part-in-Raise.ensures last ∙ boxed_field (codes "exc") (boxed_of c.in-Raise.exc) last),
     ) c.show_two.ensures.text)
 
 pub statements::show_stmt-returns-in-Assert-clause-text : goal.statements::show_stmt-returns-in-Assert-clause-text
 statements::show_stmt-returns-in-Assert-clause-text g t c =
-    rw (c.in-Assert.is, assert_tree) (rw (sym (c.option_part-in-Assert.ensures no_field)) c.show_two-in-Assert.ensures.text)
+    rw (c.in-Assert.is, assert_tree) (rw
+    (sym (c.boxed_part-in-Assert.ensures no_field ∙ boxed_field (codes "msg") (boxed_of c.in-Assert.msg) no_field))
+    c.show_two-in-Assert.ensures.text)
 
 pub statements::show_stmt-returns-in-Import-clause-text : goal.statements::show_stmt-returns-in-Import-clause-text
 statements::show_stmt-returns-in-Import-clause-text g t c =
@@ -616,22 +625,8 @@ statements::show_stmt-returns-in-Match-clause-text g t c =
 pub statements::show_stmt-returns-in-Try-clause-text : goal.statements::show_stmt-returns-in-Try-clause-text
 statements::show_stmt-returns-in-Try-clause-text g t c =
     let e : shown_stmt c.args.style.profile (stmt_of c.args.s.now) ≡ Node (codes "Try")
-    (a_field (codes "body") (shown_block c.args.style.profile c.deref-in-Try.result.now)
-    (a_field (codes "handlers") (shown_caught c.args.style.profile c.deref-in-Try-2.result.now)
-    (a_field (codes "orelse") (shown_block c.args.style.profile c.deref-in-Try-3.result.now)
-    (a_field (codes "finalbody") (shown_block c.args.style.profile c.deref-in-Try-4.result.now) no_field)))) =
-    rw (
-      c.in-Try.is,
-      try_tree,
-      stmts_row c.args.style.profile c.in-Try.body.items,
-      handlers_row c.args.style.profile c.in-Try.handlers.items,
-      stmts_row c.args.style.profile c.in-Try.orelse.items,
-      stmts_row c.args.style.profile c.in-Try.finalbody.items,
-      sym c.deref-in-Try.ensures.value,
-      sym c.deref-in-Try-2.ensures.value,
-      sym c.deref-in-Try-3.ensures.value,
-      sym c.deref-in-Try-4.ensures.value,
-    ) refl in
+    (try_fields c.args.style.profile (try_of c.deref-in-Try.result.now)) =
+    rw (c.in-Try.is, try_tree, sym c.deref-in-Try.ensures) refl in
     shown_on c.args.style (string_bytes c.args.indentation.now) (string_bytes c.args.out.now) (string_bytes c.show_try.new.out)
     (g.P.PlaceSource.left c.args.places.now) (g.P.PlaceSource.left c.show_try.new.places) c.show_try.result _ _ (sym e)
     c.show_try.ensures.text
@@ -639,23 +634,8 @@ statements::show_stmt-returns-in-Try-clause-text g t c =
 pub statements::show_stmt-returns-in-TryStar-clause-text : goal.statements::show_stmt-returns-in-TryStar-clause-text
 statements::show_stmt-returns-in-TryStar-clause-text g t c =
     let e : shown_stmt c.args.style.profile (stmt_of c.args.s.now) ≡ Node (codes "TryStar")
-    (a_field (codes "body") (shown_block c.args.style.profile c.deref-in-TryStar.result.now)
-    (a_field (codes "handlers") (shown_caught c.args.style.profile c.deref-in-TryStar-2.result.now)
-    (a_field (codes "orelse") (shown_block c.args.style.profile c.deref-in-TryStar-3.result.now)
-    (a_field (codes "finalbody") (shown_block c.args.style.profile c.deref-in-TryStar-4.result.now) no_field)))) =
-    rw (
-      c.in-TryStar.is,
-      try_star_tree,
-      stmts_row c.args.style.profile c.in-TryStar.body.items,
-      handlers_row c.args.style.profile c.in-TryStar.handlers.items,
-      stmts_row c.args.style.profile c.in-TryStar.orelse.items,
-      stmts_row c.args.style.profile c.in-TryStar.finalbody.items,
-      sym c.deref-in-TryStar.ensures.value,
-      sym c.deref-in-TryStar-2.ensures.value,
-      sym c.deref-in-TryStar-3.ensures.value,
-      sym c.deref-in-TryStar-4.ensures.value,
-    ) refl in
+    (try_fields c.args.style.profile (try_of c.deref-in-TryStar.result.now)) =
+    rw (c.in-TryStar.is, try_star_tree, sym c.deref-in-TryStar.ensures) refl in
     shown_on c.args.style (string_bytes c.args.indentation.now) (string_bytes c.args.out.now) (string_bytes c.show_try-in-TryStar.new.out)
-    (g.P.PlaceSource.left c.args.places.now) (g.P.PlaceSource.left c.show_try-in-TryStar.new.places)
-    c.show_try-in-TryStar.result _ _ (sym e)
+    (g.P.PlaceSource.left c.args.places.now) (g.P.PlaceSource.left c.show_try-in-TryStar.new.places) c.show_try-in-TryStar.result _ _ (sym e)
     c.show_try-in-TryStar.ensures.text

@@ -1,5 +1,8 @@
 use Rattle.std.proofs.Common.{◌≡◌, ◌+◌, ◌*◌, ◌++◌, true, map, drop}
 use Rattle.std.specs.String.{string_bytes}
+use Rattle.pytree_node.specs.declared.statements.ClassDef as given_class_def
+use Rattle.pytree_node.specs.declared.statements.FunctionDef as given_function_def
+use Rattle.pytree_node.specs.declared.statements.Try as given_try
 use Rattle.pytree_node.specs.TreeOf.{case_of, handler_of, stmt_of}
 use Rattle.pytree_dump_text.specs.Layout.{members}
 use Rattle.pytree_marked.specs.MarkedNodes.{rows_with}
@@ -42,14 +45,16 @@ decreases-compounds::show_with g l = 4 * weight (shown_block l.style.profile l.b
 
 abbrev pub decreases-compounds::show_try : goal.decreases-compounds::show_try
 decreases-compounds::show_try g l =
-    4 * (weight (shown_block l.style.profile l.body.now) + (weight (shown_caught l.style.profile l.handlers.now)
-    + (weight (shown_block l.style.profile l.orelse.now) + weight (shown_block l.style.profile l.finalbody.now)))) + 2
+    let o = given_try.out-Try l.parts.now in
+    4 * (weight (shown_block l.style.profile o.body.items) + (weight (shown_caught l.style.profile o.handlers.items)
+    + (weight (shown_block l.style.profile o.orelse.items) + weight (shown_block l.style.profile o.finalbody.items)))) + 2
 
 abbrev pub decreases-compounds::show_function : goal.decreases-compounds::show_function
-decreases-compounds::show_function g l = 4 * weight (shown_block l.style.profile l.body.now) + 2
+decreases-compounds::show_function g l =
+    4 * weight (shown_block l.style.profile (given_function_def.out-FunctionDef l.def.now).body.items) + 2
 
 abbrev pub decreases-compounds::show_class : goal.decreases-compounds::show_class
-decreases-compounds::show_class g l = 4 * weight (shown_block l.style.profile l.body.now) + 2
+decreases-compounds::show_class g l = 4 * weight (shown_block l.style.profile (given_class_def.out-ClassDef l.class.now).body.items) + 2
 
 abbrev pub decreases-handlers::show_caught : goal.decreases-handlers::show_caught
 decreases-handlers::show_caught g l = 4 * weight (shown_caught l.style.profile l.handlers.now) + 1

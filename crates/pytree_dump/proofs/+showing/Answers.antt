@@ -1,14 +1,14 @@
 use Rattle.std.specs.Prelude.{decimal}
 use Rattle.std.proofs.Common.{rules, ◌≡◌, ◌+◌, ◌++◌, ◌||◌, OnOk, [], arith, refl, ap, sym, subst, map, codes, ◌∙◌, true, false}
 use Rattle.std.specs.String.{string_bytes}
-use Rattle.pytree_node.specs.Trees.{Constant as ConstantTree, Name, optional}
+use Rattle.pytree_node.specs.Trees.{Constant as ConstantTree, Name, exprs, keywords, optional}
 use Rattle.pytree_node.specs.TreeOf.{constant_of, tree_of, option_of, comprehension_of, keyword_of, arg_of, arguments_of, item_of}
-use Rattle.pytree_node.specs.TreeOf.{type_param_of, alias_of}
+use Rattle.pytree_node.specs.TreeOf.{type_param_of, alias_of, call_of, compare_of, dict_of, dict_comp_of, slice_of}
 use Rattle.pytree_dump_text.specs.Layout.{text, before, is_flat, is_short}
 use Rattle.pytree_dump_text.specs.Shows.{Fields, Shown, kind_field, shown_flag, a_field, bool_name, context_name, expr_field, operator_name}
 use Rattle.pytree_dump_text.specs.Shows.{shown, shown_name, shown_optional, shown_comprehension, shown_keyword, shown_arg, shown_arguments}
 use Rattle.pytree_dump_text.specs.Shows.{shown_item, shown_type_param, unary_name, word, comparison_name, showns, Row, no_field}
-use Rattle.pytree_dump_text.specs.Shows.{shown_alias, Node, value_text}
+use Rattle.pytree_dump_text.specs.Shows.{shown_alias, shown_exprs, shown_keywords, Node, value_text}
 use Rattle.pytree_dump_text.specs.Slots.{is_missing, slot_of, with_slot}
 use Rattle.pytree_dump.specs.Inner.Weights.{weight, field_weights}
 use Rattle.pytree_dump.proofs.JoinedLemmas.{unplaced_appended, attribute_text, call_text, empty_appended, empty_row, joined_node}
@@ -19,7 +19,7 @@ use Rattle.pysource.specs.Reprs.{repr_text}
 use Rattle.pytree_dump_text.proofs.Callers.Results.{where_pushed}
 use Rattle.pytree_dump.proofs.ArgumentsLemmas.{five_shown, seven_weigh, arguments_shown}
 use Rattle.pytree_dump.proofs.RowLemmas.{slot_weighs, member_weight, exprs_row, comprehensions_row, keywords_row, comparisons_row}
-use Rattle.pytree_dump.proofs.RowLemmas.{optionals_row}
+use Rattle.pytree_dump.proofs.RowLemmas.{optionals_row, weighs}
 use Rattle.pytree_dump.proofs.TextLemmas.{left}
 use Rattle.pytree_dump.proofs.PlaceLemmas.{as_field, member_appended, member_left, node_ended, plain_appended, plain_ended, row_ended}
 use Rattle.pytree_dump.proofs.PlaceLemmas.{scalar_on, scalar_pushed, slot_absent, slot_appended, then_field, word_pushed, shown_on}
@@ -34,6 +34,11 @@ use Rattle.pytree_node.proofs.Callers.ExprShapes.{joined_str_tree, slice_tree, c
 use Rattle.pytree_node.proofs.Callers.ExprShapes.{constant_tree, dict_tree, if_exp_tree, lambda_tree, list_comp_tree, list_tree, name_tree}
 use Rattle.pytree_node.proofs.Callers.ExprShapes.{named_expr_tree, set_comp_tree, set_tree, starred_tree, subscript_tree, tuple_tree}
 use Rattle.pytree_node.proofs.Callers.ExprShapes.{unary_op_tree, yield_from_tree, yield_tree, attribute_tree}
+use Rattle.pytree_node.proofs.Callers.ExprShapes.{call_shape, compare_shape, dict_shape, dict_comp_shape, slice_shape}
+use Rattle.pytree_node.specs.declared.expressions.Call as given_call
+use Rattle.pytree_node.specs.declared.expressions.Compare as given_compare
+use Rattle.pytree_node.specs.declared.expressions.Dict as given_dict
+use Rattle.pytree_node.specs.declared.expressions.DictComp as given_dict_comp
 use Rattle.pytree_dump.proofs.+showing.Goals as goal
 
 pub nodes::show_field-returns-clause-text : goal.nodes::show_field-returns-clause-text
@@ -292,40 +297,6 @@ joined::show_joined_keywords-returns-clause-text g t c =
 pub joined::show_joined_keywords-show_keywords-requires : goal.joined::show_joined_keywords-show_keywords-requires
 joined::show_joined_keywords-show_keywords-requires g t c = (λ κs l. (omega arith, l))
 
-pub joined::show_joined_call-returns-clause-text : goal.joined::show_joined_call-returns-clause-text
-joined::show_joined_call-returns-clause-text g t c =
-    let none : g.P.PlaceSource.left c.args.places.now ≡ [] = none_left _ _ c.requires in
-    let func : Shown = shown (tree_of c.args.func.now) in
-    let args : Shown = Row (showns (map (λ e. shown (tree_of e)) c.args.args.now)) in
-    let words : Shown = Row (showns (map (λ k. shown_keyword (keyword_of k)) c.args.keywords.now)) in
-    let fs : Fields = a_field (codes "func") func (a_field (codes "args") args (a_field (codes "keywords") words no_field)) in
-    let none1 = left_of_none _ _ func none c.in_ok-show_expr.ensures.text.1 in
-    on_both c.show_joined_keywords.result
-    (λ ended last. joined_node true c.args.style (string_bytes c.args.indentation.now) _ _ (g.P.PlaceSource.left c.args.places.now) _
-    (codes "Call(") fs none last
-    (call_text c.args.style (string_bytes c.args.indentation.now) func args words _ _ _ _ _ _ (joined_style _ _ c.requires)
-    c.in_ok-push_str.ensures.bytes (text_of_none c.args.style (string_bytes c.args.indentation.now) _ _
-    (g.P.PlaceSource.left c.args.places.now)
-    func none c.in_ok-show_expr.ensures.text.0) c.in_ok-push_str-2.ensures.bytes
-    (text_of_none c.args.style (string_bytes c.show_expr.new.indentation) _ _ (g.P.PlaceSource.left c.show_expr.new.places) args none1
-    c.in_ok-show_exprs.ensures.text.0 ∙ ap (λ z. string_bytes c.push_str-2.new.self ++ text c.args.style z args)
-    c.in_ok-show_expr.ensures.indentation)
-    (ended ∙ ap (λ z. string_bytes c.show_exprs.new.out ++ (codes ", keywords=" ++ text c.args.style z words ++ codes ")"))
-    (c.in_ok-show_exprs.ensures.indentation ∙ c.in_ok-show_expr.ensures.indentation))))
-    c.show_joined_keywords.ensures.text c.show_joined_keywords.ensures.left
-
-pub joined::show_joined_call-show_expr-requires : goal.joined::show_joined_call-show_expr-requires
-joined::show_joined_call-show_expr-requires g t c = (λ κs l. (omega arith, l))
-
-pub joined::show_joined_call-show_exprs-requires : goal.joined::show_joined_call-show_exprs-requires
-joined::show_joined_call-show_exprs-requires g t c = (λ κs l. (omega arith, l))
-
-pub joined::show_joined_call-show_joined_keywords-requires : goal.joined::show_joined_call-show_joined_keywords-requires
-joined::show_joined_call-show_joined_keywords-requires g t c =
-    let none1 = left_of_none _ _ (shown (tree_of c.args.func.now)) (none_left _ _ c.requires) c.in_ok-show_expr.ensures.text.1 in
-    let none2 = left_of_none _ _ (Row (showns (map (λ e. shown (tree_of e)) c.args.args.now))) none1 c.in_ok-show_exprs.ensures.text.1 in
-    (λ κs l. (omega arith, (l, ap is_none_left none2)))
-
 pub lists::show_exprs-returns-then-is_empty-clause-text : goal.lists::show_exprs-returns-then-is_empty-clause-text
 lists::show_exprs-returns-then-is_empty-clause-text g t c = empty_appended (λ e. shown (tree_of e)) c.args.es.now c.args.style
     (string_bytes c.args.indentation.now) _ _ (g.P.PlaceSource.left c.args.places.now) c.push_str.result (sym c.if-is_empty.ensures)
@@ -359,166 +330,6 @@ expressions::show_expr-returns-in-GeneratorExp-clause-text g t c =
     (g.P.PlaceSource.left c.show_two-in-GeneratorExp.new.places) c.show_two-in-GeneratorExp.result _ _ (sym e)
     c.show_two-in-GeneratorExp.ensures.text
 
-pub expressions::show_expr-returns-in-DictComp-clause-text : goal.expressions::show_expr-returns-in-DictComp-clause-text
-expressions::show_expr-returns-in-DictComp-clause-text g t c =
-    let e : shown (tree_of c.args.e.now) ≡ Node (codes "DictComp") (a_field (codes "key") (shown (tree_of c.deref-in-DictComp.result.now))
-    (a_field (codes "value") (shown (tree_of c.deref-in-DictComp-2.result.now))
-    (a_field (codes "generators") (Row (showns (map (λ c. shown_comprehension (comprehension_of c)) c.deref-in-DictComp-3.result.now)))
-    no_field))) =
-    rw (
-      c.in-DictComp.is,
-      dict_comp_tree,
-      comprehensions_row c.in-DictComp.generators.items,
-      sym c.deref-in-DictComp.ensures,
-      sym c.deref-in-DictComp-2.ensures,
-      sym c.deref-in-DictComp-3.ensures.value,
-    ) refl in
-    shown_on c.args.style (string_bytes c.args.indentation.now) (string_bytes c.args.out.now)
-    (string_bytes c.show_three-in-DictComp.new.out) (g.P.PlaceSource.left c.args.places.now)
-    (g.P.PlaceSource.left c.show_three-in-DictComp.new.places) c.show_three-in-DictComp.result _ _ (sym e)
-    c.show_three-in-DictComp.ensures.text
-
-pub expressions::show_expr-show_three-requires-in-DictComp : goal.expressions::show_expr-show_three-requires-in-DictComp
-expressions::show_expr-show_three-requires-in-DictComp g t c =
-    let e : weight (shown (tree_of c.args.e.now)) ≡ weight (shown (tree_of c.deref-in-DictComp.result.now)) +
-    (weight (shown (tree_of c.deref-in-DictComp-2.result.now)) +
-    (weight (Row (showns (map (λ c. shown_comprehension (comprehension_of c)) c.deref-in-DictComp-3.result.now))) + 0)) + 1 =
-    rw (
-      c.in-DictComp.is,
-      dict_comp_tree,
-      comprehensions_row c.in-DictComp.generators.items,
-      sym c.deref-in-DictComp.ensures,
-      sym c.deref-in-DictComp-2.ensures,
-      sym c.deref-in-DictComp-3.ensures.value,
-    ) refl in (λ κs l. (omega (arith, e), l))
-
-pub expressions::show_expr-returns-in-Compare-clause-text : goal.expressions::show_expr-returns-in-Compare-clause-text
-expressions::show_expr-returns-in-Compare-clause-text g t c =
-    let e : shown (tree_of c.args.e.now) ≡ Node (codes "Compare") (a_field (codes "left") (shown (tree_of c.deref-in-Compare.result.now))
-    (a_field (codes "ops") (Row (showns (map (λ c. word (comparison_name c)) c.deref-in-Compare-2.result.now)))
-    (a_field (codes "comparators") (Row (showns (map (λ e. shown (tree_of e)) c.deref-in-Compare-3.result.now))) no_field))) =
-    rw (
-      c.in-Compare.is,
-      compare_tree,
-      exprs_row c.in-Compare.comparators.items,
-      comparisons_row c.in-Compare.ops.items,
-      sym c.deref-in-Compare.ensures,
-      sym c.deref-in-Compare-2.ensures.value,
-      sym c.deref-in-Compare-3.ensures.value,
-    ) refl in
-    shown_on c.args.style (string_bytes c.args.indentation.now) (string_bytes c.args.out.now) (string_bytes c.show_three-in-Compare.new.out)
-    (g.P.PlaceSource.left c.args.places.now) (g.P.PlaceSource.left c.show_three-in-Compare.new.places)
-    c.show_three-in-Compare.result _ _ (sym e)
-    c.show_three-in-Compare.ensures.text
-
-pub expressions::show_expr-show_three-requires-in-Compare : goal.expressions::show_expr-show_three-requires-in-Compare
-expressions::show_expr-show_three-requires-in-Compare g t c =
-    let e : weight (shown (tree_of c.args.e.now)) ≡ weight (shown (tree_of c.deref-in-Compare.result.now)) +
-    (weight (Row (showns (map (λ c. word (comparison_name c)) c.deref-in-Compare-2.result.now))) +
-    (weight (Row (showns (map (λ e. shown (tree_of e)) c.deref-in-Compare-3.result.now))) + 0)) + 1 =
-    rw (
-      c.in-Compare.is,
-      compare_tree,
-      exprs_row c.in-Compare.comparators.items,
-      comparisons_row c.in-Compare.ops.items,
-      sym c.deref-in-Compare.ensures,
-      sym c.deref-in-Compare-2.ensures.value,
-      sym c.deref-in-Compare-3.ensures.value,
-    ) refl in
-    (λ κs l. (omega (arith, e), l))
-
-pub expressions::show_expr-returns-then-is_joined-clause-text : goal.expressions::show_expr-returns-then-is_joined-clause-text
-expressions::show_expr-returns-then-is_joined-clause-text g t c =
-    let e : shown (tree_of c.args.e.now) ≡ Node (codes "Call") (a_field (codes "func") (shown (tree_of c.deref-then-is_joined.result.now))
-    (a_field (codes "args") (Row (showns (map (λ e. shown (tree_of e)) c.deref-then-is_joined-2.result.now)))
-    (a_field (codes "keywords") (Row (showns (map (λ k. shown_keyword (keyword_of k)) c.deref-then-is_joined-3.result.now))) no_field)))
-    =
-    rw (
-      c.in-Call.is,
-      call_tree,
-      exprs_row c.in-Call.args.items,
-      keywords_row c.in-Call.keywords.items,
-      sym c.deref-then-is_joined.ensures,
-      sym c.deref-then-is_joined-2.ensures.value,
-      sym c.deref-then-is_joined-3.ensures.value,
-    ) refl in
-    shown_on c.args.style (string_bytes c.args.indentation.now) (string_bytes c.args.out.now) (string_bytes c.show_joined_call.new.out)
-    (g.P.PlaceSource.left c.args.places.now) (g.P.PlaceSource.left c.show_joined_call.new.places) c.show_joined_call.result _ _ (sym e)
-    c.show_joined_call.ensures.text
-
-pub expressions::show_expr-show_joined_call-requires : goal.expressions::show_expr-show_joined_call-requires
-expressions::show_expr-show_joined_call-requires g t c =
-    let e : weight (shown (tree_of c.args.e.now)) ≡ weight (shown (tree_of c.deref-then-is_joined.result.now)) +
-    (weight (Row (showns (map (λ e. shown (tree_of e)) c.deref-then-is_joined-2.result.now))) +
-    (weight (Row (showns (map (λ k. shown_keyword (keyword_of k)) c.deref-then-is_joined-3.result.now))) + 0)) + 1 =
-    rw (
-      c.in-Call.is,
-      call_tree,
-      exprs_row c.in-Call.args.items,
-      keywords_row c.in-Call.keywords.items,
-      sym c.deref-then-is_joined.ensures,
-      sym c.deref-then-is_joined-2.ensures.value,
-      sym c.deref-then-is_joined-3.ensures.value,
-    ) refl in
-    (λ κs l. (omega (arith, e), (l, sym c.if-is_joined.ensures)))
-
-pub expressions::show_expr-returns-else-is_joined-clause-text : goal.expressions::show_expr-returns-else-is_joined-clause-text
-expressions::show_expr-returns-else-is_joined-clause-text g t c =
-    let e : shown (tree_of c.args.e.now) ≡ Node (codes "Call") (a_field (codes "func") (shown (tree_of c.deref-else-is_joined.result.now))
-    (a_field (codes "args") (Row (showns (map (λ e. shown (tree_of e)) c.deref-else-is_joined-2.result.now)))
-    (a_field (codes "keywords") (Row (showns (map (λ k. shown_keyword (keyword_of k)) c.deref-else-is_joined-3.result.now))) no_field)))
-    =
-    rw (
-      c.in-Call.is,
-      call_tree,
-      exprs_row c.in-Call.args.items,
-      keywords_row c.in-Call.keywords.items,
-      sym c.deref-else-is_joined.ensures,
-      sym c.deref-else-is_joined-2.ensures.value,
-      sym c.deref-else-is_joined-3.ensures.value,
-    ) refl in
-    shown_on c.args.style (string_bytes c.args.indentation.now) (string_bytes c.args.out.now)
-    (string_bytes c.show_three-else-is_joined.new.out) (g.P.PlaceSource.left c.args.places.now)
-    (g.P.PlaceSource.left c.show_three-else-is_joined.new.places) c.show_three-else-is_joined.result _ _ (sym e)
-    c.show_three-else-is_joined.ensures.text
-
-pub expressions::show_expr-show_three-requires-else-is_joined : goal.expressions::show_expr-show_three-requires-else-is_joined
-expressions::show_expr-show_three-requires-else-is_joined g t c =
-    let e : weight (shown (tree_of c.args.e.now)) ≡ weight (shown (tree_of c.deref-else-is_joined.result.now)) +
-    (weight (Row (showns (map (λ e. shown (tree_of e)) c.deref-else-is_joined-2.result.now))) +
-    (weight (Row (showns (map (λ k. shown_keyword (keyword_of k)) c.deref-else-is_joined-3.result.now))) + 0)) + 1 =
-    rw (
-      c.in-Call.is,
-      call_tree,
-      exprs_row c.in-Call.args.items,
-      keywords_row c.in-Call.keywords.items,
-      sym c.deref-else-is_joined.ensures,
-      sym c.deref-else-is_joined-2.ensures.value,
-      sym c.deref-else-is_joined-3.ensures.value,
-    ) refl in (λ κs l. (omega (arith, e), l))
-
-pub expressions::show_expr-returns-in-Slice-clause-text : goal.expressions::show_expr-returns-in-Slice-clause-text
-expressions::show_expr-returns-in-Slice-clause-text g t c = rw (c.in-Slice.is, slice_tree)
-    (rw (
-      sym (c.boxed_part-in-Slice-3.ensures no_field),
-      sym (c.boxed_part-in-Slice-2.ensures (with_slot (slot_of c.boxed_part-in-Slice-3.result) no_field)),
-      sym (c.boxed_part-in-Slice.ensures (with_slot (slot_of c.boxed_part-in-Slice-2.result)
-          (with_slot (slot_of c.boxed_part-in-Slice-3.result) no_field))),
-    ) c.show_three-in-Slice.ensures.text)
-
-pub expressions::show_expr-show_three-requires-in-Slice : goal.expressions::show_expr-show_three-requires-in-Slice
-expressions::show_expr-show_three-requires-in-Slice g t c =
-    let e : weight (shown (tree_of c.args.e.now)) ≡ field_weights (with_slot (slot_of c.boxed_part-in-Slice.result)
-    (with_slot (slot_of c.boxed_part-in-Slice-2.result) (with_slot (slot_of c.boxed_part-in-Slice-3.result) no_field))) + 1 =
-    rw (
-      c.in-Slice.is,
-      slice_tree,
-      sym (c.boxed_part-in-Slice-3.ensures no_field),
-      sym (c.boxed_part-in-Slice-2.ensures (with_slot (slot_of c.boxed_part-in-Slice-3.result) no_field)),
-      sym (c.boxed_part-in-Slice.ensures (with_slot (slot_of c.boxed_part-in-Slice-2.result)
-          (with_slot (slot_of c.boxed_part-in-Slice-3.result) no_field))),
-    ) refl in (λ κs l. (omega (arith, e), l))
-
 pub expressions::show_expr-returns-in-BoolOp-clause-text : goal.expressions::show_expr-returns-in-BoolOp-clause-text
 expressions::show_expr-returns-in-BoolOp-clause-text g t c =
     let e : shown (tree_of c.args.e.now) ≡ Node (codes "BoolOp") (a_field (codes "op") (word (bool_name c.in-BoolOp.op))
@@ -549,12 +360,17 @@ expressions::show_expr-show_two-requires-in-NamedExpr g t c =
     (λ κs l. (omega (arith, e), l))
 
 pub expressions::show_expr-returns-in-BinOp-clause-text : goal.expressions::show_expr-returns-in-BinOp-clause-text
-expressions::show_expr-returns-in-BinOp-clause-text g t c = rw (
-  c.in-BinOp.is,
-  bin_op_tree,
-  sym c.deref-in-BinOp.ensures,
-  sym c.deref-in-BinOp-2.ensures,
-) c.show_three.ensures.text
+expressions::show_expr-returns-in-BinOp-clause-text g t c =
+    let e : shown (tree_of c.args.e.now) ≡ Node (codes "BinOp") (a_field (codes "left") (shown (tree_of c.deref-in-BinOp.result.now))
+    (a_field (codes "op") (word (operator_name c.in-BinOp.op))
+    (a_field (codes "right") (shown (tree_of c.deref-in-BinOp-2.result.now)) no_field))) =
+    ap (λ z. shown (tree_of z)) c.in-BinOp.is ∙ ap shown (bin_op_tree _ _ _)
+    ∙ (λ i. Node (codes "BinOp") (a_field (codes "left") (shown (tree_of (sym c.deref-in-BinOp.ensures i)))
+    (a_field (codes "op") (word (operator_name c.in-BinOp.op))
+    (a_field (codes "right") (shown (tree_of (sym c.deref-in-BinOp-2.ensures i))) no_field)))) in
+    shown_on c.args.style (string_bytes c.args.indentation.now) (string_bytes c.args.out.now) (string_bytes c.show_three.new.out)
+    (g.P.PlaceSource.left c.args.places.now) (g.P.PlaceSource.left c.show_three.new.places) c.show_three.result _ _ (sym e)
+    c.show_three.ensures.text
 
 pub expressions::show_expr-show_three-requires : goal.expressions::show_expr-show_three-requires
 expressions::show_expr-show_three-requires g t c =
@@ -602,37 +418,6 @@ expressions::show_expr-show_three-requires-in-IfExp g t c =
     (weight (shown (tree_of c.deref-in-IfExp-2.result.now)) + (weight (shown (tree_of c.deref-in-IfExp-3.result.now)) + 0)) + 1 =
     rw (c.in-IfExp.is, if_exp_tree, sym c.deref-in-IfExp.ensures, sym c.deref-in-IfExp-2.ensures, sym c.deref-in-IfExp-3.ensures) refl in
     (λ κs l. (omega (arith, e), l))
-
-pub expressions::show_expr-returns-in-Dict-clause-text : goal.expressions::show_expr-returns-in-Dict-clause-text
-expressions::show_expr-returns-in-Dict-clause-text g t c =
-    let e : shown (tree_of c.args.e.now) ≡ Node (codes "Dict")
-    (a_field (codes "keys") (Row (showns (map (λ e. shown_optional (optional (option_of e))) c.deref-in-Dict.result.now)))
-    (a_field (codes "values") (Row (showns (map (λ e. shown (tree_of e)) c.deref-in-Dict-2.result.now))) no_field)) =
-    rw (
-      c.in-Dict.is,
-      dict_tree,
-      optionals_row c.in-Dict.keys.items,
-      exprs_row c.in-Dict.values.items,
-      sym c.deref-in-Dict.ensures.value,
-      sym c.deref-in-Dict-2.ensures.value,
-    ) refl in
-    shown_on c.args.style (string_bytes c.args.indentation.now) (string_bytes c.args.out.now) (string_bytes c.show_two-in-Dict.new.out)
-    (g.P.PlaceSource.left c.args.places.now) (g.P.PlaceSource.left c.show_two-in-Dict.new.places) c.show_two-in-Dict.result _ _ (sym e)
-    c.show_two-in-Dict.ensures.text
-
-pub expressions::show_expr-show_two-requires-in-Dict : goal.expressions::show_expr-show_two-requires-in-Dict
-expressions::show_expr-show_two-requires-in-Dict g t c =
-    let e : weight (shown (tree_of c.args.e.now)) ≡ weight
-    (Row (showns (map (λ e. shown_optional (optional (option_of e))) c.deref-in-Dict.result.now))) +
-    (weight (Row (showns (map (λ e. shown (tree_of e)) c.deref-in-Dict-2.result.now))) + 0) + 1 =
-    rw (
-      c.in-Dict.is,
-      dict_tree,
-      optionals_row c.in-Dict.keys.items,
-      exprs_row c.in-Dict.values.items,
-      sym c.deref-in-Dict.ensures.value,
-      sym c.deref-in-Dict-2.ensures.value,
-    ) refl in (λ κs l. (omega (arith, e), l))
 
 pub expressions::show_expr-returns-in-Set-clause-text : goal.expressions::show_expr-returns-in-Set-clause-text
 expressions::show_expr-returns-in-Set-clause-text g t c =
@@ -1227,26 +1012,294 @@ members::show_item-show_field-requires-2 g t c =
     let a : _ = ap field_weights (c.option_part-optional_vars.ensures no_field) in
     let b : _ = slot_weighs (slot_of c.option_part-optional_vars.result) no_field in (λ κs l. (omega (arith, a, b), l))
 
-pub expressions::show_expr-returns-then-is_joined-2-clause-text : goal.expressions::show_expr-returns-then-is_joined-2-clause-text
-expressions::show_expr-returns-then-is_joined-2-clause-text g t c =
+pub expressions::show_expr-returns-then-is_joined-clause-text : goal.expressions::show_expr-returns-then-is_joined-clause-text
+expressions::show_expr-returns-then-is_joined-clause-text g t c =
     let e : shown (tree_of c.args.e.now) ≡ Node (codes "Attribute")
-    (a_field (codes "value") (shown (tree_of c.deref-then-is_joined-2-2.result.now))
+    (a_field (codes "value") (shown (tree_of c.deref-then-is_joined.result.now))
     (a_field (codes "attr") (shown_name c.in-Attribute.attr) (a_field (codes "ctx") (word (context_name c.in-Attribute.ctx)) no_field)))
     =
-    rw (c.in-Attribute.is, attribute_tree, sym c.deref-then-is_joined-2-2.ensures) refl in
+    rw (c.in-Attribute.is, attribute_tree, sym c.deref-then-is_joined.ensures) refl in
     shown_on c.args.style (string_bytes c.args.indentation.now) (string_bytes c.args.out.now) (string_bytes c.show_joined_attribute.new.out)
     (g.P.PlaceSource.left c.args.places.now) (g.P.PlaceSource.left c.show_joined_attribute.new.places)
     c.show_joined_attribute.result _ _ (sym e)
     c.show_joined_attribute.ensures.text
 
-pub expressions::show_expr-returns-else-is_joined-2-clause-text : goal.expressions::show_expr-returns-else-is_joined-2-clause-text
-expressions::show_expr-returns-else-is_joined-2-clause-text g t c =
+pub expressions::show_expr-returns-else-is_joined-clause-text : goal.expressions::show_expr-returns-else-is_joined-clause-text
+expressions::show_expr-returns-else-is_joined-clause-text g t c =
     let e : shown (tree_of c.args.e.now) ≡ Node (codes "Attribute")
-    (a_field (codes "value") (shown (tree_of c.deref-else-is_joined-2-2.result.now))
+    (a_field (codes "value") (shown (tree_of c.deref-else-is_joined.result.now))
     (a_field (codes "attr") (shown_name c.in-Attribute.attr) (a_field (codes "ctx") (word (context_name c.in-Attribute.ctx)) no_field)))
     =
-    rw (c.in-Attribute.is, attribute_tree, sym c.deref-else-is_joined-2-2.ensures) refl in
+    rw (c.in-Attribute.is, attribute_tree, sym c.deref-else-is_joined.ensures) refl in
     shown_on c.args.style (string_bytes c.args.indentation.now) (string_bytes c.args.out.now)
-    (string_bytes c.show_three-else-is_joined-2.new.out) (g.P.PlaceSource.left c.args.places.now)
-    (g.P.PlaceSource.left c.show_three-else-is_joined-2.new.places) c.show_three-else-is_joined-2.result _ _ (sym e)
-    c.show_three-else-is_joined-2.ensures.text
+    (string_bytes c.show_three-else-is_joined.new.out) (g.P.PlaceSource.left c.args.places.now)
+    (g.P.PlaceSource.left c.show_three-else-is_joined.new.places) c.show_three-else-is_joined.result _ _ (sym e)
+    c.show_three-else-is_joined.ensures.text
+
+pub expressions::show_expr-returns-in-Dict-clause-text : goal.expressions::show_expr-returns-in-Dict-clause-text
+expressions::show_expr-returns-in-Dict-clause-text g t c =
+    let e : shown (tree_of c.args.e.now) ≡ shown (dict_of c.deref-in-Dict.result.now) = rw (c.in-Dict.is, dict_tree, sym c.deref-in-Dict.ensures) refl in
+    shown_on c.args.style (string_bytes c.args.indentation.now) (string_bytes c.args.out.now) (string_bytes c.show_dict.new.out)
+    (g.P.PlaceSource.left c.args.places.now) (g.P.PlaceSource.left c.show_dict.new.places) c.show_dict.result _ _ (sym e)
+    c.show_dict.ensures.text
+
+pub expressions::show_expr-show_dict-requires : goal.expressions::show_expr-show_dict-requires
+expressions::show_expr-show_dict-requires g t c =
+    let e : weight (shown (tree_of c.args.e.now)) ≡ weight (shown (dict_of c.deref-in-Dict.result.now)) =
+    rw (c.in-Dict.is, dict_tree, sym c.deref-in-Dict.ensures) refl in
+    let h = weighs (shown (dict_of c.deref-in-Dict.result.now)) in (λ κs l. (omega (arith, e, h), l))
+
+pub expressions::show_expr-returns-in-DictComp-clause-text : goal.expressions::show_expr-returns-in-DictComp-clause-text
+expressions::show_expr-returns-in-DictComp-clause-text g t c =
+    let e : shown (tree_of c.args.e.now) ≡ shown (dict_comp_of c.deref-in-DictComp.result.now) = rw (c.in-DictComp.is, dict_comp_tree, sym c.deref-in-DictComp.ensures) refl in
+    shown_on c.args.style (string_bytes c.args.indentation.now) (string_bytes c.args.out.now) (string_bytes c.show_dict_comp.new.out)
+    (g.P.PlaceSource.left c.args.places.now) (g.P.PlaceSource.left c.show_dict_comp.new.places) c.show_dict_comp.result _ _ (sym e)
+    c.show_dict_comp.ensures.text
+
+pub expressions::show_expr-show_dict_comp-requires : goal.expressions::show_expr-show_dict_comp-requires
+expressions::show_expr-show_dict_comp-requires g t c =
+    let e : weight (shown (tree_of c.args.e.now)) ≡ weight (shown (dict_comp_of c.deref-in-DictComp.result.now)) =
+    rw (c.in-DictComp.is, dict_comp_tree, sym c.deref-in-DictComp.ensures) refl in
+    let h = weighs (shown (dict_comp_of c.deref-in-DictComp.result.now)) in (λ κs l. (omega (arith, e, h), l))
+
+pub expressions::show_expr-returns-in-Compare-clause-text : goal.expressions::show_expr-returns-in-Compare-clause-text
+expressions::show_expr-returns-in-Compare-clause-text g t c =
+    let e : shown (tree_of c.args.e.now) ≡ shown (compare_of c.deref-in-Compare.result.now) = rw (c.in-Compare.is, compare_tree, sym c.deref-in-Compare.ensures) refl in
+    shown_on c.args.style (string_bytes c.args.indentation.now) (string_bytes c.args.out.now) (string_bytes c.show_compare.new.out)
+    (g.P.PlaceSource.left c.args.places.now) (g.P.PlaceSource.left c.show_compare.new.places) c.show_compare.result _ _ (sym e)
+    c.show_compare.ensures.text
+
+pub expressions::show_expr-show_compare-requires : goal.expressions::show_expr-show_compare-requires
+expressions::show_expr-show_compare-requires g t c =
+    let e : weight (shown (tree_of c.args.e.now)) ≡ weight (shown (compare_of c.deref-in-Compare.result.now)) =
+    rw (c.in-Compare.is, compare_tree, sym c.deref-in-Compare.ensures) refl in
+    let h = weighs (shown (compare_of c.deref-in-Compare.result.now)) in (λ κs l. (omega (arith, e, h), l))
+
+pub expressions::show_expr-returns-in-Call-clause-text : goal.expressions::show_expr-returns-in-Call-clause-text
+expressions::show_expr-returns-in-Call-clause-text g t c =
+    let e : shown (tree_of c.args.e.now) ≡ shown (call_of c.deref-in-Call.result.now) = rw (c.in-Call.is, call_tree, sym c.deref-in-Call.ensures) refl in
+    shown_on c.args.style (string_bytes c.args.indentation.now) (string_bytes c.args.out.now) (string_bytes c.show_call.new.out)
+    (g.P.PlaceSource.left c.args.places.now) (g.P.PlaceSource.left c.show_call.new.places) c.show_call.result _ _ (sym e)
+    c.show_call.ensures.text
+
+pub expressions::show_expr-show_call-requires : goal.expressions::show_expr-show_call-requires
+expressions::show_expr-show_call-requires g t c =
+    let e : weight (shown (tree_of c.args.e.now)) ≡ weight (shown (call_of c.deref-in-Call.result.now)) =
+    rw (c.in-Call.is, call_tree, sym c.deref-in-Call.ensures) refl in
+    let h = weighs (shown (call_of c.deref-in-Call.result.now)) in (λ κs l. (omega (arith, e, h), l))
+
+pub expressions::show_expr-returns-in-Slice-clause-text : goal.expressions::show_expr-returns-in-Slice-clause-text
+expressions::show_expr-returns-in-Slice-clause-text g t c =
+    let e : shown (tree_of c.args.e.now) ≡ shown (slice_of c.deref-in-Slice.result.now) = rw (c.in-Slice.is, slice_tree, sym c.deref-in-Slice.ensures) refl in
+    shown_on c.args.style (string_bytes c.args.indentation.now) (string_bytes c.args.out.now) (string_bytes c.show_slice.new.out)
+    (g.P.PlaceSource.left c.args.places.now) (g.P.PlaceSource.left c.show_slice.new.places) c.show_slice.result _ _ (sym e)
+    c.show_slice.ensures.text
+
+pub expressions::show_expr-show_slice-requires : goal.expressions::show_expr-show_slice-requires
+expressions::show_expr-show_slice-requires g t c =
+    let e : weight (shown (tree_of c.args.e.now)) ≡ weight (shown (slice_of c.deref-in-Slice.result.now)) =
+    rw (c.in-Slice.is, slice_tree, sym c.deref-in-Slice.ensures) refl in
+    let h = weighs (shown (slice_of c.deref-in-Slice.result.now)) in (λ κs l. (omega (arith, e, h), l))
+
+pub expressions::show_dict-returns-clause-text : goal.expressions::show_dict-returns-clause-text
+expressions::show_dict-returns-clause-text g t c =
+    let e : shown (dict_of c.args.dict.now) ≡ Node (codes "Dict")
+    (a_field (codes "keys") (Row (showns (map (λ e. shown_optional (optional (option_of e))) c.deref.result.now)))
+    (a_field (codes "values") (Row (showns (map (λ e. shown (tree_of e)) c.deref-2.result.now))) no_field)) =
+    rw (
+      dict_shape,
+      optionals_row (given_dict.out-Dict c.args.dict.now).keys.items,
+      exprs_row (given_dict.out-Dict c.args.dict.now).values.items,
+      sym c.deref.ensures.value,
+      sym c.deref-2.ensures.value,
+    ) refl in
+    shown_on c.args.style (string_bytes c.args.indentation.now) (string_bytes c.args.out.now) (string_bytes c.show_two.new.out)
+    (g.P.PlaceSource.left c.args.places.now) (g.P.PlaceSource.left c.show_two.new.places) c.show_two.result _ _ (sym e)
+    c.show_two.ensures.text
+
+pub expressions::show_dict-show_two-requires : goal.expressions::show_dict-show_two-requires
+expressions::show_dict-show_two-requires g t c =
+    let e : weight (shown (dict_of c.args.dict.now)) ≡ weight (Row (showns (map (λ e. shown_optional (optional (option_of e))) c.deref.result.now))) + (weight (Row (showns (map (λ e. shown (tree_of e)) c.deref-2.result.now))) + 0) + 1 =
+    rw (
+      dict_shape,
+      optionals_row (given_dict.out-Dict c.args.dict.now).keys.items,
+      exprs_row (given_dict.out-Dict c.args.dict.now).values.items,
+      sym c.deref.ensures.value,
+      sym c.deref-2.ensures.value,
+    ) refl in (λ κs l. (omega (arith, e), l))
+
+pub expressions::show_dict_comp-returns-clause-text : goal.expressions::show_dict_comp-returns-clause-text
+expressions::show_dict_comp-returns-clause-text g t c =
+    let e : shown (dict_comp_of c.args.comp.now) ≡ Node (codes "DictComp")
+    (a_field (codes "key") (shown (tree_of (given_dict_comp.out-DictComp c.args.comp.now).key))
+    (a_field (codes "value") (shown (tree_of (given_dict_comp.out-DictComp c.args.comp.now).value))
+    (a_field (codes "generators") (Row (showns (map (λ c. shown_comprehension (comprehension_of c)) c.deref.result.now))) no_field))) =
+    rw (
+      dict_comp_shape,
+      comprehensions_row (given_dict_comp.out-DictComp c.args.comp.now).generators.items,
+      sym c.deref.ensures.value,
+    ) refl in
+    shown_on c.args.style (string_bytes c.args.indentation.now) (string_bytes c.args.out.now) (string_bytes c.show_three.new.out)
+    (g.P.PlaceSource.left c.args.places.now) (g.P.PlaceSource.left c.show_three.new.places) c.show_three.result _ _ (sym e)
+    c.show_three.ensures.text
+
+pub expressions::show_dict_comp-show_three-requires : goal.expressions::show_dict_comp-show_three-requires
+expressions::show_dict_comp-show_three-requires g t c =
+    let e : weight (shown (dict_comp_of c.args.comp.now)) ≡ weight (shown (tree_of (given_dict_comp.out-DictComp c.args.comp.now).key)) + (weight (shown (tree_of (given_dict_comp.out-DictComp c.args.comp.now).value)) + (weight (Row (showns (map (λ c. shown_comprehension (comprehension_of c)) c.deref.result.now))) + 0)) + 1 =
+    rw (
+      dict_comp_shape,
+      comprehensions_row (given_dict_comp.out-DictComp c.args.comp.now).generators.items,
+      sym c.deref.ensures.value,
+    ) refl in (λ κs l. (omega (arith, e), l))
+
+pub expressions::show_compare-returns-clause-text : goal.expressions::show_compare-returns-clause-text
+expressions::show_compare-returns-clause-text g t c =
+    let o = given_compare.out-Compare c.args.compare.now in
+    let e : shown (compare_of c.args.compare.now) ≡ Node (codes "Compare") (a_field (codes "left") (shown (tree_of o.left))
+    (a_field (codes "ops") (Row (showns (map (λ c. word (comparison_name c)) c.deref.result.now)))
+    (a_field (codes "comparators") (Row (showns (map (λ e. shown (tree_of e)) c.deref-2.result.now))) no_field))) =
+    ap shown (compare_shape c.args.compare.now)
+    ∙ (λ i. Node (codes "Compare") (a_field (codes "left") (shown (tree_of o.left))
+    (a_field (codes "ops") (Row (comparisons_row o.ops.items i)) (a_field (codes "comparators") (Row (exprs_row o.comparators.items i)) no_field))))
+    ∙ (λ i. Node (codes "Compare") (a_field (codes "left") (shown (tree_of o.left))
+    (a_field (codes "ops") (Row (showns (map (λ c. word (comparison_name c)) (sym c.deref.ensures.value i))))
+    (a_field (codes "comparators") (Row (showns (map (λ e. shown (tree_of e)) (sym c.deref-2.ensures.value i)))) no_field)))) in
+    shown_on c.args.style (string_bytes c.args.indentation.now) (string_bytes c.args.out.now) (string_bytes c.show_three.new.out)
+    (g.P.PlaceSource.left c.args.places.now) (g.P.PlaceSource.left c.show_three.new.places) c.show_three.result _ _ (sym e)
+    c.show_three.ensures.text
+
+pub expressions::show_compare-show_three-requires : goal.expressions::show_compare-show_three-requires
+expressions::show_compare-show_three-requires g t c =
+    let o = given_compare.out-Compare c.args.compare.now in
+    let e : shown (compare_of c.args.compare.now) ≡ Node (codes "Compare") (a_field (codes "left") (shown (tree_of o.left))
+    (a_field (codes "ops") (Row (showns (map (λ c. word (comparison_name c)) c.deref.result.now)))
+    (a_field (codes "comparators") (Row (showns (map (λ e. shown (tree_of e)) c.deref-2.result.now))) no_field))) =
+    ap shown (compare_shape c.args.compare.now)
+    ∙ (λ i. Node (codes "Compare") (a_field (codes "left") (shown (tree_of o.left))
+    (a_field (codes "ops") (Row (comparisons_row o.ops.items i)) (a_field (codes "comparators") (Row (exprs_row o.comparators.items i)) no_field))))
+    ∙ (λ i. Node (codes "Compare") (a_field (codes "left") (shown (tree_of o.left))
+    (a_field (codes "ops") (Row (showns (map (λ c. word (comparison_name c)) (sym c.deref.ensures.value i))))
+    (a_field (codes "comparators") (Row (showns (map (λ e. shown (tree_of e)) (sym c.deref-2.ensures.value i)))) no_field)))) in
+    let w : weight (shown (compare_of c.args.compare.now)) ≡ weight (shown (tree_of o.left)) +
+    (weight (Row (showns (map (λ c. word (comparison_name c)) c.deref.result.now))) +
+    (weight (Row (showns (map (λ e. shown (tree_of e)) c.deref-2.result.now))) + 0)) + 1 = ap weight e in
+    (λ κs l. (omega (arith, w), l))
+
+pub expressions::show_call-returns-then-is_joined-clause-text : goal.expressions::show_call-returns-then-is_joined-clause-text
+expressions::show_call-returns-then-is_joined-clause-text g t c = c.show_joined_call.ensures.text
+
+pub expressions::show_call-show_joined_call-requires : goal.expressions::show_call-show_joined_call-requires
+expressions::show_call-show_joined_call-requires g t c =
+    let h = weighs (shown (call_of c.args.call.now)) in (λ κs l. (omega (arith, h), (l, sym c.if-is_joined.ensures)))
+
+pub expressions::show_call-returns-else-is_joined-clause-text : goal.expressions::show_call-returns-else-is_joined-clause-text
+expressions::show_call-returns-else-is_joined-clause-text g t c =
+    let e : shown (call_of c.args.call.now) ≡ Node (codes "Call") (a_field (codes "func") (shown (tree_of (given_call.out-Call c.args.call.now).func))
+    (a_field (codes "args") (Row (showns (map (λ e. shown (tree_of e)) c.deref.result.now)))
+    (a_field (codes "keywords") (Row (showns (map (λ k. shown_keyword (keyword_of k)) c.deref-else-is_joined.result.now))) no_field))) =
+    rw (
+      call_shape,
+      exprs_row (given_call.out-Call c.args.call.now).args.items,
+      keywords_row (given_call.out-Call c.args.call.now).keywords.items,
+      sym c.deref.ensures.value,
+      sym c.deref-else-is_joined.ensures.value,
+    ) refl in
+    shown_on c.args.style (string_bytes c.args.indentation.now) (string_bytes c.args.out.now) (string_bytes c.show_three.new.out)
+    (g.P.PlaceSource.left c.args.places.now) (g.P.PlaceSource.left c.show_three.new.places) c.show_three.result _ _ (sym e)
+    c.show_three.ensures.text
+
+pub expressions::show_call-show_three-requires : goal.expressions::show_call-show_three-requires
+expressions::show_call-show_three-requires g t c =
+    let e : weight (shown (call_of c.args.call.now)) ≡ weight (shown (tree_of (given_call.out-Call c.args.call.now).func)) +
+    (weight (Row (showns (map (λ e. shown (tree_of e)) c.deref.result.now))) +
+    (weight (Row (showns (map (λ k. shown_keyword (keyword_of k)) c.deref-else-is_joined.result.now))) + 0)) + 1 =
+    rw (
+      call_shape,
+      exprs_row (given_call.out-Call c.args.call.now).args.items,
+      keywords_row (given_call.out-Call c.args.call.now).keywords.items,
+      sym c.deref.ensures.value,
+      sym c.deref-else-is_joined.ensures.value,
+    ) refl in (λ κs l. (omega (arith, e), l))
+
+pub expressions::show_slice-returns-clause-text : goal.expressions::show_slice-returns-clause-text
+expressions::show_slice-returns-clause-text g t c = rw slice_shape
+    (rw (
+      sym (c.boxed_part-3.ensures no_field),
+      sym (c.boxed_part-2.ensures (with_slot (slot_of c.boxed_part-3.result) no_field)),
+      sym (c.boxed_part.ensures (with_slot (slot_of c.boxed_part-2.result) (with_slot (slot_of c.boxed_part-3.result) no_field))),
+    ) c.show_three.ensures.text)
+
+pub expressions::show_slice-show_three-requires : goal.expressions::show_slice-show_three-requires
+expressions::show_slice-show_three-requires g t c =
+    let e : weight (shown (slice_of c.args.slice.now)) ≡ field_weights (with_slot (slot_of c.boxed_part.result)
+    (with_slot (slot_of c.boxed_part-2.result) (with_slot (slot_of c.boxed_part-3.result) no_field))) + 1 =
+    rw (
+      slice_shape,
+      sym (c.boxed_part-3.ensures no_field),
+      sym (c.boxed_part-2.ensures (with_slot (slot_of c.boxed_part-3.result) no_field)),
+      sym (c.boxed_part.ensures (with_slot (slot_of c.boxed_part-2.result) (with_slot (slot_of c.boxed_part-3.result) no_field))),
+    ) refl in (λ κs l. (omega (arith, e), l))
+
+pub joined::show_joined_call-returns-clause-text : goal.joined::show_joined_call-returns-clause-text
+joined::show_joined_call-returns-clause-text g t c =
+    let none : g.P.PlaceSource.left c.args.places.now ≡ [] = none_left _ _ c.requires in
+    let func : Shown = shown (tree_of (given_call.out-Call c.args.call.now).func) in
+    let args : Shown = Row (showns (map (λ e. shown (tree_of e)) c.deref.result.now)) in
+    let words : Shown = Row (showns (map (λ k. shown_keyword (keyword_of k)) c.deref-2.result.now)) in
+    let fs : Fields = a_field (codes "func") func (a_field (codes "args") args (a_field (codes "keywords") words no_field)) in
+    let none1 = left_of_none _ _ func none c.in_ok-show_expr.ensures.text.1 in
+    let e : shown (call_of c.args.call.now) ≡ Node (codes "Call") fs =
+    rw (
+      call_shape,
+      exprs_row (given_call.out-Call c.args.call.now).args.items,
+      keywords_row (given_call.out-Call c.args.call.now).keywords.items,
+      sym c.deref.ensures.value,
+      sym c.deref-2.ensures.value,
+    ) refl in
+    shown_on c.args.style (string_bytes c.args.indentation.now) (string_bytes c.args.out.now) _
+    (g.P.PlaceSource.left c.args.places.now) _ c.show_joined_keywords.result _ _ (sym e)
+    (on_both c.show_joined_keywords.result
+    (λ ended last. joined_node true c.args.style (string_bytes c.args.indentation.now) _ _ (g.P.PlaceSource.left c.args.places.now) _
+    (codes "Call(") fs none last
+    (call_text c.args.style (string_bytes c.args.indentation.now) func args words _ _ _ _ _ _ (joined_style _ _ c.requires)
+    c.in_ok-push_str.ensures.bytes (text_of_none c.args.style (string_bytes c.args.indentation.now) _ _
+    (g.P.PlaceSource.left c.args.places.now)
+    func none c.in_ok-show_expr.ensures.text.0) c.in_ok-push_str-2.ensures.bytes
+    (text_of_none c.args.style (string_bytes c.show_expr.new.indentation) _ _ (g.P.PlaceSource.left c.show_expr.new.places) args none1
+    c.in_ok-show_exprs.ensures.text.0 ∙ ap (λ z. string_bytes c.push_str-2.new.self ++ text c.args.style z args)
+    c.in_ok-show_expr.ensures.indentation)
+    (ended ∙ ap (λ z. string_bytes c.show_exprs.new.out ++ (codes ", keywords=" ++ text c.args.style z words ++ codes ")"))
+    (c.in_ok-show_exprs.ensures.indentation ∙ c.in_ok-show_expr.ensures.indentation))))
+    c.show_joined_keywords.ensures.text c.show_joined_keywords.ensures.left)
+
+pub joined::show_joined_call-show_expr-requires : goal.joined::show_joined_call-show_expr-requires
+joined::show_joined_call-show_expr-requires g t c =
+    let e : weight (shown (call_of c.args.call.now)) ≡ weight (shown (tree_of (given_call.out-Call c.args.call.now).func)) +
+    (weight (Row (shown_exprs (exprs (map tree_of (given_call.out-Call c.args.call.now).args.items)))) +
+    (weight (Row (shown_keywords (keywords (map keyword_of (given_call.out-Call c.args.call.now).keywords.items)))) + 0)) + 1 =
+    rw call_shape refl in (λ κs l. (omega (arith, e), l))
+
+pub joined::show_joined_call-show_exprs-requires : goal.joined::show_joined_call-show_exprs-requires
+joined::show_joined_call-show_exprs-requires g t c =
+    let e : weight (shown (call_of c.args.call.now)) ≡ weight (shown (tree_of (given_call.out-Call c.args.call.now).func)) +
+    (weight (Row (showns (map (λ e. shown (tree_of e)) c.deref.result.now))) +
+    (weight (Row (shown_keywords (keywords (map keyword_of (given_call.out-Call c.args.call.now).keywords.items)))) + 0)) + 1 =
+    rw (call_shape, exprs_row (given_call.out-Call c.args.call.now).args.items, sym c.deref.ensures.value) refl in
+    (λ κs l. (omega (arith, e), l))
+
+pub joined::show_joined_call-show_joined_keywords-requires : goal.joined::show_joined_call-show_joined_keywords-requires
+joined::show_joined_call-show_joined_keywords-requires g t c =
+    let none1 = left_of_none _ _ (shown (tree_of (given_call.out-Call c.args.call.now).func)) (none_left _ _ c.requires)
+    c.in_ok-show_expr.ensures.text.1 in
+    let none2 = left_of_none _ _ (Row (showns (map (λ e. shown (tree_of e)) c.deref.result.now))) none1 c.in_ok-show_exprs.ensures.text.1 in
+    let e : weight (shown (call_of c.args.call.now)) ≡ weight (shown (tree_of (given_call.out-Call c.args.call.now).func)) +
+    (weight (Row (showns (map (λ e. shown (tree_of e)) c.deref.result.now))) +
+    (weight (Row (showns (map (λ k. shown_keyword (keyword_of k)) c.deref-2.result.now))) + 0)) + 1 =
+    rw (
+      call_shape,
+      exprs_row (given_call.out-Call c.args.call.now).args.items,
+      keywords_row (given_call.out-Call c.args.call.now).keywords.items,
+      sym c.deref.ensures.value,
+      sym c.deref-2.ensures.value,
+    ) refl in
+    (λ κs l. (omega (arith, e), (l, ap is_none_left none2)))

@@ -1,8 +1,8 @@
-use Rattle.std.proofs.Common.{◌≡◌, ◌+◌, ◌*◌, ◌++◌, true, map, drop}
+use Rattle.std.proofs.Common.{◌≡◌, ◌+◌, ◌-◌, ◌*◌, ◌++◌, true, map, drop}
 use Rattle.std.specs.String.{string_bytes}
 use Rattle.pytree_node.specs.Trees.{optional}
 use Rattle.pytree_node.specs.TreeOf.{constant_of, tree_of, option_of, comprehension_of, keyword_of, arg_of, arguments_of, alias_of, item_of}
-use Rattle.pytree_node.specs.TreeOf.{type_param_of}
+use Rattle.pytree_node.specs.TreeOf.{call_of, compare_of, dict_of, dict_comp_of, slice_of, type_param_of}
 use Rattle.pytree_dump_text.specs.Layout.{members}
 use Rattle.pytree_marked.specs.MarkedNodes.{rows_with}
 use Rattle.pytree_dump_text.specs.Shows.{kind_field, shown, shown_optional, shown_comprehension, shown_keyword, shown_arg, shown_arguments}
@@ -177,9 +177,22 @@ abbrev pub decreases-joined::show_joined_keywords : goal.decreases-joined::show_
 decreases-joined::show_joined_keywords g l = 5 * weight (Row (showns (map (λ k. shown_keyword (keyword_of k)) l.keywords.now))) + 1
 
 abbrev pub decreases-joined::show_joined_call : goal.decreases-joined::show_joined_call
-decreases-joined::show_joined_call g l =
-    5 * (weight (shown (tree_of l.func.now)) + (weight (Row (showns (map (λ e. shown (tree_of e)) l.args.now)))
-    + weight (Row (showns (map (λ k. shown_keyword (keyword_of k)) l.keywords.now))))) + 3
+decreases-joined::show_joined_call g l = 5 * weight (shown (call_of l.call.now)) - 2
+
+abbrev pub decreases-expressions::show_dict : goal.decreases-expressions::show_dict
+decreases-expressions::show_dict g l = 5 * weight (shown (dict_of l.dict.now)) - 1
+
+abbrev pub decreases-expressions::show_dict_comp : goal.decreases-expressions::show_dict_comp
+decreases-expressions::show_dict_comp g l = 5 * weight (shown (dict_comp_of l.comp.now)) - 1
+
+abbrev pub decreases-expressions::show_compare : goal.decreases-expressions::show_compare
+decreases-expressions::show_compare g l = 5 * weight (shown (compare_of l.compare.now)) - 1
+
+abbrev pub decreases-expressions::show_call : goal.decreases-expressions::show_call
+decreases-expressions::show_call g l = 5 * weight (shown (call_of l.call.now)) - 1
+
+abbrev pub decreases-expressions::show_slice : goal.decreases-expressions::show_slice
+decreases-expressions::show_slice g l = 5 * weight (shown (slice_of l.slice.now)) - 1
 
 abbrev pub decreases-lists::show_option : goal.decreases-lists::show_option
 decreases-lists::show_option g l = 5 * weight (shown_optional (optional (option_of l.e.now))) + 1

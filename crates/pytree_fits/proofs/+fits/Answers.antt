@@ -9,8 +9,7 @@ use Rattle.pytree_fits.specs.Tests.{tests_at, in_field}
 use Rattle.pytree_fits.specs.Slots.{count, has_some, perhaps_name, fits_at, fits_target, perhaps_fits, arg_fits, each_fits}
 use Rattle.pytree_fits.specs.Slots.{each_target_fits, each_perhaps_fits, each_keyword_fits, each_clause_fits, each_arg_fits}
 use Rattle.pytree_fits.specs.Slots.{each_value_fits, value_fits, spec_fits, are_apart}
-use Rattle.pytree_node.proofs.Callers.ExprShapes.{dict_comp_tree, compare_tree, slice_tree, formatted_value_tree}
-use Rattle.pytree_fits.proofs.Chains.{first_of_three, second_of_three, last_of_three, first_of_four, third_of_four, last_of_four}
+use Rattle.pytree_node.proofs.Callers.ExprShapes.{formatted_value_tree}
 use Rattle.pytree_fits.proofs.TargetShapes.{not_target}
 use Rattle.pytree_fits.proofs.StringShapes.{not_value, not_spec, joined_spec}
 use Rattle.pytree_fits.proofs.StringFields.{value_told, too_deep, spec_told, both_and, one_fails, then_rest}
@@ -178,59 +177,3 @@ expressions::options_fit-loop-e-preserved t c =
       | expressions::options_fit-in-Some+in_ok-fits-in-Some w ↦ w.fits-is ∙ w.in_ok-fits-in-Some.ensures
           ∙ sym (ap (λ e. perhaps_fits (tests_at c.args.asked.extent c.args.asked.fields) Expression (optional (option_of e))) w.in-Some.is)
     ]) c.if-not-fits.false
-
--- DictComp, Compare and Slice, test by test
-
-pub expressions::expr_fits-returns-then-not-has_clause : goal.expressions::expr_fits-returns-then-not-has_clause
-expressions::expr_fits-returns-then-not-has_clause t c = rw (c.in-DictComp.is, dict_comp_tree) (first_of_four _ _ _ _
-    (c.if-not-has_clause.ensures ∙ ap (λ cs. has_some (comprehensions (map comprehension_of cs))) c.deref-in-DictComp.ensures.value))
-
-pub expressions::expr_fits-returns-then-not-branch-2 : goal.expressions::expr_fits-returns-then-not-branch-2
-expressions::expr_fits-returns-then-not-branch-2 t c = rw (c.in-DictComp.is, dict_comp_tree) (third_of_four _ _ _ _
-    (c.if-not-has_clause.ensures ∙ ap (λ cs. has_some (comprehensions (map comprehension_of cs))) c.deref-in-DictComp.ensures.value)
-    (sym c.if-not-branch.false ∙ c.in_ok-expr_fits-in-DictComp.ensures
-    ∙ ap (λ e. fits_at (tests_at c.args.asked.extent c.args.asked.fields) Expression (tree_of e)) c.deref-in-DictComp-2.ensures)
-    (sym c.if-not-branch-2.true ∙ c.in_ok-expr_fits-in-DictComp-2.ensures
-    ∙ ap (λ e. fits_at (tests_at c.args.asked.extent c.args.asked.fields) Expression (tree_of e)) c.deref-in-DictComp-3.ensures))
-
-pub expressions::expr_fits-returns-else-not-branch-2 : goal.expressions::expr_fits-returns-else-not-branch-2
-expressions::expr_fits-returns-else-not-branch-2 t c =
-    rw (c.in-DictComp.is, dict_comp_tree) (last_of_four c.clauses_fit-in-DictComp.result _ _ _ _
-    (c.if-not-has_clause.ensures ∙ ap (λ cs. has_some (comprehensions (map comprehension_of cs))) c.deref-in-DictComp.ensures.value)
-    (sym c.if-not-branch.false ∙ c.in_ok-expr_fits-in-DictComp.ensures
-    ∙ ap (λ e. fits_at (tests_at c.args.asked.extent c.args.asked.fields) Expression (tree_of e)) c.deref-in-DictComp-2.ensures)
-    (sym c.if-not-branch-2.false ∙ c.in_ok-expr_fits-in-DictComp-2.ensures
-    ∙ ap (λ e. fits_at (tests_at c.args.asked.extent c.args.asked.fields) Expression (tree_of e)) c.deref-in-DictComp-3.ensures)
-    (subst (λ cs. IfOk c.clauses_fit-in-DictComp.result (λ told. told ≡ each_clause_fits (tests_at c.args.asked.extent c.args.asked.fields)
-    (comprehensions (map comprehension_of cs)))) c.deref-in-DictComp-4.ensures.value c.clauses_fit-in-DictComp.ensures))
-
-pub expressions::expr_fits-returns-then-not-are_comparisons : goal.expressions::expr_fits-returns-then-not-are_comparisons
-expressions::expr_fits-returns-then-not-are_comparisons t c = rw (c.in-Compare.is, compare_tree) (first_of_three _ _ _
-    (c.if-not-are_comparisons.ensures
-    ∙ (λ i. leb 1 (length (c.deref-in-Compare.ensures.value i)) && eqb (length (c.deref-in-Compare.ensures.value i))
-    (count (exprs (map tree_of (c.deref-in-Compare-2.ensures.value i)))))))
-
-pub expressions::expr_fits-returns-then-not-branch-3 : goal.expressions::expr_fits-returns-then-not-branch-3
-expressions::expr_fits-returns-then-not-branch-3 t c = rw (c.in-Compare.is, compare_tree) (second_of_three _ _ _
-    (c.if-not-are_comparisons.ensures
-    ∙ (λ i. leb 1 (length (c.deref-in-Compare.ensures.value i)) && eqb (length (c.deref-in-Compare.ensures.value i))
-    (count (exprs (map tree_of (c.deref-in-Compare-2.ensures.value i))))))
-    (sym c.if-not-branch-3.true ∙ c.in_ok-expr_fits-in-Compare.ensures
-    ∙ ap (λ e. fits_at (tests_at c.args.asked.extent c.args.asked.fields) Expression (tree_of e)) c.deref-in-Compare-3.ensures))
-
-pub expressions::expr_fits-returns-else-not-branch-3 : goal.expressions::expr_fits-returns-else-not-branch-3
-expressions::expr_fits-returns-else-not-branch-3 t c = rw (c.in-Compare.is, compare_tree) (last_of_three c.exprs_fit-in-Compare.result _ _ _
-    (c.if-not-are_comparisons.ensures
-    ∙ (λ i. leb 1 (length (c.deref-in-Compare.ensures.value i)) && eqb (length (c.deref-in-Compare.ensures.value i))
-    (count (exprs (map tree_of (c.deref-in-Compare-2.ensures.value i))))))
-    (sym c.if-not-branch-3.false ∙ c.in_ok-expr_fits-in-Compare.ensures
-    ∙ ap (λ e. fits_at (tests_at c.args.asked.extent c.args.asked.fields) Expression (tree_of e)) c.deref-in-Compare-3.ensures)
-    (subst (λ es. IfOk c.exprs_fit-in-Compare.result (λ told. told ≡ each_fits (tests_at c.args.asked.extent c.args.asked.fields) Expression
-    (exprs (map tree_of es)))) c.deref-in-Compare-4.ensures.value c.exprs_fit-in-Compare.ensures))
-
-pub expressions::expr_fits-returns-else-not-branch-7 : goal.expressions::expr_fits-returns-else-not-branch-7
-expressions::expr_fits-returns-else-not-branch-7 t c = rw (c.in-Slice.is, slice_tree) (last_of_four c.boxed_fits-in-Slice-3.result _ _ _ _
-    c.if-not-takes_slice.ensures
-    (sym c.if-not-branch-6.false ∙ c.in_ok-boxed_fits-in-Slice.ensures)
-    (sym c.if-not-branch-7.false ∙ c.in_ok-boxed_fits-in-Slice-2.ensures)
-    c.boxed_fits-in-Slice-3.ensures)

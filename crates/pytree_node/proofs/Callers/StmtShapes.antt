@@ -13,51 +13,66 @@ use Rattle.pytree_node.specs.declared.statements.Item.{Item}
 use Rattle.pytree_node.specs.declared.statements.TypeParam.{TypeParam}
 use Rattle.pytree_node.specs.declared.statements.Case as given_case
 use Rattle.pytree_node.specs.declared.statements.Case.{Case}
+use Rattle.pytree_node.specs.declared.statements.ClassDef as given_class_def
+use Rattle.pytree_node.specs.declared.statements.ClassDef.{ClassDef}
+use Rattle.pytree_node.specs.declared.statements.FunctionDef as given_function_def
+use Rattle.pytree_node.specs.declared.statements.FunctionDef.{FunctionDef}
 use Rattle.pytree_node.specs.declared.statements.Handler as given_handler
 use Rattle.pytree_node.specs.declared.statements.Handler.{Handler}
 use Rattle.pytree_node.specs.declared.statements.Stmt as given_stmt
 use Rattle.pytree_node.specs.declared.statements.Stmt.{Stmt}
 use Rattle.pytree_node.specs.declared.statements.Stmt.TheVariants as variant
 use Rattle.pytree_node.specs.declared.statements.Stmt.TheOpen as layer
+use Rattle.pytree_node.specs.declared.statements.Try as given_try
+use Rattle.pytree_node.specs.declared.statements.Try.{Try}
 use Rattle.pytree_node.specs.Trees as plain
 use Rattle.pytree_node.specs.Trees.{Identifier, keywords, stmts, cases, handlers}
 use Rattle.pytree_node.specs.TreeOf.{tree_of, arguments_of, keyword_of, option_of, boxed_of, alias_of, item_of, type_param_of, pattern_of}
-use Rattle.pytree_node.specs.TreeOf.{stmt_of, case_of, handler_of, stmt_step, case_step, handler_step}
+use Rattle.pytree_node.specs.TreeOf.{stmt_of, case_of, class_def_of, function_def_of, handler_of, try_of}
+use Rattle.pytree_node.specs.TreeOf.{stmt_step, case_step, class_def_step, function_def_step, handler_step, try_step}
 
 -- one statement, whose inner statements are statements of the program
-abbrev Layer : Type 0
-Layer = layer.Stmt-F Stmt Case Handler
+abbrev pub Layer : Type 0
+Layer = layer.Stmt-F Stmt Case ClassDef FunctionDef Handler Try
 
 -- the statement with its inner statements' values in their places
-abbrev valued : Layer → layer.Stmt-F plain.Stmt plain.Case plain.Handler
-valued = given_stmt.map-Stmt Stmt Case Handler plain.Stmt plain.Case plain.Handler stmt_of case_of handler_of
+abbrev pub valued : Layer → layer.Stmt-F plain.Stmt plain.Case plain.Stmt plain.FunctionDefFields plain.Handler plain.TryFields
+valued = given_stmt.map-Stmt Stmt Case ClassDef FunctionDef Handler Try plain.Stmt plain.Case plain.Stmt plain.FunctionDefFields plain.Handler plain.TryFields stmt_of case_of class_def_of function_def_of handler_of try_of
 
 rolls : (node : Layer) → stmt_of (given_stmt.roll-Stmt node) ≡ stmt_step (valued node)
-unfolding stmt_of case_of handler_of
-rolls = given_stmt.fold-roll-Stmt plain.Stmt plain.Case plain.Handler stmt_step case_step handler_step
+unfolding stmt_of case_of class_def_of function_def_of handler_of try_of
+rolls = given_stmt.fold-roll-Stmt plain.Stmt plain.Case plain.Stmt plain.FunctionDefFields plain.Handler plain.TryFields stmt_step case_step class_def_step function_def_step handler_step try_step
 
-pub function_def_tree : (name : Identifier) (args : Box Arguments Global) (body : Vec Stmt Global) (decorators : Vec Expr Global)
-    (returns : Option (Box Expr Global)) (parameters : Vec TypeParam Global) →
-    stmt_of (variant.FunctionDef name args body decorators returns parameters) ≡ plain.FunctionDef name (arguments_of args.value)
-    (stmts (map stmt_of body.items)) (map tree_of decorators.items) (boxed_of returns) (map type_param_of parameters.items)
-unfolding given_stmt.roll-Stmt denote.Hole.Carrier.roll
-function_def_tree name args body decorators returns parameters = rolls (layer.FunctionDef name args body decorators returns parameters)
+pub function_def_shape : (d : FunctionDef) → let o : layer.FunctionDef-F Stmt Case ClassDef FunctionDef Handler Try = given_function_def.out-FunctionDef d in
+    function_def_of d ≡ record {
+      name = o.name;
+      args = arguments_of o.args.value;
+      body = map stmt_of o.body.items;
+      decorator_list = map tree_of o.decorator_list.items;
+      returns = boxed_of o.returns;
+      type_params = map type_param_of o.type_params.items;
+    }
+unfolding stmt_of case_of class_def_of function_def_of handler_of try_of
+function_def_shape = given_function_def.fold_out-FunctionDef plain.Stmt plain.Case plain.Stmt plain.FunctionDefFields plain.Handler plain.TryFields stmt_step case_step class_def_step function_def_step handler_step try_step
 
-pub async_function_def_tree : (name : Identifier) (args : Box Arguments Global) (body : Vec Stmt Global) (decorators : Vec Expr Global)
-    (returns : Option (Box Expr Global)) (parameters : Vec TypeParam Global) →
-    stmt_of (variant.AsyncFunctionDef name args body decorators returns parameters) ≡ plain.AsyncFunctionDef name (arguments_of args.value)
-    (stmts (map stmt_of body.items)) (map tree_of decorators.items) (boxed_of returns) (map type_param_of parameters.items)
+pub function_def_tree : (d : Box FunctionDef Global) → stmt_of (variant.FunctionDef d) ≡ plain.function_def (function_def_of d.value)
 unfolding given_stmt.roll-Stmt denote.Hole.Carrier.roll
-async_function_def_tree name args body decorators returns parameters =
-    rolls (layer.AsyncFunctionDef name args body decorators returns parameters)
+function_def_tree d = rolls (layer.FunctionDef d)
 
-pub class_def_tree : (name : Identifier) (bases : Vec Expr Global) (words : Vec Keyword Global) (body : Vec Stmt Global)
-    (decorators : Vec Expr Global) (parameters : Vec TypeParam Global) →
-    stmt_of (variant.ClassDef name bases words body decorators parameters) ≡ plain.ClassDef name (map tree_of bases.items)
-    (keywords (map keyword_of words.items)) (stmts (map stmt_of body.items)) (map tree_of decorators.items)
-    (map type_param_of parameters.items)
+pub async_function_def_tree : (d : Box FunctionDef Global) →
+    stmt_of (variant.AsyncFunctionDef d) ≡ plain.async_function_def (function_def_of d.value)
 unfolding given_stmt.roll-Stmt denote.Hole.Carrier.roll
-class_def_tree name bases words body decorators parameters = rolls (layer.ClassDef name bases words body decorators parameters)
+async_function_def_tree d = rolls (layer.AsyncFunctionDef d)
+
+pub class_def_shape : (c : ClassDef) → let o : layer.ClassDef-F Stmt Case ClassDef FunctionDef Handler Try = given_class_def.out-ClassDef c in
+    class_def_of c ≡ plain.ClassDef o.name (map tree_of o.bases.items) (keywords (map keyword_of o.keywords.items))
+    (stmts (map stmt_of o.body.items)) (map tree_of o.decorator_list.items) (map type_param_of o.type_params.items)
+unfolding stmt_of case_of class_def_of function_def_of handler_of try_of
+class_def_shape = given_class_def.fold_out-ClassDef plain.Stmt plain.Case plain.Stmt plain.FunctionDefFields plain.Handler plain.TryFields stmt_step case_step class_def_step function_def_step handler_step try_step
+
+pub class_def_tree : (c : Box ClassDef Global) → stmt_of (variant.ClassDef c) ≡ class_def_of c.value
+unfolding given_stmt.roll-Stmt denote.Hole.Carrier.roll
+class_def_tree c = rolls (layer.ClassDef c)
 
 pub return_tree : (value : Option Expr) →
     stmt_of (variant.Return value) ≡ plain.Return (option_of value)
@@ -74,13 +89,14 @@ pub assign_tree : (targets : Vec Expr Global) (value : Expr) →
 unfolding given_stmt.roll-Stmt denote.Hole.Carrier.roll
 assign_tree targets value = rolls (layer.Assign targets value)
 
-pub type_alias_tree : (name : Expr) (parameters : Vec TypeParam Global) (value : Expr) →
-    stmt_of (variant.TypeAlias name parameters value) ≡ plain.TypeAlias (tree_of name) (map type_param_of parameters.items) (tree_of value)
+pub type_alias_tree : (name : Box Expr Global) (parameters : Vec TypeParam Global) (value : Box Expr Global) →
+    stmt_of (variant.TypeAlias name parameters value) ≡ plain.TypeAlias (tree_of name.value) (map type_param_of parameters.items)
+    (tree_of value.value)
 unfolding given_stmt.roll-Stmt denote.Hole.Carrier.roll
 type_alias_tree name parameters value = rolls (layer.TypeAlias name parameters value)
 
-pub aug_assign_tree : (target : Expr) (op : Operator) (value : Expr) →
-    stmt_of (variant.AugAssign target op value) ≡ plain.AugAssign (tree_of target) op (tree_of value)
+pub aug_assign_tree : (target : Box Expr Global) (op : Operator) (value : Expr) →
+    stmt_of (variant.AugAssign target op value) ≡ plain.AugAssign (tree_of target.value) op (tree_of value)
 unfolding given_stmt.roll-Stmt denote.Hole.Carrier.roll
 aug_assign_tree target op value = rolls (layer.AugAssign target op value)
 
@@ -102,14 +118,14 @@ pub async_for_tree : (target : Box Expr Global) (iter : Box Expr Global) (body :
 unfolding given_stmt.roll-Stmt denote.Hole.Carrier.roll
 async_for_tree target iter body orelse = rolls (layer.AsyncFor target iter body orelse)
 
-pub while_tree : (test : Expr) (body : Vec Stmt Global) (orelse : Vec Stmt Global) →
-    stmt_of (variant.While test body orelse) ≡ plain.While (tree_of test) (stmts (map stmt_of body.items))
+pub while_tree : (test : Box Expr Global) (body : Vec Stmt Global) (orelse : Vec Stmt Global) →
+    stmt_of (variant.While test body orelse) ≡ plain.While (tree_of test.value) (stmts (map stmt_of body.items))
     (stmts (map stmt_of orelse.items))
 unfolding given_stmt.roll-Stmt denote.Hole.Carrier.roll
 while_tree test body orelse = rolls (layer.While test body orelse)
 
-pub if_tree : (test : Expr) (body : Vec Stmt Global) (orelse : Vec Stmt Global) →
-    stmt_of (variant.If test body orelse) ≡ plain.If (tree_of test) (stmts (map stmt_of body.items)) (stmts (map stmt_of orelse.items))
+pub if_tree : (test : Box Expr Global) (body : Vec Stmt Global) (orelse : Vec Stmt Global) →
+    stmt_of (variant.If test body orelse) ≡ plain.If (tree_of test.value) (stmts (map stmt_of body.items)) (stmts (map stmt_of orelse.items))
 unfolding given_stmt.roll-Stmt denote.Hole.Carrier.roll
 if_tree test body orelse = rolls (layer.If test body orelse)
 
@@ -128,25 +144,31 @@ pub match_tree : (subject : Expr) (clauses : Vec Case Global) →
 unfolding given_stmt.roll-Stmt denote.Hole.Carrier.roll
 match_tree subject clauses = rolls (layer.Match subject clauses)
 
-pub raise_tree : (exc : Option Expr) (cause : Option Expr) →
-    stmt_of (variant.Raise exc cause) ≡ plain.Raise (option_of exc) (option_of cause)
+pub raise_tree : (exc : Option (Box Expr Global)) (cause : Option (Box Expr Global)) →
+    stmt_of (variant.Raise exc cause) ≡ plain.Raise (boxed_of exc) (boxed_of cause)
 unfolding given_stmt.roll-Stmt denote.Hole.Carrier.roll
 raise_tree exc cause = rolls (layer.Raise exc cause)
 
-pub try_tree : (body : Vec Stmt Global) (caught : Vec Handler Global) (orelse : Vec Stmt Global) (finalbody : Vec Stmt Global) →
-    stmt_of (variant.Try body caught orelse finalbody) ≡ plain.Try (stmts (map stmt_of body.items)) (handlers (map handler_of caught.items))
-    (stmts (map stmt_of orelse.items)) (stmts (map stmt_of finalbody.items))
-unfolding given_stmt.roll-Stmt denote.Hole.Carrier.roll
-try_tree body caught orelse finalbody = rolls (layer.Try body caught orelse finalbody)
+pub try_shape : (t : Try) → let o : layer.Try-F Stmt Case ClassDef FunctionDef Handler Try = given_try.out-Try t in
+    try_of t ≡ record {
+      body = map stmt_of o.body.items;
+      handlers = map handler_of o.handlers.items;
+      orelse = map stmt_of o.orelse.items;
+      finalbody = map stmt_of o.finalbody.items;
+    }
+unfolding stmt_of case_of class_def_of function_def_of handler_of try_of
+try_shape = given_try.fold_out-Try plain.Stmt plain.Case plain.Stmt plain.FunctionDefFields plain.Handler plain.TryFields stmt_step case_step class_def_step function_def_step handler_step try_step
 
-pub try_star_tree : (body : Vec Stmt Global) (caught : Vec Handler Global) (orelse : Vec Stmt Global) (finalbody : Vec Stmt Global) →
-    stmt_of (variant.TryStar body caught orelse finalbody) ≡ plain.TryStar (stmts (map stmt_of body.items))
-    (handlers (map handler_of caught.items)) (stmts (map stmt_of orelse.items)) (stmts (map stmt_of finalbody.items))
+pub try_tree : (t : Box Try Global) → stmt_of (variant.Try t) ≡ plain.try_block (try_of t.value)
 unfolding given_stmt.roll-Stmt denote.Hole.Carrier.roll
-try_star_tree body caught orelse finalbody = rolls (layer.TryStar body caught orelse finalbody)
+try_tree t = rolls (layer.Try t)
 
-pub assert_tree : (test : Expr) (msg : Option Expr) →
-    stmt_of (variant.Assert test msg) ≡ plain.Assert (tree_of test) (option_of msg)
+pub try_star_tree : (t : Box Try Global) → stmt_of (variant.TryStar t) ≡ plain.try_star_block (try_of t.value)
+unfolding given_stmt.roll-Stmt denote.Hole.Carrier.roll
+try_star_tree t = rolls (layer.TryStar t)
+
+pub assert_tree : (test : Expr) (msg : Option (Box Expr Global)) →
+    stmt_of (variant.Assert test msg) ≡ plain.Assert (tree_of test) (boxed_of msg)
 unfolding given_stmt.roll-Stmt denote.Hole.Carrier.roll
 assert_tree test msg = rolls (layer.Assert test msg)
 
@@ -187,21 +209,23 @@ pub continue_tree : stmt_of variant.Continue ≡ plain.Continue
 unfolding given_stmt.roll-Stmt denote.Hole.Carrier.roll
 continue_tree = rolls layer.Continue
 
-pub case_tree : (c : Case) → let o : layer.Case-F Stmt Case Handler = given_case.out-Case c in
+pub case_tree : (c : Case) → let o : layer.Case-F Stmt Case ClassDef FunctionDef Handler Try = given_case.out-Case c in
     case_of c ≡ record { pattern = pattern_of o.pattern; guard = option_of o.guard; body = map stmt_of o.body.items }
-unfolding stmt_of case_of handler_of
-case_tree = given_case.fold_out-Case plain.Stmt plain.Case plain.Handler stmt_step case_step handler_step
+unfolding stmt_of case_of class_def_of function_def_of handler_of try_of
+case_tree = given_case.fold_out-Case plain.Stmt plain.Case plain.Stmt plain.FunctionDefFields plain.Handler plain.TryFields stmt_step case_step class_def_step function_def_step handler_step try_step
 
-pub handler_tree : (h : Handler) → let o : layer.Handler-F Stmt Case Handler = given_handler.out-Handler h in
+pub handler_tree : (h : Handler) → let o : layer.Handler-F Stmt Case ClassDef FunctionDef Handler Try = given_handler.out-Handler h in
     handler_of h ≡ record { class = option_of o.class; name = o.name; body = map stmt_of o.body.items }
-unfolding stmt_of case_of handler_of
-handler_tree = given_handler.fold_out-Handler plain.Stmt plain.Case plain.Handler stmt_step case_step handler_step
+unfolding stmt_of case_of class_def_of function_def_of handler_of try_of
+handler_tree = given_handler.fold_out-Handler plain.Stmt plain.Case plain.Stmt plain.FunctionDefFields plain.Handler plain.TryFields stmt_step case_step class_def_step function_def_step handler_step try_step
 
 -- the value of every statement and of its parts
 pub ruleset stmt_shapes = (
   function_def_tree,
+  function_def_shape,
   async_function_def_tree,
   class_def_tree,
+  class_def_shape,
   return_tree,
   delete_tree,
   assign_tree,
@@ -217,6 +241,7 @@ pub ruleset stmt_shapes = (
   match_tree,
   raise_tree,
   try_tree,
+  try_shape,
   try_star_tree,
   assert_tree,
   import_tree,

@@ -3,16 +3,21 @@ use Rattle.std.proofs.lemmas.Result.{IfOk-equal}
 use Rattle.pylex_lexeme.specs.declared.kinds.Exact.TheVariants.{Colon, Comma, Equal, LBrace, RBrace, Star}
 use Rattle.pytree_node.specs.declared.expressions.Arg as given_arg
 use Rattle.pytree_node.specs.declared.expressions.Arguments as given_arguments
+use Rattle.pytree_node.specs.declared.expressions.Call as given_call
+use Rattle.pytree_node.specs.declared.expressions.Compare as given_compare
+use Rattle.pytree_node.specs.declared.expressions.DictComp as given_dict_comp
+use Rattle.pytree_node.specs.declared.expressions.Slice as given_slice
 use Rattle.pytree_node.specs.declared.expressions.Keyword as given_keyword
 use Rattle.pytree_node.specs.declared.operators.Comparison.TheVariants as Is
 use Rattle.pytree_node.specs.Trees.{args, comprehensions, exprs, keywords, optional, optional_arg, optionals}
-use Rattle.pytree_node.specs.TreeOf.{arg_of, arg_option_of, arguments_of, boxed_of, comprehension_of, keyword_of, option_of, tree_of}
+use Rattle.pytree_node.specs.TreeOf.{arg_of, arg_option_of, arguments_of, boxed_of, call_of, compare_of, comprehension_of, dict_of, dict_comp_of}
+use Rattle.pytree_node.specs.TreeOf.{keyword_of, option_of, slice_of, tree_of}
 use Rattle.pytree_node.proofs.Callers.ExprShapes.{arg_tree, arguments_tree, attribute_tree, await_tree, bin_op_tree, bool_op_tree}
 use Rattle.pytree_node.proofs.Callers.ExprShapes.{call_tree, compare_tree, comprehension_tree, constant_tree, dict_comp_tree, dict_tree}
 use Rattle.pytree_node.proofs.Callers.ExprShapes.{formatted_value_tree, generator_exp_tree, if_exp_tree, joined_str_tree, keyword_tree}
 use Rattle.pytree_node.proofs.Callers.ExprShapes.{lambda_tree, list_comp_tree, list_tree, name_tree, named_expr_tree, set_comp_tree}
 use Rattle.pytree_node.proofs.Callers.ExprShapes.{set_tree, slice_tree, starred_tree, subscript_tree, tuple_tree, unary_op_tree}
-use Rattle.pytree_node.proofs.Callers.ExprShapes.{yield_from_tree, yield_tree}
+use Rattle.pytree_node.proofs.Callers.ExprShapes.{yield_from_tree, yield_tree, call_shape, compare_shape, dict_shape, dict_comp_shape, slice_shape}
 use Rattle.pygrammar.specs.declared.levels.Level.TheVariants.{BitOr, Elem, Expression, Named, Or}
 use Rattle.pytree_height.specs.Heights.{arg_height, arg_heights, comprehension_heights, height, heights, keyword_heights, optional_height}
 use Rattle.pytree_height.specs.Heights.{optional_heights}
@@ -34,11 +39,11 @@ use Rattle.pyunparse.specs.Inner.Parameters.{named as named_arg, positional}
 use Rattle.pyunparse.proofs.ExpressionParts.ArgumentLemmas.{alone_is, args_listed, lone_some}
 use Rattle.pyunparse.proofs.ExpressionParts.ClassLemmas.{attribute, awaited, binary, call, chain, comparison, conditional}
 use Rattle.pyunparse.proofs.ExpressionParts.ClassLemmas.{dict_comprehension, lambda, named, prefixed, slice, subscript, yielded}
-use Rattle.pyunparse.proofs.ExpressionParts.ClassLemmas.{yielded_from}
+use Rattle.pyunparse.proofs.ExpressionParts.ClassLemmas.{dict_pieces, yielded_from}
 use Rattle.pyunparse.proofs.Sequences.FoldLemmas.{enclosed_on, three, two}
-use Rattle.pyunparse.proofs.Shapes.MeasureLemmas.{call_height, compare_height, dict_comp_height, formatted_height, gathered_lower}
+use Rattle.pyunparse.proofs.Shapes.MeasureLemmas.{boxed_height, call_height, compare_height, dict_height, dict_comp_height, formatted_height, gathered_lower}
 use Rattle.pyunparse.proofs.Shapes.MeasureLemmas.{generator_height, joined_height, keyword_height, keyword_only_lower, named_arg_height}
-use Rattle.pyunparse.proofs.Shapes.MeasureLemmas.{parts_height, places_lower, star_lower}
+use Rattle.pyunparse.proofs.Shapes.MeasureLemmas.{parts_height, places_lower, slice_height, star_lower}
 use Rattle.pyunparse.proofs.Sequences.MemberLemmas.{all_items, all_parts, both_done, both_on, compared_done, compared_on, item_on}
 use Rattle.pyunparse.proofs.Sequences.MemberLemmas.{members_none, no_higher, part_on, rest_no_higher, take_rest}
 use Rattle.pyunparse.proofs.ExpressionParts.ParameterLemmas.{D, N, places_on, default_bare, default_none, default_some, parameters_told}
@@ -105,10 +110,11 @@ operators::write_yield_from-returns g t c = IfOk-equal _ _ _ _ c.close.ensures
     c.reaches-bare.ensures c.in_ok-open.ensures c.in_ok-put_word.ensures c.in_ok-put_word-2.ensures c.in_ok-write_expr.ensures)
 
 pub operators::write_compare-returns : goal.operators::write_compare-returns
-operators::write_compare-returns g t c = IfOk-equal _ _ _ _ c.close.ensures
-    (comparison g.W.Writer.after c.args.out.now c.args.level _ (tree_of c.args.left.now) c.args.ops.now
-    (exprs (map tree_of c.args.comparators.now)) _ _ _
-    c.reaches-bare.ensures c.in_ok-open.ensures c.in_ok-write_expr.ensures c.in_ok-write_compared.ensures)
+operators::write_compare-returns g t c = rw (compare_shape, sym c.deref.ensures.value, sym c.deref-2.ensures.value)
+    (IfOk-equal _ _ _ _ c.close.ensures
+    (comparison g.W.Writer.after c.args.out.now c.args.level _ (tree_of (given_compare.out-Compare c.args.compare.now).left) c.deref.result.now
+    (exprs (map tree_of c.deref-2.result.now)) _ _ _
+    c.reaches-bare.ensures c.in_ok-open.ensures c.in_ok-write_expr.ensures c.in_ok-write_compared.ensures))
 
 pub calls::write_attribute-returns : goal.calls::write_attribute-returns
 calls::write_attribute-returns g t c = λ k. IfOk-equal _ _ _ _ c.close.ensures
@@ -122,18 +128,21 @@ calls::write_subscript-returns g t c = λ k. IfOk-equal _ _ _ _ c.close.ensures
     c.in_ok-put_sign-2.ensures)
 
 pub calls::write_call-returns : goal.calls::write_call-returns
-calls::write_call-returns g t c = IfOk-equal _ _ _ _ c.close.ensures
-    (call g.W.Writer.after c.args.out.now c.args.level _ (tree_of c.args.func.now) (exprs (map tree_of c.args.args.now))
-    (keywords (map keyword_of c.args.words.now)) _ _ _ _ _
+calls::write_call-returns g t c = rw (call_shape, sym c.deref.ensures.value, sym c.deref-2.ensures.value)
+    (IfOk-equal _ _ _ _ c.close.ensures
+    (call g.W.Writer.after c.args.out.now c.args.level _ (tree_of (given_call.out-Call c.args.call.now).func)
+    (exprs (map tree_of c.deref.result.now)) (keywords (map keyword_of c.deref-2.result.now)) _ _ _ _ _
     c.reaches-bare.ensures c.in_ok-open.ensures c.in_ok-write_expr.ensures c.in_ok-put_sign.ensures c.in_ok-write_arguments.ensures
-    c.in_ok-put_sign-2.ensures)
+    c.in_ok-put_sign-2.ensures))
 
 pub tuples::write_slice-returns : goal.tuples::write_slice-returns
-tuples::write_slice-returns g t c = IfOk-equal _ _ _ _ c.close.ensures
-    (slice g.W.Writer.after c.args.out.now c.args.level _ (optional (boxed_of c.args.lower.now)) (optional (boxed_of c.args.upper.now))
-    (optional (boxed_of c.args.step.now)) _ _ _ _ _
+tuples::write_slice-returns g t c = let o = given_slice.out-Slice c.args.slice.now in
+    rw slice_shape
+    (IfOk-equal _ _ _ _ c.close.ensures
+    (slice g.W.Writer.after c.args.out.now c.args.level _ (optional (boxed_of o.lower)) (optional (boxed_of o.upper))
+    (optional (boxed_of o.step)) _ _ _ _ _
     c.reaches-bare.ensures c.in_ok-open.ensures c.in_ok-write_perhaps.ensures c.in_ok-put_sign.ensures c.in_ok-write_perhaps-2.ensures
-    c.in_ok-write_suffix.ensures)
+    c.in_ok-write_suffix.ensures))
 
 pub tuples::write_tuple-returns : goal.tuples::write_tuple-returns
 tuples::write_tuple-returns g t c = λ k. IfOk-equal _ _ _ _ c.close.ensures
@@ -148,11 +157,12 @@ displays::write_display-returns g t c = IfOk-equal _ _ _ _ c.put_sign-2.ensures
     c.in_ok-put_sign.ensures c.in_ok-write_members.ensures)
 
 pub displays::write_dict-returns : goal.displays::write_dict-returns
-displays::write_dict-returns g t c = IfOk-equal _ _ _ _ c.put_sign-2.ensures
+displays::write_dict-returns g t c = λ level. rw (dict_shape, sym c.deref.ensures.value, sym c.deref-2.ensures.value, dict_pieces)
+    (IfOk-equal _ _ _ _ c.put_sign-2.ensures
     (enclosed_on g.W.Writer.after c.args.out.now (leading piece LBrace) RBrace
-    (listed piece (pairs piece (written_keys piece (optionals (map option_of c.args.keys.now)))
-    (exprs (map tree_of c.args.values.now)))) _ _
-    c.in_ok-put_sign.ensures c.in_ok-write_pairs.ensures)
+    (listed piece (pairs piece (written_keys piece (optionals (map option_of c.deref.result.now)))
+    (exprs (map tree_of c.deref-2.result.now)))) _ _
+    c.in_ok-put_sign.ensures c.in_ok-write_pairs.ensures))
 
 pub clauses::write_comprehension-returns : goal.clauses::write_comprehension-returns
 clauses::write_comprehension-returns g t c = IfOk-equal _ _ _ _ c.put_sign-2.ensures
@@ -167,11 +177,14 @@ clauses::write_generator-returns g t c = IfOk-equal _ _ _ _ c.write_clauses.ensu
     c.in_ok-write_expr.ensures)
 
 pub clauses::write_dict_comprehension-returns : goal.clauses::write_dict_comprehension-returns
-clauses::write_dict_comprehension-returns g t c = IfOk-equal _ _ _ _ c.put_sign-3.ensures
-    (dict_comprehension g.W.Writer.after c.args.out.now (tree_of c.args.key.now) (tree_of c.args.value.now)
-    (comprehensions (map comprehension_of c.args.generators.now)) _ _ _ _ _
+unfolding written
+clauses::write_dict_comprehension-returns g t c = let o = given_dict_comp.out-DictComp c.args.comp.now in
+    λ level. rw (dict_comp_shape, sym c.deref.ensures.value)
+    (IfOk-equal _ _ _ _ c.put_sign-3.ensures
+    (dict_comprehension g.W.Writer.after c.args.out.now (tree_of o.key) (tree_of o.value)
+    (comprehensions (map comprehension_of c.deref.result.now)) _ _ _ _ _
     c.in_ok-put_sign.ensures c.in_ok-write_expr.ensures c.in_ok-put_sign-2.ensures c.in_ok-write_expr-2.ensures
-    c.in_ok-write_clauses.ensures)
+    c.in_ok-write_clauses.ensures))
 
 pub displays::write_members-loop-e-preserved : goal.displays::write_members-loop-e-preserved
 unfolding written
@@ -277,13 +290,7 @@ expressions::write_expr-returns-in-IfExp g t c = rw (
 ) c.write_conditional.ensures
 
 pub expressions::write_expr-returns-in-Dict : goal.expressions::write_expr-returns-in-Dict
-unfolding written
-expressions::write_expr-returns-in-Dict g t c = rw (
-  c.in-Dict.is,
-  dict_tree,
-  sym c.deref-in-Dict.ensures.value,
-  sym c.deref-in-Dict-2.ensures.value,
-) c.write_dict.ensures
+expressions::write_expr-returns-in-Dict g t c = rw (c.in-Dict.is, dict_tree, sym c.deref-in-Dict.ensures) (c.write_dict.ensures c.args.level)
 
 pub expressions::write_expr-returns-in-Set : goal.expressions::write_expr-returns-in-Set
 unfolding written
@@ -308,14 +315,7 @@ expressions::write_expr-returns-in-SetComp g t c = rw (
 ) c.write_comprehension-in-SetComp.ensures
 
 pub expressions::write_expr-returns-in-DictComp : goal.expressions::write_expr-returns-in-DictComp
-unfolding written
-expressions::write_expr-returns-in-DictComp g t c = rw (
-  c.in-DictComp.is,
-  dict_comp_tree,
-  sym c.deref-in-DictComp.ensures,
-  sym c.deref-in-DictComp-2.ensures,
-  sym c.deref-in-DictComp-3.ensures.value,
-) c.write_dict_comprehension.ensures
+expressions::write_expr-returns-in-DictComp g t c = rw (c.in-DictComp.is, dict_comp_tree, sym c.deref-in-DictComp.ensures) (c.write_dict_comprehension.ensures c.args.level)
 
 pub expressions::write_expr-returns-in-GeneratorExp : goal.expressions::write_expr-returns-in-GeneratorExp
 unfolding written
@@ -337,22 +337,10 @@ expressions::write_expr-returns-in-YieldFrom g t c = rw (c.in-YieldFrom.is, yiel
     c.write_yield_from.ensures
 
 pub expressions::write_expr-returns-in-Compare : goal.expressions::write_expr-returns-in-Compare
-expressions::write_expr-returns-in-Compare g t c = rw (
-  c.in-Compare.is,
-  compare_tree,
-  sym c.deref-in-Compare.ensures,
-  sym c.deref-in-Compare-2.ensures.value,
-  sym c.deref-in-Compare-3.ensures.value,
-) c.write_compare.ensures
+expressions::write_expr-returns-in-Compare g t c = rw (c.in-Compare.is, compare_tree, sym c.deref-in-Compare.ensures) c.write_compare.ensures
 
 pub expressions::write_expr-returns-in-Call : goal.expressions::write_expr-returns-in-Call
-expressions::write_expr-returns-in-Call g t c = rw (
-  c.in-Call.is,
-  call_tree,
-  sym c.deref-in-Call.ensures,
-  sym c.deref-in-Call-2.ensures.value,
-  sym c.deref-in-Call-3.ensures.value,
-) c.write_call.ensures
+expressions::write_expr-returns-in-Call g t c = rw (c.in-Call.is, call_tree, sym c.deref-in-Call.ensures) c.write_call.ensures
 
 pub expressions::write_expr-returns-in-Constant : goal.expressions::write_expr-returns-in-Constant
 unfolding written
@@ -384,7 +372,7 @@ expressions::write_expr-returns-in-Tuple g t c = rw (c.in-Tuple.is, tuple_tree, 
     (c.write_tuple.ensures c.in-Tuple.ctx)
 
 pub expressions::write_expr-returns-in-Slice : goal.expressions::write_expr-returns-in-Slice
-expressions::write_expr-returns-in-Slice g t c = rw (c.in-Slice.is, slice_tree) c.write_slice.ensures
+expressions::write_expr-returns-in-Slice g t c = rw (c.in-Slice.is, slice_tree, sym c.deref-in-Slice.ensures) c.write_slice.ensures
 
 pub displays::write_pairs-loop-i-preserved : goal.displays::write_pairs-loop-i-preserved
 displays::write_pairs-loop-i-preserved g t c = both_on g.W.Writer.after _ _ c.loop-i.first (trailing piece Comma) pairs_of
@@ -590,19 +578,19 @@ calls::write_alone-write_generator-requires g t c =
     (λ κs l. (omega (arith, h), l))
 
 pub expressions::write_expr-write_dict_comprehension-requires : goal.expressions::write_expr-write_dict_comprehension-requires
-expressions::write_expr-write_dict_comprehension-requires g t c =
-    let h : _ = dict_comp_height _ _ _ _ _ _ _ c.in-DictComp.is c.deref-in-DictComp.ensures c.deref-in-DictComp-2.ensures
-    c.deref-in-DictComp-3.ensures.value in (λ κs l. (omega (arith, h), l))
+expressions::write_expr-write_dict_comprehension-requires g t c = let h = boxed_height (tree_of c.args.e.now) (dict_comp_of c.deref-in-DictComp.result.now)
+    (rw (c.in-DictComp.is, dict_comp_tree, sym c.deref-in-DictComp.ensures) refl) in
+    let k = dict_comp_height c.deref-in-DictComp.result.now in (λ κs l. (omega (arith, h, k), l))
 
 pub expressions::write_expr-write_compare-requires : goal.expressions::write_expr-write_compare-requires
-expressions::write_expr-write_compare-requires g t c =
-    let h : _ = compare_height _ _ _ _ _ _ c.in-Compare.is c.deref-in-Compare.ensures c.deref-in-Compare-3.ensures.value in
-    (λ κs l. (omega (arith, h), l))
+expressions::write_expr-write_compare-requires g t c = let h = boxed_height (tree_of c.args.e.now) (compare_of c.deref-in-Compare.result.now)
+    (rw (c.in-Compare.is, compare_tree, sym c.deref-in-Compare.ensures) refl) in
+    let k = compare_height c.deref-in-Compare.result.now in (λ κs l. (omega (arith, h, k), l))
 
 pub expressions::write_expr-write_call-requires : goal.expressions::write_expr-write_call-requires
-expressions::write_expr-write_call-requires g t c =
-    let h : _ = call_height _ _ _ _ _ _ _ c.in-Call.is c.deref-in-Call.ensures c.deref-in-Call-2.ensures.value
-    c.deref-in-Call-3.ensures.value in (λ κs l. (omega (arith, h), l))
+expressions::write_expr-write_call-requires g t c = let h = boxed_height (tree_of c.args.e.now) (call_of c.deref-in-Call.result.now)
+    (rw (c.in-Call.is, call_tree, sym c.deref-in-Call.ensures) refl) in
+    let k = call_height c.deref-in-Call.result.now in (λ κs l. (omega (arith, h, k), l))
 
 pub calls::write_keyword-write_expr-requires : goal.calls::write_keyword-write_expr-requires
 calls::write_keyword-write_expr-requires g t c = let h : _ = keyword_height c.args.word.now in (λ κs l. (omega (arith, h), l))
@@ -805,3 +793,55 @@ strings::write_spec_values-returns g t c = IfOk-equal _ _ _ _ c.write_values.ens
     (spec_on g.W.Writer.after g.W.Writer.step c.args.in_field
     (exprs (map tree_of c.args.values.now)) _ c.args.out.now _ _ _ c.first_text.ensures c.in_ok-begin_spec.ensures
     c.in_ok-put_text.ensures refl)
+
+pub expressions::write_expr-write_dict-requires : goal.expressions::write_expr-write_dict-requires
+expressions::write_expr-write_dict-requires g t c = let h = boxed_height (tree_of c.args.e.now) (dict_of c.deref-in-Dict.result.now)
+    (rw (c.in-Dict.is, dict_tree, sym c.deref-in-Dict.ensures) refl) in
+    let k = dict_height c.deref-in-Dict.result.now in (λ κs l. (omega (arith, h, k), l))
+
+pub expressions::write_expr-write_slice-requires : goal.expressions::write_expr-write_slice-requires
+expressions::write_expr-write_slice-requires g t c = let h = boxed_height (tree_of c.args.e.now) (slice_of c.deref-in-Slice.result.now)
+    (rw (c.in-Slice.is, slice_tree, sym c.deref-in-Slice.ensures) refl) in
+    let k = slice_height c.deref-in-Slice.result.now in (λ κs l. (omega (arith, h, k), l))
+
+pub operators::write_compare-write_expr-requires : goal.operators::write_compare-write_expr-requires
+operators::write_compare-write_expr-requires g t c = let h = compare_height c.args.compare.now in (λ κs l. (omega (arith, h), l))
+
+pub operators::write_compare-write_compared-requires : goal.operators::write_compare-write_compared-requires
+operators::write_compare-write_compared-requires g t c = let h = compare_height c.args.compare.now in
+    let k = ap (λ es. heights (exprs (map tree_of es))) c.deref-2.ensures.value in (λ κs l. (omega (arith, h, k), l))
+
+pub calls::write_call-write_expr-requires : goal.calls::write_call-write_expr-requires
+calls::write_call-write_expr-requires g t c = let h = call_height c.args.call.now in (λ κs l. (omega (arith, h), l))
+
+pub calls::write_call-write_arguments-requires : goal.calls::write_call-write_arguments-requires
+calls::write_call-write_arguments-requires g t c = let h = call_height c.args.call.now in
+    let k = ap (λ es. heights (exprs (map tree_of es))) c.deref.ensures.value in
+    let l = ap (λ ks. keyword_heights (keywords (map keyword_of ks))) c.deref-2.ensures.value in
+    (λ κs m. (omega (arith, h, k, l), m))
+
+pub displays::write_dict-write_pairs-requires : goal.displays::write_dict-write_pairs-requires
+displays::write_dict-write_pairs-requires g t c = let h = dict_height c.args.dict.now in
+    let k = ap (λ ks. optional_heights (optionals (map option_of ks))) c.deref.ensures.value in
+    let l = ap (λ es. heights (exprs (map tree_of es))) c.deref-2.ensures.value in
+    (λ κs m. (omega (arith, h, k, l), m))
+
+pub clauses::write_dict_comprehension-write_expr-requires : goal.clauses::write_dict_comprehension-write_expr-requires
+clauses::write_dict_comprehension-write_expr-requires g t c = let h = dict_comp_height c.args.comp.now in (λ κs l. (omega (arith, h), l))
+
+pub clauses::write_dict_comprehension-write_expr-requires-2 : goal.clauses::write_dict_comprehension-write_expr-requires-2
+clauses::write_dict_comprehension-write_expr-requires-2 g t c = let h = dict_comp_height c.args.comp.now in (λ κs l. (omega (arith, h), l))
+
+pub clauses::write_dict_comprehension-write_clauses-requires : goal.clauses::write_dict_comprehension-write_clauses-requires
+clauses::write_dict_comprehension-write_clauses-requires g t c = let h = dict_comp_height c.args.comp.now in
+    let k = ap (λ cs. comprehension_heights (comprehensions (map comprehension_of cs))) c.deref.ensures.value in
+    (λ κs l. (omega (arith, h, k), l))
+
+pub tuples::write_slice-write_perhaps-requires : goal.tuples::write_slice-write_perhaps-requires
+tuples::write_slice-write_perhaps-requires g t c = let h = slice_height c.args.slice.now in (λ κs l. (omega (arith, h), l))
+
+pub tuples::write_slice-write_perhaps-requires-2 : goal.tuples::write_slice-write_perhaps-requires-2
+tuples::write_slice-write_perhaps-requires-2 g t c = let h = slice_height c.args.slice.now in (λ κs l. (omega (arith, h), l))
+
+pub tuples::write_slice-write_suffix-requires : goal.tuples::write_slice-write_suffix-requires
+tuples::write_slice-write_suffix-requires g t c = let h = slice_height c.args.slice.now in (λ κs l. (omega (arith, h), l))

@@ -1,7 +1,8 @@
 use Rattle.std.proofs.Common.{◌≡◌, ◌+◌, ◌-◌, ◌*◌, max, true, false, map, drop}
 use Rattle.pylex_lexeme.specs.declared.kinds.Exact.TheVariants.{Comma}
 use Rattle.pytree_node.specs.Trees.{args, comprehensions, exprs, keywords, optional, optional_arg, optionals}
-use Rattle.pytree_node.specs.TreeOf.{arg_of, arg_option_of, arguments_of, boxed_of, comprehension_of, keyword_of, option_of, tree_of}
+use Rattle.pytree_node.specs.TreeOf.{arg_of, arg_option_of, arguments_of, boxed_of, call_of, compare_of, comprehension_of, dict_of, dict_comp_of}
+use Rattle.pytree_node.specs.TreeOf.{keyword_of, option_of, slice_of, tree_of}
 use Rattle.pygrammar.specs.declared.levels.Level.TheVariants.{BitOr, Expression}
 use Rattle.pytree_height.specs.Heights.{arg_height, arg_heights, arguments_height, comprehension_heights, height, heights, keyword_heights}
 use Rattle.pytree_height.specs.Heights.{optional_arg_height, optional_height, optional_heights}
@@ -90,8 +91,7 @@ abbrev pub decreases-displays::write_display : goal.decreases-displays::write_di
 decreases-displays::write_display g l = 8 * heights (exprs (map tree_of l.elts.now)) + 2
 
 abbrev pub decreases-displays::write_dict : goal.decreases-displays::write_dict
-decreases-displays::write_dict g l = 8 * max (optional_heights (optionals (map option_of l.keys.now)))
-    (heights (exprs (map tree_of l.values.now))) + 3
+decreases-displays::write_dict g l = 8 * height (dict_of l.dict.now) - 5
 
 abbrev pub decreases-displays::write_pairs : goal.decreases-displays::write_pairs
 decreases-displays::write_pairs g l = 8 * max (optional_heights (optionals (map option_of l.keys.now)))
@@ -129,7 +129,7 @@ abbrev pub decreases-operators::write_yield_from : goal.decreases-operators::wri
 decreases-operators::write_yield_from g l = 8 * height (tree_of l.value.now) + 1
 
 abbrev pub decreases-operators::write_compare : goal.decreases-operators::write_compare
-decreases-operators::write_compare g l = 8 * max (height (tree_of l.left.now)) (heights (exprs (map tree_of l.comparators.now))) + 2
+decreases-operators::write_compare g l = 8 * height (compare_of l.compare.now) - 6
 
 abbrev pub decreases-operators::write_compared : goal.decreases-operators::write_compared
 decreases-operators::write_compared g l = 8 * heights (exprs (map tree_of l.comparators.now)) + 1
@@ -143,9 +143,7 @@ decreases-clauses::write_generator g l =
     8 * max (height (tree_of l.elt.now)) (comprehension_heights (comprehensions (map comprehension_of l.generators.now))) + 5
 
 abbrev pub decreases-clauses::write_dict_comprehension : goal.decreases-clauses::write_dict_comprehension
-decreases-clauses::write_dict_comprehension g l =
-    8 * max (height (tree_of l.key.now))
-    (max (height (tree_of l.value.now)) (comprehension_heights (comprehensions (map comprehension_of l.generators.now)))) + 5
+decreases-clauses::write_dict_comprehension g l = 8 * height (dict_comp_of l.comp.now) - 3
 
 abbrev pub decreases-clauses::write_clauses : goal.decreases-clauses::write_clauses
 decreases-clauses::write_clauses g l = 8 * comprehension_heights (comprehensions (map comprehension_of l.generators.now)) + 4
@@ -160,9 +158,7 @@ abbrev pub decreases-calls::write_subscript : goal.decreases-calls::write_subscr
 decreases-calls::write_subscript g l = 8 * max (height (tree_of l.value.now)) (height (tree_of l.slice.now)) + 1
 
 abbrev pub decreases-calls::write_call : goal.decreases-calls::write_call
-decreases-calls::write_call g l =
-    8 * max (height (tree_of l.func.now))
-    (max (heights (exprs (map tree_of l.args.now))) (keyword_heights (keywords (map keyword_of l.words.now)))) + 4
+decreases-calls::write_call g l = 8 * height (call_of l.call.now) - 4
 
 abbrev pub decreases-calls::write_arguments : goal.decreases-calls::write_arguments
 decreases-calls::write_arguments g l = 8 * max (heights (exprs (map tree_of l.args.now)))
@@ -175,8 +171,7 @@ abbrev pub decreases-tuples::write_tuple : goal.decreases-tuples::write_tuple
 decreases-tuples::write_tuple g l = 8 * heights (exprs (map tree_of l.elts.now)) + 2
 
 abbrev pub decreases-tuples::write_slice : goal.decreases-tuples::write_slice
-decreases-tuples::write_slice g l = 8 * max (optional_height (optional (boxed_of l.lower.now)))
-    (max (optional_height (optional (boxed_of l.upper.now))) (optional_height (optional (boxed_of l.step.now)))) + 2
+decreases-tuples::write_slice g l = 8 * height (slice_of l.slice.now) - 6
 
 abbrev pub decreases-parameters::write_parameters : goal.decreases-parameters::write_parameters
 decreases-parameters::write_parameters g l = 8 * arguments_height (arguments_of l.a.now) + 6

@@ -1,6 +1,6 @@
 -- Carries: the functions of the walk that have no loop. What is written for each class of
 -- expression, part by part.
-use Rattle.std.proofs.Common.{◌≡◌, ◌∙◌, Bool, false, if◌then◌else◌, List, [], ◌∷◌, ◌++◌, ap, sym, append_assoc}
+use Rattle.std.proofs.Common.{◌≡◌, ◌∙◌, Bool, false, if◌then◌else◌, List, [], ◌∷◌, ◌++◌, ap, refl, sym, append_assoc}
 use Rattle.pylex_lexeme.specs.declared.kinds.Exact.{Exact}
 use Rattle.pylex_lexeme.specs.declared.kinds.Exact.TheVariants.{LPar, RPar, LSqb, RSqb, LBrace, RBrace, Colon, ColonEqual, Dot}
 use Rattle.pytoken.specs.declared.keywords.Keyword.TheVariants as Key
@@ -14,12 +14,12 @@ use Rattle.pygrammar.specs.declared.levels.Level.TheVariants.{Value, Stars, Name
 use Rattle.pygrammar.specs.declared.levels.Level.TheVariants.{Slice}
 use Rattle.pygrammar.specs.Operators.{below, chain_level, chain_word}
 use Rattle.pytree_node.specs.Trees
-use Rattle.pytree_node.specs.Trees.{Identifier, Expr, Exprs, OptionalExpr, Keywords, Comprehensions, Arguments}
+use Rattle.pytree_node.specs.Trees.{Identifier, Expr, Exprs, OptionalExpr, OptionalExprs, Keywords, Comprehensions, Arguments}
 use Rattle.pytoken.specs.Terminals.{Op, in_form}
 use Rattle.pyunparse_text.specs.Levels.{reaches, operator_level, left_level, right_level, operator_sign, unary_level}
 use Rattle.pyunparse_text.specs.Pieces.{Sited, piece, pieces, sited}
 use Rattle.pyunparse_text.specs.Written.{enclosed, fit, written, free, word, leading, trailing, tight, separated, listed, unary, compared}
-use Rattle.pyunparse_text.specs.Written.{each, perhaps, suffixed, parameters, clauses, alone, by_name, lone_generator}
+use Rattle.pyunparse_text.specs.Written.{each, pairs, perhaps, suffixed, parameters, clauses, alone, by_name, lone_generator, written_keys}
 use Rattle.pyunparse_text.specs.Folds.{puts, opened, closed}
 use Rattle.pyunparse.proofs.Sequences.FoldLemmas.{fits, five, four, six, three, two}
 
@@ -217,6 +217,12 @@ module _ {S : Type 0} (after : S → Sited → S) (s : S) (l : Level) where
   binary b a o e j k x s1 s2 s3 s4 hb hj hk hx e1 e2 e3 e4 = binary_of b a o e s1 s2 s3 s4 hb e1
       (e2 ∙ ap (λ z. puts after s1 (pieces z a)) hj) (e3 ∙ ap (λ z. puts after s2 (sited z false false ∷ [])) hx) (e4
       ∙ ap (λ z. puts after s3 (pieces z e)) hk)
+
+-- a dictionary needs no brackets
+pub dict_pieces : (l : Level) (ks : OptionalExprs) (es : Exprs) →
+    pieces l (Trees.Dict ks es) ≡ enclosed piece (leading piece LBrace) RBrace (listed piece (pairs piece (written_keys piece ks) es))
+unfolding written
+dict_pieces l ks es = refl
 
 pub dict_comprehension : {S : Type 0} (after : S → Sited → S) (s : S) (k e : Expr) (gs : Comprehensions) (s1 s2 s3 s4 s5 : S) →
     s1 ≡ puts after s (leading piece LBrace ∷ []) → s2 ≡ puts after s1 (pieces Expression k)

@@ -8,17 +8,28 @@ use Rattle.pytree_node.specs.declared.expressions.Arg.{Arg}
 use Rattle.pytree_node.specs.declared.expressions.Arg as given_arg
 use Rattle.pytree_node.specs.declared.expressions.Arguments.{Arguments}
 use Rattle.pytree_node.specs.declared.expressions.Arguments as given_arguments
+use Rattle.pytree_node.specs.declared.expressions.Call.{Call}
+use Rattle.pytree_node.specs.declared.expressions.Call as given_call
+use Rattle.pytree_node.specs.declared.expressions.Compare.{Compare}
+use Rattle.pytree_node.specs.declared.expressions.Compare as given_compare
 use Rattle.pytree_node.specs.declared.expressions.Comprehension.{Comprehension}
 use Rattle.pytree_node.specs.declared.expressions.Comprehension as given_comprehension
+use Rattle.pytree_node.specs.declared.expressions.Dict.{Dict}
+use Rattle.pytree_node.specs.declared.expressions.Dict as given_dict
+use Rattle.pytree_node.specs.declared.expressions.DictComp.{DictComp}
+use Rattle.pytree_node.specs.declared.expressions.DictComp as given_dict_comp
 use Rattle.pytree_node.specs.declared.expressions.Expr.{Expr}
 use Rattle.pytree_node.specs.declared.expressions.Expr.TheVariants as variant
 use Rattle.pytree_node.specs.declared.expressions.Keyword.{Keyword}
+use Rattle.pytree_node.specs.declared.expressions.Slice.{Slice}
+use Rattle.pytree_node.specs.declared.expressions.Slice as given_slice
 use Rattle.pytree_node.specs.declared.expressions.Keyword as given_keyword
-use Rattle.pytree_node.specs.declared.operators.Comparison.{Comparison}
+use Rattle.pytree_node.specs.Trees as plain
 use Rattle.pytree_node.specs.Trees.{args, comprehensions, exprs, keywords, optional, optional_arg, optionals}
-use Rattle.pytree_node.specs.TreeOf.{arg_of, arg_option_of, arguments_of, boxed_of, comprehension_of, keyword_of, option_of, tree_of}
-use Rattle.pytree_node.proofs.Callers.ExprShapes.{arg_tree, arguments_tree, call_tree, compare_tree, comprehension_tree, dict_comp_tree}
-use Rattle.pytree_node.proofs.Callers.ExprShapes.{formatted_value_tree, generator_exp_tree, joined_str_tree, keyword_tree}
+use Rattle.pytree_node.specs.TreeOf.{arg_of, arg_option_of, arguments_of, boxed_of, call_of, compare_of, comprehension_of, dict_comp_of}
+use Rattle.pytree_node.specs.TreeOf.{dict_of, keyword_of, option_of, slice_of, tree_of}
+use Rattle.pytree_node.proofs.Callers.ExprShapes.{arg_tree, arguments_tree, call_shape, compare_shape, comprehension_tree, dict_shape}
+use Rattle.pytree_node.proofs.Callers.ExprShapes.{dict_comp_shape, slice_shape, formatted_value_tree, generator_exp_tree, joined_str_tree, keyword_tree}
 use Rattle.pytree_height.specs.Heights.{arg_height, arg_heights, arguments_height, comprehension_heights, height, heights, keyword_heights}
 use Rattle.pytree_height.specs.Heights.{optional_arg_height, optional_height, optional_heights}
 use Rattle.pyunparse.specs.Inner.Clauses.{clause_height}
@@ -32,31 +43,32 @@ generator_height e x gs elt generators is hx hg =
     ap (λ z. height (tree_of z)) is ∙ ap height (generator_exp_tree elt generators)
     ∙ (λ i. max (height (tree_of (sym hx i))) (comprehension_heights (comprehensions (map comprehension_of (sym hg i)))) + 1)
 
-pub dict_comp_height : (e k x : Expr) (gs : List Comprehension) (key value : Box Expr Global) (generators : Vec Comprehension Global) →
-    e ≡ variant.DictComp key value generators → k ≡ key.value → x ≡ value.value → gs ≡ generators.items →
-    height (tree_of e) ≡ max (height (tree_of k))
-    (max (height (tree_of x)) (comprehension_heights (comprehensions (map comprehension_of gs)))) + 1
-dict_comp_height e k x gs key value generators is hk hx hg =
-    ap (λ z. height (tree_of z)) is ∙ ap height (dict_comp_tree key value generators)
-    ∙ (λ i. max (height (tree_of (sym hk i)))
-    (max (height (tree_of (sym hx i))) (comprehension_heights (comprehensions (map comprehension_of (sym hg i))))) + 1)
+-- a class whose fields are in a box
+pub boxed_height : (e d : plain.Expr) → e ≡ d → height e ≡ height d
+boxed_height e d is = ap height is
 
-pub compare_height : (e l : Expr) (es : List Expr) (left : Box Expr Global) (ops : Vec Comparison Global) (comparators : Vec Expr Global) →
-    e ≡ variant.Compare left ops comparators → l ≡ left.value → es ≡ comparators.items →
-    height (tree_of e) ≡ max (height (tree_of l)) (heights (exprs (map tree_of es))) + 1
-compare_height e l es left ops comparators is hl he =
-    ap (λ z. height (tree_of z)) is ∙ ap height (compare_tree left ops comparators)
-    ∙ (λ i. max (height (tree_of (sym hl i))) (heights (exprs (map tree_of (sym he i)))) + 1)
+pub dict_height : (d : Dict) → height (dict_of d) ≡ max (optional_heights (optionals (map option_of (given_dict.out-Dict d).keys.items)))
+    (heights (exprs (map tree_of (given_dict.out-Dict d).values.items))) + 1
+dict_height d = ap height (dict_shape d)
 
-pub call_height : (e f : Expr) (es : List Expr) (ks : List Keyword) (func : Box Expr Global) (arguments : Vec Expr Global)
-    (words : Vec Keyword Global) →
-    e ≡ variant.Call func arguments words → f ≡ func.value → es ≡ arguments.items → ks ≡ words.items →
-    height (tree_of e) ≡ max (height (tree_of f)) (max (heights (exprs (map tree_of es))) (keyword_heights (keywords (map keyword_of ks))))
-    + 1
-call_height e f es ks func arguments words is hf he hk =
-    ap (λ z. height (tree_of z)) is ∙ ap height (call_tree func arguments words)
-    ∙ (λ i. max (height (tree_of (sym hf i)))
-    (max (heights (exprs (map tree_of (sym he i)))) (keyword_heights (keywords (map keyword_of (sym hk i))))) + 1)
+pub dict_comp_height : (d : DictComp) → height (dict_comp_of d) ≡ max (height (tree_of (given_dict_comp.out-DictComp d).key))
+    (max (height (tree_of (given_dict_comp.out-DictComp d).value))
+    (comprehension_heights (comprehensions (map comprehension_of (given_dict_comp.out-DictComp d).generators.items)))) + 1
+dict_comp_height d = ap height (dict_comp_shape d)
+
+pub compare_height : (d : Compare) → height (compare_of d) ≡ max (height (tree_of (given_compare.out-Compare d).left))
+    (heights (exprs (map tree_of (given_compare.out-Compare d).comparators.items))) + 1
+compare_height d = ap height (compare_shape d)
+
+pub call_height : (d : Call) → height (call_of d) ≡ max (height (tree_of (given_call.out-Call d).func))
+    (max (heights (exprs (map tree_of (given_call.out-Call d).args.items)))
+    (keyword_heights (keywords (map keyword_of (given_call.out-Call d).keywords.items)))) + 1
+call_height d = ap height (call_shape d)
+
+pub slice_height : (d : Slice) → height (slice_of d) ≡ max (optional_height (optional (boxed_of (given_slice.out-Slice d).lower)))
+    (max (optional_height (optional (boxed_of (given_slice.out-Slice d).upper)))
+    (optional_height (optional (boxed_of (given_slice.out-Slice d).step)))) + 1
+slice_height d = ap height (slice_shape d)
 
 pub formatted_height : (e x : Expr) (value : Box Expr Global) (conversion : Conversion) (spec : Option (Box Expr Global)) →
     e ≡ variant.FormattedValue value conversion spec → x ≡ value.value →

@@ -15,7 +15,7 @@ use Rattle.pytree_node.specs.TreeOf.{tree_of}
 use Rattle.pyunparse_text.specs.Pieces.{piece}
 use Rattle.pyunparse_text.specs.Written.{first_text, is_unicode, is_unicode_spec, spec_elements, written}
 use Rattle.pyunparse_text.proofs.Callers.Writing.{not_zero}
-use Rattle.pyunparse_text.proofs.Callers.Trees.{HasShape, has_shape}
+use Rattle.pytree_node.proofs.Callers.ExprClasses.{HasClass, has_class}
 use Rattle.pyunparse.specs.Inner.Values.{value_elements}
 
 -- ---- Expressions.
@@ -23,46 +23,46 @@ use Rattle.pyunparse.specs.Inner.Values.{value_elements}
 -- an expression of no such shape
 module _ (e : Expr) where
   module _ (no_constant : (value : Constant) → e ≡ variant.Constant value → ⊥) where
-    none_text : (t : plain.Expr) → HasShape t e → first_text (an_expr t no_exprs) ≡ []
+    none_text : (t : plain.Expr) → HasClass t e → first_text (an_expr t no_exprs) ≡ []
     none_text (plain.Constant _) h = absurd (no_constant h.0 h.1)
     none_text _ h = refl
 
     pub not_text : first_text (an_expr (tree_of e) no_exprs) ≡ []
-    not_text = none_text (tree_of e) (has_shape e)
+    not_text = none_text (tree_of e) (has_class e)
 
   module _ (no_field : (value : Box Expr Global) (conversion : Conversion) (spec : Option (Box Expr Global)) →
       e ≡ variant.FormattedValue value conversion spec → ⊥) where
-    none_elements : (t : plain.Expr) → HasShape t e → (b : Bool) (text : List ℕ) → value_elements b t text ≡ []
+    none_elements : (t : plain.Expr) → HasClass t e → (b : Bool) (text : List ℕ) → value_elements b t text ≡ []
     none_elements (plain.FormattedValue _ _ _) h b text = absurd (no_field h.0 h.1 h.2 h.3)
     none_elements _ h b text = refl
 
     pub not_field : (b : Bool) (text : List ℕ) → value_elements b (tree_of e) text ≡ []
-    not_field = none_elements (tree_of e) (has_shape e)
+    not_field = none_elements (tree_of e) (has_class e)
 
     module _ (no_constant : (value : Constant) → e ≡ variant.Constant value → ⊥) where
-      none_unicode : (t : plain.Expr) → HasShape t e → is_unicode (an_expr t no_exprs) ≡ false
+      none_unicode : (t : plain.Expr) → HasClass t e → is_unicode (an_expr t no_exprs) ≡ false
       none_unicode (plain.Constant _) h = absurd (no_constant h.0 h.1)
       none_unicode (plain.FormattedValue _ _ _) h = absurd (no_field h.0 h.1 h.2 h.3)
       none_unicode _ h = refl
 
       pub not_unicode : is_unicode (an_expr (tree_of e) no_exprs) ≡ false
-      not_unicode = none_unicode (tree_of e) (has_shape e)
+      not_unicode = none_unicode (tree_of e) (has_class e)
 
   module _ (no_string : (values : Vec Expr Global) → e ≡ variant.JoinedStr values → ⊥) where
-    none_spec : (t : plain.Expr) → HasShape t e → spec_elements piece (present t) ≡ []
+    none_spec : (t : plain.Expr) → HasClass t e → spec_elements piece (present t) ≡ []
     unfolding written
     none_spec (plain.JoinedStr _) h = absurd (no_string h.0 h.1)
     none_spec _ h = refl
 
     pub not_spec : spec_elements piece (present (tree_of e)) ≡ []
-    not_spec = none_spec (tree_of e) (has_shape e)
+    not_spec = none_spec (tree_of e) (has_class e)
 
-    none_unicode_spec : (t : plain.Expr) → HasShape t e → is_unicode_spec (present t) ≡ false
+    none_unicode_spec : (t : plain.Expr) → HasClass t e → is_unicode_spec (present t) ≡ false
     none_unicode_spec (plain.JoinedStr _) h = absurd (no_string h.0 h.1)
     none_unicode_spec _ h = refl
 
     pub not_unicode_spec : is_unicode_spec (present (tree_of e)) ≡ false
-    not_unicode_spec = none_unicode_spec (tree_of e) (has_shape e)
+    not_unicode_spec = none_unicode_spec (tree_of e) (has_class e)
 
 -- ---- Values, by the first of them.
 

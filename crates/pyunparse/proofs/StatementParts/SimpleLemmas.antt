@@ -81,13 +81,15 @@ module _ {S : Type 0} (after : S → Sited → S) (s : S) where
         ∙ ap (λ z. puts after s (simple_tokens piece (plain.Assign (map tree_of z) (tree_of e)))) same_targets
         ∙ same (plain.Assign (map tree_of ts.items) (tree_of e)) (ap stmt_of is ∙ assign_tree ts e)
 
-    pub augmented_on : (t : Expr) (o : Operator) (e : Expr) (x : Exact) (s1 s2 : S) → r ≡ statement.AugAssign t o e → x ≡ augmented_sign o →
-        s1 ≡ puts after s (pieces Level.Primary (tree_of t)) → s2 ≡ puts after s1 (sited (Op x) false false ∷ []) →
+    pub augmented_on : (t : Box Expr Global) (o : Operator) (e u : Expr) (x : Exact) (s1 s2 : S) → r ≡ statement.AugAssign t o e
+        → u ≡ t.value → x ≡ augmented_sign o →
+        s1 ≡ puts after s (pieces Level.Primary (tree_of u)) → s2 ≡ puts after s1 (sited (Op x) false false ∷ []) →
         puts after s2 (pieces Level.Value (tree_of e)) ≡ puts after s (simple_tokens piece (stmt_of r))
-    augmented_on t o e x s1 s2 is sign e1 e2 =
-        three after s (pieces Level.Primary (tree_of t)) (free piece (Op (augmented_sign o)) ∷ []) (pieces Level.Value (tree_of e)) s1 s2 e1
+    augmented_on t o e u x s1 s2 is same_target sign e1 e2 =
+        three after s (pieces Level.Primary (tree_of u)) (free piece (Op (augmented_sign o)) ∷ []) (pieces Level.Value (tree_of e)) s1 s2 e1
         (e2 ∙ ap (λ z. puts after s1 (free piece (Op z) ∷ [])) sign)
-        ∙ same (plain.AugAssign (tree_of t) o (tree_of e)) (ap stmt_of is ∙ aug_assign_tree t o e)
+        ∙ (λ i. puts after s (simple_tokens piece (plain.AugAssign (tree_of (same_target i)) o (tree_of e))))
+        ∙ same (plain.AugAssign (tree_of t.value) o (tree_of e)) (ap stmt_of is ∙ aug_assign_tree t o e)
 
     pub annotation_on : {t a : Box Expr Global} {v : Option (Box Expr Global)} {simple : Bool} {u b : Expr} {s1 s2 s3 : S}
         → r ≡ statement.AnnAssign t a v simple → u ≡ t.value → b ≡ a.value →
@@ -101,18 +103,19 @@ module _ {S : Type 0} (after : S → Sited → S) (s : S) where
         (simple_tokens piece (plain.AnnAssign (tree_of (same_target i)) (tree_of (same_annotation i)) (boxed_of v) simple)))
         ∙ same (plain.AnnAssign (tree_of t.value) (tree_of a.value) (boxed_of v) simple) (ap stmt_of is ∙ ann_assign_tree t a v simple)
 
-    pub alias_on : {t : Expr} {ps : Vec TypeParam Global} {e : Expr} {qs : List TypeParam} {s1 s2 s3 s4 : S}
-        → r ≡ statement.TypeAlias t ps e → qs ≡ ps.items →
+    pub alias_on : {t : Box Expr Global} {ps : Vec TypeParam Global} {e : Box Expr Global} {u v : Expr} {qs : List TypeParam}
+        {s1 s2 s3 s4 : S} → r ≡ statement.TypeAlias t ps e → u ≡ t.value → qs ≡ ps.items → v ≡ e.value →
         s1 ≡ puts after s (sited (in_form (chars (116 ∷ 121 ∷ 112 ∷ 101 ∷ []))) false false ∷ [])
-        → s2 ≡ puts after s1 (pieces Level.Primary (tree_of t)) →
+        → s2 ≡ puts after s1 (pieces Level.Primary (tree_of u)) →
         s3 ≡ puts after s2 (type_params piece (map type_param_of qs)) → s4 ≡ puts after s3 (free piece (Op Equal) ∷ []) →
-        puts after s4 (pieces Level.Expression (tree_of e)) ≡ puts after s (simple_tokens piece (stmt_of r))
-    alias_on {t} {ps} {e} {qs} {s1} {s2} {s3} {s4} is same_parameters e1 e2 e3 e4 =
-        five after s (free piece (in_form type_name) ∷ []) (pieces Level.Primary (tree_of t)) (type_params piece (map type_param_of qs))
-        (free piece (Op Equal) ∷ []) (pieces Level.Expression (tree_of e)) s1 s2 s3 s4
+        puts after s4 (pieces Level.Expression (tree_of v)) ≡ puts after s (simple_tokens piece (stmt_of r))
+    alias_on {t} {ps} {e} {u} {v} {qs} {s1} {s2} {s3} {s4} is same_name same_parameters same_value e1 e2 e3 e4 =
+        five after s (free piece (in_form type_name) ∷ []) (pieces Level.Primary (tree_of u)) (type_params piece (map type_param_of qs))
+        (free piece (Op Equal) ∷ []) (pieces Level.Expression (tree_of v)) s1 s2 s3 s4
         (e1 ∙ ap (λ z. puts after s (free piece (in_form z) ∷ [])) type_text) e2 e3 e4
-        ∙ ap (λ z. puts after s (simple_tokens piece (plain.TypeAlias (tree_of t) (map type_param_of z) (tree_of e)))) same_parameters
-        ∙ same (plain.TypeAlias (tree_of t) (map type_param_of ps.items) (tree_of e)) (ap stmt_of is ∙ type_alias_tree t ps e)
+        ∙ (λ i. puts after s (simple_tokens piece
+        (plain.TypeAlias (tree_of (same_name i)) (map type_param_of (same_parameters i)) (tree_of (same_value i)))))
+        ∙ same (plain.TypeAlias (tree_of t.value) (map type_param_of ps.items) (tree_of e.value)) (ap stmt_of is ∙ type_alias_tree t ps e)
 
     pub return_on : (e : Option Expr) (s1 : S) → r ≡ statement.Return e → s1 ≡ puts after s (word piece Key.Return ∷ []) →
         puts after s1 (perhaps_written piece Level.Stars (option_of e)) ≡ puts after s (simple_tokens piece (stmt_of r))
@@ -120,13 +123,13 @@ module _ {S : Type 0} (after : S → Sited → S) (s : S) where
         two after s (word piece Key.Return ∷ []) (perhaps_written piece Level.Stars (option_of e)) s1 e1
         ∙ same (plain.Return (option_of e)) (ap stmt_of is ∙ return_tree e)
 
-    pub raise_is : (e c : Option Expr) → r ≡ statement.Raise e c
-        → puts after s (simple_tokens piece (plain.Raise (option_of e) (option_of c))) ≡ puts after s (simple_tokens piece (stmt_of r))
-    raise_is e c is = same (plain.Raise (option_of e) (option_of c)) (ap stmt_of is ∙ raise_tree e c)
+    pub raise_is : (e c : Option (Box Expr Global)) → r ≡ statement.Raise e c
+        → puts after s (simple_tokens piece (plain.Raise (boxed_of e) (boxed_of c))) ≡ puts after s (simple_tokens piece (stmt_of r))
+    raise_is e c is = same (plain.Raise (boxed_of e) (boxed_of c)) (ap stmt_of is ∙ raise_tree e c)
 
-    pub assert_is : (e : Expr) (m : Option Expr) → r ≡ statement.Assert e m
-        → puts after s (simple_tokens piece (plain.Assert (tree_of e) (option_of m))) ≡ puts after s (simple_tokens piece (stmt_of r))
-    assert_is e m is = same (plain.Assert (tree_of e) (option_of m)) (ap stmt_of is ∙ assert_tree e m)
+    pub assert_is : (e : Expr) (m : Option (Box Expr Global)) → r ≡ statement.Assert e m
+        → puts after s (simple_tokens piece (plain.Assert (tree_of e) (boxed_of m))) ≡ puts after s (simple_tokens piece (stmt_of r))
+    assert_is e m is = same (plain.Assert (tree_of e) (boxed_of m)) (ap stmt_of is ∙ assert_tree e m)
 
     pub delete_on : (ts : Vec Expr Global) (es : List Expr) (s1 : S) → r ≡ statement.Delete ts → es ≡ ts.items
         → s1 ≡ puts after s (word piece Key.Del ∷ []) →

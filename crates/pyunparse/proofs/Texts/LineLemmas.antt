@@ -1,6 +1,6 @@
 -- Carries: the lines of a module, and its blocks.
 use Rattle.std.proofs.Common.{◌≡◌, ◌∙◌, ℕ, zero, suc, ◌+◌, ◌-◌, ◌*◌, ◌<◌, ◌≤◌, ◌==◌, Bool, true, false, List, [], ◌∷◌, ◌++◌, map, length}
-use Rattle.std.proofs.Common.{drop, get_or, replicate, Option, None, refl, ap, sym, arith, append-nil, append_assoc}
+use Rattle.std.proofs.Common.{drop, get_or, replicate, Option, None, refl, ap, subst, sym, arith, append-nil, append_assoc}
 use Rattle.std.specs.Str.{encode_utf8_all}
 use Rattle.std.proofs.lemmas.Str.{encodes-append}
 use Rattle.std.proofs.lemmas.Bool.{false≢true}
@@ -107,6 +107,9 @@ header_block u v w x h F e f b =
 -- lines behind lines
 pub wrote_none : (u : Writing) → Wrote u u []
 wrote_none u = record { text = sym (append-nil u.text); level = refl }
+
+pub wrote_as : {u v : Writing} {ls ms : List (WrittenLine Sited)} → ls ≡ ms → Wrote u v ls → Wrote u v ms
+wrote_as {u} {v} e w = subst (Wrote u v) e w
 
 pub wrote_then : (u v w : Writing) (ls : List (WrittenLine Sited)) (F : ℕ → List (WrittenLine Sited)) → Wrote u v ls → Wrote v w (F v.level)
     → Wrote u w (ls ++ F u.level)

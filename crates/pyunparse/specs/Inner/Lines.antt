@@ -2,7 +2,8 @@
 use Rattle.std.specs.Prelude.{◌≡◌, ℕ, suc, Bool, true, false, List, [], ◌∷◌, ◌++◌, map}
 use Rattle.std.specs.Str.{encode_utf8_all}
 use Rattle.pylex_lexeme.specs.declared.kinds.Exact.TheVariants.{Colon}
-use Rattle.pygrammar.specs.Lines.{DefHead, Header, case_header, def_header, elif_header, else_header, except_header, finally_header}
+use Rattle.pygrammar.specs.Lines.{DefHead, Header, case_header, class_head, def_header, elif_header, else_header, except_header}
+use Rattle.pygrammar.specs.Lines.{finally_header}
 use Rattle.pygrammar.specs.Lines.{for_head, loop_header, try_header, with_header}
 use Rattle.pytree_node.specs.Trees
 use Rattle.pytree_node.specs.Trees.{Case, Expr, Handler, Handlers, Item, Stmt, Stmts, stmts}
@@ -41,6 +42,10 @@ with_lines l b items body = header piece l (with_header b items) ∷ lines_of pi
 
 abbrev pub def_lines : ℕ → DefHead → Stmts → List (WrittenLine Sited)
 def_lines l h body = header piece l (def_header h) ∷ lines_of piece (suc l) body
+
+abbrev pub class_def_lines : ℕ → Stmt → List (WrittenLine Sited)
+class_def_lines l (Trees.ClassDef name bases words body decorators parameters) = def_lines l (class_head name parameters bases words) body
+class_def_lines l _ = []
 
 abbrev pub try_lines : ℕ → Bool → Stmts → Handlers → Stmts → Stmts → List (WrittenLine Sited)
 try_lines l b body hs orelse final =

@@ -15,47 +15,47 @@ use Rattle.pyunparse_text.specs.Pieces.{piece, pieces}
 use Rattle.pyunparse_text.specs.Statements.{annotated_in_brackets, item_target, reads_as_items}
 use Rattle.pyunparse_text.specs.Written.{alone, written}
 use Rattle.pyunparse_text.specs.Sorts.{is_generator}
-use Rattle.pyunparse_text.proofs.Texts.Shapes.{HasShape, has_shape}
+use Rattle.pytree_node.proofs.Callers.ExprClasses.{HasClass, has_class}
 
 -- an expression of no such shape
 module _ (e : Expr) where
   module _ (no_generator : (elt : Box Expr Global) (generators : Vec Comprehension Global)
       → e ≡ variant.GeneratorExp elt generators → ⊥) where
-    none_generated : (t : plain.Expr) → HasShape t e → is_generator t ≡ false
+    none_generated : (t : plain.Expr) → HasClass t e → is_generator t ≡ false
     none_generated (plain.GeneratorExp _ _) h = absurd (no_generator h.0 h.1 h.2)
     none_generated _ h = refl
 
     pub not_generator : is_generator (tree_of e) ≡ false
-    not_generator = none_generated (tree_of e) (has_shape e)
+    not_generator = none_generated (tree_of e) (has_class e)
 
-    none_alone : (t : plain.Expr) → HasShape t e → alone piece (plain.an_expr t plain.no_exprs) ≡ []
+    none_alone : (t : plain.Expr) → HasClass t e → alone piece (plain.an_expr t plain.no_exprs) ≡ []
     unfolding written
     none_alone (plain.GeneratorExp _ _) h = absurd (no_generator h.0 h.1 h.2)
     none_alone _ h = refl
 
     pub not_alone : alone piece (plain.an_expr (tree_of e) plain.no_exprs) ≡ []
-    not_alone = none_alone (tree_of e) (has_shape e)
+    not_alone = none_alone (tree_of e) (has_class e)
 
   module _ (no_starred : (value : Box Expr Global) (ctx : Context) → e ≡ variant.Starred value ctx → ⊥) where
-    none_starred : (t : plain.Expr) → HasShape t e → item_target piece t ≡ pieces Expression t
+    none_starred : (t : plain.Expr) → HasClass t e → item_target piece t ≡ pieces Expression t
     none_starred (plain.Starred _ _) h = absurd (no_starred h.0 h.1 h.2)
     none_starred _ h = refl
 
     pub not_starred : item_target piece (tree_of e) ≡ pieces Expression (tree_of e)
-    not_starred = none_starred (tree_of e) (has_shape e)
+    not_starred = none_starred (tree_of e) (has_class e)
 
   module _ (no_name : (id : Identifier) (ctx : Context) → e ≡ variant.Name id ctx → ⊥) where
-    none_in_brackets : (t : plain.Expr) → HasShape t e → (simple : Bool) → annotated_in_brackets t simple ≡ false
+    none_in_brackets : (t : plain.Expr) → HasClass t e → (simple : Bool) → annotated_in_brackets t simple ≡ false
     none_in_brackets (plain.Name _ _) h simple = absurd (no_name h.0 h.1 h.2)
     none_in_brackets _ h simple = refl
 
     pub not_in_brackets : (simple : Bool) → annotated_in_brackets (tree_of e) simple ≡ false
-    not_in_brackets = none_in_brackets (tree_of e) (has_shape e)
+    not_in_brackets = none_in_brackets (tree_of e) (has_class e)
 
   module _ (no_tuple : (elts : Vec Expr Global) (ctx : Context) → e ≡ variant.Tuple elts ctx → ⊥) where
-    none_tuple : (t : plain.Expr) → HasShape t e → (o : Option plain.Expr) → reads_as_items t o ≡ false
+    none_tuple : (t : plain.Expr) → HasClass t e → (o : Option plain.Expr) → reads_as_items t o ≡ false
     none_tuple (plain.Tuple _ _) h o = absurd (no_tuple h.0 h.1 h.2)
     none_tuple _ h o = refl
 
     pub not_tuple : (o : Option plain.Expr) → reads_as_items (tree_of e) o ≡ false
-    not_tuple = none_tuple (tree_of e) (has_shape e)
+    not_tuple = none_tuple (tree_of e) (has_class e)

@@ -1,13 +1,12 @@
-use Rattle.std.proofs.Common.{◌≡◌, ◌+◌, ◌∙◌, ap, arith, codes, map, refl, sym}
+use Rattle.std.proofs.Common.{◌+◌, ◌∙◌, ap, arith, codes, map, refl, sym}
 use Rattle.pytree_node.specs.Trees.{optional, args, comprehensions, exprs, keywords, optionals}
-use Rattle.pytree_node.specs.TreeOf.{boxed_of, arg_of, comprehension_of, keyword_of, option_of, tree_of}
-use Rattle.pytree_node.proofs.Callers.ExprShapes.{call_tree, comprehension_tree, dict_comp_tree, keyword_tree, slice_tree}
-use Rattle.pytree_dump_text.specs.Shows.{Fields, a_field, no_field, optional_field, shown, shown_arg, shown_optional, shown_args}
+use Rattle.pytree_node.specs.TreeOf.{arg_of, comprehension_of, keyword_of, option_of, tree_of}
+use Rattle.pytree_node.proofs.Callers.ExprShapes.{comprehension_tree, keyword_tree}
+use Rattle.pytree_dump_text.specs.Shows.{a_field, no_field, shown, shown_arg, shown_optional, shown_args}
 use Rattle.pytree_dump_text.specs.Shows.{shown_comprehensions, shown_exprs, shown_keywords, shown_optionals}
 use Rattle.pytree_marked.specs.MarkedNodes.{marked, marked_rows}
-use Rattle.pytree_marked.specs.MarkedOptions.{marked_optional}
 use Rattle.pytree_counts.specs.Counts.{capped}
-use Rattle.pytree_marked.proofs.Callers.Sums.{optional_sum, name_sum}
+use Rattle.pytree_marked.proofs.Callers.Sums.{name_sum}
 use Rattle.pytree_counts.proofs.CountLemmas.{capped_none, capped_on, counted, none_counted, two_on}
 use Rattle.pytree_counts.proofs.expressions.+expression_counts.Goals as goal
 use Rattle.pytree_counts.proofs.expressions.+expression_counts.Goals.{options_marked-in-None, options_marked-in-Some}
@@ -75,49 +74,3 @@ boxed_marked-returns-in-None t c = rw c.in-None.is (capped_none c.args.before (o
 
 pub optional_parameter_marked-returns-in-None : goal.optional_parameter_marked-returns-in-None
 optional_parameter_marked-returns-in-None t c = rw c.in-None.is (capped_none c.args.before (omega arith))
-
-pub expr_marked-returns-in-DictComp : goal.expr_marked-returns-in-DictComp
-expr_marked-returns-in-DictComp t c =
-    let k : marked (shown (tree_of c.args.e.now)) ≡ 1 + (marked (shown (tree_of c.deref-in-DictComp-3.result.now)) +
-    (marked (shown (tree_of c.deref-in-DictComp-2.result.now)) + marked_rows
-    (shown_comprehensions (comprehensions (map comprehension_of c.deref-in-DictComp.result.now))))) =
-    rw (
-      c.in-DictComp.is,
-      dict_comp_tree,
-      sym c.deref-in-DictComp-3.ensures,
-      sym c.deref-in-DictComp-2.ensures,
-      sym c.deref-in-DictComp.ensures.value,
-    ) (omega arith) in
-    two_on _ _ _ c.one_more-count.ensures
-    (two_on _ _ _ c.expr_marked-in-DictComp.ensures (two_on _ _ _ c.expr_marked-in-DictComp-2.ensures
-    c.generators_marked-in-DictComp.ensures)) ∙ ap (λ n. capped (c.args.before + n)) (sym k)
-
-pub expr_marked-returns-in-Call : goal.expr_marked-returns-in-Call
-expr_marked-returns-in-Call t c =
-    let k : marked (shown (tree_of c.args.e.now)) ≡ 1 + (marked (shown (tree_of c.deref-in-Call-3.result.now)) +
-    (marked_rows (shown_exprs (exprs (map tree_of c.deref-in-Call-2.result.now))) + marked_rows
-    (shown_keywords (keywords (map keyword_of c.deref-in-Call.result.now))))) =
-    rw (
-      c.in-Call.is,
-      call_tree,
-      sym c.deref-in-Call-3.ensures,
-      sym c.deref-in-Call-2.ensures.value,
-      sym c.deref-in-Call.ensures.value,
-    ) (omega arith) in
-    two_on _ _ _ c.one_more-count.ensures
-    (two_on _ _ _ c.expr_marked-in-Call.ensures (two_on _ _ _ c.exprs_marked-in-Call.ensures c.keywords_marked.ensures))
-    ∙ ap (λ n. capped (c.args.before + n)) (sym k)
-
-pub expr_marked-returns-in-Slice : goal.expr_marked-returns-in-Slice
-expr_marked-returns-in-Slice t c =
-    let last : Fields = optional_field (codes "step") (optional (boxed_of c.in-Slice.step)) no_field in
-    let more : Fields = optional_field (codes "upper") (optional (boxed_of c.in-Slice.upper)) last in
-    let s1 = optional_sum (codes "lower") (optional (boxed_of c.in-Slice.lower)) more in
-    let s2 = optional_sum (codes "upper") (optional (boxed_of c.in-Slice.upper)) last in
-    let s3 = optional_sum (codes "step") (optional (boxed_of c.in-Slice.step)) no_field in
-    let k : marked (shown (tree_of c.args.e.now)) ≡ 1 + (marked_optional (optional (boxed_of c.in-Slice.lower)) +
-    (marked_optional (optional (boxed_of c.in-Slice.upper)) + marked_optional (optional (boxed_of c.in-Slice.step)))) =
-    rw (c.in-Slice.is, slice_tree) (omega (arith, s1, s2, s3)) in
-    two_on _ _ _ c.one_more-count.ensures
-    (two_on _ _ _ c.boxed_marked-in-Slice.ensures (two_on _ _ _ c.boxed_marked-in-Slice-2.ensures c.boxed_marked-in-Slice-3.ensures))
-    ∙ ap (λ n. capped (c.args.before + n)) (sym k)

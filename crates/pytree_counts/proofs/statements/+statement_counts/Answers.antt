@@ -1,13 +1,14 @@
-use Rattle.std.proofs.Common.{◌+◌, ◌∙◌, arith, codes, map, refl}
-use Rattle.pytree_node.specs.Trees.{cases, handlers, stmts}
-use Rattle.pytree_node.specs.TreeOf.{case_of, handler_of, stmt_of}
-use Rattle.pytree_node.proofs.Callers.StmtShapes.{case_tree, handler_tree}
-use Rattle.pytree_dump_text.specs.Shows.{Fields, Row, a_field, name_field, no_field, shown_pattern, shown_stmt, shown_cases, shown_handlers}
-use Rattle.pytree_dump_text.specs.Shows.{shown_stmts}
-use Rattle.pytree_marked.specs.MarkedNodes.{marked, marked_rows}
+use Rattle.std.proofs.Common.{◌≡◌, ◌+◌, ◌∙◌, ap, arith, codes, map, refl}
+use Rattle.pytree_node.specs.Trees.{FunctionDefFields, cases, exprs, handlers, stmts}
+use Rattle.pytree_node.specs.TreeOf.{case_of, function_def_of, handler_of, stmt_of}
+use Rattle.pytree_node.proofs.Callers.StmtShapes.{case_tree, function_def_shape, handler_tree}
+use Rattle.pytree_dump_text.specs.Shows.{Fields, Row, a_field, left_out, name_field, no_field, shown_arguments, shown_exprs, shown_pattern}
+use Rattle.pytree_dump_text.specs.Shows.{shown_stmt, shown_cases, shown_handlers, shown_stmts, type_params_field}
+use Rattle.pytree_marked.specs.MarkedNodes.{marked, marked_fields, marked_rows}
 use Rattle.pytree_marked.specs.MarkedOptions.{marked_option}
 use Rattle.pytree_marked.proofs.Callers.Sums.{name_sum, option_sum}
-use Rattle.pytree_counts.proofs.CountLemmas.{counted, none_counted, two_on}
+use Rattle.pytree_counts.specs.Counts.{capped}
+use Rattle.pytree_counts.proofs.CountLemmas.{counted, none_counted, optional_counts, two_on}
 use Rattle.pytree_counts.proofs.statements.+statement_counts.Goals as goal
 
 pub block_marked-loop-s-preserved : goal.block_marked-loop-s-preserved
@@ -48,3 +49,19 @@ handlers_marked-loop-h-init t c = none_counted (λ xs. marked_rows (shown_handle
 pub cases_marked-loop-case-init : goal.cases_marked-loop-case-init
 cases_marked-loop-case-init t c = none_counted (λ xs. marked_rows (shown_cases c.args.profile (cases (map case_of xs)))) c.args.all.now
     c.args.before refl (omega arith)
+
+pub function_marked-returns : goal.function_marked-returns
+function_marked-returns t c =
+    let d : FunctionDefFields = function_def_of c.args.def.now in
+    let last : Fields = type_params_field c.args.profile d.type_params in
+    let m = option_sum (codes "returns") d.returns (left_out last) in
+    let whole : c.own_params_marked.result ≡ capped (c.args.before + (1 + (marked (shown_arguments d.args)
+    + (marked_rows (shown_stmts c.args.profile (stmts d.body)) + (marked_rows (shown_exprs (exprs d.decorator_list))
+    + (marked_option d.returns + marked_fields last)))))) =
+    two_on _ _ _ c.one_more.ensures
+    (two_on _ _ _ (c.parameters_marked-count.ensures ∙ rw (c.deref.ensures, function_def_shape) refl)
+    (two_on _ _ _ (c.block_marked-count.ensures ∙ rw (c.deref-2.ensures.value, function_def_shape) refl)
+    (two_on _ _ _ (c.exprs_marked.ensures ∙ rw (c.deref-3.ensures.value, function_def_shape) refl)
+    (two_on _ _ _ (c.boxed_marked-count.ensures ∙ rw (optional_counts, function_def_shape) refl)
+    (c.own_params_marked.ensures ∙ rw (c.deref-4.ensures.value, function_def_shape) refl))))) in
+    whole ∙ ap (λ n. capped (c.args.before + n)) (omega (arith, m))

@@ -4,7 +4,7 @@ use Rattle.pytree_node.proofs.Callers.ExprShapes.{bool_op_tree, named_expr_tree,
 use Rattle.pytree_node.proofs.Callers.ExprShapes.{dict_tree, set_tree, list_comp_tree, set_comp_tree, dict_comp_tree, generator_exp_tree}
 use Rattle.pytree_node.proofs.Callers.ExprShapes.{await_tree, yield_from_tree, compare_tree, call_tree, formatted_value_tree}
 use Rattle.pytree_node.proofs.Callers.ExprShapes.{joined_str_tree, attribute_tree, subscript_tree, starred_tree, name_tree, list_tree}
-use Rattle.pytree_node.proofs.Callers.ExprShapes.{tuple_tree}
+use Rattle.pytree_node.proofs.Callers.ExprShapes.{tuple_tree, dict_shape, dict_comp_shape, compare_shape, call_shape}
 use Rattle.pytree_dump_text.proofs.SlotLemmas.{formatted_shows}
 use Rattle.pytree_dump_text.proofs.shortness.is_bare.Goals as goal
 
@@ -27,7 +27,7 @@ pub returns-in-IfExp : goal.returns-in-IfExp
 returns-in-IfExp c = rw (c.in-IfExp.is, if_exp_tree) refl
 
 pub returns-in-Dict : goal.returns-in-Dict
-returns-in-Dict c = rw (c.in-Dict.is, dict_tree) refl
+returns-in-Dict c = rw (c.in-Dict.is, dict_tree, dict_shape) refl
 
 pub returns-in-Set : goal.returns-in-Set
 returns-in-Set c = rw (c.in-Set.is, set_tree) refl
@@ -39,7 +39,7 @@ pub returns-in-SetComp : goal.returns-in-SetComp
 returns-in-SetComp c = rw (c.in-SetComp.is, set_comp_tree) refl
 
 pub returns-in-DictComp : goal.returns-in-DictComp
-returns-in-DictComp c = rw (c.in-DictComp.is, dict_comp_tree) refl
+returns-in-DictComp c = rw (c.in-DictComp.is, dict_comp_tree, dict_comp_shape) refl
 
 pub returns-in-GeneratorExp : goal.returns-in-GeneratorExp
 returns-in-GeneratorExp c = rw (c.in-GeneratorExp.is, generator_exp_tree) refl
@@ -51,10 +51,10 @@ pub returns-in-YieldFrom : goal.returns-in-YieldFrom
 returns-in-YieldFrom c = rw (c.in-YieldFrom.is, yield_from_tree) refl
 
 pub returns-in-Compare : goal.returns-in-Compare
-returns-in-Compare c = rw (c.in-Compare.is, compare_tree) refl
+returns-in-Compare c = rw (c.in-Compare.is, compare_tree, compare_shape) refl
 
 pub returns-in-Call : goal.returns-in-Call
-returns-in-Call c = rw (c.in-Call.is, call_tree) refl
+returns-in-Call c = rw (c.in-Call.is, call_tree, call_shape) refl
 
 pub returns-in-FormattedValue : goal.returns-in-FormattedValue
 returns-in-FormattedValue c = rw (c.in-FormattedValue.is, formatted_value_tree)

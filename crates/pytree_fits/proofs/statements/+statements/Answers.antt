@@ -68,89 +68,21 @@ case_fits-suite_fits-requires t c = (
   tt,
 )
 
-pub statement_fits-returns-then-not-head : goal.statement_fits-returns-then-not-head
-statement_fits-returns-then-not-head t c =
-    rw (
-      c.in-FunctionDef.is,
-      function_def_tree,
-      ← c.deref.ensures,
-      ← c.deref-in-FunctionDef.ensures.value,
-      ← c.deref-in-FunctionDef-2.ensures.value,
-      ← five_and,
-      ← c.in_ok-head-in-FunctionDef.ensures,
-      c.if-not-head.true,
-    )
+pub statement_fits-returns-in-FunctionDef : goal.statement_fits-returns-in-FunctionDef
+statement_fits-returns-in-FunctionDef t c = rw (c.in-FunctionDef.is, function_def_tree, ← c.deref.ensures) c.function_fits.ensures
 
-pub statement_fits-returns-else-not-head : goal.statement_fits-returns-else-not-head
-statement_fits-returns-else-not-head t c =
-    rw (
-      c.in-FunctionDef.is,
-      function_def_tree,
-      ← c.deref.ensures,
-      ← c.deref-in-FunctionDef.ensures.value,
-      ← c.deref-in-FunctionDef-2.ensures.value,
-      ← five_and,
-      ← c.in_ok-head-in-FunctionDef.ensures,
-      c.if-not-head.false,
-      ← c.deref-in-FunctionDef-3.ensures.value,
-    ) c.suite_fits.ensures
+pub statement_fits-returns-in-AsyncFunctionDef : goal.statement_fits-returns-in-AsyncFunctionDef
+statement_fits-returns-in-AsyncFunctionDef t c =
+    rw (c.in-AsyncFunctionDef.is, async_function_def_tree, ← c.deref-in-AsyncFunctionDef.ensures) c.function_fits-in-AsyncFunctionDef.ensures
 
-pub statement_fits-returns-then-not-head-2 : goal.statement_fits-returns-then-not-head-2
-statement_fits-returns-then-not-head-2 t c =
-    rw (
-      c.in-AsyncFunctionDef.is,
-      async_function_def_tree,
-      ← c.deref-in-AsyncFunctionDef.ensures,
-      ← c.deref-in-AsyncFunctionDef-2.ensures.value,
-      ← c.deref-in-AsyncFunctionDef-3.ensures.value,
-      ← five_and,
-      ← c.in_ok-head-in-AsyncFunctionDef.ensures,
-      c.if-not-head-2.true,
-    )
+pub statement_fits-returns-in-ClassDef : goal.statement_fits-returns-in-ClassDef
+statement_fits-returns-in-ClassDef t c = rw (c.in-ClassDef.is, class_def_tree, ← c.deref-in-ClassDef.ensures) c.class_fits.ensures
 
-pub statement_fits-returns-else-not-head-2 : goal.statement_fits-returns-else-not-head-2
-statement_fits-returns-else-not-head-2 t c =
-    rw (
-      c.in-AsyncFunctionDef.is,
-      async_function_def_tree,
-      ← c.deref-in-AsyncFunctionDef.ensures,
-      ← c.deref-in-AsyncFunctionDef-2.ensures.value,
-      ← c.deref-in-AsyncFunctionDef-3.ensures.value,
-      ← five_and,
-      ← c.in_ok-head-in-AsyncFunctionDef.ensures,
-      c.if-not-head-2.false,
-      ← c.deref-in-AsyncFunctionDef-4.ensures.value,
-    )
-    c.suite_fits-in-AsyncFunctionDef.ensures
+pub statement_fits-returns-in-Try : goal.statement_fits-returns-in-Try
+statement_fits-returns-in-Try t c = rw (c.in-Try.is, try_tree, ← c.deref-in-Try.ensures) c.try_fits.ensures
 
-pub statement_fits-returns-then-not-head-3 : goal.statement_fits-returns-then-not-head-3
-statement_fits-returns-then-not-head-3 t c =
-    rw (
-      c.in-ClassDef.is,
-      class_def_tree,
-      ← c.deref-in-ClassDef.ensures.value,
-      ← c.deref-in-ClassDef-2.ensures.value,
-      ← c.deref-in-ClassDef-3.ensures.value,
-      ← c.deref-in-ClassDef-4.ensures.value,
-      ← five_and,
-      ← c.in_ok-head-in-ClassDef.ensures,
-      c.if-not-head-3.true,
-    )
-
-pub statement_fits-returns-else-not-head-3 : goal.statement_fits-returns-else-not-head-3
-statement_fits-returns-else-not-head-3 t c =
-    rw (
-      c.in-ClassDef.is,
-      class_def_tree,
-      ← c.deref-in-ClassDef.ensures.value,
-      ← c.deref-in-ClassDef-2.ensures.value,
-      ← c.deref-in-ClassDef-3.ensures.value,
-      ← c.deref-in-ClassDef-4.ensures.value,
-      ← five_and,
-      ← c.in_ok-head-in-ClassDef.ensures,
-      c.if-not-head-3.false,
-      ← c.deref-in-ClassDef-5.ensures.value,
-    ) c.suite_fits-in-ClassDef.ensures
+pub statement_fits-returns-in-TryStar : goal.statement_fits-returns-in-TryStar
+statement_fits-returns-in-TryStar t c = rw (c.in-TryStar.is, try_star_tree, ← c.deref-in-TryStar.ensures) c.try_fits-in-TryStar.ensures
 
 pub statement_fits-returns-in-Return : goal.statement_fits-returns-in-Return
 statement_fits-returns-in-Return t c = rw (c.in-Return.is, return_tree) c.option_fits.ensures
@@ -163,10 +95,16 @@ statement_fits-returns-in-Assign t c = rw (c.in-Assign.is, assign_tree, ← c.de
 
 pub statement_fits-returns-in-TypeAlias : goal.statement_fits-returns-in-TypeAlias
 statement_fits-returns-in-TypeAlias t c =
-    rw (c.in-TypeAlias.is, type_alias_tree, ← c.deref-in-TypeAlias.ensures.value) c.type_alias_fits.ensures
+    rw (
+      c.in-TypeAlias.is,
+      type_alias_tree,
+      ← c.deref-in-TypeAlias.ensures,
+      ← c.deref-in-TypeAlias-2.ensures.value,
+      ← c.deref-in-TypeAlias-3.ensures,
+    ) c.type_alias_fits.ensures
 
 pub statement_fits-returns-in-AugAssign : goal.statement_fits-returns-in-AugAssign
-statement_fits-returns-in-AugAssign t c = rw (c.in-AugAssign.is, aug_assign_tree) c.aug_assign_fits.ensures
+statement_fits-returns-in-AugAssign t c = rw (c.in-AugAssign.is, aug_assign_tree, ← c.deref-in-AugAssign.ensures) c.aug_assign_fits.ensures
 
 pub statement_fits-returns-in-AnnAssign : goal.statement_fits-returns-in-AnnAssign
 statement_fits-returns-in-AnnAssign t c =
@@ -260,16 +198,17 @@ statement_fits-returns-else-not-branch-4 t c =
     c.statements_fit-in-AsyncFor.ensures
 
 pub statement_fits-returns-then-not-branch-5 : goal.statement_fits-returns-then-not-branch-5
-statement_fits-returns-then-not-branch-5 t c = rw (c.in-While.is, while_tree, ← c.in_ok-expr_fits-in-While.ensures, c.if-not-branch-5.true)
+statement_fits-returns-then-not-branch-5 t c = rw (c.in-While.is, while_tree, ← c.deref-in-While.ensures, ← c.in_ok-expr_fits-in-While.ensures, c.if-not-branch-5.true)
 
 pub statement_fits-returns-then-not-branch-6 : goal.statement_fits-returns-then-not-branch-6
 statement_fits-returns-then-not-branch-6 t c =
     rw (
       c.in-While.is,
       while_tree,
+      ← c.deref-in-While.ensures,
       ← c.in_ok-expr_fits-in-While.ensures,
       c.if-not-branch-5.false,
-      ← c.deref-in-While.ensures.value,
+      ← c.deref-in-While-2.ensures.value,
       ← c.in_ok-suite_fits-in-While.ensures,
       c.if-not-branch-6.true,
     )
@@ -279,25 +218,27 @@ statement_fits-returns-else-not-branch-6 t c =
     rw (
       c.in-While.is,
       while_tree,
+      ← c.deref-in-While.ensures,
       ← c.in_ok-expr_fits-in-While.ensures,
       c.if-not-branch-5.false,
-      ← c.deref-in-While.ensures.value,
+      ← c.deref-in-While-2.ensures.value,
       ← c.in_ok-suite_fits-in-While.ensures,
       c.if-not-branch-6.false,
-      ← c.deref-in-While-2.ensures.value,
+      ← c.deref-in-While-3.ensures.value,
     ) c.statements_fit-in-While.ensures
 
 pub statement_fits-returns-then-not-branch-7 : goal.statement_fits-returns-then-not-branch-7
-statement_fits-returns-then-not-branch-7 t c = rw (c.in-If.is, if_tree, ← c.in_ok-expr_fits-in-If.ensures, c.if-not-branch-7.true)
+statement_fits-returns-then-not-branch-7 t c = rw (c.in-If.is, if_tree, ← c.deref-in-If.ensures, ← c.in_ok-expr_fits-in-If.ensures, c.if-not-branch-7.true)
 
 pub statement_fits-returns-then-not-branch-8 : goal.statement_fits-returns-then-not-branch-8
 statement_fits-returns-then-not-branch-8 t c =
     rw (
       c.in-If.is,
       if_tree,
+      ← c.deref-in-If.ensures,
       ← c.in_ok-expr_fits-in-If.ensures,
       c.if-not-branch-7.false,
-      ← c.deref-in-If.ensures.value,
+      ← c.deref-in-If-2.ensures.value,
       ← c.in_ok-suite_fits-in-If.ensures,
       c.if-not-branch-8.true,
     )
@@ -307,12 +248,13 @@ statement_fits-returns-else-not-branch-8 t c =
     rw (
       c.in-If.is,
       if_tree,
+      ← c.deref-in-If.ensures,
       ← c.in_ok-expr_fits-in-If.ensures,
       c.if-not-branch-7.false,
-      ← c.deref-in-If.ensures.value,
+      ← c.deref-in-If-2.ensures.value,
       ← c.in_ok-suite_fits-in-If.ensures,
       c.if-not-branch-8.false,
-      ← c.deref-in-If-2.ensures.value,
+      ← c.deref-in-If-3.ensures.value,
     ) c.statements_fit-in-If.ensures
 
 pub statement_fits-returns-then-not-branch-9 : goal.statement_fits-returns-then-not-branch-9
@@ -338,185 +280,6 @@ statement_fits-returns-else-not-branch-9 t c =
       c.deref-in-Match.ensures.value,
       ← c.deref-in-Match-2.ensures.value,
     ) c.cases_fit.ensures
-
-pub statement_fits-returns-then-not-clauses_fit : goal.statement_fits-returns-then-not-clauses_fit
-statement_fits-returns-then-not-clauses_fit t c =
-    rw (
-      c.in-Try.is,
-      try_tree,
-      ← c.deref-in-Try.ensures.value,
-      ← c.deref-in-Try-2.ensures.value,
-      ← c.deref-in-Try-3.ensures.value,
-      ← c.if-not-clauses_fit.ensures,
-    )
-
-pub statement_fits-returns-then-not-branch-10 : goal.statement_fits-returns-then-not-branch-10
-statement_fits-returns-then-not-branch-10 t c =
-    rw (
-      c.in-Try.is,
-      try_tree,
-      ← c.deref-in-Try.ensures.value,
-      ← c.deref-in-Try-2.ensures.value,
-      ← c.deref-in-Try-3.ensures.value,
-      ← c.if-not-clauses_fit.ensures,
-      ← c.deref-in-Try-4.ensures.value,
-      ← c.in_ok-suite_fits-in-Try.ensures,
-      c.if-not-branch-10.true,
-    )
-
-pub statement_fits-returns-then-not-branch-11 : goal.statement_fits-returns-then-not-branch-11
-statement_fits-returns-then-not-branch-11 t c =
-    rw (
-      c.in-Try.is,
-      try_tree,
-      ← c.deref-in-Try.ensures.value,
-      ← c.deref-in-Try-2.ensures.value,
-      ← c.deref-in-Try-3.ensures.value,
-      ← c.if-not-clauses_fit.ensures,
-      ← c.deref-in-Try-4.ensures.value,
-      ← c.in_ok-suite_fits-in-Try.ensures,
-      c.if-not-branch-10.false,
-      c.deref-in-Try.ensures.value,
-      ← c.deref-in-Try-5.ensures.value,
-      ← c.in_ok-handlers_fit-in-Try.ensures,
-      c.if-not-branch-11.true,
-    )
-
-pub statement_fits-returns-then-not-branch-12 : goal.statement_fits-returns-then-not-branch-12
-statement_fits-returns-then-not-branch-12 t c =
-    rw (
-      c.in-Try.is,
-      try_tree,
-      ← c.deref-in-Try.ensures.value,
-      ← c.deref-in-Try-2.ensures.value,
-      ← c.deref-in-Try-3.ensures.value,
-      ← c.if-not-clauses_fit.ensures,
-      ← c.deref-in-Try-4.ensures.value,
-      ← c.in_ok-suite_fits-in-Try.ensures,
-      c.if-not-branch-10.false,
-      c.deref-in-Try.ensures.value,
-      ← c.deref-in-Try-5.ensures.value,
-      ← c.in_ok-handlers_fit-in-Try.ensures,
-      c.if-not-branch-11.false,
-      c.deref-in-Try-2.ensures.value,
-      ← c.deref-in-Try-6.ensures.value,
-      ← c.in_ok-statements_fit-in-Try.ensures,
-      c.if-not-branch-12.true,
-    )
-
-pub statement_fits-returns-else-not-branch-12 : goal.statement_fits-returns-else-not-branch-12
-statement_fits-returns-else-not-branch-12 t c =
-    rw (
-      c.in-Try.is,
-      try_tree,
-      ← c.deref-in-Try.ensures.value,
-      ← c.deref-in-Try-2.ensures.value,
-      ← c.deref-in-Try-3.ensures.value,
-      ← c.if-not-clauses_fit.ensures,
-      ← c.deref-in-Try-4.ensures.value,
-      ← c.in_ok-suite_fits-in-Try.ensures,
-      c.if-not-branch-10.false,
-      c.deref-in-Try.ensures.value,
-      ← c.deref-in-Try-5.ensures.value,
-      ← c.in_ok-handlers_fit-in-Try.ensures,
-      c.if-not-branch-11.false,
-      c.deref-in-Try-2.ensures.value,
-      ← c.deref-in-Try-6.ensures.value,
-      ← c.in_ok-statements_fit-in-Try.ensures,
-      c.if-not-branch-12.false,
-      c.deref-in-Try-3.ensures.value,
-      ← c.deref-in-Try-7.ensures.value,
-    ) c.statements_fit-in-Try-2.ensures
-
-pub statement_fits-returns-then-not-clauses_fit-2 : goal.statement_fits-returns-then-not-clauses_fit-2
-statement_fits-returns-then-not-clauses_fit-2 t c =
-    rw (
-      c.in-TryStar.is,
-      try_star_tree,
-      ← c.deref-in-TryStar.ensures.value,
-      ← c.deref-in-TryStar-2.ensures.value,
-      ← c.deref-in-TryStar-3.ensures.value,
-      ← c.if-not-clauses_fit-2.ensures,
-    )
-
-pub statement_fits-returns-then-not-branch-13 : goal.statement_fits-returns-then-not-branch-13
-statement_fits-returns-then-not-branch-13 t c =
-    rw (
-      c.in-TryStar.is,
-      try_star_tree,
-      ← c.deref-in-TryStar.ensures.value,
-      ← c.deref-in-TryStar-2.ensures.value,
-      ← c.deref-in-TryStar-3.ensures.value,
-      ← c.if-not-clauses_fit-2.ensures,
-      ← c.deref-in-TryStar-4.ensures.value,
-      ← c.in_ok-suite_fits-in-TryStar.ensures,
-      c.if-not-branch-13.true,
-    )
-
-pub statement_fits-returns-then-not-branch-14 : goal.statement_fits-returns-then-not-branch-14
-statement_fits-returns-then-not-branch-14 t c =
-    rw (
-      c.in-TryStar.is,
-      try_star_tree,
-      ← c.deref-in-TryStar.ensures.value,
-      ← c.deref-in-TryStar-2.ensures.value,
-      ← c.deref-in-TryStar-3.ensures.value,
-      ← c.if-not-clauses_fit-2.ensures,
-      ← c.deref-in-TryStar-4.ensures.value,
-      ← c.in_ok-suite_fits-in-TryStar.ensures,
-      c.if-not-branch-13.false,
-      c.deref-in-TryStar.ensures.value,
-      ← c.deref-in-TryStar-5.ensures.value,
-      ← c.in_ok-handlers_fit-in-TryStar.ensures,
-      c.if-not-branch-14.true,
-    )
-
-pub statement_fits-returns-then-not-branch-15 : goal.statement_fits-returns-then-not-branch-15
-statement_fits-returns-then-not-branch-15 t c =
-    rw (
-      c.in-TryStar.is,
-      try_star_tree,
-      ← c.deref-in-TryStar.ensures.value,
-      ← c.deref-in-TryStar-2.ensures.value,
-      ← c.deref-in-TryStar-3.ensures.value,
-      ← c.if-not-clauses_fit-2.ensures,
-      ← c.deref-in-TryStar-4.ensures.value,
-      ← c.in_ok-suite_fits-in-TryStar.ensures,
-      c.if-not-branch-13.false,
-      c.deref-in-TryStar.ensures.value,
-      ← c.deref-in-TryStar-5.ensures.value,
-      ← c.in_ok-handlers_fit-in-TryStar.ensures,
-      c.if-not-branch-14.false,
-      c.deref-in-TryStar-2.ensures.value,
-      ← c.deref-in-TryStar-6.ensures.value,
-      ← c.in_ok-statements_fit-in-TryStar.ensures,
-      c.if-not-branch-15.true,
-    )
-
-pub statement_fits-returns-else-not-branch-15 : goal.statement_fits-returns-else-not-branch-15
-statement_fits-returns-else-not-branch-15 t c =
-    rw (
-      c.in-TryStar.is,
-      try_star_tree,
-      ← c.deref-in-TryStar.ensures.value,
-      ← c.deref-in-TryStar-2.ensures.value,
-      ← c.deref-in-TryStar-3.ensures.value,
-      ← c.if-not-clauses_fit-2.ensures,
-      ← c.deref-in-TryStar-4.ensures.value,
-      ← c.in_ok-suite_fits-in-TryStar.ensures,
-      c.if-not-branch-13.false,
-      c.deref-in-TryStar.ensures.value,
-      ← c.deref-in-TryStar-5.ensures.value,
-      ← c.in_ok-handlers_fit-in-TryStar.ensures,
-      c.if-not-branch-14.false,
-      c.deref-in-TryStar-2.ensures.value,
-      ← c.deref-in-TryStar-6.ensures.value,
-      ← c.in_ok-statements_fit-in-TryStar.ensures,
-      c.if-not-branch-15.false,
-      c.deref-in-TryStar-3.ensures.value,
-      ← c.deref-in-TryStar-7.ensures.value,
-    )
-    c.statements_fit-in-TryStar-2.ensures
 
 pub statement_fits-returns-in-Raise : goal.statement_fits-returns-in-Raise
 statement_fits-returns-in-Raise t c = rw (c.in-Raise.is, raise_tree) c.raise_fits.ensures

@@ -1,10 +1,10 @@
 use Rattle.std.proofs.Common.{map, max, ◌∙◌, ap, sym, refl}
 use Rattle.pytree_node.specs.Trees.{exprs, optional, optionals, comprehensions, keywords, args}
 use Rattle.pytree_node.specs.TreeOf.{tree_of, option_of, comprehension_of, keyword_of, arg_of}
-use Rattle.pytree_node.proofs.Callers.ExprShapes.{dict_comp_tree, call_tree, slice_tree, keyword_tree, comprehension_tree}
+use Rattle.pytree_node.proofs.Callers.ExprShapes.{keyword_tree, comprehension_tree}
 use Rattle.pytree_height.specs.Heights.{capped, height, heights, optional_height, optional_heights, comprehension_heights, keyword_heights}
 use Rattle.pytree_height.specs.Heights.{arg_height, arg_heights}
-use Rattle.pytree_height.proofs.CapLemmas.{capped-zero, higher, three, two}
+use Rattle.pytree_height.proofs.CapLemmas.{capped-zero, higher, two}
 use Rattle.pytree_height.proofs.expressions.+expression_height.Goals as goal
 use Rattle.pytree_height.proofs.expressions.+expression_height.Goals.{options_height-in-None, options_height-in-Some}
 
@@ -45,23 +45,3 @@ options_height-loop-e-preserved t c = higher (λ es. optional_heights (optionals
           ∙ sym (ap (λ o. capped (optional_height (optional (option_of o)))) w.in-Some.is)
     ])
     c.max-most.ensures
-
-pub expr_height-returns-in-DictComp : goal.expr_height-returns-in-DictComp
-expr_height-returns-in-DictComp t c = rw (c.in-DictComp.is, dict_comp_tree) (three _ _ _
-    (c.expr_height-in-DictComp.ensures ∙ ap (λ e. capped (height (tree_of e))) c.deref-in-DictComp.ensures)
-    (c.expr_height-in-DictComp-2.ensures ∙ ap (λ e. capped (height (tree_of e))) c.deref-in-DictComp-2.ensures)
-    (c.generators_height-in-DictComp.ensures ∙ ap (λ cs. capped (comprehension_heights (comprehensions (map comprehension_of cs))))
-    c.deref-in-DictComp-3.ensures.value)
-    c.max-in-DictComp.ensures c.max-in-DictComp-2.ensures c.one_more-in-DictComp.ensures)
-
-pub expr_height-returns-in-Call : goal.expr_height-returns-in-Call
-expr_height-returns-in-Call t c = rw (c.in-Call.is, call_tree) (three _ _ _
-    (c.expr_height-in-Call.ensures ∙ ap (λ e. capped (height (tree_of e))) c.deref-in-Call.ensures)
-    (c.exprs_height-in-Call.ensures ∙ ap (λ es. capped (heights (exprs (map tree_of es)))) c.deref-in-Call-2.ensures.value)
-    (c.keywords_height.ensures ∙ ap (λ ks. capped (keyword_heights (keywords (map keyword_of ks)))) c.deref-in-Call-3.ensures.value)
-    c.max-in-Call.ensures c.max-in-Call-2.ensures c.one_more-in-Call.ensures)
-
-pub expr_height-returns-in-Slice : goal.expr_height-returns-in-Slice
-expr_height-returns-in-Slice t c = rw (c.in-Slice.is, slice_tree) (three _ _ _
-    c.boxed_height-in-Slice.ensures c.boxed_height-in-Slice-2.ensures c.boxed_height-in-Slice-3.ensures
-    c.max-in-Slice.ensures c.max-in-Slice-2.ensures c.one_more-in-Slice.ensures)

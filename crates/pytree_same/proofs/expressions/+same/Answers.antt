@@ -6,7 +6,8 @@ use Rattle.pytree_node.proofs.Callers.ExprShapes.{bool_op_tree, named_expr_tree,
 use Rattle.pytree_node.proofs.Callers.ExprShapes.{dict_tree, set_tree, list_comp_tree, set_comp_tree, dict_comp_tree, generator_exp_tree}
 use Rattle.pytree_node.proofs.Callers.ExprShapes.{await_tree, yield_tree, yield_from_tree, compare_tree, call_tree, formatted_value_tree}
 use Rattle.pytree_node.proofs.Callers.ExprShapes.{joined_str_tree, constant_tree, attribute_tree, subscript_tree, starred_tree, name_tree}
-use Rattle.pytree_node.proofs.Callers.ExprShapes.{list_tree, tuple_tree, slice_tree}
+use Rattle.pytree_node.proofs.Callers.ExprShapes.{list_tree, tuple_tree, slice_tree, call_shape, compare_shape, dict_shape, dict_comp_shape}
+use Rattle.pytree_node.proofs.Callers.ExprShapes.{slice_shape}
 use Rattle.pytree_same.proofs.ExprClasses.{other_class}
 use Rattle.pytree_same.proofs.Members.{comprehensions_same, exprs_same, keywords_same, optional_same}
 use Rattle.pytree_same.proofs.Refuted.{refuted}
@@ -37,8 +38,8 @@ same_expr-returns-in_default-b-5 t c = other_class _ _ (ap tree_of c.in-IfExp.is
     (λ h. c.in_default-b-5.not-IfExp h.0 h.1 h.2 h.3)
 
 pub same_expr-returns-in_default-b-6 : goal.same_expr-returns-in_default-b-6
-same_expr-returns-in_default-b-6 t c = other_class _ _ (ap tree_of c.in-Dict.is ∙ dict_tree _ _)
-    (λ h. c.in_default-b-6.not-Dict h.0 h.1 h.2)
+same_expr-returns-in_default-b-6 t c = other_class _ _ (ap tree_of c.in-Dict.is ∙ dict_tree _ ∙ dict_shape _)
+    (λ h. c.in_default-b-6.not-Dict h.0 h.1)
 
 pub same_expr-returns-in_default-b-7 : goal.same_expr-returns-in_default-b-7
 same_expr-returns-in_default-b-7 t c = other_class _ _ (ap tree_of c.in-Set.is ∙ set_tree _) (λ h. c.in_default-b-7.not-Set h.0 h.1)
@@ -52,8 +53,8 @@ same_expr-returns-in_default-b-9 t c = other_class _ _ (ap tree_of c.in-SetComp.
     (λ h. c.in_default-b-9.not-SetComp h.0 h.1 h.2)
 
 pub same_expr-returns-in_default-b-10 : goal.same_expr-returns-in_default-b-10
-same_expr-returns-in_default-b-10 t c = other_class _ _ (ap tree_of c.in-DictComp.is ∙ dict_comp_tree _ _ _)
-    (λ h. c.in_default-b-10.not-DictComp h.0 h.1 h.2 h.3)
+same_expr-returns-in_default-b-10 t c = other_class _ _ (ap tree_of c.in-DictComp.is ∙ dict_comp_tree _ ∙ dict_comp_shape _)
+    (λ h. c.in_default-b-10.not-DictComp h.0 h.1)
 
 pub same_expr-returns-in_default-b-11 : goal.same_expr-returns-in_default-b-11
 same_expr-returns-in_default-b-11 t c = other_class _ _ (ap tree_of c.in-GeneratorExp.is ∙ generator_exp_tree _ _)
@@ -70,12 +71,12 @@ same_expr-returns-in_default-b-14 t c = other_class _ _ (ap tree_of c.in-YieldFr
     (λ h. c.in_default-b-14.not-YieldFrom h.0 h.1)
 
 pub same_expr-returns-in_default-b-15 : goal.same_expr-returns-in_default-b-15
-same_expr-returns-in_default-b-15 t c = other_class _ _ (ap tree_of c.in-Compare.is ∙ compare_tree _ _ _)
-    (λ h. c.in_default-b-15.not-Compare h.0 h.1 h.2 h.3)
+same_expr-returns-in_default-b-15 t c = other_class _ _ (ap tree_of c.in-Compare.is ∙ compare_tree _ ∙ compare_shape _)
+    (λ h. c.in_default-b-15.not-Compare h.0 h.1)
 
 pub same_expr-returns-in_default-b-16 : goal.same_expr-returns-in_default-b-16
-same_expr-returns-in_default-b-16 t c = other_class _ _ (ap tree_of c.in-Call.is ∙ call_tree _ _ _)
-    (λ h. c.in_default-b-16.not-Call h.0 h.1 h.2 h.3)
+same_expr-returns-in_default-b-16 t c = other_class _ _ (ap tree_of c.in-Call.is ∙ call_tree _ ∙ call_shape _)
+    (λ h. c.in_default-b-16.not-Call h.0 h.1)
 
 pub same_expr-returns-in_default-b-17 : goal.same_expr-returns-in_default-b-17
 same_expr-returns-in_default-b-17 t c = other_class _ _ (ap tree_of c.in-FormattedValue.is ∙ formatted_value_tree _ _ _)
@@ -114,8 +115,8 @@ same_expr-returns-in_default-b-25 t c = other_class _ _ (ap tree_of c.in-Tuple.i
     (λ h. c.in_default-b-25.not-Tuple h.0 h.1 h.2)
 
 pub same_expr-returns-in_default-b-26 : goal.same_expr-returns-in_default-b-26
-same_expr-returns-in_default-b-26 t c = other_class _ _ (ap tree_of c.in-Slice.is ∙ slice_tree _ _ _)
-    (λ h. c.in_default-b-26.not-Slice h.0 h.1 h.2 h.3)
+same_expr-returns-in_default-b-26 t c = other_class _ _ (ap tree_of c.in-Slice.is ∙ slice_tree _ ∙ slice_shape _)
+    (λ h. c.in_default-b-26.not-Slice h.0 h.1)
 
 pub same_exprs-returns-then-not-same_expr : goal.same_exprs-returns-then-not-same_expr
 same_exprs-returns-then-not-same_expr t c =
@@ -137,69 +138,6 @@ same_args-returns-then-not-same_arg t c =
     refuted (differ_at arg_of c.args.a.now c.args.b.now c.loop-i.i _ _ (omega arith) (omega arith) c.index-a-i.is c.index-b-i.is
     (λ s. (let yes : IsTrue c.same_arg.result = c.same_arg.ensures.1 s in grind arith)))
 
-pub same_expr-returns-then-same_optional_box-2 : goal.same_expr-returns-then-same_optional_box-2
-same_expr-returns-then-same_optional_box-2 t c = grind (arith, slice_tree, optional_same)
-
 pub same_optional_exprs-returns-then-not-same : goal.same_optional_exprs-returns-then-not-same
 same_optional_exprs-returns-then-not-same t c = refuted (λ e. (let s : option_of c.index-a-i.result ≡ option_of c.index-b-i.result =
     same_at option_of c.args.a.now c.args.b.now c.loop-i.i _ _ (omega arith) (omega arith) c.index-a-i.is c.index-b-i.is e in grind arith))
-
-pub same_expr-returns-then-same_expr-8 : goal.same_expr-returns-then-same_expr-8
-same_expr-returns-then-same_expr-8 t c =
-    let x : tree_of c.args.a.now ≡ plain.DictComp (tree_of c.in-DictComp.key.value) (tree_of c.in-DictComp.value.value)
-    (comprehensions (map comprehension_of c.in-DictComp.generators.items)) =
-    ap tree_of c.in-DictComp.is ∙ dict_comp_tree c.in-DictComp.key c.in-DictComp.value c.in-DictComp.generators in
-    let y : tree_of c.args.b.now ≡ plain.DictComp (tree_of c.in-DictComp-b.other_key.value) (tree_of c.in-DictComp-b.other_value.value)
-    (comprehensions (map comprehension_of c.in-DictComp-b.other_generators.items)) =
-    ap tree_of c.in-DictComp-b.is ∙ dict_comp_tree c.in-DictComp-b.other_key c.in-DictComp-b.other_value c.in-DictComp-b.other_generators in
-    let gs : comprehensions (map comprehension_of c.in-DictComp.generators.items) ≡ comprehensions
-    (map comprehension_of c.in-DictComp-b.other_generators.items) → map comprehension_of c.in-DictComp.generators.items ≡ map
-    comprehension_of c.in-DictComp-b.other_generators.items =
-    comprehensions_same (map comprehension_of c.in-DictComp.generators.items)
-    (map comprehension_of c.in-DictComp-b.other_generators.items) in
-    grind arith
-
-pub same_expr-returns-then-same_comparisons : goal.same_expr-returns-then-same_comparisons
-same_expr-returns-then-same_comparisons t c =
-    let x : tree_of c.args.a.now ≡ plain.Compare (tree_of c.in-Compare.left.value) c.in-Compare.ops.items
-    (exprs (map tree_of c.in-Compare.comparators.items)) =
-    ap tree_of c.in-Compare.is ∙ compare_tree c.in-Compare.left c.in-Compare.ops c.in-Compare.comparators in
-    let y : tree_of c.args.b.now ≡ plain.Compare (tree_of c.in-Compare-b.other_left.value) c.in-Compare-b.other_ops.items
-    (exprs (map tree_of c.in-Compare-b.other_comparators.items)) =
-    ap tree_of c.in-Compare-b.is ∙ compare_tree c.in-Compare-b.other_left c.in-Compare-b.other_ops c.in-Compare-b.other_comparators in
-    let es : exprs (map tree_of c.in-Compare.comparators.items) ≡ exprs (map tree_of c.in-Compare-b.other_comparators.items)
-    → map tree_of c.in-Compare.comparators.items ≡ map tree_of c.in-Compare-b.other_comparators.items =
-    exprs_same (map tree_of c.in-Compare.comparators.items) (map tree_of c.in-Compare-b.other_comparators.items) in
-    grind arith
-
-pub same_expr-returns-then-same_exprs : goal.same_expr-returns-then-same_exprs
-same_expr-returns-then-same_exprs t c =
-    let x : tree_of c.args.a.now ≡ plain.Call (tree_of c.in-Call.func.value) (exprs (map tree_of c.in-Call.args.items))
-    (keywords (map keyword_of c.in-Call.keywords.items)) =
-    ap tree_of c.in-Call.is ∙ call_tree c.in-Call.func c.in-Call.args c.in-Call.keywords in
-    let y : tree_of c.args.b.now ≡ plain.Call (tree_of c.in-Call-b.other_func.value) (exprs (map tree_of c.in-Call-b.other_args.items))
-    (keywords (map keyword_of c.in-Call-b.other_keywords.items)) =
-    ap tree_of c.in-Call-b.is ∙ call_tree c.in-Call-b.other_func c.in-Call-b.other_args c.in-Call-b.other_keywords in
-    let es : exprs (map tree_of c.in-Call.args.items) ≡ exprs (map tree_of c.in-Call-b.other_args.items)
-    → map tree_of c.in-Call.args.items ≡ map tree_of c.in-Call-b.other_args.items =
-    exprs_same (map tree_of c.in-Call.args.items) (map tree_of c.in-Call-b.other_args.items) in
-    let ks : keywords (map keyword_of c.in-Call.keywords.items) ≡ keywords (map keyword_of c.in-Call-b.other_keywords.items)
-    → map keyword_of c.in-Call.keywords.items ≡ map keyword_of c.in-Call-b.other_keywords.items =
-    keywords_same (map keyword_of c.in-Call.keywords.items) (map keyword_of c.in-Call-b.other_keywords.items) in
-    grind arith
-
-pub same_expr-returns-else-same_exprs : goal.same_expr-returns-else-same_exprs
-same_expr-returns-else-same_exprs t c =
-    let x : tree_of c.args.a.now ≡ plain.Call (tree_of c.in-Call.func.value) (exprs (map tree_of c.in-Call.args.items))
-    (keywords (map keyword_of c.in-Call.keywords.items)) =
-    ap tree_of c.in-Call.is ∙ call_tree c.in-Call.func c.in-Call.args c.in-Call.keywords in
-    let y : tree_of c.args.b.now ≡ plain.Call (tree_of c.in-Call-b.other_func.value) (exprs (map tree_of c.in-Call-b.other_args.items))
-    (keywords (map keyword_of c.in-Call-b.other_keywords.items)) =
-    ap tree_of c.in-Call-b.is ∙ call_tree c.in-Call-b.other_func c.in-Call-b.other_args c.in-Call-b.other_keywords in
-    let es : exprs (map tree_of c.in-Call.args.items) ≡ exprs (map tree_of c.in-Call-b.other_args.items)
-    → map tree_of c.in-Call.args.items ≡ map tree_of c.in-Call-b.other_args.items =
-    exprs_same (map tree_of c.in-Call.args.items) (map tree_of c.in-Call-b.other_args.items) in
-    let ks : keywords (map keyword_of c.in-Call.keywords.items) ≡ keywords (map keyword_of c.in-Call-b.other_keywords.items)
-    → map keyword_of c.in-Call.keywords.items ≡ map keyword_of c.in-Call-b.other_keywords.items =
-    keywords_same (map keyword_of c.in-Call.keywords.items) (map keyword_of c.in-Call-b.other_keywords.items) in
-    grind arith

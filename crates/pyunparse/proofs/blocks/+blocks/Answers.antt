@@ -1,10 +1,12 @@
-use Rattle.std.proofs.Common.{◌++◌, ◌∷◌, [], ◌∙◌, ◌<◌, ap, arith, false, true, length, map, refl, subst, suc, sym}
+use Rattle.std.proofs.Common.{◌≡◌, ◌++◌, ◌∷◌, [], ◌∙◌, ◌<◌, ap, arith, false, true, length, map, refl, subst, suc, sym}
 use Rattle.std.proofs.lemmas.Result.{IfOk-weaker}
 use Rattle.pytree_node.specs.declared.statements.Case as given_case
+use Rattle.pytree_node.specs.declared.statements.ClassDef as given_class_def
+use Rattle.pytree_node.specs.declared.statements.FunctionDef as given_function_def
 use Rattle.pytree_node.specs.declared.statements.Handler as given_handler
 use Rattle.pytree_node.specs.Trees.{cases, handlers, keywords, stmts}
 use Rattle.pytree_node.specs.TreeOf.{arguments_of, boxed_of, case_of, handler_of, item_of, keyword_of, option_of, pattern_of, stmt_of}
-use Rattle.pytree_node.specs.TreeOf.{tree_of, type_param_of}
+use Rattle.pytree_node.specs.TreeOf.{tree_of, type_param_of, class_def_of, function_def_of, try_of}
 use Rattle.pygrammar.specs.Lines.{case_header, class_head, def_header, elif_header, else_header, except_header, finally_header, for_head}
 use Rattle.pygrammar.specs.Lines.{function_head, if_header, loop_header, match_header, try_header, while_head, with_header}
 use Rattle.pytree_height.specs.Heights.{case_heights, handler_heights, stmt_height, stmt_heights}
@@ -16,13 +18,14 @@ use Rattle.pyunparse_text.specs.Folds.{puts}
 use Rattle.pyunparse_text.specs.Writing.{behind_sited}
 use Rattle.pytree_node.proofs.Callers.StmtShapes.{async_for_tree, async_function_def_tree, async_with_tree, case_tree, class_def_tree}
 use Rattle.pytree_node.proofs.Callers.StmtShapes.{for_tree, function_def_tree, handler_tree, if_tree, match_tree, try_star_tree, try_tree}
-use Rattle.pytree_node.proofs.Callers.StmtShapes.{while_tree, with_tree}
-use Rattle.pyunparse.specs.Inner.Lines.{Wrote, def_lines, one_case, one_handler}
+use Rattle.pytree_node.proofs.Callers.StmtShapes.{while_tree, with_tree, class_def_shape, function_def_shape, try_shape}
+use Rattle.pyunparse.specs.Inner.Lines.{Wrote, class_def_lines, def_lines, one_case, one_handler}
 use Rattle.pyunparse.proofs.Shapes.StatementLemmas.{not_compound, not_elif, not_one, one_if, one_other}
 use Rattle.pyunparse.proofs.Texts.LineLemmas.{all_lines, async_function_lines, block_wrote, class_lines, deeper, function_lines}
 use Rattle.pyunparse.proofs.Texts.LineLemmas.{header_block, if_lines, line_on, match_lines, no_clause, some_clause, while_lines, wrote_none}
-use Rattle.pyunparse.proofs.Texts.LineLemmas.{wrote_then}
-use Rattle.pyunparse.proofs.Shapes.HeightLemmas.{case_height, handler_height}
+use Rattle.pyunparse.proofs.Texts.LineLemmas.{wrote_as, wrote_then}
+use Rattle.pyunparse.proofs.Shapes.HeightLemmas.{case_height, class_height, function_decorators, function_height, handler_height}
+use Rattle.pyunparse.proofs.Shapes.HeightLemmas.{try_body_height, try_final_height, try_handlers_height, try_orelse_height}
 use Rattle.pyunparse.proofs.Sequences.MemberLemmas.{no_higher}
 use Rattle.pyunparse.proofs.blocks.+blocks.Goals as goal
 
@@ -156,29 +159,33 @@ write_with-returns t c =
     c.in_ok-begin_line.ensures c.in_ok-write_with_header.ensures b) c.write_block.ensures
 
 pub write_function-returns : goal.write_function-returns
-write_function-returns t c = IfOk-weaker _ _ _ (λ _ b. header_block c.args.out.now _ _ _
-    (def_header (function_head c.args.is_async c.args.name.now (map type_param_of c.args.type_params.now) (arguments_of c.args.args.now)
-    (boxed_of c.args.returns.now))) (λ n. lines_of piece (suc n) (stmts (map stmt_of c.args.body.now)))
-    c.in_ok-begin_line.ensures c.in_ok-write_function_header.ensures b) c.write_block.ensures
+write_function-returns t c = let o = given_function_def.out-FunctionDef c.args.def.now in
+    rw (function_def_shape, sym c.deref.ensures.value, sym c.deref-2.ensures, sym c.deref-3.ensures.value)
+    (IfOk-weaker _ _ _ (λ _ b. header_block c.args.out.now _ _ _
+    (def_header (function_head c.args.is_async o.name (map type_param_of c.deref.result.now) (arguments_of c.deref-2.result.now)
+    (boxed_of o.returns))) (λ n. lines_of piece (suc n) (stmts (map stmt_of c.deref-3.result.now)))
+    c.in_ok-begin_line.ensures c.in_ok-write_function_header.ensures b) c.write_block.ensures)
 
 pub write_class-returns : goal.write_class-returns
-write_class-returns t c = IfOk-weaker _ _ _ (λ _ b. header_block c.args.out.now _ _ _
-    (def_header (class_head c.args.name.now (map type_param_of c.args.type_params.now) (map tree_of c.args.bases.now)
-    (keywords (map keyword_of c.args.words.now)))) (λ n. lines_of piece (suc n) (stmts (map stmt_of c.args.body.now)))
-    c.in_ok-begin_line.ensures c.in_ok-write_class_header.ensures b) c.write_block.ensures
+write_class-returns t c = let o = given_class_def.out-ClassDef c.args.class.now in
+    rw (class_def_shape, sym c.deref.ensures.value, sym c.deref-2.ensures.value, sym c.deref-3.ensures.value, sym c.deref-4.ensures.value)
+    (IfOk-weaker _ _ _ (λ _ b. header_block c.args.out.now _ _ _
+    (def_header (class_head o.name (map type_param_of c.deref.result.now) (map tree_of c.deref-2.result.now)
+    (keywords (map keyword_of c.deref-3.result.now)))) (λ n. lines_of piece (suc n) (stmts (map stmt_of c.deref-4.result.now)))
+    c.in_ok-begin_line.ensures c.in_ok-write_class_header.ensures b) c.write_block.ensures)
 
 pub write_try-returns : goal.write_try-returns
-write_try-returns t c =
-    IfOk-weaker _ _ _ (λ _ w. wrote_then c.args.out.now _ _ _
-    (λ n. handler_lines piece n c.args.is_star (handlers (map handler_of c.args.caught.now)) ++
-    (clause piece n else_header (stmts (map stmt_of c.args.orelse.now)) ++ clause piece n finally_header
-    (stmts (map stmt_of c.args.finalbody.now))))
-    (header_block c.args.out.now _ _ _ try_header (λ n. lines_of piece (suc n) (stmts (map stmt_of c.args.body.now)))
+write_try-returns t c = rw (try_shape, sym c.deref.ensures.value, sym c.deref-2.ensures.value, sym c.deref-3.ensures.value, sym c.deref-4.ensures.value)
+    (IfOk-weaker _ _ _ (λ _ w. wrote_then c.args.out.now _ _ _
+    (λ n. handler_lines piece n c.args.is_star (handlers (map handler_of c.deref-2.result.now)) ++
+    (clause piece n else_header (stmts (map stmt_of c.deref-3.result.now)) ++ clause piece n finally_header
+    (stmts (map stmt_of c.deref-4.result.now))))
+    (header_block c.args.out.now _ _ _ try_header (λ n. lines_of piece (suc n) (stmts (map stmt_of c.deref.result.now)))
     c.in_ok-begin_line.ensures c.in_ok-write_word_header.ensures c.in_ok-write_block.ensures)
-    (wrote_then _ _ _ _ (λ n. clause piece n else_header (stmts (map stmt_of c.args.orelse.now)) ++ clause piece n finally_header
-    (stmts (map stmt_of c.args.finalbody.now))) c.in_ok-write_handlers.ensures
-    (wrote_then _ _ _ _ (λ n. clause piece n finally_header (stmts (map stmt_of c.args.finalbody.now)))
-    (c.in_ok-write_clause.ensures else_header refl) w))) (c.write_clause-2.ensures finally_header refl)
+    (wrote_then _ _ _ _ (λ n. clause piece n else_header (stmts (map stmt_of c.deref-3.result.now)) ++ clause piece n finally_header
+    (stmts (map stmt_of c.deref-4.result.now))) c.in_ok-write_handlers.ensures
+    (wrote_then _ _ _ _ (λ n. clause piece n finally_header (stmts (map stmt_of c.deref-4.result.now)))
+    (c.in_ok-write_clause.ensures else_header refl) w))) (c.write_clause-2.ensures finally_header refl))
 
 pub write_block-returns : goal.write_block-returns
 write_block-returns t c = block_wrote c.args.out.now _ _ _ _ (λ n. lines_of piece n (stmts (map stmt_of c.args.body.now)))
@@ -188,10 +195,16 @@ pub write_block-dedent-requires : goal.write_block-dedent-requires
 write_block-dedent-requires t c = deeper c.args.out.now _ _ _ _ c.in_ok-end_line.ensures c.in_ok-indent.ensures c.in_ok-write_stmts.ensures
 
 pub write_elif-returns-in_ok-write_block-in-If : goal.write_elif-returns-in_ok-write_block-in-If
-write_elif-returns-in_ok-write_block-in-If t c = rw (c.in-If.is, if_tree, sym c.deref.ensures.value, sym c.deref-in-If.ensures.value)
-    (IfOk-weaker _ _ _ (λ _ w. wrote_then c.args.out.now _ _ _ (λ n. alternative piece n (stmts (map stmt_of c.deref-in-If.result.now)))
-    (header_block c.args.out.now _ _ _ (elif_header (tree_of c.in-If.test))
-    (λ n. lines_of piece (suc n) (stmts (map stmt_of c.deref.result.now)))
+write_elif-returns-in_ok-write_block-in-If t c = rw (
+  c.in-If.is,
+  if_tree,
+  sym c.deref.ensures,
+  sym c.deref-in-If.ensures.value,
+  sym c.deref-in-If-2.ensures.value,
+)
+    (IfOk-weaker _ _ _ (λ _ w. wrote_then c.args.out.now _ _ _ (λ n. alternative piece n (stmts (map stmt_of c.deref-in-If-2.result.now)))
+    (header_block c.args.out.now _ _ _ (elif_header (tree_of c.deref.result.now))
+    (λ n. lines_of piece (suc n) (stmts (map stmt_of c.deref-in-If.result.now)))
     c.in_ok-begin_line-in-If.ensures c.in_ok-write_test_header-in-If.ensures c.in_ok-write_block-in-If.ensures) w)
     c.write_alternative.ensures)
 
@@ -223,15 +236,22 @@ write_alternative-returns t c = IfOk-weaker _ _ _ (λ _ w. subst (Wrote c.args.o
 
 pub write_stmt-returns-in-If : goal.write_stmt-returns-in-If
 unfolding lines_of
-write_stmt-returns-in-If t c = rw (c.in-If.is, if_tree, sym c.deref.ensures.value, sym c.deref-in-If.ensures.value) c.write_if.ensures
+write_stmt-returns-in-If t c = rw (
+  c.in-If.is,
+  if_tree,
+  sym c.deref.ensures,
+  sym c.deref-in-If.ensures.value,
+  sym c.deref-in-If-2.ensures.value,
+) c.write_if.ensures
 
 pub write_stmt-returns-in-While : goal.write_stmt-returns-in-While
 unfolding lines_of
 write_stmt-returns-in-While t c = rw (
   c.in-While.is,
   while_tree,
-  sym c.deref-in-While.ensures.value,
+  sym c.deref-in-While.ensures,
   sym c.deref-in-While-2.ensures.value,
+  sym c.deref-in-While-3.ensures.value,
 ) c.write_while.ensures
 
 pub write_stmt-returns-in-For : goal.write_stmt-returns-in-For
@@ -283,10 +303,7 @@ unfolding lines_of
 write_stmt-returns-in-Try t c = rw (
   c.in-Try.is,
   try_tree,
-  sym c.deref-in-Try.ensures.value,
-  sym c.deref-in-Try-2.ensures.value,
-  sym c.deref-in-Try-3.ensures.value,
-  sym c.deref-in-Try-4.ensures.value,
+  sym c.deref-in-Try.ensures,
 ) c.write_try.ensures
 
 pub write_stmt-returns-in-TryStar : goal.write_stmt-returns-in-TryStar
@@ -294,76 +311,48 @@ unfolding lines_of
 write_stmt-returns-in-TryStar t c = rw (
   c.in-TryStar.is,
   try_star_tree,
-  sym c.deref-in-TryStar.ensures.value,
-  sym c.deref-in-TryStar-2.ensures.value,
-  sym c.deref-in-TryStar-3.ensures.value,
-  sym c.deref-in-TryStar-4.ensures.value,
+  sym c.deref-in-TryStar.ensures,
 )
     c.write_try-in-TryStar.ensures
 
 pub write_stmt-returns-in_ok-write_decorators-in-FunctionDef : goal.write_stmt-returns-in_ok-write_decorators-in-FunctionDef
-write_stmt-returns-in_ok-write_decorators-in-FunctionDef t c =
-    let n = c.args.out.now.level in
-    let x = c.in-FunctionDef.name in
-    let ds = map tree_of c.deref-in-FunctionDef.result.now in
-    let ps = map type_param_of c.deref-in-FunctionDef-2.result.now in
-    let a = arguments_of c.deref-in-FunctionDef-3.result.now in
-    let r = boxed_of c.in-FunctionDef.returns in
-    let body = stmts (map stmt_of c.deref-in-FunctionDef-4.result.now) in
-    rw (
-      c.in-FunctionDef.is,
-      function_def_tree,
-      sym c.deref-in-FunctionDef.ensures.value,
-      sym c.deref-in-FunctionDef-2.ensures.value,
-      sym c.deref-in-FunctionDef-3.ensures,
-      sym c.deref-in-FunctionDef-4.ensures.value,
-    )
-    (IfOk-weaker _ _ _ (λ _ w. subst (Wrote c.args.out.now _) (function_lines n x a body ds r ps)
-    (wrote_then c.args.out.now _ _ (decorators piece n ds) (λ l. def_lines l (function_head false x ps a r) body)
-    c.in_ok-write_decorators-in-FunctionDef.ensures w)) c.write_function.ensures)
+write_stmt-returns-in_ok-write_decorators-in-FunctionDef t c = let n = c.args.out.now.level in
+    let f = function_def_of c.deref-in-FunctionDef-3.result.now in
+    let ds = function_decorators c.deref-in-FunctionDef-3.result.now c.deref-in-FunctionDef-2.result.now (c.deref-in-FunctionDef-2.ensures.value
+    ∙ ap (λ d. (given_function_def.out-FunctionDef d).decorator_list.items) (c.deref-in-FunctionDef.ensures ∙ sym c.deref-in-FunctionDef-3.ensures)) in
+    rw (c.in-FunctionDef.is, function_def_tree, sym c.deref-in-FunctionDef-3.ensures)
+    (IfOk-weaker _ _ _ (λ _ w. subst (Wrote c.args.out.now _) (function_lines n f.name f.args (stmts f.body) f.decorator_list f.returns f.type_params)
+    (wrote_then c.args.out.now _ _ (decorators piece n f.decorator_list)
+    (λ l. def_lines l (function_head false f.name f.type_params f.args f.returns) (stmts f.body))
+    (wrote_as (ap (decorators piece n) ds) c.in_ok-write_decorators-in-FunctionDef.ensures) w)) c.write_function.ensures)
 
 pub write_stmt-returns-in_ok-write_decorators-in-AsyncFunctionDef : goal.write_stmt-returns-in_ok-write_decorators-in-AsyncFunctionDef
-write_stmt-returns-in_ok-write_decorators-in-AsyncFunctionDef t c =
-    let n = c.args.out.now.level in
-    let x = c.in-AsyncFunctionDef.name in
-    let ds = map tree_of c.deref-in-AsyncFunctionDef.result.now in
-    let ps = map type_param_of c.deref-in-AsyncFunctionDef-2.result.now in
-    let a = arguments_of c.deref-in-AsyncFunctionDef-3.result.now in
-    let r = boxed_of c.in-AsyncFunctionDef.returns in
-    let body = stmts (map stmt_of c.deref-in-AsyncFunctionDef-4.result.now) in
-    rw (
-      c.in-AsyncFunctionDef.is,
-      async_function_def_tree,
-      sym c.deref-in-AsyncFunctionDef.ensures.value,
-      sym c.deref-in-AsyncFunctionDef-2.ensures.value,
-      sym c.deref-in-AsyncFunctionDef-3.ensures,
-      sym c.deref-in-AsyncFunctionDef-4.ensures.value,
-    )
-    (IfOk-weaker _ _ _ (λ _ w. subst (Wrote c.args.out.now _) (async_function_lines n x a body ds r ps)
-    (wrote_then c.args.out.now _ _ (decorators piece n ds) (λ l. def_lines l (function_head true x ps a r) body)
-    c.in_ok-write_decorators-in-AsyncFunctionDef.ensures w)) c.write_function-in-AsyncFunctionDef.ensures)
+write_stmt-returns-in_ok-write_decorators-in-AsyncFunctionDef t c = let n = c.args.out.now.level in
+    let f = function_def_of c.deref-in-AsyncFunctionDef-3.result.now in
+    let ds = function_decorators c.deref-in-AsyncFunctionDef-3.result.now c.deref-in-AsyncFunctionDef-2.result.now (c.deref-in-AsyncFunctionDef-2.ensures.value
+    ∙ ap (λ d. (given_function_def.out-FunctionDef d).decorator_list.items) (c.deref-in-AsyncFunctionDef.ensures ∙ sym c.deref-in-AsyncFunctionDef-3.ensures)) in
+    rw (c.in-AsyncFunctionDef.is, async_function_def_tree, sym c.deref-in-AsyncFunctionDef-3.ensures)
+    (IfOk-weaker _ _ _ (λ _ w. subst (Wrote c.args.out.now _) (async_function_lines n f.name f.args (stmts f.body) f.decorator_list f.returns f.type_params)
+    (wrote_then c.args.out.now _ _ (decorators piece n f.decorator_list)
+    (λ l. def_lines l (function_head true f.name f.type_params f.args f.returns) (stmts f.body))
+    (wrote_as (ap (decorators piece n) ds) c.in_ok-write_decorators-in-AsyncFunctionDef.ensures) w)) c.write_function-in-AsyncFunctionDef.ensures)
 
 pub write_stmt-returns-in_ok-write_decorators-in-ClassDef : goal.write_stmt-returns-in_ok-write_decorators-in-ClassDef
 write_stmt-returns-in_ok-write_decorators-in-ClassDef t c =
     let n = c.args.out.now.level in
-    let x = c.in-ClassDef.name in
-    let ds = map tree_of c.deref-in-ClassDef.result.now in
-    let ps = map type_param_of c.deref-in-ClassDef-2.result.now in
-    let es = map tree_of c.deref-in-ClassDef-3.result.now in
-    let ks = keywords (map keyword_of c.deref-in-ClassDef-4.result.now) in
-    let body = stmts (map stmt_of c.deref-in-ClassDef-5.result.now) in
-    rw (
-      c.in-ClassDef.is,
-      class_def_tree,
-      sym c.deref-in-ClassDef.ensures.value,
-      sym c.deref-in-ClassDef-2.ensures.value,
-      sym c.deref-in-ClassDef-3.ensures.value,
-      sym c.deref-in-ClassDef-4.ensures.value,
-      sym c.deref-in-ClassDef-5.ensures.value,
-    )
-    (IfOk-weaker _ _ _ (λ _ w. subst (Wrote c.args.out.now _) (class_lines n x es ks body ds ps)
-    (wrote_then c.args.out.now _ _ (decorators piece n ds) (λ l. def_lines l (class_head x ps es ks) body)
-    c.in_ok-write_decorators-in-ClassDef.ensures w)) c.write_class.ensures)
+    let d = c.deref-in-ClassDef-3.result.now in
+    let o = given_class_def.out-ClassDef d in
+    let ds = map tree_of o.decorator_list.items in
+    let is_ds = ap (map tree_of) (c.deref-in-ClassDef-2.ensures.value
+    ∙ ap (λ d. (given_class_def.out-ClassDef d).decorator_list.items) (c.deref-in-ClassDef.ensures ∙ sym c.deref-in-ClassDef-3.ensures)) in
+    let whole = subst (λ z. decorators piece n ds ++ class_def_lines n z ≡ statement_lines piece n z) (sym (class_def_shape d))
+    (class_lines n o.name (map tree_of o.bases.items) (keywords (map keyword_of o.keywords.items)) (stmts (map stmt_of o.body.items)) ds
+    (map type_param_of o.type_params.items)) in
+    rw (c.in-ClassDef.is, class_def_tree, sym c.deref-in-ClassDef-3.ensures)
+    (IfOk-weaker _ _ _ (λ _ w. subst (Wrote c.args.out.now _) whole
+    (wrote_then c.args.out.now _ _ (decorators piece n ds) (λ l. class_def_lines l (class_def_of d))
+    (wrote_as (ap (decorators piece n) is_ds) c.in_ok-write_decorators-in-ClassDef.ensures) w))
+    c.write_class.ensures)
 
 pub write_stmt-returns-in_default : goal.write_stmt-returns-in_default
 write_stmt-returns-in_default t c =
@@ -395,3 +384,21 @@ write_clause-returns t c =
 pub write_clause-returns-then-is_empty : goal.write_clause-returns-then-is_empty
 write_clause-returns-then-is_empty t c = λ h e. subst (Wrote c.args.out.now c.args.out.now)
     (no_clause c.args.out.now.level h c.args.body.now _ c.is_empty.ensures c.if-is_empty.true) (wrote_none c.args.out.now)
+
+pub write_function-write_block-requires : goal.write_function-write_block-requires
+write_function-write_block-requires t c = let h = function_height c.args.def.now c.deref-3.result.now c.deref-3.ensures.value in (omega (arith, h), tt)
+
+pub write_class-write_block-requires : goal.write_class-write_block-requires
+write_class-write_block-requires t c = let h = class_height c.args.class.now c.deref-4.result.now c.deref-4.ensures.value in (omega (arith, h), tt)
+
+pub write_try-write_block-requires : goal.write_try-write_block-requires
+write_try-write_block-requires t c = let h = try_body_height c.args.parts.now c.deref.result.now c.deref.ensures.value in (omega (arith, h), tt)
+
+pub write_try-write_handlers-requires : goal.write_try-write_handlers-requires
+write_try-write_handlers-requires t c = let h = try_handlers_height c.args.parts.now c.deref-2.result.now c.deref-2.ensures.value in (omega (arith, h), tt)
+
+pub write_try-write_clause-requires : goal.write_try-write_clause-requires
+write_try-write_clause-requires t c = let h = try_orelse_height c.args.parts.now c.deref-3.result.now c.deref-3.ensures.value in (omega (arith, h), tt)
+
+pub write_try-write_clause-requires-2 : goal.write_try-write_clause-requires-2
+write_try-write_clause-requires-2 t c = let h = try_final_height c.args.parts.now c.deref-4.result.now c.deref-4.ensures.value in (omega (arith, h), tt)

@@ -1,6 +1,6 @@
-use Rattle.std.proofs.Common.{◌≡◌, ◌+◌, ◌*◌, ◌++◌, max, map, drop}
+use Rattle.std.proofs.Common.{◌≡◌, ◌+◌, ◌-◌, ◌*◌, ◌++◌, max, map, drop}
 use Rattle.pytree_node.specs.Trees.{cases, handlers, stmts}
-use Rattle.pytree_node.specs.TreeOf.{case_of, handler_of, stmt_of}
+use Rattle.pytree_node.specs.TreeOf.{case_of, class_def_of, function_def_of, handler_of, stmt_of, try_of}
 use Rattle.pytree_height.specs.Heights.{case_heights, handler_heights, stmt_height, stmt_heights}
 use Rattle.pyunparse_text.specs.Modules.{case_lines, handler_lines, lines_of}
 use Rattle.pyunparse_text.specs.Pieces.{piece}
@@ -75,15 +75,14 @@ abbrev pub decreases-write_with : goal.decreases-write_with
 decreases-write_with l = 8 * stmt_heights (stmts (map stmt_of l.body.now)) + 5
 
 abbrev pub decreases-write_function : goal.decreases-write_function
-decreases-write_function l = 8 * stmt_heights (stmts (map stmt_of l.body.now)) + 5
+decreases-write_function l = 8 * stmt_heights (stmts (function_def_of l.def.now).body) + 5
 
 abbrev pub decreases-write_class : goal.decreases-write_class
-decreases-write_class l = 8 * stmt_heights (stmts (map stmt_of l.body.now)) + 5
+decreases-write_class l = 8 * stmt_height (class_def_of l.class.now) - 3
 
 abbrev pub decreases-write_try : goal.decreases-write_try
-decreases-write_try l = 8 * max (stmt_heights (stmts (map stmt_of l.body.now)))
-    (max (handler_heights (handlers (map handler_of l.caught.now))) (max (stmt_heights (stmts (map stmt_of l.orelse.now)))
-    (stmt_heights (stmts (map stmt_of l.finalbody.now))))) + 5
+decreases-write_try l = let f = try_of l.parts.now in 8 * max (stmt_heights (stmts f.body))
+    (max (handler_heights (handlers f.handlers)) (max (stmt_heights (stmts f.orelse)) (stmt_heights (stmts f.finalbody)))) + 5
 
 abbrev pub decreases-write_elif : goal.decreases-write_elif
 decreases-write_elif l = 8 * stmt_height (stmt_of l.s.now) + 1

@@ -17,7 +17,8 @@ returns-in_ok-write_targets-in-Assign g c = IfOk-equal _ _ _ _ c.write_expr-in-A
 
 pub returns-in_ok-put_sign-in-AugAssign : goal.returns-in_ok-put_sign-in-AugAssign
 returns-in_ok-put_sign-in-AugAssign g c = IfOk-equal _ _ _ _ c.write_expr-in-AugAssign-2.ensures
-    (augmented_on g.W.Writer.after c.args.out.now c.args.s.now _ _ _ _ _ _ c.in-AugAssign.is c.augmented_sign.ensures
+    (augmented_on g.W.Writer.after c.args.out.now c.args.s.now _ _ _ _ _ _ _ c.in-AugAssign.is c.deref-in-AugAssign.ensures
+    c.augmented_sign.ensures
     c.in_ok-write_expr-in-AugAssign.ensures c.in_ok-put_sign-in-AugAssign.ensures)
 
 pub returns-in_ok-write_expr-in-AnnAssign : goal.returns-in_ok-write_expr-in-AnnAssign
@@ -28,7 +29,8 @@ returns-in_ok-write_expr-in-AnnAssign g c = IfOk-equal _ _ _ _ c.write_behind.en
 
 pub returns-in_ok-put_sign-in-TypeAlias : goal.returns-in_ok-put_sign-in-TypeAlias
 returns-in_ok-put_sign-in-TypeAlias g c = IfOk-equal _ _ _ _ c.write_expr-in-TypeAlias-2.ensures
-    (alias_on g.W.Writer.after c.args.out.now c.args.s.now c.in-TypeAlias.is c.deref-in-TypeAlias.ensures.value
+    (alias_on g.W.Writer.after c.args.out.now c.args.s.now c.in-TypeAlias.is c.deref-in-TypeAlias.ensures
+    c.deref-in-TypeAlias-2.ensures.value c.deref-in-TypeAlias-3.ensures
     c.in_ok-put_text-in-TypeAlias.ensures c.in_ok-write_expr-in-TypeAlias.ensures c.in_ok-write_type_params-in-TypeAlias.ensures
     c.in_ok-put_sign-in-TypeAlias.ensures)
 

@@ -1,7 +1,5 @@
-use Rattle.std.proofs.Common.{◌∙◌, ap, refl, Some}
+use Rattle.std.proofs.Common.{refl, Some}
 use Rattle.pytree_node.proofs.Callers.StmtShapes.{raise_tree}
-use Rattle.pytree_node.specs.TreeOf.{option_of, tree_of}
-use Rattle.pytree_node.specs.Trees.{Raise}
 use Rattle.pyparse_line.proofs.Recorders.Words.{raise_alone_placed, raise_placed}
 use Rattle.pyparse_line.proofs.statements.simple.raise.Goals as goal
 
@@ -10,6 +8,4 @@ returns-then-not-starts_expression-clause-placed g c = raise_alone_placed c.rais
 
 pub returns-clause-placed : goal.returns-clause-placed
 returns-clause-placed g c = let h = c.in_ok-exc.ensures.placed in
-    raise_placed c.in_ok-exc.exc h.1 h.2 c.in_ok-cause.ensures.placed (raise_tree (Some c.into_inner.result) c.unboxed.result
-    ∙ (ap (λ e. Raise (Some (tree_of e)) (option_of c.unboxed.result)) c.into_inner.ensures
-    ∙ ap (λ o. Raise (Some (tree_of c.in_ok-exc.exc.expr.value)) o) c.unboxed.ensures)) refl
+    raise_placed c.in_ok-exc.exc h.1 h.2 c.in_ok-cause.ensures.placed (raise_tree (Some c.in_ok-exc.exc.expr) c.in_ok-cause.cause.expr) refl
