@@ -1,10 +1,10 @@
 //! What `dump` does where reading or writing fails.
 
-use crate::dump_limits::joined;
-use crate::dumps::command;
+use crate::commands::command;
 use crate::expected::{
     Left, failing_reader, leaves, reader, same_bytes, same_status, stops_anywhere, stops_at, writer,
 };
+use crate::rows::repeated;
 use fakes::FakeWriter;
 use pyast_command::{Command, run};
 use std::alloc::Global;
@@ -67,16 +67,9 @@ fn stops_where_the_writer_fails(rt: HostRuntime) {
 #[test]
 fn stops_where_a_piece_fails(rt: HostRuntime) {
     let command = command(&rt, rt.alloc(), "dump --bare");
-    let source = joined(&rt, rt.alloc(), &[("x\n", 3_000)]);
-    let whole = joined(
-        &rt,
-        rt.alloc(),
-        &[
-            ("Module([Expr(Name('x', Load()))", 1),
-            (", Expr(Name('x', Load()))", 2_999),
-            ("], [])\n", 1),
-        ],
-    );
+    let source = repeated(&rt, rt.alloc(), "3000 x\n");
+    let parts = "1 Module([Expr(Name('x', Load()))~2999 , Expr(Name('x', Load()))~1 ], [])\n";
+    let whole = repeated(&rt, rt.alloc(), parts);
     for room in &[0usize, 65_555, 65_556, 65_557, 75_012, 75_013] {
         stops_at(
             &rt,

@@ -2,8 +2,8 @@
 ghost use Rattle.std.specs.Prelude.{◌≡◌, ◌<◌, ◌-◌, ◌^◌};
 
 use fakes::{FakeReader, FakeWriter};
-use pyast_command::{Command, Tokens, run};
-use pysource::{ByteIn, Counted};
+use pyast_command::{Command, run};
+use pysource::ByteIn;
 use std::alloc::Global;
 use std::fmt::Debug;
 use std::process::Abort;
@@ -66,6 +66,12 @@ pub(crate) fn same_answer(rt: &impl Abort, told: bool, expected: bool, at: &str)
 /// Appends a text.
 pub(crate) fn push(rt: &impl Abort, out: &mut String, text: &str) {
     out.push_str(text).expect(rt, "memory");
+}
+
+/// Appends a text and an LF.
+pub(crate) fn push_line(rt: &impl Abort, out: &mut String, text: &str) {
+    push(rt, out, text);
+    push(rt, out, "\n");
 }
 
 /// Appends a text so many times.
@@ -156,7 +162,7 @@ fn push_places(rt: &impl Abort, out: &mut String, places: &str) {
 
 /// Appends the line of an entry, which is given as its places, its type and its text, with a blank
 /// between them.
-fn push_line(rt: &impl Abort, out: &mut String, entry: &str) {
+pub(crate) fn push_entry(rt: &impl Abort, out: &mut String, entry: &str) {
     let (places, rest) = entry.split_once(' ').unwrap_or((entry, ""));
     let (name, text) = rest.split_once(' ').unwrap_or((rest, ""));
     push_places(rt, out, places);
@@ -166,111 +172,15 @@ fn push_line(rt: &impl Abort, out: &mut String, entry: &str) {
 }
 
 /// Appends the lines of entries, each of which is given on a line of its own.
-pub(crate) fn push_lines(rt: &impl Abort, out: &mut String, entries: &str) {
+pub(crate) fn push_entries(rt: &impl Abort, out: &mut String, entries: &str) {
     for entry in entries.lines() {
-        push_line(rt, out, entry);
+        push_entry(rt, out, entry);
     }
 }
 
 /// The lines of entries.
 pub(crate) fn lines_of(rt: &impl Abort, alloc: Global, entries: &str) -> String {
     let mut lines = String::new(alloc);
-    push_lines(rt, &mut lines, entries);
+    push_entries(rt, &mut lines, entries);
     lines
-}
-
-/// A text and a line feed, or nothing where it is empty.
-pub(crate) fn line(rt: &impl Abort, alloc: Global, text: &str) -> String {
-    let mut line = String::from_str(alloc, text).expect(rt, "memory");
-    push(rt, &mut line, if text.is_empty() { "" } else { "\n" });
-    line
-}
-
-/// The line of a fault of the standard input, or nothing where there is none.
-pub(crate) fn fault_line(rt: &impl Abort, alloc: Global, fault: &str) -> String {
-    let mut line = String::new(alloc);
-    if !fault.is_empty() {
-        push(rt, &mut line, "<stdin>:");
-        push(rt, &mut line, fault);
-        push(rt, &mut line, "\n");
-    }
-    line
-}
-
-/// Asserts that `tokens` writes the entry of the encoding as it is shown (nothing where that is
-/// empty) and these entries of a text, and tells this fault of the standard input after them, if
-/// one is given.
-pub(crate) fn lists_as(
-    rt: &impl Abort,
-    alloc: Global,
-    source: &str,
-    encoding: &str,
-    entries: &str,
-    fault: &str,
-) {
-    lists_bytes_as(rt, alloc, source.as_bytes(), encoding, entries, fault);
-}
-
-/// Asserts the same of each row.
-pub(crate) fn lists_all(rt: &impl Abort, alloc: Global, rows: &[(&str, &str, &str, &str)]) {
-    for (source, encoding, entries, fault) in rows {
-        lists_as(rt, alloc, source, encoding, entries, fault);
-    }
-}
-
-/// The same of bytes.
-pub(crate) fn lists_bytes_as(
-    rt: &impl Abort,
-    alloc: Global,
-    source: &[u8],
-    encoding: &str,
-    entries: &str,
-    fault: &str,
-) {
-    let wanted = listing(rt, alloc, encoding, entries);
-    let told = fault_line(rt, alloc, fault);
-    // A byte a read, and as many as there is room for.
-    let mut slow = reader(source);
-    let mut fast = Counted::new(source);
-    let (written, told) = (wanted.as_bytes(), told.as_bytes());
-    writes_and_tells(rt, alloc, &mut slow, written, told, "a byte a read");
-    writes_and_tells(rt, alloc, &mut fast, written, told, "many bytes a read");
-}
-
-/// The listing of the entry of an encoding, if one is given, and of other entries.
-fn listing(rt: &impl Abort, alloc: Global, encoding: &str, entries: &str) -> String {
-    let mut wanted = String::new(alloc);
-    if !encoding.is_empty() {
-        push_places(rt, &mut wanted, "0,0-0,0");
-        push_filled(rt, &mut wanted, "ENCODING", 15);
-        push_filled(rt, &mut wanted, encoding, 15);
-        push(rt, &mut wanted, "\n");
-    }
-    push_lines(rt, &mut wanted, entries);
-    wanted
-}
-
-/// Asserts that `tokens` writes and tells this of what a reader gives.
-fn writes_and_tells<R: ByteIn>(
-    rt: &impl Abort,
-    alloc: Global,
-    reader: &mut R,
-    wanted: &[u8],
-    told: &[u8],
-    at: &str,
-)
-    requires { (R.seen reader.old).failures < 2 ^ 64 - 1 }
-{
-    let command = Command::Tokens(Tokens {
-        exact: false,
-        count: None,
-        resume: None,
-        file: None,
-    });
-    let left = Left {
-        written: wanted,
-        told,
-        status: if told.is_empty() { 0 } else { 1 },
-    };
-    leaves(rt, alloc, &command, reader, &left, at);
 }

@@ -1,9 +1,10 @@
 //! What is reported where reading, writing or opening fails.
 
 use crate::expected::{
-    Left, failing_reader, holds, leaves, lines_of, push, push_lines, reader, same_bytes,
+    Left, failing_reader, holds, leaves, lines_of, push, push_entries, reader, same_bytes,
     same_status, stops_anywhere, writer,
 };
+use crate::rows::row_of;
 use fakes::{FakeReader, FakeWriter};
 use pyast_command::{Command, Fault, RunFaultCode, Tokens, open_source, run};
 use pylex::Cursor;
@@ -60,7 +61,7 @@ fn push_row(rt: &impl Abort, alloc: Global, wanted: &mut String, row: i32) {
     let entries = format!(in alloc;
         "{row},0-{row},1 NAME 'x'\n{row},1-{row},2 NEWLINE '\\n'"
     ).expect(rt, "memory");
-    push_lines(rt, wanted, entries.as_str());
+    push_entries(rt, wanted, entries.as_str());
 }
 
 /// What is held is written more than once here, so the writer also fails in the middle of the
@@ -69,12 +70,12 @@ fn push_row(rt: &impl Abort, alloc: Global, wanted: &mut String, row: i32) {
 fn stops_within_a_long_listing(rt: HostRuntime) {
     let mut source = String::new(rt.alloc());
     let mut wanted = String::new(rt.alloc());
-    push_lines(&rt, &mut wanted, "0,0-0,0 ENCODING 'utf-8'");
+    push_entries(&rt, &mut wanted, "0,0-0,0 ENCODING 'utf-8'");
     for row in 1..=1000 {
         push(&rt, &mut source, "x\n");
         push_row(&rt, rt.alloc(), &mut wanted, row);
     }
-    push_lines(&rt, &mut wanted, "1001,0-1001,0 ENDMARKER ''");
+    push_entries(&rt, &mut wanted, "1001,0-1001,0 ENDMARKER ''");
     let whole = wanted.as_bytes();
     for room in &[
         0usize,
@@ -102,12 +103,11 @@ fn tells_a_failed_write_before_a_fault_of_the_source(rt: HostRuntime) {
     same_status(&rt, status, 3, "x $");
 }
 
-/// Asserts that `tokens` writes these lines where the reader fails after these bytes, and then
-/// tells the failed read.
-fn lists_read_lines(rt: &impl Abort, alloc: Global, source: &[u8], entries: &str) {
-    let wanted = lines_of(rt, alloc, entries);
+/// Asserts that `tokens` writes this where the reader fails after these bytes, and then tells the
+/// failed read.
+fn lists_read_lines(rt: &impl Abort, alloc: Global, source: &[u8], written: &str) {
     let left = Left {
-        written: wanted.as_bytes(),
+        written: written.as_bytes(),
         told: b"pyast: read failed\n",
         status: 3,
     };
@@ -117,79 +117,90 @@ fn lists_read_lines(rt: &impl Abort, alloc: Global, source: &[u8], entries: &str
         &TOKENS,
         &mut failing_reader(source),
         &left,
-        entries,
+        written,
     );
 }
 
-/// Each is what was read before a read failed, and the lines that are written.
+/// What was read before a read failed, and the entries that are listed of it.
+const READ_LINES: &str = "
+# The second line isn't whole.
+| x
+|- y
+- 0,0-0,0 ENCODING 'utf-8'
+- 1,0-1,1 NAME 'x'
+- 1,1-1,2 NEWLINE '\\n'
+
+| x
+- 0,0-0,0 ENCODING 'utf-8'
+- 1,0-1,1 NAME 'x'
+- 1,1-1,2 NEWLINE '\\n'
+
+# Whether the block ends stands in the line that wasn't read.
+| if x:
+|  y
+- 0,0-0,0 ENCODING 'utf-8'
+- 1,0-1,2 NAME 'if'
+- 1,3-1,4 NAME 'x'
+- 1,4-1,5 OP ':'
+- 1,5-1,6 NEWLINE '\\n'
+- 2,0-2,1 INDENT ' '
+- 2,1-2,2 NAME 'y'
+- 2,2-2,3 NEWLINE '\\n'
+
+# The string may go on.
+| x = '''a
+- 0,0-0,0 ENCODING 'utf-8'
+- 1,0-1,1 NAME 'x'
+- 1,2-1,3 OP '='
+
+# The first line isn't whole, or the second may name the encoding.
+
+|- x
+
+| # c
+
+|
+|- # c
+";
+
 #[test]
 fn writes_the_lines_that_were_read_whole(rt: HostRuntime) {
-    let rows: &[(&[u8], &str)] = &[
-        // The second line isn't whole.
-        (
-            b"x\ny",
-            "0,0-0,0 ENCODING 'utf-8'\n\
-             1,0-1,1 NAME 'x'\n\
-             1,1-1,2 NEWLINE '\\n'",
-        ),
-        (
-            b"x\n",
-            "0,0-0,0 ENCODING 'utf-8'\n\
-             1,0-1,1 NAME 'x'\n\
-             1,1-1,2 NEWLINE '\\n'",
-        ),
-        // Whether the block ends stands in the line that wasn't read.
-        (
-            b"if x:\n y\n",
-            "0,0-0,0 ENCODING 'utf-8'\n\
-             1,0-1,2 NAME 'if'\n\
-             1,3-1,4 NAME 'x'\n\
-             1,4-1,5 OP ':'\n\
-             1,5-1,6 NEWLINE '\\n'\n\
-             2,0-2,1 INDENT ' '\n\
-             2,1-2,2 NAME 'y'\n\
-             2,2-2,3 NEWLINE '\\n'",
-        ),
-        // The string may go on.
-        (
-            b"x = '''a\n",
-            "0,0-0,0 ENCODING 'utf-8'\n\
-             1,0-1,1 NAME 'x'\n\
-             1,2-1,3 OP '='",
-        ),
-        // The first line isn't whole, or the second may name the encoding.
-        (b"", ""),
-        (b"x", ""),
-        (b"# c\n", ""),
-        (b"\n# c", ""),
-    ];
-    for (source, entries) in rows {
-        lists_read_lines(&rt, rt.alloc(), source, entries);
+    for lines in READ_LINES.split("\n\n") {
+        let row = row_of(&rt, rt.alloc(), lines);
+        lists_read_lines(&rt, rt.alloc(), row.source.as_bytes(), row.written.as_str());
     }
 }
+
+/// The entries of `if x:` and an LF.
+const FIRST: &str = "\
+0,0-0,0 ENCODING 'utf-8'
+1,0-1,2 NAME 'if'
+1,3-1,4 NAME 'x'
+1,4-1,5 OP ':'
+1,5-1,6 NEWLINE '\\n'
+";
+
+/// The entries of a tab, `y` and an LF in the second line.
+const SECOND: &str = "\
+2,0-2,1 INDENT '\\t'
+2,1-2,2 NAME 'y'
+2,2-2,3 NEWLINE '\\n'
+";
 
 /// The same after each number of bytes of a source. No block ends there.
 #[test]
 fn writes_the_lines_that_were_read_whole_wherever_a_read_fails(rt: HostRuntime) {
     let source = b"if x:\n\ty\n".as_slice();
-    let first = "0,0-0,0 ENCODING 'utf-8'\n\
-                 1,0-1,2 NAME 'if'\n\
-                 1,3-1,4 NAME 'x'\n\
-                 1,4-1,5 OP ':'\n\
-                 1,5-1,6 NEWLINE '\\n'";
-    let mut both = String::from_str(rt.alloc(), first).expect(&rt, "memory");
-    push(
-        &rt,
-        &mut both,
-        "\n2,0-2,1 INDENT '\\t'\n2,1-2,2 NAME 'y'\n2,2-2,3 NEWLINE '\\n'",
-    );
+    let first = lines_of(&rt, rt.alloc(), FIRST);
+    let mut both = lines_of(&rt, rt.alloc(), FIRST);
+    push_entries(&rt, &mut both, SECOND);
     for given in 0..=source.len() {
-        let entries = match given {
+        let written = match given {
             0..=5 => "",
-            6..=8 => first,
+            6..=8 => first.as_str(),
             _ => both.as_str(),
         };
-        lists_read_lines(&rt, rt.alloc(), &source[..given], entries);
+        lists_read_lines(&rt, rt.alloc(), &source[..given], written);
     }
 }
 

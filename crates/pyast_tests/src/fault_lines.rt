@@ -1,7 +1,7 @@
 //! The line that is reported of each fault, and the status that it gives.
 
-use crate::dump_limits::joined;
 use crate::expected::{same, same_bytes, same_status, same_text, writer};
+use crate::rows::row_of;
 use pyast_command::{Fault, FaultCode, RunFaultCode, SourceFaultCode, fault_text, tell};
 use pyparse::{GrammarError, ParseFault, tokens_of};
 use pysource::{InputFault, Place, SOURCE_LIMIT, SourceFault, decode};
@@ -75,6 +75,13 @@ fn tells_what_is_wrong_with_a_source(rt: HostRuntime) {
             SourceFaultCode::UnmatchedCloser,
             "unmatched closing bracket",
         ),
+    ];
+    tells_all(&rt, rt.alloc(), rows);
+}
+
+#[test]
+fn tells_what_is_wrong_with_a_token(rt: HostRuntime) {
+    let rows = &[
         (SourceFaultCode::Token(TokenError::Float), "float literal"),
         (
             SourceFaultCode::Token(TokenError::Complex),
@@ -96,6 +103,13 @@ fn tells_what_is_wrong_with_a_source(rt: HostRuntime) {
         ),
         (SourceFaultCode::Token(TokenError::Nul), "null character"),
         (SourceFaultCode::Token(TokenError::NameForm), "name form"),
+    ];
+    tells_all(&rt, rt.alloc(), rows);
+}
+
+#[test]
+fn tells_what_is_wrong_with_a_line(rt: HostRuntime) {
+    let rows = &[
         (SourceFaultCode::Syntax, "invalid syntax"),
         (SourceFaultCode::MatchStatement, "match statement"),
         (
@@ -132,8 +146,8 @@ fn tells_what_else_ends_a_run(rt: HostRuntime) {
     }
 }
 
-/// Asserts that this line is reported of a source that has no tokens.
-fn refuses(rt: &impl Abort, alloc: Global, text: &str, line: &str) {
+/// Asserts that this is reported of a source that has no tokens.
+fn refuses(rt: &impl Abort, alloc: Global, text: &str, told: &str) {
     let bytes = text.as_bytes();
     if bytes.len() > SOURCE_LIMIT {
         panic!(rt; "too long");
@@ -141,48 +155,61 @@ fn refuses(rt: &impl Abort, alloc: Global, text: &str, line: &str) {
     let source = decode(alloc, bytes).expect(rt, "a source");
     let fault = tokens_of(alloc, &source, Extent::Plain).err();
     let fault = Fault::from(fault.expect(rt, "no tokens"));
-    tells(rt, alloc, fault, line, 1);
+    tells(rt, alloc, fault, told.trim_end(), 1);
 }
+
+/// Sources without tokens, and what is reported of them.
+const WITHOUT_TOKENS: &str = "
+| x = 1.5
+! a.py:1:4: error: float literal
+
+| 'é' + 1j
+! a.py:1:6: error: complex literal
+
+| x
+| f''
+! a.py:2:0: error: f-string
+
+| x = 340282366920938463463374607431768211456
+! a.py:1:4: error: integer too large
+
+| '\\N{DASH}'
+! a.py:1:0: error: named escape
+
+| '\\x4'
+! a.py:1:0: error: bad escape
+
+| b'é'
+! a.py:1:0: error: non-ASCII bytes literal
+
+| x # \0
+! a.py:1:2: error: null character
+
+| ｉｆ = 1
+! a.py:1:0: error: name form
+
+| if x:
+|         y
+| \tz
+! a.py:3:1: error: inconsistent tabs and spaces
+
+| x $ 1.5
+! a.py:1:2: error: unexpected character
+
+| x\ry
+! a.py:1:1: error: carriage return without line feed
+
+* 601 (~1 x~601 )
+! a.py:1:600: error: too deep
+";
 
 /// Rows count from 1, and columns from 0 in characters.
 #[test]
 fn tells_why_a_source_has_no_tokens(rt: HostRuntime) {
-    for (text, line) in &[
-        ("x = 1.5\n", "a.py:1:4: error: float literal"),
-        ("'é' + 1j\n", "a.py:1:6: error: complex literal"),
-        ("x\nf''\n", "a.py:2:0: error: f-string"),
-        (
-            "x = 340282366920938463463374607431768211456\n",
-            "a.py:1:4: error: integer too large",
-        ),
-        ("'\\N{DASH}'\n", "a.py:1:0: error: named escape"),
-        ("'\\x4'\n", "a.py:1:0: error: bad escape"),
-        ("b'é'\n", "a.py:1:0: error: non-ASCII bytes literal"),
-        ("x # \0\n", "a.py:1:2: error: null character"),
-        ("ｉｆ = 1\n", "a.py:1:0: error: name form"),
-        (
-            "if x:\n        y\n\tz\n",
-            "a.py:3:1: error: inconsistent tabs and spaces",
-        ),
-        ("x $ 1.5\n", "a.py:1:2: error: unexpected character"),
-        (
-            "x\ry\n",
-            "a.py:1:1: error: carriage return without line feed",
-        ),
-    ] {
-        refuses(&rt, rt.alloc(), text, line);
+    for lines in WITHOUT_TOKENS.split("\n\n") {
+        let row = row_of(&rt, rt.alloc(), lines);
+        refuses(&rt, rt.alloc(), row.source.as_str(), row.told.as_str());
     }
-}
-
-#[test]
-fn tells_brackets_that_are_too_deep(rt: HostRuntime) {
-    let text = joined(&rt, rt.alloc(), &[("(", 601), ("x", 1), (")", 601)]);
-    refuses(
-        &rt,
-        rt.alloc(),
-        text.as_str(),
-        "a.py:1:600: error: too deep",
-    );
 }
 
 /// What the grammar says against a line is reported at its place.

@@ -1,6 +1,6 @@
 //! What the commands do with a source that is cut off anywhere.
 
-use crate::dumps::command;
+use crate::commands::command;
 use crate::expected::{push, reader, same, same_answer, same_status, same_text, writer};
 use pyast_command::{Command, Tokens, run};
 use pylex::Cursor;

@@ -1,8 +1,11 @@
 //! Tests of `pyast_command` and of the examples of `uses`: which words give which command, what is
 //! listed, dumped and unparsed of which source, and what is reported where reading or writing
-//! fails. The rows are worked by hand from the documentation of Python, or taken from Python 3.11.
+//! fails. The rows, whose form `rows` tells, are worked by hand from the documentation of Python,
+//! or taken from Python 3.11.
 #![tactic(auto)]
 
+#[cfg(test)]
+mod commands;
 #[cfg(test)]
 mod cursors;
 #[cfg(test)]
@@ -45,6 +48,8 @@ mod numbers;
 mod placed_blocks;
 #[cfg(test)]
 mod places;
+#[cfg(test)]
+mod rows;
 #[cfg(test)]
 mod unparses;
 #[cfg(test)]

@@ -1,128 +1,148 @@
 //! What `unparse` writes of a source, and that this gives itself.
 
+use crate::commands::{command, does_all, writes_all};
 use crate::dump_failures::{keeps_its_status_anywhere, tells_failed_reads};
-use crate::dump_limits::joined;
-use crate::dumps::{command, does, does_all};
-use crate::expected::{line, stops_anywhere};
-use std::alloc::Global;
-use std::process::Abort;
+use crate::expected::stops_anywhere;
 
-/// Asserts that words write for a source a text, given less its last line feed, and the same
-/// for that text itself.
-pub(crate) fn writes(rt: &impl Abort, alloc: Global, words: &str, source: &str, text: &str) {
-    let own = line(rt, alloc, text);
-    does(rt, alloc, &(words, source, text, 0, ""));
-    does(rt, alloc, &(words, own.as_str(), text, 0, ""));
-}
+/// The rows of `unparse`.
+const TEXTS: &str = "
+# A source without a byte.
 
-/// Asserts that of the source and the text of each row.
-fn writes_all(rt: &impl Abort, alloc: Global, words: &str, rows: &[(&str, &str)]) {
-    for (source, text) in rows {
-        writes(rt, alloc, words, source, text);
-    }
-}
+| x = (a := 1), b
+> x = (a := 1, b)
+
+| 1if x else 2
+> 1 if x else 2
+
+| -x ** -y
+> -x ** -y
+
+| (-x) ** y
+> (-x) ** y
+
+| not a in b
+> not a in b
+
+| (a and b) and c
+> (a and b) and c
+
+| with (a, b): pass
+> with a, b:
+>     pass
+
+| with ((a, b)): pass
+> with ((a, b)):
+>     pass
+
+| with ((a,)): pass
+> with ((a,)):
+>     pass
+
+| with (*a, b): pass
+> with (*a, b):
+>     pass
+
+| a[*b]
+> a[*b]
+
+| 1 .real
+> 1 .real
+
+| (x): int = 1
+> (x): int = 1
+
+| '\\ud800'
+> '\\ud800'
+
+| u'a' 'b'
+> u'ab'
+
+| \u{fb01} = 1
+> fi = 1
+
+| def f(a, /, b: int = 1, *, c=2, **d) -> g: return a
+> def f(a, /, b: int=1, *, c=2, **d) -> g:
+>     return a
+
+| from ....a import b
+> from ....a import b
+
+| x[a:b, ::c]
+> x[a:b, ::c]
+
+| {**d, 1: 2}
+> {**d, 1: 2}
+
+| lambda *, a=1: a
+> lambda *, a=1: a
+
+| f((yield))
+> f((yield))
+
+| f((a for b in c), d)
+> f((a for b in c), d)
+
+| --x
+> --x
+
+| a < (b < c)
+> a < (b < c)
+
+| a if b else (c if d else e)
+> a if b else c if d else e
+
+| if a: b
+| else:
+|   if c: d
+> if a:
+>     b
+> elif c:
+>     d
+
+# Brackets that the tree doesn't have are left out.
+* 600 (~1 x~600 )
+> x
+
+# Python 3.12.
+$ unparse --py312
+| type X[T: int, *Ts, **P] = list[T]
+> type X[T: int, *Ts, **P] = list[T]
+
+$ unparse --py312
+| def f[T,](a): return a
+> def f[T](a):
+>     return a
+";
 
 #[test]
 fn writes_source_text(rt: HostRuntime) {
-    let rows = &[
-        ("", ""),
-        ("x = (a := 1), b\n", "x = (a := 1, b)"),
-        ("1if x else 2\n", "1 if x else 2"),
-        ("-x ** -y\n", "-x ** -y"),
-        ("(-x) ** y\n", "(-x) ** y"),
-        ("not a in b\n", "not a in b"),
-        ("(a and b) and c\n", "(a and b) and c"),
-        ("with (a, b): pass\n", "with a, b:\n    pass"),
-        ("with ((a, b)): pass\n", "with ((a, b)):\n    pass"),
-        ("with ((a,)): pass\n", "with ((a,)):\n    pass"),
-        ("with (*a, b): pass\n", "with (*a, b):\n    pass"),
-        ("a[*b]\n", "a[*b]"),
-        ("1 .real\n", "1 .real"),
-        ("(x): int = 1\n", "(x): int = 1"),
-        ("'\\ud800'\n", "'\\ud800'"),
-        ("u'a' 'b'\n", "u'ab'"),
-        ("\u{fb01} = 1\n", "fi = 1"),
-        (
-            "def f(a, /, b: int = 1, *, c=2, **d) -> g: return a\n",
-            "def f(a, /, b: int=1, *, c=2, **d) -> g:\n    return a",
-        ),
-        ("from ....a import b\n", "from ....a import b"),
-        ("x[a:b, ::c]\n", "x[a:b, ::c]"),
-        ("{**d, 1: 2}\n", "{**d, 1: 2}"),
-        ("lambda *, a=1: a\n", "lambda *, a=1: a"),
-        ("f((yield))\n", "f((yield))"),
-        ("f((a for b in c), d)\n", "f((a for b in c), d)"),
-        ("--x\n", "--x"),
-        ("a < (b < c)\n", "a < (b < c)"),
-        ("a if b else (c if d else e)\n", "a if b else c if d else e"),
-        (
-            "if a: b\nelse:\n  if c: d\n",
-            "if a:\n    b\nelif c:\n    d",
-        ),
-    ];
-    writes_all(&rt, rt.alloc(), "unparse", rows);
+    writes_all(&rt, rt.alloc(), "unparse", TEXTS);
 }
 
-#[test]
-fn writes_source_text_of_python_3_12(rt: HostRuntime) {
-    let rows = &[
-        (
-            "type X[T: int, *Ts, **P] = list[T]\n",
-            "type X[T: int, *Ts, **P] = list[T]",
-        ),
-        ("def f[T,](a): return a\n", "def f[T](a):\n    return a"),
-    ];
-    writes_all(&rt, rt.alloc(), "unparse --py312", rows);
-}
+/// The rows of sources that `unparse` refuses.
+const REFUSED: &str = "
+| x = 1.5
+! <stdin>:1:4: error: float literal
 
-/// Brackets that the tree doesn't have are left out.
-#[test]
-fn writes_what_stands_in_many_brackets(rt: HostRuntime) {
-    let source = joined(&rt, rt.alloc(), &[("(", 600), ("x", 1), (")", 600)]);
-    writes(&rt, rt.alloc(), "unparse", source.as_str(), "x");
-}
+| x = )
+! <stdin>:1:4: error: unmatched closing bracket
+
+| if x:
+| y
+! <stdin>:2:0: error: expected an indented block
+
+| x
+| y = 1j
+! <stdin>:2:4: error: complex literal
+
+| type X[T: int, *Ts, **P] = list[T]
+! <stdin>:1:0: error: invalid syntax
+";
 
 /// Nothing is written of a source that is refused.
 #[test]
 fn tells_why_a_source_has_no_text(rt: HostRuntime) {
-    let rows = &[
-        (
-            "unparse",
-            "x = 1.5\n",
-            "",
-            1,
-            "<stdin>:1:4: error: float literal",
-        ),
-        (
-            "unparse",
-            "x = )\n",
-            "",
-            1,
-            "<stdin>:1:4: error: unmatched closing bracket",
-        ),
-        (
-            "unparse",
-            "if x:\ny\n",
-            "",
-            1,
-            "<stdin>:2:0: error: expected an indented block",
-        ),
-        (
-            "unparse",
-            "x\ny = 1j\n",
-            "",
-            1,
-            "<stdin>:2:4: error: complex literal",
-        ),
-        (
-            "unparse",
-            "type X[T: int, *Ts, **P] = list[T]\n",
-            "",
-            1,
-            "<stdin>:1:0: error: invalid syntax",
-        ),
-    ];
-    does_all(&rt, rt.alloc(), rows);
+    does_all(&rt, rt.alloc(), "unparse", REFUSED);
 }
 
 /// A failed read is reported alone, before a fault of the encoding too; nothing is written.

@@ -1,6 +1,7 @@
 //! What a literal of a float is to give. Each comparison is a function, so that its words on failure
 //! stand, and are proved, once.
 
+use crate::rows::three;
 use pyfloat::Double;
 use std::alloc::Global;
 use std::process::Abort;
@@ -81,9 +82,10 @@ pub fn is_shown_imaginary(rt: &impl Abort, alloc: Global, literal: &str, imagina
     has_imaginary_source(rt, alloc, &value, source);
 }
 
-/// Asserts for each literal the `repr` of its double, and of the imaginary number with it.
-pub fn are_shown(rt: &impl Abort, alloc: Global, rows: &[(&str, &str, &str)]) {
-    for (literal, float, imaginary) in rows {
+/// Asserts for each row's literal the `repr` of its double, and of the imaginary number with it.
+pub fn are_shown(rt: &impl Abort, alloc: Global, rows: &str) {
+    for row in rows.lines() {
+        let (literal, float, imaginary) = three(rt, row);
         is_shown(rt, alloc, literal, float);
         is_shown_imaginary(rt, alloc, literal, imaginary);
     }

@@ -13,6 +13,8 @@ mod naturals;
 #[cfg(test)]
 mod powers;
 #[cfg(test)]
+mod rows;
+#[cfg(test)]
 mod samples;
 #[cfg(test)]
 mod spellings;

@@ -3,6 +3,7 @@
 ghost use Rattle.std.specs.Prelude.{◌<◌, ◌≤◌};
 
 use crate::expected::{holds, same_text};
+use crate::rows::three;
 use pynatural::Natural;
 use std::alloc::Global;
 use std::process::Abort;
@@ -62,43 +63,30 @@ fn writes(rt: &impl Abort, alloc: Global, radix: u64, digits: &str, decimal: &st
     is_number(rt, alloc, &number, decimal);
 }
 
-#[test]
-fn decimal(rt: HostRuntime) {
-    for (digits, decimal) in &[
-        ("0", "0"),
-        ("000", "0"),
-        ("0_000", "0"),
-        ("1_0", "10"),
-        (
-            "340282366920938463463374607431768211456",
-            "340282366920938463463374607431768211456",
-        ),
-        ("99999999999999999_9", "999999999999999999"),
-        ("00000000000000000000000000000000000000007", "7"),
-    ] {
-        writes(&rt, rt.alloc(), 10, digits, decimal);
-    }
-}
+/// The rows: a base, digits in it, and the decimal of the number that they write.
+const NUMBERS: &str = "\
+10 0 0
+10 000 0
+10 0_000 0
+10 1_0 10
+10 340282366920938463463374607431768211456 340282366920938463463374607431768211456
+10 99999999999999999_9 999999999999999999
+10 00000000000000000000000000000000000000007 7
+8 777 511
+2 1_0 2
+16 ff 255
+16 DEAD_beef 3735928559
+16 1_0000_0000_0000_0000_0000_0000_0000_0000 340282366920938463463374607431768211456
+16 ffffffffffffffffffffffffffffffffffffffffffffffffffffffff 26959946667150639794667015087019630673637144422540572481103610249215
+";
 
 #[test]
-fn other_bases(rt: HostRuntime) {
-    for (radix, digits, decimal) in &[
-        (8, "777", "511"),
-        (2, "1_0", "2"),
-        (16, "ff", "255"),
-        (16, "DEAD_beef", "3735928559"),
-        (
-            16,
-            "1_0000_0000_0000_0000_0000_0000_0000_0000",
-            "340282366920938463463374607431768211456",
-        ),
-        (
-            16,
-            "ffffffffffffffffffffffffffffffffffffffffffffffffffffffff",
-            "26959946667150639794667015087019630673637144422540572481103610249215",
-        ),
-    ] {
-        writes(&rt, rt.alloc(), *radix, digits, decimal);
+fn numbers(rt: HostRuntime) {
+    for row in NUMBERS.lines() {
+        let (base, digits, decimal) = three(&rt, row);
+        let radix = base.parse().expect(&rt, "a base");
+        assert!(rt; 0 < radix && radix <= 36);
+        writes(&rt, rt.alloc(), radix, digits, decimal);
     }
 }
 
@@ -157,29 +145,30 @@ fn is_large(rt: &impl Abort, alloc: Global, decimal: &str) {
     holds(rt, number.to_u128().is_none(), decimal);
 }
 
+/// Numbers of at most 128 bits.
+const SMALL: &str = "\
+0
+7
+1000000000000000000
+18446744073709551615
+18446744073709551616
+1000000000000000000000000000000000000
+340282366920938463463374607431768211455
+";
+
+/// Numbers of more than 128 bits.
+const LARGE: &str = "\
+340282366920938463463374607431768211456
+10000000000000000000000000000000000000000
+";
+
 #[test]
 fn numbers_of_128_bits(rt: HostRuntime) {
-    for (number, decimal) in &[
-        (0, "0"),
-        (7, "7"),
-        (1_000_000_000_000_000_000, "1000000000000000000"),
-        (18_446_744_073_709_551_615, "18446744073709551615"),
-        (18_446_744_073_709_551_616, "18446744073709551616"),
-        (
-            1_000_000_000_000_000_000_000_000_000_000_000_000,
-            "1000000000000000000000000000000000000",
-        ),
-        (
-            340_282_366_920_938_463_463_374_607_431_768_211_455_u128,
-            "340282366920938463463374607431768211455",
-        ),
-    ] {
-        is_made(&rt, rt.alloc(), *number, decimal);
+    for decimal in SMALL.lines() {
+        let number = decimal.parse().expect(&rt, "a number");
+        is_made(&rt, rt.alloc(), number, decimal);
     }
-    for decimal in &[
-        "340282366920938463463374607431768211456",
-        "10000000000000000000000000000000000000000",
-    ] {
+    for decimal in LARGE.lines() {
         is_large(&rt, rt.alloc(), decimal);
     }
 }

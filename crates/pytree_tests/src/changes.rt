@@ -1,6 +1,6 @@
 //! Changes of trees in place.
 
-use pytree::{Alias, Expr, Identifier, Module, Stmt};
+use pytree::{Alias, Constant, Expr, Identifier, Module, Pattern, Stmt};
 use std::mem;
 
 /// The target of an assignment, or the operand of an expression.
@@ -30,6 +30,30 @@ pub(crate) fn put(tree: &mut Module, other: &mut Module) -> Option<()> {
     let yours = value(other.body.first_mut()?)?;
     mem::swap(mine, yours);
     Some(())
+}
+
+/// Takes the expression that a module is out of it, and leaves `None` in its place.
+pub(crate) fn taken(tree: &mut Module) -> Option<Expr> {
+    let mine = value(tree.body.first_mut()?)?;
+    let nothing = Expr::Constant {
+        value: Constant::None,
+    };
+    Some(mem::replace(mine, nothing))
+}
+
+/// Puts a pattern into the first case of a `match`, in place of its own, and says whether there was
+/// one.
+pub(crate) fn put_pattern(tree: &mut Module, pattern: &mut Pattern) -> bool {
+    match tree.body.first_mut() {
+        Some(Stmt::Match { cases, .. }) => match cases.first_mut() {
+            Some(case) => {
+                mem::swap(&mut case.pattern, pattern);
+                true
+            }
+            None => false,
+        },
+        _ => false,
+    }
 }
 
 /// Takes the last element off a list, and says whether there was one.
@@ -74,7 +98,7 @@ pub(crate) fn shorten(tree: &mut Module) -> bool {
 /// Takes the class off the first `except` of a `try`.
 pub(crate) fn catch_all(tree: &mut Module) -> bool {
     match tree.body.first_mut() {
-        Some(Stmt::Try { handlers, .. }) => match handlers.first_mut() {
+        Some(Stmt::Try(parts)) => match parts.handlers.first_mut() {
             Some(handler) => clear(&mut handler.class),
             None => false,
         },

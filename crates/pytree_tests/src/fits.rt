@@ -2,6 +2,7 @@
 
 use crate::changes::{catch_all, put, put_name, set_dots, shorten};
 use crate::expected::holds;
+use crate::rows::{answer, number, rows, three, two};
 use crate::sources::{expression, module};
 use pytree::{
     Context, Expr, Extent, Identifier, Level, Module, Profile, well_formed, well_formed_at,
@@ -21,23 +22,38 @@ fn fits_at(rt: &impl Abort, alloc: Global, tree: &Expr, level: Level, expected: 
     holds(rt, told == expected, at);
 }
 
-/// A name.
-fn name(rt: &impl Abort, alloc: Global, text: &str, ctx: Context) -> Expr {
+/// A name that is stored to, or read.
+fn name(rt: &impl Abort, alloc: Global, text: &str, is_stored: bool) -> Expr {
     let id = Identifier::new(alloc, text).expect(rt, "memory");
+    let ctx = if is_stored {
+        Context::Store
+    } else {
+        Context::Load
+    };
     Expr::Name { id, ctx }
 }
+
+/// Asserts whether a name that is stored to, or read, is a well formed expression.
+fn fits_by_itself(rt: &impl Abort, alloc: Global, text: &str, is_stored: bool, expected: bool) {
+    let tree = name(rt, alloc, text, is_stored);
+    fits_at(rt, alloc, &tree, Level::Expression, expected, text);
+    drop(tree);
+}
+
+/// Names, contexts, and whether they are well formed.
+const NAMES: &str = "
+? fi => Load => true
+? fi => Store => false
+? if => Load => false
+? ﬁ => Load => false";
 
 /// Names: keywords are none, nor is `ﬁ`, which Python reads as `fi`; a target isn't read.
 #[test]
 fn names(rt: HostRuntime) {
-    for (text, ctx, expected) in &[
-        ("fi", Context::Load, true),
-        ("fi", Context::Store, false),
-        ("if", Context::Load, false),
-        ("ﬁ", Context::Load, false),
-    ] {
-        let tree = name(&rt, rt.alloc(), text, *ctx);
-        fits_at(&rt, rt.alloc(), &tree, Level::Expression, *expected, text);
+    for row in rows(&rt, NAMES) {
+        let (text, ctx, expected) = three(&rt, row);
+        let is_stored = ctx == "Store";
+        fits_by_itself(&rt, rt.alloc(), text, is_stored, answer(&rt, expected));
     }
 }
 
@@ -62,15 +78,19 @@ fn fits_as_expression(rt: &impl Abort, alloc: Global, tree: &Module, expected: b
     );
 }
 
+/// Asserts that the expression that a text is is well formed, and not so once it was made shorter.
+fn fits_as_it_is(rt: &impl Abort, alloc: Global, text: &str) {
+    let mut tree = module(rt, alloc, text);
+    fits_as_expression(rt, alloc, &tree, true, text);
+    holds(rt, shorten(&mut tree), text);
+    fits_as_expression(rt, alloc, &tree, false, text);
+}
+
 /// `and` is between two values at least; each parameter after `*` has a default, or none.
 #[test]
 fn members(rt: HostRuntime) {
-    for text in &["a and a", "lambda *, b: a"] {
-        let mut tree = module(&rt, rt.alloc(), text);
-        fits_as_expression(&rt, rt.alloc(), &tree, true, text);
-        holds(&rt, shorten(&mut tree), text);
-        fits_as_expression(&rt, rt.alloc(), &tree, false, text);
-    }
+    fits_as_it_is(&rt, rt.alloc(), "a and a");
+    fits_as_it_is(&rt, rt.alloc(), "lambda *, b: a");
 }
 
 /// `b = a`, and `a() = a`.
@@ -92,32 +112,36 @@ fn changed(rt: &impl Abort, alloc: Global, text: &str, dots: u64, other: &str) -
     tree
 }
 
-/// `from . import b` and the like.
+/// Imports, the dots and the name that they get, and whether they are well formed then.
+const IMPORTS: &str = "
+? from . import b as c => 1 => import b => true
+? from . import b => 0 => import b => false
+? from . import b => 1 => import b.c => false
+? from . import b => 1 => from a import * => true
+? from . import b as c => 1 => from a import * => false";
+
 #[test]
 fn imports(rt: HostRuntime) {
-    for (text, dots, other, expected) in &[
-        ("from . import b as c", 1, "import b", true),
-        ("from . import b", 0, "import b", false),
-        ("from . import b", 1, "import b.c", false),
-        ("from . import b", 1, "from a import *", true),
-        ("from . import b as c", 1, "from a import *", false),
-    ] {
-        let tree = changed(&rt, rt.alloc(), text, *dots, other);
-        fits(&rt, rt.alloc(), &tree, *expected, other);
+    for row in rows(&rt, IMPORTS) {
+        let (text, dots, rest) = three(&rt, row);
+        let (other, expected) = two(&rt, rest);
+        let tree = changed(&rt, rt.alloc(), text, number(&rt, dots), other);
+        fits(&rt, rt.alloc(), &tree, answer(&rt, expected), other);
     }
+}
+
+/// Asserts whether a `try` whose first `except` catches all is well formed.
+fn fits_without_class(rt: &impl Abort, alloc: Global, text: &str, expected: bool) {
+    let mut tree = module(rt, alloc, text);
+    holds(rt, catch_all(&mut tree), text);
+    fits(rt, alloc, &tree, expected, text);
 }
 
 /// `except: pass`, and one that catches all by a name.
 #[test]
 fn handlers(rt: HostRuntime) {
-    for (text, expected) in &[
-        ("try: pass\nexcept a: pass\n", true),
-        ("try: pass\nexcept a as b: pass\n", false),
-    ] {
-        let mut tree = module(&rt, rt.alloc(), text);
-        holds(&rt, catch_all(&mut tree), text);
-        fits(&rt, rt.alloc(), &tree, *expected, text);
-    }
+    fits_without_class(&rt, rt.alloc(), "try: pass\nexcept a: pass\n", true);
+    fits_without_class(&rt, rt.alloc(), "try: pass\nexcept a as b: pass\n", false);
 }
 
 /// `type b = a` is of Python 3.12.

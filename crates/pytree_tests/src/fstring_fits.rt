@@ -1,12 +1,9 @@
-//! Which trees of f-strings are well formed. They are made by hand.
+//! Which trees of f-strings are well formed. They are made by words.
 
-use crate::expected::{holds, same_answer};
-use crate::fstring_shapes::{
-    DEEPEST, FIELD, FIELD_WITH_SPEC, NAME, ONE_FIELD, SPEC, Shape, around, expression, joined,
-    with_spec,
-};
+use crate::expected::holds;
+use crate::fstring_shapes::expression;
+use crate::rows::{answer, rows, two};
 use pytree::{Expr, Extent, Level, Pattern, PatternLevel, well_formed_at, well_formed_pattern_at};
-use pytree_node::Conversion;
 use std::alloc::Global;
 use std::process::Abort;
 
@@ -15,191 +12,118 @@ fn fits(rt: &impl Abort, alloc: Global, tree: Expr, expected: bool, at: &str) {
     let whole = well_formed_at(alloc, &tree, Level::Atom, Extent::Whole);
     let plain = well_formed_at(alloc, &tree, Level::Atom, Extent::Plain);
     drop(tree);
-    same_answer(rt, whole.expect(rt, "memory"), expected, at);
+    holds(rt, whole.expect(rt, "memory") == expected, at);
     holds(rt, !plain.expect(rt, "memory"), at);
 }
 
+/// Asserts that of the f-strings that words make.
+fn fit(rt: &impl Abort, alloc: Global, table: &str) {
+    for row in rows(rt, table) {
+        let (words, expected) = two(rt, row);
+        let tree = expression(rt, alloc, words);
+        fits(rt, alloc, tree, answer(rt, expected), words);
+    }
+}
+
 /// Texts that aren't empty, no two side by side, and fields.
+const VALUES: &str = "
+? f => true
+? 'a' f => true
+? '{\\'\\\\\\n\\0' f => true
+? '\\ud800' f => true
+? x {} f => true
+? 'a' x {} x {!s} 'b' f => true
+? '' f => false
+? 'a' 'b' f => false
+? x {} '' f => false
+? b'a' f => false
+? None f => false
+? x f => false
+? f'' f => false
+? *x f => false";
+
 #[test]
 fn values(rt: HostRuntime) {
-    let rows: &[(&[Shape], bool)] = &[
-        (&[], true),
-        (&[Shape::Text("a")], true),
-        (&[Shape::Text("{'\\\n\0")], true),
-        (&[Shape::Point(0xD800)], true),
-        (ONE_FIELD, true),
-        (
-            &[
-                Shape::Text("a"),
-                Shape::Field(NAME, Conversion::None),
-                Shape::Field(NAME, Conversion::Str),
-                Shape::Text("b"),
-            ],
-            true,
-        ),
-        (&[Shape::Text("")], false),
-        (&[Shape::Text("a"), Shape::Text("b")], false),
-        (
-            &[Shape::Field(NAME, Conversion::None), Shape::Text("")],
-            false,
-        ),
-        (&[Shape::Bytes(b"a")], false),
-        (&[Shape::Nothing], false),
-        (&[Shape::Name("x")], false),
-        (&[Shape::Joined(&[])], false),
-        (&[Shape::Star("x")], false),
-    ];
-    for (shapes, expected) in rows {
-        let tree = joined(&rt, rt.alloc(), *shapes);
-        fits(&rt, rt.alloc(), tree, *expected, "values");
-    }
+    fit(&rt, rt.alloc(), VALUES);
 }
-
-const BRACE: &[Shape] = &[Shape::Text("{")];
-
-const EMPTY_TEXT: &[Shape] = &[Shape::Text("")];
-
-const TWO_TEXTS: &[Shape] = &[Shape::Text("a"), Shape::Text("b")];
-
-const ESCAPED: &[Shape] = &[Shape::Text("'\\\n")];
 
 /// A format spec is an f-string, and the specs in it have no fields.
+const SPECS: &str = "
+? f'' x {:} f => true
+? f'{{' x {:} f => true
+? f'\\'\\\\\\n' x {:} f => true
+? f'{x}' x {:} f => true
+? f'{x:5}' x {:} f => true
+? f'{x:{x:5}}' x {:} f => false
+? '' f x {:} f => false
+? 'a' 'b' f x {:} f => false
+? x x {:} f => false
+? '5' x {:} f => false
+? x {} x {:} f => false";
+
 #[test]
 fn format_specs(rt: HostRuntime) {
-    for (shape, expected) in &[
-        (Shape::Joined(&[]), true),
-        (Shape::Joined(BRACE), true),
-        (Shape::Joined(ESCAPED), true),
-        (Shape::Joined(ONE_FIELD), true),
-        (Shape::Joined(FIELD_WITH_SPEC), true),
-        (Shape::Joined(DEEPEST), false),
-        (Shape::Joined(EMPTY_TEXT), false),
-        (Shape::Joined(TWO_TEXTS), false),
-        (Shape::Name("x"), false),
-        (Shape::Text("5"), false),
-        (Shape::Field(NAME, Conversion::None), false),
-    ] {
-        let tree = with_spec(&rt, rt.alloc(), shape);
-        fits(&rt, rt.alloc(), tree, *expected, "a format spec");
-    }
+    fit(&rt, rt.alloc(), SPECS);
 }
-
-const SPEC_OF_KIND: &Shape = &Shape::Joined(&[Shape::Unicode("a")]);
-
-const SPEC_OF_KIND_AND_FIELD: &Shape = &Shape::Joined(KIND_AND_FIELD);
-
-const KIND_AND_FIELD: &[Shape] = &[
-    Shape::Unicode("a"),
-    Shape::Field(NAME, Conversion::None),
-    Shape::Text("b"),
-];
 
 /// All texts have the same kind, but for the last one of a format spec, which has none.
+const KINDS: &str = "
+? u'a' f => true
+? u'a' x {} u'b' f => true
+? u'a' x {} 'b' f => false
+? 'a' x {} u'b' f => false
+? u'a' f'5' x {:} f => true
+? u'a' f x {:} f => false
+? u'a' x {} 'b' f x {:} f => true
+? u'a' x {} 'b' f x {:} 'a' <> f => false";
+
 #[test]
 fn kinds(rt: HostRuntime) {
-    let rows: &[(&[Shape], bool)] = &[
-        (&[Shape::Unicode("a")], true),
-        (
-            &[
-                Shape::Unicode("a"),
-                Shape::Field(NAME, Conversion::None),
-                Shape::Unicode("b"),
-            ],
-            true,
-        ),
-        (KIND_AND_FIELD, false),
-        (
-            &[
-                Shape::Text("a"),
-                Shape::Field(NAME, Conversion::None),
-                Shape::Unicode("b"),
-            ],
-            false,
-        ),
-        (
-            &[
-                Shape::Unicode("a"),
-                Shape::FieldWithSpec(NAME, Conversion::None, SPEC),
-            ],
-            true,
-        ),
-        (
-            &[Shape::FieldWithSpec(NAME, Conversion::None, SPEC_OF_KIND)],
-            false,
-        ),
-        (
-            &[Shape::FieldWithSpec(NAME, Conversion::None, SPEC_OF_KIND_AND_FIELD)],
-            true,
-        ),
-        (
-            &[
-                Shape::Text("a"),
-                Shape::FieldWithSpec(NAME, Conversion::None, SPEC_OF_KIND_AND_FIELD),
-            ],
-            false,
-        ),
-    ];
-    for (shapes, expected) in rows {
-        let tree = joined(&rt, rt.alloc(), *shapes);
-        fits(&rt, rt.alloc(), tree, *expected, "kinds");
-    }
+    fit(&rt, rt.alloc(), KINDS);
 }
-
-const SPEC_OF_BRACE: &Shape = &Shape::Joined(BRACE);
-
-const BRACE_IN_SPEC: &[Shape] = &[Shape::FieldWithSpec(NAME, Conversion::None, SPEC_OF_BRACE)];
-
-const TEXT: &Shape = &Shape::Text("a");
-
-const TEXT_IN_FIELD: &[Shape] = &[Shape::Field(TEXT, Conversion::None)];
-
-const NONE_IN_FIELD: &[Shape] = &[Shape::Field(NO_VALUES, Conversion::None)];
-
-const NO_VALUES: &Shape = &Shape::Joined(&[]);
 
 /// The value of a field is an expression that may stand anywhere. Within it stand characters that
 /// need no escape; in two fields there is no literal.
+const FIELDS: &str = "
+? x {} f => true
+? None {} f => true
+? *x {} f => false
+? x {} {} f => false
+? '' {} f => true
+? 'a{#\\t' {} f => true
+? u'a' {} f => true
+? '\\'' {} f => false
+? '\"' {} f => false
+? '\\\\' {} f => false
+? '\\n' {} f => false
+? '\\r' {} f => false
+? '\\0' {} f => false
+? '\\xe9' {} f => true
+? '\\ud7ff' {} f => true
+? '\\ud800' {} f => false
+? '\\udfff' {} f => false
+? '\\ue000' {} f => true
+? b'a' {} f => true
+? b'\\x7f' {} f => true
+? b'\\x80' {} f => false
+? b'\\n' {} f => false
+? f'' {} f => true
+? f'{{' {} f => true
+? f'\\'\\\\\\n' {} f => false
+? f'{x}' {} f => true
+? f'{x:5}' {} f => true
+? f'{x:\\x7b}' {} f => false
+? f'{\"a\"}' {} f => false
+? f'{f\"\"}' {} f => false";
+
 #[test]
 fn fields(rt: HostRuntime) {
-    for (shape, expected) in &[
-        (Shape::Name("x"), true),
-        (Shape::Nothing, true),
-        (Shape::Star("x"), false),
-        (Shape::Field(NAME, Conversion::None), false),
-        (Shape::Text(""), true),
-        (Shape::Text("a{#\t"), true),
-        (Shape::Unicode("a"), true),
-        (Shape::Text("'"), false),
-        (Shape::Text("\""), false),
-        (Shape::Text("\\"), false),
-        (Shape::Text("\n"), false),
-        (Shape::Text("\r"), false),
-        (Shape::Text("\0"), false),
-        (Shape::Point(0xE9), true),
-        (Shape::Point(0xD7FF), true),
-        (Shape::Point(0xD800), false),
-        (Shape::Point(0xDFFF), false),
-        (Shape::Point(0xE000), true),
-        (Shape::Bytes(b"a"), true),
-        (Shape::Bytes(b"\x7f"), true),
-        (Shape::Bytes(b"\x80"), false),
-        (Shape::Bytes(b"\n"), false),
-        (Shape::Joined(&[]), true),
-        (Shape::Joined(BRACE), true),
-        (Shape::Joined(ESCAPED), false),
-        (Shape::Joined(ONE_FIELD), true),
-        (Shape::Joined(FIELD_WITH_SPEC), true),
-        (Shape::Joined(BRACE_IN_SPEC), false),
-        (Shape::Joined(TEXT_IN_FIELD), false),
-        (Shape::Joined(NONE_IN_FIELD), false),
-    ] {
-        let tree = around(&rt, rt.alloc(), shape);
-        fits(&rt, rt.alloc(), tree, *expected, "a field");
-    }
+    fit(&rt, rt.alloc(), FIELDS);
 }
 
 /// Asserts that a field is nothing by itself at a level.
-fn is_no_field(rt: &impl Abort, alloc: Global, tree: Expr, level: Level) {
+fn is_no_field(rt: &impl Abort, alloc: Global, level: Level) {
+    let tree = expression(rt, alloc, "x {}");
     let told = well_formed_at(alloc, &tree, level, Extent::Whole);
     drop(tree);
     holds(rt, !told.expect(rt, "memory"), "a field");
@@ -208,31 +132,32 @@ fn is_no_field(rt: &impl Abort, alloc: Global, tree: Expr, level: Level) {
 /// A field stands in an f-string alone.
 #[test]
 fn no_field_by_itself(rt: HostRuntime) {
-    for level in &[Level::Stars, Level::Expression, Level::Atom] {
-        let tree = expression(&rt, rt.alloc(), FIELD);
-        is_no_field(&rt, rt.alloc(), tree, *level);
-    }
+    is_no_field(&rt, rt.alloc(), Level::Stars);
+    is_no_field(&rt, rt.alloc(), Level::Expression);
+    is_no_field(&rt, rt.alloc(), Level::Atom);
 }
 
 /// Asserts whether a pattern may have this value.
-fn fits_pattern(rt: &impl Abort, alloc: Global, value: Expr, expected: bool) {
+fn fits_pattern(rt: &impl Abort, alloc: Global, value: Expr, expected: bool, at: &str) {
     let pattern = Pattern::MatchValue { value };
     let told = well_formed_pattern_at(alloc, &pattern, PatternLevel::ClosedPattern);
     drop(pattern);
-    same_answer(rt, told.expect(rt, "memory"), expected, "a value");
+    holds(rt, told.expect(rt, "memory") == expected, at);
 }
 
 /// The value of a pattern may be an f-string that is well formed, and no field.
+const PATTERNS: &str = "
+? f'' => true
+? f'{x}' => true
+? f'{\"a\"}' => true
+? '' f => false
+? x {} => false";
+
 #[test]
 fn values_of_patterns(rt: HostRuntime) {
-    for (shape, expected) in &[
-        (Shape::Joined(&[]), true),
-        (Shape::Joined(ONE_FIELD), true),
-        (Shape::Joined(TEXT_IN_FIELD), true),
-        (Shape::Joined(EMPTY_TEXT), false),
-        (Shape::Field(NAME, Conversion::None), false),
-    ] {
-        let value = expression(&rt, rt.alloc(), shape);
-        fits_pattern(&rt, rt.alloc(), value, *expected);
+    for row in rows(&rt, PATTERNS) {
+        let (words, expected) = two(&rt, row);
+        let value = expression(&rt, rt.alloc(), words);
+        fits_pattern(&rt, rt.alloc(), value, answer(&rt, expected), words);
     }
 }

@@ -1,6 +1,7 @@
 //! What f-strings are to the grammar: terminals one after the other.
 
 use crate::expected::same_text;
+use crate::rows::{rows, two};
 use crate::sources::push;
 use pylex::{Exact, Kind};
 use pyparse::Terminal;
@@ -26,6 +27,17 @@ fn push_text(rt: &impl Abort, out: &mut String, alloc: Global, piece: &TextPiece
     push_repr_points(out, points.as_slice()).expect(rt, "memory");
 }
 
+/// What an operator or a delimiter is shown as.
+fn parenthesis(exact: Exact) -> &'static str {
+    if exact == Exact::LPar {
+        "("
+    } else if exact == Exact::RPar {
+        ")"
+    } else {
+        "?"
+    }
+}
+
 /// What another terminal is shown as.
 fn sign(terminal: Terminal<'_>) -> &str {
     match terminal {
@@ -34,8 +46,7 @@ fn sign(terminal: Terminal<'_>) -> &str {
         Terminal::FieldBegin(conversion) => front(conversion),
         Terminal::SpecBegin => ":",
         Terminal::FieldEnd => "}",
-        Terminal::Op(Exact::LPar) => "(",
-        Terminal::Op(Exact::RPar) => ")",
+        Terminal::Op(exact) => parenthesis(exact),
         Terminal::Ident(text) => text,
         _ => "?",
     }
@@ -66,26 +77,29 @@ fn is_shown(rt: &impl Abort, alloc: Global, text: &str, expected: &str) {
     same_text(rt, told.as_str(), expected, text);
 }
 
+/// F-strings, and how their terminals are shown.
+const SHOWN: &str = "
+? f'' => <''>
+? f'a' => <'a'>
+? f'{a}' => <''{(a)}''>
+? f'a{{\\n}}' => <'a{\\n}'>
+? rf'a\\n' => <'a\\\\n'>
+? f'a{b}c' => <'a'{(b)}'c'>
+? f'{a!r}{b!s}{c!a}' => <''{!r (a)}''{!s (b)}''{!a (c)}''>
+? f'{a:}' => <''{(a):''}''>
+? f'{a:b{c!r:d}\\x7b}e' => <''{(a):'b'{!r (c):'d'}'{'}'e'>
+? f'{ a = }' => <''' a = '{!r (a)}''>
+? f'{a=:b}' => <'''a='{(a):'b'}''>
+? f'{(a)}' => <''{((a))}''>
+? f'{f\"a{b}\"}' => <''{(<'a'{(b)}''>)}''>
+? f'{a+1}' => <''{(a??)}''>";
+
 /// A text stands before, between and behind the fields, empty or not; what a field has in it stands
 /// in parentheses.
 #[test]
 fn terminals(rt: HostRuntime) {
-    for (text, expected) in &[
-        ("f''", "<''>"),
-        ("f'a'", "<'a'>"),
-        ("f'{a}'", "<''{(a)}''>"),
-        ("f'a{{\\n}}'", "<'a{\\n}'>"),
-        ("rf'a\\n'", "<'a\\\\n'>"),
-        ("f'a{b}c'", "<'a'{(b)}'c'>"),
-        ("f'{a!r}{b!s}{c!a}'", "<''{!r (a)}''{!s (b)}''{!a (c)}''>"),
-        ("f'{a:}'", "<''{(a):''}''>"),
-        ("f'{a:b{c!r:d}\\x7b}e'", "<''{(a):'b'{!r (c):'d'}'{'}'e'>"),
-        ("f'{ a = }'", "<''' a = '{!r (a)}''>"),
-        ("f'{a=:b}'", "<'''a='{(a):'b'}''>"),
-        ("f'{(a)}'", "<''{((a))}''>"),
-        ("f'{f\"a{b}\"}'", "<''{(<'a'{(b)}''>)}''>"),
-        ("f'{a+1}'", "<''{(a??)}''>"),
-    ] {
+    for row in rows(&rt, SHOWN) {
+        let (text, expected) = two(&rt, row);
         is_shown(&rt, rt.alloc(), text, expected);
     }
 }

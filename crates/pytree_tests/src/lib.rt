@@ -45,6 +45,8 @@ mod placed_dumps;
 #[cfg(test)]
 mod refusals;
 #[cfg(test)]
+mod rows;
+#[cfg(test)]
 mod sources;
 #[cfg(test)]
 mod terminals;
@@ -54,6 +56,8 @@ mod tokens;
 mod trees;
 #[cfg(test)]
 mod values;
+#[cfg(test)]
+mod words;
 #[cfg(test)]
 mod written_expressions;
 #[cfg(test)]

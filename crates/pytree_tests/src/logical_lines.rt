@@ -1,206 +1,102 @@
 //! The logical lines of sources.
 
-use crate::expected::{same, same_number};
+use crate::expected::{same_text, shows};
 use crate::refusals::bracketed;
+use crate::rows::{FIELD, rows, two};
 use crate::sources::source_of;
-use pylex::{Exact, ListingError, ListingFault};
-use pyparse::{LiteralText, LogicalLines, NumberText, ParseFault, Terminal};
-use pysource::Place;
-use pytoken::{Keyword, Refusal, TokenError};
+use pyparse::LogicalLines;
 use pytree_node::Extent;
 use std::alloc::Global;
 use std::process::Abort;
 
-/// There is a next line, or there is none.
-fn comes(rt: &impl Abort, lines: &mut LogicalLines, expected: bool, text: &str) {
-    same(rt, &lines.next(), &Ok(expected), text);
+/// How a line is shown: its level, row and column of its start, and its terminals.
+fn line(rt: &impl Abort, alloc: Global, lines: &LogicalLines<'_>) -> String {
+    let (level, start, terminals) = (lines.level(), lines.start(), lines.terminals());
+    let told = format!(in alloc; "{level} {}:{} {terminals:?}", start.row, start.column);
+    told.expect(rt, "memory")
 }
 
-/// In place of a next line the refusal of the source is reported.
-fn stops(rt: &impl Abort, lines: &mut LogicalLines, refusal: Refusal, text: &str) {
-    let expected = Err(ParseFault::Refused(refusal));
-    same(rt, &lines.next(), &expected, text);
+/// What comes next is this: a line, `Ok(false)` where there is none, or what is said against the
+/// source.
+fn comes(rt: &impl Abort, alloc: Global, lines: &mut LogicalLines<'_>, expected: &str) {
+    let told = lines.next();
+    if told == Ok(true) {
+        same_text(rt, line(rt, alloc, lines).as_str(), expected, "a line");
+    } else {
+        shows(rt, alloc, &told, expected, "no line");
+    }
 }
 
-/// The next line is this one: its level, row and column of its start, terminals.
-fn holds(
-    rt: &impl Abort,
-    lines: &mut LogicalLines,
-    text: &str,
-    line: &(usize, (usize, usize), &[Terminal]),
-) {
-    let (level, start, terminals) = line;
-    comes(rt, lines, true, text);
-    same_number(rt, lines.level(), *level, text);
-    let found = (lines.start().row, lines.start().column);
-    same(rt, &found, start, text);
-    same(rt, &lines.terminals(), terminals, text);
-}
-
-/// The lines of a source are these, and no more, however often it is asked.
-fn gives(
-    rt: &impl Abort,
-    alloc: Global,
-    text: &str,
-    rows: &[(usize, (usize, usize), &[Terminal])],
-) {
+/// What comes of a source is this, and nothing else, however often it is asked.
+fn gives(rt: &impl Abort, alloc: Global, extent: Extent, text: &str, expected: &str) {
     let source = source_of(rt, alloc, text);
-    let mut lines = LogicalLines::new(alloc, &source, Extent::Plain).expect(rt, "memory");
-    for row in rows {
-        holds(rt, &mut lines, text, row);
+    let mut lines = LogicalLines::new(alloc, &source, extent).expect(rt, "memory");
+    let mut last = expected;
+    for field in expected.split(FIELD) {
+        comes(rt, alloc, &mut lines, field);
+        last = field;
     }
-    comes(rt, &mut lines, false, text);
-    comes(rt, &mut lines, false, text);
+    comes(rt, alloc, &mut lines, last);
 }
 
-const COLON: Terminal = Terminal::Op(Exact::Colon);
-
-#[test]
-fn no_line(rt: HostRuntime) {
-    for text in &["", "\n# c\n  # d\n", "\\\n\n"] {
-        gives(&rt, rt.alloc(), text, &[]);
+/// Asserts that of sources.
+fn give(rt: &impl Abort, alloc: Global, extent: Extent, table: &str) {
+    for row in rows(rt, table) {
+        let (text, expected) = two(rt, row);
+        gives(rt, alloc, extent, text, expected);
     }
 }
 
-#[test]
-fn levels(rt: HostRuntime) {
-    gives(
-        &rt,
-        rt.alloc(),
-        "if a:\n  if b:\n    c\n\n  # c\n  d\ne\n",
-        &[
-            (
-                0,
-                (1, 0),
-                &[Terminal::Word(Keyword::If), Terminal::Ident("a"), COLON],
-            ),
-            (
-                1,
-                (2, 2),
-                &[Terminal::Word(Keyword::If), Terminal::Ident("b"), COLON],
-            ),
-            (2, (3, 4), &[Terminal::Ident("c")]),
-            (1, (6, 2), &[Terminal::Ident("d")]),
-            (0, (7, 0), &[Terminal::Ident("e")]),
-        ],
-    );
-}
+/// Sources without a line, of several levels, with lines of several rows, and without the end of
+/// the last line.
+const LINES: &str = "
+?  => Ok(false)
+? \n# c\n  # d\n => Ok(false)
+? \\\n\n => Ok(false)
+? if a:\n  if b:\n    c\n\n  # c\n  d\ne\n \
+  => 0 1:0 [Word(If), Ident(\"a\"), Op(Colon)] \
+  => 1 2:2 [Word(If), Ident(\"b\"), Op(Colon)] \
+  => 2 3:4 [Ident(\"c\")] => 1 6:2 [Ident(\"d\")] => 0 7:0 [Ident(\"e\")] => Ok(false)
+? x = [1,\n 2] # c\n\na + \\\n  b'c'\n \
+  => 0 1:0 [Ident(\"x\"), Op(Equal), Op(LSqb), Whole(1), Op(Comma), Whole(2), Op(RSqb)] \
+  => 0 4:0 [Ident(\"a\"), Op(Plus), Literal(LiteralText { text: \"b'c'\" })] => Ok(false)
+? if x:\n  pass \
+  => 0 1:0 [Word(If), Ident(\"x\"), Op(Colon)] => 1 2:2 [Word(Pass)] => Ok(false)";
 
 #[test]
-fn lines_of_several_rows(rt: HostRuntime) {
-    gives(
-        &rt,
-        rt.alloc(),
-        "x = [1,\n 2] # c\n\na + \\\n  b'c'\n",
-        &[
-            (
-                0,
-                (1, 0),
-                &[
-                    Terminal::Ident("x"),
-                    Terminal::Op(Exact::Equal),
-                    Terminal::Op(Exact::LSqb),
-                    Terminal::Whole(1),
-                    Terminal::Op(Exact::Comma),
-                    Terminal::Whole(2),
-                    Terminal::Op(Exact::RSqb),
-                ],
-            ),
-            (
-                0,
-                (4, 0),
-                &[
-                    Terminal::Ident("a"),
-                    Terminal::Op(Exact::Plus),
-                    Terminal::Literal(LiteralText::new("b'c'").expect(&rt, "a literal")),
-                ],
-            ),
-        ],
-    );
+fn lines(rt: HostRuntime) {
+    give(&rt, rt.alloc(), Extent::Plain, LINES);
 }
 
-#[test]
-fn a_last_line_without_its_end(rt: HostRuntime) {
-    gives(
-        &rt,
-        rt.alloc(),
-        "if x:\n  pass",
-        &[
-            (
-                0,
-                (1, 0),
-                &[Terminal::Word(Keyword::If), Terminal::Ident("x"), COLON],
-            ),
-            (1, (2, 2), &[Terminal::Word(Keyword::Pass)]),
-        ],
-    );
-}
-
-/// So many lines are given before the refusal, which is reported again.
-fn refuses(rt: &impl Abort, alloc: Global, text: &str, given: usize, refusal: Refusal) {
-    let source = source_of(rt, alloc, text);
-    let mut lines = LogicalLines::new(alloc, &source, Extent::Plain).expect(rt, "memory");
-    for _line in 0..given {
-        comes(rt, &mut lines, true, text);
-    }
-    stops(rt, &mut lines, refusal, text);
-    stops(rt, &mut lines, refusal, text);
-}
+/// Sources with a line before what is refused. The fault of the listing comes before all, though it
+/// stands after them. The line before one of mixed tabs and spaces ends where that one begins.
+const REFUSED: &str = "
+? x\ny = 1.5\nz\n \
+  => 0 1:0 [Ident(\"x\")] => Err(Refused(Token(Float, Place { row: 2, column: 4 })))
+? x\ny = 1.5\nz\n)\n \
+  => 0 1:0 [Ident(\"x\")] \
+  => Err(Refused(Listing(ListingFault { place: Place { row: 4, column: 0 }, code: UnmatchedCloser })))
+? if x:\n  y\n\tz\n \
+  => 0 1:0 [Word(If), Ident(\"x\"), Op(Colon)] \
+  => Err(Refused(MixedTabs(Place { row: 3, column: 1 })))
+? x\n# \0\n \
+  => 0 1:0 [Ident(\"x\")] => Err(Refused(Token(Nul, Place { row: 2, column: 0 })))";
 
 #[test]
 fn the_first_reason_behind_lines(rt: HostRuntime) {
-    for (text, given, refusal) in &[
-        (
-            "x\ny = 1.5\nz\n",
-            1,
-            Refusal::Token(TokenError::Float, Place { row: 2, column: 4 }),
-        ),
-        // The fault of the listing comes before all, though it stands after them.
-        (
-            "x\ny = 1.5\nz\n)\n",
-            1,
-            Refusal::Listing(ListingFault {
-                code: ListingError::UnmatchedCloser,
-                place: Place { row: 4, column: 0 },
-            }),
-        ),
-        // The line before it ends where the line of mixed tabs and spaces begins.
-        (
-            "if x:\n  y\n\tz\n",
-            1,
-            Refusal::MixedTabs(Place { row: 3, column: 1 }),
-        ),
-        (
-            "x\n# \0\n",
-            1,
-            Refusal::Token(TokenError::Nul, Place { row: 2, column: 0 }),
-        ),
-    ] {
-        refuses(&rt, rt.alloc(), text, *given, *refusal);
-    }
-}
-
-/// The text of a number.
-fn number<'a>(rt: &impl Abort, alloc: Global, text: &'a str) -> Terminal<'a> {
-    let number = NumberText::new(alloc, Extent::Whole, text).expect(rt, "memory");
-    Terminal::Number(number)
+    give(&rt, rt.alloc(), Extent::Plain, REFUSED);
 }
 
 /// In the whole language a line has numbers that are refused in the plain one.
+const WHOLE: &str = "
+? x\ny + 1.5 - 2j\n \
+  => 0 1:0 [Ident(\"x\")] \
+  => 0 2:0 [Ident(\"y\"), Op(Plus), Number(NumberText { text: \"1.5\" }), Op(Minus), Number(NumberText { text: \"2j\" })] \
+  => Ok(false)";
+
 #[test]
 fn lines_of_the_whole_language(rt: HostRuntime) {
-    let terminals: &[Terminal] = &[
-        Terminal::Ident("y"),
-        Terminal::Op(Exact::Plus),
-        number(&rt, rt.alloc(), "1.5"),
-        Terminal::Op(Exact::Minus),
-        number(&rt, rt.alloc(), "2j"),
-    ];
-    let source = source_of(&rt, rt.alloc(), "x\ny + 1.5 - 2j\n");
-    let mut lines = LogicalLines::new(rt.alloc(), &source, Extent::Whole).expect(&rt, "memory");
-    comes(&rt, &mut lines, true, "numbers");
-    holds(&rt, &mut lines, "numbers", &(0, (2, 0), terminals));
-    comes(&rt, &mut lines, false, "numbers");
+    give(&rt, rt.alloc(), Extent::Whole, WHOLE);
 }
 
 /// A line has at most 600 brackets nested.
@@ -210,15 +106,17 @@ fn brackets(rt: HostRuntime) {
     let text = bracketed(&rt, alloc, 600, "x");
     let source = source_of(&rt, alloc, text.as_str());
     let mut lines = LogicalLines::new(alloc, &source, Extent::Plain).expect(&rt, "memory");
-    comes(&rt, &mut lines, true, "600 brackets");
-    same_number(&rt, lines.terminals().len(), 1201, "600 brackets");
-    comes(&rt, &mut lines, false, "600 brackets");
-    let place = Place {
-        row: 1,
-        column: 600,
-    };
-    let text = bracketed(&rt, alloc, 601, "x");
-    refuses(&rt, alloc, text.as_str(), 0, Refusal::TooDeep(place));
+    shows(&rt, alloc, &lines.next(), "Ok(true)", "600 brackets");
+    let count = lines.terminals().len();
+    shows(&rt, alloc, &count, "1201", "600 brackets");
+    comes(&rt, alloc, &mut lines, "Ok(false)");
+}
+
+#[test]
+fn too_many_brackets(rt: HostRuntime) {
+    let text = bracketed(&rt, rt.alloc(), 601, "x");
+    let expected = "Err(Refused(TooDeep(Place { row: 1, column: 600 })))";
+    gives(&rt, rt.alloc(), Extent::Plain, text.as_str(), expected);
 }
 
 #[test]
@@ -228,20 +126,15 @@ fn two_sources_at_once(rt: HostRuntime) {
     let other = source_of(&rt, alloc, "if x:\n  d\n");
     let mut ones = LogicalLines::new(alloc, &one, Extent::Plain).expect(&rt, "memory");
     let mut others = LogicalLines::new(alloc, &other, Extent::Whole).expect(&rt, "memory");
-    holds(&rt, &mut ones, "one", &(0, (1, 0), &[Terminal::Ident("a")]));
-    comes(&rt, &mut others, true, "other");
-    holds(
+    comes(&rt, alloc, &mut ones, "0 1:0 [Ident(\"a\")]");
+    comes(
         &rt,
+        alloc,
         &mut others,
-        "other",
-        &(1, (2, 2), &[Terminal::Ident("d")]),
+        "0 1:0 [Word(If), Ident(\"x\"), Op(Colon)]",
     );
-    comes(&rt, &mut others, false, "other");
-    holds(
-        &rt,
-        &mut ones,
-        "one",
-        &(0, (2, 0), &[Terminal::Ident("b"), Terminal::Ident("c")]),
-    );
-    comes(&rt, &mut ones, false, "one");
+    comes(&rt, alloc, &mut others, "1 2:2 [Ident(\"d\")]");
+    comes(&rt, alloc, &mut others, "Ok(false)");
+    comes(&rt, alloc, &mut ones, "0 2:0 [Ident(\"b\"), Ident(\"c\")]");
+    comes(&rt, alloc, &mut ones, "Ok(false)");
 }

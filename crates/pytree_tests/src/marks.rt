@@ -1,11 +1,22 @@
 //! Where the terminals of lines stand, as Python's `ast` has it of names, tuples and f-strings.
 
-use crate::expected::{same, same_number};
-use crate::sources::source_of;
-use pyparse_tokens::{LogicalLines, Marks, Span};
+use crate::expected::{holds, same_text, shows};
+use crate::rows::rows;
+use crate::sources::{push, source_of};
+use pyparse_tokens::{LogicalLines, Marks};
 use pytree_node::Extent;
 use std::alloc::Global;
 use std::process::Abort;
+
+/// How marks are shown: by where each begins and ends.
+fn shown(rt: &impl Abort, alloc: Global, marks: &Marks) -> String {
+    let mut out = String::new(alloc);
+    for span in marks.as_slice() {
+        let told = format!(in alloc; " {}-{}", span.from, span.to).expect(rt, "memory");
+        push(rt, &mut out, told.as_str());
+    }
+    out
+}
 
 /// The next line has a terminal at each of these spans.
 fn stand(
@@ -13,50 +24,35 @@ fn stand(
     alloc: Global,
     lines: &mut LogicalLines<'_>,
     marks: &mut Marks,
-    spans: &[(u32, u32)],
-    text: &str,
+    spans: &str,
 ) {
-    let mut expected = Vec::new(alloc);
-    for (from, to) in spans {
-        let span = Span {
-            from: *from,
-            to: *to,
-        };
-        expected.push(span).expect(rt, "memory");
-    }
-    same(rt, &lines.next_marked(marks), &Ok(true), text);
-    same(rt, &marks.as_slice(), &expected.as_slice(), text);
-    same_number(rt, lines.terminals().len(), spans.len(), text);
+    shows(rt, alloc, &lines.next_marked(marks), "Ok(true)", spans);
+    let told = shown(rt, alloc, marks);
+    same_text(rt, told.as_str().trim_start_matches(' '), spans, "a line");
+    let count = lines.terminals().len();
+    holds(rt, marks.as_slice().len() == count, spans);
 }
+
+/// A source with an f-string.
+const TEXT: &str = "\u{feff}\u{e9} = f'\u{fc}{x}' # c\nif a:\n    b = 'c' \\\n 'd'\n";
+
+/// Where the terminals of its lines stand.
+const SPANS: &str = "
+? 0-2 3-4 5-13 5-13 5-13 9-10 10-11 11-12 5-13 5-13 5-13
+? 18-20 21-22 22-23
+? 28-29 30-31 32-35 39-42";
 
 #[test]
 fn lines_with_an_fstring(rt: HostRuntime) {
     let alloc = rt.alloc();
-    let text = "\u{feff}\u{e9} = f'\u{fc}{x}' # c\nif a:\n    b = 'c' \\\n 'd'\n";
-    let source = source_of(&rt, alloc, text);
+    let source = source_of(&rt, alloc, TEXT);
     let mut lines = LogicalLines::new(alloc, &source, Extent::Whole).expect(&rt, "memory");
     let mut marks = Marks::new(alloc);
-    for spans in &[
-        [
-            (0, 2),
-            (3, 4),
-            (5, 13),
-            (5, 13),
-            (5, 13),
-            (9, 10),
-            (10, 11),
-            (11, 12),
-            (5, 13),
-            (5, 13),
-            (5, 13),
-        ]
-        .as_slice(),
-        [(18, 20), (21, 22), (22, 23)].as_slice(),
-        [(28, 29), (30, 31), (32, 35), (39, 42)].as_slice(),
-    ] {
-        stand(&rt, alloc, &mut lines, &mut marks, spans, text);
+    for spans in rows(&rt, SPANS) {
+        stand(&rt, alloc, &mut lines, &mut marks, spans);
     }
-    same(&rt, &lines.next_marked(&mut marks), &Ok(false), text);
-    same(&rt, &marks.are_kept(), &true, text);
-    same(&rt, &Marks::none().are_kept(), &false, text);
+    let last = lines.next_marked(&mut marks);
+    shows(&rt, alloc, &last, "Ok(false)", TEXT);
+    holds(&rt, marks.are_kept(), TEXT);
+    holds(&rt, !Marks::none().are_kept(), TEXT);
 }

@@ -1,6 +1,8 @@
 //! Sizes, the texts and numbers that are kept, and a tree of many classes.
 
-use crate::expected::{holds, same, same_number, same_text};
+use crate::expected::{holds, same_text, shows};
+use crate::module_dumps::is_dumped;
+use crate::rows::rows;
 use crate::sources::module;
 use pytree::{
     Alias, Arg, Comprehension, Constant, Expr, Handler, Identifier, Integer, Item, Keyword, Points,
@@ -11,24 +13,26 @@ use std::process::Abort;
 
 #[test]
 fn sizes(rt: HostRuntime) {
-    let rows = &[
-        (size_of::<Expr>(), 64, "Expr"),
-        (size_of::<Stmt>(), 160, "Stmt"),
-        (size_of::<Identifier>(), 32, "Identifier"),
-        (size_of::<Integer>(), 16, "Integer"),
-        (size_of::<Points>(), 24, "Points"),
-        (size_of::<Constant>(), 40, "Constant"),
-        (size_of::<Arg>(), 48, "Arg"),
-        (size_of::<Keyword>(), 104, "Keyword"),
-        (size_of::<Comprehension>(), 160, "Comprehension"),
-        (size_of::<Handler>(), 136, "Handler"),
-        (size_of::<Item>(), 136, "Item"),
-        (size_of::<Alias>(), 72, "Alias"),
-        (size_of::<TypeParam>(), 112, "TypeParam"),
-    ];
-    for (size, expected, name) in rows {
-        same_number(&rt, *size, *expected, name);
-    }
+    let alloc = rt.alloc();
+    shows(&rt, alloc, &size_of::<Expr>(), "40", "Expr");
+    shows(&rt, alloc, &size_of::<Stmt>(), "72", "Stmt");
+    shows(&rt, alloc, &size_of::<Identifier>(), "16", "Identifier");
+    shows(&rt, alloc, &size_of::<Integer>(), "16", "Integer");
+    shows(&rt, alloc, &size_of::<Points>(), "24", "Points");
+    shows(&rt, alloc, &size_of::<Constant>(), "32", "Constant");
+    shows(&rt, alloc, &size_of::<Arg>(), "32", "Arg");
+    shows(&rt, alloc, &size_of::<Keyword>(), "64", "Keyword");
+    shows(
+        &rt,
+        alloc,
+        &size_of::<Comprehension>(),
+        "112",
+        "Comprehension",
+    );
+    shows(&rt, alloc, &size_of::<Handler>(), "96", "Handler");
+    shows(&rt, alloc, &size_of::<Item>(), "88", "Item");
+    shows(&rt, alloc, &size_of::<Alias>(), "40", "Alias");
+    shows(&rt, alloc, &size_of::<TypeParam>(), "72", "TypeParam");
 }
 
 /// A name.
@@ -49,16 +53,20 @@ fn keeps_name(rt: &impl Abort, alloc: Global, text: &str) {
     );
 }
 
+/// Names of several lengths.
+const NAMES: &str = "
+?\x20
+? x
+? été
+? fourteen_bytes
+? fifteen_bytes_x
+? a_name_of_thirty_bytes_exactly
+? a_name_of_thirty_one_bytes_that
+? os.path.a.b.c.d.e.f.g.h.i.j.k.l.m.n.o.p.q.r.s.t.u.v.w.x.y.z";
+
 #[test]
 fn keeps_names(rt: HostRuntime) {
-    for text in &[
-        "",
-        "x",
-        "été",
-        "a_name_of_thirty_bytes_exactly",
-        "a_name_of_thirty_one_bytes_that",
-        "os.path.a.b.c.d.e.f.g.h.i.j.k.l.m.n.o.p.q.r.s.t.u.v.w.x.y.z",
-    ] {
+    for text in rows(&rt, NAMES) {
         keeps_name(&rt, rt.alloc(), text);
     }
 }
@@ -71,17 +79,26 @@ fn keeps_number(rt: &impl Abort, alloc: Global, number: u128) {
     holds(rt, copy == integer, "a copy");
 }
 
+/// The same of the number of these digits.
+fn keeps_digits(rt: &impl Abort, alloc: Global, digits: &str) {
+    match digits.parse::<u128>() {
+        Ok(number) => keeps_number(rt, alloc, number),
+        Err(_) => panic!(rt; "no number"),
+    }
+}
+
+/// Numbers of several lengths.
+const NUMBERS: &str = "
+? 0
+? 1
+? 18446744073709551615
+? 18446744073709551616
+? 340282366920938463463374607431768211455";
+
 #[test]
 fn keeps_numbers(rt: HostRuntime) {
-    let numbers: &[u128] = &[
-        0,
-        1,
-        18_446_744_073_709_551_615,
-        18_446_744_073_709_551_616,
-        340_282_366_920_938_463_463_374_607_431_768_211_455,
-    ];
-    for number in numbers {
-        keeps_number(&rt, rt.alloc(), *number);
+    for digits in rows(&rt, NUMBERS) {
+        keeps_digits(&rt, rt.alloc(), digits);
     }
 }
 
@@ -97,7 +114,7 @@ fn text_of(rt: &impl Abort, alloc: Global, points: &[u32]) -> Points {
 
 /// Asserts which code points a text has.
 fn has_points(rt: &impl Abort, text: &Points, expected: &[u32]) {
-    same(rt, &text.as_slice(), &expected, "code points");
+    holds(rt, text.as_slice() == expected, "code points");
 }
 
 /// The code points of numbers, if they all are some.
@@ -141,31 +158,12 @@ except E as e:
     e.args: u'a' = b'a'
 ";
 
-/// The number that is assigned by a statement, if there is one of 128 bits.
-fn number_of(stmt: &Stmt) -> Option<u128> {
-    match stmt {
-        Stmt::Assign {
-            targets: _,
-            value: Expr::Constant {
-                value: Constant::Int(number),
-            },
-        } => number.to_u128(),
-        _ => None,
-    }
-}
-
-/// The name that is defined by a statement, if it is a function.
-fn name_of(stmt: &Stmt) -> &str {
-    match stmt {
-        Stmt::FunctionDef { name, .. } => name.as_str(),
-        _ => "",
-    }
-}
+/// Its dump, as Python 3.12 gives it.
+const DUMP: &str =
+    "Module([ImportFrom(names=[alias('a', 'b')], level=2), Assign([Name('x', Store())], Constant(1)), FunctionDef('f', arguments([], [arg('x')], kwonlyargs=[], kw_defaults=[], defaults=[]), [Return(BinOp(ListComp(UnaryOp(USub(), Name('y', Load())), [comprehension(Name('y', Store()), Name('x', Load()), [BoolOp(And(), [Compare(Name('y', Load()), [Lt()], [Constant(1)]), Name('y', Load())])], 0)]), Add(), Subscript(Call(Name('f', Load()), [Starred(Name('x', Load()), Load())], [keyword('key', Dict([None], [Name('x', Load())])), keyword(value=Name('x', Load()))]), Slice(Constant(1)), Load())))], [], type_params=[TypeVar('T')]), Try([Pass()], [ExceptHandler(Name('E', Load()), 'e', [AnnAssign(Attribute(Name('e', Load()), 'args', Store()), Constant('a', 'u'), Constant(b'a'), 0)])], [], [])], [])";
 
 #[test]
 fn makes_and_drops_a_tree(rt: HostRuntime) {
-    let module = module(&rt, rt.alloc(), MANY);
-    assert!(rt; module.body.len() == 4);
-    holds(&rt, number_of(&module.body[1]) == Some(1), "x");
-    same_text(&rt, name_of(&module.body[2]), "f", "f");
+    let tree = module(&rt, rt.alloc(), MANY);
+    is_dumped(&rt, rt.alloc(), &tree, "bare 3.12", DUMP);
 }

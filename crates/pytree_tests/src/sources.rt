@@ -1,6 +1,7 @@
 //! Texts, and the sources and trees that they are.
 
-use pyparse::{Token, parse, tokens_of};
+use crate::rows::{FIELD, number, three};
+use pyparse::{ParseFault, Token, parse, tokens_of};
 use pysource::{SOURCE_LIMIT, Source, decode};
 use pytree::{Expr, Module, Profile, Stmt};
 use pytree_node::{Extent, Version};
@@ -13,7 +14,7 @@ pub(crate) fn push(rt: &impl Abort, out: &mut String, text: &str) {
 }
 
 /// Appends a text so many times.
-pub(crate) fn push_times(rt: &impl Abort, out: &mut String, text: &str, count: usize) {
+pub(crate) fn push_times(rt: &impl Abort, out: &mut String, text: &str, count: u64) {
     for _ in 0..count {
         push(rt, out, text);
     }
@@ -23,7 +24,7 @@ pub(crate) fn push_times(rt: &impl Abort, out: &mut String, text: &str, count: u
 pub(crate) fn nested(
     rt: &impl Abort,
     alloc: Global,
-    count: usize,
+    count: u64,
     before: &str,
     middle: &str,
     behind: &str,
@@ -33,6 +34,14 @@ pub(crate) fn nested(
     push(rt, &mut text, middle);
     push_times(rt, &mut text, behind, count);
     text
+}
+
+/// The same of a row: how many times, the first text, the second and, where it isn't empty, the
+/// third.
+pub(crate) fn nested_row(rt: &impl Abort, alloc: Global, row: &str) -> String {
+    let (count, before, rest) = three(rt, row);
+    let (middle, behind) = rest.split_once(FIELD).unwrap_or((rest, ""));
+    nested(rt, alloc, number(rt, count), before, middle, behind)
 }
 
 /// The source that a text is.
@@ -56,8 +65,29 @@ pub(crate) fn tokens_of_line<'a>(
     tokens
 }
 
+/// What the grammar says against tokens, and the row and column where, as `Syntax 1:0`.
+pub(crate) fn fault_text(rt: &impl Abort, alloc: Global, fault: ParseFault) -> String {
+    let told = match fault {
+        ParseFault::Grammar(error, place) => {
+            format!(in alloc; "{error:?} {}:{}", place.row, place.column)
+        }
+        _ => panic!(rt; "no answer of the grammar"),
+    };
+    told.expect(rt, "memory")
+}
+
+/// What the grammar says against a line, of which this or its dump was told: a dump ends with a
+/// parenthesis.
+pub(crate) fn refusal(told: &str) -> &str {
+    if told.ends_with(')') {
+        "accepted"
+    } else {
+        told
+    }
+}
+
 /// The module that a text is.
-fn module_in(rt: &impl Abort, alloc: Global, text: &str, profile: Profile) -> Module {
+pub(crate) fn module_in(rt: &impl Abort, alloc: Global, text: &str, profile: Profile) -> Module {
     let source = source_of(rt, alloc, text);
     parse(alloc, &source, profile).expect(rt, "a module")
 }
@@ -68,7 +98,7 @@ pub(crate) fn module(rt: &impl Abort, alloc: Global, text: &str) -> Module {
 }
 
 /// Python 3.11 in the whole extent.
-const WHOLE_311: Profile = Profile {
+pub(crate) const WHOLE_311: Profile = Profile {
     version: Version::Py311,
     extent: Extent::Whole,
 };

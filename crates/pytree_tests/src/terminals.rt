@@ -1,11 +1,10 @@
 //! What tokens are to the grammar.
 
-use crate::expected::{holds, same, same_text};
-use pylex::{Exact, Kind};
-use pyparse::{
-    Literal, LiteralText, NumberText, Terminal, TerminalFault, terminal_of, token_fault,
-};
-use pytoken::{Keyword, TokenError};
+use crate::expected::{holds, same_text, shows};
+use crate::rows::{rows, three, two};
+use crate::words::kind_of;
+use pylex::Kind;
+use pyparse::{Literal, LiteralText, NumberText, terminal_of, token_fault};
 use pytree_node::{Constant, Extent};
 use std::alloc::Global;
 use std::process::Abort;
@@ -15,11 +14,12 @@ fn is_terminal(
     rt: &impl Abort,
     alloc: Global,
     extent: Extent,
-    token: (Kind, &str),
-    expected: Result<Terminal, TerminalFault>,
+    kind: Kind,
+    text: &str,
+    expected: &str,
 ) {
-    let (kind, text) = token;
-    same(rt, &terminal_of(alloc, extent, kind, text), &expected, text);
+    let told = terminal_of(alloc, extent, kind, text);
+    shows(rt, alloc, &told, expected, text);
 }
 
 /// Asserts the fault that a token has by itself, or that it has none.
@@ -27,35 +27,32 @@ fn has_fault(
     rt: &impl Abort,
     alloc: Global,
     extent: Extent,
-    token: (Kind, &str),
-    expected: Option<TokenError>,
+    kind: Kind,
+    text: &str,
+    expected: &str,
 ) {
-    let (kind, text) = token;
-    same(
-        rt,
-        &token_fault(alloc, extent, kind, text),
-        &Ok(expected),
-        text,
-    );
+    let told = token_fault(alloc, extent, kind, text).expect(rt, "memory");
+    shows(rt, alloc, &told, expected, text);
 }
+
+/// Types of tokens, texts, and the terminals that they are.
+const TERMINALS: &str = "
+? Name => if => Ok(Word(If))
+? Name => match => Ok(Ident(\"match\"))
+? Name => é_1 => Ok(Ident(\"é_1\"))
+? Number => 31 => Ok(Whole(31))
+? Number => 0x_1f => Ok(Number(NumberText { text: \"0x_1f\" }))
+? Op => **= => Ok(Op(DoubleStarEqual))
+? Newline => \n => Ok(Layout)
+? Comment => # c => Ok(Layout)";
 
 #[test]
 fn terminals(rt: HostRuntime) {
-    let alloc = rt.alloc();
-    let radix = NumberText::new(alloc, Extent::Plain, "0x_1f").expect(&rt, "memory");
-    for (kind, text, terminal) in &[
-        (Kind::Name, "if", Terminal::Word(Keyword::If)),
-        (Kind::Name, "match", Terminal::Ident("match")),
-        (Kind::Name, "é_1", Terminal::Ident("é_1")),
-        (Kind::Number, "31", Terminal::Whole(31)),
-        (Kind::Number, "0x_1f", Terminal::Number(radix)),
-        (Kind::Op, "**=", Terminal::Op(Exact::DoubleStarEqual)),
-        (Kind::Newline, "\n", Terminal::Layout),
-        (Kind::Comment, "# c", Terminal::Layout),
-    ] {
-        let token = (*kind, *text);
-        is_terminal(&rt, alloc, Extent::Plain, token, Ok(*terminal));
-        is_terminal(&rt, alloc, Extent::Whole, token, Ok(*terminal));
+    for row in rows(&rt, TERMINALS) {
+        let (name, text, expected) = three(&rt, row);
+        let kind = kind_of(&rt, name);
+        is_terminal(&rt, rt.alloc(), Extent::Plain, kind, text, expected);
+        is_terminal(&rt, rt.alloc(), Extent::Whole, kind, text, expected);
     }
 }
 
@@ -63,83 +60,101 @@ fn terminals(rt: HostRuntime) {
 fn is_number(rt: &impl Abort, alloc: Global, text: &str) {
     let number = NumberText::new(alloc, Extent::Whole, text).expect(rt, "memory");
     same_text(rt, number.as_str(), text, text);
-    let token = (Kind::Number, text);
-    is_terminal(
-        rt,
-        alloc,
-        Extent::Whole,
-        token,
-        Ok(Terminal::Number(number)),
-    );
-    has_fault(rt, alloc, Extent::Whole, token, None);
+    let expected = format!(in alloc; "Ok(Number({number:?}))").expect(rt, "memory");
+    let expected = expected.as_str();
+    is_terminal(rt, alloc, Extent::Whole, Kind::Number, text, expected);
+    has_fault(rt, alloc, Extent::Whole, Kind::Number, text, "None");
 }
 
-/// Numbers that have a fault in the plain language are terminals of the whole one.
+/// Numbers that have a fault in the plain language.
+const WHOLE_NUMBERS: &str = "
+? 1.5
+? 1j
+? 340282366920938463463374607431768211456";
+
+/// They are terminals of the whole one.
 #[test]
 fn numbers_of_the_whole_language(rt: HostRuntime) {
-    for text in &["1.5", "1j", "340282366920938463463374607431768211456"] {
+    for text in rows(&rt, WHOLE_NUMBERS) {
         is_number(&rt, rt.alloc(), text);
     }
+}
+
+/// The number of a terminal has a value.
+#[test]
+fn value_of_a_number(rt: HostRuntime) {
     let number = NumberText::new(rt.alloc(), Extent::Whole, "2j").expect(&rt, "memory");
     let value = number.value(rt.alloc()).expect(&rt, "memory");
-    holds(
-        &rt,
-        matches!(value, Constant::Imaginary(_)),
-        "an imaginary number",
-    );
+    let is_imaginary = matches!(value, Constant::Imaginary(_));
+    holds(&rt, is_imaginary, "an imaginary number");
 }
+
+/// Asserts the fault of a token in the plain language.
+fn is_faulty(rt: &impl Abort, alloc: Global, kind: Kind, text: &str, fault: &str) {
+    let refused = format!(in alloc; "Err(Token({fault}))").expect(rt, "memory");
+    let refused = refused.as_str();
+    is_terminal(rt, alloc, Extent::Plain, kind, text, refused);
+    let told = format!(in alloc; "Some({fault})").expect(rt, "memory");
+    has_fault(rt, alloc, Extent::Plain, kind, text, told.as_str());
+}
+
+/// Types of tokens, texts and faults.
+const FAULTY: &str = "
+? Name => ｉｆ => NameForm
+? Number => 1j => Complex
+? String => f'' => FString
+? String => '\\x4' => BadEscape
+? Comment => # \0 => Nul";
 
 #[test]
 fn faulty_tokens(rt: HostRuntime) {
-    let alloc = rt.alloc();
-    for (kind, text, fault) in &[
-        (Kind::Name, "ｉｆ", TokenError::NameForm),
-        (Kind::Number, "1j", TokenError::Complex),
-        (Kind::String, "f''", TokenError::FString),
-        (Kind::String, "'\\x4'", TokenError::BadEscape),
-        (Kind::Comment, "# \0", TokenError::Nul),
-    ] {
-        let token = (*kind, *text);
-        let refused = Err(TerminalFault::Token(*fault));
-        is_terminal(&rt, alloc, Extent::Plain, token, refused);
-        has_fault(&rt, alloc, Extent::Plain, token, Some(*fault));
+    for row in rows(&rt, FAULTY) {
+        let (name, text, fault) = three(&rt, row);
+        is_faulty(&rt, rt.alloc(), kind_of(&rt, name), text, fault);
     }
 }
+
+/// F-strings, and their faults in the whole language.
+const FSTRINGS: &str = "
+? f'' => None
+? f'a{b!r:{c}}' => None
+? Rf'\\N{x}' => None
+? f'{a b}' => None
+? f'{f\"{x}\"}' => None
+? f'}' => Some(FString)
+? f'{}' => Some(FString)
+? f'{$}' => Some(FString)
+? f'{x.ｉｆ}' => Some(FString)
+? f'{f\"}\"}' => Some(FString)
+? f'{f\"{x=}\"}' => Some(FString)
+? f'''{\"'\"}''' => Some(FString)
+? f'\\x4}' => Some(FString)
+? f'\\N{DASH}\\x4' => Some(NamedEscape)
+? f'{x:\\x4}' => Some(BadEscape)
+? f'{x}\0' => Some(Nul)";
 
 /// What is wrong with an f-string in the whole language: with what it is cut into, its texts, or the
 /// tokens of its fields. Where these have no form, that is no fault of a token.
 #[test]
 fn faults_of_fstrings(rt: HostRuntime) {
-    let alloc = rt.alloc();
-    for (text, fault) in &[
-        ("f''", None),
-        ("f'a{b!r:{c}}'", None),
-        ("Rf'\\N{x}'", None),
-        ("f'{a b}'", None),
-        ("f'{f\"{x}\"}'", None),
-        ("f'}'", Some(TokenError::FString)),
-        ("f'{}'", Some(TokenError::FString)),
-        ("f'{$}'", Some(TokenError::FString)),
-        ("f'{x.ｉｆ}'", Some(TokenError::FString)),
-        ("f'{f\"}\"}'", Some(TokenError::FString)),
-        ("f'{f\"{x=}\"}'", Some(TokenError::FString)),
-        ("f'''{\"'\"}'''", Some(TokenError::FString)),
-        ("f'\\x4}'", Some(TokenError::FString)),
-        ("f'\\N{DASH}\\x4'", Some(TokenError::NamedEscape)),
-        ("f'{x:\\x4}'", Some(TokenError::BadEscape)),
-        ("f'{x}\0'", Some(TokenError::Nul)),
-    ] {
-        let token = (Kind::String, *text);
-        has_fault(&rt, alloc, Extent::Whole, token, *fault);
-        let plain = Some(TokenError::FString);
-        has_fault(&rt, alloc, Extent::Plain, token, plain);
+    for row in rows(&rt, FSTRINGS) {
+        let (text, fault) = two(&rt, row);
+        has_fault(&rt, rt.alloc(), Extent::Whole, Kind::String, text, fault);
+        has_fault(
+            &rt,
+            rt.alloc(),
+            Extent::Plain,
+            Kind::String,
+            text,
+            "Some(FString)",
+        );
     }
 }
 
-/// Asserts that a literal stands for these bytes.
-fn is_bytes(rt: &impl Abort, literal: &Literal, expected: &[u8]) {
+/// Asserts that a literal stands for bytes, which are shown so.
+fn is_bytes(rt: &impl Abort, alloc: Global, literal: &Literal, expected: &str) {
     match literal {
-        Literal::Bytes(bytes) => same(rt, &bytes.as_slice(), &expected, "bytes"),
+        Literal::Bytes(bytes) => shows(rt, alloc, &bytes.as_slice(), expected, "bytes"),
         _ => panic!(rt; "bytes are no text"),
     }
 }
@@ -150,5 +165,5 @@ fn literals(rt: HostRuntime) {
     holds(&rt, literal.is_bytes(), "bytes");
     same_text(&rt, literal.as_str(), "Rb'\\x'", "bytes");
     let value = literal.value(rt.alloc()).expect(&rt, "memory");
-    is_bytes(&rt, &value, b"\\x");
+    is_bytes(&rt, rt.alloc(), &value, "[92, 120]");
 }

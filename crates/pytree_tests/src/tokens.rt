@@ -1,90 +1,45 @@
 //! The tokens of sources.
 
-use crate::expected::{holds, same_number};
+use crate::expected::same_text;
+use crate::rows::{rows, two};
 use crate::sources::source_of;
-use pylex::Kind;
 use pyparse::{Token, tokens_of};
 use pytree_node::Extent;
 use std::alloc::Global;
 use std::process::Abort;
 
-/// Whether a token has this kind, row and column of the start, and text.
-fn is_row(token: &Token<'_>, row: &(Kind, (usize, usize), &str)) -> bool {
-    let (kind, start, text) = row;
-    let found = (token.start.row, token.start.column);
-    token.kind == *kind && found == *start && token.text == *text
+/// Appends how a token is shown: its kind, the row and column of its start, and its text.
+fn push_shown(rt: &impl Abort, alloc: Global, out: &mut String, token: &Token<'_>) {
+    let (row, column) = (token.start.row, token.start.column);
+    let told = format!(in alloc; " {:?} {row}:{column} <{}>", token.kind, token.text);
+    out.push_str(told.expect(rt, "memory").as_str())
+        .expect(rt, "memory");
 }
 
-/// The tokens of a source are these: kind, row and column of the start, text.
-fn gives(rt: &impl Abort, alloc: Global, text: &str, rows: &[(Kind, (usize, usize), &str)]) {
+/// The tokens of a source are shown so.
+fn gives(rt: &impl Abort, alloc: Global, text: &str, expected: &str) {
     let source = source_of(rt, alloc, text);
     let tokens = tokens_of(alloc, &source, Extent::Plain).expect(rt, "tokens");
-    same_number(rt, tokens.len(), rows.len(), text);
-    for (token, row) in tokens.iter().zip(rows) {
-        holds(rt, is_row(token, row), text);
+    let mut told = String::new(alloc);
+    for token in &tokens {
+        push_shown(rt, alloc, &mut told, token);
     }
+    same_text(rt, told.as_str().trim_start_matches(' '), expected, text);
 }
 
-#[test]
-fn leaves_out_comments_and_empty_lines(rt: HostRuntime) {
-    gives(
-        &rt,
-        rt.alloc(),
-        "# c\n\nx # d\n",
-        &[
-            (Kind::Name, (3, 0), "x"),
-            (Kind::Newline, (3, 5), "\n"),
-            (Kind::EndMarker, (4, 0), ""),
-        ],
-    );
-}
+/// Comments and empty lines are left out. Of a line without tokens its line end is dropped. The
+/// last line end is supplied. Names are as they are spelled.
+const TOKENS: &str = "
+? # c\n\nx # d\n => Name 3:0 <x> Newline 3:5 <\n> EndMarker 4:0 <>
+? \\\n\nx\n => Name 3:0 <x> Newline 3:1 <\n> EndMarker 4:0 <>
+? if x:\n  '''\n# ''' \
+  => Name 1:0 <if> Name 1:3 <x> Op 1:4 <:> Newline 1:5 <\n> Indent 2:0 <  > String 2:2 <'''\n# '''> Newline 3:5 <> Dedent 4:0 <> EndMarker 4:0 <>
+? ﬁ = 1\r\n => Name 1:0 <ﬁ> Op 1:2 <=> Number 1:4 <1> Newline 1:5 <\r\n> EndMarker 2:0 <>";
 
 #[test]
-fn drops_the_line_end_of_a_line_without_tokens(rt: HostRuntime) {
-    gives(
-        &rt,
-        rt.alloc(),
-        "\\\n\nx\n",
-        &[
-            (Kind::Name, (3, 0), "x"),
-            (Kind::Newline, (3, 1), "\n"),
-            (Kind::EndMarker, (4, 0), ""),
-        ],
-    );
-}
-
-#[test]
-fn supplies_the_last_line_end(rt: HostRuntime) {
-    gives(
-        &rt,
-        rt.alloc(),
-        "if x:\n  '''\n# '''",
-        &[
-            (Kind::Name, (1, 0), "if"),
-            (Kind::Name, (1, 3), "x"),
-            (Kind::Op, (1, 4), ":"),
-            (Kind::Newline, (1, 5), "\n"),
-            (Kind::Indent, (2, 0), "  "),
-            (Kind::String, (2, 2), "'''\n# '''"),
-            (Kind::Newline, (3, 5), ""),
-            (Kind::Dedent, (4, 0), ""),
-            (Kind::EndMarker, (4, 0), ""),
-        ],
-    );
-}
-
-#[test]
-fn keeps_names_as_they_are_spelled(rt: HostRuntime) {
-    gives(
-        &rt,
-        rt.alloc(),
-        "ﬁ = 1\r\n",
-        &[
-            (Kind::Name, (1, 0), "ﬁ"),
-            (Kind::Op, (1, 2), "="),
-            (Kind::Number, (1, 4), "1"),
-            (Kind::Newline, (1, 5), "\r\n"),
-            (Kind::EndMarker, (2, 0), ""),
-        ],
-    );
+fn tokens(rt: HostRuntime) {
+    for row in rows(&rt, TOKENS) {
+        let (text, expected) = two(&rt, row);
+        gives(&rt, rt.alloc(), text, expected);
+    }
 }

@@ -1,0 +1,74 @@
+//! What words in rows stand for.
+
+use pygrammar::{Level, PatternLevel};
+use pylex::Kind;
+use pytree::{Profile, Style};
+use std::process::Abort;
+
+/// The blanks of a level that are told behind another word, if any are.
+fn indent_of(words: &str) -> Option<u8> {
+    match words.split_once(' ') {
+        Some((_, blanks)) => blanks.parse::<u8>().ok(),
+        None => None,
+    }
+}
+
+/// The style of a dump: `names` or `bare`, for with all names or without. Behind that stands `3.12`
+/// for that Python instead of 3.11, or how many blanks a level has on lines.
+pub(crate) fn style_of(words: &str) -> Style {
+    Style {
+        indent: indent_of(words),
+        names: words.starts_with("names"),
+        profile: if words.ends_with("3.12") {
+            Profile::PLAIN_312
+        } else {
+            Profile::PLAIN_311
+        },
+    }
+}
+
+/// The level of a name.
+pub(crate) fn level_of(rt: &impl Abort, name: &str) -> Level {
+    match name {
+        "Value" => Level::Value,
+        "Stars" => Level::Stars,
+        "StarItem" => Level::StarItem,
+        "Named" => Level::Named,
+        "Expression" => Level::Expression,
+        "Or" => Level::Or,
+        "Factor" => Level::Factor,
+        "Power" => Level::Power,
+        "Await" => Level::Await,
+        "Primary" => Level::Primary,
+        "Atom" => Level::Atom,
+        "Elem" => Level::Elem,
+        "Slices" => Level::Slices,
+        "Slice" => Level::Slice,
+        _ => panic!(rt; "no level: {name:?}"),
+    }
+}
+
+/// The level of patterns of a name.
+pub(crate) fn pattern_level_of(rt: &impl Abort, name: &str) -> PatternLevel {
+    match name {
+        "Patterns" => PatternLevel::Patterns,
+        "StarPattern" => PatternLevel::StarPattern,
+        "AsPattern" => PatternLevel::AsPattern,
+        "OrPattern" => PatternLevel::OrPattern,
+        "ClosedPattern" => PatternLevel::ClosedPattern,
+        _ => panic!(rt; "no level of patterns: {name:?}"),
+    }
+}
+
+/// The type of tokens of a name.
+pub(crate) fn kind_of(rt: &impl Abort, name: &str) -> Kind {
+    match name {
+        "Name" => Kind::Name,
+        "Number" => Kind::Number,
+        "String" => Kind::String,
+        "Op" => Kind::Op,
+        "Newline" => Kind::Newline,
+        "Comment" => Kind::Comment,
+        _ => panic!(rt; "no type of tokens: {name:?}"),
+    }
+}
