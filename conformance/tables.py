@@ -26,7 +26,7 @@ The source is what these lines say, one after the other; none is the source with
     /- x = 1                  the same of parts of a line
     * 600 (~1 x~600 )         parts, each after how often it comes, with `~` between them
     + 499 if x:~if y:         so many lines, these in turn, each a blank deeper than the one before; the blanks of the next line follow
-    ..                        each front of the source is a source, of which `answers_fronts` asks what is said there
+    ..                        each front of the source is a source, and nothing is due but what `answers_fronts` says
 
 What is due, which is nothing where no line says it:
 
@@ -34,15 +34,15 @@ What is due, which is nothing where no line says it:
     - 1,0-1,1 NAME 'x'        the line of an entry: its places, its type and its text
     -* 9 1,0-1,1 OP '('       so many entries of one line, one behind the other; the first is given
     @ Constant(value=1)       `dump` writes the module that is this expression, while `>` is what others write
-    ? pyast                   a text within what is written, which isn't compared otherwise; none: something is written
+    ? pyast                   a text within what is written, which isn't compared otherwise; without a text, something is written
     ! <stdin>:1:0: error: ..  the line of a fault; of several, any one of them is reported
     !- <stdin>:1:0: error: .. the same by commands without `--whole`, which write nothing, while the other lines are for those with it
     = 2                       the status, where it isn't 0 without a fault and 1 with one
 
 What `unparse` has to write is given to it as well, and has to come back.
 
-With an `e` behind its mark a line has escapes: `\t \n \r \0 \\`, `\xff` for a byte, `\u{e9}` for a character. A tab, a control character or a blank at
-the end of a line has to be written so.
+With an `e` behind its mark, as in `|e \tx`, a line has escapes: `\t \n \r \0 \\`, `\xff` for a byte, `\u{e9}` for a character. What can't be seen,
+as a tab or a blank at the end of a line, has to be written so.
 """
 
 import argparse
@@ -63,12 +63,12 @@ PLAIN_ESCAPES = {b"t": b"\t", b"n": b"\n", b"r": b"\r", b"0": b"\0", b"\\": b"\\
 # What has to be written as an escape: what can't be seen.
 UNSEEN = re.compile(r"[\x00-\x1f\x7f-\xa0\ufeff]| $")
 PLACES = re.compile(r"(\d+),(\d+)-(\d+),(\d+)")
-# What is expected of a run: each text that may be written, the texts within it where it is None, the lines one of which is reported, the status.
+# What is due of a run: what is written, or, if it isn't None, the texts within that; the lines of which one is reported; the status.
 Due = collections.namedtuple("Due", "written within faults status")
 
 
 class BadRow(Exception):
-    """What a line says that no row can say."""
+    """A line or a row that can't be read."""
 
 
 # --- rows ---------------------------------------------------------------------------------------------------------------
@@ -91,6 +91,10 @@ class Row:
         for part in self.parts:
             made = [before + text for before in made for text in part]
         return made
+
+    def says_what_is_due(self):
+        """Whether a line of it says what is due."""
+        return bool(self.written or self.faults or self.plain_faults) or (self.tree, self.within, self.status) != (None, None, None)
 
     def words_of(self, command):
         """The words of a command."""
@@ -219,10 +223,11 @@ class Table:
     def end_row(self):
         """Ends the row that is being read, if one is."""
         if self.row:
-            if not self.row.commands:
-                self.row.commands = list(self.commands)
+            self.row.commands = self.row.commands or list(self.commands)
             if not self.row.commands:
                 raise BadRow("a row without a command")
+            if self.row.fronts and self.row.says_what_is_due():
+                raise BadRow("what is due of each front")
             self.rows.append(self.row)
         self.row = None
 
@@ -254,8 +259,10 @@ def rows_of(path):
         table.end_row()
     except OSError as error:
         refuse(f"{path}: {error.strerror}")
-    except (BadRow, ValueError, AttributeError) as error:
+    except BadRow as error:
         refuse(f"{table.name}:{number}: {error}")
+    except (ValueError, AttributeError):
+        refuse(f"{table.name}:{number}: what is behind the mark can't be read")
     return table.rows
 
 
@@ -391,6 +398,8 @@ def main():
         refuse(f"{program} isn't there")
     files = options.files or sorted(glob.glob(os.path.join(TABLES, "*.txt")))
     rows = [row for path in files for row in rows_of(path)]
+    if not rows:
+        refuse("there are no rows")
     results = try_rows(program, rows, options.jobs)
     for _, failures in results:
         for text in failures:
