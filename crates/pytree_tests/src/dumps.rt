@@ -1,23 +1,15 @@
 //! Dumps of expressions and modules, as Python gives them: in one and in pieces, with places too.
 
 use crate::expected::{holds, same_text};
+use crate::expressions::dumped;
 use crate::rows::{rows, three, two};
 use crate::sources::{expression, fault_text, module, source_of};
 use crate::words::style_of;
 use pyparse::parse;
-use pytree::{
-    Expr, Module, Pieces, PlacedPieces, Profile, Shown, Style, dump, dump_expr, dump_placed,
-};
+use pytree::{Module, Pieces, PlacedPieces, Profile, Shown, Style, dump, dump_placed};
 use pytree_dump::{ListedPlaces, PlaceSource};
 use std::alloc::Global;
 use std::process::Abort;
-
-/// The dump of an expression, which is dropped.
-fn dumped(rt: &impl Abort, alloc: Global, tree: Expr, style: Style) -> String {
-    let text = dump_expr(alloc, &tree, style);
-    drop(tree);
-    text.expect(rt, "memory")
-}
 
 /// Expressions, styles and dumps.
 const EXPRESSIONS: &str = "
@@ -41,7 +33,7 @@ fn dumps_expressions(rt: HostRuntime) {
     for row in rows(&rt, EXPRESSIONS) {
         let (text, style, expected) = three(&rt, row);
         let tree = expression(&rt, rt.alloc(), text);
-        let told = dumped(&rt, rt.alloc(), tree, style_of(style));
+        let told = dumped(&rt, rt.alloc(), tree, style);
         same_text(&rt, told.as_str(), expected, text);
     }
 }

@@ -12,9 +12,9 @@ use pyunparse::{Piece, expression_tokens, pattern_tokens};
 use std::alloc::Global;
 use std::process::Abort;
 
-/// The dump of an expression, which is dropped.
-pub(crate) fn dumped(rt: &impl Abort, alloc: Global, tree: Expr) -> String {
-    let text = dump_expr(alloc, &tree, style_of("bare"));
+/// The dump of an expression in the style of some words. It is dropped.
+pub(crate) fn dumped(rt: &impl Abort, alloc: Global, tree: Expr, style: &str) -> String {
+    let text = dump_expr(alloc, &tree, style_of(style));
     drop(tree);
     text.expect(rt, "memory")
 }
@@ -25,12 +25,13 @@ fn read(rt: &impl Abort, alloc: Global, text: &str, level: Level) -> String {
     let source = source_of(rt, alloc, text);
     let tokens = tokens_of_line(rt, alloc, &source);
     match parse_expression(alloc, tokens.as_slice(), level) {
-        Ok(tree) => dumped(rt, alloc, tree),
+        Ok(tree) => dumped(rt, alloc, tree, "bare"),
         Err(fault) => fault_text(rt, alloc, fault),
     }
 }
 
-/// Lines, levels, and the trees of the lines as Python 3.11 dumps them, or what is said against them.
+/// Lines, levels, and the trees of the lines as Python 3.11 dumps them, or what is said against
+/// them.
 const EXPRESSIONS: &str = "
 ? a, b => Stars => Tuple([Name('a', Load()), Name('b', Load())], Load())
 ? a, b => Expression => Syntax 1:0

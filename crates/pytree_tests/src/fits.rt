@@ -14,8 +14,8 @@ use pytree::{
 use std::alloc::Global;
 use std::process::Abort;
 
-/// In which extents of the language an expression is well formed at a level: `both`, `whole` for the
-/// whole one alone, or `none`. It is dropped.
+/// In which extents of the language an expression is well formed at a level: `both`, `whole` for
+/// the whole one alone, or `none`. It is dropped.
 fn extents(rt: &impl Abort, alloc: Global, tree: Expr, level: Level) -> &'static str {
     let plain = well_formed_at(alloc, &tree, level, Extent::Plain);
     let whole = well_formed_at(alloc, &tree, level, Extent::Whole);
@@ -37,9 +37,9 @@ fn extents(rt: &impl Abort, alloc: Global, tree: Expr, level: Level) -> &'static
 ///
 /// An f-string has texts that aren't empty, no two side by side, and fields, which stand nowhere
 /// else. A format spec is an f-string, and the specs in it have no fields. All texts have the same
-/// kind, but for the last one of a format spec, which has none. The value of a field is an expression
-/// that may stand anywhere. Within it stand characters that need no escape; in two fields there is no
-/// literal.
+/// kind, but for the last one of a format spec, which has none. The value of a field is an
+/// expression that may stand anywhere. Within it stand characters that need no escape; in two
+/// fields there is no literal.
 const EXPRESSIONS: &str = "
 ? Expression => $fi => both
 ? Expression => =fi => none

@@ -1,8 +1,8 @@
 //! Tests of `pytoken`, `pyparse`, the tree's crates and `pyunparse`: each call once where all goes
 //! well, and once where it refuses; what no command of the program shows, as levels of the grammar,
 //! tokens, copies; and trees that no source gives, made of those of sources by a change or by hand.
-//! What a source gives is compared by `conformance/tables.py`. What is expected was taken from Python
-//! 3.11 and 3.12 (`ast.literal_eval`, `ast.parse`, `ast.dump`).
+//! What a source gives is compared by `conformance/tables.py`. What is expected was taken from
+//! Python 3.11 and 3.12 (`ast.literal_eval`, `ast.parse`, `ast.dump`).
 #![tactic(auto)]
 
 #[cfg(test)]

@@ -36,12 +36,14 @@ fn gives(rt: &impl Abort, alloc: Global, extent: Extent, text: &str, expected: &
     }
 }
 
-/// Extents, sources, and what comes of them; what comes last comes again, however often it is asked.
+/// Extents, sources, and what comes of them; what comes last comes again, however often it is
+/// asked.
 ///
 /// There are sources without a line, of several levels, with lines of several rows, and without the
 /// end of the last line; and sources with a line before what is refused. The fault of the listing
 /// comes before all, though it stands after them. The line before one of mixed tabs and spaces ends
-/// where that one begins. In the whole language a line has numbers that are refused in the plain one.
+/// where that one begins. In the whole language a line has numbers that are refused in the plain
+/// one.
 const LINES: &str = "
 ? Plain =>  => Ok(false) => Ok(false)
 ? Plain => \n# c\n  # d\n => Ok(false) => Ok(false)

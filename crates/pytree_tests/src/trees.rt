@@ -15,8 +15,8 @@ fn has_heights(rt: &impl Abort, alloc: Global, tree: &Module, expected: &str, at
     same_text(rt, shown.expect(rt, "memory").as_str(), expected, at);
 }
 
-/// Texts, and their heights. A keyword is no expression; an f-string and a field count one each, and
-/// so does a format spec.
+/// Texts, and their heights. A keyword is no expression; an f-string and a field count one each,
+/// and so does a format spec.
 const HEIGHTS: &str = "
 ?  => 0 0
 ? pass => 0 1
@@ -64,9 +64,9 @@ fn copy_of(rt: &impl Abort, alloc: Global, tree: Module) -> Module {
     made
 }
 
-/// Asserts that a copy of the first text's tree is the same as another tree of that text, and whether
-/// it is the same as that of the second. A copy stands by itself: it is whole once the tree that it
-/// was made of is dropped.
+/// Asserts that a copy of the first text's tree is the same as another tree of that text, and
+/// whether it is the same as that of the second. A copy stands by itself: it is whole once the tree
+/// that it was made of is dropped.
 fn is_copied(rt: &impl Abort, alloc: Global, text: &str, other: &str, expected: &str) {
     let made = copy_of(rt, alloc, module(rt, alloc, text));
     let again = module(rt, alloc, text);

@@ -16,7 +16,7 @@ use std::process::Abort;
 
 /// The dump of a constant, which is dropped.
 fn shown(rt: &impl Abort, alloc: Global, value: Constant) -> String {
-    dumped(rt, alloc, Expr::Constant { value })
+    dumped(rt, alloc, Expr::Constant { value }, "bare")
 }
 
 /// What a number stands for, or its fault.
