@@ -33,7 +33,10 @@ What is due, which is nothing where no line says it:
     > x = 1                   a line that is written
     - 1,0-1,1 NAME 'x'        the line of an entry: its places, its type and its text
     -* 9 1,0-1,1 OP '('       so many entries of one line, one behind the other; the first is given
+    >* 1 x~499  + x           parts of what is written, as a source has them by `*`, without an LF behind them
+    >+ 499 if x:~if y:        lines that are written, as a source has them by `+`, each four blanks deeper
     @ Constant(value=1)       `dump` writes the module that is this expression, while `>` is what others write
+    @* 499 Await(~1 1~499 )   the same, by parts of the expression
     ? pyast                   a text within what is written, which isn't compared otherwise; without a text, something is written
     ! <stdin>:1:0: error: ..  the line of a fault; of several, any one of them is reported
     !- <stdin>:1:0: error: .. the same by commands without `--whole`, which write nothing, while the other lines are for those with it
@@ -150,12 +153,12 @@ def repeated(text):
     return b"".join(part * int(count) for count, part in parts)
 
 
-def nested(text):
-    """So many lines in turn, each a blank deeper, and the blanks of the next one."""
+def nested(text, deeper=b" "):
+    """So many lines in turn, each deeper by some blanks, and the blanks of the next one."""
     count, lines = text.split(b" ", 1)
     lines = lines.split(b"~")
-    made = b"".join(b" " * at + lines[at % len(lines)] + b"\n" for at in range(int(count)))
-    return made + b" " * int(count)
+    made = b"".join(deeper * at + lines[at % len(lines)] + b"\n" for at in range(int(count)))
+    return made + deeper * int(count)
 
 
 def put(row, mark, text):
@@ -193,9 +196,12 @@ SOURCE_MARKS = {"|": lambda text: text + b"\n", "|-": bytes, "*": repeated, "+":
 RUN_MARKS = {"^": "joined", "<": "file"}
 DUE_MARKS = {
     ">": lambda row, text: add_written(row, text + b"\n"),
+    ">*": lambda row, text: add_written(row, repeated(text)),
+    ">+": lambda row, text: add_written(row, nested(text, b"    ")),
     "-": lambda row, text: add_written(row, entry_line(text.decode())),
     "-*": lambda row, text: add_written(row, entry_lines(text.decode())),
     "@": lambda row, text: setattr(row, "tree", text),
+    "@*": lambda row, text: setattr(row, "tree", repeated(text)),
     "?": put_within,
     "!": lambda row, text: row.faults.append(text + b"\n"),
     "!-": lambda row, text: row.plain_faults.append(text + b"\n"),
