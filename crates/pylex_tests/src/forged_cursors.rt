@@ -1,7 +1,8 @@
 //! Cursors that a source does not have, but nearly.
 
-use crate::expected::{same_answer, same_text};
-use crate::stream_lister::source_of;
+use crate::expected::{holds, push, same_text};
+use crate::lister::source_of;
+use crate::rows::number;
 use fakes::FakeReader;
 use pylex::{Cursor, CursorFault, Lister, ResumeFault, Step, StreamLister};
 use pysource::Source;
@@ -14,36 +15,45 @@ const BYTES: &[u8] = b"if a:\n if b:\n  c\nd\n";
 /// The numbers of the source's cursors, one after each count of entries: the entries given, the
 /// offset, the row, the open brackets, whether a line has begun, the entries of empty text, and
 /// then the levels.
-const CURSORS: &[&[usize]] = &[
-    &[0, 0, 1, 0, 0, 0, 0],
-    &[1, 0, 1, 0, 0, 0, 0],
-    &[2, 2, 1, 0, 1, 0, 0],
-    &[3, 4, 1, 0, 1, 0, 0],
-    &[4, 5, 1, 0, 1, 0, 0],
-    &[5, 6, 2, 0, 0, 0, 0],
-    &[6, 7, 2, 0, 1, 0, 0, 1],
-    &[7, 9, 2, 0, 1, 0, 0, 1],
-    &[8, 11, 2, 0, 1, 0, 0, 1],
-    &[9, 12, 2, 0, 1, 0, 0, 1],
-    &[10, 13, 3, 0, 0, 0, 0, 1],
-    &[11, 15, 3, 0, 1, 0, 0, 1, 2],
-    &[12, 16, 3, 0, 1, 0, 0, 1, 2],
-    &[13, 17, 4, 0, 0, 0, 0, 1, 2],
-    &[14, 17, 4, 0, 0, 1, 0, 1, 2],
-    &[15, 17, 4, 0, 0, 2, 0, 1, 2],
-    &[16, 18, 4, 0, 1, 0, 0],
-    &[17, 19, 5, 0, 0, 0, 0],
-    &[18, 19, 5, 0, 0, 1, 0],
-];
+const CURSORS: &str = "\
+0 0 1 0 0 0 0
+1 0 1 0 0 0 0
+2 2 1 0 1 0 0
+3 4 1 0 1 0 0
+4 5 1 0 1 0 0
+5 6 2 0 0 0 0
+6 7 2 0 1 0 0 1
+7 9 2 0 1 0 0 1
+8 11 2 0 1 0 0 1
+9 12 2 0 1 0 0 1
+10 13 3 0 0 0 0 1
+11 15 3 0 1 0 0 1 2
+12 16 3 0 1 0 0 1 2
+13 17 4 0 0 0 0 1 2
+14 17 4 0 0 1 0 1 2
+15 17 4 0 0 2 0 1 2
+16 18 4 0 1 0 0
+17 19 5 0 0 0 0
+18 19 5 0 0 1 0
+";
 
-/// Whether these are the numbers of a cursor of the source.
-fn are_known(numbers: &[usize]) -> bool {
-    CURSORS.iter().any(|cursor| *cursor == numbers)
+/// The numbers of a line.
+fn numbers_of(rt: &impl Abort, alloc: Global, line: &str) -> Vec<usize> {
+    let mut numbers = Vec::new(alloc);
+    for field in line.split(' ') {
+        numbers.push(number(rt, field)).expect(rt, "memory");
+    }
+    numbers
 }
 
-/// Appends a text.
-fn push(rt: &impl Abort, out: &mut String, text: &str) {
-    out.push_str(text).expect(rt, "memory");
+/// Whether these are the numbers of a cursor of the source.
+fn are_known(rt: &impl Abort, alloc: Global, numbers: &[usize]) -> bool {
+    for line in CURSORS.lines() {
+        if numbers_of(rt, alloc, line).as_slice() == numbers {
+            return true;
+        }
+    }
+    false
 }
 
 /// Appends a number.
@@ -110,15 +120,15 @@ fn both_go_on(
     expected: bool,
     text: &str,
 ) {
-    same_answer(rt, goes_on(rt, alloc, source, cursor), expected, text);
-    same_answer(rt, goes_on_by_lines(rt, alloc, cursor), expected, text);
+    holds(rt, goes_on(rt, alloc, source, cursor) == expected, text);
+    holds(rt, goes_on_by_lines(rt, alloc, cursor) == expected, text);
 }
 
 /// Asserts that after the cursor of a text, where it is a cursor's.
 fn go_on(rt: &impl Abort, alloc: Global, source: &Source, text: &str, expected: bool) {
     match Cursor::from_text(alloc, text) {
         Ok(cursor) => both_go_on(rt, alloc, source, &cursor, expected, text),
-        Err(CursorFault::Text) => same_answer(rt, false, expected, text),
+        Err(CursorFault::Text) => holds(rt, !expected, text),
         Err(_) => panic!(rt; "another fault of a text"),
     }
 }
@@ -126,7 +136,8 @@ fn go_on(rt: &impl Abort, alloc: Global, source: &Source, text: &str, expected: 
 /// Numbers are gone on after where the source has a cursor of them, and else refused.
 fn only_own(rt: &impl Abort, alloc: Global, source: &Source, numbers: &[usize]) {
     let text = text_of(rt, alloc, numbers);
-    go_on(rt, alloc, source, text.as_str(), are_known(numbers));
+    let expected = are_known(rt, alloc, numbers);
+    go_on(rt, alloc, source, text.as_str(), expected);
 }
 
 /// That of a cursor's numbers with another one, or none, in place of the one at an index.
@@ -156,49 +167,54 @@ fn only_own_near(rt: &impl Abort, alloc: Global, source: &Source, cursor: &[usiz
     }
 }
 
-/// The text of a lister's cursor.
-fn told(rt: &impl Abort, lister: &Lister) -> String {
+/// That of the numbers of a line, and of those near them.
+fn only_own_of(rt: &impl Abort, alloc: Global, source: &Source, line: &str) {
+    let numbers = numbers_of(rt, alloc, line);
+    only_own(rt, alloc, source, numbers.as_slice());
+    only_own_near(rt, alloc, source, numbers.as_slice());
+}
+
+/// Asserts the numbers of a lister's cursor.
+fn stands_at(rt: &impl Abort, alloc: Global, lister: &Lister, line: &str) {
     let cursor = lister.cursor().expect(rt, "memory");
-    cursor.to_text().expect(rt, "memory")
+    let told = cursor.to_text().expect(rt, "memory");
+    let numbers = numbers_of(rt, alloc, line);
+    let expected = text_of(rt, alloc, numbers.as_slice());
+    same_text(rt, told.as_str(), expected.as_str(), line);
 }
 
-/// Asserts the text of a lister's cursor.
-fn stands_at(rt: &impl Abort, alloc: Global, lister: &Lister, numbers: &[usize]) {
-    let told = told(rt, lister);
-    let expected = text_of(rt, alloc, numbers);
-    same_text(rt, told.as_str(), expected.as_str(), expected.as_str());
-}
-
-#[test]
-fn has_these_cursors_alone(rt: HostRuntime) {
-    let source = source_of(&rt, rt.alloc(), BYTES);
-    let mut lister = Lister::new(rt.alloc(), &source);
+/// The source has these cursors, and no others.
+fn has_these(rt: &impl Abort, alloc: Global, source: &Source) {
+    let mut lister = Lister::new(alloc, source);
     let mut ended = false;
-    for cursor in CURSORS {
-        same_answer(&rt, ended, false, "an end");
-        stands_at(&rt, rt.alloc(), &lister, cursor);
-        ended = matches!(lister.next().expect(&rt, "memory"), Step::End);
+    for line in CURSORS.lines() {
+        holds(rt, !ended, line);
+        stands_at(rt, alloc, &lister, line);
+        ended = matches!(lister.next().expect(rt, "memory"), Step::End);
     }
-    same_answer(&rt, ended, true, "the end");
+    holds(rt, ended, "the end");
 }
 
 #[test]
 fn goes_on_behind_own_cursors_alone(rt: HostRuntime) {
     let source = source_of(&rt, rt.alloc(), BYTES);
-    for cursor in CURSORS {
-        only_own(&rt, rt.alloc(), &source, cursor);
-        only_own_near(&rt, rt.alloc(), &source, cursor);
+    has_these(&rt, rt.alloc(), &source);
+    for line in CURSORS.lines() {
+        only_own_of(&rt, rt.alloc(), &source, line);
     }
-}
-
-#[test]
-fn refuses_more_dedents_than_were_given(rt: HostRuntime) {
-    let source = source_of(&rt, rt.alloc(), BYTES);
-    let texts = &[
-        ("pytok1 14 17 4 0 0 1 0,1,2", true),
-        ("pytok1 14 17 4 0 0 2 0,1,2", false),
-    ];
-    for (text, expected) in texts {
-        go_on(&rt, rt.alloc(), &source, text, *expected);
-    }
+    // The second of two levels that close was given, or one more than that.
+    go_on(
+        &rt,
+        rt.alloc(),
+        &source,
+        "pytok1 14 17 4 0 0 1 0,1,2",
+        true,
+    );
+    go_on(
+        &rt,
+        rt.alloc(),
+        &source,
+        "pytok1 14 17 4 0 0 2 0,1,2",
+        false,
+    );
 }
