@@ -3,7 +3,7 @@
 //!
 //! A row begins on a line of its own with `? `, and between two fields of it stands ` => `. A field
 //! is what stands there, its blanks too. It has the escapes of a literal, so that a line feed in it
-//! is written `\n`, and a blank at the end of a line `\x20`.
+//! is written `\n`, and a blank at the end of a line `\x20`. A long row is broken by `\`.
 
 use std::process::Abort;
 use std::str::Split;

@@ -92,4 +92,5 @@ fn cuts_lexemes(rt: HostRuntime) {
         is_exact(&rt, row);
     }
     holds(&rt, exact_of("<>").is_none(), "<>");
+    holds(&rt, !begins_significant(""), "nothing");
 }

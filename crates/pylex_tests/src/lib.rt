@@ -26,9 +26,9 @@ mod rows;
 #[cfg(test)]
 mod sources;
 #[cfg(test)]
-mod stream_lister;
-#[cfg(test)]
 mod stream_lines;
+#[cfg(test)]
+mod stream_lister;
 #[cfg(test)]
 mod streams;
 #[cfg(test)]

@@ -33,7 +33,10 @@ fn writes(rt: &impl Abort, alloc: Global, entry: &Entry, text: &str, exact: bool
     let mut told = line_text(alloc, entry, text, exact).expect(rt, "memory");
     same_text(rt, told.as_str(), line, text);
     push_line(&mut told, entry, text, exact).expect(rt, "memory");
-    let pushed = told.as_str().strip_prefix(line).expect(rt, "the first line");
+    let pushed = told
+        .as_str()
+        .strip_prefix(line)
+        .expect(rt, "the first line");
     same_text(rt, pushed, line, text);
 }
 

@@ -3,8 +3,9 @@
 //!
 //! A row begins on a line of its own with `? `, and between two fields of it stands ` => `. A field
 //! is what stands there, its blanks too. It has the escapes of a literal, so that a line feed in it
-//! is written `\n`, and a blank at the end of a line `\x20`.
+//! is written `\n`, and a blank at the end of a line `\x20`. A long row is broken by `\`.
 
+use pysource::{Source, decode};
 use std::alloc::Global;
 use std::process::Abort;
 use std::str::Split;
@@ -60,4 +61,10 @@ pub(crate) fn bytes_of(rt: &impl Abort, alloc: Global, field: &str) -> Vec<u8> {
             .expect(rt, "memory");
     }
     bytes
+}
+
+/// The source of a few bytes.
+pub(crate) fn source_of(rt: &impl Abort, alloc: Global, bytes: &[u8]) -> Source {
+    assert!(rt; bytes.len() < 100);
+    decode(alloc, bytes).expect(rt, "a source")
 }

@@ -1,8 +1,9 @@
 //! The text of a source, and the fault that ends it; rows and columns of offsets.
 
+use crate::encodings::shown_fault;
 use crate::expected::{error_name, same_text};
 use crate::rows::{bytes_of, number, rows, three};
-use pysource::{Place, Source, SourceFault, decode, place_of};
+use pysource::{Source, decode, place_of};
 use std::alloc::Global;
 use std::process::Abort;
 
@@ -10,45 +11,31 @@ use std::process::Abort;
 /// if one does; or that they are refused.
 const SOURCES: &str = "
 ? \u{FEFF}x\r\ny => utf-8, x\r\ny => none
-? a\nb¶\n => utf-8, a\n => not UTF-8 2:1
-? x\r¶\n => utf-8,  => lone return 1:1
-? # coding: ascii\n# é\n => ascii, # coding: ascii\n => not ASCII 2:2
-? # x\n# coding: latin-1\n => refused => unsupported encoding 2:0
-? \u{FEFF}# coding: ascii\n => refused => byte order mark with another encoding 1:0";
-
-/// A fault, and where it stands.
-fn placed(rt: &impl Abort, alloc: Global, fault: &str, place: Place) -> String {
-    format!(in alloc; "{fault} {}:{}", place.row, place.column).expect(rt, "memory")
-}
+? a\nb¶\n => utf-8, a\n => not UTF-8 at 2:1
+? x\r¶\n => utf-8,  => lone return at 1:1
+? # coding: ascii\n# é\n => ascii, # coding: ascii\n => not ASCII at 2:2
+? # x\n# coding: latin-1\n => refused => unsupported encoding at 2:0
+? \u{FEFF}# coding: ascii\n => refused => byte order mark with another encoding at 1:0";
 
 /// The fault that ends the text of a source.
 fn fault_of(rt: &impl Abort, alloc: Global, source: &Source) -> String {
     match source.line_fault() {
-        Some(fault) => placed(rt, alloc, error_name(fault.code), fault.place),
-        None => String::from_str(alloc, "none").expect(rt, "memory"),
+        Some(fault) => {
+            let (name, place) = (error_name(fault.code), fault.place);
+            format!(in alloc; "{name} at {}:{}", place.row, place.column)
+        }
+        None => String::from_str(alloc, "none"),
     }
+    .expect(rt, "memory")
 }
 
 /// Asserts the encoding and the text of a source, and the fault that ends it.
 fn is_source(rt: &impl Abort, alloc: Global, source: &Source, text: &str, fault: &str) {
-    let told = format!(in alloc; "{}, {}", source.encoding().text(), source.text());
-    same_text(rt, told.expect(rt, "memory").as_str(), text, text);
+    let told = format!(in alloc; "{}, {}", source.encoding().text(), source.text()).expect(
+        rt, "memory",
+    );
+    same_text(rt, told.as_str(), text, text);
     same_text(rt, fault_of(rt, alloc, source).as_str(), fault, text);
-}
-
-/// Asserts why bytes are refused.
-fn is_refused(rt: &impl Abort, alloc: Global, refusal: &SourceFault, expected: &str) {
-    match refusal {
-        SourceFault::UnsupportedEncoding(place) => {
-            let told = placed(rt, alloc, "unsupported encoding", *place);
-            same_text(rt, told.as_str(), expected, "a refusal");
-        }
-        SourceFault::BomConflict(place) => {
-            let told = placed(rt, alloc, "byte order mark with another encoding", *place);
-            same_text(rt, told.as_str(), expected, "a refusal");
-        }
-        SourceFault::Memory => panic!(rt; "memory"),
-    }
 }
 
 /// Asserts what a row's bytes are.
@@ -58,7 +45,7 @@ fn decodes_as(rt: &impl Abort, alloc: Global, row: &str) {
     assert!(rt; bytes.as_slice().len() < 100);
     match decode(alloc, bytes.as_slice()) {
         Ok(source) => is_source(rt, alloc, &source, text, fault),
-        Err(refusal) => is_refused(rt, alloc, &refusal, fault),
+        Err(refusal) => same_text(rt, shown_fault(rt, alloc, &refusal).as_str(), fault, field),
     }
 }
 

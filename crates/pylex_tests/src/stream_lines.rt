@@ -4,7 +4,7 @@
 use crate::expected::{holds, same_text};
 use crate::rows::{number, rows, three, two};
 use fakes::FakeReader;
-use pylex::{Cursor, Entry, Kind, Lister, ListingError, ResumeFault, Step, StreamLister};
+use pylex::{Cursor, Entry, Lister, ListingError, ResumeFault, Step, StreamLister};
 use pysource::{ByteIn, LineError, StreamFault, decode};
 use std::alloc::Global;
 use std::process::Abort;
@@ -141,46 +141,28 @@ fn holds_the_lines_of_an_entry(rt: HostRuntime) {
     }
 }
 
-/// The next step is an entry of this type.
-fn gives_kind(rt: &impl Abort, lines: &mut StreamLister<FakeReader<'_>>, kind: Kind) {
-    holds(rt, next_entry(rt, lines).kind == kind, kind.name());
-}
-
-/// The next step is the name of a row, which is all that is held.
-fn gives_name(rt: &impl Abort, lines: &mut StreamLister<FakeReader<'_>>, row: usize) {
-    let Step::Entry(entry) = lines.next().expect(rt, "memory") else {
-        panic!(rt; "no entry");
-    };
-    holds(rt, entry.start.row == row, "a row");
-    same_text(rt, lines.text(&entry), "x", "a name");
-    same_text(rt, lines.held(), "x\n", "a line");
-}
-
 /// So much is left of the bytes that no more than 8 KiB were read ahead of a row.
 fn reads_little(rt: &impl Abort, left: usize, row: usize) {
     assert!(rt; row <= 50_000);
     assert!(rt; left <= 100_000 && 100_000 - left <= 2 * row + 8_192);
 }
 
-/// The next steps are the lines of these rows.
-fn gives_rows(rt: &impl Abort, lines: &mut StreamLister<FakeReader<'_>>, rows: usize) {
-    for row in 0..rows {
-        gives_name(rt, lines, row + 1);
-        reads_little(rt, lines.reader().left().len(), row + 1);
-        gives_kind(rt, lines, Kind::Newline);
-    }
-}
-
 /// A source of so many lines of two bytes is listed, and one line of it held at a time.
 fn holds_one_line(rt: &impl Abort, alloc: Global, bytes: &[u8], rows: usize) {
     let reader = FakeReader::new(bytes, 9_000, false);
     let mut lines = StreamLister::new(alloc, reader).expect(rt, "a lister");
-    gives_kind(rt, &mut lines, Kind::Encoding);
-    reads_little(rt, lines.reader().left().len(), 1);
-    gives_rows(rt, &mut lines, rows);
-    gives_kind(rt, &mut lines, Kind::EndMarker);
-    let last = lines.next().expect(rt, "memory");
-    holds(rt, last == Step::End, "the end");
+    gives_entry(rt, &mut lines, "utf-8");
+    for row in 0..rows {
+        gives_entry(rt, &mut lines, "x");
+        same_text(rt, lines.held(), "x\n", "a line");
+        reads_little(rt, lines.reader().left().len(), row + 1);
+        gives_entry(rt, &mut lines, "\n");
+    }
+    gives_entry(rt, &mut lines, "");
+    let cursor = lines.cursor().expect(rt, "memory");
+    let told = cursor.to_text().expect(rt, "memory");
+    let expected = "pytok1 100002 100000 50001 0 0 1 0";
+    same_text(rt, told.as_str(), expected, "the end");
 }
 
 #[test]

@@ -1,10 +1,9 @@
 //! Listings of sources that are read line by line: they are those of sources that are held whole.
 
 use crate::expected::{holds, same_text};
-use crate::lister::source_of;
-use crate::rows::{bytes_of, rows};
+use crate::rows::{bytes_of, rows, source_of};
 use fakes::FakeReader;
-use pylex::{Cursor, Entry, Kind, Lister, ResumeFault, Step, StreamLister};
+use pylex::{Entry, Kind, Lister, Step, StreamLister};
 use pysource::Source;
 use std::alloc::Global;
 use std::process::Abort;
@@ -14,6 +13,7 @@ const SOURCES: &str = "
 ? x = 1\n
 ?\x20
 ? if x:\n\ty\n
+? if x:\n  y\n  \x0c  z\n
 ? if a:\n if b:\n  c\nd\n
 ? x = (1,\n # c\n 2)\n
 ? '''a\nb\nc''' \\\n + 'c'\n
@@ -38,11 +38,6 @@ fn text_at<'a>(source: &'a Source, entry: &Entry) -> Option<&'a str> {
     }
 }
 
-/// The next step of a listing that is read line by line.
-fn next(rt: &impl Abort, lines: &mut StreamLister<FakeReader<'_>>) -> Step {
-    lines.next().expect(rt, "memory")
-}
-
 /// The next step of both listers is the same, and tells whether it is an entry. A last step is
 /// given again.
 fn goes_one_on_as(
@@ -61,15 +56,11 @@ fn goes_one_on_as(
             true
         }
         _ => {
-            holds(rt, next(rt, lines) == expected, source.text());
+            let again = lines.next().expect(rt, "memory");
+            holds(rt, again == expected, source.text());
             false
         }
     }
-}
-
-/// The text of a cursor.
-fn text_of(rt: &impl Abort, cursor: &Cursor) -> String {
-    cursor.to_text().expect(rt, "memory")
 }
 
 /// The cursors of both listers have the same text.
@@ -79,15 +70,11 @@ fn stands_as(
     whole: &Lister,
     lines: &StreamLister<FakeReader<'_>>,
 ) {
-    let expected = whole.cursor().expect(rt, "memory");
-    let told = lines.cursor().expect(rt, "memory");
-    let expected = text_of(rt, &expected);
-    same_text(
-        rt,
-        text_of(rt, &told).as_str(),
-        expected.as_str(),
-        source.text(),
-    );
+    let cursor = whole.cursor().expect(rt, "memory");
+    let expected = cursor.to_text().expect(rt, "memory");
+    let cursor = lines.cursor().expect(rt, "memory");
+    let told = cursor.to_text().expect(rt, "memory");
+    same_text(rt, told.as_str(), expected.as_str(), source.text());
 }
 
 /// Both listers give the same from here on, up to the end or the fault, and that again.
@@ -106,16 +93,24 @@ fn goes_on_as(
     panic!(rt; "no end");
 }
 
-/// Both listers give the same of a source whose bytes are read one at a time.
-fn lists_alike(rt: &impl Abort, alloc: Global, source: &Source, bytes: &[u8]) {
+/// Both listers give the same of a source of which at most so many bytes are read at once.
+fn lists_alike(rt: &impl Abort, alloc: Global, source: &Source, bytes: &[u8], most: usize) {
+    assert!(rt; 0 < most);
     let mut whole = Lister::new(alloc, source);
-    let mut lines = StreamLister::new(alloc, FakeReader::new(bytes, 1, false)).expect(
+    let mut lines = StreamLister::new(alloc, FakeReader::new(bytes, most, false)).expect(
         rt, "a lister",
     );
     goes_on_as(rt, source, &mut whole, &mut lines);
 }
 
-/// Both listers give the same after the cursor of one.
+/// The next step of two listers is the same.
+fn goes_on_once(rt: &impl Abort, mut lister: Lister, mut other: Lister, at: &str) {
+    let step = lister.next().expect(rt, "memory");
+    let expected = other.next().expect(rt, "memory");
+    holds(rt, step == expected, at);
+}
+
+/// Both listers give the same after the cursor of one, whether it is checked or not.
 fn goes_on_alike(rt: &impl Abort, alloc: Global, source: &Source, bytes: &[u8], lister: &Lister) {
     let cursor = lister.cursor().expect(rt, "memory");
     let mut whole = Lister::resume_checked(alloc, source, &cursor).expect(rt, "a lister");
@@ -125,6 +120,9 @@ fn goes_on_alike(rt: &impl Abort, alloc: Global, source: &Source, bytes: &[u8], 
         &cursor,
     ).expect(rt, "a lister");
     goes_on_as(rt, source, &mut whole, &mut lines);
+    let resumed = Lister::resume(alloc, source, &cursor).expect(rt, "a lister");
+    let checked = Lister::resume_checked(alloc, source, &cursor).expect(rt, "a lister");
+    goes_on_once(rt, resumed, checked, source.text());
 }
 
 /// Both listers give the same after each cursor of a source.
@@ -138,28 +136,13 @@ fn goes_on_anywhere(rt: &impl Abort, alloc: Global, source: &Source, bytes: &[u8
     }
 }
 
-/// Whether a cursor is refused as one of another source.
-fn is_refused(alloc: Global, bytes: &[u8], cursor: &Cursor) -> bool {
-    matches!(
-        StreamLister::resume_checked(alloc, FakeReader::new(bytes, 1, false), cursor),
-        Err(ResumeFault::AnotherSource)
-    )
-}
-
-/// Asserts that the cursor of a text is refused as one of another source.
-fn refuses(rt: &impl Abort, alloc: Global, bytes: &[u8], text: &str) {
-    let cursor = Cursor::from_text(alloc, text).expect(rt, "a cursor");
-    holds(rt, is_refused(alloc, bytes, &cursor), text);
-}
-
 #[test]
 fn lists_as_a_lister_does(rt: HostRuntime) {
     for row in rows(&rt, SOURCES) {
         let bytes = bytes_of(&rt, rt.alloc(), row);
         let source = source_of(&rt, rt.alloc(), bytes.as_slice());
-        lists_alike(&rt, rt.alloc(), &source, bytes.as_slice());
+        lists_alike(&rt, rt.alloc(), &source, bytes.as_slice(), 1);
+        lists_alike(&rt, rt.alloc(), &source, bytes.as_slice(), 100);
         goes_on_anywhere(&rt, rt.alloc(), &source, bytes.as_slice());
     }
-    refuses(&rt, rt.alloc(), b"x\n", "pytok1 5 2 2 0 0 1 0");
-    refuses(&rt, rt.alloc(), b"x\n\xff\n", "pytok1 5 2 2 0 0 1 0");
 }

@@ -1,4 +1,5 @@
-//! String literals, and those that run over several lines.
+//! String literals, and those that run over several lines. More rows stand in
+//! `conformance/tables/lexemes.txt`.
 
 use crate::expected::holds;
 use crate::rows::{answer, rows, three};
@@ -9,25 +10,16 @@ use std::process::Abort;
 /// string.
 const STRINGS: &str = "
 ? ' => true => false
-? \"a => true => false
-? Rb' => true => false
 ? f\" => true => false
-? u'' => true => false
 ?  => false => false
-? b => false => false
 ? rx' => false => false
 ? ur' => false => false
-? a' => false => false
 ?  ' => false => false
 ? ''' => true => true
-? rb\"\"\"a\n => true => true
 ? 'a\\\n => true => true
 ? '\\\na\\\r\n => true => true
-? 'a\n => true => false
 ? 'a\\ => true => false
-? 'a\\\nb => true => false
 ? 'a\\\n\n => true => false
-? a\\\n => false => false
 ? ''\\\n => true => false";
 
 /// Asserts of a row's text whether it opens a string, and whether more text could end that.
@@ -43,15 +35,10 @@ fn opens(rt: &impl Abort, row: &str) {
 const LINES: &str = "
 ? '''\n => a\n => true
 ? '''\n => \"\"\" '' \\'''\n => true
-? rb\"\"\"\r\n => \\\"\"\"\\\r\n => true
 ? \"\"\"\\\n => \"\" '''\\\n => true
 ? '''\n => a'''\n => false
 ? \"\"\"\r\n => \\\\\"\"\"\r\n => false
-? '\\\n => a\\\n => true
 ? 'a\\\n => \\'\" \\\\\\\n => true
-? f\"\\\r\n => \\\"'\\\r\n => true
-? '\\\n => \\\n => true
-? '\\\n => a\n => false
 ? '\\\n => a\\\\\n => false
 ? \"\\\r\n => a\"\\\r\n => false";
 
