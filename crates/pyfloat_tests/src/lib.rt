@@ -1,5 +1,5 @@
-//! Tests of `pynatural` and `pyfloat`: rows whose outcome was taken from Python 3.11, and each call
-//! once where all goes well.
+//! Tests of `pynatural` and `pyfloat`: each call once where all goes well, what is shown of their
+//! values, and the limit of digits. Expected texts were taken from Python 3.11.
 #![tactic(auto)]
 
 #[cfg(test)]
@@ -7,14 +7,6 @@ mod doubles;
 #[cfg(test)]
 mod expected;
 #[cfg(test)]
-mod halfway;
-#[cfg(test)]
 mod naturals;
 #[cfg(test)]
-mod powers;
-#[cfg(test)]
 mod rows;
-#[cfg(test)]
-mod samples;
-#[cfg(test)]
-mod spellings;

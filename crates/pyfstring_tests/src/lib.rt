@@ -5,22 +5,14 @@
 
 pub mod collect;
 #[cfg(test)]
+mod cuts;
+#[cfg(test)]
 mod expected;
 #[cfg(test)]
-mod expressions;
+mod rows;
 #[cfg(test)]
-mod fields;
-#[cfg(test)]
-mod format_specs;
-#[cfg(test)]
-mod line_ends;
-#[cfg(test)]
-mod long;
-#[cfg(test)]
-mod samples;
+mod shown;
 #[cfg(test)]
 mod singles;
-#[cfg(test)]
-mod texts;
 #[cfg(test)]
 mod tokens;

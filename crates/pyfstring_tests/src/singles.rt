@@ -1,29 +1,33 @@
 //! Texts with one brace for each two, worked by hand.
 
 use crate::expected::same_text;
+use crate::rows::{rows, three};
 use pyfstring::single;
 use std::alloc::Global;
 use std::process::Abort;
 
-/// Asserts what a text has for its braces.
-fn is_single(rt: &impl Abort, alloc: Global, text: &str, is_raw: bool, wanted: &str) {
-    let found = single(alloc, text, is_raw).expect(rt, "memory");
+/// The rows: `plain` or `raw`, a text, and what it has for its braces.
+const SINGLES: &str = "
+? plain =>  =>\x20
+? plain => abc => abc
+? plain => {{a}} => {a}
+? raw => {{{{}} => {{}
+? plain => \\{{x}} => \\{x}
+? plain => \\\\{{ => \\\\{
+? plain => \\N{{}}} => \\N{{}}
+? raw => \\N{{ => \\N{
+? plain => é\\é𝒳}} => é\\é𝒳}";
+
+/// Asserts what a row's text has for its braces.
+fn is_single(rt: &impl Abort, alloc: Global, row: &str) {
+    let (words, text, wanted) = three(rt, row);
+    let found = single(alloc, text, words == "raw").expect(rt, "memory");
     same_text(rt, found.as_str(), wanted, text);
 }
 
 #[test]
 fn singles(rt: HostRuntime) {
-    for (text, is_raw, wanted) in &[
-        ("", false, ""),
-        ("abc", false, "abc"),
-        ("{{a}}", false, "{a}"),
-        ("{{{{}}", true, "{{}"),
-        ("\\{{x}}", false, "\\{x}"),
-        ("\\\\{{", false, "\\\\{"),
-        ("\\N{{}}}", false, "\\N{{}}"),
-        ("\\N{{", true, "\\N{"),
-        ("é\\é𝒳}}", false, "é\\é𝒳}"),
-    ] {
-        is_single(&rt, rt.alloc(), text, *is_raw, wanted);
+    for row in rows(&rt, SINGLES) {
+        is_single(&rt, rt.alloc(), row);
     }
 }

@@ -2,6 +2,7 @@
 
 use crate::collect::collect;
 use crate::expected::{push, same_text};
+use crate::rows::{rows, two};
 use pyfstring_tokens::{Class, FieldFault};
 use std::alloc::Global;
 use std::process::Abort;
@@ -44,88 +45,46 @@ fn told(
     told
 }
 
-/// Asserts what a text gives.
-fn is_told(rt: &impl Abort, alloc: Global, text: &str, expected: &str) {
+/// Asserts what a row's text gives.
+fn is_told(rt: &impl Abort, alloc: Global, row: &str) {
+    let (text, expected) = two(rt, row);
     let mut tokens = Vec::new(alloc);
     let fault = collect(text, &mut tokens).expect(rt, "memory");
     let found = told(rt, alloc, tokens.as_slice(), fault);
     same_text(rt, found.as_str(), expected, text);
 }
 
-/// Asserts what the texts of some rows give.
-fn are_told(rt: &impl Abort, alloc: Global, rows: &[(&str, &str)]) {
-    for (text, expected) in rows {
-        is_told(rt, alloc, text, expected);
-    }
-}
+/// The rows: a field's text, the type and the text of each token, a line for each, and behind them
+/// what stops the reader. Within parentheses no line ends, and brackets in strings are none; `a)(b`
+/// in parentheses has tokens, but its own brackets don't match.
+const TOKENS: &str = "
+? x => NAME x\n
+?  été +b  => NAME été\nOP +\nNAME b\n
+?  =>\x20
+? x:=1.5j => NAME x\nOP :=\nNUMBER 1.5j\n
+? not x!=0xfe => NAME not\nNAME x\nOP !=\nNUMBER 0xfe\n
+? f(*y)[0] => NAME f\nOP (\nOP *\nNAME y\nOP )\nOP [\nNUMBER 0\nOP ]\n
+? {1: (a]} => OP {\nNUMBER 1\nOP :\nOP (\nNAME a\nOP ]\nOP }\n
+? x\n  + 1 => NAME x\nOP +\nNUMBER 1\n
+? x\r\n+ 1\n => NAME x\nOP +\nNUMBER 1\n
+?   \n =>\x20
+? x \\\n  y => NAME x\nNAME y\n
+? 'a)' \"(\" => STRING 'a)'\nSTRING \"(\"\n
+? '''a\n)''' => STRING '''a\n)'''\n
+? a $ b => NAME a\nno token
+? x! => NAME x\nno token
+? 'abc => no token
+? '''a => no token
+? (a => OP (\nNAME a\nunclosed
+? {(} => OP {\nOP (\nOP }\nunclosed
+? a)(b => NAME a\ncloser
+? ] => closer
+? # c => comment
+? a # b\n + c => NAME a\ncomment";
 
 #[test]
 fn gives_tokens(rt: HostRuntime) {
-    are_told(
-        &rt,
-        rt.alloc(),
-        &[
-            ("x", "NAME x\n"),
-            (" été +b ", "NAME été\nOP +\nNAME b\n"),
-            ("", ""),
-            ("x:=1.5j", "NAME x\nOP :=\nNUMBER 1.5j\n"),
-            ("not x!=0xfe", "NAME not\nNAME x\nOP !=\nNUMBER 0xfe\n"),
-            (
-                "f(*y)[0]",
-                "NAME f\nOP (\nOP *\nNAME y\nOP )\nOP [\nNUMBER 0\nOP ]\n",
-            ),
-            (
-                "{1: (a]}",
-                "OP {\nNUMBER 1\nOP :\nOP (\nNAME a\nOP ]\nOP }\n",
-            ),
-        ],
-    );
-}
-
-/// Within parentheses no line ends, and brackets in strings are none.
-#[test]
-fn gives_tokens_over_lines(rt: HostRuntime) {
-    are_told(
-        &rt,
-        rt.alloc(),
-        &[
-            ("x\n  + 1", "NAME x\nOP +\nNUMBER 1\n"),
-            ("x\r\n+ 1\n", "NAME x\nOP +\nNUMBER 1\n"),
-            ("  \n", ""),
-            ("x \\\n  y", "NAME x\nNAME y\n"),
-            ("'a)' \"(\"", "STRING 'a)'\nSTRING \"(\"\n"),
-            ("'''a\n)'''", "STRING '''a\n)'''\n"),
-        ],
-    );
-}
-
-#[test]
-fn tells_faults(rt: HostRuntime) {
-    are_told(
-        &rt,
-        rt.alloc(),
-        &[
-            ("a $ b", "NAME a\nno token"),
-            ("x!", "NAME x\nno token"),
-            ("'abc", "no token"),
-            ("'''a", "no token"),
-            ("(a", "OP (\nNAME a\nunclosed"),
-            ("{(}", "OP {\nOP (\nOP }\nunclosed"),
-        ],
-    );
-}
-
-/// `a)(b` in parentheses has tokens, but its own brackets don't match.
-#[test]
-fn tells_what_no_field_has(rt: HostRuntime) {
-    are_told(
-        &rt,
-        rt.alloc(),
-        &[
-            ("a)(b", "NAME a\ncloser"),
-            ("]", "closer"),
-            ("# c", "comment"),
-            ("a # b\n + c", "NAME a\ncomment"),
-        ],
-    );
+    for row in rows(&rt, TOKENS) {
+        is_told(&rt, rt.alloc(), row);
+    }
 }

@@ -1,7 +1,6 @@
 //! Reading and writing all bytes, also where a read or a write fails.
 
-use crate::expected::same_answer;
-use crate::expected_source::{same_bytes, same_count, same_number};
+use crate::expected::{holds, same_number};
 use fakes::{FakeReader, FakeWriter};
 use pysource::{ByteIn, ByteOut, Counted, InputFault, read_all, write_all};
 use std::alloc::Global;
@@ -10,13 +9,10 @@ use std::process::Abort;
 /// These bytes were read, or the read failed.
 fn is_read(rt: &impl Abort, read: &Result<Vec<u8>, InputFault>, bytes: &[u8], fails: bool) {
     match read {
-        Ok(all) => {
-            same_bytes(rt, all.as_slice(), bytes, "the end");
-            same_answer(rt, fails, false, "the end");
-        }
+        Ok(all) => holds(rt, all.as_slice() == bytes && !fails, "the end"),
         Err(fault) => {
-            same_answer(rt, matches!(fault, InputFault::Read), true, "a fault");
-            same_answer(rt, fails, true, "a fault");
+            let is_failure = matches!(fault, InputFault::Read);
+            holds(rt, is_failure && fails, "a fault");
         }
     }
 }
@@ -25,7 +21,7 @@ fn is_read(rt: &impl Abort, read: &Result<Vec<u8>, InputFault>, bytes: &[u8], fa
 fn reads(rt: &impl Abort, alloc: Global, bytes: &[u8], fails: bool) {
     let mut reader = FakeReader::new(bytes, 1, fails);
     let read = read_all(alloc, &mut reader);
-    same_count(rt, reader.failures(), u64::from(fails));
+    holds(rt, reader.failures() == u64::from(fails), "failures");
     is_read(rt, &read, bytes, fails);
 }
 
@@ -33,8 +29,8 @@ fn reads(rt: &impl Abort, alloc: Global, bytes: &[u8], fails: bool) {
 fn reads_many(rt: &impl Abort, alloc: Global, bytes: &[u8]) {
     let mut reader = Counted::new(bytes);
     let all = read_all(alloc, &mut reader).expect(rt, "all bytes");
-    same_bytes(rt, all.as_slice(), bytes, "the end");
-    same_count(rt, reader.failures(), 0);
+    holds(rt, all.as_slice() == bytes, "the end");
+    holds(rt, reader.failures() == 0, "failures");
 }
 
 #[test]
@@ -58,17 +54,17 @@ fn writes(
 ) {
     let mut writer = FakeWriter::new(alloc, step, room, takes_none);
     let wrote = write_all(&mut writer, bytes);
-    same_answer(rt, wrote.is_ok(), room == 4, "the end");
-    same_count(rt, writer.failures(), u64::from(room < 4));
-    same_number(rt, writer.taken().len(), room, bytes);
-    same_answer(rt, bytes.starts_with(writer.taken()), true, "the front");
+    holds(rt, wrote.is_ok() == (room == 4), "the end");
+    holds(rt, writer.failures() == u64::from(room < 4), "failures");
+    same_number(rt, writer.taken().len(), room, "a length");
+    holds(rt, bytes.starts_with(writer.taken()), "the front");
 }
 
 /// Bytes are written to a writer that takes all.
 fn writes_many(rt: &impl Abort, alloc: Global, bytes: &[u8]) {
     let mut writer = Counted::new(Vec::new(alloc));
-    same_answer(rt, write_all(&mut writer, bytes).is_ok(), true, "the end");
-    same_count(rt, writer.failures(), 0);
+    holds(rt, write_all(&mut writer, bytes).is_ok(), "the end");
+    holds(rt, writer.failures() == 0, "failures");
 }
 
 #[test]

@@ -1,8 +1,29 @@
-//! The lexeme at the front of a text.
+//! The lexeme at the front of a text, and the exact types of operators.
 
-use crate::expected::{same_answer, same_text};
-use pylex::{Class, begins_significant, cut};
+use crate::expected::{holds, same_text};
+use crate::rows::{answer, rows, three, two};
+use pylex::{Class, begins_significant, cut, exact_of};
+use std::alloc::Global;
 use std::process::Abort;
+
+/// The rows: a text, and what stands at its front: the class, the lexeme, and what stands behind
+/// it; or that there is no lexeme.
+const LEXEMES: &str = "
+? rb'x' + .5 => string|rb'x'| + .5
+? été**=1 => name|été|**=1
+? **=1 => operator|**=|1
+? 1._5 => number|1.|_5
+? # c\r\n => comment|# c|\r\n
+? \x20\t\x0Cx => blanks|\x20\t\x0C|x
+? \r\n\n => line end|\r\n|\n
+? \\\n x => join|\\\n| x
+?  => none
+? $ => none
+? \r => none
+? \\ => none
+? \\x => none
+? 'a\n => none
+? ² => none";
 
 /// What the class of a lexeme is called.
 fn name(class: Class) -> &'static str {
@@ -18,64 +39,58 @@ fn name(class: Class) -> &'static str {
     }
 }
 
-/// Asserts what the class of a lexeme is called, and what it says of itself.
-fn is_class(rt: &impl Abort, found: Class, class: &str, text: &str) {
-    same_text(rt, name(found), class, text);
-    same_answer(rt, found.is_blanks(), class == "blanks", text);
-    same_answer(rt, found.is_line_end(), class == "line end", text);
-    same_answer(rt, found.is_join(), class == "join", text);
+/// Asserts what a class says of itself, and whether it makes its line logical: blanks, comments and
+/// line ends alone don't.
+fn is_class(rt: &impl Abort, class: Class, text: &str) {
+    let name = name(class);
+    holds(rt, class.is_blanks() == (name == "blanks"), text);
+    holds(rt, class.is_line_end() == (name == "line end"), text);
+    holds(rt, class.is_join() == (name == "join"), text);
+    let is_plain = class.is_blanks() || class.is_line_end() || name == "comment";
+    holds(rt, class.is_significant() != is_plain, text);
+    holds(rt, begins_significant(text) != is_plain, text);
 }
 
-/// Asserts what stands at the front of a text, and after that.
-fn cuts(rt: &impl Abort, text: &str, class: &str, lexeme: &str, rest: &str) {
-    let (found, front, behind) = cut(text).expect(rt, "a lexeme");
-    is_class(rt, found, class, text);
-    same_text(rt, front, lexeme, text);
-    same_text(rt, behind, rest, text);
+/// Asserts what stands at the front of a row's text.
+fn cuts(rt: &impl Abort, alloc: Global, row: &str) {
+    let (text, expected) = two(rt, row);
+    match cut(text) {
+        Some((class, front, behind)) => {
+            is_class(rt, class, text);
+            let class = name(class);
+            let told = format!(in alloc; "{class}|{front}|{behind}").expect(rt, "memory");
+            same_text(rt, told.as_str(), expected, text);
+        }
+        None => same_text(rt, "none", expected, text),
+    }
+}
+
+/// The rows: an operator, its exact type, and whether it opens or closes a bracket.
+const OPERATORS: &str = "
+? -> => RARROW => false, false
+? //= => DOUBLESLASHEQUAL => false, false
+? [ => LSQB => true, false
+? ] => RSQB => false, true
+? < => LESS => false, false";
+
+/// Asserts the exact type of a row's operator, and what that says of itself.
+fn is_exact(rt: &impl Abort, row: &str) {
+    let (text, name, answers) = three(rt, row);
+    let (opens, closes) = answers.split_once(", ").expect(rt, "two answers");
+    let exact = exact_of(text).expect(rt, "an operator");
+    same_text(rt, exact.name(), name, text);
+    holds(rt, exact.is_opener() == answer(rt, opens), text);
+    holds(rt, exact.is_closer() == answer(rt, closes), text);
 }
 
 #[test]
 fn cuts_lexemes(rt: HostRuntime) {
-    for (text, class, lexeme, rest) in &[
-        ("rb'x' + .5", "string", "rb'x'", " + .5"),
-        ("été**=1", "name", "été", "**=1"),
-        ("**=1", "operator", "**=", "1"),
-        (".5\n", "number", ".5", "\n"),
-        ("# c\r\n", "comment", "# c", "\r\n"),
-        (" \t\u{C}x", "blanks", " \t\u{C}", "x"),
-        ("\r\n\n", "line end", "\r\n", "\n"),
-        ("\\\n x", "join", "\\\n", " x"),
-    ] {
-        cuts(&rt, text, class, lexeme, rest);
+    for row in rows(&rt, LEXEMES) {
+        cuts(&rt, rt.alloc(), row);
     }
-}
-
-#[test]
-fn cuts_no_other_text(rt: HostRuntime) {
-    for text in &["", "$", "\r", "\\", "\\x", "'a\n", "²"] {
-        same_answer(&rt, cut(text).is_none(), true, text);
+    for row in rows(&rt, OPERATORS) {
+        is_exact(&rt, row);
     }
-}
-
-/// Asserts whether the lexeme at the front of a text makes its line logical.
-fn is_significant(rt: &impl Abort, text: &str, significant: bool) {
-    let (class, _, _) = cut(text).expect(rt, "a lexeme");
-    same_answer(rt, class.is_significant(), significant, text);
-    same_answer(rt, begins_significant(text), significant, text);
-}
-
-/// Blanks, comments and line ends alone make no line logical.
-#[test]
-fn tells_what_is_significant(rt: HostRuntime) {
-    for (text, significant) in &[
-        ("x # y", true),
-        ("+", true),
-        ("\\\n", true),
-        ("# y", false),
-        ("\n", false),
-        (" x", false),
-    ] {
-        is_significant(&rt, text, *significant);
-    }
-    same_answer(&rt, begins_significant(""), false, "");
+    holds(&rt, exact_of("<>").is_none(), "<>");
+    holds(&rt, !begins_significant(""), "nothing");
 }

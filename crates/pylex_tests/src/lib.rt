@@ -1,5 +1,6 @@
-//! Tests of `pysource`, `pylex_lexeme` and `pylex`: rows whose outcome was taken from Python 3.11,
-//! reads and writes that fail, and each call once where all goes well.
+//! Tests of `pysource`, `pylex_lexeme` and `pylex`: each call once where all goes well, reads and
+//! writes that fail, and what else the built program doesn't show. Outcomes were taken from Python
+//! 3.11.
 #![tactic(auto)]
 
 #[cfg(test)]
@@ -11,8 +12,6 @@ mod encodings;
 #[cfg(test)]
 mod expected;
 #[cfg(test)]
-mod expected_source;
-#[cfg(test)]
 mod forged_cursors;
 #[cfg(test)]
 mod lexemes;
@@ -21,15 +20,13 @@ mod lines;
 #[cfg(test)]
 mod lister;
 #[cfg(test)]
-mod numbers;
-#[cfg(test)]
-mod operators;
-#[cfg(test)]
-mod places;
-#[cfg(test)]
 mod reprs;
 #[cfg(test)]
+mod rows;
+#[cfg(test)]
 mod sources;
+#[cfg(test)]
+mod stream_lines;
 #[cfg(test)]
 mod stream_lister;
 #[cfg(test)]

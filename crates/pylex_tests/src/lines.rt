@@ -2,7 +2,7 @@
 
 ghost use Rattle.std.specs.Prelude.{◌≡◌};
 
-use crate::expected::{same_answer, same_number, same_text};
+use crate::expected::same_text;
 use pylex::{Entry, Exact, Kind, line_text, push_line, text};
 use pysource::{Place, Source, decode};
 use std::alloc::Global;
@@ -28,110 +28,22 @@ fn entry_at(kind: Kind, exact: Option<Exact>, start: (usize, usize), end: (usize
     }
 }
 
-/// Asserts the line of an entry, also where it is pushed after the lines of others.
-fn lists(rt: &impl Abort, whole: &mut String, entry: &Entry, text: &str, exact: bool, line: &str) {
-    let start = whole.len();
-    push_line(whole, entry, text, exact).expect(rt, "memory");
-    same_number(rt, whole.len() - start, line.len(), line);
-}
-
-/// Asserts the line of an entry.
+/// Asserts the line of an entry, also behind that of another.
 fn writes(rt: &impl Abort, alloc: Global, entry: &Entry, text: &str, exact: bool, line: &str) {
-    let told = line_text(alloc, entry, text, exact).expect(rt, "memory");
+    let mut told = line_text(alloc, entry, text, exact).expect(rt, "memory");
     same_text(rt, told.as_str(), line, text);
-}
-
-/// The lines are those of Python 3.11's `python -m tokenize`, but for the widest, whose places no
-/// small source has.
-#[test]
-fn lists_entries(rt: HostRuntime) {
-    let name = entry_at(Kind::Name, None, (1, 0), (1, 1));
-    let halving = entry_at(Kind::Op, Some(Exact::DoubleSlashEqual), (1, 2), (1, 5));
-    let newline = entry_at(Kind::Newline, None, (1, 7), (1, 8));
-    let end = entry_at(Kind::EndMarker, None, (2, 0), (2, 0));
-    let far = entry_at(
-        Kind::Number,
-        None,
-        (1_000_000, 100_000),
-        (1_000_000, 100_001),
-    );
-    let string = entry_at(Kind::String, None, (1, 0), (1, 13));
-    let rows = &[
-        (
-            name,
-            "a",
-            false,
-            "1,0-1,1:            NAME           'a'            \n",
-        ),
-        (
-            halving,
-            "//=",
-            false,
-            "1,2-1,5:            OP             '//='          \n",
-        ),
-        (
-            halving,
-            "//=",
-            true,
-            "1,2-1,5:            DOUBLESLASHEQUAL'//='          \n",
-        ),
-        (
-            newline,
-            "\n",
-            true,
-            "1,7-1,8:            NEWLINE        '\\n'           \n",
-        ),
-        (
-            end,
-            "",
-            false,
-            "2,0-2,0:            ENDMARKER      ''             \n",
-        ),
-        (
-            far,
-            "1",
-            false,
-            "1000000,100000-1000000,100001:NUMBER         '1'            \n",
-        ),
-        (
-            name,
-            "é",
-            false,
-            "1,0-1,1:            NAME           'é'            \n",
-        ),
-        (
-            string,
-            "'''a'''",
-            false,
-            "1,0-1,13:           STRING         \"'''a'''\"      \n",
-        ),
-        (
-            string,
-            "'a longer one'",
-            false,
-            "1,0-1,13:           STRING         \"'a longer one'\"\n",
-        ),
-    ];
-    let mut whole = String::new(rt.alloc());
-    for (entry, text, exact, line) in rows {
-        writes(&rt, rt.alloc(), entry, text, *exact, line);
-        lists(&rt, &mut whole, entry, text, *exact, line);
-    }
-    let ends = whole.as_str().ends_with("\"'a longer one'\"\n");
-    same_answer(&rt, ends, true, "the end");
+    push_line(&mut told, entry, text, exact).expect(rt, "memory");
+    let pushed = told
+        .as_str()
+        .strip_prefix(line)
+        .expect(rt, "the first line");
+    same_text(rt, pushed, line, text);
 }
 
 /// Asserts the line of a source's encoding.
 fn writes_encoding(rt: &impl Abort, alloc: Global, source: &Source, line: &str) {
     let encoding = entry_at(Kind::Encoding, None, (0, 0), (0, 0));
     writes(rt, alloc, &encoding, text(source, &encoding), false, line);
-}
-
-#[test]
-fn lists_the_encoding(rt: HostRuntime) {
-    let line = "0,0-0,0:            ENCODING       'utf-8'        \n";
-    let source = decode(rt.alloc(), b"").expect(&rt, "a source");
-    writes_encoding(&rt, rt.alloc(), &source, line);
 }
 
 /// Asserts the text of a number in a source.
@@ -148,8 +60,23 @@ fn cuts_number(rt: &impl Abort, source: &Source, from: usize, to: usize, expecte
     same_text(rt, text(source, &number), expected, whole);
 }
 
+/// The lines are those of Python 3.11's `python -m tokenize`, but for the widest, whose places no
+/// small source has.
 #[test]
-fn cuts_texts(rt: HostRuntime) {
+fn lists_entries(rt: HostRuntime) {
+    let halving = entry_at(Kind::Op, Some(Exact::DoubleSlashEqual), (1, 2), (1, 5));
+    let line = "1,2-1,5:            DOUBLESLASHEQUAL'//='          \n";
+    writes(&rt, rt.alloc(), &halving, "//=", true, line);
+    let far = entry_at(
+        Kind::Number,
+        None,
+        (1_000_000, 100_000),
+        (1_000_000, 100_001),
+    );
+    let line = "1000000,100000-1000000,100001:NUMBER         '1'            \n";
+    writes(&rt, rt.alloc(), &far, "1", false, line);
     let source = decode(rt.alloc(), "é = 1\n".as_bytes()).expect(&rt, "a source");
+    let line = "0,0-0,0:            ENCODING       'utf-8'        \n";
+    writes_encoding(&rt, rt.alloc(), &source, line);
     cuts_number(&rt, &source, 5, 6, "1");
 }

@@ -1,61 +1,60 @@
-//! String literals, and those that run over several lines.
+//! String literals, and those that run over several lines. More rows stand in
+//! `conformance/tables/lexemes.txt`.
 
-use crate::expected::same_answer;
+use crate::expected::holds;
+use crate::rows::{answer, rows, three};
 use pylex::{is_open_string, open_literal, opens_string};
 use std::process::Abort;
 
-#[test]
-fn tells_what_opens_a_string(rt: HostRuntime) {
-    for text in &["'", "\"a", "Rb'", "f\"", "u''"] {
-        same_answer(&rt, opens_string(text), true, text);
-    }
-    for text in &["", "b", "rx'", "ur'", "a'", " '"] {
-        same_answer(&rt, opens_string(text), false, text);
-    }
+/// The rows: a text, whether it begins with a string's quote, and whether more text could end the
+/// string.
+const STRINGS: &str = "
+? ' => true => false
+? f\" => true => false
+?  => false => false
+? rx' => false => false
+? ur' => false => false
+?  ' => false => false
+? ''' => true => true
+? 'a\\\n => true => true
+? '\\\na\\\r\n => true => true
+? 'a\\ => true => false
+? 'a\\\n\n => true => false
+? ''\\\n => true => false";
+
+/// Asserts of a row's text whether it opens a string, and whether more text could end that.
+fn opens(rt: &impl Abort, row: &str) {
+    let (text, opens, is_open) = three(rt, row);
+    holds(rt, opens_string(text) == answer(rt, opens), text);
+    let expected = answer(rt, is_open);
+    holds(rt, is_open_string(text) == expected, text);
+    holds(rt, open_literal(text).is_some() == expected, text);
 }
 
-/// Asserts whether more text could end a string.
-fn is_open(rt: &impl Abort, text: &str, expected: bool) {
-    same_answer(rt, is_open_string(text), expected, text);
-    same_answer(rt, open_literal(text).is_some(), expected, text);
-}
+/// The rows: a text that ends in an open literal, a line, and whether the literal goes on after it.
+const LINES: &str = "
+? '''\n => a\n => true
+? '''\n => \"\"\" '' \\'''\n => true
+? \"\"\"\\\n => \"\" '''\\\n => true
+? '''\n => a'''\n => false
+? \"\"\"\r\n => \\\\\"\"\"\r\n => false
+? 'a\\\n => \\'\" \\\\\\\n => true
+? '\\\n => a\\\\\n => false
+? \"\\\r\n => a\"\\\r\n => false";
 
-#[test]
-fn tells_what_more_text_could_end(rt: HostRuntime) {
-    for text in &["'''", "rb\"\"\"a\n", "'a\\\n", "'\\\na\\\r\n"] {
-        is_open(&rt, text, true);
-    }
-    for text in &[
-        "'", "'a\n", "'a\\", "'a\\\nb", "'a\\\n\n", "a\\\n", "''\\\n",
-    ] {
-        is_open(&rt, text, false);
-    }
-}
-
-/// Asserts whether a literal that is open after a text goes on after a line.
-fn goes(rt: &impl Abort, text: &str, line: &str, expected: bool) {
+/// Asserts of a row's literal whether it goes on after the line.
+fn goes(rt: &impl Abort, row: &str) {
+    let (text, line, expected) = three(rt, row);
     let literal = open_literal(text).expect(rt, "an open literal");
-    same_answer(rt, literal.goes_on(line), expected, line);
+    holds(rt, literal.goes_on(line) == answer(rt, expected), line);
 }
 
 #[test]
-fn tells_where_an_open_literal_goes_on(rt: HostRuntime) {
-    let rows = &[
-        ("'''\n", "a\n", true),
-        ("'''\n", "\"\"\" '' \\'''\n", true),
-        ("rb\"\"\"\r\n", "\\\"\"\"\\\r\n", true),
-        ("\"\"\"\\\n", "\"\" '''\\\n", true),
-        ("'''\n", "a'''\n", false),
-        ("\"\"\"\r\n", "\\\\\"\"\"\r\n", false),
-        ("'\\\n", "a\\\n", true),
-        ("'a\\\n", "\\'\" \\\\\\\n", true),
-        ("f\"\\\r\n", "\\\"'\\\r\n", true),
-        ("'\\\n", "\\\n", true),
-        ("'\\\n", "a\n", false),
-        ("'\\\n", "a\\\\\n", false),
-        ("\"\\\r\n", "a\"\\\r\n", false),
-    ];
-    for (text, line, expected) in rows {
-        goes(&rt, text, line, *expected);
+fn tells_open_literals(rt: HostRuntime) {
+    for row in rows(&rt, STRINGS) {
+        opens(&rt, row);
+    }
+    for row in rows(&rt, LINES) {
+        goes(&rt, row);
     }
 }

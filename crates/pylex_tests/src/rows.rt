@@ -1,0 +1,70 @@
+//! Tables of rows. A table is one text, which is read when its test runs: of an array the checker
+//! proves each row, in a time that grows with the square of their number.
+//!
+//! A row begins on a line of its own with `? `, and between two fields of it stands ` => `. A field
+//! is what stands there, its blanks too. It has the escapes of a literal, so that a line feed in it
+//! is written `\n`, and a blank at the end of a line `\x20`. A long row is broken by `\`.
+
+use pysource::{Source, decode};
+use std::alloc::Global;
+use std::process::Abort;
+use std::str::Split;
+
+/// What a row begins with.
+const ROW: &str = "\n? ";
+
+/// What stands between two fields.
+const FIELD: &str = " => ";
+
+/// The rows of a table.
+pub(crate) fn rows<'a>(rt: &impl Abort, table: &'a str) -> Split<'a, &'static str> {
+    table.strip_prefix(ROW).expect(rt, "a row").split(ROW)
+}
+
+/// The first field of a row, and what stands behind it.
+pub(crate) fn two<'a>(rt: &impl Abort, row: &'a str) -> (&'a str, &'a str) {
+    row.split_once(FIELD).expect(rt, "two fields")
+}
+
+/// The first two fields of a row, and what stands behind them.
+pub(crate) fn three<'a>(rt: &impl Abort, row: &'a str) -> (&'a str, &'a str, &'a str) {
+    let (first, rest) = two(rt, row);
+    let (second, third) = two(rt, rest);
+    (first, second, third)
+}
+
+/// The number that a field is.
+pub(crate) fn number(rt: &impl Abort, field: &str) -> usize {
+    field.parse().expect(rt, "a number")
+}
+
+/// The answer that a field is, `true` or `false`.
+pub(crate) fn answer(rt: &impl Abort, field: &str) -> bool {
+    match field {
+        "true" => true,
+        "false" => false,
+        _ => panic!(rt; "no answer: {field:?}"),
+    }
+}
+
+/// The bytes of a field, in which `¶` stands for the byte FF.
+pub(crate) fn bytes_of(rt: &impl Abort, alloc: Global, field: &str) -> Vec<u8> {
+    let mut bytes = Vec::new(alloc);
+    let mut is_first = true;
+    for part in field.split('¶') {
+        if !is_first {
+            bytes.push(0xFF).expect(rt, "memory");
+        }
+        is_first = false;
+        bytes
+            .extend_from_slice(part.as_bytes())
+            .expect(rt, "memory");
+    }
+    bytes
+}
+
+/// The source of a few bytes.
+pub(crate) fn source_of(rt: &impl Abort, alloc: Global, bytes: &[u8]) -> Source {
+    assert!(rt; bytes.len() < 100);
+    decode(alloc, bytes).expect(rt, "a source")
+}
