@@ -8,18 +8,11 @@ use std::alloc::Global;
 use std::fmt::Debug;
 use std::process::Abort;
 
-/// A reader that gives these bytes, one at a read, and then ends.
-pub(crate) fn reader(bytes: &[u8]) -> FakeReader<'_>
+/// A reader that gives these bytes, one at a read, and then ends, or fails.
+pub(crate) fn reader(bytes: &[u8], fails: bool) -> FakeReader<'_>
     ensures { result.failures ≡ 0 }
 {
-    FakeReader::new(bytes, 1, false)
-}
-
-/// A reader that gives these bytes, one at a read, and then fails.
-pub(crate) fn failing_reader(bytes: &[u8]) -> FakeReader<'_>
-    ensures { result.failures ≡ 0 }
-{
-    FakeReader::new(bytes, 1, true)
+    FakeReader::new(bytes, 1, fails)
 }
 
 /// A writer that takes all that it is given.
@@ -50,17 +43,7 @@ pub(crate) fn same_bytes(rt: &impl Abort, told: &[u8], expected: &[u8], at: &str
 
 /// Asserts that a text is the expected one, in the row of `at`.
 pub(crate) fn same_text(rt: &impl Abort, told: &str, expected: &str, at: &str) {
-    same(rt, &told, &expected, at);
-}
-
-/// Asserts that a status is the expected one, in the row of `at`.
-pub(crate) fn same_status(rt: &impl Abort, told: u8, expected: u8, at: &str) {
-    same(rt, &told, &expected, at);
-}
-
-/// Asserts that an answer is the expected one, in the row of `at`.
-pub(crate) fn same_answer(rt: &impl Abort, told: bool, expected: bool, at: &str) {
-    holds(rt, told == expected, at);
+    same_bytes(rt, told.as_bytes(), expected.as_bytes(), at);
 }
 
 /// Appends a text.
@@ -108,44 +91,7 @@ pub(crate) fn leaves<R: ByteIn>(
     let status = run(alloc, command, reader, &mut output, &mut faults);
     same_bytes(rt, output.taken(), left.written, at);
     same_bytes(rt, faults.taken(), left.told, at);
-    same_status(rt, status, left.status, at);
-}
-
-/// Asserts that a command whose writer takes no more than so many bytes writes those of what it is
-/// to write, and tells that the write failed where there are more.
-pub(crate) fn stops_at(
-    rt: &impl Abort,
-    alloc: Global,
-    command: &Command,
-    source: &[u8],
-    whole: &[u8],
-    room: usize,
-    takes_none: bool,
-) {
-    assert!(rt; room <= whole.len());
-    let mut reader = reader(source);
-    let mut output = FakeWriter::new(alloc, 1, room, takes_none);
-    let mut faults = writer(alloc);
-    let status = run(alloc, command, &mut reader, &mut output, &mut faults);
-    let fails = room < whole.len();
-    let told: &[u8] = if fails { b"pyast: write failed\n" } else { b"" };
-    same_bytes(rt, output.taken(), &whole[..room], "a room");
-    same_bytes(rt, faults.taken(), told, "a room");
-    same_status(rt, status, if fails { 3 } else { 0 }, "a room");
-}
-
-/// Asserts that of each number of bytes up to all that the command is to write.
-pub(crate) fn stops_anywhere(
-    rt: &impl Abort,
-    alloc: Global,
-    command: &Command,
-    source: &[u8],
-    whole: &[u8],
-) {
-    for room in 0..=whole.len() {
-        stops_at(rt, alloc, command, source, whole, room, false);
-        stops_at(rt, alloc, command, source, whole, room, true);
-    }
+    holds(rt, status == left.status, at);
 }
 
 /// Appends a field, and blanks up to a width.
@@ -154,33 +100,14 @@ fn push_filled(rt: &impl Abort, out: &mut String, field: &str, width: usize) {
     push_times(rt, out, " ", width.saturating_sub(field.chars().count()));
 }
 
-/// Appends the places of an entry, a colon, and blanks up to a width.
-fn push_places(rt: &impl Abort, out: &mut String, places: &str) {
-    push(rt, out, places);
-    push_filled(rt, out, ":", 20usize.saturating_sub(places.len()));
-}
-
 /// Appends the line of an entry, which is given as its places, its type and its text, with a blank
 /// between them.
 pub(crate) fn push_entry(rt: &impl Abort, out: &mut String, entry: &str) {
     let (places, rest) = entry.split_once(' ').unwrap_or((entry, ""));
     let (name, text) = rest.split_once(' ').unwrap_or((rest, ""));
-    push_places(rt, out, places);
+    push(rt, out, places);
+    push_filled(rt, out, ":", 20usize.saturating_sub(places.len()));
     push_filled(rt, out, name, 15);
     push_filled(rt, out, text, 15);
     push(rt, out, "\n");
-}
-
-/// Appends the lines of entries, each of which is given on a line of its own.
-pub(crate) fn push_entries(rt: &impl Abort, out: &mut String, entries: &str) {
-    for entry in entries.lines() {
-        push_entry(rt, out, entry);
-    }
-}
-
-/// The lines of entries.
-pub(crate) fn lines_of(rt: &impl Abort, alloc: Global, entries: &str) -> String {
-    let mut lines = String::new(alloc);
-    push_entries(rt, &mut lines, entries);
-    lines
 }

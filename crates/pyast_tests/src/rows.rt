@@ -1,14 +1,11 @@
 //! Tables of rows. Each table is a text that the tests read as they run, since literals of many
 //! tuples take long to check. An empty line ends a row. A line of a row begins with a mark, and a
-//! blank if more follows:
+//! blank if more follows; the marks are those of `conformance/tables.py`:
 //!
-//! - `$ dump --bare`: the words of a command. A row with several of them is meant for each, and one
-//!   with none for the commands of its test.
+//! - `$ dump --bare`: the words of a command. A row with several of them is meant for each.
 //! - `^ pytok1 0 0 1 0 0 0 0`: the cursor that stands for the word `^` of a command.
 //! - `| x = 1`: a line of the source. Its LF follows.
 //! - `|- x = 1`: a part of the source without an LF after it.
-//! - `* 600 (~1 x~600 )`: parts of the source, each after how often it comes, with `~` between them.
-//! - `@ Constant(value=1)`: the tree of the expression that is the source.
 //! - `> x = 1`: a line that is written.
 //! - `- 1,0-1,1 NAME 'x'`: the places, the type and the text of an entry, whose line is written.
 //! - `! <stdin>:1:0: error: f-string`: the line of the fault that is reported.
@@ -18,7 +15,7 @@
 //! A tab, a CR and the like are escapes of the literal, and a long line is folded by a backslash at
 //! its end.
 
-use crate::expected::{push, push_entry, push_line, push_times};
+use crate::expected::{push, push_entry, push_line};
 use std::alloc::Global;
 use std::process::Abort;
 
@@ -31,30 +28,12 @@ pub(crate) struct Row<'a> {
     pub(crate) cursor: &'a str,
     /// The source.
     pub(crate) source: String,
-    /// The tree of the expression that is the source.
-    pub(crate) tree: &'a str,
     /// What is written.
     pub(crate) written: String,
     /// What is reported.
     pub(crate) told: String,
     /// How the run ends.
     pub(crate) status: u8,
-}
-
-/// Appends parts, each after how often it comes, with `~` between them.
-fn push_parts(rt: &impl Abort, out: &mut String, parts: &str) {
-    for part in parts.split('~') {
-        let (count, text) = part.split_once(' ').expect(rt, "a count");
-        let count: usize = count.parse().expect(rt, "a number");
-        push_times(rt, out, text, count);
-    }
-}
-
-/// The text of parts, each after how often it comes, with `~` between them.
-pub(crate) fn repeated(rt: &impl Abort, alloc: Global, parts: &str) -> String {
-    let mut text = String::new(alloc);
-    push_parts(rt, &mut text, parts);
-    text
 }
 
 /// Puts what a line says into its row.
@@ -65,8 +44,6 @@ fn put<'a>(rt: &impl Abort, row: &mut Row<'a>, line: &'a str) {
         "^" => row.cursor = rest,
         "|" => push_line(rt, &mut row.source, rest),
         "|-" => push(rt, &mut row.source, rest),
-        "*" => push_parts(rt, &mut row.source, rest),
-        "@" => row.tree = rest,
         ">" => push_line(rt, &mut row.written, rest),
         "-" => push_entry(rt, &mut row.written, rest),
         "!" => put_fault(rt, row, rest),
@@ -88,7 +65,6 @@ pub(crate) fn row_of<'a>(rt: &impl Abort, alloc: Global, lines: &'a str) -> Row<
         words: String::new(alloc),
         cursor: "",
         source: String::new(alloc),
-        tree: "",
         written: String::new(alloc),
         told: String::new(alloc),
         status: 0,

@@ -19,6 +19,11 @@ pub(crate) fn same_text(rt: &impl Abort, told: &str, expected: &str, at: &str) {
     }
 }
 
+/// Asserts that an answer is the expected one, `true` or `false`, in the row of `at`.
+pub(crate) fn answers(rt: &impl Abort, told: bool, expected: &str, at: &str) {
+    same_text(rt, if told { "true" } else { "false" }, expected, at);
+}
+
 /// Asserts that a value is shown so for debugging, in the row of `at`.
 pub(crate) fn shows<T: Debug>(rt: &impl Abort, alloc: Global, told: &T, expected: &str, at: &str) {
     let shown = format!(in alloc; "{told:?}").expect(rt, "memory");

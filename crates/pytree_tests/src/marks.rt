@@ -56,3 +56,13 @@ fn lines_with_an_fstring(rt: HostRuntime) {
     holds(&rt, marks.are_kept(), TEXT);
     holds(&rt, !Marks::none().are_kept(), TEXT);
 }
+
+#[test]
+fn a_line_that_is_refused(rt: HostRuntime) {
+    let alloc = rt.alloc();
+    let source = source_of(&rt, alloc, "'\\x4'\n");
+    let mut lines = LogicalLines::new(alloc, &source, Extent::Whole).expect(&rt, "memory");
+    let told = lines.next_marked(&mut Marks::new(alloc));
+    let expected = "Err(Refused(Token(BadEscape, Place { row: 1, column: 0 })))";
+    shows(&rt, alloc, &told, expected, "no line");
+}

@@ -1,9 +1,8 @@
-//! Sizes, the texts and numbers that are kept, and a tree of many classes.
+//! Sizes, and the texts and numbers that are kept.
 
 use crate::expected::{holds, same_text, shows};
-use crate::module_dumps::is_dumped;
-use crate::rows::rows;
-use crate::sources::module;
+use crate::rows::{rows, two};
+use pynatural::Natural;
 use pytree::{
     Alias, Arg, Comprehension, Constant, Expr, Handler, Identifier, Integer, Item, Keyword, Points,
     Stmt, TypeParam,
@@ -13,44 +12,33 @@ use std::process::Abort;
 
 #[test]
 fn sizes(rt: HostRuntime) {
-    let alloc = rt.alloc();
-    shows(&rt, alloc, &size_of::<Expr>(), "40", "Expr");
-    shows(&rt, alloc, &size_of::<Stmt>(), "72", "Stmt");
-    shows(&rt, alloc, &size_of::<Identifier>(), "16", "Identifier");
-    shows(&rt, alloc, &size_of::<Integer>(), "16", "Integer");
-    shows(&rt, alloc, &size_of::<Points>(), "24", "Points");
-    shows(&rt, alloc, &size_of::<Constant>(), "32", "Constant");
-    shows(&rt, alloc, &size_of::<Arg>(), "32", "Arg");
-    shows(&rt, alloc, &size_of::<Keyword>(), "64", "Keyword");
-    shows(
-        &rt,
-        alloc,
-        &size_of::<Comprehension>(),
-        "112",
-        "Comprehension",
-    );
-    shows(&rt, alloc, &size_of::<Handler>(), "96", "Handler");
-    shows(&rt, alloc, &size_of::<Item>(), "88", "Item");
-    shows(&rt, alloc, &size_of::<Alias>(), "40", "Alias");
-    shows(&rt, alloc, &size_of::<TypeParam>(), "72", "TypeParam");
-}
-
-/// A name.
-fn name(rt: &impl Abort, alloc: Global, text: &str) -> Identifier {
-    Identifier::new(alloc, text).expect(rt, "memory")
+    let sizes = [
+        size_of::<Expr>(),
+        size_of::<Stmt>(),
+        size_of::<Identifier>(),
+        size_of::<Integer>(),
+        size_of::<Points>(),
+        size_of::<Constant>(),
+        size_of::<Arg>(),
+        size_of::<Keyword>(),
+        size_of::<Comprehension>(),
+        size_of::<Handler>(),
+        size_of::<Item>(),
+        size_of::<Alias>(),
+        size_of::<TypeParam>(),
+    ];
+    let expected = "[40, 72, 16, 16, 24, 32, 32, 64, 112, 96, 88, 40, 72]";
+    shows(&rt, rt.alloc(), &sizes, expected, "sizes");
 }
 
 /// A name has its text, and so has a copy.
 fn keeps_name(rt: &impl Abort, alloc: Global, text: &str) {
-    let made = name(rt, alloc, text);
+    let made = Identifier::new(alloc, text).expect(rt, "memory");
     same_text(rt, made.as_str(), text, text);
     let copy = made.clone().expect(rt, "memory");
     holds(rt, copy == made, text);
-    holds(
-        rt,
-        copy != name(rt, alloc, "another_name_than_any_of_the_others"),
-        text,
-    );
+    let other = Identifier::new(alloc, "another_name_than_any_of_the_others");
+    holds(rt, copy != other.expect(rt, "memory"), text);
 }
 
 /// Names of several lengths.
@@ -71,45 +59,52 @@ fn keeps_names(rt: HostRuntime) {
     }
 }
 
-/// A whole number has its value, and so has a copy.
-fn keeps_number(rt: &impl Abort, alloc: Global, number: u128) {
-    let integer = Integer::new(alloc, number).expect(rt, "memory");
-    holds(rt, integer.to_u128() == Some(number), "a number");
-    let copy = integer.clone().expect(rt, "memory");
-    holds(rt, copy == integer, "a copy");
+/// The whole number of decimal digits.
+fn integer(rt: &impl Abort, alloc: Global, digits: &str) -> Integer {
+    let number = Natural::read(alloc, 10, digits.as_bytes()).expect(rt, "memory");
+    Integer::of_natural(alloc, number.expect(rt, "a number")).expect(rt, "memory")
 }
 
-/// The same of the number of these digits.
-fn keeps_digits(rt: &impl Abort, alloc: Global, digits: &str) {
-    match digits.parse::<u128>() {
-        Ok(number) => keeps_number(rt, alloc, number),
-        Err(_) => panic!(rt; "no number"),
-    }
+/// A number has its value, and so has a copy. One below 2^128 has one form, whichever call made it.
+fn keeps_number(rt: &impl Abort, alloc: Global, digits: &str, is_of_128_bits: bool) {
+    let number = integer(rt, alloc, digits);
+    let copy = number.clone().expect(rt, "memory");
+    holds(rt, copy == number, digits);
+    let seven = Integer::new(alloc, 7).expect(rt, "memory");
+    holds(rt, copy != seven, digits);
+    let value = number.to_u128();
+    holds(rt, value.is_some() == is_of_128_bits, digits);
+    holds(rt, value == digits.parse::<u128>().ok(), digits);
+    let made = Integer::new(alloc, value.unwrap_or(0)).expect(rt, "memory");
+    holds(rt, (made == number) == is_of_128_bits, digits);
 }
 
-/// Numbers of several lengths.
+/// A number is shown by its digits.
+fn shows_digits(rt: &impl Abort, alloc: Global, digits: &str) {
+    let number = integer(rt, alloc, digits);
+    let mut decimal = String::new(alloc);
+    number.push_decimal(&mut decimal).expect(rt, "memory");
+    same_text(rt, decimal.as_str(), digits, digits);
+    shows(rt, alloc, &number, digits, digits);
+}
+
+/// Whole numbers, and whether they are numbers of 128 bits.
 const NUMBERS: &str = "
-? 0
-? 1
-? 18446744073709551615
-? 18446744073709551616
-? 340282366920938463463374607431768211455";
+? 0 => true
+? 1 => true
+? 18446744073709551615 => true
+? 18446744073709551616 => true
+? 340282366920938463463374607431768211455 => true
+? 340282366920938463463374607431768211456 => false
+? 10000000000000000000000000000000000000000 => false";
 
 #[test]
 fn keeps_numbers(rt: HostRuntime) {
-    for digits in rows(&rt, NUMBERS) {
-        keeps_digits(&rt, rt.alloc(), digits);
+    for row in rows(&rt, NUMBERS) {
+        let (digits, expected) = two(&rt, row);
+        keeps_number(&rt, rt.alloc(), digits, expected == "true");
+        shows_digits(&rt, rt.alloc(), digits);
     }
-}
-
-/// A text of some code points.
-fn text_of(rt: &impl Abort, alloc: Global, points: &[u32]) -> Points {
-    let mut text = Points::new(alloc);
-    for point in points {
-        assert!(rt; *point <= 0x10_FFFF);
-        text.push(*point).expect(rt, "memory");
-    }
-    text
 }
 
 /// Asserts which code points a text has.
@@ -125,45 +120,21 @@ fn read_points(rt: &impl Abort, alloc: Global, numbers: &[u32]) -> Option<Points
 }
 
 /// A text behind which bytes are appended has those as well; what it was a copy of hasn't.
-fn appends_bytes(rt: &impl Abort, text: &Points) {
-    let mut appended = text.clone().expect(rt, "memory");
-    holds(rt, appended == *text, "a copy");
-    appended.push_bytes(b"a\xff").expect(rt, "memory");
-    appended.push_bytes(b"").expect(rt, "memory");
-    has_points(rt, &appended, &[0x61, 0xD800, 0x10_FFFF, 0x61, 0xFF]);
-}
-
 #[test]
 fn keeps_points(rt: HostRuntime) {
+    let mut text = Points::new(rt.alloc());
+    text.push(0x61).expect(&rt, "memory");
+    text.push(0xD800).expect(&rt, "memory");
+    text.push(0x10_FFFF).expect(&rt, "memory");
     let points: &[u32] = &[0x61, 0xD800, 0x10_FFFF];
-    let text = text_of(&rt, rt.alloc(), points);
-    has_points(&rt, &text, points);
-    appends_bytes(&rt, &text);
-    has_points(&rt, &text, points);
     let whole = read_points(&rt, rt.alloc(), points).expect(&rt, "a text");
     holds(&rt, whole == text, "a text");
+    let mut appended = text.clone().expect(&rt, "memory");
+    holds(&rt, appended == text, "a copy");
+    appended.push_bytes(b"a\xff").expect(&rt, "memory");
+    appended.push_bytes(b"").expect(&rt, "memory");
+    has_points(&rt, &appended, &[0x61, 0xD800, 0x10_FFFF, 0x61, 0xFF]);
+    has_points(&rt, &text, points);
     let past = read_points(&rt, rt.alloc(), &[0x61, 0x11_0000]);
     holds(&rt, past.is_none(), "no text");
-}
-
-/// A tree of many classes.
-const MANY: &str = "\
-from .. import a as b
-x = 1
-def f[T](x):
-    return [-y for y in x if y < 1 and y] + f(*x, key={**x}, **x)[1:]
-try:
-    pass
-except E as e:
-    e.args: u'a' = b'a'
-";
-
-/// Its dump, as Python 3.12 gives it.
-const DUMP: &str =
-    "Module([ImportFrom(names=[alias('a', 'b')], level=2), Assign([Name('x', Store())], Constant(1)), FunctionDef('f', arguments([], [arg('x')], kwonlyargs=[], kw_defaults=[], defaults=[]), [Return(BinOp(ListComp(UnaryOp(USub(), Name('y', Load())), [comprehension(Name('y', Store()), Name('x', Load()), [BoolOp(And(), [Compare(Name('y', Load()), [Lt()], [Constant(1)]), Name('y', Load())])], 0)]), Add(), Subscript(Call(Name('f', Load()), [Starred(Name('x', Load()), Load())], [keyword('key', Dict([None], [Name('x', Load())])), keyword(value=Name('x', Load()))]), Slice(Constant(1)), Load())))], [], type_params=[TypeVar('T')]), Try([Pass()], [ExceptHandler(Name('E', Load()), 'e', [AnnAssign(Attribute(Name('e', Load()), 'args', Store()), Constant('a', 'u'), Constant(b'a'), 0)])], [], [])], [])";
-
-#[test]
-fn makes_and_drops_a_tree(rt: HostRuntime) {
-    let tree = module(&rt, rt.alloc(), MANY);
-    is_dumped(&rt, rt.alloc(), &tree, "bare 3.12", DUMP);
 }

@@ -38,20 +38,3 @@ pub(crate) fn three<'a>(rt: &impl Abort, row: &'a str) -> (&'a str, &'a str, &'a
     let (second, third) = two(rt, rest);
     (first, second, third)
 }
-
-/// The number that a field is.
-pub(crate) fn number(rt: &impl Abort, field: &str) -> u64 {
-    match field.parse::<u64>() {
-        Ok(number) => number,
-        Err(_) => panic!(rt; "no number: {field:?}"),
-    }
-}
-
-/// The answer that a field is, `true` or `false`.
-pub(crate) fn answer(rt: &impl Abort, field: &str) -> bool {
-    match field {
-        "true" => true,
-        "false" => false,
-        _ => panic!(rt; "no answer: {field:?}"),
-    }
-}

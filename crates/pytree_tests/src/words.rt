@@ -2,7 +2,7 @@
 
 use pygrammar::{Level, PatternLevel};
 use pylex::Kind;
-use pytree::{Profile, Style};
+use pytree::{Extent, Profile, Style};
 use std::process::Abort;
 
 /// The blanks of a level that are told behind another word, if any are.
@@ -24,6 +24,15 @@ pub(crate) fn style_of(words: &str) -> Style {
         } else {
             Profile::PLAIN_311
         },
+    }
+}
+
+/// The extent of the language that `Whole` or `Plain` is.
+pub(crate) fn extent_of(name: &str) -> Extent {
+    if name == "Whole" {
+        Extent::Whole
+    } else {
+        Extent::Plain
     }
 }
 
