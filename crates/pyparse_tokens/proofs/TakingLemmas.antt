@@ -1,5 +1,5 @@
--- Carries: take_token, take_operator, take_line_end, take_lexeme, begin_token, begin_operator. On: what is kept of a lexeme of the line that
--- is open is what is kept of its entry.
+-- Carries: take_token, take_operator, take_line_end, take_lexeme, begin_token, begin_operator. On: what is kept of a lexeme of the line
+-- that is open is what is kept of its entry.
 use Rattle.std.proofs.Common.{◌≡◌, ℕ, ◌-◌, ◌<◌, Bool, true, false, not, List, [], ◌∷◌, ◌++◌, length, map, refl, sym, ap, subst, ◌∙◌}
 use Rattle.std.proofs.Common.{append-nil, arith, length-append, Option, Some, None}
 use Rattle.std.proofs.lemmas.List.{length-map}
@@ -172,7 +172,8 @@ operator_begins x own start old new mid passes pushes rest text e is at =
     subst (λ (d : Entry). Gains text d None old.pass (record mid { begun = true })) (entry_as e kinds.Op (Some x) is.kind is.exact)
     (start_gains text e x old.pass mid passes) in
     record {
-      pass = subst (λ (r : Option Refusal). Gains text e r old.pass new.pass) (sym none) (subst (Gains text e None old.pass) (sym pass) gains);
+      pass = subst (λ (r : Option Refusal). Gains text e r old.pass new.pass) (sym none)
+          (subst (Gains text e None old.pass) (sym pass) gains);
       level = λ ends. let n : false ≡ true = rw is.kind at ends in absurd cc;
       indents = ap (λ (g : LineGather). g.indents) rest ∙ rw is.kind refl;
       dedents = ap (λ (g : LineGather). g.dedents) rest ∙ rw is.kind refl;

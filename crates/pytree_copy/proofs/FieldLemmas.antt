@@ -10,7 +10,8 @@ use Rattle.pytree_node.specs.declared.expressions.DictComp as given_dict_comp
 use Rattle.pytree_node.specs.declared.expressions.DictComp.{DictComp}
 use Rattle.pytree_node.specs.Trees as plain
 use Rattle.pytree_node.specs.Trees.{args, comprehensions, exprs, keywords, optional_arg, optionals}
-use Rattle.pytree_node.specs.TreeOf.{arg_of, arg_option_of, arguments_of, call_of, comprehension_of, dict_comp_of, keyword_of, option_of, tree_of}
+use Rattle.pytree_node.specs.TreeOf.{arg_of, arg_option_of, arguments_of, call_of, comprehension_of, dict_comp_of, keyword_of, option_of}
+use Rattle.pytree_node.specs.TreeOf.{tree_of}
 use Rattle.pytree_node.proofs.Callers.ExprShapes.{arguments_tree, call_shape, dict_comp_shape}
 use Rattle.pytree_node.proofs.Callers.MadeShapes.{ArgumentsFields, CallFields, DictCompFields, made_arguments, made_call, made_dict_comp}
 

@@ -14,7 +14,8 @@ use Rattle.pytree_node.specs.declared.statements.TypeParam.{TypeParam}
 use Rattle.pytree_node.specs.Trees
 use Rattle.pytree_node.specs.Trees.{exprs, optional, optionals, comprehensions, keywords, args}
 use Rattle.pytree_node.specs.TreeOf.{tree_of, option_of, comprehension_of, keyword_of, arg_of, alias_of, item_of, type_param_of}
-use Rattle.pytree_dump_text.specs.Shows.{Shown, Fields, Node, Row, Scalar, shown_optional, shown_optionals, shown_comprehension, shown_comprehensions}
+use Rattle.pytree_dump_text.specs.Shows.{Shown, Fields, Node, Row, Scalar, shown_optional, shown_optionals, shown_comprehension}
+use Rattle.pytree_dump_text.specs.Shows.{shown_comprehensions}
 use Rattle.pytree_dump_text.specs.Shows.{shown_keyword, shown_keywords, shown_arg, shown_args, shown_comparisons, word, comparison_name}
 use Rattle.pytree_dump_text.specs.Shows.{shown, shown_exprs, showns, a_shown, optional_field, expr_field, shown_name, shown_names}
 use Rattle.pytree_dump_text.specs.Shows.{shown_alias, shown_aliases, shown_item, shown_items, shown_type_param, shown_type_params}

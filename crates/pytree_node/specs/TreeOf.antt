@@ -54,7 +54,8 @@ boxed None = None
 boxed (Some b) = Some b.value
 
 -- the value of a node whose children are values
-abbrev pub expr_step : layer.Expr-F plain.Expr plain.Arg plain.Arguments plain.Expr plain.Expr plain.Comprehension plain.Expr plain.Expr plain.Keyword plain.Expr → plain.Expr
+abbrev pub expr_step : layer.Expr-F plain.Expr plain.Arg plain.Arguments plain.Expr plain.Expr plain.Comprehension plain.Expr plain.Expr
+    plain.Keyword plain.Expr → plain.Expr
 expr_step (layer.BoolOp op values) = plain.BoolOp op (exprs values.items)
 expr_step (layer.NamedExpr target value) = plain.NamedExpr target.value value.value
 expr_step (layer.BinOp left op right) = plain.BinOp left.value op right.value
@@ -84,73 +85,92 @@ expr_step (layer.Tuple elts ctx) = plain.Tuple (exprs elts.items) ctx
 expr_step (layer.Slice slice) = slice.value
 
 -- the value of the fields of a class in a box: that of the expression
-abbrev pub dict_step : layer.Dict-F plain.Expr plain.Arg plain.Arguments plain.Expr plain.Expr plain.Comprehension plain.Expr plain.Expr plain.Keyword plain.Expr → plain.Expr
+abbrev pub dict_step : layer.Dict-F plain.Expr plain.Arg plain.Arguments plain.Expr plain.Expr plain.Comprehension plain.Expr plain.Expr
+    plain.Keyword plain.Expr → plain.Expr
 dict_step d = plain.Dict (optionals d.keys.items) (exprs d.values.items)
 
-abbrev pub dict_comp_step : layer.DictComp-F plain.Expr plain.Arg plain.Arguments plain.Expr plain.Expr plain.Comprehension plain.Expr plain.Expr plain.Keyword plain.Expr → plain.Expr
+abbrev pub dict_comp_step : layer.DictComp-F plain.Expr plain.Arg plain.Arguments plain.Expr plain.Expr plain.Comprehension plain.Expr
+    plain.Expr plain.Keyword plain.Expr → plain.Expr
 dict_comp_step d = plain.DictComp d.key d.value (comprehensions d.generators.items)
 
-abbrev pub compare_step : layer.Compare-F plain.Expr plain.Arg plain.Arguments plain.Expr plain.Expr plain.Comprehension plain.Expr plain.Expr plain.Keyword plain.Expr → plain.Expr
+abbrev pub compare_step : layer.Compare-F plain.Expr plain.Arg plain.Arguments plain.Expr plain.Expr plain.Comprehension plain.Expr
+    plain.Expr plain.Keyword plain.Expr → plain.Expr
 compare_step c = plain.Compare c.left c.ops.items (exprs c.comparators.items)
 
-abbrev pub call_step : layer.Call-F plain.Expr plain.Arg plain.Arguments plain.Expr plain.Expr plain.Comprehension plain.Expr plain.Expr plain.Keyword plain.Expr → plain.Expr
+abbrev pub call_step : layer.Call-F plain.Expr plain.Arg plain.Arguments plain.Expr plain.Expr plain.Comprehension plain.Expr plain.Expr
+    plain.Keyword plain.Expr → plain.Expr
 call_step c = plain.Call c.func (exprs c.args.items) (keywords c.keywords.items)
 
-abbrev pub slice_step : layer.Slice-F plain.Expr plain.Arg plain.Arguments plain.Expr plain.Expr plain.Comprehension plain.Expr plain.Expr plain.Keyword plain.Expr → plain.Expr
+abbrev pub slice_step : layer.Slice-F plain.Expr plain.Arg plain.Arguments plain.Expr plain.Expr plain.Comprehension plain.Expr plain.Expr
+    plain.Keyword plain.Expr → plain.Expr
 slice_step s = plain.Slice (optional (boxed s.lower)) (optional (boxed s.upper)) (optional (boxed s.step))
 
-abbrev pub arg_step : layer.Arg-F plain.Expr plain.Arg plain.Arguments plain.Expr plain.Expr plain.Comprehension plain.Expr plain.Expr plain.Keyword plain.Expr → plain.Arg
+abbrev pub arg_step : layer.Arg-F plain.Expr plain.Arg plain.Arguments plain.Expr plain.Expr plain.Comprehension plain.Expr plain.Expr
+    plain.Keyword plain.Expr → plain.Arg
 arg_step a = plain.arg a.arg (optional (boxed a.annotation))
 
-abbrev pub arguments_step : layer.Arguments-F plain.Expr plain.Arg plain.Arguments plain.Expr plain.Expr plain.Comprehension plain.Expr plain.Expr plain.Keyword plain.Expr → plain.Arguments
+abbrev pub arguments_step : layer.Arguments-F plain.Expr plain.Arg plain.Arguments plain.Expr plain.Expr plain.Comprehension plain.Expr
+    plain.Expr plain.Keyword plain.Expr → plain.Arguments
 arguments_step a = plain.arguments (args a.posonlyargs.items) (args a.args.items) (optional_arg a.vararg)
     (args a.kwonlyargs.items) (optionals a.kw_defaults.items) (optional_arg a.kwarg) (exprs a.defaults.items)
 
-abbrev pub comprehension_step : layer.Comprehension-F plain.Expr plain.Arg plain.Arguments plain.Expr plain.Expr plain.Comprehension plain.Expr plain.Expr plain.Keyword plain.Expr → plain.Comprehension
+abbrev pub comprehension_step : layer.Comprehension-F plain.Expr plain.Arg plain.Arguments plain.Expr plain.Expr plain.Comprehension
+    plain.Expr plain.Expr plain.Keyword plain.Expr → plain.Comprehension
 comprehension_step c = record { target = c.target; iter = c.iter; ifs = c.ifs.items; is_async = c.is_async }
 
-abbrev pub keyword_step : layer.Keyword-F plain.Expr plain.Arg plain.Arguments plain.Expr plain.Expr plain.Comprehension plain.Expr plain.Expr plain.Keyword plain.Expr → plain.Keyword
+abbrev pub keyword_step : layer.Keyword-F plain.Expr plain.Arg plain.Arguments plain.Expr plain.Expr plain.Comprehension plain.Expr
+    plain.Expr plain.Keyword plain.Expr → plain.Keyword
 keyword_step k = record { arg = k.arg; value = k.value }
 
 -- the value of an expression, and of the parts that hold expressions
 unfoldable pub tree_of : given.Expr → plain.Expr
-tree_of = given.fold-Expr plain.Expr plain.Arg plain.Arguments plain.Expr plain.Expr plain.Comprehension plain.Expr plain.Expr plain.Keyword plain.Expr
+tree_of = given.fold-Expr plain.Expr plain.Arg plain.Arguments plain.Expr plain.Expr plain.Comprehension plain.Expr plain.Expr
+    plain.Keyword plain.Expr
     expr_step arg_step arguments_step call_step compare_step comprehension_step dict_step dict_comp_step keyword_step slice_step
 
 unfoldable pub keyword_of : given_keyword.Keyword → plain.Keyword
-keyword_of = given_keyword.fold-Keyword plain.Expr plain.Arg plain.Arguments plain.Expr plain.Expr plain.Comprehension plain.Expr plain.Expr plain.Keyword plain.Expr
+keyword_of = given_keyword.fold-Keyword plain.Expr plain.Arg plain.Arguments plain.Expr plain.Expr plain.Comprehension plain.Expr plain.Expr
+    plain.Keyword plain.Expr
     expr_step arg_step arguments_step call_step compare_step comprehension_step dict_step dict_comp_step keyword_step slice_step
 
 unfoldable pub comprehension_of : given_comprehension.Comprehension → plain.Comprehension
-comprehension_of = given_comprehension.fold-Comprehension plain.Expr plain.Arg plain.Arguments plain.Expr plain.Expr plain.Comprehension plain.Expr plain.Expr plain.Keyword plain.Expr
+comprehension_of = given_comprehension.fold-Comprehension plain.Expr plain.Arg plain.Arguments plain.Expr plain.Expr plain.Comprehension
+    plain.Expr plain.Expr plain.Keyword plain.Expr
     expr_step arg_step arguments_step call_step compare_step comprehension_step dict_step dict_comp_step keyword_step slice_step
 
 unfoldable pub arg_of : given_arg.Arg → plain.Arg
-arg_of = given_arg.fold-Arg plain.Expr plain.Arg plain.Arguments plain.Expr plain.Expr plain.Comprehension plain.Expr plain.Expr plain.Keyword plain.Expr
+arg_of = given_arg.fold-Arg plain.Expr plain.Arg plain.Arguments plain.Expr plain.Expr plain.Comprehension plain.Expr plain.Expr
+    plain.Keyword plain.Expr
     expr_step arg_step arguments_step call_step compare_step comprehension_step dict_step dict_comp_step keyword_step slice_step
 
 unfoldable pub arguments_of : given_arguments.Arguments → plain.Arguments
-arguments_of = given_arguments.fold-Arguments plain.Expr plain.Arg plain.Arguments plain.Expr plain.Expr plain.Comprehension plain.Expr plain.Expr plain.Keyword plain.Expr
+arguments_of = given_arguments.fold-Arguments plain.Expr plain.Arg plain.Arguments plain.Expr plain.Expr plain.Comprehension plain.Expr
+    plain.Expr plain.Keyword plain.Expr
     expr_step arg_step arguments_step call_step compare_step comprehension_step dict_step dict_comp_step keyword_step slice_step
 
 unfoldable pub call_of : given_call.Call → plain.Expr
-call_of = given_call.fold-Call plain.Expr plain.Arg plain.Arguments plain.Expr plain.Expr plain.Comprehension plain.Expr plain.Expr plain.Keyword plain.Expr
+call_of = given_call.fold-Call plain.Expr plain.Arg plain.Arguments plain.Expr plain.Expr plain.Comprehension plain.Expr plain.Expr
+    plain.Keyword plain.Expr
     expr_step arg_step arguments_step call_step compare_step comprehension_step dict_step dict_comp_step keyword_step slice_step
 
 unfoldable pub compare_of : given_compare.Compare → plain.Expr
-compare_of = given_compare.fold-Compare plain.Expr plain.Arg plain.Arguments plain.Expr plain.Expr plain.Comprehension plain.Expr plain.Expr plain.Keyword plain.Expr
+compare_of = given_compare.fold-Compare plain.Expr plain.Arg plain.Arguments plain.Expr plain.Expr plain.Comprehension plain.Expr plain.Expr
+    plain.Keyword plain.Expr
     expr_step arg_step arguments_step call_step compare_step comprehension_step dict_step dict_comp_step keyword_step slice_step
 
 unfoldable pub dict_of : given_dict.Dict → plain.Expr
-dict_of = given_dict.fold-Dict plain.Expr plain.Arg plain.Arguments plain.Expr plain.Expr plain.Comprehension plain.Expr plain.Expr plain.Keyword plain.Expr
+dict_of = given_dict.fold-Dict plain.Expr plain.Arg plain.Arguments plain.Expr plain.Expr plain.Comprehension plain.Expr plain.Expr
+    plain.Keyword plain.Expr
     expr_step arg_step arguments_step call_step compare_step comprehension_step dict_step dict_comp_step keyword_step slice_step
 
 unfoldable pub dict_comp_of : given_dict_comp.DictComp → plain.Expr
-dict_comp_of = given_dict_comp.fold-DictComp plain.Expr plain.Arg plain.Arguments plain.Expr plain.Expr plain.Comprehension plain.Expr plain.Expr plain.Keyword plain.Expr
+dict_comp_of = given_dict_comp.fold-DictComp plain.Expr plain.Arg plain.Arguments plain.Expr plain.Expr plain.Comprehension plain.Expr
+    plain.Expr plain.Keyword plain.Expr
     expr_step arg_step arguments_step call_step compare_step comprehension_step dict_step dict_comp_step keyword_step slice_step
 
 unfoldable pub slice_of : given_slice.Slice → plain.Expr
-slice_of = given_slice.fold-Slice plain.Expr plain.Arg plain.Arguments plain.Expr plain.Expr plain.Comprehension plain.Expr plain.Expr plain.Keyword plain.Expr
+slice_of = given_slice.fold-Slice plain.Expr plain.Arg plain.Arguments plain.Expr plain.Expr plain.Comprehension plain.Expr plain.Expr
+    plain.Keyword plain.Expr
     expr_step arg_step arguments_step call_step compare_step comprehension_step dict_step dict_comp_step keyword_step slice_step
 
 -- the value of an expression that may be absent
@@ -238,10 +258,12 @@ stmt_step stmt_layer.Continue = plain.Continue
 abbrev pub case_step : stmt_layer.Case-F plain.Stmt plain.Case plain.Stmt plain.FunctionDefFields plain.Handler plain.TryFields → plain.Case
 case_step c = record { pattern = pattern_of c.pattern; guard = option_of c.guard; body = c.body.items }
 
-abbrev pub handler_step : stmt_layer.Handler-F plain.Stmt plain.Case plain.Stmt plain.FunctionDefFields plain.Handler plain.TryFields → plain.Handler
+abbrev pub handler_step : stmt_layer.Handler-F plain.Stmt plain.Case plain.Stmt plain.FunctionDefFields plain.Handler
+    plain.TryFields → plain.Handler
 handler_step h = record { class = option_of h.class; name = h.name; body = h.body.items }
 
-abbrev pub function_def_step : stmt_layer.FunctionDef-F plain.Stmt plain.Case plain.Stmt plain.FunctionDefFields plain.Handler plain.TryFields → plain.FunctionDefFields
+abbrev pub function_def_step : stmt_layer.FunctionDef-F plain.Stmt plain.Case plain.Stmt plain.FunctionDefFields plain.Handler
+    plain.TryFields → plain.FunctionDefFields
 function_def_step d = record {
   name = d.name;
   args = arguments_of d.args.value;
@@ -251,31 +273,39 @@ function_def_step d = record {
   type_params = map type_param_of d.type_params.items;
 }
 
-abbrev pub class_def_step : stmt_layer.ClassDef-F plain.Stmt plain.Case plain.Stmt plain.FunctionDefFields plain.Handler plain.TryFields → plain.Stmt
+abbrev pub class_def_step : stmt_layer.ClassDef-F plain.Stmt plain.Case plain.Stmt plain.FunctionDefFields plain.Handler
+    plain.TryFields → plain.Stmt
 class_def_step c = plain.ClassDef c.name (map tree_of c.bases.items) (keywords (map keyword_of c.keywords.items)) (stmts c.body.items)
     (map tree_of c.decorator_list.items) (map type_param_of c.type_params.items)
 
-abbrev pub try_step : stmt_layer.Try-F plain.Stmt plain.Case plain.Stmt plain.FunctionDefFields plain.Handler plain.TryFields → plain.TryFields
+abbrev pub try_step : stmt_layer.Try-F plain.Stmt plain.Case plain.Stmt plain.FunctionDefFields plain.Handler
+    plain.TryFields → plain.TryFields
 try_step t = record { body = t.body.items; handlers = t.handlers.items; orelse = t.orelse.items; finalbody = t.finalbody.items }
 
 -- the value of a statement, of a case, of a handler, and of a module
 unfoldable pub stmt_of : given_stmt.Stmt → plain.Stmt
-stmt_of = given_stmt.fold-Stmt plain.Stmt plain.Case plain.Stmt plain.FunctionDefFields plain.Handler plain.TryFields stmt_step case_step class_def_step function_def_step handler_step try_step
+stmt_of = given_stmt.fold-Stmt plain.Stmt plain.Case plain.Stmt plain.FunctionDefFields plain.Handler plain.TryFields stmt_step case_step
+    class_def_step function_def_step handler_step try_step
 
 unfoldable pub case_of : given_case.Case → plain.Case
-case_of = given_case.fold-Case plain.Stmt plain.Case plain.Stmt plain.FunctionDefFields plain.Handler plain.TryFields stmt_step case_step class_def_step function_def_step handler_step try_step
+case_of = given_case.fold-Case plain.Stmt plain.Case plain.Stmt plain.FunctionDefFields plain.Handler plain.TryFields stmt_step case_step
+    class_def_step function_def_step handler_step try_step
 
 unfoldable pub handler_of : given_handler.Handler → plain.Handler
-handler_of = given_handler.fold-Handler plain.Stmt plain.Case plain.Stmt plain.FunctionDefFields plain.Handler plain.TryFields stmt_step case_step class_def_step function_def_step handler_step try_step
+handler_of = given_handler.fold-Handler plain.Stmt plain.Case plain.Stmt plain.FunctionDefFields plain.Handler plain.TryFields stmt_step
+    case_step class_def_step function_def_step handler_step try_step
 
 unfoldable pub function_def_of : given_function_def.FunctionDef → plain.FunctionDefFields
-function_def_of = given_function_def.fold-FunctionDef plain.Stmt plain.Case plain.Stmt plain.FunctionDefFields plain.Handler plain.TryFields stmt_step case_step class_def_step function_def_step handler_step try_step
+function_def_of = given_function_def.fold-FunctionDef plain.Stmt plain.Case plain.Stmt plain.FunctionDefFields plain.Handler plain.TryFields
+    stmt_step case_step class_def_step function_def_step handler_step try_step
 
 unfoldable pub class_def_of : given_class_def.ClassDef → plain.Stmt
-class_def_of = given_class_def.fold-ClassDef plain.Stmt plain.Case plain.Stmt plain.FunctionDefFields plain.Handler plain.TryFields stmt_step case_step class_def_step function_def_step handler_step try_step
+class_def_of = given_class_def.fold-ClassDef plain.Stmt plain.Case plain.Stmt plain.FunctionDefFields plain.Handler plain.TryFields
+    stmt_step case_step class_def_step function_def_step handler_step try_step
 
 unfoldable pub try_of : given_try.Try → plain.TryFields
-try_of = given_try.fold-Try plain.Stmt plain.Case plain.Stmt plain.FunctionDefFields plain.Handler plain.TryFields stmt_step case_step class_def_step function_def_step handler_step try_step
+try_of = given_try.fold-Try plain.Stmt plain.Case plain.Stmt plain.FunctionDefFields plain.Handler plain.TryFields stmt_step case_step
+    class_def_step function_def_step handler_step try_step
 
 abbrev pub module_of : given_module.Module → plain.Module
 module_of m = record { body = map stmt_of m.body.items }

@@ -67,4 +67,5 @@ same_held source p q left same keeps =
 
 pub same_listed : (source : Parts) (p q : Machine) → IsSame p q → listed source q ≡ listed source p
 same_listed source p q same = ap (listed source) same.0
-    ∙ ap (λ (ls : List ℕ). let l : Listed = record { source = source; shown = shown_by p.given p.point ls ((length ls - p.nested) + p.tail) } in l) same.1
+    ∙ ap (λ (ls : List ℕ). let l : Listed =
+    record { source = source; shown = shown_by p.given p.point ls ((length ls - p.nested) + p.tail) } in l) same.1

@@ -176,7 +176,8 @@ all_lie cs fault left good (x ∷ xs) before text h l =
 listing_lies : (s : Source) → all_scalars s.text ≡ true → AllLie (encode_utf8_all s.text) (listing s)
 unfolding listing
 listing_lies s good =
-    up_to_end_lies (encode_utf8_all s.text) (mark kinds.Encoding [] origin origin ∷ steps_from s.fault (left_by_cut s.text) [] (cut s.text)) (
+    up_to_end_lies (encode_utf8_all s.text)
+    (mark kinds.Encoding [] origin origin ∷ steps_from s.fault (left_by_cut s.text) [] (cut s.text)) (
       mark_lies s.text good [] s.text _ refl refl refl,
       all_lie s.text s.fault (left_by_cut s.text) good (cut s.text) [] s.text
           refl (cut_lexed s.text),

@@ -1,7 +1,8 @@
 -- The line that a text ends in, over bytes.
 --
 -- Carries: last_line. On: Resume.
-use Rattle.std.proofs.Common.{◌≡◌, ◌≢◌, ℕ, suc, ◌+◌, ◌-◌, ◌<◌, ◌≤◌, true, false, ◌&&◌, ◌==◌, List, [], ◌∷◌, ◌++◌, length, take, drop, get_or}
+use Rattle.std.proofs.Common.{◌≡◌, ◌≢◌, ℕ, suc, ◌+◌, ◌-◌, ◌<◌, ◌≤◌, true, false, ◌&&◌, ◌==◌, List, [], ◌∷◌, ◌++◌, length, take, drop}
+use Rattle.std.proofs.Common.{get_or}
 use Rattle.std.proofs.Common.{reverse, refl, ap, ◌∙◌, sym, subst, arith, ⊎_elim, append_assoc, Some, None, drop-cons, get_or-drop}
 use Rattle.std.proofs.Common.{length-drop}
 use Rattle.std.specs.List.{take_while, list_all}

@@ -49,7 +49,8 @@ sign_takes (c ∷ []) e d h g m = cc
 sign_takes (c ∷ b ∷ t) Dot d h g m =
     let f : c ≡ 46 = eqb-true c 46 h in
     let s : b ≡ d = cc in
-    rw (f, s) (sign_at 46 d t Dot refl (second_none d m) (other_at 46 (d ∷ t) (omega arith) refl refl refl (digit_none d m) refl refl refl refl refl))
+    rw (f, s) (sign_at 46 d t Dot refl (second_none d m) (other_at 46 (d ∷ t) (omega arith) refl refl refl (digit_none d m)
+    refl refl refl refl refl))
 sign_takes (c ∷ b ∷ t) Colon d h g m =
     let f : c ≡ 58 = eqb-true c 58 h in
     let s : b ≡ d = cc in

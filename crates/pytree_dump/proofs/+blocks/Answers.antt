@@ -28,7 +28,8 @@ use Rattle.pytree_node.proofs.Callers.StmtShapes.{ann_assign_tree, assert_tree, 
 use Rattle.pytree_node.proofs.Callers.StmtShapes.{aug_assign_tree, class_def_tree, delete_tree, expr_stmt_tree, function_def_tree}
 use Rattle.pytree_node.proofs.Callers.StmtShapes.{global_tree, if_tree, import_from_tree, import_tree, nonlocal_tree, raise_tree}
 use Rattle.pytree_node.proofs.Callers.StmtShapes.{return_tree, type_alias_tree, while_tree, with_tree, break_tree, continue_tree, pass_tree}
-use Rattle.pytree_node.proofs.Callers.StmtShapes.{for_tree, async_for_tree, match_tree, try_tree, try_star_tree, class_def_shape, function_def_shape, try_shape}
+use Rattle.pytree_node.proofs.Callers.StmtShapes.{for_tree, async_for_tree, match_tree, try_tree, try_star_tree, class_def_shape}
+use Rattle.pytree_node.proofs.Callers.StmtShapes.{function_def_shape, try_shape}
 use Rattle.pytree_dump.proofs.+blocks.Goals as goal
 
 pub statements::show_stmts-show_stmt-requires : goal.statements::show_stmts-show_stmt-requires
@@ -124,7 +125,8 @@ compounds::show_try-returns-clause-text g t c =
       sym c.deref-3.ensures.value,
       sym c.deref-4.ensures.value,
     ) refl in
-    node_as s (string_bytes c.args.indentation.now) (string_bytes c.args.out.now) _ c.args.class.now (g.P.PlaceSource.left c.args.places.now) _ (sym e)
+    node_as s (string_bytes c.args.indentation.now) (string_bytes c.args.out.now) _ c.args.class.now
+    (g.P.PlaceSource.left c.args.places.now) _ (sym e)
     (node_ended s _ c.args.class.now F _ c.in_ok-outer.ensures.indentation
     (c.is_flat.ensures ∙ long_line true _ _ (F no_field) (four_or_more (F no_field) 0 refl))
     c.in_ok-outer.ensures.text
@@ -196,7 +198,8 @@ compounds::show_function-returns-clause-text g t c =
     (a_field (codes "decorator_list") (listed (λ e. shown (tree_of e)) (sym c.deref-3.ensures.value i))
     (expr_field (codes "returns") (boxed_of o.returns)
     (left_out (type_params_field s.profile (map type_param_of (sym c.deref-4.ensures.value i))))))))) in
-    node_as s (string_bytes c.args.indentation.now) (string_bytes c.args.out.now) _ c.args.class.now (g.P.PlaceSource.left c.args.places.now) _ (sym e)
+    node_as s (string_bytes c.args.indentation.now) (string_bytes c.args.out.now) _ c.args.class.now
+    (g.P.PlaceSource.left c.args.places.now) _ (sym e)
     (node_ended s _ c.args.class.now F _ c.in_ok-outer.ensures.indentation
     (c.is_flat.ensures ∙ long_line true _ _ (F no_field)
     (four_or_more (F no_field)
@@ -293,10 +296,14 @@ pub statements::show_stmt-returns-in-AsyncFunctionDef-clause-text : goal.stateme
 statements::show_stmt-returns-in-AsyncFunctionDef-clause-text g t c =
     let e : shown_stmt c.args.style.profile (stmt_of c.args.s.now) ≡ Node (codes "AsyncFunctionDef")
     (function_def_fields c.args.style.profile (function_def_of c.deref-in-AsyncFunctionDef.result.now)) =
-    ap (λ z. shown_stmt c.args.style.profile (stmt_of z)) c.in-AsyncFunctionDef.is ∙ ap (shown_stmt c.args.style.profile) (async_function_def_tree _)
-    ∙ ap (λ z. Node (codes "AsyncFunctionDef") (function_def_fields c.args.style.profile (function_def_of z))) (sym c.deref-in-AsyncFunctionDef.ensures) in
-    shown_on c.args.style (string_bytes c.args.indentation.now) (string_bytes c.args.out.now) (string_bytes c.show_function-in-AsyncFunctionDef.new.out)
-    (g.P.PlaceSource.left c.args.places.now) (g.P.PlaceSource.left c.show_function-in-AsyncFunctionDef.new.places) c.show_function-in-AsyncFunctionDef.result _ _ (sym e)
+    ap (λ z. shown_stmt c.args.style.profile (stmt_of z)) c.in-AsyncFunctionDef.is
+    ∙ ap (shown_stmt c.args.style.profile) (async_function_def_tree _)
+    ∙ ap (λ z. Node (codes "AsyncFunctionDef") (function_def_fields c.args.style.profile (function_def_of z)))
+    (sym c.deref-in-AsyncFunctionDef.ensures) in
+    shown_on c.args.style (string_bytes c.args.indentation.now) (string_bytes c.args.out.now)
+    (string_bytes c.show_function-in-AsyncFunctionDef.new.out)
+    (g.P.PlaceSource.left c.args.places.now) (g.P.PlaceSource.left c.show_function-in-AsyncFunctionDef.new.places)
+    c.show_function-in-AsyncFunctionDef.result _ _ (sym e)
     c.show_function-in-AsyncFunctionDef.ensures.text
 
 pub statements::show_stmt-returns-in-TypeAlias-clause-text : goal.statements::show_stmt-returns-in-TypeAlias-clause-text
@@ -637,5 +644,6 @@ statements::show_stmt-returns-in-TryStar-clause-text g t c =
     (try_fields c.args.style.profile (try_of c.deref-in-TryStar.result.now)) =
     rw (c.in-TryStar.is, try_star_tree, sym c.deref-in-TryStar.ensures) refl in
     shown_on c.args.style (string_bytes c.args.indentation.now) (string_bytes c.args.out.now) (string_bytes c.show_try-in-TryStar.new.out)
-    (g.P.PlaceSource.left c.args.places.now) (g.P.PlaceSource.left c.show_try-in-TryStar.new.places) c.show_try-in-TryStar.result _ _ (sym e)
+    (g.P.PlaceSource.left c.args.places.now) (g.P.PlaceSource.left c.show_try-in-TryStar.new.places)
+    c.show_try-in-TryStar.result _ _ (sym e)
     c.show_try-in-TryStar.ensures.text

@@ -1038,7 +1038,8 @@ expressions::show_expr-returns-else-is_joined-clause-text g t c =
 
 pub expressions::show_expr-returns-in-Dict-clause-text : goal.expressions::show_expr-returns-in-Dict-clause-text
 expressions::show_expr-returns-in-Dict-clause-text g t c =
-    let e : shown (tree_of c.args.e.now) ≡ shown (dict_of c.deref-in-Dict.result.now) = rw (c.in-Dict.is, dict_tree, sym c.deref-in-Dict.ensures) refl in
+    let e : shown (tree_of c.args.e.now) ≡ shown (dict_of c.deref-in-Dict.result.now) =
+    rw (c.in-Dict.is, dict_tree, sym c.deref-in-Dict.ensures) refl in
     shown_on c.args.style (string_bytes c.args.indentation.now) (string_bytes c.args.out.now) (string_bytes c.show_dict.new.out)
     (g.P.PlaceSource.left c.args.places.now) (g.P.PlaceSource.left c.show_dict.new.places) c.show_dict.result _ _ (sym e)
     c.show_dict.ensures.text
@@ -1051,7 +1052,8 @@ expressions::show_expr-show_dict-requires g t c =
 
 pub expressions::show_expr-returns-in-DictComp-clause-text : goal.expressions::show_expr-returns-in-DictComp-clause-text
 expressions::show_expr-returns-in-DictComp-clause-text g t c =
-    let e : shown (tree_of c.args.e.now) ≡ shown (dict_comp_of c.deref-in-DictComp.result.now) = rw (c.in-DictComp.is, dict_comp_tree, sym c.deref-in-DictComp.ensures) refl in
+    let e : shown (tree_of c.args.e.now) ≡ shown (dict_comp_of c.deref-in-DictComp.result.now) =
+    rw (c.in-DictComp.is, dict_comp_tree, sym c.deref-in-DictComp.ensures) refl in
     shown_on c.args.style (string_bytes c.args.indentation.now) (string_bytes c.args.out.now) (string_bytes c.show_dict_comp.new.out)
     (g.P.PlaceSource.left c.args.places.now) (g.P.PlaceSource.left c.show_dict_comp.new.places) c.show_dict_comp.result _ _ (sym e)
     c.show_dict_comp.ensures.text
@@ -1064,7 +1066,8 @@ expressions::show_expr-show_dict_comp-requires g t c =
 
 pub expressions::show_expr-returns-in-Compare-clause-text : goal.expressions::show_expr-returns-in-Compare-clause-text
 expressions::show_expr-returns-in-Compare-clause-text g t c =
-    let e : shown (tree_of c.args.e.now) ≡ shown (compare_of c.deref-in-Compare.result.now) = rw (c.in-Compare.is, compare_tree, sym c.deref-in-Compare.ensures) refl in
+    let e : shown (tree_of c.args.e.now) ≡ shown (compare_of c.deref-in-Compare.result.now) =
+    rw (c.in-Compare.is, compare_tree, sym c.deref-in-Compare.ensures) refl in
     shown_on c.args.style (string_bytes c.args.indentation.now) (string_bytes c.args.out.now) (string_bytes c.show_compare.new.out)
     (g.P.PlaceSource.left c.args.places.now) (g.P.PlaceSource.left c.show_compare.new.places) c.show_compare.result _ _ (sym e)
     c.show_compare.ensures.text
@@ -1077,7 +1080,8 @@ expressions::show_expr-show_compare-requires g t c =
 
 pub expressions::show_expr-returns-in-Call-clause-text : goal.expressions::show_expr-returns-in-Call-clause-text
 expressions::show_expr-returns-in-Call-clause-text g t c =
-    let e : shown (tree_of c.args.e.now) ≡ shown (call_of c.deref-in-Call.result.now) = rw (c.in-Call.is, call_tree, sym c.deref-in-Call.ensures) refl in
+    let e : shown (tree_of c.args.e.now) ≡ shown (call_of c.deref-in-Call.result.now) =
+    rw (c.in-Call.is, call_tree, sym c.deref-in-Call.ensures) refl in
     shown_on c.args.style (string_bytes c.args.indentation.now) (string_bytes c.args.out.now) (string_bytes c.show_call.new.out)
     (g.P.PlaceSource.left c.args.places.now) (g.P.PlaceSource.left c.show_call.new.places) c.show_call.result _ _ (sym e)
     c.show_call.ensures.text
@@ -1090,7 +1094,8 @@ expressions::show_expr-show_call-requires g t c =
 
 pub expressions::show_expr-returns-in-Slice-clause-text : goal.expressions::show_expr-returns-in-Slice-clause-text
 expressions::show_expr-returns-in-Slice-clause-text g t c =
-    let e : shown (tree_of c.args.e.now) ≡ shown (slice_of c.deref-in-Slice.result.now) = rw (c.in-Slice.is, slice_tree, sym c.deref-in-Slice.ensures) refl in
+    let e : shown (tree_of c.args.e.now) ≡ shown (slice_of c.deref-in-Slice.result.now) =
+    rw (c.in-Slice.is, slice_tree, sym c.deref-in-Slice.ensures) refl in
     shown_on c.args.style (string_bytes c.args.indentation.now) (string_bytes c.args.out.now) (string_bytes c.show_slice.new.out)
     (g.P.PlaceSource.left c.args.places.now) (g.P.PlaceSource.left c.show_slice.new.places) c.show_slice.result _ _ (sym e)
     c.show_slice.ensures.text
@@ -1119,7 +1124,9 @@ expressions::show_dict-returns-clause-text g t c =
 
 pub expressions::show_dict-show_two-requires : goal.expressions::show_dict-show_two-requires
 expressions::show_dict-show_two-requires g t c =
-    let e : weight (shown (dict_of c.args.dict.now)) ≡ weight (Row (showns (map (λ e. shown_optional (optional (option_of e))) c.deref.result.now))) + (weight (Row (showns (map (λ e. shown (tree_of e)) c.deref-2.result.now))) + 0) + 1 =
+    let e : weight (shown (dict_of c.args.dict.now)) ≡
+    weight (Row (showns (map (λ e. shown_optional (optional (option_of e))) c.deref.result.now))) +
+    (weight (Row (showns (map (λ e. shown (tree_of e)) c.deref-2.result.now))) + 0) + 1 =
     rw (
       dict_shape,
       optionals_row (given_dict.out-Dict c.args.dict.now).keys.items,
@@ -1145,7 +1152,9 @@ expressions::show_dict_comp-returns-clause-text g t c =
 
 pub expressions::show_dict_comp-show_three-requires : goal.expressions::show_dict_comp-show_three-requires
 expressions::show_dict_comp-show_three-requires g t c =
-    let e : weight (shown (dict_comp_of c.args.comp.now)) ≡ weight (shown (tree_of (given_dict_comp.out-DictComp c.args.comp.now).key)) + (weight (shown (tree_of (given_dict_comp.out-DictComp c.args.comp.now).value)) + (weight (Row (showns (map (λ c. shown_comprehension (comprehension_of c)) c.deref.result.now))) + 0)) + 1 =
+    let e : weight (shown (dict_comp_of c.args.comp.now)) ≡ weight (shown (tree_of (given_dict_comp.out-DictComp c.args.comp.now).key)) +
+    (weight (shown (tree_of (given_dict_comp.out-DictComp c.args.comp.now).value)) +
+    (weight (Row (showns (map (λ c. shown_comprehension (comprehension_of c)) c.deref.result.now))) + 0)) + 1 =
     rw (
       dict_comp_shape,
       comprehensions_row (given_dict_comp.out-DictComp c.args.comp.now).generators.items,
@@ -1160,7 +1169,8 @@ expressions::show_compare-returns-clause-text g t c =
     (a_field (codes "comparators") (Row (showns (map (λ e. shown (tree_of e)) c.deref-2.result.now))) no_field))) =
     ap shown (compare_shape c.args.compare.now)
     ∙ (λ i. Node (codes "Compare") (a_field (codes "left") (shown (tree_of o.left))
-    (a_field (codes "ops") (Row (comparisons_row o.ops.items i)) (a_field (codes "comparators") (Row (exprs_row o.comparators.items i)) no_field))))
+    (a_field (codes "ops") (Row (comparisons_row o.ops.items i))
+    (a_field (codes "comparators") (Row (exprs_row o.comparators.items i)) no_field))))
     ∙ (λ i. Node (codes "Compare") (a_field (codes "left") (shown (tree_of o.left))
     (a_field (codes "ops") (Row (showns (map (λ c. word (comparison_name c)) (sym c.deref.ensures.value i))))
     (a_field (codes "comparators") (Row (showns (map (λ e. shown (tree_of e)) (sym c.deref-2.ensures.value i)))) no_field)))) in
@@ -1176,7 +1186,8 @@ expressions::show_compare-show_three-requires g t c =
     (a_field (codes "comparators") (Row (showns (map (λ e. shown (tree_of e)) c.deref-2.result.now))) no_field))) =
     ap shown (compare_shape c.args.compare.now)
     ∙ (λ i. Node (codes "Compare") (a_field (codes "left") (shown (tree_of o.left))
-    (a_field (codes "ops") (Row (comparisons_row o.ops.items i)) (a_field (codes "comparators") (Row (exprs_row o.comparators.items i)) no_field))))
+    (a_field (codes "ops") (Row (comparisons_row o.ops.items i))
+    (a_field (codes "comparators") (Row (exprs_row o.comparators.items i)) no_field))))
     ∙ (λ i. Node (codes "Compare") (a_field (codes "left") (shown (tree_of o.left))
     (a_field (codes "ops") (Row (showns (map (λ c. word (comparison_name c)) (sym c.deref.ensures.value i))))
     (a_field (codes "comparators") (Row (showns (map (λ e. shown (tree_of e)) (sym c.deref-2.ensures.value i)))) no_field)))) in
@@ -1194,7 +1205,8 @@ expressions::show_call-show_joined_call-requires g t c =
 
 pub expressions::show_call-returns-else-is_joined-clause-text : goal.expressions::show_call-returns-else-is_joined-clause-text
 expressions::show_call-returns-else-is_joined-clause-text g t c =
-    let e : shown (call_of c.args.call.now) ≡ Node (codes "Call") (a_field (codes "func") (shown (tree_of (given_call.out-Call c.args.call.now).func))
+    let e : shown (call_of c.args.call.now) ≡ Node (codes "Call")
+    (a_field (codes "func") (shown (tree_of (given_call.out-Call c.args.call.now).func))
     (a_field (codes "args") (Row (showns (map (λ e. shown (tree_of e)) c.deref.result.now)))
     (a_field (codes "keywords") (Row (showns (map (λ k. shown_keyword (keyword_of k)) c.deref-else-is_joined.result.now))) no_field))) =
     rw (

@@ -26,14 +26,16 @@ use Rattle.pytree_node.specs.declared.expressions.Keyword.{Keyword}
 use Rattle.pytree_node.specs.declared.expressions.Slice.{Slice}
 use Rattle.pytree_node.specs.Trees as plain
 use Rattle.pytree_node.specs.Trees.{Identifier}
-use Rattle.pytree_node.specs.TreeOf.{tree_of, arg_of, arguments_of, call_of, compare_of, comprehension_of, dict_of, dict_comp_of, keyword_of}
+use Rattle.pytree_node.specs.TreeOf.{tree_of, arg_of, arguments_of, call_of, compare_of, comprehension_of, dict_of, dict_comp_of}
+use Rattle.pytree_node.specs.TreeOf.{keyword_of}
 use Rattle.pytree_node.specs.TreeOf.{slice_of, expr_step, arg_step, arguments_step, call_step, compare_step, comprehension_step, dict_step}
 use Rattle.pytree_node.specs.TreeOf.{dict_comp_step, keyword_step, slice_step}
 use Rattle.pytree_node.proofs.Callers.ExprShapes.{Layer, valued, call_shape, compare_shape, dict_shape, dict_comp_shape, slice_shape}
 
 opened : (e : Expr) → tree_of e ≡ expr_step (valued (given.out-Expr e))
 unfolding tree_of arg_of arguments_of call_of compare_of comprehension_of dict_of dict_comp_of keyword_of slice_of
-opened = given.fold_out-Expr plain.Expr plain.Arg plain.Arguments plain.Expr plain.Expr plain.Comprehension plain.Expr plain.Expr plain.Keyword plain.Expr
+opened = given.fold_out-Expr plain.Expr plain.Arg plain.Arguments plain.Expr plain.Expr plain.Comprehension plain.Expr plain.Expr
+    plain.Keyword plain.Expr
     expr_step arg_step arguments_step call_step compare_step comprehension_step dict_step dict_comp_step keyword_step slice_step
 
 -- it is of the class of this value
@@ -91,7 +93,8 @@ layer_has_class (layer.GeneratorExp elt generators) = (elt, generators, refl)
 layer_has_class (layer.Await value) = (value, refl)
 layer_has_class (layer.Yield value) = (value, refl)
 layer_has_class (layer.YieldFrom value) = (value, refl)
-layer_has_class (layer.Compare compare) = subst (λ t. HasClass t (variant.Compare compare)) (sym (compare_shape compare.value)) (compare, refl)
+layer_has_class (layer.Compare compare) = subst (λ t. HasClass t (variant.Compare compare))
+    (sym (compare_shape compare.value)) (compare, refl)
 layer_has_class (layer.Call call) = subst (λ t. HasClass t (variant.Call call)) (sym (call_shape call.value)) (call, refl)
 layer_has_class (layer.FormattedValue value conversion spec) = (value, conversion, spec, refl)
 layer_has_class (layer.JoinedStr values) = (values, refl)

@@ -46,13 +46,16 @@ abbrev pub Layer : Type 0
 Layer = layer.Expr-F Expr Arg Arguments Call Compare Comprehension Dict DictComp Keyword Slice
 
 -- the node with its children's values in their places
-abbrev pub valued : Layer → layer.Expr-F plain.Expr plain.Arg plain.Arguments plain.Expr plain.Expr plain.Comprehension plain.Expr plain.Expr plain.Keyword plain.Expr
-valued = given.map-Expr Expr Arg Arguments Call Compare Comprehension Dict DictComp Keyword Slice plain.Expr plain.Arg plain.Arguments plain.Expr plain.Expr plain.Comprehension plain.Expr plain.Expr plain.Keyword plain.Expr
+abbrev pub valued : Layer → layer.Expr-F plain.Expr plain.Arg plain.Arguments plain.Expr plain.Expr plain.Comprehension plain.Expr
+    plain.Expr plain.Keyword plain.Expr
+valued = given.map-Expr Expr Arg Arguments Call Compare Comprehension Dict DictComp Keyword Slice plain.Expr plain.Arg plain.Arguments
+    plain.Expr plain.Expr plain.Comprehension plain.Expr plain.Expr plain.Keyword plain.Expr
     tree_of arg_of arguments_of call_of compare_of comprehension_of dict_of dict_comp_of keyword_of slice_of
 
 rolls : (node : Layer) → tree_of (given.roll-Expr node) ≡ expr_step (valued node)
 unfolding tree_of arg_of arguments_of call_of compare_of comprehension_of dict_of dict_comp_of keyword_of slice_of
-rolls = given.fold-roll-Expr plain.Expr plain.Arg plain.Arguments plain.Expr plain.Expr plain.Comprehension plain.Expr plain.Expr plain.Keyword plain.Expr
+rolls = given.fold-roll-Expr plain.Expr plain.Arg plain.Arguments plain.Expr plain.Expr plain.Comprehension plain.Expr plain.Expr
+    plain.Keyword plain.Expr
     expr_step arg_step arguments_step call_step compare_step comprehension_step dict_step dict_comp_step keyword_step slice_step
 
 boxed_is : (o : Option (Box Expr Global)) → boxed ((shape.former-Expr-Yield-0).map Expr plain.Expr tree_of o) ≡ boxed_of o
@@ -97,10 +100,12 @@ pub if_exp_tree : (test : Box Expr Global) (body : Box Expr Global) (orelse : Bo
 unfolding given.roll-Expr denote.Hole.Carrier.roll
 if_exp_tree test body orelse = rolls (layer.IfExp test body orelse)
 
-pub dict_shape : (d : Dict) → let o : layer.Dict-F Expr Arg Arguments Call Compare Comprehension Dict DictComp Keyword Slice = given_dict.out-Dict d in
+pub dict_shape : (d : Dict) → let o : layer.Dict-F Expr Arg Arguments Call Compare Comprehension Dict DictComp Keyword Slice =
+    given_dict.out-Dict d in
     dict_of d ≡ plain.Dict (optionals (map option_of o.keys.items)) (exprs (map tree_of o.values.items))
 unfolding tree_of arg_of arguments_of call_of compare_of comprehension_of dict_of dict_comp_of keyword_of slice_of
-dict_shape d = given_dict.fold_out-Dict plain.Expr plain.Arg plain.Arguments plain.Expr plain.Expr plain.Comprehension plain.Expr plain.Expr plain.Keyword plain.Expr
+dict_shape d = given_dict.fold_out-Dict plain.Expr plain.Arg plain.Arguments plain.Expr plain.Expr plain.Comprehension plain.Expr plain.Expr
+    plain.Keyword plain.Expr
     expr_step arg_step arguments_step call_step compare_step comprehension_step dict_step dict_comp_step keyword_step slice_step d
     ∙ (λ i. let o : layer.Dict-F Expr Arg Arguments Call Compare Comprehension Dict DictComp Keyword Slice = given_dict.out-Dict d in
     plain.Dict (optionals (map (λ k. option_is k i) o.keys.items)) (exprs (map tree_of o.values.items)))
@@ -124,10 +129,12 @@ pub set_comp_tree : (elt : Box Expr Global) (generators : Vec Comprehension Glob
 unfolding given.roll-Expr denote.Hole.Carrier.roll
 set_comp_tree elt generators = rolls (layer.SetComp elt generators)
 
-pub dict_comp_shape : (d : DictComp) → let o : layer.DictComp-F Expr Arg Arguments Call Compare Comprehension Dict DictComp Keyword Slice = given_dict_comp.out-DictComp d in
+pub dict_comp_shape : (d : DictComp) → let o : layer.DictComp-F Expr Arg Arguments Call Compare Comprehension Dict DictComp Keyword Slice =
+    given_dict_comp.out-DictComp d in
     dict_comp_of d ≡ plain.DictComp (tree_of o.key) (tree_of o.value) (comprehensions (map comprehension_of o.generators.items))
 unfolding tree_of arg_of arguments_of call_of compare_of comprehension_of dict_of dict_comp_of keyword_of slice_of
-dict_comp_shape d = given_dict_comp.fold_out-DictComp plain.Expr plain.Arg plain.Arguments plain.Expr plain.Expr plain.Comprehension plain.Expr plain.Expr plain.Keyword plain.Expr
+dict_comp_shape d = given_dict_comp.fold_out-DictComp plain.Expr plain.Arg plain.Arguments plain.Expr plain.Expr plain.Comprehension
+    plain.Expr plain.Expr plain.Keyword plain.Expr
     expr_step arg_step arguments_step call_step compare_step comprehension_step dict_step dict_comp_step keyword_step slice_step d
 
 pub dict_comp_tree : (d : Box DictComp Global) → tree_of (variant.DictComp d) ≡ dict_comp_of d.value
@@ -155,20 +162,24 @@ pub yield_from_tree : (value : Box Expr Global) →
 unfolding given.roll-Expr denote.Hole.Carrier.roll
 yield_from_tree value = rolls (layer.YieldFrom value)
 
-pub compare_shape : (c : Compare) → let o : layer.Compare-F Expr Arg Arguments Call Compare Comprehension Dict DictComp Keyword Slice = given_compare.out-Compare c in
+pub compare_shape : (c : Compare) → let o : layer.Compare-F Expr Arg Arguments Call Compare Comprehension Dict DictComp Keyword Slice =
+    given_compare.out-Compare c in
     compare_of c ≡ plain.Compare (tree_of o.left) o.ops.items (exprs (map tree_of o.comparators.items))
 unfolding tree_of arg_of arguments_of call_of compare_of comprehension_of dict_of dict_comp_of keyword_of slice_of
-compare_shape c = given_compare.fold_out-Compare plain.Expr plain.Arg plain.Arguments plain.Expr plain.Expr plain.Comprehension plain.Expr plain.Expr plain.Keyword plain.Expr
+compare_shape c = given_compare.fold_out-Compare plain.Expr plain.Arg plain.Arguments plain.Expr plain.Expr plain.Comprehension plain.Expr
+    plain.Expr plain.Keyword plain.Expr
     expr_step arg_step arguments_step call_step compare_step comprehension_step dict_step dict_comp_step keyword_step slice_step c
 
 pub compare_tree : (c : Box Compare Global) → tree_of (variant.Compare c) ≡ compare_of c.value
 unfolding given.roll-Expr denote.Hole.Carrier.roll
 compare_tree c = rolls (layer.Compare c)
 
-pub call_shape : (c : Call) → let o : layer.Call-F Expr Arg Arguments Call Compare Comprehension Dict DictComp Keyword Slice = given_call.out-Call c in
+pub call_shape : (c : Call) → let o : layer.Call-F Expr Arg Arguments Call Compare Comprehension Dict DictComp Keyword Slice =
+    given_call.out-Call c in
     call_of c ≡ plain.Call (tree_of o.func) (exprs (map tree_of o.args.items)) (keywords (map keyword_of o.keywords.items))
 unfolding tree_of arg_of arguments_of call_of compare_of comprehension_of dict_of dict_comp_of keyword_of slice_of
-call_shape c = given_call.fold_out-Call plain.Expr plain.Arg plain.Arguments plain.Expr plain.Expr plain.Comprehension plain.Expr plain.Expr plain.Keyword plain.Expr
+call_shape c = given_call.fold_out-Call plain.Expr plain.Arg plain.Arguments plain.Expr plain.Expr plain.Comprehension plain.Expr plain.Expr
+    plain.Keyword plain.Expr
     expr_step arg_step arguments_step call_step compare_step comprehension_step dict_step dict_comp_step keyword_step slice_step c
 
 pub call_tree : (c : Box Call Global) → tree_of (variant.Call c) ≡ call_of c.value
@@ -222,10 +233,12 @@ pub tuple_tree : (elts : Vec Expr Global) (ctx : Context) →
 unfolding given.roll-Expr denote.Hole.Carrier.roll
 tuple_tree elts ctx = rolls (layer.Tuple elts ctx)
 
-pub slice_shape : (s : Slice) → let o : layer.Slice-F Expr Arg Arguments Call Compare Comprehension Dict DictComp Keyword Slice = given_slice.out-Slice s in
+pub slice_shape : (s : Slice) → let o : layer.Slice-F Expr Arg Arguments Call Compare Comprehension Dict DictComp Keyword Slice =
+    given_slice.out-Slice s in
     slice_of s ≡ plain.Slice (optional (boxed_of o.lower)) (optional (boxed_of o.upper)) (optional (boxed_of o.step))
 unfolding tree_of arg_of arguments_of call_of compare_of comprehension_of dict_of dict_comp_of keyword_of slice_of
-slice_shape s = given_slice.fold_out-Slice plain.Expr plain.Arg plain.Arguments plain.Expr plain.Expr plain.Comprehension plain.Expr plain.Expr plain.Keyword plain.Expr
+slice_shape s = given_slice.fold_out-Slice plain.Expr plain.Arg plain.Arguments plain.Expr plain.Expr plain.Comprehension plain.Expr
+    plain.Expr plain.Keyword plain.Expr
     expr_step arg_step arguments_step call_step compare_step comprehension_step dict_step dict_comp_step keyword_step slice_step s
     ∙ (λ i. let o : layer.Slice-F Expr Arg Arguments Call Compare Comprehension Dict DictComp Keyword Slice = given_slice.out-Slice s in
     plain.Slice (optional (boxed_is o.lower i)) (optional (boxed_is o.upper i)) (optional (boxed_is o.step i)))
@@ -234,23 +247,29 @@ pub slice_tree : (s : Box Slice Global) → tree_of (variant.Slice s) ≡ slice_
 unfolding given.roll-Expr denote.Hole.Carrier.roll
 slice_tree s = rolls (layer.Slice s)
 
-pub keyword_tree : (k : Keyword) → let o : layer.Keyword-F Expr Arg Arguments Call Compare Comprehension Dict DictComp Keyword Slice = given_keyword.out-Keyword k in
+pub keyword_tree : (k : Keyword) → let o : layer.Keyword-F Expr Arg Arguments Call Compare Comprehension Dict DictComp Keyword Slice =
+    given_keyword.out-Keyword k in
     keyword_of k ≡ record { arg = o.arg; value = tree_of o.value }
 unfolding tree_of keyword_of
-keyword_tree = given_keyword.fold_out-Keyword plain.Expr plain.Arg plain.Arguments plain.Expr plain.Expr plain.Comprehension plain.Expr plain.Expr plain.Keyword plain.Expr
+keyword_tree = given_keyword.fold_out-Keyword plain.Expr plain.Arg plain.Arguments plain.Expr plain.Expr plain.Comprehension plain.Expr
+    plain.Expr plain.Keyword plain.Expr
     expr_step arg_step arguments_step call_step compare_step comprehension_step dict_step dict_comp_step keyword_step slice_step
 
-pub comprehension_tree : (c : Comprehension) → let o : layer.Comprehension-F Expr Arg Arguments Call Compare Comprehension Dict DictComp Keyword Slice =
+pub comprehension_tree : (c : Comprehension) → let o : layer.Comprehension-F Expr Arg Arguments Call Compare Comprehension Dict
+    DictComp Keyword Slice =
     given_comprehension.out-Comprehension c in
     comprehension_of c ≡ record { target = tree_of o.target; iter = tree_of o.iter; ifs = map tree_of o.ifs.items; is_async = o.is_async }
 unfolding tree_of comprehension_of
-comprehension_tree = given_comprehension.fold_out-Comprehension plain.Expr plain.Arg plain.Arguments plain.Expr plain.Expr plain.Comprehension plain.Expr plain.Expr plain.Keyword plain.Expr
+comprehension_tree = given_comprehension.fold_out-Comprehension plain.Expr plain.Arg plain.Arguments plain.Expr plain.Expr
+    plain.Comprehension plain.Expr plain.Expr plain.Keyword plain.Expr
     expr_step arg_step arguments_step call_step compare_step comprehension_step dict_step dict_comp_step keyword_step slice_step
 
-pub arg_tree : (a : Arg) → let o : layer.Arg-F Expr Arg Arguments Call Compare Comprehension Dict DictComp Keyword Slice = given_arg.out-Arg a in
+pub arg_tree : (a : Arg) → let o : layer.Arg-F Expr Arg Arguments Call Compare Comprehension Dict DictComp Keyword
+    Slice = given_arg.out-Arg a in
     arg_of a ≡ plain.arg o.arg (optional (boxed_of o.annotation))
 unfolding tree_of arg_of
-arg_tree a = given_arg.fold_out-Arg plain.Expr plain.Arg plain.Arguments plain.Expr plain.Expr plain.Comprehension plain.Expr plain.Expr plain.Keyword plain.Expr
+arg_tree a = given_arg.fold_out-Arg plain.Expr plain.Arg plain.Arguments plain.Expr plain.Expr plain.Comprehension plain.Expr plain.Expr
+    plain.Keyword plain.Expr
     expr_step arg_step arguments_step call_step compare_step comprehension_step dict_step dict_comp_step keyword_step slice_step a
     ∙ ap (λ z. plain.arg (given_arg.out-Arg a).arg (optional z)) (boxed_is (given_arg.out-Arg a).annotation)
 
@@ -260,9 +279,11 @@ pub arguments_tree : (a : Arguments) → let o : layer.Arguments-F Expr Arg Argu
     (optional_arg (arg_option_of o.vararg)) (args (map arg_of o.kwonlyargs.items))
     (optionals (map option_of o.kw_defaults.items)) (optional_arg (arg_option_of o.kwarg)) (exprs (map tree_of o.defaults.items))
 unfolding tree_of arg_of arguments_of
-arguments_tree a = given_arguments.fold_out-Arguments plain.Expr plain.Arg plain.Arguments plain.Expr plain.Expr plain.Comprehension plain.Expr plain.Expr plain.Keyword plain.Expr
+arguments_tree a = given_arguments.fold_out-Arguments plain.Expr plain.Arg plain.Arguments plain.Expr plain.Expr plain.Comprehension
+    plain.Expr plain.Expr plain.Keyword plain.Expr
     expr_step arg_step arguments_step call_step compare_step comprehension_step dict_step dict_comp_step keyword_step slice_step a
-    ∙ (λ i. let o : layer.Arguments-F Expr Arg Arguments Call Compare Comprehension Dict DictComp Keyword Slice = given_arguments.out-Arguments a in
+    ∙ (λ i. let o : layer.Arguments-F Expr Arg Arguments Call Compare Comprehension Dict DictComp Keyword Slice =
+    given_arguments.out-Arguments a in
     plain.arguments (args (map arg_of o.posonlyargs.items)) (args (map arg_of o.args.items))
     (optional_arg (arg_option_is o.vararg i)) (args (map arg_of o.kwonlyargs.items))
     (optionals (map (λ k. option_is k i) o.kw_defaults.items)) (optional_arg (arg_option_is o.kwarg i))

@@ -26,7 +26,8 @@ use Rattle.pytree_node.specs.declared.statements.Try as given_try
 use Rattle.pytree_node.specs.declared.statements.Try.{Try}
 use Rattle.pytree_node.specs.Trees as plain
 use Rattle.pytree_node.specs.Trees.{args, comprehensions, exprs, keywords, optional_arg, optionals}
-use Rattle.pytree_node.specs.TreeOf.{arg_of, arg_option_of, arguments_of, call_of, comprehension_of, dict_comp_of, keyword_of, option_of, tree_of}
+use Rattle.pytree_node.specs.TreeOf.{arg_of, arg_option_of, arguments_of, call_of, comprehension_of, dict_comp_of, keyword_of, option_of}
+use Rattle.pytree_node.specs.TreeOf.{tree_of}
 use Rattle.pytree_node.specs.TreeOf.{handler_of, stmt_of, try_of}
 use Rattle.pytree_node.proofs.Callers.ExprShapes.{arguments_tree, call_shape, dict_comp_shape}
 use Rattle.pytree_node.proofs.Callers.StmtShapes.{try_shape}

@@ -41,7 +41,8 @@ HasClass (plain.Delete _) given = (targets : Vec Expr Global) × (given ≡ vari
 HasClass (plain.Assign _ _) given = (targets : Vec Expr Global) × (value : Expr) × (given ≡ variant.Assign targets value)
 HasClass (plain.TypeAlias _ _ _) given = (name : Box Expr Global) × (parameters : Vec TypeParam Global) × (value : Box Expr Global) ×
     (given ≡ variant.TypeAlias name parameters value)
-HasClass (plain.AugAssign _ _ _) given = (target : Box Expr Global) × (op : Operator) × (value : Expr) × (given ≡ variant.AugAssign target op value)
+HasClass (plain.AugAssign _ _ _) given = (target : Box Expr Global) × (op : Operator) × (value : Expr) ×
+    (given ≡ variant.AugAssign target op value)
 HasClass (plain.AnnAssign _ _ _ _) given = (target : Box Expr Global) × (annotation : Box Expr Global) × (value : Option (Box Expr Global))
     × (simple : Bool) × (given ≡ variant.AnnAssign target annotation value simple)
 HasClass (plain.For _ _ _ _) given = (target : Box Expr Global) × (iter : Box Expr Global) × (body : Vec Stmt Global) ×

@@ -37,13 +37,16 @@ Layer = layer.Stmt-F Stmt Case ClassDef FunctionDef Handler Try
 
 -- the statement with its inner statements' values in their places
 abbrev pub valued : Layer → layer.Stmt-F plain.Stmt plain.Case plain.Stmt plain.FunctionDefFields plain.Handler plain.TryFields
-valued = given_stmt.map-Stmt Stmt Case ClassDef FunctionDef Handler Try plain.Stmt plain.Case plain.Stmt plain.FunctionDefFields plain.Handler plain.TryFields stmt_of case_of class_def_of function_def_of handler_of try_of
+valued = given_stmt.map-Stmt Stmt Case ClassDef FunctionDef Handler Try plain.Stmt plain.Case plain.Stmt plain.FunctionDefFields
+    plain.Handler plain.TryFields stmt_of case_of class_def_of function_def_of handler_of try_of
 
 rolls : (node : Layer) → stmt_of (given_stmt.roll-Stmt node) ≡ stmt_step (valued node)
 unfolding stmt_of case_of class_def_of function_def_of handler_of try_of
-rolls = given_stmt.fold-roll-Stmt plain.Stmt plain.Case plain.Stmt plain.FunctionDefFields plain.Handler plain.TryFields stmt_step case_step class_def_step function_def_step handler_step try_step
+rolls = given_stmt.fold-roll-Stmt plain.Stmt plain.Case plain.Stmt plain.FunctionDefFields plain.Handler plain.TryFields stmt_step case_step
+    class_def_step function_def_step handler_step try_step
 
-pub function_def_shape : (d : FunctionDef) → let o : layer.FunctionDef-F Stmt Case ClassDef FunctionDef Handler Try = given_function_def.out-FunctionDef d in
+pub function_def_shape : (d : FunctionDef) → let o : layer.FunctionDef-F Stmt Case ClassDef FunctionDef Handler Try =
+    given_function_def.out-FunctionDef d in
     function_def_of d ≡ record {
       name = o.name;
       args = arguments_of o.args.value;
@@ -53,7 +56,8 @@ pub function_def_shape : (d : FunctionDef) → let o : layer.FunctionDef-F Stmt 
       type_params = map type_param_of o.type_params.items;
     }
 unfolding stmt_of case_of class_def_of function_def_of handler_of try_of
-function_def_shape = given_function_def.fold_out-FunctionDef plain.Stmt plain.Case plain.Stmt plain.FunctionDefFields plain.Handler plain.TryFields stmt_step case_step class_def_step function_def_step handler_step try_step
+function_def_shape = given_function_def.fold_out-FunctionDef plain.Stmt plain.Case plain.Stmt plain.FunctionDefFields plain.Handler
+    plain.TryFields stmt_step case_step class_def_step function_def_step handler_step try_step
 
 pub function_def_tree : (d : Box FunctionDef Global) → stmt_of (variant.FunctionDef d) ≡ plain.function_def (function_def_of d.value)
 unfolding given_stmt.roll-Stmt denote.Hole.Carrier.roll
@@ -64,11 +68,13 @@ pub async_function_def_tree : (d : Box FunctionDef Global) →
 unfolding given_stmt.roll-Stmt denote.Hole.Carrier.roll
 async_function_def_tree d = rolls (layer.AsyncFunctionDef d)
 
-pub class_def_shape : (c : ClassDef) → let o : layer.ClassDef-F Stmt Case ClassDef FunctionDef Handler Try = given_class_def.out-ClassDef c in
+pub class_def_shape : (c : ClassDef) → let o : layer.ClassDef-F Stmt Case ClassDef FunctionDef Handler Try =
+    given_class_def.out-ClassDef c in
     class_def_of c ≡ plain.ClassDef o.name (map tree_of o.bases.items) (keywords (map keyword_of o.keywords.items))
     (stmts (map stmt_of o.body.items)) (map tree_of o.decorator_list.items) (map type_param_of o.type_params.items)
 unfolding stmt_of case_of class_def_of function_def_of handler_of try_of
-class_def_shape = given_class_def.fold_out-ClassDef plain.Stmt plain.Case plain.Stmt plain.FunctionDefFields plain.Handler plain.TryFields stmt_step case_step class_def_step function_def_step handler_step try_step
+class_def_shape = given_class_def.fold_out-ClassDef plain.Stmt plain.Case plain.Stmt plain.FunctionDefFields plain.Handler plain.TryFields
+    stmt_step case_step class_def_step function_def_step handler_step try_step
 
 pub class_def_tree : (c : Box ClassDef Global) → stmt_of (variant.ClassDef c) ≡ class_def_of c.value
 unfolding given_stmt.roll-Stmt denote.Hole.Carrier.roll
@@ -125,7 +131,8 @@ unfolding given_stmt.roll-Stmt denote.Hole.Carrier.roll
 while_tree test body orelse = rolls (layer.While test body orelse)
 
 pub if_tree : (test : Box Expr Global) (body : Vec Stmt Global) (orelse : Vec Stmt Global) →
-    stmt_of (variant.If test body orelse) ≡ plain.If (tree_of test.value) (stmts (map stmt_of body.items)) (stmts (map stmt_of orelse.items))
+    stmt_of (variant.If test body orelse) ≡ plain.If (tree_of test.value) (stmts (map stmt_of body.items))
+    (stmts (map stmt_of orelse.items))
 unfolding given_stmt.roll-Stmt denote.Hole.Carrier.roll
 if_tree test body orelse = rolls (layer.If test body orelse)
 
@@ -157,7 +164,8 @@ pub try_shape : (t : Try) → let o : layer.Try-F Stmt Case ClassDef FunctionDef
       finalbody = map stmt_of o.finalbody.items;
     }
 unfolding stmt_of case_of class_def_of function_def_of handler_of try_of
-try_shape = given_try.fold_out-Try plain.Stmt plain.Case plain.Stmt plain.FunctionDefFields plain.Handler plain.TryFields stmt_step case_step class_def_step function_def_step handler_step try_step
+try_shape = given_try.fold_out-Try plain.Stmt plain.Case plain.Stmt plain.FunctionDefFields plain.Handler plain.TryFields stmt_step
+    case_step class_def_step function_def_step handler_step try_step
 
 pub try_tree : (t : Box Try Global) → stmt_of (variant.Try t) ≡ plain.try_block (try_of t.value)
 unfolding given_stmt.roll-Stmt denote.Hole.Carrier.roll
@@ -212,12 +220,14 @@ continue_tree = rolls layer.Continue
 pub case_tree : (c : Case) → let o : layer.Case-F Stmt Case ClassDef FunctionDef Handler Try = given_case.out-Case c in
     case_of c ≡ record { pattern = pattern_of o.pattern; guard = option_of o.guard; body = map stmt_of o.body.items }
 unfolding stmt_of case_of class_def_of function_def_of handler_of try_of
-case_tree = given_case.fold_out-Case plain.Stmt plain.Case plain.Stmt plain.FunctionDefFields plain.Handler plain.TryFields stmt_step case_step class_def_step function_def_step handler_step try_step
+case_tree = given_case.fold_out-Case plain.Stmt plain.Case plain.Stmt plain.FunctionDefFields plain.Handler plain.TryFields stmt_step
+    case_step class_def_step function_def_step handler_step try_step
 
 pub handler_tree : (h : Handler) → let o : layer.Handler-F Stmt Case ClassDef FunctionDef Handler Try = given_handler.out-Handler h in
     handler_of h ≡ record { class = option_of o.class; name = o.name; body = map stmt_of o.body.items }
 unfolding stmt_of case_of class_def_of function_def_of handler_of try_of
-handler_tree = given_handler.fold_out-Handler plain.Stmt plain.Case plain.Stmt plain.FunctionDefFields plain.Handler plain.TryFields stmt_step case_step class_def_step function_def_step handler_step try_step
+handler_tree = given_handler.fold_out-Handler plain.Stmt plain.Case plain.Stmt plain.FunctionDefFields plain.Handler plain.TryFields
+    stmt_step case_step class_def_step function_def_step handler_step try_step
 
 -- the value of every statement and of its parts
 pub ruleset stmt_shapes = (

@@ -10,14 +10,16 @@ use Rattle.pytree_node.specs.declared.expressions.Slice as given_slice
 use Rattle.pytree_node.specs.declared.expressions.Keyword as given_keyword
 use Rattle.pytree_node.specs.declared.operators.Comparison.TheVariants as Is
 use Rattle.pytree_node.specs.Trees.{args, comprehensions, exprs, keywords, optional, optional_arg, optionals}
-use Rattle.pytree_node.specs.TreeOf.{arg_of, arg_option_of, arguments_of, boxed_of, call_of, compare_of, comprehension_of, dict_of, dict_comp_of}
+use Rattle.pytree_node.specs.TreeOf.{arg_of, arg_option_of, arguments_of, boxed_of, call_of, compare_of, comprehension_of, dict_of}
+use Rattle.pytree_node.specs.TreeOf.{dict_comp_of}
 use Rattle.pytree_node.specs.TreeOf.{keyword_of, option_of, slice_of, tree_of}
 use Rattle.pytree_node.proofs.Callers.ExprShapes.{arg_tree, arguments_tree, attribute_tree, await_tree, bin_op_tree, bool_op_tree}
 use Rattle.pytree_node.proofs.Callers.ExprShapes.{call_tree, compare_tree, comprehension_tree, constant_tree, dict_comp_tree, dict_tree}
 use Rattle.pytree_node.proofs.Callers.ExprShapes.{formatted_value_tree, generator_exp_tree, if_exp_tree, joined_str_tree, keyword_tree}
 use Rattle.pytree_node.proofs.Callers.ExprShapes.{lambda_tree, list_comp_tree, list_tree, name_tree, named_expr_tree, set_comp_tree}
 use Rattle.pytree_node.proofs.Callers.ExprShapes.{set_tree, slice_tree, starred_tree, subscript_tree, tuple_tree, unary_op_tree}
-use Rattle.pytree_node.proofs.Callers.ExprShapes.{yield_from_tree, yield_tree, call_shape, compare_shape, dict_shape, dict_comp_shape, slice_shape}
+use Rattle.pytree_node.proofs.Callers.ExprShapes.{yield_from_tree, yield_tree, call_shape, compare_shape, dict_shape, dict_comp_shape}
+use Rattle.pytree_node.proofs.Callers.ExprShapes.{slice_shape}
 use Rattle.pygrammar.specs.declared.levels.Level.TheVariants.{BitOr, Elem, Expression, Named, Or}
 use Rattle.pytree_height.specs.Heights.{arg_height, arg_heights, comprehension_heights, height, heights, keyword_heights, optional_height}
 use Rattle.pytree_height.specs.Heights.{optional_heights}
@@ -41,7 +43,8 @@ use Rattle.pyunparse.proofs.ExpressionParts.ClassLemmas.{attribute, awaited, bin
 use Rattle.pyunparse.proofs.ExpressionParts.ClassLemmas.{dict_comprehension, lambda, named, prefixed, slice, subscript, yielded}
 use Rattle.pyunparse.proofs.ExpressionParts.ClassLemmas.{dict_pieces, yielded_from}
 use Rattle.pyunparse.proofs.Sequences.FoldLemmas.{enclosed_on, three, two}
-use Rattle.pyunparse.proofs.Shapes.MeasureLemmas.{boxed_height, call_height, compare_height, dict_height, dict_comp_height, formatted_height, gathered_lower}
+use Rattle.pyunparse.proofs.Shapes.MeasureLemmas.{boxed_height, call_height, compare_height, dict_height, dict_comp_height}
+use Rattle.pyunparse.proofs.Shapes.MeasureLemmas.{formatted_height, gathered_lower}
 use Rattle.pyunparse.proofs.Shapes.MeasureLemmas.{generator_height, joined_height, keyword_height, keyword_only_lower, named_arg_height}
 use Rattle.pyunparse.proofs.Shapes.MeasureLemmas.{parts_height, places_lower, slice_height, star_lower}
 use Rattle.pyunparse.proofs.Sequences.MemberLemmas.{all_items, all_parts, both_done, both_on, compared_done, compared_on, item_on}
@@ -112,7 +115,8 @@ operators::write_yield_from-returns g t c = IfOk-equal _ _ _ _ c.close.ensures
 pub operators::write_compare-returns : goal.operators::write_compare-returns
 operators::write_compare-returns g t c = rw (compare_shape, sym c.deref.ensures.value, sym c.deref-2.ensures.value)
     (IfOk-equal _ _ _ _ c.close.ensures
-    (comparison g.W.Writer.after c.args.out.now c.args.level _ (tree_of (given_compare.out-Compare c.args.compare.now).left) c.deref.result.now
+    (comparison g.W.Writer.after c.args.out.now c.args.level _
+    (tree_of (given_compare.out-Compare c.args.compare.now).left) c.deref.result.now
     (exprs (map tree_of c.deref-2.result.now)) _ _ _
     c.reaches-bare.ensures c.in_ok-open.ensures c.in_ok-write_expr.ensures c.in_ok-write_compared.ensures))
 
@@ -290,7 +294,8 @@ expressions::write_expr-returns-in-IfExp g t c = rw (
 ) c.write_conditional.ensures
 
 pub expressions::write_expr-returns-in-Dict : goal.expressions::write_expr-returns-in-Dict
-expressions::write_expr-returns-in-Dict g t c = rw (c.in-Dict.is, dict_tree, sym c.deref-in-Dict.ensures) (c.write_dict.ensures c.args.level)
+expressions::write_expr-returns-in-Dict g t c = rw (c.in-Dict.is, dict_tree, sym c.deref-in-Dict.ensures)
+    (c.write_dict.ensures c.args.level)
 
 pub expressions::write_expr-returns-in-Set : goal.expressions::write_expr-returns-in-Set
 unfolding written
@@ -315,7 +320,8 @@ expressions::write_expr-returns-in-SetComp g t c = rw (
 ) c.write_comprehension-in-SetComp.ensures
 
 pub expressions::write_expr-returns-in-DictComp : goal.expressions::write_expr-returns-in-DictComp
-expressions::write_expr-returns-in-DictComp g t c = rw (c.in-DictComp.is, dict_comp_tree, sym c.deref-in-DictComp.ensures) (c.write_dict_comprehension.ensures c.args.level)
+expressions::write_expr-returns-in-DictComp g t c = rw (c.in-DictComp.is, dict_comp_tree, sym c.deref-in-DictComp.ensures)
+    (c.write_dict_comprehension.ensures c.args.level)
 
 pub expressions::write_expr-returns-in-GeneratorExp : goal.expressions::write_expr-returns-in-GeneratorExp
 unfolding written
@@ -337,7 +343,8 @@ expressions::write_expr-returns-in-YieldFrom g t c = rw (c.in-YieldFrom.is, yiel
     c.write_yield_from.ensures
 
 pub expressions::write_expr-returns-in-Compare : goal.expressions::write_expr-returns-in-Compare
-expressions::write_expr-returns-in-Compare g t c = rw (c.in-Compare.is, compare_tree, sym c.deref-in-Compare.ensures) c.write_compare.ensures
+expressions::write_expr-returns-in-Compare g t c =
+    rw (c.in-Compare.is, compare_tree, sym c.deref-in-Compare.ensures) c.write_compare.ensures
 
 pub expressions::write_expr-returns-in-Call : goal.expressions::write_expr-returns-in-Call
 expressions::write_expr-returns-in-Call g t c = rw (c.in-Call.is, call_tree, sym c.deref-in-Call.ensures) c.write_call.ensures
@@ -578,12 +585,14 @@ calls::write_alone-write_generator-requires g t c =
     (λ κs l. (omega (arith, h), l))
 
 pub expressions::write_expr-write_dict_comprehension-requires : goal.expressions::write_expr-write_dict_comprehension-requires
-expressions::write_expr-write_dict_comprehension-requires g t c = let h = boxed_height (tree_of c.args.e.now) (dict_comp_of c.deref-in-DictComp.result.now)
+expressions::write_expr-write_dict_comprehension-requires g t c =
+    let h = boxed_height (tree_of c.args.e.now) (dict_comp_of c.deref-in-DictComp.result.now)
     (rw (c.in-DictComp.is, dict_comp_tree, sym c.deref-in-DictComp.ensures) refl) in
     let k = dict_comp_height c.deref-in-DictComp.result.now in (λ κs l. (omega (arith, h, k), l))
 
 pub expressions::write_expr-write_compare-requires : goal.expressions::write_expr-write_compare-requires
-expressions::write_expr-write_compare-requires g t c = let h = boxed_height (tree_of c.args.e.now) (compare_of c.deref-in-Compare.result.now)
+expressions::write_expr-write_compare-requires g t c =
+    let h = boxed_height (tree_of c.args.e.now) (compare_of c.deref-in-Compare.result.now)
     (rw (c.in-Compare.is, compare_tree, sym c.deref-in-Compare.ensures) refl) in
     let k = compare_height c.deref-in-Compare.result.now in (λ κs l. (omega (arith, h, k), l))
 

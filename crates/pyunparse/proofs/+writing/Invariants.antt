@@ -1,7 +1,8 @@
 use Rattle.std.proofs.Common.{◌≡◌, ◌+◌, ◌-◌, ◌*◌, max, true, false, map, drop}
 use Rattle.pylex_lexeme.specs.declared.kinds.Exact.TheVariants.{Comma}
 use Rattle.pytree_node.specs.Trees.{args, comprehensions, exprs, keywords, optional, optional_arg, optionals}
-use Rattle.pytree_node.specs.TreeOf.{arg_of, arg_option_of, arguments_of, boxed_of, call_of, compare_of, comprehension_of, dict_of, dict_comp_of}
+use Rattle.pytree_node.specs.TreeOf.{arg_of, arg_option_of, arguments_of, boxed_of, call_of, compare_of, comprehension_of, dict_of}
+use Rattle.pytree_node.specs.TreeOf.{dict_comp_of}
 use Rattle.pytree_node.specs.TreeOf.{keyword_of, option_of, slice_of, tree_of}
 use Rattle.pygrammar.specs.declared.levels.Level.TheVariants.{BitOr, Expression}
 use Rattle.pytree_height.specs.Heights.{arg_height, arg_heights, arguments_height, comprehension_heights, height, heights, keyword_heights}

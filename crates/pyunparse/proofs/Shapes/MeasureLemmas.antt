@@ -29,7 +29,8 @@ use Rattle.pytree_node.specs.Trees.{args, comprehensions, exprs, keywords, optio
 use Rattle.pytree_node.specs.TreeOf.{arg_of, arg_option_of, arguments_of, boxed_of, call_of, compare_of, comprehension_of, dict_comp_of}
 use Rattle.pytree_node.specs.TreeOf.{dict_of, keyword_of, option_of, slice_of, tree_of}
 use Rattle.pytree_node.proofs.Callers.ExprShapes.{arg_tree, arguments_tree, call_shape, compare_shape, comprehension_tree, dict_shape}
-use Rattle.pytree_node.proofs.Callers.ExprShapes.{dict_comp_shape, slice_shape, formatted_value_tree, generator_exp_tree, joined_str_tree, keyword_tree}
+use Rattle.pytree_node.proofs.Callers.ExprShapes.{dict_comp_shape, slice_shape, formatted_value_tree, generator_exp_tree, joined_str_tree}
+use Rattle.pytree_node.proofs.Callers.ExprShapes.{keyword_tree}
 use Rattle.pytree_height.specs.Heights.{arg_height, arg_heights, arguments_height, comprehension_heights, height, heights, keyword_heights}
 use Rattle.pytree_height.specs.Heights.{optional_arg_height, optional_height, optional_heights}
 use Rattle.pyunparse.specs.Inner.Clauses.{clause_height}

@@ -67,7 +67,8 @@ module _ (s : Stmt)
     (no_aug_assign : (target : Box Expr Global) (op : Operator) (value : Expr) → s ≡ variant.AugAssign target op value → ⊥)
     (no_ann_assign : (target : Box Expr Global) (annotation : Box Expr Global) (value : Option (Box Expr Global)) (simple : Bool)
     → s ≡ variant.AnnAssign target annotation value simple → ⊥)
-    (no_type_alias : (name : Box Expr Global) (parameters : Vec TypeParam Global) (value : Box Expr Global) → s ≡ variant.TypeAlias name parameters value → ⊥)
+    (no_type_alias : (name : Box Expr Global) (parameters : Vec TypeParam Global) (value : Box Expr Global)
+    → s ≡ variant.TypeAlias name parameters value → ⊥)
     (no_return : (value : Option Expr) → s ≡ variant.Return value → ⊥)
     (no_raise : (exc : Option (Box Expr Global)) (cause : Option (Box Expr Global)) → s ≡ variant.Raise exc cause → ⊥)
     (no_assert : (test : Expr) (msg : Option (Box Expr Global)) → s ≡ variant.Assert test msg → ⊥)
@@ -103,7 +104,8 @@ module _ (s : Stmt)
   not_simple = none_simple (stmt_of s) (has_class s)
 
 -- no `if`
-module _ (s : Stmt) (no_if : (test : Box Expr Global) (body : Vec Stmt Global) (orelse : Vec Stmt Global) → s ≡ variant.If test body orelse → ⊥) where
+module _ (s : Stmt) (no_if : (test : Box Expr Global) (body : Vec Stmt Global) (orelse : Vec Stmt Global)
+    → s ≡ variant.If test body orelse → ⊥) where
   none_if : (t : plain.Stmt) → HasClass t s → is_if t ≡ false
   none_if (plain.If _ _ _) h = absurd (no_if h.0 h.1 h.2 h.3)
   none_if _ h = refl

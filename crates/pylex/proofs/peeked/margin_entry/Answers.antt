@@ -43,7 +43,8 @@ returns c =
     let plain : is_significant_class k ≡ false = sym c.is_significant.ensures ∙ c.if-is_significant.false in
     record {
       entry = λ levels. entry_found levels p (chars text) p p q text front back k c.in-Entry.entry (stays_there levels p (chars text))
-          (settles_same levels p (chars text) (none_due p.margin text front back k cuts plain)) cuts c.in-Entry.ensures c.after-ahead.ensures.after;
+          (settles_same levels p (chars text) (none_due p.margin text front back k cuts plain)) cuts c.in-Entry.ensures
+          c.after-ahead.ensures.after;
       stands = stands_after p q text front back k cuts c.requires.stands c.after-ahead.ensures.room;
       room = λ n h. room_after p q text front back k cuts c.after-ahead.ensures.room n h;
       behind = behind_cut text text front back k c.requires.stands.utf8 cuts ([], refl);

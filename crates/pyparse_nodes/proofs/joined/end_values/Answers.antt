@@ -14,5 +14,6 @@ invariant_of-result-2 c = record {
 
 pub returns-clause-values : goal.returns-clause-values
 returns-clause-values c = put_constant c.args.before.values.items c.append.new.items.items _ c.args.unicode c.args.before.text
-    c.in_ok-append.ensures.put (constant_tree _ ∙ ap plain.Constant c.text-value.ensures) (λ e. is_full c.as_slice.result.now c.is_empty.result c.is_empty.ensures
+    c.in_ok-append.ensures.put (constant_tree _ ∙ ap plain.Constant c.text-value.ensures)
+    (λ e. is_full c.as_slice.result.now c.is_empty.result c.is_empty.ensures
     c.if-is_empty.false (c.as_slice.ensures.value ∙ e))

@@ -34,7 +34,8 @@ pub copy_dict_comp-returns : goal.copy_dict_comp-returns
 copy_dict_comp-returns t c =
     let o = given_dict_comp.out-DictComp c.args.comp.now in
     ap dict_comp_of c.in_ok-new.ensures.ok
-    ∙ same_dict_comp (record { key = c.in_ok-key.key; value = c.in_ok-key.value; generators = c.in_ok-generators.generators }) c.args.comp.now
+    ∙ same_dict_comp (record { key = c.in_ok-key.key; value = c.in_ok-key.value; generators = c.in_ok-generators.generators })
+    c.args.comp.now
     (ap tree_of c.in_ok-key.ensures.first ∙ c.in_ok-copy_expr.ensures)
     (subst (λ r. IfOk r (λ made. tree_of made ≡ tree_of o.value)) c.in_ok-key.ensures.second c.copy_expr-2.ensures)
     (c.in_ok-generators.ensures ∙ ap (map comprehension_of) c.deref.ensures.value)

@@ -73,7 +73,8 @@ statement_fits-returns-in-FunctionDef t c = rw (c.in-FunctionDef.is, function_de
 
 pub statement_fits-returns-in-AsyncFunctionDef : goal.statement_fits-returns-in-AsyncFunctionDef
 statement_fits-returns-in-AsyncFunctionDef t c =
-    rw (c.in-AsyncFunctionDef.is, async_function_def_tree, ← c.deref-in-AsyncFunctionDef.ensures) c.function_fits-in-AsyncFunctionDef.ensures
+    rw (c.in-AsyncFunctionDef.is, async_function_def_tree, ← c.deref-in-AsyncFunctionDef.ensures)
+    c.function_fits-in-AsyncFunctionDef.ensures
 
 pub statement_fits-returns-in-ClassDef : goal.statement_fits-returns-in-ClassDef
 statement_fits-returns-in-ClassDef t c = rw (c.in-ClassDef.is, class_def_tree, ← c.deref-in-ClassDef.ensures) c.class_fits.ensures
@@ -198,7 +199,13 @@ statement_fits-returns-else-not-branch-4 t c =
     c.statements_fit-in-AsyncFor.ensures
 
 pub statement_fits-returns-then-not-branch-5 : goal.statement_fits-returns-then-not-branch-5
-statement_fits-returns-then-not-branch-5 t c = rw (c.in-While.is, while_tree, ← c.deref-in-While.ensures, ← c.in_ok-expr_fits-in-While.ensures, c.if-not-branch-5.true)
+statement_fits-returns-then-not-branch-5 t c = rw (
+  c.in-While.is,
+  while_tree,
+  ← c.deref-in-While.ensures,
+  ← c.in_ok-expr_fits-in-While.ensures,
+  c.if-not-branch-5.true,
+)
 
 pub statement_fits-returns-then-not-branch-6 : goal.statement_fits-returns-then-not-branch-6
 statement_fits-returns-then-not-branch-6 t c =
@@ -228,7 +235,8 @@ statement_fits-returns-else-not-branch-6 t c =
     ) c.statements_fit-in-While.ensures
 
 pub statement_fits-returns-then-not-branch-7 : goal.statement_fits-returns-then-not-branch-7
-statement_fits-returns-then-not-branch-7 t c = rw (c.in-If.is, if_tree, ← c.deref-in-If.ensures, ← c.in_ok-expr_fits-in-If.ensures, c.if-not-branch-7.true)
+statement_fits-returns-then-not-branch-7 t c =
+    rw (c.in-If.is, if_tree, ← c.deref-in-If.ensures, ← c.in_ok-expr_fits-in-If.ensures, c.if-not-branch-7.true)
 
 pub statement_fits-returns-then-not-branch-8 : goal.statement_fits-returns-then-not-branch-8
 statement_fits-returns-then-not-branch-8 t c =

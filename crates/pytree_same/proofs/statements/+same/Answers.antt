@@ -181,17 +181,21 @@ same_stmt-returns-in_default-matches-3 t c = other_class _ _ (ap stmt_of c.in-Co
     (λ h. c.in_default-matches-3.not-Continue h)
 
 pub same_stmt-returns-in-FunctionDef-b : goal.same_stmt-returns-in-FunctionDef-b
-same_stmt-returns-in-FunctionDef-b t c = by_fields function_def function_def_same (ap stmt_of c.in-FunctionDef.is ∙ function_def_tree _) (ap stmt_of c.in-FunctionDef-b.is ∙ function_def_tree _)
+same_stmt-returns-in-FunctionDef-b t c = by_fields function_def function_def_same (ap stmt_of c.in-FunctionDef.is ∙ function_def_tree _)
+    (ap stmt_of c.in-FunctionDef-b.is ∙ function_def_tree _)
     (ap function_def_of c.deref.ensures) (ap function_def_of c.deref-in-FunctionDef.ensures) c.same_function.ensures
 
 pub same_stmt-returns-in-AsyncFunctionDef-b : goal.same_stmt-returns-in-AsyncFunctionDef-b
-same_stmt-returns-in-AsyncFunctionDef-b t c = by_fields async_function_def async_function_def_same (ap stmt_of c.in-AsyncFunctionDef.is ∙ async_function_def_tree _) (ap stmt_of c.in-AsyncFunctionDef-b.is ∙ async_function_def_tree _)
-    (ap function_def_of c.deref-in-AsyncFunctionDef.ensures) (ap function_def_of c.deref-in-AsyncFunctionDef-2.ensures) c.same_function-in-AsyncFunctionDef.ensures
+same_stmt-returns-in-AsyncFunctionDef-b t c = by_fields async_function_def async_function_def_same (ap stmt_of c.in-AsyncFunctionDef.is
+    ∙ async_function_def_tree _) (ap stmt_of c.in-AsyncFunctionDef-b.is ∙ async_function_def_tree _)
+    (ap function_def_of c.deref-in-AsyncFunctionDef.ensures) (ap function_def_of c.deref-in-AsyncFunctionDef-2.ensures)
+    c.same_function-in-AsyncFunctionDef.ensures
 
 pub same_stmt-returns-in-Try-b : goal.same_stmt-returns-in-Try-b
 same_stmt-returns-in-Try-b t c = by_fields try_block try_same (ap stmt_of c.in-Try.is ∙ try_tree _) (ap stmt_of c.in-Try-b.is ∙ try_tree _)
     (ap try_of c.deref-in-Try.ensures) (ap try_of c.deref-in-Try-2.ensures) c.same_try.ensures
 
 pub same_stmt-returns-in-TryStar-b : goal.same_stmt-returns-in-TryStar-b
-same_stmt-returns-in-TryStar-b t c = by_fields try_star_block try_star_same (ap stmt_of c.in-TryStar.is ∙ try_star_tree _) (ap stmt_of c.in-TryStar-b.is ∙ try_star_tree _)
+same_stmt-returns-in-TryStar-b t c = by_fields try_star_block try_star_same (ap stmt_of c.in-TryStar.is ∙ try_star_tree _)
+    (ap stmt_of c.in-TryStar-b.is ∙ try_star_tree _)
     (ap try_of c.deref-in-TryStar.ensures) (ap try_of c.deref-in-TryStar-2.ensures) c.same_try-in-TryStar.ensures

@@ -175,7 +175,13 @@ write_class-returns t c = let o = given_class_def.out-ClassDef c.args.class.now 
     c.in_ok-begin_line.ensures c.in_ok-write_class_header.ensures b) c.write_block.ensures)
 
 pub write_try-returns : goal.write_try-returns
-write_try-returns t c = rw (try_shape, sym c.deref.ensures.value, sym c.deref-2.ensures.value, sym c.deref-3.ensures.value, sym c.deref-4.ensures.value)
+write_try-returns t c = rw (
+  try_shape,
+  sym c.deref.ensures.value,
+  sym c.deref-2.ensures.value,
+  sym c.deref-3.ensures.value,
+  sym c.deref-4.ensures.value,
+)
     (IfOk-weaker _ _ _ (λ _ w. wrote_then c.args.out.now _ _ _
     (λ n. handler_lines piece n c.args.is_star (handlers (map handler_of c.deref-2.result.now)) ++
     (clause piece n else_header (stmts (map stmt_of c.deref-3.result.now)) ++ clause piece n finally_header
@@ -318,10 +324,13 @@ write_stmt-returns-in-TryStar t c = rw (
 pub write_stmt-returns-in_ok-write_decorators-in-FunctionDef : goal.write_stmt-returns-in_ok-write_decorators-in-FunctionDef
 write_stmt-returns-in_ok-write_decorators-in-FunctionDef t c = let n = c.args.out.now.level in
     let f = function_def_of c.deref-in-FunctionDef-3.result.now in
-    let ds = function_decorators c.deref-in-FunctionDef-3.result.now c.deref-in-FunctionDef-2.result.now (c.deref-in-FunctionDef-2.ensures.value
-    ∙ ap (λ d. (given_function_def.out-FunctionDef d).decorator_list.items) (c.deref-in-FunctionDef.ensures ∙ sym c.deref-in-FunctionDef-3.ensures)) in
+    let ds = function_decorators c.deref-in-FunctionDef-3.result.now c.deref-in-FunctionDef-2.result.now
+    (c.deref-in-FunctionDef-2.ensures.value
+    ∙ ap (λ d. (given_function_def.out-FunctionDef d).decorator_list.items) (c.deref-in-FunctionDef.ensures
+    ∙ sym c.deref-in-FunctionDef-3.ensures)) in
     rw (c.in-FunctionDef.is, function_def_tree, sym c.deref-in-FunctionDef-3.ensures)
-    (IfOk-weaker _ _ _ (λ _ w. subst (Wrote c.args.out.now _) (function_lines n f.name f.args (stmts f.body) f.decorator_list f.returns f.type_params)
+    (IfOk-weaker _ _ _ (λ _ w. subst (Wrote c.args.out.now _) (function_lines n f.name f.args (stmts f.body) f.decorator_list
+    f.returns f.type_params)
     (wrote_then c.args.out.now _ _ (decorators piece n f.decorator_list)
     (λ l. def_lines l (function_head false f.name f.type_params f.args f.returns) (stmts f.body))
     (wrote_as (ap (decorators piece n) ds) c.in_ok-write_decorators-in-FunctionDef.ensures) w)) c.write_function.ensures)
@@ -329,13 +338,17 @@ write_stmt-returns-in_ok-write_decorators-in-FunctionDef t c = let n = c.args.ou
 pub write_stmt-returns-in_ok-write_decorators-in-AsyncFunctionDef : goal.write_stmt-returns-in_ok-write_decorators-in-AsyncFunctionDef
 write_stmt-returns-in_ok-write_decorators-in-AsyncFunctionDef t c = let n = c.args.out.now.level in
     let f = function_def_of c.deref-in-AsyncFunctionDef-3.result.now in
-    let ds = function_decorators c.deref-in-AsyncFunctionDef-3.result.now c.deref-in-AsyncFunctionDef-2.result.now (c.deref-in-AsyncFunctionDef-2.ensures.value
-    ∙ ap (λ d. (given_function_def.out-FunctionDef d).decorator_list.items) (c.deref-in-AsyncFunctionDef.ensures ∙ sym c.deref-in-AsyncFunctionDef-3.ensures)) in
+    let ds = function_decorators c.deref-in-AsyncFunctionDef-3.result.now c.deref-in-AsyncFunctionDef-2.result.now
+    (c.deref-in-AsyncFunctionDef-2.ensures.value
+    ∙ ap (λ d. (given_function_def.out-FunctionDef d).decorator_list.items) (c.deref-in-AsyncFunctionDef.ensures
+    ∙ sym c.deref-in-AsyncFunctionDef-3.ensures)) in
     rw (c.in-AsyncFunctionDef.is, async_function_def_tree, sym c.deref-in-AsyncFunctionDef-3.ensures)
-    (IfOk-weaker _ _ _ (λ _ w. subst (Wrote c.args.out.now _) (async_function_lines n f.name f.args (stmts f.body) f.decorator_list f.returns f.type_params)
+    (IfOk-weaker _ _ _ (λ _ w. subst (Wrote c.args.out.now _) (async_function_lines n f.name f.args (stmts f.body) f.decorator_list
+    f.returns f.type_params)
     (wrote_then c.args.out.now _ _ (decorators piece n f.decorator_list)
     (λ l. def_lines l (function_head true f.name f.type_params f.args f.returns) (stmts f.body))
-    (wrote_as (ap (decorators piece n) ds) c.in_ok-write_decorators-in-AsyncFunctionDef.ensures) w)) c.write_function-in-AsyncFunctionDef.ensures)
+    (wrote_as (ap (decorators piece n) ds) c.in_ok-write_decorators-in-AsyncFunctionDef.ensures) w))
+    c.write_function-in-AsyncFunctionDef.ensures)
 
 pub write_stmt-returns-in_ok-write_decorators-in-ClassDef : goal.write_stmt-returns-in_ok-write_decorators-in-ClassDef
 write_stmt-returns-in_ok-write_decorators-in-ClassDef t c =
@@ -386,19 +399,25 @@ write_clause-returns-then-is_empty t c = λ h e. subst (Wrote c.args.out.now c.a
     (no_clause c.args.out.now.level h c.args.body.now _ c.is_empty.ensures c.if-is_empty.true) (wrote_none c.args.out.now)
 
 pub write_function-write_block-requires : goal.write_function-write_block-requires
-write_function-write_block-requires t c = let h = function_height c.args.def.now c.deref-3.result.now c.deref-3.ensures.value in (omega (arith, h), tt)
+write_function-write_block-requires t c = let h = function_height c.args.def.now c.deref-3.result.now c.deref-3.ensures.value in
+    (omega (arith, h), tt)
 
 pub write_class-write_block-requires : goal.write_class-write_block-requires
-write_class-write_block-requires t c = let h = class_height c.args.class.now c.deref-4.result.now c.deref-4.ensures.value in (omega (arith, h), tt)
+write_class-write_block-requires t c = let h = class_height c.args.class.now c.deref-4.result.now c.deref-4.ensures.value in
+    (omega (arith, h), tt)
 
 pub write_try-write_block-requires : goal.write_try-write_block-requires
-write_try-write_block-requires t c = let h = try_body_height c.args.parts.now c.deref.result.now c.deref.ensures.value in (omega (arith, h), tt)
+write_try-write_block-requires t c = let h = try_body_height c.args.parts.now c.deref.result.now c.deref.ensures.value in
+    (omega (arith, h), tt)
 
 pub write_try-write_handlers-requires : goal.write_try-write_handlers-requires
-write_try-write_handlers-requires t c = let h = try_handlers_height c.args.parts.now c.deref-2.result.now c.deref-2.ensures.value in (omega (arith, h), tt)
+write_try-write_handlers-requires t c = let h = try_handlers_height c.args.parts.now c.deref-2.result.now c.deref-2.ensures.value in
+    (omega (arith, h), tt)
 
 pub write_try-write_clause-requires : goal.write_try-write_clause-requires
-write_try-write_clause-requires t c = let h = try_orelse_height c.args.parts.now c.deref-3.result.now c.deref-3.ensures.value in (omega (arith, h), tt)
+write_try-write_clause-requires t c = let h = try_orelse_height c.args.parts.now c.deref-3.result.now c.deref-3.ensures.value in
+    (omega (arith, h), tt)
 
 pub write_try-write_clause-requires-2 : goal.write_try-write_clause-requires-2
-write_try-write_clause-requires-2 t c = let h = try_final_height c.args.parts.now c.deref-4.result.now c.deref-4.ensures.value in (omega (arith, h), tt)
+write_try-write_clause-requires-2 t c = let h = try_final_height c.args.parts.now c.deref-4.result.now c.deref-4.ensures.value in
+    (omega (arith, h), tt)

@@ -20,7 +20,8 @@ returns c =
     let rest : c.range_from-self-inside.result.now ≡ after_run is_plain_char bs = c.range_from-self-inside.ensures.value
     ∙ ap (λ n. drop n bs) count in
     ap chars rest
-    ∙ sym (own_stops is_plain_char tells_plain (after_run is_plain_char bs) (run_utf8 is_plain_char is_plain_char tells_plain bs c.self.invariant)
+    ∙ sym (own_stops is_plain_char tells_plain (after_run is_plain_char bs)
+    (run_utf8 is_plain_char is_plain_char tells_plain bs c.self.invariant)
     (run_stopped is_plain_char bs))
     ∙ run_same is_plain_char is_plain_char tells_plain bs c.self.invariant
     ∙ ap (after_run is_plain_char) c.self.view_is
