@@ -29,12 +29,22 @@ pub(crate) fn put(tree: &mut Module, expr: &mut Expr) -> bool {
     }
 }
 
-/// Gives a `from .. import` so many dots, and its first name in place of its own.
-pub(crate) fn put_import(tree: &mut Module, dots: u64, name: &mut Identifier) -> bool {
+/// Gives a `from .. import` so many dots.
+pub(crate) fn put_dots(tree: &mut Module, dots: u64) -> bool {
     match tree.body.first_mut() {
-        Some(Stmt::ImportFrom { names, level, .. }) => match names.first_mut() {
+        Some(Stmt::ImportFrom { level, .. }) => {
+            *level = dots;
+            true
+        }
+        _ => false,
+    }
+}
+
+/// Puts a name into a `from .. import`, in place of its first.
+pub(crate) fn put_name(tree: &mut Module, name: &mut Identifier) -> bool {
+    match tree.body.first_mut() {
+        Some(Stmt::ImportFrom { names, .. }) => match names.first_mut() {
             Some(alias) => {
-                *level = dots;
                 mem::swap(&mut alias.name, name);
                 true
             }

@@ -1,7 +1,7 @@
 //! Which modules are well formed in a version of Python, and which expressions and patterns at a
 //! level.
 
-use crate::changes::{put, put_class, put_import};
+use crate::changes::{put, put_class, put_dots, put_name};
 use crate::expected::{answers, holds, same_text};
 use crate::rows::{rows, three, two};
 use crate::shapes::{expression, identifier};
@@ -193,7 +193,8 @@ fn changed(rt: &impl Abort, alloc: Global, text: &str, dots: &str, name: &str) -
     let mut tree = module(rt, alloc, text);
     let mut name = identifier(rt, alloc, name);
     let dots = if dots == "1" { 1 } else { 0 };
-    holds(rt, put_import(&mut tree, dots, &mut name), text);
+    holds(rt, put_dots(&mut tree, dots), text);
+    holds(rt, put_name(&mut tree, &mut name), text);
     tree
 }
 
