@@ -1,5 +1,5 @@
 #!/usr/bin/env python3
-r"""Runs the built program on worked examples, a row each: the words of a command, a source, and what has to be written, reported and answered as the status.
+r"""Runs the built program on worked examples, a row each: words of a command, a source, what has to be written and reported, and the status.
 
     conformance/tables.py [--program PATH] [--jobs N] [FILE ..]
 
