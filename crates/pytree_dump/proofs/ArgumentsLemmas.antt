@@ -21,7 +21,7 @@ use Rattle.pytree_dump_text.specs.Shows.{Shown, Fields, Node, Row, no_field, a_f
 use Rattle.pytree_dump_text.specs.Shows.{shown_arguments, shown_exprs, shown_optional, shown_optionals, showns}
 use Rattle.pytree_dump_text.specs.Layout.{shown_count}
 use Rattle.pytree_dump_text.specs.Slots.{Slot, missing, field, with_slot}
-use Rattle.pytree_dump.specs.Inner.Weights.{field_weights, slot_weight}
+use Rattle.pytree_dump.specs.Inner.Weights.{slot_weight, weight}
 use Rattle.pytree_dump.proofs.RowLemmas.{args_row, optionals_row, exprs_row, slot_weighs}
 
 -- five fields or more are shown
@@ -32,18 +32,14 @@ five_shown m n o p q x y z u w missing (field l s) = omega arith
 five_shown m n o p q x y z u w (field l s) missing = omega arith
 five_shown m n o p q x y z u w (field l s) (field j r) = omega arith
 
-pub seven_weigh : (a b c d e f g : Slot) →
-    field_weights (with_slot a (with_slot b (with_slot c (with_slot d (with_slot e (with_slot f (with_slot g no_field)))))))
-    ≡ slot_weight a + slot_weight b + slot_weight c + slot_weight d + slot_weight e + slot_weight f + slot_weight g
-seven_weigh a b c d e f g =
-    let p = slot_weighs a (with_slot b (with_slot c (with_slot d (with_slot e (with_slot f (with_slot g no_field)))))) in
-    let q = slot_weighs b (with_slot c (with_slot d (with_slot e (with_slot f (with_slot g no_field))))) in
-    let r = slot_weighs c (with_slot d (with_slot e (with_slot f (with_slot g no_field)))) in
-    let s = slot_weighs d (with_slot e (with_slot f (with_slot g no_field))) in
-    let t = slot_weighs e (with_slot f (with_slot g no_field)) in
-    let u = slot_weighs f (with_slot g no_field) in
-    let v = slot_weighs g no_field in
-    omega (arith, p, q, r, s, t, u, v)
+arguments_weigh : (m n o p q : List ℕ) (x y : Shown) (v : Slot) (z u : Shown) (k : Slot) (w : Shown) →
+    weight (Node (codes "arguments")
+    (a_field m x (a_field n y (with_slot v (a_field o z (a_field p u (with_slot k (a_field q w no_field))))))))
+    ≡ weight x + weight y + slot_weight v + weight z + weight u + slot_weight k + weight w + 1
+arguments_weigh m n o p q x y v z u k w =
+    let a = slot_weighs v (a_field o z (a_field p u (with_slot k (a_field q w no_field)))) in
+    let b = slot_weighs k (a_field q w no_field) in
+    omega (arith, a, b)
 
 pub arguments_shown : (a : Arguments) (p q k : List Arg) (kd : List (Option Expr)) (d : List Expr) (v w : Slot) →
     p ≡ (given.out-Arguments a).posonlyargs.items → q ≡ (given.out-Arguments a).args.items →
@@ -76,3 +72,21 @@ arguments_shown a p q k kd d v w hp hq hv hk hkd hw hd =
     ∙ (λ i. Node (codes "arguments") (a_field (codes "posonlyargs") (Row (ep i)) (a_field (codes "args") (Row (eq i))
     (sym (hv (a_field (codes "kwonlyargs") (Row (ek i)) (a_field (codes "kw_defaults") (Row (ekd i))
     (sym (hw (a_field (codes "defaults") (Row (ed i)) no_field)) i)))) i))))
+
+pub arguments_weight : (a : Arguments) (p q k : List Arg) (kd : List (Option Expr)) (d : List Expr) (v w : Slot) →
+    p ≡ (given.out-Arguments a).posonlyargs.items → q ≡ (given.out-Arguments a).args.items →
+    ((rest : Fields) → with_slot v rest ≡ arg_field (codes "vararg") (optional_arg (arg_option_of (given.out-Arguments a).vararg)) rest) →
+    k ≡ (given.out-Arguments a).kwonlyargs.items → kd ≡ (given.out-Arguments a).kw_defaults.items →
+    ((rest : Fields) → with_slot w rest ≡ arg_field (codes "kwarg") (optional_arg (arg_option_of (given.out-Arguments a).kwarg)) rest) →
+    d ≡ (given.out-Arguments a).defaults.items →
+    weight (shown_arguments (arguments_of a)) ≡ weight (Row (showns (map (λ a. shown_arg (arg_of a)) p)))
+    + weight (Row (showns (map (λ a. shown_arg (arg_of a)) q))) + slot_weight v
+    + weight (Row (showns (map (λ a. shown_arg (arg_of a)) k)))
+    + weight (Row (showns (map (λ e. shown_optional (optional (option_of e))) kd))) + slot_weight w
+    + weight (Row (showns (map (λ e. shown (tree_of e)) d))) + 1
+arguments_weight a p q k kd d v w hp hq hv hk hkd hw hd =
+    ap weight (arguments_shown a p q k kd d v w hp hq hv hk hkd hw hd)
+    ∙ arguments_weigh (codes "posonlyargs") (codes "args") (codes "kwonlyargs") (codes "kw_defaults") (codes "defaults")
+    (Row (showns (map (λ a. shown_arg (arg_of a)) p))) (Row (showns (map (λ a. shown_arg (arg_of a)) q))) v
+    (Row (showns (map (λ a. shown_arg (arg_of a)) k))) (Row (showns (map (λ e. shown_optional (optional (option_of e))) kd))) w
+    (Row (showns (map (λ e. shown (tree_of e)) d)))

@@ -1,6 +1,7 @@
 mod ArgumentsLemmas
 mod BlockLemmas
 mod JoinedLemmas
+mod NodeLemmas
 mod PatternLemmas
 mod PieceLemmas
 mod PlaceLemmas

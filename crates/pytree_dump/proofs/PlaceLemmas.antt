@@ -2,7 +2,7 @@
 --
 -- Carries: all that is shown.
 use Rattle.std.proofs.Common.{◌≡◌, ℕ, ◌+◌, ◌<◌, ◌≤◌, ◌++◌, List, [], ◌∷◌, Bool, true, false, ◌||◌, codes, refl, ap, sym, ◌∙◌, length, drop}
-use Rattle.std.proofs.Common.{map, get_or, Result, Ok, Err, IfOk, OnOk, is_ok, if◌then◌else◌, subst}
+use Rattle.std.proofs.Common.{map, get_or, Result, Ok, Err, IfOk, OnOk, subst}
 use Rattle.std.proofs.lemmas.Bool.{both_ways}
 use Rattle.std.proofs.lemmas.List.{append-nil, append_assoc, drop_all}
 use Rattle.pytree_node.specs.declared.profiles.Profile.{Profile}
@@ -15,8 +15,8 @@ use Rattle.pytree_node.specs.TreeOf.{stmt_of, type_param_of}
 use Rattle.pytree_dump_text.specs.Blocks.{shown_block}
 use Rattle.pytree_dump_text.specs.declared.styles.Style.{Style}
 use Rattle.pytree_dump_text.specs.declared.lines.Told.{Told}
-use Rattle.pytree_dump_text.specs.Shows.{Shown, Showns, Fields, Scalar, Row, Node, a_field, left_out, no_field, no_shown, showns}
-use Rattle.pytree_dump_text.specs.Shows.{shown_module, shown_type_param, word}
+use Rattle.pytree_dump_text.specs.Shows.{Shown, Showns, Fields, Row, Node, a_field, left_out, no_field, no_shown, showns}
+use Rattle.pytree_dump_text.specs.Shows.{shown_module, shown_type_param}
 use Rattle.pytree_dump_text.specs.Layout.{before, deeper, dump_text, fields, is_flat, is_short, label, members, text}
 use Rattle.pytree_dump_text.specs.Slots.{Slot, missing, field, coming, is_missing, slot_name, slot_shown, with_slot}
 use Rattle.pytree_marked.specs.MarkedNodes.{Attributes, Placed, placed, behind, closed, fields_with, rows_with, with_places}
@@ -34,28 +34,8 @@ parts4 o a b c d = simp append_assoc refl
 
 -- ---- Scalars and words.
 
-pub scalar_on : {T E : Type 0} (s : Style) (f o o1 t : List ℕ) (ps : List Attributes) (r : Result T E) → OnOk r (o1 ≡ o ++ t)
-    → OnOk r (Appends s f o o1 ps ps (Scalar t))
-scalar_on s f o o1 t ps (Ok x) h = (h, refl)
-scalar_on s f o o1 t ps (Err e) h = tt
-
-pub scalar_pushed : {T E : Type 0} (s : Style) (f o o1 x t : List ℕ) (ps : List Attributes) (r : Result T E) → x ≡ t
-    → o1 ≡ (if is_ok r then o ++ x else o) →
-    OnOk r (Appends s f o o1 ps ps (Scalar t))
-scalar_pushed s f o o1 x t ps (Ok y) is e = (e ∙ ap (λ z. o ++ z) is, refl)
-scalar_pushed s f o o1 x t ps (Err y) is e = tt
-
 pub word_whole : (start : List ℕ) → start ++ codes ")" ≡ start ++ [] ++ codes ")"
 word_whole start = ap (λ z. z ++ codes ")") (sym (append-nil start))
-
-word_text : (name : List ℕ) → name ++ codes "()" ≡ name ++ codes "(" ++ [] ++ codes ")"
-word_text name = simp (append_assoc, append-nil) refl
-
-pub word_pushed : {T E : Type 0} (s : Style) (f o o1 x name : List ℕ) (ps : List Attributes) (r : Result T E) → x ≡ name ++ codes "()" →
-    with_places ps (word name) ≡ placed (word name) ps → o1 ≡ (if is_ok r then o ++ x else o) → OnOk r (Appends s f o o1 ps ps (word name))
-word_pushed s f o o1 x name ps (Ok y) is plain e =
-    (e ∙ ap (λ z. o ++ z) (is ∙ word_text name) ∙ (λ i. o ++ text s f (sym plain i).shown), sym (ap (λ z. z.left) plain))
-word_pushed s f o o1 x name ps (Err y) is plain e = tt
 
 -- what takes no place
 pub plain_appended : {T E : Type 0} (s : Style) (f o o1 : List ℕ) (x : Shown) (ps : List Attributes) (r : Result T E)

@@ -1,4 +1,5 @@
 pub mod Definitions
+pub mod Nodes
 pub mod Pieces
 pub mod Weights
 pub mod TypeParams

@@ -7,7 +7,7 @@ ghost use Rattle.pytree_dump_text.specs.Shows.{a_field, no_field, shown};
 ghost use Rattle.pytree_node.specs.TreeOf.{case_of, tree_of};
 ghost use Rattle.pytree_marked.specs.Appends.{Appends, AppendsNode, AppendsField};
 
-use crate::nodes::show_field;
+use crate::fields::show_field;
 use crate::patterns::show_pattern_field;
 use crate::statements::show_block;
 use pytree_dump_text::{

@@ -11,8 +11,8 @@ ghost use Rattle.pytree_marked.specs.Appends.{Appends, AppendsField, AppendsNode
 ghost use Rattle.pytree_dump.specs.Inner.Definitions.{function_def_fields, try_fields};
 ghost use Rattle.pytree_dump.specs.Inner.TypeParams.{type_params_before};
 
+use crate::fields::show_field;
 use crate::handlers::show_caught;
-use crate::nodes::show_field;
 use crate::statements::show_block;
 use pytree_dump_text::{
     Field, Part, Style, Told, after_left_out, boxed_part, is_flat, is_short_test, is_short_with,

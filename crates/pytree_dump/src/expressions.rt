@@ -1,372 +1,225 @@
-//! The dump of expressions.
+//! The nodes of expressions.
 
-ghost use Rattle.std.specs.Prelude.{◌≡◌, IfOk, OnOk};
+ghost use Rattle.std.specs.Prelude.{◌≡◌, IfOk};
 ghost use Rattle.std.specs.String.{string_bytes};
 ghost use Rattle.pytree_dump_text.specs.Layout.{dump_text};
-ghost use Rattle.pytree_dump_text.specs.Shows.{shown};
-ghost use Rattle.pytree_node.specs.TreeOf.{call_of, compare_of, dict_comp_of, dict_of, slice_of};
-ghost use Rattle.pytree_node.specs.TreeOf.{tree_of};
-ghost use Rattle.pytree_marked.specs.Appends.{Appends};
+ghost use Rattle.pytree_dump_text.specs.Slots.{slot_of, with_slot};
+ghost use Rattle.pytree_node.specs.TreeOf.{call_of, compare_of, constant_of, dict_of, dict_comp_of, slice_of, tree_of};
+ghost use Rattle.pytree_dump_text.specs.Shows.{Fields, kind_field, shown};
+ghost use Rattle.pytree_dump.specs.Inner.Nodes.{DescribesShown};
 
-use crate::joined::{is_joined, show_joined_attribute, show_joined_call};
-use crate::leaves::{show_constant_with, show_name_with};
-use crate::nodes::{show_one, show_three, show_two};
+use crate::nodes::Node;
+use crate::showing::show_expr;
 use pytree_dump_text::{Field, Part, Style, boxed_part};
-use pytree_marked::{NoPlaces, PlaceSource};
-use pytree_node::{Call, Compare, Dict, DictComp, Expr, Slice};
+use pytree_marked::NoPlaces;
+use pytree_node::{Call, Compare, Constant, Dict, DictComp, Expr, Slice};
 use std::alloc::{AllocError, Global};
 
-/// Appends what an expression shows.
-#[cycle(showing)]
-#[tactic(auto, using(pytree_node::proofs::Callers::ExprShapes::expr_shapes, crate::proofs::RowLemmas::rows))]
-pub(crate) fn show_expr<P: PlaceSource>(
-    out: &mut String,
-    indentation: &mut String,
-    style: Style,
-    e: &Expr,
-    places: &mut P,
-) -> Result<(), AllocError>
-    ensures text { OnOk result (Appends style (string_bytes indentation.old)
-        (string_bytes out.old) (string_bytes out.new) (P.left places.old) (P.left places.new)
-        (shown (tree_of e.now))) }
-    ensures indentation { OnOk result (string_bytes indentation.new ≡ string_bytes indentation.old) }
+/// The node of an expression.
+pub(crate) fn expr_node<'a>(style: Style, e: &'a Expr) -> Node<'a>
+    ensures { DescribesShown style result (shown (tree_of e.now)) }
 {
     match e {
-        Expr::BoolOp { op, values } => show_two(
-            out,
-            indentation,
+        Expr::BoolOp { op, values } => Node::two(
             style,
             "BoolOp(",
             Part::Bool(*op),
             Part::Exprs(Field::Values, values),
-            places,
         ),
-        Expr::NamedExpr { target, value } => show_two(
-            out,
-            indentation,
+        Expr::NamedExpr { target, value } => Node::two(
             style,
             "NamedExpr(",
             Part::Expr(Field::Target, target),
             Part::Expr(Field::Value, value),
-            places,
         ),
-        Expr::BinOp { left, op, right } => show_three(
-            out,
-            indentation,
+        Expr::BinOp { left, op, right } => Node::three(
             style,
             "BinOp(",
             Part::Expr(Field::Left, left),
             Part::Operator(*op),
             Part::Expr(Field::Right, right),
-            places,
         ),
-        Expr::UnaryOp { op, operand } => show_two(
-            out,
-            indentation,
+        Expr::UnaryOp { op, operand } => Node::two(
             style,
             "UnaryOp(",
             Part::Unary(*op),
             Part::Expr(Field::Operand, operand),
-            places,
         ),
-        Expr::Lambda { args, body } => show_two(
-            out,
-            indentation,
+        Expr::Lambda { args, body } => Node::two(
             style,
             "Lambda(",
             Part::Arguments(Field::Args, args),
             Part::Expr(Field::Body, body),
-            places,
         ),
-        Expr::IfExp { test, body, orelse } => show_three(
-            out,
-            indentation,
+        Expr::IfExp { test, body, orelse } => Node::three(
             style,
             "IfExp(",
             Part::Expr(Field::Test, test),
             Part::Expr(Field::Body, body),
             Part::Expr(Field::Orelse, orelse),
-            places,
         ),
-        Expr::Dict(dict) => show_dict(out, indentation, style, dict, places),
-        Expr::Set { elts } => show_one(
-            out,
-            indentation,
-            style,
-            "Set(",
-            Part::Exprs(Field::Elts, elts),
-            places,
-        ),
-        Expr::ListComp { elt, generators } => show_two(
-            out,
-            indentation,
+        Expr::Dict(dict) => dict_node(style, dict),
+        Expr::Set { elts } => Node::one(style, "Set(", Part::Exprs(Field::Elts, elts)),
+        Expr::ListComp { elt, generators } => Node::two(
             style,
             "ListComp(",
             Part::Expr(Field::Elt, elt),
             Part::Comprehensions(Field::Generators, generators),
-            places,
         ),
-        Expr::SetComp { elt, generators } => show_two(
-            out,
-            indentation,
+        Expr::SetComp { elt, generators } => Node::two(
             style,
             "SetComp(",
             Part::Expr(Field::Elt, elt),
             Part::Comprehensions(Field::Generators, generators),
-            places,
         ),
-        Expr::DictComp(comp) => show_dict_comp(out, indentation, style, comp, places),
-        Expr::GeneratorExp { elt, generators } => show_two(
-            out,
-            indentation,
+        Expr::DictComp(comp) => dict_comp_node(style, comp),
+        Expr::GeneratorExp { elt, generators } => Node::two(
             style,
             "GeneratorExp(",
             Part::Expr(Field::Elt, elt),
             Part::Comprehensions(Field::Generators, generators),
-            places,
         ),
-        Expr::Await { value } => show_one(
-            out,
-            indentation,
-            style,
-            "Await(",
-            Part::Expr(Field::Value, value),
-            places,
-        ),
-        Expr::Yield { value } => show_one(
-            out,
-            indentation,
-            style,
-            "Yield(",
-            boxed_part(Field::Value, value),
-            places,
-        ),
-        Expr::YieldFrom { value } => show_one(
-            out,
-            indentation,
-            style,
-            "YieldFrom(",
-            Part::Expr(Field::Value, value),
-            places,
-        ),
-        Expr::Compare(compare) => show_compare(out, indentation, style, compare, places),
-        Expr::Call(call) => show_call(out, indentation, style, call, places),
+        Expr::Await { value } => Node::one(style, "Await(", Part::Expr(Field::Value, value)),
+        Expr::Yield { value } => Node::one(style, "Yield(", boxed_part(Field::Value, value)),
+        Expr::YieldFrom { value } => {
+            Node::one(style, "YieldFrom(", Part::Expr(Field::Value, value))
+        }
+        Expr::Compare(compare) => compare_node(style, compare),
+        Expr::Call(call) => call_node(style, call),
         Expr::FormattedValue {
             value,
             conversion,
             format_spec,
-        } => show_three(
-            out,
-            indentation,
+        } => Node::three(
             style,
             "FormattedValue(",
             Part::Expr(Field::Value, value),
             Part::Conversion(*conversion),
             boxed_part(Field::FormatSpec, format_spec),
-            places,
         ),
-        Expr::JoinedStr { values } => show_one(
-            out,
-            indentation,
-            style,
-            "JoinedStr(",
-            Part::Exprs(Field::Values, values),
-            places,
-        ),
-        Expr::Constant { value } => show_constant_with(out, indentation, style, value, places),
-        Expr::Attribute { value, attr, ctx } => {
-            if is_joined(style, places) {
-                show_joined_attribute(out, indentation, style, value, attr, *ctx, places)
-            } else {
-                show_three(
-                    out,
-                    indentation,
-                    style,
-                    "Attribute(",
-                    Part::Expr(Field::Value, value),
-                    Part::Name(Field::Attr, attr),
-                    Part::Context(*ctx),
-                    places,
-                )
-            }
+        Expr::JoinedStr { values } => {
+            Node::one(style, "JoinedStr(", Part::Exprs(Field::Values, values))
         }
-        Expr::Subscript { value, slice, ctx } => show_three(
-            out,
-            indentation,
+        Expr::Constant { value } => Node::two(
+            style,
+            "Constant(",
+            Part::Value(Field::Value, value),
+            kind_part(value),
+        ),
+        Expr::Attribute { value, attr, ctx } => Node::three(
+            style,
+            "Attribute(",
+            Part::Expr(Field::Value, value),
+            Part::Name(Field::Attr, attr),
+            Part::Context(*ctx),
+        ),
+        Expr::Subscript { value, slice, ctx } => Node::three(
             style,
             "Subscript(",
             Part::Expr(Field::Value, value),
             Part::Expr(Field::Slice, slice),
             Part::Context(*ctx),
-            places,
         ),
-        Expr::Starred { value, ctx } => show_two(
-            out,
-            indentation,
+        Expr::Starred { value, ctx } => Node::two(
             style,
             "Starred(",
             Part::Expr(Field::Value, value),
             Part::Context(*ctx),
-            places,
         ),
-        Expr::Name { id, ctx } => show_name_with(out, indentation, style, id, *ctx, places),
-        Expr::List { elts, ctx } => show_two(
-            out,
-            indentation,
+        Expr::Name { id, ctx } => Node::two(
+            style,
+            "Name(",
+            Part::Name(Field::Id, id),
+            Part::Context(*ctx),
+        ),
+        Expr::List { elts, ctx } => Node::two(
             style,
             "List(",
             Part::Exprs(Field::Elts, elts),
             Part::Context(*ctx),
-            places,
         ),
-        Expr::Tuple { elts, ctx } => show_two(
-            out,
-            indentation,
+        Expr::Tuple { elts, ctx } => Node::two(
             style,
             "Tuple(",
             Part::Exprs(Field::Elts, elts),
             Part::Context(*ctx),
-            places,
         ),
-        Expr::Slice(slice) => show_slice(out, indentation, style, slice, places),
+        Expr::Slice(slice) => slice_node(style, slice),
     }
 }
 
-/// Appends what a dictionary shows.
-#[cycle(showing)]
-#[tactic(auto, using(pytree_node::proofs::Callers::ExprShapes::expr_shapes, crate::proofs::RowLemmas::rows))]
-fn show_dict<P: PlaceSource>(
-    out: &mut String,
-    indentation: &mut String,
-    style: Style,
-    dict: &Dict,
-    places: &mut P,
-) -> Result<(), AllocError>
-    ensures text { OnOk result (Appends style (string_bytes indentation.old)
-        (string_bytes out.old) (string_bytes out.new) (P.left places.old) (P.left places.new)
-        (shown (dict_of dict.now))) }
-    ensures indentation { OnOk result (string_bytes indentation.new ≡ string_bytes indentation.old) }
+/// The field of a constant's kind, which most constants don't show.
+fn kind_part<'a>(value: &Constant) -> Part<'a>
+    ensures { (rest : Fields)
+        → with_slot (slot_of result) rest ≡ kind_field (constant_of value.now) rest }
 {
-    show_two(
-        out,
-        indentation,
+    match value {
+        Constant::UnicodeStr(_) => Part::Kind,
+        _ => Part::LeftOut,
+    }
+}
+
+/// The node of a dictionary.
+fn dict_node<'a>(style: Style, dict: &'a Dict) -> Node<'a>
+    ensures { DescribesShown style result (shown (dict_of dict.now)) }
+{
+    Node::two(
         style,
         "Dict(",
         Part::Options(Field::Keys, &dict.keys),
         Part::Exprs(Field::Values, &dict.values),
-        places,
     )
 }
 
-/// Appends what a dictionary's comprehension shows.
-#[cycle(showing)]
-#[tactic(auto, using(pytree_node::proofs::Callers::ExprShapes::expr_shapes, crate::proofs::RowLemmas::rows))]
-fn show_dict_comp<P: PlaceSource>(
-    out: &mut String,
-    indentation: &mut String,
-    style: Style,
-    comp: &DictComp,
-    places: &mut P,
-) -> Result<(), AllocError>
-    ensures text { OnOk result (Appends style (string_bytes indentation.old)
-        (string_bytes out.old) (string_bytes out.new) (P.left places.old) (P.left places.new)
-        (shown (dict_comp_of comp.now))) }
-    ensures indentation { OnOk result (string_bytes indentation.new ≡ string_bytes indentation.old) }
+/// The node of a dictionary's comprehension.
+fn dict_comp_node<'a>(style: Style, comp: &'a DictComp) -> Node<'a>
+    ensures { DescribesShown style result (shown (dict_comp_of comp.now)) }
 {
-    show_three(
-        out,
-        indentation,
+    Node::three(
         style,
         "DictComp(",
         Part::Expr(Field::Key, &comp.key),
         Part::Expr(Field::Value, &comp.value),
         Part::Comprehensions(Field::Generators, &comp.generators),
-        places,
     )
 }
 
-/// Appends what a comparison shows.
-#[cycle(showing)]
-#[tactic(auto, using(pytree_node::proofs::Callers::ExprShapes::expr_shapes, crate::proofs::RowLemmas::rows))]
-fn show_compare<P: PlaceSource>(
-    out: &mut String,
-    indentation: &mut String,
-    style: Style,
-    compare: &Compare,
-    places: &mut P,
-) -> Result<(), AllocError>
-    ensures text { OnOk result (Appends style (string_bytes indentation.old)
-        (string_bytes out.old) (string_bytes out.new) (P.left places.old) (P.left places.new)
-        (shown (compare_of compare.now))) }
-    ensures indentation { OnOk result (string_bytes indentation.new ≡ string_bytes indentation.old) }
+/// The node of a comparison.
+fn compare_node<'a>(style: Style, compare: &'a Compare) -> Node<'a>
+    ensures { DescribesShown style result (shown (compare_of compare.now)) }
 {
-    show_three(
-        out,
-        indentation,
+    Node::three(
         style,
         "Compare(",
         Part::Expr(Field::Left, &compare.left),
         Part::Comparisons(Field::Ops, &compare.ops),
         Part::Exprs(Field::Comparators, &compare.comparators),
-        places,
     )
 }
 
-/// Appends what a call shows.
-#[cycle(showing)]
-#[tactic(auto, using(pytree_node::proofs::Callers::ExprShapes::expr_shapes, crate::proofs::RowLemmas::rows))]
-fn show_call<P: PlaceSource>(
-    out: &mut String,
-    indentation: &mut String,
-    style: Style,
-    call: &Call,
-    places: &mut P,
-) -> Result<(), AllocError>
-    ensures text { OnOk result (Appends style (string_bytes indentation.old)
-        (string_bytes out.old) (string_bytes out.new) (P.left places.old) (P.left places.new)
-        (shown (call_of call.now))) }
-    ensures indentation { OnOk result (string_bytes indentation.new ≡ string_bytes indentation.old) }
+/// The node of a call.
+fn call_node<'a>(style: Style, call: &'a Call) -> Node<'a>
+    ensures { DescribesShown style result (shown (call_of call.now)) }
 {
-    if is_joined(style, places) {
-        show_joined_call(out, indentation, style, call, places)
-    } else {
-        show_three(
-            out,
-            indentation,
-            style,
-            "Call(",
-            Part::Expr(Field::Func, &call.func),
-            Part::Exprs(Field::Args, &call.args),
-            Part::Keywords(Field::Keywords, &call.keywords),
-            places,
-        )
-    }
+    Node::three(
+        style,
+        "Call(",
+        Part::Expr(Field::Func, &call.func),
+        Part::Exprs(Field::Args, &call.args),
+        Part::Keywords(Field::Keywords, &call.keywords),
+    )
 }
 
-/// Appends what a slice shows.
-#[cycle(showing)]
-#[tactic(auto, using(pytree_node::proofs::Callers::ExprShapes::expr_shapes, crate::proofs::RowLemmas::rows))]
-fn show_slice<P: PlaceSource>(
-    out: &mut String,
-    indentation: &mut String,
-    style: Style,
-    slice: &Slice,
-    places: &mut P,
-) -> Result<(), AllocError>
-    ensures text { OnOk result (Appends style (string_bytes indentation.old)
-        (string_bytes out.old) (string_bytes out.new) (P.left places.old) (P.left places.new)
-        (shown (slice_of slice.now))) }
-    ensures indentation { OnOk result (string_bytes indentation.new ≡ string_bytes indentation.old) }
+/// The node of a slice.
+fn slice_node<'a>(style: Style, slice: &'a Slice) -> Node<'a>
+    ensures { DescribesShown style result (shown (slice_of slice.now)) }
 {
-    show_three(
-        out,
-        indentation,
+    Node::three(
         style,
         "Slice(",
         boxed_part(Field::Lower, &slice.lower),
         boxed_part(Field::Upper, &slice.upper),
         boxed_part(Field::Step, &slice.step),
-        places,
     )
 }
 

@@ -7,7 +7,7 @@ ghost use Rattle.pytree_dump_text.specs.Shows.{a_field};
 ghost use Rattle.pytree_node.specs.TreeOf.{handler_of};
 ghost use Rattle.pytree_marked.specs.Appends.{Appends, AppendsField};
 
-use crate::nodes::show_field;
+use crate::fields::show_field;
 use crate::statements::show_block;
 use pytree_dump_text::{
     Field, Style, Told, close, is_flat, is_short_handler, name_part, open, option_part,

@@ -10,8 +10,8 @@ ghost use Rattle.pytree_node.specs.TreeOf.{call_of, keyword_of, tree_of};
 ghost use Rattle.pytree_marked.specs.Appends.{Appends, AppendsNode};
 ghost use Rattle.pytree_marked.specs.Taking.{is_none_left};
 
-use crate::expressions::show_expr;
-use crate::lists::{show_exprs, show_keywords};
+use crate::elements::Elements;
+use crate::showing::{show_elements, show_expr, show_exprs};
 use pytree_dump_text::{Style, is_flat, push_name_and_context};
 use pytree_marked::PlaceSource;
 use pytree_node::{Call, Context, Expr, Identifier, Keyword};
@@ -72,7 +72,13 @@ fn show_joined_keywords<P: PlaceSource>(
         return out.push_str(", keywords=[])");
     }
     out.push_str(", keywords=")?;
-    show_keywords(out, indentation, style, keywords, places)?;
+    show_elements(
+        out,
+        indentation,
+        style,
+        Elements::Keywords(keywords),
+        places,
+    )?;
     out.push_str(")")
 }
 

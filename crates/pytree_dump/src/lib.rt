@@ -8,16 +8,20 @@
 
 mod cases;
 mod compounds;
+mod contents;
+mod elements;
 mod expressions;
+mod fields;
 mod handlers;
 mod joined;
-mod leaves;
 mod lists;
 mod members;
 mod modules;
 mod nodes;
+mod parameters;
 mod patterns;
 mod pieces;
+mod showing;
 mod statements;
 
 pub use expressions::dump_expr;

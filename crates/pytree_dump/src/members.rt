@@ -1,240 +1,91 @@
-//! The parts of a tree that are no expressions, as arguments and parameters.
+//! The nodes of the parts of a tree that are no expressions, as arguments and parameters.
 
-ghost use Rattle.std.specs.Prelude.{◌≡◌, OnOk};
-ghost use Rattle.std.specs.String.{string_bytes};
-ghost use Rattle.pytree_dump_text.specs.Shows.{shown_alias, shown_arg, shown_arguments};
-ghost use Rattle.pytree_dump_text.specs.Shows.{shown_comprehension, shown_item, shown_keyword};
-ghost use Rattle.pytree_dump_text.specs.Shows.{shown_type_param};
-ghost use Rattle.pytree_node.specs.TreeOf.{alias_of, arg_of, arguments_of, comprehension_of};
-ghost use Rattle.pytree_node.specs.TreeOf.{item_of, keyword_of, type_param_of};
-ghost use Rattle.pytree_marked.specs.Appends.{Appends};
+ghost use Rattle.pytree_node.specs.TreeOf.{alias_of, comprehension_of, item_of, keyword_of, type_param_of};
+ghost use Rattle.pytree_dump_text.specs.Shows.{shown_alias, shown_comprehension, shown_item, shown_keyword, shown_type_param};
+ghost use Rattle.pytree_dump.specs.Inner.Nodes.{DescribesShown};
 
-use crate::nodes::{show_field, show_one, show_seven, show_three, show_two};
-use pytree_dump_text::{
-    Field, Part, Style, Told, arg_part, boxed_part, close, is_flat, is_short_two, name_part, open,
-    option_part,
-};
-use pytree_marked::{PlaceSource, is_told_on_line};
-use pytree_node::{Alias, Arg, Arguments, Comprehension, Item, Keyword, TypeParam};
-use std::alloc::AllocError;
+use crate::nodes::{AnyPart, Node};
+use pytree_dump_text::{Field, Part, Style, is_flat, is_short_two, name_part, option_part};
+use pytree_node::{Alias, Comprehension, Item, Keyword, TypeParam};
 
-/// Appends a clause of a comprehension, which has no place.
-#[cycle(showing)]
-#[tactic(auto, using(pytree_node::proofs::Callers::ExprShapes::comprehension_tree, crate::proofs::RowLemmas::rows, crate::proofs::TextLemmas::left, crate::proofs::TextLemmas::may_close))]
-pub(crate) fn show_comprehension<P: PlaceSource>(
-    out: &mut String,
-    indentation: &mut String,
-    style: Style,
-    c: &Comprehension,
-    places: &mut P,
-) -> Result<(), AllocError>
-    ensures text { OnOk result (Appends style (string_bytes indentation.old)
-        (string_bytes out.old) (string_bytes out.new) (P.left places.old) (P.left places.new)
-        (shown_comprehension (comprehension_of c.now))) }
-    ensures indentation { OnOk result (string_bytes indentation.new ≡ string_bytes indentation.old) }
+/// A clause of a comprehension, which has no place and shows four fields.
+pub(crate) fn comprehension_node<'a>(style: Style, c: &'a Comprehension) -> Node<'a>
+    ensures { DescribesShown style result (shown_comprehension (comprehension_of c.now)) }
 {
-    let told = Told {
-        one_line: is_flat(style),
-        named: style.names,
-        first: true,
-    };
-    let outer = open(out, indentation, style, "comprehension(")?;
-    let target = Part::Expr(Field::Target, &c.target);
-    let told = show_field(out, indentation, style, told, target, places)?;
-    let iter = Part::Expr(Field::Iter, &c.iter);
-    let told = show_field(out, indentation, style, told, iter, places)?;
-    let ifs = Part::Exprs(Field::Ifs, &c.ifs);
-    let told = show_field(out, indentation, style, told, ifs, places)?;
-    let is_async = Part::Flag(Field::IsAsync, c.is_async);
-    show_field(out, indentation, style, told, is_async, places)?;
-    close(out, indentation, style, outer, ")")?;
-    Ok(())
+    Node {
+        class: "comprehension(",
+        parts: [
+            AnyPart::Part(Part::Expr(Field::Target, &c.target)),
+            AnyPart::Part(Part::Expr(Field::Iter, &c.iter)),
+            AnyPart::Part(Part::Exprs(Field::Ifs, &c.ifs)),
+            AnyPart::Part(Part::Flag(Field::IsAsync, c.is_async)),
+        ],
+        len: 4,
+        is_short: is_flat(style),
+        is_marked: false,
+    }
 }
 
-/// Appends an argument by name.
-#[cycle(showing)]
-#[tactic(auto, using(pytree_node::proofs::Callers::ExprShapes::keyword_tree))]
-pub(crate) fn show_keyword<P: PlaceSource>(
-    out: &mut String,
-    indentation: &mut String,
-    style: Style,
-    k: &Keyword,
-    places: &mut P,
-) -> Result<(), AllocError>
-    ensures text { OnOk result (Appends style (string_bytes indentation.old)
-        (string_bytes out.old) (string_bytes out.new) (P.left places.old) (P.left places.new)
-        (shown_keyword (keyword_of k.now))) }
-    ensures indentation { OnOk result (string_bytes indentation.new ≡ string_bytes indentation.old) }
+/// An argument by name.
+pub(crate) fn keyword_node<'a>(style: Style, k: &'a Keyword) -> Node<'a>
+    ensures { DescribesShown style result (shown_keyword (keyword_of k.now)) }
 {
-    show_two(
-        out,
-        indentation,
+    Node::two(
         style,
         "keyword(",
         name_part(Field::Arg, &k.arg),
         Part::Expr(Field::Value, &k.value),
-        places,
     )
 }
 
-/// Appends a parameter. It has no type comment.
-#[cycle(showing)]
-#[tactic(auto, using(pytree_node::proofs::Callers::ExprShapes::arg_tree))]
-pub(crate) fn show_arg<P: PlaceSource>(
-    out: &mut String,
-    indentation: &mut String,
-    style: Style,
-    a: &Arg,
-    places: &mut P,
-) -> Result<(), AllocError>
-    ensures text { OnOk result (Appends style (string_bytes indentation.old)
-        (string_bytes out.old) (string_bytes out.new) (P.left places.old) (P.left places.new)
-        (shown_arg (arg_of a.now))) }
-    ensures indentation { OnOk result (string_bytes indentation.new ≡ string_bytes indentation.old) }
+/// A name of an import.
+pub(crate) fn alias_node<'a>(style: Style, a: &'a Alias) -> Node<'a>
+    ensures { DescribesShown style result (shown_alias (alias_of a.now)) }
 {
-    show_three(
-        out,
-        indentation,
-        style,
-        "arg(",
-        Part::Name(Field::Arg, &a.arg),
-        boxed_part(Field::Annotation, &a.annotation),
-        Part::LeftOut,
-        places,
-    )
-}
-
-/// Appends the parameters of a function.
-#[cycle(showing)]
-pub(crate) fn show_arguments<P: PlaceSource>(
-    out: &mut String,
-    indentation: &mut String,
-    style: Style,
-    a: &Arguments,
-    places: &mut P,
-) -> Result<(), AllocError>
-    ensures text { OnOk result (Appends style (string_bytes indentation.old)
-        (string_bytes out.old) (string_bytes out.new) (P.left places.old) (P.left places.new)
-        (shown_arguments (arguments_of a.now))) }
-    ensures indentation { OnOk result (string_bytes indentation.new ≡ string_bytes indentation.old) }
-{
-    show_seven(
-        out,
-        indentation,
-        style,
-        "arguments(",
-        Part::Args(Field::Posonlyargs, &a.posonlyargs),
-        Part::Args(Field::Args, &a.args),
-        arg_part(Field::Vararg, &a.vararg),
-        Part::Args(Field::Kwonlyargs, &a.kwonlyargs),
-        Part::Options(Field::KwDefaults, &a.kw_defaults),
-        arg_part(Field::Kwarg, &a.kwarg),
-        Part::Exprs(Field::Defaults, &a.defaults),
-        places,
-    )
-}
-
-/// Appends a name of an import.
-#[cycle(showing)]
-pub(crate) fn show_alias<P: PlaceSource>(
-    out: &mut String,
-    indentation: &mut String,
-    style: Style,
-    a: &Alias,
-    places: &mut P,
-) -> Result<(), AllocError>
-    ensures text { OnOk result (Appends style (string_bytes indentation.old)
-        (string_bytes out.old) (string_bytes out.new) (P.left places.old) (P.left places.new)
-        (shown_alias (alias_of a.now))) }
-    ensures indentation { OnOk result (string_bytes indentation.new ≡ string_bytes indentation.old) }
-{
-    show_two(
-        out,
-        indentation,
+    Node::two(
         style,
         "alias(",
         Part::Name(Field::Name, &a.name),
         name_part(Field::Asname, &a.asname),
-        places,
     )
 }
 
-/// Appends an item of a `with`, which has no place.
-#[cycle(showing)]
-#[tactic(auto, using(crate::proofs::TextLemmas::left, crate::proofs::TextLemmas::may_close))]
-pub(crate) fn show_item<P: PlaceSource>(
-    out: &mut String,
-    indentation: &mut String,
-    style: Style,
-    item: &Item,
-    places: &mut P,
-) -> Result<(), AllocError>
-    ensures text { OnOk result (Appends style (string_bytes indentation.old)
-        (string_bytes out.old) (string_bytes out.new) (P.left places.old) (P.left places.new)
-        (shown_item (item_of item.now))) }
-    ensures indentation { OnOk result (string_bytes indentation.new ≡ string_bytes indentation.old) }
+/// An item of a `with`, which has no place.
+pub(crate) fn item_node<'a>(style: Style, item: &'a Item) -> Node<'a>
+    ensures { DescribesShown style result (shown_item (item_of item.now)) }
 {
     let context_expr = Part::Expr(Field::ContextExpr, &item.context_expr);
     let optional_vars = option_part(Field::OptionalVars, &item.optional_vars);
-    let told = Told {
-        one_line: is_told_on_line(
-            style,
-            is_short_two(style, context_expr, optional_vars),
-            places,
-        ),
-        named: style.names,
-        first: true,
-    };
-    let outer = open(out, indentation, style, "withitem(")?;
-    let told = show_field(out, indentation, style, told, context_expr, places)?;
-    show_field(out, indentation, style, told, optional_vars, places)?;
-    close(out, indentation, style, outer, ")")?;
-    Ok(())
+    Node {
+        class: "withitem(",
+        parts: [
+            AnyPart::Part(context_expr),
+            AnyPart::Part(optional_vars),
+            AnyPart::Part(Part::LeftOut),
+            AnyPart::Part(Part::LeftOut),
+        ],
+        len: 2,
+        is_short: is_short_two(style, context_expr, optional_vars),
+        is_marked: false,
+    }
 }
 
-/// Appends a parameter of a type.
-#[cycle(showing)]
-pub(crate) fn show_type_param<P: PlaceSource>(
-    out: &mut String,
-    indentation: &mut String,
-    style: Style,
-    p: &TypeParam,
-    places: &mut P,
-) -> Result<(), AllocError>
-    ensures text { OnOk result (Appends style (string_bytes indentation.old)
-        (string_bytes out.old) (string_bytes out.new) (P.left places.old) (P.left places.new)
-        (shown_type_param (type_param_of p.now))) }
-    ensures indentation { OnOk result (string_bytes indentation.new ≡ string_bytes indentation.old) }
+/// A parameter of a type.
+pub(crate) fn type_param_node<'a>(style: Style, p: &'a TypeParam) -> Node<'a>
+    ensures { DescribesShown style result (shown_type_param (type_param_of p.now)) }
 {
     match p {
-        TypeParam::TypeVar { name, bound } => show_two(
-            out,
-            indentation,
+        TypeParam::TypeVar { name, bound } => Node::two(
             style,
             "TypeVar(",
             Part::Name(Field::Name, name),
             option_part(Field::Bound, bound),
-            places,
         ),
         TypeParam::ParamSpec { name } => {
-            show_one(
-                out,
-                indentation,
-                style,
-                "ParamSpec(",
-                Part::Name(Field::Name, name),
-                places,
-            )
+            Node::one(style, "ParamSpec(", Part::Name(Field::Name, name))
         }
         TypeParam::TypeVarTuple { name } => {
-            show_one(
-                out,
-                indentation,
-                style,
-                "TypeVarTuple(",
-                Part::Name(Field::Name, name),
-                places,
-            )
+            Node::one(style, "TypeVarTuple(", Part::Name(Field::Name, name))
         }
     }
 }

@@ -7,7 +7,7 @@ ghost use Rattle.pytree_dump_text.specs.Shows.{shown_module};
 ghost use Rattle.pytree_node.specs.TreeOf.{module_of};
 ghost use Rattle.pytree_marked.specs.MarkedNodes.{marked, with_places};
 
-use crate::nodes::show_field;
+use crate::fields::show_field;
 use crate::statements::show_block;
 use pytree_dump_text::{Field, Part, Style, Told, close, is_short_module, open};
 use pytree_marked::{NoPlaces, PlaceSource};

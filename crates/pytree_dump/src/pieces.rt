@@ -9,7 +9,7 @@ ghost use Rattle.pytree_dump_text.specs.Shows.{shown_module};
 ghost use Rattle.pytree_node.specs.TreeOf.{module_of};
 ghost use Rattle.pytree_marked.specs.MarkedNodes.{with_places};
 
-use crate::nodes::show_field;
+use crate::fields::show_field;
 use crate::statements::show_stmt;
 use pytree_dump_text::{
     Field, Part, Style, Told, is_flat, is_short_module, open, push_before, push_lead,

@@ -10,8 +10,7 @@ ghost use Rattle.pytree_marked.specs.Appends.{Appends, AppendsField};
 
 use crate::cases::show_match;
 use crate::compounds::{show_class, show_for, show_function, show_test, show_try, show_with};
-use crate::leaves::show_word_with;
-use crate::nodes::{show_four, show_one, show_three, show_two};
+use crate::fields::{show_four, show_one, show_three, show_two, show_word_with};
 use pytree_dump_text::{
     Field, Part, Style, Told, boxed_part, close, is_flat, name_part, open, option_part,
     push_before, push_lead,

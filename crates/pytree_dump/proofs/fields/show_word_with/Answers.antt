@@ -5,7 +5,7 @@ use Rattle.pytree_dump_text.proofs.Callers.Results.{where_pushed}
 use Rattle.pytree_marked.proofs.Callers.Shortness.{flat_line}
 use Rattle.pytree_dump.proofs.JoinedLemmas.{joined_node, none_is}
 use Rattle.pytree_dump.proofs.PlaceLemmas.{node_ended, nothing_appended, word_whole}
-use Rattle.pytree_dump.proofs.leaves.show_word_with.Goals as goal
+use Rattle.pytree_dump.proofs.fields.show_word_with.Goals as goal
 
 pub returns-then-is_done-clause-text : goal.returns-then-is_done-clause-text
 returns-then-is_done-clause-text g c =
