@@ -1,7 +1,8 @@
 -- The descriptions of nodes, and what is appended of them.
 --
 -- Carries: all nodes.
-use Rattle.std.proofs.Common.{◌≡◌, ℕ, zero, suc, ◌+◌, ◌<◌, ◌≤◌, ◌++◌, List, [], ◌∷◌, Bool, true, false, ◌||◌, codes, refl, ap, sym, ◌∙◌, length, drop}
+use Rattle.std.proofs.Common.{◌≡◌, ℕ, zero, suc, ◌+◌, ◌<◌, ◌≤◌, ◌++◌, List, [], ◌∷◌, Bool, true, false, ◌||◌, codes, refl, ap, sym, ◌∙◌}
+use Rattle.std.proofs.Common.{length, drop}
 use Rattle.std.proofs.Common.{get_or, Result, Ok, Err, OnOk, is_ok, if◌then◌else◌, map, nat_eq, subst, arith}
 use Rattle.std.proofs.lemmas.Bool.{both_ways}
 use Rattle.std.proofs.lemmas.List.{append-nil, append_assoc, drop_all}
@@ -34,7 +35,8 @@ marked_node s n start fs count marked class all short = record {
   line = λ ps line e. marked_line (is_flat s.indent) n.is_short line ps fs e short;
 }
 
-either_flat : (ps : List Attributes) (flat short line : Bool) → line ≡ (if is_none_left ps then short else flat) → short ≡ flat → line ≡ flat
+either_flat : (ps : List Attributes) (flat short line : Bool) → line ≡ (if is_none_left ps then short else flat)
+    → short ≡ flat → line ≡ flat
 either_flat [] flat short line e is = e ∙ is
 either_flat (p ∷ ps) flat short line e is = e
 
@@ -79,7 +81,8 @@ described m s f o o1 ps ps1 n start fs d h =
     (subst (λ z. AppendsNode n.is_marked s f o o1 ps ps1 n.class.now z) d.fields h))
 
 pub described_on : {T E : Type 0} (m : Bool) (s : Style) (f o o1 : List ℕ) (ps ps1 : List Attributes) (n : given.Node) (start : List ℕ)
-    (fs : Fields) (r : Result T E) → Describes m s n start fs → OnOk r (AppendsNode n.is_marked s f o o1 ps ps1 n.class.now (node_fields n)) →
+    (fs : Fields) (r : Result T E) → Describes m s n start fs
+    → OnOk r (AppendsNode n.is_marked s f o o1 ps ps1 n.class.now (node_fields n)) →
     OnOk r (AppendsNode m s f o o1 ps ps1 start fs)
 described_on m s f o o1 ps ps1 n start fs (Ok x) d h = described m s f o o1 ps ps1 n start fs d h
 described_on m s f o o1 ps ps1 n start fs (Err x) d h = tt
@@ -95,7 +98,8 @@ shown_on_ok s f o o1 ps ps1 n (Row xs) r d h = absurd d
 -- one field more
 pub field_passed : (m : Bool) (xs : List AnyPart) {i : ℕ} {x : AnyPart} (s : Style) (f : List ℕ) {f1 o o1 base : List ℕ}
     {ps ps1 : List Attributes} {t next : Told} → i < length xs → x ≡ get_or xs i x → f1 ≡ f →
-    o ++ coming_with m s f ps t (fields_of (drop i xs)) ≡ base → AppendsField s f1 o o1 ps ps1 t next (λ rest. with_slot (any_slot x) rest) →
+    o ++ coming_with m s f ps t (fields_of (drop i xs)) ≡ base
+    → AppendsField s f1 o o1 ps ps1 t next (λ rest. with_slot (any_slot x) rest) →
     o1 ++ coming_with m s f ps1 next (fields_of (drop (i + 1) xs)) ≡ base
 field_passed m xs {i} {x} s f {f1} {o} {o1} {base} {ps} {ps1} {t} {next} lt read same so_far told =
     (λ k. o1 ++ coming_with m s (sym same k) ps1 next (fields_of (drop (i + 1) xs)))
@@ -123,7 +127,8 @@ part_weight (y ∷ ys) (suc i) x lt read =
     omega (arith, e, h)
 
 -- all fields, and what ends a marked node
-pub marked_ended : (s : Style) (f : List ℕ) {f1 f2 : List ℕ} (start : List ℕ) (xs ys : List AnyPart) (o0 : List ℕ) {o1 : List ℕ} (o2 : List ℕ) {o3 : List ℕ}
+pub marked_ended : (s : Style) (f : List ℕ) {f1 f2 : List ℕ} (start : List ℕ) (xs ys : List AnyPart) (o0 : List ℕ) {o1 : List ℕ}
+    (o2 : List ℕ) {o3 : List ℕ}
     (ps ps1 : List Attributes) {ps2 : List Attributes} {line : Bool} (t2 : Told) {i : ℕ} → length xs ≤ i → xs ≡ ys →
     f1 ≡ deeper s.indent f → line ≡ (is_flat s.indent || is_short (closed true (fields_with ps (fields_of ys))).shown) → o1 ≡ o0 ++ start →
     o2 ++ coming_with true s f1 ps1 t2 (fields_of (drop i xs))
@@ -147,7 +152,8 @@ marked_ended s f {f1} {f2} start xs ys o0 {o1} o2 {o3} ps ps1 {ps2} {line} t2 {i
     )
 
 -- all fields, and what ends a node that isn't marked
-pub bare_ended : (s : Style) (f : List ℕ) {f1 : List ℕ} (start : List ℕ) (xs ys : List AnyPart) (o0 : List ℕ) {o1 : List ℕ} (o2 : List ℕ) {o3 : List ℕ}
+pub bare_ended : (s : Style) (f : List ℕ) {f1 : List ℕ} (start : List ℕ) (xs ys : List AnyPart) (o0 : List ℕ) {o1 : List ℕ}
+    (o2 : List ℕ) {o3 : List ℕ}
     (ps : List Attributes) {ps1 : List Attributes} {line : Bool} (t2 : Told) {i : ℕ} → length xs ≤ i → xs ≡ ys →
     f1 ≡ deeper s.indent f → line ≡ (is_flat s.indent || is_short (closed false (fields_with ps (fields_of ys))).shown) → o1 ≡ o0 ++ start →
     o2 ++ coming_with false s f1 ps1 t2 (fields_of (drop i xs))
@@ -173,7 +179,8 @@ empty_list g [] = refl
 empty_list g (x ∷ xs) = grind arith
 
 -- an empty list at once
-pub none_appended : {T E : Type 0} (xs : Showns) (s : Style) (f o o1 : List ℕ) (ps : List Attributes) (r : Result T E) → is_no_shown xs ≡ true
+pub none_appended : {T E : Type 0} (xs : Showns) (s : Style) (f o o1 : List ℕ) (ps : List Attributes) (r : Result T E)
+    → is_no_shown xs ≡ true
     → o1 ≡ (if is_ok r then o ++ codes "[]" else o) → OnOk r (Appends s f o o1 ps ps (Row xs))
 none_appended no_shown s f o o1 ps (Ok y) e h = (h, refl)
 none_appended no_shown s f o o1 ps (Err y) e h = tt

@@ -9,7 +9,8 @@ use Rattle.pytree_marked.specs.MarkedNodes.{closed, fields_with}
 use Rattle.pytree_dump.specs.Inner.Nodes.{ContentOf, any_slot, element_shown, elements_shown, fields_of, node_fields, option_shown}
 use Rattle.pytree_dump.proofs.ArgumentsLemmas.{arguments_weight}
 use Rattle.pytree_dump.proofs.PlaceLemmas.{absent_appended}
-use Rattle.pytree_dump.proofs.NodeLemmas.{bare_ended, field_left, field_passed, laid_shown, list_ended, marked_ended, next_appended, next_left}
+use Rattle.pytree_dump.proofs.NodeLemmas.{bare_ended, field_left, field_passed, laid_shown, list_ended, marked_ended, next_appended}
+use Rattle.pytree_dump.proofs.NodeLemmas.{next_left}
 use Rattle.pytree_dump.proofs.NodeLemmas.{node_weight, none_appended, part_weight, shown_on_ok}
 use Rattle.std.specs.String.{string_bytes}
 use Rattle.pytree_node.specs.Trees.{Constant as ConstantTree, Name, exprs, keywords, optional}
@@ -45,7 +46,8 @@ use Rattle.pytree_node.specs.declared.expressions.Call as given_call
 use Rattle.pytree_dump.proofs.+showing.Goals as goal
 
 pub joined::show_joined_attribute-returns-clause-text : goal.joined::show_joined_attribute-returns-clause-text
-joined::show_joined_attribute-returns-clause-text g t c = let none : g.P.PlaceSource.left c.args.places.now ≡ [] = none_left _ _ c.requires in
+joined::show_joined_attribute-returns-clause-text g t c = let none : g.P.PlaceSource.left c.args.places.now ≡ [] =
+    none_left _ _ c.requires in
     let value : Shown = shown (tree_of c.args.value.now) in
     let fs : Fields = a_field (codes "value") value (a_field (codes "attr") (shown_name c.args.attr.now)
     (a_field (codes "ctx") (word (context_name c.args.ctx)) no_field)) in
@@ -81,7 +83,8 @@ pub joined::show_joined_keywords-show_elements-requires : goal.joined::show_join
 joined::show_joined_keywords-show_elements-requires g t c = (λ κs l. (omega arith, l))
 
 pub joined::show_joined_keywords-returns-clause-left : goal.joined::show_joined_keywords-returns-clause-left
-joined::show_joined_keywords-returns-clause-left g t c = on_always c.push_str-3.result (left_of_none _ _ (Row (showns (map (λ k. shown_keyword (keyword_of k)) c.args.keywords.now)))
+joined::show_joined_keywords-returns-clause-left g t c =
+    on_always c.push_str-3.result (left_of_none _ _ (Row (showns (map (λ k. shown_keyword (keyword_of k)) c.args.keywords.now)))
     (none_is _ c.requires) c.in_ok-show_elements.ensures.text.1)
 
 pub joined::show_joined_keywords-returns-then-is_empty-clause-left : goal.joined::show_joined_keywords-returns-then-is_empty-clause-left
@@ -119,20 +122,23 @@ joined::show_joined_call-returns-clause-text g t c = let none : g.P.PlaceSource.
     c.show_joined_keywords.ensures.text c.show_joined_keywords.ensures.left)
 
 pub joined::show_joined_call-show_expr-requires : goal.joined::show_joined_call-show_expr-requires
-joined::show_joined_call-show_expr-requires g t c = let e : weight (shown (call_of c.args.call.now)) ≡ weight (shown (tree_of (given_call.out-Call c.args.call.now).func)) +
+joined::show_joined_call-show_expr-requires g t c = let e : weight (shown (call_of c.args.call.now)) ≡ weight
+    (shown (tree_of (given_call.out-Call c.args.call.now).func)) +
     (weight (Row (shown_exprs (exprs (map tree_of (given_call.out-Call c.args.call.now).args.items)))) +
     (weight (Row (shown_keywords (keywords (map keyword_of (given_call.out-Call c.args.call.now).keywords.items)))) + 0)) + 1 =
     rw call_shape refl in (λ κs l. (omega (arith, e), l))
 
 pub joined::show_joined_call-show_exprs-requires : goal.joined::show_joined_call-show_exprs-requires
-joined::show_joined_call-show_exprs-requires g t c = let e : weight (shown (call_of c.args.call.now)) ≡ weight (shown (tree_of (given_call.out-Call c.args.call.now).func)) +
+joined::show_joined_call-show_exprs-requires g t c = let e : weight (shown (call_of c.args.call.now)) ≡ weight
+    (shown (tree_of (given_call.out-Call c.args.call.now).func)) +
     (weight (Row (showns (map (λ e. shown (tree_of e)) c.deref.result.now))) +
     (weight (Row (shown_keywords (keywords (map keyword_of (given_call.out-Call c.args.call.now).keywords.items)))) + 0)) + 1 =
     rw (call_shape, exprs_row (given_call.out-Call c.args.call.now).args.items, sym c.deref.ensures.value) refl in
     (λ κs l. (omega (arith, e), l))
 
 pub joined::show_joined_call-show_joined_keywords-requires : goal.joined::show_joined_call-show_joined_keywords-requires
-joined::show_joined_call-show_joined_keywords-requires g t c = let none1 = left_of_none _ _ (shown (tree_of (given_call.out-Call c.args.call.now).func)) (none_left _ _ c.requires)
+joined::show_joined_call-show_joined_keywords-requires g t c = let none1 =
+    left_of_none _ _ (shown (tree_of (given_call.out-Call c.args.call.now).func)) (none_left _ _ c.requires)
     c.in_ok-show_expr.ensures.text.1 in
     let none2 = left_of_none _ _ (Row (showns (map (λ e. shown (tree_of e)) c.deref.result.now))) none1 c.in_ok-show_exprs.ensures.text.1 in
     let e : weight (shown (call_of c.args.call.now)) ≡ weight (shown (tree_of (given_call.out-Call c.args.call.now).func)) +
@@ -148,7 +154,8 @@ joined::show_joined_call-show_joined_keywords-requires g t c = let none1 = left_
     (λ κs l. (omega (arith, e), (l, ap is_none_left none2)))
 
 pub parameters::show_args-show_arg-requires : goal.parameters::show_args-show_arg-requires
-parameters::show_args-show_arg-requires g t c = let h : _ = member_weight (λ a. shown_arg (arg_of a)) _ _ _ c.loop-a-test.true c.a-item.is in
+parameters::show_args-show_arg-requires g t c = let h : _ =
+    member_weight (λ a. shown_arg (arg_of a)) _ _ _ c.loop-a-test.true c.a-item.is in
     (λ κs l. (omega (arith, h), l))
 
 pub parameters::show_args-loop-a-preserved : goal.parameters::show_args-loop-a-preserved
@@ -167,7 +174,8 @@ parameters::show_args-loop-a-preserved g t c = record {
 }
 
 pub parameters::show_args-returns-clause-text : goal.parameters::show_args-returns-clause-text
-parameters::show_args-returns-clause-text g t c = row_ended (λ a. shown_arg (arg_of a)) c.args.all.now c.args.style _ _ _ _ _ c.loop-a-test.false
+parameters::show_args-returns-clause-text g t c = row_ended (λ a. shown_arg (arg_of a)) c.args.all.now c.args.style _ _
+    _ _ _ c.loop-a-test.false
     c.in_ok-outer.ensures.indentation c.in_ok-outer.ensures.text
     c.loop-a.invariant.text c.loop-a.invariant.left c.in_ok-close.ensures.text
 
@@ -196,7 +204,8 @@ showing::show_exprs-loop-e-preserved g t c = record {
 }
 
 pub showing::show_exprs-returns-clause-text : goal.showing::show_exprs-returns-clause-text
-showing::show_exprs-returns-clause-text g t c = row_ended (λ e. shown (tree_of e)) c.args.es.now c.args.style _ _ _ _ _ c.loop-e-test.false c.in_ok-outer.ensures.indentation
+showing::show_exprs-returns-clause-text g t c = row_ended (λ e. shown (tree_of e)) c.args.es.now c.args.style _ _ _ _ _ c.loop-e-test.false
+    c.in_ok-outer.ensures.indentation
     c.in_ok-outer.ensures.text
     c.loop-e.invariant.text c.loop-e.invariant.left c.in_ok-close.ensures.text
 
@@ -350,7 +359,8 @@ pub showing::show_element-returns-in_default : goal.showing::show_element-return
 showing::show_element-returns-in_default g t c =
     record {
       text = shown_on_ok c.args.style (string_bytes c.args.indentation.now) (string_bytes c.args.out.now) (string_bytes c.show_node.new.out)
-          (g.P.PlaceSource.left c.args.places.now) (g.P.PlaceSource.left c.show_node.new.places) c.node.result (element_shown c.args.element)
+          (g.P.PlaceSource.left c.args.places.now) (g.P.PlaceSource.left c.show_node.new.places) c.node.result
+          (element_shown c.args.element)
           c.show_node.result c.node.ensures c.show_node.ensures.text;
       indentation = c.show_node.ensures.indentation;
     }
@@ -367,13 +377,15 @@ showing::show_expr-show_node-requires g t c =
 
 pub showing::show_elements-loop-element-smaller : goal.showing::show_elements-loop-element-smaller
 showing::show_elements-loop-element-smaller g t c =
-    let e : weights (elements_shown c.loop-element.rest) ≡ weight (option_shown c.in-Some.element) + weights (elements_shown c.in-Some.others) =
+    let e : weights (elements_shown c.loop-element.rest) ≡ weight (option_shown c.in-Some.element) + weights
+    (elements_shown c.in-Some.others) =
     ap weights c.in-Some.ensures in
     let h = weighs (option_shown c.in-Some.element) in omega (arith, e, h)
 
 pub showing::show_elements-show_element-requires : goal.showing::show_elements-show_element-requires
 showing::show_elements-show_element-requires g t c =
-    let e : weights (elements_shown c.loop-element.rest) ≡ weight (option_shown c.in-Some.element) + weights (elements_shown c.in-Some.others) =
+    let e : weights (elements_shown c.loop-element.rest) ≡ weight (option_shown c.in-Some.element) + weights
+    (elements_shown c.in-Some.others) =
     ap weights c.in-Some.ensures in
     let k = ap (λ o. weight (option_shown o)) c.in-Some-element.is in
     let w = c.loop-element.invariant.weight in (λ κs l. (omega (arith, e, k, w), l))
@@ -396,13 +408,17 @@ showing::show_expr-show_joined_call-requires g t c =
 
 pub showing::show_expr-returns-in-Name-clause-text : goal.showing::show_expr-returns-in-Name-clause-text
 showing::show_expr-returns-in-Name-clause-text g t c =
-    rw (c.in-Name.is, name_tree) (on_ok_weaker c.show_name.result (unplaced_appended c.args.style (string_bytes c.args.indentation.now) (string_bytes c.args.out.now)
-    (string_bytes c.show_name.new.out) (g.P.PlaceSource.left c.args.places.now) (shown (Name c.in-Name.id c.in-Name.ctx)) (none_is _ (sym c.if-is_done.ensures)))
+    rw (c.in-Name.is, name_tree) (on_ok_weaker c.show_name.result (unplaced_appended c.args.style (string_bytes c.args.indentation.now)
+    (string_bytes c.args.out.now)
+    (string_bytes c.show_name.new.out) (g.P.PlaceSource.left c.args.places.now) (shown (Name c.in-Name.id c.in-Name.ctx))
+    (none_is _ (sym c.if-is_done.ensures)))
     (c.show_name.ensures (string_bytes c.args.indentation.now)))
 
 pub showing::show_expr-returns-in-Constant-clause-text : goal.showing::show_expr-returns-in-Constant-clause-text
 showing::show_expr-returns-in-Constant-clause-text g t c =
-    rw (c.in-Constant.is, constant_tree) (on_ok_weaker c.show_constant.result (unplaced_appended c.args.style (string_bytes c.args.indentation.now) (string_bytes c.args.out.now)
+    rw (c.in-Constant.is, constant_tree)
+    (on_ok_weaker c.show_constant.result (unplaced_appended c.args.style (string_bytes c.args.indentation.now)
+    (string_bytes c.args.out.now)
     (string_bytes c.show_constant.new.out) (g.P.PlaceSource.left c.args.places.now) (shown (ConstantTree (constant_of c.in-Constant.value)))
     (none_is _ (sym c.if-is_done-2.ensures))) (c.show_constant.ensures (string_bytes c.args.indentation.now)))
 
@@ -413,7 +429,8 @@ showing::show_expr-returns-in-Attribute-clause-text g t c =
     (a_field (codes "attr") (shown_name c.in-Attribute.attr) (a_field (codes "ctx") (word (context_name c.in-Attribute.ctx)) no_field))) =
     rw (c.in-Attribute.is, attribute_tree, sym c.deref.ensures) refl in
     shown_on c.args.style (string_bytes c.args.indentation.now) (string_bytes c.args.out.now) (string_bytes c.show_joined_attribute.new.out)
-    (g.P.PlaceSource.left c.args.places.now) (g.P.PlaceSource.left c.show_joined_attribute.new.places) c.show_joined_attribute.result _ _ (sym e)
+    (g.P.PlaceSource.left c.args.places.now) (g.P.PlaceSource.left c.show_joined_attribute.new.places)
+    c.show_joined_attribute.result _ _ (sym e)
     c.show_joined_attribute.ensures.text
 
 pub showing::show_expr-returns-in-Call-clause-text : goal.showing::show_expr-returns-in-Call-clause-text
@@ -427,7 +444,8 @@ showing::show_expr-returns-in-Call-clause-text g t c =
 pub showing::show_node-show_any_field-requires : goal.showing::show_node-show_any_field-requires
 showing::show_node-show_any_field-requires g t c =
     let h : slot_weight (any_slot c.part-item.result) ≤ field_weights (node_fields c.args.node.now) =
-    part_weight (take c.args.node.now.len c.args.node.now.parts) c.loop-part.part-index c.part-item.result c.loop-part-test.true c.part-item.is in
+    part_weight (take c.args.node.now.len c.args.node.now.parts) c.loop-part.part-index c.part-item.result
+    c.loop-part-test.true c.part-item.is in
     (λ κs l. (omega (arith, h), l))
 
 pub showing::show_node-returns-then-node-clause-text : goal.showing::show_node-returns-then-node-clause-text
@@ -475,7 +493,8 @@ showing::show_node-returns-else-node-clause-text g t c =
 pub showing::show_node-returns-then-node-clause-indentation : goal.showing::show_node-returns-then-node-clause-indentation
 showing::show_node-returns-then-node-clause-indentation g t c =
     on_ok_weaker c.end_node.result
-    (λ e. left c.args.style.indent _ _ _ _ c.in_ok-outer.ensures.len (c.loop-part.invariant.indentation ∙ c.in_ok-outer.ensures.indentation) e)
+    (λ e. left c.args.style.indent _ _ _ _ c.in_ok-outer.ensures.len (c.loop-part.invariant.indentation
+    ∙ c.in_ok-outer.ensures.indentation) e)
     c.end_node.ensures.indentation
 
 pub showing::show_node-returns-else-node-clause-indentation : goal.showing::show_node-returns-else-node-clause-indentation
@@ -487,7 +506,8 @@ pub showing::show_node-loop-part-preserved : goal.showing::show_node-loop-part-p
 showing::show_node-loop-part-preserved g t c =
     let xs = take c.args.node.now.len c.args.node.now.parts in
     record {
-      text = field_passed c.args.node.now.is_marked xs c.args.style (string_bytes c.open.new.indentation) c.loop-part-test.true c.part-item.is
+      text = field_passed c.args.node.now.is_marked xs c.args.style (string_bytes c.open.new.indentation)
+          c.loop-part-test.true c.part-item.is
           c.loop-part.invariant.indentation c.loop-part.invariant.text c.in_ok-told.ensures.text;
       left = field_left xs c.loop-part-test.true c.part-item.is c.loop-part.invariant.left c.in_ok-told.ensures.text;
       indentation = c.in_ok-told.ensures.indentation ∙ c.loop-part.invariant.indentation;
@@ -496,8 +516,10 @@ showing::show_node-loop-part-preserved g t c =
 pub showing::show_elements-returns-clause-text : goal.showing::show_elements-returns-clause-text
 showing::show_elements-returns-clause-text g t c =
     on_ok_weaker c.close.result
-    (λ e. list_ended (elements_shown c.args.elements) c.args.style (string_bytes c.args.indentation.now) (string_bytes c.args.out.now) (string_bytes c.loop-element.out)
-    c.loop-element.first (g.P.PlaceSource.left c.args.places.now) c.in_default.ensures c.in_ok-outer.ensures.indentation c.in_ok-outer.ensures.text
+    (λ e. list_ended (elements_shown c.args.elements) c.args.style (string_bytes c.args.indentation.now) (string_bytes c.args.out.now)
+    (string_bytes c.loop-element.out)
+    c.loop-element.first (g.P.PlaceSource.left c.args.places.now) c.in_default.ensures c.in_ok-outer.ensures.indentation
+    c.in_ok-outer.ensures.text
     c.loop-element.invariant.text c.loop-element.invariant.left e)
     c.close.ensures.text
 
@@ -508,7 +530,8 @@ showing::show_elements-returns-then-is_empty-clause-text g t c =
 
 pub showing::show_elements-loop-element-preserved : goal.showing::show_elements-loop-element-preserved
 showing::show_elements-loop-element-preserved g t c =
-    let split : elements_shown c.loop-element.rest ≡ a_shown (element_shown c.in-Some-element.element) (elements_shown c.in-Some.others) = c.in-Some.ensures ∙ ap (λ o. a_shown (option_shown o) (elements_shown c.in-Some.others)) c.in-Some-element.is in
+    let split : elements_shown c.loop-element.rest ≡ a_shown (element_shown c.in-Some-element.element) (elements_shown c.in-Some.others) =
+    c.in-Some.ensures ∙ ap (λ o. a_shown (option_shown o) (elements_shown c.in-Some.others)) c.in-Some-element.is in
     let e1 : string_bytes c.push_before.new.out ≡ string_bytes c.loop-element.out ++ before (is_flat c.args.style.indent)
     (string_bytes c.loop-element.indentation) c.loop-element.first =
     c.in_ok-push_before.ensures
@@ -516,9 +539,11 @@ showing::show_elements-loop-element-preserved g t c =
     let w = c.loop-element.invariant.weight in
     let s = ap weights split in
     record {
-      text = next_appended (element_shown c.in-Some-element.element) (elements_shown c.in-Some.others) c.args.style _ c.loop-element.first _ split
+      text = next_appended (element_shown c.in-Some-element.element) (elements_shown c.in-Some.others) c.args.style _
+          c.loop-element.first _ split
           c.loop-element.invariant.indentation c.loop-element.invariant.text e1 c.in_ok-show_element-in-Some-element.ensures.text;
-      left = next_left (element_shown c.in-Some-element.element) (elements_shown c.in-Some.others) _ split c.loop-element.invariant.left c.in_ok-show_element-in-Some-element.ensures.text.1;
+      left = next_left (element_shown c.in-Some-element.element) (elements_shown c.in-Some.others) _ split c.loop-element.invariant.left
+          c.in_ok-show_element-in-Some-element.ensures.text.1;
       indentation = c.in_ok-show_element-in-Some-element.ensures.indentation ∙ c.loop-element.invariant.indentation;
       weight = omega (arith, w, s);
     }

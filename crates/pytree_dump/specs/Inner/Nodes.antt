@@ -1,14 +1,18 @@
 -- What the descriptions of nodes, of their fields and of lists show.
-use Rattle.std.specs.Prelude.{◌≡◌, ◌≤◌, ℕ, Bool, true, false, List, [], ◌∷◌, ◌++◌, ◌||◌, if◌then◌else◌, map, codes, decimal, take, Option, Some, None}
-use Rattle.pytree_node.specs.TreeOf.{tree_of, option_of, comprehension_of, keyword_of, arg_of, arguments_of, alias_of, item_of, type_param_of}
+use Rattle.std.specs.Prelude.{◌≡◌, ◌≤◌, ℕ, Bool, true, false, List, [], ◌∷◌, ◌++◌, ◌||◌, if◌then◌else◌, map, codes, decimal, take, Option}
+use Rattle.std.specs.Prelude.{Some, None}
+use Rattle.pytree_node.specs.TreeOf.{tree_of, option_of, comprehension_of, keyword_of, arg_of, arguments_of, alias_of, item_of}
+use Rattle.pytree_node.specs.TreeOf.{type_param_of}
 use Rattle.pytree_node.specs.TreeOf.{pattern_of, constant_of}
 use Rattle.pytree_node.specs.Trees.{optional}
 use Rattle.pytree_dump_text.specs.declared.styles.Style.{Style}
 use Rattle.pytree_dump_text.specs.Blocks.{shown_pattern_row}
 use Rattle.pytree_dump_text.specs.Layout.{is_flat, is_short, text}
 use Rattle.pytree_dump_text.specs.Names.{field_name}
-use Rattle.pytree_dump_text.specs.Shows.{Shown, Showns, Fields, Scalar, Row, Node, no_field, no_shown, a_shown, nothing, shown, shown_alias, shown_arg, shown_arguments}
-use Rattle.pytree_dump_text.specs.Shows.{shown_comprehension, shown_item, shown_keyword, shown_name, shown_optional, shown_pattern, shown_type_param}
+use Rattle.pytree_dump_text.specs.Shows.{Shown, Showns, Fields, Scalar, Row, Node, no_field, no_shown, a_shown, nothing, shown, shown_alias}
+use Rattle.pytree_dump_text.specs.Shows.{shown_arg, shown_arguments}
+use Rattle.pytree_dump_text.specs.Shows.{shown_comprehension, shown_item, shown_keyword, shown_name, shown_optional, shown_pattern}
+use Rattle.pytree_dump_text.specs.Shows.{shown_type_param}
 use Rattle.pytree_dump_text.specs.Shows.{showns, word, comparison_name, value_text}
 use Rattle.pytree_dump_text.specs.Slots.{Slot, field, slot_of, with_slot}
 use Rattle.pytree_marked.specs.MarkedNodes.{Attributes, closed, fields_with, is_marked, placed, with_places}
@@ -71,7 +75,8 @@ abbrev pub Splits : given_elements.Elements → Option (Option Element × given_
 Splits r None = elements_shown r ≡ no_shown
 Splits r (Some x) = elements_shown r ≡ a_shown (option_shown x.0) (elements_shown x.1)
 
--- A description of a node: whether it may have a place, its class and the bracket, and its fields. Where no place is left it says whether it stands
+-- A description of a node: whether it may have a place, its class and the bracket, and its fields. Where no place is left it says whether
+-- it stands
 -- on one line; else only a dump of one line has it on one.
 pub record Describes (m : Bool) (s : Style) (n : given.Node) (start : List ℕ) (fs : Fields) : Type 0 where
   pub count : n.len ≤ 4

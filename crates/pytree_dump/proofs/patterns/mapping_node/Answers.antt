@@ -10,5 +10,6 @@ pub returns : goal.returns
 returns c =
     let keys = listed (λ e. shown (tree_of e)) c.args.keys.now in
     marked_node c.args.style _ (codes "MatchMapping(") _ (omega arith) refl refl
-    (ap (λ z. a_field (codes "keys") keys (a_field (codes "patterns") (shown_pattern_row c.args.patterns.now) z)) (c.name_part.ensures no_field))
+    (ap (λ z. a_field (codes "keys") keys (a_field (codes "patterns") (shown_pattern_row c.args.patterns.now) z))
+    (c.name_part.ensures no_field))
     (c.is_short_mapping.ensures c.args.rest.now)

@@ -10,7 +10,8 @@ pub returns-in-Options : goal.returns-in-Options
 returns-in-Options c = rw c.in-Options.is (c.is_empty.ensures ∙ empty_list (λ e. shown_optional (optional (option_of e))) _)
 
 pub returns-in-Comprehensions : goal.returns-in-Comprehensions
-returns-in-Comprehensions c = rw c.in-Comprehensions.is (c.is_empty-in-Comprehensions.ensures ∙ empty_list (λ c. shown_comprehension (comprehension_of c)) _)
+returns-in-Comprehensions c = rw c.in-Comprehensions.is (c.is_empty-in-Comprehensions.ensures
+    ∙ empty_list (λ c. shown_comprehension (comprehension_of c)) _)
 
 pub returns-in-Keywords : goal.returns-in-Keywords
 returns-in-Keywords c = rw c.in-Keywords.is (c.is_empty-in-Keywords.ensures ∙ empty_list (λ k. shown_keyword (keyword_of k)) _)
