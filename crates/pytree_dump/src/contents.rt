@@ -15,6 +15,7 @@ use pytree_node::{Arg, Arguments, Comparison, Constant, Expr, Identifier};
 /// What a field shows.
 #[derive(Clone, Copy)]
 pub(crate) enum Content<'a> {
+    Expr(&'a Expr),
     Element(Element<'a>),
     Exprs(&'a [Expr]),
     Elements(Elements<'a>),
@@ -44,7 +45,7 @@ fn part_content<'a>(part: Part<'a>) -> Content<'a>
     ensures { ContentOf result (slot_shown (slot_of part.entry)) }
 {
     match part {
-        Part::Expr(_, e) => Content::Element(Element::Expr(e)),
+        Part::Expr(_, e) => Content::Expr(e),
         Part::Exprs(_, es) => Content::Exprs(es),
         Part::Options(_, es) => Content::Elements(Elements::Options(es)),
         Part::Comprehensions(_, cs) => Content::Elements(Elements::Comprehensions(cs)),

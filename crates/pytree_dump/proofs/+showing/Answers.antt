@@ -15,11 +15,11 @@ use Rattle.pytree_dump.proofs.NodeLemmas.{node_weight, none_appended, part_weigh
 use Rattle.std.specs.String.{string_bytes}
 use Rattle.pytree_node.specs.Trees.{Constant as ConstantTree, Name, exprs, keywords, optional}
 use Rattle.pytree_node.specs.TreeOf.{constant_of, tree_of, option_of, keyword_of, arg_of, arguments_of}
-use Rattle.pytree_node.specs.TreeOf.{call_of}
+use Rattle.pytree_node.specs.TreeOf.{call_of, compare_of}
 use Rattle.pytree_dump_text.specs.Layout.{text, before, is_flat, is_short}
-use Rattle.pytree_dump_text.specs.Shows.{Fields, Shown, a_field, context_name}
+use Rattle.pytree_dump_text.specs.Shows.{Fields, Shown, a_field, context_name, operator_name}
 use Rattle.pytree_dump_text.specs.Shows.{shown, shown_name, shown_optional, shown_keyword, shown_arg, shown_arguments}
-use Rattle.pytree_dump_text.specs.Shows.{word, showns, Row, no_field}
+use Rattle.pytree_dump_text.specs.Shows.{word, comparison_name, showns, Row, no_field}
 use Rattle.pytree_dump_text.specs.Shows.{shown_exprs, shown_keywords, Node}
 use Rattle.pytree_dump_text.specs.Slots.{slot_of, with_slot}
 use Rattle.pytree_dump.specs.Inner.Weights.{weight, field_weights}
@@ -28,7 +28,7 @@ use Rattle.pytree_dump.proofs.JoinedLemmas.{joined_style, keywords_text, left_of
 use Rattle.std.proofs.lemmas.Result.{on_ok_weaker}
 use Rattle.pytree_dump_text.proofs.Callers.Results.{where_pushed}
 use Rattle.pytree_dump.proofs.ArgumentsLemmas.{five_shown, arguments_shown}
-use Rattle.pytree_dump.proofs.RowLemmas.{slot_weighs, member_weight, exprs_row, keywords_row}
+use Rattle.pytree_dump.proofs.RowLemmas.{slot_weighs, member_weight, exprs_row, keywords_row, comparisons_row}
 use Rattle.pytree_dump.proofs.RowLemmas.{weighs}
 use Rattle.pytree_dump.proofs.TextLemmas.{left}
 use Rattle.pytree_dump.proofs.PlaceLemmas.{member_appended, member_left, node_ended, plain_appended, plain_ended, row_ended}
@@ -38,11 +38,14 @@ use Rattle.pytree_marked.specs.Appends.{Appends}
 use Rattle.pytree_marked.specs.Taking.{is_none_left}
 use Rattle.pytree_marked.proofs.Callers.Shortness.{long_line, marked_line}
 use Rattle.pytree_marked.proofs.Callers.Unplaced.{comparisons_unplaced, names_unplaced}
-use Rattle.pytree_node.proofs.Callers.ExprShapes.{call_tree}
+use Rattle.pytree_node.proofs.Callers.ExprShapes.{compare_tree, call_tree}
+use Rattle.pytree_node.proofs.Callers.ExprShapes.{bin_op_tree}
 use Rattle.pytree_node.proofs.Callers.ExprShapes.{constant_tree, name_tree}
+use Rattle.pytree_node.proofs.Callers.ExprShapes.{subscript_tree}
 use Rattle.pytree_node.proofs.Callers.ExprShapes.{attribute_tree}
-use Rattle.pytree_node.proofs.Callers.ExprShapes.{call_shape}
+use Rattle.pytree_node.proofs.Callers.ExprShapes.{call_shape, compare_shape}
 use Rattle.pytree_node.specs.declared.expressions.Call as given_call
+use Rattle.pytree_node.specs.declared.expressions.Compare as given_compare
 use Rattle.pytree_dump.proofs.+showing.Goals as goal
 
 pub joined::show_joined_attribute-returns-clause-text : goal.joined::show_joined_attribute-returns-clause-text
@@ -397,8 +400,9 @@ showing::show_elements-returns-clause-indentation g t c =
 
 pub showing::show_expr-show_joined_attribute-requires : goal.showing::show_expr-show_joined_attribute-requires
 showing::show_expr-show_joined_attribute-requires g t c =
-    let e : weight (shown (tree_of c.args.e.now)) ≡ weight (shown (tree_of c.deref.result.now)) + 2 + 1 =
-    rw (c.in-Attribute.is, attribute_tree, sym c.deref.ensures) refl in (λ κs l. (omega (arith, e), (l, sym c.if-is_joined.ensures)))
+    let e : weight (shown (tree_of c.args.e.now)) ≡ weight (shown (tree_of c.deref-in-Attribute.result.now)) + 2 + 1 =
+    rw (c.in-Attribute.is, attribute_tree, sym c.deref-in-Attribute.ensures) refl in
+    (λ κs l. (omega (arith, e), (l, sym c.if-is_joined.ensures)))
 
 pub showing::show_expr-show_joined_call-requires : goal.showing::show_expr-show_joined_call-requires
 showing::show_expr-show_joined_call-requires g t c =
@@ -425,9 +429,9 @@ showing::show_expr-returns-in-Constant-clause-text g t c =
 pub showing::show_expr-returns-in-Attribute-clause-text : goal.showing::show_expr-returns-in-Attribute-clause-text
 showing::show_expr-returns-in-Attribute-clause-text g t c =
     let e : shown (tree_of c.args.e.now) ≡ Node (codes "Attribute")
-    (a_field (codes "value") (shown (tree_of c.deref.result.now))
+    (a_field (codes "value") (shown (tree_of c.deref-in-Attribute.result.now))
     (a_field (codes "attr") (shown_name c.in-Attribute.attr) (a_field (codes "ctx") (word (context_name c.in-Attribute.ctx)) no_field))) =
-    rw (c.in-Attribute.is, attribute_tree, sym c.deref.ensures) refl in
+    rw (c.in-Attribute.is, attribute_tree, sym c.deref-in-Attribute.ensures) refl in
     shown_on c.args.style (string_bytes c.args.indentation.now) (string_bytes c.args.out.now) (string_bytes c.show_joined_attribute.new.out)
     (g.P.PlaceSource.left c.args.places.now) (g.P.PlaceSource.left c.show_joined_attribute.new.places)
     c.show_joined_attribute.result _ _ (sym e)
@@ -547,3 +551,123 @@ showing::show_elements-loop-element-preserved g t c =
       indentation = c.in_ok-show_element-in-Some-element.ensures.indentation ∙ c.loop-element.invariant.indentation;
       weight = omega (arith, w, s);
     }
+
+pub fields::show_three-returns-clause-text : goal.fields::show_three-returns-clause-text
+fields::show_three-returns-clause-text g t c =
+    node_ended c.args.style _ c.args.class.now
+    (λ rest. with_slot (slot_of c.args.a) (with_slot (slot_of c.args.b) (with_slot (slot_of c.args.c) rest))) _
+    c.in_ok-outer.ensures.indentation
+    (marked_line _ _ _ _ (with_slot (slot_of c.args.a) (with_slot (slot_of c.args.b) (with_slot (slot_of c.args.c) no_field)))
+    c.is_told_on_line.ensures c.is_short_three.ensures)
+    c.in_ok-outer.ensures.text
+    (then_field c.in_ok-told.ensures.text c.in_ok-told.ensures.indentation
+    (then_field c.in_ok-told-2.ensures.text c.in_ok-told-2.ensures.indentation c.in_ok-told-3.ensures.text))
+    (c.in_ok-told-3.ensures.indentation ∙ c.in_ok-told-2.ensures.indentation ∙ c.in_ok-told.ensures.indentation)
+    c.in_ok-end_node.ensures.text c.in_ok-end_node.ensures.left
+
+pub fields::show_three-returns-clause-indentation : goal.fields::show_three-returns-clause-indentation
+fields::show_three-returns-clause-indentation g t c =
+    left c.args.style.indent _ _ _ _ c.in_ok-outer.ensures.len
+    (c.in_ok-told-3.ensures.indentation ∙ c.in_ok-told-2.ensures.indentation ∙ c.in_ok-told.ensures.indentation
+    ∙ c.in_ok-outer.ensures.indentation) c.in_ok-end_node.ensures.indentation
+
+pub fields::show_three-show_any_field-requires : goal.fields::show_three-show_any_field-requires
+fields::show_three-show_any_field-requires g t c =
+    let e0 = slot_weighs (slot_of c.args.a) (with_slot (slot_of c.args.b) (with_slot (slot_of c.args.c) no_field)) in
+    let e1 = slot_weighs (slot_of c.args.b) (with_slot (slot_of c.args.c) no_field) in
+    let e2 = slot_weighs (slot_of c.args.c) no_field in (λ κs l. (omega (arith, e0, e1, e2), l))
+
+pub fields::show_three-show_any_field-requires-2 : goal.fields::show_three-show_any_field-requires-2
+fields::show_three-show_any_field-requires-2 g t c =
+    let e0 = slot_weighs (slot_of c.args.a) (with_slot (slot_of c.args.b) (with_slot (slot_of c.args.c) no_field)) in
+    let e1 = slot_weighs (slot_of c.args.b) (with_slot (slot_of c.args.c) no_field) in
+    let e2 = slot_weighs (slot_of c.args.c) no_field in (λ κs l. (omega (arith, e0, e1, e2), l))
+
+pub fields::show_three-show_any_field-requires-3 : goal.fields::show_three-show_any_field-requires-3
+fields::show_three-show_any_field-requires-3 g t c =
+    let e0 = slot_weighs (slot_of c.args.a) (with_slot (slot_of c.args.b) (with_slot (slot_of c.args.c) no_field)) in
+    let e1 = slot_weighs (slot_of c.args.b) (with_slot (slot_of c.args.c) no_field) in
+    let e2 = slot_weighs (slot_of c.args.c) no_field in (λ κs l. (omega (arith, e0, e1, e2), l))
+
+pub showing::show_compare-returns-clause-text : goal.showing::show_compare-returns-clause-text
+showing::show_compare-returns-clause-text g t c = let o = given_compare.out-Compare c.args.compare.now in
+    let e : shown (compare_of c.args.compare.now) ≡ Node (codes "Compare") (a_field (codes "left") (shown (tree_of o.left))
+    (a_field (codes "ops") (Row (showns (map (λ c. word (comparison_name c)) c.deref.result.now)))
+    (a_field (codes "comparators") (Row (showns (map (λ e. shown (tree_of e)) c.deref-2.result.now))) no_field))) =
+    ap shown (compare_shape c.args.compare.now)
+    ∙ (λ i. Node (codes "Compare") (a_field (codes "left") (shown (tree_of o.left))
+    (a_field (codes "ops") (Row (comparisons_row o.ops.items i))
+    (a_field (codes "comparators") (Row (exprs_row o.comparators.items i)) no_field))))
+    ∙ (λ i. Node (codes "Compare") (a_field (codes "left") (shown (tree_of o.left))
+    (a_field (codes "ops") (Row (showns (map (λ c. word (comparison_name c)) (sym c.deref.ensures.value i))))
+    (a_field (codes "comparators") (Row (showns (map (λ e. shown (tree_of e)) (sym c.deref-2.ensures.value i)))) no_field)))) in
+    shown_on c.args.style (string_bytes c.args.indentation.now) (string_bytes c.args.out.now) (string_bytes c.show_three.new.out)
+    (g.P.PlaceSource.left c.args.places.now) (g.P.PlaceSource.left c.show_three.new.places) c.show_three.result _ _ (sym e)
+    c.show_three.ensures.text
+
+pub showing::show_compare-show_three-requires : goal.showing::show_compare-show_three-requires
+showing::show_compare-show_three-requires g t c = let o = given_compare.out-Compare c.args.compare.now in
+    let e : shown (compare_of c.args.compare.now) ≡ Node (codes "Compare") (a_field (codes "left") (shown (tree_of o.left))
+    (a_field (codes "ops") (Row (showns (map (λ c. word (comparison_name c)) c.deref.result.now)))
+    (a_field (codes "comparators") (Row (showns (map (λ e. shown (tree_of e)) c.deref-2.result.now))) no_field))) =
+    ap shown (compare_shape c.args.compare.now)
+    ∙ (λ i. Node (codes "Compare") (a_field (codes "left") (shown (tree_of o.left))
+    (a_field (codes "ops") (Row (comparisons_row o.ops.items i))
+    (a_field (codes "comparators") (Row (exprs_row o.comparators.items i)) no_field))))
+    ∙ (λ i. Node (codes "Compare") (a_field (codes "left") (shown (tree_of o.left))
+    (a_field (codes "ops") (Row (showns (map (λ c. word (comparison_name c)) (sym c.deref.ensures.value i))))
+    (a_field (codes "comparators") (Row (showns (map (λ e. shown (tree_of e)) (sym c.deref-2.ensures.value i)))) no_field)))) in
+    let w : weight (shown (compare_of c.args.compare.now)) ≡ weight (shown (tree_of o.left)) +
+    (weight (Row (showns (map (λ c. word (comparison_name c)) c.deref.result.now))) +
+    (weight (Row (showns (map (λ e. shown (tree_of e)) c.deref-2.result.now))) + 0)) + 1 = ap weight e in
+    (λ κs l. (omega (arith, w), l))
+
+pub showing::show_expr-returns-in-BinOp-clause-text : goal.showing::show_expr-returns-in-BinOp-clause-text
+showing::show_expr-returns-in-BinOp-clause-text g t c = let e : shown (tree_of c.args.e.now) ≡ Node (codes "BinOp")
+    (a_field (codes "left") (shown (tree_of c.deref.result.now))
+    (a_field (codes "op") (word (operator_name c.in-BinOp.op))
+    (a_field (codes "right") (shown (tree_of c.deref-in-BinOp.result.now)) no_field))) =
+    ap (λ z. shown (tree_of z)) c.in-BinOp.is ∙ ap shown (bin_op_tree _ _ _)
+    ∙ (λ i. Node (codes "BinOp") (a_field (codes "left") (shown (tree_of (sym c.deref.ensures i)))
+    (a_field (codes "op") (word (operator_name c.in-BinOp.op))
+    (a_field (codes "right") (shown (tree_of (sym c.deref-in-BinOp.ensures i))) no_field)))) in
+    shown_on c.args.style (string_bytes c.args.indentation.now) (string_bytes c.args.out.now) (string_bytes c.show_three.new.out)
+    (g.P.PlaceSource.left c.args.places.now) (g.P.PlaceSource.left c.show_three.new.places) c.show_three.result _ _ (sym e)
+    c.show_three.ensures.text
+
+pub showing::show_expr-show_three-requires : goal.showing::show_expr-show_three-requires
+showing::show_expr-show_three-requires g t c = let e : weight (shown (tree_of c.args.e.now)) ≡ weight (shown (tree_of c.deref.result.now)) +
+    (1 + (weight (shown (tree_of c.deref-in-BinOp.result.now)) + 0)) + 1 =
+    rw (c.in-BinOp.is, bin_op_tree, sym c.deref.ensures, sym c.deref-in-BinOp.ensures) refl in (λ κs l. (omega (arith, e), l))
+
+pub showing::show_expr-returns-in-Subscript-clause-text : goal.showing::show_expr-returns-in-Subscript-clause-text
+showing::show_expr-returns-in-Subscript-clause-text g t c = let e : shown (tree_of c.args.e.now) ≡ Node (codes "Subscript")
+    (a_field (codes "value") (shown (tree_of c.deref-in-Subscript.result.now))
+    (a_field (codes "slice") (shown (tree_of c.deref-in-Subscript-2.result.now))
+    (a_field (codes "ctx") (word (context_name c.in-Subscript.ctx)) no_field))) =
+    rw (c.in-Subscript.is, subscript_tree, sym c.deref-in-Subscript.ensures, sym c.deref-in-Subscript-2.ensures) refl in
+    shown_on c.args.style (string_bytes c.args.indentation.now) (string_bytes c.args.out.now)
+    (string_bytes c.show_three-in-Subscript.new.out) (g.P.PlaceSource.left c.args.places.now)
+    (g.P.PlaceSource.left c.show_three-in-Subscript.new.places) c.show_three-in-Subscript.result _ _ (sym e)
+    c.show_three-in-Subscript.ensures.text
+
+pub showing::show_expr-show_three-requires-in-Subscript : goal.showing::show_expr-show_three-requires-in-Subscript
+showing::show_expr-show_three-requires-in-Subscript g t c = let e : weight (shown (tree_of c.args.e.now)) ≡ weight
+    (shown (tree_of c.deref-in-Subscript.result.now)) +
+    (weight (shown (tree_of c.deref-in-Subscript-2.result.now)) + (1 + 0)) + 1 =
+    rw (c.in-Subscript.is, subscript_tree, sym c.deref-in-Subscript.ensures, sym c.deref-in-Subscript-2.ensures) refl in
+    (λ κs l. (omega (arith, e), l))
+
+pub showing::show_expr-returns-in-Compare-clause-text : goal.showing::show_expr-returns-in-Compare-clause-text
+showing::show_expr-returns-in-Compare-clause-text g t c =
+    let e : shown (tree_of c.args.e.now) ≡ shown (compare_of c.deref-in-Compare.result.now) =
+    rw (c.in-Compare.is, compare_tree, sym c.deref-in-Compare.ensures) refl in
+    shown_on c.args.style (string_bytes c.args.indentation.now) (string_bytes c.args.out.now) (string_bytes c.show_compare.new.out)
+    (g.P.PlaceSource.left c.args.places.now) (g.P.PlaceSource.left c.show_compare.new.places) c.show_compare.result _ _ (sym e)
+    c.show_compare.ensures.text
+
+pub showing::show_expr-show_compare-requires : goal.showing::show_expr-show_compare-requires
+showing::show_expr-show_compare-requires g t c = let e : weight (shown (tree_of c.args.e.now)) ≡ weight
+    (shown (compare_of c.deref-in-Compare.result.now)) =
+    rw (c.in-Compare.is, compare_tree, sym c.deref-in-Compare.ensures) refl in
+    let h = weighs (shown (compare_of c.deref-in-Compare.result.now)) in (λ κs l. (omega (arith, e, h), l))

@@ -94,6 +94,7 @@ DescribesShown s n (Node name fs) = Describes (is_marked name) s n (name ++ code
 
 -- what is shown by the content of a field
 abbrev pub ContentOf : Content → Shown → Type 0
+ContentOf (content.Expr e) y = shown (tree_of e.now) ≡ y
 ContentOf (content.Element x) y = element_shown x ≡ y
 ContentOf (content.Exprs es) y = Row (showns (map (λ e. shown (tree_of e)) es.now)) ≡ y
 ContentOf (content.Arg a) y = shown_arg (arg_of a.now) ≡ y
