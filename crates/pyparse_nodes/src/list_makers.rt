@@ -9,7 +9,7 @@ ghost use Rattle.pytree_height.specs.Heights as Heights;
 ghost use Rattle.pyparse_nodes.specs.Answers.{Makes};
 
 use crate::found::Read;
-use crate::makers::{above, boxed};
+use crate::makers::node;
 use crate::stop::Stop;
 use pytree_node::{Arguments, Call, Comprehension, Context, Dict, DictComp, Expr, Keyword, Slice};
 use std::alloc::Global;
@@ -27,15 +27,15 @@ pub fn make_tuple(
     requires { under ≡ Heights.list_height (map tree_of elts.items) }
     ensures { Makes room (plain.Tuple (exprs (map tree_of elts.items)) Context.Load) next result }
 {
-    let height = above(under, room)?;
-    boxed(
+    node(
         alloc,
         Expr::Tuple {
             elts,
             ctx: Context::Load,
         },
-        height,
+        under,
         next,
+        room,
     )
 }
 
@@ -52,15 +52,15 @@ pub fn make_list(
     requires { under ≡ Heights.list_height (map tree_of elts.items) }
     ensures { Makes room (plain.ListOf (exprs (map tree_of elts.items)) Context.Load) next result }
 {
-    let height = above(under, room)?;
-    boxed(
+    node(
         alloc,
         Expr::List {
             elts,
             ctx: Context::Load,
         },
-        height,
+        under,
         next,
+        room,
     )
 }
 
@@ -76,8 +76,7 @@ pub fn make_set(
     requires { under ≡ Heights.list_height (map tree_of elts.items) }
     ensures { Makes room (plain.Set (exprs (map tree_of elts.items))) next result }
 {
-    let height = above(under, room)?;
-    boxed(alloc, Expr::Set { elts }, height, next)
+    node(alloc, Expr::Set { elts }, under, next, room)
 }
 
 /// A dict, of keys and values of this height.
@@ -96,9 +95,8 @@ pub fn make_dict(
         (plain.Dict (optionals (map option_of keys.items))
         (exprs (map tree_of values.items))) next result }
 {
-    let height = above(under, room)?;
     let dict = Box::new(alloc, Dict { keys, values })?;
-    boxed(alloc, Expr::Dict(dict), height, next)
+    node(alloc, Expr::Dict(dict), under, next, room)
 }
 
 /// A call of these parts.
@@ -133,9 +131,8 @@ pub fn make_call(
         (plain.Call (tree_of func.value) (exprs (map tree_of args.items))
         (plain.keywords (map keyword_of keywords.items))) next result }
 {
-    let height = above(under, room)?;
     let call = Box::new(alloc, call_of_parts(func, args, keywords))?;
-    boxed(alloc, Expr::Call(call), height, next)
+    node(alloc, Expr::Call(call), under, next, room)
 }
 
 /// A generator expression, of parts of this height.
@@ -154,8 +151,7 @@ pub fn make_generator(
         (plain.GeneratorExp (tree_of elt.value)
         (comprehensions (map comprehension_of generators.items))) next result }
 {
-    let height = above(under, room)?;
-    boxed(alloc, Expr::GeneratorExp { elt, generators }, height, next)
+    node(alloc, Expr::GeneratorExp { elt, generators }, under, next, room)
 }
 
 /// A list comprehension, of parts of this height.
@@ -174,8 +170,7 @@ pub fn make_list_comp(
         (plain.ListComp (tree_of elt.value)
         (comprehensions (map comprehension_of generators.items))) next result }
 {
-    let height = above(under, room)?;
-    boxed(alloc, Expr::ListComp { elt, generators }, height, next)
+    node(alloc, Expr::ListComp { elt, generators }, under, next, room)
 }
 
 /// A set comprehension, of parts of this height.
@@ -194,8 +189,7 @@ pub fn make_set_comp(
         (plain.SetComp (tree_of elt.value)
         (comprehensions (map comprehension_of generators.items))) next result }
 {
-    let height = above(under, room)?;
-    boxed(alloc, Expr::SetComp { elt, generators }, height, next)
+    node(alloc, Expr::SetComp { elt, generators }, under, next, room)
 }
 
 /// A dict comprehension of these parts.
@@ -229,9 +223,8 @@ pub fn make_dict_comp(
         (plain.DictComp (tree_of key.value) (tree_of value.value)
         (comprehensions (map comprehension_of generators.items))) next result }
 {
-    let height = above(under, room)?;
     let comp = Box::new(alloc, dict_comp_of_parts(key, value, generators))?;
-    boxed(alloc, Expr::DictComp(comp), height, next)
+    node(alloc, Expr::DictComp(comp), under, next, room)
 }
 
 /// A lambda, of parameters of this height.
@@ -248,16 +241,16 @@ pub fn make_lambda(
     ensures { Makes room
         (plain.Lambda (arguments_of args) (tree_of body.expr.value)) body.next result }
 {
-    let height = above(under.max(body.height), room)?;
     let args = Box::new(alloc, args)?;
-    boxed(
+    node(
         alloc,
         Expr::Lambda {
             args,
             body: body.expr,
         },
-        height,
+        under.max(body.height),
         body.next,
+        room,
     )
 }
 
@@ -274,8 +267,7 @@ pub fn make_yield(
     requires { under ≡ Heights.optional_height (optional (boxed_of value)) }
     ensures { Makes room (plain.Yield (optional (boxed_of value))) next result }
 {
-    let height = above(under, room)?;
-    boxed(alloc, Expr::Yield { value }, height, next)
+    node(alloc, Expr::Yield { value }, under, next, room)
 }
 
 /// A slice, of parts of this height.
@@ -296,7 +288,6 @@ pub fn make_slice(
         (plain.Slice (optional (boxed_of lower)) (optional (boxed_of upper))
         (optional (boxed_of step))) next result }
 {
-    let height = above(under, room)?;
     let slice = Box::new(alloc, Slice { lower, upper, step })?;
-    boxed(alloc, Expr::Slice(slice), height, next)
+    node(alloc, Expr::Slice(slice), under, next, room)
 }

@@ -45,6 +45,22 @@ pub(crate) fn boxed(alloc: Global, expr: Expr, height: usize, next: usize) -> Re
     Ok(Read { expr, height, next })
 }
 
+/// A node over parts of this height, where there is room for it.
+#[inline(always)]
+pub(crate) fn node(
+    alloc: Global,
+    expr: Expr,
+    under: usize,
+    next: usize,
+    room: usize,
+) -> Result<Read, Stop>
+    requires { under + 1 ≡ Heights.height (tree_of expr) }
+    ensures { Makes room (tree_of expr) next result }
+{
+    let height = above(under, room)?;
+    boxed(alloc, expr, height, next)
+}
+
 /// The name of a tree that a NAME of this text stands for.
 pub fn identifier_of(alloc: Global, text: &str) -> Result<Identifier, Stop>
     ensures { MatchResult result (λ name. name ≡ nfkc (chars text.now)) (λ s. s ≡ Stop.Memory) }
@@ -103,16 +119,16 @@ pub fn make_binary(
     ensures { Makes room
         (plain.BinOp (tree_of left.expr.value) op (tree_of right.expr.value)) right.next result }
 {
-    let height = above(left.height.max(right.height), room)?;
-    boxed(
+    node(
         alloc,
         Expr::BinOp {
             left: left.expr,
             op,
             right: right.expr,
         },
-        height,
+        left.height.max(right.height),
         right.next,
+        room,
     )
 }
 
@@ -121,15 +137,15 @@ pub fn make_binary(
 pub fn make_unary(alloc: Global, op: UnaryOperator, e: Read, room: usize) -> Result<Read, Stop>
     ensures { Makes room (plain.UnaryOp op (tree_of e.expr.value)) e.next result }
 {
-    let height = above(e.height, room)?;
-    boxed(
+    node(
         alloc,
         Expr::UnaryOp {
             op,
             operand: e.expr,
         },
-        height,
+        e.height,
         e.next,
+        room,
     )
 }
 
@@ -138,8 +154,7 @@ pub fn make_unary(alloc: Global, op: UnaryOperator, e: Read, room: usize) -> Res
 pub fn make_await(alloc: Global, e: Read, room: usize) -> Result<Read, Stop>
     ensures { Makes room (plain.Await (tree_of e.expr.value)) e.next result }
 {
-    let height = above(e.height, room)?;
-    boxed(alloc, Expr::Await { value: e.expr }, height, e.next)
+    node(alloc, Expr::Await { value: e.expr }, e.height, e.next, room)
 }
 
 /// A starred expression.
@@ -148,15 +163,15 @@ pub fn make_await(alloc: Global, e: Read, room: usize) -> Result<Read, Stop>
 pub fn make_starred(alloc: Global, e: Read, room: usize) -> Result<Read, Stop>
     ensures { Makes room (plain.Starred (tree_of e.expr.value) Context.Load) e.next result }
 {
-    let height = above(e.height, room)?;
-    boxed(
+    node(
         alloc,
         Expr::Starred {
             value: e.expr,
             ctx: Context::Load,
         },
-        height,
+        e.height,
         e.next,
+        room,
     )
 }
 
@@ -187,8 +202,7 @@ pub fn starred(alloc: Global, e: Read) -> Result<Read, Stop>
 pub fn make_yield_from(alloc: Global, e: Read, room: usize) -> Result<Read, Stop>
     ensures { Makes room (plain.YieldFrom (tree_of e.expr.value)) e.next result }
 {
-    let height = above(e.height, room)?;
-    boxed(alloc, Expr::YieldFrom { value: e.expr }, height, e.next)
+    node(alloc, Expr::YieldFrom { value: e.expr }, e.height, e.next, room)
 }
 
 /// A conditional.
@@ -205,16 +219,16 @@ pub fn make_if(
         (plain.IfExp (tree_of test.expr.value) (tree_of body.expr.value)
         (tree_of orelse.expr.value)) orelse.next result }
 {
-    let height = above(test.height.max(body.height.max(orelse.height)), room)?;
-    boxed(
+    node(
         alloc,
         Expr::IfExp {
             test: test.expr,
             body: body.expr,
             orelse: orelse.expr,
         },
-        height,
+        test.height.max(body.height.max(orelse.height)),
         orelse.next,
+        room,
     )
 }
 
@@ -225,15 +239,15 @@ pub fn make_named(alloc: Global, target: Read, value: Read, room: usize) -> Resu
     ensures { Makes room
         (plain.NamedExpr (tree_of target.expr.value) (tree_of value.expr.value)) value.next result }
 {
-    let height = above(target.height.max(value.height), room)?;
-    boxed(
+    node(
         alloc,
         Expr::NamedExpr {
             target: target.expr,
             value: value.expr,
         },
-        height,
+        target.height.max(value.height),
         value.next,
+        room,
     )
 }
 
@@ -250,8 +264,7 @@ pub fn make_chain(
     requires { under ≡ Heights.list_height (map tree_of values.items) }
     ensures { Makes room (plain.BoolOp op (exprs (map tree_of values.items))) next result }
 {
-    let height = above(under, room)?;
-    boxed(alloc, Expr::BoolOp { op, values }, height, next)
+    node(alloc, Expr::BoolOp { op, values }, under, next, room)
 }
 
 /// A comparison, of parts of this height.
@@ -271,14 +284,13 @@ pub fn make_compare(
         (plain.Compare (tree_of left.value) ops.items
         (exprs (map tree_of comparators.items))) next result }
 {
-    let height = above(under, room)?;
     let compare = Compare {
         left: Box::into_inner(left),
         ops,
         comparators,
     };
     let compare = Box::new(alloc, compare)?;
-    boxed(alloc, Expr::Compare(compare), height, next)
+    node(alloc, Expr::Compare(compare), under, next, room)
 }
 
 /// An attribute.
@@ -293,17 +305,17 @@ pub fn make_attribute(
     ensures { Makes room
         (plain.Attribute (tree_of e.expr.value) (nfkc (chars name.now)) Context.Load) next result }
 {
-    let height = above(e.height, room)?;
     let attr = identifier_of(alloc, name)?;
-    boxed(
+    node(
         alloc,
         Expr::Attribute {
             value: e.expr,
             attr,
             ctx: Context::Load,
         },
-        height,
+        e.height,
         next,
+        room,
     )
 }
 
@@ -320,15 +332,15 @@ pub fn make_subscript(
         (plain.Subscript (tree_of e.expr.value)
         (tree_of slice.expr.value) Context.Load) next result }
 {
-    let height = above(e.height.max(slice.height), room)?;
-    boxed(
+    node(
         alloc,
         Expr::Subscript {
             value: e.expr,
             slice: slice.expr,
             ctx: Context::Load,
         },
-        height,
+        e.height.max(slice.height),
         next,
+        room,
     )
 }
