@@ -151,7 +151,13 @@ pub fn make_generator(
         (plain.GeneratorExp (tree_of elt.value)
         (comprehensions (map comprehension_of generators.items))) next result }
 {
-    node(alloc, Expr::GeneratorExp { elt, generators }, under, next, room)
+    node(
+        alloc,
+        Expr::GeneratorExp { elt, generators },
+        under,
+        next,
+        room,
+    )
 }
 
 /// A list comprehension, of parts of this height.

@@ -202,7 +202,13 @@ pub fn starred(alloc: Global, e: Read) -> Result<Read, Stop>
 pub fn make_yield_from(alloc: Global, e: Read, room: usize) -> Result<Read, Stop>
     ensures { Makes room (plain.YieldFrom (tree_of e.expr.value)) e.next result }
 {
-    node(alloc, Expr::YieldFrom { value: e.expr }, e.height, e.next, room)
+    node(
+        alloc,
+        Expr::YieldFrom { value: e.expr },
+        e.height,
+        e.next,
+        room,
+    )
 }
 
 /// A conditional.
