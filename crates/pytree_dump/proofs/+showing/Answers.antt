@@ -20,10 +20,10 @@ use Rattle.pytree_dump_text.specs.Layout.{text, before, is_flat, is_short}
 use Rattle.pytree_dump_text.specs.Shows.{Fields, Shown, a_field, context_name, operator_name}
 use Rattle.pytree_dump_text.specs.Shows.{shown, shown_name, shown_optional, shown_keyword, shown_arg, shown_arguments}
 use Rattle.pytree_dump_text.specs.Shows.{word, comparison_name, showns, Row, no_field}
-use Rattle.pytree_dump_text.specs.Shows.{shown_exprs, shown_keywords, Node}
+use Rattle.pytree_dump_text.specs.Shows.{shown_comparisons, shown_exprs, shown_keywords, Node}
 use Rattle.pytree_dump_text.specs.Slots.{slot_of, with_slot}
 use Rattle.pytree_dump.specs.Inner.Weights.{weight, field_weights}
-use Rattle.pytree_dump.proofs.JoinedLemmas.{unplaced_appended, attribute_text, empty_appended, empty_row, joined_node, last_text, three_text}
+use Rattle.pytree_dump.proofs.JoinedLemmas.{attribute_text, context_end, empty_appended, empty_row, joined_node, last_text, three_text, word_text}
 use Rattle.pytree_dump.proofs.JoinedLemmas.{joined_style, left_of_none, none_is, none_left, on_always, on_both, text_of_none}
 use Rattle.std.proofs.lemmas.Result.{on_ok_weaker}
 use Rattle.pytree_dump_text.proofs.Callers.Results.{where_pushed}
@@ -631,7 +631,8 @@ joined::show_joined_operation-returns-clause-text g t c =
     c.in_ok-push_str.ensures.bytes
     (text_of_none s f _ _ (g.P.PlaceSource.left c.args.places.now) x none c.in_ok-show_expr.ensures.text.0)
     c.in_ok-push_str-2.ensures.bytes
-    (c.in_ok-push_str-3.ensures.bytes ∙ ap (λ o. string_bytes c.push_str-2.new.self ++ o) c.operator_word.ensures)
+    (c.in_ok-push_str-3.ensures.bytes ∙ ap (λ o. string_bytes c.push_str-2.new.self ++ o)
+    (c.operator_word.ensures ∙ word_text (operator_name c.args.op) s f))
     (last_text _ _ _ _ (codes ", right=") _ c.in_ok-push_str-4.ensures.bytes
     (text_of_none s (string_bytes c.show_expr.new.indentation) _ _ (g.P.PlaceSource.left c.show_expr.new.places) z none1 c.in_ok-show_expr-2.ensures.text.0
     ∙ ap (λ i. string_bytes c.push_str-4.new.self ++ text s i z) c.in_ok-show_expr.ensures.indentation) pushed)))
@@ -667,16 +668,17 @@ joined::show_joined_compare-returns-clause-text g t c =
     let x : Shown = shown (tree_of (given_compare.out-Compare c.args.compare.now).left) in
     let y : Shown = Row (showns (map (λ c. word (comparison_name c)) c.deref.result.now)) in
     let z : Shown = Row (showns (map (λ e. shown (tree_of e)) c.deref-2.result.now)) in
-    let e : shown (compare_of c.args.compare.now) ≡ Node (codes "Compare") (a_field (codes "left") (shown (tree_of (given_compare.out-Compare c.args.compare.now).left))
+    let o = given_compare.out-Compare c.args.compare.now in
+    let e : shown (compare_of c.args.compare.now) ≡ Node (codes "Compare") (a_field (codes "left") (shown (tree_of o.left))
     (a_field (codes "ops") (Row (showns (map (λ c. word (comparison_name c)) c.deref.result.now)))
     (a_field (codes "comparators") (Row (showns (map (λ e. shown (tree_of e)) c.deref-2.result.now))) no_field))) =
-    rw (
-      compare_shape,
-      comparisons_row (given_compare.out-Compare c.args.compare.now).ops.items,
-      exprs_row (given_compare.out-Compare c.args.compare.now).comparators.items,
-      sym c.deref.ensures.value,
-      sym c.deref-2.ensures.value,
-    ) refl in
+    ap shown (compare_shape c.args.compare.now)
+    ∙ (λ i. Node (codes "Compare") (a_field (codes "left") (shown (tree_of o.left))
+    (a_field (codes "ops") (Row (comparisons_row o.ops.items i))
+    (a_field (codes "comparators") (Row (exprs_row o.comparators.items i)) no_field))))
+    ∙ (λ i. Node (codes "Compare") (a_field (codes "left") (shown (tree_of o.left))
+    (a_field (codes "ops") (Row (showns (map (λ c. word (comparison_name c)) (sym c.deref.ensures.value i))))
+    (a_field (codes "comparators") (Row (showns (map (λ e. shown (tree_of e)) (sym c.deref-2.ensures.value i)))) no_field)))) in
     let none1 = left_of_none _ _ x none c.in_ok-show_expr.ensures.text.1 in
     shown_on s f (string_bytes c.args.out.now) _ (g.P.PlaceSource.left c.args.places.now) _ c.push_str-4.result _ _ (sym e)
     (where_pushed _ _ _ c.push_str-4.result
@@ -696,23 +698,25 @@ joined::show_joined_compare-returns-clause-text g t c =
 
 pub joined::show_joined_compare-show_expr-requires : goal.joined::show_joined_compare-show_expr-requires
 joined::show_joined_compare-show_expr-requires g t c =
-    let w : weight (shown (compare_of c.args.compare.now)) ≡ weight (shown (tree_of (given_compare.out-Compare c.args.compare.now).left)) +
-    (weight (Row (shown_comparisons (given_compare.out-Compare c.args.compare.now).ops.items)) + (weight (Row (shown_exprs (exprs (map tree_of (given_compare.out-Compare c.args.compare.now).comparators.items)))) + 0)) + 1 =
+    let o = given_compare.out-Compare c.args.compare.now in
+    let w : weight (shown (compare_of c.args.compare.now)) ≡ weight (shown (tree_of o.left)) +
+    (weight (Row (shown_comparisons o.ops.items)) + (weight (Row (shown_exprs (exprs (map tree_of o.comparators.items)))) + 0)) + 1 =
     rw compare_shape refl in (λ κs l. (omega (arith, w), l))
 
 pub joined::show_joined_compare-show_exprs-requires : goal.joined::show_joined_compare-show_exprs-requires
 joined::show_joined_compare-show_exprs-requires g t c =
-    let e : shown (compare_of c.args.compare.now) ≡ Node (codes "Compare") (a_field (codes "left") (shown (tree_of (given_compare.out-Compare c.args.compare.now).left))
+    let o = given_compare.out-Compare c.args.compare.now in
+    let e : shown (compare_of c.args.compare.now) ≡ Node (codes "Compare") (a_field (codes "left") (shown (tree_of o.left))
     (a_field (codes "ops") (Row (showns (map (λ c. word (comparison_name c)) c.deref.result.now)))
     (a_field (codes "comparators") (Row (showns (map (λ e. shown (tree_of e)) c.deref-2.result.now))) no_field))) =
-    rw (
-      compare_shape,
-      comparisons_row (given_compare.out-Compare c.args.compare.now).ops.items,
-      exprs_row (given_compare.out-Compare c.args.compare.now).comparators.items,
-      sym c.deref.ensures.value,
-      sym c.deref-2.ensures.value,
-    ) refl in
-    let w : weight (shown (compare_of c.args.compare.now)) ≡ weight (shown (tree_of (given_compare.out-Compare c.args.compare.now).left)) +
+    ap shown (compare_shape c.args.compare.now)
+    ∙ (λ i. Node (codes "Compare") (a_field (codes "left") (shown (tree_of o.left))
+    (a_field (codes "ops") (Row (comparisons_row o.ops.items i))
+    (a_field (codes "comparators") (Row (exprs_row o.comparators.items i)) no_field))))
+    ∙ (λ i. Node (codes "Compare") (a_field (codes "left") (shown (tree_of o.left))
+    (a_field (codes "ops") (Row (showns (map (λ c. word (comparison_name c)) (sym c.deref.ensures.value i))))
+    (a_field (codes "comparators") (Row (showns (map (λ e. shown (tree_of e)) (sym c.deref-2.ensures.value i)))) no_field)))) in
+    let w : weight (shown (compare_of c.args.compare.now)) ≡ weight (shown (tree_of o.left)) +
     (weight (Row (showns (map (λ c. word (comparison_name c)) c.deref.result.now))) +
     (weight (Row (showns (map (λ e. shown (tree_of e)) c.deref-2.result.now))) + 0)) + 1 = ap weight e in
     (λ κs l. (omega (arith, w), l))

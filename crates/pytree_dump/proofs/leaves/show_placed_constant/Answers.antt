@@ -15,7 +15,8 @@ returns-clause-text g c =
     (λ ended taken. node_ended c.args.style (string_bytes c.args.indentation.now) (codes "Constant(") F _
     c.in_ok-outer.ensures.indentation (flat_line _ _ _ (F no_field) c.requires c.is_flat.ensures) c.in_ok-outer.ensures.text
     (then_field
-    (field_appended c.args.style _ _ _ _ _ _ _ _ (codes "value") (Scalar (value_text (constant_of c.args.value.now))) ? ? ?) refl
-    (c.in_ok-told.ensures c.args.style _))
+    (field_appended c.args.style _ _ _ _ _ _ _ _ (codes "value") (Scalar (value_text (constant_of c.args.value.now))) c.as_str.ensures.value
+    c.in_ok-push_lead.ensures (c.in_ok-push_value.ensures, refl)) c.as_str-2.ensures.value
+    (c.in_ok-told.ensures c.args.style (g.P.PlaceSource.left c.args.places.now)))
     refl ended taken)
     c.end_node.ensures.text c.end_node.ensures.left
