@@ -1,6 +1,6 @@
--- The text of attributes and calls on one line, with the names of fields.
+-- The text of nodes on one line, with the names of fields.
 --
--- Carries: show_joined_attribute, show_joined_keywords, show_joined_call, and the lists that are empty.
+-- Carries: all of `joined`, and the lists that are empty.
 use Rattle.std.proofs.Common.{◌≡◌, ◌∙◌, ap, sym, refl, ◌++◌, ◌∷◌, ◌||◌, ◌&&◌, ℕ, List, [], Bool, true, false, codes, Option, Some, None}
 use Rattle.std.proofs.Common.{Result, Ok, Err, OnOk, is_ok, if◌then◌else◌, map, length, nat_eq, arith}
 use Rattle.std.proofs.lemmas.Bool.{both_ways, eqb-true}
@@ -57,32 +57,42 @@ attribute_text s f x y v c o0 o1 o2 o3 is same e1 e2 e3 =
     (one_line s f (codes "Attribute(")
     (a_field (codes "value") v (a_field (codes "attr") (shown_name x) (a_field (codes "ctx") (word (context_name c)) no_field))) is))
 
--- a call's function, its arguments and its keywords
-call_parts : (o p l v c m es d n ks b : List ℕ) →
-    o ++ (p ++ (l ++ v ++ (c ++ m ++ es ++ (d ++ n ++ ks ++ []))) ++ b)
-    ≡ ((((o ++ (p ++ l)) ++ v) ++ (c ++ m)) ++ es) ++ ((d ++ n) ++ ks ++ b)
-call_parts o p l v c m es d n ks b = simp (append_assoc, append-nil) refl
+-- the fields of a node that has three
+three_parts : (o p l v c m x d n y b : List ℕ) →
+    o ++ (p ++ (l ++ v ++ (c ++ m ++ x ++ (d ++ n ++ y ++ []))) ++ b)
+    ≡ ((((o ++ (p ++ l)) ++ v) ++ (c ++ m)) ++ x) ++ ((d ++ n) ++ y ++ b)
+three_parts o p l v c m x d n y b = simp (append_assoc, append-nil) refl
 
-pub call_text : (s : Style) (f : List ℕ) (v es ks : Shown) (o0 o1 o2 o3 o4 o5 : List ℕ) → (is_flat s.indent && s.names) ≡ true →
-    o1 ≡ o0 ++ codes "Call(func=" → o2 ≡ o1 ++ text s f v → o3 ≡ o2 ++ codes ", args=" → o4 ≡ o3 ++ text s f es →
-    o5 ≡ o4 ++ (codes ", keywords=" ++ text s f ks ++ codes ")") →
-    o5 ≡ o0 ++ node_text s f (codes "Call(") (a_field (codes "func") v (a_field (codes "args") es (a_field (codes "keywords") ks no_field)))
-call_text s f v es ks o0 o1 o2 o3 o4 o5 is e1 e2 e3 e4 e5 =
-    e5 ∙ (λ i. (e4 ∙ (λ j. (e3 ∙ (λ k. (e2 ∙ (λ l. e1 l ++ text s f v)) k ++ codes ", args=")) j ++ text s f es)) i ++
-    (codes ", keywords=" ++ text s f ks ++ codes ")"))
-    ∙ sym (call_parts o0 (codes "Call(") (codes "func=") (text s f v) (codes ", ") (codes "args=") (text s f es) (codes ", ")
-    (codes "keywords=") (text s f ks) (codes ")"))
-    ∙ ap (λ z. o0 ++ z) (sym
-    (one_line s f (codes "Call(") (a_field (codes "func") v (a_field (codes "args") es (a_field (codes "keywords") ks no_field))) is))
+pub three_text : (s : Style) (f start k m n : List ℕ) (x y z : Shown) (o0 o1 o2 o3 o4 o5 : List ℕ) → (is_flat s.indent && s.names) ≡ true →
+    o1 ≡ o0 ++ (start ++ (k ++ codes "=")) → o2 ≡ o1 ++ text s f x → o3 ≡ o2 ++ (codes ", " ++ (m ++ codes "=")) → o4 ≡ o3 ++ text s f y →
+    o5 ≡ o4 ++ ((codes ", " ++ (n ++ codes "=")) ++ text s f z ++ codes ")") →
+    o5 ≡ o0 ++ node_text s f start (a_field k x (a_field m y (a_field n z no_field)))
+three_text s f start k m n x y z o0 o1 o2 o3 o4 o5 is e1 e2 e3 e4 e5 =
+    let l : List ℕ = k ++ codes "=" in
+    let c : List ℕ = m ++ codes "=" in
+    let d : List ℕ = n ++ codes "=" in
+    e5 ∙ (λ i. (e4 ∙ (λ j. (e3 ∙ (λ h. (e2 ∙ (λ g. e1 g ++ text s f x)) h ++ (codes ", " ++ c))) j ++ text s f y)) i ++
+    ((codes ", " ++ d) ++ text s f z ++ codes ")"))
+    ∙ sym (three_parts o0 start l (text s f x) (codes ", ") c (text s f y) (codes ", ") d (text s f z) (codes ")"))
+    ∙ ap (λ w. o0 ++ w) (sym (one_line s f start (a_field k x (a_field m y (a_field n z no_field))) is))
 
--- the keywords of a call, and what ends it
-pub keywords_text : (o0 o1 o2 o3 ks : List ℕ) → o1 ≡ o0 ++ codes ", keywords=" → o2 ≡ o1 ++ ks → o3 ≡ o2 ++ codes ")" →
-    o3 ≡ o0 ++ (codes ", keywords=" ++ ks ++ codes ")")
-keywords_text o0 o1 o2 o3 ks e1 e2 e3 = e3 ∙ (λ i. (e2 ∙ (λ j. e1 j ++ ks)) i ++ codes ")")
-    ∙ joined_parts o0 (codes ", keywords=") ks (codes ")")
+-- what a word shows
+pub word_text : (name : List ℕ) (s : Style) (f : List ℕ) → name ++ codes "()" ≡ text s f (word name)
+word_text name s f = simp (append_assoc, append-nil) refl
+
+-- the context, where it is the last field, and what ends the node
+pub context_end : (c : Context) (s : Style) (f : List ℕ) →
+    codes ", ctx=" ++ context_name c ++ codes "())" ≡ (codes ", " ++ (codes "ctx" ++ codes "=")) ++ text s f (word (context_name c)) ++ codes ")"
+context_end c s f = simp (append_assoc, append-nil) refl
+
+-- the last field of a node, and what ends it
+pub last_text : (o0 o1 o2 o3 label x : List ℕ) → o1 ≡ o0 ++ label → o2 ≡ o1 ++ x → o3 ≡ o2 ++ codes ")" →
+    o3 ≡ o0 ++ (label ++ x ++ codes ")")
+last_text o0 o1 o2 o3 label x e1 e2 e3 = e3 ∙ (λ i. (e2 ∙ (λ j. e1 j ++ x)) i ++ codes ")")
+    ∙ last_parts o0 label x (codes ")")
   where
-    joined_parts : (o p x b : List ℕ) → ((o ++ p) ++ x) ++ b ≡ o ++ (p ++ x ++ b)
-    joined_parts o p x b = simp append_assoc refl
+    last_parts : (o p x b : List ℕ) → ((o ++ p) ++ x) ++ b ≡ o ++ (p ++ x ++ b)
+    last_parts o p x b = simp append_assoc refl
 
 -- an empty list
 pub empty_appended : {A T E : Type 0} (g : A → Shown) (xs : List A) (s : Style) (f o o1 : List ℕ) (ps : List Attributes) (r : Result T E)

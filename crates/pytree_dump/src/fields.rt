@@ -89,7 +89,6 @@ pub(crate) fn show_two<P: PlaceSource>(
 }
 
 /// Appends a node of three fields.
-#[cycle(showing)]
 #[tactic(auto, using(crate::proofs::TextLemmas::left, crate::proofs::TextLemmas::may_close))]
 #[inline(always)]
 pub(crate) fn show_three<P: PlaceSource>(
@@ -114,9 +113,9 @@ pub(crate) fn show_three<P: PlaceSource>(
         first: true,
     };
     let outer = open(out, indentation, style, class)?;
-    let told = show_any_field(out, indentation, style, told, AnyPart::Part(a), places)?;
-    let told = show_any_field(out, indentation, style, told, AnyPart::Part(b), places)?;
-    let told = show_any_field(out, indentation, style, told, AnyPart::Part(c), places)?;
+    let told = show_field(out, indentation, style, told, a, places)?;
+    let told = show_field(out, indentation, style, told, b, places)?;
+    let told = show_field(out, indentation, style, told, c, places)?;
     end_node(out, indentation, style, told, outer, places)?;
     Ok(())
 }

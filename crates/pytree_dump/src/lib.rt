@@ -14,6 +14,7 @@ mod expressions;
 mod fields;
 mod handlers;
 mod joined;
+mod leaves;
 mod lists;
 mod members;
 mod modules;

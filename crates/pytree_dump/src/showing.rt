@@ -4,29 +4,28 @@ ghost use Rattle.std.specs.Prelude.{◌≡◌, IfOk, OnOk, map};
 ghost use Rattle.std.specs.String.{string_bytes};
 ghost use Rattle.pytree_dump_text.specs.Shows.{Row, shown, showns};
 ghost use Rattle.pytree_dump_text.specs.Slots.{slot_shown, with_slot};
-ghost use Rattle.pytree_node.specs.TreeOf.{compare_of, tree_of};
+ghost use Rattle.pytree_node.specs.TreeOf.{tree_of};
 ghost use Rattle.pytree_marked.specs.Appends.{Appends, AppendsField, AppendsNode};
 ghost use Rattle.pytree_dump.specs.Inner.Nodes.{Laid, any_slot, element_shown, node_fields, elements_shown};
 
 use crate::contents::Content;
 use crate::elements::{Element, Elements};
 use crate::expressions::expr_node;
-use crate::fields::show_three;
-use crate::joined::{is_joined, show_joined_attribute, show_joined_call};
+use crate::joined::{is_joined, show_joined};
+use crate::leaves::{show_any_constant, show_any_name};
 use crate::lists::{show_comparisons, show_names};
 use crate::nodes::{AnyPart, Node};
 use crate::parameters::{show_arg, show_args, show_arguments};
 use pysource::push_repr;
 use pytree_dump_text::{
-    Field, Part, Style, Told, after_left_out, close, is_flat, open, push_before, push_lead,
-    push_number, push_value, show_constant, show_name,
+    Style, Told, after_left_out, close, is_flat, open, push_before, push_lead, push_number,
+    push_value,
 };
 use pytree_marked::{PlaceSource, end_node, is_told_on_line};
-use pytree_node::{Compare, Expr};
+use pytree_node::Expr;
 use std::alloc::AllocError;
 
-/// Appends what an expression shows. Of the nodes that a tree has most of, those of three fields are
-/// compiled in line.
+/// Appends what an expression shows.
 #[cycle(showing)]
 pub(crate) fn show_expr<P: PlaceSource>(
     out: &mut String,
@@ -41,63 +40,11 @@ pub(crate) fn show_expr<P: PlaceSource>(
     ensures indentation { OnOk result (string_bytes indentation.new ≡ string_bytes indentation.old) }
 {
     match e {
-        Expr::Name { id, ctx } if places.is_done() => show_name(out, style, id, *ctx),
-        Expr::Constant { value } if places.is_done() => show_constant(out, style, value),
-        Expr::BinOp { left, op, right } => show_three(
-            out,
-            indentation,
-            style,
-            "BinOp(",
-            Part::Expr(Field::Left, left),
-            Part::Operator(*op),
-            Part::Expr(Field::Right, right),
-            places,
-        ),
-        Expr::Subscript { value, slice, ctx } => show_three(
-            out,
-            indentation,
-            style,
-            "Subscript(",
-            Part::Expr(Field::Value, value),
-            Part::Expr(Field::Slice, slice),
-            Part::Context(*ctx),
-            places,
-        ),
-        Expr::Compare(compare) => show_compare(out, indentation, style, compare, places),
-        Expr::Attribute { value, attr, ctx } if is_joined(style, places) => {
-            show_joined_attribute(out, indentation, style, value, attr, *ctx, places)
-        }
-        Expr::Call(call) if is_joined(style, places) => {
-            show_joined_call(out, indentation, style, call, places)
-        }
+        Expr::Name { id, ctx } => show_any_name(out, indentation, style, id, *ctx, places),
+        Expr::Constant { value } => show_any_constant(out, indentation, style, value, places),
+        _ if is_joined(style, places) => show_joined(out, indentation, style, e, places),
         _ => show_node(out, indentation, style, &expr_node(style, e), places),
     }
-}
-
-/// Appends what a comparison shows.
-#[cycle(showing)]
-fn show_compare<P: PlaceSource>(
-    out: &mut String,
-    indentation: &mut String,
-    style: Style,
-    compare: &Compare,
-    places: &mut P,
-) -> Result<(), AllocError>
-    ensures text { OnOk result (Appends style (string_bytes indentation.old)
-        (string_bytes out.old) (string_bytes out.new) (P.left places.old) (P.left places.new)
-        (shown (compare_of compare.now))) }
-    ensures indentation { OnOk result (string_bytes indentation.new ≡ string_bytes indentation.old) }
-{
-    show_three(
-        out,
-        indentation,
-        style,
-        "Compare(",
-        Part::Expr(Field::Left, &compare.left),
-        Part::Comparisons(Field::Ops, &compare.ops),
-        Part::Exprs(Field::Comparators, &compare.comparators),
-        places,
-    )
 }
 
 /// Appends what a part of a tree shows.

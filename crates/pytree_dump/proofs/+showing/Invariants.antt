@@ -68,6 +68,18 @@ invariant-showing::show_elements-loop-element g l = record {
 abbrev pub decreases-showing::show_elements-loop-element : goal.decreases-showing::show_elements-loop-element
 decreases-showing::show_elements-loop-element g l = weights (elements_shown l.rest)
 
+abbrev pub decreases-joined::show_joined : goal.decreases-joined::show_joined
+decreases-joined::show_joined g l = 6 * weight (shown (tree_of l.e.now)) - 1
+
+abbrev pub decreases-joined::show_joined_operation : goal.decreases-joined::show_joined_operation
+decreases-joined::show_joined_operation g l = 6 * (weight (shown (tree_of l.left.now)) + weight (shown (tree_of l.right.now))) + 3
+
+abbrev pub decreases-joined::show_joined_compare : goal.decreases-joined::show_joined_compare
+decreases-joined::show_joined_compare g l = 6 * weight (shown (compare_of l.compare.now)) - 2
+
+abbrev pub decreases-joined::show_joined_subscript : goal.decreases-joined::show_joined_subscript
+decreases-joined::show_joined_subscript g l = 6 * (weight (shown (tree_of l.value.now)) + weight (shown (tree_of l.slice.now))) + 3
+
 abbrev pub decreases-joined::show_joined_attribute : goal.decreases-joined::show_joined_attribute
 decreases-joined::show_joined_attribute g l = 6 * weight (shown (tree_of l.value.now)) + 3
 
@@ -96,10 +108,3 @@ invariant-parameters::show_args-loop-a g l = record {
 
 abbrev pub decreases-parameters::show_arguments : goal.decreases-parameters::show_arguments
 decreases-parameters::show_arguments g l = 6 * weight (shown_arguments (arguments_of l.a.now))
-
-abbrev pub decreases-fields::show_three : goal.decreases-fields::show_three
-decreases-fields::show_three g l =
-    6 * field_weights (with_slot (slot_of l.a) (with_slot (slot_of l.b) (with_slot (slot_of l.c) no_field))) + 4
-
-abbrev pub decreases-showing::show_compare : goal.decreases-showing::show_compare
-decreases-showing::show_compare g l = 6 * weight (shown (compare_of l.compare.now)) - 1
