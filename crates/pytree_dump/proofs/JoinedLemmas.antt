@@ -82,7 +82,8 @@ word_text name s f = simp (append_assoc, append-nil) refl
 
 -- the context, where it is the last field, and what ends the node
 pub context_end : (c : Context) (s : Style) (f : List ℕ) →
-    codes ", ctx=" ++ context_name c ++ codes "())" ≡ (codes ", " ++ (codes "ctx" ++ codes "=")) ++ text s f (word (context_name c)) ++ codes ")"
+    codes ", ctx=" ++ context_name c ++ codes "())" ≡ (codes ", " ++ (codes "ctx" ++ codes "=")) ++ text s f
+    (word (context_name c)) ++ codes ")"
 context_end c s f = simp (append_assoc, append-nil) refl
 
 -- the last field of a node, and what ends it

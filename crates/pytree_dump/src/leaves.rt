@@ -1,6 +1,6 @@
 //! Names and constants, which have no node below them.
 
-ghost use Rattle.std.specs.Prelude.{◌≡◌, false, ℕ, List, IfOk, OnOk};
+ghost use Rattle.std.specs.Prelude.{◌≡◌, false, List, IfOk, OnOk};
 ghost use Rattle.std.specs.String.{string_bytes};
 ghost use Rattle.pytree_dump_text.specs.Shows.{kind_field, shown};
 ghost use Rattle.pytree_node.specs.TreeOf.{constant_of};

@@ -13,8 +13,8 @@ use Rattle.pytree_dump.proofs.NodeLemmas.{bare_ended, field_left, field_passed, 
 use Rattle.pytree_dump.proofs.NodeLemmas.{next_left}
 use Rattle.pytree_dump.proofs.NodeLemmas.{node_weight, none_appended, part_weight, shown_on_ok}
 use Rattle.std.specs.String.{string_bytes}
-use Rattle.pytree_node.specs.Trees.{Constant as ConstantTree, Name, exprs, keywords, optional}
-use Rattle.pytree_node.specs.TreeOf.{constant_of, tree_of, option_of, keyword_of, arg_of, arguments_of}
+use Rattle.pytree_node.specs.Trees.{exprs, keywords, optional}
+use Rattle.pytree_node.specs.TreeOf.{tree_of, option_of, keyword_of, arg_of, arguments_of}
 use Rattle.pytree_node.specs.TreeOf.{call_of, compare_of}
 use Rattle.pytree_dump_text.specs.Layout.{text, before, is_flat, is_short}
 use Rattle.pytree_dump_text.specs.Shows.{Fields, Shown, a_field, context_name, operator_name}
@@ -23,7 +23,8 @@ use Rattle.pytree_dump_text.specs.Shows.{word, comparison_name, showns, Row, no_
 use Rattle.pytree_dump_text.specs.Shows.{shown_comparisons, shown_exprs, shown_keywords, Node}
 use Rattle.pytree_dump_text.specs.Slots.{slot_of, with_slot}
 use Rattle.pytree_dump.specs.Inner.Weights.{weight, field_weights}
-use Rattle.pytree_dump.proofs.JoinedLemmas.{attribute_text, context_end, empty_appended, empty_row, joined_node, last_text, three_text, word_text}
+use Rattle.pytree_dump.proofs.JoinedLemmas.{attribute_text, context_end, empty_appended, empty_row, joined_node, last_text, three_text}
+use Rattle.pytree_dump.proofs.JoinedLemmas.{word_text}
 use Rattle.pytree_dump.proofs.JoinedLemmas.{joined_style, left_of_none, none_is, none_left, on_always, on_both, text_of_none}
 use Rattle.std.proofs.lemmas.Result.{on_ok_weaker}
 use Rattle.pytree_dump_text.proofs.Callers.Results.{where_pushed}
@@ -78,7 +79,8 @@ pub joined::show_joined_keywords-returns-clause-text : goal.joined::show_joined_
 joined::show_joined_keywords-returns-clause-text g t c = let none : g.P.PlaceSource.left c.args.places.now ≡ [] = none_is _ c.requires in
     let row : Shown = Row (showns (map (λ k. shown_keyword (keyword_of k)) c.args.keywords.now)) in
     where_pushed _ _ _ c.push_str-3.result
-    (last_text _ _ _ _ (codes ", keywords=") _ c.in_ok-push_str.ensures.bytes (text_of_none c.args.style (string_bytes c.args.indentation.now) _ _
+    (last_text _ _ _ _ (codes ", keywords=") _ c.in_ok-push_str.ensures.bytes
+    (text_of_none c.args.style (string_bytes c.args.indentation.now) _ _
     (g.P.PlaceSource.left c.args.places.now) row none c.in_ok-show_elements.ensures.text.0))
     c.push_str-3.ensures.bytes
 
@@ -568,7 +570,8 @@ joined::show_joined-returns-in-Compare-clause-text g t c =
     let e : shown (tree_of c.args.e.now) ≡ shown (compare_of c.deref-in-Compare.result.now) =
     rw (c.in-Compare.is, compare_tree, sym c.deref-in-Compare.ensures) refl in
     shown_on c.args.style (string_bytes c.args.indentation.now) (string_bytes c.args.out.now) (string_bytes c.show_joined_compare.new.out)
-    (g.P.PlaceSource.left c.args.places.now) (g.P.PlaceSource.left c.show_joined_compare.new.places) c.show_joined_compare.result _ _ (sym e)
+    (g.P.PlaceSource.left c.args.places.now) (g.P.PlaceSource.left c.show_joined_compare.new.places)
+    c.show_joined_compare.result _ _ (sym e)
     c.show_joined_compare.ensures.text
 
 pub joined::show_joined-returns-in-Attribute-clause-text : goal.joined::show_joined-returns-in-Attribute-clause-text
@@ -634,7 +637,8 @@ joined::show_joined_operation-returns-clause-text g t c =
     (c.in_ok-push_str-3.ensures.bytes ∙ ap (λ o. string_bytes c.push_str-2.new.self ++ o)
     (c.operator_word.ensures ∙ word_text (operator_name c.args.op) s f))
     (last_text _ _ _ _ (codes ", right=") _ c.in_ok-push_str-4.ensures.bytes
-    (text_of_none s (string_bytes c.show_expr.new.indentation) _ _ (g.P.PlaceSource.left c.show_expr.new.places) z none1 c.in_ok-show_expr-2.ensures.text.0
+    (text_of_none s (string_bytes c.show_expr.new.indentation) _ _ (g.P.PlaceSource.left c.show_expr.new.places) z none1
+    c.in_ok-show_expr-2.ensures.text.0
     ∙ ap (λ i. string_bytes c.push_str-4.new.self ++ text s i z) c.in_ok-show_expr.ensures.indentation) pushed)))
     c.push_str-5.ensures.bytes
 
@@ -655,7 +659,8 @@ joined::show_joined_subscript-returns-clause-text g t c =
     c.in_ok-push_str.ensures.bytes
     (text_of_none s f _ _ (g.P.PlaceSource.left c.args.places.now) x none c.in_ok-show_expr.ensures.text.0)
     c.in_ok-push_str-2.ensures.bytes
-    (text_of_none s (string_bytes c.show_expr.new.indentation) _ _ (g.P.PlaceSource.left c.show_expr.new.places) y none1 c.in_ok-show_expr-2.ensures.text.0
+    (text_of_none s (string_bytes c.show_expr.new.indentation) _ _ (g.P.PlaceSource.left c.show_expr.new.places) y none1
+    c.in_ok-show_expr-2.ensures.text.0
     ∙ ap (λ i. string_bytes c.push_str-2.new.self ++ text s i y) c.in_ok-show_expr.ensures.indentation)
     (pushed ∙ ap (λ o. string_bytes c.show_expr-2.new.out ++ o) (c.subscript_end.ensures ∙ context_end c.args.ctx s f))))
     c.push_str-3.ensures.bytes
@@ -689,7 +694,8 @@ joined::show_joined_compare-returns-clause-text g t c =
     c.in_ok-push_str.ensures.bytes
     (text_of_none s f _ _ (g.P.PlaceSource.left c.args.places.now) x none c.in_ok-show_expr.ensures.text.0)
     c.in_ok-push_str-2.ensures.bytes
-    (c.in_ok-show_comparisons.ensures.text ∙ ap (λ i. string_bytes c.push_str-2.new.self ++ text s i y) c.in_ok-show_expr.ensures.indentation)
+    (c.in_ok-show_comparisons.ensures.text ∙ ap (λ i. string_bytes c.push_str-2.new.self ++ text s i y)
+    c.in_ok-show_expr.ensures.indentation)
     (last_text _ _ _ _ (codes ", comparators=") _ c.in_ok-push_str-3.ensures.bytes
     (text_of_none s (string_bytes c.show_comparisons.new.indentation) _ _ (g.P.PlaceSource.left c.show_expr.new.places) z none1
     c.in_ok-show_exprs.ensures.text.0 ∙ ap (λ i. string_bytes c.push_str-3.new.self ++ text s i z)

@@ -2,8 +2,8 @@ use Rattle.std.proofs.Common.{◌≡◌, ◌≤◌, ◌+◌, ◌-◌, ◌*◌, �
 use Rattle.std.specs.String.{string_bytes}
 use Rattle.pytree_node.specs.TreeOf.{arg_of, arguments_of, call_of, compare_of, keyword_of, tree_of}
 use Rattle.pytree_dump_text.specs.Layout.{members}
-use Rattle.pytree_dump_text.specs.Shows.{Row, no_field, shown, shown_arg, shown_arguments, shown_keyword, showns}
-use Rattle.pytree_dump_text.specs.Slots.{slot_of, slot_shown, with_slot}
+use Rattle.pytree_dump_text.specs.Shows.{Row, shown, shown_arg, shown_arguments, shown_keyword, showns}
+use Rattle.pytree_dump_text.specs.Slots.{slot_shown}
 use Rattle.pytree_marked.specs.Appends.{coming_with}
 use Rattle.pytree_marked.specs.MarkedNodes.{fields_with, rows_with}
 use Rattle.pytree_dump.specs.Inner.Nodes.{any_slot, element_shown, elements_shown, fields_of, node_fields}

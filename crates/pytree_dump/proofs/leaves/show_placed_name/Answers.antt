@@ -17,8 +17,11 @@ returns-clause-text g c =
     (then_field
     (field_appended c.args.style _ _ _ _ _ _ _ _ (codes "id") (shown_name c.args.id.now) c.as_str.ensures.value c.in_ok-push_lead.ensures
     (c.in_ok-push_repr.ensures.ok ∙ ap (λ z. string_bytes c.push_lead.new.out ++ repr_text z) c.as_str-2.ensures.characters, refl)) refl
-    (field_appended c.args.style _ _ _ _ _ _ _ _ (codes "ctx") (word (context_name c.args.ctx)) c.as_str-3.ensures.value c.in_ok-push_lead-2.ensures
-    (c.in_ok-push_str.ensures.bytes ∙ ap (λ z. string_bytes c.push_lead-2.new.out ++ z)
-    (c.context_word.ensures ∙ word_text (context_name c.args.ctx) c.args.style (string_bytes c.open.new.indentation)), refl)))
+    (field_appended c.args.style _ _ _ _ _ _ _ _ (codes "ctx") (word (context_name c.args.ctx)) c.as_str-3.ensures.value
+    c.in_ok-push_lead-2.ensures (
+      c.in_ok-push_str.ensures.bytes ∙ ap (λ z. string_bytes c.push_lead-2.new.out ++ z)
+          (c.context_word.ensures ∙ word_text (context_name c.args.ctx) c.args.style (string_bytes c.open.new.indentation)),
+      refl,
+    )))
     refl ended taken)
     c.end_node.ensures.text c.end_node.ensures.left
