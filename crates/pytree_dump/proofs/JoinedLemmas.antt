@@ -80,12 +80,6 @@ three_text s f start k m n x y z o0 o1 o2 o3 o4 o5 is e1 e2 e3 e4 e5 =
 pub word_text : (name : List ℕ) (s : Style) (f : List ℕ) → name ++ codes "()" ≡ text s f (word name)
 word_text name s f = simp (append_assoc, append-nil) refl
 
--- the context, where it is the last field, and what ends the node
-pub context_end : (c : Context) (s : Style) (f : List ℕ) →
-    codes ", ctx=" ++ context_name c ++ codes "())" ≡ (codes ", " ++ (codes "ctx" ++ codes "=")) ++ text s f
-    (word (context_name c)) ++ codes ")"
-context_end c s f = simp (append_assoc, append-nil) refl
-
 -- the last field of a node, and what ends it
 pub last_text : (o0 o1 o2 o3 label x : List ℕ) → o1 ≡ o0 ++ label → o2 ≡ o1 ++ x → o3 ≡ o2 ++ codes ")" →
     o3 ≡ o0 ++ (label ++ x ++ codes ")")

@@ -38,10 +38,14 @@ pub word_whole : (start : List ℕ) → start ++ codes ")" ≡ start ++ [] ++ co
 word_whole start = ap (λ z. z ++ codes ")") (sym (append-nil start))
 
 -- what takes no place
+pub bare_appended : (s : Style) (f o o1 : List ℕ) (x : Shown) (ps : List Attributes) → with_places ps x ≡ placed x ps →
+    o1 ≡ o ++ text s f x → Appends s f o o1 ps ps x
+bare_appended s f o o1 x ps plain h = (h ∙ (λ i. o ++ text s f (sym plain i).shown), sym (ap (λ z. z.left) plain))
+
 pub plain_appended : {T E : Type 0} (s : Style) (f o o1 : List ℕ) (x : Shown) (ps : List Attributes) (r : Result T E)
     → with_places ps x ≡ placed x ps →
     OnOk r (o1 ≡ o ++ text s f x) → OnOk r (Appends s f o o1 ps ps x)
-plain_appended s f o o1 x ps (Ok y) plain h = (h ∙ (λ i. o ++ text s f (sym plain i).shown), sym (ap (λ z. z.left) plain))
+plain_appended s f o o1 x ps (Ok y) plain h = bare_appended s f o o1 x ps plain h
 plain_appended s f o o1 x ps (Err y) plain h = tt
 
 -- ---- Fields.

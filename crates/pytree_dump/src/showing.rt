@@ -11,7 +11,7 @@ ghost use Rattle.pytree_dump.specs.Inner.Nodes.{Laid, any_slot, element_shown, n
 use crate::contents::Content;
 use crate::elements::{Element, Elements};
 use crate::expressions::expr_node;
-use crate::joined::{is_joined, show_joined};
+use crate::joined::{is_joined, show_joined_attribute, show_joined_call};
 use crate::leaves::{show_any_constant, show_any_name};
 use crate::lists::{show_comparisons, show_names};
 use crate::nodes::{AnyPart, Node};
@@ -42,7 +42,12 @@ pub(crate) fn show_expr<P: PlaceSource>(
     match e {
         Expr::Name { id, ctx } => show_any_name(out, indentation, style, id, *ctx, places),
         Expr::Constant { value } => show_any_constant(out, indentation, style, value, places),
-        _ if is_joined(style, places) => show_joined(out, indentation, style, e, places),
+        Expr::Attribute { value, attr, ctx } if is_joined(style, places) => {
+            show_joined_attribute(out, indentation, style, value, attr, *ctx, places)
+        }
+        Expr::Call(call) if is_joined(style, places) => {
+            show_joined_call(out, indentation, style, call, places)
+        }
         _ => show_node(out, indentation, style, &expr_node(style, e), places),
     }
 }

@@ -15,21 +15,20 @@ use Rattle.pytree_dump.proofs.NodeLemmas.{node_weight, none_appended, part_weigh
 use Rattle.std.specs.String.{string_bytes}
 use Rattle.pytree_node.specs.Trees.{exprs, keywords, optional}
 use Rattle.pytree_node.specs.TreeOf.{tree_of, option_of, keyword_of, arg_of, arguments_of}
-use Rattle.pytree_node.specs.TreeOf.{call_of, compare_of}
+use Rattle.pytree_node.specs.TreeOf.{call_of}
 use Rattle.pytree_dump_text.specs.Layout.{text, before, is_flat, is_short}
-use Rattle.pytree_dump_text.specs.Shows.{Fields, Shown, a_field, context_name, operator_name}
+use Rattle.pytree_dump_text.specs.Shows.{Fields, Shown, a_field, context_name}
 use Rattle.pytree_dump_text.specs.Shows.{shown, shown_name, shown_optional, shown_keyword, shown_arg, shown_arguments}
-use Rattle.pytree_dump_text.specs.Shows.{word, comparison_name, showns, Row, no_field}
-use Rattle.pytree_dump_text.specs.Shows.{shown_comparisons, shown_exprs, shown_keywords, Node}
+use Rattle.pytree_dump_text.specs.Shows.{word, showns, Row, no_field}
+use Rattle.pytree_dump_text.specs.Shows.{shown_exprs, shown_keywords, Node}
 use Rattle.pytree_dump_text.specs.Slots.{slot_of, with_slot}
 use Rattle.pytree_dump.specs.Inner.Weights.{weight, field_weights}
-use Rattle.pytree_dump.proofs.JoinedLemmas.{attribute_text, context_end, empty_appended, empty_row, joined_node, last_text, three_text}
-use Rattle.pytree_dump.proofs.JoinedLemmas.{word_text}
+use Rattle.pytree_dump.proofs.JoinedLemmas.{attribute_text, empty_appended, empty_row, joined_node, last_text, three_text}
 use Rattle.pytree_dump.proofs.JoinedLemmas.{joined_style, left_of_none, none_is, none_left, on_always, on_both, text_of_none}
 use Rattle.std.proofs.lemmas.Result.{on_ok_weaker}
 use Rattle.pytree_dump_text.proofs.Callers.Results.{where_pushed}
 use Rattle.pytree_dump.proofs.ArgumentsLemmas.{five_shown, arguments_shown}
-use Rattle.pytree_dump.proofs.RowLemmas.{slot_weighs, member_weight, exprs_row, keywords_row, comparisons_row}
+use Rattle.pytree_dump.proofs.RowLemmas.{slot_weighs, member_weight, exprs_row, keywords_row}
 use Rattle.pytree_dump.proofs.RowLemmas.{weighs}
 use Rattle.pytree_dump.proofs.TextLemmas.{left}
 use Rattle.pytree_dump.proofs.PlaceLemmas.{member_appended, member_left, node_ended, plain_appended, plain_ended, row_ended}
@@ -39,14 +38,11 @@ use Rattle.pytree_marked.specs.Appends.{Appends}
 use Rattle.pytree_marked.specs.Taking.{is_none_left}
 use Rattle.pytree_marked.proofs.Callers.Shortness.{long_line, marked_line}
 use Rattle.pytree_marked.proofs.Callers.Unplaced.{comparisons_unplaced, names_unplaced}
-use Rattle.pytree_node.proofs.Callers.ExprShapes.{compare_tree, call_tree}
-use Rattle.pytree_node.proofs.Callers.ExprShapes.{bin_op_tree}
+use Rattle.pytree_node.proofs.Callers.ExprShapes.{call_tree}
 use Rattle.pytree_node.proofs.Callers.ExprShapes.{constant_tree, name_tree}
-use Rattle.pytree_node.proofs.Callers.ExprShapes.{subscript_tree}
 use Rattle.pytree_node.proofs.Callers.ExprShapes.{attribute_tree}
-use Rattle.pytree_node.proofs.Callers.ExprShapes.{call_shape, compare_shape}
+use Rattle.pytree_node.proofs.Callers.ExprShapes.{call_shape}
 use Rattle.pytree_node.specs.declared.expressions.Call as given_call
-use Rattle.pytree_node.specs.declared.expressions.Compare as given_compare
 use Rattle.pytree_dump.proofs.+showing.Goals as goal
 
 pub joined::show_joined_attribute-returns-clause-text : goal.joined::show_joined_attribute-returns-clause-text
@@ -514,68 +510,20 @@ showing::show_expr-returns-in-Name-clause-text g t c = rw (c.in-Name.is, name_tr
 pub showing::show_expr-returns-in-Constant-clause-text : goal.showing::show_expr-returns-in-Constant-clause-text
 showing::show_expr-returns-in-Constant-clause-text g t c = rw (c.in-Constant.is, constant_tree) c.show_any_constant.ensures.text
 
-pub showing::show_expr-show_joined-requires : goal.showing::show_expr-show_joined-requires
-showing::show_expr-show_joined-requires g t c =
-    let h = weighs (shown (tree_of c.args.e.now)) in (λ κs l. (omega (arith, h), (l, sym c.if-is_joined.ensures)))
+pub showing::show_expr-show_joined_attribute-requires : goal.showing::show_expr-show_joined_attribute-requires
+showing::show_expr-show_joined_attribute-requires g t c =
+    let e : weight (shown (tree_of c.args.e.now)) ≡ weight (shown (tree_of c.deref-in-Attribute.result.now)) + 2 + 1 =
+    rw (c.in-Attribute.is, attribute_tree, sym c.deref-in-Attribute.ensures) refl in
+    (λ κs l. (omega (arith, e), (l, sym c.if-is_joined.ensures)))
 
-pub joined::show_joined-show_node-requires : goal.joined::show_joined-show_node-requires
-joined::show_joined-show_node-requires g t c =
-    let w = node_weight c.args.style c.expr_node.result (shown (tree_of c.args.e.now)) c.expr_node.ensures in
-    (λ κs l. (omega (arith, w), (l, laid_shown c.args.style c.expr_node.result (shown (tree_of c.args.e.now)) c.expr_node.ensures)))
-
-pub joined::show_joined-show_joined_operation-requires : goal.joined::show_joined-show_joined_operation-requires
-joined::show_joined-show_joined_operation-requires g t c =
-    let e : weight (shown (tree_of c.args.e.now)) ≡ weight (shown (tree_of c.deref.result.now)) +
-    (1 + (weight (shown (tree_of c.deref-in-BinOp.result.now)) + 0)) + 1 =
-    rw (c.in-BinOp.is, bin_op_tree, sym c.deref.ensures, sym c.deref-in-BinOp.ensures) refl in (λ κs l. (omega (arith, e), (l, c.requires)))
-
-pub joined::show_joined-show_joined_compare-requires : goal.joined::show_joined-show_joined_compare-requires
-joined::show_joined-show_joined_compare-requires g t c =
-    let e : weight (shown (tree_of c.args.e.now)) ≡ weight (shown (compare_of c.deref-in-Compare.result.now)) =
-    rw (c.in-Compare.is, compare_tree, sym c.deref-in-Compare.ensures) refl in
-    let h = weighs (shown (compare_of c.deref-in-Compare.result.now)) in (λ κs l. (omega (arith, e, h), (l, c.requires)))
-
-pub joined::show_joined-show_joined_call-requires : goal.joined::show_joined-show_joined_call-requires
-joined::show_joined-show_joined_call-requires g t c =
+pub showing::show_expr-show_joined_call-requires : goal.showing::show_expr-show_joined_call-requires
+showing::show_expr-show_joined_call-requires g t c =
     let e : weight (shown (tree_of c.args.e.now)) ≡ weight (shown (call_of c.deref-in-Call.result.now)) =
     rw (c.in-Call.is, call_tree, sym c.deref-in-Call.ensures) refl in
-    let h = weighs (shown (call_of c.deref-in-Call.result.now)) in (λ κs l. (omega (arith, e, h), (l, c.requires)))
+    let h = weighs (shown (call_of c.deref-in-Call.result.now)) in (λ κs l. (omega (arith, e, h), (l, sym c.if-is_joined-2.ensures)))
 
-pub joined::show_joined-show_joined_attribute-requires : goal.joined::show_joined-show_joined_attribute-requires
-joined::show_joined-show_joined_attribute-requires g t c =
-    let e : weight (shown (tree_of c.args.e.now)) ≡ weight (shown (tree_of c.deref-in-Attribute.result.now)) + 2 + 1 =
-    rw (c.in-Attribute.is, attribute_tree, sym c.deref-in-Attribute.ensures) refl in (λ κs l. (omega (arith, e), (l, c.requires)))
-
-pub joined::show_joined-show_joined_subscript-requires : goal.joined::show_joined-show_joined_subscript-requires
-joined::show_joined-show_joined_subscript-requires g t c =
-    let e : weight (shown (tree_of c.args.e.now)) ≡ weight (shown (tree_of c.deref-in-Subscript.result.now)) +
-    (weight (shown (tree_of c.deref-in-Subscript-2.result.now)) + (1 + 0)) + 1 =
-    rw (c.in-Subscript.is, subscript_tree, sym c.deref-in-Subscript.ensures, sym c.deref-in-Subscript-2.ensures) refl in
-    (λ κs l. (omega (arith, e), (l, c.requires)))
-
-pub joined::show_joined-returns-in-BinOp-clause-text : goal.joined::show_joined-returns-in-BinOp-clause-text
-joined::show_joined-returns-in-BinOp-clause-text g t c =
-    let e : shown (tree_of c.args.e.now) ≡ Node (codes "BinOp")
-    (a_field (codes "left") (shown (tree_of c.deref.result.now))
-    (a_field (codes "op") (word (operator_name c.in-BinOp.op))
-    (a_field (codes "right") (shown (tree_of c.deref-in-BinOp.result.now)) no_field))) =
-    rw (c.in-BinOp.is, bin_op_tree, sym c.deref.ensures, sym c.deref-in-BinOp.ensures) refl in
-    shown_on c.args.style (string_bytes c.args.indentation.now) (string_bytes c.args.out.now) (string_bytes c.show_joined_operation.new.out)
-    (g.P.PlaceSource.left c.args.places.now) (g.P.PlaceSource.left c.show_joined_operation.new.places)
-    c.show_joined_operation.result _ _ (sym e)
-    c.show_joined_operation.ensures.text
-
-pub joined::show_joined-returns-in-Compare-clause-text : goal.joined::show_joined-returns-in-Compare-clause-text
-joined::show_joined-returns-in-Compare-clause-text g t c =
-    let e : shown (tree_of c.args.e.now) ≡ shown (compare_of c.deref-in-Compare.result.now) =
-    rw (c.in-Compare.is, compare_tree, sym c.deref-in-Compare.ensures) refl in
-    shown_on c.args.style (string_bytes c.args.indentation.now) (string_bytes c.args.out.now) (string_bytes c.show_joined_compare.new.out)
-    (g.P.PlaceSource.left c.args.places.now) (g.P.PlaceSource.left c.show_joined_compare.new.places)
-    c.show_joined_compare.result _ _ (sym e)
-    c.show_joined_compare.ensures.text
-
-pub joined::show_joined-returns-in-Attribute-clause-text : goal.joined::show_joined-returns-in-Attribute-clause-text
-joined::show_joined-returns-in-Attribute-clause-text g t c =
+pub showing::show_expr-returns-in-Attribute-clause-text : goal.showing::show_expr-returns-in-Attribute-clause-text
+showing::show_expr-returns-in-Attribute-clause-text g t c =
     let e : shown (tree_of c.args.e.now) ≡ Node (codes "Attribute")
     (a_field (codes "value") (shown (tree_of c.deref-in-Attribute.result.now))
     (a_field (codes "attr") (shown_name c.in-Attribute.attr) (a_field (codes "ctx") (word (context_name c.in-Attribute.ctx)) no_field))) =
@@ -585,144 +533,10 @@ joined::show_joined-returns-in-Attribute-clause-text g t c =
     c.show_joined_attribute.result _ _ (sym e)
     c.show_joined_attribute.ensures.text
 
-pub joined::show_joined-returns-in-Call-clause-text : goal.joined::show_joined-returns-in-Call-clause-text
-joined::show_joined-returns-in-Call-clause-text g t c =
+pub showing::show_expr-returns-in-Call-clause-text : goal.showing::show_expr-returns-in-Call-clause-text
+showing::show_expr-returns-in-Call-clause-text g t c =
     let e : shown (tree_of c.args.e.now) ≡ shown (call_of c.deref-in-Call.result.now) =
     rw (c.in-Call.is, call_tree, sym c.deref-in-Call.ensures) refl in
     shown_on c.args.style (string_bytes c.args.indentation.now) (string_bytes c.args.out.now) (string_bytes c.show_joined_call.new.out)
     (g.P.PlaceSource.left c.args.places.now) (g.P.PlaceSource.left c.show_joined_call.new.places) c.show_joined_call.result _ _ (sym e)
     c.show_joined_call.ensures.text
-
-pub joined::show_joined-returns-in-Subscript-clause-text : goal.joined::show_joined-returns-in-Subscript-clause-text
-joined::show_joined-returns-in-Subscript-clause-text g t c =
-    let e : shown (tree_of c.args.e.now) ≡ Node (codes "Subscript")
-    (a_field (codes "value") (shown (tree_of c.deref-in-Subscript.result.now))
-    (a_field (codes "slice") (shown (tree_of c.deref-in-Subscript-2.result.now))
-    (a_field (codes "ctx") (word (context_name c.in-Subscript.ctx)) no_field))) =
-    rw (c.in-Subscript.is, subscript_tree, sym c.deref-in-Subscript.ensures, sym c.deref-in-Subscript-2.ensures) refl in
-    shown_on c.args.style (string_bytes c.args.indentation.now) (string_bytes c.args.out.now) (string_bytes c.show_joined_subscript.new.out)
-    (g.P.PlaceSource.left c.args.places.now) (g.P.PlaceSource.left c.show_joined_subscript.new.places)
-    c.show_joined_subscript.result _ _ (sym e)
-    c.show_joined_subscript.ensures.text
-
-pub joined::show_joined_operation-show_expr-requires : goal.joined::show_joined_operation-show_expr-requires
-joined::show_joined_operation-show_expr-requires g t c = (λ κs l. (omega arith, l))
-
-pub joined::show_joined_operation-show_expr-requires-2 : goal.joined::show_joined_operation-show_expr-requires-2
-joined::show_joined_operation-show_expr-requires-2 g t c = (λ κs l. (omega arith, l))
-
-pub joined::show_joined_subscript-show_expr-requires : goal.joined::show_joined_subscript-show_expr-requires
-joined::show_joined_subscript-show_expr-requires g t c = (λ κs l. (omega arith, l))
-
-pub joined::show_joined_subscript-show_expr-requires-2 : goal.joined::show_joined_subscript-show_expr-requires-2
-joined::show_joined_subscript-show_expr-requires-2 g t c = (λ κs l. (omega arith, l))
-
-pub joined::show_joined_operation-returns-clause-text : goal.joined::show_joined_operation-returns-clause-text
-joined::show_joined_operation-returns-clause-text g t c =
-    let none : g.P.PlaceSource.left c.args.places.now ≡ [] = none_left _ _ c.requires in
-    let s = c.args.style in
-    let f = string_bytes c.args.indentation.now in
-    let x : Shown = shown (tree_of c.args.left.now) in
-    let y : Shown = word (operator_name c.args.op) in
-    let z : Shown = shown (tree_of c.args.right.now) in
-    let none1 = left_of_none _ _ x none c.in_ok-show_expr.ensures.text.1 in
-    where_pushed _ _ _ c.push_str-5.result
-    (λ pushed. joined_node true s f _ _ (g.P.PlaceSource.left c.args.places.now) _ (codes "BinOp(")
-    (a_field (codes "left") x (a_field (codes "op") y (a_field (codes "right") z no_field))) none
-    (left_of_none _ _ z none1 c.in_ok-show_expr-2.ensures.text.1)
-    (three_text s f (codes "BinOp(") (codes "left") (codes "op") (codes "right") x y z _ _ _ _ _ _ (joined_style _ _ c.requires)
-    c.in_ok-push_str.ensures.bytes
-    (text_of_none s f _ _ (g.P.PlaceSource.left c.args.places.now) x none c.in_ok-show_expr.ensures.text.0)
-    c.in_ok-push_str-2.ensures.bytes
-    (c.in_ok-push_str-3.ensures.bytes ∙ ap (λ o. string_bytes c.push_str-2.new.self ++ o)
-    (c.operator_word.ensures ∙ word_text (operator_name c.args.op) s f))
-    (last_text _ _ _ _ (codes ", right=") _ c.in_ok-push_str-4.ensures.bytes
-    (text_of_none s (string_bytes c.show_expr.new.indentation) _ _ (g.P.PlaceSource.left c.show_expr.new.places) z none1
-    c.in_ok-show_expr-2.ensures.text.0
-    ∙ ap (λ i. string_bytes c.push_str-4.new.self ++ text s i z) c.in_ok-show_expr.ensures.indentation) pushed)))
-    c.push_str-5.ensures.bytes
-
-pub joined::show_joined_subscript-returns-clause-text : goal.joined::show_joined_subscript-returns-clause-text
-joined::show_joined_subscript-returns-clause-text g t c =
-    let none : g.P.PlaceSource.left c.args.places.now ≡ [] = none_left _ _ c.requires in
-    let s = c.args.style in
-    let f = string_bytes c.args.indentation.now in
-    let x : Shown = shown (tree_of c.args.value.now) in
-    let y : Shown = shown (tree_of c.args.slice.now) in
-    let z : Shown = word (context_name c.args.ctx) in
-    let none1 = left_of_none _ _ x none c.in_ok-show_expr.ensures.text.1 in
-    where_pushed _ _ _ c.push_str-3.result
-    (λ pushed. joined_node true s f _ _ (g.P.PlaceSource.left c.args.places.now) _ (codes "Subscript(")
-    (a_field (codes "value") x (a_field (codes "slice") y (a_field (codes "ctx") z no_field))) none
-    (left_of_none _ _ y none1 c.in_ok-show_expr-2.ensures.text.1)
-    (three_text s f (codes "Subscript(") (codes "value") (codes "slice") (codes "ctx") x y z _ _ _ _ _ _ (joined_style _ _ c.requires)
-    c.in_ok-push_str.ensures.bytes
-    (text_of_none s f _ _ (g.P.PlaceSource.left c.args.places.now) x none c.in_ok-show_expr.ensures.text.0)
-    c.in_ok-push_str-2.ensures.bytes
-    (text_of_none s (string_bytes c.show_expr.new.indentation) _ _ (g.P.PlaceSource.left c.show_expr.new.places) y none1
-    c.in_ok-show_expr-2.ensures.text.0
-    ∙ ap (λ i. string_bytes c.push_str-2.new.self ++ text s i y) c.in_ok-show_expr.ensures.indentation)
-    (pushed ∙ ap (λ o. string_bytes c.show_expr-2.new.out ++ o) (c.subscript_end.ensures ∙ context_end c.args.ctx s f))))
-    c.push_str-3.ensures.bytes
-
-pub joined::show_joined_compare-returns-clause-text : goal.joined::show_joined_compare-returns-clause-text
-joined::show_joined_compare-returns-clause-text g t c =
-    let none : g.P.PlaceSource.left c.args.places.now ≡ [] = none_left _ _ c.requires in
-    let s = c.args.style in
-    let f = string_bytes c.args.indentation.now in
-    let x : Shown = shown (tree_of (given_compare.out-Compare c.args.compare.now).left) in
-    let y : Shown = Row (showns (map (λ c. word (comparison_name c)) c.deref.result.now)) in
-    let z : Shown = Row (showns (map (λ e. shown (tree_of e)) c.deref-2.result.now)) in
-    let o = given_compare.out-Compare c.args.compare.now in
-    let e : shown (compare_of c.args.compare.now) ≡ Node (codes "Compare") (a_field (codes "left") (shown (tree_of o.left))
-    (a_field (codes "ops") (Row (showns (map (λ c. word (comparison_name c)) c.deref.result.now)))
-    (a_field (codes "comparators") (Row (showns (map (λ e. shown (tree_of e)) c.deref-2.result.now))) no_field))) =
-    ap shown (compare_shape c.args.compare.now)
-    ∙ (λ i. Node (codes "Compare") (a_field (codes "left") (shown (tree_of o.left))
-    (a_field (codes "ops") (Row (comparisons_row o.ops.items i))
-    (a_field (codes "comparators") (Row (exprs_row o.comparators.items i)) no_field))))
-    ∙ (λ i. Node (codes "Compare") (a_field (codes "left") (shown (tree_of o.left))
-    (a_field (codes "ops") (Row (showns (map (λ c. word (comparison_name c)) (sym c.deref.ensures.value i))))
-    (a_field (codes "comparators") (Row (showns (map (λ e. shown (tree_of e)) (sym c.deref-2.ensures.value i)))) no_field)))) in
-    let none1 = left_of_none _ _ x none c.in_ok-show_expr.ensures.text.1 in
-    shown_on s f (string_bytes c.args.out.now) _ (g.P.PlaceSource.left c.args.places.now) _ c.push_str-4.result _ _ (sym e)
-    (where_pushed _ _ _ c.push_str-4.result
-    (λ pushed. joined_node true s f _ _ (g.P.PlaceSource.left c.args.places.now) _ (codes "Compare(")
-    (a_field (codes "left") x (a_field (codes "ops") y (a_field (codes "comparators") z no_field))) none
-    (left_of_none _ _ z none1 c.in_ok-show_exprs.ensures.text.1)
-    (three_text s f (codes "Compare(") (codes "left") (codes "ops") (codes "comparators") x y z _ _ _ _ _ _ (joined_style _ _ c.requires)
-    c.in_ok-push_str.ensures.bytes
-    (text_of_none s f _ _ (g.P.PlaceSource.left c.args.places.now) x none c.in_ok-show_expr.ensures.text.0)
-    c.in_ok-push_str-2.ensures.bytes
-    (c.in_ok-show_comparisons.ensures.text ∙ ap (λ i. string_bytes c.push_str-2.new.self ++ text s i y)
-    c.in_ok-show_expr.ensures.indentation)
-    (last_text _ _ _ _ (codes ", comparators=") _ c.in_ok-push_str-3.ensures.bytes
-    (text_of_none s (string_bytes c.show_comparisons.new.indentation) _ _ (g.P.PlaceSource.left c.show_expr.new.places) z none1
-    c.in_ok-show_exprs.ensures.text.0 ∙ ap (λ i. string_bytes c.push_str-3.new.self ++ text s i z)
-    (c.in_ok-show_comparisons.ensures.indentation ∙ c.in_ok-show_expr.ensures.indentation)) pushed)))
-    c.push_str-4.ensures.bytes)
-
-pub joined::show_joined_compare-show_expr-requires : goal.joined::show_joined_compare-show_expr-requires
-joined::show_joined_compare-show_expr-requires g t c =
-    let o = given_compare.out-Compare c.args.compare.now in
-    let w : weight (shown (compare_of c.args.compare.now)) ≡ weight (shown (tree_of o.left)) +
-    (weight (Row (shown_comparisons o.ops.items)) + (weight (Row (shown_exprs (exprs (map tree_of o.comparators.items)))) + 0)) + 1 =
-    rw compare_shape refl in (λ κs l. (omega (arith, w), l))
-
-pub joined::show_joined_compare-show_exprs-requires : goal.joined::show_joined_compare-show_exprs-requires
-joined::show_joined_compare-show_exprs-requires g t c =
-    let o = given_compare.out-Compare c.args.compare.now in
-    let e : shown (compare_of c.args.compare.now) ≡ Node (codes "Compare") (a_field (codes "left") (shown (tree_of o.left))
-    (a_field (codes "ops") (Row (showns (map (λ c. word (comparison_name c)) c.deref.result.now)))
-    (a_field (codes "comparators") (Row (showns (map (λ e. shown (tree_of e)) c.deref-2.result.now))) no_field))) =
-    ap shown (compare_shape c.args.compare.now)
-    ∙ (λ i. Node (codes "Compare") (a_field (codes "left") (shown (tree_of o.left))
-    (a_field (codes "ops") (Row (comparisons_row o.ops.items i))
-    (a_field (codes "comparators") (Row (exprs_row o.comparators.items i)) no_field))))
-    ∙ (λ i. Node (codes "Compare") (a_field (codes "left") (shown (tree_of o.left))
-    (a_field (codes "ops") (Row (showns (map (λ c. word (comparison_name c)) (sym c.deref.ensures.value i))))
-    (a_field (codes "comparators") (Row (showns (map (λ e. shown (tree_of e)) (sym c.deref-2.ensures.value i)))) no_field)))) in
-    let w : weight (shown (compare_of c.args.compare.now)) ≡ weight (shown (tree_of o.left)) +
-    (weight (Row (showns (map (λ c. word (comparison_name c)) c.deref.result.now))) +
-    (weight (Row (showns (map (λ e. shown (tree_of e)) c.deref-2.result.now))) + 0)) + 1 = ap weight e in
-    (λ κs l. (omega (arith, w), l))

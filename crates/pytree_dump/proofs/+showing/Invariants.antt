@@ -1,6 +1,6 @@
 use Rattle.std.proofs.Common.{◌≡◌, ◌≤◌, ◌+◌, ◌-◌, ◌*◌, ◌++◌, true, map, drop}
 use Rattle.std.specs.String.{string_bytes}
-use Rattle.pytree_node.specs.TreeOf.{arg_of, arguments_of, call_of, compare_of, keyword_of, tree_of}
+use Rattle.pytree_node.specs.TreeOf.{arg_of, arguments_of, call_of, keyword_of, tree_of}
 use Rattle.pytree_dump_text.specs.Layout.{members}
 use Rattle.pytree_dump_text.specs.Shows.{Row, shown, shown_arg, shown_arguments, shown_keyword, showns}
 use Rattle.pytree_dump_text.specs.Slots.{slot_shown}
@@ -67,18 +67,6 @@ invariant-showing::show_elements-loop-element g l = record {
 
 abbrev pub decreases-showing::show_elements-loop-element : goal.decreases-showing::show_elements-loop-element
 decreases-showing::show_elements-loop-element g l = weights (elements_shown l.rest)
-
-abbrev pub decreases-joined::show_joined : goal.decreases-joined::show_joined
-decreases-joined::show_joined g l = 6 * weight (shown (tree_of l.e.now)) - 1
-
-abbrev pub decreases-joined::show_joined_operation : goal.decreases-joined::show_joined_operation
-decreases-joined::show_joined_operation g l = 6 * (weight (shown (tree_of l.left.now)) + weight (shown (tree_of l.right.now))) + 3
-
-abbrev pub decreases-joined::show_joined_compare : goal.decreases-joined::show_joined_compare
-decreases-joined::show_joined_compare g l = 6 * weight (shown (compare_of l.compare.now)) - 2
-
-abbrev pub decreases-joined::show_joined_subscript : goal.decreases-joined::show_joined_subscript
-decreases-joined::show_joined_subscript g l = 6 * (weight (shown (tree_of l.value.now)) + weight (shown (tree_of l.slice.now))) + 3
 
 abbrev pub decreases-joined::show_joined_attribute : goal.decreases-joined::show_joined_attribute
 decreases-joined::show_joined_attribute g l = 6 * weight (shown (tree_of l.value.now)) + 3
