@@ -512,8 +512,8 @@ showing::show_expr-returns-in-Constant-clause-text g t c = rw (c.in-Constant.is,
 
 pub showing::show_expr-show_joined_attribute-requires : goal.showing::show_expr-show_joined_attribute-requires
 showing::show_expr-show_joined_attribute-requires g t c =
-    let e : weight (shown (tree_of c.args.e.now)) ≡ weight (shown (tree_of c.deref-in-Attribute.result.now)) + 2 + 1 =
-    rw (c.in-Attribute.is, attribute_tree, sym c.deref-in-Attribute.ensures) refl in
+    let e : weight (shown (tree_of c.args.e.now)) ≡ weight (shown (tree_of c.deref.result.now)) + 2 + 1 =
+    rw (c.in-Attribute.is, attribute_tree, sym c.deref.ensures) refl in
     (λ κs l. (omega (arith, e), (l, sym c.if-is_joined.ensures)))
 
 pub showing::show_expr-show_joined_call-requires : goal.showing::show_expr-show_joined_call-requires
@@ -525,9 +525,9 @@ showing::show_expr-show_joined_call-requires g t c =
 pub showing::show_expr-returns-in-Attribute-clause-text : goal.showing::show_expr-returns-in-Attribute-clause-text
 showing::show_expr-returns-in-Attribute-clause-text g t c =
     let e : shown (tree_of c.args.e.now) ≡ Node (codes "Attribute")
-    (a_field (codes "value") (shown (tree_of c.deref-in-Attribute.result.now))
+    (a_field (codes "value") (shown (tree_of c.deref.result.now))
     (a_field (codes "attr") (shown_name c.in-Attribute.attr) (a_field (codes "ctx") (word (context_name c.in-Attribute.ctx)) no_field))) =
-    rw (c.in-Attribute.is, attribute_tree, sym c.deref-in-Attribute.ensures) refl in
+    rw (c.in-Attribute.is, attribute_tree, sym c.deref.ensures) refl in
     shown_on c.args.style (string_bytes c.args.indentation.now) (string_bytes c.args.out.now) (string_bytes c.show_joined_attribute.new.out)
     (g.P.PlaceSource.left c.args.places.now) (g.P.PlaceSource.left c.show_joined_attribute.new.places)
     c.show_joined_attribute.result _ _ (sym e)
