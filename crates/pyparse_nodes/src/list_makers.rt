@@ -9,7 +9,7 @@ ghost use Rattle.pytree_height.specs.Heights as Heights;
 ghost use Rattle.pyparse_nodes.specs.Answers.{Makes};
 
 use crate::found::Read;
-use crate::makers::node;
+use crate::makers::{above, boxed};
 use crate::stop::Stop;
 use pytree_node::{Arguments, Call, Comprehension, Context, Dict, DictComp, Expr, Keyword, Slice};
 use std::alloc::Global;
@@ -27,15 +27,15 @@ pub fn make_tuple(
     requires { under ≡ Heights.list_height (map tree_of elts.items) }
     ensures { Makes room (plain.Tuple (exprs (map tree_of elts.items)) Context.Load) next result }
 {
-    node(
+    let height = above(under, room)?;
+    boxed(
         alloc,
         Expr::Tuple {
             elts,
             ctx: Context::Load,
         },
-        under,
+        height,
         next,
-        room,
     )
 }
 
@@ -52,15 +52,15 @@ pub fn make_list(
     requires { under ≡ Heights.list_height (map tree_of elts.items) }
     ensures { Makes room (plain.ListOf (exprs (map tree_of elts.items)) Context.Load) next result }
 {
-    node(
+    let height = above(under, room)?;
+    boxed(
         alloc,
         Expr::List {
             elts,
             ctx: Context::Load,
         },
-        under,
+        height,
         next,
-        room,
     )
 }
 
@@ -76,7 +76,8 @@ pub fn make_set(
     requires { under ≡ Heights.list_height (map tree_of elts.items) }
     ensures { Makes room (plain.Set (exprs (map tree_of elts.items))) next result }
 {
-    node(alloc, Expr::Set { elts }, under, next, room)
+    let height = above(under, room)?;
+    boxed(alloc, Expr::Set { elts }, height, next)
 }
 
 /// A dict, of keys and values of this height.
@@ -95,8 +96,9 @@ pub fn make_dict(
         (plain.Dict (optionals (map option_of keys.items))
         (exprs (map tree_of values.items))) next result }
 {
+    let height = above(under, room)?;
     let dict = Box::new(alloc, Dict { keys, values })?;
-    node(alloc, Expr::Dict(dict), under, next, room)
+    boxed(alloc, Expr::Dict(dict), height, next)
 }
 
 /// A call of these parts.
@@ -131,8 +133,9 @@ pub fn make_call(
         (plain.Call (tree_of func.value) (exprs (map tree_of args.items))
         (plain.keywords (map keyword_of keywords.items))) next result }
 {
+    let height = above(under, room)?;
     let call = Box::new(alloc, call_of_parts(func, args, keywords))?;
-    node(alloc, Expr::Call(call), under, next, room)
+    boxed(alloc, Expr::Call(call), height, next)
 }
 
 /// A generator expression, of parts of this height.
@@ -151,13 +154,8 @@ pub fn make_generator(
         (plain.GeneratorExp (tree_of elt.value)
         (comprehensions (map comprehension_of generators.items))) next result }
 {
-    node(
-        alloc,
-        Expr::GeneratorExp { elt, generators },
-        under,
-        next,
-        room,
-    )
+    let height = above(under, room)?;
+    boxed(alloc, Expr::GeneratorExp { elt, generators }, height, next)
 }
 
 /// A list comprehension, of parts of this height.
@@ -176,7 +174,8 @@ pub fn make_list_comp(
         (plain.ListComp (tree_of elt.value)
         (comprehensions (map comprehension_of generators.items))) next result }
 {
-    node(alloc, Expr::ListComp { elt, generators }, under, next, room)
+    let height = above(under, room)?;
+    boxed(alloc, Expr::ListComp { elt, generators }, height, next)
 }
 
 /// A set comprehension, of parts of this height.
@@ -195,7 +194,8 @@ pub fn make_set_comp(
         (plain.SetComp (tree_of elt.value)
         (comprehensions (map comprehension_of generators.items))) next result }
 {
-    node(alloc, Expr::SetComp { elt, generators }, under, next, room)
+    let height = above(under, room)?;
+    boxed(alloc, Expr::SetComp { elt, generators }, height, next)
 }
 
 /// A dict comprehension of these parts.
@@ -229,8 +229,9 @@ pub fn make_dict_comp(
         (plain.DictComp (tree_of key.value) (tree_of value.value)
         (comprehensions (map comprehension_of generators.items))) next result }
 {
+    let height = above(under, room)?;
     let comp = Box::new(alloc, dict_comp_of_parts(key, value, generators))?;
-    node(alloc, Expr::DictComp(comp), under, next, room)
+    boxed(alloc, Expr::DictComp(comp), height, next)
 }
 
 /// A lambda, of parameters of this height.
@@ -247,16 +248,16 @@ pub fn make_lambda(
     ensures { Makes room
         (plain.Lambda (arguments_of args) (tree_of body.expr.value)) body.next result }
 {
+    let height = above(under.max(body.height), room)?;
     let args = Box::new(alloc, args)?;
-    node(
+    boxed(
         alloc,
         Expr::Lambda {
             args,
             body: body.expr,
         },
-        under.max(body.height),
+        height,
         body.next,
-        room,
     )
 }
 
@@ -273,7 +274,8 @@ pub fn make_yield(
     requires { under ≡ Heights.optional_height (optional (boxed_of value)) }
     ensures { Makes room (plain.Yield (optional (boxed_of value))) next result }
 {
-    node(alloc, Expr::Yield { value }, under, next, room)
+    let height = above(under, room)?;
+    boxed(alloc, Expr::Yield { value }, height, next)
 }
 
 /// A slice, of parts of this height.
@@ -294,6 +296,7 @@ pub fn make_slice(
         (plain.Slice (optional (boxed_of lower)) (optional (boxed_of upper))
         (optional (boxed_of step))) next result }
 {
+    let height = above(under, room)?;
     let slice = Box::new(alloc, Slice { lower, upper, step })?;
-    node(alloc, Expr::Slice(slice), under, next, room)
+    boxed(alloc, Expr::Slice(slice), height, next)
 }

@@ -45,22 +45,6 @@ pub(crate) fn boxed(alloc: Global, expr: Expr, height: usize, next: usize) -> Re
     Ok(Read { expr, height, next })
 }
 
-/// A node over parts of this height, where there is room for it.
-#[inline(always)]
-pub(crate) fn node(
-    alloc: Global,
-    expr: Expr,
-    under: usize,
-    next: usize,
-    room: usize,
-) -> Result<Read, Stop>
-    requires { under + 1 ≡ Heights.height (tree_of expr) }
-    ensures { Makes room (tree_of expr) next result }
-{
-    let height = above(under, room)?;
-    boxed(alloc, expr, height, next)
-}
-
 /// The name of a tree that a NAME of this text stands for.
 pub fn identifier_of(alloc: Global, text: &str) -> Result<Identifier, Stop>
     ensures { MatchResult result (λ name. name ≡ nfkc (chars text.now)) (λ s. s ≡ Stop.Memory) }
@@ -119,16 +103,16 @@ pub fn make_binary(
     ensures { Makes room
         (plain.BinOp (tree_of left.expr.value) op (tree_of right.expr.value)) right.next result }
 {
-    node(
+    let height = above(left.height.max(right.height), room)?;
+    boxed(
         alloc,
         Expr::BinOp {
             left: left.expr,
             op,
             right: right.expr,
         },
-        left.height.max(right.height),
+        height,
         right.next,
-        room,
     )
 }
 
@@ -137,15 +121,15 @@ pub fn make_binary(
 pub fn make_unary(alloc: Global, op: UnaryOperator, e: Read, room: usize) -> Result<Read, Stop>
     ensures { Makes room (plain.UnaryOp op (tree_of e.expr.value)) e.next result }
 {
-    node(
+    let height = above(e.height, room)?;
+    boxed(
         alloc,
         Expr::UnaryOp {
             op,
             operand: e.expr,
         },
-        e.height,
+        height,
         e.next,
-        room,
     )
 }
 
@@ -154,7 +138,8 @@ pub fn make_unary(alloc: Global, op: UnaryOperator, e: Read, room: usize) -> Res
 pub fn make_await(alloc: Global, e: Read, room: usize) -> Result<Read, Stop>
     ensures { Makes room (plain.Await (tree_of e.expr.value)) e.next result }
 {
-    node(alloc, Expr::Await { value: e.expr }, e.height, e.next, room)
+    let height = above(e.height, room)?;
+    boxed(alloc, Expr::Await { value: e.expr }, height, e.next)
 }
 
 /// A starred expression.
@@ -163,15 +148,15 @@ pub fn make_await(alloc: Global, e: Read, room: usize) -> Result<Read, Stop>
 pub fn make_starred(alloc: Global, e: Read, room: usize) -> Result<Read, Stop>
     ensures { Makes room (plain.Starred (tree_of e.expr.value) Context.Load) e.next result }
 {
-    node(
+    let height = above(e.height, room)?;
+    boxed(
         alloc,
         Expr::Starred {
             value: e.expr,
             ctx: Context::Load,
         },
-        e.height,
+        height,
         e.next,
-        room,
     )
 }
 
@@ -202,13 +187,8 @@ pub fn starred(alloc: Global, e: Read) -> Result<Read, Stop>
 pub fn make_yield_from(alloc: Global, e: Read, room: usize) -> Result<Read, Stop>
     ensures { Makes room (plain.YieldFrom (tree_of e.expr.value)) e.next result }
 {
-    node(
-        alloc,
-        Expr::YieldFrom { value: e.expr },
-        e.height,
-        e.next,
-        room,
-    )
+    let height = above(e.height, room)?;
+    boxed(alloc, Expr::YieldFrom { value: e.expr }, height, e.next)
 }
 
 /// A conditional.
@@ -225,16 +205,16 @@ pub fn make_if(
         (plain.IfExp (tree_of test.expr.value) (tree_of body.expr.value)
         (tree_of orelse.expr.value)) orelse.next result }
 {
-    node(
+    let height = above(test.height.max(body.height.max(orelse.height)), room)?;
+    boxed(
         alloc,
         Expr::IfExp {
             test: test.expr,
             body: body.expr,
             orelse: orelse.expr,
         },
-        test.height.max(body.height.max(orelse.height)),
+        height,
         orelse.next,
-        room,
     )
 }
 
@@ -245,15 +225,15 @@ pub fn make_named(alloc: Global, target: Read, value: Read, room: usize) -> Resu
     ensures { Makes room
         (plain.NamedExpr (tree_of target.expr.value) (tree_of value.expr.value)) value.next result }
 {
-    node(
+    let height = above(target.height.max(value.height), room)?;
+    boxed(
         alloc,
         Expr::NamedExpr {
             target: target.expr,
             value: value.expr,
         },
-        target.height.max(value.height),
+        height,
         value.next,
-        room,
     )
 }
 
@@ -270,7 +250,8 @@ pub fn make_chain(
     requires { under ≡ Heights.list_height (map tree_of values.items) }
     ensures { Makes room (plain.BoolOp op (exprs (map tree_of values.items))) next result }
 {
-    node(alloc, Expr::BoolOp { op, values }, under, next, room)
+    let height = above(under, room)?;
+    boxed(alloc, Expr::BoolOp { op, values }, height, next)
 }
 
 /// A comparison, of parts of this height.
@@ -290,13 +271,14 @@ pub fn make_compare(
         (plain.Compare (tree_of left.value) ops.items
         (exprs (map tree_of comparators.items))) next result }
 {
+    let height = above(under, room)?;
     let compare = Compare {
         left: Box::into_inner(left),
         ops,
         comparators,
     };
     let compare = Box::new(alloc, compare)?;
-    node(alloc, Expr::Compare(compare), under, next, room)
+    boxed(alloc, Expr::Compare(compare), height, next)
 }
 
 /// An attribute.
@@ -311,17 +293,17 @@ pub fn make_attribute(
     ensures { Makes room
         (plain.Attribute (tree_of e.expr.value) (nfkc (chars name.now)) Context.Load) next result }
 {
+    let height = above(e.height, room)?;
     let attr = identifier_of(alloc, name)?;
-    node(
+    boxed(
         alloc,
         Expr::Attribute {
             value: e.expr,
             attr,
             ctx: Context::Load,
         },
-        e.height,
+        height,
         next,
-        room,
     )
 }
 
@@ -338,15 +320,15 @@ pub fn make_subscript(
         (plain.Subscript (tree_of e.expr.value)
         (tree_of slice.expr.value) Context.Load) next result }
 {
-    node(
+    let height = above(e.height.max(slice.height), room)?;
+    boxed(
         alloc,
         Expr::Subscript {
             value: e.expr,
             slice: slice.expr,
             ctx: Context::Load,
         },
-        e.height.max(slice.height),
+        height,
         next,
-        room,
     )
 }
