@@ -30,7 +30,7 @@ use Rattle.pyparse_line.specs.declared.openings.Opening.TheVariants as kind
 use Rattle.pyparse_line.specs.Inner.Answers.{FormAnswered}
 use Rattle.pyparse_line.specs.Inner.Fronts.{cased, colon, front, front_of, suite, with_colon}
 use Rattle.pyparse_line.specs.Inner.Openings.{opening_at, plain_opening}
-use Rattle.pyparse_line.proofs.statements.Callers.Parts.{answered_as}
+use Rattle.pyparse_statement.proofs.Callers.Parts.{answered_as}
 
 module _ (profile : Profile) (self : Reads) where
   -- statements behind a colon

@@ -1,4 +1,5 @@
 mod FrontSteps
+mod MatchSteps
 mod OpeningSteps
 mod Spellings
 mod Wholes

@@ -1,11 +1,3 @@
 -- The places that the readers record.
-pub mod Definitions
+pub mod Cases
 pub mod Fronts
-pub mod Headers
-pub mod Imports
-pub mod Looks
-pub mod Parts
-pub mod Says
-pub mod Types
-pub mod Values
-pub mod Words

@@ -1,30 +1,10 @@
--- A word that is no keyword, by its bytes and by its characters.
+-- The words that begin a line but are no keywords, by their bytes and by their characters.
 --
--- Carries: spells_type, spells_match, spells_case. On: UTF-8.
-use Rattle.std.proofs.Common.{◌≡◌, refl, sym, ap, ◌∙◌, inl, inr, ℕ, List}
+-- Carries: spells_match, spells_case. On: Spellings of pyparse_statement.
+use Rattle.std.proofs.Common.{◌≡◌, refl, ℕ, List}
 use Rattle.std.specs.Str.{bytes_eq, chars, encode_utf8_all, IsUtf8}
-use Rattle.std.proofs.lemmas.Bool.{both_ways, cases_Bool, false_from_ne_true}
-use Rattle.std.proofs.lemmas.Slice.Eq.{bytes_eq-Decides}
-use Rattle.std.proofs.lemmas.Str.{encodes-chars, encodes_same}
-use Rattle.pygrammar.specs.Forms.{case_name, match_name, type_name}
-
--- a text is a word by its bytes where it is by its characters, if these are encoded as themselves
-module _ (word : List ℕ) (h : encode_utf8_all word ≡ word) where
-  by_bytes : (x s : List ℕ) → s ≡ encode_utf8_all x → bytes_eq s word ≡ bytes_eq x word
-  by_bytes x s e = elim (cases_Bool (bytes_eq x word)) [
-    | inl same ↦ (bytes_eq-Decides s word).1 (e ∙ ap encode_utf8_all ((bytes_eq-Decides x word).0 same) ∙ h) ∙ sym same
-    | inr other ↦
-        false_from_ne_true (bytes_eq s word) (λ same.
-        let is : encode_utf8_all x ≡ encode_utf8_all word = sym e ∙ (bytes_eq-Decides s word).0 same ∙ sym h in
-        both_ways (bytes_eq x word) other ((bytes_eq-Decides x word).1 (encodes_same x word is))) ∙ sym other
-  ]
-
-  spelt : (bs : List ℕ) → IsUtf8 bs → bytes_eq bs word ≡ bytes_eq (chars bs) word
-  spelt bs u = by_bytes (chars bs) bs (sym (encodes-chars bs u))
-
-type_encoded : encode_utf8_all type_name ≡ type_name
-unfolding lib.Utf8.encode
-type_encoded = refl
+use Rattle.pygrammar.specs.Forms.{case_name, match_name}
+use Rattle.pyparse_statement.proofs.Callers.Spellings.{spelt}
 
 match_encoded : encode_utf8_all match_name ≡ match_name
 unfolding lib.Utf8.encode
@@ -33,9 +13,6 @@ match_encoded = refl
 case_encoded : encode_utf8_all case_name ≡ case_name
 unfolding lib.Utf8.encode
 case_encoded = refl
-
-pub spelt_type : (bs : List ℕ) → IsUtf8 bs → bytes_eq bs type_name ≡ bytes_eq (chars bs) type_name
-spelt_type = spelt type_name type_encoded
 
 pub spelt_match : (bs : List ℕ) → IsUtf8 bs → bytes_eq bs match_name ≡ bytes_eq (chars bs) match_name
 spelt_match = spelt match_name match_encoded

@@ -2,12 +2,4 @@ pub mod Answers
 pub mod Fronts
 pub mod Heights
 pub mod Openings
-pub mod Definitions
-pub mod Items
-pub mod Words
-pub mod Imports
-pub mod Simple
-pub mod Types
-pub mod PlacedParts
-pub mod PlacedStatements
-pub mod PlacedHeaders
+pub mod Placed

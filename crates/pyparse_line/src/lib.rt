@@ -4,11 +4,11 @@
 //! statements".
 #![tactic(auto)]
 
+mod cases;
 mod found;
 mod fronts;
-mod headers;
 mod lines;
+mod matches;
 mod openings;
-mod statements;
 
 pub use lines::{LineRead, read_line};

@@ -7,7 +7,8 @@ ghost use Rattle.pyparse_nodes.specs.Views.{first_of, seen};
 ghost use Rattle.pyparse_line.specs.Inner.Openings.{name_of, opening_at, terminal_opening};
 ghost use Rattle.pyparse_line.specs.Inner.Openings.{word_opening};
 
-use crate::headers::{is_case_line, is_match_line};
+use crate::cases::is_case_line;
+use crate::matches::is_match_line;
 use pylex::Exact;
 use pytoken::{Keyword, Terminal};
 use pytree_node::{Extent, Profile};

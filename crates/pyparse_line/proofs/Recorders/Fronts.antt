@@ -39,15 +39,16 @@ use Rattle.pyplaces.proofs.Forms.Lines.{placed_header_suite}
 use Rattle.pyplaces.proofs.Forms.Lines.{placed_match_line, placed_other_line, placed_simple_statements}
 use Rattle.pyparse_line.specs.declared.found.ReadForm.{ReadForm}
 use Rattle.pyparse_line.specs.declared.found.ReadSuite.{ReadSuite}
-use Rattle.pyparse_line.specs.declared.headers.found.ReadHeader.{ReadHeader}
+use Rattle.pyparse_statement.specs.declared.headers.found.ReadHeader.{ReadHeader}
 use Rattle.pyparse_line.specs.declared.openings.Opening.{Opening}
 use Rattle.pyparse_line.specs.declared.openings.Opening.TheVariants as kind
-use Rattle.pyparse_line.specs.declared.statements.found.ReadStatements.{ReadStatements}
+use Rattle.pyparse_statement.specs.declared.statements.found.ReadStatements.{ReadStatements}
 use Rattle.pyparse_line.specs.Inner.Openings.{opening_at, terminal_opening}
-use Rattle.pyparse_line.specs.Inner.PlacedHeaders.{CasePlaced, ColonPlaced, FormPlaced, HeaderPlaced, LinePlaced, PlacedSuite}
-use Rattle.pyparse_line.specs.Inner.PlacedHeaders.{SuitePlaced, no_suite, some_suite}
-use Rattle.pyparse_line.specs.Inner.PlacedStatements.{SimplesPlaced}
-use Rattle.pyparse_line.proofs.Recorders.Looks.{moved}
+use Rattle.pyparse_line.specs.Inner.Placed.{CasePlaced, ColonPlaced, FormPlaced, LinePlaced, PlacedSuite}
+use Rattle.pyparse_statement.specs.PlacedHeaders.{HeaderPlaced}
+use Rattle.pyparse_line.specs.Inner.Placed.{SuitePlaced, no_suite, some_suite}
+use Rattle.pyparse_statement.specs.PlacedStatements.{SimplesPlaced}
+use Rattle.pyparse_statement.proofs.Callers.Looks.{moved}
 
 -- nothing is left at the end
 pub seen_end : (ts : List given.Terminal) (n : ℕ) → n ≡ length ts → seen ts n ≡ []

@@ -1,5 +1,0 @@
-pub mod DefinitionSteps
-mod ItemPushes
-mod ItemSteps
-mod MatchSteps
-mod WordSteps

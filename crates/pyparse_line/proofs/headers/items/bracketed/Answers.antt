@@ -1,7 +1,0 @@
-use Rattle.pyparse_line.proofs.Recorders.Headers.{bracketed_placed}
-use Rattle.pyparse_line.proofs.headers.items.bracketed.Goals as goal
-
-pub returns-clause-placed : goal.returns-clause-placed
-returns-clause-placed g c = bracketed_placed c.in_ok-items.items c.if-not-is_op.ensures c.in_ok-items.ensures.placed
-    c.if-not-is_op-2.ensures c.placed.ensures.items
-    c.placed.ensures.next

@@ -1,8 +1,0 @@
-pub mod Callers
-mod ImportSteps
-mod NameSteps
-mod OptionalSteps
-mod StatementSteps
-mod TypeNameSteps
-mod TypeSteps
-mod ValueSteps

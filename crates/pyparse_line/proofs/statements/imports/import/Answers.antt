@@ -1,7 +1,0 @@
-use Rattle.std.proofs.Common.{refl}
-use Rattle.pytree_node.proofs.Callers.StmtShapes.{import_tree}
-use Rattle.pyparse_line.proofs.Recorders.Imports.{import_placed}
-use Rattle.pyparse_line.proofs.statements.imports.import.Goals as goal
-
-pub returns-clause-placed : goal.returns-clause-placed
-returns-clause-placed g c = import_placed c.in_ok-names.ensures.placed (import_tree _) refl

@@ -1,0 +1,4 @@
+-- What pyparse_line cites.
+pub mod Looks
+pub mod Parts
+pub mod Spellings

@@ -1,0 +1,4 @@
+pub mod DefinitionSteps
+mod ItemPushes
+mod ItemSteps
+mod WordSteps

@@ -1,0 +1,7 @@
+mod ImportSteps
+mod NameSteps
+mod OptionalSteps
+mod StatementSteps
+mod TypeNameSteps
+mod TypeSteps
+mod ValueSteps

@@ -1,0 +1,5 @@
+pub mod Inner
+pub mod Answers
+pub mod PlacedParts
+pub mod PlacedStatements
+pub mod PlacedHeaders
