@@ -11,7 +11,7 @@ ghost use Rattle.pyparse.specs.Patterns.{RefusesPattern};
 
 use crate::token_lists::{first_place, terminals_of};
 use pygrammar::PatternLevel;
-use pyparse_nodes::Stop;
+use pyparse_looks::Stop;
 use pyparse_pattern::read_whole_pattern;
 use pyparse_tokens::{GrammarError, ParseFault, Token};
 use pyplaces::Ignored;

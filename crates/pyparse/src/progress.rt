@@ -23,7 +23,7 @@ use crate::known::Known;
 use crate::last_lines::LastLines;
 use pygrammar::{Form, Header};
 use pyparse_line::{LineRead, read_line};
-use pyparse_nodes::Stop;
+use pyparse_looks::Stop;
 use pyparse_tokens::{GrammarError, LogicalLines, ParseFault};
 use pyplaces::{Ignored, Recorder};
 use pysource::Place;

@@ -5,7 +5,7 @@ use Rattle.pytoken.specs.declared.values.terminals.Terminal.{Terminal}
 use Rattle.pygrammar.specs.Arguments.{in_order, keywords, positional}
 use Rattle.pygrammar.specs.Entries.{Argument, Entry, Parameter}
 use Rattle.pygrammar.specs.Parameters.{arranged}
-use Rattle.pyparse_nodes.specs.Views.{seen}
+use Rattle.pyparse_looks.specs.Views.{seen}
 use Rattle.pyplaces.specs.Stretches.{Stretch}
 use Rattle.pyplaces.specs.EntryPlaces as E
 use Rattle.pyplaces.specs.EntryPlaces.{EntryPlaces}

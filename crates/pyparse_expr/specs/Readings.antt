@@ -10,7 +10,7 @@ use Rattle.pygrammar.specs.Entries.{Argument, Parameter}
 use Rattle.pygrammar.specs.Parameters.{arranged}
 use Rattle.pygrammar.specs.PatternReader.{capped_pattern}
 use Rattle.pygrammar.specs.Reader.{Answer, Found, NoForm, Reads, and_then, listing_of, made}
-use Rattle.pyparse_nodes.specs.declared.stop.Stop.{Stop}
+use Rattle.pyparse_looks.specs.declared.stop.Stop.{Stop}
 use Rattle.pyparse_nodes.specs.Answers.{Failed}
 use Rattle.pyparse_expr.specs.declared.depth.Depth.{Depth}
 

@@ -13,7 +13,7 @@ ghost use Rattle.pyparse_expr.specs.Inner.Pairs.{PairAt, PairsAt, more_pairs_at,
 ghost use Rattle.pyparse_expr.specs.Inner.PlacedLists.{PairPlaced, PairsPlaced};
 ghost use Rattle.pyparse_expr.specs.Inner.Readings.{inner_reads};
 ghost use Rattle.pyparse_expr.specs.Readings.{IsOpen};
-ghost use Rattle.pyparse_nodes.specs.Views.{Stands, seen};
+ghost use Rattle.pyparse_looks.specs.Views.{Stands, seen};
 ghost use Rattle.pyplaces.specs.EntryPlaces as places;
 ghost use Rattle.pyplaces.specs.EntryPlaces.{EntryPlaces};
 ghost use Rattle.pyplaces.specs.Placed.{Placed, PlacedPiece};
@@ -28,9 +28,9 @@ use crate::levels::{read_elem, read_expression};
 use crate::listings::{Item, others};
 use pygrammar::Level;
 use pylex::Exact;
+use pyparse_looks::{Stop, is_op, lead_at, name_with, starts_comp};
 use pyparse_nodes::{
-    Pair, Pairs, Read, Stop, is_op, lead_at, make_dict, make_dict_comp, make_set, make_set_comp,
-    name_with, put, put_option, starts_comp,
+    Pair, Pairs, Read, make_dict, make_dict_comp, make_set, make_set_comp, put, put_option,
 };
 use pyplaces::Recorder;
 use pytoken::Terminal;

@@ -15,7 +15,7 @@ ghost use Rattle.pyparse_expr.specs.Inner.Lists.{item_of, items_of};
 ghost use Rattle.pyparse_expr.specs.Inner.PlacedLists.{TuplePlaced};
 ghost use Rattle.pyparse_expr.specs.Inner.Readings.{inner_reads};
 ghost use Rattle.pyparse_expr.specs.Readings.{IsOpen};
-ghost use Rattle.pyparse_nodes.specs.Views.{Stands, seen};
+ghost use Rattle.pyparse_looks.specs.Views.{Stands, seen};
 ghost use Rattle.pyplaces.specs.Placed.{Placed, PlacedForIn, PlacedIfs};
 ghost use Rattle.pyplaces.specs.Recording.{Records};
 ghost use Rattle.pyplaces.specs.Rests.{Clauses};
@@ -27,10 +27,8 @@ use crate::listings::{Item, no_items, others, push};
 use crate::primaries::read_primary;
 use pygrammar::Level;
 use pylex::Exact;
-use pyparse_nodes::{
-    ForClause, ForClauses, Items, Read, Stop, append, is_op, is_word, make_starred, make_tuple,
-    store,
-};
+use pyparse_looks::{Stop, is_op, is_word};
+use pyparse_nodes::{ForClause, ForClauses, Items, Read, append, make_starred, make_tuple, store};
 use pyplaces::Recorder;
 use pytoken::{Keyword, Terminal};
 use pytree_node::{Comprehension, Context};

@@ -5,7 +5,7 @@ ghost use Rattle.pyparse_expr.specs.Inner.Readings.{IsOuter};
 ghost use Rattle.pyparse_expr.specs.Readings.{IsOpen, IsShut};
 
 use crate::expressions::MOST_HEIGHT;
-use pyparse_nodes::Stop;
+use pyparse_looks::Stop;
 use pytoken::Terminal;
 
 /// How far down reading may go.

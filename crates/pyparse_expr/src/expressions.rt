@@ -6,7 +6,7 @@ ghost use Rattle.pytoken.specs.TerminalOf.{terminal};
 ghost use Rattle.pyparse_expr.specs.Expressions.{IsExpression, Refused};
 ghost use Rattle.pyparse_nodes.specs.Answers.{Answered};
 ghost use Rattle.pyparse_expr.specs.Readings.{reads};
-ghost use Rattle.pyparse_nodes.specs.Views.{seen};
+ghost use Rattle.pyparse_looks.specs.Views.{seen};
 ghost use Rattle.pyplaces.specs.Placed.{Placed};
 ghost use Rattle.pyplaces.specs.Recording.{Records};
 ghost use Rattle.pyplaces.specs.Stretches.{Stretch};
@@ -20,7 +20,8 @@ use crate::levels::{
 use crate::primaries::read_primary;
 use crate::slices::{read_part, read_slice, read_slices};
 use pygrammar::Level;
-use pyparse_nodes::{Read, Stop};
+use pyparse_looks::Stop;
+use pyparse_nodes::Read;
 use pyplaces::Recorder;
 use pytoken::Terminal;
 use pytree_node::Expr;

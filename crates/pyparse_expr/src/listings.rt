@@ -15,7 +15,7 @@ ghost use Rattle.pyparse_expr.specs.Inner.Lists.{item_of, item_reads, items_of, 
 ghost use Rattle.pyparse_expr.specs.Inner.PlacedLists.{MorePlaced, OthersPlaced, TuplePlaced};
 ghost use Rattle.pyparse_expr.specs.Inner.Readings.{inner_reads};
 ghost use Rattle.pyparse_expr.specs.Readings.{IsOpen};
-ghost use Rattle.pyparse_nodes.specs.Views.{Stands, seen};
+ghost use Rattle.pyparse_looks.specs.Views.{Stands, seen};
 ghost use Rattle.pyplaces.specs.EntryPlaces as places;
 ghost use Rattle.pyplaces.specs.Placed.{PlacedPiece};
 ghost use Rattle.pyplaces.specs.Recording.{Records};
@@ -27,7 +27,8 @@ use crate::levels::{read_elem, read_star_item};
 use crate::slices::read_part;
 use pygrammar::Level;
 use pylex::Exact;
-use pyparse_nodes::{Items, Read, Stop, is_op, lead_at, make_tuple, put};
+use pyparse_looks::{Stop, is_op, lead_at};
+use pyparse_nodes::{Items, Read, make_tuple, put};
 use pyplaces::Recorder;
 use pytoken::Terminal;
 use pytree_node::Context;

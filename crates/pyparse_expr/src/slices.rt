@@ -12,7 +12,7 @@ ghost use Rattle.pygrammar.specs.Reader as reader;
 ghost use Rattle.pyparse_nodes.specs.Answers.{Answered, Failed};
 ghost use Rattle.pyparse_expr.specs.Readings.{IsOpen, reads};
 ghost use Rattle.pyparse_expr.specs.Inner.Readings.{inner_reads, level_at, same_reads};
-ghost use Rattle.pyparse_nodes.specs.Views.{Stands, seen};
+ghost use Rattle.pyparse_looks.specs.Views.{Stands, seen};
 ghost use Rattle.pytoken.specs.Terminals as terminals;
 ghost use Rattle.pyparse_expr.specs.Inner.Found.{OptionalAt};
 ghost use Rattle.pytree_node.specs.TreeOf.{boxed_of};
@@ -27,9 +27,8 @@ use crate::levels::{read_expression, read_named};
 use crate::listings::{Item, first_items, tupled};
 use pygrammar::Level;
 use pylex::Exact;
-use pyparse_nodes::{
-    Optional, Read, Stop, is_op, lead_at, make_slice, make_starred, make_tuple, name_with,
-};
+use pyparse_looks::{Stop, is_op, lead_at, name_with};
+use pyparse_nodes::{Optional, Read, make_slice, make_starred, make_tuple};
 use pyplaces::Recorder;
 use pytoken::Terminal;
 use pytree_node::Expr;

@@ -5,7 +5,7 @@
 ghost use Rattle.std.specs.Prelude.{◌≡◌, ◌≤◌, ◌&&◌, length};
 ghost use Rattle.std.specs.Str.{bytes_eq, chars};
 ghost use Rattle.pygrammar.specs.Forms.{case_name};
-ghost use Rattle.pyparse_nodes.specs.Views.{seen};
+ghost use Rattle.pyparse_looks.specs.Views.{seen};
 ghost use Rattle.pyparse_expr.specs.Readings.{reads};
 ghost use Rattle.pyparse_pattern.specs.Answers as patterns;
 ghost use Rattle.pyparse_statement.specs.Answers.{HeaderAnswered};
@@ -17,7 +17,7 @@ ghost use Rattle.pyparse_line.specs.Inner.Placed.{CasePlaced};
 
 use pygrammar::{Header, Level, PatternLevel};
 use pyparse_expr::Depth;
-use pyparse_nodes::Stop;
+use pyparse_looks::Stop;
 use pyparse_pattern::read_pattern;
 use pyparse_statement::{ReadHeader, after_word};
 use pyplaces::Recorder;

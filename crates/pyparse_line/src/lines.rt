@@ -13,7 +13,7 @@ ghost use Rattle.pyparse_line.specs.Lines.{Refused};
 use crate::fronts::read_front;
 use pygrammar::Form;
 use pyparse_expr::{Depth, MOST_HEIGHT};
-use pyparse_nodes::Stop;
+use pyparse_looks::Stop;
 use pyplaces::Recorder;
 use pytoken::Terminal;
 use pytree_node::Profile;

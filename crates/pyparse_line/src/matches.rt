@@ -6,7 +6,7 @@ ghost use Rattle.std.specs.Prelude.{◌≡◌, ◌+◌, ◌≤◌, ◌&&◌, len
 ghost use Rattle.std.specs.Str.{bytes_eq, chars};
 ghost use Rattle.pygrammar.specs.Forms.{match_name};
 ghost use Rattle.pygrammar.specs.LineReader as line_reader;
-ghost use Rattle.pyparse_nodes.specs.Views.{seen};
+ghost use Rattle.pyparse_looks.specs.Views.{seen};
 ghost use Rattle.pyparse_expr.specs.Readings.{reads};
 ghost use Rattle.pyparse_line.specs.Inner.Answers.{FormAnswered};
 ghost use Rattle.pyparse_line.specs.Inner.Fronts.{matched};
@@ -19,7 +19,7 @@ use crate::found::ReadForm;
 use pygrammar::{Form, Header, Level};
 use pylex::Exact;
 use pyparse_expr::{Depth, read_at};
-use pyparse_nodes::{Stop, is_op};
+use pyparse_looks::{Stop, is_op};
 use pyplaces::Recorder;
 use pytoken::Terminal;
 use pytree_node::Profile;

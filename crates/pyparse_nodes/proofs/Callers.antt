@@ -1,3 +1,2 @@
--- What callers compute with: the first terminal of a place, and lists that grow by one.
-pub mod Places
+-- What callers compute with: lists that grow by one.
 pub mod Pushes

@@ -1,9 +1,5 @@
 pub mod Inner
-pub mod Views
 pub mod Answers
-pub mod Alone
-pub mod Operators
-pub mod Marks
 pub mod Runs
 pub mod Formals
 pub mod FormalStates

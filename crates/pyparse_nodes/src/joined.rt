@@ -11,7 +11,7 @@ use crate::found::{Items, JoinedValues, Optional, Read};
 use crate::literals::{add_points, text};
 use crate::makers::boxed;
 use crate::room::{append, put};
-use crate::stop::Stop;
+use pyparse_looks::Stop;
 use pytree_node::{Conversion, Expr, Points};
 use std::alloc::Global;
 

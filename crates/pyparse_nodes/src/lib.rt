@@ -1,11 +1,10 @@
 //! Nodes of expressions from their parts, for the readers of expressions and of lines.
 //!
-//! `found` has what was read, and `stop` why nothing was. `looks` and `marks` have the tests on the
-//! terminal at a place, and `operators` the operators by their ranks. `makers` and `list_makers` make
-//! a node where it is not too high, of parts that lists with room for them hold (`room`). `literals`
-//! joins neighbouring literals, `joined` gathers the values of f-strings, `parameters` and `actual`
-//! the parameters of a signature and the arguments of a call. `targets`, `single_targets` and
-//! `deletions` change contexts in place, and `turns` an expression that was read.
+//! `found` has what was read. `makers` and `list_makers` make a node where it is not too high, of
+//! parts that lists with room for them hold (`room`). `literals` joins neighbouring literals, `joined`
+//! gathers the values of f-strings, `parameters` and `actual` the parameters of a signature and the
+//! arguments of a call. `targets`, `single_targets` and `deletions` change contexts in place, and
+//! `turns` an expression that was read.
 //!
 //! No function here reads an expression: the crate `pyparse_expr` does.
 #![tactic(auto)]
@@ -16,14 +15,10 @@ mod found;
 mod joined;
 mod list_makers;
 mod literals;
-mod looks;
 mod makers;
-mod marks;
-mod operators;
 mod parameters;
 mod room;
 mod single_targets;
-mod stop;
 mod targets;
 mod turns;
 
@@ -35,18 +30,12 @@ pub use list_makers::{
     make_set, make_set_comp, make_slice, make_tuple, make_yield,
 };
 pub use literals::{LiteralRun, literal_text, make_literal, string_run};
-pub use looks::{
-    is_op, is_word, lead_at, literal_at, name_at, name_with, stands_alone, starts_comp, terminal_at,
-};
 pub use makers::{
     identifier_of, make_attribute, make_await, make_binary, make_chain, make_compare,
     make_constant, make_if, make_name, make_named, make_number, make_starred, make_subscript,
     make_unary, make_whole, make_yield_from, starred,
 };
-pub use marks::{Mark, Part, is_mark, part_at};
-pub use operators::{Infix, Prefix, comparison_at, infix_at, prefix_at};
 pub use parameters::{Formal, Parameter, Stage, arranged};
 pub use room::{append, put, put_keyword, put_option};
-pub use stop::Stop;
 pub use targets::store;
 pub use turns::{deleted, single_stored, stored};

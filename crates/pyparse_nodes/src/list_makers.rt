@@ -9,8 +9,8 @@ ghost use Rattle.pytree_height.specs.Heights as Heights;
 ghost use Rattle.pyparse_nodes.specs.Answers.{Makes};
 
 use crate::found::Read;
-use crate::makers::{above, boxed};
-use crate::stop::Stop;
+use crate::makers::boxed;
+use pyparse_looks::{Stop, above};
 use pytree_node::{Arguments, Call, Comprehension, Context, Dict, DictComp, Expr, Keyword, Slice};
 use std::alloc::Global;
 

@@ -10,12 +10,11 @@ ghost use Rattle.pytoken.specs.Values.{literal_value};
 ghost use Rattle.pyparse_nodes.specs.Answers.{Made, PartAnswered};
 ghost use Rattle.pygrammar.specs.FormattedStrings.{text_of};
 ghost use Rattle.pyparse_nodes.specs.Runs.{IsNoText, Joins, Parts, run};
-ghost use Rattle.pyparse_nodes.specs.Views.{seen};
+ghost use Rattle.pyparse_looks.specs.Views.{seen};
 
 use crate::found::Read;
-use crate::looks::literal_at;
 use crate::makers::make_constant;
-use crate::stop::Stop;
+use pyparse_looks::{Stop, literal_at};
 use pytoken::{Literal, LiteralText, Terminal};
 use pytree_node::{Constant, Points};
 use std::alloc::{AllocError, Global};
@@ -38,7 +37,7 @@ pub(crate) fn add_points(to: &mut Points, points: &Points) -> Result<(), AllocEr
 }
 
 /// A text with one more after it.
-#[tactic(auto, using(crate::proofs::Places::Runs::text_turn, crate::proofs::Places::Runs::text_mixed))]
+#[tactic(auto, using(crate::proofs::LiteralRuns::text_turn, crate::proofs::LiteralRuns::text_mixed))]
 fn add_text(alloc: Global, points: Points, unicode: bool, more: LiteralText) -> Result<Points, Stop>
     ensures { MatchResult result
         (λ p. Joins (values.Str points unicode) (string_value (literal_characters more.entry))
@@ -59,7 +58,7 @@ fn add_text(alloc: Global, points: Points, unicode: bool, more: LiteralText) -> 
 }
 
 /// Bytes with more after them.
-#[tactic(auto, using(crate::proofs::Places::Runs::bytes_turn, crate::proofs::Places::Runs::bytes_mixed))]
+#[tactic(auto, using(crate::proofs::LiteralRuns::bytes_turn, crate::proofs::LiteralRuns::bytes_mixed))]
 fn add_bytes(alloc: Global, bytes: Vec<u8>, more: LiteralText) -> Result<Vec<u8>, Stop>
     ensures { MatchResult result
         (λ b. Joins (values.Bytes bytes.items) (string_value (literal_characters more.entry))

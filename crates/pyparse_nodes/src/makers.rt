@@ -1,13 +1,12 @@
 //! A node of parts that were read, where it is not too high.
 
-ghost use Rattle.std.specs.Prelude.{◌≡◌, ◌+◌, ◌++◌, ◌<◌, ◌≤◌, ◌∷◌, MatchResult, [], max, map};
-ghost use Rattle.std.specs.Prelude.{option_map};
+ghost use Rattle.std.specs.Prelude.{◌≡◌, ◌<◌, MatchResult, max, map};
 ghost use Rattle.std.specs.Str.{chars};
 ghost use Rattle.unicode_normalization.specs.Forms.{nfkc};
-ghost use Rattle.pytree_node.specs.TreeOf.{arguments_of, boxed_of, comprehension_of, constant_of};
-ghost use Rattle.pytree_node.specs.TreeOf.{keyword_of, option_of, tree_of};
+ghost use Rattle.pytree_node.specs.TreeOf.{constant_of};
+ghost use Rattle.pytree_node.specs.TreeOf.{tree_of};
 ghost use Rattle.pytree_node.specs.Trees as plain;
-ghost use Rattle.pytree_node.specs.Trees.{comprehensions, exprs, optional, optionals};
+ghost use Rattle.pytree_node.specs.Trees.{exprs};
 ghost use Rattle.pytree_node.specs.Values as values;
 ghost use Rattle.pytree_height.specs.Heights as Heights;
 ghost use Rattle.pytoken.specs.NumberValues.{number_value};
@@ -15,25 +14,13 @@ ghost use Rattle.pytoken.specs.TerminalOf.{number_bytes};
 ghost use Rattle.pyparse_nodes.specs.Answers.{Makes, Made};
 
 use crate::found::Read;
-use crate::stop::Stop;
+use pyparse_looks::{Stop, above};
 use pytoken::{NumberText, identifier_value};
 use pytree_node::{
     BoolOperator, Compare, Comparison, Constant, Context, Expr, Identifier, Integer, Operator,
     UnaryOperator,
 };
 use std::alloc::Global;
-
-/// The height of a node over parts of this height, where there is room for it.
-pub(crate) fn above(under: usize, room: usize) -> Result<usize, Stop>
-    ensures one { MatchResult result (λ h. h ≡ under + 1) (λ s. s ≡ Stop.TooDeep) }
-    ensures low { MatchResult result (λ h. h ≤ room) (λ s. room ≤ under) }
-{
-    if under < room {
-        Ok(under + 1)
-    } else {
-        Err(Stop::TooDeep)
-    }
-}
 
 /// What was read, of an expression of this height.
 #[inline(always)]

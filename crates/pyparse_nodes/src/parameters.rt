@@ -9,7 +9,7 @@ ghost use Rattle.pyparse_nodes.specs.Formals as formals;
 ghost use Rattle.pyparse_nodes.specs.FormalStates.{IsDisarranged, entry_of, state_of};
 
 use crate::room::{append, put, put_option};
-use crate::stop::Stop;
+use pyparse_looks::Stop;
 use pytree_node::{Arg, Arguments, Expr};
 use std::alloc::Global;
 use std::mem;

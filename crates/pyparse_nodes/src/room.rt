@@ -6,7 +6,7 @@ ghost use Rattle.unicode_normalization.specs.Forms.{nfkc};
 ghost use Rattle.pytree_node.specs.TreeOf.{boxed_of, keyword_of, option_of, tree_of};
 
 use crate::makers::identifier_of;
-use crate::stop::Stop;
+use pyparse_looks::Stop;
 use pytree_node::{Expr, Keyword};
 use std::alloc::Global;
 

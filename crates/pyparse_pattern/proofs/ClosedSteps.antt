@@ -20,10 +20,10 @@ use Rattle.pygrammar.specs.PatternReader as reader
 use Rattle.pygrammar.specs.PatternReader.{cap_pattern, dotted_from}
 use Rattle.pygrammar.specs.Reader.{Answer, Found, and_then, on_some}
 use Rattle.pyparse_nodes.specs.declared.found.Read.{Read}
-use Rattle.pyparse_nodes.specs.declared.stop.Stop.{Stop}
-use Rattle.pyparse_nodes.specs.declared.stop.Stop.TheVariants as stop
+use Rattle.pyparse_looks.specs.declared.stop.Stop.{Stop}
+use Rattle.pyparse_looks.specs.declared.stop.Stop.TheVariants as stop
 use Rattle.pyparse_nodes.specs.Answers.{FoundAt}
-use Rattle.pyparse_nodes.specs.Views.{Stands, first_is, first_of, seen}
+use Rattle.pyparse_looks.specs.Views.{Stands, first_is, first_of, seen}
 use Rattle.pyparse_expr.specs.Readings.{IsOpen}
 use Rattle.pyparse_expr.specs.declared.depth.Depth.{Depth}
 use Rattle.pyparse_expr.proofs.Callers.Looks.{first_miss, front}

@@ -4,7 +4,7 @@
 
 ghost use Rattle.std.specs.Prelude.{◌≡◌, ◌+◌, ◌-◌, ◌<◌, ◌≤◌, ◌∷◌, IfOk, ℕ, length};
 ghost use Rattle.pygrammar.specs.PatternEntries as entries;
-ghost use Rattle.pyparse_nodes.specs.Views.{seen};
+ghost use Rattle.pyparse_looks.specs.Views.{seen};
 ghost use Rattle.pyparse_expr.specs.Readings.{IsOpen};
 ghost use Rattle.pytoken.specs.Terminals as terminals;
 ghost use Rattle.pyparse_pattern.specs.Inner.Entries.{entry_of, item_of};
@@ -24,7 +24,8 @@ use crate::names::is_wildcard;
 use pygrammar::PatternLevel;
 use pylex::Exact;
 use pyparse_expr::Depth;
-use pyparse_nodes::{Stop, identifier_of, is_op, name_at, name_with};
+use pyparse_looks::{Stop, is_op, name_at, name_with};
+use pyparse_nodes::identifier_of;
 use pyplaces::Recorder;
 use pytoken::Terminal;
 use std::alloc::Global;

@@ -11,7 +11,7 @@ ghost use Rattle.pyplaces.specs.Stretches.{Stretch};
 use crate::levels::read_pattern;
 use pygrammar::PatternLevel;
 use pyparse_expr::{Depth, MOST_HEIGHT};
-use pyparse_nodes::Stop;
+use pyparse_looks::Stop;
 use pyplaces::Recorder;
 use pytoken::Terminal;
 use pytree_node::Pattern;

@@ -17,12 +17,12 @@ use Rattle.pyparse_expr.specs.declared.depth.Depth.{Depth}
 use Rattle.pyparse_nodes.specs.declared.found.Optional.{Optional}
 use Rattle.pyparse_nodes.specs.declared.found.Read.{Read}
 use Rattle.pyparse_expr.specs.declared.signatures.ReadParameter.{ReadParameter}
-use Rattle.pyparse_nodes.specs.declared.stop.Stop.{Stop}
+use Rattle.pyparse_looks.specs.declared.stop.Stop.{Stop}
 use Rattle.pyparse_nodes.specs.Answers.{Failed, FoundAt}
 use Rattle.pyparse_expr.specs.Inner.Found.{OptionalAt}
 use Rattle.pyparse_expr.specs.Inner.Readings.{inner_reads}
 use Rattle.pyparse_expr.specs.Inner.Signatures.{ParameterAnswered, plain_reads, gathered_reads, collected_reads}
-use Rattle.pyparse_nodes.specs.Views.{Stands, seen, first_is}
+use Rattle.pyparse_looks.specs.Views.{Stands, seen, first_is}
 use Rattle.pyparse_expr.proofs.Reader.Reading.{failed_then, first_hit, seen_next}
 
 module _ (ts : List given.Terminal) (d : Depth) (at : ℕ) where

@@ -18,11 +18,11 @@ use Rattle.pygrammar.specs.Reader.{Answer, Found, TooDeep, Reads, and_then, on_f
 use Rattle.pygrammar.specs.Capped.{cap, capped, capped_atom, capped_primary, capped_loop}
 use Rattle.pyparse_expr.specs.declared.depth.Depth.{Depth}
 use Rattle.pyparse_nodes.specs.declared.found.Read.{Read}
-use Rattle.pyparse_nodes.specs.declared.stop.Stop.{Stop}
+use Rattle.pyparse_looks.specs.declared.stop.Stop.{Stop}
 use Rattle.pyparse_nodes.specs.Answers.{Answered}
 use Rattle.pyparse_expr.specs.Readings.{IsOpen, reads}
-use Rattle.pyparse_nodes.specs.Alone.{alone, atom_with, ends}
-use Rattle.pyparse_nodes.specs.Views.{seen}
+use Rattle.pyparse_looks.specs.Alone.{alone, atom_with, ends}
+use Rattle.pyparse_looks.specs.Views.{seen}
 
 -- nothing goes on
 no_run : (r : List Terminal) → ends r ≡ true → string_run [] r ≡ Found [] r

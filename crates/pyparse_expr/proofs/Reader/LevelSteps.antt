@@ -20,11 +20,11 @@ use Rattle.pygrammar.specs.Reader.{if_else_step, lambda_step, slice_rest, unname
 use Rattle.pygrammar.specs.Capped.{cap}
 use Rattle.pyparse_expr.specs.declared.depth.Depth.{Depth}
 use Rattle.pyparse_nodes.specs.declared.found.Read.{Read}
-use Rattle.pyparse_nodes.specs.declared.stop.Stop.{Stop}
+use Rattle.pyparse_looks.specs.declared.stop.Stop.{Stop}
 use Rattle.pyparse_nodes.specs.Answers.{Answered, FoundAt, Made, Makes}
 use Rattle.pyparse_expr.specs.Readings.{IsOpen, reads}
 use Rattle.pyparse_expr.specs.Inner.Readings.{inner_reads, level_at}
-use Rattle.pyparse_nodes.specs.Views.{Stands, IsNamed, IsNotNamed, seen, first_is}
+use Rattle.pyparse_looks.specs.Views.{Stands, IsNamed, IsNotNamed, seen, first_is}
 use Rattle.pyparse_expr.proofs.Reader.Reading.{by_level, again, earlier, node, first_miss}
 
 -- what was read is the answer

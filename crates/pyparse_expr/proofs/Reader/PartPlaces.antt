@@ -9,7 +9,7 @@ use Rattle.pytoken.specs.declared.values.terminals.Terminal as given
 use Rattle.pyparse_nodes.specs.declared.actual.Actual.{Actual}
 use Rattle.pyparse_nodes.specs.Formals.{outcome}
 use Rattle.pyparse_nodes.specs.FormalStates.{state_of}
-use Rattle.pyparse_nodes.specs.Views.{seen}
+use Rattle.pyparse_looks.specs.Views.{seen}
 use Rattle.pyplaces.specs.Stretches.{Stretch}
 use Rattle.pyplaces.proofs.Answers.{read_as}
 use Rattle.pyparse_expr.specs.declared.signatures.Signature.{Signature}

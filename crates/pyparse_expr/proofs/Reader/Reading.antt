@@ -16,12 +16,12 @@ use Rattle.pygrammar.specs.Capped.{cap, capped, capped_step}
 use Rattle.pygrammar.proofs.Callers.Steps.{unroll_capped}
 use Rattle.pyparse_expr.specs.declared.depth.Depth.{Depth}
 use Rattle.pyparse_nodes.specs.declared.found.Read.{Read}
-use Rattle.pyparse_nodes.specs.declared.stop.Stop.{Stop}
-use Rattle.pyparse_nodes.specs.declared.stop.Stop.TheVariants as stop
+use Rattle.pyparse_looks.specs.declared.stop.Stop.{Stop}
+use Rattle.pyparse_looks.specs.declared.stop.Stop.TheVariants as stop
 use Rattle.pyparse_nodes.specs.Answers.{Failed, Answered, Makes}
 use Rattle.pyparse_expr.specs.Readings.{IsOpen, reads}
 use Rattle.pyparse_expr.specs.Inner.Readings.{level_at}
-use Rattle.pyparse_nodes.specs.Views.{seen, first_is}
+use Rattle.pyparse_looks.specs.Views.{seen, first_is}
 
 -- places
 pub seen_next : (ts : List given.Terminal) (n : ℕ) → drop 1 (seen ts n) ≡ seen ts (n + 1)

@@ -16,11 +16,11 @@ use Rattle.pygrammar.specs.Reader.{Answer, Found, NoForm, TooDeep, and_then, on_
 use Rattle.pygrammar.specs.Capped.{cap, capped_primary}
 use Rattle.pyparse_expr.specs.declared.depth.Depth.{Depth}
 use Rattle.pyparse_nodes.specs.declared.found.Read.{Read}
-use Rattle.pyparse_nodes.specs.declared.stop.Stop.{Stop}
+use Rattle.pyparse_looks.specs.declared.stop.Stop.{Stop}
 use Rattle.pyparse_nodes.specs.Answers.{Failed, Answered, FoundAt, Makes}
 use Rattle.pyparse_expr.specs.Readings.{IsOpen, reads}
 use Rattle.pyparse_expr.specs.Inner.Readings.{inner_reads}
-use Rattle.pyparse_nodes.specs.Views.{Stands, seen, first_is}
+use Rattle.pyparse_looks.specs.Views.{Stands, seen, first_is}
 use Rattle.pyparse_expr.proofs.Reader.Reading.{seen_next, seen_length, first_hit, first_miss, failed_then, failed_cap, again, node}
 use Rattle.pyparse_expr.proofs.Reader.Reading.{by_level}
 

@@ -23,9 +23,9 @@ use Rattle.pygrammar.specs.Reader.{on_some}
 use Rattle.pyparse_expr.specs.declared.chains.Compared.{Compared}
 use Rattle.pyparse_nodes.specs.declared.found.Items.{Items}
 use Rattle.pyparse_nodes.specs.declared.found.Read.{Read}
-use Rattle.pyparse_nodes.specs.declared.stop.Stop.{Stop}
+use Rattle.pyparse_looks.specs.declared.stop.Stop.{Stop}
 use Rattle.pyparse_nodes.specs.Answers.{Makes}
-use Rattle.pyparse_nodes.specs.Views.{Stands, seen, first_is}
+use Rattle.pyparse_looks.specs.Views.{Stands, seen, first_is}
 use Rattle.pyparse_expr.specs.Inner.PlacedOperations.{LinksPlaced, Unsigned}
 use Rattle.pyplaces.specs.Stretches.{Stretch, stretch}
 use Rattle.pyplaces.specs.Placed.{Placed, PlacedCompares, PlacedSign}

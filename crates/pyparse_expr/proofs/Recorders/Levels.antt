@@ -16,9 +16,9 @@ use Rattle.pygrammar.specs.declared.levels.Level.TheVariants as level
 use Rattle.pygrammar.specs.Entries.{Of}
 use Rattle.pygrammar.specs.Looks.{is_op}
 use Rattle.pyparse_nodes.specs.declared.found.Read.{Read}
-use Rattle.pyparse_nodes.specs.declared.stop.Stop.{Stop}
+use Rattle.pyparse_looks.specs.declared.stop.Stop.{Stop}
 use Rattle.pyparse_nodes.specs.Answers.{Made, Makes}
-use Rattle.pyparse_nodes.specs.Views.{IsNamed, Stands, seen, first_is}
+use Rattle.pyparse_looks.specs.Views.{IsNamed, Stands, seen, first_is}
 use Rattle.pyparse_expr.specs.Inner.PlacedLists.{TuplePlaced}
 use Rattle.pyplaces.specs.Stretches.{Stretch, stretch}
 use Rattle.pyplaces.specs.Placed.{Placed, PlacedYields}

@@ -8,7 +8,7 @@ use Rattle.pytoken.specs.Terminals.{Terminal, Spelled, Op, Word, Ident}
 use Rattle.pytoken.specs.declared.values.terminals.Terminal as given
 use Rattle.pytoken.specs.TerminalOf.{terminal}
 use Rattle.pygrammar.specs.Looks.{is_op, is_word, name_in}
-use Rattle.pyparse_nodes.specs.Views.{seen, first_is}
+use Rattle.pyparse_looks.specs.Views.{seen, first_is}
 use Rattle.pyplaces.specs.Rests.{Lacks}
 use Rattle.pyplaces.proofs.Answers.{lacks_op, lacks_word}
 

@@ -18,10 +18,10 @@ use Rattle.pygrammar.specs.Operators.{below, rank}
 use Rattle.pygrammar.specs.Precedence as precedence
 use Rattle.pygrammar.specs.Precedence.{infix_from, prefix_from, infix_rank, prefix_rank}
 use Rattle.pyparse_nodes.specs.declared.found.Read.{Read}
-use Rattle.pyparse_nodes.specs.declared.stop.Stop.{Stop}
+use Rattle.pyparse_looks.specs.declared.stop.Stop.{Stop}
 use Rattle.pyparse_nodes.specs.Answers.{Makes}
-use Rattle.pyparse_nodes.specs.Operators.{climbing}
-use Rattle.pyparse_nodes.specs.Views.{seen, first_is}
+use Rattle.pyparse_looks.specs.Operators.{climbing}
+use Rattle.pyparse_looks.specs.Views.{seen, first_is}
 use Rattle.pyparse_expr.specs.Inner.PlacedOperations.{BinaryPlaced}
 use Rattle.pyplaces.specs.Stretches.{Stretch, stretch}
 use Rattle.pyplaces.specs.Placed.{Placed}

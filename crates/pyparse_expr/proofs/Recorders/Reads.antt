@@ -9,9 +9,9 @@ use Rattle.pytoken.specs.Terminals.{Terminal}
 use Rattle.pytoken.specs.declared.values.terminals.Terminal as given
 use Rattle.pygrammar.specs.declared.levels.Level.{Level}
 use Rattle.pyparse_nodes.specs.declared.found.Read.{Read}
-use Rattle.pyparse_nodes.specs.declared.stop.Stop.{Stop}
+use Rattle.pyparse_looks.specs.declared.stop.Stop.{Stop}
 use Rattle.pyparse_nodes.specs.Answers.{Makes}
-use Rattle.pyparse_nodes.specs.Views.{seen}
+use Rattle.pyparse_looks.specs.Views.{seen}
 use Rattle.pyplaces.specs.Stretches.{Stretch}
 use Rattle.pyplaces.specs.Placed.{ReadAs, Placed}
 use Rattle.pyplaces.specs.Recording.{afters, Records}

@@ -12,9 +12,9 @@ use Rattle.pytoken.specs.declared.values.terminals.Terminal as given
 use Rattle.pygrammar.specs.declared.levels.Level.TheVariants.{Primary, Slices}
 use Rattle.pygrammar.specs.Looks.{name_in}
 use Rattle.pyparse_nodes.specs.declared.found.Read.{Read}
-use Rattle.pyparse_nodes.specs.declared.stop.Stop.{Stop}
+use Rattle.pyparse_looks.specs.declared.stop.Stop.{Stop}
 use Rattle.pyparse_nodes.specs.Answers.{Makes}
-use Rattle.pyparse_nodes.specs.Views.{Stands, seen, first_is}
+use Rattle.pyparse_looks.specs.Views.{Stands, seen, first_is}
 use Rattle.pyplaces.specs.Stretches.{Stretch, stretch}
 use Rattle.pyplaces.specs.Placed.{Placed}
 use Rattle.pyplaces.specs.Recording.{Records}

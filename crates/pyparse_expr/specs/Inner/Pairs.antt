@@ -13,7 +13,7 @@ use Rattle.pyparse_expr.specs.declared.depth.Depth.{Depth}
 use Rattle.pyparse_nodes.specs.declared.found.Pair.{Pair}
 use Rattle.pyparse_nodes.specs.declared.found.Pairs.{Pairs}
 use Rattle.pyparse_expr.specs.Inner.Readings.{inner_reads}
-use Rattle.pyparse_nodes.specs.Views.{seen}
+use Rattle.pyparse_looks.specs.Views.{seen}
 
 abbrev pub entry : Option Expr → Expr → Entry
 entry None v = Doubled v

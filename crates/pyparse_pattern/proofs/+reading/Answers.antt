@@ -5,7 +5,7 @@ use Rattle.pytoken.specs.Terminals.{Op, Ident}
 use Rattle.pytoken.specs.TerminalOf.{terminal}
 use Rattle.pygrammar.specs.declared.pattern_levels.PatternLevel.TheVariants as level
 use Rattle.pygrammar.specs.PatternOperators.{captured, is_wildcard}
-use Rattle.pyparse_nodes.specs.Views.{seen}
+use Rattle.pyparse_looks.specs.Views.{seen}
 use Rattle.pyplaces.proofs.Asides.{Apart}
 use Rattle.pyplaces.proofs.Patterns.Levels.{placed_pattern_next}
 use Rattle.pyparse_expr.proofs.Callers.Looks.{front, placed_at}

@@ -18,9 +18,9 @@ use Rattle.pygrammar.specs.PatternEntries.{all_named, are_class_arguments}
 use Rattle.pygrammar.specs.PatternGrammar as P
 use Rattle.pygrammar.specs.PatternOperators.{is_wildcard}
 use Rattle.pyparse_nodes.specs.declared.found.Read.{Read}
-use Rattle.pyparse_nodes.specs.declared.stop.Stop.{Stop}
-use Rattle.pyparse_nodes.specs.declared.stop.Stop.TheVariants as stop
-use Rattle.pyparse_nodes.specs.Views.{IsNamed, Stands, first_is, seen}
+use Rattle.pyparse_looks.specs.declared.stop.Stop.{Stop}
+use Rattle.pyparse_looks.specs.declared.stop.Stop.TheVariants as stop
+use Rattle.pyparse_looks.specs.Views.{IsNamed, Stands, first_is, seen}
 use Rattle.pyparse_pattern.specs.declared.entries.Entries as found
 use Rattle.pyparse_pattern.specs.declared.entries.ReadEntry.{ReadEntry}
 use Rattle.pyparse_pattern.specs.declared.found.Patterns.{Patterns}

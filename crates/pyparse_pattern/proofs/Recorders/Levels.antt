@@ -24,10 +24,10 @@ use Rattle.pygrammar.specs.PatternEntries.{is_mapping, key_patterns, mapped, nam
 use Rattle.pygrammar.specs.PatternOperators.{captured, is_wildcard, singleton_word}
 use Rattle.pygrammar.specs.PatternReader.{dotted_from}
 use Rattle.pyparse_nodes.specs.declared.found.Read.{Read}
-use Rattle.pyparse_nodes.specs.declared.stop.Stop.{Stop}
-use Rattle.pyparse_nodes.specs.declared.stop.Stop.TheVariants as stop
+use Rattle.pyparse_looks.specs.declared.stop.Stop.{Stop}
+use Rattle.pyparse_looks.specs.declared.stop.Stop.TheVariants as stop
 use Rattle.pyparse_nodes.specs.Answers.{FoundAt}
-use Rattle.pyparse_nodes.specs.Views.{Stands, first_is, seen}
+use Rattle.pyparse_looks.specs.Views.{Stands, first_is, seen}
 use Rattle.pyparse_expr.specs.declared.depth.Depth.{Depth}
 use Rattle.pyparse_pattern.specs.declared.entries.Entries as found
 use Rattle.pyparse_pattern.specs.declared.found.Patterns.{Patterns}

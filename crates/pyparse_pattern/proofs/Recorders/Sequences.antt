@@ -14,8 +14,8 @@ use Rattle.pygrammar.specs.declared.pattern_levels.PatternLevel.TheVariants as l
 use Rattle.pygrammar.specs.Looks.{is_op}
 use Rattle.pygrammar.specs.PatternGrammar as P
 use Rattle.pygrammar.specs.PatternOperators.{below_pattern}
-use Rattle.pyparse_nodes.specs.declared.stop.Stop.{Stop}
-use Rattle.pyparse_nodes.specs.Views.{Stands, first_is, seen}
+use Rattle.pyparse_looks.specs.declared.stop.Stop.{Stop}
+use Rattle.pyparse_looks.specs.Views.{Stands, first_is, seen}
 use Rattle.pyparse_pattern.specs.declared.found.Patterns.{Patterns}
 use Rattle.pyparse_pattern.specs.declared.found.ReadPattern.{ReadPattern}
 use Rattle.pyparse_pattern.specs.Inner.Made.{MakesPattern}

@@ -26,9 +26,9 @@ use Rattle.pygrammar.specs.Targets.{stored}
 use Rattle.pygrammar.proofs.Callers.Lines.{brackets_are_read}
 use Rattle.pyparse_nodes.specs.Answers.{Failed, PartAt, Turned, Turns}
 use Rattle.pyparse_nodes.specs.declared.found.Read.{Read}
-use Rattle.pyparse_nodes.specs.declared.stop.Stop.{Stop}
-use Rattle.pyparse_nodes.specs.declared.stop.Stop.TheVariants as stop
-use Rattle.pyparse_nodes.specs.Views.{Stands, seen}
+use Rattle.pyparse_looks.specs.declared.stop.Stop.{Stop}
+use Rattle.pyparse_looks.specs.declared.stop.Stop.TheVariants as stop
+use Rattle.pyparse_looks.specs.Views.{Stands, seen}
 use Rattle.pyparse_expr.specs.declared.depth.Depth.{Depth}
 use Rattle.pyparse_expr.specs.Readings.{reads}
 use Rattle.pyplaces.specs.FormPlaces.{form_places, item_places, plain_header}

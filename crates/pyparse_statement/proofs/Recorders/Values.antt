@@ -25,8 +25,8 @@ use Rattle.pyparse_nodes.specs.Answers.{Turned}
 use Rattle.pyparse_nodes.specs.declared.found.Items.{Items}
 use Rattle.pyparse_nodes.specs.declared.found.Optional.{Optional}
 use Rattle.pyparse_nodes.specs.declared.found.Read.{Read}
-use Rattle.pyparse_nodes.specs.declared.stop.Stop.{Stop}
-use Rattle.pyparse_nodes.specs.Views.{IsNamed, IsNotNamed, Stands, first_is, seen}
+use Rattle.pyparse_looks.specs.declared.stop.Stop.{Stop}
+use Rattle.pyparse_looks.specs.Views.{IsNamed, IsNotNamed, Stands, first_is, seen}
 use Rattle.pyplaces.specs.Placed.{Placed}
 use Rattle.pyplaces.specs.PlacedForms.{PlacedBehind, PlacedFields, PlacedSimples, Semicolons}
 use Rattle.pyplaces.specs.Recording.{Records}

@@ -5,7 +5,7 @@
 ghost use Rattle.std.specs.Prelude.{◌≡◌, ◌+◌, ◌≤◌, None, false, length};
 ghost use Rattle.pygrammar.specs.LineReader as line_reader;
 ghost use Rattle.pygrammar.specs.Lines as lines;
-ghost use Rattle.pyparse_nodes.specs.Views.{seen};
+ghost use Rattle.pyparse_looks.specs.Views.{seen};
 ghost use Rattle.pygrammar.specs.FormOf.{header_of};
 ghost use Rattle.pyparse_statement.specs.Answers.{HeaderAnswered};
 ghost use Rattle.pyparse_expr.specs.Readings.{reads};
@@ -17,7 +17,7 @@ use crate::statements::{read_as, starts_expression};
 use pygrammar::{Header, Level};
 use pylex::Exact;
 use pyparse_expr::{Depth, read_at};
-use pyparse_nodes::{Stop, is_op};
+use pyparse_looks::{Stop, is_op};
 use pyplaces::Recorder;
 use pytoken::{Keyword, Terminal};
 use std::alloc::Global;

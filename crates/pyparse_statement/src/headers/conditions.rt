@@ -5,7 +5,7 @@
 ghost use Rattle.std.specs.Prelude.{◌≡◌, ◌+◌, ◌≤◌, length};
 ghost use Rattle.pygrammar.specs.Lines as lines;
 ghost use Rattle.pygrammar.specs.Reader as reader;
-ghost use Rattle.pyparse_nodes.specs.Views.{seen};
+ghost use Rattle.pyparse_looks.specs.Views.{seen};
 ghost use Rattle.pyparse_statement.specs.Answers.{HeaderAnswered};
 ghost use Rattle.pyparse_expr.specs.Readings.{reads};
 ghost use Rattle.pyparse_statement.specs.PlacedHeaders.{WordHeader};
@@ -13,7 +13,7 @@ ghost use Rattle.pyparse_statement.specs.PlacedHeaders.{WordHeader};
 use crate::headers::found::ReadHeader;
 use pygrammar::{Header, Level, LoopHead};
 use pyparse_expr::{Depth, read_at};
-use pyparse_nodes::Stop;
+use pyparse_looks::Stop;
 use pyplaces::Recorder;
 use pytoken::{Keyword, Terminal};
 use std::alloc::Global;

@@ -3,7 +3,7 @@
 ghost use Rattle.std.specs.Prelude.{◌≡◌, ◌+◌, ◌≤◌, length};
 ghost use Rattle.pytoken.specs.Terminals as plain;
 ghost use Rattle.pygrammar.specs.LineReader as line_reader;
-ghost use Rattle.pyparse_nodes.specs.Views.{Stands, seen};
+ghost use Rattle.pyparse_looks.specs.Views.{Stands, seen};
 ghost use Rattle.pyparse_statement.specs.Answers.{HeaderAnswered};
 ghost use Rattle.pyparse_expr.specs.Readings.{reads};
 ghost use Rattle.std.specs.Prelude.{IfOk};
@@ -16,7 +16,7 @@ use crate::headers::found::ReadHeader;
 use crate::headers::loops::{for_rest, with_rest};
 use crate::headers::words::word_at;
 use pyparse_expr::Depth;
-use pyparse_nodes::Stop;
+use pyparse_looks::Stop;
 use pyplaces::Recorder;
 use pytoken::{Keyword, Terminal};
 use pytree_node::Profile;

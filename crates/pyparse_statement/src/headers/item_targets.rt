@@ -5,14 +5,15 @@ ghost use Rattle.pytree_node.specs.TreeOf.{tree_of};
 ghost use Rattle.pygrammar.specs.LineReader as line_reader;
 ghost use Rattle.pyparse_nodes.specs.Answers.{PartAnswered};
 ghost use Rattle.pyparse_expr.specs.Readings.{reads};
-ghost use Rattle.pyparse_nodes.specs.Views.{seen};
+ghost use Rattle.pyparse_looks.specs.Views.{seen};
 ghost use Rattle.std.specs.Prelude.{IfOk};
 ghost use Rattle.pyparse_statement.specs.PlacedParts.{TargetPlaced};
 
 use pygrammar::Level;
 use pylex::Exact;
 use pyparse_expr::{Depth, read_at};
-use pyparse_nodes::{Read, Stop, is_op, starred, stored};
+use pyparse_looks::{Stop, is_op};
+use pyparse_nodes::{Read, starred, stored};
 use pyplaces::Recorder;
 use pytoken::Terminal;
 use std::alloc::Global;

@@ -5,7 +5,7 @@
 
 ghost use Rattle.std.specs.Prelude.{◌≡◌, ◌+◌, ◌≤◌, length};
 ghost use Rattle.pygrammar.specs.LineReader as line_reader;
-ghost use Rattle.pyparse_nodes.specs.Views.{seen};
+ghost use Rattle.pyparse_looks.specs.Views.{seen};
 ghost use Rattle.pyparse_statement.specs.Answers.{HeaderAnswered};
 ghost use Rattle.pyparse_expr.specs.Readings.{reads};
 ghost use Rattle.pyparse_statement.specs.PlacedHeaders.{AsyncHeader};
@@ -14,7 +14,8 @@ use crate::headers::found::ReadHeader;
 use crate::headers::items::read_items;
 use pygrammar::{Header, Level, LoopHead};
 use pyparse_expr::{Depth, read_at, target_at};
-use pyparse_nodes::{Stop, is_word, stored};
+use pyparse_looks::{Stop, is_word};
+use pyparse_nodes::stored;
 use pyplaces::Recorder;
 use pytoken::{Keyword, Terminal};
 use std::alloc::Global;

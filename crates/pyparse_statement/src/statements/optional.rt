@@ -8,14 +8,15 @@ ghost use Rattle.pygrammar.specs.LineReader as line;
 ghost use Rattle.pygrammar.specs.Precedence as precedence;
 ghost use Rattle.pyparse_nodes.specs.Answers.{PartAnswered};
 ghost use Rattle.pyparse_expr.specs.Readings.{reads};
-ghost use Rattle.pyparse_nodes.specs.Views.{seen};
+ghost use Rattle.pyparse_looks.specs.Views.{seen};
 ghost use Rattle.std.specs.Prelude.{IfOk};
 ghost use Rattle.pyparse_statement.specs.PlacedParts.{BehindPlaced, OptionalPlaced};
 
 use pygrammar::Level;
 use pylex::Exact;
 use pyparse_expr::{Depth, read_at};
-use pyparse_nodes::{Optional, Read, Stop, is_op, is_word, lead_at};
+use pyparse_looks::{Stop, is_op, is_word, lead_at};
+use pyparse_nodes::{Optional, Read};
 use pyplaces::Recorder;
 use pytoken::{Keyword, Terminal};
 use pytree_node::Expr;

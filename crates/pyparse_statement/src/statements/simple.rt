@@ -12,7 +12,7 @@ ghost use Rattle.pygrammar.specs.Precedence as precedence;
 ghost use Rattle.pygrammar.specs.Reader as reader;
 ghost use Rattle.pyparse_nodes.specs.Answers.{PartAnswered};
 ghost use Rattle.pyparse_expr.specs.Readings.{reads};
-ghost use Rattle.pyparse_nodes.specs.Views.{seen};
+ghost use Rattle.pyparse_looks.specs.Views.{seen};
 ghost use Rattle.pytree_node.specs.TreeOf.{tree_of};
 ghost use Rattle.pyparse_statement.specs.Inner.Simple.{asserts, deletes, globals, nonlocals, raises};
 ghost use Rattle.pyparse_statement.specs.Inner.Simple.{returns};
@@ -28,7 +28,8 @@ use crate::statements::optional::{
 use pygrammar::Level;
 use pylex::Exact;
 use pyparse_expr::{Depth, no_items, push, read_at};
-use pyparse_nodes::{Items, Read, Stop, deleted, is_op};
+use pyparse_looks::{Stop, is_op};
+use pyparse_nodes::{Items, Read, deleted};
 use pyplaces::Recorder;
 use pytoken::{Keyword, Terminal};
 use pytree_node::Stmt;

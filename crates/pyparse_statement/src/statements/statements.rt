@@ -10,7 +10,7 @@ ghost use Rattle.pytoken.specs.Terminals as terminals;
 ghost use Rattle.pygrammar.specs.LineReader as line;
 ghost use Rattle.pyparse_nodes.specs.Answers.{Failed, PartAnswered};
 ghost use Rattle.pyparse_expr.specs.Readings.{reads};
-ghost use Rattle.pyparse_nodes.specs.Views.{Stands, seen};
+ghost use Rattle.pyparse_looks.specs.Views.{Stands, seen};
 ghost use Rattle.pyparse_statement.specs.Inner.Simple.{begun};
 ghost use Rattle.pyparse_statement.specs.PlacedStatements.{FieldsPlaced, SimplesPlaced, StatementTaken};
 
@@ -24,7 +24,8 @@ use crate::statements::types::type_alias;
 use crate::statements::values::value_statement;
 use pylex::Exact;
 use pyparse_expr::Depth;
-use pyparse_nodes::{Stop, append, is_op, terminal_at};
+use pyparse_looks::{Stop, is_op, terminal_at};
+use pyparse_nodes::append;
 use pyplaces::Recorder;
 use pytoken::{Keyword, Terminal};
 use pytree_node::{Profile, Stmt};

@@ -12,7 +12,7 @@ ghost use Rattle.pytoken.specs.TerminalOf.{terminal};
 ghost use Rattle.pygrammar.specs.LineReader as line;
 ghost use Rattle.pyparse_nodes.specs.Answers.{PartAnswered};
 ghost use Rattle.pyparse_expr.specs.Readings.{reads};
-ghost use Rattle.pyparse_nodes.specs.Views.{seen};
+ghost use Rattle.pyparse_looks.specs.Views.{seen};
 ghost use Rattle.pyparse_statement.specs.Inner.Types.{begins_type_param, type_var};
 ghost use Rattle.std.specs.Prelude.{IfOk, ℕ};
 ghost use Rattle.pytoken.specs.Terminals.{Ident, Spelled};
@@ -26,9 +26,8 @@ use crate::statements::optional::{after_sign, unboxed};
 use pygrammar::Level;
 use pylex::Exact;
 use pyparse_expr::{Depth, read_at};
-use pyparse_nodes::{
-    Optional, Read, Stop, append, identifier_of, is_op, make_name, name_at, terminal_at,
-};
+use pyparse_looks::{Stop, is_op, name_at, terminal_at};
+use pyparse_nodes::{Optional, Read, append, identifier_of, make_name};
 use pyplaces::Recorder;
 use pytoken::Terminal;
 use pytree_node::{Context, Profile, Stmt, TypeParam, Version};

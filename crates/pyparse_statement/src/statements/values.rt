@@ -14,9 +14,9 @@ ghost use Rattle.pygrammar.specs.LineReader as line;
 ghost use Rattle.pygrammar.specs.Reader as reader;
 ghost use Rattle.pyparse_nodes.specs.Answers.{PartAnswered};
 ghost use Rattle.pyparse_expr.specs.Readings.{reads};
-ghost use Rattle.pyparse_nodes.specs.Views.{Stands, first_is, seen};
+ghost use Rattle.pyparse_looks.specs.Views.{Stands, first_is, seen};
 ghost use Rattle.std.specs.Prelude.{IfOk};
-ghost use Rattle.pyparse_nodes.specs.Views.{IsNotNamed};
+ghost use Rattle.pyparse_looks.specs.Views.{IsNotNamed};
 ghost use Rattle.pyparse_statement.specs.PlacedStatements.{AnnotationPlaced, FieldsPlaced};
 ghost use Rattle.pyparse_statement.specs.PlacedStatements.{TargetsPlaced, ValuePlaced};
 
@@ -26,9 +26,8 @@ use crate::statements::optional::after_sign;
 use pygrammar::Level;
 use pylex::Exact;
 use pyparse_expr::{Depth, no_items, push, read_at};
-use pyparse_nodes::{
-    Items, Read, Stop, is_op, make_name, name_with, single_stored, stored, terminal_at,
-};
+use pyparse_looks::{Stop, is_op, name_with, terminal_at};
+use pyparse_nodes::{Items, Read, make_name, single_stored, stored};
 use pyplaces::Recorder;
 use pytoken::Terminal;
 use pytree_node::{Context, Operator, Profile};

@@ -1,5 +1,5 @@
 use Rattle.std.proofs.Common.{◌∙◌, subst, sym}
-use Rattle.pyparse_nodes.specs.declared.stop.Stop.{Stop}
+use Rattle.pyparse_looks.specs.declared.stop.Stop.{Stop}
 use Rattle.pyparse_line.specs.Lines.{Refused}
 use Rattle.pygrammar.specs.Refusals.{terminals, no_match, no_form}
 use Rattle.pyparse.proofs.FinishLemmas.{unread_high}

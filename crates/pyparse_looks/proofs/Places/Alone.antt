@@ -4,9 +4,9 @@
 use Rattle.std.proofs.Common.{◌≡◌, refl, sym, ap, ◌∙◌, ℕ, ◌+◌, List, [], ◌∷◌, Some, None, Bool, true, false, ◌&&◌}
 use Rattle.pytoken.specs.Terminals.{Terminal}
 use Rattle.pytoken.specs.declared.values.terminals.Terminal as given
-use Rattle.pyparse_nodes.specs.Alone.{alone, atom_with, ends}
-use Rattle.pyparse_nodes.specs.Views.{seen, first_of}
-use Rattle.pyparse_nodes.proofs.Callers.Places.{front}
+use Rattle.pyparse_looks.specs.Alone.{alone, atom_with, ends}
+use Rattle.pyparse_looks.specs.Views.{seen, first_of}
+use Rattle.pyparse_looks.proofs.Callers.Places.{front}
 
 pub alone_here : (ts : List given.Terminal) (at : ℕ) (t : Terminal) → first_of (seen ts at) ≡ Some t
     → alone (seen ts at) ≡ atom_with t && ends (seen ts (at + 1))

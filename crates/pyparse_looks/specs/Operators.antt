@@ -5,10 +5,10 @@ use Rattle.pygrammar.specs.declared.levels.Level.TheVariants.{Or, And, Not, Comp
 use Rattle.pygrammar.specs.declared.levels.Level.TheVariants.{Await}
 use Rattle.pygrammar.specs.Operators.{below}
 use Rattle.pygrammar.specs.Precedence as precedence
-use Rattle.pyparse_nodes.specs.declared.operators.Infix.{Infix}
-use Rattle.pyparse_nodes.specs.declared.operators.Infix.TheVariants.{Left, Raise, Joins, Compares}
-use Rattle.pyparse_nodes.specs.declared.operators.Prefix.{Prefix}
-use Rattle.pyparse_nodes.specs.declared.operators.Prefix.TheVariants.{Signed, Awaits}
+use Rattle.pyparse_looks.specs.declared.operators.Infix.{Infix}
+use Rattle.pyparse_looks.specs.declared.operators.Infix.TheVariants.{Left, Raise, Joins, Compares}
+use Rattle.pyparse_looks.specs.declared.operators.Prefix.{Prefix}
+use Rattle.pyparse_looks.specs.declared.operators.Prefix.TheVariants.{Signed, Awaits}
 
 -- what an operator of the program is to the grammar
 abbrev pub infix_value : Infix → precedence.Infix

@@ -3,8 +3,8 @@
 ghost use Rattle.std.specs.Prelude.{◌≡◌, ◌<◌, IfSome, Some, length, option_map};
 ghost use Rattle.pygrammar.specs.Precedence as precedence;
 ghost use Rattle.pygrammar.specs.Operators as operators;
-ghost use Rattle.pyparse_nodes.specs.Operators.{IsInfix, IsPrefix, infix_value, prefix_value};
-ghost use Rattle.pyparse_nodes.specs.Views.{first_is, seen};
+ghost use Rattle.pyparse_looks.specs.Operators.{IsInfix, IsPrefix, infix_value, prefix_value};
+ghost use Rattle.pyparse_looks.specs.Views.{first_is, seen};
 ghost use Rattle.pytoken.specs.TerminalOf.{terminal};
 
 use crate::looks::terminal_at;

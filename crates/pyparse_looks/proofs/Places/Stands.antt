@@ -12,8 +12,8 @@ use Rattle.pytoken.specs.TerminalOf.{terminal}
 use Rattle.pygrammar.specs.Looks.{is_op, is_word, name_in}
 use Rattle.pygrammar.specs.Reader.{on_some, on_first, on_name_with}
 use Rattle.pygrammar.proofs.Callers.Terminals.{op_is, op_or_not, word_is, word_or_not}
-use Rattle.pyparse_nodes.specs.Views.{Stands, IsNamed, IsNotNamed, seen, first_of, first_is}
-use Rattle.pyparse_nodes.proofs.Callers.Places.{front}
+use Rattle.pyparse_looks.specs.Views.{Stands, IsNamed, IsNotNamed, seen, first_of, first_is}
+use Rattle.pyparse_looks.proofs.Callers.Places.{front}
 
 -- what a test of the first terminal says, where it is known
 tested : (ts : List given.Terminal) (at : ℕ) (t : Terminal) (f : Terminal → Option ℕ) → first_of (seen ts at) ≡ Some t → f t ≡ None

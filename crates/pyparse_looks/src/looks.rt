@@ -8,9 +8,9 @@ ghost use Rattle.pytoken.specs.StringValues.{string_value};
 ghost use Rattle.pygrammar.specs.Precedence as precedence;
 ghost use Rattle.pygrammar.specs.Looks as signs;
 ghost use Rattle.pytoken.specs.Terminals as plain;
-ghost use Rattle.pyparse_nodes.specs.Views.{IsNamed, IsNotNamed, Stands, first_is, first_of, lead_of};
-ghost use Rattle.pyparse_nodes.specs.Views.{seen};
-ghost use Rattle.pyparse_nodes.specs.Alone.{alone, atom_with, end_with, ends};
+ghost use Rattle.pyparse_looks.specs.Views.{IsNamed, IsNotNamed, Stands, first_is, first_of, lead_of};
+ghost use Rattle.pyparse_looks.specs.Views.{seen};
+ghost use Rattle.pyparse_looks.specs.Alone.{alone, atom_with, end_with, ends};
 ghost use Rattle.pygrammar.specs.Looks.{literal_in};
 ghost use Rattle.pytoken.specs.TerminalOf.{literal_characters, terminal};
 

@@ -2,8 +2,8 @@
 
 ghost use Rattle.std.specs.Prelude.{◌≡◌, ◌<◌, IfSome, MatchBool, None, is_some, length};
 ghost use Rattle.pygrammar.specs.Looks as signs;
-ghost use Rattle.pyparse_nodes.specs.Marks.{conversion_of, mark_terminal, marks, points_of};
-ghost use Rattle.pyparse_nodes.specs.Views.{Stands, first_is, seen};
+ghost use Rattle.pyparse_looks.specs.Marks.{conversion_of, mark_terminal, marks, points_of};
+ghost use Rattle.pyparse_looks.specs.Views.{Stands, first_is, seen};
 ghost use Rattle.pytoken.specs.TerminalOf.{terminal};
 
 use crate::looks::terminal_at;

@@ -5,10 +5,10 @@ use Rattle.pytoken.specs.FormattedStrings.{text_points}
 use Rattle.pytoken.specs.TerminalOf.{text_part}
 use Rattle.pytoken.specs.Terminals as tokens
 use Rattle.pygrammar.specs.Looks.{is_formatted_begin, is_formatted_end, is_spec_begin, is_field_end}
-use Rattle.pyparse_nodes.specs.declared.marks.Mark.{Mark}
-use Rattle.pyparse_nodes.specs.declared.marks.Mark.TheVariants as mark
-use Rattle.pyparse_nodes.specs.declared.marks.Part.{Part}
-use Rattle.pyparse_nodes.specs.declared.marks.Part.TheVariants as part
+use Rattle.pyparse_looks.specs.declared.marks.Mark.{Mark}
+use Rattle.pyparse_looks.specs.declared.marks.Mark.TheVariants as mark
+use Rattle.pyparse_looks.specs.declared.marks.Part.{Part}
+use Rattle.pyparse_looks.specs.declared.marks.Part.TheVariants as part
 
 -- the terminal of a mark, and the test for it
 abbrev pub mark_terminal : Mark → tokens.Terminal

@@ -3,7 +3,7 @@ use Rattle.std.specs.Prelude.{List, [], ◌∷◌, Bool, true, false, ◌&&◌}
 use Rattle.pylex_lexeme.specs.declared.kinds.Exact.TheVariants.{RPar, RSqb, RBrace, Colon, Comma, Equal}
 use Rattle.pytoken.specs.Terminals.{Terminal, Op, Ident, Number, Literal}
 use Rattle.pygrammar.specs.Reader.{on_some}
-use Rattle.pyparse_nodes.specs.Views.{first_of}
+use Rattle.pyparse_looks.specs.Views.{first_of}
 
 -- the terminals that are atoms by themselves, but for signs and words
 abbrev pub atom_with : Terminal → Bool

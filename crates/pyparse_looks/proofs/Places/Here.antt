@@ -3,7 +3,7 @@
 -- Carries: terminal_at. On: Views.
 use Rattle.std.proofs.Common.{◌≡◌, ℕ, zero, suc, ◌≤◌, ◌<◌, List, [], ◌∷◌, length, get_or, refl, arith, Some, None}
 use Rattle.pytoken.specs.declared.values.terminals.Terminal as given
-use Rattle.pyparse_nodes.specs.Views.{seen, first_of}
+use Rattle.pyparse_looks.specs.Views.{seen, first_of}
 use Rattle.pytoken.specs.TerminalOf.{terminal}
 
 pub here : (ts : List given.Terminal) (at : ℕ) (d : given.Terminal) → at < length ts

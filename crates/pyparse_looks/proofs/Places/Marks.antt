@@ -6,11 +6,11 @@ use Rattle.pytoken.specs.Terminals as tokens
 use Rattle.pytoken.specs.Terminals.{Terminal}
 use Rattle.pytoken.specs.declared.values.terminals.Terminal as given
 use Rattle.pygrammar.specs.Reader.{on_some}
-use Rattle.pyparse_nodes.specs.declared.marks.Mark.{Mark}
-use Rattle.pyparse_nodes.specs.declared.marks.Mark.TheVariants as mark
-use Rattle.pyparse_nodes.specs.Marks.{mark_terminal, marks}
-use Rattle.pyparse_nodes.specs.Views.{Stands, seen, first_of, first_is}
-use Rattle.pyparse_nodes.proofs.Callers.Places.{front}
+use Rattle.pyparse_looks.specs.declared.marks.Mark.{Mark}
+use Rattle.pyparse_looks.specs.declared.marks.Mark.TheVariants as mark
+use Rattle.pyparse_looks.specs.Marks.{mark_terminal, marks}
+use Rattle.pyparse_looks.specs.Views.{Stands, seen, first_of, first_is}
+use Rattle.pyparse_looks.proofs.Callers.Places.{front}
 
 hit : (m : Mark) (t : Terminal) → true ≡ is_some (marks m t) → t ≡ mark_terminal m
 hit mark.FormattedBegin tokens.FormattedBegin h = refl

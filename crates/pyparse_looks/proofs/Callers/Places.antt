@@ -5,7 +5,7 @@ use Rattle.std.proofs.Common.{◌≡◌, ap, ◌∙◌, ℕ, ◌+◌, List, [], 
 use Rattle.pytoken.specs.Terminals.{Terminal}
 use Rattle.pytoken.specs.declared.values.terminals.Terminal as given
 use Rattle.pytoken.specs.TerminalOf.{terminal}
-use Rattle.pyparse_nodes.specs.Views.{seen, first_of}
+use Rattle.pyparse_looks.specs.Views.{seen, first_of}
 
 uncons : (xs : List Terminal) (t : Terminal) → first_of xs ≡ Some t → xs ≡ t ∷ drop 1 xs
 uncons [] t h = absurd (cc)

@@ -16,7 +16,7 @@ pub enum Stop {
 }
 
 impl From<AllocError> for Stop {
-    ghost use Rattle.pyparse_nodes.specs.declared.stop.Stop.TheVariants.{Memory};
+    ghost use Rattle.pyparse_looks.specs.declared.stop.Stop.TheVariants.{Memory};
 
     ghost from_gives = { λ error r. r ≡ Memory };
 
@@ -26,7 +26,7 @@ impl From<AllocError> for Stop {
 }
 
 impl<T: Drop> From<AllocFailed<T>> for Stop {
-    ghost use Rattle.pyparse_nodes.specs.declared.stop.Stop.TheVariants.{Memory};
+    ghost use Rattle.pyparse_looks.specs.declared.stop.Stop.TheVariants.{Memory};
 
     ghost from_gives = { λ error r. r ≡ Memory };
 

@@ -2,5 +2,4 @@
 pub mod Here
 pub mod Stands
 pub mod Alone
-pub mod Runs
 pub mod Marks

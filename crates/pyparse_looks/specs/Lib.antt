@@ -1,0 +1,4 @@
+pub mod Views
+pub mod Alone
+pub mod Operators
+pub mod Marks
