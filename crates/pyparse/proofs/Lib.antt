@@ -1,7 +1,3 @@
 mod TokenListLemmas
-mod LastLineLemmas
-mod ProgressLemmas
-mod FinishLemmas
 mod PlacedLemmas
 mod PlacedEnds
-mod CaseLines

@@ -18,8 +18,8 @@ use Rattle.pyplaces_blocks.specs.StateOf.{Follows}
 use Rattle.pyparse.specs.declared.placed.PlacedProgress.{PlacedProgress}
 use Rattle.pyparse.specs.Placed.{PlacedAs}
 use Rattle.pyparse.specs.Inner.PlacedLines.{PlacedLines, IsPlaced}
-use Rattle.pyparse.specs.Inner.Progressing.{Closes, is_unread}
-use Rattle.pyparse.proofs.FinishLemmas.{all_lines}
+use Rattle.pyparse_known.specs.Known.{Closes, is_unread}
+use Rattle.pyparse_known.proofs.Callers.FinishLemmas.{all_lines}
 
 -- the places that are kept are those of the module
 pub placed_as : {profile : Profile} {s : Source} {k : ℕ} {end : Place} {p : PlacedProgress} (bytes : List ℕ)

@@ -29,9 +29,9 @@ use Rattle.pyplaces.specs.Recording.{Recording, recording, recorded, Records, af
 use Rattle.pyplaces.specs.Stretches.{Stretch, span_of}
 use Rattle.pyplaces.proofs.Moves.{recorded_all}
 use Rattle.pyparse.specs.Inner.PlacedLines.{PlacedLines}
-use Rattle.pyparse.specs.Inner.Progressing.{first_lines, Comes}
+use Rattle.pyparse_known.specs.Known.{first_lines, Comes}
 use Rattle.pyparse.specs.Inner.Reading.{IsFound, RunsOf}
-use Rattle.pyparse.proofs.ProgressLemmas.{starts_held, place_held, next_lines}
+use Rattle.pyparse_known.proofs.Callers.ProgressLemmas.{starts_held, place_held, next_lines}
 
 -- ---- The form of the line that is held.
 

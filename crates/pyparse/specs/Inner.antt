@@ -1,4 +1,3 @@
-pub mod LastLines
 pub mod Progressing
 pub mod Reading
 pub mod PlacedLines

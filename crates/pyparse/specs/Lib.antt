@@ -1,10 +1,10 @@
 pub mod TokenLists
 pub mod Expressions
 pub mod Patterns
-pub mod Places
-pub mod Modules
 pub mod Placed
 pub mod Inner
+pub use Rattle.pyparse_known.specs.Modules
+pub use Rattle.pyparse_known.specs.Places
 pub use Rattle.pyparse_tokens.specs.Answers
 pub use Rattle.pyparse_tokens.specs.LineReadings
 pub use Rattle.pyparse_tokens.specs.declared.faults.GrammarError

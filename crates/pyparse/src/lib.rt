@@ -16,12 +16,11 @@
 //! one is that is no f-string. These are of `pytoken`.
 //!
 //! The words of contracts are those of these two crates and of `pygrammar`, and here in `specs/`
-//! those of `TokenLists`, `Expressions`, `Patterns`, `Places` and `Modules`.
+//! those of `TokenLists`, `Expressions` and `Patterns`, with `Places` and `Modules` of
+//! `pyparse_known`.
 #![tactic(auto)]
 
 mod expressions;
-mod known;
-mod last_lines;
 mod modules;
 mod patterns;
 mod placed;

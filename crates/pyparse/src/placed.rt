@@ -14,10 +14,10 @@ ghost use Rattle.pyplaces.specs.BlockPlaces.{whole_of};
 ghost use Rattle.pyplaces.specs.Laws as places_laws;
 ghost use Rattle.pyplaces_laws.specs.Laws.{SourcePlacesAreLawful};
 ghost use Rattle.pyplaces_unique.specs.Laws.{PlacesAreUnique};
-ghost use Rattle.pyparse.specs.Modules.{Refuses};
+ghost use Rattle.pyparse_known.specs.Modules.{Refuses};
 ghost use Rattle.pyparse.specs.Placed.{PlacedAs};
 ghost use Rattle.pyparse.specs.Inner.PlacedLines.{IsPlaced};
-ghost use Rattle.pyparse.specs.Inner.Progressing.{Closes};
+ghost use Rattle.pyparse_known.specs.Known.{Closes};
 
 use crate::progress::Progress;
 use pyparse_line::LineRead;

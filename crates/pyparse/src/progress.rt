@@ -15,13 +15,13 @@ ghost use Rattle.pygrammar.specs.Lines.{Line, line};
 ghost use Rattle.pygrammar.specs.Refusals.{terminals, is_left_out, Accepted, Unread};
 ghost use Rattle.pyparse_line.specs.Lines.{Refused};
 ghost use Rattle.pyparse_tokens.specs.LineReadings.{HoldsLine};
-ghost use Rattle.pyparse.specs.Modules.{code_of, Refuses};
-ghost use Rattle.pyparse.specs.Inner.Progressing.{is_unread, IsProgress, Closes, Comes};
+ghost use Rattle.pyparse_known.specs.Modules.{code_of, Refuses};
+ghost use Rattle.pyparse_known.specs.Known.{is_unread, Closes, Comes};
+ghost use Rattle.pyparse.specs.Inner.Progressing.{IsProgress};
 ghost use Rattle.pyparse.specs.Inner.Reading.{Holds, Reads};
 
-use crate::known::Known;
-use crate::last_lines::LastLines;
 use pygrammar::{Form, Header};
+use pyparse_known::{Known, LastLines};
 use pyparse_line::{LineRead, read_line};
 use pyparse_looks::Stop;
 use pyparse_tokens::{GrammarError, LogicalLines, ParseFault};

@@ -11,8 +11,8 @@ use Rattle.pyplaces.specs.FormPlaces.{FormPlaces, places_at}
 use Rattle.pyplaces.specs.Recording.{Records, afters}
 use Rattle.pyplaces.specs.Stretches.{Stretch}
 use Rattle.pyparse.specs.declared.progress.Progress.{Progress}
-use Rattle.pyparse.specs.Inner.LastLines.{HoldsLastLines}
-use Rattle.pyparse.specs.Inner.Progressing.{is_unread, IsKnown, Comes}
+use Rattle.pyparse_known.specs.LastLines.{HoldsLastLines}
+use Rattle.pyparse_known.specs.Known.{is_unread, IsKnown, Comes}
 
 -- these are the forms of so many lines, or of those up to the first that has none, and it says where a further line stands
 pub record Holds (profile : Profile) (s : Source) (k : ℕ) (forms : List Line) (p : Progress) : Type 0 where

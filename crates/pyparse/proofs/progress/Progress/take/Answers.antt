@@ -7,7 +7,7 @@ use Rattle.pygrammar.specs.Blocks.{stands_in_match}
 use Rattle.pygrammar.specs.FormOf.{form_of}
 use Rattle.pygrammar.specs.Lines.{line}
 use Rattle.pyparse_line.specs.Lines.{Refused}
-use Rattle.pyparse.proofs.ProgressLemmas.{comes_held, unread_stays}
+use Rattle.pyparse_known.proofs.Callers.ProgressLemmas.{comes_held, unread_stays}
 use Rattle.pyparse.proofs.progress.Progress.take.Goals as goal
 
 pub returns-then-is_unread : goal.returns-then-is_unread

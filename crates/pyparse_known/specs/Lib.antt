@@ -1,0 +1,4 @@
+pub mod Modules
+pub mod Places
+pub mod Known
+pub mod LastLines
