@@ -10,13 +10,13 @@ use Rattle.pysource.specs.Parts.{Parts}
 use Rattle.pysource.specs.Streams.{Reads}
 use Rattle.pysource.specs.Limits.{source_limit}
 use Rattle.pysource.proofs.Callers.Taken.{Appends-refl, ReadsBytes-none, ReadsBytes-on}
-use Rattle.pylex.specs.declared.entries.Entry.{Entry}
-use Rattle.pylex.specs.declared.entries.ListingFault.{ListingFault}
-use Rattle.pylex.specs.declared.entries.Step.{Step}
-use Rattle.pylex.specs.declared.entries.Step.TheVariants as steps
-use Rattle.pylex.specs.Listing.{in_characters, listing}
-use Rattle.pylex.specs.ListingLines.{listing_line, text_of}
-use Rattle.pylex.specs.Steps.{most_entries}
+use Rattle.pylex_listing.specs.declared.entries.Entry.{Entry}
+use Rattle.pylex_listing.specs.declared.entries.ListingFault.{ListingFault}
+use Rattle.pylex_listing.specs.declared.entries.Step.{Step}
+use Rattle.pylex_listing.specs.declared.entries.Step.TheVariants as steps
+use Rattle.pylex_listing.specs.Listing.{in_characters, listing}
+use Rattle.pylex_listing.specs.ListingLines.{listing_line, text_of}
+use Rattle.pylex_listing.specs.Steps.{most_entries}
 use Rattle.pylex.specs.Streamed.{Streamed, StreamsIn, Next, Continues}
 use Rattle.pylex.proofs.Callers.{end_last, fault_last}
 use Rattle.pyast_fault.specs.Faults.{of_listing}

@@ -18,14 +18,13 @@ use Rattle.pysource.specs.declared.encodings.SourceFault.{SourceFault}
 use Rattle.pysource.specs.declared.encodings.SourceFault.TheVariants as source_faults
 use Rattle.pysource.proofs.Callers.Taken.{Appends-refl}
 use Rattle.pysource.proofs.Callers.Faults.{good_utf8}
-use Rattle.pylex.specs.Laws.{IsLawful}
-use Rattle.pylex.specs.declared.entries.Entry.{Entry}
-use Rattle.pylex.specs.declared.entries.ListingError.{ListingError}
-use Rattle.pylex.specs.declared.entries.ListingError.TheVariants as errors
-use Rattle.pylex.specs.declared.entries.ListingFault.{ListingFault}
-use Rattle.pylex.specs.Listing.{Source, in_characters, listing}
-use Rattle.pylex.specs.Steps.{entries_of}
-use Rattle.pylex.specs.Steps.{fault_of as listing_fault}
+use Rattle.pylex_listing.specs.Laws.{IsLawful}
+use Rattle.pylex_listing.specs.declared.entries.Entry.{Entry}
+use Rattle.pylex_listing.specs.declared.entries.ListingError.{ListingError}
+use Rattle.pylex_listing.specs.declared.entries.ListingError.TheVariants as errors
+use Rattle.pylex_listing.specs.declared.entries.ListingFault.{ListingFault}
+use Rattle.pylex_listing.specs.Listing.{Source, in_characters, listing}
+use Rattle.pylex_listing.specs.Steps.{entries_of, fault_of as listing_fault}
 use Rattle.pylex.specs.Streamed.{is_unread_code}
 use Rattle.pysource.specs.declared.faults.LineError.TheVariants as line_errors
 use Rattle.pytoken.specs.declared.faults.TokenError.{TokenError}

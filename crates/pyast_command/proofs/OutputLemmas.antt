@@ -6,14 +6,14 @@ use Rattle.std.proofs.Common.{◌≡◌, ◌≢◌, ℕ, zero, suc, ◌+◌, ◌
 use Rattle.std.proofs.Common.{length, slice_get, refl, sym, ap, ◌∙◌, Option, Some, None, append_assoc, append-nil, nat_le, arith}
 use Rattle.std.proofs.lemmas.Bool.Decides.{nat_tests}
 use Rattle.pysource.specs.Parts.{Parts}
-use Rattle.pylex.specs.declared.entries.Entry.{Entry}
-use Rattle.pylex.specs.declared.entries.Step.TheVariants as steps
-use Rattle.pylex.specs.declared.kind.Kind.{Kind}
+use Rattle.pylex_listing.specs.declared.entries.Entry.{Entry}
+use Rattle.pylex_listing.specs.declared.entries.Step.TheVariants as steps
+use Rattle.pylex_listing.specs.declared.kind.Kind.{Kind}
 use Rattle.pylex.specs.Cursors.{CursorParts, cursor}
 use Rattle.pylex.specs.Standing.{IsCursorOf}
-use Rattle.pylex.specs.Listing.{in_characters, listing, rest}
-use Rattle.pylex.specs.ListingLines.{listing_line, text_of}
-use Rattle.pylex.specs.Steps.{entries_of}
+use Rattle.pylex_listing.specs.Listing.{in_characters, listing, rest}
+use Rattle.pylex_listing.specs.ListingLines.{listing_line, text_of}
+use Rattle.pylex_listing.specs.Steps.{entries_of}
 use Rattle.pyast_command.specs.Listings.{is_marker, stops_after, lines_of, cursor_line, told_of, left_behind, output_from, fault_from}
 use Rattle.pyast_command.specs.Runs.{TakesAllBut}
 use Rattle.pyast_command.proofs.RunLemmas.{TakesAllBut-held}

@@ -6,7 +6,7 @@ use Rattle.std.proofs.Common.{◌∙◌, append_assoc, append-nil}
 use Rattle.std.specs.Io.KnownBytes.{Appends}
 use Rattle.pysource.specs.Bytes.{Seen, TakesFront}
 use Rattle.pysource.proofs.Callers.Taken.{Appends-append, TakesFront-after}
-use Rattle.pylex.specs.declared.entries.ListingFault.{ListingFault}
+use Rattle.pylex_listing.specs.declared.entries.ListingFault.{ListingFault}
 use Rattle.pyast_fault.specs.Faults.{listing_code, told_at, of_listing, IsToldAs}
 use Rattle.pyast_words.specs.declared.command.Command.{Command}
 use Rattle.pyast_words.specs.declared.command.Command.TheVariants.{Tokens, Dump, Unparse}

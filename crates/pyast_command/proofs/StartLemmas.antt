@@ -17,15 +17,15 @@ use Rattle.pysource.specs.declared.line_reader.Reach.TheVariants as reach
 use Rattle.pysource.specs.declared.line_reader.StreamFault.{StreamFault}
 use Rattle.pysource.specs.declared.line_reader.StreamFault.TheVariants as stream_faults
 use Rattle.pysource.proofs.Callers.Taken.{Appends-refl, ReadsBytes-on}
-use Rattle.pylex.specs.declared.entries.ListingError.{ListingError}
-use Rattle.pylex.specs.declared.entries.ListingError.TheVariants as errors
-use Rattle.pylex.specs.declared.entries.ListingFault.{ListingFault}
+use Rattle.pylex_listing.specs.declared.entries.ListingError.{ListingError}
+use Rattle.pylex_listing.specs.declared.entries.ListingError.TheVariants as errors
+use Rattle.pylex_listing.specs.declared.entries.ListingFault.{ListingFault}
 use Rattle.pylex.specs.declared.line_lister.ResumeFault.{ResumeFault}
 use Rattle.pylex.specs.declared.line_lister.ResumeFault.TheVariants as resumes
 use Rattle.pylex.specs.Cursors.{CursorParts}
-use Rattle.pylex.specs.Listing.{in_characters, listing}
+use Rattle.pylex_listing.specs.Listing.{in_characters, listing}
 use Rattle.pylex.specs.Standing.{IsCursorOf}
-use Rattle.pylex.specs.Steps.{entries_of, fault_of}
+use Rattle.pylex_listing.specs.Steps.{entries_of, fault_of}
 use Rattle.pylex.specs.Streamed.{Streamed, StreamsIn, Begins, Misses, ResumeRefusal, EndsUnread, is_unread_code}
 use Rattle.pyast_fault.specs.Faults.{of_resume, of_stream}
 use Rattle.pyast_command.specs.Listings.{start_in, ends_unread, missed, tokens_output, tokens_fault}

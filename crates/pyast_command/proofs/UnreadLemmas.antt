@@ -23,24 +23,24 @@ use Rattle.pysource.specs.declared.faults.LineError.{LineError}
 use Rattle.pysource.specs.declared.faults.LineError.TheVariants as line_errors
 use Rattle.pysource.specs.declared.faults.LineFault.{LineFault}
 use Rattle.pysource.specs.declared.places.Place.{Place}
-use Rattle.pylex.specs.declared.entries.Entry.{Entry}
-use Rattle.pylex.specs.declared.entries.ListingError.{ListingError}
-use Rattle.pylex.specs.declared.entries.ListingError.TheVariants as errors
-use Rattle.pylex.specs.declared.entries.ListingFault.{ListingFault}
-use Rattle.pylex.specs.declared.entries.Step.{Step}
-use Rattle.pylex.specs.declared.entries.Step.TheVariants as steps
-use Rattle.pylex.specs.declared.kind.Kind.TheVariants as kinds
+use Rattle.pylex_listing.specs.declared.entries.Entry.{Entry}
+use Rattle.pylex_listing.specs.declared.entries.ListingError.{ListingError}
+use Rattle.pylex_listing.specs.declared.entries.ListingError.TheVariants as errors
+use Rattle.pylex_listing.specs.declared.entries.ListingFault.{ListingFault}
+use Rattle.pylex_listing.specs.declared.entries.Step.{Step}
+use Rattle.pylex_listing.specs.declared.entries.Step.TheVariants as steps
+use Rattle.pylex_listing.specs.declared.kind.Kind.TheVariants as kinds
 use Rattle.pylex.specs.Class.{Class}
 use Rattle.pylex.specs.Class.TheVariants.{Name, Number, String, Operator, Comment, Blanks, LineEnd, Join}
 use Rattle.pylex.specs.Cursors.{CursorParts}
 use Rattle.pylex.specs.Lexemes.{Lexeme, cut, left_by_cut, is_open_string}
-use Rattle.pylex.specs.Indentation.{open_levels, width_at, widths, dedents, layout, layout_by}
-use Rattle.pylex.specs.Lines.{text_before, depth, is_significant, is_at_margin, is_logical}
+use Rattle.pylex_listing.specs.Indentation.{open_levels, width_at, widths, dedents, layout, layout_by}
+use Rattle.pylex_listing.specs.Lines.{text_before, depth, is_significant, is_at_margin, is_logical}
 use Rattle.pylex.specs.Chars.{bytes_in}
-use Rattle.pylex.specs.Listing.{Source, in_characters, of_line, listing, rest, entry_of, steps_of, stop_fault, begins_comment, last_line}
-use Rattle.pylex.specs.Listing.{line_end_of_last, end_place, ends_in_join, tail, stop, steps_from, up_to_end}
+use Rattle.pylex_listing.specs.Listing.{Source, in_characters, of_line, listing, rest, entry_of, steps_of, stop_fault, begins_comment}
+use Rattle.pylex_listing.specs.Listing.{last_line, line_end_of_last, end_place, ends_in_join, tail, stop, steps_from, up_to_end}
 use Rattle.pylex.specs.Operators.{is_closer}
-use Rattle.pylex.specs.Steps.{entries_of, fault_of, fault_at}
+use Rattle.pylex_listing.specs.Steps.{entries_of, fault_of, fault_at}
 use Rattle.pylex.specs.Strings.{opens_string}
 use Rattle.pylex.specs.Streamed.{is_unread_code}
 use Rattle.pyast_fault.specs.Faults.{listing_code, told_at, of_listing}

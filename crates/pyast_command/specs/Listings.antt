@@ -5,15 +5,15 @@ use Rattle.std.specs.List.{flat_map}
 use Rattle.pysource.specs.Parts.{Parts}
 use Rattle.pysource.specs.Streams.{stream_of}
 use Rattle.pysource.specs.declared.line_reader.StreamFault.{StreamFault}
-use Rattle.pylex.specs.declared.entries.Entry.{Entry}
-use Rattle.pylex.specs.declared.entries.Step.{Step}
-use Rattle.pylex.specs.declared.kind.Kind.{Kind}
-use Rattle.pylex.specs.declared.kind.Kind.TheVariants.{EndMarker}
+use Rattle.pylex_listing.specs.declared.entries.Entry.{Entry}
+use Rattle.pylex_listing.specs.declared.entries.Step.{Step}
+use Rattle.pylex_listing.specs.declared.kind.Kind.{Kind}
+use Rattle.pylex_listing.specs.declared.kind.Kind.TheVariants.{EndMarker}
 use Rattle.pylex.specs.Cursors.{CursorParts, cursor, cursor_text}
-use Rattle.pylex.specs.Listing.{Source, listing, rest, in_characters}
+use Rattle.pylex_listing.specs.Listing.{Source, listing, rest, in_characters}
 use Rattle.pylex.specs.Standing.{is_cursor_of}
-use Rattle.pylex.specs.Steps.{entries_of, fault_of}
-use Rattle.pylex.specs.ListingLines.{listing_line, text_of}
+use Rattle.pylex_listing.specs.Steps.{entries_of, fault_of}
+use Rattle.pylex_listing.specs.ListingLines.{listing_line, text_of}
 use Rattle.pylex.specs.Streamed.{is_unread_code}
 use Rattle.pyast_fault.specs.Faults.{of_listing, of_stream}
 use Rattle.pyast_fault.specs.declared.fault.RunFaultCode.{RunFaultCode}

@@ -3,8 +3,8 @@ ghost use Rattle.std.specs.Prelude.{◌+◌, ◌-◌, ◌^◌, ◌<◌, ◌≤�
 ghost use Rattle.std.specs.Str.{encode_utf8_all};
 ghost use Rattle.pysource.specs.Limits.{source_limit};
 ghost use Rattle.pysource.specs.Sources.{UnlessMemory, source_of};
-ghost use Rattle.pylex.specs.Laws.{IsLawful};
-ghost use Rattle.pylex.specs.Listing.{in_characters};
+ghost use Rattle.pylex_listing.specs.Laws.{IsLawful};
+ghost use Rattle.pylex_listing.specs.Listing.{in_characters};
 ghost use Rattle.pytree_node.specs.TreeOf.{module_of};
 ghost use Rattle.pyunparse_text.specs.Modules.{module_text};
 ghost use Rattle.pyunparse.specs.RoundTrips.{GivesBack};

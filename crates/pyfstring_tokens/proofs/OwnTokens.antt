@@ -9,9 +9,9 @@ use Rattle.std.proofs.lemmas.List.Sums.{sum_by-cons}
 use Rattle.std.proofs.lemmas.Bool.{or_parts}
 use Rattle.pylex_lexeme.specs.Lexemes.{Lexeme, lexeme_at, cut, left_by_cut}
 use Rattle.pylex_lexeme.proofs.Callers.Lexemes.{none_is, nothing_takes}
-use Rattle.pylex.specs.Laws.{AreLexemes}
-use Rattle.pylex.specs.Lines.{opens, closes, count_if}
-use Rattle.pylex.proofs.Callers.{cut_lexed}
+use Rattle.pylex_listing.specs.Laws.{AreLexemes}
+use Rattle.pylex_listing.specs.Lines.{opens, closes, count_if}
+use Rattle.pylex_listing.proofs.Callers.{cut_lexed}
 use Rattle.pyfstring_tokens.specs.FieldTokens.{is_gap, is_comment_class, is_of_comment, tokens_ahead, opening, closing, has_fault}
 use Rattle.pyfstring_tokens.specs.FieldTokens.{closes_none, closes_outer, has_comment}
 use Rattle.pyfstring_tokens.specs.Standing.{StandsAt}

@@ -11,7 +11,7 @@ use Rattle.pylex_lexeme.specs.declared.lexeme.Class.TheVariants.{Comment}
 use Rattle.pylex_lexeme.specs.Lexemes.{is_opener_class, is_closer_class}
 use Rattle.pylex_lexeme.specs.Cuts.{Cuts}
 use Rattle.pylex_lexeme.proofs.Callers.Fronts.{length-text}
-use Rattle.pylex.specs.Lines.{count_if}
+use Rattle.pylex_listing.specs.Lines.{count_if}
 use Rattle.pyfstring_tokens.specs.declared.faults.FieldFault.{FieldFault}
 use Rattle.pyfstring_tokens.specs.declared.faults.FieldFault.TheVariants as faults
 use Rattle.pyfstring_tokens.specs.FieldTokens.{has_fault, closes_outer}

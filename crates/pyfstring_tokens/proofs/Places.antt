@@ -13,14 +13,14 @@ use Rattle.pylex_lexeme.specs.declared.kinds.Exact.TheVariants.{LPar, RPar}
 use Rattle.pylex_lexeme.specs.declared.lexeme.Class.{Class}
 use Rattle.pylex_lexeme.specs.declared.lexeme.Class.TheVariants.{Name, Number, String, Operator, Comment, Blanks, LineEnd, Join}
 use Rattle.pylex_lexeme.specs.Lexemes.{Lexeme, lexeme_at, cut, is_opener_class, is_closer_class}
-use Rattle.pylex.specs.declared.kind.Kind.TheVariants as kinds
-use Rattle.pylex.specs.declared.entries.Step.{Step}
-use Rattle.pylex.specs.declared.entries.Step.TheVariants as steps
-use Rattle.pylex.specs.Lines.{opens, closes, count_if}
-use Rattle.pylex.specs.Steps.{entries_of, fault_of, mark}
-use Rattle.pylex.specs.Listing.{listing, up_to_end, origin}
-use Rattle.pylex.specs.Machine.{State, after, gives, layout_of, entry_by, first_state, remaining}
-use Rattle.pylex.proofs.Callers.{listing_is}
+use Rattle.pylex_listing.specs.declared.kind.Kind.TheVariants as kinds
+use Rattle.pylex_listing.specs.declared.entries.Step.{Step}
+use Rattle.pylex_listing.specs.declared.entries.Step.TheVariants as steps
+use Rattle.pylex_listing.specs.Lines.{opens, closes, count_if}
+use Rattle.pylex_listing.specs.Steps.{entries_of, fault_of, mark}
+use Rattle.pylex_listing.specs.Listing.{listing, up_to_end, origin}
+use Rattle.pylex_listing.specs.Machine.{State, after, gives, layout_of, entry_by, first_state, remaining}
+use Rattle.pylex_listing.proofs.Callers.{listing_is}
 use Rattle.pyfstring_tokens.specs.FieldTokens.{is_gap, FieldToken, parenthesized, field_source, token_of, tokens_among, field_tokens}
 use Rattle.pyfstring_tokens.specs.FieldTokens.{tokens_ahead, has_fault, opening, closing, closes_none, closes_outer, is_comment_class}
 use Rattle.pyfstring_tokens.specs.FieldTokens.{is_of_comment, has_comment}

@@ -13,17 +13,17 @@ use Rattle.pylex_lexeme.specs.Strings.{opens_string}
 use Rattle.pylex_lexeme.specs.declared.lexeme.Class.{Class}
 use Rattle.pylex_lexeme.specs.declared.lexeme.Class.TheVariants.{Name, Number, String, Operator, Comment, Blanks, LineEnd, Join}
 use Rattle.pylex_lexeme.specs.Lexemes.{Lexeme, lexeme_at, cut, left_by_cut, is_closer_class, is_open_string}
-use Rattle.pylex.specs.declared.kind.Kind.TheVariants as kinds
-use Rattle.pylex.specs.declared.entries.Entry.{Entry}
-use Rattle.pylex.specs.declared.entries.ListingError.TheVariants as errors
-use Rattle.pylex.specs.declared.entries.Step.{Step}
-use Rattle.pylex.specs.declared.entries.Step.TheVariants as steps
-use Rattle.pylex.specs.Lines.{is_significant, is_of_line_end, is_of_blanks}
-use Rattle.pylex.specs.Steps.{entries_of, fault_of, fault_at}
-use Rattle.pylex.specs.Listing.{stop_fault, up_to_end, further}
-use Rattle.pylex.specs.Machine.{State, past, after, layout_of, entry_by, gives, last_line_end, is_hash, dedents_at, mark_at, last_place}
-use Rattle.pylex.specs.Machine.{tail_of, stop_of, run, remaining}
-use Rattle.pylex.specs.Spots.{kind_of, operator_of}
+use Rattle.pylex_listing.specs.declared.kind.Kind.TheVariants as kinds
+use Rattle.pylex_listing.specs.declared.entries.Entry.{Entry}
+use Rattle.pylex_listing.specs.declared.entries.ListingError.TheVariants as errors
+use Rattle.pylex_listing.specs.declared.entries.Step.{Step}
+use Rattle.pylex_listing.specs.declared.entries.Step.TheVariants as steps
+use Rattle.pylex_listing.specs.Lines.{is_significant, is_of_line_end, is_of_blanks}
+use Rattle.pylex_listing.specs.Steps.{entries_of, fault_of, fault_at}
+use Rattle.pylex_listing.specs.Listing.{stop_fault, up_to_end, further}
+use Rattle.pylex_listing.specs.Machine.{State, past, after, layout_of, entry_by, gives, last_line_end, is_hash, dedents_at, mark_at}
+use Rattle.pylex_listing.specs.Machine.{last_place, tail_of, stop_of, run, remaining}
+use Rattle.pylex_listing.specs.EntryKinds.{kind_of, operator_of}
 use Rattle.pyfstring_tokens.specs.FieldTokens.{is_gap, is_token_kind, token_of, tokens_among, is_comment_class}
 use Rattle.pyfstring_tokens.proofs.Cutting.{cut_some, cut_none, cut_nil}
 

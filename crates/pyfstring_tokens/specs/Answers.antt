@@ -1,7 +1,7 @@
 -- What the calls of a reader of a field's tokens answer.
 use Rattle.std.specs.Prelude.{◌≡◌, ℕ, ◌+◌, true, false, List, [], ◌∷◌}
 use Rattle.pylex_lexeme.specs.declared.lexeme.Class.{Class}
-use Rattle.pylex.specs.Spots.{kind_of, operator_of}
+use Rattle.pylex_listing.specs.EntryKinds.{kind_of, operator_of}
 use Rattle.pyfstring_tokens.specs.declared.faults.FieldFault.{FieldFault}
 use Rattle.pyfstring_tokens.specs.declared.faults.FieldFault.TheVariants as faults
 use Rattle.pyfstring_tokens.specs.FieldTokens.{FieldToken, tokens_ahead, closing, has_fault, closes_outer, has_comment}

@@ -11,12 +11,12 @@ use Rattle.pylex_lexeme.specs.declared.lexeme.Class.{Class}
 use Rattle.pylex_lexeme.specs.declared.lexeme.Class.TheVariants.{Comment, Blanks, LineEnd, Join}
 use Rattle.pylex_lexeme.specs.Characters.{left_parenthesis, right_parenthesis}
 use Rattle.pylex_lexeme.specs.Lexemes.{Lexeme, cut}
-use Rattle.pylex.specs.declared.kind.Kind.{Kind}
-use Rattle.pylex.specs.declared.kind.Kind.TheVariants as kinds
-use Rattle.pylex.specs.declared.entries.Entry.{Entry}
-use Rattle.pylex.specs.Lines.{opens, closes, count_if}
-use Rattle.pylex.specs.Listing.{Source, listing}
-use Rattle.pylex.specs.Steps.{entries_of, fault_of}
+use Rattle.pylex_listing.specs.declared.kind.Kind.{Kind}
+use Rattle.pylex_listing.specs.declared.kind.Kind.TheVariants as kinds
+use Rattle.pylex_listing.specs.declared.entries.Entry.{Entry}
+use Rattle.pylex_listing.specs.Lines.{opens, closes, count_if}
+use Rattle.pylex_listing.specs.Listing.{Source, listing}
+use Rattle.pylex_listing.specs.Steps.{entries_of, fault_of}
 
 -- a text in parentheses
 abbrev pub parenthesized : List ℕ → List ℕ

@@ -1,7 +1,7 @@
 -- The tokens of a field's text are those of its own lexemes.
 use Rattle.std.specs.Prelude.{◌≡◌, ℕ, false, List, [], ◌∷◌, count_by, if◌then◌else◌}
 use Rattle.pylex_lexeme.specs.Lexemes.{Lexeme, cut, left_by_cut}
-use Rattle.pylex.specs.Lines.{opens, closes}
+use Rattle.pylex_listing.specs.Lines.{opens, closes}
 use Rattle.pyfstring_tokens.specs.FieldTokens.{FieldToken, is_gap, has_fault, closes_outer, has_comment}
 use Rattle.pyfstring_tokens.specs.Answers.{field_token}
 use Rattle.pyfstring_tokens.specs.Given.{AreAll}

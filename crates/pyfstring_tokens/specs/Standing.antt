@@ -5,9 +5,9 @@ use Rattle.std.specs.Str.{chars, all_scalars}
 use Rattle.pylex_lexeme.specs.Chars.{bytes_in}
 use Rattle.pylex_lexeme.specs.Characters.{left_parenthesis, right_parenthesis}
 use Rattle.pylex_lexeme.specs.Lexemes.{cut}
-use Rattle.pylex.specs.Listing.{listing}
-use Rattle.pylex.specs.Machine.{State, remaining}
-use Rattle.pylex.specs.Steps.{entries_of, fault_of}
+use Rattle.pylex_listing.specs.Listing.{listing}
+use Rattle.pylex_listing.specs.Machine.{State, remaining}
+use Rattle.pylex_listing.specs.Steps.{entries_of, fault_of}
 use Rattle.pyfstring_tokens.specs.declared.field_tokens.FieldTokens.{FieldTokens}
 use Rattle.pyfstring_tokens.specs.FieldTokens.{parenthesized, field_source, field_tokens, tokens_among, tokens_ahead, opening, closes_none}
 use Rattle.pyfstring_tokens.specs.FieldTokens.{closes_outer, is_of_comment, has_comment}

@@ -4,7 +4,7 @@ ghost use Rattle.std.specs.Prelude.{◌≡◌, ◌<◌, ◌+◌, ◌-◌, ◌^�
 ghost use Rattle.std.specs.Prelude.{IfOk, IfErr, IfSome, IfNone, []};
 ghost use Rattle.std.specs.Str.{chars};
 ghost use Rattle.pylex_lexeme.specs.Lexemes.{is_opener_class, is_closer_class};
-ghost use Rattle.pylex.specs.Lines.{count_if};
+ghost use Rattle.pylex_listing.specs.Lines.{count_if};
 ghost use Rattle.pyfstring_tokens.specs.FieldTokens.{is_gap, is_comment_class};
 ghost use Rattle.pyfstring_tokens.specs.Answers.{Gives, Ends, Refuses};
 ghost use Rattle.pyfstring_tokens.specs.Inner.Passing.{Passes, TokenAhead, Stops};

@@ -7,23 +7,19 @@ use Rattle.std.proofs.Common.{subst, Some, None, slice_get, nat_le, arith}
 use Rattle.std.proofs.lemmas.Bool.Decides.{nat_tests}
 use lib.Pointwise.{bytes_decides}
 use Rattle.std.proofs.lemmas.Bool.{and_parts}
-use Rattle.pylex.specs.declared.entries.Entry.{Entry}
-use Rattle.pylex.specs.declared.entries.ListingFault.{ListingFault}
-use Rattle.pylex.specs.declared.entries.Step.{Step}
-use Rattle.pylex.specs.declared.entries.Step.TheVariants as steps
-use Rattle.pylex.specs.declared.kind.Kind.TheVariants as kinds
+use Rattle.pylex_listing.specs.declared.entries.Entry.{Entry}
+use Rattle.pylex_listing.specs.declared.entries.ListingFault.{ListingFault}
+use Rattle.pylex_listing.specs.declared.entries.Step.{Step}
+use Rattle.pylex_listing.specs.declared.entries.Step.TheVariants as steps
+use Rattle.pylex_listing.specs.declared.kind.Kind.TheVariants as kinds
 use Rattle.pylex_lexeme.specs.Lexemes.{cut, left_by_cut}
-use Rattle.pylex.specs.Lines.{count_if}
+use Rattle.pylex_listing.specs.Lines.{count_if}
 use Rattle.pylex.specs.Cursors.{CursorParts, cursor, same_parts}
-use Rattle.pylex.specs.Laws.{LiesIn, AllLie}
-use Rattle.pylex.specs.Listing.{Source, listing, rest, up_to_end, origin, steps_from}
+use Rattle.pylex_listing.specs.Laws.{LiesIn, AllLie}
+use Rattle.pylex_listing.specs.Listing.{Source, listing, rest, up_to_end, origin, steps_from}
 use Rattle.pylex.specs.Standing.{is_cursor_of, IsCursorOf}
-use Rattle.pylex.specs.Steps.{entries_of, fault_of, mark}
-pub use Rattle.pylex.proofs.Listing.Exactness.{scalars_of}
+use Rattle.pylex_listing.specs.Steps.{entries_of, fault_of, mark}
 pub use Rattle.pylex.proofs.Texts.Spaces.{spaces_utf8, spaces_chars, behind_spaces}
-pub use Rattle.pylex.proofs.MachineLaws.Lexed.{cut_lexed, is_cut, longest_wins}
-pub use Rattle.pylex.proofs.Listers.Finding.{significant_is}
-pub use Rattle.pylex.proofs.MachineLaws.Run.{listing_is}
 
 equals_itself : (n : ℕ) → (n == n) ≡ true
 equals_itself n = grind (arith, nat_tests)

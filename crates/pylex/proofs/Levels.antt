@@ -1,5 +1,4 @@
 -- The open levels, and the layout of a line by its width.
-pub mod Stack
 pub mod Layouts
 pub mod Tops
 pub mod OpenLevels

@@ -4,14 +4,15 @@ use Rattle.std.specs.Prelude.{if◌then◌else◌, decimal, codes}
 use lib.Pointwise.{pointwise}
 use Rattle.std.specs.List.{prefix_len}
 use Rattle.pysource.specs.Places.{place_after}
-use Rattle.pylex.specs.declared.entries.Entry.{Entry}
-use Rattle.pylex.specs.declared.kind.Kind.TheVariants as kinds
+use Rattle.pylex_listing.specs.declared.entries.Entry.{Entry}
+use Rattle.pylex_listing.specs.declared.kind.Kind.TheVariants as kinds
 use Rattle.pylex_lexeme.specs.Lexemes.{Lexeme, cut}
-use Rattle.pylex.specs.Lines.{text_before, depth, is_logical, count_if}
+use Rattle.pylex_listing.specs.Lines.{text_before, depth, is_logical, count_if}
 use Rattle.pylex_lexeme.specs.Chars.{bytes_in}
-use Rattle.pylex.specs.Indentation.{width_at, widths, open_levels}
-use Rattle.pylex.specs.Listing.{Source, listing}
-use Rattle.pylex.specs.Steps.{entries_of}
+use Rattle.pylex_listing.specs.Indentation.{width_at, widths, open_levels}
+use Rattle.pylex_listing.specs.Listing.{Source, listing}
+use Rattle.pylex_listing.specs.Steps.{entries_of}
+use Rattle.pylex_listing.specs.Laws.{is_indent}
 
 pub record CursorParts : Type 0 where
   pub given : ℕ
@@ -31,9 +32,6 @@ has_no_text e = e.«from» == e.to
 
 abbrev pub is_encoding : Entry → Bool
 is_encoding e = elim e.kind [ kinds.Encoding ↦ true | _ ↦ false ]
-
-abbrev pub is_indent : Entry → Bool
-is_indent e = elim e.kind [ kinds.Indent ↦ true | _ ↦ false ]
 
 -- the given entries from the last one with text in the source on, that one first
 unfoldable pub with_text : List Entry → List Entry

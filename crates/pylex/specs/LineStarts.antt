@@ -5,12 +5,13 @@ use Rattle.pysource.specs.declared.places.Place.{Place}
 use Rattle.pylex_lexeme.specs.declared.lexeme.Class.{Class}
 use Rattle.pylex_lexeme.specs.declared.lexeme.Class.TheVariants.{Name, Number, String, Operator}
 use Rattle.pylex_lexeme.specs.Operators.{is_closer}
-use Rattle.pylex.specs.declared.entries.Entry.{Entry}
-use Rattle.pylex.specs.declared.entries.Step.TheVariants as steps
+use Rattle.pylex_listing.specs.declared.entries.Entry.{Entry}
+use Rattle.pylex_listing.specs.declared.entries.Step.TheVariants as steps
 use Rattle.pylex.specs.declared.spots.Spot.{Spot}
 use Rattle.pylex.specs.Listers.{Listed, NextStep}
-use Rattle.pylex.specs.Spots.{at_spot, kind_of, operator_of}
-use Rattle.pylex.specs.Steps.{most_entries}
+use Rattle.pylex.specs.Spots.{at_spot}
+use Rattle.pylex_listing.specs.EntryKinds.{kind_of, operator_of}
+use Rattle.pylex_listing.specs.Steps.{most_entries}
 
 -- a token that can begin a line: any but a closing bracket
 abbrev pub begins_line : Class → Bool

@@ -3,17 +3,17 @@ use Rattle.std.specs.Prelude.{◌≡◌, ℕ, ◌+◌, ◌-◌, ◌<◌, ◌≤�
 use Rattle.std.specs.Str.{chars, IsUtf8}
 use Rattle.pysource.specs.Limits.{source_limit}
 use Rattle.pysource.specs.Parts.{Parts}
-use Rattle.pylex.specs.declared.entries.Step.{Step}
+use Rattle.pylex_listing.specs.declared.entries.Step.{Step}
 use Rattle.pylex.specs.declared.cursor.Shown.{Shown}
-use Rattle.pylex.specs.declared.leading_char.LeadingChar.TheVariants.{Nothing}
+use Rattle.pylex_listing.specs.declared.leading_char.LeadingChar.TheVariants.{Nothing}
 use Rattle.pylex.specs.declared.line_state.LineState.{LineState}
 use Rattle.pylex_lexeme.specs.Cuts.{begins_significant}
 use Rattle.pylex_lexeme.specs.Lexemes.{Lexeme, lexeme_at, lexeme_len}
 use Rattle.pylex_lexeme.specs.Chars.{bytes_in}
-use Rattle.pylex.specs.Listing.{Source, in_characters, last_line, listing, rest}
-use Rattle.pylex.specs.Steps.{first_step, entries_in, IsIndent}
+use Rattle.pylex_listing.specs.Listing.{Source, in_characters, last_line, listing, rest}
+use Rattle.pylex_listing.specs.Steps.{first_step, entries_in, IsIndent}
 use Rattle.pylex.specs.Cursors.{CursorParts}
-use Rattle.pylex.specs.Machine.{State, gives, after, lead_after, layout_of, dedents_at}
+use Rattle.pylex_listing.specs.Machine.{State, gives, after, lead_after, layout_of, dedents_at}
 use Rattle.pylex.specs.LineState.{with_levels, measured, Stands, IsAscending, StopAhead, Walks}
 use Rattle.pylex.specs.Standing.{resumed, standing_by, Agrees, IsCursorOf}
 

@@ -1,18 +1,14 @@
 -- Spots: directly after an entry with text, where a lister's cursor says all of how it stands; and the lexemes from one to the next.
-use Rattle.std.specs.Prelude.{◌≡◌, ℕ, ◌+◌, ◌-◌, ◌^◌, ◌<◌, Bool, true, false, not, ◌&&◌, ◌==◌, if◌then◌else◌, List, length, count_by, Option}
-use Rattle.std.specs.Prelude.{Some, None}
+use Rattle.std.specs.Prelude.{◌≡◌, ℕ, ◌+◌, ◌-◌, ◌^◌, ◌<◌, Bool, true, false, not, ◌&&◌, ◌==◌, List, length, count_by}
 use Rattle.pysource.specs.Parts.{Parts}
 use Rattle.pysource.specs.Places.{is_lf}
-use Rattle.pylex_lexeme.specs.declared.kinds.Exact.{Exact}
 use Rattle.pylex_lexeme.specs.declared.lexeme.Class.{Class}
-use Rattle.pylex_lexeme.specs.declared.lexeme.Class.TheVariants.{Name, Number, String, Operator, Comment, Blanks, LineEnd, Join}
+use Rattle.pylex_lexeme.specs.declared.lexeme.Class.TheVariants.{String, Blanks, LineEnd, Join}
 use Rattle.pylex_lexeme.specs.Lexemes.{is_line_end_class, is_opener_class, is_closer_class}
 use Rattle.pylex_lexeme.specs.Cuts.{Cuts}
-use Rattle.pylex.specs.declared.kind.Kind.{Kind}
-use Rattle.pylex.specs.declared.kind.Kind.TheVariants as kinds
 use Rattle.pylex.specs.declared.spots.Spot.{Spot}
 use Rattle.pylex.specs.Cursors.{CursorParts}
-use Rattle.pylex.specs.Lines.{count_if}
+use Rattle.pylex_listing.specs.Lines.{count_if}
 use Rattle.pylex.specs.Listers.{Listed}
 
 -- the cursor at a spot, where these levels are open
@@ -69,18 +65,3 @@ pub record SpotHasRoom (s : Spot) (n : ℕ) : Type 0 where
   pub offset : s.offset + n < 2 ^ 62
   pub row : s.row + n < 2 ^ 62
   pub depth : s.depth + n < 2 ^ 62
-
--- the type of the entry of a lexeme, by whether a logical line is open after it
-abbrev pub kind_of : Class → Bool → Kind
-kind_of k goes = elim k [
-  | Name ↦ kinds.Name
-  | Number ↦ kinds.Number
-  | String ↦ kinds.String
-  | Operator e ↦ kinds.Op
-  | Comment ↦ kinds.Comment
-  | _ ↦ if goes then kinds.Nl else kinds.Newline
-]
-
--- and its exact type
-abbrev pub operator_of : Class → Option Exact
-operator_of k = elim k [ Operator e ↦ Some e | _ ↦ None ]

@@ -1,16 +1,16 @@
 -- How a lister stands, and what a cursor says of it.
 use Rattle.std.specs.Prelude.{◌≡◌, ℕ, ◌-◌, ◌≤◌, nat_le, Bool, true, false, not, ◌&&◌, ◌==◌, List, [], ◌∷◌, length, drop, if◌then◌else◌}
 use Rattle.std.specs.Prelude.{Option}
-use Rattle.pylex.specs.declared.entries.ListingFault.{ListingFault}
-use Rattle.pylex.specs.declared.entries.Step.{Step}
-use Rattle.pylex.specs.declared.kind.Kind.TheVariants as kinds
+use Rattle.pylex_listing.specs.declared.entries.ListingFault.{ListingFault}
+use Rattle.pylex_listing.specs.declared.entries.Step.{Step}
+use Rattle.pylex_listing.specs.declared.kind.Kind.TheVariants as kinds
 use Rattle.pylex_lexeme.specs.Chars.{bytes_in}
-use Rattle.pylex.specs.Listing.{Source, listing, rest, last_line, origin}
+use Rattle.pylex_listing.specs.Listing.{Source, listing, rest, last_line, origin}
 use Rattle.pylex.specs.Cursors.{CursorParts, cursor, same_parts}
-use Rattle.pylex.specs.Steps.{entries_of, mark}
-use Rattle.pylex.specs.Machine.{State, lead_after, remaining}
-use Rattle.pylex.specs.declared.point.Point.{Point}
-use Rattle.pylex.specs.declared.leading_char.LeadingChar.TheVariants.{Nothing}
+use Rattle.pylex_listing.specs.Steps.{entries_of, mark}
+use Rattle.pylex_listing.specs.Machine.{State, lead_after, remaining}
+use Rattle.pylex_listing.specs.declared.point.Point.{Point}
+use Rattle.pylex_listing.specs.declared.leading_char.LeadingChar.TheVariants.{Nothing}
 
 -- the longest front of a text of at most n bytes, and what is after it
 unfoldable pub front_to : ℕ → List ℕ → List ℕ

@@ -17,19 +17,19 @@ use Rattle.pylex_lexeme.specs.Lexemes.{left_by_cut, is_open_string}
 use Rattle.pylex.specs.LineState.{Comes, IsMeasuring, StopAhead}
 use Rattle.pysource.specs.declared.line_reader.Reach.TheVariants as reach
 use Rattle.pysource.specs.declared.line_reader.StreamFault.TheVariants as faults
-use Rattle.pylex.specs.declared.entries.Entry.{Entry}
-use Rattle.pylex.specs.declared.entries.ListingError.TheVariants as errors
-use Rattle.pylex.specs.declared.entries.ListingFault.{ListingFault}
-use Rattle.pylex.specs.declared.entries.ListingError.{ListingError}
-use Rattle.pylex.specs.declared.entries.Step.{Step}
-use Rattle.pylex.specs.declared.entries.Step.TheVariants as steps
-use Rattle.pylex.specs.declared.kind.Kind.TheVariants as kinds
+use Rattle.pylex_listing.specs.declared.entries.Entry.{Entry}
+use Rattle.pylex_listing.specs.declared.entries.ListingError.TheVariants as errors
+use Rattle.pylex_listing.specs.declared.entries.ListingFault.{ListingFault}
+use Rattle.pylex_listing.specs.declared.entries.ListingError.{ListingError}
+use Rattle.pylex_listing.specs.declared.entries.Step.{Step}
+use Rattle.pylex_listing.specs.declared.entries.Step.TheVariants as steps
+use Rattle.pylex_listing.specs.declared.kind.Kind.TheVariants as kinds
 use Rattle.pylex.specs.declared.line_state.LineState.{LineState}
 use Rattle.pylex.specs.Held.{Ahead, IsJoined}
 use Rattle.pylex.specs.Cursors.{CursorParts}
-use Rattle.pylex.specs.Listing.{listing, in_characters, rest}
-use Rattle.pylex.specs.Steps.{entries_of, entries_in, fault_of, first_step, IsIndent, IsNoEntry}
-use Rattle.pylex.specs.Laws.{LiesIn}
+use Rattle.pylex_listing.specs.Listing.{listing, in_characters, rest}
+use Rattle.pylex_listing.specs.Steps.{entries_of, entries_in, fault_of, first_step, IsIndent, IsNoEntry}
+use Rattle.pylex_listing.specs.Laws.{LiesIn}
 use Rattle.pylex.specs.Standing.{IsCursorOf}
 use Rattle.pylex.specs.Listers.{StandsIn, Keeps}
 

@@ -16,9 +16,9 @@ ghost use Rattle.std.specs.Str.{chars};
 
 use crate::leading_char::lead_of;
 use crate::line_state::LineState;
-use crate::point::Point;
 use itoa::Buffer;
 use pylex_lexeme::scanner::char_count;
+use pylex_listing::Point;
 use pysource::Place;
 use std::alloc::{AllocError, Global};
 use std::marker::Model;

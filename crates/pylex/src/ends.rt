@@ -3,17 +3,16 @@
 ghost use Rattle.std.specs.Prelude.{◌≡◌, ℕ, ◌^◌, ◌<◌, List, ◌∷◌, length, drop};
 ghost use Rattle.std.specs.Prelude.{Option, option_map, OnSome};
 ghost use Rattle.std.specs.Str.{chars};
-ghost use Rattle.pylex.specs.Listing.{of_line, stop_fault};
-ghost use Rattle.pylex.specs.Steps.{first_step, HasNoText, IsNoEntry, IsAt};
-ghost use Rattle.pylex.specs.Machine.{remaining, behind_steps};
+ghost use Rattle.pylex_listing.specs.Listing.{of_line, stop_fault};
+ghost use Rattle.pylex_listing.specs.Steps.{first_step, HasNoText, IsNoEntry, IsAt};
+ghost use Rattle.pylex_listing.specs.Machine.{remaining, behind_steps};
 ghost use Rattle.pylex.specs.LineState.{Stands, IsAscending, StopAhead, closing, with_levels};
 ghost use Rattle.pylex.specs.LineState.{given, GivesNoText, IsGivenFault, GivesAt};
 
-use crate::entries::{Emitted, Entry, ListingError, ListingFault, Step};
-use crate::kind::Kind;
+use crate::entries::Emitted;
 use crate::line_state::LineState;
-use crate::point::mark;
 use pylex_lexeme::string::{is_open_string, opens_string};
+use pylex_listing::{Entry, Kind, ListingError, ListingFault, Step, mark};
 use pysource::{LineFault, Place};
 
 /// The fault of a line, as one of the listing.
@@ -27,7 +26,7 @@ fn line_fault(fault: LineFault) -> ListingFault
 }
 
 /// The fault where no lexeme stands before the text's end.
-#[tactic(auto, unfolding(crate::specs::Listing::stop_fault))]
+#[tactic(auto, unfolding(pylex_listing::specs::Listing::stop_fault))]
 fn stop_fault_at(place: Place, left: &str, fault: Option<LineFault>) -> ListingFault
     ensures { stop_fault (option_map of_line fault) place (chars left.now) ≡ Step.Fault result }
 {

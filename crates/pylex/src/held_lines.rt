@@ -7,7 +7,8 @@ ghost use Rattle.pysource.specs.Limits.{source_limit};
 ghost use Rattle.pysource.specs.declared.line_reader.Reach.{Reach};
 ghost use Rattle.std.specs.Str.{IsCharBoundary};
 ghost use Rattle.pylex.specs.Held.{Joins, LinesBehind};
-ghost use Rattle.pylex.specs.Inner.Chunked.{AddsLine, AddsOn, HoldsOn, IsHeldLines, IsLonger, ReadsOn};
+ghost use Rattle.pylex.specs.Inner.Chunked.{AddsLine, AddsOn, HoldsOn, IsHeldLines, IsLonger};
+ghost use Rattle.pylex.specs.Inner.Chunked.{ReadsOn};
 
 use pylex_lexeme::string::{OpenLiteral, open_literal};
 use pysource::{ByteIn, LineRead, LineReader};

@@ -1,81 +1,25 @@
-//! What a line begins with, and the walk over a text that finds it and the place after.
+//! The walk over a text that finds what its line begins with, and the place after.
 
 ghost use Rattle.std.specs.Prelude.{◌≡◌, ◌↔◌, IsTrue, ◌+◌, ◌^◌, ◌<◌, length, true, slice_index};
 ghost use Rattle.std.specs.Str.{chars};
 ghost use Rattle.pylex_lexeme.specs.Characters.{hash};
-ghost use Rattle.pylex.specs.Machine.{place_past, lead_after_char, lead_after, is_hash};
+ghost use Rattle.pylex_listing.specs.Machine.{place_past, lead_after};
 ghost use Rattle.pylex.specs.Inner.Plain.{AreSpaces, IsPlain};
-ghost use Rattle.pylex.specs.Inner.Told.{Tells, begun_by};
+ghost use Rattle.pylex.specs.Inner.Told.{Tells};
 
 use pylex_lexeme::lexeme::Class;
+use pylex_listing::LeadingChar;
 use pysource::Place;
 
-/// What a physical line begins with, blanks aside.
-#[derive(Clone, Copy, Debug, PartialEq, Eq)]
-pub enum LeadingChar {
-    /// Nothing yet.
-    Nothing,
-    /// A `#`.
-    Hash,
-    /// Another character.
-    Other,
-}
-
-impl LeadingChar {
-    /// What the line begins with after one more character.
-    fn after(self, c: char) -> LeadingChar
-        ensures { result ≡ lead_after_char self c }
-    {
-        if c == '\n' {
-            return LeadingChar::Nothing;
-        }
-        match self {
-            LeadingChar::Nothing => match c {
-                ' ' | '\t' | '\x0c' => LeadingChar::Nothing,
-                '#' => LeadingChar::Hash,
-                _ => LeadingChar::Other,
-            },
-            LeadingChar::Hash => LeadingChar::Hash,
-            LeadingChar::Other => LeadingChar::Other,
-        }
+/// What the line begins with after some more plain text.
+fn after_plain(lead: LeadingChar, text: &str) -> LeadingChar
+    requires { IsPlain text.now }
+    ensures { result ≡ lead_after lead (chars text.now) }
+{
+    if lead.is_nothing() {
+        return lead_of_plain(text);
     }
-
-    /// Whether only blanks have come.
-    fn is_nothing(self) -> bool
-        ensures { IsTrue result ↔ (self ≡ LeadingChar.Nothing) }
-    {
-        matches!(self, LeadingChar::Nothing)
-    }
-
-    /// What the line begins with after a character that is neither a blank nor `#`.
-    #[inline(always)]
-    pub(crate) fn begun(self) -> LeadingChar
-        ensures { result ≡ begun_by self }
-    {
-        match self {
-            LeadingChar::Nothing => LeadingChar::Other,
-            LeadingChar::Hash => LeadingChar::Hash,
-            LeadingChar::Other => LeadingChar::Other,
-        }
-    }
-
-    /// Whether the line begins with `#`.
-    pub(crate) fn is_hash(self) -> bool
-        ensures { result ≡ is_hash self }
-    {
-        matches!(self, LeadingChar::Hash)
-    }
-
-    /// What the line begins with after some more plain text.
-    fn after_plain(self, text: &str) -> LeadingChar
-        requires { IsPlain text.now }
-        ensures { result ≡ lead_after self (chars text.now) }
-    {
-        if self.is_nothing() {
-            return lead_of_plain(text);
-        }
-        self
-    }
+    lead
 }
 
 /// Whether a text is in ASCII and has no line feed: each of its bytes is a character of one line.
@@ -169,7 +113,7 @@ pub(crate) fn walk(place: Place, lead: LeadingChar, text: &str) -> (Place, Leadi
         row: place.row,
         column: place.column + text.len(),
     };
-    (further, lead.after_plain(text))
+    (further, after_plain(lead, text))
 }
 
 /// The place after a lexeme that begins at a place, and what its line begins with.

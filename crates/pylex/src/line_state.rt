@@ -3,25 +3,26 @@
 ghost use Rattle.std.specs.Prelude.{◌≡◌, ℕ, ◌+◌, ◌-◌, ◌*◌, ◌^◌, ◌<◌, ◌≤◌, ◌&&◌, ◌||◌, not, ◌==◌};
 ghost use Rattle.std.specs.Prelude.{if◌then◌else◌, List, [], ◌∷◌, length, false, true, IfSome};
 ghost use Rattle.std.specs.Str.{chars};
-ghost use Rattle.pylex.specs.Indentation.{width_from};
+ghost use Rattle.pylex_listing.specs.Indentation.{width_from};
 ghost use Rattle.pylex_lexeme.specs.Lexemes.{is_significant_class, is_blanks_class, is_line_end_class};
 ghost use Rattle.pylex_lexeme.specs.Lexemes.{is_opener_class, is_closer_class};
 ghost use Rattle.pylex_lexeme.specs.Chars.{bytes_in};
 ghost use Rattle.pylex_lexeme.specs.Operators.{is_closer};
-ghost use Rattle.pylex.specs.Machine.{past, after, entry_by, still, pushed, first_state};
-ghost use Rattle.pylex.specs.Machine.{last_line_end, last_place, line_end_kind_of};
-ghost use Rattle.pylex.specs.Listing.{row_after};
+ghost use Rattle.pylex_listing.specs.Machine.{past, after, entry_by, still, pushed, first_state};
+ghost use Rattle.pylex_listing.specs.Machine.{last_line_end, last_place, line_end_kind_of};
+ghost use Rattle.pylex_listing.specs.Listing.{row_after};
 ghost use Rattle.pylex.specs.LineState.{with_levels, measured, begun_anew, given, HasRoom};
 ghost use Rattle.pylex.specs.Inner.Plain.{AreSpaces};
 ghost use Rattle.pylex.specs.Inner.Told.{Tells, Passed, GivesEntry, is_text, text_kind};
-ghost use Rattle.pylex.specs.Lines.{count_if};
+ghost use Rattle.pylex_listing.specs.Lines.{count_if};
 
-use crate::entries::{Emitted, Entry, ListingError, ListingFault};
-use crate::kind::{Exact, Kind};
-use crate::leading_char::{LeadingChar, walk, walk_lexeme};
+use crate::entries::Emitted;
+use crate::leading_char::{walk, walk_lexeme};
 use crate::measures::width_after;
-use crate::point::{Point, entry_of, mark};
 use pylex_lexeme::lexeme::Class;
+use pylex_listing::{
+    Entry, Exact, Kind, LeadingChar, ListingError, ListingFault, Point, entry_of, mark,
+};
 use pysource::Place;
 
 /// How far a lister has come, its open levels aside.
@@ -149,7 +150,7 @@ impl LineState {
 
     /// What a lexeme gives that ends at a point: an entry, nothing, or the fault of a closing
     /// bracket where none is open.
-    #[tactic(auto, unfolding(crate::specs::Machine::entry_by))]
+    #[tactic(auto, unfolding(pylex_listing::specs::Machine::entry_by))]
     #[inline(always)]
     pub(crate) fn give(self, class: Class, text: &str, end: Point) -> Emitted
         requires room { HasRoom self (length text.now) }
@@ -462,7 +463,7 @@ impl LineState {
     }
 
     /// The line end that the text's end gives to a last line that lacks its own, if it does.
-    #[tactic(auto, unfolding(crate::specs::Machine::last_line_end))]
+    #[tactic(auto, unfolding(pylex_listing::specs::Machine::last_line_end))]
     pub(crate) fn last_line_end(self) -> Emitted
         requires { self.now.place.column < 2 ^ 62 }
         ensures { (levels : List ℕ) → last_line_end (with_levels self levels) ≡ given result }

@@ -8,15 +8,14 @@ ghost use Rattle.std.specs.Io.{StartsWith};
 ghost use Rattle.std.specs.List.{list_all};
 ghost use Rattle.std.specs.String.{string_bytes};
 ghost use Rattle.pysource.specs.Reprs.{is_plain, repr_text};
-ghost use Rattle.pylex.specs.ListingLines.{filled, kind_name, listing_line, shown_name};
-ghost use Rattle.pylex.specs.ListingLines.{shown_place, shown_range};
+ghost use Rattle.pylex_listing.specs.ListingLines.{filled, kind_name, listing_line, shown_name};
+ghost use Rattle.pylex_listing.specs.ListingLines.{shown_place, shown_range};
 ghost use Rattle.pylex_lexeme.specs.Characters.{line_feed, space};
 ghost use Rattle.pylex_lexeme.specs.Operators.{exact_name};
 
-use crate::entries::Entry;
-use crate::kind::{Exact, Kind};
 use itoa::write_digits;
 use pylex_lexeme::scanner::char_count;
+use pylex_listing::{Entry, Exact, Kind};
 use pysource::{Place, push_repr};
 use std::alloc::{AllocError, Global};
 use std::str::from_utf8_unchecked;

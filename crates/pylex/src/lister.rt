@@ -4,19 +4,19 @@ ghost use Rattle.std.specs.Prelude.{◌≡◌, ◌≢◌, ◌↔◌, IsTrue, ◌
 ghost use Rattle.std.specs.Prelude.{IfErr, IfSome, OnOk, OnErr, Ok, Err, true, slice_index};
 ghost use Rattle.std.specs.Str.{chars};
 ghost use Rattle.pylex_lexeme.specs.Characters.{line_feed};
-ghost use Rattle.pylex.specs.Listing.{last_line, listing, in_characters};
-ghost use Rattle.pylex.specs.Laws.{IsLawful, AllLie, HaveExact};
+ghost use Rattle.pylex_listing.specs.Listing.{last_line, listing, in_characters};
+ghost use Rattle.pylex_listing.specs.Laws.{IsLawful, AllLie, HaveExact};
 ghost use Rattle.pylex.specs.Standing.{IsCursorOf};
 ghost use Rattle.pylex.specs.Listers.{StandsIn, LeadsInto, NextStep, AwaitsIndent};
-ghost use Rattle.pylex.specs.Steps.{most_entries};
+ghost use Rattle.pylex_listing.specs.Steps.{most_entries};
 ghost use Rattle.pylex.specs.Spots.{spot_cursor, at_spot};
 ghost use Rattle.pylex.specs.LineStarts.{BeginsLine};
 
 use crate::cursor::{Cursor, CursorFault};
-use crate::entries::Step;
 use crate::machine::Machine;
 use crate::spots::Spot;
 use pylex_lexeme::lexeme::Class;
+use pylex_listing::Step;
 use pysource::{Place, Source};
 use std::alloc::{AllocError, Global};
 use std::marker::Model;

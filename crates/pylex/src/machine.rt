@@ -5,8 +5,8 @@ ghost use Rattle.std.specs.Prelude.{◌≡◌, ℕ, ◌+◌, ◌-◌, ◌^◌, �
 ghost use Rattle.std.specs.Prelude.{◌++◌, length, take, OnOk, OnErr, IfOk};
 ghost use Rattle.std.specs.Prelude.{None, IfSome, IsTrue, ◌↔◌};
 ghost use Rattle.std.specs.Str.{chars};
-ghost use Rattle.pylex.specs.Listing.{origin};
-ghost use Rattle.pylex.specs.Machine.{first_state, mark_at};
+ghost use Rattle.pylex_listing.specs.Listing.{origin};
+ghost use Rattle.pylex_listing.specs.Machine.{first_state, mark_at};
 ghost use Rattle.pylex.specs.Standing.{resumed};
 ghost use Rattle.pylex.specs.LineState.{Stands, IsAscending, Peek, StopAhead, HasRoom, Behind};
 ghost use Rattle.pylex.specs.LineState.{with_levels};
@@ -19,13 +19,11 @@ ghost use Rattle.pylex.specs.Inner.LineStarting.{LineStart};
 
 use crate::cursor::{Cursor, Shown};
 use crate::ends::end_step;
-use crate::entries::{Entry, Step};
-use crate::kind::Kind;
 use crate::line_state::LineState;
 use crate::peeked::{Indentation, Peeked, entry_on, indentation_for, past_spaces, peek, settle};
-use crate::point::{entry_of, mark};
 use crate::spots::{Spot, start_lexeme};
 use pylex_lexeme::lexeme::{Class, begins_significant};
+use pylex_listing::{Entry, Kind, Step, entry_of, mark};
 use pysource::{LineFault, Place};
 use std::alloc::{AllocError, Global};
 

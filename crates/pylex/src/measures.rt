@@ -7,12 +7,12 @@ ghost use Rattle.std.specs.Str.{chars, IsCharBoundary};
 ghost use Rattle.pylex_lexeme.specs.Chars.{begins, is_blank_char};
 ghost use Rattle.pylex_lexeme.specs.Cuts.{Cuts};
 ghost use Rattle.pylex.specs.Inner.Plain.{AreSpaces, SpacesAhead};
-ghost use Rattle.pylex.specs.Indentation.{column_after, width_from};
-ghost use Rattle.pylex.specs.Margins.{column_by_one, widths_of};
+ghost use Rattle.pylex_listing.specs.Indentation.{column_after, width_from};
+ghost use Rattle.pylex_listing.specs.Margins.{column_by_one, widths_of};
 
 use crate::leading_char::is_spaces;
-use crate::margins::Widths;
 use pylex_lexeme::lexeme::Class;
+use pylex_listing::Widths;
 use pysource::Source;
 
 /// Whether a character is a blank.

@@ -3,12 +3,14 @@
 ghost use Rattle.std.specs.Prelude.{◌≡◌, ℕ, ◌+◌, ◌<◌, true, false, List, ◌∷◌, length, None, IfSome};
 ghost use Rattle.std.specs.Str.{chars};
 ghost use Rattle.pylex.specs.LineState.{is_level, IsTop, Stands, IsAscending, IsIndentation};
-ghost use Rattle.pylex.specs.LineState.{Settles, Comes, Peek, StopAhead, HasRoom, Behind, NextEntry};
+ghost use Rattle.pylex.specs.LineState.{Settles, Comes, Peek, StopAhead, HasRoom, Behind};
+ghost use Rattle.pylex.specs.LineState.{NextEntry};
 
-use crate::entries::{Emitted, Entry, ListingError, ListingFault};
+use crate::entries::Emitted;
 use crate::line_state::LineState;
 use crate::measures::cut_spaces;
 use pylex_lexeme::lexeme::{Class, begins_significant, cut};
+use pylex_listing::{Entry, ListingError, ListingFault};
 
 /// What a lister meets next.
 #[derive(Clone, Copy, Debug, PartialEq, Eq)]

@@ -5,7 +5,7 @@ ghost use Rattle.std.specs.Prelude.{◌≡◌, ◌+◌, ◌-◌, ◌^◌, ◌<�
 ghost use Rattle.std.specs.Prelude.{IfSome};
 ghost use Rattle.pysource.specs.Places.{is_lf};
 ghost use Rattle.pylex_lexeme.specs.Lexemes.{is_closer_class, is_opener_class, is_line_end_class};
-ghost use Rattle.pylex.specs.Lines.{count_if};
+ghost use Rattle.pylex_listing.specs.Lines.{count_if};
 ghost use Rattle.pylex.specs.LineState.{Stands};
 ghost use Rattle.pylex.specs.LineStarts.{begins_line};
 ghost use Rattle.pylex.specs.Spots.{rows_in, LexemeAhead, Steps, SpotHasRoom};

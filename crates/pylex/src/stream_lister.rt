@@ -8,13 +8,13 @@ ghost use Rattle.pysource.specs.Bytes.{Seen};
 ghost use Rattle.pysource.specs.Parts.{Parts};
 ghost use Rattle.pysource.specs.Streams.{Refuses};
 ghost use Rattle.pysource.specs.Taking.{fails};
-ghost use Rattle.pylex.specs.ListingLines.{text_of};
-ghost use Rattle.pylex.specs.Steps.{most_entries};
+ghost use Rattle.pylex_listing.specs.ListingLines.{text_of};
+ghost use Rattle.pylex_listing.specs.Steps.{most_entries};
 ghost use Rattle.pylex.specs.Streamed.{Begins, BeginsAnew, ResumeRefusal, Next, StreamsIn};
 
 use crate::cursor::Cursor;
-use crate::entries::{Entry, Step};
 use crate::line_lister::{LineLister, ResumeFault};
+use pylex_listing::{Entry, Step};
 use pysource::{ByteIn, StreamFault};
 use std::alloc::{AllocError, Global};
 

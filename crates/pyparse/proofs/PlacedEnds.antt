@@ -1,7 +1,7 @@
 -- Carries: PlacedProgress::finish, Known::finish. On: the places of all lines of a source.
 use Rattle.std.proofs.Common.{◌≡◌, ℕ, false, List, [], length, sym, ap, ◌∙◌, subst}
 use Rattle.pysource.specs.declared.places.Place.{Place}
-use Rattle.pylex.specs.Listing.{Source}
+use Rattle.pylex_listing.specs.Listing.{Source}
 use Rattle.pytree_node.specs.declared.profiles.Profile.{Profile}
 use Rattle.pytree_node.specs.Trees.{Module}
 use Rattle.pytoken.specs.Tokens.{lines}

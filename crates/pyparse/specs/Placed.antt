@@ -1,6 +1,6 @@
 -- What the answer for a source with places says: the module that the grammar gives it, and the places of its derivation.
 use Rattle.std.specs.Prelude.{◌≡◌, ℕ, List, length}
-use Rattle.pylex.specs.Listing.{Source}
+use Rattle.pylex_listing.specs.Listing.{Source}
 use Rattle.pytree_node.specs.declared.profiles.Profile.{Profile}
 use Rattle.pytree_node.specs.Trees.{Module}
 use Rattle.pytree_dump_text.specs.Shows.{shown_module}

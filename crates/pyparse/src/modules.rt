@@ -3,7 +3,7 @@
 //! Python language reference, 9.2 "File input" and 10 "Full Grammar specification".
 
 ghost use Rattle.std.specs.Prelude.{IfOk, IfErr};
-ghost use Rattle.pylex.specs.Listing.{in_characters};
+ghost use Rattle.pylex_listing.specs.Listing.{in_characters};
 ghost use Rattle.pytree_node.specs.TreeOf.{module_of};
 ghost use Rattle.pygrammar.specs.Refusals.{Accepted};
 ghost use Rattle.pygrammar.specs.SourceLaws.{FormsAreLawful, BlocksAreLawful, AnswersAreLawful};

@@ -2,8 +2,8 @@
 
 ghost use Rattle.std.specs.Prelude.{◌≡◌, ◌+◌, ◌-◌, ◌≤◌, ℕ, List, Some, drop, length, map, slice_get, take};
 ghost use Rattle.std.specs.Prelude.{IfOk, IfErr, OnOk};
-ghost use Rattle.pylex.specs.Listing as listing;
-ghost use Rattle.pylex.specs.Listing.{in_characters};
+ghost use Rattle.pylex_listing.specs.Listing as listing;
+ghost use Rattle.pylex_listing.specs.Listing.{in_characters};
 ghost use Rattle.pytree_node.specs.declared.profiles.Profile.{Profile};
 ghost use Rattle.pytree_node.specs.TreeOf.{module_of};
 ghost use Rattle.pytoken.specs.Tokens as tokens;

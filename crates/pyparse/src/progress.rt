@@ -3,7 +3,7 @@
 
 ghost use Rattle.std.specs.Prelude.{◌≡◌, ◌+◌, ◌++◌, ◌∷◌, [], ◌&&◌, ℕ, Bool, List, false, true, not};
 ghost use Rattle.std.specs.Prelude.{IfOk, IfErr, OnOk};
-ghost use Rattle.pylex.specs.Listing.{Source, in_characters};
+ghost use Rattle.pylex_listing.specs.Listing.{Source, in_characters};
 ghost use Rattle.pytree_node.specs.declared.profiles.Profile.{Profile};
 ghost use Rattle.pytree_node.specs.TreeOf.{module_of};
 ghost use Rattle.pytoken.specs.Inner.Behind.{behind};

@@ -29,7 +29,7 @@ use crate::depth::Depth;
 use crate::levels::{read_expression, read_named};
 use crate::listings::first_items;
 use pygrammar::Level;
-use pylex::Exact;
+use pylex_listing::Exact;
 use pyparse_looks::{Stop, is_op, lead_at, name_with, starts_comp};
 use pyparse_nodes::{
     Actual, ArgumentForm, Read, make_call, make_generator, make_starred, put, put_keyword,

@@ -27,7 +27,7 @@ use crate::levels::{read_elem, yield_step};
 use crate::listings::{Item, others};
 use crate::strings::{formatted_atom, string_atom};
 use pygrammar::Level;
-use pylex::Exact;
+use pylex_listing::Exact;
 use pyparse_looks::{Stop, is_op, is_word, lead_at, starts_comp, terminal_at};
 use pyparse_nodes::{
     Read, make_constant, make_generator, make_list, make_list_comp, make_name, make_number,

@@ -27,7 +27,7 @@ use crate::depth::Depth;
 use crate::levels::{read_elem, read_expression};
 use crate::listings::{Item, others};
 use pygrammar::Level;
-use pylex::Exact;
+use pylex_listing::Exact;
 use pyparse_looks::{Stop, is_op, lead_at, name_with, starts_comp};
 use pyparse_nodes::{
     Pair, Pairs, Read, make_dict, make_dict_comp, make_set, make_set_comp, put, put_option,

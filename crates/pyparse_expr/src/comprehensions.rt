@@ -26,7 +26,7 @@ use crate::depth::Depth;
 use crate::listings::{Item, no_items, others, push};
 use crate::primaries::read_primary;
 use pygrammar::Level;
-use pylex::Exact;
+use pylex_listing::Exact;
 use pyparse_looks::{Stop, is_op, is_word};
 use pyparse_nodes::{ForClause, ForClauses, Items, Read, append, make_starred, make_tuple, store};
 use pyplaces::Recorder;

@@ -21,7 +21,7 @@ use crate::depth::Depth;
 use crate::listings::{Item, tupled};
 use crate::signatures::lambda_step;
 use pygrammar::Level;
-use pylex::Exact;
+use pylex_listing::Exact;
 use pyparse_looks::{Stop, is_op, is_word, lead_at, name_with, stands_alone};
 use pyparse_nodes::{
     Read, make_if, make_name, make_named, make_starred, make_yield, make_yield_from,

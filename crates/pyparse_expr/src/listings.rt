@@ -26,7 +26,7 @@ use crate::depth::Depth;
 use crate::levels::{read_elem, read_star_item};
 use crate::slices::read_part;
 use pygrammar::Level;
-use pylex::Exact;
+use pylex_listing::Exact;
 use pyparse_looks::{Stop, is_op, lead_at};
 use pyparse_nodes::{Items, Read, make_tuple, put};
 use pyplaces::Recorder;

@@ -20,7 +20,7 @@ use crate::atoms::read_atom;
 use crate::depth::Depth;
 use crate::slices::read_slices;
 use pygrammar::Level;
-use pylex::Exact;
+use pylex_listing::Exact;
 use pyparse_looks::{Stop, is_op, name_at};
 use pyparse_nodes::{Read, make_attribute, make_subscript};
 use pyplaces::Recorder;

@@ -34,7 +34,7 @@ use crate::climbing::climb;
 use crate::depth::Depth;
 use crate::levels::read_expression;
 use pygrammar::Level;
-use pylex::Exact;
+use pylex_listing::Exact;
 use pyparse_looks::{Stop, is_op, name_at, terminal_at};
 use pyparse_nodes::{
     Formal, Optional, Parameter, Read, Stage, arranged, identifier_of, make_lambda, make_starred,

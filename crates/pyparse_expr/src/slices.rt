@@ -26,7 +26,7 @@ use crate::depth::Depth;
 use crate::levels::{read_expression, read_named};
 use crate::listings::{Item, first_items, tupled};
 use pygrammar::Level;
-use pylex::Exact;
+use pylex_listing::Exact;
 use pyparse_looks::{Stop, is_op, lead_at, name_with};
 use pyparse_nodes::{Optional, Read, make_slice, make_starred, make_tuple};
 use pyplaces::Recorder;

@@ -32,7 +32,7 @@ ghost use Rattle.pyplaces.specs.Stretches.{Stretch, stretch};
 use crate::atoms::read_atom;
 use crate::depth::Depth;
 use pygrammar::Level;
-use pylex::Exact;
+use pylex_listing::Exact;
 use pyparse_looks::{Mark, Part, Stop, is_mark, is_op, literal_at, part_at};
 use pyparse_nodes::{
     JoinedValues, LiteralRun, Optional, Read, joined_text, literal_text, make_field, make_joined,

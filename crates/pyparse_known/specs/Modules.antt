@@ -1,5 +1,5 @@
 -- What the answer for a source says: its module, or why it has none.
-use Rattle.pylex.specs.Listing.{Source}
+use Rattle.pylex_listing.specs.Listing.{Source}
 use Rattle.pytree_node.specs.declared.profiles.Profile.{Profile}
 use Rattle.pygrammar.specs.Blocks as block
 use Rattle.pygrammar.specs.Refusals.{Code, Indentation, in_tokens, at, Refused}

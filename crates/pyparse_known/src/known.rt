@@ -1,7 +1,7 @@
 //! What is known of a source after some of its lines.
 
 ghost use Rattle.std.specs.Prelude.{◌≡◌, ◌+◌, ◌++◌, ◌∷◌, [], List, ℕ, true, false, IfOk, IfErr, OnOk};
-ghost use Rattle.pylex.specs.Listing.{Source};
+ghost use Rattle.pylex_listing.specs.Listing.{Source};
 ghost use Rattle.pytree_node.specs.declared.profiles.Profile.{Profile};
 ghost use Rattle.pytree_node.specs.TreeOf.{module_of};
 ghost use Rattle.pytoken.specs.Inner.Behind.{behind};

@@ -24,7 +24,7 @@ use crate::found::{ReadForm, ReadSuite};
 use crate::matches::match_rest;
 use crate::openings::{Opening, opening_of};
 use pygrammar::{Form, Level};
-use pylex::Exact;
+use pylex_listing::Exact;
 use pyparse_expr::{Depth, read_at};
 use pyparse_looks::{Stop, is_op, terminal_at};
 use pyparse_statement::{ReadHeader, read_header, read_statements};

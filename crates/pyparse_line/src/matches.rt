@@ -17,7 +17,7 @@ ghost use Rattle.pyparse_line.specs.Inner.Placed.{LinePlaced};
 
 use crate::found::ReadForm;
 use pygrammar::{Form, Header, Level};
-use pylex::Exact;
+use pylex_listing::Exact;
 use pyparse_expr::{Depth, read_at};
 use pyparse_looks::{Stop, is_op};
 use pyplaces::Recorder;

@@ -9,7 +9,7 @@ ghost use Rattle.pyparse_line.specs.Inner.Openings.{word_opening};
 
 use crate::cases::is_case_line;
 use crate::matches::is_match_line;
-use pylex::Exact;
+use pylex_listing::Exact;
 use pytoken::{Keyword, Terminal};
 use pytree_node::{Extent, Profile};
 

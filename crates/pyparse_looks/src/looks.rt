@@ -15,7 +15,7 @@ ghost use Rattle.pygrammar.specs.Looks.{literal_in};
 ghost use Rattle.pytoken.specs.TerminalOf.{literal_characters, terminal};
 
 use pygrammar::Level;
-use pylex::Exact;
+use pylex_listing::Exact;
 use pytoken::{Keyword, LiteralText, Terminal};
 
 /// The terminal at a place.

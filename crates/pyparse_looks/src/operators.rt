@@ -9,7 +9,7 @@ ghost use Rattle.pytoken.specs.TerminalOf.{terminal};
 
 use crate::looks::terminal_at;
 use pygrammar::Level;
-use pylex::Exact;
+use pylex_listing::Exact;
 use pytoken::{Keyword, Terminal};
 use pytree_node::{BoolOperator, Comparison, Operator, UnaryOperator};
 

@@ -6,8 +6,8 @@ use Rattle.std.proofs.lemmas.Str.{chars-nil}
 use Rattle.pylex_lexeme.specs.declared.lexeme.Class.{Class}
 use Rattle.pylex_lexeme.specs.Cuts.{Cuts}
 use Rattle.pylex_lexeme.specs.Lexemes.{Lexeme, lexeme_at, cut, left_by_cut}
-use Rattle.pylex.specs.Laws.{AreLexemes}
-use Rattle.pylex.proofs.Callers.{cut_lexed}
+use Rattle.pylex_listing.specs.Laws.{AreLexemes}
+use Rattle.pylex_listing.proofs.Callers.{cut_lexed}
 
 same_lexemes : (xs ys : List Lexeme) (text left right : List ℕ) → AreLexemes text xs left → AreLexemes text ys right → xs ≡ ys
 same_lexemes [] [] text left right a b = refl

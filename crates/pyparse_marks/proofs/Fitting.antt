@@ -8,10 +8,10 @@ use Rattle.std.proofs.lemmas.Bool.{and_parts, or_parts}
 use Rattle.pylex_lexeme.specs.Characters.{left_parenthesis, right_parenthesis}
 use Rattle.pylex_lexeme.specs.Chars.{bytes_in}
 use Rattle.pylex_lexeme.specs.Lexemes.{Lexeme, cut, left_by_cut}
-use Rattle.pylex.specs.declared.kind.Kind.{Kind}
-use Rattle.pylex.specs.declared.kind.Kind.TheVariants as kinds
-use Rattle.pylex.specs.Spots.{kind_of}
-use Rattle.pylex.proofs.Callers.{is_cut, scalars_of}
+use Rattle.pylex_listing.specs.declared.kind.Kind.{Kind}
+use Rattle.pylex_listing.specs.declared.kind.Kind.TheVariants as kinds
+use Rattle.pylex_listing.specs.EntryKinds.{kind_of}
+use Rattle.pylex_listing.proofs.Callers.{is_cut, scalars_of}
 use Rattle.pyfstring_tokens.specs.FieldTokens.{FieldToken, field_tokens, opening, closing, is_gap, has_fault, closes_outer, has_comment}
 use Rattle.pyfstring_tokens.specs.Answers.{field_token}
 use Rattle.pyfstring_tokens.specs.Laws.{tokens_of}

@@ -6,7 +6,7 @@ use Rattle.std.specs.List.{list_any, flat_map, prefix_len}
 use Rattle.std.specs.Str.{all_scalars}
 use Rattle.std.proofs.Math.Utf8.{scalar}
 use Rattle.std.proofs.lemmas.Bool.{and_parts, or_parts}
-use Rattle.pylex.proofs.Callers.{scalars_of}
+use Rattle.pylex_listing.proofs.Callers.{scalars_of}
 use Rattle.pyfstring.specs.Characters.{exclamation_mark, colon, equals_sign, small_a, small_r, small_s, left_curly_bracket}
 use Rattle.pyfstring.specs.Characters.{right_curly_bracket}
 use Rattle.pyfstring.specs.declared.parts.Conversion.{Conversion}

@@ -1,6 +1,6 @@
 -- Carries: push_token. On: the spans of a token.
 use Rattle.std.proofs.Common.{◌≡◌, ℕ, ◌+◌, Bool, false, List, [], ◌∷◌, ap, if◌then◌else◌}
-use Rattle.pylex.specs.declared.kind.Kind.{Kind}
+use Rattle.pylex_listing.specs.declared.kind.Kind.{Kind}
 use Rattle.pylex_lexeme.specs.Chars.{bytes_in}
 use Rattle.pytoken.specs.FormattedStrings.{is_fstring}
 use Rattle.pyparse_marks.specs.Spans.{span}

@@ -9,7 +9,7 @@ use Rattle.std.proofs.lemmas.Str.{encodes-append}
 use Rattle.pysource.specs.declared.places.Place.{Place}
 use Rattle.pylex_lexeme.specs.Chars.{bytes_in}
 use Rattle.pylex_lexeme.specs.Characters.{line_feed}
-use Rattle.pylex.specs.Machine.{place_past}
+use Rattle.pylex_listing.specs.Machine.{place_past}
 use Rattle.pyparse_marks.specs.LineSpans.{offset}
 
 pub bytes_both : (a b : List ℕ) → bytes_in (a ++ b) ≡ bytes_in a + bytes_in b

@@ -12,19 +12,18 @@ use Rattle.pylex_lexeme.specs.Operators.{is_closer}
 use Rattle.pylex_lexeme.specs.declared.lexeme.Class.{Class}
 use Rattle.pylex_lexeme.specs.declared.lexeme.Class.TheVariants.{Name, Number, String, Operator, Comment, Blanks, LineEnd, Join}
 use Rattle.pylex_lexeme.specs.Lexemes.{Lexeme, cut, left_by_cut, is_open_string}
-use Rattle.pylex.specs.declared.kind.Kind.TheVariants as kinds
-use Rattle.pylex.specs.declared.entries.Entry.{Entry}
-use Rattle.pylex.specs.declared.entries.ListingFault.{ListingFault}
-use Rattle.pylex.specs.declared.entries.ListingError.TheVariants as errors
-use Rattle.pylex.specs.declared.entries.Step.{Step}
-use Rattle.pylex.specs.declared.entries.Step.TheVariants as steps
-use Rattle.pylex.specs.Lines.{is_significant}
-use Rattle.pylex.specs.Listing.{Source, listing, stop_fault, up_to_end, origin, further, row_after}
-use Rattle.pylex.specs.Machine.{State, place_past, after, layout_of, entry_by, gives, last_line_end, is_hash, dedents_at, mark_at}
-use Rattle.pylex.specs.Machine.{last_place}
-use Rattle.pylex.specs.Machine.{tail_of, stop_of, run, remaining, first_state, step_of, past}
-use Rattle.pylex.specs.Steps.{entries_of, fault_at, mark}
-use Rattle.pylex.proofs.Callers.{listing_is, is_cut}
+use Rattle.pylex_listing.specs.declared.kind.Kind.TheVariants as kinds
+use Rattle.pylex_listing.specs.declared.entries.Entry.{Entry}
+use Rattle.pylex_listing.specs.declared.entries.ListingFault.{ListingFault}
+use Rattle.pylex_listing.specs.declared.entries.ListingError.TheVariants as errors
+use Rattle.pylex_listing.specs.declared.entries.Step.{Step}
+use Rattle.pylex_listing.specs.declared.entries.Step.TheVariants as steps
+use Rattle.pylex_listing.specs.Lines.{is_significant}
+use Rattle.pylex_listing.specs.Listing.{Source, listing, stop_fault, up_to_end, origin, further, row_after}
+use Rattle.pylex_listing.specs.Machine.{State, place_past, after, layout_of, entry_by, gives, last_line_end, is_hash, dedents_at, mark_at}
+use Rattle.pylex_listing.specs.Machine.{last_place, tail_of, stop_of, run, remaining, first_state, step_of, past}
+use Rattle.pylex_listing.specs.Steps.{entries_of, fault_at, mark}
+use Rattle.pylex_listing.proofs.Callers.{listing_is, is_cut}
 use Rattle.pyfstring_tokens.specs.FieldTokens.{is_token_kind}
 use Rattle.pyparse_marks.proofs.PlaceLemmas.{bytes_both, spot_at, place_on}
 

@@ -5,7 +5,7 @@ use lib.Utf8.{encode}
 use Rattle.std.proofs.Common.{◌≡◌, [], ◌∷◌, ◌++◌, refl}
 use Rattle.std.specs.Prelude.{codes}
 use Rattle.pylex_lexeme.proofs.Callers.Lexemes.{lexemes}
-use Rattle.pylex.specs.declared.kind.Kind.TheVariants as kinds
+use Rattle.pylex_listing.specs.declared.kind.Kind.TheVariants as kinds
 use Rattle.pyfstring.specs.Texts.{unit_len, behind_text}
 use Rattle.pyfstring.specs.Expressions.{step, behind_expression}
 use Rattle.pyfstring.specs.Cutting.{before, text_at, expression_at, kept_at, conversion_at, front_at, spec_at, behind_closing, field_at}

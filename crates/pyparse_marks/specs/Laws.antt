@@ -1,7 +1,7 @@
 -- What holds of the spans of terminals.
 use Rattle.std.specs.Prelude.{◌≡◌, ℕ, true, List, None, length}
 use Rattle.std.specs.Str.{all_scalars}
-use Rattle.pylex.specs.declared.kind.Kind.{Kind}
+use Rattle.pylex_listing.specs.declared.kind.Kind.{Kind}
 use Rattle.pytree_node.specs.declared.profiles.Extent.TheVariants.{Whole}
 use Rattle.pytoken.specs.Terminals.{terminals_of, fault_of}
 use Rattle.pyparse_marks.specs.TokenSpans.{token_spans}

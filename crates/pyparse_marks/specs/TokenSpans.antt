@@ -8,8 +8,8 @@ use Rattle.std.specs.Prelude.{if◌then◌else◌}
 use Rattle.std.specs.Str.{encode_utf8_all}
 use Rattle.pylex_lexeme.specs.Chars.{bytes_in}
 use Rattle.pylex_lexeme.specs.Lexemes.{Lexeme, cut}
-use Rattle.pylex.specs.declared.kind.Kind.{Kind}
-use Rattle.pylex.specs.Spots.{kind_of}
+use Rattle.pylex_listing.specs.declared.kind.Kind.{Kind}
+use Rattle.pylex_listing.specs.EntryKinds.{kind_of}
 use Rattle.pyfstring.specs.Characters.{exclamation_mark}
 use Rattle.pyfstring.specs.Parts.{Part, text, field, SpecPart, BodyPart}
 use Rattle.pyfstring.specs.Cutting.{cut_of}

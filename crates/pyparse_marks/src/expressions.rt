@@ -4,15 +4,15 @@
 
 ghost use Rattle.std.specs.Prelude.{◌≡◌, true, List, ℕ, OnOk};
 ghost use Rattle.std.specs.Str.{chars};
-ghost use Rattle.pylex.specs.declared.kind.Kind.{Kind};
-ghost use Rattle.pylex.specs.Spots.{kind_of};
+ghost use Rattle.pylex_listing.specs.declared.kind.Kind.{Kind};
+ghost use Rattle.pylex_listing.specs.EntryKinds.{kind_of};
 ghost use Rattle.pyfstring_tokens.specs.FieldTokens.{is_gap};
 ghost use Rattle.pyparse_marks.specs.TokenSpans.{Walk, past_lexeme, past_expression, past_single};
 
 use crate::lengths::len;
 use crate::walkers::Walker;
-use pylex::Kind;
 use pylex_lexeme::lexeme::{Class, cut};
+use pylex_listing::Kind;
 use std::alloc::{AllocError, Global};
 
 /// What a token in the expression of a field is.

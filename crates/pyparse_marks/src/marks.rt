@@ -11,7 +11,7 @@ use crate::lengths::{len, span, sum};
 use crate::parts::pass_token;
 use crate::spans::Span;
 use crate::walkers::Walker;
-use pylex::Kind;
+use pylex_listing::Kind;
 use pytoken::is_fstring;
 use std::alloc::{AllocError, Global};
 use std::marker::Model;

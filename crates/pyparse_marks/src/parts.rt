@@ -16,7 +16,7 @@ use crate::formatted::{Around, pass_end, pass_front, pass_inner_spec, pass_text}
 use crate::lengths::{len, span, sum};
 use crate::walkers::Walker;
 use pyfstring::{CutError, Manner, Piece, SpecPiece, pieces};
-use pylex::Kind;
+use pylex_listing::Kind;
 use pytoken::{after_opening, body, is_fstring, is_raw};
 use std::alloc::{AllocError, Global};
 

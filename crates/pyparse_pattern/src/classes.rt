@@ -26,7 +26,7 @@ use crate::lists::put_pattern;
 use crate::makers::{above, boxed};
 use crate::names::is_wildcard;
 use pygrammar::PatternLevel;
-use pylex::Exact;
+use pylex_listing::Exact;
 use pyparse_looks::{Stop, is_op};
 use pyparse_nodes::{Read, append};
 use pyplaces::Recorder;

@@ -30,7 +30,7 @@ use crate::mappings::finish_mapping;
 use crate::names::{captured, is_wildcard};
 use crate::sequences::{round, square};
 use pygrammar::PatternLevel;
-use pylex::Exact;
+use pylex_listing::Exact;
 use pyparse_expr::Depth;
 use pyparse_looks::{Stop, is_op, terminal_at};
 use pyparse_nodes::{Read, identifier_of};

@@ -12,7 +12,7 @@ ghost use Rattle.pyplaces.specs.PlacedPatterns.{PlacedDotted};
 ghost use Rattle.pyplaces.specs.Recording.{Records};
 ghost use Rattle.pyplaces.specs.Stretches.{Stretch};
 
-use pylex::Exact;
+use pylex_listing::Exact;
 use pyparse_looks::{Stop, is_op, name_at};
 use pyparse_nodes::{Read, make_attribute, make_name};
 use pyplaces::Recorder;

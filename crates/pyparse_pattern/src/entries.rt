@@ -9,7 +9,7 @@ ghost use Rattle.pyparse_looks.specs.Views.{seen};
 ghost use Rattle.pyparse_pattern.specs.Inner.Entries.{entry_height, entry_heights, entry_of, item_of};
 
 use crate::found::ReadPattern;
-use pylex::Exact;
+use pylex_listing::Exact;
 use pyparse_looks::{Stop, terminal_at};
 use pyparse_nodes::append;
 use pytoken::{Keyword, Terminal};

@@ -21,7 +21,7 @@ ghost use Rattle.pyplaces.specs.Stretches.{Stretch};
 
 use crate::dotted::dotted;
 use crate::literals::read_literal;
-use pylex::Exact;
+use pylex_listing::Exact;
 use pyparse_expr::Depth;
 use pyparse_looks::{Stop, is_op, terminal_at};
 use pyparse_nodes::{Read, make_constant};

@@ -24,7 +24,7 @@ use crate::makers::{make_as, make_or, make_sequence, make_star};
 use crate::names::{captured, is_wildcard};
 use crate::sequences::others;
 use pygrammar::PatternLevel;
-use pylex::Exact;
+use pylex_listing::Exact;
 use pyparse_expr::Depth;
 use pyparse_looks::{Stop, is_op, is_word, name_at};
 use pyparse_nodes::identifier_of;

@@ -22,7 +22,7 @@ use crate::keys::read_key;
 use crate::levels::read_pattern;
 use crate::names::is_wildcard;
 use pygrammar::PatternLevel;
-use pylex::Exact;
+use pylex_listing::Exact;
 use pyparse_expr::Depth;
 use pyparse_looks::{Stop, is_op, name_at, name_with};
 use pyparse_nodes::identifier_of;

@@ -25,7 +25,7 @@ use crate::found::ReadPattern;
 use crate::lists::put_pattern;
 use crate::makers::{above, boxed};
 use pygrammar::PatternLevel;
-use pylex::Exact;
+use pylex_listing::Exact;
 use pyparse_looks::{Stop, is_op};
 use pyparse_nodes::put;
 use pyplaces::Recorder;

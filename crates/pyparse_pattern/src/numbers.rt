@@ -18,7 +18,7 @@ ghost use Rattle.pyplaces.specs.Recording.{Records};
 ghost use Rattle.pyplaces.specs.Stretches.{Stretch, stretch};
 
 use pygrammar::Level;
-use pylex::Exact;
+use pylex_listing::Exact;
 use pyparse_looks::{Stop, is_op, terminal_at};
 use pyparse_nodes::{Read, make_binary, make_constant, make_unary};
 use pyplaces::Recorder;

@@ -26,7 +26,7 @@ use crate::listings::read_entries;
 use crate::lists::{first_pattern, no_patterns, with_elements};
 use crate::makers::make_sequence;
 use pygrammar::PatternLevel;
-use pylex::Exact;
+use pylex_listing::Exact;
 use pyparse_expr::Depth;
 use pyparse_looks::{Stop, is_op};
 use pyplaces::Recorder;

@@ -5,13 +5,13 @@ use Rattle.std.proofs.Common.{arith, Some, None}
 use Rattle.std.specs.Prelude.{◌&&◌}
 use Rattle.std.specs.Str.{bytes_eq, IsAscii}
 use Rattle.std.proofs.lemmas.Str.Ascii.{IsAscii-nil, IsAscii-cons}
-use Rattle.pylex.specs.declared.kind.Kind.TheVariants as kinds
-use Rattle.pylex.specs.declared.entries.Entry.{Entry}
-use Rattle.pylex.specs.declared.entries.Step.{Step}
-use Rattle.pylex.specs.declared.entries.Step.TheVariants as steps
-use Rattle.pylex.specs.Listing.{Source, listing}
-use Rattle.pylex.specs.Steps.{entries_of, fault_of, IsNoEntry}
-use Rattle.pylex.specs.Laws.{AreWhole}
+use Rattle.pylex_listing.specs.declared.kind.Kind.TheVariants as kinds
+use Rattle.pylex_listing.specs.declared.entries.Entry.{Entry}
+use Rattle.pylex_listing.specs.declared.entries.Step.{Step}
+use Rattle.pylex_listing.specs.declared.entries.Step.TheVariants as steps
+use Rattle.pylex_listing.specs.Listing.{Source, listing}
+use Rattle.pylex_listing.specs.Steps.{entries_of, fault_of, IsNoEntry}
+use Rattle.pylex_listing.specs.Laws.{AreWhole}
 use Rattle.pytoken.specs.Inner.Behind.{behind}
 use Rattle.pytoken.specs.Tokens.{Token, token_of, supplied, is_open, tokens_of_entry, tokens_from, tokens}
 use Rattle.pytoken.proofs.Callers.OnePass.{tokens_on}

@@ -5,10 +5,10 @@ use Rattle.std.specs.Str.{chars, IsUtf8}
 use Rattle.std.proofs.lemmas.Str.{chars-nil, encodes-chars}
 use Rattle.pysource.specs.declared.places.Place.{Place}
 use Rattle.pysource.specs.Places.{place_after, place_at}
-use Rattle.pylex.specs.declared.kind.Kind.TheVariants as kinds
-use Rattle.pylex.specs.declared.entries.Entry.{Entry}
-use Rattle.pylex.specs.Listing.{Source, listing}
-use Rattle.pylex.specs.Steps.{entries_of}
+use Rattle.pylex_listing.specs.declared.kind.Kind.TheVariants as kinds
+use Rattle.pylex_listing.specs.declared.entries.Entry.{Entry}
+use Rattle.pylex_listing.specs.Listing.{Source, listing}
+use Rattle.pylex_listing.specs.Steps.{entries_of}
 use Rattle.pytoken.specs.Tokens.{Token, text_of, supplied, tokens_of_entry, tokens_from, tokens}
 use Rattle.pytoken.proofs.Callers.OnePass.{tokens_on}
 use Rattle.pyparse_tokens.specs.declared.gather.Gather.{Gather}

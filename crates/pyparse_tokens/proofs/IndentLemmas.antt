@@ -10,13 +10,13 @@ use Rattle.std.proofs.lemmas.List.{length-replicate}
 use Rattle.std.proofs.lemmas.List.Sums.{take_while-cons}
 use Rattle.std.proofs.lemmas.Str.{encode_ascii, encodes-chars, IsCharBoundary-at_seam}
 use Rattle.pylex_lexeme.specs.Chars.{is_blank_char}
-use Rattle.pylex.specs.Indentation.{width_from}
-use Rattle.pylex.specs.Margins.{blanks_of, width_by_one, widths_of}
+use Rattle.pylex_listing.specs.Indentation.{width_from}
+use Rattle.pylex_listing.specs.Margins.{blanks_of, width_by_one, widths_of}
 use Rattle.pyparse_tokens.proofs.TextLemmas.{past, no_chars}
 use Rattle.std.specs.Prelude.{replicate}
 use Rattle.std.specs.Option.{is_some, option_or}
 use Rattle.std.specs.List.{list_any}
-use Rattle.pylex.specs.declared.margins.Widths.{Widths}
+use Rattle.pylex_listing.specs.declared.margins.Widths.{Widths}
 use Rattle.pylex.proofs.Callers.{spaces_utf8, spaces_chars, behind_spaces}
 use Rattle.pytoken.specs.declared.refusals.Refusal.{Refusal}
 use Rattle.pytoken.specs.declared.refusals.Refusal.TheVariants.{MixedTabs}

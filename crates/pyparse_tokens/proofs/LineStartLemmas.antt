@@ -5,13 +5,14 @@ use Rattle.pysource.specs.declared.places.Place.{Place}
 use Rattle.pysource.specs.Parts.{Parts}
 use Rattle.pylex_lexeme.specs.declared.lexeme.Class.{Class}
 use Rattle.pylex_lexeme.specs.declared.lexeme.Class.TheVariants.{Name, Number, String, Operator, Comment, Blanks, LineEnd, Join}
-use Rattle.pylex.specs.declared.kind.Kind.{Kind}
-use Rattle.pylex.specs.declared.entries.Step.TheVariants as steps
+use Rattle.pylex_listing.specs.declared.kind.Kind.{Kind}
+use Rattle.pylex_listing.specs.declared.entries.Step.TheVariants as steps
 use Rattle.pylex.specs.declared.spots.Spot.{Spot}
 use Rattle.pylex.specs.Cursors.{CursorParts}
 use Rattle.pylex.specs.Listers.{Listed, NextStep}
 use Rattle.pylex.specs.LineStarts.{begins_line, BeginsLine}
-use Rattle.pylex.specs.Spots.{spot_cursor, at_spot, kind_of, operator_of}
+use Rattle.pylex.specs.Spots.{spot_cursor, at_spot}
+use Rattle.pylex_listing.specs.EntryKinds.{kind_of, operator_of}
 use Rattle.std.proofs.Common.{List}
 use Rattle.std.specs.Prelude.{slice_range}
 use Rattle.std.specs.Str.{encode_utf8_all}

@@ -4,13 +4,13 @@ use Rattle.std.proofs.Common.{Some}
 use Rattle.std.proofs.Common.{slice_get, take_all}
 use Rattle.std.specs.Prelude.{slice_index_or}
 use Rattle.std.specs.Str.{IsCharBoundary}
-use Rattle.pylex.specs.declared.entries.Entry.{Entry}
-use Rattle.pylex.specs.declared.entries.Step.{Step}
-use Rattle.pylex.specs.declared.entries.Step.TheVariants as steps
-use Rattle.pylex.specs.Steps.{entries_of, fault_of, entries_in, IsNoEntry}
-use Rattle.pylex.specs.Listing.{Source, listing}
+use Rattle.pylex_listing.specs.declared.entries.Entry.{Entry}
+use Rattle.pylex_listing.specs.declared.entries.Step.{Step}
+use Rattle.pylex_listing.specs.declared.entries.Step.TheVariants as steps
+use Rattle.pylex_listing.specs.Steps.{entries_of, fault_of, entries_in, IsNoEntry}
+use Rattle.pylex_listing.specs.Listing.{Source, listing}
 use Rattle.pylex.specs.Listers.{Listed, StandsIn, NextStep}
-use Rattle.pylex.specs.Laws.{AreWhole, AllLie}
+use Rattle.pylex_listing.specs.Laws.{AreWhole, AllLie}
 
 walk_entry : (es : List Entry) (last : Step) → IsNoEntry last → (k : ℕ) (e : Entry) →
     slice_get (map steps.Entry es ++ last ∷ []) k ≡ Some (steps.Entry e) →

@@ -12,16 +12,17 @@ use Rattle.pylex_lexeme.specs.Chars.{bytes_in}
 use Rattle.pylex_lexeme.specs.declared.lexeme.Class.{Class}
 use Rattle.pylex_lexeme.specs.declared.lexeme.Class.TheVariants.{Name, Number, String, Operator, Comment, Blanks, LineEnd, Join}
 use Rattle.pylex_lexeme.proofs.Callers.Fronts.{length-text}
-use Rattle.pylex.specs.declared.kind.Kind.{Kind}
-use Rattle.pylex.specs.declared.entries.Entry.{Entry}
-use Rattle.pylex.specs.declared.entries.Step.{Step}
-use Rattle.pylex.specs.declared.entries.Step.TheVariants as steps
+use Rattle.pylex_listing.specs.declared.kind.Kind.{Kind}
+use Rattle.pylex_listing.specs.declared.entries.Entry.{Entry}
+use Rattle.pylex_listing.specs.declared.entries.Step.{Step}
+use Rattle.pylex_listing.specs.declared.entries.Step.TheVariants as steps
 use Rattle.pylex.specs.declared.spots.Spot.{Spot}
-use Rattle.pylex.specs.Laws.{LiesIn}
-use Rattle.pylex.specs.Listing.{in_characters, listing}
+use Rattle.pylex_listing.specs.Laws.{LiesIn}
+use Rattle.pylex_listing.specs.Listing.{in_characters, listing}
 use Rattle.pylex.specs.Listers.{Listed, NextStep}
-use Rattle.pylex.specs.Spots.{at_spot, kind_of, Steps}
-use Rattle.pylex.specs.Steps.{entries_of}
+use Rattle.pylex.specs.Spots.{at_spot, Steps}
+use Rattle.pylex_listing.specs.EntryKinds.{kind_of}
+use Rattle.pylex_listing.specs.Steps.{entries_of}
 use Rattle.pytoken.specs.Inner.Behind.{behind}
 use Rattle.pytoken.specs.Tokens.{Token, Line, text_of, token_of, is_open, lines}
 use Rattle.pyparse_marks.specs.Spans.{Span, added}

@@ -11,7 +11,7 @@ use Rattle.std.proofs.lemmas.Bool.Decides.{nat_tests}
 use Rattle.std.proofs.lemmas.List.Elements.{filter-append}
 use Rattle.std.proofs.lemmas.List.Folds.{list_any-append}
 use Rattle.std.proofs.Math.Bool.{or-false}
-use Rattle.pylex.specs.declared.margins.Widths.{Widths}
+use Rattle.pylex_listing.specs.declared.margins.Widths.{Widths}
 use Rattle.pylex.proofs.Callers.{drop_at}
 use Rattle.pytoken.specs.Indentation.{Margin, are_alike, is_mixed_past, is_mixed}
 use Rattle.pyparse_tokens.specs.Inner.Indenting.{is_less, are_rising, clashes, narrower, Drops, standing_of, HoldSame, Stands}

@@ -2,7 +2,7 @@
 
 ghost use Rattle.std.specs.Prelude.{◌≡◌, ◌^◌, ◌<◌, false, [], ◌∷◌, map, IfOk, IfErr, OnOk, None};
 ghost use Rattle.std.specs.Str.{chars, IsCharBoundary};
-ghost use Rattle.pylex.specs.Laws.{LiesIn};
+ghost use Rattle.pylex_listing.specs.Laws.{LiesIn};
 ghost use Rattle.pytoken.specs.Tokens.{text_of, supplied, tokens_of_entry};
 ghost use Rattle.pytoken.specs.Tokens.{token_of as text_token};
 ghost use Rattle.pytoken.specs.Refusals.{entry_refusal};

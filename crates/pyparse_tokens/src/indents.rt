@@ -5,8 +5,8 @@
 ghost use Rattle.std.specs.Prelude.{◌≡◌, ◌++◌, true, List, [], ◌∷◌, length, drop, OnOk, None};
 ghost use Rattle.std.specs.Str.{chars, IsCharBoundary};
 ghost use Rattle.pylex_lexeme.specs.Chars.{is_blank_char};
-ghost use Rattle.pylex.specs.declared.margins.Widths.{Widths};
-ghost use Rattle.pylex.specs.Margins.{blanks_of, widths_of};
+ghost use Rattle.pylex_listing.specs.declared.margins.Widths.{Widths};
+ghost use Rattle.pylex_listing.specs.Margins.{blanks_of, widths_of};
 ghost use Rattle.pytoken.specs.Indentation.{behind_offset, are_alike, margin_at};
 ghost use Rattle.pyparse_tokens.specs.Inner.Indenting.{is_logical_at, start_at, are_rising};
 ghost use Rattle.pyparse_tokens.specs.Inner.Indenting.{AreSpaces, begins_blank, Drops, Measures};

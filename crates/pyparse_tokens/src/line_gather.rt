@@ -4,7 +4,7 @@
 ghost use Rattle.std.specs.Prelude.{◌≡◌, ◌^◌, ◌<◌, ◌-◌, ◌++◌, ◌&&◌, [], ◌∷◌, map, IfOk, OnOk, None};
 ghost use Rattle.std.specs.Prelude.{true, false, Some, length};
 ghost use Rattle.std.specs.Str.{chars, IsCharBoundary};
-ghost use Rattle.pylex.specs.Laws.{LiesIn, HasExact};
+ghost use Rattle.pylex_listing.specs.Laws.{LiesIn, HasExact};
 ghost use Rattle.pytoken.specs.Refusals.{entry_refusal};
 ghost use Rattle.pyparse_tokens.specs.Inner.Passing.{counted, kept_refusal, Passed};
 ghost use Rattle.pyparse_tokens.specs.Inner.LineGathering.{
@@ -18,7 +18,8 @@ ghost use Rattle.pyparse_tokens.specs.Inner.LineGathering.{
   TakesEntry,
 };
 ghost use Rattle.pyparse_tokens.specs.Inner.OpenLines.{keeps_match};
-ghost use Rattle.pylex.specs.Spots.{is_silent, kind_of, operator_of};
+ghost use Rattle.pylex.specs.Spots.{is_silent};
+ghost use Rattle.pylex_listing.specs.EntryKinds.{kind_of, operator_of};
 ghost use Rattle.pyparse_tokens.specs.Inner.LineBeginning.{TakesStart};
 ghost use Rattle.pyparse_tokens.specs.Inner.Walking.{
   is_plain_token,

@@ -4,7 +4,7 @@
 
 ghost use Rattle.std.specs.Prelude.{◌≡◌, ◌+◌, ℕ, true, false, length, map, Bool, Some, None};
 ghost use Rattle.std.specs.Prelude.{Result, IfOk, IfErr, if◌then◌else◌, slice_get};
-ghost use Rattle.pylex.specs.Listing.{in_characters};
+ghost use Rattle.pylex_listing.specs.Listing.{in_characters};
 ghost use Rattle.pytoken.specs.TerminalOf.{terminal};
 ghost use Rattle.pytoken.specs.Tokens.{Line, lines};
 ghost use Rattle.pyparse_marks.specs.LineSpans.{line_spans};

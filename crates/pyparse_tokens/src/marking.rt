@@ -2,7 +2,7 @@
 
 ghost use Rattle.std.specs.Prelude.{◌≡◌, ◌-◌, length, OnOk};
 ghost use Rattle.std.specs.Str.{chars};
-ghost use Rattle.pylex.specs.Laws.{LiesIn};
+ghost use Rattle.pylex_listing.specs.Laws.{LiesIn};
 ghost use Rattle.pyparse_marks.specs.Spans.{added};
 ghost use Rattle.pyparse_tokens.specs.Inner.Marking.{entry_spans, lexeme_spans};
 

@@ -2,7 +2,7 @@
 
 ghost use Rattle.std.specs.Prelude.{◌≡◌, ◌^◌, ◌<◌, [], true, false, IfOk, OnOk};
 ghost use Rattle.std.specs.Str.{IsCharBoundary, chars};
-ghost use Rattle.pylex.specs.Laws.{LiesIn};
+ghost use Rattle.pylex_listing.specs.Laws.{LiesIn};
 ghost use Rattle.pytoken.specs.Brackets.{opens, closes};
 ghost use Rattle.pyparse_tokens.specs.Inner.Passing.{still_open, line_ends, exceeding, counted};
 ghost use Rattle.pyparse_tokens.specs.Inner.Passing.{kept_refusal, TakesBracket, Gains, Passed};

@@ -1,7 +1,7 @@
 //! The tokens of a source.
 
 ghost use Rattle.std.specs.Prelude.{◌≡◌, map, IfOk, IfErr, OnOk, None};
-ghost use Rattle.pylex.specs.Listing.{in_characters};
+ghost use Rattle.pylex_listing.specs.Listing.{in_characters};
 ghost use Rattle.pytoken.specs.Tokens.{tokens};
 ghost use Rattle.pytoken.specs.Refusals.{refusal};
 ghost use Rattle.pytoken.specs.Laws.{AreLawful, TokensAreSound, ExtentsDifferInNumbers};

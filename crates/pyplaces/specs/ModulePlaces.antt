@@ -1,7 +1,7 @@
 -- The places of an accepted source: those of its block, over the forms of its lines.
 use Rattle.std.specs.Prelude.{ℕ, zero, suc, ◌+◌, ◌==◌, cond, List, [], ◌∷◌, count_by, take}
 use Rattle.pylex_lexeme.specs.Characters.{line_feed}
-use Rattle.pylex.specs.Listing.{Source}
+use Rattle.pylex_listing.specs.Listing.{Source}
 use Rattle.pytree_node.specs.declared.profiles.Profile.{Profile}
 use Rattle.pytree_node.specs.Trees.{Module}
 use Rattle.pytoken.specs.Tokens as Tokens

@@ -20,20 +20,20 @@ use Rattle.pylex_lexeme.specs.Strings.{opens_string, counts_as_string, is_string
 use Rattle.pylex_lexeme.specs.Operators.{is_closer, is_operator, exact_of}
 use Rattle.pylex_lexeme.specs.Lexemes.{Lexeme, is_name, is_comment, are_blanks, is_line_end, is_join, plain_class, class_in, cut}
 use Rattle.pylex_lexeme.specs.Lexemes.{left_by_cut, is_open_string}
-use Rattle.pylex.specs.declared.kind.Kind.{Kind}
-use Rattle.pylex.specs.declared.kind.Kind.TheVariants as kinds
-use Rattle.pylex.specs.declared.entries.Entry.{Entry}
-use Rattle.pylex.specs.declared.entries.ListingFault.{ListingFault}
-use Rattle.pylex.specs.declared.entries.ListingError.TheVariants as errors
-use Rattle.pylex.specs.declared.entries.Step.{Step}
-use Rattle.pylex.specs.declared.entries.Step.TheVariants as steps
-use Rattle.pylex.specs.Lines.{text_before, depth, is_significant, is_at_margin, is_logical}
-use Rattle.pylex.specs.Indentation.{width_at, widths, open_levels, dedents, layout_by, layout}
-use Rattle.pylex.specs.Listing.{Source, listing, origin, entry_of, steps_of, stop_fault}
-use Rattle.pylex.specs.Listing.{last_line, begins_comment, line_end_of_last, end_place, ends_in_join, tail, stop, steps_from, up_to_end}
-use Rattle.pylex.specs.Steps.{entries_of, mark, fault_at}
-use Rattle.pylex.specs.Laws.{AreLexemes}
-use Rattle.pylex.proofs.Callers.{cut_lexed, longest_wins, scalars_of}
+use Rattle.pylex_listing.specs.declared.kind.Kind.{Kind}
+use Rattle.pylex_listing.specs.declared.kind.Kind.TheVariants as kinds
+use Rattle.pylex_listing.specs.declared.entries.Entry.{Entry}
+use Rattle.pylex_listing.specs.declared.entries.ListingFault.{ListingFault}
+use Rattle.pylex_listing.specs.declared.entries.ListingError.TheVariants as errors
+use Rattle.pylex_listing.specs.declared.entries.Step.{Step}
+use Rattle.pylex_listing.specs.declared.entries.Step.TheVariants as steps
+use Rattle.pylex_listing.specs.Lines.{text_before, depth, is_significant, is_at_margin, is_logical}
+use Rattle.pylex_listing.specs.Indentation.{width_at, widths, open_levels, dedents, layout_by, layout}
+use Rattle.pylex_listing.specs.Listing.{Source, listing, origin, entry_of, steps_of, stop_fault, last_line, begins_comment}
+use Rattle.pylex_listing.specs.Listing.{line_end_of_last, end_place, ends_in_join, tail, stop, steps_from, up_to_end}
+use Rattle.pylex_listing.specs.Steps.{entries_of, mark, fault_at}
+use Rattle.pylex_listing.specs.Laws.{AreLexemes}
+use Rattle.pylex_listing.proofs.Callers.{cut_lexed, longest_wins, scalars_of}
 use Rattle.pyfstring_tokens.specs.FieldTokens.{is_token_kind}
 use Rattle.pytoken.specs.Tokens.{text_of}
 use Rattle.pytoken.proofs.Callers.TextLemmas.{own_text, counted}

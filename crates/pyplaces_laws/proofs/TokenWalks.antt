@@ -7,7 +7,7 @@ use Rattle.std.specs.Prelude.{if◌then◌else◌, option_map}
 use Rattle.std.proofs.lemmas.List.{take-append-drop}
 use Rattle.pylex_lexeme.specs.Chars.{bytes_in}
 use Rattle.pylex_lexeme.specs.Strings.{begins_three}
-use Rattle.pylex.specs.declared.kind.Kind.{Kind}
+use Rattle.pylex_listing.specs.declared.kind.Kind.{Kind}
 use Rattle.pyfstring.specs.declared.parts.Manner.{Manner}
 use Rattle.pyfstring.specs.Parts.{BodyPart}
 use Rattle.pyfstring.proofs.Callers.Law.{cut_of_sound}

@@ -5,9 +5,9 @@ use Rattle.std.proofs.Common.{◌≡◌, refl, ap, ◌∙◌, ℕ, ◌+◌, ◌<
 use Rattle.std.specs.List.{flat_map}
 use Rattle.pylex_lexeme.specs.Chars.{bytes_in}
 use Rattle.pylex_lexeme.specs.Lexemes.{Lexeme, cut, left_by_cut}
-use Rattle.pylex.specs.declared.kind.Kind.{Kind}
-use Rattle.pylex.specs.Spots.{kind_of}
-use Rattle.pylex.proofs.Callers.{is_cut}
+use Rattle.pylex_listing.specs.declared.kind.Kind.{Kind}
+use Rattle.pylex_listing.specs.EntryKinds.{kind_of}
+use Rattle.pylex_listing.proofs.Callers.{is_cut}
 use Rattle.pyfstring_tokens.specs.FieldTokens.{is_gap}
 use Rattle.pyparse_marks.specs.Spans.{Span, span}
 use Rattle.pyparse_marks.specs.TokenSpans.{Walk, put, further, moved, over, past_each, past_lexeme, past_expression}

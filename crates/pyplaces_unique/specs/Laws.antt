@@ -1,6 +1,6 @@
 -- Two derivations have the same places: of the same terminals, of the same lines, of one source.
 use Rattle.std.specs.Prelude.{◌≡◌, ℕ, List, Bool}
-use Rattle.pylex.specs.Listing.{Source}
+use Rattle.pylex_listing.specs.Listing.{Source}
 use Rattle.pytree_node.specs.declared.profiles.Profile.{Profile}
 use Rattle.pytree_node.specs.Trees.{Expr, Module, Pattern, Stmt}
 use Rattle.pytoken.specs.Terminals.{Terminal}

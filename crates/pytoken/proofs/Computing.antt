@@ -12,10 +12,10 @@ use Rattle.pylex_lexeme.proofs.Callers.Lexemes.{lexemes}
 use Rattle.pynatural.specs.Readings.{written, most_digits}
 use Rattle.pyfloat.specs.FloatValues.{float_value}
 use Rattle.pylex_lexeme.specs.Cuts.{begins_significant}
-use Rattle.pylex.specs.Margins.{width_by_one}
-use Rattle.pylex.specs.Lines.{depth, line_so_far, is_at_margin, is_logical}
-use Rattle.pylex.specs.Indentation.{width_from, width_at, widths, open_levels, layout_by, layout}
-use Rattle.pylex.specs.Listing.{entry_of, steps_of, stop_fault, last_line, line_end_of_last, end_place, tail, stop, listing}
+use Rattle.pylex_listing.specs.Margins.{width_by_one}
+use Rattle.pylex_listing.specs.Lines.{depth, line_so_far, is_at_margin, is_logical}
+use Rattle.pylex_listing.specs.Indentation.{width_from, width_at, widths, open_levels, layout_by, layout}
+use Rattle.pylex_listing.specs.Listing.{entry_of, steps_of, stop_fault, last_line, line_end_of_last, end_place, tail, stop, listing}
 use Rattle.pyfstring.specs.Texts.{unit_len, behind_text}
 use Rattle.pyfstring.specs.Expressions.{step, behind_expression}
 use Rattle.pyfstring.specs.Singles.{single}

@@ -9,10 +9,10 @@ use Rattle.std.specs.Option.{option_or}
 use Rattle.std.proofs.lemmas.List.Elements.{All-nil, All-cons}
 use Rattle.pysource.specs.declared.places.Place.{Place}
 use Rattle.pylex_lexeme.specs.declared.kinds.Exact.{Exact}
-use Rattle.pylex.specs.declared.kind.Kind.{Kind}
-use Rattle.pylex.specs.declared.kind.Kind.TheVariants as kinds
-use Rattle.pylex.specs.declared.entries.Entry.{Entry}
-use Rattle.pylex.specs.declared.entries.ListingFault.{ListingFault}
+use Rattle.pylex_listing.specs.declared.kind.Kind.{Kind}
+use Rattle.pylex_listing.specs.declared.kind.Kind.TheVariants as kinds
+use Rattle.pylex_listing.specs.declared.entries.Entry.{Entry}
+use Rattle.pylex_listing.specs.declared.entries.ListingFault.{ListingFault}
 use Rattle.pytoken.specs.declared.faults.TokenError.{TokenError}
 use Rattle.pytoken.specs.declared.refusals.Refusal.{Refusal}
 use Rattle.pytoken.specs.declared.refusals.Refusal.TheVariants as refusals

@@ -21,8 +21,8 @@ use Rattle.pylex_lexeme.specs.Strings.{opens_string, counts_as_string}
 use Rattle.pylex_lexeme.specs.Operators.{is_operator, exact_of}
 use Rattle.pylex_lexeme.specs.Numbers.{is_number}
 use Rattle.pylex_lexeme.specs.Lexemes.{is_name, is_comment, are_blanks, is_line_end, is_join, plain_class, class_in}
-use Rattle.pylex.specs.Indentation.{column_after, width_from}
-use Rattle.pylex.specs.Margins.{blanks_of, widths_of}
+use Rattle.pylex_listing.specs.Indentation.{column_after, width_from}
+use Rattle.pylex_listing.specs.Margins.{blanks_of, widths_of}
 use Rattle.pytoken.specs.Indentation.{Margin, behind_offset, margin_at}
 
 -- The text behind an offset

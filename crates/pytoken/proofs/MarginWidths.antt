@@ -20,22 +20,21 @@ use Rattle.pylex_lexeme.specs.Strings.{opens_string}
 use Rattle.pylex_lexeme.specs.Operators.{is_closer}
 use Rattle.pylex_lexeme.specs.Lexemes.{Lexeme, is_comment, are_blanks, is_line_end, lexeme_at, cut, left_by_cut}
 use Rattle.pylex_lexeme.specs.Lexemes.{is_open_string, is_significant_class, is_line_end_class, is_blanks_class}
-use Rattle.pylex.specs.declared.kind.Kind.TheVariants as kinds
-use Rattle.pylex.specs.declared.entries.Entry.{Entry}
-use Rattle.pylex.specs.declared.entries.ListingFault.{ListingFault}
-use Rattle.pylex.specs.declared.entries.ListingError.TheVariants as errors
-use Rattle.pylex.specs.declared.entries.Step.{Step}
-use Rattle.pylex.specs.declared.entries.Step.TheVariants as steps
-use Rattle.pylex.specs.Lines.{text_before, opens, closes, depth, is_of_blanks, is_of_line_end, is_significant, line_so_far, is_at_margin}
-use Rattle.pylex.specs.Lines.{is_logical}
-use Rattle.pylex.specs.Indentation.{width_from, width_at, widths, open_levels, dedents, layout_by, layout}
-use Rattle.pylex.specs.Margins.{blanks_of}
-use Rattle.pylex.specs.Listing.{listing, origin, line_end_kind, entry_of, steps_of, stop_fault}
-use Rattle.pylex.specs.Listing.{last_line, begins_comment, line_end_of_last, end_place, ends_in_join, tail, stop, steps_from, up_to_end}
-use Rattle.pylex.specs.Listing.{further}
-use Rattle.pylex.specs.Steps.{entries_of, fault_of, fault_at}
-use Rattle.pylex.specs.Laws.{AreLexemes}
-use Rattle.pylex.proofs.Callers.{is_cut, longest_wins, significant_is}
+use Rattle.pylex_listing.specs.declared.kind.Kind.TheVariants as kinds
+use Rattle.pylex_listing.specs.declared.entries.Entry.{Entry}
+use Rattle.pylex_listing.specs.declared.entries.ListingFault.{ListingFault}
+use Rattle.pylex_listing.specs.declared.entries.ListingError.TheVariants as errors
+use Rattle.pylex_listing.specs.declared.entries.Step.{Step}
+use Rattle.pylex_listing.specs.declared.entries.Step.TheVariants as steps
+use Rattle.pylex_listing.specs.Lines.{text_before, opens, closes, depth, is_of_blanks, is_of_line_end, is_significant, line_so_far}
+use Rattle.pylex_listing.specs.Lines.{is_at_margin, is_logical}
+use Rattle.pylex_listing.specs.Indentation.{width_from, width_at, widths, open_levels, dedents, layout_by, layout}
+use Rattle.pylex_listing.specs.Margins.{blanks_of}
+use Rattle.pylex_listing.specs.Listing.{listing, origin, line_end_kind, entry_of, steps_of, stop_fault, last_line, begins_comment}
+use Rattle.pylex_listing.specs.Listing.{line_end_of_last, end_place, ends_in_join, tail, stop, steps_from, up_to_end, further}
+use Rattle.pylex_listing.specs.Steps.{entries_of, fault_of, fault_at}
+use Rattle.pylex_listing.specs.Laws.{AreLexemes}
+use Rattle.pylex_listing.proofs.Callers.{is_cut, longest_wins, significant_is}
 use Rattle.pytoken.specs.Brackets
 use Rattle.pytoken.specs.Brackets.{open_brackets}
 use Rattle.pytoken.specs.Indentation.{Margin, behind_offset, margin_at, ends_line, margins_from}

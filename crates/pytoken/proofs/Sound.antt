@@ -23,20 +23,19 @@ use Rattle.pylex_lexeme.specs.Operators.{is_closer, is_operator, exact_of}
 use Rattle.pylex_lexeme.specs.Lexemes.{Lexeme, is_name, is_comment, are_blanks, is_line_end, is_join, plain_class, class_in, cut}
 use Rattle.pylex_lexeme.specs.Lexemes.{left_by_cut}
 use Rattle.pylex_lexeme.specs.Lexemes.{is_open_string}
-use Rattle.pylex.specs.declared.kind.Kind.{Kind}
-use Rattle.pylex.specs.declared.kind.Kind.TheVariants as kinds
-use Rattle.pylex.specs.declared.entries.Entry.{Entry}
-use Rattle.pylex.specs.declared.entries.ListingFault.{ListingFault}
-use Rattle.pylex.specs.declared.entries.ListingError.TheVariants as errors
-use Rattle.pylex.specs.declared.entries.Step.{Step}
-use Rattle.pylex.specs.declared.entries.Step.TheVariants as steps
-use Rattle.pylex.specs.Lines.{text_before, depth, is_significant, is_at_margin, is_logical}
-use Rattle.pylex.specs.Indentation.{width_at, widths, open_levels, dedents, layout_by, layout}
-use Rattle.pylex.specs.Listing.{Source, listing, origin, line_end_kind, entry_of, steps_of, stop_fault}
-use Rattle.pylex.specs.Listing.{last_line, begins_comment, line_end_of_last, end_place, ends_in_join, tail, stop, steps_from, up_to_end}
-use Rattle.pylex.specs.Steps.{entries_of, mark, fault_at}
-use Rattle.pylex.specs.Steps.{fault_of as listing_fault}
-use Rattle.pylex.specs.Laws.{LongestWins, AreLexemes, IsLawful}
+use Rattle.pylex_listing.specs.declared.kind.Kind.{Kind}
+use Rattle.pylex_listing.specs.declared.kind.Kind.TheVariants as kinds
+use Rattle.pylex_listing.specs.declared.entries.Entry.{Entry}
+use Rattle.pylex_listing.specs.declared.entries.ListingFault.{ListingFault}
+use Rattle.pylex_listing.specs.declared.entries.ListingError.TheVariants as errors
+use Rattle.pylex_listing.specs.declared.entries.Step.{Step}
+use Rattle.pylex_listing.specs.declared.entries.Step.TheVariants as steps
+use Rattle.pylex_listing.specs.Lines.{text_before, depth, is_significant, is_at_margin, is_logical}
+use Rattle.pylex_listing.specs.Indentation.{width_at, widths, open_levels, dedents, layout_by, layout}
+use Rattle.pylex_listing.specs.Listing.{Source, listing, origin, line_end_kind, entry_of, steps_of, stop_fault, last_line, begins_comment}
+use Rattle.pylex_listing.specs.Listing.{line_end_of_last, end_place, ends_in_join, tail, stop, steps_from, up_to_end}
+use Rattle.pylex_listing.specs.Steps.{entries_of, mark, fault_at, fault_of as listing_fault}
+use Rattle.pylex_listing.specs.Laws.{LongestWins, AreLexemes, IsLawful}
 use Rattle.pytree_node.specs.declared.profiles.Extent.TheVariants.{Whole}
 use Rattle.pytoken.specs.Terminals.{single_fault, fault_by, fault_of, is_of, IsSound}
 use Rattle.pytoken.specs.Tokens.{Token, text_of, is_open, tokens_of_entry, tokens_from, tokens}
@@ -45,7 +44,7 @@ use Rattle.pytoken.specs.Refusals.{most_brackets, entry_refusal, first_entry_ref
 use Rattle.pytoken.specs.Laws.{TokensAreSound}
 use Rattle.pytoken.proofs.EntryTokens.{of_entry, none_parts, no_fault, not_refused}
 use Rattle.std.specs.Option.{option_or}
-use Rattle.pylex.proofs.Callers.{scalars_of}
+use Rattle.pylex_listing.proofs.Callers.{scalars_of}
 
 -- the text of a lexeme is what stands between its offsets
 

@@ -3,9 +3,9 @@
 -- Carries: no contract; its rows are computed as it is checked. On: Computing.
 use Rattle.std.proofs.Common.{◌≡◌, ℕ, List, [], ◌∷◌, ◌++◌, refl, None}
 use Rattle.std.specs.Prelude.{codes}
-use Rattle.pylex.specs.declared.kind.Kind.{Kind}
-use Rattle.pylex.specs.declared.kind.Kind.TheVariants as kinds
-use Rattle.pylex.specs.Listing.{Source}
+use Rattle.pylex_listing.specs.declared.kind.Kind.{Kind}
+use Rattle.pylex_listing.specs.declared.kind.Kind.TheVariants as kinds
+use Rattle.pylex_listing.specs.Listing.{Source}
 use Rattle.pytoken.specs.Tokens.{Token, Line, tokens, lines}
 use Rattle.pytoken.proofs.Computing.{sources}
 

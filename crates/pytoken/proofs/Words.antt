@@ -20,8 +20,8 @@ use Rattle.unicode_normalization.proofs.FormsLemmas.{normalize-ascii}
 use Rattle.pysource.specs.Reprs.{escaped, quote_for, repr_chars, repr_text, is_unprintable}
 use Rattle.pysource.proofs.Callers.Printing.{unprintable_no_character}
 use Rattle.pylex_lexeme.specs.Lexemes.{is_name}
-use Rattle.pylex.specs.declared.kind.Kind.{Kind}
-use Rattle.pylex.specs.declared.kind.Kind.TheVariants as kinds
+use Rattle.pylex_listing.specs.declared.kind.Kind.{Kind}
+use Rattle.pylex_listing.specs.declared.kind.Kind.TheVariants as kinds
 use Rattle.pytree_node.specs.Points.{IsPoint}
 use Rattle.pytree_node.specs.declared.profiles.Extent.TheVariants.{Whole}
 use Rattle.pytoken.specs.declared.keywords.Keyword.{Keyword}

@@ -8,10 +8,10 @@ use Rattle.std.specs.Str.{chars, encode_utf8_all}
 use Rattle.pysource.specs.declared.places.Place.{Place}
 use Rattle.pysource.specs.Places.{place_at}
 use Rattle.pylex_lexeme.specs.Cuts.{begins_significant}
-use Rattle.pylex.specs.declared.margins.Widths.{Widths}
-use Rattle.pylex.specs.declared.kind.Kind.TheVariants as kinds
-use Rattle.pylex.specs.declared.entries.Entry.{Entry}
-use Rattle.pylex.specs.Margins.{blanks_of, widths_of}
+use Rattle.pylex_listing.specs.declared.margins.Widths.{Widths}
+use Rattle.pylex_listing.specs.declared.kind.Kind.TheVariants as kinds
+use Rattle.pylex_listing.specs.declared.entries.Entry.{Entry}
+use Rattle.pylex_listing.specs.Margins.{blanks_of, widths_of}
 use Rattle.pytoken.specs.Brackets.{open_brackets}
 
 -- what a logical line begins with: the widths of its blanks, and the place of its first character that isn't a blank

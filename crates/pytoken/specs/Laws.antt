@@ -12,11 +12,10 @@ use Rattle.pyfloat.specs.Laws.{IsDouble}
 use Rattle.pysource.specs.Reprs.{repr_chars, repr_text, repr_bytes}
 use Rattle.pylex_lexeme.specs.Numbers.{is_decimal, is_radix, is_float, is_imaginary}
 use Rattle.pylex_lexeme.specs.Lexemes.{is_name, cut}
-use Rattle.pylex.specs.declared.kind.Kind.TheVariants as kinds
-use Rattle.pylex.specs.Indentation.{widths}
-use Rattle.pylex.specs.Listing.{Source, listing}
-use Rattle.pylex.specs.Steps.{entries_of}
-use Rattle.pylex.specs.Steps.{fault_of as listing_fault}
+use Rattle.pylex_listing.specs.declared.kind.Kind.TheVariants as kinds
+use Rattle.pylex_listing.specs.Indentation.{widths}
+use Rattle.pylex_listing.specs.Listing.{Source, listing}
+use Rattle.pylex_listing.specs.Steps.{entries_of, fault_of as listing_fault}
 use Rattle.pytree_node.specs.Points.{IsPoint}
 use Rattle.pytree_node.specs.Values as value
 use Rattle.pytree_node.specs.Values.{Str, Bytes}

@@ -8,8 +8,8 @@ use Rattle.pylex_lexeme.specs.Numbers.{is_number}
 use Rattle.pylex_lexeme.specs.Strings.{is_string}
 use Rattle.pylex_lexeme.specs.Operators.{exact_of, is_operator}
 use Rattle.pylex_lexeme.specs.Lexemes.{is_name}
-use Rattle.pylex.specs.declared.kind.Kind.{Kind}
-use Rattle.pylex.specs.declared.kind.Kind.TheVariants as kinds
+use Rattle.pylex_listing.specs.declared.kind.Kind.{Kind}
+use Rattle.pylex_listing.specs.declared.kind.Kind.TheVariants as kinds
 use Rattle.pyfstring.specs.declared.parts.Conversion.{Conversion}
 use Rattle.pyfstring_tokens.specs.FieldTokens.{field_tokens}
 use Rattle.pytree_node.specs.Values.{Value, Int}

@@ -1,7 +1,7 @@
 //! Why a source has no tokens.
 
 use crate::faults::TokenError;
-use pylex::ListingFault;
+use pylex_listing::ListingFault;
 use pysource::Place;
 
 /// Why a source has no tokens. Where there are several reasons, the first of these kinds is

@@ -18,7 +18,7 @@ use crate::clauses::write_generator;
 use crate::displays::write_members;
 use crate::expressions::write_expr;
 use pygrammar::Level;
-use pylex::Exact;
+use pylex_listing::Exact;
 use pytree_node::{Call, Expr, Identifier, Keyword};
 use pyunparse_text::levels::reaches;
 use pyunparse_text::marks::{Between, Role};

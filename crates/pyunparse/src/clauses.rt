@@ -12,7 +12,7 @@ ghost use Rattle.pyunparse_text.specs.Written.{clauses, conditions, enclosed, fo
 
 use crate::expressions::write_expr;
 use pygrammar::Level;
-use pylex::Exact;
+use pylex_listing::Exact;
 use pytoken::Keyword;
 use pytree_node::{Comprehension, DictComp, Expr};
 use pyunparse_text::marks::Role;

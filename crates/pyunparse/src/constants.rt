@@ -10,7 +10,7 @@ ghost use Rattle.pyunparse_text.specs.Written.{constant_terminal, free};
 
 use itoa::Buffer;
 use pyfloat::Double;
-use pylex::{Exact, Kind};
+use pylex_listing::{Exact, Kind};
 use pytoken::Keyword;
 use pytree_node::{Constant, Integer};
 use pyunparse_text::marks::Role;

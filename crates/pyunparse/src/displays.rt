@@ -14,7 +14,7 @@ ghost use Rattle.pyunparse_text.specs.Written.{each, enclosed, leading, listed, 
 
 use crate::expressions::write_expr;
 use pygrammar::Level;
-use pylex::Exact;
+use pylex_listing::Exact;
 use pytree_node::{Dict, Expr};
 use pyunparse_text::marks::{Between, Role};
 use pyunparse_text::tokens::{put_between, put_sign};

@@ -24,7 +24,7 @@ use crate::operators::{
 use crate::strings::{write_formatted, write_joined};
 use crate::tuples::{write_slice, write_tuple};
 use pygrammar::Level;
-use pylex::Exact;
+use pylex_listing::Exact;
 use pytree_node::Expr;
 use pyunparse_text::levels::star_level;
 use pyunparse_text::marks::Role;

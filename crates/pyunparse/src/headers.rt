@@ -25,7 +25,7 @@ use crate::patterns::write_pattern;
 use crate::statements::{write_behind, write_option};
 use crate::types::write_type_params;
 use pygrammar::{Level, PatternLevel};
-use pylex::Exact;
+use pylex_listing::Exact;
 use pytoken::Keyword;
 use pytree_node::{Arguments, Expr, Identifier, Item, Keyword as Word, Pattern, TypeParam};
 use pyunparse_text::line_brackets::need_brackets;

@@ -10,7 +10,7 @@ ghost use Rattle.pyunparse_text.specs.Pieces.{piece};
 ghost use Rattle.pyunparse_text.specs.Written.{listed};
 ghost use Rattle.pyunparse_text.specs.Statements as written;
 
-use pylex::Exact;
+use pylex_listing::Exact;
 use pytoken::Keyword;
 use pytree_node::{Alias, Identifier};
 use pyunparse_text::marks::{Between, Role};

@@ -14,7 +14,7 @@ ghost use Rattle.pyunparse_text.specs.Written.{leading};
 use crate::expressions::write_expr;
 use crate::statements::write_simple;
 use pygrammar::Level;
-use pylex::Exact;
+use pylex_listing::Exact;
 use pytree_node::{Expr, Stmt};
 use pyunparse_text::marks::Role;
 use pyunparse_text::text_writer::TextWriter;

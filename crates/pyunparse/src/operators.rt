@@ -16,7 +16,7 @@ use crate::expressions::write_expr;
 use crate::optional::write_perhaps;
 use crate::parameters::write_parameters;
 use pygrammar::Level;
-use pylex::Exact;
+use pylex_listing::Exact;
 use pytoken::Keyword;
 use pytree_node::{Arguments, BoolOperator, Compare, Comparison, Expr, Operator, UnaryOperator};
 use pyunparse_text::levels::{

@@ -10,7 +10,7 @@ ghost use Rattle.pyunparse_text.specs.Written.{perhaps, suffixed};
 
 use crate::expressions::write_expr;
 use pygrammar::Level;
-use pylex::Exact;
+use pylex_listing::Exact;
 use pytree_node::Expr;
 use pyunparse_text::marks::Role;
 use pyunparse_text::tokens::put_sign;

@@ -16,7 +16,7 @@ ghost use Rattle.pyunparse_text.specs.Written.{names, parameters, suffixed, tigh
 use crate::expressions::write_expr;
 use crate::optional::write_suffix;
 use pygrammar::Level;
-use pylex::Exact;
+use pylex_listing::Exact;
 use pytree_node::{Arg, Arguments, Expr};
 use pyunparse_text::marks::{Between, Role};
 use pyunparse_text::tokens::{put_between, put_name, put_sign};

@@ -27,7 +27,7 @@ use crate::constants::put_constant;
 use crate::expressions::write_expr;
 use crate::tuples::put_last;
 use pygrammar::{Level, PatternLevel};
-use pylex::Exact;
+use pylex_listing::Exact;
 use pytoken::Keyword;
 use pytree_node::{Expr, Identifier, Pattern};
 use pyunparse_text::levels::pattern_reaches;

@@ -20,7 +20,7 @@ use crate::expressions::write_expr;
 use crate::imports::{write_dotted, write_imported, write_modules, write_points};
 use crate::types::write_type_params;
 use pygrammar::Level;
-use pylex::Exact;
+use pylex_listing::Exact;
 use pytoken::Keyword;
 use pytree_node::{Alias, Expr, Identifier, Stmt};
 use pyunparse_text::line_brackets::annotated_in_brackets;

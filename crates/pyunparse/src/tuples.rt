@@ -13,7 +13,7 @@ ghost use Rattle.pyunparse_text.specs.Written as written;
 use crate::displays::write_members;
 use crate::optional::{write_perhaps, write_suffix};
 use pygrammar::Level;
-use pylex::Exact;
+use pylex_listing::Exact;
 use pytree_node::{Expr, Slice};
 use pyunparse_text::levels::{element_level, reaches, tuple_level};
 use pyunparse_text::marks::{Between, Role};

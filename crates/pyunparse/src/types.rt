@@ -13,7 +13,7 @@ ghost use Rattle.pyunparse_text.specs.Written.{listed, trailing};
 
 use crate::expressions::write_expr;
 use pygrammar::Level;
-use pylex::Exact;
+use pylex_listing::Exact;
 use pytree_node::{Expr, TypeParam};
 use pyunparse_text::marks::{Between, Role};
 use pyunparse_text::tokens::{put_between, put_name, put_sign};

@@ -3,7 +3,7 @@
 -- Carries: no contract; its rows are computed as it is checked.
 use Rattle.std.proofs.Common.{◌≡◌, ℕ, ◌&&◌, Bool, true, false, List, [], ◌∷◌, refl}
 use Rattle.std.specs.Prelude.{codes}
-use Rattle.pylex.specs.declared.kind.Kind.TheVariants as kinds
+use Rattle.pylex_listing.specs.declared.kind.Kind.TheVariants as kinds
 use Rattle.pylex_lexeme.specs.Operators.{operators, exact_of, is_operator}
 use Rattle.pyunparse_text.specs.Spacing.{Piece, Line, lines_text, all_apart}
 use Rattle.pyunparse_text.specs.Tokens.{closes_all}

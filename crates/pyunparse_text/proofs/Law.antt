@@ -10,7 +10,7 @@ use Rattle.std.specs.Str.{encode_utf8_all}
 use Rattle.std.proofs.lemmas.Bool.{and_parts}
 use Rattle.pysource.specs.Cookies.{plain}
 use Rattle.pysource.specs.Parts.{Parts}
-use Rattle.pylex.specs.Listing.{in_characters}
+use Rattle.pylex_listing.specs.Listing.{in_characters}
 use Rattle.pyunparse_text.specs.Spacing.{lines_text}
 use Rattle.pyunparse_text.specs.Tokens.{tokens_behind, is_written, rise_by_one, IsListedAs}
 use Rattle.pyunparse_text.specs.SpacingLaws.{WrittenIsRead, WrittenIsClear}

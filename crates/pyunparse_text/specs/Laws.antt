@@ -2,8 +2,8 @@
 use Rattle.std.specs.Prelude.{◌≡◌, ◌+◌, ◌≤◌, ◌↔◌, List, [], ◌∷◌, ◌++◌, Bool, true, false, ℕ, All, None}
 use Rattle.std.specs.List.{list_all, list_any}
 use Rattle.std.specs.Str.{all_scalars, encode_utf8_all}
-use Rattle.pylex.specs.Listing.{Source, in_characters}
-use Rattle.pylex.specs.Laws.{IsLawful}
+use Rattle.pylex_listing.specs.Listing.{Source, in_characters}
+use Rattle.pylex_listing.specs.Laws.{IsLawful}
 use Rattle.pytree_node.specs.declared.profiles.Extent.{Extent}
 use Rattle.pytree_node.specs.declared.profiles.Profile.{Profile}
 use Rattle.pytree_node.specs.Values.{Value, Int, Float, Imaginary, Str, Bytes}
@@ -27,7 +27,7 @@ use Rattle.pygrammar.specs.Refusals.{Accepted}
 use Rattle.pygrammar.specs.Reader.{Found, reads}
 use Rattle.pygrammar.specs.FormattedStrings.{has_formatted}
 use Rattle.pygrammar.specs.OpenStrings.{token_count}
-use Rattle.pylex.specs.declared.kind.Kind.{Kind}
+use Rattle.pylex_listing.specs.declared.kind.Kind.{Kind}
 use Rattle.pyunparse_text.specs.Spacing.{Piece}
 use Rattle.pyunparse_text.specs.Tokens.{is_written, are_written}
 use Rattle.pyunparse_text.specs.SpacingLaws.{ReadsBack}

@@ -10,8 +10,8 @@ use Rattle.pyfstring.specs.Texts.{begins_with}
 use Rattle.pysource.specs.Reprs.{repr_chars, repr_bytes, escaped, hex_escape, is_unprintable}
 use Rattle.pylex_lexeme.specs.Characters.{colon, double_quote, left_curly_bracket, right_curly_bracket, single_quote, space}
 use Rattle.pylex_lexeme.specs.Operators.{exact_text}
-use Rattle.pylex.specs.declared.kind.Kind.{Kind}
-use Rattle.pylex.specs.declared.kind.Kind.TheVariants as kinds
+use Rattle.pylex_listing.specs.declared.kind.Kind.{Kind}
+use Rattle.pylex_listing.specs.declared.kind.Kind.TheVariants as kinds
 use Rattle.pytree_node.specs.Values.{Value, Int, Float, Imaginary, Str, Bytes}
 use Rattle.pytree_node.specs.Trees.{Expr}
 use Rattle.pytoken.specs.Keywords.{spelling_of}

@@ -4,7 +4,7 @@ use Rattle.std.specs.Str.{encode_utf8_all}
 use Rattle.pysource.specs.Cookies.{plain}
 use Rattle.pysource.specs.Parts.{Parts}
 use Rattle.pysource.specs.Sources.{source_of}
-use Rattle.pylex.specs.Listing.{in_characters}
+use Rattle.pylex_listing.specs.Listing.{in_characters}
 use Rattle.pyunparse_text.specs.Spacing.{Line, lines_text}
 use Rattle.pyunparse_text.specs.Tokens.{tokens_behind, opens_within, are_written, IsListedAs, unplaced, unplaced_line, token_line}
 use Rattle.pytree_node.specs.declared.profiles.Extent.{Extent}

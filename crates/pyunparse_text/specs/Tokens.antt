@@ -6,14 +6,14 @@ use Rattle.std.specs.Prelude.{false, Option, Some, None}
 use Rattle.std.specs.List.{list_all}
 use Rattle.std.specs.Str.{all_scalars}
 use Rattle.pylex_lexeme.specs.Characters.{line_feed, space}
-use Rattle.pylex.specs.declared.kind.Kind.{Kind}
-use Rattle.pylex.specs.declared.kind.Kind.TheVariants as kinds
-use Rattle.pylex.specs.declared.entries.Entry.{Entry}
-use Rattle.pylex.specs.declared.entries.Step.TheVariants as steps
+use Rattle.pylex_listing.specs.declared.kind.Kind.{Kind}
+use Rattle.pylex_listing.specs.declared.kind.Kind.TheVariants as kinds
+use Rattle.pylex_listing.specs.declared.entries.Entry.{Entry}
+use Rattle.pylex_listing.specs.declared.entries.Step.TheVariants as steps
 use Rattle.pylex_lexeme.specs.declared.kinds.Exact.{Exact}
 use Rattle.pylex_lexeme.specs.Operators.{exact_of, is_opener, is_closer}
-use Rattle.pylex.specs.Listing.{Source, origin, listing}
-use Rattle.pylex.specs.Steps.{entries_of, mark}
+use Rattle.pylex_listing.specs.Listing.{Source, origin, listing}
+use Rattle.pylex_listing.specs.Steps.{entries_of, mark}
 use Rattle.pytoken.specs.Tokens as source
 use Rattle.pytoken.specs.Indentation.{Margin, margins}
 use Rattle.pyunparse_text.specs.Spacing.{Piece, Line, is_operator_kind, are_readable}

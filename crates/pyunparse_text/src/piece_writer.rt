@@ -9,7 +9,7 @@ use crate::pieces::Piece;
 use crate::text_writer::TextWriter;
 use crate::writers::Writer;
 use pyfstring::Conversion;
-use pylex::Kind;
+use pylex_listing::Kind;
 use std::alloc::{AllocError, Global};
 use std::marker::Model;
 

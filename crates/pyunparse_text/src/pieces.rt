@@ -1,6 +1,6 @@
 //! Tokens as they are handed out.
 
-use pylex::Kind;
+use pylex_listing::Kind;
 
 /// A token as it is written: its type and its text.
 #[derive(Debug, Drop)]

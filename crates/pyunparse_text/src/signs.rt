@@ -5,7 +5,7 @@ ghost use Rattle.pyunparse_text.specs.Levels as levels;
 ghost use Rattle.pyunparse_text.specs.Statements as statements;
 ghost use Rattle.pytoken.specs.Terminals.{Op};
 
-use pylex::Exact;
+use pylex_listing::Exact;
 use pytree_node::Operator;
 
 /// The sign of an operator between two operands.

@@ -17,7 +17,7 @@ use crate::literal_texts::{
 use crate::marks::Role;
 use crate::writers::Writer;
 use pyfstring::Conversion;
-use pylex::Kind;
+use pylex_listing::Kind;
 use std::alloc::{AllocError, Global};
 use std::marker::Model;
 
@@ -112,7 +112,7 @@ impl Model for TextWriter {
 }
 
 impl TextWriter {
-    ghost use Rattle.pylex.specs.declared.kind.Kind.{Kind};
+    ghost use Rattle.pylex_listing.specs.declared.kind.Kind.{Kind};
     ghost use Rattle.pyunparse_text.specs.Spacing.{Piece};
     ghost use Rattle.pyunparse_text.specs.Pieces.{quote};
     ghost use Rattle.pyunparse_text.specs.Writing.{blank, edge_of, more, no_text};

@@ -12,7 +12,7 @@ ghost use Rattle.pyunparse_text.specs.Written as written;
 
 use crate::marks::{Between, Role};
 use crate::writers::Writer;
-use pylex::{Exact, Kind};
+use pylex_listing::{Exact, Kind};
 use pytoken::Keyword;
 use pytree_node::{Comparison, Identifier, UnaryOperator};
 use std::alloc::AllocError;

@@ -12,7 +12,7 @@ ghost use Rattle.pyunparse_text.specs.Written.{Element};
 
 use crate::marks::Role;
 use pyfstring::Conversion;
-use pylex::Kind;
+use pylex_listing::Kind;
 use std::alloc::{AllocError, Global};
 
 /// What tokens are written into, one after another: a text, or a list.

@@ -2,12 +2,12 @@
 use Rattle.std.proofs.Common.{◌≡◌, ℕ, ◌+◌, Bool, true, false, List, ◌∷◌, cond, Some, slice_get, refl, ap, subst, ◌∙◌, zero-add, arith}
 use Rattle.std.proofs.lemmas.Grind.{common_steps}
 use Rattle.std.specs.Prelude.{count_by}
-use Rattle.pylex.specs.declared.entries.Entry.{Entry}
-use Rattle.pylex.specs.declared.entries.Step.{Step}
-use Rattle.pylex.specs.declared.entries.Step.TheVariants as steps
-use Rattle.pylex.specs.Listing.{Source, listing, rest}
+use Rattle.pylex_listing.specs.declared.entries.Entry.{Entry}
+use Rattle.pylex_listing.specs.declared.entries.Step.{Step}
+use Rattle.pylex_listing.specs.declared.entries.Step.TheVariants as steps
+use Rattle.pylex_listing.specs.Listing.{Source, listing, rest}
 use Rattle.pylex.specs.Listers.{Listed, StandsIn, NextStep}
-use Rattle.pylex.specs.Steps.{entries_of, entries_in, IsNoEntry}
+use Rattle.pylex_listing.specs.Steps.{entries_of, entries_in, IsNoEntry}
 use Rattle.pylex.proofs.Callers.{next_is, end_last, fault_last}
 use Rattle.uses.specs.Listings.{is_name}
 

@@ -10,14 +10,14 @@ use Rattle.pysource.specs.Taking.{ReadsBytes}
 use Rattle.pysource.specs.declared.line_reader.Reach.{Reach}
 use Rattle.pysource.specs.declared.line_reader.Reach.TheVariants as reach
 use Rattle.pysource.proofs.Callers.Taken.{ReadsBytes-on}
-use Rattle.pylex.specs.declared.entries.Entry.{Entry}
-use Rattle.pylex.specs.declared.entries.Step.{Step}
-use Rattle.pylex.specs.declared.entries.Step.TheVariants as steps
-use Rattle.pylex.specs.declared.kind.Kind.{Kind}
-use Rattle.pylex.specs.declared.kind.Kind.TheVariants as kinds
-use Rattle.pylex.specs.Listing.{in_characters, listing, rest}
-use Rattle.pylex.specs.ListingLines.{text_of}
-use Rattle.pylex.specs.Steps.{entries_of, entries_in}
+use Rattle.pylex_listing.specs.declared.entries.Entry.{Entry}
+use Rattle.pylex_listing.specs.declared.entries.Step.{Step}
+use Rattle.pylex_listing.specs.declared.entries.Step.TheVariants as steps
+use Rattle.pylex_listing.specs.declared.kind.Kind.{Kind}
+use Rattle.pylex_listing.specs.declared.kind.Kind.TheVariants as kinds
+use Rattle.pylex_listing.specs.Listing.{in_characters, listing, rest}
+use Rattle.pylex_listing.specs.ListingLines.{text_of}
+use Rattle.pylex_listing.specs.Steps.{entries_of, entries_in}
 use Rattle.pylex.specs.Streamed.{Streamed, StreamsIn, Continues, BeginsAnew, Next}
 use Rattle.pylex.proofs.Callers.{next_is, end_last, fault_last}
 use Rattle.uses.specs.Streams.{is_comment, first_comment_of, Finds}

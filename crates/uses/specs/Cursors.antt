@@ -4,7 +4,7 @@ use Rattle.pylex.specs.declared.cursor.CursorFault.{CursorFault}
 use Rattle.pylex.specs.declared.cursor.CursorFault.TheVariants.{AnotherSource, Text, Memory}
 use Rattle.pylex.specs.Cursors.{CursorParts, cursor_text}
 use Rattle.pylex.specs.CursorTexts.{IsWellFormed}
-use Rattle.pylex.specs.Listing.{Source}
+use Rattle.pylex_listing.specs.Listing.{Source}
 use Rattle.pylex.specs.Standing.{IsCursorOf}
 
 -- a text is that of a cursor, and of none that a source has

@@ -8,11 +8,11 @@ use Rattle.pysource.specs.Taking.{ReadsBytes}
 use Rattle.pysource.specs.declared.line_reader.Reach.TheVariants.{Reading}
 use Rattle.pysource.specs.declared.line_reader.StreamFault.{StreamFault}
 use Rattle.pysource.specs.declared.line_reader.StreamFault.TheVariants.{Memory}
-use Rattle.pylex.specs.declared.entries.Entry.{Entry}
-use Rattle.pylex.specs.declared.kind.Kind.TheVariants as kinds
-use Rattle.pylex.specs.Listing.{in_characters, listing}
-use Rattle.pylex.specs.ListingLines.{text_of}
-use Rattle.pylex.specs.Steps.{entries_of}
+use Rattle.pylex_listing.specs.declared.entries.Entry.{Entry}
+use Rattle.pylex_listing.specs.declared.kind.Kind.TheVariants as kinds
+use Rattle.pylex_listing.specs.Listing.{in_characters, listing}
+use Rattle.pylex_listing.specs.ListingLines.{text_of}
+use Rattle.pylex_listing.specs.Steps.{entries_of}
 use Rattle.pylex.specs.Streamed.{Continues}
 
 -- the type of an entry is COMMENT

@@ -4,7 +4,7 @@ use Rattle.std.specs.Str.{encode_utf8_all}
 use Rattle.std.specs.declared.alloc.Global.{Global}
 use Rattle.pysource.specs.Parts.{Parts}
 use Rattle.pysource.specs.Sources.{source_of}
-use Rattle.pylex.specs.Listing.{Source, in_characters}
+use Rattle.pylex_listing.specs.Listing.{Source, in_characters}
 use Rattle.pytree_node.specs.declared.operators.Context.TheVariants.{Store}
 use Rattle.pytree_node.specs.declared.profiles.Profile.{Profile}
 use Rattle.pytree_node.specs.Profiles.{plain_311}

@@ -2,7 +2,7 @@
 
 ghost use Rattle.std.specs.Prelude.{◌≡◌, IfOk, IfErr, string_bytes};
 ghost use Rattle.pylex.specs.Cursors.{cursor_text};
-ghost use Rattle.pylex.specs.Listing.{in_characters};
+ghost use Rattle.pylex_listing.specs.Listing.{in_characters};
 ghost use Rattle.pylex.specs.Listers.{StandsIn};
 ghost use Rattle.uses.specs.Cursors.{IsNoCursor};
 

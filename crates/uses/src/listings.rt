@@ -1,8 +1,8 @@
 //! The listing of a source that is held whole.
 
 ghost use Rattle.std.specs.Prelude.{◌≡◌, count_by, IfOk};
-ghost use Rattle.pylex.specs.Listing.{in_characters, listing};
-ghost use Rattle.pylex.specs.Steps.{entries_of};
+ghost use Rattle.pylex_listing.specs.Listing.{in_characters, listing};
+ghost use Rattle.pylex_listing.specs.Steps.{entries_of};
 ghost use Rattle.uses.specs.Listings.{is_name};
 
 use pylex::{Entry, Kind, Lister, Step};

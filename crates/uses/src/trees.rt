@@ -1,7 +1,7 @@
 //! The tree of a source, and what is written of it.
 
 ghost use Rattle.std.specs.Prelude.{IfOk, IfErr, string_bytes};
-ghost use Rattle.pylex.specs.Listing.{in_characters};
+ghost use Rattle.pylex_listing.specs.Listing.{in_characters};
 ghost use Rattle.pyparse.specs.Modules.{Refuses};
 ghost use Rattle.uses.specs.Trees.{IsDumped, IsWritten};
 

@@ -6,7 +6,7 @@ use Rattle.pysource.specs.Streams.{Buffered, Reads, stream_of}
 use Rattle.pysource.specs.Taking.{ReadsBytes}
 use Rattle.pysource.specs.declared.line_reader.Reach.TheVariants as reach
 use Rattle.pylex.specs.Cursors.{CursorParts}
-use Rattle.pylex.specs.Listing.{in_characters}
+use Rattle.pylex_listing.specs.Listing.{in_characters}
 use Rattle.pylex.specs.Streamed.{Streamed, StreamsIn, Continues}
 use Rattle.pyast_command.specs.Listings.{start_in, output_from, fault_from}
 use Rattle.pyast_fault.specs.declared.fault.Fault.{Fault}

@@ -4,7 +4,7 @@
 -- Carries: answer_stays, one_formed, unread_formed and 4 more, for Reasons, SourceLaw,
 -- Types. On: Law, Line/Law, Stays, Leads.
 use Rattle.std.proofs.Common.{◌≡◌, ℕ, Bool, List, ◌∷◌, refl, sym, ap, ◌∙◌, subst, arith}
-use Rattle.pylex.specs.Listing.{Source}
+use Rattle.pylex_listing.specs.Listing.{Source}
 use Rattle.pytree_node.specs.declared.profiles.Profile.{Profile}
 use Rattle.pytree_node.specs.declared.profiles.Version.TheVariants.{Py312}
 use Rattle.pytree_node.specs.Profiles.{python}

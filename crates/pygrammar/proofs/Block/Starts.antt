@@ -13,19 +13,19 @@ use Rattle.pylex_lexeme.specs.declared.lexeme.Class.TheVariants.{Name, Number, S
 use Rattle.pylex_lexeme.specs.Strings.{opens_string}
 use Rattle.pylex_lexeme.specs.Operators.{is_closer}
 use Rattle.pylex_lexeme.specs.Lexemes.{Lexeme, cut, left_by_cut, is_open_string}
-use Rattle.pylex.specs.declared.kind.Kind.{Kind}
-use Rattle.pylex.specs.declared.kind.Kind.TheVariants as kinds
-use Rattle.pylex.specs.declared.entries.Entry.{Entry}
-use Rattle.pylex.specs.declared.entries.ListingFault.{ListingFault}
-use Rattle.pylex.specs.declared.entries.ListingError.TheVariants as errors
-use Rattle.pylex.specs.declared.entries.Step.{Step}
-use Rattle.pylex.specs.declared.entries.Step.TheVariants as steps
-use Rattle.pylex.specs.Indentation.{open_levels, width_at, widths, dedents, layout, layout_by}
-use Rattle.pylex.specs.Lines.{depth, is_significant, is_at_margin, is_logical, text_before}
-use Rattle.pylex.specs.Listing.{Source, listing, up_to_end, entry_of, steps_of, stop_fault, line_end_of_last, end_place, begins_comment}
-use Rattle.pylex.specs.Listing.{last_line, ends_in_join, tail, stop, steps_from}
-use Rattle.pylex.specs.Steps.{entries_of, fault_of, mark, fault_at}
-use Rattle.pylex.specs.Laws.{EndsWithMarker}
+use Rattle.pylex_listing.specs.declared.kind.Kind.{Kind}
+use Rattle.pylex_listing.specs.declared.kind.Kind.TheVariants as kinds
+use Rattle.pylex_listing.specs.declared.entries.Entry.{Entry}
+use Rattle.pylex_listing.specs.declared.entries.ListingFault.{ListingFault}
+use Rattle.pylex_listing.specs.declared.entries.ListingError.TheVariants as errors
+use Rattle.pylex_listing.specs.declared.entries.Step.{Step}
+use Rattle.pylex_listing.specs.declared.entries.Step.TheVariants as steps
+use Rattle.pylex_listing.specs.Indentation.{open_levels, width_at, widths, dedents, layout, layout_by}
+use Rattle.pylex_listing.specs.Lines.{depth, is_significant, is_at_margin, is_logical, text_before}
+use Rattle.pylex_listing.specs.Listing.{Source, listing, up_to_end, entry_of, steps_of, stop_fault, line_end_of_last, end_place}
+use Rattle.pylex_listing.specs.Listing.{begins_comment, last_line, ends_in_join, tail, stop, steps_from}
+use Rattle.pylex_listing.specs.Steps.{entries_of, fault_of, mark, fault_at}
+use Rattle.pylex_listing.specs.Laws.{EndsWithMarker}
 use Rattle.pysource.specs.Places.{place_after}
 use Rattle.pytree_node.specs.declared.profiles.Extent.{Extent}
 use Rattle.pytoken.specs.declared.refusals.Refusal.{Refusal}

@@ -3,7 +3,7 @@
 -- Carries: formatted_said, for Numbers. On: Terminals.
 use Rattle.std.proofs.Common.{◌≡◌, refl, ℕ, true, false, List, Option, Some, None}
 use Rattle.std.specs.List.{list_all}
-use Rattle.pylex.specs.declared.kind.Kind.{Kind}
+use Rattle.pylex_listing.specs.declared.kind.Kind.{Kind}
 use Rattle.pytree_node.specs.declared.profiles.Extent.TheVariants.{Whole}
 use Rattle.pytoken.specs.FormattedStrings.{Element, is_fstring, elements_of, elements_fault}
 use Rattle.pytoken.specs.Terminals.{elements_terminals, terminals_by, fault_by, terminals_of, fault_of}

@@ -3,9 +3,9 @@ use Rattle.std.proofs.Common.{◌≡◌, ℕ, true, false, List, [], ◌∷◌, 
 use Rattle.std.specs.Str.{chars}
 use Rattle.std.proofs.lemmas.List.Sums.{take_while-cons}
 use Rattle.pylex_lexeme.specs.Chars.{is_blank_char}
-use Rattle.pylex.specs.Indentation.{column_after, width_from}
-use Rattle.pylex.specs.declared.margins.Widths.{Widths}
-use Rattle.pylex.specs.Margins.{column_by_one, width_by_one, blanks_of, widths_of}
+use Rattle.pylex_listing.specs.Indentation.{column_after, width_from}
+use Rattle.pylex_listing.specs.declared.margins.Widths.{Widths}
+use Rattle.pylex_listing.specs.Margins.{column_by_one, width_by_one, blanks_of, widths_of}
 use Rattle.pylex.proofs.MachineLaws.Walking.{width_more, width_none}
 
 blank_more : (bs rest : List ℕ) (c : ℕ) → chars bs ≡ c ∷ chars rest → is_blank_char c ≡ true

@@ -8,7 +8,7 @@ use Rattle.std.proofs.lemmas.Bool.Decides.{nat_tests}
 use Rattle.std.proofs.lemmas.List.{append-nil}
 use Rattle.std.proofs.lemmas.List.Elements.{filter-append}
 use Rattle.std.proofs.lemmas.Bool.{cases_Bool, and_parts}
-use Rattle.pylex.specs.Indentation.{below, is_open, open_levels}
+use Rattle.pylex_listing.specs.Indentation.{below, is_open, open_levels}
 use Rattle.pylex.specs.LineState.{IsAscending, is_above}
 use Rattle.pylex.proofs.Levels.Layouts.{above-push, ascending-push}
 use Rattle.pylex.proofs.Levels.Tops.{above_more}

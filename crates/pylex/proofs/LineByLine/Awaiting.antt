@@ -13,10 +13,10 @@ use Rattle.pysource.specs.Bytes.{Seen}
 use Rattle.pysource.specs.Parts.{Parts}
 use Rattle.pysource.specs.Streams.{Buffered, Gives, MayCome}
 use Rattle.pysource.proofs.Callers.Coming.{only_given}
-use Rattle.pylex.specs.declared.entries.Entry.{Entry}
-use Rattle.pylex.specs.declared.entries.ListingFault.{ListingFault}
-use Rattle.pylex.specs.declared.entries.Step.{Step}
-use Rattle.pylex.specs.declared.entries.Step.TheVariants as steps
+use Rattle.pylex_listing.specs.declared.entries.Entry.{Entry}
+use Rattle.pylex_listing.specs.declared.entries.ListingFault.{ListingFault}
+use Rattle.pylex_listing.specs.declared.entries.Step.{Step}
+use Rattle.pylex_listing.specs.declared.entries.Step.TheVariants as steps
 use Rattle.pylex.specs.declared.held_lines.HeldLines.{HeldLines}
 use Rattle.pylex.specs.declared.line_lister.Found.{Found}
 use Rattle.pylex.specs.declared.line_state.LineState.{LineState}
@@ -24,11 +24,11 @@ use Rattle.pylex.specs.declared.machine.Machine.{Machine}
 use Rattle.pylex.specs.declared.peeked.Peeked.TheVariants as peeked
 use Rattle.pylex_lexeme.specs.Cuts.{begins_significant}
 use Rattle.pylex_lexeme.specs.Lexemes.{Lexeme, lexeme_at, lexeme_len, left_by_cut, is_open_string}
-use Rattle.pylex.specs.Machine.{State, after, entry_by}
+use Rattle.pylex_listing.specs.Machine.{State, after, entry_by}
 use Rattle.pylex.specs.LineState.{Walks, stays, silent, level, dedent, Comes, FaultAhead, GivesFault, mismatch, faulty, StopAhead, is_level}
 use Rattle.pylex.specs.LineState.{measured, with_levels}
-use Rattle.pylex.specs.Listing.{in_characters, listing, rest}
-use Rattle.pylex.specs.Steps.{entries_in, first_step, IsIndent, IsNoEntry}
+use Rattle.pylex_listing.specs.Listing.{in_characters, listing, rest}
+use Rattle.pylex_listing.specs.Steps.{entries_in, first_step, IsIndent, IsNoEntry}
 use Rattle.pylex.specs.Streamed.{Streamed, AwaitsLine, Continues, Next, StreamsIn}
 use Rattle.pylex.specs.Inner.LineSteps.{Looks, lacks, streamed}
 use Rattle.pylex.proofs.LineByLine.LexedOn.{left_lexed, lexed_comes, not_both, stuck_walks}

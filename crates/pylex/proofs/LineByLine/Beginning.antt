@@ -13,18 +13,18 @@ use Rattle.pysource.specs.Limits.{source_limit}
 use Rattle.pysource.specs.Streams.{comes, ends_line}
 use Rattle.pysource.proofs.Callers.Faults.{comes_utf8, comes_len}
 use Rattle.pylex.specs.declared.held_lines.HeldLines.{HeldLines}
-use Rattle.pylex.specs.declared.entries.Entry.{Entry}
-use Rattle.pylex.specs.declared.kind.Kind.{Kind}
-use Rattle.pylex.specs.declared.kind.Kind.TheVariants as kinds
+use Rattle.pylex_listing.specs.declared.entries.Entry.{Entry}
+use Rattle.pylex_listing.specs.declared.kind.Kind.{Kind}
+use Rattle.pylex_listing.specs.declared.kind.Kind.TheVariants as kinds
 use Rattle.pylex.specs.declared.machine.Machine.{Machine}
-use Rattle.pylex.specs.Laws.{LiesIn}
+use Rattle.pylex_listing.specs.Laws.{LiesIn}
 use Rattle.pylex.specs.Held.{IsJoined, at_left}
 use Rattle.pylex_lexeme.specs.Lexemes.{left_by_cut}
 use Rattle.pylex.proofs.LineByLine.LexedOn.{left_all}
-use Rattle.pylex.specs.ListingLines.{text_of}
+use Rattle.pylex_listing.specs.ListingLines.{text_of}
 use Rattle.pylex.proofs.LineByLine.Searching.{witness}
 use Rattle.pylex.specs.Listers.{shown_by, shown_at}
-use Rattle.pylex.specs.Machine.{first_state}
+use Rattle.pylex_listing.specs.Machine.{first_state}
 use Rattle.pylex.specs.LineState.{with_levels}
 use Rattle.pylex.specs.Streamed.{Continues, StreamsIn, IsHeld, HoldsLast}
 use Rattle.pylex.specs.Inner.LineSteps.{IsStreaming, streamed}

@@ -12,16 +12,16 @@ use Rattle.pysource.specs.Taking.{ReadsBytes}
 use Rattle.pysource.proofs.Callers.Taken.{ReadsBytes-on}
 use Rattle.pysource.specs.declared.faults.LineError.TheVariants.{FailedRead}
 use Rattle.pysource.specs.declared.line_reader.Reach.TheVariants.{Reading}
-use Rattle.pylex.specs.declared.entries.Entry.{Entry}
-use Rattle.pylex.specs.declared.entries.ListingError.{ListingError}
-use Rattle.pylex.specs.declared.entries.ListingError.TheVariants as errors
-use Rattle.pylex.specs.declared.entries.ListingFault.{ListingFault}
-use Rattle.pylex.specs.declared.entries.Step.{Step}
-use Rattle.pylex.specs.declared.entries.Step.TheVariants as steps
+use Rattle.pylex_listing.specs.declared.entries.Entry.{Entry}
+use Rattle.pylex_listing.specs.declared.entries.ListingError.{ListingError}
+use Rattle.pylex_listing.specs.declared.entries.ListingError.TheVariants as errors
+use Rattle.pylex_listing.specs.declared.entries.ListingFault.{ListingFault}
+use Rattle.pylex_listing.specs.declared.entries.Step.{Step}
+use Rattle.pylex_listing.specs.declared.entries.Step.TheVariants as steps
 use Rattle.pylex.specs.Cursors.{CursorParts, cursor as cursor_of}
-use Rattle.pylex.specs.Listing.{in_characters, listing}
+use Rattle.pylex_listing.specs.Listing.{in_characters, listing}
 use Rattle.pylex.specs.Standing.{IsCursorOf}
-use Rattle.pylex.specs.Steps.{entries_of, entries_in, fault_of}
+use Rattle.pylex_listing.specs.Steps.{entries_of, entries_in, fault_of}
 use Rattle.pylex.specs.Streamed.{Continues, IsAhead, Streamed, StreamsIn, Begins, Next, Misses, EndsUnread, Took, is_unread, is_unread_code}
 use Rattle.pylex.specs.Held.{Ahead}
 use Rattle.pylex.proofs.Listing.Ends.{is_whole}

@@ -9,21 +9,21 @@ use Rattle.std.proofs.Math.Seq.{take-append_seam}
 use Rattle.std.proofs.lemmas.List.{take-append-drop, drop-append-le}
 use Rattle.std.proofs.lemmas.Str.{chars-append, IsUtf8-take, IsCharBoundary-at_seam}
 use Rattle.pysource.specs.declared.places.Place.{Place}
-use Rattle.pylex.specs.declared.entries.Entry.{Entry}
-use Rattle.pylex.specs.declared.entries.ListingFault.{ListingFault}
+use Rattle.pylex_listing.specs.declared.entries.Entry.{Entry}
+use Rattle.pylex_listing.specs.declared.entries.ListingFault.{ListingFault}
 use Rattle.pylex.specs.declared.line_state.LineState.{LineState}
 use Rattle.pylex.specs.declared.peeked.Peeked.{Peeked}
 use Rattle.pylex.specs.declared.peeked.Peeked.TheVariants as peeked
 use Rattle.pylex_lexeme.specs.Chunks.{EndsLine}
 use Rattle.pylex_lexeme.specs.Cuts.{begins_significant}
 use Rattle.pylex_lexeme.specs.Lexemes.{Lexeme, lexeme_at, lexeme_len, is_open_string}
-use Rattle.pylex.specs.Listing.{stop_fault, up_to_end}
-use Rattle.pylex.specs.Machine.{State, after, layout_of, stop_of, remaining}
+use Rattle.pylex_listing.specs.Listing.{stop_fault, up_to_end}
+use Rattle.pylex_listing.specs.Machine.{State, after, layout_of, stop_of, remaining}
 use Rattle.pylex.specs.LineState.{measured, Walks, stays, silent, level, dedent, Comes, EntryAhead, GivesFault, mismatch, faulty}
 use Rattle.pylex.specs.LineState.{FaultAhead, IndentAhead, DedentAhead, Peek}
 use Rattle.pylex.proofs.MachineLaws.Steps.{remaining_stop}
 use Rattle.pylex.proofs.Listers.Measured.{stop_within}
-use Rattle.pylex.proofs.MachineLaws.Significant.{none_at_all}
+use Rattle.pylex_listing.proofs.Callers.{none_at_all}
 use Rattle.pylex.proofs.Listers.Finding.{no_significant}
 use Rattle.pylex_lexeme.proofs.Callers.WholeLines.{lexeme_kept, len_kept, none_kept, open_kept, opens_kept, significant_kept, len_within}
 

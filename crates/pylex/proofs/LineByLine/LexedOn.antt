@@ -12,24 +12,22 @@ use Rattle.std.proofs.lemmas.Bool.{cases_Bool}
 use Rattle.pysource.specs.Lines.{lines_of}
 use Rattle.pysource.specs.Places.{is_lf}
 use Rattle.pysource.specs.Streams.{ends_line}
-use Rattle.pylex.specs.declared.entries.ListingFault.{ListingFault}
+use Rattle.pylex_listing.specs.declared.entries.ListingFault.{ListingFault}
 use Rattle.pylex.specs.declared.peeked.Peeked.{Peeked}
 use Rattle.pylex.specs.declared.peeked.Peeked.TheVariants as peeked
 use Rattle.pylex.specs.declared.line_state.LineState.{LineState}
 use Rattle.pylex_lexeme.specs.Chunks.{EndsLine}
 use Rattle.pylex_lexeme.specs.Cuts.{begins_significant}
-use Rattle.pylex.specs.Laws.{AreLexemes}
+use Rattle.pylex_listing.specs.Laws.{AreLexemes}
 use Rattle.pylex_lexeme.specs.Lexemes.{Lexeme, lexeme_at, lexeme_len, cut, left_by_cut, is_open_string}
-use Rattle.pylex.specs.Machine.{State}
+use Rattle.pylex_listing.specs.Machine.{State}
 use Rattle.pylex.specs.LineState.{Walks, stays, silent, level, dedent, Comes, GivesFault, mismatch, faulty, StopAhead, Peek}
 use Rattle.pylex.specs.Held.{IsJoined, LexedTo, at_left, past_lexeme}
 use Rattle.pylex.proofs.LineByLine.Carried.{drop_ends, drop_carried, lexeme_lines}
 use Rattle.pylex_lexeme.proofs.Callers.WholeLines.{lexeme_kept}
-use Rattle.pylex.proofs.MachineLaws.Lexed.{cut_lexed, lexeme_parts, lexeme_some}
+use Rattle.pylex_listing.proofs.Callers.{cut_lexed, lexeme_parts, lexeme_some, none_at_all, lexeme_front}
 use Rattle.pylex.proofs.LineByLine.Lined.{lined_chars, feed_behind, ends_on}
 use Rattle.pylex.proofs.MachineLaws.Steps.{left_step, left_stop}
-use Rattle.pylex.proofs.MachineLaws.Significant.{none_at_all}
-use Rattle.pylex.proofs.Listers.Measured.{lexeme_front}
 
 -- Past lexemes and then past others.
 pub lexed_both : (ds es cs : List ℕ) → LexedTo ds cs → LexedTo es ds → LexedTo es cs

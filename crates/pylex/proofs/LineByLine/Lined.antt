@@ -7,18 +7,18 @@ use Rattle.std.specs.Str.{chars, IsUtf8}
 use Rattle.std.proofs.lemmas.Bool.{eqb-true}
 use Rattle.std.proofs.lemmas.Str.{chars-nil}
 use Rattle.pysource.specs.Streams.{ends_line}
-use Rattle.pylex.specs.declared.entries.ListingFault.{ListingFault}
+use Rattle.pylex_listing.specs.declared.entries.ListingFault.{ListingFault}
 use Rattle.pylex.specs.declared.line_state.LineState.{LineState}
 use Rattle.pylex_lexeme.specs.Chunks.{EndsLine}
 use Rattle.pylex_lexeme.specs.Cuts.{begins_significant}
 use Rattle.pylex_lexeme.specs.Lexemes.{Lexeme, lexeme_at, is_open_string}
-use Rattle.pylex.specs.Listing.{stop_fault, up_to_end}
+use Rattle.pylex_listing.specs.Listing.{stop_fault, up_to_end}
 use Rattle.pylex.specs.Listers.{Listed, Keeps}
-use Rattle.pylex.specs.Machine.{State, layout_of, remaining}
+use Rattle.pylex_listing.specs.Machine.{State, layout_of, remaining}
 use Rattle.pylex.specs.LineState.{Stands, Comes, StopAhead}
 use Rattle.pylex.proofs.MachineLaws.Steps.{remaining_stop}
 use Rattle.pylex.proofs.Listers.Measured.{stop_within}
-use Rattle.pylex.proofs.MachineLaws.Significant.{none_at_all}
+use Rattle.pylex_listing.proofs.Callers.{none_at_all}
 use Rattle.pylex.proofs.Listers.Finding.{walks_on}
 use Rattle.pylex.proofs.Listers.Looking.{walks_in}
 use Rattle.pylex_lexeme.proofs.Callers.WholeLines.{lexeme_kept, significant_kept}

@@ -10,20 +10,19 @@ use Rattle.std.proofs.lemmas.Str.{chars-append, chars-nil, IsUtf8-append}
 use Rattle.pysource.specs.Parts.{Parts}
 use Rattle.pysource.specs.Streams.{comes}
 use Rattle.pylex.specs.declared.held_lines.HeldLines.{HeldLines}
-use Rattle.pylex.specs.declared.entries.Entry.{Entry}
-use Rattle.pylex.specs.declared.entries.Step.{Step}
-use Rattle.pylex.specs.declared.entries.Step.TheVariants as steps
+use Rattle.pylex_listing.specs.declared.entries.Entry.{Entry}
+use Rattle.pylex_listing.specs.declared.entries.Step.{Step}
+use Rattle.pylex_listing.specs.declared.entries.Step.TheVariants as steps
 use Rattle.pylex.specs.declared.machine.Machine.{Machine}
 use Rattle.pylex.specs.declared.peeked.Peeked.TheVariants as peeked
 use Rattle.pylex.specs.declared.line_lister.Found.{Found}
 use Rattle.pylex_lexeme.specs.Chunks.{EndsLine}
 use Rattle.pylex_lexeme.specs.Chars.{bytes_in}
-use Rattle.pylex.specs.Listing.{in_characters, listing}
-use Rattle.pylex.specs.Listing.{rest as rest_of_listing}
+use Rattle.pylex_listing.specs.Listing.{in_characters, listing, rest as rest_of_listing}
 use Rattle.pylex.specs.Listers.{StandsIn, NextStep}
 use Rattle.pylex.specs.Inner.MachineSteps.{shown_from, Holds, Advance, Ranges, left_by}
 use Rattle.pylex.specs.LineState.{Peek}
-use Rattle.pylex.specs.Steps.{entries_in, first_step, IsIndent}
+use Rattle.pylex_listing.specs.Steps.{entries_in, first_step, IsIndent}
 use Rattle.pylex.specs.Streamed.{Continues, StreamsIn, IsHeld}
 use Rattle.pylex.specs.Inner.LineSteps.{IsStreaming, streamed, PeekedIn}
 use Rattle.pylex.proofs.LineByLine.Lined.{lined_chars}

@@ -11,22 +11,22 @@ use Rattle.pysource.specs.Bytes.{Seen}
 use Rattle.pysource.specs.Parts.{Parts}
 use Rattle.pysource.specs.Streams.{Buffered, comes}
 use Rattle.pysource.specs.declared.faults.LineFault.{LineFault}
-use Rattle.pylex.specs.declared.entries.ListingFault.{ListingFault}
+use Rattle.pylex_listing.specs.declared.entries.ListingFault.{ListingFault}
 use Rattle.pylex.specs.declared.peeked.Peeked.{Peeked}
 use Rattle.pylex.specs.declared.peeked.Peeked.TheVariants as peeked
 use Rattle.pysource.proofs.Callers.Taken.{ReadsBytes-none}
 use Rattle.pylex.specs.declared.held_lines.HeldLines.{HeldLines}
-use Rattle.pylex.specs.declared.entries.Entry.{Entry}
-use Rattle.pylex.specs.declared.entries.Step.{Step}
-use Rattle.pylex.specs.declared.entries.Step.TheVariants as steps
-use Rattle.pylex.specs.declared.kind.Kind.TheVariants as kinds
+use Rattle.pylex_listing.specs.declared.entries.Entry.{Entry}
+use Rattle.pylex_listing.specs.declared.entries.Step.{Step}
+use Rattle.pylex_listing.specs.declared.entries.Step.TheVariants as steps
+use Rattle.pylex_listing.specs.declared.kind.Kind.TheVariants as kinds
 use Rattle.pylex.specs.declared.machine.Machine.{Machine}
 use Rattle.pylex.specs.declared.line_lister.Found.{Found}
-use Rattle.pylex.specs.Listing.{in_characters, listing, origin}
+use Rattle.pylex_listing.specs.Listing.{in_characters, listing, origin}
 use Rattle.pylex.specs.Listers.{Listed, shown_by}
-use Rattle.pylex.specs.Machine.{mark_at}
+use Rattle.pylex_listing.specs.Machine.{mark_at}
 use Rattle.pylex.specs.Inner.MachineSteps.{shown_from, FaultsFirst, HasPlace, IsSame, Advance, StaysBehind}
-use Rattle.pylex.specs.Steps.{entries_in, IsNoEntry}
+use Rattle.pylex_listing.specs.Steps.{entries_in, IsNoEntry}
 use Rattle.pylex.specs.Streamed.{AwaitsLine, Continues, Streamed, StreamsIn, IsLast, IsAhead, Next}
 use Rattle.pylex.specs.Inner.LineSteps.{IsStreaming, LooksAhead, Searches, streamed, PeekedIn}
 use Rattle.pylex.specs.Held.{Ahead}

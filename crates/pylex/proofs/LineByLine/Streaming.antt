@@ -17,8 +17,8 @@ use Rattle.pylex.specs.declared.peeked.Peeked.TheVariants as peeked
 use Rattle.pylex.specs.declared.line_state.LineState.{LineState}
 use Rattle.pylex_lexeme.specs.Chunks.{EndsLine}
 use Rattle.pylex_lexeme.specs.Lexemes.{is_open_string}
-use Rattle.pylex.specs.Listing.{of_line}
-use Rattle.pylex.specs.Machine.{remaining}
+use Rattle.pylex_listing.specs.Listing.{of_line}
+use Rattle.pylex_listing.specs.Machine.{remaining}
 use Rattle.pylex.specs.LineState.{Peek, HasRoom, Stands, with_levels}
 use Rattle.pylex.proofs.LineByLine.Carried.{finds_carried, stop_carried, comes_lines, remaining_carried}
 use Rattle.pylex.proofs.LineByLine.Lined.{remaining_any}

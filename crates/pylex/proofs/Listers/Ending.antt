@@ -11,24 +11,24 @@ use Rattle.std.proofs.lemmas.Grind.{common_steps}
 use Rattle.std.proofs.lemmas.Bool.{cases_Bool}
 use Rattle.pylex.specs.declared.entries.Emitted.{Emitted}
 use Rattle.pylex.specs.declared.entries.Emitted.TheVariants as gives
-use Rattle.pylex.specs.declared.entries.Entry.{Entry}
-use Rattle.pylex.specs.declared.entries.ListingFault.{ListingFault}
-use Rattle.pylex.specs.declared.entries.ListingError.TheVariants as errors
-use Rattle.pylex.specs.declared.entries.Step.{Step}
-use Rattle.pylex.specs.declared.entries.Step.TheVariants as steps
-use Rattle.pylex.specs.declared.kind.Kind.TheVariants as kinds
+use Rattle.pylex_listing.specs.declared.entries.Entry.{Entry}
+use Rattle.pylex_listing.specs.declared.entries.ListingFault.{ListingFault}
+use Rattle.pylex_listing.specs.declared.entries.ListingError.TheVariants as errors
+use Rattle.pylex_listing.specs.declared.entries.Step.{Step}
+use Rattle.pylex_listing.specs.declared.entries.Step.TheVariants as steps
+use Rattle.pylex_listing.specs.declared.kind.Kind.TheVariants as kinds
 use Rattle.pysource.specs.declared.places.Place.{Place}
 use Rattle.pylex.specs.declared.line_state.LineState.{LineState}
 use Rattle.pylex_lexeme.specs.Lexemes.{lexeme_at}
 use Rattle.pylex_lexeme.specs.Cuts.{begins_significant}
-use Rattle.pylex.specs.Listing.{further, stop_fault, row_after, up_to_end}
-use Rattle.pylex.specs.Steps.{first_step, fault_at}
-use Rattle.pylex.specs.Machine.{State, is_hash, stop_of, tail_of, last_line_end, last_place, remaining, behind_steps, mark_at, dedents_at}
+use Rattle.pylex_listing.specs.Listing.{further, stop_fault, row_after, up_to_end}
+use Rattle.pylex_listing.specs.Steps.{first_step, fault_at}
+use Rattle.pylex_listing.specs.Machine.{State, is_hash, stop_of, tail_of, last_line_end, last_place, remaining, behind_steps, mark_at}
+use Rattle.pylex_listing.specs.Machine.{dedents_at}
 use Rattle.pylex.specs.LineState.{with_levels, given, GivesNoText, closing, IsAscending, StopAhead}
-use Rattle.pylex.proofs.MachineLaws.Run.{up_to_end-append}
+use Rattle.pylex_listing.proofs.Callers.{up_to_end-append, all_cut}
 use Rattle.pylex.proofs.MachineLaws.Steps.{remaining_stop}
 use Rattle.pylex.proofs.Listers.Measured.{stop_within, behind_steps-append}
-use Rattle.pylex.proofs.MachineLaws.Significant.{all_cut}
 use Rattle.pylex.proofs.Listers.Finding.{settled_layout}
 
 -- a text with bytes has characters

@@ -8,21 +8,21 @@ use Rattle.std.specs.Str.{chars}
 use Rattle.std.specs.Prelude.{count_by, nat_lt}
 use Rattle.pylex_lexeme.specs.declared.lexeme.Class.{Class}
 use Rattle.pylex.specs.declared.entries.Emitted.TheVariants as gives
-use Rattle.pylex.specs.declared.entries.Entry.{Entry}
-use Rattle.pylex.specs.declared.entries.ListingFault.{ListingFault}
-use Rattle.pylex.specs.declared.entries.ListingError.TheVariants as errors
-use Rattle.pylex.specs.declared.kind.Kind.TheVariants as kinds
-use Rattle.pylex.specs.declared.entries.Step.{Step}
-use Rattle.pylex.specs.declared.entries.Step.TheVariants as steps
+use Rattle.pylex_listing.specs.declared.entries.Entry.{Entry}
+use Rattle.pylex_listing.specs.declared.entries.ListingFault.{ListingFault}
+use Rattle.pylex_listing.specs.declared.entries.ListingError.TheVariants as errors
+use Rattle.pylex_listing.specs.declared.kind.Kind.TheVariants as kinds
+use Rattle.pylex_listing.specs.declared.entries.Step.{Step}
+use Rattle.pylex_listing.specs.declared.entries.Step.TheVariants as steps
 use Rattle.pylex.specs.declared.line_state.LineState.{LineState}
 use Rattle.pylex.specs.declared.peeked.Indentation.TheVariants as indentations
 use Rattle.pylex.specs.declared.peeked.Peeked.{Peeked}
 use Rattle.pylex.specs.declared.peeked.Peeked.TheVariants as peeked
 use Rattle.pylex_lexeme.specs.Lexemes.{Lexeme, lexeme_at, lexeme_len, is_significant_class, is_line_end_class, is_blanks_class}
 use Rattle.pylex_lexeme.specs.declared.lexeme.Class.TheVariants.{Name, Number, String, Operator, Comment, Blanks, LineEnd, Join}
-use Rattle.pylex.specs.Lines.{is_significant}
+use Rattle.pylex_listing.specs.Lines.{is_significant}
 use Rattle.pylex_lexeme.specs.Cuts.{Cuts, begins_significant}
-use Rattle.pylex.specs.Machine.{State, after, gives, entry_by, layout_of, remaining, behind_steps, pushed, dedents_at, mark_at}
+use Rattle.pylex_listing.specs.Machine.{State, after, gives, entry_by, layout_of, remaining, behind_steps, pushed, dedents_at, mark_at}
 use Rattle.pylex.specs.LineState.{with_levels, measured, given, Stands, HasRoom, Comes, Walks, stays, silent, level, dedent, EntryAhead}
 use Rattle.pylex.specs.LineState.{GivesFault, mismatch, faulty, FaultAhead, IndentAhead, DedentAhead, Peek, Settles, IsIndentation}
 use Rattle.pylex.specs.LineState.{is_level, Behind}
@@ -30,22 +30,13 @@ use Rattle.std.proofs.lemmas.Bool.Decides.{nat_tests}
 use lib.Utf8.{encodes}
 use Rattle.std.specs.Str.{IsUtf8}
 use Rattle.std.proofs.lemmas.Str.{length-le-encodes, encodes-chars, encodes-append}
-use Rattle.std.proofs.lemmas.Bool.{cases_Bool}
-use Rattle.pylex.proofs.Listers.Measured.{lexeme_front, remaining_lexeme, measured_lexeme, measured_stop}
+use Rattle.pylex_listing.proofs.Callers.{lexeme_front, significant_at, significant_is, drop_of}
+use Rattle.pylex.proofs.Listers.Measured.{remaining_lexeme, measured_lexeme, measured_stop}
 use Rattle.pylex.proofs.Levels.Layouts.{layout_dedents, layout_mismatch, level_not_above, level-push, pushed_less, dedents-push}
-use Rattle.pylex.proofs.MachineLaws.Significant.{significant_at, plain_at}
-use Rattle.pylex.proofs.Resumption.Resume.{drop_of}
 
 false_or_true : (b : Bool) → (b ≡ false) ⊎ (b ≡ true)
 false_or_true true = inr refl
 false_or_true false = inl refl
-
--- a lexeme makes its line logical exactly where it is seen to
-pub significant_is : (cs : List ℕ) (x : Lexeme) → lexeme_at cs ≡ Some x → is_significant x ≡ begins_significant cs
-significant_is cs x e = ⊎_elim
-    (λ (b : begins_significant cs ≡ true). significant_at cs x b e ∙ sym b)
-    (λ (b : begins_significant cs ≡ false). plain_at cs x b e ∙ sym b)
-    (cases_Bool (begins_significant cs))
 
 -- a significant token begins no empty text
 pub no_significant : {A : Type 0} → begins_significant [] ≡ true → A

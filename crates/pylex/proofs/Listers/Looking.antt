@@ -9,24 +9,22 @@ use Rattle.std.proofs.lemmas.Bool.Decides.{nat_tests}
 use Rattle.std.proofs.lemmas.List.{take-append-drop}
 use Rattle.pysource.specs.Places.{place_after}
 use Rattle.pysource.specs.declared.places.Place.{Place}
-use Rattle.pylex.specs.declared.leading_char.LeadingChar.TheVariants.{Nothing}
+use Rattle.pylex_listing.specs.declared.leading_char.LeadingChar.TheVariants.{Nothing}
 use Rattle.pylex_lexeme.specs.Cuts.{begins_significant}
 use Rattle.pylex_lexeme.specs.Lexemes.{Lexeme, lexeme_at, lexeme_len}
-use Rattle.pylex.specs.Lines.{is_significant}
+use Rattle.pylex_listing.specs.Lines.{is_significant}
 use Rattle.pylex_lexeme.specs.Chars.{bytes_in}
-use Rattle.pylex.specs.Listing.{Source, last_line}
+use Rattle.pylex_listing.specs.Listing.{Source, last_line}
 use Rattle.pylex.specs.Cursors.{CursorParts}
-use Rattle.pylex.specs.Machine.{State, place_past, past, after, layout_of, dedents_at, pushed, lead_after}
+use Rattle.pylex_listing.specs.Machine.{State, place_past, past, after, layout_of, dedents_at, pushed, lead_after}
 use Rattle.pylex.specs.LineState.{measured, begun_anew, is_above, is_level, Walks, stays, silent, level, dedent}
 use Rattle.pylex.specs.Standing.{front_to, standing_by, resumed}
 use Rattle.pylex.specs.Listers.{IsIn, shown_at, Passes, here, lexeme, layout}
-use Rattle.pylex.proofs.MachineLaws.Law.{place_after-append, bytes_in-append, front-append}
+use Rattle.pylex_listing.proofs.Callers.{place_after-append, bytes_in-append, front-append, lexeme_front, significant_is, drop_of}
 use Rattle.pylex.proofs.Resumption.Resumed.{column_is, front_line}
-use Rattle.pylex.proofs.Listers.Measured.{lexeme_front}
 use Rattle.pylex.proofs.Levels.Layouts.{level_not_above, level-push, count-push, layout_dedents, pushed_less}
-use Rattle.pylex.proofs.Listers.Finding.{significant_is, no_layout}
+use Rattle.pylex.proofs.Listers.Finding.{no_layout}
 use Rattle.pylex.proofs.Resumption.Ahead.{front_is}
-use Rattle.pylex.proofs.Resumption.Resume.{drop_of}
 
 -- Columns don't depend on the row.
 advance_column : (p q : Place) (t : List ℕ) → p.column ≡ q.column → (place_past p t).column ≡ (place_past q t).column

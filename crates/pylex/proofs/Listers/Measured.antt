@@ -1,25 +1,24 @@
 -- The layout before the first significant token of a logical line, and what follows it.
 --
--- Carries: stop_within, remaining_lexeme, lexeme_front, behind_steps-append and 3 more, for
+-- Carries: stop_within, remaining_lexeme, behind_steps-append and 3 more, for
 -- Finding, Ending, Passing, Carried and 3 more. On: Steps, Run, Full.
 use Rattle.std.proofs.Common.{◌≡◌, ℕ, ◌<◌, true, false, ◌==◌, List, [], ◌∷◌, ◌++◌, length, take, drop, refl, ap, ◌∙◌, sym, subst, arith}
 use Rattle.std.proofs.Common.{Option, Some, None}
 use Rattle.std.proofs.lemmas.Bool.Decides.{nat_tests}
 use Rattle.std.proofs.lemmas.List.{take-append-drop}
-use Rattle.pylex.specs.declared.entries.ListingFault.{ListingFault}
-use Rattle.pylex.specs.declared.entries.Step.{Step}
-use Rattle.pylex.specs.declared.entries.Step.TheVariants as steps
+use Rattle.pylex_listing.specs.declared.entries.ListingFault.{ListingFault}
+use Rattle.pylex_listing.specs.declared.entries.Step.{Step}
+use Rattle.pylex_listing.specs.declared.entries.Step.TheVariants as steps
 use Rattle.pylex_lexeme.specs.declared.lexeme.Class.{Class}
 use Rattle.pylex_lexeme.specs.declared.lexeme.Class.TheVariants.{Name, Number, String, Operator, Comment, Blanks, LineEnd, Join}
-use Rattle.pylex_lexeme.specs.Lexemes.{Lexeme, lexeme_at, lexeme_len, class_in}
-use Rattle.pylex.specs.Lines.{is_significant}
+use Rattle.pylex_lexeme.specs.Lexemes.{Lexeme, lexeme_at, lexeme_len}
+use Rattle.pylex_listing.specs.Lines.{is_significant}
 use Rattle.pylex_lexeme.specs.Chars.{bytes_in}
-use Rattle.pylex.specs.Listing.{stop_fault, up_to_end}
-use Rattle.pylex.specs.Machine.{State, after, gives, entry_by, layout_of, stop_of, remaining, behind_steps}
+use Rattle.pylex_listing.specs.Listing.{stop_fault, up_to_end}
+use Rattle.pylex_listing.specs.Machine.{State, after, gives, entry_by, layout_of, stop_of, remaining, behind_steps}
 use Rattle.pylex.specs.LineState.{measured}
-use Rattle.pylex.proofs.MachineLaws.Run.{up_to_end-append}
+use Rattle.pylex_listing.proofs.Callers.{up_to_end-append, lexeme_full, lexeme_front}
 use Rattle.pylex.proofs.MachineLaws.Steps.{remaining_step, remaining_stop}
-use Rattle.pylex.proofs.MachineLaws.Full.{lexeme_full, text_is}
 
 -- the state after a significant token is the same, measured before or with it
 pub after_measured : (s : State) (k : Class) (t : List ℕ) → s.margin ≡ true → is_significant (record { «class» = k; text = t }) ≡ true
@@ -52,10 +51,6 @@ behind_steps-append [] b c = refl
 behind_steps-append (steps.Entry e ∷ a) b c = ap (λ ss. steps.Entry e ∷ ss) (behind_steps-append a b c)
 behind_steps-append (steps.End ∷ a) b c = refl
 behind_steps-append (steps.Fault f ∷ a) b c = refl
-
-pub lexeme_front : (cs : List ℕ) (x : Lexeme) → lexeme_at cs ≡ Some x → x.text ≡ take (lexeme_len cs) cs
-unfolding lexeme_at
-lexeme_front cs x e = text_is (take (lexeme_len cs) cs) (class_in cs (take (lexeme_len cs) cs)) x e
 
 full_length : (t : List ℕ) → 0 < bytes_in t → 0 < length t
 full_length [] h = absurd (omega (arith, no_bytes))

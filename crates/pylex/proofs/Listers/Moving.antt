@@ -11,26 +11,26 @@ use Rattle.std.proofs.lemmas.Bool.Decides.{nat_tests}
 use Rattle.std.proofs.lemmas.List.{length-take-le, take-append-drop}
 use Rattle.pysource.specs.Limits.{source_limit}
 use Rattle.pysource.specs.Parts.{Parts}
-use Rattle.pylex.specs.declared.entries.Entry.{Entry}
-use Rattle.pylex.specs.declared.entries.ListingFault.{ListingFault}
-use Rattle.pylex.specs.declared.entries.Step.{Step}
-use Rattle.pylex.specs.declared.entries.Step.TheVariants as steps
-use Rattle.pylex.specs.declared.kind.Kind.{Kind}
-use Rattle.pylex.specs.declared.kind.Kind.TheVariants as kinds
+use Rattle.pylex_listing.specs.declared.entries.Entry.{Entry}
+use Rattle.pylex_listing.specs.declared.entries.ListingFault.{ListingFault}
+use Rattle.pylex_listing.specs.declared.entries.Step.{Step}
+use Rattle.pylex_listing.specs.declared.entries.Step.TheVariants as steps
+use Rattle.pylex_listing.specs.declared.kind.Kind.{Kind}
+use Rattle.pylex_listing.specs.declared.kind.Kind.TheVariants as kinds
 use Rattle.pysource.specs.declared.places.Place.{Place}
 use Rattle.pylex.specs.declared.line_state.LineState.{LineState}
-use Rattle.pylex.specs.declared.leading_char.LeadingChar.TheVariants.{Nothing}
+use Rattle.pylex_listing.specs.declared.leading_char.LeadingChar.TheVariants.{Nothing}
 use Rattle.pylex_lexeme.specs.Lexemes.{cut, left_by_cut}
 use Rattle.pylex.specs.Cursors.{CursorParts, has_no_text, given_last_first, with_text, lexemes_to, cursor_at, cursor}
-use Rattle.pylex.specs.Listing.{Source, in_characters, listing, rest, origin, last_line}
-use Rattle.pylex.specs.Steps.{entries_of, first_step, entries_in, IsIndent, mark}
-use Rattle.pylex.specs.Machine.{State, first_state, remaining, mark_at, step_of, pushed, after, lead_after}
+use Rattle.pylex_listing.specs.Listing.{Source, in_characters, listing, rest, origin, last_line}
+use Rattle.pylex_listing.specs.Steps.{entries_of, first_step, entries_in, IsIndent, mark}
+use Rattle.pylex_listing.specs.Machine.{State, first_state, remaining, mark_at, step_of, pushed, after, lead_after}
 use Rattle.pylex.specs.LineState.{with_levels, measured, begun_anew, Stands, HasRoom, IsAscending, Comes, EntryAhead, FaultAhead}
 use Rattle.pylex.specs.LineState.{IndentAhead, DedentAhead, StopAhead, Walks, stays, dedent, is_level}
 use Rattle.pylex.specs.Standing.{standing_by, resumed}
 use Rattle.pylex.specs.declared.cursor.Shown.{Shown}
 use Rattle.pylex.specs.Listers.{Listed, StandsIn, NextStep, AwaitsIndent, Keeps, IsIn, Passes, shown_at, shown_by}
-use Rattle.pylex.proofs.MachineLaws.Law.{state_of}
+use Rattle.pylex_listing.proofs.Callers.{state_of}
 use Rattle.pylex.proofs.Resumption.Ahead.{history_is, placed_first}
 use Rattle.pylex.proofs.Resumption.Resuming.{begun_state}
 use Rattle.pylex.proofs.Listing.Ends.{is_whole}

@@ -13,27 +13,27 @@ use Rattle.pylex_lexeme.specs.declared.lexeme.Class.{Class}
 use Rattle.pylex_lexeme.specs.declared.lexeme.Class.TheVariants.{Name, Number, String, Operator, Comment, Blanks, LineEnd, Join}
 use Rattle.pylex.specs.declared.entries.Emitted.{Emitted}
 use Rattle.pylex.specs.declared.entries.Emitted.TheVariants as gives
-use Rattle.pylex.specs.declared.entries.Entry.{Entry}
-use Rattle.pylex.specs.declared.entries.ListingFault.{ListingFault}
-use Rattle.pylex.specs.declared.entries.Step.TheVariants as steps
-use Rattle.pylex.specs.declared.kind.Kind.{Kind}
-use Rattle.pylex.specs.declared.kind.Kind.TheVariants as kinds
-use Rattle.pylex.specs.declared.point.Point.{Point}
+use Rattle.pylex_listing.specs.declared.entries.Entry.{Entry}
+use Rattle.pylex_listing.specs.declared.entries.ListingFault.{ListingFault}
+use Rattle.pylex_listing.specs.declared.entries.Step.TheVariants as steps
+use Rattle.pylex_listing.specs.declared.kind.Kind.{Kind}
+use Rattle.pylex_listing.specs.declared.kind.Kind.TheVariants as kinds
+use Rattle.pylex_listing.specs.declared.point.Point.{Point}
 use Rattle.pylex.specs.declared.line_state.LineState.{LineState}
 use Rattle.pylex_lexeme.specs.Chars.{is_blank_char}
 use Rattle.pylex_lexeme.specs.Chunks.{EndsLine}
 use Rattle.pylex_lexeme.specs.Operators.{is_closer}
 use Rattle.pylex_lexeme.specs.Lexemes.{Lexeme, lexeme_at, lexeme_len, is_blanks_class}
-use Rattle.pylex.specs.Lines.{is_of_blanks}
+use Rattle.pylex_listing.specs.Lines.{is_of_blanks}
 use Rattle.pylex_lexeme.specs.Chars.{bytes_in}
-use Rattle.pylex.specs.Listing.{last_line, further}
-use Rattle.pylex.specs.Machine.{State, place_past, past, after, entry_by, ends_line, first_state, is_hash, last_line_end, mark_at, step_of}
+use Rattle.pylex_listing.specs.Listing.{last_line, further}
+use Rattle.pylex_listing.specs.Machine.{State, place_past, past, after, entry_by, ends_line, first_state, is_hash, last_line_end, mark_at}
+use Rattle.pylex_listing.specs.Machine.{step_of}
 use Rattle.pylex.specs.LineState.{with_levels, measured, begun_anew, Walks, stays, silent, level, dedent, Comes, EntryAhead, given, GivesAt}
 use Rattle.pylex.specs.LineState.{IsMeasuring}
 use Rattle.pylex.specs.Listers.{IsIn}
-use Rattle.pylex.proofs.MachineLaws.Law.{place_after-append, bytes_in-append}
+use Rattle.pylex_listing.proofs.Callers.{place_after-append, bytes_in-append, blanks_text}
 use Rattle.pylex.proofs.Resumption.Resumed.{column_is}
-use Rattle.pylex.proofs.MachineLaws.Significant.{blanks_text}
 
 -- A walk goes on in the text.
 pub offset_after : (s : State) (x : Lexeme) → (after s x).now.offset ≡ s.now.offset + bytes_in x.text

@@ -8,31 +8,28 @@ use Rattle.std.specs.Prelude.{nat_lt}
 use Rattle.std.proofs.lemmas.List.Sums.{count_by-le-length}
 use Rattle.pylex_lexeme.specs.declared.lexeme.Class.{Class}
 use Rattle.pylex_lexeme.specs.declared.lexeme.Class.TheVariants.{Name, Number, String, Operator, Comment, Blanks, LineEnd, Join}
-use Rattle.pylex.specs.declared.kind.Kind.TheVariants as kinds
-use Rattle.pylex.specs.declared.entries.Entry.{Entry}
-use Rattle.pylex.specs.declared.entries.ListingFault.{ListingFault}
-use Rattle.pylex.specs.declared.entries.Step.{Step}
-use Rattle.pylex.specs.declared.entries.Step.TheVariants as steps
+use Rattle.pylex_listing.specs.declared.kind.Kind.TheVariants as kinds
+use Rattle.pylex_listing.specs.declared.entries.Entry.{Entry}
+use Rattle.pylex_listing.specs.declared.entries.ListingFault.{ListingFault}
+use Rattle.pylex_listing.specs.declared.entries.Step.{Step}
+use Rattle.pylex_listing.specs.declared.entries.Step.TheVariants as steps
 use Rattle.pylex_lexeme.specs.Operators.{is_closer}
 use Rattle.pylex_lexeme.specs.Lexemes.{Lexeme, cut, left_by_cut}
-use Rattle.pylex.specs.Lines.{is_significant}
+use Rattle.pylex_listing.specs.Lines.{is_significant}
 use Rattle.pylex_lexeme.specs.Chars.{bytes_in}
-use Rattle.pylex.specs.Listing.{Source, listing, stop_fault, up_to_end}
-use Rattle.pylex.specs.Steps.{entries_of}
-use Rattle.pylex.specs.Machine.{State, pushed, after, dedents_at, mark_at, last_place, layout_of, entry_by, gives, is_hash, last_line_end}
-use Rattle.pylex.specs.Machine.{tail_of, stop_of, run, remaining, first_state}
-use Rattle.pylex.specs.Laws.{AreLexemes}
+use Rattle.pylex_listing.specs.Listing.{Source, listing, stop_fault, up_to_end}
+use Rattle.pylex_listing.specs.Steps.{entries_of}
+use Rattle.pylex_listing.specs.Machine.{State, pushed, after, dedents_at, mark_at, last_place, layout_of, entry_by, gives, is_hash}
+use Rattle.pylex_listing.specs.Machine.{last_line_end, tail_of, stop_of, run, remaining, first_state}
+use Rattle.pylex_listing.specs.Laws.{AreLexemes}
 use Rattle.pylex.specs.Listers.{Listed, StandsIn}
 use Rattle.pylex.specs.LineState.{is_above, is_level}
 use Rattle.std.proofs.Math.Bool.{and-true, and-false}
 use Rattle.std.proofs.lemmas.Bool.{cases_Bool}
 use Rattle.pylex.proofs.Levels.Layouts.{layout_indent, layout_dedents, layout_mismatch}
 use Rattle.pylex.proofs.Listers.Finding.{settled_layout}
-use Rattle.pylex.proofs.MachineLaws.Law.{bytes_in-append}
-use Rattle.pylex.proofs.MachineLaws.Run.{listing_is}
+use Rattle.pylex_listing.proofs.Callers.{bytes_in-append, listing_is, lexeme_full, cut_lexed}
 use Rattle.pylex.proofs.Listing.Ends.{stop_is_fault}
-use Rattle.pylex.proofs.MachineLaws.Full.{lexeme_full}
-use Rattle.pylex.proofs.MachineLaws.Lexed.{cut_lexed}
 use Rattle.pylex.proofs.Listing.Blocks.{three_ways, some_at, pushed_length}
 use Rattle.pylex.proofs.Resumption.CursorBounds.{text_length}
 use Rattle.pylex.proofs.Callers.{is_behind}

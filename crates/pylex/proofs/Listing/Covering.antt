@@ -12,24 +12,22 @@ use Rattle.std.proofs.lemmas.Bool.{cases_Bool}
 use Rattle.pysource.specs.declared.places.Place.{Place}
 use Rattle.pylex_lexeme.specs.declared.lexeme.Class.{Class}
 use Rattle.pylex_lexeme.specs.declared.lexeme.Class.TheVariants.{Name, Number, String, Operator, Comment, Blanks, LineEnd, Join}
-use Rattle.pylex.specs.declared.kind.Kind.TheVariants as kinds
-use Rattle.pylex.specs.declared.entries.Entry.{Entry}
-use Rattle.pylex.specs.declared.entries.ListingFault.{ListingFault}
-use Rattle.pylex.specs.declared.entries.Step.{Step}
-use Rattle.pylex.specs.declared.entries.Step.TheVariants as steps
+use Rattle.pylex_listing.specs.declared.kind.Kind.TheVariants as kinds
+use Rattle.pylex_listing.specs.declared.entries.Entry.{Entry}
+use Rattle.pylex_listing.specs.declared.entries.ListingFault.{ListingFault}
+use Rattle.pylex_listing.specs.declared.entries.Step.{Step}
+use Rattle.pylex_listing.specs.declared.entries.Step.TheVariants as steps
 use Rattle.pylex_lexeme.specs.Operators.{is_closer}
 use Rattle.pylex_lexeme.specs.Lexemes.{Lexeme, are_blanks, is_join, lexeme_at, cut, left_by_cut}
-use Rattle.pylex.specs.Lines.{is_of_blanks, is_of_line_end, is_significant}
+use Rattle.pylex_listing.specs.Lines.{is_of_blanks, is_of_line_end, is_significant}
 use Rattle.pylex_lexeme.specs.Chars.{bytes_in}
-use Rattle.pylex.specs.Listing.{Source, origin, up_to_end, stop_fault}
-use Rattle.pylex.specs.Steps.{entries_of, fault_of, mark}
-use Rattle.pylex.specs.Machine.{State, past, behind, after, dedents_at, mark_at, step_of, layout_of, entry_by, gives, is_hash}
-use Rattle.pylex.specs.Machine.{last_line_end, last_place, tail_of, stop_of, run, remaining, first_state}
-use Rattle.pylex.specs.Laws.{AreLexemes, IsGap, StandsNext, Covers, IsCovered}
-use Rattle.pylex.proofs.MachineLaws.Law.{bytes_in-append}
-use Rattle.pylex.proofs.MachineLaws.Run.{listing_is}
+use Rattle.pylex_listing.specs.Listing.{Source, origin, up_to_end, stop_fault}
+use Rattle.pylex_listing.specs.Steps.{entries_of, fault_of, mark}
+use Rattle.pylex_listing.specs.Machine.{State, past, behind, after, dedents_at, mark_at, step_of, layout_of, entry_by, gives, is_hash}
+use Rattle.pylex_listing.specs.Machine.{last_line_end, last_place, tail_of, stop_of, run, remaining, first_state}
+use Rattle.pylex_listing.specs.Laws.{AreLexemes, IsGap, StandsNext, Covers, IsCovered}
+use Rattle.pylex_listing.proofs.Callers.{bytes_in-append, listing_is, cut_lexed}
 use Rattle.pylex.proofs.Listing.Ends.{stop_is_fault}
-use Rattle.pylex.proofs.MachineLaws.Lexed.{cut_lexed}
 use Rattle.pylex.proofs.MachineLaws.LexemeClasses.{Says, lexeme_says}
 
 abbrev pub IsPart : List ℕ → Type 0

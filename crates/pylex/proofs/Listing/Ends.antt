@@ -6,24 +6,24 @@ use Rattle.std.proofs.Common.{replicate, refl, ap, sym, subst, Option, Some, Non
 use Rattle.std.specs.List.{list_all, list_any, count_by}
 use Rattle.std.specs.Prelude.{nat_lt}
 use Rattle.pysource.specs.declared.places.Place.{Place}
-use Rattle.pylex.specs.declared.kind.Kind.TheVariants as kinds
-use Rattle.pylex.specs.declared.entries.Entry.{Entry}
-use Rattle.pylex.specs.declared.entries.ListingFault.{ListingFault}
-use Rattle.pylex.specs.declared.entries.ListingError.TheVariants as errors
-use Rattle.pylex.specs.declared.entries.Step.{Step}
-use Rattle.pylex.specs.declared.entries.Step.TheVariants as steps
+use Rattle.pylex_listing.specs.declared.kind.Kind.TheVariants as kinds
+use Rattle.pylex_listing.specs.declared.entries.Entry.{Entry}
+use Rattle.pylex_listing.specs.declared.entries.ListingFault.{ListingFault}
+use Rattle.pylex_listing.specs.declared.entries.ListingError.TheVariants as errors
+use Rattle.pylex_listing.specs.declared.entries.Step.{Step}
+use Rattle.pylex_listing.specs.declared.entries.Step.TheVariants as steps
 use Rattle.pylex_lexeme.specs.Strings.{opens_string}
 use Rattle.pylex_lexeme.specs.declared.lexeme.Class.{Class}
 use Rattle.pylex_lexeme.specs.declared.lexeme.Class.TheVariants.{Name, Number, String, Operator, Comment, Blanks, LineEnd, Join}
 use Rattle.pylex_lexeme.specs.Operators.{is_closer}
-use Rattle.pylex.specs.Lines.{is_significant}
+use Rattle.pylex_listing.specs.Lines.{is_significant}
 use Rattle.pylex_lexeme.specs.Lexemes.{Lexeme, cut, left_by_cut, is_open_string}
-use Rattle.pylex.specs.Listing.{Source, origin, stop_fault, up_to_end}
-use Rattle.pylex.specs.Steps.{entries_of, mark, fault_at, IsNoEntry}
-use Rattle.pylex.specs.Machine.{State, layout_of, entry_by, gives, is_hash, dedents_at, last_place, last_line_end, tail_of, stop_of, after}
-use Rattle.pylex.specs.Machine.{run, remaining, first_state}
-use Rattle.pylex.specs.Laws.{EndsWithMarker, AreWhole, IsWhole}
-use Rattle.pylex.proofs.MachineLaws.Run.{listing_is}
+use Rattle.pylex_listing.specs.Listing.{Source, origin, stop_fault, up_to_end}
+use Rattle.pylex_listing.specs.Steps.{entries_of, mark, fault_at, IsNoEntry}
+use Rattle.pylex_listing.specs.Machine.{State, layout_of, entry_by, gives, is_hash, dedents_at, last_place, last_line_end, tail_of, stop_of}
+use Rattle.pylex_listing.specs.Machine.{after, run, remaining, first_state}
+use Rattle.pylex_listing.specs.Laws.{EndsWithMarker, AreWhole, IsWhole}
+use Rattle.pylex_listing.proofs.Callers.{listing_is}
 
 -- the step at a stop before the text's end is a fault
 pub stop_is_fault : (fault : Option ListingFault) (p : Place) (left : List ℕ)

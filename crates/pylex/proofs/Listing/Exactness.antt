@@ -5,10 +5,8 @@ use Rattle.std.proofs.Common.{◌≡◌, ℕ, ◌+◌, ◌-◌, Bool, true, fals
 use Rattle.std.proofs.Common.{drop, refl, ap, ◌∙◌, sym}
 use Rattle.std.proofs.Common.{subst, arith, cond, replicate, Option, Some, None, append_assoc, IsUtf8}
 use Rattle.std.specs.Str.{chars, encode_utf8_all, all_scalars}
-use Rattle.std.proofs.Math.Utf8.{scalar}
 use Rattle.std.specs.List.{list_all, list_any}
 use Rattle.std.specs.Prelude.{nat_lt, option_map, slice_range, All}
-use Rattle.std.proofs.lemmas.Bool.{and_from, and_parts}
 use Rattle.std.proofs.lemmas.List.Elements.{All-nil, All-cons}
 use Rattle.std.proofs.lemmas.Str.{encodes-append, chars_from_encodes, scalars-chars}
 use Rattle.pysource.specs.Places.{place_after}
@@ -23,29 +21,22 @@ use Rattle.pylex_lexeme.specs.Strings.{opens_string, counts_as_string}
 use Rattle.pylex_lexeme.specs.Operators.{is_closer, is_operator, exact_of}
 use Rattle.pylex_lexeme.specs.Lexemes.{Lexeme, cut, left_by_cut, is_open_string, is_name, is_comment, are_blanks, is_line_end, is_join}
 use Rattle.pylex_lexeme.specs.Lexemes.{plain_class, class_in}
-use Rattle.pylex.specs.declared.entries.ListingFault.{ListingFault}
-use Rattle.pylex.specs.declared.entries.ListingError.TheVariants as errors
-use Rattle.pylex.specs.declared.entries.Step.{Step}
-use Rattle.pylex.specs.declared.entries.Step.TheVariants as steps
-use Rattle.pylex.specs.declared.kind.Kind.{Kind}
-use Rattle.pylex.specs.declared.kind.Kind.TheVariants as kinds
-use Rattle.pylex.specs.Lines.{text_before, depth, is_significant, is_at_margin, is_logical}
-use Rattle.pylex.specs.Indentation.{width_at, widths, open_levels, dedents, layout_by, layout}
-use Rattle.pylex.specs.Listing.{listing, in_characters, origin, entry_of, steps_of, stop_fault}
-use Rattle.pylex.specs.Listing.{last_line, begins_comment, line_end_of_last, end_place, ends_in_join, tail, stop, steps_from, up_to_end}
-use Rattle.pylex.specs.Steps.{entries_of, mark, fault_at}
-use Rattle.pylex.specs.Laws.{AreLexemes, HasExact, HaveExact}
-use Rattle.pylex.proofs.MachineLaws.Lexed.{cut_lexed, lexeme_class}
+use Rattle.pylex_listing.specs.declared.entries.ListingFault.{ListingFault}
+use Rattle.pylex_listing.specs.declared.entries.ListingError.TheVariants as errors
+use Rattle.pylex_listing.specs.declared.entries.Step.{Step}
+use Rattle.pylex_listing.specs.declared.entries.Step.TheVariants as steps
+use Rattle.pylex_listing.specs.declared.kind.Kind.{Kind}
+use Rattle.pylex_listing.specs.declared.kind.Kind.TheVariants as kinds
+use Rattle.pylex_listing.specs.Lines.{text_before, depth, is_significant, is_at_margin, is_logical}
+use Rattle.pylex_listing.specs.Indentation.{width_at, widths, open_levels, dedents, layout_by, layout}
+use Rattle.pylex_listing.specs.Listing.{listing, in_characters, origin, entry_of, steps_of, stop_fault, last_line, begins_comment}
+use Rattle.pylex_listing.specs.Listing.{line_end_of_last, end_place, ends_in_join, tail, stop, steps_from, up_to_end}
+use Rattle.pylex_listing.specs.Steps.{entries_of, mark, fault_at}
+use Rattle.pylex_listing.specs.Laws.{AreLexemes, HasExact, HaveExact}
+use Rattle.pylex_listing.proofs.Callers.{cut_lexed, lexeme_class, drop_of, scalars_of}
 use Rattle.pylex.proofs.Listing.Lying.{scalars_behind}
-use Rattle.pylex.proofs.Resumption.Resume.{drop_of}
 
 -- what stands between the offsets of a piece is its text
-
-pub scalars_of : (t b : List ℕ) → all_scalars (t ++ b) ≡ true → all_scalars t ≡ true
-scalars_of [] b h = refl
-scalars_of (c ∷ t) b h = let parts = and_parts (scalar c) (all_scalars (t ++ b)) h in
-    and_from (scalar c) (all_scalars t) parts.0 (scalars_of t b parts.1)
-
 take_whole : (a b : List ℕ) → take (length a) (a ++ b) ≡ a
 take_whole [] b = refl
 take_whole (c ∷ a) b = ap (λ (t : List ℕ). c ∷ t) (take_whole a b)

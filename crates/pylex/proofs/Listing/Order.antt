@@ -10,22 +10,22 @@ use Rattle.pysource.specs.declared.places.Place.{Place}
 use Rattle.pylex_lexeme.specs.declared.lexeme.Class.{Class}
 use Rattle.pylex_lexeme.specs.declared.lexeme.Class.TheVariants.{Name, Number, String, Operator, Comment, Blanks, LineEnd, Join}
 use Rattle.pylex_lexeme.specs.declared.kinds.Exact.{Exact}
-use Rattle.pylex.specs.declared.kind.Kind.{Kind}
-use Rattle.pylex.specs.declared.kind.Kind.TheVariants as kinds
-use Rattle.pylex.specs.declared.entries.Entry.{Entry}
-use Rattle.pylex.specs.declared.entries.ListingFault.{ListingFault}
-use Rattle.pylex.specs.declared.entries.Step.{Step}
-use Rattle.pylex.specs.declared.entries.Step.TheVariants as steps
-use Rattle.pylex.specs.declared.point.Point.{Point}
+use Rattle.pylex_listing.specs.declared.kind.Kind.{Kind}
+use Rattle.pylex_listing.specs.declared.kind.Kind.TheVariants as kinds
+use Rattle.pylex_listing.specs.declared.entries.Entry.{Entry}
+use Rattle.pylex_listing.specs.declared.entries.ListingFault.{ListingFault}
+use Rattle.pylex_listing.specs.declared.entries.Step.{Step}
+use Rattle.pylex_listing.specs.declared.entries.Step.TheVariants as steps
+use Rattle.pylex_listing.specs.declared.point.Point.{Point}
 use Rattle.pylex_lexeme.specs.Operators.{is_closer}
 use Rattle.pylex_lexeme.specs.Lexemes.{Lexeme, cut, left_by_cut}
-use Rattle.pylex.specs.Lines.{is_of_blanks, is_significant}
-use Rattle.pylex.specs.Listing.{Source, origin, up_to_end}
-use Rattle.pylex.specs.Steps.{entries_of}
-use Rattle.pylex.specs.Machine.{State, place_past, past, after, ends_line, dedents_at, mark_at, step_of, layout_of, entry_by, gives}
-use Rattle.pylex.specs.Machine.{is_hash, last_line_end, last_place, tail_of, stop_of, run, remaining, first_state, first_point}
-use Rattle.pylex.specs.Laws.{RunsForward, EndsBefore, AreOrdered, IsOrdered}
-use Rattle.pylex.proofs.MachineLaws.Run.{listing_is}
+use Rattle.pylex_listing.specs.Lines.{is_of_blanks, is_significant}
+use Rattle.pylex_listing.specs.Listing.{Source, origin, up_to_end}
+use Rattle.pylex_listing.specs.Steps.{entries_of}
+use Rattle.pylex_listing.specs.Machine.{State, place_past, past, after, ends_line, dedents_at, mark_at, step_of, layout_of, entry_by, gives}
+use Rattle.pylex_listing.specs.Machine.{is_hash, last_line_end, last_place, tail_of, stop_of, run, remaining, first_state, first_point}
+use Rattle.pylex_listing.specs.Laws.{RunsForward, EndsBefore, AreOrdered, IsOrdered}
+use Rattle.pylex_listing.proofs.Callers.{listing_is}
 use Rattle.pylex.proofs.Listing.Ends.{stop_is_fault}
 
 -- one point isn't behind another

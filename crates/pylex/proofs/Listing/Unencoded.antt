@@ -9,20 +9,20 @@ use Rattle.pysource.specs.Places.{place_after}
 use Rattle.pysource.specs.declared.places.Place.{Place}
 use Rattle.pylex_lexeme.specs.declared.lexeme.Class.{Class}
 use Rattle.pylex_lexeme.specs.declared.lexeme.Class.TheVariants.{Name, Number, String, Operator, Comment, Blanks, LineEnd, Join}
-use Rattle.pylex.specs.declared.entries.Entry.{Entry}
-use Rattle.pylex.specs.declared.entries.ListingFault.{ListingFault}
-use Rattle.pylex.specs.declared.entries.ListingError.TheVariants as errors
-use Rattle.pylex.specs.declared.entries.Step.{Step}
-use Rattle.pylex.specs.declared.entries.Step.TheVariants as steps
-use Rattle.pylex.specs.declared.kind.Kind.TheVariants as kinds
+use Rattle.pylex_listing.specs.declared.entries.Entry.{Entry}
+use Rattle.pylex_listing.specs.declared.entries.ListingFault.{ListingFault}
+use Rattle.pylex_listing.specs.declared.entries.ListingError.TheVariants as errors
+use Rattle.pylex_listing.specs.declared.entries.Step.{Step}
+use Rattle.pylex_listing.specs.declared.entries.Step.TheVariants as steps
+use Rattle.pylex_listing.specs.declared.kind.Kind.TheVariants as kinds
 use Rattle.pylex_lexeme.specs.Strings.{opens_string}
 use Rattle.pylex_lexeme.specs.Operators.{is_closer}
-use Rattle.pylex.specs.Indentation.{open_levels, width_at, widths, layout_by, layout}
-use Rattle.pylex.specs.Steps.{fault_at}
+use Rattle.pylex_listing.specs.Indentation.{open_levels, width_at, widths, layout_by, layout}
+use Rattle.pylex_listing.specs.Steps.{fault_at}
 use Rattle.pylex_lexeme.specs.Lexemes.{Lexeme, cut, left_by_cut, is_open_string}
-use Rattle.pylex.specs.Lines.{text_before, depth, is_significant, is_at_margin, is_logical}
-use Rattle.pylex.specs.Listing.{Source, listing, line_end_kind, entry_of, steps_of, stop_fault, last_line, begins_comment, line_end_of_last}
-use Rattle.pylex.specs.Listing.{ends_in_join, tail, stop, steps_from, up_to_end}
+use Rattle.pylex_listing.specs.Lines.{text_before, depth, is_significant, is_at_margin, is_logical}
+use Rattle.pylex_listing.specs.Listing.{Source, listing, line_end_kind, entry_of, steps_of, stop_fault, last_line, begins_comment}
+use Rattle.pylex_listing.specs.Listing.{line_end_of_last, ends_in_join, tail, stop, steps_from, up_to_end}
 
 -- if a step gives an entry, that is none of the encoding
 abbrev pub GivesText : Step → Type 0

@@ -7,13 +7,13 @@ use Rattle.std.proofs.lemmas.Bool.{cases_Bool}
 use Rattle.pylex_lexeme.specs.declared.lexeme.Class.{Class}
 use Rattle.pylex_lexeme.specs.declared.lexeme.Class.TheVariants.{Name, Number, String, Operator, Comment, Blanks, LineEnd, Join}
 use Rattle.pysource.specs.declared.places.Place.{Place}
-use Rattle.pylex.specs.declared.point.Point.{Point}
+use Rattle.pylex_listing.specs.declared.point.Point.{Point}
 use Rattle.pylex.specs.declared.line_state.LineState.{LineState}
 use Rattle.pylex_lexeme.specs.Lexemes.{Lexeme}
-use Rattle.pylex.specs.Lines.{opens, closes, is_significant, is_of_blanks, is_of_line_end, count_if}
-use Rattle.pylex.specs.Indentation.{width_from}
+use Rattle.pylex_listing.specs.Lines.{opens, closes, is_significant, is_of_blanks, is_of_line_end, count_if}
+use Rattle.pylex_listing.specs.Indentation.{width_from}
 use Rattle.pylex_lexeme.specs.Chars.{bytes_in}
-use Rattle.pylex.specs.Machine.{place_past, lead_after, after, past, still, is_of_join}
+use Rattle.pylex_listing.specs.Machine.{place_past, lead_after, after, past, still, is_of_join}
 use Rattle.pylex.specs.LineState.{with_levels, HasRoom}
 use Rattle.pylex.proofs.Listers.Ranges.{advance_column}
 

@@ -19,9 +19,8 @@ use Rattle.pylex_lexeme.specs.declared.kinds.Exact.{Exact}
 use Rattle.pylex_lexeme.specs.Numbers.{is_number}
 use Rattle.pylex_lexeme.specs.Strings.{opens_string, counts_as_string}
 use Rattle.pylex_lexeme.specs.Lexemes.{Lexeme, is_name, is_comment, are_blanks, is_line_end, is_join, plain_class, class_in, lexeme_at}
-use Rattle.pylex.specs.Listing.{last_line}
-use Rattle.pylex.proofs.MachineLaws.LeadingChar.{last_push}
-use Rattle.pylex.proofs.MachineLaws.Lexed.{lexeme_class}
+use Rattle.pylex_listing.specs.Listing.{last_line}
+use Rattle.pylex_listing.proofs.Callers.{last_push, lexeme_class}
 
 -- a class, by what the tests of those without a name of their own say
 abbrev Said : Class → Bool → Bool → Bool → Bool → Bool → Type 0

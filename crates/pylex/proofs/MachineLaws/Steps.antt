@@ -5,11 +5,11 @@
 use Rattle.std.proofs.Common.{◌≡◌, ℕ, ◌+◌, ◌-◌, ◌<◌, suc, List, [], ◌∷◌, ◌++◌, length, drop, refl, ap, arith, Option, Some, None}
 use Rattle.std.proofs.Common.{length-append}
 use Rattle.std.specs.List.{flat_map}
-use Rattle.pylex.specs.declared.entries.ListingFault.{ListingFault}
+use Rattle.pylex_listing.specs.declared.entries.ListingFault.{ListingFault}
 use Rattle.pylex_lexeme.specs.Lexemes.{Lexeme, lexeme_at, cut, cut_after, left_by_cut}
-use Rattle.pylex.specs.Listing.{up_to_end}
-use Rattle.pylex.specs.Machine.{State, gives, after, run, remaining, stop_of, behind_steps}
-use Rattle.pylex.proofs.MachineLaws.Run.{up_to_end-append}
+use Rattle.pylex_listing.specs.Listing.{up_to_end}
+use Rattle.pylex_listing.specs.Machine.{State, gives, after, run, remaining, stop_of, behind_steps}
+use Rattle.pylex_listing.proofs.Callers.{up_to_end-append}
 
 cut_after_front : (f back : List ℕ) → cut_after (length f) (f ++ back) ≡ cut_after 0 back
 cut_after_front [] back = refl

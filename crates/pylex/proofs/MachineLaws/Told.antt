@@ -20,24 +20,25 @@ use Rattle.pylex_lexeme.specs.declared.kinds.Exact.{Exact}
 use Rattle.pylex_lexeme.specs.Lexemes.{Lexeme, is_line_end, is_join, is_line_end_class, is_blanks_class, is_join_class}
 use Rattle.pylex_lexeme.specs.Lexemes.{is_opener_class, is_closer_class}
 use Rattle.pylex_lexeme.proofs.Callers.Lexemes.{by_words, words}
-use Rattle.pylex.specs.declared.leading_char.LeadingChar.{LeadingChar}
-use Rattle.pylex.specs.declared.leading_char.LeadingChar.TheVariants.{Nothing, Hash, Other}
-use Rattle.pylex.specs.declared.entries.Entry.{Entry}
-use Rattle.pylex.specs.declared.entries.Step.{Step}
-use Rattle.pylex.specs.declared.entries.Step.TheVariants as steps
-use Rattle.pylex.specs.declared.kind.Kind.{Kind}
-use Rattle.pylex.specs.declared.kind.Kind.TheVariants as kinds
-use Rattle.pylex.specs.declared.point.Point.{Point}
+use Rattle.pylex_listing.specs.declared.leading_char.LeadingChar.{LeadingChar}
+use Rattle.pylex_listing.specs.declared.leading_char.LeadingChar.TheVariants.{Nothing, Hash, Other}
+use Rattle.pylex_listing.specs.declared.entries.Entry.{Entry}
+use Rattle.pylex_listing.specs.declared.entries.Step.{Step}
+use Rattle.pylex_listing.specs.declared.entries.Step.TheVariants as steps
+use Rattle.pylex_listing.specs.declared.kind.Kind.{Kind}
+use Rattle.pylex_listing.specs.declared.kind.Kind.TheVariants as kinds
+use Rattle.pylex_listing.specs.declared.point.Point.{Point}
 use Rattle.pylex.specs.declared.line_state.LineState.{LineState}
-use Rattle.pylex.specs.Lines.{opens, closes, count_if}
-use Rattle.pylex.specs.Machine.{State, place_past, lead_after, after, behind, entry_by, line_end_kind_of, step_of, past, still}
+use Rattle.pylex_listing.specs.Lines.{opens, closes, count_if}
+use Rattle.pylex_listing.specs.Machine.{State, place_past, lead_after, after, behind, entry_by, line_end_kind_of, step_of, past, still}
+use Rattle.pylex_listing.specs.Machine.{begun_by}
 use Rattle.pylex.specs.LineState.{with_levels, HasRoom}
 use Rattle.pylex.proofs.MachineLaws.Advancing.{room_on}
 use Rattle.pylex.specs.Inner.Plain.{IsPlain}
-use Rattle.pylex.specs.Inner.Told.{GoesOn, begun_by, Tells, Passed, is_text, text_kind}
+use Rattle.pylex.specs.Inner.Told.{GoesOn, Tells, Passed, is_text, text_kind}
 use Rattle.pylex.proofs.MachineLaws.LexemeClasses.{Says, lexeme_says}
 use Rattle.pylex.proofs.Texts.Plain.{plain_ascii, AllInLine, advance_in_line, begun}
-use Rattle.pylex.proofs.MachineLaws.Significant.{blank_parts}
+use Rattle.pylex_listing.proofs.Callers.{blank_parts}
 
 -- characters of ASCII, and no LF
 abbrev is_even : ℕ → Bool

@@ -7,8 +7,8 @@ use Rattle.std.specs.Char.{encode_utf8}
 use Rattle.std.proofs.lemmas.Str.{chars-nil, chars_past_char, IsUtf8-past_char, length-encode, len_utf8_bounds}
 use Rattle.std.proofs.lemmas.Bool.Decides.{nat_tests}
 use Rattle.pysource.specs.declared.places.Place.{Place}
-use Rattle.pylex.specs.Indentation.{column_after, width_from}
-use Rattle.pylex.specs.Machine.{place_past}
+use Rattle.pylex_listing.specs.Indentation.{column_after, width_from}
+use Rattle.pylex_listing.specs.Machine.{place_past}
 
 -- one character off the front of a text
 pub record Past (bs rest : List ℕ) (c : ℕ) : Type 0 where

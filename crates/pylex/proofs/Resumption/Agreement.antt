@@ -8,10 +8,10 @@ use Rattle.std.proofs.lemmas.List.{append-nil, reverse-append, reverse-reverse}
 use Rattle.std.proofs.lemmas.List.Sums.{take_while-cons}
 use Rattle.std.proofs.lemmas.Bool.{cases_Bool}
 use Rattle.pylex_lexeme.specs.Chars.{bytes_in}
-use Rattle.pylex.specs.Listing.{Source, last_line}
+use Rattle.pylex_listing.specs.Listing.{Source, last_line}
 use Rattle.pylex.specs.Standing.{front_to, back_from, line_begin, Agrees}
-use Rattle.pylex.proofs.MachineLaws.Law.{bytes_in-append}
-use Rattle.pylex.proofs.Resumption.Resume.{goes_on, lines_before, last_split, front_in, front_zero, front_bytes, front_and_back, drop_of}
+use Rattle.pylex_listing.proofs.Callers.{bytes_in-append, drop_of}
+use Rattle.pylex.proofs.Resumption.Resume.{goes_on, lines_before, last_split, front_in, front_zero, front_bytes, front_and_back}
 
 -- Whole lines do not count towards the last line of a text.
 taken_none : (c : ℕ) (r : List ℕ) → (c == 10) ≡ true → take_while goes_on (c ∷ r) ≡ []

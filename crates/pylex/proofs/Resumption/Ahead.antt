@@ -9,25 +9,23 @@ use Rattle.std.proofs.lemmas.Bool.Decides.{nat_tests}
 use Rattle.std.proofs.lemmas.Bool.{and_parts, or_parts, cases_Bool}
 use Rattle.pylex_lexeme.specs.declared.lexeme.Class.{Class}
 use Rattle.pylex_lexeme.specs.declared.lexeme.Class.TheVariants.{Name, Number, String, Operator, Comment, Blanks, LineEnd, Join}
-use Rattle.pylex.specs.declared.entries.ListingFault.{ListingFault}
-use Rattle.pylex.specs.declared.entries.Step.{Step}
+use Rattle.pylex_listing.specs.declared.entries.ListingFault.{ListingFault}
+use Rattle.pylex_listing.specs.declared.entries.Step.{Step}
 use Rattle.pylex_lexeme.specs.Lexemes.{Lexeme, lexeme_at, cut, left_by_cut}
-use Rattle.pylex.specs.Lines.{text_before, depth, opens, closes, is_of_blanks, is_of_line_end, is_significant, line_so_far, is_at_margin}
-use Rattle.pylex.specs.Lines.{is_logical}
+use Rattle.pylex_listing.specs.Lines.{text_before, depth, opens, closes, is_of_blanks, is_of_line_end, is_significant, line_so_far}
+use Rattle.pylex_listing.specs.Lines.{is_at_margin, is_logical}
 use Rattle.pylex_lexeme.specs.Chars.{bytes_in}
-use Rattle.pylex.specs.Indentation.{width_at, widths, open_levels}
-use Rattle.pylex.specs.Listing.{Source, last_line, ends_in_join, up_to_end, stop_fault}
+use Rattle.pylex_listing.specs.Indentation.{width_at, widths, open_levels}
+use Rattle.pylex_listing.specs.Listing.{Source, last_line, ends_in_join, up_to_end, stop_fault}
 use Rattle.pylex.specs.Cursors.{cursor_at, lexemes_to}
-use Rattle.pylex.specs.Machine.{State, pushed, after, is_of_join, layout_of, entry_by, gives, stop_of, run, remaining}
+use Rattle.pylex_listing.specs.Machine.{State, pushed, after, is_of_join, layout_of, entry_by, gives, stop_of, run, remaining}
 use Rattle.pylex.specs.Standing.{front_to, back_from, resumed}
-use Rattle.pylex.specs.Laws.{AreLexemes}
-use Rattle.pylex.proofs.Levels.Stack.{push}
-use Rattle.pylex.proofs.MachineLaws.Law.{state_of, point_after, margin_push, logical_push, count_cons}
+use Rattle.pylex_listing.specs.Laws.{AreLexemes}
+use Rattle.pylex_listing.proofs.Callers.{push, state_of, point_after, margin_push, logical_push, count_cons, Full, drop_of, cut_full}
+use Rattle.pylex_listing.proofs.Callers.{lexeme_some, cut_lexed}
 use Rattle.pylex.proofs.MachineLaws.Steps.{cut_step, cut_stop, left_step, left_stop}
-use Rattle.pylex.proofs.Resumption.Resume.{begun_at, run_same, front_in, front_zero, onto, Full, lexemes_at, drop_of}
+use Rattle.pylex.proofs.Resumption.Resume.{begun_at, run_same, front_in, front_zero, onto, lexemes_at}
 use Rattle.pylex.proofs.Resumption.Resumed.{column_is, front_line, resumed_start}
-use Rattle.pylex.proofs.MachineLaws.Full.{cut_full}
-use Rattle.pylex.proofs.MachineLaws.Lexed.{lexeme_some, cut_lexed}
 use Rattle.pylex.proofs.MachineLaws.LexemeClasses.{Says, line_end_begins, comment_in_line}
 
 -- what is given from behind these lexemes on, by a cursor there alone

@@ -15,18 +15,17 @@ use Rattle.std.proofs.Math.Nat.{div-mul-le_self}
 use Rattle.std.proofs.lemmas.Bool.{cases_Bool}
 use Rattle.pysource.specs.Places.{place_after}
 use Rattle.pylex_lexeme.specs.Lexemes.{Lexeme}
-use Rattle.pylex.specs.Lines.{text_before, depth, opens, is_significant, line_so_far, is_at_margin}
+use Rattle.pylex_listing.specs.Lines.{text_before, depth, opens, is_significant, line_so_far, is_at_margin}
 use Rattle.pylex_lexeme.specs.Chars.{bytes_in}
-use Rattle.pylex.specs.Indentation.{column_after, width_from, width_at, widths, below, is_open, open_levels}
-use Rattle.pylex.specs.Listing.{Source, in_characters}
+use Rattle.pylex_listing.specs.Indentation.{column_after, width_from, width_at, widths, below, is_open, open_levels}
+use Rattle.pylex_listing.specs.Listing.{Source, in_characters}
 use Rattle.pylex.specs.Cursors.{CursorParts, cursor_at, cursor}
 use Rattle.pylex.specs.Standing.{front_to, back_from}
 use Rattle.pylex.specs.Listers.{Listed, StandsIn}
-use Rattle.pylex.proofs.MachineLaws.Law.{bytes_in-append, count_cons}
+use Rattle.pylex_listing.proofs.Callers.{bytes_in-append, count_cons, Full, cut_full}
 use Rattle.pylex_lexeme.proofs.Callers.Fronts.{length-text}
 use Rattle.pylex.proofs.Listing.Lying.{scalars_behind}
-use Rattle.pylex.proofs.Resumption.Resume.{front_and_back, Full, onto}
-use Rattle.pylex.proofs.MachineLaws.Full.{cut_full}
+use Rattle.pylex.proofs.Resumption.Resume.{front_and_back, onto}
 use Rattle.pylex.proofs.Resumption.Ahead.{front_is, Placed}
 use Rattle.pylex.proofs.Resumption.Agreement.{same_front_bytes}
 use Rattle.pylex.proofs.Levels.OpenLevels.{Grounded, grounded}

@@ -10,44 +10,41 @@ use Rattle.std.proofs.lemmas.Bool.Decides.{nat_tests}
 use Rattle.pylex_lexeme.specs.declared.kinds.Exact.{Exact}
 use Rattle.pylex_lexeme.specs.declared.lexeme.Class.{Class}
 use Rattle.pylex_lexeme.specs.declared.lexeme.Class.TheVariants.{Name, Number, String, Operator, Comment, Blanks, LineEnd, Join}
-use Rattle.pylex.specs.declared.kind.Kind.TheVariants as kinds
-use Rattle.pylex.specs.declared.entries.Entry.{Entry}
-use Rattle.pylex.specs.declared.entries.ListingFault.{ListingFault}
-use Rattle.pylex.specs.declared.entries.Step.{Step}
-use Rattle.pylex.specs.declared.entries.Step.TheVariants as steps
+use Rattle.pylex_listing.specs.declared.kind.Kind.TheVariants as kinds
+use Rattle.pylex_listing.specs.declared.entries.Entry.{Entry}
+use Rattle.pylex_listing.specs.declared.entries.ListingFault.{ListingFault}
+use Rattle.pylex_listing.specs.declared.entries.Step.{Step}
+use Rattle.pylex_listing.specs.declared.entries.Step.TheVariants as steps
 use Rattle.pylex_lexeme.specs.Operators.{is_closer}
 use Rattle.pylex_lexeme.specs.Cuts.{begins_significant}
 use Rattle.pylex_lexeme.specs.Lexemes.{Lexeme, lexeme_at, lexeme_len, cut}
-use Rattle.pylex.specs.Lines.{text_before, depth, closes, is_significant, line_so_far, before_line, is_at_margin}
+use Rattle.pylex_listing.specs.Lines.{text_before, depth, closes, is_significant, line_so_far, before_line, is_at_margin}
 use Rattle.pylex_lexeme.specs.Chars.{bytes_in}
-use Rattle.pylex.specs.Indentation.{width_from, width_at, widths, open_levels}
+use Rattle.pylex_listing.specs.Indentation.{width_from, width_at, widths, open_levels}
 use Rattle.pysource.specs.Parts.{Parts}
-use Rattle.pylex.specs.Listing.{Source, in_characters, listing, rest, origin, last_line}
-use Rattle.pylex.specs.Steps.{entries_of, first_step, mark, IsNoEntry}
-use Rattle.pylex.specs.Cursors.{CursorParts, given_last_first, has_no_text, is_encoding, is_indent, with_text, point, ends_in_indent}
+use Rattle.pylex_listing.specs.Listing.{Source, in_characters, listing, rest, origin, last_line}
+use Rattle.pylex_listing.specs.Steps.{entries_of, first_step, mark, IsNoEntry}
+use Rattle.pylex.specs.Cursors.{CursorParts, given_last_first, has_no_text, is_encoding, with_text, point, ends_in_indent}
+use Rattle.pylex_listing.specs.Laws.{is_indent}
 use Rattle.pylex.specs.Cursors.{lexemes_to, cursor_at, cursor}
-use Rattle.pylex.specs.Machine.{State, after, step_of, entry_by, remaining, first_state}
-use Rattle.pylex.specs.Machine.{behind_steps}
+use Rattle.pylex_listing.specs.Machine.{State, after, step_of, entry_by, remaining, first_state, behind_steps}
 use Rattle.pylex.specs.LineState.{measured, is_above}
 use Rattle.pylex.specs.Standing.{Standing, front_to, standing_by, standing, resumed, to_give, Agrees}
 use Rattle.pylex.specs.Listers.{Listed, StandsIn, shown_at, Passes, here, lexeme, layout}
-use Rattle.pylex.proofs.MachineLaws.Law.{state_of, bytes_in-append}
-use Rattle.pylex.proofs.MachineLaws.Run.{listing_is, line_split}
-use Rattle.pylex.proofs.MachineLaws.Full.{lexeme_full}
+use Rattle.pylex_listing.proofs.Callers.{state_of, bytes_in-append, listing_is, line_split, lexeme_full, drop_of, significant_is, push}
 use Rattle.pylex.proofs.Listing.Ends.{is_whole}
-use Rattle.pylex.proofs.Resumption.Resume.{cursor_skips, cursor_moves, drop_of}
+use Rattle.pylex.proofs.Resumption.Resume.{cursor_skips, cursor_moves}
 use Rattle.pylex.proofs.Listers.Measured.{remaining_lexeme}
 use Rattle.pylex.proofs.Levels.Layouts.{layout_indent}
-use Rattle.pylex.specs.declared.entries.ListingError.TheVariants as errors
-use Rattle.pylex.proofs.Listers.Finding.{measured_significant, significant_is, no_layout}
-use Rattle.pylex.proofs.Levels.Stack.{push}
+use Rattle.pylex_listing.specs.declared.entries.ListingError.TheVariants as errors
+use Rattle.pylex.proofs.Listers.Finding.{measured_significant, no_layout}
 use Rattle.pylex.proofs.Resumption.Ahead.{Placed, history_is, front_is}
 use Rattle.pylex.proofs.Resumption.Resuming.{resumes, stands_in_agreeing, encoding_entry, state_offset, state_at_margin}
 use Rattle.pylex.proofs.Resumption.Agreement.{agrees_on}
 use Rattle.pylex.proofs.Resumption.Points.{GoesAs, StoodAt, PointOf, point_after_given, given_pointed}
 use Rattle.pylex.proofs.Resumption.Passing.{passes_steps, passes_reach, Reached, plain_stood, stood_depth, next_alike, next_of}
 use Rattle.pylex.proofs.Levels.OpenLevels.{grounded, above_ground}
-use Rattle.pylex.specs.declared.point.Point.{Point}
+use Rattle.pylex_listing.specs.declared.point.Point.{Point}
 use Rattle.std.proofs.lemmas.Str.{length-le-encodes}
 use Rattle.pylex.proofs.Callers.{is_behind, is_own}
 use Rattle.pylex.proofs.Listers.Ranges.{offset_after}

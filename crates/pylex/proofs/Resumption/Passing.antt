@@ -9,21 +9,21 @@ use Rattle.std.specs.List.{count_by}
 use Rattle.std.specs.Prelude.{nat_lt}
 use Rattle.pylex_lexeme.specs.declared.lexeme.Class.{Class}
 use Rattle.pylex_lexeme.specs.declared.lexeme.Class.TheVariants.{Name, Number, String, Operator, Comment, Blanks, LineEnd, Join}
-use Rattle.pylex.specs.declared.entries.Entry.{Entry}
-use Rattle.pylex.specs.declared.entries.ListingFault.{ListingFault}
-use Rattle.pylex.specs.declared.entries.Step.{Step}
-use Rattle.pylex.specs.declared.entries.Step.TheVariants as steps
+use Rattle.pylex_listing.specs.declared.entries.Entry.{Entry}
+use Rattle.pylex_listing.specs.declared.entries.ListingFault.{ListingFault}
+use Rattle.pylex_listing.specs.declared.entries.Step.{Step}
+use Rattle.pylex_listing.specs.declared.entries.Step.TheVariants as steps
 use Rattle.pylex_lexeme.specs.Operators.{is_closer}
 use Rattle.pylex_lexeme.specs.Cuts.{begins_significant}
 use Rattle.pylex_lexeme.specs.Lexemes.{Lexeme, lexeme_at, lexeme_len}
-use Rattle.pylex.specs.Lines.{closes, is_significant, depth}
-use Rattle.pylex.specs.Listing.{Source}
-use Rattle.pylex.specs.Machine.{State, after, layout_of, entry_by, gives, remaining, behind_steps}
+use Rattle.pylex_listing.specs.Lines.{closes, is_significant, depth}
+use Rattle.pylex_listing.specs.Listing.{Source}
+use Rattle.pylex_listing.specs.Machine.{State, after, layout_of, entry_by, gives, remaining, behind_steps}
 use Rattle.pylex.specs.LineState.{measured}
 use Rattle.pylex.specs.Listers.{Passes, here, lexeme, layout}
-use Rattle.pylex.proofs.MachineLaws.Law.{state_of, state_push, IsBalanced, balanced_push}
+use Rattle.pylex_listing.proofs.Callers.{state_of, state_push, IsBalanced, balanced_push, significant_is}
 use Rattle.pylex.proofs.Listers.Measured.{remaining_lexeme, after_measured}
-use Rattle.pylex.proofs.Listers.Finding.{measured_significant, significant_is, behind_first}
+use Rattle.pylex.proofs.Listers.Finding.{measured_significant, behind_first}
 use Rattle.pylex.proofs.Resumption.Ahead.{Placed, placed_next}
 use Rattle.pylex.proofs.Resumption.Resuming.{state_at_margin, state_depth}
 use Rattle.pylex.proofs.Resumption.Points.{GoesAs, after_alike, measured_alike, StoodAt, plain, laid}

@@ -12,33 +12,32 @@ use Rattle.std.proofs.lemmas.Bool.{cases_Bool, and_parts}
 use Rattle.pysource.specs.declared.places.Place.{Place}
 use Rattle.pylex_lexeme.specs.declared.lexeme.Class.{Class}
 use Rattle.pylex_lexeme.specs.declared.lexeme.Class.TheVariants.{Name, Number, String, Operator, Comment, Blanks, LineEnd, Join}
-use Rattle.pylex.specs.declared.kind.Kind.TheVariants as kinds
-use Rattle.pylex.specs.declared.entries.Entry.{Entry}
-use Rattle.pylex.specs.declared.entries.ListingFault.{ListingFault}
-use Rattle.pylex.specs.declared.entries.Step.{Step}
-use Rattle.pylex.specs.declared.entries.Step.TheVariants as steps
-use Rattle.pylex.specs.declared.point.Point.{Point}
+use Rattle.pylex_listing.specs.declared.kind.Kind.TheVariants as kinds
+use Rattle.pylex_listing.specs.declared.entries.Entry.{Entry}
+use Rattle.pylex_listing.specs.declared.entries.ListingFault.{ListingFault}
+use Rattle.pylex_listing.specs.declared.entries.Step.{Step}
+use Rattle.pylex_listing.specs.declared.entries.Step.TheVariants as steps
+use Rattle.pylex_listing.specs.declared.point.Point.{Point}
 use Rattle.pylex_lexeme.specs.Operators.{is_closer}
 use Rattle.pylex_lexeme.specs.Cuts.{begins_significant}
 use Rattle.pylex_lexeme.specs.Lexemes.{Lexeme, lexeme_at, cut, left_by_cut}
-use Rattle.pylex.specs.Lines.{text_before, depth, closes, is_of_blanks, is_of_line_end, is_significant, line_so_far, is_at_margin}
-use Rattle.pylex.specs.Lines.{is_logical}
+use Rattle.pylex_listing.specs.Lines.{text_before, depth, closes, is_of_blanks, is_of_line_end, is_significant, line_so_far, is_at_margin}
+use Rattle.pylex_listing.specs.Lines.{is_logical}
 use Rattle.pylex_lexeme.specs.Chars.{bytes_in}
-use Rattle.pylex.specs.Listing.{Source, listing, last_line, up_to_end}
-use Rattle.pylex.specs.Steps.{entries_of}
-use Rattle.pylex.specs.Cursors.{given_last_first, has_no_text, is_encoding, is_indent, with_text, point, ends_in_indent, cursor_at}
-use Rattle.pylex.specs.Machine.{State, past, behind, after, ends_line, is_of_join, dedents_at, mark_at, line_end_kind_of, layout_of}
-use Rattle.pylex.specs.Machine.{entry_by, gives, is_hash, last_line_end, last_place, tail_of, stop_of, run, remaining, first_state}
+use Rattle.pylex_listing.specs.Listing.{Source, listing, last_line, up_to_end}
+use Rattle.pylex_listing.specs.Steps.{entries_of}
+use Rattle.pylex.specs.Cursors.{given_last_first, has_no_text, is_encoding, with_text, point, ends_in_indent, cursor_at}
+use Rattle.pylex_listing.specs.Laws.{is_indent}
+use Rattle.pylex_listing.specs.Machine.{State, past, behind, after, ends_line, is_of_join, dedents_at, mark_at, line_end_kind_of, layout_of}
+use Rattle.pylex_listing.specs.Machine.{entry_by, gives, is_hash, last_line_end, last_place, tail_of, stop_of, run, remaining, first_state}
 use Rattle.pylex.specs.LineState.{measured}
 use Rattle.pylex.specs.Standing.{resumed}
-use Rattle.pylex.proofs.MachineLaws.Law.{state_of, state_push, point_after, IsBalanced, balanced_push, bytes_in-append}
-use Rattle.pylex.proofs.MachineLaws.Run.{listing_is}
+use Rattle.pylex_listing.proofs.Callers.{state_of, state_push, point_after, IsBalanced, balanced_push, bytes_in-append, listing_is}
+use Rattle.pylex_listing.proofs.Callers.{significant_is, all_cut}
 use Rattle.pylex.proofs.Listing.Ends.{stop_is_fault}
 use Rattle.pylex.proofs.Resumption.Resume.{begun_at}
 use Rattle.pylex.proofs.Resumption.Resumed.{resumed_start}
 use Rattle.pylex.proofs.MachineLaws.LexemeClasses.{Says, lexeme_says}
-use Rattle.pylex.proofs.Listers.Finding.{significant_is}
-use Rattle.pylex.proofs.MachineLaws.Significant.{all_cut}
 use Rattle.pylex.proofs.Resumption.Ahead.{Placed, placed_next, placed_first, resumed_in, resumed_indented, starts_line, line_is_on}
 use Rattle.pylex.proofs.Resumption.Ahead.{logical_on, begun_or_filled, line_end_text, measured as indented_at}
 use Rattle.pylex.proofs.Resumption.Resuming.{state_offset, state_at_margin, state_depth, begun_state, encoding_entry, given_first}

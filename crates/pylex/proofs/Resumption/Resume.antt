@@ -1,6 +1,6 @@
 -- Parts of the law that a lister goes on from a cursor as if it had listed all before.
 --
--- Carries: Full, begun_at, cursor_skips, cursor_moves and 13 more, for Agreement, Ahead, Returning,
+-- Carries: begun_at, cursor_skips, cursor_moves and 12 more, for Agreement, Ahead, Returning,
 -- Skips and 7 more. On: Law.
 use Rattle.std.proofs.Common.{◌≡◌, ℕ, ◌+◌, ◌-◌, ◌≤◌, ◌<◌, suc, leb, Bool, true, false, not, ◌==◌, List, [], ◌∷◌, ◌++◌, length, take}
 use Rattle.std.proofs.Common.{drop, reverse, refl, ap, ◌∙◌, sym, arith, Option, Some, None, append_assoc, ⊎_elim}
@@ -8,21 +8,22 @@ use Rattle.std.specs.List.{prefix_len}
 use Rattle.std.proofs.lemmas.List.{append-nil, reverse-append, reverse-reverse, take-append-drop, append_cancel_left}
 use Rattle.std.proofs.lemmas.Str.{length-le-encodes}
 use Rattle.std.proofs.lemmas.Bool.Decides.{nat_tests}
-use Rattle.pylex.specs.declared.entries.ListingFault.{ListingFault}
+use Rattle.pylex_listing.specs.declared.entries.ListingFault.{ListingFault}
 use Rattle.pylex_lexeme.specs.Lexemes.{Lexeme, cut}
-use Rattle.pylex.specs.Lines.{text_before, is_of_blanks}
+use Rattle.pylex_listing.specs.Lines.{text_before, is_of_blanks}
 use Rattle.pylex_lexeme.specs.Chars.{bytes_in}
-use Rattle.pylex.specs.Listing.{last_line, Source}
+use Rattle.pylex_listing.specs.Listing.{last_line, Source}
 use Rattle.std.specs.List.{count_by}
 use Rattle.std.proofs.lemmas.Grind.{common_steps}
 use Rattle.std.proofs.lemmas.Bool.{cases_Bool, and_right}
-use Rattle.pylex.specs.declared.entries.Entry.{Entry}
-use Rattle.pylex.specs.Cursors.{lexemes_to, CursorParts, given_last_first, has_no_text, is_encoding, is_indent, cursor, cursor_at}
+use Rattle.pylex_listing.specs.declared.entries.Entry.{Entry}
+use Rattle.pylex.specs.Cursors.{lexemes_to, CursorParts, given_last_first, has_no_text, is_encoding, cursor, cursor_at}
+use Rattle.pylex_listing.specs.Laws.{is_indent}
 use Rattle.pylex.specs.Cursors.{with_text}
-use Rattle.pylex.specs.Machine.{State, gives, layout_of, entry_by, after, ends_line, stop_of, tail_of, last_line_end, run}
-use Rattle.pylex.specs.declared.point.Point.{Point}
+use Rattle.pylex_listing.specs.Machine.{State, gives, layout_of, entry_by, after, ends_line, stop_of, tail_of, last_line_end, run}
+use Rattle.pylex_listing.specs.declared.point.Point.{Point}
 use Rattle.pylex.specs.Standing.{front_to, back_from, line_begin, Agrees, standing_by}
-use Rattle.pylex.proofs.MachineLaws.Law.{bytes_in-append}
+use Rattle.pylex_listing.proofs.Callers.{bytes_in-append, Full, drop_of}
 
 -- Where a line has begun, its start counts no more.
 abbrev pub begun_at : State → Point → State
@@ -31,11 +32,6 @@ begun_at s p = record s { line = p; margin = false }
 gives_same : (s : State) (p : Point) (x : Lexeme) → s.margin ≡ false → gives s x ≡ gives (begun_at s p) x
 unfolding gives layout_of entry_by
 gives_same s p x m = rw m refl
-
--- Each lexeme has text.
-abbrev pub Full : List Lexeme → Type 0
-Full [] = Unit {0}
-Full (x ∷ xs) = (0 < bytes_in x.text) × Full xs
 
 -- lexemes, in order, after those before them, which stand last first
 abbrev pub onto : List Lexeme → List Lexeme → List Lexeme
@@ -124,10 +120,6 @@ last_split f =
     sym (reverse-append (take (prefix_len goes_on (reverse f)) (reverse f)) (drop (prefix_len goes_on (reverse f)) (reverse f)))
     ∙ ap reverse (take-append-drop (prefix_len goes_on (reverse f)) (reverse f))
     ∙ reverse-reverse f
-
-pub drop_of : (a b : List ℕ) → drop (length a) (a ++ b) ≡ b
-drop_of [] b = refl
-drop_of (c ∷ a) b = drop_of a b
 
 record Parted (n : ℕ) (text : List ℕ) : Type 0 where
   line : last_line (front_to n text) ≡ front_to (n - line_begin n text) (back_from (line_begin n text) text)

@@ -9,15 +9,14 @@ use Rattle.std.proofs.lemmas.List.Sums.{take_while-cons}
 use Rattle.std.proofs.lemmas.Bool.{cases_Bool}
 use Rattle.pysource.specs.Places.{place_after}
 use Rattle.pylex_lexeme.specs.Lexemes.{Lexeme}
-use Rattle.pylex.specs.Lines.{text_before, line_so_far, is_at_margin, is_logical}
-use Rattle.pylex.specs.Indentation.{width_from, width_at}
-use Rattle.pylex.specs.Listing.{last_line, ends_in_join}
+use Rattle.pylex_listing.specs.Lines.{text_before, line_so_far, is_at_margin, is_logical}
+use Rattle.pylex_listing.specs.Indentation.{width_from, width_at}
+use Rattle.pylex_listing.specs.Listing.{last_line, ends_in_join}
 use Rattle.pylex.specs.Cursors.{cursor_at}
-use Rattle.pylex.specs.Machine.{lead_after}
-use Rattle.pylex.specs.declared.leading_char.LeadingChar.TheVariants.{Nothing}
+use Rattle.pylex_listing.specs.Machine.{lead_after}
+use Rattle.pylex_listing.specs.declared.leading_char.LeadingChar.TheVariants.{Nothing}
 use Rattle.pylex.specs.Standing.{resumed}
-use Rattle.pylex.proofs.MachineLaws.Law.{state_of}
-use Rattle.pylex.proofs.MachineLaws.LeadingChar.{last_front, front_in}
+use Rattle.pylex_listing.proofs.Callers.{state_of, last_front, front_in}
 
 abbrev goes_on : ℕ → Bool
 goes_on c = not (c == 10)

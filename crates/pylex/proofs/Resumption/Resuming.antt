@@ -14,26 +14,26 @@ use Rattle.pysource.specs.Places.{place_after}
 use Rattle.pysource.specs.declared.places.Place.{Place}
 use Rattle.pylex_lexeme.specs.declared.lexeme.Class.{Class}
 use Rattle.pylex_lexeme.specs.declared.lexeme.Class.TheVariants.{Name, Number, String, Operator, Comment, Blanks, LineEnd, Join}
-use Rattle.pylex.specs.declared.kind.Kind.{Kind}
-use Rattle.pylex.specs.declared.kind.Kind.TheVariants as kinds
-use Rattle.pylex.specs.declared.entries.Entry.{Entry}
-use Rattle.pylex.specs.declared.entries.ListingFault.{ListingFault}
-use Rattle.pylex.specs.declared.entries.Step.{Step}
-use Rattle.pylex.specs.declared.entries.Step.TheVariants as steps
+use Rattle.pylex_listing.specs.declared.kind.Kind.{Kind}
+use Rattle.pylex_listing.specs.declared.kind.Kind.TheVariants as kinds
+use Rattle.pylex_listing.specs.declared.entries.Entry.{Entry}
+use Rattle.pylex_listing.specs.declared.entries.ListingFault.{ListingFault}
+use Rattle.pylex_listing.specs.declared.entries.Step.{Step}
+use Rattle.pylex_listing.specs.declared.entries.Step.TheVariants as steps
 use Rattle.pylex_lexeme.specs.Operators.{is_closer}
 use Rattle.pylex_lexeme.specs.Lexemes.{Lexeme, cut, left_by_cut}
-use Rattle.pylex.specs.Lines.{text_before, depth, closes, is_of_blanks, is_significant, line_so_far, is_at_margin, is_logical}
+use Rattle.pylex_listing.specs.Lines.{text_before, depth, closes, is_of_blanks, is_significant, line_so_far, is_at_margin, is_logical}
 use Rattle.pylex_lexeme.specs.Chars.{bytes_in}
-use Rattle.pylex.specs.Indentation.{width_from, width_at, widths, open_levels}
-use Rattle.pylex.specs.Listing.{Source, listing, rest, origin, further, last_line, up_to_end, stop_fault}
-use Rattle.pylex.specs.Steps.{entries_of, mark}
-use Rattle.pylex.specs.Cursors.{given_last_first, has_no_text, is_encoding, is_indent, with_text, point, ends_in_indent, lexemes_to}
+use Rattle.pylex_listing.specs.Indentation.{width_from, width_at, widths, open_levels}
+use Rattle.pylex_listing.specs.Listing.{Source, listing, rest, origin, further, last_line, up_to_end, stop_fault}
+use Rattle.pylex_listing.specs.Steps.{entries_of, mark}
+use Rattle.pylex.specs.Cursors.{given_last_first, has_no_text, is_encoding, with_text, point, ends_in_indent, lexemes_to}
+use Rattle.pylex_listing.specs.Laws.{is_indent}
 use Rattle.pylex.specs.Cursors.{cursor_at, cursor}
-use Rattle.pylex.specs.Machine.{State, past, behind, after, is_of_join, dedents_at, mark_at, line_end_kind_of, layout_of, entry_by, gives}
-use Rattle.pylex.specs.Machine.{is_hash, last_line_end, last_place, tail_of, stop_of, run, remaining, first_state}
+use Rattle.pylex_listing.specs.Machine.{State, past, behind, after, is_of_join, dedents_at, mark_at, line_end_kind_of, layout_of, entry_by}
+use Rattle.pylex_listing.specs.Machine.{gives, is_hash, last_line_end, last_place, tail_of, stop_of, run, remaining, first_state}
 use Rattle.pylex.specs.Standing.{standing_by, standing, resumed, to_give, Resumes, StandsInAgreeing}
-use Rattle.pylex.proofs.MachineLaws.Law.{state_of, state_push, IsBalanced, balanced_push, bytes_in-append}
-use Rattle.pylex.proofs.MachineLaws.Run.{listing_is}
+use Rattle.pylex_listing.proofs.Callers.{state_of, state_push, IsBalanced, balanced_push, bytes_in-append, listing_is}
 use Rattle.pylex.proofs.Resumption.Resume.{agreeing}
 use Rattle.pylex.proofs.Listing.Ends.{stop_is_fault}
 use Rattle.pylex.proofs.Resumption.Resumed.{resumed_start}

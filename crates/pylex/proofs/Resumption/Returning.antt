@@ -10,18 +10,18 @@ use Rattle.std.proofs.lemmas.Str.{chars-append, length-le-encodes, IsUtf8-take, 
 use Rattle.pysource.specs.Limits.{source_limit}
 use Rattle.pysource.specs.Parts.{Parts}
 use Rattle.pylex.specs.declared.cursor.Shown.{Shown}
-use Rattle.pylex.specs.declared.entries.Entry.{Entry}
-use Rattle.pylex.specs.declared.leading_char.LeadingChar.TheVariants.{Nothing}
+use Rattle.pylex_listing.specs.declared.entries.Entry.{Entry}
+use Rattle.pylex_listing.specs.declared.leading_char.LeadingChar.TheVariants.{Nothing}
 use Rattle.pylex.specs.declared.line_state.LineState.{LineState}
 use Rattle.std.specs.Prelude.{slice_get}
 use Rattle.std.proofs.lemmas.Bool.{cases_Bool}
-use Rattle.pylex.specs.declared.entries.Step.{Step}
-use Rattle.pylex.specs.declared.entries.Step.TheVariants as steps
+use Rattle.pylex_listing.specs.declared.entries.Step.{Step}
+use Rattle.pylex_listing.specs.declared.entries.Step.TheVariants as steps
 use Rattle.pylex_lexeme.specs.Chars.{bytes_in}
-use Rattle.pylex.specs.Listing.{Source, in_characters, last_line, listing, rest}
-use Rattle.pylex.specs.Steps.{entries_of, first_step, entries_in}
+use Rattle.pylex_listing.specs.Listing.{Source, in_characters, last_line, listing, rest}
+use Rattle.pylex_listing.specs.Steps.{entries_of, first_step, entries_in}
 use Rattle.pylex.specs.Cursors.{CursorParts, has_no_text, cursor_at, cursor}
-use Rattle.pylex.specs.Machine.{State, lead_after}
+use Rattle.pylex_listing.specs.Machine.{State, lead_after}
 use Rattle.pylex.specs.LineState.{with_levels, IsAscending, Walks, stays}
 use Rattle.pylex.specs.Standing.{resumed, standing_by, Agrees, IsCursorOf}
 use Rattle.pylex.specs.Listers.{Listed, StandsIn, LeadsInto, Keeps, IsIn, shown_by}

@@ -11,27 +11,27 @@ use Rattle.std.proofs.lemmas.Bool.{cases_Bool, and_parts}
 use Rattle.pysource.specs.declared.places.Place.{Place}
 use Rattle.pylex_lexeme.specs.declared.lexeme.Class.{Class}
 use Rattle.pylex_lexeme.specs.declared.lexeme.Class.TheVariants.{Name, Number, String, Operator, Comment, Blanks, LineEnd, Join}
-use Rattle.pylex.specs.declared.kind.Kind.TheVariants as kinds
-use Rattle.pylex.specs.declared.entries.Entry.{Entry}
-use Rattle.pylex.specs.declared.entries.ListingFault.{ListingFault}
-use Rattle.pylex.specs.declared.entries.Step.{Step}
-use Rattle.pylex.specs.declared.entries.Step.TheVariants as steps
+use Rattle.pylex_listing.specs.declared.kind.Kind.TheVariants as kinds
+use Rattle.pylex_listing.specs.declared.entries.Entry.{Entry}
+use Rattle.pylex_listing.specs.declared.entries.ListingFault.{ListingFault}
+use Rattle.pylex_listing.specs.declared.entries.Step.{Step}
+use Rattle.pylex_listing.specs.declared.entries.Step.TheVariants as steps
 use Rattle.pylex_lexeme.specs.Operators.{is_closer}
 use Rattle.pylex_lexeme.specs.Lexemes.{Lexeme, cut, left_by_cut}
-use Rattle.pylex.specs.Lines.{is_significant, is_of_blanks, is_of_line_end}
-use Rattle.pylex.specs.Indentation.{width_from}
+use Rattle.pylex_listing.specs.Lines.{is_significant, is_of_blanks, is_of_line_end}
+use Rattle.pylex_listing.specs.Indentation.{width_from}
 use Rattle.pylex_lexeme.specs.Chars.{bytes_in}
-use Rattle.pylex.specs.Listing.{Source, listing, rest, stop_fault, up_to_end}
-use Rattle.pylex.specs.Steps.{entries_of, first_step}
+use Rattle.pylex_listing.specs.Listing.{Source, listing, rest, stop_fault, up_to_end}
+use Rattle.pylex_listing.specs.Steps.{entries_of, first_step}
 use Rattle.pylex.specs.Cursors.{CursorParts, cursor_at, cursor, has_no_text}
-use Rattle.pylex.specs.Machine.{State, past, pushed, after, ends_line, still, dedents_at, mark_at, last_place, layout_of, entry_by, gives}
-use Rattle.pylex.specs.Machine.{is_hash, last_line_end, tail_of, stop_of, run, remaining}
+use Rattle.pylex_listing.specs.Machine.{State, past, pushed, after, ends_line, still, dedents_at, mark_at, last_place, layout_of, entry_by}
+use Rattle.pylex_listing.specs.Machine.{gives, is_hash, last_line_end, tail_of, stop_of, run, remaining}
 use Rattle.pylex.specs.LineState.{IsAscending, is_above, is_level}
 use Rattle.pylex.specs.Standing.{standing, resumed}
 use Rattle.pylex.specs.Listers.{Listed, StandsIn}
 use Rattle.pylex.proofs.Listing.Ends.{is_whole, stop_is_fault}
-use Rattle.pylex.proofs.Resumption.Resume.{Full, margin_goes, cursor_skips, cursor_moves}
-use Rattle.pylex.proofs.MachineLaws.Full.{cut_full}
+use Rattle.pylex_listing.proofs.Callers.{Full, cut_full}
+use Rattle.pylex.proofs.Resumption.Resume.{margin_goes, cursor_skips, cursor_moves}
 use Rattle.pylex.proofs.Levels.Layouts.{layout_indent, layout_dedents, layout_mismatch}
 use Rattle.pylex.proofs.Listers.Finding.{settled_layout, no_layout}
 use Rattle.pylex.proofs.Resumption.Ahead.{significant_margin}

@@ -14,18 +14,19 @@ use Rattle.pylex_lexeme.specs.declared.lexeme.Class.TheVariants.{Name, Number, S
 use Rattle.pylex_lexeme.specs.Chars.{bytes_in}
 use Rattle.pylex_lexeme.specs.Cuts.{begins_significant}
 use Rattle.pylex_lexeme.specs.Lexemes.{is_significant_class, is_line_end_class, is_closer_class}
-use Rattle.pylex.specs.declared.entries.Entry.{Entry}
-use Rattle.pylex.specs.declared.entries.Step.TheVariants as steps
+use Rattle.pylex_listing.specs.declared.entries.Entry.{Entry}
+use Rattle.pylex_listing.specs.declared.entries.Step.TheVariants as steps
 use Rattle.pylex.specs.declared.line_state.LineState.{LineState}
 use Rattle.pylex.specs.declared.machine.Machine.{Machine}
-use Rattle.pylex.specs.declared.point.Point.{Point}
+use Rattle.pylex_listing.specs.declared.point.Point.{Point}
 use Rattle.pylex.specs.declared.spots.Spot.{Spot}
 use Rattle.pylex.specs.Cursors.{CursorParts}
-use Rattle.pylex.specs.Lines.{count_if}
+use Rattle.pylex_listing.specs.Lines.{count_if}
 use Rattle.pylex.specs.LineState.{HasRoom, EntryAhead}
 use Rattle.pylex.specs.Listers.{Listed, NextStep, shown_by}
 use Rattle.pylex.specs.LineStarts.{begins_line, BeginsLine}
-use Rattle.pylex.specs.Spots.{spot_cursor, is_silent, kind_of}
+use Rattle.pylex.specs.Spots.{spot_cursor, is_silent}
+use Rattle.pylex_listing.specs.EntryKinds.{kind_of}
 use Rattle.pylex.specs.Inner.MachineSteps.{shown_from, Holds}
 use Rattle.pylex.specs.Inner.LineStarting.{LineStart}
 use Rattle.pylex.specs.Inner.Told.{Passed}

@@ -17,26 +17,27 @@ use Rattle.pylex_lexeme.specs.Chars.{bytes_in}
 use Rattle.pylex_lexeme.specs.Cuts.{begins_significant}
 use Rattle.pylex_lexeme.specs.Lexemes.{is_significant_class, is_line_end_class, is_opener_class, is_closer_class}
 use Rattle.pylex_lexeme.proofs.Callers.Fronts.{length-text}
-use Rattle.pylex.specs.declared.kind.Kind.{Kind}
-use Rattle.pylex.specs.declared.kind.Kind.TheVariants as kinds
-use Rattle.pylex.specs.declared.entries.Entry.{Entry}
-use Rattle.pylex.specs.declared.entries.Step.TheVariants as steps
-use Rattle.pylex.specs.declared.point.Point.{Point}
+use Rattle.pylex_listing.specs.declared.kind.Kind.{Kind}
+use Rattle.pylex_listing.specs.declared.kind.Kind.TheVariants as kinds
+use Rattle.pylex_listing.specs.declared.entries.Entry.{Entry}
+use Rattle.pylex_listing.specs.declared.entries.Step.TheVariants as steps
+use Rattle.pylex_listing.specs.declared.point.Point.{Point}
 use Rattle.pylex.specs.declared.cursor.Shown.{Shown}
 use Rattle.pylex.specs.declared.line_state.LineState.{LineState}
 use Rattle.pylex.specs.declared.spots.Spot.{Spot}
 use Rattle.pylex.specs.Cursors.{CursorParts}
-use Rattle.pylex.specs.Lines.{count_if}
-use Rattle.pylex.specs.Listing.{in_characters, last_line, further}
-use Rattle.pylex.specs.Steps.{most_entries}
-use Rattle.pylex.specs.Machine.{place_past, entry_by, line_end_kind_of}
+use Rattle.pylex_listing.specs.Lines.{count_if}
+use Rattle.pylex_listing.specs.Listing.{in_characters, last_line, further}
+use Rattle.pylex_listing.specs.Steps.{most_entries}
+use Rattle.pylex_listing.specs.Machine.{place_past, entry_by, line_end_kind_of}
 use Rattle.pylex.specs.LineState.{with_levels, HasRoom, EntryAhead}
 use Rattle.pylex.specs.Standing.{resumed}
 use Rattle.pylex.specs.Listers.{Listed, StandsIn, LeadsInto, NextStep, Keeps, shown_by}
 use Rattle.pylex.specs.Inner.Told.{Passed}
-use Rattle.pylex.specs.Spots.{spot_cursor, at_spot, is_silent, Steps, SpotHasRoom, kind_of, operator_of}
+use Rattle.pylex.specs.Spots.{spot_cursor, at_spot, is_silent, Steps, SpotHasRoom}
+use Rattle.pylex_listing.specs.EntryKinds.{kind_of, operator_of}
 use Rattle.pylex.proofs.Callers.{same_cursor}
-use Rattle.pylex.proofs.MachineLaws.Law.{bytes_in-append}
+use Rattle.pylex_listing.proofs.Callers.{bytes_in-append}
 use Rattle.pylex.proofs.MachineLaws.Told.{passed_room}
 use Rattle.pylex.proofs.Listing.Exactness.{own_text}
 use Rattle.pylex.proofs.Listers.Finding.{settles_same, entry_found, some_bytes, stands_after, behind_cut}

@@ -8,10 +8,10 @@ use Rattle.pylex_lexeme.specs.declared.lexeme.Class.{Class}
 use Rattle.pylex_lexeme.specs.declared.lexeme.Class.TheVariants.{Blanks, Join}
 use Rattle.pylex_lexeme.specs.Cuts.{Cuts}
 use Rattle.pylex_lexeme.specs.Lexemes.{is_significant_class, is_line_end_class, is_opener_class, is_closer_class}
-use Rattle.pylex.specs.declared.point.Point.{Point}
+use Rattle.pylex_listing.specs.declared.point.Point.{Point}
 use Rattle.pylex.specs.declared.line_state.LineState.{LineState}
-use Rattle.pylex.specs.Lines.{count_if}
-use Rattle.pylex.specs.Machine.{State, past, after, entry_by}
+use Rattle.pylex_listing.specs.Lines.{count_if}
+use Rattle.pylex_listing.specs.Machine.{State, past, after, entry_by}
 use Rattle.pylex.specs.LineState.{with_levels, Stands, Comes, Behind}
 use Rattle.pylex.specs.Inner.Told.{Passed}
 use Rattle.pylex.specs.Spots.{Silent, here, blanks, join, rows_in}

@@ -15,9 +15,9 @@ use Rattle.pylex_lexeme.specs.declared.lexeme.Class.{Class}
 use Rattle.pylex_lexeme.specs.declared.lexeme.Class.TheVariants.{Name, Number, String, Operator, Comment, Blanks, LineEnd, Join}
 use Rattle.pylex_lexeme.specs.Cuts.{Cuts}
 use Rattle.pylex_lexeme.proofs.Callers.WholeLines.{not_feed, is_flat, flat_in}
-use Rattle.pylex.specs.Machine.{place_past}
+use Rattle.pylex_listing.specs.Machine.{place_past}
 use Rattle.pylex.specs.Spots.{rows_in}
-use Rattle.pylex.proofs.MachineLaws.Lexed.{lexeme_class}
+use Rattle.pylex_listing.proofs.Callers.{lexeme_class}
 use Rattle.pylex.proofs.MachineLaws.Told.{tells}
 use Rattle.pylex.proofs.MachineLaws.Walking.{advance_feed, advance_other}
 

@@ -19,7 +19,7 @@ use Rattle.std.proofs.lemmas.Str.Pattern.{IsSplitOnceResult, split_after, split_
 use Rattle.std.proofs.lemmas.List.Elements.{All-from_recursion, All-cons, All-head, All-tail, All-nil, All-weaker}
 use Rattle.pylex.specs.Cursors.{CursorParts, cursor_text, with_commas, part}
 use Rattle.pylex.specs.CursorTexts.{IsWellFormed}
-use Rattle.pylex.specs.Lines.{count_if}
+use Rattle.pylex_listing.specs.Lines.{count_if}
 
 glyph_high : (d : ℕ) → d < 10 → 48 ≤ digit_glyph false d
 glyph_high d h = grind (arith, nat_tests)

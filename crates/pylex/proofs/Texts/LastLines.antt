@@ -15,7 +15,7 @@ use Rattle.std.proofs.lemmas.List.Folds.{list_all-append}
 use Rattle.std.proofs.lemmas.List.Sums.{take_while-cons}
 use Rattle.std.proofs.lemmas.Bool.Decides.{nat_tests}
 use Rattle.std.proofs.lemmas.Bool.{cases_Bool, and_parts}
-use Rattle.pylex.specs.Listing.{last_line}
+use Rattle.pylex_listing.specs.Listing.{last_line}
 use Rattle.pylex.proofs.Resumption.Resume.{goes_on}
 
 all_reverse : (t : List ℕ) → list_all goes_on t ≡ true → list_all goes_on (reverse t) ≡ true

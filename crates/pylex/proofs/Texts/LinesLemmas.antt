@@ -17,13 +17,13 @@ use Rattle.std.proofs.lemmas.Bool.Decides.{nat_tests}
 use Rattle.pysource.specs.declared.places.Place.{Place}
 use Rattle.pysource.specs.Reprs.{is_plain, repr_text}
 use Rattle.pysource.proofs.Callers.Printing.{plain_repr, plain_repr_characters}
-use Rattle.pylex.specs.declared.entries.Entry.{Entry}
+use Rattle.pylex_listing.specs.declared.entries.Entry.{Entry}
 use Rattle.pylex_lexeme.specs.declared.kinds.Exact.{Exact}
 use Rattle.pylex_lexeme.specs.declared.kinds.Exact.TheVariants.{LPar}
-use Rattle.pylex.specs.declared.kind.Kind.{Kind}
-use Rattle.pylex.specs.declared.kind.Kind.TheVariants.{Op}
+use Rattle.pylex_listing.specs.declared.kind.Kind.{Kind}
+use Rattle.pylex_listing.specs.declared.kind.Kind.TheVariants.{Op}
 use Rattle.pylex_lexeme.specs.Operators.{exact_name}
-use Rattle.pylex.specs.ListingLines.{filled, kind_name, shown_place, shown_range}
+use Rattle.pylex_listing.specs.ListingLines.{filled, kind_name, shown_place, shown_range}
 
 one_ascii : (b : ℕ) → b < 128 → IsAscii (b ∷ [])
 one_ascii b h = IsAscii-cons b [] h IsAscii-nil

@@ -10,11 +10,11 @@ use Rattle.std.proofs.lemmas.Bool.{cases_lt}
 use Rattle.pylex_lexeme.specs.Characters.{hash}
 use Rattle.pylex_lexeme.specs.Chars.{is_blank_char}
 use Rattle.pysource.specs.declared.places.Place.{Place}
-use Rattle.pylex.specs.declared.leading_char.LeadingChar.{LeadingChar}
-use Rattle.pylex.specs.declared.leading_char.LeadingChar.TheVariants.{Nothing, Hash, Other}
-use Rattle.pylex.specs.Machine.{place_past, lead_after}
+use Rattle.pylex_listing.specs.declared.leading_char.LeadingChar.{LeadingChar}
+use Rattle.pylex_listing.specs.declared.leading_char.LeadingChar.TheVariants.{Nothing, Hash, Other}
+use Rattle.pylex_listing.specs.Machine.{place_past, lead_after}
 use Rattle.std.specs.Prelude.{slice_index}
-use Rattle.pylex.specs.Indentation.{width_from}
+use Rattle.pylex_listing.specs.Indentation.{width_from}
 use Rattle.pylex.specs.Inner.Plain.{AreSpaces, IsPlain}
 
 -- no character is an LF

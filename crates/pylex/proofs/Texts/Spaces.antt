@@ -17,9 +17,9 @@ use Rattle.pylex_lexeme.specs.Lexemes.{Lexeme, lexeme_at}
 use Rattle.pylex_lexeme.proofs.Callers.Fronts.{length-text}
 use Rattle.pylex_lexeme.proofs.Callers.Lexemes.{blanks_take}
 use Rattle.pylex.specs.Inner.Plain.{AreSpaces, SpacesAhead}
-use Rattle.pylex.proofs.MachineLaws.Lexed.{longest_wins}
+use Rattle.pylex_listing.proofs.Callers.{longest_wins, significant_is}
 use Rattle.pylex.proofs.MachineLaws.Walking.{past}
-use Rattle.pylex.proofs.Listers.Finding.{behind_first, significant_is}
+use Rattle.pylex.proofs.Listers.Finding.{behind_first}
 use Rattle.pylex.proofs.Texts.Plain.{plain_ascii, plain_chars, spaces_plain}
 
 pub are_spaces : (n : ℕ) → AreSpaces (replicate n 32)

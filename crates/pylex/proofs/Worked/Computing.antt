@@ -4,11 +4,11 @@
 use lib.Utf8.{encode}
 use Rattle.std.specs.Fmt.{digits}
 use Rattle.pysource.specs.Places.{place_after}
-use Rattle.pylex.specs.Lines.{depth, line_so_far, is_at_margin, is_logical}
-use Rattle.pylex.specs.Indentation.{width_from, width_at, widths, open_levels, layout_by, layout}
-use Rattle.pylex.specs.Listing.{entry_of, steps_of, stop_fault, last_line, line_end_of_last, end_place, tail, stop, listing}
+use Rattle.pylex_listing.specs.Lines.{depth, line_so_far, is_at_margin, is_logical}
+use Rattle.pylex_listing.specs.Indentation.{width_from, width_at, widths, open_levels, layout_by, layout}
+use Rattle.pylex_listing.specs.Listing.{entry_of, steps_of, stop_fault, last_line, line_end_of_last, end_place, tail, stop, listing}
 use Rattle.pylex.specs.Cursors.{given_last_first, with_text, cursor_at, cursor, cursor_text}
-use Rattle.pylex.specs.Machine.{layout_of, entry_by, gives, last_line_end, tail_of, stop_of, after, remaining}
+use Rattle.pylex_listing.specs.Machine.{layout_of, entry_by, gives, last_line_end, tail_of, stop_of, after, remaining}
 use Rattle.pylex.specs.Standing.{front_to, standing_by, resumed, to_give}
 use Rattle.pylex_lexeme.proofs.Callers.Lexemes.{lexemes}
 

@@ -3,17 +3,17 @@
 -- Carries: no contract; its rows are computed as it is checked. On: Computing.
 use Rattle.std.proofs.Common.{◌≡◌, ℕ, List, [], ◌∷◌, refl, Some, None, Option, true, false}
 use Rattle.std.specs.Prelude.{codes}
-use Rattle.pylex.specs.declared.kind.Kind.{Kind}
-use Rattle.pylex.specs.declared.kind.Kind.TheVariants as kinds
+use Rattle.pylex_listing.specs.declared.kind.Kind.{Kind}
+use Rattle.pylex_listing.specs.declared.kind.Kind.TheVariants as kinds
 use Rattle.pysource.specs.declared.places.Place.{Place}
-use Rattle.pylex.specs.declared.entries.ListingFault.{ListingFault}
-use Rattle.pylex.specs.declared.entries.Step.{Step}
-use Rattle.pylex.specs.declared.entries.Step.TheVariants as steps
-use Rattle.pylex.specs.declared.entries.ListingError.TheVariants as errors
+use Rattle.pylex_listing.specs.declared.entries.ListingFault.{ListingFault}
+use Rattle.pylex_listing.specs.declared.entries.Step.{Step}
+use Rattle.pylex_listing.specs.declared.entries.Step.TheVariants as steps
+use Rattle.pylex_listing.specs.declared.entries.ListingError.TheVariants as errors
 use Rattle.pysource.specs.declared.faults.LineError.TheVariants as lines
 use Rattle.pylex_lexeme.specs.declared.kinds.Exact.{Exact}
 use Rattle.pylex_lexeme.specs.declared.kinds.Exact.TheVariants as exacts
-use Rattle.pylex.specs.Listing.{Source, listing, rest}
+use Rattle.pylex_listing.specs.Listing.{Source, listing, rest}
 use Rattle.pylex.specs.Cursors.{cursor, cursor_text}
 use Rattle.pylex.proofs.Worked.Computing.{listings, cursors, standings}
 use Rattle.pylex.specs.Standing.{to_give, standing, standing_by}

@@ -1,7 +1,7 @@
 -- The layout of a line whose first significant token stands where a lister has looked to.
 use Rattle.std.specs.Prelude.{◌≡◌, ℕ, List, take, None}
 use Rattle.std.specs.Str.{chars}
-use Rattle.pylex.specs.declared.entries.Step.{Step}
+use Rattle.pylex_listing.specs.declared.entries.Step.{Step}
 use Rattle.pylex.specs.declared.machine.Machine.{Machine}
 use Rattle.pylex.specs.declared.peeked.Peeked.{Peeked}
 use Rattle.pylex.specs.declared.peeked.Peeked.TheVariants as peeked

@@ -7,7 +7,7 @@ use Rattle.pylex_lexeme.specs.Lexemes.{is_opener_class}
 use Rattle.pylex.specs.declared.line_state.LineState.{LineState}
 use Rattle.pylex.specs.declared.machine.Machine.{Machine}
 use Rattle.pylex.specs.declared.spots.Spot.{Spot}
-use Rattle.pylex.specs.Lines.{count_if}
+use Rattle.pylex_listing.specs.Lines.{count_if}
 use Rattle.pylex.specs.LineStarts.{begins_line}
 use Rattle.pylex.specs.Spots.{rows_in}
 

@@ -18,9 +18,9 @@ use Rattle.pylex.specs.declared.line_lister.Found.{Found}
 use Rattle.pylex_lexeme.specs.Lexemes.{is_open_string}
 use Rattle.pylex.specs.LineState.{Peek, HasRoom, Stands, StopAhead}
 use Rattle.pysource.specs.declared.line_reader.StreamFault.TheVariants as faults
-use Rattle.pylex.specs.declared.entries.Entry.{Entry}
-use Rattle.pylex.specs.declared.entries.Step.{Step}
-use Rattle.pylex.specs.declared.entries.Step.TheVariants as steps
+use Rattle.pylex_listing.specs.declared.entries.Entry.{Entry}
+use Rattle.pylex_listing.specs.declared.entries.Step.{Step}
+use Rattle.pylex_listing.specs.declared.entries.Step.TheVariants as steps
 use Rattle.pylex.specs.declared.held_lines.HeldLines.{HeldLines}
 use Rattle.pylex.specs.declared.machine.Machine.{Machine}
 use Rattle.pylex.specs.Inner.MachineSteps.{shown_from}

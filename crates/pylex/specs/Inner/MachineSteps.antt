@@ -3,10 +3,10 @@ use Rattle.std.specs.Prelude.{◌≡◌, ◌⊎◌, ℕ, ◌+◌, ◌-◌, ◌<�
 use Rattle.std.specs.Str.{chars}
 use Rattle.pysource.specs.Parts.{Parts}
 use Rattle.pysource.specs.declared.faults.LineFault.{LineFault}
-use Rattle.pylex.specs.declared.entries.Entry.{Entry}
-use Rattle.pylex.specs.declared.entries.ListingFault.{ListingFault}
-use Rattle.pylex.specs.declared.entries.Step.{Step}
-use Rattle.pylex.specs.declared.entries.Step.TheVariants as steps
+use Rattle.pylex_listing.specs.declared.entries.Entry.{Entry}
+use Rattle.pylex_listing.specs.declared.entries.ListingFault.{ListingFault}
+use Rattle.pylex_listing.specs.declared.entries.Step.{Step}
+use Rattle.pylex_listing.specs.declared.entries.Step.TheVariants as steps
 use Rattle.pylex.specs.declared.peeked.Peeked.{Peeked}
 use Rattle.pylex.specs.declared.peeked.Peeked.TheVariants as peeked
 use Rattle.pylex.specs.declared.machine.Machine.{Machine}
@@ -14,11 +14,11 @@ use Rattle.pylex.specs.declared.line_state.LineState.{LineState}
 use Rattle.pylex_lexeme.specs.Chunks.{EndsLine}
 use Rattle.pylex.specs.Cursors.{CursorParts}
 use Rattle.pylex_lexeme.specs.Chars.{bytes_in}
-use Rattle.pylex.specs.Listing.{of_line}
+use Rattle.pylex_listing.specs.Listing.{of_line}
 use Rattle.pylex.specs.Listers.{Keeps, NextStep, shown_by}
-use Rattle.pylex.specs.Machine.{remaining}
+use Rattle.pylex_listing.specs.Machine.{remaining}
 use Rattle.pylex.specs.LineState.{with_levels, Stands, IsAscending, Comes, Peek, NextEntry, IsMeasuring}
-use Rattle.pylex.specs.Steps.{IsNoEntry, most_entries}
+use Rattle.pylex_listing.specs.Steps.{IsNoEntry, most_entries}
 
 -- the cursor of a machine
 abbrev pub shown_from : Machine → CursorParts

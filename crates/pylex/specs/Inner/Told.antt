@@ -4,14 +4,14 @@ use Rattle.std.specs.Str.{chars}
 use Rattle.pysource.specs.declared.places.Place.{Place}
 use Rattle.pylex_lexeme.specs.declared.lexeme.Class.{Class}
 use Rattle.pylex_lexeme.specs.declared.lexeme.Class.TheVariants.{Name, Number, String, Operator, Comment, Blanks, LineEnd, Join}
-use Rattle.pylex.specs.declared.leading_char.LeadingChar.{LeadingChar}
-use Rattle.pylex.specs.declared.leading_char.LeadingChar.TheVariants.{Nothing, Hash, Other}
+use Rattle.pylex_listing.specs.declared.leading_char.LeadingChar.{LeadingChar}
+use Rattle.pylex_listing.specs.declared.leading_char.LeadingChar.TheVariants.{Nothing}
 use Rattle.pylex.specs.declared.entries.Emitted.TheVariants as gives
-use Rattle.pylex.specs.declared.entries.Entry.{Entry}
-use Rattle.pylex.specs.declared.kind.Kind.{Kind}
-use Rattle.pylex.specs.declared.kind.Kind.TheVariants as kinds
+use Rattle.pylex_listing.specs.declared.entries.Entry.{Entry}
+use Rattle.pylex_listing.specs.declared.kind.Kind.{Kind}
+use Rattle.pylex_listing.specs.declared.kind.Kind.TheVariants as kinds
 use Rattle.pylex.specs.declared.line_state.LineState.{LineState}
-use Rattle.pylex.specs.Machine.{place_past, lead_after, after, entry_by}
+use Rattle.pylex_listing.specs.Machine.{place_past, lead_after, begun_by, after, entry_by}
 use Rattle.pylex.specs.LineState.{with_levels, given}
 
 -- each byte is a character of one line
@@ -21,10 +21,6 @@ GoesOn bs = (p : Place) → place_past p (chars bs) ≡ record { row = p.row; co
 -- a line ends with it
 abbrev pub EndsRow : List ℕ → Type 0
 EndsRow bs = (p : Place) → place_past p (chars bs) ≡ record { row = p.row + 1; column = 0 }
-
--- what a line begins with after a character that is neither a blank nor `#`
-abbrev pub begun_by : LeadingChar → LeadingChar
-begun_by f = elim f [ Nothing ↦ Other | Hash ↦ Hash | Other ↦ Other ]
 
 -- what is known without a look at the text
 abbrev pub Tells : Class → List ℕ → Type 0

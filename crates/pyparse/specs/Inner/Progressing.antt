@@ -1,6 +1,6 @@
 -- What is known of a source behind some of its lines, and where a further line stands.
 use Rattle.std.specs.Prelude.{ℕ, List, []}
-use Rattle.pylex.specs.Listing.{Source}
+use Rattle.pylex_listing.specs.Listing.{Source}
 use Rattle.pytree_node.specs.declared.profiles.Profile.{Profile}
 use Rattle.pytoken.specs.Inner.Behind.{behind}
 use Rattle.pygrammar.specs.Lines.{Line}

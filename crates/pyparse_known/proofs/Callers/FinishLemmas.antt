@@ -6,7 +6,7 @@ use Rattle.std.specs.Prelude.{nat_lt, Result, Err, IfErr}
 use Rattle.std.proofs.lemmas.Bool.{ltb-true, ltb-false}
 use Rattle.pysource.specs.declared.places.Place.{Place}
 use Rattle.pysource.specs.Parts.{Parts}
-use Rattle.pylex.specs.Listing.{Source, in_characters}
+use Rattle.pylex_listing.specs.Listing.{Source, in_characters}
 use Rattle.pytree_node.specs.declared.profiles.Extent.{Extent}
 use Rattle.pytree_node.specs.declared.profiles.Profile.{Profile}
 use Rattle.pytree_node.specs.Trees.{Stmt, Module}

@@ -3,7 +3,7 @@ use Rattle.std.proofs.Common.{◌≡◌, inl, inr, ℕ, zero, suc, ◌+◌, ◌�
 use Rattle.std.proofs.Common.{◌∙◌, subst, append_assoc, length-append, arith, Some}
 use Rattle.std.specs.Prelude.{slice_get}
 use Rattle.pysource.specs.declared.places.Place.{Place}
-use Rattle.pylex.specs.Listing.{Source}
+use Rattle.pylex_listing.specs.Listing.{Source}
 use Rattle.pytree_node.specs.declared.profiles.Profile.{Profile}
 use Rattle.pytoken.specs.Inner.Behind.{behind}
 use Rattle.pytoken.specs.Terminals.{Terminal}

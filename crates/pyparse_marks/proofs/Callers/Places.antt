@@ -4,10 +4,10 @@
 use Rattle.std.proofs.Common.{◌≡◌, ℕ, true, List, sym, ap, ◌∙◌}
 use Rattle.std.specs.Prelude.{All}
 use Rattle.pysource.specs.declared.places.Place.{Place}
-use Rattle.pylex.specs.declared.entries.Entry.{Entry}
-use Rattle.pylex.specs.Listing.{Source, listing}
-use Rattle.pylex.specs.Machine.{place_past}
-use Rattle.pylex.specs.Steps.{entries_of}
+use Rattle.pylex_listing.specs.declared.entries.Entry.{Entry}
+use Rattle.pylex_listing.specs.Listing.{Source, listing}
+use Rattle.pylex_listing.specs.Machine.{place_past}
+use Rattle.pylex_listing.specs.Steps.{entries_of}
 use Rattle.pyfstring_tokens.specs.FieldTokens.{is_token_kind}
 use Rattle.pyparse_marks.specs.LineSpans.{offset}
 use Rattle.pyparse_marks.proofs.PlaceLemmas.{spot_at, offset_is}

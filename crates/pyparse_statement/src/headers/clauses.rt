@@ -15,7 +15,7 @@ ghost use Rattle.pyparse_statement.specs.PlacedHeaders.{ExceptPlaced, WordHeader
 use crate::headers::found::ReadHeader;
 use crate::statements::{read_as, starts_expression};
 use pygrammar::{Header, Level};
-use pylex::Exact;
+use pylex_listing::Exact;
 use pyparse_expr::{Depth, read_at};
 use pyparse_looks::{Stop, is_op};
 use pyplaces::Recorder;

@@ -24,7 +24,7 @@ ghost use Rattle.pyparse_statement.specs.PlacedHeaders.{ClassPlaced, FunctionPla
 use crate::headers::found::ReadHeader;
 use crate::statements::{ReadTypeParams, after_sign, read_type_params};
 use pygrammar::{DefHead, Header, Level};
-use pylex::Exact;
+use pylex_listing::Exact;
 use pyparse_expr::{Depth, ReadArguments, ReadParameters, arguments_at, parameters_at};
 use pyparse_looks::{Stop, is_op, name_at};
 use pyparse_nodes::{Optional, identifier_of};

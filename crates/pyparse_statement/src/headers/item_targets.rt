@@ -10,7 +10,7 @@ ghost use Rattle.std.specs.Prelude.{IfOk};
 ghost use Rattle.pyparse_statement.specs.PlacedParts.{TargetPlaced};
 
 use pygrammar::Level;
-use pylex::Exact;
+use pylex_listing::Exact;
 use pyparse_expr::{Depth, read_at};
 use pyparse_looks::{Stop, is_op};
 use pyparse_nodes::{Read, starred, stored};

@@ -18,7 +18,7 @@ use crate::headers::found::{ReadItem, ReadItems};
 use crate::headers::item_targets::item_target;
 use crate::statements::starts_expression;
 use pygrammar::Level;
-use pylex::Exact;
+use pylex_listing::Exact;
 use pyparse_expr::{Depth, read_at};
 use pyparse_looks::{Stop, is_op, is_word};
 use pyparse_nodes::{Read, append};

@@ -15,7 +15,7 @@ ghost use Rattle.pyparse_statement.specs.PlacedParts.{AliasesPlaced, DottedPlace
 
 use crate::statements::found::{ReadAlias, ReadAliases, ReadName};
 use crate::statements::names::{read_as, read_name};
-use pylex::Exact;
+use pylex_listing::Exact;
 use pyparse_looks::{Stop, is_op, name_at};
 use pyplaces::Recorder;
 use pytoken::{Terminal, name_value};

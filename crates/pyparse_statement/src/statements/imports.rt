@@ -20,7 +20,7 @@ ghost use Rattle.pyparse_statement.specs.PlacedStatements.{ImportPlaced, WordPla
 
 use crate::statements::aliases::{dotted_aliases, name_aliases, read_dotted};
 use crate::statements::found::{ReadAliases, ReadDots, ReadStatement};
-use pylex::Exact;
+use pylex_listing::Exact;
 use pyparse_looks::{Stop, is_op, is_word, terminal_at};
 use pyparse_nodes::append;
 use pyplaces::Recorder;

@@ -6,7 +6,7 @@ ghost use Rattle.pyparse_nodes.specs.Answers.{PartAnswered};
 ghost use Rattle.pyparse_looks.specs.Views.{seen};
 
 use crate::statements::found::{ReadAs, ReadName, ReadNames};
-use pylex::Exact;
+use pylex_listing::Exact;
 use pyparse_looks::{Stop, is_op, is_word, name_at};
 use pyparse_nodes::identifier_of;
 use pytoken::{Keyword, Terminal};

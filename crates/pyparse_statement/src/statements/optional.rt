@@ -13,7 +13,7 @@ ghost use Rattle.std.specs.Prelude.{IfOk};
 ghost use Rattle.pyparse_statement.specs.PlacedParts.{BehindPlaced, OptionalPlaced};
 
 use pygrammar::Level;
-use pylex::Exact;
+use pylex_listing::Exact;
 use pyparse_expr::{Depth, read_at};
 use pyparse_looks::{Stop, is_op, is_word, lead_at};
 use pyparse_nodes::{Optional, Read};

@@ -26,7 +26,7 @@ use crate::statements::optional::{
     after_sign, after_word, stars_or_none, starts_expression, unboxed,
 };
 use pygrammar::Level;
-use pylex::Exact;
+use pylex_listing::Exact;
 use pyparse_expr::{Depth, no_items, push, read_at};
 use pyparse_looks::{Stop, is_op};
 use pyparse_nodes::{Items, Read, deleted};

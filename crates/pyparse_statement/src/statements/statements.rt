@@ -22,7 +22,7 @@ use crate::statements::simple::{
 use crate::statements::type_names::type_name_at;
 use crate::statements::types::type_alias;
 use crate::statements::values::value_statement;
-use pylex::Exact;
+use pylex_listing::Exact;
 use pyparse_expr::Depth;
 use pyparse_looks::{Stop, is_op, terminal_at};
 use pyparse_nodes::append;

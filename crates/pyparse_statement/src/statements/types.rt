@@ -24,7 +24,7 @@ ghost use Rattle.pyparse_statement.specs.PlacedStatements.{AliasPlaced};
 use crate::statements::found::{ReadStatement, ReadTypeParam, ReadTypeParams};
 use crate::statements::optional::{after_sign, unboxed};
 use pygrammar::Level;
-use pylex::Exact;
+use pylex_listing::Exact;
 use pyparse_expr::{Depth, read_at};
 use pyparse_looks::{Stop, is_op, name_at, terminal_at};
 use pyparse_nodes::{Optional, Read, append, identifier_of, make_name};

@@ -24,7 +24,7 @@ use crate::statements::assignments::{annotation_of, assignment_of, augmented_of,
 use crate::statements::found::ReadStatement;
 use crate::statements::optional::after_sign;
 use pygrammar::Level;
-use pylex::Exact;
+use pylex_listing::Exact;
 use pyparse_expr::{Depth, no_items, push, read_at};
 use pyparse_looks::{Stop, is_op, name_with, terminal_at};
 use pyparse_nodes::{Items, Read, make_name, single_stored, stored};

@@ -1,6 +1,6 @@
 -- What one pass over a listing gathers behind some entries.
 use Rattle.std.specs.Prelude.{◌≡◌, ℕ, List, [], ◌++◌, map}
-use Rattle.pylex.specs.declared.entries.Entry.{Entry}
+use Rattle.pylex_listing.specs.declared.entries.Entry.{Entry}
 use Rattle.pytoken.specs.Tokens
 use Rattle.pytoken.specs.Tokens.{tokens_of_entry, tokens_from}
 use Rattle.pytoken.specs.Refusals.{entry_refusal}

@@ -7,8 +7,8 @@ use Rattle.pysource.specs.declared.places.Place.{Place}
 use Rattle.pysource.specs.Places.{place_at}
 use Rattle.pylex_lexeme.specs.Chars.{is_blank_char}
 use Rattle.pylex_lexeme.specs.Cuts.{begins_significant}
-use Rattle.pylex.specs.declared.margins.Widths.{Widths}
-use Rattle.pylex.specs.Margins.{blanks_of}
+use Rattle.pylex_listing.specs.declared.margins.Widths.{Widths}
+use Rattle.pylex_listing.specs.Margins.{blanks_of}
 use Rattle.pytoken.specs.Inner.Behind.{behind}
 use Rattle.pytoken.specs.Indentation.{Margin, behind_offset, are_alike}
 use Rattle.pytoken.specs.Refusals.{first_mixed}

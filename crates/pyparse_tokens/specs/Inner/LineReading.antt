@@ -1,7 +1,7 @@
 -- What a reader of lines keeps between its calls.
 use Rattle.std.specs.Prelude.{◌≡◌, ℕ, Bool, false, length, Some, None, Result, Ok, Err, map}
 use Rattle.pysource.specs.declared.places.Place.{Place}
-use Rattle.pylex.specs.Listing.{Source, in_characters}
+use Rattle.pylex_listing.specs.Listing.{Source, in_characters}
 use Rattle.pytree_node.specs.declared.profiles.Extent.{Extent}
 use Rattle.pytoken.specs.Tokens.{lines}
 use Rattle.pytoken.specs.Refusals.{refusal}

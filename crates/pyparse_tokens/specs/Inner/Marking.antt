@@ -4,11 +4,11 @@ use Rattle.std.specs.List.{flat_map}
 use Rattle.std.specs.Str.{chars}
 use Rattle.pysource.specs.Parts.{Parts}
 use Rattle.pylex_lexeme.specs.declared.lexeme.Class.{Class}
-use Rattle.pylex.specs.declared.entries.Entry.{Entry}
-use Rattle.pylex.specs.Listing.{in_characters, listing}
+use Rattle.pylex_listing.specs.declared.entries.Entry.{Entry}
+use Rattle.pylex_listing.specs.Listing.{in_characters, listing}
 use Rattle.pylex.specs.Listers.{Listed}
-use Rattle.pylex.specs.Spots.{kind_of}
-use Rattle.pylex.specs.Steps.{entries_of}
+use Rattle.pylex_listing.specs.EntryKinds.{kind_of}
+use Rattle.pylex_listing.specs.Steps.{entries_of}
 use Rattle.pytoken.specs.Tokens.{Line, text_of, lines}
 use Rattle.pyparse_marks.specs.Spans.{Span, added}
 use Rattle.pyparse_marks.specs.TokenSpans.{token_spans}

@@ -6,15 +6,16 @@ use Rattle.pysource.specs.Parts.{Parts}
 use Rattle.pylex_lexeme.specs.declared.kinds.Exact.{Exact}
 use Rattle.pylex_lexeme.specs.declared.lexeme.Class.{Class}
 use Rattle.pylex_lexeme.specs.Operators.{is_opener, is_closer}
-use Rattle.pylex.specs.declared.kind.Kind.{Kind}
-use Rattle.pylex.specs.declared.kind.Kind.TheVariants as kinds
-use Rattle.pylex.specs.declared.entries.Entry.{Entry}
+use Rattle.pylex_listing.specs.declared.kind.Kind.{Kind}
+use Rattle.pylex_listing.specs.declared.kind.Kind.TheVariants as kinds
+use Rattle.pylex_listing.specs.declared.entries.Entry.{Entry}
 use Rattle.pylex.specs.declared.spots.Spot.{Spot}
-use Rattle.pylex.specs.Listing.{in_characters, listing}
+use Rattle.pylex_listing.specs.Listing.{in_characters, listing}
 use Rattle.pylex.specs.Listers.{Listed}
-use Rattle.pylex.specs.Laws.{HasExact}
-use Rattle.pylex.specs.Spots.{at_spot, kind_of, operator_of}
-use Rattle.pylex.specs.Steps.{entries_of}
+use Rattle.pylex_listing.specs.Laws.{HasExact}
+use Rattle.pylex.specs.Spots.{at_spot}
+use Rattle.pylex_listing.specs.EntryKinds.{kind_of, operator_of}
+use Rattle.pylex_listing.specs.Steps.{entries_of}
 use Rattle.pytoken.specs.Tokens.{text_of}
 use Rattle.pytoken.specs.Refusals.{most_brackets}
 use Rattle.pyparse_tokens.specs.declared.pass.Pass.{Pass}

@@ -5,7 +5,7 @@ use Rattle.std.proofs.Common.{◌≡◌, refl, ap, ◌∙◌, ℕ, suc, ◌+◌,
 use Rattle.std.proofs.Common.{codes}
 use Rattle.std.proofs.Common.{length, length-append, take, drop}
 use Rattle.std.proofs.lemmas.List.{length-map}
-use Rattle.pylex.specs.Listing.{Source}
+use Rattle.pylex_listing.specs.Listing.{Source}
 use Rattle.pytree_node.specs.declared.profiles.Profile.{Profile}
 use Rattle.pytree_node.specs.Trees.{Expr, Identifier, Pattern, Stmt, Case, Handler, Item, Module, exprs, stmts, cases, handlers}
 use Rattle.pytree_dump_text.specs.Shows.{Fields, Row, a_field, no_field, left_out, name_field, shown_exprs, shown_cases, shown_handlers}

@@ -3,7 +3,7 @@
 -- Carries: what pygrammar, pyparse_tokens cite.
 use Rattle.std.proofs.Common.{◌≡◌, ℕ, List, [], ◌∷◌, ◌++◌, refl, sym, ap, ◌∙◌, append_assoc, append-nil, Option, Some, None}
 use Rattle.std.specs.Prelude.{if◌then◌else◌}
-use Rattle.pylex.specs.declared.entries.Entry.{Entry}
+use Rattle.pylex_listing.specs.declared.entries.Entry.{Entry}
 use Rattle.pytree_node.specs.declared.profiles.Extent.{Extent}
 use Rattle.pytoken.specs.declared.refusals.Refusal.{Refusal}
 use Rattle.pytoken.specs.Indentation.{Margin, margin_at, ends_line, margins_from}

@@ -10,7 +10,7 @@ use Rattle.pynatural.specs.Readings.{most_digits}
 use Rattle.pyfloat.specs.FloatTexts.{float_source, imaginary_source}
 use Rattle.pyfloat.specs.Laws.{IsDouble}
 use Rattle.pyfloat.proofs.Callers.Law.{floats_are_lawful}
-use Rattle.pylex.specs.declared.kind.Kind.TheVariants as kinds
+use Rattle.pylex_listing.specs.declared.kind.Kind.TheVariants as kinds
 use Rattle.pytree_node.specs.Values as value
 use Rattle.pytree_node.specs.Values.{Value}
 use Rattle.pytree_node.specs.declared.profiles.Extent.TheVariants.{Whole}

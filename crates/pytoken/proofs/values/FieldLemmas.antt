@@ -3,7 +3,7 @@ use Rattle.std.proofs.Common.{◌≡◌, ℕ, ◌+◌, Bool, true, false, List, 
 use Rattle.std.proofs.Common.{Result, Ok, Err}
 use Rattle.std.specs.Prelude.{◌||◌, OnOk}
 use Rattle.std.specs.List.{flat_map, list_any}
-use Rattle.pylex.specs.declared.kind.Kind.{Kind}
+use Rattle.pylex_listing.specs.declared.kind.Kind.{Kind}
 use Rattle.pyfstring_tokens.specs.declared.faults.FieldFault.{FieldFault}
 use Rattle.pyfstring_tokens.specs.declared.faults.FieldFault.TheVariants as faults
 use Rattle.pyfstring_tokens.specs.FieldTokens.{FieldToken, field_tokens, tokens_ahead, opening, closing, has_fault, closes_outer}

@@ -7,8 +7,8 @@ use Rattle.std.specs.Option.{option_or}
 use Rattle.std.specs.List.{flat_map, list_any}
 use Rattle.pylex_lexeme.specs.Characters.{left_parenthesis, right_parenthesis}
 use Rattle.pylex_lexeme.specs.declared.kinds.Exact.TheVariants.{LPar, RPar}
-use Rattle.pylex.specs.declared.kind.Kind.{Kind}
-use Rattle.pylex.specs.declared.kind.Kind.TheVariants as kinds
+use Rattle.pylex_listing.specs.declared.kind.Kind.{Kind}
+use Rattle.pylex_listing.specs.declared.kind.Kind.TheVariants as kinds
 use Rattle.pyfstring.specs.declared.parts.CutError.{CutError}
 use Rattle.pyfstring.specs.declared.parts.CutError.TheVariants as cut
 use Rattle.pytree_node.specs.declared.profiles.Extent.TheVariants.{Whole}

@@ -10,7 +10,7 @@ use crate::TokenError;
 use crate::values::names::name_fault;
 use crate::values::numbers::number_fault;
 use crate::values::strings::{are_plain, string_fault};
-use pylex::Kind;
+use pylex_listing::Kind;
 use pytree_node::Extent;
 use std::alloc::{AllocError, Global};
 

@@ -6,7 +6,7 @@ ghost use Rattle.std.specs.Prelude.{◌≡◌, ◌∷◌, [], true, map, IfOk, I
 ghost use Rattle.std.specs.List.{flat_map};
 ghost use Rattle.std.specs.Option.{option_or};
 ghost use Rattle.std.specs.Str.{chars};
-ghost use Rattle.pylex.specs.Spots.{kind_of};
+ghost use Rattle.pylex_listing.specs.EntryKinds.{kind_of};
 ghost use Rattle.pytree_node.specs.declared.profiles.Extent.TheVariants.{Whole};
 ghost use Rattle.pytoken.specs.declared.values.terminals.TerminalFault.TheVariants as faults;
 ghost use Rattle.pytoken.specs.Escapes.{escape_fault};
@@ -25,7 +25,7 @@ use crate::values::faults::has_nul;
 use crate::values::strings::is_marked;
 use crate::values::terminals::{Terminal, TerminalFault, terminal_of};
 use pyfstring_tokens::Class;
-use pylex::Kind;
+use pylex_listing::Kind;
 use pytree_node::Extent;
 use std::alloc::{AllocError, Global};
 

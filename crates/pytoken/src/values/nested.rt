@@ -16,7 +16,7 @@ use crate::values::elements::{Element, elements};
 use crate::values::formatted::{kind_of, own_fault, push, push_single};
 use crate::values::terminals::{Terminal, TerminalFault};
 use pyfstring_tokens::FieldTokens;
-use pylex::Exact;
+use pylex_listing::Exact;
 use std::alloc::Global;
 
 /// Appends what the expression of a field is, in an f-string that stands in a field itself.

@@ -19,7 +19,7 @@ use crate::values::formatted::{
 use crate::values::nested::push_nested;
 use crate::values::terminals::{Terminal, TerminalFault};
 use pyfstring_tokens::FieldTokens;
-use pylex::{Exact, Kind};
+use pylex_listing::{Exact, Kind};
 use std::alloc::Global;
 
 /// Appends a token of an expression of an f-string that stands in no field.

@@ -11,7 +11,7 @@ use crate::values::faults::single_fault;
 use crate::values::formatted::{is_fstring, push};
 use crate::values::outer::push_formatted;
 use crate::values::terminals::{Terminal, TerminalFault, terminal_of};
-use pylex::Kind;
+use pylex_listing::Kind;
 use pytree_node::Extent;
 use std::alloc::{AllocError, Global};
 

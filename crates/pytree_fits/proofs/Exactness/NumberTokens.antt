@@ -9,7 +9,7 @@ use Rattle.pynatural.specs.Readings.{most_digits}
 use Rattle.pyfloat.specs.FloatValues.{float_value}
 use Rattle.pyfloat.specs.Laws.{IsDouble, is_unsigned}
 use Rattle.pyfloat.proofs.Callers.Law.{floats_are_lawful}
-use Rattle.pylex.specs.declared.kind.Kind.TheVariants as kinds
+use Rattle.pylex_listing.specs.declared.kind.Kind.TheVariants as kinds
 use Rattle.pytree_node.specs.declared.profiles.Extent.{Extent}
 use Rattle.pytree_node.specs.declared.profiles.Extent.TheVariants.{Plain, Whole}
 use Rattle.pytree_node.specs.Values.{Value, Int, Float, Imaginary}

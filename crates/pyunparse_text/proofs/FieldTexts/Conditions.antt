@@ -12,7 +12,7 @@ use Rattle.pyfstring.specs.Characters.{space, less_than_sign, greater_than_sign}
 use Rattle.pyfstring.specs.Texts.{begins_with}
 use Rattle.pyfstring.specs.Expressions.{is_quote, is_end, opened_by, closed_by}
 use Rattle.pylex_lexeme.specs.Chars.{is_comment_part}
-use Rattle.pylex.specs.declared.kind.Kind.TheVariants as kinds
+use Rattle.pylex_listing.specs.declared.kind.Kind.TheVariants as kinds
 use Rattle.pyunparse_text.specs.Spacing.{Piece, is_operator_kind, spaced, are_readable}
 use Rattle.pyunparse_text.specs.Tokens.{opens, closes, opens_within}
 

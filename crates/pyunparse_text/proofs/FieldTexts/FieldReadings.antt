@@ -7,8 +7,8 @@ use Rattle.std.proofs.lemmas.Grind.{flat_map-append}
 use Rattle.std.proofs.lemmas.List.Folds.{list_any-append}
 use Rattle.pyfstring_tokens.specs.FieldTokens.{FieldToken, field_tokens, closing}
 use Rattle.pyfstring_tokens.specs.Laws.{HasOwnTokens}
-use Rattle.pylex.specs.declared.kind.Kind.{Kind}
-use Rattle.pylex.specs.declared.kind.Kind.TheVariants as kinds
+use Rattle.pylex_listing.specs.declared.kind.Kind.{Kind}
+use Rattle.pylex_listing.specs.declared.kind.Kind.TheVariants as kinds
 use Rattle.pylex_lexeme.specs.declared.kinds.Exact.TheVariants.{LPar, RPar}
 use Rattle.pylex_lexeme.specs.Operators.{operators, exact_of}
 use Rattle.pytree_node.specs.declared.profiles.Extent.TheVariants.{Whole}

@@ -10,8 +10,8 @@ use Rattle.unicode_ident.proofs.IdentLemmas.{is_xid_start-ascii}
 use Rattle.pyfstring.specs.Texts.{begins_with}
 use Rattle.pyfstring.specs.Expressions.{step, scan, expression, behind_expression}
 use Rattle.pyfstring.specs.Pieces.{is_blank}
-use Rattle.pylex.specs.declared.kind.Kind.{Kind}
-use Rattle.pylex.specs.declared.kind.Kind.TheVariants as kinds
+use Rattle.pylex_listing.specs.declared.kind.Kind.{Kind}
+use Rattle.pylex_listing.specs.declared.kind.Kind.TheVariants as kinds
 use Rattle.pylex_lexeme.specs.Chars.{begins, starts_name}
 use Rattle.pylex_lexeme.specs.Numbers.{is_decimal_digit}
 use Rattle.pylex_lexeme.specs.Operators.{is_operator}

@@ -14,10 +14,10 @@ use Rattle.pyfstring_tokens.specs.FieldTokens.{FieldToken, is_comment_class, is_
 use Rattle.pyfstring_tokens.specs.FieldTokens.{field_tokens}
 use Rattle.pyfstring_tokens.specs.FieldTokens.{opening, closing}
 use Rattle.pyfstring_tokens.specs.Laws.{tokens_of, IsWhole, HasOwnTokens}
-use Rattle.pylex.specs.declared.kind.Kind.{Kind}
-use Rattle.pylex.specs.declared.kind.Kind.TheVariants as kinds
-use Rattle.pylex.specs.Lines.{count_if}
-use Rattle.pylex.specs.Lines as lexemes
+use Rattle.pylex_listing.specs.declared.kind.Kind.{Kind}
+use Rattle.pylex_listing.specs.declared.kind.Kind.TheVariants as kinds
+use Rattle.pylex_listing.specs.Lines.{count_if}
+use Rattle.pylex_listing.specs.Lines as lexemes
 use Rattle.pylex_lexeme.specs.declared.kinds.Exact.{Exact}
 use Rattle.pylex_lexeme.specs.declared.kinds.Exact.TheVariants.{LPar, LSqb, LBrace}
 use Rattle.pylex_lexeme.specs.declared.lexeme.Class.{Class}

@@ -13,8 +13,8 @@ use Rattle.pyfstring.specs.declared.parts.Conversion.TheVariants as conversions
 use Rattle.pyfstring.specs.Texts.{begins_with, is_brace}
 use Rattle.pyfstring.specs.Expressions.{is_quote}
 use Rattle.pyfstring.specs.Parts.{FieldParts, BodyPart}
-use Rattle.pylex.specs.declared.kind.Kind.{Kind}
-use Rattle.pylex.specs.declared.kind.Kind.TheVariants as kinds
+use Rattle.pylex_listing.specs.declared.kind.Kind.{Kind}
+use Rattle.pylex_listing.specs.declared.kind.Kind.TheVariants as kinds
 use Rattle.pylex_lexeme.specs.Chars.{is_comment_part}
 use Rattle.pylex_lexeme.specs.Numbers.{is_number}
 use Rattle.pylex_lexeme.specs.Operators.{is_operator}

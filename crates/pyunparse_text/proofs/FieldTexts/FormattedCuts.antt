@@ -17,7 +17,7 @@ use Rattle.pyfstring.specs.Pieces.{unkept, Converts, unconverted, by_str, by_rep
 use Rattle.pyfstring.specs.Pieces.{unspecified, specified, IsField, Cuts, last_text, and_field, IsInnerSpec, IsSpec, IsCut}
 use Rattle.pyfstring.specs.Cutting.{cut_of}
 use Rattle.pyfstring.proofs.Callers.Law.{cut_of_complete}
-use Rattle.pylex.specs.declared.kind.Kind.TheVariants as kinds
+use Rattle.pylex_listing.specs.declared.kind.Kind.TheVariants as kinds
 use Rattle.pyunparse_text.specs.Spacing.{Piece, is_token, text_behind, all_apart, are_readable}
 use Rattle.pyunparse_text.specs.Written.{Element, Text, Field, Spec, End}
 use Rattle.pyunparse_text.specs.Pieces.{Sited, in_field, conversion_text, field_text, element_text}

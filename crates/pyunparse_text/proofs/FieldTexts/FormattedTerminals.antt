@@ -6,7 +6,7 @@ use Rattle.std.proofs.Common.{append-nil}
 use Rattle.std.specs.List.{flat_map}
 use Rattle.std.proofs.lemmas.Grind.{flat_map-append}
 use Rattle.pyfstring.specs.Parts.{FieldParts, Part, BodyPart}
-use Rattle.pylex.specs.declared.kind.Kind.TheVariants as kinds
+use Rattle.pylex_listing.specs.declared.kind.Kind.TheVariants as kinds
 use Rattle.pylex_lexeme.specs.declared.kinds.Exact.TheVariants.{LPar, RPar}
 use Rattle.pytoken.specs.FormattedStrings as read
 use Rattle.pytoken.specs.FormattedStrings.{spec_elements, field_elements}

@@ -12,7 +12,7 @@ use Rattle.std.proofs.lemmas.Bool.{and_from, eqb-true, false_from_ne_true, not-t
 use Rattle.std.proofs.lemmas.List.Folds.{list_all-append}
 use Rattle.pyfstring.specs.Parts.{BodyPart}
 use Rattle.pyfstring.specs.Cutting.{cut_of}
-use Rattle.pylex.specs.declared.kind.Kind.TheVariants as kinds
+use Rattle.pylex_listing.specs.declared.kind.Kind.TheVariants as kinds
 use Rattle.pylex_lexeme.specs.Chars.{is_comment_part}
 use Rattle.pylex_lexeme.specs.Numbers.{is_nil}
 use Rattle.pylex_lexeme.specs.Strings.{begins_three, units, ends_by_one, no_units, is_unit, is_single, is_single_string, is_prefix}

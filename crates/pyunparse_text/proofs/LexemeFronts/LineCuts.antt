@@ -9,9 +9,9 @@ use Rattle.std.proofs.lemmas.List.{append_cancel_left}
 use Rattle.std.proofs.lemmas.Bool.{cases_Bool, and_parts}
 use Rattle.pylex_lexeme.specs.Chars.{begins, is_blank_char}
 use Rattle.pylex_lexeme.specs.Lexemes.{Lexeme, lexeme_at, cut, left_by_cut}
-use Rattle.pylex.specs.Laws.{AreLexemes}
+use Rattle.pylex_listing.specs.Laws.{AreLexemes}
 use Rattle.pylex_lexeme.proofs.Callers.Lexemes.{none_is, nothing_takes}
-use Rattle.pylex.proofs.Callers.{cut_lexed}
+use Rattle.pylex_listing.proofs.Callers.{cut_lexed}
 use Rattle.pyunparse_text.specs.Spacing.{Piece, Line, is_token, touches, text_behind, spaced, stay_apart, are_two_points, all_apart}
 use Rattle.pyunparse_text.specs.Spacing.{are_readable}
 use Rattle.pyunparse_text.specs.Spacing.{line_text, lines_text}

@@ -11,7 +11,7 @@ use Rattle.std.proofs.lemmas.List.Elements.{filter-append}
 use Rattle.std.proofs.lemmas.Grind.{common_steps}
 use Rattle.std.proofs.lemmas.Bool.{cases_lt}
 use Rattle.std.proofs.lemmas.Bool.Decides.{nat_tests}
-use Rattle.pylex.specs.Machine.{pushed}
+use Rattle.pylex_listing.specs.Machine.{pushed}
 
 -- the columns of the levels up to m
 abbrev pub columns : ℕ → List ℕ

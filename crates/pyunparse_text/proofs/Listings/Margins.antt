@@ -12,13 +12,13 @@ use Rattle.std.proofs.lemmas.List.Folds.{list_all-append}
 use Rattle.std.proofs.lemmas.List.Sums.{take_while-cons}
 use Rattle.std.proofs.lemmas.Str.{encodes-append, chars-encodes}
 use Rattle.pysource.specs.Places.{place_at}
-use Rattle.pylex.specs.declared.kind.Kind.{Kind}
-use Rattle.pylex.specs.declared.kind.Kind.TheVariants as kinds
-use Rattle.pylex.specs.declared.entries.Entry.{Entry}
+use Rattle.pylex_listing.specs.declared.kind.Kind.{Kind}
+use Rattle.pylex_listing.specs.declared.kind.Kind.TheVariants as kinds
+use Rattle.pylex_listing.specs.declared.entries.Entry.{Entry}
 use Rattle.pylex_lexeme.specs.Chars.{begins, bytes_in, is_blank_char}
 use Rattle.pylex_lexeme.specs.Cuts.{begins_significant}
-use Rattle.pylex.specs.Indentation.{width_from}
-use Rattle.pylex.specs.Margins.{width_by_one, blanks_of, widths_of}
+use Rattle.pylex_listing.specs.Indentation.{width_from}
+use Rattle.pylex_listing.specs.Margins.{width_by_one, blanks_of, widths_of}
 use Rattle.pytoken.specs.Indentation.{Margin, behind_offset, margin_at, ends_line, margins_from}
 use Rattle.pyunparse_text.specs.Spacing.{Piece, Line, is_token, text_behind, spaced, are_readable, lines_text}
 use Rattle.pyunparse_text.specs.Tokens.{is_written, is_even}

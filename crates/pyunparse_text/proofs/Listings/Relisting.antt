@@ -8,17 +8,18 @@ use Rattle.std.specs.Prelude.{count_by, nat_lt}
 use Rattle.std.specs.List.{list_all}
 use Rattle.std.proofs.lemmas.List.Folds.{list_all-append}
 use Rattle.std.proofs.lemmas.Bool.{and_parts}
-use Rattle.pylex.specs.declared.kind.Kind.TheVariants as kinds
-use Rattle.pylex.specs.declared.entries.Entry.{Entry}
-use Rattle.pylex.specs.declared.entries.Step.{Step}
-use Rattle.pylex.specs.declared.entries.Step.TheVariants as steps
+use Rattle.pylex_listing.specs.declared.kind.Kind.TheVariants as kinds
+use Rattle.pylex_listing.specs.declared.entries.Entry.{Entry}
+use Rattle.pylex_listing.specs.declared.entries.Step.{Step}
+use Rattle.pylex_listing.specs.declared.entries.Step.TheVariants as steps
 use Rattle.pylex_lexeme.specs.Lexemes.{Lexeme, cut, left_by_cut}
-use Rattle.pylex.specs.Listing.{Source, origin, up_to_end, listing}
-use Rattle.pylex.specs.Steps.{entries_of, mark}
+use Rattle.pylex_listing.specs.Listing.{Source, origin, up_to_end, listing}
+use Rattle.pylex_listing.specs.Steps.{entries_of, mark}
 use Rattle.pylex_lexeme.specs.Chars.{bytes_in}
 use Rattle.pytoken.specs.Indentation.{margin_at, margins_from, margins}
-use Rattle.pylex.specs.Machine.{State, first_state, remaining, run, stop_of, tail_of, last_line_end, last_place, dedents_at, mark_at}
-use Rattle.pylex.proofs.Callers.{listing_is}
+use Rattle.pylex_listing.specs.Machine.{State, first_state, remaining, run, stop_of, tail_of, last_line_end, last_place, dedents_at}
+use Rattle.pylex_listing.specs.Machine.{mark_at}
+use Rattle.pylex_listing.proofs.Callers.{listing_is}
 use Rattle.pyunparse_text.specs.Spacing.{Line, are_readable, lines_text}
 use Rattle.pyunparse_text.specs.Inner.Relexed.{lines_lexemes}
 use Rattle.pyunparse_text.specs.Tokens.{dedent, end_marker, exact_in, tokens_behind, is_written, are_written, rise_by_one, is_even}

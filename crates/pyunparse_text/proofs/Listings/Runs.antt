@@ -10,18 +10,18 @@ use Rattle.std.specs.Str.{all_scalars}
 use Rattle.std.proofs.lemmas.List.{append-nil}
 use Rattle.std.proofs.lemmas.Bool.{leb-true, eqb-true, cases_lt, cases_Bool, not-true, and_parts}
 use Rattle.std.proofs.lemmas.Bool.Decides.{nat_tests}
-use Rattle.pylex.specs.declared.kind.Kind.{Kind}
-use Rattle.pylex.specs.declared.kind.Kind.TheVariants as kinds
+use Rattle.pylex_listing.specs.declared.kind.Kind.{Kind}
+use Rattle.pylex_listing.specs.declared.kind.Kind.TheVariants as kinds
 use Rattle.pylex_lexeme.specs.declared.kinds.Exact.{Exact}
 use Rattle.pylex_lexeme.specs.declared.lexeme.Class.TheVariants.{Operator, Join}
 use Rattle.pylex_lexeme.specs.declared.kinds.Exact.TheVariants as exact
-use Rattle.pylex.specs.declared.entries.ListingFault.{ListingFault}
-use Rattle.pylex.specs.declared.entries.Step.{Step}
+use Rattle.pylex_listing.specs.declared.entries.ListingFault.{ListingFault}
+use Rattle.pylex_listing.specs.declared.entries.Step.{Step}
 use Rattle.pylex_lexeme.specs.Operators.{is_opener, is_closer, is_operator, exact_of}
 use Rattle.pylex_lexeme.specs.Lexemes.{Lexeme}
 use Rattle.pylex_lexeme.specs.Chars.{bytes_in}
-use Rattle.pylex.specs.Indentation.{width_from}
-use Rattle.pylex.specs.Machine.{State, after, gives, run, stop_of, layout_of, entry_by, step_of, past, behind, pushed}
+use Rattle.pylex_listing.specs.Indentation.{width_from}
+use Rattle.pylex_listing.specs.Machine.{State, after, gives, run, stop_of, layout_of, entry_by, step_of, past, behind, pushed}
 use Rattle.pyunparse_text.specs.Spacing.{Piece, Line, is_token, is_operator_kind, touches, text_behind, spaced, are_readable, line_text}
 use Rattle.pyunparse_text.specs.Spacing.{lines_text}
 use Rattle.pyunparse_text.specs.Inner.Relexed.{class_of, lexeme_of, blanks, feed, lexemes_behind, lexemes_of, indent_lexemes, line_lexemes}
@@ -33,7 +33,7 @@ use Rattle.pyunparse_text.proofs.Listings.Columns.{columns, deeper, not_deeper, 
 use Rattle.pyunparse_text.proofs.Listings.Tells.{Tells, bytes_both, nothing_told, tells_both, piece_told, marks_told}
 use Rattle.pyunparse_text.proofs.Listings.Margins.{Even, lines_even, margin_even, token_even, eights}
 use Rattle.pyunparse_text.proofs.Sources.Decoding.{lines_scalars}
-use Rattle.pylex.specs.Lines.{count_if}
+use Rattle.pylex_listing.specs.Lines.{count_if}
 
 -- the steps of lexemes from a state on, and the state after them
 abbrev pub steps_on : State → List Lexeme → List Step

@@ -8,8 +8,8 @@ use Rattle.unicode_normalization.specs.Forms.{nfkc}
 use Rattle.pyfloat.specs.FloatValues.{float_value}
 use Rattle.pylex_lexeme.specs.declared.kinds.Exact.{Exact}
 use Rattle.pylex_lexeme.specs.Operators.{exact_of}
-use Rattle.pylex.specs.declared.kind.Kind.{Kind}
-use Rattle.pylex.specs.declared.kind.Kind.TheVariants as kinds
+use Rattle.pylex_listing.specs.declared.kind.Kind.{Kind}
+use Rattle.pylex_listing.specs.declared.kind.Kind.TheVariants as kinds
 use Rattle.pytree_node.specs.Values
 use Rattle.pytree_node.specs.declared.profiles.Extent.{Extent}
 use Rattle.pyfstring_tokens.specs.FieldTokens.{FieldToken, field_tokens}

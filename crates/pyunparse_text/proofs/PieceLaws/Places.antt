@@ -10,8 +10,8 @@ use Rattle.pylex_lexeme.specs.Operators.{exact_text, is_opener, is_closer}
 use Rattle.pylex_lexeme.proofs.Callers.Lexemes.{exact_of_text}
 use Rattle.pytree_node.specs.declared.profiles.Extent.{Extent}
 use Rattle.pytree_node.specs.declared.profiles.Extent.TheVariants.{Whole}
-use Rattle.pylex.specs.declared.kind.Kind.{Kind}
-use Rattle.pylex.specs.declared.kind.Kind.TheVariants as kinds
+use Rattle.pylex_listing.specs.declared.kind.Kind.{Kind}
+use Rattle.pylex_listing.specs.declared.kind.Kind.TheVariants as kinds
 use Rattle.pytoken.specs.FormattedStrings.{is_fstring, is_bulky}
 use Rattle.pytoken.specs.Terminals.{Terminal, Op, Gives, terminal_of, terminals_by, nested_expression, single_fault, fault_of, fault_by}
 use Rattle.pytoken.specs.Terminals.{field_fault}

@@ -14,7 +14,7 @@ use Rattle.pytoken.specs.Terminals.{Op}
 use Rattle.pyunparse_text.specs.Spacing.{Piece, is_number_kind, is_operator_kind, is_token, touches, begins_operator, stay_apart}
 use Rattle.pyunparse_text.specs.Written.{free, leading, trailing, tight}
 use Rattle.pyunparse_text.specs.Pieces.{Sited, outside, piece}
-use Rattle.pylex.specs.declared.kind.Kind.TheVariants as kinds
+use Rattle.pylex_listing.specs.declared.kind.Kind.TheVariants as kinds
 use Rattle.std.proofs.lemmas.Bool.{and_parts, or_cases, cases_Bool, not-true, or_left, or_right}
 use Rattle.pyunparse_text.specs.Inner.Edges.{fit}
 use Rattle.pyunparse_text.proofs.TokenLists.Joins.{plain_head}

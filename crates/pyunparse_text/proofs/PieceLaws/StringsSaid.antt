@@ -24,9 +24,9 @@ use Rattle.pylex_lexeme.specs.declared.lexeme.Class.{Class}
 use Rattle.pylex_lexeme.specs.declared.lexeme.Class.TheVariants as classes
 use Rattle.pylex_lexeme.specs.Lexemes.{Lexeme, cut}
 use Rattle.pylex_lexeme.specs.Operators.{operators, exact_of}
-use Rattle.pylex.specs.declared.kind.Kind.{Kind}
-use Rattle.pylex.specs.declared.kind.Kind.TheVariants as kinds
-use Rattle.pylex.specs.Spots.{kind_of}
+use Rattle.pylex_listing.specs.declared.kind.Kind.{Kind}
+use Rattle.pylex_listing.specs.declared.kind.Kind.TheVariants as kinds
+use Rattle.pylex_listing.specs.EntryKinds.{kind_of}
 use Rattle.pytree_node.specs.Values
 use Rattle.pytree_node.specs.declared.profiles.Extent.TheVariants.{Whole}
 use Rattle.pytoken.specs.declared.keywords.Keyword.{Keyword}

@@ -26,8 +26,8 @@ use Rattle.pysource.specs.Lines.{lines_of, first_bad, good_text, line_fault, bad
 use Rattle.pysource.specs.Sources.{source_of}
 use Rattle.pysource.specs.declared.encodings.Charset.TheVariants.{Utf8}
 use Rattle.pysource.proofs.Callers.Faults.{utf8_before, NoLf, lines_at, valid_all, first_given_none, lone_none_byte}
-use Rattle.pylex.specs.declared.kind.Kind.{Kind}
-use Rattle.pylex.specs.declared.kind.Kind.TheVariants as kinds
+use Rattle.pylex_listing.specs.declared.kind.Kind.{Kind}
+use Rattle.pylex_listing.specs.declared.kind.Kind.TheVariants as kinds
 use Rattle.pylex_lexeme.specs.Chars.{begins, starts_name, is_comment_part}
 use Rattle.pylex_lexeme.specs.Numbers.{is_decimal_digit, is_number}
 use Rattle.pylex_lexeme.specs.Strings.{is_single_string}

@@ -19,10 +19,10 @@ use Rattle.pylex_lexeme.specs.declared.lexeme.Class.{Class}
 use Rattle.pylex_lexeme.specs.declared.lexeme.Class.TheVariants as classes
 use Rattle.pylex_lexeme.specs.Lexemes.{Lexeme, is_opener_class, is_closer_class, cut}
 use Rattle.pylex_lexeme.specs.Operators.{operators, exact_of, is_opener, is_closer}
-use Rattle.pylex.specs.declared.kind.Kind.{Kind}
-use Rattle.pylex.specs.declared.kind.Kind.TheVariants as kinds
-use Rattle.pylex.specs.Lines.{opens, closes, count_if}
-use Rattle.pylex.specs.Spots.{kind_of}
+use Rattle.pylex_listing.specs.declared.kind.Kind.{Kind}
+use Rattle.pylex_listing.specs.declared.kind.Kind.TheVariants as kinds
+use Rattle.pylex_listing.specs.Lines.{opens, closes, count_if}
+use Rattle.pylex_listing.specs.EntryKinds.{kind_of}
 use Rattle.pytree_node.specs.declared.profiles.Extent.TheVariants.{Whole}
 use Rattle.pyfstring_tokens.specs.FieldTokens.{FieldToken, field_tokens, is_gap, closes_none, closes_outer, closing}
 use Rattle.pyfstring_tokens.specs.Laws.{tokens_of}

@@ -9,10 +9,10 @@ use Rattle.std.specs.Str.{all_scalars}
 use Rattle.std.proofs.lemmas.List.Folds.{list_all-append}
 use Rattle.std.proofs.lemmas.Bool.{and_parts, or_parts}
 use Rattle.pylex_lexeme.specs.Lexemes.{Lexeme, class_in, cut, left_by_cut}
-use Rattle.pylex.specs.declared.kind.Kind.{Kind}
-use Rattle.pylex.specs.Spots.{kind_of}
-use Rattle.pylex.specs.Laws.{AreLexemes}
-use Rattle.pylex.proofs.Callers.{cut_lexed, longest_wins, scalars_of}
+use Rattle.pylex_listing.specs.declared.kind.Kind.{Kind}
+use Rattle.pylex_listing.specs.EntryKinds.{kind_of}
+use Rattle.pylex_listing.specs.Laws.{AreLexemes}
+use Rattle.pylex_listing.proofs.Callers.{cut_lexed, longest_wins, scalars_of}
 use Rattle.pyfstring_tokens.specs.FieldTokens.{FieldToken, is_gap, has_fault, closes_outer, has_comment, opening, closing}
 use Rattle.pyfstring_tokens.specs.Answers.{field_token}
 use Rattle.pyfstring_tokens.specs.Given.{AreAll}

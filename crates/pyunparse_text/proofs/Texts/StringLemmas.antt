@@ -11,7 +11,7 @@ use Rattle.pyfstring.specs.declared.parts.Conversion.{Conversion}
 use Rattle.pyfstring.specs.declared.parts.Conversion.TheVariants as conversions
 use Rattle.pyfstring.specs.Texts.{begins_with}
 use Rattle.pylex_lexeme.specs.Characters.{left_curly_bracket}
-use Rattle.pylex.specs.declared.kind.Kind.TheVariants as kinds
+use Rattle.pylex_listing.specs.declared.kind.Kind.TheVariants as kinds
 use Rattle.pyunparse_text.specs.Spacing.{Piece, text_behind}
 use Rattle.pyunparse_text.specs.Written.{Element, Text, Field, Spec, End}
 use Rattle.pyunparse_text.specs.Pieces.{Sited, conversion_text, element_text, field_text, formatted_text, open_text, quote, sited_string}

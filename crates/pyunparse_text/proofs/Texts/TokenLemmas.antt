@@ -7,7 +7,7 @@ use Rattle.std.specs.Char.{encode_utf8}
 use Rattle.pylex_lexeme.specs.declared.kinds.Exact.{Exact}
 use Rattle.pylex_lexeme.specs.declared.kinds.Exact.TheVariants.{LPar}
 use Rattle.pylex_lexeme.specs.Operators.{exact_text}
-use Rattle.pylex.specs.declared.kind.Kind.TheVariants as kinds
+use Rattle.pylex_listing.specs.declared.kind.Kind.TheVariants as kinds
 use Rattle.pyunparse_text.specs.Written.{Element}
 use Rattle.pyunparse_text.specs.Pieces.{Sited, outside}
 use Rattle.pyunparse_text.specs.Tokens.{PlainToken, token_of}

@@ -8,7 +8,7 @@ use Rattle.std.specs.List.{list_all}
 use Rattle.std.specs.Str.{all_scalars}
 use Rattle.std.proofs.lemmas.List.Folds.{list_all-append}
 use Rattle.std.proofs.lemmas.Bool.{not-true, and_parts}
-use Rattle.pylex.specs.declared.kind.Kind.TheVariants as kinds
+use Rattle.pylex_listing.specs.declared.kind.Kind.TheVariants as kinds
 use Rattle.pylex_lexeme.proofs.Callers.Lexemes.{by_words}
 use Rattle.pyunparse_text.specs.Spacing.{Piece, is_token, is_operator_kind, touches, stay_apart}
 use Rattle.pyunparse_text.specs.Inner.Edges.{begins_item, is_among, closings, leading, openings, trailing}

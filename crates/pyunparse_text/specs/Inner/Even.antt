@@ -1,8 +1,8 @@
 -- Where an entry ends a line, the next one's blanks are as wide, whichever way tabs count.
 use Rattle.std.specs.Prelude.{ℕ, Bool, true, List}
 use Rattle.std.specs.List.{list_all}
-use Rattle.pylex.specs.declared.kind.Kind.{Kind}
-use Rattle.pylex.specs.declared.kind.Kind.TheVariants as kinds
+use Rattle.pylex_listing.specs.declared.kind.Kind.{Kind}
+use Rattle.pylex_listing.specs.declared.kind.Kind.TheVariants as kinds
 use Rattle.pytoken.specs.Indentation.{margin_at}
 use Rattle.pyunparse_text.specs.Tokens.{is_even}
 

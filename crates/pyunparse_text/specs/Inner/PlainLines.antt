@@ -1,6 +1,6 @@
 -- The logical lines of tokens without places, as `pytoken`'s `Tokens` has those of tokens with them.
 use Rattle.std.specs.Prelude.{ℕ, ◌-◌, Bool, true, false, List, [], ◌∷◌, ◌++◌, count_by}
-use Rattle.pylex.specs.declared.kind.Kind.TheVariants as kinds
+use Rattle.pylex_listing.specs.declared.kind.Kind.TheVariants as kinds
 use Rattle.pyunparse_text.specs.Tokens.{PlainToken, PlainLine}
 
 abbrev pub is_indent : PlainToken → Bool

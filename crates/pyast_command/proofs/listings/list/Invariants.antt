@@ -1,6 +1,6 @@
 use Rattle.std.proofs.Common.{◌≡◌, ◌+◌, ◌-◌, ◌^◌, ◌<◌, string_bytes}
 use Rattle.pysource.specs.Taking.{fails}
-use Rattle.pylex.specs.Steps.{most_entries}
+use Rattle.pylex_listing.specs.Steps.{most_entries}
 use Rattle.pyast_command.proofs.ListLemmas.{Came}
 use Rattle.pyast_command.proofs.listings.list.Given as goal
 

@@ -1,6 +1,6 @@
 use Rattle.std.proofs.Common.{[], arith}
 use Rattle.pylex.proofs.Listers.Ending.{closing_dedent, closing_marker, closing_end}
-use Rattle.pylex.specs.declared.kind.Kind.TheVariants as kinds
+use Rattle.pylex_listing.specs.declared.kind.Kind.TheVariants as kinds
 use Rattle.pylex.proofs.Listers.Ranges.{mark_range}
 use Rattle.pylex.proofs.ends.closing_step.Goals as goal
 

@@ -1,6 +1,6 @@
 use Rattle.std.proofs.Common.{[], sym}
 use Rattle.std.specs.Prelude.{option_map}
-use Rattle.pylex.specs.Listing.{of_line}
+use Rattle.pylex_listing.specs.Listing.{of_line}
 use Rattle.pylex.specs.LineState.{with_levels}
 use Rattle.pylex.proofs.Listers.Ending.{stop_in, line_in, open_in, tail_in, given_empty}
 use Rattle.pylex.proofs.Listers.Ranges.{given_at}

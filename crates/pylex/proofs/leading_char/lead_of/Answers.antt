@@ -1,7 +1,7 @@
 use Rattle.std.proofs.Common.{◌≡◌, length, sym, ap, arith}
 use Rattle.std.proofs.lemmas.Bool.Decides.{nat_tests}
-use Rattle.pylex.specs.declared.leading_char.LeadingChar.TheVariants.{Nothing}
-use Rattle.pylex.specs.Machine.{lead_after}
+use Rattle.pylex_listing.specs.declared.leading_char.LeadingChar.TheVariants.{Nothing}
+use Rattle.pylex_listing.specs.Machine.{lead_after}
 use Rattle.pylex.proofs.MachineLaws.Walking.{no_chars}
 use Rattle.pylex.proofs.leading_char.lead_of.Goals as goal
 

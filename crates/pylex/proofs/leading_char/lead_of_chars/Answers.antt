@@ -1,9 +1,9 @@
 use Rattle.std.proofs.Common.{◌≡◌, ap, ◌∙◌, sym, rules, arith}
 use Rattle.std.specs.Str.{chars}
 use Rattle.std.specs.Str.Iter.{chars_rest}
-use Rattle.pylex.specs.declared.leading_char.LeadingChar.{LeadingChar}
-use Rattle.pylex.specs.declared.leading_char.LeadingChar.TheVariants.{Nothing}
-use Rattle.pylex.specs.Machine.{lead_after}
+use Rattle.pylex_listing.specs.declared.leading_char.LeadingChar.{LeadingChar}
+use Rattle.pylex_listing.specs.declared.leading_char.LeadingChar.TheVariants.{Nothing}
+use Rattle.pylex_listing.specs.Machine.{lead_after}
 use Rattle.pylex.proofs.Texts.Plain.{plain_in_line, in_line_past, begun, spaces_front}
 use Rattle.pylex.proofs.MachineLaws.Walking.{Past, past, no_chars}
 use Rattle.pylex.proofs.leading_char.lead_of_chars.Goals as goal

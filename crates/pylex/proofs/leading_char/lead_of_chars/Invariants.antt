@@ -1,8 +1,8 @@
 use Rattle.std.proofs.Common.{◌≡◌}
 use Rattle.std.specs.Str.{chars, IsUtf8}
 use Rattle.std.specs.Str.Iter.{chars_rest}
-use Rattle.pylex.specs.declared.leading_char.LeadingChar.TheVariants.{Nothing}
-use Rattle.pylex.specs.Machine.{lead_after}
+use Rattle.pylex_listing.specs.declared.leading_char.LeadingChar.TheVariants.{Nothing}
+use Rattle.pylex_listing.specs.Machine.{lead_after}
 use Rattle.pylex.proofs.Texts.Plain.{AllInLine}
 use Rattle.pylex.proofs.leading_char.lead_of_chars.Given as goal
 

@@ -1,8 +1,8 @@
 use Rattle.std.proofs.Common.{ap, ◌∙◌, sym, arith}
 use Rattle.std.specs.Str.{chars}
 use Rattle.std.specs.Str.Iter.{chars_rest}
-use Rattle.pylex.specs.declared.leading_char.LeadingChar.{LeadingChar}
-use Rattle.pylex.specs.Machine.{place_past, lead_after}
+use Rattle.pylex_listing.specs.declared.leading_char.LeadingChar.{LeadingChar}
+use Rattle.pylex_listing.specs.Machine.{place_past, lead_after}
 use Rattle.pylex.proofs.MachineLaws.Walking.{Past, past, no_chars, advance_feed, advance_other}
 use Rattle.pylex.proofs.leading_char.walk_chars.Goals as goal
 

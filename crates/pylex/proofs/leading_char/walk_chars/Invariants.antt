@@ -1,7 +1,7 @@
 use Rattle.std.proofs.Common.{◌≡◌, ◌+◌, ◌≤◌, length}
 use Rattle.std.specs.Str.{chars, IsUtf8}
 use Rattle.std.specs.Str.Iter.{chars_rest}
-use Rattle.pylex.specs.Machine.{place_past, lead_after}
+use Rattle.pylex_listing.specs.Machine.{place_past, lead_after}
 use Rattle.pylex.proofs.leading_char.walk_chars.Given as goal
 
 abbrev pub invariant-loop-c : goal.invariant-loop-c

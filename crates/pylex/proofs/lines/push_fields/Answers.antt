@@ -5,7 +5,7 @@ use Rattle.std.specs.String.{string_bytes}
 use Rattle.std.proofs.lemmas.List.{append_assoc}
 use Rattle.std.proofs.lemmas.Result.{on_ok_weaker}
 use Rattle.pysource.specs.Reprs.{repr_text}
-use Rattle.pylex.specs.ListingLines.{filled, shown_name, shown_range}
+use Rattle.pylex_listing.specs.ListingLines.{filled, shown_name, shown_range}
 use Rattle.pylex.proofs.Texts.LinesLemmas.{three_parts}
 use Rattle.pylex.proofs.lines.push_fields.Goals as goal
 

@@ -2,7 +2,7 @@ use Rattle.std.proofs.Common.{◌≡◌, ◌++◌, ◌-◌, ◌+◌, length, sym
 use Rattle.std.specs.Str.{IsAscii}
 use Rattle.std.specs.String.{string_bytes}
 use Rattle.std.proofs.lemmas.Result.{on_ok_weaker}
-use Rattle.pylex.specs.ListingLines.{shown_range}
+use Rattle.pylex_listing.specs.ListingLines.{shown_range}
 use Rattle.pylex.proofs.Texts.LinesLemmas.{short_range, wide_range, filled_range_ascii}
 use Rattle.pylex.proofs.lines.push_range.Goals as goal
 

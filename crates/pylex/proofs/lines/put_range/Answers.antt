@@ -1,5 +1,5 @@
 use Rattle.std.proofs.Common.{◌++◌, ◌∷◌, drop, ap, ◌∙◌}
-use Rattle.pylex.specs.ListingLines.{shown_place}
+use Rattle.pylex_listing.specs.ListingLines.{shown_place}
 use Rattle.pylex.proofs.Texts.LinesLemmas.{range_front}
 use Rattle.pylex.proofs.lines.put_range.Goals as goal
 

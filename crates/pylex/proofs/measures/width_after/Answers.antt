@@ -1,7 +1,7 @@
 use Rattle.std.proofs.Common.{ℕ, ap, ◌∙◌, sym, arith}
 use Rattle.std.specs.Str.{chars}
 use Rattle.std.specs.Str.Iter.{chars_rest}
-use Rattle.pylex.specs.Indentation.{width_from}
+use Rattle.pylex_listing.specs.Indentation.{width_from}
 use Rattle.pylex.proofs.Texts.Plain.{spaces_width}
 use Rattle.pylex.proofs.MachineLaws.Walking.{Past, past, no_chars, width_more, width_none}
 use Rattle.pylex.proofs.measures.width_after.Goals as goal

@@ -1,8 +1,8 @@
 use Rattle.std.proofs.Common.{◌≡◌, ◌+◌, ◌*◌, ◌≤◌, length}
 use Rattle.std.specs.Str.{chars, IsUtf8}
 use Rattle.std.specs.Str.Iter.{chars_rest}
-use Rattle.pylex.specs.Indentation.{width_from}
-use Rattle.pylex.specs.Margins.{width_by_one, blanks_of}
+use Rattle.pylex_listing.specs.Indentation.{width_from}
+use Rattle.pylex_listing.specs.Margins.{width_by_one, blanks_of}
 use Rattle.pylex.proofs.measures.widths_in.Given as goal
 
 abbrev pub invariant-loop-c : goal.invariant-loop-c

@@ -4,7 +4,7 @@ use Rattle.pylex_lexeme.specs.declared.lexeme.Class.{Class}
 use Rattle.pylex_lexeme.specs.Cuts.{Cuts, begins_significant}
 use Rattle.pylex_lexeme.specs.Lexemes.{is_significant_class}
 use Rattle.pylex.proofs.Listers.Finding.{stays_there, settles_same, entry_found, some_bytes, stands_after, room_after, behind_cut}
-use Rattle.pylex.proofs.Listers.Finding.{significant_is}
+use Rattle.pylex_listing.proofs.Callers.{significant_is}
 use Rattle.pylex.proofs.MachineLaws.Told.{tells}
 use Rattle.pylex.proofs.peeked.margin_entry.Goals as goal
 

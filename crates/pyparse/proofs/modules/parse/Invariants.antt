@@ -1,5 +1,5 @@
 use Rattle.std.proofs.Common.{◌≡◌, ◌-◌, length}
-use Rattle.pylex.specs.Listing.{in_characters}
+use Rattle.pylex_listing.specs.Listing.{in_characters}
 use Rattle.pytoken.specs.Tokens.{lines}
 use Rattle.pyparse.specs.Inner.Progressing.{IsProgress}
 use Rattle.pyparse.proofs.modules.parse.Given as goal

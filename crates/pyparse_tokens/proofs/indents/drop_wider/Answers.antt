@@ -1,7 +1,7 @@
 use Rattle.std.proofs.Common.{◌≡◌, ◌-◌, false, true, List, ◌++◌, [], ◌∷◌, length, take, rules, Some, sym, subst, ap, ◌∙◌, arith}
 use Rattle.std.specs.Prelude.{nat_lt, slice_get}
 use Rattle.std.proofs.lemmas.Bool.Decides.{nat_tests}
-use Rattle.pylex.specs.declared.margins.Widths.{Widths}
+use Rattle.pylex_listing.specs.declared.margins.Widths.{Widths}
 use Rattle.pyparse_tokens.specs.Inner.Indenting.{Drops}
 use Rattle.pyparse_tokens.proofs.RisingLemmas.{Dropped, drops_on, last_of, stops_narrower}
 use Rattle.pyparse_tokens.proofs.indents.drop_wider.Goals as goal

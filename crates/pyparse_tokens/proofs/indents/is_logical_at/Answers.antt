@@ -1,7 +1,7 @@
 use Rattle.std.proofs.Common.{ℕ, List, length, drop, sym, ap, ◌∙◌}
 use Rattle.std.specs.Str.{chars}
 use Rattle.pylex_lexeme.specs.Cuts.{begins_significant}
-use Rattle.pylex.specs.Margins.{blanks_of}
+use Rattle.pylex_listing.specs.Margins.{blanks_of}
 use Rattle.pyparse_tokens.proofs.IndentLemmas.{line_of}
 use Rattle.pyparse_tokens.proofs.indents.is_logical_at.Goals as goal
 

@@ -1,7 +1,7 @@
 use Rattle.std.proofs.Common.{ℕ, List, ◌+◌, length, ap, ap₂, ◌∙◌, arith}
 use Rattle.std.specs.Str.{chars}
 use Rattle.pysource.specs.Places.{place_at}
-use Rattle.pylex.specs.Margins.{blanks_of}
+use Rattle.pylex_listing.specs.Margins.{blanks_of}
 use Rattle.pyparse_tokens.proofs.IndentLemmas.{seam, line_of, whole_of}
 use Rattle.pyparse_tokens.proofs.indents.start_of.Goals as goal
 

@@ -1,9 +1,9 @@
 use Rattle.std.proofs.Common.{rules, ◌≡◌, ℕ, true, length, take, sym, ap, subst, ◌∙◌, arith, Option, Some, None}
 use Rattle.std.specs.Prelude.{IfErr, not, is_some}
 use Rattle.std.proofs.lemmas.Result.{IfOk-weaker}
-use Rattle.pylex.specs.declared.entries.Step.TheVariants as steps
-use Rattle.pylex.specs.Listing.{in_characters, listing}
-use Rattle.pylex.specs.Steps.{entries_of}
+use Rattle.pylex_listing.specs.declared.entries.Step.TheVariants as steps
+use Rattle.pylex_listing.specs.Listing.{in_characters, listing}
+use Rattle.pylex_listing.specs.Steps.{entries_of}
 use Rattle.pytoken.specs.declared.refusals.Refusal.{Refusal}
 use Rattle.pyparse_marks.specs.Spans.{emptied}
 use Rattle.pyparse_tokens.specs.Answers.{Tells}

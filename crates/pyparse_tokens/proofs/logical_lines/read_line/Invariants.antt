@@ -1,6 +1,6 @@
 use Rattle.std.proofs.Common.{◌≡◌, ◌-◌, length}
-use Rattle.pylex.specs.Listing.{in_characters, listing}
-use Rattle.pylex.specs.Steps.{entries_of}
+use Rattle.pylex_listing.specs.Listing.{in_characters, listing}
+use Rattle.pylex_listing.specs.Steps.{entries_of}
 use Rattle.pyparse_marks.specs.Spans.{emptied}
 use Rattle.pyparse_tokens.specs.Inner.Marking.{KeepsMarks}
 use Rattle.pyparse_tokens.specs.Inner.Walking.{Reads}

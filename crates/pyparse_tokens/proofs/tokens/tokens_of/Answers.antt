@@ -1,11 +1,11 @@
 use Rattle.std.proofs.Common.{◌≡◌, ℕ, List, take, map, sym, ap, subst, ◌∙◌, arith, Option, None, length-take}
 use Rattle.std.specs.Prelude.{IfOk, IfErr, OnOk}
 use Rattle.std.specs.Str.{chars}
-use Rattle.pylex.specs.declared.entries.Entry.{Entry}
-use Rattle.pylex.specs.declared.entries.Step.TheVariants as steps
-use Rattle.pylex.specs.Listing.{in_characters, listing}
+use Rattle.pylex_listing.specs.declared.entries.Entry.{Entry}
+use Rattle.pylex_listing.specs.declared.entries.Step.TheVariants as steps
+use Rattle.pylex_listing.specs.Listing.{in_characters, listing}
 use Rattle.pylex.specs.Listers.{StandsIn}
-use Rattle.pylex.specs.Steps.{entries_of}
+use Rattle.pylex_listing.specs.Steps.{entries_of}
 use Rattle.pylex.proofs.Callers.{entry_lies}
 use Rattle.pytoken.specs.declared.refusals.Refusal.{Refusal}
 use Rattle.pytoken.specs.Tokens.{Token}

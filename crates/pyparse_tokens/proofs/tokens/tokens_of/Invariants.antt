@@ -1,9 +1,9 @@
 use Rattle.std.proofs.Common.{◌≡◌, ◌-◌, ◌≤◌, length, take}
 use Rattle.std.specs.Str.{chars}
-use Rattle.pylex.specs.Listing.{in_characters, listing}
-use Rattle.pylex.specs.Laws.{IsWhole, AllLie}
+use Rattle.pylex_listing.specs.Listing.{in_characters, listing}
+use Rattle.pylex_listing.specs.Laws.{IsWhole, AllLie}
 use Rattle.pylex.specs.Listers.{StandsIn}
-use Rattle.pylex.specs.Steps.{most_entries, entries_of}
+use Rattle.pylex_listing.specs.Steps.{most_entries, entries_of}
 use Rattle.pytoken.specs.Laws.{TokensAreSound}
 use Rattle.pyparse_tokens.specs.Inner.Gathering.{Gathered}
 use Rattle.pyparse_tokens.proofs.tokens.tokens_of.Given as goal

@@ -1,7 +1,7 @@
 use Rattle.std.proofs.Common.{◌≡◌, ◌∙◌, ◌++◌, ap, false}
 use Rattle.std.proofs.lemmas.Result.{IfOk-equal}
 use Rattle.pyfloat.specs.FloatTexts.{imaginary_source}
-use Rattle.pylex.specs.declared.kind.Kind.TheVariants as kinds
+use Rattle.pylex_listing.specs.declared.kind.Kind.TheVariants as kinds
 use Rattle.pytoken.proofs.Callers.Numerals.{imaginary_numeral}
 use Rattle.pyunparse_text.specs.Folds.{anywhere}
 use Rattle.pyunparse.proofs.Texts.NumberLemmas.{ascii_bytes}

@@ -2,7 +2,7 @@ use Rattle.std.proofs.Common.{◌≡◌, ◌∙◌, ◌++◌, ap, arith, false}
 use Rattle.std.proofs.lemmas.Result.{IfOk-equal}
 use Rattle.pynatural.specs.Decimals.{decimal_text}
 use Rattle.pynatural.proofs.Callers.Decimals.{decimal_text_ascii, decimal_text_is}
-use Rattle.pylex.specs.declared.kind.Kind.TheVariants as kinds
+use Rattle.pylex_listing.specs.declared.kind.Kind.TheVariants as kinds
 use Rattle.pyunparse_text.specs.Folds.{anywhere}
 use Rattle.pyunparse.proofs.Texts.NumberLemmas.{ascii_bytes}
 use Rattle.pyunparse.proofs.constants.put_integer.Goals as goal

@@ -1,7 +1,7 @@
 use Rattle.std.proofs.Common.{ap, false, sym, true}
 use Rattle.std.proofs.lemmas.Result.{IfOk-equal}
 use Rattle.std.proofs.lemmas.Str.{encodes-chars}
-use Rattle.pylex.specs.declared.kind.Kind.TheVariants as kinds
+use Rattle.pylex_listing.specs.declared.kind.Kind.TheVariants as kinds
 use Rattle.pyunparse_text.specs.Folds.{anywhere}
 use Rattle.pyunparse_text.proofs.tokens.put_text.Goals as goal
 

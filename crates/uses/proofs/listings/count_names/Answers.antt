@@ -1,6 +1,6 @@
 use Rattle.std.proofs.Common.{◌≡◌, ℕ, sym, subst, ◌∙◌, arith}
-use Rattle.pylex.specs.declared.entries.Step.TheVariants as steps
-use Rattle.pylex.specs.Listing.{in_characters}
+use Rattle.pylex_listing.specs.declared.entries.Step.TheVariants as steps
+use Rattle.pylex_listing.specs.Listing.{in_characters}
 use Rattle.pylex.specs.Listers.{StandsIn}
 use Rattle.uses.proofs.ListingLemmas.{moved, behind_name, behind_other, names_left, no_entry, none_left}
 use Rattle.uses.proofs.listings.count_names.Goals as goal

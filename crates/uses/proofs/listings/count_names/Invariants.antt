@@ -1,7 +1,7 @@
 use Rattle.std.proofs.Common.{◌≡◌, ◌+◌, ◌-◌, ◌≤◌}
-use Rattle.pylex.specs.Listing.{in_characters}
+use Rattle.pylex_listing.specs.Listing.{in_characters}
 use Rattle.pylex.specs.Listers.{StandsIn}
-use Rattle.pylex.specs.Steps.{most_entries}
+use Rattle.pylex_listing.specs.Steps.{most_entries}
 use Rattle.uses.proofs.ListingLemmas.{names_left}
 use Rattle.uses.proofs.listings.count_names.Given as goal
 

@@ -1,7 +1,7 @@
 use denote.Enum.Bare.{same_true, same_false}
 use Rattle.std.proofs.Common.{◌≡◌, sym, ◌∙◌, rules, arith}
-use Rattle.pylex.specs.contracts.kind.Kind.{the_type}
-use Rattle.pylex.specs.declared.kind.Kind.TheVariants as kinds
+use Rattle.pylex_listing.specs.contracts.kind.Kind.{the_type}
+use Rattle.pylex_listing.specs.declared.kind.Kind.TheVariants as kinds
 use Rattle.uses.proofs.StreamLemmas.{begun, comment_is, other_is, one_more, goes_on, finds, finds_none}
 use Rattle.uses.proofs.streams.first_comment.Goals as goal
 

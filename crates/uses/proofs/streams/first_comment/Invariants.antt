@@ -1,5 +1,5 @@
 use Rattle.std.proofs.Common.{◌-◌}
-use Rattle.pylex.specs.Steps.{most_entries}
+use Rattle.pylex_listing.specs.Steps.{most_entries}
 use Rattle.uses.proofs.StreamLemmas.{Searches}
 use Rattle.uses.proofs.streams.first_comment.Given as goal
 

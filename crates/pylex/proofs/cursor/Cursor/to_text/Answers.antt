@@ -3,7 +3,7 @@ use Rattle.std.specs.String.{string_bytes}
 use Rattle.pylex.specs.Cursors.{CursorParts, cursor_text, part, with_commas}
 use Rattle.pylex.proofs.Texts.CursorLemmas.{cursor_written}
 use Rattle.pylex.proofs.cursor.Cursor.to_text.Goals as goal
-use Rattle.pylex.specs.Lines.{count_if}
+use Rattle.pylex_listing.specs.Lines.{count_if}
 
 pub returns : goal.returns
 returns c =

@@ -1,12 +1,11 @@
 use Rattle.std.proofs.Common.{subst}
 use Rattle.std.specs.Str.{IsUtf8}
-use Rattle.pylex.specs.Listing.{in_characters}
-use Rattle.pylex.proofs.Levels.Stack.{push}
+use Rattle.pylex_listing.specs.Listing.{in_characters}
+use Rattle.pylex_listing.proofs.Callers.{push, is_cut, longest_wins}
 use Rattle.pylex.proofs.Listing.Blocks.{closes_blocks}
 use Rattle.pylex.proofs.Listing.Covering.{is_covered}
 use Rattle.pylex.proofs.Listing.Ends.{is_whole}
 use Rattle.pylex.proofs.Listing.Exactness.{have_exact}
-use Rattle.pylex.proofs.MachineLaws.Lexed.{is_cut, longest_wins}
 use Rattle.pylex.proofs.Listing.Lying.{entries_lie}
 use Rattle.pylex.proofs.Listers.Moving.{keeps_first, shown_first}
 use Rattle.pylex.proofs.Listing.Order.{is_ordered}

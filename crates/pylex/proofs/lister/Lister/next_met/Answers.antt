@@ -4,15 +4,15 @@ use Rattle.std.specs.declared.alloc.AllocError.{AllocError}
 use Rattle.std.specs.Str.{chars}
 use Rattle.pysource.specs.declared.faults.LineFault.{LineFault}
 use Rattle.pylex.specs.declared.line_state.LineState.{LineState}
-use Rattle.pylex.specs.declared.entries.Entry.{Entry}
-use Rattle.pylex.specs.declared.entries.Step.{Step}
-use Rattle.pylex.specs.declared.entries.Step.TheVariants as steps
+use Rattle.pylex_listing.specs.declared.entries.Entry.{Entry}
+use Rattle.pylex_listing.specs.declared.entries.Step.{Step}
+use Rattle.pylex_listing.specs.declared.entries.Step.TheVariants as steps
 use Rattle.pylex.specs.declared.peeked.Peeked.{Peeked}
 use Rattle.pylex.specs.declared.machine.Machine.{Machine}
 use Rattle.pylex.specs.declared.peeked.Peeked.TheVariants as peeked
-use Rattle.pylex.specs.Listing.{of_line}
+use Rattle.pylex_listing.specs.Listing.{of_line}
 use Rattle.pylex.specs.Listers.{Listed, NextStep, AwaitsIndent}
-use Rattle.pylex.specs.Machine.{remaining}
+use Rattle.pylex_listing.specs.Machine.{remaining}
 use Rattle.pylex.specs.Inner.MachineSteps.{shown_from, left_by, Holds}
 use Rattle.pylex.specs.LineState.{with_levels}
 use Rattle.pylex.proofs.Listers.Moving.{awaits_indent}

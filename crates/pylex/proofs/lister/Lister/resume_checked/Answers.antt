@@ -1,7 +1,7 @@
 use Rattle.std.proofs.Common.{◌≡◌, ◌+◌, ℕ, subst, ap, sym, ◌∙◌, arith, rules}
 use Rattle.pylex.specs.Cursors.{cursor}
-use Rattle.pylex.specs.Listing.{in_characters}
-use Rattle.pylex.specs.Steps.{entries_in}
+use Rattle.pylex_listing.specs.Listing.{in_characters}
+use Rattle.pylex_listing.specs.Steps.{entries_in}
 use Rattle.pylex.specs.Listers.{StandsIn}
 use Rattle.pylex.proofs.Listers.Moving.{entry_due}
 use Rattle.pylex.proofs.lister.Lister.resume_checked.Goals as goal

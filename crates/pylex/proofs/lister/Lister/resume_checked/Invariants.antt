@@ -1,5 +1,5 @@
 use Rattle.std.proofs.Common.{◌≡◌}
-use Rattle.pylex.specs.Listing.{in_characters}
+use Rattle.pylex_listing.specs.Listing.{in_characters}
 use Rattle.pylex.specs.Listers.{StandsIn}
 use Rattle.pylex.proofs.lister.Lister.resume_checked.Given as goal
 

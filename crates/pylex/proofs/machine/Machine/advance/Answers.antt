@@ -4,21 +4,21 @@ use Rattle.std.specs.Prelude.{Result, Ok, Err, OnErr}
 use Rattle.std.specs.declared.alloc.AllocError.{AllocError}
 use Rattle.std.specs.Str.{chars}
 use Rattle.std.proofs.lemmas.List.{length-take-le}
-use Rattle.pylex.specs.declared.entries.Entry.{Entry}
-use Rattle.pylex.specs.declared.entries.ListingFault.{ListingFault}
-use Rattle.pylex.specs.declared.entries.Step.{Step}
-use Rattle.pylex.specs.declared.entries.Step.TheVariants as steps
+use Rattle.pylex_listing.specs.declared.entries.Entry.{Entry}
+use Rattle.pylex_listing.specs.declared.entries.ListingFault.{ListingFault}
+use Rattle.pylex_listing.specs.declared.entries.Step.{Step}
+use Rattle.pylex_listing.specs.declared.entries.Step.TheVariants as steps
 use Rattle.pylex.specs.declared.peeked.Peeked.{Peeked}
 use Rattle.pylex.specs.declared.peeked.Peeked.TheVariants as peeked
 use Rattle.pylex.specs.Listers.{Listed}
 use Rattle.pylex.specs.declared.machine.Machine.{Machine}
 use Rattle.pylex.specs.Inner.MachineSteps.{shown_from, left_by, Holds, Ranges, StaysBehind}
-use Rattle.pylex.specs.Steps.{entries_in, first_step}
+use Rattle.pylex_listing.specs.Steps.{entries_in, first_step}
 use Rattle.pylex.proofs.Listers.Moving.{ascending-take, leads_moves, leads_fault, leads_stop, goes_entry, goes_indent, goes_dedent}
 use Rattle.pylex.proofs.Listers.Moving.{goes_end, stop_in}
 use Rattle.pylex_lexeme.specs.Chars.{bytes_in}
-use Rattle.pylex.specs.Machine.{State}
-use Rattle.pylex.specs.declared.kind.Kind.TheVariants as kinds
+use Rattle.pylex_listing.specs.Machine.{State}
+use Rattle.pylex_listing.specs.declared.kind.Kind.TheVariants as kinds
 use Rattle.pylex.proofs.Listers.Ranges.{entry_range, measuring_comes, measuring_anew, indent_range, mark_range, column_within}
 use Rattle.pylex.proofs.machine.Machine.advance.Goals as goal
 

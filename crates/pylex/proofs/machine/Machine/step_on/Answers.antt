@@ -1,7 +1,7 @@
 use Rattle.std.proofs.Common.{◌≡◌, [], take, refl, ap, sym, ◌∙◌, arith}
 use Rattle.std.specs.Str.{chars}
 use Rattle.pylex.specs.Listers.{Listed}
-use Rattle.pylex.specs.Machine.{State}
+use Rattle.pylex_listing.specs.Machine.{State}
 use Rattle.pylex.specs.Inner.MachineSteps.{shown_from}
 use Rattle.pylex.proofs.Listers.Moving.{leads_moves, goes_entry}
 use Rattle.pylex.proofs.Listers.Ranges.{entry_range, measuring_anew}

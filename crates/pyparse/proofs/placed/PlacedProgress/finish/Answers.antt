@@ -1,6 +1,6 @@
 use Rattle.pytree_node.specs.TreeOf.{module_of}
 use Rattle.std.proofs.Common.{map}
-use Rattle.pylex.specs.Listing.{in_characters}
+use Rattle.pylex_listing.specs.Listing.{in_characters}
 use Rattle.pyparse_marks.specs.Spans.{told}
 use Rattle.pyparse.proofs.PlacedEnds.{placed_as}
 use Rattle.pyparse.proofs.placed.PlacedProgress.finish.Goals as goal

@@ -1,5 +1,5 @@
 use Rattle.std.proofs.Common.{◌∙◌, ◌+◌, ◌&&◌, [], List, not, refl, ap, subst, sym, Bool}
-use Rattle.pylex.specs.Listing.{in_characters}
+use Rattle.pylex_listing.specs.Listing.{in_characters}
 use Rattle.pytoken.specs.Inner.Behind.{behind}
 use Rattle.pytoken.specs.Terminals.{Terminal}
 use Rattle.pygrammar.specs.Forms.{is_whole}

@@ -1,7 +1,7 @@
 use Rattle.std.proofs.Common.{ℕ, List, drop, length, sym, ap, ◌∙◌}
 use Rattle.std.specs.Str.{chars}
 use Rattle.pylex_lexeme.specs.Cuts.{begins_significant}
-use Rattle.pylex.specs.Margins.{blanks_of, widths_of}
+use Rattle.pylex_listing.specs.Margins.{blanks_of, widths_of}
 use Rattle.pytoken.specs.Indentation.{margin_at}
 use Rattle.pyparse_tokens.specs.Inner.Indenting.{begins_blank}
 use Rattle.pyparse_tokens.proofs.IndentLemmas.{takes_none, takes_behind, spaced, line_of}

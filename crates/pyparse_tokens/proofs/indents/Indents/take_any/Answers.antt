@@ -1,6 +1,6 @@
 use Rattle.std.proofs.Common.{sym, ap, ◌∙◌}
 use Rattle.std.specs.Str.{chars}
-use Rattle.pylex.specs.Margins.{widths_of}
+use Rattle.pylex_listing.specs.Margins.{widths_of}
 use Rattle.pyparse_tokens.proofs.IndentLemmas.{takes_none}
 use Rattle.pyparse_tokens.proofs.indents.Indents.take_any.Goals as goal
 

@@ -1,7 +1,7 @@
 use Rattle.std.proofs.Common.{◌≡◌, true, false, List, ap, ◌∙◌, sym, subst, refl, Some}
 use Rattle.std.specs.Str.{chars}
 use Rattle.pysource.specs.declared.places.Place.{Place}
-use Rattle.pylex.specs.declared.margins.Widths.{Widths}
+use Rattle.pylex_listing.specs.declared.margins.Widths.{Widths}
 use Rattle.pytoken.specs.declared.refusals.Refusal.TheVariants.{MixedTabs}
 use Rattle.pyparse_tokens.specs.Inner.Indenting.{Drops, are_rising}
 use Rattle.pyparse_tokens.proofs.IndentLemmas.{takes_mixed, takes_line}

@@ -1,5 +1,5 @@
 use Rattle.pytoken.proofs.Callers.Said.{values_are_lawful, tokens_are_sound, extents_differ_in_numbers}
-use Rattle.pylex.specs.Listing.{in_characters}
+use Rattle.pylex_listing.specs.Listing.{in_characters}
 use Rattle.pyparse_tokens.proofs.ListingLemmas.{starts_at}
 use Rattle.pyparse_tokens.proofs.logical_lines.LogicalLines.new.Goals as goal
 

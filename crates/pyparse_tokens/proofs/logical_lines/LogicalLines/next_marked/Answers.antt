@@ -1,6 +1,6 @@
 use Rattle.std.proofs.Common.{◌≡◌, ◌+◌, ℕ, true, false, length, sym, ap, subst, ◌∙◌, refl, Bool, Some, None}
 use Rattle.std.specs.Prelude.{Result, Ok, Err, IfOk, IfErr, if◌then◌else◌}
-use Rattle.pylex.specs.Listing.{Source, in_characters}
+use Rattle.pylex_listing.specs.Listing.{Source, in_characters}
 use Rattle.pytree_node.specs.declared.profiles.Extent.{Extent}
 use Rattle.pytoken.specs.Tokens.{lines}
 use Rattle.pytoken.specs.Refusals.{refusal}

@@ -3,8 +3,8 @@ use Rattle.std.specs.Prelude.{OnOk}
 use Rattle.std.specs.Str.{chars}
 use Rattle.pylex_lexeme.specs.Characters.{left_parenthesis, right_parenthesis}
 use Rattle.pylex_lexeme.specs.declared.kinds.Exact.TheVariants.{LPar, RPar}
-use Rattle.pylex.specs.declared.kind.Kind.{Kind}
-use Rattle.pylex.specs.declared.kind.Kind.TheVariants as kinds
+use Rattle.pylex_listing.specs.declared.kind.Kind.{Kind}
+use Rattle.pylex_listing.specs.declared.kind.Kind.TheVariants as kinds
 use Rattle.pyfstring_tokens.specs.Answers.{field_token}
 use Rattle.pytree_node.specs.declared.profiles.Extent.TheVariants.{Whole}
 use Rattle.pyfstring_tokens.specs.FieldTokens.{FieldToken}

@@ -1,6 +1,6 @@
 use Rattle.std.proofs.Common.{◌∙◌, ◌++◌, ◌∷◌, [], Some, ap, sym}
 use Rattle.std.specs.String.{string_bytes}
-use Rattle.pylex.specs.declared.kind.Kind.TheVariants as kinds
+use Rattle.pylex_listing.specs.declared.kind.Kind.TheVariants as kinds
 use Rattle.pyunparse_text.specs.Told.{Listed, listed}
 use Rattle.pyunparse_text.proofs.Texts.StringLemmas.{ended_in_field, ended_outside, not_closed}
 use Rattle.pyunparse_text.proofs.piece_writer.PieceWriterWriter.end_string.Goals as goal

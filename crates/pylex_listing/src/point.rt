@@ -3,7 +3,7 @@
 ghost use Rattle.std.specs.Prelude.{◌≡◌, ◌+◌, ◌^◌, ◌<◌, length};
 ghost use Rattle.std.specs.Str.{chars};
 ghost use Rattle.pylex_lexeme.specs.Chars.{bytes_in};
-ghost use Rattle.pylex.specs.Machine.{behind, step_of, mark_at};
+ghost use Rattle.pylex_listing.specs.Machine.{behind, step_of, mark_at};
 
 use crate::entries::{Entry, Step};
 use crate::kind::{Exact, Kind};
@@ -19,7 +19,7 @@ pub struct Point {
 
 impl Point {
     /// The point after a line end that begins here, still on its row.
-    pub(crate) fn behind(self, text: &str) -> Point
+    pub fn behind(self, text: &str) -> Point
         requires column { self.place.column + length text.now < 2 ^ 63 }
         requires offset { self.offset + length text.now < 2 ^ 63 }
         requires counted { bytes_in (chars text.now) ≡ length text.now }
@@ -36,7 +36,7 @@ impl Point {
 }
 
 /// The entry from a point to another.
-pub(crate) fn entry_of(kind: Kind, exact: Option<Exact>, from: Point, to: Point) -> Entry
+pub fn entry_of(kind: Kind, exact: Option<Exact>, from: Point, to: Point) -> Entry
     ensures { step_of kind exact from to ≡ Step.Entry result }
 {
     Entry {
@@ -50,7 +50,7 @@ pub(crate) fn entry_of(kind: Kind, exact: Option<Exact>, from: Point, to: Point)
 }
 
 /// An entry of empty text.
-pub(crate) fn mark(kind: Kind, offset: usize, start: Place, end: Place) -> Entry
+pub fn mark(kind: Kind, offset: usize, start: Place, end: Place) -> Entry
     ensures { mark_at kind offset start end ≡ Step.Entry result }
 {
     Entry {

@@ -3,8 +3,8 @@
 use Rattle.std.specs.Prelude.{ℕ, ◌+◌, ◌==◌, List, [], ◌∷◌, if◌then◌else◌}
 use Rattle.std.specs.List.{take_while}
 use Rattle.pylex_lexeme.specs.Chars.{is_blank_char}
-use Rattle.pylex.specs.declared.margins.Widths.{Widths}
-use Rattle.pylex.specs.Indentation.{width_from}
+use Rattle.pylex_listing.specs.declared.margins.Widths.{Widths}
+use Rattle.pylex_listing.specs.Indentation.{width_from}
 use Rattle.pylex_lexeme.specs.Characters.{form_feed}
 
 -- the column after a blank, where a tab counts as one space; a form feed sets 0

@@ -8,10 +8,10 @@ use Rattle.std.proofs.lemmas.List.{append-nil, reverse-append}
 use Rattle.std.proofs.lemmas.List.Sums.{take_while-cons}
 use Rattle.std.proofs.lemmas.Bool.{cases_Bool}
 use Rattle.pylex_lexeme.specs.Chars.{is_blank_char}
-use Rattle.pylex.specs.Listing.{last_line, begins_comment}
-use Rattle.pylex.specs.Machine.{lead_after_char, lead_after, is_hash}
-use Rattle.pylex.specs.declared.leading_char.LeadingChar.{LeadingChar}
-use Rattle.pylex.specs.declared.leading_char.LeadingChar.TheVariants.{Nothing, Hash, Other}
+use Rattle.pylex_listing.specs.Listing.{last_line, begins_comment}
+use Rattle.pylex_listing.specs.Machine.{lead_after_char, lead_after, is_hash}
+use Rattle.pylex_listing.specs.declared.leading_char.LeadingChar.{LeadingChar}
+use Rattle.pylex_listing.specs.declared.leading_char.LeadingChar.TheVariants.{Nothing, Hash, Other}
 
 pub last_push : (t : List ℕ) (c : ℕ) → last_line (t ++ c ∷ []) ≡ cond (c == 10) [] (last_line t ++ c ∷ [])
 unfolding last_line

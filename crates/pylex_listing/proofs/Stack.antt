@@ -9,7 +9,7 @@ use Rattle.std.proofs.lemmas.List.Sums.{take_while-cons}
 use Rattle.std.proofs.lemmas.List.{append-nil}
 use Rattle.std.proofs.lemmas.List.Elements.{filter-append}
 use Rattle.std.proofs.lemmas.Grind.{common_steps}
-use Rattle.pylex.specs.Indentation.{below, is_open, open_levels}
+use Rattle.pylex_listing.specs.Indentation.{below, is_open, open_levels}
 
 open_push : (w v : ℕ) (ws : List ℕ) → is_open (w ∷ ws) v ≡ ((v == 0) || (leb v w && ((v == w) || is_open ws v)))
 open_push w v ws =

@@ -5,23 +5,23 @@ use Rattle.std.specs.List.{list_all, list_any}
 use Rattle.pylex_lexeme.specs.declared.lexeme.Class.TheVariants.{Name, Number, String, Operator, Comment, Blanks, LineEnd, Join}
 use Rattle.pylex_lexeme.specs.declared.kinds.Exact.{Exact}
 use Rattle.pysource.specs.declared.places.Place.{Place}
-use Rattle.pylex.specs.declared.kind.Kind.{Kind}
-use Rattle.pylex.specs.declared.kind.Kind.TheVariants as kinds
-use Rattle.pylex.specs.declared.entries.ListingFault.{ListingFault}
-use Rattle.pylex.specs.declared.entries.ListingError.TheVariants as errors
-use Rattle.pylex.specs.declared.entries.Step.{Step}
-use Rattle.pylex.specs.declared.entries.Step.TheVariants as steps
-use Rattle.pylex.specs.declared.point.Point.{Point}
-use Rattle.pylex.specs.declared.leading_char.LeadingChar.{LeadingChar}
-use Rattle.pylex.specs.declared.leading_char.LeadingChar.TheVariants.{Nothing, Hash, Other}
+use Rattle.pylex_listing.specs.declared.kind.Kind.{Kind}
+use Rattle.pylex_listing.specs.declared.kind.Kind.TheVariants as kinds
+use Rattle.pylex_listing.specs.declared.entries.ListingFault.{ListingFault}
+use Rattle.pylex_listing.specs.declared.entries.ListingError.TheVariants as errors
+use Rattle.pylex_listing.specs.declared.entries.Step.{Step}
+use Rattle.pylex_listing.specs.declared.entries.Step.TheVariants as steps
+use Rattle.pylex_listing.specs.declared.point.Point.{Point}
+use Rattle.pylex_listing.specs.declared.leading_char.LeadingChar.{LeadingChar}
+use Rattle.pylex_listing.specs.declared.leading_char.LeadingChar.TheVariants.{Nothing, Hash, Other}
 use Rattle.pylex_lexeme.specs.Chars.{is_blank_char}
 use Rattle.pylex_lexeme.specs.Operators.{is_closer}
 use Rattle.pylex_lexeme.specs.Lexemes.{Lexeme, cut, left_by_cut, is_join_class}
-use Rattle.pylex.specs.Lines.{is_of_blanks, is_of_line_end, is_significant, opens, closes, count_if}
-use Rattle.pylex.specs.Steps.{fault_at}
-use Rattle.pylex.specs.Indentation.{width_from}
+use Rattle.pylex_listing.specs.Lines.{is_of_blanks, is_of_line_end, is_significant, opens, closes, count_if}
+use Rattle.pylex_listing.specs.Steps.{fault_at}
+use Rattle.pylex_listing.specs.Indentation.{width_from}
 use Rattle.pylex_lexeme.specs.Chars.{bytes_in}
-use Rattle.pylex.specs.Listing.{further, row_after, stop_fault, up_to_end}
+use Rattle.pylex_listing.specs.Listing.{further, row_after, stop_fault, up_to_end}
 use Rattle.pylex_lexeme.specs.Characters.{line_feed, hash}
 
 pub record State : Type 0 where
@@ -50,6 +50,10 @@ lead_after_char f c =
       | Hash ↦ Hash
       | Other ↦ Other
     ]
+
+-- what a line begins with after a character that is neither a blank nor `#`
+abbrev pub begun_by : LeadingChar → LeadingChar
+begun_by f = elim f [ Nothing ↦ Other | Hash ↦ Hash | Other ↦ Other ]
 
 abbrev pub lead_after : LeadingChar → List ℕ → LeadingChar
 lead_after f [] = f

@@ -1,7 +1,7 @@
 //! The types of tokens.
 
 ghost use Rattle.std.specs.Prelude.{◌≡◌};
-ghost use Rattle.pylex.specs.ListingLines.{kind_name};
+ghost use Rattle.pylex_listing.specs.ListingLines.{kind_name};
 
 /// The type of an entry, as the module `token` names them.
 #[derive(Clone, Copy, Debug, PartialEq, Eq)]

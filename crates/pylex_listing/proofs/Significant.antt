@@ -16,7 +16,7 @@ use Rattle.pylex_lexeme.specs.Lexemes.{are_blanks, is_line_end, is_join}
 use Rattle.pylex_lexeme.specs.Numbers.{is_number}
 use Rattle.pylex_lexeme.specs.Operators.{is_operator, exact_of}
 use Rattle.pylex_lexeme.specs.declared.kinds.Exact.{Exact}
-use Rattle.pylex.specs.Lines.{is_significant}
+use Rattle.pylex_listing.specs.Lines.{is_significant}
 use Rattle.pylex_lexeme.specs.Cuts.{TakesLexeme, begins_significant, begins_line_end}
 use Rattle.pylex_lexeme.proofs.Callers.Lexemes.{nothing_takes, comment_takes, blanks_take, feed_takes, both_take, no_end_front}
 use Rattle.pylex_lexeme.proofs.Callers.WholeLines.{len_within}
@@ -226,3 +226,10 @@ plain_at (c ∷ cs) x h e = let l : Lays (c ∷ cs) = lays c cs h in ap signific
 pub all_cut : (cs : List ℕ) → begins_significant cs ≡ false → lexeme_at cs ≡ None → cs ≡ []
 all_cut [] h e = refl
 all_cut (c ∷ cs) h e = let l : Lays (c ∷ cs) = lays c cs h in absurd (some_by (c ∷ cs) l.new l.kind l.takes e)
+
+-- a lexeme makes its line logical exactly where it is seen to
+pub significant_is : (cs : List ℕ) (x : Lexeme) → lexeme_at cs ≡ Some x → is_significant x ≡ begins_significant cs
+significant_is cs x e = ⊎_elim
+    (λ (b : begins_significant cs ≡ true). significant_at cs x b e ∙ sym b)
+    (λ (b : begins_significant cs ≡ false). plain_at cs x b e ∙ sym b)
+    (cases_Bool (begins_significant cs))

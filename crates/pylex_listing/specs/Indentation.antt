@@ -8,12 +8,12 @@ use Rattle.std.specs.Prelude.{count_by, replicate, if◌then◌else◌, None}
 use Rattle.std.specs.List.{list_all, list_any, take_while}
 use Rattle.pysource.specs.Places.{place_after}
 use Rattle.pysource.specs.declared.places.Place.{Place}
-use Rattle.pylex.specs.declared.kind.Kind.TheVariants as kinds
-use Rattle.pylex.specs.declared.entries.ListingError.TheVariants as errors
-use Rattle.pylex.specs.declared.entries.Step.{Step}
+use Rattle.pylex_listing.specs.declared.kind.Kind.TheVariants as kinds
+use Rattle.pylex_listing.specs.declared.entries.ListingError.TheVariants as errors
+use Rattle.pylex_listing.specs.declared.entries.Step.{Step}
 use Rattle.pylex_lexeme.specs.Lexemes.{Lexeme}
-use Rattle.pylex.specs.Lines.{text_before, is_significant, line_so_far, before_line, is_at_margin}
-use Rattle.pylex.specs.Steps.{piece, mark, fault_at}
+use Rattle.pylex_listing.specs.Lines.{text_before, is_significant, line_so_far, before_line, is_at_margin}
+use Rattle.pylex_listing.specs.Steps.{piece, mark, fault_at}
 use Rattle.pylex_lexeme.specs.Characters.{tab, form_feed}
 
 -- the column after a blank (reference 2.1.8)

@@ -8,21 +8,22 @@ use Rattle.std.proofs.lemmas.Bool.{cases_Bool}
 use Rattle.pysource.specs.Places.{place_after}
 use Rattle.pylex_lexeme.specs.declared.lexeme.Class.{Class}
 use Rattle.pylex_lexeme.specs.declared.lexeme.Class.TheVariants.{Name, Number, String, Operator, Comment, Blanks, LineEnd, Join}
-use Rattle.pylex.specs.declared.entries.ListingFault.{ListingFault}
-use Rattle.pylex.specs.declared.entries.ListingError.TheVariants as errors
-use Rattle.pylex.specs.declared.entries.Step.{Step}
-use Rattle.pylex.specs.declared.entries.Step.TheVariants as steps
+use Rattle.pylex_listing.specs.declared.entries.ListingFault.{ListingFault}
+use Rattle.pylex_listing.specs.declared.entries.ListingError.TheVariants as errors
+use Rattle.pylex_listing.specs.declared.entries.Step.{Step}
+use Rattle.pylex_listing.specs.declared.entries.Step.TheVariants as steps
 use Rattle.pylex_lexeme.specs.Lexemes.{Lexeme, cut, left_by_cut}
-use Rattle.pylex.specs.Lines.{text_before, depth, closes, line_so_far, before_line, is_of_line_end, is_at_margin, is_logical}
-use Rattle.pylex.specs.Steps.{mark}
+use Rattle.pylex_listing.specs.Lines.{text_before, depth, closes, line_so_far, before_line, is_of_line_end, is_at_margin, is_logical}
+use Rattle.pylex_listing.specs.Steps.{mark}
 use Rattle.pylex_lexeme.specs.Chars.{bytes_in}
-use Rattle.pylex.specs.Indentation.{width_from, width_at, widths, open_levels, layout_by, layout}
-use Rattle.pylex.specs.Listing.{Source, entry_of, steps_of, line_end_of_last, end_place, tail, stop, steps_from, up_to_end, listing, origin}
-use Rattle.pylex.specs.declared.kind.Kind.TheVariants as kinds
-use Rattle.pylex.specs.Machine.{State, layout_of, entry_by, gives, last_line_end, tail_of, stop_of, run, remaining, after, behind_steps}
-use Rattle.pylex.specs.Machine.{first_state, still}
-use Rattle.pylex.proofs.MachineLaws.Law.{state_of, state_push, IsBalanced, balanced_push, place_after-append, bytes_in-append}
-use Rattle.pylex.proofs.MachineLaws.LeadingChar.{hash_is}
+use Rattle.pylex_listing.specs.Indentation.{width_from, width_at, widths, open_levels, layout_by, layout}
+use Rattle.pylex_listing.specs.Listing.{Source, entry_of, steps_of, line_end_of_last, end_place, tail, stop, steps_from, up_to_end, listing}
+use Rattle.pylex_listing.specs.Listing.{origin}
+use Rattle.pylex_listing.specs.declared.kind.Kind.TheVariants as kinds
+use Rattle.pylex_listing.specs.Machine.{State, layout_of, entry_by, gives, last_line_end, tail_of, stop_of, run, remaining, after}
+use Rattle.pylex_listing.specs.Machine.{behind_steps, first_state, still}
+use Rattle.pylex_listing.proofs.Law.{state_of, state_push, IsBalanced, balanced_push, place_after-append, bytes_in-append}
+use Rattle.pylex_listing.proofs.Leads.{hash_is}
 
 -- The text of a line so far is behind the text of the lines before it.
 pub line_split : (before : List Lexeme) → text_before (before_line before) ++ text_before (line_so_far before) ≡ text_before before

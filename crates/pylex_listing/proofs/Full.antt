@@ -9,7 +9,11 @@ use Rattle.pylex_lexeme.specs.declared.lexeme.Class.{Class}
 use Rattle.pylex_lexeme.specs.Lexemes.{Lexeme, class_in, lexeme_len, lexeme_at, cut, cut_after, list_of}
 use Rattle.pylex_lexeme.specs.Chars.{bytes_in}
 use Rattle.pylex_lexeme.proofs.Callers.Lexemes.{class_none}
-use Rattle.pylex.proofs.Resumption.Resume.{Full}
+
+-- Each lexeme has text.
+abbrev pub Full : List Lexeme → Type 0
+Full [] = Unit {0}
+Full (x ∷ xs) = (0 < bytes_in x.text) × Full xs
 
 pub text_is : (t : List ℕ) (o : Option Class) (x : Lexeme) → option_map (λ k. record { «class» = k; text = t }) o ≡ Some x → x.text ≡ t
 text_is t None x e = cc
@@ -27,6 +31,10 @@ full_by cs (c ∷ t) x e =
 pub lexeme_full : (cs : List ℕ) (x : Lexeme) → lexeme_at cs ≡ Some x → 0 < bytes_in x.text
 unfolding lexeme_at
 lexeme_full cs x e = full_by cs (take (lexeme_len cs) cs) x e
+
+pub lexeme_front : (cs : List ℕ) (x : Lexeme) → lexeme_at cs ≡ Some x → x.text ≡ take (lexeme_len cs) cs
+unfolding lexeme_at
+lexeme_front cs x e = text_is (take (lexeme_len cs) cs) (class_in cs (take (lexeme_len cs) cs)) x e
 
 full_step : (cs : List ℕ) (o : Option Lexeme) (f : Lexeme → List Lexeme) → ((x : Lexeme) → Full (f x))
     → ((x : Lexeme) → o ≡ Some x → 0 < bytes_in x.text) → Full (list_of (option_map (λ x. x ∷ f x) o))

@@ -3,17 +3,16 @@ use Rattle.std.specs.Prelude.{◌≡◌, ℕ, ◌+◌, ◌≤◌, ◌<◌, nat_l
 use Rattle.std.specs.Prelude.{slice_range, Some, None, All, AllPairs, IsTrue, ◌||◌}
 use Rattle.std.specs.List.{flat_map}
 use Rattle.std.specs.Str.{chars, encode_utf8_all, IsCharBoundary}
-use Rattle.pylex.specs.declared.kind.Kind.TheVariants as kinds
-use Rattle.pylex.specs.declared.entries.Entry.{Entry}
-use Rattle.pylex.specs.declared.entries.Step.{Step}
-use Rattle.pylex.specs.declared.entries.Step.TheVariants as steps
+use Rattle.pylex_listing.specs.declared.kind.Kind.TheVariants as kinds
+use Rattle.pylex_listing.specs.declared.entries.Entry.{Entry}
+use Rattle.pylex_listing.specs.declared.entries.Step.{Step}
+use Rattle.pylex_listing.specs.declared.entries.Step.TheVariants as steps
 use Rattle.pylex_lexeme.specs.Lexemes.{Lexeme, are_blanks, is_join, class_in, lexeme_at, cut, left_by_cut}
 use Rattle.pylex_lexeme.specs.Chars.{bytes_in}
 use Rattle.pylex_lexeme.specs.Operators.{exact_of}
-use Rattle.pylex.specs.Listing.{Source, listing}
-use Rattle.pylex.specs.Steps.{entries_of, fault_of, IsNoEntry}
-use Rattle.pylex.specs.Cursors.{is_indent}
-use Rattle.pylex.specs.Indentation.{open_levels}
+use Rattle.pylex_listing.specs.Listing.{Source, listing}
+use Rattle.pylex_listing.specs.Steps.{entries_of, fault_of, IsNoEntry}
+use Rattle.pylex_listing.specs.Indentation.{open_levels}
 
 -- an entry's offsets stand in order in a text, each where a character begins or the text ends
 pub record LiesIn (text : List ℕ) (e : Entry) : Type 0 where
@@ -124,6 +123,9 @@ pub record IsCovered (s : Source) : Type 0 where
   pub left : List ℕ
   pub covers : Covers 0 s.text (entries_of (listing s)) left
   pub whole : fault_of (listing s) ≡ None → left ≡ []
+
+abbrev pub is_indent : Entry → Bool
+is_indent e = elim e.kind [ kinds.Indent ↦ true | _ ↦ false ]
 
 abbrev pub is_dedent : Entry → Bool
 is_dedent e = elim e.kind [ kinds.Dedent ↦ true | _ ↦ false ]

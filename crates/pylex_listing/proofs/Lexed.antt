@@ -10,11 +10,10 @@ use Rattle.std.proofs.lemmas.Bool.{cases_Bool}
 use Rattle.pylex_lexeme.specs.declared.lexeme.Class.{Class}
 use Rattle.pylex_lexeme.specs.Lexemes.{Lexeme, class_in, longest_within, lexeme_len, lexeme_at, cut, cut_after, left_by_cut, list_of}
 use Rattle.pylex_lexeme.specs.Chars.{bytes_in}
-use Rattle.pylex.specs.Laws.{AreLexemes, IsCut, LongestWins}
-use Rattle.pylex.proofs.MachineLaws.Full.{lexeme_full}
+use Rattle.pylex_listing.specs.Laws.{AreLexemes, IsCut, LongestWins}
+use Rattle.pylex_listing.proofs.Full.{lexeme_full, lexeme_front}
 use Rattle.pylex_lexeme.proofs.Callers.Lexemes.{class_none, longest_passes}
-use Rattle.pylex.proofs.Listers.Measured.{lexeme_front}
-use Rattle.pylex.proofs.Resumption.Resume.{drop_of}
+use Rattle.pylex_listing.proofs.Joined.{drop_of}
 
 pub lexeme_parts : (cs : List ℕ) (x : Lexeme) → lexeme_at cs ≡ Some x → cs ≡ x.text ++ drop (length x.text) cs
 lexeme_parts cs x e = front cs (lexeme_len cs) x.text (lexeme_front cs x e)

@@ -5,9 +5,10 @@ use Rattle.std.specs.Prelude.{slice_range}
 use Rattle.pysource.specs.Parts.{Parts}
 use Rattle.pysource.specs.Reprs.{repr_text}
 use Rattle.pysource.specs.declared.places.Place.{Place}
-use Rattle.pylex.specs.declared.entries.Entry.{Entry}
-use Rattle.pylex.specs.declared.kind.Kind.{Kind}
-use Rattle.pylex.specs.declared.kind.Kind.TheVariants.{Encoding, Name, Number, String, Op, Comment, Nl, Newline, Indent, Dedent, EndMarker}
+use Rattle.pylex_listing.specs.declared.entries.Entry.{Entry}
+use Rattle.pylex_listing.specs.declared.kind.Kind.{Kind}
+use Rattle.pylex_listing.specs.declared.kind.Kind.TheVariants.{Encoding, Name, Number, String, Op, Comment, Nl, Newline, Indent, Dedent}
+use Rattle.pylex_listing.specs.declared.kind.Kind.TheVariants.{EndMarker}
 use Rattle.pylex_lexeme.specs.Operators.{exact_name}
 use Rattle.pylex_lexeme.specs.Characters.{space}
 

@@ -13,16 +13,16 @@ use Rattle.std.proofs.lemmas.Bool.Decides.{nat_tests}
 use Rattle.std.proofs.lemmas.Bool.{cases_Bool}
 use Rattle.pysource.specs.Places.{place_after}
 use Rattle.pylex_lexeme.specs.Lexemes.{Lexeme}
-use Rattle.pylex.specs.Lines.{text_before, depth, is_of_blanks, is_of_line_end, is_significant, opens, closes, line_so_far, before_line}
-use Rattle.pylex.specs.Lines.{is_at_margin, is_logical, count_if}
+use Rattle.pylex_listing.specs.Lines.{text_before, depth, is_of_blanks, is_of_line_end, is_significant, opens, closes, line_so_far}
+use Rattle.pylex_listing.specs.Lines.{before_line, is_at_margin, is_logical, count_if}
 use Rattle.pylex_lexeme.specs.Chars.{bytes_in}
-use Rattle.pylex.specs.Indentation.{column_after, width_from, width_at, widths, open_levels}
-use Rattle.pylex.specs.Listing.{ends_in_join}
-use Rattle.pylex.specs.Machine.{State, place_past, lead_after_char, lead_after, past, after, still, pushed}
-use Rattle.pylex.specs.declared.point.Point.{Point}
-use Rattle.pylex.specs.declared.leading_char.LeadingChar.{LeadingChar}
-use Rattle.pylex.specs.declared.leading_char.LeadingChar.TheVariants.{Nothing}
-use Rattle.pylex.proofs.Levels.Stack.{push}
+use Rattle.pylex_listing.specs.Indentation.{column_after, width_from, width_at, widths, open_levels}
+use Rattle.pylex_listing.specs.Listing.{ends_in_join}
+use Rattle.pylex_listing.specs.Machine.{State, place_past, lead_after_char, lead_after, past, after, still, pushed}
+use Rattle.pylex_listing.specs.declared.point.Point.{Point}
+use Rattle.pylex_listing.specs.declared.leading_char.LeadingChar.{LeadingChar}
+use Rattle.pylex_listing.specs.declared.leading_char.LeadingChar.TheVariants.{Nothing}
+use Rattle.pylex_listing.proofs.Stack.{push}
 
 -- Places and offsets.
 abbrev pub point_after : List ℕ → Point

@@ -9,19 +9,19 @@ use Rattle.pysource.specs.declared.faults.LineFault.{LineFault}
 use Rattle.pylex_lexeme.specs.declared.kinds.Exact.{Exact}
 use Rattle.pylex_lexeme.specs.declared.lexeme.Class.TheVariants.{Name, Number, String, Operator, Comment, Blanks, LineEnd, Join}
 use Rattle.pysource.specs.declared.places.Place.{Place}
-use Rattle.pylex.specs.declared.kind.Kind.{Kind}
-use Rattle.pylex.specs.declared.kind.Kind.TheVariants as kinds
-use Rattle.pylex.specs.declared.entries.ListingFault.{ListingFault}
-use Rattle.pylex.specs.declared.entries.ListingError.TheVariants as errors
-use Rattle.pylex.specs.declared.entries.Step.{Step}
-use Rattle.pylex.specs.declared.entries.Step.TheVariants as steps
+use Rattle.pylex_listing.specs.declared.kind.Kind.{Kind}
+use Rattle.pylex_listing.specs.declared.kind.Kind.TheVariants as kinds
+use Rattle.pylex_listing.specs.declared.entries.ListingFault.{ListingFault}
+use Rattle.pylex_listing.specs.declared.entries.ListingError.TheVariants as errors
+use Rattle.pylex_listing.specs.declared.entries.Step.{Step}
+use Rattle.pylex_listing.specs.declared.entries.Step.TheVariants as steps
 use Rattle.pylex_lexeme.specs.Chars.{is_blank_char}
 use Rattle.pylex_lexeme.specs.Strings.{opens_string}
 use Rattle.pylex_lexeme.specs.Operators.{is_closer}
 use Rattle.pylex_lexeme.specs.Lexemes.{Lexeme, cut, left_by_cut, is_open_string}
-use Rattle.pylex.specs.Lines.{text_before, depth, is_significant, is_at_margin, is_logical}
-use Rattle.pylex.specs.Indentation.{widths, open_levels, layout, dedents}
-use Rattle.pylex.specs.Steps.{piece, mark, fault_at}
+use Rattle.pylex_listing.specs.Lines.{text_before, depth, is_significant, is_at_margin, is_logical}
+use Rattle.pylex_listing.specs.Indentation.{widths, open_levels, layout, dedents}
+use Rattle.pylex_listing.specs.Steps.{piece, mark, fault_at}
 use Rattle.pylex_lexeme.specs.Characters.{line_feed, hash}
 
 -- what decoding gives: the encoding's text, the good lines, and the fault of the line after them

@@ -1,6 +1,0 @@
-use Rattle.std.proofs.Common.{sym, arith}
-use Rattle.pylex.proofs.Texts.Plain.{begun_plain}
-use Rattle.pylex.proofs.leading_char.LeadingChar.after_plain.Goals as goal
-
-pub returns : goal.returns
-returns c = sym (begun_plain c.args.self c.args.text.now (λ e. grind (arith, c.is_nothing.ensures, c.if-is_nothing.false, e)) c.requires)

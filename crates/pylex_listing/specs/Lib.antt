@@ -1,0 +1,9 @@
+pub mod Lines
+pub mod Indentation
+pub mod Listing
+pub mod Steps
+pub mod ListingLines
+pub mod Machine
+pub mod Laws
+pub mod Margins
+pub mod EntryKinds
