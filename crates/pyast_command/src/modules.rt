@@ -2,7 +2,6 @@
 ghost use Rattle.std.specs.Prelude.{◌+◌, ◌-◌, ◌^◌, ◌<◌, ◌≤◌, length, IfOk, IfErr};
 ghost use Rattle.std.specs.Str.{encode_utf8_all};
 ghost use Rattle.pysource.specs.Limits.{source_limit};
-ghost use Rattle.pysource.specs.Sources.{UnlessMemory, source_of};
 ghost use Rattle.pylex_listing.specs.Laws.{IsLawful};
 ghost use Rattle.pylex_listing.specs.Listing.{in_characters};
 ghost use Rattle.pytree_node.specs.TreeOf.{module_of};
@@ -14,7 +13,7 @@ ghost use Rattle.pyast_command.specs.Inner.Reading.{Refuses, ReadsModule, ReadsN
 use pyast_fault::Fault;
 use pylex::Lister;
 use pyparse::{Placed, parse, parse_placed};
-use pysource::{ByteIn, Source, SourceFault, decode, read_all};
+use pysource::{ByteIn, Source, decode_vec, read_all};
 use pytree_node::{Module, Profile};
 use std::alloc::Global;
 
@@ -25,14 +24,6 @@ fn know_listing(alloc: Global, source: &Source)
     let _ = Lister::new(alloc, source);
 }
 
-/// The source that bytes are. The bytes are dropped then, so that a tree isn't made beside them.
-fn decoded(alloc: Global, bytes: Vec<u8>) -> Result<Source, SourceFault>
-    requires { length bytes.items ≤ source_limit }
-    ensures { UnlessMemory result (source_of bytes.items) }
-{
-    decode(alloc, bytes.as_slice())
-}
-
 /// The module that bytes are as a source. Its own text gives it back.
 fn accept(alloc: Global, bytes: Vec<u8>, profile: Profile) -> Result<Module, Fault>
     requires { length bytes.items ≤ source_limit }
@@ -41,7 +32,7 @@ fn accept(alloc: Global, bytes: Vec<u8>, profile: Profile) -> Result<Module, Fau
         (λ m. GivesBack profile (encode_utf8_all (module_text (module_of m))) (module_of m)) }
     ensures refused { IfErr result (Refuses profile bytes.items) }
 {
-    let source = decoded(alloc, bytes)?;
+    let source = decode_vec(alloc, bytes)?;
     know_listing(alloc, &source);
     Ok(parse(alloc, &source, profile)?)
 }
@@ -54,7 +45,7 @@ fn accept_placed(alloc: Global, bytes: Vec<u8>, profile: Profile) -> Result<Plac
         (λ p. HasPlaces profile bytes.items (module_of p.module) p.places) }
     ensures refused { IfErr result (Refuses profile bytes.items) }
 {
-    let source = decoded(alloc, bytes)?;
+    let source = decode_vec(alloc, bytes)?;
     know_listing(alloc, &source);
     Ok(parse_placed(alloc, &source, profile)?)
 }

@@ -17,7 +17,7 @@ ghost use Rattle.pysource.specs.Lines.{bad_at, invalid};
 ghost use Rattle.pysource.specs.Sources.{source_of, UnlessMemory, nth_line};
 ghost use Rattle.pysource.specs.Streams.{stream_of, as_stream};
 
-use crate::encodings::{Charset, Encoding, SourceFault, encoding_of, without_mark};
+use crate::encodings::{Charset, Encoding, SourceFault, encoding_of, has_mark, without_mark};
 use crate::faults::{LineError, LineFault};
 use crate::places::{last_line, place_of};
 use std::alloc::Global;
@@ -230,4 +230,25 @@ pub fn decode(alloc: Global, bytes: &[u8]) -> Result<Source, SourceFault>
         }),
         Err(_) => Err(SourceFault::Memory),
     }
+}
+
+/// The source that the bytes of a file are, as [`decode`] gives it. Where all of them are text,
+/// which is where no line is faulty and no byte order mark stands in front, they become the
+/// source's own and aren't copied.
+pub fn decode_vec(alloc: Global, bytes: Vec<u8>) -> Result<Source, SourceFault>
+    requires { length bytes.items ≤ source_limit }
+    ensures { UnlessMemory result (source_of bytes.items) }
+{
+    let (first, rest) = cut_line(bytes.as_slice());
+    let (second, _) = cut_line(rest);
+    let encoding = encoding_of(first, second)?;
+    if has_mark(bytes.as_slice()) || first_bad(encoding.charset(), bytes.as_slice()).is_some() {
+        return decode(alloc, bytes.as_slice());
+    }
+    Ok(Source {
+        encoding,
+        // Bytes of which none is bad are UTF-8, as `first_bad` ensures.
+        text: unsafe { String::from_utf8_unchecked(bytes) },
+        fault: None,
+    })
 }

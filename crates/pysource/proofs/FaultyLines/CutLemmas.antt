@@ -1,6 +1,6 @@
 -- The text before the first faulty line, and that line's fault, by the first bad byte of all.
 --
--- Carries: cut_line, good_part. On: LinesLemmas, PlacesLemmas.
+-- Carries: cut_line, good_part, decode_vec. On: LinesLemmas, PlacesLemmas.
 use Rattle.std.proofs.Common.{◌≡◌, ℕ, zero, suc, ◌+◌, ◌-◌, ◌<◌, ◌≤◌, true, false, cond, List, [], ◌∷◌, ◌++◌, length, take, drop, get_or}
 use Rattle.std.proofs.Common.{None, Some, Option, sym, ap, subst, refl, inl, inr, ◌∙◌, arith, zero-le}
 use Rattle.std.specs.Prelude.{◌⊎◌, not, IsUtf8, count_by, reverse}
@@ -16,7 +16,9 @@ use Rattle.std.proofs.lemmas.Str.{IsCharBoundary-at_seam}
 use Rattle.std.proofs.lemmas.Bool.{false_from_ne_true}
 use Rattle.std.proofs.lemmas.List.{take_more}
 use Rattle.memchr.specs.Find.{IsFirstByte, is_byte}
-use Rattle.pysource.specs.Sources.{nth_line}
+use Rattle.pysource.specs.Sources.{nth_line, parts_under}
+use Rattle.pysource.specs.Cookies.{has_mark}
+use Rattle.pysource.specs.Names.{Named}
 use Rattle.pysource.specs.Places.{is_lf}
 use Rattle.pysource.specs.declared.encodings.Charset.{Charset}
 use Rattle.pysource.specs.declared.faults.LineError.{LineError}
@@ -263,6 +265,11 @@ told_within (suc n) c row (b ∷ bs) h = elim (cut (b ∷ bs) (omega arith)) [
 -- text and fault of any text
 pub told_all : (c : Charset) (row : ℕ) (t : List ℕ) (r : Option (ℕ × LineError)) → r ≡ first_bad c t → Told c row t r
 told_all c row t r e = subst (Told c row t) (sym e) (told_within (length t) c row t (omega arith))
+
+-- a text without a mark in front and without a bad byte is the source's own
+pub all_good : (named : Named) (t : List ℕ) → has_mark t ≡ false → None ≡ first_bad named.charset t
+    → parts_under named t ≡ record { encoding = named; text = t; fault = None }
+all_good named t mark none = let told = told_all named.charset 1 t None none in rw (mark, told.0, told.1) refl
 
 -- the first two lines
 pub lines_at : (front rest : List ℕ) → NoLf front → lines_of ((front ++ 10 ∷ []) ++ rest) ≡ (front ++ 10 ∷ []) ∷ lines_of rest
