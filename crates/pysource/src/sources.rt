@@ -11,6 +11,7 @@ ghost use Rattle.std.specs.Prelude.{◌≡◌, ◌≢◌, ℕ, ◌≤◌, ◌<�
 ghost use Rattle.std.specs.Prelude.{slice_index, IsUtf8, MatchOption};
 ghost use Rattle.std.specs.Str.Lossy.{utf8_valid_len};
 ghost use Rattle.pysource.specs.Characters.{carriage_return};
+ghost use Rattle.pysource.specs.Cookies.{encoding_of};
 ghost use Rattle.pysource.specs.Limits.{source_limit};
 ghost use Rattle.pysource.specs.Lines.{first_bad, good_text, line_fault, lines_of, lone_return_at};
 ghost use Rattle.pysource.specs.Lines.{bad_at, invalid};
@@ -204,6 +205,15 @@ fn cut_line(bytes: &[u8]) -> (&[u8], &[u8])
     }
 }
 
+/// The encoding that the first two lines declare, or the fault of what they declare.
+fn declared(bytes: &[u8]) -> Result<Encoding, SourceFault>
+    ensures { result ≡ encoding_of (nth_line bytes.now 0) (nth_line bytes.now 1) }
+{
+    let (first, rest) = cut_line(bytes);
+    let (second, _) = cut_line(rest);
+    encoding_of(first, second)
+}
+
 /// The source that the bytes of a file are, in two passes over them and one copy of the text.
 ///
 /// It answers `UnsupportedEncoding` and `BomConflict` as [`encoding_of`] does for the first two
@@ -218,9 +228,7 @@ pub fn decode(alloc: Global, bytes: &[u8]) -> Result<Source, SourceFault>
     ensures value { UnlessMemory result (source_of bytes.now) }
     ensures stream { stream_of false bytes.now ≡ as_stream (source_of bytes.now) }
 {
-    let (first, rest) = cut_line(bytes);
-    let (second, _) = cut_line(rest);
-    let encoding = encoding_of(first, second)?;
+    let encoding = declared(bytes)?;
     let (text, fault) = good_part(encoding.charset(), without_mark(bytes));
     match String::from_str(alloc, text) {
         Ok(text) => Ok(Source {
@@ -239,9 +247,7 @@ pub fn decode_vec(alloc: Global, bytes: Vec<u8>) -> Result<Source, SourceFault>
     requires { length bytes.items ≤ source_limit }
     ensures { UnlessMemory result (source_of bytes.items) }
 {
-    let (first, rest) = cut_line(bytes.as_slice());
-    let (second, _) = cut_line(rest);
-    let encoding = encoding_of(first, second)?;
+    let encoding = declared(bytes.as_slice())?;
     if has_mark(bytes.as_slice()) || first_bad(encoding.charset(), bytes.as_slice()).is_some() {
         return decode(alloc, bytes.as_slice());
     }

@@ -9,7 +9,6 @@ use pyfstring::Conversion;
 
 /// An expression: the class `expr`. It takes 40 bytes: the classes
 /// that would need more are boxed.
-#[derive(Drop)]
 #[cycle(expressions)]
 pub enum Expr {
     /// `a and b and c`.
@@ -132,6 +131,93 @@ pub enum Expr {
     },
     /// `lower:upper:step`, in a subscript.
     Slice(Box<Slice>),
+}
+
+impl Drop for Expr {
+    /// Lets an expression go. By hand, so that it is proved here, and not once more in each crate
+    /// that drops one.
+    #[cycle(expression_drops)]
+    fn drop(self) {
+        match self {
+            Expr::BoolOp {
+                op: _op,
+                values: _values,
+            } => {}
+            Expr::NamedExpr {
+                target: _target,
+                value: _value,
+            } => {}
+            Expr::BinOp {
+                left: _left,
+                op: _op,
+                right: _right,
+            } => {}
+            Expr::UnaryOp {
+                op: _op,
+                operand: _operand,
+            } => {}
+            Expr::Lambda {
+                args: _args,
+                body: _body,
+            } => {}
+            Expr::IfExp {
+                test: _test,
+                body: _body,
+                orelse: _orelse,
+            } => {}
+            Expr::Dict(_node) => {}
+            Expr::Set { elts: _elts } => {}
+            Expr::ListComp {
+                elt: _elt,
+                generators: _generators,
+            } => {}
+            Expr::SetComp {
+                elt: _elt,
+                generators: _generators,
+            } => {}
+            Expr::DictComp(_node) => {}
+            Expr::GeneratorExp {
+                elt: _elt,
+                generators: _generators,
+            } => {}
+            Expr::Await { value: _value } => {}
+            Expr::Yield { value: _value } => {}
+            Expr::YieldFrom { value: _value } => {}
+            Expr::Compare(_node) => {}
+            Expr::Call(_node) => {}
+            Expr::FormattedValue {
+                value: _value,
+                conversion: _conversion,
+                format_spec: _format_spec,
+            } => {}
+            Expr::JoinedStr { values: _values } => {}
+            Expr::Constant { value: _value } => {}
+            Expr::Attribute {
+                value: _value,
+                attr: _attr,
+                ctx: _ctx,
+            } => {}
+            Expr::Subscript {
+                value: _value,
+                slice: _slice,
+                ctx: _ctx,
+            } => {}
+            Expr::Starred {
+                value: _value,
+                ctx: _ctx,
+            } => {}
+            Expr::Name { id: _id, ctx: _ctx } => {}
+            Expr::List {
+                elts: _elts,
+                ctx: _ctx,
+            } => {}
+            Expr::Tuple {
+                elts: _elts,
+                ctx: _ctx,
+            } => {}
+            Expr::Slice(_node) => {}
+        }
+    }
 }
 
 /// The class `Dict`. A `**c` has no key, and the value `c`.

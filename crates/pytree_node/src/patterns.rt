@@ -7,7 +7,6 @@ use crate::expressions::Expr;
 use crate::identifiers::Identifier;
 
 /// A pattern: the class `pattern`.
-#[derive(Drop)]
 #[cycle(patterns)]
 pub enum Pattern {
     /// `1`, `-1`, `1 + 2j`, `'a'`, `a.b`.
@@ -48,4 +47,37 @@ pub enum Pattern {
     MatchOr {
         patterns: Vec<Pattern>,
     },
+}
+
+impl Drop for Pattern {
+    /// Lets a pattern go. By hand, so that it is proved here, and not once more in each crate
+    /// that drops one.
+    fn drop(self) {
+        match self {
+            Pattern::MatchValue { value: _value } => {}
+            Pattern::MatchSingleton { value: _value } => {}
+            Pattern::MatchSequence {
+                patterns: _patterns,
+            } => {}
+            Pattern::MatchMapping {
+                keys: _keys,
+                patterns: _patterns,
+                rest: _rest,
+            } => {}
+            Pattern::MatchClass {
+                cls: _cls,
+                patterns: _patterns,
+                kwd_attrs: _kwd_attrs,
+                kwd_patterns: _kwd_patterns,
+            } => {}
+            Pattern::MatchStar { name: _name } => {}
+            Pattern::MatchAs {
+                pattern: _pattern,
+                name: _name,
+            } => {}
+            Pattern::MatchOr {
+                patterns: _patterns,
+            } => {}
+        }
+    }
 }

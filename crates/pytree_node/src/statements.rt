@@ -11,7 +11,6 @@ use crate::patterns::Pattern;
 ///
 /// An expression is a field of its statement; it is boxed, or the whole class is, where the
 /// statement would be larger.
-#[derive(Drop)]
 #[cycle(statements)]
 pub enum Stmt {
     /// `def`.
@@ -136,6 +135,97 @@ pub enum Stmt {
     Break,
     /// `continue`.
     Continue,
+}
+
+impl Drop for Stmt {
+    /// Lets a statement go. By hand, so that it is proved here, and not once more in each crate
+    /// that drops one.
+    #[cycle(statement_drops)]
+    fn drop(self) {
+        match self {
+            Stmt::FunctionDef(_node) => {}
+            Stmt::AsyncFunctionDef(_node) => {}
+            Stmt::ClassDef(_node) => {}
+            Stmt::Return { value: _value } => {}
+            Stmt::Delete { targets: _targets } => {}
+            Stmt::Assign {
+                targets: _targets,
+                value: _value,
+            } => {}
+            Stmt::TypeAlias {
+                name: _name,
+                type_params: _type_params,
+                value: _value,
+            } => {}
+            Stmt::AugAssign {
+                target: _target,
+                op: _op,
+                value: _value,
+            } => {}
+            Stmt::AnnAssign {
+                target: _target,
+                annotation: _annotation,
+                value: _value,
+                simple: _simple,
+            } => {}
+            Stmt::For {
+                target: _target,
+                iter: _iter,
+                body: _body,
+                orelse: _orelse,
+            } => {}
+            Stmt::AsyncFor {
+                target: _target,
+                iter: _iter,
+                body: _body,
+                orelse: _orelse,
+            } => {}
+            Stmt::While {
+                test: _test,
+                body: _body,
+                orelse: _orelse,
+            } => {}
+            Stmt::If {
+                test: _test,
+                body: _body,
+                orelse: _orelse,
+            } => {}
+            Stmt::With {
+                items: _items,
+                body: _body,
+            } => {}
+            Stmt::AsyncWith {
+                items: _items,
+                body: _body,
+            } => {}
+            Stmt::Match {
+                subject: _subject,
+                cases: _cases,
+            } => {}
+            Stmt::Raise {
+                exc: _exc,
+                cause: _cause,
+            } => {}
+            Stmt::Try(_node) => {}
+            Stmt::TryStar(_node) => {}
+            Stmt::Assert {
+                test: _test,
+                msg: _msg,
+            } => {}
+            Stmt::Import { names: _names } => {}
+            Stmt::ImportFrom {
+                module: _module,
+                names: _names,
+                level: _level,
+            } => {}
+            Stmt::Global { names: _names } => {}
+            Stmt::Nonlocal { names: _names } => {}
+            Stmt::Expr { value: _value } => {}
+            Stmt::Pass => {}
+            Stmt::Break => {}
+            Stmt::Continue => {}
+        }
+    }
 }
 
 /// The classes `FunctionDef` and `AsyncFunctionDef`.
