@@ -27,6 +27,35 @@ def refuse(text):
     sys.exit(2)
 
 
+class Count:
+    """The checks of a script, and how many failed or were left out."""
+
+    def __init__(self):
+        self.passed, self.failed, self.skipped = 0, 0, 0
+
+    def fail(self, name, text):
+        """Reports a failure."""
+        self.failed += 1
+        print(f"{name}: {text[:400]}", flush=True)
+
+    def is_due(self, name, found, due):
+        """Checks that what was found is what is due."""
+        if found == due:
+            self.passed += 1
+        else:
+            self.fail(name, f"{found!r:.190} in place of {due!r:.190}")
+
+    def skip(self, text):
+        """Reports what is left out, and why."""
+        self.skipped += 1
+        print(f"skipped: {text}", flush=True)
+
+    def end(self):
+        """Prints how many there were; answers the exit status."""
+        print(f"{self.passed} passed, {self.failed} failed" + (f", {self.skipped} skipped" if self.skipped else ""))
+        return int(bool(self.failed))
+
+
 # --- the program ------------------------------------------------------------------------------------------------------
 
 
@@ -138,9 +167,10 @@ def show_table(results, samples):
             print(f"{name:44}{len(group):8}  {example if number else ''}"[:140].rstrip())
 
 
-def show_end(failures):
-    """Prints whether every difference has a class; answers the exit status."""
+def show_end(failures, cases):
+    """Prints whether every difference has a class, and how many cases there were; answers the exit status."""
     print(f"Differences without class: {len(failures)}" if failures else "Every difference has a class.")
+    print(f"{max(0, cases - len(failures))} passed, {len(failures)} failed")
     return int(bool(failures))
 
 

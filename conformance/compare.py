@@ -616,7 +616,7 @@ def compare(options):
             show_failure(options.program, folder, failure, number < options.smallest)
     show_table(results, {name: sources[0] for name, sources in SAMPLES.items()})
     show_times(results, started)
-    return show_end(failures)
+    return show_end(failures, len(results))
 
 
 def main():

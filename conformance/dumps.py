@@ -545,7 +545,7 @@ def compare(options):
     parts = sum(result.parts for result in results)
     print(f"\nOf files with a form that is left out {parts} parts without one were compared.")
     print(f"{time.monotonic() - started:.0f} s in all; {sum(result.seconds for result in results):.0f} s summed over the jobs")
-    return show_end(failures)
+    return show_end(failures, len(results))
 
 
 def main():

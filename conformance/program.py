@@ -18,7 +18,7 @@ import sys
 import tempfile
 import time
 
-from common import PROGRAM, run
+from common import PROGRAM, Count, run
 
 # The memory within which a source of any length is listed, in bytes, the program and the C library with it.
 MEMORY = 12 << 20
@@ -36,22 +36,12 @@ LISTING = """\
 DUMP = "Module(body=[Assign(targets=[Name(id='x', ctx=Store())], value=Constant(value=1))], type_ignores=[])\n"
 
 
-class Checks:
-    """The checks of one program, and how many failed."""
+class Checks(Count):
+    """The checks of one program."""
 
     def __init__(self, program):
-        self.program, self.made, self.failed = program, 0, 0
-
-    def fail(self, name, text):
-        """Reports a failure."""
-        self.failed += 1
-        print(f"{name}: {text[:300]}", flush=True)
-
-    def is_due(self, name, found, due):
-        """Checks that what was found is what is due."""
-        self.made += 1
-        if found != due:
-            self.fail(name, f"{found!r:.140} in place of {due!r:.140}")
+        super().__init__()
+        self.program = program
 
     def ends(self, words, due, data=b"", **more):
         """Checks the status, the output and the line on standard error of a run; what is None may be anything."""
@@ -286,8 +276,7 @@ def main():
         return 2
     for part in (check_words, check_files, check_streams, check_terminal, check_large, check_stack):
         part(checks)
-    print(f"{checks.made} checks of the built program, {checks.failed} failed")
-    return int(bool(checks.failed))
+    return checks.end()
 
 
 if __name__ == "__main__":

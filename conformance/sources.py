@@ -79,4 +79,4 @@ def show_results(options, results, judge):
         show_failure(options.program, failure, number < options.smallest, functools.partial(judged, judge=judge))
     show_table(results, SAMPLES)
     show_brackets(results)
-    return show_end(failures)
+    return show_end(failures, len(results))

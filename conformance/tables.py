@@ -411,7 +411,8 @@ def main():
         for text in failures:
             print(text)
     failed = sum(bool(failures) for _, failures in results)
-    print(f"{sum(made for made, _ in results):,} runs of {len(rows):,} rows, {failed:,} failed")
+    print(f"{sum(made for made, _ in results):,} runs of {len(rows):,} rows")
+    print(f"{len(rows) - failed} passed, {failed} failed")
     return int(bool(failed))
 
 

@@ -246,7 +246,7 @@ def compare(options):
     show_brackets(results)
     print(f"Of files with a form that is left out {sum(result.parts for result in results)} parts without one were compared.")
     print(f"{time.monotonic() - started:.0f} s in all; {sum(result.seconds for result in results):.0f} s summed over the jobs")
-    return show_end(failures)
+    return show_end(failures, len(results))
 
 
 def main():
