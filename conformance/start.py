@@ -59,6 +59,7 @@ class Room:
         self.tool("rt", f"echo proved >{self.mark}")
         with open(PROGRAM, "rb") as file:
             self.release(file.read())
+        self.cached = f"{self.home}/.cache/pyast/{self.digest()}/pyast"
 
     @staticmethod
     def write(path, text):
@@ -77,13 +78,16 @@ class Room:
         with contextlib.suppress(FileNotFoundError):
             os.remove(f"{self.bin}/{name}")
 
+    def digest(self):
+        """The digest of the sources."""
+        return subprocess.run([f"{self.top}/tools/digest"], check=True, stdout=subprocess.PIPE, text=True).stdout.strip()
+
     def release(self, program):
         """Makes release/ of a program."""
         with open(f"{self.top}/release/pyast-x86_64-linux.xz", "wb") as file:
             file.write(packed(program))
-        sources = subprocess.run([f"{self.top}/tools/digest"], check=True, stdout=subprocess.PIPE, text=True).stdout
         version = subprocess.run([PROGRAM, "--version"], check=True, stdout=subprocess.PIPE, text=True).stdout
-        self.write(f"{self.top}/release/PROVENANCE", f"version: {version}sources: {sources}kit: none\nprogram: {hashlib.sha256(program).hexdigest()}\n")
+        self.write(f"{self.top}/release/PROVENANCE", f"version: {version}sources: {self.digest()}\nkit: none\nprogram: {hashlib.sha256(program).hexdigest()}\n")
 
     def run(self, words=("./pyast", "tokens"), other_user=False, limit=None, cwd=None, **variables):
         """The status, the output and the lines of errors of a run."""
@@ -171,13 +175,12 @@ def check_read_only(checks):
     """A clone that can't be written to."""
     with checks.room() as room:
         room.lock()
-        digest = subprocess.run([f"{room.top}/tools/digest"], check=True, stdout=subprocess.PIPE, text=True).stdout.strip()
         checks.ends("no folder to write to", room.run(other_user=True, HOME=None), 73, "can't be unpacked", room.own, "XDG_CACHE_HOME")
         checks.ends("a cache folder that can't be written to", room.run(other_user=True, XDG_CACHE_HOME=f"{room.top}/cache"), 73, "can't be unpacked")
-        for name, variables, folder in (
-            ("into the cache of the home", {}, f"{room.home}/.cache"), ("into the cache folder", {"XDG_CACHE_HOME": f"{room.home}/its cache"}, f"{room.home}/its cache"),
+        for name, variables, made in (
+            ("into the cache of the home", {}, room.cached),
+            ("into the cache folder", {"XDG_CACHE_HOME": f"{room.home}/its cache"}, room.cached.replace(".cache", "its cache")),
         ):
-            made = f"{folder}/pyast/{digest}/pyast"
             checks.runs(name, room.run(other_user=True, **variables), made)
             os.chmod(f"{room.top}/tools/provide", 0o444)
             checks.runs(f"{name}, once it is there", room.run(other_user=True, **variables), made)
@@ -208,7 +211,7 @@ def check_disks(checks):
         checks.is_due("nothing is left", os.listdir(room.own), [])
     with checks.room() as room, small_disk(room.own) as mounted:
         if mounted:
-            checks.runs("a full disk, and room in the cache", room.run(), f"{room.own}/../src/../../../pyast")
+            checks.runs("a full disk, and room in the cache", room.run(), room.cached)
             checks.is_due("nothing is left there", os.listdir(room.own), [])
             shutil.rmtree(f"{room.home}/.cache")
             with small_disk(f"{room.home}/.cache"):
@@ -217,7 +220,7 @@ def check_disks(checks):
             checks.skip("a full disk: no tmpfs can be mounted here")
     with checks.room() as room, small_disk(room.own, "noexec", "size=9m") as mounted:
         if mounted:
-            checks.runs("a disk from which nothing is run", room.run(), f"{room.top}/pyast")
+            checks.runs("a disk from which nothing is run", room.run(), room.cached)
         else:
             checks.skip("a disk from which nothing is run: no tmpfs can be mounted here")
 
@@ -230,8 +233,7 @@ def check_sources(checks):
         room.write(f"{room.top}/crates/pyast/src/main.rt", "fn main() {} // changed\n")
         os.utime(f"{room.top}/crates.txt", (built + 1, built + 1))
         checks.ends("changed sources", room.run(), 70, "have changed", "make prove")
-        digest = subprocess.run([f"{room.top}/tools/digest"], check=True, stdout=subprocess.PIPE, text=True).stdout
-        room.write(f"{room.own}/built", digest)
+        room.write(f"{room.own}/built", room.digest() + "\n")
         checks.runs("a program that was built of them", room.run(), f"{room.own}/pyast")
         room.without("xz")
         room.tool("uname", "echo Plan9 mips")
