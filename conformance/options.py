@@ -1,10 +1,10 @@
 #!/usr/bin/env python3
-"""Checks that the manual page and the completions name exactly the options that the program's help shows, of itself and of each command, and
-that the help of a command begins its usage with the program's name.
+"""Checks that docs/USE.md, the manual page and the completions name exactly the options that the program's help shows, of itself and of each
+command, that the help of a command begins its usage with the program's name, and that the manual page has the program's version.
 
     conformance/options.py [--program PATH]
 
-The exit status is 0, but 1 where a file names others or a usage another name, and 2 where the program isn't there.
+The last line counts the checks; the exit status is 0, 1 where one failed, and 2 where the program isn't there.
 """
 
 import argparse
@@ -12,6 +12,8 @@ import os
 import re
 import subprocess
 import sys
+
+from common import Count
 
 TOP = os.path.dirname(os.path.dirname(os.path.abspath(__file__)))
 COMMANDS = ("tokens", "dump", "unparse")
@@ -42,6 +44,14 @@ def of_manual(text):
     synopsis = text.split(".SH SYNOPSIS", 1)[1].split(".SH", 1)[0]
     parts = {part.split()[0]: options_in(part) for part in synopsis.split(".B pyast ")[1:]}
     for_help, for_version = map(options_in, text.split(".SH OPTIONS", 1)[1].split(".SH", 1)[0].rsplit(".TP", 2)[1:])
+    return {ALONE: for_help | for_version, **{command: parts[command] | for_help for command in COMMANDS}}
+
+
+def of_page(text):
+    """The same by docs/USE.md: the synopsis of each command, and the rows of the table for help and the version."""
+    synopsis, table = text.split("```")[1], text.split("\n## ", 1)[0]
+    for_help, for_version = (options_in(re.search(rf"^.*`{option}`.*$", table, re.MULTILINE)[0]) for option in ("--help", "--version"))
+    parts = {line.split()[1]: options_in(line) for line in synopsis.splitlines() if line.startswith("pyast ")}
     return {ALONE: for_help | for_version, **{command: parts[command] | for_help for command in COMMANDS}}
 
 
@@ -81,20 +91,19 @@ def main():
     if not os.access(options.program, os.X_OK):
         print(f"options.py: {options.program} isn't there", file=sys.stderr)
         return 2
-    due, well = of_help(options.program), True
-    for name, read in (("docs/pyast.1", of_manual), ("completions/pyast.bash", of_bash), ("completions/_pyast", of_zsh), ("completions/pyast.fish", of_fish)):
+    due, checks = of_help(options.program), Count()
+    for name, read in (("docs/USE.md", of_page), ("docs/pyast.1", of_manual), ("completions/pyast.bash", of_bash), ("completions/_pyast", of_zsh), ("completions/pyast.fish", of_fish)):
         with open(os.path.join(TOP, name), encoding="utf-8") as file:
-            found = read(file.read())
+            text = file.read()
+        found = read(text)
         for command in (ALONE, *COMMANDS):
-            if found[command] != due[command]:
-                well = False
-                print(f"{name}: {command}: {sorted(found[command])} in place of {sorted(due[command])}")
+            checks.is_due(f"{name}: {command}", sorted(found[command]), sorted(due[command]))
+        if name == "docs/pyast.1":
+            version = subprocess.run([options.program, "--version"], capture_output=True, text=True, check=True).stdout.strip()
+            checks.is_due(f"{name}: the version", re.search(r'^\.TH .* "(pyast [\d.]+)" ', text, re.MULTILINE)[1], version)
     for command in COMMANDS:
-        if f"Usage: pyast {command} " not in shown(options.program, [command]):
-            well = False
-            print(f"the help of {command} lacks `Usage: pyast {command} `")
-    print("the manual page and the completions name the options of the help" if well else "they differ")
-    return int(not well)
+        checks.is_due(f"the help of {command}", f"Usage: pyast {command} " in shown(options.program, [command]), True)
+    return checks.end()
 
 
 if __name__ == "__main__":

@@ -346,15 +346,17 @@ def installs(checks, command):
         checks.is_due(f"{command}: the program", run([f"{home}/.local/bin/pyast", "--version"])[0], 0)
 
 
-def on_files(status, *words):
-    """A check of a command on FILE, OLD and NEW: that of good files, and that it fails on a refused and on a missing one."""
+def on_files(*words, bad=1, missing=3):
+    """A check of a command on FILE, or on OLD and NEW: what it has to write of good files, and how it ends of refused and of missing ones."""
     def check(checks, command):
-        for source, due in ((GOOD, (status, list(words))), (BAD, (1, [])), (None, (3, []))):
+        for source, status in ((GOOD, 0), (BAD, bad), (None, missing)):
             with tempfile.TemporaryDirectory(prefix="pyast files ") as folder:
                 for name in ("FILE", "OLD", "NEW") if source else ():
-                    Files(folder).write(name, source if name != "NEW" else SAME)
+                    Files(folder).write(name, SAME if source == GOOD and name != "OLD" else source)
+                os.symlink(f"{TOP}/pyast", f"{folder}/pyast")
                 found = run(["bash", "-c", f"set -o pipefail; {command}"], folder)
-                checks.is_due(f"{command}: {source!r}", (found[0], [word for word in words if word in found[1]]), due)
+                written = [word for word in words if word in found[1]]
+                checks.is_due(f"{command}: {source!r}", (found[0], written), (status, list(words) if source == GOOD else []))
     return check
 
 
@@ -378,7 +380,16 @@ def has_man(checks, command):
 # What each command has to do, or why it isn't run.
 COMMANDS = {
     "man docs/pyast.1": has_man,
-    "make install PREFIX=$HOME/.local": installs,
+    "./pyast dump --whole FILE": on_files("Module(body=[Assign(targets=[Name(id='x', ctx=Store())], value=Constant(value=1.5))], type_ignores=[])"),
+    "pyast dump --whole FILE": on_files("Module(body=[Assign(targets=[Name(id='x', ctx=Store())], value=Constant(value=1.5))], type_ignores=[])"),
+    "pyast dump --whole FILE >/dev/null && echo readable": on_files("readable"),
+    "./pyast tokens FILE": on_files("1,5-1,9:            NUMBER", bad=0),
+    "pyast tokens FILE | grep '^[^:]*: *COMMENT'": on_files("'# the same'", bad=1, missing=1),
+    "pyast tokens --count 10 FILE": on_files("COMMENT", bad=0),
+    "./pyast unparse --whole FILE": on_files("x = 1.5\n"),
+    "pyast unparse --whole FILE": on_files("x = 1.5\n"),
+    **{f'old=$({pyast} dump --whole OLD) && new=$({pyast} dump --whole NEW) && [ "$old" = "$new" ]': on_files() for pyast in ("./pyast", "pyast")},
+    'make install PREFIX="$HOME/.local"': installs,
     "make verify": verifies,
     "make test": "this is part of it",
     "make check": "this is part of it",
