@@ -1,9 +1,10 @@
 #!/usr/bin/env python3
-"""Checks that each block of Rattle in docs/LIBRARY.md stands word for word in a file of crates/uses.
+"""Checks that each block of Rattle in docs/LIBRARY.md and README.md is word for word in a file of crates/uses.
 
     conformance/quotes.py
 
-The exit status is 0, but 1 where a block stands nowhere, or a public function of the crate in no block.
+README.md quotes one of them too. The last line counts the blocks and functions; the exit status is 0, but 1 where a block is in no file, or a
+public function of the crate in no block.
 """
 
 import glob
@@ -23,20 +24,19 @@ def read(*parts):
 
 
 def main():
-    page = read("docs", "LIBRARY.md")
+    page = read("docs", "LIBRARY.md") + read("README.md")
     files = [read(path) for path in sorted(glob.glob(os.path.join(TOP, "crates", "uses", "src", "**", "*.rt"), recursive=True))]
     blocks = [found[1] for found in BLOCK.finditer(page)]
     faults = []
     for block in blocks:
         # A block is whole lines of a file.
         if not any(("\n" + text).find("\n" + block) >= 0 for text in files):
-            faults.append("stands in no file of crates/uses: " + block.split("\n", 1)[0])
+            faults.append("is in no file of crates/uses: " + block.split("\n", 1)[0])
     quoted = set(FUNCTION.findall("\n".join(blocks)))
     faults.extend(f"is quoted nowhere: {name}" for text in files for name in FUNCTION.findall(text) if name not in quoted)
     for fault in faults:
-        print(f"docs/LIBRARY.md: {fault}")
-    if not faults:
-        print(f"docs/LIBRARY.md quotes {len(blocks)} parts of crates/uses")
+        print(f"docs/LIBRARY.md or README.md: {fault}")
+    print(f"{max(0, len(blocks) + len(quoted) - len(faults))} passed, {len(faults)} failed")
     return int(bool(faults))
 
 

@@ -377,6 +377,30 @@ def has_man(checks, command):
         checks.skip(f"{command}: there is no man")
 
 
+def crates_of(path):
+    """The lines of a crates.txt: the crates that each names."""
+    with open(path, encoding="utf-8") as file:
+        return {line.split(":")[0]: line.partition(":")[2].split() for line in file if re.match(r"\w+:", line)}
+
+
+def vendors(checks, command):
+    """A check of `tools/vendor` into a folder: the crates are all there, as they are here, and are not replaced unless asked."""
+    with tempfile.TemporaryDirectory(prefix="pyast vendor ") as folder:
+        for name in ("mine", "top"):
+            os.mkdir(f"{folder}/{name}")
+        os.symlink(f"{TOP}/tools", f"{folder}/top/tools")
+        Files(folder).write("mine/crates.txt", "# mine\nown: clap\n")
+        ours = crates_of(f"{TOP}/crates.txt")
+        for words, status in ((command, 0), (command, 1), (command.replace("vendor", "vendor --update"), 0), (command.replace("pylex", "none"), 2), (f"{command}/none", 2)):
+            checks.is_due(words, run(["bash", "-c", words], f"{folder}/top")[0], status)
+            theirs = crates_of(f"{folder}/mine/crates.txt")
+            needs = {name for crate in theirs if crate in ours for name in ours[crate] if name in ours}
+            checks.is_due(f"{words}: crates.txt", ({name: ours.get(name, ["clap"]) for name in theirs}, needs - theirs.keys()), (theirs, set()))
+            same = run(["diff", "-rq", "-x", "out", "-x", "must-fail", "-x", ".gitignore", *(f"{at}/crates/pylex" for at in (TOP, f"{folder}/mine"))])
+            checks.is_due(f"{words}: pylex", same, (0, "", ""))
+        checks.is_due(f"{command}: folders", sorted(os.listdir(f"{folder}/mine/crates")), sorted(theirs.keys() - {"own"}))
+
+
 # What each command has to do, or why it isn't run.
 COMMANDS = {
     "man docs/pyast.1": has_man,
@@ -390,6 +414,7 @@ COMMANDS = {
     "pyast unparse --whole FILE": on_files("x = 1.5\n"),
     **{f'old=$({pyast} dump --whole OLD) && new=$({pyast} dump --whole NEW) && [ "$old" = "$new" ]': on_files() for pyast in ("./pyast", "pyast")},
     'make install PREFIX="$HOME/.local"': installs,
+    "tools/vendor pysource pylex ../mine": vendors,
     "make verify": verifies,
     "make test": "this is part of it",
     "make check": "this is part of it",
