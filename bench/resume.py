@@ -85,7 +85,7 @@ def main():
     options = parser.parse_args()
     program, timer = os.path.abspath(options.program), os.path.abspath(options.timer)
     if not os.access(program, os.X_OK):
-        refuse(f"{program} isn't there: run {os.path.join(TOP, 'pyast')} once, which builds it")
+        refuse(f"{program} isn't there: run {os.path.join(TOP, 'pyast')} once, which unpacks it")
     build(timer)
     with tempfile.TemporaryDirectory(prefix="pyast-bench-") as folder:
         path = os.path.join(folder, "source.py")

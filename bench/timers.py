@@ -17,7 +17,7 @@ def built_program(path):
     """The path of the built program: that of this project where none is named."""
     path = os.path.abspath(path or os.path.join(TOP, "crates", "pyast", "out", "pyast"))
     if not os.access(path, os.X_OK) or os.path.isdir(path):
-        refuse(f"{path} isn't there: run {os.path.join(TOP, 'pyast')} once, which builds it")
+        refuse(f"{path} isn't there: run {os.path.join(TOP, 'pyast')} once, which unpacks it")
     return path
 
 

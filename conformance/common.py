@@ -223,7 +223,7 @@ def read_options(parser):
     folders = getattr(options, "folders", []) or (installed_folders() if getattr(options, "installed", False) else [sysconfig.get_path("stdlib")])
     options.folders = [os.path.abspath(folder) for folder in folders]
     if not options.program or not shutil.which(options.program[0]):
-        refuse(f"{' '.join(options.program)} isn't there: run {os.path.join(TOP, 'pyast')} once, which builds it")
+        refuse(f"{' '.join(options.program)} isn't there: run {os.path.join(TOP, 'pyast')} once, which unpacks it")
     for folder in options.folders:
         if not os.path.exists(folder):
             refuse(f"{folder} isn't there")
