@@ -177,8 +177,9 @@ def show_end(failures, cases):
 # --- the command line -------------------------------------------------------------------------------------------------
 
 
-def go_on_with_python_311():
-    """Runs this program again by Python 3.11, whose modules are those to compare with, where it isn't that already."""
+def go_on_with_python_311(needed=True):
+    """Runs this program again by Python 3.11, whose modules are those to compare with, where it isn't that already. Where there is none, the run
+    ends if it is needed."""
     if sys.version_info[:2] == (3, 11):
         return
     for name in ("python3.11", "python3"):
@@ -186,6 +187,8 @@ def go_on_with_python_311():
         version = path and run([path, "-c", "import sys; print(*sys.version_info[:2])"]).out.split()
         if version == [b"3", b"11"]:
             os.execv(path, [path, os.path.abspath(sys.argv[0]), *sys.argv[1:]])
+    if not needed:
+        return
     why = "no Python 3.11 is found: there is no working `python3.11` on the PATH, and `python3` isn't of that version"
     if "--or-skip" in sys.argv[1:]:
         print(f"skipped: {why}")
