@@ -14,6 +14,7 @@ line counts the checks; the exit status is 0, 1 where one failed, and 2 where th
 
 import ast
 import collections
+import functools
 import glob
 import io
 import json
@@ -140,6 +141,7 @@ class Checks(Count):
 
 def in_folder(check):
     """A check that is given a folder of its own."""
+    @functools.wraps(check)
     def checked(checks):
         with tempfile.TemporaryDirectory(prefix="pyast recipes ") as folder:
             check(checks, Files(folder))
