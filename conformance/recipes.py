@@ -41,7 +41,7 @@ OTHER = SOURCE.replace("y **= 2", "(y) **= (2)").replace("# first", "")
 # Every kind of value that a dump may show.
 VALUES = (
     "1e400j; 1e400; ...; None; True; False; u'a'; b'\\x00\"\\''; 'it\\'s \"q\"'; '\\u2028 \u00e9 \\U0010ffff \\x1b\\\\\\n'; 0xFF; 2**99; 1e16; 5e-324; 2j\n"
-    "340282366920938463463374607431768211456; -1; 0.5; b''; ''\nf'{x!r:>{n}}{y}'\ndef f(a, /, *b, c=1, **d): return a\n" + "a" + " + a" * 300 + "\n"
+    "340282366920938463463374607431768211456; -1; 0.5; b''; ''\nf'{x!r:>{n}}{y}'\ndef f(a, /, *b, c=1, **d): return a\n{**a, 1: 2}\ndef g(*, a, b=1): pass\n" + "a" + " + a" * 300 + "\n"
 )
 NAMES = ("plain.py", "a b.py", "-x.py", "it's \"odd\" $HOME `x`.py", "new\nline.py", "\u00e9*.py")
 # The sources of the files in each folder of a check, and what `dump --whole` reports of those that are refused.
