@@ -400,6 +400,10 @@ def vendors(checks, command):
             checks.is_due(f"{words}: crates.txt", ({name: ours.get(name, ["clap"]) for name in theirs}, needs - theirs.keys()), (theirs, set()))
             same = run(["diff", "-rq", "-x", "out", "-x", "must-fail", "-x", ".gitignore", *(f"{at}/crates/pylex" for at in (TOP, f"{folder}/mine"))])
             checks.is_due(f"{words}: pylex", same, (0, "", ""))
+        for names, count in re.findall(r"`([\w ]+)`\s+\((\d+) crates\)", text_of("docs/LIBRARY.md")):
+            os.mkdir(f"{folder}/{names}")
+            found = run([f"{TOP}/tools/vendor", *names.split(), f"{folder}/{names}"])[1]
+            checks.is_due(f"docs/LIBRARY.md: {names}", found.splitlines()[-1].split()[0], count)
         checks.is_due(f"{command}: folders", sorted(os.listdir(f"{folder}/mine/crates")), sorted(theirs.keys() - {"own"}))
 
 
