@@ -74,7 +74,7 @@ impl From<CursorFault> for UsageFault {
 }
 
 /// The version of the program.
-const VERSION: &str = "1.0.0";
+const VERSION: &str = "1.1.0";
 
 /// What `dump` and `unparse` refuse, after their help.
 const REFUSED: &str = "\

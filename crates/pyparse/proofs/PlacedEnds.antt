@@ -14,12 +14,12 @@ use Rattle.pyplaces.specs.BlockPlaces.{LinePlaces, block_places}
 use Rattle.pyplaces.specs.LineStarts.{line_starts}
 use Rattle.pyplaces.specs.PlacesOf.{PlacesOf}
 use Rattle.pyplaces.proofs.Laws.Law.{places_are_lawful}
-use Rattle.pyplaces_blocks.specs.StateOf.{Follows}
+use Rattle.pyplaces.specs.StateOf.{Follows}
 use Rattle.pyparse.specs.declared.placed.PlacedProgress.{PlacedProgress}
 use Rattle.pyparse.specs.Placed.{PlacedAs}
 use Rattle.pyparse.specs.Inner.PlacedLines.{PlacedLines, IsPlaced}
-use Rattle.pyparse_known.specs.Known.{Closes, is_unread}
-use Rattle.pyparse_known.proofs.Callers.FinishLemmas.{all_lines}
+use Rattle.pyparse_block.specs.Known.{Closes, is_unread}
+use Rattle.pyparse_block.proofs.Callers.FinishLemmas.{all_lines}
 
 -- the places that are kept are those of the module
 pub placed_as : {profile : Profile} {s : Source} {k : ℕ} {end : Place} {p : PlacedProgress} (bytes : List ℕ)

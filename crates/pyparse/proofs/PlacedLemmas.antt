@@ -17,7 +17,7 @@ use Rattle.pygrammar.specs.FormOf.{form_of}
 use Rattle.pygrammar.specs.Forms.{FormAt}
 use Rattle.pygrammar.specs.Lines.{Line, line, Form}
 use Rattle.pygrammar.specs.Refusals.{Formed, formed_end, formed_line, HasForm, terminals}
-use Rattle.pyparse_line.specs.declared.lines.LineRead.{LineRead}
+use Rattle.pyparse_line.specs.declared.lines.FormRead.{FormRead}
 use Rattle.pyparse_marks.specs.declared.spans.Span as given
 use Rattle.pyparse_marks.specs.LineSpans.{line_spans}
 use Rattle.pyparse_marks.specs.Spans.{Span, span, told}
@@ -29,14 +29,14 @@ use Rattle.pyplaces.specs.Recording.{Recording, recording, recorded, Records, af
 use Rattle.pyplaces.specs.Stretches.{Stretch, span_of}
 use Rattle.pyplaces.proofs.Moves.{recorded_all}
 use Rattle.pyparse.specs.Inner.PlacedLines.{PlacedLines}
-use Rattle.pyparse_known.specs.Known.{first_lines, Comes}
+use Rattle.pyparse_block.specs.Known.{first_lines, Comes}
 use Rattle.pyparse.specs.Inner.Reading.{IsFound, RunsOf}
-use Rattle.pyparse_known.proofs.Callers.ProgressLemmas.{starts_held, place_held, next_lines}
+use Rattle.pyparse_block.proofs.Callers.ProgressLemmas.{starts_held, place_held, next_lines}
 
 -- ---- The form of the line that is held.
 
 pub found_held : {R : Type 0} {after : R → Stretch → R} {count : R → ℕ} {profile : Profile} {s : Source} {k : ℕ} {r : LineReading}
-    (forms : List Line) (inside : Bool) (ts : List Terminal) (level : ℕ) (read : LineRead) (old new : R)
+    (forms : List Line) (inside : Bool) (ts : List Terminal) (level : ℕ) (read : FormRead) (old new : R)
     → HoldsLine s k r → inside ≡ stands_in_match level (behind [] forms) → ts ≡ r.terminals → level ≡ r.level
     → form_height (form_of read.form) ≤ 500
     → (d : FormAt profile inside ts (form_of read.form)) × (read.before ≡ count (afters after old (places_at d).before))
@@ -114,11 +114,11 @@ count_of ms ps old is =
     ∙ length-map ps (span_of ms)
 
 -- the runs of what was recorded of a line are its places
-abbrev pub RunsCut : List Span → FormPlaces → LineRead → List Span → Type 0
+abbrev pub RunsCut : List Span → FormPlaces → FormRead → List Span → Type 0
 RunsCut ms f read spans = Cut (map (span_of ms) f.before) (map (span_of ms) f.behind) (map (span_of ms) f.suite)
     spans read.before read.behind
 
-pub runs_cut : (ms : List Span) (f : FormPlaces) (read : LineRead) (old new : Recording) (spans : List Span) → old ≡ recording ms [] []
+pub runs_cut : (ms : List Span) (f : FormPlaces) (read : FormRead) (old new : Recording) (spans : List Span) → old ≡ recording ms [] []
     → RunsOf recorded (λ (w : Recording). length w.spans) f read old new → spans ≡ new.spans → RunsCut ms f read spans
 runs_cut ms f read old new spans is runs same =
     let all = f.before ++ (f.behind ++ f.suite) in
@@ -133,7 +133,7 @@ runs_cut ms f read old new spans is runs same =
     (runs.before ∙ count_of ms f.before old is ∙ sym one) (omega (arith, second, one, two, both))
 
 -- what the program lends of them
-pub line_given : (ms : List Span) (f : FormPlaces) (read : LineRead) (spans before behind suite : List given.Span) (given : LinePlaces)
+pub line_given : (ms : List Span) (f : FormPlaces) (read : FormRead) (spans before behind suite : List given.Span) (given : LinePlaces)
     → RunsCut ms f read (map told spans)
     → (0 ≤ read.before → read.before ≤ length spans → map told before ≡ take (read.before - 0) (drop 0 (map told spans)))
     → (read.before ≤ read.behind → read.behind ≤ length spans

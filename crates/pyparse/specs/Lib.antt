@@ -3,8 +3,8 @@ pub mod Expressions
 pub mod Patterns
 pub mod Placed
 pub mod Inner
-pub use Rattle.pyparse_known.specs.Modules
-pub use Rattle.pyparse_known.specs.Places
+pub use Rattle.pyparse_block.specs.Modules
+pub use Rattle.pyparse_block.specs.Places
 pub use Rattle.pyparse_tokens.specs.Answers
 pub use Rattle.pyparse_tokens.specs.LineReadings
 pub use Rattle.pyparse_tokens.specs.declared.faults.GrammarError

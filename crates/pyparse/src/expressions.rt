@@ -12,7 +12,7 @@ ghost use Rattle.pyparse.specs.Expressions.{Refuses};
 use crate::token_lists::{first_place, terminals_of};
 use pygrammar::Level;
 use pyparse_expr::read_whole;
-use pyparse_looks::Stop;
+use pyparse_nodes::Stop;
 use pyparse_tokens::{GrammarError, ParseFault, Token};
 use pyplaces::Ignored;
 use pytree_node::Expr;

@@ -17,7 +17,7 @@
 //!
 //! The words of contracts are those of these two crates and of `pygrammar`, and here in `specs/`
 //! those of `TokenLists`, `Expressions` and `Patterns`, with `Places` and `Modules` of
-//! `pyparse_known`.
+//! `pyparse_block`.
 #![tactic(auto)]
 
 mod expressions;

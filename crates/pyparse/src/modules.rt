@@ -7,8 +7,8 @@ ghost use Rattle.pylex_listing.specs.Listing.{in_characters};
 ghost use Rattle.pytree_node.specs.TreeOf.{module_of};
 ghost use Rattle.pygrammar.specs.Refusals.{Accepted};
 ghost use Rattle.pygrammar.specs.SourceLaws.{FormsAreLawful, BlocksAreLawful, AnswersAreLawful};
-ghost use Rattle.pyparse_known.specs.Modules.{Refuses};
-ghost use Rattle.pyparse_known.specs.Places.{PlacesAreLawful};
+ghost use Rattle.pyparse_block.specs.Modules.{Refuses};
+ghost use Rattle.pyparse_block.specs.Places.{PlacesAreLawful};
 
 use crate::progress::Progress;
 use pyparse_tokens::{LogicalLines, ParseFault};
@@ -32,7 +32,7 @@ use std::alloc::Global;
 /// the tokens of its fields; else by the first line that is faulty among the others, or the end;
 /// else by the first line in which a statement begins with 500 around it, `TooDeep`. Its place is
 /// where the line starts, that of the end where ENDMARKER does.
-#[tactic(auto, using(pygrammar::proofs::Callers::SourceLaw::forms_are_lawful, pygrammar::proofs::Callers::SourceLaw::blocks_are_lawful, pygrammar::proofs::Callers::SourceLaw::answers_are_lawful, pyparse_known::proofs::Callers::places_are_lawful))]
+#[tactic(auto, using(pygrammar::proofs::Callers::SourceLaw::forms_are_lawful, pygrammar::proofs::Callers::SourceLaw::blocks_are_lawful, pygrammar::proofs::Callers::SourceLaw::answers_are_lawful, pyparse_block::proofs::Callers::places_are_lawful))]
 pub fn parse(alloc: Global, source: &Source, profile: Profile) -> Result<Module, ParseFault>
     ensures accepted { IfOk result
         (λ m. Accepted profile (in_characters source.now) (module_of m)) }

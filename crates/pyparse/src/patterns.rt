@@ -11,7 +11,8 @@ ghost use Rattle.pyparse.specs.Patterns.{RefusesPattern};
 
 use crate::token_lists::{first_place, terminals_of};
 use pygrammar::PatternLevel;
-use pyparse_looks::Stop;
+use pyparse_expr::Expressions;
+use pyparse_nodes::Stop;
 use pyparse_pattern::read_whole_pattern;
 use pyparse_tokens::{GrammarError, ParseFault, Token};
 use pyplaces::Ignored;
@@ -41,7 +42,7 @@ pub fn parse_pattern(
     ensures lawful { PatternsAreLawful }
 {
     let made = terminals_of(alloc, tokens)?;
-    match read_whole_pattern(alloc, made.as_slice(), level, &mut Ignored) {
+    match read_whole_pattern::<Expressions, Ignored>(alloc, made.as_slice(), level, &mut Ignored) {
         Ok(pattern) => Ok(Box::into_inner(pattern)),
         Err(Stop::NoForm) => Err(ParseFault::Grammar(GrammarError::Syntax, first_place(tokens))),
         Err(Stop::TooDeep) => Err(ParseFault::Grammar(GrammarError::TooDeep, first_place(tokens))),

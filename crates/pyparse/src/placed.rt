@@ -12,19 +12,18 @@ ghost use Rattle.pyparse_marks.specs.Spans.{told};
 ghost use Rattle.pyparse_tokens.specs.LineReadings.{HoldsLine};
 ghost use Rattle.pyplaces.specs.BlockPlaces.{whole_of};
 ghost use Rattle.pyplaces.specs.Laws as places_laws;
-ghost use Rattle.pyplaces_laws.specs.Laws.{SourcePlacesAreLawful};
-ghost use Rattle.pyplaces_unique.specs.Laws.{PlacesAreUnique};
-ghost use Rattle.pyparse_known.specs.Modules.{Refuses};
+ghost use Rattle.pyplaces.specs.Order.{SourcePlacesAreLawful};
+ghost use Rattle.pyplaces.specs.Unique.{PlacesAreUnique};
+ghost use Rattle.pyparse_block.specs.Modules.{Refuses};
 ghost use Rattle.pyparse.specs.Placed.{PlacedAs};
 ghost use Rattle.pyparse.specs.Inner.PlacedLines.{IsPlaced};
-ghost use Rattle.pyparse_known.specs.Known.{Closes};
+ghost use Rattle.pyparse_block.specs.Known.{Closes};
 
 use crate::progress::Progress;
-use pyparse_line::LineRead;
+use pyparse_line::FormRead;
 use pyparse_marks::{Marks, Span};
 use pyparse_tokens::{LogicalLines, ParseFault};
-use pyplaces::{Places, Recorded};
-use pyplaces_blocks::{LineSpans, PlaceStack};
+use pyplaces::{LineSpans, PlaceStack, Places, Recorded};
 use pysource::{Place, Source};
 use pytree_node::{Module, Profile};
 use std::alloc::{AllocError, Global};
@@ -125,7 +124,7 @@ impl PlacedProgress {
             Some(read) => read,
             None => return Ok(()),
         };
-        let LineRead {
+        let FormRead {
             form,
             before,
             behind,
@@ -172,7 +171,7 @@ impl PlacedProgress {
 /// # Errors
 ///
 /// As those of `parse`.
-#[tactic(auto, using(pyplaces::proofs::Laws::Law::places_are_lawful, pyplaces_laws::proofs::Law::source_places_are_lawful, pyplaces_unique::proofs::Law::places_are_unique))]
+#[tactic(auto, using(pyplaces::proofs::Laws::Law::places_are_lawful, pyplaces::proofs::Order::Law::source_places_are_lawful, pyplaces::proofs::Unique::Law::places_are_unique))]
 pub fn parse_placed(alloc: Global, source: &Source, profile: Profile) -> Result<Placed, ParseFault>
     ensures placed { IfOk result (λ p. PlacedAs profile (in_characters source.now) source.now.text
         (module_of p.module) p.places) }

@@ -15,15 +15,16 @@ ghost use Rattle.pygrammar.specs.Lines.{Line, line};
 ghost use Rattle.pygrammar.specs.Refusals.{terminals, is_left_out, Accepted, Unread};
 ghost use Rattle.pyparse_line.specs.Lines.{Refused};
 ghost use Rattle.pyparse_tokens.specs.LineReadings.{HoldsLine};
-ghost use Rattle.pyparse_known.specs.Modules.{code_of, Refuses};
-ghost use Rattle.pyparse_known.specs.Known.{is_unread, Closes, Comes};
+ghost use Rattle.pyparse_block.specs.Modules.{code_of, Refuses};
+ghost use Rattle.pyparse_block.specs.Known.{is_unread, Closes, Comes};
 ghost use Rattle.pyparse.specs.Inner.Progressing.{IsProgress};
 ghost use Rattle.pyparse.specs.Inner.Reading.{Holds, Reads};
 
 use pygrammar::{Form, Header};
-use pyparse_known::{Known, LastLines};
-use pyparse_line::{LineRead, read_line};
-use pyparse_looks::Stop;
+use pyparse_block::{Known, LastLines};
+use pyparse_expr::Expressions;
+use pyparse_line::{FormRead, read_line};
+use pyparse_nodes::Stop;
 use pyparse_tokens::{GrammarError, LogicalLines, ParseFault};
 use pyplaces::{Ignored, Recorder};
 use pysource::Place;
@@ -101,7 +102,7 @@ impl Progress {
         lines: &LogicalLines<'_>,
         profile: Profile,
         recorder: &mut R,
-    ) -> Result<Option<LineRead>, AllocError>
+    ) -> Result<Option<FormRead>, AllocError>
         requires { is_unread self.old.known ≡ false }
         ensures { (k : ℕ) (forms : List Line) → HoldsLine (in_characters lines.now.source) k lines.now
             → Holds profile (in_characters lines.now.source) k forms self.old
@@ -110,7 +111,7 @@ impl Progress {
             recorder.old recorder.new) }
     {
         let inside = self.last_lines.inside(lines.level());
-        match read_line(alloc, lines.terminals(), profile, inside, recorder) {
+        match read_line::<Expressions, R>(alloc, lines.terminals(), profile, inside, recorder) {
             Ok(read) => Ok(Some(read)),
             Err(stop) => {
                 self.refuse(lines, profile, stop)?;
@@ -177,18 +178,13 @@ impl Progress {
         if self.is_unread() {
             return Ok(());
         }
+        let read = match self.read(alloc, lines, profile, &mut Ignored)? {
+            Some(read) => read,
+            None => return Ok(()),
+        };
         let level = lines.level();
-        let inside = self.last_lines.inside(level);
-        match read_line(alloc, lines.terminals(), profile, inside, &mut Ignored) {
-            Ok(read) => {
-                self.keep(alloc, level, read.form, lines.start())?;
-                Ok(())
-            }
-            Err(stop) => {
-                self.refuse(lines, profile, stop)?;
-                Ok(())
-            }
-        }
+        self.keep(alloc, level, read.form, lines.start())?;
+        Ok(())
     }
 
     /// The module, or the first refusal, after the last line: where the source ends.

@@ -3,3 +3,6 @@ mod MeetingLemmas
 mod LevelLemmas
 mod AnswerLemmas
 mod TryLemmas
+pub mod Callers
+mod LastLineLemmas
+mod CaseLines

@@ -3,3 +3,7 @@ pub mod Values
 pub mod StateOf
 pub mod Faults
 pub mod Outlines
+pub mod Modules
+pub mod Places
+pub mod Known
+pub mod LastLines

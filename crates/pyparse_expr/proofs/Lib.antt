@@ -1,4 +1,3 @@
-pub mod Callers
 mod Places
 mod Reader
 mod Lists

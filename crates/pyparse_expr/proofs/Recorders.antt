@@ -4,7 +4,6 @@ pub mod Atoms
 pub mod Calls
 pub mod Chains
 pub mod Levels
-pub mod Looks
 pub mod Made
 pub mod Misses
 pub mod Operations

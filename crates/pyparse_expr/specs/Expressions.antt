@@ -6,8 +6,8 @@ use Rattle.pytree_height.specs.Heights.{height}
 use Rattle.pygrammar.specs.declared.levels.Level.{Level}
 use Rattle.pygrammar.specs.Grammar.{Derives}
 use Rattle.pygrammar.specs.Meets.{Shapeless, High}
-use Rattle.pyparse_looks.specs.declared.stop.Stop.{Stop}
-use Rattle.pyparse_looks.specs.declared.stop.Stop.TheVariants as stop
+use Rattle.pyparse_nodes.specs.declared.stop.Stop.{Stop}
+use Rattle.pyparse_nodes.specs.declared.stop.Stop.TheVariants as stop
 
 -- the list is this expression, and its height is at most 500
 pub record IsExpression (l : Level) (ts : List Terminal) (e : Expr) : Type 0 where

@@ -1,4 +1,2 @@
 pub mod Inner
 pub mod Expressions
-pub mod Readings
-pub mod PlacedParts

@@ -17,23 +17,23 @@ ghost use Rattle.pyparse_expr.specs.Inner.Arguments.{level_of, place_of, state_o
 ghost use Rattle.pyparse_expr.specs.Inner.PlacedCalls.{ArgumentPlaced, ArgumentsKept};
 ghost use Rattle.pyparse_expr.specs.Inner.PlacedCalls.{ArgumentsPlaced, places_of};
 ghost use Rattle.pyparse_expr.specs.Inner.Readings.{inner_reads};
-ghost use Rattle.pyparse_expr.specs.Readings.{IsOpen};
-ghost use Rattle.pyparse_looks.specs.Views.{Stands, seen};
+ghost use Rattle.pyparse_reads.specs.Readings.{IsOpen};
+ghost use Rattle.pyparse_nodes.specs.Views.{Stands, seen};
 ghost use Rattle.pyplaces.specs.EntryPlaces as E;
 ghost use Rattle.pyplaces.specs.Recording.{Kept, Records};
 ghost use Rattle.pyplaces.specs.Placed.{Placed};
 ghost use Rattle.pyplaces.specs.Stretches.{Stretch, stretch};
 
 use crate::comprehensions::comps;
-use crate::depth::Depth;
 use crate::levels::{read_expression, read_named};
 use crate::listings::first_items;
 use pygrammar::Level;
 use pylex_listing::Exact;
-use pyparse_looks::{Stop, is_op, lead_at, name_with, starts_comp};
 use pyparse_nodes::{
-    Actual, ArgumentForm, Read, make_call, make_generator, make_starred, put, put_keyword,
+    Actual, ArgumentForm, Read, Stop, is_op, lead_at, make_call, make_generator, make_starred,
+    name_with, put, put_keyword, starts_comp,
 };
+use pyparse_reads::Depth;
 use pyplaces::Recorder;
 use pytoken::Terminal;
 use std::alloc::Global;

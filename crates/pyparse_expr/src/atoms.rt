@@ -10,10 +10,10 @@ ghost use Rattle.pygrammar.specs.Looks as signs;
 ghost use Rattle.pygrammar.specs.Precedence as precedence;
 ghost use Rattle.pygrammar.specs.Reader as reader;
 ghost use Rattle.pyparse_nodes.specs.Answers.{Answered, Failed};
-ghost use Rattle.pyparse_expr.specs.Readings.{IsOpen, reads};
+ghost use Rattle.pyparse_reads.specs.Readings.{IsOpen, reads};
 ghost use Rattle.pyparse_expr.specs.Inner.PlacedAtoms.{ClosedBy};
 ghost use Rattle.pyparse_expr.specs.Inner.Readings.{inner_reads, level_at, same_reads};
-ghost use Rattle.pyparse_looks.specs.Views.{Stands, seen};
+ghost use Rattle.pyparse_nodes.specs.Views.{Stands, seen};
 ghost use Rattle.pyplaces.specs.Placed.{Placed};
 ghost use Rattle.pyplaces.specs.Recording.{Records};
 ghost use Rattle.pyplaces.specs.Stretches.{Stretch};
@@ -22,17 +22,16 @@ ghost use Rattle.pytoken.specs.Terminals as terminals;
 
 use crate::braces::curly;
 use crate::comprehensions::comps;
-use crate::depth::Depth;
 use crate::levels::{read_elem, yield_step};
 use crate::listings::{Item, others};
 use crate::strings::{formatted_atom, string_atom};
 use pygrammar::Level;
 use pylex_listing::Exact;
-use pyparse_looks::{Stop, is_op, is_word, lead_at, starts_comp, terminal_at};
 use pyparse_nodes::{
-    Read, make_constant, make_generator, make_list, make_list_comp, make_name, make_number,
-    make_tuple, make_whole,
+    Read, Stop, is_op, is_word, lead_at, make_constant, make_generator, make_list, make_list_comp,
+    make_name, make_number, make_tuple, make_whole, starts_comp, terminal_at,
 };
+use pyparse_reads::Depth;
 use pyplaces::Recorder;
 use pytoken::{Keyword, Terminal};
 use pytree_node::{Constant, Context};

@@ -12,8 +12,8 @@ ghost use Rattle.pyparse_nodes.specs.Answers.{Answered, Failed};
 ghost use Rattle.pyparse_expr.specs.Inner.Pairs.{PairAt, PairsAt, more_pairs_at, pair_of, pairs_of};
 ghost use Rattle.pyparse_expr.specs.Inner.PlacedLists.{PairPlaced, PairsPlaced};
 ghost use Rattle.pyparse_expr.specs.Inner.Readings.{inner_reads};
-ghost use Rattle.pyparse_expr.specs.Readings.{IsOpen};
-ghost use Rattle.pyparse_looks.specs.Views.{Stands, seen};
+ghost use Rattle.pyparse_reads.specs.Readings.{IsOpen};
+ghost use Rattle.pyparse_nodes.specs.Views.{Stands, seen};
 ghost use Rattle.pyplaces.specs.EntryPlaces as places;
 ghost use Rattle.pyplaces.specs.EntryPlaces.{EntryPlaces};
 ghost use Rattle.pyplaces.specs.Placed.{Placed, PlacedPiece};
@@ -23,15 +23,15 @@ ghost use Rattle.pytoken.specs.Terminals as terminals;
 
 use crate::climbing::climb;
 use crate::comprehensions::comps;
-use crate::depth::Depth;
 use crate::levels::{read_elem, read_expression};
 use crate::listings::{Item, others};
 use pygrammar::Level;
 use pylex_listing::Exact;
-use pyparse_looks::{Stop, is_op, lead_at, name_with, starts_comp};
 use pyparse_nodes::{
-    Pair, Pairs, Read, make_dict, make_dict_comp, make_set, make_set_comp, put, put_option,
+    Pair, Pairs, Read, Stop, is_op, lead_at, make_dict, make_dict_comp, make_set, make_set_comp,
+    name_with, put, put_option, starts_comp,
 };
+use pyparse_reads::Depth;
 use pyplaces::Recorder;
 use pytoken::Terminal;
 use std::alloc::Global;

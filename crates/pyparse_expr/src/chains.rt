@@ -13,20 +13,19 @@ ghost use Rattle.pyparse_expr.specs.Inner.Chains.{ComparedAt, LinkedAt, MisCompa
 ghost use Rattle.pyparse_expr.specs.Inner.Chains.{links_of};
 ghost use Rattle.pyparse_expr.specs.Inner.PlacedOperations.{LinksPlaced, Unsigned};
 ghost use Rattle.pyparse_expr.specs.Inner.Readings.{inner_reads};
-ghost use Rattle.pyparse_expr.specs.Readings.{IsOpen};
-ghost use Rattle.pyparse_looks.specs.Operators.{climbing, infix_value};
-ghost use Rattle.pyparse_looks.specs.Views.{Stands, first_is, seen};
+ghost use Rattle.pyparse_reads.specs.Readings.{IsOpen};
+ghost use Rattle.pyparse_nodes.specs.Operators.{climbing, infix_value};
+ghost use Rattle.pyparse_nodes.specs.Views.{Stands, first_is, seen};
 ghost use Rattle.pyplaces.specs.Placed.{PlacedSign};
 ghost use Rattle.pyplaces.specs.Recording.{Records};
 ghost use Rattle.pyplaces.specs.Standing.{Standing};
 ghost use Rattle.pyplaces.specs.Stretches.{Stretch};
 
 use crate::climbing::climb;
-use crate::depth::Depth;
-use crate::listings::{first_items, push};
+use crate::listings::first_items;
 use pygrammar::Level;
-use pyparse_looks::{Infix, Stop, comparison_at, is_word};
-use pyparse_nodes::{Items, Read, make_chain, make_compare};
+use pyparse_nodes::{Infix, Items, Read, Stop, comparison_at, is_word, make_chain, make_compare};
+use pyparse_reads::{Depth, push};
 use pyplaces::Recorder;
 use pytoken::{Keyword, Terminal};
 use pytree_node::{BoolOperator, Comparison};

@@ -9,23 +9,24 @@ ghost use Rattle.pygrammar.specs.Operators as operators;
 ghost use Rattle.pygrammar.specs.Precedence as precedence;
 ghost use Rattle.pygrammar.specs.Reader as reader;
 ghost use Rattle.pyparse_nodes.specs.Answers.{Answered};
-ghost use Rattle.pyparse_expr.specs.Readings.{IsOpen, reads};
-ghost use Rattle.pyparse_looks.specs.Operators.{IsInfix, IsPrefix, climbing};
+ghost use Rattle.pyparse_reads.specs.Readings.{IsOpen, reads};
+ghost use Rattle.pyparse_nodes.specs.Operators.{IsInfix, IsPrefix, climbing};
 ghost use Rattle.pyparse_expr.specs.Inner.Readings.{fronts, inner_reads};
 ghost use Rattle.pyparse_expr.specs.Inner.PlacedOperations.{BinaryPlaced};
-ghost use Rattle.pyparse_looks.specs.Views.{first_is, seen};
-ghost use Rattle.pyparse_looks.specs.Operators.{infix_value, prefix_value};
+ghost use Rattle.pyparse_nodes.specs.Views.{first_is, seen};
+ghost use Rattle.pyparse_nodes.specs.Operators.{infix_value, prefix_value};
 ghost use Rattle.pyplaces.specs.Placed.{Placed};
 ghost use Rattle.pyplaces.specs.Recording.{Records};
 ghost use Rattle.pyplaces.specs.Standing.{Ended, Standing};
 ghost use Rattle.pyplaces.specs.Stretches.{Stretch};
 
 use crate::chains::{chain, compare};
-use crate::depth::Depth;
 use crate::primaries::read_primary;
 use pygrammar::Level;
-use pyparse_looks::{Infix, Prefix, Stop, infix_at, prefix_at};
-use pyparse_nodes::{Read, make_await, make_binary, make_unary};
+use pyparse_nodes::{
+    Infix, Prefix, Read, Stop, infix_at, make_await, make_binary, make_unary, prefix_at,
+};
+use pyparse_reads::Depth;
 use pyplaces::Recorder;
 use pytoken::Terminal;
 use pytree_node::{Operator, UnaryOperator};

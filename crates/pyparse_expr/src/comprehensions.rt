@@ -14,21 +14,23 @@ ghost use Rattle.pyparse_expr.specs.Inner.Found.{ClauseAt, ClausesAt, TestsAt};
 ghost use Rattle.pyparse_expr.specs.Inner.Lists.{item_of, items_of};
 ghost use Rattle.pyparse_expr.specs.Inner.PlacedLists.{TuplePlaced};
 ghost use Rattle.pyparse_expr.specs.Inner.Readings.{inner_reads};
-ghost use Rattle.pyparse_expr.specs.Readings.{IsOpen};
-ghost use Rattle.pyparse_looks.specs.Views.{Stands, seen};
+ghost use Rattle.pyparse_reads.specs.Readings.{IsOpen};
+ghost use Rattle.pyparse_nodes.specs.Views.{Stands, seen};
 ghost use Rattle.pyplaces.specs.Placed.{Placed, PlacedForIn, PlacedIfs};
 ghost use Rattle.pyplaces.specs.Recording.{Records};
 ghost use Rattle.pyplaces.specs.Rests.{Clauses};
 ghost use Rattle.pyplaces.specs.Stretches.{Stretch};
 
 use crate::climbing::climb;
-use crate::depth::Depth;
-use crate::listings::{Item, no_items, others, push};
+use crate::listings::{Item, others};
 use crate::primaries::read_primary;
 use pygrammar::Level;
 use pylex_listing::Exact;
-use pyparse_looks::{Stop, is_op, is_word};
-use pyparse_nodes::{ForClause, ForClauses, Items, Read, append, make_starred, make_tuple, store};
+use pyparse_nodes::{
+    ForClause, ForClauses, Items, Read, Stop, append, is_op, is_word, make_starred, make_tuple,
+    store,
+};
+use pyparse_reads::{Depth, no_items, push};
 use pyplaces::Recorder;
 use pytoken::{Keyword, Terminal};
 use pytree_node::{Comprehension, Context};

@@ -5,34 +5,30 @@ ghost use Rattle.pytree_node.specs.TreeOf.{tree_of};
 ghost use Rattle.pytoken.specs.TerminalOf.{terminal};
 ghost use Rattle.pyparse_expr.specs.Expressions.{IsExpression, Refused};
 ghost use Rattle.pyparse_nodes.specs.Answers.{Answered};
-ghost use Rattle.pyparse_expr.specs.Readings.{reads};
-ghost use Rattle.pyparse_looks.specs.Views.{seen};
+ghost use Rattle.pyparse_reads.specs.Readings.{reads};
+ghost use Rattle.pyparse_nodes.specs.Views.{seen};
 ghost use Rattle.pyplaces.specs.Placed.{Placed};
 ghost use Rattle.pyplaces.specs.Recording.{Records};
 ghost use Rattle.pyplaces.specs.Stretches.{Stretch};
 
 use crate::atoms::read_atom;
 use crate::climbing::climb;
-use crate::depth::Depth;
 use crate::levels::{
     read_elem, read_expression, read_named, read_star_item, read_stars, read_subject, read_value,
 };
 use crate::primaries::read_primary;
 use crate::slices::{read_part, read_slice, read_slices};
 use pygrammar::Level;
-use pyparse_looks::Stop;
-use pyparse_nodes::Read;
+use pyparse_nodes::{Read, Stop};
+use pyparse_reads::{Depth, MOST_HEIGHT};
 use pyplaces::Recorder;
 use pytoken::Terminal;
 use pytree_node::Expr;
 use std::alloc::Global;
 
-/// How high an expression may be.
-pub const MOST_HEIGHT: usize = 500;
-
 /// Reads an expression of a level at a place of some terminals.
 #[inline(always)]
-pub fn read_at<R: Recorder>(
+pub(crate) fn read_at<R: Recorder>(
     alloc: Global,
     tokens: &[Terminal],
     level: Level,

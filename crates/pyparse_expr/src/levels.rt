@@ -8,24 +8,24 @@ ghost use Rattle.pygrammar.specs.Capped.{cap};
 ghost use Rattle.pygrammar.specs.Reader as reader;
 ghost use Rattle.pygrammar.specs.Looks as signs;
 ghost use Rattle.pyparse_nodes.specs.Answers.{Answered};
-ghost use Rattle.pyparse_expr.specs.Readings.{IsOpen, reads};
+ghost use Rattle.pyparse_reads.specs.Readings.{IsOpen, reads};
 ghost use Rattle.pyparse_expr.specs.Inner.Readings.{inner_reads, level_at};
-ghost use Rattle.pyparse_looks.specs.Views.{Stands, seen};
+ghost use Rattle.pyparse_nodes.specs.Views.{Stands, seen};
 ghost use Rattle.pyplaces.specs.Placed.{Placed, PlacedYields};
 ghost use Rattle.pyplaces.specs.Recording.{Records};
 ghost use Rattle.pyplaces.specs.Stretches.{Stretch, stretch};
 
 use crate::atoms::read_atom;
 use crate::climbing::climb;
-use crate::depth::Depth;
 use crate::listings::{Item, tupled};
 use crate::signatures::lambda_step;
 use pygrammar::Level;
 use pylex_listing::Exact;
-use pyparse_looks::{Stop, is_op, is_word, lead_at, name_with, stands_alone};
 use pyparse_nodes::{
-    Read, make_if, make_name, make_named, make_starred, make_yield, make_yield_from,
+    Read, Stop, is_op, is_word, lead_at, make_if, make_name, make_named, make_starred, make_yield,
+    make_yield_from, name_with, stands_alone,
 };
+use pyparse_reads::Depth;
 use pyplaces::Recorder;
 use pytoken::{Keyword, Terminal};
 use pytree_node::Context;

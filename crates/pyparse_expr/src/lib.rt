@@ -7,7 +7,6 @@ mod braces;
 mod chains;
 mod climbing;
 mod comprehensions;
-mod depth;
 mod expressions;
 mod levels;
 mod listings;
@@ -17,7 +16,5 @@ mod signatures;
 mod slices;
 mod strings;
 
-pub use depth::Depth;
-pub use expressions::{MOST_HEIGHT, read_at, read_whole};
-pub use listings::{no_items, push};
-pub use parts::{ReadArguments, ReadParameters, arguments_at, parameters_at, target_at};
+pub use expressions::read_whole;
+pub use parts::Expressions;

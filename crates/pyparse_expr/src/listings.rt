@@ -14,21 +14,20 @@ ghost use Rattle.pyparse_expr.specs.Inner.Found.{ListedAt, entries_of};
 ghost use Rattle.pyparse_expr.specs.Inner.Lists.{item_of, item_reads, items_of, least_of, more_at};
 ghost use Rattle.pyparse_expr.specs.Inner.PlacedLists.{MorePlaced, OthersPlaced, TuplePlaced};
 ghost use Rattle.pyparse_expr.specs.Inner.Readings.{inner_reads};
-ghost use Rattle.pyparse_expr.specs.Readings.{IsOpen};
-ghost use Rattle.pyparse_looks.specs.Views.{Stands, seen};
+ghost use Rattle.pyparse_reads.specs.Readings.{IsOpen};
+ghost use Rattle.pyparse_nodes.specs.Views.{Stands, seen};
 ghost use Rattle.pyplaces.specs.EntryPlaces as places;
 ghost use Rattle.pyplaces.specs.Placed.{PlacedPiece};
 ghost use Rattle.pyplaces.specs.Recording.{Records};
 ghost use Rattle.pyplaces.specs.Stretches.{Stretch};
 
 use crate::comprehensions::target_item;
-use crate::depth::Depth;
 use crate::levels::{read_elem, read_star_item};
 use crate::slices::read_part;
 use pygrammar::Level;
 use pylex_listing::Exact;
-use pyparse_looks::{Stop, is_op, lead_at};
-use pyparse_nodes::{Items, Read, make_tuple, put};
+use pyparse_nodes::{Items, Read, Stop, is_op, lead_at, make_tuple, put};
+use pyparse_reads::{Depth, push};
 use pyplaces::Recorder;
 use pytoken::Terminal;
 use pytree_node::Context;
@@ -44,18 +43,6 @@ pub(crate) enum Item {
     Target,
 }
 
-/// A list of no items.
-pub fn no_items(alloc: Global, at: usize) -> Items
-    ensures items { map tree_of result.exprs.items ≡ [] }
-    ensures next { result.next ≡ at }
-{
-    Items {
-        exprs: Vec::new(alloc),
-        height: 0,
-        next: at,
-    }
-}
-
 /// A list of one item.
 pub(crate) fn first_items(alloc: Global, e: Read) -> Result<Items, Stop>
     ensures items { MatchResult result (λ r. map tree_of r.exprs.items ≡ tree_of e.expr.value ∷ [])
@@ -68,31 +55,6 @@ pub(crate) fn first_items(alloc: Global, e: Read) -> Result<Items, Stop>
     Ok(Items {
         exprs,
         height: e.height,
-        next: e.next,
-    })
-}
-
-/// A list with one more item.
-#[tactic(auto, using(pyparse_nodes::proofs::Callers::Pushes::pushed, pyparse_nodes::proofs::Callers::Pushes::pushed_height))]
-pub fn push(items: Items, e: Read) -> Result<Items, Stop>
-    ensures items { MatchResult result
-        (λ r. map tree_of r.exprs.items ≡ map tree_of items.exprs.items ++
-        (tree_of e.expr.value ∷ []))
-        (λ s. s ≡ Stop.Memory) }
-    ensures next { MatchResult result (λ r. r.next ≡ e.next) (λ s. s ≡ Stop.Memory) }
-    ensures height { MatchResult result (λ r. r.height ≡ max items.height e.height)
-        (λ s. s ≡ Stop.Memory) }
-{
-    let Items {
-        exprs,
-        height,
-        next: _,
-    } = items;
-    let mut exprs = exprs;
-    put(&mut exprs, e.expr)?;
-    Ok(Items {
-        exprs,
-        height: height.max(e.height),
         next: e.next,
     })
 }

@@ -3,57 +3,33 @@
 //! Python language reference, 8.3 "The `for` statement", 8.7 "Function definitions" and 8.8 "Class
 //! definitions".
 
-ghost use Rattle.std.specs.Prelude.{◌≡◌, ◌+◌, ◌≤◌, List, IfOk, length, map, max};
+ghost use Rattle.std.specs.Prelude.{◌+◌, ◌≤◌, List, IfOk, length, map};
 ghost use Rattle.pytree_node.specs.TreeOf.{arguments_of, keyword_of, tree_of};
 ghost use Rattle.pytree_node.specs.Trees as plain;
 ghost use Rattle.pytree_node.specs.Trees.{exprs};
 ghost use Rattle.pygrammar.specs.Reader as reader;
-ghost use Rattle.pytree_height.specs.Heights as Heights;
 ghost use Rattle.pyparse_nodes.specs.Answers.{Answered, PartAnswered};
-ghost use Rattle.pyparse_expr.specs.PlacedParts.{BasesPlaced, ParametersPlaced};
-ghost use Rattle.pyparse_expr.specs.Readings.{read_arguments, read_parameters, reads};
-ghost use Rattle.pyparse_looks.specs.Views.{seen};
+ghost use Rattle.pyparse_reads.specs.PlacedParts.{BasesPlaced, ParametersPlaced};
+ghost use Rattle.pyparse_reads.specs.Readings.{read_arguments, read_parameters, reads};
+ghost use Rattle.pyparse_nodes.specs.Views.{seen};
 ghost use Rattle.pyplaces.specs.Placed.{Placed};
 ghost use Rattle.pyplaces.specs.Recording.{Records};
 ghost use Rattle.pyplaces.specs.Stretches.{Stretch};
 
 use crate::arguments::arguments;
 use crate::comprehensions::read_target;
-use crate::depth::Depth;
+use crate::expressions::read_at;
 use crate::signatures::parameters;
 use pygrammar::Level;
-use pyparse_looks::Stop;
-use pyparse_nodes::{Read, arranged};
+use pyparse_nodes::{Read, Stop, arranged};
+use pyparse_reads::{Depth, ReadArguments, ReadParameters, ReadsExpressions};
 use pyplaces::Recorder;
 use pytoken::Terminal;
-use pytree_node::{Arguments, Expr, Keyword};
 use std::alloc::Global;
-
-/// The parameters of a function, the height of the highest expression in them, and the place
-/// after them.
-#[derive(Drop)]
-pub struct ReadParameters {
-    pub arguments: Arguments,
-    pub height: usize,
-    pub next: usize,
-    pub ghost is_height: { height ≡ Heights.arguments_height (arguments_of arguments) },
-}
-
-/// Arguments, the height of the highest, and the place after them.
-#[derive(Drop)]
-pub struct ReadArguments {
-    pub args: Vec<Expr>,
-    pub keywords: Vec<Keyword>,
-    pub height: usize,
-    pub next: usize,
-    pub ghost is_height: { height
-        ≡ max (Heights.list_height (map tree_of args.items))
-        (Heights.keyword_heights (plain.keywords (map keyword_of keywords.items))) },
-}
 
 /// A target in front of `in`.
 #[tactic(auto, using(crate::proofs::Reader::PartSteps::outer_open, crate::proofs::Reader::PartSteps::target_outer))]
-pub fn target_at<R: Recorder>(
+fn target_at<R: Recorder>(
     alloc: Global,
     tokens: &[Terminal],
     at: usize,
@@ -73,7 +49,7 @@ pub fn target_at<R: Recorder>(
 
 /// Parameters with commas between them, with annotations, in their order.
 #[tactic(auto, using(crate::proofs::Reader::PartSteps::outer_open))]
-pub fn parameters_at<R: Recorder>(
+fn parameters_at<R: Recorder>(
     alloc: Global,
     tokens: &[Terminal],
     at: usize,
@@ -100,7 +76,7 @@ pub fn parameters_at<R: Recorder>(
 
 /// Arguments with commas between them, in their order.
 #[tactic(auto, using(crate::proofs::Reader::PartSteps::outer_open))]
-pub fn arguments_at<R: Recorder>(
+fn arguments_at<R: Recorder>(
     alloc: Global,
     tokens: &[Terminal],
     at: usize,
@@ -126,4 +102,54 @@ pub fn arguments_at<R: Recorder>(
         height: actual.height,
         next: actual.next,
     })
+}
+
+/// The reader of expressions, for the readers of statements, patterns and lines.
+pub struct Expressions;
+
+impl ReadsExpressions for Expressions {
+    #[inline(always)]
+    fn read_at<R: Recorder>(
+        alloc: Global,
+        tokens: &[Terminal],
+        level: Level,
+        at: usize,
+        depth: Depth,
+        recorder: &mut R,
+    ) -> Result<Read, Stop> {
+        read_at(alloc, tokens, level, at, depth, recorder)
+    }
+
+    #[inline(always)]
+    fn target_at<R: Recorder>(
+        alloc: Global,
+        tokens: &[Terminal],
+        at: usize,
+        depth: Depth,
+        recorder: &mut R,
+    ) -> Result<Read, Stop> {
+        target_at(alloc, tokens, at, depth, recorder)
+    }
+
+    #[inline(always)]
+    fn parameters_at<R: Recorder>(
+        alloc: Global,
+        tokens: &[Terminal],
+        at: usize,
+        depth: Depth,
+        recorder: &mut R,
+    ) -> Result<ReadParameters, Stop> {
+        parameters_at(alloc, tokens, at, depth, recorder)
+    }
+
+    #[inline(always)]
+    fn arguments_at<R: Recorder>(
+        alloc: Global,
+        tokens: &[Terminal],
+        at: usize,
+        depth: Depth,
+        recorder: &mut R,
+    ) -> Result<ReadArguments, Stop> {
+        arguments_at(alloc, tokens, at, depth, recorder)
+    }
 }

@@ -20,10 +20,10 @@ ghost use Rattle.pyparse_expr.specs.Inner.Found.{OptionalAt};
 ghost use Rattle.pyparse_expr.specs.Inner.PlacedSignatures.{DefaultsBack, ParameterPlaced};
 ghost use Rattle.pyparse_expr.specs.Inner.PlacedSignatures.{SignaturePlaced, defaults_behind};
 ghost use Rattle.pyparse_expr.specs.Inner.Readings.{inner_reads};
-ghost use Rattle.pyparse_expr.specs.Readings.{IsOpen};
+ghost use Rattle.pyparse_reads.specs.Readings.{IsOpen};
 ghost use Rattle.pyparse_expr.specs.Inner.Signatures.{IsTall, MakesLambda, ParameterAnswered, SignatureAt};
 ghost use Rattle.pyparse_expr.specs.Inner.Signatures.{body_reads, collected_reads, gathered_reads, plain_reads};
-ghost use Rattle.pyparse_looks.specs.Views.{Stands, first_is, seen};
+ghost use Rattle.pyparse_nodes.specs.Views.{Stands, first_is, seen};
 ghost use Rattle.pyplaces.specs.EntryPlaces as E;
 ghost use Rattle.pyplaces.specs.Placed.{Placed, PlacedPiece, PlacedSuffix};
 ghost use Rattle.pyplaces.specs.Recording.{Records};
@@ -31,14 +31,14 @@ ghost use Rattle.pyplaces.specs.Rests.{StarSuffix};
 ghost use Rattle.pyplaces.specs.Stretches.{Stretch, stretch};
 
 use crate::climbing::climb;
-use crate::depth::Depth;
 use crate::levels::read_expression;
 use pygrammar::Level;
 use pylex_listing::Exact;
-use pyparse_looks::{Stop, is_op, name_at, terminal_at};
 use pyparse_nodes::{
-    Formal, Optional, Parameter, Read, Stage, arranged, identifier_of, make_lambda, make_starred,
+    Formal, Optional, Parameter, Read, Stage, Stop, arranged, identifier_of, is_op, make_lambda,
+    make_starred, name_at, terminal_at,
 };
+use pyparse_reads::Depth;
 use pyplaces::Recorder;
 use pytoken::{Keyword, Terminal};
 use pytree_node::{Arg, Expr};

@@ -10,9 +10,9 @@ ghost use Rattle.pygrammar.specs.Looks as signs;
 ghost use Rattle.pygrammar.specs.Precedence as precedence;
 ghost use Rattle.pygrammar.specs.Reader as reader;
 ghost use Rattle.pyparse_nodes.specs.Answers.{Answered, Failed};
-ghost use Rattle.pyparse_expr.specs.Readings.{IsOpen, reads};
+ghost use Rattle.pyparse_reads.specs.Readings.{IsOpen, reads};
 ghost use Rattle.pyparse_expr.specs.Inner.Readings.{inner_reads, level_at, same_reads};
-ghost use Rattle.pyparse_looks.specs.Views.{Stands, seen};
+ghost use Rattle.pyparse_nodes.specs.Views.{Stands, seen};
 ghost use Rattle.pytoken.specs.Terminals as terminals;
 ghost use Rattle.pyparse_expr.specs.Inner.Found.{OptionalAt};
 ghost use Rattle.pytree_node.specs.TreeOf.{boxed_of};
@@ -22,13 +22,14 @@ ghost use Rattle.pyplaces.specs.Recording.{Records};
 ghost use Rattle.pyplaces.specs.Rests.{PlacedPart};
 ghost use Rattle.pyplaces.specs.Stretches.{Stretch};
 
-use crate::depth::Depth;
 use crate::levels::{read_expression, read_named};
 use crate::listings::{Item, first_items, tupled};
 use pygrammar::Level;
 use pylex_listing::Exact;
-use pyparse_looks::{Stop, is_op, lead_at, name_with};
-use pyparse_nodes::{Optional, Read, make_slice, make_starred, make_tuple};
+use pyparse_nodes::{
+    Optional, Read, Stop, is_op, lead_at, make_slice, make_starred, make_tuple, name_with,
+};
+use pyparse_reads::Depth;
 use pyplaces::Recorder;
 use pytoken::Terminal;
 use pytree_node::Expr;

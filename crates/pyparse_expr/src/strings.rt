@@ -12,14 +12,14 @@ ghost use Rattle.pygrammar.specs.Looks.{conversion_in, text_in};
 ghost use Rattle.pygrammar.specs.Reader as reader;
 ghost use Rattle.pyparse_nodes.specs.Answers.{Answered, PartAnswered};
 ghost use Rattle.pyparse_nodes.specs.JoinedStates.{gathered, state_of};
-ghost use Rattle.pyparse_looks.specs.Marks.{conversion_of, points_of};
-ghost use Rattle.pyparse_looks.specs.Views.{first_is, seen};
+ghost use Rattle.pyparse_nodes.specs.Marks.{conversion_of, points_of};
+ghost use Rattle.pyparse_nodes.specs.Views.{first_is, seen};
 ghost use Rattle.pyparse_expr.specs.Inner.PlacedStrings.{FieldPlaced, FormattedPlaced, JoinedPlaced};
 ghost use Rattle.pyparse_expr.specs.Inner.PlacedStrings.{PartsPlaced};
 ghost use Rattle.pyparse_expr.specs.Inner.Places.{Span};
 ghost use Rattle.pyparse_expr.specs.Inner.Readings.{inner_reads};
 ghost use Rattle.pyparse_expr.specs.Inner.Strings.{Lowers, PartAdded, PartsAnswered, part_reads};
-ghost use Rattle.pyparse_expr.specs.Readings.{IsOpen};
+ghost use Rattle.pyparse_reads.specs.Readings.{IsOpen};
 ghost use Rattle.pytoken.specs.StringValues.{string_value};
 ghost use Rattle.pytoken.specs.TerminalOf.{literal_characters};
 ghost use Rattle.pytoken.specs.Terminals as terminals;
@@ -30,14 +30,14 @@ ghost use Rattle.pyplaces.specs.Rows.{text_places};
 ghost use Rattle.pyplaces.specs.Stretches.{Stretch, stretch};
 
 use crate::atoms::read_atom;
-use crate::depth::Depth;
 use pygrammar::Level;
 use pylex_listing::Exact;
-use pyparse_looks::{Mark, Part, Stop, is_mark, is_op, literal_at, part_at};
 use pyparse_nodes::{
-    JoinedValues, LiteralRun, Optional, Read, joined_text, literal_text, make_field, make_joined,
-    make_literal, moved, string_run, with_field, with_text,
+    JoinedValues, LiteralRun, Mark, Optional, Part, Read, Stop, is_mark, is_op, joined_text,
+    literal_at, literal_text, make_field, make_joined, make_literal, moved, part_at, string_run,
+    with_field, with_text,
 };
+use pyparse_reads::Depth;
 use pyplaces::Recorder;
 use pytoken::{Literal, LiteralText, Terminal};
 use pytree_node::{Conversion, Points};

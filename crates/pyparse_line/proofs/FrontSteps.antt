@@ -19,11 +19,11 @@ use Rattle.pygrammar.specs.Lines.{Header, case_header, header_form}
 use Rattle.pygrammar.specs.Looks.{is_op}
 use Rattle.pygrammar.specs.PatternReader.{PatternReads}
 use Rattle.pygrammar.specs.Reader.{Answer, Found, NoForm, TooDeep, Reads, and_then, on_first, on_some}
-use Rattle.pyparse_looks.specs.declared.stop.Stop.{Stop}
+use Rattle.pyparse_nodes.specs.declared.stop.Stop.{Stop}
 use Rattle.pyparse_nodes.specs.Answers.{Failed, PartAt}
-use Rattle.pyparse_looks.specs.Views.{first_of, seen}
-use Rattle.pyparse_expr.proofs.Callers.Looks.{failed_then, seen_length}
-use Rattle.pyparse_expr.proofs.Callers.Looks
+use Rattle.pyparse_nodes.specs.Views.{first_of, seen}
+use Rattle.pyparse_reads.proofs.Callers.Looks.{failed_then, seen_length}
+use Rattle.pyparse_reads.proofs.Callers.Looks
 use Rattle.pyparse_line.specs.declared.found.ReadForm.{ReadForm}
 use Rattle.pyparse_line.specs.declared.openings.Opening.{Opening}
 use Rattle.pyparse_line.specs.declared.openings.Opening.TheVariants as kind

@@ -11,7 +11,7 @@ use Rattle.pytoken.specs.declared.values.terminals.Terminal as given
 use Rattle.pytoken.specs.TerminalOf.{terminal}
 use Rattle.pygrammar.specs.LineReader.{ends_in_colon, is_colon}
 use Rattle.pygrammar.specs.Looks.{is_op}
-use Rattle.pyparse_looks.specs.Views.{Stands, first_is, seen}
+use Rattle.pyparse_nodes.specs.Views.{Stands, first_is, seen}
 
 colon_sign : (x : Exact) → is_colon (Op x) ≡ is_some (is_op Colon (Op x))
 colon_sign Colon = refl

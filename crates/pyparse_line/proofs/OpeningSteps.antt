@@ -9,8 +9,8 @@ use Rattle.pytree_node.specs.declared.profiles.Profile.{Profile}
 use Rattle.pytoken.specs.declared.values.terminals.Terminal as given
 use Rattle.pygrammar.specs.Forms.{case_name, is_whole, match_name}
 use Rattle.pygrammar.specs.LineReader.{ends_in_colon}
-use Rattle.pyparse_looks.specs.Views.{first_of, seen}
-use Rattle.pyparse_expr.proofs.Callers.Looks.{front}
+use Rattle.pyparse_nodes.specs.Views.{first_of, seen}
+use Rattle.pyparse_reads.proofs.Callers.Looks.{front}
 use Rattle.pyparse_line.specs.declared.openings.Opening.{Opening}
 use Rattle.pyparse_line.specs.declared.openings.Opening.TheVariants.{Cases, Matches, States}
 use Rattle.pyparse_line.specs.Inner.Openings.{name_of, opening_at}

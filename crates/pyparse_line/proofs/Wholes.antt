@@ -18,11 +18,11 @@ use Rattle.pygrammar.specs.Lines.{Form}
 use Rattle.pygrammar.specs.Meets.{Formless, HighLine, LineMeets}
 use Rattle.pygrammar.specs.Reader.{Answer, Found, NoForm, TooDeep, Reads, and_then}
 use Rattle.pygrammar.proofs.Callers.Lines.{line_limit_meets}
-use Rattle.pyparse_looks.specs.declared.stop.Stop.{Stop}
-use Rattle.pyparse_looks.specs.declared.stop.Stop.TheVariants as stop
+use Rattle.pyparse_nodes.specs.declared.stop.Stop.{Stop}
+use Rattle.pyparse_nodes.specs.declared.stop.Stop.TheVariants as stop
 use Rattle.pyparse_nodes.specs.Answers.{Failed}
-use Rattle.pyparse_looks.specs.Views.{seen}
-use Rattle.pyparse_expr.proofs.Callers.Looks.{seen_length}
+use Rattle.pyparse_nodes.specs.Views.{seen}
+use Rattle.pyparse_reads.proofs.Callers.Looks.{seen_length}
 use Rattle.pyparse_line.specs.Inner.Fronts.{front}
 use Rattle.pyparse_line.specs.Lines.{Refused}
 

@@ -5,8 +5,8 @@
 ghost use Rattle.std.specs.Prelude.{◌≡◌, ◌≤◌, ◌&&◌, length};
 ghost use Rattle.std.specs.Str.{bytes_eq, chars};
 ghost use Rattle.pygrammar.specs.Forms.{case_name};
-ghost use Rattle.pyparse_looks.specs.Views.{seen};
-ghost use Rattle.pyparse_expr.specs.Readings.{reads};
+ghost use Rattle.pyparse_nodes.specs.Views.{seen};
+ghost use Rattle.pyparse_reads.specs.Readings.{reads};
 ghost use Rattle.pyparse_pattern.specs.Answers as patterns;
 ghost use Rattle.pyparse_statement.specs.Answers.{HeaderAnswered};
 ghost use Rattle.pyparse_line.specs.Inner.Fronts.{case_header_of};
@@ -16,9 +16,9 @@ ghost use Rattle.pytree_node.specs.Trees.{Identifier};
 ghost use Rattle.pyparse_line.specs.Inner.Placed.{CasePlaced};
 
 use pygrammar::{Header, Level, PatternLevel};
-use pyparse_expr::Depth;
-use pyparse_looks::Stop;
+use pyparse_nodes::Stop;
 use pyparse_pattern::read_pattern;
+use pyparse_reads::{Depth, ReadsExpressions};
 use pyparse_statement::{ReadHeader, after_word};
 use pyplaces::Recorder;
 use pytoken::{Keyword, Terminal};
@@ -40,7 +40,7 @@ pub(crate) fn is_case_line(name: &str, inside: bool) -> bool
 }
 
 /// After a `case`: the pattern, and the guard if there is one.
-pub(crate) fn case_rest<R: Recorder>(
+pub(crate) fn case_rest<E: ReadsExpressions, R: Recorder>(
     alloc: Global,
     tokens: &[Terminal],
     at: usize,
@@ -55,8 +55,8 @@ pub(crate) fn case_rest<R: Recorder>(
         → IfOk result (CasePlaced R.after R.recorded_count tokens.now from recorder.old
         recorder.new) }
 {
-    let pattern = read_pattern(alloc, tokens, PatternLevel::Patterns, at, depth, recorder)?;
-    let guard = after_word(
+    let pattern = read_pattern::<E, R>(alloc, tokens, PatternLevel::Patterns, at, depth, recorder)?;
+    let guard = after_word::<E, R>(
         alloc,
         tokens,
         Keyword::If,

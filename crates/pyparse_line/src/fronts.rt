@@ -6,8 +6,8 @@ ghost use Rattle.std.specs.Prelude.{◌≡◌, ◌+◌, ◌≤◌, length};
 ghost use Rattle.pygrammar.specs.FormOf.{form_of, header_of, suite_of};
 ghost use Rattle.pygrammar.specs.Lines as lines;
 ghost use Rattle.pyparse_nodes.specs.Answers.{PartAnswered};
-ghost use Rattle.pyparse_expr.specs.Readings.{reads};
-ghost use Rattle.pyparse_looks.specs.Views.{seen};
+ghost use Rattle.pyparse_reads.specs.Readings.{reads};
+ghost use Rattle.pyparse_nodes.specs.Views.{seen};
 ghost use Rattle.pyparse_pattern.specs.Answers as patterns;
 ghost use Rattle.pyparse_line.specs.Inner.Answers.{FormAnswered};
 ghost use Rattle.pyparse_line.specs.Inner.Fronts.{cased, colon, decorator, front, headed, simple};
@@ -25,8 +25,8 @@ use crate::matches::match_rest;
 use crate::openings::{Opening, opening_of};
 use pygrammar::{Form, Level};
 use pylex_listing::Exact;
-use pyparse_expr::{Depth, read_at};
-use pyparse_looks::{Stop, is_op, terminal_at};
+use pyparse_nodes::{Stop, is_op, terminal_at};
+use pyparse_reads::{Depth, ReadsExpressions};
 use pyparse_statement::{ReadHeader, read_header, read_statements};
 use pyplaces::Recorder;
 use pytoken::Terminal;
@@ -35,7 +35,7 @@ use std::alloc::Global;
 
 /// A decorator, after its `@`: 8.7 "Function definitions".
 #[inline(never)]
-fn read_decorator<R: Recorder>(
+fn read_decorator<E: ReadsExpressions, R: Recorder>(
     alloc: Global,
     tokens: &[Terminal],
     depth: Depth,
@@ -49,7 +49,7 @@ fn read_decorator<R: Recorder>(
         → IfOk result (LinePlaced R.after R.recorded_count profile tokens.now recorder.old
         recorder.new) }
 {
-    let e = read_at(alloc, tokens, Level::Named, 1, depth, recorder)?;
+    let e = E::read_at(alloc, tokens, Level::Named, 1, depth, recorder)?;
     let recorded = recorder.recorded();
     Ok(ReadForm {
         height: e.height,
@@ -61,7 +61,7 @@ fn read_decorator<R: Recorder>(
 }
 
 /// What stands after a header's colon: 8 "Compound statements" (`suite`).
-fn read_suite<R: Recorder>(
+fn read_suite<E: ReadsExpressions, R: Recorder>(
     alloc: Global,
     tokens: &[Terminal],
     at: usize,
@@ -82,7 +82,7 @@ fn read_suite<R: Recorder>(
             next: at,
         });
     }
-    let read = read_statements(alloc, tokens, at, profile, depth, recorder)?;
+    let read = read_statements::<E, R>(alloc, tokens, at, profile, depth, recorder)?;
     Ok(ReadSuite {
         statements: Some(read.statements),
         height: read.height,
@@ -91,7 +91,7 @@ fn read_suite<R: Recorder>(
 }
 
 /// A header's colon, and what stands after it.
-fn read_colon<R: Recorder>(
+fn read_colon<E: ReadsExpressions, R: Recorder>(
     alloc: Global,
     tokens: &[Terminal],
     at: usize,
@@ -108,7 +108,7 @@ fn read_colon<R: Recorder>(
     if !is_op(tokens, at, Exact::Colon) {
         return Err(Stop::NoForm);
     }
-    read_suite(alloc, tokens, at + 1, profile, depth, recorder)
+    read_suite::<E, R>(alloc, tokens, at + 1, profile, depth, recorder)
 }
 
 /// A line of a header, of its parts.
@@ -134,7 +134,7 @@ fn headed_form(header: ReadHeader, suite: ReadSuite, behind: usize) -> ReadForm
 /// A header, its colon, and what stands after it. It is never inlined, since a function pays at entry
 /// for the locals of what it may drop, and most lines have no header.
 #[inline(never)]
-fn read_headed<R: Recorder + Drop>(
+fn read_headed<E: ReadsExpressions, R: Recorder + Drop>(
     alloc: Global,
     tokens: &[Terminal],
     profile: Profile,
@@ -146,14 +146,14 @@ fn read_headed<R: Recorder + Drop>(
     ensures placed { IfOk result (LinePlaced R.after R.recorded_count profile tokens.now recorder.old
         recorder.new) }
 {
-    let header = read_header(alloc, tokens, 0, profile, depth, recorder)?;
+    let header = read_header::<E, R>(alloc, tokens, 0, profile, depth, recorder)?;
     let behind = recorder.recorded();
-    let suite = read_colon(alloc, tokens, header.next, profile, depth, recorder)?;
+    let suite = read_colon::<E, R>(alloc, tokens, header.next, profile, depth, recorder)?;
     Ok(headed_form(header, suite, behind))
 }
 
 /// Simple statements, with `;` between them.
-fn read_simple<R: Recorder>(
+fn read_simple<E: ReadsExpressions, R: Recorder>(
     alloc: Global,
     tokens: &[Terminal],
     profile: Profile,
@@ -166,7 +166,7 @@ fn read_simple<R: Recorder>(
         recorder.old recorder.new) }
 {
     let recorded = recorder.recorded();
-    let read = read_statements(alloc, tokens, 0, profile, depth, recorder)?;
+    let read = read_statements::<E, R>(alloc, tokens, 0, profile, depth, recorder)?;
     Ok(ReadForm {
         height: read.height,
         next: read.next,
@@ -180,7 +180,7 @@ fn read_simple<R: Recorder>(
 
 /// The header of a case, from after its word on: its colon, and what stands after it.
 #[inline(never)]
-fn read_case<R: Recorder>(
+fn read_case<E: ReadsExpressions, R: Recorder>(
     alloc: Global,
     tokens: &[Terminal],
     at: usize,
@@ -196,14 +196,14 @@ fn read_case<R: Recorder>(
         → IfOk result (FormPlaced R.after R.recorded_count profile true tokens.now recorder.old
         recorder.new) }
 {
-    let header = case_rest(alloc, tokens, at, depth, recorder)?;
+    let header = case_rest::<E, R>(alloc, tokens, at, depth, recorder)?;
     let behind = recorder.recorded();
-    let suite = read_colon(alloc, tokens, header.next, profile, depth, recorder)?;
+    let suite = read_colon::<E, R>(alloc, tokens, header.next, profile, depth, recorder)?;
     Ok(headed_form(header, suite, behind))
 }
 
 /// The form at the front of a line at its place, by what begins it.
-pub(crate) fn read_front<R: Recorder + Drop>(
+pub(crate) fn read_front<E: ReadsExpressions, R: Recorder + Drop>(
     alloc: Global,
     tokens: &[Terminal],
     profile: Profile,
@@ -221,10 +221,10 @@ pub(crate) fn read_front<R: Recorder + Drop>(
         None => return Err(Stop::NoForm),
     };
     match opening_of(tokens, first, profile, inside) {
-        Opening::Decorates => read_decorator(alloc, tokens, depth, recorder),
-        Opening::Heads => read_headed(alloc, tokens, profile, depth, recorder),
-        Opening::Matches => match_rest(alloc, tokens, 1, depth, recorder),
-        Opening::Cases => read_case(alloc, tokens, 1, profile, depth, recorder),
-        Opening::States => read_simple(alloc, tokens, profile, depth, recorder),
+        Opening::Decorates => read_decorator::<E, R>(alloc, tokens, depth, recorder),
+        Opening::Heads => read_headed::<E, R>(alloc, tokens, profile, depth, recorder),
+        Opening::Matches => match_rest::<E, R>(alloc, tokens, 1, depth, recorder),
+        Opening::Cases => read_case::<E, R>(alloc, tokens, 1, profile, depth, recorder),
+        Opening::States => read_simple::<E, R>(alloc, tokens, profile, depth, recorder),
     }
 }

@@ -11,4 +11,4 @@ mod lines;
 mod matches;
 mod openings;
 
-pub use lines::{LineRead, read_line};
+pub use lines::{FormRead, read_line};

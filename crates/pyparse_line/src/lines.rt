@@ -12,8 +12,8 @@ ghost use Rattle.pyparse_line.specs.Lines.{Refused};
 
 use crate::fronts::read_front;
 use pygrammar::Form;
-use pyparse_expr::{Depth, MOST_HEIGHT};
-use pyparse_looks::Stop;
+use pyparse_nodes::Stop;
+use pyparse_reads::{Depth, MOST_HEIGHT, ReadsExpressions};
 use pyplaces::Recorder;
 use pytoken::Terminal;
 use pytree_node::Profile;
@@ -22,7 +22,7 @@ use std::alloc::Global;
 /// The form of a line, and how many nodes are recorded up to the last one before its body, and up
 /// to the last one after its body; those of the statements in the line come after them.
 #[derive(Drop)]
-pub struct LineRead {
+pub struct FormRead {
     pub form: Form,
     pub before: usize,
     pub behind: usize,
@@ -38,13 +38,13 @@ pub struct LineRead {
 /// none at all, those that count, of an f-string its ends and the tokens of its fields, are more
 /// than [`MOST_HEIGHT`]. [`Stop::Memory`].
 #[tactic(auto, using(crate::proofs::Wholes::line_failed, crate::proofs::Wholes::line_more, crate::proofs::Wholes::line_high, crate::proofs::Wholes::line_found, pygrammar::proofs::Callers::Lines::lines_are_lawful))]
-pub fn read_line<R: Recorder + Drop>(
+pub fn read_line<E: ReadsExpressions, R: Recorder + Drop>(
     alloc: Global,
     tokens: &[Terminal],
     profile: Profile,
     inside: bool,
     recorder: &mut R,
-) -> Result<LineRead, Stop>
+) -> Result<FormRead, Stop>
     ensures form { MatchResult result
         (λ r. FormAt profile inside (map terminal tokens.now) (form_of r.form)
         × (form_height (form_of r.form) ≤ 500))
@@ -58,14 +58,14 @@ pub fn read_line<R: Recorder + Drop>(
         × Records R.after recorder.old
         ((places_at d).before ++ ((places_at d).behind ++ (places_at d).suite)) recorder.new) }
 {
-    let read = read_front(alloc, tokens, profile, inside, Depth::of(tokens), recorder)?;
+    let read = read_front::<E, R>(alloc, tokens, profile, inside, Depth::of(tokens), recorder)?;
     if read.next != tokens.len() {
         return Err(Stop::NoForm);
     }
     if read.height > MOST_HEIGHT {
         return Err(Stop::TooDeep);
     }
-    Ok(LineRead {
+    Ok(FormRead {
         form: read.form,
         before: read.before,
         behind: read.behind,

@@ -6,8 +6,8 @@ ghost use Rattle.std.specs.Prelude.{◌≡◌, ◌+◌, ◌≤◌, ◌&&◌, len
 ghost use Rattle.std.specs.Str.{bytes_eq, chars};
 ghost use Rattle.pygrammar.specs.Forms.{match_name};
 ghost use Rattle.pygrammar.specs.LineReader as line_reader;
-ghost use Rattle.pyparse_looks.specs.Views.{seen};
-ghost use Rattle.pyparse_expr.specs.Readings.{reads};
+ghost use Rattle.pyparse_nodes.specs.Views.{seen};
+ghost use Rattle.pyparse_reads.specs.Readings.{reads};
 ghost use Rattle.pyparse_line.specs.Inner.Answers.{FormAnswered};
 ghost use Rattle.pyparse_line.specs.Inner.Fronts.{matched};
 ghost use Rattle.std.specs.Prelude.{IfOk, ℕ, ◌∷◌, true};
@@ -18,8 +18,8 @@ ghost use Rattle.pyparse_line.specs.Inner.Placed.{LinePlaced};
 use crate::found::ReadForm;
 use pygrammar::{Form, Header, Level};
 use pylex_listing::Exact;
-use pyparse_expr::{Depth, read_at};
-use pyparse_looks::{Stop, is_op};
+use pyparse_nodes::{Stop, is_op};
+use pyparse_reads::{Depth, ReadsExpressions};
 use pyplaces::Recorder;
 use pytoken::Terminal;
 use pytree_node::Profile;
@@ -54,7 +54,7 @@ pub(crate) fn is_match_line(tokens: &[Terminal], name: &str) -> bool
 
 /// After a `match`: the subject, and the colon.
 #[inline(never)]
-pub(crate) fn match_rest<R: Recorder>(
+pub(crate) fn match_rest<E: ReadsExpressions, R: Recorder>(
     alloc: Global,
     tokens: &[Terminal],
     at: usize,
@@ -70,7 +70,7 @@ pub(crate) fn match_rest<R: Recorder>(
         → IfOk result (LinePlaced R.after R.recorded_count profile tokens.now recorder.old
         recorder.new) }
 {
-    let subject = read_at(alloc, tokens, Level::Subject, at, depth, recorder)?;
+    let subject = E::read_at(alloc, tokens, Level::Subject, at, depth, recorder)?;
     if !is_op(tokens, subject.next, Exact::Colon) {
         return Err(Stop::NoForm);
     }

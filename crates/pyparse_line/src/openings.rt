@@ -3,7 +3,7 @@
 ghost use Rattle.std.specs.Prelude.{◌≡◌, Some};
 ghost use Rattle.std.specs.Str.{chars};
 ghost use Rattle.pytoken.specs.TerminalOf.{terminal};
-ghost use Rattle.pyparse_looks.specs.Views.{first_of, seen};
+ghost use Rattle.pyparse_nodes.specs.Views.{first_of, seen};
 ghost use Rattle.pyparse_line.specs.Inner.Openings.{name_of, opening_at, terminal_opening};
 ghost use Rattle.pyparse_line.specs.Inner.Openings.{word_opening};
 

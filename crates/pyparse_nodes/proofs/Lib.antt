@@ -1,4 +1,5 @@
 pub mod Callers
+mod Places
 mod LiteralRuns
 mod FormalParameters
 mod Stores

@@ -11,7 +11,7 @@ use Rattle.pygrammar.specs.Constants.{joined}
 use Rattle.pygrammar.specs.Looks.{literal_in}
 use Rattle.pygrammar.specs.Reader.{Answer, Found, NoForm, TooDeep, and_then, made, string_run}
 use Rattle.pyparse_nodes.specs.Runs.{run}
-use Rattle.pyparse_looks.specs.Views.{seen, first_is}
+use Rattle.pyparse_nodes.specs.Views.{seen, first_is}
 
 run_front : (v : Value) (acc : List Value) (r : List Terminal) → string_run (v ∷ acc) r ≡ and_then (string_run acc r)
     (λ vs s. Found (v ∷ vs) s)

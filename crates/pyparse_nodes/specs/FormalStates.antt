@@ -6,8 +6,8 @@ use Rattle.pygrammar.specs.Entries.{Entry, Plain, Slashed, Bare, Gathered, Colle
 use Rattle.pyparse_nodes.specs.declared.parameters.Formal.{Formal}
 use Rattle.pyparse_nodes.specs.declared.parameters.Parameter.{Parameter}
 use Rattle.pyparse_nodes.specs.declared.parameters.Parameter.TheVariants as parameter
-use Rattle.pyparse_looks.specs.declared.stop.Stop.{Stop}
-use Rattle.pyparse_looks.specs.declared.stop.Stop.TheVariants as stop
+use Rattle.pyparse_nodes.specs.declared.stop.Stop.{Stop}
+use Rattle.pyparse_nodes.specs.declared.stop.Stop.TheVariants as stop
 use Rattle.pyparse_nodes.specs.Formals.{State, outcome, state}
 
 abbrev pub state_of : Formal → State

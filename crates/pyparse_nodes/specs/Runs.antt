@@ -5,8 +5,8 @@ use Rattle.pytoken.specs.Terminals.{Terminal, Literal}
 use Rattle.pygrammar.specs.Constants.{joined}
 use Rattle.pygrammar.specs.FormattedStrings.{text_of}
 use Rattle.pygrammar.specs.Reader.{Answer, and_then, made, string_run}
-use Rattle.pyparse_looks.specs.declared.stop.Stop.{Stop}
-use Rattle.pyparse_looks.specs.declared.stop.Stop.TheVariants as stop
+use Rattle.pyparse_nodes.specs.declared.stop.Stop.{Stop}
+use Rattle.pyparse_nodes.specs.declared.stop.Stop.TheVariants as stop
 use Rattle.pyparse_nodes.specs.Answers.{Failed}
 
 abbrev pub run : Value → List Terminal → Answer Value

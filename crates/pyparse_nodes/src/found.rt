@@ -5,7 +5,7 @@ ghost use Rattle.pytree_node.specs.TreeOf.{boxed_of, comprehension_of, option_of
 ghost use Rattle.pytree_node.specs.Trees.{comprehensions, optional, optionals};
 ghost use Rattle.pytree_height.specs.Heights as Heights;
 
-use pyparse_looks::Stop;
+use crate::Stop;
 use pytree_node::{Comprehension, Expr, Points};
 use std::alloc::Global;
 

@@ -7,11 +7,11 @@ ghost use Rattle.pytree_node.specs.Trees.{exprs, optional};
 ghost use Rattle.pygrammar.specs.FormattedStrings.{Field, Text};
 ghost use Rattle.pyparse_nodes.specs.JoinedStates.{Gathers, IsNode, ended, state, state_of, step};
 
+use crate::Stop;
 use crate::found::{Items, JoinedValues, Optional, Read};
 use crate::literals::{add_points, text};
 use crate::makers::boxed;
 use crate::room::{append, put};
-use pyparse_looks::Stop;
 use pytree_node::{Conversion, Expr, Points};
 use std::alloc::Global;
 

@@ -10,7 +10,7 @@ ghost use Rattle.pyparse_nodes.specs.Answers.{Makes};
 
 use crate::found::Read;
 use crate::makers::boxed;
-use pyparse_looks::{Stop, above};
+use crate::{Stop, above};
 use pytree_node::{Arguments, Call, Comprehension, Context, Dict, DictComp, Expr, Keyword, Slice};
 use std::alloc::Global;
 

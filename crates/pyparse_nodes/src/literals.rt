@@ -10,11 +10,11 @@ ghost use Rattle.pytoken.specs.Values.{literal_value};
 ghost use Rattle.pyparse_nodes.specs.Answers.{Made, PartAnswered};
 ghost use Rattle.pygrammar.specs.FormattedStrings.{text_of};
 ghost use Rattle.pyparse_nodes.specs.Runs.{IsNoText, Joins, Parts, run};
-ghost use Rattle.pyparse_looks.specs.Views.{seen};
+ghost use Rattle.pyparse_nodes.specs.Views.{seen};
 
 use crate::found::Read;
 use crate::makers::make_constant;
-use pyparse_looks::{Stop, literal_at};
+use crate::{Stop, literal_at};
 use pytoken::{Literal, LiteralText, Terminal};
 use pytree_node::{Constant, Points};
 use std::alloc::{AllocError, Global};

@@ -14,7 +14,7 @@ ghost use Rattle.pytoken.specs.TerminalOf.{number_bytes};
 ghost use Rattle.pyparse_nodes.specs.Answers.{Makes, Made};
 
 use crate::found::Read;
-use pyparse_looks::{Stop, above};
+use crate::{Stop, above};
 use pytoken::{NumberText, identifier_value};
 use pytree_node::{
     BoolOperator, Compare, Comparison, Constant, Context, Expr, Identifier, Integer, Operator,

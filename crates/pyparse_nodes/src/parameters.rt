@@ -8,8 +8,8 @@ ghost use Rattle.pygrammar.specs.Parameters.{no_arguments};
 ghost use Rattle.pyparse_nodes.specs.Formals as formals;
 ghost use Rattle.pyparse_nodes.specs.FormalStates.{IsDisarranged, entry_of, state_of};
 
+use crate::Stop;
 use crate::room::{append, put, put_option};
-use pyparse_looks::Stop;
 use pytree_node::{Arg, Arguments, Expr};
 use std::alloc::Global;
 use std::mem;

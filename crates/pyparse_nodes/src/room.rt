@@ -5,8 +5,8 @@ ghost use Rattle.std.specs.Str.{chars};
 ghost use Rattle.unicode_normalization.specs.Forms.{nfkc};
 ghost use Rattle.pytree_node.specs.TreeOf.{boxed_of, keyword_of, option_of, tree_of};
 
+use crate::Stop;
 use crate::makers::identifier_of;
-use pyparse_looks::Stop;
 use pytree_node::{Expr, Keyword};
 use std::alloc::Global;
 

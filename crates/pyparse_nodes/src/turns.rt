@@ -6,11 +6,11 @@ ghost use Rattle.std.specs.Prelude.{◌≡◌, MatchResult};
 ghost use Rattle.pygrammar.specs.Targets as targets;
 ghost use Rattle.pyparse_nodes.specs.Answers.{Turns};
 
+use crate::Stop;
 use crate::deletions::delete;
 use crate::found::Read;
 use crate::single_targets::store_single;
 use crate::targets::store;
-use pyparse_looks::Stop;
 
 /// An expression with the contexts of a target, if it has target shape.
 #[tactic(auto, using(crate::proofs::Stores::TurnedHeights::stored_high))]

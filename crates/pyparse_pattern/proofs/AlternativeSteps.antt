@@ -11,11 +11,11 @@ use Rattle.pygrammar.specs.declared.pattern_levels.PatternLevel.TheVariants.{Clo
 use Rattle.pygrammar.specs.Looks.{is_op}
 use Rattle.pygrammar.specs.PatternReader as reader
 use Rattle.pygrammar.specs.Reader.{Answer, Found, and_then}
-use Rattle.pyparse_looks.specs.declared.stop.Stop.{Stop}
+use Rattle.pyparse_nodes.specs.declared.stop.Stop.{Stop}
 use Rattle.pyparse_nodes.specs.Answers.{Failed}
-use Rattle.pyparse_looks.specs.Views.{Stands, first_is, seen}
-use Rattle.pyparse_expr.specs.declared.depth.Depth.{Depth}
-use Rattle.pyparse_expr.proofs.Callers.Looks.{failed_then, first_miss, seen_length}
+use Rattle.pyparse_nodes.specs.Views.{Stands, first_is, seen}
+use Rattle.pyparse_reads.specs.declared.depth.Depth.{Depth}
+use Rattle.pyparse_reads.proofs.Callers.Looks.{failed_then, first_miss, seen_length}
 use Rattle.pyparse_pattern.specs.declared.found.Patterns.{Patterns}
 use Rattle.pyparse_pattern.specs.declared.found.ReadPattern.{ReadPattern}
 use Rattle.pyparse_pattern.specs.Answers.{PatternAt}

@@ -19,8 +19,8 @@ use Rattle.pygrammar.specs.PatternEntries.{PatternEntry, Alone, Keyed, Rest, Nam
 use Rattle.pygrammar.specs.PatternEntries.{rest_of, all_named, are_class_arguments, named_attributes, named_patterns}
 use Rattle.pygrammar.specs.PatternOperators.{is_wildcard}
 use Rattle.pyparse_pattern.specs.declared.entries.PatternEntry as given_entry
-use Rattle.pyparse_looks.specs.declared.stop.Stop.{Stop}
-use Rattle.pyparse_looks.specs.declared.stop.Stop.TheVariants as stop
+use Rattle.pyparse_nodes.specs.declared.stop.Stop.{Stop}
+use Rattle.pyparse_nodes.specs.declared.stop.Stop.TheVariants as stop
 use Rattle.pyparse_pattern.specs.declared.found.ReadPattern.{ReadPattern}
 use Rattle.pyparse_pattern.specs.Inner.Entries.{alone_in, entry_heights, entry_of, keyed_in, named_in, rest_from}
 use Rattle.pyparse_pattern.specs.Inner.Made.{MadePattern, MakesPattern}

@@ -1,17 +1,19 @@
 -- Patterns by their first terminal, and what follows a name.
 --
 -- Carries: read_closed, name_pattern, and what is read further in. On: PatternReader, Points.
-use Rattle.std.proofs.Common.{◌≡◌, inl, inr, refl, sym, ap, subst, ◌∙◌, arith, ℕ, ◌+◌, ◌-◌, ◌<◌, List, ◌∷◌, length, Some, None, false, cond}
-use Rattle.std.proofs.Common.{Result, MatchResult}
-use Rattle.pylex_lexeme.specs.declared.kinds.Exact.TheVariants.{Dot, LPar}
+use Rattle.std.proofs.Common.{◌≡◌, inl, inr, refl, sym, ap, subst, ◌∙◌, arith, ℕ, ◌+◌, ◌-◌, ◌<◌, List, [], ◌∷◌, length, Option, Some, None}
+use Rattle.std.proofs.Common.{Bool, true, false, cond, option_map, Result, MatchResult}
+use Rattle.pylex_lexeme.specs.declared.kinds.Exact.TheVariants.{Dot, LBrace, LPar, LSqb}
 use Rattle.pytoken.specs.declared.keywords.Keyword.{Keyword}
 use Rattle.pytree_node.specs.Trees
-use Rattle.pytree_node.specs.Trees.{Expr, Identifier, MatchSingleton, MatchValue}
+use Rattle.pytree_node.specs.Trees.{Expr, Identifier, MatchSingleton, MatchValue, Pattern}
 use Rattle.pytree_node.specs.TreeOf.{tree_of}
 use Rattle.pytree_node.specs.Values.{Value}
 use Rattle.pytree_node.specs.declared.operators.Context.TheVariants.{Load}
 use Rattle.pytoken.specs.Terminals.{Terminal, Op, Word}
+use Rattle.pytoken.specs.TerminalOf.{terminal}
 use Rattle.pytoken.specs.declared.values.terminals.Terminal as given
+use Rattle.pytoken.specs.declared.values.terminals.Terminal.TheVariants as variant
 use Rattle.pygrammar.specs.declared.pattern_levels.PatternLevel.{PatternLevel}
 use Rattle.pygrammar.specs.declared.pattern_levels.PatternLevel.TheVariants as level
 use Rattle.pygrammar.specs.Looks.{is_op}
@@ -20,18 +22,18 @@ use Rattle.pygrammar.specs.PatternReader as reader
 use Rattle.pygrammar.specs.PatternReader.{cap_pattern, dotted_from}
 use Rattle.pygrammar.specs.Reader.{Answer, Found, and_then, on_some}
 use Rattle.pyparse_nodes.specs.declared.found.Read.{Read}
-use Rattle.pyparse_looks.specs.declared.stop.Stop.{Stop}
-use Rattle.pyparse_looks.specs.declared.stop.Stop.TheVariants as stop
+use Rattle.pyparse_nodes.specs.declared.stop.Stop.{Stop}
+use Rattle.pyparse_nodes.specs.declared.stop.Stop.TheVariants as stop
 use Rattle.pyparse_nodes.specs.Answers.{FoundAt}
-use Rattle.pyparse_looks.specs.Views.{Stands, first_is, first_of, seen}
-use Rattle.pyparse_expr.specs.Readings.{IsOpen}
-use Rattle.pyparse_expr.specs.declared.depth.Depth.{Depth}
-use Rattle.pyparse_expr.proofs.Callers.Looks.{first_miss, front}
+use Rattle.pyparse_nodes.specs.Views.{Stands, first_is, first_of, seen}
+use Rattle.pyparse_reads.specs.Readings.{IsOpen}
+use Rattle.pyparse_reads.specs.declared.depth.Depth.{Depth}
+use Rattle.pyparse_reads.proofs.Callers.Looks.{first_miss, front}
 use Rattle.pyparse_pattern.specs.declared.found.ReadPattern.{ReadPattern}
 use Rattle.pyparse_pattern.specs.Answers.{PatternAnswered, PatternAt, reads}
 use Rattle.pyparse_pattern.specs.Inner.Found.{IsQualified}
 use Rattle.pyparse_pattern.specs.Inner.Made.{MadePattern, MakesPattern}
-use Rattle.pyparse_pattern.specs.Inner.Readings.{field_reads, inner_reads, level_reads, name_reads, qualified, same_reads}
+use Rattle.pyparse_pattern.specs.Inner.Readings.{field_reads, inner_reads, level_reads, literal_reads, name_reads, qualified, same_reads}
 use Rattle.pyparse_pattern.proofs.LevelSteps.{cap_low, leaf, node}
 use Rattle.pyparse_pattern.proofs.Points.{after_point}
 
@@ -63,6 +65,44 @@ closed_word ts d at w v z o l h e m =
     ∙ cap_low d.room (MatchSingleton v) (seen ts (at + 1)) (omega (arith, o.room)) in
     closed_here ts d at (at + 1) (Word w) z h
     (rw g (leaf ts d.room (at + 1) (MatchSingleton v) (at + 1) (omega arith) (omega (arith, l)) z o.room m))
+
+-- a terminal that tells that no literal stands there: a NAME, a keyword or an opening bracket
+abbrev pub begins_other : Option given.Terminal → Bool
+begins_other (Some (variant.Ident x)) = true
+begins_other (Some (variant.Word w)) = true
+begins_other (Some (variant.Op LPar)) = true
+begins_other (Some (variant.Op LSqb)) = true
+begins_other (Some (variant.Op LBrace)) = true
+begins_other _ = false
+
+module _ (d : Depth) where
+  abbrev closed : List Terminal → Answer Pattern
+  closed i = reader.closed_pattern (d.room - 1) (field_reads d) (inner_reads d) (same_reads d) i
+
+  literal_first : (t : given.Terminal) (r : List Terminal) → begins_other (Some t) ≡ false
+      → closed (terminal t ∷ r) ≡ literal_reads d (terminal t ∷ r)
+  literal_first (variant.Ident x) r h = absurd (cc)
+  literal_first (variant.Word w) r h = absurd (cc)
+  literal_first (variant.Op LPar) r h = absurd (cc)
+  literal_first (variant.Op LSqb) r h = absurd (cc)
+  literal_first (variant.Op LBrace) r h = absurd (cc)
+  literal_first (variant.Op _) r h = refl
+  literal_first _ r h = refl
+
+  literal_is : (i : List Terminal) (o : Option given.Terminal) → first_of i ≡ option_map terminal o → begins_other o ≡ false
+      → closed i ≡ literal_reads d i
+  literal_is [] o h p = refl
+  literal_is (t ∷ r) None h p = absurd (cc)
+  literal_is (t ∷ r) (Some x) h p = go t cc
+    where
+      go : (t : Terminal) → t ≡ terminal x → closed (t ∷ r) ≡ literal_reads d (t ∷ r)
+      go t e = rw e (literal_first x r p)
+
+  pub closed_literal : (ts : List given.Terminal) (at : ℕ) (o : Option given.Terminal) (z : Result ReadPattern Stop)
+      → first_of (seen ts at) ≡ option_map terminal o → begins_other o ≡ false
+      → PatternAnswered ts d.room (at + 1) (cap_pattern d.room (literal_reads d (seen ts at))) z
+      → PatternAnswered ts d.room (at + 1) (level_reads d level.ClosedPattern (seen ts at)) z
+  closed_literal ts at o z h p a = rw (literal_is (seen ts at) o h p) a
 
 -- ---- A name that is a value.
 

@@ -12,7 +12,7 @@ use Rattle.pygrammar.specs.PatternEntries.{PatternEntry, Element, Alone, Keyed, 
 use Rattle.pygrammar.specs.PatternReader as reader
 use Rattle.pygrammar.specs.PatternReader.{PatternReads, starts_entry}
 use Rattle.pygrammar.specs.Reader.{Answer, Found, NoForm, TooDeep, Reads, and_then, on_first, on_some}
-use Rattle.pyparse_expr.specs.declared.depth.Depth.{Depth}
+use Rattle.pyparse_reads.specs.declared.depth.Depth.{Depth}
 use Rattle.pyparse_pattern.specs.Inner.Entries.{are_alone}
 use Rattle.pyparse_pattern.specs.Inner.Readings.{entries_of, field_reads, inner_reads}
 

@@ -11,11 +11,11 @@ use Rattle.pygrammar.specs.PatternEntries.{PatternEntry, PatternItem}
 use Rattle.pygrammar.specs.PatternReader as reader
 use Rattle.pygrammar.specs.PatternReader.{starts_entry}
 use Rattle.pygrammar.specs.Reader.{Answer, Found, and_then, on_first}
-use Rattle.pyparse_looks.specs.declared.stop.Stop.{Stop}
+use Rattle.pyparse_nodes.specs.declared.stop.Stop.{Stop}
 use Rattle.pyparse_nodes.specs.Answers.{Failed}
-use Rattle.pyparse_looks.specs.Views.{Stands, first_is, seen}
-use Rattle.pyparse_expr.specs.declared.depth.Depth.{Depth}
-use Rattle.pyparse_expr.proofs.Callers.Looks.{failed_then, first_miss, seen_length}
+use Rattle.pyparse_nodes.specs.Views.{Stands, first_is, seen}
+use Rattle.pyparse_reads.specs.declared.depth.Depth.{Depth}
+use Rattle.pyparse_reads.proofs.Callers.Looks.{failed_then, first_miss, seen_length}
 use Rattle.pyparse_pattern.specs.declared.entries.Entries.{Entries}
 use Rattle.pyparse_pattern.specs.declared.entries.ReadEntry.{ReadEntry}
 use Rattle.pyparse_pattern.specs.Inner.Entries.{entry_of}

@@ -14,13 +14,13 @@ use Rattle.pygrammar.specs.PatternOperators.{singleton_word}
 use Rattle.pygrammar.specs.PatternReader.{cap_value, dotted_from, named_key}
 use Rattle.pygrammar.specs.Reader.{Answer, Found, NoForm, TooDeep, and_then, on_some}
 use Rattle.pyparse_nodes.specs.declared.found.Read.{Read}
-use Rattle.pyparse_looks.specs.declared.stop.Stop.{Stop}
-use Rattle.pyparse_looks.specs.declared.stop.Stop.TheVariants as stop
+use Rattle.pyparse_nodes.specs.declared.stop.Stop.{Stop}
+use Rattle.pyparse_nodes.specs.declared.stop.Stop.TheVariants as stop
 use Rattle.pyparse_nodes.specs.Answers.{Answered, Made}
-use Rattle.pyparse_looks.specs.Views.{Stands, first_of, seen}
-use Rattle.pyparse_expr.specs.Readings.{IsOpen}
-use Rattle.pyparse_expr.specs.declared.depth.Depth.{Depth}
-use Rattle.pyparse_expr.proofs.Callers.Looks.{front}
+use Rattle.pyparse_nodes.specs.Views.{Stands, first_of, seen}
+use Rattle.pyparse_reads.specs.Readings.{IsOpen}
+use Rattle.pyparse_reads.specs.declared.depth.Depth.{Depth}
+use Rattle.pyparse_reads.proofs.Callers.Looks.{front}
 use Rattle.pyparse_pattern.specs.Inner.Values.{keys}
 use Rattle.pyparse_pattern.proofs.Caps.{low_answered}
 use Rattle.pyparse_pattern.proofs.Points.{after_point}

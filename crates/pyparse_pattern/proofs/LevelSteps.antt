@@ -19,12 +19,12 @@ use Rattle.pygrammar.specs.PatternEntries.{Rest, as_named}
 use Rattle.pygrammar.specs.PatternOperators.{captured, is_wildcard}
 use Rattle.pygrammar.specs.PatternReader.{cap_pattern, capped_pattern}
 use Rattle.pygrammar.specs.Reader.{Answer, Found, NoForm, TooDeep, made, on_first}
-use Rattle.pyparse_looks.specs.declared.stop.Stop.{Stop}
-use Rattle.pyparse_looks.specs.declared.stop.Stop.TheVariants as stop
-use Rattle.pyparse_looks.specs.Views.{Stands, first_is, seen}
-use Rattle.pyparse_expr.specs.Readings.{IsOpen}
-use Rattle.pyparse_expr.specs.declared.depth.Depth.{Depth}
-use Rattle.pyparse_expr.proofs.Callers.Looks.{first_hit, seen_next}
+use Rattle.pyparse_nodes.specs.declared.stop.Stop.{Stop}
+use Rattle.pyparse_nodes.specs.declared.stop.Stop.TheVariants as stop
+use Rattle.pyparse_nodes.specs.Views.{Stands, first_is, seen}
+use Rattle.pyparse_reads.specs.Readings.{IsOpen}
+use Rattle.pyparse_reads.specs.declared.depth.Depth.{Depth}
+use Rattle.pyparse_reads.proofs.Callers.Looks.{first_hit, seen_next}
 use Rattle.pyparse_pattern.specs.declared.found.ReadPattern.{ReadPattern}
 use Rattle.pyparse_pattern.specs.Answers.{PatternAnswered, PatternAt, reads}
 use Rattle.pyparse_pattern.specs.Inner.Made.{MadePattern, MakesPattern}

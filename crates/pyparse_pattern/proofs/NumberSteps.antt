@@ -17,11 +17,11 @@ use Rattle.pygrammar.specs.PatternOperators.{is_imaginary}
 use Rattle.pygrammar.specs.PatternReader.{imaginary_in, number_in}
 use Rattle.pygrammar.specs.Reader.{Answer, Found, NoForm, TooDeep, on_first, on_some}
 use Rattle.pyparse_nodes.specs.declared.found.Read.{Read}
-use Rattle.pyparse_looks.specs.declared.stop.Stop.{Stop}
-use Rattle.pyparse_looks.specs.declared.stop.Stop.TheVariants as stop
+use Rattle.pyparse_nodes.specs.declared.stop.Stop.{Stop}
+use Rattle.pyparse_nodes.specs.declared.stop.Stop.TheVariants as stop
 use Rattle.pyparse_nodes.specs.Answers.{Answered, Failed, Makes}
-use Rattle.pyparse_looks.specs.Views.{Stands, first_is, first_of, seen}
-use Rattle.pyparse_expr.proofs.Callers.Looks.{first_hit, front, low_node, seen_next}
+use Rattle.pyparse_nodes.specs.Views.{Stands, first_is, first_of, seen}
+use Rattle.pyparse_reads.proofs.Callers.Looks.{first_hit, front, low_node, seen_next}
 use Rattle.pyparse_pattern.specs.declared.numbers.Number as found
 use Rattle.pyparse_pattern.specs.Inner.Values.{NoNumberAt, NumberAt, summed}
 

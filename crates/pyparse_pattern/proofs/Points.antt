@@ -15,11 +15,11 @@ use Rattle.pygrammar.specs.Looks.{is_op, name_in}
 use Rattle.pygrammar.specs.PatternReader.{cap_value, dotted_from, dotted_loop}
 use Rattle.pygrammar.specs.Reader.{Answer, Found, NoForm, TooDeep, and_then, on_first, on_some}
 use Rattle.pyparse_nodes.specs.declared.found.Read.{Read}
-use Rattle.pyparse_looks.specs.declared.stop.Stop.{Stop}
-use Rattle.pyparse_looks.specs.declared.stop.Stop.TheVariants as stop
+use Rattle.pyparse_nodes.specs.declared.stop.Stop.{Stop}
+use Rattle.pyparse_nodes.specs.declared.stop.Stop.TheVariants as stop
 use Rattle.pyparse_nodes.specs.Answers.{Failed, FoundAt, Made, Unmade}
-use Rattle.pyparse_looks.specs.Views.{Stands, first_is, seen}
-use Rattle.pyparse_expr.proofs.Callers.Looks.{first_hit, first_miss, seen_length, seen_next}
+use Rattle.pyparse_nodes.specs.Views.{Stands, first_is, seen}
+use Rattle.pyparse_reads.proofs.Callers.Looks.{first_hit, first_miss, seen_length, seen_next}
 use Rattle.pyparse_pattern.proofs.Caps.{capped_high, capped_low}
 
 -- behind a point

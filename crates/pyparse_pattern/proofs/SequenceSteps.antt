@@ -12,10 +12,10 @@ use Rattle.pygrammar.specs.Looks.{is_op}
 use Rattle.pygrammar.specs.PatternEntries.{PatternEntry, Element, elements}
 use Rattle.pygrammar.specs.PatternReader.{cap_pattern}
 use Rattle.pygrammar.specs.Reader.{Answer, Found, and_then, closed, on_first, unstarred}
-use Rattle.pyparse_looks.specs.declared.stop.Stop.{Stop}
-use Rattle.pyparse_looks.specs.Views.{Stands, first_is, seen}
-use Rattle.pyparse_expr.specs.declared.depth.Depth.{Depth}
-use Rattle.pyparse_expr.proofs.Callers.Looks.{first_miss}
+use Rattle.pyparse_nodes.specs.declared.stop.Stop.{Stop}
+use Rattle.pyparse_nodes.specs.Views.{Stands, first_is, seen}
+use Rattle.pyparse_reads.specs.declared.depth.Depth.{Depth}
+use Rattle.pyparse_reads.proofs.Callers.Looks.{first_miss}
 use Rattle.pyparse_pattern.specs.declared.found.Patterns.{Patterns}
 use Rattle.pyparse_pattern.specs.declared.found.ReadPattern.{ReadPattern}
 use Rattle.pyparse_pattern.specs.Answers.{PatternAnswered, PatternAt}

@@ -16,13 +16,13 @@ use Rattle.pygrammar.specs.PatternReader.{cap_pattern, cap_value, literal_or}
 use Rattle.pygrammar.specs.Reader.{Answer, Found, NoForm, TooDeep, Reads, and_then}
 use Rattle.pygrammar.proofs.Callers.Steps.{unroll_capped}
 use Rattle.pyparse_nodes.specs.declared.found.Read.{Read}
-use Rattle.pyparse_looks.specs.declared.stop.Stop.{Stop}
-use Rattle.pyparse_looks.specs.declared.stop.Stop.TheVariants as stop
+use Rattle.pyparse_nodes.specs.declared.stop.Stop.{Stop}
+use Rattle.pyparse_nodes.specs.declared.stop.Stop.TheVariants as stop
 use Rattle.pyparse_nodes.specs.Answers.{Answered, Failed, FoundAt}
-use Rattle.pyparse_looks.specs.Views.{seen}
-use Rattle.pyparse_expr.specs.Readings as expressions
-use Rattle.pyparse_expr.specs.Readings.{IsOpen}
-use Rattle.pyparse_expr.specs.declared.depth.Depth.{Depth}
+use Rattle.pyparse_nodes.specs.Views.{seen}
+use Rattle.pyparse_reads.specs.Readings as expressions
+use Rattle.pyparse_reads.specs.Readings.{IsOpen}
+use Rattle.pyparse_reads.specs.declared.depth.Depth.{Depth}
 use Rattle.pyparse_pattern.specs.declared.found.ReadPattern.{ReadPattern}
 use Rattle.pyparse_pattern.specs.Answers.{PatternAnswered}
 use Rattle.pyparse_pattern.specs.Inner.Made.{MakesPattern}

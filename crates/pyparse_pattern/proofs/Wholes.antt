@@ -13,11 +13,11 @@ use Rattle.pygrammar.specs.PatternMeets.{Patternless, HighPattern, PatternMeets}
 use Rattle.pygrammar.specs.PatternReader.{cap_pattern, capped_pattern, limit_pattern}
 use Rattle.pygrammar.specs.Reader.{Answer, Found, NoForm, TooDeep}
 use Rattle.pygrammar.proofs.Callers.PatternLaw.{patterns_are_lawful}
-use Rattle.pyparse_looks.specs.declared.stop.Stop.{Stop}
-use Rattle.pyparse_looks.specs.declared.stop.Stop.TheVariants as stop
+use Rattle.pyparse_nodes.specs.declared.stop.Stop.{Stop}
+use Rattle.pyparse_nodes.specs.declared.stop.Stop.TheVariants as stop
 use Rattle.pyparse_nodes.specs.Answers.{Failed}
-use Rattle.pyparse_looks.specs.Views.{seen}
-use Rattle.pyparse_expr.proofs.Callers.Looks.{seen_length}
+use Rattle.pyparse_nodes.specs.Views.{seen}
+use Rattle.pyparse_reads.proofs.Callers.Looks.{seen_length}
 use Rattle.pyparse_pattern.specs.Patterns.{IsPattern, RefusedPattern}
 use Rattle.pyparse_pattern.proofs.LevelSteps.{cap_low, cap_high}
 

@@ -5,10 +5,10 @@ use Rattle.pytree_node.specs.TreeOf.{pattern_of}
 use Rattle.pytoken.specs.declared.values.terminals.Terminal.{Terminal}
 use Rattle.pygrammar.specs.PatternReader.{PatternReads, capped_pattern}
 use Rattle.pygrammar.specs.Reader.{Answer, Found}
-use Rattle.pyparse_looks.specs.declared.stop.Stop.{Stop}
+use Rattle.pyparse_nodes.specs.declared.stop.Stop.{Stop}
 use Rattle.pyparse_nodes.specs.Answers.{Failed}
-use Rattle.pyparse_looks.specs.Views.{seen}
-use Rattle.pyparse_expr.specs.declared.depth.Depth.{Depth}
+use Rattle.pyparse_nodes.specs.Views.{seen}
+use Rattle.pyparse_reads.specs.declared.depth.Depth.{Depth}
 use Rattle.pyparse_pattern.specs.declared.found.ReadPattern.{ReadPattern}
 
 -- the reader of patterns, with the steps and the room of a depth

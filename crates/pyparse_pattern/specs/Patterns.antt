@@ -6,8 +6,8 @@ use Rattle.pytree_height.specs.Heights.{pattern_height}
 use Rattle.pygrammar.specs.declared.pattern_levels.PatternLevel.{PatternLevel}
 use Rattle.pygrammar.specs.PatternGrammar.{DerivesPattern}
 use Rattle.pygrammar.specs.PatternMeets.{Patternless, HighPattern}
-use Rattle.pyparse_looks.specs.declared.stop.Stop.{Stop}
-use Rattle.pyparse_looks.specs.declared.stop.Stop.TheVariants as stop
+use Rattle.pyparse_nodes.specs.declared.stop.Stop.{Stop}
+use Rattle.pyparse_nodes.specs.declared.stop.Stop.TheVariants as stop
 
 -- the list is this pattern, and its height is at most 500
 pub record IsPattern (l : PatternLevel) (ts : List Terminal) (p : Pattern) : Type 0 where

@@ -8,8 +8,8 @@ ghost use Rattle.unicode_normalization.specs.Forms.{nfkc};
 ghost use Rattle.pytree_node.specs.TreeOf.{pattern_of, tree_of};
 ghost use Rattle.pytoken.specs.Terminals as terminals;
 ghost use Rattle.pygrammar.specs.PatternReader as reader;
-ghost use Rattle.pyparse_looks.specs.Views.{Stands, seen};
-ghost use Rattle.pyparse_expr.specs.Readings.{IsOpen};
+ghost use Rattle.pyparse_nodes.specs.Views.{Stands, seen};
+ghost use Rattle.pyparse_reads.specs.Readings.{IsOpen};
 ghost use Rattle.pyparse_pattern.specs.Answers.{PatternAnswered};
 ghost use Rattle.pyparse_pattern.specs.Inner.Found.{IsQualified, IsUnqualified};
 ghost use Rattle.pyparse_pattern.specs.Inner.Readings.{class_reads, level_reads, literal_reads};
@@ -31,16 +31,15 @@ use crate::names::{captured, is_wildcard};
 use crate::sequences::{round, square};
 use pygrammar::PatternLevel;
 use pylex_listing::Exact;
-use pyparse_expr::Depth;
-use pyparse_looks::{Stop, is_op, terminal_at};
-use pyparse_nodes::{Read, identifier_of};
+use pyparse_nodes::{Read, Stop, identifier_of, is_op, terminal_at};
+use pyparse_reads::{Depth, ReadsExpressions};
 use pyplaces::Recorder;
 use pytoken::Terminal;
 use std::alloc::Global;
 
 /// A pattern of its own: a literal, a name, a value, or what stands in brackets.
 #[cycle(reading)]
-pub(crate) fn read_closed<R: Recorder>(
+pub(crate) fn read_closed<E: ReadsExpressions, R: Recorder>(
     alloc: Global,
     tokens: &[Terminal],
     at: usize,
@@ -57,23 +56,44 @@ pub(crate) fn read_closed<R: Recorder>(
 {
     match terminal_at(tokens, at) {
         Some(Terminal::Ident(name)) => {
-            name_pattern(alloc, tokens, name, at, at + 1, depth, recorder)
+            name_pattern::<E, R>(alloc, tokens, name, at, at + 1, depth, recorder)
         }
         Some(Terminal::Word(word)) => {
             let value = singleton(word)?;
             recorder.node(at, at + 1)?;
             make_singleton(alloc, value, at + 1)
         }
-        Some(Terminal::Op(Exact::LPar)) => round(alloc, tokens, at, at + 1, depth, recorder),
-        Some(Terminal::Op(Exact::LSqb)) => square(alloc, tokens, at, at + 1, depth, recorder),
-        Some(Terminal::Op(Exact::LBrace)) => mapping(alloc, tokens, at, at + 1, depth, recorder),
-        _ => literal_pattern(alloc, tokens, at, depth, recorder),
+        Some(Terminal::Op(Exact::LPar)) => round::<E, R>(
+            alloc,
+            tokens,
+            at,
+            at + 1,
+            depth,
+            recorder,
+        ),
+        Some(Terminal::Op(Exact::LSqb)) => square::<E, R>(
+            alloc,
+            tokens,
+            at,
+            at + 1,
+            depth,
+            recorder,
+        ),
+        Some(Terminal::Op(Exact::LBrace)) => mapping::<E, R>(
+            alloc,
+            tokens,
+            at,
+            at + 1,
+            depth,
+            recorder,
+        ),
+        _ => literal_pattern::<E, R>(alloc, tokens, at, depth, recorder),
     }
 }
 
 /// A literal.
 #[tactic(auto, using(crate::proofs::StringSteps::value_failed, crate::proofs::StringSteps::value_read))]
-fn literal_pattern<R: Recorder>(
+fn literal_pattern<E: ReadsExpressions, R: Recorder>(
     alloc: Global,
     tokens: &[Terminal],
     at: usize,
@@ -87,7 +107,7 @@ fn literal_pattern<R: Recorder>(
         PlacedPattern PatternLevel.ClosedPattern (seen tokens.now at) at (pattern_of r.pattern.value)
         (seen tokens.now r.next) r.next ps × Records R.after recorder.old ps recorder.new) }
 {
-    let e = read_literal(alloc, tokens, at, depth, recorder)?;
+    let e = read_literal::<E, R>(alloc, tokens, at, depth, recorder)?;
     recorder.node(at, e.next)?;
     make_value(alloc, e, depth.room)
 }
@@ -101,7 +121,7 @@ fn is_unqualified(tokens: &[Terminal], at: usize) -> bool
 
 /// After a name: a capture, a value or the pattern of a class.
 #[cycle(reading)]
-fn name_pattern<R: Recorder>(
+fn name_pattern<E: ReadsExpressions, R: Recorder>(
     alloc: Global,
     tokens: &[Terminal],
     first: &str,
@@ -128,7 +148,7 @@ fn name_pattern<R: Recorder>(
     drop(name);
     let e = dotted(alloc, tokens, first, from, at, depth.inner().room, recorder)?;
     if is_op(tokens, e.next, Exact::LPar) {
-        class_pattern(alloc, tokens, e, from, depth, recorder)
+        class_pattern::<E, R>(alloc, tokens, e, from, depth, recorder)
     } else {
         recorder.node(from, e.next)?;
         make_value(alloc, e, depth.room)
@@ -137,7 +157,7 @@ fn name_pattern<R: Recorder>(
 
 /// The pattern of a class that begins at a place, from its bracket on.
 #[cycle(reading)]
-fn class_pattern<R: Recorder>(
+fn class_pattern<E: ReadsExpressions, R: Recorder>(
     alloc: Global,
     tokens: &[Terminal],
     class: Read,
@@ -160,7 +180,7 @@ fn class_pattern<R: Recorder>(
         Records R.after recorder.old qs recorder.new) }
 {
     let next = class.next + 1;
-    let entries = read_entries(
+    let entries = read_entries::<E, R>(
         alloc,
         tokens,
         PatternItem::ClassArgument,
@@ -173,7 +193,7 @@ fn class_pattern<R: Recorder>(
 
 /// After a `{`. The values' patterns are set aside: they come behind all keys.
 #[cycle(reading)]
-fn mapping<R: Recorder>(
+fn mapping<E: ReadsExpressions, R: Recorder>(
     alloc: Global,
     tokens: &[Terminal],
     from: usize,
@@ -191,6 +211,13 @@ fn mapping<R: Recorder>(
         (seen tokens.now r.next) r.next ps × Records R.after recorder.old ps recorder.new) }
 {
     let kept = recorder.aside();
-    let entries = read_entries(alloc, tokens, PatternItem::KeyPattern, at, depth, recorder)?;
+    let entries = read_entries::<E, R>(
+        alloc,
+        tokens,
+        PatternItem::KeyPattern,
+        at,
+        depth,
+        recorder,
+    )?;
     finish_mapping(alloc, tokens, entries, from, kept, depth.room, recorder)
 }

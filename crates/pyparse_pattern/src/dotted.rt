@@ -7,14 +7,13 @@ ghost use Rattle.pytree_node.specs.TreeOf.{tree_of};
 ghost use Rattle.pytoken.specs.Terminals as terminals;
 ghost use Rattle.pygrammar.specs.PatternReader as reader;
 ghost use Rattle.pyparse_nodes.specs.Answers.{Answered};
-ghost use Rattle.pyparse_looks.specs.Views.{seen};
+ghost use Rattle.pyparse_nodes.specs.Views.{seen};
 ghost use Rattle.pyplaces.specs.PlacedPatterns.{PlacedDotted};
 ghost use Rattle.pyplaces.specs.Recording.{Records};
 ghost use Rattle.pyplaces.specs.Stretches.{Stretch};
 
 use pylex_listing::Exact;
-use pyparse_looks::{Stop, is_op, name_at};
-use pyparse_nodes::{Read, make_attribute, make_name};
+use pyparse_nodes::{Read, Stop, is_op, make_attribute, make_name, name_at};
 use pyplaces::Recorder;
 use pytoken::Terminal;
 use pytree_node::Context;

@@ -5,13 +5,12 @@ ghost use Rattle.pytree_node.specs.TreeOf.{pattern_of};
 ghost use Rattle.pytoken.specs.TerminalOf.{terminal};
 ghost use Rattle.pygrammar.specs.PatternEntries as grammar;
 ghost use Rattle.pygrammar.specs.PatternReader as reader;
-ghost use Rattle.pyparse_looks.specs.Views.{seen};
+ghost use Rattle.pyparse_nodes.specs.Views.{seen};
 ghost use Rattle.pyparse_pattern.specs.Inner.Entries.{entry_height, entry_heights, entry_of, item_of};
 
 use crate::found::ReadPattern;
 use pylex_listing::Exact;
-use pyparse_looks::{Stop, terminal_at};
-use pyparse_nodes::append;
+use pyparse_nodes::{Stop, append, terminal_at};
 use pytoken::{Keyword, Terminal};
 use pytree_node::{Expr, Identifier, Pattern};
 use std::alloc::Global;

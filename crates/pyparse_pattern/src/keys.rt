@@ -11,8 +11,8 @@ ghost use Rattle.pygrammar.specs.PatternOperators.{singleton_word};
 ghost use Rattle.pygrammar.specs.PatternReader as reader;
 ghost use Rattle.pygrammar.specs.Reader.{and_then};
 ghost use Rattle.pyparse_nodes.specs.Answers.{Answered};
-ghost use Rattle.pyparse_looks.specs.Views.{seen};
-ghost use Rattle.pyparse_expr.specs.Readings.{IsOpen};
+ghost use Rattle.pyparse_nodes.specs.Views.{seen};
+ghost use Rattle.pyparse_reads.specs.Readings.{IsOpen};
 ghost use Rattle.pyparse_pattern.specs.Inner.Readings.{field_reads};
 ghost use Rattle.pyparse_pattern.specs.Inner.Values.{IsNoSingleton, keys};
 ghost use Rattle.pyplaces.specs.PlacedPatterns.{PlacedKey};
@@ -22,9 +22,8 @@ ghost use Rattle.pyplaces.specs.Stretches.{Stretch};
 use crate::dotted::dotted;
 use crate::literals::read_literal;
 use pylex_listing::Exact;
-use pyparse_expr::Depth;
-use pyparse_looks::{Stop, is_op, terminal_at};
-use pyparse_nodes::{Read, make_constant};
+use pyparse_nodes::{Read, Stop, is_op, make_constant, terminal_at};
+use pyparse_reads::{Depth, ReadsExpressions};
 use pyplaces::Recorder;
 use pytoken::{Keyword, Terminal};
 use pytree_node::Constant;
@@ -70,7 +69,7 @@ fn dotted_key<R: Recorder>(
 }
 
 /// The key at a place, one higher at most than it may be.
-fn any_key<R: Recorder>(
+fn any_key<E: ReadsExpressions, R: Recorder>(
     alloc: Global,
     tokens: &[Terminal],
     at: usize,
@@ -101,12 +100,12 @@ fn any_key<R: Recorder>(
             recorder.node(at, at + 1)?;
             make_constant(alloc, value, at + 1)
         }
-        _ => read_literal(alloc, tokens, at, depth, recorder),
+        _ => read_literal::<E, R>(alloc, tokens, at, depth, recorder),
     }
 }
 
 /// The key at a place, up to the height of the parts.
-pub(crate) fn read_key<R: Recorder>(
+pub(crate) fn read_key<E: ReadsExpressions, R: Recorder>(
     alloc: Global,
     tokens: &[Terminal],
     at: usize,
@@ -120,7 +119,7 @@ pub(crate) fn read_key<R: Recorder>(
         PlacedKey (seen tokens.now at) at (tree_of r.expr.value)
         (seen tokens.now r.next) r.next ps × Records R.after recorder.old ps recorder.new) }
 {
-    let key = any_key(alloc, tokens, at, depth, recorder)?;
+    let key = any_key::<E, R>(alloc, tokens, at, depth, recorder)?;
     if key.height >= depth.room {
         return Err(Stop::TooDeep);
     }

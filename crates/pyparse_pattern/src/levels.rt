@@ -7,8 +7,8 @@ ghost use Rattle.pytree_node.specs.TreeOf.{pattern_of};
 ghost use Rattle.pytoken.specs.Terminals as terminals;
 ghost use Rattle.pygrammar.specs.PatternReader as reader;
 ghost use Rattle.pyparse_nodes.specs.Answers.{Failed};
-ghost use Rattle.pyparse_looks.specs.Views.{Stands, seen};
-ghost use Rattle.pyparse_expr.specs.Readings.{IsOpen};
+ghost use Rattle.pyparse_nodes.specs.Views.{Stands, seen};
+ghost use Rattle.pyparse_reads.specs.Readings.{IsOpen};
 ghost use Rattle.pyparse_pattern.specs.Answers.{PatternAnswered, reads};
 ghost use Rattle.pyparse_pattern.specs.Inner.Found.{AlternativesAt};
 ghost use Rattle.pyparse_pattern.specs.Inner.PlacedParts.{AlternativesPlaced};
@@ -25,9 +25,8 @@ use crate::names::{captured, is_wildcard};
 use crate::sequences::others;
 use pygrammar::PatternLevel;
 use pylex_listing::Exact;
-use pyparse_expr::Depth;
-use pyparse_looks::{Stop, is_op, is_word, name_at};
-use pyparse_nodes::identifier_of;
+use pyparse_nodes::{Stop, identifier_of, is_op, is_word, name_at};
+use pyparse_reads::{Depth, ReadsExpressions};
 use pyplaces::Recorder;
 use pytoken::{Keyword, Terminal};
 use std::alloc::Global;
@@ -40,7 +39,7 @@ use std::alloc::Global;
 /// deep within brackets. [`Stop::Memory`].
 #[cycle(reading)]
 #[tactic(auto, using(crate::proofs::LevelSteps::by_level))]
-pub fn read_pattern<R: Recorder>(
+pub fn read_pattern<E: ReadsExpressions, R: Recorder>(
     alloc: Global,
     tokens: &[Terminal],
     level: PatternLevel,
@@ -57,17 +56,17 @@ pub fn read_pattern<R: Recorder>(
 {
     depth.enter()?;
     match level {
-        PatternLevel::Patterns => read_patterns(alloc, tokens, at, depth, recorder),
-        PatternLevel::StarPattern => read_star(alloc, tokens, at, depth, recorder),
-        PatternLevel::AsPattern => read_as(alloc, tokens, at, depth, recorder),
-        PatternLevel::OrPattern => read_or(alloc, tokens, at, depth, recorder),
-        PatternLevel::ClosedPattern => read_closed(alloc, tokens, at, depth, recorder),
+        PatternLevel::Patterns => read_patterns::<E, R>(alloc, tokens, at, depth, recorder),
+        PatternLevel::StarPattern => read_star::<E, R>(alloc, tokens, at, depth, recorder),
+        PatternLevel::AsPattern => read_as::<E, R>(alloc, tokens, at, depth, recorder),
+        PatternLevel::OrPattern => read_or::<E, R>(alloc, tokens, at, depth, recorder),
+        PatternLevel::ClosedPattern => read_closed::<E, R>(alloc, tokens, at, depth, recorder),
     }
 }
 
 /// Patterns with commas between them, or one without a star.
 #[cycle(reading)]
-fn read_patterns<R: Recorder>(
+fn read_patterns<E: ReadsExpressions, R: Recorder>(
     alloc: Global,
     tokens: &[Terminal],
     at: usize,
@@ -82,9 +81,9 @@ fn read_patterns<R: Recorder>(
         PlacedPattern PatternLevel.Patterns (seen tokens.now at) at (pattern_of r.pattern.value)
         (seen tokens.now r.next) r.next ps × Records R.after recorder.old ps recorder.new) }
 {
-    let first = read_star(alloc, tokens, at, depth, recorder)?;
+    let first = read_star::<E, R>(alloc, tokens, at, depth, recorder)?;
     if is_op(tokens, first.next, Exact::Comma) {
-        let patterns = others(alloc, tokens, first, depth, recorder)?;
+        let patterns = others::<E, R>(alloc, tokens, first, depth, recorder)?;
         let next = patterns.next;
         recorder.node(at, next)?;
         return make_sequence(alloc, patterns, next, depth.room);
@@ -97,7 +96,7 @@ fn read_patterns<R: Recorder>(
 
 /// A pattern with a star, or one without.
 #[cycle(reading)]
-fn read_star<R: Recorder>(
+fn read_star<E: ReadsExpressions, R: Recorder>(
     alloc: Global,
     tokens: &[Terminal],
     at: usize,
@@ -115,7 +114,7 @@ fn read_star<R: Recorder>(
     if is_op(tokens, at, Exact::Star) {
         starred(alloc, tokens, at, at + 1, depth, recorder)
     } else {
-        read_as(alloc, tokens, at, depth, recorder)
+        read_as::<E, R>(alloc, tokens, at, depth, recorder)
     }
 }
 
@@ -148,7 +147,7 @@ fn starred<R: Recorder>(
 
 /// A pattern, and the name after its `as`.
 #[cycle(reading)]
-fn read_as<R: Recorder>(
+fn read_as<E: ReadsExpressions, R: Recorder>(
     alloc: Global,
     tokens: &[Terminal],
     at: usize,
@@ -163,7 +162,7 @@ fn read_as<R: Recorder>(
         PlacedPattern PatternLevel.AsPattern (seen tokens.now at) at (pattern_of r.pattern.value)
         (seen tokens.now r.next) r.next ps × Records R.after recorder.old ps recorder.new) }
 {
-    let inner = read_or(alloc, tokens, at, depth, recorder)?;
+    let inner = read_or::<E, R>(alloc, tokens, at, depth, recorder)?;
     if is_word(tokens, inner.next, Keyword::As) {
         named(alloc, tokens, inner, at, depth, recorder)
     } else {
@@ -207,7 +206,7 @@ fn named<R: Recorder>(
 
 /// Patterns with `|` between them, or one.
 #[cycle(reading)]
-fn read_or<R: Recorder>(
+fn read_or<E: ReadsExpressions, R: Recorder>(
     alloc: Global,
     tokens: &[Terminal],
     at: usize,
@@ -222,9 +221,9 @@ fn read_or<R: Recorder>(
         PlacedPattern PatternLevel.OrPattern (seen tokens.now at) at (pattern_of r.pattern.value)
         (seen tokens.now r.next) r.next ps × Records R.after recorder.old ps recorder.new) }
 {
-    let first = read_closed(alloc, tokens, at, depth, recorder)?;
+    let first = read_closed::<E, R>(alloc, tokens, at, depth, recorder)?;
     if is_op(tokens, first.next, Exact::VBar) {
-        let patterns = alternatives(alloc, tokens, first, depth, recorder)?;
+        let patterns = alternatives::<E, R>(alloc, tokens, first, depth, recorder)?;
         recorder.node(at, patterns.next)?;
         make_or(alloc, patterns, depth.room)
     } else {
@@ -234,7 +233,7 @@ fn read_or<R: Recorder>(
 
 /// A first alternative, and those after it.
 #[cycle(reading)]
-fn alternatives<R: Recorder>(
+fn alternatives<E: ReadsExpressions, R: Recorder>(
     alloc: Global,
     tokens: &[Terminal],
     first: ReadPattern,
@@ -254,7 +253,7 @@ fn alternatives<R: Recorder>(
     let mut patterns = first_pattern(alloc, first, next)?;
     'bars: while is_op(tokens, patterns.next, Exact::VBar) {
         let at = patterns.next + 1;
-        let one = read_pattern(
+        let one = read_pattern::<E, R>(
             alloc,
             tokens,
             PatternLevel::ClosedPattern,

@@ -4,8 +4,8 @@
 
 ghost use Rattle.std.specs.Prelude.{◌≡◌, ◌+◌, ◌-◌, ◌<◌, ◌≤◌, ◌∷◌, IfOk, ℕ, length};
 ghost use Rattle.pygrammar.specs.PatternEntries as entries;
-ghost use Rattle.pyparse_looks.specs.Views.{seen};
-ghost use Rattle.pyparse_expr.specs.Readings.{IsOpen};
+ghost use Rattle.pyparse_nodes.specs.Views.{seen};
+ghost use Rattle.pyparse_reads.specs.Readings.{IsOpen};
 ghost use Rattle.pytoken.specs.Terminals as terminals;
 ghost use Rattle.pyparse_pattern.specs.Inner.Entries.{entry_of, item_of};
 ghost use Rattle.pyparse_pattern.specs.Inner.Found.{EntriesAnswered, EntryAnswered};
@@ -23,16 +23,15 @@ use crate::levels::read_pattern;
 use crate::names::is_wildcard;
 use pygrammar::PatternLevel;
 use pylex_listing::Exact;
-use pyparse_expr::Depth;
-use pyparse_looks::{Stop, is_op, name_at, name_with};
-use pyparse_nodes::identifier_of;
+use pyparse_nodes::{Stop, identifier_of, is_op, name_at, name_with};
+use pyparse_reads::{Depth, ReadsExpressions};
 use pyplaces::Recorder;
 use pytoken::Terminal;
 use std::alloc::Global;
 
 /// The entries at a place, with commas between them.
 #[cycle(reading)]
-pub(crate) fn read_entries<R: Recorder>(
+pub(crate) fn read_entries<E: ReadsExpressions, R: Recorder>(
     alloc: Global,
     tokens: &[Terminal],
     item: PatternItem,
@@ -49,7 +48,7 @@ pub(crate) fn read_entries<R: Recorder>(
 {
     let mut before = no_entries(alloc, at);
     'more: while starts_entry(tokens, item, before.next) {
-        let one = read_entry(alloc, tokens, item, before.next, depth, recorder)?;
+        let one = read_entry::<E, R>(alloc, tokens, item, before.next, depth, recorder)?;
         let entries = with_entry(before, one)?;
         if !is_op(tokens, entries.next, Exact::Comma) {
             return Ok(entries);
@@ -62,7 +61,7 @@ pub(crate) fn read_entries<R: Recorder>(
 
 /// An entry of a list.
 #[cycle(reading)]
-fn read_entry<R: Recorder>(
+fn read_entry<E: ReadsExpressions, R: Recorder>(
     alloc: Global,
     tokens: &[Terminal],
     item: PatternItem,
@@ -80,17 +79,17 @@ fn read_entry<R: Recorder>(
     match item {
         PatternItem::Element => {
             let level = PatternLevel::StarPattern;
-            let read = read_pattern(alloc, tokens, level, at, depth.inner(), recorder)?;
+            let read = read_pattern::<E, R>(alloc, tokens, level, at, depth.inner(), recorder)?;
             Ok(alone(read))
         }
-        PatternItem::KeyPattern => key_entry(alloc, tokens, at, depth, recorder),
-        PatternItem::ClassArgument => argument_entry(alloc, tokens, at, depth, recorder),
+        PatternItem::KeyPattern => key_entry::<E, R>(alloc, tokens, at, depth, recorder),
+        PatternItem::ClassArgument => argument_entry::<E, R>(alloc, tokens, at, depth, recorder),
     }
 }
 
 /// A key and the pattern after its colon, which is set aside, or a `**` and a name.
 #[cycle(reading)]
-fn key_entry<R: Recorder>(
+fn key_entry<E: ReadsExpressions, R: Recorder>(
     alloc: Global,
     tokens: &[Terminal],
     at: usize,
@@ -107,13 +106,13 @@ fn key_entry<R: Recorder>(
     if is_op(tokens, at, Exact::DoubleStar) {
         return rest_entry(alloc, tokens, at + 1);
     }
-    let key = read_key(alloc, tokens, at, depth, recorder)?;
+    let key = read_key::<E, R>(alloc, tokens, at, depth, recorder)?;
     if !is_op(tokens, key.next, Exact::Colon) {
         return Err(Stop::NoForm);
     }
     let level = PatternLevel::AsPattern;
     let before = recorder.recorded();
-    let read = read_pattern(alloc, tokens, level, key.next + 1, depth.inner(), recorder)?;
+    let read = read_pattern::<E, R>(alloc, tokens, level, key.next + 1, depth.inner(), recorder)?;
     recorder.set_aside(before)?;
     Ok(ReadEntry {
         height: key.height.max(read.height),
@@ -147,7 +146,7 @@ fn rest_entry(alloc: Global, tokens: &[Terminal], at: usize) -> Result<ReadEntry
 
 /// A pattern, or a name and the pattern after its `=`.
 #[cycle(reading)]
-fn argument_entry<R: Recorder>(
+fn argument_entry<E: ReadsExpressions, R: Recorder>(
     alloc: Global,
     tokens: &[Terminal],
     at: usize,
@@ -164,7 +163,7 @@ fn argument_entry<R: Recorder>(
     let level = PatternLevel::AsPattern;
     match name_with(tokens, at, Exact::Equal) {
         Some(name) => {
-            let read = read_pattern(alloc, tokens, level, at + 2, depth.inner(), recorder)?;
+            let read = read_pattern::<E, R>(alloc, tokens, level, at + 2, depth.inner(), recorder)?;
             let name = identifier_of(alloc, name)?;
             Ok(ReadEntry {
                 height: read.height,
@@ -173,7 +172,7 @@ fn argument_entry<R: Recorder>(
             })
         }
         None => {
-            let read = read_pattern(alloc, tokens, level, at, depth.inner(), recorder)?;
+            let read = read_pattern::<E, R>(alloc, tokens, level, at, depth.inner(), recorder)?;
             Ok(alone(read))
         }
     }

@@ -6,8 +6,7 @@ ghost use Rattle.pyparse_pattern.specs.Inner.Entries.{alone_in, are_alone, entry
 
 use crate::entries::{Entries, PatternEntry};
 use crate::found::{Patterns, ReadPattern};
-use pyparse_looks::Stop;
-use pyparse_nodes::append;
+use pyparse_nodes::{Stop, append};
 use pytree_node::Pattern;
 use std::alloc::Global;
 

@@ -8,8 +8,8 @@ ghost use Rattle.pytoken.specs.TerminalOf.{terminal};
 ghost use Rattle.pygrammar.specs.PatternReader as reader;
 ghost use Rattle.pygrammar.specs.Reader.{NoForm};
 ghost use Rattle.pyparse_nodes.specs.Answers.{Answered};
-ghost use Rattle.pyparse_looks.specs.Views.{seen};
-ghost use Rattle.pyparse_expr.specs.Readings.{IsOpen};
+ghost use Rattle.pyparse_nodes.specs.Views.{seen};
+ghost use Rattle.pyparse_reads.specs.Readings.{IsOpen};
 ghost use Rattle.pyparse_pattern.specs.Inner.Readings.{field_reads};
 ghost use Rattle.pyparse_pattern.specs.Inner.Values.{begins_string, starts_string};
 ghost use Rattle.pyplaces.specs.PlacedPatterns.{PlacedLiteral};
@@ -18,9 +18,8 @@ ghost use Rattle.pyplaces.specs.Stretches.{Stretch};
 
 use crate::numbers::read_number;
 use pygrammar::Level;
-use pyparse_expr::{Depth, read_at};
-use pyparse_looks::{Stop, terminal_at};
-use pyparse_nodes::Read;
+use pyparse_nodes::{Read, Stop, terminal_at};
+use pyparse_reads::{Depth, ReadsExpressions};
 use pyplaces::Recorder;
 use pytoken::Terminal;
 use std::alloc::Global;
@@ -49,7 +48,7 @@ fn starts_string(tokens: &[Terminal], at: usize) -> bool
 
 /// The literal at a place, up to a height. Strings are read as the atom that they are.
 #[tactic(auto, using(crate::proofs::StringSteps::strings_read, crate::proofs::StringSteps::number_read))]
-pub(crate) fn read_literal<R: Recorder>(
+pub(crate) fn read_literal<E: ReadsExpressions, R: Recorder>(
     alloc: Global,
     tokens: &[Terminal],
     at: usize,
@@ -65,7 +64,7 @@ pub(crate) fn read_literal<R: Recorder>(
         (seen tokens.now r.next) r.next ps × Records R.after recorder.old ps recorder.new) }
 {
     if starts_string(tokens, at) {
-        read_at(alloc, tokens, Level::Atom, at, depth, recorder)
+        E::read_at(alloc, tokens, Level::Atom, at, depth, recorder)
     } else {
         read_number(alloc, tokens, at, depth.room, recorder)
     }

@@ -7,8 +7,7 @@ ghost use Rattle.pytree_height.specs.Heights as Heights;
 ghost use Rattle.pyparse_pattern.specs.Inner.Made.{MadePattern, MakesPattern};
 
 use crate::found::{Patterns, ReadPattern};
-use pyparse_looks::Stop;
-use pyparse_nodes::Read;
+use pyparse_nodes::{Read, Stop};
 use pytree_node::{Constant, Identifier, Pattern};
 use std::alloc::Global;
 

@@ -10,7 +10,7 @@ ghost use Rattle.pygrammar.specs.Operators as operators;
 ghost use Rattle.pygrammar.specs.PatternOperators as patterns;
 ghost use Rattle.pygrammar.specs.PatternReader as reader;
 ghost use Rattle.pyparse_nodes.specs.Answers.{Answered, Failed};
-ghost use Rattle.pyparse_looks.specs.Views.{Stands, first_is, seen};
+ghost use Rattle.pyparse_nodes.specs.Views.{Stands, first_is, seen};
 ghost use Rattle.pyparse_pattern.specs.Inner.PlacedParts.{SignedPlaced};
 ghost use Rattle.pyparse_pattern.specs.Inner.Values.{NoNumberAt, NumberAt, SignedAt, numbers, summed};
 ghost use Rattle.pyplaces.specs.PlacedPatterns.{PlacedLiteral, PlacedNumber};
@@ -19,8 +19,7 @@ ghost use Rattle.pyplaces.specs.Stretches.{Stretch, stretch};
 
 use pygrammar::Level;
 use pylex_listing::Exact;
-use pyparse_looks::{Stop, is_op, terminal_at};
-use pyparse_nodes::{Read, make_binary, make_constant, make_unary};
+use pyparse_nodes::{Read, Stop, is_op, make_binary, make_constant, make_unary, terminal_at};
 use pyplaces::Recorder;
 use pytoken::Terminal;
 use pytree_node::{Constant, Integer, Operator, UnaryOperator};

@@ -10,8 +10,8 @@ ghost use Rattle.pyplaces.specs.Stretches.{Stretch};
 
 use crate::levels::read_pattern;
 use pygrammar::PatternLevel;
-use pyparse_expr::{Depth, MOST_HEIGHT};
-use pyparse_looks::Stop;
+use pyparse_nodes::Stop;
+use pyparse_reads::{Depth, MOST_HEIGHT, ReadsExpressions};
 use pyplaces::Recorder;
 use pytoken::Terminal;
 use pytree_node::Pattern;
@@ -26,7 +26,7 @@ use std::alloc::Global;
 /// none at all, there are more of them than [`MOST_HEIGHT`], and those that count, of an f-string
 /// its ends and the tokens of its fields, are no fewer. [`Stop::Memory`].
 #[tactic(auto, using(crate::proofs::Wholes::whole_failed, crate::proofs::Wholes::whole_high, crate::proofs::Wholes::whole_more, crate::proofs::Wholes::whole_found))]
-pub fn read_whole_pattern<R: Recorder>(
+pub fn read_whole_pattern<E: ReadsExpressions, R: Recorder>(
     alloc: Global,
     tokens: &[Terminal],
     level: PatternLevel,
@@ -39,7 +39,7 @@ pub fn read_whole_pattern<R: Recorder>(
         PlacedPattern level (map terminal tokens.now) 0 (pattern_of p.value) []
         (length tokens.now) ps × Records R.after recorder.old ps recorder.new) }
 {
-    let read = read_pattern(alloc, tokens, level, 0, Depth::of(tokens), recorder)?;
+    let read = read_pattern::<E, R>(alloc, tokens, level, 0, Depth::of(tokens), recorder)?;
     if read.height > MOST_HEIGHT {
         return Err(Stop::TooDeep);
     }

@@ -9,8 +9,8 @@ ghost use Rattle.pytoken.specs.Terminals as terminals;
 ghost use Rattle.pygrammar.specs.PatternEntries as entries;
 ghost use Rattle.pygrammar.specs.PatternReader as reader;
 ghost use Rattle.pygrammar.specs.Reader.{closed};
-ghost use Rattle.pyparse_looks.specs.Views.{Stands, seen};
-ghost use Rattle.pyparse_expr.specs.Readings.{IsOpen};
+ghost use Rattle.pyparse_nodes.specs.Views.{Stands, seen};
+ghost use Rattle.pyparse_reads.specs.Readings.{IsOpen};
 ghost use Rattle.pyparse_pattern.specs.Answers.{PatternAnswered};
 ghost use Rattle.pyparse_pattern.specs.Inner.Found.{ElementsAnswered};
 ghost use Rattle.pyparse_pattern.specs.Inner.PlacedParts.{BracketedPlaced, ElementsPlaced, GroupedPlaced};
@@ -27,15 +27,15 @@ use crate::lists::{first_pattern, no_patterns, with_elements};
 use crate::makers::make_sequence;
 use pygrammar::PatternLevel;
 use pylex_listing::Exact;
-use pyparse_expr::Depth;
-use pyparse_looks::{Stop, is_op};
+use pyparse_nodes::{Stop, is_op};
+use pyparse_reads::{Depth, ReadsExpressions};
 use pyplaces::Recorder;
 use pytoken::Terminal;
 use std::alloc::Global;
 
 /// The patterns that stand after some, with commas between them.
 #[cycle(reading)]
-fn elements<R: Recorder>(
+fn elements<E: ReadsExpressions, R: Recorder>(
     alloc: Global,
     tokens: &[Terminal],
     patterns: Patterns,
@@ -50,7 +50,7 @@ fn elements<R: Recorder>(
     ensures placed { IfOk result (λ r. ElementsPlaced R.after tokens.now patterns.next
         (map pattern_of patterns.items.items) r recorder.old recorder.new) }
 {
-    let entries = read_entries(
+    let entries = read_entries::<E, R>(
         alloc,
         tokens,
         PatternItem::Element,
@@ -63,7 +63,7 @@ fn elements<R: Recorder>(
 
 /// A first pattern, and those after the comma behind it.
 #[cycle(reading)]
-pub(crate) fn others<R: Recorder>(
+pub(crate) fn others<E: ReadsExpressions, R: Recorder>(
     alloc: Global,
     tokens: &[Terminal],
     first: ReadPattern,
@@ -80,7 +80,7 @@ pub(crate) fn others<R: Recorder>(
 {
     let next = first.next + 1;
     let patterns = first_pattern(alloc, first, next)?;
-    elements(alloc, tokens, patterns, depth, recorder)
+    elements::<E, R>(alloc, tokens, patterns, depth, recorder)
 }
 
 /// The sequence of some patterns, which begins at a place, and after which its bracket has to stand.
@@ -128,7 +128,7 @@ fn grouped(tokens: &[Terminal], read: ReadPattern) -> Result<ReadPattern, Stop>
 
 /// After a `(`.
 #[cycle(reading)]
-pub(crate) fn round<R: Recorder>(
+pub(crate) fn round<E: ReadsExpressions, R: Recorder>(
     alloc: Global,
     tokens: &[Terminal],
     from: usize,
@@ -150,7 +150,7 @@ pub(crate) fn round<R: Recorder>(
         recorder.node(from, at + 1)?;
         return make_sequence(alloc, no_patterns(alloc, at), at + 1, depth.room);
     }
-    let first = read_pattern(
+    let first = read_pattern::<E, R>(
         alloc,
         tokens,
         PatternLevel::StarPattern,
@@ -159,7 +159,7 @@ pub(crate) fn round<R: Recorder>(
         recorder,
     )?;
     if is_op(tokens, first.next, Exact::Comma) {
-        let patterns = others(alloc, tokens, first, depth, recorder)?;
+        let patterns = others::<E, R>(alloc, tokens, first, depth, recorder)?;
         return bracketed(
             alloc,
             tokens,
@@ -178,7 +178,7 @@ pub(crate) fn round<R: Recorder>(
 
 /// After a `[`.
 #[cycle(reading)]
-pub(crate) fn square<R: Recorder>(
+pub(crate) fn square<E: ReadsExpressions, R: Recorder>(
     alloc: Global,
     tokens: &[Terminal],
     from: usize,
@@ -195,7 +195,7 @@ pub(crate) fn square<R: Recorder>(
         (terminals.Op Exact.LSqb ∷ seen tokens.now at) from (pattern_of r.pattern.value)
         (seen tokens.now r.next) r.next ps × Records R.after recorder.old ps recorder.new) }
 {
-    let patterns = elements(alloc, tokens, no_patterns(alloc, at), depth, recorder)?;
+    let patterns = elements::<E, R>(alloc, tokens, no_patterns(alloc, at), depth, recorder)?;
     bracketed(
         alloc,
         tokens,

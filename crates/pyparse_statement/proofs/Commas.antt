@@ -9,10 +9,10 @@ use Rattle.pytoken.specs.declared.values.terminals.Terminal as given
 use Rattle.pygrammar.specs.LineReader.{commas, commas_of}
 use Rattle.pygrammar.specs.Looks.{is_op}
 use Rattle.pygrammar.specs.Reader.{Answer, Found, NoForm, TooDeep, and_then, on_first}
-use Rattle.pyparse_looks.specs.declared.stop.Stop.{Stop}
+use Rattle.pyparse_nodes.specs.declared.stop.Stop.{Stop}
 use Rattle.pyparse_nodes.specs.Answers.{Failed, PartAt}
-use Rattle.pyparse_looks.specs.Views.{Stands, first_is, seen}
-use Rattle.pyparse_expr.proofs.Callers.Looks.{failed_then, first_miss, seen_length}
+use Rattle.pyparse_nodes.specs.Views.{Stands, first_is, seen}
+use Rattle.pyparse_reads.proofs.Callers.Looks.{failed_then, first_miss, seen_length}
 
 -- how far a list was read: what the reader makes of all of it is what it makes of the rest,
 -- behind those that were read

@@ -13,7 +13,7 @@ use Rattle.pygrammar.specs.Grammar.{DelTarget}
 use Rattle.pyparse_nodes.specs.declared.found.Items.{Items}
 use Rattle.pyparse_nodes.specs.declared.found.Optional.{Optional}
 use Rattle.pyparse_nodes.specs.declared.found.Read.{Read}
-use Rattle.pyparse_looks.specs.Views.{seen}
+use Rattle.pyparse_nodes.specs.Views.{seen}
 use Rattle.pyplaces.specs.ExpressionPlaces.{del_target_places}
 use Rattle.pyplaces.specs.FormPlaces.{dotted_alias_places, item_places, name_alias_places, type_param_places}
 use Rattle.pyplaces.specs.Placed.{PlacedDelTarget, PlacedItemTarget}

@@ -16,8 +16,8 @@ use Rattle.pygrammar.specs.Reader.{Reads}
 use Rattle.pyparse_nodes.specs.Answers.{PartAt}
 use Rattle.pyparse_nodes.specs.declared.found.Items.{Items}
 use Rattle.pyparse_nodes.specs.declared.found.Read.{Read}
-use Rattle.pyparse_looks.specs.declared.stop.Stop.{Stop}
-use Rattle.pyparse_looks.specs.Views.{IsNotNamed, Stands, seen}
+use Rattle.pyparse_nodes.specs.declared.stop.Stop.{Stop}
+use Rattle.pyparse_nodes.specs.Views.{IsNotNamed, Stands, seen}
 use Rattle.pyplaces.specs.Placed.{Placed}
 use Rattle.pyplaces.specs.PlacedForms.{PlacedBehind, PlacedFields, PlacedNames, PlacedSimples, PlacedTargets}
 use Rattle.pyplaces.specs.Recording.{Records}

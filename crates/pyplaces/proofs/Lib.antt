@@ -14,3 +14,9 @@ mod LineStartLemmas
 mod MarkLemmas
 pub mod Moves
 mod RowWalks
+mod Settling
+mod Adding
+mod BlockLaw
+mod StackLemmas
+pub mod Unique
+pub mod Order

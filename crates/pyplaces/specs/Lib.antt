@@ -17,3 +17,12 @@ pub mod Rows
 pub mod RowEnds
 pub mod Recording
 pub mod Laws
+pub mod Steps
+pub mod StateOf
+pub mod Inner
+pub mod Unique
+pub mod Spans
+pub mod Laminar
+pub mod Nesting
+pub mod EachBlock
+pub mod Order

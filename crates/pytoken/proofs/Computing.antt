@@ -9,8 +9,8 @@ use Rattle.std.specs.Float.Numeral.{scan_numeral}
 use Rattle.unicode_normalization.proofs.Computing.{unicode_normalization}
 use Rattle.pysource.specs.Places.{place_after}
 use Rattle.pylex_lexeme.proofs.Callers.Lexemes.{lexemes}
-use Rattle.pynatural.specs.Readings.{written, most_digits}
-use Rattle.pyfloat.specs.FloatValues.{float_value}
+use Rattle.pynumber.specs.Readings.{written, most_digits}
+use Rattle.pynumber.specs.FloatValues.{float_value}
 use Rattle.pylex_lexeme.specs.Cuts.{begins_significant}
 use Rattle.pylex_listing.specs.Margins.{width_by_one}
 use Rattle.pylex_listing.specs.Lines.{depth, line_so_far, is_at_margin, is_logical}

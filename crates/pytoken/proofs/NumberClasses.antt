@@ -11,7 +11,7 @@ use Rattle.pylex_lexeme.specs.Numbers.{is_exponent}
 use Rattle.pylex_lexeme.specs.Numbers.{is_point_after, is_point_before, is_raised, is_float, is_imaginary}
 use Rattle.pylex_lexeme.proofs.Callers.Fronts.{split_all, joined_all}
 use Rattle.pylex_lexeme.proofs.Callers.Numbers.{digit_bounds, either, either_not, point_is, part_all, decimal_part}
-use Rattle.pyfloat.specs.FloatValues.{float_value}
+use Rattle.pynumber.specs.FloatValues.{float_value}
 use Rattle.pytree_node.specs.Values.{Int, Float, Imaginary}
 use Rattle.pytree_node.specs.declared.profiles.Extent.TheVariants.{Plain}
 use Rattle.pytoken.specs.declared.faults.TokenError.TheVariants as errors

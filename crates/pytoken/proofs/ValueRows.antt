@@ -5,7 +5,7 @@
 use Rattle.std.proofs.Common.{◌≡◌, ℕ, ◌-◌, ◌^◌, List, [], ◌∷◌, ◌++◌, refl, Option, Some, None, true, false, map, replicate, pos, negsuc}
 use Rattle.std.specs.Prelude.{codes}
 use Rattle.std.specs.Float.Ieee.{inf, fin}
-use Rattle.pyfloat.specs.FloatValues.{float_value}
+use Rattle.pynumber.specs.FloatValues.{float_value}
 use Rattle.pylex_listing.specs.declared.kind.Kind.{Kind}
 use Rattle.pylex_listing.specs.declared.kind.Kind.TheVariants as kinds
 use Rattle.pytree_node.specs.Values.{Float, Imaginary, Str, Bytes}

@@ -4,11 +4,11 @@ use Rattle.std.specs.List.{list_all, flat_map}
 use Rattle.std.specs.Str.{chars, all_scalars}
 use Rattle.std.specs.Float.Ieee as ieee
 use Rattle.unicode_normalization.specs.Forms.{nfkc}
-use Rattle.pynatural.specs.Decimals.{decimal_text}
-use Rattle.pynatural.specs.Readings.{most_digits}
-use Rattle.pyfloat.specs.FloatValues.{float_value}
-use Rattle.pyfloat.specs.FloatTexts.{float_source, imaginary_source}
-use Rattle.pyfloat.specs.Laws.{IsDouble}
+use Rattle.pynumber.specs.Decimals.{decimal_text}
+use Rattle.pynumber.specs.Readings.{most_digits}
+use Rattle.pynumber.specs.FloatValues.{float_value}
+use Rattle.pynumber.specs.FloatTexts.{float_source, imaginary_source}
+use Rattle.pynumber.specs.Laws.{IsDouble}
 use Rattle.pysource.specs.Reprs.{repr_chars, repr_text, repr_bytes}
 use Rattle.pylex_lexeme.specs.Numbers.{is_decimal, is_radix, is_float, is_imaginary}
 use Rattle.pylex_lexeme.specs.Lexemes.{is_name, cut}

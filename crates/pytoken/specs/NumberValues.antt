@@ -4,8 +4,8 @@
 use Rattle.std.specs.Prelude.{ℕ, ◌^◌, Bool, ◌&&◌, ◌||◌, ◌==◌, nat_le, List, [], ◌∷◌, drop, Option, Some, None}
 use Rattle.std.specs.Prelude.{if◌then◌else◌}
 use Rattle.std.specs.List.{list_any}
-use Rattle.pynatural.specs.Readings.{written, most_digits}
-use Rattle.pyfloat.specs.FloatValues.{float_value}
+use Rattle.pynumber.specs.Readings.{written, most_digits}
+use Rattle.pynumber.specs.FloatValues.{float_value}
 use Rattle.pylex_lexeme.specs.Numbers.{is_x, is_o, is_b, is_e, is_j, is_point}
 use Rattle.pytree_node.specs.Values.{Value, Int, Float, Imaginary}
 use Rattle.pytree_node.specs.declared.profiles.Extent.{Extent}

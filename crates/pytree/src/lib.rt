@@ -32,10 +32,10 @@ pub use fits::{well_formed, well_formed_at, well_formed_pattern_at};
 pub use modules::{copy, same};
 pub use pygrammar::{Level, PatternLevel};
 pub use pytoken::{Meaning, Refusal, TokenError, is_identifier};
-pub use pytree_counts::marked;
 pub use pytree_dump::{Pieces, PlacedPieces, Shown, Style, dump, dump_expr, dump_placed};
 pub use pytree_fits::{is_keyword, is_name};
 pub use pytree_height::{Heights, height};
+pub use pytree_marked::marked;
 pub use pytree_node::{
     Alias, Arg, Arguments, BoolOperator, Case, Comparison, Comprehension, Constant, Context,
     Conversion, Expr, Extent, Handler, Identifier, Integer, Item, Keyword, Module, Operator,

@@ -4,7 +4,7 @@
 use Rattle.std.proofs.Common.{◌≡◌, ℕ, List, true, false, [], ◌∷◌, Some, None, refl, codes}
 use Rattle.std.specs.Char.{encode_utf8}
 use Rattle.std.specs.Fmt.{digits}
-use Rattle.pynatural.specs.Decimals.{decimal_text}
+use Rattle.pynumber.specs.Decimals.{decimal_text}
 use Rattle.ucd_category.proofs.Computing.{ucd_category}
 use Rattle.pyfstring.specs.declared.parts.Conversion.TheVariants as conversion
 use Rattle.pytree_node.specs.declared.operators.Context.TheVariants as context

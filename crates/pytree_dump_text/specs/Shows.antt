@@ -1,8 +1,8 @@
 -- What is shown of a tree: a scalar's text, a list, or a node with its class and its fields, in order. A field that is
 -- None is left out; so are the fields `type_comment`, which are None in every tree.
 use Rattle.std.specs.Prelude.{ℕ, Bool, true, List, [], ◌∷◌, Option, Some, None, codes, decimal, if◌then◌else◌}
-use Rattle.pynatural.specs.Decimals.{decimal_text}
-use Rattle.pyfloat.specs.FloatTexts.{float_repr, imaginary_repr}
+use Rattle.pynumber.specs.Decimals.{decimal_text}
+use Rattle.pynumber.specs.FloatTexts.{float_repr, imaginary_repr}
 use Rattle.pysource.specs.Reprs.{repr_text, repr_bytes}
 use Rattle.pyfstring.specs.declared.parts.Conversion.{Conversion}
 use Rattle.pyfstring.specs.declared.parts.Conversion.TheVariants as conversion

@@ -7,10 +7,10 @@ ghost use Rattle.pytree_dump_text.specs.Shows.{bool_name, comparison_name, conte
 ghost use Rattle.pytree_dump_text.specs.Shows.{conversion_number, operator_name, unary_name};
 ghost use Rattle.pytree_dump_text.specs.Shows.{value_text};
 ghost use Rattle.pytree_node.specs.TreeOf.{constant_of};
-ghost use Rattle.pyfloat.specs.FloatTexts.{float_repr, imaginary_repr};
+ghost use Rattle.pynumber.specs.FloatTexts.{float_repr, imaginary_repr};
 
 use itoa::Buffer;
-use pyfloat::Double;
+use pynumber::Double;
 use pysource::{push_repr_bytes, push_repr_points};
 use pytree_node::{
     BoolOperator, Comparison, Constant, Context, Conversion, Operator, UnaryOperator,

@@ -2,8 +2,8 @@
 use Rattle.std.specs.Prelude.{ℕ, zero, suc, ◌^◌, ◌==◌, Bool, true, false, ◌&&◌, ◌||◌, not, nat_lt, nat_le, List}
 use Rattle.std.specs.List.{list_all}
 use Rattle.std.specs.Float.Ieee.{Float, binary64, fits}
-use Rattle.pynatural.specs.Readings.{most_digits}
-use Rattle.pyfloat.specs.Laws.{is_unsigned}
+use Rattle.pynumber.specs.Readings.{most_digits}
+use Rattle.pynumber.specs.Laws.{is_unsigned}
 use Rattle.pytree_node.specs.Values as values
 use Rattle.pytree_node.specs.Values.{Value}
 use Rattle.pytree_node.specs.declared.profiles.Extent.{Extent}

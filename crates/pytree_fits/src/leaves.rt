@@ -11,7 +11,7 @@ ghost use Rattle.pytree_fits.specs.Tests.{tests_at};
 use crate::asking::Asked;
 use crate::names::is_name;
 use crate::texts::{bytes_fit, points_fit};
-use pyfloat::Double;
+use pynumber::Double;
 use pytree_node::{Arg, Comparison, Comprehension, Constant, Expr, Extent, Identifier, Integer};
 use std::alloc::{AllocError, Global};
 

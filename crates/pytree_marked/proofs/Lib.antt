@@ -1,2 +1,3 @@
 mod MemberLemmas
 pub mod Callers
+mod CountLemmas

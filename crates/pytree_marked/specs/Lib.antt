@@ -2,3 +2,4 @@ pub mod MarkedNodes
 pub mod MarkedOptions
 pub mod Taking
 pub mod Appends
+pub mod Counts

@@ -2,7 +2,7 @@
 
 use crate::integers::Integer;
 use crate::points::Points;
-use pyfloat::Double;
+use pynumber::Double;
 
 /// The value of a constant, with its `kind`.
 ///

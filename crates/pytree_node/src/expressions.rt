@@ -221,15 +221,24 @@ impl Drop for Expr {
 }
 
 /// The class `Dict`. A `**c` has no key, and the value `c`.
-#[derive(Drop)]
 #[cycle(expressions)]
 pub struct Dict {
     pub keys: Vec<Option<Expr>>,
     pub values: Vec<Expr>,
 }
 
+impl Drop for Dict {
+    /// Lets it go.
+    #[cycle(expression_drops)]
+    fn drop(self) {
+        let Dict {
+            keys: _keys,
+            values: _values,
+        } = self;
+    }
+}
+
 /// The class `DictComp`.
-#[derive(Drop)]
 #[cycle(expressions)]
 pub struct DictComp {
     pub key: Expr,
@@ -237,8 +246,19 @@ pub struct DictComp {
     pub generators: Vec<Comprehension>,
 }
 
+impl Drop for DictComp {
+    /// Lets it go.
+    #[cycle(expression_drops)]
+    fn drop(self) {
+        let DictComp {
+            key: _key,
+            value: _value,
+            generators: _generators,
+        } = self;
+    }
+}
+
 /// The class `Compare`: as many operators as comparators.
-#[derive(Drop)]
 #[cycle(expressions)]
 pub struct Compare {
     pub left: Expr,
@@ -246,8 +266,19 @@ pub struct Compare {
     pub comparators: Vec<Expr>,
 }
 
+impl Drop for Compare {
+    /// Lets it go.
+    #[cycle(expression_drops)]
+    fn drop(self) {
+        let Compare {
+            left: _left,
+            ops: _ops,
+            comparators: _comparators,
+        } = self;
+    }
+}
+
 /// The class `Call`.
-#[derive(Drop)]
 #[cycle(expressions)]
 pub struct Call {
     pub func: Expr,
@@ -255,8 +286,19 @@ pub struct Call {
     pub keywords: Vec<Keyword>,
 }
 
+impl Drop for Call {
+    /// Lets it go.
+    #[cycle(expression_drops)]
+    fn drop(self) {
+        let Call {
+            func: _func,
+            args: _args,
+            keywords: _keywords,
+        } = self;
+    }
+}
+
 /// The class `Slice`.
-#[derive(Drop)]
 #[cycle(expressions)]
 pub struct Slice {
     pub lower: Option<Box<Expr>>,
@@ -264,8 +306,19 @@ pub struct Slice {
     pub step: Option<Box<Expr>>,
 }
 
+impl Drop for Slice {
+    /// Lets it go.
+    #[cycle(expression_drops)]
+    fn drop(self) {
+        let Slice {
+            lower: _lower,
+            upper: _upper,
+            step: _step,
+        } = self;
+    }
+}
+
 /// A `for` with its `if`s: the class `comprehension`.
-#[derive(Drop)]
 #[cycle(expressions)]
 pub struct Comprehension {
     pub target: Expr,
@@ -274,27 +327,59 @@ pub struct Comprehension {
     pub is_async: bool,
 }
 
+impl Drop for Comprehension {
+    /// Lets it go.
+    #[cycle(expression_drops)]
+    fn drop(self) {
+        let Comprehension {
+            target: _target,
+            iter: _iter,
+            ifs: _ifs,
+            is_async: _is_async,
+        } = self;
+    }
+}
+
 /// A keyword argument, or one of `**`, which has no name: the class `keyword`.
-#[derive(Drop)]
 #[cycle(expressions)]
 pub struct Keyword {
     pub arg: Option<Identifier>,
     pub value: Expr,
 }
 
+impl Drop for Keyword {
+    /// Lets it go.
+    #[cycle(expression_drops)]
+    fn drop(self) {
+        let Keyword {
+            arg: _arg,
+            value: _value,
+        } = self;
+    }
+}
+
 /// A parameter: the class `arg`.
-#[derive(Drop)]
 #[cycle(expressions)]
 pub struct Arg {
     pub arg: Identifier,
     pub annotation: Option<Box<Expr>>,
 }
 
+impl Drop for Arg {
+    /// Lets it go.
+    #[cycle(expression_drops)]
+    fn drop(self) {
+        let Arg {
+            arg: _arg,
+            annotation: _annotation,
+        } = self;
+    }
+}
+
 /// The parameters of a function: the class `arguments`.
 ///
 /// `kw_defaults` has an element for each of `kwonlyargs`, none for one without a default;
 /// `defaults` are those of the last of `posonlyargs` and `args`.
-#[derive(Drop)]
 #[cycle(expressions)]
 pub struct Arguments {
     pub posonlyargs: Vec<Arg>,
@@ -304,4 +389,20 @@ pub struct Arguments {
     pub kw_defaults: Vec<Option<Expr>>,
     pub kwarg: Option<Arg>,
     pub defaults: Vec<Expr>,
+}
+
+impl Drop for Arguments {
+    /// Lets it go.
+    #[cycle(expression_drops)]
+    fn drop(self) {
+        let Arguments {
+            posonlyargs: _posonlyargs,
+            args: _args,
+            vararg: _vararg,
+            kwonlyargs: _kwonlyargs,
+            kw_defaults: _kw_defaults,
+            kwarg: _kwarg,
+            defaults: _defaults,
+        } = self;
+    }
 }

@@ -3,11 +3,11 @@
 ghost use Rattle.std.specs.Prelude.{◌≡◌, ◌++◌, ◌<◌, ◌≤◌, ◌^◌, nat_eq, IfOk, IsOk, OnOk, MatchOption, nat_lt};
 ghost use Rattle.std.specs.Cmp.{nat_eq_equiv, partial_equiv_from_equiv};
 ghost use Rattle.std.specs.String.{string_bytes};
-ghost use Rattle.pynatural.specs.Decimals.{decimal_text};
-ghost use Rattle.pynatural.specs.Readings.{most_digits};
+ghost use Rattle.pynumber.specs.Decimals.{decimal_text};
+ghost use Rattle.pynumber.specs.Readings.{most_digits};
 
 use itoa::Buffer;
-use pynatural::Natural;
+use pynumber::Natural;
 use std::alloc::{AllocError, Global};
 use std::fmt;
 use std::marker::Model;
@@ -87,7 +87,7 @@ impl Integer {
     }
 
     /// Appends the number in decimal.
-    #[tactic(auto, using(pynatural::proofs::Callers::Decimals::decimal_text_is))]
+    #[tactic(auto, using(pynumber::proofs::Callers::Decimals::decimal_text_is))]
     pub fn push_decimal(&self, out: &mut String) -> Result<(), AllocError>
         ensures { OnOk result
             (string_bytes out.new ≡ string_bytes out.old ++ decimal_text self.now) }

@@ -229,7 +229,6 @@ impl Drop for Stmt {
 }
 
 /// The classes `FunctionDef` and `AsyncFunctionDef`.
-#[derive(Drop)]
 #[cycle(statements)]
 pub struct FunctionDef {
     pub name: Identifier,
@@ -240,8 +239,22 @@ pub struct FunctionDef {
     pub type_params: Vec<TypeParam>,
 }
 
+impl Drop for FunctionDef {
+    /// Lets it go.
+    #[cycle(statement_drops)]
+    fn drop(self) {
+        let FunctionDef {
+            name: _name,
+            args: _args,
+            body: _body,
+            decorator_list: _decorator_list,
+            returns: _returns,
+            type_params: _type_params,
+        } = self;
+    }
+}
+
 /// The class `ClassDef`.
-#[derive(Drop)]
 #[cycle(statements)]
 pub struct ClassDef {
     pub name: Identifier,
@@ -252,8 +265,22 @@ pub struct ClassDef {
     pub type_params: Vec<TypeParam>,
 }
 
+impl Drop for ClassDef {
+    /// Lets it go.
+    #[cycle(statement_drops)]
+    fn drop(self) {
+        let ClassDef {
+            name: _name,
+            bases: _bases,
+            keywords: _keywords,
+            body: _body,
+            decorator_list: _decorator_list,
+            type_params: _type_params,
+        } = self;
+    }
+}
+
 /// The classes `Try` and `TryStar`.
-#[derive(Drop)]
 #[cycle(statements)]
 pub struct Try {
     pub body: Vec<Stmt>,
@@ -262,8 +289,20 @@ pub struct Try {
     pub finalbody: Vec<Stmt>,
 }
 
+impl Drop for Try {
+    /// Lets it go.
+    #[cycle(statement_drops)]
+    fn drop(self) {
+        let Try {
+            body: _body,
+            handlers: _handlers,
+            orelse: _orelse,
+            finalbody: _finalbody,
+        } = self;
+    }
+}
+
 /// A `case` with its block: the class `match_case`.
-#[derive(Drop)]
 #[cycle(statements)]
 pub struct Case {
     pub pattern: Pattern,
@@ -271,13 +310,36 @@ pub struct Case {
     pub body: Vec<Stmt>,
 }
 
+impl Drop for Case {
+    /// Lets it go.
+    #[cycle(statement_drops)]
+    fn drop(self) {
+        let Case {
+            pattern: _pattern,
+            guard: _guard,
+            body: _body,
+        } = self;
+    }
+}
+
 /// An `except` with its block: the class `ExceptHandler`. `class` is its field `type`.
-#[derive(Drop)]
 #[cycle(statements)]
 pub struct Handler {
     pub class: Option<Expr>,
     pub name: Option<Identifier>,
     pub body: Vec<Stmt>,
+}
+
+impl Drop for Handler {
+    /// Lets it go.
+    #[cycle(statement_drops)]
+    fn drop(self) {
+        let Handler {
+            class: _class,
+            name: _name,
+            body: _body,
+        } = self;
+    }
 }
 
 /// A name of an import: the class `alias`. The name may hold dots, and is `*` in

@@ -3,7 +3,7 @@
 ghost use Rattle.std.specs.Prelude.{◌≡◌, ◌↔◌, IsTrue};
 ghost use Rattle.pytree_node.specs.TreeOf.{constant_of};
 
-use pyfloat::Double;
+use pynumber::Double;
 use pytree_node::{Comparison, Constant, Identifier};
 
 /// Whether two names are equal.
@@ -57,7 +57,7 @@ pub(crate) fn same_constant(a: &Constant, b: &Constant) -> bool
 }
 
 /// Whether the doubles are equal.
-#[tactic(auto, using(pyfloat::specs::SameFloats::same_floats))]
+#[tactic(auto, using(pynumber::specs::SameFloats::same_floats))]
 fn same_double(a: &Double, b: &Double) -> bool
     ensures { IsTrue result ↔ (a.now ≡ b.now) }
 {

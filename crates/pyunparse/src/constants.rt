@@ -9,8 +9,8 @@ ghost use Rattle.pyunparse_text.specs.Pieces.{piece};
 ghost use Rattle.pyunparse_text.specs.Written.{constant_terminal, free};
 
 use itoa::Buffer;
-use pyfloat::Double;
 use pylex_listing::{Exact, Kind};
+use pynumber::Double;
 use pytoken::Keyword;
 use pytree_node::{Constant, Integer};
 use pyunparse_text::marks::Role;

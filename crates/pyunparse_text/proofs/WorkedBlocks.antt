@@ -3,7 +3,7 @@
 -- Carries: no contract; its rows are computed as it is checked. On: WorkedRows.
 use Rattle.std.proofs.Common.{refl, [], ◌∷◌, Some, None, true, false}
 use Rattle.std.specs.Prelude.{codes}
-use Rattle.pynatural.specs.Decimals.{decimal_text}
+use Rattle.pynumber.specs.Decimals.{decimal_text}
 use Rattle.pytree_node.specs.declared.operators.Context.TheVariants.{Load, Store}
 use Rattle.pytree_node.specs.Values
 use Rattle.pytree_node.specs.Trees.{NamedExpr, GeneratorExp, Yield, Call, Constant, Attribute, Starred, Name, ListOf, Tuple, exprs}

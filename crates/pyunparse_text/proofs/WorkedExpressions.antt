@@ -6,8 +6,8 @@ use Rattle.std.proofs.Common.{◌≡◌, refl, List, [], ◌∷◌, map, Some, N
 use Rattle.std.specs.Prelude.{codes}
 use Rattle.std.specs.Float.{float_zero}
 use Rattle.std.specs.Float.Ieee.{inf}
-use Rattle.pynatural.specs.Decimals.{decimal_text}
-use Rattle.pyfloat.specs.FloatTexts.{float_text}
+use Rattle.pynumber.specs.Decimals.{decimal_text}
+use Rattle.pynumber.specs.FloatTexts.{float_text}
 use Rattle.pytree_node.specs.declared.operators.Operator.TheVariants as Bin
 use Rattle.pytree_node.specs.declared.operators.UnaryOperator.TheVariants as Un
 use Rattle.pytree_node.specs.declared.operators.BoolOperator.TheVariants as Join

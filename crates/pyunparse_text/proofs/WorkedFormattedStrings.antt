@@ -3,7 +3,7 @@
 -- Carries: no contract; its rows are computed as it is checked.
 use Rattle.std.proofs.Common.{◌≡◌, refl, List, [], ◌∷◌, map, Some, true, false, ℕ}
 use Rattle.std.specs.Prelude.{codes}
-use Rattle.pynatural.specs.Decimals.{decimal_text}
+use Rattle.pynumber.specs.Decimals.{decimal_text}
 use Rattle.pyfstring.specs.declared.parts.Conversion.{Conversion}
 use Rattle.pyfstring.specs.declared.parts.Conversion.TheVariants as By
 use Rattle.pylex_lexeme.specs.declared.kinds.Exact.TheVariants.{LPar, RPar, LBrace, RBrace}

@@ -3,7 +3,7 @@
 -- Carries: no contract; its rows are computed as it is checked.
 use Rattle.std.proofs.Common.{◌≡◌, refl, List, [], ◌∷◌, map, Option, Some, None, true, false, ℕ}
 use Rattle.std.specs.Prelude.{codes}
-use Rattle.pynatural.specs.Decimals.{decimal_text}
+use Rattle.pynumber.specs.Decimals.{decimal_text}
 use Rattle.pytree_node.specs.declared.operators.Operator.TheVariants as Bin
 use Rattle.pytree_node.specs.declared.operators.Context.TheVariants.{Load, Store, Del}
 use Rattle.pytree_node.specs.Values

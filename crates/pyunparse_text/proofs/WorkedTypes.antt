@@ -4,7 +4,7 @@
 -- Carries: no contract; its rows are computed as it is checked. On: WorkedRows.
 use Rattle.std.proofs.Common.{refl, [], ◌∷◌, Some, None}
 use Rattle.std.specs.Prelude.{codes}
-use Rattle.pynatural.specs.Decimals.{decimal_text}
+use Rattle.pynumber.specs.Decimals.{decimal_text}
 use Rattle.pytree_node.specs.declared.operators.Context.TheVariants.{Load, Store}
 use Rattle.pytree_node.specs.Values
 use Rattle.pytree_node.specs.Trees.{Lambda, IfExp, Call, Constant, Subscript, Starred, Name, Tuple, exprs, no_exprs, present, no_optional}

@@ -2,8 +2,8 @@
 use Rattle.std.specs.Prelude.{ℕ, ◌==◌, Bool, true, false, ◌||◌, if◌then◌else◌, List, [], ◌∷◌, ◌++◌, map, codes}
 use Rattle.std.specs.List.{flat_map}
 use Rattle.std.specs.Str.{all_scalars}
-use Rattle.pynatural.specs.Decimals.{decimal_text}
-use Rattle.pyfloat.specs.FloatTexts.{float_source, imaginary_source}
+use Rattle.pynumber.specs.Decimals.{decimal_text}
+use Rattle.pynumber.specs.FloatTexts.{float_source, imaginary_source}
 use Rattle.pyfstring.specs.declared.parts.Conversion.{Conversion}
 use Rattle.pyfstring.specs.declared.parts.Conversion.TheVariants as conversions
 use Rattle.pyfstring.specs.Texts.{begins_with}

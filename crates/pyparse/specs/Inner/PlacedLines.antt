@@ -10,10 +10,10 @@ use Rattle.pyparse_marks.specs.LineSpans.{line_spans}
 use Rattle.pyparse_marks.specs.Spans.{Span}
 use Rattle.pyplaces.specs.BlockPlaces.{LinePlaces}
 use Rattle.pyplaces.specs.ModulePlaces.{formed_places}
-use Rattle.pyplaces_blocks.specs.StateOf.{Follows}
+use Rattle.pyplaces.specs.StateOf.{Follows}
 use Rattle.pyparse.specs.declared.placed.PlacedProgress.{PlacedProgress}
-use Rattle.pyparse_known.specs.LastLines.{HoldsLastLines}
-use Rattle.pyparse_known.specs.Known.{first_lines, is_unread, IsKnown}
+use Rattle.pyparse_block.specs.LastLines.{HoldsLastLines}
+use Rattle.pyparse_block.specs.Known.{first_lines, is_unread, IsKnown}
 
 -- these are the forms of some lines, and these their places
 pub record PlacedLines (profile : Profile) (earlier : List Line) (spans : Tokens.Line → List Span) (xs : List Tokens.Line)

@@ -4,8 +4,8 @@ use Rattle.pylex_listing.specs.Listing.{Source}
 use Rattle.pytree_node.specs.declared.profiles.Profile.{Profile}
 use Rattle.pytoken.specs.Inner.Behind.{behind}
 use Rattle.pygrammar.specs.Lines.{Line}
-use Rattle.pyparse_known.specs.Known.{IsKnown}
-use Rattle.pyparse_known.specs.LastLines.{HoldsLastLines}
+use Rattle.pyparse_block.specs.Known.{IsKnown}
+use Rattle.pyparse_block.specs.LastLines.{HoldsLastLines}
 use Rattle.pyparse.specs.declared.progress.Progress.{Progress}
 
 pub record IsProgress (profile : Profile) (s : Source) (k : ℕ) (p : Progress) : Type 0 where

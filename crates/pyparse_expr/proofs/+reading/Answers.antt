@@ -1,7 +1,7 @@
 use Rattle.std.proofs.Common.{refl, arith, rules, ◌+◌, ◌≤◌, ap, map, ◌≡◌, ◌-◌, false, ◌++◌, ◌∷◌, [], sym, subst, ◌∙◌, Some}
 use Rattle.pytree_node.specs.TreeOf.{tree_of}
 use Rattle.pyparse_expr.specs.Inner.Readings.{same_reads, inner_reads}
-use Rattle.pyparse_looks.specs.Views.{seen, first_is}
+use Rattle.pyparse_nodes.specs.Views.{seen, first_is}
 use Rattle.pyparse_expr.specs.Inner.Chains.{ComparedAt}
 use Rattle.pyparse_expr.proofs.Places.Signs.{joins_stands, hit_sign, miss_sign}
 use Rattle.pyparse_expr.proofs.Reader.ChainSteps.{chain_failed, chain_made, links_start, links_error, links_more, links_end, sides_wrong}
@@ -41,15 +41,15 @@ use Rattle.pytoken.specs.Values.{literal_value}
 use Rattle.pylex_lexeme.specs.declared.kinds.Exact.TheVariants.{LPar, LSqb, Star, Ellipsis}
 use Rattle.pytoken.specs.Terminals.{Op, Word}
 use Rattle.pygrammar.specs.Precedence.{infix_rank, prefix_rank}
-use Rattle.pyparse_looks.specs.Operators.{infix_value, prefix_value}
-use Rattle.pyparse_looks.proofs.Callers.Places.{front}
+use Rattle.pyparse_nodes.specs.Operators.{infix_value, prefix_value}
+use Rattle.pyparse_nodes.proofs.Callers.Places.{front}
 use Rattle.pyplaces.proofs.Answers.{records_more, records_none, records_node}
 use Rattle.pyplaces.proofs.Expressions.Atoms.{placed_name, placed_constant, placed_number}
 use Rattle.pyplaces.proofs.Expressions.Levels.{placed_next, placed_yield_from, placed_yield_some, placed_nothing, placed_something}
 use Rattle.pyplaces.proofs.Expressions.Readings.{elem_named, placed_alone}
 use Rattle.pygrammar.specs.Reader.{operation}
 use Rattle.pyparse_expr.proofs.Recorders.Made.{at_next, whole_on, whole_seen, whole_joined, stood_seen}
-use Rattle.pyparse_expr.proofs.Recorders.Looks.{no_op}
+use Rattle.pyparse_reads.proofs.Callers.Looks.{no_op}
 use Rattle.pyparse_expr.proofs.Recorders.Operations.{climbs_low, climb_placed, climb_ended, infix_least, prefix_first, primary_stood}
 use Rattle.pyparse_expr.proofs.Recorders.Operations.{awaits_placed, signed_placed, binary_made, binary_stood, power_stood}
 use Rattle.pyparse_expr.proofs.Recorders.Chains.{links_read, links_placed, chain_placed, here_sign, past_signs, sides_read, compare_placed}
@@ -83,7 +83,7 @@ use Rattle.pyparse_expr.proofs.Recorders.Strings.{row_ended, parts_none, parts_t
 use Rattle.pyparse_expr.proofs.Recorders.Strings.{literal_placed, string_placed, joined_placed, whole_field, spec_none, spec_placed}
 use Rattle.pyparse_expr.proofs.Recorders.Strings.{formatted_first, literals_alone, literals_first, lowered_placed}
 use Rattle.pyparse_nodes.specs.JoinedStates.{state}
-use Rattle.pyparse_looks.specs.Marks.{conversion_of, points_of}
+use Rattle.pyparse_nodes.specs.Marks.{conversion_of, points_of}
 use Rattle.pyplaces.specs.Stretches.{stretch}
 use Rattle.pyplaces.proofs.Asides.{Apart, Still}
 use Rattle.pyparse_expr.specs.declared.listings.Item.TheVariants as item

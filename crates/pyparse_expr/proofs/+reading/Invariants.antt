@@ -9,9 +9,9 @@ use Rattle.pyparse_expr.specs.Inner.Arguments.{arguments_of}
 use Rattle.pyparse_expr.specs.Inner.Chains.{links_of}
 use Rattle.pytree_node.specs.TreeOf.{tree_of}
 use Rattle.pygrammar.specs.Capped.{capped_climb}
-use Rattle.pyparse_expr.specs.Readings.{reads}
+use Rattle.pyparse_reads.specs.Readings.{reads}
 use Rattle.pyparse_expr.specs.Inner.Readings.{same_reads, inner_reads}
-use Rattle.pyparse_looks.specs.Views.{seen}
+use Rattle.pyparse_nodes.specs.Views.{seen}
 use Rattle.pyparse_expr.proofs.Reader.Climbs.{Climbs}
 use Rattle.pyparse_expr.proofs.Lists.ListSteps.{Lists}
 use Rattle.pyparse_expr.proofs.FormalParameters.ParameterSteps.{Parameters, listed}

@@ -25,14 +25,14 @@ use Rattle.pygrammar.specs.Capped.{cap}
 use Rattle.pyparse_nodes.specs.declared.actual.Actual.{Actual}
 use Rattle.pyparse_nodes.specs.declared.actual.ArgumentForm.{ArgumentForm}
 use Rattle.pyparse_nodes.specs.declared.actual.ArgumentForm.TheVariants as kind
-use Rattle.pyparse_expr.specs.declared.depth.Depth.{Depth}
+use Rattle.pyparse_reads.specs.declared.depth.Depth.{Depth}
 use Rattle.pyparse_nodes.specs.declared.found.Read.{Read}
-use Rattle.pyparse_looks.specs.declared.stop.Stop.{Stop}
+use Rattle.pyparse_nodes.specs.declared.stop.Stop.{Stop}
 use Rattle.pyparse_nodes.specs.Answers.{Failed, Answered, FoundAt}
 use Rattle.pyparse_expr.specs.Inner.Arguments.{State, start, step, steps, state_of, level_of, place_of, entry_of, IsKindAt, AddedAt}
 use Rattle.pyparse_expr.specs.Inner.Arguments.{ActualAt, arguments_of, finished, called_from}
 use Rattle.pyparse_expr.specs.Inner.Readings.{inner_reads}
-use Rattle.pyparse_looks.specs.Views.{Stands, IsNamed, IsNotNamed, seen, first_is, lead_of}
+use Rattle.pyparse_nodes.specs.Views.{Stands, IsNamed, IsNotNamed, seen, first_is, lead_of}
 use Rattle.pyparse_expr.proofs.Calls.ArgumentOrder.{called_steps}
 use Rattle.pyparse_expr.proofs.Reader.LevelSteps.{name_miss}
 use Rattle.pyparse_nodes.proofs.Callers.Pushes.{pushed_height}

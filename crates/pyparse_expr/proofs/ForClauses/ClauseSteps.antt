@@ -14,19 +14,19 @@ use Rattle.pygrammar.specs.Looks.{is_word}
 use Rattle.pygrammar.specs.Targets.{stored}
 use Rattle.pygrammar.specs.Reader.{Answer, Found, NoForm, and_then, on_first, made, generator_of, Reads, read_target, ifs_loop, for_in_step}
 use Rattle.pygrammar.specs.Reader.{comps_loop}
-use Rattle.pyparse_expr.specs.declared.depth.Depth.{Depth}
+use Rattle.pyparse_reads.specs.declared.depth.Depth.{Depth}
 use Rattle.pyparse_nodes.specs.declared.found.Read.{Read}
 use Rattle.pyparse_nodes.specs.declared.found.Items.{Items}
 use Rattle.pyparse_nodes.specs.declared.found.ForClause.{ForClause}
 use Rattle.pyparse_nodes.specs.declared.found.ForClauses.{ForClauses}
-use Rattle.pyparse_looks.specs.declared.stop.Stop.{Stop}
-use Rattle.pyparse_looks.specs.declared.stop.Stop.TheVariants as stop
+use Rattle.pyparse_nodes.specs.declared.stop.Stop.{Stop}
+use Rattle.pyparse_nodes.specs.declared.stop.Stop.TheVariants as stop
 use Rattle.pyparse_nodes.specs.Answers.{Failed, FoundAt}
 use Rattle.pyparse_expr.specs.declared.comprehensions.ClauseStart.{ClauseStart}
 use Rattle.pyparse_expr.specs.Inner.Clauses.{IsCutStart, MadeClause, NoClause, NoStart, StartsAt, StartWords}
 use Rattle.pyparse_expr.specs.Inner.Found.{TestsAt, ClauseAt, ClausesAt}
 use Rattle.pyparse_expr.specs.Inner.Readings.{inner_reads}
-use Rattle.pyparse_looks.specs.Views.{Stands, seen, first_is}
+use Rattle.pyparse_nodes.specs.Views.{Stands, seen, first_is}
 use Rattle.pyparse_expr.proofs.Reader.Reading.{first_miss, failed_then, seen_length}
 
 -- one clause

@@ -14,16 +14,16 @@ use Rattle.pygrammar.specs.declared.levels.Level.TheVariants as level
 use Rattle.pygrammar.specs.Entries.{Single, singles}
 use Rattle.pygrammar.specs.Looks.{is_op, is_word}
 use Rattle.pygrammar.specs.Reader.{Answer, Found, and_then, target_item, read_target, ifs_loop}
-use Rattle.pyparse_expr.specs.declared.depth.Depth.{Depth}
+use Rattle.pyparse_reads.specs.declared.depth.Depth.{Depth}
 use Rattle.pyparse_nodes.specs.declared.found.Read.{Read}
 use Rattle.pyparse_nodes.specs.declared.found.Items.{Items}
 use Rattle.pyparse_expr.specs.declared.listings.Item.TheVariants as item
-use Rattle.pyparse_looks.specs.declared.stop.Stop.{Stop}
+use Rattle.pyparse_nodes.specs.declared.stop.Stop.{Stop}
 use Rattle.pyparse_nodes.specs.Answers.{Failed, Answered, FoundAt, Makes}
 use Rattle.pyparse_expr.specs.Inner.Found.{ListedAt, TestsAt}
 use Rattle.pyparse_expr.specs.Inner.Lists.{items_of, more_at}
 use Rattle.pyparse_expr.specs.Inner.Readings.{inner_reads}
-use Rattle.pyparse_looks.specs.Views.{Stands, seen, first_is}
+use Rattle.pyparse_nodes.specs.Views.{Stands, seen, first_is}
 use Rattle.pyparse_expr.proofs.Reader.Reading.{first_miss, failed_then, earlier, low_node, seen_length}
 use Rattle.pyparse_expr.proofs.Lists.ListSteps.{fronted_failed, fronted_found}
 

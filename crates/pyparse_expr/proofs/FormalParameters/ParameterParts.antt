@@ -13,16 +13,16 @@ use Rattle.pygrammar.specs.Entries.{Entry, Bare}
 use Rattle.pygrammar.specs.Looks.{is_op, name_in}
 use Rattle.pygrammar.specs.Reader.{Answer, Found, NoForm, and_then, on_first, on_some, suffixed, read_parameter}
 use Rattle.pygrammar.proofs.Callers.Terminals.{op_is}
-use Rattle.pyparse_expr.specs.declared.depth.Depth.{Depth}
+use Rattle.pyparse_reads.specs.declared.depth.Depth.{Depth}
 use Rattle.pyparse_nodes.specs.declared.found.Optional.{Optional}
 use Rattle.pyparse_nodes.specs.declared.found.Read.{Read}
 use Rattle.pyparse_expr.specs.declared.signatures.ReadParameter.{ReadParameter}
-use Rattle.pyparse_looks.specs.declared.stop.Stop.{Stop}
+use Rattle.pyparse_nodes.specs.declared.stop.Stop.{Stop}
 use Rattle.pyparse_nodes.specs.Answers.{Failed, FoundAt}
 use Rattle.pyparse_expr.specs.Inner.Found.{OptionalAt}
 use Rattle.pyparse_expr.specs.Inner.Readings.{inner_reads}
 use Rattle.pyparse_expr.specs.Inner.Signatures.{ParameterAnswered, plain_reads, gathered_reads, collected_reads}
-use Rattle.pyparse_looks.specs.Views.{Stands, seen, first_is}
+use Rattle.pyparse_nodes.specs.Views.{Stands, seen, first_is}
 use Rattle.pyparse_expr.proofs.Reader.Reading.{failed_then, first_hit, seen_next}
 
 module _ (ts : List given.Terminal) (d : Depth) (at : ℕ) where

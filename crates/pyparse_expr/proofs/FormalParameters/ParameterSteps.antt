@@ -17,19 +17,19 @@ use Rattle.pygrammar.specs.Precedence.{starts}
 use Rattle.pygrammar.specs.Reader.{Answer, Found, NoForm, and_then, on_first, made, lambda_of, lambda_step, listing_loop, listing_of, piece}
 use Rattle.pygrammar.specs.Reader.{read_parameter}
 use Rattle.pygrammar.specs.Capped.{cap}
-use Rattle.pyparse_expr.specs.declared.depth.Depth.{Depth}
+use Rattle.pyparse_reads.specs.declared.depth.Depth.{Depth}
 use Rattle.pyparse_nodes.specs.declared.found.Read.{Read}
 use Rattle.pyparse_expr.specs.declared.signatures.ReadParameter.{ReadParameter}
 use Rattle.pyparse_expr.specs.declared.signatures.Signature.{Signature}
-use Rattle.pyparse_looks.specs.declared.stop.Stop.{Stop}
-use Rattle.pyparse_looks.specs.declared.stop.Stop.TheVariants as stop
+use Rattle.pyparse_nodes.specs.declared.stop.Stop.{Stop}
+use Rattle.pyparse_nodes.specs.declared.stop.Stop.TheVariants as stop
 use Rattle.pyparse_nodes.specs.Answers.{Answered, Failed, FoundAt, Makes}
 use Rattle.pyparse_expr.specs.Inner.FormalHeights.{entry_height, entry_heights}
 use Rattle.pyparse_nodes.specs.Formals.{State, start, step, steps, outcome}
 use Rattle.pyparse_nodes.specs.FormalStates.{IsDisarranged, state_of, entry_of}
 use Rattle.pyparse_expr.specs.Inner.Readings.{inner_reads}
 use Rattle.pyparse_expr.specs.Inner.Signatures.{IsTall, LambdaUnmade, MakesLambda, ParameterAt, SignatureAt, body_reads}
-use Rattle.pyparse_looks.specs.Views.{Stands, seen, first_is}
+use Rattle.pyparse_nodes.specs.Views.{Stands, seen, first_is}
 use Rattle.pyparse_expr.proofs.FormalParameters.Formals.{arranged_steps}
 use Rattle.pyparse_expr.proofs.Reader.Reading.{earlier, failed_cap, failed_then, first_miss, node, seen_length}
 use Rattle.pyparse_expr.proofs.FormalParameters.SignatureHeights.{arranged_height, entry_heights_more}

@@ -8,10 +8,10 @@ use Rattle.pygrammar.specs.FormattedStrings.{StringPart}
 use Rattle.pygrammar.specs.Reader.{Reads, joined_step, parts_loop}
 use Rattle.pyparse_nodes.specs.declared.found.JoinedValues.{JoinedValues}
 use Rattle.pyparse_nodes.specs.declared.found.Read.{Read}
-use Rattle.pyparse_looks.specs.declared.stop.Stop.{Stop}
+use Rattle.pyparse_nodes.specs.declared.stop.Stop.{Stop}
 use Rattle.pyparse_nodes.specs.Answers.{Failed, PartAnswered, PartAt}
 use Rattle.pyparse_nodes.specs.JoinedStates.{gathered, state, state_of}
-use Rattle.pyparse_looks.specs.Views.{seen}
+use Rattle.pyparse_nodes.specs.Views.{seen}
 use Rattle.pyparse_expr.specs.Inner.Strings.{PartsAt}
 use Rattle.pyparse_expr.proofs.Reader.Reading.{seen_length}
 

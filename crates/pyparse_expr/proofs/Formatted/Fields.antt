@@ -21,14 +21,14 @@ use Rattle.pygrammar.specs.Reader.{Answer, Found, NoForm, and_then, on_first, fi
 use Rattle.pyparse_nodes.specs.declared.found.Optional.{Optional}
 use Rattle.pyparse_nodes.specs.declared.found.Read.{Read}
 use Rattle.pyparse_nodes.specs.declared.found.JoinedValues.{JoinedValues}
-use Rattle.pyparse_looks.specs.declared.marks.Part.{Part}
-use Rattle.pyparse_looks.specs.declared.marks.Part.TheVariants as part
-use Rattle.pyparse_looks.specs.declared.stop.Stop.{Stop}
-use Rattle.pyparse_looks.specs.declared.stop.Stop.TheVariants as stop
+use Rattle.pyparse_nodes.specs.declared.marks.Part.{Part}
+use Rattle.pyparse_nodes.specs.declared.marks.Part.TheVariants as part
+use Rattle.pyparse_nodes.specs.declared.stop.Stop.{Stop}
+use Rattle.pyparse_nodes.specs.declared.stop.Stop.TheVariants as stop
 use Rattle.pyparse_nodes.specs.Answers.{Answered, Failed, FoundAt, PartAt, PartAnswered}
 use Rattle.pyparse_nodes.specs.JoinedStates.{Gathers, IsNode, ended, state_of, step}
-use Rattle.pyparse_looks.specs.Views.{Stands, seen, first_is}
-use Rattle.pyparse_expr.specs.declared.depth.Depth.{Depth}
+use Rattle.pyparse_nodes.specs.Views.{Stands, seen, first_is}
+use Rattle.pyparse_reads.specs.declared.depth.Depth.{Depth}
 use Rattle.pyparse_expr.specs.Inner.Readings.{inner_reads}
 use Rattle.pyparse_expr.specs.Inner.Strings.{Lowers, PartAdded, PartsAt, part_reads}
 use Rattle.pyparse_expr.proofs.Reader.Reading.{cap_high, cap_low, failed_then, first_hit, first_miss}

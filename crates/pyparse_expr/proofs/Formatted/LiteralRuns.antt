@@ -17,12 +17,12 @@ use Rattle.pygrammar.specs.Reader.{Answer, Found, NoForm, TooDeep, Reads, and_th
 use Rattle.pygrammar.specs.Reader.{joined_step, literals}
 use Rattle.pyparse_nodes.specs.declared.found.Read.{Read}
 use Rattle.pyparse_nodes.specs.declared.found.JoinedValues.{JoinedValues}
-use Rattle.pyparse_looks.specs.declared.stop.Stop.{Stop}
-use Rattle.pyparse_looks.specs.declared.stop.Stop.TheVariants as stop
+use Rattle.pyparse_nodes.specs.declared.stop.Stop.{Stop}
+use Rattle.pyparse_nodes.specs.declared.stop.Stop.TheVariants as stop
 use Rattle.pyparse_nodes.specs.Answers.{Failed, PartAt, PartAnswered, Made}
 use Rattle.pyparse_nodes.specs.JoinedStates.{gathered, state, state_of, steps}
 use Rattle.pyparse_nodes.specs.Runs.{run}
-use Rattle.pyparse_looks.specs.Views.{Stands, seen, first_is}
+use Rattle.pyparse_nodes.specs.Views.{Stands, seen, first_is}
 use Rattle.pyparse_expr.proofs.Reader.Reading.{first_miss}
 
 -- what makes one text are texts

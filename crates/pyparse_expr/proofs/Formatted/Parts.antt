@@ -17,16 +17,16 @@ use Rattle.pygrammar.specs.Reader.{Answer, Found, NoForm, TooDeep, Reads, and_th
 use Rattle.pygrammar.specs.Reader.{formatted_step, literals_loop, joined_step}
 use Rattle.pyparse_nodes.specs.declared.found.Read.{Read}
 use Rattle.pyparse_nodes.specs.declared.found.JoinedValues.{JoinedValues}
-use Rattle.pyparse_looks.specs.declared.marks.Part.{Part}
-use Rattle.pyparse_looks.specs.declared.marks.Part.TheVariants as part
-use Rattle.pyparse_looks.specs.declared.stop.Stop.{Stop}
-use Rattle.pyparse_looks.specs.declared.stop.Stop.TheVariants as stop
+use Rattle.pyparse_nodes.specs.declared.marks.Part.{Part}
+use Rattle.pyparse_nodes.specs.declared.marks.Part.TheVariants as part
+use Rattle.pyparse_nodes.specs.declared.stop.Stop.{Stop}
+use Rattle.pyparse_nodes.specs.declared.stop.Stop.TheVariants as stop
 use Rattle.pyparse_nodes.specs.Answers.{Failed, PartAnswered}
 use Rattle.pyparse_nodes.specs.JoinedStates.{Gathers, IsNode, ended, gathered, state, state_of, step}
-use Rattle.pyparse_looks.specs.Marks.{conversion_of, points_of}
+use Rattle.pyparse_nodes.specs.Marks.{conversion_of, points_of}
 use Rattle.pyparse_nodes.specs.Runs.{IsNoText}
-use Rattle.pyparse_looks.specs.Views.{Stands, seen, first_is}
-use Rattle.pyparse_expr.specs.declared.depth.Depth.{Depth}
+use Rattle.pyparse_nodes.specs.Views.{Stands, seen, first_is}
+use Rattle.pyparse_reads.specs.declared.depth.Depth.{Depth}
 use Rattle.pyparse_expr.specs.Inner.Readings.{inner_reads}
 use Rattle.pyparse_expr.specs.Inner.Strings.{AddedAt, PartsAt, part_reads}
 use Rattle.pyparse_expr.proofs.Reader.Reading.{seen_next, seen_length, first_hit, first_miss, failed_then}

@@ -14,19 +14,19 @@ use Rattle.pygrammar.specs.Entries.{Of, Single, singles, keys, values}
 use Rattle.pygrammar.specs.Looks.{is_op}
 use Rattle.pygrammar.specs.Reader.{Answer, Found, NoForm, and_then, closed, dict_from, others_of}
 use Rattle.pygrammar.specs.Capped.{cap}
-use Rattle.pyparse_expr.specs.declared.depth.Depth.{Depth}
+use Rattle.pyparse_reads.specs.declared.depth.Depth.{Depth}
 use Rattle.pyparse_nodes.specs.declared.found.Read.{Read}
 use Rattle.pyparse_nodes.specs.declared.found.Items.{Items}
 use Rattle.pyparse_nodes.specs.declared.found.Pair.{Pair}
 use Rattle.pyparse_nodes.specs.declared.found.Pairs.{Pairs}
 use Rattle.pyparse_expr.specs.declared.listings.Item.TheVariants as item
-use Rattle.pyparse_looks.specs.declared.stop.Stop.{Stop}
+use Rattle.pyparse_nodes.specs.declared.stop.Stop.{Stop}
 use Rattle.pyparse_nodes.specs.Answers.{Failed, Answered, Makes}
 use Rattle.pyparse_expr.specs.Inner.Found.{ListedAt}
 use Rattle.pyparse_expr.specs.Inner.Lists.{more_at}
 use Rattle.pyparse_expr.specs.Inner.Pairs.{PairsAt, more_pairs_at, pair_of, pairs_of}
 use Rattle.pyparse_expr.specs.Inner.Readings.{inner_reads}
-use Rattle.pyparse_looks.specs.Views.{Stands, seen, first_is}
+use Rattle.pyparse_nodes.specs.Views.{Stands, seen, first_is}
 use Rattle.pyparse_expr.proofs.Reader.Reading.{first_miss, failed_then, failed_cap, node}
 use Rattle.pyparse_expr.proofs.Lists.ListSteps.{singles_all}
 use Rattle.pyparse_expr.proofs.Lists.PairSteps.{pairs_keys, pairs_values}

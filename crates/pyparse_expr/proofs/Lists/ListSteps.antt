@@ -18,16 +18,16 @@ use Rattle.pygrammar.specs.Looks.{is_op}
 use Rattle.pygrammar.specs.Precedence.{starts}
 use Rattle.pygrammar.specs.Reader.{Answer, Found, NoForm, TooDeep, and_then, on_first, on_some, closed, listing_loop}
 use Rattle.pygrammar.specs.Capped.{cap}
-use Rattle.pyparse_expr.specs.declared.depth.Depth.{Depth}
+use Rattle.pyparse_reads.specs.declared.depth.Depth.{Depth}
 use Rattle.pyparse_nodes.specs.declared.found.Read.{Read}
 use Rattle.pyparse_nodes.specs.declared.found.Items.{Items}
 use Rattle.pyparse_expr.specs.declared.listings.Item.{Item}
 use Rattle.pyparse_expr.specs.declared.listings.Item.TheVariants as item
-use Rattle.pyparse_looks.specs.declared.stop.Stop.{Stop}
+use Rattle.pyparse_nodes.specs.declared.stop.Stop.{Stop}
 use Rattle.pyparse_nodes.specs.Answers.{Failed, FoundAt, Answered, Makes}
 use Rattle.pyparse_expr.specs.Inner.Found.{ListedAt, entries_of}
 use Rattle.pyparse_expr.specs.Inner.Lists.{item_of, item_reads, items_of, least_of, more_at}
-use Rattle.pyparse_looks.specs.Views.{Stands, seen, first_is, lead_of}
+use Rattle.pyparse_nodes.specs.Views.{Stands, seen, first_is, lead_of}
 use Rattle.pyparse_expr.proofs.Reader.Reading.{first_miss, failed_then, failed_cap, node, seen_length}
 
 abbrev pub loop : Depth → Item → ℕ → List Entry → List Terminal → Answer (List Entry)

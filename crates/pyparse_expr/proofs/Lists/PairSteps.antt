@@ -15,14 +15,14 @@ use Rattle.pygrammar.specs.Entries.{Entry, Pair, keys, values}
 use Rattle.pygrammar.specs.Looks.{is_op}
 use Rattle.pygrammar.specs.Precedence.{starts}
 use Rattle.pygrammar.specs.Reader.{Answer, Found, and_then, on_first, on_some, listing_loop, read_pair}
-use Rattle.pyparse_expr.specs.declared.depth.Depth.{Depth}
+use Rattle.pyparse_reads.specs.declared.depth.Depth.{Depth}
 use Rattle.pyparse_nodes.specs.declared.found.Pair as pair
 use Rattle.pyparse_nodes.specs.declared.found.Pairs.{Pairs}
-use Rattle.pyparse_looks.specs.declared.stop.Stop.{Stop}
+use Rattle.pyparse_nodes.specs.declared.stop.Stop.{Stop}
 use Rattle.pyparse_nodes.specs.Answers.{Failed}
 use Rattle.pyparse_expr.specs.Inner.Pairs.{PairAt, PairsAt, entry, more_pairs_at, pair_of, pairs_of, zipped}
 use Rattle.pyparse_expr.specs.Inner.Readings.{inner_reads}
-use Rattle.pyparse_looks.specs.Views.{Stands, seen, first_is, lead_of}
+use Rattle.pyparse_nodes.specs.Views.{Stands, seen, first_is, lead_of}
 use Rattle.pyparse_nodes.proofs.Callers.Pushes.{pushed}
 use Rattle.pyparse_expr.proofs.Reader.Reading.{first_miss, failed_then, seen_length}
 

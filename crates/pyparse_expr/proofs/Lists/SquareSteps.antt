@@ -16,16 +16,16 @@ use Rattle.pygrammar.specs.Looks.{is_op}
 use Rattle.pygrammar.specs.Precedence.{starts, starts_comp}
 use Rattle.pygrammar.specs.Reader.{Answer, Found, NoForm, and_then, closed, unstarred, comps_closed, others_of, square, Reads}
 use Rattle.pygrammar.specs.Capped.{cap}
-use Rattle.pyparse_expr.specs.declared.depth.Depth.{Depth}
+use Rattle.pyparse_reads.specs.declared.depth.Depth.{Depth}
 use Rattle.pyparse_nodes.specs.declared.found.Read.{Read}
 use Rattle.pyparse_nodes.specs.declared.found.Items.{Items}
 use Rattle.pyparse_expr.specs.declared.listings.Item.TheVariants as item
-use Rattle.pyparse_looks.specs.declared.stop.Stop.{Stop}
+use Rattle.pyparse_nodes.specs.declared.stop.Stop.{Stop}
 use Rattle.pyparse_nodes.specs.Answers.{Failed, Answered, FoundAt, Makes}
 use Rattle.pyparse_expr.specs.Inner.Found.{ListedAt}
 use Rattle.pyparse_expr.specs.Inner.Lists.{more_at}
 use Rattle.pyparse_expr.specs.Inner.Readings.{inner_reads}
-use Rattle.pyparse_looks.specs.Views.{Stands, seen, first_is, lead_of}
+use Rattle.pyparse_nodes.specs.Views.{Stands, seen, first_is, lead_of}
 use Rattle.pyparse_expr.proofs.Reader.Reading.{first_miss, failed_then, failed_cap, earlier, node}
 use Rattle.pyparse_expr.proofs.Lists.ListSteps.{not_starts, do_starts, singles_all}
 

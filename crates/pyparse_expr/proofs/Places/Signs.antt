@@ -16,11 +16,11 @@ use Rattle.pygrammar.specs.Operators.{chain_word, comparison}
 use Rattle.pygrammar.specs.Precedence.{Joins, Compares, behind}
 use Rattle.pygrammar.specs.Reader.{Answer, NoForm, TooDeep, Reads, on_first, on_some, on_comparison}
 use Rattle.pyparse_expr.specs.declared.chains.Compared.{Compared}
-use Rattle.pyparse_looks.specs.declared.stop.Stop.TheVariants as stop
+use Rattle.pyparse_nodes.specs.declared.stop.Stop.TheVariants as stop
 use Rattle.pyparse_expr.specs.Inner.Chains.{ComparedAt, MisComparedAt, NotComparedAt}
-use Rattle.pyparse_looks.specs.Views.{Stands, seen, first_is, first_of}
+use Rattle.pyparse_nodes.specs.Views.{Stands, seen, first_is, first_of}
 use Rattle.pyparse_expr.proofs.Reader.Reading.{first_hit, first_miss, seen_next}
-use Rattle.pyparse_looks.proofs.Callers.Places.{front}
+use Rattle.pyparse_nodes.proofs.Callers.Places.{front}
 
 pub one_sign : (ts : List given.Terminal) (at : ℕ) (c : Compared) → Some c.op ≡ first_is comparison (seen ts at) → at < length ts
     → c.next ≡ at + 1 → ComparedAt ts at c

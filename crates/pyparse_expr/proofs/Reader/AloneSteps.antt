@@ -16,13 +16,13 @@ use Rattle.pygrammar.specs.Constants.{joined}
 use Rattle.pygrammar.specs.Looks.{is_formatted_begin}
 use Rattle.pygrammar.specs.Reader.{Answer, Found, TooDeep, Reads, and_then, on_first, made, string_run, constant_of, literals, if_else_step}
 use Rattle.pygrammar.specs.Capped.{cap, capped, capped_atom, capped_primary, capped_loop}
-use Rattle.pyparse_expr.specs.declared.depth.Depth.{Depth}
+use Rattle.pyparse_reads.specs.declared.depth.Depth.{Depth}
 use Rattle.pyparse_nodes.specs.declared.found.Read.{Read}
-use Rattle.pyparse_looks.specs.declared.stop.Stop.{Stop}
+use Rattle.pyparse_nodes.specs.declared.stop.Stop.{Stop}
 use Rattle.pyparse_nodes.specs.Answers.{Answered}
-use Rattle.pyparse_expr.specs.Readings.{IsOpen, reads}
-use Rattle.pyparse_looks.specs.Alone.{alone, atom_with, ends}
-use Rattle.pyparse_looks.specs.Views.{seen}
+use Rattle.pyparse_reads.specs.Readings.{IsOpen, reads}
+use Rattle.pyparse_nodes.specs.Alone.{alone, atom_with, ends}
+use Rattle.pyparse_nodes.specs.Views.{seen}
 
 -- nothing goes on
 no_run : (r : List Terminal) → ends r ≡ true → string_run [] r ≡ Found [] r

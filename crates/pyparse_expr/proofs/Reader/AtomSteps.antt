@@ -11,16 +11,16 @@ use Rattle.pytoken.specs.declared.values.terminals.Terminal as given
 use Rattle.pygrammar.specs.declared.levels.Level.TheVariants as level
 use Rattle.pygrammar.specs.Reader.{NoForm, Reads}
 use Rattle.pygrammar.specs.Capped.{cap, capped_atom}
-use Rattle.pyparse_expr.specs.declared.depth.Depth.{Depth}
+use Rattle.pyparse_reads.specs.declared.depth.Depth.{Depth}
 use Rattle.pyparse_nodes.specs.declared.found.Read.{Read}
-use Rattle.pyparse_looks.specs.declared.stop.Stop.{Stop}
-use Rattle.pyparse_looks.specs.declared.stop.Stop.TheVariants as stop
+use Rattle.pyparse_nodes.specs.declared.stop.Stop.{Stop}
+use Rattle.pyparse_nodes.specs.declared.stop.Stop.TheVariants as stop
 use Rattle.pyparse_nodes.specs.Answers.{Answered}
-use Rattle.pyparse_expr.specs.Readings.{IsOpen, reads}
+use Rattle.pyparse_reads.specs.Readings.{IsOpen, reads}
 use Rattle.pyparse_expr.specs.Inner.Readings.{inner_reads, same_reads}
-use Rattle.pyparse_looks.specs.Views.{seen, first_of}
+use Rattle.pyparse_nodes.specs.Views.{seen, first_of}
 use Rattle.pyparse_expr.proofs.Reader.Reading.{by_level}
-use Rattle.pyparse_looks.proofs.Callers.Places.{front}
+use Rattle.pyparse_nodes.proofs.Callers.Places.{front}
 
 pub atom_here : (ts : List given.Terminal) (d : Depth) (at : ℕ) (t : Terminal) (z : Result Read Stop) → IsOpen d
     → first_of (seen ts at) ≡ Some t

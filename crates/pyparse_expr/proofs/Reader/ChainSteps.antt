@@ -18,14 +18,14 @@ use Rattle.pygrammar.specs.Reader.{Answer, Found, NoForm, TooDeep, and_then, on_
 use Rattle.pygrammar.specs.Capped.{cap}
 use Rattle.pygrammar.proofs.Callers.Terminals.{word_is}
 use Rattle.pyparse_expr.specs.declared.chains.Compared.{Compared}
-use Rattle.pyparse_expr.specs.declared.depth.Depth.{Depth}
+use Rattle.pyparse_reads.specs.declared.depth.Depth.{Depth}
 use Rattle.pyparse_nodes.specs.declared.found.Read.{Read}
 use Rattle.pyparse_nodes.specs.declared.found.Items.{Items}
-use Rattle.pyparse_looks.specs.declared.stop.Stop.{Stop}
+use Rattle.pyparse_nodes.specs.declared.stop.Stop.{Stop}
 use Rattle.pyparse_nodes.specs.Answers.{Failed, Answered, FoundAt, Makes}
 use Rattle.pyparse_expr.specs.Inner.Chains.{LinkedAt, links_of, ComparedAt, MisComparedAt, NotComparedAt}
 use Rattle.pyparse_expr.specs.Inner.Readings.{inner_reads}
-use Rattle.pyparse_looks.specs.Views.{Stands, seen, first_is}
+use Rattle.pyparse_nodes.specs.Views.{Stands, seen, first_is}
 use Rattle.pyparse_expr.proofs.Places.Signs.{compares}
 use Rattle.pyparse_expr.proofs.Reader.Reading.{first_miss, failed_then, failed_cap, node, seen_length}
 

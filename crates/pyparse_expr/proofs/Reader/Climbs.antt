@@ -12,14 +12,14 @@ use Rattle.pygrammar.specs.Operators.{rank}
 use Rattle.pygrammar.specs.Precedence.{Infix, Prefix, infix_from, prefix_from}
 use Rattle.pygrammar.specs.Reader.{Answer, Found, and_then, operation, prefixed, Reads}
 use Rattle.pygrammar.specs.Capped.{cap, capped_step, capped_climb, capped_loop}
-use Rattle.pyparse_expr.specs.declared.depth.Depth.{Depth}
+use Rattle.pyparse_reads.specs.declared.depth.Depth.{Depth}
 use Rattle.pyparse_nodes.specs.declared.found.Read.{Read}
-use Rattle.pyparse_looks.specs.declared.stop.Stop.{Stop}
+use Rattle.pyparse_nodes.specs.declared.stop.Stop.{Stop}
 use Rattle.pyparse_nodes.specs.Answers.{Failed, Answered, FoundAt}
-use Rattle.pyparse_expr.specs.Readings.{IsOpen, reads}
+use Rattle.pyparse_reads.specs.Readings.{IsOpen, reads}
 use Rattle.pyparse_expr.specs.Inner.Readings.{inner_reads, same_reads, fronts}
-use Rattle.pyparse_looks.specs.Operators.{climbing}
-use Rattle.pyparse_looks.specs.Views.{seen, first_is}
+use Rattle.pyparse_nodes.specs.Operators.{climbing}
+use Rattle.pyparse_nodes.specs.Views.{seen, first_is}
 use Rattle.pyparse_expr.proofs.Reader.Reading.{seen_next, seen_length, first_hit, first_miss, failed_then, again, earlier, by_level}
 
 -- the levels of operators are read by their ranks

@@ -1,6 +1,7 @@
 -- The levels above the operators, by what stands at a place.
 --
 -- Carries: the levels. On: Reading.
+pub use Rattle.pyparse_reads.proofs.Callers.Looks.{name_miss}
 use Rattle.std.proofs.Common.{◌≡◌, refl, ap, subst, ◌∙◌, arith, ℕ, ◌+◌, ◌-◌, ◌≤◌, List, [], ◌∷◌, length, Option, Some, None, Result, Ok}
 use Rattle.pylex_lexeme.specs.declared.kinds.Exact.{Exact}
 use Rattle.pylex_lexeme.specs.declared.kinds.Exact.TheVariants.{Star, Comma, Colon, ColonEqual}
@@ -18,13 +19,13 @@ use Rattle.pygrammar.specs.Looks.{is_op, is_word, name_in}
 use Rattle.pygrammar.specs.Reader.{Answer, Found, NoForm, and_then, on_first, on_some, on_name_with, tupled, listing_of, yield_step}
 use Rattle.pygrammar.specs.Reader.{if_else_step, lambda_step, slice_rest, unnamed, unstarred}
 use Rattle.pygrammar.specs.Capped.{cap}
-use Rattle.pyparse_expr.specs.declared.depth.Depth.{Depth}
+use Rattle.pyparse_reads.specs.declared.depth.Depth.{Depth}
 use Rattle.pyparse_nodes.specs.declared.found.Read.{Read}
-use Rattle.pyparse_looks.specs.declared.stop.Stop.{Stop}
+use Rattle.pyparse_nodes.specs.declared.stop.Stop.{Stop}
 use Rattle.pyparse_nodes.specs.Answers.{Answered, FoundAt, Made, Makes}
-use Rattle.pyparse_expr.specs.Readings.{IsOpen, reads}
+use Rattle.pyparse_reads.specs.Readings.{IsOpen, reads}
 use Rattle.pyparse_expr.specs.Inner.Readings.{inner_reads, level_at}
-use Rattle.pyparse_looks.specs.Views.{Stands, IsNamed, IsNotNamed, seen, first_is}
+use Rattle.pyparse_nodes.specs.Views.{Stands, IsNamed, IsNotNamed, seen, first_is}
 use Rattle.pyparse_expr.proofs.Reader.Reading.{by_level, again, earlier, node, first_miss}
 
 -- what was read is the answer
@@ -32,28 +33,6 @@ pub ended : (ts : List given.Terminal) (room least : ℕ) (r : Read) → least �
     → Answered ts room least (cap room (Found (tree_of r.expr.value) (seen ts r.next))) (Ok r)
 ended ts room least r le w h = again ts room least (Found (tree_of r.expr.value) (seen ts r.next)) (Ok r)
     (record { ahead = le; within = w; low = h; is = refl })
-
-pub name_miss : {B : Type 0} (s : Exact) (ts : List given.Terminal) (at : ℕ) (hit : List ℕ → List Terminal → B) (miss : B)
-    → IsNotNamed s ts at → on_name_with s (seen ts at) hit miss ≡ miss
-name_miss {B} s ts at hit miss h = go (seen ts at) h.is
-  where
-    sign : (x : List ℕ) (r : List Terminal) → None ≡ on_first (is_op s) r (λ _ r2. Some x) None
-        → on_first (is_op s) r (λ _ r2. hit x r2) miss ≡ miss
-    sign x [] h = refl
-    sign x (t ∷ r) h = by (is_op s t) h
-      where
-        by : (o : Option ℕ) → None ≡ on_some o (λ _. Some x) None → on_some o (λ _. hit x r) miss ≡ miss
-        by None h = refl
-        by (Some y) h = absurd (cc)
-
-    go : (r : List Terminal) → None ≡ on_name_with s r (λ x r2. Some x) None → on_name_with s r hit miss ≡ miss
-    go [] h = refl
-    go (t ∷ r) h = by (name_in t) h
-      where
-        by : (o : Option (List ℕ)) → None ≡ on_some o (λ x. on_first (is_op s) r (λ _ r2. Some x) None) None
-            → on_some o (λ x. on_first (is_op s) r (λ _ r2. hit x r2) miss) miss ≡ miss
-        by None h = refl
-        by (Some x) h = sign x r h
 
 -- what was read further in
 pub inner_found : (ts : List given.Terminal) (least : ℕ) (d i : Depth) (l : Level) (x : List Terminal) (r : Read) → i.steps ≡ d.steps - 1

@@ -9,14 +9,14 @@ use Rattle.pytoken.specs.declared.values.terminals.Terminal as given
 use Rattle.pyparse_nodes.specs.declared.actual.Actual.{Actual}
 use Rattle.pyparse_nodes.specs.Formals.{outcome}
 use Rattle.pyparse_nodes.specs.FormalStates.{state_of}
-use Rattle.pyparse_looks.specs.Views.{seen}
+use Rattle.pyparse_nodes.specs.Views.{seen}
 use Rattle.pyplaces.specs.Stretches.{Stretch}
 use Rattle.pyplaces.proofs.Answers.{read_as}
 use Rattle.pyparse_expr.specs.declared.signatures.Signature.{Signature}
 use Rattle.pyparse_expr.specs.Inner.Arguments as actuals
 use Rattle.pyparse_expr.specs.Inner.PlacedCalls.{ArgumentsPlaced}
 use Rattle.pyparse_expr.specs.Inner.PlacedSignatures.{SignaturePlaced}
-use Rattle.pyparse_expr.specs.PlacedParts.{BasesPlaced, ParametersPlaced}
+use Rattle.pyparse_reads.specs.PlacedParts.{BasesPlaced, ParametersPlaced}
 use Rattle.pyparse_expr.proofs.Calls.ArgumentOrder.{args_steps, keywords_steps, order_steps}
 use Rattle.pyparse_expr.proofs.FormalParameters.Formals.{arranged_steps}
 

@@ -16,19 +16,20 @@ use Rattle.pygrammar.specs.FormattedStrings.{StringPart}
 use Rattle.pygrammar.specs.Parameters.{arranged}
 use Rattle.pygrammar.specs.Reader.{Answer, Found, NoForm, Reads, and_then, listing_of, joined_step, literals, made, read_target}
 use Rattle.pyparse_nodes.specs.declared.actual.Actual.{Actual}
-use Rattle.pyparse_expr.specs.declared.depth.Depth.{Depth}
+use Rattle.pyparse_reads.specs.declared.depth.Depth.{Depth}
 use Rattle.pyparse_nodes.specs.declared.found.Read.{Read}
 use Rattle.pyparse_expr.specs.declared.signatures.Signature.{Signature}
-use Rattle.pyparse_looks.specs.declared.stop.Stop.{Stop}
+use Rattle.pyparse_nodes.specs.declared.stop.Stop.{Stop}
 use Rattle.pyparse_nodes.specs.Answers.{Answered, Failed, PartAnswered, PartAt}
 use Rattle.pyparse_expr.specs.Inner.Arguments.{ActualAt, arguments_of, start}
 use Rattle.pyparse_expr.specs.Inner.Arguments as actuals
 use Rattle.pyparse_nodes.specs.Formals.{outcome}
 use Rattle.pyparse_nodes.specs.FormalStates.{state_of}
-use Rattle.pyparse_expr.specs.Inner.Readings.{IsOuter, inner_reads}
+use Rattle.pyparse_expr.specs.Inner.Readings.{inner_reads}
+use Rattle.pyparse_reads.specs.Readings.{IsOuter}
 use Rattle.pyparse_expr.specs.Inner.Signatures.{SignatureAt}
-use Rattle.pyparse_expr.specs.Readings.{IsOpen, read_arguments, read_parameters, reads}
-use Rattle.pyparse_looks.specs.Views.{seen}
+use Rattle.pyparse_reads.specs.Readings.{IsOpen, read_arguments, read_parameters, reads}
+use Rattle.pyparse_nodes.specs.Views.{seen}
 use Rattle.pyparse_expr.proofs.Calls.ArgumentOrder.{args_steps, keywords_steps, order_steps}
 use Rattle.pyparse_expr.proofs.FormalParameters.Formals.{arranged_steps}
 use Rattle.pyparse_expr.proofs.FormalParameters.ParameterSteps.{listed}

@@ -1,6 +1,7 @@
 -- The reader within a height at a depth, and what the answers of parts say of the whole's.
 --
 -- Carries: the readers. On: Answers, Readings.
+pub use Rattle.pyparse_reads.proofs.Callers.Looks.{seen_next, seen_length, failed_then, low_node, first_miss, first_hit}
 use Rattle.std.proofs.Common.{◌≡◌, refl, sym, ap, ◌∙◌, arith, ℕ, zero, suc, ◌+◌, ◌-◌, ◌≤◌, ◌<◌, List, [], ◌∷◌, length, map, drop}
 use Rattle.std.proofs.Common.{length-drop, drop-drop, Option, Some, None, cond, Result, Ok, Err}
 use Rattle.std.proofs.lemmas.List.{length-map}
@@ -14,21 +15,14 @@ use Rattle.pygrammar.specs.declared.levels.Level.{Level}
 use Rattle.pygrammar.specs.Reader.{Answer, Found, TooDeep, and_then, on_first, on_some}
 use Rattle.pygrammar.specs.Capped.{cap, capped, capped_step}
 use Rattle.pygrammar.proofs.Callers.Steps.{unroll_capped}
-use Rattle.pyparse_expr.specs.declared.depth.Depth.{Depth}
+use Rattle.pyparse_reads.specs.declared.depth.Depth.{Depth}
 use Rattle.pyparse_nodes.specs.declared.found.Read.{Read}
-use Rattle.pyparse_looks.specs.declared.stop.Stop.{Stop}
-use Rattle.pyparse_looks.specs.declared.stop.Stop.TheVariants as stop
+use Rattle.pyparse_nodes.specs.declared.stop.Stop.{Stop}
+use Rattle.pyparse_nodes.specs.declared.stop.Stop.TheVariants as stop
 use Rattle.pyparse_nodes.specs.Answers.{Failed, Answered, Makes}
-use Rattle.pyparse_expr.specs.Readings.{IsOpen, reads}
+use Rattle.pyparse_reads.specs.Readings.{IsOpen, reads}
 use Rattle.pyparse_expr.specs.Inner.Readings.{level_at}
-use Rattle.pyparse_looks.specs.Views.{seen, first_is}
-
--- places
-pub seen_next : (ts : List given.Terminal) (n : ℕ) → drop 1 (seen ts n) ≡ seen ts (n + 1)
-seen_next ts n = drop-drop 1 n (map _ ts)
-
-pub seen_length : (ts : List given.Terminal) (n : ℕ) → length (seen ts n) ≡ length ts - n
-seen_length ts n = length-drop n (map _ ts) ∙ ap (λ z. z - n) (length-map ts _)
+use Rattle.pyparse_nodes.specs.Views.{seen, first_is}
 
 -- one level
 pub opened : (g d : ℕ) (l : Level) (i : List Terminal) → 0 < g → 0 < d
@@ -51,12 +45,6 @@ cap_low d e r h = ap (λ b. cond b (Found e r) TooDeep) (le-leb (height e) d h)
 
 pub cap_high : (d : ℕ) (e : Expr) (r : List Terminal) → d < height e → cap d (Found e r) ≡ TooDeep
 cap_high d e r h = ap (λ b. cond b (Found e r) TooDeep) (lt-leb (height e) d h)
-
--- why there is no answer, handed on
-pub failed_then : {A B : Type 0} (s : Stop) (x : Answer A) (k : A → List Terminal → Answer B) → Failed s x → Failed s (and_then x k)
-failed_then stop.NoForm x k h = ap (λ z. and_then z k) h
-failed_then stop.TooDeep x k h = ap (λ z. and_then z k) h
-failed_then stop.Memory x k h = tt
 
 pub failed_cap : (s : Stop) (d : ℕ) (x : Answer Expr) → Failed s x → Failed s (cap d x)
 failed_cap stop.NoForm d x h = ap (λ z. cap d z) h
@@ -99,27 +87,3 @@ node ts room least e n (Ok r) le w h = record {
 node ts room least e n (Err stop.NoForm) le w h = absurd h
 node ts room least e n (Err stop.TooDeep) le w h = cap_high room e (seen ts n) h
 node ts room least e n (Err stop.Memory) le w h = tt
-
--- a node that is no higher than the room
-pub low_node : (ts : List given.Terminal) (room least : ℕ) (e : Expr) (n : ℕ) (z : Result Read Stop) → least ≤ n → n ≤ length ts
-    → height e ≤ room → Makes room e n z → Answered ts room least (Found e (seen ts n)) z
-low_node ts room least e n (Ok r) le w b h = record {
-  ahead = omega (arith, le, h.next_is);
-  within = omega (arith, w, h.next_is);
-  low = h.low;
-  is = ap (λ t. Found t (seen ts n)) (sym h.tree) ∙ ap (λ m. Found (tree_of r.expr.value) (seen ts m)) (sym h.next_is);
-}
-low_node ts room least e n (Err stop.NoForm) le w b h = absurd h
-low_node ts room least e n (Err stop.TooDeep) le w b h = absurd (omega (arith, b, h))
-low_node ts room least e n (Err stop.Memory) le w b h = tt
-
--- a choice by a test on the first terminal, where the test fails
-pub first_miss : {A B : Type 0} (f : Terminal → Option A) (r : List Terminal) (hit : A → List Terminal → B) (miss : B) → None ≡ first_is f r
-    → on_first f r hit miss ≡ miss
-first_miss f [] hit miss h = refl
-first_miss f (t ∷ r) hit miss h = ap (λ o. on_some o (λ b. hit b r) miss) (sym h)
-
-pub first_hit : {A B : Type 0} (f : Terminal → Option A) (r : List Terminal) (a : A) (hit : A → List Terminal → B) (miss : B)
-    → Some a ≡ first_is f r → on_first f r hit miss ≡ hit a (drop 1 r)
-first_hit f [] a hit miss h = absurd (cc)
-first_hit f (t ∷ r) a hit miss h = ap (λ o. on_some o (λ b. hit b r) miss) (sym h)

@@ -13,10 +13,10 @@ use Rattle.pygrammar.specs.Meets.{Shapeless, High, Meets}
 use Rattle.pygrammar.specs.Reader.{Answer, Found, NoForm, TooDeep}
 use Rattle.pygrammar.specs.Capped.{cap, capped, limit}
 use Rattle.pygrammar.proofs.Callers.Law.{limit_meets}
-use Rattle.pyparse_looks.specs.declared.stop.Stop.{Stop}
-use Rattle.pyparse_looks.specs.declared.stop.Stop.TheVariants as stop
+use Rattle.pyparse_nodes.specs.declared.stop.Stop.{Stop}
+use Rattle.pyparse_nodes.specs.declared.stop.Stop.TheVariants as stop
 use Rattle.pyparse_nodes.specs.Answers.{Failed}
-use Rattle.pyparse_looks.specs.Views.{seen}
+use Rattle.pyparse_nodes.specs.Views.{seen}
 use Rattle.pyparse_expr.specs.Expressions.{IsExpression, Refused}
 use Rattle.pyparse_expr.proofs.Reader.Reading.{cap_low, cap_high, seen_length}
 

@@ -19,10 +19,10 @@ use Rattle.pygrammar.specs.Precedence.{starts_comp}
 use Rattle.pyparse_nodes.specs.declared.found.ForClauses.{ForClauses}
 use Rattle.pyparse_nodes.specs.declared.found.Items.{Items}
 use Rattle.pyparse_nodes.specs.declared.found.Read.{Read}
-use Rattle.pyparse_looks.specs.declared.stop.Stop.{Stop}
-use Rattle.pyparse_looks.specs.declared.stop.Stop.TheVariants as stop
+use Rattle.pyparse_nodes.specs.declared.stop.Stop.{Stop}
+use Rattle.pyparse_nodes.specs.declared.stop.Stop.TheVariants as stop
 use Rattle.pyparse_nodes.specs.Answers.{Made, Makes}
-use Rattle.pyparse_looks.specs.Views.{Stands, seen, first_is}
+use Rattle.pyparse_nodes.specs.Views.{Stands, seen, first_is}
 use Rattle.pyparse_expr.specs.Inner.PlacedLists.{OthersPlaced}
 use Rattle.pyparse_expr.specs.Inner.PlacedAtoms.{ClosedBy}
 use Rattle.pyplaces.specs.Stretches.{Stretch, stretch}
@@ -37,7 +37,7 @@ use Rattle.pyplaces.proofs.Expressions.Comprehensions.{clauses_some}
 use Rattle.pyplaces.proofs.Expressions.Listings.{placed_single, placed_no_item, listed, behind_comma}
 use Rattle.pyplaces.proofs.Expressions.Readings.{elem_named}
 use Rattle.pyparse_expr.proofs.Recorders.Made.{Whole, WholeBehind, at_next, whole_made, whole_behind, leaf_made}
-use Rattle.pyparse_expr.proofs.Recorders.Looks.{no_op}
+use Rattle.pyparse_reads.proofs.Callers.Looks.{no_op}
 
 module _ {S : Type 0} (after : S → Stretch → S) (u v : S) (ts : List given.Terminal) where
   -- ---- One terminal.

@@ -19,7 +19,7 @@ use Rattle.pyparse_nodes.specs.declared.actual.ArgumentForm.{ArgumentForm}
 use Rattle.pyparse_nodes.specs.declared.actual.ArgumentForm.TheVariants as kind
 use Rattle.pyparse_nodes.specs.declared.found.Read.{Read}
 use Rattle.pyparse_nodes.specs.Answers.{Made}
-use Rattle.pyparse_looks.specs.Views.{Stands, seen}
+use Rattle.pyparse_nodes.specs.Views.{Stands, seen}
 use Rattle.pyparse_expr.specs.Inner.Arguments.{State, start, step, steps, outcome, state_of, level_of, place_of, entry_of, Begins}
 use Rattle.pyparse_expr.specs.Inner.PlacedCalls.{places_of, ArgumentPlaced, ArgumentsKept, ArgumentsPlaced}
 use Rattle.pyparse_expr.proofs.Calls.ArgumentOrder.{called_steps}

@@ -23,9 +23,9 @@ use Rattle.pygrammar.specs.Reader.{on_some}
 use Rattle.pyparse_expr.specs.declared.chains.Compared.{Compared}
 use Rattle.pyparse_nodes.specs.declared.found.Items.{Items}
 use Rattle.pyparse_nodes.specs.declared.found.Read.{Read}
-use Rattle.pyparse_looks.specs.declared.stop.Stop.{Stop}
+use Rattle.pyparse_nodes.specs.declared.stop.Stop.{Stop}
 use Rattle.pyparse_nodes.specs.Answers.{Makes}
-use Rattle.pyparse_looks.specs.Views.{Stands, seen, first_is}
+use Rattle.pyparse_nodes.specs.Views.{Stands, seen, first_is}
 use Rattle.pyparse_expr.specs.Inner.PlacedOperations.{LinksPlaced, Unsigned}
 use Rattle.pyplaces.specs.Stretches.{Stretch, stretch}
 use Rattle.pyplaces.specs.Placed.{Placed, PlacedCompares, PlacedSign}
@@ -39,7 +39,7 @@ use Rattle.pyplaces.proofs.Expressions.Chains.{sign_one, sign_not_in, sign_is, s
 use Rattle.pyplaces.proofs.Expressions.Climbing.{standing_chain, standing_compare}
 use Rattle.pyplaces.proofs.Expressions.Turns.{joins_is, joins_turn, chain_facts, chain_ended, compare_ended}
 use Rattle.pyparse_expr.proofs.Recorders.Made.{StoodBehind, stood_behind}
-use Rattle.pyparse_expr.proofs.Recorders.Looks.{none_first, no_word, some_first}
+use Rattle.pyparse_reads.proofs.Callers.Looks.{none_first, no_word, some_first}
 
 -- ---- Sides of `and` and `or`: how far the loop has come.
 pub record LinksRead {S : Type 0} (after : S → Stretch → S) (ts : List given.Terminal) (o : BoolOperator) (first r : Items) (old new : S)

@@ -16,9 +16,9 @@ use Rattle.pygrammar.specs.declared.levels.Level.TheVariants as level
 use Rattle.pygrammar.specs.Entries.{Of}
 use Rattle.pygrammar.specs.Looks.{is_op}
 use Rattle.pyparse_nodes.specs.declared.found.Read.{Read}
-use Rattle.pyparse_looks.specs.declared.stop.Stop.{Stop}
+use Rattle.pyparse_nodes.specs.declared.stop.Stop.{Stop}
 use Rattle.pyparse_nodes.specs.Answers.{Made, Makes}
-use Rattle.pyparse_looks.specs.Views.{IsNamed, Stands, seen, first_is}
+use Rattle.pyparse_nodes.specs.Views.{IsNamed, Stands, seen, first_is}
 use Rattle.pyparse_expr.specs.Inner.PlacedLists.{TuplePlaced}
 use Rattle.pyplaces.specs.Stretches.{Stretch, stretch}
 use Rattle.pyplaces.specs.Placed.{Placed, PlacedYields}
@@ -28,7 +28,7 @@ use Rattle.pyplaces.proofs.Expressions.Levels.{placed_next, placed_yields, place
 use Rattle.pyplaces.proofs.Expressions.Levels.{placed_star_elem, placed_named, placed_if_else}
 use Rattle.pyplaces.proofs.Expressions.Readings.{elem_named}
 use Rattle.pyparse_expr.proofs.Recorders.Made.{Whole, whole_made}
-use Rattle.pyparse_expr.proofs.Recorders.Looks.{no_op}
+use Rattle.pyparse_reads.proofs.Callers.Looks.{no_op}
 
 -- ---- Yield forms: behind the word, with the place of the whole.
 abbrev pub Yielded : {S : Type 0} → (S → Stretch → S) → List given.Terminal → (begin at : ℕ) → S → S → Read → Type 0

@@ -9,7 +9,7 @@ use Rattle.pytoken.specs.Terminals.{Terminal, Spelled, Op, Word, Ident}
 use Rattle.pygrammar.specs.Looks.{is_op, is_word}
 use Rattle.pygrammar.specs.Precedence.{starts_comp}
 use Rattle.pygrammar.specs.Reader.{on_name_with}
-use Rattle.pyparse_looks.specs.Views.{first_is}
+use Rattle.pyparse_nodes.specs.Views.{first_is}
 use Rattle.pyplaces.specs.Rests.{Lacks}
 use Rattle.pyplaces.proofs.Answers.{lacks_op}
 

@@ -18,10 +18,10 @@ use Rattle.pygrammar.specs.Operators.{below, rank}
 use Rattle.pygrammar.specs.Precedence as precedence
 use Rattle.pygrammar.specs.Precedence.{infix_from, prefix_from, infix_rank, prefix_rank}
 use Rattle.pyparse_nodes.specs.declared.found.Read.{Read}
-use Rattle.pyparse_looks.specs.declared.stop.Stop.{Stop}
+use Rattle.pyparse_nodes.specs.declared.stop.Stop.{Stop}
 use Rattle.pyparse_nodes.specs.Answers.{Makes}
-use Rattle.pyparse_looks.specs.Operators.{climbing}
-use Rattle.pyparse_looks.specs.Views.{seen, first_is}
+use Rattle.pyparse_nodes.specs.Operators.{climbing}
+use Rattle.pyparse_nodes.specs.Views.{seen, first_is}
 use Rattle.pyparse_expr.specs.Inner.PlacedOperations.{BinaryPlaced}
 use Rattle.pyplaces.specs.Stretches.{Stretch, stretch}
 use Rattle.pyplaces.specs.Placed.{Placed}
@@ -32,7 +32,7 @@ use Rattle.pyplaces.proofs.Expressions.Climbing.{standing_primary, standing_awai
 use Rattle.pyplaces.proofs.Expressions.Climbing.{standing_end}
 use Rattle.pyplaces.proofs.Expressions.Turns.{ended, infix_hit, prefix_hit}
 use Rattle.pyparse_expr.proofs.Recorders.Made.{Whole, Stood, StoodBehind, at_next, stood_made}
-use Rattle.pyparse_expr.proofs.Recorders.Looks.{none_first, some_first}
+use Rattle.pyparse_reads.proofs.Callers.Looks.{none_first, some_first}
 
 -- ---- The loop over operators.
 

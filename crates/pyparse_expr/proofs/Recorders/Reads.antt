@@ -1,6 +1,7 @@
 -- What was read and recorded, with the places around it.
 --
 -- Carries: all readers of listings, braces, comprehensions and slices. On: Answers of pyplaces.
+pub use Rattle.pyparse_reads.proofs.Callers.Looks.{with_places, records_as, placed_at}
 use Rattle.std.proofs.Common.{◌≡◌, sym, ap, ◌∙◌, subst, ℕ, List, ◌++◌, Result, Ok, Err}
 use Rattle.std.specs.Prelude.{IfOk}
 use Rattle.pytree_node.specs.Trees.{Expr}
@@ -9,9 +10,9 @@ use Rattle.pytoken.specs.Terminals.{Terminal}
 use Rattle.pytoken.specs.declared.values.terminals.Terminal as given
 use Rattle.pygrammar.specs.declared.levels.Level.{Level}
 use Rattle.pyparse_nodes.specs.declared.found.Read.{Read}
-use Rattle.pyparse_looks.specs.declared.stop.Stop.{Stop}
+use Rattle.pyparse_nodes.specs.declared.stop.Stop.{Stop}
 use Rattle.pyparse_nodes.specs.Answers.{Makes}
-use Rattle.pyparse_looks.specs.Views.{seen}
+use Rattle.pyparse_nodes.specs.Views.{seen}
 use Rattle.pyplaces.specs.Stretches.{Stretch}
 use Rattle.pyplaces.specs.Placed.{ReadAs, Placed}
 use Rattle.pyplaces.specs.Recording.{afters, Records}
@@ -42,20 +43,6 @@ pub made_whole : {S : Type 0} {after : S → Stretch → S} {l : Level} {i : Lis
     → IfOk z (λ r. (qs : List Stretch) × Placed l i at (tree_of r.expr.value) (seen ts r.next) r.next qs × Records after u qs v)
 made_whole {ps = ps} ts room n (Ok r) m q p h = (ps, placed_as (seen ts) (m.tree ∙ q) m.next_is p, h)
 made_whole ts room n (Err e) m q p h = tt
-
--- equal places
-pub with_places : {P : Type 0} {X : List Terminal → Type 0} {f : (ts : List Terminal) → ℕ → X ts → P} {i r : List Terminal}
-    {at behind : ℕ} {ps qs : P} → ps ≡ qs → ReadAs X f i at r behind ps → ReadAs X f i at r behind qs
-with_places h p = record { front = p.front; is = p.is; ends = p.ends; derived = p.derived; places_are = p.places_are ∙ h }
-
-pub records_as : {S : Type 0} {after : S → Stretch → S} {u v : S} {ps qs : List Stretch} → ps ≡ qs → Records after u qs v
-    → Records after u ps v
-records_as {after = after} {u = u} h r = record { is = r.is ∙ ap (λ z. afters after u z) (sym h) }
-
--- the same number before it
-pub placed_at : {P : Type 0} {X : List Terminal → Type 0} {f : (ts : List Terminal) → ℕ → X ts → P} {i r : List Terminal}
-    {at n behind : ℕ} {ps : P} → at ≡ n → ReadAs X f i at r behind ps → ReadAs X f i n r behind ps
-placed_at {X = X} {f = f} {i = i} {r = r} {behind = behind} {ps = ps} h p = subst (λ z. ReadAs X f i z r behind ps) h p
 
 -- a part that was recorded, and the whole behind it
 pub behind_left : {S : Type 0} {after : S → Stretch → S} {ps : List Stretch} {u v : S} (ts : List given.Terminal) (l : Level)

@@ -27,11 +27,11 @@ use Rattle.pyparse_nodes.specs.declared.found.Read.{Read}
 use Rattle.pyparse_nodes.specs.declared.parameters.Formal.{Formal}
 use Rattle.pyparse_nodes.specs.declared.parameters.Stage.{Stage}
 use Rattle.pyparse_nodes.specs.declared.parameters.Stage.TheVariants as stage
-use Rattle.pyparse_looks.specs.declared.stop.Stop.{Stop}
+use Rattle.pyparse_nodes.specs.declared.stop.Stop.{Stop}
 use Rattle.pyparse_nodes.specs.Answers.{Made}
 use Rattle.pyparse_nodes.specs.Formals.{State, state, start, step, steps, outcome}
 use Rattle.pyparse_nodes.specs.FormalStates.{state_of, entry_of}
-use Rattle.pyparse_looks.specs.Views.{Stands, seen, first_is}
+use Rattle.pyparse_nodes.specs.Views.{Stands, seen, first_is}
 use Rattle.pyparse_expr.specs.declared.signatures.ReadParameter.{ReadParameter}
 use Rattle.pyparse_expr.specs.declared.signatures.Signature.{Signature}
 use Rattle.pyparse_expr.specs.Inner.PlacedSignatures.{defaults_behind, Recorded, ParameterPlaced, DefaultsBack, SignaturePlaced}
@@ -56,7 +56,7 @@ use Rattle.pyplaces.proofs.Selections.{Unstarred, none, plain, slash, Starred, w
 use Rattle.pyplaces.proofs.Selections.{defaults_before, keyword_defaults_before, unstarred_plain, unstarred_slash, starred_bare}
 use Rattle.pyplaces.proofs.Selections.{starred_gathered, starred_more, keyword_defaults_behind}
 use Rattle.pyplaces.proofs.Selections as Selections
-use Rattle.pyparse_expr.proofs.Recorders.Looks.{name_is}
+use Rattle.pyparse_reads.proofs.Callers.Looks.{name_is}
 
 -- ---- Names.
 

@@ -12,16 +12,16 @@ use Rattle.pytoken.specs.declared.values.terminals.Terminal as given
 use Rattle.pygrammar.specs.declared.levels.Level.TheVariants.{Primary, Slices}
 use Rattle.pygrammar.specs.Looks.{name_in}
 use Rattle.pyparse_nodes.specs.declared.found.Read.{Read}
-use Rattle.pyparse_looks.specs.declared.stop.Stop.{Stop}
+use Rattle.pyparse_nodes.specs.declared.stop.Stop.{Stop}
 use Rattle.pyparse_nodes.specs.Answers.{Makes}
-use Rattle.pyparse_looks.specs.Views.{Stands, seen, first_is}
+use Rattle.pyparse_nodes.specs.Views.{Stands, seen, first_is}
 use Rattle.pyplaces.specs.Stretches.{Stretch, stretch}
 use Rattle.pyplaces.specs.Placed.{Placed}
 use Rattle.pyplaces.specs.Recording.{Records}
 use Rattle.pyplaces.proofs.Answers.{records_node, records_more}
 use Rattle.pyplaces.proofs.Expressions.Primaries.{placed_attribute, placed_subscript}
 use Rattle.pyparse_expr.proofs.Recorders.Made.{WholeBehind, whole_behind}
-use Rattle.pyparse_expr.proofs.Recorders.Looks.{name_first}
+use Rattle.pyparse_reads.proofs.Callers.Looks.{name_first}
 
 module _ {S : Type 0} (after : S → Stretch → S) (u v : S) (ts : List given.Terminal) (at room : ℕ) (e : Read) (ps : List Stretch) where
   pub attribute_placed : (f : List ℕ) (z : Result Read Stop) → Stands (Op Dot) ts e.next → Some f ≡ first_is name_in (seen ts (e.next + 1))

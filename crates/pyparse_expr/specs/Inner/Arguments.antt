@@ -17,9 +17,9 @@ use Rattle.pygrammar.specs.Reader.{Answer, Found, NoForm, Reads, and_then, on_fi
 use Rattle.pyparse_nodes.specs.declared.actual.Actual.{Actual}
 use Rattle.pyparse_nodes.specs.declared.actual.ArgumentForm.{ArgumentForm}
 use Rattle.pyparse_nodes.specs.declared.actual.ArgumentForm.TheVariants as kind
-use Rattle.pyparse_expr.specs.declared.depth.Depth.{Depth}
+use Rattle.pyparse_reads.specs.declared.depth.Depth.{Depth}
 use Rattle.pyparse_expr.specs.Inner.Readings.{inner_reads}
-use Rattle.pyparse_looks.specs.Views.{Stands, IsNamed, seen}
+use Rattle.pyparse_nodes.specs.Views.{Stands, IsNamed, seen}
 
 -- Whether a `NAME =` or a `**` stood, whether a `**` did, and whether one stood where it may not; then the parts of the node.
 pub data State : Type 0 where

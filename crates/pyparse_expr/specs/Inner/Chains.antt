@@ -8,12 +8,12 @@ use Rattle.pytoken.specs.Terminals as tokens
 use Rattle.pytoken.specs.declared.values.terminals.Terminal.{Terminal}
 use Rattle.pygrammar.specs.Reader.{Answer, Found, Reads, chain_loop, on_comparison}
 use Rattle.pyparse_expr.specs.declared.chains.Compared.{Compared}
-use Rattle.pyparse_expr.specs.declared.depth.Depth.{Depth}
+use Rattle.pyparse_reads.specs.declared.depth.Depth.{Depth}
 use Rattle.pyparse_nodes.specs.declared.found.Items.{Items}
-use Rattle.pyparse_looks.specs.declared.stop.Stop.{Stop}
+use Rattle.pyparse_nodes.specs.declared.stop.Stop.{Stop}
 use Rattle.pyparse_nodes.specs.Answers.{Failed}
 use Rattle.pyparse_expr.specs.Inner.Readings.{inner_reads}
-use Rattle.pyparse_looks.specs.Views.{seen}
+use Rattle.pyparse_nodes.specs.Views.{seen}
 
 -- what stands behind `and` and `or`, and behind some that were read
 abbrev pub links_of : Depth → BoolOperator → List Expr → List tokens.Terminal → Answer (List Expr)

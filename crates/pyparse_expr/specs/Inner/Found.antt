@@ -9,7 +9,7 @@ use Rattle.pyparse_nodes.specs.declared.found.ForClauses.{ForClauses}
 use Rattle.pyparse_nodes.specs.declared.found.Items.{Items}
 use Rattle.pyparse_nodes.specs.declared.found.Optional.{Optional}
 use Rattle.pytoken.specs.declared.values.terminals.Terminal.{Terminal}
-use Rattle.pyparse_looks.specs.Views.{seen}
+use Rattle.pyparse_nodes.specs.Views.{seen}
 
 -- what was read of a list of expressions
 abbrev pub entries_of : Items → List Entry

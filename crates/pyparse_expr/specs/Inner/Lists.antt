@@ -8,7 +8,7 @@ use Rattle.pygrammar.specs.Entries as entries
 use Rattle.pygrammar.specs.Entries.{Entry, Of, Single}
 use Rattle.pygrammar.specs.Looks.{is_op}
 use Rattle.pygrammar.specs.Reader.{Answer, Found, and_then, on_first, listing_loop, target_item}
-use Rattle.pyparse_expr.specs.declared.depth.Depth.{Depth}
+use Rattle.pyparse_reads.specs.declared.depth.Depth.{Depth}
 use Rattle.pyparse_expr.specs.declared.listings.Item.{Item}
 use Rattle.pyparse_expr.specs.declared.listings.Item.TheVariants as item
 use Rattle.pyparse_expr.specs.Inner.Readings.{inner_reads}

@@ -9,11 +9,11 @@ use Rattle.pygrammar.specs.Entries.{Entry, Paired, Doubled}
 use Rattle.pygrammar.specs.Looks.{is_op}
 use Rattle.pygrammar.specs.Reader.{Answer, Found, on_first, listing_of}
 use Rattle.pytoken.specs.declared.values.terminals.Terminal.{Terminal}
-use Rattle.pyparse_expr.specs.declared.depth.Depth.{Depth}
+use Rattle.pyparse_reads.specs.declared.depth.Depth.{Depth}
 use Rattle.pyparse_nodes.specs.declared.found.Pair.{Pair}
 use Rattle.pyparse_nodes.specs.declared.found.Pairs.{Pairs}
 use Rattle.pyparse_expr.specs.Inner.Readings.{inner_reads}
-use Rattle.pyparse_looks.specs.Views.{seen}
+use Rattle.pyparse_nodes.specs.Views.{seen}
 
 abbrev pub entry : Option Expr → Expr → Entry
 entry None v = Doubled v

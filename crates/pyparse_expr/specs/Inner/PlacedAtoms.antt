@@ -5,7 +5,7 @@ use Rattle.pytree_node.specs.TreeOf.{tree_of}
 use Rattle.pytoken.specs.Terminals.{Op}
 use Rattle.pytoken.specs.declared.values.terminals.Terminal.{Terminal}
 use Rattle.pyparse_nodes.specs.declared.found.Read.{Read}
-use Rattle.pyparse_looks.specs.Views.{Stands}
+use Rattle.pyparse_nodes.specs.Views.{Stands}
 
 pub record ClosedBy (sign : Exact) (ts : List Terminal) (e r : Read) : Type 0 where
   pub stands : Stands (Op sign) ts e.next

@@ -5,7 +5,7 @@ use Rattle.pygrammar.specs.Entries.{Entry, Argument}
 use Rattle.pyparse_nodes.specs.declared.actual.Actual.{Actual}
 use Rattle.pyparse_nodes.specs.declared.actual.ArgumentForm.{ArgumentForm}
 use Rattle.pyparse_nodes.specs.declared.actual.ArgumentForm.TheVariants as kind
-use Rattle.pyparse_looks.specs.Views.{seen}
+use Rattle.pyparse_nodes.specs.Views.{seen}
 use Rattle.pyparse_expr.specs.Inner.Arguments.{State, start, step, steps, state_of}
 use Rattle.pyplaces.specs.EntryPlaces as E
 use Rattle.pyplaces.specs.EntryPlaces.{EntryPlaces}

@@ -7,7 +7,7 @@ use Rattle.pyparse_nodes.specs.declared.parameters.Stage.{Stage}
 use Rattle.pyparse_nodes.specs.declared.parameters.Stage.TheVariants as stage
 use Rattle.pyparse_nodes.specs.Formals.{start, steps, outcome}
 use Rattle.pyparse_nodes.specs.FormalStates.{state_of, entry_of}
-use Rattle.pyparse_looks.specs.Views.{seen}
+use Rattle.pyparse_nodes.specs.Views.{seen}
 use Rattle.pyparse_expr.specs.declared.signatures.ReadParameter.{ReadParameter}
 use Rattle.pyparse_expr.specs.declared.signatures.Signature.{Signature}
 use Rattle.pyplaces.specs.EntryPlaces as E

@@ -12,7 +12,7 @@ use Rattle.pygrammar.specs.FormattedStrings.{StringPart}
 use Rattle.pyparse_nodes.specs.declared.found.JoinedValues.{JoinedValues}
 use Rattle.pyparse_nodes.specs.declared.found.Read.{Read}
 use Rattle.pyparse_nodes.specs.JoinedStates.{ended, state_of, steps}
-use Rattle.pyparse_looks.specs.Views.{Stands, seen}
+use Rattle.pyparse_nodes.specs.Views.{Stands, seen}
 use Rattle.pyplaces.specs.Placed.{Placed, PlacedFormatted, PlacedLiterals, PlacedSpec}
 use Rattle.pyplaces.specs.Recording.{Records}
 use Rattle.pyplaces.specs.Rows.{RowSoFar, text_places}

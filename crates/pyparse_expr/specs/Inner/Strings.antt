@@ -8,13 +8,13 @@ use Rattle.pygrammar.specs.FormattedStrings.{StringPart, Text, Field}
 use Rattle.pygrammar.specs.Reader.{Answer, Found, Reads, and_then, field_with, parts_loop}
 use Rattle.pyparse_nodes.specs.declared.found.Read.{Read}
 use Rattle.pyparse_nodes.specs.declared.found.JoinedValues.{JoinedValues}
-use Rattle.pyparse_looks.specs.declared.marks.Part.{Part}
-use Rattle.pyparse_looks.specs.declared.marks.Part.TheVariants as part
-use Rattle.pyparse_looks.specs.declared.stop.Stop.{Stop}
-use Rattle.pyparse_looks.specs.declared.stop.Stop.TheVariants as stop
+use Rattle.pyparse_nodes.specs.declared.marks.Part.{Part}
+use Rattle.pyparse_nodes.specs.declared.marks.Part.TheVariants as part
+use Rattle.pyparse_nodes.specs.declared.stop.Stop.{Stop}
+use Rattle.pyparse_nodes.specs.declared.stop.Stop.TheVariants as stop
 use Rattle.pyparse_nodes.specs.Answers.{Failed}
 use Rattle.pyparse_nodes.specs.JoinedStates.{gathered, state_of, step}
-use Rattle.pyparse_looks.specs.Views.{seen}
+use Rattle.pyparse_nodes.specs.Views.{seen}
 
 -- what was read is no higher than the room, or it is
 pub record Lower (room : ℕ) (e r : Read) : Type 0 where

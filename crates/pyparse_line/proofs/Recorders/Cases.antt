@@ -13,7 +13,7 @@ use Rattle.pygrammar.specs.FormOf.{header_of}
 use Rattle.pygrammar.specs.Forms.{case_word}
 use Rattle.pygrammar.specs.Lines.{case_header}
 use Rattle.pyparse_nodes.specs.declared.found.Optional.{Optional}
-use Rattle.pyparse_looks.specs.Views.{seen}
+use Rattle.pyparse_nodes.specs.Views.{seen}
 use Rattle.pyplaces.specs.FormPlaces.{form_places}
 use Rattle.pyplaces.specs.PlacedForms.{PlacedCase}
 use Rattle.pyplaces.specs.PlacedPatterns.{PlacedPattern}

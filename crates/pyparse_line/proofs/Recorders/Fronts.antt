@@ -25,9 +25,9 @@ use Rattle.pygrammar.specs.Forms.{begins_case, case_name, case_word, is_case_lin
 use Rattle.pygrammar.specs.LineReader.{ends_in_colon, is_match, is_match_line}
 use Rattle.pygrammar.specs.Lines.{Form, Header, decorator_form, header_form, match_header, simple_form}
 use Rattle.pyparse_nodes.specs.declared.found.Read.{Read}
-use Rattle.pyparse_looks.specs.declared.stop.Stop.{Stop}
-use Rattle.pyparse_looks.specs.Views.{Stands, first_of, seen}
-use Rattle.pyparse_expr.proofs.Callers.Looks.{front}
+use Rattle.pyparse_nodes.specs.declared.stop.Stop.{Stop}
+use Rattle.pyparse_nodes.specs.Views.{Stands, first_of, seen}
+use Rattle.pyparse_reads.proofs.Callers.Looks.{front}
 use Rattle.pyplaces.specs.FormPlaces.{FormPlaces, form_places, places_at, plain_header}
 use Rattle.pyplaces.specs.Placed.{Placed}
 use Rattle.pyplaces.specs.PlacedForms.{PlacedCase, PlacedForm, PlacedHeader, PlacedLine, PlacedSimples}

@@ -4,7 +4,7 @@ use Rattle.pytoken.specs.declared.values.terminals.Terminal.{Terminal}
 use Rattle.pygrammar.specs.Lines.{Form}
 use Rattle.pygrammar.specs.Reader.{Answer}
 use Rattle.pygrammar.specs.FormOf.{form_of}
-use Rattle.pyparse_looks.specs.declared.stop.Stop.{Stop}
+use Rattle.pyparse_nodes.specs.declared.stop.Stop.{Stop}
 use Rattle.pyparse_nodes.specs.Answers.{PartAnswered}
 use Rattle.pyparse_line.specs.declared.found.ReadForm.{ReadForm}
 

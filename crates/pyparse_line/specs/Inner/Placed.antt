@@ -7,7 +7,7 @@ use Rattle.pytoken.specs.Terminals as tokens
 use Rattle.pytoken.specs.Terminals.{Op}
 use Rattle.pytoken.specs.declared.values.terminals.Terminal.{Terminal}
 use Rattle.pygrammar.specs.FormOf.{form_of, header_of, suite_of}
-use Rattle.pyparse_looks.specs.Views.{Stands, seen}
+use Rattle.pyparse_nodes.specs.Views.{Stands, seen}
 use Rattle.pyplaces.specs.FormPlaces.{FormPlaces, form_places}
 use Rattle.pyplaces.specs.PlacedForms.{PlacedCase, PlacedForm, PlacedLine, PlacedSimples}
 use Rattle.pyplaces.specs.Recording.{Records, afters}

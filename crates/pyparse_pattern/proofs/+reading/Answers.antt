@@ -5,12 +5,12 @@ use Rattle.pytoken.specs.Terminals.{Op, Ident}
 use Rattle.pytoken.specs.TerminalOf.{terminal}
 use Rattle.pygrammar.specs.declared.pattern_levels.PatternLevel.TheVariants as level
 use Rattle.pygrammar.specs.PatternOperators.{captured, is_wildcard}
-use Rattle.pyparse_looks.specs.Views.{seen}
+use Rattle.pyparse_nodes.specs.Views.{seen}
 use Rattle.pyplaces.proofs.Asides.{Apart}
 use Rattle.pyplaces.proofs.Patterns.Levels.{placed_pattern_next}
-use Rattle.pyparse_expr.proofs.Callers.Looks.{front, placed_at}
+use Rattle.pyparse_reads.proofs.Callers.Looks.{front, placed_at}
 use Rattle.pyparse_pattern.proofs.AlternativeSteps.{bars_end, bars_error, bars_more, bars_start}
-use Rattle.pyparse_pattern.proofs.ClosedSteps.{closed_here, closed_word, inner_dotted, inner_found, name_value, same_found}
+use Rattle.pyparse_pattern.proofs.ClosedSteps.{closed_here, closed_literal, closed_word, inner_dotted, inner_found, name_value, same_found}
 use Rattle.pyparse_pattern.proofs.ElementSteps.{elements_alone}
 use Rattle.pyparse_pattern.proofs.EntrySteps.{entries_error, entries_more, entries_start}
 use Rattle.pyparse_pattern.proofs.SequenceSteps.{open_sequence, round_sequence, square_sequence}
@@ -61,6 +61,11 @@ closed::read_closed-returns-in-Some-Op-LBrace-clause-answered g t c =
     closed_here c.args.tokens.now c.args.depth c.args.at (c.args.at + 1) _ c.mapping.result
     (c.in-Some-Op-LBrace.ensures.is ∙ ap (λ u. Some (terminal u)) c.in-Some-Op-LBrace.field-0-is
     ∙ ap (λ u. Some (Op u)) c.in-Some-Op-LBrace.field-0-0-is) c.mapping.ensures.answered
+
+pub closed::read_closed-returns-in_default-clause-answered : goal.closed::read_closed-returns-in_default-clause-answered
+closed::read_closed-returns-in_default-clause-answered g t c =
+    closed_literal c.args.depth c.args.tokens.now c.args.at c.terminal_at.result c.literal_pattern.result c.terminal_at.ensures.is
+    (search rules) c.literal_pattern.ensures.answered
 
 pub levels::alternatives-bars-init : goal.levels::alternatives-bars-init
 levels::alternatives-bars-init g t c = record {

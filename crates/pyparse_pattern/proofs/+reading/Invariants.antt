@@ -1,6 +1,6 @@
 use Rattle.std.proofs.Common.{◌+◌, ◌-◌, ◌*◌, ◌≤◌, length}
 use Rattle.pytree_node.specs.TreeOf.{pattern_of}
-use Rattle.pyparse_looks.specs.Views.{seen}
+use Rattle.pyparse_nodes.specs.Views.{seen}
 use Rattle.pyparse_pattern.specs.Inner.Entries.{item_of}
 use Rattle.pyparse_pattern.specs.Inner.Readings.{alternatives_of, entries_of}
 use Rattle.pyparse_pattern.proofs.AlternativeSteps.{Alternatives}

@@ -18,9 +18,9 @@ use Rattle.pygrammar.specs.PatternEntries.{all_named, are_class_arguments}
 use Rattle.pygrammar.specs.PatternGrammar as P
 use Rattle.pygrammar.specs.PatternOperators.{is_wildcard}
 use Rattle.pyparse_nodes.specs.declared.found.Read.{Read}
-use Rattle.pyparse_looks.specs.declared.stop.Stop.{Stop}
-use Rattle.pyparse_looks.specs.declared.stop.Stop.TheVariants as stop
-use Rattle.pyparse_looks.specs.Views.{IsNamed, Stands, first_is, seen}
+use Rattle.pyparse_nodes.specs.declared.stop.Stop.{Stop}
+use Rattle.pyparse_nodes.specs.declared.stop.Stop.TheVariants as stop
+use Rattle.pyparse_nodes.specs.Views.{IsNamed, Stands, first_is, seen}
 use Rattle.pyparse_pattern.specs.declared.entries.Entries as found
 use Rattle.pyparse_pattern.specs.declared.entries.ReadEntry.{ReadEntry}
 use Rattle.pyparse_pattern.specs.declared.found.Patterns.{Patterns}
@@ -36,7 +36,7 @@ use Rattle.pyplaces.proofs.Asides.{Apart, kept_aside, kept_more, kept_none, kept
 use Rattle.pyplaces.proofs.Loops.{Grows, grows_start}
 use Rattle.pyplaces.proofs.Patterns.Lists.{entries_end, entries_last, entries_turn, placed_class_argument, placed_element}
 use Rattle.pyplaces.proofs.Patterns.Lists.{placed_key_pattern, placed_named_argument, placed_rest}
-use Rattle.pyparse_expr.proofs.Callers.Looks.{name_first}
+use Rattle.pyparse_reads.proofs.Callers.Looks.{name_first}
 use Rattle.pyparse_pattern.proofs.Recorders.Made.{Whole, placed_in, said_as}
 use Rattle.pyparse_pattern.proofs.Recorders.Values.{KeyRead}
 

@@ -24,11 +24,11 @@ use Rattle.pygrammar.specs.PatternEntries.{is_mapping, key_patterns, mapped, nam
 use Rattle.pygrammar.specs.PatternOperators.{captured, is_wildcard, singleton_word}
 use Rattle.pygrammar.specs.PatternReader.{dotted_from}
 use Rattle.pyparse_nodes.specs.declared.found.Read.{Read}
-use Rattle.pyparse_looks.specs.declared.stop.Stop.{Stop}
-use Rattle.pyparse_looks.specs.declared.stop.Stop.TheVariants as stop
+use Rattle.pyparse_nodes.specs.declared.stop.Stop.{Stop}
+use Rattle.pyparse_nodes.specs.declared.stop.Stop.TheVariants as stop
 use Rattle.pyparse_nodes.specs.Answers.{FoundAt}
-use Rattle.pyparse_looks.specs.Views.{Stands, first_is, seen}
-use Rattle.pyparse_expr.specs.declared.depth.Depth.{Depth}
+use Rattle.pyparse_nodes.specs.Views.{Stands, first_is, seen}
+use Rattle.pyparse_reads.specs.declared.depth.Depth.{Depth}
 use Rattle.pyparse_pattern.specs.declared.entries.Entries as found
 use Rattle.pyparse_pattern.specs.declared.found.Patterns.{Patterns}
 use Rattle.pyparse_pattern.specs.declared.found.ReadPattern.{ReadPattern}
@@ -49,7 +49,7 @@ use Rattle.pyplaces.proofs.Patterns.Levels.{placed_alternatives, placed_as_name,
 use Rattle.pyplaces.proofs.Patterns.Levels.{placed_mapping, placed_singleton, placed_star}
 use Rattle.pyplaces.proofs.Patterns.Lists.{bars_end, bars_some, bars_turn}
 use Rattle.pyplaces.proofs.Patterns.Values.{placed_class}
-use Rattle.pyparse_expr.proofs.Callers.Looks.{no_op, name_first, with_places}
+use Rattle.pyparse_reads.proofs.Callers.Looks.{no_op, name_first, with_places}
 use Rattle.pyparse_pattern.proofs.ClosedSteps.{no_bracket}
 use Rattle.pyparse_pattern.proofs.Recorders.Entries.{class_fronts, key_fronts}
 use Rattle.pyparse_pattern.proofs.Recorders.Made.{Whole, WholeBehind, leaf_made, said_as, whole_behind, whole_joined, whole_made}

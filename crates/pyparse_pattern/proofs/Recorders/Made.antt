@@ -8,9 +8,9 @@ use Rattle.pytree_node.specs.TreeOf.{pattern_of}
 use Rattle.pytoken.specs.Terminals.{Terminal}
 use Rattle.pytoken.specs.declared.values.terminals.Terminal as given
 use Rattle.pygrammar.specs.declared.pattern_levels.PatternLevel.{PatternLevel}
-use Rattle.pyparse_looks.specs.declared.stop.Stop.{Stop}
-use Rattle.pyparse_looks.specs.declared.stop.Stop.TheVariants as stop
-use Rattle.pyparse_looks.specs.Views.{seen}
+use Rattle.pyparse_nodes.specs.declared.stop.Stop.{Stop}
+use Rattle.pyparse_nodes.specs.declared.stop.Stop.TheVariants as stop
+use Rattle.pyparse_nodes.specs.Views.{seen}
 use Rattle.pyparse_pattern.specs.declared.found.ReadPattern.{ReadPattern}
 use Rattle.pyparse_pattern.specs.Inner.Made.{MadePattern, MakesPattern}
 use Rattle.pyplaces.specs.Stretches.{Stretch}

@@ -14,8 +14,8 @@ use Rattle.pygrammar.specs.declared.pattern_levels.PatternLevel.TheVariants as l
 use Rattle.pygrammar.specs.Looks.{is_op}
 use Rattle.pygrammar.specs.PatternGrammar as P
 use Rattle.pygrammar.specs.PatternOperators.{below_pattern}
-use Rattle.pyparse_looks.specs.declared.stop.Stop.{Stop}
-use Rattle.pyparse_looks.specs.Views.{Stands, first_is, seen}
+use Rattle.pyparse_nodes.specs.declared.stop.Stop.{Stop}
+use Rattle.pyparse_nodes.specs.Views.{Stands, first_is, seen}
 use Rattle.pyparse_pattern.specs.declared.found.Patterns.{Patterns}
 use Rattle.pyparse_pattern.specs.declared.found.ReadPattern.{ReadPattern}
 use Rattle.pyparse_pattern.specs.Inner.Made.{MakesPattern}
@@ -28,7 +28,7 @@ use Rattle.pyplaces.specs.Rests.{Lacks}
 use Rattle.pyplaces.proofs.Answers.{records_more, records_node}
 use Rattle.pyplaces.proofs.Patterns.Levels.{placed_empty_sequence, placed_open_sequence, placed_pattern_group, placed_pattern_next}
 use Rattle.pyplaces.proofs.Patterns.Levels.{placed_round_sequence, placed_square_sequence}
-use Rattle.pyparse_expr.proofs.Callers.Looks.{no_op, placed_at}
+use Rattle.pyparse_reads.proofs.Callers.Looks.{no_op, placed_at}
 use Rattle.pyparse_pattern.proofs.Arranged.{alone_elements}
 use Rattle.pyparse_pattern.proofs.SequenceSteps.{whole}
 use Rattle.pyparse_pattern.proofs.Recorders.Made.{Whole, whole_is, whole_made}

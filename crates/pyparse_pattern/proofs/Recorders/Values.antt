@@ -32,10 +32,10 @@ use Rattle.pygrammar.specs.PatternOperators.{is_imaginary, is_wildcard, singleto
 use Rattle.pygrammar.specs.PatternReader.{dotted_from, named_key}
 use Rattle.pygrammar.specs.Reader.{Answer, Found, NoForm, and_then}
 use Rattle.pyparse_nodes.specs.declared.found.Read.{Read}
-use Rattle.pyparse_looks.specs.declared.stop.Stop.{Stop}
-use Rattle.pyparse_looks.specs.declared.stop.Stop.TheVariants as stop
+use Rattle.pyparse_nodes.specs.declared.stop.Stop.{Stop}
+use Rattle.pyparse_nodes.specs.declared.stop.Stop.TheVariants as stop
 use Rattle.pyparse_nodes.specs.Answers.{Answered, Made, Makes}
-use Rattle.pyparse_looks.specs.Views.{Stands, first_is, seen}
+use Rattle.pyparse_nodes.specs.Views.{Stands, first_is, seen}
 use Rattle.pyparse_pattern.specs.declared.numbers.Number as found
 use Rattle.pyparse_pattern.specs.Inner.PlacedParts.{SignedPlaced}
 use Rattle.pyparse_pattern.specs.Inner.Values.{NoNumberAt, NumberAt, begins_string, starts_string}
@@ -50,7 +50,7 @@ use Rattle.pyplaces.proofs.Fronts.{◌⊕◌, own}
 use Rattle.pyplaces.proofs.Patterns.Values.{placed_unsigned, placed_negative, placed_number, placed_complex, placed_first_name}
 use Rattle.pyplaces.proofs.Patterns.Values.{placed_dot_name}
 use Rattle.pyplaces.proofs.Patterns.Values.{placed_literal_key, placed_singleton_key}
-use Rattle.pyparse_expr.proofs.Callers.Looks.{some_first, name_first, with_places}
+use Rattle.pyparse_reads.proofs.Callers.Looks.{some_first, name_first, with_places}
 use Rattle.pyparse_pattern.proofs.Points.{after_point}
 use Rattle.pyparse_pattern.proofs.Recorders.Made.{said_as}
 

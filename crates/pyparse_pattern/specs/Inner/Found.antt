@@ -8,9 +8,9 @@ use Rattle.pytoken.specs.declared.values.terminals.Terminal.{Terminal}
 use Rattle.pygrammar.specs.Looks.{is_op}
 use Rattle.pygrammar.specs.PatternEntries.{PatternEntry}
 use Rattle.pygrammar.specs.Reader.{Answer, Found}
-use Rattle.pyparse_looks.specs.declared.stop.Stop.{Stop}
+use Rattle.pyparse_nodes.specs.declared.stop.Stop.{Stop}
 use Rattle.pyparse_nodes.specs.Answers.{Failed}
-use Rattle.pyparse_looks.specs.Views.{Stands, first_is, seen}
+use Rattle.pyparse_nodes.specs.Views.{Stands, first_is, seen}
 use Rattle.pyparse_pattern.specs.declared.entries.Entries.{Entries}
 use Rattle.pyparse_pattern.specs.declared.entries.ReadEntry.{ReadEntry}
 use Rattle.pyparse_pattern.specs.declared.found.Patterns.{Patterns}

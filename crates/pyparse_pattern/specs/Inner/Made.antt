@@ -3,8 +3,8 @@ use Rattle.std.specs.Prelude.{◌≡◌, ℕ, ◌≤◌, ◌<◌, Result, MatchR
 use Rattle.pytree_node.specs.Trees.{Pattern}
 use Rattle.pytree_node.specs.TreeOf.{pattern_of}
 use Rattle.pytree_height.specs.Heights.{pattern_height}
-use Rattle.pyparse_looks.specs.declared.stop.Stop.{Stop}
-use Rattle.pyparse_looks.specs.declared.stop.Stop.TheVariants as stop
+use Rattle.pyparse_nodes.specs.declared.stop.Stop.{Stop}
+use Rattle.pyparse_nodes.specs.declared.stop.Stop.TheVariants as stop
 use Rattle.pyparse_pattern.specs.declared.found.ReadPattern.{ReadPattern}
 
 -- a pattern, and the place behind it

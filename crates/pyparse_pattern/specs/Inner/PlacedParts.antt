@@ -9,7 +9,7 @@ use Rattle.pytoken.specs.Terminals.{Op}
 use Rattle.pytoken.specs.declared.values.terminals.Terminal.{Terminal}
 use Rattle.pygrammar.specs.PatternEntries.{Element, PatternEntry, PatternItem}
 use Rattle.pygrammar.specs.PatternOperators.{is_imaginary}
-use Rattle.pyparse_looks.specs.Views.{Stands, seen}
+use Rattle.pyparse_nodes.specs.Views.{Stands, seen}
 use Rattle.pyparse_pattern.specs.declared.entries.Entries.{Entries}
 use Rattle.pyparse_pattern.specs.declared.entries.ReadEntry.{ReadEntry}
 use Rattle.pyparse_pattern.specs.declared.found.Patterns.{Patterns}

@@ -12,7 +12,7 @@ use Rattle.pygrammar.specs.PatternOperators.{is_wildcard}
 use Rattle.pygrammar.specs.PatternReader as reader
 use Rattle.pygrammar.specs.PatternReader.{PatternReads, cap_pattern, capped_pattern}
 use Rattle.pygrammar.specs.Reader.{Answer, Found, NoForm, Reads, and_then, made, on_first, unstarred}
-use Rattle.pyparse_expr.specs.declared.depth.Depth.{Depth}
+use Rattle.pyparse_reads.specs.declared.depth.Depth.{Depth}
 
 -- with the steps and the room of the parts of a pattern; and with those of the same one within brackets
 abbrev pub inner_reads : Depth → PatternReads

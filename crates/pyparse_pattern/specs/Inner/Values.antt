@@ -15,11 +15,11 @@ use Rattle.pygrammar.specs.Operators.{left_operator}
 use Rattle.pygrammar.specs.PatternOperators.{is_imaginary, singleton_word}
 use Rattle.pygrammar.specs.PatternReader.{dotted_from, imaginary_in, literal_or, named_key, number_in, number_rest}
 use Rattle.pygrammar.specs.Reader.{Answer, Found, NoForm, and_then, on_first}
-use Rattle.pyparse_looks.specs.declared.stop.Stop.{Stop}
-use Rattle.pyparse_looks.specs.declared.stop.Stop.TheVariants as stop
+use Rattle.pyparse_nodes.specs.declared.stop.Stop.{Stop}
+use Rattle.pyparse_nodes.specs.declared.stop.Stop.TheVariants as stop
 use Rattle.pyparse_nodes.specs.Answers.{Failed}
-use Rattle.pyparse_looks.specs.Views.{Stands, seen}
-use Rattle.pyparse_expr.specs.declared.depth.Depth.{Depth}
+use Rattle.pyparse_nodes.specs.Views.{Stands, seen}
+use Rattle.pyparse_reads.specs.declared.depth.Depth.{Depth}
 use Rattle.pyparse_pattern.specs.declared.numbers.Number.{Number}
 use Rattle.pyparse_pattern.specs.Inner.Readings.{field_reads}
 

@@ -8,9 +8,9 @@ use Rattle.pytoken.specs.Terminals.{Terminal, Spelled, Ident, Op}
 use Rattle.pytoken.specs.declared.values.terminals.Terminal as given
 use Rattle.pygrammar.specs.Looks.{name_in}
 use Rattle.pygrammar.specs.Reader.{on_name_with, on_some}
-use Rattle.pyparse_looks.specs.Views.{IsNotNamed, Stands, seen, first_is}
+use Rattle.pyparse_nodes.specs.Views.{IsNotNamed, Stands, seen, first_is}
 use Rattle.pygrammar.proofs.Callers.Terminals.{op_is}
-use Rattle.pyparse_expr.proofs.Callers.Looks.{seen_length, name_is, some_first}
+use Rattle.pyparse_reads.proofs.Callers.Looks.{seen_length, name_is, some_first}
 use Rattle.pyplaces.specs.PlacedForms.{Bare}
 use Rattle.pyplaces.specs.Recording.{Records}
 use Rattle.pyplaces.specs.Stretches.{Stretch}

@@ -6,10 +6,10 @@ use Rattle.pytoken.specs.Terminals.{Terminal}
 use Rattle.pytoken.specs.declared.values.terminals.Terminal as given
 use Rattle.pygrammar.specs.Looks.{name_in}
 use Rattle.pygrammar.specs.Reader.{Answer, and_then, on_first}
-use Rattle.pyparse_looks.specs.declared.stop.Stop.{Stop}
+use Rattle.pyparse_nodes.specs.declared.stop.Stop.{Stop}
 use Rattle.pyparse_nodes.specs.Answers.{Failed, PartAnswered, PartAt}
-use Rattle.pyparse_looks.specs.Views.{first_is, seen}
-use Rattle.pyparse_expr.proofs.Callers.Looks.{first_hit, seen_next}
+use Rattle.pyparse_nodes.specs.Views.{first_is, seen}
+use Rattle.pyparse_reads.proofs.Callers.Looks.{first_hit, seen_next}
 
 -- the same answer, of what is the same, from an earlier place on
 pub answered_as : {A R : Type 0} (ts : List given.Terminal) (least low : ℕ) (x y : Answer A) (value : R → A) (next : R → ℕ)

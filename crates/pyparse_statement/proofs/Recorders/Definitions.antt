@@ -20,12 +20,12 @@ use Rattle.pygrammar.specs.Forms.{listed}
 use Rattle.pygrammar.specs.Lines.{class_head, def_header, function_head}
 use Rattle.pygrammar.specs.Looks.{name_in}
 use Rattle.pyparse_nodes.specs.declared.found.Optional.{Optional}
-use Rattle.pyparse_looks.specs.declared.stop.Stop.{Stop}
-use Rattle.pyparse_looks.specs.declared.stop.Stop.TheVariants as stop
-use Rattle.pyparse_looks.specs.Views.{Stands, first_is, seen}
-use Rattle.pyparse_expr.specs.declared.parts.ReadArguments.{ReadArguments}
-use Rattle.pyparse_expr.specs.declared.parts.ReadParameters.{ReadParameters}
-use Rattle.pyparse_expr.specs.PlacedParts.{BasesPlaced, ParametersPlaced}
+use Rattle.pyparse_nodes.specs.declared.stop.Stop.{Stop}
+use Rattle.pyparse_nodes.specs.declared.stop.Stop.TheVariants as stop
+use Rattle.pyparse_nodes.specs.Views.{Stands, first_is, seen}
+use Rattle.pyparse_reads.specs.declared.parts.ReadArguments.{ReadArguments}
+use Rattle.pyparse_reads.specs.declared.parts.ReadParameters.{ReadParameters}
+use Rattle.pyparse_reads.specs.PlacedParts.{BasesPlaced, ParametersPlaced}
 use Rattle.pyplaces.specs.EntryPlaces as E
 use Rattle.pyplaces.specs.FormPlaces.{form_places}
 use Rattle.pyplaces.specs.PlacedForms.{Bare, PlacedBases, PlacedHeader, PlacedTypeParams}

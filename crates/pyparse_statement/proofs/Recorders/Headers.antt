@@ -26,11 +26,11 @@ use Rattle.pygrammar.specs.Targets.{stored}
 use Rattle.pygrammar.proofs.Callers.Lines.{brackets_are_read}
 use Rattle.pyparse_nodes.specs.Answers.{Failed, PartAt, Turned, Turns}
 use Rattle.pyparse_nodes.specs.declared.found.Read.{Read}
-use Rattle.pyparse_looks.specs.declared.stop.Stop.{Stop}
-use Rattle.pyparse_looks.specs.declared.stop.Stop.TheVariants as stop
-use Rattle.pyparse_looks.specs.Views.{Stands, seen}
-use Rattle.pyparse_expr.specs.declared.depth.Depth.{Depth}
-use Rattle.pyparse_expr.specs.Readings.{reads}
+use Rattle.pyparse_nodes.specs.declared.stop.Stop.{Stop}
+use Rattle.pyparse_nodes.specs.declared.stop.Stop.TheVariants as stop
+use Rattle.pyparse_nodes.specs.Views.{Stands, seen}
+use Rattle.pyparse_reads.specs.declared.depth.Depth.{Depth}
+use Rattle.pyparse_reads.specs.Readings.{reads}
 use Rattle.pyplaces.specs.FormPlaces.{form_places, item_places, plain_header}
 use Rattle.pyplaces.specs.Placed.{Placed}
 use Rattle.pyplaces.specs.PlacedForms.{Bare, Commaed, PlacedCommas, PlacedHeader, PlacedItem, PlacedItems}
@@ -44,7 +44,7 @@ use Rattle.pyplaces.proofs.Forms.Headers.{placed_in_brackets, placed_item_as, pl
 use Rattle.pyplaces.proofs.Forms.Headers.{placed_without}
 use Rattle.pyplaces.proofs.Forms.Parts.{bare_async, bare_no_async, commaed_end, commaed_turn, commaed_with, commas_last, commas_turn}
 use Rattle.pyplaces.proofs.Loops.{Grows, grows_start}
-use Rattle.pyparse_expr.proofs.Callers.Looks.{placed_at}
+use Rattle.pyparse_reads.proofs.Callers.Looks.{placed_at}
 use Rattle.pyparse_statement.specs.declared.headers.found.ReadHeader.{ReadHeader}
 use Rattle.pyparse_statement.specs.declared.headers.found.ReadItem.{ReadItem}
 use Rattle.pyparse_statement.specs.declared.headers.found.ReadItems.{ReadItems}

@@ -15,9 +15,9 @@ use Rattle.pygrammar.specs.Forms as F
 use Rattle.pygrammar.specs.Forms.{alias}
 use Rattle.pygrammar.specs.LineReader.{dotted_alias, name_alias, read_dots, read_dotted}
 use Rattle.pyparse_nodes.specs.Answers.{PartAt}
-use Rattle.pyparse_looks.specs.declared.stop.Stop.{Stop}
-use Rattle.pyparse_looks.specs.declared.stop.Stop.TheVariants as stop
-use Rattle.pyparse_looks.specs.Views.{Stands, seen}
+use Rattle.pyparse_nodes.specs.declared.stop.Stop.{Stop}
+use Rattle.pyparse_nodes.specs.declared.stop.Stop.TheVariants as stop
+use Rattle.pyparse_nodes.specs.Views.{Stands, seen}
 use Rattle.pyplaces.specs.FormPlaces.{dotted_alias_places, name_alias_places}
 use Rattle.pyplaces.specs.PlacedForms.{Commaed, PlacedCommas, PlacedDottedAlias, PlacedNameAlias, PlacedNames}
 use Rattle.pyplaces.specs.Recording.{Records}

@@ -16,8 +16,8 @@ use Rattle.pyparse_nodes.specs.Answers.{Turns}
 use Rattle.pyparse_nodes.specs.declared.found.Items.{Items}
 use Rattle.pyparse_nodes.specs.declared.found.Optional.{Optional}
 use Rattle.pyparse_nodes.specs.declared.found.Read.{Read}
-use Rattle.pyparse_looks.specs.declared.stop.Stop.{Stop}
-use Rattle.pyparse_looks.specs.Views.{Stands, seen}
+use Rattle.pyparse_nodes.specs.declared.stop.Stop.{Stop}
+use Rattle.pyparse_nodes.specs.Views.{Stands, seen}
 use Rattle.pyplaces.specs.ExpressionPlaces.{del_target_places}
 use Rattle.pyplaces.specs.Placed.{Placed}
 use Rattle.pyplaces.specs.PlacedForms.{Commaed, PlacedBehind, PlacedEnded, PlacedOptional}

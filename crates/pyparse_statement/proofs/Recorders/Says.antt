@@ -17,7 +17,7 @@ use Rattle.pygrammar.specs.LineReader.{always, commas, commas_of, dotted, dotted
 use Rattle.pygrammar.specs.LineReader.{read_name}
 use Rattle.pygrammar.proofs.Callers.Terminals.{op_or_not, word_or_not}
 use Rattle.pyparse_nodes.specs.Answers.{PartAt}
-use Rattle.pyparse_looks.specs.Views.{seen}
+use Rattle.pyparse_nodes.specs.Views.{seen}
 use Rattle.pyplaces.specs.PlacedForms.{Bare}
 use Rattle.pyparse_statement.proofs.Callers.Looks.{At, bare_at}
 

@@ -24,9 +24,9 @@ use Rattle.pygrammar.specs.Reader.{Answer, Found, NoForm, on_first, on_some}
 use Rattle.pygrammar.proofs.Callers.Lines.{type_is}
 use Rattle.pyparse_nodes.specs.declared.found.Optional.{Optional}
 use Rattle.pyparse_nodes.specs.declared.found.Read.{Read}
-use Rattle.pyparse_looks.specs.declared.stop.Stop.{Stop}
-use Rattle.pyparse_looks.specs.declared.stop.Stop.TheVariants as stop
-use Rattle.pyparse_looks.specs.Views.{Stands, first_is, seen}
+use Rattle.pyparse_nodes.specs.declared.stop.Stop.{Stop}
+use Rattle.pyparse_nodes.specs.declared.stop.Stop.TheVariants as stop
+use Rattle.pyparse_nodes.specs.Views.{Stands, first_is, seen}
 use Rattle.pyplaces.specs.FormPlaces.{type_param_places}
 use Rattle.pyplaces.specs.Placed.{Placed}
 use Rattle.pyplaces.specs.PlacedForms.{Commaed, PlacedEnded, PlacedFields, PlacedTypeParam, PlacedTypeParams}

@@ -25,8 +25,8 @@ use Rattle.pyparse_nodes.specs.Answers.{Turned}
 use Rattle.pyparse_nodes.specs.declared.found.Items.{Items}
 use Rattle.pyparse_nodes.specs.declared.found.Optional.{Optional}
 use Rattle.pyparse_nodes.specs.declared.found.Read.{Read}
-use Rattle.pyparse_looks.specs.declared.stop.Stop.{Stop}
-use Rattle.pyparse_looks.specs.Views.{IsNamed, IsNotNamed, Stands, first_is, seen}
+use Rattle.pyparse_nodes.specs.declared.stop.Stop.{Stop}
+use Rattle.pyparse_nodes.specs.Views.{IsNamed, IsNotNamed, Stands, first_is, seen}
 use Rattle.pyplaces.specs.Placed.{Placed}
 use Rattle.pyplaces.specs.PlacedForms.{PlacedBehind, PlacedFields, PlacedSimples, Semicolons}
 use Rattle.pyplaces.specs.Recording.{Records}
@@ -38,7 +38,7 @@ use Rattle.pyplaces.proofs.Forms.Simple.{placed_augmented_assign, placed_simple,
 use Rattle.pyplaces.proofs.Forms.Simple.{simples_turn}
 use Rattle.pyplaces.proofs.Forms.Values.{grouped_name, single_target, value_target}
 use Rattle.pyplaces.proofs.Loops.{Grows, grows_start}
-use Rattle.pyparse_expr.proofs.Callers.Looks.{some_first, placed_at}
+use Rattle.pyparse_reads.proofs.Callers.Looks.{some_first, placed_at}
 use Rattle.pyparse_statement.specs.declared.statements.found.ReadStatement.{ReadStatement}
 use Rattle.pyparse_statement.specs.declared.statements.found.ReadStatements.{ReadStatements}
 use Rattle.pyparse_statement.specs.PlacedParts.{BehindPlaced}

@@ -14,13 +14,13 @@ use Rattle.pygrammar.specs.Lines.{Header, class_head, def_header, function_head}
 use Rattle.pygrammar.specs.Looks.{name_in}
 use Rattle.pygrammar.specs.Reader.{Answer, Found, NoForm, and_then, on_first}
 use Rattle.pygrammar.specs.FormOf.{header_of}
-use Rattle.pyparse_expr.specs.declared.depth.Depth.{Depth}
-use Rattle.pyparse_looks.specs.declared.stop.Stop.{Stop}
+use Rattle.pyparse_reads.specs.declared.depth.Depth.{Depth}
+use Rattle.pyparse_nodes.specs.declared.stop.Stop.{Stop}
 use Rattle.pyparse_nodes.specs.Answers.{Failed, PartAt}
-use Rattle.pyparse_expr.specs.Readings.{read_arguments, reads}
-use Rattle.pyparse_looks.specs.Views.{Stands, first_is, seen}
-use Rattle.pyparse_expr.proofs.Callers.Heads.{arguments_then, parameters_then}
-use Rattle.pyparse_expr.proofs.Callers.Looks.{failed_then}
+use Rattle.pyparse_reads.specs.Readings.{read_arguments, reads}
+use Rattle.pyparse_nodes.specs.Views.{Stands, first_is, seen}
+use Rattle.pyparse_reads.proofs.Callers.Heads.{arguments_then, parameters_then}
+use Rattle.pyparse_reads.proofs.Callers.Looks.{failed_then}
 use Rattle.pyparse_statement.proofs.Callers.Parts.{answered_as, name_next}
 use Rattle.pyparse_statement.specs.declared.headers.found.ReadHeader.{ReadHeader}
 use Rattle.pyparse_statement.specs.Answers.{HeaderAnswered}

@@ -11,7 +11,7 @@ use Rattle.pygrammar.specs.Looks.{is_op}
 use Rattle.pygrammar.specs.LineReader.{read_item}
 use Rattle.pygrammar.specs.Reader.{Answer, Reads}
 use Rattle.pyparse_nodes.specs.Answers.{PartAt}
-use Rattle.pyparse_looks.specs.Views.{Stands, first_is, seen}
+use Rattle.pyparse_nodes.specs.Views.{Stands, first_is, seen}
 use Rattle.pyparse_statement.proofs.Commas.{Listed, list_end, list_last, list_more}
 use Rattle.pyparse_statement.specs.declared.headers.found.ReadItem.{ReadItem}
 use Rattle.pyparse_statement.specs.declared.headers.found.ReadItems.{ReadItems}

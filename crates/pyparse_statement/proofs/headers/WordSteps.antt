@@ -6,8 +6,8 @@ use Rattle.pytoken.specs.declared.keywords.Keyword.{Keyword}
 use Rattle.pytoken.specs.Terminals.{Terminal, Word}
 use Rattle.pytoken.specs.declared.values.terminals.Terminal as given
 use Rattle.pygrammar.specs.Reader.{on_some}
-use Rattle.pyparse_looks.specs.Views.{Stands, first_is, first_of, seen}
-use Rattle.pyparse_expr.proofs.Callers.Looks.{front}
+use Rattle.pyparse_nodes.specs.Views.{Stands, first_is, first_of, seen}
+use Rattle.pyparse_reads.proofs.Callers.Looks.{front}
 use Rattle.pyparse_statement.specs.Inner.Words.{word_in}
 
 is_word : (w : Keyword) (t : Terminal) → Some w ≡ word_in t → t ≡ Word w

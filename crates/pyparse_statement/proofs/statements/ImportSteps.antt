@@ -19,10 +19,10 @@ use Rattle.pygrammar.specs.LineReader.{always, commas_of, dotted, import_from, i
 use Rattle.pygrammar.specs.LineReader.{read_name, read_names, starts_name}
 use Rattle.pygrammar.specs.Looks.{is_op, is_word, name_in}
 use Rattle.pygrammar.specs.Reader.{Answer, Found, NoForm, TooDeep, and_then, closed, on_first, on_some}
-use Rattle.pyparse_looks.specs.declared.stop.Stop.{Stop}
+use Rattle.pyparse_nodes.specs.declared.stop.Stop.{Stop}
 use Rattle.pyparse_nodes.specs.Answers.{Failed, PartAt}
-use Rattle.pyparse_looks.specs.Views.{Stands, first_is, seen}
-use Rattle.pyparse_expr.proofs.Callers.Looks.{failed_then, first_miss, seen_length, seen_next}
+use Rattle.pyparse_nodes.specs.Views.{Stands, first_is, seen}
+use Rattle.pyparse_reads.proofs.Callers.Looks.{failed_then, first_miss, seen_length, seen_next}
 use Rattle.pyparse_statement.specs.Inner.Imports.{dots_at, dots_in}
 use Rattle.pyparse_statement.proofs.Callers.Parts.{name_next}
 

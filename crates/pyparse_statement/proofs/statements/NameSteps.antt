@@ -10,8 +10,8 @@ use Rattle.pygrammar.specs.LineReader.{read_as, read_name}
 use Rattle.pygrammar.specs.Looks.{is_word, name_in}
 use Rattle.pygrammar.specs.Reader.{Found, NoForm, on_first}
 use Rattle.pyparse_nodes.specs.Answers.{PartAt}
-use Rattle.pyparse_looks.specs.Views.{Stands, first_is, seen}
-use Rattle.pyparse_expr.proofs.Callers.Looks.{first_miss}
+use Rattle.pyparse_nodes.specs.Views.{Stands, first_is, seen}
+use Rattle.pyparse_reads.proofs.Callers.Looks.{first_miss}
 use Rattle.pyparse_statement.proofs.Callers.Parts.{name_next}
 
 module _ (ts : List given.Terminal) (at : ℕ) where

@@ -18,10 +18,10 @@ use Rattle.pygrammar.specs.Looks.{is_op, is_word}
 use Rattle.pygrammar.specs.Precedence.{starts}
 use Rattle.pygrammar.specs.Reader.{Answer, Found, Reads, and_then, on_first, on_some}
 use Rattle.pygrammar.proofs.Callers.Terminals.{op_is, word_is}
-use Rattle.pyparse_looks.specs.declared.stop.Stop.{Stop}
+use Rattle.pyparse_nodes.specs.declared.stop.Stop.{Stop}
 use Rattle.pyparse_nodes.specs.Answers.{Failed, PartAt}
-use Rattle.pyparse_looks.specs.Views.{Stands, first_is, lead_of, seen}
-use Rattle.pyparse_expr.proofs.Callers.Looks.{failed_then, first_miss}
+use Rattle.pyparse_nodes.specs.Views.{Stands, first_is, lead_of, seen}
+use Rattle.pyparse_reads.proofs.Callers.Looks.{failed_then, first_miss}
 
 expression_lead : (r : List Terminal) → starts (Of Expression) r ≡ leb 9 (lead_of r)
 expression_lead [] = refl

@@ -20,10 +20,10 @@ use Rattle.pytree_height.specs.Heights.{highest_in, highest_in_all}
 use Rattle.pygrammar.specs.LineReader.{Values, alias_rest, on_none, start, statement, statement_of, statements, value_statement}
 use Rattle.pygrammar.specs.Looks.{is_op}
 use Rattle.pygrammar.specs.Reader.{Answer, Found, NoForm, Reads, TooDeep, and_then, on_first}
-use Rattle.pyparse_looks.specs.declared.stop.Stop.{Stop}
+use Rattle.pyparse_nodes.specs.declared.stop.Stop.{Stop}
 use Rattle.pyparse_nodes.specs.Answers.{Failed, PartAt}
-use Rattle.pyparse_looks.specs.Views.{Stands, first_is, first_of, seen}
-use Rattle.pyparse_expr.proofs.Callers.Looks.{failed_then, first_miss, front, seen_length}
+use Rattle.pyparse_nodes.specs.Views.{Stands, first_is, first_of, seen}
+use Rattle.pyparse_reads.proofs.Callers.Looks.{failed_then, first_miss, front, seen_length}
 use Rattle.pyparse_statement.specs.Inner.Simple.{begun}
 use Rattle.pyparse_statement.specs.Inner.Types.{HasNoTypeName, HasTypeName}
 

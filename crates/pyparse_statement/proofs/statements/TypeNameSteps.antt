@@ -12,8 +12,8 @@ use Rattle.pytoken.specs.declared.values.terminals.Terminal as given
 use Rattle.pygrammar.specs.LineReader.{is_type, on_type}
 use Rattle.pygrammar.specs.Looks.{name_in}
 use Rattle.pygrammar.specs.Reader.{Answer, on_first}
-use Rattle.pyparse_looks.specs.Views.{first_is, seen}
-use Rattle.pyparse_expr.proofs.Callers.Looks.{first_hit, first_miss, seen_next}
+use Rattle.pyparse_nodes.specs.Views.{first_is, seen}
+use Rattle.pyparse_reads.proofs.Callers.Looks.{first_hit, first_miss, seen_next}
 use Rattle.pyparse_statement.specs.Inner.Types.{HasNoTypeName, HasTypeName}
 use Rattle.pyparse_statement.proofs.Callers.Parts.{name_next}
 

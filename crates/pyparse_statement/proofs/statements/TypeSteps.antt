@@ -14,8 +14,8 @@ use Rattle.pytree_height.specs.Heights.{type_param_height, type_param_heights}
 use Rattle.pygrammar.specs.LineReader.{bracketed_type_params, commas_of, read_type_param, starts_type_param}
 use Rattle.pygrammar.specs.Looks.{is_op, name_in}
 use Rattle.pygrammar.specs.Reader.{Answer, Found, NoForm, Reads, and_then, closed, on_first}
-use Rattle.pyparse_looks.specs.Views.{Stands, first_is, first_of, seen}
-use Rattle.pyparse_expr.proofs.Callers.Looks.{first_miss}
+use Rattle.pyparse_nodes.specs.Views.{Stands, first_is, first_of, seen}
+use Rattle.pyparse_reads.proofs.Callers.Looks.{first_miss}
 use Rattle.pyparse_statement.specs.Inner.Types.{begins_type_param, type_var}
 use Rattle.pyparse_statement.proofs.Callers.Parts.{name_next}
 

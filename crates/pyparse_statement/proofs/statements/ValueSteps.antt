@@ -15,10 +15,10 @@ use Rattle.pygrammar.specs.LineReader.{annotation, augmented_sign, end_value, va
 use Rattle.pygrammar.specs.Looks.{is_op}
 use Rattle.pygrammar.specs.Reader.{Answer, Found, NoForm, Reads, and_then, on_first, on_some}
 use Rattle.pygrammar.specs.Targets.{single_stored, stored}
-use Rattle.pyparse_looks.specs.declared.stop.Stop.{Stop}
+use Rattle.pyparse_nodes.specs.declared.stop.Stop.{Stop}
 use Rattle.pyparse_nodes.specs.Answers.{Failed, PartAt}
-use Rattle.pyparse_looks.specs.Views.{IsNamed, IsNotNamed, Stands, first_is, seen}
-use Rattle.pyparse_expr.proofs.Callers.Looks.{failed_then, first_hit, first_miss, name_miss, seen_length, seen_next}
+use Rattle.pyparse_nodes.specs.Views.{IsNamed, IsNotNamed, Stands, first_is, seen}
+use Rattle.pyparse_reads.proofs.Callers.Looks.{failed_then, first_hit, first_miss, name_miss, seen_length, seen_next}
 
 -- behind a value that no `=` follows
 module _ (ts : List given.Terminal) (self : Reads) (e : Expr) (n : ℕ) where

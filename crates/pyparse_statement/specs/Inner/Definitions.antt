@@ -9,8 +9,8 @@ use Rattle.pygrammar.specs.LineReader.{after}
 use Rattle.pygrammar.specs.Lines.{Header, class_head, def_header, function_head}
 use Rattle.pygrammar.specs.Looks.{is_op}
 use Rattle.pygrammar.specs.Reader.{Answer, Found, NoForm, and_then, on_first}
-use Rattle.pyparse_expr.specs.declared.depth.Depth.{Depth}
-use Rattle.pyparse_expr.specs.Readings.{read_arguments, read_parameters, reads}
+use Rattle.pyparse_reads.specs.declared.depth.Depth.{Depth}
+use Rattle.pyparse_reads.specs.Readings.{read_arguments, read_parameters, reads}
 
 -- the parameters of a `def`, their bracket, and what is returned
 abbrev pub function_from : Depth → Bool → Identifier → List TypeParam → List Terminal → Answer Header

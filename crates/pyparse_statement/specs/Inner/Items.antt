@@ -9,7 +9,7 @@ use Rattle.pygrammar.specs.Entries.{Of}
 use Rattle.pygrammar.specs.Precedence.{starts}
 use Rattle.pygrammar.specs.LineReader.{always}
 use Rattle.pygrammar.specs.Reader.{Answer}
-use Rattle.pyparse_looks.specs.declared.stop.Stop.{Stop}
+use Rattle.pyparse_nodes.specs.declared.stop.Stop.{Stop}
 use Rattle.pyparse_nodes.specs.Answers.{PartAnswered}
 use Rattle.pyparse_statement.specs.declared.headers.found.ReadItems.{ReadItems}
 

@@ -9,7 +9,7 @@ use Rattle.pytoken.specs.declared.values.terminals.Terminal.{Terminal}
 use Rattle.pygrammar.specs.declared.levels.Level.TheVariants.{Expression}
 use Rattle.pygrammar.specs.LineReader.{after, on_type}
 use Rattle.pygrammar.specs.Reader.{Answer, Found, Reads, and_then}
-use Rattle.pyparse_looks.specs.Views.{seen}
+use Rattle.pyparse_nodes.specs.Views.{seen}
 
 -- a parameter with no star, behind its name
 abbrev pub type_var : Reads → Identifier → List tokens.Terminal → Answer TypeParam

@@ -5,10 +5,10 @@
 ghost use Rattle.std.specs.Prelude.{◌≡◌, ◌+◌, ◌≤◌, None, false, length};
 ghost use Rattle.pygrammar.specs.LineReader as line_reader;
 ghost use Rattle.pygrammar.specs.Lines as lines;
-ghost use Rattle.pyparse_looks.specs.Views.{seen};
+ghost use Rattle.pyparse_nodes.specs.Views.{seen};
 ghost use Rattle.pygrammar.specs.FormOf.{header_of};
 ghost use Rattle.pyparse_statement.specs.Answers.{HeaderAnswered};
-ghost use Rattle.pyparse_expr.specs.Readings.{reads};
+ghost use Rattle.pyparse_reads.specs.Readings.{reads};
 ghost use Rattle.std.specs.Prelude.{IfOk};
 ghost use Rattle.pyparse_statement.specs.PlacedHeaders.{ExceptPlaced, WordHeader};
 
@@ -16,8 +16,8 @@ use crate::headers::found::ReadHeader;
 use crate::statements::{read_as, starts_expression};
 use pygrammar::{Header, Level};
 use pylex_listing::Exact;
-use pyparse_expr::{Depth, read_at};
-use pyparse_looks::{Stop, is_op};
+use pyparse_nodes::{Stop, is_op};
+use pyparse_reads::{Depth, ReadsExpressions};
 use pyplaces::Recorder;
 use pytoken::{Keyword, Terminal};
 use std::alloc::Global;
@@ -83,7 +83,7 @@ fn except_at(next: usize, before: usize) -> ReadHeader
 }
 
 /// The class of an `except`, and its name.
-fn except_of<R: Recorder>(
+fn except_of<E: ReadsExpressions, R: Recorder>(
     alloc: Global,
     tokens: &[Terminal],
     star: bool,
@@ -97,7 +97,7 @@ fn except_of<R: Recorder>(
     ensures placed { IfOk result (ExceptPlaced R.after R.recorded_count star tokens.now at
         recorder.old recorder.new) }
 {
-    let class = read_at(alloc, tokens, Level::Expression, at, depth, recorder)?;
+    let class = E::read_at(alloc, tokens, Level::Expression, at, depth, recorder)?;
     let name = read_as(alloc, tokens, class.next)?;
     Ok(ReadHeader {
         height: class.height,
@@ -112,7 +112,7 @@ fn except_of<R: Recorder>(
 }
 
 /// After an `except`.
-pub(crate) fn except_rest<R: Recorder>(
+pub(crate) fn except_rest<E: ReadsExpressions, R: Recorder>(
     alloc: Global,
     tokens: &[Terminal],
     at: usize,
@@ -126,10 +126,10 @@ pub(crate) fn except_rest<R: Recorder>(
         recorder.new result }
 {
     if is_op(tokens, at, Exact::Star) {
-        return except_of(alloc, tokens, true, at + 1, depth, recorder);
+        return except_of::<E, R>(alloc, tokens, true, at + 1, depth, recorder);
     }
     if starts_expression(tokens, at) {
-        return except_of(alloc, tokens, false, at, depth, recorder);
+        return except_of::<E, R>(alloc, tokens, false, at, depth, recorder);
     }
     Ok(except_at(at, recorder.recorded()))
 }

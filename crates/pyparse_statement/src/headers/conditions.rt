@@ -5,21 +5,21 @@
 ghost use Rattle.std.specs.Prelude.{◌≡◌, ◌+◌, ◌≤◌, length};
 ghost use Rattle.pygrammar.specs.Lines as lines;
 ghost use Rattle.pygrammar.specs.Reader as reader;
-ghost use Rattle.pyparse_looks.specs.Views.{seen};
+ghost use Rattle.pyparse_nodes.specs.Views.{seen};
 ghost use Rattle.pyparse_statement.specs.Answers.{HeaderAnswered};
-ghost use Rattle.pyparse_expr.specs.Readings.{reads};
+ghost use Rattle.pyparse_reads.specs.Readings.{reads};
 ghost use Rattle.pyparse_statement.specs.PlacedHeaders.{WordHeader};
 
 use crate::headers::found::ReadHeader;
 use pygrammar::{Header, Level, LoopHead};
-use pyparse_expr::{Depth, read_at};
-use pyparse_looks::Stop;
+use pyparse_nodes::Stop;
+use pyparse_reads::{Depth, ReadsExpressions};
 use pyplaces::Recorder;
 use pytoken::{Keyword, Terminal};
 use std::alloc::Global;
 
 /// After an `if`.
-pub(crate) fn if_rest<R: Recorder>(
+pub(crate) fn if_rest<E: ReadsExpressions, R: Recorder>(
     alloc: Global,
     tokens: &[Terminal],
     at: usize,
@@ -33,7 +33,7 @@ pub(crate) fn if_rest<R: Recorder>(
     ensures placed { WordHeader R.after R.recorded_count Keyword.If tokens.now at recorder.old
         recorder.new result }
 {
-    let test = read_at(alloc, tokens, Level::Named, at, depth, recorder)?;
+    let test = E::read_at(alloc, tokens, Level::Named, at, depth, recorder)?;
     Ok(ReadHeader {
         height: test.height,
         next: test.next,
@@ -43,7 +43,7 @@ pub(crate) fn if_rest<R: Recorder>(
 }
 
 /// After an `elif`.
-pub(crate) fn elif_rest<R: Recorder>(
+pub(crate) fn elif_rest<E: ReadsExpressions, R: Recorder>(
     alloc: Global,
     tokens: &[Terminal],
     at: usize,
@@ -57,7 +57,7 @@ pub(crate) fn elif_rest<R: Recorder>(
     ensures placed { WordHeader R.after R.recorded_count Keyword.Elif tokens.now at recorder.old
         recorder.new result }
 {
-    let test = read_at(alloc, tokens, Level::Named, at, depth, recorder)?;
+    let test = E::read_at(alloc, tokens, Level::Named, at, depth, recorder)?;
     Ok(ReadHeader {
         height: test.height,
         next: test.next,
@@ -67,7 +67,7 @@ pub(crate) fn elif_rest<R: Recorder>(
 }
 
 /// After a `while`.
-pub(crate) fn while_rest<R: Recorder>(
+pub(crate) fn while_rest<E: ReadsExpressions, R: Recorder>(
     alloc: Global,
     tokens: &[Terminal],
     at: usize,
@@ -81,7 +81,7 @@ pub(crate) fn while_rest<R: Recorder>(
     ensures placed { WordHeader R.after R.recorded_count Keyword.While tokens.now at recorder.old
         recorder.new result }
 {
-    let test = read_at(alloc, tokens, Level::Named, at, depth, recorder)?;
+    let test = E::read_at(alloc, tokens, Level::Named, at, depth, recorder)?;
     Ok(ReadHeader {
         height: test.height,
         next: test.next,

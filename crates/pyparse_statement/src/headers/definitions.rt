@@ -11,13 +11,13 @@ ghost use Rattle.pygrammar.specs.LineReader as line_reader;
 ghost use Rattle.pygrammar.specs.Lines as lines;
 ghost use Rattle.pygrammar.specs.FormOf.{header_of};
 ghost use Rattle.pyparse_statement.specs.Answers.{HeaderAnswered};
-ghost use Rattle.pyparse_expr.specs.Readings.{reads};
-ghost use Rattle.pyparse_looks.specs.Views.{seen};
+ghost use Rattle.pyparse_reads.specs.Readings.{reads};
+ghost use Rattle.pyparse_nodes.specs.Views.{seen};
 ghost use Rattle.pyparse_statement.specs.Inner.Definitions.{class_from, function_from};
 ghost use Rattle.std.specs.Prelude.{IfOk, ℕ};
 ghost use Rattle.pytoken.specs.Terminals as terminals;
 ghost use Rattle.pygrammar.specs.Forms as forms;
-ghost use Rattle.pyparse_looks.specs.Views.{Stands};
+ghost use Rattle.pyparse_nodes.specs.Views.{Stands};
 ghost use Rattle.pyplaces.specs.PlacedForms.{Bare};
 ghost use Rattle.pyparse_statement.specs.PlacedHeaders.{ClassPlaced, FunctionPlaced, HeaderPlaced};
 
@@ -25,9 +25,8 @@ use crate::headers::found::ReadHeader;
 use crate::statements::{ReadTypeParams, after_sign, read_type_params};
 use pygrammar::{DefHead, Header, Level};
 use pylex_listing::Exact;
-use pyparse_expr::{Depth, ReadArguments, ReadParameters, arguments_at, parameters_at};
-use pyparse_looks::{Stop, is_op, name_at};
-use pyparse_nodes::{Optional, identifier_of};
+use pyparse_nodes::{Optional, Stop, identifier_of, is_op, name_at};
+use pyparse_reads::{Depth, ReadArguments, ReadParameters, ReadsExpressions};
 use pyplaces::Recorder;
 use pytoken::{Keyword, Terminal};
 use pytree_node::{Identifier, Profile};
@@ -71,7 +70,7 @@ fn function_header(
 
 /// The header of a `def`, from its parameters on. The nodes set aside after the first `aside` are
 /// those of the type parameters.
-fn function_at<R: Recorder>(
+fn function_at<E: ReadsExpressions, R: Recorder>(
     alloc: Global,
     tokens: &[Terminal],
     is_async: bool,
@@ -91,13 +90,13 @@ fn function_at<R: Recorder>(
         types aside
         recorder.old recorder.new result }
 {
-    let parameters = parameters_at(alloc, tokens, at, depth, recorder)?;
+    let parameters = E::parameters_at(alloc, tokens, at, depth, recorder)?;
     if !is_op(tokens, parameters.next, Exact::RPar) {
         return Err(Stop::NoForm);
     }
     let before = recorder.recorded();
     let at = parameters.next + 1;
-    let returns = after_sign(
+    let returns = after_sign::<E, R>(
         alloc,
         tokens,
         Exact::RArrow,
@@ -111,7 +110,7 @@ fn function_at<R: Recorder>(
 }
 
 /// After a `def`, its name and the type parameters.
-fn function_rest<R: Recorder>(
+fn function_rest<E: ReadsExpressions, R: Recorder>(
     alloc: Global,
     tokens: &[Terminal],
     is_async: bool,
@@ -133,13 +132,13 @@ fn function_rest<R: Recorder>(
         return Err(Stop::NoForm);
     }
     let at = types.next + 1;
-    function_at(
+    function_at::<E, R>(
         alloc, tokens, is_async, name, types, aside, at, depth, recorder,
     )
 }
 
 /// After a `def`.
-pub(crate) fn def_rest<R: Recorder>(
+pub(crate) fn def_rest<E: ReadsExpressions, R: Recorder>(
     alloc: Global,
     tokens: &[Terminal],
     is_async: bool,
@@ -164,10 +163,10 @@ pub(crate) fn def_rest<R: Recorder>(
     };
     let aside = recorder.aside();
     let recorded = recorder.recorded();
-    let types = read_type_params(alloc, tokens, at + 1, profile, depth, recorder)?;
+    let types = read_type_params::<E, R>(alloc, tokens, at + 1, profile, depth, recorder)?;
     recorder.set_aside(recorded)?;
     let name = identifier_of(alloc, name)?;
-    function_rest(alloc, tokens, is_async, name, types, aside, depth, recorder)
+    function_rest::<E, R>(alloc, tokens, is_async, name, types, aside, depth, recorder)
 }
 
 /// The header of a `class` with no brackets.
@@ -225,7 +224,7 @@ fn class_of(
 
 /// The header of a `class`, from its arguments on. The nodes set aside after the first `aside` are
 /// those of the type parameters.
-fn class_at<R: Recorder>(
+fn class_at<E: ReadsExpressions, R: Recorder>(
     alloc: Global,
     tokens: &[Terminal],
     name: Identifier,
@@ -242,7 +241,7 @@ fn class_at<R: Recorder>(
         → ClassPlaced R.after R.beside R.recorded_count R.aside_count tokens.now name types aside
         recorder.old recorder.new result }
 {
-    let arguments = arguments_at(alloc, tokens, at, depth, recorder)?;
+    let arguments = E::arguments_at(alloc, tokens, at, depth, recorder)?;
     if !is_op(tokens, arguments.next, Exact::RPar) {
         return Err(Stop::NoForm);
     }
@@ -253,7 +252,7 @@ fn class_at<R: Recorder>(
 }
 
 /// After a `class`, its name and the type parameters.
-fn bases_rest<R: Recorder>(
+fn bases_rest<E: ReadsExpressions, R: Recorder>(
     alloc: Global,
     tokens: &[Terminal],
     name: Identifier,
@@ -276,11 +275,11 @@ fn bases_rest<R: Recorder>(
         return Ok(bare_class(alloc, name, types, before));
     }
     let at = types.next + 1;
-    class_at(alloc, tokens, name, types, aside, at, depth, recorder)
+    class_at::<E, R>(alloc, tokens, name, types, aside, at, depth, recorder)
 }
 
 /// After a `class`.
-pub(crate) fn class_rest<R: Recorder>(
+pub(crate) fn class_rest<E: ReadsExpressions, R: Recorder>(
     alloc: Global,
     tokens: &[Terminal],
     at: usize,
@@ -302,8 +301,8 @@ pub(crate) fn class_rest<R: Recorder>(
     };
     let aside = recorder.aside();
     let recorded = recorder.recorded();
-    let types = read_type_params(alloc, tokens, at + 1, profile, depth, recorder)?;
+    let types = read_type_params::<E, R>(alloc, tokens, at + 1, profile, depth, recorder)?;
     recorder.set_aside(recorded)?;
     let name = identifier_of(alloc, name)?;
-    bases_rest(alloc, tokens, name, types, aside, depth, recorder)
+    bases_rest::<E, R>(alloc, tokens, name, types, aside, depth, recorder)
 }

@@ -3,9 +3,9 @@
 ghost use Rattle.std.specs.Prelude.{◌≡◌, ◌+◌, ◌≤◌, length};
 ghost use Rattle.pytoken.specs.Terminals as plain;
 ghost use Rattle.pygrammar.specs.LineReader as line_reader;
-ghost use Rattle.pyparse_looks.specs.Views.{Stands, seen};
+ghost use Rattle.pyparse_nodes.specs.Views.{Stands, seen};
 ghost use Rattle.pyparse_statement.specs.Answers.{HeaderAnswered};
-ghost use Rattle.pyparse_expr.specs.Readings.{reads};
+ghost use Rattle.pyparse_reads.specs.Readings.{reads};
 ghost use Rattle.std.specs.Prelude.{IfOk};
 ghost use Rattle.pyparse_statement.specs.PlacedHeaders.{HeaderPlaced};
 
@@ -15,15 +15,15 @@ use crate::headers::definitions::{class_rest, def_rest};
 use crate::headers::found::ReadHeader;
 use crate::headers::loops::{for_rest, with_rest};
 use crate::headers::words::word_at;
-use pyparse_expr::Depth;
-use pyparse_looks::Stop;
+use pyparse_nodes::Stop;
+use pyparse_reads::{Depth, ReadsExpressions};
 use pyplaces::Recorder;
 use pytoken::{Keyword, Terminal};
 use pytree_node::Profile;
 use std::alloc::Global;
 
 /// A header that begins with `async`.
-fn async_header<R: Recorder + Drop>(
+fn async_header<E: ReadsExpressions, R: Recorder + Drop>(
     alloc: Global,
     tokens: &[Terminal],
     at: usize,
@@ -42,9 +42,9 @@ fn async_header<R: Recorder + Drop>(
         None => return Err(Stop::NoForm),
     };
     match word {
-        Keyword::For => for_rest(alloc, tokens, true, at + 2, depth, recorder),
-        Keyword::With => with_rest(alloc, tokens, true, at + 2, depth, recorder),
-        Keyword::Def => def_rest(alloc, tokens, true, at + 2, profile, depth, recorder),
+        Keyword::For => for_rest::<E, R>(alloc, tokens, true, at + 2, depth, recorder),
+        Keyword::With => with_rest::<E, R>(alloc, tokens, true, at + 2, depth, recorder),
+        Keyword::Def => def_rest::<E, R>(alloc, tokens, true, at + 2, profile, depth, recorder),
         _ => Err(Stop::NoForm),
     }
 }
@@ -55,7 +55,7 @@ fn async_header<R: Recorder + Drop>(
 ///
 /// [`Stop::NoForm`]: none stands there. [`Stop::TooDeep`]: an expression in it is too high for
 /// `depth`. [`Stop::Memory`].
-pub fn read_header<R: Recorder + Drop>(
+pub fn read_header<E: ReadsExpressions, R: Recorder + Drop>(
     alloc: Global,
     tokens: &[Terminal],
     at: usize,
@@ -76,18 +76,18 @@ pub fn read_header<R: Recorder + Drop>(
     let next = at + 1;
     let recorded = recorder.recorded();
     match word {
-        Keyword::If => if_rest(alloc, tokens, next, depth, recorder),
-        Keyword::Elif => elif_rest(alloc, tokens, next, depth, recorder),
+        Keyword::If => if_rest::<E, R>(alloc, tokens, next, depth, recorder),
+        Keyword::Elif => elif_rest::<E, R>(alloc, tokens, next, depth, recorder),
         Keyword::Else => Ok(else_at(next, recorded)),
-        Keyword::While => while_rest(alloc, tokens, next, depth, recorder),
-        Keyword::For => for_rest(alloc, tokens, false, next, depth, recorder),
-        Keyword::With => with_rest(alloc, tokens, false, next, depth, recorder),
+        Keyword::While => while_rest::<E, R>(alloc, tokens, next, depth, recorder),
+        Keyword::For => for_rest::<E, R>(alloc, tokens, false, next, depth, recorder),
+        Keyword::With => with_rest::<E, R>(alloc, tokens, false, next, depth, recorder),
         Keyword::Try => Ok(try_at(next, recorded)),
         Keyword::Finally => Ok(finally_at(next, recorded)),
-        Keyword::Except => except_rest(alloc, tokens, next, depth, recorder),
-        Keyword::Def => def_rest(alloc, tokens, false, next, profile, depth, recorder),
-        Keyword::Class => class_rest(alloc, tokens, next, profile, depth, recorder),
-        Keyword::Async => async_header(alloc, tokens, at, profile, depth, recorder),
+        Keyword::Except => except_rest::<E, R>(alloc, tokens, next, depth, recorder),
+        Keyword::Def => def_rest::<E, R>(alloc, tokens, false, next, profile, depth, recorder),
+        Keyword::Class => class_rest::<E, R>(alloc, tokens, next, profile, depth, recorder),
+        Keyword::Async => async_header::<E, R>(alloc, tokens, at, profile, depth, recorder),
         _ => Err(Stop::NoForm),
     }
 }

@@ -4,22 +4,21 @@ ghost use Rattle.std.specs.Prelude.{◌≡◌, ◌+◌, ◌≤◌, length};
 ghost use Rattle.pytree_node.specs.TreeOf.{tree_of};
 ghost use Rattle.pygrammar.specs.LineReader as line_reader;
 ghost use Rattle.pyparse_nodes.specs.Answers.{PartAnswered};
-ghost use Rattle.pyparse_expr.specs.Readings.{reads};
-ghost use Rattle.pyparse_looks.specs.Views.{seen};
+ghost use Rattle.pyparse_reads.specs.Readings.{reads};
+ghost use Rattle.pyparse_nodes.specs.Views.{seen};
 ghost use Rattle.std.specs.Prelude.{IfOk};
 ghost use Rattle.pyparse_statement.specs.PlacedParts.{TargetPlaced};
 
 use pygrammar::Level;
 use pylex_listing::Exact;
-use pyparse_expr::{Depth, read_at};
-use pyparse_looks::{Stop, is_op};
-use pyparse_nodes::{Read, starred, stored};
+use pyparse_nodes::{Read, Stop, is_op, starred, stored};
+use pyparse_reads::{Depth, ReadsExpressions};
 use pyplaces::Recorder;
 use pytoken::Terminal;
 use std::alloc::Global;
 
 /// What stands after the `as` of an item.
-pub(crate) fn item_target<R: Recorder>(
+pub(crate) fn item_target<E: ReadsExpressions, R: Recorder>(
     alloc: Global,
     tokens: &[Terminal],
     at: usize,
@@ -33,12 +32,12 @@ pub(crate) fn item_target<R: Recorder>(
     ensures placed { IfOk result (TargetPlaced R.after tokens.now at recorder.old recorder.new) }
 {
     if is_op(tokens, at, Exact::Star) {
-        let e = read_at(alloc, tokens, Level::Expression, at + 1, depth, recorder)?;
+        let e = E::read_at(alloc, tokens, Level::Expression, at + 1, depth, recorder)?;
         recorder.node(at, e.next)?;
         let e = starred(alloc, e)?;
         stored(e)
     } else {
-        let e = read_at(alloc, tokens, Level::Expression, at, depth, recorder)?;
+        let e = E::read_at(alloc, tokens, Level::Expression, at, depth, recorder)?;
         stored(e)
     }
 }

@@ -7,9 +7,9 @@ ghost use Rattle.pytree_node.specs.TreeOf.{item_of, tree_of};
 ghost use Rattle.pytree_node.specs.Trees as plain;
 ghost use Rattle.pygrammar.specs.Forms.{item};
 ghost use Rattle.pygrammar.specs.LineReader as line_reader;
-ghost use Rattle.pyparse_looks.specs.Views.{seen};
+ghost use Rattle.pyparse_nodes.specs.Views.{seen};
 ghost use Rattle.pyparse_nodes.specs.Answers.{PartAnswered};
-ghost use Rattle.pyparse_expr.specs.Readings.{reads};
+ghost use Rattle.pyparse_reads.specs.Readings.{reads};
 ghost use Rattle.pyparse_statement.specs.Inner.Items.{ItemsAnswered, more_items};
 ghost use Rattle.std.specs.Prelude.{IfOk};
 ghost use Rattle.pyparse_statement.specs.PlacedParts.{ItemListPlaced, ItemPlaced, ItemsPlaced};
@@ -19,9 +19,8 @@ use crate::headers::item_targets::item_target;
 use crate::statements::starts_expression;
 use pygrammar::Level;
 use pylex_listing::Exact;
-use pyparse_expr::{Depth, read_at};
-use pyparse_looks::{Stop, is_op, is_word};
-use pyparse_nodes::{Read, append};
+use pyparse_nodes::{Read, Stop, append, is_op, is_word};
+use pyparse_reads::{Depth, ReadsExpressions};
 use pyplaces::Recorder;
 use pytoken::{Keyword, Terminal};
 use pytree_node::Item;
@@ -59,7 +58,7 @@ fn item_as(e: Read, target: Read) -> ReadItem
 }
 
 /// An item at a place.
-fn read_item<R: Recorder>(
+fn read_item<E: ReadsExpressions, R: Recorder>(
     alloc: Global,
     tokens: &[Terminal],
     at: usize,
@@ -72,11 +71,11 @@ fn read_item<R: Recorder>(
         (λ r. r.next) result }
     ensures placed { IfOk result (ItemPlaced R.after tokens.now at recorder.old recorder.new) }
 {
-    let e = read_at(alloc, tokens, Level::Expression, at, depth, recorder)?;
+    let e = E::read_at(alloc, tokens, Level::Expression, at, depth, recorder)?;
     if !is_word(tokens, e.next, Keyword::As) {
         return Ok(bare_item(e));
     }
-    let target = item_target(alloc, tokens, e.next + 1, depth, recorder)?;
+    let target = item_target::<E, R>(alloc, tokens, e.next + 1, depth, recorder)?;
     Ok(item_as(e, target))
 }
 
@@ -134,7 +133,7 @@ fn goes_on(tokens: &[Terminal], at: usize, in_brackets: bool) -> bool
 }
 
 /// Items with commas between them.
-fn items_at<R: Recorder>(
+fn items_at<E: ReadsExpressions, R: Recorder>(
     alloc: Global,
     tokens: &[Terminal],
     in_brackets: bool,
@@ -151,7 +150,7 @@ fn items_at<R: Recorder>(
 {
     let mut items = no_items(alloc, at);
     'more: loop {
-        let item = read_item(alloc, tokens, items.next, depth, recorder)?;
+        let item = read_item::<E, R>(alloc, tokens, items.next, depth, recorder)?;
         let grown = push(items, item)?;
         if !is_op(tokens, grown.next, Exact::Comma) {
             return Ok(grown);
@@ -165,7 +164,7 @@ fn items_at<R: Recorder>(
 }
 
 /// Items in brackets, directly in front of a colon.
-fn bracketed<R: Recorder>(
+fn bracketed<E: ReadsExpressions, R: Recorder>(
     alloc: Global,
     tokens: &[Terminal],
     at: usize,
@@ -180,7 +179,7 @@ fn bracketed<R: Recorder>(
     if !is_op(tokens, at, Exact::LPar) {
         return Err(Stop::NoForm);
     }
-    let items = items_at(alloc, tokens, true, at + 1, depth, recorder)?;
+    let items = items_at::<E, R>(alloc, tokens, true, at + 1, depth, recorder)?;
     if !is_op(tokens, items.next, Exact::RPar) {
         return Err(Stop::NoForm);
     }
@@ -192,7 +191,7 @@ fn bracketed<R: Recorder>(
 }
 
 /// The items of a `with`: where they can be read as items in brackets, they are that.
-pub(crate) fn read_items<R: Recorder + Drop>(
+pub(crate) fn read_items<E: ReadsExpressions, R: Recorder + Drop>(
     alloc: Global,
     tokens: &[Terminal],
     at: usize,
@@ -206,12 +205,12 @@ pub(crate) fn read_items<R: Recorder + Drop>(
         recorder.new) }
 {
     let mut inside = recorder.fresh()?;
-    match bracketed(alloc, tokens, at, depth, &mut inside) {
+    match bracketed::<E, R>(alloc, tokens, at, depth, &mut inside) {
         Ok(items) => {
             recorder.add(inside)?;
             Ok(items)
         }
-        Err(Stop::NoForm) => items_at(alloc, tokens, false, at, depth, recorder),
+        Err(Stop::NoForm) => items_at::<E, R>(alloc, tokens, false, at, depth, recorder),
         Err(stop) => Err(stop),
     }
 }

@@ -5,23 +5,22 @@
 
 ghost use Rattle.std.specs.Prelude.{◌≡◌, ◌+◌, ◌≤◌, length};
 ghost use Rattle.pygrammar.specs.LineReader as line_reader;
-ghost use Rattle.pyparse_looks.specs.Views.{seen};
+ghost use Rattle.pyparse_nodes.specs.Views.{seen};
 ghost use Rattle.pyparse_statement.specs.Answers.{HeaderAnswered};
-ghost use Rattle.pyparse_expr.specs.Readings.{reads};
+ghost use Rattle.pyparse_reads.specs.Readings.{reads};
 ghost use Rattle.pyparse_statement.specs.PlacedHeaders.{AsyncHeader};
 
 use crate::headers::found::ReadHeader;
 use crate::headers::items::read_items;
 use pygrammar::{Header, Level, LoopHead};
-use pyparse_expr::{Depth, read_at, target_at};
-use pyparse_looks::{Stop, is_word};
-use pyparse_nodes::stored;
+use pyparse_nodes::{Stop, is_word, stored};
+use pyparse_reads::{Depth, ReadsExpressions};
 use pyplaces::Recorder;
 use pytoken::{Keyword, Terminal};
 use std::alloc::Global;
 
 /// After a `for`.
-pub(crate) fn for_rest<R: Recorder>(
+pub(crate) fn for_rest<E: ReadsExpressions, R: Recorder>(
     alloc: Global,
     tokens: &[Terminal],
     is_async: bool,
@@ -35,11 +34,11 @@ pub(crate) fn for_rest<R: Recorder>(
     ensures placed { AsyncHeader R.after R.recorded_count is_async Keyword.For tokens.now at
         recorder.old recorder.new result }
 {
-    let target = target_at(alloc, tokens, at, depth, recorder)?;
+    let target = E::target_at(alloc, tokens, at, depth, recorder)?;
     if !is_word(tokens, target.next, Keyword::In) {
         return Err(Stop::NoForm);
     }
-    let iter = read_at(
+    let iter = E::read_at(
         alloc,
         tokens,
         Level::Stars,
@@ -63,7 +62,7 @@ pub(crate) fn for_rest<R: Recorder>(
 }
 
 /// After a `with`.
-pub(crate) fn with_rest<R: Recorder + Drop>(
+pub(crate) fn with_rest<E: ReadsExpressions, R: Recorder + Drop>(
     alloc: Global,
     tokens: &[Terminal],
     is_async: bool,
@@ -77,7 +76,7 @@ pub(crate) fn with_rest<R: Recorder + Drop>(
     ensures placed { AsyncHeader R.after R.recorded_count is_async Keyword.With
         tokens.now at recorder.old recorder.new result }
 {
-    let items = read_items(alloc, tokens, at, depth, recorder)?;
+    let items = read_items::<E, R>(alloc, tokens, at, depth, recorder)?;
     Ok(ReadHeader {
         height: items.height,
         next: items.next,

@@ -3,10 +3,10 @@
 ghost use Rattle.std.specs.Prelude.{◌≡◌, ◌<◌, MatchOption, None, length};
 ghost use Rattle.pytoken.specs.Terminals as plain;
 ghost use Rattle.pytoken.specs.TerminalOf.{terminal};
-ghost use Rattle.pyparse_looks.specs.Views.{Stands, first_is, seen};
+ghost use Rattle.pyparse_nodes.specs.Views.{Stands, first_is, seen};
 ghost use Rattle.pyparse_statement.specs.Inner.Words.{word_in};
 
-use pyparse_looks::terminal_at;
+use pyparse_nodes::terminal_at;
 use pytoken::{Keyword, Terminal};
 
 /// The word that a terminal is.

@@ -8,7 +8,7 @@ ghost use Rattle.unicode_normalization.specs.Forms.{nfkc};
 ghost use Rattle.pytree_node.specs.TreeOf.{alias_of};
 ghost use Rattle.pygrammar.specs.LineReader as line;
 ghost use Rattle.pyparse_nodes.specs.Answers.{PartAnswered};
-ghost use Rattle.pyparse_looks.specs.Views.{seen};
+ghost use Rattle.pyparse_nodes.specs.Views.{seen};
 ghost use Rattle.pyparse_statement.specs.Inner.Imports.{more_names};
 ghost use Rattle.std.specs.Prelude.{IfOk};
 ghost use Rattle.pyparse_statement.specs.PlacedParts.{AliasesPlaced, DottedPlaced};
@@ -16,7 +16,7 @@ ghost use Rattle.pyparse_statement.specs.PlacedParts.{AliasesPlaced, DottedPlace
 use crate::statements::found::{ReadAlias, ReadAliases, ReadName};
 use crate::statements::names::{read_as, read_name};
 use pylex_listing::Exact;
-use pyparse_looks::{Stop, is_op, name_at};
+use pyparse_nodes::{Stop, is_op, name_at};
 use pyplaces::Recorder;
 use pytoken::{Terminal, name_value};
 use pytree_node::{Alias, Identifier};

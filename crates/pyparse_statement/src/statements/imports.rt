@@ -12,7 +12,7 @@ ghost use Rattle.pygrammar.specs.Forms as forms;
 ghost use Rattle.pygrammar.specs.LineReader as line;
 ghost use Rattle.pygrammar.specs.Reader as reader;
 ghost use Rattle.pyparse_nodes.specs.Answers.{PartAnswered};
-ghost use Rattle.pyparse_looks.specs.Views.{seen};
+ghost use Rattle.pyparse_nodes.specs.Views.{seen};
 ghost use Rattle.pyparse_statement.specs.Inner.Imports.{dots_at, dots_in};
 ghost use Rattle.std.specs.Prelude.{IfOk};
 ghost use Rattle.pyparse_statement.specs.PlacedParts.{NamesPlaced};
@@ -21,8 +21,7 @@ ghost use Rattle.pyparse_statement.specs.PlacedStatements.{ImportPlaced, WordPla
 use crate::statements::aliases::{dotted_aliases, name_aliases, read_dotted};
 use crate::statements::found::{ReadAliases, ReadDots, ReadStatement};
 use pylex_listing::Exact;
-use pyparse_looks::{Stop, is_op, is_word, terminal_at};
-use pyparse_nodes::append;
+use pyparse_nodes::{Stop, append, is_op, is_word, terminal_at};
 use pyplaces::Recorder;
 use pytoken::{Keyword, Terminal};
 use pytree_node::{Alias, Identifier, Stmt};

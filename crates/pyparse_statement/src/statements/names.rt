@@ -3,12 +3,11 @@
 ghost use Rattle.std.specs.Prelude.{◌+◌, ◌≤◌, length};
 ghost use Rattle.pygrammar.specs.LineReader as line;
 ghost use Rattle.pyparse_nodes.specs.Answers.{PartAnswered};
-ghost use Rattle.pyparse_looks.specs.Views.{seen};
+ghost use Rattle.pyparse_nodes.specs.Views.{seen};
 
 use crate::statements::found::{ReadAs, ReadName, ReadNames};
 use pylex_listing::Exact;
-use pyparse_looks::{Stop, is_op, is_word, name_at};
-use pyparse_nodes::identifier_of;
+use pyparse_nodes::{Stop, identifier_of, is_op, is_word, name_at};
 use pytoken::{Keyword, Terminal};
 use std::alloc::Global;
 

@@ -7,16 +7,15 @@ ghost use Rattle.pygrammar.specs.Entries as entries;
 ghost use Rattle.pygrammar.specs.LineReader as line;
 ghost use Rattle.pygrammar.specs.Precedence as precedence;
 ghost use Rattle.pyparse_nodes.specs.Answers.{PartAnswered};
-ghost use Rattle.pyparse_expr.specs.Readings.{reads};
-ghost use Rattle.pyparse_looks.specs.Views.{seen};
+ghost use Rattle.pyparse_reads.specs.Readings.{reads};
+ghost use Rattle.pyparse_nodes.specs.Views.{seen};
 ghost use Rattle.std.specs.Prelude.{IfOk};
 ghost use Rattle.pyparse_statement.specs.PlacedParts.{BehindPlaced, OptionalPlaced};
 
 use pygrammar::Level;
 use pylex_listing::Exact;
-use pyparse_expr::{Depth, read_at};
-use pyparse_looks::{Stop, is_op, is_word, lead_at};
-use pyparse_nodes::{Optional, Read};
+use pyparse_nodes::{Optional, Read, Stop, is_op, is_word, lead_at};
+use pyparse_reads::{Depth, ReadsExpressions};
 use pyplaces::Recorder;
 use pytoken::{Keyword, Terminal};
 use pytree_node::Expr;
@@ -75,7 +74,7 @@ fn starts_stars(tokens: &[Terminal], at: usize) -> bool
 }
 
 /// Expressions and starred ones, if any begin at the place.
-pub(crate) fn stars_or_none<R: Recorder>(
+pub(crate) fn stars_or_none<E: ReadsExpressions, R: Recorder>(
     alloc: Global,
     tokens: &[Terminal],
     at: usize,
@@ -92,12 +91,12 @@ pub(crate) fn stars_or_none<R: Recorder>(
     if !starts_stars(tokens, at) {
         return Ok(none_at(at));
     }
-    let e = read_at(alloc, tokens, Level::Stars, at, depth, recorder)?;
+    let e = E::read_at(alloc, tokens, Level::Stars, at, depth, recorder)?;
     Ok(one(e))
 }
 
 /// An expression of a level after a sign, if the sign stands at the place.
-pub fn after_sign<R: Recorder>(
+pub fn after_sign<E: ReadsExpressions, R: Recorder>(
     alloc: Global,
     tokens: &[Terminal],
     sign: Exact,
@@ -116,12 +115,12 @@ pub fn after_sign<R: Recorder>(
     if !is_op(tokens, at, sign) {
         return Ok(none_at(at));
     }
-    let e = read_at(alloc, tokens, level, at + 1, depth, recorder)?;
+    let e = E::read_at(alloc, tokens, level, at + 1, depth, recorder)?;
     Ok(one(e))
 }
 
 /// An expression of a level after a word, if the word stands at the place.
-pub fn after_word<R: Recorder>(
+pub fn after_word<E: ReadsExpressions, R: Recorder>(
     alloc: Global,
     tokens: &[Terminal],
     word: Keyword,
@@ -140,6 +139,6 @@ pub fn after_word<R: Recorder>(
     if !is_word(tokens, at, word) {
         return Ok(none_at(at));
     }
-    let e = read_at(alloc, tokens, level, at + 1, depth, recorder)?;
+    let e = E::read_at(alloc, tokens, level, at + 1, depth, recorder)?;
     Ok(one(e))
 }

@@ -11,8 +11,8 @@ ghost use Rattle.pygrammar.specs.LineReader as line;
 ghost use Rattle.pygrammar.specs.Precedence as precedence;
 ghost use Rattle.pygrammar.specs.Reader as reader;
 ghost use Rattle.pyparse_nodes.specs.Answers.{PartAnswered};
-ghost use Rattle.pyparse_expr.specs.Readings.{reads};
-ghost use Rattle.pyparse_looks.specs.Views.{seen};
+ghost use Rattle.pyparse_reads.specs.Readings.{reads};
+ghost use Rattle.pyparse_nodes.specs.Views.{seen};
 ghost use Rattle.pytree_node.specs.TreeOf.{tree_of};
 ghost use Rattle.pyparse_statement.specs.Inner.Simple.{asserts, deletes, globals, nonlocals, raises};
 ghost use Rattle.pyparse_statement.specs.Inner.Simple.{returns};
@@ -27,9 +27,8 @@ use crate::statements::optional::{
 };
 use pygrammar::Level;
 use pylex_listing::Exact;
-use pyparse_expr::{Depth, no_items, push, read_at};
-use pyparse_looks::{Stop, is_op};
-use pyparse_nodes::{Items, Read, deleted};
+use pyparse_nodes::{Items, Read, Stop, deleted, is_op};
+use pyparse_reads::{Depth, ReadsExpressions, no_items, push};
 use pyplaces::Recorder;
 use pytoken::{Keyword, Terminal};
 use pytree_node::Stmt;
@@ -106,7 +105,7 @@ pub(crate) fn nonlocal(alloc: Global, tokens: &[Terminal], at: usize) -> Result<
 
 /// After a `return`.
 #[tactic(auto, using(pytree_node::proofs::Callers::StmtShapes::return_tree))]
-pub(crate) fn return_value<R: Recorder>(
+pub(crate) fn return_value<E: ReadsExpressions, R: Recorder>(
     alloc: Global,
     tokens: &[Terminal],
     at: usize,
@@ -119,7 +118,7 @@ pub(crate) fn return_value<R: Recorder>(
     ensures placed { WordPlaced R.after Keyword.Return tokens.now at recorder.old recorder.new
         result }
 {
-    let value = stars_or_none(alloc, tokens, at, depth, recorder)?;
+    let value = stars_or_none::<E, R>(alloc, tokens, at, depth, recorder)?;
     Ok(ReadStatement {
         height: value.height,
         next: value.next,
@@ -147,7 +146,7 @@ fn raise_at(next: usize) -> ReadStatement
 
 /// After a `raise`.
 #[tactic(auto, using(pytree_node::proofs::Callers::StmtShapes::raise_tree))]
-pub(crate) fn raise<R: Recorder>(
+pub(crate) fn raise<E: ReadsExpressions, R: Recorder>(
     alloc: Global,
     tokens: &[Terminal],
     at: usize,
@@ -162,8 +161,8 @@ pub(crate) fn raise<R: Recorder>(
     if !starts_expression(tokens, at) {
         return Ok(raise_at(at));
     }
-    let exc = read_at(alloc, tokens, Level::Expression, at, depth, recorder)?;
-    let cause = after_word(
+    let exc = E::read_at(alloc, tokens, Level::Expression, at, depth, recorder)?;
+    let cause = after_word::<E, R>(
         alloc,
         tokens,
         Keyword::From,
@@ -184,7 +183,7 @@ pub(crate) fn raise<R: Recorder>(
 
 /// After an `assert`.
 #[tactic(auto, using(pytree_node::proofs::Callers::StmtShapes::assert_tree))]
-pub(crate) fn assert<R: Recorder>(
+pub(crate) fn assert<E: ReadsExpressions, R: Recorder>(
     alloc: Global,
     tokens: &[Terminal],
     at: usize,
@@ -197,8 +196,8 @@ pub(crate) fn assert<R: Recorder>(
     ensures placed { WordPlaced R.after Keyword.Assert tokens.now at recorder.old recorder.new
         result }
 {
-    let test = read_at(alloc, tokens, Level::Expression, at, depth, recorder)?;
-    let msg = after_sign(
+    let test = E::read_at(alloc, tokens, Level::Expression, at, depth, recorder)?;
+    let msg = after_sign::<E, R>(
         alloc,
         tokens,
         Exact::Comma,
@@ -218,7 +217,7 @@ pub(crate) fn assert<R: Recorder>(
 }
 
 /// An expression that is deleted.
-fn deleted_one<R: Recorder>(
+fn deleted_one<E: ReadsExpressions, R: Recorder>(
     alloc: Global,
     tokens: &[Terminal],
     at: usize,
@@ -231,7 +230,7 @@ fn deleted_one<R: Recorder>(
         (λ r. tree_of r.expr.value) (λ r. r.next) result }
     ensures placed { IfOk result (DeletedPlaced R.after tokens.now at recorder.old recorder.new) }
 {
-    let e = read_at(alloc, tokens, Level::Expression, at, depth, recorder)?;
+    let e = E::read_at(alloc, tokens, Level::Expression, at, depth, recorder)?;
     deleted(e)
 }
 
@@ -248,7 +247,7 @@ fn placed(targets: Items, next: usize) -> Items
 }
 
 /// Expressions that are deleted, with commas between them.
-fn deleted_all<R: Recorder>(
+fn deleted_all<E: ReadsExpressions, R: Recorder>(
     alloc: Global,
     tokens: &[Terminal],
     at: usize,
@@ -264,7 +263,7 @@ fn deleted_all<R: Recorder>(
 {
     let mut targets = no_items(alloc, at);
     'more: loop {
-        let one = deleted_one(alloc, tokens, targets.next, depth, recorder)?;
+        let one = deleted_one::<E, R>(alloc, tokens, targets.next, depth, recorder)?;
         let grown = push(targets, one)?;
         if !is_op(tokens, grown.next, Exact::Comma) {
             return Ok(grown);
@@ -279,7 +278,7 @@ fn deleted_all<R: Recorder>(
 
 /// After a `del`.
 #[tactic(auto, using(pytree_node::proofs::Callers::StmtShapes::delete_tree))]
-pub(crate) fn delete<R: Recorder>(
+pub(crate) fn delete<E: ReadsExpressions, R: Recorder>(
     alloc: Global,
     tokens: &[Terminal],
     at: usize,
@@ -291,7 +290,7 @@ pub(crate) fn delete<R: Recorder>(
         (λ r. stmt_of r.statement) (λ r. r.next) result }
     ensures placed { WordPlaced R.after Keyword.Del tokens.now at recorder.old recorder.new result }
 {
-    let targets = deleted_all(alloc, tokens, at, depth, recorder)?;
+    let targets = deleted_all::<E, R>(alloc, tokens, at, depth, recorder)?;
     Ok(ReadStatement {
         height: targets.height,
         next: targets.next,

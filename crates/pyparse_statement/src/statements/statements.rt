@@ -9,8 +9,8 @@ ghost use Rattle.pytree_height.specs.Heights.{highest_in_all};
 ghost use Rattle.pytoken.specs.Terminals as terminals;
 ghost use Rattle.pygrammar.specs.LineReader as line;
 ghost use Rattle.pyparse_nodes.specs.Answers.{Failed, PartAnswered};
-ghost use Rattle.pyparse_expr.specs.Readings.{reads};
-ghost use Rattle.pyparse_looks.specs.Views.{Stands, seen};
+ghost use Rattle.pyparse_reads.specs.Readings.{reads};
+ghost use Rattle.pyparse_nodes.specs.Views.{Stands, seen};
 ghost use Rattle.pyparse_statement.specs.Inner.Simple.{begun};
 ghost use Rattle.pyparse_statement.specs.PlacedStatements.{FieldsPlaced, SimplesPlaced, StatementTaken};
 
@@ -23,9 +23,8 @@ use crate::statements::type_names::type_name_at;
 use crate::statements::types::type_alias;
 use crate::statements::values::value_statement;
 use pylex_listing::Exact;
-use pyparse_expr::Depth;
-use pyparse_looks::{Stop, is_op, terminal_at};
-use pyparse_nodes::append;
+use pyparse_nodes::{Stop, append, is_op, terminal_at};
+use pyparse_reads::{Depth, ReadsExpressions};
 use pyplaces::Recorder;
 use pytoken::{Keyword, Terminal};
 use pytree_node::{Profile, Stmt};
@@ -33,7 +32,7 @@ use std::alloc::Global;
 
 /// A statement with no keyword in front: a `type`, or one that begins with a value.
 #[tactic(auto, using(crate::proofs::statements::StatementSteps::named_type, crate::proofs::statements::StatementSteps::no_type))]
-fn plain_statement<R: Recorder>(
+fn plain_statement<E: ReadsExpressions, R: Recorder>(
     alloc: Global,
     tokens: &[Terminal],
     at: usize,
@@ -51,14 +50,14 @@ fn plain_statement<R: Recorder>(
     match type_name_at(tokens, at, profile) {
         Some(name) => {
             recorder.node(at + 1, at + 2)?;
-            type_alias(alloc, tokens, name, at + 2, profile, depth, recorder)
+            type_alias::<E, R>(alloc, tokens, name, at + 2, profile, depth, recorder)
         }
-        None => value_statement(alloc, tokens, at, depth, recorder),
+        None => value_statement::<E, R>(alloc, tokens, at, depth, recorder),
     }
 }
 
 /// A statement with this keyword in front.
-fn word_statement<R: Recorder>(
+fn word_statement<E: ReadsExpressions, R: Recorder>(
     alloc: Global,
     tokens: &[Terminal],
     word: Keyword,
@@ -75,10 +74,10 @@ fn word_statement<R: Recorder>(
         recorder.new) }
 {
     match word {
-        Keyword::Return => return_value(alloc, tokens, at + 1, depth, recorder),
-        Keyword::Raise => raise(alloc, tokens, at + 1, depth, recorder),
-        Keyword::Assert => assert(alloc, tokens, at + 1, depth, recorder),
-        Keyword::Del => delete(alloc, tokens, at + 1, depth, recorder),
+        Keyword::Return => return_value::<E, R>(alloc, tokens, at + 1, depth, recorder),
+        Keyword::Raise => raise::<E, R>(alloc, tokens, at + 1, depth, recorder),
+        Keyword::Assert => assert::<E, R>(alloc, tokens, at + 1, depth, recorder),
+        Keyword::Del => delete::<E, R>(alloc, tokens, at + 1, depth, recorder),
         Keyword::Global => global(alloc, tokens, at + 1),
         Keyword::Nonlocal => nonlocal(alloc, tokens, at + 1),
         Keyword::Pass => Ok(pass_at(at + 1)),
@@ -86,12 +85,12 @@ fn word_statement<R: Recorder>(
         Keyword::Continue => Ok(continue_at(at + 1)),
         Keyword::Import => import(alloc, tokens, at + 1, recorder),
         Keyword::From => import_from(alloc, tokens, at + 1, recorder),
-        _ => plain_statement(alloc, tokens, at, profile, depth, recorder),
+        _ => plain_statement::<E, R>(alloc, tokens, at, profile, depth, recorder),
     }
 }
 
 /// A statement.
-fn read_statement<R: Recorder>(
+fn read_statement<E: ReadsExpressions, R: Recorder>(
     alloc: Global,
     tokens: &[Terminal],
     at: usize,
@@ -108,17 +107,17 @@ fn read_statement<R: Recorder>(
 {
     match terminal_at(tokens, at) {
         Some(t) => match t {
-            Terminal::Word(word) => word_statement(
+            Terminal::Word(word) => word_statement::<E, R>(
                 alloc, tokens, word, at, profile, depth, recorder,
             ),
-            _ => plain_statement(alloc, tokens, at, profile, depth, recorder),
+            _ => plain_statement::<E, R>(alloc, tokens, at, profile, depth, recorder),
         },
         None => Err(Stop::NoForm),
     }
 }
 
 /// Takes one statement more, and answers the place after it. Where it stands is recorded.
-fn take_statement<R: Recorder>(
+fn take_statement<E: ReadsExpressions, R: Recorder>(
     alloc: Global,
     tokens: &[Terminal],
     at: usize,
@@ -138,7 +137,7 @@ fn take_statement<R: Recorder>(
         (height.old ≡ highest_in_all (stmts (map stmt_of statements.old.items))
         → height.new ≡ highest_in_all (stmts (map stmt_of statements.new.items))) }
 {
-    match read_statement(alloc, tokens, at, profile, depth, recorder) {
+    match read_statement::<E, R>(alloc, tokens, at, profile, depth, recorder) {
         Ok(one) => {
             let next = one.next;
             *height = (*height).max(one.height);
@@ -165,7 +164,7 @@ fn let_go(statements: Vec<Stmt>) {
 ///
 /// [`Stop::NoForm`]: no statement stands there. [`Stop::TooDeep`]: an expression is too high.
 /// [`Stop::Memory`].
-pub fn read_statements<R: Recorder>(
+pub fn read_statements<E: ReadsExpressions, R: Recorder>(
     alloc: Global,
     tokens: &[Terminal],
     at: usize,
@@ -184,7 +183,7 @@ pub fn read_statements<R: Recorder>(
     let mut height = 0;
     let mut next = at;
     'more: loop {
-        let after = match take_statement(
+        let after = match take_statement::<E, R>(
             alloc,
             tokens,
             next,

@@ -7,12 +7,12 @@ ghost use Rattle.std.specs.Str.{bytes_eq, chars};
 ghost use Rattle.unicode_normalization.specs.Forms.{nfkc};
 ghost use Rattle.pygrammar.specs.Forms.{type_name};
 ghost use Rattle.pygrammar.specs.LineReader as reader;
-ghost use Rattle.pyparse_looks.specs.Views.{first_is, seen};
+ghost use Rattle.pyparse_nodes.specs.Views.{first_is, seen};
 ghost use Rattle.pytree_node.specs.Profiles.{plain_312};
 ghost use Rattle.pytoken.specs.TerminalOf.{terminal};
 ghost use Rattle.pyparse_statement.specs.Inner.Types.{HasNoTypeName, HasTypeName};
 
-use pyparse_looks::{name_at, terminal_at};
+use pyparse_nodes::{name_at, terminal_at};
 use pytoken::Terminal;
 use pytree_node::{Profile, Version};
 

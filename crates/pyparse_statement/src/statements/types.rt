@@ -11,8 +11,8 @@ ghost use Rattle.pytree_node.specs.Trees as plain;
 ghost use Rattle.pytoken.specs.TerminalOf.{terminal};
 ghost use Rattle.pygrammar.specs.LineReader as line;
 ghost use Rattle.pyparse_nodes.specs.Answers.{PartAnswered};
-ghost use Rattle.pyparse_expr.specs.Readings.{reads};
-ghost use Rattle.pyparse_looks.specs.Views.{seen};
+ghost use Rattle.pyparse_reads.specs.Readings.{reads};
+ghost use Rattle.pyparse_nodes.specs.Views.{seen};
 ghost use Rattle.pyparse_statement.specs.Inner.Types.{begins_type_param, type_var};
 ghost use Rattle.std.specs.Prelude.{IfOk, ℕ};
 ghost use Rattle.pytoken.specs.Terminals.{Ident, Spelled};
@@ -25,9 +25,10 @@ use crate::statements::found::{ReadStatement, ReadTypeParam, ReadTypeParams};
 use crate::statements::optional::{after_sign, unboxed};
 use pygrammar::Level;
 use pylex_listing::Exact;
-use pyparse_expr::{Depth, read_at};
-use pyparse_looks::{Stop, is_op, name_at, terminal_at};
-use pyparse_nodes::{Optional, Read, append, identifier_of, make_name};
+use pyparse_nodes::{
+    Optional, Read, Stop, append, identifier_of, is_op, make_name, name_at, terminal_at,
+};
+use pyparse_reads::{Depth, ReadsExpressions};
 use pyplaces::Recorder;
 use pytoken::Terminal;
 use pytree_node::{Context, Profile, Stmt, TypeParam, Version};
@@ -52,7 +53,7 @@ fn type_var_of(alloc: Global, name: &str, bound: Optional) -> Result<ReadTypePar
 }
 
 /// A parameter with no star, after its name.
-fn type_var<R: Recorder>(
+fn type_var<E: ReadsExpressions, R: Recorder>(
     alloc: Global,
     tokens: &[Terminal],
     name: &str,
@@ -68,7 +69,7 @@ fn type_var<R: Recorder>(
         → seen tokens.now from ≡ Ident x ∷ seen tokens.now at → x.form ≡ nfkc (chars name.now)
         → IfOk result (TypeParamPlaced R.after tokens.now from recorder.old recorder.new) }
 {
-    let bound = after_sign(
+    let bound = after_sign::<E, R>(
         alloc,
         tokens,
         Exact::Colon,
@@ -112,7 +113,7 @@ fn param_spec(alloc: Global, name: &str, next: usize) -> Result<ReadTypeParam, S
 
 /// A type parameter.
 #[tactic(auto, using(crate::proofs::statements::TypeSteps::by_name, crate::proofs::statements::TypeSteps::by_star, crate::proofs::statements::TypeSteps::by_stars))]
-fn read_type_param<R: Recorder>(
+fn read_type_param<E: ReadsExpressions, R: Recorder>(
     alloc: Global,
     tokens: &[Terminal],
     at: usize,
@@ -125,7 +126,7 @@ fn read_type_param<R: Recorder>(
     ensures placed { IfOk result (TypeParamPlaced R.after tokens.now at recorder.old recorder.new) }
 {
     if let Some(name) = name_at(tokens, at) {
-        return type_var(alloc, tokens, name, at + 1, depth, recorder);
+        return type_var::<E, R>(alloc, tokens, name, at + 1, depth, recorder);
     }
     if is_op(tokens, at, Exact::Star) {
         return match name_at(tokens, at + 1) {
@@ -216,7 +217,7 @@ fn placed(params: ReadTypeParams, next: usize) -> ReadTypeParams
 }
 
 /// Type parameters with commas between them.
-fn type_params<R: Recorder>(
+fn type_params<E: ReadsExpressions, R: Recorder>(
     alloc: Global,
     tokens: &[Terminal],
     at: usize,
@@ -231,7 +232,7 @@ fn type_params<R: Recorder>(
 {
     let mut params = no_params(alloc, at);
     'more: loop {
-        let one = read_type_param(alloc, tokens, params.next, depth, recorder)?;
+        let one = read_type_param::<E, R>(alloc, tokens, params.next, depth, recorder)?;
         recorder.node(params.next, one.next)?;
         let grown = with_param(params, one)?;
         if !is_op(tokens, grown.next, Exact::Comma) {
@@ -246,7 +247,7 @@ fn type_params<R: Recorder>(
 }
 
 /// Type parameters in square brackets, if one stands at the place.
-fn bracketed_type_params<R: Recorder>(
+fn bracketed_type_params<E: ReadsExpressions, R: Recorder>(
     alloc: Global,
     tokens: &[Terminal],
     at: usize,
@@ -263,7 +264,7 @@ fn bracketed_type_params<R: Recorder>(
     if !is_op(tokens, at, Exact::LSqb) {
         return Ok(no_params(alloc, at));
     }
-    let params = type_params(alloc, tokens, at + 1, depth, recorder)?;
+    let params = type_params::<E, R>(alloc, tokens, at + 1, depth, recorder)?;
     if !is_op(tokens, params.next, Exact::RSqb) {
         return Err(Stop::NoForm);
     }
@@ -277,7 +278,7 @@ fn bracketed_type_params<R: Recorder>(
 ///
 /// [`Stop::NoForm`]: what stands in the bracket are none. [`Stop::TooDeep`]: a bound is too high.
 /// [`Stop::Memory`].
-pub fn read_type_params<R: Recorder>(
+pub fn read_type_params<E: ReadsExpressions, R: Recorder>(
     alloc: Global,
     tokens: &[Terminal],
     at: usize,
@@ -294,7 +295,7 @@ pub fn read_type_params<R: Recorder>(
 {
     match profile.version {
         Version::Py311 => Ok(no_params(alloc, at)),
-        Version::Py312 => bracketed_type_params(alloc, tokens, at, depth, recorder),
+        Version::Py312 => bracketed_type_params::<E, R>(alloc, tokens, at, depth, recorder),
     }
 }
 
@@ -318,7 +319,7 @@ fn alias_of(name: Read, params: ReadTypeParams, value: Read) -> ReadStatement
 }
 
 /// After `type` and a name.
-pub(crate) fn type_alias<R: Recorder>(
+pub(crate) fn type_alias<E: ReadsExpressions, R: Recorder>(
     alloc: Global,
     tokens: &[Terminal],
     name: &str,
@@ -334,11 +335,11 @@ pub(crate) fn type_alias<R: Recorder>(
     ensures placed { AliasPlaced R.after profile tokens.now (nfkc (chars name.now)) at recorder.old
         recorder.new result }
 {
-    let params = read_type_params(alloc, tokens, at, profile, depth, recorder)?;
+    let params = read_type_params::<E, R>(alloc, tokens, at, profile, depth, recorder)?;
     if !is_op(tokens, params.next, Exact::Equal) {
         return Err(Stop::NoForm);
     }
-    let value = read_at(
+    let value = E::read_at(
         alloc,
         tokens,
         Level::Expression,

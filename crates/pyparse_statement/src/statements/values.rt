@@ -13,10 +13,10 @@ ghost use Rattle.pygrammar.specs.Forms as forms;
 ghost use Rattle.pygrammar.specs.LineReader as line;
 ghost use Rattle.pygrammar.specs.Reader as reader;
 ghost use Rattle.pyparse_nodes.specs.Answers.{PartAnswered};
-ghost use Rattle.pyparse_expr.specs.Readings.{reads};
-ghost use Rattle.pyparse_looks.specs.Views.{Stands, first_is, seen};
+ghost use Rattle.pyparse_reads.specs.Readings.{reads};
+ghost use Rattle.pyparse_nodes.specs.Views.{Stands, first_is, seen};
 ghost use Rattle.std.specs.Prelude.{IfOk};
-ghost use Rattle.pyparse_looks.specs.Views.{IsNotNamed};
+ghost use Rattle.pyparse_nodes.specs.Views.{IsNotNamed};
 ghost use Rattle.pyparse_statement.specs.PlacedStatements.{AnnotationPlaced, FieldsPlaced};
 ghost use Rattle.pyparse_statement.specs.PlacedStatements.{TargetsPlaced, ValuePlaced};
 
@@ -25,16 +25,17 @@ use crate::statements::found::ReadStatement;
 use crate::statements::optional::after_sign;
 use pygrammar::Level;
 use pylex_listing::Exact;
-use pyparse_expr::{Depth, no_items, push, read_at};
-use pyparse_looks::{Stop, is_op, name_with, terminal_at};
-use pyparse_nodes::{Items, Read, make_name, single_stored, stored};
+use pyparse_nodes::{
+    Items, Read, Stop, is_op, make_name, name_with, single_stored, stored, terminal_at,
+};
+use pyparse_reads::{Depth, ReadsExpressions, no_items, push};
 use pyplaces::Recorder;
 use pytoken::Terminal;
 use pytree_node::{Context, Operator, Profile};
 use std::alloc::Global;
 
 /// After the colon of an annotation.
-fn annotated<R: Recorder>(
+fn annotated<E: ReadsExpressions, R: Recorder>(
     alloc: Global,
     tokens: &[Terminal],
     target: Read,
@@ -50,8 +51,8 @@ fn annotated<R: Recorder>(
     ensures placed { IfOk result (AnnotationPlaced R.after (tree_of target.expr.value) simple
         tokens.now at recorder.old recorder.new) }
 {
-    let annotation = read_at(alloc, tokens, Level::Expression, at, depth, recorder)?;
-    let value = after_sign(
+    let annotation = E::read_at(alloc, tokens, Level::Expression, at, depth, recorder)?;
+    let value = after_sign::<E, R>(
         alloc,
         tokens,
         Exact::Equal,
@@ -108,7 +109,7 @@ fn augmented_at(tokens: &[Terminal], at: usize) -> Option<Operator>
 
 /// From the operator of an augmented assignment on.
 #[tactic(auto, using(crate::proofs::statements::ValueSteps::augmented_target, crate::proofs::statements::ValueSteps::augmented_failed, crate::proofs::statements::ValueSteps::augmented_found))]
-fn augmented<R: Recorder>(
+fn augmented<E: ReadsExpressions, R: Recorder>(
     alloc: Global,
     tokens: &[Terminal],
     value: Read,
@@ -125,13 +126,13 @@ fn augmented<R: Recorder>(
 {
     let next = value.next + 1;
     let target = single_stored(value)?;
-    let right = read_at(alloc, tokens, Level::Value, next, depth, recorder)?;
+    let right = E::read_at(alloc, tokens, Level::Value, next, depth, recorder)?;
     Ok(augmented_of(target, op, right))
 }
 
 /// From the colon of an annotation on.
 #[tactic(auto, using(crate::proofs::statements::ValueSteps::annotated_target, crate::proofs::statements::ValueSteps::annotated_is))]
-fn annotated_value<R: Recorder>(
+fn annotated_value<E: ReadsExpressions, R: Recorder>(
     alloc: Global,
     tokens: &[Terminal],
     value: Read,
@@ -146,12 +147,12 @@ fn annotated_value<R: Recorder>(
 {
     let next = value.next + 1;
     let target = single_stored(value)?;
-    annotated(alloc, tokens, target, false, next, depth, recorder)
+    annotated::<E, R>(alloc, tokens, target, false, next, depth, recorder)
 }
 
 /// After a value that no `=` follows.
 #[tactic(auto, using(crate::proofs::statements::ValueSteps::assigned, crate::proofs::statements::ValueSteps::alone))]
-fn end_value<R: Recorder>(
+fn end_value<E: ReadsExpressions, R: Recorder>(
     alloc: Global,
     tokens: &[Terminal],
     targets: Items,
@@ -169,10 +170,10 @@ fn end_value<R: Recorder>(
         return Ok(assignment_of(targets, value));
     }
     if let Some(op) = augmented_at(tokens, value.next) {
-        return augmented(alloc, tokens, value, op, depth, recorder);
+        return augmented::<E, R>(alloc, tokens, value, op, depth, recorder);
     }
     if is_op(tokens, value.next, Exact::Colon) {
-        return annotated_value(alloc, tokens, value, depth, recorder);
+        return annotated_value::<E, R>(alloc, tokens, value, depth, recorder);
     }
     Ok(expression_of(value))
 }
@@ -190,7 +191,7 @@ fn placed(targets: Items, next: usize) -> Items
 }
 
 /// Values with `=` between them, or what one value begins.
-fn assignment<R: Recorder>(
+fn assignment<E: ReadsExpressions, R: Recorder>(
     alloc: Global,
     tokens: &[Terminal],
     at: usize,
@@ -206,9 +207,9 @@ fn assignment<R: Recorder>(
 {
     let mut targets = no_items(alloc, at);
     'more: loop {
-        let value = read_at(alloc, tokens, Level::Value, targets.next, depth, recorder)?;
+        let value = E::read_at(alloc, tokens, Level::Value, targets.next, depth, recorder)?;
         if !is_op(tokens, value.next, Exact::Equal) {
-            return end_value(alloc, tokens, targets, value, depth, recorder);
+            return end_value::<E, R>(alloc, tokens, targets, value, depth, recorder);
         }
         let next = value.next + 1;
         let target = stored(value)?;
@@ -218,7 +219,7 @@ fn assignment<R: Recorder>(
 }
 
 /// A statement that begins with a value.
-pub(crate) fn value_statement<R: Recorder>(
+pub(crate) fn value_statement<E: ReadsExpressions, R: Recorder>(
     alloc: Global,
     tokens: &[Terminal],
     at: usize,
@@ -236,8 +237,8 @@ pub(crate) fn value_statement<R: Recorder>(
         Some(name) => {
             recorder.node(at, at + 1)?;
             let target = make_name(alloc, name, Context::Store, at + 1)?;
-            annotated(alloc, tokens, target, true, at + 2, depth, recorder)
+            annotated::<E, R>(alloc, tokens, target, true, at + 2, depth, recorder)
         }
-        None => assignment(alloc, tokens, at, depth, recorder),
+        None => assignment::<E, R>(alloc, tokens, at, depth, recorder),
     }
 }

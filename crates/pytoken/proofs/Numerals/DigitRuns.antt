@@ -9,7 +9,7 @@ use Rattle.std.proofs.lemmas.Bool.{and_from, and_parts, cases_Bool, le-leb}
 use Rattle.std.proofs.lemmas.Bool.Decides.{nat_tests}
 use Rattle.std.proofs.lemmas.List.Folds.{list_all-append}
 use Rattle.pylex_lexeme.specs.Numbers.{headed, are_joined, is_decimal_digit, is_digit_part}
-use Rattle.pyfloat.specs.Layouts.{zeros}
+use Rattle.pynumber.specs.Layouts.{zeros}
 
 -- one decimal digit or more, and nothing else
 abbrev pub are_digits : List ℕ → Bool

@@ -6,10 +6,10 @@ use Rattle.std.specs.Prelude.{codes, decimal, if◌then◌else◌, nat_lt}
 use Rattle.std.specs.Float.Ieee.{Float, nan, inf, fin}
 use Rattle.std.proofs.lemmas.Bool.{or_right, cases_lt, lt-leb}
 use Rattle.pylex_lexeme.specs.Numbers.{is_nil, optional, headed, is_e, is_sign}
-use Rattle.pyfloat.specs.Search.{exact_down, shortest_digits, shortest_up}
-use Rattle.pyfloat.specs.Layouts.{zeros, power_text, scientific, fixed, laid_out, number_text}
-use Rattle.pyfloat.specs.FloatTexts.{float_text}
-use Rattle.pyfloat.specs.Laws.{is_unsigned}
+use Rattle.pynumber.specs.Search.{exact_down, shortest_digits, shortest_up}
+use Rattle.pynumber.specs.Layouts.{zeros, power_text, scientific, fixed, laid_out, number_text}
+use Rattle.pynumber.specs.FloatTexts.{float_text}
+use Rattle.pynumber.specs.Laws.{is_unsigned}
 use Rattle.pytoken.proofs.Numerals.DigitRuns.{are_digits, some_append, append_some, some_take, some_drop, zeros_any, decimal_digits}
 use Rattle.pytoken.proofs.Numerals.Parts.{HasParts, is_fraction, is_power}
 

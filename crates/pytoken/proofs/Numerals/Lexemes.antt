@@ -8,9 +8,9 @@ use Rattle.std.specs.Str.{IsAscii, all_scalars}
 use Rattle.std.proofs.lemmas.Bool.{and_from, and_parts, or_left, or_right}
 use Rattle.pylex_lexeme.specs.Chars.{begins}
 use Rattle.pylex_lexeme.specs.Numbers.{is_decimal_digit, is_decimal, is_radix, is_float, is_imaginary, is_number}
-use Rattle.pynatural.specs.Decimals.{decimal_text}
-use Rattle.pyfloat.specs.FloatTexts.{float_text, float_source, imaginary_source}
-use Rattle.pyfloat.specs.Laws.{IsDouble}
+use Rattle.pynumber.specs.Decimals.{decimal_text}
+use Rattle.pynumber.specs.FloatTexts.{float_text, float_source, imaginary_source}
+use Rattle.pynumber.specs.Laws.{IsDouble}
 use Rattle.pytoken.specs.NumberValues.{whole_value, is_complex, is_real}
 use Rattle.pytoken.specs.Numerals.{ends, is_digit_or_j, is_numeral}
 use Rattle.pytoken.proofs.NumberClasses.{imaginary_complex, float_not_complex, float_real, decimal_not_complex, decimal_not_real}

@@ -5,11 +5,11 @@ use Rattle.std.specs.Float.Ieee.{Float}
 use Rattle.std.specs.Str.{IsAscii}
 use Rattle.std.proofs.lemmas.Bool.{lt-leb}
 use Rattle.std.proofs.lemmas.Str.{encodes-IsAscii}
-use Rattle.pynatural.specs.Decimals.{decimal_text}
-use Rattle.pynatural.specs.Readings.{most_digits}
-use Rattle.pyfloat.specs.FloatTexts.{float_source, imaginary_source}
-use Rattle.pyfloat.specs.Laws.{IsDouble}
-use Rattle.pyfloat.proofs.Callers.Law.{floats_are_lawful}
+use Rattle.pynumber.specs.Decimals.{decimal_text}
+use Rattle.pynumber.specs.Readings.{most_digits}
+use Rattle.pynumber.specs.FloatTexts.{float_source, imaginary_source}
+use Rattle.pynumber.specs.Laws.{IsDouble}
+use Rattle.pynumber.proofs.Callers.Law.{floats_are_lawful}
 use Rattle.pylex_listing.specs.declared.kind.Kind.TheVariants as kinds
 use Rattle.pytree_node.specs.Values as value
 use Rattle.pytree_node.specs.Values.{Value}

@@ -11,8 +11,8 @@ use Rattle.std.proofs.lemmas.Int.Digits.{all_below_base_digits_of, first_digits_
 use Rattle.std.proofs.lemmas.Str.{digit_value_digit}
 use Rattle.std.proofs.lemmas.Str.Parse.{digit_from_value}
 use Rattle.pylex_lexeme.specs.Numbers.{headed, are_joined, is_zero, is_one_to_nine, is_decimal_digit, is_decimal}
-use Rattle.pynatural.specs.Decimals.{decimal_text, digit_character}
-use Rattle.pynatural.specs.Readings.{written, is_no_underscore}
+use Rattle.pynumber.specs.Decimals.{decimal_text, digit_character}
+use Rattle.pynumber.specs.Readings.{written, is_no_underscore}
 use Rattle.pytoken.specs.NumberValues.{radix_of, whole_value}
 use Rattle.pytoken.proofs.Numerals.DigitRuns.{are_digits, are_any, all_joined, digit_range}
 

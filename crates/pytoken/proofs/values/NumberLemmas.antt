@@ -7,7 +7,7 @@ use Rattle.std.specs.Char.{digit_value}
 use Rattle.std.specs.Str.Parse.{digits_value_after}
 use Rattle.std.proofs.lemmas.Bool.{cases_Bool, leb-true, leb-false, le-leb, lt-leb}
 use Rattle.std.proofs.lemmas.List.{at_drop_more, drop_all}
-use Rattle.pynatural.specs.Readings.{written, is_no_underscore, most_digits}
+use Rattle.pynumber.specs.Readings.{written, is_no_underscore, most_digits}
 use Rattle.pytree_node.specs.declared.profiles.Extent.{Extent}
 use Rattle.pytree_node.specs.declared.profiles.Extent.TheVariants.{Plain, Whole}
 use Rattle.pytoken.specs.NumberValues.{radix_of, digits_in, whole_value}

@@ -7,7 +7,7 @@ use Rattle.std.specs.List.{list_all, list_any}
 use Rattle.std.specs.Str.Parse.{digits_value}
 use Rattle.std.proofs.lemmas.Bool.{and_parts, leb-true, ne_eqb, and_right}
 use Rattle.std.proofs.lemmas.Bool.Decides.{nat_tests}
-use Rattle.pynatural.specs.Readings.{written, is_no_underscore}
+use Rattle.pynumber.specs.Readings.{written, is_no_underscore}
 use Rattle.pylex_lexeme.specs.Numbers.{is_j, is_point, is_e, is_x, is_o, is_b}
 use Rattle.pytree_node.specs.Values.{Int}
 use Rattle.pytree_node.specs.declared.profiles.Extent.{Extent}

@@ -4,7 +4,7 @@ use Rattle.std.specs.Prelude.{Bool, true, false, List, [], ◌∷◌, drop, nat_
 use Rattle.std.specs.Char.{digit_value, is_digit}
 use Rattle.std.specs.List.{flat_map, list_all}
 use Rattle.std.specs.Str.Parse.{digits_value}
-use Rattle.pynatural.specs.Readings.{written, most_digits}
+use Rattle.pynumber.specs.Readings.{written, most_digits}
 use Rattle.pylex_lexeme.specs.Numbers.{is_x, is_o, is_b}
 use Rattle.pytree_node.specs.declared.profiles.Extent.{Extent}
 use Rattle.pytree_node.specs.declared.profiles.Extent.TheVariants.{Plain, Whole}

@@ -5,10 +5,10 @@ use Rattle.std.specs.Str.{encode_utf8_all}
 use Rattle.std.specs.Float.Ieee.{binary64, fits}
 use Rattle.std.proofs.Math.Nat.{pow-le-pow_right}
 use Rattle.std.proofs.lemmas.Bool.{and_from, lt-ltb, ltb-true, leb-false}
-use Rattle.pynatural.specs.Readings.{most_digits}
-use Rattle.pyfloat.specs.FloatValues.{float_value}
-use Rattle.pyfloat.specs.Laws.{IsDouble, is_unsigned}
-use Rattle.pyfloat.proofs.Callers.Law.{floats_are_lawful}
+use Rattle.pynumber.specs.Readings.{most_digits}
+use Rattle.pynumber.specs.FloatValues.{float_value}
+use Rattle.pynumber.specs.Laws.{IsDouble, is_unsigned}
+use Rattle.pynumber.proofs.Callers.Law.{floats_are_lawful}
 use Rattle.pylex_listing.specs.declared.kind.Kind.TheVariants as kinds
 use Rattle.pytree_node.specs.declared.profiles.Extent.{Extent}
 use Rattle.pytree_node.specs.declared.profiles.Extent.TheVariants.{Plain, Whole}

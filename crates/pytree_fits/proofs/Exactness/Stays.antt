@@ -4,7 +4,7 @@ use Rattle.std.proofs.Common.{◌≡◌, refl, List, [], ◌∷◌, Bool, true, 
 use Rattle.std.specs.Prelude.{◌&&◌, ◌||◌, ◌^◌, leb}
 use Rattle.std.specs.List.{list_all}
 use Rattle.std.proofs.lemmas.Bool.{and_parts, and_from, lt-ltb}
-use Rattle.pynatural.specs.Readings.{most_digits}
+use Rattle.pynumber.specs.Readings.{most_digits}
 use Rattle.pytree_node.specs.declared.operators.Context.TheVariants.{Store}
 use Rattle.pytree_node.specs.declared.profiles.Extent.{Extent}
 use Rattle.pytree_node.specs.declared.profiles.Extent.TheVariants.{Plain, Whole}

@@ -5,7 +5,7 @@ use Rattle.std.specs.List.{flat_map, list_all}
 use Rattle.std.specs.Str.{encode_utf8_all}
 use Rattle.std.proofs.lemmas.List.Folds.{list_all-append}
 use Rattle.unicode_normalization.specs.Forms.{nfkc}
-use Rattle.pyfloat.specs.FloatValues.{float_value}
+use Rattle.pynumber.specs.FloatValues.{float_value}
 use Rattle.pylex_lexeme.specs.declared.kinds.Exact.{Exact}
 use Rattle.pylex_lexeme.specs.Operators.{exact_of}
 use Rattle.pylex_listing.specs.declared.kind.Kind.{Kind}

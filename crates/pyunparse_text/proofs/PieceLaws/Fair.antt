@@ -9,9 +9,9 @@ use Rattle.std.specs.Str.{all_scalars, encode_utf8_all}
 use Rattle.std.proofs.Math.Nat.{pow-le-pow_right}
 use Rattle.std.proofs.lemmas.Bool.{le-leb, lt-leb}
 use Rattle.std.proofs.lemmas.List.Elements.{All-head, All-tail}
-use Rattle.pynatural.specs.Readings.{most_digits}
-use Rattle.pyfloat.specs.FloatValues.{float_value}
-use Rattle.pyfloat.specs.Laws.{IsDouble}
+use Rattle.pynumber.specs.Readings.{most_digits}
+use Rattle.pynumber.specs.FloatValues.{float_value}
+use Rattle.pynumber.specs.Laws.{IsDouble}
 use Rattle.pylex_lexeme.specs.declared.kinds.Exact.{Exact}
 use Rattle.pylex_lexeme.specs.declared.kinds.Exact.TheVariants.{LPar, RPar, LSqb, RSqb, LBrace, RBrace, Ellipsis}
 use Rattle.pylex_lexeme.specs.Operators.{exact_text, is_operator, is_opener, is_closer}

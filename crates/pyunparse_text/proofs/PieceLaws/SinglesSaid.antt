@@ -9,9 +9,9 @@ use Rattle.std.specs.Str.{all_scalars}
 use Rattle.std.proofs.Math.Utf8.{scalar, scalar_cases}
 use Rattle.std.proofs.lemmas.Bool.{and_parts, leb-false, le-leb}
 use Rattle.unicode_normalization.specs.Forms.{nfkc}
-use Rattle.pynatural.specs.Readings.{most_digits}
-use Rattle.pyfloat.specs.FloatValues.{float_value}
-use Rattle.pyfloat.proofs.Callers.Law.{floats_are_lawful}
+use Rattle.pynumber.specs.Readings.{most_digits}
+use Rattle.pynumber.specs.FloatValues.{float_value}
+use Rattle.pynumber.proofs.Callers.Law.{floats_are_lawful}
 use Rattle.pylex_lexeme.specs.declared.kinds.Exact.{Exact}
 use Rattle.pylex_lexeme.specs.Operators.{exact_of}
 use Rattle.pylex_lexeme.specs.Lexemes.{is_name}

@@ -10,7 +10,7 @@ use Rattle.pytoken.specs.Refusals.{refusal}
 use Rattle.pyparse_tokens.specs.Answers.{Tells}
 use Rattle.pyparse_tokens.specs.LineReadings.{LineReading}
 use Rattle.pyparse.specs.Inner.Progressing.{IsProgress}
-use Rattle.pyparse_known.proofs.Callers.FinishLemmas.{told_on, closes_at}
+use Rattle.pyparse_block.proofs.Callers.FinishLemmas.{told_on, closes_at}
 use Rattle.pyparse.proofs.modules.parse.Goals as goal
 
 pub loop-progress-init : goal.loop-progress-init

@@ -13,7 +13,7 @@ use Rattle.pyparse_marks.specs.Spans.{told}
 use Rattle.pyparse_marks.proofs.Callers.Kept.{kept_anew}
 use Rattle.pyparse_tokens.specs.LineReadings.{LineReading, HoldsLine}
 use Rattle.pyparse.specs.Inner.PlacedLines.{IsPlaced}
-use Rattle.pyparse_known.proofs.Callers.FinishLemmas.{told_on, closes_at}
+use Rattle.pyparse_block.proofs.Callers.FinishLemmas.{told_on, closes_at}
 use Rattle.pyparse.proofs.placed.parse_placed.Goals as goal
 
 pub loop-progress-init : goal.loop-progress-init

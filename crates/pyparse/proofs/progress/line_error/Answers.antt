@@ -1,8 +1,8 @@
 use Rattle.std.proofs.Common.{◌∙◌, subst, sym}
-use Rattle.pyparse_looks.specs.declared.stop.Stop.{Stop}
+use Rattle.pyparse_nodes.specs.declared.stop.Stop.{Stop}
 use Rattle.pyparse_line.specs.Lines.{Refused}
 use Rattle.pygrammar.specs.Refusals.{terminals, no_match, no_form}
-use Rattle.pyparse_known.proofs.Callers.FinishLemmas.{unread_high}
+use Rattle.pyparse_block.proofs.Callers.FinishLemmas.{unread_high}
 use Rattle.pyparse.proofs.progress.line_error.Goals as goal
 
 pub returns-then-left_out : goal.returns-then-left_out

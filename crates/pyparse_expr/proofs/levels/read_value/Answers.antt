@@ -1,6 +1,6 @@
 use Rattle.pyparse_expr.proofs.Reader.LevelSteps.{value_plain, value_yield}
 use Rattle.pygrammar.specs.declared.levels.Level.TheVariants.{Stars, Value}
-use Rattle.pyparse_looks.specs.Views.{seen}
+use Rattle.pyparse_nodes.specs.Views.{seen}
 use Rattle.pyplaces.proofs.Expressions.Levels.{placed_next}
 use Rattle.pyparse_expr.proofs.Recorders.Levels.{value_yielded}
 use Rattle.pyparse_expr.proofs.Recorders.Made.{whole_on}

@@ -1,6 +1,6 @@
 use Rattle.std.proofs.Common.{refl}
 use Rattle.pytoken.specs.TerminalOf.{terminal}
-use Rattle.pyparse_expr.specs.Readings.{reads}
+use Rattle.pyparse_reads.specs.Readings.{reads}
 use Rattle.pyparse_pattern.specs.Answers as patterns
 use Rattle.pyparse_line.specs.declared.openings.Opening.TheVariants as kind
 use Rattle.pyparse_line.proofs.FrontSteps.{front_answered}

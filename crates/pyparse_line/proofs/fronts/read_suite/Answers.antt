@@ -1,6 +1,6 @@
 use Rattle.std.proofs.Common.{arith, map, rules, refl}
 use Rattle.pytree_node.specs.TreeOf.{stmt_of}
-use Rattle.pyparse_expr.specs.Readings.{reads}
+use Rattle.pyparse_reads.specs.Readings.{reads}
 use Rattle.pyparse_line.proofs.FrontSteps.{suite_failed, suite_found}
 use Rattle.pyparse_line.proofs.Recorders.Fronts.{no_suite_placed, some_suite_placed}
 use Rattle.pyparse_line.proofs.fronts.read_suite.Goals as goal

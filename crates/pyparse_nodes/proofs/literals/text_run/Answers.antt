@@ -1,7 +1,7 @@
 use Rattle.std.proofs.Common.{◌+◌, ◌∙◌, ap, arith}
 use Rattle.pytree_node.specs.Values as values
 use Rattle.pyparse_nodes.specs.Runs.{run}
-use Rattle.pyparse_looks.specs.Views.{seen}
+use Rattle.pyparse_nodes.specs.Views.{seen}
 use Rattle.pyparse_nodes.proofs.LiteralRuns.{literal_front}
 use Rattle.pyparse_nodes.proofs.literals.text_run.Goals as goal
 

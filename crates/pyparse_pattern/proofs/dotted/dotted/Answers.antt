@@ -1,6 +1,6 @@
 use Rattle.std.proofs.Common.{arith, rules, ◌∷◌}
 use Rattle.pytoken.specs.Terminals.{Ident}
-use Rattle.pyparse_looks.specs.Views.{seen}
+use Rattle.pyparse_nodes.specs.Views.{seen}
 use Rattle.pyparse_pattern.proofs.Points.{points_end, points_high, points_more, points_start, points_stop}
 use Rattle.pyparse_pattern.proofs.Recorders.Values.{points_begun, points_gone}
 use Rattle.pyparse_pattern.proofs.dotted.dotted.Goals as goal

@@ -3,7 +3,7 @@ use Rattle.std.specs.Str.{chars}
 use Rattle.unicode_normalization.specs.Forms.{nfkc}
 use Rattle.pytoken.specs.Terminals.{Ident, Spelled}
 use Rattle.pygrammar.specs.PatternReader.{dotted_from}
-use Rattle.pyparse_looks.specs.Views.{seen}
+use Rattle.pyparse_nodes.specs.Views.{seen}
 use Rattle.pyparse_pattern.proofs.Points.{Points}
 use Rattle.pyparse_pattern.proofs.Recorders.Values.{DottedRead}
 use Rattle.pyparse_pattern.proofs.dotted.dotted.Given as goal

@@ -1,7 +1,7 @@
 use Rattle.std.proofs.Common.{◌∙◌, ap, arith, refl, Some}
 use Rattle.pytoken.specs.TerminalOf.{terminal}
-use Rattle.pyparse_looks.specs.Views.{seen}
-use Rattle.pyparse_expr.proofs.Callers.Looks.{front}
+use Rattle.pyparse_nodes.specs.Views.{seen}
+use Rattle.pyparse_reads.proofs.Callers.Looks.{front}
 use Rattle.pyparse_pattern.proofs.KeySteps.{key_named, key_word}
 use Rattle.pyparse_pattern.proofs.Recorders.Values.{key_literal, key_seen, key_single}
 use Rattle.pyparse_pattern.proofs.keys.any_key.Goals as goal

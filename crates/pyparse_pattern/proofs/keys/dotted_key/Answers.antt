@@ -1,6 +1,6 @@
 use Rattle.std.proofs.Common.{◌∷◌}
 use Rattle.pytoken.specs.Terminals.{Ident}
-use Rattle.pyparse_looks.specs.Views.{seen}
+use Rattle.pyparse_nodes.specs.Views.{seen}
 use Rattle.pyparse_pattern.proofs.KeySteps.{key_dotted}
 use Rattle.pyparse_pattern.proofs.Recorders.Values.{key_pointed}
 use Rattle.pyparse_pattern.proofs.keys.dotted_key.Goals as goal

@@ -1,5 +1,5 @@
 use Rattle.std.proofs.Common.{◌-◌, ◌+◌, arith, rules}
-use Rattle.pyparse_looks.specs.Views.{seen}
+use Rattle.pyparse_nodes.specs.Views.{seen}
 use Rattle.pyparse_pattern.specs.Inner.Values.{keys}
 use Rattle.pyparse_pattern.proofs.Caps.{lower_failed, lower_found, lower_high}
 use Rattle.pyparse_pattern.proofs.keys.read_key.Goals as goal

@@ -1,6 +1,6 @@
 use Rattle.std.proofs.Common.{◌≡◌, ◌∙◌, ◌++◌, ap, false}
 use Rattle.std.proofs.lemmas.Result.{IfOk-equal}
-use Rattle.pyfloat.specs.FloatTexts.{float_source}
+use Rattle.pynumber.specs.FloatTexts.{float_source}
 use Rattle.pylex_listing.specs.declared.kind.Kind.TheVariants as kinds
 use Rattle.pytoken.proofs.Callers.Numerals.{float_numeral}
 use Rattle.pyunparse_text.specs.Folds.{anywhere}

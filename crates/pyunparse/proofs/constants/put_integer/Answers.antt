@@ -1,7 +1,7 @@
 use Rattle.std.proofs.Common.{◌≡◌, ◌∙◌, ◌++◌, ap, arith, false}
 use Rattle.std.proofs.lemmas.Result.{IfOk-equal}
-use Rattle.pynatural.specs.Decimals.{decimal_text}
-use Rattle.pynatural.proofs.Callers.Decimals.{decimal_text_ascii, decimal_text_is}
+use Rattle.pynumber.specs.Decimals.{decimal_text}
+use Rattle.pynumber.proofs.Callers.Decimals.{decimal_text_ascii, decimal_text_is}
 use Rattle.pylex_listing.specs.declared.kind.Kind.TheVariants as kinds
 use Rattle.pyunparse_text.specs.Folds.{anywhere}
 use Rattle.pyunparse.proofs.Texts.NumberLemmas.{ascii_bytes}

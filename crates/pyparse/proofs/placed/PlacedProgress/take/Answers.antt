@@ -9,12 +9,12 @@ use Rattle.pyparse_marks.specs.LineSpans.{line_spans}
 use Rattle.pyparse_marks.specs.Spans.{Span, told}
 use Rattle.pyplaces.specs.BlockPlaces.{LinePlaces, line_of}
 use Rattle.pyplaces.specs.FormPlaces.{places_at}
-use Rattle.pyplaces_blocks.specs.StateOf.{Follows}
+use Rattle.pyplaces.specs.StateOf.{Follows}
 use Rattle.pyparse.specs.declared.progress.Progress.{Progress}
 use Rattle.pyparse.specs.Inner.PlacedLines.{PlacedLines}
-use Rattle.pyparse_known.specs.Known.{Comes, first_lines}
+use Rattle.pyparse_block.specs.Known.{Comes, first_lines}
 use Rattle.pyparse.specs.Inner.Reading.{Holds}
-use Rattle.pyparse_known.proofs.Callers.ProgressLemmas.{unread_stays}
+use Rattle.pyparse_block.proofs.Callers.ProgressLemmas.{unread_stays}
 use Rattle.pyparse.proofs.PlacedLemmas.{runs_cut, line_given, placed_next}
 use Rattle.pyparse.proofs.placed.PlacedProgress.take.Goals as goal
 

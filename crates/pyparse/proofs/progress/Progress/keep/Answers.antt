@@ -2,8 +2,8 @@ use Rattle.std.proofs.Common.{[], List, subst, sym}
 use Rattle.pytoken.specs.Inner.Behind.{behind}
 use Rattle.pygrammar.specs.Lines.{Line, line}
 use Rattle.pygrammar.specs.FormOf.{form_of}
-use Rattle.pyparse_known.specs.LastLines.{HoldsLastLines}
-use Rattle.pyparse_known.proofs.Callers.ProgressLemmas.{behind_more}
+use Rattle.pyparse_block.specs.LastLines.{HoldsLastLines}
+use Rattle.pyparse_block.proofs.Callers.ProgressLemmas.{behind_more}
 use Rattle.pyparse.proofs.progress.Progress.keep.Goals as goal
 
 pub returns : goal.returns

@@ -5,7 +5,7 @@ use Rattle.pytoken.specs.Terminals.{Terminal}
 use Rattle.pytoken.specs.TerminalOf.{terminal}
 use Rattle.pygrammar.specs.Blocks.{stands_in_match}
 use Rattle.pyparse_line.specs.Lines.{Refused}
-use Rattle.pyparse_line.specs.declared.lines.LineRead.{LineRead}
+use Rattle.pyparse_line.specs.declared.lines.FormRead.{FormRead}
 use Rattle.pyparse.specs.Inner.Reading.{IsFound}
 use Rattle.pyparse.proofs.PlacedLemmas.{found_held}
 use Rattle.pyparse.proofs.progress.Progress.read.Goals as goal
@@ -20,7 +20,7 @@ returns-in-Ok g c k forms held was =
       found = λ read is.
           let same : c.in-Ok.read ≡ read = cc in (
             refl,
-            subst (λ (x : LineRead). IsFound g.R.Recorder.after g.R.Recorder.recorded_count c.args.profile
+            subst (λ (x : FormRead). IsFound g.R.Recorder.after g.R.Recorder.recorded_count c.args.profile
                 (in_characters c.args.lines.now.source)
                 k forms c.args.lines.now.level c.args.lines.now.start x c.args.recorder.now c.read_line.new.recorder) same found,
           );

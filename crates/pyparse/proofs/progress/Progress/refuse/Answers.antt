@@ -5,9 +5,9 @@ use Rattle.pytoken.specs.Terminals.{Terminal}
 use Rattle.pygrammar.specs.Forms.{is_whole}
 use Rattle.pygrammar.specs.Refusals.{StartsAt, Unread}
 use Rattle.pyparse_line.specs.Lines.{Refused}
-use Rattle.pyparse_known.specs.Modules.{code_of}
-use Rattle.pyparse_known.specs.Known.{IsKnown, is_unread}
-use Rattle.pyparse_known.proofs.Callers.ProgressLemmas.{starts_held, place_held, unread_first}
+use Rattle.pyparse_block.specs.Modules.{code_of}
+use Rattle.pyparse_block.specs.Known.{IsKnown, is_unread}
+use Rattle.pyparse_block.proofs.Callers.ProgressLemmas.{starts_held, place_held, unread_first}
 use Rattle.pyparse.proofs.progress.Progress.refuse.Goals as goal
 
 pub returns : goal.returns

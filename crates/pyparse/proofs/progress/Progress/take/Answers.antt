@@ -1,13 +1,13 @@
-use Rattle.std.proofs.Common.{◌∙◌, ◌++◌, ◌∷◌, [], ℕ, List, ap, map, sym, subst}
+use Rattle.std.proofs.Common.{◌∙◌, ◌++◌, ◌∷◌, [], ℕ, sym, subst}
+use Rattle.pysource.specs.declared.places.Place.{Place}
 use Rattle.pylex_listing.specs.Listing.{in_characters}
 use Rattle.pytoken.specs.Inner.Behind.{behind}
-use Rattle.pytoken.specs.Terminals.{Terminal}
-use Rattle.pytoken.specs.TerminalOf.{terminal}
-use Rattle.pygrammar.specs.Blocks.{stands_in_match}
 use Rattle.pygrammar.specs.FormOf.{form_of}
 use Rattle.pygrammar.specs.Lines.{line}
-use Rattle.pyparse_line.specs.Lines.{Refused}
-use Rattle.pyparse_known.proofs.Callers.ProgressLemmas.{comes_held, unread_stays}
+use Rattle.pyparse.specs.declared.progress.Progress.{Progress}
+use Rattle.pyparse.specs.Inner.Reading.{Holds}
+use Rattle.pyparse_block.specs.Known.{Comes}
+use Rattle.pyparse_block.proofs.Callers.ProgressLemmas.{unread_stays}
 use Rattle.pyparse.proofs.progress.Progress.take.Goals as goal
 
 pub returns-then-is_unread : goal.returns-then-is_unread
@@ -19,26 +19,21 @@ returns-then-is_unread c k held was = record {
   last_lines = was.last_lines;
 }
 
-pub returns-in_ok-keep-in-Ok : goal.returns-in_ok-keep-in-Ok
-returns-in_ok-keep-in-Ok c k held was =
-    let earlier = behind [] was.forms in
-    let comes = comes_held earlier c.inside-inside.result (map terminal c.terminals.result.now) c.level-level.result
-    (form_of c.in-Ok.read.form) c.start.result held (c.inside-inside.ensures earlier was.last_lines)
-    c.terminals.ensures c.level-level.ensures c.start.ensures c.in-Ok.ensures.form in
-    let kept = c.in_ok-keep-in-Ok.ensures c.args.profile (in_characters c.args.lines.now.source) k was.forms
-    (record { known = was.known; last_lines = was.last_lines }) comes in
-    record {
-      forms = was.forms ++ line c.level-level.result (form_of c.in-Ok.read.form) ∷ [];
-      known = kept.known;
-      last_lines = kept.last_lines;
-    }
-
-pub returns-in_ok-refuse-in-Err : goal.returns-in_ok-refuse-in-Err
-returns-in_ok-refuse-in-Err c k held was =
-    let earlier = behind [] was.forms in
-    let holds = c.in_ok-refuse-in-Err.ensures c.inside-inside.result k was.forms held
-    (record { known = was.known; last_lines = was.last_lines })
-    (c.inside-inside.ensures earlier was.last_lines ∙ ap (λ (l : ℕ). stands_in_match l earlier) c.level-level.ensures)
-    (subst (λ (ts : List Terminal). Refused c.in-Err.stop c.args.profile c.inside-inside.result ts) c.terminals.ensures
-    c.in-Err.ensures.form) in
+pub returns-in-None : goal.returns-in-None
+returns-in-None c k held was =
+    let holds = (c.in_ok-read.ensures k was.forms held (record { known = was.known; last_lines = was.last_lines })).none c.in-None.is in
     record { forms = was.forms; known = holds.1.known; last_lines = holds.1.last_lines }
+
+pub returns : goal.returns
+returns c k held was =
+    let profile = c.args.profile in
+    let s = in_characters c.args.lines.now.source in
+    let form = form_of c.in-Some.read.form in
+    let holds : Holds profile s k was.forms c.args.self.now = record { known = was.known; last_lines = was.last_lines } in
+    let found = (c.in_ok-read.ensures k was.forms held holds).found c.in-Some.read c.in-Some.is in
+    let comes = subst (λ (n : ℕ). Comes profile s k (behind [] was.forms) (line n form) c.args.lines.now.start) (sym c.level-level.ensures)
+    found.1.comes in
+    let kept = c.in_ok-keep.ensures profile s k was.forms
+    (subst (λ (p : Progress). Holds profile s k was.forms p) (sym found.0) holds)
+    (subst (λ (p : Place). Comes profile s k (behind [] was.forms) (line c.level-level.result form) p) (sym c.start.ensures) comes) in
+    record { forms = was.forms ++ line c.level-level.result form ∷ []; known = kept.known; last_lines = kept.last_lines }

@@ -3,8 +3,8 @@ use Rattle.pytree_node.specs.Trees.{Identifier}
 use Rattle.pytree_node.specs.TreeOf.{type_param_of}
 use Rattle.pygrammar.specs.LineReader.{bases_rest}
 use Rattle.pyparse_statement.specs.Answers.{HeaderAnswered}
-use Rattle.pyparse_expr.specs.Readings.{reads}
-use Rattle.pyparse_looks.specs.Views.{seen}
+use Rattle.pyparse_reads.specs.Readings.{reads}
+use Rattle.pyparse_nodes.specs.Views.{seen}
 use Rattle.pyparse_statement.proofs.headers.DefinitionSteps.{types_failed, types_found}
 use Rattle.pyparse_statement.proofs.Recorders.Definitions.{class_rest_placed}
 use Rattle.pyparse_statement.proofs.headers.definitions.class_rest.Goals as goal

@@ -1,8 +1,8 @@
 use Rattle.std.proofs.Common.{◌-◌, ◌≤◌, length, map}
 use Rattle.pytree_node.specs.TreeOf.{item_of}
 use Rattle.pygrammar.specs.LineReader.{commas_of, read_item}
-use Rattle.pyparse_expr.specs.Readings.{reads}
-use Rattle.pyparse_looks.specs.Views.{seen}
+use Rattle.pyparse_reads.specs.Readings.{reads}
+use Rattle.pyparse_nodes.specs.Views.{seen}
 use Rattle.pyparse_statement.proofs.Commas.{Listed}
 use Rattle.pyparse_statement.specs.Inner.Items.{more_items}
 use Rattle.pyparse_statement.proofs.Recorders.Headers.{ItemsGrown}

@@ -1,7 +1,7 @@
 use Rattle.std.proofs.Common.{◌≤◌, ◌-◌, length, map}
 use Rattle.pytree_node.specs.TreeOf.{alias_of}
 use Rattle.pygrammar.specs.LineReader.{always, commas_of, dotted_alias}
-use Rattle.pyparse_looks.specs.Views.{seen}
+use Rattle.pyparse_nodes.specs.Views.{seen}
 use Rattle.pyparse_statement.proofs.Commas.{Listed}
 use Rattle.pyparse_statement.proofs.Recorders.Imports.{DottedGrown}
 use Rattle.pyparse_statement.proofs.statements.aliases.dotted_aliases.Given as goal

@@ -1,7 +1,7 @@
 use Rattle.std.proofs.Common.{◌+◌, ◌≡◌, ◌++◌, ◌∷◌, [], arith, refl, rules, sym}
 use Rattle.pygrammar.specs.LineReader.{name_alias}
 use Rattle.pyparse_statement.specs.Inner.Imports.{more_names}
-use Rattle.pyparse_looks.specs.Views.{seen}
+use Rattle.pyparse_nodes.specs.Views.{seen}
 use Rattle.pyparse_statement.proofs.statements.ImportSteps.{alias_pushed}
 use Rattle.pyparse_statement.proofs.Commas.{list_end, list_failed, list_last, list_more, list_start}
 use Rattle.pyparse_statement.proofs.Recorders.Imports.{aliases_last, aliases_start, aliases_turn, aliases_end}

@@ -1,7 +1,7 @@
 use Rattle.std.proofs.Common.{◌≤◌, ◌-◌, length}
 use Rattle.std.specs.Prelude.{string_bytes}
 use Rattle.pygrammar.specs.LineReader.{read_dotted}
-use Rattle.pyparse_looks.specs.Views.{seen}
+use Rattle.pyparse_nodes.specs.Views.{seen}
 use Rattle.pyparse_statement.proofs.statements.ImportSteps.{Dotted}
 use Rattle.pyparse_statement.proofs.statements.aliases.read_dotted.Given as goal
 

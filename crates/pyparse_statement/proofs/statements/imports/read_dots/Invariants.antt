@@ -1,6 +1,6 @@
 use Rattle.std.proofs.Common.{◌≤◌, ◌-◌, length}
 use Rattle.pygrammar.specs.LineReader.{read_dots}
-use Rattle.pyparse_looks.specs.Views.{seen}
+use Rattle.pyparse_nodes.specs.Views.{seen}
 use Rattle.pyparse_statement.proofs.statements.ImportSteps.{Dots}
 use Rattle.pyparse_statement.proofs.statements.imports.read_dots.Given as goal
 

@@ -1,6 +1,6 @@
 use Rattle.std.proofs.Common.{◌≤◌, ◌-◌, length}
 use Rattle.pygrammar.specs.LineReader.{always, commas_of, read_name}
-use Rattle.pyparse_looks.specs.Views.{seen}
+use Rattle.pyparse_nodes.specs.Views.{seen}
 use Rattle.pyparse_statement.proofs.Commas.{Listed}
 use Rattle.pyparse_statement.proofs.statements.names.read_names.Given as goal
 

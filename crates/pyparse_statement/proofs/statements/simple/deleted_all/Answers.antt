@@ -3,8 +3,8 @@ use Rattle.pygrammar.specs.declared.levels.Level.TheVariants.{Expression}
 use Rattle.pygrammar.specs.Entries.{Of}
 use Rattle.pygrammar.specs.LineReader.{deleted_one}
 use Rattle.pygrammar.specs.Precedence.{starts}
-use Rattle.pyparse_expr.specs.Readings.{reads}
-use Rattle.pyparse_looks.specs.Views.{seen}
+use Rattle.pyparse_reads.specs.Readings.{reads}
+use Rattle.pyparse_nodes.specs.Views.{seen}
 use Rattle.pyparse_statement.proofs.Commas.{list_end, list_failed, list_last, list_more, list_start}
 use Rattle.pyparse_statement.proofs.Recorders.Parts.{deleted_end, deleted_last, deleted_start, deleted_turn}
 use Rattle.pyparse_statement.proofs.statements.simple.deleted_all.Goals as goal

@@ -4,8 +4,8 @@ use Rattle.pygrammar.specs.declared.levels.Level.TheVariants.{Expression}
 use Rattle.pygrammar.specs.Entries.{Of}
 use Rattle.pygrammar.specs.LineReader.{commas_of, deleted_one}
 use Rattle.pygrammar.specs.Precedence.{starts}
-use Rattle.pyparse_expr.specs.Readings.{reads}
-use Rattle.pyparse_looks.specs.Views.{seen}
+use Rattle.pyparse_reads.specs.Readings.{reads}
+use Rattle.pyparse_nodes.specs.Views.{seen}
 use Rattle.pyparse_statement.proofs.Commas.{Listed}
 use Rattle.pyparse_statement.proofs.Recorders.Parts.{DeletedGrown}
 use Rattle.pyparse_statement.proofs.statements.simple.deleted_all.Given as goal

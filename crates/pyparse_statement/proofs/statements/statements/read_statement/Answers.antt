@@ -1,7 +1,7 @@
 use Rattle.std.proofs.Common.{◌+◌, ◌∙◌, Some, ap, arith}
 use Rattle.pytree_node.specs.TreeOf.{stmt_of}
 use Rattle.pytoken.specs.TerminalOf.{terminal}
-use Rattle.pyparse_expr.specs.Readings.{reads}
+use Rattle.pyparse_reads.specs.Readings.{reads}
 use Rattle.pyparse_statement.proofs.Callers.Parts.{answered_as}
 use Rattle.pyparse_statement.proofs.statements.StatementSteps.{by_value, first_stands, no_word}
 use Rattle.pyparse_statement.proofs.statements.statements.read_statement.Goals as goal

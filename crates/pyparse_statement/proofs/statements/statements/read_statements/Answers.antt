@@ -1,5 +1,5 @@
 use Rattle.std.proofs.Common.{◌+◌, ap, arith, refl, rules}
-use Rattle.pyparse_expr.specs.Readings.{reads}
+use Rattle.pyparse_reads.specs.Readings.{reads}
 use Rattle.pyparse_statement.proofs.statements.StatementSteps.{no_height, run_end, run_failed, run_last, run_more, run_start}
 use Rattle.pyparse_statement.proofs.Recorders.Values.{run_end as placed_end, run_last as placed_last, run_turn, simples_start}
 use Rattle.pyparse_statement.proofs.statements.statements.read_statements.Goals as goal

@@ -3,8 +3,8 @@ use Rattle.pytree_node.specs.TreeOf.{stmt_of}
 use Rattle.pytree_node.specs.Trees.{stmts}
 use Rattle.pytree_height.specs.Heights.{highest_in_all}
 use Rattle.pygrammar.specs.LineReader.{statements}
-use Rattle.pyparse_expr.specs.Readings.{reads}
-use Rattle.pyparse_looks.specs.Views.{seen}
+use Rattle.pyparse_reads.specs.Readings.{reads}
+use Rattle.pyparse_nodes.specs.Views.{seen}
 use Rattle.pyparse_statement.proofs.statements.StatementSteps.{Runs}
 use Rattle.pyparse_statement.proofs.Recorders.Values.{SimplesGrown}
 use Rattle.pyparse_statement.proofs.statements.statements.read_statements.Given as goal

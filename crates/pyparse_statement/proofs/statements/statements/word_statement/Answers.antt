@@ -1,6 +1,6 @@
 use Rattle.std.proofs.Common.{◌+◌, arith, refl}
 use Rattle.pytree_node.specs.TreeOf.{stmt_of}
-use Rattle.pyparse_expr.specs.Readings.{reads}
+use Rattle.pyparse_reads.specs.Readings.{reads}
 use Rattle.pyparse_statement.proofs.Callers.Parts.{answered_as}
 use Rattle.pyparse_statement.proofs.statements.StatementSteps.{by_other_word, other_word}
 use Rattle.pyparse_statement.proofs.Recorders.Words.{break_placed, continue_placed, global_placed, nonlocal_placed, pass_placed, word_at}

@@ -1,7 +1,7 @@
 use Rattle.std.proofs.Common.{◌+◌, ◌∙◌, ap, arith, rules, sym}
 use Rattle.pygrammar.specs.LineReader.{read_type_param, starts_type_param}
-use Rattle.pyparse_expr.specs.Readings.{reads}
-use Rattle.pyparse_looks.specs.Views.{seen}
+use Rattle.pyparse_reads.specs.Readings.{reads}
+use Rattle.pyparse_nodes.specs.Views.{seen}
 use Rattle.pyparse_statement.proofs.Commas.{list_end, list_failed, list_last, list_more, list_start}
 use Rattle.pyparse_statement.proofs.Recorders.Types.{params_end, params_last, params_start, params_turn}
 use Rattle.pyparse_statement.proofs.statements.types.type_params.Goals as goal

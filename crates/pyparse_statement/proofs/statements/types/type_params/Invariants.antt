@@ -1,8 +1,8 @@
 use Rattle.std.proofs.Common.{◌≤◌, ◌-◌, length, map}
 use Rattle.pytree_node.specs.TreeOf.{type_param_of}
 use Rattle.pygrammar.specs.LineReader.{commas_of, read_type_param, starts_type_param}
-use Rattle.pyparse_expr.specs.Readings.{reads}
-use Rattle.pyparse_looks.specs.Views.{seen}
+use Rattle.pyparse_reads.specs.Readings.{reads}
+use Rattle.pyparse_nodes.specs.Views.{seen}
 use Rattle.pyparse_statement.proofs.Commas.{Listed}
 use Rattle.pyparse_statement.proofs.Recorders.Types.{ParamsGrown}
 use Rattle.pyparse_statement.proofs.statements.types.type_params.Given as goal

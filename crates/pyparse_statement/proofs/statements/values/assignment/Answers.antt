@@ -1,6 +1,6 @@
 use Rattle.std.proofs.Common.{◌+◌, ◌∙◌, arith, rules}
 use Rattle.pytree_node.specs.TreeOf.{stmt_of}
-use Rattle.pyparse_expr.specs.Readings.{reads}
+use Rattle.pyparse_reads.specs.Readings.{reads}
 use Rattle.pyparse_statement.proofs.Callers.Parts.{answered_as}
 use Rattle.pyparse_statement.proofs.statements.ValueSteps.{targets_failed, targets_last, targets_more, targets_start, targets_wrong}
 use Rattle.pyparse_statement.proofs.Recorders.Values.{assignment_placed, targets_start as placed_start, targets_turn}

@@ -1,8 +1,8 @@
 use Rattle.std.proofs.Common.{◌≤◌, ◌-◌, length, map, suc, []}
 use Rattle.pytree_node.specs.TreeOf.{tree_of}
 use Rattle.pygrammar.specs.LineReader.{value_loop}
-use Rattle.pyparse_expr.specs.Readings.{reads}
-use Rattle.pyparse_looks.specs.Views.{seen}
+use Rattle.pyparse_reads.specs.Readings.{reads}
+use Rattle.pyparse_nodes.specs.Views.{seen}
 use Rattle.pyparse_statement.proofs.statements.ValueSteps.{Assigns}
 use Rattle.pyparse_statement.proofs.Recorders.Values.{TargetsGrown}
 use Rattle.pyparse_statement.proofs.statements.values.assignment.Given as goal

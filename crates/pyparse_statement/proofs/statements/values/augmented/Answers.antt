@@ -1,6 +1,6 @@
 use Rattle.std.proofs.Common.{arith}
 use Rattle.pytree_node.specs.TreeOf.{tree_of}
-use Rattle.pyparse_expr.specs.Readings.{reads}
+use Rattle.pyparse_reads.specs.Readings.{reads}
 use Rattle.pyparse_statement.proofs.statements.ValueSteps.{augmented_found}
 use Rattle.pyparse_statement.proofs.Recorders.Values.{augmented_placed}
 use Rattle.pyparse_statement.proofs.statements.values.augmented.Goals as goal

@@ -1,5 +1,5 @@
 use Rattle.std.proofs.Common.{rules, sym}
-use Rattle.pynatural.proofs.Callers.Decimals.{small_below_limit}
+use Rattle.pynumber.proofs.Callers.Decimals.{small_below_limit}
 use Rattle.pytree_node.proofs.integers.Integer.is_below_limit.Goals as goal
 
 pub returns-in-Small : goal.returns-in-Small

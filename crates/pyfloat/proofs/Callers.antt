@@ -1,2 +1,0 @@
--- What other crates cite of pyfloat.
-pub mod Law

@@ -1,0 +1,3 @@
+pub mod Decimals
+-- What other crates cite of pyfloat.
+pub mod Law

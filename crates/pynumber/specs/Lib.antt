@@ -1,0 +1,12 @@
+pub mod Decimals
+pub mod Digits
+pub mod Limbs
+pub mod Readings
+pub mod Inner
+pub mod FloatValues
+pub mod Shortest
+pub mod Search
+pub mod Layouts
+pub mod FloatTexts
+pub mod Laws
+pub mod SameFloats

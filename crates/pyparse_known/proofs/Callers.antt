@@ -1,4 +1,0 @@
--- What pyparse cites.
-pub mod ProgressLemmas
-pub mod FinishLemmas
-pub use Rattle.pyparse_known.proofs.CaseLines.Law.{places_are_lawful}

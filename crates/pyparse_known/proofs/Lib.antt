@@ -1,3 +1,0 @@
-pub mod Callers
-mod LastLineLemmas
-mod CaseLines

@@ -1,4 +1,0 @@
-pub mod Modules
-pub mod Places
-pub mod Known
-pub mod LastLines

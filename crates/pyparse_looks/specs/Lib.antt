@@ -1,4 +1,0 @@
-pub mod Views
-pub mod Alone
-pub mod Operators
-pub mod Marks

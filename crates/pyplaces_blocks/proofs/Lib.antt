@@ -1,4 +1,0 @@
-mod Settling
-mod Adding
-mod Law
-mod StackLemmas

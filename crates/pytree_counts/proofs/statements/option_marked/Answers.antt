@@ -1,6 +1,0 @@
-use Rattle.std.proofs.Common.{arith}
-use Rattle.pytree_counts.proofs.CountLemmas.{capped_none}
-use Rattle.pytree_counts.proofs.statements.option_marked.Goals as goal
-
-pub returns-in-None : goal.returns-in-None
-returns-in-None c = rw c.in-None.is (capped_none c.args.before (omega arith))
