@@ -5,7 +5,7 @@ the time that listing up to there takes.
     bench/resume.py [--program PATH] [--timer PATH]
 
 The cursor is taken by `pyast tokens --count`, after seven eighths of the entries. The timer is the program of
-crates/measures, which is built anew where it isn't there; it lists up to the cursor (`Lister::resume_checked`),
+bench/measures.py, which is built where it isn't there; it lists up to the cursor (`Lister::resume_checked`),
 resumes there (`Lister::resume`), and reports both times. The exit status is 0, but 1 where resuming takes longer or leaves
 other entries than it should, and 2 where nothing could be measured.
 """
@@ -17,6 +17,7 @@ import subprocess
 import sys
 import tempfile
 
+from measures import PROGRAM
 from timers import build, refuse
 
 TOP = os.path.dirname(os.path.dirname(os.path.abspath(__file__)))
@@ -80,8 +81,8 @@ def main():
     parser = argparse.ArgumentParser(description="Checks that resuming at a cursor takes no new listing.")
     parser.add_argument("--program", default=os.path.join(TOP, "crates", "pyast", "out", "pyast"), metavar="PATH",
                         help="the built program; default: that of this project")
-    parser.add_argument("--timer", default=os.path.join(TOP, "crates", "measures", "out", "measures"), metavar="PATH",
-                        help="the built program of crates/measures")
+    parser.add_argument("--timer", default=PROGRAM, metavar="PATH",
+                        help="the built program of bench/measures.py")
     options = parser.parse_args()
     program, timer = os.path.abspath(options.program), os.path.abspath(options.timer)
     if not os.access(program, os.X_OK):

@@ -1,8 +1,9 @@
-"""What the programs of bench/ share: finding the built program, building a crate's program, and giving up."""
+"""What the programs of bench/ share: finding the built program, building the program of bench/measures.py, and giving up."""
 
 import os
-import subprocess
 import sys
+
+import measures
 
 TOP = os.path.dirname(os.path.dirname(os.path.abspath(__file__)))
 
@@ -22,10 +23,8 @@ def built_program(path):
 
 
 def build(timer):
-    """Builds the program of a crate, crates/NAME/out/NAME, where it isn't there; how it ends when it is run so doesn't matter."""
-    folder = os.path.dirname(os.path.dirname(timer))
-    if not os.path.exists(timer):
-        print(f"building {os.path.basename(folder)}, which takes some minutes", file=sys.stderr)
-        subprocess.run(["rt", "run"], cwd=folder, stdin=subprocess.DEVNULL, stdout=subprocess.DEVNULL, stderr=subprocess.DEVNULL, check=False)
+    """Builds the program of bench/measures.py where it isn't there; another one has to be there."""
+    if not os.path.exists(timer) and timer == measures.PROGRAM:
+        measures.build()
     if not os.access(timer, os.X_OK):
-        refuse(f"{timer} isn't there, and `rt run` in {folder} didn't build it")
+        refuse(f"{timer} isn't there")

@@ -3,7 +3,7 @@
 
     bench/trees.py [--timer PATH] [--statements N]
 
-The timer is the program of crates/measures, which is built anew where it isn't there; with --backend rattle in its folder `rt run`
+The timer is the program of bench/measures.py, which is built where it isn't there; `bench/measures.py --backend rattle`
 builds it by the other compiler. Of a tree of N statements it reports how long each call takes, and of `dump` the megabytes of text a
 second; of a tree of one statement how many expressions may be nested before the stack of 8 MB ends the program. The exit
 status is 0, 1 where `dump` writes less than 200 MB a second, and 2 where nothing could be measured.
@@ -15,9 +15,9 @@ import resource
 import subprocess
 import sys
 
+from measures import PROGRAM
 from timers import build, refuse
 
-TOP = os.path.dirname(os.path.dirname(os.path.abspath(__file__)))
 CALLS = ("drop", "height", "copy", "same", "dump")
 STACK = 8 << 20
 LEAST_SPEED = 200
@@ -51,8 +51,8 @@ def deepest(timer, call):
 
 def main():
     parser = argparse.ArgumentParser(description="Times what is done with large trees, and finds how deep a tree may be.")
-    parser.add_argument("--timer", default=os.path.join(TOP, "crates", "measures", "out", "measures"), metavar="PATH",
-                        help="the built program of crates/measures")
+    parser.add_argument("--timer", default=PROGRAM, metavar="PATH",
+                        help="the built program of bench/measures.py")
     parser.add_argument("--statements", type=int, default=100_000, metavar="N", help="the statements of the wide tree")
     options = parser.parse_args()
     timer = os.path.abspath(options.timer)

@@ -62,7 +62,7 @@ def check_words(checks):
         text = outcome.out.decode()
         checks.is_due(" ".join(words), (outcome.status, outcome.err, sorted(one for one in named if one not in text)), (0, b"", []))
     for words in (["--version"], ["-V"]):
-        checks.ends(words, (0, "pyast 1.0.0\n", ""))
+        checks.ends(words, (0, "pyast 1.1.0\n", ""))
     bad = ([], ["x.py"], ["frob"], ["dump", "-c", "x"], ["dump", "a", "b"], ["dump", "--indent", "17"], ["tokens", "--whole"], ["tokens", "--count", "1000000001"], ["tokens", "--version"])
     for words in bad:
         checks.ends(words, (2, "", "pyast: bad arguments\n"))

@@ -3,8 +3,8 @@
 
     conformance/random_trees.py [--count N] [--seed N] [--jobs N] [--program PATH]
 
-Sources of trees of Python 3.11 and of 3.12, of all classes of nodes, are made by chance, each expression in brackets of its own. `measures
-random` reads them, writes each statement by `unparse`, reads its text by `decode` and `parse`, and compares the two trees by `same`, in
+Sources of trees of Python 3.11 and of 3.12, of all classes of nodes, are made by chance, each expression in brackets of its own. The
+program of bench/measures.py reads them, writes each statement by `unparse`, reads its text by `decode` and `parse`, and compares the two trees by `same`, in
 both versions. It does so too with three trees that it makes of each, in which a part of an expression, an expression and a name come
 from other statements: so they stand where they may not, or as what they may not be. Each tree has to come back where `well_formed` says
 that it is well formed, and nowhere else. At least N statements are compared. The exit status is 0 where all are as they should be,
@@ -22,7 +22,7 @@ import time
 from common import TOP, refuse, results_of, run, smallest
 from trees import Maker, source_of
 
-PROGRAM = os.path.join(TOP, "crates", "measures", "out", "measures")
+PROGRAM = os.path.join(TOP, "bench", "measures", "out", "measures")
 # The statements of a source, at least.
 PORTION = 500
 TOLD = re.compile(rb"(\d+) statements: (\d+) well formed in 3\.11, (\d+) in 3\.12; (\d+) changed: (\d+) and (\d+)\n")
@@ -94,10 +94,10 @@ def main():
     parser.add_argument("--count", type=int, default=100_000, metavar="N", help="how many statements are compared, at least")
     parser.add_argument("--seed", type=int, default=1, metavar="N", help="what is drawn depends on it")
     parser.add_argument("--jobs", type=int, default=os.cpu_count() or 1, metavar="N", help="processes; default: cores")
-    parser.add_argument("--program", default=PROGRAM, metavar="PATH", help="the built program of crates/measures")
+    parser.add_argument("--program", default=PROGRAM, metavar="PATH", help="the built program of bench/measures.py")
     words = parser.parse_args()
     if not os.access(words.program, os.X_OK):
-        refuse(f"{words.program} isn't there: `rt run` in crates/measures builds it")
+        refuse(f"{words.program} isn't there: bench/measures.py builds it")
     started = time.monotonic()
     sources = -(-words.count // PORTION)
     results = results_of(functools.partial(compare, words.program, words.seed), sources, range(sources), words.jobs)

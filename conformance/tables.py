@@ -28,6 +28,13 @@ The source is what these lines say, one after the other; none is the source with
     + 499 if x:~if y:         so many lines, these in turn, each a blank deeper than the one before; the blanks of the next line follow
     ..                        each front of the source is a source, and nothing is due but what `answers_fronts` says
 
+How the source is read, and what is written is taken, where it isn't as usual:
+
+    ~ slowly                  a read gives one byte
+    ~ fails                   the read behind the last byte fails
+    ~ room                    standard output takes each number of bytes, and then a write fails; `~ room 0 99` takes these numbers
+    ~ told                    the same of standard error, for which nothing is reported
+
 What is due, which is nothing where no line says it:
 
     > x = 1                   a line that is written
@@ -41,6 +48,8 @@ What is due, which is nothing where no line says it:
     ! <stdin>:1:0: error: ..  the line of a fault; of several, any one of them is reported
     !- <stdin>:1:0: error: .. the same by commands without `--whole`, which write nothing, while the other lines are for those with it
     = 2                       the status, where it isn't 0 without a fault and 1 with one
+    ^^ 0 0 1 0 0 0 0          a cursor of the source, without its first word: the source has those of such lines, one after each count of entries,
+                              and none that differs from one of them by one in a number, or has a level less
 
 What `unparse` has to write is given to it as well, and has to come back.
 
@@ -54,10 +63,13 @@ import concurrent.futures
 import glob
 import os
 import re
+import resource
+import socket
+import subprocess
 import sys
 import tempfile
 
-from common import PROGRAM, refuse, run
+from common import PROGRAM, SECONDS, Outcome, refuse, run
 
 TABLES = os.path.join(os.path.dirname(os.path.abspath(__file__)), "tables")
 BYTE_ORDER_MARK = b"\xef\xbb\xbf"
@@ -87,6 +99,8 @@ class Row:
         self.parts, self.of_list, self.fronts = [], False, False
         self.written, self.tree, self.within = b"", None, None
         self.faults, self.plain_faults, self.status = [], [], None
+        # How the source is read and what is written is taken, with how many bytes; and the cursors of the source.
+        self.manner, self.rooms, self.cursors = None, [], []
 
     def sources(self):
         """Each source that the parts make."""
@@ -192,6 +206,14 @@ def put_within(row, text):
     row.within = [*(row.within or []), text]
 
 
+def put_manner(row, text):
+    """A row's source is read, or what it writes is taken, in this manner."""
+    row.manner, *rooms = text.decode().split()
+    row.rooms = [int(room) for room in rooms]
+    if row.manner not in ("slowly", "fails", "room", "told") or rooms and row.manner in ("slowly", "fails"):
+        raise BadRow("no such manner")
+
+
 SOURCE_MARKS = {"|": lambda text: text + b"\n", "|-": bytes, "*": repeated, "+": nested}
 RUN_MARKS = {"^": "joined", "<": "file"}
 DUE_MARKS = {
@@ -206,6 +228,8 @@ DUE_MARKS = {
     "!": lambda row, text: row.faults.append(text + b"\n"),
     "!-": lambda row, text: row.plain_faults.append(text + b"\n"),
     "=": lambda row, text: setattr(row, "status", int(text)),
+    "~": put_manner,
+    "^^": lambda row, text: row.cursors.append(text.decode()),
 }
 
 
@@ -275,8 +299,11 @@ def rows_of(path):
 # --- runs ---------------------------------------------------------------------------------------------------------------
 
 
-def outcome_of(program, words, source, file):
+def outcome_of(program, words, source, file, manner=None):
     """What a command does with a source, on its standard input or in a file."""
+    if manner in ("slowly", "fails"):
+        with given(source, manner == "slowly") as stream:
+            return run([program, *words], stdin=stream, close_fds=False)
     if not file:
         return run([program, *words], input=source, close_fds=False)
     with tempfile.TemporaryDirectory(dir=".") as folder:
@@ -285,6 +312,30 @@ def outcome_of(program, words, source, file):
         with open(path, "wb") as stream:
             stream.write(source)
         return run([program, *words], input=b"", close_fds=False, cwd=folder)
+
+
+def given(source, slowly):
+    """A standard input that gives one byte of a source at a read and then ends; or that gives the source, and fails at the read behind it. A socket
+    of packets gives one of them at a read, and one whose other end is closed with something left to read there fails once all was read."""
+    theirs, mine = socket.socketpair(socket.AF_UNIX, socket.SOCK_SEQPACKET if slowly else socket.SOCK_STREAM)
+    with mine:
+        for part in [source[at:at + 1] for at in range(len(source))] if slowly else [source]:
+            mine.sendall(part)
+        if not slowly:
+            theirs.sendall(b"x")
+    return theirs
+
+
+def outcome_within(program, words, source, manner, room):
+    """What a command does whose standard output, or else its standard error, takes so many bytes: it is a file that may not be longer, by a limit
+    whose signal is ignored here and so by the program too."""
+    with tempfile.TemporaryFile() as file:
+        streams = {"stdout": subprocess.PIPE, "stderr": subprocess.PIPE, "stdout" if manner == "room" else "stderr": file}
+        limit = lambda: resource.setrlimit(resource.RLIMIT_FSIZE, (room, room))
+        done = subprocess.run([program, *words], input=source, preexec_fn=limit, restore_signals=False, timeout=SECONDS, check=False, **streams)
+        file.seek(0)
+        taken = file.read()
+    return Outcome(done.returncode, taken if manner == "room" else done.stdout, taken if manner == "told" else done.stderr)
 
 
 def differences(outcome, due):
@@ -319,13 +370,72 @@ def try_command(program, row, command):
     words = row.words_of(command)
     due = row.due_of(words)
     sources = row.sources()
+    if row.manner in ("room", "told"):
+        return takes_rooms(program, row, words, due)
+    if row.cursors:
+        return has_cursors(program, row, words)
     if words[:1] == ["unparse"] and not due.faults and due.within is None:
         sources = list(dict.fromkeys([*sources, due.written]))
     failures = []
     for source in sources:
-        outcome = outcome_of(program, words, source, row.file)
+        outcome = outcome_of(program, words, source, row.file, row.manner)
         failures += [f"of {shortened(source)}: {text}" for text in differences(outcome, due)]
     return len(sources), failures
+
+
+# --- room ---------------------------------------------------------------------------------------------------------------
+
+
+def takes_rooms(program, row, words, due):
+    """How many runs a command took, and what failed, where there is little room for what it writes or reports: a front of that is taken. A failed
+    write is reported, before a fault of the source; what can't be reported changes nothing else."""
+    source, told = b"".join(row.sources()), row.manner == "told"
+    whole = due.faults[0] if told else due.written
+    failures, rooms = [], row.rooms or range(len(whole) + 1)
+    for room in rooms:
+        outcome = outcome_within(program, words, source, row.manner, room)
+        if told:
+            wanted = due._replace(faults=[whole[:room]])
+        else:
+            wanted = due if room >= len(whole) else Due(whole[:room], None, [b"pyast: write failed\n"], 3)
+        failures += [f"of {room} bytes: {text}" for text in differences(outcome, wanted)]
+    return len(rooms), failures
+
+
+# --- cursors ------------------------------------------------------------------------------------------------------------
+
+
+def near(cursor):
+    """The cursors that differ from one by one in a number, or have a level less."""
+    *numbers, levels = cursor.split()
+    fields = [*map(int, numbers), *map(int, levels.split(","))]
+    for at, field in enumerate(fields):
+        for other in [[field + 1], [field - 1]] if field else [[field + 1]]:
+            yield [*fields[:at], *other, *fields[at + 1:]]
+        if at >= len(numbers):
+            yield fields[:at] + fields[at + 1:]
+
+
+def cursor_of(fields):
+    """The text of a cursor, without its first word, of its numbers."""
+    return " ".join([*map(str, fields[:6]), ",".join(map(str, fields[6:]))])
+
+
+def has_cursors(program, row, words):
+    """How many runs a command took, and what failed, of a source with these cursors: it stops at each after its count of entries, and is resumed at
+    each of them and at none that is near one."""
+    source, failures = b"".join(row.sources()), []
+    for count, cursor in enumerate(row.cursors):
+        outcome = outcome_of(program, [*words, "--count", str(count)], source, None)
+        if outcome.out.splitlines()[-1:] != [f"cursor pytok1 {cursor}".encode()] and count + 1 < len(row.cursors):
+            failures.append(f"after {count} entries: {outcome.out[-60:]}")
+    tried = sorted({*row.cursors, *(cursor_of(fields) for cursor in row.cursors for fields in near(cursor))})
+    for cursor in tried:
+        outcome = outcome_of(program, [*words, "--resume", f"pytok1 {cursor}"], source, None)
+        refused = outcome.status == 2 and outcome.err in (b"pyast: cursor of another source\n", b"pyast: malformed cursor\n") and not outcome.out
+        if refused == (cursor in row.cursors) or not refused and (outcome.status, outcome.err) != (0, b""):
+            failures.append(f"at {cursor}: {outcome}"[:200])
+    return len(row.cursors) + len(tried), failures
 
 
 # --- fronts -------------------------------------------------------------------------------------------------------------
