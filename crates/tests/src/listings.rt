@@ -2,7 +2,7 @@
 
 use crate::rows::{bytes_of, number, parts, push, source_of};
 use fakes::FakeReader;
-use pylex::{Cursor, Entry, Kind, Lister, Step, StreamLister, line_text, push_line, text};
+use pylex::{Cursor, Entry, Kind, Lister, Step, StreamLister, line_text, push_line};
 use pysource::{ByteIn, Place};
 use std::alloc::Global;
 use std::process::Abort;
@@ -69,19 +69,35 @@ pub(crate) const ROWS: &str = "
 ? beginning 10 => if x:\n    y\n    z\nw\n => none
 ? beginning 11 => if x:\n    y\n    z\nw\n => none";
 
+/// Appends the lines of the entries that a lister still gives, and the last step.
+fn push_lines(
+    rt: &impl Abort,
+    alloc: Global,
+    lines: &mut StreamLister<FakeReader<'_>>,
+    out: &mut String,
+) {
+    for _ in 0..100u64 {
+        let step = lines.next().expect(rt, "memory");
+        match step {
+            Step::Entry(entry) => {
+                push_line(out, &entry, lines.text(&entry), true).expect(rt, "memory");
+            }
+            _ => {
+                let last = format!(in alloc; "{step:?}").expect(rt, "memory");
+                push(rt, out, last.as_str());
+                return;
+            }
+        }
+    }
+}
+
 /// The lines of a source's entries, and the last step.
 pub(crate) fn listed(rt: &impl Abort, alloc: Global, whole: &str) -> String {
-    let source = source_of(rt, alloc, whole);
-    let mut lister = Lister::new(alloc, &source);
+    let bytes = bytes_of(rt, alloc, whole);
     let mut out = String::new(alloc);
-    for _ in 0..100u64 {
-        match lister.next().expect(rt, "memory") {
-            Step::Entry(entry) => {
-                let shown = text(&source, &entry);
-                push_line(&mut out, &entry, shown, true).expect(rt, "memory");
-            }
-            step => return format!(in alloc; "{}{step:?}", out.as_str()).expect(rt, "memory"),
-        }
+    match StreamLister::new(alloc, FakeReader::new(bytes.as_slice(), 7, false)) {
+        Ok(mut lines) => push_lines(rt, alloc, &mut lines, &mut out),
+        Err(_) => push(rt, &mut out, "no lister"),
     }
     out
 }
