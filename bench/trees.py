@@ -3,8 +3,8 @@
 
     bench/trees.py [--timer PATH] [--statements N]
 
-The timer is the program of bench/measures.py, which is built where it isn't there; `bench/measures.py --backend rattle`
-builds it by the other compiler. Of a tree of N statements it reports how long each call takes, and of `dump` the megabytes of text a
+The timer is the program of bench/measures.py, which is built where it isn't there; beside it comes that of the other compiler, for
+--timer. Of a tree of N statements it reports how long each call takes, and of `dump` the megabytes of text a
 second; of a tree of one statement how many expressions may be nested before the stack of 8 MB ends the program. The exit
 status is 0, 1 where `dump` writes less than 200 MB a second, and 2 where nothing could be measured.
 """
